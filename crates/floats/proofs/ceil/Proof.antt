@@ -1,0 +1,16 @@
+-- `floats::ceil` meets its contract. Assumes nothing.
+use mathlib.Core.Path.{ap, _∙_}
+use lib.Ieee.{neg}
+use borrow.Author.Needs.{needs}
+use Rattle.floats.proofs.Carry.{turned}
+use Rattle.floats.proofs.ceil.Statement.{statement}
+use Rattle.floats.proofs.ceil.Tie as tie
+
+floor-requires : tie.Need-floor-requires
+floor-requires c κs = search needs
+
+returns : tie.Need-returns
+returns c = ap neg (c .floor .ensures) ∙ turned (c .before .args .x)
+
+pub ceil-spec : {M : Type 1} → statement M
+ceil-spec = tie.close (tie.spec floor-requires returns)

@@ -1,0 +1,127 @@
+// The functions of a float that go by its bits, each total over every f64.
+ghost use mathlib.Core.Path.{_≡_};
+ghost use lib.Ieee.{binary64, ofBits, toBits, toSigned};
+ghost use lib.Ieee.Scale.{finite};
+ghost use Rattle.floats.specs.Whole.{abs, toWhole, cut, downward, upward, away, nearestInt};
+
+// |x|.
+pub fn fabs(x: f64) -> f64
+    ensures { λ r. ⌜ r ≡ abs x ⌝ }
+{
+    if x != x {
+        return x;
+    }
+    f64::from_bits(f64::to_bits(x) & 0x7fff_ffff_ffff_ffff)
+}
+
+// x toward zero to a whole number.
+pub fn trunc(x: f64) -> f64
+    ensures { λ r. ⌜ r ≡ toWhole cut x ⌝ }
+{
+    if x != x {
+        return x;
+    }
+    let b = f64::to_bits(x);
+    let e = (b >> 52) & 0x7ff;
+    if e >= 1075 {
+        x
+    } else if e < 1023 {
+        f64::from_bits(b & 0x8000_0000_0000_0000)
+    } else {
+        let k = 1075 - e;
+        f64::from_bits((b >> k) << k)
+    }
+}
+
+// x down to a whole number.
+pub fn floor(x: f64) -> f64
+    ensures { λ r. ⌜ r ≡ toWhole downward x ⌝ }
+{
+    let t = trunc(x);
+    if x < t { t - 1.0 } else { t }
+}
+
+// x up to a whole number.
+pub fn ceil(x: f64) -> f64
+    ensures { λ r. ⌜ r ≡ toWhole upward x ⌝ }
+{
+    -floor(-x)
+}
+
+// x to the nearest whole number, a half going away from zero.
+pub fn round(x: f64) -> f64
+    ensures { λ r. ⌜ r ≡ toWhole away x ⌝ }
+{
+    if x != x {
+        return x;
+    }
+    let b = f64::to_bits(x);
+    let e = (b >> 52) & 0x7ff;
+    if e >= 1075 {
+        x
+    } else if e < 1022 {
+        f64::from_bits(b & 0x8000_0000_0000_0000)
+    } else if e < 1023 {
+        if b < 0x8000_0000_0000_0000 { 1.0 } else { -1.0 }
+    } else {
+        let k = 1075 - e;
+        f64::from_bits(((b + (1 << (k - 1))) >> k) << k)
+    }
+}
+
+// The Rust's nearest_int, in its order of operations.
+pub fn nearest_int(a: f64) -> f64
+    ensures { λ r. ⌜ r ≡ nearestInt a ⌝ }
+{
+    if fabs(a) < 0.5 {
+        0.0
+    } else if a < 0.0 {
+        ceil(a - 0.5)
+    } else {
+        floor(a + 0.5)
+    }
+}
+
+// Whether x is neither an infinity nor a NaN.
+pub fn is_finite(x: f64) -> bool
+    ensures { λ r. ⌜ r ≡ finite x ⌝ }
+{
+    fabs(x) < 1.0 / 0.0
+}
+
+// Rust's `x as i64`: toward zero, to the nearest end of the range where x is outside it, and 0 for a NaN.
+pub fn saturating_i64(x: f64) -> i64
+    ensures { λ r. ⌜ r ≡ toSigned 63 x ⌝ }
+{
+    if x >= -9223372036854775808.0 {
+        if x < 9223372036854775808.0 {
+            std::num::truncating_f64_to_i64(x)
+        } else {
+            9223372036854775807
+        }
+    } else if x < 0.0 {
+        -9223372036854775808
+    } else {
+        0
+    }
+}
+
+// The float of a bit pattern; a NaN for every NaN's pattern.
+pub fn from_bits(n: u64) -> f64
+    ensures { λ r. ⌜ r ≡ ofBits binary64 n ⌝ }
+{
+    if n % 0x8000_0000_0000_0000 > 0x7ff0_0000_0000_0000 {
+        return 0.0 / 0.0;
+    }
+    f64::from_bits(n)
+}
+
+// The bit pattern of a float; 7ff8000000000000 for a NaN.
+pub fn to_bits(x: f64) -> u64
+    ensures { λ r. ⌜ r ≡ toBits binary64 x ⌝ }
+{
+    if x != x {
+        return 0x7ff8_0000_0000_0000;
+    }
+    f64::to_bits(x)
+}

@@ -1,0 +1,81 @@
+-- Where an operation on binary64 is exact: its exact result is at most 2 ^ 53 units of 2 ^ -k. Assumes nothing.
+use mathlib.Core.Path.{_≡_, refl, sym, ap, _∙_, subst}
+use mathlib.Core.Logic.{_⊎_, inl, inr}
+use Prim.Native.Nat.{ℕ, zero, suc, _+_, _-_, _*_, _/_, _%_, _^_, _≤_, _<_}
+use native.Mathlib.Nat.{le-trans, le-of-eq, lt-of-lt-of-le, lt-of-le-of-lt, eq-or-lt-of-le, one-mul, mul-one, mul-assoc}
+use native.Mathlib.Omega.{arith}
+use mathlib.Core.Bool.{Bool, true, false}
+use lib.Dec.{T, lit≤, lit<}
+use lib.Pow.{pow-add, pow-pos, pow-lt, pow-mono, shl-lt}
+use lib.Ieee.{Float, binary64, round, add, sub, mul}
+use lib.Ieee.Exact.{HasValue, round-exact}
+use Rattle.rounding.specs.Value.{Signed, Val, Rounds}
+use Rattle.rounding.proofs.Value.{add-rounds, sub-rounds, sub-mul}
+
+shift : (i k : ℕ) → k ≤ 1074 → i + 1074 ≡ i + (1074 - k) + k
+shift i k h = omega arith
+
+power : (c i k : ℕ) → k ≤ 1074 → c * 2 ^ i * 2 ^ 1074 ≡ c * 2 ^ (i + (1074 - k)) * 2 ^ k
+power c i k h =
+    mul-assoc c (2 ^ i) (2 ^ 1074)
+    ∙ ap (λ (x : ℕ). c * x) (sym (pow-add 2 i 1074) ∙ ap (λ (x : ℕ). 2 ^ x) (shift i k h) ∙ pow-add 2 (i + (1074 - k)) k)
+    ∙ sym (mul-assoc c (2 ^ (i + (1074 - k))) (2 ^ k))
+
+-- c * 2 ^ i of the unit 2 ^ -k
+pub exact-has : (s : Bool) (c i k : ℕ) → k ≤ 1074 → i ≤ 970 → c ≤ 2 ^ 53 → HasValue (round binary64 s (c * 2 ^ i) (2 ^ k)) s (c * 2 ^ i) (2 ^ k)
+exact-has s c i k h g l = go (eq-or-lt-of-le l)
+  where
+    up-to : 53 + (i + (1074 - k)) ≤ 2098
+    up-to = omega arith
+
+    below : 53 + i + (1074 - k) < 2098
+    below = omega arith
+
+    go : (c ≡ 2 ^ 53) ⊎ (c < 2 ^ 53) → HasValue (round binary64 s (c * 2 ^ i) (2 ^ k)) s (c * 2 ^ i) (2 ^ k)
+    go (inr u) = round-exact binary64 s (c * 2 ^ i) (2 ^ k) c (i + (1074 - k)) (pow-pos k) u (lt-of-lt-of-le (shl-lt 53 (i + (1074 - k)) u) (pow-mono up-to)) (power c i k h)
+    go (inl e) =
+        round-exact binary64 s (c * 2 ^ i) (2 ^ k) 1 (53 + i + (1074 - k)) (pow-pos k) (lit< tt)
+        (lt-of-le-of-lt (le-of-eq (one-mul (2 ^ (53 + i + (1074 - k))))) (pow-lt below))
+        (ap (λ (x : ℕ). x * 2 ^ 1074) (ap (λ (x : ℕ). x * 2 ^ i) e ∙ sym (pow-add 2 53 i) ∙ sym (one-mul (2 ^ (53 + i)))) ∙ power 1 (53 + i) k h)
+
+signed-le : (s : Bool) (a p n B : ℕ) → Signed s a p n → p ≤ n + B → n ≤ p + B → a ≤ B
+signed-le false a p n B h k l = omega arith
+signed-le true a p n B h k l = omega arith
+
+pub rounds-exact : (k : ℕ) {z : Float} {p n : ℕ} → k ≤ 1074 → p ≤ n + 2 ^ 53 → n ≤ p + 2 ^ 53 → Rounds binary64 z p n (2 ^ k) → Val z p n (2 ^ k)
+rounds-exact k {z} {p} {n} h u l r =
+    record {
+      sign = r .sign;
+      size = r .size;
+      has =
+          subst (λ (x : Float). HasValue x (r .sign) (r .size) (2 ^ k)) (sym (r .eq))
+          (subst (λ (x : ℕ). HasValue (round binary64 (r .sign) x (2 ^ k)) (r .sign) x (2 ^ k)) (mul-one (r .size)) (exact-has (r .sign) (r .size) 0 k h (lit≤ tt) (signed-le (r .sign) (r .size) p n (2 ^ 53) (r .is) u l)));
+      is = r .is;
+    }
+
+-- the same where the exact result lies on a coarser grid: it is c units of 2 ^ (i - k), with c at most 2 ^ 53
+signed-div : (s : Bool) (a p n w : ℕ) → Signed s a (p * w) (n * w) → (a ≡ (p - n) * w) ⊎ (a ≡ (n - p) * w)
+signed-div false a p n w h = inl (let e : (p - n) * w ≡ p * w - n * w = sub-mul p n w in omega arith)
+signed-div true a p n w h = inr (let e : (n - p) * w ≡ n * w - p * w = sub-mul n p w in omega arith)
+
+pub rounds-exact-coarse : (k i : ℕ) {z : Float} {p n : ℕ} → k ≤ 1074 → i ≤ 970 → p ≤ n + 2 ^ 53 → n ≤ p + 2 ^ 53 → Rounds binary64 z (p * 2 ^ i) (n * 2 ^ i) (2 ^ k) → Val z (p * 2 ^ i) (n * 2 ^ i) (2 ^ k)
+rounds-exact-coarse k i {z} {p} {n} h g u l r =
+    record {
+      sign = r .sign;
+      size = r .size;
+      has = subst (λ (x : Float). HasValue x (r .sign) (r .size) (2 ^ k)) (sym (r .eq)) (go (signed-div (r .sign) (r .size) p n (2 ^ i) (r .is)));
+      is = r .is;
+    }
+  where
+    by : (a c : ℕ) (s : Bool) → c ≤ 2 ^ 53 → a ≡ c * 2 ^ i → HasValue (round binary64 s a (2 ^ k)) s a (2 ^ k)
+    by a c s b e = subst (λ (x : ℕ). HasValue (round binary64 s x (2 ^ k)) s x (2 ^ k)) (sym e) (exact-has s c i k h g b)
+
+    go : (r .size ≡ (p - n) * 2 ^ i) ⊎ (r .size ≡ (n - p) * 2 ^ i) → HasValue (round binary64 (r .sign) (r .size) (2 ^ k)) (r .sign) (r .size) (2 ^ k)
+    go (inl e) = by (r .size) (p - n) (r .sign) (omega arith) e
+    go (inr e) = by (r .size) (n - p) (r .sign) (omega arith) e
+
+pub add-exact : (k : ℕ) {x y : Float} {p n q m : ℕ} → k ≤ 1074 → p + q ≤ n + m + 2 ^ 53 → n + m ≤ p + q + 2 ^ 53 → Val x p n (2 ^ k) → Val y q m (2 ^ k) → Val (add binary64 x y) (p + q) (n + m) (2 ^ k)
+add-exact k h u l v w = rounds-exact k h u l (add-rounds binary64 (pow-pos k) v w)
+
+pub sub-exact : (k : ℕ) {x y : Float} {p n q m : ℕ} → k ≤ 1074 → p + m ≤ n + q + 2 ^ 53 → n + q ≤ p + m + 2 ^ 53 → Val x p n (2 ^ k) → Val y q m (2 ^ k) → Val (sub binary64 x y) (p + m) (n + q) (2 ^ k)
+sub-exact k h u l v w = rounds-exact k h u l (sub-rounds binary64 (pow-pos k) v w)

@@ -1,0 +1,21 @@
+-- The laws of f64 rounding.
+pub mod Value
+pub mod Compare
+pub mod Exact
+pub mod Grid
+pub mod Near
+pub mod Own
+pub mod Bound
+pub mod Casts
+pub mod Range
+pub mod Ints
+pub mod Scaled
+pub mod Optimal
+pub mod Sterbenz
+pub mod Relative
+pub mod TwoSum
+pub mod TwoSumFloat
+pub mod About
+pub mod Sizes
+pub mod Quick
+pub mod Chain

@@ -1,0 +1,31 @@
+-- The value of a finite float as a scaled whole number: x = (p - n) / d, for natural numbers p, n and d. Written from IEEE 754: a finite float is a fraction,
+-- and an operation gives the exact result of its operands, rounded once. The pair (p, n) is free: any two pairs with the same difference say the same value,
+-- so +0 and -0 are both worth p - p. Assumes nothing.
+use mathlib.Core.Path.{_≡_}
+use Prim.Native.Nat.{ℕ, _+_, _^_}
+use mathlib.Core.Bool.{Bool, true, false}
+use lib.Ieee.{Float, Format, round}
+use lib.Ieee.Exact.{HasValue}
+
+-- a with the sign s is p - n: a = p - n, and for the negative sign -a = p - n
+abbrev pub Signed : Bool → ℕ → ℕ → ℕ → Type 0
+Signed false a p n = a + n ≡ p
+Signed true a p n = a + p ≡ n
+
+-- x is finite, and x = (p - n) / d
+pub record Val (x : Float) (p n d : ℕ) : Type 0 where
+  pub sign : Bool
+  pub size : ℕ
+  pub has : HasValue x sign size d
+  pub is : Signed sign size p n
+
+-- z is (p - n) / d, rounded once to the format f; the sign of a zero is left open
+pub record Rounds (f : Format) (z : Float) (p n d : ℕ) : Type 0 where
+  pub sign : Bool
+  pub size : ℕ
+  pub eq : z ≡ round f sign size d
+  pub is : Signed sign size p n
+
+-- 2 ^ 1074: the smallest f64 above zero is 1 / L, and every finite f64 is a whole number of 1 / L. Shut, so that proofs do not compute it
+unfoldable pub L : ℕ
+L = 2 ^ 1074
