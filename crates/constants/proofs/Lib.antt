@@ -1,0 +1,2 @@
+-- What the proofs of `constants`, and of the crates that read it, cite.
+pub mod Bits

@@ -1,0 +1,2 @@
+-- The definitions that the contracts of `constants`, and of the crates that read it, cite.
+pub mod Constants

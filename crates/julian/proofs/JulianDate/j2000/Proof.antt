@@ -1,0 +1,15 @@
+-- `julian::JulianDate::j2000` meets its contract. Assumes nothing.
+use lib.Ieee.{ofBits, round}
+use borrow.Author.Needs.{needs}
+use Rattle.julian.proofs.JulianDate.j2000.Statement.{statement}
+use Rattle.julian.proofs.JulianDate.j2000.Tie as tie
+
+new-requires : tie.Need-new-requires
+new-requires c κs = search needs
+
+returns : tie.Need-returns
+unfolding ofBits round
+returns c = c .new .ensures
+
+pub j2000-spec : {M : Type 1} → statement M
+j2000-spec = tie.close (tie.spec new-requires returns)

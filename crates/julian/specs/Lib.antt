@@ -1,0 +1,2 @@
+-- The definitions that the contracts of `julian` cite.
+pub mod JulianDate
