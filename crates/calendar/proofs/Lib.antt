@@ -1,0 +1,10 @@
+pub mod Months
+pub mod March
+pub mod Civil
+pub mod Signs
+pub mod Divisions
+pub mod Whole
+pub mod Counted
+pub mod Accepted
+pub mod NextDates
+pub mod MjdAnswers

@@ -1,0 +1,89 @@
+-- The next date of a date that is not refused, by its four cases.
+-- Assumes nothing.
+use mathlib.Core.Path.{_≡_, refl, ap, sym, subst, _∙_}
+use mathlib.Core.Bool.{Bool, true, false, cond, _&&_}
+use Prim.Native.Nat.{ℕ, zero, suc, _+_, _≤_, _<_}
+use native.Mathlib.Omega.{arith}
+use lib.Dec.{eqb, ltb}
+use lib.IntN.{ℤ, pos, negsuc, natAbs, sucℤ}
+use lib.Signed.{ltZ, leZ}
+use mir.Syntax.{w32}
+use mir.Val.{SFits}
+use borrow.Author.Tests.{eq-eqb, ne-eqb, lt-ltb, le-ltb, le-leb, lt-leb, ltb-true, ltb-false}
+use Rattle.refusals.specs.Outcome.{Outcome, answer, refusal, onward}
+use Rattle.calendar.specs.declared.CalendarDate.{CalendarDate}
+use Rattle.calendar.specs.Calendar.{date, next, lengths, leap, monthLength}
+use Rattle.calendar.specs.Refusals.{validDate, nextOf, lastDate}
+use Rattle.calendar.proofs.Accepted.{Accepted, accepted, short}
+
+december : (b : Bool) → lengths b 12 ≡ 31
+unfolding lengths
+december b = refl
+
+first-false : (a b c : Bool) → a ≡ false → a && (b && c) ≡ false
+first-false a b c e = rw e
+
+second-false : (a b c : Bool) → b ≡ false → a && (b && c) ≡ false
+second-false true b c e = rw e
+second-false false b c e = refl
+
+third-false : (a b c : Bool) → c ≡ false → a && (b && c) ≡ false
+third-false true true c e = e
+third-false true false c e = refl
+third-false false b c e = refl
+
+-- the last year
+at-end : (y : ℤ) → ltZ (pos 2147483646) y ≡ true → leZ (pos 2147483647) y ≡ true
+at-end (pos n) e = le-leb 2147483647 n (omega (arith, ltb-true 2147483646 n e))
+at-end (negsuc n) e = e
+
+before-end : (y : ℤ) → ltZ (pos 2147483646) y ≡ false → leZ (pos 2147483647) y ≡ false
+before-end (pos n) e = lt-leb 2147483647 n (omega (arith, ltb-false 2147483646 n e))
+before-end (negsuc n) e = refl
+
+pub year-fits : (y : ℤ) → SFits w32 y → ltZ (pos 2147483646) y ≡ false → SFits w32 (sucℤ y)
+year-fits (pos n) f e = record { sfits = omega (arith, ltb-false 2147483646 n e) }
+year-fits (negsuc zero) f e = record { sfits = omega arith }
+year-fits (negsuc (suc n)) f e = record { sfits = omega (arith, f .sfits) }
+
+pub refused : (y m d : ℤ) (k : ℕ) → validDate y m d ≡ refusal k → nextOf y m d ≡ refusal k
+unfolding nextOf onward
+refused y m d k e = rw e
+
+module _ (y m d : ℤ) (ok : validDate y m d ≡ answer tt) where
+  a : Accepted y m d
+  a = accepted y m d ok
+
+  pub by : (t : Bool) → lastDate y (natAbs m) (natAbs d) ≡ t → nextOf y m d ≡ cond t (refusal 5) (answer (next (date y (natAbs m) (natAbs d))))
+  unfolding nextOf onward
+  by t e = rw (ok, e)
+
+  pub next-day : natAbs d < monthLength y (natAbs m) → nextOf y m d ≡ answer (date y (natAbs m) (natAbs d + 1))
+  unfolding next
+  next-day h =
+      by false (third-false (leZ (pos 2147483647) y) (eqb (natAbs m) 12) (eqb (natAbs d) 31) (ne-eqb (natAbs d) 31 (λ e. omega (arith, short (leap y) (natAbs m) (a .m-low) (a .m-high)))))
+      ∙ rw (lt-ltb (natAbs d) (monthLength y (natAbs m)) h)
+
+  pub next-month : monthLength y (natAbs m) ≤ natAbs d → natAbs m < 12 → nextOf y m d ≡ answer (date y (natAbs m + 1) 1)
+  unfolding next
+  next-month h k =
+      by false (second-false (leZ (pos 2147483647) y) (eqb (natAbs m) 12) (eqb (natAbs d) 31) (ne-eqb (natAbs m) 12 (λ e. omega arith)))
+      ∙ rw (le-ltb (natAbs d) (monthLength y (natAbs m)) h, lt-ltb (natAbs m) 12 k)
+
+  pub next-year : monthLength y (natAbs m) ≤ natAbs d → 12 ≤ natAbs m → ltZ (pos 2147483646) y ≡ false → nextOf y m d ≡ answer (date (sucℤ y) 1 1)
+  unfolding next
+  next-year h k l =
+      by false (first-false (leZ (pos 2147483647) y) (eqb (natAbs m) 12) (eqb (natAbs d) 31) (before-end y l))
+      ∙ rw (le-ltb (natAbs d) (monthLength y (natAbs m)) h, le-ltb (natAbs m) 12 k)
+
+  pub no-next : monthLength y (natAbs m) ≤ natAbs d → 12 ≤ natAbs m → ltZ (pos 2147483646) y ≡ true → nextOf y m d ≡ refusal 5
+  no-next h k l = by true (rw (at-end y l, eq-eqb (natAbs m) 12 twelve, eq-eqb (natAbs d) 31 last))
+    where
+      twelve : natAbs m ≡ 12
+      twelve = omega (arith, a .m-high)
+
+      same : monthLength y (natAbs m) ≡ lengths (leap y) 12
+      same = ap (lengths (leap y)) twelve
+
+      last : natAbs d ≡ 31
+      last = omega (arith, a .d-high, same, december (leap y))

@@ -1,0 +1,29 @@
+use mathlib.Core.Path.{_≡_, refl, ap, sym, subst, _∙_}
+use Prim.Native.Nat.{ℕ, _≤_, _<_, _^_}
+use native.Mathlib.Omega.{arith}
+use lib.IntN.{ℤ, pos, negsuc, natAbs, _+ℤ_, _-ℤ_, subℕ}
+use mir.Syntax.{w32, w64}
+use mir.Val.{SFits, Fits, toZ, ofZ}
+use mir.Facts.{toZ-ofZ, toZ-pos, sfits-widen}
+use Rattle.calendar.proofs.Signs.{lowered}
+use borrow.Author.Needs.{needs}
+use Rattle.calendar.proofs.count_to_mjd.Statement.{statement}
+use Rattle.calendar.proofs.count_to_mjd.Tie as tie
+
+diff : (c : tie.Start) → toZ w64 (c .args .n) -ℤ pos 2432076 ≡ subℕ (c .args .n) 2432076
+diff c = ap (λ (z : ℤ). z -ℤ pos 2432076) (toZ-pos w64 {n = c .args .n} (omega (arith, c .pre)))
+
+fits : (c : tie.Start) → SFits w64 (subℕ (c .args .n) 2432076)
+fits c = record { sfits = lowered (c .args .n) 2432076 (2 ^ 63) (omega (arith, c .pre)) (omega arith) }
+
+cast-result : tie.Need-cast-result
+cast-result c = search needs
+
+sub-result : tie.Need-sub-result
+sub-result c = subst (λ (z : ℤ). SFits w64 z) (sym (diff c)) (fits c)
+
+returns : tie.Need-returns
+returns c = toZ-ofZ (subst (λ (z : ℤ). SFits w64 z) (sym (diff c)) (fits c)) ∙ diff c
+
+pub count-to-mjd-spec : {M : Type 1} → statement M
+count-to-mjd-spec = tie.close (tie.spec cast-result sub-result returns)

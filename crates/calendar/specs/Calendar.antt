@@ -1,0 +1,48 @@
+-- The proleptic Gregorian calendar: leap years, the months' lengths, the next date, and the date of each day number. Written from ISO 8601 and from document 01,
+-- "Day and fraction". Assumes nothing.
+use Prim.Native.Nat.{ℕ, zero, suc, _+_, _%_}
+use mathlib.Core.Bool.{Bool, cond, not, _&&_, _||_}
+use mathlib.Core.List.{[], _∷_}
+use lib.Dec.{eqb, ltb}
+use lib.ListN.{getD}
+use lib.IntN.{ℤ, pos, negsuc, natAbs, sucℤ, _+ℤ_}
+use Rattle.calendar.specs.declared.CalendarDate.{CalendarDate}
+
+-- document 01: "February has 29 days exactly in years divisible by 400, or by 4 and not by 100". Divisibility has no sign, so the rule is of the year's size
+unfoldable pub leapSize : ℕ → Bool
+leapSize n = eqb (n % 400) 0 || (eqb (n % 4) 0 && not (eqb (n % 100) 0))
+
+abbrev pub leap : ℤ → Bool
+leap y = leapSize (natAbs y)
+
+-- the days of months 1 to 12, in a leap year or another; no other number is a month, and has 0 days
+unfoldable pub lengths : Bool → ℕ → ℕ
+lengths isLeap m = getD (0 ∷ 31 ∷ cond isLeap 29 28 ∷ 31 ∷ 30 ∷ 31 ∷ 30 ∷ 31 ∷ 31 ∷ 30 ∷ 31 ∷ 30 ∷ 31 ∷ []) m 0
+
+abbrev pub monthLength : ℤ → ℕ → ℕ
+monthLength y m = lengths (leap y) m
+
+-- the same of a month that may be below 0
+unfoldable pub daysInMonth : ℤ → ℤ → ℕ
+daysInMonth y (pos m) = monthLength y m
+daysInMonth y (negsuc m) = 0
+
+abbrev pub date : ℤ → ℕ → ℕ → CalendarDate
+date y m d = record { year = y; month = m; day = d }
+
+-- the next date: the next day of the month, or the first of the next month, or 1 January of the next year
+unfoldable pub next : CalendarDate → CalendarDate
+next t =
+    cond (ltb (t .day) (monthLength (t .year) (t .month))) (date (t .year) (t .month) (t .day + 1))
+    (cond (ltb (t .month) 12) (date (t .year) (t .month + 1) 1) (date (sucℤ (t .year)) 1 1))
+
+-- the date k days after -5200-03-01
+unfoldable pub dateAt : ℕ → CalendarDate
+dateAt zero = date (negsuc 5199) 3 1
+dateAt (suc k) = next (dateAt k)
+
+-- The date of day number n, for n from -178141 up. Document 01: "Day 2451545 is 2000-01-01, and each n one more or one less is the next or the previous date."
+-- The count starts at -5200-03-01, day -178141, because all that the code computes lies after it; that day 2451545 is 2000-01-01 and that no other sequence of
+-- dates has this day and this step is proved (`day-2451545-is-2000-01-01` and `the-calendar`).
+unfoldable pub dateOf : ℤ → CalendarDate
+dateOf n = dateAt (natAbs (n +ℤ pos 178141))

@@ -1,0 +1,31 @@
+-- Whole numbers as bytes, the lowest first: the layout of the stamp block's numbers and of the numbers that the C interface hands out. Written from document 01,
+-- "Stamp block". Assumes nothing.
+use Prim.Native.Nat.{ℕ, _+_, _*_, _/_, _%_}
+use mathlib.Core.List.{List, [], _∷_}
+use mathlib.Core.Bool.{cond}
+use lib.ListN.{length, getD}
+use lib.Dec.{leb}
+
+-- the number in the four bytes from `at` on
+unfoldable pub fourAt : List ℕ → ℕ → ℕ
+fourAt s at = getD s at 0 + 256 * getD s (at + 1) 0 + 65536 * getD s (at + 2) 0 + 16777216 * getD s (at + 3) 0
+
+-- the numbers in four bytes and in eight; 0 where the bytes are not all there
+unfoldable pub u32At : List ℕ → ℕ → ℕ
+u32At s at = cond (leb (at + 4) (length s)) (fourAt s at) 0
+
+unfoldable pub u64At : List ℕ → ℕ → ℕ
+u64At s at = cond (leb (at + 8) (length s)) (fourAt s at + 4294967296 * fourAt s (at + 4)) 0
+
+-- the eight bytes of a number
+abbrev pub eightBytes : ℕ → List ℕ
+eightBytes n =
+    n % 256
+    ∷ n / 0x100 % 256
+    ∷ n / 0x1_0000 % 256
+    ∷ n / 0x100_0000 % 256
+    ∷ n / 0x1_0000_0000 % 256
+    ∷ n / 0x100_0000_0000 % 256
+    ∷ n / 0x1_0000_0000_0000 % 256
+    ∷ n / 0x100_0000_0000_0000 % 256
+    ∷ []

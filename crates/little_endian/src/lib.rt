@@ -1,0 +1,64 @@
+// Whole numbers as bytes, the lowest first.
+ghost use mathlib.Core.Path.{_≡_};
+ghost use Prim.Native.Nat.{_+_, _≤_, _<_};
+ghost use lib.ListN.{length};
+ghost use Rattle.little_endian.specs.LittleEndian.{fourAt, u32At, u64At, eightBytes};
+
+fn wide(x: u8) -> u64
+    ensures { λ r. ⌜ (r ≡ x) × (r < 256) ⌝ }
+{
+    x as u64
+}
+
+fn four_at(s: &[u8], at: usize) -> u64
+    requires { ⌜ at + 4 ≤ length (now s) ⌝ }
+    ensures { λ r. ⌜ (r ≡ fourAt (now (s .entry)) at) × (r < 4294967296) ⌝ }
+{
+    let a = wide(s[at]);
+    let b = wide(s[at + 1]);
+    let c = wide(s[at + 2]);
+    let d = wide(s[at + 3]);
+    a + 256 * b + 65536 * c + 16777216 * d
+}
+
+// The number in the four bytes from `at` on; 0 where they are not all there.
+pub fn u32_at(s: &[u8], at: usize) -> u32
+    ensures { λ r. ⌜ r ≡ u32At (now (s .entry)) at ⌝ }
+{
+    if s.len() < 4 {
+        return 0;
+    }
+    if s.len() - 4 < at {
+        return 0;
+    }
+    four_at(s, at) as u32
+}
+
+// The number in the eight bytes from `at` on; 0 where they are not all there.
+pub fn u64_at(s: &[u8], at: usize) -> u64
+    ensures { λ r. ⌜ r ≡ u64At (now (s .entry)) at ⌝ }
+{
+    if s.len() < 8 {
+        return 0;
+    }
+    if s.len() - 8 < at {
+        return 0;
+    }
+    four_at(s, at) + 4294967296 * four_at(s, at + 4)
+}
+
+// The eight bytes of a number.
+pub fn bytes_of_u64(n: u64) -> [u8; 8]
+    ensures { λ r. ⌜ r ≡ eightBytes n ⌝ }
+{
+    [
+        (n % 256) as u8,
+        (n / 0x100 % 256) as u8,
+        (n / 0x1_0000 % 256) as u8,
+        (n / 0x100_0000 % 256) as u8,
+        (n / 0x1_0000_0000 % 256) as u8,
+        (n / 0x100_0000_0000 % 256) as u8,
+        (n / 0x1_0000_0000_0000 % 256) as u8,
+        (n / 0x100_0000_0000_0000 % 256) as u8,
+    ]
+}
