@@ -2,7 +2,7 @@
 -- Assumes nothing.
 use mathlib.Core.Path.{_≡_, refl, ap, sym, subst, _∙_}
 use mathlib.Core.Bool.{Bool, true, false, cond, _||_}
-use Prim.Native.Nat.{ℕ, zero, suc, _+_, _≤_, _<_}
+use Prim.Native.Nat.{ℕ, zero, suc, _≤_, _<_}
 use native.Mathlib.Omega.{arith}
 use lib.Dec.{ltb}
 use lib.IntN.{ℤ, pos, negsuc, natAbs}
@@ -15,10 +15,11 @@ use Rattle.refusals.specs.Outcome.{Outcome, answer, refusal}
 use Rattle.calendar.specs.Calendar.{leap, lengths, monthLength, daysInMonth}
 use Rattle.calendar.specs.Refusals.{validDate}
 use Rattle.calendar.specs.Answers.{checkOutcome}
+use Rattle.calendar.specs.declared.CalendarDate.{CalendarDate}
 use Rattle.calendar.specs.declared.DateCheck.{DateCheck}
 use Rattle.calendar.specs.declared.DateCheck.the-variants as Check
 use Rattle.calendar.proofs.Months.{numbers, months}
-use Rattle.calendar.proofs.Signs.{at-least-one}
+use Rattle.calendar.proofs.Signs.{at-least-one, read-date}
 
 -- ---- the days of a month
 pub month-days : (y m : ℤ) → ltZ m (pos 1) ≡ false → daysInMonth y m ≡ monthLength y (natAbs m)
@@ -128,10 +129,20 @@ accepted y m d e =
       d-high = subst (λ (n : ℕ). natAbs d ≤ n) (month-days y m (f .1)) h;
     }
 
--- ---- the machine hands a call its arguments read back from their bits
-pub read-three : (y m d : ℤ) → SFits w32 y → SFits w32 m → SFits w32 d → validDate (toZ w32 (ofZ w32 y)) (toZ w32 (ofZ w32 m)) (toZ w32 (ofZ w32 d)) ≡ validDate y m d
-read-three y m d f g h = λ i. validDate (toZ-ofZ f i) (toZ-ofZ g i) (toZ-ofZ h i)
+-- ---- a date of the calendar: month 1 to 12, and a day of that month
+pub record InCalendar (t : CalendarDate) : Type 0 where
+  pub m-low : 1 ≤ t .month
+  pub m-high : t .month ≤ 12
+  pub d-low : 1 ≤ t .day
+  pub d-high : t .day ≤ monthLength (t .year) (t .month)
 
+-- such a date is refused only for its year
+pub in-calendar-valid : (t : CalendarDate) → InCalendar t → ltZ (t .year) (negsuc 4798) ≡ false → validDate (t .year) (pos (t .month)) (pos (t .day)) ≡ answer tt
+unfolding validDate daysInMonth
+in-calendar-valid t g e =
+    rw (e, le-ltb (t .month) 1 (g .m-low), le-ltb 12 (t .month) (g .m-high), le-ltb (t .day) 1 (g .d-low), le-ltb (monthLength (t .year) (t .month)) (t .day) (g .d-high))
+
+-- ---- the machine hands a call its arguments read back from their bits
 pub read-two : (y m : ℤ) → SFits w32 y → SFits w32 m → daysInMonth (toZ w32 (ofZ w32 y)) (toZ w32 (ofZ w32 m)) ≡ daysInMonth y m
 read-two y m f g = λ i. daysInMonth (toZ-ofZ f i) (toZ-ofZ g i)
 
@@ -139,8 +150,8 @@ read-two y m f g = λ i. daysInMonth (toZ-ofZ f i) (toZ-ofZ g i)
 module _ (y m d : ℤ) (f : SFits w32 y) (g : SFits w32 m) (h : SFits w32 d) (r : DateCheck) (e : checkOutcome r ≡ validDate (toZ w32 (ofZ w32 y)) (toZ w32 (ofZ w32 m)) (toZ w32 (ofZ w32 d))) where
   pub is-valid : r ≡ Check.Valid → validDate y m d ≡ answer tt
   unfolding checkOutcome
-  is-valid p = sym (ap checkOutcome (sym p) ∙ e ∙ read-three y m d f g h)
+  is-valid p = sym (ap checkOutcome (sym p) ∙ e ∙ read-date validDate y m d f g h)
 
   pub is-refused : (k : ℕ) → r ≡ Check.Refused k → validDate y m d ≡ refusal k
   unfolding checkOutcome
-  is-refused k p = sym (ap checkOutcome (sym p) ∙ e ∙ read-three y m d f g h)
+  is-refused k p = sym (ap checkOutcome (sym p) ∙ e ∙ read-date validDate y m d f g h)

@@ -1,14 +1,14 @@
--- The date number's division into century, year, month and date, as the Rust has it, gives a good date with that count.
+-- The Rust's division of a day number into century, year, month and day gives a March date with that count.
 -- Assumes nothing.
 use mathlib.Core.Path.{_≡_, refl, ap, sym, subst, _∙_}
 use mathlib.Core.Logic.{_⊎_, inl, inr, ⊎-elim}
-use Prim.Native.Nat.{ℕ, zero, suc, _+_, _-_, _*_, _/_, _%_, _≤_, _<_}
+use Prim.Native.Nat.{ℕ, _+_, _-_, _*_, _/_, _≤_, _<_}
 use native.Mathlib.Omega.{arith}
 use mathlib.Core.Bool.{Bool, true, false}
 use native.Mathlib.Decide.{decLt}
 use Rattle.calendar.specs.Calendar.{leapSize}
 use Rattle.calendar.proofs.Months.{months}
-use Rattle.calendar.proofs.March.{daysBeforeYear, s-is, s-next, daysBefore, d-is, Valid, len, len-short, len-feb, extra}
+use Rattle.calendar.proofs.March.{daysBeforeYear, before-year-is, before-year-next, daysBefore, before-is, Valid, marchLength, month-length, february-length, extra}
 
 -- the start of century n
 abbrev pub centuryStart : ℕ → ℕ
@@ -53,12 +53,12 @@ sum s n i q4 q100 q400 r e c f p q u v w x = omega arith
 pub s-at : (n i : ℕ) → i ≤ 99 → daysBeforeYear (100 * n + i + 300) ≡ 109572 + centuryStart n + 1461 * i / 4
 s-at n i h =
     sum (daysBeforeYear (100 * n + i + 300)) n i ((100 * n + i + 300) / 4) ((100 * n + i + 300) / 100) ((100 * n + i + 300) / 400) (i / 4) ((n + 3) / 4) (centuryStart n) (1461 * i / 4)
-    (s-is (100 * n + i + 300)) (at4 n i) (at100 n i h) (at400 n i h) (cent n) (years i)
+    (before-year-is (100 * n + i + 300)) (at4 n i) (at100 n i h) (at400 n i h) (cent n) (years i)
 
 pub month-same : (k : ℕ) → 1 ≤ k → k ≤ 12 → 2447 * k / 80 ≡ 367 * k / 12
 month-same = months (λ k. 2447 * k / 80 ≡ 367 * k / 12) refl refl refl refl refl refl refl refl refl refl refl refl
 
--- the year's end is after the date: year i of century n, l days after -4900-03-01
+-- the year's end is after the day: year i of century n, l days after -4900-03-01
 year-end : (n i : ℕ) → i ≤ 99 → daysBeforeYear (100 * n + i + 300 + 1) ≡ 109572 + centuryStart n + 1461 * (i + 1) / 4 ⊎ ((i ≡ 99) × (daysBeforeYear (100 * n + i + 300 + 1) ≡ 109572 + centuryStart (n + 1)))
 year-end n i h = go (decLt i 99)
   where
@@ -86,7 +86,7 @@ below l n i h p q r = ⊎-elim (λ e. first (centuryStart n) (1461 * (i + 1) / 4
     second : (c : ℕ) → daysBeforeYear (100 * n + i + 300 + 1) ≡ 109572 + c → l < c → l + 109572 < daysBeforeYear (100 * n + i + 300 + 1)
     second c e u = rw e (omega arith)
 
--- the month k and the date of a year's date b - 31, March first
+-- the month k and the day of a year's day b - 31, March first
 k-is : (b : ℕ) → (2447 * (80 * b / 2447) ≤ 80 * b) × (80 * b < 2447 * (80 * b / 2447 + 1))
 k-is b = omega arith
 
@@ -113,7 +113,7 @@ module _ (y b k : ℕ) (l : 31 ≤ b) (h : b < 396 + extra (leapSize (y + 1))) (
       go : (u v : ℕ) → v ≡ u → v < b → u + (b - v) ≡ b
       go u v e f = omega arith
 
-  in-len : b - 2447 * k / 80 ≤ len y k
+  in-len : b - 2447 * k / 80 ≤ marchLength y k
   in-len = go (decLt k 12)
     where
       short : (u u′ v v′ n : ℕ) → v ≡ u → v′ ≡ u′ → u + n ≡ u′ → b ≤ v′ → b - v ≤ n
@@ -122,13 +122,13 @@ module _ (y b k : ℕ) (l : 31 ≤ b) (h : b < 396 + extra (leapSize (y + 1))) (
       feb : (n x : ℕ) → b < 396 + x → n ≡ 28 + x → b - 367 ≤ n
       feb n x u v = omega arith
 
-      go : Dec (k < 12) → b - 2447 * k / 80 ≤ len y k
+      go : Dec (k < 12) → b - 2447 * k / 80 ≤ marchLength y k
       go (yes z) =
-          short (367 * k / 12) (367 * (k + 1) / 12) (2447 * k / 80) (2447 * (k + 1) / 80) (len y k)
-          (month-same k (range .0) (range .1)) (month-same (k + 1) (omega arith) (omega arith)) (len-short y k (range .0) z) (day-high b k q)
+          short (367 * k / 12) (367 * (k + 1) / 12) (2447 * k / 80) (2447 * (k + 1) / 80) (marchLength y k)
+          (month-same k (range .0) (range .1)) (month-same (k + 1) (omega arith) (omega arith)) (month-length y k (range .0) z) (day-high b k q)
       go (no z) =
           let e : k ≡ 12 = omega (arith, range .1) in
-          subst (λ (j : ℕ). b - 2447 * j / 80 ≤ len y j) (sym e) (feb (len y 12) (extra (leapSize (y + 1))) h (len-feb y))
+          subst (λ (j : ℕ). b - 2447 * j / 80 ≤ marchLength y j) (sym e) (feb (marchLength y 12) (extra (leapSize (y + 1))) h (february-length y))
 
   pub month-good : Valid y k (b - 2447 * k / 80)
   month-good =
@@ -158,7 +158,7 @@ b-high l b s s′ x p q r = omega arith
 d-sum : (d s m e b l : ℕ) → d + 31 ≡ s + m + e → m + e ≡ b → b + s ≡ l + 109572 + 31 → d ≡ l + 109572
 d-sum d s m e b l p q r = omega arith
 
--- the whole: l days after -4900-03-01, as the Rust divides it
+-- the divisions-give-date: l days after -4900-03-01, as the Rust divides it
 module _ (l n a i b k : ℕ) (en : n ≡ 4 * l / 146097) (ea : a ≡ l - centuryStart n) (ei : i ≡ 4000 * (a + 1) / 1461001) (eb : b ≡ a + 31 - 1461 * i / 4) (ek : k ≡ 80 * b / 2447) where
   pub c-low : centuryStart n ≤ l
   c-low = subst (λ (j : ℕ). centuryStart j ≤ l) (sym en) (cent-low l)
@@ -187,7 +187,7 @@ module _ (l n a i b k : ℕ) (en : n ≡ 4 * l / 146097) (ea : a ≡ l - century
   b-least = b-low a (1461 * i / 4) b eb f-low
 
   pub b-most : b < 396 + extra (leapSize (100 * n + i + 300 + 1))
-  b-most = b-high l b (daysBeforeYear (100 * n + i + 300)) (daysBeforeYear (100 * n + i + 300 + 1)) _ b-is before-next (s-next (100 * n + i + 300))
+  b-most = b-high l b (daysBeforeYear (100 * n + i + 300)) (daysBeforeYear (100 * n + i + 300 + 1)) _ b-is before-next (before-year-next (100 * n + i + 300))
 
   p : 2447 * k ≤ 80 * b
   p = subst (λ (j : ℕ). 2447 * j ≤ 80 * b) (sym ek) (k-is b .0)
@@ -201,4 +201,4 @@ module _ (l n a i b k : ℕ) (en : n ≡ 4 * l / 146097) (ea : a ≡ l - century
   pub counts : daysBefore (100 * n + i + 300) k (b - 2447 * k / 80) ≡ l + 109572
   counts =
       d-sum (daysBefore (100 * n + i + 300) k (b - 2447 * k / 80)) (daysBeforeYear (100 * n + i + 300)) (367 * k / 12) (b - 2447 * k / 80) b l
-      (d-is (100 * n + i + 300) k (b - 2447 * k / 80) (good .m-low) (good .d-low)) (month-sum (100 * n + i + 300) b k b-least b-most p q) b-is
+      (before-is (100 * n + i + 300) k (b - 2447 * k / 80) (good .m-low) (good .d-low)) (month-sum (100 * n + i + 300) b k b-least b-most p q) b-is

@@ -1,20 +1,24 @@
--- The next date of a date that is not refused, by its four cases.
+-- The next date of a date that is not refused, by its four cases; it is never refused, and its MJD is one more.
 -- Assumes nothing.
 use mathlib.Core.Path.{_≡_, refl, ap, sym, subst, _∙_}
 use mathlib.Core.Bool.{Bool, true, false, cond, _&&_}
 use Prim.Native.Nat.{ℕ, zero, suc, _+_, _≤_, _<_}
 use native.Mathlib.Omega.{arith}
-use lib.Dec.{eqb, ltb}
-use lib.IntN.{ℤ, pos, negsuc, natAbs, sucℤ}
+use lib.Dec.{eqb}
+use lib.IntN.{ℤ, pos, negsuc, natAbs, sucℤ, _-ℤ_, sucℤ-+ℤ}
 use lib.Signed.{ltZ, leZ}
 use mir.Syntax.{w32}
 use mir.Val.{SFits}
 use borrow.Author.Tests.{eq-eqb, ne-eqb, lt-ltb, le-ltb, le-leb, lt-leb, ltb-true, ltb-false}
 use Rattle.refusals.specs.Outcome.{Outcome, answer, refusal, onward}
 use Rattle.calendar.specs.declared.CalendarDate.{CalendarDate}
-use Rattle.calendar.specs.Calendar.{date, next, lengths, leap, monthLength}
+use Rattle.calendar.specs.Calendar.{date, dateAt, next, lengths, leap, monthLength}
 use Rattle.calendar.specs.Refusals.{validDate, nextOf, lastDate}
-use Rattle.calendar.proofs.Accepted.{Accepted, accepted, short}
+use Rattle.calendar.specs.DayCount.{mjdOf}
+use Rattle.calendar.proofs.Accepted.{Accepted, accepted, short, InCalendar, in-calendar-valid}
+use Rattle.calendar.proofs.Days.{after, one-day, date-at-in-calendar}
+use Rattle.calendar.proofs.Years.{next-keeps, not-before}
+use Rattle.calendar.proofs.Mjd.{mjd-given, day-of, same-answer}
 
 december : (b : Bool) → lengths b 12 ≡ 31
 unfolding lengths
@@ -87,3 +91,48 @@ module _ (y m d : ℤ) (ok : validDate y m d ≡ answer tt) where
 
       last : natAbs d ≡ 31
       last = omega (arith, a .d-high, same, december (leap y))
+
+-- ---- THE LAWS of the next date
+answered : (o : Outcome Unit) (b : Bool) (t u : CalendarDate) → onward o (λ _. cond b (refusal 5) (answer u)) ≡ answer t → (o ≡ answer tt) × (t ≡ u)
+unfolding onward
+answered (answer x) true t u e = let z : _≡_ {A = ℕ} 0 1 = cc in absurd (omega arith)
+answered (answer x) false t u e = (refl, cc)
+answered (refusal k) b t u e = let z : _≡_ {A = ℕ} 0 1 = cc in absurd (omega arith)
+
+-- a date with a next one is not refused, and the next is that of the calendar
+pub next-is : (y m d : ℤ) (t : CalendarDate) → nextOf y m d ≡ answer t → (validDate y m d ≡ answer tt) × (t ≡ next (date y (natAbs m) (natAbs d)))
+unfolding nextOf
+next-is y m d t e = answered (validDate y m d) (lastDate y (natAbs m) (natAbs d)) t (next (date y (natAbs m) (natAbs d))) e
+
+module _ (y m d : ℤ) (t : CalendarDate) (h : nextOf y m d ≡ answer t) where
+  at-next : dateAt (suc (day-of y m d (next-is y m d t h .0) .0)) ≡ t
+  at-next =
+      let z = next-is y m d t h in
+      let k = day-of y m d (z .0) in
+      after (k .0) ∙ ap next (k .2) ∙ sym (z .1)
+
+  -- the next date has a month 1 to 12 and a day of that month
+  pub next-in-calendar : InCalendar t
+  next-in-calendar = subst (λ (x : CalendarDate). InCalendar x) at-next (date-at-in-calendar _)
+
+  -- the next date is never refused
+  pub next-accepted : validDate (t .year) (pos (t .month)) (pos (t .day)) ≡ answer tt
+  next-accepted =
+      let z = next-is y m d t h in
+      in-calendar-valid t next-in-calendar
+      (subst (λ (x : CalendarDate). ltZ (x .year) (negsuc 4798) ≡ false) (sym (z .1))
+      (next-keeps (λ x. ltZ x (negsuc 4798) ≡ false) (not-before 4798) (date y (natAbs m) (natAbs d)) (accepted y m d (z .0) .year)))
+
+  -- its MJD is one more
+  pub next-mjd : (n : ℤ) → mjdOf y m d ≡ answer n → mjdOf (t .year) (pos (t .month)) (pos (t .day)) ≡ answer (sucℤ n)
+  next-mjd n e =
+      let z = next-is y m d t h in
+      let k = day-of y m d (z .0) in
+      let j = day-of (t .year) (pos (t .month)) (pos (t .day)) next-accepted in
+      let s : j .0 ≡ suc (k .0) = one-day (j .0) (suc (k .0)) (j .2 ∙ sym at-next) in
+      mjd-given (t .year) (pos (t .month)) (pos (t .day)) next-accepted
+      ∙ ap answer
+      (j .1
+      ∙ ap (λ (i : ℕ). pos i -ℤ pos 2578142) s
+      ∙ sucℤ-+ℤ (pos (k .0)) (negsuc 2578141)
+      ∙ ap sucℤ (sym (k .1) ∙ same-answer (sym (mjd-given y m d (z .0)) ∙ e)))

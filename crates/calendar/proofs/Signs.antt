@@ -1,17 +1,17 @@
 -- What the checks of signed operations ask, and what their results are, in terms of the numbers.
 -- Assumes nothing.
 use mathlib.Core.Path.{_≡_, refl, ap, sym, subst, _∙_}
-use mathlib.Core.Bool.{Bool, true, false, not, cond, _&&_, _||_}
-use Prim.Native.Nat.{ℕ, zero, suc, _+_, _-_, _*_, _/_, _%_, _^_, _≤_, _<_}
+use mathlib.Core.Bool.{Bool, true, false, cond}
+use Prim.Native.Nat.{ℕ, zero, suc, _+_, _-_, _/_, _%_, _^_, _≤_, _<_}
 use native.Mathlib.Omega.{arith}
-use native.Mathlib.Nat.{div-le-self, mod-le}
-use lib.Dec.{T, eqb, ltb, leb}
+use native.Mathlib.Nat.{div-le-self, mod-le, le-refl}
+use lib.Dec.{T, eqb, ltb}
 use lib.IntN.{ℤ, pos, negsuc, natAbs, negℤ, subℕ, _+ℤ_}
 use lib.Signed.{mag, quotZ, remZ, ltZ, nonNeg}
 use mir.Syntax.{Width, w32, w64}
 use mir.Val.{SFits, Fits, toZ, ofZ}
 use mir.Facts.{toZ-ofZ}
-use borrow.Author.Tests.{eqb-true, eqb-false, eq-eqb, ne-eqb, ltb-true, ltb-false, lt-ltb, le-ltb}
+use borrow.Author.Tests.{ne-eqb, ltb-true, ltb-false, lt-ltb, le-ltb}
 
 -- ---- division of an i32 by a positive number
 mag-neg : (r a : ℕ) → r ≤ suc a → mag (negℤ (pos r)) ≤ a
@@ -63,6 +63,10 @@ to-unsigned z f e = rw (toZ-ofZ f) (go z f e)
 pub read-back : (z : ℤ) → SFits w32 z → natAbs (toZ w32 (ofZ w32 z)) ≡ natAbs z
 read-back z f = ap natAbs (toZ-ofZ f)
 
+-- a call is handed its three numbers so
+pub read-date : {A : Type 0} (f : ℤ → ℤ → ℤ → A) (y m d : ℤ) → SFits w32 y → SFits w32 m → SFits w32 d → f (toZ w32 (ofZ w32 y)) (toZ w32 (ofZ w32 m)) (toZ w32 (ofZ w32 d)) ≡ f y m d
+read-date f y m d p q r = λ i. f (toZ-ofZ p i) (toZ-ofZ q i) (toZ-ofZ r i)
+
 -- ---- a signed number that is at least -(p + 1), raised by k: a natural number
 pub record Raised (z : ℤ) (p k h : ℕ) : Type 0 where
   pub r : ℕ
@@ -70,7 +74,7 @@ pub record Raised (z : ℤ) (p k h : ℕ) : Type 0 where
   pub low : k - suc p ≤ r
   pub high : r ≤ h + k
 
-sub-at : (a b : ℕ) → b ≤ a → subℕ a b ≡ pos (a - b)
+pub sub-at : (a b : ℕ) → b ≤ a → subℕ a b ≡ pos (a - b)
 sub-at a b h = go (ltb a b) refl
   where
     go : (t : Bool) → ltb a b ≡ t → cond t (negsuc (b - suc a)) (pos (a - b)) ≡ pos (a - b)
@@ -81,6 +85,11 @@ pub raised : (z : ℤ) (p k h : ℕ) → suc p ≤ k → ltZ z (negsuc p) ≡ fa
 raised (pos n) p k h l q u = record { r = n + k; is = refl; low = omega arith; high = omega (arith, ltb-false h n u) }
 raised (negsuc n) p k h l q u =
     record { r = k - suc n; is = sub-at k (suc n) (omega (arith, ltb-false p n q)); low = omega (arith, ltb-false p n q); high = omega arith }
+
+-- a number is at most its size
+pub own-size : (z : ℤ) → ltZ (pos (natAbs z)) z ≡ false
+own-size (pos n) = le-ltb n n (le-refl n)
+own-size (negsuc n) = refl
 
 -- an i32 is at most 2147483647
 pub at-most : (z : ℤ) → SFits w32 z → ltZ (pos 2147483647) z ≡ false

@@ -1,7 +1,9 @@
--- Laws.
+-- What the proofs of several functions, and the callers of `floats`, cite.
 pub mod Laws
 pub mod Fields
-pub mod Carry
+pub mod Ranges
 pub mod Halves
-pub mod Compared
+pub mod Below
+pub mod Casts
 pub mod Patterns
+pub mod Cases

@@ -1,10 +1,20 @@
-// The functions of a float that go by its bits, each total over every f64.
+// The functions of a float that go by its bits: |x|, the four roundings to a whole number, the saturating cast, and bit patterns.
+// Each takes every f64. A NaN has no pattern here (there is one NaN), so what reads the bits asks for it first, by `x != x`.
 ghost use mathlib.Core.Path.{_≡_};
 ghost use lib.Ieee.{binary64, ofBits, toBits, toSigned};
 ghost use lib.Ieee.Scale.{finite};
 ghost use Rattle.floats.specs.Whole.{abs, toWhole, cut, downward, upward, away, nearestInt};
 
-// |x|.
+// The exponent's fields of 0.5 and of 1.0.
+const HALF: u64 = 1022;
+
+const ONE: u64 = 1023;
+
+// The exponent's field of 2^52. A float with this field or a higher one has no digit below the unit; one with a lower field e, from 1.0 on,
+// has ALL_WHOLE - e of them.
+const ALL_WHOLE: u64 = 1075;
+
+// |x|
 pub fn fabs(x: f64) -> f64
     ensures { λ r. ⌜ r ≡ abs x ⌝ }
 {
@@ -23,12 +33,12 @@ pub fn trunc(x: f64) -> f64
     }
     let b = f64::to_bits(x);
     let e = (b >> 52) & 0x7ff;
-    if e >= 1075 {
+    if e >= ALL_WHOLE {
         x
-    } else if e < 1023 {
+    } else if e < ONE {
         f64::from_bits(b & 0x8000_0000_0000_0000)
     } else {
-        let k = 1075 - e;
+        let k = ALL_WHOLE - e;
         f64::from_bits((b >> k) << k)
     }
 }
@@ -57,14 +67,15 @@ pub fn round(x: f64) -> f64
     }
     let b = f64::to_bits(x);
     let e = (b >> 52) & 0x7ff;
-    if e >= 1075 {
+    if e >= ALL_WHOLE {
         x
-    } else if e < 1022 {
+    } else if e < HALF {
         f64::from_bits(b & 0x8000_0000_0000_0000)
-    } else if e < 1023 {
+    } else if e < ONE {
         if b < 0x8000_0000_0000_0000 { 1.0 } else { -1.0 }
     } else {
-        let k = 1075 - e;
+        // Half a unit is added; where it carries out of the digits, it adds one to the exponent, and that is the right value.
+        let k = ALL_WHOLE - e;
         f64::from_bits(((b + (1 << (k - 1))) >> k) << k)
     }
 }
@@ -97,12 +108,10 @@ pub fn saturating_i64(x: f64) -> i64
         if x < 9223372036854775808.0 {
             std::num::truncating_f64_to_i64(x)
         } else {
-            9223372036854775807
+            i64::MAX
         }
-    } else if x < 0.0 {
-        -9223372036854775808
     } else {
-        0
+        if x < 0.0 { i64::MIN } else { 0 }
     }
 }
 

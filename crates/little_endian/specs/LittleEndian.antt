@@ -1,10 +1,11 @@
 -- Whole numbers as bytes, the lowest first: the layout of the stamp block's numbers and of the numbers that the C interface hands out. Written from document 01,
 -- "Stamp block". Assumes nothing.
-use Prim.Native.Nat.{ℕ, _+_, _*_, _/_, _%_}
+use Prim.Native.Nat.{ℕ, _+_, _-_, _*_, _/_, _%_}
 use mathlib.Core.List.{List, [], _∷_}
 use mathlib.Core.Bool.{cond}
 use lib.ListN.{length, getD}
-use lib.Dec.{leb}
+use lib.Dec.{leb, ltb}
+use lib.IntN.{ℤ, pos, negsuc}
 
 -- the number in the four bytes from `at` on
 unfoldable pub fourAt : List ℕ → ℕ → ℕ
@@ -29,3 +30,12 @@ eightBytes n =
     ∷ n / 0x1_0000_0000_0000 % 256
     ∷ n / 0x100_0000_0000_0000 % 256
     ∷ []
+
+-- the pattern of a signed number, 64 bits in two's complement: -1 is all ones. `negsuc k` is -1 - k
+unfoldable pub patternOf : ℤ → ℕ
+patternOf (pos n) = n
+patternOf (negsuc k) = 0xffff_ffff_ffff_ffff - k
+
+-- and the number of a pattern
+unfoldable pub signedOf : ℕ → ℤ
+signedOf n = cond (ltb n 0x8000_0000_0000_0000) (pos n) (negsuc (0xffff_ffff_ffff_ffff - n))

@@ -2,7 +2,7 @@
 ghost use mathlib.Core.Path.{_≡_};
 ghost use Prim.Native.Nat.{_+_, _≤_, _<_};
 ghost use lib.ListN.{length};
-ghost use Rattle.little_endian.specs.LittleEndian.{fourAt, u32At, u64At, eightBytes};
+ghost use Rattle.little_endian.specs.LittleEndian.{fourAt, u32At, u64At, eightBytes, patternOf, signedOf};
 
 fn wide(x: u8) -> u64
     ensures { λ r. ⌜ (r ≡ x) × (r < 256) ⌝ }
@@ -61,4 +61,24 @@ pub fn bytes_of_u64(n: u64) -> [u8; 8]
         (n / 0x1_0000_0000_0000 % 256) as u8,
         (n / 0x100_0000_0000_0000 % 256) as u8,
     ]
+}
+
+// The pattern of a signed number in two's complement.
+pub fn pattern_of_i64(n: i64) -> u64
+    ensures { λ r. ⌜ r ≡ patternOf n ⌝ }
+{
+    if n < 0 {
+        return 0xffff_ffff_ffff_ffff - (-1 - n) as u64;
+    }
+    n as u64
+}
+
+// The signed number of a pattern in two's complement.
+pub fn i64_of_pattern(n: u64) -> i64
+    ensures { λ r. ⌜ r ≡ signedOf n ⌝ }
+{
+    if n < 0x8000_0000_0000_0000 {
+        return n as i64;
+    }
+    -1 - (0xffff_ffff_ffff_ffff - n) as i64
 }

@@ -1,16 +1,16 @@
--- A float near an exact fraction, with a bound on the error and one on the size: the laws that add the errors up.
--- Errors and sizes are counted in units of 2 ^ -90, so that those of a date in days are numbers of some 30 digits. Assumes nothing.
+-- A float x near an exact fraction (P - N) / D, with a bound on the error and one on the size of the fraction: the laws that add the errors up through sums,
+-- products by a constant and quotients by a whole number. Errors and sizes are counted in units of 2 ^ -90, so that those of a date in days have some 30 digits.
+-- Assumes nothing.
 use mathlib.Core.Path.{_≡_, refl, sym, ap, _∙_, subst, subst₂}
-use Prim.Native.Nat.{ℕ, _+_, _-_, _*_, _^_, _≤_, _<_}
-use native.Mathlib.Nat.{le-trans, le-of-eq, le-of-lt, le-refl, lt-of-le-of-lt, lt-of-lt-of-le, mul-comm, mul-assoc, mul-left-comm, mul-right-comm, mul-add, add-mul, mul-le-mul-left, mul-le-mul-right, le-of-mul-le-mul-right, mul-lt-mul-of-pos-right, mul-pos, mul-one, one-mul}
+use Prim.Native.Nat.{ℕ, _+_, _*_, _^_, _≤_, _<_}
+use native.Mathlib.Nat.{le-trans, le-of-eq, lt-of-lt-of-le, mul-comm, mul-assoc, mul-left-comm, mul-right-comm, mul-add, add-mul, mul-le-mul-left, mul-le-mul-right, le-of-mul-le-mul-right, mul-lt-mul-of-pos-right, mul-pos, mul-one, one-mul}
 use native.Mathlib.Omega.{arith}
-use mathlib.Core.Bool.{Bool, true, false, not}
-use lib.Dec.{T, leb, leb→le, nleb→lt, lit≤, lit<}
 use lib.Pow.{pow-add, pow-pos}
 use lib.Ieee.{Float, binary64, add, sub, mul, div, neg}
 use Rattle.rounding.specs.Value.{Val, L}
+use Rattle.rounding.proofs.Signed.{product-le}
 use Rattle.rounding.proofs.Value.{neg-val, L-pos}
-use Rattle.rounding.proofs.Near.{NearSum, add-near}
+use Rattle.rounding.proofs.Near.{add-near}
 use Rattle.rounding.proofs.Scaled.{Scaled, mul-near, div-near}
 
 -- 2 ^ -90, in units of the smallest float. Shut on purpose, as L is
@@ -21,6 +21,7 @@ pub U-pos : 0 < U
 unfolding U
 U-pos = pow-pos 984
 
+-- 1 is 2 ^ 90 units of 2 ^ -90
 pub L-U : L ≡ 2 ^ 90 * U
 unfolding L U
 L-U = refl
@@ -54,9 +55,11 @@ pub record About (x : Float) (P N D M e : ℕ) : Type 0 where
 own-size : (p n M : ℕ) → p ≤ n + M * U → p * L ≤ n * L + M * (U * L)
 own-size p n M h = le-trans (mul-le-mul-right L h) (le-of-eq (add-mul n (M * U) L ∙ ap (λ (z : ℕ). n * L + z) (mul-assoc M U L)))
 
+-- a float is about itself: no error, and at most M in size
 pub about-own : (M : ℕ) {x : Float} {p n : ℕ} → p ≤ n + M * U → n ≤ p + M * U → Val x p n L → About x p n L M 0
 about-own M {x} {p} {n} h k v = record { p = p; n = n; val = v; over = omega arith; under = omega arith; high = own-size p n M h; low = own-size n p M k; some = L-pos }
 
+-- -x is about -(P - N) / D
 pub about-neg : {x : Float} {P N D M e : ℕ} → About x P N D M e → About (neg x) N P D M e
 about-neg a = record { p = a .n; n = a .p; val = neg-val (a .val); over = a .under; under = a .over; high = a .low; low = a .high; some = a .some }
 
@@ -71,6 +74,7 @@ scale-size P N D M c h =
     let g : P * L * c ≤ (N * L + M * (U * D)) * c = mul-le-mul-right c h in
     simp (mul-assoc, mul-comm, mul-left-comm) (simp (add-mul, mul-assoc, mul-comm, mul-left-comm) at g)
 
+-- (P - N) / D = (P * c - N * c) / (D * c)
 pub about-scale : (c : ℕ) {x : Float} {P N D M e : ℕ} → 0 < c → About x P N D M e → About x (P * c) (N * c) (D * c) M e
 about-scale c {x} {P} {N} {D} {M} {e} C a = record {
   p = a .p;
@@ -122,6 +126,7 @@ bound M M' e f w h = mul-lt-mul-of-pos-right (go M M' e f w h) U-pos
     go : (M M' e f w : ℕ) → M + M' + (e + f) < w → M + e + (M' + f) < w
     go M M' e f w h = omega arith
 
+-- the errors add up, and the sum's own rounding adds 2 ^ i, where the sum is below 2 ^ (54 + i)
 pub about-add : (i : ℕ) {x y : Float} {P N Q R D M M' e f : ℕ} → 985 + i ≤ 2044 → M + M' + (e + f) < 2 ^ (54 + i) → About x P N D M e → About y Q R D M' f
     → About (add binary64 x y) (P + Q) (N + R) D (M + M') (e + f + 2 ^ i)
 about-add i {x} {y} {P} {N} {Q} {R} {D} {M} {M'} {e} {f} I h a b =
@@ -148,40 +153,6 @@ unfolding sub
 about-sub i I h a b = about-add i I h a (about-neg b)
 
 -- ---- a product by a float B / E for an exact A / C, and a quotient by a whole number
-cross : (k l x y s Δ : ℕ) → k ≤ l + Δ → l ≤ k + Δ → x ≤ y + s → y ≤ x + s → k * x + l * y ≤ k * y + l * x + Δ * s
-cross k l x y s Δ h g u v = go (leb k l) (leb→le k l) (nleb→lt k l)
-  where
-    -- (l - k) * (x - y), a product of two differences, each at most Δ and s
-    part : (a d x y : ℕ) → d ≤ Δ → x ≤ y + s → a * x + d * x + a * y ≤ a * y + d * y + a * x + Δ * s
-    part a d x y D e =
-        let f : d * x ≤ d * y + Δ * s = le-trans (mul-le-mul-left d e) (le-trans (le-of-eq (mul-add d y s)) (add-le (d * y) (d * s) (Δ * s) (mul-le-mul-right s D))) in
-        omega arith
-      where
-        add-le : (a b c : ℕ) → b ≤ c → a + b ≤ a + c
-        add-le a b c h = omega arith
-
-    split : (a b : ℕ) → a ≤ b → (d : ℕ) × (b ≡ a + d)
-    split a b e = (b - a, less a b e)
-      where
-        less : (a b : ℕ) → a ≤ b → b ≡ a + (b - a)
-        less a b e = omega arith
-
-    go : (t : Bool) → (T t → k ≤ l) → (T (not t) → l < k) → k * x + l * y ≤ k * y + l * x + Δ * s
-    go true o _ =
-        let d = split k l (o tt) in
-        let q = part k (d .0) y x (small l k (d .0) (d .1) g) v in
-        subst (λ (z : ℕ). k * x + z * y ≤ k * y + z * x + Δ * s) (sym (d .1)) (simp add-mul (omega (arith, q)))
-      where
-        small : (l k d : ℕ) → l ≡ k + d → l ≤ k + Δ → d ≤ Δ
-        small l k d e f = omega arith
-    go false _ o =
-        let d = split l k (le-of-lt (o tt)) in
-        let q = part l (d .0) x y (small k l (d .0) (d .1) h) u in
-        subst (λ (z : ℕ). z * x + l * y ≤ z * y + l * x + Δ * s) (sym (d .1)) (simp add-mul (omega (arith, q)))
-      where
-        small : (l k d : ℕ) → l ≡ k + d → l ≤ k + Δ → d ≤ Δ
-        small l k d e f = omega arith
-
 -- over E: the rounded product, what x was off, and what B / E is off from A / C
 module _ (a' b' a b P N D M e A B C E Δ t e' : ℕ) (F : 0 < E)
     (k : E * a' + B * b ≤ E * b' + B * a + E * (t * U)) (h : a * D + N * L ≤ b * D + P * L + e * (U * D)) (hi : P * L ≤ N * L + M * (U * D)) (lo : N * L ≤ P * L + M * (U * D))
@@ -193,7 +164,7 @@ module _ (a' b' a b P N D M e A B C E Δ t e' : ℕ) (F : 0 < E)
   moved = simp (mul-assoc, mul-comm, mul-left-comm) (simp (add-mul, mul-add, mul-assoc, mul-comm, mul-left-comm) at (mul-le-mul-left (B * C) h))
 
   differ : B * C * (P * L) + A * E * (N * L) ≤ B * C * (N * L) + A * E * (P * L) + Δ * (M * (U * D))
-  differ = cross (B * C) (A * E) (P * L) (N * L) (M * (U * D)) Δ d1 d2 hi lo
+  differ = product-le (B * C) (A * E) (P * L) (N * L) Δ (M * (U * D)) d1 d2 hi lo
 
   paid : e * (B * C) * (U * D) + Δ * (M * (U * D)) + t * (E * C) * (U * D) ≤ e' * (E * C) * (U * D)
   paid = simp (add-mul, mul-assoc, mul-comm, mul-left-comm) (simp (add-mul, mul-assoc, mul-comm, mul-left-comm) at (mul-le-mul-right (U * D) budget))
@@ -247,14 +218,14 @@ times-fits i a b W B E h k =
     go : (x y s s' t t' : ℕ) → x ≤ y + s → s ≡ s' → s' < t → t ≡ t' → x < y + t'
     go x y s s' t t' a b c d = omega arith
 
--- x * k, for a float k = B / E that stands for A / C
+-- x * k, for a float k = B / E that stands for the constant A / C, and is off by Δ / (C * E) at most: e' is the budget for all errors together
 pub about-mul : (i : ℕ) {x y : Float} {P N D M e : ℕ} (A B C E Δ M' e' : ℕ) → 985 + i ≤ 2044 → 0 < E → 0 < C → B * C ≤ A * E + Δ → A * E ≤ B * C + Δ → M * A ≤ M' * C → (M + e) * B < 2 ^ (54 + i) * E
     → e * (B * C) + Δ * M + 2 ^ i * (E * C) ≤ e' * (E * C) → Val y B 0 E → About x P N D M e → About (mul binary64 x y) (P * A) (N * A) (D * C) M' e'
 about-mul i {x} {y} {P} {N} {D} {M} {e} A B C E Δ M' e' I F G d1 d2 m r budget v a =
     about-scaled i A B C E Δ M' e' F G d1 d2 m budget a
     (mul-near (985 + i) F I (times-fits i (a .p) (a .n) (M + e) B E (size-high a) r) (times-fits i (a .n) (a .p) (M + e) B E (size-low a) r) (a .val) v)
 
--- x / c
+-- x / c, for a whole number c
 pub about-div : (i : ℕ) {x y : Float} {P N D M e : ℕ} (c M' e' : ℕ) → 985 + i ≤ 2044 → 0 < c → M ≤ M' * c → M + e < 2 ^ (54 + i) * c → e + 2 ^ i * c ≤ e' * c → Val y c 0 1 → About x P N D M e
     → About (div binary64 x y) (P * 1) (N * 1) (D * c) M' e'
 about-div i {x} {y} {P} {N} {D} {M} {e} c M' e' I F m r budget v a =
@@ -268,7 +239,7 @@ about-div i {x} {y} {P} {N} {D} {M} {e} c M' e' I F m r budget v a =
     one : (p n : ℕ) → p ≤ n + (M + e) * U → p < n + 2 ^ (53 + (985 + i)) * c
     one p n h = subst₂ (λ (s t : ℕ). s < t + 2 ^ (53 + (985 + i)) * c) (mul-one p) (mul-one n) (times-fits i p n (M + e) 1 c h (subst (λ (z : ℕ). z < 2 ^ (54 + i) * c) (sym (mul-one (M + e))) r))
 
--- ---- what a user asks: so many picoseconds, of a value in days
+-- ---- of a value in days: x is within ps picoseconds of (P - N) / D days
 pub record Within (ps : ℕ) (x : Float) (P N D : ℕ) : Type 0 where
   pub p : ℕ
   pub n : ℕ
@@ -276,6 +247,7 @@ pub record Within (ps : ℕ) (x : Float) (P N D : ℕ) : Type 0 where
   pub over : 86400000000000000 * (p * D + N * L) ≤ 86400000000000000 * (n * D + P * L) + ps * (L * D)
   pub under : 86400000000000000 * (n * D + P * L) ≤ 86400000000000000 * (p * D + N * L) + ps * (L * D)
 
+-- 86400 * 10 ^ 12 picoseconds are a day
 pub about-within : (ps : ℕ) {x : Float} {P N D M e : ℕ} → 86400000000000000 * e ≤ ps * 2 ^ 90 → About x P N D M e → Within ps x P N D
 about-within ps {x} {P} {N} {D} {M} {e} h a = record {
   p = a .p;

@@ -1,22 +1,23 @@
--- Casts between a float and an integer, over pairs. Assumes nothing.
-use mathlib.Core.Path.{_≡_, refl, sym, ap, _∙_, subst}
+-- Casts between a float and an integer z, with z as the pair (plusZ z, minusZ z): an integer of at most 2 ^ 53 is exact as a float, any other is rounded once, and
+-- a float cast to an integer loses its fraction. Sums and differences of integers, over pairs. Assumes nothing.
+use mathlib.Core.Path.{_≡_, refl, sym, subst}
 use Prim.Native.Nat.{ℕ, zero, suc, _+_, _-_, _*_, _/_, _%_, _^_, _≤_, _<_, min}
-use native.Mathlib.Nat.{le-trans, le-of-eq, le-of-lt, lt-of-le-of-lt, lt-of-lt-of-le, mul-comm, mul-assoc, mul-left-comm, div-add-mod', mod-lt, div-lt-iff-lt-mul}
+use native.Mathlib.Nat.{div-add-mod', mod-lt, div-lt-iff-lt-mul}
 use native.Mathlib.Omega.{arith}
 use mathlib.Core.Bool.{Bool, true, false, not, cond}
 use lib.IntN.{ℤ, pos, negsuc, negℤ, subℕ, _+ℤ_, _-ℤ_}
 use lib.Signed.{mag}
 use lib.Dec.{T, ltb, ltb→lt, nltb→le}
 use mathlib.Core.Logic.{_⊎_, inl, inr}
-use lib.Pow.{pow-pos}
-use lib.Ieee.{Float, nan, inf, fin, binary64, up, down, round, ofInt, toSigned}
+use lib.Ieee.{Float, nan, inf, fin, Format, binary64, up, down, ofInt, toSigned}
 use lib.Ieee.Fits.{down-pos}
 use lib.Ieee.Back.{round-whole}
 use lib.Ieee.Nearest.{div-same}
 use lib.Ieee.Exact.{HasValue}
-use Rattle.rounding.specs.Value.{Signed, Val}
+use Rattle.rounding.specs.Value.{Signed, Val, Rounds}
+use Rattle.rounding.proofs.Signed.{signed-lt}
 
--- an integer as a pair
+-- z = plusZ z - minusZ z, one of them 0
 abbrev pub plusZ : ℤ → ℕ
 plusZ (pos a) = a
 plusZ (negsuc a) = 0
@@ -25,6 +26,13 @@ abbrev pub minusZ : ℤ → ℕ
 minusZ (pos a) = 0
 minusZ (negsuc a) = suc a
 
+-- an integer as a float: rounded once
+pub ofInt-rounds : (f : Format) (z : ℤ) → Rounds f (ofInt f z) (plusZ z) (minusZ z) 1
+unfolding ofInt
+ofInt-rounds f (pos a) = record { sign = false; size = a; eq = refl; is = omega arith }
+ofInt-rounds f (negsuc a) = record { sign = true; size = suc a; eq = refl; is = omega arith }
+
+-- exact, up to 2 ^ 53
 pub ofInt-val : (z : ℤ) → plusZ z ≤ 2 ^ 53 → minusZ z ≤ 2 ^ 53 → Val (ofInt binary64 z) (plusZ z) (minusZ z) 1
 unfolding ofInt
 ofInt-val (pos a) h k = record { sign = false; size = a; has = round-whole binary64 false a h; is = omega arith }
@@ -79,15 +87,11 @@ trunc-has h (fin t m e) s A D p n E l v i = go t (subst (λ (b : Bool). Signed b
         (subst (λ (x : ℕ). Cut p n D (negℤ (pos x))) (sym (capped' (A / D) (2 ^ h) small))
         (down-cut (neg-plus (A / D)) (rw neg-minus (omega (arith, parts))) (rw neg-minus (omega (arith, parts, rest)))))
 
-signed-lt : (s : Bool) (a p n B : ℕ) → Signed s a p n → p < n + B → n < p + B → a < B
-signed-lt false a p n B h k l = omega arith
-signed-lt true a p n B h k l = omega arith
-
--- Rust's `as i64`, at h = 63
+-- toSigned 63 is Rust's cast to i64: a float below 2 ^ h in size loses its fraction, and nothing else
 pub trunc-val : (h : ℕ) {x : Float} {p n D : ℕ} → 0 < D → p < n + 2 ^ h * D → n < p + 2 ^ h * D → Val x p n D → Cut p n D (toSigned h x)
 trunc-val h {x} {p} {n} {D} E u l v = trunc-has h x (v .sign) (v .size) D p n E (signed-lt (v .sign) (v .size) p n (2 ^ h * D) (v .is) u l) (v .has) (v .is)
 
--- ---- integers, over pairs: what makes `omega` of use
+-- ---- integers over pairs, for `omega`
 subN-pair : (a b : ℕ) → plusZ (subℕ a b) + b ≡ minusZ (subℕ a b) + a
 subN-pair a b = go (ltb a b) (ltb→lt a b) (nltb→le a b)
   where
@@ -95,17 +99,19 @@ subN-pair a b = go (ltb a b) (ltb→lt a b) (nltb→le a b)
     go true h k = let l : a < b = h tt in omega arith
     go false h k = let l : b ≤ a = k tt in omega arith
 
+-- a + b, over pairs
 pub add-pair : (a b : ℤ) → plusZ (a +ℤ b) + (minusZ a + minusZ b) ≡ minusZ (a +ℤ b) + (plusZ a + plusZ b)
 add-pair (pos a) (pos b) = omega arith
 add-pair (pos a) (negsuc b) = let e : plusZ (subℕ a (suc b)) + suc b ≡ minusZ (subℕ a (suc b)) + a = subN-pair a (suc b) in omega arith
 add-pair (negsuc a) (pos b) = let e : plusZ (subℕ b (suc a)) + suc a ≡ minusZ (subℕ b (suc a)) + b = subN-pair b (suc a) in omega arith
 add-pair (negsuc a) (negsuc b) = omega arith
 
-pub neg-pair : (z : ℤ) → (plusZ (negℤ z) ≡ minusZ z) × (minusZ (negℤ z) ≡ plusZ z)
+neg-pair : (z : ℤ) → (plusZ (negℤ z) ≡ minusZ z) × (minusZ (negℤ z) ≡ plusZ z)
 neg-pair (pos zero) = (refl, refl)
 neg-pair (pos (suc a)) = (refl, refl)
 neg-pair (negsuc a) = (refl, refl)
 
+-- a - b, over pairs
 pub sub-pair : (a b : ℤ) → plusZ (a -ℤ b) + (minusZ a + plusZ b) ≡ minusZ (a -ℤ b) + (plusZ a + minusZ b)
 sub-pair a b = omega (arith, add-pair a (negℤ b), neg-pair b .0, neg-pair b .1)
 
@@ -114,20 +120,22 @@ pub one-side : (z : ℤ) → (plusZ z ≡ 0) ⊎ (minusZ z ≡ 0)
 one-side (pos a) = inr refl
 one-side (negsuc a) = inl refl
 
+-- -B ≤ z < B, as the machine's range of a signed integer has it
 pub mag-pair : (z : ℤ) (B : ℕ) → plusZ z < B → minusZ z ≤ B → mag z < B
 mag-pair (pos a) B h k = h
 mag-pair (negsuc a) B h k = k
 
--- a sum's sides are no more than the sums of the sides
-add-le-of : (z : ℤ) (a b : ℕ) → plusZ z + b ≡ minusZ z + a → (plusZ z ≤ a) × (minusZ z ≤ b)
-add-le-of z a b e = go (one-side z)
+-- where z = a - b, its two sides are at most a and b
+pub pair-le : (z : ℤ) (a b : ℕ) → plusZ z + b ≡ minusZ z + a → (plusZ z ≤ a) × (minusZ z ≤ b)
+pair-le z a b e = go (one-side z)
   where
     go : (plusZ z ≡ 0) ⊎ (minusZ z ≡ 0) → (plusZ z ≤ a) × (minusZ z ≤ b)
     go (inl s) = omega arith
     go (inr s) = omega arith
 
+-- the sides of a sum and of a difference
 pub add-le : (a b : ℤ) → (plusZ (a +ℤ b) ≤ plusZ a + plusZ b) × (minusZ (a +ℤ b) ≤ minusZ a + minusZ b)
-add-le a b = add-le-of (a +ℤ b) (plusZ a + plusZ b) (minusZ a + minusZ b) (add-pair a b)
+add-le a b = pair-le (a +ℤ b) (plusZ a + plusZ b) (minusZ a + minusZ b) (add-pair a b)
 
 pub sub-le : (a b : ℤ) → (plusZ (a -ℤ b) ≤ plusZ a + minusZ b) × (minusZ (a -ℤ b) ≤ minusZ a + plusZ b)
-sub-le a b = add-le-of (a -ℤ b) (plusZ a + minusZ b) (minusZ a + plusZ b) (sub-pair a b)
+sub-le a b = pair-le (a -ℤ b) (plusZ a + minusZ b) (minusZ a + plusZ b) (sub-pair a b)

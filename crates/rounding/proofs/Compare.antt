@@ -1,27 +1,24 @@
--- Comparisons of two floats with values (p - n) / d and (q - m) / d: those of p + m and q + n. Assumes nothing.
+-- A comparison of two floats is that of their values: of (p - n) / D and (q - m) / D it is the comparison of p + m and q + n. The laws from a test that was taken
+-- (≡ true), or was not (≡ false), to the order of natural numbers and back. Assumes nothing.
 use mathlib.Core.Path.{_≡_, refl, sym, ap, _∙_, subst}
-use Prim.Native.Nat.{ℕ, zero, suc, _+_, _*_, _≤_, _<_}
-use native.Mathlib.Nat.{le-trans, le-of-eq, le-of-lt, le-antisymm, lt-of-lt-of-le, lt-of-le-of-lt, zero-mul, mul-lt-mul-of-pos-right, lt-of-mul-lt-mul-right, mul-pos, le-refl}
+use Prim.Native.Nat.{ℕ, _+_, _*_, _≤_, _<_}
+use native.Mathlib.Nat.{le-of-eq, le-of-lt, le-antisymm, zero-mul, mul-pos}
 use native.Mathlib.Omega.{arith}
-use mathlib.Core.Bool.{Bool, true, false, not, _&&_, _||_, Bool·beq, cond}
-use lib.Dec.{T, ltb, leb, eqb, eqb→eq, eqb-refl, ltb→lt, lt→ltb, nltb→le, nleb→lt, leb→le, le→leb}
+use mathlib.Core.Bool.{Bool, true, false, not, _&&_, _||_}
+use lib.Dec.{T, ltb, leb, eqb, eqb→eq, ltb→lt, lt→ltb, nltb→le, leb→le, le→leb}
 use lib.Ieee.{Float, nan, inf, fin, up, down, below, level, lt, eq, le, ne}
-use lib.Ieee.Fits.{down-pos, and-l, and-r, and-i}
+use lib.Ieee.Fits.{down-pos, and-l, and-r, and-i, eq→eqb}
 use lib.Ieee.Exact.{HasValue}
+use borrow.Author.Tests.{ltb-true, ltb-false, leb-true, leb-false, eqb-true, eqb-false, not-true, not-false}
 use Rattle.rounding.specs.Value.{Signed, Val}
-use Rattle.rounding.proofs.Value.{order, plus, cross-l, cross-r}
+use Rattle.rounding.proofs.Fractions.{order, order-lt, plus, cross-l, cross-r}
 
+-- two tests that imply each other are equal
 pub bool-eq : (x y : Bool) → (T x → T y) → (T y → T x) → x ≡ y
 bool-eq true true h k = refl
 bool-eq true false h k = absurd (h tt)
 bool-eq false true h k = absurd (k tt)
 bool-eq false false h k = refl
-
-order-lt : (a b c A B D : ℕ) → 0 < D → a * D ≡ A * c → b * D ≡ B * c → a < b → A < B
-order-lt a b c A B D E e g h = lt-of-mul-lt-mul-right c (lt-of-le-of-lt (le-of-eq (sym e)) (lt-of-lt-of-le (mul-lt-mul-of-pos-right h E) (le-of-eq g)))
-
-eq→eqb : (a b : ℕ) → a ≡ b → T (eqb a b)
-eq→eqb a b h = subst (λ (x : ℕ). T (eqb a x)) h (eqb-refl a)
 
 module _ (a b c A B D p n q m : ℕ) (C : 0 < c) (E : 0 < D) (e : a * D ≡ A * c) (g : b * D ≡ B * c) where
   forth : a < b → A < B
@@ -72,17 +69,17 @@ module _ (a b c A B D p n q m : ℕ) (C : 0 < c) (E : 0 < D) (e : a * D ≡ A * 
 
   level-is : (s t : Bool) → Signed s A p n → Signed t B q m → level s a t b ≡ eqb (p + m) (q + n)
   level-is false false i j = bool-eq (eqb a b && true) (eqb (p + m) (q + n))
-      (λ u. let h : A ≡ B = same (eqb→eq a b (and-l (eqb a b) true u)) in eq→eqb (p + m) (q + n) (omega arith))
-      (λ u. let h : p + m ≡ q + n = eqb→eq (p + m) (q + n) u in and-i (eqb a b) true (eq→eqb a b (same' (omega arith))) tt)
+      (λ u. let h : A ≡ B = same (eqb→eq a b (and-l (eqb a b) true u)) in eq→eqb {a = p + m} {b = q + n} (omega arith))
+      (λ u. let h : p + m ≡ q + n = eqb→eq (p + m) (q + n) u in and-i (eqb a b) true (eq→eqb {a = a} {b = b} (same' (omega arith))) tt)
   level-is true true i j = bool-eq (eqb a b && true) (eqb (p + m) (q + n))
-      (λ u. let h : A ≡ B = same (eqb→eq a b (and-l (eqb a b) true u)) in eq→eqb (p + m) (q + n) (omega arith))
-      (λ u. let h : p + m ≡ q + n = eqb→eq (p + m) (q + n) u in and-i (eqb a b) true (eq→eqb a b (same' (omega arith))) tt)
+      (λ u. let h : A ≡ B = same (eqb→eq a b (and-l (eqb a b) true u)) in eq→eqb {a = p + m} {b = q + n} (omega arith))
+      (λ u. let h : p + m ≡ q + n = eqb→eq (p + m) (q + n) u in and-i (eqb a b) true (eq→eqb {a = a} {b = b} (same' (omega arith))) tt)
   level-is false true i j = bool-eq (eqb a b && eqb a 0) (eqb (p + m) (q + n))
-      (λ u. let h : A ≡ B = same (eqb→eq a b (and-l (eqb a b) (eqb a 0) u)) in let k : A ≡ 0 = zero' (eqb→eq a 0 (and-r (eqb a b) (eqb a 0) u)) in eq→eqb (p + m) (q + n) (omega arith))
-      (λ u. let h : p + m ≡ q + n = eqb→eq (p + m) (q + n) u in and-i (eqb a b) (eqb a 0) (eq→eqb a b (same' (omega arith))) (eq→eqb a 0 (nought (omega arith))))
+      (λ u. let h : A ≡ B = same (eqb→eq a b (and-l (eqb a b) (eqb a 0) u)) in let k : A ≡ 0 = zero' (eqb→eq a 0 (and-r (eqb a b) (eqb a 0) u)) in eq→eqb {a = p + m} {b = q + n} (omega arith))
+      (λ u. let h : p + m ≡ q + n = eqb→eq (p + m) (q + n) u in and-i (eqb a b) (eqb a 0) (eq→eqb {a = a} {b = b} (same' (omega arith))) (eq→eqb {a = a} {b = 0} (nought (omega arith))))
   level-is true false i j = bool-eq (eqb a b && eqb a 0) (eqb (p + m) (q + n))
-      (λ u. let h : A ≡ B = same (eqb→eq a b (and-l (eqb a b) (eqb a 0) u)) in let k : A ≡ 0 = zero' (eqb→eq a 0 (and-r (eqb a b) (eqb a 0) u)) in eq→eqb (p + m) (q + n) (omega arith))
-      (λ u. let h : p + m ≡ q + n = eqb→eq (p + m) (q + n) u in and-i (eqb a b) (eqb a 0) (eq→eqb a b (same' (omega arith))) (eq→eqb a 0 (nought (omega arith))))
+      (λ u. let h : A ≡ B = same (eqb→eq a b (and-l (eqb a b) (eqb a 0) u)) in let k : A ≡ 0 = zero' (eqb→eq a 0 (and-r (eqb a b) (eqb a 0) u)) in eq→eqb {a = p + m} {b = q + n} (omega arith))
+      (λ u. let h : p + m ≡ q + n = eqb→eq (p + m) (q + n) u in and-i (eqb a b) (eqb a 0) (eq→eqb {a = a} {b = b} (same' (omega arith))) (eq→eqb {a = a} {b = 0} (nought (omega arith))))
 
 lt-has : (x y : Float) (s t : Bool) (A B D p n q m : ℕ) → 0 < D → HasValue x s A D → HasValue y t B D → Signed s A p n → Signed t B q m → lt x y ≡ ltb (p + m) (q + n)
 unfolding lt
@@ -106,6 +103,7 @@ eq-has (fin u a e) (fin v b d) s t A B D p n q m E h k i j =
     (cross-l (a * up e) (down e) (down d) A D (h .1)) (cross-r (b * up d) (down e) (down d) B D (k .1)) u v
     (subst (λ (z : Bool). Signed z A p n) (sym (h .0)) i) (subst (λ (z : Bool). Signed z B q m) (sym (k .0)) j)
 
+-- x < y, x = y, x ≤ y and x ≠ y, by the values
 pub lt-val : {x y : Float} {p n q m D : ℕ} → 0 < D → Val x p n D → Val y q m D → lt x y ≡ ltb (p + m) (q + n)
 lt-val {x} {y} {p} {n} {q} {m} {D} E v w = lt-has x y (v .sign) (w .sign) (v .size) (w .size) D p n q m E (v .has) (w .has) (v .is) (w .is)
 
@@ -121,36 +119,54 @@ or-is a b = bool-eq (ltb a b || eqb a b) (leb a b) (λ u. le→leb a b (split (l
 
     join : (x : Bool) → (T (not x) → b ≤ a) → a ≤ b → T (x || eqb a b)
     join true h k = tt
-    join false h k = eq→eqb a b (le-antisymm k (h tt))
+    join false h k = eq→eqb (le-antisymm k (h tt))
 
 pub le-val : {x y : Float} {p n q m D : ℕ} → 0 < D → Val x p n D → Val y q m D → le x y ≡ leb (p + m) (q + n)
 unfolding le
 le-val {x} {y} {p} {n} {q} {m} E v w = ap (λ (b : Bool). b || eq x y) (lt-val E v w) ∙ ap (λ (b : Bool). ltb (p + m) (q + n) || b) (eq-val E v w) ∙ or-is (p + m) (q + n)
 
--- ---- what a test that was taken, or not, says
-is-T : {b : Bool} → b ≡ true → T b
-is-T e = subst T (sym e) tt
+pub ne-val : {x y : Float} {p n q m D : ℕ} → 0 < D → Val x p n D → Val y q m D → ne x y ≡ not (eqb (p + m) (q + n))
+unfolding ne
+ne-val E v w = ap not (eq-val E v w)
 
-is-not : {b : Bool} → b ≡ false → T (not b)
-is-not e = subst (λ (x : Bool). T (not x)) (sym e) tt
+module _ {x y : Float} {p n q m D : ℕ} (E : 0 < D) (v : Val x p n D) (w : Val y q m D) where
+  -- ---- what a test says of the values
+  pub lt-true : lt x y ≡ true → p + m < q + n
+  lt-true e = ltb-true (p + m) (q + n) (sym (lt-val E v w) ∙ e)
 
-pub lt-true : {x y : Float} {p n q m D : ℕ} → 0 < D → Val x p n D → Val y q m D → lt x y ≡ true → p + m < q + n
-lt-true {x} {y} {p} {n} {q} {m} E v w e = ltb→lt (p + m) (q + n) (is-T (sym (lt-val E v w) ∙ e))
+  pub lt-false : lt x y ≡ false → q + n ≤ p + m
+  lt-false e = ltb-false (p + m) (q + n) (sym (lt-val E v w) ∙ e)
 
-pub lt-false : {x y : Float} {p n q m D : ℕ} → 0 < D → Val x p n D → Val y q m D → lt x y ≡ false → q + n ≤ p + m
-lt-false {x} {y} {p} {n} {q} {m} E v w e = nltb→le (p + m) (q + n) (is-not (sym (lt-val E v w) ∙ e))
+  pub le-true : le x y ≡ true → p + m ≤ q + n
+  le-true e = leb-true (p + m) (q + n) (sym (le-val E v w) ∙ e)
 
-pub le-true : {x y : Float} {p n q m D : ℕ} → 0 < D → Val x p n D → Val y q m D → le x y ≡ true → p + m ≤ q + n
-le-true {x} {y} {p} {n} {q} {m} E v w e = leb→le (p + m) (q + n) (is-T (sym (le-val E v w) ∙ e))
+  pub le-false : le x y ≡ false → q + n < p + m
+  le-false e = leb-false (p + m) (q + n) (sym (le-val E v w) ∙ e)
 
-pub le-false : {x y : Float} {p n q m D : ℕ} → 0 < D → Val x p n D → Val y q m D → le x y ≡ false → q + n < p + m
-le-false {x} {y} {p} {n} {q} {m} E v w e = nleb→lt (p + m) (q + n) (is-not (sym (le-val E v w) ∙ e))
+  pub eq-true : eq x y ≡ true → p + m ≡ q + n
+  eq-true e = eqb-true (p + m) (q + n) (sym (eq-val E v w) ∙ e)
 
-pub lt-show : {x y : Float} {p n q m D : ℕ} → 0 < D → Val x p n D → Val y q m D → p + m < q + n → T (lt x y)
-lt-show {x} {y} {p} {n} {q} {m} E v w h = subst T (sym (lt-val E v w)) (lt→ltb (p + m) (q + n) h)
+  pub eq-false : eq x y ≡ false → p + m ≡ q + n → ⊥
+  eq-false e = eqb-false (p + m) (q + n) (sym (eq-val E v w) ∙ e)
 
-pub le-show : {x y : Float} {p n q m D : ℕ} → 0 < D → Val x p n D → Val y q m D → p + m ≤ q + n → T (le x y)
-le-show {x} {y} {p} {n} {q} {m} E v w h = subst T (sym (le-val E v w)) (le→leb (p + m) (q + n) h)
+  pub ne-true : ne x y ≡ true → p + m ≡ q + n → ⊥
+  ne-true e = eqb-false (p + m) (q + n) (not-true (eqb (p + m) (q + n)) (sym (ne-val E v w) ∙ e))
 
-pub lt-says : {x y : Float} {p n q m D : ℕ} → 0 < D → Val x p n D → Val y q m D → T (lt x y) → p + m < q + n
-lt-says {x} {y} {p} {n} {q} {m} E v w t = ltb→lt (p + m) (q + n) (subst T (lt-val E v w) t)
+  pub ne-false : ne x y ≡ false → p + m ≡ q + n
+  ne-false e = eqb-true (p + m) (q + n) (not-false (eqb (p + m) (q + n)) (sym (ne-val E v w) ∙ e))
+
+  -- ---- the same of a test as a proposition, and back: what the values say of a test
+  pub lt-says : T (lt x y) → p + m < q + n
+  lt-says t = ltb→lt (p + m) (q + n) (subst T (lt-val E v w) t)
+
+  pub le-says : T (le x y) → p + m ≤ q + n
+  le-says t = leb→le (p + m) (q + n) (subst T (le-val E v w) t)
+
+  pub lt-show : p + m < q + n → T (lt x y)
+  lt-show h = subst T (sym (lt-val E v w)) (lt→ltb (p + m) (q + n) h)
+
+  pub le-show : p + m ≤ q + n → T (le x y)
+  le-show h = subst T (sym (le-val E v w)) (le→leb (p + m) (q + n) h)
+
+  pub eq-show : p + m ≡ q + n → T (eq x y)
+  eq-show h = subst T (sym (eq-val E v w)) (eq→eqb h)

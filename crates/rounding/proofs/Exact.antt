@@ -1,16 +1,19 @@
--- Where an operation on binary64 is exact: its exact result is at most 2 ^ 53 units of 2 ^ -k. Assumes nothing.
-use mathlib.Core.Path.{_≡_, refl, sym, ap, _∙_, subst}
+-- A result that the format can hold is exact: where the exact sum, difference or product is a whole number of 2 ^ -k, of at most 2 ^ 53 of them, nothing is
+-- rounded. The same for a multiple of 2 ^ i such units, of at most 2 ^ 53 multiples. Assumes nothing.
+use mathlib.Core.Path.{_≡_, sym, ap, _∙_, subst}
 use mathlib.Core.Logic.{_⊎_, inl, inr}
-use Prim.Native.Nat.{ℕ, zero, suc, _+_, _-_, _*_, _/_, _%_, _^_, _≤_, _<_}
-use native.Mathlib.Nat.{le-trans, le-of-eq, lt-of-lt-of-le, lt-of-le-of-lt, eq-or-lt-of-le, one-mul, mul-one, mul-assoc}
+use Prim.Native.Nat.{ℕ, _+_, _-_, _*_, _^_, _≤_, _<_}
+use native.Mathlib.Nat.{le-of-eq, lt-of-lt-of-le, lt-of-le-of-lt, eq-or-lt-of-le, one-mul, mul-one, mul-assoc}
 use native.Mathlib.Omega.{arith}
 use mathlib.Core.Bool.{Bool, true, false}
-use lib.Dec.{T, lit≤, lit<}
+use lib.Dec.{lit≤, lit<}
 use lib.Pow.{pow-add, pow-pos, pow-lt, pow-mono, shl-lt}
 use lib.Ieee.{Float, binary64, round, add, sub, mul}
 use lib.Ieee.Exact.{HasValue, round-exact}
 use Rattle.rounding.specs.Value.{Signed, Val, Rounds}
-use Rattle.rounding.proofs.Value.{add-rounds, sub-rounds, sub-mul}
+use Rattle.rounding.proofs.Value.{add-rounds, sub-rounds, mul-rounds}
+use Rattle.rounding.proofs.Fractions.{sub-mul}
+use Rattle.rounding.proofs.Signed.{signed-le}
 
 shift : (i k : ℕ) → k ≤ 1074 → i + 1074 ≡ i + (1074 - k) + k
 shift i k h = omega arith
@@ -21,7 +24,7 @@ power c i k h =
     ∙ ap (λ (x : ℕ). c * x) (sym (pow-add 2 i 1074) ∙ ap (λ (x : ℕ). 2 ^ x) (shift i k h) ∙ pow-add 2 (i + (1074 - k)) k)
     ∙ sym (mul-assoc c (2 ^ (i + (1074 - k))) (2 ^ k))
 
--- c * 2 ^ i of the unit 2 ^ -k
+-- c * 2 ^ i units of 2 ^ -k, with c at most 2 ^ 53, are rounded to themselves
 pub exact-has : (s : Bool) (c i k : ℕ) → k ≤ 1074 → i ≤ 970 → c ≤ 2 ^ 53 → HasValue (round binary64 s (c * 2 ^ i) (2 ^ k)) s (c * 2 ^ i) (2 ^ k)
 exact-has s c i k h g l = go (eq-or-lt-of-le l)
   where
@@ -38,10 +41,7 @@ exact-has s c i k h g l = go (eq-or-lt-of-le l)
         (lt-of-le-of-lt (le-of-eq (one-mul (2 ^ (53 + i + (1074 - k))))) (pow-lt below))
         (ap (λ (x : ℕ). x * 2 ^ 1074) (ap (λ (x : ℕ). x * 2 ^ i) e ∙ sym (pow-add 2 53 i) ∙ sym (one-mul (2 ^ (53 + i)))) ∙ power 1 (53 + i) k h)
 
-signed-le : (s : Bool) (a p n B : ℕ) → Signed s a p n → p ≤ n + B → n ≤ p + B → a ≤ B
-signed-le false a p n B h k l = omega arith
-signed-le true a p n B h k l = omega arith
-
+-- |p - n| ≤ 2 ^ 53: (p - n) / 2 ^ k is rounded to itself
 pub rounds-exact : (k : ℕ) {z : Float} {p n : ℕ} → k ≤ 1074 → p ≤ n + 2 ^ 53 → n ≤ p + 2 ^ 53 → Rounds binary64 z p n (2 ^ k) → Val z p n (2 ^ k)
 rounds-exact k {z} {p} {n} h u l r =
     record {
@@ -53,7 +53,7 @@ rounds-exact k {z} {p} {n} h u l r =
       is = r .is;
     }
 
--- the same where the exact result lies on a coarser grid: it is c units of 2 ^ (i - k), with c at most 2 ^ 53
+-- ---- a multiple of 2 ^ i units: |p - n| ≤ 2 ^ 53 counts the multiples
 signed-div : (s : Bool) (a p n w : ℕ) → Signed s a (p * w) (n * w) → (a ≡ (p - n) * w) ⊎ (a ≡ (n - p) * w)
 signed-div false a p n w h = inl (let e : (p - n) * w ≡ p * w - n * w = sub-mul p n w in omega arith)
 signed-div true a p n w h = inr (let e : (n - p) * w ≡ n * w - p * w = sub-mul n p w in omega arith)
@@ -74,8 +74,14 @@ rounds-exact-coarse k i {z} {p} {n} h g u l r =
     go (inl e) = by (r .size) (p - n) (r .sign) (omega arith) e
     go (inr e) = by (r .size) (n - p) (r .sign) (omega arith) e
 
+-- (p - n) / 2 ^ k + (q - m) / 2 ^ k
 pub add-exact : (k : ℕ) {x y : Float} {p n q m : ℕ} → k ≤ 1074 → p + q ≤ n + m + 2 ^ 53 → n + m ≤ p + q + 2 ^ 53 → Val x p n (2 ^ k) → Val y q m (2 ^ k) → Val (add binary64 x y) (p + q) (n + m) (2 ^ k)
 add-exact k h u l v w = rounds-exact k h u l (add-rounds binary64 (pow-pos k) v w)
 
+-- (p - n) / 2 ^ k - (q - m) / 2 ^ k
 pub sub-exact : (k : ℕ) {x y : Float} {p n q m : ℕ} → k ≤ 1074 → p + m ≤ n + q + 2 ^ 53 → n + q ≤ p + m + 2 ^ 53 → Val x p n (2 ^ k) → Val y q m (2 ^ k) → Val (sub binary64 x y) (p + m) (n + q) (2 ^ k)
 sub-exact k h u l v w = rounds-exact k h u l (sub-rounds binary64 (pow-pos k) v w)
+
+-- (p - n) / 2 ^ i times (q - m) / 2 ^ k
+pub mul-exact : (i k : ℕ) {x y : Float} {p n q m : ℕ} → i + k ≤ 1074 → p * q + n * m ≤ p * m + n * q + 2 ^ 53 → p * m + n * q ≤ p * q + n * m + 2 ^ 53 → Val x p n (2 ^ i) → Val y q m (2 ^ k) → Val (mul binary64 x y) (p * q + n * m) (p * m + n * q) (2 ^ (i + k))
+mul-exact i k {x} {y} {p} {n} {q} {m} h u l v w = rounds-exact (i + k) h u l (subst (λ (d : ℕ). Rounds binary64 (mul binary64 x y) (p * q + n * m) (p * m + n * q) d) (sym (pow-add 2 i k)) (mul-rounds binary64 (pow-pos i) (pow-pos k) v w))

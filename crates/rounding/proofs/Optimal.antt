@@ -1,36 +1,40 @@
--- No value of binary64 is nearer to a whole number of units than what it rounds to. Naturals only: the first half of a proof of two-sum. Assumes nothing.
-use mathlib.Core.Path.{_≡_, refl, sym, ap, _∙_, subst}
-use mathlib.Core.Logic.{_⊎_, inl, inr}
-use Prim.Native.Nat.{ℕ, zero, suc, _+_, _-_, _*_, _/_, _%_, _^_, _≤_, _<_, compare}
-use native.Mathlib.Nat.{le-refl, le-trans, le-of-eq, le-of-lt, lt-of-lt-of-le, lt-of-le-of-lt, lt-of-not-le, not-le-of-lt, le-of-suc-le-suc, eq-zero-or-pos, eq-or-lt-of-le, mul-one, one-mul, div-one, mul-assoc, mul-comm, mul-le-mul-right, add-mul, lt-of-mul-lt-mul-right, mul-lt-mul-of-pos-right}
+-- No f64 is nearer to a whole number of units than the one that it is rounded to (`step-optimal`). Over natural numbers, the unit being 2 ^ -1074; for two-sum.
+-- Assumes nothing.
+use mathlib.Core.Path.{_≡_, sym, ap, _∙_, subst}
+use mathlib.Core.Logic.{inl, inr}
+use Prim.Native.Nat.{ℕ, _+_, _-_, _*_, _/_, _^_, _≤_, _<_}
+use native.Mathlib.Nat.{le-trans, le-of-eq, le-of-lt, lt-of-lt-of-le, lt-of-le-of-lt, not-le-of-lt, eq-zero-or-pos, eq-or-lt-of-le, one-mul, div-one, mul-le-mul-right, add-mul, lt-of-mul-lt-mul-right}
 use native.Mathlib.Omega.{arith}
 use mathlib.Core.Bool.{Bool, true, false, not}
-use lib.Dec.{T, leb, leb→le, nleb→lt, lit<, lit≤}
+use lib.Dec.{T, leb, leb→le, nleb→lt, lit<}
 use lib.Pow.{pow-add, pow-pos, pow-mono, shl-lt}
 use lib.Ieee.{size}
-use lib.Ieee.Digits.{size-reaches, back}
+use lib.Ieee.Digits.{size-reaches}
 use lib.Ieee.Nearest.{closest}
 use lib.Ieee.Order.{drop, kept}
-use Rattle.rounding.proofs.Grid.{Half, closest-near, step-mono, step-exact, drop-ge}
-use Rattle.rounding.proofs.Own.{Rep}
+use Rattle.rounding.proofs.Grid.{Half, closest-near, step-mono, step-exact}
+use Rattle.rounding.proofs.Own.{Rep, lift}
 
--- a whole number of units, rounded, and the exponent of the last digit that is kept
+-- the number of binary digits that rounding drops from a whole number of units, and that number, rounded
 abbrev pub cut : ℕ → ℕ
 cut a = drop 53 a 1
 
 abbrev pub step : ℕ → ℕ
 step a = kept 53 a 1 * 2 ^ cut a
 
+-- off by at most a half of the last digit kept
 pub step-near : (a : ℕ) → Half (step a) a (2 ^ cut a)
 step-near a = subst (λ (u : ℕ). Half (closest a (1 * 2 ^ cut a) * u) a u) (one-mul (2 ^ cut a)) (closest-near a (1 * 2 ^ cut a) (subst (λ (u : ℕ). 0 < u) (sym (one-mul (2 ^ cut a))) (pow-pos (cut a))))
 
+-- what the format holds is rounded to itself
 pub step-fix : (y : ℕ) → Rep y → step y ≡ y
 step-fix y r = ap step (r .is) ∙ step-exact 53 (r .q) (r .j) (r .small) ∙ sym (r .is)
 
+-- the order is kept
 pub step-le : (a b : ℕ) → a ≤ b → step a ≤ step b
 step-le a b h = step-mono 53 a 1 b 1 (lit< tt) (lit< tt) (lit< tt) (mul-le-mul-right 1 h)
 
--- from 2 ^ (52 + k) on, every value is a multiple of 2 ^ k
+-- from 2 ^ (52 + k) units on, every f64 is a multiple of 2 ^ k units
 pub multiple : (k y : ℕ) → Rep y → 2 ^ (52 + k) ≤ y → (d : ℕ) × (y ≡ d * 2 ^ k)
 multiple k y r h = go (leb k (r .j)) (leb→le k (r .j)) (nleb→lt k (r .j))
   where
@@ -38,7 +42,7 @@ multiple k y r h = go (leb k (r .j)) (leb→le k (r .j)) (nleb→lt k (r .j))
     low l = lt-of-le-of-lt (le-of-eq (r .is)) (lt-of-lt-of-le (shl-lt 53 (r .j) (r .small)) (pow-mono (omega arith)))
 
     go : (b : Bool) → (T b → k ≤ r .j) → (T (not b) → r .j < k) → (d : ℕ) × (y ≡ d * 2 ^ k)
-    go true f g = (r .q * 2 ^ (r .j - k), r .is ∙ ap (λ (x : ℕ). r .q * x) (ap (λ (x : ℕ). 2 ^ x) (sym (back (r .j) k (f tt))) ∙ pow-add 2 (r .j - k) k) ∙ sym (mul-assoc (r .q) (2 ^ (r .j - k)) (2 ^ k)))
+    go true f g = (r .q * 2 ^ (r .j - k), r .is ∙ lift (r .q) k (r .j) (f tt))
     go false f g = absurd (not-le-of-lt (low (g tt)) h)
 
 gap : (K d u : ℕ) → K * u < d * u → K * u + u ≤ d * u
@@ -54,6 +58,7 @@ reaches a h = le-trans (size-reaches (a / 1) (52 + cut a) (all (size (a / 1)) h)
     all : (z : ℕ) → 0 < z - 53 → 52 + (z - 53) < z
     all z l = omega arith
 
+-- with no digit dropped, nothing is rounded
 pub step-same : (a : ℕ) → cut a ≡ 0 → step a ≡ a
 step-same a e = go (step a) (subst (λ (k : ℕ). Half (step a) a (2 ^ k)) e (step-near a))
   where
@@ -61,7 +66,7 @@ step-same a e = go (step a) (subst (λ (k : ℕ). Half (step a) a (2 ^ k)) e (st
     go g h = omega arith
 
 -- ---- a value at or above a, with the rounded one at or below it, and the other way round
-pub opt-over : (a y : ℕ) → Rep y → a ≤ y → step a ≤ a → 2 * a ≤ step a + y
+opt-over : (a y : ℕ) → Rep y → a ≤ y → step a ≤ a → 2 * a ≤ step a + y
 opt-over a y r h l = elim (eq-zero-or-pos (cut a)) [ inl e ↦ none (step a) (step-same a e) | inr k ↦ some k ]
   where
     none : (g : ℕ) → g ≡ a → 2 * a ≤ g + y
@@ -78,7 +83,7 @@ opt-over a y r h l = elim (eq-zero-or-pos (cut a)) [ inl e ↦ none (step a) (st
         apart : (g u : ℕ) → 2 * a ≤ 2 * g + u → g + u ≤ y → 2 * a ≤ g + y
         apart g u x z = omega arith
 
-pub opt-under : (a y : ℕ) → Rep y → y ≤ a → a ≤ step a → step a + y ≤ 2 * a
+opt-under : (a y : ℕ) → Rep y → y ≤ a → a ≤ step a → step a + y ≤ 2 * a
 opt-under a y r h l = elim (eq-zero-or-pos (cut a)) [ inl e ↦ none (step a) (step-same a e) | inr k ↦ some k (leb (2 ^ (52 + cut a)) y) (leb→le (2 ^ (52 + cut a)) y) (nleb→lt (2 ^ (52 + cut a)) y) ]
   where
     none : (g : ℕ) → g ≡ a → g + y ≤ 2 * a
@@ -100,7 +105,7 @@ opt-under a y r h l = elim (eq-zero-or-pos (cut a)) [ inl e ↦ none (step a) (s
         far : (s z : ℕ) → s + z ≤ 2 * a → y < z → s + y ≤ 2 * a
         far s z x w = omega arith
 
--- so the distance to the rounded number is no more than that to any other value
+-- |step a - a| ≤ |y - a|, for any y that the format holds
 pub step-optimal : (a y : ℕ) → Rep y → (step a - a) + (a - step a) ≤ (y - a) + (a - y)
 step-optimal a y r = go (leb a y) (leb→le a y) (nleb→lt a y) (leb a (step a)) (leb→le a (step a)) (nleb→lt a (step a))
   where

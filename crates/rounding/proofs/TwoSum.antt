@@ -1,19 +1,22 @@
--- Knuth's two-sum over pairs of naturals, in units: towards a proof. Assumes nothing.
+-- Knuth's two-sum over pairs of natural numbers, in units of 2 ^ -1074: the error of a rounded sum of two values is a value (`error-rep`), with |b| ≤ |a| so is
+-- the rounded sum less a (`dekker`), and two-sum's sum and error add up to the parts (`two-sum`). TwoSumFloat and Compensated say it of floats. Assumes nothing.
 use mathlib.Core.Path.{_≡_, refl, sym, ap, _∙_, subst}
 use mathlib.Core.Logic.{_⊎_, inl, inr}
 use Prim.Native.Nat.{ℕ, zero, suc, _+_, _-_, _*_, _^_, _≤_, _<_, min}
-use native.Mathlib.Nat.{le-refl, le-trans, le-of-eq, le-of-lt, lt-of-le-of-lt, lt-of-lt-of-le, not-le-of-lt, eq-or-lt-of-le, le-of-mul-le-mul-right, mul-assoc, one-mul, zero-mul, add-mul, mul-one, mul-left-comm, pow-succ'}
+use native.Mathlib.Nat.{le-trans, le-of-eq, le-of-lt, lt-of-le-of-lt, not-le-of-lt, eq-or-lt-of-le, le-of-mul-le-mul-right, one-mul, add-mul, mul-one, mul-left-comm, pow-succ'}
 use native.Mathlib.Omega.{arith}
 use mathlib.Core.Bool.{Bool, true, false, not}
 use lib.Dec.{T, leb, leb→le, nleb→lt, lit<}
 use lib.Pow.{pow-add, pow-pos}
-use lib.Ieee.Digits.{back}
 use lib.Ieee.Nearest.{closest}
-use lib.Ieee.Order.{drop, kept}
+use lib.Ieee.Order.{kept}
 use Rattle.rounding.specs.Value.{Signed}
-use Rattle.rounding.proofs.Value.{sub-mul}
+use Rattle.rounding.proofs.Fractions.{sub-mul}
+use Rattle.rounding.proofs.Signed.{dist-zero, signed-dist, signed-not, dist-shift, dist-lo, dist-up, dist-le, dist-flip}
+pub use Rattle.rounding.proofs.Signed.{dist, dist-hi}
 use Rattle.rounding.proofs.Grid.{kept-le, closest-exact}
-use Rattle.rounding.proofs.Own.{Rep}
+use Rattle.rounding.proofs.Own.{Rep, rep-flip, lift}
+pub use Rattle.rounding.proofs.Own.{rep-zero}
 use Rattle.rounding.proofs.Optimal.{cut, step, step-fix, step-le, step-optimal}
 use Rattle.rounding.proofs.Relative.{step-relative}
 
@@ -22,7 +25,7 @@ abbrev Mult : ℕ → ℕ → Type 0
 Mult e d = (c : ℕ) × (d ≡ c * 2 ^ e)
 
 mult-up : (q e j : ℕ) → e ≤ j → Mult e (q * 2 ^ j)
-mult-up q e j h = (q * 2 ^ (j - e), ap (λ (x : ℕ). q * x) (ap (λ (x : ℕ). 2 ^ x) (sym (back j e h)) ∙ pow-add 2 (j - e) e) ∙ sym (mul-assoc q (2 ^ (j - e)) (2 ^ e)))
+mult-up q e j h = (q * 2 ^ (j - e), lift q e j h)
 
 mult-add : (e x y : ℕ) → Mult e x → Mult e y → Mult e (x + y)
 mult-add e x y (a, p) (b, q) = (a + b, ap (λ (z : ℕ). z + y) p ∙ ap (λ (z : ℕ). a * 2 ^ e + z) q ∙ sym (add-mul a b (2 ^ e)))
@@ -69,31 +72,21 @@ mult-l x y r s = own-mult x r (min (r .j) (s .j)) (omega arith)
 mult-r : (x y : ℕ) (r : Rep x) (s : Rep y) → Mult (min (r .j) (s .j)) y
 mult-r x y r s = own-mult y s (min (r .j) (s .j)) (omega arith)
 
--- what is rounded is a value
+-- what is rounded is a value of the format
 pub rep-step : (a : ℕ) → Rep (step a)
 rep-step a = elim (eq-or-lt-of-le (kept-le 53 a 1)) [
   | inl e ↦ record { q = 1; j = 53 + cut a; is = ap (λ (x : ℕ). x * 2 ^ cut a) e ∙ sym (pow-add 2 53 (cut a)) ∙ sym (one-mul (2 ^ (53 + cut a))); small = lit< tt }
   | inr l ↦ record { q = kept 53 a 1; j = cut a; is = refl; small = l }
 ]
 
-pub rep-zero : Rep 0
-rep-zero = record { q = 0; j = 0; is = refl; small = lit< tt }
-
--- ---- the size of p - n
-abbrev pub dist : ℕ → ℕ → ℕ
-dist p n = (p - n) + (n - p)
-
--- p - n is P - N, rounded
+-- p - n is P - N, rounded to nearest
 pub record RN (P N p n : ℕ) : Type 0 where
   pub sign : Bool
   pub size : ℕ
   pub is : Signed sign size P N
   pub to : Signed sign (step size) p n
 
-signed-dist : (s : Bool) (a P N : ℕ) → Signed s a P N → dist P N ≡ a
-signed-dist false a P N h = omega arith
-signed-dist true a P N h = omega arith
-
+-- what is rounded is a value of the format
 pub rn-rep : {P N p n : ℕ} → RN P N p n → Rep (dist p n)
 rn-rep {P} {N} {p} {n} r = subst Rep (sym (signed-dist (r .sign) (step (r .size)) p n (r .to))) (rep-step (r .size))
 
@@ -101,30 +94,14 @@ same-of : (s : Bool) (a g P N p n : ℕ) → Signed s a P N → Signed s g p n �
 same-of false a g P N p n h k e = omega arith
 same-of true a g P N p n h k e = omega arith
 
+-- a value of the format is rounded to itself
 pub rn-exact : {P N p n : ℕ} → Rep (dist P N) → RN P N p n → P + n ≡ p + N
 rn-exact {P} {N} {p} {n} f r = same-of (r .sign) (r .size) (step (r .size)) P N p n (r .is) (r .to) (step-fix (r .size) (subst Rep (signed-dist (r .sign) (r .size) P N (r .is)) f))
 
--- ---- the error of a sum of two values is a value
--- the error's size
+-- the size of the error of a rounding
 error-size : (s : Bool) (a g P N p n : ℕ) → Signed s a P N → Signed s g p n → dist (P + n) (N + p) ≡ dist g a
 error-size false a g P N p n h k = omega arith
 error-size true a g P N p n h k = omega arith
-
--- `omega` splits each `-` into cases, and takes no more than six: these take `dist` away first
-pub dist-shift : (p n x y : ℕ) → p + y ≡ n + x → dist p n ≡ dist x y
-dist-shift p n x y h = omega arith
-
-pub dist-hi : (p n : ℕ) → n ≤ p → dist p n + n ≡ p
-dist-hi p n h = omega arith
-
-pub dist-lo : (p n : ℕ) → p ≤ n → dist p n + p ≡ n
-dist-lo p n h = omega arith
-
-pub dist-up : (p n : ℕ) → (p ≤ n + dist p n) × (n ≤ p + dist p n)
-dist-up p n = omega arith
-
-flip : (p n : ℕ) → dist p n ≡ dist n p
-flip p n = omega arith
 
 opt-num : (s b c : Bool) (a D R P N Q M Y : ℕ) → Signed s a P N → (T b → Y + M ≡ Q) → (T (not b) → Y + Q ≡ M) → (T c → D + a ≤ Y) → (T (not c) → D + Y ≤ a) → D ≤ a → P + M ≤ N + Q + R → N + Q ≤ P + M + R → D ≤ R
 opt-num false true true a D R P N Q M Y h f f' g g' d u l = let x : Y + M ≡ Q = f tt in let y : D + a ≤ Y = g tt in omega arith
@@ -134,6 +111,7 @@ opt-num true true c a D R P N Q M Y h f f' g g' d u l = let x : Y + M ≡ Q = f 
 opt-num true false true a D R P N Q M Y h f f' g g' d u l = let x : Y + Q ≡ M = f' tt in let y : D + a ≤ Y = g tt in omega arith
 opt-num true false false a D R P N Q M Y h f f' g g' d u l = let x : Y + Q ≡ M = f' tt in let y : D + Y ≤ a = g' tt in omega arith
 
+-- no value Q - M of the format is nearer to P - N than the rounded one
 pub rn-opt : {P N p n : ℕ} (Q M : ℕ) → Rep (dist Q M) → RN P N p n → dist (P + n) (N + p) ≤ dist (P + M) (N + Q)
 rn-opt {P} {N} {p} {n} Q M f r =
     let a = r .size in
@@ -155,12 +133,9 @@ rn-opt {P} {N} {p} {n} Q M f r =
 
 -- |x + y| is |x| + |y|, or their difference
 dist-sum : (b c : Bool) (p n q m x y : ℕ) → (T b → x + n ≡ p) → (T (not b) → x + p ≡ n) → (T c → y + m ≡ q) → (T (not c) → y + q ≡ m) → (dist (p + q) (n + m) ≡ x + y) ⊎ (dist (p + q) (n + m) ≡ dist x y)
-dist-sum true true p n q m x y f g h k = inl (dist-shift (p + q) (n + m) (x + y) 0 (let a : x + n ≡ p = f tt in let b : y + m ≡ q = h tt in omega arith) ∙ plain (x + y))
-  where
-    plain : (z : ℕ) → dist z 0 ≡ z
-    plain z = omega arith
+dist-sum true true p n q m x y f g h k = inl (dist-shift (p + q) (n + m) (x + y) 0 (let a : x + n ≡ p = f tt in let b : y + m ≡ q = h tt in omega arith) ∙ dist-zero (x + y))
 dist-sum true false p n q m x y f g h k = inr (dist-shift (p + q) (n + m) x y (let a : x + n ≡ p = f tt in let b : y + q ≡ m = k tt in omega arith))
-dist-sum false true p n q m x y f g h k = inr (dist-shift (p + q) (n + m) y x (let a : x + p ≡ n = g tt in let b : y + m ≡ q = h tt in omega arith) ∙ flip y x)
+dist-sum false true p n q m x y f g h k = inr (dist-shift (p + q) (n + m) y x (let a : x + p ≡ n = g tt in let b : y + m ≡ q = h tt in omega arith) ∙ dist-flip y x)
 dist-sum false false p n q m x y f g h k = inl (dist-shift (p + q) (n + m) 0 (x + y) (let a : x + p ≡ n = g tt in let b : y + q ≡ m = k tt in omega arith) ∙ plain (x + y))
   where
     plain : (z : ℕ) → dist 0 z ≡ z
@@ -182,14 +157,11 @@ sum-mult p n q m r s = go (dist-sum (leb n p) (leb m q) p n q m (dist p n) (dist
     go (inl z) = subst (Mult e) (sym z) (mult-add e (dist p n) (dist q m) a b)
     go (inr z) = subst (Mult e) (sym z) (mult-add e (dist p n - dist q m) (dist q m - dist p n) (mult-sub e (dist p n) (dist q m) a b) (mult-sub e (dist q m) (dist p n) b a))
 
--- a sum that is no more than either is a value (Sterbenz)
+-- a sum of two values that is no larger than either is a value
 pub sum-rep : (p n q m : ℕ) → Rep (dist p n) → Rep (dist q m) → dist (p + q) (n + m) ≤ dist p n → dist (p + q) (n + m) ≤ dist q m → Rep (dist (p + q) (n + m))
 sum-rep p n q m r s h k = rep-mult (dist p n) (dist q m) (dist (p + q) (n + m)) r s (sum-mult p n q m r s) h k
 
-pub rep-flip : (p n : ℕ) → Rep (dist p n) → Rep (dist n p)
-rep-flip p n r = subst Rep (flip p n) r
-
--- the error of a sum
+-- the error of a rounded sum of two values is a value
 pub error-rep : (ap an bp bn sp sn : ℕ) → Rep (dist ap an) → Rep (dist bp bn) → RN (ap + bp) (an + bn) sp sn → Rep (dist (ap + bp + sn) (an + bn + sp))
 error-rep ap an bp bn sp sn ra rb r =
     let c = r .size in
@@ -213,17 +185,14 @@ le-num false false a g P N p n Q M h k f l o u d = let x : Q < M = l tt in let w
 le-num true true a g P N p n Q M h k f l o u d = let x : M ≤ Q = f tt in omega arith
 le-num true false a g P N p n Q M h k f l o u d = let x : Q < M = l tt in let w : dist Q M ≤ a = omega arith in let v : dist Q M ≤ g = d w in omega arith
 
+-- P - N at most a value Q - M of the format is rounded to no more, and one that is at least Q - M to no less
 pub rn-le : {P N p n : ℕ} (Q M : ℕ) → Rep (dist Q M) → RN P N p n → P + M ≤ Q + N → p + M ≤ Q + n
 rn-le {P} {N} {p} {n} Q M f r h =
     le-num (r .sign) (leb M Q) (r .size) (step (r .size)) P N p n Q M (r .is) (r .to) (leb→le M Q) (nleb→lt M Q) h
     (λ x. le-trans (step-le (r .size) (dist Q M) x) (le-of-eq (step-fix (dist Q M) f))) (λ x. le-trans (le-of-eq (sym (step-fix (dist Q M) f))) (step-le (dist Q M) (r .size) x))
 
-signed-neg : (s : Bool) (a P N : ℕ) → Signed s a P N → Signed (not s) a N P
-signed-neg true a P N h = h
-signed-neg false a P N h = h
-
-pub rn-neg : {P N p n : ℕ} → RN P N p n → RN N P n p
-rn-neg {P} {N} {p} {n} r = record { sign = not (r .sign); size = r .size; is = signed-neg (r .sign) (r .size) P N (r .is); to = signed-neg (r .sign) (step (r .size)) p n (r .to) }
+rn-neg : {P N p n : ℕ} → RN P N p n → RN N P n p
+rn-neg {P} {N} {p} {n} r = record { sign = not (r .sign); size = r .size; is = signed-not (r .sign) (r .size) P N (r .is); to = signed-not (r .sign) (step (r .size)) p n (r .to) }
 
 pub rn-ge : {P N p n : ℕ} (Q M : ℕ) → Rep (dist Q M) → RN P N p n → Q + N ≤ P + M → Q + n ≤ p + M
 rn-ge {P} {N} {p} {n} Q M f r h = turn (rn-le M Q (rep-flip Q M f) (rn-neg r) (turn' h))
@@ -234,10 +203,7 @@ rn-ge {P} {N} {p} {n} Q M f r h = turn (rn-le M Q (rep-flip Q M f) (rn-neg r) (t
     turn : n + Q ≤ M + p → Q + n ≤ p + M
     turn g = omega arith
 
-pub dist-le : (p n K : ℕ) → p ≤ n + K → n ≤ p + K → dist p n ≤ K
-dist-le p n K h k = omega arith
-
--- ---- Dekker: where |b| ≤ |a|, the rounded sum less a is a value
+-- ---- Dekker
 rep-double : (x : ℕ) → Rep x → Rep (2 * x)
 rep-double x r = record { q = r .q; j = 1 + r .j; is = ap (λ (z : ℕ). 2 * z) (r .is) ∙ two (r .q) (2 ^ r .j) ∙ ap (λ (z : ℕ). r .q * z) (sym (pow-add 2 1 (r .j))); small = r .small }
   where
@@ -256,22 +222,16 @@ rep-small : (x : ℕ) → x < 2 ^ 53 → Rep x
 rep-small x h = record { q = x; j = 0; is = sym (mul-one x); small = h }
 
 module _ (ap' an bp bn sp sn : ℕ) (ra : Rep (dist ap' an)) (rb : Rep (dist bp bn)) (r : RN (ap' + bp) (an + bn) sp sn) (A B : ℕ) (eA : A ≡ dist ap' an) (eB : B ≡ dist bp bn) (small : B ≤ A) (a0 : A + an ≡ ap') where
-  goal : Type 0
-  goal = Rep (dist (sp + an) (sn + ap'))
-
   -- both signs alike
   alike : B + bn ≡ bp → Rep (dist (sp + an) (sn + ap'))
   alike b0 =
       let g : ap' + sn ≤ sp + an = rn-ge ap' an ra r (omega arith) in
-      let two : Rep (dist (ap' + ap') (an + an)) = subst Rep (sym (dist-shift (ap' + ap') (an + an) (2 * A) 0 (omega arith) ∙ plain (2 * A))) (rep-double A (subst Rep (sym eA) ra)) in
+      let two : Rep (dist (ap' + ap') (an + an)) = subst Rep (sym (dist-shift (ap' + ap') (an + an) (2 * A) 0 (omega arith) ∙ dist-zero (2 * A))) (rep-double A (subst Rep (sym eA) ra)) in
       let l : sp + (an + an) ≤ ap' + ap' + sn = rn-le (ap' + ap') (an + an) two r (omega arith) in
       sum-rep sp sn an ap' (rn-rep r) (rep-flip ap' an ra)
       (dist-le (sp + an) (sn + ap') (dist sp sn) (one (dist sp sn) (dist-up sp sn .0)) (two' (dist sp sn) g))
       (dist-le (sp + an) (sn + ap') (dist an ap') (three (dist an ap') l (dist-up an ap' .1)) (two' (dist an ap') g))
     where
-      plain : (z : ℕ) → dist z 0 ≡ z
-      plain z = omega arith
-
       one : (S : ℕ) → sp ≤ sn + S → sp + an ≤ sn + ap' + S
       one S h = omega arith
 
@@ -323,12 +283,9 @@ module _ (ap' an bp bn sp sn : ℕ) (ra : Rep (dist ap' an)) (rb : Rep (dist bp 
       close : 2 * B < A → 2 * S < A → Rep (dist (sp + an) (sn + ap'))
       close h k = elim (halves A (subst Rep (sym eA) ra)) [
         | inl l ↦ exact (rep-small (dist (ap' + bp) (an + bn)) (tiny (dist (ap' + bp) (an + bn)) size-is l))
-        | inr w ↦ absurd (no (w .0) (w .1) (rn-ge (w .0) 0 (subst Rep (sym (plain (w .0))) (w .2)) r (low (w .0) (w .1))))
+        | inr w ↦ absurd (no (w .0) (w .1) (rn-ge (w .0) 0 (subst Rep (sym (dist-zero (w .0))) (w .2)) r (low (w .0) (w .1))))
       ]
         where
-          plain : (z : ℕ) → dist z 0 ≡ z
-          plain z = omega arith
-
           tiny : (d : ℕ) → d + B ≡ A → A < 2 ^ 53 → d < 2 ^ 53
           tiny d e l = omega arith
 
@@ -365,6 +322,7 @@ dekker-up ap' an bp bn sp sn ra rb r h l = go (leb bn bp) (leb→le bn bp) (nleb
     go true f g = alike ap' an bp bn sp sn ra rb r (dist ap' an) (dist bp bn) refl refl h (dist-hi ap' an l) (dist-hi bp bn (f tt))
     go false f g = unlike ap' an bp bn sp sn ra rb r (dist ap' an) (dist bp bn) refl refl h (dist-hi ap' an l) (dist-lo bp bn (le-of-lt (g tt)))
 
+-- |b| ≤ |a|: the rounded sum less a is a value
 pub dekker : (ap' an bp bn sp sn : ℕ) → Rep (dist ap' an) → Rep (dist bp bn) → RN (ap' + bp) (an + bn) sp sn → dist bp bn ≤ dist ap' an → Rep (dist (sp + an) (sn + ap'))
 dekker ap' an bp bn sp sn ra rb r h = go (leb an ap') (leb→le an ap') (nleb→lt an ap')
   where
@@ -372,7 +330,7 @@ dekker ap' an bp bn sp sn ra rb r h = go (leb an ap') (leb→le an ap') (nleb→
     go true f g = dekker-up ap' an bp bn sp sn ra rb r h (f tt)
     go false f g =
         rep-flip (sn + ap') (sp + an)
-        (dekker-up an ap' bn bp sn sp (rep-flip ap' an ra) (rep-flip bp bn rb) (rn-neg r) (le-trans (le-of-eq (flip bn bp)) (le-trans h (le-of-eq (flip ap' an)))) (le-of-lt (g tt)))
+        (dekker-up an ap' bn bp sn sp (rep-flip ap' an ra) (rep-flip bp bn rb) (rn-neg r) (le-trans (le-of-eq (dist-flip bn bp)) (le-trans h (le-of-eq (dist-flip ap' an)))) (le-of-lt (g tt)))
 
 -- the size of what is rounded: no less than a value that is no more
 rn-size : {P N p n : ℕ} (x : ℕ) → Rep x → RN P N p n → x ≤ dist P N → x ≤ dist p n
@@ -399,7 +357,7 @@ module _ (ap' an bp bn sp sn vp vn wp wn cp cn dp dn ep en : ℕ) (ra : Rep (dis
   from-large : dist ap' an ≤ dist sp sn → dist ap' an ≤ dist bp bn → sp + ep + (an + bn) ≡ sn + en + (ap' + bp)
   from-large h k =
       let e2 : sp + vn + wn ≡ wp + (sn + vp) =
-      rn-exact (subst Rep (sym (dist-shift (sp + vn) (sn + vp) (vn + sp) (vp + sn) (omega arith))) (rep-flip (vp + sn) (vn + sp) (dekker sp sn an ap' vp vn (rn-rep rs) (rep-flip ap' an ra) rv (le-trans (le-of-eq (flip an ap')) h)))) rw' in
+      rn-exact (subst Rep (sym (dist-shift (sp + vn) (sn + vp) (vn + sp) (vp + sn) (omega arith))) (rep-flip (vp + sn) (vn + sp) (dekker sp sn an ap' vp vn (rn-rep rs) (rep-flip ap' an ra) rv (le-trans (le-of-eq (dist-flip an ap')) h)))) rw' in
       let e3 : ap' + wn + cn ≡ cp + (an + wp) =
       rn-exact (subst Rep (sym (dist-shift (ap' + wn) (an + wp) (sn + ap' + vp) (sp + an + vn) (omega arith))) (rep-flip (sp + an + vn) (sn + ap' + vp) (error-rep sp sn an ap' vp vn (rn-rep rs) (rep-flip ap' an ra) rv))) rc in
       let e4 : bp + vn + dn ≡ dp + (bn + vp) = rn-exact (sum-rep bp bn vn vp rb (rep-flip vp vn (rn-rep rv)) (near .0) (near .1)) rd in
@@ -411,7 +369,7 @@ module _ (ap' an bp bn sp sn vp vn wp wn cp cn dp dn ep en : ℕ) (ra : Rep (dis
 
       -- the error of s - a is no more than that of s, since b is a value
       first : dist (sp + an + vn) (sn + ap' + vp) ≤ D
-      first = le-trans (rn-opt bp bn rb rv) (le-of-eq (dist-shift (sp + an + bn) (sn + ap' + bp) (an + bn + sp) (ap' + bp + sn) (omega arith) ∙ flip (an + bn + sp) (ap' + bp + sn)))
+      first = le-trans (rn-opt bp bn rb rv) (le-of-eq (dist-shift (sp + an + bn) (sn + ap' + bp) (an + bn + sp) (ap' + bp + sn) (omega arith) ∙ dist-flip (an + bn + sp) (ap' + bp + sn)))
 
       -- and that is at most 2 ^ -53 of |a + b|
       second : 9007199254740992 * D ≤ dist (ap' + bp) (an + bn)
@@ -453,6 +411,7 @@ module _ (ap' an bp bn sp sn vp vn wp wn cp cn dp dn ep en : ℕ) (ra : Rep (dis
           all : (A B W X Y C : ℕ) → A ≤ B → 9007199254740992 * Y ≤ C → C ≤ A + B → X ≤ 2 * Y → B ≤ W + X → (X ≤ B) × (X ≤ W)
           all A B W X Y C h1 h2 h3 h4 h5 = omega arith
 
+  -- s + e = a + b
   pub two-sum : sp + ep + (an + bn) ≡ sn + en + (ap' + bp)
   two-sum = go (leb (dist bp bn) (dist ap' an)) (leb→le (dist bp bn) (dist ap' an)) (nleb→lt (dist bp bn) (dist ap' an)) (leb (dist ap' an) (dist sp sn)) (leb→le (dist ap' an) (dist sp sn)) (nleb→lt (dist ap' an) (dist sp sn))
     where

@@ -1,3 +1,4 @@
+-- `calendar::civil_count` meets its contract: each branch is the definition's. Assumes nothing.
 use borrow.Author.Tests.{le-leb, lt-leb}
 use Rattle.calendar.specs.DayCount.{civilCount}
 use borrow.Author.Needs.{needs}

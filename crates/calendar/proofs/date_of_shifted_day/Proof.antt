@@ -5,7 +5,7 @@ use lib.IntN.{ℤ}
 use mir.Syntax.{w32}
 use mir.Facts.{toZ-ofZ}
 use Rattle.calendar.specs.Calendar.{date}
-use Rattle.calendar.proofs.Whole.{whole}
+use Rattle.calendar.proofs.Gregorian.{divisions-give-date}
 use borrow.Author.Needs.{needs}
 use Rattle.calendar.proofs.date_of_shifted_day.Statement.{statement}
 use Rattle.calendar.proofs.date_of_shifted_day.Tie as tie
@@ -73,7 +73,7 @@ year-is m d y z e = ap (λ (x : ℤ). date x m d) e
 returns : tie.Need-returns
 returns c =
     year-is _ _ _ _ (toZ-ofZ {w = w32} {z = c .lowered-year .result} (record { sfits = c .lowered-year .ok }) ∙ c .lowered-year .ensures)
-    ∙ whole (c .before .args .l) _ _ _ _ _ refl refl refl refl refl
+    ∙ divisions-give-date (c .before .args .l) _ _ _ _ _ refl refl refl refl refl
 
 pub date-of-shifted-day-spec : {M : Type 1} → statement M
 date-of-shifted-day-spec =

@@ -1,5 +1,5 @@
 -- `calendar::days_in_month` meets its contract: below 1 there is no month, and from 1 up it is the month's length. Assumes nothing.
-use mathlib.Core.Path.{_≡_, sym, _∙_}
+use mathlib.Core.Path.{sym, _∙_}
 use mathlib.Core.Bool.{true, false}
 use lib.IntN.{natAbs}
 use mir.Facts.{toZ-ofZ}

@@ -1,6 +1,5 @@
--- `cal::is_leap_year` meets its contract: the remainders are 0 exactly as those of the year's size are.
--- Assumes nothing.
-use mathlib.Core.Path.{_≡_, refl, ap, sym, subst, _∙_}
+-- `calendar::is_leap_year` meets its contract: the remainders are 0 exactly as those of the year's size are. Assumes nothing.
+use mathlib.Core.Path.{_≡_, refl, ap, sym, _∙_}
 use mathlib.Core.Bool.{Bool, true, false, not, _&&_, _||_}
 use Prim.Native.Nat.{ℕ, _%_}
 use native.Mathlib.Omega.{arith}
@@ -9,7 +8,7 @@ use lib.IntN.{ℤ, pos, natAbs}
 use lib.Signed.{remZ}
 use mir.Syntax.{w32}
 use mir.Val.{SFits, toZ, ofZ}
-use borrow.Author.Tests.{eqb-true, eqb-false, eq-eqb, ne-eqb}
+use borrow.Author.Tests.{eqb-false, eq-eqb, ne-eqb}
 use Rattle.calendar.specs.Calendar.{leapSize, leap}
 use Rattle.calendar.proofs.Signs.{quot-fits, rem-zero}
 use Rattle.calendar.proofs.is_leap_year.Statement.{statement}

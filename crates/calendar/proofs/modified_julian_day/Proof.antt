@@ -1,6 +1,5 @@
 -- `calendar::modified_julian_day` meets its contract: a refusal is handed on, and else the count is the formula's. Assumes nothing.
 use mathlib.Core.Path.{_≡_, ap, sym, _∙_}
-use mathlib.Core.Bool.{false}
 use native.Mathlib.Omega.{arith}
 use lib.IntN.{ℤ, pos, negsuc, natAbs, _+ℤ_}
 use lib.Signed.{ltZ}
@@ -13,7 +12,7 @@ use Rattle.calendar.specs.Refusals.{validDate}
 use Rattle.calendar.specs.Answers.{mjdOutcome}
 use Rattle.calendar.proofs.Signs.{to-unsigned, read-back}
 use Rattle.calendar.proofs.Accepted.{Accepted, accepted, short, is-valid, is-refused}
-use Rattle.calendar.proofs.MjdAnswers.{mjd-refused, mjd-given, number-is}
+use Rattle.calendar.proofs.Mjd.{mjd-refused, mjd-given, number-is}
 use Rattle.calendar.proofs.modified_julian_day.Statement.{statement}
 use Rattle.calendar.proofs.modified_julian_day.Tie as tie
 

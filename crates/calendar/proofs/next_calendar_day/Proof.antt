@@ -8,7 +8,7 @@ use mir.Syntax.{w32}
 use mir.Val.{SFits, toZ, ofZ}
 use mir.Facts.{toZ-ofZ}
 use borrow.Author.Needs.{needs}
-use Rattle.refusals.specs.Outcome.{answer, refusal}
+use Rattle.refusals.specs.Outcome.{answer}
 use Rattle.calendar.specs.Calendar.{date, monthLength}
 use Rattle.calendar.specs.Refusals.{validDate}
 use Rattle.calendar.specs.Answers.{nextOutcome}

@@ -1,12 +1,12 @@
 -- `calendar::raised_year` meets its contract: the sum fits, and is a number from 1 up. Assumes nothing.
-use mathlib.Core.Path.{_≡_, refl, ap, sym, subst, _∙_}
-use Prim.Native.Nat.{ℕ, _≤_, _<_, _^_}
+use mathlib.Core.Path.{_≡_, ap, sym, subst, _∙_}
+use Prim.Native.Nat.{_≤_, _<_, _^_}
 use native.Mathlib.Omega.{arith}
-use lib.IntN.{ℤ, pos, negsuc, natAbs, _+ℤ_, subℕ}
+use lib.IntN.{ℤ, pos, natAbs, _+ℤ_}
 use mir.Syntax.{w32, w64}
-use mir.Val.{SFits, Fits, toZ, ofZ}
-use mir.Facts.{toZ-ofZ, toZ-pos, sfits-widen}
-use Rattle.calendar.proofs.Signs.{Raised, raised, at-most, sum-fits, sum-is, cast-fits, lowered}
+use mir.Val.{SFits, toZ, ofZ}
+use mir.Facts.{toZ-ofZ, sfits-widen}
+use Rattle.calendar.proofs.Signs.{Raised, raised, at-most, sum-fits, sum-is, cast-fits}
 use Rattle.calendar.proofs.raised_year.Statement.{statement}
 use Rattle.calendar.proofs.raised_year.Tie as tie
 

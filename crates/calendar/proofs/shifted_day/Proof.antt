@@ -1,12 +1,12 @@
 -- `calendar::shifted_day` meets its contract: the sum fits, and is a number from 0 up. Assumes nothing.
-use mathlib.Core.Path.{_≡_, refl, ap, sym, subst, _∙_}
-use Prim.Native.Nat.{ℕ, _≤_, _<_, _^_}
+use mathlib.Core.Path.{_≡_, sym, subst}
+use Prim.Native.Nat.{_≤_, _<_, _^_}
 use native.Mathlib.Omega.{arith}
-use lib.IntN.{ℤ, pos, negsuc, natAbs, _+ℤ_, subℕ}
-use mir.Syntax.{w32, w64}
-use mir.Val.{SFits, Fits, toZ, ofZ}
-use mir.Facts.{toZ-ofZ, toZ-pos, sfits-widen}
-use Rattle.calendar.proofs.Signs.{Raised, raised, at-most, sum-fits, sum-is, cast-fits, lowered}
+use lib.IntN.{ℤ, pos, natAbs, _+ℤ_}
+use mir.Syntax.{w64}
+use mir.Val.{toZ, ofZ}
+use mir.Facts.{toZ-ofZ}
+use Rattle.calendar.proofs.Signs.{Raised, raised, sum-fits, sum-is, cast-fits}
 use Rattle.calendar.proofs.shifted_day.Statement.{statement}
 use Rattle.calendar.proofs.shifted_day.Tie as tie
 

@@ -1,8 +1,8 @@
--- `floats::ceil` meets its contract. Assumes nothing.
+-- `floats::ceil` meets its contract: up is down with the sign turned.
 use mathlib.Core.Path.{ap, _∙_}
 use lib.Ieee.{neg}
 use borrow.Author.Needs.{needs}
-use Rattle.floats.proofs.Carry.{turned}
+use Rattle.floats.proofs.Below.{turned}
 use Rattle.floats.proofs.ceil.Statement.{statement}
 use Rattle.floats.proofs.ceil.Tie as tie
 

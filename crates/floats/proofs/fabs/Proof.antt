@@ -1,26 +1,20 @@
--- `floats::fabs` meets its contract: with the sign's bit cleared, the same fields are read as |x|. Assumes nothing.
+-- `floats::fabs` meets its contract: with the sign's bit cleared, the same fields are read as |x|.
 use mathlib.Core.Path.{_≡_, refl, sym, ap, _∙_, subst}
-use mathlib.Core.Bool.{Bool, true, false, not, cond, true≢false}
+use mathlib.Core.Bool.{Bool, true, false, not, cond}
 use Prim.Native.Nat.{ℕ, zero, suc, _+_, _-_, _/_, _%_, _^_}
 use native.Mathlib.Nat.{mod-mod, mod-lt}
-use lib.Dec.{T, leb, eqb}
+use lib.Dec.{T, eqb}
 use lib.Arith.{lt→nleb}
 use lib.Pow.{pow-pos, mod-mod-pow}
 use lib.Bits.{bitAnd, and-mask}
-use lib.Ieee.{Float, nan, inf, fin, binary64, odd, fits, isNan, ne, ofFields, ofBits, toBits, nanBits}
+use lib.Ieee.{Float, nan, inf, fin, binary64, odd, fits, isNan, ofFields, ofBits, toBits}
 use lib.Ieee.Bits.{ofBits-toBits, nanBits-is, is-false}
 use lib.Ieee.Compare.{differs-from-itself}
 use Rattle.floats.specs.Whole.{abs}
-use Rattle.floats.proofs.Laws.{yes}
+use Rattle.floats.proofs.Laws.{yes, equals-itself}
 use Rattle.floats.proofs.Fields.{sign, expo, digits, ofBits-is}
 use Rattle.floats.proofs.fabs.Statement.{statement}
 use Rattle.floats.proofs.fabs.Tie as tie
-
-equals-itself : (x : Float) → ne x x ≡ false → T (not (isNan x))
-unfolding ne isNan
-equals-itself nan h = absurd (true≢false h)
-equals-itself (inf s) h = tt
-equals-itself (fin s m e) h = tt
 
 nan-stays : (x : Float) → x ≡ nan → x ≡ abs x
 unfolding abs

@@ -1,12 +1,12 @@
--- `floats::floor` meets its contract. Assumes nothing.
-use mathlib.Core.Path.{_≡_, refl, sym, ap, _∙_, subst}
-use mathlib.Core.Bool.{true, false, not}
+-- `floats::floor` meets its contract: one comes off the whole part exactly where x is below it.
+use mathlib.Core.Path.{ap, _∙_, subst}
+use mathlib.Core.Bool.{false, not}
 use lib.Dec.{T}
 use lib.IntN.{pos}
 use lib.Ieee.{Float, fin, binary64, lt, sub, ofBits}
 use borrow.Author.Needs.{needs}
 use Rattle.floats.proofs.Laws.{yes, no}
-use Rattle.floats.proofs.Compared.{one-off, none-off}
+use Rattle.floats.proofs.Below.{one-off, none-off}
 use Rattle.floats.proofs.floor.Statement.{statement}
 use Rattle.floats.proofs.floor.Tie as tie
 

@@ -1,16 +1,16 @@
--- `floats::from_bits` meets its contract. Assumes nothing.
+-- `floats::from_bits` meets its contract: a NaN's pattern gives the NaN 0.0 / 0.0.
 use lib.Ieee.{div, ofBits}
-use Rattle.floats.proofs.Patterns.{no-nan, is-nan}
 use borrow.Author.Needs.{needs}
+use Rattle.floats.proofs.Patterns.{no-nan-pattern, nan-pattern}
 use Rattle.floats.proofs.from_bits.Statement.{statement}
 use Rattle.floats.proofs.from_bits.Tie as tie
 
 returns : tie.Need-returns
 unfolding div ofBits
-returns c = is-nan _ (c .if1 .taken)
+returns c = nan-pattern _ (c .if1 .taken)
 
 float-from-bits-result : tie.Need-float-from-bits-result
-float-from-bits-result c = no-nan _ (c .if1 .left)
+float-from-bits-result c = no-nan-pattern _ (c .if1 .left)
 
 returns-2 : tie.Need-returns-2
 returns-2 c = search needs

@@ -1,4 +1,4 @@
--- `floats::is_finite` meets its contract: of all values only an infinity and a NaN are not below the infinity in size. Assumes nothing.
+-- `floats::is_finite` meets its contract: only an infinity and a NaN are not below the infinity in size.
 use mathlib.Core.Path.{_≡_, refl, ap, _∙_}
 use lib.Ieee.{Float, nan, inf, fin, binary64, lt, div, ofBits}
 use lib.Ieee.Scale.{finite}

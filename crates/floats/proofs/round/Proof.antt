@@ -1,26 +1,17 @@
--- `floats::round` meets its contract. Assumes nothing.
-use mathlib.Core.Path.{_≡_, refl, sym, ap, _∙_, subst}
-use mathlib.Core.Bool.{false, not, true≢false}
-use lib.Dec.{T}
-use lib.Ieee.{Float, nan, inf, fin, binary64, fits, isNan, ne}
+-- `floats::round` meets its contract: each range of the exponent is one law of Ranges or of Halves.
+use mathlib.Core.Bool.{not}
+use Prim.Native.Nat.{_+_, _^_}
+use lib.Dec.{T, lit≤}
+use lib.Ieee.{Float, binary64, fits, isNan, toBits}
 use lib.Ieee.Compare.{differs-from-itself}
 use borrow.Author.Needs.{needs}
-use Rattle.floats.specs.Whole.{toWhole, away}
-use Rattle.floats.proofs.Laws.{yes}
-use Rattle.floats.proofs.Fields.{high}
-use Rattle.floats.proofs.Halves.{away-keeps, low, low-no-nan, half-up, half-down, sum-lt, mid, mid-no-nan}
+use Rattle.floats.specs.Whole.{away}
+use Rattle.floats.proofs.Laws.{yes, equals-itself, nan-stays, away-one, away-same}
+use Rattle.floats.proofs.Fields.{digits}
+use Rattle.floats.proofs.Ranges.{high, low, low-no-nan, sum-lt, mid, mid-no-nan}
+use Rattle.floats.proofs.Halves.{under-half, half-up, half-down, unit-half-lt, taken-nearer}
 use Rattle.floats.proofs.round.Statement.{statement}
 use Rattle.floats.proofs.round.Tie as tie
-
-equals-itself : (x : Float) → ne x x ≡ false → T (not (isNan x))
-unfolding ne isNan
-equals-itself nan h = absurd (true≢false h)
-equals-itself (inf s) h = tt
-equals-itself (fin s m e) h = tt
-
-nan-stays : (x : Float) → x ≡ nan → x ≡ toWhole away x
-unfolding toWhole
-nan-stays x h = h ∙ sym (ap (toWhole away) h)
 
 abbrev x : tie.Start → Float
 x c = c .args .x
@@ -28,19 +19,19 @@ x c = c .args .x
 held : (c : tie.Start) → T (fits binary64 (x c))
 held c = yes (c .good .0 .1)
 
-numb : (c : tie.Else1) → T (not (isNan (x (c .before))))
-numb c = equals-itself (x (c .before)) (c .if1 .left)
+number : (c : tie.Else1) → T (not (isNan (x (c .before))))
+number c = equals-itself (x (c .before)) (c .if1 .left)
 
 returns : tie.Need-returns
-returns c = nan-stays (x (c .before)) (differs-from-itself (x (c .before)) (yes (c .if1 .taken)))
+returns c = nan-stays away (x (c .before)) (differs-from-itself (x (c .before)) (yes (c .if1 .taken)))
 
 float-to-bits-b : tie.Need-float-to-bits-b
-float-to-bits-b c = numb c
+float-to-bits-b c = number c
 
 float-from-bits-result : tie.Need-float-from-bits-result
 float-from-bits-result c =
     let n = c .before .before in
-    low-no-nan (x (n .before)) (held (n .before)) (numb n)
+    low-no-nan (x (n .before)) (held (n .before)) (number n)
 
 sub-k : tie.Need-sub-k
 sub-k c = search needs
@@ -60,37 +51,39 @@ shl-result-2 c = search needs
 add-result : tie.Need-add-result
 add-result c =
     let n = c .before .before .before in
-    record { fits = sum-lt (x (n .before)) (held (n .before)) (numb n) (c .if4 .left) (c .before .before .if2 .left) }
+    record { fits = sum-lt (x (n .before)) (held (n .before)) (number n) (c .if4 .left) (c .before .before .if2 .left) _ (unit-half-lt _ (c .if4 .left) (c .before .before .if2 .left)) }
 
 float-from-bits-result-2 : tie.Need-float-from-bits-result-2
 float-from-bits-result-2 c =
     let n = c .before .before .before in
-    mid-no-nan (x (n .before)) (held (n .before)) (numb n) (c .if4 .left) (c .before .before .if2 .left)
+    mid-no-nan (x (n .before)) (held (n .before)) (number n) (c .if4 .left) (c .before .before .if2 .left) _ (unit-half-lt _ (c .if4 .left) (c .before .before .if2 .left))
 
 returns-2 : tie.Need-returns-2
 returns-2 c =
     let n = c .before in
-    high (x (n .before)) (held (n .before)) (numb n) away away-keeps (c .if2 .taken)
+    high (x (n .before)) (held (n .before)) (number n) away away-one (c .if2 .taken)
 
 returns-3 : tie.Need-returns-3
 returns-3 c =
     let n = c .before .before in
-    low (x (n .before)) (held (n .before)) (numb n) (c .if3 .taken)
+    low (x (n .before)) (held (n .before)) (number n) away away-same 1021 (lit≤ tt) under-half (c .if3 .taken)
 
 returns-4 : tie.Need-returns-4
 returns-4 c =
     let n = c .before .before .before .before in
-    half-up (x (n .before)) (held (n .before)) (numb n) (c .before .before .if3 .left) (c .before .if4 .taken) (c .if5 .taken)
+    half-up (x (n .before)) (held (n .before)) (number n) (c .before .before .if3 .left) (c .before .if4 .taken) (c .if5 .taken)
 
 returns-5 : tie.Need-returns-5
 returns-5 c =
     let n = c .before .before .before .before in
-    half-down (x (n .before)) (held (n .before)) (numb n) (c .before .before .if3 .left) (c .before .if4 .taken) (c .if5 .left)
+    half-down (x (n .before)) (held (n .before)) (number n) (c .before .before .if3 .left) (c .before .if4 .taken) (c .if5 .left)
 
 returns-6 : tie.Need-returns-6
 returns-6 c =
     let n = c .before .before .before in
-    mid (x (n .before)) (held (n .before)) (numb n) (c .if4 .left) (c .before .before .if2 .left)
+    let lo = c .if4 .left in
+    let hi = c .before .before .if2 .left in
+    mid (x (n .before)) (held (n .before)) (number n) lo hi _ (unit-half-lt _ lo hi) away away-same (taken-nearer _ lo hi (2 ^ 52 + digits (toBits binary64 (x (n .before)))))
 
 pub round-spec : {M : Type 1} → statement M
 round-spec = tie.close (tie.spec returns float-to-bits-b float-from-bits-result sub-k sub-result shl-result add-result shr-result shl-result-2 float-from-bits-result-2 returns-2 returns-3 returns-4 returns-5 returns-6)

@@ -1,15 +1,14 @@
--- `floats::saturating_i64` meets its contract. Assumes nothing.
-use mathlib.Core.Path.{_≡_, sym, subst, ap, _∙_}
+-- `floats::saturating_i64` meets its contract: inside the range std's truncating cast, and outside it the laws of Casts.
 use borrow.Author.Needs.{needs}
-use lib.Dec.{T}
 use lib.Ieee.{ofBits, neg}
-use Rattle.floats.proofs.Laws.{yes, no, over, under-lo, no-number}
+use Rattle.floats.proofs.Laws.{yes, no}
+use Rattle.floats.proofs.Casts.{over, under, no-number}
 use Rattle.floats.proofs.saturating_i64.Statement.{statement}
 use Rattle.floats.proofs.saturating_i64.Tie as tie
 
 truncating-f64-to-i64-requires : tie.Need-truncating-f64-to-i64-requires
 unfolding ofBits neg
-truncating-f64-to-i64-requires c κs = (subst T (sym (c .before .if1 .taken)) tt, subst T (sym (c .if2 .taken)) tt)
+truncating-f64-to-i64-requires c κs = (yes (c .before .if1 .taken), yes (c .if2 .taken))
 
 returns : tie.Need-returns
 returns c = search needs
@@ -20,7 +19,7 @@ returns-2 c = over (c .before .before .args .x) (yes (c .before .if1 .taken)) (n
 
 returns-3 : tie.Need-returns-3
 unfolding ofBits neg
-returns-3 c = under-lo (c .before .before .args .x) (no (c .before .if1 .left)) (yes (c .if3 .taken))
+returns-3 c = under (c .before .before .args .x) (no (c .before .if1 .left)) (yes (c .if3 .taken))
 
 returns-4 : tie.Need-returns-4
 unfolding ofBits neg

@@ -1,14 +1,16 @@
--- `floats::to_bits` meets its contract. Assumes nothing.
-use Rattle.floats.proofs.Patterns.{nan-bits, same-no-nan}
+-- `floats::to_bits` meets its contract.
+use lib.Ieee.Compare.{differs-from-itself}
 use borrow.Author.Needs.{needs}
+use Rattle.floats.proofs.Laws.{yes, equals-itself}
+use Rattle.floats.proofs.Patterns.{nan-bits}
 use Rattle.floats.proofs.to_bits.Statement.{statement}
 use Rattle.floats.proofs.to_bits.Tie as tie
 
 returns : tie.Need-returns
-returns c = nan-bits _ (c .if1 .taken)
+returns c = nan-bits (c .before .args .x) (differs-from-itself (c .before .args .x) (yes (c .if1 .taken)))
 
 float-to-bits-result : tie.Need-float-to-bits-result
-float-to-bits-result c = same-no-nan _ (c .if1 .left)
+float-to-bits-result c = equals-itself (c .before .args .x) (c .if1 .left)
 
 returns-2 : tie.Need-returns-2
 returns-2 c = search needs

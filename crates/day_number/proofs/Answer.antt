@@ -1,0 +1,21 @@
+-- The outcome of a pair by the range test: an accepted pair is answered, and any other refused with 6. Assumes nothing.
+use mathlib.Core.Path.{_≡_, refl, ap, sym, _∙_}
+use mathlib.Core.Bool.{Bool, true, false, cond}
+use lib.Ieee.{Float, binary64, add}
+use Rattle.refusals.specs.Outcome.{Outcome, answer, refusal}
+use Rattle.day_number.specs.declared.DayNumber.{DayNumber}
+use Rattle.day_number.specs.DayNumber.{inJulianRange, accepted, dayOf}
+use Rattle.day_number.specs.Answer.{dayNumberAndFraction}
+
+pub answered : (x y : Float) → accepted x y ≡ true → dayNumberAndFraction x y ≡ answer (dayOf x y)
+unfolding dayNumberAndFraction
+answered x y e = ap (λ (b : Bool). cond b (answer (dayOf x y)) (refusal 6)) e
+
+pub refused : (x y : Float) → accepted x y ≡ false → dayNumberAndFraction x y ≡ refusal 6
+unfolding dayNumberAndFraction
+refused x y e = ap (λ (b : Bool). cond b (answer (dayOf x y)) (refusal 6)) e
+
+-- the test as the code makes it
+pub tested : (x y : Float) (b u : Bool) → b ≡ inJulianRange (add binary64 x y) → b ≡ u → accepted x y ≡ u
+unfolding accepted
+tested x y b u e f = sym e ∙ f

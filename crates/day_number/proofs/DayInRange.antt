@@ -1,0 +1,85 @@
+-- The day and the fraction that the code computes of an accepted pair are the definition's. Assumes nothing.
+use mathlib.Core.Path.{_≡_, sym, ap, _∙_, subst}
+use mathlib.Core.Bool.{true}
+use Prim.Native.Nat.{ℕ, _+_}
+use lib.Dec.{T}
+use lib.IntN.{ℤ, pos, _+ℤ_, _-ℤ_}
+use mir.Syntax.{w64}
+use mir.ValLaws.{toZ-ofZ}
+use lib.Ieee.{Float, binary64, sub, fits, toSigned}
+use Rattle.rounding.proofs.Casts.{plusZ, minusZ}
+use Rattle.rounding.proofs.Ints.{Int, int-own, int-add, int-sub}
+use Rattle.floats.specs.Whole.{nearestInt}
+use Rattle.day_number.specs.declared.Summed.{Summed}
+use Rattle.day_number.specs.declared.Normalized.{Normalized}
+use Rattle.day_number.specs.declared.DayNumber.{DayNumber}
+use Rattle.day_number.specs.DayNumber.{accepted, sumFractions, normalizeFraction, split, rest, total, dayNumber, dayFraction, dayOf}
+use Rattle.day_number.specs.Sums.{Sums}
+use Rattle.day_number.proofs.Accepted.{Accepted, accepted-pair}
+use Rattle.day_number.proofs.TotalDay.{R, read-a, read-b, s4}
+
+-- ---- the day number as a sum of plain counts
+pub total-is : (a b : Float) (up more down : ℕ) → Int (total a b up more down) (plusZ (toSigned 63 a) + plusZ (toSigned 63 b) + up + (more + 0)) (minusZ (toSigned 63 a) + minusZ (toSigned 63 b) + 0 + (0 + down))
+total-is a b up more down = int-add (int-add (int-add (int-own (toSigned 63 a)) (int-own (toSigned 63 b))) (int-own (pos up))) (int-sub (int-own (pos more)) (int-own (pos down)))
+
+pub number-is : (x y : Float) (up more down : ℕ) → sumFractions (rest x) (rest y) .carry ≡ up → split (rest x) (rest y) .carry ≡ more → split (rest x) (rest y) .borrow ≡ down → dayNumber x y ≡ total (nearestInt x) (nearestInt y) up more down
+unfolding dayNumber
+number-is x y up more down e f g =
+    ap (λ (z : ℕ). total (nearestInt x) (nearestInt y) z (split (rest x) (rest y) .carry) (split (rest x) (rest y) .borrow)) e
+    ∙ ap (λ (z : ℕ). total (nearestInt x) (nearestInt y) up z (split (rest x) (rest y) .borrow)) f
+    ∙ ap (λ (z : ℕ). total (nearestInt x) (nearestInt y) up more z) g
+
+-- ---- the code
+module _ (x y : Float) (fx : T (fits binary64 x)) (fy : T (fits binary64 y)) (acc : accepted x y ≡ true) (a b : Float) (ea : a ≡ nearestInt x) (eb : b ≡ nearestInt y)
+    (k : Summed) (ek : k ≡ sumFractions (sub binary64 x a) (sub binary64 y b)) (f : Normalized) (ef : f ≡ normalizeFraction (k .kahan)) (i j : ℤ) (ei : i ≡ toSigned 63 a) (ej : j ≡ toSigned 63 b) where
+  ek' : k ≡ sumFractions (rest x) (rest y)
+  unfolding rest
+  ek' = ek ∙ ap (λ (z : Float). sumFractions (sub binary64 x z) (sub binary64 y b)) ea ∙ ap (λ (z : Float). sumFractions (rest x) (sub binary64 y z)) eb
+
+  ef' : f ≡ split (rest x) (rest y)
+  unfolding split
+  ef' = ef ∙ ap (λ (z : Summed). normalizeFraction (z .kahan)) ek'
+
+  o : Accepted x y
+  o = accepted-pair x y fx fy acc
+
+  h : Sums (toSigned 63 (nearestInt x)) (toSigned 63 (nearestInt y)) (o .up) (o .more) (o .down)
+  h = o .ints
+
+  ei' : R i ≡ toSigned 63 (nearestInt x)
+  ei' = ap R (ei ∙ ap (toSigned 63) ea) ∙ read-a (toSigned 63 (nearestInt x)) (toSigned 63 (nearestInt y)) (o .up) (o .more) (o .down) h
+
+  ej' : R j ≡ toSigned 63 (nearestInt y)
+  ej' = ap R (ej ∙ ap (toSigned 63) eb) ∙ read-b (toSigned 63 (nearestInt x)) (toSigned 63 (nearestInt y)) (o .up) (o .more) (o .down) h
+
+  eu' : k .carry ≡ o .up
+  eu' = ap (λ (z : Summed). z .carry) ek' ∙ o .carry
+
+  em' : f .carry ≡ o .more
+  em' = ap (λ (z : Normalized). z .carry) ef' ∙ o .again
+
+  ed' : f .borrow ≡ o .down
+  ed' = ap (λ (z : Normalized). z .borrow) ef' ∙ o .borrow
+
+  pub asks : Sums (R i) (R j) (k .carry) (f .carry) (f .borrow)
+  asks =
+      subst (λ (z : ℤ). Sums z (R j) (k .carry) (f .carry) (f .borrow)) (sym ei')
+      (subst (λ (z : ℤ). Sums (toSigned 63 (nearestInt x)) z (k .carry) (f .carry) (f .borrow)) (sym ej')
+      (subst (λ (z : ℕ). Sums (toSigned 63 (nearestInt x)) (toSigned 63 (nearestInt y)) z (f .carry) (f .borrow)) (sym eu')
+      (subst (λ (z : ℕ). Sums (toSigned 63 (nearestInt x)) (toSigned 63 (nearestInt y)) (o .up) z (f .borrow)) (sym em')
+      (subst (λ (z : ℕ). Sums (toSigned 63 (nearestInt x)) (toSigned 63 (nearestInt y)) (o .up) (o .more) z) (sym ed') h))))
+
+  number : (d : ℤ) → d ≡ R i +ℤ R j +ℤ pos (k .carry) +ℤ (pos (f .carry) -ℤ pos (f .borrow)) → R d ≡ dayNumber x y
+  number d e =
+      ap R (e ∙ ap (λ (z : ℤ). z +ℤ R j +ℤ pos (k .carry) +ℤ (pos (f .carry) -ℤ pos (f .borrow))) ei' ∙ ap (λ (z : ℤ). toSigned 63 (nearestInt x) +ℤ z +ℤ pos (k .carry) +ℤ (pos (f .carry) -ℤ pos (f .borrow))) ej'
+      ∙ ap (λ (z : ℕ). total (nearestInt x) (nearestInt y) z (f .carry) (f .borrow)) eu' ∙ ap (λ (z : ℕ). total (nearestInt x) (nearestInt y) (o .up) z (f .borrow)) em' ∙ ap (λ (z : ℕ). total (nearestInt x) (nearestInt y) (o .up) (o .more) z) ed')
+      ∙ toZ-ofZ w64 _ (s4 (toSigned 63 (nearestInt x)) (toSigned 63 (nearestInt y)) (o .up) (o .more) (o .down) h)
+      ∙ sym (number-is x y (o .up) (o .more) (o .down) (o .carry) (o .again) (o .borrow))
+
+  part : f .fraction ≡ dayFraction x y
+  unfolding dayFraction
+  part = ap (λ (z : Normalized). z .fraction) ef'
+
+  pub gives : (d : ℤ) → d ≡ R i +ℤ R j +ℤ pos (k .carry) +ℤ (pos (f .carry) -ℤ pos (f .borrow)) → _≡_ {A = DayNumber} (record { day = R d; fraction = f .fraction }) (dayOf x y)
+  unfolding dayOf
+  gives d e = ap (λ (z : ℤ). record { day = z; fraction = f .fraction }) (number d e) ∙ ap (λ (z : Float). record { day = dayNumber x y; fraction = z }) part

@@ -1,0 +1,97 @@
+-- No fraction of a day is -0.0, whatever the two floats were: the sum that it comes from starts at 0.5. Assumes nothing.
+use mathlib.Core.Path.{refl}
+use mathlib.Core.Bool.{Bool, true, false, cond}
+use Prim.Native.Nat.{ℕ, _+_}
+use lib.Dec.{T}
+use lib.Ieee.{Float, binary64, add, sub, le, lt, fits, ofBits}
+use lib.Ieee.Bits.{ofBits-fits}
+use lib.Ieee.Fits.{add-fits, sub-fits}
+use Rattle.floats.specs.Whole.{nearestInt}
+use Rattle.day_number.specs.declared.Kahan.{Kahan}
+use Rattle.day_number.specs.declared.Summed.{Summed}
+use Rattle.day_number.specs.declared.Carried.{Carried}
+use Rattle.day_number.specs.declared.Normalized.{Normalized}
+use Rattle.day_number.specs.DayNumber.{c-one, c-half, c-zero, c-quarter, c-eps, compensation, kahanStart, kahanOf, addFraction, sumFractions, borrowSum, borrowFraction, borrowDay, carryDay, carryEnd, moved, normalizeFraction, split, rest, dayFraction}
+use Rattle.day_number.specs.MinusZero.{minusZero}
+use Rattle.day_number.proofs.MinusZero.{Unsigned, add-unsigned, sub-unsigned}
+
+one-fits : T (fits binary64 c-one)
+one-fits = ofBits-fits binary64 0x3ff0_0000_0000_0000
+
+half : Unsigned c-half
+unfolding ofBits minusZero
+half = record { fit = ofBits-fits binary64 0x3fe0_0000_0000_0000; sign = refl }
+
+nought : Unsigned c-zero
+unfolding ofBits minusZero
+nought = record { fit = ofBits-fits binary64 0; sign = refl }
+
+-- a compensated sum that is not -0.0
+record Started (κ : Kahan) : Type 0 where
+  sum : Unsigned (κ .sum)
+  correction : T (fits binary64 (κ .correction))
+
+add-step : (c : ℕ) (κ : Kahan) (f : Float) → T (fits binary64 f) → Started κ → Started (addFraction c κ f .kahan)
+unfolding addFraction
+add-step c κ f ff k = go (le c-one temp)
+  where
+    temp : Float
+    temp = add binary64 (κ .sum) f
+
+    fixed : Float
+    fixed = add binary64 (κ .correction) (compensation (κ .sum) f temp)
+
+    go : (b : Bool) → Started (cond {A = Summed} b (record { carry = c + 1; kahan = record { sum = sub binary64 temp c-one; correction = fixed } }) (record { carry = c; kahan = record { sum = temp; correction = fixed } }) .kahan)
+    go true = record { sum = sub-unsigned c-one one-fits (add-unsigned f ff (k .sum)); correction = add-fits binary64 (κ .correction) (compensation (κ .sum) f temp) }
+    go false = record { sum = add-unsigned f ff (k .sum); correction = add-fits binary64 (κ .correction) (compensation (κ .sum) f temp) }
+
+both : (f g : Float) → T (fits binary64 f) → T (fits binary64 g) → Started (sumFractions f g .kahan)
+unfolding sumFractions
+both f g ff fg = add-step (addFraction 0 kahanStart f .carry) (addFraction 0 kahanStart f .kahan) g fg (add-step 0 kahanStart f ff (record { sum = half; correction = nought .fit }))
+
+carry-step : (κ : Kahan) (z : Float) → Unsigned z → Started κ → Unsigned (carryDay κ z .fraction)
+unfolding carryDay carryEnd
+carry-step κ z u k = go (lt (sub binary64 z c-one) c-quarter) (lt c-eps left) (lt c-zero left)
+  where
+    left : Float
+    left = add binary64 (sub binary64 (κ .sum) c-one) (add binary64 (κ .correction) (sub binary64 (sub binary64 (κ .sum) (sub binary64 (κ .sum) c-one)) c-one))
+
+    some : Unsigned left
+    some = add-unsigned _ (add-fits binary64 (κ .correction) (sub binary64 (sub binary64 (κ .sum) (sub binary64 (κ .sum) c-one)) c-one)) (sub-unsigned c-one one-fits (k .sum))
+
+    go : (a b c : Bool) → Unsigned (cond {A = Carried} a (record { carry = 0; fraction = z }) (cond b (record { carry = 1; fraction = cond c left c-zero }) (record { carry = 0; fraction = left })) .fraction)
+    go true b c = u
+    go false true true = some
+    go false true false = nought
+    go false false c = some
+
+normal-step : (κ : Kahan) → Started κ → Unsigned (normalizeFraction κ .fraction)
+unfolding normalizeFraction borrowDay
+normal-step κ k = go (lt z c-zero)
+  where
+    s : Float
+    s = κ .sum
+
+    z : Float
+    z = add binary64 (κ .sum) (κ .correction)
+
+    rest' : Float
+    rest' = sub binary64 z (κ .sum)
+
+    w : Float
+    w = borrowFraction (κ .sum) rest'
+
+    more : Unsigned (borrowSum (κ .sum))
+    more = add-unsigned c-one one-fits (k .sum)
+
+    borrowed : Unsigned w
+    borrowed = add-unsigned _ (add-fits binary64 rest' (add binary64 (sub binary64 c-one (borrowSum s)) s)) more
+
+    go : (b : Bool) → Unsigned (cond {A = Normalized} b (moved 1 (carryDay (kahanOf (borrowSum s) w) w)) (moved 0 (carryDay (kahanOf s z) z)) .fraction)
+    go true = carry-step (kahanOf (borrowSum s) w) w borrowed (record { sum = more; correction = sub-fits binary64 w (borrowSum s) })
+    go false = carry-step (kahanOf s z) z (add-unsigned (κ .correction) (k .correction) (k .sum)) (record { sum = k .sum; correction = sub-fits binary64 z s })
+
+-- THE FRACTION of any two floats is not -0.0
+pub fraction-sign : (x y : Float) → Unsigned (dayFraction x y)
+unfolding dayFraction split rest
+fraction-sign x y = normal-step (sumFractions (rest x) (rest y) .kahan) (both (rest x) (rest y) (sub-fits binary64 x (nearestInt x)) (sub-fits binary64 y (nearestInt y)))

@@ -1,0 +1,113 @@
+-- Off the grid: the day and the fraction of an answered pair of parts under 2 ^ 52 are within 2 ^ -51 day of the exact sum plus one half. Assumes nothing.
+use mathlib.Core.Path.{_≡_, sym, ap, _∙_, subst}
+use mathlib.Core.Bool.{Bool, true, false}
+use Prim.Native.Nat.{ℕ, _+_, _*_, _^_, _≤_, _<_}
+use native.Mathlib.Nat.{add-mul, lt-of-mul-lt-mul-right}
+use native.Mathlib.Omega.{arith}
+use lib.Dec.{T}
+use lib.IntN.{ℤ, _+ℤ_}
+use lib.Ieee.{Float, nan, inf, fin, binary64, fits, toSigned}
+use lib.Ieee.Exact.{HasValue}
+use Rattle.rounding.specs.Value.{Signed, Val, L}
+use Rattle.rounding.proofs.Value.{L-pos}
+use Rattle.rounding.proofs.Own.{plus-of, minus-of}
+use Rattle.rounding.proofs.TwoSumFloat.{has-unique}
+use Rattle.rounding.proofs.Casts.{plusZ, minusZ, add-pair}
+use Rattle.refusals.specs.Outcome.{answer}
+use Rattle.floats.specs.Whole.{nearestInt}
+use Rattle.day_number.specs.declared.DayNumber.{DayNumber}
+use Rattle.day_number.specs.DayNumber.{accepted, rest, split, total, dayNumber, dayFraction, dayOf}
+use Rattle.day_number.specs.Answer.{dayNumberAndFraction}
+use Rattle.day_number.specs.NearDay.{Under, DayNear}
+use Rattle.day_number.proofs.Units.{H, H-L, W, L-W}
+use Rattle.day_number.proofs.NearestNumber.{Numbers}
+use Rattle.day_number.proofs.NearestInt.{plain-plus, plain-minus}
+use Rattle.day_number.proofs.Accepted.{Accepted, accepted-pair}
+use Rattle.day_number.proofs.DayInRange.{total-is, number-is}
+use Rattle.day_number.proofs.GridPairs.{signed-pair}
+use Rattle.day_number.proofs.Ranges.{answer-is}
+
+-- in units of 2 ^ -1074, of parts p - n and q - m
+record NearPair (p n q m : ℕ) (day : ℤ) (fraction : Float) : Type 0 where
+  units : ℕ
+  val : Val fraction units 0 L
+  over : 2 ^ 53 * (units + (n + m) + plusZ day * L) ≤ 2 ^ 53 * (p + q + minusZ day * L) + 2 ^ 52 * L + 4 * L
+  under : 2 ^ 53 * (p + q + minusZ day * L) + 2 ^ 52 * L ≤ 2 ^ 53 * (units + (n + m) + plusZ day * L) + 4 * L
+
+pair-of : (x : Float) (s t : Bool) (X Y p n : ℕ) → HasValue x s X L → HasValue x t Y L → Signed t Y p n → plus-of s X + n ≡ p + minus-of s X
+pair-of nan s t X Y p n h k i = absurd h
+pair-of (inf u) s t X Y p n h k i = absurd h
+pair-of (fin u m e) s t X Y p n h k i =
+    let q : s ≡ t = sym (h .0) ∙ k .0 in
+    let w : X ≡ Y = has-unique (fin u m e) s t X Y L h k in
+    signed-pair s X p n (subst (λ (b : Bool). Signed b X p n) (sym q) (subst (λ (z : ℕ). Signed t z p n) (sym w) i))
+
+size-le : (s : Bool) (X p n K : ℕ) → plus-of s X + n ≡ p + minus-of s X → p ≤ n + K → n ≤ p + K → X ≤ K
+size-le false X p n K e h k = omega arith
+size-le true X p n K e h k = omega arith
+
+few-whole : (X A : ℕ) → Numbers X A → X ≤ 2 ^ 62 * L → A < 2 ^ 63
+few-whole X A g h = lt-of-mul-lt-mul-right L (omega (arith, g .high, L-pos))
+
+times-L : (g K h I D : ℕ) → g + K ≡ h + I → g * D + K * D ≡ h * D + I * D
+times-L g K h I D e = sym (add-mul g K D) ∙ ap (λ (z : ℕ). z * D) e ∙ add-mul h I D
+
+module _ (x y : Float) (fx : T (fits binary64 x)) (fy : T (fits binary64 y)) (e : accepted x y ≡ true) (p n q m : ℕ) (vx : Val x p n L) (vy : Val y q m L)
+    (h1 : p ≤ n + 2 ^ 62 * L) (h2 : n ≤ p + 2 ^ 62 * L) (h3 : q ≤ m + 2 ^ 62 * L) (h4 : m ≤ q + 2 ^ 62 * L) where
+  near-pair : NearPair p n q m (dayNumber x y) (dayFraction x y)
+  unfolding dayFraction
+  near-pair = go (accepted-pair x y fx fy e)
+    where
+      go : Accepted x y → NearPair p n q m (dayNumber x y) (split (rest x) (rest y) .fraction)
+      go o =
+          let k = o .near in
+          let ex = pair-of x (k .s) (vx .sign) (k .X) (vx .size) p n (k .vx) (vx .has) (vx .is) in
+          let ey = pair-of y (k .t) (vy .sign) (k .Y) (vy .size) q m (k .vy) (vy .has) (vy .is) in
+          let sa = few-whole (k .X) (k .A) (k .wx .numbers) (size-le (k .s) (k .X) p n (2 ^ 62 * L) ex h1 h2) in
+          let sb = few-whole (k .Y) (k .B) (k .wy .numbers) (size-le (k .t) (k .Y) q m (2 ^ 62 * L) ey h3 h4) in
+          let d = total (nearestInt x) (nearestInt y) (o .up) (o .more) (o .down) in
+          let f = ints (plusZ d) (minusZ d) (plus-of (k .s) (k .A)) (minus-of (k .s) (k .A)) (plus-of (k .t) (k .B)) (minus-of (k .t) (k .B)) _ _ _ _ (o .up) (o .more) (o .down)
+          (plain-plus (k .s) (k .A) _ sa (k .wx .plus)) (plain-minus (k .s) (k .A) _ sa (k .wx .minus)) (plain-plus (k .t) (k .B) _ sb (k .wy .plus)) (plain-minus (k .t) (k .B) _ sb (k .wy .minus))
+          (total-is (nearestInt x) (nearestInt y) (o .up) (o .more) (o .down) .is) in
+          subst (λ (z : ℤ). NearPair p n q m z (split (rest x) (rest y) .fraction)) (sym (number-is x y (o .up) (o .more) (o .down) (o .carry) (o .again) (o .borrow)))
+          (record {
+            units = o .units;
+            val = o .val;
+            over = fin (o .units) (plus-of (k .s) (k .X)) (minus-of (k .s) (k .X)) (plus-of (k .t) (k .Y)) (minus-of (k .t) (k .Y)) (plus-of (k .s) (k .A) * L) (minus-of (k .s) (k .A) * L) (plus-of (k .t) (k .B) * L) (minus-of (k .t) (k .B) * L) (o .up * L) (o .more * L) (o .down * L) (plusZ d * L) (minusZ d * L) ex ey f (k .over);
+            under = fin' (o .units) (plus-of (k .s) (k .X)) (minus-of (k .s) (k .X)) (plus-of (k .t) (k .Y)) (minus-of (k .t) (k .Y)) (plus-of (k .s) (k .A) * L) (minus-of (k .s) (k .A) * L) (plus-of (k .t) (k .B) * L) (minus-of (k .t) (k .B) * L) (o .up * L) (o .more * L) (o .down * L) (plusZ d * L) (minusZ d * L) ex ey f (k .under);
+          })
+        where
+          ints : (g h i l j o i' l' j' o' up more down : ℕ) → i' ≡ i → l' ≡ l → j' ≡ j → o' ≡ o → g + (l' + o' + 0 + (0 + down)) ≡ h + (i' + j' + up + (more + 0))
+              → g * L + (l * L + o * L + down * L) ≡ h * L + (i * L + j * L + up * L + more * L)
+          ints g h i l j o i' l' j' o' up more down e1 e2 e3 e4 e5 =
+              let z : g + (l + o + down) ≡ h + (i + j + up + more) = omega arith in
+              simp add-mul at (times-L g (l + o + down) h (i + j + up + more) L z)
+
+          fin : (u P N Q M i l j o up more down g h : ℕ) → P + n ≡ p + N → Q + m ≡ q + M → g + (l + o + down) ≡ h + (i + j + up + more)
+              → u + (N + i + (M + j) + up) + more ≤ H + (P + l) + (Q + o) + down + 8 * W → 2 ^ 53 * (u + (n + m) + g) ≤ 2 ^ 53 * (p + q + h) + 2 ^ 52 * L + 4 * L
+          fin u P N Q M i l j o up more down g h e1 e2 e3 k = omega (arith, H-L, L-W)
+
+          fin' : (u P N Q M i l j o up more down g h : ℕ) → P + n ≡ p + N → Q + m ≡ q + M → g + (l + o + down) ≡ h + (i + j + up + more)
+              → H + (P + l) + (Q + o) + down ≤ u + (N + i + (M + j) + up) + more + 8 * W → 2 ^ 53 * (p + q + h) + 2 ^ 52 * L ≤ 2 ^ 53 * (u + (n + m) + g) + 4 * L
+          fin' u P N Q M i l j o up more down g h e1 e2 e3 k = omega (arith, H-L, L-W)
+
+-- THE DAY AND THE FRACTION of every answered pair of parts under 2 ^ 52
+pub day-near : (x y : Float) → T (fits binary64 x) → T (fits binary64 y) → (a : Under x) (b : Under y) (d : DayNumber) → dayNumberAndFraction x y ≡ answer d → DayNear (a .units +ℤ b .units) (d .day) (d .fraction)
+unfolding dayOf
+day-near x y fx fy a b d e =
+    let g = answer-is x y d e in
+    let k = near-pair x y fx fy (g .0) (plusZ (a .units)) (minusZ (a .units)) (plusZ (b .units)) (minusZ (b .units)) (a .val) (b .val) (omega (arith, a .high)) (omega (arith, a .low)) (omega (arith, b .high)) (omega (arith, b .low)) in
+    let s = add-pair (a .units) (b .units) in
+    subst (λ (z : DayNumber). DayNear (a .units +ℤ b .units) (z .day) (z .fraction)) (g .1)
+    (record {
+      units = k .units;
+      val = k .val;
+      over = over' (plusZ (a .units)) (minusZ (a .units)) (plusZ (b .units)) (minusZ (b .units)) (plusZ (a .units +ℤ b .units)) (minusZ (a .units +ℤ b .units)) (k .units) (plusZ (dayNumber x y) * L) (minusZ (dayNumber x y) * L) s (k .over);
+      under = under' (plusZ (a .units)) (minusZ (a .units)) (plusZ (b .units)) (minusZ (b .units)) (plusZ (a .units +ℤ b .units)) (minusZ (a .units +ℤ b .units)) (k .units) (plusZ (dayNumber x y) * L) (minusZ (dayNumber x y) * L) s (k .under);
+    })
+  where
+    over' : (p n q m P N u i j : ℕ) → P + (n + m) ≡ N + (p + q) → 2 ^ 53 * (u + (n + m) + i) ≤ 2 ^ 53 * (p + q + j) + 2 ^ 52 * L + 4 * L → 2 ^ 51 * (i + u + N) ≤ 2 ^ 51 * (P + j) + 2 ^ 50 * L + L
+    over' p n q m P N u i j e h = omega arith
+
+    under' : (p n q m P N u i j : ℕ) → P + (n + m) ≡ N + (p + q) → 2 ^ 53 * (p + q + j) + 2 ^ 52 * L ≤ 2 ^ 53 * (u + (n + m) + i) + 4 * L → 2 ^ 51 * (P + j) + 2 ^ 50 * L ≤ 2 ^ 51 * (i + u + N) + L
+    under' p n q m P N u i j e h = omega arith

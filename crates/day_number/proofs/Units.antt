@@ -1,0 +1,125 @@
+-- The units that the proofs count in, and the constants of the code in them. In units of 2 ^ -1074 day, 1.0 is L; in units of 2 ^ -53 it is G, and of 2 ^ -52, the
+-- grid's, it is S. Assumes nothing.
+use mathlib.Core.Path.{_≡_, refl}
+use mathlib.Core.Bool.{true, false}
+use Prim.Native.Nat.{ℕ, _*_, _^_, _≤_, _<_}
+use native.Mathlib.Omega.{arith}
+use lib.Dec.{lit<}
+use lib.Pow.{pow-pos}
+use lib.Ieee.{neg, div, ofBits}
+use Rattle.rounding.specs.Value.{Val, L}
+use Rattle.day_number.specs.DayNumber.{c-one, c-half, c-zero, c-quarter, c-eps, c-min, c-max}
+
+abbrev pub G : ℕ
+G = 2 ^ 53
+
+abbrev pub S : ℕ
+S = 2 ^ 52
+
+-- S C = L
+abbrev pub C : ℕ
+C = 2 ^ 1022
+
+-- 1/2, 1/8, 2 ^ -54 and 2 ^ -93 in units of 2 ^ -1074; shut, since `omega` takes no number so large
+unfoldable pub H : ℕ
+H = 2 ^ 1073
+
+unfoldable pub E : ℕ
+E = 2 ^ 1071
+
+unfoldable pub W : ℕ
+W = 2 ^ 1020
+
+unfoldable pub Z : ℕ
+Z = 2 ^ 981
+
+pub H-L : L ≡ 2 * H
+unfolding L H
+H-L = refl
+
+pub H-pos : 0 < H
+unfolding H
+H-pos = pow-pos 1073
+
+pub E-L : L ≡ 8 * E
+unfolding L E
+E-L = refl
+
+pub E-pos : 0 < E
+unfolding E
+E-pos = lit< tt
+
+pub L-W : L ≡ 18014398509481984 * W
+unfolding L W
+L-W = refl
+
+pub H-W : H ≡ 9007199254740992 * W
+unfolding H W
+H-W = refl
+
+pub W-pos : 0 < W
+unfolding W
+W-pos = pow-pos 1020
+
+pub W-Z : W ≡ 549755813888 * Z
+unfolding W Z
+W-Z = refl
+
+pub Z-W : 16 * Z ≤ W
+Z-W = omega (arith, W-Z)
+
+-- ---- in units of 2 ^ -1074
+pub one-L : Val c-one L 0 L
+unfolding ofBits L
+one-L = record { sign = false; size = L; has = (refl, refl); is = refl }
+
+pub half-L : Val c-half H 0 L
+unfolding ofBits L H
+half-L = record { sign = false; size = H; has = (refl, refl); is = refl }
+
+pub nought-L : Val c-zero 0 0 L
+unfolding ofBits L
+nought-L = record { sign = false; size = 0; has = (refl, refl); is = refl }
+
+pub quarter-L : Val c-quarter 0 W L
+unfolding ofBits neg div L W
+quarter-L = record { sign = true; size = W; has = (refl, refl); is = refl }
+
+pub min-L : Val c-min 0 (548556 * E) L
+unfolding ofBits L E
+min-L = record { sign = true; size = 548556 * E; has = (refl, refl); is = refl }
+
+pub max-L : Val c-max (8000000000 * E) 0 L
+unfolding ofBits L E
+max-L = record { sign = false; size = 8000000000 * E; has = (refl, refl); is = refl }
+
+-- ---- in units of 2 ^ -53
+pub one-G : Val c-one G 0 G
+unfolding ofBits
+one-G = record { sign = false; size = G; has = (refl, refl); is = refl }
+
+pub nought-G : Val c-zero 0 0 G
+unfolding ofBits
+nought-G = record { sign = false; size = 0; has = (refl, refl); is = refl }
+
+pub eps-G : Val c-eps 0 1 G
+unfolding ofBits neg div
+eps-G = record { sign = true; size = 1; has = (refl, refl); is = refl }
+
+-- ---- in units of 2 ^ -52
+pub one-S : Val c-one S 0 S
+unfolding ofBits
+one-S = record { sign = false; size = S; has = (refl, refl); is = refl }
+
+pub half-S : Val c-half (2 ^ 51) 0 S
+unfolding ofBits
+half-S = record { sign = false; size = 2 ^ 51; has = (refl, refl); is = refl }
+
+pub nought-S : Val c-zero 0 0 S
+unfolding ofBits
+nought-S = record { sign = false; size = 0; has = (refl, refl); is = refl }
+
+-- the least step that stops a carry, 2 ^ -54
+pub quarter : Val c-quarter 0 1 (2 ^ 54)
+unfolding ofBits neg div
+quarter = record { sign = true; size = 1; has = (refl, refl); is = refl }

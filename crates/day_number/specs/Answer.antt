@@ -1,0 +1,19 @@
+-- What `day_number_and_fraction` answers. Written from document 01, "Day and fraction" and refusal 6. Assumes nothing.
+use mathlib.Core.Bool.{cond}
+use Prim.Native.Nat.{ℕ}
+use lib.Ieee.{Float}
+use Rattle.refusals.specs.Outcome.{Outcome, answer, refusal}
+use Rattle.day_number.specs.declared.DayNumber.{DayNumber}
+use Rattle.day_number.specs.declared.DayAnswer.{DayAnswer}
+use Rattle.day_number.specs.declared.DayAnswer.the-variants.{Day, Refused}
+use Rattle.day_number.specs.DayNumber.{accepted, dayOf}
+
+-- document 01's number and values for each case
+unfoldable pub dayOutcome : DayAnswer → Outcome DayNumber
+dayOutcome (Day d) = answer d
+dayOutcome (Refused n) = refusal n
+
+-- 6 exactly where the rounded sum of the parts is not in -68569.5 to 1e9, and else the Rust's day and fraction
+unfoldable pub dayNumberAndFraction : Float → Float → Outcome DayNumber
+unfolding accepted dayOf
+dayNumberAndFraction jd1 jd2 = cond (accepted jd1 jd2) (answer (dayOf jd1 jd2)) (refusal 6)

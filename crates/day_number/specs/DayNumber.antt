@@ -1,0 +1,132 @@
+-- The day number and the fraction of a two-part Julian date, operation by operation. Written from the Rust utc_tai/calendar.rs, whose bits it fixes: each
+-- function here is the Rust's of the same name, with the days that it carries and borrows as two counts. Assumes nothing.
+use mathlib.Core.Bool.{Bool, cond, _&&_}
+use Prim.Native.Nat.{ℕ, _+_}
+use lib.IntN.{ℤ, pos, _+ℤ_, _-ℤ_}
+use lib.Ieee.{Float, binary64, ofBits, add, sub, div, neg, lt, le, toSigned}
+use Rattle.floats.specs.Whole.{abs, nearestInt}
+use Rattle.day_number.specs.declared.Kahan.{Kahan}
+use Rattle.day_number.specs.declared.Summed.{Summed}
+use Rattle.day_number.specs.declared.Borrowed.{Borrowed}
+use Rattle.day_number.specs.declared.Carried.{Carried}
+use Rattle.day_number.specs.declared.Normalized.{Normalized}
+use Rattle.day_number.specs.declared.DayNumber.{DayNumber}
+
+-- 1.0, 0.5, 0.0, -DBL_EPSILON / 4.0, -DBL_EPSILON / 2.0, DJMIN = -68569.5, DJMAX = 1e9
+abbrev pub c-one : Float
+c-one = ofBits binary64 0x3ff0_0000_0000_0000
+
+abbrev pub c-half : Float
+c-half = ofBits binary64 0x3fe0_0000_0000_0000
+
+abbrev pub c-zero : Float
+c-zero = ofBits binary64 0
+
+abbrev pub c-quarter : Float
+c-quarter = div binary64 (neg (ofBits binary64 0x3cb0_0000_0000_0000)) (ofBits binary64 0x4010_0000_0000_0000)
+
+abbrev pub c-eps : Float
+c-eps = div binary64 (neg (ofBits binary64 0x3cb0_0000_0000_0000)) (ofBits binary64 0x4000_0000_0000_0000)
+
+abbrev pub c-min : Float
+c-min = ofBits binary64 0xc0f0_bd98_0000_0000
+
+abbrev pub c-max : Float
+c-max = ofBits binary64 0x41cd_cd65_0000_0000
+
+-- the rounded sum lies in DJMIN..=DJMAX; a NaN does not
+unfoldable pub inJulianRange : Float → Bool
+unfolding le
+inJulianRange dj = le c-min dj && le dj c-max
+
+-- what the rounded sum `temp` lost
+unfoldable pub compensation : Float → Float → Float → Float
+unfolding le abs add sub
+compensation sum frac temp = cond (le (abs frac) (abs sum)) (add binary64 (sub binary64 sum temp) frac) (add binary64 (sub binary64 frac temp) sum)
+
+-- one turn of the loop
+unfoldable pub addFraction : ℕ → Kahan → Float → Summed
+unfolding le compensation add sub
+addFraction carry kahan frac =
+    let temp = add binary64 (kahan .sum) frac in
+    let correction = add binary64 (kahan .correction) (compensation (kahan .sum) frac temp) in
+    cond (le c-one temp)
+    (record { carry = carry + 1; kahan = record { sum = sub binary64 temp c-one; correction = correction } })
+    (record { carry = carry; kahan = record { sum = temp; correction = correction } })
+
+-- the two fractions added from 0.5
+abbrev pub kahanStart : Kahan
+kahanStart = record { sum = c-half; correction = c-zero }
+
+unfoldable pub sumFractions : Float → Float → Summed
+unfolding addFraction
+sumFractions f g = addFraction (addFraction 0 kahanStart f .carry) (addFraction 0 kahanStart f .kahan) g
+
+-- one day borrowed: the sum, the fraction, and both with what the fraction differs from the sum
+abbrev pub borrowSum : Float → Float
+borrowSum sum = add binary64 sum c-one
+
+abbrev pub borrowFraction : Float → Float → Float
+borrowFraction sum correction = add binary64 (borrowSum sum) (add binary64 correction (add binary64 (sub binary64 c-one (borrowSum sum)) sum))
+
+unfoldable pub borrowDay : Kahan → Borrowed
+unfolding add sub
+borrowDay kahan =
+    let sum = borrowSum (kahan .sum) in
+    let fraction = borrowFraction (kahan .sum) (kahan .correction) in
+    record { borrow = 1; kahan = record { sum = sum; correction = sub binary64 fraction sum }; fraction = fraction }
+
+-- one day carried, and the fraction that is left
+unfoldable pub carryEnd : Float → Carried
+unfolding lt
+carryEnd rest = cond (lt c-eps rest) (record { carry = 1; fraction = cond (lt c-zero rest) rest c-zero }) (record { carry = 0; fraction = rest })
+
+unfoldable pub carryDay : Kahan → Float → Carried
+unfolding lt carryEnd add sub
+carryDay kahan fraction =
+    let sum = sub binary64 (kahan .sum) c-one in
+    let correction = add binary64 (kahan .correction) (sub binary64 (sub binary64 (kahan .sum) sum) c-one) in
+    cond (lt (sub binary64 fraction c-one) c-quarter) (record { carry = 0; fraction = fraction }) (carryEnd (add binary64 sum correction))
+
+abbrev pub moved : ℕ → Carried → Normalized
+moved borrow end = record { carry = end .carry; borrow = borrow; fraction = end .fraction }
+
+-- the sum with what its fraction differs from it
+abbrev pub kahanOf : Float → Float → Kahan
+kahanOf sum fraction = record { sum = sum; correction = sub binary64 fraction sum }
+
+unfoldable pub normalizeFraction : Kahan → Normalized
+unfolding lt borrowDay carryDay add sub
+normalizeFraction kahan =
+    let fraction = add binary64 (kahan .sum) (kahan .correction) in
+    let more = borrowDay (kahanOf (kahan .sum) fraction) in
+    cond (lt fraction c-zero) (moved (more .borrow) (carryDay (more .kahan) (more .fraction))) (moved 0 (carryDay (kahanOf (kahan .sum) fraction) fraction))
+
+-- a part less its whole number
+unfoldable pub rest : Float → Float
+unfolding sub nearestInt
+rest x = sub binary64 x (nearestInt x)
+
+-- the integer sum, each whole number cast to 64 bits, which saturates
+abbrev pub total : Float → Float → ℕ → ℕ → ℕ → ℤ
+total a b carry more borrow = toSigned 63 a +ℤ toSigned 63 b +ℤ pos carry +ℤ (pos more -ℤ pos borrow)
+
+unfoldable pub split : Float → Float → Normalized
+unfolding sumFractions normalizeFraction
+split f g = normalizeFraction (sumFractions f g .kahan)
+
+unfoldable pub dayNumber : Float → Float → ℤ
+unfolding toSigned nearestInt sumFractions split rest
+dayNumber jd1 jd2 = total (nearestInt jd1) (nearestInt jd2) (sumFractions (rest jd1) (rest jd2) .carry) (split (rest jd1) (rest jd2) .carry) (split (rest jd1) (rest jd2) .borrow)
+
+unfoldable pub dayFraction : Float → Float → Float
+unfolding split rest
+dayFraction jd1 jd2 = split (rest jd1) (rest jd2) .fraction
+
+unfoldable pub dayOf : Float → Float → DayNumber
+unfolding dayNumber dayFraction
+dayOf jd1 jd2 = record { day = dayNumber jd1 jd2; fraction = dayFraction jd1 jd2 }
+
+unfoldable pub accepted : Float → Float → Bool
+unfolding inJulianRange add
+accepted jd1 jd2 = inJulianRange (add binary64 jd1 jd2)

@@ -1,0 +1,21 @@
+-- How near the day and the fraction are to the exact ones off the grid. Written from document 01, "Day and fraction": the exact sum comes from the parts alone. Every
+-- finite float is a whole number of 2 ^ -1074, of which L are 1.0, and here parts and sums are counted in that unit. Assumes nothing.
+use Prim.Native.Nat.{ℕ, _+_, _*_, _^_, _≤_, _<_}
+use lib.IntN.{ℤ}
+use lib.Ieee.{Float}
+use Rattle.rounding.specs.Value.{Val, L}
+use Rattle.rounding.proofs.Casts.{plusZ, minusZ}
+
+-- a part under 2 ^ 52 day in size
+pub record Under (x : Float) : Type 0 where
+  pub units : ℤ
+  pub val : Val x (plusZ units) (minusZ units) L
+  pub high : plusZ units < 2 ^ 52 * L
+  pub low : minusZ units < 2 ^ 52 * L
+
+-- |day + fraction - (sum + 1/2)| ≤ 2 ^ -51, both sides times 2 ^ 51 L
+pub record DayNear (sum day : ℤ) (fraction : Float) : Type 0 where
+  pub units : ℕ
+  pub val : Val fraction units 0 L
+  pub over : 2 ^ 51 * (plusZ day * L + units + minusZ sum) ≤ 2 ^ 51 * (plusZ sum + minusZ day * L) + 2 ^ 50 * L + L
+  pub under : 2 ^ 51 * (plusZ sum + minusZ day * L) + 2 ^ 50 * L ≤ 2 ^ 51 * (plusZ day * L + units + minusZ sum) + L

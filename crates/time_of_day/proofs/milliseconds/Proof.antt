@@ -1,0 +1,30 @@
+-- `time_of_day::milliseconds` meets its contract: each call's result, put together. Assumes nothing.
+use mathlib.Core.Path.{ap, _∙_}
+use lib.Ieee.{Float, binary64, mul, toSigned}
+use mir.Facts.{toZ-ofZ}
+use mir.Syntax.{w64}
+use borrow.Author.Needs.{needs}
+use Rattle.floats.specs.Whole.{toWhole, away}
+use Rattle.time_of_day.specs.Milliseconds.{millisOf, thousand-f}
+use Rattle.time_of_day.proofs.milliseconds.Statement.{statement}
+use Rattle.time_of_day.proofs.milliseconds.Tie as tie
+
+seconds-requires : tie.Need-seconds-requires
+seconds-requires c κs = search needs
+
+round-requires : tie.Need-round-requires
+round-requires c κs = search needs
+
+saturating-i64-requires : tie.Need-saturating-i64-requires
+saturating-i64-requires c κs = search needs
+
+returns : tie.Need-returns
+unfolding millisOf
+returns c =
+    toZ-ofZ {w = w64} {z = c .saturating-i64 .result} (record { sfits = c .saturating-i64 .ok })
+    ∙ c .saturating-i64 .ensures
+    ∙ ap (λ (x : Float). toSigned 63 x) (c .before .round .ensures)
+    ∙ ap (λ (x : Float). toSigned 63 (toWhole away (mul binary64 thousand-f x))) (c .before .before .seconds .ensures)
+
+pub milliseconds-spec : {M : Type 1} → statement M
+milliseconds-spec = tie.close (tie.spec seconds-requires round-requires saturating-i64-requires returns)

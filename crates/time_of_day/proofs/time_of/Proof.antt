@@ -1,0 +1,27 @@
+-- `time_of_day::time_of` meets its contract. Assumes nothing.
+use mathlib.Core.Path.{ap}
+use Prim.Native.Nat.{ℕ, _-_, _*_, _/_, _%_}
+use borrow.Author.Needs.{needs}
+use Rattle.time_of_day.specs.declared.TimeOfDay.{TimeOfDay}
+use Rattle.time_of_day.specs.TimeShown.{timeOf}
+use Rattle.time_of_day.proofs.time_of.Statement.{statement}
+use Rattle.time_of_day.proofs.time_of.Tie as tie
+
+minute-of-day-requires : tie.Need-minute-of-day-requires
+minute-of-day-requires c κs = search needs
+
+mul-rest : tie.Need-mul-rest
+mul-rest c = search needs
+
+sub-rest : tie.Need-sub-rest
+sub-rest c = search needs
+
+abbrev with-minute : ℕ → ℕ → TimeOfDay
+with-minute k m = record { hour = m / 60; minute = m % 60; second = (k - m * 60000) / 1000; milli = (k - m * 60000) % 1000 }
+
+returns : tie.Need-returns
+unfolding timeOf
+returns c = ap (λ (m : ℕ). with-minute (c .before .args .millis) m) (c .minute-of-day .ensures)
+
+pub time-of-spec : {M : Type 1} → statement M
+time-of-spec = tie.close (tie.spec minute-of-day-requires mul-rest sub-rest returns)

@@ -1,0 +1,91 @@
+// The time of day that UTC text shows, from a fraction of a day and the leap at the day's end: the middle of the Rust's `to_iso8601`.
+ghost use mathlib.Core.Path.{_≡_};
+ghost use Prim.Native.Nat.{_≤_};
+ghost use Rattle.floats.specs.Whole.{away};
+ghost use Rattle.time_of_day.specs.Milliseconds.{wholeLeap, secondsOf, millisOf};
+ghost use Rattle.time_of_day.specs.TimeShown.{fromZero, minuteOf, timeOf, dayEnd, shownOf};
+
+// A time of day to the millisecond; in a leap second `second` is 60.
+pub struct TimeOfDay {
+    pub hour: u32,
+    pub minute: u32,
+    pub second: u32,
+    pub milli: u32,
+}
+
+// A time of the day itself, or the midnight that ends it.
+pub enum TimeShown {
+    At(TimeOfDay),
+    NextMidnight,
+}
+
+// The leap that counts for the day's length: only one of more than half a second in size.
+pub fn whole_leap(leap: f64) -> f64
+    ensures { λ r. ⌜ r ≡ wholeLeap leap ⌝ }
+{
+    if floats::fabs(leap) > 0.5 { leap } else { 0.0 }
+}
+
+fn seconds(fraction: f64, leap: f64) -> f64
+    ensures { λ r. ⌜ r ≡ secondsOf fraction leap ⌝ }
+{
+    86400.0 * (fraction + fraction * leap / 86400.0)
+}
+
+fn milliseconds(fraction: f64, leap: f64) -> i64
+    ensures { λ r. ⌜ r ≡ millisOf away fraction leap ⌝ }
+{
+    floats::saturating_i64(floats::round(1000.0 * seconds(fraction, leap)))
+}
+
+// No fraction of a day has a count below 0: this makes the cast below safe with no condition.
+fn from_zero(count: i64) -> u64
+    ensures { λ r. ⌜ r ≡ fromZero count ⌝ }
+{
+    if count < 0 { 0 } else { count as u64 }
+}
+
+fn day_end(leap: f64) -> u64
+    ensures { λ r. ⌜ (r ≡ dayEnd leap) × (r ≤ 86401000) ⌝ }
+{
+    if leap > 0.0 {
+        return 86_401_000;
+    }
+    if leap < 0.0 {
+        return 86_399_000;
+    }
+    86_400_000
+}
+
+fn minute_of_day(millis: u32) -> u32
+    ensures { λ r. ⌜ r ≡ minuteOf millis ⌝ }
+{
+    let minute = millis / 60000;
+    if minute < 1439 { minute } else { 1439 }
+}
+
+fn time_of(millis: u32) -> TimeOfDay
+    ensures { λ r. ⌜ r ≡ timeOf millis ⌝ }
+{
+    let minute = minute_of_day(millis);
+    let rest = millis - minute * 60000;
+    TimeOfDay {
+        hour: minute / 60,
+        minute: minute % 60,
+        second: rest / 1000,
+        milli: rest % 1000,
+    }
+}
+
+// The time of day that the text shows, milliseconds rounded halves away from zero.
+pub fn time_shown(fraction: f64, leap: f64) -> TimeShown
+    ensures { λ r. ⌜ r ≡ shownOf away fraction leap ⌝ }
+{
+    let stretch = whole_leap(leap);
+    let count = from_zero(milliseconds(fraction, stretch));
+    if count < day_end(stretch) {
+        TimeShown::At(time_of(count as u32))
+    } else {
+        TimeShown::NextMidnight
+    }
+}

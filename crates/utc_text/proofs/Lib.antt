@@ -1,0 +1,3 @@
+-- The laws of UTC text.
+pub mod Sign
+pub mod Laws

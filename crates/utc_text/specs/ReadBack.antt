@@ -1,0 +1,75 @@
+-- What the digits of a text say, read with no knowledge of how it was written: the year stands before the last 19 bytes, which are -MM-DDThh:mm:ss.mmm. Written from document 01, "UTC text". Assumes nothing.
+use Prim.Native.Nat.{ℕ, _+_, _-_, _*_, _≤_}
+use mathlib.Core.Path.{_≡_}
+use mathlib.Core.List.{List, [], _∷_}
+use mathlib.Core.Bool.{cond}
+use lib.ListN.{length, take, drop}
+use lib.IntN.{ℤ, pos, negsuc, negℤ}
+use lib.Signed.{leZ}
+use lib.Dec.{T, eqb}
+use Rattle.calendar.specs.declared.CalendarDate.{CalendarDate}
+use Rattle.time_of_day.specs.declared.TimeOfDay.{TimeOfDay}
+
+-- the number that decimal digits say, read from the left after the number v
+abbrev pub value : ℕ → List ℕ → ℕ
+value v [] = v
+value v (c ∷ cs) = value (10 * v + (c - 48)) cs
+
+abbrev pub number : List ℕ → ℕ
+number cs = value 0 cs
+
+-- with a minus sign, 45, in front of it or not
+unfoldable pub signedNumber : List ℕ → ℤ
+signedNumber [] = pos 0
+signedNumber (c ∷ cs) = cond (eqb c 45) (negℤ (pos (number cs))) (pos (number (c ∷ cs)))
+
+-- the n bytes that start k bytes before the end of t
+abbrev pub part : ℕ → ℕ → List ℕ → List ℕ
+part k n t = take n (drop (length t - k) t)
+
+unfoldable pub readYear : List ℕ → ℤ
+unfolding signedNumber
+readYear t = signedNumber (take (length t - 19) t)
+
+unfoldable pub readMonth : List ℕ → ℕ
+readMonth t = number (part 18 2 t)
+
+unfoldable pub readDay : List ℕ → ℕ
+readDay t = number (part 15 2 t)
+
+unfoldable pub readHour : List ℕ → ℕ
+readHour t = number (part 12 2 t)
+
+unfoldable pub readMinute : List ℕ → ℕ
+readMinute t = number (part 9 2 t)
+
+unfoldable pub readSecond : List ℕ → ℕ
+readSecond t = number (part 6 2 t)
+
+unfoldable pub readMilli : List ℕ → ℕ
+readMilli t = number (part 3 3 t)
+
+-- the milliseconds that the digits say: document 01's 3,600 × hour + 60 × minute + second, times 1000
+unfoldable pub readMs : List ℕ → ℕ
+readMs t = 3600000 * readHour t + 60000 * readMinute t + 1000 * readSecond t + readMilli t
+
+-- the digits of t say the date d and the time u
+pub record ReadsAs (t : List ℕ) (d : CalendarDate) (u : TimeOfDay) : Type 0 where
+  pub year : readYear t ≡ d .year
+  pub month : readMonth t ≡ d .month
+  pub day : readDay t ≡ d .day
+  pub hour : readHour t ≡ u .hour
+  pub minute : readMinute t ≡ u .minute
+  pub second : readSecond t ≡ u .second
+  pub milli : readMilli t ≡ u .milli
+
+-- the dates and times that are written: years -4799 to 2733194
+pub record Writable (d : CalendarDate) (u : TimeOfDay) : Type 0 where
+  pub first-year : T (leZ (negsuc 4798) (d .year))
+  pub last-year : T (leZ (d .year) (pos 2733194))
+  pub month : d .month ≤ 12
+  pub day : d .day ≤ 31
+  pub hour : u .hour ≤ 23
+  pub minute : u .minute ≤ 59
+  pub second : u .second ≤ 60
+  pub milli : u .milli ≤ 999
