@@ -38,6 +38,8 @@ pub mod About
 pub mod Chain
 -- Quick: the operations in a form that antt computes faster.
 pub mod Quick
+-- Cases: worked examples.
+pub mod Cases
 -- What the laws above rest on, over natural numbers only.
 -- Fractions: equal fractions.
 pub mod Fractions

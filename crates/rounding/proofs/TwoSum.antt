@@ -372,11 +372,11 @@ module _ (ap' an bp bn sp sn vp vn wp wn cp cn dp dn ep en : ℕ) (ra : Rep (dis
       first = le-trans (rn-opt bp bn rb rv) (le-of-eq (dist-shift (sp + an + bn) (sn + ap' + bp) (an + bn + sp) (ap' + bp + sn) (omega arith) ∙ dist-flip (an + bn + sp) (ap' + bp + sn)))
 
       -- and that is at most 2 ^ -53 of |a + b|
-      second : 9007199254740992 * D ≤ dist (ap' + bp) (an + bn)
-      second = le-trans (le-of-eq (ap (λ (z : ℕ). 9007199254740992 * z) (error-size (rs .sign) (rs .size) (step (rs .size)) (ap' + bp) (an + bn) sp sn (rs .is) (rs .to))))
+      second : 2 ^ 53 * D ≤ dist (ap' + bp) (an + bn)
+      second = le-trans (le-of-eq (ap (λ (z : ℕ). 2 ^ 53 * z) (error-size (rs .sign) (rs .size) (step (rs .size)) (ap' + bp) (an + bn) sp sn (rs .is) (rs .to))))
           (le-trans (part (rs .size) (step (rs .size)) (step-relative (rs .size) .0) (step-relative (rs .size) .1)) (le-of-eq (sym (signed-dist (rs .sign) (rs .size) (ap' + bp) (an + bn) (rs .is)))))
         where
-          part : (a g : ℕ) → 9007199254740992 * g ≤ 9007199254740992 * a + a → 9007199254740992 * a ≤ 9007199254740992 * g + a → 9007199254740992 * dist g a ≤ a
+          part : (a g : ℕ) → 2 ^ 53 * g ≤ 2 ^ 53 * a + a → 2 ^ 53 * a ≤ 2 ^ 53 * g + a → 2 ^ 53 * dist g a ≤ a
           part a g x y = omega arith
 
       third : dist (ap' + bp) (an + bn) ≤ dist ap' an + dist bp bn
@@ -408,7 +408,7 @@ module _ (ap' an bp bn sp sn vp vn wp wn cp cn dp dn ep en : ℕ) (ra : Rep (dis
       near : (dist (bp + vn) (bn + vp) ≤ dist bp bn) × (dist (bp + vn) (bn + vp) ≤ dist vn vp)
       near = all (dist ap' an) (dist bp bn) (dist vn vp) (dist (bp + vn) (bn + vp)) D (dist (ap' + bp) (an + bn)) k second third fourth fifth
         where
-          all : (A B W X Y C : ℕ) → A ≤ B → 9007199254740992 * Y ≤ C → C ≤ A + B → X ≤ 2 * Y → B ≤ W + X → (X ≤ B) × (X ≤ W)
+          all : (A B W X Y C : ℕ) → A ≤ B → 2 ^ 53 * Y ≤ C → C ≤ A + B → X ≤ 2 * Y → B ≤ W + X → (X ≤ B) × (X ≤ W)
           all A B W X Y C h1 h2 h3 h4 h5 = omega arith
 
   -- s + e = a + b

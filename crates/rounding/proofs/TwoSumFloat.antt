@@ -17,7 +17,7 @@ use Rattle.rounding.proofs.Own.{Rep}
 pub use Rattle.rounding.proofs.Own.{val-rep}
 pub use Rattle.rounding.proofs.Value.{has-finite, has-unique, val-unique}
 use Rattle.rounding.proofs.Compare.{lt-says}
-use Rattle.rounding.proofs.Range.{power-val, minus-power-val}
+use Rattle.rounding.proofs.Range.{power-val}
 use Rattle.rounding.proofs.Optimal.{step}
 use Rattle.rounding.proofs.Relative.{step-relative}
 pub use Rattle.rounding.proofs.Relative.{step-has}
@@ -36,7 +36,7 @@ at-of : (s : Bool) (z : Float) (a P N M : ℕ) → HasValue z s (step a) L → S
 at-of false z a P N M h i l = record { p = step a; n = 0; val = record { sign = false; size = step a; has = h; is = omega arith }; rn = record { sign = false; size = a; is = i; to = omega arith }; high = omega arith; low = omega arith }
 at-of true z a P N M h i l = record { p = 0; n = step a; val = record { sign = true; size = step a; has = h; is = omega arith }; rn = record { sign = true; size = a; is = i; to = omega arith }; high = omega arith; low = omega arith }
 
-twice : (g a M : ℕ) → 9007199254740992 * g ≤ 9007199254740992 * a + a → a ≤ M → g ≤ 2 * M
+twice : (g a M : ℕ) → 2 ^ 53 * g ≤ 2 ^ 53 * a + a → a ≤ M → g ≤ 2 * M
 twice g a M h k = omega arith
 
 -- |P - N| ≤ M, with 2 * M below the largest f64: the rounded value is finite, and at most 2 * M
@@ -123,23 +123,9 @@ module _ (a b : Float) (p n q m M : ℕ) (va : Val a p n L) (vb : Val b q m L) (
   }
 
 -- ---- for |a| and |b| below 2 ^ 52
-far : (p n K : ℕ) → p + 0 < K + n → p ≤ n + K
-far p n K h = omega arith
-
-far' : (p n K : ℕ) → 0 + n < p + K → n ≤ p + K
-far' p n K h = omega arith
-
 enough : 1000 * (2 ^ 52 * L) < 2 ^ 2098
 unfolding L
 enough = lit< tt
-
--- by the tests -2 ^ 52 < a < 2 ^ 52
-pub two-sum-meets : (a b : Float) → T (fits binary64 a) → T (fits binary64 b) → T (lt (fin true 1 (pos 52)) a) → T (lt a (fin false 1 (pos 52))) → T (lt (fin true 1 (pos 52)) b) → T (lt b (fin false 1 (pos 52)))
-    → (p n q m : ℕ) → Val a p n L → Val b q m L → Exact (add binary64 a b) (two-sum-error a b) (p + q) (n + m)
-two-sum-meets a b fa fb la ha lb hb p n q m va vb =
-    two-sum-exact a b p n q m (2 ^ 52 * L) va vb (val-rep fa va) (val-rep fb vb) enough
-    (far p n (2 ^ 52 * L) (lt-says L-pos va (power-val 52 L) ha)) (far' p n (2 ^ 52 * L) (lt-says L-pos (minus-power-val 52 L) va la))
-    (far q m (2 ^ 52 * L) (lt-says L-pos vb (power-val 52 L) hb)) (far' q m (2 ^ 52 * L) (lt-says L-pos (minus-power-val 52 L) vb lb))
 
 -- by the test |a| < 2 ^ 52
 pub two-sum-under : {a b : Float} {p n q m : ℕ} → T (fits binary64 a) → T (fits binary64 b) → T (lt (abs a) (fin false 1 (pos 52))) → T (lt (abs b) (fin false 1 (pos 52))) → Val a p n L → Val b q m L
