@@ -1,5 +1,6 @@
--- The Modified Julian Date of a date by the formula of the Rust's `calendar_to_julian` (scales/conversions/utc_tai/mod.rs), whose divisions by 4, 12 and 100 are of
--- numbers from 0 up. That its value is the day of that date is proved (`mjd-meaning`). Assumes nothing.
+-- The Modified Julian Date of a date by the formula of the Rust's `calendar_to_julian` (scales/conversions/utc_tai/mod.rs). With my = (month - 14) / 12, which is -1 in
+-- January and February and else 0, and iypmy = year + my, it is (1461 * (iypmy + 4800)) / 4 + (367 * (month - 2 - 12 * my)) / 12 - (3 * ((iypmy + 4900) / 100)) / 4
+-- + day - 2432076. From year -4799 no dividend but month - 14 is below 0. That the value is the day of that date is proved (`mjd-meaning`). Assumes nothing.
 use Prim.Native.Nat.{ℕ, _+_, _-_, _*_, _/_}
 use mathlib.Core.Bool.{cond}
 use lib.Dec.{leb}
@@ -7,11 +8,11 @@ use lib.IntN.{ℤ, pos, natAbs, _+ℤ_, _-ℤ_}
 use Rattle.refusals.specs.Outcome.{Outcome, answer, onward}
 use Rattle.calendar.specs.Refusals.{validDate}
 
--- the count in a year that begins in March: y is that year + 4800, and month 1 is March
+-- the count in a year that begins in March: y is that year + 4800 (iypmy + 4800), and month 1 is March
 abbrev pub marchCount : ℕ → ℕ → ℕ → ℕ
 marchCount y m d = 1461 * y / 4 + 367 * m / 12 - 3 * ((y + 100) / 100) / 4 + d
 
--- the count by the calendar's months; y is the year + 4800. The Rust's (month - 14) / 12 is -1 in January and February, else 0
+-- the count by the calendar's months; y is the year + 4800
 unfoldable pub civilCount : ℕ → ℕ → ℕ → ℕ
 civilCount y m d = cond (leb m 2) (marchCount (y - 1) (m + 10) d) (marchCount y (m - 2) d)
 
