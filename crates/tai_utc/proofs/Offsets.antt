@@ -1,0 +1,51 @@
+-- The offset at a fraction of a day, by its cases: the fraction refused, the date refused, and the offset of the month's row.
+-- Assumes nothing.
+use mathlib.Core.Path.{_≡_, refl, ap, sym, subst, _∙_}
+use mathlib.Core.Bool.{Bool, true, false, not, cond, _&&_}
+use mathlib.Core.List.{List}
+use Prim.Native.Nat.{ℕ}
+use lib.IntN.{ℤ, natAbs}
+use lib.Ieee.{Float, binary64, ofInt, le}
+use Rattle.refusals.specs.Outcome.{Outcome, answer, refusal, onward}
+use Rattle.calendar.specs.DayCount.{mjdOf}
+use Rattle.tai_utc.specs.Table.{Row, monthNumber}
+use Rattle.tai_utc.specs.Offset.{zeroF, halfF, oneF, offsetAt, inDay, taiUtcOffset}
+
+flip : (b t : Bool) → not b ≡ t → b ≡ not t
+flip true t e = ap not e
+flip false t e = ap not e
+
+-- ---- the two tests of the code
+pub too-low : (f : Float) → not (le zeroF f) ≡ true → inDay f ≡ false
+unfolding inDay
+too-low f e = rw (flip (le zeroF f) _ e)
+
+pub too-high : (f : Float) → not (le zeroF f) ≡ false → not (le f oneF) ≡ true → inDay f ≡ false
+unfolding inDay
+too-high f e g = rw (flip (le zeroF f) _ e, flip (le f oneF) _ g)
+
+pub in-day : (f : Float) → not (le zeroF f) ≡ false → not (le f oneF) ≡ false → inDay f ≡ true
+unfolding inDay
+in-day f e g = rw (flip (le zeroF f) _ e, flip (le f oneF) _ g)
+
+pub in-day-zero : inDay zeroF ≡ true
+unfolding inDay le
+in-day-zero = refl
+
+pub in-day-half : inDay halfF ≡ true
+unfolding inDay le
+in-day-half = refl
+
+-- ---- each case
+module _ (rows : List Row) (y m d : ℤ) (f : Float) where
+  pub fraction-refused : inDay f ≡ false → taiUtcOffset rows y m d f ≡ refusal 7
+  unfolding taiUtcOffset
+  fraction-refused e = rw e
+
+  pub date-refused : inDay f ≡ true → (k : ℕ) → mjdOf y m d ≡ refusal k → taiUtcOffset rows y m d f ≡ refusal k
+  unfolding taiUtcOffset onward
+  date-refused e k p = rw (e, p)
+
+  pub offset-given : inDay f ≡ true → (n : ℤ) → mjdOf y m d ≡ answer n → taiUtcOffset rows y m d f ≡ answer (offsetAt rows (monthNumber y (natAbs m)) (ofInt binary64 n) f)
+  unfolding taiUtcOffset onward
+  offset-given e n p = rw (e, p)

@@ -1,0 +1,20 @@
+use borrow.Author.Needs.{needs}
+use lib.Ieee.{round, ofBits}
+use Rattle.tai_utc.specs.Table.{fixed}
+use Rattle.tai_utc.specs.Offset.{secondsOf}
+use Rattle.tai_utc.proofs.Rows.{place}
+use Rattle.tai_utc.proofs.seconds_at.Statement.{statement}
+use Rattle.tai_utc.proofs.seconds_at.Tie as tie
+
+mul-result : tie.Need-mul-result
+mul-result c = search needs
+
+array-read-result : tie.Need-array-read-result
+array-read-result c = search needs
+
+returns : tie.Need-returns
+unfolding fixed secondsOf round ofBits
+returns c = place secondsOf fixed (c .args .i) (c .pre)
+
+pub seconds-at-spec : {M : Type 1} → statement M
+seconds-at-spec = tie.close (tie.spec mul-result array-read-result returns)

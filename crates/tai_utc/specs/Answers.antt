@@ -1,0 +1,16 @@
+-- The outcome that each case of the answer enums stands for. Written from document 01, "Refusals by number". Assumes nothing.
+use lib.Ieee.{Float}
+use Rattle.refusals.specs.Outcome.{Outcome, answer, refusal}
+use Rattle.tai_utc.specs.declared.DayOffsets.{DayOffsets}
+use Rattle.tai_utc.specs.declared.OffsetAnswer.{OffsetAnswer}
+use Rattle.tai_utc.specs.declared.OffsetAnswer.the-variants as Offset
+use Rattle.tai_utc.specs.declared.DayOffsetsAnswer.{DayOffsetsAnswer}
+use Rattle.tai_utc.specs.declared.DayOffsetsAnswer.the-variants as Day
+
+unfoldable pub offsetOutcome : OffsetAnswer → Outcome Float
+offsetOutcome (Offset.Seconds x) = answer x
+offsetOutcome (Offset.Refused number) = refusal number
+
+unfoldable pub dayOffsetsOutcome : DayOffsetsAnswer → Outcome DayOffsets
+dayOffsetsOutcome (Day.Offsets o) = answer o
+dayOffsetsOutcome (Day.Refused number) = refusal number

@@ -1,0 +1,46 @@
+-- TAI-UTC at the start, the middle and the end of a day, and the leap at its end: the Rust's `leap_at_end_of_day` (scales/utc/mod.rs) and the offsets of
+-- `stretch_day_fraction` (scales/conversions/utc_tai/mod.rs), which look the offsets up in the same order and put them together in another. Assumes nothing.
+use Prim.Native.Nat.{ℕ}
+use mathlib.Core.Bool.{false}
+use mathlib.Core.List.{List}
+use lib.IntN.{ℤ, pos, sucℤ}
+use lib.Ieee.{Float, fin, binary64, add, sub, mul, ofInt}
+use Rattle.refusals.specs.Outcome.{Outcome, answer, onward}
+use Rattle.calendar.specs.Refusals.{nextOf}
+use Rattle.tai_utc.specs.declared.DayOffsets.{DayOffsets}
+use Rattle.tai_utc.specs.Table.{Row}
+use Rattle.tai_utc.specs.Offset.{zeroF, halfF, offsetAt, taiUtcOffset}
+
+abbrev pub twoF : Float
+twoF = fin false 1 (pos 1)
+
+abbrev pub offsets : Float → Float → Float → DayOffsets
+offsets a b c = record { «at_0h» = a; «at_12h» = b; «at_24h» = c }
+
+-- the offsets at 0h, at 12h, and at 0h of the next day; refusals 1 to 3, then 5 where there is no next day
+unfoldable pub dayOffsets : List Row → ℤ → ℤ → ℤ → Outcome DayOffsets
+dayOffsets rows y m d =
+    onward (taiUtcOffset rows y m d zeroF) (λ a.
+    onward (taiUtcOffset rows y m d halfF) (λ b.
+    onward (nextOf y m d) (λ t.
+    onward (taiUtcOffset rows (t .year) (pos (t .month)) (pos (t .day)) zeroF) (λ c.
+    answer (offsets a b c)))))
+
+-- the same of a date whose month is `month`, whose next date's month is `next`, and whose Modified Julian Date is n
+unfoldable pub offsetsOfDay : List Row → ℕ → ℕ → ℤ → DayOffsets
+offsetsOfDay rows month next n =
+    offsets (offsetAt rows month (ofInt binary64 n) zeroF) (offsetAt rows month (ofInt binary64 n) halfF) (offsetAt rows next (ofInt binary64 (sucℤ n)) zeroF)
+
+-- how far the offset at 24h lies above the line through those at 0h and at 12h
+unfoldable pub leapOf : DayOffsets → Float
+leapOf o = sub binary64 (o .«at_24h») (sub binary64 (mul binary64 twoF (o .«at_12h»)) (o .«at_0h»))
+
+unfoldable pub leapAtEndOfDay : List Row → ℤ → ℤ → ℤ → Outcome Float
+leapAtEndOfDay rows y m d = onward (dayOffsets rows y m d) (λ o. answer (leapOf o))
+
+-- the drift across the day, and the leap by it, in the order of `stretch_day_fraction`
+unfoldable pub driftRate : DayOffsets → Float
+driftRate o = mul binary64 twoF (sub binary64 (o .«at_12h») (o .«at_0h»))
+
+unfoldable pub leapAmount : DayOffsets → Float
+leapAmount o = sub binary64 (o .«at_24h») (add binary64 (o .«at_0h») (driftRate o))

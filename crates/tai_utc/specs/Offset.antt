@@ -1,0 +1,63 @@
+-- TAI-UTC at a fraction of a day, by a table of rows: the Rust's `get_tai_utc_offset` (scales/common.rs), each operation rounded once and in its order.
+-- Assumes nothing.
+use Prim.Native.Nat.{ℕ, zero, suc}
+use mathlib.Core.Bool.{Bool, false, cond, _&&_}
+use mathlib.Core.List.{List}
+use lib.Dec.{eqb}
+use lib.ListN.{getD}
+use lib.IntN.{ℤ, pos, negsuc, natAbs}
+use lib.Ieee.{Float, fin, binary64, add, sub, mul, le, ofInt}
+use Rattle.refusals.specs.Outcome.{Outcome, answer, refusal, onward}
+use Rattle.constants.specs.Constants.{decimal}
+use Rattle.calendar.specs.DayCount.{mjdOf}
+use Rattle.tai_utc.specs.Table.{Row, monthNumber, starts, reached}
+
+-- 0.0, 0.5 and 1.0
+abbrev pub zeroF : Float
+zeroF = fin false 0 (pos 0)
+
+abbrev pub halfF : Float
+halfF = fin false 1 (negsuc 0)
+
+abbrev pub oneF : Float
+oneF = fin false 1 (pos 0)
+
+-- the floats nearest to a row's decimals
+unfoldable pub secondsOf : Row → Float
+secondsOf r = decimal (r .units) 7
+
+unfoldable pub startOf : Row → Float
+startOf r = decimal (r .start) 0
+
+unfoldable pub rateOf : Row → Float
+rateOf r = decimal (r .rate) 10
+
+-- the offset of a row; a row whose rate is 0 does not drift
+unfoldable pub byRow : Row → Float → Float → Float
+byRow r mjd fraction =
+    cond (eqb (r .rate) 0) (secondsOf r)
+    (add binary64 (secondsOf r) (mul binary64 (sub binary64 (add binary64 mjd fraction) (startOf r)) (rateOf r)))
+
+-- no row: what a look-up past the end of the table would read
+abbrev pub none : Row
+none = record { month = 0; units = 0; start = 0; rate = 0 }
+
+-- by the number of rows reached: 0.0 before the first
+unfoldable pub offsetBy : List Row → ℕ → Float → Float → Float
+offsetBy rows zero mjd fraction = zeroF
+offsetBy rows (suc i) mjd fraction = byRow (getD rows i none) mjd fraction
+
+-- in month n
+unfoldable pub offsetAt : List Row → ℕ → Float → Float → Float
+offsetAt rows n mjd fraction = offsetBy rows (reached (starts rows) n) mjd fraction
+
+-- 0 ≤ fraction ≤ 1, which no NaN meets and -0.0 does
+unfoldable pub inDay : Float → Bool
+inDay fraction = le zeroF fraction && le fraction oneF
+
+-- 7: fraction outside 0 to 1; then the refusals of the date, 1 to 3
+unfoldable pub taiUtcOffset : List Row → ℤ → ℤ → ℤ → Float → Outcome Float
+taiUtcOffset rows y m d fraction =
+    cond (inDay fraction)
+    (onward (mjdOf y m d) (λ n. answer (offsetAt rows (monthNumber y (natAbs m)) (ofInt binary64 n) fraction)))
+    (refusal 7)
