@@ -1,0 +1,120 @@
+-- The Julian date of a date's midnight: its second part is worth exactly the Modified Julian Date, which is that of the date. Assumes nothing.
+use mathlib.Core.Path.{_≡_, refl, sym, subst}
+use Prim.Native.Nat.{ℕ, _+_, _-_, _*_, _^_, _≤_, _<_}
+use native.Mathlib.Omega.{arith}
+use native.Mathlib.Nat.{le-trans}
+use mathlib.Core.Bool.{Bool, true, false, cond}
+use lib.Dec.{T, leb, lit≤, lit<, le→leb, lt→ltb}
+use lib.IntN.{ℤ, pos, negsuc, natAbs, _+ℤ_}
+use lib.Signed.{mag}
+use lib.Ieee.{binary64, round, ofInt, inFloat}
+use mir.Syntax.{w32, w64}
+use mir.Val.{SFits}
+use Rattle.refusals.specs.Outcome.{Outcome, answer, refusal, onward}
+use Rattle.rounding.specs.Value.{Val}
+use Rattle.rounding.proofs.Value.{val-scale}
+use Rattle.rounding.proofs.Casts.{plusZ, minusZ, ofInt-val}
+use Rattle.constants.specs.Constants.{mjdZeroPoint}
+use Rattle.calendar.specs.Calendar.{leap, date, dateOf}
+use Rattle.calendar.specs.Refusals.{validDate}
+use Rattle.calendar.specs.DayCount.{marchCount, civilCount, mjdNumber, mjdOf}
+use Rattle.calendar.proofs.Signs.{raised, at-most, lowered}
+use Rattle.calendar.proofs.Accepted.{accepted, short}
+use Rattle.calendar.proofs.Mjd.{mjd-meaning}
+use Rattle.julian.specs.JulianDate.{julian}
+use Rattle.julian.specs.Calendar.{calendarToJulian}
+use Rattle.julian.specs.Worth.{Worth}
+
+-- ---- a Modified Julian Date that is answered is the formula's, of a date that is not refused
+
+pub record Answered (y m d n : ℤ) : Type 0 where
+  pub valid : validDate y m d ≡ answer tt
+  pub is : n ≡ mjdNumber y m d
+
+pub answered : (y m d n : ℤ) → mjdOf y m d ≡ answer n → Answered y m d n
+unfolding mjdOf onward
+answered y m d n e = go (validDate y m d) refl e
+  where
+    go : (v : Outcome Unit) → validDate y m d ≡ v → onward v (λ _. answer (mjdNumber y m d)) ≡ answer n → Answered y m d n
+    go (answer u) h k = record { valid = h; is = cc }
+    go (refusal k) h l = let z : _≡_ {A = ℕ} 0 1 = cc in absurd (omega arith)
+
+-- ---- its size
+
+march-small : (y m d : ℕ) → y ≤ 2147488447 → m ≤ 22 → d ≤ 31 → marchCount y m d ≤ 2 ^ 41
+march-small y m d a b c = omega arith
+
+count-small : (y m d : ℕ) → y ≤ 2147488447 → m ≤ 12 → d ≤ 31 → civilCount y m d ≤ 2 ^ 41
+unfolding civilCount
+count-small y m d a b c = go (leb m 2)
+  where
+    go : (t : Bool) → cond t (marchCount (y - 1) (m + 10) d) (marchCount y (m - 2) d) ≤ 2 ^ 41
+    go true = march-small (y - 1) (m + 10) d (omega arith) (omega arith) c
+    go false = march-small y (m - 2) d a (omega arith) c
+
+pub mjd-small : (y m d n : ℤ) → SFits w32 y → mjdOf y m d ≡ answer n → mag n < 2 ^ 42
+unfolding mjdNumber
+mjd-small y m d n f e =
+    let w = answered y m d n e in
+    let a = accepted y m d (w .valid) in
+    let r = raised y 4798 4800 2147483647 (lit≤ tt) (a .year) (at-most y f) in
+    let h : natAbs (y +ℤ pos 4800) ≤ 2147488447 = subst (λ (z : ℤ). natAbs z ≤ 2147488447) (sym (r .is)) (r .high) in
+    let k : natAbs d ≤ 31 = le-trans (a .d-high) (short (leap y) (natAbs m) (a .m-low) (a .m-high)) in
+    let c : civilCount (natAbs (y +ℤ pos 4800)) (natAbs m) (natAbs d) ≤ 2 ^ 41 = count-small (natAbs (y +ℤ pos 4800)) (natAbs m) (natAbs d) h (a .m-high) k in
+    subst (λ (z : ℤ). mag z < 2 ^ 42) (sym (w .is)) (lowered (civilCount (natAbs (y +ℤ pos 4800)) (natAbs m) (natAbs d)) 2432076 (2 ^ 42) (omega arith) (lit< tt))
+
+-- ---- so the cast to a float loses nothing
+
+pub mjd-fits : (y m d n : ℤ) → SFits w32 y → mjdOf y m d ≡ answer n → SFits w64 n
+mjd-fits y m d n f e = record { sfits = omega (arith, mjd-small y m d n f e) }
+
+in-float : (n : ℤ) → mag n < 2 ^ 42 → T (inFloat binary64 n)
+unfolding inFloat
+in-float (pos n) h = le→leb n (2 ^ 53) (omega arith)
+in-float (negsuc n) h = lt→ltb n (2 ^ 53) (omega arith)
+
+pub mjd-in-float : (y m d n : ℤ) → SFits w32 y → mjdOf y m d ≡ answer n → T (inFloat binary64 n)
+mjd-in-float y m d n f e = in-float n (mjd-small y m d n f e)
+
+pub whole-exact : (n : ℤ) → mag n < 2 ^ 42 → Val (ofInt binary64 n) (plusZ n) (minusZ n) 1
+whole-exact (pos n) h = ofInt-val (pos n) (omega arith) (omega arith)
+whole-exact (negsuc n) h = ofInt-val (negsuc n) (omega arith) (omega arith)
+
+-- ---- the midnight of a date, by the two cases of its Modified Julian Date
+
+pub midnight-refused : (y m d : ℤ) (k : ℕ) → mjdOf y m d ≡ refusal k → calendarToJulian y m d ≡ refusal k
+unfolding calendarToJulian onward
+midnight-refused y m d k e = rw e
+
+pub midnight-given : (y m d n : ℤ) → mjdOf y m d ≡ answer n → calendarToJulian y m d ≡ answer (julian mjdZeroPoint (ofInt binary64 n))
+unfolding calendarToJulian onward
+midnight-given y m d n e = rw e
+
+-- ---- what it is worth
+
+pub zero-point-val : Val mjdZeroPoint 4800001 0 2
+unfolding mjdZeroPoint round
+zero-point-val = record { sign = false; size = 4800001; has = (refl, refl); is = refl }
+
+-- n is the Modified Julian Date of the date, the second part is worth exactly n, the whole exactly n + 2400000.5 days, and the day with the number n + 2400001,
+-- which begins there, has the date
+pub record MidnightOf (y m d n : ℤ) : Type 0 where
+  pub mjd : mjdOf y m d ≡ answer n
+  pub given : calendarToJulian y m d ≡ answer (julian mjdZeroPoint (ofInt binary64 n))
+  pub second : Val (ofInt binary64 n) (plusZ n) (minusZ n) 1
+  pub exactly : Worth (julian mjdZeroPoint (ofInt binary64 n)) (4800001 + plusZ n * 2) (minusZ n * 2) 2
+  pub has-date : dateOf (n +ℤ pos 2400001) ≡ date y (natAbs m) (natAbs d)
+
+pub midnight-of : (y m d : ℤ) → SFits w32 y → validDate y m d ≡ answer tt → (n : ℤ) × MidnightOf y m d n
+midnight-of y m d f v =
+    let k = mjd-meaning y m d v in
+    let w = whole-exact (k .n) (mjd-small y m d (k .n) f (k .given)) in (
+      k .n,
+      record {
+        mjd = k .given;
+        given = midnight-given y m d (k .n) (k .given);
+        second = w;
+        exactly = record { p = 4800001; n = 0; q = plusZ (k .n) * 2; m = minusZ (k .n) * 2; first = zero-point-val; second = val-scale 2 w; total = omega arith };
+        has-date = k .has-date;
+      },
+    )

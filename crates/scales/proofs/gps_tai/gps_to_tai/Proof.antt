@@ -1,0 +1,29 @@
+-- `scales::gps_tai::gps_to_tai` meets its contract. Assumes nothing.
+use mathlib.Core.Path.{_∙_}
+use Rattle.scales.specs.Formulas.{plus}
+use Rattle.scales.specs.Conversions.{converted, answerOf}
+use Rattle.scales.proofs.Outcomes.{moved}
+use borrow.Author.Needs.{needs}
+use Rattle.scales.proofs.gps_tai.gps_to_tai.Statement.{statement}
+use Rattle.scales.proofs.gps_tai.gps_to_tai.Tie as tie
+
+finite-jd-requires : tie.Need-finite-jd-requires
+finite-jd-requires c κs = search needs
+
+gps-days-requires : tie.Need-gps-days-requires
+gps-days-requires c κs = search needs
+
+later-requires : tie.Need-later-requires
+later-requires c κs = search needs
+
+tai-answer-requires : tie.Need-tai-answer-requires
+tai-answer-requires c κs = search needs
+
+returns : tie.Need-returns
+unfolding answerOf converted
+returns c = c .tai-answer .ensures ∙ c .before .later .ensures ∙ moved plus (c .before .before .before .finite-jd .ensures) (c .before .before .gps-days .ensures)
+
+pub gps-to-tai-spec : {M : Type 1} → statement M
+gps-to-tai-spec =
+    tie.close
+    (tie.spec finite-jd-requires gps-days-requires later-requires tai-answer-requires returns)

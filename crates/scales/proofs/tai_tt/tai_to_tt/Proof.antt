@@ -1,0 +1,29 @@
+-- `scales::tai_tt::tai_to_tt` meets its contract. Assumes nothing.
+use mathlib.Core.Path.{_∙_}
+use Rattle.scales.specs.Formulas.{plus}
+use Rattle.scales.specs.Conversions.{converted, answerOf}
+use Rattle.scales.proofs.Outcomes.{moved}
+use borrow.Author.Needs.{needs}
+use Rattle.scales.proofs.tai_tt.tai_to_tt.Statement.{statement}
+use Rattle.scales.proofs.tai_tt.tai_to_tt.Tie as tie
+
+finite-jd-requires : tie.Need-finite-jd-requires
+finite-jd-requires c κs = search needs
+
+tt-days-requires : tie.Need-tt-days-requires
+tt-days-requires c κs = search needs
+
+later-requires : tie.Need-later-requires
+later-requires c κs = search needs
+
+tt-answer-requires : tie.Need-tt-answer-requires
+tt-answer-requires c κs = search needs
+
+returns : tie.Need-returns
+unfolding answerOf converted
+returns c = c .tt-answer .ensures ∙ c .before .later .ensures ∙ moved plus (c .before .before .before .finite-jd .ensures) (c .before .before .tt-days .ensures)
+
+pub tai-to-tt-spec : {M : Type 1} → statement M
+tai-to-tt-spec =
+    tie.close
+    (tie.spec finite-jd-requires tt-days-requires later-requires tt-answer-requires returns)

@@ -1,0 +1,36 @@
+-- `scales::tcb_tdb::tdb_to_tcb` meets its contract. Assumes nothing.
+use mathlib.Core.Path.{sym, ap, _∙_}
+use Rattle.refusals.specs.Outcome.{answer}
+use Rattle.julian.specs.JulianDate.{julianOutcome}
+use Rattle.scales.specs.Scales.{tcbOutcome}
+use Rattle.scales.specs.Formulas.{tdbToTcb}
+use Rattle.scales.specs.Conversions.{changed, converted, answerOf}
+use Rattle.scales.proofs.Outcomes.{went, stopped}
+use borrow.Author.Needs.{needs}
+use Rattle.scales.proofs.tcb_tdb.tdb_to_tcb.Statement.{statement}
+use Rattle.scales.proofs.tcb_tdb.tdb_to_tcb.Tie as tie
+
+finite-jd-requires : tie.Need-finite-jd-requires
+finite-jd-requires c κs = search needs
+
+enum-known-jd : tie.Need-enum-known-jd
+enum-known-jd c = search needs
+
+as-tcb-requires : tie.Need-as-tcb-requires
+as-tcb-requires c κs = search needs
+
+enum-known-n : tie.Need-enum-known-n
+enum-known-n c = search needs
+
+returns : tie.Need-returns
+unfolding answerOf converted changed tcbOutcome julianOutcome
+returns c = ap answer (c .as-tcb .ensures) ∙ sym (went (changed tdbToTcb) (sym (c .before .before .before .before .finite-jd .ensures) ∙ ap julianOutcome (c .before .before .jd .given .1)))
+
+returns-2 : tie.Need-returns-2
+unfolding answerOf converted tcbOutcome julianOutcome
+returns-2 c = sym (stopped (changed tdbToTcb) (sym (c .before .before .before .finite-jd .ensures) ∙ ap julianOutcome (c .before .n .given .1)))
+
+pub tdb-to-tcb-spec : {M : Type 1} → statement M
+tdb-to-tcb-spec =
+    tie.close
+    (tie.spec finite-jd-requires enum-known-jd as-tcb-requires enum-known-n returns returns-2)

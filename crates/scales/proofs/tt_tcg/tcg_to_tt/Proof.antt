@@ -1,0 +1,36 @@
+-- `scales::tt_tcg::tcg_to_tt` meets its contract. Assumes nothing.
+use mathlib.Core.Path.{sym, ap, _∙_}
+use Rattle.refusals.specs.Outcome.{answer}
+use Rattle.julian.specs.JulianDate.{julianOutcome}
+use Rattle.scales.specs.Scales.{ttOutcome}
+use Rattle.scales.specs.Formulas.{tcgToTt}
+use Rattle.scales.specs.Conversions.{changed, converted, answerOf}
+use Rattle.scales.proofs.Outcomes.{went, stopped}
+use borrow.Author.Needs.{needs}
+use Rattle.scales.proofs.tt_tcg.tcg_to_tt.Statement.{statement}
+use Rattle.scales.proofs.tt_tcg.tcg_to_tt.Tie as tie
+
+finite-jd-requires : tie.Need-finite-jd-requires
+finite-jd-requires c κs = search needs
+
+enum-known-jd : tie.Need-enum-known-jd
+enum-known-jd c = search needs
+
+as-tt-requires : tie.Need-as-tt-requires
+as-tt-requires c κs = search needs
+
+enum-known-n : tie.Need-enum-known-n
+enum-known-n c = search needs
+
+returns : tie.Need-returns
+unfolding answerOf converted changed ttOutcome julianOutcome
+returns c = ap answer (c .as-tt .ensures) ∙ sym (went (changed tcgToTt) (sym (c .before .before .before .before .finite-jd .ensures) ∙ ap julianOutcome (c .before .before .jd .given .1)))
+
+returns-2 : tie.Need-returns-2
+unfolding answerOf converted ttOutcome julianOutcome
+returns-2 c = sym (stopped (changed tcgToTt) (sym (c .before .before .before .finite-jd .ensures) ∙ ap julianOutcome (c .before .n .given .1)))
+
+pub tcg-to-tt-spec : {M : Type 1} → statement M
+tcg-to-tt-spec =
+    tie.close
+    (tie.spec finite-jd-requires enum-known-jd as-tt-requires enum-known-n returns returns-2)

@@ -1,0 +1,19 @@
+-- `scales::tt_tdb::tdb_to_tt_with_offset` meets its contract. Assumes nothing.
+use mathlib.Core.Path.{_∙_}
+use Rattle.scales.specs.Conversions.{answerOf}
+use borrow.Author.Needs.{needs}
+use Rattle.scales.proofs.tt_tdb.tdb_to_tt_with_offset.Statement.{statement}
+use Rattle.scales.proofs.tt_tdb.tdb_to_tt_with_offset.Tie as tie
+
+earlier-by-requires : tie.Need-earlier-by-requires
+earlier-by-requires c κs = search needs
+
+tt-answer-requires : tie.Need-tt-answer-requires
+tt-answer-requires c κs = search needs
+
+returns : tie.Need-returns
+unfolding answerOf
+returns c = c .tt-answer .ensures ∙ c .before .earlier-by .ensures
+
+pub tdb-to-tt-with-offset-spec : {M : Type 1} → statement M
+tdb-to-tt-with-offset-spec = tie.close (tie.spec earlier-by-requires tt-answer-requires returns)

@@ -1,0 +1,19 @@
+-- `scales::ut1_tai::ut1_to_tt_with_delta_t` meets its contract. Assumes nothing.
+use mathlib.Core.Path.{_∙_}
+use Rattle.scales.specs.Conversions.{answerOf}
+use borrow.Author.Needs.{needs}
+use Rattle.scales.proofs.ut1_tai.ut1_to_tt_with_delta_t.Statement.{statement}
+use Rattle.scales.proofs.ut1_tai.ut1_to_tt_with_delta_t.Tie as tie
+
+later-by-requires : tie.Need-later-by-requires
+later-by-requires c κs = search needs
+
+tt-answer-requires : tie.Need-tt-answer-requires
+tt-answer-requires c κs = search needs
+
+returns : tie.Need-returns
+unfolding answerOf
+returns c = c .tt-answer .ensures ∙ c .before .later-by .ensures
+
+pub ut1-to-tt-with-delta-t-spec : {M : Type 1} → statement M
+ut1-to-tt-with-delta-t-spec = tie.close (tie.spec later-by-requires tt-answer-requires returns)

@@ -1,0 +1,7 @@
+-- What the contracts and the theorems of `scales` speak of.
+pub mod Scales
+pub mod SmallerPart
+pub mod Formulas
+pub mod Conversions
+pub mod Ranges
+pub mod Meaning

@@ -1,0 +1,38 @@
+-- The ranges of dates and offsets that the theorems speak of, each as a test on floats, and what it is for an outcome to be a finite date. Assumes nothing.
+use mathlib.Core.Path.{_≡_}
+use mathlib.Core.Bool.{true, false}
+use mathlib.Core.Logic.{_⊎_}
+use Prim.Native.Nat.{ℕ}
+use lib.Dec.{T}
+use lib.IntN.{pos}
+use lib.Ieee.{Float, fin, binary64, fits, le}
+use lib.Ieee.Scale.{finite}
+use Rattle.floats.specs.Whole.{abs}
+use Rattle.constants.specs.Constants.{decimal}
+use Rattle.refusals.specs.Outcome.{Outcome, answer, refusal}
+use Rattle.julian.specs.declared.JulianDate.{JulianDate}
+
+-- an f64 at most c in size
+abbrev pub AtMost : Float → Float → Type 0
+AtMost c x = T (fits binary64 x) × T (le (abs x) c)
+
+-- 2 ^ k
+abbrev pub power : ℕ → Float
+power k = fin false 1 (pos k)
+
+-- document 01's range of an offset: at most 10 ^ 9 seconds in size
+abbrev pub Billion : Float → Type 0
+Billion s = AtMost (decimal 1000000000 0) s
+
+-- one part is at most 2 ^ 23 days in size and the other at most 1 day: the years -27000 to 18000, split at a day
+abbrev pub Practical : JulianDate → Type 0
+Practical d = (AtMost (power 23) (d .jd1) × AtMost (power 0) (d .jd2)) ⊎ (AtMost (power 0) (d .jd1) × AtMost (power 23) (d .jd2))
+
+-- at most half a day, in seconds
+abbrev pub HalfDay : Float → Type 0
+HalfDay s = AtMost (decimal 43200 0) s
+
+-- a date, both parts of it finite
+abbrev pub FiniteDate : Outcome JulianDate → Type 0
+FiniteDate (answer d) = (finite (d .jd1) ≡ true) × (finite (d .jd2) ≡ true)
+FiniteDate (refusal n) = ⊥
