@@ -1,8 +1,10 @@
 -- The outcome of a pair by the range test: an accepted pair is answered, and any other refused with 6. Assumes nothing.
 use mathlib.Core.Path.{_≡_, refl, ap, sym, _∙_}
 use mathlib.Core.Bool.{Bool, true, false, cond}
+use Prim.Native.Nat.{ℕ}
+use native.Mathlib.Omega.{arith}
 use lib.Ieee.{Float, binary64, add}
-use Rattle.refusals.specs.Outcome.{Outcome, answer, refusal}
+use Rattle.refusals.specs.Outcome.{answer, refusal}
 use Rattle.day_number.specs.declared.DayNumber.{DayNumber}
 use Rattle.day_number.specs.DayNumber.{inJulianRange, accepted, dayOf}
 use Rattle.day_number.specs.Answer.{dayNumberAndFraction}
@@ -19,3 +21,21 @@ refused x y e = ap (λ (b : Bool). cond b (answer (dayOf x y)) (refusal 6)) e
 pub tested : (x y : Float) (b u : Bool) → b ≡ inJulianRange (add binary64 x y) → b ≡ u → accepted x y ≡ u
 unfolding accepted
 tested x y b u e f = sym e ∙ f
+
+-- an answer is that of an accepted pair
+pub answer-is : (x y : Float) (d : DayNumber) → dayNumberAndFraction x y ≡ answer d → (accepted x y ≡ true) × (dayOf x y ≡ d)
+unfolding dayNumberAndFraction
+answer-is x y d = go (accepted x y)
+  where
+    go : (b : Bool) → cond b (answer (dayOf x y)) (refusal 6) ≡ answer d → (b ≡ true) × (dayOf x y ≡ d)
+    go true e = (refl, cc)
+    go false e = let w : _≡_ {A = ℕ} 0 1 = cc in let z : ⊥ = omega arith in absurd z
+
+-- a refusal is 6, that of a pair that is not accepted
+pub refusal-is : (x y : Float) (n : ℕ) → dayNumberAndFraction x y ≡ refusal n → (accepted x y ≡ false) × (n ≡ 6)
+unfolding dayNumberAndFraction
+refusal-is x y n = go (accepted x y)
+  where
+    go : (b : Bool) → cond b (answer (dayOf x y)) (refusal 6) ≡ refusal n → (b ≡ false) × (n ≡ 6)
+    go false e = (refl, cc)
+    go true e = let w : _≡_ {A = ℕ} 0 1 = cc in let z : ⊥ = omega arith in absurd z

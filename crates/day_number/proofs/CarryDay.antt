@@ -14,12 +14,12 @@ use Rattle.rounding.proofs.Exact.{add-exact, sub-exact}
 use Rattle.rounding.proofs.Compare.{lt-true, lt-false}
 use Rattle.rounding.proofs.Near.{sub-near}
 use Rattle.rounding.proofs.Optimal.{multiple}
-use Rattle.rounding.proofs.TwoSum.{dist}
-use Rattle.rounding.proofs.TwoSumFloat.{val-rep}
+use Rattle.rounding.proofs.Signed.{dist}
+use Rattle.rounding.proofs.Own.{val-rep}
 use Rattle.day_number.specs.declared.Kahan.{Kahan}
 use Rattle.day_number.specs.declared.Carried.{Carried}
-use Rattle.day_number.specs.DayNumber.{c-one, c-zero, c-quarter, c-eps, kahanOf, carryDay, carryEnd}
-use Rattle.day_number.proofs.Units.{G, W, L-W, W-pos, one-L, quarter-L, one-G, nought-G, eps-G, quarter}
+use Rattle.day_number.specs.DayNumber.{c-one, c-zero, c-minus-eps-4, c-minus-eps-2, kahanOf, carryDay, carryEnd}
+use Rattle.day_number.proofs.Units.{G, W, L-W, W-pos, one-L, minus-eps-4-L, one-G, nought-G, minus-eps-2-G, minus-eps-4}
 
 -- of a fraction z = p - n: `up` days carried
 pub record Settled (r : Carried) (z : Float) (p n : ℕ) : Type 0 where
@@ -42,10 +42,10 @@ four-W : 2 ^ 1022 ≡ 4 * W
 unfolding W
 four-W = refl
 
-pub less-one : (z : Float) (p n : ℕ) → Val z p n L → n ≤ p → p < n + 13510798882111488 * W → lt (sub binary64 z c-one) c-quarter ≡ false → ⊥
+pub less-one : (z : Float) (p n : ℕ) → Val z p n L → n ≤ p → p < n + 13510798882111488 * W → lt (sub binary64 z c-one) c-minus-eps-4 ≡ false → ⊥
 less-one z p n v h k test =
     let t = sub-near 1022 (lit≤ tt) (subst (λ (x : ℕ). p + 0 < n + L + x) (sym two-L) (omega (arith, L-W))) (subst (λ (x : ℕ). n + L < p + 0 + x) (sym two-L) (omega (arith, L-W))) v one-L in
-    let e : 0 + t .n ≤ t .p + W = lt-false L-pos (t .val) quarter-L test in
+    let e : 0 + t .n ≤ t .p + W = lt-false L-pos (t .val) minus-eps-4-L test in
     let o : 2 * (t .p + (n + L)) ≤ 2 * (t .n + (p + 0)) + 4 * W = subst (λ (x : ℕ). 2 * (t .p + (n + L)) ≤ 2 * (t .n + (p + 0)) + x) four-W (t .over) in
     fin (t .p) (t .n) o e
   where
@@ -54,9 +54,9 @@ less-one z p n v h k test =
 
 low-case : (κ : Kahan) (z : Float) (p n : ℕ) → Val z p n L → n ≤ p → p < n + 13510798882111488 * W → Settled (carryDay κ z) z p n
 unfolding carryDay
-low-case κ z p n v h k = go (lt (sub binary64 z c-one) c-quarter) refl _
+low-case κ z p n v h k = go (lt (sub binary64 z c-one) c-minus-eps-4) refl _
   where
-    go : (u : Bool) → lt (sub binary64 z c-one) c-quarter ≡ u → (r : Carried) → Settled (cond u (record { carry = 0; fraction = z }) r) z p n
+    go : (u : Bool) → lt (sub binary64 z c-one) c-minus-eps-4 ≡ u → (r : Carried) → Settled (cond u (record { carry = 0; fraction = z }) r) z p n
     go true test r = kept z p n v h (omega (arith, L-W))
     go false test r = absurd (less-one z p n v h k test)
 
@@ -109,27 +109,27 @@ record Ended (d : ℕ) (r : Carried) : Type 0 where
 
 end : (f : Float) (d : ℕ) → Val f d G G → G ≤ d → (r : Carried) → r ≡ carryEnd f → Ended d r
 unfolding carryEnd
-end f d v h r e = subst (λ (r : Carried). Ended d r) (sym e) (go (lt c-eps f) refl (lt c-zero f) refl)
+end f d v h r e = subst (λ (r : Carried). Ended d r) (sym e) (go (lt c-minus-eps-2 f) refl (lt c-zero f) refl)
   where
-    go : (a : Bool) → lt c-eps f ≡ a → (b : Bool) → lt c-zero f ≡ b → Ended d (cond a (record { carry = 1; fraction = cond b f c-zero }) (record { carry = 0; fraction = f }))
+    go : (a : Bool) → lt c-minus-eps-2 f ≡ a → (b : Bool) → lt c-zero f ≡ b → Ended d (cond a (record { carry = 1; fraction = cond b f c-zero }) (record { carry = 0; fraction = f }))
     go true x true y = record { carry = refl; val = v }
     go true x false y = let w : d + 0 ≤ 0 + G = lt-false (pow-pos 53) nought-G v y in record { carry = refl; val = val-move nought-G (omega arith) }
-    go false x b y = let w : d + 1 ≤ 0 + G = lt-false (pow-pos 53) eps-G v x in let z : ⊥ = omega arith in absurd z
+    go false x b y = let w : d + 1 ≤ 0 + G = lt-false (pow-pos 53) minus-eps-2-G v x in let z : ⊥ = omega arith in absurd z
 
 grid-case : (s z : Float) (d d' : ℕ) → Val z d 0 G → Val s d' 0 G → d < G + 1024 → d ≤ d' + 1024 → d' ≤ d + 1024 → G ≤ 2 * d
     → (r : Carried) → r ≡ carryDay (kahanOf s z) z → ((d < G) × (r ≡ record { carry = 0; fraction = z })) ⊎ ((G ≤ d) × Ended d r)
 unfolding carryDay
-grid-case s z d d' v w h1 h2 h3 h4 r e = go (lt (sub binary64 z c-one) c-quarter) refl e
+grid-case s z d d' v w h1 h2 h3 h4 r e = go (lt (sub binary64 z c-one) c-minus-eps-4) refl e
   where
     t : Val (sub binary64 z c-one) (d + 0) (0 + G) G
     t = sub-exact 53 (lit≤ tt) (omega arith) (omega arith) v one-G
 
-    go : (u : Bool) → lt (sub binary64 z c-one) c-quarter ≡ u
+    go : (u : Bool) → lt (sub binary64 z c-one) c-minus-eps-4 ≡ u
         → r ≡ cond u (record { carry = 0; fraction = z }) (carryEnd (add binary64 (sub binary64 s c-one) (add binary64 (sub binary64 z s) (sub binary64 (sub binary64 s (sub binary64 s c-one)) c-one))))
         → ((d < G) × (r ≡ record { carry = 0; fraction = z })) ⊎ ((G ≤ d) × Ended d r)
-    go true test q = let y : (d + 0) * 2 + 1 < 0 + (0 + G) * 2 = lt-true (pow-pos 54) (val-scale 2 t) quarter test in inl (omega arith, q)
+    go true test q = let y : (d + 0) * 2 + 1 < 0 + (0 + G) * 2 = lt-true (pow-pos 54) (val-scale 2 t) minus-eps-4 test in inl (omega arith, q)
     go false test q =
-        let y : 0 + (0 + G) * 2 ≤ (d + 0) * 2 + 1 = lt-false (pow-pos 54) (val-scale 2 t) quarter test in
+        let y : 0 + (0 + G) * 2 ≤ (d + 0) * 2 + 1 = lt-false (pow-pos 54) (val-scale 2 t) minus-eps-4 test in
         let b : G ≤ d = omega arith in
         let s4 : Val (sub binary64 s c-one) (d' + 0) (0 + G) G = sub-exact 53 (lit≤ tt) (omega arith) (omega arith) w one-G in
         let x1 : Val (sub binary64 s (sub binary64 s c-one)) G 0 G = val-move (sub-exact 53 (lit≤ tt) (omega arith) (omega arith) w s4) (omega arith) in

@@ -1,22 +1,24 @@
--- Off the grid, how near: the compensation takes the sums' own errors back, so that the sum and its correction together are off by 8 * 2 ^ -54 at most.
--- Assumes nothing.
+-- Off the grid, how near: the compensation finds exactly what a sum loses, so that the sum and its correction together are off by 2 ^ -93 for each fraction, and the
+-- day's fraction by 5 * 2 ^ -54 at most. Assumes nothing.
 use mathlib.Core.Path.{_≡_, refl, sym, ap, _∙_, subst}
 use mathlib.Core.Bool.{Bool, true, false, cond}
 use Prim.Native.Nat.{ℕ, _+_, _*_, _^_, _≤_, _<_}
 use native.Mathlib.Omega.{arith}
-use lib.Dec.{lit≤}
-use lib.Ieee.{Float, binary64, add, sub, neg, lt, le}
+use lib.Dec.{T, lit≤, lit<}
+use lib.Ieee.{Float, binary64, add, sub, lt, le, fits}
 use lib.Ieee.Fits.{add-fits}
 use Rattle.rounding.specs.Value.{Val, L}
-use Rattle.rounding.proofs.Value.{L-pos, neg-val}
+use Rattle.rounding.proofs.Value.{L-pos, val-unique, add-rounds}
+use Rattle.rounding.proofs.Signed.{dist-le}
 use Rattle.rounding.proofs.Compare.{lt-true, le-true}
 use Rattle.rounding.proofs.Near.{add-near}
 use Rattle.rounding.proofs.Chain.{Close, exactly, close-move, close-neg}
-use Rattle.floats.specs.Whole.{abs}
+use Rattle.rounding.proofs.TwoSumFloat.{Exact}
+use Rattle.rounding.proofs.Compensated.{compensated-either}
 use Rattle.day_number.specs.declared.Kahan.{Kahan}
 use Rattle.day_number.specs.declared.Summed.{Summed}
 use Rattle.day_number.specs.DayNumber.{c-one, c-zero, compensation, addFraction, borrowSum, borrowFraction}
-use Rattle.day_number.proofs.Units.{W, L-W, W-pos, Z, W-Z, Z-W, one-L, nought-L}
+use Rattle.day_number.proofs.Units.{W, L-W, W-pos, Z, Z-W, one-L, nought-L}
 use Rattle.day_number.proofs.CarryDay.{minus-one}
 
 -- sums of less than K are off by w at most
@@ -35,19 +37,15 @@ pub law2 : Law (2 * L) (2 * W)
 unfolding L W
 law2 = near 1022 (2 * 2 ^ 1074) (2 * 2 ^ 1020) (lit≤ tt) refl refl
 
-pub law1 : Law L W
+law1 : Law L W
 unfolding L W
 law1 = near 1021 (2 ^ 1074) (2 ^ 1020) (lit≤ tt) refl refl
 
-pub law0 : Law (32768 * W) Z
+law0 : Law (32768 * W) Z
 unfolding L W Z
 law0 = near 982 (32768 * 2 ^ 1020) (2 ^ 981) (lit≤ tt) refl refl
 
-subs : (K w : ℕ) → Law K w → (x y : Float) (p n q m : ℕ) → p + m < n + q + K → n + q < p + m + K → Val x p n L → Val y q m L → Close L (sub binary64 x y) (p + m) (n + q) w
-unfolding sub
-subs K w law x y p n q m u l v z = law x (neg y) p n m q u l v (neg-val z)
-
--- ---- one more fraction
+-- ---- one more fraction: the sum and its correction together, with `up` days carried, are A - B to within e
 pub record Tot (k : Summed) (up A B e : ℕ) : Type 0 where
   pub p : ℕ
   pub n : ℕ
@@ -58,71 +56,68 @@ pub record Tot (k : Summed) (up A B e : ℕ) : Type 0 where
   pub over : p + a + (B + up * L) ≤ n + b + A + e
   pub under : n + b + A ≤ p + a + (B + up * L) + e
 
-module _ (K w : ℕ) (law : Law K w) (s k f : Float) (p n a b Q M : ℕ) (vs : Val s p n L) (vk : Val k a b L) (vf : Val f Q M L)
-    (s1 : p + 4 * W < n + K) (s2 : n + 4 * W < p + K) (f1 : Q + 4 * W < M + K) (f2 : M + 4 * W < Q + K) (k1 : a ≤ b + 64 * W) (k2 : b ≤ a + 64 * W)
-    (t1 : p + Q < n + M + 2 * L) (t2 : n + M < p + Q + 2 * L) (hw : w ≤ 2 * W) where
-  t : Close L (add binary64 s f) (p + Q) (n + M) (2 * W)
-  t = law2 s f p n Q M t1 t2 vs vf
+far : 32 * (2 * L) < 2 ^ 2098
+unfolding L
+far = lit< tt
 
-  -- what is lost
-  lose : (u : Bool) (x y : ℕ) → Val (add binary64 s f) x y L → x + (n + M) ≤ y + (p + Q) + 2 * W → y + (p + Q) ≤ x + (n + M) + 2 * W
-      → Close L (cond u (add binary64 (sub binary64 s (add binary64 s f)) f) (add binary64 (sub binary64 f (add binary64 s f)) s)) (p + Q + y) (n + M + x) (w + Z)
-  lose true x y v o u =
-      let d = subs K w law s (add binary64 s f) p n x y (omega arith) (omega arith) vs v in
-      let e = law0 (sub binary64 s (add binary64 s f)) f (d .p) (d .n) Q M (omega (arith, d .over, W-pos)) (omega (arith, d .under, W-pos)) (d .val) vf in
-      record { p = e .p; n = e .n; val = e .val; over = omega (arith, d .over, e .over); under = omega (arith, d .under, e .under) }
-  lose false x y v o u =
-      let d = subs K w law f (add binary64 s f) Q M x y (omega arith) (omega arith) vf v in
-      let e = law0 (sub binary64 f (add binary64 s f)) s (d .p) (d .n) p n (omega (arith, d .over, W-pos)) (omega (arith, d .under, W-pos)) (d .val) vs in
-      record { p = e .p; n = e .n; val = e .val; over = omega (arith, d .over, e .over); under = omega (arith, d .under, e .under) }
+module _ (κ : Kahan) (f : Float) (fs : T (fits binary64 (κ .sum))) (ff : T (fits binary64 f)) (p n a b Q M : ℕ) (vs : Val (κ .sum) p n L) (vk : Val (κ .correction) a b L) (vf : Val f Q M L)
+    (s1 : p ≤ n + 2 * L) (s2 : n ≤ p + 2 * L) (f1 : Q ≤ M + 2 * L) (f2 : M ≤ Q + 2 * L) (k1 : a ≤ b + 64 * W) (k2 : b ≤ a + 64 * W) (t1 : p + Q + 2 * W < n + M + 2 * L) (t2 : n + M < p + Q + 2 * L) where
+  abbrev temp : Float
+  temp = add binary64 (κ .sum) f
 
-  fixed : (x y : ℕ) → Val (add binary64 s f) x y L → x + (n + M) ≤ y + (p + Q) + 2 * W → y + (p + Q) ≤ x + (n + M) + 2 * W
-      → Close L (add binary64 k (compensation s f (add binary64 s f))) (a + (p + Q + y)) (b + (n + M + x)) (w + 2 * Z)
+  -- what is lost is found exactly
+  lost : Exact temp (compensation (κ .sum) f temp) (p + Q) (n + M)
   unfolding compensation
-  fixed x y v o u =
-      let c = lose (le (abs f) (abs s)) x y v o u in
-      let e = law0 k (compensation s f (add binary64 s f)) a b (c .p) (c .n) (omega (arith, c .over, W-pos, W-Z)) (omega (arith, c .under, W-pos, W-Z)) vk (c .val) in
-      record { p = e .p; n = e .n; val = e .val; over = omega (arith, c .over, e .over); under = omega (arith, c .under, e .under) }
+  lost = compensated-either fs ff vs vf (dist-le p n (2 * L) s1 s2) (dist-le Q M (2 * L) f1 f2) far (add-rounds binary64 L-pos vs vf)
 
-  settle : (u : Bool) (c x y : ℕ) → le c-one (add binary64 s f) ≡ u → Val (add binary64 s f) x y L → x < y + 2 * L → Close L (add binary64 k (compensation s f (add binary64 s f))) (a + (p + Q + y)) (b + (n + M + x)) (w + 2 * Z)
-      → (r : Summed) → r ≡ cond u (record { carry = c + 1; kahan = record { sum = sub binary64 (add binary64 s f) c-one; correction = add binary64 k (compensation s f (add binary64 s f)) } }) (record { carry = c; kahan = record { sum = add binary64 s f; correction = add binary64 k (compensation s f (add binary64 s f)) } })
-      → (up : ℕ) × (r .carry ≡ c + up) × Tot r up (p + a + Q) (n + b + M) (w + 2 * Z)
-  settle true c x y test v h g r q =
-      let o : L + y ≤ x + 0 = le-true L-pos one-L v test in (
+  -- and it is small, as is the correction
+  fixed : (x y u v : ℕ) → Val temp x y L → Val (compensation (κ .sum) f temp) u v L → x + u + (n + M) ≡ y + v + (p + Q) → (x < y + 2 * L) × Close L (add binary64 (κ .correction) (compensation (κ .sum) f temp)) (a + u) (b + v) Z
+  fixed x y u v w l e =
+      let t = law2 (κ .sum) f p n Q M (omega arith) t2 vs vf in
+      let q = val-unique w (t .val) in
+      (omega (arith, t .over), law0 (κ .correction) (compensation (κ .sum) f temp) a b u v (omega (arith, t .under, W-pos)) (omega (arith, t .over, W-pos)) vk l)
+
+  settle : (g : Bool) (c x y u v : ℕ) → le c-one temp ≡ g → Val temp x y L → x < y + 2 * L → x + u + (n + M) ≡ y + v + (p + Q) → Close L (add binary64 (κ .correction) (compensation (κ .sum) f temp)) (a + u) (b + v) Z
+      → (r : Summed) → r ≡ cond g (record { carry = c + 1; kahan = record { sum = sub binary64 temp c-one; correction = add binary64 (κ .correction) (compensation (κ .sum) f temp) } }) (record { carry = c; kahan = record { sum = temp; correction = add binary64 (κ .correction) (compensation (κ .sum) f temp) } })
+      → (up : ℕ) × (r .carry ≡ c + up) × Tot r up (p + a + Q) (n + b + M) Z
+  settle true c x y u v test w h e k r q =
+      let o : L + y ≤ x + 0 = le-true L-pos one-L w test in (
         1,
         ap (λ (z : Summed). z .carry) q,
-        subst (λ (z : Summed). Tot z 1 (p + a + Q) (n + b + M) (w + 2 * Z)) (sym q) (record {
+        subst (λ (z : Summed). Tot z 1 (p + a + Q) (n + b + M) Z) (sym q) (record {
           p = x;
           n = y + L;
-          a = g .p;
-          b = g .n;
-          sum = minus-one (add binary64 s f) x y (add-fits binary64 s f) v (omega arith) h;
-          correction = g .val;
-          over = omega (arith, g .over);
-          under = omega (arith, g .under);
+          a = k .p;
+          b = k .n;
+          sum = minus-one temp x y (add-fits binary64 (κ .sum) f) w (omega arith) h;
+          correction = k .val;
+          over = omega (arith, k .over);
+          under = omega (arith, k .under);
         }),
       )
-  settle false c x y test v h g r q = (
+  settle false c x y u v test w h e k r q = (
     0,
     ap (λ (z : Summed). z .carry) q ∙ plain c,
-    subst (λ (z : Summed). Tot z 0 (p + a + Q) (n + b + M) (w + 2 * Z)) (sym q) (record {
+    subst (λ (z : Summed). Tot z 0 (p + a + Q) (n + b + M) Z) (sym q) (record {
       p = x;
       n = y;
-      a = g .p;
-      b = g .n;
-      sum = v;
-      correction = g .val;
-      over = omega (arith, g .over);
-      under = omega (arith, g .under);
+      a = k .p;
+      b = k .n;
+      sum = w;
+      correction = k .val;
+      over = omega (arith, k .over);
+      under = omega (arith, k .under);
     }),
   )
     where
       plain : (c : ℕ) → c ≡ c + 0
       plain c = omega arith
 
-  pub tight : (c : ℕ) → p + Q + 2 * W < n + M + 2 * L → (up : ℕ) × (addFraction c (record { sum = s; correction = k }) f .carry ≡ c + up) × Tot (addFraction c (record { sum = s; correction = k }) f) up (p + a + Q) (n + b + M) (w + 2 * Z)
+  pub tight : (c : ℕ) → (up : ℕ) × (addFraction c κ f .carry ≡ c + up) × Tot (addFraction c κ f) up (p + a + Q) (n + b + M) Z
   unfolding addFraction
-  tight c h = settle (le c-one (add binary64 s f)) c (t .p) (t .n) refl (t .val) (omega (arith, t .over)) (fixed (t .p) (t .n) (t .val) (t .over) (t .under)) (addFraction c (record { sum = s; correction = k }) f) refl
+  tight c =
+      let k = fixed (lost .sp) (lost .sn) (lost .ep) (lost .en) (lost .sum) (lost .err) (lost .total) in
+      settle (le c-one temp) c (lost .sp) (lost .sn) (lost .ep) (lost .en) refl (lost .sum) (k .0) (lost .total) (k .1) (addFraction c κ f) refl
 
 -- ---- into [0, 1)
 add-with : (K w : ℕ) → Law K w → {x y : Float} {P N Q M e e' : ℕ} → Close L x P N e → Close L y Q M e' → P + Q + (e + e') < N + M + K → N + M + (e + e') < P + Q + K → Close L (add binary64 x y) (P + Q) (N + M) (e + e' + w)

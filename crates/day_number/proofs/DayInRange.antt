@@ -15,7 +15,8 @@ use Rattle.day_number.specs.declared.Normalized.{Normalized}
 use Rattle.day_number.specs.declared.DayNumber.{DayNumber}
 use Rattle.day_number.specs.DayNumber.{accepted, sumFractions, normalizeFraction, split, rest, total, dayNumber, dayFraction, dayOf}
 use Rattle.day_number.specs.Sums.{Sums}
-use Rattle.day_number.proofs.Accepted.{Accepted, accepted-pair}
+use Rattle.day_number.proofs.Pair.{Accepted}
+use Rattle.day_number.proofs.Accepted.{accepted-pair}
 use Rattle.day_number.proofs.TotalDay.{R, read-a, read-b, s4}
 
 -- ---- the day number as a sum of plain counts

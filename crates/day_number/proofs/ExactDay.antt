@@ -1,30 +1,29 @@
 -- The day and the fraction of two parts on the grid are document 01's exact day and exact fraction, which are fixed by the parts' exact sum. Assumes nothing.
 use mathlib.Core.Path.{_≡_, refl, sym, ap, _∙_, subst}
-use mathlib.Core.Bool.{Bool, true, false, cond, true≢false}
-use Prim.Native.Nat.{ℕ, zero, suc, _+_, _-_, _*_, _/_, _%_, _^_, _≤_, _<_}
+use mathlib.Core.Bool.{Bool, true, false, true≢false}
+use Prim.Native.Nat.{ℕ, suc, _+_, _-_, _*_, _^_, _≤_, _<_}
 use native.Mathlib.Nat.{div-add-mod', mod-lt, add-zero, mul-one}
 use native.Mathlib.Omega.{arith}
 use lib.Dec.{T, lit≤}
 use lib.Pow.{pow-pos}
 use lib.IntN.{ℤ, pos, negsuc, _+ℤ_}
-use lib.Ieee.{Float, nan, inf, fin, binary64, add, le, fits, round, ofBits, up, down}
+use lib.Ieee.{Float, binary64, add, le, fits, round, ofBits}
 use lib.Ieee.Exact.{HasValue}
 use lib.Ieee.Fits.{round-fits}
 use Rattle.rounding.specs.Value.{Signed, Val, Rounds}
 use Rattle.rounding.proofs.Value.{add-rounds, rounds-move}
 use Rattle.rounding.proofs.Exact.{exact-has}
 use Rattle.rounding.proofs.Casts.{plusZ, minusZ, add-pair}
-use Rattle.refusals.specs.Outcome.{answer, refusal}
+use Rattle.refusals.specs.Outcome.{answer}
 use Rattle.day_number.specs.declared.DayNumber.{DayNumber}
 use Rattle.day_number.specs.DayNumber.{inJulianRange, accepted, dayNumber, dayFraction, dayOf}
 use Rattle.day_number.specs.Answer.{dayNumberAndFraction}
 use Rattle.day_number.specs.ExactDay.{OnGrid, exactSum, InJulianRange, wholeDays, unitsLeft, exactDay, exactFraction, exactDayNumber, fractionOf, DayAt}
 use Rattle.day_number.specs.MinusZero.{minusZero}
-use Rattle.day_number.proofs.Units.{S}
 use Rattle.day_number.proofs.Answer.{answered, refused}
 use Rattle.day_number.proofs.GridPairs.{Exactly, grid-pair, grid-accepted}
 use Rattle.day_number.proofs.MinusZero.{Unsigned, some-size}
-use Rattle.day_number.proofs.FractionSign.{fraction-sign}
+use Rattle.day_number.proofs.FractionSign.{fraction-unsigned}
 use Rattle.day_number.proofs.FloatUnique.{float-unique}
 
 -- ---- the exact day is the floor, and the exact fraction is what is left; nothing else is
@@ -84,9 +83,9 @@ day-is x y fx fy a b e = go (grid-pair x y fx fy e (plusZ (a .units)) (minusZ (a
         let d : DayAt (exactSum a b) (dayNumber x y) (k .units) = record { below = k .below; total = omega (arith, k .total, add-pair (a .units) (b .units)) } in
         let o = only d in
         ap (λ (z : ℤ). record { day = z; fraction = dayFraction x y }) (o .0)
-        ∙ ap (λ (z : Float). record { day = exactDay (exactSum a b); fraction = z }) (fraction-is (dayFraction x y) (k .units) (k .below) (fraction-sign x y) (k .val) ∙ ap fractionOf (o .1))
+        ∙ ap (λ (z : Float). record { day = exactDay (exactSum a b); fraction = z }) (fraction-is (dayFraction x y) (k .units) (k .below) (fraction-unsigned x y) (k .val) ∙ ap fractionOf (o .1))
 
--- THE EXACT DAY: two parts on the grid, their exact sum from -68569.5 to 10 ^ 9, are answered with the exact day and the exact fraction
+-- two parts on the grid whose exact sum is from -68569.5 to 10 ^ 9 are answered with the exact day and the exact fraction
 pub exact : (x y : Float) → T (fits binary64 x) → T (fits binary64 y) → (a : OnGrid x) (b : OnGrid y) → InJulianRange (exactSum a b) → dayNumberAndFraction x y ≡ answer (exactDayNumber (exactSum a b))
 exact x y fx fy a b r =
     let s = add-pair (a .units) (b .units) in
@@ -126,7 +125,7 @@ same-test {z} {z'} {P} {N} r r' = ap inJulianRange (r .eq) ∙ go (r .sign) (r' 
 sum-test : {x y : Float} (a : OnGrid x) (b : OnGrid y) → Rounds binary64 (add binary64 x y) (plusZ (exactSum a b)) (minusZ (exactSum a b)) (2 ^ 52)
 sum-test a b = rounds-move (add-rounds binary64 (pow-pos 52) (a .val) (b .val)) (omega (arith, add-pair (a .units) (b .units)))
 
--- ALIKE: two divisions of one exact sum on the grid have one outcome, to the bit
+-- two divisions of one exact sum on the grid have one outcome, to the bit
 pub alike : (x y x' y' : Float) → T (fits binary64 x) → T (fits binary64 y) → T (fits binary64 x') → T (fits binary64 y') → (a : OnGrid x) (b : OnGrid y) (a' : OnGrid x') (b' : OnGrid y')
     → exactSum a b ≡ exactSum a' b' → dayNumberAndFraction x y ≡ dayNumberAndFraction x' y'
 unfolding accepted

@@ -1,18 +1,22 @@
 -- No fraction of a day is -0.0, whatever the two floats were: the sum that it comes from starts at 0.5. Assumes nothing.
-use mathlib.Core.Path.{refl}
+use mathlib.Core.Path.{_≡_, refl, subst}
 use mathlib.Core.Bool.{Bool, true, false, cond}
 use Prim.Native.Nat.{ℕ, _+_}
 use lib.Dec.{T}
 use lib.Ieee.{Float, binary64, add, sub, le, lt, fits, ofBits}
 use lib.Ieee.Bits.{ofBits-fits}
 use lib.Ieee.Fits.{add-fits, sub-fits}
-use Rattle.floats.specs.Whole.{nearestInt}
 use Rattle.day_number.specs.declared.Kahan.{Kahan}
 use Rattle.day_number.specs.declared.Summed.{Summed}
 use Rattle.day_number.specs.declared.Carried.{Carried}
 use Rattle.day_number.specs.declared.Normalized.{Normalized}
-use Rattle.day_number.specs.DayNumber.{c-one, c-half, c-zero, c-quarter, c-eps, compensation, kahanStart, kahanOf, addFraction, sumFractions, borrowSum, borrowFraction, borrowDay, carryDay, carryEnd, moved, normalizeFraction, split, rest, dayFraction}
+use Rattle.day_number.specs.DayNumber.{c-one, c-half, c-zero, c-minus-eps-4, c-minus-eps-2, compensation, kahanStart, kahanOf, addFraction, sumFractions, borrowSum, borrowFraction, borrowDay, carryDay, carryEnd, moved, normalizeFraction, split, rest, dayFraction, dayOf}
+use Rattle.day_number.specs.declared.DayNumber.{DayNumber}
+use Rattle.day_number.specs.Answer.{dayNumberAndFraction}
 use Rattle.day_number.specs.MinusZero.{minusZero}
+use Rattle.refusals.specs.Outcome.{answer}
+use Rattle.day_number.proofs.Answer.{answer-is}
+use Rattle.day_number.proofs.Parts.{rest-fits}
 use Rattle.day_number.proofs.MinusZero.{Unsigned, add-unsigned, sub-unsigned}
 
 one-fits : T (fits binary64 c-one)
@@ -51,7 +55,7 @@ both f g ff fg = add-step (addFraction 0 kahanStart f .carry) (addFraction 0 kah
 
 carry-step : (κ : Kahan) (z : Float) → Unsigned z → Started κ → Unsigned (carryDay κ z .fraction)
 unfolding carryDay carryEnd
-carry-step κ z u k = go (lt (sub binary64 z c-one) c-quarter) (lt c-eps left) (lt c-zero left)
+carry-step κ z u k = go (lt (sub binary64 z c-one) c-minus-eps-4) (lt c-minus-eps-2 left) (lt c-zero left)
   where
     left : Float
     left = add binary64 (sub binary64 (κ .sum) c-one) (add binary64 (κ .correction) (sub binary64 (sub binary64 (κ .sum) (sub binary64 (κ .sum) c-one)) c-one))
@@ -91,7 +95,11 @@ normal-step κ k = go (lt z c-zero)
     go true = carry-step (kahanOf (borrowSum s) w) w borrowed (record { sum = more; correction = sub-fits binary64 w (borrowSum s) })
     go false = carry-step (kahanOf s z) z (add-unsigned (κ .correction) (k .correction) (k .sum)) (record { sum = k .sum; correction = sub-fits binary64 z s })
 
--- THE FRACTION of any two floats is not -0.0
-pub fraction-sign : (x y : Float) → Unsigned (dayFraction x y)
-unfolding dayFraction split rest
-fraction-sign x y = normal-step (sumFractions (rest x) (rest y) .kahan) (both (rest x) (rest y) (sub-fits binary64 x (nearestInt x)) (sub-fits binary64 y (nearestInt y)))
+pub fraction-unsigned : (x y : Float) → Unsigned (dayFraction x y)
+unfolding dayFraction split
+fraction-unsigned x y = normal-step (sumFractions (rest x) (rest y) .kahan) (both (rest x) (rest y) (rest-fits x) (rest-fits y))
+
+-- the fraction of every answered pair of floats
+pub fraction-sign : (x y : Float) (d : DayNumber) → dayNumberAndFraction x y ≡ answer d → minusZero (d .fraction) ≡ false
+unfolding dayOf
+fraction-sign x y d e = subst (λ (z : DayNumber). minusZero (z .fraction) ≡ false) (answer-is x y d e .1) (fraction-unsigned x y .sign)

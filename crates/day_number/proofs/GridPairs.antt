@@ -1,6 +1,6 @@
 -- An accepted pair of parts on the grid of 2 ^ -52: the day and the fraction are exact. Assumes nothing.
 use mathlib.Core.Path.{_≡_, refl, sym, ap, _∙_, subst}
-use mathlib.Core.Bool.{Bool, true, false}
+use mathlib.Core.Bool.{Bool, true}
 use Prim.Native.Nat.{ℕ, _+_, _*_, _^_, _≤_, _<_}
 use native.Mathlib.Nat.{add-mul, le-of-eq, le-trans, mul-le-mul-right}
 use native.Mathlib.Omega.{arith}
@@ -9,17 +9,18 @@ use lib.IntN.{ℤ}
 use lib.Ieee.{Float, binary64, fits, toSigned}
 use lib.Ieee.Exact.{HasValue}
 use Rattle.rounding.specs.Value.{Signed, Val, L}
-use Rattle.rounding.proofs.Value.{val-scale, has-scale}
-use Rattle.rounding.proofs.Own.{Rep, own, plus-of, minus-of}
-use Rattle.rounding.proofs.TwoSumFloat.{has-finite, has-unique}
+use Rattle.rounding.proofs.Value.{val-scale, val-unique, has-scale}
+use Rattle.rounding.proofs.Signed.{plus-of, minus-of, signed-le}
 use Rattle.rounding.proofs.Casts.{plusZ, minusZ}
 use Rattle.floats.specs.Whole.{nearestInt}
-use Rattle.day_number.specs.DayNumber.{accepted, rest, split, total, dayNumber, dayFraction}
+use Rattle.day_number.specs.DayNumber.{accepted, rest, sumFractions, split, total, dayNumber, dayFraction}
 use Rattle.day_number.proofs.Units.{S, C, E}
-use Rattle.day_number.proofs.NearestInt.{whole, plain-plus, plain-minus}
+use Rattle.day_number.proofs.SignedUnits.{has-val}
+use Rattle.day_number.proofs.NearestInt.{Whole, whole, plain-plus, plain-minus}
+use Rattle.day_number.proofs.Split.{Split}
 use Rattle.day_number.proofs.JulianRange.{exact-sum, accepted-lo, accepted-hi, accepts}
-use Rattle.day_number.proofs.Parts.{has-val, GridNumbers, grid-numbers}
-use Rattle.day_number.proofs.Accepted.{grid-range, grid-split}
+use Rattle.day_number.proofs.Parts.{GridNumbers, grid-numbers}
+use Rattle.day_number.proofs.PairOnGrid.{grid-range, grid-split}
 use Rattle.day_number.proofs.DayInRange.{total-is, number-is}
 
 -- in units of 2 ^ -52: (p - n) + (q - m) + 1/2 is the day and the fraction, which is 0 or more and below 1
@@ -28,14 +29,6 @@ pub record Exactly (p n q m : ℕ) (day : ℤ) (fraction : Float) : Type 0 where
   pub val : Val fraction units 0 (2 ^ 52)
   pub below : units < 2 ^ 52
   pub total : p + q + 2 ^ 51 + minusZ day * 2 ^ 52 ≡ n + m + plusZ day * 2 ^ 52 + units
-
-signed-le : (s : Bool) (P p n K : ℕ) → Signed s P p n → p ≤ n + K → n ≤ p + K → P ≤ K
-signed-le false P p n K i h k = omega arith
-signed-le true P p n K i h k = omega arith
-
-pub signed-pair : (s : Bool) (P p n : ℕ) → Signed s P p n → plus-of s P + n ≡ p + minus-of s P
-signed-pair false P p n i = omega arith
-signed-pair true P p n i = omega arith
 
 few-days : (P A : ℕ) → GridNumbers P A → P ≤ 2 ^ 62 * S → A < 2 ^ 63
 few-days P A g h = omega (arith, g .high)
@@ -46,29 +39,16 @@ module _ (x y : Float) (fx : T (fits binary64 x)) (fy : T (fits binary64 y)) (e 
   unfolding dayFraction L
   grid-pair = go (vx .sign) (vy .sign) (vx .size) (vy .size) (vx .has) (vy .has) (vx .is) (vy .is)
     where
-      rep : (x : Float) (s : Bool) (P : ℕ) → T (fits binary64 x) → HasValue x s P S → Rep (P * C)
-      rep x s P f v = let o = own x f (has-finite x s P S v) in subst Rep (has-unique x (o .sign) s (o .size) (P * C) L (o .has) (has-scale x s P S C v)) (o .rep)
-
       go : (s t : Bool) (P Q : ℕ) → HasValue x s P S → HasValue y t Q S → Signed s P p n → Signed t Q q m → Exactly p n q m (dayNumber x y) (dayFraction x y)
       go s t P Q v w i j =
-          let a = whole x s (P * C) fx (has-scale x s P S C v) (rep x s P fx v) in
-          let b = whole y t (Q * C) fy (has-scale y t Q S C w) (rep y t Q fy w) in
+          let a = whole x s (P * C) fx (has-scale x s P S C v) in
+          let b = whole y t (Q * C) fy (has-scale y t Q S C w) in
           let ga = grid-numbers P (a .0) (a .1 .numbers) in
           let gb = grid-numbers Q (b .0) (b .1 .numbers) in
           let r = grid-range s t P Q (exact-sum x y (plus-of s (P * C)) (minus-of s (P * C)) (plus-of t (Q * C)) (minus-of t (Q * C)) (has-val x s (P * C) L (has-scale x s P S C v)) (has-val y t (Q * C) L (has-scale y t Q S C w)) (accepted-lo x y e) (accepted-hi x y e)) in
-          let k = grid-split x y s t (P * C) (Q * C) P Q (a .0) (b .0) v w (a .1) (b .1) refl refl ga gb r in
           let sa = few-days P (a .0) ga (signed-le s P p n (2 ^ 62 * S) i h1 h2) in
           let sb = few-days Q (b .0) gb (signed-le t Q q m (2 ^ 62 * S) j h3 h4) in
-          record {
-            units = k .units;
-            val = k .val;
-            below = k .below;
-            total = subst (λ (z : ℤ). p + q + 2 ^ 51 + minusZ z * S ≡ n + m + plusZ z * S + k .units) (sym (number-is x y (k .up) (k .more) (k .down) (k .carry) (k .again) (k .borrow)))
-                (fin (plus-of s P) (minus-of s P) (plus-of t Q) (minus-of t Q) (plus-of s (a .0)) (minus-of s (a .0)) (plus-of t (b .0)) (minus-of t (b .0)) (plusZ (toSigned 63 (nearestInt x))) (minusZ (toSigned 63 (nearestInt x))) (plusZ (toSigned 63 (nearestInt y))) (minusZ (toSigned 63 (nearestInt y)))
-                (k .up) (k .more) (k .down) (k .units) (plusZ (total (nearestInt x) (nearestInt y) (k .up) (k .more) (k .down))) (minusZ (total (nearestInt x) (nearestInt y) (k .up) (k .more) (k .down)))
-                (signed-pair s P p n i) (signed-pair t Q q m j) (plain-plus s (a .0) _ sa (a .1 .plus)) (plain-minus s (a .0) _ sa (a .1 .minus)) (plain-plus t (b .0) _ sb (b .1 .plus)) (plain-minus t (b .0) _ sb (b .1 .minus))
-                (total-is (nearestInt x) (nearestInt y) (k .up) (k .more) (k .down) .is) (k .over) (k .under));
-          }
+          at (a .0) (b .0) (a .1) (b .1) sa sb (grid-split x y s t (P * C) (Q * C) P Q (a .0) (b .0) v w (a .1) (b .1) refl refl ga gb r)
         where
           fin : (P N Q M i l j o i' l' j' o' up more down units g h : ℕ) → P + n ≡ p + N → Q + m ≡ q + M → i' ≡ i → l' ≡ l → j' ≡ j → o' ≡ o
               → g + (l' + o' + 0 + (0 + down)) ≡ h + (i' + j' + up + (more + 0))
@@ -77,7 +57,21 @@ module _ (x y : Float) (fx : T (fits binary64 x)) (fy : T (fits binary64 y)) (e 
               → p + q + 2 ^ 51 + h * S ≡ n + m + g * S + units
           fin P N Q M i l j o i' l' j' o' up more down units g h e1 e2 e3 e4 e5 e6 e7 u v = omega arith
 
--- parts under 2 ^ 52 whose exact sum is from -68569.5 to 1e9 pass the range test
+          at : (A B : ℕ) → Whole (nearestInt x) s (P * C) A → Whole (nearestInt y) t (Q * C) B → A < 2 ^ 63 → B < 2 ^ 63
+              → Split S 0 (sumFractions (rest x) (rest y)) (split (rest x) (rest y)) (2 ^ 51 + (plus-of s P + minus-of s A * S) + (plus-of t Q + minus-of t B * S)) (minus-of s P + plus-of s A * S + (minus-of t Q + plus-of t B * S)) → Exactly p n q m (dayNumber x y) (split (rest x) (rest y) .fraction)
+          at A B wx wy sa sb k =
+              record {
+                units = k .units;
+                val = k .val;
+                below = k .below;
+                total = subst (λ (z : ℤ). p + q + 2 ^ 51 + minusZ z * S ≡ n + m + plusZ z * S + k .units) (sym (number-is x y (k .up) (k .more) (k .down) (k .carry) (k .again) (k .borrow)))
+                    (fin (plus-of s P) (minus-of s P) (plus-of t Q) (minus-of t Q) (plus-of s A) (minus-of s A) (plus-of t B) (minus-of t B) (plusZ (toSigned 63 (nearestInt x))) (minusZ (toSigned 63 (nearestInt x))) (plusZ (toSigned 63 (nearestInt y))) (minusZ (toSigned 63 (nearestInt y)))
+                    (k .up) (k .more) (k .down) (k .units) (plusZ (total (nearestInt x) (nearestInt y) (k .up) (k .more) (k .down))) (minusZ (total (nearestInt x) (nearestInt y) (k .up) (k .more) (k .down)))
+                    (val-unique (has-val x s P S v) vx) (val-unique (has-val y t Q S w) vy) (plain-plus s A _ sa (wx .plus)) (plain-minus s A _ sa (wx .minus)) (plain-plus t B _ sb (wy .plus)) (plain-minus t B _ sb (wy .minus))
+                    (total-is (nearestInt x) (nearestInt y) (k .up) (k .more) (k .down) .is) (k .over) (k .under));
+              }
+
+-- two parts whose exact sum is from -68569.5 to 1e9 pass the range test
 module _ (x y : Float) (p n q m : ℕ) (vx : Val x p n S) (vy : Val y q m S) (lo : 2 * (n + m) ≤ 2 * (p + q) + 137139 * S) (hi : p + q ≤ n + m + 1000000000 * S) where
   pub grid-accepted : accepted x y ≡ true
   unfolding E L

@@ -1,11 +1,11 @@
 -- The integer sum of the days: it stays within -68570 to 1e9, and no step of it wraps, though the casts of the parts' whole numbers saturate. Assumes nothing.
 use mathlib.Core.Path.{_≡_, sym, ap, _∙_}
 use mathlib.Core.Bool.{Bool, true, false}
-use Prim.Native.Nat.{ℕ, _+_, _*_, _≤_, _<_, min}
+use Prim.Native.Nat.{ℕ, _+_, _*_, _≤_, _<_}
 use native.Mathlib.Nat.{add-mul, le-of-eq, lt-of-le-of-lt, lt-of-lt-of-le, lt-of-mul-lt-mul-right}
 use native.Mathlib.Omega.{arith}
 use lib.IntN.{ℤ}
-use Rattle.rounding.proofs.Own.{plus-of, minus-of}
+use Rattle.rounding.proofs.Signed.{plus-of, minus-of}
 use Rattle.rounding.proofs.Casts.{plusZ, minusZ}
 use Rattle.day_number.specs.Sums.{Sums}
 use Rattle.day_number.proofs.NearestInt.{sat-plus, sat-minus}

@@ -13,13 +13,14 @@ use lib.Ieee.Order.{drop, kept}
 use lib.Ieee.Scale.{finite, overflow}
 use Rattle.rounding.specs.Value.{Val, Rounds, L}
 use Rattle.rounding.proofs.Value.{L-pos, add-rounds}
-use Rattle.rounding.proofs.Own.{Rep, plus-of, minus-of, signed-of}
+use Rattle.rounding.proofs.Signed.{plus-of, minus-of, signed-of, dist, dist-zero}
+use Rattle.rounding.proofs.Own.{Rep, rep-flip}
 use Rattle.rounding.proofs.Optimal.{step}
-use Rattle.rounding.proofs.Relative.{grid-step}
-use Rattle.rounding.proofs.TwoSum.{dist, RN, rn-le, rn-ge}
-use Rattle.rounding.proofs.TwoSumFloat.{step-has, At, at}
+use Rattle.rounding.proofs.Relative.{grid-step, step-has}
+use Rattle.rounding.proofs.TwoSum.{RN, rn-le, rn-ge}
+use Rattle.rounding.proofs.TwoSumFloat.{At, at}
 use Rattle.rounding.proofs.Compare.{le-true, le-show}
-use Rattle.day_number.specs.DayNumber.{c-min, c-max, inJulianRange, accepted}
+use Rattle.day_number.specs.DayNumber.{c-djmin, c-djmax, inJulianRange, accepted}
 use Rattle.day_number.proofs.Units.{E, E-L, E-pos, min-L, max-L}
 
 yes : (b : Bool) → T b → b ≡ true
@@ -27,14 +28,14 @@ yes true t = refl
 yes false t = absurd t
 
 -- ---- finite
-in-range : (z : Float) → T (le c-min z) → T (le z c-max) → T (finite z)
+in-range : (z : Float) → T (le c-djmin z) → T (le z c-djmax) → T (finite z)
 unfolding le lt eq ofBits
 in-range nan a b = absurd a
 in-range (inf true) a b = absurd a
 in-range (inf false) a b = absurd b
 in-range (fin s m e) a b = tt
 
-pub sum-finite : (x y : Float) → T (finite (add binary64 x y)) → T (finite x) × T (finite y)
+sum-finite : (x y : Float) → T (finite (add binary64 x y)) → T (finite x) × T (finite y)
 unfolding add
 sum-finite nan y t = absurd t
 sum-finite (inf s) nan t = absurd t
@@ -60,11 +61,11 @@ pub round-under : (s : Bool) (a : ℕ) → T (finite (round binary64 s a L)) →
 round-under s a t = lt-of-le-of-lt (le-of-eq (sym (grid-step a))) (units-under s (kept 53 (a * 2 ^ 1074) L) (drop 53 (a * 2 ^ 1074) L) (subst (λ (z : Float). T (finite z)) (round-is binary64 s a L) t))
 
 -- ---- a finite sum, rounded
-pub record Sum (z : Float) (P N : ℕ) : Type 0 where
-  pub p : ℕ
-  pub n : ℕ
-  pub val : Val z p n L
-  pub rn : RN P N p n
+record Sum (z : Float) (P N : ℕ) : Type 0 where
+  p : ℕ
+  n : ℕ
+  val : Val z p n L
+  rn : RN P N p n
 
 sum-of : {z : Float} {P N : ℕ} → T (finite z) → Rounds binary64 z P N L → Sum z P N
 sum-of {z} {P} {N} t r =
@@ -83,25 +84,25 @@ rep-eighths : (c : ℕ) → c < 2 ^ 53 → Rep (c * E)
 unfolding E
 rep-eighths c h = record { q = c; j = 1071; is = refl; small = h }
 
-dist-r : (k : ℕ) → dist k 0 ≡ k
-dist-r k = omega arith
+eighths-up : (c : ℕ) → c < 2 ^ 53 → Rep (dist (c * E) 0)
+eighths-up c h = subst Rep (sym (dist-zero (c * E))) (rep-eighths c h)
 
-dist-l : (k : ℕ) → dist 0 k ≡ k
-dist-l k = omega arith
+eighths-down : (c : ℕ) → c < 2 ^ 53 → Rep (dist 0 (c * E))
+eighths-down c h = rep-flip (c * E) 0 (eighths-up c h)
 
 -- the exact sum of the parts
 pub record InRange (P N : ℕ) : Type 0 where
   pub high : P < N + 8000000001 * E
   pub low : N < P + 548557 * E
 
-module _ (x y : Float) (p n q m : ℕ) (vx : Val x p n L) (vy : Val y q m L) (lo : T (le c-min (add binary64 x y))) (hi : T (le (add binary64 x y) c-max)) where
+module _ (x y : Float) (p n q m : ℕ) (vx : Val x p n L) (vy : Val y q m L) (lo : T (le c-djmin (add binary64 x y))) (hi : T (le (add binary64 x y) c-djmax)) where
   s : Sum (add binary64 x y) (p + q) (n + m)
   s = sum-of (in-range (add binary64 x y) lo hi) (add-rounds binary64 L-pos vx vy)
 
   pub exact-sum : InRange (p + q) (n + m)
   exact-sum =
-      let u : s .p + 0 ≤ 8000000000 * E + s .n = le-true L-pos (s .val) max-L (yes (le (add binary64 x y) c-max) hi) in
-      let l : 0 + s .n ≤ s .p + 548556 * E = le-true L-pos min-L (s .val) (yes (le c-min (add binary64 x y)) lo) in
+      let u : s .p + 0 ≤ 8000000000 * E + s .n = le-true L-pos (s .val) max-L (yes (le (add binary64 x y) c-djmax) hi) in
+      let l : 0 + s .n ≤ s .p + 548556 * E = le-true L-pos min-L (s .val) (yes (le c-djmin (add binary64 x y)) lo) in
       record {
         high = top (leb (8000000001 * E + (n + m)) (p + q)) (leb→le (8000000001 * E + (n + m)) (p + q)) (nleb→lt (8000000001 * E + (n + m)) (p + q)) (s .p) (s .n) (s .rn) u;
         low = bottom (leb (p + q + 548557 * E) (n + m)) (leb→le (p + q + 548557 * E) (n + m)) (nleb→lt (p + q + 548557 * E) (n + m)) (s .p) (s .n) (s .rn) l;
@@ -109,7 +110,7 @@ module _ (x y : Float) (p n q m : ℕ) (vx : Val x p n L) (vy : Val y q m L) (lo
     where
       top : (b : Bool) → (T b → 8000000001 * E + (n + m) ≤ p + q) → (T (not b) → p + q < 8000000001 * E + (n + m)) → (a c : ℕ) → RN (p + q) (n + m) a c → a + 0 ≤ 8000000000 * E + c → p + q < n + m + 8000000001 * E
       top true f g a c r u =
-          let w : 8000000001 * E + c ≤ a + 0 = rn-ge (8000000001 * E) 0 (subst Rep (sym (dist-r (8000000001 * E))) (rep-eighths 8000000001 (lit< tt))) r (plain (f tt)) in
+          let w : 8000000001 * E + c ≤ a + 0 = rn-ge (8000000001 * E) 0 (eighths-up 8000000001 (lit< tt)) r (plain (f tt)) in
           let z : ⊥ = omega (arith, E-pos) in absurd z
         where
           plain : 8000000001 * E + (n + m) ≤ p + q → 8000000001 * E + (n + m) ≤ p + q + 0
@@ -118,7 +119,7 @@ module _ (x y : Float) (p n q m : ℕ) (vx : Val x p n L) (vy : Val y q m L) (lo
 
       bottom : (b : Bool) → (T b → p + q + 548557 * E ≤ n + m) → (T (not b) → n + m < p + q + 548557 * E) → (a c : ℕ) → RN (p + q) (n + m) a c → 0 + c ≤ a + 548556 * E → n + m < p + q + 548557 * E
       bottom true f g a c r u =
-          let w : a + 548557 * E ≤ 0 + c = rn-le 0 (548557 * E) (subst Rep (sym (dist-l (548557 * E))) (rep-eighths 548557 (lit< tt))) r (plain (f tt)) in
+          let w : a + 548557 * E ≤ 0 + c = rn-le 0 (548557 * E) (eighths-down 548557 (lit< tt)) r (plain (f tt)) in
           let z : ⊥ = omega (arith, E-pos) in absurd z
         where
           plain : p + q + 548557 * E ≤ n + m → p + q + 548557 * E ≤ 0 + (n + m)
@@ -126,13 +127,13 @@ module _ (x y : Float) (p n q m : ℕ) (vx : Val x p n L) (vy : Val y q m L) (lo
       bottom false f g a c r u = g tt
 
 -- ---- from the test
-pub accepted-lo : (x y : Float) → accepted x y ≡ true → T (le c-min (add binary64 x y))
+pub accepted-lo : (x y : Float) → accepted x y ≡ true → T (le c-djmin (add binary64 x y))
 unfolding accepted inJulianRange
-accepted-lo x y e = and-l (le c-min (add binary64 x y)) (le (add binary64 x y) c-max) (subst T (sym e) tt)
+accepted-lo x y e = and-l (le c-djmin (add binary64 x y)) (le (add binary64 x y) c-djmax) (subst T (sym e) tt)
 
-pub accepted-hi : (x y : Float) → accepted x y ≡ true → T (le (add binary64 x y) c-max)
+pub accepted-hi : (x y : Float) → accepted x y ≡ true → T (le (add binary64 x y) c-djmax)
 unfolding accepted inJulianRange
-accepted-hi x y e = and-r (le c-min (add binary64 x y)) (le (add binary64 x y) c-max) (subst T (sym e) tt)
+accepted-hi x y e = and-r (le c-djmin (add binary64 x y)) (le (add binary64 x y) c-djmax) (subst T (sym e) tt)
 
 pub accepted-finite : (x y : Float) → accepted x y ≡ true → T (finite x) × T (finite y)
 accepted-finite x y e = sum-finite x y (in-range (add binary64 x y) (accepted-lo x y e) (accepted-hi x y e))
@@ -149,6 +150,6 @@ module _ (x y : Float) (p n q m : ℕ) (vx : Val x p n L) (vy : Val y q m L) (h1
   pub accepts : accepted x y ≡ true
   unfolding accepted inJulianRange
   accepts =
-      let u : rounded .p + 0 ≤ 8000000000 * E + rounded .n = rn-le (8000000000 * E) 0 (subst Rep (sym (dist-r (8000000000 * E))) (rep-eighths 8000000000 (lit< tt))) (rounded .rn) (omega arith) in
-      let l : 0 + rounded .n ≤ rounded .p + 548556 * E = rn-ge 0 (548556 * E) (subst Rep (sym (dist-l (548556 * E))) (rep-eighths 548556 (lit< tt))) (rounded .rn) (omega arith) in
-      ap (λ (b : Bool). b && le (add binary64 x y) c-max) (yes (le c-min (add binary64 x y)) (le-show L-pos min-L (rounded .val) l)) ∙ yes (le (add binary64 x y) c-max) (le-show L-pos (rounded .val) max-L u)
+      let u : rounded .p + 0 ≤ 8000000000 * E + rounded .n = rn-le (8000000000 * E) 0 (eighths-up 8000000000 (lit< tt)) (rounded .rn) (omega arith) in
+      let l : 0 + rounded .n ≤ rounded .p + 548556 * E = rn-ge 0 (548556 * E) (eighths-down 548556 (lit< tt)) (rounded .rn) (omega arith) in
+      ap (λ (b : Bool). b && le (add binary64 x y) c-djmax) (yes (le c-djmin (add binary64 x y)) (le-show L-pos min-L (rounded .val) l)) ∙ yes (le (add binary64 x y) c-djmax) (le-show L-pos (rounded .val) max-L u)

@@ -1,4 +1,4 @@
--- The laws behind the contracts and the theorems of `day_number`.
+-- The laws behind the contracts of `day_number`, and its theorems: Ranges, NotFinite, FractionSign, ExactDay, OffGrid, CarryTest and Cases.
 pub mod Units
 pub mod SumFractions
 pub mod NormalizeFraction
@@ -8,17 +8,21 @@ pub mod Compensated
 pub mod Split
 pub mod SplitOffGrid
 pub mod SplitOnGrid
+pub mod SignedUnits
 pub mod NearestNumber
 pub mod NearestInt
 pub mod JulianRange
 pub mod Parts
 pub mod IntegerSum
+pub mod Pair
+pub mod PairOnGrid
 pub mod Accepted
 pub mod Steps
 pub mod TotalDay
 pub mod DayInRange
 pub mod Answer
 pub mod Ranges
+pub mod NotFinite
 pub mod GridPairs
 pub mod OffGrid
 pub mod MinusZero

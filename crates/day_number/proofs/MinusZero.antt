@@ -1,6 +1,6 @@
 -- A sum or a difference of floats is -0.0 only where its first term is. Assumes nothing.
 use mathlib.Core.Path.{_≡_, refl, sym, ap, _∙_, subst}
-use mathlib.Core.Bool.{Bool, true, false, not, cond, _&&_, true≢false, Bool·beq}
+use mathlib.Core.Bool.{Bool, true, false, cond, _&&_, true≢false, Bool·beq}
 use Prim.Native.Nat.{ℕ, zero, suc, _+_, _-_, _*_, _^_, _≤_, _<_}
 use native.Mathlib.Nat.{lt-irrefl, le-trans, le-of-eq, zero-mul, mul-pos, zero-lt-suc, eq-of-mul-eq-mul-right}
 use native.Mathlib.Omega.{arith}
@@ -11,13 +11,15 @@ use lib.Ieee.Fits.{add-fits, neg-fits, up-pos, round-is}
 use lib.Ieee.Order.{drop, kept}
 use lib.Ieee.Scale.{finite}
 use Rattle.rounding.specs.Value.{Signed, L}
-use Rattle.rounding.proofs.Value.{L-pos, add-rounds, cross-l, cross-r}
-use Rattle.rounding.proofs.Own.{Rep, own, plus-of, minus-of}
+use Rattle.rounding.proofs.Fractions.{cross-l, cross-r}
+use Rattle.rounding.proofs.Value.{L-pos, add-rounds, has-unique}
+use Rattle.rounding.proofs.Signed.{plus-of, minus-of}
+use Rattle.rounding.proofs.Own.{Rep, own}
 use Rattle.rounding.proofs.Optimal.{step, step-fix, step-le}
-use Rattle.rounding.proofs.TwoSumFloat.{step-has, has-unique}
+use Rattle.rounding.proofs.Relative.{step-has}
 use Rattle.day_number.specs.MinusZero.{minusZero}
 use Rattle.day_number.proofs.JulianRange.{round-under}
-use Rattle.day_number.proofs.Parts.{has-val}
+use Rattle.day_number.proofs.SignedUnits.{has-val}
 
 -- the value of -0.0 is 0, and its sign is negative
 zero-has : (x : Float) → minusZero x ≡ true → HasValue x true 0 L

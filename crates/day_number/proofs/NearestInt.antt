@@ -2,25 +2,26 @@
 use mathlib.Core.Path.{_≡_, refl, sym, ap, _∙_, subst}
 use mathlib.Core.Bool.{Bool, true, false, not, cond, true≢false}
 use Prim.Native.Nat.{ℕ, zero, suc, _+_, _-_, _*_, _/_, _^_, _≤_, _<_, min}
-use native.Mathlib.Nat.{le-of-lt, div-lt-iff-lt-mul, mul-right-comm, mul-lt-mul-of-pos-right, lt-of-mul-lt-mul-right, div-one}
+use native.Mathlib.Nat.{div-one}
 use native.Mathlib.Omega.{arith}
 use lib.Dec.{T, ltb, ltb→lt, nltb→le, lit<}
 use lib.IntN.{pos, negℤ}
-use lib.Pow.{pow-pos}
 use lib.Ieee.{Float, nan, inf, fin, binary64, up, down, add, sub, lt, fits, round, toSigned}
 use lib.Ieee.Exact.{HasValue}
 use lib.Ieee.Fits.{down-pos, add-fits, sub-fits}
 use lib.Ieee.Nearest.{div-same}
 use Rattle.rounding.specs.Value.{Signed, Val, Rounds, L}
-use Rattle.rounding.proofs.Value.{L-pos, add-rounds, sub-rounds}
-use Rattle.rounding.proofs.Own.{Rep, plus-of, minus-of, signed-of}
+use Rattle.rounding.proofs.Value.{L-pos, abs-has, add-rounds, sub-rounds}
+use Rattle.rounding.proofs.Signed.{plus-of, minus-of}
+use Rattle.rounding.proofs.Own.{Rep}
 use Rattle.rounding.proofs.Optimal.{step}
-use Rattle.rounding.proofs.TwoSumFloat.{step-has}
+use Rattle.rounding.proofs.Relative.{step-has}
 use Rattle.rounding.proofs.Compare.{lt-val}
 use Rattle.rounding.proofs.Casts.{plusZ, minusZ}
 use Rattle.floats.specs.Whole.{abs, half, nought, toWhole, downward, upward, nearestInt}
-use Rattle.floats.proofs.Laws.{exact, downward-one, upward-one, in-format}
+use Rattle.floats.proofs.Laws.{downward-exact, upward-exact}
 use Rattle.day_number.proofs.Units.{H, H-pos}
+use Rattle.day_number.proofs.SignedUnits.{has-val, has-rep, has-small}
 use Rattle.day_number.proofs.NearestNumber.{Numbers, small-numbers, found, numbers, room}
 
 -- ---- floor and ceil of a value in units
@@ -32,37 +33,17 @@ nought-val : Val nought 0 0 L
 unfolding L
 nought-val = record { sign = false; size = 0; has = (refl, refl); is = refl }
 
-abs-has : (x : Float) (s : Bool) (a d : ℕ) → HasValue x s a d → HasValue (abs x) false a d
-unfolding abs
-abs-has nan s a d h = h
-abs-has (inf t) s a d h = h
-abs-has (fin t m e) s a d h = (refl, h .1)
-
-most-down : (s : Bool) (n d : ℕ) → 0 < d → n < 2 ^ 53 * d → downward s n d ≤ 2 ^ 53
-most-down false n d D h = le-of-lt (div-lt-iff-lt-mul D .1 h)
-most-down true n d D h = less ((n + (d - 1)) / d) (div-lt-iff-lt-mul D .1 (more n d D h))
-  where
-    more : (n d : ℕ) → 0 < d → n < 9007199254740992 * d → n + (d - 1) < 9007199254740993 * d
-    more n d k l = omega arith
-
-    less : (x : ℕ) → x < 9007199254740993 → x ≤ 9007199254740992
-    less x k = omega arith
-
-most-up : (s : Bool) (n d : ℕ) → 0 < d → n < 2 ^ 53 * d → upward s n d ≤ 2 ^ 53
-most-up true n d D h = le-of-lt (div-lt-iff-lt-mul D .1 h)
-most-up false n d D h = most-down true n d D h
-
 floor-has : (z : Float) (T' : ℕ) → T (fits binary64 z) → HasValue z false T' L → HasValue (toWhole downward z) false (T' / L) 1
 floor-has nan k f v = absurd v
 floor-has (inf t) k f v = absurd v
 floor-has (fin true m e) k f v = absurd (true≢false (v .0))
-floor-has (fin false m e) k f v = subst (λ (z : ℕ). HasValue (toWhole downward (fin false m e)) false z 1) (div-same (m * up e) (down e) k L (down-pos e) L-pos (v .1)) (exact downward downward-one most-down false m e f)
+floor-has (fin false m e) k f v = subst (λ (z : ℕ). HasValue (toWhole downward (fin false m e)) false z 1) (div-same (m * up e) (down e) k L (down-pos e) L-pos (v .1)) (downward-exact false m e f)
 
 ceil-has : (z : Float) (T' : ℕ) → T (fits binary64 z) → HasValue z true T' L → HasValue (toWhole upward z) true (T' / L) 1
 ceil-has nan k f v = absurd v
 ceil-has (inf t) k f v = absurd v
 ceil-has (fin false m e) k f v = absurd (true≢false (sym (v .0)))
-ceil-has (fin true m e) k f v = subst (λ (z : ℕ). HasValue (toWhole upward (fin true m e)) true z 1) (div-same (m * up e) (down e) k L (down-pos e) L-pos (v .1)) (exact upward upward-one most-up true m e f)
+ceil-has (fin true m e) k f v = subst (λ (z : ℕ). HasValue (toWhole upward (fin true m e)) true z 1) (div-same (m * up e) (down e) k L (down-pos e) L-pos (v .1)) (upward-exact true m e f)
 
 -- a sum of one sign, rounded
 plus-round : {z : Float} (t : ℕ) → 0 < t → Rounds binary64 z t 0 L → z ≡ round binary64 false t L
@@ -126,16 +107,8 @@ pub record Whole (v : Float) (s : Bool) (X A : ℕ) : Type 0 where
   pub plus : plusZ (toSigned 63 v) ≡ sat-plus s A
   pub minus : minusZ (toSigned 63 v) ≡ sat-minus s A
 
-below-top : (x : Float) (s : Bool) (X : ℕ) → T (fits binary64 x) → HasValue x s X L → X < 2 ^ 2098
-unfolding L
-below-top nan s X f h = absurd h
-below-top (inf t) s X f h = absurd h
-below-top (fin t m e) s X f h =
-    lt-of-mul-lt-mul-right (down e)
-    (subst (λ (z : ℕ). z < 2 ^ 2098 * down e) (h .1) (subst (λ (z : ℕ). m * up e * 2 ^ 1074 < z) (mul-right-comm (2 ^ 1024) (down e) (2 ^ 1074)) (mul-lt-mul-of-pos-right (in-format t m e f .1) (pow-pos 1074))))
-
 whole-of-has : (v : Float) (s : Bool) (X A : ℕ) → Numbers X A → HasValue v s A 1 → Whole v s X A
-whole-of-has v s X A n h = record { val = record { sign = s; size = A; has = h; is = signed-of s A }; numbers = n; plus = sat-has v s A h .0; minus = sat-has v s A h .1 }
+whole-of-has v s X A n h = record { val = has-val v s A 1 h; numbers = n; plus = sat-has v s A h .0; minus = sat-has v s A h .1 }
 
 whole-nought : (s : Bool) (X : ℕ) → Rep X → X < H → Whole nought s X 0
 whole-nought false X r h = whole-of-has nought false X 0 (small-numbers X r h) (refl, refl)
@@ -150,10 +123,13 @@ plus-val x X v = record { sign = false; size = X; has = v; is = omega arith }
 minus-val : (x : Float) (X : ℕ) → HasValue x true X L → Val x 0 X L
 minus-val x X v = record { sign = true; size = X; has = v; is = omega arith }
 
-pub whole : (x : Float) (s : Bool) (X : ℕ) → T (fits binary64 x) → HasValue x s X L → Rep X → (A : ℕ) × Whole (nearestInt x) s X A
+pub whole : (x : Float) (s : Bool) (X : ℕ) → T (fits binary64 x) → HasValue x s X L → (A : ℕ) × Whole (nearestInt x) s X A
 unfolding nearestInt found
-whole x s X f v r = go s v (lt (abs x) half) refl (lt x nought) refl
+whole x s X f v = go s v (lt (abs x) half) refl (lt x nought) refl
   where
+    r : Rep X
+    r = has-rep x s X f v
+
     size : (a : Bool) → lt (abs x) half ≡ a → a ≡ ltb (X + 0) (H + 0)
     size a e = sym e ∙ lt-val L-pos (plus-val (abs x) X (abs-has x s X L v)) half-val
 
@@ -181,7 +157,7 @@ whole x s X f v r = go s v (lt (abs x) half) refl (lt x nought) refl
         let q = plus-round (X + H) (omega (arith, H-pos)) (add-rounds binary64 L-pos vx half-val) in (
           found X,
           whole-of-has (toWhole downward (add binary64 x half)) false X (found X) (numbers X r h)
-              (floor-has (add binary64 x half) (step (X + H)) (add-fits binary64 x half) (some-step (add binary64 x half) false X r h (below-top x false X f v) q)),
+              (floor-has (add binary64 x half) (step (X + H)) (add-fits binary64 x half) (some-step (add binary64 x half) false X r h (has-small x false X f v) q)),
         )
     go true v false e true d =
         let h : H ≤ X = big (size false e) in
@@ -189,7 +165,7 @@ whole x s X f v r = go s v (lt (abs x) half) refl (lt x nought) refl
         let q = minus-round (X + H) (omega (arith, H-pos)) (sub-rounds binary64 L-pos vx half-val) in (
           found X,
           whole-of-has (toWhole upward (sub binary64 x half)) true X (found X) (numbers X r h)
-              (ceil-has (sub binary64 x half) (step (X + H)) (sub-fits binary64 x half) (some-step (sub binary64 x half) true X r h (below-top x true X f v) q)),
+              (ceil-has (sub binary64 x half) (step (X + H)) (sub-fits binary64 x half) (some-step (sub binary64 x half) true X r h (has-small x true X f v) q)),
         )
     go true v false e false d =
         let h : H ≤ X = big (size false e) in

@@ -9,10 +9,9 @@ use lib.Pow.{pow-mono}
 use Rattle.rounding.specs.Value.{L}
 use Rattle.rounding.proofs.Value.{L-pos}
 use Rattle.rounding.proofs.Grid.{drop-le}
-use Rattle.rounding.proofs.Own.{Rep}
+use Rattle.rounding.proofs.Own.{Rep, rep-zero}
 use Rattle.rounding.proofs.Optimal.{step, cut, step-near, step-fix, step-le, step-optimal, multiple}
 use Rattle.rounding.proofs.Sterbenz.{rep-diff}
-use Rattle.rounding.proofs.TwoSum.{rep-zero}
 use Rattle.day_number.proofs.Units.{H, H-L, W, L-W, H-W}
 
 -- X units, and A whole ones

@@ -1,5 +1,5 @@
 -- The compensated sum brought into [0, 1) but for the last carry, in units of 1 / D, where each sum is off by h units at most. Assumes nothing.
-use mathlib.Core.Path.{_≡_, refl, _∙_}
+use mathlib.Core.Path.{_≡_, refl}
 use mathlib.Core.Bool.{Bool, true, false, cond}
 use Prim.Native.Nat.{ℕ, _+_, _*_, _≤_, _<_}
 use native.Mathlib.Omega.{arith}
@@ -10,7 +10,6 @@ use Rattle.rounding.specs.Value.{Val}
 use Rattle.rounding.proofs.Compare.{lt-true, lt-false}
 use Rattle.rounding.proofs.Chain.{Close, Adds, exactly, close-move, close-add, close-sub}
 use Rattle.day_number.specs.declared.Kahan.{Kahan}
-use Rattle.day_number.specs.declared.Normalized.{Normalized}
 use Rattle.day_number.specs.DayNumber.{c-one, c-zero, kahanOf, moved, normalizeFraction, carryDay, borrowSum, borrowFraction, borrowDay}
 
 -- what the last carry is handed: the sum s, and the fraction z that it makes, both near A - B

@@ -6,12 +6,10 @@ use native.Mathlib.Nat.{add-mul, lt-of-mul-lt-mul-right}
 use native.Mathlib.Omega.{arith}
 use lib.Dec.{T}
 use lib.IntN.{ℤ, _+ℤ_}
-use lib.Ieee.{Float, nan, inf, fin, binary64, fits, toSigned}
-use lib.Ieee.Exact.{HasValue}
-use Rattle.rounding.specs.Value.{Signed, Val, L}
-use Rattle.rounding.proofs.Value.{L-pos}
-use Rattle.rounding.proofs.Own.{plus-of, minus-of}
-use Rattle.rounding.proofs.TwoSumFloat.{has-unique}
+use lib.Ieee.{Float, binary64, fits}
+use Rattle.rounding.specs.Value.{Val, L}
+use Rattle.rounding.proofs.Value.{L-pos, val-unique}
+use Rattle.rounding.proofs.Signed.{plus-of, minus-of}
 use Rattle.rounding.proofs.Casts.{plusZ, minusZ, add-pair}
 use Rattle.refusals.specs.Outcome.{answer}
 use Rattle.floats.specs.Whole.{nearestInt}
@@ -20,12 +18,13 @@ use Rattle.day_number.specs.DayNumber.{accepted, rest, split, total, day
 use Rattle.day_number.specs.Answer.{dayNumberAndFraction}
 use Rattle.day_number.specs.NearDay.{Under, DayNear}
 use Rattle.day_number.proofs.Units.{H, H-L, W, L-W}
+use Rattle.day_number.proofs.SignedUnits.{has-val}
 use Rattle.day_number.proofs.NearestNumber.{Numbers}
 use Rattle.day_number.proofs.NearestInt.{plain-plus, plain-minus}
-use Rattle.day_number.proofs.Accepted.{Accepted, accepted-pair}
+use Rattle.day_number.proofs.Pair.{Accepted}
+use Rattle.day_number.proofs.Accepted.{accepted-pair}
 use Rattle.day_number.proofs.DayInRange.{total-is, number-is}
-use Rattle.day_number.proofs.GridPairs.{signed-pair}
-use Rattle.day_number.proofs.Ranges.{answer-is}
+use Rattle.day_number.proofs.Answer.{answer-is}
 
 -- in units of 2 ^ -1074, of parts p - n and q - m
 record NearPair (p n q m : ℕ) (day : ℤ) (fraction : Float) : Type 0 where
@@ -33,14 +32,6 @@ record NearPair (p n q m : ℕ) (day : ℤ) (fraction : Float) : Type 0 where
   val : Val fraction units 0 L
   over : 2 ^ 53 * (units + (n + m) + plusZ day * L) ≤ 2 ^ 53 * (p + q + minusZ day * L) + 2 ^ 52 * L + 4 * L
   under : 2 ^ 53 * (p + q + minusZ day * L) + 2 ^ 52 * L ≤ 2 ^ 53 * (units + (n + m) + plusZ day * L) + 4 * L
-
-pair-of : (x : Float) (s t : Bool) (X Y p n : ℕ) → HasValue x s X L → HasValue x t Y L → Signed t Y p n → plus-of s X + n ≡ p + minus-of s X
-pair-of nan s t X Y p n h k i = absurd h
-pair-of (inf u) s t X Y p n h k i = absurd h
-pair-of (fin u m e) s t X Y p n h k i =
-    let q : s ≡ t = sym (h .0) ∙ k .0 in
-    let w : X ≡ Y = has-unique (fin u m e) s t X Y L h k in
-    signed-pair s X p n (subst (λ (b : Bool). Signed b X p n) (sym q) (subst (λ (z : ℕ). Signed t z p n) (sym w) i))
 
 size-le : (s : Bool) (X p n K : ℕ) → plus-of s X + n ≡ p + minus-of s X → p ≤ n + K → n ≤ p + K → X ≤ K
 size-le false X p n K e h k = omega arith
@@ -61,8 +52,8 @@ module _ (x y : Float) (fx : T (fits binary64 x)) (fy : T (fits binary64 y)) (e 
       go : Accepted x y → NearPair p n q m (dayNumber x y) (split (rest x) (rest y) .fraction)
       go o =
           let k = o .near in
-          let ex = pair-of x (k .s) (vx .sign) (k .X) (vx .size) p n (k .vx) (vx .has) (vx .is) in
-          let ey = pair-of y (k .t) (vy .sign) (k .Y) (vy .size) q m (k .vy) (vy .has) (vy .is) in
+          let ex = val-unique (has-val x (k .s) (k .X) L (k .vx)) vx in
+          let ey = val-unique (has-val y (k .t) (k .Y) L (k .vy)) vy in
           let sa = few-whole (k .X) (k .A) (k .wx .numbers) (size-le (k .s) (k .X) p n (2 ^ 62 * L) ex h1 h2) in
           let sb = few-whole (k .Y) (k .B) (k .wy .numbers) (size-le (k .t) (k .Y) q m (2 ^ 62 * L) ey h3 h4) in
           let d = total (nearestInt x) (nearestInt y) (o .up) (o .more) (o .down) in
@@ -91,7 +82,7 @@ module _ (x y : Float) (fx : T (fits binary64 x)) (fy : T (fits binary64 y)) (e 
               → H + (P + l) + (Q + o) + down ≤ u + (N + i + (M + j) + up) + more + 8 * W → 2 ^ 53 * (p + q + h) + 2 ^ 52 * L ≤ 2 ^ 53 * (u + (n + m) + g) + 4 * L
           fin' u P N Q M i l j o up more down g h e1 e2 e3 k = omega (arith, H-L, L-W)
 
--- THE DAY AND THE FRACTION of every answered pair of parts under 2 ^ 52
+-- the day and the fraction of every answered pair of parts under 2 ^ 52
 pub day-near : (x y : Float) → T (fits binary64 x) → T (fits binary64 y) → (a : Under x) (b : Under y) (d : DayNumber) → dayNumberAndFraction x y ≡ answer d → DayNear (a .units +ℤ b .units) (d .day) (d .fraction)
 unfolding dayOf
 day-near x y fx fy a b d e =

@@ -4,21 +4,28 @@ use mathlib.Core.Bool.{Bool, true, false}
 use Prim.Native.Nat.{ℕ, _+_, _-_, _*_, _^_, _≤_, _<_}
 use native.Mathlib.Nat.{le-of-eq, le-trans, lt-of-le-of-lt, mul-lt-mul-of-pos-right, one-mul, mul-assoc, add-mul, le-of-mul-le-mul-right, zero-mul}
 use native.Mathlib.Omega.{arith}
-use lib.Dec.{lit≤, lit<}
+use lib.Dec.{T, lit≤, lit<}
 use lib.Pow.{pow-pos}
-use lib.Ieee.{Float, binary64}
+use lib.Ieee.{Float, binary64, fits}
+use lib.Ieee.Fits.{sub-fits}
 use lib.Ieee.Exact.{HasValue}
 use Rattle.rounding.specs.Value.{Signed, Val, L}
 use Rattle.rounding.proofs.Value.{L-pos, val-scale, sub-rounds, has-unscale}
 use Rattle.rounding.proofs.Exact.{sub-exact}
-use Rattle.rounding.proofs.Own.{Rep, plus-of, minus-of, signed-of}
+use Rattle.rounding.proofs.Signed.{plus-of, minus-of}
+use Rattle.rounding.proofs.Own.{Rep}
 use Rattle.rounding.proofs.Sterbenz.{rounds-rep}
 use Rattle.rounding.proofs.Optimal.{multiple}
 use Rattle.floats.specs.Whole.{nearestInt}
 use Rattle.day_number.specs.DayNumber.{rest}
 use Rattle.day_number.proofs.Units.{S, C, H, H-L}
+use Rattle.day_number.proofs.SignedUnits.{has-val}
 use Rattle.day_number.proofs.NearestNumber.{Numbers}
 use Rattle.day_number.proofs.NearestInt.{Whole}
+
+pub rest-fits : (x : Float) → T (fits binary64 (rest x))
+unfolding rest
+rest-fits x = sub-fits binary64 x (nearestInt x)
 
 scale-side : (s : Bool) (A D : ℕ) → (plus-of s A * D ≡ plus-of s (A * D)) × (minus-of s A * D ≡ minus-of s (A * D))
 scale-side false A D = (refl, zero-mul D)
@@ -31,9 +38,6 @@ whole-val {v} {s} {X} {A} D w = subst (λ (z : ℕ). Val v (plus-of s A * D) (mi
 far2 : (2 ^ 51 * L + L < 2 ^ 2098)
 unfolding L
 far2 = lit< tt
-
-pub has-val : (x : Float) (s : Bool) (X D : ℕ) → HasValue x s X D → Val x (plus-of s X) (minus-of s X) D
-has-val x s X D v = record { sign = s; size = X; has = v; is = signed-of s X }
 
 rep-of : (s b : Bool) (c X Y : ℕ) → Signed b c (plus-of s X + minus-of s Y) (minus-of s X + plus-of s Y) → Rep (X - Y) → Rep (Y - X) → Rep c × (c ≤ X + Y)
 rep-of false false c X Y h r q = (subst Rep (up c X Y h) r, omega arith)

@@ -33,7 +33,7 @@ fit : (u : Bool) (a b : Summed) → T (fits binary64 (a .kahan .sum)) → T (fit
 fit true a b h k = h
 fit false a b h k = k
 
-sum-fits : (c : ℕ) (κ : Kahan) (f : Float) → T (fits binary64 (addFraction c κ f .kahan .sum))
+pub sum-fits : (c : ℕ) (κ : Kahan) (f : Float) → T (fits binary64 (addFraction c κ f .kahan .sum))
 unfolding addFraction
 sum-fits c κ f = fit (le c-one (add binary64 (κ .sum) f)) _ _ (sub-fits binary64 (add binary64 (κ .sum) f) c-one) (add-fits binary64 (κ .sum) f)
 

@@ -1,49 +1,49 @@
--- The two fractions off the grid, each of 5/8 at most in size: the day's fraction is within 8 * 2 ^ -54 = 2 ^ -51 of the exact one. Assumes nothing.
+-- The two fractions off the grid, each of 5/8 at most in size: the day's fraction is within 2 ^ -51 of the exact one. Assumes nothing.
 use mathlib.Core.Path.{_≡_, refl, sym, ap, _∙_, subst}
 use mathlib.Core.Bool.{Bool, true, false, cond}
 use Prim.Native.Nat.{ℕ, zero, suc, _+_, _-_, _*_, _≤_, _<_}
 use native.Mathlib.Nat.{add-mul}
 use native.Mathlib.Omega.{arith}
-use lib.Ieee.{Float, binary64, add, sub, lt}
+use lib.Dec.{T}
+use lib.Ieee.{Float, binary64, add, sub, lt, fits}
+use lib.Ieee.Bits.{ofBits-fits}
 use Rattle.rounding.specs.Value.{Val, L}
-use Rattle.rounding.proofs.Value.{L-pos, val-move}
-use Rattle.rounding.proofs.TwoSumFloat.{val-unique}
+use Rattle.rounding.proofs.Value.{L-pos, val-move, val-unique}
 use Rattle.rounding.proofs.Chain.{Close}
-use Rattle.day_number.specs.declared.Kahan.{Kahan}
 use Rattle.day_number.specs.declared.Summed.{Summed}
 use Rattle.day_number.specs.declared.Normalized.{Normalized}
-use Rattle.day_number.specs.DayNumber.{c-half, c-zero, kahanStart, kahanOf, addFraction, sumFractions, moved, carryDay, split, borrowFraction}
+use Rattle.day_number.specs.DayNumber.{c-zero, kahanStart, kahanOf, addFraction, sumFractions, moved, carryDay, split, borrowFraction}
 use Rattle.day_number.proofs.Units.{H, H-L, W, L-W, W-pos, Z, Z-W, one-L, half-L, nought-L}
 use Rattle.day_number.proofs.SumFractions.{Stage, Both, first, both}
 use Rattle.day_number.proofs.NormalizeFraction.{Normal, normal}
 use Rattle.day_number.proofs.CarryDay.{Settled, settled}
-use Rattle.day_number.proofs.Compensated.{law1, law2, Tot, tight, kept-near, borrowed-near}
-use Rattle.day_number.proofs.Split.{Split, both-fits}
+use Rattle.day_number.proofs.Compensated.{law2, Tot, tight, kept-near, borrowed-near}
+use Rattle.day_number.proofs.Split.{Split, sum-fits, both-fits}
 
-module _ (f g : Float) (P N Q M : ℕ) (vf : Val f P N L) (vg : Val g Q M L) (f1 : 8 * N ≤ 8 * P + 5 * L) (f2 : 8 * P ≤ 8 * N + 5 * L) (g1 : 8 * M ≤ 8 * Q + 5 * L) (g2 : 8 * Q ≤ 8 * M + 5 * L) where
+module _ (f g : Float) (ff : T (fits binary64 f)) (fg : T (fits binary64 g)) (P N Q M : ℕ) (vf : Val f P N L) (vg : Val g Q M L) (f1 : 8 * N ≤ 8 * P + 5 * L) (f2 : 8 * P ≤ 8 * N + 5 * L) (g1 : 8 * M ≤ 8 * Q + 5 * L) (g2 : 8 * Q ≤ 8 * M + 5 * L) where
   start : Stage L (2 * W) (addFraction 0 kahanStart f) 0 (H + P) (0 + N) 0 0
   start = first L H (2 * W) law2 L-pos H-L one-L half-L nought-L (omega (arith, L-W)) f g P N Q M vf vg (omega (arith, H-L)) (omega (arith, H-L, L-W)) (omega (arith, H-L, L-W)) (omega (arith, H-L, L-W)) (omega (arith, H-L, L-W))
 
-  one-more : (up : ℕ) × (addFraction 0 kahanStart f .carry ≡ 0 + up) × Tot (addFraction 0 kahanStart f) up (H + 0 + P) (0 + 0 + N) (W + 2 * Z)
-  one-more = tight L W law1 c-half c-zero f H 0 0 0 P N half-L nought-L vf (omega (arith, H-L, L-W, W-pos)) (omega (arith, H-L, L-W, W-pos)) (omega (arith, H-L, L-W, W-pos)) (omega (arith, H-L, L-W, W-pos)) (omega arith) (omega arith)
-      (omega (arith, H-L, L-W, W-pos)) (omega (arith, H-L, L-W, W-pos)) (omega arith) 0 (omega (arith, H-L, L-W, W-pos))
+  one-more : (up : ℕ) × (addFraction 0 kahanStart f .carry ≡ 0 + up) × Tot (addFraction 0 kahanStart f) up (H + 0 + P) (0 + 0 + N) Z
+  one-more = tight kahanStart f (ofBits-fits binary64 0x3fe0_0000_0000_0000) ff H 0 0 0 P N half-L nought-L vf (omega (arith, H-L)) (omega (arith, H-L)) (omega arith) (omega arith) (omega arith) (omega arith)
+      (omega (arith, H-L, L-W, W-pos)) (omega (arith, H-L, L-W, W-pos)) 0
 
   -- the sum and its correction, together
-  two-more : (up : ℕ) × (sumFractions f g .carry ≡ up) × Tot (sumFractions f g) up (H + P + Q) (N + M) (3 * W + 4 * Z)
+  two-more : (up : ℕ) × (sumFractions f g .carry ≡ up) × Tot (sumFractions f g) up (H + P + Q) (N + M) (2 * Z)
   unfolding sumFractions
   two-more = go start one-more
     where
-      go : Stage L (2 * W) (addFraction 0 kahanStart f) 0 (H + P) (0 + N) 0 0 → (up : ℕ) × (addFraction 0 kahanStart f .carry ≡ 0 + up) × Tot (addFraction 0 kahanStart f) up (H + 0 + P) (0 + 0 + N) (W + 2 * Z)
-          → (up : ℕ) × (addFraction (addFraction 0 kahanStart f .carry) (addFraction 0 kahanStart f .kahan) g .carry ≡ up) × Tot (addFraction (addFraction 0 kahanStart f .carry) (addFraction 0 kahanStart f .kahan) g) up (H + P + Q) (N + M) (3 * W + 4 * Z)
+      go : Stage L (2 * W) (addFraction 0 kahanStart f) 0 (H + P) (0 + N) 0 0 → (up : ℕ) × (addFraction 0 kahanStart f .carry ≡ 0 + up) × Tot (addFraction 0 kahanStart f) up (H + 0 + P) (0 + 0 + N) Z
+          → (up : ℕ) × (addFraction (addFraction 0 kahanStart f .carry) (addFraction 0 kahanStart f .kahan) g .carry ≡ up) × Tot (addFraction (addFraction 0 kahanStart f .carry) (addFraction 0 kahanStart f .kahan) g) up (H + P + Q) (N + M) (2 * Z)
       go a (u, e, o) =
           let x = val-unique (a .sum .val) (o .sum) in
           let y = val-unique (a .correction .val) (o .correction) in
           let r = ranges (a .up) (a .sum .p) (a .sum .n) (o .p) (o .n) x (a .few) (a .sum .over) (a .sum .under) (a .high) (a .reach) in
           let c = corrections (a .correction .p) (a .correction .n) (o .a) (o .b) y (a .correction .over) (a .correction .under) in
-          let t = tight (2 * L) (2 * W) law2 (addFraction 0 kahanStart f .kahan .sum) (addFraction 0 kahanStart f .kahan .correction) g (o .p) (o .n) (o .a) (o .b) Q M (o .sum) (o .correction) vg
-          (omega (arith, r .0, L-W, W-pos)) (omega (arith, r .1, L-W, W-pos)) (omega (arith, L-W, W-pos)) (omega (arith, L-W, W-pos)) (omega (arith, c .0)) (omega (arith, c .1))
-          (omega (arith, r .0, L-W, W-pos)) (omega (arith, r .1, L-W, W-pos)) (omega arith) (addFraction 0 kahanStart f .carry) (omega (arith, r .0, L-W, W-pos)) in
-          (u + t .0, t .1 ∙ ap (λ (z : ℕ). z + t .0) (e ∙ plain u), join u (t .0) _ (o .p) (o .n) (o .a) (o .b) (o .over) (o .under) (t .2))
+          last u e (o .p) (o .n) (o .a) (o .b) (o .over) (o .under)
+          (tight (addFraction 0 kahanStart f .kahan) g (sum-fits 0 kahanStart f) fg (o .p) (o .n) (o .a) (o .b) Q M (o .sum) (o .correction) vg
+          (omega (arith, r .0, L-W, W-pos)) (omega (arith, r .1, L-W, W-pos)) (omega arith) (omega arith) (omega (arith, c .0)) (omega (arith, c .1))
+          (omega (arith, r .0, L-W, W-pos)) (omega (arith, r .1, L-W, W-pos)) (addFraction 0 kahanStart f .carry))
         where
           plain : (u : ℕ) → 0 + u ≡ u
           plain u = omega arith
@@ -57,14 +57,19 @@ module _ (f g : Float) (P N Q M : ℕ) (vf : Val f P N L) (vg : Val g Q M L) (f1
           corrections : (p n x y : ℕ) → p + y ≡ x + n → p + 0 ≤ n + 0 + (0 + 2 * 0 + 4 * (2 * W)) → n + 0 ≤ p + 0 + (0 + 2 * 0 + 4 * (2 * W)) → (x ≤ y + 8 * W) × (y ≤ x + 8 * W)
           corrections p n x y e o v = omega arith
 
-          join : (u v : ℕ) (r : Summed) (p n a b : ℕ) → p + a + (0 + 0 + N + u * L) ≤ n + b + (H + 0 + P) + (W + 2 * Z) → n + b + (H + 0 + P) ≤ p + a + (0 + 0 + N + u * L) + (W + 2 * Z) → Tot r v (p + a + Q) (n + b + M) (2 * W + 2 * Z) → Tot r (u + v) (H + P + Q) (N + M) (3 * W + 4 * Z)
+          join : (u v : ℕ) (r : Summed) (p n a b : ℕ) → p + a + (0 + 0 + N + u * L) ≤ n + b + (H + 0 + P) + Z → n + b + (H + 0 + P) ≤ p + a + (0 + 0 + N + u * L) + Z → Tot r v (p + a + Q) (n + b + M) Z → Tot r (u + v) (H + P + Q) (N + M) (2 * Z)
           join u v r p n a b o w t = record { p = t .p; n = t .n; a = t .a; b = t .b; sum = t .sum; correction = t .correction; over = simp add-mul (omega (arith, t .over)); under = simp add-mul (omega (arith, t .under)) }
+
+          last : (u : ℕ) → addFraction 0 kahanStart f .carry ≡ 0 + u → (p n a b : ℕ) → p + a + (0 + 0 + N + u * L) ≤ n + b + (H + 0 + P) + Z → n + b + (H + 0 + P) ≤ p + a + (0 + 0 + N + u * L) + Z
+              → (v : ℕ) × (addFraction (addFraction 0 kahanStart f .carry) (addFraction 0 kahanStart f .kahan) g .carry ≡ addFraction 0 kahanStart f .carry + v) × Tot (addFraction (addFraction 0 kahanStart f .carry) (addFraction 0 kahanStart f .kahan) g) v (p + a + Q) (n + b + M) Z
+              → (up : ℕ) × (addFraction (addFraction 0 kahanStart f .carry) (addFraction 0 kahanStart f .kahan) g .carry ≡ up) × Tot (addFraction (addFraction 0 kahanStart f .carry) (addFraction 0 kahanStart f .kahan) g) up (H + P + Q) (N + M) (2 * Z)
+          last u e p n a b o w (v, c, t) = (u + v, c ∙ ap (λ (z : ℕ). z + v) (e ∙ plain u), join u v _ p n a b o w t)
 
   -- the fraction that the last step takes
   close-fraction : (b : Both L (2 * W) (sumFractions f g) (H + P + Q) (N + M)) → (n : Normal L (2 * W) (sumFractions f g .kahan) (H + P + Q) (N + M + b .up * L)) → Close L (n .fraction) (H + P + Q + n .borrow * L) (N + M + b .up * L) (8 * W)
   close-fraction b n = go two-more
     where
-      go : (up : ℕ) × (sumFractions f g .carry ≡ up) × Tot (sumFractions f g) up (H + P + Q) (N + M) (3 * W + 4 * Z) → Close L (n .fraction) (H + P + Q + n .borrow * L) (N + M + b .up * L) (8 * W)
+      go : (up : ℕ) × (sumFractions f g .carry ≡ up) × Tot (sumFractions f g) up (H + P + Q) (N + M) (2 * Z) → Close L (n .fraction) (H + P + Q + n .borrow * L) (N + M + b .up * L) (8 * W)
       go (u, e, o) =
           let x = val-unique (b .sum .val) (o .sum) in
           let y = val-unique (b .correction .val) (o .correction) in
@@ -72,7 +77,7 @@ module _ (f g : Float) (P N Q M : ℕ) (vf : Val f P N L) (vg : Val g Q M L) (f1
           let r = sizes (b .up * L) (b .sum .p) (b .sum .n) (o .p) (o .n) x (b .sum .over) (b .sum .under) (b .high) (b .low) in
           let c = corrections (b .correction .p) (b .correction .n) (o .a) (o .b) y (b .correction .over) (b .correction .under) in
           which (n .test) (n .tested) (n .borrow) (n .borrow-is) (n .fraction) (n .fraction-is) (b .up) (o .p) (o .n) (o .a) (o .b) (o .sum) (o .correction) (c .0) (c .1) (r .0) (r .1)
-          (subst (λ (i : ℕ). o .p + o .a + (N + M + i * L) ≤ o .n + o .b + (H + P + Q) + (3 * W + 4 * Z)) (sym q) (o .over)) (subst (λ (i : ℕ). o .n + o .b + (H + P + Q) ≤ o .p + o .a + (N + M + i * L) + (3 * W + 4 * Z)) (sym q) (o .under))
+          (subst (λ (i : ℕ). o .p + o .a + (N + M + i * L) ≤ o .n + o .b + (H + P + Q) + (2 * Z)) (sym q) (o .over)) (subst (λ (i : ℕ). o .n + o .b + (H + P + Q) ≤ o .p + o .a + (N + M + i * L) + (2 * Z)) (sym q) (o .under))
         where
           corrections : (p n x y : ℕ) → p + y ≡ x + n → p + 0 ≤ n + 0 + 12 * (2 * W) → n + 0 ≤ p + 0 + 12 * (2 * W) → (x ≤ y + 64 * W) × (y ≤ x + 64 * W)
           corrections p n x y e o v = omega arith
@@ -84,7 +89,7 @@ module _ (f g : Float) (P N Q M : ℕ) (vf : Val f P N L) (vg : Val g Q M L) (f1
           which : (t : Bool) → lt (add binary64 (sumFractions f g .kahan .sum) (sumFractions f g .kahan .correction)) c-zero ≡ t → (bo : ℕ) → bo ≡ cond t 1 0 → (z : Float)
               → z ≡ cond t (borrowFraction (sumFractions f g .kahan .sum) (sub binary64 (add binary64 (sumFractions f g .kahan .sum) (sumFractions f g .kahan .correction)) (sumFractions f g .kahan .sum))) (add binary64 (sumFractions f g .kahan .sum) (sumFractions f g .kahan .correction))
               → (up p n a b : ℕ) → Val (sumFractions f g .kahan .sum) p n L → Val (sumFractions f g .kahan .correction) a b L → a ≤ b + 64 * W → b ≤ a + 64 * W → p < n + L + 64 * W → n + 100 * W < p + L
-              → p + a + (N + M + up * L) ≤ n + b + (H + P + Q) + (3 * W + 4 * Z) → n + b + (H + P + Q) ≤ p + a + (N + M + up * L) + (3 * W + 4 * Z) → Close L z (H + P + Q + bo * L) (N + M + up * L) (8 * W)
+              → p + a + (N + M + up * L) ≤ n + b + (H + P + Q) + (2 * Z) → n + b + (H + P + Q) ≤ p + a + (N + M + up * L) + (2 * Z) → Close L z (H + P + Q + bo * L) (N + M + up * L) (8 * W)
           which true test bo eb z ez up p n a b vs vk k1 k2 s1 s2 o v =
               let c = borrowed-near (sumFractions f g .kahan .sum) (sumFractions f g .kahan .correction) p n a b vs vk k1 k2 s1 s2 test in
               subst (λ (i : Float). Close L i (H + P + Q + bo * L) (N + M + up * L) (8 * W)) (sym ez) (subst (λ (i : ℕ). Close L (borrowFraction (sumFractions f g .kahan .sum) (sub binary64 (add binary64 (sumFractions f g .kahan .sum) (sumFractions f g .kahan .correction)) (sumFractions f g .kahan .sum))) (H + P + Q + i * L) (N + M + up * L) (8 * W)) (sym eb)

@@ -14,8 +14,8 @@ use Rattle.rounding.proofs.Chain.{Adds, exactly}
 use Rattle.day_number.specs.declared.Kahan.{Kahan}
 use Rattle.day_number.specs.declared.Carried.{Carried}
 use Rattle.day_number.specs.declared.Normalized.{Normalized}
-use Rattle.day_number.specs.DayNumber.{c-one, c-quarter, kahanOf, sumFractions, moved, carryDay, split}
-use Rattle.day_number.proofs.Units.{S, one-S, half-S, nought-S, quarter}
+use Rattle.day_number.specs.DayNumber.{c-one, c-minus-eps-4, kahanOf, sumFractions, moved, carryDay, split}
+use Rattle.day_number.proofs.Units.{S, one-S, half-S, nought-S, minus-eps-4}
 use Rattle.day_number.proofs.SumFractions.{Both, both}
 use Rattle.day_number.proofs.NormalizeFraction.{Normal, normal}
 use Rattle.day_number.proofs.Split.{Split, both-fits}
@@ -26,14 +26,14 @@ adds-S x y p n q m u l v w = exactly (add-exact 52 (lit≤ tt) (omega arith) (om
 -- a fraction on the grid that is below 1 is not carried
 stays : (κ : Kahan) (z : Float) (p n : ℕ) → Val z p n S → p < n + S → n ≤ p → carryDay κ z ≡ record { carry = 0; fraction = z }
 unfolding carryDay
-stays κ z p n v h k = go (lt (sub binary64 z c-one) c-quarter) refl _
+stays κ z p n v h k = go (lt (sub binary64 z c-one) c-minus-eps-4) refl _
   where
     t : Val (sub binary64 z c-one) (p + 0) (n + S) S
     t = sub-exact 52 (lit≤ tt) (omega arith) (omega arith) v one-S
 
-    go : (u : Bool) → lt (sub binary64 z c-one) c-quarter ≡ u → (r : Carried) → cond u (record { carry = 0; fraction = z }) r ≡ record { carry = 0; fraction = z }
+    go : (u : Bool) → lt (sub binary64 z c-one) c-minus-eps-4 ≡ u → (r : Carried) → cond u (record { carry = 0; fraction = z }) r ≡ record { carry = 0; fraction = z }
     go true e r = refl
-    go false e r = let y : 0 + (n + S) * 4 ≤ (p + 0) * 4 + 1 = lt-false (pow-pos 54) (val-scale 4 t) quarter e in let w : ⊥ = omega arith in absurd w
+    go false e r = let y : 0 + (n + S) * 4 ≤ (p + 0) * 4 + 1 = lt-false (pow-pos 54) (val-scale 4 t) minus-eps-4 e in let w : ⊥ = omega arith in absurd w
 
 module _ (f g : Float) (P N Q M : ℕ) (vf : Val f P N S) (vg : Val g Q M S) (f1 : N ≤ P + S) (f2 : P ≤ N + S) (g1 : M ≤ Q + S) (g2 : Q ≤ M + S) (fg : 2 * (N + M) ≤ 2 * (P + Q) + 3 * S) where
   pub split-grid : Split S 0 (sumFractions f g) (split f g) (2 ^ 51 + P + Q) (N + M)

@@ -1,5 +1,5 @@
 -- What each step of the code computes is what its definition says, branch by branch, on plain values. Assumes nothing.
-use mathlib.Core.Path.{_≡_, refl, sym, ap, _∙_, subst}
+use mathlib.Core.Path.{_≡_, sym, ap, _∙_, subst}
 use mathlib.Core.Bool.{Bool, true, false, cond, _&&_}
 use Prim.Native.Nat.{ℕ, _+_, _≤_}
 use native.Mathlib.Omega.{arith}
@@ -9,8 +9,7 @@ use Rattle.day_number.specs.declared.Kahan.{Kahan}
 use Rattle.day_number.specs.declared.Summed.{Summed}
 use Rattle.day_number.specs.declared.Borrowed.{Borrowed}
 use Rattle.day_number.specs.declared.Carried.{Carried}
-use Rattle.day_number.specs.declared.Normalized.{Normalized}
-use Rattle.day_number.specs.DayNumber.{c-one, c-zero, c-quarter, c-eps, c-min, c-max, inJulianRange, compensation, kahanStart, addFraction, sumFractions, carryDay, carryEnd, moved, kahanOf, borrowDay, normalizeFraction}
+use Rattle.day_number.specs.DayNumber.{c-one, c-zero, c-minus-eps-4, c-minus-eps-2, c-djmin, c-djmax, inJulianRange, compensation, kahanStart, addFraction, sumFractions, carryDay, moved, kahanOf, borrowDay, normalizeFraction}
 
 pick : {A : Type 0} (b : Bool) (x y : A) → b ≡ true → x ≡ cond b x y
 pick b x y e = sym (ap (λ (u : Bool). cond u x y) e)
@@ -19,13 +18,13 @@ skip : {A : Type 0} (b : Bool) (x y : A) → b ≡ false → y ≡ cond b x y
 skip b x y e = sym (ap (λ (u : Bool). cond u x y) e)
 
 -- ---- check_julian_range
-pub from-min : (dj : Float) → le c-min dj ≡ true → le dj c-max ≡ inJulianRange dj
+pub from-min : (dj : Float) → le c-djmin dj ≡ true → le dj c-djmax ≡ inJulianRange dj
 unfolding inJulianRange
-from-min dj e = sym (ap (λ (b : Bool). b && le dj c-max) e)
+from-min dj e = sym (ap (λ (b : Bool). b && le dj c-djmax) e)
 
-pub below-min : (dj : Float) → le c-min dj ≡ false → le c-min dj ≡ inJulianRange dj
+pub below-min : (dj : Float) → le c-djmin dj ≡ false → le c-djmin dj ≡ inJulianRange dj
 unfolding inJulianRange
-below-min dj e = e ∙ sym (ap (λ (b : Bool). b && le dj c-max) e)
+below-min dj e = e ∙ sym (ap (λ (b : Bool). b && le dj c-djmax) e)
 
 -- ---- compensation
 module _ (s f t a b : Float) (ea : a ≡ abs s) (eb : b ≡ abs f) where
@@ -74,23 +73,23 @@ module _ (κ : Kahan) (z : Float) where
   abbrev pub left : Float
   left = add binary64 (sub binary64 (κ .sum) c-one) (add binary64 (κ .correction) (sub binary64 (sub binary64 (κ .sum) (sub binary64 (κ .sum) c-one)) c-one))
 
-  pub carry-none : lt (sub binary64 z c-one) c-quarter ≡ true → _≡_ {A = Carried} (record { carry = 0; fraction = z }) (carryDay κ z)
+  pub carry-none : lt (sub binary64 z c-one) c-minus-eps-4 ≡ true → _≡_ {A = Carried} (record { carry = 0; fraction = z }) (carryDay κ z)
   unfolding carryDay
-  carry-none e = pick (lt (sub binary64 z c-one) c-quarter) _ _ e
+  carry-none e = pick (lt (sub binary64 z c-one) c-minus-eps-4) _ _ e
 
-  pub carry-over : lt (sub binary64 z c-one) c-quarter ≡ false → lt c-eps left ≡ true → lt c-zero left ≡ true → _≡_ {A = Carried} (record { carry = 1; fraction = left }) (carryDay κ z)
+  pub carry-over : lt (sub binary64 z c-one) c-minus-eps-4 ≡ false → lt c-minus-eps-2 left ≡ true → lt c-zero left ≡ true → _≡_ {A = Carried} (record { carry = 1; fraction = left }) (carryDay κ z)
   unfolding carryDay
   carry-over e f g =
-      ap (λ (w : Float). record { carry = 1; fraction = w }) (pick (lt c-zero left) left c-zero g) ∙ pick (lt c-eps left) _ _ f ∙ skip (lt (sub binary64 z c-one) c-quarter) _ _ e
+      ap (λ (w : Float). record { carry = 1; fraction = w }) (pick (lt c-zero left) left c-zero g) ∙ pick (lt c-minus-eps-2 left) _ _ f ∙ skip (lt (sub binary64 z c-one) c-minus-eps-4) _ _ e
 
-  pub carry-zero : lt (sub binary64 z c-one) c-quarter ≡ false → lt c-eps left ≡ true → lt c-zero left ≡ false → _≡_ {A = Carried} (record { carry = 1; fraction = c-zero }) (carryDay κ z)
+  pub carry-zero : lt (sub binary64 z c-one) c-minus-eps-4 ≡ false → lt c-minus-eps-2 left ≡ true → lt c-zero left ≡ false → _≡_ {A = Carried} (record { carry = 1; fraction = c-zero }) (carryDay κ z)
   unfolding carryDay
   carry-zero e f g =
-      ap (λ (w : Float). record { carry = 1; fraction = w }) (skip (lt c-zero left) left c-zero g) ∙ pick (lt c-eps left) _ _ f ∙ skip (lt (sub binary64 z c-one) c-quarter) _ _ e
+      ap (λ (w : Float). record { carry = 1; fraction = w }) (skip (lt c-zero left) left c-zero g) ∙ pick (lt c-minus-eps-2 left) _ _ f ∙ skip (lt (sub binary64 z c-one) c-minus-eps-4) _ _ e
 
-  pub carry-under : lt (sub binary64 z c-one) c-quarter ≡ false → lt c-eps left ≡ false → _≡_ {A = Carried} (record { carry = 0; fraction = left }) (carryDay κ z)
+  pub carry-under : lt (sub binary64 z c-one) c-minus-eps-4 ≡ false → lt c-minus-eps-2 left ≡ false → _≡_ {A = Carried} (record { carry = 0; fraction = left }) (carryDay κ z)
   unfolding carryDay
-  carry-under e f = skip (lt c-eps left) _ _ f ∙ skip (lt (sub binary64 z c-one) c-quarter) _ _ e
+  carry-under e f = skip (lt c-minus-eps-2 left) _ _ f ∙ skip (lt (sub binary64 z c-one) c-minus-eps-4) _ _ e
 
 -- ---- normalize_fraction
 module _ (κ : Kahan) where

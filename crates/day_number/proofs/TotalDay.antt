@@ -1,23 +1,18 @@
 -- The integer sum of the days in 64 bits: no step of it wraps, so it is the sum. Assumes nothing.
 use mathlib.Core.Path.{_≡_, sym, ap, _∙_, subst}
-use mathlib.Core.Logic.{_⊎_, inl, inr}
-use Prim.Native.Nat.{ℕ, _+_, _^_, _≤_, _<_}
+use Prim.Native.Nat.{ℕ, _+_, _-_, _^_, _≤_, _<_}
 use native.Mathlib.Omega.{arith}
 use lib.IntN.{ℤ, pos, _+ℤ_, _-ℤ_}
 use mir.Syntax.{w64}
 use mir.Val.{SFits, toZ, ofZ}
 use mir.ValLaws.{toZ-ofZ}
-use Rattle.rounding.proofs.Casts.{plusZ, minusZ, mag-pair, one-side}
+use Rattle.rounding.proofs.Casts.{plusZ, minusZ, mag-pair, pair-le}
 use Rattle.rounding.proofs.Ints.{Int, int-own, int-add, int-sub, int-fits}
 use Rattle.day_number.specs.Sums.{Sums}
 
 -- an integer between -M and K
 pub sides : {z : ℤ} {A B : ℕ} (K M : ℕ) → Int z A B → A ≤ B + K → B ≤ A + M → (plusZ z ≤ K) × (minusZ z ≤ M)
-sides {z} {A} {B} K M v h k = go (one-side z)
-  where
-    go : (plusZ z ≡ 0) ⊎ (minusZ z ≡ 0) → (plusZ z ≤ K) × (minusZ z ≤ M)
-    go (inl s) = omega (arith, v .is)
-    go (inr s) = omega (arith, v .is)
+sides {z} {A} {B} K M v h k = omega (arith, pair-le z (A - B) (B - A) (omega (arith, v .is)))
 
 -- an integer as 64 bits and back
 abbrev pub R : ℤ → ℤ

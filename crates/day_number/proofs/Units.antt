@@ -8,7 +8,7 @@ use lib.Dec.{lit<}
 use lib.Pow.{pow-pos}
 use lib.Ieee.{neg, div, ofBits}
 use Rattle.rounding.specs.Value.{Val, L}
-use Rattle.day_number.specs.DayNumber.{c-one, c-half, c-zero, c-quarter, c-eps, c-min, c-max}
+use Rattle.day_number.specs.DayNumber.{c-one, c-half, c-zero, c-minus-eps-4, c-minus-eps-2, c-djmin, c-djmax}
 
 abbrev pub G : ℕ
 G = 2 ^ 53
@@ -61,7 +61,7 @@ pub W-pos : 0 < W
 unfolding W
 W-pos = pow-pos 1020
 
-pub W-Z : W ≡ 549755813888 * Z
+W-Z : W ≡ 549755813888 * Z
 unfolding W Z
 W-Z = refl
 
@@ -81,15 +81,15 @@ pub nought-L : Val c-zero 0 0 L
 unfolding ofBits L
 nought-L = record { sign = false; size = 0; has = (refl, refl); is = refl }
 
-pub quarter-L : Val c-quarter 0 W L
+pub minus-eps-4-L : Val c-minus-eps-4 0 W L
 unfolding ofBits neg div L W
-quarter-L = record { sign = true; size = W; has = (refl, refl); is = refl }
+minus-eps-4-L = record { sign = true; size = W; has = (refl, refl); is = refl }
 
-pub min-L : Val c-min 0 (548556 * E) L
+pub min-L : Val c-djmin 0 (548556 * E) L
 unfolding ofBits L E
 min-L = record { sign = true; size = 548556 * E; has = (refl, refl); is = refl }
 
-pub max-L : Val c-max (8000000000 * E) 0 L
+pub max-L : Val c-djmax (8000000000 * E) 0 L
 unfolding ofBits L E
 max-L = record { sign = false; size = 8000000000 * E; has = (refl, refl); is = refl }
 
@@ -102,9 +102,9 @@ pub nought-G : Val c-zero 0 0 G
 unfolding ofBits
 nought-G = record { sign = false; size = 0; has = (refl, refl); is = refl }
 
-pub eps-G : Val c-eps 0 1 G
+pub minus-eps-2-G : Val c-minus-eps-2 0 1 G
 unfolding ofBits neg div
-eps-G = record { sign = true; size = 1; has = (refl, refl); is = refl }
+minus-eps-2-G = record { sign = true; size = 1; has = (refl, refl); is = refl }
 
 -- ---- in units of 2 ^ -52
 pub one-S : Val c-one S 0 S
@@ -119,7 +119,7 @@ pub nought-S : Val c-zero 0 0 S
 unfolding ofBits
 nought-S = record { sign = false; size = 0; has = (refl, refl); is = refl }
 
--- the least step that stops a carry, 2 ^ -54
-pub quarter : Val c-quarter 0 1 (2 ^ 54)
+-- ---- in units of 2 ^ -54
+pub minus-eps-4 : Val c-minus-eps-4 0 1 (2 ^ 54)
 unfolding ofBits neg div
-quarter = record { sign = true; size = 1; has = (refl, refl); is = refl }
+minus-eps-4 = record { sign = true; size = 1; has = (refl, refl); is = refl }

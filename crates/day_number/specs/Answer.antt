@@ -1,6 +1,5 @@
 -- What `day_number_and_fraction` answers. Written from document 01, "Day and fraction" and refusal 6. Assumes nothing.
 use mathlib.Core.Bool.{cond}
-use Prim.Native.Nat.{ℕ}
 use lib.Ieee.{Float}
 use Rattle.refusals.specs.Outcome.{Outcome, answer, refusal}
 use Rattle.day_number.specs.declared.DayNumber.{DayNumber}

@@ -12,7 +12,7 @@ use Rattle.day_number.specs.declared.Carried.{Carried}
 use Rattle.day_number.specs.declared.Normalized.{Normalized}
 use Rattle.day_number.specs.declared.DayNumber.{DayNumber}
 
--- 1.0, 0.5, 0.0, -DBL_EPSILON / 4.0, -DBL_EPSILON / 2.0, DJMIN = -68569.5, DJMAX = 1e9
+-- the Rust's constants by their bits: 1.0, 0.5 and 0.0
 abbrev pub c-one : Float
 c-one = ofBits binary64 0x3ff0_0000_0000_0000
 
@@ -22,22 +22,24 @@ c-half = ofBits binary64 0x3fe0_0000_0000_0000
 abbrev pub c-zero : Float
 c-zero = ofBits binary64 0
 
-abbrev pub c-quarter : Float
-c-quarter = div binary64 (neg (ofBits binary64 0x3cb0_0000_0000_0000)) (ofBits binary64 0x4010_0000_0000_0000)
+-- -DBL_EPSILON / 4.0 and -DBL_EPSILON / 2.0, that is -2 ^ -54 and -2 ^ -53
+abbrev pub c-minus-eps-4 : Float
+c-minus-eps-4 = div binary64 (neg (ofBits binary64 0x3cb0_0000_0000_0000)) (ofBits binary64 0x4010_0000_0000_0000)
 
-abbrev pub c-eps : Float
-c-eps = div binary64 (neg (ofBits binary64 0x3cb0_0000_0000_0000)) (ofBits binary64 0x4000_0000_0000_0000)
+abbrev pub c-minus-eps-2 : Float
+c-minus-eps-2 = div binary64 (neg (ofBits binary64 0x3cb0_0000_0000_0000)) (ofBits binary64 0x4000_0000_0000_0000)
 
-abbrev pub c-min : Float
-c-min = ofBits binary64 0xc0f0_bd98_0000_0000
+-- DJMIN and DJMAX, that is -68569.5 and 1e9
+abbrev pub c-djmin : Float
+c-djmin = ofBits binary64 0xc0f0_bd98_0000_0000
 
-abbrev pub c-max : Float
-c-max = ofBits binary64 0x41cd_cd65_0000_0000
+abbrev pub c-djmax : Float
+c-djmax = ofBits binary64 0x41cd_cd65_0000_0000
 
 -- the rounded sum lies in DJMIN..=DJMAX; a NaN does not
 unfoldable pub inJulianRange : Float → Bool
 unfolding le
-inJulianRange dj = le c-min dj && le dj c-max
+inJulianRange dj = le c-djmin dj && le dj c-djmax
 
 -- what the rounded sum `temp` lost
 unfoldable pub compensation : Float → Float → Float → Float
@@ -62,7 +64,7 @@ unfoldable pub sumFractions : Float → Float → Summed
 unfolding addFraction
 sumFractions f g = addFraction (addFraction 0 kahanStart f .carry) (addFraction 0 kahanStart f .kahan) g
 
--- one day borrowed: the sum, the fraction, and both with what the fraction differs from the sum
+-- one day borrowed: the sum with it, the fraction that it comes to, and both, with what the fraction differs from the sum
 abbrev pub borrowSum : Float → Float
 borrowSum sum = add binary64 sum c-one
 
@@ -79,15 +81,16 @@ borrowDay kahan =
 -- one day carried, and the fraction that is left
 unfoldable pub carryEnd : Float → Carried
 unfolding lt
-carryEnd rest = cond (lt c-eps rest) (record { carry = 1; fraction = cond (lt c-zero rest) rest c-zero }) (record { carry = 0; fraction = rest })
+carryEnd rest = cond (lt c-minus-eps-2 rest) (record { carry = 1; fraction = cond (lt c-zero rest) rest c-zero }) (record { carry = 0; fraction = rest })
 
 unfoldable pub carryDay : Kahan → Float → Carried
 unfolding lt carryEnd add sub
 carryDay kahan fraction =
     let sum = sub binary64 (kahan .sum) c-one in
     let correction = add binary64 (kahan .correction) (sub binary64 (sub binary64 (kahan .sum) sum) c-one) in
-    cond (lt (sub binary64 fraction c-one) c-quarter) (record { carry = 0; fraction = fraction }) (carryEnd (add binary64 sum correction))
+    cond (lt (sub binary64 fraction c-one) c-minus-eps-4) (record { carry = 0; fraction = fraction }) (carryEnd (add binary64 sum correction))
 
+-- the days carried at the end beside those borrowed before
 abbrev pub moved : ℕ → Carried → Normalized
 moved borrow end = record { carry = end .carry; borrow = borrow; fraction = end .fraction }
 
@@ -111,6 +114,7 @@ rest x = sub binary64 x (nearestInt x)
 abbrev pub total : Float → Float → ℕ → ℕ → ℕ → ℤ
 total a b carry more borrow = toSigned 63 a +ℤ toSigned 63 b +ℤ pos carry +ℤ (pos more -ℤ pos borrow)
 
+-- what the two fractions come to
 unfoldable pub split : Float → Float → Normalized
 unfolding sumFractions normalizeFraction
 split f g = normalizeFraction (sumFractions f g .kahan)
@@ -127,6 +131,7 @@ unfoldable pub dayOf : Float → Float → DayNumber
 unfolding dayNumber dayFraction
 dayOf jd1 jd2 = record { day = dayNumber jd1 jd2; fraction = dayFraction jd1 jd2 }
 
+-- the pairs that have a day: their rounded sum is in the range
 unfoldable pub accepted : Float → Float → Bool
 unfolding inJulianRange add
 accepted jd1 jd2 = inJulianRange (add binary64 jd1 jd2)

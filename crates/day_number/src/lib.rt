@@ -7,12 +7,13 @@ ghost use Rattle.day_number.specs.DayNumber as S;
 ghost use Rattle.day_number.specs.Answer.{dayOutcome, dayNumberAndFraction};
 ghost use Rattle.day_number.specs.Sums.{Sums};
 
-// A day by its Julian Day number, and the part of it that has passed at midnight 0.0 and below 1.0.
+// A civil day by its Julian Day number, and the fraction of it since its midnight, from 0.0 to below 1.0.
 pub struct DayNumber {
     pub day: i64,
     pub fraction: f64,
 }
 
+// The day and the fraction, or a refusal by number.
 pub enum DayAnswer {
     Day(DayNumber),
     Refused(u32),
@@ -30,7 +31,7 @@ struct Summed {
     kahan: Kahan,
 }
 
-// The days borrowed for a sum, the sum with them, and the fraction that it makes.
+// The days borrowed for a sum, the sum with them, and the fraction that it comes to.
 struct Borrowed {
     borrow: u64,
     kahan: Kahan,
@@ -50,13 +51,14 @@ struct Normalized {
     fraction: f64,
 }
 
+// The least and the greatest rounded sum of a date's parts.
 const DJMIN: f64 = -68569.5;
 
 const DJMAX: f64 = 1e9;
 
 const DBL_EPSILON: f64 = 2.220446049250313e-16;
 
-// Whether the rounded sum of a date's parts is one that has a calendar date. A NaN is not.
+// Whether the rounded sum of a date's parts is in the range. A NaN is not.
 fn check_julian_range(dj: f64) -> bool
     ensures { λ r. ⌜ r ≡ S.inJulianRange dj ⌝ }
 {
@@ -161,12 +163,12 @@ fn normalize_fraction(kahan: Kahan) -> Normalized
     ensures { λ r. ⌜ r ≡ S.normalizeFraction kahan ⌝ }
 {
     let fraction = kahan.sum + kahan.correction;
-    let exact = Kahan {
+    let settled = Kahan {
         sum: kahan.sum,
         correction: fraction - kahan.sum,
     };
     if fraction < 0.0 {
-        let more = borrow_day(exact);
+        let more = borrow_day(settled);
         let kahan = more.kahan;
         let end = carry_day(kahan, more.fraction);
         Normalized {
@@ -175,7 +177,7 @@ fn normalize_fraction(kahan: Kahan) -> Normalized
             fraction: end.fraction,
         }
     } else {
-        let end = carry_day(exact, fraction);
+        let end = carry_day(settled, fraction);
         Normalized {
             carry: end.carry,
             borrow: 0,

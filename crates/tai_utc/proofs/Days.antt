@@ -3,6 +3,7 @@
 use mathlib.Core.Path.{_≡_, refl, ap, sym, subst, _∙_}
 use mathlib.Core.List.{List}
 use Prim.Native.Nat.{ℕ}
+use native.Mathlib.Omega.{arith}
 use lib.IntN.{ℤ, pos, natAbs, sucℤ}
 use lib.Ieee.{Float, binary64, ofInt}
 use Rattle.refusals.specs.Outcome.{Outcome, answer, refusal, onward}
@@ -36,3 +37,27 @@ module _ (rows : List Row) (y m d : ℤ) where
           p,
           offset-given rows (t .year) (pos (t .month)) (pos (t .day)) zeroF in-day-zero (sucℤ n) (next-mjd y m d t p n e),
         )
+
+-- ---- REFUSED exactly where there is no next date, with the next date's number: the date's own, 1 to 3, or 5
+module _ (rows : List Row) (y m d : ℤ) where
+  pub day-offsets-are : dayOffsets rows y m d ≡ onward (nextOf y m d) (λ t. answer (offsetsOfDay rows (monthNumber y (natAbs m)) (monthNumber (t .year) (t .month)) (mjdNumber y m d)))
+  unfolding onward
+  day-offsets-are = go (validDate y m d) refl (nextOf y m d) refl
+    where
+      go : (v : Outcome Unit) → validDate y m d ≡ v → (w : Outcome CalendarDate) → nextOf y m d ≡ w → dayOffsets rows y m d ≡ onward w (λ t. answer (offsetsOfDay rows (monthNumber y (natAbs m)) (monthNumber (t .year) (t .month)) (mjdNumber y m d)))
+      go (refusal k) p w q = day-refused rows y m d k (mjd-refused y m d k p) ∙ ap (λ (o : Outcome CalendarDate). onward o (λ t. answer (offsetsOfDay rows (monthNumber y (natAbs m)) (monthNumber (t .year) (t .month)) (mjdNumber y m d)))) (sym (refused y m d k p) ∙ q)
+      go (answer x) p (refusal k) q = no-next-day rows y m d (mjdNumber y m d) (mjd-given y m d p) k q
+      go (answer x) p (answer t) q = day-given rows y m d (mjdNumber y m d) (mjd-given y m d p) t q
+
+  -- the leap of a day that has a next one, and a leap that is given comes from such a day
+  pub leap-given : (t : CalendarDate) → nextOf y m d ≡ answer t → leapAtEndOfDay rows y m d ≡ answer (leapOf (offsetsOfDay rows (monthNumber y (natAbs m)) (monthNumber (t .year) (t .month)) (mjdNumber y m d)))
+  unfolding leapAtEndOfDay onward
+  leap-given t p = rw (day-offsets-are, p)
+
+  pub leap-came : (x : Float) → leapAtEndOfDay rows y m d ≡ answer x → (t : CalendarDate) × (nextOf y m d ≡ answer t) × (x ≡ leapOf (offsetsOfDay rows (monthNumber y (natAbs m)) (monthNumber (t .year) (t .month)) (mjdNumber y m d)))
+  unfolding leapAtEndOfDay onward
+  leap-came x e = go (nextOf y m d) refl (sym (ap (λ (o : Outcome DayOffsets). onward o (λ p. answer (leapOf p))) day-offsets-are) ∙ e)
+    where
+      go : (w : Outcome CalendarDate) → nextOf y m d ≡ w → onward (onward w (λ t. answer (offsetsOfDay rows (monthNumber y (natAbs m)) (monthNumber (t .year) (t .month)) (mjdNumber y m d)))) (λ o. answer (leapOf o)) ≡ answer x → (t : CalendarDate) × (nextOf y m d ≡ answer t) × (x ≡ leapOf (offsetsOfDay rows (monthNumber y (natAbs m)) (monthNumber (t .year) (t .month)) (mjdNumber y m d)))
+      go (answer t) p q = (t, p, cc)
+      go (refusal k) p q = let z : _≡_ {A = ℕ} 0 1 = cc in absurd (omega arith)

@@ -6,3 +6,5 @@ pub mod At
 pub mod Mjd
 pub mod Offsets
 pub mod Days
+pub mod Years
+pub mod Cases

@@ -4,6 +4,7 @@ use mathlib.Core.Path.{_≡_, refl, ap, sym, subst, _∙_}
 use mathlib.Core.Bool.{Bool, true, false, not, cond, _&&_}
 use mathlib.Core.List.{List}
 use Prim.Native.Nat.{ℕ}
+use native.Mathlib.Omega.{arith}
 use lib.IntN.{ℤ, natAbs}
 use lib.Ieee.{Float, binary64, ofInt, le}
 use Rattle.refusals.specs.Outcome.{Outcome, answer, refusal, onward}
@@ -49,3 +50,14 @@ module _ (rows : List Row) (y m d : ℤ) (f : Float) where
   pub offset-given : inDay f ≡ true → (n : ℤ) → mjdOf y m d ≡ answer n → taiUtcOffset rows y m d f ≡ answer (offsetAt rows (monthNumber y (natAbs m)) (ofInt binary64 n) f)
   unfolding taiUtcOffset onward
   offset-given e n p = rw (e, p)
+
+-- ---- an offset that is given comes from a date that is not refused
+came : (b : Bool) (o : Outcome ℤ) (g : ℤ → Float) (x : Float) → cond b (onward o (λ n. answer (g n))) (refusal 7) ≡ answer x → (n : ℤ) × (o ≡ answer n) × (x ≡ g n)
+unfolding onward
+came true (answer n) g x e = (n, refl, cc)
+came true (refusal k) g x e = let z : _≡_ {A = ℕ} 0 1 = cc in absurd (omega arith)
+came false o g x e = let z : _≡_ {A = ℕ} 0 1 = cc in absurd (omega arith)
+
+pub offset-came : (rows : List Row) (y m d : ℤ) (f x : Float) → taiUtcOffset rows y m d f ≡ answer x → (n : ℤ) × (mjdOf y m d ≡ answer n) × (x ≡ offsetAt rows (monthNumber y (natAbs m)) (ofInt binary64 n) f)
+unfolding taiUtcOffset
+offset-came rows y m d f x e = came (inDay f) (mjdOf y m d) (λ n. offsetAt rows (monthNumber y (natAbs m)) (ofInt binary64 n) f) x e

@@ -1,16 +1,15 @@
--- The look-up in any list of months: what it finds from the end, that it is the last month that has begun, how it grows from month to month in a list that rises,
--- and what it is where rows are added at the end. Assumes nothing.
+-- The look-up in any list of months: what it finds from the end, that it is the last month that has begun, and how it grows from month to month in a list that rises.
+-- Assumes nothing.
 use mathlib.Core.Path.{_≡_, refl, ap, sym, subst, _∙_}
-use mathlib.Core.Bool.{Bool, true, false, _&&_}
-use mathlib.Core.Logic.{_⊎_, inl, inr}
-use mathlib.Core.List.{List, [], _∷_, _++_}
+use mathlib.Core.Bool.{Bool, true, false, cond, _&&_, _||_}
+use mathlib.Core.List.{List, [], _∷_}
 use Prim.Native.Nat.{ℕ, zero, suc, _+_, _-_, _≤_, _<_}
 use native.Mathlib.Omega.{arith}
-use native.Mathlib.Nat.{le-antisymm, not-suc-le-zero, le-of-suc-le-suc, zero-add, add-suc, suc-add}
-use lib.Dec.{T, leb, ltb, ltb→lt}
+use native.Mathlib.Nat.{not-suc-le-zero, le-of-suc-le-suc}
+use lib.Dec.{T, eqb, leb, ltb, ltb→lt}
 use lib.ListN.{length, getD, drop}
 use lib.Seq.{drop-cons, drop-length}
-use borrow.Author.Tests.{le-leb, lt-leb, leb-true, leb-false}
+use borrow.Author.Tests.{le-leb, lt-leb, leb-true, leb-false, eqb-true, eqb-false, ne-eqb}
 use Rattle.tai_utc.specs.Table.{reached, onTop}
 
 top-one : (k : ℕ) (b : Bool) → k ≡ 0 → b ≡ true → onTop k b ≡ 1
@@ -102,23 +101,58 @@ begun a n l h = top-true (reached l n) (leb a n) (le-leb a n h)
 not-begun : (a n : ℕ) (l : List ℕ) → T (rising (a ∷ l)) → n < a → reached (a ∷ l) n ≡ 0
 not-begun a n l t h = earlier a n l h (late a l t n (omega arith))
 
--- a month later at most one row more has begun
-pub step : (l : List ℕ) → T (rising l) → (n : ℕ) → (reached l (suc n) ≡ reached l n) ⊎ (reached l (suc n) ≡ suc (reached l n))
+-- whether a row begins in the month
+abbrev pub member : ℕ → List ℕ → Bool
+member n [] = false
+member n (a ∷ l) = eqb n a || member n l
+
+not-member : (a : ℕ) (l : List ℕ) → T (rising (a ∷ l)) → (n : ℕ) → n ≤ a → member n l ≡ false
+not-member a [] t n h = refl
+not-member a (b ∷ l) t n h =
+    let g = ltb→lt a b (and-left (ltb a b) (rising (b ∷ l)) t) in
+    rw (ne-eqb n b (λ e. omega arith)) (not-member b l (tail-rises a (b ∷ l) t) n (omega arith))
+
+-- a month later one row more has begun where one begins in it, and else as many
+pub month-later : (l : List ℕ) → T (rising l) → (n : ℕ) → reached l (suc n) ≡ cond (member (suc n) l) (suc (reached l n)) (reached l n)
 unfolding reached
-step [] t n = inl refl
-step (a ∷ l) t n = go (leb a n) refl (step l (tail-rises a l t) n)
+month-later [] t n = refl
+month-later (a ∷ l) t n = go (leb a n) refl (eqb (suc n) a) refl (month-later l (tail-rises a l t) n)
   where
-    start : (b : Bool) → leb a (suc n) ≡ b → n < a → (reached (a ∷ l) (suc n) ≡ reached (a ∷ l) n) ⊎ (reached (a ∷ l) (suc n) ≡ suc (reached (a ∷ l) n))
-    start true e h = inr (top-one (reached l (suc n)) (leb a (suc n)) (late a l t (suc n) h) e ∙ ap suc (sym (not-begun a n l t h)))
-    start false e h = inl (top-none (reached l (suc n)) (leb a (suc n)) (late a l t (suc n) h) e ∙ sym (not-begun a n l t h))
+    go : (b : Bool) → leb a n ≡ b → (c : Bool) → eqb (suc n) a ≡ c → reached l (suc n) ≡ cond (member (suc n) l) (suc (reached l n)) (reached l n) → reached (a ∷ l) (suc n) ≡ cond (c || member (suc n) l) (suc (reached (a ∷ l) n)) (reached (a ∷ l) n)
+    go true e true f i = absurd (omega (arith, leb-true a n e, eqb-true (suc n) a f))
+    go true e false f i =
+        let h = leb-true a n e in
+        begun a (suc n) l (omega arith) ∙ ap suc i ∙ push (member (suc n) l) (reached l n) ∙ ap (λ (k : ℕ). cond (member (suc n) l) (suc k) k) (sym (begun a n l h))
+      where
+        push : (b : Bool) (k : ℕ) → suc (cond b (suc k) k) ≡ cond b (suc (suc k)) (suc k)
+        push true k = refl
+        push false k = refl
+    go false e true f i =
+        let h = eqb-true (suc n) a f in
+        begun a (suc n) l (omega arith) ∙ ap suc (late a l t (suc n) (omega arith) ∙ sym (not-begun a n l t (leb-false a n e)))
+    go false e false f i =
+        let h = leb-false a n e in
+        let g = eqb-false (suc n) a f in
+        not-begun a (suc n) l t (above-both (suc n) a g h)
+        ∙ sym (rw (not-member a l t (suc n) h) (not-begun a n l t h))
+      where
+        above-both : (k b : ℕ) → (k ≡ b → ⊥) → k ≤ b → k < b
+        above-both k b p q = omega arith
 
-    more : a ≤ n → (reached l (suc n) ≡ reached l n) ⊎ (reached l (suc n) ≡ suc (reached l n)) → (reached (a ∷ l) (suc n) ≡ reached (a ∷ l) n) ⊎ (reached (a ∷ l) (suc n) ≡ suc (reached (a ∷ l) n))
-    more h (inl e) = inl (begun a (suc n) l (omega arith) ∙ ap suc e ∙ sym (begun a n l h))
-    more h (inr e) = inr (begun a (suc n) l (omega arith) ∙ ap suc (e ∙ sym (begun a n l h)))
+-- the rows of places up to i begin before a month that is past row i
+above : (a : ℕ) (l : List ℕ) → T (rising (a ∷ l)) → (k : ℕ) → k < length l → a < getD l k 0
+above a [] t k h = absurd (not-suc-le-zero h)
+above a (b ∷ l) t zero h = ltb→lt a b (and-left (ltb a b) (rising (b ∷ l)) t)
+above a (b ∷ l) t (suc k) h =
+    let g = ltb→lt a b (and-left (ltb a b) (rising (b ∷ l)) t) in
+    omega (arith, g, above b l (tail-rises a (b ∷ l) t) k (le-of-suc-le-suc h))
 
-    go : (b : Bool) → leb a n ≡ b → (reached l (suc n) ≡ reached l n) ⊎ (reached l (suc n) ≡ suc (reached l n)) → (reached (a ∷ l) (suc n) ≡ reached (a ∷ l) n) ⊎ (reached (a ∷ l) (suc n) ≡ suc (reached (a ∷ l) n))
-    go true e i = more (leb-true a n e) i
-    go false e i = start (leb a (suc n)) refl (leb-false a n e)
+pub member-later : (l : List ℕ) → T (rising l) → (i n : ℕ) → i < length l → getD l i 0 < n → member n l ≡ member n (drop (suc i) l)
+member-later [] t i n h b = absurd (not-suc-le-zero h)
+member-later (a ∷ l) t zero n h b = rw (ne-eqb n a (λ e. omega arith))
+member-later (a ∷ l) t (suc i) n h b =
+    let g = above a l t i (le-of-suc-le-suc h) in
+    rw (ne-eqb n a (λ e. omega arith)) (member-later l (tail-rises a l t) i n (le-of-suc-le-suc h) b)
 
 -- where row k has begun, it or a later one is reached; where it has not, an earlier one
 pub low : (l : List ℕ) (k n : ℕ) → k < length l → getD l k 0 ≤ n → suc k ≤ reached l n
@@ -137,13 +171,43 @@ high [] t k n h b = absurd (not-suc-le-zero h)
 high (a ∷ l) t zero n h b = omega (arith, not-begun a n l t b)
 high (a ∷ l) t (suc k) n h b = top-most (reached l n) k (leb a n) (high l (tail-rises a l t) k n (le-of-suc-le-suc h) b)
 
--- ---- rows after rows: where one of the later rows has begun it counts, and else the earlier ones are looked up
-pub append-none : (l r : List ℕ) (n : ℕ) → reached r n ≡ 0 → reached (l ++ r) n ≡ reached l n
+-- ---- THE ROW FOUND is the last whose month has begun, and where none is found no month has begun; in any list
+pub none-begun : (l : List ℕ) (n : ℕ) → reached l n ≡ 0 → (j : ℕ) → j < length l → n < getD l j 0
 unfolding reached
-append-none [] r n e = e
-append-none (a ∷ l) r n e = ap (λ (k : ℕ). onTop k (leb a n)) (append-none l r n e)
+none-begun [] n e j h = absurd (not-suc-le-zero h)
+none-begun (a ∷ l) n e j h = go (reached l n) refl (leb a n) refl e j h (λ p i g. none-begun l n p i g)
+  where
+    go : (k : ℕ) → reached l n ≡ k → (b : Bool) → leb a n ≡ b → onTop k b ≡ 0 → (i : ℕ) → i < length (a ∷ l) → (reached l n ≡ 0 → (i : ℕ) → i < length l → n < getD l i 0) → n < getD (a ∷ l) i 0
+    go (suc k) p b q z i g more = absurd (omega arith)
+    go zero p true q z i g more = absurd (omega arith)
+    go zero p false q z zero g more = leb-false a n q
+    go zero p false q z (suc i) g more = more p i (le-of-suc-le-suc g)
 
-pub append-some : (l r : List ℕ) (n k : ℕ) → reached r n ≡ suc k → reached (l ++ r) n ≡ length l + suc k
+pub record LastBegun (l : List ℕ) (n i : ℕ) : Type 0 where
+  pub in-list : i < length l
+  pub has-begun : getD l i 0 ≤ n
+  pub later-not : (j : ℕ) → i < j → j < length l → n < getD l j 0
+
+at-top : (a : ℕ) (l : List ℕ) (n : ℕ) → a ≤ n → reached l n ≡ 0 → LastBegun (a ∷ l) n 0
+at-top a l n h e = record { in-list = omega arith; has-begun = h; later-not = later }
+  where
+    later : (j : ℕ) → 0 < j → j < length (a ∷ l) → n < getD (a ∷ l) j 0
+    later zero g k = absurd (omega arith)
+    later (suc j) g k = none-begun l n e j (le-of-suc-le-suc k)
+
+below-top : (a : ℕ) (l : List ℕ) (n i : ℕ) → LastBegun l n i → LastBegun (a ∷ l) n (suc i)
+below-top a l n i r = record { in-list = omega (arith, r .in-list); has-begun = r .has-begun; later-not = later }
+  where
+    later : (j : ℕ) → suc i < j → j < length (a ∷ l) → n < getD (a ∷ l) j 0
+    later zero g k = absurd (omega arith)
+    later (suc j) g k = r .later-not j (le-of-suc-le-suc g) (le-of-suc-le-suc k)
+
+pub last-begun : (l : List ℕ) (n i : ℕ) → reached l n ≡ suc i → LastBegun l n i
 unfolding reached
-append-some [] r n k e = e ∙ sym (zero-add (suc k))
-append-some (a ∷ l) r n k e = top-more (reached (l ++ r) n) (length l + k) (leb a n) (append-some l r n k e ∙ add-suc (length l) k) ∙ sym (suc-add (length l) (suc k) ∙ ap suc (add-suc (length l) k))
+last-begun [] n i e = absurd (omega arith)
+last-begun (a ∷ l) n i e = go (reached l n) refl (leb a n) refl e (λ j p. last-begun l n j p)
+  where
+    go : (k : ℕ) → reached l n ≡ k → (b : Bool) → leb a n ≡ b → onTop k b ≡ suc i → ((j : ℕ) → reached l n ≡ suc j → LastBegun l n j) → LastBegun (a ∷ l) n i
+    go (suc k) p b q z more = subst (λ (j : ℕ). LastBegun (a ∷ l) n j) (omega arith) (below-top a l n k (more k p))
+    go zero p true q z more = subst (λ (j : ℕ). LastBegun (a ∷ l) n j) (omega arith) (at-top a l n (leb-true a n q) p)
+    go zero p false q z more = absurd (omega arith)

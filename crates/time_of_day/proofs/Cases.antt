@@ -2,7 +2,7 @@
 use mathlib.Core.Path.{_≡_, refl}
 use mathlib.Core.Bool.{true}
 use lib.IntN.{pos}
-use lib.Ieee.{Float, fin, binary64, ofBits, add, mul, div, lt, toSigned}
+use lib.Ieee.{fin, binary64, ofBits, add, mul, div, lt, toSigned}
 use Rattle.floats.specs.Whole.{abs, toWhole, away}
 use Rattle.time_of_day.specs.declared.TimeShown.the-variants.{At, NextMidnight}
 use Rattle.time_of_day.specs.Milliseconds.{zero-f, wholeLeap, secondsOf, millisOf}

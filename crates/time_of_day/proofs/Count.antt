@@ -1,7 +1,7 @@
 -- The count of milliseconds of a fraction of a day: it is not below 0, and within 1 / 2 + 2 ^ -24 of the exact time of day. Assumes nothing.
 use mathlib.Core.Path.{_≡_, refl, sym, ap, _∙_, subst}
 use mathlib.Core.Logic.{_⊎_, inl, inr}
-use Prim.Native.Nat.{ℕ, zero, suc, _+_, _-_, _*_, _≤_, _<_}
+use Prim.Native.Nat.{ℕ, _+_, _-_, _*_, _≤_, _<_}
 use native.Mathlib.Nat.{le-trans, le-of-eq, le-of-lt, lt-of-le-of-lt, lt-of-lt-of-le, mul-comm, mul-assoc, mul-left-comm, mul-right-comm, mul-one, one-mul, mul-add, add-mul, mul-pos, mul-le-mul-left, le-of-mul-le-mul-right, lt-of-mul-lt-mul-right, le-antisymm, zero-mul, add-zero}
 use native.Mathlib.Omega.{arith}
 use mathlib.Core.Bool.{Bool, true, false, cond}

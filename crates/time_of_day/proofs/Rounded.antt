@@ -1,11 +1,11 @@
 -- A whole number nearest to a float's value, over pairs: `toSigned 63 (toWhole how x)` for an x = (p - n) / L below 2 ^ 52 in size and any rule `how` that gives a nearest one. Assumes nothing.
-use mathlib.Core.Path.{_≡_, refl, sym, ap, _∙_, subst}
-use Prim.Native.Nat.{ℕ, zero, suc, _+_, _*_, _/_, _%_, _^_, _≤_, _<_}
-use native.Mathlib.Nat.{le-trans, le-of-eq, lt-of-le-of-lt, lt-of-lt-of-le, mul-comm, mul-assoc, mul-left-comm, mul-right-comm, add-mul, mul-add, mul-pos, div-add-mod', mod-lt, lt-of-mul-lt-mul-right, add-zero}
+use mathlib.Core.Path.{_≡_, sym, ap, _∙_, subst}
+use Prim.Native.Nat.{ℕ, _+_, _*_, _%_, _^_, _≤_, _<_}
+use native.Mathlib.Nat.{mul-comm, mul-assoc, mul-left-comm, add-mul, mul-pos, div-add-mod', mod-lt, lt-of-mul-lt-mul-right, add-zero}
 use native.Mathlib.Omega.{arith}
 use mathlib.Core.Bool.{Bool, true, false}
-use lib.IntN.{ℤ, pos, negsuc}
-use lib.Dec.{lit<, lit≤}
+use lib.IntN.{ℤ}
+use lib.Dec.{lit<}
 use lib.Ieee.{Float, nan, inf, fin, binary64, up, down, round, toSigned}
 use lib.Ieee.Fits.{down-pos}
 use lib.Ieee.Exact.{HasValue}

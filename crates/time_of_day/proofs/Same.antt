@@ -17,7 +17,7 @@ use Rattle.time_of_day.specs.Milliseconds.{wholeLeap, millisOf}
 use Rattle.time_of_day.specs.TimeShown.{fromZero, shownAt, shownOf}
 use Rattle.time_of_day.specs.ExactTime.{Fraction, Leap}
 use Rattle.time_of_day.proofs.Rounded.{Nearest}
-use Rattle.time_of_day.proofs.Count.{InUnits, in-units, AsFraction, as-fraction, Counted, counted, WithinOne, within-one, at-least, cross, size-is}
+use Rattle.time_of_day.proofs.Count.{in-units, as-fraction, counted, WithinOne, within-one, at-least, cross, size-is}
 
 -- ---- a value and a sign fix the float: they fix its bits
 pattern : Bool → ℕ → ℕ

@@ -1,12 +1,11 @@
 -- What is shown: its fields are a time of day's, they stand for the count, and it is within 0.501 ms of the exact time of day, for every fraction of a day and every case of leap. Assumes nothing.
 use mathlib.Core.Path.{_≡_, refl, sym, ap, _∙_, subst}
-use Prim.Native.Nat.{ℕ, _+_, _-_, _*_, _/_, _%_, _≤_, _<_, min}
-use native.Mathlib.Nat.{le-trans, le-of-eq, le-of-lt, mul-comm, mul-assoc, mul-left-comm, mul-right-comm, add-mul, mul-le-mul-left, mul-le-mul-right, le-of-mul-le-mul-right, one-mul, add-zero}
+use Prim.Native.Nat.{ℕ, _+_, _-_, _*_, _/_, _%_, _≤_, _<_}
+use native.Mathlib.Nat.{le-trans, le-of-eq, le-of-lt, mul-comm, mul-assoc, mul-right-comm, add-mul, mul-le-mul-left, mul-le-mul-right, le-of-mul-le-mul-right, one-mul, add-zero}
 use native.Mathlib.Omega.{arith}
 use mathlib.Core.Bool.{Bool, true, false, not, cond}
-use lib.IntN.{pos}
 use lib.Dec.{T, ltb, ltb→lt, nltb→le}
-use borrow.Author.Tests.{lt-ltb, le-ltb}
+use borrow.Author.Tests.{le-ltb}
 use lib.Ieee.{Float, nan, inf, fin, binary64, up, down, ofBits, lt, le, eq, fits}
 use lib.Ieee.Fits.{down-pos}
 use lib.Ieee.Exact.{HasValue}
@@ -17,11 +16,11 @@ use Rattle.rounding.proofs.Own.{plus-of, minus-of, signed-of}
 use Rattle.rounding.proofs.Compare.{lt-val, lt-says}
 use Rattle.time_of_day.specs.declared.TimeShown.{TimeShown}
 use Rattle.time_of_day.specs.declared.TimeShown.the-variants.{At, NextMidnight}
-use Rattle.time_of_day.specs.Milliseconds.{zero-f, half-f, wholeLeap, millisOf}
+use Rattle.time_of_day.specs.Milliseconds.{zero-f, half-f, wholeLeap}
 use Rattle.time_of_day.specs.TimeShown.{minuteOf, timeOf, dayEnd, fromZero, shownAt, shownOf}
 use Rattle.time_of_day.specs.ExactTime.{Fraction, Leap, little, second, first, minus-second, DayLength, timeMs, shownMs, Close, GoodTime, Good, ShownRight}
 use Rattle.time_of_day.proofs.Rounded.{Nearest, away-nearest}
-use Rattle.time_of_day.proofs.Count.{InUnits, in-units, Counted, counted, within-one, at-most, zero-val, one-val, minus-one-val, le-says, cross}
+use Rattle.time_of_day.proofs.Count.{InUnits, in-units, Counted, counted, within-one, at-most, zero-val, minus-one-val, le-says, cross}
 
 -- ---- the fields
 total : (m r : ℕ) → 3600000 * (m / 60) + 60000 * (m % 60) + 1000 * (r / 1000) + r % 1000 ≡ 60000 * m + r

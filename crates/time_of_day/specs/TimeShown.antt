@@ -1,5 +1,5 @@
 -- The time of day that a count of milliseconds shows. Written from document 01, "UTC text", and from the Rust's `to_iso8601` and `iso_string` (scales/utc/mod.rs). Assumes nothing.
-use Prim.Native.Nat.{ℕ, _+_, _-_, _*_, _/_, _%_, min}
+use Prim.Native.Nat.{ℕ, _-_, _*_, _/_, _%_, min}
 use mathlib.Core.Bool.{Bool, cond}
 use lib.IntN.{ℤ, pos, negsuc}
 use lib.Dec.{ltb}

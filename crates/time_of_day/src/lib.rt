@@ -26,12 +26,14 @@ pub fn whole_leap(leap: f64) -> f64
     if floats::fabs(leap) > 0.5 { leap } else { 0.0 }
 }
 
+// The seconds of the day, in the Rust's order of operations.
 fn seconds(fraction: f64, leap: f64) -> f64
     ensures { λ r. ⌜ r ≡ secondsOf fraction leap ⌝ }
 {
     86400.0 * (fraction + fraction * leap / 86400.0)
 }
 
+// Rust's milliseconds, for every two floats.
 fn milliseconds(fraction: f64, leap: f64) -> i64
     ensures { λ r. ⌜ r ≡ millisOf away fraction leap ⌝ }
 {
@@ -45,6 +47,7 @@ fn from_zero(count: i64) -> u64
     if count < 0 { 0 } else { count as u64 }
 }
 
+// The milliseconds at which the next day begins. The Rust has no case for a leap below 0; no row of the table gives one.
 fn day_end(leap: f64) -> u64
     ensures { λ r. ⌜ (r ≡ dayEnd leap) × (r ≤ 86401000) ⌝ }
 {
@@ -57,6 +60,7 @@ fn day_end(leap: f64) -> u64
     86_400_000
 }
 
+// A leap second belongs to the day's last minute, which then runs to 61 s.
 fn minute_of_day(millis: u32) -> u32
     ensures { λ r. ⌜ r ≡ minuteOf millis ⌝ }
 {
@@ -81,9 +85,9 @@ fn time_of(millis: u32) -> TimeOfDay
 pub fn time_shown(fraction: f64, leap: f64) -> TimeShown
     ensures { λ r. ⌜ r ≡ shownOf away fraction leap ⌝ }
 {
-    let stretch = whole_leap(leap);
-    let count = from_zero(milliseconds(fraction, stretch));
-    if count < day_end(stretch) {
+    let day_leap = whole_leap(leap);
+    let count = from_zero(milliseconds(fraction, day_leap));
+    if count < day_end(day_leap) {
         TimeShown::At(time_of(count as u32))
     } else {
         TimeShown::NextMidnight

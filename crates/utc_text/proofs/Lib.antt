@@ -1,3 +1,5 @@
 -- The laws of UTC text.
 pub mod Sign
 pub mod Laws
+pub mod ReadBack
+pub mod Cases

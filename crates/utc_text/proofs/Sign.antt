@@ -1,12 +1,12 @@
 -- The sign and the size of a signed number of 32 bits, as the code finds them. Assumes nothing.
-use Prim.Native.Nat.{ℕ, suc, _+_, _<_, _^_, zero-le}
+use Prim.Native.Nat.{ℕ, _<_, zero-le}
 use native.Mathlib.Omega.{arith}
 use mathlib.Core.Path.{_≡_, refl, sym, ap, subst, _∙_}
-use mathlib.Core.Bool.{Bool, true, false, not}
+use mathlib.Core.Bool.{true, false, not}
 use lib.IntN.{ℤ, pos, negsuc, natAbs, _-ℤ_}
-use lib.Dec.{T, ltb}
+use lib.Dec.{T}
 use lib.Signed.{ltZ, nonNeg}
-use mir.Syntax.{Width, w32, w64}
+use mir.Syntax.{w32, w64}
 use mir.Val.{Fits, SFits, toZ, ofZ}
 use mir.Facts.{sfits-widen, toZ-ofZ}
 use borrow.Author.Tests.{ltb-true, le-ltb}

@@ -23,6 +23,6 @@ unfoldable pub bufferAfter : List ℕ → List ℕ → List ℕ
 bufferAfter t l = cond (leb (length t) (length l)) (t ++ drop (length t) l) l
 
 -- r answers the text t, and the buffer, which held `before`, holds `after`
-pub record Put (t before : List ℕ) (r : TextAnswer) (after : List ℕ) : Type 0 where
+pub record TextPut (t before : List ℕ) (r : TextAnswer) (after : List ℕ) : Type 0 where
   pub says : textOutcome r ≡ textWritten t (length before)
   pub holds : after ≡ bufferAfter t before

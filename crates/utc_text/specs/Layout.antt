@@ -1,6 +1,6 @@
--- The code's own form of the text: seven places for the year, of which the first few are skipped. Nothing that is promised cites it. Assumes nothing.
-use Prim.Native.Nat.{ℕ, _+_, _/_}
-use mathlib.Core.List.{List, [], _∷_}
+-- The code's own form of the text: seven places for the year, of which the first few are skipped. No public contract cites it. Assumes nothing.
+use Prim.Native.Nat.{ℕ, _/_}
+use mathlib.Core.List.{List, _∷_}
 use mathlib.Core.Bool.{Bool, true, false, not, _&&_, cond}
 use lib.Dec.{ltb}
 use Rattle.utc_text.specs.Text.{last, three, four, five, six, seven}

@@ -2,11 +2,11 @@
 use Prim.Native.Nat.{ℕ, _+_, _-_, _*_, _≤_}
 use mathlib.Core.Path.{_≡_}
 use mathlib.Core.List.{List, [], _∷_}
-use mathlib.Core.Bool.{cond}
+use mathlib.Core.Bool.{false, cond}
 use lib.ListN.{length, take, drop}
 use lib.IntN.{ℤ, pos, negsuc, negℤ}
-use lib.Signed.{leZ}
-use lib.Dec.{T, eqb}
+use lib.Signed.{ltZ}
+use lib.Dec.{eqb}
 use Rattle.calendar.specs.declared.CalendarDate.{CalendarDate}
 use Rattle.time_of_day.specs.declared.TimeOfDay.{TimeOfDay}
 
@@ -63,10 +63,10 @@ pub record ReadsAs (t : List ℕ) (d : CalendarDate) (u : TimeOfDay) : Type 0 wh
   pub second : readSecond t ≡ u .second
   pub milli : readMilli t ≡ u .milli
 
--- the dates and times that are written: years -4799 to 2733194
+-- the dates and times that are written: years -4900 to 2733194, all that the calendar gives
 pub record Writable (d : CalendarDate) (u : TimeOfDay) : Type 0 where
-  pub first-year : T (leZ (negsuc 4798) (d .year))
-  pub last-year : T (leZ (d .year) (pos 2733194))
+  pub year-low : ltZ (d .year) (negsuc 4899) ≡ false
+  pub year-high : ltZ (pos 2733194) (d .year) ≡ false
   pub month : d .month ≤ 12
   pub day : d .day ≤ 31
   pub hour : u .hour ≤ 23

@@ -31,17 +31,17 @@ abbrev pub seven : ℕ → List ℕ
 seven n = last (n / 1000000) ∷ six n
 
 -- The year has at least four characters, the sign counted: 0 is 0000, -1 is -001. Of a year with more than seven digits, or four after a sign, the last ones are shown;
--- no caller has one, since the calendar's years are -4900 to 2733194
+-- no caller has one: the calendar's years are -4900 to 2733194
 unfoldable pub yearText : ℤ → List ℕ
 yearText (pos n) = cond (ltb n 10000) (four n) (cond (ltb n 100000) (five n) (cond (ltb n 1000000) (six n) (seven n)))
 yearText (negsuc n) = 45 ∷ cond (ltb (suc n) 1000) (three (suc n)) (four (suc n))
 
--- -MM-DDThh:mm:ss.mmm, for month and day, hour, minute, second and millisecond
-abbrev pub afterYear : ℕ → ℕ → ℕ → ℕ → ℕ → ℕ → List ℕ
-afterYear mo d h mi s ms =
-    (45 ∷ []) ++ (two mo ++ ((45 ∷ []) ++ (two d ++ ((84 ∷ []) ++ (two h ++ ((58 ∷ []) ++ (two mi ++ ((58 ∷ []) ++ (two s ++ ((46 ∷ []) ++ three ms))))))))))
+-- -MM-DDThh:mm:ss.mmm
+abbrev pub afterYear : CalendarDate → TimeOfDay → List ℕ
+afterYear d t =
+    (45 ∷ []) ++ (two (d .month) ++ ((45 ∷ []) ++ (two (d .day) ++ ((84 ∷ []) ++ (two (t .hour) ++ ((58 ∷ []) ++ (two (t .minute) ++ ((58 ∷ []) ++ (two (t .second) ++ ((46 ∷ []) ++ three (t .milli)))))))))))
 
 -- the text of a date and a time of day
 unfoldable pub utcText : CalendarDate → TimeOfDay → List ℕ
 unfolding yearText
-utcText d t = yearText (d .year) ++ afterYear (d .month) (d .day) (t .hour) (t .minute) (t .second) (t .milli)
+utcText d t = yearText (d .year) ++ afterYear d t

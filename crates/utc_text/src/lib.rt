@@ -1,10 +1,12 @@
 // UTC text into a lent buffer: the Rust's `iso_string`, with a byte slice in place of a string.
 mod year;
 
+use calendar::CalendarDate;
+use time_of_day::TimeOfDay;
 ghost use mathlib.Core.Path.{_≡_};
 ghost use mathlib.Core.List.{_++_};
 ghost use Rattle.utc_text.specs.Text.{four, afterYear, utcText};
-ghost use Rattle.utc_text.specs.Answer.{Put};
+ghost use Rattle.utc_text.specs.Answer.{TextPut};
 ghost use Rattle.utc_text.specs.Layout.{signed, wide};
 
 // How many bytes were written, or the number of the refusal.
@@ -13,58 +15,9 @@ pub enum TextAnswer {
     Refused(u32),
 }
 
-// The text of a year of four digits.
-fn basic_bytes(
-    year: u32,
-    month: u32,
-    day: u32,
-    hour: u32,
-    minute: u32,
-    second: u32,
-    milli: u32,
-) -> [u8; 23]
-    ensures { λ r. ⌜ r ≡ four year ++ afterYear month day hour minute second milli ⌝ }
-{
-    [
-        48 + (year / 1000 % 10) as u8,
-        48 + (year / 100 % 10) as u8,
-        48 + (year / 10 % 10) as u8,
-        48 + (year % 10) as u8,
-        b'-',
-        48 + (month / 10 % 10) as u8,
-        48 + (month % 10) as u8,
-        b'-',
-        48 + (day / 10 % 10) as u8,
-        48 + (day % 10) as u8,
-        b'T',
-        48 + (hour / 10 % 10) as u8,
-        48 + (hour % 10) as u8,
-        b':',
-        48 + (minute / 10 % 10) as u8,
-        48 + (minute % 10) as u8,
-        b':',
-        48 + (second / 10 % 10) as u8,
-        48 + (second % 10) as u8,
-        b'.',
-        48 + (milli / 100 % 10) as u8,
-        48 + (milli / 10 % 10) as u8,
-        48 + (milli % 10) as u8,
-    ]
-}
-
-// The text of any year, its seven places in front; `third` and `fourth` are the places that a sign may take.
-fn wide_bytes(
-    third: u8,
-    fourth: u8,
-    size: u32,
-    month: u32,
-    day: u32,
-    hour: u32,
-    minute: u32,
-    second: u32,
-    milli: u32,
-) -> [u8; 26]
-    ensures { λ r. ⌜ r ≡ wide third fourth size ++ afterYear month day hour minute second milli ⌝ }
+// The text with seven places for the year; a sign may stand in the third or the fourth.
+fn wide_bytes(third: u8, fourth: u8, size: u32, date: CalendarDate, time: TimeOfDay) -> [u8; 26]
+    ensures { λ r. ⌜ r ≡ wide third fourth size ++ afterYear date time ⌝ }
 {
     [
         48 + (size / 1000000 % 10) as u8,
@@ -75,63 +28,53 @@ fn wide_bytes(
         48 + (size / 10 % 10) as u8,
         48 + (size % 10) as u8,
         b'-',
-        48 + (month / 10 % 10) as u8,
-        48 + (month % 10) as u8,
+        48 + (date.month / 10 % 10) as u8,
+        48 + (date.month % 10) as u8,
         b'-',
-        48 + (day / 10 % 10) as u8,
-        48 + (day % 10) as u8,
+        48 + (date.day / 10 % 10) as u8,
+        48 + (date.day % 10) as u8,
         b'T',
-        48 + (hour / 10 % 10) as u8,
-        48 + (hour % 10) as u8,
+        48 + (time.hour / 10 % 10) as u8,
+        48 + (time.hour % 10) as u8,
         b':',
-        48 + (minute / 10 % 10) as u8,
-        48 + (minute % 10) as u8,
+        48 + (time.minute / 10 % 10) as u8,
+        48 + (time.minute % 10) as u8,
         b':',
-        48 + (second / 10 % 10) as u8,
-        48 + (second % 10) as u8,
+        48 + (time.second / 10 % 10) as u8,
+        48 + (time.second % 10) as u8,
         b'.',
-        48 + (milli / 100 % 10) as u8,
-        48 + (milli / 10 % 10) as u8,
-        48 + (milli % 10) as u8,
+        48 + (time.milli / 100 % 10) as u8,
+        48 + (time.milli / 10 % 10) as u8,
+        48 + (time.milli % 10) as u8,
     ]
 }
 
-fn put_basic(
-    year: u32,
-    month: u32,
-    day: u32,
-    hour: u32,
-    minute: u32,
-    second: u32,
-    milli: u32,
-    out: &mut [u8],
-) -> TextAnswer
-    ensures { λ r. ⌜ Put (four year ++ afterYear month day hour minute second milli) (now (out .entry)) r (now (out .exit)) ⌝ }
+// The text of a year of four digits: three places are skipped, and the copy has a fixed length.
+fn put_basic(year: u32, date: CalendarDate, time: TimeOfDay, out: &mut [u8]) -> TextAnswer
+    ensures { λ r. ⌜ TextPut (four year ++ afterYear date time) (now (out .entry)) r (now (out .exit)) ⌝ }
 {
-    let all = basic_bytes(year, month, day, hour, minute, second, milli);
+    let fourth = year::fourth(false, year);
+    let all = wide_bytes(b'0', fourth, year, date, time);
     if out.len() < 23 {
         return TextAnswer::Refused(refusals::TEXT_LONGER_THAN_BUFFER);
     }
-    let n = bytes::copy(&all, out);
+    let n = bytes::copy(&all[3..], out);
     TextAnswer::Written(n)
 }
 
+// The text of any year.
 fn put_wide(
     negative: bool,
     size: u32,
-    month: u32,
-    day: u32,
-    hour: u32,
-    minute: u32,
-    second: u32,
-    milli: u32,
+    date: CalendarDate,
+    time: TimeOfDay,
     out: &mut [u8],
 ) -> TextAnswer
-    ensures { λ r. ⌜ Put (signed negative size ++ afterYear month day hour minute second milli) (now (out .entry)) r (now (out .exit)) ⌝ }
+    ensures { λ r. ⌜ TextPut (signed negative size ++ afterYear date time) (now (out .entry)) r (now (out .exit)) ⌝ }
 {
     let third = year::third(negative, size);
     let fourth = year::fourth(negative, size);
-    let all = wide_bytes(third, fourth, size, month, day, hour, minute, second, milli);
+    let all = wide_bytes(third, fourth, size, date, time);
     let skip = year::skipped(negative, size);
     if out.len() < 26 - skip {
         return TextAnswer::Refused(refusals::TEXT_LONGER_THAN_BUFFER);
@@ -141,13 +84,13 @@ fn put_wide(
 }
 
 // The text at the buffer's start; where it does not fit, 11 and nothing is written.
-pub fn put_text(date: calendar::CalendarDate, time: time_of_day::TimeOfDay, out: &mut [u8]) -> TextAnswer
-    ensures { λ r. ⌜ Put (utcText date time) (now (out .entry)) r (now (out .exit)) ⌝ }
+pub fn put_text(date: CalendarDate, time: TimeOfDay, out: &mut [u8]) -> TextAnswer
+    ensures { λ r. ⌜ TextPut (utcText date time) (now (out .entry)) r (now (out .exit)) ⌝ }
 {
     let negative = year::negative(date.year);
     let size = year::size(date.year);
     if year::is_basic(negative, size) {
-        return put_basic(size, date.month, date.day, time.hour, time.minute, time.second, time.milli, out);
+        return put_basic(size, date, time, out);
     }
-    put_wide(negative, size, date.month, date.day, time.hour, time.minute, time.second, time.milli, out)
+    put_wide(negative, size, date, time, out)
 }

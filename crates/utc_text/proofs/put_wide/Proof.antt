@@ -27,8 +27,8 @@ sub-if1 c = search needs
 returns : tie.Need-returns
 returns c =
     let a = c .before .before .before .before .before .before .args in
-    short (signed (a .negative) (a .size) ++ afterYear (a .month) (a .day) (a .hour) (a .minute) (a .second) (a .milli)) (now (a .out))
-    (omega (arith, wide-length (a .size) (a .month) (a .day) (a .hour) (a .minute) (a .second) (a .milli) (a .negative)))
+    short (signed (a .negative) (a .size) ++ afterYear (a .date) (a .time)) (now (a .out))
+    (omega (arith, wide-length (a .size) (a .date) (a .time) (a .negative)))
 
 sub-copy : tie.Need-sub-copy
 sub-copy c = search needs
@@ -49,12 +49,12 @@ returns-2 : tie.Need-returns-2
 returns-2 c =
     let b = c .before .before .before .before .before .before .before in
     let a = b .before .before .before .before .before .args in
-    done _ (signed (a .negative) (a .size) ++ afterYear (a .month) (a .day) (a .hour) (a .minute) (a .second) (a .milli)) (now (a .out)) _ _
-    (source (a .size) (a .month) (a .day) (a .hour) (a .minute) (a .second) (a .milli) (a .negative) _ _ _ _
+    done _ (signed (a .negative) (a .size) ++ afterYear (a .date) (a .time)) (now (a .out)) _ _
+    (source (a .size) (a .date) (a .time) (a .negative) _ _ _ _
     (b .before .before .before .third .ensures) (b .before .before .fourth .ensures) (b .skipped .ensures .0) (b .before .wide-bytes .ensures))
     (c .before .before .copy .ensures .0)
     (c .before .before .copy .ensures .1)
-    (omega (arith, wide-length (a .size) (a .month) (a .day) (a .hour) (a .minute) (a .second) (a .milli) (a .negative)))
+    (omega (arith, wide-length (a .size) (a .date) (a .time) (a .negative)))
 
 pub put-wide-spec : {M : Type 1} → statement M
 put-wide-spec =

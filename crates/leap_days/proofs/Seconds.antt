@@ -1,0 +1,168 @@
+-- THE LEAP SECONDS: from 1972 on the leap is exactly 1.0 on the 27 days of the list and exactly 0.0 on every other day; so a day has 86,401 s or 86,400 s.
+-- Assumes nothing.
+use mathlib.Core.Path.{_≡_, refl, ap, sym, subst, _∙_}
+use mathlib.Core.Bool.{Bool, true, false, not, cond, _&&_, _||_}
+use mathlib.Core.List.{List, [], _∷_, map}
+use Prim.Native.Nat.{ℕ, suc, _+_, _-_, _*_, _≤_, _<_}
+use native.Mathlib.Omega.{arith}
+use lib.Dec.{T, eqb, ltb, leb, leb→le}
+use lib.ListN.{length, getD, drop}
+use lib.IntN.{ℤ, pos, natAbs}
+use lib.Ieee.{Float, nan, inf, fin, binary64, add, lt, up, down, round, ofInt}
+use borrow.Author.Tests.{eqb-true, eqb-false, eq-eqb, ne-eqb, ltb-true, ltb-false, le-ltb}
+use Rattle.refusals.specs.Outcome.{answer}
+use Rattle.floats.specs.Whole.{abs}
+use Rattle.calendar.specs.Calendar.{lengths, leapSize}
+use Rattle.calendar.proofs.Accepted.{Accepted, accepted}
+use Rattle.calendar.proofs.NextDates.{next-is}
+use Rattle.tai_utc.specs.Table.{fixed, starts, monthOf}
+use Rattle.tai_utc.specs.Offset.{zeroF, halfF, oneF}
+use Rattle.tai_utc.specs.Leap.{leapOf, leapAtEndOfDay}
+use Rattle.tai_utc.proofs.Reached.{member, member-later}
+use Rattle.tai_utc.proofs.Rows.{fixed-rises}
+use Rattle.tai_utc.proofs.Days.{leap-came}
+use Rattle.leap_days.specs.Leaps.{Day, leapSeconds, listed, isLeapSecond, small, leap1959}
+use Rattle.leap_days.proofs.Every.{from-1972, since}
+use Rattle.leap_days.proofs.Whole.{wholeF}
+
+-- ---- 27 days, each the last of the month before one of rows 16 to 42 begins
+pub twenty-seven : length leapSeconds ≡ 27
+unfolding leapSeconds
+twenty-seven = refl
+
+-- the number of the month after a day's
+abbrev monthAfter : Day → ℕ
+monthAfter t = 12 * (t .year) + t .month
+
+months-are : drop 15 (starts fixed) ≡ map monthAfter leapSeconds
+unfolding fixed leapSeconds
+months-are = refl
+
+begins : (n : ℕ) → 23664 ≤ n → member (suc n) (starts fixed) ≡ member (suc n) (map monthAfter leapSeconds)
+unfolding fixed
+begins n h = member-later (starts fixed) fixed-rises 14 (suc n) (omega arith) (omega arith) ∙ ap (member (suc n)) months-are
+
+abbrev lastDay : Day → Bool
+lastDay t = (leb 1 (t .month) && leb (t .month) 12) && eqb (t .day) (lengths (leapSize (t .year)) (t .month))
+
+abbrev lastDays : List Day → Bool
+lastDays [] = true
+lastDays (t ∷ rest) = lastDay t && lastDays rest
+
+and-left : (a b : Bool) → T (a && b) → T a
+and-left true b t = tt
+and-left false b t = t
+
+and-right : (a b : Bool) → T (a && b) → T b
+and-right true b t = t
+and-right false b t = absurd t
+
+is-true : (b : Bool) → T b → b ≡ true
+is-true true t = refl
+is-true false t = absurd t
+
+with-true : (b : Bool) → b && true ≡ b
+with-true true = refl
+with-true false = refl
+
+with-false : (b : Bool) → b && false ≡ false
+with-false true = refl
+with-false false = refl
+
+share : (c a b : Bool) → (c && a) || (c && b) ≡ c && (a || b)
+share true a b = refl
+share false a b = refl
+
+module _ (y m d : ℕ) (l : 1 ≤ m) (h : m ≤ 12) where
+  abbrev E : Bool
+  E = eqb d (lengths (leapSize y) m)
+
+  one : (t : Day) → T (lastDay t) → eqb y (t .year) && (eqb m (t .month) && eqb d (t .day)) ≡ E && eqb (12 * y + m) (monthAfter t)
+  one t k = go (eqb y (t .year)) refl (eqb m (t .month)) refl
+    where
+      r : T (leb 1 (t .month) && leb (t .month) 12)
+      r = and-left (leb 1 (t .month) && leb (t .month) 12) (eqb (t .day) (lengths (leapSize (t .year)) (t .month))) k
+
+      low : 1 ≤ t .month
+      low = leb→le 1 (t .month) (and-left (leb 1 (t .month)) (leb (t .month) 12) r)
+
+      high : t .month ≤ 12
+      high = leb→le (t .month) 12 (and-right (leb 1 (t .month)) (leb (t .month) 12) r)
+
+      day : t .day ≡ lengths (leapSize (t .year)) (t .month)
+      day = eqb-true (t .day) (lengths (leapSize (t .year)) (t .month)) (is-true (eqb (t .day) (lengths (leapSize (t .year)) (t .month))) (and-right (leb 1 (t .month) && leb (t .month) 12) (eqb (t .day) (lengths (leapSize (t .year)) (t .month))) k))
+
+      other : (12 * y + m ≡ monthAfter t → ⊥) → false ≡ E && eqb (12 * y + m) (monthAfter t)
+      other n = sym (ap (λ (b : Bool). E && b) (ne-eqb (12 * y + m) (monthAfter t) n) ∙ with-false E)
+
+      go : (a : Bool) → eqb y (t .year) ≡ a → (b : Bool) → eqb m (t .month) ≡ b → a && (b && eqb d (t .day)) ≡ E && eqb (12 * y + m) (monthAfter t)
+      go true p true q =
+          let p′ = eqb-true y (t .year) p in
+          let q′ = eqb-true m (t .month) q in
+          ap (eqb d) (day ∙ sym (λ i. lengths (leapSize (p′ i)) (q′ i)))
+          ∙ sym (ap (λ (b : Bool). E && b) (eq-eqb (12 * y + m) (monthAfter t) (λ i. 12 * (p′ i) + q′ i)) ∙ with-true E)
+      go true p false q = other (λ e. eqb-false m (t .month) q (omega (arith, eqb-true y (t .year) p)))
+      go false p b q = other (λ e. eqb-false y (t .year) p (omega (arith, e, l, h, low, high)))
+
+  all : (s : List Day) → T (lastDays s) → listed s y m d ≡ E && member (12 * y + m) (map monthAfter s)
+  all [] k = sym (with-false E)
+  all (t ∷ s) k =
+      (λ i. one t (and-left (lastDay t) (lastDays s) k) i || all s (and-right (lastDay t) (lastDays s) k) i)
+      ∙ share E (eqb (12 * y + m) (monthAfter t)) (member (12 * y + m) (map monthAfter s))
+
+  all-last : T (lastDays leapSeconds)
+  unfolding leapSeconds lengths leapSize
+  all-last = tt
+
+  at-end : d ≤ lengths (leapSize y) m → not (ltb d (lengths (leapSize y) m)) ≡ E
+  at-end g = go (ltb d (lengths (leapSize y) m)) refl
+    where
+      go : (b : Bool) → ltb d (lengths (leapSize y) m) ≡ b → not b ≡ E
+      go true e = sym (ne-eqb d (lengths (leapSize y) m) (λ z. omega (arith, ltb-true d (lengths (leapSize y) m) e)))
+      go false e = sym (eq-eqb d (lengths (leapSize y) m) (omega (arith, ltb-false d (lengths (leapSize y) m) e)))
+
+  number : suc (monthOf y m) ≡ 12 * y + m
+  number = omega arith
+
+  late : 1972 ≤ y → 23664 ≤ monthOf y m
+  late g = omega arith
+
+  the-list : 1972 ≤ y → d ≤ lengths (leapSize y) m → not (ltb d (lengths (leapSize y) m)) && member (suc (monthOf y m)) (starts fixed) ≡ isLeapSecond y m d
+  unfolding isLeapSecond
+  the-list g k =
+      (λ i. at-end k i && begins (monthOf y m) (late g) i)
+      ∙ ap (λ (n : ℕ). E && member n (map monthAfter leapSeconds)) number
+      ∙ sym (all leapSeconds all-last)
+
+-- ---- THE LAWS, from 1972 on
+pub leap-seconds : (y : ℕ) (m d : ℤ) (x : Float) → 1972 ≤ y → leapAtEndOfDay fixed (pos y) m d ≡ answer x → x ≡ cond (isLeapSecond y (natAbs m) (natAbs d)) oneF zeroF
+leap-seconds y m d x h e =
+    let (t, p, q) = leap-came fixed (pos y) m d x e in
+    let a = accepted (pos y) m d (next-is (pos y) m d t p .0) in
+    q
+    ∙ ap leapOf (since y m d t p)
+    ∙ from-1972 y m d a (late y (natAbs m) (natAbs d) (a .m-low) (a .m-high) h) .0
+    ∙ ap (λ (b : Bool). cond b oneF zeroF) (the-list y (natAbs m) (natAbs d) (a .m-low) (a .m-high) h (a .d-high))
+
+lengths-are : (b : Bool) → add binary64 (wholeF 86400) (cond b oneF zeroF) ≡ wholeF (cond b 86401 86400)
+unfolding add round ofInt
+lengths-are true = refl
+lengths-are false = refl
+
+-- the day's length in seconds
+pub day-length : (y : ℕ) (m d : ℤ) (x : Float) → 1972 ≤ y → leapAtEndOfDay fixed (pos y) m d ≡ answer x → add binary64 (wholeF 86400) x ≡ wholeF (cond (isLeapSecond y (natAbs m) (natAbs d)) 86401 86400)
+day-length y m d x h e = ap (add binary64 (wholeF 86400)) (leap-seconds y m d x h e) ∙ lengths-are (isLeapSecond y (natAbs m) (natAbs d))
+
+-- ---- the test of the text, 0.5 < |leap|: false of the small ones, and true of the other two
+pub small-not-over : (x : Float) → T (small x) → lt halfF (abs x) ≡ false
+unfolding lt abs
+small-not-over nan t = absurd t
+small-not-over (inf s) t = absurd t
+small-not-over (fin s m e) t = le-ltb (1 * 1 * down e) (m * up e * 2) (go (m * up e * 2) (down e) (leb→le (m * up e * 2) (down e) t))
+  where
+    go : (a b : ℕ) → a ≤ b → a ≤ 1 * 1 * b
+    go a b h = omega arith
+
+pub others-over : (lt halfF (abs oneF) ≡ true) × (lt halfF (abs leap1959) ≡ true)
+unfolding lt abs
+others-over = (refl, refl)

@@ -1,0 +1,2 @@
+-- The definitions that the laws of leaps are stated in.
+pub mod Leaps
