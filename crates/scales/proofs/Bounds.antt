@@ -1,5 +1,6 @@
--- How far each formula is from its meaning, over dates with one part at most 2 ^ 23 days in size and the other at most 1 + 2 ^ -7 (the numbers are terms.py's). Assumes nothing.
-use mathlib.Core.Path.{_≡_, refl, sym, ap, _∙_}
+-- How far each formula is from its meaning, over dates with one part at most 2 ^ 23 days in size and the other at most 1 + 2 ^ -7. A script wrote the numbers of the four
+-- rates, as in Finiteness: the places of the roundings, the size of the correction and its error. Assumes nothing.
+use mathlib.Core.Path.{refl}
 use Prim.Native.Nat.{ℕ, _+_, _*_, _^_, _≤_, _<_}
 use native.Mathlib.Nat.{mul-assoc}
 use native.Mathlib.Omega.{arith}
@@ -10,7 +11,7 @@ use Rattle.rounding.proofs.About.{U, About, about-add, about-sub, about-within}
 use Rattle.scales.specs.Formulas.{plus, minus, daysOf, gpsDays, ttDays, tcgToTt, ttToTcg, tcbToTdb, tdbToTcb}
 use Rattle.scales.proofs.Constants.{gps-about, tt-about, mjd-about, epoch-about, jd1977-about, tt-about-2, tdb0-about, lg-val, ratio-lg-val, lb-val, ratio-lb-val}
 use Rattle.scales.proofs.Formulas.{part, since-about, until-about, rate-less, rate-more, plus-about, minus-about, days-about}
-use Rattle.scales.proofs.Dates.{Near, near-of, Formula}
+use Rattle.scales.proofs.Dates.{near-of, Formula}
 
 -- the larger part and the smaller, in units of 2 ^ -90 days
 abbrev pub most : ℕ

@@ -2,7 +2,7 @@
 -- number a power of 2 (or a number of days) above its size and the last the least bound of its distance from the decimal, both in units of 2 ^ -90. Assumes nothing.
 use mathlib.Core.Path.{refl}
 use mathlib.Core.Bool.{true, false}
-use Prim.Native.Nat.{ℕ, _*_, _^_}
+use Prim.Native.Nat.{_*_, _^_}
 use lib.Dec.{lit≤, lit<}
 use lib.Ieee.{round, add, sub, div, neg}
 use Rattle.rounding.specs.Value.{Val, L}

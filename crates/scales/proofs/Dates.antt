@@ -1,23 +1,21 @@
 -- From the smaller part to the date: one law for every formula. Assumes nothing.
 use mathlib.Core.Path.{_≡_, refl, sym, ap, _∙_, subst, subst₂}
-use Prim.Native.Nat.{ℕ, _+_, _*_, _^_, _≤_, _<_}
-use native.Mathlib.Nat.{le-trans, le-of-eq, le-of-lt, le-of-mul-le-mul-right, mul-assoc, mul-comm, mul-left-comm, mul-right-comm, mul-add, add-mul, mul-le-mul-left, mul-le-mul-right, add-zero}
+use Prim.Native.Nat.{ℕ, _+_, _*_, _≤_, _<_}
+use native.Mathlib.Nat.{le-trans, le-of-eq, le-of-mul-le-mul-right, mul-assoc, mul-comm, mul-right-comm, mul-add, add-mul, mul-le-mul-right, add-zero}
 use native.Mathlib.Omega.{arith}
-use mathlib.Core.Bool.{Bool, true, false, not, true≢false}
+use mathlib.Core.Bool.{Bool, true, false, not}
 use mathlib.Core.Logic.{_⊎_, inl, inr}
 use lib.Dec.{T, ltb, ltb→lt, nltb→le}
-use lib.Ieee.{Float, nan, inf, fin, up, down, lt}
-use lib.Ieee.Fits.{down-pos}
+use lib.Ieee.{Float, lt}
 use lib.Ieee.Exact.{HasValue}
 use Rattle.floats.specs.Whole.{abs}
-use Rattle.rounding.specs.Value.{Signed, Val, L}
+use Rattle.rounding.specs.Value.{Val, L}
 use Rattle.rounding.proofs.Value.{L-pos, abs-has}
 use Rattle.rounding.proofs.Own.{plus-of, minus-of, signed-of}
 use Rattle.rounding.proofs.Compare.{lt-val}
-use Rattle.rounding.proofs.About.{U, About, Within, about-within}
+use Rattle.rounding.proofs.About.{U, Within}
 use Rattle.julian.specs.declared.JulianDate.{JulianDate}
 use Rattle.scales.specs.SmallerPart.{firstIsLarger, mapSmallerPart}
-use Rattle.julian.specs.Worth.{Worth}
 use Rattle.scales.specs.Meaning.{day, Close}
 use Rattle.scales.proofs.SmallerPart.{mapAs, map-is}
 

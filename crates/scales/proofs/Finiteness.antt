@@ -1,4 +1,4 @@
--- Document 01's one theorem over the sixteen conversions: a date whose parts are under 2 ^ 52 in size, with an offset of at most 10 ^ 9 seconds, has an answer, both parts of it
+-- Demand 1 of the sixteen conversions, as one theorem: a date whose parts are under 2 ^ 52 in size, with an offset of at most 10 ^ 9 seconds, has an answer, both parts of it
 -- finite. A script wrote the numbers of the four rates: the places of the roundings (the bit length of what is rounded, less 54), the size of the correction and its
 -- error, the last two the least that the laws of `About` allow, in units of 2 ^ -90. Assumes nothing.
 use mathlib.Core.Path.{_≡_, refl, sym, ap, _∙_, subst}
@@ -8,17 +8,18 @@ use native.Mathlib.Omega.{arith}
 use mathlib.Core.Bool.{Bool, true, false, _||_}
 use lib.Dec.{T, leb→le, lit≤, lit<}
 use lib.IntN.{pos}
-use lib.Ieee.{Float, nan, inf, fin, binary64, fits, lt, le, eq, round}
+use lib.Ieee.{Float, nan, inf, fin, binary64, lt, le, eq, round}
 use lib.Ieee.Scale.{finite}
 use lib.Ieee.Exact.{HasValue}
 use Rattle.floats.specs.Whole.{abs}
-use Rattle.rounding.specs.Value.{Signed, Val, L}
+use Rattle.rounding.specs.Value.{Val, L}
+use Rattle.rounding.proofs.Signed.{signed-le}
 use Rattle.rounding.proofs.Value.{L-pos, abs-has, val-finite-true}
-use Rattle.rounding.proofs.Own.{Own, own}
+use Rattle.rounding.proofs.Own.{own}
 use Rattle.rounding.proofs.Range.{power-val}
 use Rattle.rounding.proofs.Compare.{le-val}
 use Rattle.rounding.proofs.About.{U, L-U, About, about-add, about-sub, size-high, size-low}
-use Rattle.refusals.specs.Outcome.{Outcome, answer, refusal, onward}
+use Rattle.refusals.specs.Outcome.{onward}
 use Rattle.julian.specs.declared.JulianDate.{JulianDate}
 use Rattle.julian.specs.Worth.{Under52, SmallParts}
 use Rattle.scales.specs.SmallerPart.{firstIsLarger, mapSmallerPart}
@@ -36,10 +37,6 @@ pub sized-finite : {x : Float} {S : ℕ} → Sized x S → finite x ≡ true
 sized-finite z = val-finite-true (value z)
 
 -- ---- the formulas, over parts of any size up to 2 ^ 53 days
-
-signed-le : (s : Bool) (a p n X : ℕ) → Signed s a p n → p ≤ n + X → n ≤ p + X → a ≤ X
-signed-le false a p n X h k l = omega arith
-signed-le true a p n X h k l = omega arith
 
 pub about-sized : (T' : ℕ) {x : Float} {P N D M e : ℕ} → M + e ≤ T' → About x P N D M e → Sized x T'
 about-sized T' {x} {P} {N} {D} {M} {e} h a =

@@ -1,12 +1,11 @@
 -- What each formula computes, near what it means: the errors added up once, over variables. i is the place of the last digit that a rounding may move: 2 ^ i in units of 2 ^ -90.
 -- Assumes nothing.
-use mathlib.Core.Path.{_≡_, refl, sym, ap, _∙_, subst, subst₂}
+use mathlib.Core.Path.{refl}
 use Prim.Native.Nat.{ℕ, _+_, _*_, _^_, _≤_, _<_}
-use native.Mathlib.Nat.{mul-one, mul-assoc, mul-add, add-mul}
 use native.Mathlib.Omega.{arith}
 use mathlib.Core.Bool.{false}
-use lib.Dec.{lit≤, lit<}
-use lib.Ieee.{Float, binary64, add, sub, mul, div, round}
+use lib.Dec.{lit<}
+use lib.Ieee.{Float, binary64, add, sub, mul, round}
 use Rattle.rounding.specs.Value.{Val, L}
 use Rattle.rounding.proofs.About.{U, About, about-own, about-scale, about-add, about-sub, about-mul, about-div}
 use Rattle.constants.specs.Constants.{secondsPerDay}

@@ -8,3 +8,9 @@ pub mod Dates
 pub mod Bounds
 pub mod Finiteness
 pub mod Meant
+pub mod NoOverflow
+pub mod Shifts
+pub mod Refuses
+pub mod Recorders
+pub mod NeverNan
+mod Cases

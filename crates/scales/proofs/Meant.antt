@@ -5,12 +5,10 @@ use Prim.Native.Nat.{ℕ, _+_, _-_, _*_, _^_, _≤_, _<_}
 use native.Mathlib.Nat.{le-trans, mul-assoc, mul-comm, mul-left-comm, mul-add, add-mul, mul-le-mul-left, mul-le-mul-right}
 use native.Mathlib.Omega.{arith}
 use mathlib.Core.Bool.{Bool, true, false}
-use mathlib.Core.Logic.{_⊎_, inl, inr}
+use mathlib.Core.Logic.{inl, inr}
 use lib.Dec.{lit≤, lit<}
-use lib.IntN.{pos}
-use lib.Ieee.{Float, fin, binary64, round}
+use lib.Ieee.{Float, binary64, round}
 use lib.Ieee.Scale.{finite}
-use lib.Ieee.Exact.{HasValue}
 use Rattle.rounding.specs.Value.{Val, L}
 use Rattle.rounding.proofs.Value.{val-unique}
 use Rattle.rounding.proofs.About.{U}

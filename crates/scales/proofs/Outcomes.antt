@@ -1,6 +1,6 @@
 -- Going on with an outcome: an answer goes on and a refusal stays; and the steps that the conversions are made of. Assumes nothing.
 use mathlib.Core.Path.{_≡_, refl, sym, ap, _∙_}
-use mathlib.Core.Bool.{Bool, true, false, cond, _&&_}
+use mathlib.Core.Bool.{Bool, true, false, cond, _&&_, true≢false}
 use Prim.Native.Nat.{ℕ}
 use lib.Ieee.{Float}
 use lib.Ieee.Scale.{finite}
@@ -10,6 +10,7 @@ use Rattle.julian.specs.Finite.{finiteJd, finiteArg}
 use Rattle.scales.specs.SmallerPart.{mapSmallerPart}
 use Rattle.scales.specs.Formulas.{daysOf}
 use Rattle.scales.specs.Conversions.{changed, converted, finiteOffset, finiteBoth, convertedBy}
+use Rattle.scales.specs.Refusals.{finiteParts}
 
 pub went : {A B : Type 0} {o : Outcome A} {a : A} (k : A → Outcome B) → o ≡ answer a → onward o k ≡ k a
 unfolding onward
@@ -32,19 +33,39 @@ both s d {o} {o'} e h = ap (λ (z : Outcome JulianDate). onward z (λ (e : Julia
     go true = h
     go false = refl
 
+-- ---- a conversion by what it tests
+pub first : (f : Float → Float → Float) (d : JulianDate) → converted f d ≡ cond (finiteParts d) (answer (mapSmallerPart f d)) (refusal 9)
+unfolding converted finiteJd onward changed finiteParts
+first f d = go (finite (d .jd1) && finite (d .jd2))
+  where
+    go : (b : Bool) → onward (cond b (answer d) (refusal 9)) (changed f) ≡ cond b (answer (mapSmallerPart f d)) (refusal 9)
+    go true = refl
+    go false = refl
+
+pub first-by : (f : Float → Float → Float → Float) (s : Float) (d : JulianDate) → convertedBy f s d ≡ cond (finiteParts d) (cond (finite s) (answer (mapSmallerPart (f (daysOf s)) d)) (refusal 10)) (refusal 9)
+unfolding convertedBy finiteBoth finiteOffset finiteJd finiteArg onward changed finiteParts
+first-by f s d = go (finite (d .jd1) && finite (d .jd2)) (finite s)
+  where
+    go : (b c : Bool) → onward (onward (cond b (answer d) (refusal 9)) (λ (e : JulianDate). onward (cond c (answer s) (refusal 10)) (λ (t : Float). answer e))) (changed (f (daysOf s)))
+        ≡ cond b (cond c (answer (mapSmallerPart (f (daysOf s)) d)) (refusal 10)) (refusal 9)
+    go true true = refl
+    go true false = refl
+    go false c = refl
+
 -- of a date with finite parts, and an offset that is finite
-pub jd-is : (d : JulianDate) → finite (d .jd1) ≡ true → finite (d .jd2) ≡ true → finiteJd d ≡ answer d
-unfolding finiteJd
-jd-is d h k = rw (h, k)
-
 pub converted-is : (f : Float → Float → Float) (d : JulianDate) → finite (d .jd1) ≡ true → finite (d .jd2) ≡ true → converted f d ≡ answer (mapSmallerPart f d)
-unfolding converted changed
-converted-is f d h k = went (changed f) (jd-is d h k)
-
-offset-is : (s : Float) (d : JulianDate) → finite s ≡ true → finiteOffset s d ≡ answer d
-unfolding finiteOffset onward finiteArg
-offset-is s d h = rw h
+unfolding finiteParts
+converted-is f d h k = first f d ∙ rw (h, k)
 
 pub by-is : (f : Float → Float → Float → Float) (s : Float) (d : JulianDate) → finite (d .jd1) ≡ true → finite (d .jd2) ≡ true → finite s ≡ true → convertedBy f s d ≡ answer (mapSmallerPart (f (daysOf s)) d)
-unfolding convertedBy finiteBoth changed
-by-is f s d h k l = went (changed (f (daysOf s))) (went (finiteOffset s) (jd-is d h k) ∙ offset-is s d l)
+unfolding finiteParts
+by-is f s d h k l = first-by f s d ∙ rw (h, k, l)
+
+-- both of two tests
+pub and-left : (a b : Bool) → (a && b) ≡ true → a ≡ true
+and-left true b h = refl
+and-left false b h = h
+
+pub and-right : (a b : Bool) → (a && b) ≡ true → b ≡ true
+and-right true b h = h
+and-right false b h = absurd (true≢false (sym h))

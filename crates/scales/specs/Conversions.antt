@@ -1,10 +1,8 @@
 -- The sixteen conversions that read no table, as one table: what each answers for a date. Written from document 01, "Scale dates" and the order of refusals
 -- (9 before 10), and from the Rust's files of scales/conversions. Assumes nothing.
-use mathlib.Core.Bool.{Bool, cond, _&&_}
 use lib.Ieee.{Float}
-use lib.Ieee.Scale.{finite}
 use Rattle.floats.specs.Whole.{nought}
-use Rattle.refusals.specs.Outcome.{Outcome, answer, refusal, onward}
+use Rattle.refusals.specs.Outcome.{Outcome, answer, onward}
 use Rattle.julian.specs.declared.JulianDate.{JulianDate}
 use Rattle.julian.specs.Finite.{finiteJd, finiteArg}
 use Rattle.scales.specs.SmallerPart.{mapSmallerPart}
@@ -35,6 +33,7 @@ finiteBoth seconds d = onward (finiteJd d) (finiteOffset seconds)
 unfoldable pub convertedBy : (Float → Float → Float → Float) → Float → JulianDate → Outcome JulianDate
 convertedBy f seconds d = onward (finiteBoth seconds d) (changed (f (daysOf seconds)))
 
+-- the table: what each conversion answers
 unfoldable pub answerOf : Conversion → JulianDate → Outcome JulianDate
 answerOf gps-tai d = converted (plus gpsDays) d
 answerOf tai-gps d = converted (minus gpsDays) d
@@ -71,7 +70,3 @@ offsetOf (ut1-tt seconds) = seconds
 offsetOf (tt-ut1 seconds) = seconds
 offsetOf (tt-tdb seconds) = seconds
 offsetOf (tdb-tt seconds) = seconds
-
--- whether both parts are finite
-unfoldable pub finiteParts : JulianDate → Bool
-finiteParts d = finite (d .jd1) && finite (d .jd2)

@@ -3,5 +3,7 @@ pub mod Scales
 pub mod SmallerPart
 pub mod Formulas
 pub mod Conversions
+pub mod Refusals
 pub mod Ranges
 pub mod Meaning
+pub mod Recorders

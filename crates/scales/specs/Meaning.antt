@@ -2,9 +2,8 @@
 -- picoseconds an answer may miss it. Assumes nothing.
 use Prim.Native.Nat.{ℕ, _+_, _-_, _*_, _^_, _≤_}
 use mathlib.Core.Path.{_≡_}
-use lib.Ieee.{Float}
 use Rattle.rounding.specs.Value.{Val, L}
-use Rattle.refusals.specs.Outcome.{Outcome, answer}
+use Rattle.refusals.specs.Outcome.{answer}
 use Rattle.julian.specs.declared.JulianDate.{JulianDate}
 use Rattle.julian.specs.Worth.{Worth}
 use Rattle.scales.specs.Conversions.{Conversion, gps-tai, tai-gps, tai-tt, tt-tai, tcg-tt, tt-tcg, tcb-tdb, tdb-tcb, tai-tcg, tcg-tai, tai-ut1, ut1-tai, ut1-tt, tt-ut1, tt-tdb, tdb-tt, offsetOf, answerOf}
@@ -39,7 +38,8 @@ pub record Meaning : Type 0 where
 abbrev pub Means : Meaning → JulianDate → JulianDate → Type 0
 Means w d d' = Close (w .ps) (w .num) (w .den) (w .more) (w .less) d d'
 
--- SOFA's decimals: LG = 6.969290134e-10 over 10 ^ 19, LB = 1.550519768e-8 over 10 ^ 17, T0 = 2443144.5003725 days over 10 ^ 7, TDB0 = -6.55e-5 s over 10 ^ 7
+-- SOFA's decimals, said apart from the code's constants, so that a wrong digit of either is noticed: LG = 6.969290134e-10 over 10 ^ 19, LB = 1.550519768e-8 over 10 ^ 17, T0 = 2443144.5003725 days over 10 ^ 7,
+-- TDB0 = -6.55e-5 s over 10 ^ 7
 abbrev pub LG : ℕ
 LG = 6969290134
 

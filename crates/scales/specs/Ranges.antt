@@ -1,4 +1,5 @@
--- The ranges of dates and offsets that the theorems speak of, each as a test on floats, and what it is for an outcome to be a finite date. Assumes nothing.
+-- The ranges of dates and offsets that the theorems speak of, each as a test on floats, and what it is for an outcome to be a finite date. Written from
+-- demand 1. Assumes nothing.
 use mathlib.Core.Path.{_≡_}
 use mathlib.Core.Bool.{true, false}
 use mathlib.Core.Logic.{_⊎_}
@@ -16,11 +17,15 @@ use Rattle.julian.specs.declared.JulianDate.{JulianDate}
 abbrev pub AtMost : Float → Float → Type 0
 AtMost c x = T (fits binary64 x) × T (le (abs x) c)
 
+-- both parts are f64's, as those of every date that the code holds
+abbrev pub Held : JulianDate → Type 0
+Held d = T (fits binary64 (d .jd1)) × T (fits binary64 (d .jd2))
+
 -- 2 ^ k
 abbrev pub power : ℕ → Float
 power k = fin false 1 (pos k)
 
--- document 01's range of an offset: at most 10 ^ 9 seconds in size
+-- demand 1's range of an offset: at most 10 ^ 9 seconds in size
 abbrev pub Billion : Float → Type 0
 Billion s = AtMost (decimal 1000000000 0) s
 

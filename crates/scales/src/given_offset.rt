@@ -1,6 +1,6 @@
 // A date moved by an offset in seconds that the caller gives: the date is tested before the offset.
 ghost use mathlib.Core.Path.{_≡_};
-ghost use Rattle.refusals.specs.Outcome.{onward, answer};
+ghost use Rattle.refusals.specs.Outcome.{onward};
 ghost use Rattle.julian.specs.JulianDate.{julianOutcome};
 ghost use Rattle.scales.specs.Formulas.{daysOf, plus, minus};
 ghost use Rattle.scales.specs.Conversions.{finiteOffset, finiteBoth, convertedBy};

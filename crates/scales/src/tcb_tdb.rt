@@ -1,7 +1,5 @@
 // TDB = TCB - L_B (TCB - T0) + TDB_0, T0 being 1977 January 1, 32.184 s after midnight.
 ghost use mathlib.Core.Path.{_≡_};
-ghost use Rattle.refusals.specs.Outcome.{onward};
-ghost use Rattle.julian.specs.JulianDate.{julianOutcome};
 ghost use Rattle.scales.specs.SmallerPart.{mapSmallerPart};
 ghost use Rattle.scales.specs.Scales.{tcbOutcome, tdbOutcome};
 ghost use Rattle.scales.specs.Formulas.{tcbToTdb, tdbToTcb};

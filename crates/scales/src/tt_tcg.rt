@@ -1,7 +1,5 @@
 // TT = TCG - L_G (TCG - T0), T0 being 1977 January 1, 32.184 s after midnight.
 ghost use mathlib.Core.Path.{_≡_};
-ghost use Rattle.refusals.specs.Outcome.{onward};
-ghost use Rattle.julian.specs.JulianDate.{julianOutcome};
 ghost use Rattle.scales.specs.SmallerPart.{mapSmallerPart};
 ghost use Rattle.scales.specs.Scales.{ttOutcome, tcgOutcome};
 ghost use Rattle.scales.specs.Formulas.{tcgToTt, ttToTcg};

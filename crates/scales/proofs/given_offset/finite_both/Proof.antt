@@ -1,5 +1,5 @@
 -- `scales::given_offset::finite_both` meets its contract: the date is tested before the offset. Assumes nothing.
-use mathlib.Core.Path.{sym, ap, _∙_}
+use mathlib.Core.Path.{_∙_}
 use Rattle.scales.specs.Conversions.{finiteBoth}
 use Rattle.scales.proofs.Outcomes.{both}
 use borrow.Author.Needs.{needs}

@@ -1,6 +1,5 @@
 -- `scales::given_offset::first_refusal` meets its contract. Assumes nothing.
-use mathlib.Core.Path.{sym, ap, _∙_}
-use Rattle.refusals.specs.Outcome.{Outcome, onward}
+use mathlib.Core.Path.{sym, ap}
 use Rattle.julian.specs.declared.JulianDate.{JulianDate}
 use Rattle.julian.specs.JulianDate.{julianOutcome}
 use Rattle.scales.proofs.Outcomes.{went, stopped}

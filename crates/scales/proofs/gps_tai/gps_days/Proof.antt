@@ -1,6 +1,4 @@
 -- `scales::gps_tai::gps_days` meets its contract. Assumes nothing.
-use mathlib.Core.Path.{ap}
-use lib.Ieee.{binary64, div}
 use Rattle.scales.specs.Formulas.{daysOf, gpsDays}
 use Rattle.constants.proofs.Bits.{seconds-per-day, gps-to-tai-offset-seconds}
 use Rattle.scales.proofs.gps_tai.gps_days.Statement.{statement}

@@ -1,6 +1,4 @@
 -- `scales::tai_tt::tt_days` meets its contract. Assumes nothing.
-use mathlib.Core.Path.{ap}
-use lib.Ieee.{binary64, div}
 use Rattle.scales.specs.Formulas.{daysOf, ttDays}
 use Rattle.constants.proofs.Bits.{seconds-per-day, tt-tai-offset}
 use Rattle.scales.proofs.tai_tt.tt_days.Statement.{statement}
