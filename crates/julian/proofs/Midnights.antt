@@ -4,16 +4,17 @@ use Prim.Native.Nat.{ℕ, _+_, _-_, _*_, _^_, _≤_, _<_}
 use native.Mathlib.Omega.{arith}
 use native.Mathlib.Nat.{le-trans}
 use mathlib.Core.Bool.{Bool, true, false, cond}
-use lib.Dec.{T, leb, lit≤, lit<, le→leb, lt→ltb}
-use lib.IntN.{ℤ, pos, negsuc, natAbs, _+ℤ_}
+use lib.Dec.{T, leb, lit≤, lit<}
+use lib.IntN.{ℤ, pos, natAbs, _+ℤ_}
 use lib.Signed.{mag}
-use lib.Ieee.{binary64, round, ofInt, inFloat}
+use lib.Ieee.{binary64, round, ofInt, inFloat, add}
 use mir.Syntax.{w32, w64}
 use mir.Val.{SFits}
 use Rattle.refusals.specs.Outcome.{Outcome, answer, refusal, onward}
 use Rattle.rounding.specs.Value.{Val}
-use Rattle.rounding.proofs.Value.{val-scale}
-use Rattle.rounding.proofs.Casts.{plusZ, minusZ, ofInt-val}
+use Rattle.rounding.proofs.Value.{val-scale, val-move}
+use Rattle.rounding.proofs.Exact.{add-exact}
+use Rattle.rounding.proofs.Casts.{plusZ, minusZ}
 use Rattle.constants.specs.Constants.{mjdZeroPoint}
 use Rattle.calendar.specs.Calendar.{leap, date, dateOf}
 use Rattle.calendar.specs.Refusals.{validDate}
@@ -21,9 +22,10 @@ use Rattle.calendar.specs.DayCount.{marchCount, civilCount, mjdNumber, mjdOf}
 use Rattle.calendar.proofs.Signs.{raised, at-most, lowered}
 use Rattle.calendar.proofs.Accepted.{accepted, short}
 use Rattle.calendar.proofs.Mjd.{mjd-meaning}
-use Rattle.julian.specs.JulianDate.{julian}
+use Rattle.julian.specs.JulianDate.{julian, roundedSum}
 use Rattle.julian.specs.Calendar.{calendarToJulian}
 use Rattle.julian.specs.Worth.{Worth}
+use Rattle.julian.proofs.Integers.{sides, in-float, integer-val}
 
 -- ---- a Modified Julian Date that is answered is the formula's, of a date that is not refused
 
@@ -68,17 +70,8 @@ mjd-small y m d n f e =
 pub mjd-fits : (y m d n : ℤ) → SFits w32 y → mjdOf y m d ≡ answer n → SFits w64 n
 mjd-fits y m d n f e = record { sfits = omega (arith, mjd-small y m d n f e) }
 
-in-float : (n : ℤ) → mag n < 2 ^ 42 → T (inFloat binary64 n)
-unfolding inFloat
-in-float (pos n) h = le→leb n (2 ^ 53) (omega arith)
-in-float (negsuc n) h = lt→ltb n (2 ^ 53) (omega arith)
-
 pub mjd-in-float : (y m d n : ℤ) → SFits w32 y → mjdOf y m d ≡ answer n → T (inFloat binary64 n)
-mjd-in-float y m d n f e = in-float n (mjd-small y m d n f e)
-
-pub whole-exact : (n : ℤ) → mag n < 2 ^ 42 → Val (ofInt binary64 n) (plusZ n) (minusZ n) 1
-whole-exact (pos n) h = ofInt-val (pos n) (omega arith) (omega arith)
-whole-exact (negsuc n) h = ofInt-val (negsuc n) (omega arith) (omega arith)
+mjd-in-float y m d n f e = in-float n (omega (arith, mjd-small y m d n f e))
 
 -- ---- the midnight of a date, by the two cases of its Modified Julian Date
 
@@ -96,25 +89,35 @@ pub zero-point-val : Val mjdZeroPoint 4800001 0 2
 unfolding mjdZeroPoint round
 zero-point-val = record { sign = false; size = 4800001; has = (refl, refl); is = refl }
 
--- n is the Modified Julian Date of the date, the second part is worth exactly n, the whole exactly n + 2400000.5 days, and the day with the number n + 2400001,
--- which begins there, has the date
+-- the rounded sum of the parts is not rounded: it is the first part of `from_calendar`
+pub midnight-sum : (n : ℤ) → mag n < 2 ^ 42 → Val (add binary64 mjdZeroPoint (ofInt binary64 n)) (4800001 + plusZ n * 2) (minusZ n * 2) 2
+midnight-sum n h =
+    let s = sides n (2 ^ 42) h in
+    val-move (add-exact 1 (lit≤ tt) (omega (arith, s .0)) (omega (arith, s .1)) zero-point-val (val-scale 2 (integer-val n (omega arith)))) (omega arith)
+
+-- n is the Modified Julian Date of the date; the second part is worth exactly n, both parts and their rounded sum exactly n + 2400000.5 days; and the day with the
+-- number n + 2400001, which begins there, has the date
 pub record MidnightOf (y m d n : ℤ) : Type 0 where
   pub mjd : mjdOf y m d ≡ answer n
   pub given : calendarToJulian y m d ≡ answer (julian mjdZeroPoint (ofInt binary64 n))
   pub second : Val (ofInt binary64 n) (plusZ n) (minusZ n) 1
   pub exactly : Worth (julian mjdZeroPoint (ofInt binary64 n)) (4800001 + plusZ n * 2) (minusZ n * 2) 2
+  pub sum : Val (roundedSum (julian mjdZeroPoint (ofInt binary64 n))) (4800001 + plusZ n * 2) (minusZ n * 2) 2
   pub has-date : dateOf (n +ℤ pos 2400001) ≡ date y (natAbs m) (natAbs d)
 
 pub midnight-of : (y m d : ℤ) → SFits w32 y → validDate y m d ≡ answer tt → (n : ℤ) × MidnightOf y m d n
+unfolding roundedSum
 midnight-of y m d f v =
     let k = mjd-meaning y m d v in
-    let w = whole-exact (k .n) (mjd-small y m d (k .n) f (k .given)) in (
+    let h : mag (k .n) < 2 ^ 42 = mjd-small y m d (k .n) f (k .given) in
+    let w = integer-val (k .n) (omega arith) in (
       k .n,
       record {
         mjd = k .given;
         given = midnight-given y m d (k .n) (k .given);
         second = w;
         exactly = record { p = 4800001; n = 0; q = plusZ (k .n) * 2; m = minusZ (k .n) * 2; first = zero-point-val; second = val-scale 2 w; total = omega arith };
+        sum = midnight-sum (k .n) h;
         has-date = k .has-date;
       },
     )

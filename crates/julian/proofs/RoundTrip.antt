@@ -1,10 +1,10 @@
 -- A date to its Julian date and back: every valid date whose midnight is at most Julian date 10^9 comes back the same, with the fraction exactly +0.0. Assumes nothing.
 use mathlib.Core.Path.{_≡_, refl, sym, ap, _∙_, subst}
-use Prim.Native.Nat.{ℕ, suc, _+_, _-_, _*_, _^_, _≤_, _<_}
+use Prim.Native.Nat.{ℕ, _+_, _-_, _*_, _^_, _≤_, _<_}
 use native.Mathlib.Omega.{arith}
 use mathlib.Core.Bool.{true, false}
 use mathlib.Core.Logic.{_⊎_, inl, inr}
-use lib.Dec.{T, lit≤, lit<}
+use lib.Dec.{T, lit<}
 use lib.IntN.{ℤ, pos, negsuc, natAbs, _+ℤ_, _-ℤ_}
 use lib.Signed.{ltZ, leZ, mag}
 use lib.Ieee.{Float, binary64, round, ofInt, add, mul, div, lt, eq, le, fits}
@@ -13,7 +13,6 @@ use borrow.Author.Tests.{leb-true}
 use Rattle.refusals.specs.Outcome.{answer, onward}
 use Rattle.rounding.specs.Value.{Val}
 use Rattle.rounding.proofs.Value.{val-move, val-scale}
-use Rattle.rounding.proofs.Exact.{add-exact}
 use Rattle.rounding.proofs.Casts.{plusZ, minusZ, one-side, add-pair, sub-pair, pair-le}
 use Rattle.constants.specs.Constants.{mjdZeroPoint, secondsPerDay}
 use Rattle.calendar.specs.declared.CalendarDate.{CalendarDate}
@@ -26,7 +25,8 @@ use Rattle.day_number.proofs.ExactDay.{only, exact}
 use Rattle.julian.specs.JulianDate.{nought, roundedSum}
 use Rattle.julian.specs.DayFraction.{dayFraction, timeInDay, secondLimit}
 use Rattle.julian.specs.Calendar.{fields, calendarToJulian, atTime, fromCalendar, julianToCalendar}
-use Rattle.julian.proofs.Midnights.{answered, whole-exact, midnight-given, zero-point-val}
+use Rattle.julian.proofs.Integers.{integer-val, integer-fits}
+use Rattle.julian.proofs.Midnights.{answered, midnight-given, zero-point-val, midnight-sum}
 use Rattle.julian.proofs.CalendarDays.{fields-of, not-above}
 
 -- ---- parts on the grid: a float worth (p - n) / 2^52, both small
@@ -77,36 +77,28 @@ nought-fits : T (fits binary64 nought)
 unfolding fits
 nought-fits = tt
 
-int-fits : (n : ℤ) → T (fits binary64 (ofInt binary64 n))
-unfolding ofInt
-int-fits (pos n) = round-fits binary64 false n 1
-int-fits (negsuc n) = round-fits binary64 true (suc n) 1
-
 mag-small : (n : ℤ) → plusZ n ≤ 997599999 → minusZ n ≤ 2432076 → mag n < 2 ^ 42
 mag-small (pos n) h k = omega arith
 mag-small (negsuc n) h k = omega arith
 
 module _ (n : ℤ) (high : plusZ n ≤ 997599999) (low : minusZ n ≤ 2432076) where
-  int-val : Val (ofInt binary64 n) (plusZ n * 2) (minusZ n * 2) 2
-  int-val = val-scale 2 (whole-exact n (mag-small n high low))
-
   zero-point-placed : Placed mjdZeroPoint (4800001 * 2 ^ 51) 0
   zero-point-placed = placed (val-scale (2 ^ 51) zero-point-val) (lit< tt) (lit< tt)
 
   int-placed : Placed (ofInt binary64 n) (plusZ n * 2 ^ 52) (minusZ n * 2 ^ 52)
-  int-placed = placed (val-scale (2 ^ 52) (whole-exact n (mag-small n high low))) (omega arith) (omega arith)
+  int-placed = placed (val-scale (2 ^ 52) (integer-val n (omega (arith, mag-small n high low)))) (omega arith) (omega arith)
 
   parts-back : julianToCalendar mjdZeroPoint (ofInt binary64 n) ≡ answer (fields (gregorianDate (n +ℤ pos 2400001)) nought)
   parts-back =
       let a = zero-point-placed in
       let b = int-placed in
-      back mjdZeroPoint (ofInt binary64 n) zero-point-fits (int-fits n) (a .grid) (b .grid) n high low
+      back mjdZeroPoint (ofInt binary64 n) zero-point-fits (integer-fits n) (a .grid) (b .grid) n high low
       (omega (arith, add-pair (a .grid .units) (b .grid .units), a .units, b .units))
 
   -- ---- and the one of `from_calendar`, which has their sum in its first part
 
-  sum-placed : Placed (add binary64 mjdZeroPoint (ofInt binary64 n)) ((4800001 + plusZ n * 2) * 2 ^ 51) ((0 + minusZ n * 2) * 2 ^ 51)
-  sum-placed = placed (val-scale (2 ^ 51) (add-exact 1 (lit≤ tt) (omega arith) (omega arith) zero-point-val int-val)) (omega arith) (omega arith)
+  sum-placed : Placed (add binary64 mjdZeroPoint (ofInt binary64 n)) ((4800001 + plusZ n * 2) * 2 ^ 51) (minusZ n * 2 * 2 ^ 51)
+  sum-placed = placed (val-scale (2 ^ 51) (midnight-sum n (mag-small n high low))) (omega arith) (omega arith)
 
   nought-placed : Placed nought 0 0
   nought-placed = placed (record { sign = false; size = 0; has = (refl, refl); is = refl }) (lit< tt) (lit< tt)
