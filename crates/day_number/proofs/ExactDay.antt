@@ -24,7 +24,7 @@ use Rattle.day_number.proofs.Answer.{answered, refused}
 use Rattle.day_number.proofs.GridPairs.{Exactly, grid-pair, grid-accepted}
 use Rattle.day_number.proofs.MinusZero.{Unsigned, some-size}
 use Rattle.day_number.proofs.FractionSign.{fraction-unsigned}
-use Rattle.day_number.proofs.FloatUnique.{float-unique}
+use Rattle.rounding.proofs.Unique.{float-unique}
 
 -- ---- the exact day is the floor, and the exact fraction is what is left; nothing else is
 floor-rest : (z : ℤ) → (unitsLeft z < 2 ^ 52) × (plusZ z + minusZ (wholeDays z) * 2 ^ 52 ≡ minusZ z + plusZ (wholeDays z) * 2 ^ 52 + unitsLeft z)

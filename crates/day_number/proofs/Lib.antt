@@ -26,7 +26,6 @@ pub mod NotFinite
 pub mod GridPairs
 pub mod OffGrid
 pub mod MinusZero
-pub mod FloatUnique
 pub mod FractionSign
 pub mod ExactDay
 pub mod Cases

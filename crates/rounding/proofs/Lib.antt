@@ -4,6 +4,8 @@
 
 -- Value: the value of a finite float, by any pair and over any denominator, and what each of add, sub, mul and div rounds; -x and |x| are exact.
 pub mod Value
+-- Unique: the sign and the value fix the float.
+pub mod Unique
 -- Own: every finite f64 is a whole number of units, of at most 53 binary digits and some zeros.
 pub mod Own
 -- Exact: where the exact result fits, nothing is rounded.

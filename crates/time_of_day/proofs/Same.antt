@@ -7,33 +7,15 @@ use mathlib.Core.Bool.{Bool, true, false, cond}
 use lib.IntN.{ℤ, pos}
 use lib.Dec.{T}
 use lib.Ieee.{Float, nan, inf, fin, binary64, up, down, size, fits, ofBits, toBits}
-use lib.Ieee.Bits.{ofBits-toBits}
 use lib.Ieee.Exact.{HasValue}
-use lib.Ieee.Fits.{down-pos}
-use lib.Ieee.Nearest.{div-same}
 use Rattle.rounding.specs.Value.{Signed, Val, L}
 use Rattle.rounding.proofs.Value.{L-pos}
+use Rattle.rounding.proofs.Unique.{float-unique}
 use Rattle.time_of_day.specs.Milliseconds.{wholeLeap, millisOf}
 use Rattle.time_of_day.specs.TimeShown.{fromZero, shownAt, shownOf}
 use Rattle.time_of_day.specs.ExactTime.{Fraction, Leap}
 use Rattle.time_of_day.proofs.Rounded.{Nearest}
 use Rattle.time_of_day.proofs.Count.{in-units, as-fraction, counted, WithinOne, within-one, at-least, cross, size-is}
-
--- ---- a value and a sign fix the float: they fix its bits
-pattern : Bool → ℕ → ℕ
-pattern s n = let k = size n - 53 in cond s 9223372036854775808 0 + k * 4503599627370496 + n / 2 ^ k
-
-bits-are : (s : Bool) (m : ℕ) (e : _) (a D : ℕ) → 0 < D → m * up e * D ≡ a * down e → toBits binary64 (fin s m e) ≡ pattern s (a * 2 ^ 1074 / D)
-unfolding toBits pattern
-bits-are s m e a D h q = ap (pattern s) (div-same (m * up e * 2 ^ 1074) (down e) (a * 2 ^ 1074) D (down-pos e) h (mul-right-comm (m * up e) (2 ^ 1074) D ∙ ap (λ (z : ℕ). z * 2 ^ 1074) q ∙ mul-right-comm a (down e) (2 ^ 1074)))
-
-bits-value : (x : Float) (s : Bool) (a D : ℕ) → 0 < D → HasValue x s a D → toBits binary64 x ≡ pattern s (a * 2 ^ 1074 / D)
-bits-value nan s a D h v = absurd v
-bits-value (inf t) s a D h v = absurd v
-bits-value (fin t m e) s a D h v = bits-are t m e a D h (v .1) ∙ ap (λ (b : Bool). pattern b (a * 2 ^ 1074 / D)) (v .0)
-
-pub same-value : (x y : Float) (s : Bool) (a D : ℕ) → 0 < D → T (fits binary64 x) → T (fits binary64 y) → HasValue x s a D → HasValue y s a D → x ≡ y
-same-value x y s a D h f g v w = sym (ofBits-toBits binary64 x f) ∙ ap (λ (b : ℕ). ofBits binary64 b) (bits-value x s a D h v ∙ sym (bits-value y s a D h w)) ∙ ofBits-toBits binary64 y g
 
 -- ---- the fraction 0 counts 0
 none : (k F W E : ℕ) → F ≡ 0 → 0 < E → 16777216 * (k * E * L) ≤ 16777216 * (1000 * (F * W)) + 8388609 * (L * E) → k ≡ 0
@@ -74,7 +56,7 @@ module _ (how : Bool → ℕ → ℕ → ℕ) (rule : Nearest how) where
       both z = zero-count f l D h t p s (zero-of f z v) ∙ sym (zero-count g l D h r q s (zero-of g z w))
 
       like : (u : Bool) (a b : ℕ) → HasValue f u a D → HasValue g u b D → Signed u a F 0 → Signed u b F 0 → millisOf how f l ≡ millisOf how g l
-      like u a b i j m n = ap (λ (x : Float). millisOf how x l) (same-value f g u a D h t r i (subst (λ (z : ℕ). HasValue g u z D) (size-is u b F n ∙ sym (size-is u a F m)) j))
+      like u a b i j m n = ap (λ (x : Float). millisOf how x l) (float-unique f g u a D h t r i (subst (λ (z : ℕ). HasValue g u z D) (size-is u b F n ∙ sym (size-is u a F m)) j))
 
       go : (u z : Bool) (a b : ℕ) → HasValue f u a D → HasValue g z b D → Signed u a F 0 → Signed z b F 0 → millisOf how f l ≡ millisOf how g l
       go true true a b i j m n = like true a b i j m n
