@@ -1,7 +1,7 @@
 -- The leap of every day of 1960 to 1971 is at most 0.5 s in size, and the same in both orders of rounding: computed, day by day.
 -- Assumes nothing.
 use mathlib.Core.Bool.{Bool, true, false}
-use Prim.Native.Nat.{ℕ, zero, suc, _+_, _-_, _*_, _/_, _%_}
+use Prim.Native.Nat.{ℕ, suc, _+_, _-_, _*_, _/_, _%_}
 use lib.Dec.{T, eqb, ltb}
 use lib.ListN.{getD}
 use lib.IntN.{ℤ, pos, sucℤ}

@@ -2,7 +2,7 @@
 -- Assumes nothing.
 use mathlib.Core.Path.{_≡_, refl, ap, sym, subst, _∙_}
 use mathlib.Core.Bool.{Bool, true, false, not, cond, _&&_}
-use Prim.Native.Nat.{ℕ, zero, suc, _+_, _-_, _*_, _/_, _%_, _≤_, _<_}
+use Prim.Native.Nat.{ℕ, suc, _+_, _-_, _/_, _%_, _≤_, _<_}
 use native.Mathlib.Omega.{arith}
 use lib.Dec.{T, eqb, ltb}
 use lib.IntN.{ℤ, pos, negsuc, natAbs, sucℤ, _+ℤ_, _-ℤ_}
@@ -24,8 +24,8 @@ use Rattle.tai_utc.proofs.Reached.{member}
 use Rattle.tai_utc.proofs.Years.{before-1960}
 use Rattle.tai_utc.proofs.Days.{day-offsets-are, leap-given, leap-came}
 use Rattle.leap_days.specs.Leaps.{small, leap1959, Leap, within, second, first}
-use Rattle.leap_days.proofs.Tests.{every, each, sameF}
-use Rattle.leap_days.proofs.Drift.{qby, oneDay, dayTest, daysTest, rowsTest, monthTest}
+use Rattle.leap_days.proofs.Tests.{each, sameF}
+use Rattle.leap_days.proofs.Drift.{oneDay, dayTest, daysTest, rowsTest, monthTest}
 use Rattle.leap_days.proofs.Each.{all-months}
 use Rattle.leap_days.proofs.Months.{next-month-number, next-month-early}
 use Rattle.leap_days.proofs.Quick.{Step, test-is, quick-drift, quick-any}

@@ -7,3 +7,4 @@ pub mod Quick
 pub mod Whole
 pub mod Every
 pub mod Seconds
+pub mod Formula

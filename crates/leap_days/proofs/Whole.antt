@@ -1,20 +1,20 @@
 -- From 1972 on: the offsets of a day are whole seconds, and its leap is exactly 1.0 where a row begins on the next day, else exactly 0.0; in both orders.
 -- Assumes nothing.
 use mathlib.Core.Path.{_≡_, refl, ap, sym, subst, _∙_}
-use mathlib.Core.Bool.{Bool, true, false, cond, not, _&&_}
-use Prim.Native.Nat.{ℕ, zero, suc, _+_, _-_, _≤_, _<_}
+use mathlib.Core.Bool.{Bool, true, false, cond, _&&_}
+use Prim.Native.Nat.{ℕ, suc, _-_, _≤_, _<_}
 use native.Mathlib.Omega.{arith}
 use lib.Dec.{T}
 use lib.IntN.{ℤ, pos, sucℤ}
 use lib.Ieee.{Float, binary64, round, add, sub, mul, ofInt}
 use Rattle.tai_utc.specs.Table.{fixed, starts, reached}
-use Rattle.tai_utc.specs.Offset.{zeroF, halfF, oneF, offsetAt}
+use Rattle.tai_utc.specs.Offset.{zeroF, halfF, oneF}
 use Rattle.tai_utc.specs.Leap.{offsets, offsetsOfDay, leapOf, driftRate, leapAmount}
 use Rattle.tai_utc.specs.declared.DayOffsets.{DayOffsets}
 use Rattle.tai_utc.proofs.Reached.{member, month-later}
 use Rattle.tai_utc.proofs.Rows.{fixed-rises}
 use Rattle.tai_utc.proofs.Years.{whole-rows, most-rows, whole-seconds}
-use Rattle.leap_days.proofs.Tests.{then, then-left, then-right, every, each, sameF, same-float}
+use Rattle.leap_days.proofs.Tests.{then, then-left, then-right, each, sameF, same-float}
 
 abbrev pub wholeF : ℕ → Float
 wholeF k = ofInt binary64 (pos k)

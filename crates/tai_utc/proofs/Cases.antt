@@ -3,14 +3,14 @@
 use mathlib.Core.Path.{_≡_, refl}
 use mathlib.Core.Bool.{false, true}
 use lib.ListN.{length}
-use lib.IntN.{pos, negsuc}
-use lib.Ieee.{fin, inf, nan, round, add, sub, mul, le, ofInt}
+use lib.IntN.{pos}
+use lib.Ieee.{fin, nan, round, add, sub, mul, le}
 use Rattle.refusals.specs.Outcome.{answer, refusal, onward}
 use Rattle.calendar.specs.Calendar.{leapSize, lengths, daysInMonth, next}
 use Rattle.calendar.specs.Refusals.{validDate, nextOf}
 use Rattle.calendar.specs.DayCount.{civilCount, mjdNumber, mjdOf}
 use Rattle.tai_utc.specs.Table.{fixed, monthNumber, reached}
-use Rattle.tai_utc.specs.Offset.{zeroF, oneF, secondsOf, startOf, rateOf, byRow, offsetBy, offsetAt, inDay, taiUtcOffset}
+use Rattle.tai_utc.specs.Offset.{zeroF, oneF, secondsOf, byRow, offsetBy, offsetAt, inDay, taiUtcOffset}
 use Rattle.tai_utc.specs.Leap.{dayOffsets, leapOf, leapAtEndOfDay}
 
 -- 0.0
@@ -46,14 +46,14 @@ pub at-one : taiUtcOffset fixed (pos 2016) (pos 12) (pos 31) oneF ≡ answer (fi
 unfolding taiUtcOffset onward mjdOf mjdNumber civilCount validDate daysInMonth lengths leapSize offsetAt offsetBy byRow secondsOf round inDay le fixed monthNumber reached
 at-one = refl
 
--- a NaN is refused with 7, and so is 2.0 on 2017-13-01: the fraction comes before the date
-pub at-nan : taiUtcOffset fixed (pos 2017) (pos 1) (pos 1) nan ≡ refusal 7
-unfolding taiUtcOffset inDay le
-at-nan = refl
-
+-- 2.0 on 2017-13-01 is refused with 7: the fraction comes before the date. So is a NaN
 pub fraction-first : taiUtcOffset fixed (pos 2017) (pos 13) (pos 1) (fin false 1 (pos 1)) ≡ refusal 7
-unfolding taiUtcOffset inDay le
+unfolding taiUtcOffset onward mjdOf validDate inDay le
 fraction-first = refl
+
+pub at-nan : taiUtcOffset fixed (pos 2017) (pos 13) (pos 1) nan ≡ refusal 7
+unfolding taiUtcOffset onward mjdOf validDate inDay le
+at-nan = refl
 
 pub no-month-13 : taiUtcOffset fixed (pos 2017) (pos 13) (pos 1) oneF ≡ refusal 2
 unfolding taiUtcOffset onward mjdOf validDate inDay le

@@ -1,21 +1,24 @@
 -- The offsets of a day: refused exactly where there is no next date, with the same number, and else those of the day's month, of the next date's month, and of the
 -- two Modified Julian Dates n and n + 1. Assumes nothing.
-use mathlib.Core.Path.{_≡_, refl, ap, sym, subst, _∙_}
+use mathlib.Core.Path.{_≡_, refl, ap, sym, _∙_}
+use mathlib.Core.Bool.{Bool, true, false, cond}
+use mathlib.Core.Logic.{_⊎_, inl, inr}
 use mathlib.Core.List.{List}
 use Prim.Native.Nat.{ℕ}
 use native.Mathlib.Omega.{arith}
 use lib.IntN.{ℤ, pos, natAbs, sucℤ}
-use lib.Ieee.{Float, binary64, ofInt}
+use lib.Ieee.{Float}
 use Rattle.refusals.specs.Outcome.{Outcome, answer, refusal, onward}
-use Rattle.calendar.specs.Refusals.{validDate, nextOf}
+use Rattle.calendar.specs.Calendar.{date, next}
+use Rattle.calendar.specs.Refusals.{validDate, lastDate, nextOf}
 use Rattle.calendar.specs.DayCount.{mjdNumber, mjdOf}
 use Rattle.calendar.specs.declared.CalendarDate.{CalendarDate}
 use Rattle.calendar.proofs.Mjd.{mjd-refused, mjd-given}
-use Rattle.calendar.proofs.NextDates.{refused, next-is, next-mjd}
+use Rattle.calendar.proofs.NextDates.{refused, next-mjd}
 use Rattle.tai_utc.specs.declared.DayOffsets.{DayOffsets}
 use Rattle.tai_utc.specs.Table.{Row, monthNumber}
-use Rattle.tai_utc.specs.Offset.{zeroF, halfF, offsetAt, taiUtcOffset}
-use Rattle.tai_utc.specs.Leap.{offsets, offsetsOfDay, dayOffsets, leapOf, leapAtEndOfDay}
+use Rattle.tai_utc.specs.Offset.{zeroF, halfF}
+use Rattle.tai_utc.specs.Leap.{offsetsOfDay, dayOffsets, leapOf, leapAtEndOfDay}
 use Rattle.tai_utc.proofs.Offsets.{in-day-zero, in-day-half, date-refused, offset-given}
 
 module _ (rows : List Row) (y m d : ℤ) where
@@ -48,6 +51,15 @@ module _ (rows : List Row) (y m d : ℤ) where
       go (refusal k) p w q = day-refused rows y m d k (mjd-refused y m d k p) ∙ ap (λ (o : Outcome CalendarDate). onward o (λ t. answer (offsetsOfDay rows (monthNumber y (natAbs m)) (monthNumber (t .year) (t .month)) (mjdNumber y m d)))) (sym (refused y m d k p) ∙ q)
       go (answer x) p (refusal k) q = no-next-day rows y m d (mjdNumber y m d) (mjd-given y m d p) k q
       go (answer x) p (answer t) q = day-given rows y m d (mjdNumber y m d) (mjd-given y m d p) t q
+
+  pub day-refusals : (k : ℕ) → dayOffsets rows y m d ≡ refusal k → (validDate y m d ≡ refusal k) ⊎ ((validDate y m d ≡ answer tt) × (k ≡ 5))
+  unfolding nextOf onward
+  day-refusals k e = go (validDate y m d) refl (lastDate y (natAbs m) (natAbs d)) (next (date y (natAbs m) (natAbs d))) (sym day-offsets-are ∙ e)
+    where
+      go : (v : Outcome Unit) → validDate y m d ≡ v → (b : Bool) (u : CalendarDate) → onward (onward v (λ _. cond b (refusal 5) (answer u))) (λ t. answer (offsetsOfDay rows (monthNumber y (natAbs m)) (monthNumber (t .year) (t .month)) (mjdNumber y m d))) ≡ refusal k → (validDate y m d ≡ refusal k) ⊎ ((validDate y m d ≡ answer tt) × (k ≡ 5))
+      go (refusal j) p b u q = inl (p ∙ cc)
+      go (answer x) p true u q = inr (p, cc)
+      go (answer x) p false u q = let z : _≡_ {A = ℕ} 0 1 = cc in absurd (omega arith)
 
   -- the leap of a day that has a next one, and a leap that is given comes from such a day
   pub leap-given : (t : CalendarDate) → nextOf y m d ≡ answer t → leapAtEndOfDay rows y m d ≡ answer (leapOf (offsetsOfDay rows (monthNumber y (natAbs m)) (monthNumber (t .year) (t .month)) (mjdNumber y m d)))

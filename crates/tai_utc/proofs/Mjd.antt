@@ -2,18 +2,18 @@
 -- of the calendar answer. Assumes nothing.
 use mathlib.Core.Path.{_≡_, refl, ap, sym, subst, _∙_}
 use mathlib.Core.Bool.{Bool, true, false, cond}
-use Prim.Native.Nat.{ℕ, zero, suc, _+_, _-_, _*_, _/_, _^_, _≤_, _<_}
+use Prim.Native.Nat.{ℕ, zero, suc, _+_, _-_, _^_, _≤_, _<_}
 use native.Mathlib.Omega.{arith}
 use lib.Dec.{T, ltb, leb}
-use lib.IntN.{ℤ, pos, negsuc, natAbs, subℕ, sucℤ, _+ℤ_, _-ℤ_, +ℤ-one}
+use lib.IntN.{ℤ, pos, negsuc, natAbs, subℕ, sucℤ, _+ℤ_, +ℤ-one}
 use lib.Ieee.{binary64, inFloat}
 use mir.Syntax.{w32, w64}
 use mir.Val.{SFits, toZ, ofZ}
 use mir.Facts.{toZ-ofZ}
 use borrow.Author.Tests.{le-leb, lt-ltb, ltb-true}
-use Rattle.refusals.specs.Outcome.{Outcome, answer, refusal}
+use Rattle.refusals.specs.Outcome.{answer, refusal}
 use Rattle.calendar.specs.Calendar.{leap}
-use Rattle.calendar.specs.Refusals.{validDate, nextOf}
+use Rattle.calendar.specs.Refusals.{nextOf}
 use Rattle.calendar.specs.DayCount.{marchCount, civilCount, mjdNumber, mjdOf}
 use Rattle.calendar.specs.Answers.{mjdOutcome, nextOutcome}
 use Rattle.calendar.specs.declared.CalendarDate.{CalendarDate}
@@ -22,7 +22,7 @@ use Rattle.calendar.specs.declared.MjdAnswer.the-variants as Mjd
 use Rattle.calendar.specs.declared.NextDay.{NextDay}
 use Rattle.calendar.specs.declared.NextDay.the-variants as Next
 use Rattle.calendar.proofs.Signs.{raised, at-most}
-use Rattle.calendar.proofs.Accepted.{Accepted, accepted, short}
+use Rattle.calendar.proofs.Accepted.{accepted, short}
 use Rattle.calendar.proofs.Mjd.{mjd-given, mjd-valid, same-answer}
 
 -- ---- the size of the number

@@ -1,7 +1,7 @@
 -- The offset at a fraction of a day, by its cases: the fraction refused, the date refused, and the offset of the month's row.
 -- Assumes nothing.
-use mathlib.Core.Path.{_≡_, refl, ap, sym, subst, _∙_}
-use mathlib.Core.Bool.{Bool, true, false, not, cond, _&&_}
+use mathlib.Core.Path.{_≡_, refl, ap}
+use mathlib.Core.Bool.{Bool, true, false, not, cond}
 use mathlib.Core.List.{List}
 use Prim.Native.Nat.{ℕ}
 use native.Mathlib.Omega.{arith}
@@ -61,3 +61,11 @@ came false o g x e = let z : _≡_ {A = ℕ} 0 1 = cc in absurd (omega arith)
 pub offset-came : (rows : List Row) (y m d : ℤ) (f x : Float) → taiUtcOffset rows y m d f ≡ answer x → (n : ℤ) × (mjdOf y m d ≡ answer n) × (x ≡ offsetAt rows (monthNumber y (natAbs m)) (ofInt binary64 n) f)
 unfolding taiUtcOffset
 offset-came rows y m d f x e = came (inDay f) (mjdOf y m d) (λ n. offsetAt rows (monthNumber y (natAbs m)) (ofInt binary64 n) f) x e
+
+in-day-of : (b : Bool) (o : Outcome Float) (x : Float) → cond b o (refusal 7) ≡ answer x → b ≡ true
+in-day-of true o x e = refl
+in-day-of false o x e = let z : _≡_ {A = ℕ} 0 1 = cc in absurd (omega arith)
+
+pub offset-in-day : (rows : List Row) (y m d : ℤ) (f x : Float) → taiUtcOffset rows y m d f ≡ answer x → inDay f ≡ true
+unfolding taiUtcOffset
+offset-in-day rows y m d f x e = in-day-of (inDay f) (onward (mjdOf y m d) (λ n. answer (offsetAt rows (monthNumber y (natAbs m)) (ofInt binary64 n) f))) x e

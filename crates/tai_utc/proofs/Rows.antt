@@ -1,15 +1,14 @@
 -- A row's place in a list of its decimals. And what is computed over the fixed table: the rows rise, the first 14 drift and no other.
 -- Assumes nothing.
-use mathlib.Core.Path.{_≡_, refl, ap, sym, subst, _∙_}
+use mathlib.Core.Path.{_≡_, refl, sym, subst, _∙_}
 use mathlib.Core.Bool.{Bool, true, false, not, _&&_, Bool·beq}
 use mathlib.Core.List.{List, [], _∷_, map}
-use Prim.Native.Nat.{ℕ, zero, suc, _+_, _-_, _≤_, _<_}
-use native.Mathlib.Omega.{arith}
+use Prim.Native.Nat.{ℕ, zero, suc, _+_, _-_, _<_}
 use native.Mathlib.Nat.{not-suc-le-zero, le-of-suc-le-suc, add-zero, zero-add, add-suc, suc-add}
-use lib.Dec.{T, leb, ltb, eqb}
+use lib.Dec.{T, ltb, eqb}
 use lib.ListN.{length, getD}
 use lib.Ieee.{Float, nan}
-use Rattle.tai_utc.specs.Table.{Row, row, fixed, starts}
+use Rattle.tai_utc.specs.Table.{Row, fixed, starts}
 use Rattle.tai_utc.proofs.Reached.{rising}
 use Rattle.tai_utc.specs.Offset.{none}
 

@@ -1,23 +1,21 @@
 -- The table by years: before 1960 the offset is 0.0, and from 1972 on it is a whole number of seconds at every fraction of the day.
 -- Assumes nothing.
-use mathlib.Core.Path.{_≡_, refl, ap, sym, subst, _∙_}
-use mathlib.Core.Bool.{Bool, true, false}
+use mathlib.Core.Path.{_≡_, refl, ap, sym, _∙_}
+use mathlib.Core.Bool.{true}
 use mathlib.Core.List.{List, [], _∷_, map}
-use Prim.Native.Nat.{ℕ, zero, suc, _+_, _-_, _*_, _≤_, _<_}
+use Prim.Native.Nat.{ℕ, zero, suc, _+_, _-_, _≤_, _<_}
 use native.Mathlib.Omega.{arith}
 use native.Mathlib.Nat.{not-suc-le-zero, le-of-suc-le-suc, zero-add, suc-add, add-zero, add-suc}
-use lib.Dec.{T, ltb}
 use lib.ListN.{length, getD, drop}
 use lib.IntN.{ℤ, pos, negsuc, natAbs}
 use lib.Signed.{ltZ}
 use lib.Ieee.{Float, nan, binary64, round, ofInt}
 use borrow.Author.Tests.{ltb-true}
-use Rattle.refusals.specs.Outcome.{Outcome, answer, refusal, onward}
-use Rattle.calendar.specs.DayCount.{mjdOf}
+use Rattle.refusals.specs.Outcome.{answer}
 use Rattle.calendar.proofs.Accepted.{accepted}
 use Rattle.calendar.proofs.Mjd.{mjd-valid}
 use Rattle.tai_utc.specs.Table.{Row, fixed, starts, reached, monthOf, monthNumber}
-use Rattle.tai_utc.specs.Offset.{zeroF, none, secondsOf, offsetAt, inDay, taiUtcOffset}
+use Rattle.tai_utc.specs.Offset.{zeroF, none, secondsOf, offsetAt, taiUtcOffset}
 use Rattle.tai_utc.proofs.Reached.{low, high, at-most}
 use Rattle.tai_utc.proofs.Rows.{place, fixed-rises}
 use Rattle.tai_utc.proofs.At.{rowAt, absent, steady}

@@ -1,12 +1,12 @@
 -- Two fractions of one value, +0 and -0 alike, show the same time: the text does not depend on how a date is divided into its parts. Assumes nothing.
 use mathlib.Core.Path.{_≡_, refl, sym, ap, _∙_, subst}
-use Prim.Native.Nat.{ℕ, zero, suc, _+_, _-_, _*_, _/_, _^_, _≤_, _<_}
-use native.Mathlib.Nat.{mul-comm, mul-assoc, mul-right-comm, mul-pos, zero-mul, lt-of-mul-lt-mul-right, zero-lt-suc}
+use Prim.Native.Nat.{ℕ, zero, suc, _+_, _-_, _*_, _≤_, _<_}
+use native.Mathlib.Nat.{mul-comm, mul-assoc, mul-pos, zero-mul, lt-of-mul-lt-mul-right, zero-lt-suc}
 use native.Mathlib.Omega.{arith}
-use mathlib.Core.Bool.{Bool, true, false, cond}
+use mathlib.Core.Bool.{Bool, true, false}
 use lib.IntN.{ℤ, pos}
 use lib.Dec.{T}
-use lib.Ieee.{Float, nan, inf, fin, binary64, up, down, size, fits, ofBits, toBits}
+use lib.Ieee.{Float, binary64, size, fits}
 use lib.Ieee.Exact.{HasValue}
 use Rattle.rounding.specs.Value.{Signed, Val, L}
 use Rattle.rounding.proofs.Value.{L-pos}

@@ -1,3 +1,4 @@
+-- `tai_utc::rate_at` meets its contract: each constant of the table is the float nearest to its decimal. Assumes nothing.
 use mathlib.Core.Path.{ap, _∙_}
 use borrow.Author.Needs.{needs}
 use lib.ListN.{take}

@@ -1,3 +1,4 @@
+-- `tai_utc::seconds_at` meets its contract: each constant of the table is the float nearest to its decimal. Assumes nothing.
 use borrow.Author.Needs.{needs}
 use lib.Ieee.{round, ofBits}
 use Rattle.tai_utc.specs.Table.{fixed}

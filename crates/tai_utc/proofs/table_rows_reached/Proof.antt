@@ -1,5 +1,6 @@
+-- `tai_utc::table_rows_reached` meets its contract: the table's months are those of the definition. Assumes nothing.
 use borrow.Author.Needs.{needs}
-use Rattle.tai_utc.specs.Table.{fixed, starts}
+use Rattle.tai_utc.specs.Table.{fixed}
 use Rattle.tai_utc.proofs.Reached.{at-most}
 use Rattle.tai_utc.proofs.table_rows_reached.Statement.{statement}
 use Rattle.tai_utc.proofs.table_rows_reached.Tie as tie
