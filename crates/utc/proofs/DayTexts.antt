@@ -1,0 +1,68 @@
+-- A date that is not refused has a next one, a leap, and a text; one before year -4799 is refused with 1. For any table of rows. Assumes nothing.
+use mathlib.Core.Path.{_≡_, refl, _∙_}
+use mathlib.Core.Bool.{Bool, true, false, _&&_, true≢false}
+use mathlib.Core.List.{List}
+use Prim.Native.Nat.{ℕ}
+use native.Mathlib.Omega.{arith}
+use lib.Dec.{eqb}
+use lib.IntN.{ℤ, pos, negsuc}
+use lib.Signed.{ltZ, leZ}
+use lib.Ieee.{Float}
+use borrow.Author.Tests.{lt-leb, ltb-false}
+use Rattle.refusals.specs.Outcome.{answer, refusal, onward}
+use Rattle.floats.specs.Whole.{away}
+use Rattle.calendar.specs.declared.CalendarDate.{CalendarDate}
+use Rattle.calendar.specs.Calendar.{next}
+use Rattle.calendar.specs.Refusals.{nextOf}
+use Rattle.calendar.specs.DayCount.{mjdNumber}
+use Rattle.calendar.proofs.NextDates.{refused, by}
+use Rattle.calendar.proofs.Years.{validOf}
+use Rattle.tai_utc.specs.Table.{Row, monthNumber}
+use Rattle.tai_utc.specs.Leap.{leapOf, offsetsOfDay, leapAtEndOfDay}
+use Rattle.tai_utc.proofs.Days as Days
+use Rattle.time_of_day.specs.declared.TimeShown.{TimeShown}
+use Rattle.time_of_day.specs.declared.TimeShown.the-variants.{At, NextMidnight}
+use Rattle.time_of_day.specs.TimeShown.{shownOf}
+use Rattle.utc_text.specs.Text.{utcText}
+use Rattle.utc.specs.IsoText.{midnight, shownText, dayText}
+use Rattle.utc.proofs.TextCalls.{next-given, leap-refused, leap-given}
+
+-- the text of a date that has a next one
+abbrev pub textOf : CalendarDate → TimeShown → List ℕ
+textOf d (At t) = utcText d t
+textOf d NextMidnight = utcText (next d) midnight
+
+-- the last date of 32 bits is far from every date of the calendar
+far : (y : ℤ) → ltZ (pos 2733194) y ≡ false → leZ (pos 2147483647) y ≡ false
+far (pos n) e = lt-leb 2147483647 n (omega (arith, ltb-false 2733194 n e))
+far (negsuc n) e = refl
+
+first-false : (a b : Bool) → a ≡ false → a && b ≡ false
+first-false true b e = absurd (true≢false e)
+first-false false b e = refl
+
+module _ (rows : List Row) (d : CalendarDate) where
+  pub refused-early : (k : ℕ) → validOf d ≡ refusal k → leapAtEndOfDay rows (d .year) (pos (d .month)) (pos (d .day)) ≡ refusal k
+  unfolding leapAtEndOfDay onward
+  refused-early k e = rw (Days.day-offsets-are rows (d .year) (pos (d .month)) (pos (d .day)), refused (d .year) (pos (d .month)) (pos (d .day)) k e)
+
+  pub text-refused : (f : Float) (k : ℕ) → validOf d ≡ refusal k → dayText rows d f ≡ refusal k
+  text-refused f k e = leap-refused rows d f k (refused-early k e)
+
+  module _ (v : validOf d ≡ answer tt) (h : ltZ (pos 2733194) (d .year) ≡ false) where
+    pub has-next : nextOf (d .year) (pos (d .month)) (pos (d .day)) ≡ answer (next d)
+    has-next = by (d .year) (pos (d .month)) (pos (d .day)) v false (first-false (leZ (pos 2147483647) (d .year)) (eqb (d .month) 12 && eqb (d .day) 31) (far (d .year) h))
+
+    abbrev pub leapOn : Float
+    leapOn = leapOf (offsetsOfDay rows (monthNumber (d .year) (d .month)) (monthNumber (next d .year) (next d .month)) (mjdNumber (d .year) (pos (d .month)) (pos (d .day))))
+
+    pub has-leap : leapAtEndOfDay rows (d .year) (pos (d .month)) (pos (d .day)) ≡ answer leapOn
+    has-leap = Days.leap-given rows (d .year) (pos (d .month)) (pos (d .day)) (next d) has-next
+
+    shown : (r : TimeShown) → shownText d r ≡ answer (textOf d r)
+    unfolding shownText
+    shown (At t) = refl
+    shown NextMidnight = next-given d (next d) has-next
+
+    pub has-text : (f : Float) → dayText rows d f ≡ answer (textOf d (shownOf away f leapOn))
+    has-text f = leap-given rows d f leapOn has-leap ∙ shown (shownOf away f leapOn)

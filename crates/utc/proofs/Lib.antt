@@ -1,0 +1,15 @@
+-- The laws of UTC: from Unix time, from the calendar, and as text.
+pub mod Dates
+pub mod UnixDays
+pub mod UnixTimes
+pub mod TextCalls
+pub mod DayTexts
+pub mod Numbers
+pub mod FromCalendars
+pub mod Parts
+pub mod ShownDates
+pub mod Demand3
+pub mod DayLengths
+pub mod Alike
+pub mod Lengths
+pub mod Cases

@@ -1,0 +1,63 @@
+-- The text calls, each by what the call before it answered: a refusal is handed on and writes nothing, and a text is put. Assumes nothing.
+use mathlib.Core.Path.{_≡_, refl, sym, subst}
+use Prim.Native.Nat.{ℕ}
+use mathlib.Core.List.{List}
+use lib.IntN.{pos}
+use lib.Ieee.{Float}
+use Rattle.refusals.specs.Outcome.{Outcome, answer, refusal, onward}
+use Rattle.floats.specs.Whole.{away}
+use Rattle.calendar.specs.declared.CalendarDate.{CalendarDate}
+use Rattle.calendar.specs.Refusals.{nextOf}
+use Rattle.julian.specs.declared.JulianDate.{JulianDate}
+use Rattle.julian.specs.declared.CalendarFields.{CalendarFields}
+use Rattle.julian.specs.Calendar.{julianToCalendar}
+use Rattle.tai_utc.specs.Table.{Row}
+use Rattle.tai_utc.specs.Leap.{leapAtEndOfDay}
+use Rattle.time_of_day.specs.TimeShown.{shownOf}
+use Rattle.utc_text.specs.declared.TextAnswer.{TextAnswer}
+use Rattle.utc_text.specs.declared.TextAnswer.the-variants.{Refused}
+use Rattle.utc_text.specs.Answer.{textOutcome, TextPut}
+use Rattle.utc_text.specs.Text.{utcText}
+use Rattle.utc.specs.IsoText.{midnight, nextMidnightText, shownText, dayText, isoText}
+use Rattle.utc.specs.TextCall.{written, held, TextCall}
+
+pub call-refused : (o : Outcome (List ℕ)) (n : ℕ) (l : List ℕ) → o ≡ refusal n → TextCall o l (Refused n) l
+unfolding written held textOutcome onward
+call-refused o n l e = subst (λ (x : Outcome (List ℕ)). TextCall x l (Refused n) l) (sym e) (record { says = refl; holds = refl })
+
+pub call-put : (o : Outcome (List ℕ)) (t l out : List ℕ) (r : TextAnswer) → o ≡ answer t → TextPut t l r out → TextCall o l r out
+unfolding written held onward
+call-put o t l out r e p = subst (λ (x : Outcome (List ℕ)). TextCall x l r out) (sym e) (record { says = p .says; holds = p .holds })
+
+pub call-as : (o x : Outcome (List ℕ)) (l out : List ℕ) (r : TextAnswer) → o ≡ x → TextCall x l r out → TextCall o l r out
+call-as o x l out r e p = subst (λ (x : Outcome (List ℕ)). TextCall x l r out) (sym e) p
+
+-- ---- the next date's midnight
+module _ (d : CalendarDate) where
+  pub next-refused : (k : ℕ) → nextOf (d .year) (pos (d .month)) (pos (d .day)) ≡ refusal k → nextMidnightText d ≡ refusal k
+  unfolding nextMidnightText onward
+  next-refused k e = rw e
+
+  pub next-given : (t : CalendarDate) → nextOf (d .year) (pos (d .month)) (pos (d .day)) ≡ answer t → nextMidnightText d ≡ answer (utcText t midnight)
+  unfolding nextMidnightText onward
+  next-given t e = rw e
+
+-- ---- the day's leap
+module _ (rows : List Row) (d : CalendarDate) (f : Float) where
+  pub leap-refused : (k : ℕ) → leapAtEndOfDay rows (d .year) (pos (d .month)) (pos (d .day)) ≡ refusal k → dayText rows d f ≡ refusal k
+  unfolding dayText onward
+  leap-refused k e = rw e
+
+  pub leap-given : (x : Float) → leapAtEndOfDay rows (d .year) (pos (d .month)) (pos (d .day)) ≡ answer x → dayText rows d f ≡ shownText d (shownOf away f x)
+  unfolding dayText onward
+  leap-given x e = rw e
+
+-- ---- the calendar's fields
+module _ (rows : List Row) (jd : JulianDate) where
+  pub fields-refused : (k : ℕ) → julianToCalendar (jd .jd1) (jd .jd2) ≡ refusal k → isoText rows jd ≡ refusal k
+  unfolding isoText onward
+  fields-refused k e = rw e
+
+  pub fields-given : (c : CalendarFields) → julianToCalendar (jd .jd1) (jd .jd2) ≡ answer c → isoText rows jd ≡ dayText rows (c .date) (c .fraction)
+  unfolding isoText onward
+  fields-given c e = rw e

@@ -1,0 +1,6 @@
+-- The definitions that the contracts of `utc` and its theorems cite.
+pub mod FromCalendar
+pub mod UnixTime
+pub mod IsoText
+pub mod TextCall
+pub mod Shows

@@ -1,0 +1,23 @@
+-- The answer of a text call that may refuse, and what the lent buffer then holds. Written from document 01, "UTC text" and "Refusals by number": "A refusal carries
+-- nothing else and writes nothing". Assumes nothing.
+use Prim.Native.Nat.{ℕ}
+use mathlib.Core.Path.{_≡_}
+use mathlib.Core.List.{List}
+use lib.ListN.{length}
+use Rattle.refusals.specs.Outcome.{Outcome, answer, refusal, onward}
+use Rattle.utc_text.specs.declared.TextAnswer.{TextAnswer}
+use Rattle.utc_text.specs.Answer.{textOutcome, textWritten, bufferAfter}
+
+-- the text, or a refusal, into a buffer of n bytes: 11 only where there is a text
+unfoldable pub written : Outcome (List ℕ) → ℕ → Outcome ℕ
+written text n = onward text (λ t. textWritten t n)
+
+-- the buffer l is as it was where the text is refused
+unfoldable pub held : Outcome (List ℕ) → List ℕ → List ℕ
+held (answer t) l = bufferAfter t l
+held (refusal n) l = l
+
+-- r answers the text, and the buffer, which held `before`, holds `after`
+pub record TextCall (text : Outcome (List ℕ)) (before : List ℕ) (r : TextAnswer) (after : List ℕ) : Type 0 where
+  pub says : textOutcome r ≡ written text (length before)
+  pub holds : after ≡ held text before

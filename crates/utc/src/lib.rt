@@ -1,0 +1,173 @@
+// UTC from Unix time and from the calendar, and UTC text into a lent buffer: scales/utc/mod.rs.
+ghost use mathlib.Core.Path.{_≡_};
+ghost use Prim.Native.Nat.{_<_, _≤_};
+ghost use Rattle.scales.specs.Scales.{utcOutcome};
+ghost use Rattle.julian.specs.DayFraction.{fractionOutcome};
+ghost use Rattle.tai_utc.specs.Table.{fixed};
+ghost use Rattle.utc.specs.FromCalendar.{atTime, utcFromCalendar};
+ghost use Rattle.utc.specs.UnixTime.{unixDay, secondOfUnixDay, secondWithNanos, utcNew};
+ghost use Rattle.utc.specs.IsoText.{nextMidnightText, shownText, dayText, isoText};
+ghost use Rattle.utc.specs.TextCall.{TextCall};
+use calendar::CalendarDate;
+use calendar::NextDay;
+use julian::CalendarAnswer;
+use julian::FractionAnswer;
+use julian::JulianAnswer;
+use julian::JulianDate;
+use scales::UTC;
+use scales::UtcAnswer;
+use tai_utc::OffsetAnswer;
+use time_of_day::TimeOfDay;
+use time_of_day::TimeShown;
+use utc_text::TextAnswer;
+
+// The day of a Unix time, counted from 1970-01-01: the Rust's `div_euclid`, which divides downward.
+fn unix_day(seconds: i64) -> i64
+    ensures { λ r. ⌜ r ≡ unixDay seconds ⌝ }
+{
+    let day = seconds / constants::SECONDS_PER_DAY;
+    if seconds % constants::SECONDS_PER_DAY < 0 {
+        day - 1
+    } else {
+        day
+    }
+}
+
+// The seconds since that day's midnight: the Rust's `rem_euclid`.
+fn second_of_unix_day(seconds: i64) -> u32
+    ensures { λ r. ⌜ (r ≡ secondOfUnixDay seconds) × (r < 86400) ⌝ }
+{
+    let rest = seconds % constants::SECONDS_PER_DAY;
+    if rest < 0 {
+        (rest + constants::SECONDS_PER_DAY) as u32
+    } else {
+        rest as u32
+    }
+}
+
+// The second of its minute, with the nanoseconds.
+fn second_with_nanos(second: u32, nanos: u32) -> f64
+    ensures { λ r. ⌜ r ≡ secondWithNanos second nanos ⌝ }
+{
+    (second % 60) as f64 + nanos as f64 / constants::NANOSECONDS_PER_SECOND_F64
+}
+
+// UTC of a Unix time. Refusals in order: 8 the nanoseconds, 6 the day, 1 its year, then 4, which a day that ends in a step back can give.
+pub fn new(seconds: i64, nanos: u32) -> UtcAnswer
+    ensures { λ r. ⌜ utcOutcome r ≡ utcNew fixed seconds nanos ⌝ }
+{
+    if nanos >= constants::NANOSECONDS_PER_SECOND {
+        return UtcAnswer::Refused(refusals::NANOS_NOT_IN_SECOND);
+    }
+    match julian::julian_to_calendar(constants::UNIX_EPOCH_JD, unix_day(seconds) as f64) {
+        CalendarAnswer::Refused(number) => UtcAnswer::Refused(number),
+        CalendarAnswer::Fields(fields) => {
+            let date = fields.date;
+            let s = second_of_unix_day(seconds);
+            utc_from_calendar(
+                date.year,
+                date.month as u8,
+                date.day as u8,
+                (s / 3600) as u8,
+                (s % 3600 / 60) as u8,
+                second_with_nanos(s, nanos),
+            )
+        }
+    }
+}
+
+// UTC of a date and a time of its day. Refusals in order: 1 to 3 the date, 5 no next day, 4 the time; in the day's last minute the second is below 60 + leap.
+pub fn utc_from_calendar(
+    year: i32,
+    month: u8,
+    day: u8,
+    hour: u8,
+    minute: u8,
+    second: f64,
+) -> UtcAnswer
+    ensures { λ r. ⌜ utcOutcome r ≡ utcFromCalendar fixed year month day hour minute second ⌝ }
+{
+    match JulianDate::from_calendar(year, month, day, 0, 0, 0.0) {
+        JulianAnswer::Refused(number) => UtcAnswer::Refused(number),
+        JulianAnswer::Date(midnight) => match tai_utc::leap_at_end_of_day(
+            year,
+            month as i32,
+            day as i32,
+        ) {
+            OffsetAnswer::Refused(number) => UtcAnswer::Refused(number),
+            OffsetAnswer::Seconds(leap) => at_time(
+                midnight,
+                julian::day_fraction(hour, minute, second, leap),
+            ),
+        },
+    }
+}
+
+fn at_time(midnight: JulianDate, fraction: FractionAnswer) -> UtcAnswer
+    ensures { λ r. ⌜ utcOutcome r ≡ atTime midnight (fractionOutcome fraction) ⌝ }
+{
+    match fraction {
+        FractionAnswer::Refused(number) => UtcAnswer::Refused(number),
+        FractionAnswer::Fraction(f) => UtcAnswer::Date(UTC(JulianDate::new(
+            midnight.jd1,
+            midnight.jd2 + f,
+        ))),
+    }
+}
+
+// The date as ISO 8601 text, rounded to the millisecond, at the start of the buffer; in a leap second the seconds are 60. Refusals in order: 6 the parts, 1 the
+// year, 11 the buffer; a refused call writes nothing.
+pub fn to_iso8601(utc: UTC, out: &mut [u8]) -> TextAnswer
+    ensures { λ r. ⌜ TextCall (isoText fixed (utc .0)) (now (out .entry)) r (now (out .exit)) ⌝ }
+{
+    let jd = utc.0;
+    match julian::julian_to_calendar(jd.jd1, jd.jd2) {
+        CalendarAnswer::Refused(number) => TextAnswer::Refused(number),
+        CalendarAnswer::Fields(fields) => {
+            let date = fields.date;
+            put_day(date, fields.fraction, out)
+        }
+    }
+}
+
+fn put_day(date: CalendarDate, fraction: f64, out: &mut [u8]) -> TextAnswer
+    requires { ⌜ (date .month ≤ 12) × (date .day ≤ 31) ⌝ }
+    ensures { λ r. ⌜ TextCall (dayText fixed date fraction) (now (out .entry)) r (now (out .exit)) ⌝ }
+{
+    match tai_utc::leap_at_end_of_day(date.year, date.month as i32, date.day as i32) {
+        OffsetAnswer::Refused(number) => TextAnswer::Refused(number),
+        OffsetAnswer::Seconds(leap) => put_shown(
+            date,
+            time_of_day::time_shown(fraction, leap),
+            out,
+        ),
+    }
+}
+
+fn put_shown(date: CalendarDate, shown: TimeShown, out: &mut [u8]) -> TextAnswer
+    requires { ⌜ (date .month ≤ 12) × (date .day ≤ 31) ⌝ }
+    ensures { λ r. ⌜ TextCall (shownText date shown) (now (out .entry)) r (now (out .exit)) ⌝ }
+{
+    match shown {
+        TimeShown::At(time) => utc_text::put_text(date, time, out),
+        TimeShown::NextMidnight => put_next_midnight(date, out),
+    }
+}
+
+fn put_next_midnight(date: CalendarDate, out: &mut [u8]) -> TextAnswer
+    requires { ⌜ (date .month ≤ 12) × (date .day ≤ 31) ⌝ }
+    ensures { λ r. ⌜ TextCall (nextMidnightText date) (now (out .entry)) r (now (out .exit)) ⌝ }
+{
+    match calendar::next_calendar_day(date.year, date.month as i32, date.day as i32) {
+        NextDay::Refused(number) => TextAnswer::Refused(number),
+        NextDay::Date(next) => {
+            let midnight = TimeOfDay {
+                hour: 0,
+                minute: 0,
+                second: 0,
+                milli: 0,
+            };
+            utc_text::put_text(next, midnight, out)
+        }
+    }
+}

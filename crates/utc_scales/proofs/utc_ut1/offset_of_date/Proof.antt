@@ -1,0 +1,46 @@
+-- `utc_scales::utc_ut1::offset_of_date` meets its contract. Assumes nothing.
+use mathlib.Core.Path.{sym, ap, _∙_}
+use lib.IntN.{ℤ}
+use Rattle.floats.proofs.Laws.{yes}
+use Rattle.calendar.specs.Gregorian.{gregorianDate}
+use Rattle.day_number.specs.Answer.{dayOutcome}
+use Rattle.day_number.proofs.Ranges.{day-range}
+use Rattle.tai_utc.specs.Answers.{offsetOutcome}
+use Rattle.tai_utc.specs.Table.{fixed}
+use Rattle.utc_scales.specs.Dates.{offsetAt0h}
+use Rattle.utc_scales.proofs.Midnights.{day-read}
+use Rattle.utc_scales.proofs.Steps.{offset-no-date, offset-of-day}
+use borrow.Author.Needs.{needs}
+use Rattle.utc_scales.proofs.utc_ut1.offset_of_date.Statement.{statement}
+use Rattle.utc_scales.proofs.utc_ut1.offset_of_date.Tie as tie
+
+day-number-and-fraction-requires : tie.Need-day-number-and-fraction-requires
+day-number-and-fraction-requires c κs = search needs
+
+enum-known-number : tie.Need-enum-known-number
+enum-known-number c = search needs
+
+enum-known-d : tie.Need-enum-known-d
+enum-known-d c = search needs
+
+offset-at-0h-requires : tie.Need-offset-at-0h-requires
+offset-at-0h-requires c κs = search needs
+
+returns : tie.Need-returns
+unfolding offsetOutcome dayOutcome
+returns c = sym (offset-no-date _ _ _ (sym (c .before .before .before .day-number-and-fraction .ensures) ∙ ap dayOutcome (c .before .number .given .1)) fixed)
+
+returns-2 : tie.Need-returns-2
+unfolding offsetOutcome dayOutcome
+returns-2 c = c .offset-at-0h .ensures ∙ ap (λ (z : ℤ). offsetAt0h fixed (gregorianDate z)) (day-read _ (day-range _ _ (yes (c .before .before .before .before .before .before .good .0 .1)) (yes (c .before .before .before .before .before .before .good .1 .0 .1)) _ (sym (c .before .before .before .before .before .day-number-and-fraction .ensures) ∙ ap dayOutcome (c .before .before .before .d .given .1)))) ∙ sym (offset-of-day fixed _ _ _ (sym (c .before .before .before .before .before .day-number-and-fraction .ensures) ∙ ap dayOutcome (c .before .before .before .d .given .1)))
+
+pub offset-of-date-spec : {M : Type 1} → statement M
+offset-of-date-spec =
+    tie.close
+    (tie.spec
+    day-number-and-fraction-requires
+    enum-known-number
+    enum-known-d
+    offset-at-0h-requires
+    returns
+    returns-2)

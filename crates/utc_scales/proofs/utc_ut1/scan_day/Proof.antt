@@ -1,0 +1,84 @@
+-- `utc_scales::utc_ut1::scan_day` meets its contract. Assumes nothing.
+use mathlib.Core.Path.{sym, ap, _∙_}
+use lib.Ieee.Fits.{add-fits}
+use lib.Ieee.{Float, binary64, ofInt, ofBits, sub, lt}
+use lib.IntN.{ℤ, pos, _-ℤ_}
+use Rattle.refusals.specs.Outcome.{answer}
+use Rattle.floats.proofs.Laws.{yes}
+use Rattle.constants.specs.Constants.{mjdZeroPoint}
+use Rattle.calendar.specs.Gregorian.{gregorianDate}
+use Rattle.day_number.specs.Answer.{dayOutcome}
+use Rattle.day_number.proofs.Ranges.{day-range}
+use Rattle.julian.specs.JulianDate.{julian}
+use Rattle.tai_utc.specs.Answers.{offsetOutcome}
+use Rattle.tai_utc.specs.Offset.{halfF}
+use Rattle.tai_utc.specs.Table.{fixed}
+use Rattle.utc_scales.specs.Dates.{offsetAt0h}
+use Rattle.utc_scales.specs.UtcUt1.{step, scanOutcome, nearStep}
+use Rattle.utc_scales.proofs.Midnights.{day-read, day-asked}
+use Rattle.utc_scales.proofs.Steps.{scan-no-date, scan-no-offset, scan-no-step, scan-step}
+use borrow.Author.Needs.{needs}
+use Rattle.utc_scales.proofs.utc_ut1.scan_day.Statement.{statement}
+use Rattle.utc_scales.proofs.utc_ut1.scan_day.Tie as tie
+
+day-number-and-fraction-requires : tie.Need-day-number-and-fraction-requires
+day-number-and-fraction-requires c κs = search needs
+
+enum-known-number : tie.Need-enum-known-number
+enum-known-number c = search needs
+
+enum-known-d : tie.Need-enum-known-d
+enum-known-d c = search needs
+
+offset-at-0h-requires : tie.Need-offset-at-0h-requires
+offset-at-0h-requires c κs = search needs
+
+enum-known-number-2 : tie.Need-enum-known-number-2
+enum-known-number-2 c = search needs
+
+enum-known-x : tie.Need-enum-known-x
+enum-known-x c = search needs
+
+fabs-requires : tie.Need-fabs-requires
+fabs-requires c κs = search needs
+
+mjd-of-requires : tie.Need-mjd-of-requires
+unfolding dayOutcome
+mjd-of-requires c κs = day-asked _ (day-range _ _ (yes (c .before .before .before .before .before .before .before .before .before .before .before .before .good .0 .1)) (add-fits binary64 (c .before .before .before .before .before .before .before .before .before .before .before .before .args .small) (c .before .before .before .before .before .before .before .before .before .before .before .before .args .i)) _ (sym (c .before .before .before .before .before .before .before .before .before .before .before .day-number-and-fraction .ensures) ∙ ap dayOutcome (c .before .before .before .before .before .before .before .before .before .d .given .1)))
+
+near-step-requires : tie.Need-near-step-requires
+near-step-requires c κs = search needs
+
+returns : tie.Need-returns
+unfolding scanOutcome dayOutcome offsetOutcome ofBits
+returns c = sym (scan-no-date fixed _ _ _ _ _ _ (sym (c .before .before .before .day-number-and-fraction .ensures) ∙ ap dayOutcome (c .before .number .given .1)))
+
+returns-2 : tie.Need-returns-2
+unfolding scanOutcome dayOutcome offsetOutcome ofBits
+returns-2 c = sym (scan-no-offset fixed _ _ _ _ _ _ (sym (c .before .before .before .before .before .before .before .before .day-number-and-fraction .ensures) ∙ ap dayOutcome (c .before .before .before .before .before .before .d .given .1)) _ (sym (c .before .before .before .offset-at-0h .ensures ∙ ap (λ (z : ℤ). offsetAt0h fixed (gregorianDate z)) (day-read _ (day-range _ _ (yes (c .before .before .before .before .before .before .before .before .before .good .0 .1)) (add-fits binary64 (c .before .before .before .before .before .before .before .before .before .args .small) (c .before .before .before .before .before .before .before .before .before .args .i)) _ (sym (c .before .before .before .before .before .before .before .before .day-number-and-fraction .ensures) ∙ ap dayOutcome (c .before .before .before .before .before .before .d .given .1))))) ∙ ap offsetOutcome (c .before .number2 .given .1)))
+
+returns-3 : tie.Need-returns-3
+unfolding scanOutcome dayOutcome offsetOutcome ofBits
+returns-3 c = sym (scan-no-step fixed _ _ _ _ _ _ (sym (c .before .before .before .before .before .before .before .before .before .before .day-number-and-fraction .ensures) ∙ ap dayOutcome (c .before .before .before .before .before .before .before .before .d .given .1)) _ (sym (c .before .before .before .before .before .offset-at-0h .ensures ∙ ap (λ (z : ℤ). offsetAt0h fixed (gregorianDate z)) (day-read _ (day-range _ _ (yes (c .before .before .before .before .before .before .before .before .before .before .before .good .0 .1)) (add-fits binary64 (c .before .before .before .before .before .before .before .before .before .before .before .args .small) (c .before .before .before .before .before .before .before .before .before .before .before .args .i)) _ (sym (c .before .before .before .before .before .before .before .before .before .before .day-number-and-fraction .ensures) ∙ ap dayOutcome (c .before .before .before .before .before .before .before .before .d .given .1))))) ∙ ap offsetOutcome (c .before .before .before .x .given .1)) (ap (λ (z : Float). lt z halfF) (sym (c .before .fabs .ensures)) ∙ c .if1 .taken))
+
+returns-4 : tie.Need-returns-4
+unfolding scanOutcome dayOutcome offsetOutcome ofBits
+returns-4 c = ap (λ (z : Float). answer (step z)) (c .near-step .ensures ∙ ap (λ (z : Float). nearStep (c .before .before .before .before .before .before .before .before .before .before .before .before .before .before .args .big) (c .before .before .before .before .before .before .before .before .before .before .before .before .before .before .args .small) (c .before .before .before .before .before .before .before .before .before .before .before .before .before .before .args .dut1) (sub binary64 (c .before .before .before .before .before .before .x .given .0 .0) (c .before .before .before .before .before .before .before .before .before .before .before .before .before .before .args .before)) (julian mjdZeroPoint z)) (c .before .mjd-of .ensures ∙ ap (λ (z : ℤ). ofInt binary64 (z -ℤ pos 2400001)) (day-read _ (day-range _ _ (yes (c .before .before .before .before .before .before .before .before .before .before .before .before .before .before .good .0 .1)) (add-fits binary64 (c .before .before .before .before .before .before .before .before .before .before .before .before .before .before .args .small) (c .before .before .before .before .before .before .before .before .before .before .before .before .before .before .args .i)) _ (sym (c .before .before .before .before .before .before .before .before .before .before .before .before .before .day-number-and-fraction .ensures) ∙ ap dayOutcome (c .before .before .before .before .before .before .before .before .before .before .before .d .given .1)))))) ∙ sym (scan-step fixed _ _ _ _ _ _ (sym (c .before .before .before .before .before .before .before .before .before .before .before .before .before .day-number-and-fraction .ensures) ∙ ap dayOutcome (c .before .before .before .before .before .before .before .before .before .before .before .d .given .1)) _ (sym (c .before .before .before .before .before .before .before .before .offset-at-0h .ensures ∙ ap (λ (z : ℤ). offsetAt0h fixed (gregorianDate z)) (day-read _ (day-range _ _ (yes (c .before .before .before .before .before .before .before .before .before .before .before .before .before .before .good .0 .1)) (add-fits binary64 (c .before .before .before .before .before .before .before .before .before .before .before .before .before .before .args .small) (c .before .before .before .before .before .before .before .before .before .before .before .before .before .before .args .i)) _ (sym (c .before .before .before .before .before .before .before .before .before .before .before .before .before .day-number-and-fraction .ensures) ∙ ap dayOutcome (c .before .before .before .before .before .before .before .before .before .before .before .d .given .1))))) ∙ ap offsetOutcome (c .before .before .before .before .before .before .x .given .1)) (day-range _ _ (yes (c .before .before .before .before .before .before .before .before .before .before .before .before .before .before .good .0 .1)) (add-fits binary64 (c .before .before .before .before .before .before .before .before .before .before .before .before .before .before .args .small) (c .before .before .before .before .before .before .before .before .before .before .before .before .before .before .args .i)) _ (sym (c .before .before .before .before .before .before .before .before .before .before .before .before .before .day-number-and-fraction .ensures) ∙ ap dayOutcome (c .before .before .before .before .before .before .before .before .before .before .before .d .given .1))) (ap (λ (z : Float). lt z halfF) (sym (c .before .before .before .before .fabs .ensures)) ∙ c .before .before .before .if1 .left))
+
+pub scan-day-spec : {M : Type 1} → statement M
+scan-day-spec =
+    tie.close
+    (tie.spec
+    day-number-and-fraction-requires
+    enum-known-number
+    enum-known-d
+    offset-at-0h-requires
+    enum-known-number-2
+    enum-known-x
+    fabs-requires
+    mjd-of-requires
+    near-step-requires
+    returns
+    returns-2
+    returns-3
+    returns-4)

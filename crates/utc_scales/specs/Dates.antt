@@ -1,0 +1,23 @@
+-- TAI-UTC and the midnight of a calendar date. The Rust hands the year, month and day on as three signed numbers. Assumes nothing.
+use mathlib.Core.List.{List}
+use lib.IntN.{pos}
+use lib.Ieee.{Float}
+use Rattle.refusals.specs.Outcome.{Outcome}
+use Rattle.calendar.specs.declared.CalendarDate.{CalendarDate}
+use Rattle.julian.specs.declared.JulianDate.{JulianDate}
+use Rattle.julian.specs.Calendar.{calendarToJulian}
+use Rattle.tai_utc.specs.declared.DayOffsets.{DayOffsets}
+use Rattle.tai_utc.specs.Table.{Row}
+use Rattle.tai_utc.specs.Offset.{zeroF, taiUtcOffset}
+use Rattle.tai_utc.specs.Leap.{dayOffsets}
+
+-- at 0h
+unfoldable pub offsetAt0h : List Row → CalendarDate → Outcome Float
+offsetAt0h rows t = taiUtcOffset rows (t .year) (pos (t .month)) (pos (t .day)) zeroF
+
+-- at 0h, at 12h and at 24h
+unfoldable pub offsetsOf : List Row → CalendarDate → Outcome DayOffsets
+offsetsOf rows t = dayOffsets rows (t .year) (pos (t .month)) (pos (t .day))
+
+unfoldable pub midnightOf : CalendarDate → Outcome JulianDate
+midnightOf t = calendarToJulian (t .year) (pos (t .month)) (pos (t .day))

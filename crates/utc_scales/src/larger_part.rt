@@ -1,0 +1,67 @@
+// The larger part of a date, which a conversion keeps, and the smaller one, which it changes. On equal sizes jd2 is changed.
+ghost use mathlib.Core.Path.{_≡_};
+ghost use Rattle.refusals.specs.Outcome.{onward};
+ghost use Rattle.julian.specs.JulianDate.{julianOutcome};
+ghost use Rattle.julian.specs.DayFraction.{fractionOutcome};
+ghost use Rattle.utc_scales.specs.LargerPart.{firstIsLarger, partsOf, putBack, placed};
+use julian::FractionAnswer;
+use julian::JulianAnswer;
+use julian::JulianDate;
+
+pub(crate) struct Parts {
+    pub larger: f64,
+    pub smaller: f64,
+    pub first: bool,
+}
+
+// Whether jd1 counts as the larger part.
+fn first_is_larger(jd: JulianDate) -> bool
+    ensures { λ r. ⌜ r ≡ firstIsLarger jd ⌝ }
+{
+    floats::fabs(jd.jd1) >= floats::fabs(jd.jd2)
+}
+
+pub(crate) fn split(jd: JulianDate) -> Parts
+    ensures { λ r. ⌜ r ≡ partsOf jd ⌝ }
+{
+    if first_is_larger(jd) {
+        Parts {
+            larger: jd.jd1,
+            smaller: jd.jd2,
+            first: true,
+        }
+    } else {
+        Parts {
+            larger: jd.jd2,
+            smaller: jd.jd1,
+            first: false,
+        }
+    }
+}
+
+// The larger part in its place, and x for the smaller one.
+fn put_back(p: Parts, x: f64) -> JulianDate
+    ensures { λ r. ⌜ r ≡ putBack p x ⌝ }
+{
+    if p.first {
+        JulianDate {
+            jd1: p.larger,
+            jd2: x,
+        }
+    } else {
+        JulianDate {
+            jd1: x,
+            jd2: p.larger,
+        }
+    }
+}
+
+// The same, where the smaller part was not refused.
+pub(crate) fn placed(p: Parts, x: FractionAnswer) -> JulianAnswer
+    ensures { λ r. ⌜ julianOutcome r ≡ onward (fractionOutcome x) (placed p) ⌝ }
+{
+    match x {
+        FractionAnswer::Refused(number) => JulianAnswer::Refused(number),
+        FractionAnswer::Fraction(f) => JulianAnswer::Date(put_back(p, f)),
+    }
+}

@@ -1,0 +1,196 @@
+// UTC to UT1 and back by DUT1 = UT1 - UTC in seconds: scales/conversions/utc_ut1/mod.rs.
+ghost use mathlib.Core.Path.{_≡_};
+ghost use Rattle.constants.specs.Constants.{mjdZeroPoint};
+ghost use Rattle.julian.specs.JulianDate.{julian, julianOutcome};
+ghost use Rattle.julian.specs.DayFraction.{fractionOutcome};
+ghost use Rattle.julian.specs.Finite as J;
+ghost use Rattle.tai_utc.specs.Table.{fixed};
+ghost use Rattle.tai_utc.specs.Answers as T;
+ghost use Rattle.scales.specs.Scales.{utcOutcome, ut1Outcome};
+ghost use Rattle.utc_scales.specs.LargerPart.{changeSmaller};
+ghost use Rattle.utc_scales.specs.UtcUt1 as U;
+use super::larger_part::placed;
+use super::larger_part::split;
+use super::table::mjd_of;
+use super::table::offset_at_0h;
+use super::utc_tai::utc_to_tai;
+use constants::MJD_ZERO_POINT;
+use constants::SECONDS_PER_DAY_F64;
+use day_number::DayAnswer;
+use julian::FractionAnswer;
+use julian::JulianAnswer;
+use julian::JulianDate;
+use scales::TaiAnswer;
+use scales::UT1;
+use scales::UTC;
+use scales::Ut1Answer;
+use scales::UtcAnswer;
+
+// What a scanned day shows: its TAI-UTC, with no step from the day before; or DUT1 near its step.
+enum DayScan {
+    NoStep(f64),
+    Step(f64),
+    Refused(u32),
+}
+
+// TAI-UTC at 0h of the day of a Julian date.
+fn offset_of_date(jd1: f64, jd2: f64) -> tai_utc::OffsetAnswer
+    ensures { λ r. ⌜ T.offsetOutcome r ≡ U.offsetOfDate fixed jd1 jd2 ⌝ }
+{
+    match day_number::day_number_and_fraction(jd1, jd2) {
+        DayAnswer::Refused(number) => tai_utc::OffsetAnswer::Refused(number),
+        DayAnswer::Day(d) => offset_at_0h(d.day),
+    }
+}
+
+// Refusals in order: 10, 6, the date's.
+pub fn utc_to_ut1_with_dut1(utc: UTC, dut1: f64) -> Ut1Answer
+    ensures { λ r. ⌜ ut1Outcome r ≡ U.utcToUt1 fixed (utc .0) dut1 ⌝ }
+{
+    if let julian::OffsetAnswer::Refused(number) = julian::finite_arg(dut1) {
+        return Ut1Answer::Refused(number);
+    }
+    match utc_to_tai(utc) {
+        TaiAnswer::Refused(number) => Ut1Answer::Refused(number),
+        TaiAnswer::Date(tai) => {
+            let jd = utc.0;
+            match offset_of_date(jd.jd1, jd.jd2) {
+                tai_utc::OffsetAnswer::Refused(number) => Ut1Answer::Refused(number),
+                tai_utc::OffsetAnswer::Seconds(x) => {
+                    scales::ut1_tai::tai_to_ut1_with_offset(tai, dut1 - x)
+                }
+            }
+        }
+    }
+}
+
+// DUT1 less the step, where both have one sign.
+fn before_step(delta: f64, dut1: f64) -> f64
+    ensures { λ r. ⌜ r ≡ U.beforeStep delta dut1 ⌝ }
+{
+    if delta * dut1 >= 0.0 {
+        dut1 - delta
+    } else {
+        dut1
+    }
+}
+
+fn time_past_leap(big: f64, small: f64, mjd: f64, dut1: f64) -> f64
+    ensures { λ r. ⌜ r ≡ U.timePastLeap big small (julian mjdZeroPoint mjd) dut1 ⌝ }
+{
+    (big - MJD_ZERO_POINT) + (small - (mjd - 1.0 + dut1 / SECONDS_PER_DAY_F64))
+}
+
+fn at_most_one(x: f64) -> f64
+    ensures { λ r. ⌜ r ≡ U.atMostOne x ⌝ }
+{
+    if x < 1.0 { x } else { 1.0 }
+}
+
+// DUT1 with the part of the step that has passed.
+fn after_step(past: f64, delta: f64, dut1: f64) -> f64
+    ensures { λ r. ⌜ r ≡ U.afterStep past delta dut1 ⌝ }
+{
+    if past > 0.0 {
+        let fraction = at_most_one(past * SECONDS_PER_DAY_F64 / (SECONDS_PER_DAY_F64 + delta));
+        dut1 + delta * fraction
+    } else {
+        dut1
+    }
+}
+
+fn near_step(big: f64, small: f64, dut1: f64, delta: f64, mjd: f64) -> f64
+    ensures { λ r. ⌜ r ≡ U.nearStep big small dut1 delta (julian mjdZeroPoint mjd) ⌝ }
+{
+    let duts = before_step(delta, dut1);
+    after_step(time_past_leap(big, small, mjd, duts), delta, duts)
+}
+
+// The day i days later. Refusals in order: 6, 1.
+fn scan_day(big: f64, small: f64, dut1: f64, i: f64, before: f64) -> DayScan
+    ensures { λ r. ⌜ U.scanOutcome r ≡ U.scanDay fixed big small dut1 i before ⌝ }
+{
+    match day_number::day_number_and_fraction(big, small + i) {
+        DayAnswer::Refused(number) => DayScan::Refused(number),
+        DayAnswer::Day(d) => match offset_at_0h(d.day) {
+            tai_utc::OffsetAnswer::Refused(number) => DayScan::Refused(number),
+            tai_utc::OffsetAnswer::Seconds(x) => {
+                let delta = x - before;
+                if floats::fabs(delta) < 0.5 {
+                    DayScan::NoStep(x)
+                } else {
+                    DayScan::Step(near_step(big, small, dut1, delta, mjd_of(d.day)))
+                }
+            }
+        },
+    }
+}
+
+// The days 0 to 3, until a step; with none DUT1 stays.
+fn scan(big: f64, small: f64, dut1: f64, first: f64) -> julian::OffsetAnswer
+    ensures { λ r. ⌜ J.offsetOutcome r ≡ U.scan fixed big small dut1 4 0 first ⌝ }
+{
+    let mut before = first;
+    let mut i: u32 = 0;
+    while i < 4 {
+        match scan_day(big, small, dut1, i as f64, before) {
+            DayScan::NoStep(x) => {
+                before = x;
+            }
+            DayScan::Step(x) => {
+                return julian::OffsetAnswer::Offset(x);
+            }
+            DayScan::Refused(number) => {
+                return julian::OffsetAnswer::Refused(number);
+            }
+        }
+        i += 1;
+    }
+    julian::OffsetAnswer::Offset(dut1)
+}
+
+// Day -1 is only looked up.
+fn adjust_dut1_for_leap_second(big: f64, small: f64, dut1: f64) -> julian::OffsetAnswer
+    ensures { λ r. ⌜ J.offsetOutcome r ≡ U.adjustDut1 fixed big small dut1 ⌝ }
+{
+    match offset_of_date(big, small + -1.0) {
+        tai_utc::OffsetAnswer::Refused(number) => julian::OffsetAnswer::Refused(number),
+        tai_utc::OffsetAnswer::Seconds(x) => scan(big, small, dut1, x),
+    }
+}
+
+// The smaller part in UTC.
+fn utc_fraction(dut1: f64, big: f64, small: f64) -> FractionAnswer
+    ensures { λ r. ⌜ fractionOutcome r ≡ U.utcFraction fixed dut1 big small ⌝ }
+{
+    match adjust_dut1_for_leap_second(big, small, dut1) {
+        julian::OffsetAnswer::Refused(number) => FractionAnswer::Refused(number),
+        julian::OffsetAnswer::Offset(x) => FractionAnswer::Fraction(
+            small - x / SECONDS_PER_DAY_F64,
+        ),
+    }
+}
+
+// The same in its place.
+fn less_dut1(jd: JulianDate, dut1: f64) -> JulianAnswer
+    ensures { λ r. ⌜ julianOutcome r ≡ changeSmaller (U.utcFraction fixed dut1) jd ⌝ }
+{
+    let p = split(jd);
+    placed(p, utc_fraction(dut1, p.larger, p.smaller))
+}
+
+// Refusals in order: 10, 9, then 6 or 1 for each scanned day.
+pub fn ut1_to_utc_with_dut1(ut1: UT1, dut1: f64) -> UtcAnswer
+    ensures { λ r. ⌜ utcOutcome r ≡ U.ut1ToUtc fixed (ut1 .0) dut1 ⌝ }
+{
+    if let julian::OffsetAnswer::Refused(number) = julian::finite_arg(dut1) {
+        return UtcAnswer::Refused(number);
+    }
+    match julian::finite_jd(ut1.0) {
+        JulianAnswer::Refused(number) => UtcAnswer::Refused(number),
+        JulianAnswer::Date(jd) => match less_dut1(jd, dut1) {
+            JulianAnswer::Refused(number) => UtcAnswer::Refused(number),
+            JulianAnswer::Date(utc) => UtcAnswer::Date(UTC(utc)),
+        },
+    }
+}
