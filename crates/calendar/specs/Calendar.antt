@@ -42,7 +42,7 @@ dateAt zero = date (negsuc 5199) 3 1
 dateAt (suc k) = next (dateAt k)
 
 -- The date of day number n, which is document 01's n: "Day 2451545 is 2000-01-01, and each n one more or one less is the next or the previous date." The count
--- starts at -5200-03-01, day -178141, only because all that the code computes lies after it. Day 2451545 is day 2629686 of that count, and it is proved that its date
+-- starts at -5200-03-01, day -178141, only because all that the code computes lies after it (below that day it has no meaning). Day 2451545 is day 2629686 of that count, and it is proved that its date
 -- is 2000-01-01 (`day-2451545-is-2000-01-01`) and that no other sequence of dates has that date at that number and this step (`the-calendar`).
 unfoldable pub dateOf : ℤ → CalendarDate
 dateOf n = dateAt (natAbs (n +ℤ pos 178141))

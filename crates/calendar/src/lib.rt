@@ -48,6 +48,7 @@ fn month_length(year: i32, month: u32) -> u32
 {
     match month {
         1 | 3 | 5 | 7 | 10 | 12 => 31,
+        // Apart from 7: the two as one arm would be a range and not two keys, and the proof goes by the keys.
         8 => 31,
         4 | 6 | 9 | 11 => 30,
         2 => { if is_leap_year(year) { 29 } else { 28 } }

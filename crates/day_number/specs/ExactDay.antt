@@ -5,8 +5,7 @@ use mathlib.Core.Bool.{false}
 use Prim.Native.Nat.{ℕ, _+_, _-_, _*_, _/_, _%_, _^_, _≤_, _<_}
 use lib.IntN.{ℤ, pos, negsuc, _+ℤ_}
 use lib.Ieee.{Float, binary64, round}
-use Rattle.rounding.specs.Value.{Val}
-use Rattle.rounding.proofs.Casts.{plusZ, minusZ}
+use Rattle.rounding.specs.Value.{Val, plusZ, minusZ}
 use Rattle.day_number.specs.declared.DayNumber.{DayNumber}
 
 -- document 01's grid, for one part: a multiple of 2 ^ -52 day under 2 ^ 52 day in size; `units` is how many

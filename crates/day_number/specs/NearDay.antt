@@ -3,8 +3,7 @@
 use Prim.Native.Nat.{ℕ, _+_, _*_, _^_, _≤_, _<_}
 use lib.IntN.{ℤ}
 use lib.Ieee.{Float}
-use Rattle.rounding.specs.Value.{Val, L}
-use Rattle.rounding.proofs.Casts.{plusZ, minusZ}
+use Rattle.rounding.specs.Value.{Val, L, plusZ, minusZ}
 
 -- a part under 2 ^ 52 day in size
 pub record Under (x : Float) : Type 0 where

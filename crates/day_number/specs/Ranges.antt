@@ -3,7 +3,7 @@ use Prim.Native.Nat.{_≤_}
 use lib.Dec.{T}
 use lib.IntN.{ℤ}
 use lib.Ieee.{Float, lt, le}
-use Rattle.rounding.proofs.Casts.{plusZ, minusZ}
+use Rattle.rounding.specs.Value.{plusZ, minusZ}
 use Rattle.day_number.specs.DayNumber.{c-zero, c-one}
 
 -- -68570 ≤ z ≤ 1000000000

@@ -2,7 +2,7 @@
 -- Written from the Rust utc_tai/calendar.rs, day_number_and_fraction, whose order of additions it follows. Assumes nothing.
 use Prim.Native.Nat.{ℕ, _+_, _^_, _≤_, _<_}
 use lib.IntN.{ℤ}
-use Rattle.rounding.proofs.Casts.{plusZ, minusZ}
+use Rattle.rounding.specs.Value.{plusZ, minusZ}
 
 pub record Sums (a b : ℤ) (up more down : ℕ) : Type 0 where
   pub few : up ≤ 2

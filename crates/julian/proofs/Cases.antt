@@ -7,7 +7,7 @@ use lib.IntN.{pos, negsuc}
 use lib.Ieee.{Float, nan, fin, binary64, ofBits, round, ofInt, add, sub, mul, div, neg, lt, le, eq}
 use Rattle.refusals.specs.Outcome.{answer, refusal, onward}
 use Rattle.floats.specs.Whole.{toWhole, cut}
-use Rattle.constants.specs.Constants.{decimal, mjdZeroPoint, unixEpochJd, secondsPerDay, nanosecondsPerSecond}
+use Rattle.constants.specs.Constants.{decimal, mjdZeroPoint, j2000Jd, unixEpochJd, secondsPerDay, nanosecondsPerSecond, daysPerJulianYear}
 use Rattle.calendar.specs.declared.CalendarDate.{CalendarDate}
 use Rattle.calendar.specs.Calendar.{date, leapSize, lengths, daysInMonth}
 use Rattle.calendar.specs.Refusals.{validDate}
@@ -16,6 +16,7 @@ use Rattle.calendar.proofs.Cases.{date-2451545, date-lowest, date-below-lowest}
 use Rattle.day_number.specs.Answer.{dayNumberAndFraction}
 use Rattle.julian.specs.declared.JulianDate.{JulianDate}
 use Rattle.julian.specs.JulianDate.{julian, uncarried, addDays}
+use Rattle.julian.specs.JulianYear.{toJulianYear, fromJulianYear}
 use Rattle.julian.specs.UnixTime.{secondOfDay, fromUnixTime}
 use Rattle.julian.specs.Equality.{twoSumError, exactSum, sums, equal}
 use Rattle.julian.specs.DayFraction.{secondLimit, timeInDay, dayFraction}
@@ -145,3 +146,13 @@ infinite-sum-equal = refl
 pub nan-unequal : (x : Float) (e : JulianDate) → equal (julian nan x) e ≡ false
 unfolding equal sums exactSum add eq
 nan-unequal x e = refl
+
+-- ---- the Julian year 2000.0 is J2000.0, there and back
+
+pub year-of-j2000 : toJulianYear (julian j2000Jd (decimal 0 0)) ≡ decimal 2000 0
+unfolding toJulianYear j2000Jd daysPerJulianYear add sub div round ofBits
+year-of-j2000 = refl
+
+pub j2000-of-year : fromJulianYear (decimal 2000 0) ≡ julian mjdZeroPoint (decimal 515445 1)
+unfolding fromJulianYear mjdZeroPoint j2000Jd daysPerJulianYear add sub mul round ofBits
+j2000-of-year = refl

@@ -179,7 +179,7 @@ impl JulianDate {
         JulianDate::new(JulianDate::MJD_ZERO_POINT, mjd)
     }
 
-    // Whether the two exact sums are one number, however it is split.
+    // For parts under 2^52 in size, whether the two exact sums are one number, however it is split; for other parts the Rust's own test.
     pub fn eq(self, other: JulianDate) -> bool
         ensures { λ r. ⌜ r ≡ E.equal self other ⌝ }
     {

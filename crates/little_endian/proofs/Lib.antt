@@ -1,3 +1,7 @@
 -- The laws that the functions' proofs cite.
+-- Laws: where the bytes are there, and where not.
 pub mod Laws
+-- Signed: patterns in two's complement, as the code computes them.
 pub mod Signed
+-- RoundTrip: what is written is read back.
+pub mod RoundTrip

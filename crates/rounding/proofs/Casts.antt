@@ -15,16 +15,8 @@ use lib.Ieee.Back.{round-whole}
 use lib.Ieee.Nearest.{div-same}
 use lib.Ieee.Exact.{HasValue}
 use Rattle.rounding.specs.Value.{Signed, Val, Rounds}
+pub use Rattle.rounding.specs.Value.{plusZ, minusZ}
 use Rattle.rounding.proofs.Signed.{signed-lt}
-
--- z = plusZ z - minusZ z, one of them 0
-abbrev pub plusZ : ℤ → ℕ
-plusZ (pos a) = a
-plusZ (negsuc a) = 0
-
-abbrev pub minusZ : ℤ → ℕ
-minusZ (pos a) = 0
-minusZ (negsuc a) = suc a
 
 -- an integer as a float: rounded once
 pub ofInt-rounds : (f : Format) (z : ℤ) → Rounds f (ofInt f z) (plusZ z) (minusZ z) 1

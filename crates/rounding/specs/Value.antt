@@ -2,7 +2,8 @@
 -- and an operation gives the exact result of its operands, rounded once. The pair (p, n) is free: any two pairs with the same difference say the same value,
 -- so +0 and -0 are both worth p - p. Assumes nothing.
 use mathlib.Core.Path.{_≡_}
-use Prim.Native.Nat.{ℕ, _+_, _^_}
+use Prim.Native.Nat.{ℕ, suc, _+_, _^_}
+use lib.IntN.{ℤ, pos, negsuc}
 use mathlib.Core.Bool.{Bool, true, false}
 use lib.Ieee.{Float, Format, round}
 use lib.Ieee.Exact.{HasValue}
@@ -25,6 +26,15 @@ pub record Rounds (f : Format) (z : Float) (p n d : ℕ) : Type 0 where
   pub size : ℕ
   pub eq : z ≡ round f sign size d
   pub is : Signed sign size p n
+
+-- an integer z as the pair of plusZ z and minusZ z, of which one is 0: z = plusZ z - minusZ z
+abbrev pub plusZ : ℤ → ℕ
+plusZ (pos a) = a
+plusZ (negsuc a) = 0
+
+abbrev pub minusZ : ℤ → ℕ
+minusZ (pos a) = 0
+minusZ (negsuc a) = suc a
 
 -- 2 ^ 1074: the smallest f64 above zero is 1 / L, and every finite f64 is a whole number of 1 / L. Shut, so that proofs do not compute it
 unfoldable pub L : ℕ
