@@ -206,6 +206,34 @@ static record scales(int call, const record *r)
     return none();
 }
 
+/* The text goes into the first `room` of 32 bytes; all 32 are shown. */
+static record text(double jd1, double jd2, size_t room)
+{
+    uint8_t *out = lent();
+    int64_t code = ct_to_iso8601(jd1, jd2, out, room);
+    must_stand(code < 0 ? 0 : (size_t)code, "ct_to_iso8601");
+    record r = code < 0 ? refused(-code) : (record){{0, (uint64_t)code}};
+    for (int i = 0; i < 4; i++) r.word[2 + i] = read_bits((size_t)(8 * i));
+    return r;
+}
+
+static record utc(int call, const record *r)
+{
+    double jd1 = f(r, 0), jd2 = f(r, 1), dut1 = f(r, 2);
+    switch (call) {
+    case 120: return two_floats(FILL(16, ct_utc_new, n(r, 0), (uint32_t)n(r, 1)));
+    case 121:
+        return two_floats(FILL(16, ct_utc_from_calendar, (int32_t)n(r, 0), (uint8_t)n(r, 1),
+                               (uint8_t)n(r, 2), (uint8_t)n(r, 3), (uint8_t)n(r, 4), f(r, 5)));
+    case 122: return text(jd1, jd2, (size_t)n(r, 2));
+    case 123: return two_floats(FILL(16, ct_utc_to_tai, jd1, jd2));
+    case 124: return two_floats(FILL(16, ct_tai_to_utc, jd1, jd2));
+    case 125: return two_floats(FILL(16, ct_utc_to_ut1_with_dut1, jd1, jd2, dut1));
+    case 126: return two_floats(FILL(16, ct_ut1_to_utc_with_dut1, jd1, jd2, dut1));
+    }
+    return none();
+}
+
 static record answer(const record *r)
 {
     int call = (int)r->word[0];
@@ -214,7 +242,7 @@ static record answer(const record *r)
     if (call < 60) return julian(call, r);
     if (call < 80) return tai_utc(call, r);
     if (call < 120) return scales(call, r);
-    return none();
+    return utc(call, r);
 }
 
 int main(void)
