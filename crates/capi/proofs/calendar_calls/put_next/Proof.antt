@@ -1,0 +1,45 @@
+-- `capi::calendar_calls::put_next` meets its contract. Assumes nothing.
+use mathlib.Core.Path.{ap}
+use Rattle.calendar.specs.Answers.{nextOutcome}
+use Rattle.capi.specs.Fields.{dateBytes}
+use Rattle.capi.proofs.Deliveries.{answered, refused-on}
+use borrow.Author.Needs.{needs}
+use Rattle.capi.proofs.calendar_calls.put_next.Statement.{statement}
+use Rattle.capi.proofs.calendar_calls.put_next.Tie as tie
+
+enum-known-found : tie.Need-enum-known-found
+enum-known-found c = search needs
+
+put-date-requires : tie.Need-put-date-requires
+put-date-requires c κs = search needs
+
+enum-known-found-2 : tie.Need-enum-known-found-2
+enum-known-found-2 c = search needs
+
+refused-requires : tie.Need-refused-requires
+refused-requires c κs = search needs
+
+same-length : tie.Need-same-length
+same-length c = search needs
+
+returns : tie.Need-returns
+unfolding nextOutcome
+returns c =
+    let p = c .before .before in
+    answered dateBytes (p .put-date .ok) _ (ap nextOutcome (p .before .before .before .found .given .1)) (p .put-date .ensures)
+
+returns-2 : tie.Need-returns-2
+unfolding nextOutcome
+returns-2 c = refused-on dateBytes (c .refused .ok) _ (ap nextOutcome (c .before .before .found2 .given .1)) (c .refused .ensures)
+
+pub put-next-spec : {M : Type 1} → statement M
+put-next-spec =
+    tie.close
+    (tie.spec
+    enum-known-found
+    put-date-requires
+    enum-known-found-2
+    refused-requires
+    same-length
+    returns
+    returns-2)

@@ -1,0 +1,34 @@
+-- `capi::date_calls::ct_add_days` meets its contract. Assumes nothing.
+use mathlib.Core.Path.{ap, _∙_}
+use Rattle.julian.specs.declared.JulianDate.{JulianDate}
+use Rattle.julian.specs.JulianDate.{addDays}
+use Rattle.capi.specs.Fields.{julianBytes}
+use Rattle.capi.proofs.Deliveries.{same-bytes}
+use borrow.Author.Needs.{needs}
+use Rattle.capi.proofs.date_calls.ct_add_days.Statement.{statement}
+use Rattle.capi.proofs.date_calls.ct_add_days.Tie as tie
+
+new-requires : tie.Need-new-requires
+new-requires c κs = search needs
+
+add-days-requires : tie.Need-add-days-requires
+add-days-requires c κs = search needs
+
+put-julian-requires : tie.Need-put-julian-requires
+put-julian-requires c κs = search needs
+
+same-length : tie.Need-same-length
+same-length c = search needs
+
+returns : tie.Need-returns
+returns c =
+    let p = c .before .before in
+    let n = p .before .before in
+    let s = n .before .before .before in
+    same-bytes (p .put-julian .ok)
+    (ap julianBytes (n .add-days .ensures ∙ ap (λ (d : JulianDate). addDays d (s .args .days)) (n .before .new .ensures)))
+    (p .put-julian .ensures)
+
+pub ct-add-days-spec : {M : Type 1} → statement M
+ct-add-days-spec =
+    tie.close (tie.spec new-requires add-days-requires put-julian-requires same-length returns)

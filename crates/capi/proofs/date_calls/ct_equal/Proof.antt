@@ -1,0 +1,30 @@
+-- `capi::date_calls::ct_equal` meets its contract. Assumes nothing.
+use mathlib.Core.Path.{_≡_, sym, ap, _∙_}
+use Rattle.julian.specs.JulianDate.{julian}
+use Rattle.julian.specs.Equality.{equal}
+use Rattle.capi.specs.Delivery.{truth}
+use borrow.Author.Needs.{needs}
+use Rattle.capi.proofs.date_calls.ct_equal.Statement.{statement}
+use Rattle.capi.proofs.date_calls.ct_equal.Tie as tie
+
+is : (c : tie.After-eq)
+    → c .eq .result ≡ equal (julian (c .before .before .before .args .jd1) (c .before .before .before .args .jd2)) (julian (c .before .before .before .args .other1) (c .before .before .before .args .other2))
+is c = let n = c .before in c .eq .ensures ∙ λ i. equal (n .before .new .ensures i) (n .new2 .ensures i)
+
+new-requires : tie.Need-new-requires
+new-requires c κs = search needs
+
+new-requires-2 : tie.Need-new-requires-2
+new-requires-2 c κs = search needs
+
+eq-requires : tie.Need-eq-requires
+eq-requires c κs = search needs
+
+returns : tie.Need-returns
+returns c = ap truth (sym (c .if1 .taken) ∙ is (c .before))
+
+returns-2 : tie.Need-returns-2
+returns-2 c = ap truth (sym (c .if1 .left) ∙ is (c .before))
+
+pub ct-equal-spec : {M : Type 1} → statement M
+ct-equal-spec = tie.close (tie.spec new-requires new-requires-2 eq-requires returns returns-2)

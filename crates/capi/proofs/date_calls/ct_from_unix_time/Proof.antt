@@ -1,0 +1,32 @@
+-- `capi::date_calls::ct_from_unix_time` meets its contract. Assumes nothing.
+use mathlib.Core.Path.{ap, _∙_}
+use lib.IntN.{ℤ}
+use mir.Facts.{toZ-ofZ}
+use Rattle.julian.specs.UnixTime.{fromUnixTime}
+use Rattle.capi.specs.Fields.{julianBytes}
+use Rattle.capi.proofs.Deliveries.{same-bytes}
+use borrow.Author.Needs.{needs}
+use Rattle.capi.proofs.date_calls.ct_from_unix_time.Statement.{statement}
+use Rattle.capi.proofs.date_calls.ct_from_unix_time.Tie as tie
+
+from-unix-time-requires : tie.Need-from-unix-time-requires
+from-unix-time-requires c κs = search needs
+
+put-julian-requires : tie.Need-put-julian-requires
+put-julian-requires c κs = search needs
+
+same-length : tie.Need-same-length
+same-length c = search needs
+
+returns : tie.Need-returns
+returns c =
+    let p = c .before .before in
+    let n = p .before .before in
+    let s = n .before .before in
+    same-bytes (p .put-julian .ok)
+    (ap julianBytes (n .from-unix-time .ensures ∙ ap (λ (z : ℤ). fromUnixTime z (s .args .nanos)) (toZ-ofZ (s .fits .seconds))))
+    (p .put-julian .ensures)
+
+pub ct-from-unix-time-spec : {M : Type 1} → statement M
+ct-from-unix-time-spec =
+    tie.close (tie.spec from-unix-time-requires put-julian-requires same-length returns)

@@ -1,0 +1,45 @@
+-- `capi::offset_calls::put_offset` meets its contract. Assumes nothing.
+use mathlib.Core.Path.{ap}
+use Rattle.tai_utc.specs.Answers.{offsetOutcome}
+use Rattle.capi.specs.Fields.{floatBytes}
+use Rattle.capi.proofs.Deliveries.{answered, refused-on}
+use borrow.Author.Needs.{needs}
+use Rattle.capi.proofs.offset_calls.put_offset.Statement.{statement}
+use Rattle.capi.proofs.offset_calls.put_offset.Tie as tie
+
+enum-known-found : tie.Need-enum-known-found
+enum-known-found c = search needs
+
+put-float-requires : tie.Need-put-float-requires
+put-float-requires c κs = search needs
+
+enum-known-found-2 : tie.Need-enum-known-found-2
+enum-known-found-2 c = search needs
+
+refused-requires : tie.Need-refused-requires
+refused-requires c κs = search needs
+
+same-length : tie.Need-same-length
+same-length c = search needs
+
+returns : tie.Need-returns
+unfolding offsetOutcome
+returns c =
+    let p = c .before .before in
+    answered floatBytes (p .put-float .ok) _ (ap offsetOutcome (p .before .before .before .found .given .1)) (p .put-float .ensures)
+
+returns-2 : tie.Need-returns-2
+unfolding offsetOutcome
+returns-2 c = refused-on floatBytes (c .refused .ok) _ (ap offsetOutcome (c .before .before .found2 .given .1)) (c .refused .ensures)
+
+pub put-offset-spec : {M : Type 1} → statement M
+put-offset-spec =
+    tie.close
+    (tie.spec
+    enum-known-found
+    put-float-requires
+    enum-known-found-2
+    refused-requires
+    same-length
+    returns
+    returns-2)

@@ -1,0 +1,24 @@
+-- `capi::scale_calls::ct_ut1_to_tai_with_offset` meets its contract. Assumes nothing.
+use Rattle.capi.specs.Fields.{julianBytes}
+use Rattle.capi.proofs.Deliveries.{same-outcome}
+use borrow.Author.Needs.{needs}
+use Rattle.capi.proofs.scale_calls.ct_ut1_to_tai_with_offset.Statement.{statement}
+use Rattle.capi.proofs.scale_calls.ct_ut1_to_tai_with_offset.Tie as tie
+
+ut1-to-tai-with-offset-requires : tie.Need-ut1-to-tai-with-offset-requires
+ut1-to-tai-with-offset-requires c κs = search needs
+
+put-tai-requires : tie.Need-put-tai-requires
+put-tai-requires c κs = search needs
+
+same-length : tie.Need-same-length
+same-length c = search needs
+
+returns : tie.Need-returns
+returns c =
+    let p = c .before .before in
+    same-outcome julianBytes (p .put-tai .ok) (p .before .before .ut1-to-tai-with-offset .ensures) (p .put-tai .ensures)
+
+pub ct-ut1-to-tai-with-offset-spec : {M : Type 1} → statement M
+ct-ut1-to-tai-with-offset-spec =
+    tie.close (tie.spec ut1-to-tai-with-offset-requires put-tai-requires same-length returns)

@@ -1,0 +1,24 @@
+-- `capi::scale_calls::ct_ut1_to_tt_with_delta_t` meets its contract. Assumes nothing.
+use Rattle.capi.specs.Fields.{julianBytes}
+use Rattle.capi.proofs.Deliveries.{same-outcome}
+use borrow.Author.Needs.{needs}
+use Rattle.capi.proofs.scale_calls.ct_ut1_to_tt_with_delta_t.Statement.{statement}
+use Rattle.capi.proofs.scale_calls.ct_ut1_to_tt_with_delta_t.Tie as tie
+
+ut1-to-tt-with-delta-t-requires : tie.Need-ut1-to-tt-with-delta-t-requires
+ut1-to-tt-with-delta-t-requires c κs = search needs
+
+put-tt-requires : tie.Need-put-tt-requires
+put-tt-requires c κs = search needs
+
+same-length : tie.Need-same-length
+same-length c = search needs
+
+returns : tie.Need-returns
+returns c =
+    let p = c .before .before in
+    same-outcome julianBytes (p .put-tt .ok) (p .before .before .ut1-to-tt-with-delta-t .ensures) (p .put-tt .ensures)
+
+pub ct-ut1-to-tt-with-delta-t-spec : {M : Type 1} → statement M
+ct-ut1-to-tt-with-delta-t-spec =
+    tie.close (tie.spec ut1-to-tt-with-delta-t-requires put-tt-requires same-length returns)

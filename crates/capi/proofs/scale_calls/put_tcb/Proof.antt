@@ -1,0 +1,45 @@
+-- `capi::scale_calls::put_tcb` meets its contract. Assumes nothing.
+use mathlib.Core.Path.{ap}
+use Rattle.scales.specs.Scales.{tcbOutcome}
+use Rattle.capi.specs.Fields.{julianBytes}
+use Rattle.capi.proofs.Deliveries.{answered, refused-on}
+use borrow.Author.Needs.{needs}
+use Rattle.capi.proofs.scale_calls.put_tcb.Statement.{statement}
+use Rattle.capi.proofs.scale_calls.put_tcb.Tie as tie
+
+enum-known-found : tie.Need-enum-known-found
+enum-known-found c = search needs
+
+put-julian-requires : tie.Need-put-julian-requires
+put-julian-requires c κs = search needs
+
+enum-known-found-2 : tie.Need-enum-known-found-2
+enum-known-found-2 c = search needs
+
+refused-requires : tie.Need-refused-requires
+refused-requires c κs = search needs
+
+same-length : tie.Need-same-length
+same-length c = search needs
+
+returns : tie.Need-returns
+unfolding tcbOutcome
+returns c =
+    let p = c .before .before in
+    answered julianBytes (p .put-julian .ok) _ (ap tcbOutcome (p .before .before .before .found .given .1)) (p .put-julian .ensures)
+
+returns-2 : tie.Need-returns-2
+unfolding tcbOutcome
+returns-2 c = refused-on julianBytes (c .refused .ok) _ (ap tcbOutcome (c .before .before .found2 .given .1)) (c .refused .ensures)
+
+pub put-tcb-spec : {M : Type 1} → statement M
+put-tcb-spec =
+    tie.close
+    (tie.spec
+    enum-known-found
+    put-julian-requires
+    enum-known-found-2
+    refused-requires
+    same-length
+    returns
+    returns-2)

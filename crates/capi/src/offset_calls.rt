@@ -1,0 +1,39 @@
+// TAI-UTC by the table.
+ghost use Rattle.tai_utc.specs.Table.{fixed};
+ghost use Rattle.tai_utc.specs.Offset.{taiUtcOffset};
+ghost use Rattle.tai_utc.specs.Leap.{leapAtEndOfDay};
+ghost use Rattle.tai_utc.specs.Answers.{offsetOutcome};
+ghost use Rattle.capi.specs.Delivery.{inBytes, Delivered};
+ghost use Rattle.capi.specs.Fields.{floatBytes};
+use crate::delivery;
+use crate::fields;
+use tai_utc::OffsetAnswer;
+
+fn put_offset(found: OffsetAnswer, out: &mut [u8]) -> i64
+    ensures { λ r. ⌜ Delivered (inBytes floatBytes (offsetOutcome found)) (now (out .entry)) r (now (out .exit)) ⌝ }
+{
+    match found {
+        OffsetAnswer::Seconds(seconds) => fields::put_float(seconds, out),
+        OffsetAnswer::Refused(number) => delivery::refused(number),
+    }
+}
+
+#[no_mangle]
+pub extern "C" fn ct_get_tai_utc_offset(
+    year: i32,
+    month: i32,
+    day: i32,
+    fraction: f64,
+    out: &mut [u8],
+) -> i64
+    ensures { λ r. ⌜ Delivered (inBytes floatBytes (taiUtcOffset fixed year month day fraction)) (now (out .entry)) r (now (out .exit)) ⌝ }
+{
+    put_offset(tai_utc::get_tai_utc_offset(year, month, day, fraction), out)
+}
+
+#[no_mangle]
+pub extern "C" fn ct_leap_at_end_of_day(year: i32, month: i32, day: i32, out: &mut [u8]) -> i64
+    ensures { λ r. ⌜ Delivered (inBytes floatBytes (leapAtEndOfDay fixed year month day)) (now (out .entry)) r (now (out .exit)) ⌝ }
+{
+    put_offset(tai_utc::leap_at_end_of_day(year, month, day), out)
+}

@@ -1,0 +1,21 @@
+// TAI-UTC: calls 60 and 62.
+use crate::words;
+use crate::words::Answer;
+use tai_utc::OffsetAnswer;
+
+fn found(a: OffsetAnswer) -> Answer {
+    match a {
+        OffsetAnswer::Seconds(x) => words::float(x),
+        OffsetAnswer::Refused(number) => words::refused(number),
+    }
+}
+
+pub(crate) fn answered(call: u64, record: &[u8; 128]) -> Answer {
+    let year = words::small_at(record, 1);
+    let month = words::small_at(record, 2);
+    let day = words::small_at(record, 3);
+    if call == 60 {
+        return found(tai_utc::get_tai_utc_offset(year, month, day, words::float_at(record, 4)));
+    }
+    found(tai_utc::leap_at_end_of_day(year, month, day))
+}

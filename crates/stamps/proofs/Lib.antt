@@ -1,0 +1,7 @@
+-- The laws that the proofs of `stamps` cite, and the theorem that the parts are the listing.
+pub mod Blocks
+pub mod Places
+pub mod Texts
+pub mod Lines
+pub mod Parts
+pub mod Whole

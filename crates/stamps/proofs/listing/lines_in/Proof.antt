@@ -1,0 +1,32 @@
+-- `listing::lines_in` meets its contract. Assumes nothing.
+use Prim.Native.Nat.{ℕ, _≤_}
+use mathlib.Core.Path.{_≡_, sym, ap, subst}
+use native.Mathlib.Omega.{arith}
+use Rattle.stamps.specs.Parts.{linesIn}
+use Rattle.stamps.specs.Block.{blockOutcome}
+use borrow.Author.Needs.{needs}
+use Rattle.stamps.proofs.listing.lines_in.Statement.{statement}
+use Rattle.stamps.proofs.listing.lines_in.Tie as tie
+
+enum-told : tie.Need-enum-told
+enum-told c = search needs
+
+enum-known-answer : tie.Need-enum-known-answer
+enum-known-answer c = search needs
+
+add-result : tie.Need-add-result
+unfolding linesIn blockOutcome
+add-result c =
+    let e = ap (λ a. linesIn (blockOutcome a)) (c .before .answer .given .1) in
+    omega (arith, e, c .before .before .before .pre)
+
+returns : tie.Need-returns
+unfolding linesIn blockOutcome
+returns c = sym (ap (λ a. linesIn (blockOutcome a)) (c .enum-told .given .1))
+
+returns-2 : tie.Need-returns-2
+unfolding linesIn blockOutcome
+returns-2 c = sym (ap (λ a. linesIn (blockOutcome a)) (c .before .answer .given .1))
+
+pub lines-in-spec : {M : Type 1} → statement M
+lines-in-spec = tie.close (tie.spec enum-told enum-known-answer add-result returns returns-2)

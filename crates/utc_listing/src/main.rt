@@ -1,0 +1,32 @@
+// Lists the stamp block that is read from standard input.
+ghost use mathlib.Core.Path.{_≡_};
+ghost use lib.ListN.{length};
+
+// One byte more than the longest block, 8 + 16 * 4000 bytes, so that a longer input is noticed.
+const BLOCK_SPACE: usize = 64009;
+
+fn block_space() -> [u8; BLOCK_SPACE]
+    ensures { λ r. ⌜ 64009 ≡ length r ⌝ }
+{
+    [0; BLOCK_SPACE]
+}
+
+// Where the output takes no more, the program ends: what it wrote until then has its last line cut short, or ends with a whole line.
+fn main() {
+    let mut space = block_space();
+    let len = io::read_full(0, &mut space);
+    let block = &space[..len];
+    let mut scratch = io::buffer();
+    let mut line = 0;
+    loop {
+        let part = stamps::next_part(block, line, &mut scratch);
+        let written = part.written;
+        if !io::write_all(1, &scratch[..written]) {
+            return;
+        }
+        if part.done {
+            return;
+        }
+        line = part.line;
+    }
+}

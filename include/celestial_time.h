@@ -1,0 +1,156 @@
+/* Two-part Julian dates, eight time scales, the calendar, TAI-UTC and UTC text, for C.
+   The archive is target/staticlib/libcapi.a, made by `rt staticlib capi`.
+
+   Answers. A call returns 64 bits signed: zero or more is its value, or the
+   number of bytes that it wrote; below zero is minus the number of the refusal.
+   A call that gives one float and never refuses returns the float.
+
+   Bytes. Several values go into a buffer that the caller lends, from its start,
+   in the order that is written at the call: a float as the 8 bytes of its bits,
+   a NaN always as 7ff8000000000000; a year, a month or a day as 4 bytes in two's
+   complement. The lowest byte stands first. Bytes after them stay as they were.
+   A refusal writes nothing.
+
+   A buffer is two arguments, a pointer and a length in bytes, and overlaps no
+   other. Pass a real pointer with a length of 0, too. No call keeps a pointer,
+   and none has a state: any number of threads may call.
+
+   A date is two floats, jd1 and jd2: its exact sum is the Julian date in days.
+   Every float is taken, NaN and the infinities too.
+
+   Refusals:
+     1  year before -4799                      6  rounded sum jd1 + jd2 outside
+     2  month not 1 to 12                         -68569.5 to 1e9, or NaN
+     3  day not in month                       7  fraction outside 0 to 1, or NaN
+     4  hour above 23, minute above 59, or     8  nanos 1,000,000,000 or more
+        second NaN, below 0 or not below 60    9  jd1 or jd2 not finite
+     5  no next day                           10  offset not finite
+                                              11  buffer too short
+   A call tests in the order in which its comment lists them, and 11 last. So
+   1900-02-29 asked of ct_next_calendar_day with a buffer of 3 bytes is 3. */
+#ifndef CELESTIAL_TIME_H
+#define CELESTIAL_TIME_H
+
+#include <stddef.h>
+#include <stdint.h>
+
+#ifdef __cplusplus
+extern "C" {
+#endif
+
+/* ---- Calendar: the proleptic Gregorian one, years as in ISO 8601 (0 is 1 BC) */
+
+/* 1 where the year has a 29 February, else 0. */
+int64_t ct_is_leap_year(int32_t year);
+
+/* 28 to 31; 0 where there is no such month. */
+int64_t ct_days_in_month(int32_t year, int32_t month);
+
+/* 0 where the three are a date. Refuses 1, 2, 3: -4800-13-40 is 1, 2000-13-40 is 2. */
+int64_t ct_validate_calendar_date(int32_t year, int32_t month, int32_t day);
+
+/* The next day: year, month, day; 12 bytes. Refuses 1, 2, 3; then 5 on 2147483647-12-31; 11. */
+int64_t ct_next_calendar_day(int32_t year, int32_t month, int32_t day, uint8_t *out, size_t out_len);
+
+/* The Julian date of a day's midnight: 2400000.5 and the Modified Julian Date; 16 bytes.
+   Refuses 1, 2, 3; 11. */
+int64_t ct_calendar_to_julian(int32_t year, int32_t month, int32_t day, uint8_t *out, size_t out_len);
+
+/* The day of a Julian date, and the part of it that has passed: year, month, day, fraction;
+   20 bytes. Refuses 6; 11. At the lowest end, (-68569.5, -2^-52), the date is -4900-02-30. */
+int64_t ct_julian_to_calendar(double jd1, double jd2, uint8_t *out, size_t out_len);
+
+/* The Julian date of a day and time, midnight in jd1 and the time of day in jd2; 16 bytes.
+   Refuses 1, 2, 3; then 4, which 23:59:60 is too; 11. 2000-02-30 25:00:00 is 3. */
+int64_t ct_from_calendar(int32_t year, uint8_t month, uint8_t day, uint8_t hour, uint8_t minute,
+                         double second, uint8_t *out, size_t out_len);
+
+/* ---- Julian dates: these refuse nothing but 11, and pass a NaN on */
+
+/* jd1 + jd2, rounded. */
+double ct_to_f64(double jd1, double jd2);
+
+/* So many days or seconds later: jd1, jd2; 16 bytes. */
+int64_t ct_add_days(double jd1, double jd2, double days, uint8_t *out, size_t out_len);
+int64_t ct_add_seconds(double jd1, double jd2, double seconds, uint8_t *out, size_t out_len);
+
+/* The Julian date of a Unix time, divided toward zero: jd1, jd2; 16 bytes. */
+int64_t ct_from_unix_time(int64_t seconds, uint32_t nanos, uint8_t *out, size_t out_len);
+
+/* The Julian year of a date, and the date of a Julian year (jd1, jd2; 16 bytes). */
+double ct_to_julian_year(double jd1, double jd2);
+int64_t ct_from_julian_year(double year, uint8_t *out, size_t out_len);
+
+/* 1 where two dates are one, however they are split into parts, else 0. */
+int64_t ct_equal(double jd1, double jd2, double other1, double other2);
+
+/* The days from the other date to this. */
+double ct_difference(double jd1, double jd2, double other1, double other2);
+
+/* ---- TAI-UTC */
+
+/* TAI-UTC in seconds at a fraction of a day; 8 bytes. Refuses 7; then 1, 2, 3; 11.
+   2000-13-01 with the fraction 1.5 is 7. */
+int64_t ct_get_tai_utc_offset(int32_t year, int32_t month, int32_t day, double fraction,
+                              uint8_t *out, size_t out_len);
+
+/* The step of TAI-UTC at the end of a day in seconds; 8 bytes. Refuses 1, 2, 3; then 5; 11. */
+int64_t ct_leap_at_end_of_day(int32_t year, int32_t month, int32_t day, uint8_t *out, size_t out_len);
+
+/* ---- Scales: a date of the first scale in, the date of the second out: jd1, jd2; 16 bytes.
+   Refuses 9; 11. */
+
+int64_t ct_gps_to_tai(double jd1, double jd2, uint8_t *out, size_t out_len);
+int64_t ct_tai_to_gps(double jd1, double jd2, uint8_t *out, size_t out_len);
+int64_t ct_tai_to_tt(double jd1, double jd2, uint8_t *out, size_t out_len);
+int64_t ct_tt_to_tai(double jd1, double jd2, uint8_t *out, size_t out_len);
+int64_t ct_tai_to_tcg(double jd1, double jd2, uint8_t *out, size_t out_len);
+int64_t ct_tcg_to_tai(double jd1, double jd2, uint8_t *out, size_t out_len);
+int64_t ct_tt_to_tcg(double jd1, double jd2, uint8_t *out, size_t out_len);
+int64_t ct_tcg_to_tt(double jd1, double jd2, uint8_t *out, size_t out_len);
+int64_t ct_tcb_to_tdb(double jd1, double jd2, uint8_t *out, size_t out_len);
+int64_t ct_tdb_to_tcb(double jd1, double jd2, uint8_t *out, size_t out_len);
+
+/* With an offset in seconds that the caller gives: TDB-TT, UT1-TAI or TT-UT1. Refuses 9; then 10;
+   11. A date (NaN, 0.0) with the offset NaN is 9. */
+int64_t ct_tt_to_tdb_with_offset(double jd1, double jd2, double seconds, uint8_t *out, size_t out_len);
+int64_t ct_tdb_to_tt_with_offset(double jd1, double jd2, double seconds, uint8_t *out, size_t out_len);
+int64_t ct_ut1_to_tai_with_offset(double jd1, double jd2, double seconds, uint8_t *out, size_t out_len);
+int64_t ct_tai_to_ut1_with_offset(double jd1, double jd2, double seconds, uint8_t *out, size_t out_len);
+int64_t ct_ut1_to_tt_with_delta_t(double jd1, double jd2, double seconds, uint8_t *out, size_t out_len);
+int64_t ct_tt_to_ut1_with_delta_t(double jd1, double jd2, double seconds, uint8_t *out, size_t out_len);
+
+/* ---- UTC: on a day that ends in a leap second, jd2 runs to the end of its 86,401 seconds */
+
+/* The UTC date of a Unix time, divided downward: jd1, jd2; 16 bytes. Refuses 8; 6; then 1, 2, 3;
+   then 4, on a day that ends in a step back; 11. (0, 1000000000) is 8. */
+int64_t ct_utc_new(int64_t seconds, uint32_t nanos, uint8_t *out, size_t out_len);
+
+/* The UTC date of a day and time: jd1, jd2; 16 bytes. Refuses 1, 2, 3; then 5; then 4, where the
+   limit at 23:59 is 60 plus the day's leap; 11. 2147483647-12-31 at 25:00:00 is 5, and
+   2016-12-31 23:59:60.0 is a date. */
+int64_t ct_utc_from_calendar(int32_t year, uint8_t month, uint8_t day, uint8_t hour, uint8_t minute,
+                             double second, uint8_t *out, size_t out_len);
+
+/* UTC to TAI and back: jd1, jd2; 16 bytes. Refuses 6; then 1; 11. An infinity is 6. */
+int64_t ct_utc_to_tai(double jd1, double jd2, uint8_t *out, size_t out_len);
+int64_t ct_tai_to_utc(double jd1, double jd2, uint8_t *out, size_t out_len);
+
+/* UTC to UT1 by DUT1 = UT1-UTC in seconds: jd1, jd2; 16 bytes. Refuses 10; 6; then 1; 11. The
+   date (NaN, 0.0) with DUT1 NaN is 10. */
+int64_t ct_utc_to_ut1_with_dut1(double jd1, double jd2, double dut1, uint8_t *out, size_t out_len);
+
+/* UT1 to UTC: jd1, jd2; 16 bytes. Refuses 10; 9; then 6 or 1 by the days from one before to three
+   after, as far as they are looked up; 11. (NaN, 0.0) with DUT1 0.0 is 9. */
+int64_t ct_ut1_to_utc_with_dut1(double jd1, double jd2, double dut1, uint8_t *out, size_t out_len);
+
+/* The UTC date as text, 23 to 26 bytes: 2016-12-31T23:59:60.000, to the nearest millisecond. No
+   byte 0 ends it; the call returns its length. Refuses 6; then 1; 11, which 22 bytes are for
+   2000-01-01. */
+int64_t ct_to_iso8601(double jd1, double jd2, uint8_t *out, size_t out_len);
+
+#ifdef __cplusplus
+}
+#endif
+
+#endif
