@@ -1,26 +1,24 @@
 -- The three kinds of a pair of parts: no day, a day whose year is before -4799, and a day with a valid date, whose offsets are answered for any rows. Assumes nothing.
-use mathlib.Core.Path.{_≡_, refl, sym, ap, _∙_, subst}
-use mathlib.Core.Bool.{Bool, true, false, cond, _&&_, _||_}
+use mathlib.Core.Path.{_≡_, refl, _∙_}
+use mathlib.Core.Bool.{Bool, true, false, cond, _||_}
 use mathlib.Core.List.{List}
 use mathlib.Core.Logic.{_⊎_, inl, inr}
-use Prim.Native.Nat.{ℕ, _<_}
+use Prim.Native.Nat.{ℕ}
 use native.Mathlib.Omega.{arith}
-use lib.Dec.{T, eqb}
-use lib.IntN.{ℤ, pos, negsuc, natAbs}
+use lib.Dec.{T}
+use lib.IntN.{ℤ, pos, negsuc}
 use lib.Signed.{ltZ, leZ}
-use lib.Ieee.{Float, binary64, fits, ofInt}
+use lib.Ieee.{Float, binary64, fits}
 use borrow.Author.Tests.{ltb-false, lt-leb}
-use Rattle.refusals.specs.Outcome.{Outcome, answer, refusal, onward}
+use Rattle.refusals.specs.Outcome.{Outcome, answer, refusal}
 use Rattle.calendar.specs.declared.CalendarDate.{CalendarDate}
 use Rattle.calendar.specs.Calendar.{daysInMonth, date, next}
 use Rattle.calendar.specs.Refusals.{validDate, nextOf, lastDate}
-use Rattle.calendar.specs.DayCount.{mjdNumber}
 use Rattle.calendar.specs.Gregorian.{gregorianDate}
-use Rattle.calendar.proofs.Accepted.{accepted, year-refused}
+use Rattle.calendar.proofs.Accepted.{accepted}
 use Rattle.calendar.proofs.Years.{validOf, gregorian-in-range, gregorian-refusal}
 use Rattle.calendar.proofs.Mjd.{mjd-given}
 use Rattle.calendar.proofs.NextDates.{by}
-use Rattle.day_number.specs.declared.DayNumber.{DayNumber}
 use Rattle.day_number.specs.DayNumber.{dayOf}
 use Rattle.day_number.specs.DayNumber as D
 use Rattle.day_number.specs.Answer.{dayNumberAndFraction}
@@ -28,9 +26,8 @@ use Rattle.day_number.specs.Ranges.{InDays}
 use Rattle.day_number.proofs.Answer.{answered, refused}
 use Rattle.day_number.proofs.Ranges.{day-range}
 use Rattle.tai_utc.specs.declared.DayOffsets.{DayOffsets}
-use Rattle.tai_utc.specs.Table.{Row, monthNumber}
-use Rattle.tai_utc.specs.Offset.{zeroF, offsetAt}
-use Rattle.tai_utc.specs.Leap.{offsetsOfDay}
+use Rattle.tai_utc.specs.Table.{Row}
+use Rattle.tai_utc.specs.Offset.{zeroF}
 use Rattle.tai_utc.proofs.Offsets.{in-day-zero, offset-given}
 use Rattle.tai_utc.proofs.Days.{day-offsets-are}
 use Rattle.scales.proofs.Outcomes.{went}

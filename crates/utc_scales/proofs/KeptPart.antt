@@ -1,5 +1,5 @@
 -- THE LARGER PART IS HANDED BACK: UTC to TAI, TAI to UTC and UT1 to UTC change only the smaller part, on equal sizes jd2. For any rows. Assumes nothing.
-use mathlib.Core.Path.{_≡_, refl, sym, ap, _∙_, subst}
+use mathlib.Core.Path.{_≡_, refl, ap, _∙_, subst}
 use mathlib.Core.Bool.{Bool, true, false, cond}
 use mathlib.Core.List.{List}
 use Prim.Native.Nat.{ℕ}

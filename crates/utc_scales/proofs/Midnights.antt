@@ -3,7 +3,7 @@ use mathlib.Core.Path.{_≡_, refl, sym, ap, _∙_, subst}
 use mathlib.Core.Bool.{Bool, true, false, cond}
 use mathlib.Core.List.{List}
 use mathlib.Core.Logic.{_⊎_, inl, inr}
-use Prim.Native.Nat.{ℕ, suc, _+_, _^_, _≤_, _<_}
+use Prim.Native.Nat.{ℕ, _^_, _≤_}
 use native.Mathlib.Omega.{arith}
 use lib.Dec.{T, le→leb, lt→ltb}
 use lib.IntN.{ℤ, pos, negsuc, natAbs, _-ℤ_}
@@ -50,6 +50,10 @@ day-read z h = toZ-ofZ (day-fits z h)
 
 pub day-asked : (z : ℤ) → InDays z → natAbs (toZ w64 (ofZ w64 z)) ≤ 1000000000
 day-asked z h = subst (λ (x : ℤ). natAbs x ≤ 1000000000) (sym (day-read z h)) (day-small z h)
+
+-- equal bits are equal days
+pub same-day : (a b : ℤ) → SFits w64 a → SFits w64 b → ofZ w64 a ≡ ofZ w64 b → a ≡ b
+same-day a b f g e = sym (toZ-ofZ f) ∙ ap (toZ w64) e ∙ toZ-ofZ g
 
 -- ---- its Modified Julian Date
 module _ (z : ℤ) (f : SFits w64 z) (h : natAbs z ≤ 1000000000) where

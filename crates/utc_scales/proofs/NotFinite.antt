@@ -1,12 +1,12 @@
 -- WHAT IS NOT FINITE IS REFUSED, for any rows: a part that is not finite by 6 in UTC to TAI, TAI to UTC and UTC to UT1 and by 9 in UT1 to UTC, and a DUT1 that is
 -- not finite by 10. Assumes nothing.
-use mathlib.Core.Path.{_≡_, refl, sym, ap, _∙_, subst}
+use mathlib.Core.Path.{_≡_, refl, ap, _∙_, subst}
 use mathlib.Core.Bool.{Bool, true, false, cond, _&&_}
 use mathlib.Core.List.{List}
 use lib.Dec.{T}
 use lib.Ieee.{Float}
 use lib.Ieee.Scale.{finite}
-use Rattle.refusals.specs.Outcome.{Outcome, answer, refusal, onward}
+use Rattle.refusals.specs.Outcome.{answer, refusal}
 use Rattle.day_number.specs.DayNumber.{accepted}
 use Rattle.day_number.proofs.Answer.{refused}
 use Rattle.day_number.proofs.JulianRange.{accepted-finite}

@@ -1,9 +1,9 @@
 -- WHICH REFUSALS OCCUR, for any rows and all floats: 2, 3 and 5 never do. UTC to TAI is 6 exactly where the rounded sum is not in the range, 1 exactly where it is and
 -- the year is before -4799, and else a date; TAI to UTC has no other refusal; UTC to UT1 and UT1 to UTC have 10 and 9 besides. Assumes nothing.
-use mathlib.Core.Path.{_≡_, refl, sym, ap, _∙_, subst}
+use mathlib.Core.Path.{_≡_, refl, sym, _∙_, subst}
 use mathlib.Core.Bool.{Bool, true, false, cond}
 use mathlib.Core.List.{List}
-use mathlib.Core.Logic.{_⊎_, inl, inr}
+use mathlib.Core.Logic.{inl, inr}
 use Prim.Native.Nat.{ℕ, zero, suc, _+_}
 use lib.Dec.{T}
 use lib.IntN.{pos, negsuc}
@@ -24,10 +24,10 @@ use Rattle.scales.specs.Refusals.{finiteParts}
 use Rattle.scales.specs.Ranges.{Held}
 use Rattle.scales.proofs.Outcomes.{went, stopped, first-by}
 use Rattle.utc_scales.specs.declared.larger_part.Parts.{Parts}
-use Rattle.utc_scales.specs.LargerPart.{firstIsLarger, partsAs, partsOf, putBack, placed, changeSmaller}
-use Rattle.utc_scales.specs.Dates.{offsetAt0h}
+use Rattle.utc_scales.specs.LargerPart.{firstIsLarger, partsAs, partsOf, placed, changeSmaller}
+use Rattle.utc_scales.specs.Dates.{offsetOfDate, offsetAt0h}
 use Rattle.utc_scales.specs.UtcTai.{taiFraction, utcToTai, moved, refined, rounds, refineUtcFraction, taiToUtc}
-use Rattle.utc_scales.specs.UtcUt1.{offsetOfDate, utcToUt1, Scanned, noStep, step, scanDay, untilStep, scan, adjustDut1, utcFraction, ut1ToUtc}
+use Rattle.utc_scales.specs.UtcUt1.{utcToUt1, Scanned, noStep, step, scanDay, untilStep, scan, adjustDut1, utcFraction, ut1ToUtc}
 use Rattle.utc_scales.specs.Claims as C
 use Rattle.utc_scales.specs.Claims.{Holds, answers, refuses, Any, SixOrOne, TenNineSixOrOne}
 use Rattle.utc_scales.proofs.Midnights.{offset-early, offsets-early}
@@ -50,7 +50,7 @@ module _ (rows : List Row) (x y : Float) where
       go (before a e b v) = early-tai a b (tai-no-offsets rows x y (dayOf x y) e 1 (offsets-early rows (dayOf x y .day) v))
       go (valid a e b v r) = let o = offsets-answered rows (dayOf x y .day) v in given-tai a b _ (tai-of-day rows x y (dayOf x y) e r (o .0) (o .1))
 
-pub tai-fraction-refuses : (rows : List Row) (x y : Float) → T (fits binary64 x) → T (fits binary64 y) → Holds Any SixOrOne (taiFraction rows x y)
+tai-fraction-refuses : (rows : List Row) (x y : Float) → T (fits binary64 x) → T (fits binary64 y) → Holds Any SixOrOne (taiFraction rows x y)
 tai-fraction-refuses rows x y f g = go (tai rows x y f g)
   where
     go : Tai rows x y → Holds Any SixOrOne (taiFraction rows x y)
@@ -126,7 +126,7 @@ tai-to-utc-refuses rows d h =
     placed-any (partsOf d) _ (holds-more (λ x _. tt) (λ n r. r) (rounds-refuses rows (partsOf d .larger) (partsOf d .smaller) (p .0) 3 (partsOf d .smaller) (p .1)))
 
 -- ---- UT1 to UTC
-pub offset-refuses : (rows : List Row) (x y : Float) → Fits x → Fits y → Holds Any SixOrOne (offsetOfDate rows x y)
+offset-refuses : (rows : List Row) (x y : Float) → Fits x → Fits y → Holds Any SixOrOne (offsetOfDate rows x y)
 offset-refuses rows x y f g = go (kind x y f g)
   where
     go : Kind x y → Holds Any SixOrOne (offsetOfDate rows x y)
@@ -165,7 +165,7 @@ wider : (n : ℕ) → SixOrOne n → TenNineSixOrOne n
 wider n h = inr (inr h)
 
 -- a finite offset, and a date of finite parts, or 10 and 9
-pub dut1-refuses : (x : Float) → Holds Any TenNineSixOrOne (finiteArg x)
+dut1-refuses : (x : Float) → Holds Any TenNineSixOrOne (finiteArg x)
 unfolding finiteArg
 dut1-refuses x = go (finite x)
   where

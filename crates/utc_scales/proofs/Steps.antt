@@ -2,29 +2,33 @@
 use mathlib.Core.Path.{_≡_, refl, sym, ap, _∙_}
 use mathlib.Core.Bool.{Bool, true, false, cond}
 use mathlib.Core.List.{List}
-use Prim.Native.Nat.{ℕ, zero, suc, _+_, _-_, _≤_, _<_}
+use Prim.Native.Nat.{ℕ, suc, _+_, _-_, _≤_, _<_}
 use native.Mathlib.Omega.{arith}
-use lib.IntN.{ℤ, pos}
+use lib.IntN.{pos}
 use lib.Ieee.{Float, binary64, ofInt, add, sub, lt}
 use Rattle.refusals.specs.Outcome.{Outcome, answer, refusal, onward}
 use Rattle.floats.specs.Whole.{abs}
+use Rattle.calendar.specs.declared.CalendarDate.{CalendarDate}
+use Rattle.calendar.specs.Refusals.{nextOf}
 use Rattle.calendar.specs.Gregorian.{gregorianDate}
 use Rattle.day_number.specs.declared.DayNumber.{DayNumber}
 use Rattle.day_number.specs.Answer.{dayNumberAndFraction}
 use Rattle.day_number.specs.Ranges.{InDays}
 use Rattle.julian.specs.declared.JulianDate.{JulianDate}
-use Rattle.julian.specs.declared.CalendarFields.{CalendarFields}
 use Rattle.julian.specs.Calendar.{julianToCalendar}
 use Rattle.julian.proofs.CalendarDays.{fields-of}
 use Rattle.tai_utc.specs.declared.DayOffsets.{DayOffsets}
 use Rattle.tai_utc.specs.Table.{Row}
-use Rattle.tai_utc.specs.Offset.{halfF}
+use Rattle.tai_utc.specs.Offset.{zeroF, halfF, taiUtcOffset}
+use Rattle.tai_utc.specs.Leap.{offsets, dayOffsets}
 use Rattle.scales.proofs.Outcomes.{went, stopped}
 use Rattle.utc_scales.specs.declared.larger_part.Parts.{Parts}
 use Rattle.utc_scales.specs.LargerPart.{firstIsLarger, partsAs, partsOf, placed, changeSmaller}
-use Rattle.utc_scales.specs.Dates.{offsetAt0h, offsetsOf, midnightOf}
+use Rattle.utc_scales.specs.Dates.{offsetOfDate, offsetAt0h, offsetsOf, midnightOf}
 use Rattle.utc_scales.specs.UtcTai.{taiFromMidnight, taiFraction, refined, rounds, refineUtcFraction}
-use Rattle.utc_scales.specs.UtcUt1.{offsetOfDate, nearStep, Scanned, noStep, step, scanDay, untilStep, scan}
+use Rattle.utc_scales.specs.UtcUt1.{nearStep, noStep, step, scanDay, untilStep, scan}
+use Rattle.utc_scales.specs.Known.{offsetOfParts}
+use Rattle.utc_scales.proofs.Outcomes.{came}
 use Rattle.utc_scales.proofs.Midnights.{midnight, valid-midnight, offset-valid, offsets-valid}
 
 -- ---- the larger part
@@ -128,3 +132,27 @@ three-rounds rows big small = go (refined rows big small small)
             end (refusal n) = refl
         next (refusal n) = refl
     go (refusal n) = refl
+
+-- ---- the offset at 0h, from the offsets of the day
+pub offsets-first : (rows : List Row) (t : CalendarDate) (o : DayOffsets) → offsetsOf rows t ≡ answer o → offsetAt0h rows t ≡ answer (o .«at_0h»)
+unfolding offsetsOf offsetAt0h dayOffsets
+offsets-first rows t o e =
+    let (a, p, q) = came (taiUtcOffset rows (t .year) (pos (t .month)) (pos (t .day)) zeroF) _ o e in
+    let (b, r, s) = came (taiUtcOffset rows (t .year) (pos (t .month)) (pos (t .day)) halfF) _ o q in
+    let (u, v, w) = came (nextOf (t .year) (pos (t .month)) (pos (t .day))) _ o s in
+    let (c, x, y) = came (taiUtcOffset rows (u .year) (pos (u .month)) (pos (u .day)) zeroF) _ o w in
+    let k : offsets a b c ≡ o = cc in
+    p ∙ ap (λ (z : DayOffsets). answer (z .«at_0h»)) k
+
+-- by the parts of a date
+pub parts-offset : (rows : List Row) (p : Parts) (b : Bool) → p .first ≡ b → cond b (offsetOfDate rows (p .larger) (p .smaller)) (offsetOfDate rows (p .smaller) (p .larger)) ≡ offsetOfParts rows p
+unfolding offsetOfParts
+parts-offset rows p b e = ap (λ (c : Bool). cond c (offsetOfDate rows (p .larger) (p .smaller)) (offsetOfDate rows (p .smaller) (p .larger))) (sym e)
+
+pub date-offset : (rows : List Row) (d : JulianDate) (p : Parts) → p ≡ partsOf d → offsetOfParts rows p ≡ offsetOfDate rows (d .jd1) (d .jd2)
+unfolding partsOf offsetOfParts
+date-offset rows d p e = ap (offsetOfParts rows) e ∙ go (firstIsLarger d)
+  where
+    go : (b : Bool) → offsetOfParts rows (partsAs d b) ≡ offsetOfDate rows (d .jd1) (d .jd2)
+    go true = refl
+    go false = refl

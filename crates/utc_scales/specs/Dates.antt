@@ -1,11 +1,11 @@
--- TAI-UTC and the midnight of a calendar date. The Rust hands the year, month and day on as three signed numbers. Assumes nothing.
+-- TAI-UTC and the midnight of a calendar date, and TAI-UTC of a Julian date's day. The Rust hands the year, month and day on as three signed numbers. Assumes nothing.
 use mathlib.Core.List.{List}
 use lib.IntN.{pos}
 use lib.Ieee.{Float}
-use Rattle.refusals.specs.Outcome.{Outcome}
+use Rattle.refusals.specs.Outcome.{Outcome, onward}
 use Rattle.calendar.specs.declared.CalendarDate.{CalendarDate}
 use Rattle.julian.specs.declared.JulianDate.{JulianDate}
-use Rattle.julian.specs.Calendar.{calendarToJulian}
+use Rattle.julian.specs.Calendar.{calendarToJulian, julianToCalendar}
 use Rattle.tai_utc.specs.declared.DayOffsets.{DayOffsets}
 use Rattle.tai_utc.specs.Table.{Row}
 use Rattle.tai_utc.specs.Offset.{zeroF, taiUtcOffset}
@@ -21,3 +21,7 @@ offsetsOf rows t = dayOffsets rows (t .year) (pos (t .month)) (pos (t .day))
 
 unfoldable pub midnightOf : CalendarDate → Outcome JulianDate
 midnightOf t = calendarToJulian (t .year) (pos (t .month)) (pos (t .day))
+
+-- at 0h of the day of a Julian date
+unfoldable pub offsetOfDate : List Row → Float → Float → Outcome Float
+offsetOfDate rows jd1 jd2 = onward (julianToCalendar jd1 jd2) (λ c. offsetAt0h rows (c .date))

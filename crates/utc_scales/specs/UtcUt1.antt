@@ -18,12 +18,8 @@ use Rattle.scales.specs.Conversions.{answerOf, tai-ut1}
 use Rattle.utc_scales.specs.declared.utc_ut1.DayScan.{DayScan}
 use Rattle.utc_scales.specs.declared.utc_ut1.DayScan.the-variants as Day
 use Rattle.utc_scales.specs.LargerPart.{changeSmaller}
-use Rattle.utc_scales.specs.Dates.{offsetAt0h, midnightOf}
+use Rattle.utc_scales.specs.Dates.{offsetAt0h, offsetOfDate, midnightOf}
 use Rattle.utc_scales.specs.UtcTai.{utcToTai}
-
--- TAI-UTC at 0h of the day of a Julian date
-unfoldable pub offsetOfDate : List Row → Float → Float → Outcome Float
-offsetOfDate rows jd1 jd2 = onward (julianToCalendar jd1 jd2) (λ c. offsetAt0h rows (c .date))
 
 -- ---- UTC to UT1
 

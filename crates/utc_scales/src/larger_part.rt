@@ -40,7 +40,7 @@ pub(crate) fn split(jd: JulianDate) -> Parts
 }
 
 // The larger part in its place, and x for the smaller one.
-fn put_back(p: Parts, x: f64) -> JulianDate
+pub(crate) fn put_back(p: Parts, x: f64) -> JulianDate
     ensures { λ r. ⌜ r ≡ putBack p x ⌝ }
 {
     if p.first {

@@ -7,8 +7,22 @@ ghost use Rattle.calendar.specs.Gregorian.{gregorianDate};
 ghost use Rattle.tai_utc.specs.Table.{fixed};
 ghost use Rattle.tai_utc.specs.Answers.{offsetOutcome, dayOffsetsOutcome};
 ghost use Rattle.utc_scales.specs.Dates.{offsetAt0h, offsetsOf};
+ghost use Rattle.utc_scales.specs.Known.{Right};
+use tai_utc::DayOffsets;
 use tai_utc::DayOffsetsAnswer;
 use tai_utc::OffsetAnswer;
+
+// The offsets of a day, looked up.
+pub(crate) struct KnownDay {
+    pub day: i64,
+    pub offsets: DayOffsets,
+}
+
+// What has been looked up before.
+pub(crate) enum Known {
+    Nothing,
+    Day(KnownDay),
+}
 
 // At 0h.
 pub(crate) fn offset_at_0h(day: i64) -> OffsetAnswer
@@ -24,6 +38,24 @@ pub(crate) fn offsets_of(day: i64) -> DayOffsetsAnswer
 {
     let t = calendar::gregorian_date(day);
     tai_utc::day_offsets(t.year, t.month as i32, t.day as i32)
+}
+
+// The same, with no look-up where the day is the known one.
+pub(crate) fn offsets_with(day: i64, known: Known) -> DayOffsetsAnswer
+    requires { ⌜ Right known ⌝ }
+    ensures { λ r. ⌜ dayOffsetsOutcome r ≡ offsetsOf fixed (gregorianDate day) ⌝ }
+{
+    match known {
+        Known::Nothing => offsets_of(day),
+        Known::Day(k) => {
+            if day == k.day {
+                let offsets = k.offsets;
+                DayOffsetsAnswer::Offsets(offsets)
+            } else {
+                offsets_of(day)
+            }
+        }
+    }
 }
 
 // The Modified Julian Date at 0h: the Rust's `calendar_to_julian` of the date gives the same, by the calendar's inverse law.

@@ -8,19 +8,26 @@ ghost use Rattle.tai_utc.specs.Table.{fixed};
 ghost use Rattle.tai_utc.specs.Answers as T;
 ghost use Rattle.scales.specs.Scales.{utcOutcome, ut1Outcome};
 ghost use Rattle.utc_scales.specs.LargerPart.{changeSmaller};
+ghost use Rattle.utc_scales.specs.Dates.{offsetOfDate};
+ghost use Rattle.utc_scales.specs.Known.{SameDay, offsetOfParts};
 ghost use Rattle.utc_scales.specs.UtcUt1 as U;
+use super::larger_part::Parts;
 use super::larger_part::placed;
+use super::larger_part::put_back;
 use super::larger_part::split;
+use super::table::Known;
 use super::table::mjd_of;
 use super::table::offset_at_0h;
-use super::utc_tai::utc_to_tai;
+use super::utc_tai::KnownPart;
+use super::utc_tai::PartAnswer;
+use super::utc_tai::tai_fraction;
 use constants::MJD_ZERO_POINT;
 use constants::SECONDS_PER_DAY_F64;
 use day_number::DayAnswer;
 use julian::FractionAnswer;
 use julian::JulianAnswer;
 use julian::JulianDate;
-use scales::TaiAnswer;
+use scales::TAI;
 use scales::UT1;
 use scales::UTC;
 use scales::Ut1Answer;
@@ -35,11 +42,25 @@ enum DayScan {
 
 // TAI-UTC at 0h of the day of a Julian date.
 fn offset_of_date(jd1: f64, jd2: f64) -> tai_utc::OffsetAnswer
-    ensures { λ r. ⌜ T.offsetOutcome r ≡ U.offsetOfDate fixed jd1 jd2 ⌝ }
+    ensures { λ r. ⌜ T.offsetOutcome r ≡ offsetOfDate fixed jd1 jd2 ⌝ }
 {
     match day_number::day_number_and_fraction(jd1, jd2) {
         DayAnswer::Refused(number) => tai_utc::OffsetAnswer::Refused(number),
         DayAnswer::Day(d) => offset_at_0h(d.day),
+    }
+}
+
+// The same of jd1 and jd2 in their order. Where jd1 is the larger part, the day has been looked up for TAI.
+fn offset_with(p: Parts, k: KnownPart) -> tai_utc::OffsetAnswer
+    requires { ⌜ SameDay (p .larger) (p .smaller) k ⌝ }
+    ensures { λ r. ⌜ T.offsetOutcome r ≡ offsetOfParts fixed p ⌝ }
+{
+    if p.first {
+        let day = k.known;
+        let o = day.offsets;
+        tai_utc::OffsetAnswer::Seconds(o.at_0h)
+    } else {
+        offset_of_date(p.smaller, p.larger)
     }
 }
 
@@ -50,14 +71,16 @@ pub fn utc_to_ut1_with_dut1(utc: UTC, dut1: f64) -> Ut1Answer
     if let julian::OffsetAnswer::Refused(number) = julian::finite_arg(dut1) {
         return Ut1Answer::Refused(number);
     }
-    match utc_to_tai(utc) {
-        TaiAnswer::Refused(number) => Ut1Answer::Refused(number),
-        TaiAnswer::Date(tai) => {
-            let jd = utc.0;
-            match offset_of_date(jd.jd1, jd.jd2) {
+    let jd = utc.0;
+    let p = split(jd);
+    match tai_fraction(p.larger, p.smaller, Known::Nothing) {
+        PartAnswer::Refused(number) => Ut1Answer::Refused(number),
+        PartAnswer::Part(k) => {
+            let tai = put_back(p, k.part);
+            match offset_with(p, k) {
                 tai_utc::OffsetAnswer::Refused(number) => Ut1Answer::Refused(number),
                 tai_utc::OffsetAnswer::Seconds(x) => {
-                    scales::ut1_tai::tai_to_ut1_with_offset(tai, dut1 - x)
+                    scales::ut1_tai::tai_to_ut1_with_offset(TAI(tai), dut1 - x)
                 }
             }
         }

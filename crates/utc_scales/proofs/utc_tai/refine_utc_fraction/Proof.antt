@@ -1,8 +1,10 @@
 -- `utc_scales::utc_tai::refine_utc_fraction` meets its contract. Assumes nothing.
-use mathlib.Core.Path.{ap, _∙_}
+use mathlib.Core.Path.{sym, ap, _∙_}
 use lib.Ieee.{Float}
 use Rattle.refusals.specs.Outcome.{Outcome, onward}
+use Rattle.julian.specs.DayFraction.{fractionOutcome}
 use Rattle.tai_utc.specs.Table.{fixed}
+use Rattle.utc_scales.specs.Known.{Right, partOutcome}
 use Rattle.utc_scales.specs.UtcTai.{refined}
 use Rattle.utc_scales.proofs.Steps.{three-rounds}
 use borrow.Author.Needs.{needs}
@@ -10,7 +12,8 @@ use Rattle.utc_scales.proofs.utc_tai.refine_utc_fraction.Statement.{sta
 use Rattle.utc_scales.proofs.utc_tai.refine_utc_fraction.Tie as tie
 
 refined-requires : tie.Need-refined-requires
-refined-requires c κs = search needs
+unfolding Right
+refined-requires c κs = tt
 
 refined-again-requires : tie.Need-refined-again-requires
 refined-again-requires c κs = search needs
@@ -18,9 +21,38 @@ refined-again-requires c κs = search needs
 refined-again-requires-2 : tie.Need-refined-again-requires-2
 refined-again-requires-2 c κs = search needs
 
+enum-known-number : tie.Need-enum-known-number
+enum-known-number c = search needs
+
+enum-known-k : tie.Need-enum-known-k
+enum-known-k c = search needs
+
 returns : tie.Need-returns
-returns c = c .refined-again2 .ensures ∙ ap (λ (o : Outcome Float). onward o (refined fixed (c .before .before .before .args .big) (c .before .before .before .args .small))) (c .before .refined-again .ensures ∙ ap (λ (o : Outcome Float). onward o (refined fixed (c .before .before .before .args .big) (c .before .before .before .args .small))) (c .before .before .refined .ensures)) ∙ three-rounds fixed (c .before .before .before .args .big) (c .before .before .before .args .small)
+unfolding partOutcome fractionOutcome
+returns c =
+    let a = c .before .before .before in
+    let s = a .before .before .before in
+    let f = refined fixed (s .args .big) (s .args .small) in
+    let two = a .before .refined-again .ensures .0 ∙ ap (λ (o : Outcome Float). onward o f) (a .before .before .refined .ensures .0) in
+    sym (ap partOutcome (c .before .number .given .1)) ∙ a .refined-again2 .ensures .0 ∙ ap (λ (o : Outcome Float). onward o f) two ∙ three-rounds fixed (s .args .big) (s .args .small)
+
+returns-2 : tie.Need-returns-2
+unfolding partOutcome fractionOutcome
+returns-2 c =
+    let a = c .before .before .before in
+    let s = a .before .before .before in
+    let f = refined fixed (s .args .big) (s .args .small) in
+    let two = a .before .refined-again .ensures .0 ∙ ap (λ (o : Outcome Float). onward o f) (a .before .before .refined .ensures .0) in
+    sym (ap partOutcome (c .before .k .given .1)) ∙ a .refined-again2 .ensures .0 ∙ ap (λ (o : Outcome Float). onward o f) two ∙ three-rounds fixed (s .args .big) (s .args .small)
 
 pub refine-utc-fraction-spec : {M : Type 1} → statement M
 refine-utc-fraction-spec =
-    tie.close (tie.spec refined-requires refined-again-requires refined-again-requires-2 returns)
+    tie.close
+    (tie.spec
+    refined-requires
+    refined-again-requires
+    refined-again-requires-2
+    enum-known-number
+    enum-known-k
+    returns
+    returns-2)

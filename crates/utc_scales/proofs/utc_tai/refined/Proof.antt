@@ -1,30 +1,57 @@
 -- `utc_scales::utc_tai::refined` meets its contract. Assumes nothing.
-use mathlib.Core.Path.{sym, ap, _∙_}
-use Rattle.julian.specs.DayFraction.{fractionOutcome}
-use Rattle.julian.specs.JulianDate.{julianOutcome}
+use mathlib.Core.Path.{sym, ap, subst, _∙_}
+use Rattle.refusals.specs.Outcome.{answer}
+use Rattle.tai_utc.specs.Table.{fixed}
 use Rattle.scales.proofs.Outcomes.{went, stopped}
-use Rattle.utc_scales.specs.UtcTai.{moved, refined}
+use Rattle.utc_scales.specs.Known.{partOutcome, RightPart}
+use Rattle.utc_scales.specs.LargerPart.{placed}
+use Rattle.utc_scales.specs.UtcTai.{taiFraction, utcToTai, moved, refined}
+use Rattle.utc_scales.specs.declared.utc_tai.PartAnswer.{PartAnswer}
+use Rattle.utc_scales.proofs.Steps.{changes}
 use borrow.Author.Needs.{needs}
 use Rattle.utc_scales.proofs.utc_tai.refined.Statement.{statement}
 use Rattle.utc_scales.proofs.utc_tai.refined.Tie as tie
 
-utc-to-tai-jd-requires : tie.Need-utc-to-tai-jd-requires
-utc-to-tai-jd-requires c κs = search needs
+split-requires : tie.Need-split-requires
+split-requires c κs = search needs
+
+tai-fraction-requires : tie.Need-tai-fraction-requires
+tai-fraction-requires c κs = search needs
 
 enum-known-number : tie.Need-enum-known-number
 enum-known-number c = search needs
 
-enum-known-tai : tie.Need-enum-known-tai
-enum-known-tai c = search needs
+enum-known-k : tie.Need-enum-known-k
+enum-known-k c = search needs
+
+put-back-requires : tie.Need-put-back-requires
+put-back-requires c κs = search needs
 
 returns : tie.Need-returns
-unfolding fractionOutcome julianOutcome moved refined
-returns c = sym (stopped _ (sym (c .before .before .before .utc-to-tai-jd .ensures) ∙ ap julianOutcome (c .before .number .given .1)))
+unfolding partOutcome RightPart placed utcToTai moved refined
+returns c =
+    let t = c .before .before .before in
+    let u = sym (changes (taiFraction fixed) _ _ _ (t .before .split .ensures) (t .tai-fraction .ensures .0)) in
+    (sym (stopped _ (u ∙ stopped _ (ap partOutcome (c .before .number .given .1)))), tt)
 
 returns-2 : tie.Need-returns-2
-unfolding fractionOutcome julianOutcome moved refined
-returns-2 c = sym (went _ (sym (c .before .before .before .before .before .utc-to-tai-jd .ensures) ∙ ap julianOutcome (c .before .before .before .tai .given .1)))
+unfolding partOutcome RightPart placed utcToTai moved refined
+returns-2 c =
+    let t = c .before .before .before .before .before .before .before in
+    let k = c .before .before .before .before .before .k in
+    let u = sym (changes (taiFraction fixed) _ _ _ (t .before .split .ensures) (t .tai-fraction .ensures .0)) in (
+      sym (went _ (u ∙ went _ (ap partOutcome (k .given .1)) ∙ ap answer (sym (c .before .before .before .put-back .ensures)))),
+      subst (λ (r : PartAnswer). RightPart r) (k .given .1) (t .tai-fraction .ensures .1),
+    )
 
 pub refined-spec : {M : Type 1} → statement M
 refined-spec =
-    tie.close (tie.spec utc-to-tai-jd-requires enum-known-number enum-known-tai returns returns-2)
+    tie.close
+    (tie.spec
+    split-requires
+    tai-fraction-requires
+    enum-known-number
+    enum-known-k
+    put-back-requires
+    returns
+    returns-2)

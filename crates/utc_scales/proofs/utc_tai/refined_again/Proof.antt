@@ -1,7 +1,8 @@
 -- `utc_scales::utc_tai::refined_again` meets its contract. Assumes nothing.
-use mathlib.Core.Path.{sym, ap, _∙_}
-use Rattle.julian.specs.DayFraction.{fractionOutcome}
+use mathlib.Core.Path.{sym, ap, subst, _∙_}
 use Rattle.scales.proofs.Outcomes.{went, stopped}
+use Rattle.utc_scales.specs.Known.{Right, partOutcome, RightPart}
+use Rattle.utc_scales.specs.declared.utc_tai.PartAnswer.{PartAnswer}
 use borrow.Author.Needs.{needs}
 use Rattle.utc_scales.proofs.utc_tai.refined_again.Statement.{statement}
 use Rattle.utc_scales.proofs.utc_tai.refined_again.Tie as tie
@@ -13,15 +14,16 @@ enum-known-guess-2 : tie.Need-enum-known-guess-2
 enum-known-guess-2 c = search needs
 
 refined-requires : tie.Need-refined-requires
-refined-requires c κs = search needs
+unfolding Right RightPart
+refined-requires c κs = subst (λ (r : PartAnswer). RightPart r) (c .before .before .guess2 .given .1) (c .before .before .before .before .pre)
 
 returns : tie.Need-returns
-unfolding fractionOutcome
-returns c = sym (stopped _ (ap fractionOutcome (c .before .guess .given .1)))
+unfolding partOutcome RightPart
+returns c = (sym (stopped _ (ap partOutcome (c .before .guess .given .1))), tt)
 
 returns-2 : tie.Need-returns-2
-unfolding fractionOutcome
-returns-2 c = c .refined .ensures ∙ sym (went _ (ap fractionOutcome (c .before .before .guess2 .given .1)))
+unfolding partOutcome RightPart
+returns-2 c = (c .refined .ensures .0 ∙ sym (went _ (ap partOutcome (c .before .before .before .guess2 .given .1))), c .refined .ensures .1)
 
 pub refined-again-spec : {M : Type 1} → statement M
 refined-again-spec =

@@ -8,13 +8,15 @@ use Rattle.constants.specs.Constants.{mjdZeroPoint}
 use Rattle.calendar.specs.Gregorian.{gregorianDate}
 use Rattle.day_number.specs.Answer.{dayOutcome}
 use Rattle.day_number.proofs.Ranges.{day-range}
-use Rattle.julian.specs.DayFraction.{fractionOutcome}
 use Rattle.julian.specs.JulianDate.{julian}
 use Rattle.tai_utc.specs.Answers.{dayOffsetsOutcome}
 use Rattle.tai_utc.specs.Table.{fixed}
 use Rattle.utc_scales.specs.Dates.{offsetsOf}
+use Rattle.utc_scales.specs.Known.{RightDay, partOutcome, RightPart}
+use Rattle.utc_scales.specs.Known.{SameDay, SameDays}
 use Rattle.utc_scales.specs.UtcTai.{taiFromMidnight}
 use Rattle.utc_scales.proofs.Midnights.{day-read, day-asked}
+use Rattle.utc_scales.proofs.Steps.{offset-of-day, offsets-first}
 use Rattle.utc_scales.proofs.Steps.{tai-no-date, tai-no-offsets, tai-of-day}
 use borrow.Author.Needs.{needs}
 use Rattle.utc_scales.proofs.utc_tai.tai_fraction.Statement.{statement}
@@ -29,8 +31,8 @@ enum-known-number c = search needs
 enum-known-d : tie.Need-enum-known-d
 enum-known-d c = search needs
 
-offsets-of-requires : tie.Need-offsets-of-requires
-offsets-of-requires c κs = search needs
+offsets-with-requires : tie.Need-offsets-with-requires
+offsets-with-requires c κs = search needs
 
 enum-known-number-2 : tie.Need-enum-known-number-2
 enum-known-number-2 c = search needs
@@ -40,22 +42,48 @@ enum-known-o c = search needs
 
 mjd-of-requires : tie.Need-mjd-of-requires
 unfolding dayOutcome
-mjd-of-requires c κs = day-asked _ (day-range _ _ (yes (c .before .before .before .before .before .before .before .before .before .before .good .0 .1)) (yes (c .before .before .before .before .before .before .before .before .before .before .good .1 .0 .1)) _ (sym (c .before .before .before .before .before .before .before .before .before .day-number-and-fraction .ensures) ∙ ap dayOutcome (c .before .before .before .before .before .before .before .d .given .1)))
+mjd-of-requires c κs =
+    let d = c .before .before .before .before .before .before .before in
+    let n = d .before .before in
+    let s = n .before in
+    let e = sym (n .day-number-and-fraction .ensures) ∙ ap dayOutcome (d .d .given .1) in
+    let r = day-range _ _ (yes (s .good .0 .1)) (yes (s .good .1 .0 .1)) _ e in
+    day-asked _ r
 
 tai-from-midnight-requires : tie.Need-tai-from-midnight-requires
 tai-from-midnight-requires c κs = search needs
 
 returns : tie.Need-returns
-unfolding fractionOutcome dayOutcome dayOffsetsOutcome
-returns c = sym (tai-no-date _ _ _ (sym (c .before .before .before .day-number-and-fraction .ensures) ∙ ap dayOutcome (c .before .number .given .1)) fixed)
+unfolding partOutcome RightPart RightDay SameDays SameDay dayOutcome dayOffsetsOutcome
+returns c = (sym (tai-no-date _ _ _ (sym (c .before .before .before .day-number-and-fraction .ensures) ∙ ap dayOutcome (c .before .number .given .1)) fixed), tt, tt)
 
 returns-2 : tie.Need-returns-2
-unfolding fractionOutcome dayOutcome dayOffsetsOutcome
-returns-2 c = sym (tai-no-offsets fixed _ _ _ (sym (c .before .before .before .before .before .before .before .before .day-number-and-fraction .ensures) ∙ ap dayOutcome (c .before .before .before .before .before .before .d .given .1)) _ (sym (c .before .before .before .offsets-of .ensures ∙ ap (λ (z : ℤ). offsetsOf fixed (gregorianDate z)) (day-read _ (day-range _ _ (yes (c .before .before .before .before .before .before .before .before .before .good .0 .1)) (yes (c .before .before .before .before .before .before .before .before .before .good .1 .0 .1)) _ (sym (c .before .before .before .before .before .before .before .before .day-number-and-fraction .ensures) ∙ ap dayOutcome (c .before .before .before .before .before .before .d .given .1))))) ∙ ap dayOffsetsOutcome (c .before .number2 .given .1)))
+unfolding partOutcome RightPart RightDay SameDays SameDay dayOutcome dayOffsetsOutcome
+returns-2 c =
+    let d = c .before .before .before .before .before .before in
+    let n = d .before .before in
+    let s = n .before in
+    let e = sym (n .day-number-and-fraction .ensures) ∙ ap dayOutcome (d .d .given .1) in
+    let r = day-range _ _ (yes (s .good .0 .1)) (yes (s .good .1 .0 .1)) _ e in
+    (sym (tai-no-offsets fixed _ _ _ e _ (sym (c .before .before .before .offsets-with .ensures ∙ ap (λ (z : ℤ). offsetsOf fixed (gregorianDate z)) (day-read _ r)) ∙ ap dayOffsetsOutcome (c .before .number2 .given .1))), tt, tt)
 
 returns-3 : tie.Need-returns-3
-unfolding fractionOutcome dayOutcome dayOffsetsOutcome
-returns-3 c = ap answer (c .tai-from-midnight .ensures ∙ ap (λ (z : Float). taiFromMidnight (c .before .before .before .before .before .before .before .before .before .before .before .before .args .big) (julian mjdZeroPoint z) (c .before .before .before .before .o .given .0 .0) (c .before .before .before .before .before .before .before .before .before .d .given .0 .0 .fraction)) (c .before .mjd-of .ensures ∙ ap (λ (z : ℤ). ofInt binary64 (z -ℤ pos 2400001)) (day-read _ (day-range _ _ (yes (c .before .before .before .before .before .before .before .before .before .before .before .before .good .0 .1)) (yes (c .before .before .before .before .before .before .before .before .before .before .before .before .good .1 .0 .1)) _ (sym (c .before .before .before .before .before .before .before .before .before .before .before .day-number-and-fraction .ensures) ∙ ap dayOutcome (c .before .before .before .before .before .before .before .before .before .d .given .1)))))) ∙ sym (tai-of-day fixed _ _ _ (sym (c .before .before .before .before .before .before .before .before .before .before .before .day-number-and-fraction .ensures) ∙ ap dayOutcome (c .before .before .before .before .before .before .before .before .before .d .given .1)) (day-range _ _ (yes (c .before .before .before .before .before .before .before .before .before .before .before .before .good .0 .1)) (yes (c .before .before .before .before .before .before .before .before .before .before .before .before .good .1 .0 .1)) _ (sym (c .before .before .before .before .before .before .before .before .before .before .before .day-number-and-fraction .ensures) ∙ ap dayOutcome (c .before .before .before .before .before .before .before .before .before .d .given .1))) _ (sym (c .before .before .before .before .before .before .offsets-of .ensures ∙ ap (λ (z : ℤ). offsetsOf fixed (gregorianDate z)) (day-read _ (day-range _ _ (yes (c .before .before .before .before .before .before .before .before .before .before .before .before .good .0 .1)) (yes (c .before .before .before .before .before .before .before .before .before .before .before .before .good .1 .0 .1)) _ (sym (c .before .before .before .before .before .before .before .before .before .before .before .day-number-and-fraction .ensures) ∙ ap dayOutcome (c .before .before .before .before .before .before .before .before .before .d .given .1))))) ∙ ap dayOffsetsOutcome (c .before .before .before .before .o .given .1)))
+unfolding partOutcome RightPart RightDay SameDays SameDay dayOutcome dayOffsetsOutcome
+returns-3 c =
+    let d = c .before .before .before .before .before .before .before .before .before .before in
+    let n = d .before .before in
+    let s = n .before in
+    let e = sym (n .day-number-and-fraction .ensures) ∙ ap dayOutcome (d .d .given .1) in
+    let r = day-range _ _ (yes (s .good .0 .1)) (yes (s .good .1 .0 .1)) _ e in
+    let w = c .before .before .before .before .before .before .before in
+    let o = c .before .before .before .before .before .o in
+    let p = sym (w .offsets-with .ensures ∙ ap (λ (z : ℤ). offsetsOf fixed (gregorianDate z)) (day-read _ r)) ∙ ap dayOffsetsOutcome (o .given .1) in
+    let m = c .before .before .mjd-of .ensures ∙ ap (λ (z : ℤ). ofInt binary64 (z -ℤ pos 2400001)) (day-read _ r) in (
+      ap answer (c .before .tai-from-midnight .ensures ∙ ap (λ (z : Float). taiFromMidnight (s .args .big) (julian mjdZeroPoint z) (o .given .0 .0) (d .d .given .0 .0 .fraction)) m)
+          ∙ sym (tai-of-day fixed _ _ _ e r _ p),
+      sym (w .offsets-with .ensures) ∙ ap dayOffsetsOutcome (o .given .1),
+      offset-of-day fixed _ _ _ e ∙ offsets-first fixed _ _ p,
+    )
 
 pub tai-fraction-spec : {M : Type 1} → statement M
 tai-fraction-spec =
@@ -64,7 +92,7 @@ tai-fraction-spec =
     day-number-and-fraction-requires
     enum-known-number
     enum-known-d
-    offsets-of-requires
+    offsets-with-requires
     enum-known-number-2
     enum-known-o
     mjd-of-requires

@@ -32,7 +32,13 @@ returns c = sym (offset-no-date _ _ _ (sym (c .before .before .before .day-numbe
 
 returns-2 : tie.Need-returns-2
 unfolding offsetOutcome dayOutcome
-returns-2 c = c .offset-at-0h .ensures ∙ ap (λ (z : ℤ). offsetAt0h fixed (gregorianDate z)) (day-read _ (day-range _ _ (yes (c .before .before .before .before .before .before .good .0 .1)) (yes (c .before .before .before .before .before .before .good .1 .0 .1)) _ (sym (c .before .before .before .before .before .day-number-and-fraction .ensures) ∙ ap dayOutcome (c .before .before .before .d .given .1)))) ∙ sym (offset-of-day fixed _ _ _ (sym (c .before .before .before .before .before .day-number-and-fraction .ensures) ∙ ap dayOutcome (c .before .before .before .d .given .1)))
+returns-2 c =
+    let d = c .before .before .before in
+    let n = d .before .before in
+    let s = n .before in
+    let e = sym (n .day-number-and-fraction .ensures) ∙ ap dayOutcome (d .d .given .1) in
+    let r = day-range _ _ (yes (s .good .0 .1)) (yes (s .good .1 .0 .1)) _ e in
+    c .offset-at-0h .ensures ∙ ap (λ (z : ℤ). offsetAt0h fixed (gregorianDate z)) (day-read _ r) ∙ sym (offset-of-day fixed _ _ _ e)
 
 pub offset-of-date-spec : {M : Type 1} → statement M
 offset-of-date-spec =

@@ -44,7 +44,13 @@ fabs-requires c κs = search needs
 
 mjd-of-requires : tie.Need-mjd-of-requires
 unfolding dayOutcome
-mjd-of-requires c κs = day-asked _ (day-range _ _ (yes (c .before .before .before .before .before .before .before .before .before .before .before .before .good .0 .1)) (add-fits binary64 (c .before .before .before .before .before .before .before .before .before .before .before .before .args .small) (c .before .before .before .before .before .before .before .before .before .before .before .before .args .i)) _ (sym (c .before .before .before .before .before .before .before .before .before .before .before .day-number-and-fraction .ensures) ∙ ap dayOutcome (c .before .before .before .before .before .before .before .before .before .d .given .1)))
+mjd-of-requires c κs =
+    let d = c .before .before .before .before .before .before .before .before .before in
+    let n = d .before .before in
+    let s = n .before in
+    let e = sym (n .day-number-and-fraction .ensures) ∙ ap dayOutcome (d .d .given .1) in
+    let r = day-range _ _ (yes (s .good .0 .1)) (add-fits binary64 (s .args .small) (s .args .i)) _ e in
+    day-asked _ r
 
 near-step-requires : tie.Need-near-step-requires
 near-step-requires c κs = search needs
@@ -55,15 +61,39 @@ returns c = sym (scan-no-date fixed _ _ _ _ _ _ (sym (c .before .before .before 
 
 returns-2 : tie.Need-returns-2
 unfolding scanOutcome dayOutcome offsetOutcome ofBits
-returns-2 c = sym (scan-no-offset fixed _ _ _ _ _ _ (sym (c .before .before .before .before .before .before .before .before .day-number-and-fraction .ensures) ∙ ap dayOutcome (c .before .before .before .before .before .before .d .given .1)) _ (sym (c .before .before .before .offset-at-0h .ensures ∙ ap (λ (z : ℤ). offsetAt0h fixed (gregorianDate z)) (day-read _ (day-range _ _ (yes (c .before .before .before .before .before .before .before .before .before .good .0 .1)) (add-fits binary64 (c .before .before .before .before .before .before .before .before .before .args .small) (c .before .before .before .before .before .before .before .before .before .args .i)) _ (sym (c .before .before .before .before .before .before .before .before .day-number-and-fraction .ensures) ∙ ap dayOutcome (c .before .before .before .before .before .before .d .given .1))))) ∙ ap offsetOutcome (c .before .number2 .given .1)))
+returns-2 c =
+    let d = c .before .before .before .before .before .before in
+    let n = d .before .before in
+    let s = n .before in
+    let e = sym (n .day-number-and-fraction .ensures) ∙ ap dayOutcome (d .d .given .1) in
+    let r = day-range _ _ (yes (s .good .0 .1)) (add-fits binary64 (s .args .small) (s .args .i)) _ e in
+    let p = sym (c .before .before .before .offset-at-0h .ensures ∙ ap (λ (z : ℤ). offsetAt0h fixed (gregorianDate z)) (day-read _ r)) ∙ ap offsetOutcome (c .before .number2 .given .1) in
+    sym (scan-no-offset fixed _ _ _ _ _ _ e _ p)
 
 returns-3 : tie.Need-returns-3
 unfolding scanOutcome dayOutcome offsetOutcome ofBits
-returns-3 c = sym (scan-no-step fixed _ _ _ _ _ _ (sym (c .before .before .before .before .before .before .before .before .before .before .day-number-and-fraction .ensures) ∙ ap dayOutcome (c .before .before .before .before .before .before .before .before .d .given .1)) _ (sym (c .before .before .before .before .before .offset-at-0h .ensures ∙ ap (λ (z : ℤ). offsetAt0h fixed (gregorianDate z)) (day-read _ (day-range _ _ (yes (c .before .before .before .before .before .before .before .before .before .before .before .good .0 .1)) (add-fits binary64 (c .before .before .before .before .before .before .before .before .before .before .before .args .small) (c .before .before .before .before .before .before .before .before .before .before .before .args .i)) _ (sym (c .before .before .before .before .before .before .before .before .before .before .day-number-and-fraction .ensures) ∙ ap dayOutcome (c .before .before .before .before .before .before .before .before .d .given .1))))) ∙ ap offsetOutcome (c .before .before .before .x .given .1)) (ap (λ (z : Float). lt z halfF) (sym (c .before .fabs .ensures)) ∙ c .if1 .taken))
+returns-3 c =
+    let d = c .before .before .before .before .before .before .before .before in
+    let n = d .before .before in
+    let s = n .before in
+    let e = sym (n .day-number-and-fraction .ensures) ∙ ap dayOutcome (d .d .given .1) in
+    let r = day-range _ _ (yes (s .good .0 .1)) (add-fits binary64 (s .args .small) (s .args .i)) _ e in
+    let p = sym (c .before .before .before .before .before .offset-at-0h .ensures ∙ ap (λ (z : ℤ). offsetAt0h fixed (gregorianDate z)) (day-read _ r)) ∙ ap offsetOutcome (c .before .before .before .x .given .1) in
+    sym (scan-no-step fixed _ _ _ _ _ _ e _ p (ap (λ (z : Float). lt z halfF) (sym (c .before .fabs .ensures)) ∙ c .if1 .taken))
 
 returns-4 : tie.Need-returns-4
 unfolding scanOutcome dayOutcome offsetOutcome ofBits
-returns-4 c = ap (λ (z : Float). answer (step z)) (c .near-step .ensures ∙ ap (λ (z : Float). nearStep (c .before .before .before .before .before .before .before .before .before .before .before .before .before .before .args .big) (c .before .before .before .before .before .before .before .before .before .before .before .before .before .before .args .small) (c .before .before .before .before .before .before .before .before .before .before .before .before .before .before .args .dut1) (sub binary64 (c .before .before .before .before .before .before .x .given .0 .0) (c .before .before .before .before .before .before .before .before .before .before .before .before .before .before .args .before)) (julian mjdZeroPoint z)) (c .before .mjd-of .ensures ∙ ap (λ (z : ℤ). ofInt binary64 (z -ℤ pos 2400001)) (day-read _ (day-range _ _ (yes (c .before .before .before .before .before .before .before .before .before .before .before .before .before .before .good .0 .1)) (add-fits binary64 (c .before .before .before .before .before .before .before .before .before .before .before .before .before .before .args .small) (c .before .before .before .before .before .before .before .before .before .before .before .before .before .before .args .i)) _ (sym (c .before .before .before .before .before .before .before .before .before .before .before .before .before .day-number-and-fraction .ensures) ∙ ap dayOutcome (c .before .before .before .before .before .before .before .before .before .before .before .d .given .1)))))) ∙ sym (scan-step fixed _ _ _ _ _ _ (sym (c .before .before .before .before .before .before .before .before .before .before .before .before .before .day-number-and-fraction .ensures) ∙ ap dayOutcome (c .before .before .before .before .before .before .before .before .before .before .before .d .given .1)) _ (sym (c .before .before .before .before .before .before .before .before .offset-at-0h .ensures ∙ ap (λ (z : ℤ). offsetAt0h fixed (gregorianDate z)) (day-read _ (day-range _ _ (yes (c .before .before .before .before .before .before .before .before .before .before .before .before .before .before .good .0 .1)) (add-fits binary64 (c .before .before .before .before .before .before .before .before .before .before .before .before .before .before .args .small) (c .before .before .before .before .before .before .before .before .before .before .before .before .before .before .args .i)) _ (sym (c .before .before .before .before .before .before .before .before .before .before .before .before .before .day-number-and-fraction .ensures) ∙ ap dayOutcome (c .before .before .before .before .before .before .before .before .before .before .before .d .given .1))))) ∙ ap offsetOutcome (c .before .before .before .before .before .before .x .given .1)) (day-range _ _ (yes (c .before .before .before .before .before .before .before .before .before .before .before .before .before .before .good .0 .1)) (add-fits binary64 (c .before .before .before .before .before .before .before .before .before .before .before .before .before .before .args .small) (c .before .before .before .before .before .before .before .before .before .before .before .before .before .before .args .i)) _ (sym (c .before .before .before .before .before .before .before .before .before .before .before .before .before .day-number-and-fraction .ensures) ∙ ap dayOutcome (c .before .before .before .before .before .before .before .before .before .before .before .d .given .1))) (ap (λ (z : Float). lt z halfF) (sym (c .before .before .before .before .fabs .ensures)) ∙ c .before .before .before .if1 .left))
+returns-4 c =
+    let d = c .before .before .before .before .before .before .before .before .before .before .before in
+    let n = d .before .before in
+    let s = n .before in
+    let e = sym (n .day-number-and-fraction .ensures) ∙ ap dayOutcome (d .d .given .1) in
+    let r = day-range _ _ (yes (s .good .0 .1)) (add-fits binary64 (s .args .small) (s .args .i)) _ e in
+    let p = sym (c .before .before .before .before .before .before .before .before .offset-at-0h .ensures ∙ ap (λ (z : ℤ). offsetAt0h fixed (gregorianDate z)) (day-read _ r)) ∙ ap offsetOutcome (c .before .before .before .before .before .before .x .given .1) in
+    let m = c .before .mjd-of .ensures ∙ ap (λ (z : ℤ). ofInt binary64 (z -ℤ pos 2400001)) (day-read _ r) in
+    let delta = sub binary64 (c .before .before .before .before .before .before .x .given .0 .0) (s .args .before) in
+    ap (λ (z : Float). answer (step z)) (c .near-step .ensures ∙ ap (λ (z : Float). nearStep (s .args .big) (s .args .small) (s .args .dut1) delta (julian mjdZeroPoint z)) m)
+    ∙ sym (scan-step fixed _ _ _ _ _ _ e _ p r (ap (λ (z : Float). lt z halfF) (sym (c .before .before .before .before .fabs .ensures)) ∙ c .before .before .before .if1 .left))
 
 pub scan-day-spec : {M : Type 1} → statement M
 scan-day-spec =

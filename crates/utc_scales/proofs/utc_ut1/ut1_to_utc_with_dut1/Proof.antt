@@ -46,11 +46,21 @@ returns-2 c = sym (went _ (sym (c .before .before .before .before .before .befor
 
 returns-3 : tie.Need-returns-3
 unfolding utcOutcome julianOutcome J.offsetOutcome ut1ToUtc
-returns-3 c = sym (went _ (sym (c .before .before .before .before .before .before .before .before .before .before .finite-arg .ensures) ∙ ap J.offsetOutcome (c .before .before .before .before .before .before .before .before .enum-told .given .1)) ∙ went _ (sym (c .before .before .before .before .before .before .before .finite-jd .ensures) ∙ ap julianOutcome (c .before .before .before .before .before .jd .given .1)) ∙ (sym (c .before .before .before .less-dut1 .ensures) ∙ ap julianOutcome (c .before .number3 .given .1)))
+returns-3 c =
+    let l = c .before .before .before in
+    let j = l .before .before in
+    let f = j .before .before in
+    let g = sym (f .before .before .before .finite-arg .ensures) ∙ ap J.offsetOutcome (f .before .enum-told .given .1) in
+    sym (went _ g ∙ went _ (sym (f .finite-jd .ensures) ∙ ap julianOutcome (j .jd .given .1)) ∙ sym (l .less-dut1 .ensures) ∙ ap julianOutcome (c .before .number3 .given .1))
 
 returns-4 : tie.Need-returns-4
 unfolding utcOutcome julianOutcome J.offsetOutcome ut1ToUtc
-returns-4 c = sym (went _ (sym (c .before .before .before .before .before .before .before .before .before .before .finite-arg .ensures) ∙ ap J.offsetOutcome (c .before .before .before .before .before .before .before .before .enum-told .given .1)) ∙ went _ (sym (c .before .before .before .before .before .before .before .finite-jd .ensures) ∙ ap julianOutcome (c .before .before .before .before .before .jd .given .1)) ∙ (sym (c .before .before .before .less-dut1 .ensures) ∙ ap julianOutcome (c .before .utc .given .1)))
+returns-4 c =
+    let l = c .before .before .before in
+    let j = l .before .before in
+    let f = j .before .before in
+    let g = sym (f .before .before .before .finite-arg .ensures) ∙ ap J.offsetOutcome (f .before .enum-told .given .1) in
+    sym (went _ g ∙ went _ (sym (f .finite-jd .ensures) ∙ ap julianOutcome (j .jd .given .1)) ∙ sym (l .less-dut1 .ensures) ∙ ap julianOutcome (c .before .utc .given .1))
 
 pub ut1-to-utc-with-dut1-spec : {M : Type 1} → statement M
 ut1-to-utc-with-dut1-spec =

@@ -1,0 +1,52 @@
+-- `utc_scales::table::offsets_with` meets its contract. Assumes nothing.
+use mathlib.Core.Path.{sym, ap, subst, _∙_}
+use lib.IntN.{ℤ}
+use mir.Facts.{toZ-ofZ}
+use Rattle.calendar.specs.Gregorian.{gregorianDate}
+use Rattle.tai_utc.specs.Answers.{dayOffsetsOutcome}
+use Rattle.tai_utc.specs.Table.{fixed}
+use Rattle.utc_scales.specs.Dates.{offsetsOf}
+use Rattle.utc_scales.specs.Known.{RightDay, Right}
+use Rattle.utc_scales.specs.declared.table.Known.{Known}
+use Rattle.utc_scales.proofs.Midnights.{same-day}
+use borrow.Author.Needs.{needs}
+use Rattle.utc_scales.proofs.table.offsets_with.Statement.{statement}
+use Rattle.utc_scales.proofs.table.offsets_with.Tie as tie
+
+enum-told : tie.Need-enum-told
+enum-told c = search needs
+
+offsets-of-requires : tie.Need-offsets-of-requires
+offsets-of-requires c κs = search needs
+
+enum-known-known : tie.Need-enum-known-known
+enum-known-known c = search needs
+
+offsets-of-requires-2 : tie.Need-offsets-of-requires-2
+offsets-of-requires-2 c κs = search needs
+
+returns : tie.Need-returns
+returns c = c .offsets-of .ensures ∙ ap (λ (z : ℤ). offsetsOf fixed (gregorianDate z)) (toZ-ofZ (c .before .before .before .fits .day))
+
+returns-2 : tie.Need-returns-2
+unfolding dayOffsetsOutcome Right RightDay
+returns-2 c =
+    let k = c .before .before .before .before .before in
+    let s = k .before .before in
+    let same = same-day _ _ (s .fits .day) (record { sfits = c .before .before .struct-told .given .0 .1 }) (c .before .if1 .taken) in
+    sym (subst (λ (x : Known). Right x) (k .known .given .1) (s .pre)) ∙ ap (λ (z : ℤ). offsetsOf fixed (gregorianDate z)) (sym same)
+
+returns-3 : tie.Need-returns-3
+returns-3 c = c .offsets-of2 .ensures ∙ ap (λ (z : ℤ). offsetsOf fixed (gregorianDate z)) (toZ-ofZ (c .before .before .before .before .before .before .before .fits .day))
+
+pub offsets-with-spec : {M : Type 1} → statement M
+offsets-with-spec =
+    tie.close
+    (tie.spec
+    enum-told
+    offsets-of-requires
+    enum-known-known
+    offsets-of-requires-2
+    returns
+    returns-2
+    returns-3)
