@@ -12,8 +12,9 @@ use Rattle.floats.specs.Whole.{abs}
 use Rattle.rounding.specs.Value.{Val, L}
 use Rattle.rounding.proofs.Value.{L-pos, abs-has}
 use Rattle.rounding.proofs.Own.{plus-of, minus-of, signed-of}
+use Rattle.rounding.proofs.Signed.{signed-le}
 use Rattle.rounding.proofs.Compare.{lt-val}
-use Rattle.rounding.proofs.About.{U, Within}
+use Rattle.rounding.proofs.About.{U, About, Within, size-high, size-low}
 use Rattle.julian.specs.declared.JulianDate.{JulianDate}
 use Rattle.scales.specs.SmallerPart.{firstIsLarger, mapSmallerPart}
 use Rattle.scales.specs.Meaning.{day, Close}
@@ -73,6 +74,11 @@ module _ {x y : Float} {S S' : ℕ} (z : Sized x S) (w : Sized y S') where
 
 pub under-as : {x : Float} {S : ℕ} (S' : ℕ) (z : Sized x S) → z .size ≤ S' * U → Sized x S'
 under-as S' z h = record { sign = z .sign; size = z .size; has = z .has; most = h }
+
+pub about-sized : (T' : ℕ) {x : Float} {P N D M e : ℕ} → M + e ≤ T' → About x P N D M e → Sized x T'
+about-sized T' {x} {P} {N} {D} {M} {e} h a =
+    let v = a .val in
+    record { sign = v .sign; size = v .size; has = v .has; most = le-trans (signed-le (v .sign) (v .size) (a .p) (a .n) ((M + e) * U) (v .is) (size-high a) (size-low a)) (mul-le-mul-right U h) }
 
 -- ---- the larger part is at most S, the smaller at most s
 unfoldable pub Chosen : ℕ → ℕ → JulianDate → Type 0

@@ -2,7 +2,7 @@
 -- finite. A script wrote the numbers of the four rates: the places of the roundings (the bit length of what is rounded, less 54), the size of the correction and its
 -- error, the last two the least that the laws of `About` allow, in units of 2 ^ -90. Assumes nothing.
 use mathlib.Core.Path.{_≡_, refl, sym, ap, _∙_, subst}
-use Prim.Native.Nat.{ℕ, _+_, _*_, _^_, _≤_, _<_}
+use Prim.Native.Nat.{ℕ, _+_, _*_, _^_, _≤_}
 use native.Mathlib.Nat.{le-trans, mul-assoc, mul-le-mul-right, add-zero}
 use native.Mathlib.Omega.{arith}
 use mathlib.Core.Bool.{Bool, true, false, _||_}
@@ -13,12 +13,11 @@ use lib.Ieee.Scale.{finite}
 use lib.Ieee.Exact.{HasValue}
 use Rattle.floats.specs.Whole.{abs}
 use Rattle.rounding.specs.Value.{Val, L}
-use Rattle.rounding.proofs.Signed.{signed-le}
 use Rattle.rounding.proofs.Value.{L-pos, abs-has, val-finite-true}
 use Rattle.rounding.proofs.Own.{own}
 use Rattle.rounding.proofs.Range.{power-val}
 use Rattle.rounding.proofs.Compare.{le-val}
-use Rattle.rounding.proofs.About.{U, L-U, About, about-add, about-sub, size-high, size-low}
+use Rattle.rounding.proofs.About.{U, L-U, About, about-add, about-sub}
 use Rattle.refusals.specs.Outcome.{onward}
 use Rattle.julian.specs.declared.JulianDate.{JulianDate}
 use Rattle.julian.specs.Worth.{Under52, SmallParts}
@@ -30,18 +29,13 @@ use Rattle.scales.proofs.Outcomes.{went, converted-is, by-is}
 use Rattle.scales.proofs.SmallerPart.{mapAs, map-is}
 use Rattle.scales.proofs.Constants.{gps-about, tt-about, mjd-about, epoch-about, jd1977-about, tt-about-2, tdb0-about, lg-val, ratio-lg-val, lb-val, ratio-lb-val}
 use Rattle.scales.proofs.Formulas.{part, since-about, until-about, rate-less, rate-more, plus-about, minus-about, days-about}
-use Rattle.scales.proofs.Dates.{Sized, above, beneath, value, high, low, under-as}
+use Rattle.scales.proofs.Dates.{Sized, above, beneath, value, high, low, under-as, about-sized}
 
 -- ---- what is sized is finite
 pub sized-finite : {x : Float} {S : ℕ} → Sized x S → finite x ≡ true
 sized-finite z = val-finite-true (value z)
 
 -- ---- the formulas, over parts of any size up to 2 ^ 53 days
-
-pub about-sized : (T' : ℕ) {x : Float} {P N D M e : ℕ} → M + e ≤ T' → About x P N D M e → Sized x T'
-about-sized T' {x} {P} {N} {D} {M} {e} h a =
-    let v = a .val in
-    record { sign = v .sign; size = v .size; has = v .has; most = le-trans (signed-le (v .sign) (v .size) (a .p) (a .n) ((M + e) * U) (v .is) (size-high a) (size-low a)) (mul-le-mul-right U h) }
 
 -- f gives at most T' of parts that are at most S
 unfoldable pub Bounded : ℕ → ℕ → (Float → Float → Float) → Type 0

@@ -1,7 +1,8 @@
 -- What each formula computes, near what it means: the errors added up once, over variables. i is the place of the last digit that a rounding may move: 2 ^ i in units of 2 ^ -90.
 -- Assumes nothing.
-use mathlib.Core.Path.{refl}
+use mathlib.Core.Path.{refl, ap, subst}
 use Prim.Native.Nat.{ℕ, _+_, _*_, _^_, _≤_, _<_}
+use native.Mathlib.Nat.{add-comm}
 use native.Mathlib.Omega.{arith}
 use mathlib.Core.Bool.{false}
 use lib.Dec.{lit<}
@@ -66,3 +67,45 @@ module _ (i4 i5 A B C E Δ M' e' : ℕ) {k x z : Float} {P N Q R D M e Mz ez : �
 
   pub rate-more : About (add binary64 z (mul binary64 x k)) (Q * C + P * A) (R * C + N * A) (D * C) (Mz + M') (ez + e' + 2 ^ i5)
   rate-more = about-add i5 I5 r5 (about-scale C G b) (about-mul i4 A B C E Δ M' e' I4 F G d1 d2 m r4 b4 kv a)
+
+-- ---- the same over any range: the larger part is at most S in size; y, from which the days since 1977 are counted, and z, which is corrected, at most My and Mz, with the errors ey and
+-- ez; the two constants at most Ma and Mb, the second with the error eb. M and e are the size and the error of the correction.
+pub record Budget (S My ey Mz ez Ma Mb eb A B C E Δ : ℕ) : Type 0 where
+  pub i1 : ℕ
+  pub i2 : ℕ
+  pub i3 : ℕ
+  pub i4 : ℕ
+  pub i5 : ℕ
+  pub M : ℕ
+  pub e : ℕ
+  pub I1 : 985 + i1 ≤ 2044
+  pub I2 : 985 + i2 ≤ 2044
+  pub I3 : 985 + i3 ≤ 2044
+  pub I4 : 985 + i4 ≤ 2044
+  pub I5 : 985 + i5 ≤ 2044
+  pub r1 : S + Ma + (0 + 0) < 2 ^ (54 + i1)
+  pub r2 : My + Mb + (ey + eb) < 2 ^ (54 + i2)
+  pub r3 : S + Ma + (My + Mb) + (0 + 0 + 2 ^ i1 + (ey + eb + 2 ^ i2)) < 2 ^ (54 + i3)
+  pub F : 0 < E
+  pub G : 0 < C
+  pub d1 : B * C ≤ A * E + Δ
+  pub d2 : A * E ≤ B * C + Δ
+  pub m : (S + Ma + (My + Mb)) * A ≤ M * C
+  pub r4 : (S + Ma + (My + Mb) + (0 + 0 + 2 ^ i1 + (ey + eb + 2 ^ i2) + 2 ^ i3)) * B < 2 ^ (54 + i4) * E
+  pub b4 : (0 + 0 + 2 ^ i1 + (ey + eb + 2 ^ i2) + 2 ^ i3) * (B * C) + Δ * (S + Ma + (My + Mb)) + 2 ^ i4 * (E * C) ≤ e * (E * C)
+  pub r5 : Mz + M + (ez + e) < 2 ^ (54 + i5)
+
+module _ {S My ey Mz ez Ma Mb eb A B C E Δ : ℕ} (t : Budget S My ey Mz ez Ma Mb eb A B C E Δ) {k a b big y z : Float} {P N Q R K H D X Y : ℕ}
+    (kv : Val k B 0 E) (vb : About big P N D S 0) (vy : About y Q R D My ey) (va : About a K 0 D Ma 0) (vc : About b H 0 D Mb eb) (vz : About z X Y D Mz ez) where
+  pub less-since : About (sub binary64 z (mul binary64 (since a b big y) k)) (X * C + (N + K + (R + H)) * A) (Y * C + (P + 0 + (Q + 0)) * A) (D * C) (Mz + t .M) (ez + t .e + 2 ^ (t .i5))
+  less-since = rate-less (t .i4) (t .i5) A B C E Δ (t .M) (t .e) (t .I4) (t .I5) (t .F) (t .G) (t .d1) (t .d2) (t .m) (t .r4) (t .b4) (t .r5) kv
+      (since-about (t .i1) (t .i2) (t .i3) (t .I1) (t .I2) (t .I3) (t .r1) (t .r2) (t .r3) vb vy va vc) vz
+
+  pub more-since : About (add binary64 z (mul binary64 (since a b big y) k)) (X * C + (P + 0 + (Q + 0)) * A) (Y * C + (N + K + (R + H)) * A) (D * C) (Mz + t .M) (ez + t .e + 2 ^ (t .i5))
+  more-since = rate-more (t .i4) (t .i5) A B C E Δ (t .M) (t .e) (t .I4) (t .I5) (t .F) (t .G) (t .d1) (t .d2) (t .m) (t .r4) (t .b4) (t .r5) kv
+      (since-about (t .i1) (t .i2) (t .i3) (t .I1) (t .I2) (t .I3) (t .r1) (t .r2) (t .r3) vb vy va vc) vz
+
+  pub less-until : About (sub binary64 z (mul binary64 (sub binary64 (sub binary64 a big) (sub binary64 y b)) k)) (X * C + (0 + P + (Q + 0)) * A) (Y * C + (K + N + (R + H)) * A) (D * C) (Mz + t .M) (ez + t .e + 2 ^ (t .i5))
+  less-until = rate-less (t .i4) (t .i5) A B C E Δ (t .M) (t .e) (t .I4) (t .I5) (t .F) (t .G) (t .d1) (t .d2) (t .m) (t .r4) (t .b4) (t .r5) kv
+      (subst (λ (w : ℕ). About (sub binary64 (sub binary64 a big) (sub binary64 y b)) (K + N + (R + H)) (0 + P + (Q + 0)) D w (0 + 0 + 2 ^ (t .i1) + (ey + eb + 2 ^ (t .i2)) + 2 ^ (t .i3)))
+      (ap (λ (w : ℕ). w + (My + Mb)) (add-comm Ma S)) (until-about (t .i1) (t .i2) (t .i3) (t .I1) (t .I2) (t .I3) (t .r1) (t .r2) (t .r3) vb vy va vc)) vz

@@ -1,8 +1,8 @@
--- What the customer's recorders need of GPS to TAI: one instant that is stamped by the GPS recorder and by the TAI recorder comes out within 10 ps, and the order of
--- stamps that share their larger part is kept. Assumes nothing.
+-- What the customer's recorders need of GPS to TAI: one instant that the GPS recorder and the TAI recorder stamp to e ps comes out within 10 + e ps (0.63 microseconds and e ps
+-- where the smaller part is a modified Julian date), and the order of stamps that share their larger part is kept. Assumes nothing.
 use mathlib.Core.Path.{_≡_, sym, ap, _∙_, subst}
 use Prim.Native.Nat.{ℕ, _+_, _*_, _≤_}
-use native.Mathlib.Nat.{mul-le-mul-right, add-mul}
+use native.Mathlib.Nat.{mul-le-mul-right, mul-left-comm, one-mul, add-mul}
 use native.Mathlib.Omega.{arith}
 use mathlib.Core.Bool.{Bool, true, false}
 use lib.Dec.{T}
@@ -16,52 +16,62 @@ use Rattle.rounding.proofs.Own.{own, own-val}
 use Rattle.rounding.proofs.Bound.{rounds-mono}
 use Rattle.refusals.specs.Outcome.{answer}
 use Rattle.julian.specs.declared.JulianDate.{JulianDate}
-use Rattle.julian.specs.Worth.{Worth}
 use Rattle.scales.specs.SmallerPart.{firstIsLarger}
 use Rattle.scales.specs.Formulas.{plus, gpsDays}
 use Rattle.scales.specs.Conversions.{gps-tai, offsetOf, answerOf}
 use Rattle.scales.specs.Refusals.{finiteParts}
-use Rattle.scales.specs.Ranges.{Held, Practical, HalfDay}
-use Rattle.scales.specs.Meaning.{day, Close, Apart, meaning}
+use Rattle.scales.specs.Ranges.{Held, Practical, Modified, HalfDay}
+use Rattle.scales.specs.Picoseconds.{boundOf}
+use Rattle.scales.specs.Meaning.{day, Apart, Means, taiOverGps, meaning}
 use Rattle.scales.specs.Recorders.{NotLater}
 use Rattle.scales.proofs.Outcomes.{and-left, and-right, converted-is}
 use Rattle.scales.proofs.SmallerPart.{mapAs, map-is}
 use Rattle.scales.proofs.Constants.{gps-about}
-use Rattle.scales.proofs.Meant.{worth-unique, practical}
+use Rattle.scales.proofs.Meant.{worth-unique, practical, modified}
 
 -- ---- one instant
 no-offset : HalfDay (offsetOf gps-tai)
 unfolding offsetOf fits le lt eq abs round
 no-offset = (tt, tt)
 
--- t is exactly d + 19 s, and u is d + 19 s to 10 ps: so u is t to 10 ps
-nineteen : {d t u : JulianDate} {p n p' n' : ℕ} → Worth d p n L → Worth t p' n' L → 86400 * (p' + n) ≡ 86400 * (n' + p) + 19 * L → Close 10 86400 86400 (19 * L) 0 d u → Apart 10 t u
-nineteen {p = p} {n = n} {p' = p'} {n' = n'} w v e c =
-    let o = worth-unique w (c .from) in
+-- t is d + 19 s to e ps, and u is d + 19 s to c ps: so u is t to c + e ps
+nineteen : {d t u : JulianDate} (c e : ℕ) → Means e taiOverGps d t → Means c taiOverGps d u → Apart (c + e) t u
+nineteen c e v w =
+    let o = worth-unique (v .from) (w .from) in
     record {
-      p = p';
-      n = n';
-      p' = c .p';
-      n' = c .n';
-      from = v;
-      to = c .to;
-      over = high p n p' n' (c .p) (c .n) (c .p') (c .n') L e o (c .over);
-      under = low p n p' n' (c .p) (c .n) (c .p') (c .n') L e o (c .under);
+      p = v .p';
+      n = v .n';
+      p' = w .p';
+      n' = w .n';
+      from = v .to;
+      to = w .to;
+      over = high (v .p) (v .n) (v .p') (v .n') (w .p) (w .n) (w .p') (w .n') L (c * L) (e * L) (seconds c) (seconds e) bound o (v .under) (w .over);
+      under = low (v .p) (v .n) (v .p') (v .n') (w .p) (w .n) (w .p') (w .n') L (c * L) (e * L) (seconds c) (seconds e) bound o (v .over) (w .under);
     }
   where
-    high : (p n p' n' a b a' b' L : ℕ) → 86400 * (p' + n) ≡ 86400 * (n' + p) + 19 * L → p + b ≡ a + n → day * (86400 * a' + 86400 * b + 0) ≤ day * (86400 * b' + 86400 * a + 19 * L) + 10 * (86400 * L)
-        → day * (1 * a' + 1 * n' + 0) ≤ day * (1 * b' + 1 * p' + 0) + 10 * (1 * L)
-    high p n p' n' a b a' b' L e o h = omega arith
+    seconds : (k : ℕ) → k * (86400 * L) ≡ 86400 * (k * L)
+    seconds k = mul-left-comm k 86400 L
 
-    low : (p n p' n' a b a' b' L : ℕ) → 86400 * (p' + n) ≡ 86400 * (n' + p) + 19 * L → p + b ≡ a + n → day * (86400 * b' + 86400 * a + 19 * L) ≤ day * (86400 * a' + 86400 * b + 0) + 10 * (86400 * L)
-        → day * (1 * b' + 1 * p' + 0) ≤ day * (1 * a' + 1 * n' + 0) + 10 * (1 * L)
-    low p n p' n' a b a' b' L e o h = omega arith
+    bound : (c + e) * (1 * L) ≡ c * L + e * L
+    bound = ap (λ (z : ℕ). (c + e) * z) (one-mul L) ∙ add-mul c e L
 
--- d = (p - n) / L days by GPS and t = (p' - n') / L days by TAI are one instant, t = d + 19 s: then gps_to_tai answers for d a date within 10 ps of t
-pub one-instant : (d t : JulianDate) (p n p' n' : ℕ) → Practical d → Worth d p n L → Worth t p' n' L → 86400 * (p' + n) ≡ 86400 * (n' + p) + 19 * L
-    → (u : JulianDate) × (answerOf gps-tai d ≡ answer u) × Apart 10 t u
-unfolding meaning
-one-instant d t p n p' n' r w v e = let m = practical gps-tai d r no-offset in (m .date, m .is, nineteen w v e (m .means))
+    high : (p n p' n' a b a' b' L x y : ℕ) {x' y' z : ℕ} → x' ≡ 86400 * x → y' ≡ 86400 * y → z ≡ x + y → p + b ≡ a + n → day * (86400 * n' + 86400 * p + 19 * L) ≤ day * (86400 * p' + 86400 * n + 0) + y'
+        → day * (86400 * a' + 86400 * b + 0) ≤ day * (86400 * b' + 86400 * a + 19 * L) + x' → day * (1 * a' + 1 * n' + 0) ≤ day * (1 * b' + 1 * p' + 0) + z
+    high p n p' n' a b a' b' L x y e f g o h k = omega arith
+
+    low : (p n p' n' a b a' b' L x y : ℕ) {x' y' z : ℕ} → x' ≡ 86400 * x → y' ≡ 86400 * y → z ≡ x + y → p + b ≡ a + n → day * (86400 * p' + 86400 * n + 0) ≤ day * (86400 * n' + 86400 * p + 19 * L) + y'
+        → day * (86400 * b' + 86400 * a + 19 * L) ≤ day * (86400 * a' + 86400 * b + 0) + x' → day * (1 * b' + 1 * p' + 0) ≤ day * (1 * a' + 1 * n' + 0) + z
+    low p n p' n' a b a' b' L x y e f g o h k = omega arith
+
+-- d by GPS and t by TAI stamp one instant to e ps, t = d + 19 s: then gps_to_tai answers for d a date within 10 + e ps of t
+pub one-instant : (e : ℕ) (d t : JulianDate) → Practical d → Means e taiOverGps d t → (u : JulianDate) × (answerOf gps-tai d ≡ answer u) × Apart (10 + e) t u
+unfolding meaning boundOf
+one-instant e d t r v = let m = practical gps-tai d r no-offset in (m .date, m .is, nineteen 10 e v (m .means))
+
+-- the same where the smaller part is a modified Julian date: 0.63 microseconds and e ps
+pub one-instant-modified : (e : ℕ) (d t : JulianDate) → Modified d → Means e taiOverGps d t → (u : JulianDate) × (answerOf gps-tai d ≡ answer u) × Apart (628643 + e) t u
+unfolding meaning boundOf
+one-instant-modified e d t r v = let m = modified gps-tai d r no-offset in (m .date, m .is, nineteen 628643 e v (m .means))
 
 -- ---- the order
 adds-in-order : (x y k : Float) → T (fits binary64 x) → T (fits binary64 y) → finite x ≡ true → finite y ≡ true → {q m : ℕ} → Val k q m L → T (le x y) → T (le (add binary64 x k) (add binary64 y k))

@@ -5,5 +5,6 @@ pub mod Formulas
 pub mod Conversions
 pub mod Refusals
 pub mod Ranges
+pub mod Picoseconds
 pub mod Meaning
 pub mod Recorders
