@@ -1,7 +1,7 @@
 -- The five answers of the block call, each by the tests that lead to it, and what a block that is accepted has. Assumes nothing.
 use Prim.Native.Nat.{ℕ, _+_, _*_, _<_, _≤_}
 use native.Mathlib.Omega.{arith}
-use mathlib.Core.Path.{_≡_, refl, sym, _∙_}
+use mathlib.Core.Path.{_≡_, refl}
 use mathlib.Core.Bool.{Bool, true, false, cond}
 use mathlib.Core.List.{List}
 use lib.ListN.{length}
@@ -41,10 +41,10 @@ accepted-by s n false true true true ec ed e =
     let le : u32At s 0 ≤ 4000 = leb-true _ _ ec in
     let l : length s ≡ 8 + 16 * u32At s 0 = eqb-true _ _ ed in
     (omega arith, omega arith)
-accepted-by s n false true true false ec ed e = let z : _≡_ {A = ℕ} 0 1 = cc in elim (let no : ⊥ = omega arith in no) [ ]
-accepted-by s n false true false d ec ed e = let z : _≡_ {A = ℕ} 0 1 = cc in elim (let no : ⊥ = omega arith in no) [ ]
-accepted-by s n false false c d ec ed e = let z : _≡_ {A = ℕ} 0 1 = cc in elim (let no : ⊥ = omega arith in no) [ ]
-accepted-by s n true b c d ec ed e = let z : _≡_ {A = ℕ} 0 1 = cc in elim (let no : ⊥ = omega arith in no) [ ]
+accepted-by s n false true true false ec ed e = let z : _≡_ {A = ℕ} 0 1 = cc in absurd (omega arith)
+accepted-by s n false true false d ec ed e = let z : _≡_ {A = ℕ} 0 1 = cc in absurd (omega arith)
+accepted-by s n false false c d ec ed e = let z : _≡_ {A = ℕ} 0 1 = cc in absurd (omega arith)
+accepted-by s n true b c d ec ed e = let z : _≡_ {A = ℕ} 0 1 = cc in absurd (omega arith)
 
 pub accepted : (s : List ℕ) (n : ℕ) → answer n ≡ blockOf s → (n ≤ 4000) × (length s ≡ 8 + 16 * n)
 unfolding blockOf

@@ -2,6 +2,7 @@
 pub mod Blocks
 pub mod Places
 pub mod Texts
+pub mod Counts
 pub mod Lines
 pub mod Parts
 pub mod Whole

@@ -6,13 +6,13 @@ use native.Mathlib.Numerals.{add-one}
 use native.Mathlib.Nat.{add-zero, add-suc, add-assoc, zero-add}
 use mathlib.Core.Path.{_≡_, refl, sym, ap, _∙_}
 use mathlib.Core.Bool.{Bool, true, false}
-use mathlib.Core.List.{List, [], _++_, append-assoc, append-nil}
+use mathlib.Core.List.{List, _++_, append-assoc, append-nil}
 use lib.Dec.{ltb}
-use borrow.Author.Tests.{ltb-true, ltb-false, ne-eqb}
+use borrow.Author.Tests.{ltb-true, ltb-false, leb-true, ne-eqb}
 use Rattle.refusals.specs.Outcome.{Outcome, answer, refusal}
 use Rattle.stamps.specs.Block.{blockOf}
-use Rattle.stamps.specs.Listing.{header, blockRefused, refusedIn, stampLine, stampLines, listingOf, listing}
-use Rattle.stamps.specs.Parts.{lineOf, linesIn, linesFrom, heldLines, partLines, partText, lineAfter, partsOf}
+use Rattle.stamps.specs.Listing.{header, refusedIn, stampLine, stampLines, listingOf, listing}
+use Rattle.stamps.specs.Parts.{lineOf, linesIn, linesFrom, heldLines, partLines, partText, partOf, lineAfter, partsOf}
 use Rattle.stamps.proofs.Parts.{held-few, held-some}
 
 -- ---- all lines are the listing
@@ -74,10 +74,15 @@ module _ (s : List ℕ) where
         omega arith
 
     -- whatever the scratch: where no line is left after k parts, they are the listing
-    pub whole-when-done : (k : ℕ) → linesIn (blockOf s) ≤ lineAfter s room k → partsOf s room k ≡ listing s
+    whole-when-done : (k : ℕ) → linesIn (blockOf s) ≤ lineAfter s room k → partsOf s room k ≡ listing s
     whole-when-done k h =
         let e : lineAfter s room k ≡ linesIn (blockOf s) = omega (arith, within k) in
         parts-are k ∙ ap (linesFrom s 0) e ∙ all-lines s
+
+    -- and so the parts up to one that says it is the last
+    pub whole-at-last : (k : ℕ) → partOf s (lineAfter s room k) room .done ≡ true → partsOf s room (suc k) ≡ listing s
+    unfolding partOf lineAfter
+    whole-at-last k e = whole-when-done (suc k) (leb-true _ _ e)
 
     module _ (enough : 33 ≤ room) where
       reached : (k n : ℕ) → n ≤ linesIn (blockOf s) → n ≤ k → n ≤ lineAfter s room k

@@ -4,7 +4,7 @@ use mathlib.Core.List.{List}
 use mathlib.Core.Bool.{cond}
 use lib.ListN.{length}
 use lib.Dec.{ltb, leb, eqb}
-use lib.Ieee.{Float, ofBits, binary64}
+use lib.Ieee.{ofBits, binary64}
 use Rattle.refusals.specs.Outcome.{Outcome, answer, refusal}
 use Rattle.little_endian.specs.LittleEndian.{u32At, u64At}
 use Rattle.julian.specs.declared.JulianDate.{JulianDate}
@@ -26,12 +26,12 @@ blockOf s =
     (refusal 12))
 
 -- the 64-bit patterns of stamp i of n: all jd1 stand before all jd2
-unfoldable pub jd1Bits : List ℕ → ℕ → ℕ → ℕ
-jd1Bits s n i = u64At s (8 + 8 * i)
+unfoldable pub jd1Bits : List ℕ → ℕ → ℕ
+jd1Bits s i = u64At s (8 + 8 * i)
 
 unfoldable pub jd2Bits : List ℕ → ℕ → ℕ → ℕ
 jd2Bits s n i = u64At s (8 + 8 * n + 8 * i)
 
 -- stamp i of n as a date: `ofBits` is a NaN at every pattern of one
 unfoldable pub stampAt : List ℕ → ℕ → ℕ → JulianDate
-stampAt s n i = julian (ofBits binary64 (jd1Bits s n i)) (ofBits binary64 (jd2Bits s n i))
+stampAt s n i = julian (ofBits binary64 (jd1Bits s i)) (ofBits binary64 (jd2Bits s n i))

@@ -5,8 +5,7 @@ mod place;
 use julian::JulianDate;
 pub use listing::next_part;
 ghost use mathlib.Core.Path.{_≡_};
-ghost use Prim.Native.Nat.{_+_, _*_, _≤_, _<_};
-ghost use lib.ListN.{length};
+ghost use Prim.Native.Nat.{_≤_, _<_};
 ghost use Rattle.stamps.specs.Block.{blockOutcome, blockOf, stampAt};
 
 // The number of stamps, or the number of the refusal.
@@ -30,7 +29,8 @@ pub fn block_stamps(block: &[u8]) -> BlockAnswer
         return BlockAnswer::Refused(refusals::BLOCK_LENGTH_WRONG);
     }
     let size = little_endian::u32_at(block, 0);
-    if size != little_endian::u32_at(block, 4) {
+    let second_size = little_endian::u32_at(block, 4);
+    if size != second_size {
         return BlockAnswer::Refused(refusals::BLOCK_SIZES_DIFFER);
     }
     if size > 4000 {

@@ -1,18 +1,23 @@
 // The listing of a stamp block, in parts of whole lines.
 ghost use mathlib.Core.Path.{_≡_};
-ghost use Prim.Native.Nat.{_+_, _-_, _*_, _≤_, _<_};
+ghost use Prim.Native.Nat.{_+_, _-_, _≤_, _<_};
+ghost use mathlib.Core.Bool.{cond};
 ghost use lib.ListN.{length};
+ghost use lib.IntN.{negsuc};
+ghost use lib.Signed.{ltZ};
 ghost use Rattle.tai_utc.specs.Table.{fixed};
 ghost use Rattle.utc.specs.IsoText.{isoText};
 ghost use Rattle.stamps.specs.Block.{blockOutcome, blockOf};
 ghost use Rattle.stamps.specs.Placed.{Placed};
-ghost use Rattle.stamps.specs.Listing.{shown, stampLine, shownAt, oneIfRefused, refusedIn, header, blockRefused};
+ghost use Rattle.stamps.specs.Listing.{shown, stampLine, oneIfRefused, refusedIn, header, blockRefused};
 ghost use Rattle.stamps.specs.Parts.{lineOf, linesIn, PartPlaced};
 use super::BlockAnswer;
 use super::Part;
 use super::block_stamps;
 use super::place;
 use super::stamp_at;
+use day_number::DayAnswer;
+use julian::JulianDate;
 use scales::UTC;
 use utc_text::TextAnswer;
 
@@ -45,14 +50,20 @@ fn place_stamp_line(block: &[u8], stamps: usize, i: usize, dst: &mut [u8], at: u
     place::bytes(b"\n", dst, c)
 }
 
-// 1 where the stamp's conversion refuses, else 0.
-fn one_if_refused(utc: UTC) -> u32
-    ensures { λ r. ⌜ (r ≡ oneIfRefused (isoText fixed (utc .0))) × (r ≤ 1) ⌝ }
+// 1 where the day is before -4799-01-01, the first that has a text, else 0.
+fn one_if_early(day: i64) -> u32
+    ensures { λ r. ⌜ (r ≡ cond (ltZ day (negsuc 31737)) 1 0) × (r ≤ 1) ⌝ }
 {
-    let mut text = [0; 26];
-    match utc::to_iso8601(utc, &mut text) {
-        TextAnswer::Written(_) => 0,
-        TextAnswer::Refused(_) => 1,
+    if day < -31738 { 1 } else { 0 }
+}
+
+// 1 where a date has no text, else 0. Of the text's conversion only the day number is made: what comes after it refuses nothing but the days before the first.
+fn one_if_refused(jd: JulianDate) -> u32
+    ensures { λ r. ⌜ (r ≡ oneIfRefused (isoText fixed jd)) × (r ≤ 1) ⌝ }
+{
+    match day_number::day_number_and_fraction(jd.jd1, jd.jd2) {
+        DayAnswer::Refused(_) => 1,
+        DayAnswer::Day(found) => one_if_early(found.day),
     }
 }
 
@@ -64,7 +75,7 @@ fn refused_stamps(block: &[u8], stamps: usize) -> u32
     let mut refused = 0;
     let mut i = 0;
     while i < stamps {
-        refused += one_if_refused(UTC(stamp_at(block, stamps, i)));
+        refused += one_if_refused(stamp_at(block, stamps, i));
         i += 1;
     }
     refused

@@ -1,6 +1,5 @@
 -- `listing::lines_in` meets its contract. Assumes nothing.
-use Prim.Native.Nat.{ℕ, _≤_}
-use mathlib.Core.Path.{_≡_, sym, ap, subst}
+use mathlib.Core.Path.{sym, ap}
 use native.Mathlib.Omega.{arith}
 use Rattle.stamps.specs.Parts.{linesIn}
 use Rattle.stamps.specs.Block.{blockOutcome}

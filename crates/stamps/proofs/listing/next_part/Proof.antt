@@ -5,7 +5,6 @@ use Prim.Native.Nat.{ℕ, _+_, _-_, _≤_, zero-le}
 use borrow.Author.Needs.{needs}
 use denote.Ref.{now}
 use native.Mathlib.Omega.{arith}
-use Rattle.stamps.specs.Block.{blockOf, blockOutcome}
 use Rattle.stamps.specs.Parts.{linesIn, linesFrom, heldLines}
 use Rattle.stamps.specs.Placed.{Placed}
 use Rattle.stamps.proofs.Blocks.{few-lines}

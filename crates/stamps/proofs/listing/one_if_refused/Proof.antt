@@ -1,36 +1,40 @@
--- `listing::one_if_refused` meets its contract: 26 bytes hold every text, so the text call refuses only what the conversion refuses. Assumes nothing.
+-- `listing::one_if_refused` meets its contract: the refusal of the day number, or the place of the day. Assumes nothing.
+use mathlib.Core.Path.{refl, _∙_}
 use Rattle.tai_utc.specs.Table.{fixed}
 use native.Mathlib.Omega.{arith}
-use Rattle.stamps.proofs.Texts.{brief, text-written, text-refused}
+use Rattle.stamps.proofs.Counts.{day-refused, day-given, day-test}
 use borrow.Author.Needs.{needs}
 use Rattle.stamps.proofs.listing.one_if_refused.Statement.{statement}
 use Rattle.stamps.proofs.listing.one_if_refused.Tie as tie
 
-slice-aggregate-to-iso8601 : tie.Need-slice-aggregate-to-iso8601
-slice-aggregate-to-iso8601 c = search needs
-
-to-iso8601-requires : tie.Need-to-iso8601-requires
-to-iso8601-requires c κs = search needs
+day-number-and-fraction-requires : tie.Need-day-number-and-fraction-requires
+day-number-and-fraction-requires c κs = search needs
 
 enum-told : tie.Need-enum-told
 enum-told c = search needs
 
-enum-told-2 : tie.Need-enum-told-2
-enum-told-2 c = search needs
+enum-known-found : tie.Need-enum-known-found
+enum-known-found c = search needs
+
+one-if-early-requires : tie.Need-one-if-early-requires
+one-if-early-requires c κs = search needs
 
 returns : tie.Need-returns
-returns c = (text-written (c .before .before .before .to-iso8601 .ensures) _ (c .enum-told .given .1) .2, omega arith)
+returns c = (day-refused fixed (c .before .before .before .args .jd) _ (c .before .before .day-number-and-fraction .ensures) _ (c .enum-told .given .1), omega arith)
 
 returns-2 : tie.Need-returns-2
-returns-2 c = (text-refused (c .before .before .before .to-iso8601 .ensures) _ (c .enum-told2 .given .1) (brief fixed _) (omega arith) .2, omega arith)
+returns-2 c =
+    let p = c .one-if-early .ensures in
+    let n = c .before .before .before .found .given .0 .0 in
+    (p .0 ∙ day-test (n .day) _ (record { sfits = c .before .struct-told .given .0 .1 }) refl ∙ day-given fixed (c .before .before .before .before .before .before .args .jd) _ (c .before .before .before .before .before .day-number-and-fraction .ensures) n (c .before .before .before .found .given .1), p .1)
 
 pub one-if-refused-spec : {M : Type 1} → statement M
 one-if-refused-spec =
     tie.close
     (tie.spec
-    slice-aggregate-to-iso8601
-    to-iso8601-requires
+    day-number-and-fraction-requires
     enum-told
-    enum-told-2
+    enum-known-found
+    one-if-early-requires
     returns
     returns-2)

@@ -1,6 +1,6 @@
 -- `listing::place_shown` meets its contract: the text stands where the call put it, and a refusal is written out where nothing was. Assumes nothing.
 use Rattle.tai_utc.specs.Table.{fixed}
-use mathlib.Core.Path.{sym, ap, _∙_}
+use mathlib.Core.Path.{sym, ap}
 use Prim.Native.Nat.{ℕ, _+_}
 use denote.Ref.{now}
 use native.Mathlib.Omega.{arith}
