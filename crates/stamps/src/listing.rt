@@ -67,7 +67,7 @@ fn one_if_refused(jd: JulianDate) -> u32
     }
 }
 
-// How many stamps are refused: each is converted.
+// How many stamps are refused: each is judged as its conversion would be.
 fn refused_stamps(block: &[u8], stamps: usize) -> u32
     requires { ⌜ stamps ≤ 4000 ⌝ }
     ensures { λ r. ⌜ r ≡ refusedIn (now (block .entry)) stamps stamps ⌝ }
