@@ -10,3 +10,5 @@ pub mod KeptPart
 pub mod OffsetSizes
 pub mod FiniteDates
 pub mod Cases
+-- AllTwenty: no NaN and no infinity, one theorem over the twenty.
+pub mod AllTwenty

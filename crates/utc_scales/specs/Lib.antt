@@ -5,3 +5,5 @@ pub mod Known
 pub mod UtcTai
 pub mod UtcUt1
 pub mod Claims
+-- Twenty: all twenty conversions as one table.
+pub mod Twenty
