@@ -1,4 +1,5 @@
-/* Two-part Julian dates, eight time scales, the calendar, TAI-UTC and UTC text, for C.
+/* Two-part Julian dates, eight time scales, the calendar, TAI-UTC, UTC text and stamp
+   blocks, for C.
    The archive is target/staticlib/libcapi.a, made by `rt staticlib capi`.
 
    Answers. A call returns 64 bits signed: zero or more is its value, or the
@@ -19,13 +20,20 @@
    Every float is taken, NaN and the infinities too.
 
    Refusals:
-     1  year before -4799                      6  rounded sum jd1 + jd2 outside
-     2  month not 1 to 12                         -68569.5 to 1e9, or NaN
-     3  day not in month                       7  fraction outside 0 to 1, or NaN
-     4  hour above 23, minute above 59, or     8  nanos 1,000,000,000 or more
-        second NaN, below 0 or not below 60    9  jd1 or jd2 not finite
-     5  no next day                           10  offset not finite
-                                              11  buffer too short
+      1  year before -4799
+      2  month not 1 to 12
+      3  day not in month
+      4  hour above 23, minute above 59, or second NaN, below 0 or not below 60
+      5  no next day
+      6  rounded sum jd1 + jd2 outside -68569.5 to 1e9, or NaN
+      7  fraction outside 0 to 1, or NaN
+      8  nanos 1,000,000,000 or more
+      9  jd1 or jd2 not finite
+     10  offset not finite
+     11  buffer too short
+     12  sizes of a block differ
+     13  size of a block above 4,000
+     14  length of a block wrong
    A call tests in the order in which its comment lists them, and 11 last. So
    1900-02-29 asked of ct_next_calendar_day with a buffer of 3 bytes is 3. */
 #ifndef CELESTIAL_TIME_H
@@ -122,7 +130,7 @@ int64_t ct_tt_to_ut1_with_delta_t(double jd1, double jd2, double seconds, uint8_
 
 /* ---- UTC: on a day that ends in a leap second, jd2 runs to the end of its 86,401 seconds */
 
-/* The UTC date of a Unix time, divided downward: jd1, jd2; 16 bytes. Refuses 8; 6; then 1, 2, 3;
+/* The UTC date of a Unix time, divided downward: jd1, jd2; 16 bytes. Refuses 8; 6; then 1;
    then 4, on a day that ends in a step back; 11. (0, 1000000000) is 8. */
 int64_t ct_utc_new(int64_t seconds, uint32_t nanos, uint8_t *out, size_t out_len);
 
@@ -148,6 +156,19 @@ int64_t ct_ut1_to_utc_with_dut1(double jd1, double jd2, double dut1, uint8_t *ou
    byte 0 ends it; the call returns its length. Refuses 6; then 1; 11, which 22 bytes are for
    2000-01-01. */
 int64_t ct_to_iso8601(double jd1, double jd2, uint8_t *out, size_t out_len);
+
+/* ---- Stamp block: two sizes of 4 bytes, all jd1, then all jd2, the lowest byte first */
+
+/* The number of stamps, 0 to 4,000. Refuses 14 under 8 bytes; 12; 13; then 14 for any other length
+   than 8 + 16 times the size. Sizes 4001 and 4002 are 12. */
+int64_t ct_block_stamps(const uint8_t *block, size_t block_len);
+
+/* A part of the block's listing, from line `line` on: as many whole lines as surely fit, where one is
+   begun only if 33 bytes are left. Line 0 is the header and line i + 1 stamp i's; a refused block has
+   line 0 alone. Returns the number of bytes, 0 past the last line. The next part begins at `line`
+   plus the line ends (byte 10) in this one. Refuses 11 only, where out_len is below 33. */
+int64_t ct_listing_part(const uint8_t *block, size_t block_len, uint32_t line, uint8_t *out,
+                        size_t out_len);
 
 #ifdef __cplusplus
 }

@@ -1,2 +1,3 @@
--- The laws of the C interface: a refusal's code and what is put into a buffer, and an answer handed on to the caller.
-pub mod Deliveries
+-- The laws of the C interface: the outcome of a text call, and the stamp block.
+pub mod Texts
+pub mod ListingParts

@@ -4,10 +4,10 @@ ghost use lib.IntN.{pos};
 ghost use Rattle.calendar.specs.Calendar.{leap, daysInMonth};
 ghost use Rattle.calendar.specs.Refusals.{validDate, nextOf};
 ghost use Rattle.calendar.specs.Answers.{nextOutcome};
-ghost use Rattle.capi.specs.Delivery.{code, truth, done, inBytes, Delivered};
-ghost use Rattle.capi.specs.Fields.{dateBytes};
-use crate::delivery;
-use crate::fields;
+ghost use Rattle.c_answers.specs.Delivery.{code, truth, done, inBytes, Delivered};
+ghost use Rattle.c_answers.specs.Fields.{dateBytes};
+use c_answers::fields;
+use c_answers::refused;
 use calendar::DateCheck;
 use calendar::NextDay;
 
@@ -31,7 +31,7 @@ pub extern "C" fn ct_validate_calendar_date(year: i32, month: i32, day: i32) -> 
 {
     match calendar::validate_calendar_date(year, month, day) {
         DateCheck::Valid => 0,
-        DateCheck::Refused(number) => delivery::refused(number),
+        DateCheck::Refused(number) => refused(number),
     }
 }
 
@@ -40,7 +40,7 @@ fn put_next(found: NextDay, out: &mut [u8]) -> i64
 {
     match found {
         NextDay::Date(date) => fields::put_date(date, out),
-        NextDay::Refused(number) => delivery::refused(number),
+        NextDay::Refused(number) => refused(number),
     }
 }
 

@@ -6,10 +6,10 @@ ghost use Rattle.julian.specs.Calendar.{calendarOutcome, calendarToJulian, juli
 ghost use Rattle.julian.specs.UnixTime.{fromUnixTime};
 ghost use Rattle.julian.specs.JulianYear.{toJulianYear, fromJulianYear};
 ghost use Rattle.julian.specs.Equality.{equal};
-ghost use Rattle.capi.specs.Delivery.{truth, inBytes, Delivered};
-ghost use Rattle.capi.specs.Fields.{julianBytes, calendarBytes};
-use crate::delivery;
-use crate::fields;
+ghost use Rattle.c_answers.specs.Delivery.{truth, inBytes, Delivered};
+ghost use Rattle.c_answers.specs.Fields.{julianBytes, calendarBytes};
+use c_answers::fields;
+use c_answers::refused;
 use julian::CalendarAnswer;
 use julian::JulianAnswer;
 use julian::JulianDate;
@@ -19,7 +19,7 @@ fn put_date(found: JulianAnswer, out: &mut [u8]) -> i64
 {
     match found {
         JulianAnswer::Date(date) => fields::put_julian(date, out),
-        JulianAnswer::Refused(number) => delivery::refused(number),
+        JulianAnswer::Refused(number) => refused(number),
     }
 }
 
@@ -28,7 +28,7 @@ fn put_calendar(found: CalendarAnswer, out: &mut [u8]) -> i64
 {
     match found {
         CalendarAnswer::Fields(shown) => fields::put_calendar(shown, out),
-        CalendarAnswer::Refused(number) => delivery::refused(number),
+        CalendarAnswer::Refused(number) => refused(number),
     }
 }
 

@@ -1,7 +1,7 @@
 // The port for C: numbers and byte slices only. include/celestial_time.h declares each call and says what it answers.
-mod calendar_calls;
-mod date_calls;
-mod delivery;
-mod fields;
-mod offset_calls;
-mod scale_calls;
+pub mod block_calls;
+pub mod calendar_calls;
+pub mod date_calls;
+pub mod offset_calls;
+pub mod scale_calls;
+pub mod utc_calls;

@@ -3,10 +3,10 @@ ghost use Rattle.tai_utc.specs.Table.{fixed};
 ghost use Rattle.tai_utc.specs.Offset.{taiUtcOffset};
 ghost use Rattle.tai_utc.specs.Leap.{leapAtEndOfDay};
 ghost use Rattle.tai_utc.specs.Answers.{offsetOutcome};
-ghost use Rattle.capi.specs.Delivery.{inBytes, Delivered};
-ghost use Rattle.capi.specs.Fields.{floatBytes};
-use crate::delivery;
-use crate::fields;
+ghost use Rattle.c_answers.specs.Delivery.{inBytes, Delivered};
+ghost use Rattle.c_answers.specs.Fields.{floatBytes};
+use c_answers::fields;
+use c_answers::refused;
 use tai_utc::OffsetAnswer;
 
 fn put_offset(found: OffsetAnswer, out: &mut [u8]) -> i64
@@ -14,7 +14,7 @@ fn put_offset(found: OffsetAnswer, out: &mut [u8]) -> i64
 {
     match found {
         OffsetAnswer::Seconds(seconds) => fields::put_float(seconds, out),
-        OffsetAnswer::Refused(number) => delivery::refused(number),
+        OffsetAnswer::Refused(number) => refused(number),
     }
 }
 

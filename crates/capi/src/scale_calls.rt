@@ -2,10 +2,10 @@
 ghost use Rattle.julian.specs.JulianDate.{julian};
 ghost use Rattle.scales.specs.Scales.{taiOutcome, ut1Outcome, ttOutcome, gpsOutcome, tcgOutcome, tcbOutcome, tdbOutcome};
 ghost use Rattle.scales.specs.Conversions.{answerOf, gps-tai, tai-gps, tai-tt, tt-tai, tai-tcg, tcg-tai, tt-tcg, tcg-tt, tcb-tdb, tdb-tcb, tt-tdb, tdb-tt, ut1-tai, tai-ut1, ut1-tt, tt-ut1};
-ghost use Rattle.capi.specs.Delivery.{inBytes, Delivered};
-ghost use Rattle.capi.specs.Fields.{julianBytes};
-use crate::delivery;
-use crate::fields;
+ghost use Rattle.c_answers.specs.Delivery.{inBytes, Delivered};
+ghost use Rattle.c_answers.specs.Fields.{julianBytes};
+use c_answers::fields;
+use c_answers::refused;
 use julian::JulianDate;
 use scales::GPS;
 use scales::GpsAnswer;
@@ -22,21 +22,21 @@ use scales::TtAnswer;
 use scales::UT1;
 use scales::Ut1Answer;
 
-fn put_tai(found: TaiAnswer, out: &mut [u8]) -> i64
+pub(crate) fn put_tai(found: TaiAnswer, out: &mut [u8]) -> i64
     ensures { λ r. ⌜ Delivered (inBytes julianBytes (taiOutcome found)) (now (out .entry)) r (now (out .exit)) ⌝ }
 {
     match found {
         TaiAnswer::Date(tai) => fields::put_julian(tai.0, out),
-        TaiAnswer::Refused(number) => delivery::refused(number),
+        TaiAnswer::Refused(number) => refused(number),
     }
 }
 
-fn put_ut1(found: Ut1Answer, out: &mut [u8]) -> i64
+pub(crate) fn put_ut1(found: Ut1Answer, out: &mut [u8]) -> i64
     ensures { λ r. ⌜ Delivered (inBytes julianBytes (ut1Outcome found)) (now (out .entry)) r (now (out .exit)) ⌝ }
 {
     match found {
         Ut1Answer::Date(ut1) => fields::put_julian(ut1.0, out),
-        Ut1Answer::Refused(number) => delivery::refused(number),
+        Ut1Answer::Refused(number) => refused(number),
     }
 }
 
@@ -45,7 +45,7 @@ fn put_tt(found: TtAnswer, out: &mut [u8]) -> i64
 {
     match found {
         TtAnswer::Date(tt) => fields::put_julian(tt.0, out),
-        TtAnswer::Refused(number) => delivery::refused(number),
+        TtAnswer::Refused(number) => refused(number),
     }
 }
 
@@ -54,7 +54,7 @@ fn put_gps(found: GpsAnswer, out: &mut [u8]) -> i64
 {
     match found {
         GpsAnswer::Date(gps) => fields::put_julian(gps.0, out),
-        GpsAnswer::Refused(number) => delivery::refused(number),
+        GpsAnswer::Refused(number) => refused(number),
     }
 }
 
@@ -63,7 +63,7 @@ fn put_tcg(found: TcgAnswer, out: &mut [u8]) -> i64
 {
     match found {
         TcgAnswer::Date(tcg) => fields::put_julian(tcg.0, out),
-        TcgAnswer::Refused(number) => delivery::refused(number),
+        TcgAnswer::Refused(number) => refused(number),
     }
 }
 
@@ -72,7 +72,7 @@ fn put_tcb(found: TcbAnswer, out: &mut [u8]) -> i64
 {
     match found {
         TcbAnswer::Date(tcb) => fields::put_julian(tcb.0, out),
-        TcbAnswer::Refused(number) => delivery::refused(number),
+        TcbAnswer::Refused(number) => refused(number),
     }
 }
 
@@ -81,7 +81,7 @@ fn put_tdb(found: TdbAnswer, out: &mut [u8]) -> i64
 {
     match found {
         TdbAnswer::Date(tdb) => fields::put_julian(tdb.0, out),
-        TdbAnswer::Refused(number) => delivery::refused(number),
+        TdbAnswer::Refused(number) => refused(number),
     }
 }
 

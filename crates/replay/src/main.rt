@@ -5,6 +5,7 @@ mod floats_calls;
 mod julian_calls;
 mod offset_calls;
 mod scale_calls;
+mod utc_calls;
 mod words;
 
 struct Tally {
@@ -32,7 +33,10 @@ fn answered(call: u64, record: &[u8; 128]) -> words::Answer {
     if call < 80 {
         return offset_calls::answered(call, record);
     }
-    scale_calls::answered(call, record)
+    if call < 120 {
+        return scale_calls::answered(call, record);
+    }
+    utc_calls::answered(call, record)
 }
 
 // Whether it is the record's answer.

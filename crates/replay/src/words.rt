@@ -8,6 +8,7 @@ pub(crate) struct Answer {
     pub second: u64,
     pub third: u64,
     pub fourth: u64,
+    pub fifth: u64,
 }
 
 pub(crate) fn values(first: u64, second: u64, third: u64, fourth: u64) -> Answer {
@@ -17,6 +18,7 @@ pub(crate) fn values(first: u64, second: u64, third: u64, fourth: u64) -> Answer
         second,
         third,
         fourth,
+        fifth: 0,
     }
 }
 
@@ -27,6 +29,7 @@ pub(crate) fn refused(number: u32) -> Answer {
         second: 0,
         third: 0,
         fourth: 0,
+        fifth: 0,
     }
 }
 
@@ -95,6 +98,18 @@ pub(crate) fn date(d: JulianDate) -> Answer {
     values(floats::to_bits(d.jd1), floats::to_bits(d.jd2), 0, 0)
 }
 
+// A text's length, and the 32 bytes of which a part was lent.
+pub(crate) fn text(number: u64, length: u64, buffer: &[u8; 32]) -> Answer {
+    Answer {
+        number,
+        first: length,
+        second: little_endian::u64_at(buffer, 0),
+        third: little_endian::u64_at(buffer, 8),
+        fourth: little_endian::u64_at(buffer, 16),
+        fifth: little_endian::u64_at(buffer, 24),
+    }
+}
+
 // Whether the record's answer is this one.
 pub(crate) fn same(a: Answer, record: &[u8; 128]) -> bool {
     a.number == word_at(record, 8)
@@ -102,4 +117,5 @@ pub(crate) fn same(a: Answer, record: &[u8; 128]) -> bool {
         && a.second == word_at(record, 10)
         && a.third == word_at(record, 11)
         && a.fourth == word_at(record, 12)
+        && a.fifth == word_at(record, 13)
 }

@@ -3,7 +3,7 @@ use mathlib.Core.Path.{sym, ap, _∙_}
 use lib.IntN.{ℤ}
 use mir.Facts.{toZ-ofZ}
 use Rattle.calendar.specs.Calendar.{leap}
-use Rattle.capi.specs.Delivery.{truth}
+use Rattle.c_answers.specs.Delivery.{truth}
 use borrow.Author.Needs.{needs}
 use Rattle.capi.proofs.calendar_calls.ct_is_leap_year.Statement.{statement}
 use Rattle.capi.proofs.calendar_calls.ct_is_leap_year.Tie as tie

@@ -2,8 +2,8 @@
 use mathlib.Core.Path.{_∙_}
 use Rattle.calendar.specs.Refusals.{nextOf}
 use Rattle.calendar.proofs.Signs.{read-date}
-use Rattle.capi.specs.Fields.{dateBytes}
-use Rattle.capi.proofs.Deliveries.{same-outcome}
+use Rattle.c_answers.specs.Fields.{dateBytes}
+use Rattle.c_answers.proofs.Deliveries.{same-outcome}
 use borrow.Author.Needs.{needs}
 use Rattle.capi.proofs.calendar_calls.ct_next_calendar_day.Statement.{statement}
 use Rattle.capi.proofs.calendar_calls.ct_next_calendar_day.Tie as tie

@@ -3,7 +3,7 @@ use mathlib.Core.Path.{_≡_, sym, ap, _∙_}
 use Rattle.calendar.specs.Answers.{checkOutcome}
 use Rattle.calendar.specs.Refusals.{validDate}
 use Rattle.calendar.proofs.Signs.{read-date}
-use Rattle.capi.proofs.Deliveries.{nothing-refused, some-refused}
+use Rattle.c_answers.proofs.Deliveries.{nothing-refused, some-refused}
 use borrow.Author.Needs.{needs}
 use Rattle.capi.proofs.calendar_calls.ct_validate_calendar_date.Statement.{statement}
 use Rattle.capi.proofs.calendar_calls.ct_validate_calendar_date.Tie as tie

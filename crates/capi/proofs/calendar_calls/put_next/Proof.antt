@@ -1,8 +1,8 @@
 -- `capi::calendar_calls::put_next` meets its contract. Assumes nothing.
 use mathlib.Core.Path.{ap}
 use Rattle.calendar.specs.Answers.{nextOutcome}
-use Rattle.capi.specs.Fields.{dateBytes}
-use Rattle.capi.proofs.Deliveries.{answered, refused-on}
+use Rattle.c_answers.specs.Fields.{dateBytes}
+use Rattle.c_answers.proofs.Deliveries.{answered, refused-on}
 use borrow.Author.Needs.{needs}
 use Rattle.capi.proofs.calendar_calls.put_next.Statement.{statement}
 use Rattle.capi.proofs.calendar_calls.put_next.Tie as tie

@@ -2,8 +2,8 @@
 use mathlib.Core.Path.{ap, _∙_}
 use Rattle.julian.specs.declared.JulianDate.{JulianDate}
 use Rattle.julian.specs.JulianDate.{addSeconds}
-use Rattle.capi.specs.Fields.{julianBytes}
-use Rattle.capi.proofs.Deliveries.{same-bytes}
+use Rattle.c_answers.specs.Fields.{julianBytes}
+use Rattle.c_answers.proofs.Deliveries.{same-bytes}
 use borrow.Author.Needs.{needs}
 use Rattle.capi.proofs.date_calls.ct_add_seconds.Statement.{statement}
 use Rattle.capi.proofs.date_calls.ct_add_seconds.Tie as tie

@@ -2,8 +2,8 @@
 use mathlib.Core.Path.{_∙_}
 use Rattle.calendar.proofs.Signs.{read-date}
 use Rattle.julian.specs.Calendar.{calendarToJulian}
-use Rattle.capi.specs.Fields.{julianBytes}
-use Rattle.capi.proofs.Deliveries.{same-outcome}
+use Rattle.c_answers.specs.Fields.{julianBytes}
+use Rattle.c_answers.proofs.Deliveries.{same-outcome}
 use borrow.Author.Needs.{needs}
 use Rattle.capi.proofs.date_calls.ct_calendar_to_julian.Statement.{statement}
 use Rattle.capi.proofs.date_calls.ct_calendar_to_julian.Tie as tie

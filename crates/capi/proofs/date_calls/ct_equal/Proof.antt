@@ -2,7 +2,7 @@
 use mathlib.Core.Path.{_≡_, sym, ap, _∙_}
 use Rattle.julian.specs.JulianDate.{julian}
 use Rattle.julian.specs.Equality.{equal}
-use Rattle.capi.specs.Delivery.{truth}
+use Rattle.c_answers.specs.Delivery.{truth}
 use borrow.Author.Needs.{needs}
 use Rattle.capi.proofs.date_calls.ct_equal.Statement.{statement}
 use Rattle.capi.proofs.date_calls.ct_equal.Tie as tie

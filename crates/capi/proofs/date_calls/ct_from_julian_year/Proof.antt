@@ -1,7 +1,7 @@
 -- `capi::date_calls::ct_from_julian_year` meets its contract. Assumes nothing.
 use mathlib.Core.Path.{ap}
-use Rattle.capi.specs.Fields.{julianBytes}
-use Rattle.capi.proofs.Deliveries.{same-bytes}
+use Rattle.c_answers.specs.Fields.{julianBytes}
+use Rattle.c_answers.proofs.Deliveries.{same-bytes}
 use borrow.Author.Needs.{needs}
 use Rattle.capi.proofs.date_calls.ct_from_julian_year.Statement.{statement}
 use Rattle.capi.proofs.date_calls.ct_from_julian_year.Tie as tie

@@ -3,8 +3,8 @@ use mathlib.Core.Path.{ap, _∙_}
 use lib.IntN.{ℤ}
 use mir.Facts.{toZ-ofZ}
 use Rattle.julian.specs.UnixTime.{fromUnixTime}
-use Rattle.capi.specs.Fields.{julianBytes}
-use Rattle.capi.proofs.Deliveries.{same-bytes}
+use Rattle.c_answers.specs.Fields.{julianBytes}
+use Rattle.c_answers.proofs.Deliveries.{same-bytes}
 use borrow.Author.Needs.{needs}
 use Rattle.capi.proofs.date_calls.ct_from_unix_time.Statement.{statement}
 use Rattle.capi.proofs.date_calls.ct_from_unix_time.Tie as tie

@@ -1,6 +1,6 @@
 -- `capi::date_calls::ct_julian_to_calendar` meets its contract. Assumes nothing.
-use Rattle.capi.specs.Fields.{calendarBytes}
-use Rattle.capi.proofs.Deliveries.{same-outcome}
+use Rattle.c_answers.specs.Fields.{calendarBytes}
+use Rattle.c_answers.proofs.Deliveries.{same-outcome}
 use borrow.Author.Needs.{needs}
 use Rattle.capi.proofs.date_calls.ct_julian_to_calendar.Statement.{statement}
 use Rattle.capi.proofs.date_calls.ct_julian_to_calendar.Tie as tie

@@ -1,8 +1,8 @@
 -- `capi::date_calls::put_calendar` meets its contract. Assumes nothing.
 use mathlib.Core.Path.{ap}
 use Rattle.julian.specs.Calendar.{calendarOutcome}
-use Rattle.capi.specs.Fields.{calendarBytes}
-use Rattle.capi.proofs.Deliveries.{answered, refused-on}
+use Rattle.c_answers.specs.Fields.{calendarBytes}
+use Rattle.c_answers.proofs.Deliveries.{answered, refused-on}
 use borrow.Author.Needs.{needs}
 use Rattle.capi.proofs.date_calls.put_calendar.Statement.{statement}
 use Rattle.capi.proofs.date_calls.put_calendar.Tie as tie

@@ -1,8 +1,8 @@
 -- `capi::date_calls::put_date` meets its contract. Assumes nothing.
 use mathlib.Core.Path.{ap}
 use Rattle.julian.specs.JulianDate.{julianOutcome}
-use Rattle.capi.specs.Fields.{julianBytes}
-use Rattle.capi.proofs.Deliveries.{answered, refused-on}
+use Rattle.c_answers.specs.Fields.{julianBytes}
+use Rattle.c_answers.proofs.Deliveries.{answered, refused-on}
 use borrow.Author.Needs.{needs}
 use Rattle.capi.proofs.date_calls.put_date.Statement.{statement}
 use Rattle.capi.proofs.date_calls.put_date.Tie as tie

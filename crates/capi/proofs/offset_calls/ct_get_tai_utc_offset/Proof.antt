@@ -4,8 +4,8 @@ use lib.IntN.{ℤ}
 use Rattle.calendar.proofs.Signs.{read-date}
 use Rattle.tai_utc.specs.Table.{fixed}
 use Rattle.tai_utc.specs.Offset.{taiUtcOffset}
-use Rattle.capi.specs.Fields.{floatBytes}
-use Rattle.capi.proofs.Deliveries.{same-outcome}
+use Rattle.c_answers.specs.Fields.{floatBytes}
+use Rattle.c_answers.proofs.Deliveries.{same-outcome}
 use borrow.Author.Needs.{needs}
 use Rattle.capi.proofs.offset_calls.ct_get_tai_utc_offset.Statement.{statement}
 use Rattle.capi.proofs.offset_calls.ct_get_tai_utc_offset.Tie as tie

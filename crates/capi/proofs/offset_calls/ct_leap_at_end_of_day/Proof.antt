@@ -3,8 +3,8 @@ use mathlib.Core.Path.{_∙_}
 use Rattle.calendar.proofs.Signs.{read-date}
 use Rattle.tai_utc.specs.Table.{fixed}
 use Rattle.tai_utc.specs.Leap.{leapAtEndOfDay}
-use Rattle.capi.specs.Fields.{floatBytes}
-use Rattle.capi.proofs.Deliveries.{same-outcome}
+use Rattle.c_answers.specs.Fields.{floatBytes}
+use Rattle.c_answers.proofs.Deliveries.{same-outcome}
 use borrow.Author.Needs.{needs}
 use Rattle.capi.proofs.offset_calls.ct_leap_at_end_of_day.Statement.{statement}
 use Rattle.capi.proofs.offset_calls.ct_leap_at_end_of_day.Tie as tie

@@ -1,8 +1,8 @@
 -- `capi::offset_calls::put_offset` meets its contract. Assumes nothing.
 use mathlib.Core.Path.{ap}
 use Rattle.tai_utc.specs.Answers.{offsetOutcome}
-use Rattle.capi.specs.Fields.{floatBytes}
-use Rattle.capi.proofs.Deliveries.{answered, refused-on}
+use Rattle.c_answers.specs.Fields.{floatBytes}
+use Rattle.c_answers.proofs.Deliveries.{answered, refused-on}
 use borrow.Author.Needs.{needs}
 use Rattle.capi.proofs.offset_calls.put_offset.Statement.{statement}
 use Rattle.capi.proofs.offset_calls.put_offset.Tie as tie

@@ -1,6 +1,6 @@
 -- `capi::scale_calls::ct_gps_to_tai` meets its contract. Assumes nothing.
-use Rattle.capi.specs.Fields.{julianBytes}
-use Rattle.capi.proofs.Deliveries.{same-outcome}
+use Rattle.c_answers.specs.Fields.{julianBytes}
+use Rattle.c_answers.proofs.Deliveries.{same-outcome}
 use borrow.Author.Needs.{needs}
 use Rattle.capi.proofs.scale_calls.ct_gps_to_tai.Statement.{statement}
 use Rattle.capi.proofs.scale_calls.ct_gps_to_tai.Tie as tie

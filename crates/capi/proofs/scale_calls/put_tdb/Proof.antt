@@ -1,8 +1,8 @@
 -- `capi::scale_calls::put_tdb` meets its contract. Assumes nothing.
 use mathlib.Core.Path.{ap}
 use Rattle.scales.specs.Scales.{tdbOutcome}
-use Rattle.capi.specs.Fields.{julianBytes}
-use Rattle.capi.proofs.Deliveries.{answered, refused-on}
+use Rattle.c_answers.specs.Fields.{julianBytes}
+use Rattle.c_answers.proofs.Deliveries.{answered, refused-on}
 use borrow.Author.Needs.{needs}
 use Rattle.capi.proofs.scale_calls.put_tdb.Statement.{statement}
 use Rattle.capi.proofs.scale_calls.put_tdb.Tie as tie

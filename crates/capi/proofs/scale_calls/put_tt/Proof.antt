@@ -1,8 +1,8 @@
 -- `capi::scale_calls::put_tt` meets its contract. Assumes nothing.
 use mathlib.Core.Path.{ap}
 use Rattle.scales.specs.Scales.{ttOutcome}
-use Rattle.capi.specs.Fields.{julianBytes}
-use Rattle.capi.proofs.Deliveries.{answered, refused-on}
+use Rattle.c_answers.specs.Fields.{julianBytes}
+use Rattle.c_answers.proofs.Deliveries.{answered, refused-on}
 use borrow.Author.Needs.{needs}
 use Rattle.capi.proofs.scale_calls.put_tt.Statement.{statement}
 use Rattle.capi.proofs.scale_calls.put_tt.Tie as tie

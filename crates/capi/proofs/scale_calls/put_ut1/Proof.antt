@@ -1,8 +1,8 @@
 -- `capi::scale_calls::put_ut1` meets its contract. Assumes nothing.
 use mathlib.Core.Path.{ap}
 use Rattle.scales.specs.Scales.{ut1Outcome}
-use Rattle.capi.specs.Fields.{julianBytes}
-use Rattle.capi.proofs.Deliveries.{answered, refused-on}
+use Rattle.c_answers.specs.Fields.{julianBytes}
+use Rattle.c_answers.proofs.Deliveries.{answered, refused-on}
 use borrow.Author.Needs.{needs}
 use Rattle.capi.proofs.scale_calls.put_ut1.Statement.{statement}
 use Rattle.capi.proofs.scale_calls.put_ut1.Tie as tie

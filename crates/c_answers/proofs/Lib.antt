@@ -1,0 +1,2 @@
+-- The laws of answers for C: a refusal's code, what is put into a buffer, and an outcome handed on to the caller.
+pub mod Deliveries

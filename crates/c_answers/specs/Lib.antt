@@ -1,0 +1,3 @@
+-- The definitions of how an answer reaches a C caller, and of its values as bytes.
+pub mod Delivery
+pub mod Fields

@@ -1,0 +1,26 @@
+// How an answer reaches a C caller: a code, and bytes at the start of a lent buffer.
+pub mod fields;
+
+ghost use mathlib.Core.Path.{_≡_};
+ghost use Prim.Native.Nat.{_≤_};
+ghost use lib.ListN.{length};
+ghost use Rattle.refusals.specs.Outcome.{answer, refusal};
+ghost use Rattle.c_answers.specs.Delivery.{code, Delivered};
+
+// Minus the refusal's number.
+pub fn refused(number: u32) -> i64
+    ensures { λ r. ⌜ r ≡ code (refusal number) ⌝ }
+{
+    0 - (number as i64)
+}
+
+// The number of bytes put; where they do not fit, 11 and nothing is written.
+pub(crate) fn put(all: &[u8], out: &mut [u8]) -> i64
+    requires { ⌜ length (now all) ≤ 32 ⌝ }
+    ensures { λ r. ⌜ Delivered (answer (now (all .entry))) (now (out .entry)) r (now (out .exit)) ⌝ }
+{
+    if out.len() < all.len() {
+        return refused(refusals::TEXT_LONGER_THAN_BUFFER);
+    }
+    bytes::copy(all, out) as i64
+}

@@ -1,0 +1,38 @@
+-- `capi::block_calls::ct_block_stamps` meets its contract. Assumes nothing.
+use Rattle.capi.proofs.ListingParts.{stamps-fit, stamps-are, block-refused}
+use borrow.Author.Needs.{needs}
+use Rattle.capi.proofs.block_calls.ct_block_stamps.Statement.{statement}
+use Rattle.capi.proofs.block_calls.ct_block_stamps.Tie as tie
+
+block-stamps-requires : tie.Need-block-stamps-requires
+block-stamps-requires c κs = search needs
+
+enum-known-n : tie.Need-enum-known-n
+enum-known-n c = search needs
+
+cast-result : tie.Need-cast-result
+cast-result c = stamps-fit _ (c .before .before .before .block-stamps .ensures) _ (c .before .n .given .1)
+
+enum-known-number : tie.Need-enum-known-number
+enum-known-number c = search needs
+
+refused-requires : tie.Need-refused-requires
+refused-requires c κs = search needs
+
+returns : tie.Need-returns
+returns c = stamps-are _ (c .before .before .before .block-stamps .ensures) _ (c .before .n .given .1)
+
+returns-2 : tie.Need-returns-2
+returns-2 c = block-refused _ (c .before .before .before .before .block-stamps .ensures) _ (c .refused .ok) (c .before .before .number .given .1) (c .refused .ensures)
+
+pub ct-block-stamps-spec : {M : Type 1} → statement M
+ct-block-stamps-spec =
+    tie.close
+    (tie.spec
+    block-stamps-requires
+    enum-known-n
+    cast-result
+    enum-known-number
+    refused-requires
+    returns
+    returns-2)

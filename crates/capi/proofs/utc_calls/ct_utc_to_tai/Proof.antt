@@ -1,0 +1,23 @@
+-- `capi::utc_calls::ct_utc_to_tai` meets its contract. Assumes nothing.
+use Rattle.c_answers.specs.Fields.{julianBytes}
+use Rattle.c_answers.proofs.Deliveries.{same-outcome}
+use borrow.Author.Needs.{needs}
+use Rattle.capi.proofs.utc_calls.ct_utc_to_tai.Statement.{statement}
+use Rattle.capi.proofs.utc_calls.ct_utc_to_tai.Tie as tie
+
+utc-to-tai-requires : tie.Need-utc-to-tai-requires
+utc-to-tai-requires c κs = search needs
+
+put-tai-requires : tie.Need-put-tai-requires
+put-tai-requires c κs = search needs
+
+same-length : tie.Need-same-length
+same-length c = search needs
+
+returns : tie.Need-returns
+returns c =
+    let p = c .before .before in
+    same-outcome julianBytes (p .put-tai .ok) (p .before .before .utc-to-tai .ensures) (p .put-tai .ensures)
+
+pub ct-utc-to-tai-spec : {M : Type 1} → statement M
+ct-utc-to-tai-spec = tie.close (tie.spec utc-to-tai-requires put-tai-requires same-length returns)

@@ -1,0 +1,45 @@
+-- `capi::utc_calls::put_utc` meets its contract. Assumes nothing.
+use mathlib.Core.Path.{ap}
+use Rattle.scales.specs.Scales.{utcOutcome}
+use Rattle.c_answers.specs.Fields.{julianBytes}
+use Rattle.c_answers.proofs.Deliveries.{answered, refused-on}
+use borrow.Author.Needs.{needs}
+use Rattle.capi.proofs.utc_calls.put_utc.Statement.{statement}
+use Rattle.capi.proofs.utc_calls.put_utc.Tie as tie
+
+enum-known-found : tie.Need-enum-known-found
+enum-known-found c = search needs
+
+put-julian-requires : tie.Need-put-julian-requires
+put-julian-requires c κs = search needs
+
+enum-known-found-2 : tie.Need-enum-known-found-2
+enum-known-found-2 c = search needs
+
+refused-requires : tie.Need-refused-requires
+refused-requires c κs = search needs
+
+same-length : tie.Need-same-length
+same-length c = search needs
+
+returns : tie.Need-returns
+unfolding utcOutcome
+returns c =
+    let p = c .before .before in
+    answered julianBytes (p .put-julian .ok) _ (ap utcOutcome (p .before .before .before .found .given .1)) (p .put-julian .ensures)
+
+returns-2 : tie.Need-returns-2
+unfolding utcOutcome
+returns-2 c = refused-on julianBytes (c .refused .ok) _ (ap utcOutcome (c .before .before .found2 .given .1)) (c .refused .ensures)
+
+pub put-utc-spec : {M : Type 1} → statement M
+put-utc-spec =
+    tie.close
+    (tie.spec
+    enum-known-found
+    put-julian-requires
+    enum-known-found-2
+    refused-requires
+    same-length
+    returns
+    returns-2)

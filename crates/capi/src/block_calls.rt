@@ -1,0 +1,30 @@
+// The stamp block: how many stamps it has, and its listing in parts.
+ghost use mathlib.Core.Path.{_≡_};
+ghost use lib.ListN.{length};
+ghost use Rattle.stamps.specs.Block.{blockOf};
+ghost use Rattle.c_answers.specs.Delivery.{code, Delivered};
+ghost use Rattle.capi.specs.ListingPart.{listingPart};
+use c_answers::refused;
+use stamps::BlockAnswer;
+
+#[no_mangle]
+pub extern "C" fn ct_block_stamps(block: &[u8]) -> i64
+    ensures { λ r. ⌜ r ≡ code (blockOf (now (block .entry))) ⌝ }
+{
+    match stamps::block_stamps(block) {
+        BlockAnswer::Stamps(n) => n as i64,
+        BlockAnswer::Refused(number) => refused(number),
+    }
+}
+
+#[no_mangle]
+pub extern "C" fn ct_listing_part(block: &[u8], line: u32, out: &mut [u8]) -> i64
+    ensures { λ r. ⌜ Delivered (listingPart (now (block .entry)) line (length (now (out .entry)))) (now (out .entry)) r (now (out .exit)) ⌝ }
+{
+    if out.len() < 33 {
+        return refused(refusals::TEXT_LONGER_THAN_BUFFER);
+    }
+    let part = stamps::next_part(block, line as usize, out);
+    let n = part.written;
+    n as i64
+}
