@@ -16,6 +16,10 @@
    other. Pass a real pointer with a length of 0, too. No call keeps a pointer,
    and none has a state: any number of threads may call.
 
+   The library assumes the processor's default float mode: round to nearest, and no
+   flush-to-zero. A program that is linked with -ffast-math sets flush-to-zero for the
+   whole process, which changes answers on subnormal parts.
+
    A date is two floats, jd1 and jd2: its exact sum is the Julian date in days.
    Every float is taken, NaN and the infinities too.
 
