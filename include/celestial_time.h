@@ -16,9 +16,14 @@
    other. Pass a real pointer with a length of 0, too. No call keeps a pointer,
    and none has a state: any number of threads may call.
 
-   The library assumes the processor's default float mode: round to nearest, and no
-   flush-to-zero. A program that is linked with -ffast-math sets flush-to-zero for the
-   whole process, which changes answers on subnormal parts.
+   The library assumes the processor's default float mode: round to nearest, subnormal
+   numbers neither flushed to zero as results nor read as zero. A viewer asks
+   ct_float_mode, at the end of this file, at its start. A program that is linked with
+   -ffast-math or -Ofast, or loads a library that was, starts in another mode: gcc and
+   clang then link crtfastmath.o. That changes answers on subnormal numbers, and accepts
+   a subnormal second or fraction below 0; a NaN or an infinity is refused all the same.
+   Compile with these options if you must, and link without them. The compiler drops a
+   viewer's own isnan with them, so leave that test to the calls.
 
    A date is two floats, jd1 and jd2: its exact sum is the Julian date in days.
    Every float is taken, NaN and the infinities too.
@@ -45,6 +50,7 @@
 
 #include <stddef.h>
 #include <stdint.h>
+#include <string.h>
 
 #ifdef __cplusplus
 extern "C" {
@@ -173,6 +179,80 @@ int64_t ct_block_stamps(const uint8_t *block, size_t block_len);
    plus the line ends (byte 10) in this one. Refuses 11 only, where out_len is below 33. */
 int64_t ct_listing_part(const uint8_t *block, size_t block_len, uint32_t line, uint8_t *out,
                         size_t out_len);
+
+/* ---- Reading bytes: these and ct_float_mode are compiled with the viewer, not in the archive */
+
+/* The float whose 8 bytes begin at `bytes`: a part in a block, or a field of an answer. A NaN
+   keeps its bits. */
+static inline double ct_float_at(const uint8_t *bytes)
+{
+    uint64_t pattern = 0;
+    double x;
+    int i;
+    for (i = 7; i >= 0; i--) pattern = pattern << 8 | bytes[i];
+    memcpy(&x, &pattern, sizeof x);
+    return x;
+}
+
+/* The year, month or day whose 4 bytes begin at `bytes`. */
+static inline int32_t ct_int_at(const uint8_t *bytes)
+{
+    uint32_t pattern = 0;
+    int32_t n;
+    int i;
+    for (i = 3; i >= 0; i--) pattern = pattern << 8 | bytes[i];
+    memcpy(&n, &pattern, sizeof n);
+    return n;
+}
+
+/* ---- Float mode */
+
+enum {
+    CT_MODE_ROUNDING = 1, /* sums are not rounded to nearest, ties to even */
+    CT_MODE_RESULTS = 2,  /* subnormal results are flushed to zero */
+    CT_MODE_OPERANDS = 4  /* subnormal operands are read as zero */
+};
+
+/* A float that the compiler can't know, and the bits of one that it can't foresee: what lies
+   between is computed when the program runs, with -ffast-math too. */
+static inline double ct_opaque_float(uint64_t pattern)
+{
+    volatile uint64_t kept = pattern;
+    uint64_t loaded = kept;
+    double x;
+    memcpy(&x, &loaded, sizeof x);
+    return x;
+}
+
+static inline uint64_t ct_opaque_bits(double x)
+{
+    volatile double kept = x;
+    double loaded = kept;
+    uint64_t pattern;
+    memcpy(&pattern, &loaded, sizeof pattern);
+    return pattern;
+}
+
+/* 0 where the calling thread's float mode is as the library assumes, else the sum of the
+   CT_MODE_ numbers above. A thread has the mode of the one that started it. Where a program
+   can't be linked otherwise, fesetenv(FE_DFL_ENV) of <fenv.h> sets the default mode. */
+static inline int ct_float_mode(void)
+{
+    double one = ct_opaque_float(0x3ff0000000000000);
+    double half_place = ct_opaque_float(0x3ca0000000000000);         /* 2^-53 */
+    double three_quarters = ct_opaque_float(0x3ca8000000000000);     /* 3 * 2^-54 */
+    double smallest_normal = ct_opaque_float(0x0010000000000000);    /* 2^-1022 */
+    double smallest = ct_opaque_float(0x0000000000000001);           /* 2^-1074 */
+    double half = ct_opaque_float(0x3fe0000000000000);
+    double large = ct_opaque_float(0x4330000000000000);              /* 2^52 */
+    int mode = 0;
+    if (ct_opaque_bits(one + half_place) != 0x3ff0000000000000 ||
+        ct_opaque_bits(one + three_quarters) != 0x3ff0000000000001)
+        mode |= CT_MODE_ROUNDING;
+    if (ct_opaque_bits(smallest_normal * half) != 0x0008000000000000) mode |= CT_MODE_RESULTS;
+    if (ct_opaque_bits(smallest * large) != 0x0010000000000000) mode |= CT_MODE_OPERANDS;
+    return mode;
+}
 
 #ifdef __cplusplus
 }

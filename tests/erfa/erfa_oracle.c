@@ -12,42 +12,13 @@
    - parts from 2^52 up in the calls that ask ERFA for the day after, which it
      finds by adding 1.5 to a part: that sum is rounded there.
    ERFA's warnings "dubious year" (status 1) count as an answer. */
+#include "../inputs/filter.h"
 #include <erfa.h>
 #include <erfam.h>
 #include <math.h>
-#include <stdint.h>
-#include <stdio.h>
-#include <string.h>
-
-enum { NONE = 255, ROOM = 32 };
 
 static const double LOW = -68569.5, HIGH = 1e9;
 static const double CAST_LIMIT = 0x1p63, NEXT_DAY_LIMIT = 0x1p52;
-
-typedef struct { uint64_t word[8]; } record;
-
-static double f(const record *r, int i)
-{
-    double x;
-    memcpy(&x, &r->word[i + 1], 8);
-    return x;
-}
-
-static int64_t n(const record *r, int i) { return (int64_t)r->word[i + 1]; }
-
-static uint64_t bits(double x)
-{
-    uint64_t b;
-    if (isnan(x)) return 0x7ff8000000000000u;
-    memcpy(&b, &x, 8);
-    return b;
-}
-
-static record refused(int number) { return (record){{number}}; }
-static record none(void) { return refused(NONE); }
-static record one(double x) { return (record){{0, bits(x)}}; }
-static record two(double x, double y) { return (record){{0, bits(x), bits(y)}}; }
-static record whole(int64_t x) { return (record){{0, (uint64_t)x}}; }
 
 static record fields(int year, int month, int day)
 {
@@ -100,7 +71,7 @@ static record to_calendar(double jd1, double jd2)
     if (!castable(jd1) || !castable(jd2)) return none();
     if (eraJd2cal(jd1, jd2, &iy, &im, &id, &fraction)) return refused(6);
     record r = fields(iy, im, id);
-    r.word[4] = bits(fraction);
+    r.word[4] = shown(fraction);
     return r;
 }
 
@@ -282,7 +253,7 @@ static record text(double jd1, double jd2, int64_t room)
 {
     int iy, im, id, t[4];
     char line[64], buffer[ROOM];
-    memset(buffer, 0xaa, ROOM);
+    memset(buffer, UNTOUCHED, ROOM);
     if (!next_day_known(jd1, jd2)) return none();
     if (eraD2dtf("UTC", 3, jd1, jd2, &iy, &im, &id, t) < 0)
         return text_record(utc_refusal(jd1, jd2), 0, buffer);
@@ -381,23 +352,4 @@ static record utc(int call, const record *r)
     return none();
 }
 
-static record answer(const record *r)
-{
-    int call = (int)r->word[0];
-    if (call < 20) return floats(call, f(r, 0));
-    if (call < 40) return calendar(call, r);
-    if (call < 60) return julian(call, r);
-    if (call < 80) return tai_utc(call, r);
-    if (call < 120) return scales(call, r);
-    return utc(call, r);
-}
-
-int main(void)
-{
-    record r;
-    while (fread(&r, sizeof r, 1, stdin) == 1) {
-        record a = answer(&r);
-        if (fwrite(&a, sizeof a, 1, stdout) != 1) return 1;
-    }
-    return fflush(stdout) != 0;
-}
+int main(void) { return run_filter(); }

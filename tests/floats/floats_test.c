@@ -1,13 +1,13 @@
 /* Compares every function of the crate floats with the C library, bit for bit; any NaN counts as any other.
      floats_test [millions of patterns by chance]
    Exit status 1 if anything differs. */
+#include "../inputs/chance.h"
+#include "../inputs/record.h"
 #include <inttypes.h>
 #include <math.h>
 #include <stdbool.h>
-#include <stdint.h>
 #include <stdio.h>
 #include <stdlib.h>
-#include <string.h>
 
 double ct_fabs(double x);
 double ct_trunc(double x);
@@ -21,22 +21,6 @@ double ct_from_bits(uint64_t n);
 uint64_t ct_to_bits(double x);
 
 static uint64_t patterns, differences;
-
-static uint64_t bits(double x)
-{
-    uint64_t b;
-    memcpy(&b, &x, 8);
-    return b;
-}
-static double of_bits(uint64_t b)
-{
-    double x;
-    memcpy(&x, &b, 8);
-    return x;
-}
-
-/* The bits, and one pattern for every NaN. */
-static uint64_t shown(double x) { return isnan(x) ? 0x7ff8000000000000u : bits(x); }
 
 static void same(const char *name, uint64_t pattern, uint64_t wanted, uint64_t answer)
 {
@@ -64,7 +48,7 @@ static int64_t saturating_i64(double x)
 
 static void try(uint64_t pattern)
 {
-    double x = of_bits(pattern);
+    double x = from_bits(pattern);
     patterns++;
     same("fabs", pattern, shown(fabs(x)), shown(ct_fabs(x)));
     same("trunc", pattern, shown(trunc(x)), shown(ct_trunc(x)));
@@ -88,17 +72,6 @@ static void around(double x)
     }
 }
 
-static uint64_t state = 1;
-
-/* splitmix64 */
-static uint64_t next(void)
-{
-    uint64_t z = (state += 0x9e3779b97f4a7c15u);
-    z = (z ^ (z >> 30)) * 0xbf58476d1ce4e5b9u;
-    z = (z ^ (z >> 27)) * 0x94d049bb133111ebu;
-    return z ^ (z >> 31);
-}
-
 int main(int count, char **words)
 {
     uint64_t millions = count > 1 ? strtoull(words[1], NULL, 10) : 12;
@@ -117,7 +90,10 @@ int main(int count, char **words)
 
     /* Whole numbers, halves, quarters and their neighbours, small and by chance up to 2^54. */
     for (int i = 0; i < 100000; i++) around(i / 8.0);
-    for (int i = 0; i < 400000; i++) around((double)(next() >> (10 + next() % 54)) / (double)(1 << next() % 4));
+    for (int i = 0; i < 400000; i++) {
+        uint64_t digits = next() >> 10, shift = below(54), divisor = (uint64_t)1 << below(4);
+        around((double)(digits >> shift) / (double)divisor);
+    }
     around(0x1p52);
     around(0x1p53);
     around(0x1p63);

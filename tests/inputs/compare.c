@@ -9,10 +9,10 @@
 #include <string.h>
 
 #include "calls.h"
+#include "record.h"
 
 enum { NONE = 255, CHUNK = 1024, HIGHEST = 256 };
 
-typedef struct { uint64_t word[8]; } record;
 typedef struct { long inputs, compared, left_out, refused, differ; } tally;
 
 static tally tallies[HIGHEST];
@@ -21,12 +21,10 @@ static void print_words(const char *head, const record *r, int from)
 {
     printf("    %s", head);
     for (int i = from; i < 8; i++) {
-        double x;
-        memcpy(&x, &r->word[i], 8);
         printf(" %016llx", (unsigned long long)r->word[i]);
         int64_t whole = (int64_t)r->word[i];
         if (-10000000000 < whole && whole < 10000000000) printf("=%lld", (long long)whole);
-        else printf("=%.17g", x);
+        else printf("=%.17g", from_bits(r->word[i]));
     }
     printf("\n");
 }

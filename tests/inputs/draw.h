@@ -1,41 +1,16 @@
 /* Values by chance: floats, dates in two parts, calendar fields, Unix times. */
 #include <math.h>
 #include <stdint.h>
-#include <string.h>
 
+#include "chance.h"
 #include "edges.h"
+#include "record.h"
 
-static uint64_t state;
-
-/* splitmix64: small, well mixed, the same everywhere. No expression below draws
-   twice, since C leaves open which of two draws comes first. */
-static uint64_t next(void)
-{
-    uint64_t z = (state += 0x9e3779b97f4a7c15u);
-    z = (z ^ (z >> 30)) * 0xbf58476d1ce4e5b9u;
-    z = (z ^ (z >> 27)) * 0x94d049bb133111ebu;
-    return z ^ (z >> 31);
-}
-
-static uint64_t below(uint64_t limit) { return next() % limit; }
 static int64_t between(int64_t low, int64_t high)
 {
     return low + (int64_t)below((uint64_t)(high - low) + 1);
 }
 static double unit(void) { return (double)(next() >> 11) * 0x1p-53; }
-
-static uint64_t bits(double x)
-{
-    uint64_t b;
-    memcpy(&b, &x, 8);
-    return b;
-}
-static double from_bits(uint64_t b)
-{
-    double x;
-    memcpy(&x, &b, 8);
-    return x;
-}
 
 /* The float `steps` places away. */
 static double nudge(double x, int64_t steps)

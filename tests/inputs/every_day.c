@@ -7,10 +7,9 @@
      60  each date from 1959 to 2030, at 0h, 12h and 24h
      62  each date from 1959 to 2030
    Dates are counted on from -4900-03-01, which is day -68569. */
-#include <stdint.h>
+#include "record.h"
 #include <stdio.h>
 #include <stdlib.h>
-#include <string.h>
 
 enum { FIRST = -68569, LAST = 3000000 };
 
@@ -36,13 +35,6 @@ static date next(date d)
 static void put(const uint64_t *request)
 {
     if (fwrite(request, 64, 1, stdout) != 1) exit(1);
-}
-
-static uint64_t bits(double x)
-{
-    uint64_t n;
-    memcpy(&n, &x, 8);
-    return n;
 }
 
 static void ask(int call, int number, date d)

@@ -12,8 +12,6 @@
 #include "calls.h"
 #include "draw.h"
 
-typedef struct { uint64_t word[8]; } record;
-
 static int put_date(uint64_t *to, pair p)
 {
     to[0] = bits(p.jd1);

@@ -6,11 +6,9 @@
    few, where it must say 11 or what it refuses anyway, and then with its own
    size. Bytes that it must leave are looked at both times; the filter stops
    with status 3 where one has changed. */
+#include "../inputs/filter.h"
 #include "celestial_time.h"
-#include <stdint.h>
-#include <stdio.h>
 #include <stdlib.h>
-#include <string.h>
 
 /* tests/floats says what these are; the archive of the crate floats_c has them */
 double ct_floor(double), ct_ceil(double), ct_trunc(double), ct_round(double);
@@ -18,33 +16,10 @@ double ct_fabs(double), ct_nearest_int(double);
 _Bool ct_is_finite(double);
 int64_t ct_saturating_i64(double);
 
-enum { NONE = 255, UNTOUCHED = 0xaa, SPARE = 8, ROOM = 32 };
-
-typedef struct { uint64_t word[8]; } record;
-
-static double f(const record *r, int i)
-{
-    double x;
-    memcpy(&x, &r->word[i + 1], 8);
-    return x;
-}
-
-static int64_t n(const record *r, int i) { return (int64_t)r->word[i + 1]; }
-
-static uint64_t bits(double x)
-{
-    uint64_t b;
-    if (x != x) return 0x7ff8000000000000u;
-    memcpy(&b, &x, 8);
-    return b;
-}
-
-static record refused(int64_t number) { return (record){{(uint64_t)number}}; }
-static record none(void) { return refused(NONE); }
-static record one(double x) { return (record){{0, bits(x)}}; }
+enum { SPARE = 8 };
 
 /* A code: a value, or minus the refusal's number. */
-static record coded(int64_t code) { return code < 0 ? refused(-code) : (record){{0, (uint64_t)code}}; }
+static record coded(int64_t code) { return code < 0 ? refused(-code) : whole(code); }
 
 /* ---- the lent buffer */
 
@@ -134,7 +109,7 @@ static record floats(int call, double x)
     case 4: return one(ct_round(x));
     case 5: return one(ct_fabs(x));
     case 6: return coded(ct_is_finite(x));
-    case 7: return (record){{0, (uint64_t)ct_saturating_i64(x)}};
+    case 7: return whole(ct_saturating_i64(x));
     case 8: return one(ct_nearest_int(x));
     }
     return none();
@@ -212,7 +187,7 @@ static record text(double jd1, double jd2, size_t room)
     uint8_t *out = lent();
     int64_t code = ct_to_iso8601(jd1, jd2, out, room);
     must_stand(code < 0 ? 0 : (size_t)code, "ct_to_iso8601");
-    record r = code < 0 ? refused(-code) : (record){{0, (uint64_t)code}};
+    record r = coded(code);
     for (int i = 0; i < 4; i++) r.word[2 + i] = read_bits((size_t)(8 * i));
     return r;
 }
@@ -234,23 +209,4 @@ static record utc(int call, const record *r)
     return none();
 }
 
-static record answer(const record *r)
-{
-    int call = (int)r->word[0];
-    if (call < 20) return floats(call, f(r, 0));
-    if (call < 40) return calendar(call, r);
-    if (call < 60) return julian(call, r);
-    if (call < 80) return tai_utc(call, r);
-    if (call < 120) return scales(call, r);
-    return utc(call, r);
-}
-
-int main(void)
-{
-    record request;
-    while (fread(&request, sizeof request, 1, stdin) == 1) {
-        record r = answer(&request);
-        if (fwrite(&r, sizeof r, 1, stdout) != 1) return 2;
-    }
-    return 0;
-}
+int main(void) { return run_filter(); }

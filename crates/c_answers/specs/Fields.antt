@@ -2,7 +2,6 @@
 -- 7ff8000000000000; year, month and day as 4 bytes each, in two's complement. Assumes nothing.
 use Prim.Native.Nat.{ℕ, _/_, _%_}
 use mathlib.Core.List.{List, [], _∷_, _++_}
-use lib.IntN.{ℤ}
 use lib.Ieee.{Float, binary64, toBits}
 use Rattle.little_endian.specs.LittleEndian.{eightBytes, patternOf}
 use Rattle.calendar.specs.declared.CalendarDate.{CalendarDate}

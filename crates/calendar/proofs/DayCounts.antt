@@ -79,7 +79,7 @@ module _ (y d : ℕ) (h : 1 ≤ y) (l : 1 ≤ d) where
 pub count-of-date : (y : ℕ) (year : ℤ) (m d : ℕ) → pos y ≡ year +ℤ pos 4800 → 1 ≤ y → 1 ≤ m → m ≤ 12 → 1 ≤ d → d ≤ lengths (leap year) m → (subℕ (civilCount y m d) 2432076 ≡ subℕ (civilCount y m d + 146066) 2578142) × (dateAt (civilCount y m d + 146066) ≡ date year m d)
 count-of-date y year m d e h a b l g = (
   sym (sub-shift (civilCount y m d) 2432076 146066),
-  count-right y d h l m a b (subst (λ (t : Bool). d ≤ lengths t m) (ap leap (sym is ∙ sym (sub-shift y 4800 400)) ∙ leap-same (y + 400)) g)
+  (count-right y d h l m a b (subst (λ (t : Bool). d ≤ lengths t m) (ap leap (sym is ∙ sym (sub-shift y 4800 400)) ∙ leap-same (y + 400)) g))
       ∙ ap (λ (z : ℤ). date z m d) is,
 )
   where

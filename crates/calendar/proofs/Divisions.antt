@@ -199,6 +199,5 @@ module _ (l n a i b k : ℕ) (en : n ≡ 4 * l / 146097) (ea : a ≡ l - century
   good = month-good (100 * n + i + 300) b k b-least b-most p q
 
   pub counts : daysBefore (100 * n + i + 300) k (b - 2447 * k / 80) ≡ l + 109572
-  counts =
-      d-sum (daysBefore (100 * n + i + 300) k (b - 2447 * k / 80)) (daysBeforeYear (100 * n + i + 300)) (367 * k / 12) (b - 2447 * k / 80) b l
+  counts = d-sum (daysBefore (100 * n + i + 300) k (b - 2447 * k / 80)) (daysBeforeYear (100 * n + i + 300)) (367 * k / 12) (b - 2447 * k / 80) b l
       (before-is (100 * n + i + 300) k (b - 2447 * k / 80) (good .m-low) (good .d-low)) (month-sum (100 * n + i + 300) b k b-least b-most p q) b-is

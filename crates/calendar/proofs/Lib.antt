@@ -13,4 +13,3 @@ pub mod Gregorian
 pub mod DayCounts
 pub mod Mjd
 pub mod NextDates
-pub mod Cases

@@ -238,7 +238,7 @@ next-ok t v = go (ltb (t .d) (marchLength (t .y) (t .m))) refl (ltb (t .m) 12) r
         d-low = omega arith;
         d-high = ltb-suc (t .d) (marchLength (t .y) (t .m)) p;
       },
-      step-day (t .y) (t .m) (t .d) (v .m-low) (v .d-low),
+      (step-day (t .y) (t .m) (t .d) (v .m-low) (v .d-low)),
     )
     go false p true q =
         let h : t .m < 12 = ltb-true _ _ q in
@@ -249,7 +249,7 @@ next-ok t v = go (ltb (t .d) (marchLength (t .y) (t .m))) refl (ltb (t .m) 12) r
             d-low = omega arith;
             d-high = length-positive (t .y) (t .m + 1) (omega arith) (omega arith);
           },
-          step-month (t .y) (t .m) (v .m-low) h (omega (arith, v .d-low, v .d-high)) ∙ ap (λ (x : ℕ). daysBefore (t .y) (t .m) x + 1) (sym e),
+          (step-month (t .y) (t .m) (v .m-low) h (omega (arith, v .d-low, v .d-high))) ∙ ap (λ (x : ℕ). daysBefore (t .y) (t .m) x + 1) (sym e),
         )
     go false p false q =
         let f : t .m ≡ 12 = omega (arith, ltb-false (t .m) 12 q, v .m-high) in
@@ -260,7 +260,7 @@ next-ok t v = go (ltb (t .d) (marchLength (t .y) (t .m))) refl (ltb (t .m) 12) r
             d-low = omega arith;
             d-high = length-positive (t .y + 1) 1 (omega arith) (omega arith);
           },
-          step-year (t .y) ∙ sym (ap (λ (x : ℕ). daysBefore (t .y) (t .m) x + 1) e ∙ ap (λ (x : ℕ). daysBefore (t .y) x (marchLength (t .y) x) + 1) f),
+          (step-year (t .y)) ∙ sym (ap (λ (x : ℕ). daysBefore (t .y) (t .m) x + 1) e ∙ ap (λ (x : ℕ). daysBefore (t .y) x (marchLength (t .y) x) + 1) f),
         )
 
 unfoldable pub marchAt : ℕ → MarchDate
@@ -282,5 +282,4 @@ march-at (suc k) =
 -- a valid date with count k is the date of day k
 pub is-march-at : (t : MarchDate) → IsValid t → t ≡ marchAt (count t)
 is-march-at t v =
-    let h = march-at (count t) in
-    one-count t (marchAt (count t)) v (h .0) (sym (h .1))
+    let h = march-at (count t) in one-count t (marchAt (count t)) v (h .0) (sym (h .1))

@@ -75,8 +75,7 @@ module _ (f : ℕ → CalendarDate) (good : (k : ℕ) → InCalendar (f k)) (ste
       more x y = omega arith
 
       below : (k : ℕ) → f (suc k) ≡ dateAt (suc k) → f k ≡ dateAt k
-      below k p =
-          one-before (f k) (dateAt k) (next (dateAt k)) (good k) (date-at-in-calendar k)
+      below k p = one-before (f k) (dateAt k) (next (dateAt k)) (good k) (date-at-in-calendar k)
           (subst (λ (w : CalendarDate). Steps (f k) w) (sym (step k) ∙ p ∙ after k) (steps (f k) (good k)))
           (steps (dateAt k) (date-at-in-calendar k))
 

@@ -163,8 +163,7 @@ pub record InRange (t : CalendarDate) : Type 0 where
 
 -- THE RANGE of the date of any day number
 pub gregorian-in-range : (n : ℤ) → InRange (gregorianDate n)
-gregorian-in-range =
-    each-date (λ t. InRange t)
+gregorian-in-range = each-date (λ t. InRange t)
     (record { year-low = refl; year-high = refl; month-low = omega arith; month-high = omega arith; day-low = omega arith; day-high = omega arith })
     (λ k l h.
     let g = date-at-in-calendar k in

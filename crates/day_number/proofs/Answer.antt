@@ -30,12 +30,3 @@ answer-is x y d = go (accepted x y)
     go : (b : Bool) → cond b (answer (dayOf x y)) (refusal 6) ≡ answer d → (b ≡ true) × (dayOf x y ≡ d)
     go true e = (refl, cc)
     go false e = let w : _≡_ {A = ℕ} 0 1 = cc in let z : ⊥ = omega arith in absurd z
-
--- a refusal is 6, that of a pair that is not accepted
-pub refusal-is : (x y : Float) (n : ℕ) → dayNumberAndFraction x y ≡ refusal n → (accepted x y ≡ false) × (n ≡ 6)
-unfolding dayNumberAndFraction
-refusal-is x y n = go (accepted x y)
-  where
-    go : (b : Bool) → cond b (answer (dayOf x y)) (refusal 6) ≡ refusal n → (b ≡ false) × (n ≡ 6)
-    go false e = (refl, cc)
-    go true e = let w : _≡_ {A = ℕ} 0 1 = cc in let z : ⊥ = omega arith in absurd z

@@ -159,8 +159,8 @@ module _ (s k : Float) (p n a b : ℕ) (vs : Val s p n L) (vk : Val k a b L) (k1
   borrowed-near test =
       let low : p + a < n + b + 2 * W = small test in
       let z = law1 s k p n a b (omega (arith, L-W, W-pos)) (omega (arith, L-W, W-pos)) vs vk in
-      let s3 = law2 s c-one p n L 0 (omega (arith, L-W, W-pos)) (omega (arith, L-W, W-pos)) vs one-L in
-      borrow-of s (add binary64 s k) p n a b (s3 .p) (s3 .n) vs z (s3 .val) k1 k2 (plain (s3 .p) (s3 .n) (s3 .over)) (plain' (s3 .p) (s3 .n) (s3 .under)) (omega (arith, W-pos)) s2
+      let s3 = law2 s c-one p n L 0 (omega (arith, L-W, W-pos)) (omega (arith, L-W, W-pos)) vs one-L
+      in borrow-of s (add binary64 s k) p n a b (s3 .p) (s3 .n) vs z (s3 .val) k1 k2 (plain (s3 .p) (s3 .n) (s3 .over)) (plain' (s3 .p) (s3 .n) (s3 .under)) (omega (arith, W-pos)) s2
     where
       plain : (x y : ℕ) → x + (n + 0) ≤ y + (p + L) + 2 * W → x + n ≤ y + (p + L) + 2 * W
       plain x y h = omega arith

@@ -9,7 +9,9 @@ use mir.ValLaws.{toZ-ofZ}
 use lib.Ieee.{Float, binary64, sub, fits, toSigned}
 use Rattle.rounding.proofs.Casts.{plusZ, minusZ}
 use Rattle.rounding.proofs.Ints.{Int, int-own, int-add, int-sub}
+use Rattle.floats.specs.declared.NearestWhole.{NearestWhole}
 use Rattle.floats.specs.Whole.{nearestInt}
+use Rattle.floats.specs.NearestWhole.{nearestWhole}
 use Rattle.day_number.specs.declared.Summed.{Summed}
 use Rattle.day_number.specs.declared.Normalized.{Normalized}
 use Rattle.day_number.specs.declared.DayNumber.{DayNumber}
@@ -31,11 +33,11 @@ number-is x y up more down e f g =
     ∙ ap (λ (z : ℕ). total (nearestInt x) (nearestInt y) up more z) g
 
 -- ---- the code
-module _ (x y : Float) (fx : T (fits binary64 x)) (fy : T (fits binary64 y)) (acc : accepted x y ≡ true) (a b : Float) (ea : a ≡ nearestInt x) (eb : b ≡ nearestInt y)
-    (k : Summed) (ek : k ≡ sumFractions (sub binary64 x a) (sub binary64 y b)) (f : Normalized) (ef : f ≡ normalizeFraction (k .kahan)) (i j : ℤ) (ei : i ≡ toSigned 63 a) (ej : j ≡ toSigned 63 b) where
+module _ (x y : Float) (fx : T (fits binary64 x)) (fy : T (fits binary64 y)) (acc : accepted x y ≡ true) (a b : NearestWhole) (ea : a ≡ nearestWhole x) (eb : b ≡ nearestWhole y)
+    (k : Summed) (ek : k ≡ sumFractions (sub binary64 x (a .value)) (sub binary64 y (b .value))) (f : Normalized) (ef : f ≡ normalizeFraction (k .kahan)) where
   ek' : k ≡ sumFractions (rest x) (rest y)
-  unfolding rest
-  ek' = ek ∙ ap (λ (z : Float). sumFractions (sub binary64 x z) (sub binary64 y b)) ea ∙ ap (λ (z : Float). sumFractions (rest x) (sub binary64 y z)) eb
+  unfolding rest nearestWhole
+  ek' = ek ∙ ap (λ (z : NearestWhole). sumFractions (sub binary64 x (z .value)) (sub binary64 y (b .value))) ea ∙ ap (λ (z : NearestWhole). sumFractions (rest x) (sub binary64 y (z .value))) eb
 
   ef' : f ≡ split (rest x) (rest y)
   unfolding split
@@ -47,11 +49,13 @@ module _ (x y : Float) (fx : T (fits binary64 x)) (fy : T (fits binary64 y)) (ac
   h : Sums (toSigned 63 (nearestInt x)) (toSigned 63 (nearestInt y)) (o .up) (o .more) (o .down)
   h = o .ints
 
-  ei' : R i ≡ toSigned 63 (nearestInt x)
-  ei' = ap R (ei ∙ ap (toSigned 63) ea) ∙ read-a (toSigned 63 (nearestInt x)) (toSigned 63 (nearestInt y)) (o .up) (o .more) (o .down) h
+  ei' : R (a .number) ≡ toSigned 63 (nearestInt x)
+  unfolding nearestWhole
+  ei' = ap (λ (z : NearestWhole). R (z .number)) ea ∙ read-a (toSigned 63 (nearestInt x)) (toSigned 63 (nearestInt y)) (o .up) (o .more) (o .down) h
 
-  ej' : R j ≡ toSigned 63 (nearestInt y)
-  ej' = ap R (ej ∙ ap (toSigned 63) eb) ∙ read-b (toSigned 63 (nearestInt x)) (toSigned 63 (nearestInt y)) (o .up) (o .more) (o .down) h
+  ej' : R (b .number) ≡ toSigned 63 (nearestInt y)
+  unfolding nearestWhole
+  ej' = ap (λ (z : NearestWhole). R (z .number)) eb ∙ read-b (toSigned 63 (nearestInt x)) (toSigned 63 (nearestInt y)) (o .up) (o .more) (o .down) h
 
   eu' : k .carry ≡ o .up
   eu' = ap (λ (z : Summed). z .carry) ek' ∙ o .carry
@@ -62,17 +66,17 @@ module _ (x y : Float) (fx : T (fits binary64 x)) (fy : T (fits binary64 y)) (ac
   ed' : f .borrow ≡ o .down
   ed' = ap (λ (z : Normalized). z .borrow) ef' ∙ o .borrow
 
-  pub asks : Sums (R i) (R j) (k .carry) (f .carry) (f .borrow)
+  pub asks : Sums (R (a .number)) (R (b .number)) (k .carry) (f .carry) (f .borrow)
   asks =
-      subst (λ (z : ℤ). Sums z (R j) (k .carry) (f .carry) (f .borrow)) (sym ei')
+      subst (λ (z : ℤ). Sums z (R (b .number)) (k .carry) (f .carry) (f .borrow)) (sym ei')
       (subst (λ (z : ℤ). Sums (toSigned 63 (nearestInt x)) z (k .carry) (f .carry) (f .borrow)) (sym ej')
       (subst (λ (z : ℕ). Sums (toSigned 63 (nearestInt x)) (toSigned 63 (nearestInt y)) z (f .carry) (f .borrow)) (sym eu')
       (subst (λ (z : ℕ). Sums (toSigned 63 (nearestInt x)) (toSigned 63 (nearestInt y)) (o .up) z (f .borrow)) (sym em')
       (subst (λ (z : ℕ). Sums (toSigned 63 (nearestInt x)) (toSigned 63 (nearestInt y)) (o .up) (o .more) z) (sym ed') h))))
 
-  number : (d : ℤ) → d ≡ R i +ℤ R j +ℤ pos (k .carry) +ℤ (pos (f .carry) -ℤ pos (f .borrow)) → R d ≡ dayNumber x y
+  number : (d : ℤ) → d ≡ R (a .number) +ℤ R (b .number) +ℤ pos (k .carry) +ℤ (pos (f .carry) -ℤ pos (f .borrow)) → R d ≡ dayNumber x y
   number d e =
-      ap R (e ∙ ap (λ (z : ℤ). z +ℤ R j +ℤ pos (k .carry) +ℤ (pos (f .carry) -ℤ pos (f .borrow))) ei' ∙ ap (λ (z : ℤ). toSigned 63 (nearestInt x) +ℤ z +ℤ pos (k .carry) +ℤ (pos (f .carry) -ℤ pos (f .borrow))) ej'
+      ap R (e ∙ ap (λ (z : ℤ). z +ℤ R (b .number) +ℤ pos (k .carry) +ℤ (pos (f .carry) -ℤ pos (f .borrow))) ei' ∙ ap (λ (z : ℤ). toSigned 63 (nearestInt x) +ℤ z +ℤ pos (k .carry) +ℤ (pos (f .carry) -ℤ pos (f .borrow))) ej'
       ∙ ap (λ (z : ℕ). total (nearestInt x) (nearestInt y) z (f .carry) (f .borrow)) eu' ∙ ap (λ (z : ℕ). total (nearestInt x) (nearestInt y) (o .up) z (f .borrow)) em' ∙ ap (λ (z : ℕ). total (nearestInt x) (nearestInt y) (o .up) (o .more) z) ed')
       ∙ toZ-ofZ w64 _ (s4 (toSigned 63 (nearestInt x)) (toSigned 63 (nearestInt y)) (o .up) (o .more) (o .down) h)
       ∙ sym (number-is x y (o .up) (o .more) (o .down) (o .carry) (o .again) (o .borrow))
@@ -81,6 +85,6 @@ module _ (x y : Float) (fx : T (fits binary64 x)) (fy : T (fits binary64 y)) (ac
   unfolding dayFraction
   part = ap (λ (z : Normalized). z .fraction) ef'
 
-  pub gives : (d : ℤ) → d ≡ R i +ℤ R j +ℤ pos (k .carry) +ℤ (pos (f .carry) -ℤ pos (f .borrow)) → _≡_ {A = DayNumber} (record { day = R d; fraction = f .fraction }) (dayOf x y)
+  pub gives : (d : ℤ) → d ≡ R (a .number) +ℤ R (b .number) +ℤ pos (k .carry) +ℤ (pos (f .carry) -ℤ pos (f .borrow)) → _≡_ {A = DayNumber} (record { day = R d; fraction = f .fraction }) (dayOf x y)
   unfolding dayOf
   gives d e = ap (λ (z : ℤ). record { day = z; fraction = f .fraction }) (number d e) ∙ ap (λ (z : Float). record { day = dayNumber x y; fraction = z }) part

@@ -1,7 +1,7 @@
 -- The day and the fraction of two parts on the grid are document 01's exact day and exact fraction, which are fixed by the parts' exact sum. Assumes nothing.
 use mathlib.Core.Path.{_≡_, refl, sym, ap, _∙_, subst}
 use mathlib.Core.Bool.{Bool, true, false, true≢false}
-use Prim.Native.Nat.{ℕ, suc, _+_, _-_, _*_, _^_, _≤_, _<_}
+use Prim.Native.Nat.{ℕ, suc, _+_, _*_, _^_, _<_}
 use native.Mathlib.Nat.{div-add-mod', mod-lt, add-zero, mul-one}
 use native.Mathlib.Omega.{arith}
 use lib.Dec.{T, lit≤}

@@ -17,7 +17,7 @@ use Rattle.rounding.proofs.Signed.{plus-of, minus-of, signed-of, dist, dist-zer
 use Rattle.rounding.proofs.Own.{Rep, rep-flip}
 use Rattle.rounding.proofs.Optimal.{step}
 use Rattle.rounding.proofs.Relative.{grid-step, step-has}
-use Rattle.rounding.proofs.TwoSum.{RN, rn-le, rn-ge}
+use Rattle.rounding.proofs.Nearest.{RN, rn-le, rn-ge}
 use Rattle.rounding.proofs.TwoSumFloat.{At, at}
 use Rattle.rounding.proofs.Compare.{le-true, le-show}
 use Rattle.day_number.specs.DayNumber.{c-djmin, c-djmax, inJulianRange, accepted}

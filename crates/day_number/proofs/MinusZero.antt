@@ -129,8 +129,8 @@ add-keeps (fin s m e) (fin t n d) fx fy h = go (minusZero (add binary64 (fin s m
     at : (X Y : ℕ) → HasValue (fin s m e) s X L → HasValue (fin t n d) t Y L → minusZero (add binary64 (fin s m e) (fin t n d)) ≡ true → minusZero (add binary64 (fin s m e) (fin t n d)) ≡ false
     at X Y v w q =
         let r = add-rounds binary64 L-pos (has-val (fin s m e) s X L v) (has-val (fin t n d) t Y L w) in
-        let z : r .size ≡ 0 = round-zero (r .sign) (r .size) (ap minusZero (sym (r .eq)) ∙ q) in
-        sum-sign s t (m * up e * down d) (n * up d * down e) (down e * down d) X Y (cross-l (m * up e) (down e) (down d) X L (v .1)) (cross-r (n * up d) (down e) (down d) Y L (w .1))
+        let z : r .size ≡ 0 = round-zero (r .sign) (r .size) (ap minusZero (sym (r .eq)) ∙ q)
+        in sum-sign s t (m * up e * down d) (n * up d * down e) (down e * down d) X Y (cross-l (m * up e) (down e) (down d) X L (v .1)) (cross-r (n * up d) (down e) (down d) Y L (w .1))
         (level (r .sign) (r .size) (plus-of s X + plus-of t Y) (minus-of s X + minus-of t Y) z (r .is)) (some s h v)
       where
         level : (b : Bool) (k P N : ℕ) → k ≡ 0 → Signed b k P N → P ≡ N

@@ -27,17 +27,14 @@ unfolding inJulianRange
 below-min dj e = e ∙ sym (ap (λ (b : Bool). b && le dj c-djmax) e)
 
 -- ---- compensation
-module _ (s f t a b : Float) (ea : a ≡ abs s) (eb : b ≡ abs f) where
-  seen : le (abs f) (abs s) ≡ le b a
-  seen = ap (λ (z : Float). le z (abs s)) (sym eb) ∙ ap (λ (z : Float). le b z) (sym ea)
-
-  pub sum-larger : le b a ≡ true → add binary64 (sub binary64 s t) f ≡ compensation s f t
+module _ (s f t : Float) (r : Bool) (er : r ≡ le (abs f) (abs s)) where
+  pub sum-larger : r ≡ true → add binary64 (sub binary64 s t) f ≡ compensation s f t
   unfolding compensation
-  sum-larger e = pick (le (abs f) (abs s)) (add binary64 (sub binary64 s t) f) (add binary64 (sub binary64 f t) s) (seen ∙ e)
+  sum-larger e = pick (le (abs f) (abs s)) (add binary64 (sub binary64 s t) f) (add binary64 (sub binary64 f t) s) (sym er ∙ e)
 
-  pub fraction-larger : le b a ≡ false → add binary64 (sub binary64 f t) s ≡ compensation s f t
+  pub fraction-larger : r ≡ false → add binary64 (sub binary64 f t) s ≡ compensation s f t
   unfolding compensation
-  fraction-larger e = skip (le (abs f) (abs s)) (add binary64 (sub binary64 s t) f) (add binary64 (sub binary64 f t) s) (seen ∙ e)
+  fraction-larger e = skip (le (abs f) (abs s)) (add binary64 (sub binary64 s t) f) (add binary64 (sub binary64 f t) s) (sym er ∙ e)
 
 -- ---- add_fraction
 module _ (c : ℕ) (κ : Kahan) (f l : Float) (el : l ≡ compensation (κ .sum) f (add binary64 (κ .sum) f)) where

@@ -69,7 +69,7 @@ fn check_julian_range(dj: f64) -> bool
 fn compensation(sum: f64, frac: f64, temp: f64) -> f64
     ensures { λ r. ⌜ r ≡ S.compensation sum frac temp ⌝ }
 {
-    if floats::fabs(sum) >= floats::fabs(frac) {
+    if floats::at_least_in_size(sum, frac) {
         (sum - temp) + frac
     } else {
         (frac - temp) + sum
@@ -199,14 +199,14 @@ fn day_in_range(jd1: f64, jd2: f64) -> DayNumber
     requires { ⌜ S.accepted jd1 jd2 ≡ true ⌝ }
     ensures { λ r. ⌜ r ≡ S.dayOf jd1 jd2 ⌝ }
 {
-    let day_int_1 = floats::nearest_int(jd1);
-    let day_int_2 = floats::nearest_int(jd2);
-    let summed = sum_fractions(jd1 - day_int_1, jd2 - day_int_2);
+    let first = floats::nearest_whole(jd1);
+    let second = floats::nearest_whole(jd2);
+    let summed = sum_fractions(jd1 - first.value, jd2 - second.value);
     let kahan = summed.kahan;
     let end = normalize_fraction(kahan);
     let day = total_day(
-        floats::saturating_i64(day_int_1),
-        floats::saturating_i64(day_int_2),
+        first.number,
+        second.number,
         summed.carry,
         end.carry,
         end.borrow,

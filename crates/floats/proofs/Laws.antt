@@ -88,12 +88,6 @@ pub upward-most : StaysBelow upward
 upward-most true n d D h = cut-most true n d D h
 upward-most false n d D h = upper-most n d D h
 
-pub away-most : StaysBelow away
-away-most s n d D h = le-of-suc-le-suc (div-lt-iff-lt-mul (mul-pos (zero-lt-suc 1) D) .1 (go n d D h))
-  where
-    go : (n d : ℕ) → 0 < d → n < 9007199254740992 * d → 2 * n + d < 9007199254740993 * (2 * d)
-    go n d a b = omega arith
-
 pub cut-same : ByValue cut
 cut-same s n d a c D C h = div-same n d a c D C h
 
@@ -163,6 +157,3 @@ downward-exact = exact downward downward-one downward-most
 
 pub upward-exact : (s : Bool) (m : ℕ) (e : ℤ) → T (fits binary64 (fin s m e)) → HasValue (toWhole upward (fin s m e)) s (upward s (m * up e) (down e)) 1
 upward-exact = exact upward upward-one upward-most
-
-pub away-exact : (s : Bool) (m : ℕ) (e : ℤ) → T (fits binary64 (fin s m e)) → HasValue (toWhole away (fin s m e)) s (away s (m * up e) (down e)) 1
-away-exact = exact away away-one away-most

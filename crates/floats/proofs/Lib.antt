@@ -7,3 +7,6 @@ pub mod Below
 pub mod Casts
 pub mod Patterns
 pub mod Cases
+pub mod NearestWholes
+pub mod Sizes
+pub mod FiniteTest

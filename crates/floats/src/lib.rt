@@ -1,9 +1,11 @@
 // The functions of a float that go by its bits: |x|, the four roundings to a whole number, the saturating cast, and bit patterns.
 // Each takes every f64. A NaN has no pattern here (there is one NaN), so what reads the bits asks for it first, by `x != x`.
 ghost use mathlib.Core.Path.{_≡_};
-ghost use lib.Ieee.{binary64, ofBits, toBits, toSigned};
+ghost use lib.Ieee.{binary64, ofBits, toBits, toSigned, le};
 ghost use lib.Ieee.Scale.{finite};
 ghost use Rattle.floats.specs.Whole.{abs, toWhole, cut, downward, upward, away, nearestInt};
+ghost use Rattle.floats.specs.NearestWhole.{nearestWhole};
+ghost use Rattle.floats.specs.Size.{size};
 
 // The exponent's fields of 0.5 and of 1.0.
 const HALF: u64 = 1022;
@@ -14,6 +16,14 @@ const ONE: u64 = 1023;
 // has ALL_WHOLE - e of them.
 const ALL_WHOLE: u64 = 1075;
 
+const TWO_52: f64 = 4503599627370496.0;
+
+// A whole number as a float and as an integer.
+pub struct NearestWhole {
+    pub value: f64,
+    pub number: i64,
+}
+
 // |x|
 pub fn fabs(x: f64) -> f64
     ensures { λ r. ⌜ r ≡ abs x ⌝ }
@@ -22,6 +32,21 @@ pub fn fabs(x: f64) -> f64
         return x;
     }
     f64::from_bits(f64::to_bits(x) & 0x7fff_ffff_ffff_ffff)
+}
+
+// |x| but for the sign of a zero, in one comparison.
+fn size_of(x: f64) -> f64
+    ensures { λ r. ⌜ r ≡ size x ⌝ }
+{
+    let y = -x;
+    if x > y { x } else { y }
+}
+
+// Whether |x| >= |y|. No comparison sees the sign of a zero.
+pub fn at_least_in_size(x: f64, y: f64) -> bool
+    ensures { λ r. ⌜ r ≡ le (abs y) (abs x) ⌝ }
+{
+    size_of(x) >= size_of(y)
 }
 
 // x toward zero to a whole number.
@@ -93,11 +118,37 @@ pub fn nearest_int(a: f64) -> f64
     }
 }
 
-// Whether x is neither an infinity nor a NaN.
+// The Rust's nearest_int with its `as i64`. A part of a date is mostly between -0.5 and 2^52: there the number comes from the digits at once, and the float from it.
+pub fn nearest_whole(a: f64) -> NearestWhole
+    ensures { λ r. ⌜ r ≡ nearestWhole a ⌝ }
+{
+    if a >= 0.5 {
+        let t = a + 0.5;
+        if t >= 1.0 && t < TWO_52 {
+            let n = std::num::truncating_f64_to_u64(t) as i64;
+            return NearestWhole {
+                value: n as f64,
+                number: n,
+            };
+        }
+    } else if a > -0.5 {
+        return NearestWhole {
+            value: 0.0,
+            number: 0,
+        };
+    }
+    let value = nearest_int(a);
+    NearestWhole {
+        value: value,
+        number: saturating_i64(value),
+    }
+}
+
+// Whether x is neither an infinity nor a NaN, whose difference from itself is a NaN.
 pub fn is_finite(x: f64) -> bool
     ensures { λ r. ⌜ r ≡ finite x ⌝ }
 {
-    fabs(x) < 1.0 / 0.0
+    x - x == 0.0
 }
 
 // Rust's `x as i64`: toward zero, to the nearest end of the range where x is outside it, and 0 for a NaN.

@@ -1,4 +1,5 @@
 -- The fraction of a day that a time of day is. Written from document 01, "Refusals by number" (refusal 4), and the Rust's `day_fraction` (julian/mod.rs).
+-- Assumes nothing.
 use Prim.Native.Nat.{ℕ, _+_, _*_}
 use mathlib.Core.Bool.{Bool, cond, _&&_}
 use lib.Dec.{eqb, leb}

@@ -1,4 +1,5 @@
 -- A Julian date as two floats, and its sums and differences in the Rust's order of operations. Written from document 01, "Julian date", and the Rust's julian/mod.rs.
+-- Assumes nothing.
 use mathlib.Core.Bool.{false}
 use lib.IntN.{pos}
 use lib.Ieee.{Float, fin, binary64, add, sub, div}

@@ -1,4 +1,4 @@
--- The Julian year of a Julian date, and the date of a Julian year: ERFA's eraEpj and eraEpj2jd, as in the Rust's julian/mod.rs.
+-- The Julian year of a Julian date, and the date of a Julian year: ERFA's eraEpj and eraEpj2jd, as in the Rust's julian/mod.rs. Assumes nothing.
 use lib.Ieee.{Float, binary64, add, sub, mul, div}
 use Rattle.constants.specs.Constants.{decimal, daysPerJulianYear, j2000Jd, mjdZeroPoint}
 use Rattle.julian.specs.declared.JulianDate.{JulianDate}

@@ -1,4 +1,5 @@
 -- The Julian date of a Unix time: whole days from 1970 in jd1, the time that is left in jd2. Written from the Rust's julian/mod.rs and from document 01, "Julian date".
+-- Assumes nothing.
 use Prim.Native.Nat.{ℕ, suc, _/_, _%_}
 use lib.IntN.{ℤ, pos, negsuc, negℤ}
 use lib.Ieee.{Float, binary64, ofInt, add, div}

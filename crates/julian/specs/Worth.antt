@@ -1,4 +1,5 @@
 -- The exact number of days that a Julian date is worth. Written from document 01, "Julian date" and "Day and fraction": the exact sum of the two parts.
+-- Assumes nothing.
 use mathlib.Core.Path.{_≡_}
 use Prim.Native.Nat.{ℕ, _+_}
 use mathlib.Core.Bool.{false}

@@ -175,8 +175,7 @@ module _ (y : ℕ) (m d : ℤ) (a : Accepted (pos y) m d) where
       go true e false f r g = of-step O (drifting (ltb-false N 23520 f) (ltb-true N 23664 e))
       go true e true f true g = of-zero O (before N (cond (ltb D L) N (suc N)) (mjdNumber (pos y) m d) (ltb-true N 23520 f) (ltb-true (cond (ltb D L) N (suc N)) 23520 g))
       go true e true f false g =
-          let t = turn (ltb D L) N (ltb-true N 23520 f) (ltb-false (cond (ltb D L) N (suc N)) 23520 g) in
-          of-first O (last-day (t .1) (t .0))
+          let t = turn (ltb D L) N (ltb-true N 23520 f) (ltb-false (cond (ltb D L) N (suc N)) 23520 g) in of-first O (last-day (t .1) (t .0))
 
   -- the leap of 1959-12-31 is that of no other day
   only-this-day : leapOf O ≡ leap1959 → (y ≡ 1959) × (M ≡ 12) × (D ≡ 31)

@@ -63,8 +63,7 @@ module _ (n : ℕ) (j : ℤ) (f : Float) (l : 23520 ≤ n) where
 
   pub quick-drift : n < 23664 → qby false (secondsOf R) (startOf R) (rateOf R) (qint j) f ≡ offsetAt fixed n (ofInt binary64 j) f
   unfolding offsetAt
-  quick-drift h =
-      drift-is (secondsOf R) (startOf R) (rateOf R) j f
+  quick-drift h = drift-is (secondsOf R) (startOf R) (rateOf R) j f
       ∙ drifting K (ofInt binary64 j) f (one-row n l) (omega (arith, one-row n l, drift-rows n h)) (secondsOf R) (startOf R) (rateOf R) refl refl refl
 
   flag : (b : Bool) → ltb n 23664 ≡ b → eqb (R .rate) 0 ≡ not b

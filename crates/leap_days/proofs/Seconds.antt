@@ -3,7 +3,7 @@
 use mathlib.Core.Path.{_≡_, refl, ap, sym, _∙_}
 use mathlib.Core.Bool.{Bool, true, false, not, cond, _&&_, _||_}
 use mathlib.Core.List.{List, [], _∷_, map}
-use Prim.Native.Nat.{ℕ, suc, _+_, _-_, _*_, _≤_}
+use Prim.Native.Nat.{ℕ, suc, _+_, _*_, _≤_}
 use native.Mathlib.Omega.{arith}
 use lib.Dec.{T, eqb, ltb, leb, leb→le}
 use lib.ListN.{length, drop}
@@ -21,7 +21,7 @@ use Rattle.tai_utc.specs.Leap.{leapOf, leapAtEndOfDay}
 use Rattle.tai_utc.proofs.Reached.{member, member-later}
 use Rattle.tai_utc.proofs.Rows.{fixed-rises}
 use Rattle.tai_utc.proofs.Days.{leap-came}
-use Rattle.leap_days.specs.Leaps.{Day, leapSeconds, listed, isLeapSecond, small, leap1959}
+use Rattle.leap_days.specs.Leaps.{Day, leapSeconds, listed, isLeapSecond, small}
 use Rattle.leap_days.proofs.Every.{from-1972, since}
 use Rattle.leap_days.proofs.Whole.{wholeF}
 
@@ -162,7 +162,3 @@ small-not-over (fin s m e) t = le-ltb (1 * 1 * down e) (m * up e * 2) (go (m * u
   where
     go : (a b : ℕ) → a ≤ b → a ≤ 1 * 1 * b
     go a b h = omega arith
-
-pub others-over : (lt halfF (abs oneF) ≡ true) × (lt halfF (abs leap1959) ≡ true)
-unfolding lt abs
-others-over = (refl, refl)

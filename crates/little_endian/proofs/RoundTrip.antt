@@ -1,8 +1,8 @@
 -- What is written is read back: a number from its eight bytes, and a signed number from its pattern. Assumes nothing.
-use Prim.Native.Nat.{ℕ, suc, _+_, _-_, _*_, _/_, _%_, _<_, _≤_}
+use Prim.Native.Nat.{ℕ, _+_, _-_, _*_, _/_, _%_, _<_, _≤_}
 use native.Mathlib.Nat.{div-div-eq-div-mul}
 use native.Mathlib.Omega.{arith}
-use mathlib.Core.Path.{_≡_, refl, sym, ap, _∙_}
+use mathlib.Core.Path.{_≡_, refl, ap, _∙_}
 use lib.IntN.{ℤ, pos, negsuc}
 use mir.Syntax.{w64}
 use mir.Val.{SFits}
@@ -27,8 +27,7 @@ next-place n k m e = split (n / k) ∙ ap (λ (z : ℕ). n / k % 256 + 256 * z) 
 
 pub read-written : (n : ℕ) → n < 18446744073709551616 → u64At (eightBytes n) 0 ≡ n
 unfolding u64At fourAt
-read-written n h =
-    sum8 n (n / 0x100) (n / 0x1_0000) (n / 0x100_0000) (n / 0x1_0000_0000) (n / 0x100_0000_0000) (n / 0x1_0000_0000_0000) (n / 0x100_0000_0000_0000)
+read-written n h = sum8 n (n / 0x100) (n / 0x1_0000) (n / 0x100_0000) (n / 0x1_0000_0000) (n / 0x100_0000_0000) (n / 0x1_0000_0000_0000) (n / 0x100_0000_0000_0000)
     (n % 256) (n / 0x100 % 256) (n / 0x1_0000 % 256) (n / 0x100_0000 % 256) (n / 0x1_0000_0000 % 256) (n / 0x100_0000_0000 % 256) (n / 0x1_0000_0000_0000 % 256) (n / 0x100_0000_0000_0000 % 256)
     (split n) (next-place n 0x100 0x1_0000 refl) (next-place n 0x1_0000 0x100_0000 refl) (next-place n 0x100_0000 0x1_0000_0000 refl) (next-place n 0x1_0000_0000 0x100_0000_0000 refl)
     (next-place n 0x100_0000_0000 0x1_0000_0000_0000 refl) (next-place n 0x1_0000_0000_0000 0x100_0000_0000_0000 refl) (last-byte n h)

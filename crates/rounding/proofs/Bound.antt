@@ -47,8 +47,8 @@ round-ge a D B r E h = le-trans (le-of-eq (r .is)) (grid-ge binary64 a D (r .q) 
 -- |P - N| / D ≤ B / L gives |z| ≤ B / L
 pub rounds-within : {z : Float} {P N D B : ℕ} → 0 < D → Rep B → B < 2 ^ 2098 → P * L ≤ N * L + B * D → N * L ≤ P * L + B * D → Rounds binary64 z P N D → Within z B
 rounds-within {z} {P} {N} {D} {B} E rep b u l r =
-    let g = round-le (r .size) D B rep E (signed-le (r .sign) (r .size * L) (P * L) (N * L) (B * D) (signed-scale (r .sign) (r .size) P N L (r .is)) u l) in
-    within-of (r .sign) z (grid binary64 (r .size) D) B (rounds-has r (lt-of-le-of-lt g b)) g
+    let g = round-le (r .size) D B rep E (signed-le (r .sign) (r .size * L) (P * L) (N * L) (B * D) (signed-scale (r .sign) (r .size) P N L (r .is)) u l)
+    in within-of (r .sign) z (grid binary64 (r .size) D) B (rounds-has r (lt-of-le-of-lt g b)) g
 
 -- ---- between two floats
 -- z is finite, and (a - b) / L ≤ z ≤ (c - d) / L
@@ -120,8 +120,7 @@ between-of true z k P N D a b c d E ra rc sa sc i h l has =
 -- lo ≤ (P - N) / D ≤ hi, for two floats, gives lo ≤ z ≤ hi
 pub rounds-between : {z lo hi : Float} {P N D a b c d : ℕ} → 0 < D → T (fits binary64 lo) → T (fits binary64 hi) → Val lo a b L → Val hi c d L → a * D + N * L ≤ P * L + b * D → P * L + d * D ≤ c * D + N * L
     → Rounds binary64 z P N D → Enclosed z a b c d
-rounds-between {z} {P = P} {N} {D} {a} {b} {c} {d} E fl fh vl vh h l r =
-    between-of (r .sign) z (r .size) P N D a b c d E (val-rep fl vl) (val-rep fh vh) (val-small fl vl) (val-small fh vh) (r .is) h l (rounds-has r)
+rounds-between {z} {P = P} {N} {D} {a} {b} {c} {d} E fl fh vl vh h l r = between-of (r .sign) z (r .size) P N D a b c d E (val-rep fl vl) (val-rep fh vh) (val-small fl vl) (val-small fh vh) (r .is) h l (rounds-has r)
 
 -- ---- the order is kept
 odd-neg : (d q k l : ℕ) → odd d true q k l ≡ neg (odd d false q k l)
@@ -275,8 +274,7 @@ rounds-mono {f} {z} {w} {P} {N} {D} {Q} {M} {E} F G h r k = subst₂ (λ (x y : 
         let x : a * E + N * E ≡ P * E = signed-scale false a P N E i in
         let y : b * D + Q * D ≡ M * D = signed-scale true b Q M D j in
         let u : a * E ≡ 0 = omega arith in
-        let v : b * D ≡ 0 = omega arith in
-        zeros-le f a D b E F G (eq-of-mul-eq-mul-right E G a 0 (u ∙ sym (zero-mul E))) (eq-of-mul-eq-mul-right D F b 0 (v ∙ sym (zero-mul D)))
+        let v : b * D ≡ 0 = omega arith in zeros-le f a D b E F G (eq-of-mul-eq-mul-right E G a 0 (u ∙ sym (zero-mul E))) (eq-of-mul-eq-mul-right D F b 0 (v ∙ sym (zero-mul D)))
 
 -- the same, over the values
 pub rounds-order : {z w : Float} {P N D Q M E p n q m : ℕ} → 0 < D → 0 < E → P * E + M * D ≤ Q * D + N * E → Rounds binary64 z P N D → Rounds binary64 w Q M E → Val z p n L → Val w q m L → p + m ≤ q + n

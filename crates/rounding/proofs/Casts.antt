@@ -125,9 +125,6 @@ pair-le z a b e = go (one-side z)
     go (inl s) = omega arith
     go (inr s) = omega arith
 
--- the sides of a sum and of a difference
-pub add-le : (a b : ℤ) → (plusZ (a +ℤ b) ≤ plusZ a + plusZ b) × (minusZ (a +ℤ b) ≤ minusZ a + minusZ b)
-add-le a b = pair-le (a +ℤ b) (plusZ a + plusZ b) (minusZ a + minusZ b) (add-pair a b)
-
+-- the sides of a difference
 pub sub-le : (a b : ℤ) → (plusZ (a -ℤ b) ≤ plusZ a + minusZ b) × (minusZ (a -ℤ b) ≤ minusZ a + plusZ b)
 sub-le a b = pair-le (a -ℤ b) (plusZ a + minusZ b) (minusZ a + plusZ b) (sub-pair a b)

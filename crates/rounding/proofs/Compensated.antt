@@ -12,7 +12,8 @@ use Rattle.rounding.proofs.Value.{add-rounds, sub-rounds, rounds-move, 
 use Rattle.rounding.proofs.Signed.{dist, dist-up, dist-shift, dist-flip}
 use Rattle.rounding.proofs.Compare.{le-true, le-false}
 use Rattle.rounding.proofs.Own.{Rep, val-rep}
-use Rattle.rounding.proofs.TwoSum.{rn-exact, dekker, error-rep}
+use Rattle.rounding.proofs.Nearest.{rn-exact, error-rep}
+use Rattle.rounding.proofs.TwoSum.{dekker}
 use Rattle.rounding.proofs.TwoSumFloat.{At, at, Exact}
 
 module _ {a b s : Float} {p n q m M : ℕ} (fa : T (fits binary64 a)) (fb : T (fits binary64 b)) (va : Val a p n L) (vb : Val b q m L) (order : dist q m ≤ dist p n) (most : dist p n ≤ M) (far : 32 * M < 2 ^ 2098)

@@ -5,14 +5,13 @@ use mathlib.Core.Logic.{_⊎_, inl, inr}
 use Prim.Native.Nat.{ℕ, _+_, _-_, _*_, _^_, _≤_, _<_}
 use native.Mathlib.Nat.{le-of-eq, lt-of-lt-of-le, lt-of-le-of-lt, eq-or-lt-of-le, one-mul, mul-one, mul-assoc}
 use native.Mathlib.Omega.{arith}
-use mathlib.Core.Bool.{Bool, true, false}
+use mathlib.Core.Bool.{Bool}
 use lib.Dec.{lit≤, lit<}
 use lib.Pow.{pow-add, pow-pos, pow-lt, pow-mono, shl-lt}
 use lib.Ieee.{Float, binary64, round, add, sub, mul}
 use lib.Ieee.Exact.{HasValue, round-exact}
 use Rattle.rounding.specs.Value.{Signed, Val, Rounds}
 use Rattle.rounding.proofs.Value.{add-rounds, sub-rounds, mul-rounds}
-use Rattle.rounding.proofs.Fractions.{sub-mul}
 use Rattle.rounding.proofs.Signed.{signed-le}
 
 shift : (i k : ℕ) → k ≤ 1074 → i + 1074 ≡ i + (1074 - k) + k
@@ -54,26 +53,6 @@ rounds-exact k {z} {p} {n} h u l r =
     }
 
 -- ---- a multiple of 2 ^ i units: |p - n| ≤ 2 ^ 53 counts the multiples
-signed-div : (s : Bool) (a p n w : ℕ) → Signed s a (p * w) (n * w) → (a ≡ (p - n) * w) ⊎ (a ≡ (n - p) * w)
-signed-div false a p n w h = inl (let e : (p - n) * w ≡ p * w - n * w = sub-mul p n w in omega arith)
-signed-div true a p n w h = inr (let e : (n - p) * w ≡ n * w - p * w = sub-mul n p w in omega arith)
-
-pub rounds-exact-coarse : (k i : ℕ) {z : Float} {p n : ℕ} → k ≤ 1074 → i ≤ 970 → p ≤ n + 2 ^ 53 → n ≤ p + 2 ^ 53 → Rounds binary64 z (p * 2 ^ i) (n * 2 ^ i) (2 ^ k) → Val z (p * 2 ^ i) (n * 2 ^ i) (2 ^ k)
-rounds-exact-coarse k i {z} {p} {n} h g u l r =
-    record {
-      sign = r .sign;
-      size = r .size;
-      has = subst (λ (x : Float). HasValue x (r .sign) (r .size) (2 ^ k)) (sym (r .eq)) (go (signed-div (r .sign) (r .size) p n (2 ^ i) (r .is)));
-      is = r .is;
-    }
-  where
-    by : (a c : ℕ) (s : Bool) → c ≤ 2 ^ 53 → a ≡ c * 2 ^ i → HasValue (round binary64 s a (2 ^ k)) s a (2 ^ k)
-    by a c s b e = subst (λ (x : ℕ). HasValue (round binary64 s x (2 ^ k)) s x (2 ^ k)) (sym e) (exact-has s c i k h g b)
-
-    go : (r .size ≡ (p - n) * 2 ^ i) ⊎ (r .size ≡ (n - p) * 2 ^ i) → HasValue (round binary64 (r .sign) (r .size) (2 ^ k)) (r .sign) (r .size) (2 ^ k)
-    go (inl e) = by (r .size) (p - n) (r .sign) (omega arith) e
-    go (inr e) = by (r .size) (n - p) (r .sign) (omega arith) e
-
 -- (p - n) / 2 ^ k + (q - m) / 2 ^ k
 pub add-exact : (k : ℕ) {x y : Float} {p n q m : ℕ} → k ≤ 1074 → p + q ≤ n + m + 2 ^ 53 → n + m ≤ p + q + 2 ^ 53 → Val x p n (2 ^ k) → Val y q m (2 ^ k) → Val (add binary64 x y) (p + q) (n + m) (2 ^ k)
 add-exact k h u l v w = rounds-exact k h u l (add-rounds binary64 (pow-pos k) v w)

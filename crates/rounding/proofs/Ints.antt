@@ -1,11 +1,10 @@
 -- An i64 as a difference A - B of two natural numbers, for `omega`: sums, differences, the range, and what the machine reads back. Assumes nothing.
-use mathlib.Core.Path.{_≡_, sym, subst}
+use mathlib.Core.Path.{_≡_}
 use Prim.Native.Nat.{ℕ, _+_, _^_, _≤_, _<_}
 use native.Mathlib.Omega.{arith}
-use lib.IntN.{ℤ, pos, _+ℤ_, _-ℤ_}
+use lib.IntN.{ℤ, _+ℤ_, _-ℤ_}
 use mir.Syntax.{w64}
-use mir.Val.{SFits, toZ, ofZ}
-use mir.ValLaws.{toZ-ofZ}
+use mir.Val.{SFits}
 use Rattle.rounding.proofs.Casts.{plusZ, minusZ, add-pair, sub-pair, pair-le, mag-pair}
 
 -- z = A - B
@@ -27,11 +26,3 @@ int-sub {x} {y} v w = record { is = omega (arith, v .is, w .is, sub-pair x y) }
 -- A < 2 ^ 63 and B ≤ 2 ^ 63: A - B is in the range of i64
 pub int-fits : {z : ℤ} {A B : ℕ} → Int z A B → A < 2 ^ 63 → B ≤ 2 ^ 63 → SFits w64 z
 int-fits {z} {A} {B} v h k = let s = pair-le z A B (v .is) in record { sfits = mag-pair z (2 ^ 63) (omega (arith, s .0)) (omega (arith, s .1)) }
-
--- the machine reads such an integer back
-pub int-read : {z : ℤ} {A B : ℕ} → A < 2 ^ 63 → B ≤ 2 ^ 63 → Int z A B → Int (toZ w64 (ofZ w64 z)) A B
-int-read {z} {A} {B} h k v = subst (λ (x : ℤ). Int x A B) (sym (toZ-ofZ w64 z (int-fits v h k))) v
-
--- a natural number below 2 ^ 63, read as an i64
-pub int-nat : (n : ℕ) → n < 2 ^ 63 → Int (toZ w64 n) n 0
-int-nat n h = int-read h (omega arith) (int-own (pos n))

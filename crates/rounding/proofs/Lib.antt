@@ -8,25 +8,25 @@ pub mod Value
 pub mod Unique
 -- Own: every finite f64 is a whole number of units, of at most 53 binary digits and some zeros.
 pub mod Own
--- Exact: where the exact result fits, nothing is rounded.
+-- Exact: where the exact result fits, nothing is rounded: add-exact, sub-exact, mul-exact.
 pub mod Exact
--- Bound: rounding keeps the order, and a result lies between any two floats that the exact result lies between.
+-- Bound: rounding keeps the order (rounds-order), and a result lies between any two floats that the exact result lies between.
 pub mod Bound
--- Near: the absolute error of add, sub, mul and div is at most a half of 2 ^ j units, where the exact result is below 2 ^ (53 + j) units.
+-- Near: the absolute error of add, sub, mul and div is at most a half of 2 ^ j units, where the exact result is below 2 ^ (53 + j) units: add-near, sub-near, product-near, quotient-near.
 pub mod Near
 -- Scaled: the absolute error of a product by a constant and of a quotient by a whole number.
 pub mod Scaled
--- Relative: the relative error is at most 2 ^ -53, of add and sub always, of mul and div in the normal range.
+-- Relative: the relative error is at most 2 ^ -53, of add and sub always, of mul and div in the normal range: add-relative, sub-relative, mul-relative, div-relative.
 pub mod Relative
--- Compare: a comparison of floats is the comparison of their values.
+-- Compare: a comparison of floats is the comparison of their values: eq-true, eq-false, ne-true, ne-false, eq-show and the like for < and ≤.
 pub mod Compare
 -- Range: a test such as |x| < 2 ^ k as bounds on the value.
 pub mod Range
--- Casts: an integer as a float and a float as an integer.
+-- Casts: an integer as a float (rounded once, ofInt-rounds) and a float as an integer.
 pub mod Casts
 -- Ints: sums and differences of i64, by the same pairs.
 pub mod Ints
--- Sterbenz: x - y is exact where y / 2 ≤ x ≤ 2 * y.
+-- Sterbenz: x - y is exact where y / 2 ≤ x ≤ 2 * y (sterbenz).
 pub mod Sterbenz
 -- Compensated: with |b| ≤ |a| and s the rounded sum, (a - s) + b is exactly what the sum lost.
 pub mod Compensated
@@ -51,5 +51,7 @@ pub mod Signed
 pub mod Grid
 -- Optimal: no f64 is nearer than the rounded one.
 pub mod Optimal
+-- Nearest: a difference rounded to nearest.
+pub mod Nearest
 -- TwoSum: two-sum and the compensated step.
 pub mod TwoSum

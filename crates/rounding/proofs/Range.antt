@@ -81,16 +81,14 @@ within-dist {x} {p} {n} {W} v h = record { p = p; n = n; val = v; high = wide p 
 
 pub at-most : {x c : Float} {W : ℕ} → T (fits binary64 x) → Val c W 0 L → T (le (abs x) c) → Within x W
 at-most {x} {c} {W} f w h =
-    let v = own-val x (own x f (le-finite x c (w .sign) (w .size) (w .has) h)) in
-    within-dist v (plain _ W (le-says L-pos (abs-val v) w h))
+    let v = own-val x (own x f (le-finite x c (w .sign) (w .size) (w .has) h)) in within-dist v (plain _ W (le-says L-pos (abs-val v) w h))
   where
     plain : (d W : ℕ) → d + 0 ≤ W + 0 → d ≤ W
     plain d W e = omega arith
 
 pub below : {x c : Float} {W : ℕ} → T (fits binary64 x) → Val c W 0 L → T (lt (abs x) c) → Within x W
 below {x} {c} {W} f w h =
-    let v = own-val x (own x f (lt-finite x c (w .sign) (w .size) (w .has) h)) in
-    within-dist v (plain _ W (lt-says L-pos (abs-val v) w h))
+    let v = own-val x (own x f (lt-finite x c (w .sign) (w .size) (w .has) h)) in within-dist v (plain _ W (lt-says L-pos (abs-val v) w h))
   where
     plain : (d W : ℕ) → d + 0 < W + 0 → d ≤ W
     plain d W e = omega arith

@@ -5,8 +5,8 @@ use mathlib.Core.Logic.{inl, inr}
 use Prim.Native.Nat.{ℕ, _+_, _-_, _*_, _^_, _≤_, _<_}
 use native.Mathlib.Nat.{le-trans, le-of-eq, lt-of-le-of-lt, eq-zero-or-pos, mul-one, mul-assoc, mul-pos}
 use native.Mathlib.Omega.{arith}
-use mathlib.Core.Bool.{Bool, true, false, not}
-use lib.Dec.{T, leb, leb→le, nleb→lt, lit<}
+use mathlib.Core.Bool.{Bool, true, false}
+use lib.Dec.{lit<}
 use lib.Pow.{pow-add, pow-pos}
 use lib.Ieee.{Float, binary64, round, size, add, sub, mul, div}
 use lib.Ieee.Exact.{HasValue}
@@ -16,7 +16,7 @@ use lib.Ieee.Scale.{grid}
 use Rattle.rounding.specs.Value.{Signed, Val, Rounds, L}
 use Rattle.rounding.proofs.Value.{add-rounds, sub-rounds, mul-rounds, div-rounds, L-is, L-pos}
 use Rattle.rounding.proofs.Signed.{dist, dist-times, dist-scale, signed-dist, signed-le, signed-scale}
-use Rattle.rounding.proofs.Grid.{Half, grid-bound, grid-error, grid-relative}
+use Rattle.rounding.proofs.Grid.{Half, grid-bound, grid-relative}
 use Rattle.rounding.proofs.Near.{round-has, rounds-has}
 use Rattle.rounding.proofs.Optimal.{cut, step, step-near, step-same, reaches}
 
@@ -73,8 +73,8 @@ rounds-relative {z} {P} {N} {M} b u l r =
     let a = r .size in
     let k = step-relative a in
     let h : HasValue (round binary64 (r .sign) a L) (r .sign) (step a) L =
-    step-has (r .sign) a (twice (step a) a (2 ^ 2098) (k .0) (double a M (2 ^ 2098) (signed-le (r .sign) a P N M (r .is) u l) b)) in
-    rel-of (r .sign) z a (step a) P N M (subst (λ (x : Float). HasValue x (r .sign) (step a) L) (sym (r .eq)) h) (r .is) u l (k .0) (k .1)
+    step-has (r .sign) a (twice (step a) a (2 ^ 2098) (k .0) (double a M (2 ^ 2098) (signed-le (r .sign) a P N M (r .is) u l) b))
+    in rel-of (r .sign) z a (step a) P N M (subst (λ (x : Float). HasValue x (r .sign) (step a) L) (sym (r .eq)) h) (r .is) u l (k .0) (k .1)
 
 -- x + y
 pub add-relative : {x y : Float} {p n q m M : ℕ} → 2 * M < 2 ^ 2098 → p + q ≤ n + m + M → n + m ≤ p + q + M → Val x p n L → Val y q m L → Rel (add binary64 x y) (p + q) (n + m) M
@@ -112,16 +112,6 @@ normal a D E h = let k = grid-relative a D E h in go (grid binary64 a D * D) (a 
     go : (g n : ℕ) → g * 2 ^ 53 ≤ n * 2 ^ 53 + n → n * 2 ^ 53 ≤ g * 2 ^ 53 + n → (2 ^ 53 * g ≤ 2 ^ 53 * n + n) × (2 ^ 53 * n ≤ 2 ^ 53 * g + n)
     go g n x y = omega arith
 
-tiny : (a D : ℕ) → 0 < D → a * L < 2 ^ 52 * D → (2 ^ 53 * (grid binary64 a D * D) ≤ 2 ^ 53 * (a * L) + (a * L + 2 ^ 52 * D)) × (2 ^ 53 * (a * L) ≤ 2 ^ 53 * (grid binary64 a D * D) + (a * L + 2 ^ 52 * D))
-unfolding L
-tiny a D E h = go (grid binary64 a D * D) (a * 2 ^ 1074) (grid-error binary64 a D 0 E (more (a * 2 ^ 1074) h))
-  where
-    more : (n : ℕ) → n < 2 ^ 52 * D → n < 2 ^ 53 * D
-    more n x = omega arith
-
-    go : (g n : ℕ) → Half g n (D * 1) → (2 ^ 53 * g ≤ 2 ^ 53 * n + (n + 2 ^ 52 * D)) × (2 ^ 53 * n ≤ 2 ^ 53 * g + (n + 2 ^ 52 * D))
-    go g n x = omega arith
-
 module _ {z : Float} {P N D : ℕ} (E : 0 < D) (top : dist P N * L < 2 ^ 2097 * D) (r : Rounds binary64 z P N D) where
   size-is : dist P N ≡ r .size
   size-is = signed-dist (r .sign) (r .size) P N (r .is)
@@ -134,20 +124,6 @@ module _ {z : Float} {P N D : ℕ} (E : 0 < D) (top : dist P N * L < 2 ^ 2097 * 
   rounds-relative-normal h =
       let k = normal (r .size) D E (subst (λ (x : ℕ). 2 ^ 52 * D ≤ x * L) size-is h) in
       subst (λ (x : ℕ). RelAny z P N D (x * L)) (sym size-is) (any-of (r .sign) z (r .size) (grid binary64 (r .size) D) P N D (r .size * L) has (r .is) (k .0) (k .1))
-
-  -- |P - N| / D < 2 ^ 1023: the same, and a half of a unit
-  pub rounds-relative-any : RelAny z P N D (dist P N * L + 2 ^ 52 * D)
-  rounds-relative-any = subst (λ (x : ℕ). RelAny z P N D (x * L + 2 ^ 52 * D)) (sym size-is) (go (leb (2 ^ 52 * D) (r .size * L)) (leb→le (2 ^ 52 * D) (r .size * L)) (nleb→lt (2 ^ 52 * D) (r .size * L)))
-    where
-      more : (g n x : ℕ) → (2 ^ 53 * g ≤ 2 ^ 53 * n + n) × (2 ^ 53 * n ≤ 2 ^ 53 * g + n) → (2 ^ 53 * g ≤ 2 ^ 53 * n + (n + x)) × (2 ^ 53 * n ≤ 2 ^ 53 * g + (n + x))
-      more g n x h = omega arith
-
-      made : (2 ^ 53 * (grid binary64 (r .size) D * D) ≤ 2 ^ 53 * (r .size * L) + (r .size * L + 2 ^ 52 * D)) × (2 ^ 53 * (r .size * L) ≤ 2 ^ 53 * (grid binary64 (r .size) D * D) + (r .size * L + 2 ^ 52 * D)) → RelAny z P N D (r .size * L + 2 ^ 52 * D)
-      made k = any-of (r .sign) z (r .size) (grid binary64 (r .size) D) P N D (r .size * L + 2 ^ 52 * D) has (r .is) (k .0) (k .1)
-
-      go : (b : Bool) → (T b → 2 ^ 52 * D ≤ r .size * L) → (T (not b) → r .size * L < 2 ^ 52 * D) → RelAny z P N D (r .size * L + 2 ^ 52 * D)
-      go true h _ = made (more (grid binary64 (r .size) D * D) (r .size * L) (2 ^ 52 * D) (normal (r .size) D E (h tt)))
-      go false _ h = made (tiny (r .size) D E (h tt))
 
 -- ---- a product (p - n) / D times (q - m) / E, and a quotient by B / E above zero, of 2 ^ -1022 to 2 ^ 1023 in size
 pub mul-relative : {x y : Float} {p n q m D E : ℕ} → 0 < D → 0 < E → dist p n * dist q m * L < 2 ^ 2097 * (D * E) → 2 ^ 52 * (D * E) ≤ dist p n * dist q m * L → Val x p n D → Val y q m E

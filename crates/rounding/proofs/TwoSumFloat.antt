@@ -21,7 +21,8 @@ use Rattle.rounding.proofs.Range.{power-val}
 use Rattle.rounding.proofs.Optimal.{step}
 use Rattle.rounding.proofs.Relative.{step-relative}
 pub use Rattle.rounding.proofs.Relative.{step-has}
-use Rattle.rounding.proofs.TwoSum.{dist, RN, two-sum}
+use Rattle.rounding.proofs.Nearest.{RN}
+use Rattle.rounding.proofs.TwoSum.{dist, two-sum}
 
 -- z is (p - n) / L, which is (P - N) / L rounded, and at most 2 * M / L in size
 pub record At (z : Float) (P N M : ℕ) : Type 0 where
@@ -42,8 +43,8 @@ twice g a M h k = omega arith
 -- |P - N| ≤ M, with 2 * M below the largest f64: the rounded value is finite, and at most 2 * M
 pub at : {z : Float} {P N M : ℕ} → 2 * M < 2 ^ 2098 → P ≤ N + M → N ≤ P + M → Rounds binary64 z P N L → At z P N M
 at {z} {P} {N} {M} b u l r =
-    let g : step (r .size) ≤ 2 * M = twice (step (r .size)) (r .size) M (step-relative (r .size) .0) (signed-le (r .sign) (r .size) P N M (r .is) u l) in
-    at-of (r .sign) z (r .size) P N M (subst (λ (x : Float). HasValue x (r .sign) (step (r .size)) L) (sym (r .eq)) (step-has (r .sign) (r .size) (lt-of-le-of-lt g b))) (r .is) g
+    let g : step (r .size) ≤ 2 * M = twice (step (r .size)) (r .size) M (step-relative (r .size) .0) (signed-le (r .sign) (r .size) P N M (r .is) u l)
+    in at-of (r .sign) z (r .size) P N M (subst (λ (x : Float). HasValue x (r .sign) (step (r .size)) L) (sym (r .eq)) (step-has (r .sign) (r .size) (lt-of-le-of-lt g b))) (r .is) g
 
 -- s + e = (P - N) / L, exactly
 pub record Exact (s e : Float) (P N : ℕ) : Type 0 where
@@ -132,8 +133,7 @@ pub two-sum-under : {a b : Float} {p n q m : ℕ} → T (fits binary64 a) → T 
     → Exact (add binary64 a b) (two-sum-error a b) (p + q) (n + m)
 two-sum-under {a} {b} {p} {n} {q} {m} fa fb ha hb va vb =
     let x = lt-says L-pos (abs-val va) (power-val 52 L) ha in
-    let y = lt-says L-pos (abs-val vb) (power-val 52 L) hb in
-    two-sum-exact a b p n q m (2 ^ 52 * L) va vb (val-rep fa va) (val-rep fb vb) enough
+    let y = lt-says L-pos (abs-val vb) (power-val 52 L) hb in two-sum-exact a b p n q m (2 ^ 52 * L) va vb (val-rep fa va) (val-rep fb vb) enough
     (near p n (dist p n) (2 ^ 52 * L) x (dist-up p n .0)) (near n p (dist p n) (2 ^ 52 * L) x (dist-up p n .1))
     (near q m (dist q m) (2 ^ 52 * L) y (dist-up q m .0)) (near m q (dist q m) (2 ^ 52 * L) y (dist-up q m .1))
   where

@@ -7,7 +7,7 @@ use native.Mathlib.Omega.{arith}
 use mathlib.Core.Bool.{Bool, true, false, not, _&&_, cond}
 use lib.Dec.{T, ltb, eqb, eqb→eq, ltb→lt, nltb→le}
 use lib.Pow.{pow-pos}
-use lib.Ieee.{Float, nan, inf, fin, Format, up, down, round, sum, add, sub, neg, mul, div, unlike, isNan}
+use lib.Ieee.{Float, nan, inf, fin, Format, up, down, round, sum, add, sub, neg, mul, div, unlike}
 use lib.Ieee.Fits.{up-pos, down-pos}
 use lib.Ieee.Positive.{first-pos}
 use lib.Ieee.Exact.{HasValue}
@@ -117,15 +117,6 @@ has-true (fin t m e) s a d h = refl
 pub val-finite-true : {x : Float} {p n d : ℕ} → Val x p n d → finite x ≡ true
 val-finite-true {x} {d = d} v = has-true x (v .sign) (v .size) d (v .has)
 
-has-number : (x : Float) (s : Bool) (a d : ℕ) → HasValue x s a d → isNan x ≡ false
-unfolding isNan
-has-number nan s a d h = absurd h
-has-number (inf t) s a d h = refl
-has-number (fin t m e) s a d h = refl
-
-pub val-not-nan : {x : Float} {p n d : ℕ} → Val x p n d → isNan x ≡ false
-val-not-nan {x} {d = d} v = has-number x (v .sign) (v .size) d (v .has)
-
 -- ---- -x and |x| are exact
 neg-has : (x : Float) (s : Bool) (a d : ℕ) → HasValue x s a d → HasValue (neg x) (not s) a d
 unfolding neg
@@ -184,8 +175,7 @@ add-has f nan y s t A B D p n q m E h k i j = absurd h
 add-has f (inf u) y s t A B D p n q m E h k i j = absurd h
 add-has f (fin u a e) nan s t A B D p n q m E h k i j = absurd k
 add-has f (fin u a e) (inf v) s t A B D p n q m E h k i j = absurd k
-add-has f (fin u a e) (fin v b d) s t A B D p n q m E h k i j =
-    sum-rounds f u v (a * up e * down d) (b * up d * down e) (down e * down d) A B D p n q m (mul-pos (down-pos e) (down-pos d)) E
+add-has f (fin u a e) (fin v b d) s t A B D p n q m E h k i j = sum-rounds f u v (a * up e * down d) (b * up d * down e) (down e * down d) A B D p n q m (mul-pos (down-pos e) (down-pos d)) E
     (cross-l (a * up e) (down e) (down d) A D (h .1)) (cross-r (b * up d) (down e) (down d) B D (k .1))
     (subst (λ (z : Bool). Signed z A p n) (sym (h .0)) i) (subst (λ (z : Bool). Signed z B q m) (sym (k .0)) j)
 
@@ -256,6 +246,3 @@ sided true y false a B E h k i = let w : ⊥ = omega arith in absurd w
 
 pub div-rounds : (f : Format) {x y : Float} {p n B D E : ℕ} → 0 < D → 0 < E → 0 < B → Val x p n D → Val y B 0 E → Rounds f (div f x y) (p * E) (n * E) (D * B)
 div-rounds f {x} {y} {p} {n} {B} {D} {E} F G H v w = div-has f false x y (v .sign) (v .size) B D E p n F G H (v .has) (sided false y (w .sign) (w .size) B E H (w .has) (w .is)) (v .is)
-
-pub div-rounds-below : (f : Format) {x y : Float} {p n B D E : ℕ} → 0 < D → 0 < E → 0 < B → Val x p n D → Val y 0 B E → Rounds f (div f x y) (n * E) (p * E) (D * B)
-div-rounds-below f {x} {y} {p} {n} {B} {D} {E} F G H v w = div-has f true x y (v .sign) (v .size) B D E p n F G H (v .has) (sided true y (w .sign) (w .size) B E H (w .has) (w .is)) (v .is)

@@ -1,5 +1,4 @@
--- Closed cases of the table of conversions, by computation: a tie, either part the larger, the arguments of SOFA's check values, each refusal, and two pairs of stamps of one
--- instant. The answers for SOFA's arguments are within 1e-16 of its published decimals: the nearest float for TCG and TT, a last bit beside it for TCB and TDB. Assumes nothing.
+-- Closed cases of the table of conversions, by computation: a tie, either part the larger, each refusal, and two pairs of stamps of one instant. Assumes nothing.
 use mathlib.Core.Path.{_≡_, refl}
 use mathlib.Core.Bool.{true, false}
 use Prim.Native.Nat.{ℕ, _+_, _*_, _^_}
@@ -14,7 +13,7 @@ use Rattle.julian.specs.declared.JulianDate.{JulianDate}
 use Rattle.julian.specs.Finite.{finiteJd, finiteArg}
 use Rattle.scales.specs.SmallerPart.{firstIsLarger, partsOf, putBack, mapSmallerPart}
 use Rattle.scales.specs.Formulas.{plus, minus, since, daysOf, gpsDays, ttDays, tdb0, jd1977, tcgToTt, ttToTcg, tcbToTdb, tdbToTcb}
-use Rattle.scales.specs.Conversions.{gps-tai, tt-tai, tcg-tt, tt-tcg, tcb-tdb, tdb-tcb, tcg-tai, tai-ut1, changed, converted, finiteOffset, finiteBoth, convertedBy, answerOf}
+use Rattle.scales.specs.Conversions.{gps-tai, tt-tai, tcb-tdb, tcg-tai, tai-ut1, changed, converted, finiteOffset, finiteBoth, convertedBy, answerOf}
 use Rattle.scales.specs.Ranges.{Practical, Modified}
 use Rattle.scales.specs.Meaning.{Apart, Means, taiOverGps}
 use Rattle.scales.proofs.Recorders.{one-instant, one-instant-modified}
@@ -39,26 +38,6 @@ tie = refl
 second-larger : answerOf tt-tai (at (bits 0x3fd0_0000_0000_0000) (bits 0x4142_b42c_8000_0000)) ≡ answer (at (bits 0x3fcf_f3cb_3e57_53a4) (bits 0x4142_b42c_8000_0000))
 unfolding answerOf converted convertedBy finiteBoth finiteOffset finiteJd finiteArg onward changed mapSmallerPart partsOf putBack firstIsLarger plus minus since daysOf gpsDays ttDays tdb0 jd1977 tcgToTt ttToTcg tcbToTdb tdbToTcb secondsPerDay gpsToTaiOffsetSeconds ttTaiOffset mjdZeroPoint mjd1977Jan1 tcgReferenceEpoch tcgRateLg tcbRateLb tcgRateRatio tcbRateRatio ratio tdbOffset1977 abs lt ofBits round add sub mul div neg
 second-larger = refl
-
--- SOFA's check value of iauTcgtt: 0.8928551387488816828
-sofa-tcgtt : answerOf tcg-tt (at (bits 0x4142_b87b_4000_0000) (bits 0x3fec_9254_714f_004c)) ≡ answer (at (bits 0x4142_b87b_4000_0000) (bits 0x3fec_9244_f09f_be60))
-unfolding answerOf converted convertedBy finiteBoth finiteOffset finiteJd finiteArg onward changed mapSmallerPart partsOf putBack firstIsLarger plus minus since daysOf gpsDays ttDays tdb0 jd1977 tcgToTt ttToTcg tcbToTdb tdbToTcb secondsPerDay gpsToTaiOffsetSeconds ttTaiOffset mjdZeroPoint mjd1977Jan1 tcgReferenceEpoch tcgRateLg tcbRateLb tcgRateRatio tcbRateRatio ratio tdbOffset1977 abs lt ofBits round add sub mul div neg
-sofa-tcgtt = refl
-
--- of iauTttcg: 0.8924900312508587113
-sofa-tttcg : answerOf tt-tcg (at (bits 0x4142_b87b_4000_0000) (bits 0x3fec_8f37_c058_16ba)) ≡ answer (at (bits 0x4142_b87b_4000_0000) (bits 0x3fec_8f47_4107_4f83))
-unfolding answerOf converted convertedBy finiteBoth finiteOffset finiteJd finiteArg onward changed mapSmallerPart partsOf putBack firstIsLarger plus minus since daysOf gpsDays ttDays tdb0 jd1977 tcgToTt ttToTcg tcbToTdb tdbToTcb secondsPerDay gpsToTaiOffsetSeconds ttTaiOffset mjdZeroPoint mjd1977Jan1 tcgReferenceEpoch tcgRateLg tcbRateLb tcgRateRatio tcbRateRatio ratio tdbOffset1977 abs lt ofBits round add sub mul div neg
-sofa-tttcg = refl
-
--- of iauTcbtdb: 0.8928551362746343397, the float below the answer
-sofa-tcbtdb : answerOf tcb-tdb (at (bits 0x4142_b87b_4000_0000) (bits 0x3fec_939d_d68c_8b8c)) ≡ answer (at (bits 0x4142_b87b_4000_0000) (bits 0x3fec_9244_ef4b_af8a))
-unfolding answerOf converted convertedBy finiteBoth finiteOffset finiteJd finiteArg onward changed mapSmallerPart partsOf putBack firstIsLarger plus minus since daysOf gpsDays ttDays tdb0 jd1977 tcgToTt ttToTcg tcbToTdb tdbToTcb secondsPerDay gpsToTaiOffsetSeconds ttTaiOffset mjdZeroPoint mjd1977Jan1 tcgReferenceEpoch tcgRateLg tcbRateLb tcgRateRatio tcbRateRatio ratio tdbOffset1977 abs lt ofBits round add sub mul div neg
-sofa-tcbtdb = refl
-
--- and of iauTdbtcb: 0.8930195997253656716, the float above the answer
-sofa-tdbtcb : answerOf tdb-tcb (at (bits 0x4142_b87b_4000_0000) (bits 0x3fec_9244_efaf_6112)) ≡ answer (at (bits 0x4142_b87b_4000_0000) (bits 0x3fec_939d_d6f0_3d14))
-unfolding answerOf converted convertedBy finiteBoth finiteOffset finiteJd finiteArg onward changed mapSmallerPart partsOf putBack firstIsLarger plus minus since daysOf gpsDays ttDays tdb0 jd1977 tcgToTt ttToTcg tcbToTdb tdbToTcb secondsPerDay gpsToTaiOffsetSeconds ttTaiOffset mjdZeroPoint mjd1977Jan1 tcgReferenceEpoch tcgRateLg tcbRateLb tcgRateRatio tcbRateRatio ratio tdbOffset1977 abs lt ofBits round add sub mul div neg
-sofa-tdbtcb = refl
 
 -- document 01's case of 9: a part is an infinity
 infinite : answerOf gps-tai (at (inf false) (bits 0)) ≡ refusal 9

@@ -69,8 +69,7 @@ add-number nan y h k = absurd (true≢false (sym h))
 add-number (inf s) y h k = absurd (true≢false (sym h))
 add-number (fin s m e) nan h k = absurd (number-not nan k refl)
 add-number (fin s m e) (inf t) h k = inf-number t
-add-number (fin s m e) (fin t n d) h k =
-    sum-number s (m * up e * down d) t (n * up d * down e) (down e * down d)
+add-number (fin s m e) (fin t n d) h k = sum-number s (m * up e * down d) t (n * up d * down e) (down e * down d)
 
 neg-number : (y : Float) → Number y → Number (neg y)
 unfolding neg isNan

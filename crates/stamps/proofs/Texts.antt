@@ -1,5 +1,5 @@
 -- The text of a stamp has at most 26 bytes, so where there is room for them the text call refuses only what the conversion refuses. Assumes nothing.
-use Prim.Native.Nat.{ℕ, _+_, _≤_}
+use Prim.Native.Nat.{ℕ, _≤_}
 use native.Mathlib.Omega.{arith}
 use mathlib.Core.Path.{_≡_, refl, sym, ap, _∙_}
 use mathlib.Core.List.{List, _++_}

@@ -41,13 +41,13 @@ unfolding linesIn listingOf linesFrom lineOf
 all-lines-by s (answer n) is = ap (linesFrom s 0) (add-one n) ∙ lines-are s n is n
 all-lines-by s (refusal k) is = rw is refl
 
-all-lines : (s : List ℕ) → linesFrom s 0 (linesIn (blockOf s)) ≡ listing s
+pub all-lines : (s : List ℕ) → linesFrom s 0 (linesIn (blockOf s)) ≡ listing s
 unfolding listing
 all-lines s = all-lines-by s (blockOf s) refl
 
 -- ---- the parts
 module _ (s : List ℕ) where
-  lines-add : (i a b : ℕ) → linesFrom s i a ++ linesFrom s (i + a) b ≡ linesFrom s i (a + b)
+  pub lines-add : (i a b : ℕ) → linesFrom s i a ++ linesFrom s (i + a) b ≡ linesFrom s i (a + b)
   unfolding linesFrom
   lines-add i a zero = append-nil (linesFrom s i a) ∙ ap (linesFrom s i) (sym (add-zero a))
   lines-add i a (suc b) =

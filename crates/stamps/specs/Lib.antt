@@ -1,6 +1,7 @@
--- The definitions that the contracts of `stamps` cite: the stamp block, its listing, and the parts that a scratch holds.
+-- The definitions that the contracts of `stamps` cite: the stamp block, its listing, the parts that a scratch holds, and line ends.
 pub mod Block
 pub mod Decimal
 pub mod Listing
 pub mod Parts
 pub mod Placed
+pub mod LineEnds

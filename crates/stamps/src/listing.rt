@@ -1,10 +1,12 @@
 // The listing of a stamp block, in parts of whole lines.
 ghost use mathlib.Core.Path.{_≡_};
 ghost use Prim.Native.Nat.{_+_, _-_, _≤_, _<_};
-ghost use mathlib.Core.Bool.{cond};
+ghost use mathlib.Core.Bool.{cond, _&&_};
 ghost use lib.ListN.{length};
 ghost use lib.IntN.{negsuc};
 ghost use lib.Signed.{ltZ};
+ghost use lib.Ieee.{le};
+ghost use Rattle.day_number.specs.DayNumber.{c-zero, c-djmax};
 ghost use Rattle.tai_utc.specs.Table.{fixed};
 ghost use Rattle.utc.specs.IsoText.{isoText};
 ghost use Rattle.stamps.specs.Block.{blockOutcome, blockOf};
@@ -57,10 +59,20 @@ fn one_if_early(day: i64) -> u32
     if day < -31738 { 1 } else { 0 }
 }
 
-// 1 where a date has no text, else 0. Of the text's conversion only the day number is made: what comes after it refuses nothing but the days before the first.
+// Whether every date with this rounded sum of its parts has a text: from 0.0, in the year -4713, to the greatest sum that has a day. A NaN is not there.
+fn surely_shown(sum: f64) -> bool
+    ensures { λ r. ⌜ r ≡ (le c-zero sum && le sum c-djmax) ⌝ }
+{
+    sum >= 0.0 && sum <= 1e9
+}
+
+// 1 where a date has no text, else 0. Of the text's conversion the day number is made at most: what comes after it refuses only the days before the first.
 fn one_if_refused(jd: JulianDate) -> u32
     ensures { λ r. ⌜ (r ≡ oneIfRefused (isoText fixed jd)) × (r ≤ 1) ⌝ }
 {
+    if surely_shown(jd.jd1 + jd.jd2) {
+        return 0;
+    }
     match day_number::day_number_and_fraction(jd.jd1, jd.jd2) {
         DayAnswer::Refused(_) => 1,
         DayAnswer::Day(found) => one_if_early(found.day),

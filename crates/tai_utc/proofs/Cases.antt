@@ -1,41 +1,17 @@
--- Document 01's offsets as they come out: the starred dates at 0h, the leap at the end of 2016, both ends of the day, and each refusal in its place.
--- Assumes nothing.
+-- Offsets as they come out: both ends of the day, and each refusal in its place. Document 01's worked cases are a table
+-- of their own (crate `worked_cases`). Assumes nothing.
 use mathlib.Core.Path.{_≡_, refl}
 use mathlib.Core.Bool.{false, true}
 use lib.ListN.{length}
 use lib.IntN.{pos}
-use lib.Ieee.{fin, nan, round, add, sub, mul, le}
+use lib.Ieee.{fin, nan, round, le}
 use Rattle.refusals.specs.Outcome.{answer, refusal, onward}
-use Rattle.calendar.specs.Calendar.{leapSize, lengths, daysInMonth, next}
+use Rattle.calendar.specs.Calendar.{leapSize, lengths, daysInMonth}
 use Rattle.calendar.specs.Refusals.{validDate, nextOf}
 use Rattle.calendar.specs.DayCount.{civilCount, mjdNumber, mjdOf}
 use Rattle.tai_utc.specs.Table.{fixed, monthNumber, reached}
-use Rattle.tai_utc.specs.Offset.{zeroF, oneF, secondsOf, byRow, offsetBy, offsetAt, inDay, taiUtcOffset}
-use Rattle.tai_utc.specs.Leap.{dayOffsets, leapOf, leapAtEndOfDay}
-
--- 0.0
-pub offset-1959-12-31 : taiUtcOffset fixed (pos 1959) (pos 12) (pos 31) zeroF ≡ answer zeroF
-unfolding taiUtcOffset onward mjdOf mjdNumber civilCount validDate daysInMonth lengths leapSize offsetAt offsetBy inDay le fixed monthNumber reached
-offset-1959-12-31 = refl
-
--- 10.0
-pub offset-1972-01-01 : taiUtcOffset fixed (pos 1972) (pos 1) (pos 1) zeroF ≡ answer (fin false 5 (pos 1))
-unfolding taiUtcOffset onward mjdOf mjdNumber civilCount validDate daysInMonth lengths leapSize offsetAt offsetBy byRow secondsOf round inDay le fixed monthNumber reached
-offset-1972-01-01 = refl
-
--- 36.0
-pub offset-2016-12-31 : taiUtcOffset fixed (pos 2016) (pos 12) (pos 31) zeroF ≡ answer (fin false 9 (pos 2))
-unfolding taiUtcOffset onward mjdOf mjdNumber civilCount validDate daysInMonth lengths leapSize offsetAt offsetBy byRow secondsOf round inDay le fixed monthNumber reached
-offset-2016-12-31 = refl
-
--- 37.0
-pub offset-2017-01-01 : taiUtcOffset fixed (pos 2017) (pos 1) (pos 1) zeroF ≡ answer (fin false 37 (pos 0))
-unfolding taiUtcOffset onward mjdOf mjdNumber civilCount validDate daysInMonth lengths leapSize offsetAt offsetBy byRow secondsOf round inDay le fixed monthNumber reached
-offset-2017-01-01 = refl
-
-pub leap-2016-12-31 : leapAtEndOfDay fixed (pos 2016) (pos 12) (pos 31) ≡ answer oneF
-unfolding leapAtEndOfDay dayOffsets leapOf nextOf next taiUtcOffset onward mjdOf mjdNumber civilCount validDate daysInMonth lengths leapSize offsetAt offsetBy byRow secondsOf round add sub mul inDay le fixed monthNumber reached
-leap-2016-12-31 = refl
+use Rattle.tai_utc.specs.Offset.{oneF, secondsOf, byRow, offsetBy, offsetAt, inDay, taiUtcOffset}
+use Rattle.tai_utc.specs.Leap.{dayOffsets, leapAtEndOfDay}
 
 -- -0.0 and 1.0 are fractions of the day
 pub at-minus-zero : taiUtcOffset fixed (pos 2017) (pos 1) (pos 1) (fin true 0 (pos 0)) ≡ answer (fin false 37 (pos 0))

@@ -6,5 +6,6 @@ pub mod At
 pub mod Mjd
 pub mod Offsets
 pub mod Days
+pub mod Plain
 pub mod Years
 pub mod Cases

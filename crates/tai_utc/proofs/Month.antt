@@ -2,7 +2,7 @@
 -- Assumes nothing.
 use mathlib.Core.Path.{_≡_, refl, ap, sym, subst, _∙_}
 use mathlib.Core.Bool.{true, false}
-use Prim.Native.Nat.{ℕ, _-_, _≤_}
+use Prim.Native.Nat.{ℕ, _≤_}
 use native.Mathlib.Omega.{arith}
 use lib.Dec.{T}
 use lib.IntN.{ℤ, pos, negsuc, natAbs}
@@ -45,3 +45,7 @@ module _ (z : ℤ) (m : ℕ) (f : SFits w32 z) where
 
   pub counted : ltZ (toZ w32 (ofZ w32 z)) (pos 0) ≡ false → monthOf (natAbs (toZ w32 (ofZ w32 z))) m ≡ monthNumber z m
   counted e = ap (λ (x : ℤ). monthOf (natAbs x) m) (toZ-ofZ f) ∙ since e .1
+
+-- a month as a call of `month_number` is handed it
+pub read-month : (y m : ℤ) → SFits w32 y → SFits w32 m → monthNumber (toZ w32 (ofZ w32 y)) (natAbs (toZ w32 (ofZ w32 m))) ≡ monthNumber y (natAbs m)
+read-month y m f g = λ i. monthNumber (toZ-ofZ f i) (natAbs (toZ-ofZ g i))

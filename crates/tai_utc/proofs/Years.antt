@@ -88,13 +88,17 @@ seconds-whole k h l =
     seconds-of : (i : ℕ) → 15 ≤ i → 10 + (i - 15) ≡ i - 5
     seconds-of i g = omega arith
 
-pub whole-seconds : (n : ℕ) (mjd f : Float) → 23664 ≤ n → offsetAt fixed n mjd f ≡ ofInt binary64 (pos (reached (starts fixed) n - 5))
+-- at every date and fraction the seconds of the row reached
+pub row-seconds : (n : ℕ) → 23664 ≤ n → (mjd f : Float) → secondsOf (rowAt (reached (starts fixed) n)) ≡ offsetAt fixed n mjd f
 unfolding offsetAt
-whole-seconds n mjd f h =
+row-seconds n h mjd f =
     let k = reached (starts fixed) n in
     let a = whole-rows n h in
     let b = most-rows n in
-    sym (steady k mjd f (omega (arith, a)) (omega (arith, a)) (omega (arith, a, b)) (ofInt binary64 (pos (k - 5))) (sym (seconds-whole k a b)))
+    steady k mjd f (omega (arith, a)) (omega (arith, a)) (omega (arith, a, b)) (secondsOf (rowAt k)) refl
+
+pub whole-seconds : (n : ℕ) (mjd f : Float) → 23664 ≤ n → offsetAt fixed n mjd f ≡ ofInt binary64 (pos (reached (starts fixed) n - 5))
+whole-seconds n mjd f h = sym (row-seconds n h mjd f) ∙ seconds-whole (reached (starts fixed) n) (whole-rows n h) (most-rows n)
 
 -- ---- THE SAME BY DATES
 early : (y : ℤ) (m : ℕ) → ltZ y (pos 1960) ≡ true → m ≤ 12 → monthNumber y m < 23520

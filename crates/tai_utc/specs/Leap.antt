@@ -35,6 +35,7 @@ offsetsOfDay rows month next n =
 unfoldable pub leapOf : DayOffsets → Float
 leapOf o = sub binary64 (o .«at_24h») (sub binary64 (mul binary64 twoF (o .«at_12h»)) (o .«at_0h»))
 
+-- document 01's leap, "`leap_at_end_of_day` of the calendar's day"
 unfoldable pub leapAtEndOfDay : List Row → ℤ → ℤ → ℤ → Outcome Float
 leapAtEndOfDay rows y m d = onward (dayOffsets rows y m d) (λ o. answer (leapOf o))
 

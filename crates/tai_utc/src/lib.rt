@@ -1,12 +1,15 @@
 // TAI-UTC by the IERS table, and the leap at the end of a day: scales/common.rs's `get_tai_utc_offset` with the table of constants.rs, and the look-ups of
 // scales/utc/mod.rs and scales/conversions/utc_tai/mod.rs.
 ghost use mathlib.Core.Path.{_≡_};
-ghost use Prim.Native.Nat.{_<_, _≤_};
+ghost use mathlib.Core.Bool.{true};
+ghost use Prim.Native.Nat.{_-_, _<_, _≤_};
 ghost use lib.IntN.{natAbs};
 ghost use lib.ListN.{getD};
+ghost use lib.Ieee.{Float};
 ghost use Rattle.tai_utc.specs.Table.{fixed, starts, reached, monthNumber};
-ghost use Rattle.tai_utc.specs.Offset.{none, secondsOf, startOf, rateOf, offsetBy, taiUtcOffset};
+ghost use Rattle.tai_utc.specs.Offset.{none, secondsOf, startOf, rateOf, offsetBy, offsetAt, taiUtcOffset};
 ghost use Rattle.tai_utc.specs.Leap.{offsetsOfDay, dayOffsets, leapAtEndOfDay};
+ghost use Rattle.tai_utc.specs.Plain.{Plain};
 ghost use Rattle.tai_utc.specs.Answers.{offsetOutcome, dayOffsetsOutcome};
 
 // The months in which the rows begin, numbered from January of year 0.
@@ -55,8 +58,8 @@ const MONTHS: [u64; 42] = [
     24204,
 ];
 
-// TAI-UTC of each row in seconds.
-const SECONDS: [f64; 42] = [
+// The rows that drift: TAI-UTC in seconds, the Modified Julian Date at which the drift starts, and its seconds a day.
+const SECONDS: [f64; 14] = [
     1.4178180,
     1.4228180,
     1.3728180,
@@ -71,37 +74,8 @@ const SECONDS: [f64; 42] = [
     3.8401300,
     4.3131700,
     4.2131700,
-    10.0,
-    11.0,
-    12.0,
-    13.0,
-    14.0,
-    15.0,
-    16.0,
-    17.0,
-    18.0,
-    19.0,
-    20.0,
-    21.0,
-    22.0,
-    23.0,
-    24.0,
-    25.0,
-    26.0,
-    27.0,
-    28.0,
-    29.0,
-    30.0,
-    31.0,
-    32.0,
-    33.0,
-    34.0,
-    35.0,
-    36.0,
-    37.0,
 ];
 
-// The rows that drift: the Modified Julian Date at which the drift starts, and its seconds a day.
 const STARTS: [f64; 14] = [
     37300.0,
     37300.0,
@@ -178,7 +152,7 @@ fn table_rows_reached(n: u64) -> usize
 
 // The decimals of row i as floats, each the nearest.
 fn seconds_at(i: usize) -> f64
-    requires { ⌜ i < 42 ⌝ }
+    requires { ⌜ i < 14 ⌝ }
     ensures { λ r. ⌜ r ≡ secondsOf (getD fixed i none) ⌝ }
 {
     SECONDS[i]
@@ -198,6 +172,16 @@ fn rate_at(i: usize) -> f64
     RATES[i]
 }
 
+// The seconds of the last of 15 or more rows: 10 in the row of 1972, and one more in each later row. They are counted and not read from a table, since the
+// compiled code copies a table whenever it is read by an index.
+fn whole_seconds(rows: usize) -> f64
+    requires { ⌜ (15 ≤ rows) × (rows ≤ 42) ⌝ }
+    ensures { λ r. ⌜ r ≡ secondsOf (getD fixed (rows - 1) none) ⌝ }
+{
+    let seconds = (rows - 5) as u32;
+    seconds as f64
+}
+
 // The offset by the number of rows reached.
 fn offset_by(rows: usize, mjd: f64, fraction: f64) -> f64
     requires { ⌜ rows ≤ 42 ⌝ }
@@ -210,7 +194,7 @@ fn offset_by(rows: usize, mjd: f64, fraction: f64) -> f64
     if i < 14 {
         return seconds_at(i) + (mjd + fraction - start_at(i)) * rate_at(i);
     }
-    seconds_at(i)
+    whole_seconds(rows)
 }
 
 // The number of a date's month; 0 in the years before year 0, when no row has begun.
@@ -224,6 +208,34 @@ fn month_number(year: i32, month: u32) -> u64
     12 * (year as u64) + (month as u64) - 1
 }
 
+// Whether the date is from 1972 on, where no row drifts, and at most the 27th, so that its next date is in the same month. The offsets of such a date need
+// neither its Modified Julian Date nor its next date.
+fn plain_day(year: i32, month: i32, day: i32) -> bool
+    ensures { λ r. ⌜ (r ≡ true → Plain year month day) ⌝ }
+{
+    if year < 1972 {
+        return false;
+    }
+    if month < 1 {
+        return false;
+    }
+    if 12 < month {
+        return false;
+    }
+    if day < 1 {
+        return false;
+    }
+    day <= 27
+}
+
+// TAI-UTC in a month from January 1972 on: the same at every fraction of each day.
+fn seconds_from_1972(month: u64) -> f64
+    requires { ⌜ 23664 ≤ month ⌝ }
+    ensures { λ r. ⌜ ((mjd fraction : Float) → r ≡ offsetAt fixed month mjd fraction) ⌝ }
+{
+    whole_seconds(table_rows_reached(month))
+}
+
 // TAI-UTC at a fraction of a day. Refusals in order: 7 the fraction, then 1 to 3 the date.
 pub fn get_tai_utc_offset(year: i32, month: i32, day: i32, fraction: f64) -> OffsetAnswer
     ensures { λ r. ⌜ offsetOutcome r ≡ taiUtcOffset fixed year month day fraction ⌝ }
@@ -233,6 +245,9 @@ pub fn get_tai_utc_offset(year: i32, month: i32, day: i32, fraction: f64) -> Off
     }
     if !(fraction <= 1.0) {
         return OffsetAnswer::Refused(refusals::FRACTION_NOT_IN_DAY);
+    }
+    if plain_day(year, month, day) {
+        return OffsetAnswer::Seconds(seconds_from_1972(month_number(year, month as u32)));
     }
     match calendar::modified_julian_day(year, month, day) {
         calendar::MjdAnswer::Refused(number) => OffsetAnswer::Refused(number),
@@ -274,6 +289,14 @@ fn offsets_of_day(month: u64, next: u64, mjd: i64) -> DayOffsets
 pub fn day_offsets(year: i32, month: i32, day: i32) -> DayOffsetsAnswer
     ensures { λ r. ⌜ dayOffsetsOutcome r ≡ dayOffsets fixed year month day ⌝ }
 {
+    if plain_day(year, month, day) {
+        let seconds = seconds_from_1972(month_number(year, month as u32));
+        return DayOffsetsAnswer::Offsets(DayOffsets {
+            at_0h: seconds,
+            at_12h: seconds,
+            at_24h: seconds,
+        });
+    }
     match calendar::modified_julian_day(year, month, day) {
         calendar::MjdAnswer::Refused(number) => DayOffsetsAnswer::Refused(number),
         calendar::MjdAnswer::Mjd(n) => match calendar::next_calendar_day(year, month, day) {

@@ -1,8 +1,9 @@
 -- The float chain of `millisOf`, before it is rounded to a whole number: 1000 * (86400 * (f + f * l / 86400)), in units of 2 ^ -1074, for f = F / L below 1 and
--- l = (B - C) / E at most 1 in size. It is within 305445864 * 2 ^ -53 of the exact product. U is 2 ^ -53 in units: every step's error is a multiple of it. Assumes nothing.
-use mathlib.Core.Path.{_≡_, refl, sym, ap, _∙_, subst, subst₂}
+-- l = (B - C) / E at most 1 in size. It is within 305445864 * 2 ^ -53 of the exact product. U is 2 ^ -53 in units: every step's error is a multiple of it.
+-- Assumes nothing.
+use mathlib.Core.Path.{_≡_, refl, sym, subst, subst₂}
 use Prim.Native.Nat.{ℕ, _+_, _*_, _^_, _≤_, _<_}
-use native.Mathlib.Nat.{le-trans, le-of-eq, le-of-lt, mul-comm, mul-assoc, mul-left-comm, mul-one, zero-mul, mul-add, add-mul, mul-le-mul-left, mul-le-mul-right, le-of-mul-le-mul-right, mul-pos}
+use native.Mathlib.Nat.{le-trans, le-of-eq, le-of-lt, mul-comm, mul-one, zero-mul, mul-add, mul-le-mul-left, mul-le-mul-right}
 use native.Mathlib.Omega.{arith}
 use mathlib.Core.Bool.{false}
 use lib.Dec.{lit≤, lit<}
@@ -13,6 +14,7 @@ use Rattle.rounding.proofs.Value.{mul-rounds, rounds-move, L-pos}
 use Rattle.rounding.proofs.Near.{NearSum, add-near}
 use Rattle.rounding.proofs.Scaled.{Scaled, scaled-near, div-near}
 use Rattle.time_of_day.specs.Milliseconds.{secondsOf, thousand-f, day-f}
+use Rattle.time_of_day.proofs.ChainNumbers.{in-one, size-one, in-two, size-two, in-three, in-three', size-three, size-three', in-four, size-four, in-five, gather, gather', finish, finish'}
 
 -- shut, as L is: `omega` takes it for an unknown
 unfoldable pub U : ℕ
@@ -73,77 +75,6 @@ module _ (j : ℕ) {x y : Float} {F B C E : ℕ} where
     where
       go : (b c zb zc : ℕ) → zb ≡ 0 → zc ≡ 0 → b + zc + c * 1 ≡ b * 1 + (c + zb)
       go b c zb zc e f = omega arith
-
--- ---- numbers only: l for L, u for U, w for a power of 2 that is a multiple of L
-in-one : (b c E l w : ℕ) → w ≡ 2 * l → 0 < l → 0 < E → b ≤ c + l * E → b < c + w * E
-in-one b c E l w e h g k = let a : w * E ≡ 2 * (l * E) = ap (λ (x : ℕ). x * E) e ∙ mul-assoc 2 l E in omega (arith, mul-pos h g)
-
--- the size of f * l
-size-one : (b c E l u p n z : ℕ) → 0 < E → z ≡ 2 * u → b ≤ c + l * E → 2 * (E * p + 1 * c) ≤ 2 * (E * n + 1 * b) + E * z → p ≤ n + l + u
-size-one b c E l u p n z g e h k =
-    le-of-mul-le-mul-right {k = E} (le-trans (go (p * E) (n * E) (l * E) (u * E) (E * p) (E * n) (E * z) (mul-comm E p) (mul-comm E n) (ap (λ (x : ℕ). E * x) e ∙ mul-left-comm E 2 u ∙ ap (λ (x : ℕ). 2 * x) (mul-comm E u)) h k) (le-of-eq (sym (add-mul (n + l) u E ∙ ap (λ (x : ℕ). x + u * E) (add-mul n l E))))) g
-  where
-    go : (p n l u p' n' z : ℕ) → p' ≡ p → n' ≡ n → z ≡ 2 * u → b ≤ c + l → 2 * (p' + 1 * c) ≤ 2 * (n' + 1 * b) + z → p ≤ n + l + u
-    go p n l u p' n' z a d f h k = omega arith
-
-in-two : (p n l u w : ℕ) → w ≡ 2 * l → 0 < l → u ≤ l → p ≤ n + l + u → p < n + w * 86400
-in-two p n l u w e h g k = omega arith
-
-size-two : (p n l u a b z : ℕ) → z ≡ 2 * u → p ≤ n + l + u → 2 * (86400 * a + 1 * n) ≤ 2 * (86400 * b + 1 * p) + 86400 * z → 86400 * a ≤ 86400 * b + l + 86401 * u
-size-two p n l u a b z e h k = omega arith
-
-in-three : (F a b l u w : ℕ) → w ≡ 2 * l → F < l → 1000000000 * u ≤ l → 86400 * a ≤ 86400 * b + l + 86401 * u → F + a < 0 + b + w
-in-three F a b l u w e h g k = omega arith
-
-in-three' : (F a b l u w : ℕ) → w ≡ 2 * l → F < l → 1000000000 * u ≤ l → 86400 * b ≤ 86400 * a + l + 86401 * u → 0 + b < F + a + w
-in-three' F a b l u w e h g k = omega arith
-
-size-three : (F a b c d l u z : ℕ) → z ≡ 2 * u → F < l → 86400 * a ≤ 86400 * b + l + 86401 * u → 2 * (c + (0 + b)) ≤ 2 * (d + (F + a)) + z → 86400 * c ≤ 86400 * d + 86401 * l + 172801 * u
-size-three F a b c d l u z e h g k = omega arith
-
-size-three' : (F a b c d l u z : ℕ) → z ≡ 2 * u → 86400 * b ≤ 86400 * a + l + 86401 * u → 2 * (d + (F + a)) ≤ 2 * (c + (0 + b)) + z → 86400 * d ≤ 86400 * c + 86401 * l + 172801 * u
-size-three' F a b c d l u z e g k = omega arith
-
-in-four : (c d l u w : ℕ) → w ≡ 131072 * l → 0 < l → 1000000000 * u ≤ l → 86400 * c ≤ 86400 * d + 86401 * l + 172801 * u → c * 86400 < d * 86400 + w * 1
-in-four c d l u w e h g k = omega arith
-
-size-four : (c d s t l u z : ℕ) → z ≡ 131072 * u → 86400 * c ≤ 86400 * d + 86401 * l + 172801 * u → 2 * (1 * s + 86400 * d) ≤ 2 * (1 * t + 86400 * c) + 1 * z → s ≤ t + 86401 * l + 238337 * u
-size-four c d s t l u z e h k = omega arith
-
-in-five : (s t l u w : ℕ) → w ≡ 134217728 * l → 0 < l → 1000000000 * u ≤ l → s ≤ t + 86401 * l + 238337 * u → s * 1000 < t * 1000 + w * 1
-in-five s t l u w e h g k = omega arith
-
--- all but the first step: it is linear
-gather : (F p n a b c d s t x y u z2 z8 z9 : ℕ) → z2 ≡ 2 * u → z8 ≡ 131072 * u → z9 ≡ 134217728 * u
-    → 2 * (86400 * a + 1 * n) ≤ 2 * (86400 * b + 1 * p) + 86400 * z2
-    → 2 * (c + (0 + b)) ≤ 2 * (d + (F + a)) + z2
-    → 2 * (1 * s + 86400 * d) ≤ 2 * (1 * t + 86400 * c) + 1 * z8
-    → 2 * (1 * x + 1000 * t) ≤ 2 * (1 * y + 1000 * s) + 1 * z9
-    → x + 1000 * n ≤ y + 86400000 * F + 1000 * p + 305444864 * u
-gather F p n a b c d s t x y u z2 z8 z9 e f g h i j k = omega arith
-
-gather' : (F p n a b c d s t x y u z2 z8 z9 : ℕ) → z2 ≡ 2 * u → z8 ≡ 131072 * u → z9 ≡ 134217728 * u
-    → 2 * (86400 * b + 1 * p) ≤ 2 * (86400 * a + 1 * n) + 86400 * z2
-    → 2 * (d + (F + a)) ≤ 2 * (c + (0 + b)) + z2
-    → 2 * (1 * t + 86400 * c) ≤ 2 * (1 * s + 86400 * d) + 1 * z8
-    → 2 * (1 * y + 1000 * s) ≤ 2 * (1 * x + 1000 * t) + 1 * z9
-    → y + 86400000 * F + 1000 * p ≤ x + 1000 * n + 305444864 * u
-gather' F p n a b c d s t x y u z2 z8 z9 e f g h i j k = omega arith
-
--- and the first, which is not: all times E
-finish : (F b c E p n x y u z : ℕ) → z ≡ 2 * u → 2 * (E * p + 1 * c) ≤ 2 * (E * n + 1 * b) + E * z → x + 1000 * n ≤ y + 86400000 * F + 1000 * p + 305444864 * u
-    → E * x + 1000 * c ≤ E * y + 86400000 * (E * F) + 1000 * b + 305445864 * (E * u)
-finish F b c E p n x y u z e h k =
-    let a : E * z ≡ 2 * (E * u) = ap (λ (w : ℕ). E * w) e ∙ mul-left-comm E 2 u in
-    let d : E * (x + 1000 * n) ≤ E * (y + 86400000 * F + 1000 * p + 305444864 * u) = mul-le-mul-left E k in
-    omega (arith, simp mul-add at d, mul-left-comm E 1000 n, mul-left-comm E 1000 p, mul-left-comm E 86400000 F, mul-left-comm E 305444864 u)
-
-finish' : (F b c E p n x y u z : ℕ) → z ≡ 2 * u → 2 * (E * n + 1 * b) ≤ 2 * (E * p + 1 * c) + E * z → y + 86400000 * F + 1000 * p ≤ x + 1000 * n + 305444864 * u
-    → E * y + 86400000 * (E * F) + 1000 * b ≤ E * x + 1000 * c + 305445864 * (E * u)
-finish' F b c E p n x y u z e h k =
-    let a : E * z ≡ 2 * (E * u) = ap (λ (w : ℕ). E * w) e ∙ mul-left-comm E 2 u in
-    let d : E * (y + 86400000 * F + 1000 * p) ≤ E * (x + 1000 * n + 305444864 * u) = mul-le-mul-left E k in
-    omega (arith, simp mul-add at d, mul-left-comm E 1000 n, mul-left-comm E 1000 p, mul-left-comm E 86400000 F, mul-left-comm E 305444864 u)
 
 -- m = (p - n) / L, and E * m is within 305445864 * E * U units of 86400000 * E * F + 1000 * F * (B - C)
 pub record Chained (m : Float) (F B C E : ℕ) : Type 0 where

@@ -1,7 +1,10 @@
 -- The laws of the time of day.
+pub mod ChainNumbers
 pub mod Chain
 pub mod Rounded
+pub mod Fractions
 pub mod Count
+pub mod Fields
+pub mod Close
 pub mod Shows
-pub mod Same
 pub mod Cases

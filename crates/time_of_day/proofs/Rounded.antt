@@ -1,4 +1,5 @@
--- A whole number nearest to a float's value, over pairs: `toSigned 63 (toWhole how x)` for an x = (p - n) / L below 2 ^ 52 in size and any rule `how` that gives a nearest one. Assumes nothing.
+-- A whole number nearest to a float's value, over pairs: `toSigned 63 (toWhole how x)` for an x = (p - n) / L below 2 ^ 52 in size and any rule `how` that
+-- gives a nearest one. Assumes nothing.
 use mathlib.Core.Path.{_≡_, sym, ap, _∙_, subst}
 use Prim.Native.Nat.{ℕ, _+_, _*_, _%_, _^_, _≤_, _<_}
 use native.Mathlib.Nat.{mul-comm, mul-assoc, mul-left-comm, add-mul, mul-pos, div-add-mod', mod-lt, lt-of-mul-lt-mul-right, add-zero}
@@ -12,6 +13,7 @@ use lib.Ieee.Exact.{HasValue}
 use lib.Ieee.Back.{round-whole}
 use lib.Ieee.Nearest.{div-same}
 use Rattle.floats.specs.Whole.{nearer, away, toWhole}
+use Rattle.time_of_day.specs.Nearest.{Nearest}
 use Rattle.rounding.specs.Value.{Signed, Val, L}
 use Rattle.rounding.proofs.Value.{L-pos}
 use Rattle.rounding.proofs.Casts.{plusZ, minusZ, Cut, up-cut, down-cut, trunc-val}
@@ -20,11 +22,6 @@ use Rattle.rounding.proofs.Casts.{plusZ, minusZ, Cut, up-cut, down-cut, trunc-v
 pub record Whole (z : ℤ) (p n : ℕ) : Type 0 where
   pub over : 2 * (plusZ z * L + n) ≤ 2 * (minusZ z * L + p) + L
   pub under : 2 * (minusZ z * L + p) ≤ 2 * (plusZ z * L + n) + L
-
--- The rule `how` takes n / d to a nearest whole number, the same for every way to write the fraction
-pub record Nearest (how : Bool → ℕ → ℕ → ℕ) : Type 0 where
-  pub near : (s : Bool) (g d : ℕ) → 0 < d → (2 * (how s g d * d) ≤ 2 * g + d) × (2 * g ≤ 2 * (how s g d * d) + d)
-  pub same : (s : Bool) (n d g c : ℕ) → 0 < d → 0 < c → n * c ≡ g * d → how s n d ≡ how s g c
 
 near-div : (g d : ℕ) → 0 < d → (2 * (nearer g d * d) ≤ 2 * g + d) × (2 * g ≤ 2 * (nearer g d * d) + d)
 near-div g d h =

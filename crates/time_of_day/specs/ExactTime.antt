@@ -1,4 +1,5 @@
--- The exact time of day and the time shown, by whole numbers. Written from document 01, "UTC text". A float's value is a fraction: `Val x p n d` says x = (p - n) / d. Assumes nothing.
+-- The exact time of day and the time shown, by whole numbers. Written from document 01, "UTC text". A float's value is a fraction:
+-- `Val x p n d` says x = (p - n) / d. Assumes nothing.
 use mathlib.Core.Path.{_≡_}
 use Prim.Native.Nat.{ℕ, _+_, _*_, _≤_, _<_}
 use mathlib.Core.Bool.{false}
@@ -40,7 +41,8 @@ pub record DayLength (leap : Float) (W E : ℕ) : Type 0 where
   pub leap-is : Val (wholeLeap leap) p n E
   pub is : W + n ≡ 86400 * E + p
 
--- Document 01's exact time of day, "the exact fraction × the day length": of the fraction F / D and a day of W / E seconds it is F * W / (D * E) seconds. This is what stands over D * E
+-- Document 01's exact time of day, "the exact fraction × the day length": of the fraction F / D and a day of W / E seconds it is F * W / (D * E) seconds. This
+-- is what stands over D * E
 abbrev pub exactTime : ℕ → ℕ → ℕ
 exactTime F W = F * W
 
@@ -58,7 +60,8 @@ pub record Close (c e s F D W E : ℕ) : Type 0 where
   pub over : c * (s * D) ≤ c * (1000 * exactTime F W) + e * (D * E)
   pub under : c * (1000 * exactTime F W) ≤ c * (s * D) + e * (D * E)
 
--- The fields are a time of day's. Second 60 is only in the last minute of a day that the leap makes longer; on a day that it makes shorter the last minute ends below 59 s
+-- The fields are a time of day's. Second 60 is only in the last minute of a day that the leap makes longer; on a day that it makes shorter the last minute ends
+-- below 59 s
 pub record GoodTime (t : TimeOfDay) (leap : Float) : Type 0 where
   pub hour : t .hour ≤ 23
   pub minute : t .minute ≤ 59
@@ -71,7 +74,8 @@ unfoldable pub Good : TimeShown → Float → Type 0
 Good (At t) leap = GoodTime t leap
 Good NextMidnight leap = Unit
 
--- What is shown has good fields, and is within 0.501 ms, and even within 1 / 2 + 2 ^ -24 ms, of the exact time of day, whatever fractions F / D and W / E the fraction and the day length are written as
+-- What is shown has good fields, and is within 0.501 ms, and even within 1 / 2 + 2 ^ -24 ms, of the exact time of day, whatever fractions F / D and W / E the
+-- fraction and the day length are written as
 pub record ShownRight (fraction leap : Float) (r : TimeShown) : Type 0 where
   pub good : Good r (wholeLeap leap)
   pub near : (F D W E : ℕ) → 0 < D → 0 < E → Val fraction F 0 D → DayLength leap W E → Close 1000 501 (shownMs r W E) F D W E

@@ -1,4 +1,5 @@
--- The milliseconds of a fraction of a day, as the Rust computes them in `to_iso8601` (scales/utc/mod.rs): each operation rounded once, in its order. Assumes nothing.
+-- The milliseconds of a fraction of a day, as the Rust computes them in `to_iso8601` (scales/utc/mod.rs): each operation rounded once, in its order.
+-- Assumes nothing.
 use Prim.Native.Nat.{ℕ}
 use mathlib.Core.Bool.{Bool, cond}
 use lib.IntN.{ℤ}
@@ -26,7 +27,8 @@ wholeLeap leap = cond (lt half-f (abs leap)) leap zero-f
 unfoldable pub secondsOf : Float → Float → Float
 secondsOf fraction leap = mul binary64 day-f (add binary64 fraction (div binary64 (mul binary64 fraction leap) day-f))
 
--- 1000.0 times that, to a whole number by the rule `how` (specs/Whole of `floats`: the Rust's `round` is `away`, halves away from zero), and then Rust's `as i64`
+-- 1000.0 times that, to a whole number by the rule `how` (specs/Whole of `floats`: the Rust's `round` is `away`, halves away from zero), and then
+-- Rust's `as i64`
 unfoldable pub millisOf : (Bool → ℕ → ℕ → ℕ) → Float → Float → ℤ
 unfolding secondsOf
 millisOf how fraction leap = toSigned 63 (toWhole how (mul binary64 thousand-f (secondsOf fraction leap)))

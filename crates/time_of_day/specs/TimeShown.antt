@@ -1,4 +1,5 @@
--- The time of day that a count of milliseconds shows. Written from document 01, "UTC text", and from the Rust's `to_iso8601` and `iso_string` (scales/utc/mod.rs). Assumes nothing.
+-- The time of day that a count of milliseconds shows. Written from document 01, "UTC text", and from the Rust's `to_iso8601` and `iso_string`
+-- (scales/utc/mod.rs). Assumes nothing.
 use Prim.Native.Nat.{ℕ, _-_, _*_, _/_, _%_, min}
 use mathlib.Core.Bool.{Bool, cond}
 use lib.IntN.{ℤ, pos, negsuc}
@@ -21,8 +22,8 @@ timeOf k = record {
   milli = (k - minuteOf k * 60000) % 1000;
 }
 
--- The milliseconds at which the text is the next day's midnight, of the leap that counts. The Rust has no case for a leap below 0, and no row of the table gives one:
--- the third case is for announced steps of -1 s, and changes no answer.
+-- The milliseconds at which the text is the next day's midnight, of the leap that counts. The Rust has no case for a leap below 0, and no row of the table
+-- gives one: the third case is for announced steps of -1 s, and changes no answer.
 unfoldable pub dayEnd : Float → ℕ
 dayEnd leap = cond (lt zero-f leap) 86401000 (cond (lt leap zero-f) 86399000 86400000)
 

@@ -10,6 +10,7 @@ use lib.ListN.{length, take, drop}
 use lib.Seq.{take-at, drop-at}
 use lib.Ieee.{Float, binary64, fits}
 use Rattle.refusals.specs.Outcome.{Outcome, answer, refusal, onward}
+use Rattle.floats.specs.Whole.{away}
 use Rattle.day_number.specs.ExactDay.{OnGrid, exactSum}
 use Rattle.julian.specs.declared.CalendarFields.{CalendarFields}
 use Rattle.julian.specs.JulianDate.{julian}
@@ -18,15 +19,15 @@ use Rattle.tai_utc.specs.Table.{Row}
 use Rattle.utc_text.specs.declared.TextAnswer.{TextAnswer}
 use Rattle.utc_text.specs.declared.TextAnswer.the-variants.{Written, Refused}
 use Rattle.utc_text.specs.Answer.{textOutcome, textWritten, bufferAfter}
-use Rattle.utc.specs.IsoText.{dayText, isoText}
-use Rattle.utc.specs.TextCall.{written, held, TextCall}
+use Rattle.utc.specs.IsoText.{dayTextBy, isoTextBy, isoText}
+use Rattle.utc.specs.TextCall.{written, held, TextCall, Alike}
 use Rattle.utc.specs.Shows.{tooEarly, TextDemand}
 
 -- ---- one text, or one refusal, for all divisions
-pub one-text : (rows : List Row) (x y x' y' : Float) → T (fits binary64 x) → T (fits binary64 y) → T (fits binary64 x') → T (fits binary64 y') → (a : OnGrid x) (b : OnGrid y) (a' : OnGrid x') (b' : OnGrid y')
-    → exactSum a b ≡ exactSum a' b' → isoText rows (julian x y) ≡ isoText rows (julian x' y')
-unfolding isoText
-one-text rows x y x' y' fx fy fx' fy' a b a' b' e = ap (λ (o : Outcome CalendarFields). onward o (λ c. dayText rows (c .date) (c .fraction))) (one-outcome x y x' y' fx fy fx' fy' a b a' b' e)
+pub one-text : (how : Bool → ℕ → ℕ → ℕ) (rows : List Row) (x y x' y' : Float) → T (fits binary64 x) → T (fits binary64 y) → T (fits binary64 x') → T (fits binary64 y') → (a : OnGrid x) (b : OnGrid y) (a' : OnGrid x') (b' : OnGrid y')
+    → exactSum a b ≡ exactSum a' b' → isoTextBy how rows (julian x y) ≡ isoTextBy how rows (julian x' y')
+unfolding isoTextBy
+one-text how rows x y x' y' fx fy fx' fy' a b a' b' e = ap (λ (o : Outcome CalendarFields). onward o (λ c. dayTextBy how rows (c .date) (c .fraction))) (one-outcome x y x' y' fx fy fx' fy' a b a' b' e)
 
 -- ---- a call, by its outcome
 same-answer : (r s : TextAnswer) → textOutcome r ≡ textOutcome s → r ≡ s
@@ -63,13 +64,7 @@ nothing-written o l out k c = go o (c .says) (c .holds)
     go (answer t) e q = longer t (leb (length t) (length l)) e q
     go (refusal j) e q = q
 
--- ---- ALIKE: two calls for one text, with buffers of one length, have one answer, the same bytes written, and each the rest of its own buffer
-pub record Alike (l : List ℕ) (r : TextAnswer) (out : List ℕ) (l' : List ℕ) (r' : TextAnswer) (out' : List ℕ) : Type 0 where
-  pub answers : r ≡ r'
-  pub bytes : (n : ℕ) → r ≡ Written n → take n out ≡ take n out'
-  pub rest : (n : ℕ) → r ≡ Written n → (drop n out ≡ drop n l) × (drop n out' ≡ drop n l')
-  pub refused : (k : ℕ) → r ≡ Refused k → (out ≡ l) × (out' ≡ l')
-
+-- ---- two calls for one text, with buffers of one length
 pub alike : (o : Outcome (List ℕ)) (l out l' out' : List ℕ) (r r' : TextAnswer) → length l ≡ length l' → TextCall o l r out → TextCall o l' r' out' → Alike l r out l' r' out'
 alike o l out l' out' r r' e c c' = record {
   answers = one;
@@ -111,9 +106,14 @@ module _ (rows : List Row) (sum : ℤ) (o : Outcome (List ℕ)) (l out : List �
       go true = refl
       go false = refl
 
--- ---- DEMAND 3: all divisions of one date on the grid are alike in text for buffers of one length
+-- ---- DEMAND 3: all divisions of one date on the grid are alike in text for buffers of one length, whatever the rule of rounding
+module _ (how : Bool → ℕ → ℕ → ℕ) (rows : List Row) (x y x' y' : Float) (fx : T (fits binary64 x)) (fy : T (fits binary64 y)) (fx' : T (fits binary64 x')) (fy' : T (fits binary64 y'))
+    (a : OnGrid x) (b : OnGrid y) (a' : OnGrid x') (b' : OnGrid y') (e : exactSum a b ≡ exactSum a' b') (l out l' out' : List ℕ) (r r' : TextAnswer) (h : length l ≡ length l') where
+  pub divisions-alike-by : TextCall (isoTextBy how rows (julian x y)) l r out → TextCall (isoTextBy how rows (julian x' y')) l' r' out' → Alike l r out l' r' out'
+  divisions-alike-by c c' =
+      alike (isoTextBy how rows (julian x y)) l out l' out' r r' h c (subst (λ (o : Outcome (List ℕ)). TextCall o l' r' out') (sym (one-text how rows x y x' y' fx fy fx' fy' a b a' b' e)) c')
+
 pub divisions-alike : (rows : List Row) (x y x' y' : Float) → T (fits binary64 x) → T (fits binary64 y) → T (fits binary64 x') → T (fits binary64 y') → (a : OnGrid x) (b : OnGrid y) (a' : OnGrid x') (b' : OnGrid y')
     → exactSum a b ≡ exactSum a' b' → (l out l' out' : List ℕ) (r r' : TextAnswer) → length l ≡ length l'
     → TextCall (isoText rows (julian x y)) l r out → TextCall (isoText rows (julian x' y')) l' r' out' → Alike l r out l' r' out'
-divisions-alike rows x y x' y' fx fy fx' fy' a b a' b' e l out l' out' r r' h c c' =
-    alike (isoText rows (julian x y)) l out l' out' r r' h c (subst (λ (o : Outcome (List ℕ)). TextCall o l' r' out') (sym (one-text rows x y x' y' fx fy fx' fy' a b a' b' e)) c')
+divisions-alike = divisions-alike-by away

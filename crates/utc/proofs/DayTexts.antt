@@ -24,7 +24,7 @@ use Rattle.time_of_day.specs.declared.TimeShown.{TimeShown}
 use Rattle.time_of_day.specs.declared.TimeShown.the-variants.{At, NextMidnight}
 use Rattle.time_of_day.specs.TimeShown.{shownOf}
 use Rattle.utc_text.specs.Text.{utcText}
-use Rattle.utc.specs.IsoText.{midnight, shownText, dayText}
+use Rattle.utc.specs.IsoText.{midnight, shownText, dayTextBy, dayText}
 use Rattle.utc.proofs.TextCalls.{next-given, leap-refused, leap-given}
 
 -- the text of a date that has a next one
@@ -46,8 +46,11 @@ module _ (rows : List Row) (d : CalendarDate) where
   unfolding leapAtEndOfDay onward
   refused-early k e = rw (Days.day-offsets-are rows (d .year) (pos (d .month)) (pos (d .day)), refused (d .year) (pos (d .month)) (pos (d .day)) k e)
 
+  pub text-refused-by : (how : Bool → ℕ → ℕ → ℕ) (f : Float) (k : ℕ) → validOf d ≡ refusal k → dayTextBy how rows d f ≡ refusal k
+  text-refused-by how f k e = leap-refused how rows d f k (refused-early k e)
+
   pub text-refused : (f : Float) (k : ℕ) → validOf d ≡ refusal k → dayText rows d f ≡ refusal k
-  text-refused f k e = leap-refused rows d f k (refused-early k e)
+  text-refused = text-refused-by away
 
   module _ (v : validOf d ≡ answer tt) (h : ltZ (pos 2733194) (d .year) ≡ false) where
     pub has-next : nextOf (d .year) (pos (d .month)) (pos (d .day)) ≡ answer (next d)
@@ -64,5 +67,8 @@ module _ (rows : List Row) (d : CalendarDate) where
     shown (At t) = refl
     shown NextMidnight = next-given d (next d) has-next
 
+    pub has-text-by : (how : Bool → ℕ → ℕ → ℕ) (f : Float) → dayTextBy how rows d f ≡ answer (textOf d (shownOf how f leapOn))
+    has-text-by how f = leap-given how rows d f leapOn has-leap ∙ shown (shownOf how f leapOn)
+
     pub has-text : (f : Float) → dayText rows d f ≡ answer (textOf d (shownOf away f leapOn))
-    has-text f = leap-given rows d f leapOn has-leap ∙ shown (shownOf away f leapOn)
+    has-text = has-text-by away

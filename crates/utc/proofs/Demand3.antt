@@ -1,8 +1,8 @@
--- DEMAND 3 of UTC text, for parts on the grid whose exact sum is from -68569.5 to 10^9: the text is refused with 1 exactly where the exact day's year is before -4799,
--- and else shows the exact day and time or the next day's midnight. The text theorems hold for any table whose leaps are of the cases of `Leap`; that those of the
--- fixed table are is leap_days'. Assumes nothing.
+-- DEMAND 3 of UTC text, for parts on the grid whose exact sum is from -68569.5 to 10^9: the text is refused with 1 exactly where the exact day's year is before
+-- -4799, and else shows the exact day and time or the next day's midnight. The theorems hold for any table whose leaps are of the cases of `Leap`; that those
+-- of the fixed table are is leap_days'; and for any rule of rounding to a nearest whole number. Assumes nothing.
 use mathlib.Core.Path.{_≡_, refl, sym, ap, _∙_, subst}
-use mathlib.Core.Bool.{Bool, true, false, cond}
+use mathlib.Core.Bool.{Bool, true, false, cond, true≢false}
 use mathlib.Core.List.{List, []}
 use Prim.Native.Nat.{ℕ, _*_, _^_, _<_}
 use native.Mathlib.Omega.{arith}
@@ -10,19 +10,15 @@ use lib.Dec.{T, lit<}
 use lib.IntN.{ℤ, negsuc}
 use lib.Signed.{ltZ}
 use lib.Ieee.{Float, binary64, ofBits, fits}
-use lib.Ieee.Fits.{round-fits}
 use Rattle.refusals.specs.Outcome.{answer, refusal}
 use Rattle.rounding.specs.Value.{Val}
 use Rattle.floats.specs.Whole.{away}
 use Rattle.calendar.specs.declared.CalendarDate.{CalendarDate}
 use Rattle.calendar.specs.Calendar.{dateOf, next}
-use Rattle.day_number.specs.ExactDay.{OnGrid, exactSum, InJulianRange, exactDay, exactFraction, exactDayNumber, fractionOf}
+use Rattle.day_number.specs.ExactDay.{OnGrid, exactSum, InJulianRange, exactDay, exactFraction, fractionOf}
 use Rattle.day_number.specs.Ranges.{InDays}
-use Rattle.day_number.proofs.ExactDay.{exact-day, exact, fraction-exact}
-use Rattle.day_number.proofs.Ranges.{day-range}
+use Rattle.day_number.proofs.ExactDay.{exact-day, fraction-exact}
 use Rattle.julian.specs.JulianDate.{julian}
-use Rattle.julian.specs.Calendar.{fields}
-use Rattle.julian.proofs.CalendarDays.{exact-date}
 use Rattle.tai_utc.specs.Table.{Row, fixed}
 use Rattle.tai_utc.specs.Leap.{leapAtEndOfDay}
 use Rattle.leap_days.specs.Leaps as Table
@@ -32,17 +28,20 @@ use Rattle.time_of_day.specs.declared.TimeShown.{TimeShown}
 use Rattle.time_of_day.specs.declared.TimeShown.the-variants.{At, NextMidnight}
 use Rattle.time_of_day.specs.Milliseconds.{wholeLeap}
 use Rattle.time_of_day.specs.TimeShown.{shownOf}
+use Rattle.time_of_day.specs.Nearest.{Nearest}
 use Rattle.time_of_day.specs.ExactTime.{Leap, little, second, first, Close, GoodTime, Good, shownMs, ShownRight}
-use Rattle.time_of_day.proofs.Count.{fraction-of}
-use Rattle.time_of_day.proofs.Shows.{shown-right}
+use Rattle.time_of_day.proofs.Rounded.{away-nearest}
+use Rattle.time_of_day.proofs.Fractions.{fraction-of}
+use Rattle.time_of_day.proofs.Shows.{shown-right-by}
 use Rattle.utc_text.specs.Text.{utcText}
 use Rattle.utc_text.specs.ReadBack.{Writable, ReadsAs}
 use Rattle.utc_text.proofs.ReadBack.{reads-back, reads-ms, text-length}
-use Rattle.utc.specs.IsoText.{midnight, dayText, isoText}
+use Rattle.utc_text.proofs.Form.{well-formed}
+use Rattle.utc.specs.IsoText.{midnight, isoTextBy, isoText}
 use Rattle.utc.specs.Shows.{on-day, next-midnight, timeShown, TextRight, tooEarly, TextDemand}
-use Rattle.utc.proofs.TextCalls.{fields-given}
 use Rattle.utc.proofs.ShownDates.{early-refused, in-range, date-valid, next-is, next-in-range}
-use Rattle.utc.proofs.DayTexts.{textOf, text-refused, leapOn, has-leap, has-text}
+use Rattle.utc.proofs.DayTexts.{textOf, text-refused-by, leapOn, has-leap, has-text-by}
+use Rattle.utc.proofs.Sums.{in-days, fraction-fits, sumText, of-sum}
 
 -- ---- the cases of leap: every leap of the fixed table is one
 case-of : (x : Float) → Table.Leap x → Leap x
@@ -71,31 +70,25 @@ module _ (n : ℤ) (low : ltZ (dateOf n .year) (negsuc 4798) ≡ false) (i : InD
   right (At u) s =
       let w = writable u (s .good) in
       record {
+        form = well-formed (dateOf n) u;
         day = on-day u (reads-back (dateOf n) u w) (s .good);
         near = λ W E h d. subst (λ (k : ℕ). Close 1000 501 (k * E) F (2 ^ 52) W E) (sym (reads-ms (dateOf n) u w)) (s .near F (2 ^ 52) W E (lit< tt) h v d);
         shortest = text-length (dateOf n) u .0;
         longest = text-length (dateOf n) u .1;
       }
   right NextMidnight s = record {
+    form = well-formed (next (dateOf n)) midnight;
     day = next-midnight (subst (λ (d : CalendarDate). ReadsAs (utcText (next (dateOf n)) midnight) d midnight) (sym (next-is n low i)) (reads-back (next (dateOf n)) midnight writable-next));
     near = λ W E h d. s .near F (2 ^ 52) W E (lit< tt) h v d;
     shortest = text-length (next (dateOf n)) midnight .0;
     longest = text-length (next (dateOf n)) midnight .1;
   }
 
--- ---- the exact fraction as a float
-fraction-fits : (u : ℕ) → T (fits binary64 (fractionOf u))
-unfolding fractionOf
-fraction-fits u = round-fits binary64 false u (2 ^ 52)
-
--- ---- DEMAND 3
-module _ (rows : List Row) (cases : (y m d : ℤ) (x : Float) → leapAtEndOfDay rows y m d ≡ answer x → Leap x) where
-  pub demand-3-by : (x y : Float) → T (fits binary64 x) → T (fits binary64 y) → (a : OnGrid x) (b : OnGrid y) → InJulianRange (exactSum a b) → TextDemand rows (exactSum a b) (isoText rows (julian x y))
-  demand-3-by x y fx fy a b r = go (tooEarly sum) refl
+-- ---- DEMAND 3, by any rule that rounds to a nearest whole number
+module _ (rows : List Row) (cases : (y m d : ℤ) (x : Float) → leapAtEndOfDay rows y m d ≡ answer x → Leap x) (how : Bool → ℕ → ℕ → ℕ) (rule : Nearest how) where
+  pub sum-demand : (sum : ℤ) → InJulianRange sum → TextDemand rows sum (sumText how rows sum)
+  sum-demand sum range = go (tooEarly sum) refl
     where
-      sum : ℤ
-      sum = exactSum a b
-
       n : ℤ
       n = exactDay sum
 
@@ -112,35 +105,35 @@ module _ (rows : List Row) (cases : (y m d : ℤ) (x : Float) → leapAtEndOfDay
       v = fraction-exact F below
 
       i : InDays n
-      i = day-range x y fx fy (exactDayNumber sum) (exact x y fx fy a b r)
+      i = in-days sum range
 
-      of-day : isoText rows (julian x y) ≡ dayText rows (dateOf n) f
-      of-day = fields-given rows (julian x y) (fields (dateOf n) f) (exact-date x y fx fy a b r)
-
-      go : (t : Bool) → tooEarly sum ≡ t → TextDemand rows sum (isoText rows (julian x y))
+      go : (t : Bool) → tooEarly sum ≡ t → TextDemand rows sum (sumText how rows sum)
       go true e = record {
         text = [];
-        is = of-day ∙ text-refused rows (dateOf n) f 1 (early-refused n e) ∙ ap (λ (t : Bool). cond t (refusal 1) (answer [])) (sym e);
+        is = text-refused-by rows (dateOf n) how f 1 (early-refused n e) ∙ ap (λ (t : Bool). cond t (refusal 1) (answer [])) (sym e);
         leap = f;
-        leap-is = λ q. absurd (true-false (sym e ∙ q));
-        right = λ q. absurd (true-false (sym e ∙ q));
+        leap-is = λ q. absurd (true≢false (sym e ∙ q));
+        right = λ q. absurd (true≢false (sym e ∙ q));
       }
-        where
-          true-false : true ≡ false → ⊥
-          true-false q = subst T q tt
       go false e =
           let ok = date-valid n e i in
           let high = in-range n e i .year-high in
           let leap = leapOn rows (dateOf n) ok high in
-          let text = textOf (dateOf n) (shownOf away f leap) in
+          let text = textOf (dateOf n) (shownOf how f leap) in
           let given = has-leap rows (dateOf n) ok high in
           record {
             text = text;
-            is = of-day ∙ has-text rows (dateOf n) ok high f ∙ ap (λ (t : Bool). cond t (refusal 1) (answer text)) (sym e);
+            is = has-text-by rows (dateOf n) ok high how f ∙ ap (λ (t : Bool). cond t (refusal 1) (answer text)) (sym e);
             leap = leap;
             leap-is = λ q. given;
-            right = λ q. right n e i F f leap v (shownOf away f leap) (shown-right f leap (fraction-fits F) (fraction-of f F (2 ^ 52) (lit< tt) v below) (cases _ _ _ leap given));
+            right = λ q. right n e i F f leap v (shownOf how f leap) (shown-right-by how rule f leap (fraction-fits F) (fraction-of f F (2 ^ 52) (lit< tt) v below) (cases _ _ _ leap given));
           }
 
+  pub demand-3-by : (x y : Float) → T (fits binary64 x) → T (fits binary64 y) → (a : OnGrid x) (b : OnGrid y) → InJulianRange (exactSum a b) → TextDemand rows (exactSum a b) (isoTextBy how rows (julian x y))
+  demand-3-by x y fx fy a b r =
+      subst (TextDemand rows (exactSum a b)) (sym (of-sum how rows (exactSum a b) r (julian x y) (record { first-float = fx; second-float = fy; first = a; second = b; sum-is = refl })))
+      (sum-demand (exactSum a b) r)
+
+-- ---- DEMAND 3, by document 01's rule and the fixed table
 pub demand-3 : (x y : Float) → T (fits binary64 x) → T (fits binary64 y) → (a : OnGrid x) (b : OnGrid y) → InJulianRange (exactSum a b) → TextDemand fixed (exactSum a b) (isoText fixed (julian x y))
-demand-3 = demand-3-by fixed fixed-leaps
+demand-3 = demand-3-by fixed fixed-leaps away away-nearest

@@ -6,10 +6,12 @@ pub mod TextCalls
 pub mod DayTexts
 pub mod Numbers
 pub mod FromCalendars
+pub mod DateNumbers
 pub mod Parts
 pub mod ShownDates
+pub mod Sums
 pub mod Demand3
 pub mod DayLengths
 pub mod Alike
+pub mod OneText
 pub mod Lengths
-pub mod Cases

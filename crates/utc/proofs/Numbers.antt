@@ -1,5 +1,5 @@
--- Which numbers a text can be refused with, over all floats: 6 and 1, and 11 for the buffer; parts that are not finite are refused with 6. For any table of rows.
--- Assumes nothing.
+-- Which numbers a text can be refused with, over all floats: 6 and 1, and 11 for the buffer; parts that are not finite are refused with 6. For any table of
+-- rows. Assumes nothing.
 use mathlib.Core.Path.{_≡_, refl, sym, _∙_, subst}
 use mathlib.Core.Bool.{Bool, true, false, cond, _&&_, true≢false}
 use mathlib.Core.Logic.{_⊎_, inl, inr}

@@ -1,5 +1,5 @@
--- What the parts of UTC from the calendar are worth: jd1 is exactly 2400000.5 plus the Modified Julian Date, which no rounding changes, and jd2 has exactly the value of
--- the quotient of the seconds by the day's length; the 0.0 of midnight that it is added to changes nothing, and jd2 is never -0.0. Assumes nothing.
+-- What the parts of UTC from the calendar are worth: jd1 is exactly 2400000.5 plus the Modified Julian Date, which no rounding changes, and jd2 has exactly the
+-- value of the quotient of the seconds by the day's length; the 0.0 of midnight that it is added to changes nothing, and jd2 is never -0.0. Assumes nothing.
 use mathlib.Core.Path.{_≡_, refl, sym, ap, _∙_, subst}
 use mathlib.Core.Bool.{true, false}
 use mathlib.Core.List.{List}

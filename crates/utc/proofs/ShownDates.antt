@@ -1,9 +1,8 @@
--- The dates that a text can show: from year -4799 to day 10^9 a date is not refused, the next day number has its next date, and both are dates that a text can be read
--- back from. Assumes nothing.
+-- The dates that a text can show: from year -4799 to day 10^9 a date is not refused, the next day number has its next date, and both are dates that a text can
+-- be read back from. Assumes nothing.
 use mathlib.Core.Path.{_≡_, refl, sym, ap, _∙_, subst}
 use mathlib.Core.Bool.{Bool, true, false}
-use mathlib.Core.List.{[]}
-use Prim.Native.Nat.{zero, suc, _+_, _≤_}
+use Prim.Native.Nat.{zero, suc, _≤_}
 use native.Mathlib.Omega.{arith}
 use lib.IntN.{ℤ, pos, negsuc, sucℤ, natAbs, _+ℤ_}
 use lib.Signed.{ltZ}

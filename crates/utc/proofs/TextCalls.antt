@@ -1,5 +1,6 @@
 -- The text calls, each by what the call before it answered: a refusal is handed on and writes nothing, and a text is put. Assumes nothing.
 use mathlib.Core.Path.{_≡_, refl, sym, subst}
+use mathlib.Core.Bool.{Bool}
 use Prim.Native.Nat.{ℕ}
 use mathlib.Core.List.{List}
 use lib.IntN.{pos}
@@ -18,7 +19,7 @@ use Rattle.utc_text.specs.declared.TextAnswer.{TextAnswer}
 use Rattle.utc_text.specs.declared.TextAnswer.the-variants.{Refused}
 use Rattle.utc_text.specs.Answer.{textOutcome, TextPut}
 use Rattle.utc_text.specs.Text.{utcText}
-use Rattle.utc.specs.IsoText.{midnight, nextMidnightText, shownText, dayText, isoText}
+use Rattle.utc.specs.IsoText.{midnight, nextMidnightText, shownText, dayTextBy, dayText, isoTextBy, isoText}
 use Rattle.utc.specs.TextCall.{written, held, TextCall}
 
 pub call-refused : (o : Outcome (List ℕ)) (n : ℕ) (l : List ℕ) → o ≡ refusal n → TextCall o l (Refused n) l
@@ -42,22 +43,28 @@ module _ (d : CalendarDate) where
   unfolding nextMidnightText onward
   next-given t e = rw e
 
--- ---- the day's leap
-module _ (rows : List Row) (d : CalendarDate) (f : Float) where
-  pub leap-refused : (k : ℕ) → leapAtEndOfDay rows (d .year) (pos (d .month)) (pos (d .day)) ≡ refusal k → dayText rows d f ≡ refusal k
-  unfolding dayText onward
-  leap-refused k e = rw e
+-- ---- by any rule of rounding
+module _ (how : Bool → ℕ → ℕ → ℕ) (rows : List Row) where
+  -- the day's leap
+  module _ (d : CalendarDate) (f : Float) where
+    pub leap-refused : (k : ℕ) → leapAtEndOfDay rows (d .year) (pos (d .month)) (pos (d .day)) ≡ refusal k → dayTextBy how rows d f ≡ refusal k
+    unfolding dayTextBy onward
+    leap-refused k e = rw e
 
-  pub leap-given : (x : Float) → leapAtEndOfDay rows (d .year) (pos (d .month)) (pos (d .day)) ≡ answer x → dayText rows d f ≡ shownText d (shownOf away f x)
-  unfolding dayText onward
-  leap-given x e = rw e
+    pub leap-given : (x : Float) → leapAtEndOfDay rows (d .year) (pos (d .month)) (pos (d .day)) ≡ answer x → dayTextBy how rows d f ≡ shownText d (shownOf how f x)
+    unfolding dayTextBy onward
+    leap-given x e = rw e
 
--- ---- the calendar's fields
+  -- the calendar's fields
+  pub fields-given-by : (jd : JulianDate) (c : CalendarFields) → julianToCalendar (jd .jd1) (jd .jd2) ≡ answer c → isoTextBy how rows jd ≡ dayTextBy how rows (c .date) (c .fraction)
+  unfolding isoTextBy onward
+  fields-given-by jd c e = rw e
+
+-- ---- by document 01's
 module _ (rows : List Row) (jd : JulianDate) where
   pub fields-refused : (k : ℕ) → julianToCalendar (jd .jd1) (jd .jd2) ≡ refusal k → isoText rows jd ≡ refusal k
-  unfolding isoText onward
+  unfolding isoTextBy onward
   fields-refused k e = rw e
 
   pub fields-given : (c : CalendarFields) → julianToCalendar (jd .jd1) (jd .jd2) ≡ answer c → isoText rows jd ≡ dayText rows (c .date) (c .fraction)
-  unfolding isoText onward
-  fields-given c e = rw e
+  fields-given c e = fields-given-by away rows jd c e

@@ -1,5 +1,5 @@
--- The day of a Unix time and the seconds since its midnight: what the machine's division toward zero gives, one day and 86,400 s moved where something below 0 is
--- left. Assumes nothing.
+-- The day of a Unix time and the seconds since its midnight: what the machine's division toward zero gives, one day and 86,400 s moved where something below 0
+-- is left. Assumes nothing.
 use mathlib.Core.Path.{_≡_, refl, sym, ap, _∙_, subst}
 use mathlib.Core.Bool.{true, false, true≢false}
 use Prim.Native.Nat.{ℕ, zero, suc, _+_, _-_, _/_, _%_, _^_, _≤_, _<_}

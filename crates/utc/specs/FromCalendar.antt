@@ -1,5 +1,5 @@
--- UTC from the calendar. Written from document 01, "Refusals by number" (order: date, 5, 4; the last minute's limit is 60 + leap), and the Rust's `utc_from_calendar`
--- (scales/utc/mod.rs). Assumes nothing.
+-- UTC from the calendar. Written from document 01, "Refusals by number" (order: date, 5, 4; the last minute's limit is 60 + leap), and the Rust's
+-- `utc_from_calendar` (scales/utc/mod.rs). Assumes nothing.
 use Prim.Native.Nat.{ℕ}
 use mathlib.Core.List.{List}
 use lib.IntN.{ℤ, pos}

@@ -1,6 +1,7 @@
--- The text of a UTC date. Written from document 01, "UTC text" and "Refusals by number" (order: 6, date; then 11, which is the buffer's), and the Rust's `to_iso8601`
--- (scales/utc/mod.rs). Assumes nothing.
+-- The text of a UTC date. Written from document 01, "UTC text" and "Refusals by number" (order: 6, date; then 11, which is the buffer's), and the Rust's
+-- `to_iso8601` (scales/utc/mod.rs). Assumes nothing.
 use Prim.Native.Nat.{ℕ}
+use mathlib.Core.Bool.{Bool}
 use mathlib.Core.List.{List}
 use lib.IntN.{pos}
 use lib.Ieee.{Float}
@@ -31,9 +32,16 @@ unfoldable pub shownText : CalendarDate → TimeShown → Outcome (List ℕ)
 shownText d (At t) = answer (utcText d t)
 shownText d NextMidnight = nextMidnightText d
 
--- a fraction of the date's day, milliseconds rounded halves away from zero
-unfoldable pub dayText : List Row → CalendarDate → Float → Outcome (List ℕ)
-dayText rows d fraction = onward (leapAtEndOfDay rows (d .year) (pos (d .month)) (pos (d .day))) (λ leap. shownText d (shownOf away fraction leap))
+-- a fraction of the date's day, milliseconds rounded by the rule `how`
+unfoldable pub dayTextBy : (Bool → ℕ → ℕ → ℕ) → List Row → CalendarDate → Float → Outcome (List ℕ)
+dayTextBy how rows d fraction = onward (leapAtEndOfDay rows (d .year) (pos (d .month)) (pos (d .day))) (λ leap. shownText d (shownOf how fraction leap))
 
-unfoldable pub isoText : List Row → JulianDate → Outcome (List ℕ)
-isoText rows jd = onward (julianToCalendar (jd .jd1) (jd .jd2)) (λ c. dayText rows (c .date) (c .fraction))
+unfoldable pub isoTextBy : (Bool → ℕ → ℕ → ℕ) → List Row → JulianDate → Outcome (List ℕ)
+isoTextBy how rows jd = onward (julianToCalendar (jd .jd1) (jd .jd2)) (λ c. dayTextBy how rows (c .date) (c .fraction))
+
+-- document 01's rule: halves away from zero
+abbrev pub dayText : List Row → CalendarDate → Float → Outcome (List ℕ)
+dayText rows d fraction = dayTextBy away rows d fraction
+
+abbrev pub isoText : List Row → JulianDate → Outcome (List ℕ)
+isoText rows jd = isoTextBy away rows jd

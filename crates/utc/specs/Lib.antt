@@ -4,3 +4,4 @@ pub mod UnixTime
 pub mod IsoText
 pub mod TextCall
 pub mod Shows
+pub mod OneText

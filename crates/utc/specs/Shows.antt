@@ -1,5 +1,5 @@
--- What demand 3 asks of UTC text. Written from document 01, "UTC text": "The time shown is the text's 3,600 × hour + 60 × minute + second, in seconds of the exact day;
--- where the text is the next day's midnight, it is the day length." Assumes nothing.
+-- What demand 3 asks of UTC text. Written from document 01, "UTC text": "The time shown is the text's 3,600 × hour + 60 × minute + second, in seconds of the
+-- exact day; where the text is the next day's midnight, it is the day length." Assumes nothing.
 use mathlib.Core.Path.{_≡_}
 use mathlib.Core.Bool.{Bool, false, cond}
 use mathlib.Core.List.{List}
@@ -17,6 +17,7 @@ use Rattle.time_of_day.specs.declared.TimeOfDay.{TimeOfDay}
 use Rattle.time_of_day.specs.Milliseconds.{wholeLeap}
 use Rattle.time_of_day.specs.ExactTime.{DayLength, Close, GoodTime}
 use Rattle.utc_text.specs.ReadBack.{ReadsAs, readMs}
+use Rattle.utc_text.specs.WellFormed.{WellFormed}
 use Rattle.utc.specs.IsoText.{midnight}
 
 -- the digits of t say the date of day n and a time of a day with this leap, or the next day's midnight
@@ -29,8 +30,10 @@ unfoldable pub timeShown : {t : List ℕ} {n : ℤ} {leap : Float} → DayShown 
 timeShown {t} (on-day u r g) W E = readMs t * E
 timeShown (next-midnight r) W E = 1000 * W
 
--- t shows day n, and a time within 0.501 ms of F / 2 ^ 52 of the day, however the day's length is written as a fraction W / E of seconds
+-- t has the form of a text and 23 to 26 bytes; it shows day n, and a time within 0.501 ms of F / 2 ^ 52 of the day, however the day's length is written as a
+-- fraction W / E of seconds
 pub record TextRight (t : List ℕ) (n : ℤ) (F : ℕ) (leap : Float) : Type 0 where
+  pub form : WellFormed t
   pub day : DayShown t n leap
   pub near : (W E : ℕ) → 0 < E → DayLength leap W E → Close 1000 501 (timeShown day W E) F (2 ^ 52) W E
   pub shortest : 23 ≤ length t
@@ -40,8 +43,8 @@ pub record TextRight (t : List ℕ) (n : ℤ) (F : ℕ) (leap : Float) : Type 0 
 abbrev pub tooEarly : ℤ → Bool
 tooEarly sum = ltZ (dateOf (exactDay sum) .year) (negsuc 4798)
 
--- Demand 3 of the outcome o of asking for the text of a date with this exact sum, in a table of rows: 1 exactly where the year is before -4799, and else a text that
--- shows the exact day and the exact time, or the next day's midnight
+-- Demand 3 of the outcome o of asking for the text of a date with this exact sum, in a table of rows: 1 exactly where the year is before -4799, and else a text
+-- that shows the exact day and the exact time, or the next day's midnight
 pub record TextDemand (rows : List Row) (sum : ℤ) (o : Outcome (List ℕ)) : Type 0 where
   pub text : List ℕ
   pub is : o ≡ cond (tooEarly sum) (refusal 1) (answer text)

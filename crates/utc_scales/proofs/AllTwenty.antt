@@ -1,5 +1,4 @@
 -- All twenty conversions: for parts under 2 ^ 52 in size and offsets at most 10 ^ 9 s the answer is a date with finite parts, or a refusal by 6 or 1. Assumes nothing.
-use Prim.Native.Nat.{ℕ}
 use Rattle.refusals.specs.Outcome.{Outcome, answer, refusal}
 use Rattle.julian.specs.declared.JulianDate.{JulianDate}
 use Rattle.julian.specs.Worth.{SmallParts}

@@ -243,8 +243,7 @@ utc-to-ut1-finite d dut1 h b =
     let s = billion-size dut1 b in
     subst (λ (o : Outcome JulianDate). Holds FiniteParts SixOrOne o) (sym (went _ (offset-answers dut1 30 s)))
     (holds-onward _ (utc-size 52 room52 d (held d h) (small-size d h)) (λ t z.
-    holds-onward _ (day-offset-size (d .jd1) (d .jd2) (h .first .held) (h .second .held)) (λ x w.
-    later-finite t _ z (size-sub 30 11 31 (lit≤ tt) (lit≤ tt) s w))))
+    holds-onward _ (day-offset-size (d .jd1) (d .jd2) (h .first .held) (h .second .held)) (λ x w. later-finite t _ z (size-sub 30 11 31 (lit≤ tt) (lit≤ tt) s w))))
 
 -- ---- UT1 to UTC
 either-size : (b : Bool) (k : ℕ) {x y : Float} → Size x k → Size y k → Size (cond b x y) k

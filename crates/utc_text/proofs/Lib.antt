@@ -2,4 +2,5 @@
 pub mod Sign
 pub mod Laws
 pub mod ReadBack
+pub mod Form
 pub mod Cases

@@ -89,13 +89,13 @@ year-read (pos n) l h = let k : n ≤ 2733194 = ltb-false 2733194 n h in after n
 year-read (negsuc n) l h = let k : n ≤ 4899 = ltb-false 4899 n l in before n (omega arith) (ltb (suc n) 1000) (ltb→lt (suc n) 1000)
 
 -- ---- the places, counted from the end, whatever the year's width
-part-of : (y t : List ℕ) (k n : ℕ) → k ≤ 19 → length t ≡ 19 → part k n (y ++ t) ≡ take n (drop (19 - k) t)
+pub part-of : (y t : List ℕ) (k n : ℕ) → k ≤ 19 → length t ≡ 19 → part k n (y ++ t) ≡ take n (drop (19 - k) t)
 part-of y t k n h e = ap (take n) (ap (λ (m : ℕ). drop m (y ++ t)) (ap (λ (m : ℕ). m - k) (length-append y t) ∙ places (length y) (length t) e) ∙ drop-append-add y t (19 - k))
   where
     places : (a b : ℕ) → b ≡ 19 → a + b - k ≡ a + (19 - k)
     places a b g = omega arith
 
-front-of : (y t : List ℕ) → length t ≡ 19 → take (length (y ++ t) - 19) (y ++ t) ≡ y
+pub front-of : (y t : List ℕ) → length t ≡ 19 → take (length (y ++ t) - 19) (y ++ t) ≡ y
 front-of y t e = take-at y t (length (y ++ t) - 19) (places (length y) (length t) (length (y ++ t)) (length-append y t) e)
   where
     places : (a b n : ℕ) → n ≡ a + b → b ≡ 19 → a ≡ n - 19

@@ -1,4 +1,5 @@
--- The answer of a call that writes a text into a lent buffer, and what the buffer holds. Written from document 01, "UTC text" and "Refusals by number". Assumes nothing.
+-- The answer of a call that writes a text into a lent buffer, and what the buffer holds. Written from document 01, "UTC text" and "Refusals by number".
+-- Assumes nothing.
 use Prim.Native.Nat.{ℕ}
 use mathlib.Core.Path.{_≡_}
 use mathlib.Core.List.{List, _++_}

@@ -1,5 +1,6 @@
--- What UTC text is, what a lent buffer and the answer are after it was asked for, and what a text's digits say.
+-- What UTC text is, what a lent buffer and the answer are after it was asked for, what a text's digits say, and what form it has.
 pub mod Text
 pub mod Answer
 pub mod ReadBack
+pub mod WellFormed
 pub mod Layout

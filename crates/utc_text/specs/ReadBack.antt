@@ -1,4 +1,5 @@
--- What the digits of a text say, read with no knowledge of how it was written: the year stands before the last 19 bytes, which are -MM-DDThh:mm:ss.mmm. Written from document 01, "UTC text". Assumes nothing.
+-- What the digits of a text say, read with no knowledge of how it was written: the year stands before the last 19 bytes, which are -MM-DDThh:mm:ss.mmm. Written
+-- from document 01, "UTC text". Assumes nothing.
 use Prim.Native.Nat.{ℕ, _+_, _-_, _*_, _≤_}
 use mathlib.Core.Path.{_≡_}
 use mathlib.Core.List.{List, [], _∷_}
@@ -27,9 +28,13 @@ signedNumber (c ∷ cs) = cond (eqb c 45) (negℤ (pos (number cs))) (pos (numbe
 abbrev pub part : ℕ → ℕ → List ℕ → List ℕ
 part k n t = take n (drop (length t - k) t)
 
+-- the bytes before the last 19
+abbrev pub yearBytes : List ℕ → List ℕ
+yearBytes t = take (length t - 19) t
+
 unfoldable pub readYear : List ℕ → ℤ
 unfolding signedNumber
-readYear t = signedNumber (take (length t - 19) t)
+readYear t = signedNumber (yearBytes t)
 
 unfoldable pub readMonth : List ℕ → ℕ
 readMonth t = number (part 18 2 t)

@@ -1,4 +1,5 @@
--- UTC text as a list of ASCII codes. Written from document 01, "UTC text", and from the Rust's `iso_string` (scales/utc/mod.rs): `{:04}-{:02}-{:02}T{:02}:{:02}:{:02}.{:03}`. Assumes nothing.
+-- UTC text as a list of ASCII codes. Written from document 01, "UTC text", and from the Rust's `iso_string` (scales/utc/mod.rs):
+-- `{:04}-{:02}-{:02}T{:02}:{:02}:{:02}.{:03}`. Assumes nothing.
 use Prim.Native.Nat.{ℕ, suc, _+_, _/_, _%_}
 use mathlib.Core.List.{List, [], _∷_, _++_}
 use mathlib.Core.Bool.{cond}
@@ -30,8 +31,8 @@ six n = last (n / 100000) ∷ five n
 abbrev pub seven : ℕ → List ℕ
 seven n = last (n / 1000000) ∷ six n
 
--- The year has at least four characters, the sign counted: 0 is 0000, -1 is -001. Of a year with more than seven digits, or four after a sign, the last ones are shown;
--- no caller has one: the calendar's years are -4900 to 2733194
+-- The year has at least four characters, the sign counted: 0 is 0000, -1 is -001. Of a year with more than seven digits, or four after a sign, the last ones
+-- are shown; no caller has one: the calendar's years are -4900 to 2733194
 unfoldable pub yearText : ℤ → List ℕ
 yearText (pos n) = cond (ltb n 10000) (four n) (cond (ltb n 100000) (five n) (cond (ltb n 1000000) (six n) (seven n)))
 yearText (negsuc n) = 45 ∷ cond (ltb (suc n) 1000) (three (suc n)) (four (suc n))

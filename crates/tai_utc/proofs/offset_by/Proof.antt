@@ -36,14 +36,14 @@ returns-2 c =
     let s = f .before .args in
     drifting (s .rows) (s .mjd) (s .fraction) (above _ (f .if1 .left)) (c .before .before .before .if2 .taken) _ _ _ (c .before .before .seconds-at .ensures) (c .before .start-at .ensures) (c .rate-at .ensures)
 
-seconds-at-requires-2 : tie.Need-seconds-at-requires-2
-seconds-at-requires-2 c κs = search needs
+whole-seconds-requires : tie.Need-whole-seconds-requires
+whole-seconds-requires c κs = search needs
 
 returns-3 : tie.Need-returns-3
 returns-3 c =
     let f = c .before .before in
     let s = f .before in
-    steady (s .args .rows) (s .args .mjd) (s .args .fraction) (above _ (f .if1 .left)) (c .before .if2 .left) (omega (arith, s .pre)) _ (c .seconds-at2 .ensures)
+    steady (s .args .rows) (s .args .mjd) (s .args .fraction) (above _ (f .if1 .left)) (c .before .if2 .left) (omega (arith, s .pre)) _ (c .whole-seconds .ensures)
 
 pub offset-by-spec : {M : Type 1} → statement M
 offset-by-spec =
@@ -55,5 +55,5 @@ offset-by-spec =
     start-at-requires
     rate-at-requires
     returns-2
-    seconds-at-requires-2
+    whole-seconds-requires
     returns-3)

@@ -2,6 +2,7 @@
 use mathlib.Core.Path.{sym, ap, _∙_}
 use mir.Syntax.{w32}
 use mir.Val.{SFits}
+use Rattle.floats.specs.Whole.{away}
 use Rattle.tai_utc.specs.Table.{fixed}
 use Rattle.tai_utc.specs.Leap.{leapAtEndOfDay}
 use Rattle.tai_utc.specs.Answers.{offsetOutcome}
@@ -39,7 +40,7 @@ returns c =
     let v = c .before .before .before in
     let s = v .before .before .before .before .before in
     let f : SFits w32 (s .args .date .year) = record { sfits = v .before .struct-told .given .0 .1 } in
-    call-refused _ _ _ (leap-refused fixed (s .args .date) (s .args .fraction) _ (sym (read-fields (leapAtEndOfDay fixed) (s .args .date) f (s .pre .0) (s .pre .1)) ∙ sym (v .leap-at-end-of-day .ensures) ∙ ap offsetOutcome (c .before .number .given .1)))
+    call-refused _ _ _ (leap-refused away fixed (s .args .date) (s .args .fraction) _ (sym (read-fields (leapAtEndOfDay fixed) (s .args .date) f (s .pre .0) (s .pre .1)) ∙ sym (v .leap-at-end-of-day .ensures) ∙ ap offsetOutcome (c .before .number .given .1)))
 
 same-length : tie.Need-same-length
 same-length c = search needs
@@ -54,7 +55,7 @@ returns-2 c =
     let s = v .before .before .before .before .before in
     let f : SFits w32 (s .args .date .year) = record { sfits = v .before .struct-told .given .0 .1 } in
     call-as _ _ _ _ _
-    (leap-given fixed (s .args .date) (s .args .fraction) _ (sym (read-fields (leapAtEndOfDay fixed) (s .args .date) f (s .pre .0) (s .pre .1)) ∙ sym (v .leap-at-end-of-day .ensures) ∙ ap offsetOutcome (k .leap .given .1))
+    (leap-given away fixed (s .args .date) (s .args .fraction) _ (sym (read-fields (leapAtEndOfDay fixed) (s .args .date) f (s .pre .0) (s .pre .1)) ∙ sym (v .leap-at-end-of-day .ensures) ∙ ap offsetOutcome (k .leap .given .1))
     ∙ ap (shownText (s .args .date)) (sym (t .time-shown .ensures)))
     (p .put-shown .ensures)
 

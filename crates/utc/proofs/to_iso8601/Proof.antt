@@ -1,5 +1,6 @@
 -- `utc::to_iso8601` meets its contract: the refusal of the calendar, or the day that it answers. Assumes nothing.
 use mathlib.Core.Path.{_≡_, sym, ap, _∙_}
+use native.Mathlib.Omega.{arith}
 use Rattle.refusals.specs.Outcome.{answer}
 use Rattle.julian.specs.Calendar.{calendarOutcome, julianToCalendar}
 use Rattle.tai_utc.specs.Table.{fixed}
@@ -25,9 +26,8 @@ enum-known-fields c = search needs
 put-day-requires : tie.Need-put-day-requires
 put-day-requires c κs =
     let k = c .before .before .before in
-    let v = k .before .before in
     let r = date-in-range _ _ (k .fields .given .0 .0) (calendar-answered k) in
-    (r .month-high, r .day-high)
+    (omega (arith, r .month-high), omega (arith, r .day-high))
 
 returns : tie.Need-returns
 unfolding calendarOutcome

@@ -1,6 +1,6 @@
 -- `capi::block_calls::ct_listing_part` meets its contract. Assumes nothing.
 use denote.Ref.{now}
-use Rattle.capi.proofs.ListingParts.{no-room, part-fits, part-put}
+use Rattle.capi.proofs.ListingParts.{no-room, count-fits, part-put}
 use borrow.Author.Needs.{needs}
 use Rattle.capi.proofs.block_calls.ct_listing_part.Statement.{statement}
 use Rattle.capi.proofs.block_calls.ct_listing_part.Tie as tie
@@ -17,7 +17,7 @@ next-part-requires : tie.Need-next-part-requires
 next-part-requires c κs = search needs
 
 cast-result : tie.Need-cast-result
-cast-result c = part-fits (c .before .before .next-part .ensures)
+cast-result c = count-fits (c .before .before .next-part .ensures)
 
 same-length : tie.Need-same-length
 same-length c = search needs
@@ -25,7 +25,7 @@ same-length c = search needs
 returns-2 : tie.Need-returns-2
 returns-2 c =
     let p = c .before .before in
-    part-put (p .next-part .ensures) (p .before .before .if1 .left) (p .next-part .kept .1 .1 .0)
+    part-put (p .next-part .ensures) (p .before .before .if1 .left)
 
 pub ct-listing-part-spec : {M : Type 1} → statement M
 ct-listing-part-spec =

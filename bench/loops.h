@@ -1,0 +1,158 @@
+/* For each kind of call a loop over the inputs: the measured part. A loop's own share is the loading of
+   the arguments, the call through a pointer and the step: 9 to 17 instructions, for a call the same within one in all three.
+   The port and the Rust write an answer's bytes into a slot; ERFA writes its ints and doubles there,
+   which on x86-64 are the same bytes. */
+#include <stddef.h>
+
+#include "celestial_time.h"
+#include "erfa_calls.h"
+#include "inputs.h"
+#include "texts.h"
+
+/* A function of any kind; each loop knows which kind it calls. */
+typedef void any(void);
+
+typedef int64_t date_call(int32_t, int32_t, int32_t, uint8_t *, size_t);
+typedef int64_t offset_call(int32_t, int32_t, int32_t, double, uint8_t *, size_t);
+typedef int64_t jd_call(double, double, uint8_t *, size_t);
+typedef int64_t jd_offset_call(double, double, double, uint8_t *, size_t);
+typedef int64_t unix_call(int64_t, uint32_t, uint8_t *, size_t);
+typedef int64_t fields_call(int32_t, uint8_t, uint8_t, uint8_t, uint8_t, double, uint8_t *, size_t);
+
+typedef int erfa_date_call(int, int, int, double *, double *);
+typedef int erfa_next_call(int, int, int, int *, int *, int *);
+typedef int erfa_leap_call(int, int, int, double *);
+typedef int erfa_offset_call(int, int, int, double, double *);
+typedef int erfa_calendar_call(double, double, int *, int *, int *, double *);
+typedef int erfa_jd_call(double, double, double *, double *);
+typedef int erfa_jd_offset_call(double, double, double, double *, double *);
+typedef int erfa_unix_call(int64_t, uint32_t, double *, double *);
+typedef int erfa_fields_call(const char *, int, int, int, int, int, double, double *, double *);
+
+typedef union {
+    uint8_t bytes[40];
+    double d[5];
+    int i[10];
+} slot;
+
+/* The longest listing has a header and 4,000 lines under 48 bytes each. */
+enum { LISTING_ROOM = MOST_LINE * (INPUTS + 1), BLOCK_SIZE = 8 + 16 * INPUTS };
+
+static input in[INPUTS];
+static slot slots[INPUTS];
+static uint8_t block[BLOCK_SIZE], listing[LISTING_ROOM];
+static const uint8_t *shown;
+static size_t shown_length;
+
+#define EACH for (int i = 0; i < INPUTS; i++)
+
+/* ---- the port and the Rust */
+
+static void date_loop(any *f)
+{
+    date_call *call = (date_call *)f;
+    EACH call(in[i].year, in[i].month, in[i].day, slots[i].bytes, 16);
+}
+
+static void offset_loop(any *f)
+{
+    offset_call *call = (offset_call *)f;
+    EACH call(in[i].year, in[i].month, in[i].day, in[i].fraction, slots[i].bytes, 8);
+}
+
+static void jd_loop(any *f)
+{
+    jd_call *call = (jd_call *)f;
+    EACH call(in[i].jd1, in[i].jd2, slots[i].bytes, MOST_TEXT);
+}
+
+static void jd_offset_loop(any *f)
+{
+    jd_offset_call *call = (jd_offset_call *)f;
+    EACH call(in[i].jd1, in[i].jd2, in[i].offset, slots[i].bytes, 16);
+}
+
+static void unix_loop(any *f)
+{
+    unix_call *call = (unix_call *)f;
+    EACH call(in[i].unix_seconds, in[i].nanos, slots[i].bytes, 16);
+}
+
+static void fields_loop(any *f)
+{
+    fields_call *call = (fields_call *)f;
+    EACH call(in[i].year, (uint8_t)in[i].month, (uint8_t)in[i].day, (uint8_t)in[i].hour, (uint8_t)in[i].minute,
+              in[i].second, slots[i].bytes, 16);
+}
+
+/* ---- ERFA, called directly */
+
+static void erfa_date_loop(any *f)
+{
+    erfa_date_call *call = (erfa_date_call *)f;
+    EACH call(in[i].year, in[i].month, in[i].day, &slots[i].d[0], &slots[i].d[1]);
+}
+
+static void erfa_next_loop(any *f)
+{
+    erfa_next_call *call = (erfa_next_call *)f;
+    EACH call(in[i].year, in[i].month, in[i].day, &slots[i].i[0], &slots[i].i[1], &slots[i].i[2]);
+}
+
+static void erfa_leap_loop(any *f)
+{
+    erfa_leap_call *call = (erfa_leap_call *)f;
+    EACH call(in[i].year, in[i].month, in[i].day, &slots[i].d[0]);
+}
+
+static void erfa_offset_loop(any *f)
+{
+    erfa_offset_call *call = (erfa_offset_call *)f;
+    EACH call(in[i].year, in[i].month, in[i].day, in[i].fraction, &slots[i].d[0]);
+}
+
+/* The fraction lies after the three ints at a place for a double, four bytes further than in the port's answer. */
+static void erfa_calendar_loop(any *f)
+{
+    erfa_calendar_call *call = (erfa_calendar_call *)f;
+    EACH call(in[i].jd1, in[i].jd2, &slots[i].i[0], &slots[i].i[1], &slots[i].i[2], &slots[i].d[2]);
+}
+
+static void erfa_jd_loop(any *f)
+{
+    erfa_jd_call *call = (erfa_jd_call *)f;
+    EACH call(in[i].jd1, in[i].jd2, &slots[i].d[0], &slots[i].d[1]);
+}
+
+static void erfa_jd_offset_loop(any *f)
+{
+    erfa_jd_offset_call *call = (erfa_jd_offset_call *)f;
+    EACH call(in[i].jd1, in[i].jd2, in[i].offset, &slots[i].d[0], &slots[i].d[1]);
+}
+
+static void erfa_unix_loop(any *f)
+{
+    erfa_unix_call *call = (erfa_unix_call *)f;
+    EACH call(in[i].unix_seconds, in[i].nanos, &slots[i].d[0], &slots[i].d[1]);
+}
+
+static void erfa_fields_loop(const char *scale, erfa_fields_call *call)
+{
+    EACH call(scale, in[i].year, in[i].month, in[i].day, in[i].hour, in[i].minute, in[i].second, &slots[i].d[0],
+              &slots[i].d[1]);
+}
+
+static void erfa_utc_fields_loop(any *f) { erfa_fields_loop("UTC", (erfa_fields_call *)f); }
+static void erfa_tai_fields_loop(any *f) { erfa_fields_loop("TAI", (erfa_fields_call *)f); }
+
+/* ---- the listing of a block of all inputs: one round is one block, counted per stamp */
+
+static void port_listing_loop(any *f)
+{
+    (void)f;
+    int64_t length = ct_listing_part(block, BLOCK_SIZE, 0, listing, LISTING_ROOM);
+    shown = listing;
+    shown_length = length < 0 ? 0 : (size_t)length;
+}
+
+static void driver_listing_loop(any *text) { shown = list_block(block, (text_call *)text, listing, &shown_length); }

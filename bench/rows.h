@@ -1,0 +1,73 @@
+/* What is measured: the rows of the table, each a call and its inputs, and how each library is called. */
+#include "loops.h"
+
+enum { PORT, RUST, ERFA, LIBRARIES };
+
+static const char *const library[] = {"port", "Rust", "ERFA"};
+
+typedef struct {
+    void (*loop)(any *);
+    any *call;
+} side;
+
+typedef struct {
+    const char *name;
+    set inputs;
+    side by[LIBRARIES];
+} row;
+
+#define BOTH(loop, name) {loop, (any *)ct_##name}, {loop, (any *)rs_##name}
+#define BY_ERFA(loop, name) {loop, (any *)name}
+#define NOT_IN_ERFA {NULL, NULL}
+#define TEXT(kind, set, rust, erfa) \
+    {"UTC text, " kind, set, {{jd_loop, (any *)ct_to_iso8601}, {jd_loop, (any *)rust}, {jd_loop, (any *)erfa}}}
+#define LISTING(kind, set, rust, erfa) \
+    {"listing per stamp, " kind, set, \
+     {{port_listing_loop, NULL}, {driver_listing_loop, (any *)rust}, {driver_listing_loop, (any *)erfa}}}
+#define OWN "library's own digits"
+#define BY_HAND "digits by hand"
+
+static const row rows[] = {
+    {"calendar_to_julian", LEAP_SECOND_YEARS, {BOTH(date_loop, calendar_to_julian), BY_ERFA(erfa_date_loop, eraCal2jd)}},
+    {"julian_to_calendar", LEAP_SECOND_YEARS, {BOTH(jd_loop, julian_to_calendar), BY_ERFA(erfa_calendar_loop, eraJd2cal)}},
+    {"next_calendar_day", LEAP_SECOND_YEARS, {BOTH(date_loop, next_calendar_day), BY_ERFA(erfa_next_loop, erfa_next_day)}},
+    {"from_calendar", LEAP_SECOND_YEARS, {BOTH(fields_loop, from_calendar), BY_ERFA(erfa_tai_fields_loop, eraDtf2d)}},
+    {"get_tai_utc_offset", LEAP_SECOND_YEARS, {BOTH(offset_loop, get_tai_utc_offset), BY_ERFA(erfa_offset_loop, eraDat)}},
+    {"get_tai_utc_offset", DRIFT_YEARS, {BOTH(offset_loop, get_tai_utc_offset), BY_ERFA(erfa_offset_loop, eraDat)}},
+    {"leap_at_end_of_day", LEAP_SECOND_YEARS, {BOTH(date_loop, leap_at_end_of_day), BY_ERFA(erfa_leap_loop, erfa_leap)}},
+    {"GPS to TAI", LEAP_SECOND_YEARS, {BOTH(jd_loop, gps_to_tai), NOT_IN_ERFA}},
+    {"TAI to GPS", LEAP_SECOND_YEARS, {BOTH(jd_loop, tai_to_gps), NOT_IN_ERFA}},
+    {"TAI to TT", LEAP_SECOND_YEARS, {BOTH(jd_loop, tai_to_tt), BY_ERFA(erfa_jd_loop, eraTaitt)}},
+    {"TT to TAI", LEAP_SECOND_YEARS, {BOTH(jd_loop, tt_to_tai), BY_ERFA(erfa_jd_loop, eraTttai)}},
+    {"TAI to TCG", LEAP_SECOND_YEARS, {BOTH(jd_loop, tai_to_tcg), BY_ERFA(erfa_jd_loop, erfa_tai_to_tcg)}},
+    {"TCG to TAI", LEAP_SECOND_YEARS, {BOTH(jd_loop, tcg_to_tai), BY_ERFA(erfa_jd_loop, erfa_tcg_to_tai)}},
+    {"TT to TCG", LEAP_SECOND_YEARS, {BOTH(jd_loop, tt_to_tcg), BY_ERFA(erfa_jd_loop, eraTttcg)}},
+    {"TCG to TT", LEAP_SECOND_YEARS, {BOTH(jd_loop, tcg_to_tt), BY_ERFA(erfa_jd_loop, eraTcgtt)}},
+    {"TCB to TDB", LEAP_SECOND_YEARS, {BOTH(jd_loop, tcb_to_tdb), BY_ERFA(erfa_jd_loop, eraTcbtdb)}},
+    {"TDB to TCB", LEAP_SECOND_YEARS, {BOTH(jd_loop, tdb_to_tcb), BY_ERFA(erfa_jd_loop, eraTdbtcb)}},
+    {"TT to TDB", LEAP_SECOND_YEARS, {BOTH(jd_offset_loop, tt_to_tdb_with_offset), BY_ERFA(erfa_jd_offset_loop, eraTttdb)}},
+    {"TDB to TT", LEAP_SECOND_YEARS, {BOTH(jd_offset_loop, tdb_to_tt_with_offset), BY_ERFA(erfa_jd_offset_loop, eraTdbtt)}},
+    {"UT1 to TAI", LEAP_SECOND_YEARS, {BOTH(jd_offset_loop, ut1_to_tai_with_offset), BY_ERFA(erfa_jd_offset_loop, eraUt1tai)}},
+    {"TAI to UT1", LEAP_SECOND_YEARS, {BOTH(jd_offset_loop, tai_to_ut1_with_offset), BY_ERFA(erfa_jd_offset_loop, eraTaiut1)}},
+    {"UT1 to TT", LEAP_SECOND_YEARS, {BOTH(jd_offset_loop, ut1_to_tt_with_delta_t), BY_ERFA(erfa_jd_offset_loop, eraUt1tt)}},
+    {"TT to UT1", LEAP_SECOND_YEARS, {BOTH(jd_offset_loop, tt_to_ut1_with_delta_t), BY_ERFA(erfa_jd_offset_loop, eraTtut1)}},
+    {"UTC to TAI", LEAP_SECOND_YEARS, {BOTH(jd_loop, utc_to_tai), BY_ERFA(erfa_jd_loop, eraUtctai)}},
+    {"UTC to TAI", DRIFT_YEARS, {BOTH(jd_loop, utc_to_tai), BY_ERFA(erfa_jd_loop, eraUtctai)}},
+    {"UTC to TAI", MONTH_ENDS, {BOTH(jd_loop, utc_to_tai), BY_ERFA(erfa_jd_loop, eraUtctai)}},
+    {"TAI to UTC", LEAP_SECOND_YEARS, {BOTH(jd_loop, tai_to_utc), BY_ERFA(erfa_jd_loop, eraTaiutc)}},
+    {"TAI to UTC", DRIFT_YEARS, {BOTH(jd_loop, tai_to_utc), BY_ERFA(erfa_jd_loop, eraTaiutc)}},
+    {"UTC to UT1", LEAP_SECOND_YEARS, {BOTH(jd_offset_loop, utc_to_ut1_with_dut1), BY_ERFA(erfa_jd_offset_loop, eraUtcut1)}},
+    {"UT1 to UTC", LEAP_SECOND_YEARS, {BOTH(jd_offset_loop, ut1_to_utc_with_dut1), BY_ERFA(erfa_jd_offset_loop, eraUt1utc)}},
+    {"UTC::new", LEAP_SECOND_YEARS, {BOTH(unix_loop, utc_new), BY_ERFA(erfa_unix_loop, erfa_from_unix)}},
+    {"utc_from_calendar", LEAP_SECOND_YEARS, {BOTH(fields_loop, utc_from_calendar), BY_ERFA(erfa_utc_fields_loop, eraDtf2d)}},
+    TEXT(OWN, LEAP_SECOND_YEARS, rs_to_iso8601, erfa_text),
+    TEXT(OWN, DRIFT_YEARS, rs_to_iso8601, erfa_text),
+    TEXT(OWN, MONTH_ENDS, rs_to_iso8601, erfa_text),
+    TEXT(BY_HAND, LEAP_SECOND_YEARS, rust_text_by_hand, erfa_text_by_hand),
+    TEXT(BY_HAND, DRIFT_YEARS, rust_text_by_hand, erfa_text_by_hand),
+    TEXT(BY_HAND, MONTH_ENDS, rust_text_by_hand, erfa_text_by_hand),
+    LISTING(OWN, LEAP_SECOND_YEARS, rs_to_iso8601, erfa_text),
+    LISTING(BY_HAND, LEAP_SECOND_YEARS, rust_text_by_hand, erfa_text_by_hand),
+};
+
+enum { ROWS = sizeof rows / sizeof rows[0] };

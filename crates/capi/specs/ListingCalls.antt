@@ -1,0 +1,16 @@
+-- What a C caller does that lists a block by `ct_listing_part`: it begins at line 0, writes the bytes of each part, and adds the line ends in
+-- them to the line, until a call returns 0. Written from include/celestial_time.h ("The next part begins at `line` plus the line ends (byte 10)
+-- in this one"). Assumes nothing.
+use Prim.Native.Nat.{ℕ, suc, _+_, _≤_, _<_}
+use mathlib.Core.List.{List, [], _++_}
+use lib.ListN.{length, take}
+use lib.IntN.{pos}
+use Rattle.stamps.specs.LineEnds.{lineEnds}
+use Rattle.c_answers.specs.Delivery.{Delivered}
+use Rattle.capi.specs.ListingPart.{listingPart}
+
+-- after so many calls that each returned bytes, of a block s and with buffers of 33 bytes or more: the line to ask for next, and what was written
+pub data Listed (s : List ℕ) : ℕ → ℕ → List ℕ → Type 0 where
+  begun : Listed s 0 0 []
+  next : {calls line n : ℕ} {text before after : List ℕ} → Listed s calls line text → 33 ≤ length before → 0 < n
+      → Delivered (listingPart s line (length before)) before (pos n) after → Listed s (suc calls) (line + lineEnds (take n after)) (text ++ take n after)

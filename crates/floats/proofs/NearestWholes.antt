@@ -1,0 +1,146 @@
+-- `nearest_whole`, range by range: from 0.5 on the digits of a + 0.5 give the number and the float, and below 0.5 in size both are zero.
+use mathlib.Core.Path.{_≡_, refl, sym, ap, _∙_, subst}
+use mathlib.Core.Bool.{Bool, true, false, not, _&&_, _||_, cond, true≢false, false≢true}
+use Prim.Native.Nat.{ℕ, _+_, _*_, _/_, _^_, _≤_, _<_, min}
+use mathlib.Core.Logic.{_⊎_, inl, inr}
+use native.Mathlib.Nat.{eq-or-lt-of-le, le-of-lt, le-of-eq, mul-one, mul-pos, mul-div-cancel, div-lt-iff-lt-mul}
+use native.Mathlib.Omega.{arith}
+use lib.IntN.{pos}
+use lib.Dec.{T, ltb, eqb, ltb→lt, lt→ltb, nltb→le, eqb→eq, eqb-refl, lit<}
+use lib.Ieee.{Float, nan, inf, fin, binary64, up, down, round, fits, neg, add, sub, lt, eq, le, ofInt, toUnsigned, toSigned}
+use lib.Ieee.Fits.{down-pos}
+use lib.Ieee.Exact.{HasValue}
+use Rattle.floats.specs.Whole.{abs, half, nought, toWhole, downward, upward, nearestInt}
+use Rattle.floats.proofs.Laws.{downward-exact}
+
+-- 1.0 and 2 ^ 52
+abbrev one : Float
+one = fin false 1 (pos 0)
+
+abbrev two-52 : Float
+two-52 = fin false 1 (pos 52)
+
+-- ---- the tests of the code
+no-lt : (x y : ℕ) → x ≤ y → ltb y x ≡ false
+no-lt x y h = go (ltb y x) (ltb→lt y x)
+  where
+    go : (b : Bool) → (T b → y < x) → b ≡ false
+    go true f = let g : y < x = f tt in absurd (omega arith)
+    go false f = refl
+
+-- ±0.5 against a: x / 2 ≤ y where x ≤ 2 * y
+at-least : (x y : ℕ) → (ltb x y || eqb x y && true) ≡ true → x ≤ y
+at-least x y = go (ltb x y) (eqb x y) (ltb→lt x y) (eqb→eq x y)
+  where
+    go : (b c : Bool) → (T b → x < y) → (T c → x ≡ y) → (b || c && true) ≡ true → x ≤ y
+    go true c f g h = le-of-lt (f tt)
+    go false true f g h = le-of-eq (g tt)
+    go false false f g h = absurd (false≢true h)
+
+below-half : (d : ℕ) → 0 < d → (x : ℕ) → (eqb d x && (false || eqb d 0)) ≡ false
+below-half d D x = go (eqb d x) (eqb d 0) (eqb→eq d 0)
+  where
+    go : (b c : Bool) → (T c → d ≡ 0) → (b && (false || c)) ≡ false
+    go true true f = let e : d ≡ 0 = f tt in absurd (omega arith)
+    go true false f = refl
+    go false c f = refl
+
+-- and where it is not, y < x
+under : (x y : ℕ) → (ltb x y || eqb x y && true) ≡ false → ltb y x ≡ true
+under x y h = go (ltb x y) (eqb x y) (nltb→le x y) (λ e. subst (λ (z : ℕ). T (eqb x z)) e (eqb-refl x)) h
+  where
+    sure : (b : Bool) → T b → b ≡ true
+    sure true t = refl
+    sure false t = absurd t
+
+    go : (b c : Bool) → (T (not b) → y ≤ x) → (x ≡ y → T c) → (b || c && true) ≡ false → ltb y x ≡ true
+    go true c f g h = absurd (true≢false h)
+    go false true f g h = absurd (true≢false h)
+    go false false f g h = sure (ltb y x) (lt→ltb y x (strict (f tt) g))
+      where
+        strict : y ≤ x → (x ≡ y → ⊥) → y < x
+        strict l n = apart (eq-or-lt-of-le l)
+          where
+            apart : (y ≡ x) ⊎ (y < x) → y < x
+            apart (inl e) = absurd (n (sym e))
+            apart (inr k) = k
+
+-- from 0.5 on a is neither below 0.5 in size nor below 0
+large-size : (a : Float) → le half a ≡ true → (lt (abs a) half ≡ false) × (lt a nought ≡ false)
+unfolding le lt eq abs
+large-size nan h = absurd (false≢true h)
+large-size (inf true) h = absurd (false≢true h)
+large-size (inf false) h = (refl, refl)
+large-size (fin true m e) h = absurd (false≢true (sym (below-half (1 * 1 * down e) (mul-pos (lit< tt) (down-pos e)) (m * up e * 2)) ∙ h))
+large-size (fin false m e) h = (no-lt (1 * 1 * down e) (m * up e * 2) (at-least (1 * 1 * down e) (m * up e * 2) h), no-lt (0 * down e) (m * up e * 1) (zero-le (down e) (m * up e * 1)))
+  where
+    zero-le : (d x : ℕ) → 0 * d ≤ x
+    zero-le d x = omega arith
+
+pub large-is : (a : Float) → le half a ≡ true → nearestInt a ≡ toWhole downward (add binary64 a half)
+unfolding nearestInt
+large-is a h =
+    let s = large-size a h in
+    ap (λ (b : Bool). cond b nought (cond (lt a nought) (toWhole upward (sub binary64 a half)) (toWhole downward (add binary64 a half)))) (s .0)
+    ∙ ap (λ (b : Bool). cond b (toWhole upward (sub binary64 a half)) (toWhole downward (add binary64 a half))) (s .1)
+
+-- ---- the digits of t
+value-cast : (v : Float) (k : ℕ) → HasValue v false k 1 → k < 2 ^ 52 → toSigned 63 v ≡ pos k
+unfolding toSigned
+value-cast nan k h l = absurd h
+value-cast (inf s) k h l = absurd h
+value-cast (fin true m e) k h l = absurd (true≢false (h .0))
+value-cast (fin false m e) k h l = ap (λ (z : ℕ). pos (min z 9223372036854775807)) (ap (λ (z : ℕ). z / down e) (sym (mul-one (m * up e)) ∙ h .1) ∙ mul-div-cancel k (down-pos e)) ∙ ap pos (least k l)
+  where
+    least : (k : ℕ) → k < 4503599627370496 → min k 9223372036854775807 ≡ k
+    least k l = omega arith
+
+-- the cast asks for -1 < t < 2 ^ 64
+pub in-cast : (t : Float) → le one t ≡ true → lt t two-52 ≡ true → T (lt (fin true 1 (pos 0)) t) × T (lt t (fin false 1 (pos 64)))
+unfolding le lt eq
+in-cast nan l h = absurd (false≢true l)
+in-cast (inf true) l h = absurd (false≢true l)
+in-cast (inf false) l h = absurd (false≢true h)
+in-cast (fin true m e) l h = absurd (false≢true (sym (below-half (1 * 1 * down e) (mul-pos (lit< tt) (down-pos e)) (m * up e * 1)) ∙ l))
+in-cast (fin false m e) l h =
+    (lt→ltb 0 (1 * down e + m * up e * 1) (some (down e) (m * up e) (down-pos e)), lt→ltb (m * up e * 1) (2 ^ 64 * down e) (more (m * up e) (down e) (ltb→lt (m * up e * 1) (2 ^ 52 * down e) (subst T (sym h) tt))))
+  where
+    some : (d x : ℕ) → 0 < d → 0 < 1 * d + x * 1
+    some d x h = omega arith
+
+    more : (x d : ℕ) → x * 1 < 4503599627370496 * d → x * 1 < 18446744073709551616 * d
+    more x d h = omega arith
+
+pub record Digits (t : Float) (k : ℕ) : Type 0 where
+  pub below : k < 2 ^ 52
+  pub float : ofInt binary64 (pos k) ≡ toWhole downward t
+  pub cast : pos k ≡ toSigned 63 (toWhole downward t)
+
+pub digits : (t : Float) → T (fits binary64 t) → le one t ≡ true → lt t two-52 ≡ true → (k : ℕ) → k ≡ toUnsigned 64 t → Digits t k
+unfolding le lt eq toUnsigned toWhole ofInt
+digits nan f l h k e = absurd (false≢true l)
+digits (inf true) f l h k e = absurd (false≢true l)
+digits (inf false) f l h k e = absurd (false≢true h)
+digits (fin true m i) f l h k e = absurd (false≢true (sym (below-half (1 * 1 * down i) (mul-pos (lit< tt) (down-pos i)) (m * up i * 1)) ∙ l))
+digits (fin false m i) f l h k e =
+    let q : m * up i / down i < 2 ^ 52 = div-lt-iff-lt-mul (down-pos i) .1 (subst (λ (z : ℕ). z < 2 ^ 52 * down i) (mul-one (m * up i)) (ltb→lt (m * up i * 1) (2 ^ 52 * down i) (subst T (sym h) tt))) in
+    let is : k ≡ m * up i / down i = least k (m * up i / down i) e q in
+    record {
+      below = subst (λ (z : ℕ). z < 2 ^ 52) (sym is) q;
+      float = ap (λ (z : ℕ). round binary64 false z 1) is;
+      cast = ap pos is ∙ sym (value-cast (toWhole downward (fin false m i)) (m * up i / down i) (downward-exact false m i f) q);
+    }
+  where
+    least : (k q : ℕ) → k ≡ min q 18446744073709551615 → q < 4503599627370496 → k ≡ q
+    least k q e h = omega arith
+
+-- ---- below 0.5 in size
+pub small-is : (a : Float) → le half a ≡ false → lt (neg half) a ≡ true → nought ≡ nearestInt a
+unfolding le lt eq abs neg nearestInt
+small-is nan h l = absurd (false≢true l)
+small-is (inf true) h l = absurd (false≢true l)
+small-is (inf false) h l = absurd (true≢false h)
+small-is (fin true m e) h l = sym (ap (λ (b : Bool). cond b nought (cond (lt (fin true m e) nought) (toWhole upward (sub binary64 (fin true m e) half)) (toWhole downward (add binary64 (fin true m e) half)))) l)
+small-is (fin false m e) h l =
+    sym (ap (λ (b : Bool). cond b nought (cond (lt (fin false m e) nought) (toWhole upward (sub binary64 (fin false m e) half)) (toWhole downward (add binary64 (fin false m e) half))))
+    (under (1 * 1 * down e) (m * up e * 2) h))

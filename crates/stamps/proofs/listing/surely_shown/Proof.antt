@@ -1,0 +1,13 @@
+-- `listing::surely_shown` meets its contract. Assumes nothing.
+use Rattle.stamps.proofs.LateDates.{from-zero, below-zero}
+use Rattle.stamps.proofs.listing.surely_shown.Statement.{statement}
+use Rattle.stamps.proofs.listing.surely_shown.Tie as tie
+
+returns : tie.Need-returns
+returns c = from-zero (c .before .args .sum) (c .if1 .taken)
+
+returns-2 : tie.Need-returns-2
+returns-2 c = below-zero (c .before .args .sum) (c .if1 .left)
+
+pub surely-shown-spec : {M : Type 1} → statement M
+surely-shown-spec = tie.close (tie.spec returns returns-2)

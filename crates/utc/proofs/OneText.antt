@@ -1,0 +1,77 @@
+-- DEMAND 3 of UTC text, whole: for every division of a date on the grid and every buffer. Its parts are Demand3, Alike and DayLengths. Assumes nothing.
+use mathlib.Core.Path.{_≡_, refl, sym, ap, _∙_}
+use mathlib.Core.Bool.{Bool, true, false, cond}
+use mathlib.Core.List.{List, _++_}
+use Prim.Native.Nat.{ℕ}
+use lib.Dec.{leb}
+use lib.IntN.{ℤ}
+use lib.ListN.{length, drop}
+use lib.Ieee.{Float}
+use borrow.Author.Tests.{leb-true, leb-false}
+use Rattle.refusals.specs.Outcome.{answer, refusal}
+use Rattle.floats.specs.Whole.{away}
+use Rattle.day_number.specs.ExactDay.{InJulianRange}
+use Rattle.julian.specs.declared.JulianDate.{JulianDate}
+use Rattle.tai_utc.specs.Table.{Row, fixed}
+use Rattle.tai_utc.specs.Leap.{leapAtEndOfDay}
+use Rattle.time_of_day.specs.Nearest.{Nearest}
+use Rattle.time_of_day.specs.ExactTime.{Leap}
+use Rattle.time_of_day.proofs.Rounded.{away-nearest}
+use Rattle.utc_text.specs.declared.TextAnswer.{TextAnswer}
+use Rattle.utc_text.specs.Answer.{textOutcome}
+use Rattle.utc.specs.IsoText.{isoTextBy}
+use Rattle.utc.specs.TextCall.{TextCall}
+use Rattle.utc.specs.Shows.{tooEarly, TextDemand}
+use Rattle.utc.specs.OneText.{Division, Put, fits-in, too-long, OneText}
+use Rattle.utc.proofs.TextCalls.{call-as}
+use Rattle.utc.proofs.Sums.{sumText, of-sum}
+use Rattle.utc.proofs.Demand3.{sum-demand, fixed-leaps}
+use Rattle.utc.proofs.DayLengths.{a-length}
+use Rattle.utc.proofs.Alike.{alike, exactly, buffer}
+
+-- ---- one call, by its two equations
+case : {A : Type 0} (b c : Bool) (x y : A) → b ≡ c → cond b x y ≡ cond c x y
+case b c x y e = ap (λ (d : Bool). cond d x y) e
+
+put : (t l out : List ℕ) (r : TextAnswer) → textOutcome r ≡ cond (leb (length t) (length l)) (answer (length t)) (refusal 11) → out ≡ cond (leb (length t) (length l)) (t ++ drop (length t) l) l → Put t l r out
+put t l out r = go (leb (length t) (length l)) refl
+  where
+    go : (b : Bool) → leb (length t) (length l) ≡ b → textOutcome r ≡ cond b (answer (length t)) (refusal 11) → out ≡ cond b (t ++ drop (length t) l) l → Put t l r out
+    go true p e q = fits-in (leb-true (length t) (length l) p) e q
+    go false p e q = too-long (leb-false (length t) (length l) p) e q
+
+module _ (rows : List Row) (cases : (y m d : ℤ) (x : Float) → leapAtEndOfDay rows y m d ≡ answer x → Leap x) (how : Bool → ℕ → ℕ → ℕ) (rule : Nearest how) (sum : ℤ) (range : InJulianRange sum) where
+  demand : TextDemand rows sum (sumText how rows sum)
+  demand = sum-demand rows cases how rule sum range
+
+  -- a call for a division is one for the sum
+  as-sum : (jd : JulianDate) → Division sum jd → (l : List ℕ) (r : TextAnswer) (out : List ℕ) → TextCall (isoTextBy how rows jd) l r out → TextCall (sumText how rows sum) l r out
+  as-sum jd d l r out c = call-as _ _ l out r (sym (of-sum how rows sum range jd d)) c
+
+  pub text-for-every-buffer-by : OneText how rows sum
+  text-for-every-buffer-by = record {
+    early = λ e jd d l r out c.
+        let s = as-sum jd d l r out c in
+        record {
+          says = exactly rows sum (sumText how rows sum) l out r demand s ∙ case (tooEarly sum) true (refusal 1) _ e;
+          holds = buffer rows sum (sumText how rows sum) l out r demand s ∙ case (tooEarly sum) true l _ e;
+        };
+    shown = λ e. (
+      demand .text,
+      record {
+        leap = demand .leap;
+        leap-is = demand .leap-is e;
+        has-length = a-length (demand .leap) (cases _ _ _ (demand .leap) (demand .leap-is e));
+        right = demand .right e;
+      },
+      λ jd d l r out c.
+          let s = as-sum jd d l r out c in
+          put (demand .text) l out r
+          (exactly rows sum (sumText how rows sum) l out r demand s ∙ case (tooEarly sum) false (refusal 1) _ e)
+          (buffer rows sum (sumText how rows sum) l out r demand s ∙ case (tooEarly sum) false l _ e),
+    );
+    alike = λ jd d l r out c jd' d' l' r' out' c' h. alike (sumText how rows sum) l out l' out' r r' h (as-sum jd d l r out c) (as-sum jd' d' l' r' out' c');
+  }
+
+pub text-for-every-buffer : (sum : ℤ) → InJulianRange sum → OneText away fixed sum
+text-for-every-buffer = text-for-every-buffer-by fixed fixed-leaps away away-nearest

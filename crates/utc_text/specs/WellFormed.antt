@@ -1,0 +1,45 @@
+-- The form of a text, whatever its digits say: the year, -MM-DDThh:mm:ss.mmm, each digit and each separator in its place. Written from document 01, "UTC text":
+-- "The year has at least 4 characters, sign counted", and the Rust's `iso_string` (scales/utc/mod.rs). Assumes nothing.
+use Prim.Native.Nat.{ℕ, _≤_}
+use mathlib.Core.Path.{_≡_}
+use mathlib.Core.List.{List, [], _∷_}
+use mathlib.Core.Bool.{cond}
+use lib.ListN.{length}
+use lib.Dec.{eqb}
+use Rattle.utc_text.specs.ReadBack.{part, yearBytes}
+
+-- each byte is a digit's: 48 to 57
+unfoldable pub AllDigits : List ℕ → Type 0
+AllDigits [] = Unit
+AllDigits (c ∷ cs) = (48 ≤ c) × (c ≤ 57) × AllDigits cs
+
+-- n digits, and nothing else
+pub record Digits (n : ℕ) (cs : List ℕ) : Type 0 where
+  pub many : length cs ≡ n
+  pub all : AllDigits cs
+
+-- what stands after a minus sign, 45, or the whole where there is none
+unfoldable pub unsigned : List ℕ → List ℕ
+unsigned [] = []
+unsigned (c ∷ cs) = cond (eqb c 45) cs (c ∷ cs)
+
+-- the byte c stands k bytes before the end of t
+abbrev pub StandsAt : ℕ → ℕ → List ℕ → Type 0
+StandsAt c k t = part k 1 t ≡ c ∷ []
+
+-- 45 is '-', 84 is 'T', 58 is ':' and 46 is '.'
+pub record WellFormed (t : List ℕ) : Type 0 where
+  pub year-length : 4 ≤ length (yearBytes t)
+  pub year : AllDigits (unsigned (yearBytes t))
+  pub after-year : StandsAt 45 19 t
+  pub month : Digits 2 (part 18 2 t)
+  pub after-month : StandsAt 45 16 t
+  pub day : Digits 2 (part 15 2 t)
+  pub after-day : StandsAt 84 13 t
+  pub hour : Digits 2 (part 12 2 t)
+  pub after-hour : StandsAt 58 10 t
+  pub minute : Digits 2 (part 9 2 t)
+  pub after-minute : StandsAt 58 7 t
+  pub second : Digits 2 (part 6 2 t)
+  pub after-second : StandsAt 46 4 t
+  pub milli : Digits 3 (part 3 3 t)

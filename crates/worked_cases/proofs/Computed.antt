@@ -1,0 +1,53 @@
+-- The answers as a check computes them: dates by division, every definition on the way open, numbers worked out. Assumes nothing.
+use mathlib.Core.Path.{_≡_, sym, _∙_}
+use lib.Ieee.{round, ofBits, ofInt, add, sub, mul, div, neg, lt, le, eq, toSigned}
+use Rattle.refusals.specs.Outcome.{Outcome, onward}
+use Rattle.constants.specs.Constants.{secondsPerDay, mjdZeroPoint, unixEpochJd, nanosecondsPerSecond, tcbRateLb, tdbOffset1977, ttTaiOffset, mjd1977Jan1}
+use Rattle.floats.specs.Whole.{abs, toWhole, nearestInt}
+use Rattle.little_endian.specs.LittleEndian.{fourAt, u32At}
+use Rattle.calendar.specs.Calendar.{next, leapSize, lengths, daysInMonth}
+use Rattle.calendar.specs.Refusals.{validDate, nextOf}
+use Rattle.calendar.specs.DayCount.{civilCount, mjdNumber, mjdOf}
+use Rattle.day_number.specs.Answer.{dayNumberAndFraction}
+use Rattle.julian.specs.JulianDate.{roundedSum}
+use Rattle.julian.specs.DayFraction.{secondLimit, timeInDay, dayFraction}
+use Rattle.julian.specs.Finite.{finiteJd, finiteArg}
+use Rattle.julian.specs.Calendar.{calendarToJulian, fromCalendar}
+use Rattle.julian.specs.Calendar as Julian
+use Rattle.tai_utc.specs.Table.{fixed, monthNumber, reached}
+use Rattle.tai_utc.specs.Offset.{secondsOf, startOf, rateOf, byRow, offsetBy, offsetAt, inDay, taiUtcOffset}
+use Rattle.tai_utc.specs.Leap.{dayOffsets, leapOf, leapAtEndOfDay}
+use Rattle.scales.specs.SmallerPart.{firstIsLarger, partsOf, putBack, mapSmallerPart}
+use Rattle.scales.specs.Formulas.{since, daysOf, tdb0, ttDays, jd1977, tcbToTdb}
+use Rattle.scales.specs.Conversions.{changed, converted}
+use Rattle.scales.specs.Conversions as Scales
+use Rattle.utc_scales.specs.UtcUt1.{utcToUt1}
+use Rattle.time_of_day.specs.Milliseconds as Millis
+use Rattle.time_of_day.specs.TimeShown.{timeOf, dayEnd, fromZero, shownAt, shownOf}
+use Rattle.utc_text.specs.Text.{yearText, utcText}
+use Rattle.utc_text.specs.Answer.{textWritten, bufferAfter}
+use Rattle.utc.specs.FromCalendar.{atTime, utcFromCalendar}
+use Rattle.utc.specs.UnixTime.{unixDay, secondOfUnixDay, secondWithNanos}
+use Rattle.utc.specs.IsoText.{nextMidnightText, shownText, dayTextBy}
+use Rattle.utc.specs.TextCall.{written, held}
+use Rattle.stamps.specs.Block.{blockOf}
+use Rattle.worked_cases.specs.Calls.{Call, Value, answerOf}
+use Rattle.worked_cases.proofs.Divisions.{dividedDate}
+use Rattle.worked_cases.proofs.ByDates.{answerBy, by-division}
+use Rattle.worked_cases.proofs.Literals.{literal, literal-is}
+
+unfoldable pub computed : Call → Outcome Value
+unfolding answerBy answerOf dividedDate onward
+    calendarToJulian fromCalendar Julian.atTime roundedSum mjdOf mjdNumber civilCount validDate nextOf next daysInMonth leapSize lengths dayNumberAndFraction
+    mjdZeroPoint secondsPerDay unixEpochJd nanosecondsPerSecond tcbRateLb tdbOffset1977 ttTaiOffset mjd1977Jan1
+    dayFraction timeInDay secondLimit atTime utcFromCalendar unixDay secondOfUnixDay secondWithNanos
+    fixed monthNumber reached secondsOf startOf rateOf byRow offsetBy offsetAt inDay taiUtcOffset dayOffsets leapOf leapAtEndOfDay
+    finiteJd finiteArg Scales.answerOf converted changed mapSmallerPart partsOf putBack firstIsLarger tcbToTdb since daysOf tdb0 ttDays jd1977 utcToUt1
+    shownOf shownAt fromZero timeOf dayEnd Millis.wholeLeap Millis.millisOf Millis.secondsOf
+    dayTextBy shownText nextMidnightText utcText yearText textWritten bufferAfter written held blockOf u32At fourAt
+    abs toWhole nearestInt round ofBits ofInt add sub mul div neg lt le eq toSigned
+computed c = literal (answerBy dividedDate c)
+
+pub as-computed : (c : Call) → answerOf c ≡ computed c
+unfolding computed
+as-computed c = by-division c ∙ sym (literal-is (answerBy dividedDate c))

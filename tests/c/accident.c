@@ -1,0 +1,100 @@
+/* Every call that takes a date, on the dead stamps of a block: each must refuse each of them by its
+   number, however this program was compiled and linked.
+     accident BLOCK
+   Prints, too, how many stamps the C library's isnan finds in this build: none where the compiler has dropped it. */
+#include "check.h"
+#include "patterns.h"
+#include <math.h>
+
+enum { DEAD = 212, MOST_BYTES = 64008, ROOM = 32 };
+
+typedef int64_t plain_call(double, double, uint8_t *, size_t);
+typedef int64_t offset_call(double, double, double, uint8_t *, size_t);
+
+static const struct { const char *name; plain_call *ask; int number; } PLAIN[] = {
+    {"ct_to_iso8601", ct_to_iso8601, 6}, {"ct_julian_to_calendar", ct_julian_to_calendar, 6},
+    {"ct_utc_to_tai", ct_utc_to_tai, 6}, {"ct_tai_to_utc", ct_tai_to_utc, 6},
+    {"ct_gps_to_tai", ct_gps_to_tai, 9}, {"ct_tai_to_gps", ct_tai_to_gps, 9},
+    {"ct_tai_to_tt", ct_tai_to_tt, 9},   {"ct_tt_to_tai", ct_tt_to_tai, 9},
+    {"ct_tai_to_tcg", ct_tai_to_tcg, 9}, {"ct_tcg_to_tai", ct_tcg_to_tai, 9},
+    {"ct_tt_to_tcg", ct_tt_to_tcg, 9},   {"ct_tcg_to_tt", ct_tcg_to_tt, 9},
+    {"ct_tcb_to_tdb", ct_tcb_to_tdb, 9}, {"ct_tdb_to_tcb", ct_tdb_to_tcb, 9},
+};
+
+static const struct { const char *name; offset_call *ask; int number; } WITH_OFFSET[] = {
+    {"ct_tt_to_tdb_with_offset", ct_tt_to_tdb_with_offset, 9},
+    {"ct_tdb_to_tt_with_offset", ct_tdb_to_tt_with_offset, 9},
+    {"ct_ut1_to_tai_with_offset", ct_ut1_to_tai_with_offset, 9},
+    {"ct_tai_to_ut1_with_offset", ct_tai_to_ut1_with_offset, 9},
+    {"ct_ut1_to_tt_with_delta_t", ct_ut1_to_tt_with_delta_t, 9},
+    {"ct_tt_to_ut1_with_delta_t", ct_tt_to_ut1_with_delta_t, 9},
+    {"ct_utc_to_ut1_with_dut1", ct_utc_to_ut1_with_dut1, 6},
+    {"ct_ut1_to_utc_with_dut1", ct_ut1_to_utc_with_dut1, 9},
+};
+
+#define COUNT(table) (sizeof table / sizeof *table)
+
+static uint8_t out[ROOM];
+
+static uint8_t *fresh(void)
+{
+    memset(out, 0xa5, sizeof out);
+    return out;
+}
+
+static int untouched(void)
+{
+    size_t i;
+    for (i = 0; i < sizeof out; i++)
+        if (out[i] != 0xa5) return 0;
+    return 1;
+}
+
+static void due(const char *name, int number, int64_t code)
+{
+    check(code == -number && untouched(), "%s says %ld of a dead stamp", name, (long)code);
+}
+
+static void ask_all(double jd1, double jd2)
+{
+    size_t i;
+    for (i = 0; i < COUNT(PLAIN); i++) due(PLAIN[i].name, PLAIN[i].number, PLAIN[i].ask(jd1, jd2, fresh(), ROOM));
+    for (i = 0; i < COUNT(WITH_OFFSET); i++)
+        due(WITH_OFFSET[i].name, WITH_OFFSET[i].number, WITH_OFFSET[i].ask(jd1, jd2, 0.5, fresh(), ROOM));
+}
+
+/* A dead part in the place of the offset; 10 comes after 9 in six calls and before it in two. */
+static void ask_offsets(double dead)
+{
+    size_t i;
+    for (i = 0; i < COUNT(WITH_OFFSET); i++)
+        due(WITH_OFFSET[i].name, 10, WITH_OFFSET[i].ask(2451545.0, 0.25, dead, fresh(), ROOM));
+}
+
+static int not_finite(const uint8_t *at) { return (at[7] & 0x7f) == 0x7f && (at[6] & 0xf0) == 0xf0; }
+
+int main(int count, char **words)
+{
+    static uint8_t block[MOST_BYTES];
+    const uint8_t *jd1 = block + 8, *jd2;
+    FILE *file = count == 2 ? fopen(words[1], "rb") : NULL;
+    int64_t i, stamps, dead = 0, by_isnan = 0, by_text = 0;
+    if (!file || fread(block, 1, sizeof block, file) != sizeof block) return 2;
+    fclose(file);
+    stamps = ct_block_stamps(block, sizeof block);
+    jd2 = jd1 + 8 * stamps;
+    for (i = 0; i < stamps; i++) {
+        double first = ct_float_at(jd1 + 8 * i), second = ct_float_at(jd2 + 8 * i), sum = first + second;
+        by_isnan += isnan(sum) != 0;
+        by_text += ct_to_iso8601(first, second, fresh(), ROOM) < 0;
+        if (!not_finite(jd1 + 8 * i) && !not_finite(jd2 + 8 * i)) continue;
+        dead++;
+        ask_all(first, second);
+        ask_offsets(not_finite(jd1 + 8 * i) ? first : second);
+    }
+    check(dead == DEAD, "%ld dead stamps in the block", (long)dead);
+    check(by_text == DEAD, "the text call refuses %ld stamps", (long)by_text);
+    printf("dead stamps: %ld; isnan in this build says %ld, the text call refuses %ld\n", (long)dead, (long)by_isnan,
+           (long)by_text);
+    return summary("accident");
+}

@@ -1,0 +1,195 @@
+/* Each call of include/celestial_time.h: an answer, every refusal that it can give, and the order of
+   two that would both hold. A call that fills a buffer is lent every length from 0 to 34: with too few
+   bytes it says 11, after every other refusal, and no byte changes that it does not answer with.
+   The answers are document 01's, whole numbers of seconds, or ERFA's on SOFA's check inputs. */
+#include "lent.h"
+#include "scale_calls.h"
+
+static void calendar_calls(void)
+{
+    IS(1, ct_is_leap_year(2000));
+    IS(0, ct_is_leap_year(1900));
+    IS(1, ct_is_leap_year(-4800));
+    IS(29, ct_days_in_month(2000, 2));
+    IS(0, ct_days_in_month(2000, 13));
+    IS(0, ct_days_in_month(2000, 0));
+    IS(0, ct_validate_calendar_date(2000, 2, 29));
+    IS(-1, ct_validate_calendar_date(-4800, 13, 40));
+    IS(-2, ct_validate_calendar_date(2000, 13, 40));
+    IS(-3, ct_validate_calendar_date(1900, 2, 29));
+    GIVES(day(1900, 3, 1), ct_next_calendar_day, 1900, 2, 28);
+    GIVES(day(-4798, 1, 1), ct_next_calendar_day, -4799, 12, 31);
+    REFUSES(1, ct_next_calendar_day, -4800, 13, 40);
+    REFUSES(2, ct_next_calendar_day, 2000, 13, 40);
+    REFUSES(3, ct_next_calendar_day, 1900, 2, 29);
+    REFUSES(5, ct_next_calendar_day, 2147483647, 12, 31);
+    GIVES(parts(2400000.5, 51544.0), ct_calendar_to_julian, 2000, 1, 1);
+    REFUSES(1, ct_calendar_to_julian, -4800, 13, 40);
+    REFUSES(2, ct_calendar_to_julian, 2000, 13, 40);
+    REFUSES(3, ct_calendar_to_julian, 1900, 2, 29);
+}
+
+static void calendar_of_dates(void)
+{
+    GIVES(day_and_fraction(2000, 1, 1, 0.5), ct_julian_to_calendar, 2451544.75, 0.25);
+    GIVES(day_and_fraction(-4900, 3, 1, 0.0), ct_julian_to_calendar, -68569.5, 0.0);
+    REFUSES(6, ct_julian_to_calendar, -68570.0, 0.0);
+    REFUSES(6, ct_julian_to_calendar, 1e9, 1.0);
+    REFUSES(6, ct_julian_to_calendar, nan_float(), 0.0);
+    REFUSES(6, ct_julian_to_calendar, 0.0, signalling_float());
+    REFUSES(6, ct_julian_to_calendar, infinite_float(), minus_infinite_float());
+    GIVES(parts(2452791.5, 0.52100983796296296), ct_from_calendar, 2003, 6, 1, 12, 30, 15.25);
+    REFUSES(1, ct_from_calendar, -4800, 13, 40, 25, 60, -1.0);
+    REFUSES(2, ct_from_calendar, 2000, 13, 40, 25, 60, -1.0);
+    REFUSES(3, ct_from_calendar, 2000, 2, 30, 25, 0, 0.0);
+    REFUSES(4, ct_from_calendar, 2000, 1, 1, 24, 0, 0.0);
+    REFUSES(4, ct_from_calendar, 2000, 1, 1, 0, 60, 0.0);
+    REFUSES(4, ct_from_calendar, 2016, 12, 31, 23, 59, 60.0);
+    REFUSES(4, ct_from_calendar, 2000, 1, 1, 0, 0, -0.5);
+    REFUSES(4, ct_from_calendar, 2000, 1, 1, 0, 0, nan_float());
+    REFUSES(4, ct_from_calendar, 2000, 1, 1, 0, 0, infinite_float());
+}
+
+static void date_calls(void)
+{
+    GIVES(parts(2451546.0, 0.25), ct_add_days, 2451545.0, 0.25, 1.0);
+    GIVES(parts(nan_float(), nan_float()), ct_add_days, 2451545.0, 0.25, signalling_float());
+    GIVES(parts(2451545.0, 0.75), ct_add_seconds, 2451545.0, 0.25, 43200.0);
+    GIVES(parts(2440587.5, 0.5), ct_from_unix_time, 43200, 0);
+    GIVES(parts(2400000.5, 50375.699999999983), ct_from_julian_year, 1996.8);
+    IS_FLOAT(1979.7604380561258, ct_to_julian_year(2451545.0, -7392.5));
+    IS_FLOAT(2451545.25, ct_to_f64(2451545.0, 0.25));
+    IS_FLOAT(minus_infinite_float(), ct_to_f64(minus_infinite_float(), 0.0));
+    IS(1, ct_equal(2451545.0, 0.25, 0.25, 2451545.0));
+    IS(0, ct_equal(2451545.0, 0.25, 2451545.0, 0.5));
+    IS(0, ct_equal(nan_float(), 0.0, nan_float(), 0.0));
+    IS_FLOAT(1.75, ct_difference(2451546.0, 0.5, 2451544.5, 0.25));
+}
+
+static void offset_calls(void)
+{
+    GIVES(seconds(36.0), ct_get_tai_utc_offset, 2016, 12, 31, 0.0);
+    GIVES(seconds(0.0), ct_get_tai_utc_offset, 1959, 12, 31, 1.0);
+    REFUSES(7, ct_get_tai_utc_offset, -4800, 13, 40, 1.5);
+    REFUSES(7, ct_get_tai_utc_offset, 2000, 1, 1, -0.5);
+    REFUSES(7, ct_get_tai_utc_offset, 2000, 1, 1, nan_float());
+    REFUSES(7, ct_get_tai_utc_offset, 2000, 1, 1, signalling_float());
+    REFUSES(7, ct_get_tai_utc_offset, 2000, 1, 1, infinite_float());
+    REFUSES(1, ct_get_tai_utc_offset, -4800, 13, 40, 0.5);
+    REFUSES(2, ct_get_tai_utc_offset, 2000, 13, 40, 0.5);
+    REFUSES(3, ct_get_tai_utc_offset, 1900, 2, 29, 0.5);
+    GIVES(seconds(1.0), ct_leap_at_end_of_day, 2016, 12, 31);
+    GIVES(seconds(0.0), ct_leap_at_end_of_day, 2017, 1, 1);
+    REFUSES(1, ct_leap_at_end_of_day, -4800, 13, 40);
+    REFUSES(2, ct_leap_at_end_of_day, 2000, 13, 40);
+    REFUSES(3, ct_leap_at_end_of_day, 1900, 2, 29);
+    REFUSES(5, ct_leap_at_end_of_day, 2147483647, 12, 31);
+}
+
+/* ---- UTC */
+
+static void utc_of_fields(void)
+{
+    GIVES(parts(2440586.5, 86399.0 / 86400.0), ct_utc_new, -1, 0);
+    REFUSES(8, ct_utc_new, 0, 1000000000);
+    REFUSES(8, ct_utc_new, INT64_MAX, 1000000000);
+    REFUSES(6, ct_utc_new, INT64_MAX, 999999999);
+    REFUSES(6, ct_utc_new, INT64_MIN, 0);
+    REFUSES(1, ct_utc_new, -213609052800, 0);
+    REFUSES(4, ct_utc_new, -265680001, 960000000);
+    GIVES(parts(2457753.5, 86400.0 / 86401.0), ct_utc_from_calendar, 2016, 12, 31, 23, 59, 60.0);
+    REFUSES(1, ct_utc_from_calendar, -4800, 13, 40, 25, 60, nan_float());
+    REFUSES(2, ct_utc_from_calendar, 2000, 13, 40, 25, 60, nan_float());
+    REFUSES(3, ct_utc_from_calendar, 2000, 2, 30, 25, 60, nan_float());
+    REFUSES(5, ct_utc_from_calendar, 2147483647, 12, 31, 25, 0, 0.0);
+    REFUSES(4, ct_utc_from_calendar, 2015, 12, 31, 23, 59, 60.0);
+    REFUSES(4, ct_utc_from_calendar, 2016, 12, 31, 23, 59, 61.0);
+    REFUSES(4, ct_utc_from_calendar, 1961, 7, 31, 23, 59, 59.96);
+    REFUSES(4, ct_utc_from_calendar, 2000, 1, 1, 24, 0, 0.0);
+    REFUSES(4, ct_utc_from_calendar, 2000, 1, 1, 0, 60, 0.0);
+    REFUSES(4, ct_utc_from_calendar, 2000, 1, 1, 0, 0, signalling_float());
+}
+
+static void utc_and_tai(void)
+{
+    GIVES(parts(2453750.5, 0.89248263844444442), ct_utc_to_tai, 2453750.5, 0.892100694);
+    REFUSES(6, ct_utc_to_tai, infinite_float(), 0.0);
+    REFUSES(6, ct_utc_to_tai, 2451545.0, signalling_float());
+    REFUSES(6, ct_utc_to_tai, 1e9, 1.0);
+    REFUSES(1, ct_utc_to_tai, -31739.5, 0.0);
+    GIVES(parts(2453750.5, 0.89210069455555563), ct_tai_to_utc, 2453750.5, 0.892482639);
+    REFUSES(6, ct_tai_to_utc, nan_float(), 0.0);
+    REFUSES(6, ct_tai_to_utc, infinite_float(), minus_infinite_float());
+    REFUSES(6, ct_tai_to_utc, -68571.0, 0.0);
+    REFUSES(1, ct_tai_to_utc, -31739.5, 0.0);
+}
+
+static void utc_and_ut1(void)
+{
+    GIVES(parts(2453750.5, 0.89210456089814816), ct_utc_to_ut1_with_dut1, 2453750.5, 0.892100694, 0.3341);
+    REFUSES(10, ct_utc_to_ut1_with_dut1, nan_float(), 0.0, nan_float());
+    REFUSES(10, ct_utc_to_ut1_with_dut1, 2451545.0, 0.0, minus_infinite_float());
+    REFUSES(6, ct_utc_to_ut1_with_dut1, nan_float(), 0.0, 0.0);
+    REFUSES(6, ct_utc_to_ut1_with_dut1, 1e9, 1.0, 0.0);
+    REFUSES(1, ct_utc_to_ut1_with_dut1, -31739.5, 0.0, 0.0);
+    GIVES(parts(2453750.5, 0.89210069410185189), ct_ut1_to_utc_with_dut1, 2453750.5, 0.892104561, 0.3341);
+    REFUSES(10, ct_ut1_to_utc_with_dut1, nan_float(), 0.0, nan_float());
+    REFUSES(10, ct_ut1_to_utc_with_dut1, 2451545.0, 0.0, signalling_float());
+    REFUSES(9, ct_ut1_to_utc_with_dut1, nan_float(), 0.0, 0.0);
+    REFUSES(9, ct_ut1_to_utc_with_dut1, 2451545.0, infinite_float(), 0.0);
+    REFUSES(6, ct_ut1_to_utc_with_dut1, 1e9, 0.0, 0.0);
+    REFUSES(1, ct_ut1_to_utc_with_dut1, -31738.5, 0.0, 0.0);
+}
+
+static void utc_texts(void)
+{
+    GIVES(text("2000-01-01T12:00:00.000"), ct_to_iso8601, 2451545.0, 0.0);
+    GIVES(text("2016-12-31T23:59:60.000"), ct_to_iso8601, 2457753.5, 86400.0 / 86401.0);
+    GIVES(text("-4799-01-01T00:00:00.000"), ct_to_iso8601, -31738.5, 0.0);
+    GIVES(text("2733194-11-27T12:00:00.000"), ct_to_iso8601, 1e9, 0.0);
+    REFUSES(6, ct_to_iso8601, nan_float(), 0.0);
+    REFUSES(6, ct_to_iso8601, 2451545.0, signalling_float());
+    REFUSES(6, ct_to_iso8601, infinite_float(), minus_infinite_float());
+    REFUSES(6, ct_to_iso8601, 1e9, 1.0);
+    REFUSES(6, ct_to_iso8601, -68570.0, 0.0);
+    REFUSES(1, ct_to_iso8601, -31739.5, 0.0);
+}
+
+/* ---- blocks: tests/c/damaged.c has the bulk */
+
+static void block_calls(void)
+{
+    uint8_t block[8 + 16] = {1, 0, 0, 0, 1, 0, 0, 0};
+    IS(1, ct_block_stamps(block, 24));
+    IS(-14, ct_block_stamps(block, 7));
+    IS(-14, ct_block_stamps(block, 23));
+    block[4] = 2;
+    IS(-12, ct_block_stamps(block, 24));
+    block[0] = block[4] = 0xa1;
+    block[1] = block[5] = 0x0f;
+    IS(-13, ct_block_stamps(block, 24));
+    block[4] = 0xa2;
+    IS(-12, ct_block_stamps(block, 24));
+    for (room = 0; room <= ROOM; room++) {
+        text("block refused 12\n");
+        judge("ct_listing_part", room < 33 ? 11 : 0, ct_listing_part(block, 24, 0, fresh(), room));
+        wanted_length = 0;
+        judge("ct_listing_part past the end", room < 33 ? 11 : 0, ct_listing_part(block, 24, 1, fresh(), room));
+    }
+}
+
+int main(void)
+{
+    calendar_calls();
+    calendar_of_dates();
+    date_calls();
+    offset_calls();
+    plain_scales();
+    scales_with_offset();
+    utc_of_fields();
+    utc_and_tai();
+    utc_and_ut1();
+    utc_texts();
+    block_calls();
+    return summary("calls");
+}

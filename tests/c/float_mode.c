@@ -1,0 +1,125 @@
+/* ct_float_mode, and what a float mode that the library does not assume changes.
+     float_mode default | fast
+   The word says how this program was linked: `fast` with -ffast-math or -Ofast. The mode at the start
+   is compared with it. Then each probe, a call on subnormal numbers, is asked in that mode and in the
+   default mode, and the answers that differ are printed. The texts must not differ. */
+#include "check.h"
+#include "patterns.h"
+#include <fenv.h>
+#ifdef __SSE2__
+#include <xmmintrin.h>
+#endif
+
+enum { PROBES = 10, ROOM = 32 };
+
+typedef struct { const char *name; int64_t code; uint8_t bytes[ROOM]; } probe;
+
+/* The smallest float above 0, and its negative. */
+static double tiny(void) { return ct_opaque_float(1); }
+static double minus_tiny(void) { return ct_opaque_float(SIGN | 1); }
+
+#define ASK(call, ...) \
+    (p->name = #call "(" #__VA_ARGS__ ")", p->code = call(__VA_ARGS__, p->bytes, ROOM), p++)
+#define ASK_FLOAT(call, ...) \
+    (p->name = #call "(" #__VA_ARGS__ ")", p->code = (int64_t)ct_opaque_bits(call(__VA_ARGS__)), p++)
+
+static void ask_all(probe *p)
+{
+    probe *first = p;
+    memset(p, 0, PROBES * sizeof *p);
+    ASK(ct_gps_to_tai, tiny(), 0.0);
+    ASK(ct_utc_to_tai, 0.0, tiny());
+    ASK(ct_tt_to_tdb_with_offset, tiny(), 0.0, 0.0);
+    ASK(ct_add_days, 2451545.0, tiny(), 0.0);
+    ASK(ct_julian_to_calendar, -0.5, tiny());
+    ASK_FLOAT(ct_to_f64, tiny(), tiny());
+    ASK_FLOAT(ct_difference, tiny(), 0.0, 0.0, 0.0);
+    p->name = "ct_equal(tiny(), 0.0, 0.0, 0.0)";
+    p->code = ct_equal(tiny(), 0.0, 0.0, 0.0);
+    p++;
+    ASK(ct_get_tai_utc_offset, 2000, 1, 1, minus_tiny());
+    ASK(ct_from_calendar, 2000, 1, 1, 0, 0, minus_tiny());
+    check(p - first == PROBES, "%d probes", (int)(p - first));
+}
+
+/* How many answers of one mode differ from those of the other. */
+static int compare(const probe *here, const probe *by_default)
+{
+    int i, changed = 0;
+    for (i = 0; i < PROBES; i++) {
+        if (here[i].code == by_default[i].code && !memcmp(here[i].bytes, by_default[i].bytes, ROOM)) continue;
+        changed++;
+        printf("  changes in this float mode: %s\n", here[i].name);
+    }
+    return changed;
+}
+
+/* ---- texts of stamps with a subnormal part */
+
+static const uint64_t SUBNORMAL[] = {1, SIGN | 1, 0x0008000000000000, 0x000fffffffffffff, SIGN | 0x000fffffffffffff};
+static const double DAYS[] = {-0.5, 0.0, 0.5, -31738.5, 1e9, -68569.5, 2436933.5, 2451544.5, 2457753.5, 2457754.5};
+enum { SUBNORMALS = sizeof SUBNORMAL / sizeof *SUBNORMAL, DAY_COUNT = sizeof DAYS / sizeof *DAYS };
+
+typedef struct { int64_t code[2]; uint8_t bytes[2][ROOM]; } texts;
+
+static void ask_texts(texts *t)
+{
+    int i, k;
+    memset(t, 0, SUBNORMALS * DAY_COUNT * sizeof *t);
+    for (i = 0; i < SUBNORMALS; i++)
+        for (k = 0; k < DAY_COUNT; k++, t++) {
+            t->code[0] = ct_to_iso8601(DAYS[k], ct_opaque_float(SUBNORMAL[i]), t->bytes[0], ROOM);
+            t->code[1] = ct_to_iso8601(ct_opaque_float(SUBNORMAL[i]), DAYS[k], t->bytes[1], ROOM);
+        }
+}
+
+static void rounding(void)
+{
+#if defined FE_UPWARD && defined FE_DOWNWARD && defined FE_TOWARDZERO
+    static const int ROUNDINGS[] = {FE_UPWARD, FE_DOWNWARD, FE_TOWARDZERO};
+    int i;
+    for (i = 0; i < 3; i++) {
+        check(!fesetround(ROUNDINGS[i]), "fesetround");
+        check(ct_float_mode() == CT_MODE_ROUNDING, "rounding %d: mode %d", i, ct_float_mode());
+        check(!fesetround(FE_TONEAREST), "fesetround");
+        check(ct_float_mode() == 0, "round to nearest: mode %d", ct_float_mode());
+    }
+#endif
+}
+
+/* The two bits of the processor, one by one. */
+static void flushing(void)
+{
+#ifdef __SSE2__
+    static const unsigned RESULTS = 0x8000, OPERANDS = 0x0040;
+    unsigned saved = _mm_getcsr();
+    _mm_setcsr(saved | RESULTS);
+    check(ct_float_mode() == CT_MODE_RESULTS, "flushed results: mode %d", ct_float_mode());
+    _mm_setcsr(saved | OPERANDS);
+    check(ct_float_mode() == CT_MODE_OPERANDS, "operands read as zero: mode %d", ct_float_mode());
+    _mm_setcsr(saved | RESULTS | OPERANDS);
+    check(ct_float_mode() == (CT_MODE_RESULTS | CT_MODE_OPERANDS), "both: mode %d", ct_float_mode());
+    _mm_setcsr(saved);
+#endif
+}
+
+int main(int count, char **words)
+{
+    static probe here[PROBES], by_default[PROBES];
+    static texts here_texts[SUBNORMALS * DAY_COUNT], default_texts[SUBNORMALS * DAY_COUNT];
+    int mode = ct_float_mode(), fast = count == 2 && !strcmp(words[1], "fast"), changed;
+    ask_all(here);
+    ask_texts(here_texts);
+    check(!fesetenv(FE_DFL_ENV), "fesetenv");
+    check(ct_float_mode() == 0, "the default environment has mode %d", ct_float_mode());
+    ask_all(by_default);
+    ask_texts(default_texts);
+    check(!memcmp(here_texts, default_texts, sizeof here_texts), "a text changes in float mode %d", mode);
+    changed = compare(here, by_default);
+    printf("float mode %d, %d of %d answers on subnormal numbers change\n", mode, changed, PROBES);
+    if (fast) check((mode == 0) == (changed == 0), "mode %d, and %d answers changed", mode, changed);
+    else check(mode == 0 && changed == 0, "mode %d without -ffast-math, %d answers changed", mode, changed);
+    rounding();
+    flushing();
+    return summary("float_mode");
+}

@@ -1,0 +1,78 @@
+/* The buffer that is lent to a call, what must stand in it afterwards, and the judge of both. */
+#include "check.h"
+#include "patterns.h"
+
+enum { GUARD = 16, ROOM = 34, UNTOUCHED = 0xa5 };
+
+static uint8_t lent[GUARD + ROOM + GUARD], wanted[ROOM];
+static size_t wanted_length, room;
+
+static uint8_t *fresh(void)
+{
+    memset(lent, UNTOUCHED, sizeof lent);
+    return lent + GUARD;
+}
+
+/* What a call did that was lent `room` bytes; `number` 0 says that the wanted bytes are due. */
+static void judge(const char *call, int number, int64_t code)
+{
+    uint8_t due[sizeof lent];
+    int64_t due_code = number ? -number : room < wanted_length ? -11 : (int64_t)wanted_length;
+    memset(due, UNTOUCHED, sizeof due);
+    if (due_code > 0) memcpy(due + GUARD, wanted, wanted_length);
+    check(code == due_code, "%s with %d bytes lent says %ld, not %ld", call, (int)room, (long)code, (long)due_code);
+    check(!memcmp(due, lent, sizeof due), "%s with %d bytes lent leaves other bytes", call, (int)room);
+}
+
+/* Asks with every length of the buffer from 0 to ROOM. */
+#define REFUSES(number, name, ...)       \
+    for (room = 0; room <= ROOM; room++) \
+    judge(#name "(" #__VA_ARGS__ ")", number, name(__VA_ARGS__, fresh(), room))
+#define GIVES(answer, name, ...) \
+    do {                         \
+        answer;                  \
+        REFUSES(0, name, __VA_ARGS__); \
+    } while (0)
+
+/* Calls without a buffer. */
+#define IS(value, call) check((call) == (value), #call " is not " #value)
+#define IS_FLOAT(value, call) check(ct_opaque_bits(call) == ct_opaque_bits(value), #call " is not " #value)
+
+/* ---- the wanted bytes */
+
+static void put(uint64_t pattern, int bytes)
+{
+    for (; bytes > 0; bytes--, pattern >>= 8) wanted[wanted_length++] = (uint8_t)pattern;
+}
+
+static void seconds(double x)
+{
+    wanted_length = 0;
+    put(ct_opaque_bits(x), 8);
+}
+
+static void parts(double jd1, double jd2)
+{
+    seconds(jd1);
+    put(ct_opaque_bits(jd2), 8);
+}
+
+static void day(int32_t year, int32_t month, int32_t of_month)
+{
+    wanted_length = 0;
+    put((uint32_t)year, 4);
+    put((uint32_t)month, 4);
+    put((uint32_t)of_month, 4);
+}
+
+static void day_and_fraction(int32_t year, int32_t month, int32_t of_month, double fraction)
+{
+    day(year, month, of_month);
+    put(ct_opaque_bits(fraction), 8);
+}
+
+static void text(const char *shown)
+{
+    wanted_length = strlen(shown);
+    memcpy(wanted, shown, wanted_length);
+}
