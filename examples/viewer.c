@@ -65,7 +65,10 @@ int main(int count, char **words)
         return 2;
     }
     lines = print_listing(block, length);
-    if (lines < 0) return 2;
+    if (lines < 0) {
+        fputs("viewer: the listing can't be written\n", stderr);
+        return 2;
+    }
     stamps = ct_block_stamps(block, length);
     if (stamps < 0) return 1;
     fprintf(stderr, "viewer: %ld stamps, %ld refused, %ld lines\n", (long)stamps, (long)count_refused(block, stamps),

@@ -1,10 +1,12 @@
 /* Two-part Julian dates, eight time scales, the calendar, TAI-UTC, UTC text and stamp
    blocks, for C.
-   The archive is target/staticlib/libcapi.a, made by `rt staticlib capi`.
+   The archive is target/staticlib/libcapi.a, made by `rt staticlib capi`. The header is
+   written for C99 and later, and for C++.
 
    Answers. A call returns 64 bits signed: zero or more is its value, or the
    number of bytes that it wrote; below zero is minus the number of the refusal.
-   A call that gives one float and never refuses returns the float.
+   A call that gives one float and never refuses returns the float; a NaN that
+   ct_to_f64, ct_to_julian_year or ct_difference returns may have any sign and payload.
 
    Bytes. Several values go into a buffer that the caller lends, from its start,
    in the order that is written at the call: a float as the 8 bytes of its bits,
@@ -37,14 +39,15 @@
       6  rounded sum jd1 + jd2 outside -68569.5 to 1e9, or NaN
       7  fraction outside 0 to 1, or NaN
       8  nanos 1,000,000,000 or more
-      9  jd1 or jd2 not finite
+      9  jd1 or jd2 not finite; in ct_tcg_to_tai the TT in between, too
      10  offset not finite
      11  buffer too short
      12  sizes of a block differ
      13  size of a block above 4,000
      14  length of a block wrong
-   A call tests in the order in which its comment lists them, and 11 last. So
-   1900-02-29 asked of ct_next_calendar_day with a buffer of 3 bytes is 3. */
+   A call tests in the order in which its comment lists them, and 11 last. Where it has
+   two or more, the comment has an example in which two hold, with the one that comes
+   first. "With no byte" is with a buffer of length 0, of which 11 holds. */
 #ifndef CELESTIAL_TIME_H
 #define CELESTIAL_TIME_H
 
@@ -67,15 +70,17 @@ int64_t ct_days_in_month(int32_t year, int32_t month);
 /* 0 where the three are a date. Refuses 1, 2, 3: -4800-13-40 is 1, 2000-13-40 is 2. */
 int64_t ct_validate_calendar_date(int32_t year, int32_t month, int32_t day);
 
-/* The next day: year, month, day; 12 bytes. Refuses 1, 2, 3; then 5 on 2147483647-12-31; 11. */
+/* The next day: year, month, day; 12 bytes. Refuses 1, 2, 3; then 5 on 2147483647-12-31; 11.
+   -4800-13-40 is 1; 1900-02-29 with 3 bytes is 3, and 2147483647-12-31 with 3 bytes 5. */
 int64_t ct_next_calendar_day(int32_t year, int32_t month, int32_t day, uint8_t *out, size_t out_len);
 
 /* The Julian date of a day's midnight: 2400000.5 and the Modified Julian Date; 16 bytes.
-   Refuses 1, 2, 3; 11. */
+   Refuses 1, 2, 3; 11. -4800-13-40 is 1; 1900-02-29 with no byte is 3. */
 int64_t ct_calendar_to_julian(int32_t year, int32_t month, int32_t day, uint8_t *out, size_t out_len);
 
 /* The day of a Julian date, and the part of it that has passed: year, month, day, fraction;
-   20 bytes. Refuses 6; 11. At the lowest end, (-68569.5, -2^-52), the date is -4900-02-30. */
+   20 bytes. Refuses 6; 11. (NaN, 0.0) with 3 bytes is 6. At the lowest end, (-68569.5, -2^-52),
+   the date is -4900-02-30. */
 int64_t ct_julian_to_calendar(double jd1, double jd2, uint8_t *out, size_t out_len);
 
 /* The Julian date of a day and time, midnight in jd1 and the time of day in jd2; 16 bytes.
@@ -83,7 +88,7 @@ int64_t ct_julian_to_calendar(double jd1, double jd2, uint8_t *out, size_t out_l
 int64_t ct_from_calendar(int32_t year, uint8_t month, uint8_t day, uint8_t hour, uint8_t minute,
                          double second, uint8_t *out, size_t out_len);
 
-/* ---- Julian dates: these refuse nothing but 11, and pass a NaN on */
+/* ---- Julian dates: these refuse nothing but 11, and those that take and give floats pass a NaN on */
 
 /* jd1 + jd2, rounded. */
 double ct_to_f64(double jd1, double jd2);
@@ -99,7 +104,10 @@ int64_t ct_from_unix_time(int64_t seconds, uint32_t nanos, uint8_t *out, size_t 
 double ct_to_julian_year(double jd1, double jd2);
 int64_t ct_from_julian_year(double year, uint8_t *out, size_t out_len);
 
-/* 1 where two dates are one, however they are split into parts, else 0. */
+/* Whether two dates are one, 1 or 0: with parts under 2^52 in size, whether their exact sums are,
+   however they are split into parts. Of larger parts it is the test of the Rust source, by which a
+   date can be unequal to itself, as (2.9937604643020797e292, -1.7976931348623157e308) is. A date
+   with a NaN equals none. */
 int64_t ct_equal(double jd1, double jd2, double other1, double other2);
 
 /* The days from the other date to this. */
@@ -112,12 +120,16 @@ double ct_difference(double jd1, double jd2, double other1, double other2);
 int64_t ct_get_tai_utc_offset(int32_t year, int32_t month, int32_t day, double fraction,
                               uint8_t *out, size_t out_len);
 
-/* The step of TAI-UTC at the end of a day in seconds; 8 bytes. Refuses 1, 2, 3; then 5; 11. */
+/* The step of TAI-UTC at the end of a day in seconds; 8 bytes. On a day of 1960 to 1971 without a
+   step it may be some last places off zero: 1960-01-01 gives -2^-53. Refuses 1, 2, 3; then 5 on
+   2147483647-12-31; 11. 2000-13-40 is 2, and 2147483647-12-31 with no byte 5. */
 int64_t ct_leap_at_end_of_day(int32_t year, int32_t month, int32_t day, uint8_t *out, size_t out_len);
 
-/* ---- Scales: a date of the first scale in, the date of the second out: jd1, jd2; 16 bytes.
-   Refuses 9; 11. */
+/* ---- Scales: a date of the first scale in, the date of the second out: jd1, jd2; 16 bytes */
 
+/* Refuses 9; 11. (infinity, 0.0) with no byte is 9. ct_tcg_to_tai refuses 9 also where the TT in
+   between is not finite: (1.7e308, 1.7e308) is 9. The others take every finite date, and a part of
+   what they give may be an infinity: of this date ct_tcb_to_tdb gives (-infinity, 1.7e308). */
 int64_t ct_gps_to_tai(double jd1, double jd2, uint8_t *out, size_t out_len);
 int64_t ct_tai_to_gps(double jd1, double jd2, uint8_t *out, size_t out_len);
 int64_t ct_tai_to_tt(double jd1, double jd2, uint8_t *out, size_t out_len);
@@ -141,7 +153,8 @@ int64_t ct_tt_to_ut1_with_delta_t(double jd1, double jd2, double seconds, uint8_
 /* ---- UTC: on a day that ends in a leap second, jd2 runs to the end of its 86,401 seconds */
 
 /* The UTC date of a Unix time, divided downward: jd1, jd2; 16 bytes. Refuses 8; 6; then 1;
-   then 4, on a day that ends in a step back; 11. (0, 1000000000) is 8. */
+   then 4, on a day that ends in a step back; 11. (INT64_MAX, 1000000000) is 8, and (INT64_MIN, 0)
+   is 6, though its year is before -4799 too. */
 int64_t ct_utc_new(int64_t seconds, uint32_t nanos, uint8_t *out, size_t out_len);
 
 /* The UTC date of a day and time: jd1, jd2; 16 bytes. Refuses 1, 2, 3; then 5; then 4, where the
@@ -150,7 +163,8 @@ int64_t ct_utc_new(int64_t seconds, uint32_t nanos, uint8_t *out, size_t out_len
 int64_t ct_utc_from_calendar(int32_t year, uint8_t month, uint8_t day, uint8_t hour, uint8_t minute,
                              double second, uint8_t *out, size_t out_len);
 
-/* UTC to TAI and back: jd1, jd2; 16 bytes. Refuses 6; then 1; 11. An infinity is 6. */
+/* UTC to TAI and back: jd1, jd2; 16 bytes. Refuses 6; then 1; 11. (-68571.0, 0.0) is 6, though its
+   year is before -4799 too; (-31739.5, 0.0), which is -4800-12-31, with no byte is 1. */
 int64_t ct_utc_to_tai(double jd1, double jd2, uint8_t *out, size_t out_len);
 int64_t ct_tai_to_utc(double jd1, double jd2, uint8_t *out, size_t out_len);
 
@@ -159,12 +173,13 @@ int64_t ct_tai_to_utc(double jd1, double jd2, uint8_t *out, size_t out_len);
 int64_t ct_utc_to_ut1_with_dut1(double jd1, double jd2, double dut1, uint8_t *out, size_t out_len);
 
 /* UT1 to UTC: jd1, jd2; 16 bytes. Refuses 10; 9; then 6 or 1 by the days from one before to three
-   after, as far as they are looked up; 11. (NaN, 0.0) with DUT1 0.0 is 9. */
+   after, as far as they are looked up; 11. (NaN, 0.0) with DUT1 NaN is 10, and with DUT1 0.0 and no
+   byte 9. */
 int64_t ct_ut1_to_utc_with_dut1(double jd1, double jd2, double dut1, uint8_t *out, size_t out_len);
 
 /* The UTC date as text, 23 to 26 bytes: 2016-12-31T23:59:60.000, to the nearest millisecond. No
    byte 0 ends it; the call returns its length. Refuses 6; then 1; 11, which 22 bytes are for
-   2000-01-01. */
+   2000-01-01. (-68571.0, 0.0) is 6; (-31739.5, 0.0), which is -4800-12-31, with no byte is 1. */
 int64_t ct_to_iso8601(double jd1, double jd2, uint8_t *out, size_t out_len);
 
 /* ---- Stamp block: two sizes of 4 bytes, all jd1, then all jd2, the lowest byte first */

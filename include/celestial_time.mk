@@ -5,8 +5,12 @@
 #     viewer: viewer.c $(CT_LIBS)
 #     	$(CC) $(CFLAGS) $(CT_CFLAGS) -o $@ viewer.c $(CT_LIBS)
 #
-# Do not link with -ffast-math or -Ofast: the header says why.
+# Do not link with -ffast-math or -Ofast: the header says why. The path of the port's folder has no blank, which make would take
+# for the end of a name.
 CT_ROOT := $(abspath $(dir $(lastword $(MAKEFILE_LIST)))/..)
+ifneq ($(words $(CT_ROOT)),1)
+$(error celestial_time.mk: there is a blank in the path of the port's folder, $(CT_ROOT))
+endif
 CT_CFLAGS := -I$(CT_ROOT)/include
 CT_LIBS := $(CT_ROOT)/target/staticlib/libcapi.a
 

@@ -1,18 +1,28 @@
-/* Each call of include/celestial_time.h: an answer, every refusal that it can give, and the order of
-   two that would both hold. A call that fills a buffer is lent every length from 0 to 34: with too few
+/* Each call of include/celestial_time.h: an answer, every refusal that it can give, the order of two
+   that would both hold, and the examples of its comment. A call that fills a buffer is lent every length from 0 to 34: with too few
    bytes it says 11, after every other refusal, and no byte changes that it does not answer with.
-   The answers are document 01's, whole numbers of seconds, or ERFA's on SOFA's check inputs. */
+   The answers are document 01's, whole numbers of seconds, or ERFA's. */
 #include "lent.h"
 #include "scale_calls.h"
+
+static void month_lengths(void)
+{
+    static const int LENGTHS[] = {31, 28, 31, 30, 31, 30, 31, 31, 30, 31, 30, 31};
+    int month;
+    for (month = 1; month <= 12; month++) {
+        IS(LENGTHS[month - 1], ct_days_in_month(1900, month));
+        IS(LENGTHS[month - 1] + (month == 2), ct_days_in_month(2000, month));
+    }
+    IS(0, ct_days_in_month(2000, 13));
+    IS(0, ct_days_in_month(2000, 0));
+}
 
 static void calendar_calls(void)
 {
     IS(1, ct_is_leap_year(2000));
     IS(0, ct_is_leap_year(1900));
     IS(1, ct_is_leap_year(-4800));
-    IS(29, ct_days_in_month(2000, 2));
-    IS(0, ct_days_in_month(2000, 13));
-    IS(0, ct_days_in_month(2000, 0));
+    month_lengths();
     IS(0, ct_validate_calendar_date(2000, 2, 29));
     IS(-1, ct_validate_calendar_date(-4800, 13, 40));
     IS(-2, ct_validate_calendar_date(2000, 13, 40));
@@ -24,6 +34,7 @@ static void calendar_calls(void)
     REFUSES(3, ct_next_calendar_day, 1900, 2, 29);
     REFUSES(5, ct_next_calendar_day, 2147483647, 12, 31);
     GIVES(parts(2400000.5, 51544.0), ct_calendar_to_julian, 2000, 1, 1);
+    GIVES(parts(2400000.5, -2431739.0), ct_calendar_to_julian, -4799, 1, 1);
     REFUSES(1, ct_calendar_to_julian, -4800, 13, 40);
     REFUSES(2, ct_calendar_to_julian, 2000, 13, 40);
     REFUSES(3, ct_calendar_to_julian, 1900, 2, 29);
@@ -33,6 +44,7 @@ static void calendar_of_dates(void)
 {
     GIVES(day_and_fraction(2000, 1, 1, 0.5), ct_julian_to_calendar, 2451544.75, 0.25);
     GIVES(day_and_fraction(-4900, 3, 1, 0.0), ct_julian_to_calendar, -68569.5, 0.0);
+    GIVES(day_and_fraction(-4900, 2, 30, 1.0 - 0x1p-52), ct_julian_to_calendar, -68569.5, -0x1p-52);
     REFUSES(6, ct_julian_to_calendar, -68570.0, 0.0);
     REFUSES(6, ct_julian_to_calendar, 1e9, 1.0);
     REFUSES(6, ct_julian_to_calendar, nan_float(), 0.0);
@@ -55,7 +67,11 @@ static void date_calls(void)
     GIVES(parts(2451546.0, 0.25), ct_add_days, 2451545.0, 0.25, 1.0);
     GIVES(parts(nan_float(), nan_float()), ct_add_days, 2451545.0, 0.25, signalling_float());
     GIVES(parts(2451545.0, 0.75), ct_add_seconds, 2451545.0, 0.25, 43200.0);
+    GIVES(parts(2451545.0, -0.125), ct_add_seconds, 2451545.0, 0.25, -32400.0);
     GIVES(parts(2440587.5, 0.5), ct_from_unix_time, 43200, 0);
+    GIVES(parts(2440587.5, -1.0 / 86400.0), ct_from_unix_time, -1, 0);
+    GIVES(parts(2440587.5, 0.5 / 86400.0), ct_from_unix_time, 0, 500000000);
+    GIVES(parts(2440586.5, -0.5 / 86400.0), ct_from_unix_time, -86401, 500000000);
     GIVES(parts(2400000.5, 50375.699999999983), ct_from_julian_year, 1996.8);
     IS_FLOAT(1979.7604380561258, ct_to_julian_year(2451545.0, -7392.5));
     IS_FLOAT(2451545.25, ct_to_f64(2451545.0, 0.25));
@@ -63,13 +79,21 @@ static void date_calls(void)
     IS(1, ct_equal(2451545.0, 0.25, 0.25, 2451545.0));
     IS(0, ct_equal(2451545.0, 0.25, 2451545.0, 0.5));
     IS(0, ct_equal(nan_float(), 0.0, nan_float(), 0.0));
+    IS(1, ct_equal(0x1p52, 0.5, 0x1p52, 0.5));
+    IS(0, ct_equal(2.9937604643020797e292, -1.7976931348623157e308, 2.9937604643020797e292, -1.7976931348623157e308));
     IS_FLOAT(1.75, ct_difference(2451546.0, 0.5, 2451544.5, 0.25));
+    IS_NAN(ct_to_f64(infinite_float(), minus_infinite_float()));
+    IS_NAN(ct_to_julian_year(signalling_float(), 0.0));
+    IS_NAN(ct_difference(infinite_float(), 0.0, infinite_float(), 0.0));
 }
 
 static void offset_calls(void)
 {
     GIVES(seconds(36.0), ct_get_tai_utc_offset, 2016, 12, 31, 0.0);
     GIVES(seconds(0.0), ct_get_tai_utc_offset, 1959, 12, 31, 1.0);
+    GIVES(seconds(6.2830900000000005), ct_get_tai_utc_offset, 1968, 1, 31, 0.0);
+    GIVES(seconds(6.2843860000000005), ct_get_tai_utc_offset, 1968, 1, 31, 0.5);
+    REFUSES(7, ct_get_tai_utc_offset, 2000, 13, 1, 1.5);
     REFUSES(7, ct_get_tai_utc_offset, -4800, 13, 40, 1.5);
     REFUSES(7, ct_get_tai_utc_offset, 2000, 1, 1, -0.5);
     REFUSES(7, ct_get_tai_utc_offset, 2000, 1, 1, nan_float());
@@ -80,6 +104,7 @@ static void offset_calls(void)
     REFUSES(3, ct_get_tai_utc_offset, 1900, 2, 29, 0.5);
     GIVES(seconds(1.0), ct_leap_at_end_of_day, 2016, 12, 31);
     GIVES(seconds(0.0), ct_leap_at_end_of_day, 2017, 1, 1);
+    GIVES(seconds(-0x1p-53), ct_leap_at_end_of_day, 1960, 1, 1);
     REFUSES(1, ct_leap_at_end_of_day, -4800, 13, 40);
     REFUSES(2, ct_leap_at_end_of_day, 2000, 13, 40);
     REFUSES(3, ct_leap_at_end_of_day, 1900, 2, 29);
@@ -113,11 +138,14 @@ static void utc_of_fields(void)
 static void utc_and_tai(void)
 {
     GIVES(parts(2453750.5, 0.89248263844444442), ct_utc_to_tai, 2453750.5, 0.892100694);
+    GIVES(parts(2439886.5, 0.50007215724535303), ct_utc_to_tai, 2439886.5, 0.5);
     REFUSES(6, ct_utc_to_tai, infinite_float(), 0.0);
     REFUSES(6, ct_utc_to_tai, 2451545.0, signalling_float());
     REFUSES(6, ct_utc_to_tai, 1e9, 1.0);
+    REFUSES(6, ct_utc_to_tai, -68571.0, 0.0);
     REFUSES(1, ct_utc_to_tai, -31739.5, 0.0);
     GIVES(parts(2453750.5, 0.89210069455555563), ct_tai_to_utc, 2453750.5, 0.892482639);
+    GIVES(parts(2439886.5, 0.49992784267329626), ct_tai_to_utc, 2439886.5, 0.5);
     REFUSES(6, ct_tai_to_utc, nan_float(), 0.0);
     REFUSES(6, ct_tai_to_utc, infinite_float(), minus_infinite_float());
     REFUSES(6, ct_tai_to_utc, -68571.0, 0.0);
@@ -144,7 +172,12 @@ static void utc_and_ut1(void)
 static void utc_texts(void)
 {
     GIVES(text("2000-01-01T12:00:00.000"), ct_to_iso8601, 2451545.0, 0.0);
+    GIVES(text("2000-01-01T12:00:00.123"), ct_to_iso8601, 2451545.0, 0.123456789 / 86400.0);
+    GIVES(text("2000-01-01T12:34:56.789"), ct_to_iso8601, 2451544.5, 45296.7894 / 86400.0);
+    GIVES(text("2000-01-01T23:59:59.999"), ct_to_iso8601, 2451544.5, 86399.9994 / 86400.0);
+    GIVES(text("2000-01-02T00:00:00.000"), ct_to_iso8601, 2451544.5, 86399.9996 / 86400.0);
     GIVES(text("2016-12-31T23:59:60.000"), ct_to_iso8601, 2457753.5, 86400.0 / 86401.0);
+    GIVES(text("2016-12-31T23:59:60.988"), ct_to_iso8601, 2457753.5, 86400.9876 / 86401.0);
     GIVES(text("-4799-01-01T00:00:00.000"), ct_to_iso8601, -31738.5, 0.0);
     GIVES(text("2733194-11-27T12:00:00.000"), ct_to_iso8601, 1e9, 0.0);
     REFUSES(6, ct_to_iso8601, nan_float(), 0.0);
@@ -152,6 +185,7 @@ static void utc_texts(void)
     REFUSES(6, ct_to_iso8601, infinite_float(), minus_infinite_float());
     REFUSES(6, ct_to_iso8601, 1e9, 1.0);
     REFUSES(6, ct_to_iso8601, -68570.0, 0.0);
+    REFUSES(6, ct_to_iso8601, -68571.0, 0.0);
     REFUSES(1, ct_to_iso8601, -31739.5, 0.0);
 }
 

@@ -37,6 +37,7 @@ static void judge(const char *call, int number, int64_t code)
 /* Calls without a buffer. */
 #define IS(value, call) check((call) == (value), #call " is not " #value)
 #define IS_FLOAT(value, call) check(ct_opaque_bits(call) == ct_opaque_bits(value), #call " is not " #value)
+#define IS_NAN(call) check((ct_opaque_bits(call) & ~SIGN) > INFINITE, #call " is not a NaN")
 
 /* ---- the wanted bytes */
 

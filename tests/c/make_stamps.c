@@ -1,9 +1,9 @@
 /* Makes a block of 4,000 stamps of which 212 are dead, as raw bytes, and the listing that is due.
      make_stamps block > FILE      make_stamps listing > FILE
    The dead ones are NaN of both signs, quiet and signalling, with every payload of one bit, in jd1 or
-   in jd2, and the infinities in either and in both. The live ones lie on eighths of days from
-   2000-01-01 on, whose texts are counted here without the port, and among them the edges that
-   document 01 names. */
+   in jd2, and the infinities in either and in both. The live ones are eight to a day from 2000-01-01
+   on, at odd 8192nds of the day, which lie between two halves of a millisecond and whose texts are
+   counted here without the port, and among them the edges that document 01 names. */
 #include <stdint.h>
 #include <stdio.h>
 #include <string.h>
@@ -46,6 +46,7 @@ static const struct { double jd1, jd2; const char *text; } EDGES[] = {
     {-31738.5, 0.0, "-4799-01-01T00:00:00.000"},
     {0.0, -31738.5, "-4799-01-01T00:00:00.000"},
     {1e9, 0.0, "2733194-11-27T12:00:00.000"},
+    {2451545.0, 0.123456789 / 86400.0, "2000-01-01T12:00:00.123"},
     {2457753.5, 86400.0 / 86401.0, "2016-12-31T23:59:60.000"},
     {2457753.5, 86400.9996 / 86401.0, "2017-01-01T00:00:00.000"},
     {2440586.5, 86399.0 / 86400.0, "1969-12-31T23:59:59.000"},
@@ -57,7 +58,7 @@ static int edge_at(int i) { return i % 18 == 1 && i / 18 < EDGE_COUNT ? i / 18 :
 
 static stamp live_stamp(int i)
 {
-    double days = 51544.0 + i / 8.0;
+    double days = 51544.0 + i / 8 + (2 * i + 1) / 8192.0;
     if (edge_at(i) >= 0) return parts(EDGES[edge_at(i)].jd1, EDGES[edge_at(i)].jd2);
     switch (i % 3) {
     case 0: return parts(2400000.5, days);
@@ -66,11 +67,11 @@ static stamp live_stamp(int i)
     }
 }
 
-/* Eighth number i of the days from 2000-01-01 on; the days end in 2001. */
+/* An 8192nd of a day has 84,375 eighths of a millisecond. The days end in 2001. */
 static void live_text(int i, char *text)
 {
     static const int lengths[] = {31, 29, 31, 30, 31, 30, 31, 31, 30, 31, 30, 31};
-    int day = i / 8, year = 2000, month = 0;
+    int day = i / 8, year = 2000, month = 0, ms = (84375 * (2 * i + 1) + 4) / 8, minutes = ms / 60000;
     if (edge_at(i) >= 0) {
         strcpy(text, EDGES[edge_at(i)].text);
         return;
@@ -83,7 +84,8 @@ static void live_text(int i, char *text)
         day -= lengths[month] - (year == 2001 && month == 1);
         month++;
     }
-    sprintf(text, "%04d-%02d-%02dT%02d:00:00.000", year, month + 1, day + 1, i % 8 * 3);
+    sprintf(text, "%04d-%02d-%02dT%02d:%02d:%02d.%03d", year, month + 1, day + 1, minutes / 60, minutes % 60,
+            ms / 1000 % 60, ms % 1000);
 }
 
 /* ---- output */

@@ -40,12 +40,13 @@ static void plain_scales(void)
             judge(PLAIN[i].name, 0, PLAIN[i].ask(2453750.5, PLAIN[i].in, fresh(), room));
             for (k = 0; k < COUNT(NOT_FINITE); k++) {
                 double dead = ct_opaque_float(NOT_FINITE[k]);
-                judge(PLAIN[i].name, 9, PLAIN[i].ask(dead, 2451545.0, fresh(), room));
+                judge(PLAIN[i].name, 9, PLAIN[i].ask(dead, 0.0, fresh(), room));
                 judge(PLAIN[i].name, 9, PLAIN[i].ask(2451545.0, dead, fresh(), room));
                 judge(PLAIN[i].name, 9, PLAIN[i].ask(dead, infinite_float(), fresh(), room));
             }
         }
     REFUSES(9, ct_tcg_to_tai, 1.7e308, 1.7e308);
+    GIVES(parts(minus_infinite_float(), 1.7e308), ct_tcb_to_tdb, 1.7e308, 1.7e308);
 }
 
 static void scales_with_offset(void)
@@ -59,8 +60,8 @@ static void scales_with_offset(void)
             judge(name, 0, ask(2453750.5, WITH_OFFSET[i].in, WITH_OFFSET[i].offset, fresh(), room));
             for (k = 0; k < COUNT(NOT_FINITE); k++) {
                 double dead = ct_opaque_float(NOT_FINITE[k]);
-                judge(name, 9, ask(dead, 2451545.0, 0.0, fresh(), room));
-                judge(name, 9, ask(2451545.0, dead, nan_float(), fresh(), room));
+                judge(name, 9, ask(dead, 0.0, nan_float(), fresh(), room));
+                judge(name, 9, ask(2451545.0, dead, 0.0, fresh(), room));
                 judge(name, 10, ask(2451545.0, 0.0, dead, fresh(), room));
             }
         }

@@ -1,4 +1,4 @@
-// The functions of a float that go by its bits: |x|, the four roundings to a whole number, the saturating cast, and bit patterns.
+// |x| and the four roundings to a whole number by the float's bits; the saturating cast, the finite test, a comparison of sizes, and bit patterns.
 // Each takes every f64. A NaN has no pattern here (there is one NaN), so what reads the bits asks for it first, by `x != x`.
 ghost use mathlib.Core.Path.{_≡_};
 ghost use lib.Ieee.{binary64, ofBits, toBits, toSigned, le};

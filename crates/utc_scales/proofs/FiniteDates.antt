@@ -4,10 +4,9 @@ use mathlib.Core.Path.{_≡_, refl, ap, sym, subst, _∙_}
 use mathlib.Core.Bool.{Bool, true, false, cond}
 use mathlib.Core.Logic.{inl, inr}
 use Prim.Native.Nat.{ℕ, zero, suc, _+_, _*_, _^_, _≤_}
-use native.Mathlib.Nat.{le-trans}
 use native.Mathlib.Omega.{arith}
 use lib.Dec.{lit≤}
-use lib.IntN.{ℤ, pos, negsuc, _-ℤ_}
+use lib.IntN.{ℤ, pos, negsuc}
 use lib.Ieee.{Float, binary64, round, ofInt, add, sub, mul, div, lt, le, fits}
 use lib.Ieee.Fits.{add-fits}
 use Rattle.refusals.specs.Outcome.{Outcome, answer, refusal}
@@ -15,63 +14,36 @@ use Rattle.floats.specs.Whole.{abs}
 use Rattle.rounding.specs.Value.{Val, L}
 use Rattle.rounding.proofs.Range.{at-most}
 use Rattle.rounding.proofs.Bound.{within-more}
-use Rattle.rounding.proofs.Casts.{sub-le}
-use Rattle.rounding.proofs.Sizes.{Size, size-finite, size-add, size-sub, size-mul, size-div, size-more, int-size, power-size, under-size, whole-val}
+use Rattle.rounding.proofs.Sizes.{Size, size-finite, size-add, size-sub, size-mul, size-div, size-more, power-size, under-size, whole-val}
 use Rattle.constants.specs.Constants.{secondsPerDay, decimal}
-use Rattle.day_number.specs.DayNumber.{accepted, dayOf, dayFraction}
+use Rattle.day_number.specs.DayNumber.{dayOf}
 use Rattle.day_number.specs.Ranges.{InDays}
-use Rattle.day_number.proofs.Accepted.{accepted-pair}
 use Rattle.julian.specs.declared.JulianDate.{JulianDate}
 use Rattle.julian.specs.JulianDate.{julian}
 use Rattle.julian.specs.Worth.{SmallParts}
 use Rattle.julian.specs.Finite.{finiteJd, finiteArg}
-use Rattle.tai_utc.specs.declared.DayOffsets.{DayOffsets}
 use Rattle.tai_utc.specs.Table.{fixed}
 use Rattle.tai_utc.specs.Offset.{zeroF, halfF, oneF}
-use Rattle.tai_utc.specs.Leap.{driftRate, leapAmount}
 use Rattle.scales.specs.Formulas.{plus, daysOf}
 use Rattle.scales.specs.SmallerPart as S
 use Rattle.scales.specs.Conversions.{answerOf, tai-ut1}
 use Rattle.scales.specs.Ranges.{Held, Billion}
 use Rattle.scales.proofs.Outcomes.{went, by-is}
 use Rattle.utc_scales.specs.LargerPart.{firstIsLarger, partsAs, partsOf, putAs, putBack, placed, changeSmaller}
-use Rattle.utc_scales.specs.Dates.{offsetOfDate, offsetAt0h, offsetsOf}
-use Rattle.utc_scales.specs.UtcTai.{stretchDayFraction, taiFromMidnight, taiFraction, utcToTai, moved, refined, rounds, refineUtcFraction, taiToUtc}
+use Rattle.utc_scales.specs.Dates.{offsetAt0h, offsetsOf}
+use Rattle.utc_scales.specs.UtcTai.{taiFromMidnight, taiFraction, utcToTai, moved, refined, rounds, refineUtcFraction, taiToUtc}
 use Rattle.utc_scales.specs.UtcUt1.{utcToUt1, beforeStep, timePastLeap, atMostOne, afterStep, nearStep, Scanned, noStep, step, scanDay, untilStep, scan, adjustDut1, utcFraction, ut1ToUtc}
 use Rattle.utc_scales.specs.Claims.{Holds, answers, SixOrOne, FiniteParts}
 use Rattle.utc_scales.proofs.Midnights.{midnight, offset-early, offsets-early}
-use Rattle.utc_scales.proofs.Steps.{tai-no-date, tai-no-offsets, tai-of-day, offset-no-date, offset-of-day, scan-no-date, scan-no-offset, scan-no-step, scan-step}
+use Rattle.utc_scales.proofs.Steps.{tai-no-date, tai-no-offsets, tai-of-day, scan-no-date, scan-no-offset, scan-no-step, scan-step}
 use Rattle.utc_scales.proofs.Outcomes.{holds-answer, holds-refusal, holds-onward, holds-more}
 use Rattle.utc_scales.proofs.Days.{dateIn, Kind, outside, before, valid, kind, offset-answered, offsets-answered}
 use Rattle.utc_scales.proofs.Refusals.{Fits, parts-fit}
-use Rattle.utc_scales.proofs.OffsetSizes.{offset-size, Offsets, offsets-size, zero-size, day-size, day-above, day-more-above, zero-point-size}
-
--- ---- a day's midnight and the fraction of it
-fraction-size : (x y : Float) → Fits x → Fits y → accepted x y ≡ true → Size (dayOf x y .fraction) 0
-unfolding dayOf dayFraction
-fraction-size x y f g e =
-    let o = accepted-pair x y f g e in
-    record { p = o .units; n = 0; val = o .val; high = omega (arith, o .below); low = omega arith }
-
-midnight-size : (n : ℤ) → InDays n → Size (ofInt binary64 (n -ℤ pos 2400001)) 31
-midnight-size n r =
-    let s = sub-le n (pos 2400001) in
-    int-size 31 (n -ℤ pos 2400001) (lit≤ tt) (le-trans (s .0) (omega (arith, r .top))) (le-trans (s .1) (omega (arith, r .bottom)))
+use Rattle.utc_scales.proofs.OffsetSizes.{offset-size, offsets-size, zero-size, day-size, day-above, day-more-above, zero-point-size}
+use Rattle.utc_scales.proofs.DaySizes.{midnight-size, since-midnight-size, day-offset-size}
+use Rattle.utc_scales.proofs.FiniteTai.{utc-to-tai-never-infinite}
 
 -- ---- UTC to TAI
-stretched-size : (o : DayOffsets) (f : Float) → Offsets o → Size f 0 → Size (stretchDayFraction o f) 36
-unfolding stretchDayFraction leapAmount driftRate
-stretched-size o f s b =
-    size-mul 18 18 (lit≤ tt)
-    (size-mul 0 18 (lit≤ tt) b (size-div 18 (lit≤ tt) (size-add 17 15 18 (lit≤ tt) (lit≤ tt) day-size leap) day-above))
-    (size-div 18 (lit≤ tt) (size-add 17 13 18 (lit≤ tt) (lit≤ tt) day-size drift) day-above)
-  where
-    drift : Size (driftRate o) 13
-    drift = size-mul 1 12 (lit≤ tt) (power-size 1) (size-sub 11 11 12 (lit≤ tt) (lit≤ tt) (s .at-12h) (s .at-0h))
-
-    leap : Size (leapAmount o) 15
-    leap = size-sub 11 14 15 (lit≤ tt) (lit≤ tt) (s .at-24h) (size-add 11 13 14 (lit≤ tt) (lit≤ tt) (s .at-0h) drift)
-
 -- room for one conversion, from parts of 2 ^ k to parts of 2 ^ (k + 3), and for a round of the way back, to 2 ^ (k + 6)
 record Room (k : ℕ) : Type 0 where
   least : 2 ^ 52 ≤ 2 ^ k
@@ -112,7 +84,7 @@ tai-size k w x y f g s = go (kind x y f g)
         holds-answer _ (tai-of-day fixed x y (dayOf x y) e r (o .0) (o .1))
         (size-add (k + 2) 37 (k + 3) (w .c) (w .top3)
         (size-add (k + 1) 31 (k + 2) (w .b) (w .top2) (size-sub 22 k (k + 1) (w .a) (w .top1) zero-point-size s) (midnight-size (dayOf x y .day) r))
-        (size-add 36 11 37 (lit≤ tt) (lit≤ tt) (stretched-size (o .0) (dayOf x y .fraction) z (fraction-size x y f g a)) (size-div 11 (lit≤ tt) (z .at-0h) day-above)))
+        (since-midnight-size x y f g a (o .0) z))
 
 -- a date whose parts are at most 2 ^ k
 record Sized (k : ℕ) (d : JulianDate) : Type 0 where
@@ -182,7 +154,7 @@ held : (d : JulianDate) → SmallParts d → Held d
 held d h = (h .first .held, h .second .held)
 
 pub utc-to-tai-finite : (d : JulianDate) → SmallParts d → Holds FiniteParts SixOrOne (utcToTai fixed d)
-utc-to-tai-finite d h = holds-more (finite-parts 55) (λ n r. r) (utc-size 52 room52 d (held d h) (small-size d h))
+utc-to-tai-finite d h = utc-to-tai-never-infinite d (held d h)
 
 pub tai-to-utc-finite : (d : JulianDate) → SmallParts d → Holds FiniteParts SixOrOne (taiToUtc fixed d)
 unfolding taiToUtc
@@ -202,18 +174,6 @@ billion-size x h = within-more (most L) (at-most (h .0) billion-val (h .1))
   where
     most : (l : ℕ) → 1000000000 * l ≤ 2 ^ 30 * l
     most l = omega arith
-
-day-offset-size : (x y : Float) → Fits x → Fits y → Holds (λ z. Size z 11) SixOrOne (offsetOfDate fixed x y)
-unfolding offsetAt0h
-day-offset-size x y f g = go (kind x y f g)
-  where
-    go : Kind x y → Holds (λ z. Size z 11) SixOrOne (offsetOfDate fixed x y)
-    go (outside a e) = holds-refusal 6 (offset-no-date x y 6 e fixed) (inl refl)
-    go (before a e b v) = holds-refusal 1 (offset-of-day fixed x y (dayOf x y) e ∙ offset-early fixed (dayOf x y .day) v) (inr refl)
-    go (valid a e b v r) =
-        let t = dateIn x y in
-        let o = offset-answered fixed (dayOf x y .day) v in
-        holds-answer (o .0) (offset-of-day fixed x y (dayOf x y) e ∙ o .1) (offset-size (t .year) (pos (t .month)) (pos (t .day)) zeroF (o .0) (zero-size 0) (o .1))
 
 -- the date that many seconds later
 later-size : (d : JulianDate) (s : Float) → Sized 55 d → Size s 31 → Sized 56 (S.mapSmallerPart (plus (daysOf s)) d)

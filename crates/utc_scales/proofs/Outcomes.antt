@@ -20,6 +20,11 @@ pub holds-more : {X : Type 0} {A B : X → Type 0} {R S : ℕ → Type 0} {o : O
 holds-more f g (answers h) = answers (f _ h)
 holds-more f g (refuses h) = refuses (g _ h)
 
+-- A holds of the answer that is given
+pub holds-at : {X : Type 0} {A : X → Type 0} {R : ℕ → Type 0} {o : Outcome X} (z : X) → o ≡ answer z → Holds A R o → A z
+holds-at {X} {A} {R} z e (answers {x} h) = let k : x ≡ z = cc in subst A k h
+holds-at z e (refuses h) = let w : _≡_ {A = ℕ} 0 1 = cc in absurd (omega arith)
+
 -- an answer comes from an answer
 pub came : {X Y : Type 0} (o : Outcome X) (k : X → Outcome Y) (y : Y) → onward o k ≡ answer y → (x : X) × (o ≡ answer x) × (k x ≡ answer y)
 unfolding onward

@@ -33,6 +33,7 @@ use Rattle.utc_scales.specs.Claims.{Holds, answers, refuses, Any, SixOrO
 use Rattle.utc_scales.proofs.Midnights.{offset-early, offsets-early}
 use Rattle.utc_scales.proofs.Steps.{tai-no-date, tai-no-offsets, tai-of-day, offset-no-date, offset-of-day, scan-no-date, scan-no-offset, scan-no-step, scan-step}
 use Rattle.utc_scales.proofs.Outcomes.{holds-answer, holds-refusal, holds-onward, holds-more}
+use Rattle.utc_scales.proofs.Decided.{by-six, by-one, by-date}
 use Rattle.utc_scales.proofs.Days.{early, dateIn, Kind, outside, before, valid, kind, offset-answered, offsets-answered}
 
 -- ---- the smaller part in TAI
@@ -77,30 +78,11 @@ pub utc-to-tai-decided : (rows : List Row) (d : JulianDate) → Held d
 unfolding utcToTai changeSmaller placed
 utc-to-tai-decided rows d h = let p = parts-fit d h in go (tai rows (partsOf d .larger) (partsOf d .smaller) (p .0) (p .1))
   where
-    a : Bool
-    a = accepted (partsOf d .larger) (partsOf d .smaller)
-
-    b : Bool
-    b = early (dateIn (partsOf d .larger) (partsOf d .smaller))
-
-    outside-is : (s t : Bool) → s ≡ false → utcToTai rows d ≡ refusal 6 → C.Decided s t (utcToTai rows d)
-    outside-is true t e o = absurd (subst T e tt)
-    outside-is false t e o = o
-
-    early-is : (s t : Bool) → s ≡ true → t ≡ true → utcToTai rows d ≡ refusal 1 → C.Decided s t (utcToTai rows d)
-    early-is true true e f o = o
-    early-is true false e f o = absurd (subst T (sym f) tt)
-    early-is false t e f o = absurd (subst T (sym e) tt)
-
-    given-is : (s t : Bool) → s ≡ true → t ≡ false → (u : JulianDate) → utcToTai rows d ≡ answer u → C.Decided s t (utcToTai rows d)
-    given-is true true e f u o = absurd (subst T f tt)
-    given-is true false e f u o = (u, o)
-    given-is false t e f u o = absurd (subst T (sym e) tt)
-
-    go : Tai rows (partsOf d .larger) (partsOf d .smaller) → C.Decided a b (utcToTai rows d)
-    go (outside-tai p e) = outside-is a b p (stopped _ e)
-    go (early-tai p q e) = early-is a b p q (stopped _ e)
-    go (given-tai p q f e) = given-is a b p q _ (went _ e)
+    go : Tai rows (partsOf d .larger) (partsOf d .smaller)
+        → C.Decided (accepted (partsOf d .larger) (partsOf d .smaller)) (early (dateIn (partsOf d .larger) (partsOf d .smaller))) (utcToTai rows d)
+    go (outside-tai p e) = by-six _ _ p (stopped _ e)
+    go (early-tai p q e) = by-one _ _ p q (stopped _ e)
+    go (given-tai p q f e) = by-date _ _ p q _ (went _ e)
 
 pub utc-to-tai-refuses : (rows : List Row) (d : JulianDate) → Held d → Holds Any SixOrOne (utcToTai rows d)
 unfolding utcToTai changeSmaller
