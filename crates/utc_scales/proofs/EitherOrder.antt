@@ -50,7 +50,7 @@ add-turned f (inf s) (fin t n d) = refl
 add-turned f (fin s m e) nan = refl
 add-turned f (fin s m e) (inf t) = refl
 add-turned f (fin s m e) (fin t n d) =
-    sum-turned f s t (m * up e * down d) (n * up d * down e) (down e * down d)
+    (sum-turned f s t (m * up e * down d) (n * up d * down e) (down e * down d))
     ∙ ap (λ (c : ℕ). sum f t (n * up d * down e) s (m * up e * down d) c) (mul-comm (down e) (down d))
 
 -- the larger part first, or jd1 first
