@@ -96,6 +96,34 @@ size-is (fin false (suc m) e) =
     more : (a : ℕ) → 0 < a → 0 < a + a
     more a h = omega arith
 
+-- ---- the same for <
+before : (e : ℤ) (v : Float) → lt (fin true 0 e) v ≡ lt (fin false 0 e) v
+unfolding lt
+before e nan = refl
+before e (inf t) = refl
+before e (fin false n d) =
+    let B = n * up d * down e in
+    ap (λ (z : ℕ). ltb 0 (z + B)) (gone (up e) (down d)) ∙ ap (ltb 0) (zero-add B) ∙ sym (ap (λ (z : ℕ). ltb z B) (gone (up e) (down d)))
+before e (fin true n d) = ap (ltb (n * up d * down e)) (gone (up e) (down d)) ∙ none-below (n * up d * down e)
+
+behind : (e : ℤ) (v : Float) → lt v (fin true 0 e) ≡ lt v (fin false 0 e)
+unfolding lt
+behind e nan = refl
+behind e (inf t) = refl
+behind e (fin false n d) = sym (ap (ltb (n * up d * down e)) (gone (up e) (down d)) ∙ none-below (n * up d * down e))
+behind e (fin true n d) =
+    let A = n * up d * down e in
+    ap (λ (z : ℕ). ltb z A) (gone (up e) (down d)) ∙ sym (ap (λ (z : ℕ). ltb 0 (A + z)) (gone (up e) (down d)) ∙ ap (ltb 0) (add-zero A))
+
+ordered : {u v w z : Float} → Sized u v → Sized w z → lt u w ≡ lt v z
+ordered same same = refl
+ordered {u = u} same (zeros e) = behind e u
+ordered {w = w} (zeros e) same = before e w
+ordered (zeros e) (zeros f) = before e (fin true 0 f) ∙ behind f (fin false 0 e)
+
+pub larger-in-size : (x y : Float) → lt (size y) (size x) ≡ lt (abs y) (abs x)
+larger-in-size x y = ordered (size-is y) (size-is x)
+
 compared : {u v w z : Float} → Sized u v → Sized w z → le u w ≡ le v z
 compared same same = refl
 compared {u = u} same (zeros e) = zero-right e u

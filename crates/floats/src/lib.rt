@@ -1,7 +1,7 @@
 // |x| and the four roundings to a whole number by the float's bits; the saturating cast, the finite test, a comparison of sizes, and bit patterns.
 // Each takes every f64. A NaN has no pattern here (there is one NaN), so what reads the bits asks for it first, by `x != x`.
 ghost use mathlib.Core.Path.{_≡_};
-ghost use lib.Ieee.{binary64, ofBits, toBits, toSigned, le};
+ghost use lib.Ieee.{binary64, ofBits, toBits, toSigned, lt, le};
 ghost use lib.Ieee.Scale.{finite};
 ghost use Rattle.floats.specs.Whole.{abs, toWhole, cut, downward, upward, away, nearestInt};
 ghost use Rattle.floats.specs.NearestWhole.{nearestWhole};
@@ -47,6 +47,13 @@ pub fn at_least_in_size(x: f64, y: f64) -> bool
     ensures { λ r. ⌜ r ≡ le (abs y) (abs x) ⌝ }
 {
     size_of(x) >= size_of(y)
+}
+
+// Whether |x| > |y|.
+pub fn larger_in_size(x: f64, y: f64) -> bool
+    ensures { λ r. ⌜ r ≡ lt (abs y) (abs x) ⌝ }
+{
+    size_of(x) > size_of(y)
 }
 
 // x toward zero to a whole number.

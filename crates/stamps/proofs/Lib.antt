@@ -1,4 +1,4 @@
--- The laws that the proofs of `stamps` cite, and the theorem that the parts are the listing.
+-- The laws that the proofs of `stamps` cite, the theorem that the parts are the listing, and the theorem that dead stamps are refused and counted.
 pub mod Blocks
 pub mod Places
 pub mod Texts
@@ -9,3 +9,4 @@ pub mod Parts
 pub mod Whole
 pub mod Lengths
 pub mod LineEnds
+pub mod DeadStamps

@@ -150,6 +150,7 @@ fn less(a: usize, b: usize) -> usize
 }
 
 // The next part of the listing, from line `line` on: as many whole lines as the scratch surely holds, at its start. A scratch of 33 bytes or more holds one.
+// Into a shorter one nothing is written, and the answer names the same line with `done` false: a caller that asks again with it never comes to an end.
 pub fn next_part(block: &[u8], line: usize, scratch: &mut [u8]) -> Part
     ensures { λ r. ⌜ PartPlaced (now (block .entry)) line (now (scratch .entry)) r (now (scratch .exit)) ⌝ }
 {

@@ -37,6 +37,7 @@ use Rattle.utc_text.specs.Text.{utcText}
 use Rattle.utc_text.specs.ReadBack.{Writable, ReadsAs}
 use Rattle.utc_text.proofs.ReadBack.{reads-back, reads-ms, text-length}
 use Rattle.utc_text.proofs.Form.{well-formed}
+use Rattle.utc_text.proofs.YearZeros.{year-filled-to-four}
 use Rattle.utc.specs.IsoText.{midnight, isoTextBy, isoText}
 use Rattle.utc.specs.Shows.{on-day, next-midnight, timeShown, TextRight, tooEarly, TextDemand}
 use Rattle.utc.proofs.ShownDates.{early-refused, in-range, date-valid, next-is, next-in-range}
@@ -71,6 +72,7 @@ module _ (n : ℤ) (low : ltZ (dateOf n .year) (negsuc 4798) ≡ false) (i : InD
       let w = writable u (s .good) in
       record {
         form = well-formed (dateOf n) u;
+        year-filled = year-filled-to-four (dateOf n) u w;
         day = on-day u (reads-back (dateOf n) u w) (s .good);
         near = λ W E h d. subst (λ (k : ℕ). Close 1000 501 (k * E) F (2 ^ 52) W E) (sym (reads-ms (dateOf n) u w)) (s .near F (2 ^ 52) W E (lit< tt) h v d);
         shortest = text-length (dateOf n) u .0;
@@ -78,6 +80,7 @@ module _ (n : ℤ) (low : ltZ (dateOf n .year) (negsuc 4798) ≡ false) (i : InD
       }
   right NextMidnight s = record {
     form = well-formed (next (dateOf n)) midnight;
+    year-filled = year-filled-to-four (next (dateOf n)) midnight writable-next;
     day = next-midnight (subst (λ (d : CalendarDate). ReadsAs (utcText (next (dateOf n)) midnight) d midnight) (sym (next-is n low i)) (reads-back (next (dateOf n)) midnight writable-next));
     near = λ W E h d. s .near F (2 ^ 52) W E (lit< tt) h v d;
     shortest = text-length (next (dateOf n)) midnight .0;

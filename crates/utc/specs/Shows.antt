@@ -17,7 +17,7 @@ use Rattle.time_of_day.specs.declared.TimeOfDay.{TimeOfDay}
 use Rattle.time_of_day.specs.Milliseconds.{wholeLeap}
 use Rattle.time_of_day.specs.ExactTime.{DayLength, Close, GoodTime}
 use Rattle.utc_text.specs.ReadBack.{ReadsAs, readMs}
-use Rattle.utc_text.specs.WellFormed.{WellFormed}
+use Rattle.utc_text.specs.WellFormed.{WellFormed, YearFilledToFour}
 use Rattle.utc.specs.IsoText.{midnight}
 
 -- the digits of t say the date of day n and a time of a day with this leap, or the next day's midnight
@@ -30,10 +30,11 @@ unfoldable pub timeShown : {t : List ℕ} {n : ℤ} {leap : Float} → DayShown 
 timeShown {t} (on-day u r g) W E = readMs t * E
 timeShown (next-midnight r) W E = 1000 * W
 
--- t has the form of a text and 23 to 26 bytes; it shows day n, and a time within 0.501 ms of F / 2 ^ 52 of the day, however the day's length is written as a
--- fraction W / E of seconds
+-- t has the form of a text, no zero in front of a year of more than four characters, and 23 to 26 bytes; it shows day n, and a time within 0.501 ms of
+-- F / 2 ^ 52 of the day, however the day's length is written as a fraction W / E of seconds
 pub record TextRight (t : List ℕ) (n : ℤ) (F : ℕ) (leap : Float) : Type 0 where
   pub form : WellFormed t
+  pub year-filled : YearFilledToFour t
   pub day : DayShown t n leap
   pub near : (W E : ℕ) → 0 < E → DayLength leap W E → Close 1000 501 (timeShown day W E) F (2 ^ 52) W E
   pub shortest : 23 ≤ length t

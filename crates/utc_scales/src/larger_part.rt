@@ -18,7 +18,7 @@ pub(crate) struct Parts {
 fn first_is_larger(jd: JulianDate) -> bool
     ensures { λ r. ⌜ r ≡ firstIsLarger jd ⌝ }
 {
-    floats::fabs(jd.jd1) >= floats::fabs(jd.jd2)
+    floats::at_least_in_size(jd.jd1, jd.jd2)
 }
 
 pub(crate) fn split(jd: JulianDate) -> Parts

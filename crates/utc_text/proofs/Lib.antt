@@ -4,3 +4,4 @@ pub mod Laws
 pub mod ReadBack
 pub mod Form
 pub mod Cases
+pub mod YearZeros

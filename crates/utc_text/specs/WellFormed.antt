@@ -1,6 +1,6 @@
 -- The form of a text, whatever its digits say: the year, -MM-DDThh:mm:ss.mmm, each digit and each separator in its place. Written from document 01, "UTC text":
 -- "The year has at least 4 characters, sign counted", and the Rust's `iso_string` (scales/utc/mod.rs). Assumes nothing.
-use Prim.Native.Nat.{ℕ, _≤_}
+use Prim.Native.Nat.{ℕ, _≤_, _<_}
 use mathlib.Core.Path.{_≡_}
 use mathlib.Core.List.{List, [], _∷_}
 use mathlib.Core.Bool.{cond}
@@ -22,6 +22,15 @@ pub record Digits (n : ℕ) (cs : List ℕ) : Type 0 where
 unfoldable pub unsigned : List ℕ → List ℕ
 unsigned [] = []
 unsigned (c ∷ cs) = cond (eqb c 45) cs (c ∷ cs)
+
+-- the first of some bytes is not 0's, 48
+unfoldable pub NoZeroFirst : List ℕ → Type 0
+NoZeroFirst [] = Unit
+NoZeroFirst (c ∷ cs) = c ≡ 48 → ⊥
+
+-- zeros fill a year up to four characters, sign counted, and no further: a longer one has no zero in front
+abbrev pub YearFilledToFour : List ℕ → Type 0
+YearFilledToFour t = 4 < length (yearBytes t) → NoZeroFirst (unsigned (yearBytes t))
 
 -- the byte c stands k bytes before the end of t
 abbrev pub StandsAt : ℕ → ℕ → List ℕ → Type 0

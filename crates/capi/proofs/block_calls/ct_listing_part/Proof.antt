@@ -1,4 +1,5 @@
 -- `capi::block_calls::ct_listing_part` meets its contract. Assumes nothing.
+use native.Mathlib.Omega.{arith}
 use denote.Ref.{now}
 use Rattle.capi.proofs.ListingParts.{no-room, count-fits, part-put}
 use borrow.Author.Needs.{needs}
@@ -11,7 +12,7 @@ refused-requires c κs = search needs
 returns : tie.Need-returns
 returns c =
     let a = c .before .before .before .before .args in
-    no-room (now (a .block)) (now (a .out)) (a .line) (c .refused .ok) (c .before .if1 .taken) (c .refused .ensures)
+    no-room (now (a .block)) (now (a .out)) (a .line) (c .refused .ok) (omega (arith, c .before .if1 .taken)) (c .refused .ensures)
 
 next-part-requires : tie.Need-next-part-requires
 next-part-requires c κs = search needs
