@@ -17,12 +17,12 @@ use Rattle.utc.specs.TextCall.{written, held}
 use Rattle.stamps.specs.Block.{blockOf}
 use Rattle.stamps.specs.Listing.{listing}
 use Rattle.stamps.specs.Parts.{linesIn, linesFrom, partLines, partText}
-use Rattle.stamps.specs.LineEnds.{lineEnds}
+use Rattle.listing_laws.specs.LineEnds.{lineEnds}
 use Rattle.stamps.proofs.Blocks.{few-lines}
 use Rattle.stamps.proofs.Parts.{held-few}
-use Rattle.stamps.proofs.Whole.{lines-add, all-lines}
-use Rattle.stamps.proofs.Lengths.{part-fits}
-use Rattle.stamps.proofs.LineEnds.{ends-most, part-ends, part-some}
+use Rattle.listing_laws.proofs.Whole.{lines-add, all-lines}
+use Rattle.listing_laws.proofs.Lengths.{part-fits}
+use Rattle.listing_laws.proofs.LineEnds.{ends-most, part-ends, part-some}
 use Rattle.c_answers.specs.Delivery.{code, Delivered}
 use Rattle.capi.specs.ListingPart.{listingPart}
 use Rattle.capi.specs.ListingCalls.{Listed, begun, next}

@@ -5,7 +5,7 @@ use Prim.Native.Nat.{ℕ, suc, _+_, _≤_, _<_}
 use mathlib.Core.List.{List, [], _++_}
 use lib.ListN.{length, take}
 use lib.IntN.{pos}
-use Rattle.stamps.specs.LineEnds.{lineEnds}
+use Rattle.listing_laws.specs.LineEnds.{lineEnds}
 use Rattle.c_answers.specs.Delivery.{Delivered}
 use Rattle.capi.specs.ListingPart.{listingPart}
 

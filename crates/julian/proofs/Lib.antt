@@ -1,10 +1,5 @@
 -- The laws of two-part Julian dates, in the order to read them.
 pub mod Integers
 pub mod Seconds
-pub mod UnixTime
-pub mod AddDays
 pub mod Equality
 pub mod Midnights
-pub mod CalendarDays
-pub mod RoundTrip
-pub mod Cases

@@ -1,7 +1,6 @@
--- Going on with an outcome: an answer goes on and a refusal stays; and the steps that the conversions are made of. Assumes nothing.
+-- The steps that the conversions are made of, and a conversion by what it tests. Assumes nothing.
 use mathlib.Core.Path.{_≡_, refl, sym, ap, _∙_}
 use mathlib.Core.Bool.{Bool, true, false, cond, _&&_, true≢false}
-use Prim.Native.Nat.{ℕ}
 use lib.Ieee.{Float}
 use lib.Ieee.Scale.{finite}
 use Rattle.refusals.specs.Outcome.{Outcome, answer, refusal, onward}
@@ -11,14 +10,6 @@ use Rattle.scales.specs.SmallerPart.{mapSmallerPart}
 use Rattle.scales.specs.Formulas.{daysOf}
 use Rattle.scales.specs.Conversions.{changed, converted, finiteOffset, finiteBoth, convertedBy}
 use Rattle.scales.specs.Refusals.{finiteParts}
-
-pub went : {A B : Type 0} {o : Outcome A} {a : A} (k : A → Outcome B) → o ≡ answer a → onward o k ≡ k a
-unfolding onward
-went {A} k e = ap (λ (o : Outcome A). onward o k) e
-
-pub stopped : {A B : Type 0} {o : Outcome A} {n : ℕ} (k : A → Outcome B) → o ≡ refusal n → onward o k ≡ refusal n
-unfolding onward
-stopped {A} k e = ap (λ (o : Outcome A). onward o k) e
 
 -- a date moved by so many days
 pub moved : (f : Float → Float → Float → Float) {o o' : Outcome JulianDate} {x x' : Float} → o ≡ o' → x ≡ x' → onward o (changed (f x)) ≡ onward o' (changed (f x'))

@@ -1,10 +1,6 @@
--- What the contracts and the theorems of `scales` speak of.
+-- The definitions that the contracts of `scales` cite, in the order to read them.
 pub mod Scales
 pub mod SmallerPart
 pub mod Formulas
 pub mod Conversions
 pub mod Refusals
-pub mod Ranges
-pub mod Picoseconds
-pub mod Meaning
-pub mod Recorders

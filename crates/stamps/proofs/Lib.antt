@@ -1,4 +1,4 @@
--- The laws that the proofs of `stamps` cite, the theorem that the parts are the listing, and the theorem that dead stamps are refused and counted.
+-- The laws that the proofs of `stamps` cite.
 pub mod Blocks
 pub mod Places
 pub mod Texts
@@ -6,7 +6,3 @@ pub mod Counts
 pub mod LateDates
 pub mod Lines
 pub mod Parts
-pub mod Whole
-pub mod Lengths
-pub mod LineEnds
-pub mod DeadStamps

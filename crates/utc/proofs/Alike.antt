@@ -14,7 +14,7 @@ use Rattle.floats.specs.Whole.{away}
 use Rattle.day_number.specs.ExactDay.{OnGrid, exactSum}
 use Rattle.julian.specs.declared.CalendarFields.{CalendarFields}
 use Rattle.julian.specs.JulianDate.{julian}
-use Rattle.julian.proofs.CalendarDays.{one-outcome}
+use Rattle.julian_laws.proofs.CalendarDays.{one-outcome}
 use Rattle.tai_utc.specs.Table.{Row}
 use Rattle.utc_text.specs.declared.TextAnswer.{TextAnswer}
 use Rattle.utc_text.specs.declared.TextAnswer.the-variants.{Written, Refused}

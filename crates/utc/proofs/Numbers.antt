@@ -19,7 +19,7 @@ use Rattle.day_number.proofs.JulianRange.{accepted-finite}
 use Rattle.julian.specs.declared.JulianDate.{JulianDate}
 use Rattle.julian.specs.declared.CalendarFields.{CalendarFields}
 use Rattle.julian.specs.Calendar.{julianToCalendar}
-use Rattle.julian.proofs.CalendarDays.{only-six}
+use Rattle.julian_laws.proofs.CalendarDays.{only-six}
 use Rattle.tai_utc.specs.Table.{Row}
 use Rattle.utc_text.specs.declared.TextAnswer.the-variants.{Refused}
 use Rattle.utc_text.specs.Answer.{textOutcome, textWritten}

@@ -18,7 +18,7 @@ use Rattle.calendar.proofs.Gregorian.{gregorian-is-date-of-day}
 use Rattle.calendar.proofs.Mjd.{date-of-mjd}
 use Rattle.calendar.proofs.Years.{InRange, gregorian-in-range, validOf, year-before-first, from-lower}
 use Rattle.day_number.specs.Ranges.{InDays}
-use Rattle.julian.proofs.CalendarDays.{not-above}
+use Rattle.julian_laws.proofs.CalendarDays.{not-above}
 
 in-calendar : (n : ℤ) → InCalendar (dateOf n)
 unfolding dateOf

@@ -17,7 +17,7 @@ use Rattle.day_number.specs.ExactDay.{InJulianRange, exactDay, exactFraction, f
 use Rattle.day_number.specs.Ranges.{InDays}
 use Rattle.day_number.proofs.ExactDay.{exact-day}
 use Rattle.julian.specs.declared.JulianDate.{JulianDate}
-use Rattle.julian.proofs.CalendarDays.{exact-date}
+use Rattle.julian_laws.proofs.CalendarDays.{exact-date}
 use Rattle.tai_utc.specs.Table.{Row}
 use Rattle.utc.specs.IsoText.{dayTextBy, isoTextBy}
 use Rattle.utc.specs.OneText.{Division}

@@ -23,7 +23,7 @@ use Rattle.calendar.proofs.Mjd.{mjd-refused, mjd-of-date}
 use Rattle.day_number.specs.Ranges.{InDays}
 use Rattle.julian.specs.declared.JulianDate.{JulianDate}
 use Rattle.julian.specs.JulianDate.{julian}
-use Rattle.julian.proofs.CalendarDays.{not-above}
+use Rattle.julian_laws.proofs.CalendarDays.{not-above}
 use Rattle.julian.proofs.Midnights.{midnight-given}
 use Rattle.tai_utc.specs.declared.DayOffsets.{DayOffsets}
 use Rattle.tai_utc.specs.Table.{Row}

@@ -16,19 +16,18 @@ use Rattle.day_number.specs.Answer.{dayNumberAndFraction}
 use Rattle.day_number.specs.Ranges.{InDays}
 use Rattle.julian.specs.declared.JulianDate.{JulianDate}
 use Rattle.julian.specs.Calendar.{julianToCalendar}
-use Rattle.julian.proofs.CalendarDays.{fields-of}
+use Rattle.julian_laws.proofs.CalendarDays.{fields-of}
 use Rattle.tai_utc.specs.declared.DayOffsets.{DayOffsets}
 use Rattle.tai_utc.specs.Table.{Row}
 use Rattle.tai_utc.specs.Offset.{zeroF, halfF, taiUtcOffset}
 use Rattle.tai_utc.specs.Leap.{offsets, dayOffsets}
-use Rattle.scales.proofs.Outcomes.{went, stopped}
+use Rattle.refusals.proofs.Onward.{went, stopped, came}
 use Rattle.utc_scales.specs.declared.larger_part.Parts.{Parts}
 use Rattle.utc_scales.specs.LargerPart.{firstIsLarger, partsAs, partsOf, placed, changeSmaller}
 use Rattle.utc_scales.specs.Dates.{offsetOfDate, offsetAt0h, offsetsOf, midnightOf}
 use Rattle.utc_scales.specs.UtcTai.{taiFromMidnight, taiFraction, refined, rounds, refineUtcFraction}
 use Rattle.utc_scales.specs.UtcUt1.{nearStep, noStep, step, scanDay, untilStep, scan}
 use Rattle.utc_scales.specs.Known.{offsetOfParts}
-use Rattle.utc_scales.proofs.Outcomes.{came}
 use Rattle.utc_scales.proofs.Midnights.{midnight, valid-midnight, offset-valid, offsets-valid}
 
 -- ---- the larger part

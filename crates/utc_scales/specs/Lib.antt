@@ -1,9 +1,6 @@
--- The definitions that the contracts of `utc_scales` cite.
+-- The definitions that the contracts of `utc_scales` cite, in the order to read them.
 pub mod LargerPart
 pub mod Dates
 pub mod Known
 pub mod UtcTai
 pub mod UtcUt1
-pub mod Claims
--- Twenty: all twenty conversions as one table.
-pub mod Twenty

@@ -5,7 +5,7 @@ use Rattle.refusals.specs.Outcome.{answer}
 use Rattle.julian.specs.JulianDate.{julianOutcome}
 use Rattle.julian.specs.Finite.{offsetOutcome}
 use Rattle.scales.specs.Conversions.{finiteOffset}
-use Rattle.scales.proofs.Outcomes.{went, stopped}
+use Rattle.refusals.proofs.Onward.{went, stopped}
 use borrow.Author.Needs.{needs}
 use Rattle.scales.proofs.given_offset.finite_offset.Statement.{statement}
 use Rattle.scales.proofs.given_offset.finite_offset.Tie as tie

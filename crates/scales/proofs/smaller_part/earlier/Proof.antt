@@ -4,7 +4,7 @@ use Rattle.refusals.specs.Outcome.{answer}
 use Rattle.julian.specs.JulianDate.{julianOutcome}
 use Rattle.scales.specs.Formulas.{minus}
 use Rattle.scales.specs.Conversions.{changed}
-use Rattle.scales.proofs.Outcomes.{went, stopped}
+use Rattle.refusals.proofs.Onward.{went, stopped}
 use borrow.Author.Needs.{needs}
 use Rattle.scales.proofs.smaller_part.earlier.Statement.{statement}
 use Rattle.scales.proofs.smaller_part.earlier.Tie as tie

@@ -5,7 +5,7 @@ use Rattle.julian.specs.JulianDate.{julianOutcome}
 use Rattle.scales.specs.Scales.{tdbOutcome}
 use Rattle.scales.specs.Formulas.{tcbToTdb}
 use Rattle.scales.specs.Conversions.{changed, converted, answerOf}
-use Rattle.scales.proofs.Outcomes.{went, stopped}
+use Rattle.refusals.proofs.Onward.{went, stopped}
 use borrow.Author.Needs.{needs}
 use Rattle.scales.proofs.tcb_tdb.tcb_to_tdb.Statement.{statement}
 use Rattle.scales.proofs.tcb_tdb.tcb_to_tdb.Tie as tie

@@ -5,7 +5,7 @@ use Rattle.julian.specs.JulianDate.{julianOutcome}
 use Rattle.scales.specs.Scales.{tcbOutcome}
 use Rattle.scales.specs.Formulas.{tdbToTcb}
 use Rattle.scales.specs.Conversions.{changed, converted, answerOf}
-use Rattle.scales.proofs.Outcomes.{went, stopped}
+use Rattle.refusals.proofs.Onward.{went, stopped}
 use borrow.Author.Needs.{needs}
 use Rattle.scales.proofs.tcb_tdb.tdb_to_tcb.Statement.{statement}
 use Rattle.scales.proofs.tcb_tdb.tdb_to_tcb.Tie as tie

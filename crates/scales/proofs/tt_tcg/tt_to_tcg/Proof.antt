@@ -5,7 +5,7 @@ use Rattle.julian.specs.JulianDate.{julianOutcome}
 use Rattle.scales.specs.Scales.{tcgOutcome}
 use Rattle.scales.specs.Formulas.{ttToTcg}
 use Rattle.scales.specs.Conversions.{changed, converted, answerOf}
-use Rattle.scales.proofs.Outcomes.{went, stopped}
+use Rattle.refusals.proofs.Onward.{went, stopped}
 use borrow.Author.Needs.{needs}
 use Rattle.scales.proofs.tt_tcg.tt_to_tcg.Statement.{statement}
 use Rattle.scales.proofs.tt_tcg.tt_to_tcg.Tie as tie

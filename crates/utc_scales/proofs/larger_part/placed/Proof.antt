@@ -3,7 +3,7 @@ use mathlib.Core.Path.{sym, ap, _∙_}
 use Rattle.refusals.specs.Outcome.{answer}
 use Rattle.julian.specs.DayFraction.{fractionOutcome}
 use Rattle.julian.specs.JulianDate.{julianOutcome}
-use Rattle.scales.proofs.Outcomes.{went, stopped}
+use Rattle.refusals.proofs.Onward.{went, stopped}
 use Rattle.utc_scales.specs.LargerPart.{placed}
 use borrow.Author.Needs.{needs}
 use Rattle.utc_scales.proofs.larger_part.placed.Statement.{statement}

@@ -2,7 +2,7 @@
 use mathlib.Core.Path.{sym, ap, subst, _∙_}
 use Rattle.refusals.specs.Outcome.{answer}
 use Rattle.tai_utc.specs.Table.{fixed}
-use Rattle.scales.proofs.Outcomes.{went, stopped}
+use Rattle.refusals.proofs.Onward.{went, stopped}
 use Rattle.utc_scales.specs.Known.{partOutcome, RightPart}
 use Rattle.utc_scales.specs.LargerPart.{placed}
 use Rattle.utc_scales.specs.UtcTai.{taiFraction, utcToTai, moved, refined}

@@ -1,6 +1,6 @@
 -- `utc_scales::utc_tai::refined_again` meets its contract. Assumes nothing.
 use mathlib.Core.Path.{sym, ap, subst, _∙_}
-use Rattle.scales.proofs.Outcomes.{went, stopped}
+use Rattle.refusals.proofs.Onward.{went, stopped}
 use Rattle.utc_scales.specs.Known.{Right, partOutcome, RightPart}
 use Rattle.utc_scales.specs.declared.utc_tai.PartAnswer.{PartAnswer}
 use borrow.Author.Needs.{needs}

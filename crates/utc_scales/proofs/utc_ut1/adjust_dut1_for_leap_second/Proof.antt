@@ -3,7 +3,7 @@ use mathlib.Core.Path.{sym, ap, _∙_}
 use lib.Ieee.{ofBits, ofInt, neg, round}
 use Rattle.julian.specs.Finite as J
 use Rattle.tai_utc.specs.Answers as T
-use Rattle.scales.proofs.Outcomes.{went, stopped}
+use Rattle.refusals.proofs.Onward.{went, stopped}
 use Rattle.utc_scales.specs.UtcUt1.{adjustDut1}
 use borrow.Author.Needs.{needs}
 use Rattle.utc_scales.proofs.utc_ut1.adjust_dut1_for_leap_second.Statement.{statement}

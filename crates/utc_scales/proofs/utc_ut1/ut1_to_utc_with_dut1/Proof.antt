@@ -3,7 +3,7 @@ use mathlib.Core.Path.{sym, ap, _∙_}
 use Rattle.julian.specs.Finite as J
 use Rattle.julian.specs.JulianDate.{julianOutcome}
 use Rattle.scales.specs.Scales.{utcOutcome}
-use Rattle.scales.proofs.Outcomes.{went, stopped}
+use Rattle.refusals.proofs.Onward.{went, stopped}
 use Rattle.utc_scales.specs.UtcUt1.{ut1ToUtc}
 use borrow.Author.Needs.{needs}
 use Rattle.utc_scales.proofs.utc_ut1.ut1_to_utc_with_dut1.Statement.{statement}

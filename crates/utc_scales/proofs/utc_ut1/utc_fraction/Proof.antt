@@ -4,7 +4,7 @@ use lib.Ieee.{ofBits, round}
 use Rattle.constants.specs.Constants.{secondsPerDay}
 use Rattle.julian.specs.DayFraction.{fractionOutcome}
 use Rattle.julian.specs.Finite as J
-use Rattle.scales.proofs.Outcomes.{went, stopped}
+use Rattle.refusals.proofs.Onward.{went, stopped}
 use Rattle.utc_scales.specs.UtcUt1.{utcFraction}
 use borrow.Author.Needs.{needs}
 use Rattle.utc_scales.proofs.utc_ut1.utc_fraction.Statement.{statement}

@@ -6,7 +6,7 @@ use Rattle.tai_utc.specs.Answers as T
 use Rattle.tai_utc.specs.Table.{fixed}
 use Rattle.scales.specs.Conversions.{answerOf, tai-ut1}
 use Rattle.scales.specs.Scales.{ut1Outcome}
-use Rattle.scales.proofs.Outcomes.{went, stopped}
+use Rattle.refusals.proofs.Onward.{went, stopped}
 use Rattle.utc_scales.specs.Known.{Right, partOutcome, SameDays}
 use Rattle.utc_scales.specs.LargerPart.{placed}
 use Rattle.utc_scales.specs.UtcTai.{taiFraction, utcToTai}

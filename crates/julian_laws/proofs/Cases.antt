@@ -1,0 +1,96 @@
+-- Cases of two-part Julian dates at the edges of the float arithmetic and of the refusals, each computed from the definitions. Document 01's worked cases are a
+-- table of their own (crate `worked_cases`). Assumes nothing.
+use mathlib.Core.Path.{_≡_, refl}
+use Prim.Native.Nat.{ℕ, _*_, _^_}
+use mathlib.Core.Bool.{true, false}
+use lib.IntN.{pos, negsuc}
+use lib.Ieee.{Float, nan, fin, binary64, ofBits, round, ofInt, add, sub, mul, div, neg, lt, le, eq}
+use Rattle.refusals.specs.Outcome.{refusal, onward}
+use Rattle.floats.specs.Whole.{toWhole, cut}
+use Rattle.constants.specs.Constants.{decimal, mjdZeroPoint, j2000Jd, unixEpochJd, secondsPerDay, nanosecondsPerSecond, daysPerJulianYear}
+use Rattle.calendar.specs.Calendar.{leapSize, lengths, daysInMonth}
+use Rattle.calendar.specs.Refusals.{validDate}
+use Rattle.calendar.specs.DayCount.{civilCount, mjdNumber, mjdOf}
+use Rattle.julian.specs.declared.JulianDate.{JulianDate}
+use Rattle.julian.specs.JulianDate.{julian, uncarried, addDays}
+use Rattle.julian.specs.JulianYear.{toJulianYear, fromJulianYear}
+use Rattle.julian.specs.UnixTime.{secondOfDay, fromUnixTime}
+use Rattle.julian.specs.Equality.{twoSumError, exactSum, sums, equal}
+use Rattle.julian.specs.DayFraction.{secondLimit, timeInDay, dayFraction}
+use Rattle.julian.specs.Calendar.{calendarToJulian, atTime, fromCalendar}
+
+-- ---- refusals of `from_calendar`, which knows no leap second: 60.0; and the date before the time
+
+pub no-leap-second : fromCalendar (pos 2015) 12 31 23 59 (decimal 60 0) ≡ refusal 4
+unfolding fromCalendar atTime calendarToJulian onward mjdOf mjdNumber civilCount validDate daysInMonth leapSize lengths dayFraction timeInDay secondLimit add lt le eq round
+no-leap-second = refl
+
+pub date-first : fromCalendar (pos 1900) 2 29 24 0 (decimal 0 0) ≡ refusal 3
+unfolding fromCalendar calendarToJulian onward mjdOf mjdNumber civilCount validDate daysInMonth leapSize lengths
+date-first = refl
+
+-- ---- a Unix time before 1970 divides toward zero: the day stays, and the time is negative
+
+pub second-before-1970 : fromUnixTime (negsuc 0) 0 ≡ julian (decimal 24405875 1) (neg (div binary64 (decimal 1 0) (decimal 86400 0)))
+unfolding fromUnixTime secondOfDay unixEpochJd secondsPerDay nanosecondsPerSecond ofInt round add div neg
+second-before-1970 = refl
+
+-- ---- a negative zero is kept: the Rust's trunc of -0.3 is -0.0
+
+abbrev pub minus-zero : Float
+minus-zero = fin true 0 (pos 0)
+
+-- -0.3
+abbrev pub minus-three-tenths : Float
+minus-three-tenths = fin true 5404319552844595 (negsuc 53)
+
+three-tenths : neg (decimal 3 1) ≡ minus-three-tenths
+unfolding round neg
+three-tenths = refl
+
+cut-to-zero : toWhole cut minus-three-tenths ≡ minus-zero
+unfolding toWhole round
+cut-to-zero = refl
+
+less-zero : sub binary64 minus-three-tenths minus-zero ≡ minus-three-tenths
+unfolding sub neg add round
+less-zero = refl
+
+more-zero : add binary64 minus-zero minus-three-tenths ≡ minus-three-tenths
+unfolding add round
+more-zero = refl
+
+zeros : add binary64 minus-zero minus-zero ≡ minus-zero
+unfolding add round
+zeros = refl
+
+pub minus-zero-kept : addDays (julian minus-zero minus-zero) (neg (decimal 3 1)) ≡ julian minus-zero (neg (decimal 3 1))
+unfolding addDays uncarried
+minus-zero-kept = simp (three-tenths, cut-to-zero, less-zero, more-zero, zeros)
+
+-- ---- equality where the parts are not under 2^52: two dates whose two-sum overflows are unequal to themselves, and a NaN to all
+
+abbrev pub large : ℕ → ℕ → Float
+large n k = round binary64 false (n * 10 ^ k) 1
+
+pub overflow-unequal : equal (julian (large 29937604643020797 276) (neg (large 17976931348623157 292))) (julian (large 29937604643020797 276) (neg (large 17976931348623157 292))) ≡ false
+unfolding equal sums exactSum twoSumError round neg add sub eq
+overflow-unequal = refl
+
+pub infinite-sum-equal : equal (julian (large 1 308) (large 1 308)) (julian (large 1 308) (large 1 308)) ≡ true
+unfolding equal sums exactSum twoSumError round neg add sub eq
+infinite-sum-equal = refl
+
+pub nan-unequal : (x : Float) (e : JulianDate) → equal (julian nan x) e ≡ false
+unfolding equal sums exactSum add eq
+nan-unequal x e = refl
+
+-- ---- the Julian year 2000.0 is J2000.0, there and back
+
+pub year-of-j2000 : toJulianYear (julian j2000Jd (decimal 0 0)) ≡ decimal 2000 0
+unfolding toJulianYear j2000Jd daysPerJulianYear add sub div round ofBits
+year-of-j2000 = refl
+
+pub j2000-of-year : fromJulianYear (decimal 2000 0) ≡ julian mjdZeroPoint (decimal 515445 1)
+unfolding fromJulianYear mjdZeroPoint j2000Jd daysPerJulianYear add sub mul round ofBits
+j2000-of-year = refl

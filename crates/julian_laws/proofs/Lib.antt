@@ -1,0 +1,6 @@
+-- What the calls of `julian` mean in exact days, in the order to read them.
+pub mod UnixTime
+pub mod AddDays
+pub mod CalendarDays
+pub mod RoundTrip
+pub mod Cases

@@ -1,0 +1,76 @@
+-- A line has at most 33 bytes; so a part fits its scratch, and its length is small whatever the scratch. Assumes nothing.
+use Prim.Native.Nat.{ℕ, zero, suc, _+_, _-_, _*_, _≤_}
+use native.Mathlib.Omega.{arith}
+use mathlib.Core.Path.{_≡_, refl, sym, ap, _∙_}
+use mathlib.Core.Bool.{Bool, true, false, cond}
+use mathlib.Core.List.{List}
+use lib.ListN.{length, length-append}
+use lib.Dec.{leb, eqb}
+use borrow.Author.Tests.{leb-true}
+use Rattle.refusals.specs.Outcome.{Outcome, answer, refusal}
+use Rattle.tai_utc.specs.Table.{fixed}
+use Rattle.stamps.specs.Block.{blockOf, stampAt}
+use Rattle.stamps.specs.Listing.{shownAt, stampLine, refusedIn, header, blockRefused}
+use Rattle.stamps.specs.Parts.{lineOf, linesIn, linesFrom, heldLines, partLines, partText}
+use Rattle.stamps.proofs.Blocks.{few-lines}
+use Rattle.stamps.proofs.Places.{decimal-most}
+use Rattle.stamps.proofs.Texts.{brief, shown-most}
+use Rattle.stamps.proofs.Parts.{held-few}
+use Rattle.listing_laws.proofs.Whole.{lines-add}
+
+header-most : (n k : ℕ) → length (header n k) ≤ 33
+unfolding header
+header-most n k = simp length-append (omega (arith, decimal-most n, decimal-most k))
+
+refused-most : (k : ℕ) → length (blockRefused k) ≤ 33
+unfolding blockRefused
+refused-most k = simp length-append (omega (arith, decimal-most k))
+
+stamp-most : (s : List ℕ) (n i : ℕ) → length (stampLine s n i) ≤ 33
+unfolding stampLine shownAt
+stamp-most s n i = simp length-append (omega (arith, decimal-most i, shown-most _ (brief fixed (stampAt s n i))))
+
+line-most : (o : Outcome ℕ) (s : List ℕ) (line : ℕ) → length (lineOf o s line) ≤ 33
+unfolding lineOf
+line-most (refusal k) s line = refused-most k
+line-most (answer n) s line = go (eqb line 0)
+  where
+    go : (b : Bool) → length (cond b (header n (refusedIn s n n)) (stampLine s n (line - 1))) ≤ 33
+    go true = header-most n (refusedIn s n n)
+    go false = stamp-most s n (line - 1)
+
+lines-most : (s : List ℕ) (line k : ℕ) → length (linesFrom s line k) ≤ 33 * k
+unfolding linesFrom
+lines-most s line zero = omega arith
+lines-most s line (suc k) = simp length-append (omega (arith, lines-most s line k, line-most (blockOf s) s (line + k)))
+
+-- 4,001 lines at most, of 33 bytes
+pub part-most : (s : List ℕ) (line room : ℕ) → length (partText s line room) ≤ 132033
+unfolding partText partLines
+part-most s line room = omega (arith, lines-most s line (partLines s line room), held-few s line room (linesIn (blockOf s) - line), few-lines s)
+
+-- the lines that are held go into the room
+first : (s : List ℕ) (line k : ℕ) → length (linesFrom s line (1 + k)) ≡ length (lineOf (blockOf s) s line) + length (linesFrom s (line + 1) k)
+unfolding linesFrom
+first s line k =
+    let z : line + 0 ≡ line = omega arith in
+    ap length (sym (lines-add s line 1 k))
+    ∙ length-append (linesFrom s line 1) (linesFrom s (line + 1) k)
+    ∙ ap (λ (i : ℕ). length (lineOf (blockOf s) s i) + length (linesFrom s (line + 1) k)) z
+
+held-fits : (s : List ℕ) (line room left : ℕ) → length (linesFrom s line (heldLines s line room left)) ≤ room
+unfolding heldLines linesFrom
+held-fits s line room zero = omega arith
+held-fits s line room (suc left) = by (leb 33 room) refl (held-fits s (line + 1) (room - length (lineOf (blockOf s) s line)) left)
+  where
+    rest : ℕ
+    rest = heldLines s (line + 1) (room - length (lineOf (blockOf s) s line)) left
+
+    by : (b : Bool) → leb 33 room ≡ b → length (linesFrom s (line + 1) rest) ≤ room - length (lineOf (blockOf s) s line)
+        → length (linesFrom s line (cond b (1 + rest) 0)) ≤ room
+    by true e h = omega (arith, first s line rest, line-most (blockOf s) s line, leb-true 33 room e)
+    by false e h = omega arith
+
+pub part-fits : (s : List ℕ) (line room : ℕ) → length (partText s line room) ≤ room
+unfolding partText partLines
+part-fits s line room = held-fits s line room (linesIn (blockOf s) - line)

@@ -1,0 +1,153 @@
+-- A line of a listing has one line end; so a part has as many line ends as lines, and a caller that counts them knows the next line. Assumes nothing.
+use Prim.Native.Nat.{ℕ, zero, suc, _+_, _-_, _%_, _<_, _≤_}
+use native.Mathlib.Omega.{arith}
+use native.Mathlib.Nat.{add-assoc, zero-add}
+use mathlib.Core.Path.{_≡_, refl, sym, ap, _∙_}
+use mathlib.Core.Bool.{Bool, true, false, cond}
+use mathlib.Core.List.{List, [], _∷_, _++_}
+use lib.ListN.{length}
+use lib.Dec.{ltb, eqb}
+use lib.IntN.{ℤ, pos, negsuc}
+use borrow.Author.Tests.{ne-eqb}
+use Rattle.refusals.specs.Outcome.{Outcome, answer, refusal, onward}
+use Rattle.floats.specs.Whole.{away}
+use Rattle.calendar.specs.declared.CalendarDate.{CalendarDate}
+use Rattle.julian.specs.declared.JulianDate.{JulianDate}
+use Rattle.tai_utc.specs.Table.{Row}
+use Rattle.time_of_day.specs.declared.TimeOfDay.{TimeOfDay}
+use Rattle.time_of_day.specs.declared.TimeShown.{TimeShown}
+use Rattle.time_of_day.specs.declared.TimeShown.the-variants.{At, NextMidnight}
+use Rattle.time_of_day.specs.TimeShown.{shownOf}
+use Rattle.utc_text.specs.Text.{last, two, three, four, five, six, seven, yearText, afterYear, utcText}
+use Rattle.utc.specs.IsoText.{midnight, nextMidnightText, shownText, dayTextBy, isoTextBy, isoText}
+use Rattle.stamps.specs.Block.{blockOf}
+use Rattle.stamps.specs.Decimal.{decimal}
+use Rattle.stamps.specs.Listing.{refusedWord, utcListingWords, blockRefusedWords, shownAt, shown, stampLine, refusedIn, header, blockRefused}
+use Rattle.stamps.specs.Parts.{lineOf, linesIn, linesFrom, partLines, partText}
+use Rattle.listing_laws.specs.LineEnds.{lineEnds}
+use Rattle.stamps.proofs.Parts.{held-some}
+
+pub ends-append : (a b : List ℕ) → lineEnds (a ++ b) ≡ lineEnds a + lineEnds b
+unfolding lineEnds
+ends-append [] b = sym (zero-add (lineEnds b))
+ends-append (c ∷ a) b = ap (λ (n : ℕ). cond (eqb c 10) 1 0 + n) (ends-append a b) ∙ sym (add-assoc (cond (eqb c 10) 1 0) (lineEnds a) (lineEnds b))
+
+one-most : (b : Bool) → cond b 1 0 ≤ 1
+one-most true = omega arith
+one-most false = omega arith
+
+pub ends-most : (l : List ℕ) → lineEnds l ≤ length l
+unfolding lineEnds
+ends-most [] = omega arith
+ends-most (c ∷ l) = omega (arith, one-most (eqb c 10), ends-most l)
+
+-- ---- numbers and texts have no line end
+digit : (n : ℕ) → eqb (48 + n % 10) 10 ≡ false
+digit n = ne-eqb (48 + n % 10) 10 (λ e. (let no : ⊥ = omega arith in no))
+
+decimal-by : (n : ℕ) (a b c : Bool) → lineEnds (cond a (last n ∷ []) (cond b (two n) (cond c (three n) (four n)))) ≡ 0
+unfolding lineEnds
+decimal-by n true b c = simp digit
+decimal-by n false true c = simp digit
+decimal-by n false false true = simp digit
+decimal-by n false false false = simp digit
+
+decimal-none : (n : ℕ) → lineEnds (decimal n) ≡ 0
+unfolding decimal
+decimal-none n = decimal-by n (ltb n 10) (ltb n 100) (ltb n 1000)
+
+plus-by : (n : ℕ) (a b c : Bool) → lineEnds (cond a (four n) (cond b (five n) (cond c (six n) (seven n)))) ≡ 0
+unfolding lineEnds
+plus-by n true b c = simp digit
+plus-by n false true c = simp digit
+plus-by n false false true = simp digit
+plus-by n false false false = simp digit
+
+minus-by : (n : ℕ) (a : Bool) → lineEnds (45 ∷ cond a (three n) (four n)) ≡ 0
+unfolding lineEnds
+minus-by n true = simp digit
+minus-by n false = simp digit
+
+year-none : (y : ℤ) → lineEnds (yearText y) ≡ 0
+unfolding yearText
+year-none (pos n) = plus-by n (ltb n 10000) (ltb n 100000) (ltb n 1000000)
+year-none (negsuc n) = minus-by (suc n) (ltb (suc n) 1000)
+
+after-none : (d : CalendarDate) (t : TimeOfDay) → lineEnds (afterYear d t) ≡ 0
+unfolding lineEnds
+after-none d t = simp digit
+
+text-none : (d : CalendarDate) (t : TimeOfDay) → lineEnds (utcText d t) ≡ 0
+unfolding utcText
+text-none d t = let e = ends-append (yearText (d .year)) (afterYear d t) in omega (arith, year-none (d .year), after-none d t)
+
+-- ---- nor has what is shown of a stamp
+refused-none : (k : ℕ) → lineEnds (refusedWord ++ decimal k) ≡ 0
+unfolding lineEnds
+refused-none k = simp decimal-none
+
+shown-onward : {A : Type 0} (o : Outcome A) (f : A → Outcome (List ℕ)) → ((a : A) → lineEnds (shown (f a)) ≡ 0) → lineEnds (shown (onward o f)) ≡ 0
+unfolding onward shown
+shown-onward (answer a) f h = h a
+shown-onward (refusal k) f h = refused-none k
+
+day-none : (d : CalendarDate) (r : TimeShown) → lineEnds (shown (shownText d r)) ≡ 0
+unfolding shownText nextMidnightText shown
+day-none d (At t) = text-none d t
+day-none d NextMidnight = shown-onward _ _ (λ t. text-none t midnight)
+
+shown-none : (rows : List Row) (jd : JulianDate) → lineEnds (shown (isoText rows jd)) ≡ 0
+unfolding isoTextBy dayTextBy
+shown-none rows jd = shown-onward _ _ (λ c. shown-onward _ _ (λ leap. day-none (c .date) (shownOf away (c .fraction) leap)))
+
+-- ---- a line has one
+blank : lineEnds (32 ∷ []) ≡ 0
+unfolding lineEnds
+blank = refl
+
+end : lineEnds (10 ∷ []) ≡ 1
+unfolding lineEnds
+end = refl
+
+words : (lineEnds utcListingWords ≡ 0) × (lineEnds (32 ∷ refusedWord) ≡ 0) × (lineEnds blockRefusedWords ≡ 0)
+unfolding lineEnds
+words = (refl, refl, refl)
+
+stamp-one : (s : List ℕ) (n i : ℕ) → lineEnds (stampLine s n i) ≡ 1
+unfolding stampLine shownAt
+stamp-one s n i = simp (ends-append, decimal-none, shown-none, blank, end)
+
+header-one : (n k : ℕ) → lineEnds (header n k) ≡ 1
+unfolding header
+header-one n k = simp (ends-append, decimal-none, words .0, words .1, end)
+
+refused-one : (k : ℕ) → lineEnds (blockRefused k) ≡ 1
+unfolding blockRefused
+refused-one k = simp (ends-append, decimal-none, words .2, end)
+
+line-one : (o : Outcome ℕ) (s : List ℕ) (line : ℕ) → lineEnds (lineOf o s line) ≡ 1
+unfolding lineOf
+line-one (refusal k) s line = refused-one k
+line-one (answer n) s line = by (eqb line 0)
+  where
+    by : (b : Bool) → lineEnds (cond b (header n (refusedIn s n n)) (stampLine s n (line - 1))) ≡ 1
+    by true = header-one n (refusedIn s n n)
+    by false = stamp-one s n (line - 1)
+
+lines-ends : (s : List ℕ) (line k : ℕ) → lineEnds (linesFrom s line k) ≡ k
+unfolding linesFrom lineEnds
+lines-ends s line zero = refl
+lines-ends s line (suc k) =
+    let e = ends-append (linesFrom s line k) (lineOf (blockOf s) s (line + k)) in
+    omega (arith, lines-ends s line k, line-one (blockOf s) s (line + k))
+
+-- ---- what a caller learns of a part by its bytes alone
+-- the line ends of a part are its lines
+pub part-ends : (s : List ℕ) (line room : ℕ) → lineEnds (partText s line room) ≡ partLines s line room
+unfolding partText
+part-ends s line room = lines-ends s line (partLines s line room)
+
+-- where a line is left, 33 bytes hold one
+pub part-some : (s : List ℕ) (line room : ℕ) → line < linesIn (blockOf s) → 33 ≤ room → 1 ≤ partLines s line room
+unfolding partLines
+part-some s line room h enough = held-some s line room (linesIn (blockOf s) - line) enough (omega arith)

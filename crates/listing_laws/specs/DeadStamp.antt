@@ -1,0 +1,33 @@
+-- A dead stamp: a date of a block with a part that is no number, and how many a block has. Written from document 01, "Stamp block", and IEEE 754: a binary64
+-- pattern whose exponent field is all ones is an infinity where its fraction is 0, and else a NaN, of either sign and of any payload. Assumes nothing.
+use Prim.Native.Nat.{ℕ, zero, suc, _+_, _/_, _%_, _^_}
+use mathlib.Core.Path.{_≡_}
+use mathlib.Core.Logic.{_⊎_}
+use mathlib.Core.List.{List}
+use mathlib.Core.Bool.{Bool, cond, _||_}
+use lib.Dec.{eqb}
+use Rattle.refusals.specs.Outcome.{answer}
+use Rattle.stamps.specs.Block.{jd1Bits, jd2Bits}
+use Rattle.stamps.specs.Listing.{shownAt}
+
+-- bits 52 to 62 of a pattern
+abbrev pub exponentField : ℕ → ℕ
+exponentField bits = bits / 2 ^ 52 % 2 ^ 11
+
+-- in jd1 or in jd2 of stamp i of n that field is all ones
+abbrev pub Dead : List ℕ → ℕ → ℕ → Type 0
+Dead s n i = (exponentField (jd1Bits s i) ≡ 2047) ⊎ (exponentField (jd2Bits s n i) ≡ 2047)
+
+-- the same as a test
+unfoldable pub isDead : List ℕ → ℕ → ℕ → Bool
+isDead s n i = eqb (exponentField (jd1Bits s i)) 2047 || eqb (exponentField (jd2Bits s n i)) 2047
+
+-- how many of the first k stamps of n are dead
+unfoldable pub deadIn : List ℕ → ℕ → ℕ → ℕ
+deadIn s n zero = 0
+deadIn s n (suc k) = deadIn s n k + cond (isDead s n k) 1 0
+
+-- stamp i of n has a text
+pub record HasText (s : List ℕ) (n i : ℕ) : Type 0 where
+  pub text : List ℕ
+  pub is : shownAt s n i ≡ answer text

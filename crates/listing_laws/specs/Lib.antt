@@ -1,0 +1,3 @@
+-- What the theorems of a listing speak of: line ends, and dead stamps.
+pub mod LineEnds
+pub mod DeadStamp

@@ -1,0 +1,2 @@
+-- The laws of going on with an outcome.
+pub mod Onward

@@ -1,0 +1,104 @@
+-- What the customer's recorders need of GPS to TAI: one instant that the GPS recorder and the TAI recorder stamp to e ps comes out within 10 + e ps (0.63 microseconds and e ps
+-- where the smaller part is a modified Julian date), and the order of stamps that share their larger part is kept. Assumes nothing.
+use mathlib.Core.Path.{_≡_, sym, ap, _∙_, subst}
+use Prim.Native.Nat.{ℕ, _+_, _*_, _≤_}
+use native.Mathlib.Nat.{mul-le-mul-right, mul-left-comm, one-mul, add-mul}
+use native.Mathlib.Omega.{arith}
+use mathlib.Core.Bool.{Bool, true, false}
+use lib.Dec.{T}
+use lib.Ieee.{Float, binary64, fits, round, add, lt, le, eq}
+use lib.Ieee.Scale.{finite}
+use Rattle.floats.specs.Whole.{abs}
+use Rattle.rounding.specs.Value.{Val, L}
+use Rattle.rounding.proofs.Value.{L-pos, add-rounds}
+use Rattle.rounding.proofs.Compare.{le-says}
+use Rattle.rounding.proofs.Own.{own, own-val}
+use Rattle.rounding.proofs.Bound.{rounds-mono}
+use Rattle.refusals.specs.Outcome.{answer}
+use Rattle.julian.specs.declared.JulianDate.{JulianDate}
+use Rattle.scales.specs.SmallerPart.{firstIsLarger}
+use Rattle.scales.specs.Formulas.{plus, gpsDays}
+use Rattle.scales.specs.Conversions.{gps-tai, offsetOf, answerOf}
+use Rattle.scales.specs.Refusals.{finiteParts}
+use Rattle.scale_laws.specs.Ranges.{Held, Practical, Modified, HalfDay}
+use Rattle.scale_laws.specs.Picoseconds.{boundOf}
+use Rattle.scale_laws.specs.Meaning.{day, Apart, Means, taiOverGps, meaning}
+use Rattle.scale_laws.specs.Recorders.{NotLater}
+use Rattle.scales.proofs.Outcomes.{and-left, and-right, converted-is}
+use Rattle.scales.proofs.SmallerPart.{mapAs, map-is}
+use Rattle.scale_laws.proofs.Constants.{gps-about}
+use Rattle.scale_laws.proofs.Meant.{worth-unique, practical, modified}
+
+-- ---- one instant
+no-offset : HalfDay (offsetOf gps-tai)
+unfolding offsetOf fits le lt eq abs round
+no-offset = (tt, tt)
+
+-- t is d + 19 s to e ps, and u is d + 19 s to c ps: so u is t to c + e ps
+nineteen : {d t u : JulianDate} (c e : ℕ) → Means e taiOverGps d t → Means c taiOverGps d u → Apart (c + e) t u
+nineteen c e v w =
+    let o = worth-unique (v .from) (w .from) in
+    record {
+      p = v .p';
+      n = v .n';
+      p' = w .p';
+      n' = w .n';
+      from = v .to;
+      to = w .to;
+      over = high (v .p) (v .n) (v .p') (v .n') (w .p) (w .n) (w .p') (w .n') L (c * L) (e * L) (seconds c) (seconds e) bound o (v .under) (w .over);
+      under = low (v .p) (v .n) (v .p') (v .n') (w .p) (w .n) (w .p') (w .n') L (c * L) (e * L) (seconds c) (seconds e) bound o (v .over) (w .under);
+    }
+  where
+    seconds : (k : ℕ) → k * (86400 * L) ≡ 86400 * (k * L)
+    seconds k = mul-left-comm k 86400 L
+
+    bound : (c + e) * (1 * L) ≡ c * L + e * L
+    bound = ap (λ (z : ℕ). (c + e) * z) (one-mul L) ∙ add-mul c e L
+
+    high : (p n p' n' a b a' b' L x y : ℕ) {x' y' z : ℕ} → x' ≡ 86400 * x → y' ≡ 86400 * y → z ≡ x + y → p + b ≡ a + n → day * (86400 * n' + 86400 * p + 19 * L) ≤ day * (86400 * p' + 86400 * n + 0) + y'
+        → day * (86400 * a' + 86400 * b + 0) ≤ day * (86400 * b' + 86400 * a + 19 * L) + x' → day * (1 * a' + 1 * n' + 0) ≤ day * (1 * b' + 1 * p' + 0) + z
+    high p n p' n' a b a' b' L x y e f g o h k = omega arith
+
+    low : (p n p' n' a b a' b' L x y : ℕ) {x' y' z : ℕ} → x' ≡ 86400 * x → y' ≡ 86400 * y → z ≡ x + y → p + b ≡ a + n → day * (86400 * p' + 86400 * n + 0) ≤ day * (86400 * n' + 86400 * p + 19 * L) + y'
+        → day * (86400 * b' + 86400 * a + 19 * L) ≤ day * (86400 * a' + 86400 * b + 0) + x' → day * (1 * b' + 1 * p' + 0) ≤ day * (1 * a' + 1 * n' + 0) + z
+    low p n p' n' a b a' b' L x y e f g o h k = omega arith
+
+-- d by GPS and t by TAI stamp one instant to e ps, t = d + 19 s: then gps_to_tai answers for d a date within 10 + e ps of t
+pub one-instant : (e : ℕ) (d t : JulianDate) → Practical d → Means e taiOverGps d t → (u : JulianDate) × (answerOf gps-tai d ≡ answer u) × Apart (10 + e) t u
+unfolding meaning boundOf
+one-instant e d t r v = let m = practical gps-tai d r no-offset in (m .date, m .is, nineteen 10 e v (m .means))
+
+-- the same where the smaller part is a modified Julian date: 0.63 microseconds and e ps
+pub one-instant-modified : (e : ℕ) (d t : JulianDate) → Modified d → Means e taiOverGps d t → (u : JulianDate) × (answerOf gps-tai d ≡ answer u) × Apart (628643 + e) t u
+unfolding meaning boundOf
+one-instant-modified e d t r v = let m = modified gps-tai d r no-offset in (m .date, m .is, nineteen 628643 e v (m .means))
+
+-- ---- the order
+adds-in-order : (x y k : Float) → T (fits binary64 x) → T (fits binary64 y) → finite x ≡ true → finite y ≡ true → {q m : ℕ} → Val k q m L → T (le x y) → T (le (add binary64 x k) (add binary64 y k))
+adds-in-order x y k f g hx hy {q} {m} w l =
+    let o = own-val x (own x f (subst T (sym hx) tt)) in
+    let o' = own-val y (own y g (subst T (sym hy) tt)) in
+    rounds-mono L-pos L-pos (wide _ _ _ _ (le-says L-pos o o' l)) (add-rounds binary64 L-pos o w) (add-rounds binary64 L-pos o' w)
+  where
+    wide : (p n p' n' : ℕ) → p + n' ≤ p' + n → (p + q) * L + (n' + m) * L ≤ (p' + q) * L + (n + m) * L
+    wide p n p' n' h = let s : (p + n') * L ≤ (p' + n) * L = mul-le-mul-right L h in simp add-mul (omega (arith, simp add-mul at s))
+
+-- two stamps whose larger part is the same and stands in the same place, the first not later: nor is its answer
+pub order-kept : (b : Bool) (d d' : JulianDate) → Held d → Held d' → finiteParts d ≡ true → finiteParts d' ≡ true → firstIsLarger d ≡ b → firstIsLarger d' ≡ b → NotLater b d d'
+    → (u : JulianDate) × (u' : JulianDate) × (answerOf gps-tai d ≡ answer u) × (answerOf gps-tai d' ≡ answer u') × NotLater b u u'
+unfolding finiteParts answerOf plus
+order-kept b d d' f f' h h' e e' l =
+    (mapAs (plus gpsDays) d b, mapAs (plus gpsDays) d' b, is d h b e, is d' h' b e', go b l)
+  where
+    one : (d : JulianDate) → finiteParts d ≡ true → finite (d .jd1) ≡ true
+    one d h = and-left (finite (d .jd1)) (finite (d .jd2)) h
+
+    two : (d : JulianDate) → finiteParts d ≡ true → finite (d .jd2) ≡ true
+    two d h = and-right (finite (d .jd1)) (finite (d .jd2)) h
+
+    is : (d : JulianDate) → finiteParts d ≡ true → (b : Bool) → firstIsLarger d ≡ b → answerOf gps-tai d ≡ answer (mapAs (plus gpsDays) d b)
+    is d h b e = converted-is (plus gpsDays) d (one d h) (two d h) ∙ ap answer (map-is (plus gpsDays) d ∙ ap (mapAs (plus gpsDays) d) e)
+
+    go : (b : Bool) → NotLater b d d' → NotLater b (mapAs (plus gpsDays) d b) (mapAs (plus gpsDays) d' b)
+    go true l = record { larger = l .larger; smaller = adds-in-order (d .jd2) (d' .jd2) gpsDays (f .1) (f' .1) (two d h) (two d' h') (gps-about .val) (l .smaller) }
+    go false l = record { larger = l .larger; smaller = adds-in-order (d .jd1) (d' .jd1) gpsDays (f .0) (f' .0) (one d h) (one d' h') (gps-about .val) (l .smaller) }

@@ -1,0 +1,90 @@
+-- UTC TO TAI IS FINITE, by the table and for all floats: where it gives a date, both parts are finite. The larger part stays, and the numbers that are
+-- added to it are far below 2 ^ 969 in size, so that a finite part stays finite. Assumes nothing.
+use mathlib.Core.Path.{_≡_, refl, sym, subst}
+use mathlib.Core.Bool.{Bool, true, false}
+use mathlib.Core.Logic.{inl, inr}
+use Prim.Native.Nat.{ℕ, _*_, _^_, _≤_}
+use native.Mathlib.Nat.{le-trans, mul-le-mul-right}
+use lib.Dec.{lit≤}
+use lib.IntN.{pos}
+use lib.Ieee.{Float, binary64}
+use lib.Ieee.Fits.{add-fits, sub-fits}
+use lib.Ieee.Scale.{finite}
+use Rattle.rounding.specs.Value.{L}
+use Rattle.rounding.proofs.Value.{L-is, val-finite-true}
+use Rattle.rounding.proofs.Own.{own, own-val}
+use Rattle.rounding.proofs.Bound.{within-more}
+use Rattle.rounding.proofs.Sizes.{Size}
+use Rattle.day_number.specs.DayNumber.{accepted, dayOf}
+use Rattle.day_number.specs.Ranges.{InDays}
+use Rattle.day_number.proofs.JulianRange.{accepted-finite}
+use Rattle.julian.specs.declared.JulianDate.{JulianDate}
+use Rattle.tai_utc.specs.declared.DayOffsets.{DayOffsets}
+use Rattle.tai_utc.specs.Table.{fixed}
+use Rattle.scale_laws.specs.Ranges.{Held}
+use Rattle.scale_laws.proofs.Shifts.{Small, added, taken-from, mjd-small}
+use Rattle.utc_scales.specs.LargerPart.{partsOf, putAs, putBack, placed, changeSmaller}
+use Rattle.utc_scales.specs.Dates.{offsetsOf}
+use Rattle.utc_scales.specs.UtcTai.{taiFromMidnight, taiFraction, utcToTai}
+use Rattle.utc_scale_laws.specs.Claims.{Holds, answers, SixOrOne, FiniteParts}
+use Rattle.utc_scales.proofs.Midnights.{midnight, offsets-early}
+use Rattle.utc_scales.proofs.Steps.{tai-no-date, tai-no-offsets, tai-of-day}
+use Rattle.utc_scale_laws.proofs.Outcomes.{holds-answer, holds-refusal, holds-onward}
+use Rattle.utc_scale_laws.proofs.Days.{dateIn, Kind, outside, before, valid, kind, offsets-answered}
+use Rattle.utc_scale_laws.proofs.Refusals.{Fits, parts-fit}
+use Rattle.utc_scale_laws.proofs.OffsetSizes.{Offsets, offsets-size}
+use Rattle.utc_scale_laws.proofs.DaySizes.{midnight-size, since-midnight-size}
+
+-- 2 ^ k is at most 2 ^ 969: what it bounds moves no finite float to an infinity
+pub size-small : (k : ℕ) {x : Float} → 2 ^ k ≤ 2 ^ 969 → Size x k → Small x
+size-small k h s =
+    let w = within-more (le-trans (mul-le-mul-right L h) top) s in
+    record { p = w .p; n = w .n; val = w .val; high = w .high; low = w .low }
+  where
+    top : 2 ^ 969 * L ≤ 2 ^ 2043
+    top = subst (λ (l : ℕ). 2 ^ 969 * l ≤ 2 ^ 2043) (sym L-is) (lit≤ tt)
+
+kept-finite : (x y : Float) → Fits x → accepted x y ≡ true → finite x ≡ true
+kept-finite x y f a = val-finite-true (own-val x (own x f (accepted-finite x y a .0)))
+
+-- ---- the smaller part
+from-midnight-finite : (x y : Float) → Fits x → Fits y → accepted x y ≡ true → InDays (dayOf x y .day) → (o : DayOffsets) → Offsets o
+    → finite (taiFromMidnight x (midnight (dayOf x y .day)) o (dayOf x y .fraction)) ≡ true
+unfolding taiFromMidnight
+from-midnight-finite x y f g a r o z =
+    added (size-small 37 (lit≤ tt) (since-midnight-size x y f g a o z)) _ (add-fits binary64 _ _)
+    (added (size-small 31 (lit≤ tt) (midnight-size (dayOf x y .day) r)) _ (sub-fits binary64 _ _) (taken-from mjd-small x f (kept-finite x y f a)))
+
+-- x is finite, and so is the other part in TAI
+record Both (x z : Float) : Type 0 where
+  kept : finite x ≡ true
+  given : finite z ≡ true
+
+tai-finite : (x y : Float) → Fits x → Fits y → Holds (Both x) SixOrOne (taiFraction fixed x y)
+unfolding offsetsOf
+tai-finite x y f g = go (kind x y f g)
+  where
+    go : Kind x y → Holds (Both x) SixOrOne (taiFraction fixed x y)
+    go (outside a e) = holds-refusal 6 (tai-no-date x y 6 e fixed) (inl refl)
+    go (before a e b v) = holds-refusal 1 (tai-no-offsets fixed x y (dayOf x y) e 1 (offsets-early fixed (dayOf x y .day) v)) (inr refl)
+    go (valid a e b v r) =
+        let t = dateIn x y in
+        let o = offsets-answered fixed (dayOf x y .day) v in
+        let z = offsets-size (t .year) (pos (t .month)) (pos (t .day)) (o .0) (o .1) in
+        holds-answer _ (tai-of-day fixed x y (dayOf x y) e r (o .0) (o .1))
+        (record { kept = kept-finite x y f a; given = from-midnight-finite x y f g a r (o .0) z })
+
+-- ---- THE THEOREM
+put-finite : (d : JulianDate) (x : Float) → Both (partsOf d .larger) x → FiniteParts (putBack (partsOf d) x)
+unfolding putBack
+put-finite d x h = go (partsOf d .first)
+  where
+    go : (b : Bool) → FiniteParts (putAs b (partsOf d .larger) x)
+    go true = (h .kept, h .given)
+    go false = (h .given, h .kept)
+
+pub utc-to-tai-never-infinite : (d : JulianDate) → Held d → Holds FiniteParts SixOrOne (utcToTai fixed d)
+unfolding utcToTai changeSmaller placed
+utc-to-tai-never-infinite d h =
+    let p = parts-fit d h in
+    holds-onward _ (tai-finite (partsOf d .larger) (partsOf d .smaller) (p .0) (p .1)) (λ x w. answers (put-finite d x w))

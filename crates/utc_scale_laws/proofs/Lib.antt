@@ -1,0 +1,18 @@
+-- The theorems of the conversions that read the table of TAI-UTC: `Refusals` which refusals occur, `NotFinite` that what is not finite is refused, `KeptPart` that
+-- the larger part is handed back, `FiniteTai` that UTC to TAI is finite for all floats, `Ut1Decided` and `OneDay` which outcome UTC to UT1 has for all floats,
+-- `FiniteDates` that small dates have finite answers; and `AllTwenty`, no NaN and no infinity in any of the twenty conversions.
+pub mod Outcomes
+pub mod Days
+pub mod Decided
+pub mod Refusals
+pub mod NotFinite
+pub mod KeptPart
+pub mod OffsetSizes
+pub mod DaySizes
+pub mod FiniteTai
+pub mod EitherOrder
+pub mod Ut1Decided
+pub mod OneDay
+pub mod FiniteDates
+pub mod Cases
+pub mod AllTwenty
