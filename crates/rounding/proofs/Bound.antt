@@ -13,9 +13,7 @@ use lib.Ieee.Exact.{HasValue}
 use lib.Ieee.Order.{drop, kept, round-mono}
 use lib.Ieee.Scale.{grid, round-same}
 use Rattle.rounding.specs.Value.{Signed, Val, Rounds, L}
-use Rattle.rounding.proofs.Value.{L-pos}
 use Rattle.rounding.proofs.Signed.{dist, dist-hi, dist-flip, signed-le, signed-scale}
-use Rattle.rounding.proofs.Compare.{le-says}
 use Rattle.rounding.proofs.Grid.{grid-le, grid-ge}
 use Rattle.rounding.proofs.Near.{rounds-has}
 use Rattle.rounding.proofs.Own.{Rep, rep-flip, val-rep, val-small}
@@ -275,7 +273,3 @@ rounds-mono {f} {z} {w} {P} {N} {D} {Q} {M} {E} F G h r k = subst₂ (λ (x y : 
         let y : b * D + Q * D ≡ M * D = signed-scale true b Q M D j in
         let u : a * E ≡ 0 = omega arith in
         let v : b * D ≡ 0 = omega arith in zeros-le f a D b E F G (eq-of-mul-eq-mul-right E G a 0 (u ∙ sym (zero-mul E))) (eq-of-mul-eq-mul-right D F b 0 (v ∙ sym (zero-mul D)))
-
--- the same, over the values
-pub rounds-order : {z w : Float} {P N D Q M E p n q m : ℕ} → 0 < D → 0 < E → P * E + M * D ≤ Q * D + N * E → Rounds binary64 z P N D → Rounds binary64 w Q M E → Val z p n L → Val w q m L → p + m ≤ q + n
-rounds-order F G h r k v w = le-says L-pos v w (rounds-mono F G h r k)

@@ -9,10 +9,8 @@ use lib.Ieee.{Float, fin, binary64, add, sub, div, lt, fits, ofBits}
 use Rattle.floats.specs.Whole.{abs}
 use Rattle.rounding.specs.Value.{Val, L}
 use Rattle.rounding.proofs.Value.{div-rounds}
-use Rattle.rounding.proofs.Signed.{dist}
 use Rattle.rounding.proofs.Exact.{sub-exact}
 use Rattle.rounding.proofs.Bound.{Enclosed, rounds-between}
-use Rattle.rounding.proofs.Relative.{RelAny, div-relative}
 use Rattle.rounding.proofs.TwoSumFloat.{Exact, two-sum-error, two-sum-under}
 
 -- ---- the floats, and their values: (p - n) / d with p, n and d as the law asks for them
@@ -68,11 +66,6 @@ one-fits = tt
 
 third-between : Enclosed (div binary64 one-float three-float) 0 0 L 0
 third-between = rounds-between (lit< tt) zero-fits one-fits zero-val one-val (omega arith) (omega arith) (div-rounds binary64 (lit< tt) (lit< tt) (lit< tt) one-whole three-whole)
-
--- ---- and differs from 1 / 3 by at most 2 ^ -53 of it
-third-relative : RelAny (div binary64 one-float three-float) (1 * 1) (0 * 1) (1 * 3) (dist 1 0 * 1 * L)
-unfolding L
-third-relative = div-relative (lit< tt) (lit< tt) (lit< tt) (lit< tt) (lit≤ tt) one-whole three-whole
 
 -- ---- 3 + 0.1 is rounded, and two-sum's error is what it lost
 three-fits : T (fits binary64 three-float)

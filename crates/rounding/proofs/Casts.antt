@@ -1,4 +1,4 @@
--- Casts between a float and an integer z, with z as the pair (plusZ z, minusZ z): an integer of at most 2 ^ 53 is exact as a float, any other is rounded once, and
+-- Casts between a float and an integer z, with z as the pair (plusZ z, minusZ z): an integer of at most 2 ^ 53 is exact as a float, and
 -- a float cast to an integer loses its fraction. Sums and differences of integers, over pairs. Assumes nothing.
 use mathlib.Core.Path.{_≡_, refl, sym, subst}
 use Prim.Native.Nat.{ℕ, zero, suc, _+_, _-_, _*_, _/_, _%_, _^_, _≤_, _<_, min}
@@ -9,20 +9,14 @@ use lib.IntN.{ℤ, pos, negsuc, negℤ, subℕ, _+ℤ_, _-ℤ_}
 use lib.Signed.{mag}
 use lib.Dec.{T, ltb, ltb→lt, nltb→le}
 use mathlib.Core.Logic.{_⊎_, inl, inr}
-use lib.Ieee.{Float, nan, inf, fin, Format, binary64, up, down, ofInt, toSigned}
+use lib.Ieee.{Float, nan, inf, fin, binary64, up, down, ofInt, toSigned}
 use lib.Ieee.Fits.{down-pos}
 use lib.Ieee.Back.{round-whole}
 use lib.Ieee.Nearest.{div-same}
 use lib.Ieee.Exact.{HasValue}
-use Rattle.rounding.specs.Value.{Signed, Val, Rounds}
+use Rattle.rounding.specs.Value.{Signed, Val}
 pub use Rattle.rounding.specs.Value.{plusZ, minusZ}
 use Rattle.rounding.proofs.Signed.{signed-lt}
-
--- an integer as a float: rounded once
-pub ofInt-rounds : (f : Format) (z : ℤ) → Rounds f (ofInt f z) (plusZ z) (minusZ z) 1
-unfolding ofInt
-ofInt-rounds f (pos a) = record { sign = false; size = a; eq = refl; is = omega arith }
-ofInt-rounds f (negsuc a) = record { sign = true; size = suc a; eq = refl; is = omega arith }
 
 -- exact, up to 2 ^ 53
 pub ofInt-val : (z : ℤ) → plusZ z ≤ 2 ^ 53 → minusZ z ≤ 2 ^ 53 → Val (ofInt binary64 z) (plusZ z) (minusZ z) 1

@@ -6,10 +6,10 @@ use native.Mathlib.Nat.{le-of-eq, le-of-lt, le-antisymm, zero-mul, mul-pos}
 use native.Mathlib.Omega.{arith}
 use mathlib.Core.Bool.{Bool, true, false, not, _&&_, _||_}
 use lib.Dec.{T, ltb, leb, eqb, eqb→eq, ltb→lt, lt→ltb, nltb→le, leb→le, le→leb}
-use lib.Ieee.{Float, nan, inf, fin, up, down, below, level, lt, eq, le, ne}
+use lib.Ieee.{Float, nan, inf, fin, up, down, below, level, lt, eq, le}
 use lib.Ieee.Fits.{down-pos, and-l, and-r, and-i, eq→eqb}
 use lib.Ieee.Exact.{HasValue}
-use borrow.Author.Tests.{ltb-true, ltb-false, leb-true, leb-false, eqb-true, eqb-false, not-true, not-false}
+use borrow.Author.Tests.{ltb-true, ltb-false, leb-true, leb-false}
 use Rattle.rounding.specs.Value.{Signed, Val}
 use Rattle.rounding.proofs.Fractions.{order, order-lt, plus, cross-l, cross-r}
 
@@ -103,7 +103,7 @@ eq-has (fin u a e) (fin v b d) s t A B D p n q m E h k i j =
     (cross-l (a * up e) (down e) (down d) A D (h .1)) (cross-r (b * up d) (down e) (down d) B D (k .1)) u v
     (subst (λ (z : Bool). Signed z A p n) (sym (h .0)) i) (subst (λ (z : Bool). Signed z B q m) (sym (k .0)) j)
 
--- x < y, x = y, x ≤ y and x ≠ y, by the values
+-- x < y, x = y and x ≤ y, by the values
 pub lt-val : {x y : Float} {p n q m D : ℕ} → 0 < D → Val x p n D → Val y q m D → lt x y ≡ ltb (p + m) (q + n)
 lt-val {x} {y} {p} {n} {q} {m} {D} E v w = lt-has x y (v .sign) (w .sign) (v .size) (w .size) D p n q m E (v .has) (w .has) (v .is) (w .is)
 
@@ -125,10 +125,6 @@ pub le-val : {x y : Float} {p n q m D : ℕ} → 0 < D → Val x p n D → Val y
 unfolding le
 le-val {x} {y} {p} {n} {q} {m} E v w = ap (λ (b : Bool). b || eq x y) (lt-val E v w) ∙ ap (λ (b : Bool). ltb (p + m) (q + n) || b) (eq-val E v w) ∙ or-is (p + m) (q + n)
 
-pub ne-val : {x y : Float} {p n q m D : ℕ} → 0 < D → Val x p n D → Val y q m D → ne x y ≡ not (eqb (p + m) (q + n))
-unfolding ne
-ne-val E v w = ap not (eq-val E v w)
-
 module _ {x y : Float} {p n q m D : ℕ} (E : 0 < D) (v : Val x p n D) (w : Val y q m D) where
   -- ---- what a test says of the values
   pub lt-true : lt x y ≡ true → p + m < q + n
@@ -143,18 +139,6 @@ module _ {x y : Float} {p n q m D : ℕ} (E : 0 < D) (v : Val x p n D) (w : Val 
   pub le-false : le x y ≡ false → q + n < p + m
   le-false e = leb-false (p + m) (q + n) (sym (le-val E v w) ∙ e)
 
-  pub eq-true : eq x y ≡ true → p + m ≡ q + n
-  eq-true e = eqb-true (p + m) (q + n) (sym (eq-val E v w) ∙ e)
-
-  pub eq-false : eq x y ≡ false → p + m ≡ q + n → ⊥
-  eq-false e = eqb-false (p + m) (q + n) (sym (eq-val E v w) ∙ e)
-
-  pub ne-true : ne x y ≡ true → p + m ≡ q + n → ⊥
-  ne-true e = eqb-false (p + m) (q + n) (not-true (eqb (p + m) (q + n)) (sym (ne-val E v w) ∙ e))
-
-  pub ne-false : ne x y ≡ false → p + m ≡ q + n
-  ne-false e = eqb-true (p + m) (q + n) (not-false (eqb (p + m) (q + n)) (sym (ne-val E v w) ∙ e))
-
   -- ---- the same of a test as a proposition, and back: what the values say of a test
   pub lt-says : T (lt x y) → p + m < q + n
   lt-says t = ltb→lt (p + m) (q + n) (subst T (lt-val E v w) t)
@@ -167,6 +151,3 @@ module _ {x y : Float} {p n q m D : ℕ} (E : 0 < D) (v : Val x p n D) (w : Val 
 
   pub le-show : p + m ≤ q + n → T (le x y)
   le-show h = subst T (sym (le-val E v w)) (le→leb (p + m) (q + n) h)
-
-  pub eq-show : p + m ≡ q + n → T (eq x y)
-  eq-show h = subst T (sym (eq-val E v w)) (eq→eqb h)

@@ -1,4 +1,4 @@
--- A result that the format can hold is exact: where the exact sum, difference or product is a whole number of 2 ^ -k, of at most 2 ^ 53 of them, nothing is
+-- A result that the format can hold is exact: where the exact sum or difference is a whole number of 2 ^ -k, of at most 2 ^ 53 of them, nothing is
 -- rounded. The same for a multiple of 2 ^ i such units, of at most 2 ^ 53 multiples. Assumes nothing.
 use mathlib.Core.Path.{_≡_, sym, ap, _∙_, subst}
 use mathlib.Core.Logic.{_⊎_, inl, inr}
@@ -8,10 +8,10 @@ use native.Mathlib.Omega.{arith}
 use mathlib.Core.Bool.{Bool}
 use lib.Dec.{lit≤, lit<}
 use lib.Pow.{pow-add, pow-pos, pow-lt, pow-mono, shl-lt}
-use lib.Ieee.{Float, binary64, round, add, sub, mul}
+use lib.Ieee.{Float, binary64, round, add, sub}
 use lib.Ieee.Exact.{HasValue, round-exact}
-use Rattle.rounding.specs.Value.{Signed, Val, Rounds}
-use Rattle.rounding.proofs.Value.{add-rounds, sub-rounds, mul-rounds}
+use Rattle.rounding.specs.Value.{Val, Rounds}
+use Rattle.rounding.proofs.Value.{add-rounds, sub-rounds}
 use Rattle.rounding.proofs.Signed.{signed-le}
 
 shift : (i k : ℕ) → k ≤ 1074 → i + 1074 ≡ i + (1074 - k) + k
@@ -60,7 +60,3 @@ add-exact k h u l v w = rounds-exact k h u l (add-rounds binary64 (pow-pos k) v 
 -- (p - n) / 2 ^ k - (q - m) / 2 ^ k
 pub sub-exact : (k : ℕ) {x y : Float} {p n q m : ℕ} → k ≤ 1074 → p + m ≤ n + q + 2 ^ 53 → n + q ≤ p + m + 2 ^ 53 → Val x p n (2 ^ k) → Val y q m (2 ^ k) → Val (sub binary64 x y) (p + m) (n + q) (2 ^ k)
 sub-exact k h u l v w = rounds-exact k h u l (sub-rounds binary64 (pow-pos k) v w)
-
--- (p - n) / 2 ^ i times (q - m) / 2 ^ k
-pub mul-exact : (i k : ℕ) {x y : Float} {p n q m : ℕ} → i + k ≤ 1074 → p * q + n * m ≤ p * m + n * q + 2 ^ 53 → p * m + n * q ≤ p * q + n * m + 2 ^ 53 → Val x p n (2 ^ i) → Val y q m (2 ^ k) → Val (mul binary64 x y) (p * q + n * m) (p * m + n * q) (2 ^ (i + k))
-mul-exact i k {x} {y} {p} {n} {q} {m} h u l v w = rounds-exact (i + k) h u l (subst (λ (d : ℕ). Rounds binary64 (mul binary64 x y) (p * q + n * m) (p * m + n * q) d) (sym (pow-add 2 i k)) (mul-rounds binary64 (pow-pos i) (pow-pos k) v w))

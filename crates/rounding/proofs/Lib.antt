@@ -8,25 +8,25 @@ pub mod Value
 pub mod Unique
 -- Own: every finite f64 is a whole number of units, of at most 53 binary digits and some zeros.
 pub mod Own
--- Exact: where the exact result fits, nothing is rounded: add-exact, sub-exact, mul-exact.
+-- Exact: where the exact result fits, nothing is rounded: add-exact, sub-exact.
 pub mod Exact
--- Bound: rounding keeps the order (rounds-order), and a result lies between any two floats that the exact result lies between.
+-- Bound: a result lies between any two floats that the exact result lies between.
 pub mod Bound
--- Near: the absolute error of add, sub, mul and div is at most a half of 2 ^ j units, where the exact result is below 2 ^ (53 + j) units: add-near, sub-near, product-near, quotient-near.
+-- Near: the absolute error of a rounding is at most a half of 2 ^ j units, where the exact result is below 2 ^ (53 + j) units: rounds-near, add-near, sub-near.
 pub mod Near
 -- Scaled: the absolute error of a product by a constant and of a quotient by a whole number.
 pub mod Scaled
--- Relative: the relative error is at most 2 ^ -53, of add and sub always, of mul and div in the normal range: add-relative, sub-relative, mul-relative, div-relative.
+-- Relative: the relative error of a whole number of units is at most 2 ^ -53: step-relative.
 pub mod Relative
--- Compare: a comparison of floats is the comparison of their values: eq-true, eq-false, ne-true, ne-false, eq-show and the like for < and ≤.
+-- Compare: a comparison of floats is the comparison of their values: lt-val, eq-val and le-val, and what a test says of the values and they of it.
 pub mod Compare
 -- Range: a test such as |x| < 2 ^ k as bounds on the value.
 pub mod Range
--- Casts: an integer as a float (rounded once, ofInt-rounds) and a float as an integer.
+-- Casts: an integer as a float and a float as an integer.
 pub mod Casts
 -- Ints: sums and differences of i64, by the same pairs.
 pub mod Ints
--- Sterbenz: x - y is exact where y / 2 ≤ x ≤ 2 * y (sterbenz).
+-- Sterbenz: what the format holds is rounded to itself (rounds-rep), as is x - y where x is at most twice y (rep-diff).
 pub mod Sterbenz
 -- Compensated: with |b| ≤ |a| and s the rounded sum, (a - s) + b is exactly what the sum lost.
 pub mod Compensated

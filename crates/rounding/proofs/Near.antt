@@ -1,18 +1,18 @@
 -- The absolute error: (P - N) / D of less than 2 ^ (53 + j) units is rounded to a finite value that is off by at most a half of 2 ^ j units, the unit being
--- 1 / L = 2 ^ -1074. For sums and differences, for products and for quotients; Scaled has the forms for a constant factor. Assumes nothing.
+-- 1 / L = 2 ^ -1074. For any fraction, and for sums and differences; Scaled has the forms for a constant factor. Assumes nothing.
 use mathlib.Core.Path.{_≡_, sym, ap, _∙_, subst}
 use Prim.Native.Nat.{ℕ, _+_, _*_, _^_, _≤_, _<_}
-use native.Mathlib.Nat.{le-trans, le-of-eq, lt-of-le-of-lt, lt-of-lt-of-le, mul-lt-mul-of-pos-right, add-mul, mul-assoc, mul-comm, le-of-mul-le-mul-right, mul-pos}
+use native.Mathlib.Nat.{le-trans, le-of-eq, lt-of-le-of-lt, lt-of-lt-of-le, mul-lt-mul-of-pos-right, add-mul, mul-assoc, mul-comm, le-of-mul-le-mul-right}
 use native.Mathlib.Omega.{arith}
 use mathlib.Core.Bool.{Bool, true, false}
 use lib.Pow.{pow-lt}
-use lib.Ieee.{Float, Format, binary64, prec, low, round, add, sub, mul, div}
+use lib.Ieee.{Float, Format, binary64, prec, low, round, add, sub}
 use lib.Ieee.Fits.{round-is}
 use lib.Ieee.Exact.{HasValue, units-val}
 use lib.Ieee.Order.{drop, kept}
 use lib.Ieee.Scale.{grid, overflow}
 use Rattle.rounding.specs.Value.{Signed, Val, Rounds, L}
-use Rattle.rounding.proofs.Value.{add-rounds, sub-rounds, mul-rounds, div-rounds, L-pos}
+use Rattle.rounding.proofs.Value.{add-rounds, sub-rounds, L-pos}
 use Rattle.rounding.proofs.Signed.{signed-lt, signed-scale}
 use Rattle.rounding.proofs.Grid.{Half, grid-error, grid-bound}
 
@@ -52,15 +52,6 @@ pub rounds-near : (j : ℕ) {z : Float} {P N D : ℕ} → 0 < D → j ≤ 2044 �
 rounds-near j {z} {P} {N} {D} E b u l r =
     let k = round-error (r .size) D j E b (signed-lt (r .sign) (r .size * L) (P * L) (N * L) (2 ^ (53 + j) * D) (signed-scale (r .sign) (r .size) P N L (r .is)) u l) in
     near-of (r .sign) z (r .size) P N D j (grid binary64 (r .size) D) (rounds-has r (k .0)) (r .is) (k .1)
-
--- (p - n) / D times (q - m) / E, and (p - n) / D by B / E above zero
-pub product-near : (j : ℕ) {x y : Float} {p n q m D E : ℕ} → 0 < D → 0 < E → j ≤ 2044 → (p * q + n * m) * L < (p * m + n * q) * L + 2 ^ (53 + j) * (D * E) → (p * m + n * q) * L < (p * q + n * m) * L + 2 ^ (53 + j) * (D * E)
-    → Val x p n D → Val y q m E → Near (mul binary64 x y) (p * q + n * m) (p * m + n * q) (D * E) j
-product-near j F G b u l v w = rounds-near j (mul-pos F G) b u l (mul-rounds binary64 F G v w)
-
-pub quotient-near : (j : ℕ) {x y : Float} {p n B D E : ℕ} → 0 < D → 0 < E → 0 < B → j ≤ 2044 → p * E * L < n * E * L + 2 ^ (53 + j) * (D * B) → n * E * L < p * E * L + 2 ^ (53 + j) * (D * B)
-    → Val x p n D → Val y B 0 E → Near (div binary64 x y) (p * E) (n * E) (D * B) j
-quotient-near j F G H b u l v w = rounds-near j (mul-pos F H) b u l (div-rounds binary64 F G H v w)
 
 -- ---- sums of values that are whole numbers of units
 -- z is (p - n) / L, and differs from (P - N) / L by at most 2 ^ j / 2 units

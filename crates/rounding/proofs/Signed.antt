@@ -79,24 +79,6 @@ dist-flip p n = omega arith
 pub dist-zero : (p : ℕ) → dist p 0 ≡ p
 dist-zero p = omega arith
 
--- p - n is |p - n| with a sign
-pub signed-side : (p n : ℕ) → (s : Bool) × Signed s (dist p n) p n
-signed-side p n = pick (leb n p) (leb→le n p) (nleb→lt n p)
-  where
-    pick : (b : Bool) → (T b → n ≤ p) → (T (not b) → p < n) → (s : Bool) × Signed s (dist p n) p n
-    pick true h _ = (false, dist-hi p n (h tt))
-    pick false _ h = (true, dist-lo p n (le-of-lt (h tt)))
-
--- |p * c - n * c| = |p - n| * c, and |(p - n) * (q - m)| = |p - n| * |q - m|
-pub dist-scale : (p n c : ℕ) → dist (p * c) (n * c) ≡ dist p n * c
-dist-scale p n c = let i = signed-side p n in signed-dist (i .0) (dist p n * c) (p * c) (n * c) (signed-scale (i .0) (dist p n) p n c (i .1))
-
-pub dist-times : (p n q m : ℕ) → dist (p * q + n * m) (p * m + n * q) ≡ dist p n * dist q m
-dist-times p n q m =
-    let i = signed-side p n in
-    let j = signed-side q m in
-    signed-dist (unlike (i .0) (j .0)) (dist p n * dist q m) (p * q + n * m) (p * m + n * q) (signed-times (i .0) (j .0) (dist p n) (dist q m) p n q m (i .1) (j .1))
-
 -- ---- |p - n| ≤ A and |q - m| ≤ B make |(p - n) * (q - m)| ≤ A * B, without the absolute values
 up : (a q m A B : ℕ) → a ≤ A → q ≤ m + B → a * q ≤ a * m + A * B
 up a q m A B h l = le-trans (mul-le-mul (le-refl a) l) (le-trans (le-of-eq (mul-add a m B)) (more (a * m) (mul-le-mul h (le-refl B))))

@@ -8,7 +8,6 @@ use native.Mathlib.Omega.{arith}
 use mathlib.Core.Bool.{Bool, true, false, not}
 use lib.Dec.{T, leb, leb→le, nleb→lt}
 use lib.Pow.{pow-add}
-use Rattle.rounding.specs.Value.{Signed}
 use Rattle.rounding.proofs.Signed.{dist-zero, signed-dist, dist-shift, dist-lo, dist-up, dist-le, dist-flip}
 pub use Rattle.rounding.proofs.Signed.{dist, dist-hi}
 use Rattle.rounding.proofs.Own.{Rep, rep-flip}

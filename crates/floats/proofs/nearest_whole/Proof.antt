@@ -12,7 +12,6 @@ use mir.Syntax.{w64}
 use mir.Val.{toZ}
 use mir.ValLaws.{toZ-pos, toZ-ofZ}
 use borrow.Author.Needs.{needs}
-use Rattle.floats.specs.declared.NearestWhole.{NearestWhole}
 use Rattle.floats.specs.Whole.{half, toWhole, downward}
 use Rattle.floats.specs.NearestWhole.{nearestWhole}
 use Rattle.floats.proofs.NearestWholes.{large-is, in-cast, Digits, digits, small-is}
