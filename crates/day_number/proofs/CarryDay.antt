@@ -8,6 +8,7 @@ use native.Mathlib.Omega.{arith}
 use lib.Dec.{T, leb, leb→le, nleb→lt, lit≤}
 use lib.Pow.{pow-pos}
 use lib.Ieee.{Float, binary64, add, sub, lt, fits}
+use Rattle.floats.specs.Whole.{nought, one}
 use Rattle.rounding.specs.Value.{Val, L}
 use Rattle.rounding.proofs.Value.{L-pos, val-move, val-scale, val-unscale}
 use Rattle.rounding.proofs.Exact.{add-exact, sub-exact}
@@ -18,7 +19,7 @@ use Rattle.rounding.proofs.Signed.{dist}
 use Rattle.rounding.proofs.Own.{val-rep}
 use Rattle.day_number.specs.declared.Kahan.{Kahan}
 use Rattle.day_number.specs.declared.Carried.{Carried}
-use Rattle.day_number.specs.DayNumber.{c-one, c-zero, c-minus-eps-4, c-minus-eps-2, kahanOf, carryDay, carryEnd}
+use Rattle.day_number.specs.DayNumber.{c-minus-eps-4, c-minus-eps-2, kahanOf, carryDay, carryEnd}
 use Rattle.day_number.proofs.Units.{G, W, L-W, W-pos, one-L, minus-eps-4-L, one-G, nought-G, minus-eps-2-G, minus-eps-4}
 
 -- of a fraction z = p - n: `up` days carried
@@ -42,7 +43,7 @@ four-W : 2 ^ 1022 ≡ 4 * W
 unfolding W
 four-W = refl
 
-pub less-one : (z : Float) (p n : ℕ) → Val z p n L → n ≤ p → p < n + 13510798882111488 * W → lt (sub binary64 z c-one) c-minus-eps-4 ≡ false → ⊥
+pub less-one : (z : Float) (p n : ℕ) → Val z p n L → n ≤ p → p < n + 13510798882111488 * W → lt (sub binary64 z one) c-minus-eps-4 ≡ false → ⊥
 less-one z p n v h k test =
     let t = sub-near 1022 (lit≤ tt) (subst (λ (x : ℕ). p + 0 < n + L + x) (sym two-L) (omega (arith, L-W))) (subst (λ (x : ℕ). n + L < p + 0 + x) (sym two-L) (omega (arith, L-W))) v one-L in
     let e : 0 + t .n ≤ t .p + W = lt-false L-pos (t .val) minus-eps-4-L test in
@@ -54,9 +55,9 @@ less-one z p n v h k test =
 
 low-case : (κ : Kahan) (z : Float) (p n : ℕ) → Val z p n L → n ≤ p → p < n + 13510798882111488 * W → Settled (carryDay κ z) z p n
 unfolding carryDay
-low-case κ z p n v h k = go (lt (sub binary64 z c-one) c-minus-eps-4) refl _
+low-case κ z p n v h k = go (lt (sub binary64 z one) c-minus-eps-4) refl _
   where
-    go : (u : Bool) → lt (sub binary64 z c-one) c-minus-eps-4 ≡ u → (r : Carried) → Settled (cond u (record { carry = 0; fraction = z }) r) z p n
+    go : (u : Bool) → lt (sub binary64 z one) c-minus-eps-4 ≡ u → (r : Carried) → Settled (cond u (record { carry = 0; fraction = z }) r) z p n
     go true test r = kept z p n v h (omega (arith, L-W))
     go false test r = absurd (less-one z p n v h k test)
 
@@ -91,13 +92,13 @@ pub cancel : (a b : ℕ) → a * (2 * W) < b * (2 * W) → a < b
 cancel a b h = lt-of-mul-lt-mul-right (2 * W) h
 
 -- from 1 to 2 the difference is exact
-pub minus-one : (z : Float) (p n : ℕ) → T (fits binary64 z) → Val z p n L → n + L ≤ p → p < n + 2 * L → Val (sub binary64 z c-one) p (n + L) L
+pub minus-one : (z : Float) (p n : ℕ) → T (fits binary64 z) → Val z p n L → n + L ≤ p → p < n + 2 * L → Val (sub binary64 z one) p (n + L) L
 minus-one z p n f v h k = go (to-grid z p n f v (omega (arith, L-W)))
   where
-    go : (d : ℕ) × (p ≡ n + d * (2 * W)) × Val z d 0 G → Val (sub binary64 z c-one) p (n + L) L
+    go : (d : ℕ) × (p ≡ n + d * (2 * W)) × Val z d 0 G → Val (sub binary64 z one) p (n + L) L
     go (d, e, x) =
         let b : d < 2 * G = cancel d (2 * G) (omega (arith, L-W)) in
-        val-move (back (sub binary64 z c-one) p n d e (val-move (sub-exact 53 (lit≤ tt) (omega arith) (omega arith) x one-G) (omega arith))) (plain p n L)
+        val-move (back (sub binary64 z one) p n d e (val-move (sub-exact 53 (lit≤ tt) (omega arith) (omega arith) x one-G) (omega arith))) (plain p n L)
       where
         plain : (p n l : ℕ) → p + (n + l) ≡ p + (n + 1 * l)
         plain p n l = omega arith
@@ -109,9 +110,9 @@ record Ended (d : ℕ) (r : Carried) : Type 0 where
 
 end : (f : Float) (d : ℕ) → Val f d G G → G ≤ d → (r : Carried) → r ≡ carryEnd f → Ended d r
 unfolding carryEnd
-end f d v h r e = subst (λ (r : Carried). Ended d r) (sym e) (go (lt c-minus-eps-2 f) refl (lt c-zero f) refl)
+end f d v h r e = subst (λ (r : Carried). Ended d r) (sym e) (go (lt c-minus-eps-2 f) refl (lt nought f) refl)
   where
-    go : (a : Bool) → lt c-minus-eps-2 f ≡ a → (b : Bool) → lt c-zero f ≡ b → Ended d (cond a (record { carry = 1; fraction = cond b f c-zero }) (record { carry = 0; fraction = f }))
+    go : (a : Bool) → lt c-minus-eps-2 f ≡ a → (b : Bool) → lt nought f ≡ b → Ended d (cond a (record { carry = 1; fraction = cond b f nought }) (record { carry = 0; fraction = f }))
     go true x true y = record { carry = refl; val = v }
     go true x false y = let w : d + 0 ≤ 0 + G = lt-false (pow-pos 53) nought-G v y in record { carry = refl; val = val-move nought-G (omega arith) }
     go false x b y = let w : d + 1 ≤ 0 + G = lt-false (pow-pos 53) minus-eps-2-G v x in let z : ⊥ = omega arith in absurd z
@@ -119,21 +120,21 @@ end f d v h r e = subst (λ (r : Carried). Ended d r) (sym e) (go (lt c-minus-ep
 grid-case : (s z : Float) (d d' : ℕ) → Val z d 0 G → Val s d' 0 G → d < G + 1024 → d ≤ d' + 1024 → d' ≤ d + 1024 → G ≤ 2 * d
     → (r : Carried) → r ≡ carryDay (kahanOf s z) z → ((d < G) × (r ≡ record { carry = 0; fraction = z })) ⊎ ((G ≤ d) × Ended d r)
 unfolding carryDay
-grid-case s z d d' v w h1 h2 h3 h4 r e = go (lt (sub binary64 z c-one) c-minus-eps-4) refl e
+grid-case s z d d' v w h1 h2 h3 h4 r e = go (lt (sub binary64 z one) c-minus-eps-4) refl e
   where
-    t : Val (sub binary64 z c-one) (d + 0) (0 + G) G
+    t : Val (sub binary64 z one) (d + 0) (0 + G) G
     t = sub-exact 53 (lit≤ tt) (omega arith) (omega arith) v one-G
 
-    go : (u : Bool) → lt (sub binary64 z c-one) c-minus-eps-4 ≡ u
-        → r ≡ cond u (record { carry = 0; fraction = z }) (carryEnd (add binary64 (sub binary64 s c-one) (add binary64 (sub binary64 z s) (sub binary64 (sub binary64 s (sub binary64 s c-one)) c-one))))
+    go : (u : Bool) → lt (sub binary64 z one) c-minus-eps-4 ≡ u
+        → r ≡ cond u (record { carry = 0; fraction = z }) (carryEnd (add binary64 (sub binary64 s one) (add binary64 (sub binary64 z s) (sub binary64 (sub binary64 s (sub binary64 s one)) one))))
         → ((d < G) × (r ≡ record { carry = 0; fraction = z })) ⊎ ((G ≤ d) × Ended d r)
     go true test q = let y : (d + 0) * 2 + 1 < 0 + (0 + G) * 2 = lt-true (pow-pos 54) (val-scale 2 t) minus-eps-4 test in inl (omega arith, q)
     go false test q =
         let y : 0 + (0 + G) * 2 ≤ (d + 0) * 2 + 1 = lt-false (pow-pos 54) (val-scale 2 t) minus-eps-4 test in
         let b : G ≤ d = omega arith in
-        let s4 : Val (sub binary64 s c-one) (d' + 0) (0 + G) G = sub-exact 53 (lit≤ tt) (omega arith) (omega arith) w one-G in
-        let x1 : Val (sub binary64 s (sub binary64 s c-one)) G 0 G = val-move (sub-exact 53 (lit≤ tt) (omega arith) (omega arith) w s4) (omega arith) in
-        let x2 : Val (sub binary64 (sub binary64 s (sub binary64 s c-one)) c-one) 0 0 G = val-move (sub-exact 53 (lit≤ tt) (omega arith) (omega arith) x1 one-G) (omega arith) in
+        let s4 : Val (sub binary64 s one) (d' + 0) (0 + G) G = sub-exact 53 (lit≤ tt) (omega arith) (omega arith) w one-G in
+        let x1 : Val (sub binary64 s (sub binary64 s one)) G 0 G = val-move (sub-exact 53 (lit≤ tt) (omega arith) (omega arith) w s4) (omega arith) in
+        let x2 : Val (sub binary64 (sub binary64 s (sub binary64 s one)) one) 0 0 G = val-move (sub-exact 53 (lit≤ tt) (omega arith) (omega arith) x1 one-G) (omega arith) in
         let k : Val (sub binary64 z s) (d + 0) (0 + d') G = sub-exact 53 (lit≤ tt) (omega arith) (omega arith) v w in
         let f = add-exact 53 (lit≤ tt) (omega arith) (omega arith) s4 (add-exact 53 (lit≤ tt) (omega arith) (omega arith) k x2) in
         inr (b, end _ d (val-move f (omega arith)) b r q)

@@ -7,6 +7,7 @@ use native.Mathlib.Omega.{arith}
 use lib.Dec.{T, lit≤, lit<}
 use lib.Ieee.{Float, binary64, add, sub, lt, le, fits}
 use lib.Ieee.Fits.{add-fits}
+use Rattle.floats.specs.Whole.{nought, one}
 use Rattle.rounding.specs.Value.{Val, L}
 use Rattle.rounding.proofs.Value.{L-pos, val-unique, add-rounds}
 use Rattle.rounding.proofs.Signed.{dist-le}
@@ -17,7 +18,7 @@ use Rattle.rounding.proofs.TwoSumFloat.{Exact}
 use Rattle.rounding.proofs.Compensated.{compensated-either}
 use Rattle.day_number.specs.declared.Kahan.{Kahan}
 use Rattle.day_number.specs.declared.Summed.{Summed}
-use Rattle.day_number.specs.DayNumber.{c-one, c-zero, compensation, addFraction, borrowSum, borrowFraction}
+use Rattle.day_number.specs.DayNumber.{compensation, addFraction, borrowSum, borrowFraction}
 use Rattle.day_number.proofs.Units.{W, L-W, W-pos, Z, Z-W, one-L, nought-L}
 use Rattle.day_number.proofs.CarryDay.{minus-one}
 
@@ -77,8 +78,8 @@ module _ (κ : Kahan) (f : Float) (fs : T (fits binary64 (κ .sum))) (ff : T (fi
       let q = val-unique w (t .val) in
       (omega (arith, t .over), law0 (κ .correction) (compensation (κ .sum) f temp) a b u v (omega (arith, t .under, W-pos)) (omega (arith, t .over, W-pos)) vk l)
 
-  settle : (g : Bool) (c x y u v : ℕ) → le c-one temp ≡ g → Val temp x y L → x < y + 2 * L → x + u + (n + M) ≡ y + v + (p + Q) → Close L (add binary64 (κ .correction) (compensation (κ .sum) f temp)) (a + u) (b + v) Z
-      → (r : Summed) → r ≡ cond g (record { carry = c + 1; kahan = record { sum = sub binary64 temp c-one; correction = add binary64 (κ .correction) (compensation (κ .sum) f temp) } }) (record { carry = c; kahan = record { sum = temp; correction = add binary64 (κ .correction) (compensation (κ .sum) f temp) } })
+  settle : (g : Bool) (c x y u v : ℕ) → le one temp ≡ g → Val temp x y L → x < y + 2 * L → x + u + (n + M) ≡ y + v + (p + Q) → Close L (add binary64 (κ .correction) (compensation (κ .sum) f temp)) (a + u) (b + v) Z
+      → (r : Summed) → r ≡ cond g (record { carry = c + 1; kahan = record { sum = sub binary64 temp one; correction = add binary64 (κ .correction) (compensation (κ .sum) f temp) } }) (record { carry = c; kahan = record { sum = temp; correction = add binary64 (κ .correction) (compensation (κ .sum) f temp) } })
       → (up : ℕ) × (r .carry ≡ c + up) × Tot r up (p + a + Q) (n + b + M) Z
   settle true c x y u v test w h e k r q =
       let o : L + y ≤ x + 0 = le-true L-pos one-L w test in (
@@ -117,7 +118,7 @@ module _ (κ : Kahan) (f : Float) (fs : T (fits binary64 (κ .sum))) (ff : T (fi
   unfolding addFraction
   tight c =
       let k = fixed (lost .sp) (lost .sn) (lost .ep) (lost .en) (lost .sum) (lost .err) (lost .total) in
-      settle (le c-one temp) c (lost .sp) (lost .sn) (lost .ep) (lost .en) refl (lost .sum) (k .0) (lost .total) (k .1) (addFraction c κ f) refl
+      settle (le one temp) c (lost .sp) (lost .sn) (lost .ep) (lost .en) refl (lost .sum) (k .0) (lost .total) (k .1) (addFraction c κ f) refl
 
 -- ---- into [0, 1)
 add-with : (K w : ℕ) → Law K w → {x y : Float} {P N Q M e e' : ℕ} → Close L x P N e → Close L y Q M e' → P + Q + (e + e') < N + M + K → N + M + (e + e') < P + Q + K → Close L (add binary64 x y) (P + Q) (N + M) (e + e' + w)
@@ -140,8 +141,8 @@ borrow-of : (s z : Float) (p n a b x y : ℕ) → Val s p n L → Close L z (p +
     → p < n + 100 * W → n + 100 * W < p + L → Close L (borrowFraction s (sub binary64 z s)) (p + a + L) (n + b) (4 * W + 3 * Z)
 borrow-of s z p n a b x y vs cz v3 k1 k2 x1 x2 s1 s2 =
     let r : Close L (sub binary64 z s) a b (W + Z) = close-move (sub-with (32768 * W) Z law0 cz (exactly vs) (omega (arith, W-pos)) (omega (arith, W-pos))) (omega arith) (omega arith) in
-    let i : Close L (sub binary64 c-one (borrowSum s)) (L + y) (0 + x) W = close-move (sub-with L W law1 (exactly one-L) (exactly v3) (omega (arith, W-pos, L-W)) (omega (arith, W-pos, L-W))) refl (omega arith) in
-    let c : Close L (add binary64 (sub binary64 c-one (borrowSum s)) s) (L + y + p) (x + n) (W + Z) = close-move (add-with (32768 * W) Z law0 i (exactly vs) (omega (arith, W-pos)) (omega (arith, W-pos))) (omega arith) (omega arith) in
+    let i : Close L (sub binary64 one (borrowSum s)) (L + y) (0 + x) W = close-move (sub-with L W law1 (exactly one-L) (exactly v3) (omega (arith, W-pos, L-W)) (omega (arith, W-pos, L-W))) refl (omega arith) in
+    let c : Close L (add binary64 (sub binary64 one (borrowSum s)) s) (L + y + p) (x + n) (W + Z) = close-move (add-with (32768 * W) Z law0 i (exactly vs) (omega (arith, W-pos)) (omega (arith, W-pos))) (omega arith) (omega arith) in
     let k = add-with (32768 * W) Z law0 r c (omega (arith, W-pos, Z-W)) (omega (arith, W-pos, Z-W)) in
     close-move (add-with (2 * L) (2 * W) law2 (exactly v3) k (omega (arith, W-pos, Z-W, L-W)) (omega (arith, W-pos, Z-W, L-W))) (omega arith) (omega arith)
 
@@ -149,17 +150,17 @@ module _ (s k : Float) (p n a b : ℕ) (vs : Val s p n L) (vk : Val k a b L) (k1
   pub kept-near : Close L (add binary64 s k) (p + a) (n + b) (2 * W)
   kept-near = law2 s k p n a b (omega (arith, L-W, W-pos)) (omega (arith, L-W, W-pos)) vs vk
 
-  small : lt (add binary64 s k) c-zero ≡ true → p + a < n + b + 2 * W
+  small : lt (add binary64 s k) nought ≡ true → p + a < n + b + 2 * W
   small test = go (kept-near .p) (kept-near .n) (kept-near .under) (lt-true L-pos (kept-near .val) nought-L test)
     where
       go : (x y : ℕ) → y + (p + a) ≤ x + (n + b) + 2 * W → x + 0 < 0 + y → p + a < n + b + 2 * W
       go x y u o = omega arith
 
-  pub borrowed-near : lt (add binary64 s k) c-zero ≡ true → Close L (borrowFraction s (sub binary64 (add binary64 s k) s)) (p + a + L) (n + b) (4 * W + 3 * Z)
+  pub borrowed-near : lt (add binary64 s k) nought ≡ true → Close L (borrowFraction s (sub binary64 (add binary64 s k) s)) (p + a + L) (n + b) (4 * W + 3 * Z)
   borrowed-near test =
       let low : p + a < n + b + 2 * W = small test in
       let z = law1 s k p n a b (omega (arith, L-W, W-pos)) (omega (arith, L-W, W-pos)) vs vk in
-      let s3 = law2 s c-one p n L 0 (omega (arith, L-W, W-pos)) (omega (arith, L-W, W-pos)) vs one-L
+      let s3 = law2 s one p n L 0 (omega (arith, L-W, W-pos)) (omega (arith, L-W, W-pos)) vs one-L
       in borrow-of s (add binary64 s k) p n a b (s3 .p) (s3 .n) vs z (s3 .val) k1 k2 (plain (s3 .p) (s3 .n) (s3 .over)) (plain' (s3 .p) (s3 .n) (s3 .under)) (omega (arith, W-pos)) s2
     where
       plain : (x y : ℕ) → x + (n + 0) ≤ y + (p + L) + 2 * W → x + n ≤ y + (p + L) + 2 * W

@@ -10,25 +10,27 @@ use Rattle.day_number.specs.declared.Kahan.{Kahan}
 use Rattle.day_number.specs.declared.Summed.{Summed}
 use Rattle.day_number.specs.declared.Carried.{Carried}
 use Rattle.day_number.specs.declared.Normalized.{Normalized}
-use Rattle.day_number.specs.DayNumber.{c-one, c-half, c-zero, c-minus-eps-4, c-minus-eps-2, compensation, kahanStart, kahanOf, addFraction, sumFractions, borrowSum, borrowFraction, borrowDay, carryDay, carryEnd, moved, normalizeFraction, split, rest, dayFraction, dayOf}
+use Rattle.day_number.specs.DayNumber.{c-minus-eps-4, c-minus-eps-2, compensation, kahanStart, kahanOf, addFraction, sumFractions, borrowSum, borrowFraction, borrowDay, carryDay, carryEnd, moved, normalizeFraction, split, rest, dayFraction, dayOf}
 use Rattle.day_number.specs.declared.DayNumber.{DayNumber}
 use Rattle.day_number.specs.Answer.{dayNumberAndFraction}
 use Rattle.day_number.specs.MinusZero.{minusZero}
 use Rattle.refusals.specs.Outcome.{answer}
+use Rattle.floats.specs.Whole.{nought, half, one}
 use Rattle.day_number.proofs.Answer.{answer-is}
 use Rattle.day_number.proofs.Parts.{rest-fits}
 use Rattle.day_number.proofs.MinusZero.{Unsigned, add-unsigned, sub-unsigned}
 
-one-fits : T (fits binary64 c-one)
-one-fits = ofBits-fits binary64 0x3ff0_0000_0000_0000
+one-fits : T (fits binary64 one)
+unfolding fits
+one-fits = tt
 
-half : Unsigned c-half
-unfolding ofBits minusZero
-half = record { fit = ofBits-fits binary64 0x3fe0_0000_0000_0000; sign = refl }
+half-unsigned : Unsigned half
+unfolding fits minusZero
+half-unsigned = record { fit = tt; sign = refl }
 
-nought : Unsigned c-zero
-unfolding ofBits minusZero
-nought = record { fit = ofBits-fits binary64 0; sign = refl }
+nought-unsigned : Unsigned nought
+unfolding fits minusZero
+nought-unsigned = record { fit = tt; sign = refl }
 
 -- a compensated sum that is not -0.0
 record Started (κ : Kahan) : Type 0 where
@@ -37,7 +39,7 @@ record Started (κ : Kahan) : Type 0 where
 
 add-step : (c : ℕ) (κ : Kahan) (f : Float) → T (fits binary64 f) → Started κ → Started (addFraction c κ f .kahan)
 unfolding addFraction
-add-step c κ f ff k = go (le c-one temp)
+add-step c κ f ff k = go (le one temp)
   where
     temp : Float
     temp = add binary64 (κ .sum) f
@@ -45,33 +47,33 @@ add-step c κ f ff k = go (le c-one temp)
     fixed : Float
     fixed = add binary64 (κ .correction) (compensation (κ .sum) f temp)
 
-    go : (b : Bool) → Started (cond {A = Summed} b (record { carry = c + 1; kahan = record { sum = sub binary64 temp c-one; correction = fixed } }) (record { carry = c; kahan = record { sum = temp; correction = fixed } }) .kahan)
-    go true = record { sum = sub-unsigned c-one one-fits (add-unsigned f ff (k .sum)); correction = add-fits binary64 (κ .correction) (compensation (κ .sum) f temp) }
+    go : (b : Bool) → Started (cond {A = Summed} b (record { carry = c + 1; kahan = record { sum = sub binary64 temp one; correction = fixed } }) (record { carry = c; kahan = record { sum = temp; correction = fixed } }) .kahan)
+    go true = record { sum = sub-unsigned one one-fits (add-unsigned f ff (k .sum)); correction = add-fits binary64 (κ .correction) (compensation (κ .sum) f temp) }
     go false = record { sum = add-unsigned f ff (k .sum); correction = add-fits binary64 (κ .correction) (compensation (κ .sum) f temp) }
 
 both : (f g : Float) → T (fits binary64 f) → T (fits binary64 g) → Started (sumFractions f g .kahan)
 unfolding sumFractions
-both f g ff fg = add-step (addFraction 0 kahanStart f .carry) (addFraction 0 kahanStart f .kahan) g fg (add-step 0 kahanStart f ff (record { sum = half; correction = nought .fit }))
+both f g ff fg = add-step (addFraction 0 kahanStart f .carry) (addFraction 0 kahanStart f .kahan) g fg (add-step 0 kahanStart f ff (record { sum = half-unsigned; correction = nought-unsigned .fit }))
 
 carry-step : (κ : Kahan) (z : Float) → Unsigned z → Started κ → Unsigned (carryDay κ z .fraction)
 unfolding carryDay carryEnd
-carry-step κ z u k = go (lt (sub binary64 z c-one) c-minus-eps-4) (lt c-minus-eps-2 left) (lt c-zero left)
+carry-step κ z u k = go (lt (sub binary64 z one) c-minus-eps-4) (lt c-minus-eps-2 left) (lt nought left)
   where
     left : Float
-    left = add binary64 (sub binary64 (κ .sum) c-one) (add binary64 (κ .correction) (sub binary64 (sub binary64 (κ .sum) (sub binary64 (κ .sum) c-one)) c-one))
+    left = add binary64 (sub binary64 (κ .sum) one) (add binary64 (κ .correction) (sub binary64 (sub binary64 (κ .sum) (sub binary64 (κ .sum) one)) one))
 
     some : Unsigned left
-    some = add-unsigned _ (add-fits binary64 (κ .correction) (sub binary64 (sub binary64 (κ .sum) (sub binary64 (κ .sum) c-one)) c-one)) (sub-unsigned c-one one-fits (k .sum))
+    some = add-unsigned _ (add-fits binary64 (κ .correction) (sub binary64 (sub binary64 (κ .sum) (sub binary64 (κ .sum) one)) one)) (sub-unsigned one one-fits (k .sum))
 
-    go : (a b c : Bool) → Unsigned (cond {A = Carried} a (record { carry = 0; fraction = z }) (cond b (record { carry = 1; fraction = cond c left c-zero }) (record { carry = 0; fraction = left })) .fraction)
+    go : (a b c : Bool) → Unsigned (cond {A = Carried} a (record { carry = 0; fraction = z }) (cond b (record { carry = 1; fraction = cond c left nought }) (record { carry = 0; fraction = left })) .fraction)
     go true b c = u
     go false true true = some
-    go false true false = nought
+    go false true false = nought-unsigned
     go false false c = some
 
 normal-step : (κ : Kahan) → Started κ → Unsigned (normalizeFraction κ .fraction)
 unfolding normalizeFraction borrowDay
-normal-step κ k = go (lt z c-zero)
+normal-step κ k = go (lt z nought)
   where
     s : Float
     s = κ .sum
@@ -86,10 +88,10 @@ normal-step κ k = go (lt z c-zero)
     w = borrowFraction (κ .sum) rest'
 
     more : Unsigned (borrowSum (κ .sum))
-    more = add-unsigned c-one one-fits (k .sum)
+    more = add-unsigned one one-fits (k .sum)
 
     borrowed : Unsigned w
-    borrowed = add-unsigned _ (add-fits binary64 rest' (add binary64 (sub binary64 c-one (borrowSum s)) s)) more
+    borrowed = add-unsigned _ (add-fits binary64 rest' (add binary64 (sub binary64 one (borrowSum s)) s)) more
 
     go : (b : Bool) → Unsigned (cond {A = Normalized} b (moved 1 (carryDay (kahanOf (borrowSum s) w) w)) (moved 0 (carryDay (kahanOf s z) z)) .fraction)
     go true = carry-step (kahanOf (borrowSum s) w) w borrowed (record { sum = more; correction = sub-fits binary64 w (borrowSum s) })

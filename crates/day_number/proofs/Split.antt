@@ -5,11 +5,12 @@ use Prim.Native.Nat.{ℕ, _+_, _*_, _≤_, _<_}
 use lib.Dec.{T}
 use lib.Ieee.{Float, binary64, add, le, fits}
 use lib.Ieee.Fits.{add-fits, sub-fits}
+use Rattle.floats.specs.Whole.{one}
 use Rattle.rounding.specs.Value.{Val}
 use Rattle.day_number.specs.declared.Kahan.{Kahan}
 use Rattle.day_number.specs.declared.Summed.{Summed}
 use Rattle.day_number.specs.declared.Normalized.{Normalized}
-use Rattle.day_number.specs.DayNumber.{c-one, kahanStart, addFraction, sumFractions}
+use Rattle.day_number.specs.DayNumber.{kahanStart, addFraction, sumFractions}
 
 -- A - B is `up` and `more` days carried, less `down` borrowed, and the fraction, to within e
 pub record Split (D e : ℕ) (k : Summed) (r : Normalized) (A B : ℕ) : Type 0 where
@@ -35,7 +36,7 @@ fit false a b h k = k
 
 pub sum-fits : (c : ℕ) (κ : Kahan) (f : Float) → T (fits binary64 (addFraction c κ f .kahan .sum))
 unfolding addFraction
-sum-fits c κ f = fit (le c-one (add binary64 (κ .sum) f)) _ _ (sub-fits binary64 (add binary64 (κ .sum) f) c-one) (add-fits binary64 (κ .sum) f)
+sum-fits c κ f = fit (le one (add binary64 (κ .sum) f)) _ _ (sub-fits binary64 (add binary64 (κ .sum) f) one) (add-fits binary64 (κ .sum) f)
 
 pub both-fits : (f g : Float) → T (fits binary64 (sumFractions f g .kahan .sum))
 unfolding sumFractions

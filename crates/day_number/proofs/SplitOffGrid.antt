@@ -5,14 +5,15 @@ use Prim.Native.Nat.{ℕ, zero, suc, _+_, _-_, _*_, _≤_, _<_}
 use native.Mathlib.Nat.{add-mul}
 use native.Mathlib.Omega.{arith}
 use lib.Dec.{T}
-use lib.Ieee.{Float, binary64, add, sub, lt, fits}
+use lib.Ieee.{Float, binary64, add, sub, lt, fits, ofBits}
 use lib.Ieee.Bits.{ofBits-fits}
+use Rattle.floats.specs.Whole.{nought}
 use Rattle.rounding.specs.Value.{Val, L}
 use Rattle.rounding.proofs.Value.{L-pos, val-move, val-unique}
 use Rattle.rounding.proofs.Chain.{Close}
 use Rattle.day_number.specs.declared.Summed.{Summed}
 use Rattle.day_number.specs.declared.Normalized.{Normalized}
-use Rattle.day_number.specs.DayNumber.{c-zero, kahanStart, kahanOf, addFraction, sumFractions, moved, carryDay, split, borrowFraction}
+use Rattle.day_number.specs.DayNumber.{kahanStart, kahanOf, addFraction, sumFractions, moved, carryDay, split, borrowFraction}
 use Rattle.day_number.proofs.Units.{H, H-L, W, L-W, W-pos, Z, Z-W, one-L, half-L, nought-L}
 use Rattle.day_number.proofs.SumFractions.{Stage, Both, first, both}
 use Rattle.day_number.proofs.NormalizeFraction.{Normal, normal}
@@ -25,6 +26,7 @@ module _ (f g : Float) (ff : T (fits binary64 f)) (fg : T (fits binary64 g)) (P 
   start = first L H (2 * W) law2 L-pos H-L one-L half-L nought-L (omega (arith, L-W)) f g P N Q M vf vg (omega (arith, H-L)) (omega (arith, H-L, L-W)) (omega (arith, H-L, L-W)) (omega (arith, H-L, L-W)) (omega (arith, H-L, L-W))
 
   one-more : (up : ℕ) × (addFraction 0 kahanStart f .carry ≡ 0 + up) × Tot (addFraction 0 kahanStart f) up (H + 0 + P) (0 + 0 + N) Z
+  unfolding ofBits
   one-more = tight kahanStart f (ofBits-fits binary64 0x3fe0_0000_0000_0000) ff H 0 0 0 P N half-L nought-L vf (omega (arith, H-L)) (omega (arith, H-L)) (omega arith) (omega arith) (omega arith) (omega arith)
       (omega (arith, H-L, L-W, W-pos)) (omega (arith, H-L, L-W, W-pos)) 0
 
@@ -86,7 +88,7 @@ module _ (f g : Float) (ff : T (fits binary64 f)) (fg : T (fits binary64 g)) (P 
               → (x < y + L + 64 * W) × (y + 100 * W < x + L)
           sizes w p n x y e o v h l = omega (arith, W-pos)
 
-          which : (t : Bool) → lt (add binary64 (sumFractions f g .kahan .sum) (sumFractions f g .kahan .correction)) c-zero ≡ t → (bo : ℕ) → bo ≡ cond t 1 0 → (z : Float)
+          which : (t : Bool) → lt (add binary64 (sumFractions f g .kahan .sum) (sumFractions f g .kahan .correction)) nought ≡ t → (bo : ℕ) → bo ≡ cond t 1 0 → (z : Float)
               → z ≡ cond t (borrowFraction (sumFractions f g .kahan .sum) (sub binary64 (add binary64 (sumFractions f g .kahan .sum) (sumFractions f g .kahan .correction)) (sumFractions f g .kahan .sum))) (add binary64 (sumFractions f g .kahan .sum) (sumFractions f g .kahan .correction))
               → (up p n a b : ℕ) → Val (sumFractions f g .kahan .sum) p n L → Val (sumFractions f g .kahan .correction) a b L → a ≤ b + 64 * W → b ≤ a + 64 * W → p < n + L + 64 * W → n + 100 * W < p + L
               → p + a + (N + M + up * L) ≤ n + b + (H + P + Q) + (2 * Z) → n + b + (H + P + Q) ≤ p + a + (N + M + up * L) + (2 * Z) → Close L z (H + P + Q + bo * L) (N + M + up * L) (8 * W)

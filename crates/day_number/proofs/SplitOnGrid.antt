@@ -6,6 +6,7 @@ use native.Mathlib.Omega.{arith}
 use lib.Dec.{lit≤}
 use lib.Pow.{pow-pos}
 use lib.Ieee.{Float, binary64, sub, lt}
+use Rattle.floats.specs.Whole.{one}
 use Rattle.rounding.specs.Value.{Val}
 use Rattle.rounding.proofs.Value.{val-move, val-scale}
 use Rattle.rounding.proofs.Exact.{add-exact, sub-exact}
@@ -14,7 +15,7 @@ use Rattle.rounding.proofs.Chain.{Adds, exactly}
 use Rattle.day_number.specs.declared.Kahan.{Kahan}
 use Rattle.day_number.specs.declared.Carried.{Carried}
 use Rattle.day_number.specs.declared.Normalized.{Normalized}
-use Rattle.day_number.specs.DayNumber.{c-one, c-minus-eps-4, kahanOf, sumFractions, moved, carryDay, split}
+use Rattle.day_number.specs.DayNumber.{c-minus-eps-4, kahanOf, sumFractions, moved, carryDay, split}
 use Rattle.day_number.proofs.Units.{S, one-S, half-S, nought-S, minus-eps-4}
 use Rattle.day_number.proofs.SumFractions.{Both, both}
 use Rattle.day_number.proofs.NormalizeFraction.{Normal, normal}
@@ -26,12 +27,12 @@ adds-S x y p n q m u l v w = exactly (add-exact 52 (lit≤ tt) (omega arith) (om
 -- a fraction on the grid that is below 1 is not carried
 stays : (κ : Kahan) (z : Float) (p n : ℕ) → Val z p n S → p < n + S → n ≤ p → carryDay κ z ≡ record { carry = 0; fraction = z }
 unfolding carryDay
-stays κ z p n v h k = go (lt (sub binary64 z c-one) c-minus-eps-4) refl _
+stays κ z p n v h k = go (lt (sub binary64 z one) c-minus-eps-4) refl _
   where
-    t : Val (sub binary64 z c-one) (p + 0) (n + S) S
+    t : Val (sub binary64 z one) (p + 0) (n + S) S
     t = sub-exact 52 (lit≤ tt) (omega arith) (omega arith) v one-S
 
-    go : (u : Bool) → lt (sub binary64 z c-one) c-minus-eps-4 ≡ u → (r : Carried) → cond u (record { carry = 0; fraction = z }) r ≡ record { carry = 0; fraction = z }
+    go : (u : Bool) → lt (sub binary64 z one) c-minus-eps-4 ≡ u → (r : Carried) → cond u (record { carry = 0; fraction = z }) r ≡ record { carry = 0; fraction = z }
     go true e r = refl
     go false e r = let y : 0 + (n + S) * 4 ≤ (p + 0) * 4 + 1 = lt-false (pow-pos 54) (val-scale 4 t) minus-eps-4 e in let w : ⊥ = omega arith in absurd w
 

@@ -4,12 +4,12 @@ use mathlib.Core.Bool.{Bool, true, false, cond, _&&_}
 use Prim.Native.Nat.{ℕ, _+_, _≤_}
 use native.Mathlib.Omega.{arith}
 use lib.Ieee.{Float, binary64, add, sub, le, lt}
-use Rattle.floats.specs.Whole.{abs}
+use Rattle.floats.specs.Whole.{abs, nought, one}
 use Rattle.day_number.specs.declared.Kahan.{Kahan}
 use Rattle.day_number.specs.declared.Summed.{Summed}
 use Rattle.day_number.specs.declared.Borrowed.{Borrowed}
 use Rattle.day_number.specs.declared.Carried.{Carried}
-use Rattle.day_number.specs.DayNumber.{c-one, c-zero, c-minus-eps-4, c-minus-eps-2, c-djmin, c-djmax, inJulianRange, compensation, kahanStart, addFraction, sumFractions, carryDay, moved, kahanOf, borrowDay, normalizeFraction}
+use Rattle.day_number.specs.DayNumber.{c-minus-eps-4, c-minus-eps-2, c-djmin, c-djmax, inJulianRange, compensation, kahanStart, addFraction, sumFractions, carryDay, moved, kahanOf, borrowDay, normalizeFraction}
 
 pick : {A : Type 0} (b : Bool) (x y : A) → b ≡ true → x ≡ cond b x y
 pick b x y e = sym (ap (λ (u : Bool). cond u x y) e)
@@ -38,19 +38,19 @@ module _ (s f t : Float) (r : Bool) (er : r ≡ le (abs f) (abs s)) where
 
 -- ---- add_fraction
 module _ (c : ℕ) (κ : Kahan) (f l : Float) (el : l ≡ compensation (κ .sum) f (add binary64 (κ .sum) f)) where
-  pub added-day : le c-one (add binary64 (κ .sum) f) ≡ true
-      → _≡_ {A = Summed} (record { carry = c + 1; kahan = record { sum = sub binary64 (add binary64 (κ .sum) f) c-one; correction = add binary64 (κ .correction) l } }) (addFraction c κ f)
+  pub added-day : le one (add binary64 (κ .sum) f) ≡ true
+      → _≡_ {A = Summed} (record { carry = c + 1; kahan = record { sum = sub binary64 (add binary64 (κ .sum) f) one; correction = add binary64 (κ .correction) l } }) (addFraction c κ f)
   unfolding addFraction
   added-day e =
-      ap (λ (z : Float). record { carry = c + 1; kahan = record { sum = sub binary64 (add binary64 (κ .sum) f) c-one; correction = add binary64 (κ .correction) z } }) el
-      ∙ pick (le c-one (add binary64 (κ .sum) f)) _ _ e
+      ap (λ (z : Float). record { carry = c + 1; kahan = record { sum = sub binary64 (add binary64 (κ .sum) f) one; correction = add binary64 (κ .correction) z } }) el
+      ∙ pick (le one (add binary64 (κ .sum) f)) _ _ e
 
-  pub added-none : le c-one (add binary64 (κ .sum) f) ≡ false
+  pub added-none : le one (add binary64 (κ .sum) f) ≡ false
       → _≡_ {A = Summed} (record { carry = c; kahan = record { sum = add binary64 (κ .sum) f; correction = add binary64 (κ .correction) l } }) (addFraction c κ f)
   unfolding addFraction
   added-none e =
       ap (λ (z : Float). record { carry = c; kahan = record { sum = add binary64 (κ .sum) f; correction = add binary64 (κ .correction) z } }) el
-      ∙ skip (le c-one (add binary64 (κ .sum) f)) _ _ e
+      ∙ skip (le one (add binary64 (κ .sum) f)) _ _ e
 
 few-of : (b : Bool) (x y : Summed) → x .carry ≤ 1 → y .carry ≤ 1 → cond {A = Summed} b x y .carry ≤ 1
 few-of true x y h k = h
@@ -58,7 +58,7 @@ few-of false x y h k = k
 
 pub few-carry : (κ : Kahan) (f : Float) (r : Summed) → r ≡ addFraction 0 κ f → r .carry ≤ 1
 unfolding addFraction
-few-carry κ f r e = subst (λ (z : Summed). z .carry ≤ 1) (sym e) (few-of (le c-one (add binary64 (κ .sum) f)) _ _ (omega arith) (omega arith))
+few-carry κ f r e = subst (λ (z : Summed). z .carry ≤ 1) (sym e) (few-of (le one (add binary64 (κ .sum) f)) _ _ (omega arith) (omega arith))
 
 -- ---- sum_fractions
 pub summed : (f g : Float) (k r : Summed) → k ≡ addFraction 0 kahanStart f → r ≡ addFraction (k .carry) (k .kahan) g → r ≡ sumFractions f g
@@ -68,36 +68,36 @@ summed f g k r e q = q ∙ ap (λ (z : Summed). addFraction (z .carry) (z .kahan
 -- ---- carry_day
 module _ (κ : Kahan) (z : Float) where
   abbrev pub left : Float
-  left = add binary64 (sub binary64 (κ .sum) c-one) (add binary64 (κ .correction) (sub binary64 (sub binary64 (κ .sum) (sub binary64 (κ .sum) c-one)) c-one))
+  left = add binary64 (sub binary64 (κ .sum) one) (add binary64 (κ .correction) (sub binary64 (sub binary64 (κ .sum) (sub binary64 (κ .sum) one)) one))
 
-  pub carry-none : lt (sub binary64 z c-one) c-minus-eps-4 ≡ true → _≡_ {A = Carried} (record { carry = 0; fraction = z }) (carryDay κ z)
+  pub carry-none : lt (sub binary64 z one) c-minus-eps-4 ≡ true → _≡_ {A = Carried} (record { carry = 0; fraction = z }) (carryDay κ z)
   unfolding carryDay
-  carry-none e = pick (lt (sub binary64 z c-one) c-minus-eps-4) _ _ e
+  carry-none e = pick (lt (sub binary64 z one) c-minus-eps-4) _ _ e
 
-  pub carry-over : lt (sub binary64 z c-one) c-minus-eps-4 ≡ false → lt c-minus-eps-2 left ≡ true → lt c-zero left ≡ true → _≡_ {A = Carried} (record { carry = 1; fraction = left }) (carryDay κ z)
+  pub carry-over : lt (sub binary64 z one) c-minus-eps-4 ≡ false → lt c-minus-eps-2 left ≡ true → lt nought left ≡ true → _≡_ {A = Carried} (record { carry = 1; fraction = left }) (carryDay κ z)
   unfolding carryDay
   carry-over e f g =
-      ap (λ (w : Float). record { carry = 1; fraction = w }) (pick (lt c-zero left) left c-zero g) ∙ pick (lt c-minus-eps-2 left) _ _ f ∙ skip (lt (sub binary64 z c-one) c-minus-eps-4) _ _ e
+      ap (λ (w : Float). record { carry = 1; fraction = w }) (pick (lt nought left) left nought g) ∙ pick (lt c-minus-eps-2 left) _ _ f ∙ skip (lt (sub binary64 z one) c-minus-eps-4) _ _ e
 
-  pub carry-zero : lt (sub binary64 z c-one) c-minus-eps-4 ≡ false → lt c-minus-eps-2 left ≡ true → lt c-zero left ≡ false → _≡_ {A = Carried} (record { carry = 1; fraction = c-zero }) (carryDay κ z)
+  pub carry-zero : lt (sub binary64 z one) c-minus-eps-4 ≡ false → lt c-minus-eps-2 left ≡ true → lt nought left ≡ false → _≡_ {A = Carried} (record { carry = 1; fraction = nought }) (carryDay κ z)
   unfolding carryDay
   carry-zero e f g =
-      ap (λ (w : Float). record { carry = 1; fraction = w }) (skip (lt c-zero left) left c-zero g) ∙ pick (lt c-minus-eps-2 left) _ _ f ∙ skip (lt (sub binary64 z c-one) c-minus-eps-4) _ _ e
+      ap (λ (w : Float). record { carry = 1; fraction = w }) (skip (lt nought left) left nought g) ∙ pick (lt c-minus-eps-2 left) _ _ f ∙ skip (lt (sub binary64 z one) c-minus-eps-4) _ _ e
 
-  pub carry-under : lt (sub binary64 z c-one) c-minus-eps-4 ≡ false → lt c-minus-eps-2 left ≡ false → _≡_ {A = Carried} (record { carry = 0; fraction = left }) (carryDay κ z)
+  pub carry-under : lt (sub binary64 z one) c-minus-eps-4 ≡ false → lt c-minus-eps-2 left ≡ false → _≡_ {A = Carried} (record { carry = 0; fraction = left }) (carryDay κ z)
   unfolding carryDay
-  carry-under e f = skip (lt c-minus-eps-2 left) _ _ f ∙ skip (lt (sub binary64 z c-one) c-minus-eps-4) _ _ e
+  carry-under e f = skip (lt c-minus-eps-2 left) _ _ f ∙ skip (lt (sub binary64 z one) c-minus-eps-4) _ _ e
 
 -- ---- normalize_fraction
 module _ (κ : Kahan) where
   abbrev pub fraction : Float
   fraction = add binary64 (κ .sum) (κ .correction)
 
-  pub borrowed : lt fraction c-zero ≡ true → (b : Borrowed) → b ≡ borrowDay (kahanOf (κ .sum) fraction) → (r : Carried) → r ≡ carryDay (b .kahan) (b .fraction) → moved (b .borrow) r ≡ normalizeFraction κ
+  pub borrowed : lt fraction nought ≡ true → (b : Borrowed) → b ≡ borrowDay (kahanOf (κ .sum) fraction) → (r : Carried) → r ≡ carryDay (b .kahan) (b .fraction) → moved (b .borrow) r ≡ normalizeFraction κ
   unfolding normalizeFraction
   borrowed e b eb r er =
-      ap (moved (b .borrow)) er ∙ ap (λ (w : Borrowed). moved (w .borrow) (carryDay (w .kahan) (w .fraction))) eb ∙ pick (lt fraction c-zero) _ _ e
+      ap (moved (b .borrow)) er ∙ ap (λ (w : Borrowed). moved (w .borrow) (carryDay (w .kahan) (w .fraction))) eb ∙ pick (lt fraction nought) _ _ e
 
-  pub unborrowed : lt fraction c-zero ≡ false → (r : Carried) → r ≡ carryDay (kahanOf (κ .sum) fraction) fraction → moved 0 r ≡ normalizeFraction κ
+  pub unborrowed : lt fraction nought ≡ false → (r : Carried) → r ≡ carryDay (kahanOf (κ .sum) fraction) fraction → moved 0 r ≡ normalizeFraction κ
   unfolding normalizeFraction
-  unborrowed e r er = ap (moved 0) er ∙ skip (lt fraction c-zero) _ _ e
+  unborrowed e r er = ap (moved 0) er ∙ skip (lt fraction nought) _ _ e

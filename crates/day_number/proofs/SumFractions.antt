@@ -9,10 +9,10 @@ use lib.Ieee.{Float, binary64, add, sub, le}
 use Rattle.rounding.specs.Value.{Val}
 use Rattle.rounding.proofs.Compare.{le-true, le-false}
 use Rattle.rounding.proofs.Chain.{Close, Adds, exactly, close-move, close-add, close-sub}
-use Rattle.floats.specs.Whole.{abs}
+use Rattle.floats.specs.Whole.{abs, nought, half, one}
 use Rattle.day_number.specs.declared.Kahan.{Kahan}
 use Rattle.day_number.specs.declared.Summed.{Summed}
-use Rattle.day_number.specs.DayNumber.{c-one, c-half, c-zero, kahanStart, compensation, addFraction, sumFractions}
+use Rattle.day_number.specs.DayNumber.{kahanStart, compensation, addFraction, sumFractions}
 
 -- one more fraction: `up` days are carried, and the sum and its correction stand so near A - B
 pub record Stage (D h : ℕ) (k : Summed) (c A B e ek : ℕ) : Type 0 where
@@ -24,7 +24,7 @@ pub record Stage (D h : ℕ) (k : Summed) (c A B e ek : ℕ) : Type 0 where
   pub high : A < B + up * D + D + (e + h)
   pub reach : 1 ≤ up → B + up * D ≤ A + (e + h)
 
-module _ (D h : ℕ) (adds : Adds D h) (dpos : 0 < D) (one : Val c-one D 0 D) (hs : 64 * h ≤ D) where
+module _ (D h : ℕ) (adds : Adds D h) (dpos : 0 < D) (one-val : Val one D 0 D) (hs : 64 * h ≤ D) where
   -- what the sum lost, off by no more than this
   lost : (s f t : Float) (A B Q M e : ℕ) → Close D s A B e → Val f Q M D → Close D t (A + Q) (B + M) (e + h)
       → e ≤ 2 * h → A < B + D + 8 * h → B + 8 * h < A + D → Q ≤ M + D → M ≤ Q + D → Close D (compensation s f t) 0 0 (2 * e + 3 * h)
@@ -35,22 +35,22 @@ module _ (D h : ℕ) (adds : Adds D h) (dpos : 0 < D) (one : Val c-one D 0 D) (h
       go true = close-move (close-add D h adds (close-sub D h adds a c (omega arith) (omega arith)) (exactly v) (omega arith) (omega arith)) (omega arith) (omega arith)
       go false = close-move (close-add D h adds (close-sub D h adds (exactly v) c (omega arith) (omega arith)) a (omega arith) (omega arith)) (omega arith) (omega arith)
 
-  settle : (u : Bool) (x y : Float) (c A B e ek : ℕ) → le c-one x ≡ u → Close D x A B (e + h) → Close D y 0 0 (ek + 2 * e + 4 * h) → e ≤ 2 * h → A + 8 * h < B + 2 * D + 8 * h → B ≤ A + 2 * D
-      → Stage D h (cond u (record { carry = c + 1; kahan = record { sum = sub binary64 x c-one; correction = y } }) (record { carry = c; kahan = record { sum = x; correction = y } })) c A B e ek
+  settle : (u : Bool) (x y : Float) (c A B e ek : ℕ) → le one x ≡ u → Close D x A B (e + h) → Close D y 0 0 (ek + 2 * e + 4 * h) → e ≤ 2 * h → A + 8 * h < B + 2 * D + 8 * h → B ≤ A + 2 * D
+      → Stage D h (cond u (record { carry = c + 1; kahan = record { sum = sub binary64 x one; correction = y } }) (record { carry = c; kahan = record { sum = x; correction = y } })) c A B e ek
   settle true x y c A B e ek test t r he h1 h2 =
-      let w : D + t .n ≤ t .p + 0 = le-true dpos one (t .val) test in
+      let w : D + t .n ≤ t .p + 0 = le-true dpos one-val (t .val) test in
       let z : B + D ≤ A + (e + h) = omega (arith, t .over, w) in
       record {
         up = 1;
         few = omega arith;
         carry = refl;
-        sum = close-move (close-sub D h adds t (exactly one) (omega arith) (omega arith)) (omega arith) (omega arith);
+        sum = close-move (close-sub D h adds t (exactly one-val) (omega arith) (omega arith)) (omega arith) (omega arith);
         correction = r;
         high = omega arith;
         reach = λ q. omega arith;
       }
   settle false x y c A B e ek test t r he h1 h2 =
-      let w : t .p + 0 < D + t .n = le-false dpos one (t .val) test in
+      let w : t .p + 0 < D + t .n = le-false dpos one-val (t .val) test in
       let z : A < B + D + (e + h) = omega (arith, t .under, w) in
       record {
         up = 0;
@@ -73,7 +73,7 @@ module _ (D h : ℕ) (adds : Adds D h) (dpos : 0 < D) (one : Val c-one D 0 D) (h
       let t : Close D (add binary64 s f) (A + Q) (B + M) (e + h) = close-move (close-add D h adds a (exactly v) (omega arith) (omega arith)) refl (omega arith) in
       let l = lost s f (add binary64 s f) A B Q M e a v t he h1 h2 (omega arith) h4 in
       let r = close-add D h adds b l (omega arith) (omega arith) in
-      settle (le c-one (add binary64 s f)) (add binary64 s f) (add binary64 (κ .correction) (compensation s f (add binary64 s f))) c (A + Q) (B + M) e ek refl t (close-move r refl (omega arith)) he (omega arith) (omega arith)
+      settle (le one (add binary64 s f)) (add binary64 s f) (add binary64 (κ .correction) (compensation s f (add binary64 s f))) c (A + Q) (B + M) e ek refl t (close-move r refl (omega arith)) he (omega arith) (omega arith)
 
 -- both fractions: `up` days are carried
 pub record Both (D h : ℕ) (k : Summed) (A B : ℕ) : Type 0 where
@@ -85,18 +85,18 @@ pub record Both (D h : ℕ) (k : Summed) (A B : ℕ) : Type 0 where
   pub high : A < B + up * D + D + 3 * h
   pub low : B + up * D + 60 * h ≤ A + D
 
-module _ (D H h : ℕ) (adds : Adds D h) (dpos : 0 < D) (two : D ≡ 2 * H) (one : Val c-one D 0 D) (half : Val c-half H 0 D) (nought : Val c-zero 0 0 D) (hs : 1024 * h ≤ D)
+module _ (D H h : ℕ) (adds : Adds D h) (dpos : 0 < D) (two : D ≡ 2 * H) (one-val : Val one D 0 D) (half-val : Val half H 0 D) (nought-val : Val nought 0 0 D) (hs : 1024 * h ≤ D)
     (f g : Float) (P N Q M : ℕ) (vf : Val f P N D) (vg : Val g Q M D)
     (f1 : N ≤ P + D) (f2 : P + 64 * h ≤ N + D) (g1 : M + 64 * h ≤ Q + D) (g2 : Q + 64 * h ≤ M + D) (fg : 2 * (N + M) + 128 * h ≤ 2 * (P + Q) + 3 * D) where
   pub first : Stage D h (addFraction 0 kahanStart f) 0 (H + P) (0 + N) 0 0
-  first = stage D h adds dpos one (omega arith) 0 kahanStart f H 0 P N 0 0 (exactly half) (exactly nought) vf (omega arith) (omega arith) (omega arith) (omega arith) (omega arith) (omega arith)
+  first = stage D h adds dpos one-val (omega arith) 0 kahanStart f H 0 P N 0 0 (exactly half-val) (exactly nought-val) vf (omega arith) (omega arith) (omega arith) (omega arith) (omega arith) (omega arith)
 
   pub both : Both D h (sumFractions f g) (H + P + Q) (N + M)
   unfolding sumFractions
   both =
       let a = first in
       let k = addFraction 0 kahanStart f in
-      let b = stage D h adds dpos one (omega arith) (k .carry) (k .kahan) g (H + P) (0 + N + a .up * D) Q M (0 + 2 * h) (0 + 2 * 0 + 4 * h) (a .sum) (a .correction) vg
+      let b = stage D h adds dpos one-val (omega arith) (k .carry) (k .kahan) g (H + P) (0 + N + a .up * D) Q M (0 + 2 * h) (0 + 2 * 0 + 4 * h) (a .sum) (a .correction) vg
       (omega arith) (omega arith) (upper (a .up * D) (a .high)) (lower (a .up) (a .few) (a .reach)) (omega arith) (omega arith) in
       record {
         up = a .up + b .up;

@@ -7,8 +7,9 @@ use native.Mathlib.Omega.{arith}
 use lib.Dec.{lit<}
 use lib.Pow.{pow-pos}
 use lib.Ieee.{neg, div, ofBits}
+use Rattle.floats.specs.Whole.{nought, half, one}
 use Rattle.rounding.specs.Value.{Val, L}
-use Rattle.day_number.specs.DayNumber.{c-one, c-half, c-zero, c-minus-eps-4, c-minus-eps-2, c-djmin, c-djmax}
+use Rattle.day_number.specs.DayNumber.{c-minus-eps-4, c-minus-eps-2, c-djmin, c-djmax}
 
 abbrev pub G : ℕ
 G = 2 ^ 53
@@ -69,16 +70,16 @@ pub Z-W : 16 * Z ≤ W
 Z-W = omega (arith, W-Z)
 
 -- ---- in units of 2 ^ -1074
-pub one-L : Val c-one L 0 L
-unfolding ofBits L
+pub one-L : Val one L 0 L
+unfolding L
 one-L = record { sign = false; size = L; has = (refl, refl); is = refl }
 
-pub half-L : Val c-half H 0 L
-unfolding ofBits L H
+pub half-L : Val half H 0 L
+unfolding L H
 half-L = record { sign = false; size = H; has = (refl, refl); is = refl }
 
-pub nought-L : Val c-zero 0 0 L
-unfolding ofBits L
+pub nought-L : Val nought 0 0 L
+unfolding L
 nought-L = record { sign = false; size = 0; has = (refl, refl); is = refl }
 
 pub minus-eps-4-L : Val c-minus-eps-4 0 W L
@@ -94,12 +95,10 @@ unfolding ofBits L E
 max-L = record { sign = false; size = 8000000000 * E; has = (refl, refl); is = refl }
 
 -- ---- in units of 2 ^ -53
-pub one-G : Val c-one G 0 G
-unfolding ofBits
+pub one-G : Val one G 0 G
 one-G = record { sign = false; size = G; has = (refl, refl); is = refl }
 
-pub nought-G : Val c-zero 0 0 G
-unfolding ofBits
+pub nought-G : Val nought 0 0 G
 nought-G = record { sign = false; size = 0; has = (refl, refl); is = refl }
 
 pub minus-eps-2-G : Val c-minus-eps-2 0 1 G
@@ -107,16 +106,13 @@ unfolding ofBits neg div
 minus-eps-2-G = record { sign = true; size = 1; has = (refl, refl); is = refl }
 
 -- ---- in units of 2 ^ -52
-pub one-S : Val c-one S 0 S
-unfolding ofBits
+pub one-S : Val one S 0 S
 one-S = record { sign = false; size = S; has = (refl, refl); is = refl }
 
-pub half-S : Val c-half (2 ^ 51) 0 S
-unfolding ofBits
+pub half-S : Val half (2 ^ 51) 0 S
 half-S = record { sign = false; size = 2 ^ 51; has = (refl, refl); is = refl }
 
-pub nought-S : Val c-zero 0 0 S
-unfolding ofBits
+pub nought-S : Val nought 0 0 S
 nought-S = record { sign = false; size = 0; has = (refl, refl); is = refl }
 
 -- ---- in units of 2 ^ -54

@@ -4,7 +4,7 @@ use mathlib.Core.Bool.{Bool, cond, _&&_}
 use Prim.Native.Nat.{ℕ, _+_}
 use lib.IntN.{ℤ, pos, _+ℤ_, _-ℤ_}
 use lib.Ieee.{Float, binary64, ofBits, add, sub, div, neg, lt, le, toSigned}
-use Rattle.floats.specs.Whole.{abs, nearestInt}
+use Rattle.floats.specs.Whole.{abs, half, nought, one, nearestInt}
 use Rattle.day_number.specs.declared.Kahan.{Kahan}
 use Rattle.day_number.specs.declared.Summed.{Summed}
 use Rattle.day_number.specs.declared.Borrowed.{Borrowed}
@@ -12,17 +12,7 @@ use Rattle.day_number.specs.declared.Carried.{Carried}
 use Rattle.day_number.specs.declared.Normalized.{Normalized}
 use Rattle.day_number.specs.declared.DayNumber.{DayNumber}
 
--- the Rust's constants by their bits: 1.0, 0.5 and 0.0
-abbrev pub c-one : Float
-c-one = ofBits binary64 0x3ff0_0000_0000_0000
-
-abbrev pub c-half : Float
-c-half = ofBits binary64 0x3fe0_0000_0000_0000
-
-abbrev pub c-zero : Float
-c-zero = ofBits binary64 0
-
--- -DBL_EPSILON / 4.0 and -DBL_EPSILON / 2.0, that is -2 ^ -54 and -2 ^ -53
+-- the Rust's constants by their bits: -DBL_EPSILON / 4.0 and -DBL_EPSILON / 2.0, that is -2 ^ -54 and -2 ^ -53
 abbrev pub c-minus-eps-4 : Float
 c-minus-eps-4 = div binary64 (neg (ofBits binary64 0x3cb0_0000_0000_0000)) (ofBits binary64 0x4010_0000_0000_0000)
 
@@ -52,13 +42,13 @@ unfolding le compensation add sub
 addFraction carry kahan frac =
     let temp = add binary64 (kahan .sum) frac in
     let correction = add binary64 (kahan .correction) (compensation (kahan .sum) frac temp) in
-    cond (le c-one temp)
-    (record { carry = carry + 1; kahan = record { sum = sub binary64 temp c-one; correction = correction } })
+    cond (le one temp)
+    (record { carry = carry + 1; kahan = record { sum = sub binary64 temp one; correction = correction } })
     (record { carry = carry; kahan = record { sum = temp; correction = correction } })
 
 -- the two fractions added from 0.5
 abbrev pub kahanStart : Kahan
-kahanStart = record { sum = c-half; correction = c-zero }
+kahanStart = record { sum = half; correction = nought }
 
 unfoldable pub sumFractions : Float → Float → Summed
 unfolding addFraction
@@ -66,10 +56,10 @@ sumFractions f g = addFraction (addFraction 0 kahanStart f .carry) (addFraction 
 
 -- one day borrowed: the sum with it, the fraction that it comes to, and both, with what the fraction differs from the sum
 abbrev pub borrowSum : Float → Float
-borrowSum sum = add binary64 sum c-one
+borrowSum sum = add binary64 sum one
 
 abbrev pub borrowFraction : Float → Float → Float
-borrowFraction sum correction = add binary64 (borrowSum sum) (add binary64 correction (add binary64 (sub binary64 c-one (borrowSum sum)) sum))
+borrowFraction sum correction = add binary64 (borrowSum sum) (add binary64 correction (add binary64 (sub binary64 one (borrowSum sum)) sum))
 
 unfoldable pub borrowDay : Kahan → Borrowed
 unfolding add sub
@@ -81,14 +71,14 @@ borrowDay kahan =
 -- one day carried, and the fraction that is left
 unfoldable pub carryEnd : Float → Carried
 unfolding lt
-carryEnd rest = cond (lt c-minus-eps-2 rest) (record { carry = 1; fraction = cond (lt c-zero rest) rest c-zero }) (record { carry = 0; fraction = rest })
+carryEnd rest = cond (lt c-minus-eps-2 rest) (record { carry = 1; fraction = cond (lt nought rest) rest nought }) (record { carry = 0; fraction = rest })
 
 unfoldable pub carryDay : Kahan → Float → Carried
 unfolding lt carryEnd add sub
 carryDay kahan fraction =
-    let sum = sub binary64 (kahan .sum) c-one in
-    let correction = add binary64 (kahan .correction) (sub binary64 (sub binary64 (kahan .sum) sum) c-one) in
-    cond (lt (sub binary64 fraction c-one) c-minus-eps-4) (record { carry = 0; fraction = fraction }) (carryEnd (add binary64 sum correction))
+    let sum = sub binary64 (kahan .sum) one in
+    let correction = add binary64 (kahan .correction) (sub binary64 (sub binary64 (kahan .sum) sum) one) in
+    cond (lt (sub binary64 fraction one) c-minus-eps-4) (record { carry = 0; fraction = fraction }) (carryEnd (add binary64 sum correction))
 
 -- the days carried at the end beside those borrowed before
 abbrev pub moved : ℕ → Carried → Normalized
@@ -103,7 +93,7 @@ unfolding lt borrowDay carryDay add sub
 normalizeFraction kahan =
     let fraction = add binary64 (kahan .sum) (kahan .correction) in
     let more = borrowDay (kahanOf (kahan .sum) fraction) in
-    cond (lt fraction c-zero) (moved (more .borrow) (carryDay (more .kahan) (more .fraction))) (moved 0 (carryDay (kahanOf (kahan .sum) fraction) fraction))
+    cond (lt fraction nought) (moved (more .borrow) (carryDay (more .kahan) (more .fraction))) (moved 0 (carryDay (kahanOf (kahan .sum) fraction) fraction))
 
 -- a part less its whole number
 unfoldable pub rest : Float → Float

@@ -3,8 +3,8 @@ use Prim.Native.Nat.{_≤_}
 use lib.Dec.{T}
 use lib.IntN.{ℤ}
 use lib.Ieee.{Float, lt, le}
+use Rattle.floats.specs.Whole.{nought, one}
 use Rattle.rounding.specs.Value.{plusZ, minusZ}
-use Rattle.day_number.specs.DayNumber.{c-zero, c-one}
 
 -- -68570 ≤ z ≤ 1000000000
 pub record InDays (z : ℤ) : Type 0 where
@@ -13,5 +13,5 @@ pub record InDays (z : ℤ) : Type 0 where
 
 -- 0.0 ≤ f < 1.0
 pub record InUnit (f : Float) : Type 0 where
-  pub low : T (le c-zero f)
-  pub high : T (lt f c-one)
+  pub low : T (le nought f)
+  pub high : T (lt f one)

@@ -3,7 +3,12 @@ use mathlib.Core.Path.{_≡_, refl}
 use mathlib.Core.Bool.{true, false}
 use lib.IntN.{pos, negsuc}
 use lib.Ieee.{nan, inf, fin, binary64, ofBits, toBits, toSigned, lt, add, sub}
-use Rattle.floats.specs.Whole.{abs, toWhole, cut, downward, upward, away, nearestInt}
+use Rattle.floats.specs.Whole.{abs, half, nought, one, toWhole, cut, downward, upward, away, nearestInt}
+
+-- ---- 0.0, 0.5 and 1.0 by their bits, as code writes them
+pub literals : (ofBits binary64 0 ≡ nought) × (ofBits binary64 0x3fe0_0000_0000_0000 ≡ half) × (ofBits binary64 0x3ff0_0000_0000_0000 ≡ one)
+unfolding ofBits
+literals = (refl, refl, refl)
 
 -- ---- the sign of a zero stays: -0.0 and -0.25 to a whole number, and trunc(-0.3)
 floor-minus-zero : toWhole downward (fin true 0 (pos 0)) ≡ fin true 0 (pos 0)

@@ -10,13 +10,10 @@ use lib.Dec.{T, ltb, eqb, ltb→lt, lt→ltb, nltb→le, eqb→eq, eqb-refl, lit
 use lib.Ieee.{Float, nan, inf, fin, binary64, up, down, round, fits, neg, add, sub, lt, eq, le, ofInt, toUnsigned, toSigned}
 use lib.Ieee.Fits.{down-pos}
 use lib.Ieee.Exact.{HasValue}
-use Rattle.floats.specs.Whole.{abs, half, nought, toWhole, downward, upward, nearestInt}
+use Rattle.floats.specs.Whole.{abs, half, nought, one, toWhole, downward, upward, nearestInt}
 use Rattle.floats.proofs.Laws.{downward-exact}
 
--- 1.0 and 2 ^ 52
-abbrev one : Float
-one = fin false 1 (pos 0)
-
+-- 2 ^ 52
 abbrev two-52 : Float
 two-52 = fin false 1 (pos 52)
 

@@ -5,6 +5,7 @@ use Prim.Native.Nat.{ℕ}
 use lib.IntN.{ℤ, pos}
 use lib.Ieee.{Float, binary64, ofInt}
 use Rattle.refusals.specs.Outcome.{Outcome, answer, refusal, onward}
+use Rattle.floats.specs.Whole.{nought}
 use Rattle.constants.specs.Constants.{mjdZeroPoint}
 use Rattle.calendar.specs.declared.CalendarDate.{CalendarDate}
 use Rattle.calendar.specs.DayCount.{mjdOf}
@@ -14,7 +15,7 @@ use Rattle.julian.specs.declared.CalendarAnswer.the-variants as Answer
 use Rattle.julian.specs.declared.JulianDate.{JulianDate}
 use Rattle.julian.specs.declared.CalendarFields.{CalendarFields}
 use Rattle.julian.specs.declared.CalendarAnswer.{CalendarAnswer}
-use Rattle.julian.specs.JulianDate.{julian, nought, roundedSum}
+use Rattle.julian.specs.JulianDate.{julian, roundedSum}
 use Rattle.julian.specs.DayFraction.{dayFraction}
 
 -- document 01: "`calendar_to_julian` gives (2400000.5, MJD)"

@@ -6,10 +6,10 @@ use lib.Dec.{eqb, leb}
 use lib.IntN.{pos}
 use lib.Ieee.{Float, binary64, ofInt, add, mul, div, lt, le}
 use Rattle.refusals.specs.Outcome.{Outcome, answer, refusal}
+use Rattle.floats.specs.Whole.{nought}
 use Rattle.constants.specs.Constants.{decimal, secondsPerDay}
 use Rattle.julian.specs.declared.FractionAnswer.the-variants as Answer
 use Rattle.julian.specs.declared.FractionAnswer.{FractionAnswer}
-use Rattle.julian.specs.JulianDate.{nought}
 
 -- document 01's answer: a fraction as a float, or a refusal number
 unfoldable pub fractionOutcome : FractionAnswer → Outcome Float

@@ -1,8 +1,6 @@
 -- A Julian date as two floats, and its sums and differences in the Rust's order of operations. Written from document 01, "Julian date", and the Rust's julian/mod.rs.
 -- Assumes nothing.
-use mathlib.Core.Bool.{false}
-use lib.IntN.{pos}
-use lib.Ieee.{Float, fin, binary64, add, sub, div}
+use lib.Ieee.{Float, binary64, add, sub, div}
 use Rattle.refusals.specs.Outcome.{Outcome, answer, refusal}
 use Rattle.floats.specs.Whole.{toWhole, cut}
 use Rattle.constants.specs.Constants.{secondsPerDay}
@@ -13,10 +11,6 @@ use Rattle.julian.specs.declared.JulianAnswer.{JulianAnswer}
 -- the date with these parts
 abbrev pub julian : Float → Float → JulianDate
 julian a b = record { jd1 = a; jd2 = b }
-
--- 0.0
-abbrev pub nought : Float
-nought = fin false 0 (pos 0)
 
 -- document 01's answer: a date as floats, or a refusal number
 unfoldable pub julianOutcome : JulianAnswer → Outcome JulianDate

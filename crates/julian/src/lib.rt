@@ -1,5 +1,6 @@
 // Two-part Julian dates, each operation in the Rust's order.
 ghost use mathlib.Core.Path.{_≡_};
+ghost use Rattle.floats.specs.Whole.{nought};
 ghost use Rattle.constants.specs.Constants.{j2000Jd, unixEpochJd};
 ghost use Rattle.julian.specs.JulianDate as D;
 ghost use Rattle.julian.specs.UnixTime as U;
@@ -63,19 +64,19 @@ impl JulianDate {
     }
 
     pub fn from_f64(jd: f64) -> JulianDate
-        ensures { λ r. ⌜ r ≡ D.julian jd D.nought ⌝ }
+        ensures { λ r. ⌜ r ≡ D.julian jd nought ⌝ }
     {
         JulianDate::new(jd, 0.0)
     }
 
     pub fn j2000() -> JulianDate
-        ensures { λ r. ⌜ r ≡ D.julian j2000Jd D.nought ⌝ }
+        ensures { λ r. ⌜ r ≡ D.julian j2000Jd nought ⌝ }
     {
         JulianDate::new(JulianDate::J2000_JD, 0.0)
     }
 
     pub fn unix_epoch() -> JulianDate
-        ensures { λ r. ⌜ r ≡ D.julian unixEpochJd D.nought ⌝ }
+        ensures { λ r. ⌜ r ≡ D.julian unixEpochJd nought ⌝ }
     {
         JulianDate::new(constants::UNIX_EPOCH_JD, 0.0)
     }

@@ -11,6 +11,7 @@ use lib.Ieee.{Float, binary64, round, ofInt, add, mul, div, lt, eq, le, fits}
 use lib.Ieee.Fits.{round-fits, add-fits}
 use borrow.Author.Tests.{leb-true}
 use Rattle.refusals.specs.Outcome.{answer, onward}
+use Rattle.floats.specs.Whole.{nought}
 use Rattle.rounding.specs.Value.{Val}
 use Rattle.rounding.proofs.Value.{val-move, val-scale}
 use Rattle.rounding.proofs.Casts.{plusZ, minusZ, one-side, add-pair, sub-pair, pair-le}
@@ -22,7 +23,7 @@ use Rattle.calendar.specs.DayCount.{civilCount, mjdNumber, mjdOf}
 use Rattle.calendar.proofs.Mjd.{date-of-mjd}
 use Rattle.day_number.specs.ExactDay.{OnGrid, exactSum, InJulianRange, exactDayNumber, fractionOf, DayAt}
 use Rattle.day_number.proofs.ExactDay.{only, exact}
-use Rattle.julian.specs.JulianDate.{nought, roundedSum}
+use Rattle.julian.specs.JulianDate.{roundedSum}
 use Rattle.julian.specs.DayFraction.{dayFraction, timeInDay, secondLimit}
 use Rattle.julian.specs.Calendar.{fields, calendarToJulian, atTime, fromCalendar, julianToCalendar}
 use Rattle.julian.proofs.Integers.{integer-val, integer-fits}

@@ -6,11 +6,12 @@ use lib.Dec.{T, eqb, ltb}
 use lib.ListN.{getD}
 use lib.IntN.{ℤ, pos, sucℤ}
 use lib.Ieee.{Float, round}
+use Rattle.floats.specs.Whole.{nought, half}
 use Rattle.calendar.specs.Calendar.{lengths, leapSize}
 use Rattle.calendar.specs.DayCount.{civilCount, mjdNumber}
 use Rattle.rounding.proofs.Quick.{qadd, qsub, qmul, qint}
 use Rattle.tai_utc.specs.Table.{Row, fixed, starts, reached}
-use Rattle.tai_utc.specs.Offset.{zeroF, halfF, none, secondsOf, startOf, rateOf}
+use Rattle.tai_utc.specs.Offset.{none, secondsOf, startOf, rateOf}
 use Rattle.tai_utc.specs.Leap.{twoF}
 use Rattle.leap_days.specs.Leaps.{small}
 use Rattle.leap_days.proofs.Tests.{then, every, sameF}
@@ -39,7 +40,7 @@ leapTest x y z = bothTest (qleap x y z) (qamount x y z)
 -- a day by the floats of its row and of the next day's row, and of the two Modified Julian Dates
 unfoldable pub oneDay : Float → Float → Float → Bool → Float → Float → Float → Float → Float → Bool
 unfolding leapTest qby
-oneDay s st r w s′ st′ r′ j j′ = leapTest (qby false s st r j zeroF) (qby false s st r j halfF) (qby w s′ st′ r′ j′ zeroF)
+oneDay s st r w s′ st′ r′ j j′ = leapTest (qby false s st r j nought) (qby false s st r j half) (qby w s′ st′ r′ j′ nought)
 
 -- true: the next day is of the same month
 unfoldable pub dayTest : Bool → Float → Float → Float → Bool → Float → Float → Float → ℤ → Bool

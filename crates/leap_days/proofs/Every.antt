@@ -9,6 +9,7 @@ use lib.IntN.{ℤ, pos, negsuc, natAbs, sucℤ, _+ℤ_, _-ℤ_}
 use lib.Ieee.{Float, binary64, round, add, sub, mul, ofInt}
 use borrow.Author.Tests.{ltb-true, ltb-false}
 use Rattle.refusals.specs.Outcome.{Outcome, answer, refusal, onward}
+use Rattle.floats.specs.Whole.{nought, half, one}
 use Rattle.calendar.specs.Calendar.{lengths, leapSize, daysInMonth, date, next}
 use Rattle.calendar.specs.Refusals.{validDate, nextOf}
 use Rattle.calendar.specs.DayCount.{civilCount, mjdNumber}
@@ -16,7 +17,7 @@ use Rattle.calendar.specs.declared.CalendarDate.{CalendarDate}
 use Rattle.calendar.proofs.Accepted.{Accepted, accepted, short}
 use Rattle.calendar.proofs.NextDates.{next-is}
 use Rattle.tai_utc.specs.Table.{Row, fixed, starts, reached, monthNumber, monthOf}
-use Rattle.tai_utc.specs.Offset.{zeroF, halfF, oneF, secondsOf, startOf, rateOf, byRow, offsetBy, offsetAt}
+use Rattle.tai_utc.specs.Offset.{secondsOf, startOf, rateOf, byRow, offsetBy, offsetAt}
 use Rattle.tai_utc.specs.Leap.{offsets, offsetsOfDay, dayOffsets, leapOf, leapAtEndOfDay, driftRate, leapAmount}
 use Rattle.tai_utc.specs.declared.DayOffsets.{DayOffsets}
 use Rattle.tai_utc.proofs.At.{rowAt}
@@ -61,22 +62,22 @@ module _ (n y m : ℕ) (e : n ≡ monthOf y m) (l : 23520 ≤ n) (h : n < 23664)
   real : (t : Bool) (j : ℤ) → T (Test t j) → Step (offsetsOfDay fixed n (cond t n (suc n)) j)
   unfolding dayTest oneDay offsetsOfDay
   real true j t =
-      subst Step (three _ _ _ _ _ _ (quick-drift n j zeroF l h) (quick-drift n j halfF l h) (quick-drift n (sucℤ j) zeroF l h)) (test-is _ _ _ t)
+      subst Step (three _ _ _ _ _ _ (quick-drift n j nought l h) (quick-drift n j half l h) (quick-drift n (sucℤ j) nought l h)) (test-is _ _ _ t)
   real false j t =
-      subst Step (three _ _ _ _ _ _ (quick-drift n j zeroF l h) (quick-drift n j halfF l h) (quick-any (suc n) (sucℤ j) zeroF (omega arith))) (test-is _ _ _ t)
+      subst Step (three _ _ _ _ _ _ (quick-drift n j nought l h) (quick-drift n j half l h) (quick-any (suc n) (sucℤ j) nought (omega arith))) (test-is _ _ _ t)
 
   drift-day : (d : ℕ) → d < 31 → Step (offsetsOfDay fixed n (cond (ltb (suc d) (lengths (leapSize y) m)) n (suc n)) (mjdNumber (pos y) (pos m) (pos (suc d))))
   drift-day d g = real (ltb (suc d) (lengths (leapSize y) m)) (mjdNumber (pos y) (pos m) (pos (suc d))) (at-day d g)
 
 -- ---- before 1960, and 1959-12-31
-none : Both (offsets zeroF zeroF zeroF) zeroF
+none : Both (offsets nought nought nought) nought
 unfolding leapOf leapAmount driftRate add sub mul
 none = (refl, refl)
 
-before : (n n′ : ℕ) (j : ℤ) → n < 23520 → n′ < 23520 → Both (offsetsOfDay fixed n n′ j) zeroF
+before : (n n′ : ℕ) (j : ℤ) → n < 23520 → n′ < 23520 → Both (offsetsOfDay fixed n n′ j) nought
 unfolding offsetsOfDay
 before n n′ j h h′ =
-    subst (λ (o : DayOffsets). Both o zeroF) (sym (three _ _ _ _ _ _ (before-1960 n (ofInt binary64 j) zeroF h) (before-1960 n (ofInt binary64 j) halfF h) (before-1960 n′ (ofInt binary64 (sucℤ j)) zeroF h′))) none
+    subst (λ (o : DayOffsets). Both o nought) (sym (three _ _ _ _ _ _ (before-1960 n (ofInt binary64 j) nought h) (before-1960 n (ofInt binary64 j) half h) (before-1960 n′ (ofInt binary64 (sucℤ j)) nought h′))) none
 
 pub last-of-1959 : Both (offsetsOfDay fixed 23519 23520 (mjdNumber (pos 1959) (pos 12) (pos 31))) leap1959
 unfolding leapOf leapAmount driftRate offsetsOfDay offsetAt offsetBy byRow secondsOf startOf rateOf mjdNumber civilCount fixed reached round add sub mul ofInt
@@ -86,10 +87,10 @@ last-of-1959 = (refl, refl)
 abbrev pub AnyLeap : DayOffsets → Type 0
 AnyLeap o = Leap (leapOf o) × (leapAmount o ≡ leapOf o)
 
-of-zero : (o : DayOffsets) → Both o zeroF → AnyLeap o
+of-zero : (o : DayOffsets) → Both o nought → AnyLeap o
 of-zero o (p, q) = (within (subst (λ (z : Float). T (small z)) (sym p) tt), q ∙ sym p)
 
-of-one : (o : DayOffsets) → Both o oneF → AnyLeap o
+of-one : (o : DayOffsets) → Both o one → AnyLeap o
 of-one o (p, q) = (second p, q ∙ sym p)
 
 of-first : (o : DayOffsets) → Both o leap1959 → AnyLeap o
@@ -101,8 +102,8 @@ of-step o (p, q) = (within p, q)
 small-not-1959 : (x : Float) → T (small x) → x ≡ leap1959 → ⊥
 small-not-1959 x t e = subst (λ (z : Float). T (small z)) e t
 
-one-not-1959 : oneF ≡ leap1959 → ⊥
-one-not-1959 e = subst (λ (z : Float). T (sameF z oneF)) e tt
+one-not-1959 : one ≡ leap1959 → ⊥
+one-not-1959 e = subst (λ (z : Float). T (sameF z one)) e tt
 
 mjd-same : (y m d : ℤ) (k j : ℕ) → natAbs m ≡ k → natAbs d ≡ j → mjdNumber y (pos k) (pos j) ≡ mjdNumber y m d
 unfolding mjdNumber
@@ -158,12 +159,12 @@ module _ (y : ℕ) (m d : ℤ) (a : Accepted (pos y) m d) where
       (drift-day N y M refl l h (a .m-low) (a .m-high) (D - 1) (omega (arith, a .d-low, a .d-high, short (leapSize y) M (a .m-low) (a .m-high)))))
 
   -- from 1972 on: a leap second on the last day of a month before a row begins
-  pub from-1972 : 23664 ≤ N → Both O (cond (not (ltb D L) && member (suc N) (starts fixed)) oneF zeroF)
+  pub from-1972 : 23664 ≤ N → Both O (cond (not (ltb D L) && member (suc N) (starts fixed)) one nought)
   from-1972 h =
-      subst (λ (k : ℕ). Both (offsetsOfDay fixed N k (mjdNumber (pos y) m d)) (cond (not (ltb D L) && member (suc N) (starts fixed)) oneF zeroF)) (turned (ltb D L) N)
+      subst (λ (k : ℕ). Both (offsetsOfDay fixed N k (mjdNumber (pos y) m d)) (cond (not (ltb D L) && member (suc N) (starts fixed)) one nought)) (turned (ltb D L) N)
       (whole-leap N h (mjdNumber (pos y) m d) (not (ltb D L)))
 
-  whole : (b : Bool) → Both O (cond b oneF zeroF) → AnyLeap O
+  whole : (b : Bool) → Both O (cond b one nought) → AnyLeap O
   whole true w = of-one O w
   whole false w = of-zero O w
 
@@ -181,9 +182,9 @@ module _ (y : ℕ) (m d : ℤ) (a : Accepted (pos y) m d) where
   only-this-day : leapOf O ≡ leap1959 → (y ≡ 1959) × (M ≡ 12) × (D ≡ 31)
   only-this-day x = go (ltb N 23664) refl (ltb N 23520) refl (ltb (cond (ltb D L) N (suc N)) 23520) refl
     where
-      no-whole : (b : Bool) → leapOf O ≡ cond b oneF zeroF → ⊥
+      no-whole : (b : Bool) → leapOf O ≡ cond b one nought → ⊥
       no-whole true e = one-not-1959 (sym e ∙ x)
-      no-whole false e = small-not-1959 zeroF tt (sym e ∙ x)
+      no-whole false e = small-not-1959 nought tt (sym e ∙ x)
 
       here : N ≡ 23519 → ltb D L ≡ false → (y ≡ 1959) × (M ≡ 12) × (D ≡ 31)
       here e f =
@@ -195,7 +196,7 @@ module _ (y : ℕ) (m d : ℤ) (a : Accepted (pos y) m d) where
       go false e q f r g = absurd (no-whole (not (ltb D L) && member (suc N) (starts fixed)) (from-1972 (ltb-false N 23664 e) .0))
       go true e false f r g = absurd (small-not-1959 (leapOf O) (drifting (ltb-false N 23520 f) (ltb-true N 23664 e) .0) x)
       go true e true f true g =
-          absurd (small-not-1959 zeroF tt (sym (before N (cond (ltb D L) N (suc N)) (mjdNumber (pos y) m d) (ltb-true N 23520 f) (ltb-true (cond (ltb D L) N (suc N)) 23520 g) .0) ∙ x))
+          absurd (small-not-1959 nought tt (sym (before N (cond (ltb D L) N (suc N)) (mjdNumber (pos y) m d) (ltb-true N 23520 f) (ltb-true (cond (ltb D L) N (suc N)) 23520 g) .0) ∙ x))
       go true e true f false g =
           let t = turn (ltb D L) N (ltb-true N 23520 f) (ltb-false (cond (ltb D L) N (suc N)) 23520 g) in
           here (t .1) (t .0)
@@ -258,4 +259,4 @@ only-1959 (pos y) m d e =
 only-1959 (negsuc y) m d e =
     let (t, p, q) = leap-came fixed (negsuc y) m d leap1959 e in
     let z = before 0 0 (mjdNumber (negsuc y) m d) (omega arith) (omega arith) .0 in
-    absurd (small-not-1959 zeroF tt (sym (ap (λ (k : ℕ). leapOf (offsetsOfDay fixed 0 k (mjdNumber (negsuc y) m d))) (next-month-early y m d t p) ∙ z) ∙ sym q))
+    absurd (small-not-1959 nought tt (sym (ap (λ (k : ℕ). leapOf (offsetsOfDay fixed 0 k (mjdNumber (negsuc y) m d))) (next-month-early y m d t p) ∙ z) ∙ sym q))

@@ -14,6 +14,7 @@ use lib.Ieee.{Float, nan, inf, fin, binary64, up, down, round, add, sub, mul, of
 use lib.Ieee.Scale.{finite}
 use borrow.Author.Tests.{leb-true}
 use Rattle.refusals.specs.Outcome.{answer}
+use Rattle.floats.specs.Whole.{nought, one}
 use Rattle.calendar.specs.Calendar.{leap}
 use Rattle.calendar.specs.DayCount.{marchCount, civilCount, mjdNumber, mjdOf}
 use Rattle.calendar.proofs.Signs.{sub-at}
@@ -27,7 +28,7 @@ use Rattle.rounding.proofs.Compare.{le-val}
 use Rattle.rounding.proofs.Near.{rounds-near}
 use Rattle.rounding.proofs.About.{U, U-pos, L-U, About, about-own, about-scale, about-add, about-sub, about-mul}
 use Rattle.tai_utc.specs.Table.{Row, fixed, starts, reached, monthOf, monthNumber}
-use Rattle.tai_utc.specs.Offset.{zeroF, oneF, none, secondsOf, startOf, rateOf, offsetBy, offsetAt, inDay, taiUtcOffset}
+use Rattle.tai_utc.specs.Offset.{none, secondsOf, startOf, rateOf, offsetBy, offsetAt, inDay, taiUtcOffset}
 use Rattle.tai_utc.proofs.Rows.{at}
 use Rattle.tai_utc.proofs.At.{rowAt, drifting}
 use Rattle.tai_utc.proofs.Years.{one-row, drift-rows}
@@ -110,18 +111,18 @@ and-right : (a b : Bool) → T (a && b) → T b
 and-right true b t = t
 and-right false b t = absurd t
 
-zero-val : Val zeroF 0 0 L
+zero-val : Val nought 0 0 L
 zero-val = record { sign = false; size = 0; has = (refl, zero-mul L); is = refl }
 
 fraction : (f : Float) → T (fits binary64 f) → T (inDay f) → Fraction f
 unfolding inDay
 fraction f g t = go _ _ (own-val f (own f g (is-finite f t)))
   where
-    lower : T (le zeroF f)
-    lower = and-left (le zeroF f) (le f oneF) t
+    lower : T (le nought f)
+    lower = and-left (le nought f) (le f one) t
 
-    upper : T (le f oneF)
-    upper = and-right (le zeroF f) (le f oneF) t
+    upper : T (le f one)
+    upper = and-right (le nought f) (le f one) t
 
     go : (q m : ℕ) → Val f q m L → Fraction f
     go q m v =

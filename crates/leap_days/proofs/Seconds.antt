@@ -11,12 +11,11 @@ use lib.IntN.{ℤ, pos, natAbs}
 use lib.Ieee.{Float, nan, inf, fin, binary64, add, lt, up, down, round, ofInt}
 use borrow.Author.Tests.{eqb-true, eqb-false, eq-eqb, ne-eqb, ltb-true, ltb-false, le-ltb}
 use Rattle.refusals.specs.Outcome.{answer}
-use Rattle.floats.specs.Whole.{abs}
+use Rattle.floats.specs.Whole.{abs, nought, half, one}
 use Rattle.calendar.specs.Calendar.{lengths, leapSize}
 use Rattle.calendar.proofs.Accepted.{accepted}
 use Rattle.calendar.proofs.NextDates.{next-is}
 use Rattle.tai_utc.specs.Table.{fixed, starts, monthOf}
-use Rattle.tai_utc.specs.Offset.{zeroF, halfF, oneF}
 use Rattle.tai_utc.specs.Leap.{leapOf, leapAtEndOfDay}
 use Rattle.tai_utc.proofs.Reached.{member, member-later}
 use Rattle.tai_utc.proofs.Rows.{fixed-rises}
@@ -77,8 +76,8 @@ module _ (y m d : ℕ) (l : 1 ≤ m) (h : m ≤ 12) where
   abbrev E : Bool
   E = eqb d (lengths (leapSize y) m)
 
-  one : (t : Day) → T (lastDay t) → eqb y (t .year) && (eqb m (t .month) && eqb d (t .day)) ≡ E && eqb (12 * y + m) (monthAfter t)
-  one t k = go (eqb y (t .year)) refl (eqb m (t .month)) refl
+  one-day : (t : Day) → T (lastDay t) → eqb y (t .year) && (eqb m (t .month) && eqb d (t .day)) ≡ E && eqb (12 * y + m) (monthAfter t)
+  one-day t k = go (eqb y (t .year)) refl (eqb m (t .month)) refl
     where
       r : T (leb 1 (t .month) && leb (t .month) 12)
       r = and-left (leb 1 (t .month) && leb (t .month) 12) (eqb (t .day) (lengths (leapSize (t .year)) (t .month))) k
@@ -107,7 +106,7 @@ module _ (y m d : ℕ) (l : 1 ≤ m) (h : m ≤ 12) where
   all : (s : List Day) → T (lastDays s) → listed s y m d ≡ E && member (12 * y + m) (map monthAfter s)
   all [] k = sym (with-false E)
   all (t ∷ s) k =
-      (λ i. one t (and-left (lastDay t) (lastDays s) k) i || all s (and-right (lastDay t) (lastDays s) k) i)
+      (λ i. one-day t (and-left (lastDay t) (lastDays s) k) i || all s (and-right (lastDay t) (lastDays s) k) i)
       ∙ share E (eqb (12 * y + m) (monthAfter t)) (member (12 * y + m) (map monthAfter s))
 
   all-last : T (lastDays leapSeconds)
@@ -135,16 +134,16 @@ module _ (y m d : ℕ) (l : 1 ≤ m) (h : m ≤ 12) where
       ∙ sym (all leapSeconds all-last)
 
 -- ---- THE LAWS, from 1972 on
-pub leap-seconds : (y : ℕ) (m d : ℤ) (x : Float) → 1972 ≤ y → leapAtEndOfDay fixed (pos y) m d ≡ answer x → x ≡ cond (isLeapSecond y (natAbs m) (natAbs d)) oneF zeroF
+pub leap-seconds : (y : ℕ) (m d : ℤ) (x : Float) → 1972 ≤ y → leapAtEndOfDay fixed (pos y) m d ≡ answer x → x ≡ cond (isLeapSecond y (natAbs m) (natAbs d)) one nought
 leap-seconds y m d x h e =
     let (t, p, q) = leap-came fixed (pos y) m d x e in
     let a = accepted (pos y) m d (next-is (pos y) m d t p .0) in
     q
     ∙ ap leapOf (since y m d t p)
     ∙ from-1972 y m d a (late y (natAbs m) (natAbs d) (a .m-low) (a .m-high) h) .0
-    ∙ ap (λ (b : Bool). cond b oneF zeroF) (the-list y (natAbs m) (natAbs d) (a .m-low) (a .m-high) h (a .d-high))
+    ∙ ap (λ (b : Bool). cond b one nought) (the-list y (natAbs m) (natAbs d) (a .m-low) (a .m-high) h (a .d-high))
 
-lengths-are : (b : Bool) → add binary64 (wholeF 86400) (cond b oneF zeroF) ≡ wholeF (cond b 86401 86400)
+lengths-are : (b : Bool) → add binary64 (wholeF 86400) (cond b one nought) ≡ wholeF (cond b 86401 86400)
 unfolding add round ofInt
 lengths-are true = refl
 lengths-are false = refl
@@ -154,7 +153,7 @@ pub day-length : (y : ℕ) (m d : ℤ) (x : Float) → 1972 ≤ y → leapAtEndO
 day-length y m d x h e = ap (add binary64 (wholeF 86400)) (leap-seconds y m d x h e) ∙ lengths-are (isLeapSecond y (natAbs m) (natAbs d))
 
 -- ---- the test of the text, 0.5 < |leap|: false of the small ones, and true of the other two
-pub small-not-over : (x : Float) → T (small x) → lt halfF (abs x) ≡ false
+pub small-not-over : (x : Float) → T (small x) → lt half (abs x) ≡ false
 unfolding lt abs
 small-not-over nan t = absurd t
 small-not-over (inf s) t = absurd t

@@ -7,8 +7,8 @@ use native.Mathlib.Omega.{arith}
 use lib.Dec.{T}
 use lib.IntN.{ℤ, pos, sucℤ}
 use lib.Ieee.{Float, binary64, round, add, sub, mul, ofInt}
+use Rattle.floats.specs.Whole.{nought, half, one}
 use Rattle.tai_utc.specs.Table.{fixed, starts, reached}
-use Rattle.tai_utc.specs.Offset.{zeroF, halfF, oneF}
 use Rattle.tai_utc.specs.Leap.{offsets, offsetsOfDay, leapOf, driftRate, leapAmount}
 use Rattle.tai_utc.specs.declared.DayOffsets.{DayOffsets}
 use Rattle.tai_utc.proofs.Reached.{member, month-later}
@@ -25,11 +25,11 @@ Both o x = (leapOf o ≡ x) × (leapAmount o ≡ x)
 -- ---- of k whole seconds all day, and of k + 1 at its end, for each k below 64: computed
 stayTest : ℕ → Bool
 unfolding leapOf leapAmount driftRate round add sub mul ofInt
-stayTest k = then (sameF (leapOf (offsets (wholeF k) (wholeF k) (wholeF k))) zeroF) (sameF (leapAmount (offsets (wholeF k) (wholeF k) (wholeF k))) zeroF)
+stayTest k = then (sameF (leapOf (offsets (wholeF k) (wholeF k) (wholeF k))) nought) (sameF (leapAmount (offsets (wholeF k) (wholeF k) (wholeF k))) nought)
 
 stepTest : ℕ → Bool
 unfolding leapOf leapAmount driftRate round add sub mul ofInt
-stepTest k = then (sameF (leapOf (offsets (wholeF k) (wholeF k) (wholeF (suc k)))) oneF) (sameF (leapAmount (offsets (wholeF k) (wholeF k) (wholeF (suc k)))) oneF)
+stepTest k = then (sameF (leapOf (offsets (wholeF k) (wholeF k) (wholeF (suc k)))) one) (sameF (leapAmount (offsets (wholeF k) (wholeF k) (wholeF (suc k)))) one)
 
 both : (o : DayOffsets) (x : Float) → T (then (sameF (leapOf o) x) (sameF (leapAmount o) x)) → Both o x
 both o x t = (
@@ -37,13 +37,13 @@ both o x t = (
   same-float (leapAmount o) x (then-right (sameF (leapOf o) x) (sameF (leapAmount o) x) t),
 )
 
-pub stay : (k : ℕ) → k < 64 → Both (offsets (wholeF k) (wholeF k) (wholeF k)) zeroF
+pub stay : (k : ℕ) → k < 64 → Both (offsets (wholeF k) (wholeF k) (wholeF k)) nought
 unfolding stayTest
-stay k h = both (offsets (wholeF k) (wholeF k) (wholeF k)) zeroF (each stayTest 64 k h tt)
+stay k h = both (offsets (wholeF k) (wholeF k) (wholeF k)) nought (each stayTest 64 k h tt)
 
-pub step-up : (k : ℕ) → k < 64 → Both (offsets (wholeF k) (wholeF k) (wholeF (suc k))) oneF
+pub step-up : (k : ℕ) → k < 64 → Both (offsets (wholeF k) (wholeF k) (wholeF (suc k))) one
 unfolding stepTest
-step-up k h = both (offsets (wholeF k) (wholeF k) (wholeF (suc k))) oneF (each stepTest 64 k h tt)
+step-up k h = both (offsets (wholeF k) (wholeF k) (wholeF (suc k))) one (each stepTest 64 k h tt)
 
 -- ---- a day of month n; `last`: the next day is of the next month
 module _ (n : ℕ) (h : 23664 ≤ n) (j : ℤ) where
@@ -68,14 +68,14 @@ module _ (n : ℕ) (h : 23664 ≤ n) (j : ℤ) where
   is-whole : (last : Bool) → offsetsOfDay fixed n (cond last (suc n) n) j ≡ offsets (wholeF (K - 5)) (wholeF (K - 5)) (wholeF (cond (last && B) (suc (K - 5)) (K - 5)))
   unfolding offsetsOfDay
   is-whole last =
-      let p = whole-seconds n (ofInt binary64 j) zeroF h in
-      let q = whole-seconds n (ofInt binary64 j) halfF h in
-      let r = whole-seconds (cond last (suc n) n) (ofInt binary64 (sucℤ j)) zeroF (late last) ∙ ap wholeF (at-end last) in
+      let p = whole-seconds n (ofInt binary64 j) nought h in
+      let q = whole-seconds n (ofInt binary64 j) half h in
+      let r = whole-seconds (cond last (suc n) n) (ofInt binary64 (sucℤ j)) nought (late last) ∙ ap wholeF (at-end last) in
       (λ i. offsets (p i) (q i) (r i))
 
-  by-step : (b : Bool) → Both (offsets (wholeF (K - 5)) (wholeF (K - 5)) (wholeF (cond b (suc (K - 5)) (K - 5)))) (cond b oneF zeroF)
+  by-step : (b : Bool) → Both (offsets (wholeF (K - 5)) (wholeF (K - 5)) (wholeF (cond b (suc (K - 5)) (K - 5)))) (cond b one nought)
   by-step true = step-up (K - 5) (omega (arith, most-rows n))
   by-step false = stay (K - 5) (omega (arith, most-rows n))
 
-  pub whole-leap : (last : Bool) → Both (offsetsOfDay fixed n (cond last (suc n) n) j) (cond (last && B) oneF zeroF)
-  whole-leap last = subst (λ (o : DayOffsets). Both o (cond (last && B) oneF zeroF)) (sym (is-whole last)) (by-step (last && B))
+  pub whole-leap : (last : Bool) → Both (offsetsOfDay fixed n (cond last (suc n) n) j) (cond (last && B) one nought)
+  whole-leap last = subst (λ (o : DayOffsets). Both o (cond (last && B) one nought)) (sym (is-whole last)) (by-step (last && B))

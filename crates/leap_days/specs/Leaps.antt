@@ -6,7 +6,7 @@ use mathlib.Core.List.{List, [], _∷_}
 use lib.Dec.{T, eqb, leb}
 use lib.IntN.{negsuc}
 use lib.Ieee.{Float, nan, inf, fin, up, down}
-use Rattle.tai_utc.specs.Offset.{oneF}
+use Rattle.floats.specs.Whole.{one}
 
 pub record Day : Type 0 where
   pub year : ℕ
@@ -66,5 +66,5 @@ leap1959 = fin false 2124532591815385 (negsuc 50)
 
 pub data Leap (x : Float) : Type 0 where
   within : T (small x) → Leap x
-  second : x ≡ oneF → Leap x
+  second : x ≡ one → Leap x
   first : x ≡ leap1959 → Leap x

@@ -19,9 +19,9 @@ use Rattle.rounding.proofs.Own.{Rep, rep-flip, own, own-val}
 use Rattle.rounding.proofs.Nearest.{rn-le}
 use Rattle.rounding.proofs.TwoSumFloat.{At, at}
 use Rattle.rounding.proofs.Compare.{le-true, le-show}
-use Rattle.floats.specs.Whole.{nearestInt}
+use Rattle.floats.specs.Whole.{nearestInt, nought}
 use Rattle.day_number.specs.declared.DayAnswer.the-variants.{Day}
-use Rattle.day_number.specs.DayNumber.{c-zero, c-djmin, c-djmax, inJulianRange, accepted, dayNumber, dayOf}
+use Rattle.day_number.specs.DayNumber.{c-djmin, c-djmax, inJulianRange, accepted, dayNumber, dayOf}
 use Rattle.day_number.specs.Answer.{dayOutcome}
 use Rattle.day_number.proofs.Units.{E, E-L, E-pos, H, H-L, W, L-W, min-L, nought-L}
 use Rattle.day_number.proofs.SignedUnits.{has-val}
@@ -40,24 +40,24 @@ use Rattle.stamps.proofs.Counts.{day-given}
 
 -- ---- the test as the code makes it
 pub record Late (x y : Float) : Type 0 where
-  low : le c-zero (add binary64 x y) ≡ true
+  low : le nought (add binary64 x y) ≡ true
   high : le (add binary64 x y) c-djmax ≡ true
 
-pub from-zero : (z : Float) → le c-zero z ≡ true → le z c-djmax ≡ (le c-zero z && le z c-djmax)
+pub from-zero : (z : Float) → le nought z ≡ true → le z c-djmax ≡ (le nought z && le z c-djmax)
 from-zero z e = sym (ap (λ (b : Bool). b && le z c-djmax) e)
 
-pub below-zero : (z : Float) → le c-zero z ≡ false → le c-zero z ≡ (le c-zero z && le z c-djmax)
+pub below-zero : (z : Float) → le nought z ≡ false → le nought z ≡ (le nought z && le z c-djmax)
 below-zero z e = e ∙ sym (ap (λ (b : Bool). b && le z c-djmax) e)
 
 both : (a b : Bool) → true ≡ (a && b) → (a ≡ true) × (b ≡ true)
 both true b e = (refl, sym e)
 both false b e = let z : _≡_ {A = ℕ} 0 1 = cc in absurd (omega arith)
 
-pub late-of : (x y : Float) → true ≡ (le c-zero (add binary64 x y) && le (add binary64 x y) c-djmax) → Late x y
-late-of x y e = let h = both (le c-zero (add binary64 x y)) (le (add binary64 x y) c-djmax) e in record { low = h .0; high = h .1 }
+pub late-of : (x y : Float) → true ≡ (le nought (add binary64 x y) && le (add binary64 x y) c-djmax) → Late x y
+late-of x y e = let h = both (le nought (add binary64 x y)) (le (add binary64 x y) c-djmax) e in record { low = h .0; high = h .1 }
 
 -- ---- such a sum is finite and in the range
-late-finite : (z : Float) → le c-zero z ≡ true → le z c-djmax ≡ true → T (finite z)
+late-finite : (z : Float) → le nought z ≡ true → le z c-djmax ≡ true → T (finite z)
 unfolding le lt eq ofBits
 late-finite nan a b = absurd (subst T (sym a) tt)
 late-finite (inf true) a b = absurd (subst T (sym a) tt)

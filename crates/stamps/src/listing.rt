@@ -6,7 +6,8 @@ ghost use lib.ListN.{length};
 ghost use lib.IntN.{negsuc};
 ghost use lib.Signed.{ltZ};
 ghost use lib.Ieee.{le};
-ghost use Rattle.day_number.specs.DayNumber.{c-zero, c-djmax};
+ghost use Rattle.floats.specs.Whole.{nought};
+ghost use Rattle.day_number.specs.DayNumber.{c-djmax};
 ghost use Rattle.tai_utc.specs.Table.{fixed};
 ghost use Rattle.utc.specs.IsoText.{isoText};
 ghost use Rattle.stamps.specs.Block.{blockOutcome, blockOf};
@@ -61,7 +62,7 @@ fn one_if_early(day: i64) -> u32
 
 // Whether every date with this rounded sum of its parts has a text: from 0.0, in the year -4713, to the greatest sum that has a day. A NaN is not there.
 fn surely_shown(sum: f64) -> bool
-    ensures { λ r. ⌜ r ≡ (le c-zero sum && le sum c-djmax) ⌝ }
+    ensures { λ r. ⌜ r ≡ (le nought sum && le sum c-djmax) ⌝ }
 {
     sum >= 0.0 && sum <= 1e9
 }

@@ -10,8 +10,9 @@ use lib.ListN.{getD}
 use lib.IntN.{ℤ}
 use lib.Ieee.{Float, binary64, add, sub, mul, ofInt}
 use borrow.Author.Tests.{lt-ltb, le-ltb}
+use Rattle.floats.specs.Whole.{nought}
 use Rattle.tai_utc.specs.Table.{Row, fixed, starts, reached}
-use Rattle.tai_utc.specs.Offset.{zeroF, secondsOf, startOf, rateOf, byRow, none, offsetBy, offsetAt}
+use Rattle.tai_utc.specs.Offset.{secondsOf, startOf, rateOf, byRow, none, offsetBy, offsetAt}
 use Rattle.tai_utc.proofs.Rows.{drifts}
 
 abbrev pub rowAt : ℕ → Row
@@ -29,7 +30,7 @@ abbrev drift : Row → Float → Float → Float
 drift r mjd f = add binary64 (secondsOf r) (mul binary64 (sub binary64 (add binary64 mjd f) (startOf r)) (rateOf r))
 
 module _ (k : ℕ) (mjd f : Float) where
-  pub absent : k ≡ 0 → zeroF ≡ offsetBy fixed k mjd f
+  pub absent : k ≡ 0 → nought ≡ offsetBy fixed k mjd f
   unfolding offsetBy
   absent z = sym (ap (λ (j : ℕ). offsetBy fixed j mjd f) z)
 

@@ -6,11 +6,12 @@ use lib.ListN.{length}
 use lib.IntN.{pos}
 use lib.Ieee.{fin, nan, round, le}
 use Rattle.refusals.specs.Outcome.{answer, refusal, onward}
+use Rattle.floats.specs.Whole.{one}
 use Rattle.calendar.specs.Calendar.{leapSize, lengths, daysInMonth}
 use Rattle.calendar.specs.Refusals.{validDate, nextOf}
 use Rattle.calendar.specs.DayCount.{civilCount, mjdNumber, mjdOf}
 use Rattle.tai_utc.specs.Table.{fixed, monthNumber, reached}
-use Rattle.tai_utc.specs.Offset.{oneF, secondsOf, byRow, offsetBy, offsetAt, inDay, taiUtcOffset}
+use Rattle.tai_utc.specs.Offset.{secondsOf, byRow, offsetBy, offsetAt, inDay, taiUtcOffset}
 use Rattle.tai_utc.specs.Leap.{dayOffsets, leapAtEndOfDay}
 
 -- -0.0 and 1.0 are fractions of the day
@@ -18,7 +19,7 @@ pub at-minus-zero : taiUtcOffset fixed (pos 2017) (pos 1) (pos 1) (fin true 0 (p
 unfolding taiUtcOffset onward mjdOf mjdNumber civilCount validDate daysInMonth lengths leapSize offsetAt offsetBy byRow secondsOf round inDay le fixed monthNumber reached
 at-minus-zero = refl
 
-pub at-one : taiUtcOffset fixed (pos 2016) (pos 12) (pos 31) oneF ≡ answer (fin false 9 (pos 2))
+pub at-one : taiUtcOffset fixed (pos 2016) (pos 12) (pos 31) one ≡ answer (fin false 9 (pos 2))
 unfolding taiUtcOffset onward mjdOf mjdNumber civilCount validDate daysInMonth lengths leapSize offsetAt offsetBy byRow secondsOf round inDay le fixed monthNumber reached
 at-one = refl
 
@@ -31,7 +32,7 @@ pub at-nan : taiUtcOffset fixed (pos 2017) (pos 13) (pos 1) nan ≡ refusal 7
 unfolding taiUtcOffset onward mjdOf validDate inDay le
 at-nan = refl
 
-pub no-month-13 : taiUtcOffset fixed (pos 2017) (pos 13) (pos 1) oneF ≡ refusal 2
+pub no-month-13 : taiUtcOffset fixed (pos 2017) (pos 13) (pos 1) one ≡ refusal 2
 unfolding taiUtcOffset onward mjdOf validDate inDay le
 no-month-13 = refl
 

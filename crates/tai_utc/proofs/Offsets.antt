@@ -8,32 +8,33 @@ use native.Mathlib.Omega.{arith}
 use lib.IntN.{ℤ, natAbs}
 use lib.Ieee.{Float, binary64, ofInt, le}
 use Rattle.refusals.specs.Outcome.{Outcome, answer, refusal, onward}
+use Rattle.floats.specs.Whole.{nought, half, one}
 use Rattle.calendar.specs.DayCount.{mjdOf}
 use Rattle.tai_utc.specs.Table.{Row, monthNumber}
-use Rattle.tai_utc.specs.Offset.{zeroF, halfF, oneF, offsetAt, inDay, taiUtcOffset}
+use Rattle.tai_utc.specs.Offset.{offsetAt, inDay, taiUtcOffset}
 
 flip : (b t : Bool) → not b ≡ t → b ≡ not t
 flip true t e = ap not e
 flip false t e = ap not e
 
 -- ---- the two tests of the code
-pub too-low : (f : Float) → not (le zeroF f) ≡ true → inDay f ≡ false
+pub too-low : (f : Float) → not (le nought f) ≡ true → inDay f ≡ false
 unfolding inDay
-too-low f e = rw (flip (le zeroF f) _ e)
+too-low f e = rw (flip (le nought f) _ e)
 
-pub too-high : (f : Float) → not (le zeroF f) ≡ false → not (le f oneF) ≡ true → inDay f ≡ false
+pub too-high : (f : Float) → not (le nought f) ≡ false → not (le f one) ≡ true → inDay f ≡ false
 unfolding inDay
-too-high f e g = rw (flip (le zeroF f) _ e, flip (le f oneF) _ g)
+too-high f e g = rw (flip (le nought f) _ e, flip (le f one) _ g)
 
-pub in-day : (f : Float) → not (le zeroF f) ≡ false → not (le f oneF) ≡ false → inDay f ≡ true
+pub in-day : (f : Float) → not (le nought f) ≡ false → not (le f one) ≡ false → inDay f ≡ true
 unfolding inDay
-in-day f e g = rw (flip (le zeroF f) _ e, flip (le f oneF) _ g)
+in-day f e g = rw (flip (le nought f) _ e, flip (le f one) _ g)
 
-pub in-day-zero : inDay zeroF ≡ true
+pub in-day-zero : inDay nought ≡ true
 unfolding inDay le
 in-day-zero = refl
 
-pub in-day-half : inDay halfF ≡ true
+pub in-day-half : inDay half ≡ true
 unfolding inDay le
 in-day-half = refl
 

@@ -13,6 +13,7 @@ use mir.Val.{SFits, toZ, ofZ}
 use mir.Facts.{toZ-ofZ}
 use borrow.Author.Tests.{ltb-false, leb-true}
 use Rattle.refusals.specs.Outcome.{answer}
+use Rattle.floats.specs.Whole.{nought, half}
 use Rattle.calendar.specs.Calendar.{date, leap, lengths}
 use Rattle.calendar.specs.Refusals.{validDate}
 use Rattle.calendar.specs.DayCount.{mjdNumber}
@@ -21,7 +22,7 @@ use Rattle.calendar.proofs.Accepted.{Accepted, accepted, in-calendar-valid}
 use Rattle.calendar.proofs.Mjd.{mjd-given}
 use Rattle.calendar.proofs.NextDates.{next-day, next-is}
 use Rattle.tai_utc.specs.Table.{fixed, monthNumber}
-use Rattle.tai_utc.specs.Offset.{zeroF, halfF, offsetAt, inDay, taiUtcOffset}
+use Rattle.tai_utc.specs.Offset.{offsetAt, inDay, taiUtcOffset}
 use Rattle.tai_utc.specs.Leap.{offsets, offsetsOfDay, dayOffsets}
 use Rattle.tai_utc.specs.Plain.{Plain}
 use Rattle.tai_utc.proofs.Offsets.{offset-given}
@@ -68,5 +69,5 @@ module _ (y m d : ℤ) (p : Plain y m d) (s : Float) (e : (mjd f : Float) → s 
   pub plain-offsets : answer (offsets s s s) ≡ dayOffsets fixed y m d
   unfolding offsetsOfDay
   plain-offsets =
-      (λ i. answer (offsets (e (ofInt binary64 (mjdNumber y m d)) zeroF i) (e (ofInt binary64 (mjdNumber y m d)) halfF i) (e (ofInt binary64 (sucℤ (mjdNumber y m d))) zeroF i)))
+      (λ i. answer (offsets (e (ofInt binary64 (mjdNumber y m d)) nought i) (e (ofInt binary64 (mjdNumber y m d)) half i) (e (ofInt binary64 (sucℤ (mjdNumber y m d))) nought i)))
       ∙ sym (day-given fixed y m d _ (mjd-given y m d (valid y m d p)) _ (p .same-month))

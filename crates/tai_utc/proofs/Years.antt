@@ -12,10 +12,11 @@ use lib.Signed.{ltZ}
 use lib.Ieee.{Float, nan, binary64, round, ofInt}
 use borrow.Author.Tests.{ltb-true}
 use Rattle.refusals.specs.Outcome.{answer}
+use Rattle.floats.specs.Whole.{nought}
 use Rattle.calendar.proofs.Accepted.{accepted}
 use Rattle.calendar.proofs.Mjd.{mjd-valid}
 use Rattle.tai_utc.specs.Table.{Row, fixed, starts, reached, monthOf, monthNumber}
-use Rattle.tai_utc.specs.Offset.{zeroF, none, secondsOf, offsetAt, taiUtcOffset}
+use Rattle.tai_utc.specs.Offset.{none, secondsOf, offsetAt, taiUtcOffset}
 use Rattle.tai_utc.proofs.Reached.{low, high, at-most}
 use Rattle.tai_utc.proofs.Rows.{place, fixed-rises}
 use Rattle.tai_utc.proofs.At.{rowAt, absent, steady}
@@ -26,7 +27,7 @@ no-rows : (n : ℕ) → n < 23520 → reached (starts fixed) n ≡ 0
 unfolding fixed
 no-rows n h = omega (arith, high (starts fixed) fixed-rises 0 n (omega arith) h)
 
-pub before-1960 : (n : ℕ) (mjd f : Float) → n < 23520 → offsetAt fixed n mjd f ≡ zeroF
+pub before-1960 : (n : ℕ) (mjd f : Float) → n < 23520 → offsetAt fixed n mjd f ≡ nought
 unfolding offsetAt
 before-1960 n mjd f h = sym (absent (reached (starts fixed) n) mjd f (no-rows n h))
 
@@ -106,7 +107,7 @@ unfolding monthNumber
 early (pos y) m e h = omega (arith, ltb-true y 1960 e)
 early (negsuc y) m e h = omega arith
 
-pub zero-before-1960 : (y m d : ℤ) (f x : Float) → ltZ y (pos 1960) ≡ true → taiUtcOffset fixed y m d f ≡ answer x → x ≡ zeroF
+pub zero-before-1960 : (y m d : ℤ) (f x : Float) → ltZ y (pos 1960) ≡ true → taiUtcOffset fixed y m d f ≡ answer x → x ≡ nought
 zero-before-1960 y m d f x e p =
     let (n, q, r) = offset-came fixed y m d f x p in
     r ∙ before-1960 (monthNumber y (natAbs m)) (ofInt binary64 n) f (early y (natAbs m) e (accepted y m d (mjd-valid y m d n q) .m-high))

@@ -6,10 +6,11 @@ use mathlib.Core.List.{List}
 use lib.IntN.{ℤ, pos, sucℤ}
 use lib.Ieee.{Float, fin, binary64, add, sub, mul, ofInt}
 use Rattle.refusals.specs.Outcome.{Outcome, answer, onward}
+use Rattle.floats.specs.Whole.{nought, half}
 use Rattle.calendar.specs.Refusals.{nextOf}
 use Rattle.tai_utc.specs.declared.DayOffsets.{DayOffsets}
 use Rattle.tai_utc.specs.Table.{Row}
-use Rattle.tai_utc.specs.Offset.{zeroF, halfF, offsetAt, taiUtcOffset}
+use Rattle.tai_utc.specs.Offset.{offsetAt, taiUtcOffset}
 
 abbrev pub twoF : Float
 twoF = fin false 1 (pos 1)
@@ -20,16 +21,16 @@ offsets a b c = record { «at_0h» = a; «at_12h» = b; «at_24h» = c }
 -- the offsets at 0h, at 12h, and at 0h of the next day; refusals 1 to 3, then 5 where there is no next day
 unfoldable pub dayOffsets : List Row → ℤ → ℤ → ℤ → Outcome DayOffsets
 dayOffsets rows y m d =
-    onward (taiUtcOffset rows y m d zeroF) (λ a.
-    onward (taiUtcOffset rows y m d halfF) (λ b.
+    onward (taiUtcOffset rows y m d nought) (λ a.
+    onward (taiUtcOffset rows y m d half) (λ b.
     onward (nextOf y m d) (λ t.
-    onward (taiUtcOffset rows (t .year) (pos (t .month)) (pos (t .day)) zeroF) (λ c.
+    onward (taiUtcOffset rows (t .year) (pos (t .month)) (pos (t .day)) nought) (λ c.
     answer (offsets a b c)))))
 
 -- the same of a date whose month is `month`, whose next date's month is `next`, and whose Modified Julian Date is n
 unfoldable pub offsetsOfDay : List Row → ℕ → ℕ → ℤ → DayOffsets
 offsetsOfDay rows month next n =
-    offsets (offsetAt rows month (ofInt binary64 n) zeroF) (offsetAt rows month (ofInt binary64 n) halfF) (offsetAt rows next (ofInt binary64 (sucℤ n)) zeroF)
+    offsets (offsetAt rows month (ofInt binary64 n) nought) (offsetAt rows month (ofInt binary64 n) half) (offsetAt rows next (ofInt binary64 (sucℤ n)) nought)
 
 -- how far the offset at 24h lies above the line through those at 0h and at 12h
 unfoldable pub leapOf : DayOffsets → Float

@@ -1,26 +1,17 @@
 -- TAI-UTC at a fraction of a day, by a table of rows: the Rust's `get_tai_utc_offset` (scales/common.rs), each operation rounded once and in its order.
 -- Assumes nothing.
 use Prim.Native.Nat.{ℕ, zero, suc}
-use mathlib.Core.Bool.{Bool, false, cond, _&&_}
+use mathlib.Core.Bool.{Bool, cond, _&&_}
 use mathlib.Core.List.{List}
 use lib.Dec.{eqb}
 use lib.ListN.{getD}
-use lib.IntN.{ℤ, pos, negsuc, natAbs}
-use lib.Ieee.{Float, fin, binary64, add, sub, mul, le, ofInt}
+use lib.IntN.{ℤ, natAbs}
+use lib.Ieee.{Float, binary64, add, sub, mul, le, ofInt}
 use Rattle.refusals.specs.Outcome.{Outcome, answer, refusal, onward}
+use Rattle.floats.specs.Whole.{nought, one}
 use Rattle.constants.specs.Constants.{decimal}
 use Rattle.calendar.specs.DayCount.{mjdOf}
 use Rattle.tai_utc.specs.Table.{Row, monthNumber, starts, reached}
-
--- 0.0, 0.5 and 1.0
-abbrev pub zeroF : Float
-zeroF = fin false 0 (pos 0)
-
-abbrev pub halfF : Float
-halfF = fin false 1 (negsuc 0)
-
-abbrev pub oneF : Float
-oneF = fin false 1 (pos 0)
 
 -- the floats nearest to a row's decimals
 unfoldable pub secondsOf : Row → Float
@@ -44,7 +35,7 @@ none = record { month = 0; units = 0; start = 0; rate = 0 }
 
 -- by the number of rows reached: 0.0 before the first
 unfoldable pub offsetBy : List Row → ℕ → Float → Float → Float
-offsetBy rows zero mjd fraction = zeroF
+offsetBy rows zero mjd fraction = nought
 offsetBy rows (suc i) mjd fraction = byRow (getD rows i none) mjd fraction
 
 -- in month n
@@ -53,7 +44,7 @@ offsetAt rows n mjd fraction = offsetBy rows (reached (starts rows) n) mjd fract
 
 -- 0 ≤ fraction ≤ 1, which no NaN meets and -0.0 does
 unfoldable pub inDay : Float → Bool
-inDay fraction = le zeroF fraction && le fraction oneF
+inDay fraction = le nought fraction && le fraction one
 
 -- 7: fraction outside 0 to 1; then the refusals of the date, 1 to 3
 unfoldable pub taiUtcOffset : List Row → ℤ → ℤ → ℤ → Float → Outcome Float

@@ -3,24 +3,24 @@ use mathlib.Core.Path.{_≡_, refl}
 use mathlib.Core.Bool.{true}
 use lib.IntN.{pos}
 use lib.Ieee.{fin, binary64, ofBits, add, mul, div, lt, toSigned}
-use Rattle.floats.specs.Whole.{abs, toWhole, away}
+use Rattle.floats.specs.Whole.{abs, toWhole, away, nought, one}
 use Rattle.time_of_day.specs.declared.TimeShown.the-variants.{At, NextMidnight}
-use Rattle.time_of_day.specs.Milliseconds.{zero-f, wholeLeap, secondsOf, millisOf}
+use Rattle.time_of_day.specs.Milliseconds.{wholeLeap, secondsOf, millisOf}
 use Rattle.time_of_day.specs.TimeShown.{timeOf, dayEnd, fromZero, shownAt, shownOf}
-use Rattle.time_of_day.specs.ExactTime.{one-f, minus-one-f, step-1959}
+use Rattle.time_of_day.specs.ExactTime.{minus-one-f, step-1959}
 
 -- 86400 / 86401, rounded once, of a day that ends in a leap second: 23:59:60.000
-pub leap-second : shownOf away (ofBits binary64 0x3fef_ffe7_ba49_c869) one-f ≡ At (record { hour = 23; minute = 59; second = 60; milli = 0 })
+pub leap-second : shownOf away (ofBits binary64 0x3fef_ffe7_ba49_c869) one ≡ At (record { hour = 23; minute = 59; second = 60; milli = 0 })
 unfolding shownOf shownAt fromZero timeOf dayEnd wholeLeap millisOf secondsOf ofBits add mul div lt toSigned toWhole abs
 leap-second = refl
 
 -- 23:59:60.9996 of that day: 86400999.6 ms are the next day's midnight
-pub leap-end : shownOf away (ofBits binary64 0x3fef_ffff_fd83_b746) one-f ≡ NextMidnight
+pub leap-end : shownOf away (ofBits binary64 0x3fef_ffff_fd83_b746) one ≡ NextMidnight
 unfolding shownOf shownAt fromZero timeOf dayEnd wholeLeap millisOf secondsOf ofBits add mul div lt toSigned toWhole abs
 leap-end = refl
 
 -- the last fraction of a day with no leap: its 86400000 ms are the next day's midnight
-pub day-end : shownOf away (ofBits binary64 0x3fef_ffff_ffff_ffff) zero-f ≡ NextMidnight
+pub day-end : shownOf away (ofBits binary64 0x3fef_ffff_ffff_ffff) nought ≡ NextMidnight
 unfolding shownOf shownAt fromZero timeOf dayEnd wholeLeap millisOf secondsOf ofBits add mul div lt toSigned toWhole abs
 day-end = refl
 
@@ -39,6 +39,6 @@ unfolding shownOf shownAt fromZero timeOf dayEnd wholeLeap millisOf secondsOf of
 short-end = refl
 
 -- -0.0
-pub minus-zero : shownOf away (fin true 0 (pos 0)) one-f ≡ At (record { hour = 0; minute = 0; second = 0; milli = 0 })
+pub minus-zero : shownOf away (fin true 0 (pos 0)) one ≡ At (record { hour = 0; minute = 0; second = 0; milli = 0 })
 unfolding shownOf shownAt fromZero timeOf dayEnd wholeLeap millisOf secondsOf ofBits add mul div lt toSigned toWhole abs
 minus-zero = refl

@@ -6,10 +6,10 @@ use mathlib.Core.Bool.{Bool, true, false, cond}
 use lib.Dec.{T}
 use lib.Ieee.{Float, nan, inf, fin, up, down, ofBits, lt}
 use lib.Ieee.Fits.{down-pos}
+use Rattle.floats.specs.Whole.{nought}
 use Rattle.rounding.specs.Value.{Val}
 use Rattle.rounding.proofs.Own.{plus-of, minus-of, signed-of}
 use Rattle.rounding.proofs.Compare.{lt-says}
-use Rattle.time_of_day.specs.Milliseconds.{zero-f}
 use Rattle.time_of_day.specs.TimeShown.{minuteOf, timeOf, dayEnd}
 use Rattle.time_of_day.specs.ExactTime.{second, timeMs, GoodTime}
 use Rattle.time_of_day.proofs.Fractions.{zero-val}
@@ -32,7 +32,7 @@ last-minute : (k : ℕ) → 60000 ≤ k - minuteOf k * 60000 → (minuteOf k ≡
 last-minute k h = omega arith
 
 -- no float is both above 0 and below it
-one-way : (l : Float) → T (lt zero-f l) → T (lt l zero-f) → ⊥
+one-way : (l : Float) → T (lt nought l) → T (lt l nought) → ⊥
 unfolding ofBits lt
 one-way nan a b = a
 one-way (inf true) a b = a
@@ -45,7 +45,7 @@ one-way (fin s m e) a b =
 
 pub good-time : (k : ℕ) (l : Float) → k < dayEnd l → GoodTime (timeOf k) l
 unfolding timeOf dayEnd
-good-time k l h = make (rest-lt k (under (lt zero-f l) (lt l zero-f) h))
+good-time k l h = make (rest-lt k (under (lt nought l) (lt l nought) h))
   where
     under : (a b : Bool) → k < cond a 86401000 (cond b 86399000 86400000) → k < 86401000
     under true b g = g
@@ -79,8 +79,8 @@ good-time k l h = make (rest-lt k (under (lt zero-f l) (lt l zero-f) h))
       minute = at-minute (minuteOf k);
       second = at-second (k - minuteOf k * 60000) (p .1);
       milli = at-milli (k - minuteOf k * 60000);
-      sixty = λ e. let q = sixty-at (minuteOf k) (k - minuteOf k * 60000) (last-minute k) e in (q .0, q .1, longer (lt zero-f l) (lt l zero-f) h (q .2));
-      shorter = λ t e g. last-second (minuteOf k) (k - minuteOf k * 60000) (minute-le k) (below (lt zero-f l) (lt l zero-f) (one-way l) h t) e g;
+      sixty = λ e. let q = sixty-at (minuteOf k) (k - minuteOf k * 60000) (last-minute k) e in (q .0, q .1, longer (lt nought l) (lt l nought) h (q .2));
+      shorter = λ t e g. last-second (minuteOf k) (k - minuteOf k * 60000) (minute-le k) (below (lt nought l) (lt l nought) (one-way l) h t) e g;
     }
       where
         at-hour : (m : ℕ) → m ≤ 1439 → m / 60 ≤ 23

@@ -9,22 +9,22 @@ use lib.Ieee.{Float, nan, inf, fin, binary64, down, ofBits, up, lt, le, eq, fits
 use lib.Ieee.Fits.{down-pos}
 use lib.Ieee.Exact.{HasValue}
 use lib.Ieee.Scale.{finite}
-use Rattle.floats.specs.Whole.{abs}
+use Rattle.floats.specs.Whole.{abs, nought, one}
 use Rattle.rounding.specs.Value.{Signed, Val, L}
 use Rattle.rounding.proofs.Value.{val-move, L-pos}
 use Rattle.rounding.proofs.Own.{Own, own, own-val, plus-of, minus-of, signed-of}
 use Rattle.rounding.proofs.Compare.{lt-says, le-val, le-show, lt-show}
-use Rattle.time_of_day.specs.Milliseconds.{zero-f, wholeLeap}
-use Rattle.time_of_day.specs.ExactTime.{one-f, minus-one-f, Fraction, Leap, little, second, first, minus-second}
+use Rattle.time_of_day.specs.Milliseconds.{wholeLeap}
+use Rattle.time_of_day.specs.ExactTime.{minus-one-f, Fraction, Leap, little, second, first, minus-second}
 
 pub le-says : {x y : Float} {p n q m D : ℕ} → 0 < D → Val x p n D → Val y q m D → T (le x y) → p + m ≤ q + n
 le-says {x} {y} {p} {n} {q} {m} E v w t = leb→le (p + m) (q + n) (subst T (le-val E v w) t)
 
-pub zero-val : (D : ℕ) → Val zero-f 0 0 D
+pub zero-val : (D : ℕ) → Val nought 0 0 D
 unfolding ofBits
 zero-val D = record { sign = false; size = 0; has = (refl, zero-mul D ∙ sym (zero-mul 1)); is = refl }
 
-pub one-val : (D : ℕ) → Val one-f D 0 D
+pub one-val : (D : ℕ) → Val one D 0 D
 unfolding ofBits
 one-val D = record { sign = false; size = D; has = (refl, one-mul D ∙ sym (mul-one D)); is = add-zero D }
 
@@ -64,12 +64,12 @@ fraction-of x F D h v l = record { least = le-show h (zero-val D) v (omega arith
 -- a leap that is at most 1 in size
 pub record WithinOne (x : Float) : Type 0 where
   pub least : T (le minus-one-f x)
-  pub most : T (le x one-f)
+  pub most : T (le x one)
 
 -- and so is the leap that counts, in each of the cases
 pub within-one : (x : Float) → Leap x → WithinOne (wholeLeap x)
 unfolding wholeLeap ofBits le lt eq abs
-within-one x (little e) = subst WithinOne (sym (ap (λ (b : Bool). cond b x zero-f) e)) (record { least = tt; most = tt })
+within-one x (little e) = subst WithinOne (sym (ap (λ (b : Bool). cond b x nought) e)) (record { least = tt; most = tt })
 within-one x second = record { least = tt; most = tt }
 within-one x first = record { least = tt; most = tt }
 within-one x minus-second = record { least = tt; most = tt }

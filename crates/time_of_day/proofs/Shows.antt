@@ -7,12 +7,12 @@ use native.Mathlib.Omega.{arith}
 use mathlib.Core.Bool.{Bool, true, false, not, cond}
 use lib.Dec.{T, ltb, ltb→lt, nltb→le}
 use lib.Ieee.{Float, binary64, ofBits, lt, le, eq, fits}
-use Rattle.floats.specs.Whole.{abs, away}
+use Rattle.floats.specs.Whole.{abs, away, nought}
 use Rattle.rounding.specs.Value.{Val, L}
 use Rattle.rounding.proofs.Value.{L-pos}
 use Rattle.time_of_day.specs.declared.TimeShown.{TimeShown}
 use Rattle.time_of_day.specs.declared.TimeShown.the-variants.{At, NextMidnight}
-use Rattle.time_of_day.specs.Milliseconds.{zero-f, wholeLeap}
+use Rattle.time_of_day.specs.Milliseconds.{wholeLeap}
 use Rattle.time_of_day.specs.TimeShown.{timeOf, dayEnd, fromZero, shownAt, shownOf}
 use Rattle.time_of_day.specs.Nearest.{Nearest}
 use Rattle.time_of_day.specs.ExactTime.{Fraction, Leap, little, second, first, minus-second, DayLength, timeMs, shownMs, Close, Good, ShownRight}
@@ -26,8 +26,8 @@ use Rattle.time_of_day.proofs.Close.{close-move, close-end, close-501}
 pub longest : (x : Float) (W E : ℕ) → 0 < E → Leap x → DayLength x W E → 1000 * W ≤ dayEnd (wholeLeap x) * E
 unfolding wholeLeap dayEnd ofBits le lt eq abs
 longest x W E G (little e) d =
-    let z : wholeLeap x ≡ zero-f = ap (λ (b : Bool). cond b x zero-f) e in
-    let v : Val zero-f (d .p) (d .n) E = subst (λ (l : Float). Val l (d .p) (d .n) E) z (d .leap-is) in
+    let z : wholeLeap x ≡ nought = ap (λ (b : Bool). cond b x nought) e in
+    let v : Val nought (d .p) (d .n) E = subst (λ (l : Float). Val l (d .p) (d .n) E) z (d .leap-is) in
     let a = le-says G v (zero-val E) tt in
     subst (λ (l : Float). 1000 * W ≤ dayEnd l * E) (sym z) (go (d .p) (d .n) (d .is) a)
   where

@@ -5,17 +5,14 @@ use Prim.Native.Nat.{ℕ, _+_, _*_, _≤_, _<_}
 use mathlib.Core.Bool.{false}
 use lib.Dec.{T}
 use lib.Ieee.{Float, binary64, ofBits, lt, le}
-use Rattle.floats.specs.Whole.{abs}
+use Rattle.floats.specs.Whole.{abs, nought, half, one}
 use Rattle.rounding.specs.Value.{Val}
 use Rattle.time_of_day.specs.declared.TimeOfDay.{TimeOfDay}
 use Rattle.time_of_day.specs.declared.TimeShown.{TimeShown}
 use Rattle.time_of_day.specs.declared.TimeShown.the-variants.{At, NextMidnight}
-use Rattle.time_of_day.specs.Milliseconds.{zero-f, half-f, wholeLeap}
+use Rattle.time_of_day.specs.Milliseconds.{wholeLeap}
 
--- 1.0, -1.0, and 0.9434819999999999, the step at the end of 1959
-abbrev pub one-f : Float
-one-f = ofBits binary64 0x3ff0_0000_0000_0000
-
+-- -1.0, and 0.9434819999999999, the step at the end of 1959
 abbrev pub minus-one-f : Float
 minus-one-f = ofBits binary64 0xbff0_0000_0000_0000
 
@@ -24,13 +21,13 @@ step-1959 = ofBits binary64 0x3fee_3101_29cb_ab64
 
 -- a fraction of a day: at least 0 and below 1
 pub record Fraction (x : Float) : Type 0 where
-  pub least : T (le zero-f x)
-  pub most : T (lt x one-f)
+  pub least : T (le nought x)
+  pub most : T (lt x one)
 
 -- the leaps that a day can end in: of half a second at most in size, of a second, that of 1959-12-31, and of a second less, which no row of the table has
 pub data Leap : Float → Type 0 where
-  little : {x : Float} → lt half-f (abs x) ≡ false → Leap x
-  second : Leap one-f
+  little : {x : Float} → lt half (abs x) ≡ false → Leap x
+  second : Leap one
   first : Leap step-1959
   minus-second : Leap minus-one-f
 
@@ -67,8 +64,8 @@ pub record GoodTime (t : TimeOfDay) (leap : Float) : Type 0 where
   pub minute : t .minute ≤ 59
   pub second : t .second ≤ 60
   pub milli : t .milli ≤ 999
-  pub sixty : t .second ≡ 60 → (t .hour ≡ 23) × (t .minute ≡ 59) × T (lt zero-f leap)
-  pub shorter : T (lt leap zero-f) → t .hour ≡ 23 → t .minute ≡ 59 → t .second ≤ 58
+  pub sixty : t .second ≡ 60 → (t .hour ≡ 23) × (t .minute ≡ 59) × T (lt nought leap)
+  pub shorter : T (lt leap nought) → t .hour ≡ 23 → t .minute ≡ 59 → t .second ≤ 58
 
 unfoldable pub Good : TimeShown → Float → Type 0
 Good (At t) leap = GoodTime t leap

@@ -4,15 +4,9 @@ use Prim.Native.Nat.{ℕ}
 use mathlib.Core.Bool.{Bool, cond}
 use lib.IntN.{ℤ}
 use lib.Ieee.{Float, binary64, ofBits, add, mul, div, lt, toSigned}
-use Rattle.floats.specs.Whole.{abs, toWhole}
+use Rattle.floats.specs.Whole.{abs, half, nought, toWhole}
 
--- 0.0, 0.5, 1000.0 and 86400.0
-abbrev pub zero-f : Float
-zero-f = ofBits binary64 0x0000_0000_0000_0000
-
-abbrev pub half-f : Float
-half-f = ofBits binary64 0x3fe0_0000_0000_0000
-
+-- 1000.0 and 86400.0
 abbrev pub thousand-f : Float
 thousand-f = ofBits binary64 0x408f_4000_0000_0000
 
@@ -21,7 +15,7 @@ day-f = ofBits binary64 0x40f5_1800_0000_0000
 
 -- the leap that counts for the day's length: document 01's "plus leap if leap is over 0.5 in size"
 unfoldable pub wholeLeap : Float → Float
-wholeLeap leap = cond (lt half-f (abs leap)) leap zero-f
+wholeLeap leap = cond (lt half (abs leap)) leap nought
 
 -- 86400.0 * (fraction + fraction * leap / 86400.0)
 unfoldable pub secondsOf : Float → Float → Float

@@ -5,10 +5,11 @@ use mathlib.Core.Bool.{Bool, cond}
 use lib.IntN.{ℤ, pos, negsuc}
 use lib.Dec.{ltb}
 use lib.Ieee.{Float, lt}
+use Rattle.floats.specs.Whole.{nought}
 use Rattle.time_of_day.specs.declared.TimeOfDay.{TimeOfDay}
 use Rattle.time_of_day.specs.declared.TimeShown.{TimeShown}
 use Rattle.time_of_day.specs.declared.TimeShown.the-variants.{At, NextMidnight}
-use Rattle.time_of_day.specs.Milliseconds.{zero-f, wholeLeap, millisOf}
+use Rattle.time_of_day.specs.Milliseconds.{wholeLeap, millisOf}
 
 -- the minute of the day: a leap second belongs to the last one, which then runs to 61 s
 abbrev pub minuteOf : ℕ → ℕ
@@ -25,7 +26,7 @@ timeOf k = record {
 -- The milliseconds at which the text is the next day's midnight, of the leap that counts. The Rust has no case for a leap below 0, and no row of the table
 -- gives one: the third case is for announced steps of -1 s, and changes no answer.
 unfoldable pub dayEnd : Float → ℕ
-dayEnd leap = cond (lt zero-f leap) 86401000 (cond (lt leap zero-f) 86399000 86400000)
+dayEnd leap = cond (lt nought leap) 86401000 (cond (lt leap nought) 86399000 86400000)
 
 -- a count below 0 shows as 0. No fraction of a day has one (`counted`, in proofs/Count): this case is there so that the definition covers every float
 unfoldable pub fromZero : ℤ → ℕ

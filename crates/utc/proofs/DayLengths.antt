@@ -5,20 +5,20 @@ use mathlib.Core.Bool.{Bool, true, false, cond}
 use Prim.Native.Nat.{ℕ, _+_, _*_, _^_, _<_}
 use lib.Dec.{lit<}
 use lib.Ieee.{Float, ofBits, lt, eq}
-use Rattle.floats.specs.Whole.{abs}
+use Rattle.floats.specs.Whole.{abs, nought, half, one}
 use Rattle.rounding.specs.Value.{Val}
-use Rattle.time_of_day.specs.Milliseconds.{zero-f, half-f, wholeLeap}
-use Rattle.time_of_day.specs.ExactTime.{one-f, minus-one-f, step-1959, Leap, little, second, first, minus-second, DayLength}
+use Rattle.time_of_day.specs.Milliseconds.{wholeLeap}
+use Rattle.time_of_day.specs.ExactTime.{minus-one-f, step-1959, Leap, little, second, first, minus-second, DayLength}
 
-zero-val : Val zero-f 0 0 1
+zero-val : Val nought 0 0 1
 unfolding ofBits
 zero-val = record { sign = false; size = 0; has = (refl, refl); is = refl }
 
-pub of-86400 : (x : Float) → lt half-f (abs x) ≡ false → DayLength x 86400 1
+pub of-86400 : (x : Float) → lt half (abs x) ≡ false → DayLength x 86400 1
 unfolding wholeLeap
-of-86400 x e = record { p = 0; n = 0; leap-is = subst (λ (z : Float). Val z 0 0 1) (sym (ap (λ (b : Bool). cond b x zero-f) e)) zero-val; is = refl }
+of-86400 x e = record { p = 0; n = 0; leap-is = subst (λ (z : Float). Val z 0 0 1) (sym (ap (λ (b : Bool). cond b x nought) e)) zero-val; is = refl }
 
-pub of-86401 : DayLength one-f 86401 1
+pub of-86401 : DayLength one 86401 1
 unfolding wholeLeap ofBits lt eq abs
 of-86401 = record { p = 1; n = 0; leap-is = record { sign = false; size = 1; has = (refl, refl); is = refl }; is = refl }
 

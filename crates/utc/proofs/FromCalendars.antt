@@ -6,11 +6,12 @@ use Prim.Native.Nat.{ℕ, _+_, _*_}
 use lib.IntN.{ℤ, pos}
 use lib.Ieee.{Float, binary64, ofInt, round, add, mul, div, lt, le, eq}
 use Rattle.refusals.specs.Outcome.{answer, refusal, onward}
+use Rattle.floats.specs.Whole.{nought}
 use Rattle.constants.specs.Constants.{decimal, secondsPerDay, mjdZeroPoint}
 use Rattle.calendar.specs.Refusals.{validDate}
 use Rattle.calendar.specs.DayCount.{mjdNumber}
 use Rattle.calendar.proofs.Mjd.{mjd-refused, mjd-given}
-use Rattle.julian.specs.JulianDate.{julian, nought, roundedSum}
+use Rattle.julian.specs.JulianDate.{julian, roundedSum}
 use Rattle.julian.specs.DayFraction.{secondLimit, timeInDay, dayFraction}
 use Rattle.julian.specs.Calendar.{fromCalendar}
 use Rattle.julian.specs.Calendar as Julian

@@ -12,6 +12,7 @@ use lib.Ieee.Fits.{div-fits}
 use mir.Syntax.{w32}
 use mir.Val.{SFits}
 use Rattle.refusals.specs.Outcome.{answer}
+use Rattle.floats.specs.Whole.{nought}
 use Rattle.constants.specs.Constants.{decimal, secondsPerDay, mjdZeroPoint}
 use Rattle.rounding.specs.Value.{Val, L, Rounds}
 use Rattle.rounding.proofs.Value.{L-pos, rounds-move, add-rounds}
@@ -24,7 +25,7 @@ use Rattle.calendar.proofs.Mjd.{mjd-valid, mjd-given, same-answer}
 use Rattle.day_number.specs.MinusZero.{minusZero}
 use Rattle.day_number.proofs.MinusZero.{add-unsigned}
 use Rattle.julian.specs.declared.JulianDate.{JulianDate}
-use Rattle.julian.specs.JulianDate.{julian, nought}
+use Rattle.julian.specs.JulianDate.{julian}
 use Rattle.julian.specs.DayFraction.{timeInDay}
 use Rattle.julian.proofs.Midnights.{mjd-small, midnight-sum}
 use Rattle.tai_utc.specs.Table.{Row}

@@ -5,8 +5,9 @@ use mathlib.Core.List.{List}
 use lib.IntN.{ℤ, pos}
 use lib.Ieee.{Float, binary64, add}
 use Rattle.refusals.specs.Outcome.{Outcome, answer, onward}
+use Rattle.floats.specs.Whole.{nought}
 use Rattle.julian.specs.declared.JulianDate.{JulianDate}
-use Rattle.julian.specs.JulianDate.{julian, nought}
+use Rattle.julian.specs.JulianDate.{julian}
 use Rattle.julian.specs.DayFraction.{dayFraction}
 use Rattle.julian.specs.Calendar.{fromCalendar}
 use Rattle.tai_utc.specs.Table.{Row}

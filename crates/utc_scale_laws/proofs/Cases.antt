@@ -3,7 +3,8 @@ use mathlib.Core.Path.{_≡_, refl}
 use mathlib.Core.Bool.{true, false}
 use lib.Ieee.{nan, inf}
 use Rattle.refusals.specs.Outcome.{refusal}
-use Rattle.julian.specs.JulianDate.{julian, nought}
+use Rattle.floats.specs.Whole.{nought}
+use Rattle.julian.specs.JulianDate.{julian}
 use Rattle.tai_utc.specs.Table.{fixed}
 use Rattle.utc_scales.specs.UtcTai.{utcToTai, taiToUtc}
 use Rattle.utc_scales.specs.UtcUt1.{utcToUt1, ut1ToUtc}

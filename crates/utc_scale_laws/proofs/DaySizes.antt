@@ -7,6 +7,7 @@ use native.Mathlib.Omega.{arith}
 use lib.Dec.{lit≤}
 use lib.IntN.{ℤ, pos, _-ℤ_}
 use lib.Ieee.{Float, binary64, ofInt, add, div}
+use Rattle.floats.specs.Whole.{nought}
 use Rattle.rounding.proofs.Casts.{sub-le}
 use Rattle.rounding.proofs.Sizes.{Size, size-add, size-sub, size-mul, size-div, int-size, power-size}
 use Rattle.constants.specs.Constants.{secondsPerDay}
@@ -15,7 +16,6 @@ use Rattle.day_number.specs.Ranges.{InDays}
 use Rattle.day_number.proofs.Accepted.{accepted-pair}
 use Rattle.tai_utc.specs.declared.DayOffsets.{DayOffsets}
 use Rattle.tai_utc.specs.Table.{fixed}
-use Rattle.tai_utc.specs.Offset.{zeroF}
 use Rattle.tai_utc.specs.Leap.{driftRate, leapAmount}
 use Rattle.utc_scales.specs.Dates.{offsetOfDate, offsetAt0h}
 use Rattle.utc_scales.specs.UtcTai.{stretchDayFraction}
@@ -69,4 +69,4 @@ day-offset-size x y f g = go (kind x y f g)
     go (valid a e b v r) =
         let t = dateIn x y in
         let o = offset-answered fixed (dayOf x y .day) v in
-        holds-answer (o .0) (offset-of-day fixed x y (dayOf x y) e ∙ o .1) (offset-size (t .year) (pos (t .month)) (pos (t .day)) zeroF (o .0) (zero-size 0) (o .1))
+        holds-answer (o .0) (offset-of-day fixed x y (dayOf x y) e ∙ o .1) (offset-size (t .year) (pos (t .month)) (pos (t .day)) nought (o .0) (zero-size 0) (o .1))

@@ -11,6 +11,7 @@ use lib.Signed.{ltZ, leZ}
 use lib.Ieee.{Float, binary64, fits}
 use borrow.Author.Tests.{ltb-false, lt-leb}
 use Rattle.refusals.specs.Outcome.{Outcome, answer, refusal}
+use Rattle.floats.specs.Whole.{nought}
 use Rattle.calendar.specs.declared.CalendarDate.{CalendarDate}
 use Rattle.calendar.specs.Calendar.{daysInMonth, date, next}
 use Rattle.calendar.specs.Refusals.{validDate, nextOf, lastDate}
@@ -27,7 +28,6 @@ use Rattle.day_number.proofs.Answer.{answered, refused}
 use Rattle.day_number.proofs.Ranges.{day-range}
 use Rattle.tai_utc.specs.declared.DayOffsets.{DayOffsets}
 use Rattle.tai_utc.specs.Table.{Row}
-use Rattle.tai_utc.specs.Offset.{zeroF}
 use Rattle.tai_utc.proofs.Offsets.{in-day-zero, offset-given}
 use Rattle.tai_utc.proofs.Days.{day-offsets-are}
 use Rattle.refusals.proofs.Onward.{went}
@@ -84,7 +84,7 @@ module _ (rows : List Row) (n : ℤ) (v : validOf (gregorianDate n) ≡ answer t
 
   pub offset-answered : (x : Float) × (offsetAt0h rows t ≡ answer x)
   unfolding offsetAt0h
-  offset-answered = (_, offset-given rows (t .year) (pos (t .month)) (pos (t .day)) zeroF in-day-zero _ (mjd-given (t .year) (pos (t .month)) (pos (t .day)) v))
+  offset-answered = (_, offset-given rows (t .year) (pos (t .month)) (pos (t .day)) nought in-day-zero _ (mjd-given (t .year) (pos (t .month)) (pos (t .day)) v))
 
   next-answered : nextOf (t .year) (pos (t .month)) (pos (t .day)) ≡ answer (next (date (t .year) (t .month) (t .day)))
   next-answered = by (t .year) (pos (t .month)) (pos (t .day)) v false (not-last (t .year) (t .month) (t .day) (before-last (t .year) (gregorian-in-range n .year-high)))

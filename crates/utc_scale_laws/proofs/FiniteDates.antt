@@ -10,7 +10,7 @@ use lib.IntN.{ℤ, pos, negsuc}
 use lib.Ieee.{Float, binary64, round, ofInt, add, sub, mul, div, lt, le, fits}
 use lib.Ieee.Fits.{add-fits}
 use Rattle.refusals.specs.Outcome.{Outcome, answer, refusal}
-use Rattle.floats.specs.Whole.{abs}
+use Rattle.floats.specs.Whole.{abs, nought, half, one}
 use Rattle.rounding.specs.Value.{Val, L}
 use Rattle.rounding.proofs.Range.{at-most}
 use Rattle.rounding.proofs.Bound.{within-more}
@@ -23,7 +23,6 @@ use Rattle.julian.specs.JulianDate.{julian}
 use Rattle.julian.specs.Worth.{SmallParts}
 use Rattle.julian.specs.Finite.{finiteJd, finiteArg}
 use Rattle.tai_utc.specs.Table.{fixed}
-use Rattle.tai_utc.specs.Offset.{zeroF, halfF, oneF}
 use Rattle.scales.specs.Formulas.{plus, daysOf}
 use Rattle.scales.specs.SmallerPart as S
 use Rattle.scales.specs.Conversions.{answerOf, tai-ut1}
@@ -214,7 +213,7 @@ either-size false k s t = t
 module _ (big small dut1 : Float) (fb : Fits big) (sb : Size big 52) (ss : Size small 52) (sd : Size dut1 30) where
   before-size : (delta : Float) → Size delta 12 → Size (beforeStep delta dut1) 31
   unfolding beforeStep
-  before-size delta s = either-size (le zeroF (mul binary64 delta dut1)) 31 (size-sub 30 12 31 (lit≤ tt) (lit≤ tt) sd s) (size-more 30 31 (lit≤ tt) sd)
+  before-size delta s = either-size (le nought (mul binary64 delta dut1)) 31 (size-sub 30 12 31 (lit≤ tt) (lit≤ tt) sd s) (size-more 30 31 (lit≤ tt) sd)
 
   past-size : (n : ℤ) → InDays n → (x : Float) → Size x 31 → Size (timePastLeap big small (midnight n) x) 54
   unfolding timePastLeap
@@ -227,10 +226,10 @@ module _ (big small dut1 : Float) (fb : Fits big) (sb : Size big 52) (ss : Size 
   unfolding nearStep afterStep atMostOne
   step-size delta n s r =
       let d = before-size delta s in
-      either-size (lt zeroF (timePastLeap big small (midnight n) (beforeStep delta dut1))) 84
+      either-size (lt nought (timePastLeap big small (midnight n) (beforeStep delta dut1))) 84
       (size-add 31 83 84 (lit≤ tt) (lit≤ tt) d
       (size-mul 12 71 (lit≤ tt) s
-      (either-size (lt (div binary64 (mul binary64 (timePastLeap big small (midnight n) (beforeStep delta dut1)) secondsPerDay) (add binary64 secondsPerDay delta)) oneF) 71
+      (either-size (lt (div binary64 (mul binary64 (timePastLeap big small (midnight n) (beforeStep delta dut1)) secondsPerDay) (add binary64 secondsPerDay delta)) one) 71
       (size-div 71 (lit≤ tt) (size-mul 54 17 (lit≤ tt) (past-size n r _ d) day-size) (day-more-above s)) (size-more 0 71 (lit≤ tt) (power-size 0)))))
       (size-more 31 84 (lit≤ tt) d)
 
@@ -245,13 +244,13 @@ module _ (big small dut1 : Float) (fb : Fits big) (sb : Size big 52) (ss : Size 
       go : Kind big (add binary64 small i) → Holds ScanSize SixOrOne (scanDay fixed big small dut1 i earlier)
       go (outside a e) = holds-refusal 6 (scan-no-date fixed big small dut1 i earlier 6 e) (inl refl)
       go (before a e b v) = holds-refusal 1 (scan-no-offset fixed big small dut1 i earlier _ e 1 (offset-early fixed _ v)) (inr refl)
-      go (valid a e b v r) = let o = offset-answered fixed _ v in compare (o .0) (o .1) (lt (abs (sub binary64 (o .0) earlier)) halfF) refl
+      go (valid a e b v r) = let o = offset-answered fixed _ v in compare (o .0) (o .1) (lt (abs (sub binary64 (o .0) earlier)) half) refl
         where
-          compare : (x : Float) → offsetAt0h fixed (dateIn big (add binary64 small i)) ≡ answer x → (s : Bool) → lt (abs (sub binary64 x earlier)) halfF ≡ s → Holds ScanSize SixOrOne (scanDay fixed big small dut1 i earlier)
-          compare x p true h = let t = dateIn big (add binary64 small i) in holds-answer (noStep x) (scan-no-step fixed big small dut1 i earlier _ e x p h) (offset-size (t .year) (pos (t .month)) (pos (t .day)) zeroF x (zero-size 0) p)
+          compare : (x : Float) → offsetAt0h fixed (dateIn big (add binary64 small i)) ≡ answer x → (s : Bool) → lt (abs (sub binary64 x earlier)) half ≡ s → Holds ScanSize SixOrOne (scanDay fixed big small dut1 i earlier)
+          compare x p true h = let t = dateIn big (add binary64 small i) in holds-answer (noStep x) (scan-no-step fixed big small dut1 i earlier _ e x p h) (offset-size (t .year) (pos (t .month)) (pos (t .day)) nought x (zero-size 0) p)
           compare x p false h =
               let t = dateIn big (add binary64 small i) in
-              holds-answer _ (scan-step fixed big small dut1 i earlier _ e x p r h) (step-size _ _ (size-sub 11 11 12 (lit≤ tt) (lit≤ tt) (offset-size (t .year) (pos (t .month)) (pos (t .day)) zeroF x (zero-size 0) p) z) r)
+              holds-answer _ (scan-step fixed big small dut1 i earlier _ e x p r h) (step-size _ _ (size-sub 11 11 12 (lit≤ tt) (lit≤ tt) (offset-size (t .year) (pos (t .month)) (pos (t .day)) nought x (zero-size 0) p) z) r)
 
   until-size : (next : Float → Outcome Float) → ((x : Float) → Size x 11 → Holds (λ z. Size z 84) SixOrOne (next x)) → (s : Scanned) → ScanSize s → Holds (λ z. Size z 84) SixOrOne (untilStep next s)
   unfolding untilStep ScanSize

@@ -10,6 +10,7 @@ use lib.IntN.{ℤ, pos, negsuc, natAbs, subℕ, _+ℤ_}
 use lib.Ieee.{Float, binary64, ofInt, round, add, sub, mul}
 use borrow.Author.Tests.{leb-true, leb-false}
 use Rattle.refusals.specs.Outcome.{answer}
+use Rattle.floats.specs.Whole.{nought, half}
 use Rattle.rounding.specs.Value.{Val, L}
 use Rattle.rounding.proofs.Value.{L-is, L-pos, val-move}
 use Rattle.rounding.proofs.Own.{Rep}
@@ -25,7 +26,7 @@ use Rattle.calendar.proofs.Accepted.{accepted, short}
 use Rattle.calendar.proofs.Mjd.{mjd-given, mjd-valid, same-answer}
 use Rattle.tai_utc.specs.declared.DayOffsets.{DayOffsets}
 use Rattle.tai_utc.specs.Table.{Row, fixed, starts, reached, monthNumber}
-use Rattle.tai_utc.specs.Offset.{zeroF, halfF, secondsOf, startOf, rateOf, none, offsetAt, taiUtcOffset}
+use Rattle.tai_utc.specs.Offset.{secondsOf, startOf, rateOf, none, offsetAt, taiUtcOffset}
 use Rattle.tai_utc.specs.Leap.{offsets, dayOffsets}
 use Rattle.tai_utc.proofs.Rows.{every, at}
 use Rattle.tai_utc.proofs.At.{rowAt, drifting}
@@ -90,10 +91,10 @@ rate-within n h =
     none-over : (b n : ℕ) → 0 * L ≤ n * L + b * 10000000000
     none-over b n = le-trans (le-of-eq (zero-mul L)) (omega arith)
 
-pub zero-size : (k : ℕ) → Size zeroF k
+pub zero-size : (k : ℕ) → Size nought k
 zero-size k = record { p = 0; n = 0; val = record { sign = false; size = 0; has = (refl, zero-mul L); is = refl }; high = omega arith; low = omega arith }
 
-half-size : Size halfF 0
+half-size : Size half 0
 unfolding round
 half-size = decimal-size 0 1 2 (lit< tt) (lit≤ tt) (lit≤ tt)
 
@@ -174,16 +175,16 @@ pub record Offsets (o : DayOffsets) : Type 0 where
 pub offsets-size : (y m d : ℤ) (o : DayOffsets) → dayOffsets fixed y m d ≡ answer o → Offsets o
 unfolding dayOffsets
 offsets-size y m d o e =
-    let (a, p, q) = came (taiUtcOffset fixed y m d zeroF) _ o e in
-    let (b, r, s) = came (taiUtcOffset fixed y m d halfF) _ o q in
+    let (a, p, q) = came (taiUtcOffset fixed y m d nought) _ o e in
+    let (b, r, s) = came (taiUtcOffset fixed y m d half) _ o q in
     let (t, u, v) = came (nextOf y m d) _ o s in
-    let (c, w, z) = came (taiUtcOffset fixed (t .year) (pos (t .month)) (pos (t .day)) zeroF) _ o v in
+    let (c, w, z) = came (taiUtcOffset fixed (t .year) (pos (t .month)) (pos (t .day)) nought) _ o v in
     let k : offsets a b c ≡ o = cc in
     subst Offsets k
     (record {
-      at-0h = offset-size y m d zeroF a (zero-size 0) p;
-      at-12h = offset-size y m d halfF b half-size r;
-      at-24h = offset-size (t .year) (pos (t .month)) (pos (t .day)) zeroF c (zero-size 0) w;
+      at-0h = offset-size y m d nought a (zero-size 0) p;
+      at-12h = offset-size y m d half b half-size r;
+      at-24h = offset-size (t .year) (pos (t .month)) (pos (t .day)) nought c (zero-size 0) w;
     })
 
 -- ---- the seconds of a day, and a little more or less

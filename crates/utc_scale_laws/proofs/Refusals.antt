@@ -11,13 +11,12 @@ use lib.Ieee.{Float, binary64, fits, ofInt, add, sub, lt}
 use lib.Ieee.Fits.{add-fits}
 use lib.Ieee.Scale.{finite}
 use Rattle.refusals.specs.Outcome.{Outcome, answer, refusal, onward}
-use Rattle.floats.specs.Whole.{abs}
+use Rattle.floats.specs.Whole.{abs, half}
 use Rattle.day_number.specs.DayNumber.{accepted, dayOf}
 use Rattle.julian.specs.declared.JulianDate.{JulianDate}
 use Rattle.julian.specs.JulianDate.{julian}
 use Rattle.julian.specs.Finite.{bothFinite, finiteJd, finiteArg}
 use Rattle.tai_utc.specs.Table.{Row}
-use Rattle.tai_utc.specs.Offset.{halfF}
 use Rattle.scales.specs.Formulas.{plus}
 use Rattle.scales.specs.Conversions.{answerOf, tai-ut1}
 use Rattle.scales.specs.Refusals.{finiteParts}
@@ -123,9 +122,9 @@ module _ (rows : List Row) (big small dut1 : Float) (f : Fits big) where
       go : Kind big (add binary64 small i) → Holds Any SixOrOne (scanDay rows big small dut1 i earlier)
       go (outside a e) = holds-refusal 6 (scan-no-date rows big small dut1 i earlier 6 e) (inl refl)
       go (before a e b v) = holds-refusal 1 (scan-no-offset rows big small dut1 i earlier _ e 1 (offset-early rows _ v)) (inr refl)
-      go (valid a e b v r) = let o = offset-answered rows _ v in at (o .0) (o .1) (lt (abs (sub binary64 (o .0) earlier)) halfF) refl
+      go (valid a e b v r) = let o = offset-answered rows _ v in at (o .0) (o .1) (lt (abs (sub binary64 (o .0) earlier)) half) refl
         where
-          at : (x : Float) → offsetAt0h rows (dateIn big (add binary64 small i)) ≡ answer x → (s : Bool) → lt (abs (sub binary64 x earlier)) halfF ≡ s → Holds Any SixOrOne (scanDay rows big small dut1 i earlier)
+          at : (x : Float) → offsetAt0h rows (dateIn big (add binary64 small i)) ≡ answer x → (s : Bool) → lt (abs (sub binary64 x earlier)) half ≡ s → Holds Any SixOrOne (scanDay rows big small dut1 i earlier)
           at x p true h = holds-answer _ (scan-no-step rows big small dut1 i earlier _ e x p h) tt
           at x p false h = holds-answer _ (scan-step rows big small dut1 i earlier _ e x p r h) tt
 

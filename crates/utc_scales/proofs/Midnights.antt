@@ -14,6 +14,7 @@ use mir.Val.{SFits, toZ, ofZ}
 use mir.Facts.{toZ-ofZ, toZ-pos}
 use Rattle.rounding.proofs.Casts.{plusZ, minusZ, sub-le}
 use Rattle.refusals.specs.Outcome.{Outcome, answer, refusal}
+use Rattle.floats.specs.Whole.{nought}
 use Rattle.constants.specs.Constants.{mjdZeroPoint}
 use Rattle.calendar.specs.declared.CalendarDate.{CalendarDate}
 use Rattle.calendar.specs.Gregorian.{gregorianDate}
@@ -27,7 +28,6 @@ use Rattle.julian_laws.proofs.CalendarDays.{not-above}
 use Rattle.julian.proofs.Midnights.{midnight-given}
 use Rattle.tai_utc.specs.declared.DayOffsets.{DayOffsets}
 use Rattle.tai_utc.specs.Table.{Row}
-use Rattle.tai_utc.specs.Offset.{zeroF}
 use Rattle.tai_utc.proofs.Offsets.{in-day-zero, date-refused}
 use Rattle.tai_utc.proofs.Days.{day-refused}
 use Rattle.utc_scales.specs.Dates.{offsetAt0h, offsetsOf, midnightOf}
@@ -119,7 +119,7 @@ valid-midnight n r v =
 module _ (rows : List Row) (n : ℤ) where
   pub offset-early : validOf (gregorianDate n) ≡ refusal 1 → offsetAt0h rows (gregorianDate n) ≡ refusal 1
   unfolding offsetAt0h
-  offset-early v = let t = gregorianDate n in date-refused rows (t .year) (pos (t .month)) (pos (t .day)) zeroF in-day-zero 1 (mjd-refused (t .year) (pos (t .month)) (pos (t .day)) 1 v)
+  offset-early v = let t = gregorianDate n in date-refused rows (t .year) (pos (t .month)) (pos (t .day)) nought in-day-zero 1 (mjd-refused (t .year) (pos (t .month)) (pos (t .day)) 1 v)
 
   pub offsets-early : validOf (gregorianDate n) ≡ refusal 1 → offsetsOf rows (gregorianDate n) ≡ refusal 1
   unfolding offsetsOf

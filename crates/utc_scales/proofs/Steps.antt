@@ -7,7 +7,7 @@ use native.Mathlib.Omega.{arith}
 use lib.IntN.{pos}
 use lib.Ieee.{Float, binary64, ofInt, add, sub, lt}
 use Rattle.refusals.specs.Outcome.{Outcome, answer, refusal, onward}
-use Rattle.floats.specs.Whole.{abs}
+use Rattle.floats.specs.Whole.{abs, nought, half}
 use Rattle.calendar.specs.declared.CalendarDate.{CalendarDate}
 use Rattle.calendar.specs.Refusals.{nextOf}
 use Rattle.calendar.specs.Gregorian.{gregorianDate}
@@ -19,7 +19,7 @@ use Rattle.julian.specs.Calendar.{julianToCalendar}
 use Rattle.julian_laws.proofs.CalendarDays.{fields-of}
 use Rattle.tai_utc.specs.declared.DayOffsets.{DayOffsets}
 use Rattle.tai_utc.specs.Table.{Row}
-use Rattle.tai_utc.specs.Offset.{zeroF, halfF, taiUtcOffset}
+use Rattle.tai_utc.specs.Offset.{taiUtcOffset}
 use Rattle.tai_utc.specs.Leap.{offsets, dayOffsets}
 use Rattle.refusals.proofs.Onward.{went, stopped, came}
 use Rattle.utc_scales.specs.declared.larger_part.Parts.{Parts}
@@ -77,15 +77,15 @@ module _ (rows : List Row) (big small dut1 i before : Float) (d : DayNumber) (e 
   scan-no-offset n p = went _ (fields-of big (add binary64 small i) d e) ∙ stopped _ p
 
   module _ (x : Float) (p : offsetAt0h rows (gregorianDate (d .day)) ≡ answer x) where
-    at-day : (b : Bool) → lt (abs (sub binary64 x before)) halfF ≡ b
+    at-day : (b : Bool) → lt (abs (sub binary64 x before)) half ≡ b
         → scanDay rows big small dut1 i before ≡ cond b (answer (noStep x)) (onward (midnightOf (gregorianDate (d .day))) (λ z. answer (step (nearStep big small dut1 (sub binary64 x before) z))))
     unfolding scanDay
     at-day b h = went _ (fields-of big (add binary64 small i) d e) ∙ went _ p ∙ rw h
 
-    pub scan-no-step : lt (abs (sub binary64 x before)) halfF ≡ true → scanDay rows big small dut1 i before ≡ answer (noStep x)
+    pub scan-no-step : lt (abs (sub binary64 x before)) half ≡ true → scanDay rows big small dut1 i before ≡ answer (noStep x)
     scan-no-step h = at-day true h
 
-    pub scan-step : InDays (d .day) → lt (abs (sub binary64 x before)) halfF ≡ false → scanDay rows big small dut1 i before ≡ answer (step (nearStep big small dut1 (sub binary64 x before) (midnight (d .day))))
+    pub scan-step : InDays (d .day) → lt (abs (sub binary64 x before)) half ≡ false → scanDay rows big small dut1 i before ≡ answer (step (nearStep big small dut1 (sub binary64 x before) (midnight (d .day))))
     scan-step r h = at-day false h ∙ went _ (valid-midnight (d .day) r (offset-valid rows (d .day) x p))
 
 -- ---- the scan, of which 4 - i days are left at day i
@@ -136,10 +136,10 @@ three-rounds rows big small = go (refined rows big small small)
 pub offsets-first : (rows : List Row) (t : CalendarDate) (o : DayOffsets) → offsetsOf rows t ≡ answer o → offsetAt0h rows t ≡ answer (o .«at_0h»)
 unfolding offsetsOf offsetAt0h dayOffsets
 offsets-first rows t o e =
-    let (a, p, q) = came (taiUtcOffset rows (t .year) (pos (t .month)) (pos (t .day)) zeroF) _ o e in
-    let (b, r, s) = came (taiUtcOffset rows (t .year) (pos (t .month)) (pos (t .day)) halfF) _ o q in
+    let (a, p, q) = came (taiUtcOffset rows (t .year) (pos (t .month)) (pos (t .day)) nought) _ o e in
+    let (b, r, s) = came (taiUtcOffset rows (t .year) (pos (t .month)) (pos (t .day)) half) _ o q in
     let (u, v, w) = came (nextOf (t .year) (pos (t .month)) (pos (t .day))) _ o s in
-    let (c, x, y) = came (taiUtcOffset rows (u .year) (pos (u .month)) (pos (u .day)) zeroF) _ o w in
+    let (c, x, y) = came (taiUtcOffset rows (u .year) (pos (u .month)) (pos (u .day)) nought) _ o w in
     let k : offsets a b c ≡ o = cc in
     p ∙ ap (λ (z : DayOffsets). answer (z .«at_0h»)) k
 

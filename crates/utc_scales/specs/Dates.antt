@@ -3,17 +3,18 @@ use mathlib.Core.List.{List}
 use lib.IntN.{pos}
 use lib.Ieee.{Float}
 use Rattle.refusals.specs.Outcome.{Outcome, onward}
+use Rattle.floats.specs.Whole.{nought}
 use Rattle.calendar.specs.declared.CalendarDate.{CalendarDate}
 use Rattle.julian.specs.declared.JulianDate.{JulianDate}
 use Rattle.julian.specs.Calendar.{calendarToJulian, julianToCalendar}
 use Rattle.tai_utc.specs.declared.DayOffsets.{DayOffsets}
 use Rattle.tai_utc.specs.Table.{Row}
-use Rattle.tai_utc.specs.Offset.{zeroF, taiUtcOffset}
+use Rattle.tai_utc.specs.Offset.{taiUtcOffset}
 use Rattle.tai_utc.specs.Leap.{dayOffsets}
 
 -- at 0h
 unfoldable pub offsetAt0h : List Row → CalendarDate → Outcome Float
-offsetAt0h rows t = taiUtcOffset rows (t .year) (pos (t .month)) (pos (t .day)) zeroF
+offsetAt0h rows t = taiUtcOffset rows (t .year) (pos (t .month)) (pos (t .day)) nought
 
 -- at 0h, at 12h and at 24h
 unfoldable pub offsetsOf : List Row → CalendarDate → Outcome DayOffsets

@@ -7,13 +7,12 @@ use mathlib.Core.List.{List}
 use lib.IntN.{pos, negsuc}
 use lib.Ieee.{Float, binary64, ofInt, add, sub, mul, div, lt, le}
 use Rattle.refusals.specs.Outcome.{Outcome, answer, refusal, onward}
-use Rattle.floats.specs.Whole.{abs}
+use Rattle.floats.specs.Whole.{abs, nought, half, one}
 use Rattle.constants.specs.Constants.{secondsPerDay}
 use Rattle.julian.specs.declared.JulianDate.{JulianDate}
 use Rattle.julian.specs.Calendar.{julianToCalendar}
 use Rattle.julian.specs.Finite.{finiteJd, finiteArg}
 use Rattle.tai_utc.specs.Table.{Row}
-use Rattle.tai_utc.specs.Offset.{zeroF, halfF, oneF}
 use Rattle.scales.specs.Conversions.{answerOf, tai-ut1}
 use Rattle.utc_scales.specs.declared.utc_ut1.DayScan.{DayScan}
 use Rattle.utc_scales.specs.declared.utc_ut1.DayScan.the-variants as Day
@@ -34,21 +33,21 @@ utcToUt1 rows d dut1 =
 
 -- less the step, where both have one sign
 unfoldable pub beforeStep : Float → Float → Float
-beforeStep delta dut1 = cond (le zeroF (mul binary64 delta dut1)) (sub binary64 dut1 delta) dut1
+beforeStep delta dut1 = cond (le nought (mul binary64 delta dut1)) (sub binary64 dut1 delta) dut1
 
 -- the days since the start of the day before z, in UTC by this DUT1
 unfoldable pub timePastLeap : Float → Float → JulianDate → Float → Float
 timePastLeap big small z dut1 =
-    add binary64 (sub binary64 big (z .jd1)) (sub binary64 small (add binary64 (sub binary64 (z .jd2) oneF) (div binary64 dut1 secondsPerDay)))
+    add binary64 (sub binary64 big (z .jd1)) (sub binary64 small (add binary64 (sub binary64 (z .jd2) one) (div binary64 dut1 secondsPerDay)))
 
 -- the Rust's fmin(x, 1.0), which is 1.0 of a NaN
 unfoldable pub atMostOne : Float → Float
-atMostOne x = cond (lt x oneF) x oneF
+atMostOne x = cond (lt x one) x one
 
 -- more by the part of the step that has passed
 unfoldable pub afterStep : Float → Float → Float → Float
 afterStep past delta dut1 =
-    cond (lt zeroF past)
+    cond (lt nought past)
     (add binary64 dut1 (mul binary64 delta (atMostOne (div binary64 (mul binary64 past secondsPerDay) (add binary64 secondsPerDay delta)))))
     dut1
 
@@ -71,7 +70,7 @@ unfoldable pub scanDay : List Row → Float → Float → Float → Float → Fl
 scanDay rows big small dut1 i before =
     onward (julianToCalendar big (add binary64 small i)) (λ c.
     onward (offsetAt0h rows (c .date)) (λ x.
-    cond (lt (abs (sub binary64 x before)) halfF) (answer (noStep x))
+    cond (lt (abs (sub binary64 x before)) half) (answer (noStep x))
     (onward (midnightOf (c .date)) (λ z. answer (step (nearStep big small dut1 (sub binary64 x before) z))))))
 
 -- on to the next day, until a step

@@ -1,4 +1,5 @@
 -- `add_fraction` meets its contract. Assumes nothing.
+use lib.Ieee.{ofBits}
 use Rattle.day_number.proofs.Steps.{added-day, added-none}
 use borrow.Author.Needs.{needs}
 use Rattle.day_number.proofs.add_fraction.Statement.{statement}
@@ -11,9 +12,11 @@ add-t9 : tie.Need-add-t9
 add-t9 c = search needs
 
 returns : tie.Need-returns
+unfolding ofBits
 returns c = let s = c .before .before .before .before .args in added-day (s .carry) (s .kahan) (s .frac) (c .before .before .compensation .result) (c .before .before .compensation .ensures) (c .if1 .taken)
 
 returns-2 : tie.Need-returns-2
+unfolding ofBits
 returns-2 c = let s = c .before .before .before .before .args in added-none (s .carry) (s .kahan) (s .frac) (c .before .before .compensation .result) (c .before .before .compensation .ensures) (c .if1 .left)
 
 pub add-fraction-spec : {M : Type 1} → statement M

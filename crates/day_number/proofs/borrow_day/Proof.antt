@@ -1,11 +1,12 @@
 -- `borrow_day` meets its contract. Assumes nothing.
 use mathlib.Core.Path.{refl}
+use lib.Ieee.{ofBits}
 use Rattle.day_number.specs.DayNumber.{borrowDay}
 use Rattle.day_number.proofs.borrow_day.Statement.{statement}
 use Rattle.day_number.proofs.borrow_day.Tie as tie
 
 returns : tie.Need-returns
-unfolding borrowDay
+unfolding borrowDay ofBits
 returns c = refl
 
 pub borrow-day-spec : {M : Type 1} → statement M

@@ -1,19 +1,20 @@
 -- `time_of_day::day_end` meets its contract. Assumes nothing.
 use lib.Dec.{lit≤}
+use lib.Ieee.{ofBits}
 use Rattle.time_of_day.specs.TimeShown.{dayEnd}
 use Rattle.time_of_day.proofs.day_end.Statement.{statement}
 use Rattle.time_of_day.proofs.day_end.Tie as tie
 
 returns : tie.Need-returns
-unfolding dayEnd
+unfolding dayEnd ofBits
 returns c = (simp (c .if1 .taken), lit≤ tt)
 
 returns-2 : tie.Need-returns-2
-unfolding dayEnd
+unfolding dayEnd ofBits
 returns-2 c = (simp (c .before .if1 .left, c .if2 .taken), lit≤ tt)
 
 returns-3 : tie.Need-returns-3
-unfolding dayEnd
+unfolding dayEnd ofBits
 returns-3 c = (simp (c .before .if1 .left, c .if2 .left), lit≤ tt)
 
 pub day-end-spec : {M : Type 1} → statement M

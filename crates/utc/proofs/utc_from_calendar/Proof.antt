@@ -6,7 +6,8 @@ use lib.Ieee.{ofBits}
 use mir.Syntax.{w32}
 use mir.Facts.{toZ-ofZ, toZ-pos}
 use Rattle.refusals.specs.Outcome.{answer, refusal, onward}
-use Rattle.julian.specs.JulianDate.{nought, julianOutcome}
+use Rattle.floats.specs.Whole.{nought}
+use Rattle.julian.specs.JulianDate.{julianOutcome}
 use Rattle.julian.specs.Calendar.{fromCalendar}
 use Rattle.tai_utc.specs.Table.{fixed}
 use Rattle.tai_utc.specs.Leap.{leapAtEndOfDay}

@@ -2,8 +2,9 @@
 use mathlib.Core.Path.{ap, _∙_}
 use lib.Ieee.{ofBits}
 use mir.Facts.{toZ-ofZ}
+use Rattle.floats.specs.Whole.{nought}
 use Rattle.calendar.specs.Gregorian.{gregorianDate}
-use Rattle.tai_utc.specs.Offset.{zeroF, taiUtcOffset}
+use Rattle.tai_utc.specs.Offset.{taiUtcOffset}
 use Rattle.tai_utc.specs.Table.{fixed}
 use Rattle.utc_scales.specs.Dates.{offsetAt0h}
 use Rattle.utc_scales.proofs.Midnights.{month-fits, day-of-month-fits, handed}
@@ -25,7 +26,7 @@ get-tai-utc-offset-requires c κs = search needs
 
 returns : tie.Need-returns
 unfolding offsetAt0h ofBits
-returns c = c .get-tai-utc-offset .ensures ∙ handed _ _ (c .before .before .before .before .gregorian-date .ensures ∙ ap gregorianDate (toZ-ofZ (c .before .before .before .before .before .fits .day))) (λ y m d. taiUtcOffset fixed y m d zeroF) (record { sfits = c .before .struct-told .given .0 .1 })
+returns c = c .get-tai-utc-offset .ensures ∙ handed _ _ (c .before .before .before .before .gregorian-date .ensures ∙ ap gregorianDate (toZ-ofZ (c .before .before .before .before .before .fits .day))) (λ y m d. taiUtcOffset fixed y m d nought) (record { sfits = c .before .struct-told .given .0 .1 })
 
 pub offset-at-0h-spec : {M : Type 1} → statement M
 offset-at-0h-spec =

@@ -4,6 +4,7 @@ use lib.Ieee.Fits.{add-fits}
 use lib.Ieee.{Float, binary64, ofInt, ofBits, sub, lt}
 use lib.IntN.{ℤ, pos, _-ℤ_}
 use Rattle.refusals.specs.Outcome.{answer}
+use Rattle.floats.specs.Whole.{half}
 use Rattle.floats.proofs.Laws.{yes}
 use Rattle.constants.specs.Constants.{mjdZeroPoint}
 use Rattle.calendar.specs.Gregorian.{gregorianDate}
@@ -11,7 +12,6 @@ use Rattle.day_number.specs.Answer.{dayOutcome}
 use Rattle.day_number.proofs.Ranges.{day-range}
 use Rattle.julian.specs.JulianDate.{julian}
 use Rattle.tai_utc.specs.Answers.{offsetOutcome}
-use Rattle.tai_utc.specs.Offset.{halfF}
 use Rattle.tai_utc.specs.Table.{fixed}
 use Rattle.utc_scales.specs.Dates.{offsetAt0h}
 use Rattle.utc_scales.specs.UtcUt1.{step, scanOutcome, nearStep}
@@ -79,7 +79,7 @@ returns-3 c =
     let e = sym (n .day-number-and-fraction .ensures) ∙ ap dayOutcome (d .d .given .1) in
     let r = day-range _ _ (yes (s .good .0 .1)) (add-fits binary64 (s .args .small) (s .args .i)) _ e in
     let p = sym (c .before .before .before .before .before .offset-at-0h .ensures ∙ ap (λ (z : ℤ). offsetAt0h fixed (gregorianDate z)) (day-read _ r)) ∙ ap offsetOutcome (c .before .before .before .x .given .1) in
-    sym (scan-no-step fixed _ _ _ _ _ _ e _ p (ap (λ (z : Float). lt z halfF) (sym (c .before .fabs .ensures)) ∙ c .if1 .taken))
+    sym (scan-no-step fixed _ _ _ _ _ _ e _ p (ap (λ (z : Float). lt z half) (sym (c .before .fabs .ensures)) ∙ c .if1 .taken))
 
 returns-4 : tie.Need-returns-4
 unfolding scanOutcome dayOutcome offsetOutcome ofBits
@@ -93,7 +93,7 @@ returns-4 c =
     let m = c .before .mjd-of .ensures ∙ ap (λ (z : ℤ). ofInt binary64 (z -ℤ pos 2400001)) (day-read _ r) in
     let delta = sub binary64 (c .before .before .before .before .before .before .x .given .0 .0) (s .args .before) in
     ap (λ (z : Float). answer (step z)) (c .near-step .ensures ∙ ap (λ (z : Float). nearStep (s .args .big) (s .args .small) (s .args .dut1) delta (julian mjdZeroPoint z)) m)
-    ∙ sym (scan-step fixed _ _ _ _ _ _ e _ p r (ap (λ (z : Float). lt z halfF) (sym (c .before .before .before .before .fabs .ensures)) ∙ c .before .before .before .if1 .left))
+    ∙ sym (scan-step fixed _ _ _ _ _ _ e _ p r (ap (λ (z : Float). lt z half) (sym (c .before .before .before .before .fabs .ensures)) ∙ c .before .before .before .if1 .left))
 
 pub scan-day-spec : {M : Type 1} → statement M
 scan-day-spec =
