@@ -24,7 +24,8 @@ use Rattle.tai_utc.proofs.At.{rowAt}
 use Rattle.tai_utc.proofs.Reached.{member}
 use Rattle.tai_utc.proofs.Years.{before-1960}
 use Rattle.tai_utc.proofs.Days.{day-offsets-are, leap-given, leap-came}
-use Rattle.leap_days.specs.Leaps.{small, leap1959, Leap, within, second, first}
+use Rattle.time_of_day.specs.ExactTime.{leap1959}
+use Rattle.leap_days.specs.Leaps.{small, TableLeap, within, second, first}
 use Rattle.leap_days.proofs.Tests.{each, sameF}
 use Rattle.leap_days.proofs.Drift.{oneDay, dayTest, daysTest, rowsTest, monthTest}
 use Rattle.leap_days.proofs.Each.{all-months}
@@ -85,7 +86,7 @@ last-of-1959 = (refl, refl)
 
 -- ---- every day of a year from 0 on
 abbrev pub AnyLeap : DayOffsets → Type 0
-AnyLeap o = Leap (leapOf o) × (leapAmount o ≡ leapOf o)
+AnyLeap o = TableLeap (leapOf o) × (leapAmount o ≡ leapOf o)
 
 of-zero : (o : DayOffsets) → Both o nought → AnyLeap o
 of-zero o (p, q) = (within (subst (λ (z : Float). T (small z)) (sym p) tt), q ∙ sym p)
@@ -228,7 +229,7 @@ any-offsets : (y m d : ℤ) (o : DayOffsets) → dayOffsets fixed y m d ≡ answ
 any-offsets y m d o e = let (t, p, q) = came y m d o e in subst AnyLeap (sym q) (any-date y m d t p)
 
 -- ---- THE LAWS: of the offsets of a day, in either order, and of its leap
-pub every-leap-of-day : (y m d : ℤ) (o : DayOffsets) → dayOffsets fixed y m d ≡ answer o → Leap (leapOf o)
+pub every-leap-of-day : (y m d : ℤ) (o : DayOffsets) → dayOffsets fixed y m d ≡ answer o → TableLeap (leapOf o)
 every-leap-of-day y m d o e = any-offsets y m d o e .0
 
 pub both-orders : (y m d : ℤ) (o : DayOffsets) → dayOffsets fixed y m d ≡ answer o → leapAmount o ≡ leapOf o
@@ -242,8 +243,8 @@ leap-offsets y m d x e = go (dayOffsets fixed y m d) refl e
     go (answer o) p q = (o, p, cc)
     go (refusal k) p q = let z : _≡_ {A = ℕ} 0 1 = cc in absurd (omega arith)
 
-pub every-leap : (y m d : ℤ) (x : Float) → leapAtEndOfDay fixed y m d ≡ answer x → Leap x
-every-leap y m d x e = let (o, p, q) = leap-offsets y m d x e in subst (λ (z : Float). Leap z) (sym q) (every-leap-of-day y m d o p)
+pub every-leap : (y m d : ℤ) (x : Float) → leapAtEndOfDay fixed y m d ≡ answer x → TableLeap x
+every-leap y m d x e = let (o, p, q) = leap-offsets y m d x e in subst (λ (z : Float). TableLeap z) (sym q) (every-leap-of-day y m d o p)
 
 -- ---- the leap of 1959-12-31, and of no other day
 pub leap-of-1959 : leapAtEndOfDay fixed (pos 1959) (pos 12) (pos 31) ≡ answer leap1959

@@ -4,9 +4,9 @@ use mathlib.Core.Path.{_≡_}
 use mathlib.Core.Bool.{Bool, false, _&&_, _||_}
 use mathlib.Core.List.{List, [], _∷_}
 use lib.Dec.{T, eqb, leb}
-use lib.IntN.{negsuc}
 use lib.Ieee.{Float, nan, inf, fin, up, down}
 use Rattle.floats.specs.Whole.{one}
+use Rattle.time_of_day.specs.ExactTime.{leap1959}
 
 pub record Day : Type 0 where
   pub year : ℕ
@@ -60,11 +60,8 @@ small nan = false
 small (inf s) = false
 small (fin s m e) = leb (m * up e * 2) (down e)
 
--- the leap at the end of 1959-12-31, where the table begins: 0.9434819999999999, bits 0x3fee310129cbab64
-abbrev pub leap1959 : Float
-leap1959 = fin false 2124532591815385 (negsuc 50)
-
-pub data Leap (x : Float) : Type 0 where
-  within : T (small x) → Leap x
-  second : x ≡ one → Leap x
-  first : x ≡ leap1959 → Leap x
+-- the leaps that the table gives: fewer than `Leap` of `time_of_day` has, which a text is shown for
+pub data TableLeap (x : Float) : Type 0 where
+  within : T (small x) → TableLeap x
+  second : x ≡ one → TableLeap x
+  first : x ≡ leap1959 → TableLeap x

@@ -7,7 +7,7 @@ use Rattle.floats.specs.Whole.{abs, toWhole, away, nought, one}
 use Rattle.time_of_day.specs.declared.TimeShown.the-variants.{At, NextMidnight}
 use Rattle.time_of_day.specs.Milliseconds.{wholeLeap, secondsOf, millisOf}
 use Rattle.time_of_day.specs.TimeShown.{timeOf, dayEnd, fromZero, shownAt, shownOf}
-use Rattle.time_of_day.specs.ExactTime.{minus-one-f, step-1959}
+use Rattle.time_of_day.specs.ExactTime.{minus-one-f, leap1959}
 
 -- 86400 / 86401, rounded once, of a day that ends in a leap second: 23:59:60.000
 pub leap-second : shownOf away (ofBits binary64 0x3fef_ffe7_ba49_c869) one ≡ At (record { hour = 23; minute = 59; second = 60; milli = 0 })
@@ -25,7 +25,7 @@ unfolding shownOf shownAt fromZero timeOf dayEnd wholeLeap millisOf secondsOf of
 day-end = refl
 
 -- 1959-12-31 has 86400.9434819999999 s: its last fraction is 23:59:60.943
-pub last-1959 : shownOf away (ofBits binary64 0x3fef_ffff_ffff_ffff) step-1959 ≡ At (record { hour = 23; minute = 59; second = 60; milli = 943 })
+pub last-1959 : shownOf away (ofBits binary64 0x3fef_ffff_ffff_ffff) leap1959 ≡ At (record { hour = 23; minute = 59; second = 60; milli = 943 })
 unfolding shownOf shownAt fromZero timeOf dayEnd wholeLeap millisOf secondsOf ofBits add mul div lt toSigned toWhole abs
 last-1959 = refl
 

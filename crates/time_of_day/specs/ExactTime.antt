@@ -4,7 +4,8 @@ use mathlib.Core.Path.{_≡_}
 use Prim.Native.Nat.{ℕ, _+_, _*_, _≤_, _<_}
 use mathlib.Core.Bool.{false}
 use lib.Dec.{T}
-use lib.Ieee.{Float, binary64, ofBits, lt, le}
+use lib.IntN.{negsuc}
+use lib.Ieee.{Float, fin, binary64, ofBits, lt, le}
 use Rattle.floats.specs.Whole.{abs, nought, half, one}
 use Rattle.rounding.specs.Value.{Val}
 use Rattle.time_of_day.specs.declared.TimeOfDay.{TimeOfDay}
@@ -12,23 +13,24 @@ use Rattle.time_of_day.specs.declared.TimeShown.{TimeShown}
 use Rattle.time_of_day.specs.declared.TimeShown.the-variants.{At, NextMidnight}
 use Rattle.time_of_day.specs.Milliseconds.{wholeLeap}
 
--- -1.0, and 0.9434819999999999, the step at the end of 1959
+-- -1.0
 abbrev pub minus-one-f : Float
 minus-one-f = ofBits binary64 0xbff0_0000_0000_0000
 
-abbrev pub step-1959 : Float
-step-1959 = ofBits binary64 0x3fee_3101_29cb_ab64
+-- the leap at the end of 1959-12-31, where the table of TAI-UTC begins: 0.9434819999999999, bits 0x3fee310129cbab64
+abbrev pub leap1959 : Float
+leap1959 = fin false 2124532591815385 (negsuc 50)
 
 -- a fraction of a day: at least 0 and below 1
 pub record Fraction (x : Float) : Type 0 where
   pub least : T (le nought x)
   pub most : T (lt x one)
 
--- the leaps that a day can end in: of half a second at most in size, of a second, that of 1959-12-31, and of a second less, which no row of the table has
+-- the leaps that a text is shown for: of half a second at most in size, of a second, that of 1959-12-31, and of a second less, which no row of the table has
 pub data Leap : Float → Type 0 where
   little : {x : Float} → lt half (abs x) ≡ false → Leap x
   second : Leap one
-  first : Leap step-1959
+  first : Leap leap1959
   minus-second : Leap minus-one-f
 
 -- document 01's day length is W / E seconds: 86,400 plus the leap that counts, (p - n) / E

@@ -8,7 +8,7 @@ use lib.Ieee.{Float, ofBits, lt, eq}
 use Rattle.floats.specs.Whole.{abs, nought, half, one}
 use Rattle.rounding.specs.Value.{Val}
 use Rattle.time_of_day.specs.Milliseconds.{wholeLeap}
-use Rattle.time_of_day.specs.ExactTime.{minus-one-f, step-1959, Leap, little, second, first, minus-second, DayLength}
+use Rattle.time_of_day.specs.ExactTime.{minus-one-f, leap1959, Leap, little, second, first, minus-second, DayLength}
 
 zero-val : Val nought 0 0 1
 unfolding ofBits
@@ -23,7 +23,7 @@ unfolding wholeLeap ofBits lt eq abs
 of-86401 = record { p = 1; n = 0; leap-is = record { sign = false; size = 1; has = (refl, refl); is = refl }; is = refl }
 
 -- 0.9434819999999999 is 2124532591815385 / 2 ^ 51
-pub of-1959 : DayLength step-1959 (86400 * 2 ^ 51 + 2124532591815385) (2 ^ 51)
+pub of-1959 : DayLength leap1959 (86400 * 2 ^ 51 + 2124532591815385) (2 ^ 51)
 unfolding wholeLeap ofBits lt eq abs
 of-1959 = record { p = 2124532591815385; n = 0; leap-is = record { sign = false; size = 2124532591815385; has = (refl, refl); is = refl }; is = refl }
 

@@ -9,7 +9,7 @@ use native.Mathlib.Omega.{arith}
 use lib.Dec.{T, lit<}
 use lib.IntN.{ℤ, negsuc}
 use lib.Signed.{ltZ}
-use lib.Ieee.{Float, binary64, ofBits, fits}
+use lib.Ieee.{Float, binary64, fits}
 use Rattle.refusals.specs.Outcome.{answer, refusal}
 use Rattle.rounding.specs.Value.{Val}
 use Rattle.floats.specs.Whole.{away}
@@ -45,8 +45,7 @@ use Rattle.utc.proofs.DayTexts.{textOf, text-refused-by, leapOn, has-le
 use Rattle.utc.proofs.Sums.{in-days, fraction-fits, sumText, of-sum}
 
 -- ---- the cases of leap: every leap of the fixed table is one
-case-of : (x : Float) → Table.Leap x → Leap x
-unfolding ofBits
+case-of : (x : Float) → Table.TableLeap x → Leap x
 case-of x (Table.within t) = little (small-not-over x t)
 case-of x (Table.second e) = subst Leap (sym e) second
 case-of x (Table.first e) = subst Leap (sym e) first
