@@ -7,16 +7,17 @@ use native.Mathlib.Omega.{arith}
 use lib.Dec.{T}
 use lib.IntN.{ℤ, _+ℤ_}
 use lib.Ieee.{Float, binary64, fits}
-use Rattle.rounding.specs.Value.{Val, L}
+use Rattle.rounding.specs.Value.{Val, Under52, L}
 use Rattle.rounding.proofs.Value.{L-pos, val-unique}
 use Rattle.rounding.proofs.Signed.{plus-of, minus-of}
 use Rattle.rounding.proofs.Casts.{plusZ, minusZ, add-pair}
+use Rattle.rounding.proofs.Sizes.{under-size}
 use Rattle.refusals.specs.Outcome.{answer}
 use Rattle.floats.specs.Whole.{nearestInt}
 use Rattle.day_number.specs.declared.DayNumber.{DayNumber}
 use Rattle.day_number.specs.DayNumber.{accepted, rest, split, total, dayNumber, dayFraction, dayOf}
 use Rattle.day_number.specs.Answer.{dayNumberAndFraction}
-use Rattle.day_number.specs.NearDay.{Under, DayNear}
+use Rattle.day_number.specs.NearDay.{DayNear}
 use Rattle.day_number.proofs.Units.{H, H-L, W, L-W}
 use Rattle.day_number.proofs.SignedUnits.{has-val}
 use Rattle.day_number.proofs.NearestNumber.{Numbers}
@@ -83,20 +84,25 @@ module _ (x y : Float) (fx : T (fits binary64 x)) (fy : T (fits binary64 y)) (e 
           fin' u P N Q M i l j o up more down g h e1 e2 e3 k = omega (arith, H-L, L-W)
 
 -- the day and the fraction of every answered pair of parts under 2 ^ 52
-pub day-near : (x y : Float) → T (fits binary64 x) → T (fits binary64 y) → (a : Under x) (b : Under y) (d : DayNumber) → dayNumberAndFraction x y ≡ answer d → DayNear (a .units +ℤ b .units) (d .day) (d .fraction)
+pub day-near : (x y : Float) → Under52 x → Under52 y → (i j : ℤ) → Val x (plusZ i) (minusZ i) L → Val y (plusZ j) (minusZ j) L → (d : DayNumber) → dayNumberAndFraction x y ≡ answer d → DayNear (i +ℤ j) (d .day) (d .fraction)
 unfolding dayOf
-day-near x y fx fy a b d e =
+day-near x y a b i j v w d e =
     let g = answer-is x y d e in
-    let k = near-pair x y fx fy (g .0) (plusZ (a .units)) (minusZ (a .units)) (plusZ (b .units)) (minusZ (b .units)) (a .val) (b .val) (omega (arith, a .high)) (omega (arith, a .low)) (omega (arith, b .high)) (omega (arith, b .low)) in
-    let s = add-pair (a .units) (b .units) in
-    subst (λ (z : DayNumber). DayNear (a .units +ℤ b .units) (z .day) (z .fraction)) (g .1)
+    let (h1, h2) = bounds x a _ _ v in
+    let (h3, h4) = bounds y b _ _ w in
+    let k = near-pair x y (a .held) (b .held) (g .0) (plusZ i) (minusZ i) (plusZ j) (minusZ j) v w h1 h2 h3 h4 in
+    let s = add-pair i j in
+    subst (λ (z : DayNumber). DayNear (i +ℤ j) (z .day) (z .fraction)) (g .1)
     (record {
       units = k .units;
       val = k .val;
-      over = over' (plusZ (a .units)) (minusZ (a .units)) (plusZ (b .units)) (minusZ (b .units)) (plusZ (a .units +ℤ b .units)) (minusZ (a .units +ℤ b .units)) (k .units) (plusZ (dayNumber x y) * L) (minusZ (dayNumber x y) * L) s (k .over);
-      under = under' (plusZ (a .units)) (minusZ (a .units)) (plusZ (b .units)) (minusZ (b .units)) (plusZ (a .units +ℤ b .units)) (minusZ (a .units +ℤ b .units)) (k .units) (plusZ (dayNumber x y) * L) (minusZ (dayNumber x y) * L) s (k .under);
+      over = over' (plusZ i) (minusZ i) (plusZ j) (minusZ j) (plusZ (i +ℤ j)) (minusZ (i +ℤ j)) (k .units) (plusZ (dayNumber x y) * L) (minusZ (dayNumber x y) * L) s (k .over);
+      under = under' (plusZ i) (minusZ i) (plusZ j) (minusZ j) (plusZ (i +ℤ j)) (minusZ (i +ℤ j)) (k .units) (plusZ (dayNumber x y) * L) (minusZ (dayNumber x y) * L) s (k .under);
     })
   where
+    bounds : (z : Float) → Under52 z → (p n : ℕ) → Val z p n L → (p ≤ n + 2 ^ 62 * L) × (n ≤ p + 2 ^ 62 * L)
+    bounds z u p n v = let s = under-size z 52 (u .held) (u .small) in let e = val-unique v (s .val) in (omega (arith, s .high), omega (arith, s .low))
+
     over' : (p n q m P N u i j : ℕ) → P + (n + m) ≡ N + (p + q) → 2 ^ 53 * (u + (n + m) + i) ≤ 2 ^ 53 * (p + q + j) + 2 ^ 52 * L + 4 * L → 2 ^ 51 * (i + u + N) ≤ 2 ^ 51 * (P + j) + 2 ^ 50 * L + L
     over' p n q m P N u i j e h = omega arith
 

@@ -1,16 +1,9 @@
 -- How near the day and the fraction are to the exact ones off the grid. Written from document 01, "Day and fraction", and its off-grid bound over scaled whole numbers.
 -- Every finite float is a whole number of 2 ^ -1074, of which L are 1.0, and here parts and sums are counted in that unit. Assumes nothing.
-use Prim.Native.Nat.{ℕ, _+_, _*_, _^_, _≤_, _<_}
+use Prim.Native.Nat.{ℕ, _+_, _*_, _^_, _≤_}
 use lib.IntN.{ℤ}
 use lib.Ieee.{Float}
 use Rattle.rounding.specs.Value.{Val, L, plusZ, minusZ}
-
--- a part under 2 ^ 52 day in size
-pub record Under (x : Float) : Type 0 where
-  pub units : ℤ
-  pub val : Val x (plusZ units) (minusZ units) L
-  pub high : plusZ units < 2 ^ 52 * L
-  pub low : minusZ units < 2 ^ 52 * L
 
 -- |day + fraction - (sum + 1/2)| ≤ 2 ^ -51, both sides times 2 ^ 51 L
 pub record DayNear (sum day : ℤ) (fraction : Float) : Type 0 where

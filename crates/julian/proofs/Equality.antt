@@ -74,7 +74,7 @@ record Sums (d : JulianDate) (P N : ℕ) : Type 0 where
 sums-of : {d : JulianDate} {P N : ℕ} → SmallParts d → Worth d P N L → Sums d P N
 unfolding sums exactSum twoSumError
 sums-of {d} {P} {N} s w =
-    let x = two-sum-under (s .first .held) (s .second .held) (s .first .small) (s .second .small) (w .first) (w .second) in
+    let x = two-sum-under (s .first) (s .second) (w .first) (w .second) in
     record {
       sp = x .sp;
       sn = x .sn;

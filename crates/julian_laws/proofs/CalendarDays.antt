@@ -11,6 +11,7 @@ use lib.Signed.{ltZ}
 use lib.Ieee.{Float, binary64, fits}
 use borrow.Author.Tests.{le-ltb}
 use Rattle.refusals.specs.Outcome.{Outcome, answer, refusal, onward}
+use Rattle.rounding.specs.Value.{Val, Under52, L}
 use Rattle.rounding.proofs.Casts.{plusZ, minusZ, one-side}
 use Rattle.calendar.specs.declared.CalendarDate.{CalendarDate}
 use Rattle.calendar.specs.Calendar.{dateOf}
@@ -21,7 +22,7 @@ use Rattle.day_number.specs.DayNumber.{accepted, dayOf}
 use Rattle.day_number.specs.Answer.{dayNumberAndFraction}
 use Rattle.day_number.specs.Ranges.{InDays, InUnit}
 use Rattle.day_number.specs.ExactDay.{OnGrid, exactSum, InJulianRange, exactDay, exactFraction, exactDayNumber, fractionOf, DayAt}
-use Rattle.day_number.specs.NearDay.{Under, DayNear}
+use Rattle.day_number.specs.NearDay.{DayNear}
 use Rattle.day_number.proofs.Answer.{answered, refused}
 use Rattle.day_number.proofs.Ranges.{day-range, fraction-range}
 use Rattle.day_number.proofs.ExactDay.{exact-day, exact, alike}
@@ -127,7 +128,7 @@ pub record NearDate (sum : ℤ) (f : CalendarFields) : Type 0 where
   pub date : f .date ≡ gregorianDate day
   pub near : DayNear sum day (f .fraction)
 
-pub near-date : (x y : Float) → T (fits binary64 x) → T (fits binary64 y) → (a : Under x) (b : Under y) (f : CalendarFields) → julianToCalendar x y ≡ answer f → NearDate (a .units +ℤ b .units) f
-near-date x y fx fy a b f e =
+pub near-date : (x y : Float) → Under52 x → Under52 y → (i j : ℤ) → Val x (plusZ i) (minusZ i) L → Val y (plusZ j) (minusZ j) L → (f : CalendarFields) → julianToCalendar x y ≡ answer f → NearDate (i +ℤ j) f
+near-date x y a b i j v w f e =
     let d = day-of x y f e in
-    record { day = d .day .day; date = d .date; near = subst (DayNear (a .units +ℤ b .units) (d .day .day)) (sym (d .fraction)) (day-near x y fx fy a b (d .day) (d .given)) }
+    record { day = d .day .day; date = d .date; near = subst (DayNear (i +ℤ j) (d .day .day)) (sym (d .fraction)) (day-near x y a b i j v w (d .day) (d .given)) }

@@ -7,7 +7,7 @@ use lib.IntN.{pos}
 use lib.Dec.{T, lit≤, lit<}
 use lib.Ieee.{Float, fin, binary64, add, sub, div, lt, fits, ofBits}
 use Rattle.floats.specs.Whole.{abs}
-use Rattle.rounding.specs.Value.{Val, L}
+use Rattle.rounding.specs.Value.{Val, Under52, L}
 use Rattle.rounding.proofs.Value.{div-rounds}
 use Rattle.rounding.proofs.Exact.{sub-exact}
 use Rattle.rounding.proofs.Bound.{Enclosed, rounds-between}
@@ -68,21 +68,13 @@ third-between : Enclosed (div binary64 one-float three-float) 0 0 L 0
 third-between = rounds-between (lit< tt) zero-fits one-fits zero-val one-val (omega arith) (omega arith) (div-rounds binary64 (lit< tt) (lit< tt) (lit< tt) one-whole three-whole)
 
 -- ---- 3 + 0.1 is rounded, and two-sum's error is what it lost
-three-fits : T (fits binary64 three-float)
-unfolding fits three-float
-three-fits = tt
+three-under : Under52 three-float
+unfolding fits lt abs three-float
+three-under = record { held = tt; small = tt }
 
-tenth-fits : T (fits binary64 tenth-float)
-unfolding fits tenth-float ofBits
-tenth-fits = tt
-
-three-under : T (lt (abs three-float) (fin false 1 (pos 52)))
-unfolding lt abs three-float
-three-under = tt
-
-tenth-under : T (lt (abs tenth-float) (fin false 1 (pos 52)))
-unfolding lt abs tenth-float ofBits
-tenth-under = tt
+tenth-under : Under52 tenth-float
+unfolding fits lt abs tenth-float ofBits
+tenth-under = record { held = tt; small = tt }
 
 three-and-tenth : Exact (add binary64 three-float tenth-float) (two-sum-error three-float tenth-float) (3 * L + 3602879701896397 * 2 ^ 1019) (0 + 0)
-three-and-tenth = two-sum-under three-fits tenth-fits three-under tenth-under three-val tenth-val
+three-and-tenth = two-sum-under three-under tenth-under three-val tenth-val

@@ -3,14 +3,12 @@
 use mathlib.Core.Path.{_≡_, sym, subst}
 use Prim.Native.Nat.{ℕ, _+_, _*_, _^_, _≤_, _<_}
 use native.Mathlib.Nat.{le-trans, le-of-eq, lt-of-le-of-lt, mul-assoc, mul-le-mul-right}
-use lib.Dec.{T, lit≤, lit<}
+use lib.Dec.{lit≤, lit<}
 use native.Mathlib.Omega.{arith}
 use mathlib.Core.Bool.{Bool, true, false}
-use lib.IntN.{pos}
-use lib.Ieee.{Float, fin, binary64, add, sub, lt, fits}
+use lib.Ieee.{Float, binary64, add, sub}
 use lib.Ieee.Exact.{HasValue}
-use Rattle.rounding.specs.Value.{Signed, Val, Rounds, L}
-use Rattle.floats.specs.Whole.{abs}
+use Rattle.rounding.specs.Value.{Signed, Val, Rounds, Under52, L}
 use Rattle.rounding.proofs.Value.{add-rounds, sub-rounds, abs-val, L-pos}
 use Rattle.rounding.proofs.Signed.{dist-up, signed-le}
 use Rattle.rounding.proofs.Own.{Rep}
@@ -129,11 +127,11 @@ unfolding L
 enough = lit< tt
 
 -- by the test |a| < 2 ^ 52
-pub two-sum-under : {a b : Float} {p n q m : ℕ} → T (fits binary64 a) → T (fits binary64 b) → T (lt (abs a) (fin false 1 (pos 52))) → T (lt (abs b) (fin false 1 (pos 52))) → Val a p n L → Val b q m L
+pub two-sum-under : {a b : Float} {p n q m : ℕ} → Under52 a → Under52 b → Val a p n L → Val b q m L
     → Exact (add binary64 a b) (two-sum-error a b) (p + q) (n + m)
-two-sum-under {a} {b} {p} {n} {q} {m} fa fb ha hb va vb =
-    let x = lt-says L-pos (abs-val va) (power-val 52 L) ha in
-    let y = lt-says L-pos (abs-val vb) (power-val 52 L) hb in two-sum-exact a b p n q m (2 ^ 52 * L) va vb (val-rep fa va) (val-rep fb vb) enough
+two-sum-under {a} {b} {p} {n} {q} {m} ua ub va vb =
+    let x = lt-says L-pos (abs-val va) (power-val 52 L) (ua .small) in
+    let y = lt-says L-pos (abs-val vb) (power-val 52 L) (ub .small) in two-sum-exact a b p n q m (2 ^ 52 * L) va vb (val-rep (ua .held) va) (val-rep (ub .held) vb) enough
     (near p n (dist p n) (2 ^ 52 * L) x (dist-up p n .0)) (near n p (dist p n) (2 ^ 52 * L) x (dist-up p n .1))
     (near q m (dist q m) (2 ^ 52 * L) y (dist-up q m .0)) (near m q (dist q m) (2 ^ 52 * L) y (dist-up q m .1))
   where

@@ -5,8 +5,10 @@ use mathlib.Core.Path.{_≡_}
 use Prim.Native.Nat.{ℕ, suc, _+_, _^_}
 use lib.IntN.{ℤ, pos, negsuc}
 use mathlib.Core.Bool.{Bool, true, false}
-use lib.Ieee.{Float, Format, round}
+use lib.Dec.{T}
+use lib.Ieee.{Float, Format, fin, binary64, round, lt, fits}
 use lib.Ieee.Exact.{HasValue}
+use Rattle.floats.specs.Whole.{abs}
 
 -- a with the sign s is p - n: a = p - n, and for the negative sign -a = p - n
 abbrev pub Signed : Bool → ℕ → ℕ → ℕ → Type 0
@@ -26,6 +28,11 @@ pub record Rounds (f : Format) (z : Float) (p n d : ℕ) : Type 0 where
   pub size : ℕ
   pub eq : z ≡ round f sign size d
   pub is : Signed sign size p n
+
+-- an f64 under 2 ^ 52 in size
+pub record Under52 (x : Float) : Type 0 where
+  pub held : T (fits binary64 x)
+  pub small : T (lt (abs x) (fin false 1 (pos 52)))
 
 -- an integer z as the pair of plusZ z and minusZ z, of which one is 0: z = plusZ z - minusZ z
 abbrev pub plusZ : ℤ → ℕ

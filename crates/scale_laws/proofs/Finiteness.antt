@@ -12,7 +12,7 @@ use lib.Ieee.{Float, nan, inf, fin, binary64, lt, le, eq, round}
 use lib.Ieee.Scale.{finite}
 use lib.Ieee.Exact.{HasValue}
 use Rattle.floats.specs.Whole.{abs}
-use Rattle.rounding.specs.Value.{Val, L}
+use Rattle.rounding.specs.Value.{Val, Under52, L}
 use Rattle.rounding.proofs.Value.{L-pos, abs-has, val-finite-true}
 use Rattle.rounding.proofs.Own.{own}
 use Rattle.rounding.proofs.Range.{power-val}
@@ -20,7 +20,7 @@ use Rattle.rounding.proofs.Compare.{le-val}
 use Rattle.rounding.proofs.About.{U, L-U, About, about-add, about-sub}
 use Rattle.refusals.specs.Outcome.{onward}
 use Rattle.julian.specs.declared.JulianDate.{JulianDate}
-use Rattle.julian.specs.Worth.{Under52, SmallParts}
+use Rattle.julian.specs.Worth.{SmallParts}
 use Rattle.scales.specs.SmallerPart.{firstIsLarger, mapSmallerPart}
 use Rattle.scales.specs.Formulas.{plus, minus, daysOf, gpsDays, ttDays, tcgToTt, ttToTcg, tcbToTdb, tdbToTcb}
 use Rattle.scales.specs.Conversions.{Conversion, gps-tai, tai-gps, tai-tt, tt-tai, tcg-tt, tt-tcg, tcb-tdb, tdb-tcb, tai-tcg, tcg-tai, tai-ut1, ut1-tai, ut1-tt, tt-ut1, tt-tdb, tdb-tt, offsetOf, converted, convertedBy, answerOf}
