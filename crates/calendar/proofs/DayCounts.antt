@@ -9,6 +9,7 @@ use Rattle.calendar.specs.Calendar.{date, dateAt, lengths, leap, leapSiz
 use Rattle.calendar.specs.DayCount.{marchCount, civilCount}
 use Rattle.calendar.proofs.Months.{months}
 use Rattle.calendar.proofs.March.{daysBeforeYear, before-year-is, daysBefore, before-is, at, Valid, marchLength}
+use Rattle.calendar.proofs.Divisions.{years}
 use Rattle.calendar.proofs.InStep.{fromMarch, yearOf, date-with-count, leap-same}
 use Rattle.calendar.proofs.Signs.{sub-shift}
 
@@ -20,9 +21,6 @@ at100 y = omega arith
 
 at400 : (y : ℕ) → (y + 400) / 400 ≡ y / 400 + 1
 at400 y = omega arith
-
-four : (y : ℕ) → 1461 * y / 4 ≡ 365 * y + y / 4
-four y = omega arith
 
 three : (y : ℕ) → 3 * ((y + 100) / 100) / 4 + y / 400 ≡ y / 100
 three y = omega arith
@@ -36,7 +34,7 @@ t-small y = omega arith
 pub march-count : (y m d : ℕ) → 1 ≤ m → 1 ≤ d → marchCount y m d + 146066 ≡ daysBefore (y + 400) m d
 march-count y m d h k =
     sum y (daysBeforeYear (y + 400)) (y / 4) (y / 100) (y / 400) ((y + 400) / 4) ((y + 400) / 100) ((y + 400) / 400) (1461 * y / 4) (3 * ((y + 100) / 100) / 4) (367 * m / 12) d (daysBefore (y + 400) m d)
-    (before-year-is (y + 400)) (at4 y) (at100 y) (at400 y) (four y) (three y) (before-is (y + 400) m d h k) (t-small y)
+    (before-year-is (y + 400)) (at4 y) (at100 y) (at400 y) (years y) (three y) (before-is (y + 400) m d h k) (t-small y)
 
 -- the date, month by month: y is the year + 4800
 spring : (y k d : ℕ) → Valid (y + 400) k d → dateAt (marchCount y k d + 146066) ≡ fromMarch (at (y + 400) k d)

@@ -44,7 +44,7 @@ at400 n i h = omega arith
 cent : (n : ℕ) → centuryStart n ≡ 36524 * n + (n + 3) / 4
 cent n = omega arith
 
-years : (i : ℕ) → 1461 * i / 4 ≡ 365 * i + i / 4
+pub years : (i : ℕ) → 1461 * i / 4 ≡ 365 * i + i / 4
 years i = omega arith
 
 sum : (s n i q4 q100 q400 r e c f : ℕ) → s + q100 ≡ 365 * (100 * n + i + 300) + q4 + q400 → q4 ≡ 25 * n + 75 + r → q100 ≡ n + 3 → q400 ≡ e → c ≡ 36524 * n + e → f ≡ 365 * i + r → s ≡ 109572 + c + f

@@ -24,8 +24,8 @@ december : (b : Bool) → lengths b 12 ≡ 31
 unfolding lengths
 december b = refl
 
-first-false : (a b c : Bool) → a ≡ false → a && (b && c) ≡ false
-first-false a b c e = rw e
+pub first-false : (a b : Bool) → a ≡ false → a && b ≡ false
+first-false a b e = rw e
 
 second-false : (a b c : Bool) → b ≡ false → a && (b && c) ≡ false
 second-false true b c e = rw e
@@ -77,7 +77,7 @@ module _ (y m d : ℤ) (ok : validDate y m d ≡ answer tt) where
   pub next-year : monthLength y (natAbs m) ≤ natAbs d → 12 ≤ natAbs m → ltZ (pos 2147483646) y ≡ false → nextOf y m d ≡ answer (date (sucℤ y) 1 1)
   unfolding next
   next-year h k l =
-      by false (first-false (leZ (pos 2147483647) y) (eqb (natAbs m) 12) (eqb (natAbs d) 31) (before-end y l))
+      by false (first-false (leZ (pos 2147483647) y) (eqb (natAbs m) 12 && eqb (natAbs d) 31) (before-end y l))
       ∙ rw (le-ltb (natAbs d) (monthLength y (natAbs m)) h, le-ltb (natAbs m) 12 k)
 
   pub no-next : monthLength y (natAbs m) ≤ natAbs d → 12 ≤ natAbs m → ltZ (pos 2147483646) y ≡ true → nextOf y m d ≡ refusal 5

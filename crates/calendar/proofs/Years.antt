@@ -8,8 +8,8 @@ use Prim.Native.Nat.{ℕ, zero, suc, _+_, _-_, _≤_}
 use native.Mathlib.Omega.{arith}
 use lib.Dec.{ltb}
 use lib.IntN.{ℤ, pos, negsuc, natAbs, sucℤ, _+ℤ_}
-use lib.Signed.{ltZ}
-use borrow.Author.Tests.{lt-ltb, le-ltb, ltb-true, ltb-false}
+use lib.Signed.{ltZ, leZ}
+use borrow.Author.Tests.{lt-ltb, le-ltb, lt-leb, ltb-true, ltb-false}
 use Rattle.refusals.specs.Outcome.{Outcome, answer, refusal}
 use Rattle.calendar.specs.declared.CalendarDate.{CalendarDate}
 use Rattle.calendar.specs.Calendar.{date, dateAt, dateOf, next, leap, leapSize, lengths, monthLength}
@@ -195,9 +195,14 @@ pub counted-from : (n : ℤ) → ltZ n (negsuc 68568) ≡ false → Counted n
 counted-from (pos a) e = refl
 counted-from (negsuc a) e = le-ltb 178140 a (omega (arith, ltb-false 68568 a e))
 
-date-of-in-calendar : (n : ℤ) → InCalendar (dateOf n)
+pub date-of-in-calendar : (n : ℤ) → InCalendar (dateOf n)
 unfolding dateOf
 date-of-in-calendar n = date-at-in-calendar (natAbs (n +ℤ pos 178141))
+
+-- the last date of 32 bits is past every year of the calendar
+pub before-last : (y : ℤ) → ltZ (pos 2733194) y ≡ false → leZ (pos 2147483647) y ≡ false
+before-last (pos n) e = lt-leb 2147483647 n (omega (arith, ltb-false 2733194 n e))
+before-last (negsuc n) e = refl
 
 -- THE REFUSAL of the date of any day number: 1 before day -31738, and none from there on
 pub gregorian-valid : (n : ℤ) → validOf (gregorianDate n) ≡ cond (ltZ n (negsuc 31737)) (refusal 1) (answer tt)

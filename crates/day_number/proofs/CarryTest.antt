@@ -6,11 +6,13 @@ use native.Mathlib.Omega.{arith}
 use lib.Dec.{T, leb, ltb, leb→le, nleb→lt, ltb→lt, lt→ltb, lit≤}
 use lib.Pow.{pow-pos}
 use lib.Ieee.{Float, binary64, sub, lt, fits}
+use lib.Ieee.Bits.{is-true}
 use Rattle.floats.specs.Whole.{one}
 use Rattle.rounding.specs.Value.{Val, L}
 use Rattle.rounding.proofs.Value.{L-pos, val-scale}
 use Rattle.rounding.proofs.Exact.{sub-exact}
-use Rattle.rounding.proofs.Compare.{bool-eq, lt-val, lt-show}
+use Rattle.rounding.proofs.Compare.{lt-val, lt-show}
+use Rattle.floats.proofs.Fields.{same-test}
 use Rattle.day_number.specs.DayNumber.{c-minus-eps-4}
 use Rattle.day_number.proofs.Units.{G, W, L-W, one-L, one-G, minus-eps-4}
 use Rattle.day_number.proofs.CarryDay.{less-one, to-grid, cancel}
@@ -24,7 +26,7 @@ carry-test z p n f v h k = go (leb (n + 13510798882111488 * W) p) (leb→le (n +
         let b : d < 2 * G = cancel d (2 * G) (omega (arith, L-W)) in
         let t : Val (sub binary64 z one) (d + 0) (0 + G) G = sub-exact 53 (lit≤ tt) (omega arith) (omega arith) x one-G in
         lt-val (pow-pos 54) (val-scale 2 t) minus-eps-4
-        ∙ bool-eq (ltb ((d + 0) * 2 + 1) (0 + (0 + G) * 2)) (ltb (d + 0) (G + 0)) (λ u. lt→ltb (d + 0) (G + 0) (down d (ltb→lt ((d + 0) * 2 + 1) (0 + (0 + G) * 2) u))) (λ u. lt→ltb ((d + 0) * 2 + 1) (0 + (0 + G) * 2) (up d (ltb→lt (d + 0) (G + 0) u)))
+        ∙ same-test (ltb ((d + 0) * 2 + 1) (0 + (0 + G) * 2)) (ltb (d + 0) (G + 0)) (λ u. lt→ltb (d + 0) (G + 0) (down d (ltb→lt ((d + 0) * 2 + 1) (0 + (0 + G) * 2) u))) (λ u. lt→ltb ((d + 0) * 2 + 1) (0 + (0 + G) * 2) (up d (ltb→lt (d + 0) (G + 0) u)))
         ∙ sym (lt-val (pow-pos 53) x one-G)
       where
         down : (d : ℕ) → (d + 0) * 2 + 1 < 0 + (0 + G) * 2 → d + 0 < G + 0
@@ -37,10 +39,6 @@ carry-test z p n f v h k = go (leb (n + 13510798882111488 * W) p) (leb→le (n +
     low l true e = refl
     low l false e = absurd (less-one z p n v h l e)
 
-    yes : (b : Bool) → T b → b ≡ true
-    yes true t = refl
-    yes false t = absurd t
-
     go : (u : Bool) → (T u → n + 13510798882111488 * W ≤ p) → (T (not u) → p < n + 13510798882111488 * W) → lt (sub binary64 z one) c-minus-eps-4 ≡ lt z one
     go true a b = grid (to-grid z p n f v (omega (arith, a tt)))
-    go false a b = low (b tt) (lt (sub binary64 z one) c-minus-eps-4) refl ∙ sym (yes (lt z one) (lt-show L-pos v one-L (omega (arith, b tt, L-W))))
+    go false a b = low (b tt) (lt (sub binary64 z one) c-minus-eps-4) refl ∙ sym (is-true (lt z one) (lt-show L-pos v one-L (omega (arith, b tt, L-W))))

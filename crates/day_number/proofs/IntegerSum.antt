@@ -23,7 +23,7 @@ fewer I K M D b h k = let z : I * D < (K + (M + 1)) * D = lt-of-lt-of-le (lt-of-
 gather : (a b c d D : ℕ) → (a + b + c + d) * D ≡ a * D + b * D + c * D + d * D
 gather a b c d D = add-mul (a + b + c) d D ∙ ap (λ (z : ℕ). z + d * D) (add-mul (a + b) c D ∙ ap (λ (z : ℕ). z + c * D) (add-mul a b D))
 
-gather3 : (a b c D : ℕ) → (a + b + c) * D ≡ a * D + b * D + c * D
+pub gather3 : (a b c D : ℕ) → (a + b + c) * D ≡ a * D + b * D + c * D
 gather3 a b c D = add-mul (a + b) c D ∙ ap (λ (z : ℕ). z + c * D) (add-mul a b D)
 
 pub record Bounded (I K : ℕ) : Type 0 where

@@ -7,6 +7,7 @@ use native.Mathlib.Nat.{le-of-eq, lt-of-le-of-lt}
 use native.Mathlib.Omega.{arith}
 use lib.Dec.{T, ltb, leb, ltb→lt, leb→le, nleb→lt, lit<}
 use lib.Ieee.{Float, nan, inf, fin, binary64, prec, low, add, lt, le, eq, ofBits, round, units, odd}
+use lib.Ieee.Bits.{is-true}
 use lib.Ieee.Fits.{and-l, and-r, round-is}
 use lib.Ieee.Exact.{HasValue}
 use lib.Ieee.Order.{drop, kept}
@@ -22,10 +23,6 @@ use Rattle.rounding.proofs.TwoSumFloat.{At, at}
 use Rattle.rounding.proofs.Compare.{le-true, le-show}
 use Rattle.day_number.specs.DayNumber.{c-djmin, c-djmax, inJulianRange, accepted}
 use Rattle.day_number.proofs.Units.{E, E-L, E-pos, min-L, max-L}
-
-yes : (b : Bool) → T b → b ≡ true
-yes true t = refl
-yes false t = absurd t
 
 -- ---- finite
 in-range : (z : Float) → T (le c-djmin z) → T (le z c-djmax) → T (finite z)
@@ -101,8 +98,8 @@ module _ (x y : Float) (p n q m : ℕ) (vx : Val x p n L) (vy : Val y q m L) (lo
 
   pub exact-sum : InRange (p + q) (n + m)
   exact-sum =
-      let u : s .p + 0 ≤ 8000000000 * E + s .n = le-true L-pos (s .val) max-L (yes (le (add binary64 x y) c-djmax) hi) in
-      let l : 0 + s .n ≤ s .p + 548556 * E = le-true L-pos min-L (s .val) (yes (le c-djmin (add binary64 x y)) lo) in
+      let u : s .p + 0 ≤ 8000000000 * E + s .n = le-true L-pos (s .val) max-L (is-true (le (add binary64 x y) c-djmax) hi) in
+      let l : 0 + s .n ≤ s .p + 548556 * E = le-true L-pos min-L (s .val) (is-true (le c-djmin (add binary64 x y)) lo) in
       record {
         high = top (leb (8000000001 * E + (n + m)) (p + q)) (leb→le (8000000001 * E + (n + m)) (p + q)) (nleb→lt (8000000001 * E + (n + m)) (p + q)) (s .p) (s .n) (s .rn) u;
         low = bottom (leb (p + q + 548557 * E) (n + m)) (leb→le (p + q + 548557 * E) (n + m)) (nleb→lt (p + q + 548557 * E) (n + m)) (s .p) (s .n) (s .rn) l;
@@ -139,7 +136,7 @@ pub accepted-finite : (x y : Float) → accepted x y ≡ true → T (finite x) �
 accepted-finite x y e = sum-finite x y (in-range (add binary64 x y) (accepted-lo x y e) (accepted-hi x y e))
 
 -- ---- and back: an exact sum from -68569.5 to 1e9, of parts that are not too large, is accepted
-far : 2 * (2 ^ 64 * L) < 2 ^ 2098
+pub far : 2 * (2 ^ 64 * L) < 2 ^ 2098
 unfolding L
 far = lit< tt
 
@@ -152,4 +149,4 @@ module _ (x y : Float) (p n q m : ℕ) (vx : Val x p n L) (vy : Val y q m L) (h1
   accepts =
       let u : rounded .p + 0 ≤ 8000000000 * E + rounded .n = rn-le (8000000000 * E) 0 (eighths-up 8000000000 (lit< tt)) (rounded .rn) (omega arith) in
       let l : 0 + rounded .n ≤ rounded .p + 548556 * E = rn-ge 0 (548556 * E) (eighths-down 548556 (lit< tt)) (rounded .rn) (omega arith) in
-      ap (λ (b : Bool). b && le (add binary64 x y) c-djmax) (yes (le c-djmin (add binary64 x y)) (le-show L-pos min-L (rounded .val) l)) ∙ yes (le (add binary64 x y) c-djmax) (le-show L-pos (rounded .val) max-L u)
+      ap (λ (b : Bool). b && le (add binary64 x y) c-djmax) (is-true (le c-djmin (add binary64 x y)) (le-show L-pos min-L (rounded .val) l)) ∙ is-true (le (add binary64 x y) c-djmax) (le-show L-pos (rounded .val) max-L u)

@@ -13,7 +13,7 @@ use lib.Ieee.Nearest.{div-same}
 use Rattle.rounding.specs.Value.{Signed, Val, Rounds, L}
 use Rattle.rounding.proofs.Value.{L-pos, abs-has, add-rounds, sub-rounds}
 use Rattle.rounding.proofs.Signed.{plus-of, minus-of}
-use Rattle.rounding.proofs.Own.{Rep}
+use Rattle.rounding.proofs.Own.{Rep, has-small}
 use Rattle.rounding.proofs.Optimal.{step}
 use Rattle.rounding.proofs.Relative.{step-has}
 use Rattle.rounding.proofs.Compare.{lt-val}
@@ -21,7 +21,7 @@ use Rattle.rounding.proofs.Casts.{plusZ, minusZ}
 use Rattle.floats.specs.Whole.{abs, half, nought, toWhole, downward, upward, nearestInt}
 use Rattle.floats.proofs.Laws.{downward-exact, upward-exact}
 use Rattle.day_number.proofs.Units.{H, H-pos}
-use Rattle.day_number.proofs.SignedUnits.{has-val, has-rep, has-small}
+use Rattle.day_number.proofs.SignedUnits.{has-val, has-rep}
 use Rattle.day_number.proofs.NearestNumber.{Numbers, small-numbers, found, numbers, room}
 
 -- ---- floor and ceil of a value in units

@@ -1,19 +1,16 @@
 -- A float of X units of 2 ^ -1074 with the sign s: its value, and what X can be. Assumes nothing.
 use mathlib.Core.Path.{subst}
 use mathlib.Core.Bool.{Bool}
-use Prim.Native.Nat.{ℕ, _^_, _<_}
+use Prim.Native.Nat.{ℕ}
 use lib.Dec.{T}
 use lib.Ieee.{Float, binary64, fits}
 use lib.Ieee.Exact.{HasValue}
 use Rattle.rounding.specs.Value.{Val, L}
 use Rattle.rounding.proofs.Signed.{plus-of, minus-of, signed-of, signed-dist}
-use Rattle.rounding.proofs.Own.{Rep, val-rep, val-small}
+use Rattle.rounding.proofs.Own.{Rep, val-rep}
 
 pub has-val : (x : Float) (s : Bool) (X D : ℕ) → HasValue x s X D → Val x (plus-of s X) (minus-of s X) D
 has-val x s X D v = record { sign = s; size = X; has = v; is = signed-of s X }
 
 pub has-rep : (x : Float) (s : Bool) (X : ℕ) → T (fits binary64 x) → HasValue x s X L → Rep X
 has-rep x s X f v = subst Rep (signed-dist s X (plus-of s X) (minus-of s X) (signed-of s X)) (val-rep f (has-val x s X L v))
-
-pub has-small : (x : Float) (s : Bool) (X : ℕ) → T (fits binary64 x) → HasValue x s X L → X < 2 ^ 2098
-has-small x s X f v = subst (λ (z : ℕ). z < 2 ^ 2098) (signed-dist s X (plus-of s X) (minus-of s X) (signed-of s X)) (val-small f (has-val x s X L v))

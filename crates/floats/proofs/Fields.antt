@@ -71,13 +71,14 @@ lowest nan s c l L v = absurd v
 lowest (inf t) s c l L v = absurd v
 lowest (fin t m e) s c l L v = (v .0, mul-one (m * up e) ∙ eq-of-mul-eq-mul-right l L (m * up e) (c * down e) (v .1 ∙ mul-right-comm c l (down e)))
 
--- ---- a pattern by its upper bits h and its digits t
-same-test : (a b : Bool) → (T a → T b) → (T b → T a) → a ≡ b
+-- two tests that imply each other are equal
+pub same-test : (a b : Bool) → (T a → T b) → (T b → T a) → a ≡ b
 same-test true true p q = refl
 same-test true false p q = absurd (p tt)
 same-test false true p q = absurd (q tt)
 same-test false false p q = refl
 
+-- ---- a pattern by its upper bits h and its digits t
 sign-high : (b : ℕ) → sign b ≡ leb 2048 (b / 2 ^ 52)
 sign-high b = same-test (sign b) (leb 2048 (b / 2 ^ 52)) (λ t. le→leb 2048 (b / 2 ^ 52) (le-div-iff-mul-le (pow-pos 52) .1 (leb→le (2 ^ 63) b t))) (λ t. le→leb (2 ^ 63) b (le-div-iff-mul-le (pow-pos 52) .0 (leb→le 2048 (b / 2 ^ 52) t)))
 

@@ -1,15 +1,15 @@
 -- `nearest_whole`, range by range: from 0.5 on the digits of a + 0.5 give the number and the float, and below 0.5 in size both are zero.
 use mathlib.Core.Path.{_≡_, refl, sym, ap, _∙_, subst}
-use mathlib.Core.Bool.{Bool, true, false, not, _&&_, _||_, cond, true≢false, false≢true}
+use mathlib.Core.Bool.{Bool, true, false, _&&_, _||_, cond, true≢false, false≢true}
 use Prim.Native.Nat.{ℕ, _+_, _*_, _/_, _^_, _≤_, _<_, min}
-use mathlib.Core.Logic.{_⊎_, inl, inr}
-use native.Mathlib.Nat.{eq-or-lt-of-le, le-of-lt, le-of-eq, mul-one, mul-pos, mul-div-cancel, div-lt-iff-lt-mul}
+use native.Mathlib.Nat.{le-of-lt, le-of-eq, mul-one, mul-pos, mul-div-cancel, div-lt-iff-lt-mul}
 use native.Mathlib.Omega.{arith}
 use lib.IntN.{pos}
-use lib.Dec.{T, ltb, eqb, ltb→lt, lt→ltb, nltb→le, eqb→eq, eqb-refl, lit<}
+use lib.Dec.{T, ltb, eqb, ltb→lt, lt→ltb, eqb→eq, lit<}
 use lib.Ieee.{Float, nan, inf, fin, binary64, up, down, round, fits, neg, add, sub, lt, eq, le, ofInt, toUnsigned, toSigned}
 use lib.Ieee.Fits.{down-pos}
 use lib.Ieee.Exact.{HasValue}
+use borrow.Author.Tests.{lt-ltb, le-ltb, ltb-false, eqb-false}
 use Rattle.floats.specs.Whole.{abs, half, nought, one, toWhole, downward, upward, nearestInt}
 use Rattle.floats.proofs.Laws.{downward-exact}
 
@@ -18,13 +18,6 @@ abbrev two-52 : Float
 two-52 = fin false 1 (pos 52)
 
 -- ---- the tests of the code
-no-lt : (x y : ℕ) → x ≤ y → ltb y x ≡ false
-no-lt x y h = go (ltb y x) (ltb→lt y x)
-  where
-    go : (b : Bool) → (T b → y < x) → b ≡ false
-    go true f = let g : y < x = f tt in absurd (omega arith)
-    go false f = refl
-
 -- ±0.5 against a: x / 2 ≤ y where x ≤ 2 * y
 at-least : (x y : ℕ) → (ltb x y || eqb x y && true) ≡ true → x ≤ y
 at-least x y = go (ltb x y) (eqb x y) (ltb→lt x y) (eqb→eq x y)
@@ -44,23 +37,12 @@ below-half d D x = go (eqb d x) (eqb d 0) (eqb→eq d 0)
 
 -- and where it is not, y < x
 under : (x y : ℕ) → (ltb x y || eqb x y && true) ≡ false → ltb y x ≡ true
-under x y h = go (ltb x y) (eqb x y) (nltb→le x y) (λ e. subst (λ (z : ℕ). T (eqb x z)) e (eqb-refl x)) h
+under x y = go (ltb x y) refl (eqb x y) refl
   where
-    sure : (b : Bool) → T b → b ≡ true
-    sure true t = refl
-    sure false t = absurd t
-
-    go : (b c : Bool) → (T (not b) → y ≤ x) → (x ≡ y → T c) → (b || c && true) ≡ false → ltb y x ≡ true
-    go true c f g h = absurd (true≢false h)
-    go false true f g h = absurd (true≢false h)
-    go false false f g h = sure (ltb y x) (lt→ltb y x (strict (f tt) g))
-      where
-        strict : y ≤ x → (x ≡ y → ⊥) → y < x
-        strict l n = apart (eq-or-lt-of-le l)
-          where
-            apart : (y ≡ x) ⊎ (y < x) → y < x
-            apart (inl e) = absurd (n (sym e))
-            apart (inr k) = k
+    go : (b : Bool) → ltb x y ≡ b → (c : Bool) → eqb x y ≡ c → (b || c && true) ≡ false → ltb y x ≡ true
+    go true p c q h = absurd (true≢false h)
+    go false p true q h = absurd (true≢false h)
+    go false p false q h = lt-ltb y x (omega (arith, ltb-false x y p, eqb-false x y q))
 
 -- from 0.5 on a is neither below 0.5 in size nor below 0
 large-size : (a : Float) → le half a ≡ true → (lt (abs a) half ≡ false) × (lt a nought ≡ false)
@@ -69,7 +51,7 @@ large-size nan h = absurd (false≢true h)
 large-size (inf true) h = absurd (false≢true h)
 large-size (inf false) h = (refl, refl)
 large-size (fin true m e) h = absurd (false≢true (sym (below-half (1 * 1 * down e) (mul-pos (lit< tt) (down-pos e)) (m * up e * 2)) ∙ h))
-large-size (fin false m e) h = (no-lt (1 * 1 * down e) (m * up e * 2) (at-least (1 * 1 * down e) (m * up e * 2) h), no-lt (0 * down e) (m * up e * 1) (zero-le (down e) (m * up e * 1)))
+large-size (fin false m e) h = (le-ltb (m * up e * 2) (1 * 1 * down e) (at-least (1 * 1 * down e) (m * up e * 2) h), le-ltb (m * up e * 1) (0 * down e) (zero-le (down e) (m * up e * 1)))
   where
     zero-le : (d x : ℕ) → 0 * d ≤ x
     zero-le d x = omega arith

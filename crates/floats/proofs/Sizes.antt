@@ -5,22 +5,15 @@ use Prim.Native.Nat.{ℕ, zero, suc, _+_, _*_, _<_}
 use native.Mathlib.Nat.{add-zero, zero-add, zero-lt-suc, mul-pos}
 use native.Mathlib.Omega.{arith}
 use lib.IntN.{ℤ}
-use lib.Dec.{T, ltb, eqb, ltb→lt, lt→ltb}
+use lib.Dec.{ltb, eqb}
 use lib.Ieee.{Float, nan, inf, fin, up, down, neg, lt, eq, le}
 use lib.Ieee.Fits.{up-pos, down-pos}
+use borrow.Author.Tests.{lt-ltb, le-ltb}
 use Rattle.floats.specs.Whole.{abs}
 use Rattle.floats.specs.Size.{size}
 
-sure : (b : Bool) → T b → b ≡ true
-sure true t = refl
-sure false t = absurd t
-
 none-below : (A : ℕ) → ltb A 0 ≡ false
-none-below A = go (ltb A 0) (ltb→lt A 0)
-  where
-    go : (b : Bool) → (T b → A < 0) → b ≡ false
-    go true f = let h : A < 0 = f tt in absurd (omega arith)
-    go false f = refl
+none-below A = le-ltb A 0 (omega arith)
 
 gone : (a b : ℕ) → 0 * a * b ≡ 0
 gone a b = omega arith
@@ -91,7 +84,7 @@ size-is (fin false zero e) = subst (λ (b : Bool). Sized (cond b (fin false 0 e)
 size-is (fin false (suc m) e) =
     let A = suc m * up e * down e in
     subst (λ (b : Bool). Sized (cond b (fin false (suc m) e) (fin true (suc m) e)) (fin false (suc m) e))
-    (sym (sure (ltb 0 (A + A)) (lt→ltb 0 (A + A) (more A (mul-pos (mul-pos (zero-lt-suc m) (up-pos e)) (down-pos e)))))) same
+    (sym (lt-ltb 0 (A + A) (more A (mul-pos (mul-pos (zero-lt-suc m) (up-pos e)) (down-pos e))))) same
   where
     more : (a : ℕ) → 0 < a → 0 < a + a
     more a h = omega arith

@@ -8,7 +8,8 @@ use lib.Ieee.{Float, binary64, round, eq}
 use borrow.Author.Tests.{eq-eqb}
 use Rattle.rounding.specs.Value.{Signed, Val, Rounds, L}
 use Rattle.rounding.proofs.Value.{add-rounds, rounds-move, val-unique, val-finite-true, L-is, L-pos}
-use Rattle.rounding.proofs.Compare.{bool-eq, eq-val}
+use Rattle.floats.proofs.Fields.{same-test}
+use Rattle.rounding.proofs.Compare.{eq-val}
 use Rattle.rounding.proofs.Exact.{rounds-exact}
 use Rattle.rounding.proofs.Sizes.{under-size}
 use Rattle.rounding.proofs.TwoSumFloat.{two-sum-under}
@@ -90,7 +91,7 @@ sums-of {d} {P} {N} s w =
 
 -- the sums and the errors are equal exactly if the exact sums are
 pairs : (sp sn ep en tp tn fp fn P N Q M : ℕ) → sp + ep + N ≡ sn + en + P → tp + fp + M ≡ tn + fn + Q → (P + M ≡ Q + N → sp + tn ≡ tp + sn) → eqb (sp + tn) (tp + sn) && eqb (ep + fn) (fp + en) ≡ eqb (P + M) (Q + N)
-pairs sp sn ep en tp tn fp fn P N Q M h k r = bool-eq (eqb (sp + tn) (tp + sn) && eqb (ep + fn) (fp + en)) (eqb (P + M) (Q + N)) to from
+pairs sp sn ep en tp tn fp fn P N Q M h k r = same-test (eqb (sp + tn) (tp + sn) && eqb (ep + fn) (fp + en)) (eqb (P + M) (Q + N)) to from
   where
     split : (a b : Bool) → T (a && b) → T a × T b
     split true b t = (tt, t)

@@ -140,8 +140,8 @@ round-trip y m d n e h =
     let q = mjd-low y m d n e in
     rw (midnight-given y m d n e) (parts-back n p q ∙ ap (λ (t : CalendarDate). answer (fields t nought)) (date-of-mjd y m d n e (not-past n p)))
 
--- the same through `from_calendar` at 0h
-midnight-fraction : dayFraction 0 0 nought nought ≡ answer nought
+-- the same through `from_calendar` at 0h, whose fraction is 0.0
+pub midnight-fraction : dayFraction 0 0 nought nought ≡ answer nought
 unfolding dayFraction timeInDay secondLimit secondsPerDay ofInt round add mul div lt le eq
 midnight-fraction = refl
 

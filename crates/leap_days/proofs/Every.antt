@@ -20,7 +20,7 @@ use Rattle.tai_utc.specs.Table.{Row, fixed, starts, reached, monthNumber, month
 use Rattle.tai_utc.specs.Offset.{secondsOf, startOf, rateOf, byRow, offsetBy, offsetAt}
 use Rattle.tai_utc.specs.Leap.{offsets, offsetsOfDay, dayOffsets, leapOf, leapAtEndOfDay, driftRate, leapAmount}
 use Rattle.tai_utc.specs.declared.DayOffsets.{DayOffsets}
-use Rattle.tai_utc.proofs.At.{rowAt}
+use Rattle.tai_utc.proofs.At.{rowAt, same-three}
 use Rattle.tai_utc.proofs.Reached.{member}
 use Rattle.tai_utc.proofs.Years.{before-1960}
 use Rattle.tai_utc.proofs.Days.{day-offsets-are, leap-given, leap-came}
@@ -44,9 +44,6 @@ as-rows : (i : ℕ) → T (monthTest i) → T (rowsTest (rowOf (23520 + i)) (row
 unfolding monthTest
 as-rows i t = t
 
-three : (x x′ y y′ z z′ : Float) → x ≡ x′ → y ≡ y′ → z ≡ z′ → offsets x y z ≡ offsets x′ y′ z′
-three x x′ y y′ z z′ p q r = λ i. offsets (p i) (q i) (r i)
-
 module _ (n y m : ℕ) (e : n ≡ monthOf y m) (l : 23520 ≤ n) (h : n < 23664) (a : 1 ≤ m) (b : m ≤ 12) where
   month-at : T (rowsTest (rowOf n) (rowOf (suc n)) y m)
   month-at =
@@ -63,9 +60,9 @@ module _ (n y m : ℕ) (e : n ≡ monthOf y m) (l : 23520 ≤ n) (h : n < 23664)
   real : (t : Bool) (j : ℤ) → T (Test t j) → Step (offsetsOfDay fixed n (cond t n (suc n)) j)
   unfolding dayTest oneDay offsetsOfDay
   real true j t =
-      subst Step (three _ _ _ _ _ _ (quick-drift n j nought l h) (quick-drift n j half l h) (quick-drift n (sucℤ j) nought l h)) (test-is _ _ _ t)
+      subst Step (same-three _ _ _ _ _ _ (quick-drift n j nought l h) (quick-drift n j half l h) (quick-drift n (sucℤ j) nought l h)) (test-is _ _ _ t)
   real false j t =
-      subst Step (three _ _ _ _ _ _ (quick-drift n j nought l h) (quick-drift n j half l h) (quick-any (suc n) (sucℤ j) nought (omega arith))) (test-is _ _ _ t)
+      subst Step (same-three _ _ _ _ _ _ (quick-drift n j nought l h) (quick-drift n j half l h) (quick-any (suc n) (sucℤ j) nought (omega arith))) (test-is _ _ _ t)
 
   drift-day : (d : ℕ) → d < 31 → Step (offsetsOfDay fixed n (cond (ltb (suc d) (lengths (leapSize y) m)) n (suc n)) (mjdNumber (pos y) (pos m) (pos (suc d))))
   drift-day d g = real (ltb (suc d) (lengths (leapSize y) m)) (mjdNumber (pos y) (pos m) (pos (suc d))) (at-day d g)
@@ -78,7 +75,7 @@ none = (refl, refl)
 before : (n n′ : ℕ) (j : ℤ) → n < 23520 → n′ < 23520 → Both (offsetsOfDay fixed n n′ j) nought
 unfolding offsetsOfDay
 before n n′ j h h′ =
-    subst (λ (o : DayOffsets). Both o nought) (sym (three _ _ _ _ _ _ (before-1960 n (ofInt binary64 j) nought h) (before-1960 n (ofInt binary64 j) half h) (before-1960 n′ (ofInt binary64 (sucℤ j)) nought h′))) none
+    subst (λ (o : DayOffsets). Both o nought) (sym (same-three _ _ _ _ _ _ (before-1960 n (ofInt binary64 j) nought h) (before-1960 n (ofInt binary64 j) half h) (before-1960 n′ (ofInt binary64 (sucℤ j)) nought h′))) none
 
 pub last-of-1959 : Both (offsetsOfDay fixed 23519 23520 (mjdNumber (pos 1959) (pos 12) (pos 31))) leap1959
 unfolding leapOf leapAmount driftRate offsetsOfDay offsetAt offsetBy byRow secondsOf startOf rateOf mjdNumber civilCount fixed reached round add sub mul ofInt

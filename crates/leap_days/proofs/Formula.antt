@@ -1,16 +1,17 @@
 -- THE DRIFT FORMULA: on every date of 1960 to 1971, and at every fraction of the day, the offset is within 10^-12 s of the table's formula taken exactly,
 -- units 10^-7 s + (MJD + fraction - start) rate 10^-10 s. Assumes nothing.
 use mathlib.Core.Path.{_≡_, refl, ap, sym, subst, _∙_}
-use mathlib.Core.Bool.{Bool, true, false, cond, _&&_}
+use mathlib.Core.Bool.{Bool, true, false, cond}
 use Prim.Native.Nat.{ℕ, _+_, _-_, _*_, _^_, _≤_, _<_}
 use native.Mathlib.Omega.{arith}
 use native.Mathlib.Nat.{le-trans, le-of-eq, le-of-lt, mul-pos, le-of-mul-le-mul-right, mul-le-mul-right, mul-lt-mul-of-pos-right, mul-comm, mul-assoc, mul-left-comm, mul-right-comm, one-mul, zero-mul, add-zero, zero-add, add-mul}
-use lib.Pow.{pow-add, pow-pos}
+use lib.Pow.{pow-pos}
 use lib.Dec.{T, leb, ltb, leb→le, ltb→lt}
 use lib.ListN.{getD, take}
 use lib.Seq.{getD-take}
 use lib.IntN.{ℤ, pos, natAbs}
 use lib.Ieee.{Float, nan, inf, fin, binary64, up, down, round, add, sub, mul, ofInt, le, fits}
+use lib.Ieee.Fits.{and-l, and-r}
 use lib.Ieee.Scale.{finite}
 use borrow.Author.Tests.{leb-true}
 use Rattle.refusals.specs.Outcome.{answer}
@@ -26,7 +27,7 @@ use Rattle.rounding.proofs.Own.{own, own-val}
 use Rattle.rounding.proofs.Range.{power-val}
 use Rattle.rounding.proofs.Compare.{le-val}
 use Rattle.rounding.proofs.Near.{rounds-near}
-use Rattle.rounding.proofs.About.{U, U-pos, L-U, About, about-own, about-scale, about-add, about-sub, about-mul}
+use Rattle.rounding.proofs.About.{U, U-pos, L-U, unit, room, About, about-own, about-scale, about-add, about-sub, about-mul}
 use Rattle.tai_utc.specs.Table.{Row, fixed, starts, reached, monthOf, monthNumber}
 use Rattle.tai_utc.specs.Offset.{none, secondsOf, startOf, rateOf, offsetBy, offsetAt, inDay, taiUtcOffset}
 use Rattle.tai_utc.proofs.Rows.{at}
@@ -36,20 +37,6 @@ use Rattle.tai_utc.proofs.Offsets.{offset-came, offset-in-day}
 use Rattle.leap_days.proofs.Tests.{then, then-left, then-right}
 
 -- ---- the float nearest to n / d is within 2 ^ i units of 2 ^ -90 of it, where it is below 2 ^ (54 + i) of them
-unit : (i : ℕ) → 2 ^ (985 + i) ≡ 2 * (2 ^ i * U)
-unfolding U
-unit i = pow-add 2 985 i ∙ go (2 ^ 984) (2 ^ i) (2 ^ 985) refl
-  where
-    go : (u t v : ℕ) → v ≡ 2 * u → v * t ≡ 2 * (t * u)
-    go u t v h = ap (λ (x : ℕ). x * t) h ∙ mul-assoc 2 u t ∙ ap (λ (x : ℕ). 2 * x) (mul-comm u t)
-
-room : (i : ℕ) → 2 ^ (53 + (985 + i)) ≡ 2 ^ (54 + i) * U
-unfolding U
-room i = ap (λ (x : ℕ). 2 ^ x) (go i) ∙ pow-add 2 (54 + i) 984
-  where
-    go : (i : ℕ) → 53 + (985 + i) ≡ 54 + i + 984
-    go i = omega arith
-
 about-decimal : (i n d M : ℕ) → 0 < d → 985 + i ≤ 2044 → n * 2 ^ 90 < 2 ^ (54 + i) * d → n * 2 ^ 90 ≤ M * d → About (round binary64 false n d) n 0 d M (2 ^ i)
 about-decimal i n d M pd hi h k =
     let z = rounds-near (985 + i) pd hi high-room low-room (record { sign = false; size = n; eq = refl; is = add-zero n }) in
@@ -103,14 +90,6 @@ is-finite (inf true) t = absurd t
 is-finite (inf false) t = absurd t
 is-finite (fin s m x) t = tt
 
-and-left : (a b : Bool) → T (a && b) → T a
-and-left true b t = tt
-and-left false b t = t
-
-and-right : (a b : Bool) → T (a && b) → T b
-and-right true b t = t
-and-right false b t = absurd t
-
 zero-val : Val nought 0 0 L
 zero-val = record { sign = false; size = 0; has = (refl, zero-mul L); is = refl }
 
@@ -119,10 +98,10 @@ unfolding inDay
 fraction f g t = go _ _ (own-val f (own f g (is-finite f t)))
   where
     lower : T (le nought f)
-    lower = and-left (le nought f) (le f one) t
+    lower = and-l (le nought f) (le f one) t
 
     upper : T (le f one)
-    upper = and-right (le nought f) (le f one) t
+    upper = and-r (le nought f) (le f one) t
 
     go : (q m : ℕ) → Val f q m L → Fraction f
     go q m v =

@@ -9,6 +9,8 @@ use lib.Dec.{T, eqb, ltb, leb, leb→le}
 use lib.ListN.{length, drop}
 use lib.IntN.{ℤ, pos, natAbs}
 use lib.Ieee.{Float, nan, inf, fin, binary64, add, lt, up, down, round, ofInt}
+use lib.Ieee.Bits.{is-true}
+use lib.Ieee.Fits.{and-l, and-r}
 use borrow.Author.Tests.{eqb-true, eqb-false, eq-eqb, ne-eqb, ltb-true, ltb-false, le-ltb}
 use Rattle.refusals.specs.Outcome.{answer}
 use Rattle.floats.specs.Whole.{abs, nought, half, one}
@@ -48,18 +50,6 @@ abbrev lastDays : List Day → Bool
 lastDays [] = true
 lastDays (t ∷ rest) = lastDay t && lastDays rest
 
-and-left : (a b : Bool) → T (a && b) → T a
-and-left true b t = tt
-and-left false b t = t
-
-and-right : (a b : Bool) → T (a && b) → T b
-and-right true b t = t
-and-right false b t = absurd t
-
-is-true : (b : Bool) → T b → b ≡ true
-is-true true t = refl
-is-true false t = absurd t
-
 with-true : (b : Bool) → b && true ≡ b
 with-true true = refl
 with-true false = refl
@@ -80,16 +70,16 @@ module _ (y m d : ℕ) (l : 1 ≤ m) (h : m ≤ 12) where
   one-day t k = go (eqb y (t .year)) refl (eqb m (t .month)) refl
     where
       r : T (leb 1 (t .month) && leb (t .month) 12)
-      r = and-left (leb 1 (t .month) && leb (t .month) 12) (eqb (t .day) (lengths (leapSize (t .year)) (t .month))) k
+      r = and-l (leb 1 (t .month) && leb (t .month) 12) (eqb (t .day) (lengths (leapSize (t .year)) (t .month))) k
 
       low : 1 ≤ t .month
-      low = leb→le 1 (t .month) (and-left (leb 1 (t .month)) (leb (t .month) 12) r)
+      low = leb→le 1 (t .month) (and-l (leb 1 (t .month)) (leb (t .month) 12) r)
 
       high : t .month ≤ 12
-      high = leb→le (t .month) 12 (and-right (leb 1 (t .month)) (leb (t .month) 12) r)
+      high = leb→le (t .month) 12 (and-r (leb 1 (t .month)) (leb (t .month) 12) r)
 
       day : t .day ≡ lengths (leapSize (t .year)) (t .month)
-      day = eqb-true (t .day) (lengths (leapSize (t .year)) (t .month)) (is-true (eqb (t .day) (lengths (leapSize (t .year)) (t .month))) (and-right (leb 1 (t .month) && leb (t .month) 12) (eqb (t .day) (lengths (leapSize (t .year)) (t .month))) k))
+      day = eqb-true (t .day) (lengths (leapSize (t .year)) (t .month)) (is-true (eqb (t .day) (lengths (leapSize (t .year)) (t .month))) (and-r (leb 1 (t .month) && leb (t .month) 12) (eqb (t .day) (lengths (leapSize (t .year)) (t .month))) k))
 
       other : (12 * y + m ≡ monthAfter t → ⊥) → false ≡ E && eqb (12 * y + m) (monthAfter t)
       other n = sym (ap (λ (b : Bool). E && b) (ne-eqb (12 * y + m) (monthAfter t) n) ∙ with-false E)
@@ -106,7 +96,7 @@ module _ (y m d : ℕ) (l : 1 ≤ m) (h : m ≤ 12) where
   all : (s : List Day) → T (lastDays s) → listed s y m d ≡ E && member (12 * y + m) (map monthAfter s)
   all [] k = sym (with-false E)
   all (t ∷ s) k =
-      (λ i. one-day t (and-left (lastDay t) (lastDays s) k) i || all s (and-right (lastDay t) (lastDays s) k) i)
+      (λ i. one-day t (and-l (lastDay t) (lastDays s) k) i || all s (and-r (lastDay t) (lastDays s) k) i)
       ∙ share E (eqb (12 * y + m) (monthAfter t)) (member (12 * y + m) (map monthAfter s))
 
   all-last : T (lastDays leapSeconds)

@@ -9,6 +9,7 @@ use borrow.Author.Tests.{eqb-true, eqb-false}
 use lib.Dec.{T, eqb}
 use lib.IntN.{ℤ, pos, negsuc}
 use lib.Ieee.{Float, nan, inf, fin}
+use lib.Ieee.Bits.{is-true}
 
 -- a, and then b, which is not looked at where a is false
 abbrev pub then : Bool → Bool → Bool
@@ -57,10 +58,6 @@ sameF (fin s m e) nan = false
 sameF (fin s m e) (inf t) = false
 sameF (fin s m e) (fin t n d) = then (sameSign s t) (then (eqb m n) (sameZ e d))
 
-was-true : (b : Bool) → T b → b ≡ true
-was-true true t = refl
-was-true false t = absurd t
-
 same-sign : (s t : Bool) → T (sameSign s t) → s ≡ t
 same-sign true true h = refl
 same-sign true false h = absurd h
@@ -68,10 +65,10 @@ same-sign false true h = absurd h
 same-sign false false h = refl
 
 same-z : (a b : ℤ) → T (sameZ a b) → a ≡ b
-same-z (pos a) (pos b) h = ap pos (eqb-true a b (was-true (eqb a b) h))
+same-z (pos a) (pos b) h = ap pos (eqb-true a b (is-true (eqb a b) h))
 same-z (pos a) (negsuc b) h = absurd h
 same-z (negsuc a) (pos b) h = absurd h
-same-z (negsuc a) (negsuc b) h = ap negsuc (eqb-true a b (was-true (eqb a b) h))
+same-z (negsuc a) (negsuc b) h = ap negsuc (eqb-true a b (is-true (eqb a b) h))
 
 pub same-float : (x y : Float) → T (sameF x y) → x ≡ y
 same-float nan y h = absurd h
@@ -81,6 +78,6 @@ same-float (fin s m e) (inf t) h = absurd h
 same-float (fin s m e) (fin t n d) h =
     let r = then-right (sameSign s t) (then (eqb m n) (sameZ e d)) h in
     let p = same-sign s t (then-left (sameSign s t) (then (eqb m n) (sameZ e d)) h) in
-    let q = eqb-true m n (was-true (eqb m n) (then-left (eqb m n) (sameZ e d) r)) in
+    let q = eqb-true m n (is-true (eqb m n) (then-left (eqb m n) (sameZ e d) r)) in
     let o = same-z e d (then-right (eqb m n) (sameZ e d) r) in
     (λ i. fin (p i) (q i) (o i))

@@ -12,6 +12,7 @@ use lib.Ieee.Scale.{finite}
 use borrow.Author.Tests.{eqb-true, eq-eqb}
 use Rattle.refusals.specs.Outcome.{Outcome, answer, refusal}
 use Rattle.floats.proofs.Fields.{expo, ofBits-is}
+use Rattle.calendar.proofs.NextDates.{first-false}
 use Rattle.tai_utc.specs.Table.{fixed}
 use Rattle.utc.proofs.Numbers.{not-both, not-finite}
 use Rattle.stamps.specs.Block.{blockOf, jd1Bits, jd2Bits, stampAt}
@@ -41,9 +42,6 @@ finite-field b = ap finite (ofBits-is b) ∙ fields-finite _ (expo b) _ ∙ ap (
 field-dead : (b : ℕ) → exponentField b ≡ 2047 → finite (ofBits binary64 b) ≡ false
 field-dead b e = finite-field b ∙ ap not (eq-eqb (exponentField b) 2047 e)
 
-no-first : (a b : Bool) → a ≡ false → a && b ≡ false
-no-first a b e = rw e refl
-
 no-second : (a b : Bool) → b ≡ false → a && b ≡ false
 no-second true b e = e
 no-second false b e = refl
@@ -54,7 +52,7 @@ unfolding shownAt stampAt
 dead-refused s n i d = not-finite fixed (stampAt s n i) (by d)
   where
     by : Dead s n i → finite (stampAt s n i .jd1) && finite (stampAt s n i .jd2) ≡ false
-    by (inl e) = no-first (finite (stampAt s n i .jd1)) (finite (stampAt s n i .jd2)) (field-dead (jd1Bits s i) e)
+    by (inl e) = first-false (finite (stampAt s n i .jd1)) (finite (stampAt s n i .jd2)) (field-dead (jd1Bits s i) e)
     by (inr e) = no-second (finite (stampAt s n i .jd1)) (finite (stampAt s n i .jd2)) (field-dead (jd2Bits s n i) e)
 
 six : decimal 6 ≡ 54 ∷ []

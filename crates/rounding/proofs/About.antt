@@ -26,14 +26,14 @@ pub L-U : L ≡ 2 ^ 90 * U
 unfolding L U
 L-U = refl
 
-step : (i : ℕ) → 2 ^ (985 + i) ≡ 2 * (2 ^ i * U)
+pub unit : (i : ℕ) → 2 ^ (985 + i) ≡ 2 * (2 ^ i * U)
 unfolding U
-step i = pow-add 2 985 i ∙ go (2 ^ 984) (2 ^ i) (2 ^ 985) refl
+unit i = pow-add 2 985 i ∙ go (2 ^ 984) (2 ^ i) (2 ^ 985) refl
   where
     go : (u t v : ℕ) → v ≡ 2 * u → v * t ≡ 2 * (t * u)
     go u t v h = ap (λ (x : ℕ). x * t) h ∙ mul-assoc 2 u t ∙ ap (λ (x : ℕ). 2 * x) (mul-comm u t)
 
-room : (i : ℕ) → 2 ^ (53 + (985 + i)) ≡ 2 ^ (54 + i) * U
+pub room : (i : ℕ) → 2 ^ (53 + (985 + i)) ≡ 2 ^ (54 + i) * U
 unfolding U
 room i = ap (λ (x : ℕ). 2 ^ x) (go i) ∙ pow-add 2 (54 + i) 984
   where
@@ -140,8 +140,8 @@ about-add i {x} {y} {P} {N} {Q} {R} {D} {M} {M'} {e} {f} I h a b =
       p = z .p;
       n = z .n;
       val = z .val;
-      over = sum-le (z .p) (z .n) (a .p) (a .n) (b .p) (b .n) P N Q R D e f (2 ^ i) (half (z .p + (a .n + b .n)) (z .n + (a .p + b .p)) i (2 ^ (985 + i)) (step i) (z .over)) (a .over) (b .over);
-      under = sum-le (z .n) (z .p) (a .n) (a .p) (b .n) (b .p) N P R Q D e f (2 ^ i) (half (z .n + (a .p + b .p)) (z .p + (a .n + b .n)) i (2 ^ (985 + i)) (step i) (z .under)) (a .under) (b .under);
+      over = sum-le (z .p) (z .n) (a .p) (a .n) (b .p) (b .n) P N Q R D e f (2 ^ i) (half (z .p + (a .n + b .n)) (z .n + (a .p + b .p)) i (2 ^ (985 + i)) (unit i) (z .over)) (a .over) (b .over);
+      under = sum-le (z .n) (z .p) (a .n) (a .p) (b .n) (b .p) N P R Q D e f (2 ^ i) (half (z .n + (a .p + b .p)) (z .p + (a .n + b .n)) i (2 ^ (985 + i)) (unit i) (z .under)) (a .under) (b .under);
       high = sum-size P N Q R M M' (U * D) (a .high) (b .high);
       low = sum-size N P R Q M M' (U * D) (a .low) (b .low);
       some = a .some;
@@ -202,8 +202,8 @@ module _ (i : ℕ) {x z : Float} {P N D M e : ℕ} (A B C E Δ M' e' : ℕ) (F :
     p = s .p;
     n = s .n;
     val = s .val;
-    over = scaled-le (s .p) (s .n) (a .p) (a .n) P N D M e A B C E Δ (2 ^ i) e' F (whole i E (E * s .p + B * a .n) (E * s .n + B * a .p) (2 ^ (985 + i)) (step i) (s .over)) (a .over) (a .high) (a .low) d1 d2 budget;
-    under = scaled-le (s .n) (s .p) (a .n) (a .p) N P D M e A B C E Δ (2 ^ i) e' F (whole i E (E * s .n + B * a .p) (E * s .p + B * a .n) (2 ^ (985 + i)) (step i) (s .under)) (a .under) (a .low) (a .high) d1 d2 budget;
+    over = scaled-le (s .p) (s .n) (a .p) (a .n) P N D M e A B C E Δ (2 ^ i) e' F (whole i E (E * s .p + B * a .n) (E * s .n + B * a .p) (2 ^ (985 + i)) (unit i) (s .over)) (a .over) (a .high) (a .low) d1 d2 budget;
+    under = scaled-le (s .n) (s .p) (a .n) (a .p) N P D M e A B C E Δ (2 ^ i) e' F (whole i E (E * s .n + B * a .p) (E * s .p + B * a .n) (2 ^ (985 + i)) (unit i) (s .under)) (a .under) (a .low) (a .high) d1 d2 budget;
     high = product-size P N D M M' A C m (a .high);
     low = product-size N P D M M' A C m (a .low);
     some = mul-pos (a .some) G;

@@ -1,6 +1,6 @@
 -- A comparison of two floats is that of their values: of (p - n) / D and (q - m) / D it is the comparison of p + m and q + n. The laws from a test that was taken
 -- (≡ true), or was not (≡ false), to the order of natural numbers and back. Assumes nothing.
-use mathlib.Core.Path.{_≡_, refl, sym, ap, _∙_, subst}
+use mathlib.Core.Path.{_≡_, sym, ap, _∙_, subst}
 use Prim.Native.Nat.{ℕ, _+_, _*_, _≤_, _<_}
 use native.Mathlib.Nat.{le-of-eq, le-of-lt, le-antisymm, zero-mul, mul-pos}
 use native.Mathlib.Omega.{arith}
@@ -10,15 +10,9 @@ use lib.Ieee.{Float, nan, inf, fin, up, down, below, level, lt, eq, le}
 use lib.Ieee.Fits.{down-pos, and-l, and-r, and-i, eq→eqb}
 use lib.Ieee.Exact.{HasValue}
 use borrow.Author.Tests.{ltb-true, ltb-false, leb-true, leb-false}
+use Rattle.floats.proofs.Fields.{same-test}
 use Rattle.rounding.specs.Value.{Signed, Val}
 use Rattle.rounding.proofs.Fractions.{order, order-lt, plus, cross-l, cross-r}
-
--- two tests that imply each other are equal
-pub bool-eq : (x y : Bool) → (T x → T y) → (T y → T x) → x ≡ y
-bool-eq true true h k = refl
-bool-eq true false h k = absurd (h tt)
-bool-eq false true h k = absurd (k tt)
-bool-eq false false h k = refl
 
 module _ (a b c A B D p n q m : ℕ) (C : 0 < c) (E : 0 < D) (e : a * D ≡ A * c) (g : b * D ≡ B * c) where
   forth : a < b → A < B
@@ -43,15 +37,15 @@ module _ (a b c A B D p n q m : ℕ) (C : 0 < c) (E : 0 < D) (e : a * D ≡ A * 
   some' h = order-lt 0 (A + B) D 0 (a + b) c C (sym z) (sym (plus a b c A B D e g)) h
 
   below-is : (s t : Bool) → Signed s A p n → Signed t B q m → below s a t b ≡ ltb (p + m) (q + n)
-  below-is false false i j = bool-eq (ltb a b) (ltb (p + m) (q + n))
+  below-is false false i j = same-test (ltb a b) (ltb (p + m) (q + n))
       (λ u. let h : A < B = forth (ltb→lt a b u) in lt→ltb (p + m) (q + n) (omega arith))
       (λ u. let h : p + m < q + n = ltb→lt (p + m) (q + n) u in lt→ltb a b (back (omega arith)))
-  below-is false true i j = bool-eq false (ltb (p + m) (q + n)) (λ u. absurd u)
+  below-is false true i j = same-test false (ltb (p + m) (q + n)) (λ u. absurd u)
       (λ u. let h : p + m < q + n = ltb→lt (p + m) (q + n) u in let w : ⊥ = omega arith in absurd w)
-  below-is true false i j = bool-eq (ltb 0 (a + b)) (ltb (p + m) (q + n))
+  below-is true false i j = same-test (ltb 0 (a + b)) (ltb (p + m) (q + n))
       (λ u. let h : 0 < A + B = some (ltb→lt 0 (a + b) u) in lt→ltb (p + m) (q + n) (omega arith))
       (λ u. let h : p + m < q + n = ltb→lt (p + m) (q + n) u in lt→ltb 0 (a + b) (some' (omega arith)))
-  below-is true true i j = bool-eq (ltb b a) (ltb (p + m) (q + n))
+  below-is true true i j = same-test (ltb b a) (ltb (p + m) (q + n))
       (λ u. let h : B < A = forth' (ltb→lt b a u) in lt→ltb (p + m) (q + n) (omega arith))
       (λ u. let h : p + m < q + n = ltb→lt (p + m) (q + n) u in lt→ltb b a (back' (omega arith)))
 
@@ -68,16 +62,16 @@ module _ (a b c A B D p n q m : ℕ) (C : 0 < c) (E : 0 < D) (e : a * D ≡ A * 
   nought h = le-antisymm (order A 0 D a 0 c E (sym e) (sym z) (le-of-eq h)) (order 0 A D 0 a c E (sym z) (sym e) (le-of-eq (sym h)))
 
   level-is : (s t : Bool) → Signed s A p n → Signed t B q m → level s a t b ≡ eqb (p + m) (q + n)
-  level-is false false i j = bool-eq (eqb a b && true) (eqb (p + m) (q + n))
+  level-is false false i j = same-test (eqb a b && true) (eqb (p + m) (q + n))
       (λ u. let h : A ≡ B = same (eqb→eq a b (and-l (eqb a b) true u)) in eq→eqb {a = p + m} {b = q + n} (omega arith))
       (λ u. let h : p + m ≡ q + n = eqb→eq (p + m) (q + n) u in and-i (eqb a b) true (eq→eqb {a = a} {b = b} (same' (omega arith))) tt)
-  level-is true true i j = bool-eq (eqb a b && true) (eqb (p + m) (q + n))
+  level-is true true i j = same-test (eqb a b && true) (eqb (p + m) (q + n))
       (λ u. let h : A ≡ B = same (eqb→eq a b (and-l (eqb a b) true u)) in eq→eqb {a = p + m} {b = q + n} (omega arith))
       (λ u. let h : p + m ≡ q + n = eqb→eq (p + m) (q + n) u in and-i (eqb a b) true (eq→eqb {a = a} {b = b} (same' (omega arith))) tt)
-  level-is false true i j = bool-eq (eqb a b && eqb a 0) (eqb (p + m) (q + n))
+  level-is false true i j = same-test (eqb a b && eqb a 0) (eqb (p + m) (q + n))
       (λ u. let h : A ≡ B = same (eqb→eq a b (and-l (eqb a b) (eqb a 0) u)) in let k : A ≡ 0 = zero' (eqb→eq a 0 (and-r (eqb a b) (eqb a 0) u)) in eq→eqb {a = p + m} {b = q + n} (omega arith))
       (λ u. let h : p + m ≡ q + n = eqb→eq (p + m) (q + n) u in and-i (eqb a b) (eqb a 0) (eq→eqb {a = a} {b = b} (same' (omega arith))) (eq→eqb {a = a} {b = 0} (nought (omega arith))))
-  level-is true false i j = bool-eq (eqb a b && eqb a 0) (eqb (p + m) (q + n))
+  level-is true false i j = same-test (eqb a b && eqb a 0) (eqb (p + m) (q + n))
       (λ u. let h : A ≡ B = same (eqb→eq a b (and-l (eqb a b) (eqb a 0) u)) in let k : A ≡ 0 = zero' (eqb→eq a 0 (and-r (eqb a b) (eqb a 0) u)) in eq→eqb {a = p + m} {b = q + n} (omega arith))
       (λ u. let h : p + m ≡ q + n = eqb→eq (p + m) (q + n) u in and-i (eqb a b) (eqb a 0) (eq→eqb {a = a} {b = b} (same' (omega arith))) (eq→eqb {a = a} {b = 0} (nought (omega arith))))
 
@@ -111,7 +105,7 @@ pub eq-val : {x y : Float} {p n q m D : ℕ} → 0 < D → Val x p n D → Val y
 eq-val {x} {y} {p} {n} {q} {m} {D} E v w = eq-has x y (v .sign) (w .sign) (v .size) (w .size) D p n q m E (v .has) (w .has) (v .is) (w .is)
 
 or-is : (a b : ℕ) → (ltb a b || eqb a b) ≡ leb a b
-or-is a b = bool-eq (ltb a b || eqb a b) (leb a b) (λ u. le→leb a b (split (ltb a b) (eqb a b) (ltb→lt a b) (eqb→eq a b) u)) (λ u. join (ltb a b) (nltb→le a b) (leb→le a b u))
+or-is a b = same-test (ltb a b || eqb a b) (leb a b) (λ u. le→leb a b (split (ltb a b) (eqb a b) (ltb→lt a b) (eqb→eq a b) u)) (λ u. join (ltb a b) (nltb→le a b) (leb→le a b u))
   where
     split : (x y : Bool) → (T x → a < b) → (T y → a ≡ b) → T (x || y) → a ≤ b
     split true y h k u = le-of-lt (h tt)

@@ -110,7 +110,7 @@ below-top : (a c d : ℕ) → 0 < d → c < 2 ^ 1024 * d → c * L ≡ a * d →
 below-top a c d D h e =
     lt-of-lt-of-le (lt-of-mul-lt-mul-right d (lt-of-le-of-lt (le-of-eq (sym e)) (lt-of-lt-of-le (mul-lt-mul-of-pos-right h L-pos) (le-of-eq (mul-right-comm (2 ^ 1024) d L))))) (le-of-eq top-is)
 
-has-small : (x : Float) (s : Bool) (a : ℕ) → T (fits binary64 x) → HasValue x s a L → a < 2 ^ 2098
+pub has-small : (x : Float) (s : Bool) (a : ℕ) → T (fits binary64 x) → HasValue x s a L → a < 2 ^ 2098
 unfolding fits
 has-small nan s a f h = absurd h
 has-small (inf t) s a f h = absurd h

@@ -9,6 +9,7 @@ use lib.Dec.{T, leb, leb→le, nleb→lt, lit<}
 use lib.IntN.{ℤ, pos, negsuc}
 use lib.Signed.{ltZ}
 use lib.Ieee.{Float, nan, inf, fin, binary64, add, lt, le, eq, fits, ofBits}
+use lib.Ieee.Bits.{is-true}
 use lib.Ieee.Fits.{add-fits}
 use lib.Ieee.Scale.{finite}
 use borrow.Author.Tests.{le-ltb}
@@ -26,7 +27,8 @@ use Rattle.day_number.specs.Answer.{dayOutcome}
 use Rattle.day_number.proofs.Units.{E, E-L, E-pos, H, H-L, W, L-W, min-L, nought-L}
 use Rattle.day_number.proofs.SignedUnits.{has-val}
 use Rattle.day_number.proofs.NearestInt.{sat-plus, sat-minus}
-use Rattle.day_number.proofs.JulianRange.{exact-sum}
+use Rattle.day_number.proofs.JulianRange.{exact-sum, far}
+use Rattle.day_number.proofs.IntegerSum.{gather3}
 use Rattle.day_number.proofs.Pair.{Accepted}
 use Rattle.day_number.proofs.Accepted.{accepted-pair}
 use Rattle.day_number.proofs.TotalDay.{sides}
@@ -64,10 +66,6 @@ late-finite (inf true) a b = absurd (subst T (sym a) tt)
 late-finite (inf false) a b = absurd (subst T (sym b) tt)
 late-finite (fin s m e) a b = tt
 
-yes : (b : Bool) → T b → b ≡ true
-yes true t = refl
-yes false t = absurd t
-
 module _ (x y : Float) (l : Late x y) where
   late-low : T (le c-djmin (add binary64 x y))
   late-low =
@@ -76,16 +74,12 @@ module _ (x y : Float) (l : Late x y) where
 
   late-accepted : accepted x y ≡ true
   unfolding accepted inJulianRange
-  late-accepted = ap (λ (b : Bool). b && le (add binary64 x y) c-djmax) (yes (le c-djmin (add binary64 x y)) late-low) ∙ l .high
+  late-accepted = ap (λ (b : Bool). b && le (add binary64 x y) c-djmax) (is-true (le c-djmin (add binary64 x y)) late-low) ∙ l .high
 
 -- ---- the exact sum is more than -1/8
 eighth : Rep (dist 0 E)
 unfolding E
 eighth = rep-flip E 0 (subst Rep (sym (dist-zero E)) (record { q = 1; j = 1071; is = refl; small = lit< tt }))
-
-far : 2 * (2 ^ 64 * L) < 2 ^ 2098
-unfolding L
-far = lit< tt
 
 module _ (x y : Float) (p n q m : ℕ) (vx : Val x p n L) (vy : Val y q m L) (l : Late x y) where
   late-exact : n + m < p + q + E
@@ -105,9 +99,6 @@ module _ (x y : Float) (p n q m : ℕ) (vx : Val x p n L) (vy : Val y q m L) (l 
 -- ---- so the days of the parts, with those carried and borrowed, are 0 at least, and -3 where the casts saturate
 gather : (a b c d D : ℕ) → (a + b + c + d + 1) * D ≡ a * D + b * D + c * D + d * D + 1 * D
 gather a b c d D = simp add-mul
-
-gather3 : (a b c D : ℕ) → (a + b + c) * D ≡ a * D + b * D + c * D
-gather3 a b c D = simp add-mul
 
 whole-days : (p n q m i k j l up more down units : ℕ) → units < L → n + m < p + q + E
     → H + (p + k * L) + (q + l * L) + down * L ≤ units + (n + i * L + (m + j * L) + up * L) + more * L + 8 * W → k + l + down ≤ i + j + up + more

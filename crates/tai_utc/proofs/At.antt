@@ -13,6 +13,7 @@ use borrow.Author.Tests.{lt-ltb, le-ltb}
 use Rattle.floats.specs.Whole.{nought}
 use Rattle.tai_utc.specs.Table.{Row, fixed, starts, reached}
 use Rattle.tai_utc.specs.Offset.{secondsOf, startOf, rateOf, byRow, none, offsetBy, offsetAt}
+use Rattle.tai_utc.specs.Leap.{offsets}
 use Rattle.tai_utc.proofs.Rows.{drifts}
 
 abbrev pub rowAt : ℕ → Row
@@ -50,3 +51,6 @@ module _ (k : ℕ) (mjd f : Float) where
 pub at-month : (k n : ℕ) (z z′ : ℤ) (f : Float) → k ≡ reached (starts fixed) n → z ≡ z′ → offsetBy fixed k (ofInt binary64 z) f ≡ offsetAt fixed n (ofInt binary64 z′) f
 unfolding offsetAt
 at-month k n z z′ f p q = λ i. offsetBy fixed (p i) (ofInt binary64 (q i)) f
+
+pub same-three : (a a′ b b′ c c′ : Float) → a ≡ a′ → b ≡ b′ → c ≡ c′ → offsets a b c ≡ offsets a′ b′ c′
+same-three a a′ b b′ c c′ p q r = λ i. offsets (p i) (q i) (r i)

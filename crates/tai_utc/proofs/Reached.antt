@@ -9,6 +9,7 @@ use native.Mathlib.Nat.{not-suc-le-zero, le-of-suc-le-suc}
 use lib.Dec.{T, eqb, leb, ltb, ltb→lt}
 use lib.ListN.{length, getD, drop}
 use lib.Seq.{drop-cons, drop-length}
+use lib.Ieee.Fits.{and-l, and-r}
 use borrow.Author.Tests.{le-leb, lt-leb, leb-true, leb-false, eqb-true, eqb-false, ne-eqb}
 use Rattle.tai_utc.specs.Table.{reached, onTop}
 
@@ -70,24 +71,16 @@ rising [] = true
 rising (a ∷ []) = true
 rising (a ∷ (b ∷ l)) = ltb a b && rising (b ∷ l)
 
-and-left : (a b : Bool) → T (a && b) → T a
-and-left true b t = tt
-and-left false b t = t
-
-and-right : (a b : Bool) → T (a && b) → T b
-and-right true b t = t
-and-right false b t = absurd t
-
 tail-rises : (a : ℕ) (l : List ℕ) → T (rising (a ∷ l)) → T (rising l)
 tail-rises a [] t = tt
-tail-rises a (b ∷ l) t = and-right (ltb a b) (rising (b ∷ l)) t
+tail-rises a (b ∷ l) t = and-r (ltb a b) (rising (b ∷ l)) t
 
 -- nothing after a has begun where the month is not past a
 late : (a : ℕ) (l : List ℕ) → T (rising (a ∷ l)) → (n : ℕ) → n ≤ a → reached l n ≡ 0
 unfolding reached
 late a [] t n h = refl
 late a (b ∷ l) t n h =
-    let g = ltb→lt a b (and-left (ltb a b) (rising (b ∷ l)) t) in
+    let g = ltb→lt a b (and-l (ltb a b) (rising (b ∷ l)) t) in
     top-none (reached l n) (leb b n) (late b l (tail-rises a (b ∷ l) t) n (omega arith)) (lt-leb b n (omega arith))
 
 top-true : (k : ℕ) (b : Bool) → b ≡ true → onTop k b ≡ suc k
@@ -109,7 +102,7 @@ member n (a ∷ l) = eqb n a || member n l
 not-member : (a : ℕ) (l : List ℕ) → T (rising (a ∷ l)) → (n : ℕ) → n ≤ a → member n l ≡ false
 not-member a [] t n h = refl
 not-member a (b ∷ l) t n h =
-    let g = ltb→lt a b (and-left (ltb a b) (rising (b ∷ l)) t) in
+    let g = ltb→lt a b (and-l (ltb a b) (rising (b ∷ l)) t) in
     rw (ne-eqb n b (λ e. omega arith)) (not-member b l (tail-rises a (b ∷ l) t) n (omega arith))
 
 -- a month later one row more has begun where one begins in it, and else as many
@@ -142,9 +135,9 @@ month-later (a ∷ l) t n = go (leb a n) refl (eqb (suc n) a) refl (month-later 
 -- the rows of places up to i begin before a month that is past row i
 above : (a : ℕ) (l : List ℕ) → T (rising (a ∷ l)) → (k : ℕ) → k < length l → a < getD l k 0
 above a [] t k h = absurd (not-suc-le-zero h)
-above a (b ∷ l) t zero h = ltb→lt a b (and-left (ltb a b) (rising (b ∷ l)) t)
+above a (b ∷ l) t zero h = ltb→lt a b (and-l (ltb a b) (rising (b ∷ l)) t)
 above a (b ∷ l) t (suc k) h =
-    let g = ltb→lt a b (and-left (ltb a b) (rising (b ∷ l)) t) in
+    let g = ltb→lt a b (and-l (ltb a b) (rising (b ∷ l)) t) in
     omega (arith, g, above b l (tail-rises a (b ∷ l) t) k (le-of-suc-le-suc h))
 
 pub member-later : (l : List ℕ) → T (rising l) → (i n : ℕ) → i < length l → getD l i 0 < n → member n l ≡ member n (drop (suc i) l)

@@ -8,6 +8,7 @@ use native.Mathlib.Nat.{not-suc-le-zero, le-of-suc-le-suc, add-zero, zero-add, a
 use lib.Dec.{T, ltb, eqb}
 use lib.ListN.{length, getD}
 use lib.Ieee.{Float, nan}
+use lib.Ieee.Fits.{and-l, and-r}
 use Rattle.tai_utc.specs.Table.{Row, fixed, starts}
 use Rattle.tai_utc.proofs.Reached.{rising}
 use Rattle.tai_utc.specs.Offset.{none}
@@ -23,24 +24,16 @@ unfolding fixed
 fixed-rises = tt
 
 -- ---- a test of each row and its place, computed over the whole table
-both-left : (a b : Bool) → T (a && b) → T a
-both-left true b t = tt
-both-left false b t = t
-
-both-right : (a b : Bool) → T (a && b) → T b
-both-right true b t = t
-both-right false b t = absurd t
-
 abbrev pub every : (ℕ → Row → Bool) → ℕ → List Row → Bool
 every f i [] = true
 every f i (r ∷ rows) = f i r && every f (suc i) rows
 
 from : (f : ℕ → Row → Bool) (rows : List Row) (i : ℕ) → T (every f i rows) → (k : ℕ) → k < length rows → T (f (i + k) (getD rows k none))
 from f [] i t k h = absurd (not-suc-le-zero h)
-from f (r ∷ rows) i t zero h = subst (λ (m : ℕ). T (f m r)) (sym (add-zero i)) (both-left (f i r) (every f (suc i) rows) t)
+from f (r ∷ rows) i t zero h = subst (λ (m : ℕ). T (f m r)) (sym (add-zero i)) (and-l (f i r) (every f (suc i) rows) t)
 from f (r ∷ rows) i t (suc k) h =
     subst (λ (m : ℕ). T (f m (getD rows k none))) (suc-add i k ∙ sym (add-suc i k))
-    (from f rows (suc i) (both-right (f i r) (every f (suc i) rows) t) k (le-of-suc-le-suc h))
+    (from f rows (suc i) (and-r (f i r) (every f (suc i) rows) t) k (le-of-suc-le-suc h))
 
 pub at : (f : ℕ → Row → Bool) (rows : List Row) → T (every f 0 rows) → (k : ℕ) → k < length rows → T (f k (getD rows k none))
 at f rows t k h = subst (λ (m : ℕ). T (f m (getD rows k none))) (zero-add k) (from f rows 0 t k h)

@@ -16,6 +16,7 @@ use Rattle.floats.specs.Whole.{nearer, away, toWhole}
 use Rattle.time_of_day.specs.Nearest.{Nearest}
 use Rattle.rounding.specs.Value.{Signed, Val, L}
 use Rattle.rounding.proofs.Value.{L-pos}
+use Rattle.rounding.proofs.Signed.{signed-lt}
 use Rattle.rounding.proofs.Casts.{plusZ, minusZ, Cut, up-cut, down-cut, trunc-val}
 
 -- z is within 1 / 2 of (p - n) / L
@@ -57,10 +58,6 @@ below-63 k h = omega arith
 above-63 : (k : ℕ) → 0 < k + 9223372036854775808 * 1
 above-63 k = omega arith
 
-size-lt : (s : Bool) (g p n b : ℕ) → Signed s g p n → p < n + b → n < p + b → g < b
-size-lt false g p n b i u l = omega arith
-size-lt true g p n b i u l = omega arith
-
 module _ (how : Bool → ℕ → ℕ → ℕ) (rule : Nearest how) where
   -- at most 2 ^ 52
   few : (s : Bool) (g : ℕ) → g < 4503599627370496 * L → how s g L < 4503599627370497
@@ -100,4 +97,4 @@ module _ (how : Bool → ℕ → ℕ → ℕ) (rule : Nearest how) where
       record { over = r .0; under = r .1 }
 
   pub rounded : {x : Float} {p n : ℕ} → Val x p n L → p < n + 4503599627370496 * L → n < p + 4503599627370496 * L → Whole (toSigned 63 (toWhole how x)) p n
-  rounded {x} {p} {n} v u l = rounded-has x (v .sign) (v .size) p n (size-lt (v .sign) (v .size) p n (4503599627370496 * L) (v .is) u l) (v .has) (v .is)
+  rounded {x} {p} {n} v u l = rounded-has x (v .sign) (v .size) p n (signed-lt (v .sign) (v .size) p n (4503599627370496 * L) (v .is) u l) (v .has) (v .is)

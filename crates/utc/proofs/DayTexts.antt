@@ -1,22 +1,20 @@
 -- A date that is not refused has a next one, a leap, and a text; one before year -4799 is refused with 1. For any table of rows. Assumes nothing.
 use mathlib.Core.Path.{_≡_, refl, _∙_}
-use mathlib.Core.Bool.{Bool, true, false, _&&_, true≢false}
+use mathlib.Core.Bool.{Bool, false, _&&_}
 use mathlib.Core.List.{List}
 use Prim.Native.Nat.{ℕ}
-use native.Mathlib.Omega.{arith}
 use lib.Dec.{eqb}
-use lib.IntN.{ℤ, pos, negsuc}
+use lib.IntN.{pos}
 use lib.Signed.{ltZ, leZ}
 use lib.Ieee.{Float}
-use borrow.Author.Tests.{lt-leb, ltb-false}
 use Rattle.refusals.specs.Outcome.{answer, refusal, onward}
 use Rattle.floats.specs.Whole.{away}
 use Rattle.calendar.specs.declared.CalendarDate.{CalendarDate}
 use Rattle.calendar.specs.Calendar.{next}
 use Rattle.calendar.specs.Refusals.{nextOf}
 use Rattle.calendar.specs.DayCount.{mjdNumber}
-use Rattle.calendar.proofs.NextDates.{refused, by}
-use Rattle.calendar.proofs.Years.{validOf}
+use Rattle.calendar.proofs.NextDates.{refused, by, first-false}
+use Rattle.calendar.proofs.Years.{validOf, before-last}
 use Rattle.tai_utc.specs.Table.{Row, monthNumber}
 use Rattle.tai_utc.specs.Leap.{leapOf, offsetsOfDay, leapAtEndOfDay}
 use Rattle.tai_utc.proofs.Days as Days
@@ -32,15 +30,6 @@ abbrev pub textOf : CalendarDate → TimeShown → List ℕ
 textOf d (At t) = utcText d t
 textOf d NextMidnight = utcText (next d) midnight
 
--- the last date of 32 bits is far from every date of the calendar
-far : (y : ℤ) → ltZ (pos 2733194) y ≡ false → leZ (pos 2147483647) y ≡ false
-far (pos n) e = lt-leb 2147483647 n (omega (arith, ltb-false 2733194 n e))
-far (negsuc n) e = refl
-
-first-false : (a b : Bool) → a ≡ false → a && b ≡ false
-first-false true b e = absurd (true≢false e)
-first-false false b e = refl
-
 module _ (rows : List Row) (d : CalendarDate) where
   pub refused-early : (k : ℕ) → validOf d ≡ refusal k → leapAtEndOfDay rows (d .year) (pos (d .month)) (pos (d .day)) ≡ refusal k
   unfolding leapAtEndOfDay onward
@@ -54,7 +43,7 @@ module _ (rows : List Row) (d : CalendarDate) where
 
   module _ (v : validOf d ≡ answer tt) (h : ltZ (pos 2733194) (d .year) ≡ false) where
     pub has-next : nextOf (d .year) (pos (d .month)) (pos (d .day)) ≡ answer (next d)
-    has-next = by (d .year) (pos (d .month)) (pos (d .day)) v false (first-false (leZ (pos 2147483647) (d .year)) (eqb (d .month) 12 && eqb (d .day) 31) (far (d .year) h))
+    has-next = by (d .year) (pos (d .month)) (pos (d .day)) v false (first-false (leZ (pos 2147483647) (d .year)) (eqb (d .month) 12 && eqb (d .day) 31) (before-last (d .year) h))
 
     abbrev pub leapOn : Float
     leapOn = leapOf (offsetsOfDay rows (monthNumber (d .year) (d .month)) (monthNumber (next d .year) (next d .month)) (mjdNumber (d .year) (pos (d .month)) (pos (d .day))))

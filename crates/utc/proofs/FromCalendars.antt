@@ -1,10 +1,10 @@
 -- UTC from the calendar by its cases, and what the parts of an answer are. Assumes nothing.
-use mathlib.Core.Path.{_≡_, refl, _∙_}
+use mathlib.Core.Path.{_≡_, _∙_}
 use mathlib.Core.Bool.{true}
 use mathlib.Core.List.{List}
 use Prim.Native.Nat.{ℕ, _+_, _*_}
 use lib.IntN.{ℤ, pos}
-use lib.Ieee.{Float, binary64, ofInt, round, add, mul, div, lt, le, eq}
+use lib.Ieee.{Float, binary64, ofInt, add, mul, div}
 use Rattle.refusals.specs.Outcome.{answer, refusal, onward}
 use Rattle.floats.specs.Whole.{nought}
 use Rattle.constants.specs.Constants.{decimal, secondsPerDay, mjdZeroPoint}
@@ -12,18 +12,14 @@ use Rattle.calendar.specs.Refusals.{validDate}
 use Rattle.calendar.specs.DayCount.{mjdNumber}
 use Rattle.calendar.proofs.Mjd.{mjd-refused, mjd-given}
 use Rattle.julian.specs.JulianDate.{julian, roundedSum}
-use Rattle.julian.specs.DayFraction.{secondLimit, timeInDay, dayFraction}
+use Rattle.julian.specs.DayFraction.{timeInDay, dayFraction}
 use Rattle.julian.specs.Calendar.{fromCalendar}
 use Rattle.julian.specs.Calendar as Julian
 use Rattle.julian.proofs.Midnights.{midnight-refused, midnight-given}
+use Rattle.julian_laws.proofs.RoundTrip.{midnight-fraction}
 use Rattle.tai_utc.specs.Table.{Row}
 use Rattle.tai_utc.specs.Leap.{leapAtEndOfDay}
 use Rattle.utc.specs.FromCalendar.{atTime, utcFromCalendar}
-
--- 0h is the fraction 0.0
-no-time : dayFraction 0 0 nought nought ≡ answer nought
-unfolding dayFraction timeInDay secondLimit secondsPerDay ofInt round add mul div lt le eq
-no-time = refl
 
 -- ---- the cases
 module _ (rows : List Row) (y : ℤ) (m d hour minute : ℕ) (second : Float) where
@@ -33,7 +29,7 @@ module _ (rows : List Row) (y : ℤ) (m d hour minute : ℕ) (second : Float) wh
 
   at-midnight : validDate y (pos m) (pos d) ≡ answer tt → fromCalendar y m d 0 0 nought ≡ answer (julian (add binary64 mjdZeroPoint (ofInt binary64 (mjdNumber y (pos m) (pos d)))) nought)
   unfolding fromCalendar Julian.atTime roundedSum onward
-  at-midnight v = rw (midnight-given y (pos m) (pos d) (mjdNumber y (pos m) (pos d)) (mjd-given y (pos m) (pos d) v), no-time)
+  at-midnight v = rw (midnight-given y (pos m) (pos d) (mjdNumber y (pos m) (pos d)) (mjd-given y (pos m) (pos d) v), midnight-fraction)
 
   pub leap-refused : validDate y (pos m) (pos d) ≡ answer tt → (k : ℕ) → leapAtEndOfDay rows y (pos m) (pos d) ≡ refusal k → utcFromCalendar rows y m d hour minute second ≡ refusal k
   unfolding utcFromCalendar onward

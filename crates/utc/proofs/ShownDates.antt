@@ -4,7 +4,7 @@ use mathlib.Core.Path.{_≡_, refl, sym, ap, _∙_, subst}
 use mathlib.Core.Bool.{Bool, true, false}
 use Prim.Native.Nat.{zero, suc, _≤_}
 use native.Mathlib.Omega.{arith}
-use lib.IntN.{ℤ, pos, negsuc, sucℤ, natAbs, _+ℤ_}
+use lib.IntN.{ℤ, pos, negsuc, sucℤ}
 use lib.Signed.{ltZ}
 use borrow.Author.Tests.{le-ltb, ltb-true, ltb-false}
 use Rattle.refusals.specs.Outcome.{answer, refusal, onward}
@@ -12,17 +12,13 @@ use Rattle.rounding.proofs.Casts.{plusZ, minusZ}
 use Rattle.calendar.specs.Calendar.{date, dateOf, next, leapSize, lengths, daysInMonth}
 use Rattle.calendar.specs.DayCount.{civilCount, mjdNumber, mjdOf}
 use Rattle.calendar.specs.Refusals.{validDate}
-use Rattle.calendar.proofs.Accepted.{InCalendar, in-calendar-valid, year-refused}
-use Rattle.calendar.proofs.Days.{Counted, date-at-in-calendar, next-number-is-next-date}
+use Rattle.calendar.proofs.Accepted.{in-calendar-valid, year-refused}
+use Rattle.calendar.proofs.Days.{Counted, next-number-is-next-date}
 use Rattle.calendar.proofs.Gregorian.{gregorian-is-date-of-day}
 use Rattle.calendar.proofs.Mjd.{date-of-mjd}
-use Rattle.calendar.proofs.Years.{InRange, gregorian-in-range, validOf, year-before-first, from-lower}
+use Rattle.calendar.proofs.Years.{InRange, gregorian-in-range, validOf, year-before-first, from-lower, date-of-in-calendar}
 use Rattle.day_number.specs.Ranges.{InDays}
 use Rattle.julian_laws.proofs.CalendarDays.{not-above}
-
-in-calendar : (n : ℤ) → InCalendar (dateOf n)
-unfolding dateOf
-in-calendar n = date-at-in-calendar (natAbs (n +ℤ pos 178141))
 
 pub early-refused : (n : ℤ) → ltZ (dateOf n .year) (negsuc 4798) ≡ true → validOf (dateOf n) ≡ refusal 1
 early-refused n e = sym (year-refused (dateOf n .year) (pos (dateOf n .month)) (pos (dateOf n .day)) e)
@@ -54,7 +50,7 @@ module _ (n : ℤ) (low : ltZ (dateOf n .year) (negsuc 4798) ≡ false) (i : InD
   in-range = subst InRange (gregorian-is-date-of-day n (from-lower n from-first) (not-above n (i .top))) (gregorian-in-range n)
 
   pub date-valid : validOf (dateOf n) ≡ answer tt
-  date-valid = in-calendar-valid (dateOf n) (in-calendar n) low
+  date-valid = in-calendar-valid (dateOf n) (date-of-in-calendar n) low
 
   pub next-is : dateOf (sucℤ n) ≡ next (dateOf n)
   next-is = next-number-is-next-date n counted

@@ -9,7 +9,6 @@ use lib.Dec.{T}
 use lib.IntN.{ℤ, pos, negsuc}
 use lib.Signed.{ltZ, leZ}
 use lib.Ieee.{Float, binary64, fits}
-use borrow.Author.Tests.{ltb-false, lt-leb}
 use Rattle.refusals.specs.Outcome.{Outcome, answer, refusal}
 use Rattle.floats.specs.Whole.{nought}
 use Rattle.calendar.specs.declared.CalendarDate.{CalendarDate}
@@ -17,7 +16,7 @@ use Rattle.calendar.specs.Calendar.{daysInMonth, date, next}
 use Rattle.calendar.specs.Refusals.{validDate, nextOf, lastDate}
 use Rattle.calendar.specs.Gregorian.{gregorianDate}
 use Rattle.calendar.proofs.Accepted.{accepted}
-use Rattle.calendar.proofs.Years.{validOf, gregorian-in-range, gregorian-refusal}
+use Rattle.calendar.proofs.Years.{validOf, gregorian-in-range, gregorian-refusal, before-last}
 use Rattle.calendar.proofs.Mjd.{mjd-given}
 use Rattle.calendar.proofs.NextDates.{by}
 use Rattle.day_number.specs.DayNumber.{dayOf}
@@ -71,10 +70,6 @@ kind x y f g = go (D.accepted x y) refl
     go false e = outside e (refused x y e)
 
 -- ---- the offsets of a valid date
-before-last : (y : ℤ) → ltZ (pos 2733194) y ≡ false → leZ (pos 2147483647) y ≡ false
-before-last (pos n) e = lt-leb 2147483647 n (omega (arith, ltb-false 2733194 n e))
-before-last (negsuc n) e = refl
-
 not-last : (y : ℤ) (m d : ℕ) → leZ (pos 2147483647) y ≡ false → lastDate y m d ≡ false
 not-last y m d e = rw e
 

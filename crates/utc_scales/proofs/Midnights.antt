@@ -22,6 +22,7 @@ use Rattle.calendar.proofs.Accepted.{accepted}
 use Rattle.calendar.proofs.Years.{validOf, from-lower, gregorian-in-range, gregorian-valid, gregorian-refusal}
 use Rattle.calendar.proofs.Mjd.{mjd-refused, mjd-of-date}
 use Rattle.day_number.specs.Ranges.{InDays}
+use Rattle.day_number.proofs.Ranges.{day-read}
 use Rattle.julian.specs.declared.JulianDate.{JulianDate}
 use Rattle.julian.specs.JulianDate.{julian}
 use Rattle.julian_laws.proofs.CalendarDays.{not-above}
@@ -44,9 +45,6 @@ day-fits (negsuc n) h = record { sfits = omega (arith, h .bottom) }
 day-small : (z : ℤ) → InDays z → natAbs z ≤ 1000000000
 day-small (pos n) h = h .top
 day-small (negsuc n) h = omega (arith, h .bottom)
-
-pub day-read : (z : ℤ) → InDays z → toZ w64 (ofZ w64 z) ≡ z
-day-read z h = toZ-ofZ (day-fits z h)
 
 pub day-asked : (z : ℤ) → InDays z → natAbs (toZ w64 (ofZ w64 z)) ≤ 1000000000
 day-asked z h = subst (λ (x : ℤ). natAbs x ≤ 1000000000) (sym (day-read z h)) (day-small z h)

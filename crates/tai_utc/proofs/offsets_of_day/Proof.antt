@@ -1,9 +1,9 @@
 -- `tai_utc::offsets_of_day` meets its contract. Assumes nothing.
-use mathlib.Core.Path.{_≡_, _∙_}
-use lib.Ieee.{Float, ofBits}
-use Rattle.tai_utc.specs.Leap.{offsets, offsetsOfDay}
+use mathlib.Core.Path.{_∙_}
+use lib.Ieee.{ofBits}
+use Rattle.tai_utc.specs.Leap.{offsetsOfDay}
 use Rattle.tai_utc.proofs.Mjd.{read, float-fits, one-more-fits, read-next-day, next-float-fits}
-use Rattle.tai_utc.proofs.At.{at-month}
+use Rattle.tai_utc.proofs.At.{at-month, same-three}
 use borrow.Author.Needs.{needs}
 use Rattle.tai_utc.proofs.offsets_of_day.Statement.{statement}
 use Rattle.tai_utc.proofs.offsets_of_day.Tie as tie
@@ -31,9 +31,6 @@ offset-by-requires-2 c κs = search needs
 
 offset-by-requires-3 : tie.Need-offset-by-requires-3
 offset-by-requires-3 c κs = search needs
-
-same-three : (a a′ b b′ c c′ : Float) → a ≡ a′ → b ≡ b′ → c ≡ c′ → offsets a b c ≡ offsets a′ b′ c′
-same-three a a′ b b′ c c′ p q r = λ i. offsets (p i) (q i) (r i)
 
 returns : tie.Need-returns
 unfolding ofBits offsetsOfDay

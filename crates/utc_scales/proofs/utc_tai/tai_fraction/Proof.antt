@@ -7,7 +7,7 @@ use Rattle.floats.proofs.Laws.{yes}
 use Rattle.constants.specs.Constants.{mjdZeroPoint}
 use Rattle.calendar.specs.Gregorian.{gregorianDate}
 use Rattle.day_number.specs.Answer.{dayOutcome}
-use Rattle.day_number.proofs.Ranges.{day-range}
+use Rattle.day_number.proofs.Ranges.{day-range, day-read}
 use Rattle.julian.specs.JulianDate.{julian}
 use Rattle.tai_utc.specs.Answers.{dayOffsetsOutcome}
 use Rattle.tai_utc.specs.Table.{fixed}
@@ -15,7 +15,7 @@ use Rattle.utc_scales.specs.Dates.{offsetsOf}
 use Rattle.utc_scales.specs.Known.{RightDay, partOutcome, RightPart}
 use Rattle.utc_scales.specs.Known.{SameDay, SameDays}
 use Rattle.utc_scales.specs.UtcTai.{taiFromMidnight}
-use Rattle.utc_scales.proofs.Midnights.{day-read, day-asked}
+use Rattle.utc_scales.proofs.Midnights.{day-asked}
 use Rattle.utc_scales.proofs.Steps.{offset-of-day, offsets-first}
 use Rattle.utc_scales.proofs.Steps.{tai-no-date, tai-no-offsets, tai-of-day}
 use borrow.Author.Needs.{needs}

@@ -4,11 +4,10 @@ use lib.IntN.{ℤ}
 use Rattle.floats.proofs.Laws.{yes}
 use Rattle.calendar.specs.Gregorian.{gregorianDate}
 use Rattle.day_number.specs.Answer.{dayOutcome}
-use Rattle.day_number.proofs.Ranges.{day-range}
+use Rattle.day_number.proofs.Ranges.{day-range, day-read}
 use Rattle.tai_utc.specs.Answers.{offsetOutcome}
 use Rattle.tai_utc.specs.Table.{fixed}
 use Rattle.utc_scales.specs.Dates.{offsetAt0h}
-use Rattle.utc_scales.proofs.Midnights.{day-read}
 use Rattle.utc_scales.proofs.Steps.{offset-no-date, offset-of-day}
 use borrow.Author.Needs.{needs}
 use Rattle.utc_scales.proofs.utc_ut1.offset_of_date.Statement.{statement}

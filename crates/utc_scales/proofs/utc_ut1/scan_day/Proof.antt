@@ -9,13 +9,13 @@ use Rattle.floats.proofs.Laws.{yes}
 use Rattle.constants.specs.Constants.{mjdZeroPoint}
 use Rattle.calendar.specs.Gregorian.{gregorianDate}
 use Rattle.day_number.specs.Answer.{dayOutcome}
-use Rattle.day_number.proofs.Ranges.{day-range}
+use Rattle.day_number.proofs.Ranges.{day-range, day-read}
 use Rattle.julian.specs.JulianDate.{julian}
 use Rattle.tai_utc.specs.Answers.{offsetOutcome}
 use Rattle.tai_utc.specs.Table.{fixed}
 use Rattle.utc_scales.specs.Dates.{offsetAt0h}
 use Rattle.utc_scales.specs.UtcUt1.{step, scanOutcome, nearStep}
-use Rattle.utc_scales.proofs.Midnights.{day-read, day-asked}
+use Rattle.utc_scales.proofs.Midnights.{day-asked}
 use Rattle.utc_scales.proofs.Steps.{scan-no-date, scan-no-offset, scan-no-step, scan-step}
 use borrow.Author.Needs.{needs}
 use Rattle.utc_scales.proofs.utc_ut1.scan_day.Statement.{statement}
