@@ -10,16 +10,12 @@ use lib.IntN.{ℤ, pos, negsuc, natAbs, sucℤ, _+ℤ_, _-ℤ_, -ℤ-+ℤ-cancel
 use lib.Signed.{ltZ}
 use borrow.Author.Tests.{le-ltb}
 use Rattle.calendar.specs.declared.CalendarDate.{CalendarDate}
-use Rattle.calendar.specs.Calendar.{date, dateAt, dateOf, next, lengths, monthLength}
+use Rattle.calendar.specs.Calendar.{date, dateAt, dateOf, next, lengths, monthLength, Counted}
 use Rattle.calendar.proofs.Months.{months}
 use Rattle.calendar.proofs.Signs.{own-size, raised}
 use Rattle.calendar.proofs.March.{MarchDate, at, count, marchAt, march-at, daysBefore, daysBeforeYear, marchLength, length-positive}
 use Rattle.calendar.proofs.Accepted.{InCalendar}
 use Rattle.calendar.proofs.InStep.{fromMarch, yearOf, in-step, date-with-count, leap-same}
-
--- the day numbers that the definition counts: from -178141
-abbrev pub Counted : ℤ → Type 0
-Counted n = ltZ n (negsuc 178140) ≡ false
 
 -- its number of days after -5200-03-01
 pub days-after : (n : ℤ) → Counted n → n +ℤ pos 178141 ≡ pos (natAbs (n +ℤ pos 178141))

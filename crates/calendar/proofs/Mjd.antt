@@ -8,13 +8,13 @@ use lib.IntN.{ℤ, pos, negsuc, natAbs, subℕ, _+ℤ_, _-ℤ_, +ℤ-assoc, +ℤ
 use lib.Signed.{ltZ}
 use Rattle.refusals.specs.Outcome.{Outcome, answer, refusal, onward}
 use Rattle.calendar.specs.declared.CalendarDate.{CalendarDate}
-use Rattle.calendar.specs.Calendar.{date, dateAt, dateOf}
+use Rattle.calendar.specs.Calendar.{date, dateAt, dateOf, Counted}
 use Rattle.calendar.specs.Refusals.{validDate}
-use Rattle.calendar.specs.DayCount.{civilCount, mjdNumber, mjdOf}
+use Rattle.calendar.specs.DayCount.{civilCount, mjdNumber, mjdOf, MjdMeaning}
 use Rattle.calendar.specs.Gregorian.{gregorianDate}
 use Rattle.calendar.proofs.Signs.{raised, own-size}
 use Rattle.calendar.proofs.Accepted.{accepted}
-use Rattle.calendar.proofs.Days.{Counted, number, counted, one-number-per-date}
+use Rattle.calendar.proofs.Days.{number, counted, one-number-per-date}
 use Rattle.calendar.proofs.Years.{counted-from, from-lower, year-before-first, gregorian-valid}
 use Rattle.calendar.proofs.Gregorian.{gregorian-is-date-of-day}
 use Rattle.calendar.proofs.DayCounts.{count-of-date}
@@ -56,14 +56,6 @@ number-of n k e = ap (λ (z : ℤ). z +ℤ pos 2400001) e ∙ +ℤ-assoc (pos k)
 date-of-number : (k : ℕ) → dateOf (number k) ≡ dateAt k
 unfolding dateOf
 date-of-number k = ap (λ (z : ℤ). dateAt (natAbs z)) (-ℤ-+ℤ-cancel (pos k) (pos 178141))
-
--- a date that is not refused has an MJD n, day n + 2400001 has that date, and no other number is so
-pub record MjdMeaning (y m d : ℤ) : Type 0 where
-  pub n : ℤ
-  pub given : mjdOf y m d ≡ answer n
-  pub counted-day : Counted (n +ℤ pos 2400001)
-  pub has-date : dateOf (n +ℤ pos 2400001) ≡ date y (natAbs m) (natAbs d)
-  pub only : (x : ℤ) → Counted (x +ℤ pos 2400001) → dateOf (x +ℤ pos 2400001) ≡ date y (natAbs m) (natAbs d) → x ≡ n
 
 same-mjd : (x n : ℤ) → x +ℤ pos 2400001 ≡ n +ℤ pos 2400001 → x ≡ n
 same-mjd x n e = sym (+ℤ-negℤ-cancel x (pos 2400001)) ∙ ap (λ (z : ℤ). z -ℤ pos 2400001) e ∙ +ℤ-negℤ-cancel n (pos 2400001)

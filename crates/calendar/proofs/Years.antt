@@ -12,13 +12,13 @@ use lib.Signed.{ltZ, leZ}
 use borrow.Author.Tests.{lt-ltb, le-ltb, lt-leb, ltb-true, ltb-false}
 use Rattle.refusals.specs.Outcome.{Outcome, answer, refusal}
 use Rattle.calendar.specs.declared.CalendarDate.{CalendarDate}
-use Rattle.calendar.specs.Calendar.{date, dateAt, dateOf, next, leap, leapSize, lengths, monthLength}
+use Rattle.calendar.specs.Calendar.{date, dateAt, dateOf, next, leap, leapSize, lengths, monthLength, Counted}
 use Rattle.calendar.specs.Refusals.{validDate}
 use Rattle.calendar.specs.Gregorian.{gregorianDate}
 use Rattle.calendar.proofs.Signs.{raised, own-size, sub-at}
 use Rattle.calendar.proofs.March.{at, daysBefore, daysBeforeYear, marchLength}
 use Rattle.calendar.proofs.InStep.{date-with-count}
-use Rattle.calendar.proofs.Days.{Counted, after, date-at-in-calendar}
+use Rattle.calendar.proofs.Days.{after, date-at-in-calendar}
 use Rattle.calendar.proofs.Accepted.{InCalendar, in-calendar-valid, short, year-refused}
 
 -- ---- what holds of a year and then of the one after it, holds of the year of every later day

@@ -1,11 +1,13 @@
 -- The proleptic Gregorian calendar: leap years, the months' lengths, the next date, and the date of each day number. Written from ISO 8601 and from document 01,
 -- "Day and fraction". Assumes nothing.
 use Prim.Native.Nat.{ℕ, zero, suc, _+_, _%_}
-use mathlib.Core.Bool.{Bool, cond, not, _&&_, _||_}
+use mathlib.Core.Bool.{Bool, cond, not, _&&_, _||_, false}
 use mathlib.Core.List.{[], _∷_}
+use mathlib.Core.Path.{_≡_}
 use lib.Dec.{eqb, ltb}
 use lib.ListN.{getD}
 use lib.IntN.{ℤ, pos, negsuc, natAbs, sucℤ, _+ℤ_}
+use lib.Signed.{ltZ}
 use Rattle.calendar.specs.declared.CalendarDate.{CalendarDate}
 
 -- document 01: "February has 29 days exactly in years divisible by 400, or by 4 and not by 100". Divisibility has no sign, so the rule is of the year's size
@@ -46,3 +48,7 @@ dateAt (suc k) = next (dateAt k)
 -- is 2000-01-01 (`day-2451545-is-2000-01-01`) and that no other sequence of dates has that date at that number and this step (`the-calendar`).
 unfoldable pub dateOf : ℤ → CalendarDate
 dateOf n = dateAt (natAbs (n +ℤ pos 178141))
+
+-- the day numbers that the definition counts: from -178141
+abbrev pub Counted : ℤ → Type 0
+Counted n = ltZ n (negsuc 178140) ≡ false

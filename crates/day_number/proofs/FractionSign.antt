@@ -3,8 +3,7 @@ use mathlib.Core.Path.{_≡_, refl, subst}
 use mathlib.Core.Bool.{Bool, true, false, cond}
 use Prim.Native.Nat.{ℕ, _+_}
 use lib.Dec.{T}
-use lib.Ieee.{Float, binary64, add, sub, le, lt, fits, ofBits}
-use lib.Ieee.Bits.{ofBits-fits}
+use lib.Ieee.{Float, binary64, add, sub, le, lt, fits}
 use lib.Ieee.Fits.{add-fits, sub-fits}
 use Rattle.day_number.specs.declared.Kahan.{Kahan}
 use Rattle.day_number.specs.declared.Summed.{Summed}

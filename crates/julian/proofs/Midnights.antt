@@ -16,7 +16,7 @@ use Rattle.rounding.proofs.Value.{val-scale, val-move}
 use Rattle.rounding.proofs.Exact.{add-exact}
 use Rattle.rounding.proofs.Casts.{plusZ, minusZ}
 use Rattle.constants.specs.Constants.{mjdZeroPoint}
-use Rattle.calendar.specs.Calendar.{leap, date, dateOf}
+use Rattle.calendar.specs.Calendar.{leap}
 use Rattle.calendar.specs.Refusals.{validDate}
 use Rattle.calendar.specs.DayCount.{marchCount, civilCount, mjdNumber, mjdOf}
 use Rattle.calendar.proofs.Signs.{raised, at-most, lowered}
@@ -24,7 +24,7 @@ use Rattle.calendar.proofs.Accepted.{accepted, short}
 use Rattle.calendar.proofs.Mjd.{mjd-meaning}
 use Rattle.julian.specs.JulianDate.{julian, roundedSum}
 use Rattle.julian.specs.Calendar.{calendarToJulian}
-use Rattle.julian.specs.Worth.{Worth}
+use Rattle.julian.specs.Midnight.{MidnightOf}
 use Rattle.julian.proofs.Integers.{sides, in-float, integer-val}
 
 -- ---- a Modified Julian Date that is answered is the formula's, of a date that is not refused
@@ -94,16 +94,6 @@ pub midnight-sum : (n : ℤ) → mag n < 2 ^ 42 → Val (add binary64 mjdZeroPoi
 midnight-sum n h =
     let s = sides n (2 ^ 42) h in
     val-move (add-exact 1 (lit≤ tt) (omega (arith, s .0)) (omega (arith, s .1)) zero-point-val (val-scale 2 (integer-val n (omega arith)))) (omega arith)
-
--- n is the Modified Julian Date of the date; the second part is worth exactly n, both parts and their rounded sum exactly n + 2400000.5 days; and the day with the
--- number n + 2400001, which begins there, has the date
-pub record MidnightOf (y m d n : ℤ) : Type 0 where
-  pub mjd : mjdOf y m d ≡ answer n
-  pub given : calendarToJulian y m d ≡ answer (julian mjdZeroPoint (ofInt binary64 n))
-  pub second : Val (ofInt binary64 n) (plusZ n) (minusZ n) 1
-  pub exactly : Worth (julian mjdZeroPoint (ofInt binary64 n)) (4800001 + plusZ n * 2) (minusZ n * 2) 2
-  pub sum : Val (roundedSum (julian mjdZeroPoint (ofInt binary64 n))) (4800001 + plusZ n * 2) (minusZ n * 2) 2
-  pub has-date : dateOf (n +ℤ pos 2400001) ≡ date y (natAbs m) (natAbs d)
 
 pub midnight-of : (y m d : ℤ) → SFits w32 y → validDate y m d ≡ answer tt → (n : ℤ) × MidnightOf y m d n
 unfolding roundedSum

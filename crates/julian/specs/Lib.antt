@@ -7,3 +7,4 @@ pub mod DayFraction
 pub mod Finite
 pub mod Worth
 pub mod Calendar
+pub mod Midnight

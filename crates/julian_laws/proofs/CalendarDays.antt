@@ -20,7 +20,7 @@ use Rattle.calendar.proofs.Gregorian.{gregorian-is-date-of-day}
 use Rattle.day_number.specs.declared.DayNumber.{DayNumber}
 use Rattle.day_number.specs.DayNumber.{accepted, dayOf}
 use Rattle.day_number.specs.Answer.{dayNumberAndFraction}
-use Rattle.day_number.specs.Ranges.{InDays, InUnit}
+use Rattle.day_number.specs.Ranges.{InUnit}
 use Rattle.day_number.specs.ExactDay.{OnGrid, exactSum, InJulianRange, exactDay, exactFraction, exactDayNumber, fractionOf, DayAt}
 use Rattle.day_number.specs.NearDay.{DayNear}
 use Rattle.day_number.proofs.Answer.{answered, refused}
@@ -29,6 +29,7 @@ use Rattle.day_number.proofs.ExactDay.{exact-day, exact, alike}
 use Rattle.day_number.proofs.OffGrid.{day-near}
 use Rattle.julian.specs.declared.CalendarFields.{CalendarFields}
 use Rattle.julian.specs.Calendar.{fields, julianToCalendar}
+use Rattle.julian_laws.specs.CalendarAnswers.{InRange, NearDate}
 
 -- ---- the fields of an answered day, and back
 
@@ -110,23 +111,10 @@ one-outcome x y x' y' fx fy fx' fy' a b a' b' e = ap (λ (o : Outcome DayNumber)
 
 -- ---- every answer, and how near it is off the grid
 
--- the answer is the date of a day from -68570 to 10^9, and a fraction from 0.0 to below 1.0
-pub record InRange (f : CalendarFields) : Type 0 where
-  pub day : ℤ
-  pub in-days : InDays day
-  pub date : f .date ≡ gregorianDate day
-  pub fraction : InUnit (f .fraction)
-
 pub answered-in-range : (x y : Float) → T (fits binary64 x) → T (fits binary64 y) → (f : CalendarFields) → julianToCalendar x y ≡ answer f → InRange f
 answered-in-range x y fx fy f e =
     let d = day-of x y f e in
     record { day = d .day .day; in-days = day-range x y fx fy (d .day) (d .given); date = d .date; fraction = subst InUnit (sym (d .fraction)) (fraction-range x y fx fy (d .day) (d .given)) }
-
--- the day of the date and the fraction are within 2^-51 day of the exact sum plus one half
-pub record NearDate (sum : ℤ) (f : CalendarFields) : Type 0 where
-  pub day : ℤ
-  pub date : f .date ≡ gregorianDate day
-  pub near : DayNear sum day (f .fraction)
 
 pub near-date : (x y : Float) → Under52 x → Under52 y → (i j : ℤ) → Val x (plusZ i) (minusZ i) L → Val y (plusZ j) (minusZ j) L → (f : CalendarFields) → julianToCalendar x y ≡ answer f → NearDate (i +ℤ j) f
 near-date x y a b i j v w f e =

@@ -15,7 +15,8 @@ use Rattle.rounding.proofs.Value.{val-scale, val-move}
 use Rattle.rounding.proofs.Exact.{add-exact}
 use Rattle.rounding.proofs.Casts.{plusZ, minusZ, ofInt-val}
 use Rattle.rounding.proofs.Sizes.{whole-val}
-use Rattle.rounding.proofs.About.{U, L-U, About, about-scale, about-add, about-div, Within, about-within}
+use Rattle.rounding.proofs.About.{U, L-U, About, about-scale, about-add, about-div, about-within}
+use Rattle.rounding.specs.Picoseconds.{Within}
 use Rattle.constants.specs.Constants.{secondsPerDay, nanosecondsPerSecond, unixEpochJd}
 use Rattle.julian.specs.UnixTime.{daysTowardZero, secondsLeft, secondOfDay, fromUnixTime}
 use Rattle.julian.proofs.Seconds.{days-size, left-size}

@@ -29,12 +29,13 @@ use Rattle.rounding.proofs.Compare.{le-val}
 use Rattle.rounding.proofs.Near.{rounds-near}
 use Rattle.rounding.proofs.About.{U, U-pos, L-U, unit, room, About, about-own, about-scale, about-add, about-sub, about-mul}
 use Rattle.tai_utc.specs.Table.{Row, fixed, starts, reached, monthOf, monthNumber}
-use Rattle.tai_utc.specs.Offset.{none, secondsOf, startOf, rateOf, offsetBy, offsetAt, inDay, taiUtcOffset}
+use Rattle.tai_utc.specs.Offset.{none, secondsOf, startOf, rateOf, offsetBy, offsetAt, inDay, taiUtcOffset, rowAt}
 use Rattle.tai_utc.proofs.Rows.{at}
-use Rattle.tai_utc.proofs.At.{rowAt, drifting}
+use Rattle.tai_utc.proofs.At.{drifting}
 use Rattle.tai_utc.proofs.Years.{one-row, drift-rows}
 use Rattle.tai_utc.proofs.Offsets.{offset-came, offset-in-day}
 use Rattle.leap_days.proofs.Tests.{then, then-left, then-right}
+use Rattle.leap_days.specs.Formula.{NearFormula}
 
 -- ---- the float nearest to n / d is within 2 ^ i units of 2 ^ -90 of it, where it is below 2 ^ (54 + i) of them
 about-decimal : (i n d M : ℕ) → 0 < d → 985 + i ≤ 2044 → n * 2 ^ 90 < 2 ^ (54 + i) * d → n * 2 ^ 90 ≤ M * d → About (round binary64 false n d) n 0 d M (2 ^ i)
@@ -231,16 +232,6 @@ module _ (r : Row) (t : T (rowTest r)) (j : ℕ) (hj : j < 65536) (f : Float) (g
   whole = about-add 46 (omega arith) (ltb→lt (2 ^ 93 + 2 ^ 99 + (2 ^ 39 + 2 ^ 48)) (2 ^ (54 + 46)) tt) seconds drift
 
 -- ---- what it says: with f = (q - m) / L and x = (p - n) / L, the difference of x and the formula times 10^10 L is at most 10^-12 times 10^10 L
-pub record NearFormula (r : Row) (j : ℕ) (f x : Float) : Type 0 where
-  pub q : ℕ
-  pub m : ℕ
-  pub fraction : Val f q m L
-  pub p : ℕ
-  pub n : ℕ
-  pub offset : Val x p n L
-  pub over : 10 ^ 12 * (p * 10 ^ 10 + (m + r .start * L) * r .rate) ≤ 10 ^ 12 * (n * 10 ^ 10 + (r .units * (1000 * L) + (j * L + q) * r .rate)) + 10 ^ 10 * L
-  pub under : 10 ^ 12 * (n * 10 ^ 10 + (r .units * (1000 * L) + (j * L + q) * r .rate)) ≤ 10 ^ 12 * (p * 10 ^ 10 + (m + r .start * L) * r .rate) + 10 ^ 10 * L
-
 abbrev E4 : ℕ
 E4 = 2 ^ 39 + 2 ^ 48 + 2 ^ 46
 

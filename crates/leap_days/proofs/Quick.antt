@@ -10,11 +10,11 @@ use lib.Ieee.{Float, binary64, add, sub, mul, ofInt}
 use borrow.Author.Tests.{ltb-true, ltb-false, lt-ltb, le-ltb}
 use Rattle.rounding.proofs.Quick.{qadd, qsub, qmul, qint, add-is, sub-is, mul-is, int-is}
 use Rattle.tai_utc.specs.Table.{Row, fixed, starts, reached}
-use Rattle.tai_utc.specs.Offset.{secondsOf, startOf, rateOf, offsetAt}
+use Rattle.tai_utc.specs.Offset.{secondsOf, startOf, rateOf, offsetAt, rowAt}
 use Rattle.tai_utc.specs.Leap.{twoF, offsets, leapOf, driftRate, leapAmount}
 use Rattle.tai_utc.specs.declared.DayOffsets.{DayOffsets}
 use Rattle.tai_utc.proofs.Rows.{drifts}
-use Rattle.tai_utc.proofs.At.{rowAt, drifting, steady}
+use Rattle.tai_utc.proofs.At.{drifting, steady}
 use Rattle.tai_utc.proofs.Years.{one-row, drift-rows, whole-rows, most-rows}
 use Rattle.leap_days.specs.Leaps.{small}
 use Rattle.leap_days.proofs.Tests.{then-left, then-right, sameF, same-float}

@@ -22,9 +22,9 @@ use Rattle.tai_utc.specs.Leap.{leapOf, leapAtEndOfDay}
 use Rattle.tai_utc.proofs.Reached.{member, member-later}
 use Rattle.tai_utc.proofs.Rows.{fixed-rises}
 use Rattle.tai_utc.proofs.Days.{leap-came}
+use Rattle.tai_utc.specs.Offset.{wholeF}
 use Rattle.leap_days.specs.Leaps.{Day, leapSeconds, listed, isLeapSecond, small}
 use Rattle.leap_days.proofs.Every.{from-1972, since}
-use Rattle.leap_days.proofs.Whole.{wholeF}
 
 -- ---- 27 days, each the last of the month before one of rows 16 to 42 begins
 pub twenty-seven : length leapSeconds ≡ 27

@@ -5,7 +5,7 @@ use mathlib.Core.Bool.{Bool, true, false, cond, _&&_}
 use Prim.Native.Nat.{ℕ, suc, _-_, _≤_, _<_}
 use native.Mathlib.Omega.{arith}
 use lib.Dec.{T}
-use lib.IntN.{ℤ, pos, sucℤ}
+use lib.IntN.{ℤ, sucℤ}
 use lib.Ieee.{Float, binary64, round, add, sub, mul, ofInt}
 use Rattle.floats.specs.Whole.{nought, half, one}
 use Rattle.tai_utc.specs.Table.{fixed, starts, reached}
@@ -14,10 +14,8 @@ use Rattle.tai_utc.specs.declared.DayOffsets.{DayOffsets}
 use Rattle.tai_utc.proofs.Reached.{member, month-later}
 use Rattle.tai_utc.proofs.Rows.{fixed-rises}
 use Rattle.tai_utc.proofs.Years.{whole-rows, most-rows, whole-seconds}
+use Rattle.tai_utc.specs.Offset.{wholeF}
 use Rattle.leap_days.proofs.Tests.{then, then-left, then-right, each, sameF, same-float}
-
-abbrev pub wholeF : ℕ → Float
-wholeF k = ofInt binary64 (pos k)
 
 abbrev pub Both : DayOffsets → Float → Type 0
 Both o x = (leapOf o ≡ x) × (leapAmount o ≡ x)

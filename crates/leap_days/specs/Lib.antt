@@ -1,2 +1,3 @@
 -- The definitions that the laws of leaps are stated in.
 pub mod Leaps
+pub mod Formula

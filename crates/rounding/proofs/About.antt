@@ -8,6 +8,7 @@ use native.Mathlib.Omega.{arith}
 use lib.Pow.{pow-add, pow-pos}
 use lib.Ieee.{Float, binary64, add, sub, mul, div, neg}
 use Rattle.rounding.specs.Value.{Val, L}
+use Rattle.rounding.specs.Picoseconds.{Within}
 use Rattle.rounding.proofs.Signed.{product-le}
 use Rattle.rounding.proofs.Value.{neg-val, L-pos}
 use Rattle.rounding.proofs.Near.{add-near}
@@ -240,13 +241,6 @@ about-div i {x} {y} {P} {N} {D} {M} {e} c M' e' I F m r budget v a =
     one p n h = subst₂ (λ (s t : ℕ). s < t + 2 ^ (53 + (985 + i)) * c) (mul-one p) (mul-one n) (times-fits i p n (M + e) 1 c h (subst (λ (z : ℕ). z < 2 ^ (54 + i) * c) (sym (mul-one (M + e))) r))
 
 -- ---- of a value in days: x is within ps picoseconds of (P - N) / D days
-pub record Within (ps : ℕ) (x : Float) (P N D : ℕ) : Type 0 where
-  pub p : ℕ
-  pub n : ℕ
-  pub val : Val x p n L
-  pub over : 86400000000000000 * (p * D + N * L) ≤ 86400000000000000 * (n * D + P * L) + ps * (L * D)
-  pub under : 86400000000000000 * (n * D + P * L) ≤ 86400000000000000 * (p * D + N * L) + ps * (L * D)
-
 -- 86400 * 10 ^ 12 picoseconds are a day
 pub about-within : (ps : ℕ) {x : Float} {P N D M e : ℕ} → 86400000000000000 * e ≤ ps * 2 ^ 90 → About x P N D M e → Within ps x P N D
 about-within ps {x} {P} {N} {D} {M} {e} h a = record {

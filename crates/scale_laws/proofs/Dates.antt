@@ -14,7 +14,8 @@ use Rattle.rounding.proofs.Value.{L-pos, abs-has}
 use Rattle.rounding.proofs.Own.{plus-of, minus-of, signed-of}
 use Rattle.rounding.proofs.Signed.{signed-le}
 use Rattle.rounding.proofs.Compare.{lt-val}
-use Rattle.rounding.proofs.About.{U, About, Within, size-high, size-low}
+use Rattle.rounding.proofs.About.{U, About, size-high, size-low}
+use Rattle.rounding.specs.Picoseconds.{Within}
 use Rattle.julian.specs.declared.JulianDate.{JulianDate}
 use Rattle.scales.specs.SmallerPart.{firstIsLarger, mapSmallerPart}
 use Rattle.scale_laws.specs.Meaning.{day, Close}

@@ -14,6 +14,7 @@ use Rattle.scales.specs.Formulas.{plus, minus, daysOf, gpsDays, ttDays, tcgToTt
 use Rattle.scales.specs.Conversions.{Conversion, gps-tai, tai-gps, tai-tt, tt-tai, tcg-tt, tt-tcg, tcb-tdb, tdb-tcb, tai-tcg, tcg-tai, tai-ut1, ut1-tai, ut1-tt, tt-ut1, tt-tdb, tdb-tt, offsetOf, converted, convertedBy, answerOf}
 use Rattle.scales.specs.Refusals.{finiteParts, testedFinite, Decided}
 use Rattle.scale_laws.specs.Ranges.{Held}
+use Rattle.scale_laws.specs.Refusals.{Refusals}
 use Rattle.scales.proofs.Outcomes.{and-left, and-right, first, first-by}
 use Rattle.scales.proofs.SmallerPart.{mapAs, map-is}
 use Rattle.scale_laws.proofs.Shifts.{added, tt-small}
@@ -90,11 +91,6 @@ refuses (tt-tdb s) d f = given plus s d
 refuses (tdb-tt s) d f = given minus s d
 
 -- ---- read from the outcome: which numbers occur, and what each says
-pub record Refusals (k : Conversion) (d : JulianDate) : Type 0 where
-  pub nine : answerOf k d ≡ refusal 9 → testedFinite k d ≡ false
-  pub ten : answerOf k d ≡ refusal 10 → (testedFinite k d ≡ true) × (finite (offsetOf k) ≡ false)
-  pub only : (n : ℕ) → answerOf k d ≡ refusal n → (n ≡ 9) ⊎ (n ≡ 10)
-
 pub refusals : (k : Conversion) (d : JulianDate) → Held d → Refusals k d
 refusals k d f = record {
   nine = λ h. go9 (testedFinite k d) (finite (offsetOf k)) (answerOf k d) (refuses k d f) h;

@@ -3,3 +3,4 @@ pub mod Ranges
 pub mod Picoseconds
 pub mod Meaning
 pub mod Recorders
+pub mod Refusals

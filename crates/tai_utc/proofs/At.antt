@@ -12,12 +12,9 @@ use lib.Ieee.{Float, binary64, add, sub, mul, ofInt}
 use borrow.Author.Tests.{lt-ltb, le-ltb}
 use Rattle.floats.specs.Whole.{nought}
 use Rattle.tai_utc.specs.Table.{Row, fixed, starts, reached}
-use Rattle.tai_utc.specs.Offset.{secondsOf, startOf, rateOf, byRow, none, offsetBy, offsetAt}
+use Rattle.tai_utc.specs.Offset.{secondsOf, startOf, rateOf, byRow, none, offsetBy, offsetAt, rowAt}
 use Rattle.tai_utc.specs.Leap.{offsets}
 use Rattle.tai_utc.proofs.Rows.{drifts}
-
-abbrev pub rowAt : ℕ → Row
-rowAt k = getD fixed (k - 1) none
 
 by-place : (k : ℕ) (mjd f : Float) → 0 < k → offsetBy fixed k mjd f ≡ byRow (rowAt k) mjd f
 unfolding offsetBy

@@ -1,7 +1,7 @@
 -- The look-up in any list of months: what it finds from the end, that it is the last month that has begun, and how it grows from month to month in a list that rises.
 -- Assumes nothing.
 use mathlib.Core.Path.{_≡_, refl, ap, sym, subst, _∙_}
-use mathlib.Core.Bool.{Bool, true, false, cond, _&&_, _||_}
+use mathlib.Core.Bool.{Bool, true, false, cond, _||_}
 use mathlib.Core.List.{List, [], _∷_}
 use Prim.Native.Nat.{ℕ, zero, suc, _-_, _≤_, _<_}
 use native.Mathlib.Omega.{arith}
@@ -11,7 +11,7 @@ use lib.ListN.{length, getD, drop}
 use lib.Seq.{drop-cons, drop-length}
 use lib.Ieee.Fits.{and-l, and-r}
 use borrow.Author.Tests.{le-leb, lt-leb, leb-true, leb-false, eqb-true, eqb-false, ne-eqb}
-use Rattle.tai_utc.specs.Table.{reached, onTop}
+use Rattle.tai_utc.specs.Table.{reached, onTop, rising, LastBegun}
 
 top-one : (k : ℕ) (b : Bool) → k ≡ 0 → b ≡ true → onTop k b ≡ 1
 top-one k b p q = rw (p, q)
@@ -65,12 +65,6 @@ at-most [] n = omega arith
 at-most (a ∷ l) n = top-most (reached l n) (length l) (leb a n) (at-most l n)
 
 -- ---- in a list that rises
--- each month is later than the one before
-abbrev pub rising : List ℕ → Bool
-rising [] = true
-rising (a ∷ []) = true
-rising (a ∷ (b ∷ l)) = ltb a b && rising (b ∷ l)
-
 tail-rises : (a : ℕ) (l : List ℕ) → T (rising (a ∷ l)) → T (rising l)
 tail-rises a [] t = tt
 tail-rises a (b ∷ l) t = and-r (ltb a b) (rising (b ∷ l)) t
@@ -175,11 +169,6 @@ none-begun (a ∷ l) n e j h = go (reached l n) refl (leb a n) refl e j h (λ p 
     go zero p true q z i g more = absurd (omega arith)
     go zero p false q z zero g more = leb-false a n q
     go zero p false q z (suc i) g more = more p i (le-of-suc-le-suc g)
-
-pub record LastBegun (l : List ℕ) (n i : ℕ) : Type 0 where
-  pub in-list : i < length l
-  pub has-begun : getD l i 0 ≤ n
-  pub later-not : (j : ℕ) → i < j → j < length l → n < getD l j 0
 
 at-top : (a : ℕ) (l : List ℕ) (n : ℕ) → a ≤ n → reached l n ≡ 0 → LastBegun (a ∷ l) n 0
 at-top a l n h e = record { in-list = omega arith; has-begun = h; later-not = later }

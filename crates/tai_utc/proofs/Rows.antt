@@ -9,8 +9,7 @@ use lib.Dec.{T, ltb, eqb}
 use lib.ListN.{length, getD}
 use lib.Ieee.{Float, nan}
 use lib.Ieee.Fits.{and-l, and-r}
-use Rattle.tai_utc.specs.Table.{Row, fixed, starts}
-use Rattle.tai_utc.proofs.Reached.{rising}
+use Rattle.tai_utc.specs.Table.{Row, fixed, starts, rising}
 use Rattle.tai_utc.specs.Offset.{none}
 
 -- what stands at place i of the list made by f is f of the row at place i

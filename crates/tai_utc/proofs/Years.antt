@@ -16,10 +16,10 @@ use Rattle.floats.specs.Whole.{nought}
 use Rattle.calendar.proofs.Accepted.{accepted}
 use Rattle.calendar.proofs.Mjd.{mjd-valid}
 use Rattle.tai_utc.specs.Table.{Row, fixed, starts, reached, monthOf, monthNumber}
-use Rattle.tai_utc.specs.Offset.{none, secondsOf, offsetAt, taiUtcOffset}
+use Rattle.tai_utc.specs.Offset.{none, secondsOf, offsetAt, taiUtcOffset, rowAt, wholeF}
 use Rattle.tai_utc.proofs.Reached.{low, high, at-most}
 use Rattle.tai_utc.proofs.Rows.{place, fixed-rises}
-use Rattle.tai_utc.proofs.At.{rowAt, absent, steady}
+use Rattle.tai_utc.proofs.At.{absent, steady}
 use Rattle.tai_utc.proofs.Offsets.{offset-came}
 
 -- ---- in months: January 1960 is 23520, January 1972 is 23664
@@ -48,9 +48,6 @@ unfolding fixed
 most-rows n = at-most (starts fixed) n
 
 -- ---- the seconds of rows 15 to 42 are 10 to 37
-abbrev wholeF : ℕ → Float
-wholeF k = ofInt binary64 (pos k)
-
 abbrev counted : ℕ → ℕ → List ℕ
 counted zero s = []
 counted (suc n) s = s ∷ counted n (suc s)

@@ -1,17 +1,17 @@
 -- TAI-UTC at a fraction of a day, by a table of rows: the Rust's `get_tai_utc_offset` (scales/common.rs), each operation rounded once and in its order.
 -- Assumes nothing.
-use Prim.Native.Nat.{ℕ, zero, suc}
+use Prim.Native.Nat.{ℕ, zero, suc, _-_}
 use mathlib.Core.Bool.{Bool, cond, _&&_}
 use mathlib.Core.List.{List}
 use lib.Dec.{eqb}
 use lib.ListN.{getD}
-use lib.IntN.{ℤ, natAbs}
+use lib.IntN.{ℤ, natAbs, pos}
 use lib.Ieee.{Float, binary64, add, sub, mul, le, ofInt}
 use Rattle.refusals.specs.Outcome.{Outcome, answer, refusal, onward}
 use Rattle.floats.specs.Whole.{nought, one}
 use Rattle.constants.specs.Constants.{decimal}
 use Rattle.calendar.specs.DayCount.{mjdOf}
-use Rattle.tai_utc.specs.Table.{Row, monthNumber, starts, reached}
+use Rattle.tai_utc.specs.Table.{Row, monthNumber, starts, reached, fixed}
 
 -- the floats nearest to a row's decimals
 unfoldable pub secondsOf : Row → Float
@@ -52,3 +52,11 @@ taiUtcOffset rows y m d fraction =
     cond (inDay fraction)
     (onward (mjdOf y m d) (λ n. answer (offsetAt rows (monthNumber y (natAbs m)) (ofInt binary64 n) fraction)))
     (refusal 7)
+
+-- the row that is reached where k months of the fixed table have begun
+abbrev pub rowAt : ℕ → Row
+rowAt k = getD fixed (k - 1) none
+
+-- k seconds as a float
+abbrev pub wholeF : ℕ → Float
+wholeF k = ofInt binary64 (pos k)

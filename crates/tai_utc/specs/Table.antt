@@ -1,10 +1,11 @@
 -- TAI-UTC as a table of decimals, and the last row whose month has begun. Written from the IERS table of TAI-UTC from 1961 on (Bulletin C from 1972); the row of
 -- 1960 is SOFA's (dat.c). Assumes nothing.
-use Prim.Native.Nat.{ℕ, zero, suc, _+_, _-_, _*_}
-use mathlib.Core.Bool.{Bool, true, false}
+use Prim.Native.Nat.{ℕ, zero, suc, _+_, _-_, _*_, _≤_, _<_}
+use mathlib.Core.Bool.{Bool, true, false, _&&_}
 use mathlib.Core.List.{List, [], _∷_, map}
-use lib.Dec.{leb}
+use lib.Dec.{leb, ltb}
 use lib.IntN.{ℤ, pos, negsuc}
+use lib.ListN.{length, getD}
 
 -- From the start of month `month` on, TAI-UTC is `units` times 10^-7 s; and where `rate` is not 0, more by `rate` times 10^-10 s for each day since the Modified
 -- Julian Date `start`. Months are numbered from January of year 0.
@@ -86,3 +87,15 @@ onTop zero false = 0
 unfoldable pub reached : List ℕ → ℕ → ℕ
 reached [] n = 0
 reached (a ∷ rest) n = onTop (reached rest n) (leb a n)
+
+-- each month is later than the one before
+abbrev pub rising : List ℕ → Bool
+rising [] = true
+rising (a ∷ []) = true
+rising (a ∷ (b ∷ l)) = ltb a b && rising (b ∷ l)
+
+-- i is the place of the last month of the list that has begun in month n
+pub record LastBegun (l : List ℕ) (n i : ℕ) : Type 0 where
+  pub in-list : i < length l
+  pub has-begun : getD l i 0 ≤ n
+  pub later-not : (j : ℕ) → i < j → j < length l → n < getD l j 0

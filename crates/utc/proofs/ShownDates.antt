@@ -9,11 +9,11 @@ use lib.Signed.{ltZ}
 use borrow.Author.Tests.{le-ltb, ltb-true, ltb-false}
 use Rattle.refusals.specs.Outcome.{answer, refusal, onward}
 use Rattle.rounding.proofs.Casts.{plusZ, minusZ}
-use Rattle.calendar.specs.Calendar.{date, dateOf, next, leapSize, lengths, daysInMonth}
+use Rattle.calendar.specs.Calendar.{date, dateOf, next, leapSize, lengths, daysInMonth, Counted}
 use Rattle.calendar.specs.DayCount.{civilCount, mjdNumber, mjdOf}
 use Rattle.calendar.specs.Refusals.{validDate}
 use Rattle.calendar.proofs.Accepted.{in-calendar-valid, year-refused}
-use Rattle.calendar.proofs.Days.{Counted, next-number-is-next-date}
+use Rattle.calendar.proofs.Days.{next-number-is-next-date}
 use Rattle.calendar.proofs.Gregorian.{gregorian-is-date-of-day}
 use Rattle.calendar.proofs.Mjd.{date-of-mjd}
 use Rattle.calendar.proofs.Years.{InRange, gregorian-in-range, validOf, year-before-first, from-lower, date-of-in-calendar}

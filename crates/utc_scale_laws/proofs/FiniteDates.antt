@@ -33,12 +33,12 @@ use Rattle.utc_scales.specs.LargerPart.{firstIsLarger, partsAs, partsOf, putAs,
 use Rattle.utc_scales.specs.Dates.{offsetAt0h, offsetsOf}
 use Rattle.utc_scales.specs.UtcTai.{taiFromMidnight, taiFraction, utcToTai, moved, refined, rounds, refineUtcFraction, taiToUtc}
 use Rattle.utc_scales.specs.UtcUt1.{utcToUt1, beforeStep, timePastLeap, atMostOne, afterStep, nearStep, Scanned, noStep, step, scanDay, untilStep, scan, adjustDut1, utcFraction, ut1ToUtc}
-use Rattle.utc_scale_laws.specs.Claims.{Holds, answers, SixOrOne, FiniteParts}
+use Rattle.utc_scale_laws.specs.Claims.{Holds, answers, SixOrOne, FiniteParts, Fits}
 use Rattle.utc_scales.proofs.Midnights.{midnight, offset-early, offsets-early}
 use Rattle.utc_scales.proofs.Steps.{tai-no-date, tai-no-offsets, tai-of-day, scan-no-date, scan-no-offset, scan-no-step, scan-step}
 use Rattle.utc_scale_laws.proofs.Outcomes.{holds-answer, holds-refusal, holds-onward, holds-more}
 use Rattle.utc_scale_laws.proofs.Days.{dateIn, Kind, outside, before, valid, kind, offset-answered, offsets-answered}
-use Rattle.utc_scale_laws.proofs.Refusals.{Fits, parts-fit}
+use Rattle.utc_scale_laws.proofs.Refusals.{parts-fit}
 use Rattle.utc_scale_laws.proofs.OffsetSizes.{offset-size, offsets-size, zero-size, day-size, day-above, day-more-above, zero-point-size}
 use Rattle.utc_scale_laws.proofs.DaySizes.{midnight-size, since-midnight-size, day-offset-size}
 use Rattle.utc_scale_laws.proofs.FiniteTai.{utc-to-tai-never-infinite}

@@ -26,12 +26,12 @@ use Rattle.scale_laws.proofs.Shifts.{Small, added, taken-from, mjd-small}
 use Rattle.utc_scales.specs.LargerPart.{partsOf, putAs, putBack, placed, changeSmaller}
 use Rattle.utc_scales.specs.Dates.{offsetsOf}
 use Rattle.utc_scales.specs.UtcTai.{taiFromMidnight, taiFraction, utcToTai}
-use Rattle.utc_scale_laws.specs.Claims.{Holds, answers, SixOrOne, FiniteParts}
+use Rattle.utc_scale_laws.specs.Claims.{Holds, answers, SixOrOne, FiniteParts, Fits}
 use Rattle.utc_scales.proofs.Midnights.{midnight, offsets-early}
 use Rattle.utc_scales.proofs.Steps.{tai-no-date, tai-no-offsets, tai-of-day}
 use Rattle.utc_scale_laws.proofs.Outcomes.{holds-answer, holds-refusal, holds-onward}
 use Rattle.utc_scale_laws.proofs.Days.{dateIn, Kind, outside, before, valid, kind, offsets-answered}
-use Rattle.utc_scale_laws.proofs.Refusals.{Fits, parts-fit}
+use Rattle.utc_scale_laws.proofs.Refusals.{parts-fit}
 use Rattle.utc_scale_laws.proofs.OffsetSizes.{Offsets, offsets-size}
 use Rattle.utc_scale_laws.proofs.DaySizes.{midnight-size, since-midnight-size}
 

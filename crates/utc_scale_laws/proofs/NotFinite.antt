@@ -19,9 +19,7 @@ use Rattle.utc_scales.specs.LargerPart.{firstIsLarger, partsAs, partsOf, change
 use Rattle.utc_scales.specs.UtcTai.{utcToTai, refined, rounds, refineUtcFraction, taiToUtc}
 use Rattle.utc_scales.specs.UtcUt1.{utcToUt1, ut1ToUtc}
 use Rattle.utc_scales.proofs.Steps.{tai-no-date}
-
-abbrev pub allFinite : JulianDate → Bool
-allFinite d = bothFinite (d .jd1) (d .jd2)
+use Rattle.utc_scale_laws.specs.Claims.{allFinite}
 
 -- a pair that passes the range test is finite
 not-accepted : (x y : Float) → bothFinite x y ≡ false → accepted x y ≡ false

@@ -26,10 +26,10 @@ use Rattle.calendar.proofs.Accepted.{accepted, short}
 use Rattle.calendar.proofs.Mjd.{mjd-given, mjd-valid, same-answer}
 use Rattle.tai_utc.specs.declared.DayOffsets.{DayOffsets}
 use Rattle.tai_utc.specs.Table.{Row, fixed, starts, reached, monthNumber}
-use Rattle.tai_utc.specs.Offset.{secondsOf, startOf, rateOf, none, offsetAt, taiUtcOffset}
+use Rattle.tai_utc.specs.Offset.{secondsOf, startOf, rateOf, none, offsetAt, taiUtcOffset, rowAt}
 use Rattle.tai_utc.specs.Leap.{offsets, dayOffsets}
 use Rattle.tai_utc.proofs.Rows.{every, at}
-use Rattle.tai_utc.proofs.At.{rowAt, drifting}
+use Rattle.tai_utc.proofs.At.{drifting}
 use Rattle.tai_utc.proofs.Offsets.{offset-came}
 use Rattle.tai_utc.proofs.Years.{before-1960, one-row, drift-rows, most-rows, whole-seconds}
 use Rattle.refusals.proofs.Onward.{came}

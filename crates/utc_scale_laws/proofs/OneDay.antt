@@ -16,8 +16,7 @@ use Rattle.tai_utc.specs.Table.{fixed}
 use Rattle.scale_laws.specs.Ranges.{Held}
 use Rattle.utc_scales.specs.LargerPart.{firstIsLarger, partsAs, partsOf}
 use Rattle.utc_scales.specs.UtcUt1.{utcToUt1}
-use Rattle.utc_scale_laws.specs.Claims.{DecidedUt1, earlyDay, earlyUtc, OneDay}
-use Rattle.utc_scale_laws.proofs.Refusals.{Fits}
+use Rattle.utc_scale_laws.specs.Claims.{DecidedUt1, earlyDay, earlyUtc, OneDay, Fits}
 use Rattle.utc_scale_laws.proofs.EitherOrder.{add-turned}
 use Rattle.utc_scale_laws.proofs.Ut1Decided.{utc-to-ut1-decided}
 

@@ -28,7 +28,7 @@ use Rattle.utc_scales.specs.Dates.{offsetOfDate, offsetAt0h}
 use Rattle.utc_scales.specs.UtcTai.{taiFraction, utcToTai, moved, refined, rounds, refineUtcFraction, taiToUtc}
 use Rattle.utc_scales.specs.UtcUt1.{utcToUt1, Scanned, noStep, step, scanDay, untilStep, scan, adjustDut1, utcFraction, ut1ToUtc}
 use Rattle.utc_scale_laws.specs.Claims as C
-use Rattle.utc_scale_laws.specs.Claims.{Holds, answers, refuses, Any, SixOrOne, TenNineSixOrOne}
+use Rattle.utc_scale_laws.specs.Claims.{Holds, answers, refuses, Any, SixOrOne, TenNineSixOrOne, Fits}
 use Rattle.utc_scales.proofs.Midnights.{offset-early, offsets-early}
 use Rattle.utc_scales.proofs.Steps.{tai-no-date, tai-no-offsets, tai-of-day, offset-no-date, offset-of-day, scan-no-date, scan-no-offset, scan-no-step, scan-step}
 use Rattle.utc_scale_laws.proofs.Outcomes.{holds-answer, holds-refusal, holds-onward, holds-more}
@@ -73,12 +73,12 @@ placed-any d o h = holds-onward (placed (partsOf d)) h (λ x _. answers tt)
 
 -- ---- UTC to TAI
 pub utc-to-tai-decided : (rows : List Row) (d : JulianDate) → Held d
-    → C.Decided (accepted (partsOf d .larger) (partsOf d .smaller)) (early (dateIn (partsOf d .larger) (partsOf d .smaller))) (utcToTai rows d)
+    → C.Decided (accepted (partsOf d .larger) (partsOf d .smaller)) (C.earlyDay (partsOf d .larger) (partsOf d .smaller)) (utcToTai rows d)
 unfolding utcToTai changeSmaller placed
 utc-to-tai-decided rows d h = let p = parts-fit d h in go (tai rows (partsOf d .larger) (partsOf d .smaller) (p .0) (p .1))
   where
     go : Tai rows (partsOf d .larger) (partsOf d .smaller)
-        → C.Decided (accepted (partsOf d .larger) (partsOf d .smaller)) (early (dateIn (partsOf d .larger) (partsOf d .smaller))) (utcToTai rows d)
+        → C.Decided (accepted (partsOf d .larger) (partsOf d .smaller)) (C.earlyDay (partsOf d .larger) (partsOf d .smaller)) (utcToTai rows d)
     go (outside-tai p e) = by-six _ _ p (stopped _ e)
     go (early-tai p q e) = by-one _ _ p q (stopped _ e)
     go (given-tai p q f e) = by-date _ _ p q _ (went _ e)
@@ -88,9 +88,6 @@ unfolding utcToTai changeSmaller
 utc-to-tai-refuses rows d h = let p = parts-fit d h in placed-any d _ (tai-fraction-refuses rows (partsOf d .larger) (partsOf d .smaller) (p .0) (p .1))
 
 -- ---- TAI to UTC
-abbrev pub Fits : Float → Type 0
-Fits x = T (fits binary64 x)
-
 refined-refuses : (rows : List Row) (big small guess : Float) → Fits big → Fits guess → Holds Fits SixOrOne (refined rows big small guess)
 unfolding refined moved
 refined-refuses rows big small guess f g = holds-onward _ (utc-to-tai-refuses rows (julian big guess) (f, g)) (λ t _. answers (add-fits binary64 _ _))

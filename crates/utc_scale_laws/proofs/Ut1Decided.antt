@@ -24,12 +24,12 @@ use Rattle.utc_scales.specs.LargerPart.{partsOf}
 use Rattle.utc_scales.specs.Dates.{offsetOfDate}
 use Rattle.utc_scales.specs.UtcTai.{utcToTai}
 use Rattle.utc_scales.specs.UtcUt1.{utcToUt1}
-use Rattle.utc_scale_laws.specs.Claims.{Holds, Any, SixOrOne, FiniteParts, Decided, DecidedUt1, earlyDay, earlyUtc}
+use Rattle.utc_scale_laws.specs.Claims.{Holds, Any, SixOrOne, FiniteParts, Decided, DecidedUt1, earlyDay, earlyUtc, Fits}
 use Rattle.utc_scales.proofs.Midnights.{offset-early}
 use Rattle.utc_scales.proofs.Steps.{offset-of-day}
 use Rattle.utc_scale_laws.proofs.Outcomes.{holds-answer, holds-refusal, holds-at}
 use Rattle.utc_scale_laws.proofs.Days.{Kind, outside, before, valid, kind, offset-answered}
-use Rattle.utc_scale_laws.proofs.Refusals.{Fits, utc-to-tai-decided}
+use Rattle.utc_scale_laws.proofs.Refusals.{utc-to-tai-decided}
 use Rattle.utc_scale_laws.proofs.NotFinite.{utc-to-ut1-no-offset}
 use Rattle.utc_scale_laws.proofs.EitherOrder.{accepted-either}
 use Rattle.utc_scale_laws.proofs.Decided.{by-six, by-one, by-date}

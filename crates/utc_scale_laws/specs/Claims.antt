@@ -5,13 +5,15 @@ use mathlib.Core.Bool.{Bool, true, false, _||_}
 use mathlib.Core.Logic.{_⊎_}
 use lib.IntN.{negsuc}
 use lib.Signed.{ltZ}
-use lib.Ieee.{Float}
+use lib.Ieee.{Float, binary64, fits}
 use lib.Ieee.Scale.{finite}
+use lib.Dec.{T}
 use Rattle.refusals.specs.Outcome.{Outcome, answer, refusal}
 use Rattle.calendar.specs.Gregorian.{gregorianDate}
 use Rattle.day_number.specs.DayNumber.{dayOf}
 use Rattle.day_number.specs.ExactDay.{OnGrid}
 use Rattle.julian.specs.declared.JulianDate.{JulianDate}
+use Rattle.julian.specs.Finite.{bothFinite}
 use Rattle.utc_scales.specs.LargerPart.{firstIsLarger, partsOf}
 
 -- A holds of the answer, or R of the refusal's number
@@ -62,3 +64,11 @@ partAt false d = d .jd2
 -- u has the larger part of d, the same float in the same place
 abbrev pub KeepsLarger : JulianDate → JulianDate → Type 0
 KeepsLarger d u = partAt (firstIsLarger d) u ≡ partAt (firstIsLarger d) d
+
+-- x is an f64
+abbrev pub Fits : Float → Type 0
+Fits x = T (fits binary64 x)
+
+-- both parts are finite
+abbrev pub allFinite : JulianDate → Bool
+allFinite d = bothFinite (d .jd1) (d .jd2)

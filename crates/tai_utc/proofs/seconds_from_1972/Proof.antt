@@ -3,8 +3,7 @@ use mathlib.Core.Path.{ap, _∙_}
 use Prim.Native.Nat.{ℕ}
 use native.Mathlib.Omega.{arith}
 use borrow.Author.Needs.{needs}
-use Rattle.tai_utc.specs.Offset.{secondsOf}
-use Rattle.tai_utc.proofs.At.{rowAt}
+use Rattle.tai_utc.specs.Offset.{secondsOf, rowAt}
 use Rattle.tai_utc.proofs.Years.{whole-rows, row-seconds}
 use Rattle.tai_utc.proofs.seconds_from_1972.Statement.{statement}
 use Rattle.tai_utc.proofs.seconds_from_1972.Tie as tie

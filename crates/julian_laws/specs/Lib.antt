@@ -1,0 +1,2 @@
+-- What the theorems on `julian_to_calendar` speak of.
+pub mod CalendarAnswers
