@@ -15,9 +15,13 @@ offsetOutcome (Answer.Refused number) = refusal number
 abbrev pub bothFinite : Float → Float → Bool
 bothFinite a b = finite a && finite b
 
+-- whether both parts are finite
+abbrev pub finiteParts : JulianDate → Bool
+finiteParts d = bothFinite (d .jd1) (d .jd2)
+
 -- 9: a part of the date is not finite
 unfoldable pub finiteJd : JulianDate → Outcome JulianDate
-finiteJd d = cond (bothFinite (d .jd1) (d .jd2)) (answer d) (refusal 9)
+finiteJd d = cond (finiteParts d) (answer d) (refusal 9)
 
 -- 10: the offset is not finite
 unfoldable pub finiteArg : Float → Outcome Float

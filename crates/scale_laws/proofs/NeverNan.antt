@@ -13,8 +13,8 @@ use Rattle.julian.specs.declared.JulianDate.{JulianDate}
 use Rattle.scales.specs.SmallerPart.{firstIsLarger, mapSmallerPart}
 use Rattle.scales.specs.Formulas.{plus, minus, since, daysOf, gpsDays, ttDays, tdb0, jd1977, tcgToTt, ttToTcg, tcbToTdb, tdbToTcb}
 use Rattle.scales.specs.Conversions.{Conversion, gps-tai, tai-gps, tai-tt, tt-tai, tcg-tt, tt-tcg, tcb-tdb, tdb-tcb, tai-tcg, tcg-tai, tai-ut1, ut1-tai, ut1-tt, tt-ut1, tt-tdb, tdb-tt, converted, convertedBy, answerOf}
-use Rattle.scales.specs.Refusals.{finiteParts}
 use Rattle.scale_laws.specs.Ranges.{Held}
+use Rattle.julian.specs.Finite.{finiteParts}
 use native.Mathlib.Omega.{arith}
 use Rattle.scales.proofs.Outcomes.{and-left, and-right, first, first-by}
 use Rattle.scales.proofs.SmallerPart.{mapAs, map-is}
@@ -168,11 +168,9 @@ NumberDate u = Number (u .jd1) × Number (u .jd2)
 
 module _ (d : JulianDate) (g : Held d) (h : finiteParts d ≡ true) where
   one : finite (d .jd1) ≡ true
-  unfolding finiteParts
   one = and-left (finite (d .jd1)) (finite (d .jd2)) h
 
   two : finite (d .jd2) ≡ true
-  unfolding finiteParts
   two = and-right (finite (d .jd1)) (finite (d .jd2)) h
 
   changed-number : (f : Float → Float → Float) → Fine f → NumberDate (mapSmallerPart f d)

@@ -19,7 +19,6 @@ use Rattle.julian.specs.declared.JulianDate.{JulianDate}
 use Rattle.scales.specs.SmallerPart.{firstIsLarger}
 use Rattle.scales.specs.Formulas.{plus, gpsDays}
 use Rattle.scales.specs.Conversions.{gps-tai, offsetOf, answerOf}
-use Rattle.scales.specs.Refusals.{finiteParts}
 use Rattle.scale_laws.specs.Ranges.{Held, Practical, Modified, HalfDay}
 use Rattle.scale_laws.specs.Picoseconds.{boundOf}
 use Rattle.scale_laws.specs.Meaning.{day, Apart, Means, taiOverGps, meaning}
@@ -28,6 +27,7 @@ use Rattle.scales.proofs.Outcomes.{and-left, and-right, converted-is}
 use Rattle.scales.proofs.SmallerPart.{mapAs, map-is}
 use Rattle.scale_laws.proofs.Constants.{gps-about}
 use Rattle.scale_laws.proofs.Meant.{worth-unique, practical, modified}
+use Rattle.julian.specs.Finite.{finiteParts}
 
 -- ---- one instant
 no-offset : HalfDay (offsetOf gps-tai)
@@ -86,7 +86,7 @@ adds-in-order x y k f g hx hy {q} {m} w l =
 -- two stamps whose larger part is the same and stands in the same place, the first not later: nor is its answer
 pub order-kept : (b : Bool) (d d' : JulianDate) → Held d → Held d' → finiteParts d ≡ true → finiteParts d' ≡ true → firstIsLarger d ≡ b → firstIsLarger d' ≡ b → NotLater b d d'
     → (u : JulianDate) × (u' : JulianDate) × (answerOf gps-tai d ≡ answer u) × (answerOf gps-tai d' ≡ answer u') × NotLater b u u'
-unfolding finiteParts answerOf plus
+unfolding answerOf plus
 order-kept b d d' f f' h h' e e' l =
     (mapAs (plus gpsDays) d b, mapAs (plus gpsDays) d' b, is d h b e, is d' h' b e', go b l)
   where

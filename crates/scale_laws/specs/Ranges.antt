@@ -42,7 +42,11 @@ Modified d = (AtMost (power 23) (d .jd1) × AtMost (decimal 131071 0) (d .jd2)) 
 abbrev pub HalfDay : Float → Type 0
 HalfDay s = AtMost (decimal 43200 0) s
 
+-- both parts of a date are finite: the fact that the test `finiteParts` of `julian` finds
+abbrev pub FiniteParts : JulianDate → Type 0
+FiniteParts d = (finite (d .jd1) ≡ true) × (finite (d .jd2) ≡ true)
+
 -- a date, both parts of it finite
 abbrev pub FiniteDate : Outcome JulianDate → Type 0
-FiniteDate (answer d) = (finite (d .jd1) ≡ true) × (finite (d .jd2) ≡ true)
+FiniteDate (answer d) = FiniteParts d
 FiniteDate (refusal n) = ⊥

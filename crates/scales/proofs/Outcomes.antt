@@ -5,11 +5,10 @@ use lib.Ieee.{Float}
 use lib.Ieee.Scale.{finite}
 use Rattle.refusals.specs.Outcome.{Outcome, answer, refusal, onward}
 use Rattle.julian.specs.declared.JulianDate.{JulianDate}
-use Rattle.julian.specs.Finite.{finiteJd, finiteArg}
+use Rattle.julian.specs.Finite.{finiteJd, finiteArg, finiteParts}
 use Rattle.scales.specs.SmallerPart.{mapSmallerPart}
 use Rattle.scales.specs.Formulas.{daysOf}
 use Rattle.scales.specs.Conversions.{changed, converted, finiteOffset, finiteBoth, convertedBy}
-use Rattle.scales.specs.Refusals.{finiteParts}
 
 -- a date moved by so many days
 pub moved : (f : Float → Float → Float → Float) {o o' : Outcome JulianDate} {x x' : Float} → o ≡ o' → x ≡ x' → onward o (changed (f x)) ≡ onward o' (changed (f x'))
@@ -26,7 +25,7 @@ both s d {o} {o'} e h = ap (λ (z : Outcome JulianDate). onward z (λ (e : Julia
 
 -- ---- a conversion by what it tests
 pub first : (f : Float → Float → Float) (d : JulianDate) → converted f d ≡ cond (finiteParts d) (answer (mapSmallerPart f d)) (refusal 9)
-unfolding converted finiteJd onward changed finiteParts
+unfolding converted finiteJd onward changed
 first f d = go (finite (d .jd1) && finite (d .jd2))
   where
     go : (b : Bool) → onward (cond b (answer d) (refusal 9)) (changed f) ≡ cond b (answer (mapSmallerPart f d)) (refusal 9)
@@ -34,7 +33,7 @@ first f d = go (finite (d .jd1) && finite (d .jd2))
     go false = refl
 
 pub first-by : (f : Float → Float → Float → Float) (s : Float) (d : JulianDate) → convertedBy f s d ≡ cond (finiteParts d) (cond (finite s) (answer (mapSmallerPart (f (daysOf s)) d)) (refusal 10)) (refusal 9)
-unfolding convertedBy finiteBoth finiteOffset finiteJd finiteArg onward changed finiteParts
+unfolding convertedBy finiteBoth finiteOffset finiteJd finiteArg onward changed
 first-by f s d = go (finite (d .jd1) && finite (d .jd2)) (finite s)
   where
     go : (b c : Bool) → onward (onward (cond b (answer d) (refusal 9)) (λ (e : JulianDate). onward (cond c (answer s) (refusal 10)) (λ (t : Float). answer e))) (changed (f (daysOf s)))
@@ -45,11 +44,9 @@ first-by f s d = go (finite (d .jd1) && finite (d .jd2)) (finite s)
 
 -- of a date with finite parts, and an offset that is finite
 pub converted-is : (f : Float → Float → Float) (d : JulianDate) → finite (d .jd1) ≡ true → finite (d .jd2) ≡ true → converted f d ≡ answer (mapSmallerPart f d)
-unfolding finiteParts
 converted-is f d h k = first f d ∙ rw (h, k)
 
 pub by-is : (f : Float → Float → Float → Float) (s : Float) (d : JulianDate) → finite (d .jd1) ≡ true → finite (d .jd2) ≡ true → finite s ≡ true → convertedBy f s d ≡ answer (mapSmallerPart (f (daysOf s)) d)
-unfolding finiteParts
 by-is f s d h k l = first-by f s d ∙ rw (h, k, l)
 
 -- both of two tests

@@ -3,14 +3,10 @@ use mathlib.Core.Path.{_≡_}
 use mathlib.Core.Bool.{Bool, true, false, _&&_}
 use Rattle.refusals.specs.Outcome.{Outcome, answer, refusal}
 use Rattle.julian.specs.declared.JulianDate.{JulianDate}
-use Rattle.julian.specs.Finite.{bothFinite}
+use Rattle.julian.specs.Finite.{finiteParts}
 use Rattle.scales.specs.SmallerPart.{mapSmallerPart}
 use Rattle.scales.specs.Formulas.{tcgToTt}
 use Rattle.scales.specs.Conversions.{Conversion, gps-tai, tai-gps, tai-tt, tt-tai, tcg-tt, tt-tcg, tcb-tdb, tdb-tcb, tai-tcg, tcg-tai, tai-ut1, ut1-tai, ut1-tt, tt-ut1, tt-tdb, tdb-tt}
-
--- whether both parts are finite
-unfoldable pub finiteParts : JulianDate → Bool
-finiteParts d = bothFinite (d .jd1) (d .jd2)
 
 -- whether every part that the conversion tests is finite: the date's, and on the way from TCG to TAI those of the TT date in between
 unfoldable pub testedFinite : Conversion → JulianDate → Bool

@@ -4,9 +4,9 @@ use Rattle.julian.specs.declared.JulianDate.{JulianDate}
 use Rattle.julian.specs.Worth.{SmallParts}
 use Rattle.tai_utc.specs.Table.{fixed}
 use Rattle.scales.specs.Conversions.{answerOf}
-use Rattle.scale_laws.specs.Ranges.{Billion, FiniteDate}
+use Rattle.scale_laws.specs.Ranges.{Billion, FiniteDate, FiniteParts}
 use Rattle.scale_laws.proofs.Finiteness.{finite-dates}
-use Rattle.utc_scale_laws.specs.Claims.{Holds, answers, SixOrOne, FiniteParts}
+use Rattle.utc_scale_laws.specs.Claims.{Holds, answers, SixOrOne}
 use Rattle.utc_scale_laws.specs.Twenty.{Twenty, by-formula, utc-tai, tai-utc, utc-ut1, ut1-utc, answerOfAny, givenOffset}
 use Rattle.utc_scale_laws.proofs.FiniteDates.{utc-to-tai-finite, tai-to-utc-finite, utc-to-ut1-finite, ut1-to-utc-finite}
 

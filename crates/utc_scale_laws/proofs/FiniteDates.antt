@@ -26,14 +26,14 @@ use Rattle.tai_utc.specs.Table.{fixed}
 use Rattle.scales.specs.Formulas.{plus, daysOf}
 use Rattle.scales.specs.SmallerPart as S
 use Rattle.scales.specs.Conversions.{answerOf, tai-ut1}
-use Rattle.scale_laws.specs.Ranges.{Held, Billion}
+use Rattle.scale_laws.specs.Ranges.{Held, Billion, FiniteParts}
 use Rattle.refusals.proofs.Onward.{went}
 use Rattle.scales.proofs.Outcomes.{by-is}
 use Rattle.utc_scales.specs.LargerPart.{firstIsLarger, partsAs, partsOf, putAs, putBack, placed, changeSmaller}
 use Rattle.utc_scales.specs.Dates.{offsetAt0h, offsetsOf}
 use Rattle.utc_scales.specs.UtcTai.{taiFromMidnight, taiFraction, utcToTai, moved, refined, rounds, refineUtcFraction, taiToUtc}
 use Rattle.utc_scales.specs.UtcUt1.{utcToUt1, beforeStep, timePastLeap, atMostOne, afterStep, nearStep, Scanned, noStep, step, scanDay, untilStep, scan, adjustDut1, utcFraction, ut1ToUtc}
-use Rattle.utc_scale_laws.specs.Claims.{Holds, answers, SixOrOne, FiniteParts, Fits}
+use Rattle.utc_scale_laws.specs.Claims.{Holds, answers, SixOrOne, Fits}
 use Rattle.utc_scales.proofs.Midnights.{midnight, offset-early, offsets-early}
 use Rattle.utc_scales.proofs.Steps.{tai-no-date, tai-no-offsets, tai-of-day, scan-no-date, scan-no-offset, scan-no-step, scan-step}
 use Rattle.utc_scale_laws.proofs.Outcomes.{holds-answer, holds-refusal, holds-onward, holds-more}

@@ -21,12 +21,12 @@ use Rattle.day_number.proofs.JulianRange.{accepted-finite}
 use Rattle.julian.specs.declared.JulianDate.{JulianDate}
 use Rattle.tai_utc.specs.declared.DayOffsets.{DayOffsets}
 use Rattle.tai_utc.specs.Table.{fixed}
-use Rattle.scale_laws.specs.Ranges.{Held}
+use Rattle.scale_laws.specs.Ranges.{Held, FiniteParts}
 use Rattle.scale_laws.proofs.Shifts.{Small, added, taken-from, mjd-small}
 use Rattle.utc_scales.specs.LargerPart.{partsOf, putAs, putBack, placed, changeSmaller}
 use Rattle.utc_scales.specs.Dates.{offsetsOf}
 use Rattle.utc_scales.specs.UtcTai.{taiFromMidnight, taiFraction, utcToTai}
-use Rattle.utc_scale_laws.specs.Claims.{Holds, answers, SixOrOne, FiniteParts, Fits}
+use Rattle.utc_scale_laws.specs.Claims.{Holds, answers, SixOrOne, Fits}
 use Rattle.utc_scales.proofs.Midnights.{midnight, offsets-early}
 use Rattle.utc_scales.proofs.Steps.{tai-no-date, tai-no-offsets, tai-of-day}
 use Rattle.utc_scale_laws.proofs.Outcomes.{holds-answer, holds-refusal, holds-onward}

@@ -7,7 +7,7 @@ use native.Mathlib.Omega.{arith}
 use lib.Ieee.{Float}
 use Rattle.refusals.specs.Outcome.{Outcome, answer, refusal, onward}
 use Rattle.julian.specs.declared.JulianDate.{JulianDate}
-use Rattle.julian.specs.Finite.{bothFinite, finiteJd, finiteArg}
+use Rattle.julian.specs.Finite.{finiteParts, finiteJd, finiteArg}
 use Rattle.tai_utc.specs.Table.{Row}
 use Rattle.utc_scales.specs.LargerPart.{firstIsLarger, partsAs, partsOf, putBack, placed, changeSmaller}
 use Rattle.utc_scales.specs.UtcTai.{taiFraction, utcToTai, refineUtcFraction, taiToUtc}
@@ -41,7 +41,7 @@ tai-to-utc-keeps rows d u e = changed-keeps (refineUtcFraction rows) d u e
 -- the date that is tested is the date
 tested : (d e : JulianDate) → finiteJd d ≡ answer e → d ≡ e
 unfolding finiteJd
-tested d e h = go (bothFinite (d .jd1) (d .jd2)) h
+tested d e h = go (finiteParts d) h
   where
     go : (b : Bool) → cond b (answer d) (refusal 9) ≡ answer e → d ≡ e
     go true k = cc

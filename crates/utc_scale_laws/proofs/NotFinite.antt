@@ -12,14 +12,13 @@ use Rattle.day_number.proofs.Answer.{refused}
 use Rattle.day_number.proofs.JulianRange.{accepted-finite}
 use Rattle.julian.specs.declared.JulianDate.{JulianDate}
 use Rattle.julian.specs.JulianDate.{julian}
-use Rattle.julian.specs.Finite.{bothFinite, finiteJd, finiteArg}
+use Rattle.julian.specs.Finite.{bothFinite, finiteParts, finiteJd, finiteArg}
 use Rattle.tai_utc.specs.Table.{Row}
 use Rattle.refusals.proofs.Onward.{went, stopped}
 use Rattle.utc_scales.specs.LargerPart.{firstIsLarger, partsAs, partsOf, changeSmaller}
 use Rattle.utc_scales.specs.UtcTai.{utcToTai, refined, rounds, refineUtcFraction, taiToUtc}
 use Rattle.utc_scales.specs.UtcUt1.{utcToUt1, ut1ToUtc}
 use Rattle.utc_scales.proofs.Steps.{tai-no-date}
-use Rattle.utc_scale_laws.specs.Claims.{allFinite}
 
 -- a pair that passes the range test is finite
 not-accepted : (x y : Float) → bothFinite x y ≡ false → accepted x y ≡ false
@@ -40,7 +39,7 @@ turned true false = refl
 turned false true = refl
 turned false false = refl
 
-parts-not : (d : JulianDate) → allFinite d ≡ false → bothFinite (partsOf d .larger) (partsOf d .smaller) ≡ false
+parts-not : (d : JulianDate) → finiteParts d ≡ false → bothFinite (partsOf d .larger) (partsOf d .smaller) ≡ false
 unfolding partsOf
 parts-not d e = go (firstIsLarger d)
   where
@@ -48,11 +47,11 @@ parts-not d e = go (firstIsLarger d)
     go true = e
     go false = turned (finite (d .jd1)) (finite (d .jd2)) ∙ e
 
-pub utc-to-tai-not-finite : (rows : List Row) (d : JulianDate) → allFinite d ≡ false → utcToTai rows d ≡ refusal 6
+pub utc-to-tai-not-finite : (rows : List Row) (d : JulianDate) → finiteParts d ≡ false → utcToTai rows d ≡ refusal 6
 unfolding utcToTai changeSmaller
 utc-to-tai-not-finite rows d e = let p = partsOf d in stopped _ (tai-no-date (p .larger) (p .smaller) 6 (refused (p .larger) (p .smaller) (not-accepted (p .larger) (p .smaller) (parts-not d e))) rows)
 
-pub tai-to-utc-not-finite : (rows : List Row) (d : JulianDate) → allFinite d ≡ false → taiToUtc rows d ≡ refusal 6
+pub tai-to-utc-not-finite : (rows : List Row) (d : JulianDate) → finiteParts d ≡ false → taiToUtc rows d ≡ refusal 6
 unfolding taiToUtc changeSmaller refineUtcFraction rounds refined
 tai-to-utc-not-finite rows d e = let p = partsOf d in stopped _ (stopped _ (stopped _ (utc-to-tai-not-finite rows (julian (p .larger) (p .smaller)) (parts-not d e))))
 
@@ -70,10 +69,10 @@ module _ (rows : List Row) (d : JulianDate) (dut1 : Float) where
   unfolding ut1ToUtc
   ut1-to-utc-no-offset e = stopped _ (offset-finite dut1 false e)
 
-  pub utc-to-ut1-not-finite : finite dut1 ≡ true → allFinite d ≡ false → utcToUt1 rows d dut1 ≡ refusal 6
+  pub utc-to-ut1-not-finite : finite dut1 ≡ true → finiteParts d ≡ false → utcToUt1 rows d dut1 ≡ refusal 6
   unfolding utcToUt1
   utc-to-ut1-not-finite e h = went _ (offset-finite dut1 true e) ∙ stopped _ (utc-to-tai-not-finite rows d h)
 
-  pub ut1-to-utc-not-finite : finite dut1 ≡ true → allFinite d ≡ false → ut1ToUtc rows d dut1 ≡ refusal 9
+  pub ut1-to-utc-not-finite : finite dut1 ≡ true → finiteParts d ≡ false → ut1ToUtc rows d dut1 ≡ refusal 9
   unfolding ut1ToUtc finiteJd
   ut1-to-utc-not-finite e h = went _ (offset-finite dut1 true e) ∙ stopped _ (ap (λ (b : Bool). cond b (answer d) (refusal 9)) h)

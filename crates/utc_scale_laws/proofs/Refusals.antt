@@ -15,11 +15,10 @@ use Rattle.floats.specs.Whole.{abs, half}
 use Rattle.day_number.specs.DayNumber.{accepted, dayOf}
 use Rattle.julian.specs.declared.JulianDate.{JulianDate}
 use Rattle.julian.specs.JulianDate.{julian}
-use Rattle.julian.specs.Finite.{bothFinite, finiteJd, finiteArg}
+use Rattle.julian.specs.Finite.{finiteParts, finiteJd, finiteArg}
 use Rattle.tai_utc.specs.Table.{Row}
 use Rattle.scales.specs.Formulas.{plus}
 use Rattle.scales.specs.Conversions.{answerOf, tai-ut1}
-use Rattle.scales.specs.Refusals.{finiteParts}
 use Rattle.scale_laws.specs.Ranges.{Held}
 use Rattle.refusals.proofs.Onward.{went, stopped}
 use Rattle.scales.proofs.Outcomes.{first-by}
@@ -153,7 +152,7 @@ dut1-refuses x = go (finite x)
 
 date-refuses : (d : JulianDate) → Held d → Holds Held TenNineSixOrOne (finiteJd d)
 unfolding finiteJd
-date-refuses d h = go (bothFinite (d .jd1) (d .jd2))
+date-refuses d h = go (finiteParts d)
   where
     go : (b : Bool) → Holds Held TenNineSixOrOne (cond b (answer d) (refusal 9))
     go true = answers h

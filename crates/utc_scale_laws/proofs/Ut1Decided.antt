@@ -16,7 +16,7 @@ use Rattle.julian.specs.Finite.{finiteArg}
 use Rattle.tai_utc.specs.Table.{fixed}
 use Rattle.scales.specs.Formulas.{plus}
 use Rattle.scales.specs.Conversions.{answerOf, tai-ut1}
-use Rattle.scale_laws.specs.Ranges.{Held}
+use Rattle.scale_laws.specs.Ranges.{Held, FiniteParts}
 use Rattle.refusals.proofs.Onward.{went, stopped}
 use Rattle.scales.proofs.Outcomes.{by-is}
 use Rattle.scale_laws.proofs.Shifts.{taken}
@@ -24,7 +24,7 @@ use Rattle.utc_scales.specs.LargerPart.{partsOf}
 use Rattle.utc_scales.specs.Dates.{offsetOfDate}
 use Rattle.utc_scales.specs.UtcTai.{utcToTai}
 use Rattle.utc_scales.specs.UtcUt1.{utcToUt1}
-use Rattle.utc_scale_laws.specs.Claims.{Holds, Any, SixOrOne, FiniteParts, Decided, DecidedUt1, earlyDay, earlyUtc, Fits}
+use Rattle.utc_scale_laws.specs.Claims.{Holds, Any, SixOrOne, Decided, DecidedUt1, earlyDay, earlyUtc, Fits}
 use Rattle.utc_scales.proofs.Midnights.{offset-early}
 use Rattle.utc_scales.proofs.Steps.{offset-of-day}
 use Rattle.utc_scale_laws.proofs.Outcomes.{holds-answer, holds-refusal, holds-at}

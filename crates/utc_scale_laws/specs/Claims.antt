@@ -6,14 +6,12 @@ use mathlib.Core.Logic.{_⊎_}
 use lib.IntN.{negsuc}
 use lib.Signed.{ltZ}
 use lib.Ieee.{Float, binary64, fits}
-use lib.Ieee.Scale.{finite}
 use lib.Dec.{T}
 use Rattle.refusals.specs.Outcome.{Outcome, answer, refusal}
 use Rattle.calendar.specs.Gregorian.{gregorianDate}
 use Rattle.day_number.specs.DayNumber.{dayOf}
 use Rattle.day_number.specs.ExactDay.{OnGrid}
 use Rattle.julian.specs.declared.JulianDate.{JulianDate}
-use Rattle.julian.specs.Finite.{bothFinite}
 use Rattle.utc_scales.specs.LargerPart.{firstIsLarger, partsOf}
 
 -- A holds of the answer, or R of the refusal's number
@@ -53,9 +51,6 @@ earlyUtc d = earlyDay (partsOf d .larger) (partsOf d .smaller) || earlyDay (d .j
 abbrev pub OneDay : JulianDate → Type 0
 OneDay d = (firstIsLarger d ≡ true) ⊎ (OnGrid (d .jd1) × OnGrid (d .jd2))
 
-abbrev pub FiniteParts : JulianDate → Type 0
-FiniteParts d = (finite (d .jd1) ≡ true) × (finite (d .jd2) ≡ true)
-
 -- the part in the place of the larger part of d, where b says whether that is jd1
 abbrev pub partAt : Bool → JulianDate → Float
 partAt true d = d .jd1
@@ -68,7 +63,3 @@ KeepsLarger d u = partAt (firstIsLarger d) u ≡ partAt (firstIsLarger d) d
 -- x is an f64
 abbrev pub Fits : Float → Type 0
 Fits x = T (fits binary64 x)
-
--- both parts are finite
-abbrev pub allFinite : JulianDate → Bool
-allFinite d = bothFinite (d .jd1) (d .jd2)
