@@ -2,19 +2,19 @@
 ghost use Rattle.tai_utc.specs.Table.{fixed};
 ghost use Rattle.tai_utc.specs.Offset.{taiUtcOffset};
 ghost use Rattle.tai_utc.specs.Leap.{leapAtEndOfDay};
-ghost use Rattle.tai_utc.specs.Answers.{offsetOutcome};
+ghost use Rattle.tai_utc.specs.Answers.{secondsOutcome};
 ghost use Rattle.c_answers.specs.Delivery.{inBytes, Delivered};
 ghost use Rattle.c_answers.specs.Fields.{floatBytes};
 use c_answers::fields;
 use c_answers::refused;
-use tai_utc::OffsetAnswer;
+use tai_utc::SecondsAnswer;
 
-fn put_offset(found: OffsetAnswer, out: &mut [u8]) -> i64
-    ensures { λ r. ⌜ Delivered (inBytes floatBytes (offsetOutcome found)) (now (out .entry)) r (now (out .exit)) ⌝ }
+fn put_offset(found: SecondsAnswer, out: &mut [u8]) -> i64
+    ensures { λ r. ⌜ Delivered (inBytes floatBytes (secondsOutcome found)) (now (out .entry)) r (now (out .exit)) ⌝ }
 {
     match found {
-        OffsetAnswer::Seconds(seconds) => fields::put_float(seconds, out),
-        OffsetAnswer::Refused(number) => refused(number),
+        SecondsAnswer::Seconds(seconds) => fields::put_float(seconds, out),
+        SecondsAnswer::Refused(number) => refused(number),
     }
 }
 

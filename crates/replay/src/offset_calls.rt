@@ -1,12 +1,12 @@
 // TAI-UTC: calls 60 and 62.
 use crate::words;
 use crate::words::Answer;
-use tai_utc::OffsetAnswer;
+use tai_utc::SecondsAnswer;
 
-fn found(a: OffsetAnswer) -> Answer {
+fn found(a: SecondsAnswer) -> Answer {
     match a {
-        OffsetAnswer::Seconds(x) => words::float(x),
-        OffsetAnswer::Refused(number) => words::refused(number),
+        SecondsAnswer::Seconds(x) => words::float(x),
+        SecondsAnswer::Refused(number) => words::refused(number),
     }
 }
 

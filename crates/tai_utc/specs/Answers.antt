@@ -2,14 +2,14 @@
 use lib.Ieee.{Float}
 use Rattle.refusals.specs.Outcome.{Outcome, answer, refusal}
 use Rattle.tai_utc.specs.declared.DayOffsets.{DayOffsets}
-use Rattle.tai_utc.specs.declared.OffsetAnswer.{OffsetAnswer}
-use Rattle.tai_utc.specs.declared.OffsetAnswer.the-variants as Offset
+use Rattle.tai_utc.specs.declared.SecondsAnswer.{SecondsAnswer}
+use Rattle.tai_utc.specs.declared.SecondsAnswer.the-variants as Offset
 use Rattle.tai_utc.specs.declared.DayOffsetsAnswer.{DayOffsetsAnswer}
 use Rattle.tai_utc.specs.declared.DayOffsetsAnswer.the-variants as Day
 
-unfoldable pub offsetOutcome : OffsetAnswer → Outcome Float
-offsetOutcome (Offset.Seconds x) = answer x
-offsetOutcome (Offset.Refused number) = refusal number
+unfoldable pub secondsOutcome : SecondsAnswer → Outcome Float
+secondsOutcome (Offset.Seconds x) = answer x
+secondsOutcome (Offset.Refused number) = refusal number
 
 unfoldable pub dayOffsetsOutcome : DayOffsetsAnswer → Outcome DayOffsets
 dayOffsetsOutcome (Day.Offsets o) = answer o

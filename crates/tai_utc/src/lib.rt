@@ -10,7 +10,7 @@ ghost use Rattle.tai_utc.specs.Table.{fixed, starts, reached, monthNumbe
 ghost use Rattle.tai_utc.specs.Offset.{none, secondsOf, startOf, rateOf, offsetBy, offsetAt, taiUtcOffset};
 ghost use Rattle.tai_utc.specs.Leap.{offsetsOfDay, dayOffsets, leapAtEndOfDay};
 ghost use Rattle.tai_utc.specs.Plain.{Plain};
-ghost use Rattle.tai_utc.specs.Answers.{offsetOutcome, dayOffsetsOutcome};
+ghost use Rattle.tai_utc.specs.Answers.{secondsOutcome, dayOffsetsOutcome};
 
 // The months in which the rows begin, numbered from January of year 0.
 const MONTHS: [u64; 42] = [
@@ -110,8 +110,8 @@ const RATES: [f64; 14] = [
     0.0025920,
 ];
 
-// TAI-UTC in seconds, or the number of the refusal.
-pub enum OffsetAnswer {
+// Seconds, of TAI-UTC or of the leap at the end of a day, or the number of the refusal.
+pub enum SecondsAnswer {
     Seconds(f64),
     Refused(u32),
 }
@@ -237,23 +237,23 @@ fn seconds_from_1972(month: u64) -> f64
 }
 
 // TAI-UTC at a fraction of a day. Refusals in order: 7 the fraction, then 1 to 3 the date.
-pub fn get_tai_utc_offset(year: i32, month: i32, day: i32, fraction: f64) -> OffsetAnswer
-    ensures { λ r. ⌜ offsetOutcome r ≡ taiUtcOffset fixed year month day fraction ⌝ }
+pub fn get_tai_utc_offset(year: i32, month: i32, day: i32, fraction: f64) -> SecondsAnswer
+    ensures { λ r. ⌜ secondsOutcome r ≡ taiUtcOffset fixed year month day fraction ⌝ }
 {
     if !(0.0 <= fraction) {
-        return OffsetAnswer::Refused(refusals::FRACTION_NOT_IN_DAY);
+        return SecondsAnswer::Refused(refusals::FRACTION_NOT_IN_DAY);
     }
     if !(fraction <= 1.0) {
-        return OffsetAnswer::Refused(refusals::FRACTION_NOT_IN_DAY);
+        return SecondsAnswer::Refused(refusals::FRACTION_NOT_IN_DAY);
     }
     if plain_day(year, month, day) {
-        return OffsetAnswer::Seconds(seconds_from_1972(month_number(year, month as u32)));
+        return SecondsAnswer::Seconds(seconds_from_1972(month_number(year, month as u32)));
     }
     match calendar::modified_julian_day(year, month, day) {
-        calendar::MjdAnswer::Refused(number) => OffsetAnswer::Refused(number),
+        calendar::MjdAnswer::Refused(number) => SecondsAnswer::Refused(number),
         calendar::MjdAnswer::Mjd(n) => {
             let rows = table_rows_reached(month_number(year, month as u32));
-            OffsetAnswer::Seconds(offset_by(rows, n as f64, fraction))
+            SecondsAnswer::Seconds(offset_by(rows, n as f64, fraction))
         }
     }
 }
@@ -313,13 +313,13 @@ pub fn day_offsets(year: i32, month: i32, day: i32) -> DayOffsetsAnswer
 }
 
 // How much longer the day is than 86,400 s and its drift: a leap second, or a step before 1972. Refusals as for its offsets.
-pub fn leap_at_end_of_day(year: i32, month: i32, day: i32) -> OffsetAnswer
-    ensures { λ r. ⌜ offsetOutcome r ≡ leapAtEndOfDay fixed year month day ⌝ }
+pub fn leap_at_end_of_day(year: i32, month: i32, day: i32) -> SecondsAnswer
+    ensures { λ r. ⌜ secondsOutcome r ≡ leapAtEndOfDay fixed year month day ⌝ }
 {
     match day_offsets(year, month, day) {
-        DayOffsetsAnswer::Refused(number) => OffsetAnswer::Refused(number),
+        DayOffsetsAnswer::Refused(number) => SecondsAnswer::Refused(number),
         DayOffsetsAnswer::Offsets(o) => {
-            OffsetAnswer::Seconds(o.at_24h - (2.0 * o.at_12h - o.at_0h))
+            SecondsAnswer::Seconds(o.at_24h - (2.0 * o.at_12h - o.at_0h))
         }
     }
 }

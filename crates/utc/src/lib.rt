@@ -16,7 +16,7 @@ use julian::JulianAnswer;
 use julian::JulianDate;
 use scales::UTC;
 use scales::UtcAnswer;
-use tai_utc::OffsetAnswer;
+use tai_utc::SecondsAnswer;
 use time_of_day::TimeOfDay;
 use time_of_day::TimeShown;
 use utc_text::TextAnswer;
@@ -94,8 +94,8 @@ pub fn utc_from_calendar(
             month as i32,
             day as i32,
         ) {
-            OffsetAnswer::Refused(number) => UtcAnswer::Refused(number),
-            OffsetAnswer::Seconds(leap) => at_time(
+            SecondsAnswer::Refused(number) => UtcAnswer::Refused(number),
+            SecondsAnswer::Seconds(leap) => at_time(
                 midnight,
                 julian::day_fraction(hour, minute, second, leap),
             ),
@@ -135,8 +135,8 @@ fn put_day(date: CalendarDate, fraction: f64, out: &mut [u8]) -> TextAnswer
     ensures { λ r. ⌜ TextCall (dayText fixed date fraction) (now (out .entry)) r (now (out .exit)) ⌝ }
 {
     match tai_utc::leap_at_end_of_day(date.year, date.month as i32, date.day as i32) {
-        OffsetAnswer::Refused(number) => TextAnswer::Refused(number),
-        OffsetAnswer::Seconds(leap) => put_shown(
+        SecondsAnswer::Refused(number) => TextAnswer::Refused(number),
+        SecondsAnswer::Seconds(leap) => put_shown(
             date,
             time_of_day::time_shown(fraction, leap),
             out,

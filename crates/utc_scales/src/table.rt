@@ -5,12 +5,12 @@ ghost use lib.IntN.{pos, natAbs, _-ℤ_};
 ghost use lib.Ieee.{binary64, ofInt};
 ghost use Rattle.calendar.specs.Gregorian.{gregorianDate};
 ghost use Rattle.tai_utc.specs.Table.{fixed};
-ghost use Rattle.tai_utc.specs.Answers.{offsetOutcome, dayOffsetsOutcome};
+ghost use Rattle.tai_utc.specs.Answers.{secondsOutcome, dayOffsetsOutcome};
 ghost use Rattle.utc_scales.specs.Dates.{offsetAt0h, offsetsOf};
 ghost use Rattle.utc_scales.specs.Known.{Right};
 use tai_utc::DayOffsets;
 use tai_utc::DayOffsetsAnswer;
-use tai_utc::OffsetAnswer;
+use tai_utc::SecondsAnswer;
 
 // The offsets of a day, looked up.
 pub(crate) struct KnownDay {
@@ -25,8 +25,8 @@ pub(crate) enum Known {
 }
 
 // At 0h.
-pub(crate) fn offset_at_0h(day: i64) -> OffsetAnswer
-    ensures { λ r. ⌜ offsetOutcome r ≡ offsetAt0h fixed (gregorianDate day) ⌝ }
+pub(crate) fn offset_at_0h(day: i64) -> SecondsAnswer
+    ensures { λ r. ⌜ secondsOutcome r ≡ offsetAt0h fixed (gregorianDate day) ⌝ }
 {
     let t = calendar::gregorian_date(day);
     tai_utc::get_tai_utc_offset(t.year, t.month as i32, t.day as i32, 0.0)

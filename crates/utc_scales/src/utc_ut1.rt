@@ -41,24 +41,24 @@ enum DayScan {
 }
 
 // TAI-UTC at 0h of the day of a Julian date.
-fn offset_of_date(jd1: f64, jd2: f64) -> tai_utc::OffsetAnswer
-    ensures { λ r. ⌜ T.offsetOutcome r ≡ offsetOfDate fixed jd1 jd2 ⌝ }
+fn offset_of_date(jd1: f64, jd2: f64) -> tai_utc::SecondsAnswer
+    ensures { λ r. ⌜ T.secondsOutcome r ≡ offsetOfDate fixed jd1 jd2 ⌝ }
 {
     match day_number::day_number_and_fraction(jd1, jd2) {
-        DayAnswer::Refused(number) => tai_utc::OffsetAnswer::Refused(number),
+        DayAnswer::Refused(number) => tai_utc::SecondsAnswer::Refused(number),
         DayAnswer::Day(d) => offset_at_0h(d.day),
     }
 }
 
 // The same of jd1 and jd2 in their order. Where jd1 is the larger part, the day has been looked up for TAI.
-fn offset_with(p: Parts, k: KnownPart) -> tai_utc::OffsetAnswer
+fn offset_with(p: Parts, k: KnownPart) -> tai_utc::SecondsAnswer
     requires { ⌜ SameDay (p .larger) (p .smaller) k ⌝ }
-    ensures { λ r. ⌜ T.offsetOutcome r ≡ offsetOfParts fixed p ⌝ }
+    ensures { λ r. ⌜ T.secondsOutcome r ≡ offsetOfParts fixed p ⌝ }
 {
     if p.first {
         let day = k.known;
         let o = day.offsets;
-        tai_utc::OffsetAnswer::Seconds(o.at_0h)
+        tai_utc::SecondsAnswer::Seconds(o.at_0h)
     } else {
         offset_of_date(p.smaller, p.larger)
     }
@@ -78,8 +78,8 @@ pub fn utc_to_ut1_with_dut1(utc: UTC, dut1: f64) -> Ut1Answer
         PartAnswer::Part(k) => {
             let tai = put_back(p, k.part);
             match offset_with(p, k) {
-                tai_utc::OffsetAnswer::Refused(number) => Ut1Answer::Refused(number),
-                tai_utc::OffsetAnswer::Seconds(x) => {
+                tai_utc::SecondsAnswer::Refused(number) => Ut1Answer::Refused(number),
+                tai_utc::SecondsAnswer::Seconds(x) => {
                     scales::ut1_tai::tai_to_ut1_with_offset(TAI(tai), dut1 - x)
                 }
             }
@@ -136,8 +136,8 @@ fn scan_day(big: f64, small: f64, dut1: f64, i: f64, before: f64) -> DayScan
     match day_number::day_number_and_fraction(big, small + i) {
         DayAnswer::Refused(number) => DayScan::Refused(number),
         DayAnswer::Day(d) => match offset_at_0h(d.day) {
-            tai_utc::OffsetAnswer::Refused(number) => DayScan::Refused(number),
-            tai_utc::OffsetAnswer::Seconds(x) => {
+            tai_utc::SecondsAnswer::Refused(number) => DayScan::Refused(number),
+            tai_utc::SecondsAnswer::Seconds(x) => {
                 let delta = x - before;
                 if floats::fabs(delta) < 0.5 {
                     DayScan::NoStep(x)
@@ -177,8 +177,8 @@ fn adjust_dut1_for_leap_second(big: f64, small: f64, dut1: f64) -> julian::Offse
     ensures { λ r. ⌜ J.offsetOutcome r ≡ U.adjustDut1 fixed big small dut1 ⌝ }
 {
     match offset_of_date(big, small + -1.0) {
-        tai_utc::OffsetAnswer::Refused(number) => julian::OffsetAnswer::Refused(number),
-        tai_utc::OffsetAnswer::Seconds(x) => scan(big, small, dut1, x),
+        tai_utc::SecondsAnswer::Refused(number) => julian::OffsetAnswer::Refused(number),
+        tai_utc::SecondsAnswer::Seconds(x) => scan(big, small, dut1, x),
     }
 }
 

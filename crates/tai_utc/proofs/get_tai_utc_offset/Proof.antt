@@ -12,7 +12,7 @@ use Rattle.calendar.proofs.Mjd.{mjd-valid}
 use Rattle.tai_utc.specs.Table.{fixed, starts, reached, monthNumber}
 use Rattle.tai_utc.specs.Offset.{offsetAt}
 use Rattle.tai_utc.specs.Plain.{Plain}
-use Rattle.tai_utc.specs.Answers.{offsetOutcome}
+use Rattle.tai_utc.specs.Answers.{secondsOutcome}
 use Rattle.tai_utc.proofs.Month.{read-month}
 use Rattle.tai_utc.proofs.Mjd.{mjd-small, read, float-fits, mjd-is, no-mjd}
 use Rattle.tai_utc.proofs.At.{at-month}
@@ -52,11 +52,11 @@ module _ (c : tie.After-known-told2) where
   small = mjd-small _ _ _ _ (c .before .before .before .before .before .before .before .before .fits .year) mjd
 
 returns : tie.Need-returns
-unfolding ofBits offsetOutcome
+unfolding ofBits secondsOutcome
 returns c = sym (fraction-refused fixed _ _ _ _ (too-low _ (c .if1 .taken)))
 
 returns-2 : tie.Need-returns-2
-unfolding ofBits offsetOutcome
+unfolding ofBits secondsOutcome
 returns-2 c = sym (fraction-refused fixed _ _ _ _ (too-high _ (c .before .if1 .left) (c .if2 .taken)))
 
 plain-day-requires : tie.Need-plain-day-requires
@@ -75,7 +75,7 @@ seconds-from-1972-requires : tie.Need-seconds-from-1972-requires
 seconds-from-1972-requires c κs = omega (arith, plain-month c, is-plain (c .before) .from-1972)
 
 returns-3 : tie.Need-returns-3
-unfolding ofBits offsetOutcome
+unfolding ofBits secondsOutcome
 returns-3 c =
     let n = c .before in
     let e = n .before .before .before in
@@ -110,7 +110,7 @@ offset-by-requires : tie.Need-offset-by-requires
 offset-by-requires c κs = search needs
 
 returns-4 : tie.Need-returns-4
-unfolding ofBits offsetOutcome
+unfolding ofBits secondsOutcome
 returns-4 c =
     let v = c .before .before .before in
     let s = v .before .before .before .before .before in
@@ -119,7 +119,7 @@ returns-4 c =
     (no-mjd _ _ _ (s .fits .year) (s .fits .month) (s .fits .day) (v .modified-julian-day .result) (v .modified-julian-day .ensures) _ (c .before .number .given .1)))
 
 returns-5 : tie.Need-returns-5
-unfolding ofBits offsetOutcome
+unfolding ofBits secondsOutcome
 returns-5 c =
     let r = c .before .before in
     let k = r .before .before in

@@ -6,7 +6,7 @@ use Rattle.refusals.specs.Outcome.{Outcome, onward, answer}
 use Rattle.tai_utc.specs.declared.DayOffsets.{DayOffsets}
 use Rattle.tai_utc.specs.Table.{fixed}
 use Rattle.tai_utc.specs.Leap.{dayOffsets, leapOf, leapAtEndOfDay}
-use Rattle.tai_utc.specs.Answers.{offsetOutcome, dayOffsetsOutcome}
+use Rattle.tai_utc.specs.Answers.{secondsOutcome, dayOffsetsOutcome}
 use borrow.Author.Needs.{needs}
 use Rattle.tai_utc.proofs.leap_at_end_of_day.Statement.{statement}
 use Rattle.tai_utc.proofs.leap_at_end_of_day.Tie as tie
@@ -26,13 +26,13 @@ enum-known-o : tie.Need-enum-known-o
 enum-known-o c = search needs
 
 returns : tie.Need-returns
-unfolding offsetOutcome dayOffsetsOutcome leapAtEndOfDay onward
+unfolding secondsOutcome dayOffsetsOutcome leapAtEndOfDay onward
 returns c =
     let v = c .before .before .before in
     ap (λ (o : Outcome DayOffsets). onward o (λ p. answer (leapOf p))) (ap dayOffsetsOutcome (sym (c .before .number .given .1)) ∙ called v)
 
 returns-2 : tie.Need-returns-2
-unfolding offsetOutcome dayOffsetsOutcome leapAtEndOfDay leapOf onward ofBits
+unfolding secondsOutcome dayOffsetsOutcome leapAtEndOfDay leapOf onward ofBits
 returns-2 c =
     let k = c .before .before .before .before in
     ap (λ (o : Outcome DayOffsets). onward o (λ p. answer (leapOf p))) (ap dayOffsetsOutcome (sym (k .o .given .1)) ∙ called (k .before .before))

@@ -5,7 +5,7 @@ use mir.Val.{SFits}
 use Rattle.floats.specs.Whole.{away}
 use Rattle.tai_utc.specs.Table.{fixed}
 use Rattle.tai_utc.specs.Leap.{leapAtEndOfDay}
-use Rattle.tai_utc.specs.Answers.{offsetOutcome}
+use Rattle.tai_utc.specs.Answers.{secondsOutcome}
 use Rattle.utc.specs.IsoText.{shownText}
 use Rattle.utc.proofs.Dates.{read-fields}
 use Rattle.utc.proofs.TextCalls.{call-refused, call-as, leap-refused, leap-given}
@@ -35,18 +35,18 @@ put-shown-requires : tie.Need-put-shown-requires
 put-shown-requires c κs = search needs
 
 returns : tie.Need-returns
-unfolding offsetOutcome
+unfolding secondsOutcome
 returns c =
     let v = c .before .before .before in
     let s = v .before .before .before .before .before in
     let f : SFits w32 (s .args .date .year) = record { sfits = v .before .struct-told .given .0 .1 } in
-    call-refused _ _ _ (leap-refused away fixed (s .args .date) (s .args .fraction) _ (sym (read-fields (leapAtEndOfDay fixed) (s .args .date) f (s .pre .0) (s .pre .1)) ∙ sym (v .leap-at-end-of-day .ensures) ∙ ap offsetOutcome (c .before .number .given .1)))
+    call-refused _ _ _ (leap-refused away fixed (s .args .date) (s .args .fraction) _ (sym (read-fields (leapAtEndOfDay fixed) (s .args .date) f (s .pre .0) (s .pre .1)) ∙ sym (v .leap-at-end-of-day .ensures) ∙ ap secondsOutcome (c .before .number .given .1)))
 
 same-length : tie.Need-same-length
 same-length c = search needs
 
 returns-2 : tie.Need-returns-2
-unfolding offsetOutcome
+unfolding secondsOutcome
 returns-2 c =
     let p = c .before .before in
     let t = p .before .before in
@@ -55,7 +55,7 @@ returns-2 c =
     let s = v .before .before .before .before .before in
     let f : SFits w32 (s .args .date .year) = record { sfits = v .before .struct-told .given .0 .1 } in
     call-as _ _ _ _ _
-    (leap-given away fixed (s .args .date) (s .args .fraction) _ (sym (read-fields (leapAtEndOfDay fixed) (s .args .date) f (s .pre .0) (s .pre .1)) ∙ sym (v .leap-at-end-of-day .ensures) ∙ ap offsetOutcome (k .leap .given .1))
+    (leap-given away fixed (s .args .date) (s .args .fraction) _ (sym (read-fields (leapAtEndOfDay fixed) (s .args .date) f (s .pre .0) (s .pre .1)) ∙ sym (v .leap-at-end-of-day .ensures) ∙ ap secondsOutcome (k .leap .given .1))
     ∙ ap (shownText (s .args .date)) (sym (t .time-shown .ensures)))
     (p .put-shown .ensures)
 

@@ -11,7 +11,7 @@ use Rattle.julian.specs.JulianDate.{julianOutcome}
 use Rattle.julian.specs.Calendar.{fromCalendar}
 use Rattle.tai_utc.specs.Table.{fixed}
 use Rattle.tai_utc.specs.Leap.{leapAtEndOfDay}
-use Rattle.tai_utc.specs.Answers.{offsetOutcome}
+use Rattle.tai_utc.specs.Answers.{secondsOutcome}
 use Rattle.scales.specs.Scales.{utcOutcome}
 use Rattle.utc.specs.FromCalendar.{utcFromCalendar}
 use borrow.Author.Needs.{needs}
@@ -28,7 +28,7 @@ midnight-given k =
 
 -- the call for the day's leap
 leap-called : (l : tie.After-leap-at-end-of-day)
-    → leapAtEndOfDay fixed (l .before .before .before .before .before .args .year) (pos (l .before .before .before .before .before .args .month)) (pos (l .before .before .before .before .before .args .day)) ≡ offsetOutcome (l .leap-at-end-of-day .result)
+    → leapAtEndOfDay fixed (l .before .before .before .before .before .args .year) (pos (l .before .before .before .before .before .args .month)) (pos (l .before .before .before .before .before .args .day)) ≡ secondsOutcome (l .leap-at-end-of-day .result)
 leap-called l =
     let s = l .before .before .before .before .before in
     sym (l .leap-at-end-of-day .ensures ∙ (λ i. leapAtEndOfDay fixed (toZ-ofZ (s .fits .year) i) (toZ-pos w32 {n = s .args .month} (omega (arith, s .fits .month .fits)) i) (toZ-pos w32 {n = s .args .day} (omega (arith, s .fits .day .fits)) i)))
@@ -73,17 +73,17 @@ returns c =
     rw e
 
 returns-2 : tie.Need-returns-2
-unfolding utcOutcome utcFromCalendar onward offsetOutcome
+unfolding utcOutcome utcFromCalendar onward secondsOutcome
 returns-2 c =
     let l = c .before .before .before in
-    rw (midnight-given (l .before .before), leap-called l ∙ ap offsetOutcome (c .before .number2 .given .1))
+    rw (midnight-given (l .before .before), leap-called l ∙ ap secondsOutcome (c .before .number2 .given .1))
 
 returns-3 : tie.Need-returns-3
-unfolding utcFromCalendar onward utcOutcome offsetOutcome
+unfolding utcFromCalendar onward utcOutcome secondsOutcome
 returns-3 c =
     let k = c .before .before .before in
     let l = k .before .before in
-    rw (midnight-given (l .before .before), leap-called l ∙ ap offsetOutcome (k .leap .given .1), ← c .before .day-fraction .ensures) (c .at-time .ensures)
+    rw (midnight-given (l .before .before), leap-called l ∙ ap secondsOutcome (k .leap .given .1), ← c .before .day-fraction .ensures) (c .at-time .ensures)
 
 pub utc-from-calendar-spec : {M : Type 1} → statement M
 utc-from-calendar-spec =

@@ -1,6 +1,6 @@
 -- `capi::offset_calls::put_offset` meets its contract. Assumes nothing.
 use mathlib.Core.Path.{ap}
-use Rattle.tai_utc.specs.Answers.{offsetOutcome}
+use Rattle.tai_utc.specs.Answers.{secondsOutcome}
 use Rattle.c_answers.specs.Fields.{floatBytes}
 use Rattle.c_answers.proofs.Deliveries.{answered, refused-on}
 use borrow.Author.Needs.{needs}
@@ -23,14 +23,14 @@ same-length : tie.Need-same-length
 same-length c = search needs
 
 returns : tie.Need-returns
-unfolding offsetOutcome
+unfolding secondsOutcome
 returns c =
     let p = c .before .before in
-    answered floatBytes (p .put-float .ok) _ (ap offsetOutcome (p .before .before .before .found .given .1)) (p .put-float .ensures)
+    answered floatBytes (p .put-float .ok) _ (ap secondsOutcome (p .before .before .before .found .given .1)) (p .put-float .ensures)
 
 returns-2 : tie.Need-returns-2
-unfolding offsetOutcome
-returns-2 c = refused-on floatBytes (c .refused .ok) _ (ap offsetOutcome (c .before .before .found2 .given .1)) (c .refused .ensures)
+unfolding secondsOutcome
+returns-2 c = refused-on floatBytes (c .refused .ok) _ (ap secondsOutcome (c .before .before .found2 .given .1)) (c .refused .ensures)
 
 pub put-offset-spec : {M : Type 1} → statement M
 put-offset-spec =

@@ -22,12 +22,12 @@ scan-requires : tie.Need-scan-requires
 scan-requires c κs = search needs
 
 returns : tie.Need-returns
-unfolding J.offsetOutcome T.offsetOutcome adjustDut1 ofBits neg ofInt round
-returns c = sym (stopped _ (sym (c .before .before .before .offset-of-date .ensures) ∙ ap T.offsetOutcome (c .before .number .given .1)))
+unfolding J.offsetOutcome T.secondsOutcome adjustDut1 ofBits neg ofInt round
+returns c = sym (stopped _ (sym (c .before .before .before .offset-of-date .ensures) ∙ ap T.secondsOutcome (c .before .number .given .1)))
 
 returns-2 : tie.Need-returns-2
-unfolding J.offsetOutcome T.offsetOutcome adjustDut1 ofBits neg ofInt round
-returns-2 c = c .scan .ensures ∙ sym (went _ (sym (c .before .before .before .before .offset-of-date .ensures) ∙ ap T.offsetOutcome (c .before .before .x .given .1)))
+unfolding J.offsetOutcome T.secondsOutcome adjustDut1 ofBits neg ofInt round
+returns-2 c = c .scan .ensures ∙ sym (went _ (sym (c .before .before .before .before .offset-of-date .ensures) ∙ ap T.secondsOutcome (c .before .before .x .given .1)))
 
 pub adjust-dut1-for-leap-second-spec : {M : Type 1} → statement M
 adjust-dut1-for-leap-second-spec =

@@ -5,7 +5,7 @@ use Rattle.floats.proofs.Laws.{yes}
 use Rattle.calendar.specs.Gregorian.{gregorianDate}
 use Rattle.day_number.specs.Answer.{dayOutcome}
 use Rattle.day_number.proofs.Ranges.{day-range, day-read}
-use Rattle.tai_utc.specs.Answers.{offsetOutcome}
+use Rattle.tai_utc.specs.Answers.{secondsOutcome}
 use Rattle.tai_utc.specs.Table.{fixed}
 use Rattle.utc_scales.specs.Dates.{offsetAt0h}
 use Rattle.utc_scales.proofs.Steps.{offset-no-date, offset-of-day}
@@ -26,11 +26,11 @@ offset-at-0h-requires : tie.Need-offset-at-0h-requires
 offset-at-0h-requires c κs = search needs
 
 returns : tie.Need-returns
-unfolding offsetOutcome dayOutcome
+unfolding secondsOutcome dayOutcome
 returns c = sym (offset-no-date _ _ _ (sym (c .before .before .before .day-number-and-fraction .ensures) ∙ ap dayOutcome (c .before .number .given .1)) fixed)
 
 returns-2 : tie.Need-returns-2
-unfolding offsetOutcome dayOutcome
+unfolding secondsOutcome dayOutcome
 returns-2 c =
     let d = c .before .before .before in
     let n = d .before .before in

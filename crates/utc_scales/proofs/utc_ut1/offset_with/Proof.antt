@@ -1,7 +1,7 @@
 -- `utc_scales::utc_ut1::offset_with` meets its contract. Assumes nothing.
 use mathlib.Core.Bool.{true, false}
 use mathlib.Core.Path.{sym, _∙_}
-use Rattle.tai_utc.specs.Answers.{offsetOutcome}
+use Rattle.tai_utc.specs.Answers.{secondsOutcome}
 use Rattle.tai_utc.specs.Table.{fixed}
 use Rattle.utc_scales.specs.Known.{SameDay}
 use Rattle.utc_scales.proofs.Steps.{parts-offset}
@@ -13,7 +13,7 @@ offset-of-date-requires : tie.Need-offset-of-date-requires
 offset-of-date-requires c κs = search needs
 
 returns : tie.Need-returns
-unfolding offsetOutcome SameDay
+unfolding secondsOutcome SameDay
 returns c = sym (c .before .before .before .pre) ∙ parts-offset fixed _ true (c .before .before .if1 .taken)
 
 returns-2 : tie.Need-returns-2

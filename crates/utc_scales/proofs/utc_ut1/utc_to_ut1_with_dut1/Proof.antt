@@ -24,7 +24,7 @@ enum-known-number : tie.Need-enum-known-number
 enum-known-number c = search needs
 
 returns : tie.Need-returns
-unfolding ut1Outcome J.offsetOutcome T.offsetOutcome partOutcome placed utcToTai utcToUt1
+unfolding ut1Outcome J.offsetOutcome T.secondsOutcome partOutcome placed utcToTai utcToUt1
 returns c = sym (stopped _ (sym (c .before .before .before .finite-arg .ensures) ∙ ap J.offsetOutcome (c .before .number .given .1)))
 
 enum-told : tie.Need-enum-told
@@ -63,7 +63,7 @@ tai-to-ut1-with-offset-requires : tie.Need-tai-to-ut1-with-offset-requires
 tai-to-ut1-with-offset-requires c κs = search needs
 
 returns-2 : tie.Need-returns-2
-unfolding ut1Outcome J.offsetOutcome T.offsetOutcome partOutcome placed utcToTai utcToUt1
+unfolding ut1Outcome J.offsetOutcome T.secondsOutcome partOutcome placed utcToTai utcToUt1
 returns-2 c =
     let t = c .before .before .before in
     let h = t .before in
@@ -71,23 +71,23 @@ returns-2 c =
     sym (went _ g ∙ stopped _ (sym (changes (taiFraction fixed) _ _ _ (h .split .ensures) (t .tai-fraction .ensures .0)) ∙ stopped _ (ap partOutcome (c .before .number2 .given .1))))
 
 returns-3 : tie.Need-returns-3
-unfolding ut1Outcome J.offsetOutcome T.offsetOutcome partOutcome placed utcToTai utcToUt1
+unfolding ut1Outcome J.offsetOutcome T.secondsOutcome partOutcome placed utcToTai utcToUt1
 returns-3 c =
     let t = c .before .before .before .before .before .before .before .before in
     let h = t .before in
     let g = sym (h .before .before .before .before .finite-arg .ensures) ∙ ap J.offsetOutcome (h .before .before .enum-told .given .1) in
     let u = sym (changes (taiFraction fixed) _ _ _ (h .split .ensures) (t .tai-fraction .ensures .0)) ∙ went _ (ap partOutcome (c .before .before .before .before .before .before .k .given .1)) in
-    let o = sym (c .before .before .before .offset-with .ensures ∙ date-offset fixed _ _ (h .split .ensures)) ∙ ap T.offsetOutcome (c .before .number3 .given .1) in
+    let o = sym (c .before .before .before .offset-with .ensures ∙ date-offset fixed _ _ (h .split .ensures)) ∙ ap T.secondsOutcome (c .before .number3 .given .1) in
     sym (went _ g ∙ went _ u ∙ stopped _ o)
 
 returns-4 : tie.Need-returns-4
-unfolding ut1Outcome J.offsetOutcome T.offsetOutcome partOutcome placed utcToTai utcToUt1
+unfolding ut1Outcome J.offsetOutcome T.secondsOutcome partOutcome placed utcToTai utcToUt1
 returns-4 c =
     let t = c .before .before .before .before .before .before .before .before .before in
     let h = t .before in
     let g = sym (h .before .before .before .before .finite-arg .ensures) ∙ ap J.offsetOutcome (h .before .before .enum-told .given .1) in
     let u = sym (changes (taiFraction fixed) _ _ _ (h .split .ensures) (t .tai-fraction .ensures .0)) ∙ went _ (ap partOutcome (c .before .before .before .before .before .before .before .k .given .1)) in
-    let o = sym (c .before .before .before .before .offset-with .ensures ∙ date-offset fixed _ _ (h .split .ensures)) ∙ ap T.offsetOutcome (c .before .before .x .given .1) in
+    let o = sym (c .before .before .before .before .offset-with .ensures ∙ date-offset fixed _ _ (h .split .ensures)) ∙ ap T.secondsOutcome (c .before .before .x .given .1) in
     let k = tai-ut1 (sub binary64 (h .before .before .before .before .before .args .dut1) (c .before .before .x .given .0 .0)) in
     c .tai-to-ut1-with-offset .ensures ∙ ap (answerOf k) (c .before .before .before .before .before .put-back .ensures) ∙ sym (went _ g ∙ went _ u ∙ went _ o)
 
