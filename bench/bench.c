@@ -41,7 +41,8 @@ static size_t answers_of(const side *s, uint8_t *answers)
     return shown_length;
 }
 
-/* How many inputs the port refuses: a refusal leaves its slot as it was. */
+/* How many inputs the port refuses: a refusal leaves its slot as it was, or the slot has its number, -14 to -1, which
+   are the bits of no answer. */
 static int refusals(const side *s)
 {
     int refused = 0;
@@ -49,7 +50,7 @@ static int refusals(const side *s)
     shown_length = 0;
     s->loop(s->call);
     if (shown_length) return 0;
-    EACH refused += slots[i].i[0] == (int)0xaaaaaaaa && slots[i].i[1] == (int)0xaaaaaaaa;
+    EACH refused += slots[i].n == (int64_t)0xaaaaaaaaaaaaaaaa || (slots[i].n >= -14 && slots[i].n < 0);
     return refused;
 }
 

@@ -9,9 +9,10 @@ typedef enum { LEAP_SECOND_YEARS, DRIFT_YEARS, MONTH_ENDS } set;
 
 static const char *const set_name[] = {"1972-2030", "1960-1971", "month ends"};
 
-/* A date in two parts, its fields and times of day, and an offset in seconds. */
+/* A date in two parts, its fields and times of day, an offset in seconds, days and seconds to add, the date's Julian
+   year, and another date. */
 typedef struct {
-    double jd1, jd2, fraction, second, offset;
+    double jd1, jd2, fraction, second, offset, days, seconds, julian_year, other1, other2;
     int64_t unix_seconds;
     int year, month, day, hour, minute;
     uint32_t nanos;
@@ -54,9 +55,8 @@ static double fraction_of(set which)
     return which == MONTH_ENDS && below(4) == 0 ? 1.0 - fraction * 2.0 / 86401.0 : fraction;
 }
 
-static void draw_inputs(set which, input *in)
+static void draw_dates(set which, input *in)
 {
-    state = (uint64_t)which;
     for (int i = 0; i < INPUTS; i++, in++) {
         double rest;
         int day = day_of(which);
@@ -72,4 +72,25 @@ static void draw_inputs(set which, input *in)
         in->unix_seconds = (day - 40587) * INT64_C(86400) + below(86400);
         in->nanos = (uint32_t)below(1000000000);
     }
+}
+
+/* Half of the other dates are the same date with its parts exchanged, and half are the next input's. */
+static void draw_others(input *in)
+{
+    for (int i = 0; i < INPUTS; i++) {
+        const input *next = &in[(i + 1) % INPUTS];
+        int same = below(2);
+        in[i].days = 2000.0 * (unit() - 0.5);
+        in[i].seconds = 200000.0 * (unit() - 0.5);
+        in[i].julian_year = eraEpj(in[i].jd1, in[i].jd2);
+        in[i].other1 = same ? in[i].jd2 : next->jd1;
+        in[i].other2 = same ? in[i].jd1 : next->jd2;
+    }
+}
+
+static void draw_inputs(set which, input *in)
+{
+    state = (uint64_t)which;
+    draw_dates(which, in);
+    draw_others(in);
 }

@@ -1,5 +1,6 @@
 /* For each kind of call a loop over the inputs: the measured part. A loop's own share is the loading of
-   the arguments, the call through a pointer and the step: 9 to 17 instructions, for a call the same within one in all three.
+   the arguments, the call through a pointer, the keeping of a returned answer and the step: 7 to 17 instructions, for a call
+   the same within one in all three, but for two more in erfa_calendar_loop and three more in erfa_validate_loop.
    The port and the Rust write an answer's bytes into a slot; ERFA writes its ints and doubles there,
    which on x86-64 are the same bytes. */
 #include <stddef.h>
@@ -12,6 +13,14 @@
 /* A function of any kind; each loop knows which kind it calls. */
 typedef void any(void);
 
+typedef int64_t year_call(int32_t);
+typedef int64_t month_call(int32_t, int32_t);
+typedef int64_t validate_call(int32_t, int32_t, int32_t);
+typedef double number_call(double, double);
+typedef int64_t equal_call(double, double, double, double);
+typedef double difference_call(double, double, double, double);
+typedef int64_t julian_year_call(double, uint8_t *, size_t);
+typedef int64_t stamps_call(const uint8_t *, size_t);
 typedef int64_t date_call(int32_t, int32_t, int32_t, uint8_t *, size_t);
 typedef int64_t offset_call(int32_t, int32_t, int32_t, double, uint8_t *, size_t);
 typedef int64_t jd_call(double, double, uint8_t *, size_t);
@@ -20,6 +29,7 @@ typedef int64_t unix_call(int64_t, uint32_t, uint8_t *, size_t);
 typedef int64_t fields_call(int32_t, uint8_t, uint8_t, uint8_t, uint8_t, double, uint8_t *, size_t);
 
 typedef int erfa_date_call(int, int, int, double *, double *);
+typedef void erfa_julian_year_call(double, double *, double *);
 typedef int erfa_next_call(int, int, int, int *, int *, int *);
 typedef int erfa_leap_call(int, int, int, double *);
 typedef int erfa_offset_call(int, int, int, double, double *);
@@ -31,6 +41,7 @@ typedef int erfa_fields_call(const char *, int, int, int, int, int, double, doub
 
 typedef union {
     uint8_t bytes[40];
+    int64_t n;
     double d[5];
     int i[10];
 } slot;
@@ -85,7 +96,84 @@ static void fields_loop(any *f)
               in[i].second, slots[i].bytes, 16);
 }
 
+static void add_days_loop(any *f)
+{
+    jd_offset_call *call = (jd_offset_call *)f;
+    EACH call(in[i].jd1, in[i].jd2, in[i].days, slots[i].bytes, 16);
+}
+
+static void add_seconds_loop(any *f)
+{
+    jd_offset_call *call = (jd_offset_call *)f;
+    EACH call(in[i].jd1, in[i].jd2, in[i].seconds, slots[i].bytes, 16);
+}
+
+static void julian_year_loop(any *f)
+{
+    julian_year_call *call = (julian_year_call *)f;
+    EACH call(in[i].julian_year, slots[i].bytes, 16);
+}
+
+/* ---- calls that return their answer, which the loop writes into the slot */
+
+static void year_loop(any *f)
+{
+    year_call *call = (year_call *)f;
+    EACH slots[i].n = call(in[i].year);
+}
+
+static void month_loop(any *f)
+{
+    month_call *call = (month_call *)f;
+    EACH slots[i].n = call(in[i].year, in[i].month);
+}
+
+static void validate_loop(any *f)
+{
+    validate_call *call = (validate_call *)f;
+    EACH slots[i].n = call(in[i].year, in[i].month, in[i].day);
+}
+
+/* ERFA's eraEpj is of this kind too. */
+static void number_loop(any *f)
+{
+    number_call *call = (number_call *)f;
+    EACH slots[i].d[0] = call(in[i].jd1, in[i].jd2);
+}
+
+static void equal_loop(any *f)
+{
+    equal_call *call = (equal_call *)f;
+    EACH slots[i].n = call(in[i].jd1, in[i].jd2, in[i].other1, in[i].other2);
+}
+
+static void difference_loop(any *f)
+{
+    difference_call *call = (difference_call *)f;
+    EACH slots[i].d[0] = call(in[i].jd1, in[i].jd2, in[i].other1, in[i].other2);
+}
+
+static void stamps_loop(any *f)
+{
+    stamps_call *call = (stamps_call *)f;
+    EACH slots[i].n = call(block, BLOCK_SIZE);
+}
+
 /* ---- ERFA, called directly */
+
+/* eraCal2jd's status is minus the port's refusal; the date that it gives as well is dropped. */
+static void erfa_validate_loop(any *f)
+{
+    erfa_date_call *call = (erfa_date_call *)f;
+    double djm0, djm;
+    EACH slots[i].n = call(in[i].year, in[i].month, in[i].day, &djm0, &djm);
+}
+
+static void erfa_julian_year_loop(any *f)
+{
+    erfa_julian_year_call *call = (erfa_julian_year_call *)f;
+    EACH call(in[i].julian_year, &slots[i].d[0], &slots[i].d[1]);
+}
 
 static void erfa_date_loop(any *f)
 {

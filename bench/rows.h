@@ -19,6 +19,7 @@ typedef struct {
 #define BOTH(loop, name) {loop, (any *)ct_##name}, {loop, (any *)rs_##name}
 #define BY_ERFA(loop, name) {loop, (any *)name}
 #define NOT_IN_ERFA {NULL, NULL}
+#define PORT_ALONE(loop, name) {loop, (any *)ct_##name}, {NULL, NULL}, {NULL, NULL}
 #define TEXT(kind, set, rust, erfa) \
     {"UTC text, " kind, set, {{jd_loop, (any *)ct_to_iso8601}, {jd_loop, (any *)rust}, {jd_loop, (any *)erfa}}}
 #define LISTING(kind, set, rust, erfa) \
@@ -28,10 +29,21 @@ typedef struct {
 #define BY_HAND "digits by hand"
 
 static const row rows[] = {
+    {"is_leap_year", LEAP_SECOND_YEARS, {BOTH(year_loop, is_leap_year), NOT_IN_ERFA}},
+    {"days_in_month", LEAP_SECOND_YEARS, {BOTH(month_loop, days_in_month), NOT_IN_ERFA}},
+    {"validate_calendar_date", LEAP_SECOND_YEARS, {BOTH(validate_loop, validate_calendar_date), BY_ERFA(erfa_validate_loop, eraCal2jd)}},
     {"calendar_to_julian", LEAP_SECOND_YEARS, {BOTH(date_loop, calendar_to_julian), BY_ERFA(erfa_date_loop, eraCal2jd)}},
     {"julian_to_calendar", LEAP_SECOND_YEARS, {BOTH(jd_loop, julian_to_calendar), BY_ERFA(erfa_calendar_loop, eraJd2cal)}},
     {"next_calendar_day", LEAP_SECOND_YEARS, {BOTH(date_loop, next_calendar_day), BY_ERFA(erfa_next_loop, erfa_next_day)}},
     {"from_calendar", LEAP_SECOND_YEARS, {BOTH(fields_loop, from_calendar), BY_ERFA(erfa_tai_fields_loop, eraDtf2d)}},
+    {"to_f64", LEAP_SECOND_YEARS, {BOTH(number_loop, to_f64), NOT_IN_ERFA}},
+    {"add_days", LEAP_SECOND_YEARS, {BOTH(add_days_loop, add_days), NOT_IN_ERFA}},
+    {"add_seconds", LEAP_SECOND_YEARS, {BOTH(add_seconds_loop, add_seconds), NOT_IN_ERFA}},
+    {"from_unix_time", LEAP_SECOND_YEARS, {BOTH(unix_loop, from_unix_time), NOT_IN_ERFA}},
+    {"to_julian_year", LEAP_SECOND_YEARS, {BOTH(number_loop, to_julian_year), BY_ERFA(number_loop, eraEpj)}},
+    {"from_julian_year", LEAP_SECOND_YEARS, {BOTH(julian_year_loop, from_julian_year), BY_ERFA(erfa_julian_year_loop, eraEpj2jd)}},
+    {"equal", LEAP_SECOND_YEARS, {BOTH(equal_loop, equal), NOT_IN_ERFA}},
+    {"difference", LEAP_SECOND_YEARS, {BOTH(difference_loop, difference), NOT_IN_ERFA}},
     {"get_tai_utc_offset", LEAP_SECOND_YEARS, {BOTH(offset_loop, get_tai_utc_offset), BY_ERFA(erfa_offset_loop, eraDat)}},
     {"get_tai_utc_offset", DRIFT_YEARS, {BOTH(offset_loop, get_tai_utc_offset), BY_ERFA(erfa_offset_loop, eraDat)}},
     {"leap_at_end_of_day", LEAP_SECOND_YEARS, {BOTH(date_loop, leap_at_end_of_day), BY_ERFA(erfa_leap_loop, erfa_leap)}},
@@ -66,6 +78,7 @@ static const row rows[] = {
     TEXT(BY_HAND, LEAP_SECOND_YEARS, rust_text_by_hand, erfa_text_by_hand),
     TEXT(BY_HAND, DRIFT_YEARS, rust_text_by_hand, erfa_text_by_hand),
     TEXT(BY_HAND, MONTH_ENDS, rust_text_by_hand, erfa_text_by_hand),
+    {"block_stamps", LEAP_SECOND_YEARS, {PORT_ALONE(stamps_loop, block_stamps)}},
     LISTING(OWN, LEAP_SECOND_YEARS, rs_to_iso8601, erfa_text),
     LISTING(BY_HAND, LEAP_SECOND_YEARS, rust_text_by_hand, erfa_text_by_hand),
 };

@@ -2,6 +2,9 @@
 #include <stddef.h>
 #include <stdint.h>
 
+int64_t rs_is_leap_year(int32_t year);
+int64_t rs_days_in_month(int32_t year, int32_t month);
+int64_t rs_validate_calendar_date(int32_t year, int32_t month, int32_t day);
 int64_t rs_calendar_to_julian(int32_t year, int32_t month, int32_t day, uint8_t *out, size_t out_len);
 int64_t rs_next_calendar_day(int32_t year, int32_t month, int32_t day, uint8_t *out, size_t out_len);
 int64_t rs_leap_at_end_of_day(int32_t year, int32_t month, int32_t day, uint8_t *out, size_t out_len);
@@ -10,6 +13,14 @@ int64_t rs_get_tai_utc_offset(int32_t year, int32_t month, int32_t day, double f
 int64_t rs_julian_to_calendar(double jd1, double jd2, uint8_t *out, size_t out_len);
 int64_t rs_from_calendar(int32_t year, uint8_t month, uint8_t day, uint8_t hour, uint8_t minute,
                          double second, uint8_t *out, size_t out_len);
+double rs_to_f64(double jd1, double jd2);
+int64_t rs_add_days(double jd1, double jd2, double days, uint8_t *out, size_t out_len);
+int64_t rs_add_seconds(double jd1, double jd2, double seconds, uint8_t *out, size_t out_len);
+int64_t rs_from_unix_time(int64_t seconds, uint32_t nanos, uint8_t *out, size_t out_len);
+double rs_to_julian_year(double jd1, double jd2);
+int64_t rs_from_julian_year(double year, uint8_t *out, size_t out_len);
+int64_t rs_equal(double jd1, double jd2, double other1, double other2);
+double rs_difference(double jd1, double jd2, double other1, double other2);
 int64_t rs_utc_from_calendar(int32_t year, uint8_t month, uint8_t day, uint8_t hour, uint8_t minute,
                              double second, uint8_t *out, size_t out_len);
 int64_t rs_utc_new(int64_t seconds, uint32_t nanos, uint8_t *out, size_t out_len);

@@ -63,6 +63,24 @@ fn ymd_fraction((year, month, day, fraction): (i32, i32, i32, f64)) -> [u8; 20] 
 }
 
 #[no_mangle]
+pub extern "C" fn rs_is_leap_year(y: i32) -> i64 {
+    Opened::is_leap_year(y) as i64
+}
+
+#[no_mangle]
+pub extern "C" fn rs_days_in_month(y: i32, m: i32) -> i64 {
+    Opened::days_in_month(y, m).unwrap_or(0) as i64
+}
+
+#[no_mangle]
+pub extern "C" fn rs_validate_calendar_date(y: i32, m: i32, d: i32) -> i64 {
+    match Opened::validate_calendar_date(y, m, d) {
+        Err(error) => -(refusal(&error) as i64),
+        Ok(()) => 0,
+    }
+}
+
+#[no_mangle]
 pub extern "C" fn rs_calendar_to_julian(y: i32, m: i32, d: i32, out: *mut u8, len: usize) -> i64 {
     put(calendar_to_julian(y, m, d).map(two), out, len)
 }
@@ -90,6 +108,46 @@ pub extern "C" fn rs_julian_to_calendar(jd1: f64, jd2: f64, out: *mut u8, len: u
 #[no_mangle]
 pub extern "C" fn rs_from_calendar(y: i32, m: u8, d: u8, h: u8, min: u8, s: f64, out: *mut u8, len: usize) -> i64 {
     put(JulianDate::from_calendar(y, m, d, h, min, s).map(date), out, len)
+}
+
+#[no_mangle]
+pub extern "C" fn rs_to_f64(jd1: f64, jd2: f64) -> f64 {
+    JulianDate::new(jd1, jd2).to_f64()
+}
+
+#[no_mangle]
+pub extern "C" fn rs_add_days(jd1: f64, jd2: f64, days: f64, out: *mut u8, len: usize) -> i64 {
+    put_bytes(&date(JulianDate::new(jd1, jd2).add_days(days)), out, len)
+}
+
+#[no_mangle]
+pub extern "C" fn rs_add_seconds(jd1: f64, jd2: f64, seconds: f64, out: *mut u8, len: usize) -> i64 {
+    put_bytes(&date(JulianDate::new(jd1, jd2).add_seconds(seconds)), out, len)
+}
+
+#[no_mangle]
+pub extern "C" fn rs_from_unix_time(seconds: i64, nanos: u32, out: *mut u8, len: usize) -> i64 {
+    put_bytes(&date(Opened::from_unix_time(seconds, nanos)), out, len)
+}
+
+#[no_mangle]
+pub extern "C" fn rs_to_julian_year(jd1: f64, jd2: f64) -> f64 {
+    JulianDate::new(jd1, jd2).to_julian_year()
+}
+
+#[no_mangle]
+pub extern "C" fn rs_from_julian_year(year: f64, out: *mut u8, len: usize) -> i64 {
+    put_bytes(&date(JulianDate::from_julian_year(year)), out, len)
+}
+
+#[no_mangle]
+pub extern "C" fn rs_equal(jd1: f64, jd2: f64, other1: f64, other2: f64) -> i64 {
+    (JulianDate::new(jd1, jd2) == JulianDate::new(other1, other2)) as i64
+}
+
+#[no_mangle]
+pub extern "C" fn rs_difference(jd1: f64, jd2: f64, other1: f64, other2: f64) -> f64 {
+    JulianDate::new(jd1, jd2) - JulianDate::new(other1, other2)
 }
 
 #[no_mangle]
