@@ -197,14 +197,20 @@ int64_t ct_listing_part(const uint8_t *block, size_t block_len, uint32_t line, u
 
 /* ---- Reading bytes: these and ct_float_mode are compiled with the viewer, not in the archive */
 
+/* The number of `count` bytes, the lowest first, 8 at the most. */
+static inline uint64_t ct_pattern_at(const uint8_t *bytes, int count)
+{
+    uint64_t pattern = 0;
+    while (count > 0) pattern = pattern << 8 | bytes[--count];
+    return pattern;
+}
+
 /* The float whose 8 bytes begin at `bytes`: a part in a block, or a field of an answer. A NaN
    keeps its bits. */
 static inline double ct_float_at(const uint8_t *bytes)
 {
-    uint64_t pattern = 0;
+    uint64_t pattern = ct_pattern_at(bytes, 8);
     double x;
-    int i;
-    for (i = 7; i >= 0; i--) pattern = pattern << 8 | bytes[i];
     memcpy(&x, &pattern, sizeof x);
     return x;
 }
@@ -212,10 +218,8 @@ static inline double ct_float_at(const uint8_t *bytes)
 /* The year, month or day whose 4 bytes begin at `bytes`. */
 static inline int32_t ct_int_at(const uint8_t *bytes)
 {
-    uint32_t pattern = 0;
+    uint32_t pattern = (uint32_t)ct_pattern_at(bytes, 4);
     int32_t n;
-    int i;
-    for (i = 3; i >= 0; i--) pattern = pattern << 8 | bytes[i];
     memcpy(&n, &pattern, sizeof n);
     return n;
 }

@@ -11,7 +11,9 @@ ghost use Rattle.c_answers.specs.Delivery.{code, Delivered};
 pub fn refused(number: u32) -> i64
     ensures { λ r. ⌜ r ≡ code (refusal number) ⌝ }
 {
-    0 - (number as i64)
+    let size = number as i64;
+    let below_zero = 0 - size;
+    below_zero
 }
 
 // The number of bytes put; where they do not fit, 11 and nothing is written.

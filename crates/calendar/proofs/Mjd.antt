@@ -84,7 +84,7 @@ pub mjd-valid : (y m d n : ℤ) → mjdOf y m d ≡ answer n → validDate y m d
 unfolding mjdOf
 mjd-valid y m d n e = answered (validDate y m d) n (mjdNumber y m d) e
 
-pub same-answer : {a b : ℤ} → answer a ≡ answer b → a ≡ b
+pub same-answer : {X : Type 0} {a b : X} → answer a ≡ answer b → a ≡ b
 same-answer e = cc
 
 -- ---- THE TWO CONVERSIONS ARE INVERSE

@@ -1,7 +1,7 @@
 -- What the checks of signed operations ask, and what their results are, in terms of the numbers.
 -- Assumes nothing.
 use mathlib.Core.Path.{_≡_, refl, ap, sym, subst, _∙_}
-use mathlib.Core.Bool.{Bool, true, false, cond}
+use mathlib.Core.Bool.{Bool, true, false, cond, true≢false}
 use Prim.Native.Nat.{ℕ, zero, suc, _+_, _-_, _/_, _%_, _^_, _≤_, _<_}
 use native.Mathlib.Omega.{arith}
 use native.Mathlib.Nat.{div-le-self, mod-le, le-refl}
@@ -43,9 +43,6 @@ lt-left z b t f e = ap (λ (x : ℤ). ltZ x b) (sym (toZ-ofZ f)) ∙ e
 
 pub lt-right : {w : Width} (a z : ℤ) (t : Bool) → SFits w z → ltZ a (toZ w (ofZ w z)) ≡ t → ltZ a z ≡ t
 lt-right a z t f e = ap (λ (x : ℤ). ltZ a x) (sym (toZ-ofZ f)) ∙ e
-
-true≢false : true ≡ false → ⊥
-true≢false e = subst T e tt
 
 -- a number that is not below 1 is positive
 pub at-least-one : (z : ℤ) → ltZ z (pos 1) ≡ false → (z ≡ pos (natAbs z)) × (1 ≤ natAbs z)

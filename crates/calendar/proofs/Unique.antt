@@ -4,6 +4,7 @@
 use mathlib.Core.Path.{_≡_, refl, ap, sym, subst, _∙_}
 use mathlib.Core.Bool.{Bool, true, false, cond}
 use Prim.Native.Nat.{ℕ, zero, suc, _+_}
+use native.Mathlib.Nat.{zero-add, suc-add}
 use native.Mathlib.Omega.{arith}
 use lib.Dec.{ltb}
 use lib.IntN.{ℤ, pos, natAbs, sucℤ, predℤ, pred-suc, _+ℤ_}
@@ -55,25 +56,13 @@ one-before t u w g h (by-year a b c d e) (by-year a′ b′ c′ d′ e′) =
 
 module _ (f : ℕ → CalendarDate) (good : (k : ℕ) → InCalendar (f k)) (step : (k : ℕ) → f (suc k) ≡ next (f k)) where
   up : (n a : ℕ) → f a ≡ dateAt a → f (n + a) ≡ dateAt (n + a)
-  up zero a e = subst (λ (k : ℕ). f k ≡ dateAt k) (sym (none a)) e
-    where
-      none : (x : ℕ) → 0 + x ≡ x
-      none x = omega arith
-  up (suc n) a e = subst (λ (k : ℕ). f k ≡ dateAt k) (sym (more n a)) (step (n + a) ∙ ap next (up n a e) ∙ sym (after (n + a)))
-    where
-      more : (x y : ℕ) → suc x + y ≡ suc (x + y)
-      more x y = omega arith
+  up zero a e = subst (λ (k : ℕ). f k ≡ dateAt k) (sym (zero-add a)) e
+  up (suc n) a e = subst (λ (k : ℕ). f k ≡ dateAt k) (sym (suc-add n a)) (step (n + a) ∙ ap next (up n a e) ∙ sym (after (n + a)))
 
   down : (n a : ℕ) → f (n + a) ≡ dateAt (n + a) → f a ≡ dateAt a
-  down zero a e = subst (λ (k : ℕ). f k ≡ dateAt k) (none a) e
+  down zero a e = subst (λ (k : ℕ). f k ≡ dateAt k) (zero-add a) e
+  down (suc n) a e = down n a (below (n + a) (subst (λ (k : ℕ). f k ≡ dateAt k) (suc-add n a) e))
     where
-      none : (x : ℕ) → 0 + x ≡ x
-      none x = omega arith
-  down (suc n) a e = down n a (below (n + a) (subst (λ (k : ℕ). f k ≡ dateAt k) (more n a) e))
-    where
-      more : (x y : ℕ) → suc x + y ≡ suc (x + y)
-      more x y = omega arith
-
       below : (k : ℕ) → f (suc k) ≡ dateAt (suc k) → f k ≡ dateAt k
       below k p = one-before (f k) (dateAt k) (next (dateAt k)) (good k) (date-at-in-calendar k)
           (subst (λ (w : CalendarDate). Steps (f k) w) (sym (step k) ∙ p ∙ after k) (steps (f k) (good k)))

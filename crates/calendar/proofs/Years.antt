@@ -2,7 +2,7 @@
 -- -4900 to 2733194, its month in 1 to 12 and its day in 1 to 31.
 -- Assumes nothing.
 use mathlib.Core.Path.{_≡_, refl, ap, sym, subst, _∙_}
-use mathlib.Core.Bool.{Bool, true, false, cond}
+use mathlib.Core.Bool.{Bool, true, false, cond, true≢false, false≢true}
 use mathlib.Core.Logic.{_⊎_, inl, inr}
 use Prim.Native.Nat.{ℕ, zero, suc, _+_, _-_, _≤_}
 use native.Mathlib.Omega.{arith}
@@ -58,13 +58,7 @@ not-before p (negsuc (suc n)) e = le-ltb p n (omega (arith, ltb-false p (suc n) 
 
 past : (q : ℕ) (z : ℤ) → ltZ (pos q) z ≡ true → ltZ (pos q) (sucℤ z) ≡ true
 past q (pos n) e = lt-ltb q (suc n) (omega (arith, ltb-true q n e))
-past q (negsuc n) e = absurd (no e)
-  where
-    no : false ≡ true → ⊥
-    no h = subst lib.Dec.T (sym h) tt
-
-differ : true ≡ false → ⊥
-differ e = subst lib.Dec.T e tt
+past q (negsuc n) e = absurd (false≢true e)
 
 -- ---- the three days whose dates decide
 abbrev Case : ℕ → ℕ → ℕ → ℕ → Type 0
@@ -100,7 +94,7 @@ year-to k h = go (ltZ (dateAt k .year) (negsuc 4798)) refl
     go true e = e
     go false e =
         absurd
-        (differ (sym (ap (λ (t : CalendarDate). ltZ (t .year) (negsuc 4798)) last-refused) ∙ later (λ z. ltZ z (negsuc 4798) ≡ false) (not-before 4798) k 146402 h e))
+        (true≢false (sym (ap (λ (t : CalendarDate). ltZ (t .year) (negsuc 4798)) last-refused) ∙ later (λ z. ltZ z (negsuc 4798) ≡ false) (not-before 4798) k 146402 h e))
 
 low-year : (k : ℕ) → 109572 ≤ k → ltZ (dateAt k .year) (negsuc 4899) ≡ false
 low-year k h = later (λ z. ltZ z (negsuc 4899) ≡ false) (not-before 4899) 109572 k h (ap (λ (t : CalendarDate). ltZ (t .year) (negsuc 4899)) lowest-date)
@@ -112,7 +106,7 @@ high-year k h = go (ltZ (pos 2733194) (dateAt k .year)) refl
     go false e = e
     go true e =
         absurd
-        (differ (sym (later (λ z. ltZ (pos 2733194) z ≡ true) (past 2733194) k 1000178141 h e) ∙ ap (λ (t : CalendarDate). ltZ (pos 2733194) (t .year)) highest-date))
+        (true≢false (sym (later (λ z. ltZ (pos 2733194) z ≡ true) (past 2733194) k 1000178141 h e) ∙ ap (λ (t : CalendarDate). ltZ (pos 2733194) (t .year)) highest-date))
 
 -- ---- the count of a day number, from a bound on either side
 count-from : (n : ℤ) (p : ℕ) → suc p ≤ 178141 → ltZ n (negsuc p) ≡ false → 178141 - suc p ≤ natAbs (n +ℤ pos 178141)
@@ -127,7 +121,7 @@ count-to n p q l h g =
 
 -- a number before -31738, and not before -178141
 count-before : (n : ℤ) → Counted n → ltZ n (negsuc 31737) ≡ true → natAbs (n +ℤ pos 178141) ≤ 146402
-count-before (pos a) c e = absurd (differ (sym e))
+count-before (pos a) c e = absurd (true≢false (sym e))
 count-before (negsuc a) c e =
     let h = ltb-true 31737 a e in
     let s = ap natAbs (sub-at 178141 (suc a) (omega (arith, ltb-false 178140 a c))) in
@@ -185,7 +179,7 @@ lower (negsuc a) e = lt-ltb 31737 a (omega (arith, ltb-true 68568 a e))
 
 top : (n : ℤ) → ltZ (pos 1000000000) n ≡ true → ltZ n (negsuc 31737) ≡ false
 top (pos a) e = refl
-top (negsuc a) e = absurd (differ (sym e))
+top (negsuc a) e = absurd (true≢false (sym e))
 
 pub from-lower : (n : ℤ) → ltZ n (negsuc 31737) ≡ false → ltZ n (negsuc 68568) ≡ false
 from-lower (pos a) e = refl

@@ -14,7 +14,7 @@ use Rattle.rounding.proofs.Value.{L-pos, val-scale, sub-rounds, has-unscale}
 use Rattle.rounding.proofs.Exact.{sub-exact}
 use Rattle.rounding.proofs.Signed.{plus-of, minus-of}
 use Rattle.rounding.proofs.Own.{Rep}
-use Rattle.rounding.proofs.Sterbenz.{rounds-rep}
+use Rattle.rounding.proofs.Sterbenz.{rounds-rep, signed-diff}
 use Rattle.rounding.proofs.Optimal.{multiple}
 use Rattle.floats.specs.Whole.{nearestInt}
 use Rattle.day_number.specs.DayNumber.{rest}
@@ -40,22 +40,10 @@ unfolding L
 far2 = lit< tt
 
 rep-of : (s b : Bool) (c X Y : ℕ) → Signed b c (plus-of s X + minus-of s Y) (minus-of s X + plus-of s Y) → Rep (X - Y) → Rep (Y - X) → Rep c × (c ≤ X + Y)
-rep-of false false c X Y h r q = (subst Rep (up c X Y h) r, omega arith)
-  where
-    up : (c X Y : ℕ) → c + (0 + Y) ≡ X + 0 → X - Y ≡ c
-    up c X Y e = omega arith
-rep-of false true c X Y h r q = (subst Rep (up c X Y h) q, omega arith)
-  where
-    up : (c X Y : ℕ) → c + (X + 0) ≡ 0 + Y → Y - X ≡ c
-    up c X Y e = omega arith
-rep-of true false c X Y h r q = (subst Rep (up c X Y h) q, omega arith)
-  where
-    up : (c X Y : ℕ) → c + (X + 0) ≡ 0 + Y → Y - X ≡ c
-    up c X Y e = omega arith
-rep-of true true c X Y h r q = (subst Rep (up c X Y h) r, omega arith)
-  where
-    up : (c X Y : ℕ) → c + (0 + Y) ≡ X + 0 → X - Y ≡ c
-    up c X Y e = omega arith
+rep-of false false c X Y h r q = (signed-diff false c X Y h r q .0, omega arith)
+rep-of false true c X Y h r q = (signed-diff true c X Y h r q .0, omega arith)
+rep-of true false c X Y h r q = (signed-diff true c X Y h r q .0, omega arith)
+rep-of true true c X Y h r q = (signed-diff false c X Y h r q .0, omega arith)
 
 twice-far : (c X Y : ℕ) → c ≤ X + Y → X < 2 ^ 50 * L → Y ≤ X + L → c < 2 ^ 2098
 twice-far c X Y h k l = lt-of-le-of-lt (big c X Y h k l) more

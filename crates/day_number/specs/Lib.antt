@@ -1,4 +1,4 @@
--- The definitions that the contracts of `day_number` and its theorems cite.
+-- The definitions that the contracts of `day_number` and its theorems cite, in the order to read them.
 pub mod DayNumber
 pub mod Answer
 pub mod Sums

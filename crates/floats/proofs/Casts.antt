@@ -20,7 +20,7 @@ neither : (p q : Bool) → T (not (p || q)) → T (not p)
 neither true q h = h
 neither false q h = tt
 
-or-l : (p q : Bool) → T p → T (p || q)
+pub or-l : (p q : Bool) → T p → T (p || q)
 or-l true q h = tt
 or-l false q h = absurd h
 

@@ -1,4 +1,4 @@
--- The definitions that the contracts of `floats` cite.
+-- The definitions that the contracts of `floats` cite, in the order to read them.
 pub mod Whole
 pub mod NearestWhole
 pub mod Size

@@ -1,10 +1,10 @@
--- The definitions that the contracts of `julian` cite.
+-- The definitions that the contracts of `julian` cite, in the order to read them.
 pub mod JulianDate
 pub mod UnixTime
 pub mod JulianYear
+pub mod Finite
 pub mod Equality
 pub mod DayFraction
-pub mod Finite
 pub mod Worth
 pub mod Calendar
 pub mod Midnight

@@ -67,7 +67,7 @@ only-six x y n e = go (accepted x y) refl
 
 -- the exact day of a sum from -68569.5 to 10^9
 module _ (sum : ℤ) (r : InJulianRange sum) where
-  day-low : minusZ (exactDay sum) ≤ 68569
+  pub day-low : minusZ (exactDay sum) ≤ 68569
   day-low = go (one-side (exactDay sum))
     where
       d : DayAt sum (exactDay sum) (exactFraction sum)
@@ -77,7 +77,7 @@ module _ (sum : ℤ) (r : InJulianRange sum) where
       go (inl h) = omega (arith, r .low, d .total, d .below)
       go (inr h) = omega arith
 
-  day-high : plusZ (exactDay sum) ≤ 1000000000
+  pub day-high : plusZ (exactDay sum) ≤ 1000000000
   day-high = go (one-side (exactDay sum))
     where
       d : DayAt sum (exactDay sum) (exactFraction sum)

@@ -12,6 +12,7 @@ use lib.Ieee.Fits.{round-is, and-l}
 use lib.Ieee.Exact.{HasValue}
 use lib.Ieee.Order.{drop, kept, round-mono}
 use lib.Ieee.Scale.{grid, round-same}
+use Rattle.floats.proofs.Casts.{or-l}
 use Rattle.rounding.specs.Value.{Signed, Val, Rounds, L}
 use Rattle.rounding.proofs.Signed.{dist, dist-hi, dist-flip, signed-le, signed-scale}
 use Rattle.rounding.proofs.Grid.{grid-le, grid-ge}
@@ -217,15 +218,11 @@ round-side f s a c = subst (Side s) (sym (round-is f s a c)) (units-side f s (ke
 sides-below : (a b : ℕ) → T (below true a false b || level true a false b)
 sides-below a b = elim (eq-zero-or-pos (a + b)) [
   | inl e ↦ subst₂ (λ (x y : ℕ). T (below true x false y || level true x false y)) (sym (first a b e)) (sym (first b a (add-comm b a ∙ e))) tt
-  | inr h ↦ or-left (below true a false b) (level true a false b) (lt→ltb 0 (a + b) h)
+  | inr h ↦ or-l (below true a false b) (level true a false b) (lt→ltb 0 (a + b) h)
 ]
   where
     first : (a b : ℕ) → a + b ≡ 0 → a ≡ 0
     first a b e = omega arith
-
-    or-left : (x y : Bool) → T x → T (x || y)
-    or-left true y h = tt
-    or-left false y h = absurd h
 
 sides-le : (x y : Float) → Side true x → Side false y → T (le x y)
 unfolding le

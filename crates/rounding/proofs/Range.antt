@@ -57,7 +57,7 @@ between x k f a b = go (plus-of (o .sign) (o .size)) (minus-of (o .sign) (o .siz
         record { p = p; n = n; val = v; high = omega arith; low = omega arith }
 
 -- ---- |x| ≤ c and |x| < c, for a float c = W / L
-le-finite : (x c : Float) (s : Bool) (a : ℕ) → HasValue c s a L → T (le (abs x) c) → T (finite x)
+pub le-finite : (x c : Float) (s : Bool) (a : ℕ) → HasValue c s a L → T (le (abs x) c) → T (finite x)
 unfolding abs le
 le-finite nan c s a v h = absurd h
 le-finite (inf t) nan s a v h = absurd v

@@ -1,15 +1,16 @@
 -- A number of units that the format holds is rounded to itself, and so is the difference of two that are within a factor of two of each other (Sterbenz).
 -- Assumes nothing.
 use mathlib.Core.Path.{_≡_, sym, ap, _∙_, subst}
-use Prim.Native.Nat.{ℕ, _-_, _*_, _^_, _≤_, _<_}
+use Prim.Native.Nat.{ℕ, _-_, _*_, _^_, _≤_, _<_, _+_}
 use native.Mathlib.Nat.{le-trans, le-of-eq, lt-of-le-of-lt, le-of-mul-le-mul-right}
 use native.Mathlib.Omega.{arith}
 use mathlib.Core.Bool.{Bool, true, false, not}
+use mathlib.Core.Logic.{_⊎_, inl, inr}
 use lib.Dec.{T, leb, leb→le, nleb→lt}
 use lib.Pow.{pow-pos}
 use lib.Ieee.{Float, binary64, round}
 use lib.Ieee.Exact.{HasValue, round-exact}
-use Rattle.rounding.specs.Value.{Val, Rounds, L}
+use Rattle.rounding.specs.Value.{Val, Rounds, L, Signed}
 use Rattle.rounding.proofs.Value.{L-pos, L-is}
 use Rattle.rounding.proofs.Fractions.{sub-mul}
 use Rattle.rounding.proofs.Own.{Rep, lift}
@@ -48,3 +49,13 @@ rep-diff x y r s h = go (leb (r .j) (s .j)) (leb→le (r .j) (s .j)) (nleb→lt 
 
         half : (x y : ℕ) → x ≤ 2 * y → x - y ≤ y
         half x y l = omega arith
+
+pub signed-diff : (s : Bool) (c a b : ℕ) → Signed s c (a + 0) (0 + b) → Rep (a - b) → Rep (b - a) → Rep c × ((c ≤ a) ⊎ (c ≤ b))
+signed-diff false c a b h r q = (subst Rep (up c a b h) r, inl (omega arith))
+  where
+    up : (c a b : ℕ) → c + (0 + b) ≡ a + 0 → a - b ≡ c
+    up c a b e = omega arith
+signed-diff true c a b h r q = (subst Rep (up c a b h) q, inr (omega arith))
+  where
+    up : (c a b : ℕ) → c + (a + 0) ≡ 0 + b → b - a ≡ c
+    up c a b e = omega arith

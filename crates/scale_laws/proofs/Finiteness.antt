@@ -5,17 +5,18 @@ use mathlib.Core.Path.{_≡_, refl, sym, ap, _∙_, subst}
 use Prim.Native.Nat.{ℕ, _+_, _*_, _^_, _≤_}
 use native.Mathlib.Nat.{le-trans, mul-assoc, mul-le-mul-right, add-zero}
 use native.Mathlib.Omega.{arith}
-use mathlib.Core.Bool.{Bool, true, false, _||_}
+use mathlib.Core.Bool.{Bool, true, false}
 use lib.Dec.{T, leb→le, lit≤, lit<}
 use lib.IntN.{pos}
-use lib.Ieee.{Float, nan, inf, fin, binary64, lt, le, eq, round}
+use lib.Ieee.{Float, fin, binary64, lt, le, eq, round}
 use lib.Ieee.Scale.{finite}
 use lib.Ieee.Exact.{HasValue}
+use Rattle.floats.proofs.Casts.{or-l}
 use Rattle.floats.specs.Whole.{abs}
 use Rattle.rounding.specs.Value.{Val, Under52, L}
 use Rattle.rounding.proofs.Value.{L-pos, abs-has, val-finite-true}
 use Rattle.rounding.proofs.Own.{own}
-use Rattle.rounding.proofs.Range.{power-val}
+use Rattle.rounding.proofs.Range.{power-val, le-finite}
 use Rattle.rounding.proofs.Compare.{le-val}
 use Rattle.rounding.proofs.About.{U, L-U, About, about-add, about-sub}
 use Rattle.refusals.specs.Outcome.{onward}
@@ -122,15 +123,7 @@ changed-sized S T' f d l b z w = subst (λ (e : JulianDate). Sized (e .jd1) T' �
 -- ---- from a test on floats to a size
 module _ (c : Float) (S : ℕ) (w : Val c (S * U) 0 L) (x : Float) (h : AtMost c x) where
   finite-at : T (finite x)
-  unfolding le lt eq abs
-  finite-at = go c x (w .sign) (w .size) (w .has) (h .1)
-    where
-      go : (c x : Float) (s : Bool) (a : ℕ) → HasValue c s a L → T (le (abs x) c) → T (finite x)
-      go nan x s a v k = absurd v
-      go (inf t) x s a v k = absurd v
-      go (fin t m e) nan s a v k = absurd k
-      go (fin t m e) (inf u) s a v k = absurd k
-      go (fin t m e) (fin u l d) s a v k = tt
+  finite-at = le-finite x c (w .sign) (w .size) (w .has) (h .1)
 
   pub sized-at : Sized x S
   sized-at =
@@ -151,10 +144,6 @@ power-units k = subst (λ (z : ℕ). Val (fin false 1 (pos k)) z 0 L) (ap (λ (z
 under-at-most : (x : Float) → Under52 x → AtMost (power 52) x
 unfolding le
 under-at-most x h = (h .held, or-l (lt (abs x) (power 52)) (eq (abs x) (power 52)) (h .small))
-  where
-    or-l : (a b : Bool) → T a → T (a || b)
-    or-l true b k = tt
-    or-l false b k = absurd k
 
 under-sized : (x : Float) → Under52 x → Sized x (2 ^ 142)
 under-sized x h = sized-at (power 52) (2 ^ 142) (power-units 52) x (under-at-most x h)

@@ -1,5 +1,5 @@
 -- The ranges of dates and offsets that the theorems speak of, each as a test on floats, and what it is for an outcome to be a finite date. Written from
--- demand 1. Assumes nothing.
+-- demand 1; `Practical`, `Modified` and `HalfDay` are this project's own. Assumes nothing.
 use mathlib.Core.Path.{_≡_}
 use mathlib.Core.Bool.{true, false}
 use mathlib.Core.Logic.{_⊎_}

@@ -1,7 +1,7 @@
 -- The number of a month, from a signed year.
 -- Assumes nothing.
 use mathlib.Core.Path.{_≡_, refl, ap, sym, subst, _∙_}
-use mathlib.Core.Bool.{true, false}
+use mathlib.Core.Bool.{true, false, true≢false}
 use Prim.Native.Nat.{ℕ, _≤_}
 use native.Mathlib.Omega.{arith}
 use lib.Dec.{T}
@@ -19,9 +19,6 @@ small (negsuc n) f = omega (arith, f .sfits)
 
 pub year-small : (z : ℤ) → SFits w32 z → natAbs (toZ w32 (ofZ w32 z)) ≤ 2147483648
 year-small z f = rw (toZ-ofZ f) (small z f)
-
-true≢false : true ≡ false → ⊥
-true≢false e = subst T e tt
 
 before-zero : (z : ℤ) (m : ℕ) → ltZ z (pos 0) ≡ true → 0 ≡ monthNumber z m
 unfolding monthNumber

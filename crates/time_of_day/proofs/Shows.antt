@@ -22,6 +22,9 @@ use Rattle.time_of_day.proofs.Count.{Counted, counted}
 use Rattle.time_of_day.proofs.Fields.{fields-ms, good-time}
 use Rattle.time_of_day.proofs.Close.{close-move, close-end, close-501}
 
+up-to : (W E p n : ℕ) → W + n ≡ 86400 * E + p → p ≤ n + E → 1000 * W ≤ 86401000 * E
+up-to W E p n i a = omega arith
+
 -- ---- in each case of leap the day's length is at most the milliseconds at which the text is the next day's midnight
 pub longest : (x : Float) (W E : ℕ) → 0 < E → Leap x → DayLength x W E → 1000 * W ≤ dayEnd (wholeLeap x) * E
 unfolding wholeLeap dayEnd ofBits le lt eq abs
@@ -33,14 +36,8 @@ longest x W E G (little e) d =
   where
     go : (p n : ℕ) → W + n ≡ 86400 * E + p → p + 0 ≤ 0 + n → 1000 * W ≤ 86400000 * E
     go p n i a = omega arith
-longest x W E G second d = up-to (d .p) (d .n) (d .is) (at-most G (d .leap-is) (within-one x second))
-  where
-    up-to : (p n : ℕ) → W + n ≡ 86400 * E + p → p ≤ n + E → 1000 * W ≤ 86401000 * E
-    up-to p n i a = omega arith
-longest x W E G first d = up-to (d .p) (d .n) (d .is) (at-most G (d .leap-is) (within-one x first))
-  where
-    up-to : (p n : ℕ) → W + n ≡ 86400 * E + p → p ≤ n + E → 1000 * W ≤ 86401000 * E
-    up-to p n i a = omega arith
+longest x W E G second d = up-to W E (d .p) (d .n) (d .is) (at-most G (d .leap-is) (within-one x second))
+longest x W E G first d = up-to W E (d .p) (d .n) (d .is) (at-most G (d .leap-is) (within-one x first))
 longest x W E G minus-second d = go (d .p) (d .n) (d .is) (le-says G (d .leap-is) (minus-one-val E) tt)
   where
     go : (p n : ℕ) → W + n ≡ 86400 * E + p → p + E ≤ 0 + n → 1000 * W ≤ 86399000 * E

@@ -2,40 +2,26 @@
 -- of the exact day and the exact fraction. Assumes nothing.
 use mathlib.Core.Path.{_≡_, sym, subst}
 use mathlib.Core.Bool.{Bool, false}
-use mathlib.Core.Logic.{_⊎_, inl, inr}
 use mathlib.Core.List.{List}
-use Prim.Native.Nat.{ℕ, _^_, _≤_}
+use Prim.Native.Nat.{ℕ, _^_}
 use native.Mathlib.Omega.{arith}
 use lib.Dec.{T}
 use lib.IntN.{ℤ}
 use lib.Ieee.{binary64, fits}
 use lib.Ieee.Fits.{round-fits}
 use Rattle.refusals.specs.Outcome.{Outcome}
-use Rattle.rounding.proofs.Casts.{plusZ, minusZ, one-side}
 use Rattle.calendar.specs.Calendar.{dateOf}
-use Rattle.day_number.specs.ExactDay.{InJulianRange, exactDay, exactFraction, fractionOf, DayAt}
+use Rattle.day_number.specs.ExactDay.{InJulianRange, exactDay, exactFraction, fractionOf}
 use Rattle.day_number.specs.Ranges.{InDays}
-use Rattle.day_number.proofs.ExactDay.{exact-day}
 use Rattle.julian.specs.declared.JulianDate.{JulianDate}
-use Rattle.julian_laws.proofs.CalendarDays.{exact-date}
+use Rattle.julian_laws.proofs.CalendarDays.{day-low, day-high, exact-date}
 use Rattle.tai_utc.specs.Table.{Row}
 use Rattle.utc.specs.IsoText.{dayTextBy, isoTextBy}
 use Rattle.utc.specs.OneText.{Division}
 use Rattle.utc.proofs.TextCalls.{fields-given-by}
 
 pub in-days : (sum : ℤ) → InJulianRange sum → InDays (exactDay sum)
-in-days sum r = record { top = top (one-side (exactDay sum)); bottom = bottom (one-side (exactDay sum)) }
-  where
-    d : DayAt sum (exactDay sum) (exactFraction sum)
-    d = exact-day sum
-
-    top : (plusZ (exactDay sum) ≡ 0) ⊎ (minusZ (exactDay sum) ≡ 0) → plusZ (exactDay sum) ≤ 1000000000
-    top (inl h) = omega arith
-    top (inr h) = omega (arith, r .high, d .total, d .below)
-
-    bottom : (plusZ (exactDay sum) ≡ 0) ⊎ (minusZ (exactDay sum) ≡ 0) → minusZ (exactDay sum) ≤ 68570
-    bottom (inl h) = omega (arith, r .low, d .total, d .below)
-    bottom (inr h) = omega arith
+in-days sum r = record { top = day-high sum r; bottom = omega (arith, day-low sum r) }
 
 pub fraction-fits : (u : ℕ) → T (fits binary64 (fractionOf u))
 unfolding fractionOf

@@ -1,4 +1,4 @@
--- The definitions that the contracts of `utc` and its theorems cite.
+-- The definitions that the contracts of `utc` and its theorems cite, in the order to read them.
 pub mod FromCalendar
 pub mod UnixTime
 pub mod IsoText

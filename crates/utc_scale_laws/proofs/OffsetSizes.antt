@@ -5,7 +5,7 @@ use Prim.Native.Nat.{ℕ, suc, _+_, _-_, _*_, _^_, _≤_, _<_}
 use native.Mathlib.Nat.{le-trans, le-of-eq, mul-le-mul-right, zero-mul}
 use native.Mathlib.Omega.{arith}
 use lib.Dec.{T, ltb, leb, leb→le, lit≤, lit<}
-use lib.ListN.{length, getD}
+use lib.ListN.{getD}
 use lib.IntN.{ℤ, pos, negsuc, natAbs, subℕ, _+ℤ_}
 use lib.Ieee.{Float, binary64, ofInt, round, add, sub, mul}
 use borrow.Author.Tests.{leb-true, leb-false}
@@ -32,6 +32,7 @@ use Rattle.tai_utc.proofs.Rows.{every, at}
 use Rattle.tai_utc.proofs.At.{drifting}
 use Rattle.tai_utc.proofs.Offsets.{offset-came}
 use Rattle.tai_utc.proofs.Years.{before-1960, one-row, drift-rows, most-rows, whole-seconds}
+use Rattle.tai_utc.proofs.Cases.{forty-two-rows}
 use Rattle.refusals.proofs.Onward.{came}
 
 -- ---- the decimals of a row: at most 64 s, MJD 65536 and 2 ^ -8 s a day
@@ -53,15 +54,11 @@ every-row : T (every slow 0 fixed)
 unfolding fixed slow
 every-row = tt
 
-rows-42 : length fixed ≡ 42
-unfolding fixed
-rows-42 = refl
-
 slow-row : (i : ℕ) → i < 42 → Slow (getD fixed i none)
 unfolding slow
 slow-row i h =
     let r = getD fixed i none in
-    let k = all-three (leb (r .units) 640000000) (leb (r .start) 65536) (leb (r .rate) 39062500) (at slow fixed every-row i (subst (λ (n : ℕ). i < n) (sym rows-42) h)) in
+    let k = all-three (leb (r .units) 640000000) (leb (r .start) 65536) (leb (r .rate) 39062500) (at slow fixed every-row i (subst (λ (n : ℕ). i < n) (sym forty-two-rows) h)) in
     record { units = leb→le (r .units) 640000000 (k .0); start = leb→le (r .start) 65536 (k .1); rate = leb→le (r .rate) 39062500 (k .2) }
 
 -- 2 ^ -8, in units

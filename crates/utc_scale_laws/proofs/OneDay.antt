@@ -5,8 +5,8 @@ use mathlib.Core.Logic.{inl, inr}
 use lib.IntN.{+ℤ-comm}
 use lib.Ieee.{Float, binary64}
 use lib.Ieee.Scale.{finite}
-use Rattle.refusals.specs.Outcome.{Outcome, answer}
-use Rattle.day_number.specs.declared.DayNumber.{DayNumber}
+use Rattle.refusals.specs.Outcome.{Outcome}
+use Rattle.calendar.proofs.Mjd.{same-answer}
 use Rattle.day_number.specs.DayNumber.{inJulianRange, accepted, dayOf}
 use Rattle.day_number.specs.ExactDay.{OnGrid}
 use Rattle.day_number.proofs.Answer.{answered}
@@ -24,14 +24,11 @@ twice : (b : Bool) → (b || b) ≡ b
 twice true = refl
 twice false = refl
 
-same-answer : (x y : DayNumber) → answer x ≡ answer y → x ≡ y
-same-answer x y e = cc
-
 -- two parts on the grid have one day in both orders
 day-turned : (x y : Float) → Fits x → Fits y → OnGrid x → OnGrid y → accepted x y ≡ true → dayOf y x ≡ dayOf x y
 unfolding accepted
 day-turned x y f g a b e =
-    same-answer _ _
+    same-answer
     (sym (answered y x (ap inJulianRange (add-turned binary64 y x) ∙ e)) ∙ alike y x x y g f f g b a a b (+ℤ-comm (b .units) (a .units)) ∙ answered x y e)
 
 module _ (d : JulianDate) (h : Held d) where

@@ -1,5 +1,5 @@
 -- A day whose offsets have been looked up is known rightly: the offsets are those of the table. What the code of TAI to UTC carries from round to round, and that of
--- UTC to UT1 from TAI on, so that they look a day up once. Assumes nothing.
+-- UTC to UT1 from TAI on, so that they look a day up once. This project's own: the Rust looks the day up anew. No contract of a public function cites it. Assumes nothing.
 use mathlib.Core.Path.{_≡_}
 use mathlib.Core.Bool.{cond}
 use mathlib.Core.List.{List}

@@ -4,14 +4,14 @@ use borrow.Author.Needs.{needs}
 use Rattle.c_answers.proofs.refused.Statement.{statement}
 use Rattle.c_answers.proofs.refused.Tie as tie
 
-cast-result : tie.Need-cast-result
-cast-result c = search needs
+cast-size : tie.Need-cast-size
+cast-size c = search needs
 
-sub-result : tie.Need-sub-result
-sub-result c = minus-fits (c .args .number) (c .fits .number)
+sub-below-zero : tie.Need-sub-below-zero
+sub-below-zero c = minus-fits (c .args .number) (c .fits .number)
 
 returns : tie.Need-returns
 returns c = minus-is (c .args .number) (c .fits .number)
 
 pub refused-spec : {M : Type 1} → statement M
-refused-spec = tie.close (tie.spec cast-result sub-result returns)
+refused-spec = tie.close (tie.spec cast-size sub-below-zero returns)
