@@ -1,6 +1,6 @@
-/* Makes a block of 4,000 stamps of which 212 are dead, as raw bytes, and the listing that is due.
+/* Makes a block of 4,000 stamps of which 212 are not finite, as raw bytes, and the listing that is due.
      make_stamps block > FILE      make_stamps listing > FILE
-   The dead ones are NaN of both signs, quiet and signalling, with every payload of one bit, in jd1 or
+   Those are NaN of both signs, quiet and signalling, with every payload of one bit, in jd1 or
    in jd2, and the infinities in either and in both. The live ones are eight to a day from 2000-01-01
    on, at odd 8192nds of the day, which lie between two halves of a millisecond and whose texts are
    counted here without the port, and among them the edges that document 01 names. */
@@ -8,7 +8,7 @@
 #include <stdio.h>
 #include <string.h>
 
-enum { STAMPS = 4000, DEAD = 212, NANS = 204 };
+enum { STAMPS = 4000, NOT_FINITE_STAMPS = 212, NANS = 204 };
 
 typedef struct { uint64_t jd1, jd2; } stamp;
 
@@ -21,13 +21,13 @@ static uint64_t bits(double x)
 
 static stamp parts(double jd1, double jd2) { return (stamp){bits(jd1), bits(jd2)}; }
 
-/* ---- the dead */
+/* ---- the stamps that are not finite */
 
-static stamp dead_stamp(int k)
+static stamp not_finite_stamp(int k)
 {
     static const uint64_t INF = 0x7ff0000000000000, SIGN = 0x8000000000000000, QUIET = 0x0008000000000000;
     const uint64_t day = bits(2451545.0);
-    const stamp infinite[DEAD - NANS] = {
+    const stamp infinite[NOT_FINITE_STAMPS - NANS] = {
         {INF, 0}, {SIGN | INF, 0}, {day, INF}, {day, SIGN | INF},
         {INF, INF}, {SIGN | INF, SIGN | INF}, {INF, SIGN | INF}, {SIGN | INF, INF},
     };
@@ -37,8 +37,8 @@ static stamp dead_stamp(int k)
     return k % 8 < 4 ? (stamp){nan, k % 3 ? day : 0} : (stamp){day, nan};
 }
 
-/* The first and the last stamp are dead, and each eighteenth between them. */
-static int dead_at(int i) { return i == STAMPS - 1 ? DEAD - 1 : i % 18 == 0 && i / 18 < DEAD - 1 ? i / 18 : -1; }
+/* The first and the last stamp are not finite, and each eighteenth between them. */
+static int not_finite_at(int i) { return i == STAMPS - 1 ? NOT_FINITE_STAMPS - 1 : i % 18 == 0 && i / 18 < NOT_FINITE_STAMPS - 1 ? i / 18 : -1; }
 
 /* ---- the live */
 
@@ -53,10 +53,10 @@ static const struct { double jd1, jd2; const char *text; } EDGES[] = {
 };
 enum { EDGE_COUNT = sizeof EDGES / sizeof *EDGES };
 
-/* The edges stand right after the first dead stamps. */
+/* The edges stand right after the first of these. */
 static int edge_at(int i) { return i % 18 == 1 && i / 18 < EDGE_COUNT ? i / 18 : -1; }
 
-static stamp live_stamp(int i)
+static stamp finite_stamp(int i)
 {
     double days = 51544.0 + i / 8 + (2 * i + 1) / 8192.0;
     if (edge_at(i) >= 0) return parts(EDGES[edge_at(i)].jd1, EDGES[edge_at(i)].jd2);
@@ -95,7 +95,7 @@ static void put(uint64_t pattern, int bytes)
     for (; bytes > 0; bytes--, pattern >>= 8) putchar((int)(pattern & 255));
 }
 
-static stamp stamp_at(int i) { return dead_at(i) >= 0 ? dead_stamp(dead_at(i)) : live_stamp(i); }
+static stamp stamp_at(int i) { return not_finite_at(i) >= 0 ? not_finite_stamp(not_finite_at(i)) : finite_stamp(i); }
 
 static void block(void)
 {
@@ -110,9 +110,9 @@ static void listing(void)
 {
     char text[64];
     int i;
-    printf("utc listing %d refused %d\n", STAMPS, DEAD);
+    printf("utc listing %d refused %d\n", STAMPS, NOT_FINITE_STAMPS);
     for (i = 0; i < STAMPS; i++) {
-        if (dead_at(i) >= 0) strcpy(text, "refused 6");
+        if (not_finite_at(i) >= 0) strcpy(text, "refused 6");
         else live_text(i, text);
         printf("%d %s\n", i, text);
     }

@@ -39,10 +39,10 @@ static void plain_scales(void)
             parts(2453750.5, PLAIN[i].out);
             judge(PLAIN[i].name, 0, PLAIN[i].ask(2453750.5, PLAIN[i].in, fresh(), room));
             for (k = 0; k < COUNT(NOT_FINITE); k++) {
-                double dead = ct_opaque_float(NOT_FINITE[k]);
-                judge(PLAIN[i].name, 9, PLAIN[i].ask(dead, 0.0, fresh(), room));
-                judge(PLAIN[i].name, 9, PLAIN[i].ask(2451545.0, dead, fresh(), room));
-                judge(PLAIN[i].name, 9, PLAIN[i].ask(dead, infinite_float(), fresh(), room));
+                double not_finite = ct_opaque_float(NOT_FINITE[k]);
+                judge(PLAIN[i].name, 9, PLAIN[i].ask(not_finite, 0.0, fresh(), room));
+                judge(PLAIN[i].name, 9, PLAIN[i].ask(2451545.0, not_finite, fresh(), room));
+                judge(PLAIN[i].name, 9, PLAIN[i].ask(not_finite, infinite_float(), fresh(), room));
             }
         }
     REFUSES(9, ct_tcg_to_tai, 1.7e308, 1.7e308);
@@ -59,10 +59,10 @@ static void scales_with_offset(void)
             parts(2453750.5, WITH_OFFSET[i].out);
             judge(name, 0, ask(2453750.5, WITH_OFFSET[i].in, WITH_OFFSET[i].offset, fresh(), room));
             for (k = 0; k < COUNT(NOT_FINITE); k++) {
-                double dead = ct_opaque_float(NOT_FINITE[k]);
-                judge(name, 9, ask(dead, 0.0, nan_float(), fresh(), room));
-                judge(name, 9, ask(2451545.0, dead, 0.0, fresh(), room));
-                judge(name, 10, ask(2451545.0, 0.0, dead, fresh(), room));
+                double not_finite = ct_opaque_float(NOT_FINITE[k]);
+                judge(name, 9, ask(not_finite, 0.0, nan_float(), fresh(), room));
+                judge(name, 9, ask(2451545.0, not_finite, 0.0, fresh(), room));
+                judge(name, 10, ask(2451545.0, 0.0, not_finite, fresh(), room));
             }
         }
 }

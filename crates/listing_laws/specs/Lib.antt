@@ -1,3 +1,3 @@
--- What the theorems of a listing speak of: line ends, and dead stamps.
+-- What the theorems of a listing speak of: line ends, and stamps that are not finite.
 pub mod LineEnds
-pub mod DeadStamp
+pub mod NotFinite

@@ -1,12 +1,12 @@
-/* Every call that takes a date, on the dead stamps of a block: each must refuse each of them by its
+/* Every call that takes a date, on the stamps of a block that are not finite: each must refuse each of them by its
    number, however this program was compiled and linked.
-     accident BLOCK
+     not_finite BLOCK
    Prints, too, how many stamps the C library's isnan finds in this build: none where the compiler has dropped it. */
 #include "check.h"
 #include "patterns.h"
 #include <math.h>
 
-enum { DEAD = 212, MOST_BYTES = 64008, ROOM = 32 };
+enum { NOT_FINITE_STAMPS = 212, MOST_BYTES = 64008, ROOM = 32 };
 
 typedef int64_t plain_call(double, double, uint8_t *, size_t);
 typedef int64_t offset_call(double, double, double, uint8_t *, size_t);
@@ -52,7 +52,7 @@ static int untouched(void)
 
 static void due(const char *name, int number, int64_t code)
 {
-    check(code == -number && untouched(), "%s says %ld of a dead stamp", name, (long)code);
+    check(code == -number && untouched(), "%s says %ld of a stamp that is not finite", name, (long)code);
 }
 
 static void ask_all(double jd1, double jd2)
@@ -63,12 +63,12 @@ static void ask_all(double jd1, double jd2)
         due(WITH_OFFSET[i].name, WITH_OFFSET[i].number, WITH_OFFSET[i].ask(jd1, jd2, 0.5, fresh(), ROOM));
 }
 
-/* A dead part in the place of the offset; 10 comes after 9 in six calls and before it in two. */
-static void ask_offsets(double dead)
+/* A part that is not finite in the place of the offset; 10 comes after 9 in six calls and before it in two. */
+static void ask_offsets(double not_finite)
 {
     size_t i;
     for (i = 0; i < COUNT(WITH_OFFSET); i++)
-        due(WITH_OFFSET[i].name, 10, WITH_OFFSET[i].ask(2451545.0, 0.25, dead, fresh(), ROOM));
+        due(WITH_OFFSET[i].name, 10, WITH_OFFSET[i].ask(2451545.0, 0.25, not_finite, fresh(), ROOM));
 }
 
 static int not_finite(const uint8_t *at) { return (at[7] & 0x7f) == 0x7f && (at[6] & 0xf0) == 0xf0; }
@@ -78,7 +78,7 @@ int main(int count, char **words)
     static uint8_t block[MOST_BYTES];
     const uint8_t *jd1 = block + 8, *jd2;
     FILE *file = count == 2 ? fopen(words[1], "rb") : NULL;
-    int64_t i, stamps, dead = 0, by_isnan = 0, by_text = 0;
+    int64_t i, stamps, found = 0, by_isnan = 0, by_text = 0;
     if (!file || fread(block, 1, sizeof block, file) != sizeof block) return 2;
     fclose(file);
     stamps = ct_block_stamps(block, sizeof block);
@@ -88,13 +88,13 @@ int main(int count, char **words)
         by_isnan += isnan(sum) != 0;
         by_text += ct_to_iso8601(first, second, fresh(), ROOM) < 0;
         if (!not_finite(jd1 + 8 * i) && !not_finite(jd2 + 8 * i)) continue;
-        dead++;
+        found++;
         ask_all(first, second);
         ask_offsets(not_finite(jd1 + 8 * i) ? first : second);
     }
-    check(dead == DEAD, "%ld dead stamps in the block", (long)dead);
-    check(by_text == DEAD, "the text call refuses %ld stamps", (long)by_text);
-    printf("dead stamps: %ld; isnan in this build says %ld, the text call refuses %ld\n", (long)dead, (long)by_isnan,
+    check(found == NOT_FINITE_STAMPS, "%ld stamps of the block are not finite", (long)found);
+    check(by_text == NOT_FINITE_STAMPS, "the text call refuses %ld stamps", (long)by_text);
+    printf("not finite: %ld; isnan in this build says %ld, the text call refuses %ld\n", (long)found, (long)by_isnan,
            (long)by_text);
-    return summary("accident");
+    return summary("not finite");
 }

@@ -1,4 +1,4 @@
--- A dead stamp: a date of a block with a part that is no number, and how many a block has. Written from document 01, "Stamp block", and IEEE 754: a binary64
+-- A stamp that is not finite: a date of a block with a part that is a NaN or an infinity, and how many a block has. Written from document 01, "Stamp block", and IEEE 754: a binary64
 -- pattern whose exponent field is all ones is an infinity where its fraction is 0, and else a NaN, of either sign and of any payload. Assumes nothing.
 use Prim.Native.Nat.{ℕ, zero, suc, _+_, _/_, _%_, _^_}
 use mathlib.Core.Path.{_≡_}
@@ -15,17 +15,17 @@ abbrev pub exponentField : ℕ → ℕ
 exponentField bits = bits / 2 ^ 52 % 2 ^ 11
 
 -- in jd1 or in jd2 of stamp i of n that field is all ones
-abbrev pub Dead : List ℕ → ℕ → ℕ → Type 0
-Dead s n i = (exponentField (jd1Bits s i) ≡ 2047) ⊎ (exponentField (jd2Bits s n i) ≡ 2047)
+abbrev pub NotFinite : List ℕ → ℕ → ℕ → Type 0
+NotFinite s n i = (exponentField (jd1Bits s i) ≡ 2047) ⊎ (exponentField (jd2Bits s n i) ≡ 2047)
 
 -- the same as a test
-unfoldable pub isDead : List ℕ → ℕ → ℕ → Bool
-isDead s n i = eqb (exponentField (jd1Bits s i)) 2047 || eqb (exponentField (jd2Bits s n i)) 2047
+unfoldable pub isNotFinite : List ℕ → ℕ → ℕ → Bool
+isNotFinite s n i = eqb (exponentField (jd1Bits s i)) 2047 || eqb (exponentField (jd2Bits s n i)) 2047
 
--- how many of the first k stamps of n are dead
-unfoldable pub deadIn : List ℕ → ℕ → ℕ → ℕ
-deadIn s n zero = 0
-deadIn s n (suc k) = deadIn s n k + cond (isDead s n k) 1 0
+-- how many of the first k stamps of n are not finite
+unfoldable pub notFiniteIn : List ℕ → ℕ → ℕ → ℕ
+notFiniteIn s n zero = 0
+notFiniteIn s n (suc k) = notFiniteIn s n k + cond (isNotFinite s n k) 1 0
 
 -- stamp i of n has a text
 pub record HasText (s : List ℕ) (n i : ℕ) : Type 0 where

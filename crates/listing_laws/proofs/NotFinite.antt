@@ -1,0 +1,119 @@
+-- A stamp of a block that is not finite is refused with 6 and counted: every NaN, of either sign and of any payload, and both infinities, in jd1 or in jd2. Assumes nothing.
+use mathlib.Core.Path.{_≡_, refl, sym, ap, _∙_}
+use mathlib.Core.Logic.{_⊎_, inl, inr}
+use mathlib.Core.Bool.{Bool, true, false, not, cond, _&&_, _||_}
+use mathlib.Core.List.{List, [], _∷_, _++_}
+use Prim.Native.Nat.{ℕ, zero, suc, _+_, _^_, _≤_, _<_}
+use native.Mathlib.Omega.{arith}
+use lib.Dec.{eqb}
+use lib.Pow.{field}
+use lib.Ieee.{nan, inf, binary64, odd, ofFields, ofBits}
+use lib.Ieee.Scale.{finite}
+use borrow.Author.Tests.{eqb-true, eq-eqb}
+use Rattle.refusals.specs.Outcome.{Outcome, answer, refusal}
+use Rattle.floats.proofs.Fields.{expo, ofBits-is}
+use Rattle.calendar.proofs.NextDates.{first-false}
+use Rattle.tai_utc.specs.Table.{fixed}
+use Rattle.utc.proofs.Numbers.{not-both, not-finite}
+use Rattle.stamps.specs.Block.{blockOf, jd1Bits, jd2Bits, stampAt}
+use Rattle.stamps.specs.Decimal.{decimal}
+use Rattle.listing_laws.specs.NotFinite.{exponentField, NotFinite, isNotFinite, notFiniteIn, HasText}
+use Rattle.stamps.specs.Listing.{refusedWord, shownAt, shown, stampLine, stampLines, oneIfRefused, refusedIn, header, listingOf, listing}
+
+-- ---- the values that are not finite are those whose exponent field is all ones
+odd-finite : (d : ℕ) (s : Bool) (q k l : ℕ) → finite (odd d s q k l) ≡ true
+unfolding odd
+odd-finite d s zero k l = refl
+odd-finite d s (suc q) k l = refl
+
+fields-finite : (s : Bool) (e t : ℕ) → finite (ofFields binary64 s e t) ≡ not (eqb e 2047)
+unfolding ofFields
+fields-finite s zero t = odd-finite 53 s t 0 1074
+fields-finite s (suc e) t = by (eqb (suc e) 2047) (eqb t 0)
+  where
+    by : (a b : Bool) → finite (cond a (cond b (inf s) nan) (odd 53 s (2 ^ 52 + t) e 1074)) ≡ not a
+    by true true = refl
+    by true false = refl
+    by false b = odd-finite 53 s (2 ^ 52 + t) e 1074
+
+pub finite-field : (b : ℕ) → finite (ofBits binary64 b) ≡ not (eqb (exponentField b) 2047)
+finite-field b = ap finite (ofBits-is b) ∙ fields-finite _ (expo b) _ ∙ ap (λ (e : ℕ). not (eqb e 2047)) (field b 11 52)
+
+field-not-finite : (b : ℕ) → exponentField b ≡ 2047 → finite (ofBits binary64 b) ≡ false
+field-not-finite b e = finite-field b ∙ ap not (eq-eqb (exponentField b) 2047 e)
+
+no-second : (a b : Bool) → b ≡ false → a && b ≡ false
+no-second true b e = e
+no-second false b e = refl
+
+-- ---- A STAMP THAT IS NOT FINITE is refused with 6, its line says so, and it counts as one
+pub not-finite-refused : (s : List ℕ) (n i : ℕ) → NotFinite s n i → shownAt s n i ≡ refusal 6
+unfolding shownAt stampAt
+not-finite-refused s n i d = not-finite fixed (stampAt s n i) (by d)
+  where
+    by : NotFinite s n i → finite (stampAt s n i .jd1) && finite (stampAt s n i .jd2) ≡ false
+    by (inl e) = first-false (finite (stampAt s n i .jd1)) (finite (stampAt s n i .jd2)) (field-not-finite (jd1Bits s i) e)
+    by (inr e) = no-second (finite (stampAt s n i .jd1)) (finite (stampAt s n i .jd2)) (field-not-finite (jd2Bits s n i) e)
+
+six : decimal 6 ≡ 54 ∷ []
+unfolding decimal
+six = refl
+
+-- `i refused 6`
+pub not-finite-line : (s : List ℕ) (n i : ℕ) → NotFinite s n i → stampLine s n i ≡ ((decimal i ++ (32 ∷ [])) ++ (refusedWord ++ (54 ∷ []))) ++ (10 ∷ [])
+unfolding stampLine shown
+not-finite-line s n i d =
+    ap (λ (o : Outcome (List ℕ)). ((decimal i ++ (32 ∷ [])) ++ shown o) ++ (10 ∷ [])) (not-finite-refused s n i d)
+    ∙ ap (λ (t : List ℕ). ((decimal i ++ (32 ∷ [])) ++ (refusedWord ++ t)) ++ (10 ∷ [])) six
+
+pub not-finite-one : (s : List ℕ) (n i : ℕ) → NotFinite s n i → oneIfRefused (shownAt s n i) ≡ 1
+unfolding oneIfRefused
+not-finite-one s n i d = ap oneIfRefused (not-finite-refused s n i d)
+
+-- ---- the test says which stamps are not finite
+pub not-finite-tested : (s : List ℕ) (n i : ℕ) → NotFinite s n i → isNotFinite s n i ≡ true
+unfolding isNotFinite
+not-finite-tested s n i (inl e) = ap (λ (b : Bool). b || eqb (exponentField (jd2Bits s n i)) 2047) (eq-eqb _ _ e)
+not-finite-tested s n i (inr e) = by (eqb (exponentField (jd1Bits s i)) 2047) _ (eq-eqb _ _ e)
+  where
+    by : (a b : Bool) → b ≡ true → a || b ≡ true
+    by true b e = refl
+    by false b e = e
+
+pub tested-not-finite : (s : List ℕ) (n i : ℕ) → isNotFinite s n i ≡ true → NotFinite s n i
+unfolding isNotFinite
+tested-not-finite s n i = by (eqb (exponentField (jd1Bits s i)) 2047) refl
+  where
+    by : (a : Bool) → eqb (exponentField (jd1Bits s i)) 2047 ≡ a → a || eqb (exponentField (jd2Bits s n i)) 2047 ≡ true → NotFinite s n i
+    by true p e = inl (eqb-true _ _ p)
+    by false p e = inr (eqb-true _ _ e)
+
+-- ---- THE COUNT of a block's header is at least the number of its stamps that are not finite
+pub not-finite-counted : (s : List ℕ) (n k : ℕ) → notFiniteIn s n k ≤ refusedIn s n k
+unfolding notFiniteIn refusedIn
+not-finite-counted s n zero = omega arith
+not-finite-counted s n (suc k) = let before = not-finite-counted s n k in let one = by (isNotFinite s n k) refl in omega arith
+  where
+    by : (b : Bool) → isNotFinite s n k ≡ b → cond b 1 0 ≤ oneIfRefused (shownAt s n k)
+    by true e = omega (arith, not-finite-one s n k (tested-not-finite s n k e))
+    by false e = omega arith
+
+-- and it is that number where each stamp is not finite or has a text
+one-each : (s : List ℕ) (n i : ℕ) → NotFinite s n i ⊎ HasText s n i → oneIfRefused (shownAt s n i) ≡ cond (isNotFinite s n i) 1 0
+unfolding oneIfRefused
+one-each s n i (inl d) = not-finite-one s n i d ∙ ap (λ (b : Bool). cond {A = ℕ} b 1 0) (sym (not-finite-tested s n i d))
+one-each s n i (inr h) = by (isNotFinite s n i) refl
+  where
+    by : (b : Bool) → isNotFinite s n i ≡ b → oneIfRefused (shownAt s n i) ≡ cond b 1 0
+    by true e = absurd (not-both (shownAt s n i) (h .text) 6 (h .is) (not-finite-refused s n i (tested-not-finite s n i e)))
+    by false e = ap oneIfRefused (h .is)
+
+pub only-not-finite : (s : List ℕ) (n k : ℕ) → ((i : ℕ) → i < k → NotFinite s n i ⊎ HasText s n i) → refusedIn s n k ≡ notFiniteIn s n k
+unfolding notFiniteIn refusedIn
+only-not-finite s n zero f = refl
+only-not-finite s n (suc k) f = let before = only-not-finite s n k (λ i h. f i (omega arith)) in let one = one-each s n k (f k (omega arith)) in omega arith
+
+pub not-finite-header : (s : List ℕ) (n : ℕ) → blockOf s ≡ answer n → ((i : ℕ) → i < n → NotFinite s n i ⊎ HasText s n i)
+    → listing s ≡ header n (notFiniteIn s n n) ++ stampLines s n n
+unfolding listing listingOf
+not-finite-header s n e f = ap (λ (o : Outcome ℕ). listingOf o s) e ∙ ap (λ (k : ℕ). header n k ++ stampLines s n n) (only-not-finite s n n f)
