@@ -11,12 +11,13 @@ use mir.ValLaws.{toZ-ofZ}
 use Rattle.rounding.proofs.Value.{L-pos}
 use Rattle.rounding.proofs.Compare.{le-show, lt-show}
 use Rattle.rounding.proofs.Ints.{int-own, int-fits}
+use Rattle.rounding.specs.Value.{InUnit}
 use Rattle.refusals.specs.Outcome.{answer}
 use Rattle.floats.specs.Whole.{nearestInt}
 use Rattle.day_number.specs.declared.DayNumber.{DayNumber}
 use Rattle.day_number.specs.DayNumber.{accepted, dayNumber, dayFraction, dayOf}
 use Rattle.day_number.specs.Answer.{dayNumberAndFraction}
-use Rattle.day_number.specs.Ranges.{InDays, InUnit}
+use Rattle.day_number.specs.Ranges.{InDays}
 use Rattle.day_number.proofs.Units.{one-L, nought-L}
 use Rattle.day_number.proofs.Answer.{answer-is}
 use Rattle.day_number.proofs.Accepted.{accepted-pair}

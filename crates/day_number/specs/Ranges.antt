@@ -1,17 +1,9 @@
 -- Where the day and the fraction of an answered date lie. Written from document 01, "Day and fraction". Assumes nothing.
 use Prim.Native.Nat.{_≤_}
-use lib.Dec.{T}
 use lib.IntN.{ℤ}
-use lib.Ieee.{Float, lt, le}
-use Rattle.floats.specs.Whole.{nought, one}
 use Rattle.rounding.specs.Value.{plusZ, minusZ}
 
 -- -68570 ≤ z ≤ 1000000000
 pub record InDays (z : ℤ) : Type 0 where
   pub top : plusZ z ≤ 1000000000
   pub bottom : minusZ z ≤ 68570
-
--- 0.0 ≤ f < 1.0
-pub record InUnit (f : Float) : Type 0 where
-  pub low : T (le nought f)
-  pub high : T (lt f one)

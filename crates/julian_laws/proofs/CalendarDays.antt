@@ -11,7 +11,7 @@ use lib.Signed.{ltZ}
 use lib.Ieee.{Float, binary64, fits}
 use borrow.Author.Tests.{le-ltb}
 use Rattle.refusals.specs.Outcome.{Outcome, answer, refusal, onward}
-use Rattle.rounding.specs.Value.{Val, Under52, L}
+use Rattle.rounding.specs.Value.{Val, Under52, L, InUnit}
 use Rattle.rounding.proofs.Casts.{plusZ, minusZ, one-side}
 use Rattle.calendar.specs.declared.CalendarDate.{CalendarDate}
 use Rattle.calendar.specs.Calendar.{dateOf}
@@ -20,7 +20,6 @@ use Rattle.calendar.proofs.Gregorian.{gregorian-is-date-of-day}
 use Rattle.day_number.specs.declared.DayNumber.{DayNumber}
 use Rattle.day_number.specs.DayNumber.{accepted, dayOf}
 use Rattle.day_number.specs.Answer.{dayNumberAndFraction}
-use Rattle.day_number.specs.Ranges.{InUnit}
 use Rattle.day_number.specs.ExactDay.{OnGrid, exactSum, InJulianRange, exactDay, exactFraction, exactDayNumber, fractionOf, DayAt}
 use Rattle.day_number.specs.NearDay.{DayNear}
 use Rattle.day_number.proofs.Answer.{answered, refused}

@@ -3,9 +3,10 @@
 use mathlib.Core.Path.{_≡_}
 use lib.IntN.{ℤ}
 use Rattle.calendar.specs.Gregorian.{gregorianDate}
-use Rattle.day_number.specs.Ranges.{InDays, InUnit}
+use Rattle.day_number.specs.Ranges.{InDays}
 use Rattle.day_number.specs.NearDay.{DayNear}
 use Rattle.julian.specs.declared.CalendarFields.{CalendarFields}
+use Rattle.rounding.specs.Value.{InUnit}
 
 -- the answer is the date of a day from -68570 to 10^9, and a fraction from 0.0 to below 1.0
 pub record InRange (f : CalendarFields) : Type 0 where

@@ -6,9 +6,9 @@ use Prim.Native.Nat.{ℕ, suc, _+_, _^_}
 use lib.IntN.{ℤ, pos, negsuc}
 use mathlib.Core.Bool.{Bool, true, false}
 use lib.Dec.{T}
-use lib.Ieee.{Float, Format, fin, binary64, round, lt, fits}
+use lib.Ieee.{Float, Format, fin, binary64, round, lt, fits, le}
 use lib.Ieee.Exact.{HasValue}
-use Rattle.floats.specs.Whole.{abs}
+use Rattle.floats.specs.Whole.{abs, nought, one}
 
 -- a with the sign s is p - n: a = p - n, and for the negative sign -a = p - n
 abbrev pub Signed : Bool → ℕ → ℕ → ℕ → Type 0
@@ -33,6 +33,11 @@ pub record Rounds (f : Format) (z : Float) (p n d : ℕ) : Type 0 where
 pub record Under52 (x : Float) : Type 0 where
   pub held : T (fits binary64 x)
   pub small : T (lt (abs x) (fin false 1 (pos 52)))
+
+-- 0.0 ≤ x < 1.0, as a fraction of a day is
+pub record InUnit (x : Float) : Type 0 where
+  pub low : T (le nought x)
+  pub high : T (lt x one)
 
 -- an integer z as the pair of plusZ z and minusZ z, of which one is 0: z = plusZ z - minusZ z
 abbrev pub plusZ : ℤ → ℕ

@@ -14,7 +14,7 @@ use Rattle.time_of_day.specs.Nearest.{Nearest}
 use Rattle.time_of_day.specs.ExactTime.{Close}
 use Rattle.time_of_day.proofs.Chain.{U, U-pos, L-is-U, u-small, leap-part, Chained, chained}
 use Rattle.time_of_day.proofs.Rounded.{Whole, rounded}
-use Rattle.time_of_day.proofs.Fractions.{InUnits, WithinOne, as-fraction, at-most, at-least}
+use Rattle.time_of_day.proofs.Fractions.{AsUnits, WithinOne, as-fraction, at-most, at-least}
 
 -- ---- the count is not below 0
 not-below : (p n u l m k : ℕ) → l ≡ 9007199254740992 * u → 0 < u → n ≤ p + 305445864 * u → k ≡ 0 → 2 * (m + p) ≤ 2 * (k + n) + l → m < 1 * l
@@ -112,12 +112,12 @@ module _ (F B C E p n k : ℕ) (G : 0 < E) (hf : F < L) (hb : B ≤ C + E) (hc :
         go' a x d a' n p f b c u l e g h i j m = omega arith
 
 -- ---- what the count is
-pub record Counted (how : Bool → ℕ → ℕ → ℕ) (f l : Float) (u : InUnits f) : Type 0 where
+pub record Counted (how : Bool → ℕ → ℕ → ℕ) (f l : Float) (u : AsUnits f) : Type 0 where
   pub k : ℕ
   pub is : millisOf how f l ≡ pos k
   pub close : (B C E W : ℕ) → 0 < E → Val l B C E → W + C ≡ 86400 * E + B → Close 16777216 8388609 (k * E) (u .F) L W E
 
-module _ (how : Bool → ℕ → ℕ → ℕ) (rule : Nearest how) (f l : Float) (u : InUnits f) (h : WithinOne l) where
+module _ (how : Bool → ℕ → ℕ → ℕ) (rule : Nearest how) (f l : Float) (u : AsUnits f) (h : WithinOne l) where
   module _ (B C E : ℕ) (G : 0 < E) (v : Val l B C E) where
     c : Chained (mul binary64 thousand-f (secondsOf f l)) (u .F) B C E
     c = chained (u .F) B C E f l (u .val) v G (u .most) (at-most G v h) (at-least G v h)

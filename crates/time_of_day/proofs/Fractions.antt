@@ -10,12 +10,12 @@ use lib.Ieee.Fits.{down-pos}
 use lib.Ieee.Exact.{HasValue}
 use lib.Ieee.Scale.{finite}
 use Rattle.floats.specs.Whole.{abs, nought, one}
-use Rattle.rounding.specs.Value.{Signed, Val, L}
+use Rattle.rounding.specs.Value.{Signed, Val, L, InUnit}
 use Rattle.rounding.proofs.Value.{val-move, L-pos}
 use Rattle.rounding.proofs.Own.{Own, own, own-val, plus-of, minus-of, signed-of}
 use Rattle.rounding.proofs.Compare.{lt-says, le-val, le-show, lt-show}
 use Rattle.time_of_day.specs.Milliseconds.{wholeLeap}
-use Rattle.time_of_day.specs.ExactTime.{minus-one-f, Fraction, Leap, little, second, first, minus-second}
+use Rattle.time_of_day.specs.ExactTime.{minus-one-f, Leap, little, second, first, minus-second}
 
 pub le-says : {x y : Float} {p n q m D : ℕ} → 0 < D → Val x p n D → Val y q m D → T (le x y) → p + m ≤ q + n
 le-says {x} {y} {p} {n} {q} {m} E v w t = leb→le (p + m) (q + n) (subst T (le-val E v w) t)
@@ -32,34 +32,34 @@ pub minus-one-val : (D : ℕ) → Val minus-one-f 0 D D
 unfolding ofBits
 minus-one-val D = record { sign = true; size = D; has = (refl, one-mul D ∙ sym (mul-one D)); is = add-zero D }
 
-fraction-finite : (x : Float) → Fraction x → T (finite x)
+fraction-finite : (x : Float) → InUnit x → T (finite x)
 unfolding ofBits le lt eq
-fraction-finite nan h = absurd (h .least)
-fraction-finite (inf true) h = absurd (h .least)
-fraction-finite (inf false) h = absurd (h .most)
+fraction-finite nan h = absurd (h .low)
+fraction-finite (inf true) h = absurd (h .low)
+fraction-finite (inf false) h = absurd (h .high)
 fraction-finite (fin s m e) h = tt
 
 -- a fraction in units of 2 ^ -1074
-pub record InUnits (x : Float) : Type 0 where
+pub record AsUnits (x : Float) : Type 0 where
   pub F : ℕ
   pub val : Val x F 0 L
   pub most : F < L
 
-pub in-units : (x : Float) → T (fits binary64 x) → Fraction x → InUnits x
+pub in-units : (x : Float) → T (fits binary64 x) → InUnit x → AsUnits x
 in-units x f h = go (plus-of (o .sign) (o .size)) (minus-of (o .sign) (o .size)) (own-val x o)
   where
     o : Own x
     o = own x f (fraction-finite x h)
 
-    go : (p n : ℕ) → Val x p n L → InUnits x
+    go : (p n : ℕ) → Val x p n L → AsUnits x
     go p n v =
-        let a : 0 + n ≤ p + 0 = le-says L-pos (zero-val L) v (h .least) in
-        let b : p + 0 < L + n = lt-says L-pos v (one-val L) (h .most) in
+        let a : 0 + n ≤ p + 0 = le-says L-pos (zero-val L) v (h .low) in
+        let b : p + 0 < L + n = lt-says L-pos v (one-val L) (h .high) in
         record { F = p - n; val = val-move v (omega arith); most = omega arith }
 
 -- what a value says of a fraction, as the calendar's theorems give it
-pub fraction-of : (x : Float) (F D : ℕ) → 0 < D → Val x F 0 D → F < D → Fraction x
-fraction-of x F D h v l = record { least = le-show h (zero-val D) v (omega arith); most = lt-show h v (one-val D) (omega arith) }
+pub fraction-of : (x : Float) (F D : ℕ) → 0 < D → Val x F 0 D → F < D → InUnit x
+fraction-of x F D h v l = record { low = le-show h (zero-val D) v (omega arith); high = lt-show h v (one-val D) (omega arith) }
 
 -- a leap that is at most 1 in size
 pub record WithinOne (x : Float) : Type 0 where

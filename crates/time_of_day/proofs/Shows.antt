@@ -8,16 +8,16 @@ use mathlib.Core.Bool.{Bool, true, false, not, cond}
 use lib.Dec.{T, ltb, ltb→lt, nltb→le}
 use lib.Ieee.{Float, binary64, ofBits, lt, le, eq, fits}
 use Rattle.floats.specs.Whole.{abs, away, nought}
-use Rattle.rounding.specs.Value.{Val, L}
+use Rattle.rounding.specs.Value.{Val, L, InUnit}
 use Rattle.rounding.proofs.Value.{L-pos}
 use Rattle.time_of_day.specs.declared.TimeShown.{TimeShown}
 use Rattle.time_of_day.specs.declared.TimeShown.the-variants.{At, NextMidnight}
 use Rattle.time_of_day.specs.Milliseconds.{wholeLeap}
 use Rattle.time_of_day.specs.TimeShown.{timeOf, dayEnd, fromZero, shownAt, shownOf}
 use Rattle.time_of_day.specs.Nearest.{Nearest}
-use Rattle.time_of_day.specs.ExactTime.{Fraction, Leap, little, second, first, minus-second, DayLength, timeMs, shownMs, Close, Good, ShownRight}
+use Rattle.time_of_day.specs.ExactTime.{Leap, little, second, first, minus-second, DayLength, timeMs, shownMs, Close, Good, ShownRight}
 use Rattle.time_of_day.proofs.Rounded.{away-nearest}
-use Rattle.time_of_day.proofs.Fractions.{InUnits, in-units, within-one, at-most, zero-val, minus-one-val, le-says, cross}
+use Rattle.time_of_day.proofs.Fractions.{AsUnits, in-units, within-one, at-most, zero-val, minus-one-val, le-says, cross}
 use Rattle.time_of_day.proofs.Count.{Counted, counted}
 use Rattle.time_of_day.proofs.Fields.{fields-ms, good-time}
 use Rattle.time_of_day.proofs.Close.{close-move, close-end, close-501}
@@ -44,8 +44,8 @@ longest x W E G minus-second d = go (d .p) (d .n) (d .is) (le-says G (d .leap-is
     go p n i a = omega arith
 
 -- ---- what is shown, by a rule that gives a nearest whole number
-module _ (how : Bool → ℕ → ℕ → ℕ) (rule : Nearest how) (f x : Float) (h : T (fits binary64 f)) (g : Fraction f) (s : Leap x) where
-  u : InUnits f
+module _ (how : Bool → ℕ → ℕ → ℕ) (rule : Nearest how) (f x : Float) (h : T (fits binary64 f)) (g : InUnit f) (s : Leap x) where
+  u : AsUnits f
   u = in-units f h g
 
   c : Counted how f (wholeLeap x) u
@@ -83,5 +83,5 @@ module _ (how : Bool → ℕ → ℕ → ℕ) (rule : Nearest how) (f x : Float)
       go false t n = right-end (n tt)
 
 -- what `time_shown` answers is within 0.501 ms of the exact time of day
-pub shown-right : (f x : Float) → T (fits binary64 f) → Fraction f → Leap x → ShownRight f x (shownOf away f x)
+pub shown-right : (f x : Float) → T (fits binary64 f) → InUnit f → Leap x → ShownRight f x (shownOf away f x)
 shown-right = shown-right-by away away-nearest

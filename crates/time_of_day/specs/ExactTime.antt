@@ -5,7 +5,7 @@ use Prim.Native.Nat.{ℕ, _+_, _*_, _≤_, _<_}
 use mathlib.Core.Bool.{false}
 use lib.Dec.{T}
 use lib.IntN.{negsuc}
-use lib.Ieee.{Float, fin, binary64, ofBits, lt, le}
+use lib.Ieee.{Float, fin, binary64, ofBits, lt}
 use Rattle.floats.specs.Whole.{abs, nought, half, one}
 use Rattle.rounding.specs.Value.{Val}
 use Rattle.time_of_day.specs.declared.TimeOfDay.{TimeOfDay}
@@ -20,11 +20,6 @@ minus-one-f = ofBits binary64 0xbff0_0000_0000_0000
 -- the leap at the end of 1959-12-31, where the table of TAI-UTC begins: 0.9434819999999999, bits 0x3fee310129cbab64
 abbrev pub leap1959 : Float
 leap1959 = fin false 2124532591815385 (negsuc 50)
-
--- a fraction of a day: at least 0 and below 1
-pub record Fraction (x : Float) : Type 0 where
-  pub least : T (le nought x)
-  pub most : T (lt x one)
 
 -- the leaps that a text is shown for: of half a second at most in size, of a second, that of 1959-12-31, and of a second less, which no row of the table has
 pub data Leap : Float → Type 0 where
