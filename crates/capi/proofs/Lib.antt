@@ -1,5 +1,3 @@
--- The laws of the C interface: the outcome of a text call, what a return says, the stamp block, and a caller that lists it.
+-- The laws that the proofs of the C interface cite: the outcome of a text call, and a part of a listing.
 pub mod Texts
-pub mod Returns
 pub mod ListingParts
-pub mod ListingCalls

@@ -19,7 +19,7 @@ use Rattle.stamps.specs.declared.Part.{Part}
 use Rattle.stamps.specs.Block.{blockOutcome, blockOf}
 use Rattle.stamps.specs.Parts.{partText, partOf, PartPlaced}
 use Rattle.stamps.proofs.Blocks.{accepted}
-use Rattle.listing_laws.proofs.Lengths.{part-most, part-fits}
+use Rattle.stamps.proofs.Lengths.{part-most, part-fits}
 use Rattle.c_answers.specs.Delivery.{code, Delivered}
 use Rattle.capi.specs.ListingPart.{listingPart}
 use Rattle.c_answers.proofs.Deliveries.{code-back}

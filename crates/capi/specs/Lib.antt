@@ -1,3 +1,2 @@
--- What the contracts of the C interface cite beside the definitions of the crates below: a part of a listing, and how a caller lists a block.
+-- What the contracts of the C interface cite beside the definitions of the crates below: a part of a listing.
 pub mod ListingPart
-pub mod ListingCalls

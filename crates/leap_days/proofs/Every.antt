@@ -25,10 +25,11 @@ use Rattle.tai_utc.proofs.Reached.{member}
 use Rattle.tai_utc.proofs.Years.{before-1960}
 use Rattle.tai_utc.proofs.Days.{day-offsets-are, leap-given, leap-came}
 use Rattle.time_of_day.specs.ExactTime.{leap1959}
-use Rattle.leap_days.specs.Leaps.{small, TableLeap, within, second, first}
-use Rattle.leap_days.proofs.Tests.{each, sameF}
-use Rattle.leap_days.proofs.Drift.{oneDay, dayTest, daysTest, rowsTest, monthTest}
-use Rattle.leap_days.proofs.Each.{all-months}
+use Rattle.drift_days.specs.Small.{small}
+use Rattle.leap_days.specs.Leaps.{TableLeap, within, second, first}
+use Rattle.drift_days.proofs.Tests.{each, sameF}
+use Rattle.drift_days.proofs.Drift.{oneDay, dayTest, daysTest, rowsTest, monthTest}
+use Rattle.drift_days.proofs.Each.{all-months}
 use Rattle.leap_days.proofs.Months.{next-month-number, next-month-early}
 use Rattle.leap_days.proofs.Quick.{Step, test-is, quick-drift, quick-any}
 use Rattle.leap_days.proofs.Whole.{Both, whole-leap}

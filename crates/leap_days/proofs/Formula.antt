@@ -34,7 +34,7 @@ use Rattle.tai_utc.proofs.Rows.{at}
 use Rattle.tai_utc.proofs.At.{drifting}
 use Rattle.tai_utc.proofs.Years.{one-row, drift-rows}
 use Rattle.tai_utc.proofs.Offsets.{offset-came, offset-in-day}
-use Rattle.leap_days.proofs.Tests.{then, then-left, then-right}
+use Rattle.drift_days.proofs.Tests.{then, then-left, then-right}
 use Rattle.leap_days.specs.Formula.{NearFormula}
 
 -- ---- the float nearest to n / d is within 2 ^ i units of 2 ^ -90 of it, where it is below 2 ^ (54 + i) of them

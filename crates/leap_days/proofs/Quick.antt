@@ -16,9 +16,9 @@ use Rattle.tai_utc.specs.declared.DayOffsets.{DayOffsets}
 use Rattle.tai_utc.proofs.Rows.{drifts}
 use Rattle.tai_utc.proofs.At.{drifting, steady}
 use Rattle.tai_utc.proofs.Years.{one-row, drift-rows, whole-rows, most-rows}
-use Rattle.leap_days.specs.Leaps.{small}
-use Rattle.leap_days.proofs.Tests.{then-left, then-right, sameF, same-float}
-use Rattle.leap_days.proofs.Drift.{qby, qleap, qamount, leapTest}
+use Rattle.drift_days.specs.Small.{small}
+use Rattle.drift_days.proofs.Tests.{then-left, then-right, sameF, same-float}
+use Rattle.drift_days.proofs.Drift.{qby, qleap, qamount, leapTest}
 
 -- ---- the leap in both orders
 leap-is : (x y z : Float) → qleap x y z ≡ leapOf (offsets x y z)

@@ -23,7 +23,8 @@ use Rattle.tai_utc.proofs.Reached.{member, member-later}
 use Rattle.tai_utc.proofs.Rows.{fixed-rises}
 use Rattle.tai_utc.proofs.Days.{leap-came}
 use Rattle.tai_utc.specs.Offset.{wholeF}
-use Rattle.leap_days.specs.Leaps.{Day, leapSeconds, listed, isLeapSecond, small}
+use Rattle.drift_days.specs.Small.{small}
+use Rattle.leap_days.specs.Leaps.{Day, leapSeconds, listed, isLeapSecond}
 use Rattle.leap_days.proofs.Every.{from-1972, since}
 
 -- ---- 27 days, each the last of the month before one of rows 16 to 42 begins

@@ -15,7 +15,7 @@ use Rattle.tai_utc.proofs.Reached.{member, month-later}
 use Rattle.tai_utc.proofs.Rows.{fixed-rises}
 use Rattle.tai_utc.proofs.Years.{whole-rows, most-rows, whole-seconds}
 use Rattle.tai_utc.specs.Offset.{wholeF}
-use Rattle.leap_days.proofs.Tests.{then, then-left, then-right, each, sameF, same-float}
+use Rattle.drift_days.proofs.Tests.{then, then-left, then-right, each, sameF, same-float}
 
 abbrev pub Both : DayOffsets → Float → Type 0
 Both o x = (leapOf o ≡ x) × (leapAmount o ≡ x)

@@ -1,12 +1,13 @@
 -- The days that end in a leap second, and what the leap at the end of a day can be. The list is written from the IERS Bulletins C. Assumes nothing.
-use Prim.Native.Nat.{ℕ, _*_}
+use Prim.Native.Nat.{ℕ}
 use mathlib.Core.Path.{_≡_}
 use mathlib.Core.Bool.{Bool, false, _&&_, _||_}
 use mathlib.Core.List.{List, [], _∷_}
-use lib.Dec.{T, eqb, leb}
-use lib.Ieee.{Float, nan, inf, fin, up, down}
+use lib.Dec.{T, eqb}
+use lib.Ieee.{Float}
 use Rattle.floats.specs.Whole.{one}
 use Rattle.time_of_day.specs.ExactTime.{leap1959}
+use Rattle.drift_days.specs.Small.{small}
 
 pub record Day : Type 0 where
   pub year : ℕ
@@ -53,12 +54,6 @@ listed (t ∷ rest) y m d = (eqb y (t .year) && (eqb m (t .month) && eqb d (t .d
 
 unfoldable pub isLeapSecond : ℕ → ℕ → ℕ → Bool
 isLeapSecond y m d = listed leapSeconds y m d
-
--- at most 0.5 in size
-abbrev pub small : Float → Bool
-small nan = false
-small (inf s) = false
-small (fin s m e) = leb (m * up e * 2) (down e)
 
 -- the leaps that the table gives: fewer than `Leap` of `time_of_day` has, which a text is shown for
 pub data TableLeap (x : Float) : Type 0 where

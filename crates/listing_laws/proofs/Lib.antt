@@ -1,5 +1,4 @@
--- What a listing is as a whole: its parts in a row, the length and the line end of each line, and every stamp that is not finite refused and counted.
+-- What a listing is as a whole: its parts in a row, the line end of each line, and every stamp that is not finite refused and counted.
 pub mod Whole
-pub mod Lengths
 pub mod LineEnds
 pub mod NotFinite

@@ -3,7 +3,7 @@
 use Prim.Native.Nat.{ℕ, zero, suc, _+_, _-_, _<_, _≤_, zero-le}
 use native.Mathlib.Omega.{arith}
 use native.Mathlib.Numerals.{add-one}
-use native.Mathlib.Nat.{add-zero, add-suc, add-assoc, zero-add}
+use native.Mathlib.Nat.{zero-add}
 use mathlib.Core.Path.{_≡_, refl, sym, ap, _∙_}
 use mathlib.Core.Bool.{Bool, true, false}
 use mathlib.Core.List.{List, _++_, append-assoc, append-nil}
@@ -14,6 +14,7 @@ use Rattle.stamps.specs.Block.{blockOf}
 use Rattle.stamps.specs.Listing.{header, refusedIn, stampLine, stampLines, listingOf, listing}
 use Rattle.stamps.specs.Parts.{lineOf, linesIn, linesFrom, heldLines, partLines, partText, partOf, lineAfter, partsOf}
 use Rattle.stamps.proofs.Parts.{held-few, held-some}
+use Rattle.stamps.proofs.Lengths.{lines-add}
 
 -- ---- all lines are the listing
 module _ (s : List ℕ) (n : ℕ) (is : blockOf s ≡ answer n) where
@@ -47,15 +48,6 @@ all-lines s = all-lines-by s (blockOf s) refl
 
 -- ---- the parts
 module _ (s : List ℕ) where
-  pub lines-add : (i a b : ℕ) → linesFrom s i a ++ linesFrom s (i + a) b ≡ linesFrom s i (a + b)
-  unfolding linesFrom
-  lines-add i a zero = append-nil (linesFrom s i a) ∙ ap (linesFrom s i) (sym (add-zero a))
-  lines-add i a (suc b) =
-      sym (append-assoc (linesFrom s i a) (linesFrom s (i + a) b) (lineOf (blockOf s) s (i + a + b)))
-      ∙ ap (λ (l : List ℕ). l ++ lineOf (blockOf s) s (i + a + b)) (lines-add i a b)
-      ∙ ap (λ (k : ℕ). linesFrom s i (a + b) ++ lineOf (blockOf s) s k) (add-assoc i a b)
-      ∙ ap (linesFrom s i) (sym (add-suc a b))
-
   module _ (room : ℕ) where
     parts-are : (k : ℕ) → partsOf s room k ≡ linesFrom s 0 (lineAfter s room k)
     unfolding partsOf lineAfter partText linesFrom
@@ -63,7 +55,7 @@ module _ (s : List ℕ) where
     parts-are (suc k) =
         ap (λ (l : List ℕ). l ++ partText s (lineAfter s room k) room) (parts-are k)
         ∙ ap (λ (i : ℕ). linesFrom s 0 (lineAfter s room k) ++ linesFrom s i (partLines s (lineAfter s room k) room)) (sym (zero-add (lineAfter s room k)))
-        ∙ lines-add 0 (lineAfter s room k) (partLines s (lineAfter s room k) room)
+        ∙ lines-add s 0 (lineAfter s room k) (partLines s (lineAfter s room k) room)
 
     within : (k : ℕ) → lineAfter s room k ≤ linesIn (blockOf s)
     unfolding lineAfter partLines

@@ -6,3 +6,4 @@ pub mod Counts
 pub mod LateDates
 pub mod Lines
 pub mod Parts
+pub mod Lengths

@@ -20,12 +20,12 @@ use Rattle.stamps.specs.Parts.{linesIn, linesFrom, partLines, partText}
 use Rattle.listing_laws.specs.LineEnds.{lineEnds}
 use Rattle.stamps.proofs.Blocks.{few-lines}
 use Rattle.stamps.proofs.Parts.{held-few}
-use Rattle.listing_laws.proofs.Whole.{lines-add, all-lines}
-use Rattle.listing_laws.proofs.Lengths.{part-fits}
+use Rattle.listing_laws.proofs.Whole.{all-lines}
+use Rattle.stamps.proofs.Lengths.{part-fits, lines-add}
 use Rattle.listing_laws.proofs.LineEnds.{ends-most, part-ends, part-some}
 use Rattle.c_answers.specs.Delivery.{code, Delivered}
 use Rattle.capi.specs.ListingPart.{listingPart}
-use Rattle.capi.specs.ListingCalls.{Listed, begun, next}
+use Rattle.capi_laws.specs.ListingCalls.{Listed, begun, next}
 
 -- ---- what one call delivers to a buffer of 33 bytes or more
 module _ (s : List ℕ) (line : ℕ) {before after : List ℕ} {r : ℤ} (enough : 33 ≤ length before)

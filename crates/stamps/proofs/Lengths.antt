@@ -1,22 +1,32 @@
 -- A line has at most 33 bytes; so a part fits its scratch, and its length is small whatever the scratch. Assumes nothing.
 use Prim.Native.Nat.{ℕ, zero, suc, _+_, _-_, _*_, _≤_}
 use native.Mathlib.Omega.{arith}
+use native.Mathlib.Nat.{add-zero, add-suc, add-assoc}
 use mathlib.Core.Path.{_≡_, refl, sym, ap, _∙_}
 use mathlib.Core.Bool.{Bool, true, false, cond}
-use mathlib.Core.List.{List}
+use mathlib.Core.List.{List, _++_, append-assoc, append-nil}
 use lib.ListN.{length, length-append}
 use lib.Dec.{leb, eqb}
 use borrow.Author.Tests.{leb-true}
 use Rattle.refusals.specs.Outcome.{Outcome, answer, refusal}
 use Rattle.tai_utc.specs.Table.{fixed}
 use Rattle.stamps.specs.Block.{blockOf, stampAt}
 use Rattle.stamps.specs.Listing.{shownAt, stampLine, refusedIn, header, blockRefused}
 use Rattle.stamps.specs.Parts.{lineOf, linesIn, linesFrom, heldLines, partLines, partText}
 use Rattle.stamps.proofs.Blocks.{few-lines}
 use Rattle.stamps.proofs.Places.{decimal-most}
 use Rattle.stamps.proofs.Texts.{brief, shown-most}
 use Rattle.stamps.proofs.Parts.{held-few}
-use Rattle.listing_laws.proofs.Whole.{lines-add}
+
+-- a lines from line i and the b after them are a + b lines
+pub lines-add : (s : List ℕ) (i a b : ℕ) → linesFrom s i a ++ linesFrom s (i + a) b ≡ linesFrom s i (a + b)
+unfolding linesFrom
+lines-add s i a zero = append-nil (linesFrom s i a) ∙ ap (linesFrom s i) (sym (add-zero a))
+lines-add s i a (suc b) =
+    sym (append-assoc (linesFrom s i a) (linesFrom s (i + a) b) (lineOf (blockOf s) s (i + a + b)))
+    ∙ ap (λ (l : List ℕ). l ++ lineOf (blockOf s) s (i + a + b)) (lines-add s i a b)
+    ∙ ap (λ (k : ℕ). linesFrom s i (a + b) ++ lineOf (blockOf s) s k) (add-assoc i a b)
+    ∙ ap (linesFrom s i) (sym (add-suc a b))
 
 header-most : (n k : ℕ) → length (header n k) ≤ 33
 unfolding header

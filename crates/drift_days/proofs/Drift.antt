@@ -13,8 +13,8 @@ use Rattle.rounding.proofs.Quick.{qadd, qsub, qmul, qint}
 use Rattle.tai_utc.specs.Table.{Row, fixed, starts, reached}
 use Rattle.tai_utc.specs.Offset.{none, secondsOf, startOf, rateOf}
 use Rattle.tai_utc.specs.Leap.{twoF}
-use Rattle.leap_days.specs.Leaps.{small}
-use Rattle.leap_days.proofs.Tests.{then, every, sameF}
+use Rattle.drift_days.specs.Small.{small}
+use Rattle.drift_days.proofs.Tests.{then, every, sameF}
 
 -- the offset by a row's floats; a row of whole seconds does not drift
 unfoldable pub qby : Bool → Float → Float → Float → Float → Float → Float

@@ -1,0 +1,2 @@
+-- How a C caller lists a block.
+pub mod ListingCalls

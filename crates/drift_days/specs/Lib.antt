@@ -1,0 +1,2 @@
+-- What is computed of each day.
+pub mod Small
