@@ -9,11 +9,12 @@ use lib.Dec.{lit≤, lit<}
 use lib.Ieee.{Float}
 use Rattle.rounding.specs.Value.{Val, L}
 use Rattle.rounding.proofs.About.{U, About, about-add, about-sub, about-within}
-use Rattle.scales.specs.Formulas.{plus, minus, daysOf, gpsDays, ttDays, tcgToTt, ttToTcg, tcbToTdb, tdbToTcb}
+use Rattle.scales.specs.Formulas.{gpsDays, ttDays, tcgToTt, ttToTcg, tcbToTdb, tdbToTcb}
 use Rattle.scale_laws.specs.Picoseconds.{Picoseconds, practicalBounds, modifiedBounds}
 use Rattle.scale_laws.proofs.Constants.{gps-about, tt-about, mjd-about, epoch-about, jd1977-about, tt-about-2, tdb0-about, lg-val, ratio-lg-val, lb-val, ratio-lb-val}
 use Rattle.scale_laws.proofs.Formulas.{part, plus-about, minus-about, days-about, Budget, less-since, more-since, less-until}
 use Rattle.scale_laws.proofs.Dates.{Sized, value, high, low, near-of, Formula, about-sized}
+use Rattle.shifts.specs.Shifts.{plus, minus, daysOf}
 
 -- ---- so many days more, or less
 turn : (c p n q m K K' : ℕ) → q * c + K + (c * p + c * (n + m) + K') ≡ m * c + K' + (c * n + c * (p + q) + K)

@@ -8,7 +8,8 @@ use lib.Ieee.{round, add, sub, div, neg}
 use Rattle.rounding.specs.Value.{Val, L}
 use Rattle.rounding.proofs.About.{U, About}
 use Rattle.constants.specs.Constants.{secondsPerDay, mjdZeroPoint, gpsToTaiOffsetSeconds, ttTaiOffset, tcgRateLg, tcbRateLb, tdbOffset1977, mjd1977Jan1, tcgReferenceEpoch, ratio, tcgRateRatio, tcbRateRatio}
-use Rattle.scales.specs.Formulas.{daysOf, gpsDays, ttDays, jd1977, tdb0}
+use Rattle.scales.specs.Formulas.{gpsDays, ttDays, jd1977, tdb0}
+use Rattle.shifts.specs.Shifts.{daysOf}
 
 pub gps-about : About gpsDays (19 * L) 0 (L * 86400) 1208925819614629174706176 3032327
 unfolding gpsDays gpsToTaiOffsetSeconds daysOf secondsPerDay div round L U

@@ -16,18 +16,19 @@ use Rattle.rounding.proofs.Own.{own, own-val}
 use Rattle.rounding.proofs.Bound.{rounds-mono}
 use Rattle.refusals.specs.Outcome.{answer}
 use Rattle.julian.specs.declared.JulianDate.{JulianDate}
-use Rattle.scales.specs.SmallerPart.{firstIsLarger}
-use Rattle.scales.specs.Formulas.{plus, gpsDays}
+use Rattle.shifts.specs.SmallerPart.{firstIsLarger}
+use Rattle.scales.specs.Formulas.{gpsDays}
 use Rattle.scales.specs.Conversions.{gps-tai, offsetOf, answerOf}
 use Rattle.scale_laws.specs.Ranges.{Held, Practical, Modified, HalfDay}
 use Rattle.scale_laws.specs.Picoseconds.{boundOf}
 use Rattle.scale_laws.specs.Meaning.{day, Apart, Means, taiOverGps, meaning}
 use Rattle.scale_laws.specs.Recorders.{NotLater}
-use Rattle.scales.proofs.Outcomes.{and-left, and-right, converted-is}
-use Rattle.scales.proofs.SmallerPart.{mapAs, map-is}
+use Rattle.shifts.proofs.Outcomes.{and-left, and-right, converted-is}
+use Rattle.shifts.proofs.SmallerPart.{mapAs, map-is}
 use Rattle.scale_laws.proofs.Constants.{gps-about}
 use Rattle.scale_laws.proofs.Meant.{worth-unique, practical, modified}
 use Rattle.julian.specs.Finite.{finiteParts}
+use Rattle.shifts.specs.Shifts.{plus}
 
 -- ---- one instant
 no-offset : HalfDay (offsetOf gps-tai)

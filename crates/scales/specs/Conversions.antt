@@ -2,36 +2,15 @@
 -- (9 before 10), and from the Rust's files of scales/conversions. Assumes nothing.
 use lib.Ieee.{Float}
 use Rattle.floats.specs.Whole.{nought}
-use Rattle.refusals.specs.Outcome.{Outcome, answer, onward}
+use Rattle.refusals.specs.Outcome.{Outcome, onward}
 use Rattle.julian.specs.declared.JulianDate.{JulianDate}
-use Rattle.julian.specs.Finite.{finiteJd, finiteArg}
-use Rattle.scales.specs.SmallerPart.{mapSmallerPart}
-use Rattle.scales.specs.Formulas.{daysOf, gpsDays, ttDays, plus, minus, tcgToTt, ttToTcg, tcbToTdb, tdbToTcb}
+use Rattle.scales.specs.Formulas.{gpsDays, ttDays, tcgToTt, ttToTcg, tcbToTdb, tdbToTcb}
+use Rattle.shifts.specs.Shifts.{plus, minus, converted, convertedBy}
 
 -- from the first scale to the second; the last six by an offset in seconds that the caller gives
 pub data Conversion : Type 0 where
   gps-tai tai-gps tai-tt tt-tai tcg-tt tt-tcg tcb-tdb tdb-tcb tai-tcg tcg-tai : Conversion
   tai-ut1 ut1-tai ut1-tt tt-ut1 tt-tdb tdb-tt : (seconds : Float) → Conversion
-
--- the date with its smaller part changed
-unfoldable pub changed : (Float → Float → Float) → JulianDate → Outcome JulianDate
-changed f d = answer (mapSmallerPart f d)
-
--- the same, and 9 where a part is not finite
-unfoldable pub converted : (Float → Float → Float) → JulianDate → Outcome JulianDate
-converted f d = onward (finiteJd d) (changed f)
-
--- the date, and 10 where the offset is not finite
-unfoldable pub finiteOffset : Float → JulianDate → Outcome JulianDate
-finiteOffset seconds d = onward (finiteArg seconds) (λ (s : Float). answer d)
-
--- the date: 9 where a part is not finite, and then 10 where the offset is not
-unfoldable pub finiteBoth : Float → JulianDate → Outcome JulianDate
-finiteBoth seconds d = onward (finiteJd d) (finiteOffset seconds)
-
--- so many seconds later, or earlier
-unfoldable pub convertedBy : (Float → Float → Float → Float) → Float → JulianDate → Outcome JulianDate
-convertedBy f seconds d = onward (finiteBoth seconds d) (changed (f (daysOf seconds)))
 
 -- the table: what each conversion answers
 unfoldable pub answerOf : Conversion → JulianDate → Outcome JulianDate

@@ -1,11 +1,8 @@
 -- What the smaller part becomes: SOFA's formulas (Time Scale and Calendar Tools) in the Rust's order of operations (the files of scales/conversions), each
 -- operation rounded once and nothing fused. Assumes nothing.
-use lib.Ieee.{Float, binary64, add, sub, mul, div}
-use Rattle.constants.specs.Constants.{secondsPerDay, mjdZeroPoint, gpsToTaiOffsetSeconds, ttTaiOffset, tcgRateLg, tcbRateLb, tdbOffset1977, mjd1977Jan1, tcgReferenceEpoch, tcgRateRatio, tcbRateRatio}
-
--- so many seconds, in days
-unfoldable pub daysOf : Float → Float
-daysOf seconds = div binary64 seconds secondsPerDay
+use lib.Ieee.{Float, binary64, add, sub, mul}
+use Rattle.constants.specs.Constants.{mjdZeroPoint, gpsToTaiOffsetSeconds, ttTaiOffset, tcgRateLg, tcbRateLb, tdbOffset1977, mjd1977Jan1, tcgReferenceEpoch, tcgRateRatio, tcbRateRatio}
+use Rattle.shifts.specs.Shifts.{daysOf}
 
 -- TAI - GPS, TT - TAI and TDB_0, in days
 unfoldable pub gpsDays : Float
@@ -20,13 +17,6 @@ tdb0 = daysOf tdbOffset1977
 -- 1977 January 1, midnight, as a Julian date
 unfoldable pub jd1977 : Float
 jd1977 = add binary64 mjdZeroPoint mjd1977Jan1
-
--- so many days more, and less
-unfoldable pub plus : Float → Float → Float → Float
-plus days larger smaller = add binary64 smaller days
-
-unfoldable pub minus : Float → Float → Float → Float
-minus days larger smaller = sub binary64 smaller days
 
 -- (larger - a) + (smaller - b): the days since a + b
 unfoldable pub since : Float → Float → Float → Float → Float

@@ -1,6 +1,5 @@
 -- The definitions that the contracts of `scales` cite, in the order to read them.
 pub mod Scales
-pub mod SmallerPart
 pub mod Formulas
 pub mod Conversions
 pub mod Refusals

@@ -8,11 +8,11 @@ use super::GpsAnswer;
 use super::TAI;
 use super::TaiAnswer;
 use super::gps_answer;
-use super::smaller_part::earlier;
-use super::smaller_part::later;
 use super::tai_answer;
 use constants::GPS_TO_TAI_OFFSET_SECONDS;
 use constants::SECONDS_PER_DAY_F64;
+use shifts::smaller_part::earlier;
+use shifts::smaller_part::later;
 
 fn gps_days() -> f64
     ensures { λ r. ⌜ r ≡ gpsDays ⌝ }

@@ -6,9 +6,7 @@ ghost use Rattle.scales.specs.Scales.{taiOutcome, ut1Outcome, ttOutcome,
 use julian::JulianAnswer;
 use julian::JulianDate;
 
-mod given_offset;
 pub mod gps_tai;
-mod smaller_part;
 pub mod tai_tt;
 pub mod tcb_tdb;
 pub mod tt_tcg;

@@ -9,14 +9,14 @@ use super::TT;
 use super::TaiAnswer;
 use super::TcgAnswer;
 use super::TtAnswer;
-use super::smaller_part::earlier;
-use super::smaller_part::later;
 use super::tai_answer;
 use super::tt_answer;
 use super::tt_tcg::tcg_to_tt;
 use super::tt_tcg::tt_to_tcg;
 use constants::SECONDS_PER_DAY_F64;
 use constants::TT_TAI_OFFSET;
+use shifts::smaller_part::earlier;
+use shifts::smaller_part::later;
 
 fn tt_days() -> f64
     ensures { λ r. ⌜ r ≡ ttDays ⌝ }

@@ -6,10 +6,10 @@ use super::TDB;
 use super::TT;
 use super::TdbAnswer;
 use super::TtAnswer;
-use super::given_offset::earlier_by;
-use super::given_offset::later_by;
 use super::tdb_answer;
 use super::tt_answer;
+use shifts::given_offset::earlier_by;
+use shifts::given_offset::later_by;
 
 pub fn tt_to_tdb_with_offset(tt: TT, seconds: f64) -> TdbAnswer
     ensures { λ r. ⌜ tdbOutcome r ≡ answerOf (tt-tdb seconds) (tt .0) ⌝ }

@@ -23,12 +23,11 @@ use Rattle.julian.specs.JulianDate.{julian}
 use Rattle.julian.specs.Worth.{SmallParts}
 use Rattle.julian.specs.Finite.{finiteJd, finiteArg}
 use Rattle.tai_utc.specs.Table.{fixed}
-use Rattle.scales.specs.Formulas.{plus, daysOf}
-use Rattle.scales.specs.SmallerPart as S
+use Rattle.shifts.specs.SmallerPart as S
 use Rattle.scales.specs.Conversions.{answerOf, tai-ut1}
 use Rattle.scale_laws.specs.Ranges.{Held, Billion, FiniteParts}
 use Rattle.refusals.proofs.Onward.{went}
-use Rattle.scales.proofs.Outcomes.{by-is}
+use Rattle.shifts.proofs.Outcomes.{by-is}
 use Rattle.utc_scales.specs.LargerPart.{firstIsLarger, partsAs, partsOf, putAs, putBack, placed, changeSmaller}
 use Rattle.utc_scales.specs.Dates.{offsetAt0h, offsetsOf}
 use Rattle.utc_scales.specs.UtcTai.{taiFromMidnight, taiFraction, utcToTai, moved, refined, rounds, refineUtcFraction, taiToUtc}
@@ -42,6 +41,7 @@ use Rattle.utc_scale_laws.proofs.Refusals.{parts-fit}
 use Rattle.utc_scale_laws.proofs.OffsetSizes.{offset-size, offsets-size, zero-size, day-size, day-above, day-more-above, zero-point-size}
 use Rattle.utc_scale_laws.proofs.DaySizes.{midnight-size, since-midnight-size, day-offset-size}
 use Rattle.utc_scale_laws.proofs.FiniteTai.{utc-to-tai-never-infinite}
+use Rattle.shifts.specs.Shifts.{plus, daysOf}
 
 -- ---- UTC to TAI
 -- room for one conversion, from parts of 2 ^ k to parts of 2 ^ (k + 3), and for a round of the way back, to 2 ^ (k + 6)

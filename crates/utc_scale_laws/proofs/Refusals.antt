@@ -17,11 +17,10 @@ use Rattle.julian.specs.declared.JulianDate.{JulianDate}
 use Rattle.julian.specs.JulianDate.{julian}
 use Rattle.julian.specs.Finite.{finiteParts, finiteJd, finiteArg}
 use Rattle.tai_utc.specs.Table.{Row}
-use Rattle.scales.specs.Formulas.{plus}
 use Rattle.scales.specs.Conversions.{answerOf, tai-ut1}
 use Rattle.scale_laws.specs.Ranges.{Held}
 use Rattle.refusals.proofs.Onward.{went, stopped}
-use Rattle.scales.proofs.Outcomes.{first-by}
+use Rattle.shifts.proofs.Outcomes.{first-by}
 use Rattle.utc_scales.specs.LargerPart.{firstIsLarger, partsAs, partsOf, placed, changeSmaller}
 use Rattle.utc_scales.specs.Dates.{offsetOfDate, offsetAt0h}
 use Rattle.utc_scales.specs.UtcTai.{taiFraction, utcToTai, moved, refined, rounds, refineUtcFraction, taiToUtc}
@@ -33,6 +32,7 @@ use Rattle.utc_scales.proofs.Steps.{tai-no-date, tai-no-offsets, tai-of-day, of
 use Rattle.utc_scale_laws.proofs.Outcomes.{holds-answer, holds-refusal, holds-onward, holds-more}
 use Rattle.utc_scale_laws.proofs.Decided.{by-six, by-one, by-date}
 use Rattle.utc_scale_laws.proofs.Days.{early, dateIn, Kind, outside, before, valid, kind, offset-answered, offsets-answered}
+use Rattle.shifts.specs.Shifts.{plus}
 
 -- ---- the smaller part in TAI
 module _ (rows : List Row) (x y : Float) where

@@ -14,11 +14,10 @@ use Rattle.day_number.specs.DayNumber.{accepted, dayOf}
 use Rattle.julian.specs.declared.JulianDate.{JulianDate}
 use Rattle.julian.specs.Finite.{finiteArg}
 use Rattle.tai_utc.specs.Table.{fixed}
-use Rattle.scales.specs.Formulas.{plus}
 use Rattle.scales.specs.Conversions.{answerOf, tai-ut1}
 use Rattle.scale_laws.specs.Ranges.{Held, FiniteParts}
 use Rattle.refusals.proofs.Onward.{went, stopped}
-use Rattle.scales.proofs.Outcomes.{by-is}
+use Rattle.shifts.proofs.Outcomes.{by-is}
 use Rattle.scale_laws.proofs.Shifts.{taken}
 use Rattle.utc_scales.specs.LargerPart.{partsOf}
 use Rattle.utc_scales.specs.Dates.{offsetOfDate}
@@ -35,6 +34,7 @@ use Rattle.utc_scale_laws.proofs.EitherOrder.{accepted-either}
 use Rattle.utc_scale_laws.proofs.Decided.{by-six, by-one, by-date}
 use Rattle.utc_scale_laws.proofs.DaySizes.{day-offset-size}
 use Rattle.utc_scale_laws.proofs.FiniteTai.{size-small, utc-to-tai-never-infinite}
+use Rattle.shifts.specs.Shifts.{plus}
 
 module _ (d : JulianDate) (dut1 : Float) (h : Held d) (f : Fits dut1) (e : finite dut1 ≡ true) where
   -- DUT1 less TAI-UTC is finite, and TAI has finite parts: TAI to UT1 refuses nothing

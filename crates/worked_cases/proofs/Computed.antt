@@ -17,9 +17,8 @@ use Rattle.julian.specs.Calendar as Julian
 use Rattle.tai_utc.specs.Table.{fixed, monthNumber, reached}
 use Rattle.tai_utc.specs.Offset.{secondsOf, startOf, rateOf, byRow, offsetBy, offsetAt, inDay, taiUtcOffset}
 use Rattle.tai_utc.specs.Leap.{dayOffsets, leapOf, leapAtEndOfDay}
-use Rattle.scales.specs.SmallerPart.{firstIsLarger, partsOf, putBack, mapSmallerPart}
-use Rattle.scales.specs.Formulas.{since, daysOf, tdb0, ttDays, jd1977, tcbToTdb}
-use Rattle.scales.specs.Conversions.{changed, converted}
+use Rattle.shifts.specs.SmallerPart.{firstIsLarger, partsOf, putBack, mapSmallerPart}
+use Rattle.scales.specs.Formulas.{since, tdb0, ttDays, jd1977, tcbToTdb}
 use Rattle.scales.specs.Conversions as Scales
 use Rattle.utc_scales.specs.UtcUt1.{utcToUt1}
 use Rattle.time_of_day.specs.Milliseconds as Millis
@@ -35,6 +34,7 @@ use Rattle.worked_cases.specs.Calls.{Call, Value, answerOf}
 use Rattle.worked_cases.proofs.Divisions.{dividedDate}
 use Rattle.worked_cases.proofs.ByDates.{answerBy, by-division}
 use Rattle.worked_cases.proofs.Literals.{literal, literal-is}
+use Rattle.shifts.specs.Shifts.{daysOf, changed, converted}
 
 unfoldable pub computed : Call → Outcome Value
 unfolding answerBy answerOf dividedDate onward

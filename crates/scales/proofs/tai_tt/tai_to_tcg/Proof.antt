@@ -2,11 +2,12 @@
 use mathlib.Core.Path.{sym, ap, _∙_}
 use Rattle.scales.specs.Scales.{ttOutcome, tcgOutcome}
 use Rattle.scales.specs.Formulas.{ttToTcg}
-use Rattle.scales.specs.Conversions.{converted, answerOf}
+use Rattle.scales.specs.Conversions.{answerOf}
 use Rattle.refusals.proofs.Onward.{went, stopped}
 use borrow.Author.Needs.{needs}
 use Rattle.scales.proofs.tai_tt.tai_to_tcg.Statement.{statement}
 use Rattle.scales.proofs.tai_tt.tai_to_tcg.Tie as tie
+use Rattle.shifts.specs.Shifts.{converted}
 
 tai-to-tt-requires : tie.Need-tai-to-tt-requires
 tai-to-tt-requires c κs = search needs

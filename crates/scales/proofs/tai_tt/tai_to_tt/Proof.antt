@@ -1,11 +1,11 @@
 -- `scales::tai_tt::tai_to_tt` meets its contract. Assumes nothing.
 use mathlib.Core.Path.{_∙_}
-use Rattle.scales.specs.Formulas.{plus}
-use Rattle.scales.specs.Conversions.{converted, answerOf}
-use Rattle.scales.proofs.Outcomes.{moved}
+use Rattle.scales.specs.Conversions.{answerOf}
+use Rattle.shifts.proofs.Outcomes.{moved}
 use borrow.Author.Needs.{needs}
 use Rattle.scales.proofs.tai_tt.tai_to_tt.Statement.{statement}
 use Rattle.scales.proofs.tai_tt.tai_to_tt.Tie as tie
+use Rattle.shifts.specs.Shifts.{plus, converted}
 
 finite-jd-requires : tie.Need-finite-jd-requires
 finite-jd-requires c κs = search needs

@@ -1,12 +1,13 @@
 -- `scales::tai_tt::tcg_to_tai` meets its contract: TT stands between. Assumes nothing.
 use mathlib.Core.Path.{sym, ap, _∙_}
 use Rattle.scales.specs.Scales.{ttOutcome, taiOutcome}
-use Rattle.scales.specs.Formulas.{minus, ttDays}
-use Rattle.scales.specs.Conversions.{converted, answerOf}
+use Rattle.scales.specs.Formulas.{ttDays}
+use Rattle.scales.specs.Conversions.{answerOf}
 use Rattle.refusals.proofs.Onward.{went, stopped}
 use borrow.Author.Needs.{needs}
 use Rattle.scales.proofs.tai_tt.tcg_to_tai.Statement.{statement}
 use Rattle.scales.proofs.tai_tt.tcg_to_tai.Tie as tie
+use Rattle.shifts.specs.Shifts.{minus, converted}
 
 tcg-to-tt-requires : tie.Need-tcg-to-tt-requires
 tcg-to-tt-requires c κs = search needs

@@ -4,11 +4,12 @@ use Rattle.refusals.specs.Outcome.{answer}
 use Rattle.julian.specs.JulianDate.{julianOutcome}
 use Rattle.scales.specs.Scales.{tdbOutcome}
 use Rattle.scales.specs.Formulas.{tcbToTdb}
-use Rattle.scales.specs.Conversions.{changed, converted, answerOf}
+use Rattle.scales.specs.Conversions.{answerOf}
 use Rattle.refusals.proofs.Onward.{went, stopped}
 use borrow.Author.Needs.{needs}
 use Rattle.scales.proofs.tcb_tdb.tcb_to_tdb.Statement.{statement}
 use Rattle.scales.proofs.tcb_tdb.tcb_to_tdb.Tie as tie
+use Rattle.shifts.specs.Shifts.{changed, converted}
 
 finite-jd-requires : tie.Need-finite-jd-requires
 finite-jd-requires c κs = search needs

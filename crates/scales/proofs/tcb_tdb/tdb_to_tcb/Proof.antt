@@ -4,11 +4,12 @@ use Rattle.refusals.specs.Outcome.{answer}
 use Rattle.julian.specs.JulianDate.{julianOutcome}
 use Rattle.scales.specs.Scales.{tcbOutcome}
 use Rattle.scales.specs.Formulas.{tdbToTcb}
-use Rattle.scales.specs.Conversions.{changed, converted, answerOf}
+use Rattle.scales.specs.Conversions.{answerOf}
 use Rattle.refusals.proofs.Onward.{went, stopped}
 use borrow.Author.Needs.{needs}
 use Rattle.scales.proofs.tcb_tdb.tdb_to_tcb.Statement.{statement}
 use Rattle.scales.proofs.tcb_tdb.tdb_to_tcb.Tie as tie
+use Rattle.shifts.specs.Shifts.{changed, converted}
 
 finite-jd-requires : tie.Need-finite-jd-requires
 finite-jd-requires c κs = search needs

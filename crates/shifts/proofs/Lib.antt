@@ -1,0 +1,3 @@
+-- What several proofs of `shifts` and of the conversions cite.
+pub mod SmallerPart
+pub mod Outcomes
