@@ -96,5 +96,5 @@ int main(int count, char **words)
     check(by_text == NOT_FINITE_STAMPS, "the text call refuses %ld stamps", (long)by_text);
     printf("not finite: %ld; isnan in this build says %ld, the text call refuses %ld\n", (long)found, (long)by_isnan,
            (long)by_text);
-    return summary("not finite");
+    return summary("not_finite");
 }
