@@ -20,8 +20,8 @@ const TWO_52: f64 = 4503599627370496.0;
 
 // A whole number as a float and as an integer.
 pub struct NearestWhole {
-    pub number: i64,
     pub value: f64,
+    pub number: i64,
 }
 
 // |x|
@@ -134,20 +134,20 @@ pub fn nearest_whole(a: f64) -> NearestWhole
         if t >= 1.0 && t < TWO_52 {
             let n = std::num::truncating_f64_to_u64(t) as i64;
             return NearestWhole {
-                number: n,
                 value: n as f64,
+                number: n,
             };
         }
     } else if a > -0.5 {
         return NearestWhole {
-            number: 0,
             value: 0.0,
+            number: 0,
         };
     }
     let value = nearest_int(a);
     NearestWhole {
-        number: saturating_i64(value),
         value: value,
+        number: saturating_i64(value),
     }
 }
 

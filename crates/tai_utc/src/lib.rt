@@ -4,8 +4,8 @@ ghost use mathlib.Core.Path.{_≡_};
 ghost use mathlib.Core.Bool.{true};
 ghost use Prim.Native.Nat.{_-_, _<_, _≤_};
 ghost use lib.IntN.{natAbs};
-ghost use lib.ListN.{length, getD};
-ghost use lib.Ieee.{Float, nan};
+ghost use lib.ListN.{getD};
+ghost use lib.Ieee.{Float};
 ghost use Rattle.tai_utc.specs.Table.{fixed, starts, reached, monthNumber};
 ghost use Rattle.tai_utc.specs.Offset.{none, secondsOf, startOf, rateOf, offsetBy, offsetAt, taiUtcOffset};
 ghost use Rattle.tai_utc.specs.Leap.{offsetsOfDay, dayOffsets, leapAtEndOfDay};
@@ -150,37 +150,30 @@ fn table_rows_reached(n: u64) -> usize
     rows_reached(&MONTHS, n)
 }
 
-// What stands at place i. A table that is indexed by itself is copied by the compiled code at each call; a borrowed one is not.
-fn float_at(list: &[f64], i: usize) -> f64
-    requires { ⌜ i < length (now list) ⌝ }
-    ensures { λ r. ⌜ r ≡ getD (now (list .entry)) i nan ⌝ }
-{
-    list[i]
-}
-
 // The decimals of row i as floats, each the nearest.
 fn seconds_at(i: usize) -> f64
     requires { ⌜ i < 14 ⌝ }
     ensures { λ r. ⌜ r ≡ secondsOf (getD fixed i none) ⌝ }
 {
-    float_at(&SECONDS, i)
+    SECONDS[i]
 }
 
 fn start_at(i: usize) -> f64
     requires { ⌜ i < 14 ⌝ }
     ensures { λ r. ⌜ r ≡ startOf (getD fixed i none) ⌝ }
 {
-    float_at(&STARTS, i)
+    STARTS[i]
 }
 
 fn rate_at(i: usize) -> f64
     requires { ⌜ i < 14 ⌝ }
     ensures { λ r. ⌜ r ≡ rateOf (getD fixed i none) ⌝ }
 {
-    float_at(&RATES, i)
+    RATES[i]
 }
 
-// The seconds of the last of 15 or more rows: 10 in the row of 1972, and one more in each later row. They are counted and not read from a table.
+// The seconds of the last of 15 or more rows: 10 in the row of 1972, and one more in each later row. They are counted and not read from a table, since the
+// compiled code copies a table whenever it is read by an index.
 fn whole_seconds(rows: usize) -> f64
     requires { ⌜ (15 ≤ rows) × (rows ≤ 42) ⌝ }
     ensures { λ r. ⌜ r ≡ secondsOf (getD fixed (rows - 1) none) ⌝ }

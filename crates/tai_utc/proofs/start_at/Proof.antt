@@ -10,18 +10,15 @@ use Rattle.tai_utc.proofs.Rows.{place}
 use Rattle.tai_utc.proofs.start_at.Statement.{statement}
 use Rattle.tai_utc.proofs.start_at.Tie as tie
 
-slice-aggregate-float-at : tie.Need-slice-aggregate-float-at
-slice-aggregate-float-at c = search needs
+mul-result : tie.Need-mul-result
+mul-result c = search needs
 
-float-at-requires : tie.Need-float-at-requires
-float-at-requires c κs = c .before .pre
+array-read-result : tie.Need-array-read-result
+array-read-result c = search needs
 
 returns : tie.Need-returns
 unfolding fixed startOf round ofBits
-returns c =
-    c .float-at .ensures
-    ∙ place startOf (take 14 fixed) (c .before .before .args .i) (c .before .before .pre)
-    ∙ ap startOf (getD-take 14 fixed (c .before .before .args .i) none (c .before .before .pre))
+returns c = place startOf (take 14 fixed) (c .args .i) (c .pre) ∙ ap startOf (getD-take 14 fixed (c .args .i) none (c .pre))
 
 pub start-at-spec : {M : Type 1} → statement M
-start-at-spec = tie.close (tie.spec slice-aggregate-float-at float-at-requires returns)
+start-at-spec = tie.close (tie.spec mul-result array-read-result returns)
