@@ -1,6 +1,6 @@
 -- From a calendar date to a Julian date and back. Written from document 01, "Calendar date" and "Refusals by number", and the Rust's `calendar_to_julian` and
 -- `julian_to_calendar` (scales/conversions/utc_tai/mod.rs) and `from_calendar` (julian/mod.rs). What the day of an answer is in ISO 8601's calendar is proved
--- (proofs/CalendarDays.antt). Assumes nothing.
+-- (`exact-date` in `julian_laws`). Assumes nothing.
 use Prim.Native.Nat.{ℕ}
 use lib.IntN.{ℤ, pos}
 use lib.Ieee.{Float, binary64, ofInt}

@@ -1,4 +1,4 @@
--- The offsets and leaps that Drift.antt computes are those of the definition.
+-- The offsets and leaps that `drift_days` computes are those of the definition.
 -- Assumes nothing.
 use mathlib.Core.Path.{_≡_, refl, ap, sym, subst, _∙_}
 use mathlib.Core.Bool.{Bool, true, false, not}

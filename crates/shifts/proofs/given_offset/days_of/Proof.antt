@@ -1,4 +1,4 @@
--- `scales::given_offset::days_of` meets its contract. Assumes nothing.
+-- `shifts::given_offset::days_of` meets its contract. Assumes nothing.
 use mathlib.Core.Path.{ap}
 use lib.Ieee.{binary64, div}
 use Rattle.constants.proofs.Bits.{seconds-per-day}

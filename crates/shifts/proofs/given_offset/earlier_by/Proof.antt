@@ -1,4 +1,4 @@
--- `scales::given_offset::earlier_by` meets its contract. Assumes nothing.
+-- `shifts::given_offset::earlier_by` meets its contract. Assumes nothing.
 use mathlib.Core.Path.{_∙_}
 use Rattle.shifts.proofs.Outcomes.{moved}
 use borrow.Author.Needs.{needs}

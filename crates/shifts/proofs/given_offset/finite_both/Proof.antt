@@ -1,4 +1,4 @@
--- `scales::given_offset::finite_both` meets its contract: the date is tested before the offset. Assumes nothing.
+-- `shifts::given_offset::finite_both` meets its contract: the date is tested before the offset. Assumes nothing.
 use mathlib.Core.Path.{_∙_}
 use Rattle.shifts.proofs.Outcomes.{both}
 use borrow.Author.Needs.{needs}

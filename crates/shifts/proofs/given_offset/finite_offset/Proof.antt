@@ -1,4 +1,4 @@
--- `scales::given_offset::finite_offset` meets its contract. Assumes nothing.
+-- `shifts::given_offset::finite_offset` meets its contract. Assumes nothing.
 use lib.Ieee.{Float}
 use mathlib.Core.Path.{sym, ap, _∙_}
 use Rattle.refusals.specs.Outcome.{answer}

@@ -1,4 +1,4 @@
--- `scales::given_offset::first_refusal` meets its contract. Assumes nothing.
+-- `shifts::given_offset::first_refusal` meets its contract. Assumes nothing.
 use mathlib.Core.Path.{sym, ap}
 use Rattle.julian.specs.declared.JulianDate.{JulianDate}
 use Rattle.julian.specs.JulianDate.{julianOutcome}

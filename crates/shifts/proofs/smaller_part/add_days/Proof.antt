@@ -1,4 +1,4 @@
--- `scales::smaller_part::add_days` meets its contract. Assumes nothing.
+-- `shifts::smaller_part::add_days` meets its contract. Assumes nothing.
 use mathlib.Core.Path.{ap, _∙_}
 use lib.Ieee.{binary64, add}
 use Rattle.shifts.specs.declared.smaller_part.Parts.{Parts}

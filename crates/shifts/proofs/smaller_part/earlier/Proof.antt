@@ -1,4 +1,4 @@
--- `scales::smaller_part::earlier` meets its contract. Assumes nothing.
+-- `shifts::smaller_part::earlier` meets its contract. Assumes nothing.
 use mathlib.Core.Path.{sym, ap, _∙_}
 use Rattle.refusals.specs.Outcome.{answer}
 use Rattle.julian.specs.JulianDate.{julianOutcome}

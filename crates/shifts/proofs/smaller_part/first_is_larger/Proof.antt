@@ -1,4 +1,4 @@
--- `scales::smaller_part::first_is_larger` meets its contract. Assumes nothing.
+-- `shifts::smaller_part::first_is_larger` meets its contract. Assumes nothing.
 use Rattle.shifts.specs.SmallerPart.{firstIsLarger}
 use borrow.Author.Needs.{needs}
 use Rattle.shifts.proofs.smaller_part.first_is_larger.Statement.{statement}

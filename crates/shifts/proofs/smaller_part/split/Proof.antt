@@ -1,4 +1,4 @@
--- `scales::smaller_part::split` meets its contract. Assumes nothing.
+-- `shifts::smaller_part::split` meets its contract. Assumes nothing.
 use mathlib.Core.Path.{sym, _∙_}
 use mathlib.Core.Bool.{true, false}
 use Rattle.shifts.proofs.SmallerPart.{parts-is}
