@@ -1,4 +1,4 @@
-// Document 01's refusals by number. A refusal carries its number and nothing else.
+// The refusals by number: 1 to 14 are document 01's, 15 to 28 document 02's. A refusal carries its number and nothing else.
 
 // The year is before -4799.
 pub const YEAR_BEFORE_FIRST: u32 = 1;
@@ -28,3 +28,31 @@ pub const BLOCK_SIZES_DIFFER: u32 = 12;
 pub const BLOCK_TOO_LARGE: u32 = 13;
 // A stamp block's length is not the one that its sizes say.
 pub const BLOCK_LENGTH_WRONG: u32 = 14;
+// A text is outside the grammar.
+pub const TEXT_OUTSIDE_GRAMMAR: u32 = 15;
+// A text's second has more than 13 digits after the point.
+pub const TOO_MANY_FRACTION_DIGITS: u32 = 16;
+// A date or a stamp is earlier than the one before it.
+pub const EARLIER_THAN_BEFORE: u32 = 17;
+// A field of a GPS week is over its limit, or a date is before the first week or past the last.
+pub const GPS_FIELD_OVER_LIMIT: u32 = 18;
+// Two weeks with the same ten bits are equally near the reference.
+pub const WEEK_NOT_DECIDED: u32 = 19;
+// The two sizes of a lent table differ, or are above 16.
+pub const TABLE_SIZES_WRONG: u32 = 20;
+// A row of a lent table is not later than the one before it.
+pub const TABLE_NOT_RISING: u32 = 21;
+// A row of a lent table steps by something other than one second up or down.
+pub const TABLE_STEP_WRONG: u32 = 22;
+// The passes are unequal, too few or too many, or a number in them is too large.
+pub const PASSES_NOT_USABLE: u32 = 23;
+// The passes do not rise strictly, both ticks and milliseconds.
+pub const PASSES_NOT_RISING: u32 = 24;
+// A tick is outside the passes.
+pub const TICK_OUTSIDE_PASSES: u32 = 25;
+// The end of a standby is before its start.
+pub const END_BEFORE_START: u32 = 26;
+// A number of a bill is over its limit.
+pub const BILL_NUMBER_OVER_LIMIT: u32 = 27;
+// Both lengths of line are 0.
+pub const BOTH_LENGTHS_ZERO: u32 = 28;
