@@ -45,6 +45,20 @@
      12  sizes of a block differ
      13  size of a block above 4,000
      14  length of a block wrong
+     15  text outside the grammar
+     16  more than 13 digits after a second's point
+     17  date or stamp earlier than the one before it
+     18  field of a GPS week over its limit, or date before the first week or past the last
+     19  two weeks with the same ten bits equally near the reference
+     20  sizes of a lent table differ, or above 16
+     21  row of a lent table not later than the one before it
+     22  row of a lent table steps by something other than one second up or down
+     23  passes unequal, too few or too many, or a number in them too large
+     24  passes do not rise strictly, both ticks and milliseconds
+     25  tick outside the passes
+     26  end of a standby before its start
+     27  number of a bill over its limit
+     28  both lengths of line 0
    A call tests in the order in which its comment lists them, and 11 last. Where it has
    two or more, the comment has an example in which two hold, with the one that comes
    first. "With no byte" is with a buffer of length 0, of which 11 holds. */
@@ -88,7 +102,8 @@ int64_t ct_julian_to_calendar(double jd1, double jd2, uint8_t *out, size_t out_l
 int64_t ct_from_calendar(int32_t year, uint8_t month, uint8_t day, uint8_t hour, uint8_t minute,
                          double second, uint8_t *out, size_t out_len);
 
-/* ---- Julian dates: these refuse nothing but 11, and those that take and give floats pass a NaN on */
+/* ---- Julian dates: these refuse nothing but 11. Where they take and give floats, a NaN gives a NaN,
+   and an infinity can make one: ct_add_days by an infinity, ct_difference of equal infinities */
 
 /* jd1 + jd2, rounded. */
 double ct_to_f64(double jd1, double jd2);

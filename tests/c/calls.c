@@ -1,6 +1,7 @@
 /* Each call of include/celestial_time.h: an answer, every refusal that it can give, the order of two
    that would both hold, and the examples of its comment. A call that fills a buffer is lent every length from 0 to 34: with too few
-   bytes it says 11, after every other refusal, and no byte changes that it does not answer with.
+   bytes it says 11, after every other refusal, and no byte changes that it does not answer with. At the end the functions of the
+   header that read numbers from bytes.
    The answers are document 01's, whole numbers of seconds, or ERFA's. */
 #include "lent.h"
 #include "scale_calls.h"
@@ -212,6 +213,47 @@ static void block_calls(void)
     }
 }
 
+/* ---- reading bytes: each byte has its place, and the highest bit is the sign */
+
+static void read_numbers(void)
+{
+    static const uint8_t BYTES[] = {0x78, 0x56, 0x34, 0x12, 0xf0, 0xde, 0xbc, 0x9a};
+    static const uint64_t PATTERNS[] = {0, 0x78, 0x5678, 0x345678, 0x12345678, 0xf012345678, 0xdef012345678,
+                                        0xbcdef012345678, 0x9abcdef012345678};
+    uint8_t one[4];
+    int i;
+    for (i = 0; i <= 8; i++) check(ct_pattern_at(BYTES, i) == PATTERNS[i], "the number of %d bytes", i);
+    IS(0x12345678, ct_int_at(BYTES));
+    IS(-0x65432110, ct_int_at(BYTES + 4));
+    for (i = 0; i < 4; i++) {
+        memset(one, 0, sizeof one);
+        one[i] = 0x40;
+        check(ct_int_at(one) == (int32_t)0x40 << 8 * i, "0x40 in byte %d", i);
+        memset(one, 0xff, sizeof one);
+        one[i] = 0xbf;
+        check(ct_int_at(one) == -1 - ((int32_t)0x40 << 8 * i), "all ones but 0x40 in byte %d", i);
+    }
+    check(ct_opaque_bits(ct_float_at(BYTES)) == PATTERNS[8], "the float of 8 bytes");
+}
+
+static void read_answers(void)
+{
+    uint8_t out[20];
+    IS(12, ct_next_calendar_day(-4799, 12, 31, out, sizeof out));
+    IS(-4798, ct_int_at(out));
+    IS(1, ct_int_at(out + 4));
+    IS(1, ct_int_at(out + 8));
+    IS(12, ct_next_calendar_day(2147483646, 10, 30, out, sizeof out));
+    IS(2147483646, ct_int_at(out));
+    IS(10, ct_int_at(out + 4));
+    IS(31, ct_int_at(out + 8));
+    IS(20, ct_julian_to_calendar(1e9, 0.0, out, sizeof out));
+    IS(2733194, ct_int_at(out));
+    IS(11, ct_int_at(out + 4));
+    IS(27, ct_int_at(out + 8));
+    IS_FLOAT(0.5, ct_float_at(out + 12));
+}
+
 int main(void)
 {
     calendar_calls();
@@ -225,5 +267,7 @@ int main(void)
     utc_and_ut1();
     utc_texts();
     block_calls();
+    read_numbers();
+    read_answers();
     return summary("calls");
 }

@@ -89,19 +89,38 @@ static void rounding(void)
 #endif
 }
 
-/* The two bits of the processor, one by one. */
+/* The numbers of the modes, which a viewer may keep or print, stand in the header once; here they are said again. */
+static void numbers(void)
+{
+    check(CT_MODE_ROUNDING == 1, "CT_MODE_ROUNDING is %d", CT_MODE_ROUNDING);
+    check(CT_MODE_RESULTS == 2, "CT_MODE_RESULTS is %d", CT_MODE_RESULTS);
+    check(CT_MODE_OPERANDS == 4, "CT_MODE_OPERANDS is %d", CT_MODE_OPERANDS);
+}
+
+/* The two bits of the processor, one by one, by the mode's number and by what they do: a subnormal result of normal operands, and a
+   normal result of a subnormal operand. */
 static void flushing(void)
 {
 #ifdef __SSE2__
-    static const unsigned RESULTS = 0x8000, OPERANDS = 0x0040;
+    static const struct { unsigned bits; int mode; uint64_t result, of_operand; } CASES[] = {
+        {0x0000, 0, 0x0008000000000000, 0x0010000000000000},
+        {0x8000, 2, 0, 0x0010000000000000},
+        {0x0040, 4, 0x0008000000000000, 0},
+        {0x8040, 6, 0, 0}};
     unsigned saved = _mm_getcsr();
-    _mm_setcsr(saved | RESULTS);
-    check(ct_float_mode() == CT_MODE_RESULTS, "flushed results: mode %d", ct_float_mode());
-    _mm_setcsr(saved | OPERANDS);
-    check(ct_float_mode() == CT_MODE_OPERANDS, "operands read as zero: mode %d", ct_float_mode());
-    _mm_setcsr(saved | RESULTS | OPERANDS);
-    check(ct_float_mode() == (CT_MODE_RESULTS | CT_MODE_OPERANDS), "both: mode %d", ct_float_mode());
-    _mm_setcsr(saved);
+    int i;
+    for (i = 0; i < 4; i++) {
+        uint64_t result, of_operand;
+        int mode;
+        _mm_setcsr(saved | CASES[i].bits);
+        result = ct_opaque_bits(ct_opaque_float(0x0010000000000000) * ct_opaque_float(0x3fe0000000000000));
+        of_operand = ct_opaque_bits(ct_opaque_float(1) * ct_opaque_float(0x4330000000000000));
+        mode = ct_float_mode();
+        _mm_setcsr(saved);
+        check(result == CASES[i].result, "bits %x: a subnormal result is %lx", CASES[i].bits, (unsigned long)result);
+        check(of_operand == CASES[i].of_operand, "bits %x: of a subnormal operand %lx", CASES[i].bits, (unsigned long)of_operand);
+        check(mode == CASES[i].mode, "bits %x: mode %d", CASES[i].bits, mode);
+    }
 #endif
 }
 
@@ -136,6 +155,7 @@ int main(int count, char **words)
     changed = compare(here, by_default);
     printf("float mode %d, %d of %d answers on subnormal numbers change\n", mode, changed, PROBES);
     judge_link(fast, mode, changed);
+    numbers();
     rounding();
     flushing();
     return summary("float_mode");
