@@ -1,4 +1,5 @@
-// Lists the stamp block that is read from standard input.
+// Lists the stamp block that is read from standard input: the parts that `stamps::next_part` gives, one after the other. Proved here: the program is safe and ends.
+// That the parts are the listing is a theorem (listing_laws); that they go out in order is tested by what the program prints.
 ghost use mathlib.Core.Path.{_≡_};
 ghost use lib.ListN.{length};
 
