@@ -96,6 +96,15 @@ k-range b k l h p q = omega arith
 day-low : (b k : ℕ) → 1 ≤ k → k ≤ 12 → 2447 * k ≤ 80 * b → 2447 * k / 80 < b
 day-low b = months (λ k. 2447 * k ≤ 80 * b → 2447 * k / 80 < b) (λ p. omega arith) (λ p. omega arith) (λ p. omega arith) (λ p. omega arith) (λ p. omega arith) (λ p. omega arith) (λ p. omega arith) (λ p. omega arith) (λ p. omega arith) (λ p. omega arith) (λ p. omega arith) (λ p. omega arith)
 
+-- the code's month, by a shift
+month-by-shift : (b k : ℕ) → 1 ≤ k → k ≤ 12 → 2447 * k ≤ 80 * b → 80 * b < 2447 * (k + 1) → (535 * b + 130) / 16384 ≡ k
+month-by-shift b = months (λ k. 2447 * k ≤ 80 * b → 80 * b < 2447 * (k + 1) → (535 * b + 130) / 16384 ≡ k)
+    (λ p q. omega arith) (λ p q. omega arith) (λ p q. omega arith) (λ p q. omega arith) (λ p q. omega arith) (λ p q. omega arith) (λ p q. omega arith) (λ p q. omega arith) (λ p q. omega arith) (λ p q. omega arith) (λ p q. omega arith) (λ p q. omega arith)
+
+-- and what it makes of a month
+pub month-shifts : (k : ℕ) → 1 ≤ k → k ≤ 12 → ((k + 5) / 16 ≡ k / 11) × (979 * k / 32 ≡ 2447 * k / 80)
+month-shifts = months (λ k. ((k + 5) / 16 ≡ k / 11) × (979 * k / 32 ≡ 2447 * k / 80)) (refl, refl) (refl, refl) (refl, refl) (refl, refl) (refl, refl) (refl, refl) (refl, refl) (refl, refl) (refl, refl) (refl, refl) (refl, refl) (refl, refl)
+
 day-high : (b k : ℕ) → 80 * b < 2447 * (k + 1) → b ≤ 2447 * (k + 1) / 80
 day-high b k p = omega arith
 
@@ -158,6 +167,9 @@ b-high l b s s′ x p q r = omega arith
 d-sum : (d s m e b l : ℕ) → d + 31 ≡ s + m + e → m + e ≡ b → b + s ≡ l + 109572 + 31 → d ≡ l + 109572
 d-sum d s m e b l p q r = omega arith
 
+year-sum : (l n i o : ℕ) → n ≡ 4 * l / 146097 → l ≤ 1000068569 → i ≤ 99 → o ≤ 1 → 100 * n + i + o < 2147483648
+year-sum l n i o e h p q = omega arith
+
 -- the divisions-give-date: l days after -4900-03-01, as the Rust divides it
 module _ (l n a i b k : ℕ) (en : n ≡ 4 * l / 146097) (ea : a ≡ l - centuryStart n) (ei : i ≡ 4000 * (a + 1) / 1461001) (eb : b ≡ a + 31 - 1461 * i / 4) (ek : k ≡ 80 * b / 2447) where
   pub c-low : centuryStart n ≤ l
@@ -201,3 +213,10 @@ module _ (l n a i b k : ℕ) (en : n ≡ 4 * l / 146097) (ea : a ≡ l - century
   pub counts : daysBefore (100 * n + i + 300) k (b - 2447 * k / 80) ≡ l + 109572
   counts = d-sum (daysBefore (100 * n + i + 300) k (b - 2447 * k / 80)) (daysBeforeYear (100 * n + i + 300)) (367 * k / 12) (b - 2447 * k / 80) b l
       (before-is (100 * n + i + 300) k (b - 2447 * k / 80) (good .m-low) (good .d-low)) (month-sum (100 * n + i + 300) b k b-least b-most p q) b-is
+
+  pub month-is : (535 * b + 130) / 16384 ≡ k
+  month-is = month-by-shift b k (good .m-low) (good .m-high) p q
+
+  -- the year + 4900 fits 31 bits
+  pub year-fits : l ≤ 1000068569 → 100 * n + i + k / 11 < 2147483648
+  year-fits h = year-sum l n i (k / 11) en h year-small (omega (arith, good .m-high))

@@ -1,8 +1,8 @@
 -- The Rust's divisions of a day number give that day's date, and what `gregorianDate` is inside its range and past either end.
 -- Assumes nothing.
-use mathlib.Core.Path.{_≡_, refl, ap, sym, _∙_}
+use mathlib.Core.Path.{_≡_, refl, ap, sym, subst, _∙_}
 use mathlib.Core.Bool.{true, false}
-use Prim.Native.Nat.{ℕ, _+_, _-_, _*_, _/_, _≤_}
+use Prim.Native.Nat.{ℕ, _+_, _-_, _*_, _/_, _≤_, _<_}
 use native.Mathlib.Omega.{arith}
 use native.Mathlib.Nat.{add-zero}
 use lib.Signed.{ltZ}
@@ -12,7 +12,7 @@ use Rattle.calendar.specs.Gregorian.{gregorianDate}
 use Rattle.calendar.proofs.Months.{months}
 use Rattle.calendar.proofs.Signs.{sub-shift}
 use Rattle.calendar.proofs.March.{at, Valid}
-use Rattle.calendar.proofs.Divisions.{centuryStart, good, counts}
+use Rattle.calendar.proofs.Divisions.{centuryStart, good, counts, month-is, month-shifts, year-fits}
 use Rattle.calendar.proofs.InStep.{fromMarch, yearOf, date-with-count}
 
 march-date-by-division : (y d m : ℕ) → 1 ≤ m → m ≤ 12 → fromMarch (at y m d) ≡ date (yearOf (y + m / 11)) (m + 2 - 12 * (m / 11)) d
@@ -37,6 +37,34 @@ module _ (l n a i b k : ℕ) (en : n ≡ 4 * l / 146097) (ea : a ≡ l - century
       ∙ sym
       (date-with-count (at (100 * n + i + 300) k (b - 2447 * k / 80)) (l + 109572) v (counts l n a i b k en ea ei eb ek)
       ∙ march-date-by-division (100 * n + i + 300) (b - 2447 * k / 80) k (v .m-low) (v .m-high))
+
+-- the same by the code's shifts
+module _ (l n a i b m : ℕ) (en : n ≡ 4 * l / 146097) (ea : a ≡ l - centuryStart n) (ei : i ≡ 4000 * (a + 1) / 1461001) (eb : b ≡ a + 31 - 1461 * i / 4) (em : m ≡ (535 * b + 130) / 16384) where
+  k : ℕ
+  k = 80 * b / 2447
+
+  same-month : m ≡ k
+  unfolding k
+  same-month = em ∙ month-is l n a i b k en ea ei eb refl
+
+  shifts : ((k + 5) / 16 ≡ k / 11) × (979 * k / 32 ≡ 2447 * k / 80)
+  unfolding k
+  shifts =
+      let w = good l n a i b k en ea ei eb refl in
+      month-shifts k (w .m-low) (w .m-high)
+
+  over-is : (m + 5) / 16 ≡ k / 11
+  over-is = ap (λ (x : ℕ). (x + 5) / 16) same-month ∙ shifts .0
+
+  pub shifts-give-date : date (subℕ (100 * n + i + (m + 5) / 16) 4900) (m + 2 - 12 * ((m + 5) / 16)) (b - 979 * m / 32) ≡ dateAt (l + 109572)
+  unfolding k
+  shifts-give-date =
+      (λ j. date (subℕ (100 * n + i + over-is j) 4900) (same-month j + 2 - 12 * over-is j) (b - (ap (λ (x : ℕ). 979 * x / 32) same-month ∙ shifts .1) j))
+      ∙ divisions-give-date l n a i b k en ea ei eb refl
+
+  pub year-of-shifts-fits : l ≤ 1000068569 → 100 * n + i + (m + 5) / 16 < 2147483648
+  unfolding k
+  year-of-shifts-fits h = subst (λ (o : ℕ). 100 * n + i + o < 2147483648) (sym over-is) (year-fits l n a i b k en ea ei eb refl h)
 
 -- the day number and the count from -5200-03-01
 pub shifted-day-is : (jd : ℤ) (l : ℕ) → pos l ≡ jd +ℤ pos 68569 → dateOf jd ≡ dateAt (l + 109572)

@@ -1,0 +1,2 @@
+-- The Rust's expression and the calendar's dates.
+pub mod NoAnswerChanges

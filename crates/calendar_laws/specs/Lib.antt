@@ -1,0 +1,2 @@
+-- What the Rust computes of a day number.
+pub mod RustDate
