@@ -68,7 +68,7 @@ pub minus-zero-kept : addDays (julian minus-zero minus-zero) (neg (decimal 3 1))
 unfolding addDays uncarried
 minus-zero-kept = simp (three-tenths, cut-to-zero, less-zero, more-zero, zeros)
 
--- ---- equality where the parts are not under 2^52: two dates whose two-sum overflows are unequal to themselves, and a NaN to all
+-- ---- equality where the parts are not under 2^52: two dates whose two-sum overflows are unequal to themselves (for a NaN, and for sums that are not finite, see NotFinite)
 
 abbrev pub large : ℕ → ℕ → Float
 large n k = round binary64 false (n * 10 ^ k) 1
@@ -80,10 +80,6 @@ overflow-unequal = refl
 pub infinite-sum-equal : equal (julian (large 1 308) (large 1 308)) (julian (large 1 308) (large 1 308)) ≡ true
 unfolding equal sums exactSum twoSumError round neg add sub eq
 infinite-sum-equal = refl
-
-pub nan-unequal : (x : Float) (e : JulianDate) → equal (julian nan x) e ≡ false
-unfolding equal sums exactSum add eq
-nan-unequal x e = refl
 
 -- ---- the Julian year 2000.0 is J2000.0, there and back
 

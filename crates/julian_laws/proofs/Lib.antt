@@ -3,4 +3,5 @@ pub mod UnixTime
 pub mod AddDays
 pub mod CalendarDays
 pub mod RoundTrip
+pub mod NotFinite
 pub mod Cases
