@@ -51,19 +51,19 @@ nought-fits = tt
 
 -- ---- each is on the grid
 
-pub lowest-grid : OnGrid lowest
+unfoldable pub lowest-grid : OnGrid lowest
 lowest-grid = record { units = negsuc (137139 * 2 ^ 51 - 1); val = record { sign = true; size = 137139 * 2 ^ 51; has = (refl, refl); is = refl }; high = lit< tt; low = lit< tt }
 
-pub highest-grid : OnGrid highest
+unfoldable pub highest-grid : OnGrid highest
 highest-grid = record { units = pos (1000000000 * 2 ^ 52); val = record { sign = false; size = 1000000000 * 2 ^ 52; has = (refl, refl); is = refl }; high = lit< tt; low = lit< tt }
 
-pub largest-grid : OnGrid largest
+unfoldable pub largest-grid : OnGrid largest
 largest-grid = record { units = pos (9007199254740991 * 2 ^ 51); val = record { sign = false; size = 9007199254740991 * 2 ^ 51; has = (refl, refl); is = refl }; high = lit< tt; low = lit< tt }
 
-pub opposite-grid : OnGrid opposite
+unfoldable pub opposite-grid : OnGrid opposite
 opposite-grid = record { units = negsuc (4503599627370495 * 2 ^ 52 - 1); val = record { sign = true; size = 4503599627370495 * 2 ^ 52; has = (refl, refl); is = refl }; high = lit< tt; low = lit< tt }
 
-pub nought-grid : OnGrid nought
+unfoldable pub nought-grid : OnGrid nought
 nought-grid = record { units = pos 0; val = record { sign = false; size = 0; has = (refl, refl); is = refl }; high = lit< tt; low = lit< tt }
 
 -- ---- each sum is in the range: the first and the last of it, and 0.5

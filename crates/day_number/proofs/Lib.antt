@@ -20,7 +20,6 @@ pub mod FractionSign
 pub mod CarryTest
 -- Cases: document 01's cases, and cases at the edges.
 pub mod Cases
-
 -- From the parts to the day.
 -- Answer: the outcome by the range test.
 pub mod Answer
@@ -41,7 +40,6 @@ pub mod NearestNumber
 -- IntegerSum and TotalDay: no step of the integer sum wraps.
 pub mod IntegerSum
 pub mod TotalDay
-
 -- From the two rests to the fraction.
 -- Split: what they come to; SplitOnGrid: exactly; SplitOffGrid: to 2 ^ -51.
 pub mod Split
@@ -54,7 +52,6 @@ pub mod NormalizeFraction
 pub mod CarryDay
 -- MinusZero: when a sum is -0.0.
 pub mod MinusZero
-
 -- What these rest on, and the ties to the code.
 -- Units: the units that the proofs count in; SignedUnits: a float in them.
 pub mod Units

@@ -2,6 +2,7 @@
 pub mod UnixTime
 pub mod AddDays
 pub mod CalendarDays
+pub mod Ends
 pub mod RoundTrip
 pub mod NotFinite
 pub mod Cases
