@@ -6,12 +6,16 @@ pub mod CalendarDays
 pub mod Ends
 -- RoundTrip: a date to its Julian date and back.
 pub mod RoundTrip
+-- Clock: a clock time of a date, which are refused, and what the answer is worth.
+pub mod Clock
 -- AddDays: exact where nothing has to be rounded.
 pub mod AddDays
 -- Steps: one rounded operation.
 pub mod Steps
 -- JulianYears: the year of a date and the date of a year, against 365.25 days a year.
 pub mod JulianYears
+-- Differences: the difference of two dates, against the exact one.
+pub mod Differences
 -- NotFinite: equality where a sum is not finite.
 pub mod NotFinite
 -- Cases: at the edges of the float arithmetic and of the refusals.

@@ -1,13 +1,14 @@
 -- One rounded operation on values in units of 1 / L: a result below 2 ^ i days in size is off by at most 2 ^ i * E units, where E units are 2 ^ -54 day. Assumes nothing.
 use mathlib.Core.Path.{_≡_, refl, sym, ap, _∙_, subst}
 use Prim.Native.Nat.{ℕ, _+_, _*_, _^_, _≤_, _<_}
-use native.Mathlib.Nat.{le-trans, le-of-eq, mul-comm, mul-assoc, mul-left-comm}
+use native.Mathlib.Nat.{mul-comm, mul-assoc, mul-left-comm, add-mul, mul-le-mul-right}
 use native.Mathlib.Omega.{arith}
 use lib.Dec.{T}
 use lib.Pow.{pow-add}
 use lib.Ieee.{Float, binary64, fits, add, sub, mul, div, le}
 use Rattle.floats.specs.Whole.{abs}
 use Rattle.rounding.specs.Value.{Val, L}
+use Rattle.rounding.specs.Picoseconds.{Within}
 use Rattle.rounding.proofs.Value.{L-pos, L-is, val-scale, div-rounds}
 use Rattle.rounding.proofs.Near.{NearSum, add-near, sub-near}
 use Rattle.rounding.proofs.Scaled.{Scaled, scaled-near, mul-near}
@@ -104,3 +105,20 @@ half-val {x} {p} {n} v = subst (Val x (p * H) (n * H)) (sym L-H) (val-scale H v)
 
 pub up-to : (K : ℕ) {x c : Float} → T (fits binary64 x) → Val c (K * L) 0 L → T (le (abs x) c) → UpTo K x
 up-to K f w h = let a = at-most f w h in record { p = a .p; n = a .n; val = a .val; high = a .high; low = a .low }
+
+-- ---- a distance in units as one in picoseconds
+
+pub within-of : (ps : ℕ) {z : Float} {P N r : ℕ} → 86400000000000000 * r ≤ ps * L → Close L z P N r → Within ps z P N L
+within-of ps {z} {P} {N} {r} h c = record { p = c .p; n = c .n; val = c .val; over = go (c .p) (c .n) P N (c .over); under = go (c .n) (c .p) N P (c .under) }
+  where
+    go : (p n P N : ℕ) → p + N ≤ n + P + r → 86400000000000000 * (p * L + N * L) ≤ 86400000000000000 * (n * L + P * L) + ps * (L * L)
+    go p n P N k = scaled (p + N) (n + P) (p * L + N * L) (n * L + P * L) (sym (add-mul p N L)) (sym (add-mul n P L)) k
+      where
+        scaled : (x y s t : ℕ) → s ≡ x * L → t ≡ y * L → x ≤ y + r → 86400000000000000 * s ≤ 86400000000000000 * t + ps * (L * L)
+        scaled x y s t e f k =
+            let g : x * L ≤ (y + r) * L = mul-le-mul-right L k in
+            let i : 86400000000000000 * r * L ≤ ps * L * L = mul-le-mul-right L h in
+            last (x * L) (y * L) ((y + r) * L) (r * L) s t (86400000000000000 * r * L) (ps * L * L) (ps * (L * L)) e f g (add-mul y r L) (mul-assoc 86400000000000000 r L) (mul-assoc ps L L) i
+          where
+            last : (x y z r s t u v w : ℕ) → s ≡ x → t ≡ y → x ≤ z → z ≡ y + r → u ≡ 86400000000000000 * r → v ≡ w → u ≤ v → 86400000000000000 * s ≤ 86400000000000000 * t + w
+            last x y z r s t u v w a b c d e f g = omega arith
