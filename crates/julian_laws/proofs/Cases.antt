@@ -4,7 +4,7 @@ use mathlib.Core.Path.{_≡_, refl}
 use Prim.Native.Nat.{ℕ, _*_, _^_}
 use mathlib.Core.Bool.{true, false}
 use lib.IntN.{pos, negsuc}
-use lib.Ieee.{Float, nan, fin, binary64, ofBits, round, ofInt, add, sub, mul, div, neg, lt, le, eq}
+use lib.Ieee.{Float, fin, binary64, ofBits, round, ofInt, add, sub, mul, div, neg, lt, le, eq}
 use Rattle.refusals.specs.Outcome.{answer, refusal, onward}
 use Rattle.floats.specs.Whole.{toWhole, cut}
 use Rattle.constants.specs.Constants.{decimal, mjdZeroPoint, j2000Jd, unixEpochJd, secondsPerDay, nanosecondsPerSecond, daysPerJulianYear}
@@ -12,7 +12,7 @@ use Rattle.calendar.specs.Calendar.{leapSize, lengths, daysInMonth}
 use Rattle.calendar.specs.Refusals.{validDate}
 use Rattle.calendar.specs.DayCount.{civilCount, mjdNumber, mjdOf}
 use Rattle.julian.specs.declared.JulianDate.{JulianDate}
-use Rattle.julian.specs.JulianDate.{julian, roundedSum, uncarried, addDays}
+use Rattle.julian.specs.JulianDate.{julian, roundedSum, uncarried, addDays, difference}
 use Rattle.julian.specs.JulianYear.{toJulianYear, fromJulianYear}
 use Rattle.julian.specs.UnixTime.{secondOfDay, fromUnixTime}
 use Rattle.julian.specs.Equality.{twoSumError, exactSum, sums, equal}
@@ -122,3 +122,19 @@ j1900-of-year = refl
 pub quarter-to-seven : fromCalendar (pos 2000) 1 1 18 45 (decimal 0 0) ≡ answer (julian (decimal 24515445 1) (decimal 78125 5))
 unfolding fromCalendar atTime calendarToJulian roundedSum mjdZeroPoint secondsPerDay onward mjdOf mjdNumber civilCount validDate daysInMonth leapSize lengths dayFraction timeInDay secondLimit ofInt add mul div lt le eq round
 quarter-to-seven = refl
+
+-- ---- the difference is no order: 0.0 for dates that are not equal, as 2^23 + 2^-31 rounds to 2^23
+
+-- 2^23, -2^23 and -2^-31
+abbrev pub far : Float
+far = fin false 1 (pos 23)
+
+abbrev pub far-before : Float
+far-before = fin true 1 (pos 23)
+
+abbrev pub just-before : Float
+just-before = fin true 1 (negsuc 30)
+
+pub difference-is-no-order : (difference (julian far far-before) (julian just-before (decimal 0 0)) ≡ decimal 0 0) × (equal (julian far far-before) (julian just-before (decimal 0 0)) ≡ false)
+unfolding difference equal sums exactSum twoSumError round neg add sub eq
+difference-is-no-order = (refl, refl)

@@ -14,7 +14,7 @@ use Rattle.julian.specs.declared.JulianDate.{JulianDate}
 use Rattle.julian.proofs.Midnights.{zero-point-val}
 use Rattle.julian.specs.JulianYear.{toJulianYear, fromJulianYear}
 use Rattle.julian_laws.specs.Distances.{day, UpTo, YearOf, DateOfYear}
-use Rattle.julian_laws.proofs.Steps.{E, L-E, H, L-H, half-val, step-add, step-sub, step-mul, step-div}
+use Rattle.julian_laws.proofs.Steps.{E, L-E, H, L-H, half-val, step-add, step-sub, step-mul, step-div, worth-of}
 
 -- ---- the constants: J2000.0, the year 2000, and 365.25 = 1461 / 4
 
@@ -55,7 +55,7 @@ julian-year-near d s t =
       n = s .n + t .n;
       a = x4 .p;
       b = x4 .n;
-      worth = record { p = s .p; n = s .n; q = t .p; m = t .n; first = s .val; second = t .val; total = refl };
+      worth = worth-of (s .val) (t .val);
       val = x4 .val;
       over = to-year (s .p) (s .n) (t .p) (t .n) (x1 .p) (x1 .n) (x2 .p) (x2 .n) (x3 .p) (x3 .n) (x4 .p) (x4 .n) L E L-E (x1 .over) (x2 .over) (x3 .over) (x4 .over);
       under = to-year-low (s .p) (s .n) (t .p) (t .n) (x1 .p) (x1 .n) (x2 .p) (x2 .n) (x3 .p) (x3 .n) (x4 .p) (x4 .n) L E L-E (x1 .under) (x2 .under) (x3 .under) (x4 .under);
@@ -92,7 +92,7 @@ year-date-near year s =
       n = 0 * H + x3 .n;
       a = s .p;
       b = s .n;
-      worth = record { p = 4800001 * H; n = 0 * H; q = x3 .p; m = x3 .n; first = half-val zero-point-val; second = x3 .val; total = refl };
+      worth = worth-of (half-val zero-point-val) (x3 .val);
       val = s .val;
       over = in-picoseconds _ _ L E L-E (from-year (s .p) (s .n) (x1 .p) (x1 .n) (x2 .p) (x2 .n) (x3 .p) (x3 .n) L H E L-H (x1 .over) (x2 .over) (x3 .over));
       under = in-picoseconds _ _ L E L-E (from-year-low (s .p) (s .n) (x1 .p) (x1 .n) (x2 .p) (x2 .n) (x3 .p) (x3 .n) L H E L-H (x1 .under) (x2 .under) (x3 .under));

@@ -14,6 +14,8 @@ pub mod AddDays
 pub mod Steps
 -- JulianYears: the year of a date and the date of a year, against 365.25 days a year.
 pub mod JulianYears
+-- AddSeconds: days and seconds added, against the exact sum.
+pub mod AddSeconds
 -- Differences: the difference of two dates, against the exact one.
 pub mod Differences
 -- NotFinite: equality where a sum is not finite.

@@ -14,6 +14,8 @@ use Rattle.rounding.proofs.Near.{NearSum, add-near, sub-near}
 use Rattle.rounding.proofs.Scaled.{Scaled, scaled-near, mul-near}
 use Rattle.rounding.proofs.Chain.{Close}
 use Rattle.rounding.proofs.Range.{at-most}
+use Rattle.julian.specs.declared.JulianDate.{JulianDate}
+use Rattle.julian.specs.Worth.{Worth}
 use Rattle.julian_laws.specs.Distances.{UpTo}
 
 -- 2 ^ -54 day. Shut on purpose, as L is
@@ -100,6 +102,11 @@ L-H = go E L L-E
 
 pub half-val : {x : Float} {p n : ℕ} → Val x p n 2 → Val x (p * H) (n * H) L
 half-val {x} {p} {n} v = subst (Val x (p * H) (n * H)) (sym L-H) (val-scale H v)
+
+-- ---- a date is worth its parts
+
+pub worth-of : {d : JulianDate} {p n q m : ℕ} → Val (d .jd1) p n L → Val (d .jd2) q m L → Worth d (p + q) (n + m) L
+worth-of {p = p} {n = n} {q = q} {m = m} v w = record { p = p; n = n; q = q; m = m; first = v; second = w; total = refl }
 
 -- ---- a test on floats gives such a size
 
