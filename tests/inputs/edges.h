@@ -103,6 +103,25 @@ static const named_date NAMED_DATES[] = {
 };
 enum { NAMED_DATE_COUNT = COUNT(NAMED_DATES) };
 
+/* Two dates of which one has a sum that is not finite: their parts are compared,
+   both of them, and a NaN equals nothing. */
+typedef struct { double jd1, jd2, other1, other2; } date_pair;
+static const date_pair NOT_FINITE_PAIRS[] = {
+    {1e308, 1e308, 1e308, 1e308}, {1e308, 1e308, 1e308, 1.5e308}, {1e308, 1.5e308, 1.5e308, 1e308},
+    {-1.7e308, -1.7e308, -1.7e308, -1.6e308}, {1e308, 1e308, 1e308, -1e308},
+    {(double)INFINITY, 1.0, (double)INFINITY, 1.0}, {(double)INFINITY, 1.0, (double)INFINITY, 2.0},
+    {1.0, (double)INFINITY, 1.0, (double)INFINITY}, {1.0, (double)INFINITY, 1.0, -(double)INFINITY},
+    {1.0, (double)INFINITY, 2.0, (double)INFINITY},
+    {(double)INFINITY, -(double)INFINITY, (double)INFINITY, -(double)INFINITY},
+    {(double)INFINITY, -(double)INFINITY, (double)INFINITY, (double)INFINITY},
+    {-(double)INFINITY, 0.0, -(double)INFINITY, -0.0},
+    {2451545.0, 0.25, 2451545.0, (double)INFINITY}, {(double)INFINITY, 1.0, (double)INFINITY, (double)NAN},
+    {(double)NAN, 0.25, (double)NAN, 0.25}, {2451545.0, (double)NAN, 2451545.0, (double)NAN},
+    {2451545.0, (double)NAN, 2451545.0, 0.25}, {2451545.0, 0.25, 2451545.0, (double)NAN},
+    {2451545.0, 0.25, (double)NAN, 0.25},
+};
+enum { NOT_FINITE_PAIR_COUNT = COUNT(NOT_FINITE_PAIRS) };
+
 /* One date for each length of text: years 2000, -4799, 10000, 100000, 2733194. */
 static const double TEXT_LENGTHS[] = {2451544.5, -31738.5, 5373849.5, 38245309.5, 999999998.5};
 enum { TEXT_LENGTH_COUNT = COUNT(TEXT_LENGTHS) };

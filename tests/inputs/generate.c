@@ -160,6 +160,17 @@ static int put_edge(const call_row *call, size_t i, record *r)
         return 1;
     }
     if (first_kind_is(call, "date")) {
+        if (has(call, "other")) { /* sums that are not finite */
+            if (i < NOT_FINITE_PAIR_COUNT) {
+                const date_pair *p = &NOT_FINITE_PAIRS[i];
+                r->word[1] = bits(p->jd1);
+                r->word[2] = bits(p->jd2);
+                r->word[3] = bits(p->other1);
+                r->word[4] = bits(p->other2);
+                return 1;
+            }
+            i -= NOT_FINITE_PAIR_COUNT;
+        }
         /* the papers' pairs, then each edge in each place beside a plain part */
         if (i < NAMED_DATE_COUNT) {
             r->word[1] = bits(NAMED_DATES[i].jd1);

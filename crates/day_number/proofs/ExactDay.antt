@@ -18,7 +18,7 @@ use Rattle.refusals.specs.Outcome.{answer}
 use Rattle.day_number.specs.declared.DayNumber.{DayNumber}
 use Rattle.day_number.specs.DayNumber.{inJulianRange, accepted, dayNumber, fractionPassed, dayOf}
 use Rattle.day_number.specs.Answer.{dayNumberAndFraction}
-use Rattle.day_number.specs.ExactDay.{OnGrid, gridSum, GridSumInRange, wholeDays, unitsLeft, exactDay, exactFraction, exactDayNumber, fractionOf, DayAt}
+use Rattle.day_number.specs.ExactDay.{OnGrid, OnWideGrid, gridSum, GridSumInRange, wholeDays, unitsLeft, exactDay, exactFraction, exactDayNumber, fractionOf, DayAt}
 use Rattle.day_number.specs.MinusZero.{minusZero}
 use Rattle.day_number.proofs.Answer.{answered, refused}
 use Rattle.day_number.proofs.GridPairs.{Exactly, grid-pair, grid-accepted}
@@ -73,24 +73,32 @@ fraction-is : (f : Float) (u : ℕ) → u < 2 ^ 52 → Unsigned f → Val f u 0 
 unfolding fractionOf
 fraction-is f u h k v = float-unique f (fractionOf u) false u (2 ^ 52) (pow-pos 52) (k .fit) (round-fits binary64 false u (2 ^ 52)) (plus-has f (v .sign) (v .size) u (k .sign) (v .has) (v .is)) (fraction-has u h)
 
--- ---- an accepted pair on the grid
-day-is : (x y : Float) → T (fits binary64 x) → T (fits binary64 y) → (a : OnGrid x) (b : OnGrid y) → accepted x y ≡ true → dayOf x y ≡ exactDayNumber (gridSum a b)
+-- ---- an accepted pair on the wide grid, and so on the grid
+day-is : (x y : Float) → T (fits binary64 x) → T (fits binary64 y) → (a : OnWideGrid x) (b : OnWideGrid y) → accepted x y ≡ true → dayOf x y ≡ exactDayNumber (a .units +ℤ b .units)
 unfolding dayOf
 day-is x y fx fy a b e = go (grid-pair x y fx fy e (plusZ (a .units)) (minusZ (a .units)) (plusZ (b .units)) (minusZ (b .units)) (a .val) (b .val) (omega (arith, a .high)) (omega (arith, a .low)) (omega (arith, b .high)) (omega (arith, b .low)))
   where
-    go : Exactly (plusZ (a .units)) (minusZ (a .units)) (plusZ (b .units)) (minusZ (b .units)) (dayNumber x y) (fractionPassed x y) → _≡_ {A = DayNumber} (record { day = dayNumber x y; fraction = fractionPassed x y }) (exactDayNumber (gridSum a b))
+    go : Exactly (plusZ (a .units)) (minusZ (a .units)) (plusZ (b .units)) (minusZ (b .units)) (dayNumber x y) (fractionPassed x y) → _≡_ {A = DayNumber} (record { day = dayNumber x y; fraction = fractionPassed x y }) (exactDayNumber (a .units +ℤ b .units))
     go k =
-        let d : DayAt (gridSum a b) (dayNumber x y) (k .units) = record { below = k .below; total = omega (arith, k .total, add-pair (a .units) (b .units)) } in
+        let d : DayAt (a .units +ℤ b .units) (dayNumber x y) (k .units) = record { below = k .below; total = omega (arith, k .total, add-pair (a .units) (b .units)) } in
         let o = only d in
         ap (λ (z : ℤ). record { day = z; fraction = fractionPassed x y }) (o .0)
-        ∙ ap (λ (z : Float). record { day = exactDay (gridSum a b); fraction = z }) (fraction-is (fractionPassed x y) (k .units) (k .below) (fraction-unsigned x y) (k .val) ∙ ap fractionOf (o .1))
+        ∙ ap (λ (z : Float). record { day = exactDay (a .units +ℤ b .units); fraction = z }) (fraction-is (fractionPassed x y) (k .units) (k .below) (fraction-unsigned x y) (k .val) ∙ ap fractionOf (o .1))
 
--- two parts on the grid whose exact sum is from -68569.5 to 10 ^ 9 are answered with the exact day and the exact fraction
-pub exact : (x y : Float) → T (fits binary64 x) → T (fits binary64 y) → (a : OnGrid x) (b : OnGrid y) → GridSumInRange (gridSum a b) → dayNumberAndFraction x y ≡ answer (exactDayNumber (gridSum a b))
-exact x y fx fy a b r =
+wide : {x : Float} → OnGrid x → OnWideGrid x
+wide a = record { units = a .units; val = a .val; high = omega (arith, a .high); low = omega (arith, a .low) }
+
+-- two parts on the wide grid, up to 2 ^ 62 days in size, whose exact sum is from -68569.5 to 10 ^ 9, are answered with the exact day and the exact fraction
+pub exact-to-2-62 : (x y : Float) → T (fits binary64 x) → T (fits binary64 y) → (a : OnWideGrid x) (b : OnWideGrid y) → GridSumInRange (a .units +ℤ b .units) → dayNumberAndFraction x y ≡ answer (exactDayNumber (a .units +ℤ b .units))
+exact-to-2-62 x y fx fy a b r =
     let s = add-pair (a .units) (b .units) in
     let e = grid-accepted x y (plusZ (a .units)) (minusZ (a .units)) (plusZ (b .units)) (minusZ (b .units)) (a .val) (b .val) (omega (arith, r .low, s)) (omega (arith, r .high, s)) in
     answered x y e ∙ ap answer (day-is x y fx fy a b e)
+
+-- the same on document 01's grid
+pub exact : (x y : Float) → T (fits binary64 x) → T (fits binary64 y) → (a : OnGrid x) (b : OnGrid y) → GridSumInRange (gridSum a b) → dayNumberAndFraction x y ≡ answer (exactDayNumber (gridSum a b))
+unfolding wide
+exact x y fx fy a b r = exact-to-2-62 x y fx fy (wide a) (wide b) r
 
 -- ---- the range test sees only the exact sum
 zero-in : (s : Bool) (a : ℕ) → a ≡ 0 → inJulianRange (round binary64 s a (2 ^ 52)) ≡ true
@@ -128,14 +136,14 @@ sum-test a b = rounds-move (add-rounds binary64 (pow-pos 52) (a .val) (b .val)) 
 -- two divisions of one exact sum on the grid have one outcome, to the bit
 pub alike : (x y x' y' : Float) → T (fits binary64 x) → T (fits binary64 y) → T (fits binary64 x') → T (fits binary64 y') → (a : OnGrid x) (b : OnGrid y) (a' : OnGrid x') (b' : OnGrid y')
     → gridSum a b ≡ gridSum a' b' → dayNumberAndFraction x y ≡ dayNumberAndFraction x' y'
-unfolding accepted
+unfolding accepted wide
 alike x y x' y' fx fy fx' fy' a b a' b' e = go (accepted x y) refl (accepted x' y') refl
   where
     test : accepted x y ≡ accepted x' y'
     test = same-test (sum-test a b) (subst (λ (s : ℤ). Rounds binary64 (add binary64 x' y') (plusZ s) (minusZ s) (2 ^ 52)) (sym e) (sum-test a' b'))
 
     go : (u : Bool) → accepted x y ≡ u → (v : Bool) → accepted x' y' ≡ v → dayNumberAndFraction x y ≡ dayNumberAndFraction x' y'
-    go true p true q = answered x y p ∙ ap answer (day-is x y fx fy a b p ∙ ap exactDayNumber e ∙ sym (day-is x' y' fx' fy' a' b' q)) ∙ sym (answered x' y' q)
+    go true p true q = answered x y p ∙ ap answer (day-is x y fx fy (wide a) (wide b) p ∙ ap exactDayNumber e ∙ sym (day-is x' y' fx' fy' (wide a') (wide b') q)) ∙ sym (answered x' y' q)
     go false p false q = refused x y p ∙ sym (refused x' y' q)
     go true p false q = absurd (true≢false (sym p ∙ test ∙ q))
     go false p true q = absurd (true≢false (sym q ∙ sym test ∙ p))

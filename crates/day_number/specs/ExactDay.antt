@@ -15,6 +15,13 @@ pub record OnGrid (x : Float) : Type 0 where
   pub high : plusZ units < 2 ^ 104
   pub low : minusZ units < 2 ^ 104
 
+-- a wider grid, this project's own: the same multiples up to 2 ^ 62 day in size. From 2 ^ 63 day on the Rust's casts to 64 bits saturate (`saturates`)
+pub record OnWideGrid (x : Float) : Type 0 where
+  pub units : ℤ
+  pub val : Val x (plusZ units) (minusZ units) (2 ^ 52)
+  pub high : plusZ units ≤ 2 ^ 62 * 2 ^ 52
+  pub low : minusZ units ≤ 2 ^ 62 * 2 ^ 52
+
 -- the exact sum of two parts
 abbrev pub gridSum : {x y : Float} → OnGrid x → OnGrid y → ℤ
 gridSum a b = a .units +ℤ b .units

@@ -21,14 +21,14 @@ use Rattle.julian.specs.Worth.{Worth}
 -- ---- a float cut to a whole number
 
 -- z is the whole number tp - tn, at most K in size and less than 1 from (p - n) / D
-record CutTo (z : Float) (p n D K : ℕ) : Type 0 where
-  tp : ℕ
-  tn : ℕ
-  val : Val z tp tn 1
-  over : n + tp * D < p + tn * D + D
-  under : p + tn * D < n + tp * D + D
-  high : tp ≤ tn + K
-  low : tn ≤ tp + K
+pub record CutTo (z : Float) (p n D K : ℕ) : Type 0 where
+  pub tp : ℕ
+  pub tn : ℕ
+  pub val : Val z tp tn 1
+  pub over : n + tp * D < p + tn * D + D
+  pub under : p + tn * D < n + tp * D + D
+  pub high : tp ≤ tn + K
+  pub low : tn ≤ tp + K
 
 whole-has : (s : Bool) (k : ℕ) → k ≤ 2 ^ 53 → HasValue (round binary64 s k 1) s k 1
 whole-has s k h = subst (λ (x : ℕ). HasValue (round binary64 s x 1) s x 1) (mul-one k) (exact-has s k 0 0 (lit≤ tt) (lit≤ tt) h)
@@ -38,7 +38,7 @@ size-of : (K a D p n : ℕ) (s : Bool) → Signed s a p n → p ≤ n + K * D �
 size-of K a D p n false i h k = omega arith
 size-of K a D p n true i h k = omega arith
 
-cut-to : (K : ℕ) {x : Float} {p n D : ℕ} → K ≤ 2 ^ 53 → 0 < D → p ≤ n + K * D → n ≤ p + K * D → Val x p n D → CutTo (toWhole cut x) p n D K
+pub cut-to : (K : ℕ) {x : Float} {p n D : ℕ} → K ≤ 2 ^ 53 → 0 < D → p ≤ n + K * D → n ≤ p + K * D → Val x p n D → CutTo (toWhole cut x) p n D K
 unfolding toWhole
 cut-to K {x} {p} {n} {D} most some h k v = go x (v .sign) (v .size) (v .has) (v .is)
   where

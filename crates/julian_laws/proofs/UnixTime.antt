@@ -1,12 +1,13 @@
--- What the Julian date of a Unix time is worth: its first part is exactly the midnight of the day, and its second part within 17 picoseconds of the time of the day.
+-- What the Julian date of a Unix time is worth: its first part is exactly the midnight of the day, its second part within 17 picoseconds of the time of the day, and
+-- the day and that time are the seconds given.
 -- Assumes nothing.
 use mathlib.Core.Path.{_≡_, refl, sym, ap, _∙_, subst₂}
-use Prim.Native.Nat.{ℕ, _+_, _*_, _^_, _≤_}
+use Prim.Native.Nat.{ℕ, zero, suc, _+_, _*_, _/_, _%_, _^_, _≤_}
 use native.Mathlib.Omega.{arith}
-use native.Mathlib.Nat.{le-trans, le-of-eq, mul-le-mul-right, add-mul, mul-assoc, mul-one}
+use native.Mathlib.Nat.{div-add-mod', le-trans, le-of-eq, mul-le-mul-right, add-mul, mul-assoc, mul-one}
 use mathlib.Core.Bool.{false}
 use lib.Dec.{lit≤, lit<}
-use lib.IntN.{ℤ, pos}
+use lib.IntN.{ℤ, pos, negsuc, negℤ}
 use lib.Ieee.{Float, binary64, round, div}
 use mir.Syntax.{w32, w64}
 use mir.Val.{Fits, SFits}
@@ -35,6 +36,18 @@ unix-day seconds nanos f =
     let z = daysTowardZero seconds in
     let s = sides z (2 ^ 47) (days-size seconds f) in
     val-move (add-exact 1 (lit≤ tt) (omega (arith, s .0)) (omega (arith, s .1)) epoch-val (val-scale 2 (integer-val z (omega (arith, days-size seconds f))))) (omega arith)
+
+-- ---- the days and the seconds left
+
+minus-side : (k : ℕ) → (plusZ (negℤ (pos k)) ≡ 0) × (minusZ (negℤ (pos k)) ≡ k)
+minus-side zero = (refl, refl)
+minus-side (suc k) = (refl, refl)
+
+-- THE SECONDS: 86,400 times the days, and the seconds left, are the seconds given, exactly
+pub unix-seconds : (seconds : ℤ)
+    → plusZ (daysTowardZero seconds) * 86400 + plusZ (secondsLeft seconds) + minusZ seconds ≡ minusZ (daysTowardZero seconds) * 86400 + minusZ (secondsLeft seconds) + plusZ seconds
+unix-seconds (pos s) = omega (arith, div-add-mod' s 86400)
+unix-seconds (negsuc s) = omega (arith, div-add-mod' (suc s) 86400, minus-side (suc s / 86400) .0, minus-side (suc s / 86400) .1, minus-side (suc s % 86400) .0, minus-side (suc s % 86400) .1)
 
 -- ---- the time of the day
 

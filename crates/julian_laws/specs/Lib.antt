@@ -1,2 +1,7 @@
--- What the theorems on `julian_to_calendar` speak of.
+-- The words of the theorems of `julian_laws`, which has no code and no contracts.
+-- CalendarAnswers: the range of `julian_to_calendar`'s answers, and how near they are.
 pub mod CalendarAnswers
+-- Distances: what the other calls mean in exact numbers, and to what distance.
+pub mod Distances
+-- Nan: which dates have a NaN.
+pub mod Nan
