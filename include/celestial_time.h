@@ -125,6 +125,18 @@ int64_t ct_from_julian_year(double year, uint8_t *out, size_t out_len);
    with a NaN equals none. */
 int64_t ct_equal(double jd1, double jd2, double other1, double other2);
 
+/* The scales by number, in ct_same_stamp. */
+enum { CT_UTC, CT_TAI, CT_UT1, CT_TT, CT_GPS, CT_TCG, CT_TCB, CT_TDB };
+
+/* Whether two stamps are the same, 1 or 0: one scale, and both parts with the same bits. The parts
+   are bit patterns (ct_bits_of of a float, ct_pattern_at of 8 bytes), so a NaN is the same as itself
+   and not as another NaN; 0.0 and -0.0 are two. Two divisions of one date are equal and not the same:
+   (2451545.0, 0.0) and (2451544.75, 0.25). Stamps that are the same, with parts of at most 2^1021 in
+   size, are equal too. A scale is compared and not judged: any other number is a scale of its own.
+   Refuses nothing. */
+int64_t ct_same_stamp(uint32_t scale, uint64_t jd1, uint64_t jd2, uint32_t other_scale, uint64_t other1,
+                      uint64_t other2);
+
 /* The days from the other date to this. */
 double ct_difference(double jd1, double jd2, double other1, double other2);
 
@@ -228,6 +240,15 @@ static inline double ct_float_at(const uint8_t *bytes)
     double x;
     memcpy(&x, &pattern, sizeof x);
     return x;
+}
+
+/* The bits of a float, as ct_same_stamp takes them. A stamp that was recorded as bytes is better read
+   by ct_pattern_at: on its way through a float a NaN may lose bits. */
+static inline uint64_t ct_bits_of(double x)
+{
+    uint64_t pattern;
+    memcpy(&pattern, &x, sizeof pattern);
+    return pattern;
 }
 
 /* The year, month or day whose 4 bytes begin at `bytes`. */

@@ -88,6 +88,35 @@ static void date_calls(void)
     IS_NAN(ct_difference(infinite_float(), 0.0, infinite_float(), 0.0));
 }
 
+/* Patterns in, so that no build and no floating-point unit has a say. */
+static void same_stamps(void)
+{
+    static const uint64_t NOON = 0x4142b42c80000000, SIX = 0x4142b42c60000000, QUARTER = 0x3fd0000000000000; /* 2451545.0, 2451544.75, 0.25 */
+    static const uint64_t MINUS = 0x8000000000000000, QUIET = 0x7ff8000000000000, SIGNALLING = 0x7ff0000000000001;
+    uint32_t scale;
+    int bit;
+    for (scale = CT_UTC; scale <= CT_TDB + 1; scale++) {
+        IS(1, ct_same_stamp(scale, NOON, 0, scale, NOON, 0));
+        IS(scale == 3, ct_same_stamp(scale, NOON, 0, CT_TT, NOON, 0));
+    }
+    IS(1, ct_same_stamp(UINT32_MAX, NOON, 0, UINT32_MAX, NOON, 0));
+    IS(0, ct_same_stamp(UINT32_MAX, NOON, 0, CT_UTC, NOON, 0));
+    IS(1, ct_equal(2451545.0, 0.0, 2451544.75, 0.25));
+    IS(0, ct_same_stamp(CT_UTC, NOON, 0, CT_UTC, SIX, QUARTER));
+    IS(0, ct_same_stamp(CT_UTC, NOON, QUARTER, CT_UTC, QUARTER, NOON));
+    IS(0, ct_same_stamp(CT_UTC, NOON, 0, CT_UTC, NOON, MINUS));
+    IS(0, ct_same_stamp(CT_UTC, MINUS, NOON, CT_UTC, 0, NOON));
+    IS(1, ct_same_stamp(CT_UTC, SIGNALLING, QUIET, CT_UTC, SIGNALLING, QUIET));
+    IS(0, ct_same_stamp(CT_UTC, SIGNALLING, QUIET, CT_UTC, QUIET, QUIET));
+    IS(1, ct_same_stamp(CT_UTC, 0x7ca8000000000000, 0xffefffffffffffff, CT_UTC, 0x7ca8000000000000, 0xffefffffffffffff));
+    for (bit = 0; bit < 64; bit++) {
+        IS(0, ct_same_stamp(CT_UTC, NOON, QUARTER, CT_UTC, NOON ^ (uint64_t)1 << bit, QUARTER));
+        IS(0, ct_same_stamp(CT_UTC, NOON, QUARTER, CT_UTC, NOON, QUARTER ^ (uint64_t)1 << bit));
+        if (bit < 32) IS(0, ct_same_stamp(CT_UTC, NOON, QUARTER, CT_UTC ^ (uint32_t)1 << bit, NOON, QUARTER));
+    }
+    IS(1, ct_bits_of(2451545.0) == NOON && ct_bits_of(-0.0) == MINUS && ct_bits_of(0.25) == QUARTER);
+}
+
 static void offset_calls(void)
 {
     GIVES(seconds(36.0), ct_get_tai_utc_offset, 2016, 12, 31, 0.0);
@@ -259,6 +288,7 @@ int main(void)
     calendar_calls();
     calendar_of_dates();
     date_calls();
+    same_stamps();
     offset_calls();
     plain_scales();
     scales_with_offset();

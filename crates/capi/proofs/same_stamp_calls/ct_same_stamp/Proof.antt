@@ -1,0 +1,18 @@
+-- `capi::same_stamp_calls::ct_same_stamp` meets its contract. Assumes nothing.
+use mathlib.Core.Path.{sym, ap, _∙_}
+use Rattle.c_answers.specs.Delivery.{truth}
+use borrow.Author.Needs.{needs}
+use Rattle.capi.proofs.same_stamp_calls.ct_same_stamp.Statement.{statement}
+use Rattle.capi.proofs.same_stamp_calls.ct_same_stamp.Tie as tie
+
+same-stamp-requires : tie.Need-same-stamp-requires
+same-stamp-requires c κs = search needs
+
+returns : tie.Need-returns
+returns c = ap truth (sym (c .if1 .taken) ∙ c .before .same-stamp .ensures)
+
+returns-2 : tie.Need-returns-2
+returns-2 c = ap truth (sym (c .if1 .left) ∙ c .before .same-stamp .ensures)
+
+pub ct-same-stamp-spec : {M : Type 1} → statement M
+ct-same-stamp-spec = tie.close (tie.spec same-stamp-requires returns returns-2)

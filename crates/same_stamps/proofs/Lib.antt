@@ -1,0 +1,5 @@
+-- The laws of the same stamp, in the order to read them.
+pub mod Same
+pub mod TwoSum
+pub mod Equal
+pub mod Cases

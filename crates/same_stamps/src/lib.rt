@@ -1,0 +1,39 @@
+// Whether two recorded stamps are the same, bit for bit. A filter for duplicates asks this: two divisions of one moment are equal as dates, and two stamps.
+ghost use mathlib.Core.Path.{_≡_};
+ghost use Rattle.same_stamps.specs.Same.{same};
+
+// The scales by number, in document 01's order. Any other number is a scale of its own.
+pub const UTC: u32 = 0;
+
+pub const TAI: u32 = 1;
+
+pub const UT1: u32 = 2;
+
+pub const TT: u32 = 3;
+
+pub const GPS: u32 = 4;
+
+pub const TCG: u32 = 5;
+
+pub const TCB: u32 = 6;
+
+pub const TDB: u32 = 7;
+
+// A stamp as it was recorded: its scale, and the bit patterns of its two parts. Not floats, because a float here does not tell one NaN from another.
+pub struct Stamp {
+    pub scale: u32,
+    pub jd1: u64,
+    pub jd2: u64,
+}
+
+pub fn same_stamp(a: Stamp, b: Stamp) -> bool
+    ensures { λ r. ⌜ r ≡ same a b ⌝ }
+{
+    if a.scale != b.scale {
+        return false;
+    }
+    if a.jd1 != b.jd1 {
+        return false;
+    }
+    a.jd2 == b.jd2
+}
