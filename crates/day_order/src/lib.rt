@@ -1,0 +1,1 @@
+// No code: the calendar keeps the order of dates (proofs/Order.antt).
