@@ -20,5 +20,8 @@ pub mod AddSeconds
 pub mod Differences
 -- NotFinite: equality where a sum is not finite.
 pub mod NotFinite
+-- Divisions and Literals: for cases that a check computes, the date of a day number by division, and numbers worked out.
+pub mod Divisions
+pub mod Literals
 -- Cases: at the edges of the float arithmetic and of the refusals.
 pub mod Cases
