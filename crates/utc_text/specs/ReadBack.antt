@@ -8,16 +8,9 @@ use lib.ListN.{length, take, drop}
 use lib.IntN.{ℤ, pos, negsuc, negℤ}
 use lib.Signed.{ltZ}
 use lib.Dec.{eqb}
+pub use Rattle.digits.specs.Decimal.{value, number}
 use Rattle.calendar.specs.declared.CalendarDate.{CalendarDate}
 use Rattle.time_of_day.specs.declared.TimeOfDay.{TimeOfDay}
-
--- the number that decimal digits say, read from the left after the number v
-abbrev pub value : ℕ → List ℕ → ℕ
-value v [] = v
-value v (c ∷ cs) = value (10 * v + (c - 48)) cs
-
-abbrev pub number : List ℕ → ℕ
-number cs = value 0 cs
 
 -- with a minus sign, 45, in front of it or not
 unfoldable pub signedNumber : List ℕ → ℤ

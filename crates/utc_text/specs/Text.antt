@@ -1,16 +1,13 @@
 -- UTC text as a list of ASCII codes. Written from document 01, "UTC text", and from the Rust's `iso_string` (scales/utc/mod.rs):
 -- `{:04}-{:02}-{:02}T{:02}:{:02}:{:02}.{:03}`. Assumes nothing.
-use Prim.Native.Nat.{ℕ, suc, _+_, _/_, _%_}
+use Prim.Native.Nat.{ℕ, suc, _/_}
 use mathlib.Core.List.{List, [], _∷_, _++_}
 use mathlib.Core.Bool.{cond}
 use lib.IntN.{ℤ, pos, negsuc}
 use lib.Dec.{ltb}
+pub use Rattle.digits.specs.Decimal.{last}
 use Rattle.calendar.specs.declared.CalendarDate.{CalendarDate}
 use Rattle.time_of_day.specs.declared.TimeOfDay.{TimeOfDay}
-
--- the last decimal digit of n
-abbrev pub last : ℕ → ℕ
-last n = 48 + n % 10
 
 -- the last two, three, .. seven decimal digits of n
 abbrev pub two : ℕ → List ℕ

@@ -6,17 +6,9 @@ use mathlib.Core.List.{List, [], _∷_}
 use mathlib.Core.Bool.{cond}
 use lib.ListN.{length}
 use lib.Dec.{eqb}
+unfoldable pub use Rattle.digits.specs.Decimal.{AllDigits}
+pub use Rattle.digits.specs.Decimal.{Digits}
 use Rattle.utc_text.specs.ReadBack.{part, yearBytes}
-
--- each byte is a digit's: 48 to 57
-unfoldable pub AllDigits : List ℕ → Type 0
-AllDigits [] = Unit
-AllDigits (c ∷ cs) = (48 ≤ c) × (c ≤ 57) × AllDigits cs
-
--- n digits, and nothing else
-pub record Digits (n : ℕ) (cs : List ℕ) : Type 0 where
-  pub many : length cs ≡ n
-  pub all : AllDigits cs
 
 -- what stands after a minus sign, 45, or the whole where there is none
 unfoldable pub unsigned : List ℕ → List ℕ

@@ -1,0 +1,3 @@
+-- The laws of numbers as digits.
+pub mod Decimal
+pub mod Hexadecimal
