@@ -1,4 +1,4 @@
--- Two Julian dates with parts under 2^52 in size are equal exactly if their exact sums are. Assumes nothing.
+-- Two Julian dates whose two-sums do not overflow, as those with parts under 2^52 in size, are equal exactly if their exact sums are. Assumes nothing.
 use mathlib.Core.Path.{_≡_, refl, sym, ap, _∙_, subst}
 use Prim.Native.Nat.{ℕ, _+_}
 use native.Mathlib.Omega.{arith}
@@ -7,16 +7,18 @@ use lib.Dec.{T, eqb, eqb→eq, lit≤}
 use lib.Ieee.{Float, binary64, round, eq}
 use borrow.Author.Tests.{eq-eqb}
 use Rattle.rounding.specs.Value.{Signed, Val, Rounds, L}
-use Rattle.rounding.proofs.Value.{add-rounds, rounds-move, val-unique, val-finite-true, L-is, L-pos}
+use Rattle.rounding.proofs.Value.{add-rounds, rounds-move, val-unique, val-finite, val-finite-true, L-is, L-pos}
+use Rattle.rounding.proofs.Own.{val-rep}
 use Rattle.floats.proofs.Fields.{same-test}
 use Rattle.rounding.proofs.Compare.{eq-val}
 use Rattle.rounding.proofs.Exact.{rounds-exact}
 use Rattle.rounding.proofs.Sizes.{under-size}
 use Rattle.rounding.proofs.TwoSumFloat.{two-sum-under}
+use Rattle.rounding.proofs.TwoSumFinite.{two-sum-finite}
 use Rattle.julian.specs.declared.JulianDate.{JulianDate}
 use Rattle.julian.specs.declared.ExactSum.{ExactSum}
 use Rattle.julian.specs.Finite.{bothFinite}
-use Rattle.julian.specs.Equality.{twoSumError, exactSum, sums, samePair, equal}
+use Rattle.julian.specs.Equality.{twoSumError, exactSum, sums, FiniteSums, samePair, equal}
 use Rattle.julian.specs.Worth.{Worth, SmallParts}
 
 -- ---- the two cases of the test, for sums that are handed in
@@ -59,23 +61,38 @@ same-rounded {z} {y} {P} {N} {Q} {M} {p} {n} {q} {m} r s e v w = go (r .sign) (s
     go false true h k i j = apart (omega arith, omega arith)
     go true false h k i j = apart (omega arith, omega arith)
 
--- ---- the two-sum of parts under 2^52
+-- ---- the two-sum of a date's parts
+
+-- every date with parts under 2^52 has an exact sum
+pub worth : (d : JulianDate) → SmallParts d → (P : ℕ) × (N : ℕ) × Worth d P N L
+worth d s =
+    let a = under-size (d .jd1) 52 (s .first .held) (s .first .small) in
+    let b = under-size (d .jd2) 52 (s .second .held) (s .second .small) in
+    (a .p + b .p, a .n + b .n, record { p = a .p; n = a .n; q = b .p; m = b .n; first = a .val; second = b .val; total = refl })
+
+-- and its two-sum does not overflow
+pub small-sums : (d : JulianDate) → SmallParts d → FiniteSums d
+unfolding sums exactSum twoSumError
+small-sums d s =
+    let w = worth d s .2 in
+    let x = two-sum-under (s .first) (s .second) (w .first) (w .second) in
+    record { first-float = s .first .held; second-float = s .second .held; sum = val-finite (x .sum); error = val-finite (x .err) }
 
 -- the values of the rounded sum and of its error, which together are the exact sum (P - N) / L
-record SumAndError (d : JulianDate) (P N : ℕ) : Type 0 where
-  sp : ℕ
-  sn : ℕ
-  ep : ℕ
-  en : ℕ
-  sum : Val (sums d .sum) sp sn L
-  error : Val (sums d .error) ep en L
-  total : sp + ep + N ≡ sn + en + P
-  rounded : Rounds binary64 (sums d .sum) P N L
+pub record SumAndError (d : JulianDate) (P N : ℕ) : Type 0 where
+  pub sp : ℕ
+  pub sn : ℕ
+  pub ep : ℕ
+  pub en : ℕ
+  pub sum : Val (sums d .sum) sp sn L
+  pub error : Val (sums d .error) ep en L
+  pub total : sp + ep + N ≡ sn + en + P
+  pub rounded : Rounds binary64 (sums d .sum) P N L
 
-sums-of : {d : JulianDate} {P N : ℕ} → SmallParts d → Worth d P N L → SumAndError d P N
+pub sums-of : {d : JulianDate} {P N : ℕ} → FiniteSums d → Worth d P N L → SumAndError d P N
 unfolding sums exactSum twoSumError
 sums-of {d} {P} {N} s w =
-    let x = two-sum-under (s .first) (s .second) (w .first) (w .second) in
+    let x = two-sum-finite (d .jd1) (d .jd2) (w .p) (w .n) (w .q) (w .m) (w .first) (w .second) (val-rep (s .first-float) (w .first)) (val-rep (s .second-float) (w .second)) (s .sum) (s .error) in
     record {
       sp = x .sp;
       sn = x .sn;
@@ -113,18 +130,14 @@ pairs sp sn ep en tp tn fp fn P N Q M h k r = same-test (eqb (sp + tn) (tp + sn)
         let a : sp + tn ≡ tp + sn = r e in
         join (eqb (sp + tn) (tp + sn)) (eqb (ep + fn) (fp + en)) (eq-eqb (sp + tn) (tp + sn) a) (eq-eqb (ep + fn) (fp + en) (omega arith))
 
--- document 01: "Two with parts under 2^52 in size are equal exactly if their exact sums are"
-pub equal-exactly : (d e : JulianDate) (P N Q M : ℕ) → SmallParts d → SmallParts e → Worth d P N L → Worth e Q M L → equal d e ≡ eqb (P + M) (Q + N)
+pub equal-sums : (d e : JulianDate) (P N Q M : ℕ) → FiniteSums d → FiniteSums e → Worth d P N L → Worth e Q M L → equal d e ≡ eqb (P + M) (Q + N)
 unfolding equal
-equal-exactly d e P N Q M s t v w =
+equal-sums d e P N Q M s t v w =
     let x = sums-of s v in
     let y = sums-of t w in
     rw (val-finite-true (x .sum), val-finite-true (y .sum), eq-val L-pos (x .sum) (y .sum), eq-val L-pos (x .error) (y .error))
     (pairs (x .sp) (x .sn) (x .ep) (x .en) (y .sp) (y .sn) (y .ep) (y .en) P N Q M (x .total) (y .total) (λ r. same-rounded (x .rounded) (y .rounded) r (x .sum) (y .sum)))
 
--- every date with such parts has an exact sum
-pub worth : (d : JulianDate) → SmallParts d → (P : ℕ) × (N : ℕ) × Worth d P N L
-worth d s =
-    let a = under-size (d .jd1) 52 (s .first .held) (s .first .small) in
-    let b = under-size (d .jd2) 52 (s .second .held) (s .second .small) in
-    (a .p + b .p, a .n + b .n, record { p = a .p; n = a .n; q = b .p; m = b .n; first = a .val; second = b .val; total = refl })
+-- document 01: "Two with parts under 2^52 in size are equal exactly if their exact sums are"
+pub equal-exactly : (d e : JulianDate) (P N Q M : ℕ) → SmallParts d → SmallParts e → Worth d P N L → Worth e Q M L → equal d e ≡ eqb (P + M) (Q + N)
+equal-exactly d e P N Q M s t v w = equal-sums d e P N Q M (small-sums d s) (small-sums e t) v w

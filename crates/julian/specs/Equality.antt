@@ -1,7 +1,9 @@
 -- When two Julian dates are equal: the Rust's test (julian/mod.rs), by Knuth's two-sum. For parts under 2^52 in size it is that of the exact sums (document 01, "Julian
 -- date"), which is proved (`equal-exactly`). Assumes nothing.
 use mathlib.Core.Bool.{Bool, cond, _&&_}
-use lib.Ieee.{Float, binary64, add, sub, eq}
+use lib.Dec.{T}
+use lib.Ieee.{Float, binary64, fits, add, sub, eq}
+use lib.Ieee.Scale.{finite}
 use Rattle.julian.specs.declared.JulianDate.{JulianDate}
 use Rattle.julian.specs.declared.ExactSum.{ExactSum}
 use Rattle.julian.specs.Finite.{bothFinite}
@@ -14,6 +16,13 @@ exactSum a b = record { sum = add binary64 a b; error = twoSumError a b (add bin
 
 unfoldable pub sums : JulianDate → ExactSum
 sums d = exactSum (d .jd1) (d .jd2)
+
+-- the two-sum of a date's parts does not overflow: the sum and its error are finite. All parts under 2^52 in size are such, and nearly all others.
+pub record FiniteSums (d : JulianDate) : Type 0 where
+  pub first-float : T (fits binary64 (d .jd1))
+  pub second-float : T (fits binary64 (d .jd2))
+  pub sum : T (finite (sums d .sum))
+  pub error : T (finite (sums d .error))
 
 abbrev pub samePair : Float → Float → Float → Float → Bool
 samePair a b c d = eq a c && eq b d

@@ -32,6 +32,8 @@ pub mod Sterbenz
 pub mod Compensated
 -- TwoSumFloat: Knuth's two-sum, whose sum and error add up to the parts exactly, for parts under 2 ^ 52.
 pub mod TwoSumFloat
+-- TwoSumFinite: the same for any parts, where the sum and the error come out finite.
+pub mod TwoSumFinite
 -- Sizes: results of at most 2 ^ k in size, and so finite.
 pub mod Sizes
 -- About: a float near an exact fraction, with an error that is carried through a formula, in units of 2 ^ -90.

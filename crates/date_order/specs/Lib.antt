@@ -1,0 +1,2 @@
+-- The definitions that the contracts of the order of dates cite.
+pub mod Order

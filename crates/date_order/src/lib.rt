@@ -1,0 +1,45 @@
+// The order of two-part Julian dates by their exact sums.
+ghost use mathlib.Core.Path.{_≡_};
+ghost use Rattle.date_order.specs.Order as O;
+
+// Whether one date is before another, or the number of the refusal.
+pub enum OrderAnswer {
+    Before,
+    Equal,
+    After,
+    Refused(u32),
+}
+
+// The smaller rounded sum comes first; of equal ones the smaller error.
+fn sooner(s: julian::ExactSum, t: julian::ExactSum) -> bool
+    ensures { λ r. ⌜ r ≡ O.sooner s t ⌝ }
+{
+    if s.sum < t.sum {
+        return true;
+    }
+    if t.sum < s.sum {
+        return false;
+    }
+    s.error < t.error
+}
+
+// The order of the exact sums, however each date is divided. 9 where a part is not finite, or so large that the two-sum overflows: then the error is not finite.
+pub fn compare(a: julian::JulianDate, b: julian::JulianDate) -> OrderAnswer
+    ensures { λ r. ⌜ O.orderOutcome r ≡ O.compared a b ⌝ }
+{
+    let one = julian::exact_sum(a.jd1, a.jd2);
+    let two = julian::exact_sum(b.jd1, b.jd2);
+    if !floats::is_finite(one.error) {
+        return OrderAnswer::Refused(refusals::PART_NOT_FINITE);
+    }
+    if !floats::is_finite(two.error) {
+        return OrderAnswer::Refused(refusals::PART_NOT_FINITE);
+    }
+    if sooner(one, two) {
+        return OrderAnswer::Before;
+    }
+    if sooner(two, one) {
+        return OrderAnswer::After;
+    }
+    OrderAnswer::Equal
+}
