@@ -137,7 +137,15 @@ enum { CT_UTC, CT_TAI, CT_UT1, CT_TT, CT_GPS, CT_TCG, CT_TCB, CT_TDB };
 int64_t ct_same_stamp(uint32_t scale, uint64_t jd1, uint64_t jd2, uint32_t other_scale, uint64_t other1,
                       uint64_t other2);
 
-/* The days from the other date to this. */
+/* Which of two dates is first: 0 before the other, 1 equal, 2 after it, by their exact sums, however
+   they are split into parts. This is an order, to sort by. Refuses 9 where a part is not finite, or so
+   large that the sum or its rounding error overflows, as of (1.7e308, 1.7e308); every date with parts
+   under 2^52 in size is answered. */
+int64_t ct_compare(double jd1, double jd2, double other1, double other2);
+
+/* The days from the other date to this, rounded. Its sign is no order: for dates that are split
+   differently it can be 0 or of the wrong sign where they are some 40 microseconds apart or less. Sort
+   by ct_compare. */
 double ct_difference(double jd1, double jd2, double other1, double other2);
 
 /* ---- TAI-UTC */

@@ -1,2 +1,3 @@
--- What the contracts of the C interface cite beside the definitions of the crates below: a part of a listing.
+-- What the contracts of the C interface cite beside the definitions of the crates below: a part of a listing, and the order of two dates as a number.
 pub mod ListingPart
+pub mod OrderNumber

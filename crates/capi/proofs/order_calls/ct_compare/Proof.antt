@@ -1,0 +1,83 @@
+-- `capi::order_calls::ct_compare` meets its contract. Assumes nothing.
+use mathlib.Core.Path.{_≡_, refl, sym, ap, _∙_}
+use Prim.Native.Nat.{ℕ}
+use lib.IntN.{pos}
+use Rattle.refusals.specs.Outcome.{Outcome, answer, refusal, onward}
+use Rattle.julian.specs.declared.JulianDate.{JulianDate}
+use Rattle.julian.specs.JulianDate.{julian}
+use Rattle.date_order.specs.Order.{Order, orderOutcome, compared}
+use Rattle.c_answers.specs.Delivery.{code}
+use Rattle.c_answers.proofs.Deliveries.{code-back}
+use Rattle.capi.specs.OrderNumber.{orderNumber, numbered}
+use borrow.Author.Needs.{needs}
+use Rattle.capi.proofs.order_calls.ct_compare.Statement.{statement}
+use Rattle.capi.proofs.order_calls.ct_compare.Tie as tie
+
+is : (c : tie.After-compare)
+    → orderOutcome (c .compare .result) ≡ compared (julian (c .before .before .before .args .jd1) (c .before .before .before .args .jd2)) (julian (c .before .before .before .args .other1) (c .before .before .before .args .other2))
+is c = let n = c .before in c .compare .ensures ∙ λ i. compared (n .before .new .ensures i) (n .new2 .ensures i)
+
+told : {o : Outcome Order} (x : Order) → o ≡ answer x → pos (orderNumber x) ≡ code (numbered o)
+unfolding code numbered onward
+told x e = rw e
+
+turned-away : {o : Outcome Order} (k : ℕ) → o ≡ refusal k → code (refusal k) ≡ code (numbered o)
+unfolding numbered onward
+turned-away k e = rw e
+
+new-requires : tie.Need-new-requires
+new-requires c κs = search needs
+
+new-requires-2 : tie.Need-new-requires-2
+new-requires-2 c κs = search needs
+
+compare-requires : tie.Need-compare-requires
+compare-requires c κs = search needs
+
+enum-told : tie.Need-enum-told
+enum-told c = search needs
+
+enum-told-2 : tie.Need-enum-told-2
+enum-told-2 c = search needs
+
+enum-told-3 : tie.Need-enum-told-3
+enum-told-3 c = search needs
+
+enum-known-number : tie.Need-enum-known-number
+enum-known-number c = search needs
+
+refused-requires : tie.Need-refused-requires
+refused-requires c κs = search needs
+
+returns : tie.Need-returns
+unfolding orderOutcome orderNumber
+returns c = told _ (sym (is (c .before .before)) ∙ ap orderOutcome (c .enum-told .given .1))
+
+returns-2 : tie.Need-returns-2
+unfolding orderOutcome orderNumber
+returns-2 c = told _ (sym (is (c .before .before)) ∙ ap orderOutcome (c .enum-told2 .given .1))
+
+returns-3 : tie.Need-returns-3
+unfolding orderOutcome orderNumber
+returns-3 c = told _ (sym (is (c .before .before)) ∙ ap orderOutcome (c .enum-told3 .given .1))
+
+returns-4 : tie.Need-returns-4
+unfolding orderOutcome
+returns-4 c = code-back (c .refused .ok) ∙ c .refused .ensures ∙ turned-away _ (sym (is (c .before .before .before .before)) ∙ ap orderOutcome (c .before .before .number .given .1))
+
+pub ct-compare-spec : {M : Type 1} → statement M
+ct-compare-spec =
+    tie.close
+    (tie.spec
+    new-requires
+    new-requires-2
+    compare-requires
+    enum-told
+    enum-told-2
+    enum-told-3
+    enum-known-number
+    refused-requires
+    returns
+    returns-2
+    returns-3
+    returns-4)
