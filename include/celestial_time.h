@@ -144,7 +144,7 @@ int64_t ct_same_stamp(uint32_t scale, uint64_t jd1, uint64_t jd2, uint32_t other
 int64_t ct_compare(double jd1, double jd2, double other1, double other2);
 
 /* The days from the other date to this, rounded. Its sign is no order: for dates that are split
-   differently it can be 0 or of the wrong sign where they are some 40 microseconds apart or less. Sort
+   differently it can be 0 or of the wrong sign where today's dates are under a microsecond apart. Sort
    by ct_compare. */
 double ct_difference(double jd1, double jd2, double other1, double other2);
 
