@@ -26,6 +26,16 @@ pub record FirstPart (a : Float) (A : ℕ) : Type 0 where
   pub low : 4882639 * H ≤ A
   pub high : A ≤ 10000001 * H
 
+-- the same from 0 on
+pub record HalfDays (a : Float) (A : ℕ) : Type 0 where
+  pub val : Val a A 0 L
+  pub k : ℕ
+  pub halves : A ≡ k * H
+  pub high : A ≤ 10000001 * H
+
+abbrev pub half-days : {a : Float} {A : ℕ} → FirstPart a A → HalfDays a A
+half-days v = record { val = v .val; k = v .k; halves = v .halves; high = v .high }
+
 -- a float of at most 1027/1024 day in size
 pub record SecondPart (u : Float) (up un : ℕ) : Type 0 where
   pub held : T (fits binary64 u)
@@ -45,6 +55,31 @@ joined {A = A} {p} {n} v w = record { p = A; n = 0; q = p; m = n; first = v; sec
 
 pub worth-of : {a u : Float} {A up un : ℕ} → FirstPart a A → SecondPart u up un → Worth (julian a u) (A + up) un L
 worth-of v w = joined (v .val) (w .val)
+
+-- ---- two parts whose sum lies from 1972-01-01 to 8977-06-09, the second at most 131072 days in size
+pub record Stamp (a u : Float) (A up un : ℕ) : Type 0 where
+  pub held1 : T (fits binary64 a)
+  pub held2 : T (fits binary64 u)
+  pub val1 : Val a A 0 L
+  pub val2 : Val u up un L
+  pub most : A ≤ 10000001 * H
+  pub over : up ≤ un + 131072 * L
+  pub under : un ≤ up + 131072 * L
+  pub low : 4882636 * H + un ≤ A + up
+  pub high : A + up ≤ un + 10000004 * H
+
+pub stamp-of : {a u : Float} {A up un : ℕ} → FirstPart a A → SecondPart u up un → Stamp a u A up un
+stamp-of v w = record {
+  held1 = v .held;
+  held2 = w .held;
+  val1 = v .val;
+  val2 = w .val;
+  most = v .high;
+  over = omega (arith, w .over);
+  under = omega (arith, w .under);
+  low = omega (arith, v .low, w .under, L-H);
+  high = omega (arith, v .high, w .over, L-H);
+}
 
 -- ---- the parts of a date of the theorems
 module _ {d : JulianDate} (s : HalfDaySplit d) where
