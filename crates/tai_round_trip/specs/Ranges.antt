@@ -1,5 +1,5 @@
 -- The dates that the theorems on UTC and TAI speak of. Written from document 02's request 14: jd1 a multiple of 0.5 from 2441319.5 to 5000000.5, the days 1972-01-03 to
--- 8977-06-07, and jd2 at most 1 in size; and from document 01's stamps at 2400000.5. Assumes nothing.
+-- 8977-06-08, and jd2 at most 1 in size; and from document 01's stamps at 2400000.5. Assumes nothing.
 use Prim.Native.Nat.{ℕ, _≤_}
 use lib.Dec.{T}
 use lib.Ieee.{le}
