@@ -24,7 +24,7 @@ use Rattle.tai_round_trip.specs.Relation.{RightTai}
 use Rattle.tai_round_trip.proofs.Units.{h, L-H, L-h, h-small, in-units}
 use Rattle.tai_round_trip.proofs.Parts.{HalfDays, Stamp, joined}
 use Rattle.tai_round_trip.proofs.Kept.{first-larger}
-use Rattle.tai_round_trip.proofs.Evaluated.{SeenTo, m, i, sum-high, sum-low, seen-to}
+use Rattle.tai_round_trip.proofs.Evaluated.{SeenTo, since, day-sum, sum-high, sum-low, seen-to}
 use Rattle.tai_round_trip.proofs.Meant.{on-day, utc-meant}
 
 -- ---- a sum of less than 2 ^ 17 days is off by at most 2 ^ 16 h
@@ -65,8 +65,8 @@ module _ {d : JulianDate} (s : ModifiedSplit d) where
   u : Within (d .jd2) (131071 * L)
   u = at-most (s .held .1) last-day (s .to)
 
-  since : 41318 * L + u .n ≤ u .p
-  since = plain (41318 * L) (0 * L) (u .p) (u .n) (zero-mul L) (le-says L-pos first-day (u .val) (s .from))
+  from-1972 : 41318 * L + u .n ≤ u .p
+  from-1972 = plain (41318 * L) (0 * L) (u .p) (u .n) (zero-mul L) (le-says L-pos first-day (u .val) (s .from))
     where
       plain : (f o p n : ℕ) → o ≡ 0 → f + n ≤ p + o → f + n ≤ p
       plain f o p n e k = omega arith
@@ -86,7 +86,7 @@ module _ {d : JulianDate} (s : ModifiedSplit d) where
     most = omega arith;
     over = omega (arith, u .high);
     under = omega (arith, u .low);
-    low = omega (arith, since, L-H);
+    low = omega (arith, from-1972, L-H);
     high = omega (arith, u .high, L-H);
   }
 
@@ -99,13 +99,13 @@ module _ {d : JulianDate} (s : ModifiedSplit d) where
       (add-coarse
       (sum-high stamp days (131072 * L) (λ a b c d. above _ _ _ _ _ _ _ d a b c))
       (sum-low stamp days (131072 * L) (λ a b c d. below _ _ _ _ _ _ _ d a b c))
-      (m stamp days .val) (i stamp days .val))
+      (since stamp days .val) (day-sum stamp days .val))
     where
       above : (f N x y t P M : ℕ) → x + H ≡ N → N + f + u .n ≤ 4800001 * H + u .p + H + 4 * h → 64 * P ≤ 64 * (M + f) + L → y + M ≤ t + P + h → x + y < 4800001 * H + t + 131072 * L
       above f N x y t P M e a b c = omega (arith, u .high, h-small, L-pos)
 
       below : (f N x y t P M : ℕ) → x + H ≡ N → 4800001 * H + u .p + H ≤ N + f + u .n + 4 * h → 64 * (M + f) ≤ 64 * P + L → t + P ≤ y + M + h → 4800001 * H + t < x + y + 131072 * L
-      below f N x y t P M e a b c = omega (arith, since, h-small, L-pos)
+      below f N x y t P M e a b c = omega (arith, from-1972, h-small, L-pos)
 
   -- ---- THE THEOREM
   pub utc-to-tai-modified : RightTai 628704 d
