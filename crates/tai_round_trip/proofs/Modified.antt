@@ -17,7 +17,7 @@ use Rattle.rounding.proofs.Near.{NearSum, add-near}
 use Rattle.rounding.proofs.Chain.{Close}
 use Rattle.julian.specs.declared.JulianDate.{JulianDate}
 use Rattle.scale_laws.specs.Meaning.{day}
-use Rattle.utc_scales.specs.LargerPart.{firstIsLarger}
+use Rattle.utc_scales.specs.LargerPart.{firstIsKept}
 use Rattle.tai_round_trip.specs.Ranges.{ModifiedSplit}
 use Rattle.tai_round_trip.specs.UtcDays.{H}
 use Rattle.tai_round_trip.specs.Relation.{RightTai}
@@ -90,7 +90,7 @@ module _ {d : JulianDate} (s : ModifiedSplit d) where
     high = omega (arith, u .high, L-H);
   }
 
-  larger : firstIsLarger d ≡ true
+  larger : firstIsKept d ≡ true
   larger = first-larger zero-point (u .val) (omega (arith, u .high, L-H)) (omega (arith, u .low, L-H))
 
   modified-seen : SeenTo (5662510614 * h) (d .jd1) (d .jd2) (4800001 * H) (u .p) (u .n)
