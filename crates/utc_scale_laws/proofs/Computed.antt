@@ -36,11 +36,11 @@ use Rattle.utc_scale_laws.specs.Twenty.{Twenty, by-formula, utc-tai, tai
 abbrev Calendar : Type 0
 Calendar = Float → Float → Outcome CalendarFields
 
-unfoldable divided : Calendar
-divided x y = onward (dayNumberAndFraction x y) (λ n. answer (fields (dividedDate (n .day)) (n .fraction)))
+unfoldable byDivision : Calendar
+byDivision x y = onward (dayNumberAndFraction x y) (λ n. answer (fields (dividedDate (n .day)) (n .fraction)))
 
-divided-is : (x y : Float) → julianToCalendar x y ≡ divided x y
-unfolding julianToCalendar divided
+divided-is : (x y : Float) → julianToCalendar x y ≡ byDivision x y
+unfolding julianToCalendar byDivision
 divided-is x y = (λ i. onward (dayNumberAndFraction x y) (λ n. answer (fields (divided-date (n .day) i) (n .fraction))))
 
 -- ---- the definitions of utc_scales, by a calendar
@@ -98,13 +98,13 @@ by-calendar (ut1-utc dut1) d = refl
 
 -- ---- as a check computes them
 unfoldable pub computed : Twenty → JulianDate → Outcome JulianDate
-unfolding answerBy divided utcToTaiBy taiBy roundsBy offsetIn scanDayBy scanBy utcBy dividedDate dayNumberAndFraction onward
+unfolding answerBy byDivision utcToTaiBy taiBy roundsBy offsetIn scanDayBy scanBy utcBy dividedDate dayNumberAndFraction onward
     fixed monthNumber reached secondsOf startOf rateOf byRow offsetBy offsetAt inDay taiUtcOffset dayOffsets driftRate leapAmount mjdOf mjdNumber civilCount validDate nextOf next daysInMonth leapSize lengths
     offsetAt0h offsetsOf midnightOf calendarToJulian firstIsKept keptParts putBeside placed changeSmaller stretchDayFraction taiFromMidnight moved beforeStep timePastLeap atMostOne afterStep nearStep untilStep
     finiteJd finiteArg answerOf convertedBy finiteBoth finiteOffset changed Shifts.firstIsLarger Shifts.partsOf Shifts.putBack Shifts.mapSmallerPart plus minus daysOf secondsPerDay mjdZeroPoint
     abs round ofBits ofInt add sub mul div neg lt le eq
-computed c d = literalDate (answerBy divided c d)
+computed c d = literalDate (answerBy byDivision c d)
 
 pub as-computed : (c : Twenty) (d : JulianDate) → answerOfAny fixed c d ≡ computed c d
 unfolding computed
-as-computed c d = by-calendar c d ∙ (λ i. answerBy (λ x y. divided-is x y i) c d) ∙ sym (literal-date-is (answerBy divided c d))
+as-computed c d = by-calendar c d ∙ (λ i. answerBy (λ x y. divided-is x y i) c d) ∙ sym (literal-date-is (answerBy byDivision c d))

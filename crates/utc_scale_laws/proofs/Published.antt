@@ -30,13 +30,13 @@ pub ut1utc-met : MetToTheBit ut1utc
 ut1utc-met = as-computed (ut1utc .call) (ut1utc .given) ∙ ut1utc-computed
 
 -- TAI to UTC's answer, by its bits
-abbrev found : JulianDate
-found = on2006 (ofBits binary64 0x3fec_8c16_c17b_5c22)
+abbrev utc-answer : JulianDate
+utc-answer = on2006 (ofBits binary64 0x3fec_8c16_c17b_5c22)
 
-taiutc-computed : computed (taiutc .call) (taiutc .given) ≡ answer found
+taiutc-computed : computed (taiutc .call) (taiutc .given) ≡ answer utc-answer
 unfolding taiutc computed round ofBits
 taiutc-computed = refl
 
 pub taiutc-met : Met taiutc
 unfolding taiutc round ofBits add sub neg le lt eq abs
-taiutc-met = record { date = found; is = as-computed (taiutc .call) (taiutc .given) ∙ taiutc-computed; first = refl; second = tt }
+taiutc-met = record { date = utc-answer; is = as-computed (taiutc .call) (taiutc .given) ∙ taiutc-computed; first = refl; second = tt }

@@ -65,6 +65,11 @@ pub leap-second : Gives utc-tai (last-of-2016 second-60) (last-of-2016 (bits 0x3
 unfolding computed round ofBits
 leap-second = given utc-tai (last-of-2016 second-60) (last-of-2016 (bits 0x3ff0_01b4_e81b_4e82)) refl
 
+-- 0h TAI of 2017-01-01, 37 s before it: of the three rounds of TAI to UTC the third still moves the guess, by 5 ns
+pub leap-tai : Gives tai-utc (julian (decimal 24577545 1) (decimal 0 0)) (julian (decimal 24577545 1) (bits 0xbf3c_109a_b046_c5d8))
+unfolding computed round ofBits
+leap-tai = given tai-utc (julian (decimal 24577545 1) (decimal 0 0)) (julian (decimal 24577545 1) (bits 0xbf3c_109a_b046_c5d8)) refl
+
 -- ---- UT1 to UTC about that leap second, with DUT1 -0.4082 s before it and 0.5918 s after
 abbrev dut1-before : Float
 dut1-before = neg (decimal 4082 4)
