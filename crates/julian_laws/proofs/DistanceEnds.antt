@@ -1,8 +1,8 @@
 -- The ranges of the distances are met at their ends: each theorem at a date, a year or a number of seconds of the largest size that it speaks of. Closed theorems: a narrower
 -- range would leave them without a proof. Assumes nothing.
-use mathlib.Core.Path.{_≡_, refl}
+use mathlib.Core.Path.{refl}
 use mathlib.Core.Bool.{false}
-use Prim.Native.Nat.{ℕ, _+_, _*_, _^_, _≤_}
+use Prim.Native.Nat.{ℕ, _*_, _^_}
 use native.Mathlib.Omega.{arith}
 use lib.Dec.{lit≤}
 use lib.IntN.{pos}
