@@ -26,7 +26,7 @@ whole-halves p t c = add-mul p ((t + c) * 2) H ∙ ap (λ (z : ℕ). p * H + z) 
 -- ---- days
 
 module _ (d : JulianDate) (days : Float) (v1 : HalfDays (2 ^ 50) (d .jd1)) (v2 : UpTo 1 (d .jd2)) (v3 : UpTo (2 ^ 49) days) where
-  -- the four roundings in units: of the part of a day, of the new jd2, of what is left of it; whole days are exact
+  -- the three roundings in units: of the part of a day, of the new jd2, of what is left of it; whole days are exact
   all : (p n q m a b tL tM cL cM fp fn up un rp rn P' N' e : ℕ) → P' ≡ p + (tL + cL) → N' ≡ n + (tM + cM) → fp + (b + tL) ≤ fn + (a + tM) + 1 * e → up + (m + fn) ≤ un + (q + fp) + 4 * e → rp + (un + cL) ≤ rn + (up + cM) + 1 * e
       → 1 * (P' + rp + (n + m)) + b ≤ 1 * (N' + rn + (p + q)) + a + 6 * e
   all p n q m a b tL tM cL cM fp fn up un rp rn P' N' e i j x y z = omega arith

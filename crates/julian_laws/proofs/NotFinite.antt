@@ -76,6 +76,11 @@ pub add-infinite-days : (d : JulianDate) (s : Bool) → addDays d (inf s) ≡ ju
 unfolding addDays uncarried
 add-infinite-days d s = simp (infinite-cut, sum-second, cut-nan, nan-less)
 
+-- so does a number of days that is a NaN
+pub add-nan-days : (d : JulianDate) → addDays d nan ≡ julian nan nan
+unfolding addDays uncarried
+add-nan-days d = simp (cut-nan, nan-less, sum-second)
+
 pub add-infinite-seconds : (d : JulianDate) (s : Bool) → addSeconds d (inf s) ≡ julian nan nan
 unfolding addSeconds secondsPerDay div round
 add-infinite-seconds d s = rw (infinite-quotient s) (add-infinite-days d s)
