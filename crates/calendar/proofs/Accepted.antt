@@ -15,6 +15,7 @@ use Rattle.refusals.specs.Outcome.{Outcome, answer, refusal}
 use Rattle.calendar.specs.Calendar.{leapYear, lengths, monthLength, daysInMonth}
 use Rattle.calendar.specs.Refusals.{validDate}
 use Rattle.calendar.specs.Answers.{checkOutcome}
+use Rattle.calendar.specs.InCalendar.{InCalendar}
 use Rattle.calendar.specs.declared.CalendarDate.{CalendarDate}
 use Rattle.calendar.specs.declared.DateCheck.{DateCheck}
 use Rattle.calendar.specs.declared.DateCheck.the-variants as Check
@@ -129,14 +130,7 @@ accepted y m d e =
       d-high = subst (λ (n : ℕ). natAbs d ≤ n) (month-days y m (f .1)) h;
     }
 
--- ---- a date of the calendar: month 1 to 12, and a day of that month
-pub record InCalendar (t : CalendarDate) : Type 0 where
-  pub m-low : 1 ≤ t .month
-  pub m-high : t .month ≤ 12
-  pub d-low : 1 ≤ t .day
-  pub d-high : t .day ≤ monthLength (t .year) (t .month)
-
--- such a date is refused only for its year
+-- ---- a date of the calendar is refused only for its year
 pub in-calendar-valid : (t : CalendarDate) → InCalendar t → ltZ (t .year) (negsuc 4798) ≡ false → validDate (t .year) (pos (t .month)) (pos (t .day)) ≡ answer tt
 unfolding validDate daysInMonth
 in-calendar-valid t g e =

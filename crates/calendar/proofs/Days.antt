@@ -14,7 +14,7 @@ use Rattle.calendar.specs.Calendar.{date, dateAt, dateOf, next, lengths,
 use Rattle.calendar.proofs.Months.{months}
 use Rattle.calendar.proofs.Signs.{own-size, raised}
 use Rattle.calendar.proofs.March.{MarchDate, at, count, marchAt, march-at, daysBefore, daysBeforeYear, marchLength, length-positive}
-use Rattle.calendar.proofs.Accepted.{InCalendar}
+use Rattle.calendar.specs.InCalendar.{InCalendar}
 use Rattle.calendar.proofs.InStep.{fromMarch, yearOf, in-step, date-with-count, leap-same}
 
 -- its number of days after -5200-03-01

@@ -15,7 +15,8 @@ use Rattle.calendar.specs.declared.CalendarDate.{CalendarDate}
 use Rattle.calendar.specs.Calendar.{date, dateAt, next, lengths, leapYear, monthLength}
 use Rattle.calendar.specs.Refusals.{validDate, nextOf, lastDate}
 use Rattle.calendar.specs.DayCount.{mjdOf}
-use Rattle.calendar.proofs.Accepted.{Accepted, accepted, short, InCalendar, in-calendar-valid}
+use Rattle.calendar.specs.InCalendar.{InCalendar}
+use Rattle.calendar.proofs.Accepted.{Accepted, accepted, short, in-calendar-valid}
 use Rattle.calendar.proofs.Days.{after, one-day, date-at-in-calendar}
 use Rattle.calendar.proofs.Years.{next-keeps, not-before}
 use Rattle.calendar.proofs.Mjd.{mjd-given, day-of, same-answer}

@@ -11,7 +11,7 @@ use lib.IntN.{ℤ, pos, natAbs, sucℤ, predℤ, pred-suc, _+ℤ_}
 use borrow.Author.Tests.{ltb-false}
 use Rattle.calendar.specs.declared.CalendarDate.{CalendarDate}
 use Rattle.calendar.specs.Calendar.{date, dateAt, dateOf, next, monthLength, Counted}
-use Rattle.calendar.proofs.Accepted.{InCalendar}
+use Rattle.calendar.specs.InCalendar.{InCalendar}
 use Rattle.calendar.proofs.Days.{number, counted, number-next, from-days, after, day-2451545-is-2000-01-01, date-at-in-calendar}
 
 -- how a date has its next one

@@ -19,7 +19,8 @@ use Rattle.calendar.proofs.Signs.{raised, own-size, sub-at}
 use Rattle.calendar.proofs.March.{at, daysBefore, daysBeforeYear, marchLength}
 use Rattle.calendar.proofs.InStep.{date-with-count}
 use Rattle.calendar.proofs.Days.{after, date-at-in-calendar}
-use Rattle.calendar.proofs.Accepted.{InCalendar, in-calendar-valid, short, year-refused}
+use Rattle.calendar.specs.InCalendar.{InCalendar}
+use Rattle.calendar.proofs.Accepted.{in-calendar-valid, short, year-refused}
 
 -- ---- what holds of a year and then of the one after it, holds of the year of every later day
 module _ (P : ℤ → Type 0) (up : (z : ℤ) → P z → P (sucℤ z)) where

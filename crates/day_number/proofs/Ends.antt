@@ -2,7 +2,7 @@
 -- largest parts of the wide grid. Each is a closed theorem: a narrower grid or a narrower range of sums would leave it without a proof. Assumes nothing.
 use mathlib.Core.Path.{_≡_, refl}
 use mathlib.Core.Bool.{true, false}
-use Prim.Native.Nat.{_+_, _-_, _*_, _^_}
+use Prim.Native.Nat.{_-_, _*_, _^_}
 use lib.Dec.{T, lit≤, lit<}
 use lib.IntN.{pos, negsuc}
 use lib.Ieee.{Float, fin, binary64, fits, round}

@@ -1,10 +1,11 @@
--- The definitions that the contracts of `julian` cite, in the order to read them.
+-- What the contracts of `julian` cite, in the order to read it.
 pub mod JulianDate
 pub mod UnixTime
 pub mod JulianYear
 pub mod Finite
 pub mod Equality
 pub mod DayFraction
-pub mod Worth
 pub mod Calendar
+-- The words of the theorems: no contract cites them.
+pub mod Worth
 pub mod Midnight

@@ -1,22 +1,21 @@
 -- Days and seconds added to a date whose first part is in whole or half days, against the exact sum: days within 29 picoseconds; seconds within 39, up to a day of them, and
 -- within 79 nanoseconds up to 10 ^ 9 s, where the quotient by 86,400 is rounded more. Assumes nothing.
-use mathlib.Core.Path.{_≡_, refl, sym, ap, _∙_}
-use mathlib.Core.Bool.{false}
-use Prim.Native.Nat.{ℕ, _+_, _*_, _^_, _≤_, _<_}
+use mathlib.Core.Path.{_≡_, sym, ap, _∙_}
+use Prim.Native.Nat.{ℕ, _+_, _*_, _^_, _≤_}
 use native.Mathlib.Nat.{add-mul, mul-assoc, mul-left-comm}
 use native.Mathlib.Omega.{arith}
 use lib.Dec.{lit≤, lit<}
-use lib.Ieee.{Float, binary64, round, div}
+use lib.Ieee.{Float, binary64, div}
 use Rattle.floats.specs.Whole.{toWhole, cut}
 use Rattle.rounding.specs.Value.{Val, L}
 use Rattle.rounding.proofs.Value.{L-pos, val-scale}
 use Rattle.rounding.proofs.Exact.{add-exact}
 use Rattle.rounding.proofs.Sizes.{whole-val}
-use Rattle.rounding.proofs.Chain.{Close}
 use Rattle.constants.specs.Constants.{secondsPerDay}
 use Rattle.julian.specs.declared.JulianDate.{JulianDate}
 use Rattle.julian.specs.JulianDate.{uncarried, addDays, addSeconds}
 use Rattle.julian_laws.specs.Distances.{day, UpTo, HalfDays, LaterBy}
+use Rattle.julian_laws.proofs.UnixTime.{day-val}
 use Rattle.julian_laws.proofs.AddDays.{CutTo, cut-to}
 use Rattle.julian_laws.proofs.Steps.{E, L-E, H, L-H, half-val, step-add, step-sub, Times, step-div, worth-of}
 
@@ -27,7 +26,7 @@ whole-halves p t c = add-mul p ((t + c) * 2) H ∙ ap (λ (z : ℕ). p * H + z) 
 -- ---- days
 
 module _ (d : JulianDate) (days : Float) (v1 : HalfDays (2 ^ 50) (d .jd1)) (v2 : UpTo 1 (d .jd2)) (v3 : UpTo (2 ^ 49) days) where
-  -- the four roundings in units: of the part of a day, of the new jd2, of what is left of it; whole days are exact
+  -- the three roundings in units: of the part of a day, of the new jd2, of what is left of it; whole days are exact
   all : (p n q m a b tL tM cL cM fp fn up un rp rn P' N' e : ℕ) → P' ≡ p + (tL + cL) → N' ≡ n + (tM + cM) → fp + (b + tL) ≤ fn + (a + tM) + 1 * e → up + (m + fn) ≤ un + (q + fp) + 4 * e → rp + (un + cL) ≤ rn + (up + cM) + 1 * e
       → 1 * (P' + rp + (n + m)) + b ≤ 1 * (N' + rn + (p + q)) + a + 6 * e
   all p n q m a b tL tM cL cM fp fn up un rp rn P' N' e i j x y z = omega arith
@@ -69,10 +68,6 @@ module _ (d : JulianDate) (days : Float) (v1 : HalfDays (2 ^ 50) (d .jd1)) (v2 :
           (cut-to 3 (lit≤ tt) L-pos (omega (arith, v2 .high, w .under, f .over, u .over, L-pos, L-E)) (omega (arith, v2 .low, w .over, f .under, u .under, L-pos, L-E)) (u .val))
 
 -- ---- seconds: those of the quotient by 86,400, which is off by r units at most
-
-day-val : Val secondsPerDay 86400 0 1
-unfolding secondsPerDay round
-day-val = record { sign = false; size = 86400; has = (refl, refl); is = refl }
 
 -- 86,400 times the days against the seconds, and the days added; s is the days' error, l a day, in units
 both : (ps x y a b p n l s : ℕ) → day * s + 29 * l ≤ ps * l → 86400 * a + 1 * n ≤ 86400 * b + 1 * p + 86400 * s → day * (1 * x + b) ≤ day * (1 * y + a) + 29 * (1 * l) → day * (86400 * x + n) ≤ day * (86400 * y + p) + ps * (86400 * l)

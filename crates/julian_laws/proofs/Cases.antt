@@ -11,7 +11,6 @@ use Rattle.constants.specs.Constants.{decimal, mjdZeroPoint, j2000Jd, unixEpoch
 use Rattle.calendar.specs.Calendar.{leapSize, lengths, daysInMonth}
 use Rattle.calendar.specs.Refusals.{validDate}
 use Rattle.calendar.specs.DayCount.{civilCount, mjdNumber, mjdOf}
-use Rattle.julian.specs.declared.JulianDate.{JulianDate}
 use Rattle.julian.specs.JulianDate.{julian, roundedSum, uncarried, addDays, difference}
 use Rattle.julian.specs.JulianYear.{toJulianYear, fromJulianYear}
 use Rattle.julian.specs.UnixTime.{secondOfDay, fromUnixTime}

@@ -2,7 +2,7 @@
 use mathlib.Core.Path.{_≡_, refl, sym, ap, _∙_, subst, subst₂}
 use mathlib.Core.Bool.{Bool, true, false, cond, _&&_, true≢false}
 use Prim.Native.Nat.{ℕ, _+_, _-_, _*_, _^_, _≤_, _<_}
-use native.Mathlib.Nat.{le-trans, le-of-eq, mul-le-mul-right, mul-assoc, mul-one, add-mul}
+use native.Mathlib.Nat.{le-trans, le-of-eq, mul-le-mul-right, mul-assoc, mul-one}
 use native.Mathlib.Omega.{arith}
 use lib.Dec.{T, eqb, leb, lit≤, lit<}
 use lib.IntN.{ℤ, pos}
@@ -21,13 +21,13 @@ use Rattle.rounding.proofs.Own.{own, own-val, plus-of, minus-of}
 use Rattle.rounding.proofs.Compare.{lt-says, le-says}
 use Rattle.rounding.proofs.Sizes.{whole-val}
 use Rattle.rounding.proofs.Casts.{ofInt-val}
-use Rattle.rounding.proofs.About.{U, L-U, About, about-own, about-add, about-div, about-within}
+use Rattle.rounding.proofs.About.{U, L-U, about-own, about-add, about-div, about-within}
 use Rattle.constants.specs.Constants.{decimal, secondsPerDay, mjdZeroPoint}
 use Rattle.calendar.specs.DayCount.{mjdOf}
 use Rattle.julian.specs.declared.JulianDate.{JulianDate}
 use Rattle.julian.specs.JulianDate.{julian, roundedSum}
 use Rattle.julian.specs.DayFraction.{secondLimit, timeInDay, dayFraction}
-use Rattle.julian.specs.Calendar.{calendarToJulian, atTime, fromCalendar}
+use Rattle.julian.specs.Calendar.{atTime, fromCalendar}
 use Rattle.julian.proofs.Midnights.{midnight-refused, midnight-given, midnight-sum, mjd-small}
 use Rattle.julian_laws.specs.Distances.{AtClock}
 

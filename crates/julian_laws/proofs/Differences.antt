@@ -1,15 +1,14 @@
 -- The difference of two dates against the exact one: within 161 microseconds for dates of some thousand years, within 39 picoseconds for first parts in whole or half days
 -- that are at most a day apart. Assumes nothing.
-use mathlib.Core.Path.{_≡_, refl, sym, _∙_, subst₂}
+use mathlib.Core.Path.{_≡_, sym, subst₂}
 use Prim.Native.Nat.{ℕ, _+_, _*_, _^_, _≤_, _<_}
 use native.Mathlib.Nat.{add-mul, mul-le-mul-right}
 use native.Mathlib.Omega.{arith}
 use lib.Dec.{lit≤}
-use lib.Ieee.{Float, binary64, sub}
+use lib.Ieee.{binary64, sub}
 use Rattle.rounding.specs.Value.{Val, L}
 use Rattle.rounding.proofs.Value.{L-pos}
 use Rattle.rounding.proofs.Exact.{sub-exact}
-use Rattle.rounding.proofs.Chain.{Close}
 use Rattle.julian.specs.declared.JulianDate.{JulianDate}
 use Rattle.julian.specs.JulianDate.{difference}
 use Rattle.julian_laws.specs.Distances.{day, UpTo, HalfDays, DifferenceNear}

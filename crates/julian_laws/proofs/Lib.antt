@@ -18,6 +18,8 @@ pub mod JulianYears
 pub mod AddSeconds
 -- Differences: the difference of two dates, against the exact one.
 pub mod Differences
+-- DistanceEnds: the ranges of these four are met at their ends.
+pub mod DistanceEnds
 -- NotFinite: equality where a sum is not finite.
 pub mod NotFinite
 -- Divisions and Literals: for cases that a check computes, the date of a day number by division, and numbers worked out.

@@ -1,6 +1,6 @@
 -- What is not finite. Equality of two dates where a sum of parts is not finite: both parts are compared, and a date with a NaN equals none, whichever part of whichever
 -- date it is. And where a NaN is made though none was given: an infinite number of days or seconds added, and the difference of equal infinities. Assumes nothing.
-use mathlib.Core.Path.{_≡_, refl, ap, _∙_}
+use mathlib.Core.Path.{_≡_, refl, _∙_}
 use mathlib.Core.Bool.{Bool, true, false, _&&_}
 use mathlib.Core.Logic.{_⊎_, inl, inr}
 use lib.Ieee.{Float, nan, inf, fin, binary64, round, neg, add, sub, div, eq}
@@ -75,6 +75,11 @@ cut-nan = refl
 pub add-infinite-days : (d : JulianDate) (s : Bool) → addDays d (inf s) ≡ julian nan nan
 unfolding addDays uncarried
 add-infinite-days d s = simp (infinite-cut, sum-second, cut-nan, nan-less)
+
+-- so does a number of days that is a NaN
+pub add-nan-days : (d : JulianDate) → addDays d nan ≡ julian nan nan
+unfolding addDays uncarried
+add-nan-days d = simp (cut-nan, nan-less, sum-second)
 
 pub add-infinite-seconds : (d : JulianDate) (s : Bool) → addSeconds d (inf s) ≡ julian nan nan
 unfolding addSeconds secondsPerDay div round

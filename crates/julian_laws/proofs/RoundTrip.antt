@@ -23,6 +23,7 @@ use Rattle.calendar.specs.DayCount.{civilCount, mjdNumber, mjdOf}
 use Rattle.calendar.proofs.Mjd.{date-of-mjd}
 use Rattle.day_number.specs.ExactDay.{OnGrid, gridSum, GridSumInRange, exactDayNumber, fractionOf, DayAt}
 use Rattle.day_number.proofs.ExactDay.{only, exact}
+use Rattle.day_number.proofs.Ends.{nought-fits}
 use Rattle.julian.specs.JulianDate.{roundedSum}
 use Rattle.julian.specs.DayFraction.{dayFraction, timeInDay, secondLimit}
 use Rattle.julian.specs.Calendar.{fields, calendarToJulian, atTime, fromCalendar, julianToCalendar}
@@ -73,10 +74,6 @@ module _ (x y : Float) (fx : T (fits binary64 x)) (fy : T (fits binary64 y)) (a 
 zero-point-fits : T (fits binary64 mjdZeroPoint)
 unfolding mjdZeroPoint
 zero-point-fits = round-fits binary64 false 24000005 (10 ^ 1)
-
-nought-fits : T (fits binary64 nought)
-unfolding fits
-nought-fits = tt
 
 mag-small : (n : ℤ) → plusZ n ≤ 997599999 → minusZ n ≤ 2432076 → mag n < 2 ^ 42
 mag-small (pos n) h k = omega arith

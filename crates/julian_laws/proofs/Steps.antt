@@ -3,20 +3,16 @@ use mathlib.Core.Path.{_≡_, refl, sym, ap, _∙_, subst}
 use Prim.Native.Nat.{ℕ, _+_, _*_, _^_, _≤_, _<_}
 use native.Mathlib.Nat.{mul-comm, mul-assoc, mul-left-comm, add-mul, mul-le-mul-right}
 use native.Mathlib.Omega.{arith}
-use lib.Dec.{T}
 use lib.Pow.{pow-add}
-use lib.Ieee.{Float, binary64, fits, add, sub, mul, div, le}
-use Rattle.floats.specs.Whole.{abs}
+use lib.Ieee.{Float, binary64, add, sub, mul, div}
 use Rattle.rounding.specs.Value.{Val, L}
 use Rattle.rounding.specs.Picoseconds.{Within}
 use Rattle.rounding.proofs.Value.{L-pos, L-is, val-scale, div-rounds}
 use Rattle.rounding.proofs.Near.{NearSum, add-near, sub-near}
 use Rattle.rounding.proofs.Scaled.{Scaled, scaled-near, mul-near}
 use Rattle.rounding.proofs.Chain.{Close}
-use Rattle.rounding.proofs.Range.{at-most}
 use Rattle.julian.specs.declared.JulianDate.{JulianDate}
 use Rattle.julian.specs.Worth.{Worth}
-use Rattle.julian_laws.specs.Distances.{UpTo}
 
 -- 2 ^ -54 day. Shut on purpose, as L is
 unfoldable pub E : ℕ
@@ -107,11 +103,6 @@ half-val {x} {p} {n} v = subst (Val x (p * H) (n * H)) (sym L-H) (val-scale H v)
 
 pub worth-of : {d : JulianDate} {p n q m : ℕ} → Val (d .jd1) p n L → Val (d .jd2) q m L → Worth d (p + q) (n + m) L
 worth-of {p = p} {n = n} {q = q} {m = m} v w = record { p = p; n = n; q = q; m = m; first = v; second = w; total = refl }
-
--- ---- a test on floats gives such a size
-
-pub up-to : (K : ℕ) {x c : Float} → T (fits binary64 x) → Val c (K * L) 0 L → T (le (abs x) c) → UpTo K x
-up-to K f w h = let a = at-most f w h in record { p = a .p; n = a .n; val = a .val; high = a .high; low = a .low }
 
 -- ---- a distance in units as one in picoseconds
 

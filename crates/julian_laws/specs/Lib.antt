@@ -1,4 +1,4 @@
--- The words of the theorems of `julian_laws`, which has no code and no contracts.
+-- The words of the theorems: no contract cites them.
 -- CalendarAnswers: the range of `julian_to_calendar`'s answers, and how near they are.
 pub mod CalendarAnswers
 -- Distances: what the other calls mean in exact numbers, and to what distance.

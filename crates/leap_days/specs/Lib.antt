@@ -1,3 +1,3 @@
--- The definitions that the laws of leaps are stated in.
+-- The words of the theorems, which the laws of leaps are stated in. No contract cites them.
 pub mod Leaps
 pub mod Formula

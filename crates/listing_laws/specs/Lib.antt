@@ -1,3 +1,3 @@
--- What the theorems of a listing speak of: line ends, and stamps that are not finite.
+-- The words of the theorems of a listing: line ends, and stamps that are not finite. No contract cites them.
 pub mod LineEnds
 pub mod NotFinite

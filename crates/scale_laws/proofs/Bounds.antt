@@ -1,5 +1,5 @@
 -- How far each formula is from its meaning, over any range, and the laws of both ranges: one part at most 2 ^ 23 days in size, and the other at most 1 day, or at most
--- 2 ^ 17 - 1 days; 2 ^ -7 days more after a first step. A script wrote the numbers of `practical-laws` and `modified-laws`, as in Finiteness: the places of the roundings, the
+-- 2 ^ 17 - 1 days; 2 ^ -7 days more after a first step. `tests/scale_numbers` makes the numbers of `practical-laws` and `modified-laws`, as in Finiteness: the places of the roundings, the
 -- size of the correction and its error. Assumes nothing.
 use mathlib.Core.Path.{_≡_, refl, subst₂}
 use Prim.Native.Nat.{ℕ, _+_, _*_, _^_, _≤_, _<_}

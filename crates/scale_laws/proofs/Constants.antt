@@ -1,4 +1,4 @@
--- Each constant of the formulas near its exact decimal, and the rates as fractions. A script wrote the numbers: p or n is the float in units of 1 / L, the last but one
+-- Each constant of the formulas near its exact decimal, and the rates as fractions. `tests/scale_numbers` makes the numbers: p or n is the float in units of 1 / L, the last but one
 -- number a power of 2 (or a number of days) above its size and the last the least bound of its distance from the decimal, both in units of 2 ^ -90. Assumes nothing.
 use mathlib.Core.Path.{refl}
 use mathlib.Core.Bool.{true, false}

@@ -1,5 +1,5 @@
 -- Demand 1 of the sixteen conversions, as one theorem: a date whose parts are under 2 ^ 52 in size, with an offset of at most 10 ^ 9 seconds, has an answer, both parts of it
--- finite. A script wrote the numbers of the four rates: the places of the roundings (the bit length of what is rounded, less 54), the size of the correction and its
+-- finite. `tests/scale_numbers` makes the numbers of the four rates: the places of the roundings (the bit length of what is rounded, less 54), the size of the correction and its
 -- error, the last two the least that the laws of `About` allow, in units of 2 ^ -90. Assumes nothing.
 use mathlib.Core.Path.{_≡_, refl, sym, ap, _∙_, subst}
 use Prim.Native.Nat.{ℕ, _+_, _*_, _^_, _≤_}

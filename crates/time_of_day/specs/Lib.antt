@@ -1,5 +1,6 @@
--- The definitions that the contracts of `time_of_day` cite, and those of the exact time that its theorems speak of.
+-- What the contracts of `time_of_day` cite, in the order to read it.
 pub mod Milliseconds
 pub mod TimeShown
+-- The words of the theorems, which speak of the exact time: no contract cites them.
 pub mod Nearest
 pub mod ExactTime

@@ -2,7 +2,7 @@
 use mathlib.Core.Path.{_≡_, _∙_}
 use mathlib.Core.Bool.{true}
 use mathlib.Core.List.{List}
-use Prim.Native.Nat.{ℕ, _+_, _*_}
+use Prim.Native.Nat.{ℕ, _+_, _*_, _≤_}
 use lib.IntN.{ℤ, pos}
 use lib.Ieee.{Float, binary64, ofInt, add, mul, div}
 use Rattle.refusals.specs.Outcome.{answer, refusal, onward}
@@ -17,6 +17,7 @@ use Rattle.julian.specs.Calendar.{fromCalendar}
 use Rattle.julian.specs.Calendar as Julian
 use Rattle.julian.proofs.Midnights.{midnight-refused, midnight-given}
 use Rattle.julian_laws.proofs.RoundTrip.{midnight-fraction}
+use Rattle.julian_laws.proofs.Clock.{hour-refused, minute-refused}
 use Rattle.tai_utc.specs.Table.{Row}
 use Rattle.tai_utc.specs.Leap.{leapAtEndOfDay}
 use Rattle.utc.specs.FromCalendar.{atTime, utcFromCalendar}
@@ -48,3 +49,12 @@ module _ (rows : List Row) (y : ℤ) (m d hour minute : ℕ) (second : Float) wh
         ≡ answer (julian (add binary64 mjdZeroPoint (ofInt binary64 (mjdNumber y (pos m) (pos d)))) (add binary64 nought (div binary64 (add binary64 (mul binary64 (decimal 60 0) (ofInt binary64 (pos (60 * hour + minute)))) second) (add binary64 secondsPerDay x))))
     unfolding atTime dayFraction onward
     time-given h = on-date v x e ∙ rw h
+
+    -- HOUR 24 AND LATER, AND MINUTE 60 AND LATER, are refused with 4, whatever the day's length
+    pub utc-hour-24-refused : 24 ≤ hour → utcFromCalendar rows y m d hour minute second ≡ refusal 4
+    unfolding atTime onward
+    utc-hour-24-refused h = on-date v x e ∙ rw (hour-refused hour minute second x h)
+
+    pub utc-minute-60-refused : 60 ≤ minute → utcFromCalendar rows y m d hour minute second ≡ refusal 4
+    unfolding atTime onward
+    utc-minute-60-refused h = on-date v x e ∙ rw (minute-refused hour minute second x h)

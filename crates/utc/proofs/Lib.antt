@@ -14,4 +14,5 @@ pub mod Demand3
 pub mod DayLengths
 pub mod Alike
 pub mod OneText
+pub mod Ends
 pub mod Lengths

@@ -1,7 +1,8 @@
--- The definitions that the contracts of `utc` and its theorems cite, in the order to read them.
+-- What the contracts of `utc` cite, in the order to read it.
 pub mod FromCalendar
 pub mod UnixTime
 pub mod IsoText
 pub mod TextCall
+-- The words of the theorems: no contract cites them.
 pub mod Shows
 pub mod OneText

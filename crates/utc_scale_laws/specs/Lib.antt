@@ -1,4 +1,5 @@
--- What the theorems of the conversions that read the table speak of, all twenty conversions as one table, and SOFA's published check values of the four that read the table.
+-- The words of the theorems of the conversions that read the table, all twenty conversions as one table, and SOFA's published check values of the four that read the
+-- table. No contract cites them.
 pub mod Claims
 pub mod Twenty
 pub mod Published

@@ -1,4 +1,4 @@
--- The definitions that document 01's worked cases are stated in.
+-- The words of document 01's worked cases. No contract cites them.
 pub mod Calls
 pub mod Cases
 pub mod Others
