@@ -1,18 +1,20 @@
 -- What `julian_to_calendar` answers: on the grid the date of the exact day and the exact fraction, the same for every division of one date; off it within 2^-51 day;
 -- and no refusal but 6. Assumes nothing.
 use mathlib.Core.Path.{_≡_, refl, sym, ap, _∙_, subst}
-use Prim.Native.Nat.{ℕ, _≤_}
+use Prim.Native.Nat.{ℕ, _+_, _≤_}
 use native.Mathlib.Omega.{arith}
 use mathlib.Core.Bool.{Bool, true, false}
 use mathlib.Core.Logic.{_⊎_, inl, inr}
 use lib.Dec.{T}
-use lib.IntN.{ℤ, pos, negsuc, _+ℤ_}
+use lib.IntN.{ℤ, pos, negsuc, _+ℤ_, _-ℤ_}
 use lib.Signed.{ltZ}
 use lib.Ieee.{Float, binary64, fits}
-use borrow.Author.Tests.{le-ltb}
+use borrow.Author.Tests.{le-ltb, ltb-true, ltb-false}
 use Rattle.refusals.specs.Outcome.{Outcome, answer, refusal, onward}
 use Rattle.rounding.specs.Value.{Val, Under52, L, InUnit}
-use Rattle.rounding.proofs.Casts.{plusZ, minusZ, one-side}
+use Rattle.rounding.proofs.Casts.{plusZ, minusZ, one-side, add-pair, sub-pair}
+use Rattle.rounding.proofs.Value.{val-move}
+use Rattle.rounding.proofs.Sizes.{under-size}
 use Rattle.calendar.specs.declared.CalendarDate.{CalendarDate}
 use Rattle.calendar.specs.Calendar.{dateOf}
 use Rattle.calendar.specs.Gregorian.{gregorianDate}
@@ -22,13 +24,16 @@ use Rattle.day_number.specs.DayNumber.{accepted, dayOf}
 use Rattle.day_number.specs.Answer.{dayNumberAndFraction}
 use Rattle.day_number.specs.ExactDay.{OnGrid, exactSum, InJulianRange, exactDay, exactFraction, exactDayNumber, fractionOf, DayAt}
 use Rattle.day_number.specs.NearDay.{DayNear}
+use Rattle.day_number.specs.Ranges.{InDays}
 use Rattle.day_number.proofs.Answer.{answered, refused}
 use Rattle.day_number.proofs.Ranges.{day-range, fraction-range}
 use Rattle.day_number.proofs.ExactDay.{exact-day, exact, alike}
 use Rattle.day_number.proofs.OffGrid.{day-near}
+use Rattle.julian.specs.declared.JulianDate.{JulianDate}
+use Rattle.julian.specs.Worth.{SmallParts}
 use Rattle.julian.specs.declared.CalendarFields.{CalendarFields}
 use Rattle.julian.specs.Calendar.{fields, julianToCalendar}
-use Rattle.julian_laws.specs.CalendarAnswers.{InRange, NearDate}
+use Rattle.julian_laws.specs.CalendarAnswers.{InRange, DateOfDay, by-calendar, before-first, NearDate, DayPlusFraction}
 
 -- ---- the fields of an answered day, and back
 
@@ -115,7 +120,52 @@ answered-in-range x y fx fy f e =
     let d = day-of x y f e in
     record { day = d .day .day; in-days = day-range x y fx fy (d .day) (d .given); date = d .date; fraction = subst InUnit (sym (d .fraction)) (fraction-range x y fx fy (d .day) (d .given)) }
 
+lowest-named : DateOfDay (gregorianDate (negsuc 68569)) (negsuc 68569)
+unfolding gregorianDate
+lowest-named = before-first refl
+
+-- a date of the code is that of its day, in the range of answered days
+named : (z : ℤ) → InDays z → DateOfDay (gregorianDate z) z
+named z r = go (ltZ z (negsuc 68568)) refl
+  where
+    go : (b : Bool) → ltZ z (negsuc 68568) ≡ b → DateOfDay (gregorianDate z) z
+    go false e = by-calendar (above z e) (gregorian-is-date-of-day z e (not-above z (r .top)))
+      where
+        above : (z : ℤ) → ltZ z (negsuc 68568) ≡ false → minusZ z ≤ 68569
+        above (pos n) e = omega arith
+        above (negsuc n) e = omega (arith, ltb-false 68568 n e)
+    go true e = subst (λ (y : ℤ). DateOfDay (gregorianDate y) y) (sym (lowest z r e)) lowest-named
+      where
+        lowest : (z : ℤ) → InDays z → ltZ z (negsuc 68568) ≡ true → z ≡ negsuc 68569
+        lowest (pos n) r e = let k : _≡_ {A = Bool} false true = e in let w : _≡_ {A = ℕ} 0 1 = cc in absurd (omega arith)
+        lowest (negsuc n) r e = ap negsuc (omega (arith, ltb-true 68568 n e, r .bottom))
+
 pub near-date : (x y : Float) → Under52 x → Under52 y → (i j : ℤ) → Val x (plusZ i) (minusZ i) L → Val y (plusZ j) (minusZ j) L → (f : CalendarFields) → julianToCalendar x y ≡ answer f → NearDate (i +ℤ j) f
 near-date x y a b i j v w f e =
     let d = day-of x y f e in
-    record { day = d .day .day; date = d .date; near = subst (DayNear (i +ℤ j) (d .day .day)) (sym (d .fraction)) (day-near x y a b i j v w (d .day) (d .given)) }
+    record {
+      day = d .day .day;
+      date = subst (λ (t : CalendarDate). DateOfDay t (d .day .day)) (sym (d .date)) (named (d .day .day) (day-range x y (a .held) (b .held) (d .day) (d .given)));
+      near = subst (DayNear (i +ℤ j) (d .day .day)) (sym (d .fraction)) (day-near x y a b i j v w (d .day) (d .given));
+    }
+
+-- REQUEST 14, its second half: of a date with parts under 2^52 that is answered, day and fraction are within 2^-51 day of the exact sum plus one half
+pub day-plus-fraction : (d : JulianDate) → SmallParts d → (f : CalendarFields) → julianToCalendar (d .jd1) (d .jd2) ≡ answer f → DayPlusFraction d f
+day-plus-fraction d s f e =
+    let a = under-size (d .jd1) 52 (s .first .held) (s .first .small) in
+    let b = under-size (d .jd2) 52 (s .second .held) (s .second .small) in
+    let i = pos (a .p) -ℤ pos (a .n) in
+    let j = pos (b .p) -ℤ pos (b .n) in
+    let v = val-move (a .val) (same (a .p) (a .n) (plusZ i) (minusZ i) (sub-pair (pos (a .p)) (pos (a .n)))) in
+    let w = val-move (b .val) (same (b .p) (b .n) (plusZ j) (minusZ j) (sub-pair (pos (b .p)) (pos (b .n)))) in
+    record {
+      sum = i +ℤ j;
+      worth = record { p = plusZ i; n = minusZ i; q = plusZ j; m = minusZ j; first = v; second = w; total = total (plusZ i) (minusZ i) (plusZ j) (minusZ j) (plusZ (i +ℤ j)) (minusZ (i +ℤ j)) (add-pair i j) };
+      near = near-date (d .jd1) (d .jd2) (s .first) (s .second) i j v w f e;
+    }
+  where
+    same : (p n x y : ℕ) → x + (0 + n) ≡ y + (p + 0) → p + y ≡ x + n
+    same p n x y k = omega arith
+
+    total : (p n q m x y : ℕ) → x + (n + m) ≡ y + (p + q) → p + q + y ≡ x + (n + m)
+    total p n q m x y k = omega arith

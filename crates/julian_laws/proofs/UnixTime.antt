@@ -50,7 +50,7 @@ whole-about K {x} {P} {N} v h k =
     same : (P N : ℕ) → P * L * 1 + N * L ≤ N * L * 1 + P * L + 0 * (U * 1)
     same P N = simp mul-one (omega arith)
 
-day-val : Val secondsPerDay 86400 0 1
+pub day-val : Val secondsPerDay 86400 0 1
 unfolding secondsPerDay round
 day-val = record { sign = false; size = 86400; has = (refl, refl); is = refl }
 

@@ -79,6 +79,15 @@ close-close s1 s2 s {a} {c} {a2} {c2} {B} {B'} {B2} {B2'} r x y =
     turn : (p n p' n' : ℕ) → p + n' ≡ p' + n → n + p' ≡ n' + p
     turn p n p' n' h = omega arith
 
+-- ---- the same to more picoseconds
+pub more-close : {ps ps' num den more less : ℕ} {d d' : JulianDate} → ps ≤ ps' → Close ps num den more less d d' → Close ps' num den more less d d'
+more-close {den = den} k w =
+    let e = mul-le-mul-right (den * L) k in
+    record { p = w .p; n = w .n; p' = w .p'; n' = w .n'; from = w .from; to = w .to; over = wide _ _ _ _ (w .over) e; under = wide _ _ _ _ (w .under) e }
+  where
+    wide : (x y i j : ℕ) → x ≤ y + i → i ≤ j → x ≤ y + j
+    wide x y i j k l = omega arith
+
 -- ---- the range after a first step
 range-after : (S s t : ℕ) (f : Float → Float → Float) (d : JulianDate) → s ≤ S → Step S s t f → InRange S s d → InRange S t (mapSmallerPart f d)
 unfolding Step Chosen

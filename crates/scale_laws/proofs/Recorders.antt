@@ -2,7 +2,7 @@
 -- where the smaller part is a modified Julian date), and the order of stamps that share their larger part is kept. Assumes nothing.
 use mathlib.Core.Path.{_≡_, sym, ap, _∙_, subst}
 use Prim.Native.Nat.{ℕ, _+_, _*_, _≤_}
-use native.Mathlib.Nat.{mul-le-mul-right, mul-left-comm, one-mul, add-mul}
+use native.Mathlib.Nat.{mul-le-mul-right, mul-left-comm, one-mul, mul-add, add-mul}
 use native.Mathlib.Omega.{arith}
 use mathlib.Core.Bool.{Bool, true, false}
 use lib.Dec.{T}
@@ -21,12 +21,12 @@ use Rattle.scales.specs.Formulas.{gpsDays}
 use Rattle.scales.specs.Conversions.{gps-tai, offsetOf, answerOf}
 use Rattle.scale_laws.specs.Ranges.{Held, Practical, Modified, HalfDay}
 use Rattle.scale_laws.specs.Picoseconds.{boundOf}
-use Rattle.scale_laws.specs.Meaning.{day, Apart, Means, taiOverGps, meaning}
+use Rattle.scale_laws.specs.Meaning.{day, Close, Apart, Means, taiOverGps, meaning}
 use Rattle.scale_laws.specs.Recorders.{NotLater}
 use Rattle.shifts.proofs.Outcomes.{and-left, and-right, converted-is}
 use Rattle.shifts.proofs.SmallerPart.{mapAs, map-is}
 use Rattle.scale_laws.proofs.Constants.{gps-about}
-use Rattle.scale_laws.proofs.Meant.{worth-unique, practical, modified}
+use Rattle.scale_laws.proofs.Meant.{Meant, worth-unique, practical, modified}
 use Rattle.julian.specs.Finite.{finiteParts}
 use Rattle.shifts.specs.Shifts.{plus}
 
@@ -35,10 +35,11 @@ no-offset : HalfDay (offsetOf gps-tai)
 unfolding offsetOf fits le lt eq abs round
 no-offset = (tt, tt)
 
--- t is d + 19 s to e ps, and u is d + 19 s to c ps: so u is t to c + e ps
-nineteen : {d t u : JulianDate} (c e : ℕ) → Means e taiOverGps d t → Means c taiOverGps d u → Apart (c + e) t u
-nineteen c e v w =
+-- what one relation gives, t to e ps and u to c ps: so u is t to c + e ps. Of a relation in seconds of a day, as that of GPS, of UTC and of TAI
+pub one-relation : {num more less : ℕ} {d t u : JulianDate} (c e : ℕ) → Close e num 86400 more less d t → Close c num 86400 more less d u → Apart (c + e) t u
+one-relation {num} {more} {less} c e v w =
     let o = worth-unique (v .from) (w .from) in
+    let s = sym (mul-add num (v .p) (w .n)) ∙ ap (λ (z : ℕ). num * z) o ∙ mul-add num (w .p) (v .n) in
     record {
       p = v .p';
       n = v .n';
@@ -46,8 +47,8 @@ nineteen c e v w =
       n' = w .n';
       from = v .to;
       to = w .to;
-      over = high (v .p) (v .n) (v .p') (v .n') (w .p) (w .n) (w .p') (w .n') L (c * L) (e * L) (seconds c) (seconds e) bound o (v .under) (w .over);
-      under = low (v .p) (v .n) (v .p') (v .n') (w .p) (w .n) (w .p') (w .n') L (c * L) (e * L) (seconds c) (seconds e) bound o (v .over) (w .under);
+      over = high (num * v .p) (num * v .n) (num * w .p) (num * w .n) (v .p') (v .n') (w .p') (w .n') more less (c * L) (e * L) (seconds c) (seconds e) bound s (v .under) (w .over);
+      under = low (num * v .p) (num * v .n) (num * w .p) (num * w .n) (v .p') (v .n') (w .p') (w .n') more less (c * L) (e * L) (seconds c) (seconds e) bound s (v .over) (w .under);
     }
   where
     seconds : (k : ℕ) → k * (86400 * L) ≡ 86400 * (k * L)
@@ -56,23 +57,30 @@ nineteen c e v w =
     bound : (c + e) * (1 * L) ≡ c * L + e * L
     bound = ap (λ (z : ℕ). (c + e) * z) (one-mul L) ∙ add-mul c e L
 
-    high : (p n p' n' a b a' b' L x y : ℕ) {x' y' z : ℕ} → x' ≡ 86400 * x → y' ≡ 86400 * y → z ≡ x + y → p + b ≡ a + n → day * (86400 * n' + 86400 * p + 19 * L) ≤ day * (86400 * p' + 86400 * n + 0) + y'
-        → day * (86400 * a' + 86400 * b + 0) ≤ day * (86400 * b' + 86400 * a + 19 * L) + x' → day * (1 * a' + 1 * n' + 0) ≤ day * (1 * b' + 1 * p' + 0) + z
-    high p n p' n' a b a' b' L x y e f g o h k = omega arith
+    high : (p n a b p' n' a' b' M S x y : ℕ) {x' y' z : ℕ} → x' ≡ 86400 * x → y' ≡ 86400 * y → z ≡ x + y → p + b ≡ a + n → day * (86400 * n' + p + M) ≤ day * (86400 * p' + n + S) + y'
+        → day * (86400 * a' + b + S) ≤ day * (86400 * b' + a + M) + x' → day * (1 * a' + 1 * n' + 0) ≤ day * (1 * b' + 1 * p' + 0) + z
+    high p n a b p' n' a' b' M S x y e f g o h k = omega arith
 
-    low : (p n p' n' a b a' b' L x y : ℕ) {x' y' z : ℕ} → x' ≡ 86400 * x → y' ≡ 86400 * y → z ≡ x + y → p + b ≡ a + n → day * (86400 * p' + 86400 * n + 0) ≤ day * (86400 * n' + 86400 * p + 19 * L) + y'
-        → day * (86400 * b' + 86400 * a + 19 * L) ≤ day * (86400 * a' + 86400 * b + 0) + x' → day * (1 * b' + 1 * p' + 0) ≤ day * (1 * a' + 1 * n' + 0) + z
-    low p n p' n' a b a' b' L x y e f g o h k = omega arith
+    low : (p n a b p' n' a' b' M S x y : ℕ) {x' y' z : ℕ} → x' ≡ 86400 * x → y' ≡ 86400 * y → z ≡ x + y → p + b ≡ a + n → day * (86400 * p' + n + S) ≤ day * (86400 * n' + p + M) + y'
+        → day * (86400 * b' + a + M) ≤ day * (86400 * a' + b + S) + x' → day * (1 * b' + 1 * p' + 0) ≤ day * (1 * a' + 1 * n' + 0) + z
+    low p n a b p' n' a' b' M S x y e f g o h k = omega arith
+
+-- GPS to TAI is 19 s later to 10 ps, and to 0.63 microseconds where the smaller part is a modified Julian date
+pub gps-means : (d : JulianDate) → Practical d → Meant 10 taiOverGps (answerOf gps-tai d) d
+unfolding meaning boundOf
+gps-means d r = let m = practical gps-tai d r no-offset in record { date = m .date; is = m .is; means = m .means }
+
+pub gps-means-modified : (d : JulianDate) → Modified d → Meant 628643 taiOverGps (answerOf gps-tai d) d
+unfolding meaning boundOf
+gps-means-modified d r = let m = modified gps-tai d r no-offset in record { date = m .date; is = m .is; means = m .means }
 
 -- d by GPS and t by TAI stamp one instant to e ps, t = d + 19 s: then gps_to_tai answers for d a date within 10 + e ps of t
 pub one-instant : (e : ℕ) (d t : JulianDate) → Practical d → Means e taiOverGps d t → (u : JulianDate) × (answerOf gps-tai d ≡ answer u) × Apart (10 + e) t u
-unfolding meaning boundOf
-one-instant e d t r v = let m = practical gps-tai d r no-offset in (m .date, m .is, nineteen 10 e v (m .means))
+one-instant e d t r v = let m = gps-means d r in (m .date, m .is, one-relation 10 e v (m .means))
 
 -- the same where the smaller part is a modified Julian date: 0.63 microseconds and e ps
 pub one-instant-modified : (e : ℕ) (d t : JulianDate) → Modified d → Means e taiOverGps d t → (u : JulianDate) × (answerOf gps-tai d ≡ answer u) × Apart (628643 + e) t u
-unfolding meaning boundOf
-one-instant-modified e d t r v = let m = modified gps-tai d r no-offset in (m .date, m .is, nineteen 628643 e v (m .means))
+one-instant-modified e d t r v = let m = gps-means-modified d r in (m .date, m .is, one-relation 628643 e v (m .means))
 
 -- ---- the order
 adds-in-order : (x y k : Float) → T (fits binary64 x) → T (fits binary64 y) → finite x ≡ true → finite y ≡ true → {q m : ℕ} → Val k q m L → T (le x y) → T (le (add binary64 x k) (add binary64 y k))

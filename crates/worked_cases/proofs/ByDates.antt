@@ -23,7 +23,7 @@ use Rattle.utc.specs.IsoText.{dayText, isoTextBy, isoText}
 use Rattle.worked_cases.specs.Calls.{UtcCall, utc-from-calendar, utc-new, utc-parts, utcOf, Value, partsOf, fieldsOf, put, answerOf}
 use Rattle.worked_cases.specs.Calls.{Call, calendar-to-julian, julian-to-calendar, get-tai-utc-offset, utc, to-iso8601}
 use Rattle.worked_cases.specs.Calls.{nearest-int, convert, utc-to-ut1, block-stamps}
-use Rattle.worked_cases.proofs.Divisions.{dividedDate, divided-date}
+use Rattle.julian_laws.proofs.Divisions.{dividedDate, divided-date}
 
 -- the definitions of `julian_to_calendar`, `UTC::new` and `to_iso8601`, with `dates` for `gregorianDate`
 abbrev pub toCalendar : (ℤ → CalendarDate) → Float → Float → Outcome CalendarFields

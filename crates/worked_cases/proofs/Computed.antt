@@ -31,7 +31,7 @@ use Rattle.utc.specs.IsoText.{nextMidnightText, shownText, dayTextBy}
 use Rattle.utc.specs.TextCall.{written, held}
 use Rattle.stamps.specs.Block.{blockOf}
 use Rattle.worked_cases.specs.Calls.{Call, Value, answerOf}
-use Rattle.worked_cases.proofs.Divisions.{dividedDate}
+use Rattle.julian_laws.proofs.Divisions.{dividedDate}
 use Rattle.worked_cases.proofs.ByDates.{answerBy, by-division}
 use Rattle.worked_cases.proofs.Literals.{literal, literal-is}
 use Rattle.shifts.specs.Shifts.{daysOf, changed, converted}

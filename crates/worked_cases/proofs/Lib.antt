@@ -1,5 +1,4 @@
 -- Document 01's worked cases: `Cases` has the theorems, and the others make the answers such that a check can compute them.
-pub mod Divisions
 pub mod ByDates
 pub mod Literals
 pub mod Computed

@@ -1,37 +1,8 @@
--- A number, a float and an answer taken apart and put together again: the same, and a check has then worked the numbers out, so that it compares them and not
--- how they came about. Assumes nothing.
-use mathlib.Core.Path.{_≡_, refl, ap}
-use Prim.Native.Nat.{ℕ, zero, suc}
-use lib.IntN.{ℤ, pos, negsuc}
-use lib.Ieee.{Float, nan, inf, fin}
+-- An answer taken apart and put together again: the same, with its numbers worked out. Assumes nothing.
+use mathlib.Core.Path.{_≡_, refl}
 use Rattle.refusals.specs.Outcome.{Outcome, answer, refusal}
+use Rattle.julian_laws.proofs.Literals.{floating, floating-is}
 use Rattle.worked_cases.specs.Calls.{Value, parts, fields, float, bytes, count}
-
-abbrev pub number : ℕ → ℕ
-number zero = zero
-number (suc n) = suc n
-
-number-is : (n : ℕ) → number n ≡ n
-number-is zero = refl
-number-is (suc n) = refl
-
-abbrev pub integer : ℤ → ℤ
-integer (pos n) = pos (number n)
-integer (negsuc n) = negsuc (number n)
-
-integer-is : (z : ℤ) → integer z ≡ z
-integer-is (pos n) = ap pos (number-is n)
-integer-is (negsuc n) = ap negsuc (number-is n)
-
-abbrev pub floating : Float → Float
-floating nan = nan
-floating (inf s) = inf s
-floating (fin s m e) = fin s (number m) (integer e)
-
-floating-is : (x : Float) → floating x ≡ x
-floating-is nan = refl
-floating-is (inf s) = refl
-floating-is (fin s m e) = λ i. fin s (number-is m i) (integer-is e i)
 
 abbrev pub literal : Outcome Value → Outcome Value
 literal (answer (parts x y)) = answer (parts (floating x) (floating y))

@@ -1,0 +1,97 @@
+-- The two parts of a date as scaled whole numbers: jd1 a whole number of half days, and jd2 of at most 1027/1024 day in size, as the guesses of TAI to UTC are too.
+-- Assumes nothing.
+use mathlib.Core.Path.{_≡_, refl}
+use Prim.Native.Nat.{ℕ, _+_, _*_, _≤_}
+use native.Mathlib.Nat.{mul-le-mul-right}
+use native.Mathlib.Omega.{arith}
+use lib.Dec.{T}
+use lib.Ieee.{Float, binary64, fits, le}
+use Rattle.floats.specs.Whole.{abs, one}
+use Rattle.rounding.specs.Value.{Val, L}
+use Rattle.rounding.proofs.Range.{at-most}
+use Rattle.day_number.proofs.Units.{one-L}
+use Rattle.julian.specs.declared.JulianDate.{JulianDate}
+use Rattle.julian.specs.JulianDate.{julian}
+use Rattle.julian.specs.Worth.{Worth}
+use Rattle.tai_round_trip.specs.UtcDays.{H}
+use Rattle.tai_round_trip.specs.Ranges.{HalfDaySplit}
+use Rattle.tai_round_trip.proofs.Units.{L-H, in-units}
+
+-- a float whose value is a whole number of half days, k of them, from 2441319.5 to 5000000.5 days
+pub record FirstPart (a : Float) (A : ℕ) : Type 0 where
+  pub held : T (fits binary64 a)
+  pub val : Val a A 0 L
+  pub k : ℕ
+  pub halves : A ≡ k * H
+  pub low : 4882639 * H ≤ A
+  pub high : A ≤ 10000001 * H
+
+-- the same from 0 on
+pub record HalfDays (a : Float) (A : ℕ) : Type 0 where
+  pub val : Val a A 0 L
+  pub k : ℕ
+  pub halves : A ≡ k * H
+  pub high : A ≤ 10000001 * H
+
+abbrev pub half-days : {a : Float} {A : ℕ} → FirstPart a A → HalfDays a A
+half-days v = record { val = v .val; k = v .k; halves = v .halves; high = v .high }
+
+-- a float of at most 1027/1024 day in size
+pub record SecondPart (u : Float) (up un : ℕ) : Type 0 where
+  pub held : T (fits binary64 u)
+  pub val : Val u up un L
+  pub over : 1024 * up ≤ 1024 * un + 1027 * L
+  pub under : 1024 * un ≤ 1024 * up + 1027 * L
+
+pub smaller-part : (b : Float) → T (fits binary64 b) → T (le (abs b) one) → (p : ℕ) × (n : ℕ) × SecondPart b p n
+smaller-part b t k = let w = at-most t one-L k in (w .p, w .n, record { held = t; val = w .val; over = wide (w .p) (w .n) L (w .high); under = wide (w .n) (w .p) L (w .low) })
+  where
+    wide : (p n Q : ℕ) → p ≤ n + Q → 1024 * p ≤ 1024 * n + 1027 * Q
+    wide p n Q k = omega arith
+
+-- what the two are worth together
+pub joined : {a x : Float} {A p n : ℕ} → Val a A 0 L → Val x p n L → Worth (julian a x) (A + p) n L
+joined {A = A} {p} {n} v w = record { p = A; n = 0; q = p; m = n; first = v; second = w; total = omega arith }
+
+pub worth-of : {a u : Float} {A up un : ℕ} → FirstPart a A → SecondPart u up un → Worth (julian a u) (A + up) un L
+worth-of v w = joined (v .val) (w .val)
+
+-- ---- two parts whose sum lies from 1972-01-01 to 8977-06-09, the second at most 131072 days in size
+pub record Stamp (a u : Float) (A up un : ℕ) : Type 0 where
+  pub held1 : T (fits binary64 a)
+  pub held2 : T (fits binary64 u)
+  pub val1 : Val a A 0 L
+  pub val2 : Val u up un L
+  pub most : A ≤ 10000001 * H
+  pub over : up ≤ un + 131072 * L
+  pub under : un ≤ up + 131072 * L
+  pub low : 4882636 * H + un ≤ A + up
+  pub high : A + up ≤ un + 10000004 * H
+
+pub stamp-of : {a u : Float} {A up un : ℕ} → FirstPart a A → SecondPart u up un → Stamp a u A up un
+stamp-of v w = record {
+  held1 = v .held;
+  held2 = w .held;
+  val1 = v .val;
+  val2 = w .val;
+  most = v .high;
+  over = omega (arith, w .over);
+  under = omega (arith, w .under);
+  low = omega (arith, v .low, w .under, L-H);
+  high = omega (arith, v .high, w .over, L-H);
+}
+
+-- ---- the parts of a date of the theorems
+module _ {d : JulianDate} (s : HalfDaySplit d) where
+  pub first-part : FirstPart (d .jd1) (s .halves * H)
+  first-part = record {
+    held = s .held .0;
+    val = in-units (s .halves) 2 H L-H (s .first);
+    k = s .halves;
+    halves = refl;
+    low = mul-le-mul-right H (s .low);
+    high = mul-le-mul-right H (s .high);
+  }
+
+  pub second-part : (p : ℕ) × (n : ℕ) × SecondPart (d .jd2) p n
+  second-part = smaller-part (d .jd2) (s .held .1) (s .second)
