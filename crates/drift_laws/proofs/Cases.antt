@@ -19,7 +19,7 @@ use Rattle.julian.specs.JulianDate.{julian}
 use Rattle.tai_utc.specs.Table.{Row, row, fixed, starts, reached, monthNumber}
 use Rattle.tai_utc.specs.Offset.{rowAt}
 use Rattle.drift_laws.specs.Drift.{rowOn, NoStep, DriftDate, driftPs, OnLine}
-use Rattle.drift_laws.proofs.Days.{date-of}
+use Rattle.tai_round_trip.proofs.DaySeconds.{date-of}
 use Rattle.drift_laws.proofs.Drift.{utc-to-tai-on-line}
 
 pub same-row : (n : ℕ) → rowOn (suc n) ≡ rowOn n → NoStep n

@@ -12,14 +12,12 @@ use Rattle.refusals.specs.Outcome.{answer, onward}
 use Rattle.refusals.proofs.Onward.{went, came}
 use Rattle.floats.specs.Whole.{nought, half}
 use Rattle.calendar.specs.declared.CalendarDate.{CalendarDate}
-use Rattle.calendar.specs.Calendar.{date, dateAt, dateOf, next, leapSize, lengths, daysInMonth}
+use Rattle.calendar.specs.Calendar.{date, dateAt, dateOf, leapSize, lengths, daysInMonth}
 use Rattle.calendar.specs.Refusals.{validDate, nextOf, lastDate}
 use Rattle.calendar.specs.DayCount.{mjdOf, mjdNumber, civilCount}
 use Rattle.calendar.specs.Gregorian.{gregorianDate}
-use Rattle.calendar.proofs.Days.{after}
 use Rattle.calendar.proofs.Signs.{sub-at}
 use Rattle.calendar.proofs.Years.{later, validOf, gregorian-valid, gregorian-in-range, before-last}
-use Rattle.calendar.proofs.Gregorian.{gregorian-is-date-of-day}
 use Rattle.calendar.proofs.Mjd.{date-of-mjd, mjd-of-date, same-answer}
 use Rattle.calendar.proofs.NextDates.{by, first-false}
 use Rattle.tai_utc.specs.Table.{fixed, starts, reached, monthNumber, monthOf}
@@ -31,21 +29,13 @@ use Rattle.leap_days.specs.Formula.{NearFormula}
 use Rattle.leap_days.proofs.Formula.{drift-formula}
 use Rattle.utc_scales.specs.Dates.{offsetsOf}
 use Rattle.day_order.proofs.Once.{nought-fits, half-fits}
+use Rattle.tai_round_trip.proofs.DaySeconds.{date-of, next-date}
 use Rattle.drift_laws.specs.Drift.{rowOn}
 
--- ---- the date of a day number, and the next
-pub date-of : (n : ℕ) → n ≤ 1000000000 → gregorianDate (pos n) ≡ dateOf (pos n)
-date-of n k = gregorian-is-date-of-day (pos n) refl (le-ltb 1000000000 n k)
-
+-- ---- the date of a day number
 at-count : (n : ℕ) → dateOf (pos n) ≡ dateAt (n + 178141)
 unfolding dateOf
 at-count n = refl
-
-next-date : (n : ℕ) → dateOf (pos (suc n)) ≡ next (dateOf (pos n))
-next-date n = at-count (suc n) ∙ ap dateAt (one-more n) ∙ after (n + 178141) ∙ ap next (sym (at-count n))
-  where
-    one-more : (x : ℕ) → suc x + 178141 ≡ suc (x + 178141)
-    one-more x = omega arith
 
 -- ---- 1961 to 1971
 first-mjd : mjdOf (pos 1961) (pos 1) (pos 1) ≡ answer (pos 37300)

@@ -30,7 +30,7 @@ use Rattle.utc_scales.specs.UtcTai.{stretchDayFraction, taiFromMidnight, taiFra
 use Rattle.utc_scales.proofs.Midnights.{midnight}
 use Rattle.utc_scales.proofs.Steps.{tai-of-day}
 use Rattle.drift_laws.specs.Drift.{rowOn, NoStep, DriftDate, driftPs, OnLine}
-use Rattle.drift_laws.proofs.Kept.{first-larger, changed}
+use Rattle.tai_round_trip.proofs.Kept.{first-larger, changed}
 use Rattle.drift_laws.proofs.Days.{Offsets, offsets-near}
 use Rattle.drift_laws.proofs.Located.{Located, located}
 use Rattle.drift_laws.proofs.Seconds.{dayFs, Sec, sec-move, drift-near, leap-near, Factor, factor}

@@ -6,12 +6,13 @@ use Prim.Native.Nat.{ℕ, _+_, _-_, _*_, _^_, _≤_, _<_}
 use native.Mathlib.Nat.{one-mul, zero-mul, add-mul, mul-assoc, mul-le-mul-right}
 use native.Mathlib.Omega.{arith}
 use lib.Dec.{lit≤, lit<}
-use lib.Ieee.{Float, binary64, round, add, sub, mul, div}
+use lib.Ieee.{Float, binary64, add, sub, mul, div}
 use Rattle.constants.specs.Constants.{secondsPerDay}
 use Rattle.rounding.specs.Value.{Val, Rounds, L}
 use Rattle.rounding.proofs.Value.{L-pos, val-move, val-scale, add-rounds, sub-rounds, mul-rounds, rounds-move}
 use Rattle.rounding.proofs.Near.{sum-near}
 use Rattle.rounding.proofs.Scaled.{Scaled, div-near}
+use Rattle.julian_laws.proofs.UnixTime.{day-val}
 use Rattle.tai_utc.specs.Leap.{twoF, offsets, driftRate, leapAmount}
 
 -- a day in femtoseconds
@@ -161,10 +162,6 @@ pub record Factor (c : Float) (A : ℕ) : Type 0 where
   pub val : Val c B 0 L
   pub over : dayFs * B ≤ dayFs * L + 100000 * A + 22880 * L
   pub under : dayFs * L + 100000 * A ≤ dayFs * B + 22880 * L
-
-pub day-val : Val secondsPerDay 86400 0 1
-unfolding secondsPerDay round
-day-val = record { sign = false; size = 86400; has = (refl, refl); is = refl }
 
 day-units : Val secondsPerDay (86400 * L) 0 L
 day-units = subst (λ (z : ℕ). Val secondsPerDay (86400 * L) z L) (zero-mul L) (subst (λ (d : ℕ). Val secondsPerDay (86400 * L) (0 * L) d) (one-mul L) (val-scale L day-val))
