@@ -22,8 +22,8 @@ ut1OverUtc n x y = record { num = 86400 + leapAfter n; den = 86400; more = x + l
 abbrev pub ut1Ps : ℕ
 ut1Ps = 87
 
--- UTC to UT1 answers, and the answer is the UT1 of d by this DUT1, on the day n that the calendar finds for d. Of a date in the last 38 ps of a day that may be the next day, and
--- where a leap second lies between the two this matters: DUT1 is another there.
+-- UTC to UT1 answers, and the answer is the UT1 of d by this DUT1, on the day n that the calendar finds for d. In the last picoseconds of a day the calendar may find the next, and where
+-- a leap second lies between the two this matters: DUT1 is another there, by 1 s.
 pub record RightUt1 (ps : ℕ) (d : JulianDate) (dut1 : Float) : Type 0 where
   pub x : ℕ
   pub y : ℕ
