@@ -15,7 +15,7 @@ use Rattle.rounding.specs.Value.{Val, Rounds, L, plusZ, minusZ}
 use Rattle.rounding.proofs.Value.{L-pos, val-scale, val-unique, abs-has, rounds-move}
 use Rattle.rounding.proofs.Signed.{plus-of, minus-of}
 use Rattle.rounding.proofs.Compare.{lt-false, le-says}
-use Rattle.day_number.specs.DayNumber.{accepted, rest, sumFractions, split, total, dayNumber, dayFraction}
+use Rattle.day_number.specs.DayNumber.{accepted, rest, sumFractions, joinedFractions, total, dayNumber, fractionPassed}
 use Rattle.day_number.proofs.Units.{H, H-L, H-pos, E, E-L, one-L, half-L}
 use Rattle.day_number.proofs.SignedUnits.{has-val}
 use Rattle.day_number.proofs.NearestNumber.{Numbers}
@@ -23,7 +23,7 @@ use Rattle.day_number.proofs.NearestInt.{Whole, plain-plus, plain-minus}
 use Rattle.day_number.proofs.Parts.{rest-fits, left-off, off-size}
 use Rattle.day_number.proofs.Pair.{Accepted}
 use Rattle.day_number.proofs.Accepted.{accepted-pair}
-use Rattle.day_number.proofs.JulianRange.{InRange, exact-sum, accepted-lo, accepted-hi}
+use Rattle.day_number.proofs.JulianRange.{SumInRange, exact-sum, accepted-lo, accepted-hi}
 use Rattle.day_number.proofs.DayInRange.{total-is}
 use Rattle.day_order.specs.Order.{WholeHalves}
 use Rattle.day_order.proofs.Start.{Rounded, rounded}
@@ -40,7 +40,7 @@ pub record Place (a b : Float) (p n : ℕ) : Type 0 where
   pub zp : ℕ
   pub zn : ℕ
   pub z-val : Val z zp zn L
-  pub val : Val (dayFraction a b) units 0 L
+  pub val : Val (fractionPassed a b) units 0 L
   pub sum : plusZ (dayNumber a b) * L + units + (zn + tn * L) ≡ minusZ (dayNumber a b) * L + (zp + tp * L)
 
 -- ---- the first part
@@ -130,7 +130,7 @@ under X Y k h l m = last X (mid X (k * E) E L E-L (omega arith) (mul-le-mul-righ
     last : (X : ℕ) → X ≤ 1000000002 * L → X < 2 ^ 50 * L
     last X l = omega (arith, L-pos)
 
-first-size : (s t : Bool) (X Y : ℕ) → Y ≤ L → InRange (plus-of s X + plus-of t Y) (minus-of s X + minus-of t Y) → X < 2 ^ 50 * L
+first-size : (s t : Bool) (X Y : ℕ) → Y ≤ L → SumInRange (plus-of s X + plus-of t Y) (minus-of s X + minus-of t Y) → X < 2 ^ 50 * L
 first-size false false X Y h r = under X Y 8000000001 h (omega (arith, r .high)) (lit≤ tt)
 first-size false true X Y h r = under X Y 8000000001 h (omega (arith, r .high)) (lit≤ tt)
 first-size true false X Y h r = under X Y 548557 h (omega (arith, r .low)) (lit≤ tt)
@@ -145,13 +145,13 @@ module _ (a b : Float) (w : WholeHalves a) (fb : T (fits binary64 b)) (sb : T (l
       plain : (g h : ℕ) → g + (mA + mB + 0 + (0 + down)) ≡ h + (pA + pB + up + (more + 0)) → g + (mA + mB + down) ≡ h + (pA + pB + up + more)
       plain g h e = omega arith
 
-  from : (s t : Bool) (X Y A B u : ℕ) → HasValue a s X L → HasValue b t Y L → Whole (nearestInt a) s X A → Whole (nearestInt b) t Y B → X < 2 ^ 50 * L → Y ≤ L → Val (split (rest a) (rest b) .fraction) u 0 L
+  from : (s t : Bool) (X Y A B u : ℕ) → HasValue a s X L → HasValue b t Y L → Whole (nearestInt a) s X A → Whole (nearestInt b) t Y B → X < 2 ^ 50 * L → Y ≤ L → Val (joinedFractions (rest a) (rest b) .fraction) u 0 L
       → Rounded (rest b) (rest a) (H + (plus-of s X + minus-of s A * L) + (plus-of t Y + minus-of t B * L)) (minus-of s X + plus-of s A * L + (minus-of t Y + plus-of t B * L)) → Place a b (p + q) (n + m)
-  unfolding dayNumber dayFraction
+  unfolding dayNumber fractionPassed
   from s t X Y A B u hx hy wx wy kx ky vu o =
       let up = sumFractions (rest a) (rest b) .carry in
-      let more = split (rest a) (rest b) .carry in
-      let down = split (rest a) (rest b) .borrow in
+      let more = joinedFractions (rest a) (rest b) .carry in
+      let down = joinedFractions (rest a) (rest b) .borrow in
       let ea = val-unique (has-val a s X L hx) va in
       let eb = val-unique (has-val b t Y L hy) vb in
       let fa = few-of X A (wx .numbers .high) kx in

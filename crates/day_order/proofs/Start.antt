@@ -15,7 +15,7 @@ use Rattle.floats.specs.Whole.{half, nought, abs}
 use Rattle.rounding.specs.Value.{Signed, Val, L}
 use Rattle.rounding.proofs.Value.{L-pos, rounds-move}
 use Rattle.rounding.proofs.Unique.{float-unique}
-use Rattle.day_number.specs.DayNumber.{compensation, addFraction, sumFractions, split}
+use Rattle.day_number.specs.DayNumber.{compensation, addFraction, sumFractions, joinedFractions}
 use Rattle.day_number.proofs.Units.{H, H-L, H-pos}
 use Rattle.day_order.proofs.Once.{Once, nought-fits, half-fits, from-nought, from-half}
 
@@ -57,7 +57,7 @@ minus-half-has = (refl, refl)
 -- ---- what the second fraction is added to
 module _ (g : Float) where
   abbrev pub Rounded : Float → ℕ → ℕ → Type 0
-  Rounded f A B = Once (sumFractions f g .carry) (split f g .carry) (split f g .borrow) (split f g .fraction) A B
+  Rounded f A B = Once (sumFractions f g .carry) (joinedFractions f g .carry) (joinedFractions f g .borrow) (joinedFractions f g .fraction) A B
 
   from-zero-of : sumFractions nought g ≡ addFraction 0 (record { sum = half; correction = nought }) g
   unfolding sumFractions addFraction compensation le lt abs add sub
@@ -77,11 +77,11 @@ module _ (g : Float) where
 
 module _ (g : Float) (Q M : ℕ) (fg : T (fits binary64 g)) (vg : Val g Q M L) (g1 : M ≤ Q + H) (g2 : Q ≤ M + H) where
   at-half : (f : Float) → sumFractions f g ≡ addFraction 0 (record { sum = half; correction = nought }) g → Rounded g f (0 * L + (H + Q)) M
-  unfolding split
+  unfolding joinedFractions
   at-half f e = rw e (from-half g Q M 0 fg vg g1 g2)
 
   at-nought : (c : ℕ) (f : Float) → sumFractions f g ≡ addFraction c (record { sum = nought; correction = nought }) g → Rounded g f (c * L + Q) M
-  unfolding split
+  unfolding joinedFractions
   at-nought c f e = rw e (from-nought g Q M c fg vg g1 g2)
 
   -- a first fraction of 0, a half or minus a half

@@ -17,7 +17,7 @@ use Rattle.calendar.specs.Refusals.{validDate, nextOf, lastDate}
 use Rattle.calendar.specs.DayCount.{mjdOf, mjdNumber, civilCount}
 use Rattle.calendar.specs.Gregorian.{gregorianDate}
 use Rattle.calendar.proofs.Signs.{sub-at}
-use Rattle.calendar.proofs.Years.{later, validOf, gregorian-valid, gregorian-in-range, before-last}
+use Rattle.calendar.proofs.Years.{years-later, validOf, gregorian-valid, gregorian-in-range, before-last}
 use Rattle.calendar.proofs.Mjd.{date-of-mjd, mjd-of-date, same-answer}
 use Rattle.calendar.proofs.NextDates.{by, first-false}
 use Rattle.tai_utc.specs.Table.{fixed, starts, reached, monthNumber, monthOf}
@@ -60,7 +60,7 @@ since q (negsuc n) e = let z : true ≡ false = e in cc
 reached-on : (q i n : ℕ) → i ≤ n → ltZ (dateOf (pos i) .year) (pos q) ≡ false → ltZ (dateOf (pos n) .year) (pos q) ≡ false
 reached-on q i n g e =
     subst (λ (t : CalendarDate). ltZ (t .year) (pos q) ≡ false) (sym (at-count n))
-    (later (λ z. ltZ z (pos q) ≡ false) (since q) (i + 178141) (n + 178141) (omega arith) (subst (λ (t : CalendarDate). ltZ (t .year) (pos q) ≡ false) (at-count i) e))
+    (years-later (λ z. ltZ z (pos q) ≡ false) (since q) (i + 178141) (n + 178141) (omega arith) (subst (λ (t : CalendarDate). ltZ (t .year) (pos q) ≡ false) (at-count i) e))
 
 pub year-of : (n : ℕ) → 2437301 ≤ n → n ≤ 2441317 → (y : ℕ) × (dateOf (pos n) .year ≡ pos y) × (1961 ≤ y) × (y ≤ 1971)
 year-of n l h = go (dateOf (pos n) .year) refl (reached-on 1961 2437301 n l (subst (λ (t : CalendarDate). ltZ (t .year) (pos 1961) ≡ false) (sym first-date) refl))

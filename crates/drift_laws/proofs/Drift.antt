@@ -27,7 +27,7 @@ use Rattle.tai_utc.specs.declared.DayOffsets.{DayOffsets}
 use Rattle.scale_laws.specs.Meaning.{day}
 use Rattle.utc_scales.specs.Dates.{offsetsOf}
 use Rattle.utc_scales.specs.UtcTai.{stretchDayFraction, taiFromMidnight, taiFraction, utcToTai}
-use Rattle.utc_scales.proofs.Midnights.{midnight}
+use Rattle.utc_scales.proofs.Midnights.{midnightOfDay}
 use Rattle.utc_scales.proofs.Steps.{tai-of-day}
 use Rattle.drift_laws.specs.Drift.{rowOn, NoStep, DriftDate, driftPs, OnLine}
 use Rattle.tai_round_trip.proofs.Kept.{first-larger, changed}
@@ -93,7 +93,7 @@ module _ (n : ℕ) {d : JulianDate} (k : DriftDate n d) where
         (subst (Factor _) (whole-drift r) (factor (sec-move (2 * halfDrift r) 0 6010 drift refl (omega arith)) small)) (b .rate) (in-days (at-midnight (o .at-0h)) high low) high low
 
     abbrev t : Float
-    t = taiFromMidnight (d .jd1) (midnight (pos n)) Three (dayOf (d .jd1) (d .jd2) .fraction)
+    t = taiFromMidnight (d .jd1) (midnightOfDay (pos n)) Three (dayOf (d .jd1) (d .jd2) .fraction)
 
     t-val : Val t (whole .p) (whole .n) L
     unfolding taiFromMidnight
@@ -102,7 +102,7 @@ module _ (n : ℕ) {d : JulianDate} (k : DriftDate n d) where
     given : taiFraction fixed (d .jd1) (d .jd2) ≡ answer t
     given =
         tai-of-day fixed (d .jd1) (d .jd2) (dayOf (d .jd1) (d .jd2)) (at .given) (at .in-days) Three (ap (λ (z : ℤ). offsetsOf fixed (gregorianDate z)) (at .day) ∙ o .is)
-        ∙ ap (λ (z : ℤ). answer (taiFromMidnight (d .jd1) (midnight z) Three (dayOf (d .jd1) (d .jd2) .fraction))) (at .day)
+        ∙ ap (λ (z : ℤ). answer (taiFromMidnight (d .jd1) (midnightOfDay z) Three (dayOf (d .jd1) (d .jd2) .fraction))) (at .day)
 
     -- ---- jd1 stays
     abbrev A : ℕ

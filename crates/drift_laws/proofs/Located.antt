@@ -14,7 +14,7 @@ use Rattle.rounding.specs.Value.{Val, Rounds, InUnit, L, plusZ, minusZ}
 use Rattle.rounding.proofs.Value.{L-pos, val-move, val-scale, val-unique, abs-val, rounds-move}
 use Rattle.rounding.proofs.Own.{own, own-val}
 use Rattle.rounding.proofs.Compare.{le-says, lt-says, le-show}
-use Rattle.day_number.specs.DayNumber.{accepted, dayNumber, dayFraction, dayOf}
+use Rattle.day_number.specs.DayNumber.{accepted, dayNumber, fractionPassed, dayOf}
 use Rattle.day_number.specs.Answer.{dayNumberAndFraction}
 use Rattle.day_number.specs.Ranges.{InDays}
 use Rattle.day_number.proofs.Units.{H, H-L, E, E-L, one-L, nought-L}
@@ -153,7 +153,7 @@ module _ (n : ℕ) {d : JulianDate} (k : DriftDate n d) where
           given = answered a b taken;
           in-days = day-range a b (k .first-held) (k .second-held) (dayOf a b) (answered a b taken);
           day = r .0;
-          val = subst (λ (u : ℕ). Val (dayFraction a b) u 0 L) (r .1) (found .val);
+          val = subst (λ (u : ℕ). Val (fractionPassed a b) u 0 L) (r .1) (found .val);
         }
       where
         plain : (u : ℕ) → u + 0 < L + 0 → u < L

@@ -18,7 +18,7 @@ use Rattle.julian.specs.Worth.{Worth}
 use Rattle.tai_utc.specs.Table.{fixed}
 use Rattle.scale_laws.specs.Meaning.{Close}
 use Rattle.scale_laws.proofs.Meant.{more-close}
-use Rattle.utc_scales.specs.LargerPart.{firstIsLarger, partsAs, partsOf, putBack, placed, changeSmaller}
+use Rattle.utc_scales.specs.LargerPart.{firstIsKept, keptAs, keptParts, putBeside, placed, changeSmaller}
 use Rattle.utc_scales.specs.UtcTai.{taiFraction, refineUtcFraction, utcToTai, taiToUtc}
 use Rattle.tai_round_trip.specs.Ranges.{HalfDaySplit}
 use Rattle.tai_round_trip.specs.UtcDays.{ExactDay}
@@ -50,21 +50,21 @@ day-exchanged : {d : JulianDate} {n : ℕ} → ExactDay d n → ExactDay (exchan
 day-exchanged x = record { p = x .p; m = x .m; worth = worth-exchanged (x .worth); on = x .on }
 
 -- ---- a change of the smaller part, jd2, and the same change where it is jd1
-changed-exchanged : (f : Float → Float → Outcome Float) (d y : JulianDate) → firstIsLarger d ≡ true → firstIsLarger (exchanged d) ≡ false → changeSmaller f d ≡ answer y → changeSmaller f (exchanged d) ≡ answer (exchanged y)
-unfolding changeSmaller partsOf placed putBack
+changed-exchanged : (f : Float → Float → Outcome Float) (d y : JulianDate) → firstIsKept d ≡ true → firstIsKept (exchanged d) ≡ false → changeSmaller f d ≡ answer y → changeSmaller f (exchanged d) ≡ answer (exchanged y)
+unfolding changeSmaller keptParts placed putBeside
 changed-exchanged f d y e g h =
-    let k : onward (f (d .jd1) (d .jd2)) (placed (partsAs d true)) ≡ answer y = ap (λ (b : Bool). onward (f (partsAs d (b) .larger) (partsAs d (b) .smaller)) (placed (partsAs d (b)))) (sym e) ∙ h in
-    let (x, p, q) = came (f (d .jd1) (d .jd2)) (placed (partsAs d true)) y k in
+    let k : onward (f (d .jd1) (d .jd2)) (placed (keptAs d true)) ≡ answer y = ap (λ (b : Bool). onward (f (keptAs d (b) .larger) (keptAs d (b) .smaller)) (placed (keptAs d (b)))) (sym e) ∙ h in
+    let (x, p, q) = came (f (d .jd1) (d .jd2)) (placed (keptAs d true)) y k in
     let s : julian (d .jd1) x ≡ y = cc in
-    ap (λ (b : Bool). onward (f (partsAs (exchanged d) b .larger) (partsAs (exchanged d) b .smaller)) (placed (partsAs (exchanged d) b))) g ∙ went (placed (partsAs (exchanged d) false)) p ∙ ap (λ (z : JulianDate). answer (exchanged z)) s
+    ap (λ (b : Bool). onward (f (keptAs (exchanged d) b .larger) (keptAs (exchanged d) b .smaller)) (placed (keptAs (exchanged d) b))) g ∙ went (placed (keptAs (exchanged d) false)) p ∙ ap (λ (z : JulianDate). answer (exchanged z)) s
 
 -- ---- jd1 is the larger part of a date, and of the guesses of TAI to UTC
 module _ {a u : Float} {A up un : ℕ} (v : FirstPart a A) (w : SecondPart u up un) where
-  is-first : firstIsLarger (julian a u) ≡ true
+  is-first : firstIsKept (julian a u) ≡ true
   is-first = first-larger (v .val) (w .val) (omega (arith, v .low, w .over, L-H)) (omega (arith, v .low, w .under, L-H))
 
-  is-second : firstIsLarger (julian u a) ≡ false
-  unfolding firstIsLarger
+  is-second : firstIsKept (julian u a) ≡ false
+  unfolding firstIsKept
   is-second = le-val L-pos (abs-val (v .val)) (abs-val (w .val)) ∙ lt-leb (dist A 0 + 0) (dist up un + 0) (go (dist up un) (dist A 0) (dist-le up un (2 * L) (omega (arith, w .over)) (omega (arith, w .under))) (dist-zero A))
     where
       go : (d e : ℕ) → d ≤ 2 * L → e ≡ A → d + 0 < e + 0

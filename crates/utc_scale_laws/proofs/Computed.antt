@@ -26,7 +26,7 @@ use Rattle.tai_utc.specs.Leap.{dayOffsets, driftRate, leapAmount}
 use Rattle.shifts.specs.SmallerPart as Shifts
 use Rattle.shifts.specs.Shifts.{plus, minus, daysOf, changed, convertedBy, finiteBoth, finiteOffset}
 use Rattle.scales.specs.Conversions.{answerOf, tai-ut1}
-use Rattle.utc_scales.specs.LargerPart.{firstIsLarger, partsOf, putBack, placed, changeSmaller}
+use Rattle.utc_scales.specs.LargerPart.{firstIsKept, keptParts, putBeside, placed, changeSmaller}
 use Rattle.utc_scales.specs.Dates.{offsetAt0h, offsetsOf, midnightOf, offsetOfDate}
 use Rattle.utc_scales.specs.UtcTai.{stretchDayFraction, taiFromMidnight, taiFraction, utcToTai, moved, refined, rounds, refineUtcFraction, taiToUtc}
 use Rattle.utc_scales.specs.UtcUt1.{Scanned, noStep, step, beforeStep, timePastLeap, atMostOne, afterStep, nearStep, scanDay, untilStep, scan, adjustDut1, utcFraction, utcToUt1, ut1ToUtc}
@@ -100,7 +100,7 @@ by-calendar (ut1-utc dut1) d = refl
 unfoldable pub computed : Twenty → JulianDate → Outcome JulianDate
 unfolding answerBy divided utcToTaiBy taiBy roundsBy offsetIn scanDayBy scanBy utcBy dividedDate dayNumberAndFraction onward
     fixed monthNumber reached secondsOf startOf rateOf byRow offsetBy offsetAt inDay taiUtcOffset dayOffsets driftRate leapAmount mjdOf mjdNumber civilCount validDate nextOf next daysInMonth leapSize lengths
-    offsetAt0h offsetsOf midnightOf calendarToJulian firstIsLarger partsOf putBack placed changeSmaller stretchDayFraction taiFromMidnight moved beforeStep timePastLeap atMostOne afterStep nearStep untilStep
+    offsetAt0h offsetsOf midnightOf calendarToJulian firstIsKept keptParts putBeside placed changeSmaller stretchDayFraction taiFromMidnight moved beforeStep timePastLeap atMostOne afterStep nearStep untilStep
     finiteJd finiteArg answerOf convertedBy finiteBoth finiteOffset changed Shifts.firstIsLarger Shifts.partsOf Shifts.putBack Shifts.mapSmallerPart plus minus daysOf secondsPerDay mjdZeroPoint
     abs round ofBits ofInt add sub mul div neg lt le eq
 computed c d = literalDate (answerBy divided c d)
