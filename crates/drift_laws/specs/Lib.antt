@@ -1,0 +1,2 @@
+-- The definitions that the theorems of `drift_laws` cite.
+pub mod Drift

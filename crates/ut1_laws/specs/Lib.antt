@@ -1,0 +1,2 @@
+-- The definitions that the theorems of `ut1_laws` cite.
+pub mod Ut1

@@ -1,0 +1,1 @@
+// No code: what UTC to UT1 means from 1972 on (proofs/Ut1.antt).
