@@ -9,7 +9,7 @@ use lib.Ieee.{Float, fin, binary64, fits, round}
 use Rattle.refusals.specs.Outcome.{answer}
 use Rattle.floats.specs.Whole.{nought, half}
 use Rattle.day_number.specs.Answer.{dayNumberAndFraction}
-use Rattle.day_number.specs.ExactDay.{OnGrid, OnWideGrid, exactSum, InJulianRange, wholeDays, unitsLeft, fractionOf}
+use Rattle.day_number.specs.ExactDay.{OnGrid, OnWideGrid, gridSum, GridSumInRange, wholeDays, unitsLeft, fractionOf}
 use Rattle.day_number.proofs.ExactDay.{exact, exact-to-2-62}
 
 -- ---- the floats
@@ -68,15 +68,15 @@ nought-grid = record { units = pos 0; val = record { sign = false; size = 0; has
 
 -- ---- each sum is in the range: the first and the last of it, and 0.5
 
-pub lowest-range : InJulianRange (exactSum lowest-grid nought-grid)
+pub lowest-range : GridSumInRange (gridSum lowest-grid nought-grid)
 unfolding lowest-grid nought-grid
 lowest-range = record { low = lit≤ tt; high = lit≤ tt }
 
-pub highest-range : InJulianRange (exactSum highest-grid nought-grid)
+pub highest-range : GridSumInRange (gridSum highest-grid nought-grid)
 unfolding highest-grid nought-grid
 highest-range = record { low = lit≤ tt; high = lit≤ tt }
 
-pub largest-range : InJulianRange (exactSum largest-grid opposite-grid)
+pub largest-range : GridSumInRange (gridSum largest-grid opposite-grid)
 unfolding largest-grid opposite-grid
 largest-range = record { low = lit≤ tt; high = lit≤ tt }
 
