@@ -1,0 +1,5 @@
+-- The definitions that the contracts and the laws of `gps_weeks` cite, in the order to read them.
+pub mod WeekDate
+pub mod WeekOf
+pub mod NearDate
+pub mod FullWeek
