@@ -1,7 +1,7 @@
 -- What a week and its milliseconds mean: they are within 0.50000005 ms of the exact date, for every date with parts under 2^52 in size. Assumes nothing.
 use mathlib.Core.Path.{_≡_, refl, sym, ap, _∙_, subst}
 use Prim.Native.Nat.{ℕ, suc, _+_, _-_, _*_, _/_, _%_, _^_, _≤_, _<_}
-use native.Mathlib.Nat.{add-mul, mul-assoc, mul-comm}
+use native.Mathlib.Nat.{add-mul, mul-assoc, mul-comm, mul-le-mul-right}
 use native.Mathlib.Omega.{arith}
 use mathlib.Core.Bool.{Bool, true, false, cond}
 use lib.Dec.{T, ltb, leb}
@@ -145,6 +145,19 @@ module _ (d : JulianDate) (P N : ℕ) (s : SmallParts d) (w : Worth d P N L) (nu
 
       plain' : (a S l r : ℕ) → 2 ^ 51 * (S + 0 * L) + l ≤ 2 ^ 51 * a + r → 2 ^ 51 * S + l ≤ 2 ^ 51 * a + r
       plain' a S l r h = omega arith
+
+  -- a date from day 1 on has a day number that is not below 0
+  pub from-day-0 : N + L ≤ P → (z : ℤ) → number .day ≡ z → (n : ℕ) × (number .day ≡ pos n)
+  from-day-0 h (pos n) e = (n, e)
+  from-day-0 h (negsuc a) e =
+      let v = subst (λ (z : ℤ). 2 ^ 51 * (plusZ (i +ℤ j) + minusZ z * L) + 2 ^ 50 * L ≤ 2 ^ 51 * (plusZ z * L + near .units + minusZ (i +ℤ j)) + L) e (near .under) in
+      absurd (no (plusZ (i +ℤ j)) (minusZ (i +ℤ j)) (suc a * L) is-sum (mul-le-mul-right L (some a)) v)
+    where
+      some : (a : ℕ) → 1 ≤ suc a
+      some a = omega arith
+
+      no : (S R b : ℕ) → S + N ≡ P + R → 1 * L ≤ b → 2 ^ 51 * (S + b) + 2 ^ 50 * L ≤ 2 ^ 51 * (0 * L + near .units + R) + L → ⊥
+      no S R b s l v = omega (arith, below-one)
 
 -- document 02's way back, in exact numbers
 pub week-near : (d : JulianDate) (P N : ℕ) → SmallParts d → Worth d P N L → (t : WeekTime) → weekOf d ≡ answer t → NearWeek P N t

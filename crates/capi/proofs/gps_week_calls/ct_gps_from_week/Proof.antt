@@ -1,10 +1,9 @@
+-- `capi::gps_week_calls::ct_gps_from_week` meets its contract. Assumes nothing.
+use Rattle.c_answers.specs.Fields.{julianBytes}
+use Rattle.c_answers.proofs.Deliveries.{same-outcome}
 use borrow.Author.Needs.{needs}
 use Rattle.capi.proofs.gps_week_calls.ct_gps_from_week.Statement.{statement}
 use Rattle.capi.proofs.gps_week_calls.ct_gps_from_week.Tie as tie
-use Rattle.capi.proofs.gps_week_calls.ct_gps_from_week.Reads as reads
-use Rattle.capi.proofs.gps_week_calls.ct_gps_from_week.Lts as lts
-use Rattle.capi.proofs.scale_calls.put_gps.Reads as put-gps-reads
-use Rattle.gps_weeks.proofs.from_week.Reads as from-week-reads
 
 from-week-requires : tie.Need-from-week-requires
 from-week-requires c κs = search needs
@@ -16,7 +15,9 @@ same-length : tie.Need-same-length
 same-length c = search needs
 
 returns : tie.Need-returns
-returns c = ?
+returns c =
+    let p = c .before .before in
+    same-outcome julianBytes (p .put-gps .ok) (p .before .before .from-week .ensures) (p .put-gps .ensures)
 
 pub ct-gps-from-week-spec : {M : Type 1} → statement M
 ct-gps-from-week-spec =

@@ -1,10 +1,11 @@
+-- `capi::gps_week_calls::put_week` meets its contract. Assumes nothing.
+use mathlib.Core.Path.{ap}
+use Rattle.gps_weeks.specs.WeekOf.{weekOutcome}
+use Rattle.c_answers.proofs.Deliveries.{answered, refused-on}
+use Rattle.capi.specs.WeekBytes.{weekBytes}
 use borrow.Author.Needs.{needs}
 use Rattle.capi.proofs.gps_week_calls.put_week.Statement.{statement}
 use Rattle.capi.proofs.gps_week_calls.put_week.Tie as tie
-use Rattle.capi.proofs.gps_week_calls.put_week.Reads as reads
-use Rattle.capi.proofs.gps_week_calls.put_week.Lts as lts
-use Rattle.c_answers.proofs.fields.put_two_numbers.Reads as put-two-numbers-reads
-use Rattle.c_answers.proofs.refused.Reads as refused-reads
 
 enum-known-found : tie.Need-enum-known-found
 enum-known-found c = search needs
@@ -22,10 +23,14 @@ same-length : tie.Need-same-length
 same-length c = search needs
 
 returns : tie.Need-returns
-returns c = ?
+unfolding weekOutcome weekBytes
+returns c =
+    let p = c .before .before in
+    answered weekBytes (p .put-two-numbers .ok) _ (ap weekOutcome (p .before .before .before .found .given .1)) (p .put-two-numbers .ensures)
 
 returns-2 : tie.Need-returns-2
-returns-2 c = ?
+unfolding weekOutcome
+returns-2 c = refused-on weekBytes (c .refused .ok) _ (ap weekOutcome (c .before .before .found2 .given .1)) (c .refused .ensures)
 
 pub put-week-spec : {M : Type 1} → statement M
 put-week-spec =
