@@ -1,1 +1,1 @@
-// The laws of GPS weeks: what a week and its milliseconds mean as an exact date, and the round trip. No code.
+// No code: what the calls of gps_weeks mean in exact milliseconds (proofs/NearDates.antt), the round trip (proofs/RoundTrip.antt), and when they refuse (proofs/Refusals.antt).
