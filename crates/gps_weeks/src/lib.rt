@@ -46,6 +46,8 @@ const FIRST_MILLI: u64 = 211_182_768_000_000;
 // No day from this on is in a week up to LAST_WEEK, whatever its fraction; it keeps the count below small.
 const PAST_ALL_WEEKS: u64 = 4_000_000;
 
+const TWO_52: f64 = 4503599627370496.0;
+
 // A ten-bit week is below this.
 const TEN_BITS: u32 = 1024;
 
@@ -88,11 +90,15 @@ fn from_zero(count: i64) -> u64
     if count < 0 { 0 } else { count as u64 }
 }
 
-// The milliseconds of a fraction of a day, a half going up.
+// The milliseconds of a fraction of a day, a half going up. Nearly every count is from 1 to 2^52, where one cast does.
 fn millis_of(fraction: f64) -> u64
     ensures { λ r. ⌜ (r ≡ millisOf fraction) × (r ≤ 9223372036854775807) ⌝ }
 {
-    from_zero(floats::saturating_i64(floats::round(fraction * 86400000.0)))
+    let rounded = floats::round(fraction * 86400000.0);
+    if rounded >= 1.0 && rounded < TWO_52 {
+        return std::num::truncating_f64_to_u64(rounded);
+    }
+    from_zero(floats::saturating_i64(rounded))
 }
 
 // The week of so many milliseconds since midnight of day 0.
