@@ -143,9 +143,9 @@ int64_t ct_same_stamp(uint32_t scale, uint64_t jd1, uint64_t jd2, uint32_t other
    under 2^52 in size is answered. */
 int64_t ct_compare(double jd1, double jd2, double other1, double other2);
 
-/* The days from the other date to this, rounded. Its sign is no order: for dates that are split
-   differently it can be 0 or of the wrong sign where today's dates are under a microsecond apart. Sort
-   by ct_compare. */
+/* The days from the other date to this, rounded. Never of the wrong sign, but 0.0 also for some dates
+   that differ, of today's under a microsecond apart, so that it is no order to sort by: use ct_compare.
+   The difference of two dates with the same infinity in the same part is a NaN. */
 double ct_difference(double jd1, double jd2, double other1, double other2);
 
 /* ---- TAI-UTC */
@@ -184,6 +184,24 @@ int64_t ct_ut1_to_tai_with_offset(double jd1, double jd2, double seconds, uint8_
 int64_t ct_tai_to_ut1_with_offset(double jd1, double jd2, double seconds, uint8_t *out, size_t out_len);
 int64_t ct_ut1_to_tt_with_delta_t(double jd1, double jd2, double seconds, uint8_t *out, size_t out_len);
 int64_t ct_tt_to_ut1_with_delta_t(double jd1, double jd2, double seconds, uint8_t *out, size_t out_len);
+
+/* ---- GPS weeks, counted from 1980-01-06 0h GPS: week 0 */
+
+/* The GPS date of a week, 0 to 100,000, and a millisecond of it, below 604,800,000: its day's midnight
+   in jd1, the milliseconds of the day as a part of a day in jd2; 16 bytes. Refuses 18; 11. Week 100001
+   with no byte is 18. Weeks 1024 and 2048 begin on 1999-08-22 and 2019-04-07. */
+int64_t ct_gps_from_week(uint32_t week, uint32_t millis, uint8_t *out, size_t out_len);
+
+/* The week of a GPS date and the nearest millisecond of it, a half going up: 4 bytes each; 8 bytes. The
+   date of ct_gps_from_week comes back as its week and millisecond. Refuses 9; then 6; then 18, where the
+   rounded date is before week 0 or after week 100,000; 11. (infinity, -infinity) is 9, (1.7e308, 1.7e308)
+   is 6, and (2444244.5, -1.0) with no byte is 18; half a millisecond before 2444244.5 is week 0. */
+int64_t ct_gps_to_week(double jd1, double jd2, uint8_t *out, size_t out_len);
+
+/* The week whose ten lowest bits are `ten_bits` and that lies nearest the reference week and is not below
+   0: ten bits of 1023 at the reference 0 are week 1023. Refuses 18 for ten bits above 1,023 or a reference
+   above 99,000; then 19, where two weeks are equally near. (1024, 512) is 18, and (0, 512) is 19. */
+int64_t ct_gps_full_week(uint32_t ten_bits, uint32_t reference);
 
 /* ---- UTC: on a day that ends in a leap second, jd2 runs to the end of its 86,401 seconds */
 
