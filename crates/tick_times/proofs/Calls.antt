@@ -39,7 +39,7 @@ module _ (ps ms ts out : List ℕ) where
   unfolding ticksOutcome onward lentAfter
   written-call out' k ek e eo =
       let z : refusedBy ps ms ts (length out) ≡ 0 = sym ek ∙ e in
-      let f = λ (x : ℕ). millisAt (passesOf ps ms) (number ts x) in
+      let f : ℕ → ℕ = λ x. millisAt (passesOf ps ms) (number ts x) in
       let n : length (bytesOf f (count ts)) ≡ length ts = length-bytes f (count ts) ∙ eights (length ts) (accepted ps ms ts (length out) z .ticks-whole) in
       rw (is-answer z)
       (record {

@@ -63,12 +63,12 @@ module _ (f : ℕ → ℕ) (k : ℕ) (out₀ : List ℕ) where
         len = ap length eo ∙ length-sets out (8 * i) (eightBytes m) ∙ p .len;
         near = near;
         done =
-        ap (λ (x : ℕ). take x out') q ∙ ap (take (8 * i + 8)) eo ∙ put-take out (8 * i) m w
-        ∙ ap (λ (l : List ℕ). l ++ eightBytes m) (p .done)
-        ∙ ap (λ (x : ℕ). bytesOf f i ++ eightBytes x) em
-        ∙ ap (bytesOf f) (sym (add-one i));
+            ap (λ (x : ℕ). take x out') q ∙ ap (take (8 * i + 8)) eo ∙ put-take out (8 * i) m w
+            ∙ ap (λ (l : List ℕ). l ++ eightBytes m) (p .done)
+            ∙ ap (λ (x : ℕ). bytesOf f i ++ eightBytes x) em
+            ∙ ap (bytesOf f) (sym (add-one i));
         rest =
-        ap (λ (x : ℕ). drop x out') q ∙ ap (drop (8 * i + 8)) eo ∙ put-drop out (8 * i) m w ∙ later out out₀ (8 * i) (p .rest) ∙ ap (λ (x : ℕ). drop x out₀) (sym q);
+            ap (λ (x : ℕ). drop x out') q ∙ ap (drop (8 * i + 8)) eo ∙ put-drop out (8 * i) m w ∙ later out out₀ (8 * i) (p .rest) ∙ ap (λ (x : ℕ). drop x out₀) (sym q);
       }
 
   pub placing-ends : (out : List ℕ) (i j n : ℕ) → Placing f k out₀ out i j → i ≡ n → out ≡ bytesOf f n ++ drop (8 * n) out₀

@@ -22,13 +22,13 @@ number-at-requires : tie.Need-number-at-requires Inv-loop μ-loop
 number-at-requires c κs = omega (arith, c .before .before .before .pre, c .loop-test .taken)
 
 returns : tie.Need-returns Inv-loop μ-loop
-returns c = 
+returns c =
     let l = c .before .before .before in
     let a = l .before .before .args in
     inside-stops-low (number (a .s .now)) (a .n) (l .loop .i) (c .before .number-at .result) (c .before .number-at .ensures) (a .first) (a .last) (c .before .before .loop-test .taken) (c .if1 .taken)
 
 returns-2 : tie.Need-returns-2 Inv-loop μ-loop
-returns-2 c = 
+returns-2 c =
     let q = c .before .before in
     let l = q .before .before in
     let a = l .before .before .args in
@@ -41,14 +41,14 @@ loop-less : tie.Need-loop-less Inv-loop μ-loop
 loop-less c = omega (arith, c .before .before .before .loop-test .taken)
 
 loop-again : tie.Need-loop-again Inv-loop μ-loop
-loop-again c = 
+loop-again c =
     let q = c .before .before in
     let l = q .before .before in
     let a = l .before .before .args in
     (omega (arith, q .before .loop-test .taken), inside-more (number (a .s .now)) (a .n) (l .loop .i) (q .number-at .result) (q .number-at .ensures) (a .first) (a .last) (l .loop .inv .1) (c .before .if1 .left) (c .if2 .left))
 
 returns-3 : tie.Need-returns-3 Inv-loop μ-loop
-returns-3 c = 
+returns-3 c =
     let l = c .before in
     let a = l .before .before .args in
     inside-ends (number (a .s .now)) (a .n) (l .loop .i) (a .first) (a .last) (l .loop .inv .0) (c .loop-test .left) (l .loop .inv .1)

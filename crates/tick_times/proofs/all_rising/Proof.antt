@@ -31,7 +31,7 @@ number-at-requires-2 : tie.Need-number-at-requires-2 Inv-loop μ-loop
 number-at-requires-2 c κs = omega (arith, c .before .loop-test .taken, c .before .before .before .before .pre)
 
 returns : tie.Need-returns Inv-loop μ-loop
-returns c = 
+returns c =
     let q = c .before .before in
     let l = q .before .before in
     let a = l .before .before .args in
@@ -44,14 +44,14 @@ loop-less : tie.Need-loop-less Inv-loop μ-loop
 loop-less c = omega (arith, c .before .before .before .loop-test .taken)
 
 loop-again : tie.Need-loop-again Inv-loop μ-loop
-loop-again c = 
+loop-again c =
     let q = c .before .before in
     let l = q .before .before in
     let a = l .before .before .args in
     (omega (arith, q .before .loop-test .taken), rising-more (number (a .s .now)) (a .n) (l .loop .i) (c .before .number-at2 .result) (c .before .number-at2 .ensures) (q .number-at .result) (q .number-at .ensures) (l .loop .inv .1) (c .if1 .left))
 
 returns-2 : tie.Need-returns-2 Inv-loop μ-loop
-returns-2 c = 
+returns-2 c =
     let l = c .before in
     let a = l .before .before .args in
     rising-ends (number (a .s .now)) (a .n) (l .loop .i) (l .loop .inv .0) (c .loop-test .left) (l .loop .inv .1)

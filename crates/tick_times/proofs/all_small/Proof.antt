@@ -22,7 +22,7 @@ number-at-requires : tie.Need-number-at-requires Inv-loop μ-loop
 number-at-requires c κs = omega (arith, c .before .before .before .pre)
 
 returns : tie.Need-returns Inv-loop μ-loop
-returns c = 
+returns c =
     let l = c .before .before .before in
     let a = l .before .before .args in
     small-stops (number (a .s .now)) (a .n) (l .loop .i) (c .before .number-at .result) (c .before .number-at .ensures) (c .before .before .loop-test .taken) (c .if1 .taken)
@@ -34,13 +34,13 @@ loop-less : tie.Need-loop-less Inv-loop μ-loop
 loop-less c = omega (arith, c .before .before .loop-test .taken)
 
 loop-again : tie.Need-loop-again Inv-loop μ-loop
-loop-again c = 
+loop-again c =
     let l = c .before .before .before in
     let a = l .before .before .args in
     (omega (arith, c .before .before .loop-test .taken), small-more (number (a .s .now)) (a .n) (l .loop .i) (c .before .number-at .result) (c .before .number-at .ensures) (l .loop .inv .1) (c .if1 .left))
 
 returns-2 : tie.Need-returns-2 Inv-loop μ-loop
-returns-2 c = 
+returns-2 c =
     let l = c .before in
     let a = l .before .before .args in
     small-ends (number (a .s .now)) (a .n) (l .loop .i) (l .loop .inv .0) (c .loop-test .left) (l .loop .inv .1)

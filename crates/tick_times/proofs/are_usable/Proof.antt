@@ -9,17 +9,17 @@ use Rattle.tick_times.proofs.are_usable.Statement.{statement}
 use Rattle.tick_times.proofs.are_usable.Tie as tie
 
 returns : tie.Need-returns
-returns c = 
+returns c =
     let a = c .before .before .before .args in
     unequal (a .passes .now) (a .millis .now) (c .if1 .taken)
 
 returns-2 : tie.Need-returns-2
-returns-2 c = 
+returns-2 c =
     let a = c .before .before .before .before .args in
     too-few (a .passes .now) (a .millis .now) (c .before .if1 .left) (c .if2 .taken)
 
 returns-3 : tie.Need-returns-3
-returns-3 c = 
+returns-3 c =
     let a = c .before .before .before .before .before .args in
     too-many (a .passes .now) (a .millis .now) (c .before .before .if1 .left) (c .before .if2 .left) (c .if3 .taken)
 
@@ -30,13 +30,13 @@ all-small-requires-2 : tie.Need-all-small-requires-2
 all-small-requires-2 c κs = search needs
 
 returns-4 : tie.Need-returns-4
-returns-4 c = 
+returns-4 c =
     let a = c .before .before .before .before .before .before .before .before .args in
     let q = c .before .before in
     by-size (a .passes .now) (a .millis .now) true (c .all-small2 .result) (c .before .before .before .before .before .if1 .left) (c .before .before .before .before .if2 .left) (c .before .before .before .if3 .left) (sym (c .before .if4 .taken) ∙ q .all-small .ensures) (c .all-small2 .ensures)
 
 returns-5 : tie.Need-returns-5
-returns-5 c = 
+returns-5 c =
     let a = c .before .before .before .before .before .before .before .args in
     let q = c .before in
     c .if4 .left

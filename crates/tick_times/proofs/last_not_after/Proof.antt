@@ -15,7 +15,7 @@ abbrev μ-loop : tie.MeasureT-loop
 μ-loop passes low high t from₀ to₀ from to = to - from
 
 loop-holds : tie.Need-loop-holds Inv-loop μ-loop
-loop-holds c = 
+loop-holds c =
     let s = c .before in
     seek-starts (number (s .args .passes .now)) (s .args .low) (s .args .high) (s .args .t) (s .pre)
 
@@ -32,7 +32,7 @@ loop-less : tie.Need-loop-less Inv-loop μ-loop
 loop-less c = omega (arith, c .before .before .loop-test .taken)
 
 loop-again : tie.Need-loop-again Inv-loop μ-loop
-loop-again c = 
+loop-again c =
     let l = c .before .before .before in
     let a = l .before .before .args in
     seek-up (number (a .passes .now)) (a .low) (a .high) (a .t) (l .loop .from) (l .loop .to) (l .loop .inv) (c .before .before .loop-test .taken) _ (c .before .number-at .result) refl (c .before .number-at .ensures) (c .if1 .taken)
@@ -44,13 +44,13 @@ loop-less-2 : tie.Need-loop-less-2 Inv-loop μ-loop
 loop-less-2 c = omega (arith, c .before .before .loop-test .taken)
 
 loop-again-2 : tie.Need-loop-again-2 Inv-loop μ-loop
-loop-again-2 c = 
+loop-again-2 c =
     let l = c .before .before .before in
     let a = l .before .before .args in
     seek-down (number (a .passes .now)) (a .low) (a .high) (a .t) (l .loop .from) (l .loop .to) (l .loop .inv) (c .before .before .loop-test .taken) _ (c .before .number-at .result) refl (c .before .number-at .ensures) (c .if1 .left)
 
 returns : tie.Need-returns Inv-loop μ-loop
-returns c = 
+returns c =
     let l = c .before in
     let a = l .before .before .args in
     seek-ends (number (a .passes .now)) (a .low) (a .high) (a .t) (l .loop .from) (l .loop .to) (l .loop .inv) (c .loop-test .left)

@@ -38,7 +38,7 @@ along-requires : tie.Need-along-requires
 along-requires c κs = search needs
 
 add-result : tie.Need-add-result
-add-result c = 
+add-result c =
     let q = c .before in
     let n1 = q .before .before .before .number-at in
     let n2 = q .before .before .number-at2 in
@@ -48,7 +48,7 @@ add-result c =
     record { fits = omega (arith, line-under (n1 .result) (n2 .result) (n3 .result) (n4 .result) (s .args .t) (c .along .result) (c .along .ensures) (omega (arith, s .pre .to, n2 .ensures)) (omega (arith, s .pre .millis-rise, n3 .ensures, n4 .ensures)), s .pre .millis-small, n4 .ensures) }
 
 returns : tie.Need-returns
-returns c = 
+returns c =
     let q = c .before in
     let n1 = q .before .before .before .number-at in
     let n2 = q .before .before .number-at2 in

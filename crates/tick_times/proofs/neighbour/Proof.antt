@@ -13,7 +13,7 @@ last-not-after-requires : tie.Need-last-not-after-requires
 last-not-after-requires c κs = search needs
 
 returns : tie.Need-returns
-returns c = 
+returns c =
     let s = c .before .before .before .before in
     let q = c .before .before in
     let f = number (s .args .passes .now) in
@@ -26,7 +26,7 @@ last-not-after-requires-2 : tie.Need-last-not-after-requires-2
 last-not-after-requires-2 c κs = search needs
 
 returns-2 : tie.Need-returns-2
-returns-2 c = 
+returns-2 c =
     let s = c .before .before .before .before .before in
     found-last (number (s .args .passes .now)) (s .args .t) (s .args .k) (s .pre .rises) (s .args .j) (c .last-not-after2 .result) (c .last-not-after2 .ensures)
 
@@ -37,7 +37,7 @@ number-at-requires-2 : tie.Need-number-at-requires-2
 number-at-requires-2 c κs = search needs
 
 returns-3 : tie.Need-returns-3
-returns-3 c = 
+returns-3 c =
     let s = c .before .before .before .before .before .before in
     last-only (number (s .args .passes .now)) (s .args .t) (s .args .k) (s .pre .rises) (s .args .j) (s .pre .near) (omega (arith, c .before .before .before .before .number-at .ensures, c .before .before .before .if1 .left)) (λ w. omega (arith, c .before .number-at2 .ensures, c .if3 .taken))
 
@@ -57,7 +57,7 @@ last-not-after-requires-3 : tie.Need-last-not-after-requires-3
 last-not-after-requires-3 c κs = search needs
 
 returns-4 : tie.Need-returns-4
-returns-4 c = 
+returns-4 c =
     let s = c .before .before .before .before .before .before .before .before .before in
     let q = c .before .before in
     found-below (number (s .args .passes .now)) (s .args .t) (s .args .k) (s .pre .rises) _ _ (c .last-not-after3 .result) (omega (arith, c .before .before .before .before .before .if2 .left)) (omega (arith, q .number-at3 .ensures, c .before .if4 .taken)) (c .last-not-after3 .ensures)
@@ -69,7 +69,7 @@ last-not-after-requires-4 : tie.Need-last-not-after-requires-4
 last-not-after-requires-4 c κs = search needs
 
 returns-5 : tie.Need-returns-5
-returns-5 c = 
+returns-5 c =
     let s = c .before .before .before .before .before .before .before .before .before in
     found-last (number (s .args .passes .now)) (s .args .t) (s .args .k) (s .pre .rises) _ (c .last-not-after4 .result) (c .last-not-after4 .ensures)
 

@@ -17,7 +17,7 @@ abbrev μ-loop : tie.MeasureT-loop
 μ-loop passes millis k ticks n out₀ j₀ i₀ out j i = n - i
 
 loop-holds : tie.Need-loop-holds Inv-loop μ-loop
-loop-holds c = 
+loop-holds c =
     let s = c .before .before .before .before in
     let a = s .args in
     (omega arith, placing-starts (λ x. millisAt (passesOf (a .passes .now) (a .millis .now)) (number (a .ticks .now) x)) (a .k) (a .out .now))
@@ -26,14 +26,14 @@ number-at-requires : tie.Need-number-at-requires Inv-loop μ-loop
 number-at-requires c κs = omega (arith, c .loop-test .taken, c .before .before .before .before .before .before .pre .0 .many)
 
 neighbour-requires : tie.Need-neighbour-requires Inv-loop μ-loop
-neighbour-requires c κs = 
+neighbour-requires c κs =
     let l = c .before .before in
     let s = c .before .before .before .before .before .before .before in
     let a = s .args in
     subst (λ (t : ℕ). Near (number (a .passes .now)) (a .k) (l .loop .j) t) (sym (c .number-at .ensures)) (near (passesOf (a .passes .now) (a .millis .now)) (a .k) (a .n) (number (a .ticks .now)) (s .pre .0) (l .loop .i) (c .before .loop-test .taken) (l .loop .j) (l .loop .inv .1 .near))
 
 millis-between-requires : tie.Need-millis-between-requires Inv-loop μ-loop
-millis-between-requires c κs = 
+millis-between-requires c κs =
     let l = c .before .before .before in
     let s = c .before .before .before .before .before .before .before .before in
     let a = s .args in
@@ -44,7 +44,7 @@ mul-put-number : tie.Need-mul-put-number Inv-loop μ-loop
 mul-put-number c = record { fits = omega (arith, c .before .before .before .before .loop-test .taken, c .before .before .before .before .before .before .before .before .before .before .pre .0 .many) }
 
 put-number-requires : tie.Need-put-number-requires Inv-loop μ-loop
-put-number-requires c κs = 
+put-number-requires c κs =
     let l = c .before .before .before .before .before in
     let s = c .before .before .before .before .before .before .before .before .before .before in
     let a = s .args in
@@ -64,18 +64,19 @@ loop-again c =
     let a = s .args in
     let h = t .before .loop-test .taken in
     let j = c .before .before .before .before .before .neighbour .result in
-    let e = c .before .before .before .before .before .neighbour .ensures ∙ ap (λ (x : ℕ). lastNotAfter (number (a .passes .now)) x (a .k)) (t .number-at .ensures) in
-    (omega (arith, h),
-    placing-goes (λ x. millisAt (passesOf (a .passes .now) (a .millis .now)) (number (a .ticks .now) x)) (a .k) (a .out .now) (l .loop .out) _ (l .loop .i) (l .loop .j) j (c .before .before .before .before .millis-between .result) (a .n) (l .loop .inv .1) h (s .pre .1)
-    (still-near (passesOf (a .passes .now) (a .millis .now)) (a .k) (a .n) (number (a .ticks .now)) (s .pre .0) (l .loop .i) h j e)
-    (c .before .before .before .before .millis-between .ensures ∙ ap (between (passesOf (a .passes .now) (a .millis .now)) j) (t .number-at .ensures) ∙ millis-is (passesOf (a .passes .now) (a .millis .now)) (a .k) (a .n) (number (a .ticks .now)) (s .pre .0) (l .loop .i) h j e)
-    (c .before .before .put-number .ensures))
+    let e = c .before .before .before .before .before .neighbour .ensures ∙ ap (λ (x : ℕ). lastNotAfter (number (a .passes .now)) x (a .k)) (t .number-at .ensures) in (
+      omega (arith, h),
+      placing-goes (λ x. millisAt (passesOf (a .passes .now) (a .millis .now)) (number (a .ticks .now) x)) (a .k) (a .out .now) (l .loop .out) _ (l .loop .i) (l .loop .j) j (c .before .before .before .before .millis-between .result) (a .n) (l .loop .inv .1) h (s .pre .1)
+          (still-near (passesOf (a .passes .now) (a .millis .now)) (a .k) (a .n) (number (a .ticks .now)) (s .pre .0) (l .loop .i) h j e)
+          (c .before .before .before .before .millis-between .ensures ∙ ap (between (passesOf (a .passes .now) (a .millis .now)) j) (t .number-at .ensures) ∙ millis-is (passesOf (a .passes .now) (a .millis .now)) (a .k) (a .n) (number (a .ticks .now)) (s .pre .0) (l .loop .i) h j e)
+          (c .before .before .put-number .ensures),
+    )
 
 same-length : tie.Need-same-length Inv-loop μ-loop
 same-length c = c .before .loop .inv .1 .len
 
 returns : tie.Need-returns Inv-loop μ-loop
-returns c = 
+returns c =
     let l = c .before in
     let s = c .before .before .before .before .before .before in
     let a = s .args in

@@ -11,22 +11,22 @@ use Rattle.tick_times.proofs.refused_by.Statement.{statement}
 use Rattle.tick_times.proofs.refused_by.Tie as tie
 
 returns : tie.Need-returns
-returns c = 
+returns c =
     let a = c .before .before .before .before .args in
     broken-passes (a .passes .now) (a .millis .now) (a .ticks .now) (a .room) (c .if1 .taken)
 
 returns-2 : tie.Need-returns-2
-returns-2 c = 
+returns-2 c =
     let a = c .before .before .before .before .before .args in
     broken-millis (a .passes .now) (a .millis .now) (a .ticks .now) (a .room) (c .before .if1 .left) (c .if2 .taken)
 
 returns-3 : tie.Need-returns-3
-returns-3 c = 
+returns-3 c =
     let a = c .before .before .before .before .before .before .args in
     broken-ticks (a .passes .now) (a .millis .now) (a .ticks .now) (a .room) (c .before .before .if1 .left) (c .before .if2 .left) (c .if3 .taken)
 
 returns-4 : tie.Need-returns-4
-returns-4 c = 
+returns-4 c =
     let a = c .before .before .before .before .before .before .before .args in
     no-room (a .passes .now) (a .millis .now) (a .ticks .now) (a .room) (record { passes = c .before .before .before .if1 .left; millis = c .before .before .if2 .left; ticks = c .before .if3 .left }) (c .if4 .taken)
 
@@ -34,12 +34,12 @@ are-usable-requires : tie.Need-are-usable-requires
 are-usable-requires c κs = search needs
 
 returns-5 : tie.Need-returns-5
-returns-5 c = 
+returns-5 c =
     let a = c .before .before .before .before .before .before .before .before .before .args in
     not-usable (a .passes .now) (a .millis .now) (a .ticks .now) (a .room) (record { passes = c .before .before .before .before .before .if1 .left; millis = c .before .before .before .before .if2 .left; ticks = c .before .before .before .if3 .left }) (c .before .before .if4 .left) (sym (c .before .are-usable .ensures) ∙ not-true _ (c .if5 .taken))
 
 all-rising-requires : tie.Need-all-rising-requires
-all-rising-requires c κs = 
+all-rising-requires c κs =
     let a = c .before .before .before .before .before .before .before .before .before .args in
     let u = usable-is (a .passes .now) (a .millis .now) (sym (c .before .are-usable .ensures) ∙ not-false _ (c .if5 .left)) in
     (omega (arith, u .two), u .most)
