@@ -4,4 +4,5 @@ pub mod calendar_calls;
 pub mod date_calls;
 pub mod offset_calls;
 pub mod scale_calls;
+pub mod tick_calls;
 pub mod utc_calls;

@@ -6,7 +6,7 @@ use mathlib.Core.Bool.{Bool, true, false, cond}
 use mathlib.Core.List.{List, _++_}
 use lib.ListN.{length, drop, length-append}
 use lib.Dec.{eqb}
-use borrow.Author.Tests.{eq-eqb, ne-eqb}
+use borrow.Author.Tests.{eqb-true, ne-eqb}
 use Rattle.refusals.specs.Outcome.{Outcome, answer, refusal, onward}
 use Rattle.little_endian.specs.LittleEndian.{eightBytes}
 use Rattle.tick_times.specs.declared.TicksAnswer.the-variants.{Written, Refused}
@@ -49,3 +49,14 @@ module _ (ps ms ts out : List ℕ) where
     where
       eights : (m : ℕ) → m % 8 ≡ 0 → 8 * (m / 8) ≡ m
       eights m h = omega arith
+
+-- an answer fits the room
+pub placed-fits : (ps ms ts : List ℕ) (room : ℕ) (b : List ℕ) → placedTicks ps ms ts room ≡ answer b → length b ≤ room
+unfolding placedTicks
+placed-fits ps ms ts room b = go (eqb (refusedBy ps ms ts room) 0) refl
+  where
+    go : (t : Bool) → eqb (refusedBy ps ms ts room) 0 ≡ t → cond t (answer (bytesOf (λ x. millisAt (passesOf ps ms) (number ts x)) (count ts))) (refusal (refusedBy ps ms ts room)) ≡ answer b → length b ≤ room
+    go true e h =
+        let s : bytesOf (λ x. millisAt (passesOf ps ms) (number ts x)) (count ts) ≡ b = cc in
+        omega (arith, ap length s, length-bytes (λ x. millisAt (passesOf ps ms) (number ts x)) (count ts), accepted ps ms ts room (eqb-true (refusedBy ps ms ts room) 0 e) .fits)
+    go false e h = let z : _≡_ {A = ℕ} 0 1 = cc in absurd (omega arith)
