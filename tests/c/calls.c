@@ -4,6 +4,7 @@
    The answers are document 01's, whole numbers of seconds, or ERFA's. */
 #include "lent.h"
 #include "scale_calls.h"
+#include "tick_calls.h"
 
 static void month_lengths(void)
 {
@@ -225,5 +226,6 @@ int main(void)
     utc_and_ut1();
     utc_texts();
     block_calls();
+    tick_calls();
     return summary("calls");
 }
