@@ -17,9 +17,9 @@ use Rattle.tick_times.proofs.Checks.{below, step, held}
 use Rattle.tick_times.proofs.Ladder.{Accepted, accepted, passes-two, all-good, Usable, usable-is}
 use Rattle.tick_laws.specs.Sound.{Sound, Inside}
 
-module _ (ps ms ts : List ℕ) (room : ℕ) (few : count ts < 0x2000_0000_0000_0000) (e : refusedBy ps ms ts room ≡ 0) where
-  good : Good (passesOf ps ms) (count ps - 2) (count ts) (number ts)
-  good = all-good ps ms ts room (accepted ps ms ts room e) (count ps - 2) refl few
+module _ (ps ms ts : List ℕ) (room : ℕ) (e : refusedBy ps ms ts room ≡ 0) where
+  good : Good ps ms (count ps - 2) (count ts) ts
+  good = all-good ps ms ts room (accepted ps ms ts room e) (count ps - 2) refl
 
   two : 2 ≤ count ps
   two = passes-two ps ms ts room (accepted ps ms ts room e)

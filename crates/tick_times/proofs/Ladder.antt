@@ -155,13 +155,15 @@ module _ (ps ms ts : List ℕ) (room : ℕ) (a : Accepted ps ms ts room) where
   unfolding rising
   step-at f e i h = ltb-true (f i) (f (i + 1)) (every-at (step f) (count ps - 1) e i h)
 
-  pub all-good : (k : ℕ) → k ≡ count ps - 2 → count ts < 0x2000_0000_0000_0000 → Good (passesOf ps ms) k (count ts) (number ts)
-  all-good k e many =
+  pub all-good : (k : ℕ) → k ≡ count ps - 2 → Good ps ms k (count ts) ts
+  all-good k e =
       let last : count ps - 1 ≡ k + 1 = omega (arith, u .two) in
       record {
         size = omega (arith, u .two);
         few = omega (arith, u .most);
-        many = many;
+        ticks-there = omega (arith, u .two);
+        millis-there = omega (arith, u .two, u .equal);
+        there = omega arith;
         ticks-rise = λ i h. step-at (number ps) (risen .0) i (omega arith);
         millis-rise = λ i h. step-at (number ms) (risen .1) i (omega arith);
         ticks-small = λ i h. small-at (number ps) (u .ticks) i (omega (arith, u .two));

@@ -9,7 +9,7 @@ use mathlib.Core.Bool.{Bool, true, false, cond}
 use lib.Dec.{leb}
 use borrow.Author.Tests.{leb-true, leb-false}
 use Rattle.tick_times.specs.Passes.{lastNotAfter}
-use Rattle.tick_times.specs.Asked.{Rises, Sought, Found}
+use Rattle.tick_times.specs.Asked.{Rises, Found}
 
 -- ---- halving
 pub record Seeking (tick : ℕ → ℕ) (low high t from to : ℕ) : Type 0 where
@@ -20,8 +20,8 @@ pub record Seeking (tick : ℕ → ℕ) (low high t from to : ℕ) : Type 0 wher
   pub next : to < high → t < tick (to + 1)
 
 module _ (tick : ℕ → ℕ) (low high t : ℕ) where
-  pub seek-starts : Sought tick low high t → Seeking tick low high t low high
-  seek-starts s = record { under = le-refl low; order = s .order; over = le-refl high; at = s .from; next = λ h. absurd (omega arith) }
+  pub seek-starts : low ≤ high → tick low ≤ t → Seeking tick low high t low high
+  seek-starts o f = record { under = le-refl low; order = o; over = le-refl high; at = f; next = λ h. absurd (omega arith) }
 
   module _ (from to : ℕ) (s : Seeking tick low high t from to) (h : from < to) (m r : ℕ) (em : m ≡ to - (to - from) / 2) (er : r ≡ tick m) where
     pub seek-up : r ≤ t → Seeking tick low high t m to

@@ -19,7 +19,7 @@ pub enum TicksAnswer {
 }
 
 // a * c / d, whose product may pass 64 bits: a is split into halves of 20 bits.
-fn along(a: u64, c: u64, d: u64) -> u64
+fn by_halves(a: u64, c: u64, d: u64) -> u64
     requires { ⌜ (a < 1099511627776) × (c < 1099511627776) × (0 < d) × (d < 1099511627776) × (a ≤ d) ⌝ }
     ensures { λ r. ⌜ r ≡ a * c / d ⌝ }
 {
@@ -31,17 +31,30 @@ fn along(a: u64, c: u64, d: u64) -> u64
     quotient * 1048576 + (rest * 1048576 + low * c) / d
 }
 
-// Number i of a list.
+// The same; where a has no higher half the product fits.
+fn along(a: u64, c: u64, d: u64) -> u64
+    requires { ⌜ (a < 1099511627776) × (c < 1099511627776) × (0 < d) × (d < 1099511627776) × (a ≤ d) ⌝ }
+    ensures { λ r. ⌜ r ≡ a * c / d ⌝ }
+{
+    if a < 1048576 {
+        return a * c / d;
+    }
+    by_halves(a, c, d)
+}
+
+// Number i of a list that has it. Read from a part of eight bytes, it needs no test of the length.
 fn number_at(s: &[u8], i: usize) -> u64
-    requires { ⌜ i < 0x2000_0000_0000_0000 ⌝ }
+    requires { ⌜ 8 * i + 8 ≤ length (now s) ⌝ }
     ensures { λ r. ⌜ r ≡ number (now (s .entry)) i ⌝ }
 {
-    little_endian::u64_at(s, 8 * i)
+    let at = 8 * i;
+    let end = at + 8;
+    little_endian::u64_at(&s[at..end], 0)
 }
 
 // Whether the first n numbers are below 2^40.
 fn all_small(s: &[u8], n: usize) -> bool
-    requires { ⌜ n ≤ 2000 ⌝ }
+    requires { ⌜ (n ≤ 2000) × (8 * n ≤ length (now s)) ⌝ }
     ensures { λ r. ⌜ r ≡ small n (number (now (s .entry))) ⌝ }
 {
     let mut i = 0;
@@ -56,7 +69,7 @@ fn all_small(s: &[u8], n: usize) -> bool
 
 // Whether each of the first n numbers but the last is below the next.
 fn all_rising(s: &[u8], n: usize) -> bool
-    requires { ⌜ (1 ≤ n) × (n ≤ 2000) ⌝ }
+    requires { ⌜ (1 ≤ n) × (n ≤ 2000) × (8 * n ≤ length (now s)) ⌝ }
     ensures { λ r. ⌜ r ≡ rising n (number (now (s .entry))) ⌝ }
 {
     let last = n - 1;
@@ -72,7 +85,7 @@ fn all_rising(s: &[u8], n: usize) -> bool
 
 // Whether the n numbers lie from `first` to `last`.
 fn all_inside(s: &[u8], n: usize, first: u64, last: u64) -> bool
-    requires { ⌜ n < 0x2000_0000_0000_0000 ⌝ }
+    requires { ⌜ 8 * n ≤ length (now s) ⌝ }
     ensures { λ r. ⌜ r ≡ inside first last n (number (now (s .entry))) ⌝ }
 {
     let mut i = 0;
@@ -91,7 +104,7 @@ fn all_inside(s: &[u8], n: usize, first: u64, last: u64) -> bool
 
 // The last of the passes `low` to `high` that is not after tick t, by halving.
 fn last_not_after(passes: &[u8], low: usize, high: usize, t: u64) -> usize
-    requires { ⌜ Sought (number (now passes)) low high t ⌝ }
+    requires { ⌜ Sought (now passes) low high t ⌝ }
     ensures { λ r. ⌜ Found (number (now (passes .entry))) low high t r ⌝ }
 {
     let mut from = low;
@@ -109,27 +122,27 @@ fn last_not_after(passes: &[u8], low: usize, high: usize, t: u64) -> usize
 
 // The last of the passes 0 to k that is not after tick t. Rising ticks find it near the last one's, j; any other is sought by halving.
 fn neighbour(passes: &[u8], k: usize, j: usize, t: u64) -> usize
-    requires { ⌜ Near (number (now passes)) k j t ⌝ }
+    requires { ⌜ Near (now passes) k j t ⌝ }
     ensures { λ r. ⌜ r ≡ lastNotAfter (number (now (passes .entry))) t k ⌝ }
 {
     if t < number_at(passes, j) {
         return last_not_after(passes, 0, j, t);
     }
-    if k - j < 4 {
+    if k - j < 2 {
         return last_not_after(passes, j, k, t);
     }
     if t < number_at(passes, j + 1) {
         return j;
     }
-    if t < number_at(passes, j + 4) {
-        return last_not_after(passes, j + 1, j + 4, t);
+    if t < number_at(passes, j + 2) {
+        return j + 1;
     }
-    last_not_after(passes, j + 4, k, t)
+    last_not_after(passes, j + 2, k, t)
 }
 
 // The millisecond of tick t on the line between the passes j and j + 1.
 fn millis_between(passes: &[u8], millis: &[u8], j: usize, t: u64) -> u64
-    requires { ⌜ Holds (passesOf (now passes) (now millis)) j t ⌝ }
+    requires { ⌜ Holds (now passes) (now millis) j t ⌝ }
     ensures { λ r. ⌜ r ≡ between (passesOf (now (passes .entry)) (now (millis .entry))) j t ⌝ }
 {
     let t0 = number_at(passes, j);
@@ -157,7 +170,7 @@ fn put_number(out: &mut [u8], at: usize, n: u64)
 
 // Places n ticks between k + 2 passes.
 fn place_all(passes: &[u8], millis: &[u8], k: usize, ticks: &[u8], n: usize, out: &mut [u8])
-    requires { ⌜ (Good (passesOf (now passes) (now millis)) k n (number (now ticks))) × (8 * n ≤ length (now out)) ⌝ }
+    requires { ⌜ (Good (now passes) (now millis) k n (now ticks)) × (8 * n ≤ length (now out)) ⌝ }
     ensures { λ _. ⌜ now (out .exit) ≡ bytesOf (λ i. millisAt (passesOf (now (passes .entry)) (now (millis .entry))) (number (now (ticks .entry)) i)) n ++ drop (8 * n) (now (out .entry)) ⌝ }
 {
     let mut j = 0;

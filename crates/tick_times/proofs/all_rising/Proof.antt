@@ -16,19 +16,19 @@ abbrev μ-loop : tie.MeasureT-loop
 μ-loop s n last i₀ i = n - 1 - i
 
 sub-last : tie.Need-sub-last Inv-loop μ-loop
-sub-last c = omega (arith, c .before .pre)
+sub-last c = c .before .pre .0
 
 loop-holds : tie.Need-loop-holds Inv-loop μ-loop
 loop-holds c = (omega arith, none-yet _)
 
 add-number-at : tie.Need-add-number-at Inv-loop μ-loop
-add-number-at c = record { fits = omega (arith, c .loop-test .taken, c .before .before .before .pre) }
+add-number-at c = record { fits = omega (arith, c .loop-test .taken, c .before .before .before .pre .1) }
 
 number-at-requires : tie.Need-number-at-requires Inv-loop μ-loop
-number-at-requires c κs = omega (arith, c .loop-test .taken, c .before .before .before .pre)
+number-at-requires c κs = omega (arith, c .loop-test .taken, c .before .before .before .pre .2)
 
 number-at-requires-2 : tie.Need-number-at-requires-2 Inv-loop μ-loop
-number-at-requires-2 c κs = omega (arith, c .before .loop-test .taken, c .before .before .before .before .pre)
+number-at-requires-2 c κs = omega (arith, c .before .loop-test .taken, c .before .before .before .before .pre .2)
 
 returns : tie.Need-returns Inv-loop μ-loop
 returns c =
@@ -38,7 +38,7 @@ returns c =
     rising-stops (number (a .s .now)) (a .n) (l .loop .i) (c .before .number-at2 .result) (c .before .number-at2 .ensures) (q .number-at .result) (q .number-at .ensures) (q .before .loop-test .taken) (c .if1 .taken)
 
 add-i : tie.Need-add-i Inv-loop μ-loop
-add-i c = record { fits = omega (arith, c .before .before .before .loop-test .taken, c .before .before .before .before .before .before .pre) }
+add-i c = record { fits = omega (arith, c .before .before .before .loop-test .taken, c .before .before .before .before .before .before .pre .1) }
 
 loop-less : tie.Need-loop-less Inv-loop μ-loop
 loop-less c = omega (arith, c .before .before .before .loop-test .taken)

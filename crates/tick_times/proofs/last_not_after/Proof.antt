@@ -17,7 +17,7 @@ abbrev μ-loop : tie.MeasureT-loop
 loop-holds : tie.Need-loop-holds Inv-loop μ-loop
 loop-holds c =
     let s = c .before in
-    seek-starts (number (s .args .passes .now)) (s .args .low) (s .args .high) (s .args .t) (s .pre)
+    seek-starts (number (s .args .passes .now)) (s .args .low) (s .args .high) (s .args .t) (s .pre .order) (s .pre .from)
 
 sub-middle : tie.Need-sub-middle Inv-loop μ-loop
 sub-middle c = omega (arith, c .loop-test .taken)
@@ -26,7 +26,7 @@ sub-middle-2 : tie.Need-sub-middle-2 Inv-loop μ-loop
 sub-middle-2 c = omega arith
 
 number-at-requires : tie.Need-number-at-requires Inv-loop μ-loop
-number-at-requires c κs = omega (arith, c .before .loop .inv .over, c .before .before .before .pre .few)
+number-at-requires c κs = omega (arith, c .before .loop .inv .over, c .before .before .before .pre .there)
 
 loop-less : tie.Need-loop-less Inv-loop μ-loop
 loop-less c = omega (arith, c .before .before .loop-test .taken)

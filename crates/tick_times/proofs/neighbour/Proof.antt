@@ -1,5 +1,7 @@
 -- `tick_times::neighbour` meets its contract: wherever it looks, what it finds is the last pass not after the tick. Assumes nothing.
+use Prim.Native.Nat.{ℕ, _+_, _<_}
 use native.Mathlib.Omega.{arith}
+use mathlib.Core.Path.{_≡_, subst}
 use Rattle.tick_times.specs.Ticks.{number}
 use Rattle.tick_times.proofs.Search.{last-only, found-last, found-below}
 use borrow.Author.Needs.{needs}
@@ -16,8 +18,7 @@ returns : tie.Need-returns
 returns c =
     let s = c .before .before .before .before in
     let q = c .before .before in
-    let f = number (s .args .passes .now) in
-    found-below f (s .args .t) (s .args .k) (s .pre .rises) 0 (s .args .j) (c .last-not-after .result) (s .pre .near) (omega (arith, q .number-at .ensures, c .before .if1 .taken)) (c .last-not-after .ensures)
+    found-below (number (s .args .passes .now)) (s .args .t) (s .args .k) (s .pre .rises) 0 (s .args .j) (c .last-not-after .result) (s .pre .near) (omega (arith, q .number-at .ensures, c .before .if1 .taken)) (c .last-not-after .ensures)
 
 sub-if2 : tie.Need-sub-if2
 sub-if2 c = search needs
@@ -47,31 +48,26 @@ add-number-at-2 c = search needs
 number-at-requires-3 : tie.Need-number-at-requires-3
 number-at-requires-3 c κs = search needs
 
+add-result : tie.Need-add-result
+add-result c = search needs
+
+returns-4 : tie.Need-returns-4
+returns-4 c =
+    let s = c .before .before .before .before .before .before .before .before in
+    let e : s .args .j + 2 ≡ s .args .j + 1 + 1 = omega arith in
+    last-only (number (s .args .passes .now)) (s .args .t) (s .args .k) (s .pre .rises) (s .args .j + 1) (omega (arith, c .before .before .before .before .if2 .left)) (omega (arith, c .before .before .before .number-at2 .ensures, c .before .before .if3 .left))
+    (λ w. subst (λ (x : ℕ). s .args .t < number (s .args .passes .now) x) e (omega (arith, c .before .number-at3 .ensures, c .if4 .taken)))
+
 add-last-not-after : tie.Need-add-last-not-after
 add-last-not-after c = search needs
-
-add-last-not-after-2 : tie.Need-add-last-not-after-2
-add-last-not-after-2 c = search needs
 
 last-not-after-requires-3 : tie.Need-last-not-after-requires-3
 last-not-after-requires-3 c κs = search needs
 
-returns-4 : tie.Need-returns-4
-returns-4 c =
-    let s = c .before .before .before .before .before .before .before .before .before in
-    let q = c .before .before in
-    found-below (number (s .args .passes .now)) (s .args .t) (s .args .k) (s .pre .rises) _ _ (c .last-not-after3 .result) (omega (arith, c .before .before .before .before .before .if2 .left)) (omega (arith, q .number-at3 .ensures, c .before .if4 .taken)) (c .last-not-after3 .ensures)
-
-add-last-not-after-3 : tie.Need-add-last-not-after-3
-add-last-not-after-3 c = search needs
-
-last-not-after-requires-4 : tie.Need-last-not-after-requires-4
-last-not-after-requires-4 c κs = search needs
-
 returns-5 : tie.Need-returns-5
 returns-5 c =
     let s = c .before .before .before .before .before .before .before .before .before in
-    found-last (number (s .args .passes .now)) (s .args .t) (s .args .k) (s .pre .rises) _ (c .last-not-after4 .result) (c .last-not-after4 .ensures)
+    found-last (number (s .args .passes .now)) (s .args .t) (s .args .k) (s .pre .rises) _ (c .last-not-after3 .result) (c .last-not-after3 .ensures)
 
 pub neighbour-spec : {M : Type 1} → statement M
 neighbour-spec =
@@ -88,10 +84,8 @@ neighbour-spec =
     returns-3
     add-number-at-2
     number-at-requires-3
-    add-last-not-after
-    add-last-not-after-2
-    last-not-after-requires-3
+    add-result
     returns-4
-    add-last-not-after-3
-    last-not-after-requires-4
+    add-last-not-after
+    last-not-after-requires-3
     returns-5)

@@ -23,14 +23,14 @@ loop-holds c =
     (omega arith, placing-starts (λ x. millisAt (passesOf (a .passes .now) (a .millis .now)) (number (a .ticks .now) x)) (a .k) (a .out .now))
 
 number-at-requires : tie.Need-number-at-requires Inv-loop μ-loop
-number-at-requires c κs = omega (arith, c .loop-test .taken, c .before .before .before .before .before .before .pre .0 .many)
+number-at-requires c κs = omega (arith, c .loop-test .taken, c .before .before .before .before .before .before .pre .0 .there)
 
 neighbour-requires : tie.Need-neighbour-requires Inv-loop μ-loop
 neighbour-requires c κs =
     let l = c .before .before in
     let s = c .before .before .before .before .before .before .before in
     let a = s .args in
-    subst (λ (t : ℕ). Near (number (a .passes .now)) (a .k) (l .loop .j) t) (sym (c .number-at .ensures)) (near (passesOf (a .passes .now) (a .millis .now)) (a .k) (a .n) (number (a .ticks .now)) (s .pre .0) (l .loop .i) (c .before .loop-test .taken) (l .loop .j) (l .loop .inv .1 .near))
+    subst (λ (t : ℕ). Near (a .passes .now) (a .k) (l .loop .j) t) (sym (c .number-at .ensures)) (near (a .passes .now) (a .millis .now) (a .k) (a .n) (a .ticks .now) (s .pre .0) (l .loop .i) (c .before .loop-test .taken) (l .loop .j) (l .loop .inv .1 .near))
 
 millis-between-requires : tie.Need-millis-between-requires Inv-loop μ-loop
 millis-between-requires c κs =
@@ -38,10 +38,10 @@ millis-between-requires c κs =
     let s = c .before .before .before .before .before .before .before .before in
     let a = s .args in
     let q = c .before in
-    subst (λ (t : ℕ). Holds (passesOf (a .passes .now) (a .millis .now)) (c .neighbour .result) t) (sym (q .number-at .ensures)) (holds (passesOf (a .passes .now) (a .millis .now)) (a .k) (a .n) (number (a .ticks .now)) (s .pre .0) (l .loop .i) (c .before .before .loop-test .taken) (c .neighbour .result) (c .neighbour .ensures ∙ ap (λ (t : ℕ). lastNotAfter (number (a .passes .now)) t (a .k)) (q .number-at .ensures)))
+    subst (λ (t : ℕ). Holds (a .passes .now) (a .millis .now) (c .neighbour .result) t) (sym (q .number-at .ensures)) (holds (a .passes .now) (a .millis .now) (a .k) (a .n) (a .ticks .now) (s .pre .0) (l .loop .i) (c .before .before .loop-test .taken) (c .neighbour .result) (c .neighbour .ensures ∙ ap (λ (t : ℕ). lastNotAfter (number (a .passes .now)) t (a .k)) (q .number-at .ensures)))
 
 mul-put-number : tie.Need-mul-put-number Inv-loop μ-loop
-mul-put-number c = record { fits = omega (arith, c .before .before .before .before .loop-test .taken, c .before .before .before .before .before .before .before .before .before .before .pre .0 .many) }
+mul-put-number c = record { fits = omega (arith, c .before .before .before .before .loop-test .taken, c .before .before .before .before .before .before .before .before .before .before .pre .0 .there) }
 
 put-number-requires : tie.Need-put-number-requires Inv-loop μ-loop
 put-number-requires c κs =
@@ -51,7 +51,7 @@ put-number-requires c κs =
     omega (arith, l .loop .inv .1 .len, c .before .before .before .before .loop-test .taken, s .pre .1)
 
 add-i : tie.Need-add-i Inv-loop μ-loop
-add-i c = record { fits = omega (arith, c .before .before .before .before .before .before .before .loop-test .taken, c .before .before .before .before .before .before .before .before .before .before .before .before .before .pre .0 .many) }
+add-i c = record { fits = omega (arith, c .before .before .before .before .before .before .before .loop-test .taken, c .before .before .before .before .before .before .before .before .before .before .before .before .before .pre .0 .there) }
 
 loop-less : tie.Need-loop-less Inv-loop μ-loop
 loop-less c = omega (arith, c .before .before .before .before .before .before .before .loop-test .taken)
@@ -67,8 +67,8 @@ loop-again c =
     let e = c .before .before .before .before .before .neighbour .ensures ∙ ap (λ (x : ℕ). lastNotAfter (number (a .passes .now)) x (a .k)) (t .number-at .ensures) in (
       omega (arith, h),
       placing-goes (λ x. millisAt (passesOf (a .passes .now) (a .millis .now)) (number (a .ticks .now) x)) (a .k) (a .out .now) (l .loop .out) _ (l .loop .i) (l .loop .j) j (c .before .before .before .before .millis-between .result) (a .n) (l .loop .inv .1) h (s .pre .1)
-          (still-near (passesOf (a .passes .now) (a .millis .now)) (a .k) (a .n) (number (a .ticks .now)) (s .pre .0) (l .loop .i) h j e)
-          (c .before .before .before .before .millis-between .ensures ∙ ap (between (passesOf (a .passes .now) (a .millis .now)) j) (t .number-at .ensures) ∙ millis-is (passesOf (a .passes .now) (a .millis .now)) (a .k) (a .n) (number (a .ticks .now)) (s .pre .0) (l .loop .i) h j e)
+          (still-near (a .passes .now) (a .millis .now) (a .k) (a .n) (a .ticks .now) (s .pre .0) (l .loop .i) h j e)
+          (c .before .before .before .before .millis-between .ensures ∙ ap (between (passesOf (a .passes .now) (a .millis .now)) j) (t .number-at .ensures) ∙ millis-is (a .passes .now) (a .millis .now) (a .k) (a .n) (a .ticks .now) (s .pre .0) (l .loop .i) h j e)
           (c .before .before .put-number .ensures),
     )
 

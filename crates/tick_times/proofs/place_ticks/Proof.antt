@@ -25,7 +25,7 @@ place-all-requires : tie.Need-place-all-requires
 place-all-requires c κs =
     let a = c .before .before .before .before .before .before .before .args in
     let z = accepted (a .passes .now) (a .millis .now) (a .ticks .now) (length (a .out .now)) (sym (c .before .before .refused-by .ensures) ∙ c .before .if1 .left) in
-    (all-good (a .passes .now) (a .millis .now) (a .ticks .now) (length (a .out .now)) z _ refl (omega arith), omega (arith, z .fits))
+    (all-good (a .passes .now) (a .millis .now) (a .ticks .now) (length (a .out .now)) z _ refl, omega (arith, z .fits))
 
 same-length : tie.Need-same-length
 same-length c = search needs

@@ -42,7 +42,7 @@ all-rising-requires : tie.Need-all-rising-requires
 all-rising-requires c κs =
     let a = c .before .before .before .before .before .before .before .before .before .args in
     let u = usable-is (a .passes .now) (a .millis .now) (sym (c .before .are-usable .ensures) ∙ not-false _ (c .if5 .left)) in
-    (omega (arith, u .two), u .most)
+    (omega (arith, u .two), u .most, omega arith)
 
 returns-6 : tie.Need-returns-6
 returns-6 c =
@@ -54,7 +54,7 @@ all-rising-requires-2 : tie.Need-all-rising-requires-2
 all-rising-requires-2 c κs =
     let a = c .before .before .before .before .before .before .before .before .before .before .before .args in
     let u = usable-is (a .passes .now) (a .millis .now) (sym (c .before .before .before .are-usable .ensures) ∙ not-false _ (c .before .before .if5 .left)) in
-    (omega (arith, u .two), u .most)
+    (omega (arith, u .two), u .most, omega (arith, u .equal))
 
 returns-7 : tie.Need-returns-7
 returns-7 c =
@@ -63,7 +63,10 @@ returns-7 c =
     (rising-both (a .passes .now) (a .millis .now) true false (sym (not-false _ (c .before .before .if6 .left)) ∙ c .before .before .before .all-rising .ensures) (sym (not-true _ (c .if7 .taken)) ∙ c .before .all-rising2 .ensures))
 
 number-at-requires : tie.Need-number-at-requires
-number-at-requires c κs = search needs
+number-at-requires c κs =
+    let a = c .before .before .before .before .before .before .before .before .before .before .before .before .before .args in
+    let u = usable-is (a .passes .now) (a .millis .now) (sym (c .before .before .before .before .before .are-usable .ensures) ∙ not-false _ (c .before .before .before .before .if5 .left)) in
+    omega (arith, u .two)
 
 sub-number-at : tie.Need-sub-number-at
 sub-number-at c =
@@ -72,7 +75,10 @@ sub-number-at c =
     omega (arith, u .two)
 
 number-at-requires-2 : tie.Need-number-at-requires-2
-number-at-requires-2 c κs = search needs
+number-at-requires-2 c κs =
+    let a = c .before .before .before .before .before .before .before .before .before .before .before .before .before .before .args in
+    let u = usable-is (a .passes .now) (a .millis .now) (sym (c .before .before .before .before .before .before .are-usable .ensures) ∙ not-false _ (c .before .before .before .before .before .if5 .left)) in
+    omega (arith, u .two)
 
 all-inside-requires : tie.Need-all-inside-requires
 all-inside-requires c κs = search needs
