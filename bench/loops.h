@@ -274,3 +274,38 @@ static void port_listing_loop(any *f)
 }
 
 static void driver_listing_loop(any *text) { shown = list_block(block, (text_call *)text, listing, &shown_length); }
+
+/* ---- ticks between marker passes: one round is one list of all inputs, counted per tick, with its share of the judging */
+
+enum { PASSES = 2000, PASS_TICKS = 1000000, PASS_MILLIS = 61000 };
+
+static uint8_t pass_ticks[8 * PASSES], pass_millis[8 * PASSES], rising_ticks[8 * INPUTS], random_ticks[8 * INPUTS], tick_millis[8 * INPUTS];
+
+/* A pass every second or so, by a crystal that counts a million ticks a second; rising ticks two to a pass. */
+static void make_ticks(void)
+{
+    uint64_t n;
+    for (uint64_t i = 0; i < PASSES; i++) {
+        n = i * PASS_TICKS + draw() % (PASS_TICKS / 2);
+        memcpy(pass_ticks + 8 * i, &n, 8);
+        n = i * PASS_MILLIS + draw() % (PASS_MILLIS / 2);
+        memcpy(pass_millis + 8 * i, &n, 8);
+    }
+    for (uint64_t i = 0; i < INPUTS; i++) {
+        n = PASS_TICKS + i * ((PASSES - 2) * (uint64_t)PASS_TICKS / INPUTS);
+        memcpy(rising_ticks + 8 * i, &n, 8);
+        n = PASS_TICKS + draw() % ((PASSES - 2) * (uint64_t)PASS_TICKS);
+        memcpy(random_ticks + 8 * i, &n, 8);
+    }
+}
+
+static void place_ticks(const uint8_t *ticks)
+{
+    int64_t length = ct_place_ticks(pass_ticks, sizeof pass_ticks, pass_millis, sizeof pass_millis, ticks, 8 * INPUTS, tick_millis, sizeof tick_millis);
+    shown = tick_millis;
+    shown_length = length < 0 ? 0 : (size_t)length;
+}
+
+static void rising_ticks_loop(any *f) { (void)f, place_ticks(rising_ticks); }
+
+static void random_ticks_loop(any *f) { (void)f, place_ticks(random_ticks); }

@@ -82,6 +82,8 @@ static const row rows[] = {
     TEXT(BY_HAND, LEAP_SECOND_YEARS, rust_text_by_hand, erfa_text_by_hand),
     TEXT(BY_HAND, DRIFT_YEARS, rust_text_by_hand, erfa_text_by_hand),
     TEXT(BY_HAND, MONTH_ENDS, rust_text_by_hand, erfa_text_by_hand),
+    {"place_ticks per tick, rising", LEAP_SECOND_YEARS, {{rising_ticks_loop, NULL}, NOT_IN_ERFA, NOT_IN_ERFA}},
+    {"place_ticks per tick, by chance", LEAP_SECOND_YEARS, {{random_ticks_loop, NULL}, NOT_IN_ERFA, NOT_IN_ERFA}},
     {"block_stamps", LEAP_SECOND_YEARS, {PORT_ALONE(stamps_loop, block_stamps)}},
     LISTING(OWN, LEAP_SECOND_YEARS, rs_to_iso8601, erfa_text),
     LISTING(BY_HAND, LEAP_SECOND_YEARS, rust_text_by_hand, erfa_text_by_hand),

@@ -248,6 +248,20 @@ int64_t ct_block_stamps(const uint8_t *block, size_t block_len);
 int64_t ct_listing_part(const uint8_t *block, size_t block_len, uint32_t line, uint8_t *out,
                         size_t out_len);
 
+/* ---- Ticks between marker passes: lists of 8 bytes a number, the lowest byte first */
+
+/* Each tick's TAI millisecond on the straight line between the passes beside it, rounded down: 8 bytes a
+   tick, in the ticks' order. Pass i is number i of pass_ticks and of pass_millis. Ticks stand in any order
+   and may repeat; a tick at a pass has that pass's millisecond. Returns 8 times the number of ticks, 0 for
+   no tick; what lies behind the results stays. Refuses 14 for a length of the three lists that is no
+   multiple of 8; 11 for fewer whole places in out than ticks; 23 for lists of passes that are unequal,
+   under 2 or over 2,000, or have a number of 2^40 or more; 24 for passes that do not rise strictly in both;
+   25 for a tick before the first pass or after the last, 2^40 too. Nothing is written before all is judged.
+   Passes 0, 1000 at 0, 500 ms: tick 3 is at 1, and ticks 0, 1001 are 25. */
+int64_t ct_place_ticks(const uint8_t *pass_ticks, size_t pass_ticks_len, const uint8_t *pass_millis,
+                       size_t pass_millis_len, const uint8_t *ticks, size_t ticks_len, uint8_t *out,
+                       size_t out_len);
+
 /* ---- Reading bytes: these and ct_float_mode are compiled with the viewer, not in the archive */
 
 /* The number of `count` bytes, the lowest first, 8 at the most. */

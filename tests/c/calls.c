@@ -5,6 +5,7 @@
    The answers are document 01's, whole numbers of seconds, or ERFA's. */
 #include "lent.h"
 #include "scale_calls.h"
+#include "tick_calls.h"
 
 static void month_lengths(void)
 {
@@ -353,5 +354,6 @@ int main(void)
     block_calls();
     read_numbers();
     read_answers();
+    tick_calls();
     return summary("calls");
 }

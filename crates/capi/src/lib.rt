@@ -7,4 +7,5 @@ pub mod offset_calls;
 pub mod order_calls;
 pub mod same_stamp_calls;
 pub mod scale_calls;
+pub mod tick_calls;
 pub mod utc_calls;
