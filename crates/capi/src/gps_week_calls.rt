@@ -39,10 +39,10 @@ pub extern "C" fn ct_gps_to_week(jd1: f64, jd2: f64, out: &mut [u8]) -> i64
 }
 
 #[no_mangle]
-pub extern "C" fn ct_gps_full_week(bits: u32, reference: u32) -> i64
-    ensures { λ r. ⌜ r ≡ code (fullWeek bits reference) ⌝ }
+pub extern "C" fn ct_gps_full_week(ten_bits: u32, reference: u32) -> i64
+    ensures { λ r. ⌜ r ≡ code (fullWeek «ten_bits» reference) ⌝ }
 {
-    match gps_weeks::full_week(bits, reference) {
+    match gps_weeks::full_week(ten_bits, reference) {
         FullWeekAnswer::Week(week) => week as i64,
         FullWeekAnswer::Refused(number) => refused(number),
     }
