@@ -1,0 +1,65 @@
+-- Lists whose elements stand to one another in turn, with one more at the end; and a test of more and more places, which stays false once it is.
+-- Assumes nothing.
+use mathlib.Core.Path.{_≡_, refl, ap, sym, _∙_}
+use mathlib.Core.Bool.{Bool, true, false, _&&_}
+use mathlib.Core.List.{List, [], _∷_, _++_}
+use Prim.Native.Nat.{ℕ, zero, suc, _≤_, _<_}
+use native.Mathlib.Omega.{arith}
+use native.Mathlib.Nat.{not-suc-le-zero}
+use lib.Dec.{leb}
+use lib.ListN.{length}
+use borrow.Author.Tests.{leb-true, leb-false}
+use Rattle.tai_utc.specs.Table.{inTurn}
+
+-- the last element of a list, d of an empty one
+abbrev pub lastOf : {A : Type 0} → A → List A → A
+lastOf d [] = d
+lastOf d (a ∷ l) = lastOf a l
+
+pub last-of-more : {A : Type 0} (d : A) (l : List A) (b : A) → lastOf d (l ++ (b ∷ [])) ≡ b
+last-of-more d [] b = refl
+last-of-more d (a ∷ l) b = last-of-more a l b
+
+with-true : (b : Bool) → b && true ≡ b
+with-true true = refl
+with-true false = refl
+
+and-assoc : (a b c : Bool) → a && (b && c) ≡ (a && b) && c
+and-assoc true b c = refl
+and-assoc false b c = refl
+
+pub one-more : {A : Type 0} (to : A → A → Bool) (d : A) (l : List A) (b : A) → 0 < length l → inTurn to (l ++ (b ∷ [])) ≡ inTurn to l && to (lastOf d l) b
+one-more to d [] b h = absurd (not-suc-le-zero h)
+one-more to d (a ∷ []) b h = with-true (to a b)
+one-more to d (a ∷ (e ∷ l)) b h =
+    ap (λ (t : Bool). to a e && t) (one-more to d (e ∷ l) b (omega arith))
+    ∙ and-assoc (to a e) (inTurn to (e ∷ l)) (to (lastOf e l) b)
+
+-- ---- a test that asks one thing more at each place
+module _ (f g : ℕ → Bool) (step : (n : ℕ) → f (suc n) ≡ f n && g n) where
+  pub fails-at : (n : ℕ) → g n ≡ false → f (suc n) ≡ false
+  fails-at n e = step n ∙ ap (λ (b : Bool). f n && b) e ∙ off (f n)
+    where
+      off : (b : Bool) → b && false ≡ false
+      off true = refl
+      off false = refl
+
+  pub stays-false : (k i : ℕ) → i ≤ k → f i ≡ false → f k ≡ false
+  stays-false zero i h e = ap f (none i h) ∙ e
+    where
+      none : (j : ℕ) → j ≤ 0 → 0 ≡ j
+      none j g = omega arith
+  stays-false (suc k) i h e = go (leb i k) refl (λ p. stays-false k i p e)
+    where
+      last : (a b : ℕ) → leb a b ≡ false → a ≤ suc b → suc b ≡ a
+      last a b p q = omega (arith, leb-false a b p)
+
+      off : (b : Bool) → b ≡ false → b && g k ≡ false
+      off b p = rw p
+
+      go : (b : Bool) → leb i k ≡ b → (i ≤ k → f k ≡ false) → f (suc k) ≡ false
+      go true p more = step k ∙ off (f k) (more (leb-true i k p))
+      go false p more = ap f (last i k p h) ∙ e
+
+  pub holds-next : (n : ℕ) → f n ≡ true → g n ≡ true → f (suc n) ≡ true
+  holds-next n p q = rw (step n, p, q)
