@@ -28,12 +28,18 @@ pub extern "C" fn ct_get_tai_utc_offset(
 ) -> i64
     ensures { λ r. ⌜ Delivered (inBytes floatBytes (taiUtcOffset fixed year month day fraction)) (now (out .entry)) r (now (out .exit)) ⌝ }
 {
-    put_offset(tai_utc::get_tai_utc_offset(year, month, day, fraction), out)
+    put_offset(
+        tai_utc::get_tai_utc_offset(year, month, day, fraction, tai_utc::no_rows()),
+        out,
+    )
 }
 
 #[no_mangle]
 pub extern "C" fn ct_leap_at_end_of_day(year: i32, month: i32, day: i32, out: &mut [u8]) -> i64
     ensures { λ r. ⌜ Delivered (inBytes floatBytes (leapAtEndOfDay fixed year month day)) (now (out .entry)) r (now (out .exit)) ⌝ }
 {
-    put_offset(tai_utc::leap_at_end_of_day(year, month, day), out)
+    put_offset(
+        tai_utc::leap_at_end_of_day(year, month, day, tai_utc::no_rows()),
+        out,
+    )
 }
