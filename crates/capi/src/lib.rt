@@ -2,6 +2,7 @@
 pub mod block_calls;
 pub mod calendar_calls;
 pub mod date_calls;
+mod fixed_table;
 pub mod offset_calls;
 pub mod scale_calls;
 pub mod utc_calls;
