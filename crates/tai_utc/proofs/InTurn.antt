@@ -1,14 +1,14 @@
 -- Lists whose elements stand to one another in turn, with one more at the end; and a test of more and more places, which stays false once it is.
 -- Assumes nothing.
-use mathlib.Core.Path.{_≡_, refl, ap, sym, _∙_}
-use mathlib.Core.Bool.{Bool, true, false, _&&_}
+use mathlib.Core.Path.{_≡_, refl, ap, sym, subst, _∙_}
+use mathlib.Core.Bool.{Bool, true, false, true≢false, _&&_}
 use mathlib.Core.List.{List, [], _∷_, _++_}
 use Prim.Native.Nat.{ℕ, zero, suc, _≤_, _<_}
 use native.Mathlib.Omega.{arith}
 use native.Mathlib.Nat.{not-suc-le-zero}
-use lib.Dec.{leb}
+use lib.Dec.{leb, ltb}
 use lib.ListN.{length}
-use borrow.Author.Tests.{leb-true, leb-false}
+use borrow.Author.Tests.{leb-true, leb-false, ltb-true, ltb-false}
 use Rattle.tai_utc.specs.Table.{inTurn}
 
 -- the last element of a list, d of an empty one
@@ -60,6 +60,31 @@ module _ (f g : ℕ → Bool) (step : (n : ℕ) → f (suc n) ≡ f n && g n) wh
       go : (b : Bool) → leb i k ≡ b → (i ≤ k → f k ≡ false) → f (suc k) ≡ false
       go true p more = step k ∙ off (f k) (more (leb-true i k p))
       go false p more = ap f (last i k p h) ∙ e
+
+  -- where it holds, each thing asked does; where it fails, one fails that stands after places that hold
+  both : (a b : Bool) → a && b ≡ true → (a ≡ true) × (b ≡ true)
+  both true b e = (refl, e)
+  both false b e = absurd (true≢false (sym e))
+
+  pub all-hold : (n : ℕ) → f n ≡ true → (i : ℕ) → i < n → (f i ≡ true) × (g i ≡ true)
+  all-hold zero e i h = absurd (not-suc-le-zero h)
+  all-hold (suc n) e i h = go (ltb i n) refl (both (f n) (g n) (sym (step n) ∙ e)) (λ p l. all-hold n p i l)
+    where
+      last : (a b : ℕ) → ltb a b ≡ false → a < suc b → b ≡ a
+      last a b p q = omega (arith, ltb-false a b p)
+
+      go : (b : Bool) → ltb i n ≡ b → (f n ≡ true) × (g n ≡ true) → (f n ≡ true → i < n → (f i ≡ true) × (g i ≡ true)) → (f i ≡ true) × (g i ≡ true)
+      go true p q more = more (q .0) (ltb-true i n p)
+      go false p q more = subst (λ (k : ℕ). (f k ≡ true) × (g k ≡ true)) (last i n p h) q
+
+  pub first-fails : f 0 ≡ true → (n : ℕ) → f n ≡ false → (i : ℕ) × (i < n) × (f i ≡ true) × (g i ≡ false)
+  first-fails z zero e = absurd (true≢false (sym z ∙ e))
+  first-fails z (suc n) e = go (f n) refl (g n) refl (sym (step n) ∙ e) (λ p. first-fails z n p)
+    where
+      go : (a : Bool) → f n ≡ a → (b : Bool) → g n ≡ b → f n && g n ≡ false → (f n ≡ false → (i : ℕ) × (i < n) × (f i ≡ true) × (g i ≡ false)) → (i : ℕ) × (i < suc n) × (f i ≡ true) × (g i ≡ false)
+      go false p b q r more = let (i, l, x, y) = more p in (i, omega (arith, l), x, y)
+      go true p false q r more = (n, omega arith, p, q)
+      go true p true q r more = absurd (true≢false (sym (rw (p, q)) ∙ r))
 
   pub holds-next : (n : ℕ) → f n ≡ true → g n ≡ true → f (suc n) ≡ true
   holds-next n p q = rw (step n, p, q)

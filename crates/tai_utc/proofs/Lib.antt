@@ -6,6 +6,7 @@ pub mod InTurn
 pub mod Tables
 pub mod TableTests
 pub mod TablesTaken
+pub mod TableLaws
 pub mod Month
 pub mod At
 pub mod Mjd
