@@ -5,9 +5,9 @@ use mathlib.Core.Bool.{Bool, true, false, true≢false, _&&_}
 use mathlib.Core.List.{List, [], _∷_, _++_}
 use Prim.Native.Nat.{ℕ, zero, suc, _≤_, _<_}
 use native.Mathlib.Omega.{arith}
-use native.Mathlib.Nat.{not-suc-le-zero}
+use native.Mathlib.Nat.{not-suc-le-zero, le-of-suc-le-suc}
 use lib.Dec.{leb, ltb}
-use lib.ListN.{length}
+use lib.ListN.{length, getD}
 use borrow.Author.Tests.{leb-true, leb-false, ltb-true, ltb-false}
 use Rattle.tai_utc.specs.Table.{inTurn}
 
@@ -19,6 +19,10 @@ lastOf d (a ∷ l) = lastOf a l
 pub last-of-more : {A : Type 0} (d : A) (l : List A) (b : A) → lastOf d (l ++ (b ∷ [])) ≡ b
 last-of-more d [] b = refl
 last-of-more d (a ∷ l) b = last-of-more a l b
+
+both-hold : (a b : Bool) → a && b ≡ true → (a ≡ true) × (b ≡ true)
+both-hold true b e = (refl, e)
+both-hold false b e = absurd (true≢false (sym e))
 
 with-true : (b : Bool) → b && true ≡ b
 with-true true = refl
@@ -34,6 +38,12 @@ one-more to d (a ∷ []) b h = with-true (to a b)
 one-more to d (a ∷ (e ∷ l)) b h =
     ap (λ (t : Bool). to a e && t) (one-more to d (e ∷ l) b (omega arith))
     ∙ and-assoc (to a e) (inTurn to (e ∷ l)) (to (lastOf e l) b)
+
+pub in-turn-at : {A : Type 0} (to : A → A → Bool) (d : A) (l : List A) → inTurn to l ≡ true → (i : ℕ) → suc i < length l → to (getD l i d) (getD l (suc i) d) ≡ true
+in-turn-at to d [] e i h = absurd (not-suc-le-zero h)
+in-turn-at to d (a ∷ []) e i h = absurd (not-suc-le-zero (le-of-suc-le-suc h))
+in-turn-at to d (a ∷ (b ∷ l)) e zero h = both-hold (to a b) (inTurn to (b ∷ l)) e .0
+in-turn-at to d (a ∷ (b ∷ l)) e (suc i) h = in-turn-at to d (b ∷ l) (both-hold (to a b) (inTurn to (b ∷ l)) e .1) i (le-of-suc-le-suc h)
 
 -- ---- a test that asks one thing more at each place
 module _ (f g : ℕ → Bool) (step : (n : ℕ) → f (suc n) ≡ f n && g n) where
@@ -62,13 +72,9 @@ module _ (f g : ℕ → Bool) (step : (n : ℕ) → f (suc n) ≡ f n && g n) wh
       go false p more = ap f (last i k p h) ∙ e
 
   -- where it holds, each thing asked does; where it fails, one fails that stands after places that hold
-  both : (a b : Bool) → a && b ≡ true → (a ≡ true) × (b ≡ true)
-  both true b e = (refl, e)
-  both false b e = absurd (true≢false (sym e))
-
   pub all-hold : (n : ℕ) → f n ≡ true → (i : ℕ) → i < n → (f i ≡ true) × (g i ≡ true)
   all-hold zero e i h = absurd (not-suc-le-zero h)
-  all-hold (suc n) e i h = go (ltb i n) refl (both (f n) (g n) (sym (step n) ∙ e)) (λ p l. all-hold n p i l)
+  all-hold (suc n) e i h = go (ltb i n) refl (both-hold (f n) (g n) (sym (step n) ∙ e)) (λ p l. all-hold n p i l)
     where
       last : (a b : ℕ) → ltb a b ≡ false → a < suc b → b ≡ a
       last a b p q = omega (arith, ltb-false a b p)

@@ -15,4 +15,5 @@ pub mod Days
 pub mod Plain
 pub mod Years
 pub mod TableYears
+pub mod TableSeconds
 pub mod Cases

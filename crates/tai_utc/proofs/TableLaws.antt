@@ -61,7 +61,7 @@ signed-no-step b (negsuc n) h e (inl z) = let y : _≡_ {A = ℕ} 0 1 = cc in om
 signed-no-step b (negsuc zero) h e (inr z) = let y : b ≡ 0 = cc in omega arith
 signed-no-step b (negsuc (suc n)) h e (inr z) = let y : _≡_ {A = ℕ} 0 1 = cc in omega arith
 
-near : (b n : ℕ) → oneApart b n ≡ true → (n ≡ b + 1) ⊎ (b ≡ n + 1)
+pub near : (b n : ℕ) → oneApart b n ≡ true → (n ≡ b + 1) ⊎ (b ≡ n + 1)
 near b n e = go (eqb n (b + 1)) refl e
   where
     go : (t : Bool) → eqb n (b + 1) ≡ t → t || eqb b (n + 1) ≡ true → (n ≡ b + 1) ⊎ (b ≡ n + 1)
@@ -82,7 +82,7 @@ module _ (t : LentRows) where
   stepTo n = oneApart (secondsBefore t n) (secondsAt t n)
 
   -- where the rows rise up to row i, the month before it is positive
-  high-month : (i : ℕ) → risesTo i ≡ true → 24204 ≤ monthBefore t i
+  pub high-month : (i : ℕ) → risesTo i ≡ true → 24204 ≤ monthBefore t i
   high-month zero e = omega arith
   high-month (suc i) e =
       let (p, q) = all-hold risesTo laterTo (rises-more t) (suc i) e i (omega arith) in
