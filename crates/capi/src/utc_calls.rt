@@ -9,6 +9,7 @@ ghost use Rattle.utc.specs.FromCalendar.{utcFromCalendar};
 ghost use Rattle.utc.specs.IsoText.{isoText};
 ghost use Rattle.c_answers.specs.Delivery.{inBytes, Delivered};
 ghost use Rattle.c_answers.specs.Fields.{julianBytes};
+use super::fixed_table;
 use crate::scale_calls::put_tai;
 use crate::scale_calls::put_ut1;
 use c_answers::fields;
@@ -33,7 +34,7 @@ fn put_utc(found: UtcAnswer, out: &mut [u8]) -> i64
 pub extern "C" fn ct_utc_new(seconds: i64, nanos: u32, out: &mut [u8]) -> i64
     ensures { λ r. ⌜ Delivered (inBytes julianBytes (utcNew fixed seconds nanos)) (now (out .entry)) r (now (out .exit)) ⌝ }
 {
-    put_utc(utc::new(seconds, nanos), out)
+    put_utc(fixed_table::new(seconds, nanos), out)
 }
 
 #[no_mangle]
@@ -49,7 +50,7 @@ pub extern "C" fn ct_utc_from_calendar(
     ensures { λ r. ⌜ Delivered (inBytes julianBytes (utcFromCalendar fixed year month day hour minute second)) (now (out .entry)) r (now (out .exit)) ⌝ }
 {
     put_utc(
-        utc::utc_from_calendar(year, month, day, hour, minute, second),
+        fixed_table::utc_from_calendar(year, month, day, hour, minute, second),
         out,
     )
 }
@@ -59,7 +60,7 @@ pub extern "C" fn ct_utc_to_tai(jd1: f64, jd2: f64, out: &mut [u8]) -> i64
     ensures { λ r. ⌜ Delivered (inBytes julianBytes (utcToTai fixed (julian jd1 jd2))) (now (out .entry)) r (now (out .exit)) ⌝ }
 {
     let date = UTC(JulianDate { jd1, jd2 });
-    put_tai(utc_scales::utc_tai::utc_to_tai(date), out)
+    put_tai(fixed_table::utc_to_tai(date), out)
 }
 
 #[no_mangle]
@@ -67,7 +68,7 @@ pub extern "C" fn ct_tai_to_utc(jd1: f64, jd2: f64, out: &mut [u8]) -> i64
     ensures { λ r. ⌜ Delivered (inBytes julianBytes (taiToUtc fixed (julian jd1 jd2))) (now (out .entry)) r (now (out .exit)) ⌝ }
 {
     let date = TAI(JulianDate { jd1, jd2 });
-    put_utc(utc_scales::utc_tai::tai_to_utc(date), out)
+    put_utc(fixed_table::tai_to_utc(date), out)
 }
 
 #[no_mangle]
@@ -75,7 +76,7 @@ pub extern "C" fn ct_utc_to_ut1_with_dut1(jd1: f64, jd2: f64, dut1: f64, out: &m
     ensures { λ r. ⌜ Delivered (inBytes julianBytes (utcToUt1 fixed (julian jd1 jd2) dut1)) (now (out .entry)) r (now (out .exit)) ⌝ }
 {
     let date = UTC(JulianDate { jd1, jd2 });
-    put_ut1(utc_scales::utc_ut1::utc_to_ut1_with_dut1(date, dut1), out)
+    put_ut1(fixed_table::utc_to_ut1_with_dut1(date, dut1), out)
 }
 
 #[no_mangle]
@@ -83,7 +84,7 @@ pub extern "C" fn ct_ut1_to_utc_with_dut1(jd1: f64, jd2: f64, dut1: f64, out: &m
     ensures { λ r. ⌜ Delivered (inBytes julianBytes (ut1ToUtc fixed (julian jd1 jd2) dut1)) (now (out .entry)) r (now (out .exit)) ⌝ }
 {
     let date = UT1(JulianDate { jd1, jd2 });
-    put_utc(utc_scales::utc_ut1::ut1_to_utc_with_dut1(date, dut1), out)
+    put_utc(fixed_table::ut1_to_utc_with_dut1(date, dut1), out)
 }
 
 #[no_mangle]
@@ -91,7 +92,7 @@ pub extern "C" fn ct_to_iso8601(jd1: f64, jd2: f64, out: &mut [u8]) -> i64
     ensures { λ r. ⌜ Delivered (isoText fixed (julian jd1 jd2)) (now (out .entry)) r (now (out .exit)) ⌝ }
 {
     let date = UTC(JulianDate { jd1, jd2 });
-    match utc::to_iso8601(date, out) {
+    match fixed_table::to_iso8601(date, out) {
         TextAnswer::Written(n) => n as i64,
         TextAnswer::Refused(number) => refused(number),
     }

@@ -15,7 +15,13 @@ pub(crate) fn answered(call: u64, record: &[u8; 128]) -> Answer {
     let month = words::small_at(record, 2);
     let day = words::small_at(record, 3);
     if call == 60 {
-        return found(tai_utc::get_tai_utc_offset(year, month, day, words::float_at(record, 4)));
+        return found(tai_utc::get_tai_utc_offset(
+            year,
+            month,
+            day,
+            words::float_at(record, 4),
+            tai_utc::no_rows(),
+        ));
     }
-    found(tai_utc::leap_at_end_of_day(year, month, day))
+    found(tai_utc::leap_at_end_of_day(year, month, day, tai_utc::no_rows()))
 }

@@ -25,6 +25,7 @@ fn from_calendar(record: &[u8; 128]) -> UtcAnswer {
         words::byte_at(record, 4),
         words::byte_at(record, 5),
         words::float_at(record, 6),
+        tai_utc::no_rows(),
     )
 }
 
@@ -39,7 +40,11 @@ fn room(record: &[u8; 128]) -> usize
 fn text(record: &[u8; 128]) -> Answer {
     let mut buffer = [0xaau8; 32];
     let n = room(record);
-    match utc::to_iso8601(UTC(words::date_at(record, 1)), &mut buffer[..n]) {
+    match utc::to_iso8601(
+        UTC(words::date_at(record, 1)),
+        tai_utc::no_rows(),
+        &mut buffer[..n],
+    ) {
         TextAnswer::Written(length) => words::text(0, length as u64, &buffer),
         TextAnswer::Refused(number) => words::text(number as u64, 0, &buffer),
     }
@@ -49,12 +54,24 @@ pub(crate) fn answered(call: u64, record: &[u8; 128]) -> Answer {
     let date = words::date_at(record, 1);
     let dut1 = words::float_at(record, 3);
     match call {
-        120 => found_utc(utc::new(words::signed_at(record, 1), words::number_at(record, 2))),
+        120 => found_utc(utc::new(
+            words::signed_at(record, 1),
+            words::number_at(record, 2),
+            tai_utc::no_rows(),
+        )),
         121 => found_utc(from_calendar(record)),
         122 => text(record),
-        123 => found_tai(utc_scales::utc_tai::utc_to_tai(UTC(date))),
-        124 => found_utc(utc_scales::utc_tai::tai_to_utc(TAI(date))),
-        125 => found_ut1(utc_scales::utc_ut1::utc_to_ut1_with_dut1(UTC(date), dut1)),
-        _ => found_utc(utc_scales::utc_ut1::ut1_to_utc_with_dut1(UT1(date), dut1)),
+        123 => found_tai(utc_scales::utc_tai::utc_to_tai(UTC(date), tai_utc::no_rows())),
+        124 => found_utc(utc_scales::utc_tai::tai_to_utc(TAI(date), tai_utc::no_rows())),
+        125 => found_ut1(utc_scales::utc_ut1::utc_to_ut1_with_dut1(
+            UTC(date),
+            dut1,
+            tai_utc::no_rows(),
+        )),
+        _ => found_utc(utc_scales::utc_ut1::ut1_to_utc_with_dut1(
+            UT1(date),
+            dut1,
+            tai_utc::no_rows(),
+        )),
     }
 }

@@ -10,6 +10,7 @@ ghost use Rattle.floats.specs.Whole.{nought};
 ghost use Rattle.day_number.specs.DayNumber.{c-djmax};
 ghost use Rattle.tai_utc.specs.Table.{fixed};
 ghost use Rattle.utc.specs.IsoText.{isoText};
+ghost use Rattle.utc.specs.TextCall.{TextCall};
 ghost use Rattle.stamps.specs.Block.{blockOutcome, blockOf};
 ghost use Rattle.stamps.specs.Placed.{Placed};
 ghost use Rattle.stamps.specs.Listing.{shown, stampLine, oneIfRefused, refusedIn, header, blockRefused};
@@ -27,13 +28,20 @@ use utc_text::TextAnswer;
 // A line is begun only where so many bytes are left. The longest line has 32: four of the index, a blank, the longest text, 26, and the line's end.
 const LINE_ROOM: usize = 33;
 
+// The text of a date, with no lent rows.
+fn to_iso8601(utc: UTC, out: &mut [u8]) -> TextAnswer
+    ensures { λ r. ⌜ TextCall (isoText fixed (utc .0)) (now (out .entry)) r (now (out .exit)) ⌝ }
+{
+    utc::to_iso8601_by_rows(utc, tai_utc::no_rows(), out)
+}
+
 // The text of a date, or `refused` and the number.
 fn place_shown(utc: UTC, dst: &mut [u8], at: usize) -> usize
     requires { ⌜ at + 26 ≤ length (now dst) ⌝ }
     ensures { λ r. ⌜ Placed (now (dst .entry)) at (shown (isoText fixed (utc .0))) r (now (dst .exit)) ⌝ }
     ensures { λ r. ⌜ r ≤ at + 26 ⌝ }
 {
-    match utc::to_iso8601(utc, &mut dst[at..]) {
+    match to_iso8601(utc, &mut dst[at..]) {
         TextAnswer::Written(n) => at + n,
         TextAnswer::Refused(number) => {
             let next = place::bytes(b"refused ", dst, at);

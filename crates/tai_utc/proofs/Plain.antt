@@ -3,6 +3,7 @@
 -- Assumes nothing.
 use mathlib.Core.Path.{_≡_, refl, ap, sym, _∙_}
 use mathlib.Core.Bool.{Bool, true, false}
+use mathlib.Core.List.{List}
 use Prim.Native.Nat.{ℕ, _≤_}
 use native.Mathlib.Omega.{arith}
 use lib.IntN.{ℤ, pos, negsuc, natAbs, sucℤ}
@@ -21,7 +22,7 @@ use Rattle.calendar.proofs.Months.{months}
 use Rattle.calendar.proofs.Accepted.{Accepted, accepted, in-calendar-valid}
 use Rattle.calendar.proofs.Mjd.{mjd-given}
 use Rattle.calendar.proofs.NextDates.{next-day, next-is}
-use Rattle.tai_utc.specs.Table.{fixed, monthNumber}
+use Rattle.tai_utc.specs.Table.{Row, monthNumber}
 use Rattle.tai_utc.specs.Offset.{offsetAt, inDay, taiUtcOffset}
 use Rattle.tai_utc.specs.Leap.{offsets, offsetsOfDay, dayOffsets}
 use Rattle.tai_utc.specs.Plain.{Plain}
@@ -62,12 +63,12 @@ pub read-plain : (y m d : ℤ) → SFits w32 y → SFits w32 m → SFits w32 d �
 read-plain y m d f g h p = rw (toZ-ofZ f, toZ-ofZ g, toZ-ofZ h) at p
 
 -- ---- the offsets, where s is that of the month
-module _ (y m d : ℤ) (p : Plain y m d) (s : Float) (e : (mjd f : Float) → s ≡ offsetAt fixed (monthNumber y (natAbs m)) mjd f) where
-  pub plain-offset : (f : Float) → inDay f ≡ true → answer s ≡ taiUtcOffset fixed y m d f
-  plain-offset f h = ap answer (e _ f) ∙ sym (offset-given fixed y m d f h _ (mjd-given y m d (valid y m d p)))
+module _ (rows : List Row) (y m d : ℤ) (p : Plain y m d) (s : Float) (e : (mjd f : Float) → s ≡ offsetAt rows (monthNumber y (natAbs m)) mjd f) where
+  pub plain-offset : (f : Float) → inDay f ≡ true → answer s ≡ taiUtcOffset rows y m d f
+  plain-offset f h = ap answer (e _ f) ∙ sym (offset-given rows y m d f h _ (mjd-given y m d (valid y m d p)))
 
-  pub plain-offsets : answer (offsets s s s) ≡ dayOffsets fixed y m d
+  pub plain-offsets : answer (offsets s s s) ≡ dayOffsets rows y m d
   unfolding offsetsOfDay
   plain-offsets =
       (λ i. answer (offsets (e (ofInt binary64 (mjdNumber y m d)) nought i) (e (ofInt binary64 (mjdNumber y m d)) half i) (e (ofInt binary64 (sucℤ (mjdNumber y m d))) nought i)))
-      ∙ sym (day-given fixed y m d _ (mjd-given y m d (valid y m d p)) _ (p .same-month))
+      ∙ sym (day-given rows y m d _ (mjd-given y m d (valid y m d p)) _ (p .same-month))

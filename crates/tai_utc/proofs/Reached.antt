@@ -2,7 +2,7 @@
 -- Assumes nothing.
 use mathlib.Core.Path.{_≡_, refl, ap, sym, subst, _∙_}
 use mathlib.Core.Bool.{Bool, true, false, cond, _||_}
-use mathlib.Core.List.{List, [], _∷_}
+use mathlib.Core.List.{List, [], _∷_, _++_}
 use Prim.Native.Nat.{ℕ, zero, suc, _-_, _≤_, _<_}
 use native.Mathlib.Omega.{arith}
 use native.Mathlib.Nat.{not-suc-le-zero, le-of-suc-le-suc}
@@ -63,6 +63,17 @@ pub at-most : (l : List ℕ) (n : ℕ) → reached l n ≤ length l
 unfolding reached
 at-most [] n = omega arith
 at-most (a ∷ l) n = top-most (reached l n) (length l) (leb a n) (at-most l n)
+
+-- ---- with one month more at the end of the list
+pub last-has-begun : (l : List ℕ) (a n : ℕ) → a ≤ n → reached (l ++ (a ∷ [])) n ≡ suc (length l)
+unfolding reached
+last-has-begun [] a n h = rw (le-leb a n h)
+last-has-begun (b ∷ l) a n h = top-more (reached (l ++ (a ∷ [])) n) (length l) (leb b n) (last-has-begun l a n h)
+
+pub last-has-not : (l : List ℕ) (a n : ℕ) → n < a → reached (l ++ (a ∷ [])) n ≡ reached l n
+unfolding reached
+last-has-not [] a n h = rw (lt-leb a n h)
+last-has-not (b ∷ l) a n h = ap (λ (k : ℕ). onTop k (leb b n)) (last-has-not l a n h)
 
 -- ---- in a list that rises
 tail-rises : (a : ℕ) (l : List ℕ) → T (rising (a ∷ l)) → T (rising l)

@@ -29,7 +29,7 @@ no-rows n h = omega (arith, high (starts fixed) fixed-rises 0 n (omega arith) h)
 
 pub before-1960 : (n : ℕ) (mjd f : Float) → n < 23520 → offsetAt fixed n mjd f ≡ nought
 unfolding offsetAt
-before-1960 n mjd f h = sym (absent (reached (starts fixed) n) mjd f (no-rows n h))
+before-1960 n mjd f h = sym (absent fixed (reached (starts fixed) n) mjd f (no-rows n h))
 
 pub one-row : (n : ℕ) → 23520 ≤ n → 1 ≤ reached (starts fixed) n
 unfolding fixed

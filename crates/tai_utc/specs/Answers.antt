@@ -1,11 +1,18 @@
 -- The outcome that each case of the answer enums stands for. Written from document 01, "Refusals by number". Assumes nothing.
+use Prim.Native.Nat.{ℕ}
 use lib.Ieee.{Float}
 use Rattle.refusals.specs.Outcome.{Outcome, answer, refusal}
 use Rattle.tai_utc.specs.declared.DayOffsets.{DayOffsets}
+use Rattle.tai_utc.specs.declared.RowsAnswer.{RowsAnswer}
+use Rattle.tai_utc.specs.declared.RowsAnswer.the-variants as Rows
 use Rattle.tai_utc.specs.declared.SecondsAnswer.{SecondsAnswer}
 use Rattle.tai_utc.specs.declared.SecondsAnswer.the-variants as Offset
 use Rattle.tai_utc.specs.declared.DayOffsetsAnswer.{DayOffsetsAnswer}
 use Rattle.tai_utc.specs.declared.DayOffsetsAnswer.the-variants as Day
+
+unfoldable pub rowsOutcome : RowsAnswer → Outcome ℕ
+rowsOutcome (Rows.Rows n) = answer n
+rowsOutcome (Rows.Refused number) = refusal number
 
 unfoldable pub secondsOutcome : SecondsAnswer → Outcome Float
 secondsOutcome (Offset.Seconds x) = answer x

@@ -1,6 +1,6 @@
 -- TAI-UTC at a fraction of a day, by a table of rows: the Rust's `get_tai_utc_offset` (scales/common.rs), each operation rounded once and in its order.
 -- Assumes nothing.
-use Prim.Native.Nat.{ℕ, zero, suc, _-_}
+use Prim.Native.Nat.{ℕ, zero, suc, _-_, _/_}
 use mathlib.Core.Bool.{Bool, cond, _&&_}
 use mathlib.Core.List.{List}
 use lib.Dec.{eqb}
@@ -56,6 +56,10 @@ taiUtcOffset rows y m d fraction =
 -- the row that is reached where k months of the fixed table have begun
 abbrev pub rowAt : ℕ → Row
 rowAt k = getD fixed (k - 1) none
+
+-- the whole seconds of the row reached in month n
+abbrev pub secondsIn : List Row → ℕ → ℕ
+secondsIn rows n = getD rows (reached (starts rows) n - 1) none .units / 10000000
 
 -- k seconds as a float
 abbrev pub wholeF : ℕ → Float

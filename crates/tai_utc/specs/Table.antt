@@ -88,11 +88,15 @@ unfoldable pub reached : List ℕ → ℕ → ℕ
 reached [] n = 0
 reached (a ∷ rest) n = onTop (reached rest n) (leb a n)
 
+-- each element stands to the one after it as `to` asks
+abbrev pub inTurn : {A : Type 0} → (A → A → Bool) → List A → Bool
+inTurn to [] = true
+inTurn to (a ∷ []) = true
+inTurn to (a ∷ (b ∷ l)) = to a b && inTurn to (b ∷ l)
+
 -- each month is later than the one before
 abbrev pub rising : List ℕ → Bool
-rising [] = true
-rising (a ∷ []) = true
-rising (a ∷ (b ∷ l)) = ltb a b && rising (b ∷ l)
+rising l = inTurn ltb l
 
 -- i is the place of the last month of the list that has begun in month n
 pub record LastBegun (l : List ℕ) (n i : ℕ) : Type 0 where

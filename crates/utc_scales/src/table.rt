@@ -4,12 +4,13 @@ ghost use Prim.Native.Nat.{_≤_};
 ghost use lib.IntN.{pos, natAbs, _-ℤ_};
 ghost use lib.Ieee.{binary64, ofInt};
 ghost use Rattle.calendar.specs.Gregorian.{gregorianDate};
-ghost use Rattle.tai_utc.specs.Table.{fixed};
+ghost use Rattle.tai_utc.specs.Lent.{rowsOf};
 ghost use Rattle.tai_utc.specs.Answers.{secondsOutcome, dayOffsetsOutcome};
 ghost use Rattle.utc_scales.specs.Dates.{offsetAt0h, offsetsOf};
 ghost use Rattle.utc_scales.specs.Known.{RightKnown};
 use tai_utc::DayOffsets;
 use tai_utc::DayOffsetsAnswer;
+use tai_utc::LentRows;
 use tai_utc::SecondsAnswer;
 
 // The offsets of a day, looked up.
@@ -25,34 +26,34 @@ pub(crate) enum Known {
 }
 
 // At 0h.
-pub(crate) fn offset_at_0h(day: i64) -> SecondsAnswer
-    ensures { λ r. ⌜ secondsOutcome r ≡ offsetAt0h fixed (gregorianDate day) ⌝ }
+pub(crate) fn offset_at_0h(day: i64, table: LentRows) -> SecondsAnswer
+    ensures { λ r. ⌜ secondsOutcome r ≡ offsetAt0h (rowsOf table) (gregorianDate day) ⌝ }
 {
     let t = calendar::gregorian_date(day);
-    tai_utc::get_tai_utc_offset(t.year, t.month as i32, t.day as i32, 0.0)
+    tai_utc::get_tai_utc_offset_by_rows(t.year, t.month as i32, t.day as i32, 0.0, table)
 }
 
 // At 0h, at 12h and at 24h.
-pub(crate) fn offsets_of(day: i64) -> DayOffsetsAnswer
-    ensures { λ r. ⌜ dayOffsetsOutcome r ≡ offsetsOf fixed (gregorianDate day) ⌝ }
+pub(crate) fn offsets_of(day: i64, table: LentRows) -> DayOffsetsAnswer
+    ensures { λ r. ⌜ dayOffsetsOutcome r ≡ offsetsOf (rowsOf table) (gregorianDate day) ⌝ }
 {
     let t = calendar::gregorian_date(day);
-    tai_utc::day_offsets(t.year, t.month as i32, t.day as i32)
+    tai_utc::day_offsets_by_rows(t.year, t.month as i32, t.day as i32, table)
 }
 
 // The same, with no look-up where the day is the known one.
-pub(crate) fn offsets_with(day: i64, known: Known) -> DayOffsetsAnswer
-    requires { ⌜ RightKnown known ⌝ }
-    ensures { λ r. ⌜ dayOffsetsOutcome r ≡ offsetsOf fixed (gregorianDate day) ⌝ }
+pub(crate) fn offsets_with(day: i64, known: Known, table: LentRows) -> DayOffsetsAnswer
+    requires { ⌜ RightKnown (rowsOf table) known ⌝ }
+    ensures { λ r. ⌜ dayOffsetsOutcome r ≡ offsetsOf (rowsOf table) (gregorianDate day) ⌝ }
 {
     match known {
-        Known::Nothing => offsets_of(day),
+        Known::Nothing => offsets_of(day, table),
         Known::Day(k) => {
             if day == k.day {
                 let offsets = k.offsets;
                 DayOffsetsAnswer::Offsets(offsets)
             } else {
-                offsets_of(day)
+                offsets_of(day, table)
             }
         }
     }

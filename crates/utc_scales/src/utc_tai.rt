@@ -4,7 +4,7 @@ ghost use Rattle.refusals.specs.Outcome.{onward};
 ghost use Rattle.julian.specs.JulianDate.{julian, julianOutcome};
 ghost use Rattle.julian.specs.DayFraction.{fractionOutcome};
 ghost use Rattle.constants.specs.Constants.{mjdZeroPoint};
-ghost use Rattle.tai_utc.specs.Table.{fixed};
+ghost use Rattle.tai_utc.specs.Lent.{rowsOf, tableOf};
 ghost use Rattle.scales.specs.Scales.{taiOutcome, utcOutcome};
 ghost use Rattle.utc_scales.specs.Known.{RightKnown, partOutcome, RightPart, SameDays};
 ghost use Rattle.utc_scales.specs.UtcTai as U;
@@ -27,6 +27,7 @@ use scales::UTC;
 use scales::UtcAnswer;
 use tai_utc::DayOffsets;
 use tai_utc::DayOffsetsAnswer;
+use tai_utc::LentRows;
 
 // The smaller part of a date, and the day that was looked up for it.
 pub(crate) struct KnownPart {
@@ -59,13 +60,13 @@ fn tai_from_midnight(big: f64, mjd: f64, o: DayOffsets, fraction: f64) -> f64
 }
 
 // The smaller part in TAI. Refusals in order: 6, then the date's.
-pub(crate) fn tai_fraction(big: f64, small: f64, known: Known) -> PartAnswer
-    requires { ⌜ RightKnown known ⌝ }
-    ensures { λ r. ⌜ (partOutcome r ≡ U.taiFraction fixed big small) × RightPart r × SameDays big small r ⌝ }
+pub(crate) fn tai_fraction(big: f64, small: f64, known: Known, table: LentRows) -> PartAnswer
+    requires { ⌜ RightKnown (rowsOf table) known ⌝ }
+    ensures { λ r. ⌜ (partOutcome r ≡ U.taiFraction (rowsOf table) big small) × RightPart (rowsOf table) r × SameDays (rowsOf table) big small r ⌝ }
 {
     match day_number::day_number_and_fraction(big, small) {
         DayAnswer::Refused(number) => PartAnswer::Refused(number),
-        DayAnswer::Day(d) => match offsets_with(d.day, known) {
+        DayAnswer::Day(d) => match offsets_with(d.day, known, table) {
             DayOffsetsAnswer::Refused(number) => PartAnswer::Refused(number),
             DayOffsetsAnswer::Offsets(o) => {
                 let part = tai_from_midnight(big, mjd_of(d.day), o, d.fraction);
@@ -81,36 +82,47 @@ pub(crate) fn tai_fraction(big: f64, small: f64, known: Known) -> PartAnswer
     }
 }
 
-fn utc_to_tai_jd(jd: JulianDate) -> JulianAnswer
-    ensures { λ r. ⌜ julianOutcome r ≡ U.utcToTai fixed jd ⌝ }
+fn utc_to_tai_jd(jd: JulianDate, table: LentRows) -> JulianAnswer
+    ensures { λ r. ⌜ julianOutcome r ≡ U.utcToTai (rowsOf table) jd ⌝ }
 {
     let p = split(jd);
-    match tai_fraction(p.larger, p.smaller, Known::Nothing) {
+    match tai_fraction(p.larger, p.smaller, Known::Nothing, table) {
         PartAnswer::Refused(number) => JulianAnswer::Refused(number),
         PartAnswer::Part(k) => JulianAnswer::Date(put_back(p, k.part)),
     }
 }
 
-// Refusals in order: 6, then the date's.
-pub fn utc_to_tai(utc: UTC) -> TaiAnswer
-    ensures { λ r. ⌜ taiOutcome r ≡ U.utcToTai fixed (utc .0) ⌝ }
+// By the rows of a table that is tested elsewhere. Refusals in order: 6, then the date's.
+pub fn utc_to_tai_by_rows(utc: UTC, table: LentRows) -> TaiAnswer
+    ensures { λ r. ⌜ taiOutcome r ≡ U.utcToTai (rowsOf table) (utc .0) ⌝ }
 {
-    match utc_to_tai_jd(utc.0) {
+    match utc_to_tai_jd(utc.0, table) {
         JulianAnswer::Refused(number) => TaiAnswer::Refused(number),
         JulianAnswer::Date(jd) => TaiAnswer::Date(TAI(jd)),
     }
 }
 
+// Refusals in order: 20 to 22 the table, 6, then the date's.
+pub fn utc_to_tai(utc: UTC, table: LentRows) -> TaiAnswer
+    ensures { λ r. ⌜ taiOutcome r ≡ onward (tableOf table) (λ rows. U.utcToTai rows (utc .0)) ⌝ }
+{
+    let number = tai_utc::table_refusal(table);
+    if number != 0 {
+        return TaiAnswer::Refused(number);
+    }
+    utc_to_tai_by_rows(utc, table)
+}
+
 // One round: the guess moved by what its TAI is off.
-fn refined(big: f64, small: f64, guess: f64, known: Known) -> PartAnswer
-    requires { ⌜ RightKnown known ⌝ }
-    ensures { λ r. ⌜ (partOutcome r ≡ U.refined fixed big small guess) × RightPart r ⌝ }
+fn refined(big: f64, small: f64, guess: f64, known: Known, table: LentRows) -> PartAnswer
+    requires { ⌜ RightKnown (rowsOf table) known ⌝ }
+    ensures { λ r. ⌜ (partOutcome r ≡ U.refined (rowsOf table) big small guess) × RightPart (rowsOf table) r ⌝ }
 {
     let p = split(JulianDate {
         jd1: big,
         jd2: guess,
     });
-    match tai_fraction(p.larger, p.smaller, known) {
+    match tai_fraction(p.larger, p.smaller, known, table) {
         PartAnswer::Refused(number) => PartAnswer::Refused(number),
         PartAnswer::Part(k) => {
             let tai = put_back(p, k.part);
@@ -123,38 +135,49 @@ fn refined(big: f64, small: f64, guess: f64, known: Known) -> PartAnswer
 }
 
 // One round more, where the guess was not refused.
-fn refined_again(big: f64, small: f64, guess: PartAnswer) -> PartAnswer
-    requires { ⌜ RightPart guess ⌝ }
-    ensures { λ r. ⌜ (partOutcome r ≡ onward (partOutcome guess) (U.refined fixed big small)) × RightPart r ⌝ }
+fn refined_again(big: f64, small: f64, guess: PartAnswer, table: LentRows) -> PartAnswer
+    requires { ⌜ RightPart (rowsOf table) guess ⌝ }
+    ensures { λ r. ⌜ (partOutcome r ≡ onward (partOutcome guess) (U.refined (rowsOf table) big small)) × RightPart (rowsOf table) r ⌝ }
 {
     match guess {
         PartAnswer::Refused(number) => PartAnswer::Refused(number),
         PartAnswer::Part(k) => {
             let day = k.known;
-            refined(big, small, k.part, Known::Day(day))
+            refined(big, small, k.part, Known::Day(day), table)
         }
     }
 }
 
 // The guess starts at TAI and keeps TAI's larger part, so only the smaller part moves. The rounds mostly stay on one day, which is looked up once.
-fn refine_utc_fraction(big: f64, small: f64) -> FractionAnswer
-    ensures { λ r. ⌜ fractionOutcome r ≡ U.refineUtcFraction fixed big small ⌝ }
+fn refine_utc_fraction(big: f64, small: f64, table: LentRows) -> FractionAnswer
+    ensures { λ r. ⌜ fractionOutcome r ≡ U.refineUtcFraction (rowsOf table) big small ⌝ }
 {
-    let one = refined(big, small, small, Known::Nothing);
-    let two = refined_again(big, small, one);
-    match refined_again(big, small, two) {
+    let one = refined(big, small, small, Known::Nothing, table);
+    let two = refined_again(big, small, one, table);
+    match refined_again(big, small, two, table) {
         PartAnswer::Refused(number) => FractionAnswer::Refused(number),
         PartAnswer::Part(k) => FractionAnswer::Fraction(k.part),
     }
 }
 
-// Refusals in each round, in order: 6, then the date's.
-pub fn tai_to_utc(tai: TAI) -> UtcAnswer
-    ensures { λ r. ⌜ utcOutcome r ≡ U.taiToUtc fixed (tai .0) ⌝ }
+// By the rows of a table that is tested elsewhere. Refusals in each round, in order: 6, then the date's.
+pub fn tai_to_utc_by_rows(tai: TAI, table: LentRows) -> UtcAnswer
+    ensures { λ r. ⌜ utcOutcome r ≡ U.taiToUtc (rowsOf table) (tai .0) ⌝ }
 {
     let p = split(tai.0);
-    match placed(p, refine_utc_fraction(p.larger, p.smaller)) {
+    match placed(p, refine_utc_fraction(p.larger, p.smaller, table)) {
         JulianAnswer::Refused(number) => UtcAnswer::Refused(number),
         JulianAnswer::Date(jd) => UtcAnswer::Date(UTC(jd)),
     }
+}
+
+// Refusals in order: 20 to 22 the table; then in each round 6, then the date's.
+pub fn tai_to_utc(tai: TAI, table: LentRows) -> UtcAnswer
+    ensures { λ r. ⌜ utcOutcome r ≡ onward (tableOf table) (λ rows. U.taiToUtc rows (tai .0)) ⌝ }
+{
+    let number = tai_utc::table_refusal(table);
+    if number != 0 {
+        return UtcAnswer::Refused(number);
+    }
+    tai_to_utc_by_rows(tai, table)
 }

@@ -4,7 +4,8 @@ ghost use Rattle.constants.specs.Constants.{mjdZeroPoint};
 ghost use Rattle.julian.specs.JulianDate.{julian, julianOutcome};
 ghost use Rattle.julian.specs.DayFraction.{fractionOutcome};
 ghost use Rattle.julian.specs.Finite as J;
-ghost use Rattle.tai_utc.specs.Table.{fixed};
+ghost use Rattle.refusals.specs.Outcome.{onward};
+ghost use Rattle.tai_utc.specs.Lent.{rowsOf, tableOf};
 ghost use Rattle.tai_utc.specs.Answers as T;
 ghost use Rattle.scales.specs.Scales.{utcOutcome, ut1Outcome};
 ghost use Rattle.utc_scales.specs.LargerPart.{changeSmaller};
@@ -32,6 +33,7 @@ use scales::UT1;
 use scales::UTC;
 use scales::Ut1Answer;
 use scales::UtcAnswer;
+use tai_utc::LentRows;
 
 // What a scanned day shows: its TAI-UTC, with no step from the day before; or DUT1 near its step.
 enum DayScan {
@@ -41,43 +43,43 @@ enum DayScan {
 }
 
 // TAI-UTC at 0h of the day of a Julian date.
-fn offset_of_date(jd1: f64, jd2: f64) -> tai_utc::SecondsAnswer
-    ensures { λ r. ⌜ T.secondsOutcome r ≡ offsetOfDate fixed jd1 jd2 ⌝ }
+fn offset_of_date(jd1: f64, jd2: f64, table: LentRows) -> tai_utc::SecondsAnswer
+    ensures { λ r. ⌜ T.secondsOutcome r ≡ offsetOfDate (rowsOf table) jd1 jd2 ⌝ }
 {
     match day_number::day_number_and_fraction(jd1, jd2) {
         DayAnswer::Refused(number) => tai_utc::SecondsAnswer::Refused(number),
-        DayAnswer::Day(d) => offset_at_0h(d.day),
+        DayAnswer::Day(d) => offset_at_0h(d.day, table),
     }
 }
 
 // The same of jd1 and jd2 in their order. Where jd1 is the larger part, the day has been looked up for TAI.
-fn offset_with(p: Parts, k: KnownPart) -> tai_utc::SecondsAnswer
-    requires { ⌜ SameDay (p .larger) (p .smaller) k ⌝ }
-    ensures { λ r. ⌜ T.secondsOutcome r ≡ offsetOfParts fixed p ⌝ }
+fn offset_with(p: Parts, k: KnownPart, table: LentRows) -> tai_utc::SecondsAnswer
+    requires { ⌜ SameDay (rowsOf table) (p .larger) (p .smaller) k ⌝ }
+    ensures { λ r. ⌜ T.secondsOutcome r ≡ offsetOfParts (rowsOf table) p ⌝ }
 {
     if p.first {
         let day = k.known;
         let o = day.offsets;
         tai_utc::SecondsAnswer::Seconds(o.at_0h)
     } else {
-        offset_of_date(p.smaller, p.larger)
+        offset_of_date(p.smaller, p.larger, table)
     }
 }
 
-// Refusals in order: 10, 6, the date's.
-pub fn utc_to_ut1_with_dut1(utc: UTC, dut1: f64) -> Ut1Answer
-    ensures { λ r. ⌜ ut1Outcome r ≡ U.utcToUt1 fixed (utc .0) dut1 ⌝ }
+// By the rows of a table that is tested elsewhere. Refusals in order: 10, 6, the date's.
+pub fn utc_to_ut1_with_dut1_by_rows(utc: UTC, dut1: f64, table: LentRows) -> Ut1Answer
+    ensures { λ r. ⌜ ut1Outcome r ≡ U.utcToUt1 (rowsOf table) (utc .0) dut1 ⌝ }
 {
     if let julian::OffsetAnswer::Refused(number) = julian::finite_arg(dut1) {
         return Ut1Answer::Refused(number);
     }
     let jd = utc.0;
     let p = split(jd);
-    match tai_fraction(p.larger, p.smaller, Known::Nothing) {
+    match tai_fraction(p.larger, p.smaller, Known::Nothing, table) {
         PartAnswer::Refused(number) => Ut1Answer::Refused(number),
         PartAnswer::Part(k) => {
             let tai = put_back(p, k.part);
-            match offset_with(p, k) {
+            match offset_with(p, k, table) {
                 tai_utc::SecondsAnswer::Refused(number) => Ut1Answer::Refused(number),
                 tai_utc::SecondsAnswer::Seconds(x) => {
                     scales::ut1_tai::tai_to_ut1_with_offset(TAI(tai), dut1 - x)
@@ -85,6 +87,17 @@ pub fn utc_to_ut1_with_dut1(utc: UTC, dut1: f64) -> Ut1Answer
             }
         }
     }
+}
+
+// Refusals in order: 20 to 22 the table, 10, 6, the date's.
+pub fn utc_to_ut1_with_dut1(utc: UTC, dut1: f64, table: LentRows) -> Ut1Answer
+    ensures { λ r. ⌜ ut1Outcome r ≡ onward (tableOf table) (λ rows. U.utcToUt1 rows (utc .0) dut1) ⌝ }
+{
+    let number = tai_utc::table_refusal(table);
+    if number != 0 {
+        return Ut1Answer::Refused(number);
+    }
+    utc_to_ut1_with_dut1_by_rows(utc, dut1, table)
 }
 
 // DUT1 less the step, where both have one sign.
@@ -130,12 +143,12 @@ fn near_step(big: f64, small: f64, dut1: f64, delta: f64, mjd: f64) -> f64
 }
 
 // The day i days later. Refusals in order: 6, 1.
-fn scan_day(big: f64, small: f64, dut1: f64, i: f64, before: f64) -> DayScan
-    ensures { λ r. ⌜ U.scanOutcome r ≡ U.scanDay fixed big small dut1 i before ⌝ }
+fn scan_day(big: f64, small: f64, dut1: f64, i: f64, before: f64, table: LentRows) -> DayScan
+    ensures { λ r. ⌜ U.scanOutcome r ≡ U.scanDay (rowsOf table) big small dut1 i before ⌝ }
 {
     match day_number::day_number_and_fraction(big, small + i) {
         DayAnswer::Refused(number) => DayScan::Refused(number),
-        DayAnswer::Day(d) => match offset_at_0h(d.day) {
+        DayAnswer::Day(d) => match offset_at_0h(d.day, table) {
             tai_utc::SecondsAnswer::Refused(number) => DayScan::Refused(number),
             tai_utc::SecondsAnswer::Seconds(x) => {
                 let delta = x - before;
@@ -150,13 +163,13 @@ fn scan_day(big: f64, small: f64, dut1: f64, i: f64, before: f64) -> DayScan
 }
 
 // The days 0 to 3, until a step; with none DUT1 stays.
-fn scan(big: f64, small: f64, dut1: f64, first: f64) -> julian::OffsetAnswer
-    ensures { λ r. ⌜ J.offsetOutcome r ≡ U.scan fixed big small dut1 4 0 first ⌝ }
+fn scan(big: f64, small: f64, dut1: f64, first: f64, table: LentRows) -> julian::OffsetAnswer
+    ensures { λ r. ⌜ J.offsetOutcome r ≡ U.scan (rowsOf table) big small dut1 4 0 first ⌝ }
 {
     let mut before = first;
     let mut i: u32 = 0;
     while i < 4 {
-        match scan_day(big, small, dut1, i as f64, before) {
+        match scan_day(big, small, dut1, i as f64, before, table) {
             DayScan::NoStep(x) => {
                 before = x;
             }
@@ -173,20 +186,25 @@ fn scan(big: f64, small: f64, dut1: f64, first: f64) -> julian::OffsetAnswer
 }
 
 // Day -1 is only looked up.
-fn adjust_dut1_for_leap_second(big: f64, small: f64, dut1: f64) -> julian::OffsetAnswer
-    ensures { λ r. ⌜ J.offsetOutcome r ≡ U.adjustDut1 fixed big small dut1 ⌝ }
+fn adjust_dut1_for_leap_second(
+    big: f64,
+    small: f64,
+    dut1: f64,
+    table: LentRows,
+) -> julian::OffsetAnswer
+    ensures { λ r. ⌜ J.offsetOutcome r ≡ U.adjustDut1 (rowsOf table) big small dut1 ⌝ }
 {
-    match offset_of_date(big, small + -1.0) {
+    match offset_of_date(big, small + -1.0, table) {
         tai_utc::SecondsAnswer::Refused(number) => julian::OffsetAnswer::Refused(number),
-        tai_utc::SecondsAnswer::Seconds(x) => scan(big, small, dut1, x),
+        tai_utc::SecondsAnswer::Seconds(x) => scan(big, small, dut1, x, table),
     }
 }
 
 // The smaller part in UTC.
-fn utc_fraction(dut1: f64, big: f64, small: f64) -> FractionAnswer
-    ensures { λ r. ⌜ fractionOutcome r ≡ U.utcFraction fixed dut1 big small ⌝ }
+fn utc_fraction(dut1: f64, big: f64, small: f64, table: LentRows) -> FractionAnswer
+    ensures { λ r. ⌜ fractionOutcome r ≡ U.utcFraction (rowsOf table) dut1 big small ⌝ }
 {
-    match adjust_dut1_for_leap_second(big, small, dut1) {
+    match adjust_dut1_for_leap_second(big, small, dut1, table) {
         julian::OffsetAnswer::Refused(number) => FractionAnswer::Refused(number),
         julian::OffsetAnswer::Offset(x) => FractionAnswer::Fraction(
             small - x / SECONDS_PER_DAY_F64,
@@ -195,25 +213,36 @@ fn utc_fraction(dut1: f64, big: f64, small: f64) -> FractionAnswer
 }
 
 // The same in its place.
-fn less_dut1(jd: JulianDate, dut1: f64) -> JulianAnswer
-    ensures { λ r. ⌜ julianOutcome r ≡ changeSmaller (U.utcFraction fixed dut1) jd ⌝ }
+fn less_dut1(jd: JulianDate, dut1: f64, table: LentRows) -> JulianAnswer
+    ensures { λ r. ⌜ julianOutcome r ≡ changeSmaller (U.utcFraction (rowsOf table) dut1) jd ⌝ }
 {
     let p = split(jd);
-    placed(p, utc_fraction(dut1, p.larger, p.smaller))
+    placed(p, utc_fraction(dut1, p.larger, p.smaller, table))
 }
 
-// Refusals in order: 10, 9, then 6 or 1 for each scanned day.
-pub fn ut1_to_utc_with_dut1(ut1: UT1, dut1: f64) -> UtcAnswer
-    ensures { λ r. ⌜ utcOutcome r ≡ U.ut1ToUtc fixed (ut1 .0) dut1 ⌝ }
+// By the rows of a table that is tested elsewhere. Refusals in order: 10, 9, then 6 or 1 for each scanned day.
+pub fn ut1_to_utc_with_dut1_by_rows(ut1: UT1, dut1: f64, table: LentRows) -> UtcAnswer
+    ensures { λ r. ⌜ utcOutcome r ≡ U.ut1ToUtc (rowsOf table) (ut1 .0) dut1 ⌝ }
 {
     if let julian::OffsetAnswer::Refused(number) = julian::finite_arg(dut1) {
         return UtcAnswer::Refused(number);
     }
     match julian::finite_jd(ut1.0) {
         JulianAnswer::Refused(number) => UtcAnswer::Refused(number),
-        JulianAnswer::Date(jd) => match less_dut1(jd, dut1) {
+        JulianAnswer::Date(jd) => match less_dut1(jd, dut1, table) {
             JulianAnswer::Refused(number) => UtcAnswer::Refused(number),
             JulianAnswer::Date(utc) => UtcAnswer::Date(UTC(utc)),
         },
     }
+}
+
+// Refusals in order: 20 to 22 the table, 10, 9, then 6 or 1 for each scanned day.
+pub fn ut1_to_utc_with_dut1(ut1: UT1, dut1: f64, table: LentRows) -> UtcAnswer
+    ensures { λ r. ⌜ utcOutcome r ≡ onward (tableOf table) (λ rows. U.ut1ToUtc rows (ut1 .0) dut1) ⌝ }
+{
+    let number = tai_utc::table_refusal(table);
+    if number != 0 {
+        return UtcAnswer::Refused(number);
+    }
+    ut1_to_utc_with_dut1_by_rows(ut1, dut1, table)
 }

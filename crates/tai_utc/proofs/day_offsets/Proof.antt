@@ -1,186 +1,32 @@
--- `tai_utc::day_offsets` meets its contract: a plain date has one offset, and each other branch is a case of the look-ups at 0h, at 12h and on the next day.
--- Assumes nothing.
-use mathlib.Core.Path.{_≡_, ap, sym, subst, _∙_}
-use native.Mathlib.Omega.{arith}
-use Prim.Native.Nat.{ℕ, _<_}
-use lib.IntN.{ℤ, natAbs}
+-- `tai_utc::day_offsets` meets its contract: the table is tested, and its rows are read. Assumes nothing.
+use mathlib.Core.Path.{_≡_, _∙_}
 use mir.Facts.{toZ-ofZ}
-use mir.Syntax.{w32}
-use Rattle.refusals.specs.Outcome.{answer}
-use Rattle.calendar.specs.Refusals.{nextOf}
-use Rattle.calendar.specs.DayCount.{mjdOf}
-use Rattle.calendar.proofs.Signs.{to-unsigned, read-back}
-use Rattle.calendar.proofs.Accepted.{Accepted, accepted}
-use Rattle.calendar.proofs.Mjd.{mjd-valid}
-use Rattle.calendar.proofs.NextDates.{next-in-calendar}
-use Rattle.tai_utc.specs.Table.{fixed, monthNumber}
-use Rattle.tai_utc.specs.Offset.{offsetAt}
-use Rattle.tai_utc.specs.Leap.{offsetsOfDay}
-use Rattle.tai_utc.specs.Plain.{Plain}
-use Rattle.tai_utc.specs.Answers.{dayOffsetsOutcome}
-use Rattle.tai_utc.proofs.Month.{read-month}
-use Rattle.tai_utc.proofs.Mjd.{mjd-small, read, mjd-is, no-mjd, next-date, no-next-date}
-use Rattle.tai_utc.proofs.Days.{day-refused, no-next-day, day-given}
-use Rattle.tai_utc.proofs.Plain.{plain-accepted, read-plain, plain-offsets}
 use borrow.Author.Needs.{needs}
+use Rattle.tai_utc.specs.Lent.{rowsOf}
+use Rattle.tai_utc.specs.Leap.{dayOffsets}
+use Rattle.tai_utc.specs.Answers.{dayOffsetsOutcome}
+use Rattle.tai_utc.proofs.TablesTaken.{turned-away, taken}
 use Rattle.tai_utc.proofs.day_offsets.Statement.{statement}
 use Rattle.tai_utc.proofs.day_offsets.Tie as tie
 
--- where the date is plain
-module _ (c : tie.Then1) where
-  is-plain : let s = c .before .before .args in Plain (s .year) (s .month) (s .day)
-  is-plain =
-      let s = c .before .before in
-      read-plain _ _ _ (s .fits .year) (s .fits .month) (s .fits .day) (c .before .plain-day .ensures (c .if1 .taken))
-
-  plain-ok : let s = c .before .before .args in Accepted (s .year) (s .month) (s .day)
-  plain-ok = plain-accepted _ _ _ is-plain
-
-plain-month : (c : tie.After-month-number) → let s = c .before .before .before .args in c .month-number .result ≡ monthNumber (s .year) (natAbs (s .month))
-plain-month c = let s = c .before .before .before in c .month-number .ensures ∙ read-month _ _ (s .fits .year) (s .fits .month)
-
--- where the date is not refused
-module _ (c : tie.After-known-told2) where
-  mjd : let s = c .before .before .before .before .before .before .args in mjdOf (s .year) (s .month) (s .day) ≡ answer (c .before .n .given .0 .0)
-  mjd =
-      let v = c .before .before .before in
-      let s = v .before .before .before in
-      mjd-is _ _ _ (s .fits .year) (s .fits .month) (s .fits .day) (v .modified-julian-day .result) (v .modified-julian-day .ensures) _ (c .before .n .given .1)
-
-  ok : let s = c .before .before .before .before .before .before .args in Accepted (s .year) (s .month) (s .day)
-  ok = accepted _ _ _ (mjd-valid _ _ _ _ mjd)
-
-  small : natAbs (c .before .n .given .0 .0) < 1000000000000
-  small = mjd-small _ _ _ _ (c .before .before .before .before .before .before .fits .year) mjd
-
--- where it has a next date
-next : (c : tie.After-known-told4) → let s = c .before .before .before .before .before .before .before .before .before .before .args in nextOf (s .year) (s .month) (s .day) ≡ answer (c .before .t .given .0 .0)
-next c =
-    let v = c .before .before .before in
-    let s = v .before .before .before .before .before .before .before in
-    next-date _ _ _ (s .fits .year) (s .fits .month) (s .fits .day) (v .next-calendar-day .result) (v .next-calendar-day .ensures) _ (c .before .t .given .1)
-
-day-month : (c : tie.After-month-number2) → let s = c .before .before .before .before .before .before .before .before .before .before .before .args in c .month-number2 .result ≡ monthNumber (s .year) (natAbs (s .month))
-day-month c =
-    let s = c .before .before .before .before .before .before .before .before .before .before .before in
-    c .month-number2 .ensures ∙ read-month _ _ (s .fits .year) (s .fits .month)
-
-next-month : (c : tie.After-month-number3) → let t = c .before .before .before .before .t .given .0 .0 in c .month-number3 .result ≡ monthNumber (t .year) (t .month)
-next-month c =
-    let t = c .before .before .before .before .t .given .0 .0 in
-    let f = toZ-ofZ {w = w32} {z = t .year} (record { sfits = c .before .struct-told .given .0 .1 }) in
-    c .month-number3 .ensures ∙ ap (λ (y : ℤ). monthNumber y (t .month)) f
-
-plain-day-requires : tie.Need-plain-day-requires
-plain-day-requires c κs = search needs
-
-cast-month-number : tie.Need-cast-month-number
-cast-month-number c = let s = c .before .before in to-unsigned (s .args .month) (s .fits .month) (plain-ok c .m-sign)
-
-month-number-requires : tie.Need-month-number-requires
-month-number-requires c κs =
-    let s = c .before .before in
-    let m = read-back (s .args .month) (s .fits .month) in
-    (omega (arith, m, plain-ok c .m-low), omega (arith, m, plain-ok c .m-high))
-
-seconds-from-1972-requires : tie.Need-seconds-from-1972-requires
-seconds-from-1972-requires c κs = omega (arith, plain-month c, is-plain (c .before) .from-1972)
+table-refusal-requires : tie.Need-table-refusal-requires
+table-refusal-requires c κs = search needs
 
 returns : tie.Need-returns
 unfolding dayOffsetsOutcome
-returns c =
-    let n = c .before in
-    plain-offsets _ _ _ (is-plain (n .before)) (c .seconds-from-1972 .result) (λ mjd f. c .seconds-from-1972 .ensures mjd f ∙ ap (λ (k : ℕ). offsetAt fixed k mjd f) (plain-month n))
+returns c = let r = c .before in turned-away (r .before .args .table) (r .table-refusal .result) (r .table-refusal .ensures) _ (c .if1 .taken)
 
-modified-julian-day-requires : tie.Need-modified-julian-day-requires
-modified-julian-day-requires c κs = search needs
-
-enum-known-number : tie.Need-enum-known-number
-enum-known-number c = search needs
-
-enum-known-n : tie.Need-enum-known-n
-enum-known-n c = search needs
-
-next-calendar-day-requires : tie.Need-next-calendar-day-requires
-next-calendar-day-requires c κs = search needs
-
-enum-known-number-2 : tie.Need-enum-known-number-2
-enum-known-number-2 c = search needs
-
-enum-known-t : tie.Need-enum-known-t
-enum-known-t c = search needs
-
-cast-month-number-2 : tie.Need-cast-month-number-2
-cast-month-number-2 c = let s = c .before .before .before .before .before .before .before .before .before .before in to-unsigned (s .args .month) (s .fits .month) (ok (c .before .before .before .before) .m-sign)
-
-month-number-requires-2 : tie.Need-month-number-requires-2
-month-number-requires-2 c κs =
-    let k = c .before .before .before .before in
-    let s = k .before .before .before .before .before .before in
-    let m = read-back (s .args .month) (s .fits .month) in
-    (omega (arith, m, ok k .m-low), omega (arith, m, ok k .m-high))
-
-month-number-requires-3 : tie.Need-month-number-requires-3
-month-number-requires-3 c κs =
-    let g = next-in-calendar _ _ _ _ (next (c .before .before)) in
-    (g .m-low, g .m-high)
-
-offsets-of-day-requires : tie.Need-offsets-of-day-requires
-offsets-of-day-requires c κs =
-    let k = c .before .before .before .before .before .before .before in
-    let z = k .before .n .given .0 .0 in
-    subst (λ (x : ℤ). natAbs x < 1000000000000) (sym (read z (small k))) (small k)
+day-offsets-by-rows-requires : tie.Need-day-offsets-by-rows-requires
+day-offsets-by-rows-requires c κs = search needs
 
 returns-2 : tie.Need-returns-2
-unfolding dayOffsetsOutcome
 returns-2 c =
-    let v = c .before .before .before in
-    let s = v .before .before .before in
-    sym (day-refused fixed _ _ _ _ (no-mjd _ _ _ (s .fits .year) (s .fits .month) (s .fits .day) (v .modified-julian-day .result) (v .modified-julian-day .ensures) _ (c .before .number .given .1)))
-
-returns-3 : tie.Need-returns-3
-unfolding dayOffsetsOutcome
-returns-3 c =
-    let v = c .before .before .before in
-    let k = v .before in
-    let s = k .before .before .before .before .before .before in
-    sym (no-next-day fixed _ _ _ _ (mjd k) _ (no-next-date _ _ _ (s .fits .year) (s .fits .month) (s .fits .day) (v .next-calendar-day .result) (v .next-calendar-day .ensures) _ (c .before .number2 .given .1)))
-
-same-day : (m m′ n n′ : ℕ) (z z′ : ℤ) → m ≡ m′ → n ≡ n′ → z ≡ z′ → offsetsOfDay fixed m n z ≡ offsetsOfDay fixed m′ n′ z′
-same-day m m′ n n′ z z′ p q r = λ i. offsetsOfDay fixed (p i) (q i) (r i)
-
-returns-4 : tie.Need-returns-4
-unfolding dayOffsetsOutcome
-returns-4 c =
-    let t = c .before .before .before .before in
-    let k = t .before .before .before .before in
-    ap answer
-    (c .offsets-of-day .ensures
-    ∙ same-day _ _ _ _ _ _
-    (day-month (c .before .before .before))
-    (next-month (c .before))
-    (read _ (small k)))
-    ∙ sym (day-given fixed _ _ _ _ (mjd k) _ (next t))
+    let r = c .before .before in
+    let s = r .before in
+    c .day-offsets-by-rows .ensures
+    ∙ (λ i. dayOffsets (rowsOf (s .args .table)) (toZ-ofZ (s .fits .year) i) (toZ-ofZ (s .fits .month) i) (toZ-ofZ (s .fits .day) i))
+    ∙ taken (s .args .table) (r .table-refusal .result) (r .table-refusal .ensures) _ (c .before .if1 .left)
 
 pub day-offsets-spec : {M : Type 1} → statement M
 day-offsets-spec =
-    tie.close
-    (tie.spec
-    plain-day-requires
-    cast-month-number
-    month-number-requires
-    seconds-from-1972-requires
-    returns
-    modified-julian-day-requires
-    enum-known-number
-    enum-known-n
-    next-calendar-day-requires
-    enum-known-number-2
-    enum-known-t
-    cast-month-number-2
-    month-number-requires-2
-    month-number-requires-3
-    offsets-of-day-requires
-    returns-2
-    returns-3
-    returns-4)
+    tie.close (tie.spec table-refusal-requires returns day-offsets-by-rows-requires returns-2)

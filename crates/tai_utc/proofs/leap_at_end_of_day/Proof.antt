@@ -1,42 +1,32 @@
--- `tai_utc::leap_at_end_of_day` meets its contract: the leap of the offsets of the day. Assumes nothing.
-use mathlib.Core.Path.{_≡_, ap, sym, _∙_}
-use lib.Ieee.{ofBits}
+-- `tai_utc::leap_at_end_of_day` meets its contract: the table is tested, and its rows are read. Assumes nothing.
+use mathlib.Core.Path.{_≡_, _∙_}
 use mir.Facts.{toZ-ofZ}
-use Rattle.refusals.specs.Outcome.{Outcome, onward, answer}
-use Rattle.tai_utc.specs.declared.DayOffsets.{DayOffsets}
-use Rattle.tai_utc.specs.Table.{fixed}
-use Rattle.tai_utc.specs.Leap.{dayOffsets, leapOf, leapAtEndOfDay}
-use Rattle.tai_utc.specs.Answers.{secondsOutcome, dayOffsetsOutcome}
 use borrow.Author.Needs.{needs}
+use Rattle.tai_utc.specs.Lent.{rowsOf}
+use Rattle.tai_utc.specs.Leap.{leapAtEndOfDay}
+use Rattle.tai_utc.specs.Answers.{secondsOutcome}
+use Rattle.tai_utc.proofs.TablesTaken.{turned-away, taken}
 use Rattle.tai_utc.proofs.leap_at_end_of_day.Statement.{statement}
 use Rattle.tai_utc.proofs.leap_at_end_of_day.Tie as tie
 
-called : (c : tie.After-day-offsets) → dayOffsetsOutcome (c .day-offsets .result) ≡ dayOffsets fixed (c .before .args .year) (c .before .args .month) (c .before .args .day)
-called c =
-    let s = c .before in
-    c .day-offsets .ensures ∙ (λ i. dayOffsets fixed (toZ-ofZ (s .fits .year) i) (toZ-ofZ (s .fits .month) i) (toZ-ofZ (s .fits .day) i))
-
-day-offsets-requires : tie.Need-day-offsets-requires
-day-offsets-requires c κs = search needs
-
-enum-known-number : tie.Need-enum-known-number
-enum-known-number c = search needs
-
-enum-known-o : tie.Need-enum-known-o
-enum-known-o c = search needs
+table-refusal-requires : tie.Need-table-refusal-requires
+table-refusal-requires c κs = search needs
 
 returns : tie.Need-returns
-unfolding secondsOutcome dayOffsetsOutcome leapAtEndOfDay onward
-returns c =
-    let v = c .before .before .before in
-    ap (λ (o : Outcome DayOffsets). onward o (λ p. answer (leapOf p))) (ap dayOffsetsOutcome (sym (c .before .number .given .1)) ∙ called v)
+unfolding secondsOutcome
+returns c = let r = c .before in turned-away (r .before .args .table) (r .table-refusal .result) (r .table-refusal .ensures) _ (c .if1 .taken)
+
+leap-at-end-of-day-by-rows-requires : tie.Need-leap-at-end-of-day-by-rows-requires
+leap-at-end-of-day-by-rows-requires c κs = search needs
 
 returns-2 : tie.Need-returns-2
-unfolding secondsOutcome dayOffsetsOutcome leapAtEndOfDay leapOf onward ofBits
 returns-2 c =
-    let k = c .before .before .before .before in
-    ap (λ (o : Outcome DayOffsets). onward o (λ p. answer (leapOf p))) (ap dayOffsetsOutcome (sym (k .o .given .1)) ∙ called (k .before .before))
+    let r = c .before .before in
+    let s = r .before in
+    c .leap-at-end-of-day-by-rows .ensures
+    ∙ (λ i. leapAtEndOfDay (rowsOf (s .args .table)) (toZ-ofZ (s .fits .year) i) (toZ-ofZ (s .fits .month) i) (toZ-ofZ (s .fits .day) i))
+    ∙ taken (s .args .table) (r .table-refusal .result) (r .table-refusal .ensures) _ (c .before .if1 .left)
 
 pub leap-at-end-of-day-spec : {M : Type 1} → statement M
 leap-at-end-of-day-spec =
-    tie.close (tie.spec day-offsets-requires enum-known-number enum-known-o returns returns-2)
+    tie.close (tie.spec table-refusal-requires returns leap-at-end-of-day-by-rows-requires returns-2)

@@ -1,12 +1,13 @@
 -- `tai_utc::next_rows_reached` meets its contract: the same month has the same rows. Assumes nothing.
 use mathlib.Core.Path.{ap, sym, _∙_}
-use Rattle.tai_utc.specs.Table.{fixed, starts, reached}
+use Rattle.tai_utc.specs.Table.{starts, reached}
+use Rattle.tai_utc.specs.Lent.{rowsOf}
 use borrow.Author.Needs.{needs}
 use Rattle.tai_utc.proofs.next_rows_reached.Statement.{statement}
 use Rattle.tai_utc.proofs.next_rows_reached.Tie as tie
 
 returns : tie.Need-returns
-returns c = (c .before .pre .0 ∙ ap (reached (starts fixed)) (sym (c .if1 .taken)), c .before .pre .1)
+returns c = (c .before .pre .0 ∙ ap (reached (starts (rowsOf (c .before .args .t)))) (sym (c .if1 .taken)), c .before .pre .1)
 
 table-rows-reached-requires : tie.Need-table-rows-reached-requires
 table-rows-reached-requires c κs = search needs

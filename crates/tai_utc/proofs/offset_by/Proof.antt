@@ -1,11 +1,16 @@
 -- `tai_utc::offset_by` meets its contract: the three answers are those of At.antt.
 -- Assumes nothing.
-use mathlib.Core.Path.{_≡_}
-use Prim.Native.Nat.{ℕ, _<_}
+use mathlib.Core.Path.{_≡_, ap, sym, _∙_}
+use mathlib.Core.Bool.{not}
+use Prim.Native.Nat.{ℕ, _-_, _<_}
 use native.Mathlib.Omega.{arith}
 use lib.Ieee.{ofBits}
+use borrow.Author.Tests.{lt-ltb, le-ltb}
 use borrow.Author.Needs.{needs}
-use Rattle.tai_utc.proofs.At.{absent, drifting, steady}
+use Rattle.tai_utc.specs.Lent.{lentSize, rowsOf}
+use Rattle.tai_utc.specs.Offset.{secondsOf, startOf, rateOf}
+use Rattle.tai_utc.proofs.Tables.{fixed-place, table-drifts}
+use Rattle.tai_utc.proofs.At.{absent, row-drifts, row-stays}
 use Rattle.tai_utc.proofs.offset_by.Statement.{statement}
 use Rattle.tai_utc.proofs.offset_by.Tie as tie
 
@@ -16,7 +21,7 @@ returns : tie.Need-returns
 unfolding ofBits
 returns c =
     let s = c .before .args in
-    absent (s .rows) (s .mjd) (s .fraction) (c .if1 .taken)
+    absent (rowsOf (s .t)) (s .rows) (s .mjd) (s .fraction) (c .if1 .taken)
 
 sub-i : tie.Need-sub-i
 sub-i c = search needs
@@ -34,16 +39,25 @@ returns-2 : tie.Need-returns-2
 returns-2 c =
     let f = c .before .before .before .before in
     let s = f .before .args in
-    drifting (s .rows) (s .mjd) (s .fraction) (above _ (f .if1 .left)) (c .before .before .before .if2 .taken) _ _ _ (c .before .before .seconds-at .ensures) (c .before .start-at .ensures) (c .rate-at .ensures)
+    let g = c .before .before .before .if2 .taken in
+    let p = sym (fixed-place (s .t) (lentSize (s .t)) (s .rows - 1) (omega arith)) in
+    row-drifts (rowsOf (s .t)) (s .rows) (s .mjd) (s .fraction) (above _ (f .if1 .left))
+    (table-drifts (s .t) (lentSize (s .t)) (s .rows - 1) (omega arith) ∙ ap not (lt-ltb (s .rows - 1) 14 g))
+    _ _ _
+    (c .before .before .seconds-at .ensures ∙ ap secondsOf p)
+    (c .before .start-at .ensures ∙ ap startOf p)
+    (c .rate-at .ensures ∙ ap rateOf p)
 
-whole-seconds-requires : tie.Need-whole-seconds-requires
-whole-seconds-requires c κs = search needs
+seconds-of-row-requires : tie.Need-seconds-of-row-requires
+seconds-of-row-requires c κs = search needs
 
 returns-3 : tie.Need-returns-3
 returns-3 c =
     let f = c .before .before in
     let s = f .before in
-    steady (s .args .rows) (s .args .mjd) (s .args .fraction) (above _ (f .if1 .left)) (c .before .if2 .left) (omega (arith, s .pre)) _ (c .whole-seconds .ensures)
+    row-stays (rowsOf (s .args .t)) (s .args .rows) (s .args .mjd) (s .args .fraction) (above _ (f .if1 .left))
+    (table-drifts (s .args .t) (lentSize (s .args .t)) (s .args .rows - 1) (omega (arith, above _ (f .if1 .left), s .pre)) ∙ ap not (le-ltb (s .args .rows - 1) 14 (c .before .if2 .left)))
+    _ (c .seconds-of-row .ensures)
 
 pub offset-by-spec : {M : Type 1} → statement M
 offset-by-spec =
@@ -55,5 +69,5 @@ offset-by-spec =
     start-at-requires
     rate-at-requires
     returns-2
-    whole-seconds-requires
+    seconds-of-row-requires
     returns-3)

@@ -39,9 +39,9 @@ returns c =
     let s = k .before .before in
     let rows = k .before .table-rows-reached .ensures .0 in
     same-three _ _ _ _ _ _
-    (c .before .before .offset-by .ensures ∙ at-month _ _ _ _ _ rows (read (s .args .mjd) (s .pre)))
-    (c .before .offset-by2 .ensures ∙ at-month _ _ _ _ _ rows (read (s .args .mjd) (s .pre)))
-    (c .offset-by3 .ensures ∙ at-month _ _ _ _ _ (k .next-rows-reached .ensures .0) (read-next-day (s .args .mjd) (s .pre)))
+    (c .before .before .offset-by .ensures ∙ at-month _ _ _ _ _ _ rows (read (s .args .mjd) (s .pre)))
+    (c .before .offset-by2 .ensures ∙ at-month _ _ _ _ _ _ rows (read (s .args .mjd) (s .pre)))
+    (c .offset-by3 .ensures ∙ at-month _ _ _ _ _ _ (k .next-rows-reached .ensures .0) (read-next-day (s .args .mjd) (s .pre)))
 
 pub offsets-of-day-spec : {M : Type 1} → statement M
 offsets-of-day-spec =

@@ -1,20 +1,104 @@
--- `tai_utc::table_rows_reached` meets its contract: the table's months are those of the definition. Assumes nothing.
+-- `tai_utc::table_rows_reached` meets its contract. The loop's invariant: no lent row from place i on has begun. The measure is i.
+-- Assumes nothing.
+use mathlib.Core.Path.{_≡_, refl, ap, sym, subst, _∙_}
+use Prim.Native.Nat.{ℕ, suc, _+_, _-_, _≤_, _<_}
+use native.Mathlib.Omega.{arith}
+use native.Mathlib.Nat.{le-refl}
 use borrow.Author.Needs.{needs}
-use Rattle.tai_utc.specs.Table.{fixed}
-use Rattle.tai_utc.proofs.Reached.{at-most}
+use Rattle.tai_utc.specs.declared.LentRows.{LentRows}
+use Rattle.tai_utc.specs.Table.{fixed, starts, reached}
+use Rattle.tai_utc.specs.Lent.{lentRow, rowsTo, lentSize, rowsOf}
+use Rattle.tai_utc.proofs.Tables.{at-most-16, lent-found, lent-passed}
 use Rattle.tai_utc.proofs.table_rows_reached.Statement.{statement}
 use Rattle.tai_utc.proofs.table_rows_reached.Tie as tie
 
-slice-aggregate-rows-reached : tie.Need-slice-aggregate-rows-reached
-slice-aggregate-rows-reached c = search needs
+next-down : (i : ℕ) → 0 < i → i ≡ suc (i - 1)
+next-down i h = omega arith
 
-rows-reached-requires : tie.Need-rows-reached-requires
-rows-reached-requires c κs = search needs
+-- at i - 1, as the loop has it
+found : (t : LentRows) (i n : ℕ) → 0 < i → lentRow t (i - 1) .month ≤ n → reached (starts (rowsTo t i)) n ≡ 42 + i
+found t i n p h =
+    ap (λ (k : ℕ). reached (starts (rowsTo t k)) n) (next-down i p)
+    ∙ lent-found t (i - 1) n h
+    ∙ ap (λ (k : ℕ). 42 + k) (sym (next-down i p))
 
-returns : tie.Need-returns
-unfolding fixed
-returns c = (c .rows-reached .ensures, rw (c .rows-reached .ensures) (at-most _ _))
+passed : (t : LentRows) (i n : ℕ) → 0 < i → n < lentRow t (i - 1) .month → reached (starts (rowsTo t i)) n ≡ reached (starts (rowsTo t (i - 1))) n
+passed t i n p h = ap (λ (k : ℕ). reached (starts (rowsTo t k)) n) (next-down i p) ∙ lent-passed t (i - 1) n h
+
+none-left : (i : ℕ) → i ≤ 0 → i ≡ 0
+none-left i h = omega arith
+
+abbrev Inv-loop : tie.InvT-loop
+Inv-loop t n i₀ i = (i ≤ lentSize t) × (reached (starts (rowsOf t)) n ≡ reached (starts (rowsTo t i)) n)
+
+abbrev μ-loop : tie.MeasureT-loop
+μ-loop t n i₀ i = i
+
+size-of-requires : tie.Need-size-of-requires Inv-loop μ-loop
+size-of-requires c κs = search needs
+
+loop-holds : tie.Need-loop-holds Inv-loop μ-loop
+loop-holds c =
+    let e = c .size-of .ensures .0 in
+    (omega (arith, e), ap (λ (k : ℕ). reached (starts (rowsTo (c .before .args .t) k)) (c .before .args .n)) (sym e))
+
+sub-month-at : tie.Need-sub-month-at Inv-loop μ-loop
+sub-month-at c = search needs
+
+month-at-requires : tie.Need-month-at-requires Inv-loop μ-loop
+month-at-requires c κs = omega (arith, at-most-16 (c .before .before .before .args .t))
+
+cast-if1 : tie.Need-cast-if1 Inv-loop μ-loop
+cast-if1 c = search needs
+
+add-result : tie.Need-add-result Inv-loop μ-loop
+add-result c = record { fits = omega (arith, at-most-16 (c .before .before .before .before .before .args .t)) }
+
+returns : tie.Need-returns Inv-loop μ-loop
+returns c =
+    let l = c .before .before .before in
+    let s = l .before .before in
+    (sym (l .loop .inv .1 ∙ found (s .args .t) (l .loop .i) (s .args .n) (c .before .before .loop-test .taken) (omega (arith, c .if1 .taken, c .before .month-at .ensures .0))), omega (arith, l .loop .inv .0))
+
+sub-i : tie.Need-sub-i Inv-loop μ-loop
+sub-i c = search needs
+
+loop-less : tie.Need-loop-less Inv-loop μ-loop
+loop-less c = search needs
+
+loop-again : tie.Need-loop-again Inv-loop μ-loop
+loop-again c =
+    let l = c .before .before .before in
+    let s = l .before .before in
+    (omega (arith, l .loop .inv .0), l .loop .inv .1 ∙ passed (s .args .t) (l .loop .i) (s .args .n) (c .before .before .loop-test .taken) (omega (arith, c .if1 .left, c .before .month-at .ensures .0)))
+
+fixed-rows-reached-requires : tie.Need-fixed-rows-reached-requires Inv-loop μ-loop
+fixed-rows-reached-requires c κs = search needs
+
+returns-2 : tie.Need-returns-2 Inv-loop μ-loop
+unfolding rowsTo
+returns-2 c =
+    let l = c .before .before in
+    let s = l .before .before in
+    let r = c .fixed-rows-reached .ensures in
+    let z = none-left (l .loop .i) (c .before .loop-test .left) in
+    (r .0 ∙ sym (l .loop .inv .1 ∙ ap (λ (k : ℕ). reached (starts (rowsTo (s .args .t) k)) (s .args .n)) z), omega (arith, r .1))
 
 pub table-rows-reached-spec : {M : Type 1} → statement M
 table-rows-reached-spec =
-    tie.close (tie.spec slice-aggregate-rows-reached rows-reached-requires returns)
+    tie.close
+    (tie.spec
+    Inv-loop
+    μ-loop
+    size-of-requires
+    loop-holds
+    sub-month-at
+    month-at-requires
+    cast-if1
+    add-result
+    returns
+    sub-i
+    loop-less
+    loop-again
+    fixed-rows-reached-requires
+    returns-2)

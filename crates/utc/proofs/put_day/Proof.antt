@@ -3,7 +3,7 @@ use mathlib.Core.Path.{sym, ap, _∙_}
 use mir.Syntax.{w32}
 use mir.Val.{SFits}
 use Rattle.floats.specs.Whole.{away}
-use Rattle.tai_utc.specs.Table.{fixed}
+use Rattle.tai_utc.specs.Lent.{rowsOf}
 use Rattle.tai_utc.specs.Leap.{leapAtEndOfDay}
 use Rattle.tai_utc.specs.Answers.{secondsOutcome}
 use Rattle.utc.specs.IsoText.{shownText}
@@ -13,14 +13,14 @@ use borrow.Author.Needs.{needs}
 use Rattle.utc.proofs.put_day.Statement.{statement}
 use Rattle.utc.proofs.put_day.Tie as tie
 
-cast-leap-at-end-of-day : tie.Need-cast-leap-at-end-of-day
-cast-leap-at-end-of-day c = search needs
+cast-leap-at-end-of-day-by-rows : tie.Need-cast-leap-at-end-of-day-by-rows
+cast-leap-at-end-of-day-by-rows c = search needs
 
-cast-leap-at-end-of-day-2 : tie.Need-cast-leap-at-end-of-day-2
-cast-leap-at-end-of-day-2 c = search needs
+cast-leap-at-end-of-day-by-rows-2 : tie.Need-cast-leap-at-end-of-day-by-rows-2
+cast-leap-at-end-of-day-by-rows-2 c = search needs
 
-leap-at-end-of-day-requires : tie.Need-leap-at-end-of-day-requires
-leap-at-end-of-day-requires c κs = search needs
+leap-at-end-of-day-by-rows-requires : tie.Need-leap-at-end-of-day-by-rows-requires
+leap-at-end-of-day-by-rows-requires c κs = search needs
 
 enum-known-number : tie.Need-enum-known-number
 enum-known-number c = search needs
@@ -40,7 +40,7 @@ returns c =
     let v = c .before .before .before in
     let s = v .before .before .before .before .before in
     let f : SFits w32 (s .args .date .year) = record { sfits = v .before .struct-told .given .0 .1 } in
-    call-refused _ _ _ (leap-refused away fixed (s .args .date) (s .args .fraction) _ (sym (read-fields (leapAtEndOfDay fixed) (s .args .date) f (s .pre .0) (s .pre .1)) ∙ sym (v .leap-at-end-of-day .ensures) ∙ ap secondsOutcome (c .before .number .given .1)))
+    call-refused _ _ _ (leap-refused away (rowsOf (c .before .before .before .before .before .before .before .before .args .table)) (s .args .date) (s .args .fraction) _ (sym (read-fields (leapAtEndOfDay (rowsOf (c .before .before .before .before .before .before .before .before .args .table))) (s .args .date) f (s .pre .0) (s .pre .1)) ∙ sym (v .leap-at-end-of-day-by-rows .ensures) ∙ ap secondsOutcome (c .before .number .given .1)))
 
 same-length : tie.Need-same-length
 same-length c = search needs
@@ -55,7 +55,7 @@ returns-2 c =
     let s = v .before .before .before .before .before in
     let f : SFits w32 (s .args .date .year) = record { sfits = v .before .struct-told .given .0 .1 } in
     call-as _ _ _ _ _
-    (leap-given away fixed (s .args .date) (s .args .fraction) _ (sym (read-fields (leapAtEndOfDay fixed) (s .args .date) f (s .pre .0) (s .pre .1)) ∙ sym (v .leap-at-end-of-day .ensures) ∙ ap secondsOutcome (k .leap .given .1))
+    (leap-given away (rowsOf (c .before .before .before .before .before .before .before .before .before .before .before .before .before .args .table)) (s .args .date) (s .args .fraction) _ (sym (read-fields (leapAtEndOfDay (rowsOf (c .before .before .before .before .before .before .before .before .before .before .before .before .before .args .table))) (s .args .date) f (s .pre .0) (s .pre .1)) ∙ sym (v .leap-at-end-of-day-by-rows .ensures) ∙ ap secondsOutcome (k .leap .given .1))
     ∙ ap (shownText (s .args .date)) (sym (t .time-shown .ensures)))
     (p .put-shown .ensures)
 
@@ -63,9 +63,9 @@ pub put-day-spec : {M : Type 1} → statement M
 put-day-spec =
     tie.close
     (tie.spec
-    cast-leap-at-end-of-day
-    cast-leap-at-end-of-day-2
-    leap-at-end-of-day-requires
+    cast-leap-at-end-of-day-by-rows
+    cast-leap-at-end-of-day-by-rows-2
+    leap-at-end-of-day-by-rows-requires
     enum-known-number
     enum-known-leap
     time-shown-requires

@@ -11,6 +11,9 @@ room-requires c κs = search needs
 date-at-requires : tie.Need-date-at-requires
 date-at-requires c κs = search needs
 
+no-rows-requires : tie.Need-no-rows-requires
+no-rows-requires c κs = search needs
+
 array-borrow-prefix-buffer : tie.Need-array-borrow-prefix-buffer
 array-borrow-prefix-buffer c = search needs
 
@@ -47,6 +50,7 @@ text-spec =
     (tie.spec
     room-requires
     date-at-requires
+    no-rows-requires
     array-borrow-prefix-buffer
     slice-aggregate-to-iso8601
     to-iso8601-requires

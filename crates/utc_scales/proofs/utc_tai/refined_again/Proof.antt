@@ -4,6 +4,7 @@ use Rattle.refusals.proofs.Onward.{went, stopped}
 use Rattle.utc_scales.specs.Known.{RightKnown, partOutcome, RightPart}
 use Rattle.utc_scales.specs.declared.utc_tai.PartAnswer.{PartAnswer}
 use borrow.Author.Needs.{needs}
+use Rattle.tai_utc.specs.Lent.{rowsOf}
 use Rattle.utc_scales.proofs.utc_tai.refined_again.Statement.{statement}
 use Rattle.utc_scales.proofs.utc_tai.refined_again.Tie as tie
 
@@ -15,7 +16,9 @@ enum-known-guess-2 c = search needs
 
 refined-requires : tie.Need-refined-requires
 unfolding RightKnown RightPart
-refined-requires c κs = subst (λ (r : PartAnswer). RightPart r) (c .before .before .guess2 .given .1) (c .before .before .before .before .pre)
+refined-requires c κs =
+    let s = c .before .before .before .before in
+    subst (λ (r : PartAnswer). RightPart (rowsOf (s .args .table)) r) (c .before .before .guess2 .given .1) (s .pre)
 
 returns : tie.Need-returns
 unfolding partOutcome RightPart

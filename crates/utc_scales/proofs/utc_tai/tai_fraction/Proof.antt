@@ -10,7 +10,7 @@ use Rattle.day_number.specs.Answer.{dayOutcome}
 use Rattle.day_number.proofs.Ranges.{day-range, day-read}
 use Rattle.julian.specs.JulianDate.{julian}
 use Rattle.tai_utc.specs.Answers.{dayOffsetsOutcome}
-use Rattle.tai_utc.specs.Table.{fixed}
+use Rattle.tai_utc.specs.Lent.{rowsOf}
 use Rattle.utc_scales.specs.Dates.{offsetsOf}
 use Rattle.utc_scales.specs.Known.{RightDay, partOutcome, RightPart}
 use Rattle.utc_scales.specs.Known.{SameDay, SameDays}
@@ -55,7 +55,7 @@ tai-from-midnight-requires c κs = search needs
 
 returns : tie.Need-returns
 unfolding partOutcome RightPart RightDay SameDays SameDay dayOutcome dayOffsetsOutcome
-returns c = (sym (tai-no-date _ _ _ (sym (c .before .before .before .day-number-and-fraction .ensures) ∙ ap dayOutcome (c .before .number .given .1)) fixed), tt, tt)
+returns c = (sym (tai-no-date _ _ _ (sym (c .before .before .before .day-number-and-fraction .ensures) ∙ ap dayOutcome (c .before .number .given .1)) (rowsOf (c .before .before .before .before .args .table))), tt, tt)
 
 returns-2 : tie.Need-returns-2
 unfolding partOutcome RightPart RightDay SameDays SameDay dayOutcome dayOffsetsOutcome
@@ -65,7 +65,7 @@ returns-2 c =
     let s = n .before in
     let e = sym (n .day-number-and-fraction .ensures) ∙ ap dayOutcome (d .d .given .1) in
     let r = day-range _ _ (yes (s .good .0 .1)) (yes (s .good .1 .0 .1)) _ e in
-    (sym (tai-no-offsets fixed _ _ _ e _ (sym (c .before .before .before .offsets-with .ensures ∙ ap (λ (z : ℤ). offsetsOf fixed (gregorianDate z)) (day-read _ r)) ∙ ap dayOffsetsOutcome (c .before .number2 .given .1))), tt, tt)
+    (sym (tai-no-offsets (rowsOf (c .before .before .before .before .before .before .before .before .before .args .table)) _ _ _ e _ (sym (c .before .before .before .offsets-with .ensures ∙ ap (λ (z : ℤ). offsetsOf (rowsOf (c .before .before .before .before .before .before .before .before .before .args .table)) (gregorianDate z)) (day-read _ r)) ∙ ap dayOffsetsOutcome (c .before .number2 .given .1))), tt, tt)
 
 returns-3 : tie.Need-returns-3
 unfolding partOutcome RightPart RightDay SameDays SameDay dayOutcome dayOffsetsOutcome
@@ -77,12 +77,12 @@ returns-3 c =
     let r = day-range _ _ (yes (s .good .0 .1)) (yes (s .good .1 .0 .1)) _ e in
     let w = c .before .before .before .before .before .before .before in
     let o = c .before .before .before .before .before .o in
-    let p = sym (w .offsets-with .ensures ∙ ap (λ (z : ℤ). offsetsOf fixed (gregorianDate z)) (day-read _ r)) ∙ ap dayOffsetsOutcome (o .given .1) in
+    let p = sym (w .offsets-with .ensures ∙ ap (λ (z : ℤ). offsetsOf (rowsOf (c .before .before .before .before .before .before .before .before .before .before .before .before .before .args .table)) (gregorianDate z)) (day-read _ r)) ∙ ap dayOffsetsOutcome (o .given .1) in
     let m = c .before .before .mjd-of .ensures ∙ ap (λ (z : ℤ). ofInt binary64 (z -ℤ pos 2400001)) (day-read _ r) in (
       ap answer (c .before .tai-from-midnight .ensures ∙ ap (λ (z : Float). taiFromMidnight (s .args .big) (julian mjdZeroPoint z) (o .given .0 .0) (d .d .given .0 .0 .fraction)) m)
-          ∙ sym (tai-of-day fixed _ _ _ e r _ p),
+          ∙ sym (tai-of-day (rowsOf (c .before .before .before .before .before .before .before .before .before .before .before .before .before .args .table)) _ _ _ e r _ p),
       sym (w .offsets-with .ensures) ∙ ap dayOffsetsOutcome (o .given .1),
-      offset-of-day fixed _ _ _ e ∙ offsets-first fixed _ _ p,
+      offset-of-day (rowsOf (c .before .before .before .before .before .before .before .before .before .before .before .before .before .args .table)) _ _ _ e ∙ offsets-first (rowsOf (c .before .before .before .before .before .before .before .before .before .before .before .before .before .args .table)) _ _ p,
     )
 
 pub tai-fraction-spec : {M : Type 1} → statement M

@@ -1,45 +1,28 @@
--- `utc_scales::utc_tai::tai_to_utc` meets its contract. Assumes nothing.
-use mathlib.Core.Path.{sym, ap, _∙_}
-use Rattle.julian.specs.JulianDate.{julianOutcome}
-use Rattle.tai_utc.specs.Table.{fixed}
+-- `utc_scales::utc_tai::tai_to_utc` meets its contract: the table is tested, and its rows are read. Assumes nothing.
+use mathlib.Core.Path.{_∙_}
+use Rattle.tai_utc.proofs.TablesTaken.{turned-away, taken}
 use Rattle.scales.specs.Scales.{utcOutcome}
-use Rattle.utc_scales.specs.UtcTai.{refineUtcFraction, taiToUtc}
-use Rattle.utc_scales.proofs.Steps.{changes}
 use borrow.Author.Needs.{needs}
 use Rattle.utc_scales.proofs.utc_tai.tai_to_utc.Statement.{statement}
 use Rattle.utc_scales.proofs.utc_tai.tai_to_utc.Tie as tie
 
-split-requires : tie.Need-split-requires
-split-requires c κs = search needs
-
-refine-utc-fraction-requires : tie.Need-refine-utc-fraction-requires
-refine-utc-fraction-requires c κs = search needs
-
-placed-requires : tie.Need-placed-requires
-placed-requires c κs = search needs
-
-enum-known-number : tie.Need-enum-known-number
-enum-known-number c = search needs
-
-enum-known-jd : tie.Need-enum-known-jd
-enum-known-jd c = search needs
+table-refusal-requires : tie.Need-table-refusal-requires
+table-refusal-requires c κs = search needs
 
 returns : tie.Need-returns
-unfolding utcOutcome julianOutcome taiToUtc
-returns c = sym (ap julianOutcome (c .before .number .given .1)) ∙ (c .before .before .before .placed .ensures ∙ changes (refineUtcFraction fixed) _ _ _ (c .before .before .before .before .before .split .ensures) (c .before .before .before .before .refine-utc-fraction .ensures))
+unfolding utcOutcome
+returns c = let r = c .before in turned-away (r .before .args .table) (r .table-refusal .result) (r .table-refusal .ensures) _ (c .if1 .taken)
+
+tai-to-utc-by-rows-requires : tie.Need-tai-to-utc-by-rows-requires
+tai-to-utc-by-rows-requires c κs = search needs
 
 returns-2 : tie.Need-returns-2
-unfolding utcOutcome julianOutcome taiToUtc
-returns-2 c = sym (ap julianOutcome (c .before .jd .given .1)) ∙ (c .before .before .before .placed .ensures ∙ changes (refineUtcFraction fixed) _ _ _ (c .before .before .before .before .before .split .ensures) (c .before .before .before .before .refine-utc-fraction .ensures))
+returns-2 c =
+    let r = c .before .before in
+    c .tai-to-utc-by-rows .ensures
+    ∙ taken (r .before .args .table) (r .table-refusal .result) (r .table-refusal .ensures) _ (c .before .if1 .left)
 
 pub tai-to-utc-spec : {M : Type 1} → statement M
 tai-to-utc-spec =
     tie.close
-    (tie.spec
-    split-requires
-    refine-utc-fraction-requires
-    placed-requires
-    enum-known-number
-    enum-known-jd
-    returns
-    returns-2)
+    (tie.spec table-refusal-requires returns tai-to-utc-by-rows-requires returns-2)

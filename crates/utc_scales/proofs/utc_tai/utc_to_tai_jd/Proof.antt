@@ -2,7 +2,7 @@
 use mathlib.Core.Path.{sym, ap, _∙_}
 use Rattle.refusals.specs.Outcome.{answer}
 use Rattle.julian.specs.JulianDate.{julianOutcome}
-use Rattle.tai_utc.specs.Table.{fixed}
+use Rattle.tai_utc.specs.Lent.{rowsOf}
 use Rattle.refusals.proofs.Onward.{went, stopped}
 use Rattle.utc_scales.specs.Known.{RightKnown, partOutcome}
 use Rattle.utc_scales.specs.LargerPart.{placed}
@@ -30,11 +30,11 @@ put-back-requires c κs = search needs
 
 returns : tie.Need-returns
 unfolding julianOutcome partOutcome placed utcToTai
-returns c = sym (stopped _ (ap partOutcome (c .before .number .given .1))) ∙ changes (taiFraction fixed) _ _ _ (c .before .before .before .before .split .ensures) (c .before .before .before .tai-fraction .ensures .0)
+returns c = sym (stopped _ (ap partOutcome (c .before .number .given .1))) ∙ changes (taiFraction (rowsOf (c .before .before .before .before .before .args .table))) _ _ _ (c .before .before .before .before .split .ensures) (c .before .before .before .tai-fraction .ensures .0)
 
 returns-2 : tie.Need-returns-2
 unfolding julianOutcome partOutcome placed utcToTai
-returns-2 c = ap answer (c .put-back .ensures) ∙ sym (went _ (ap partOutcome (c .before .before .k .given .1))) ∙ changes (taiFraction fixed) _ _ _ (c .before .before .before .before .before .split .ensures) (c .before .before .before .before .tai-fraction .ensures .0)
+returns-2 c = ap answer (c .put-back .ensures) ∙ sym (went _ (ap partOutcome (c .before .before .k .given .1))) ∙ changes (taiFraction (rowsOf (c .before .before .before .before .before .before .args .table))) _ _ _ (c .before .before .before .before .before .split .ensures) (c .before .before .before .before .tai-fraction .ensures .0)
 
 pub utc-to-tai-jd-spec : {M : Type 1} → statement M
 utc-to-tai-jd-spec =

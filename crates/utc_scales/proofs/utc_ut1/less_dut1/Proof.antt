@@ -1,6 +1,6 @@
 -- `utc_scales::utc_ut1::less_dut1` meets its contract. Assumes nothing.
 use mathlib.Core.Path.{_∙_}
-use Rattle.tai_utc.specs.Table.{fixed}
+use Rattle.tai_utc.specs.Lent.{rowsOf}
 use Rattle.utc_scales.specs.UtcUt1.{utcFraction}
 use Rattle.utc_scales.proofs.Steps.{changes}
 use borrow.Author.Needs.{needs}
@@ -17,7 +17,7 @@ placed-requires : tie.Need-placed-requires
 placed-requires c κs = search needs
 
 returns : tie.Need-returns
-returns c = (c .placed .ensures ∙ changes (utcFraction fixed (c .before .before .before .args .dut1)) _ _ _ (c .before .before .split .ensures) (c .before .utc-fraction .ensures))
+returns c = (c .placed .ensures ∙ changes (utcFraction (rowsOf (c .before .before .before .args .table)) (c .before .before .before .args .dut1)) _ _ _ (c .before .before .split .ensures) (c .before .utc-fraction .ensures))
 
 pub less-dut1-spec : {M : Type 1} → statement M
 less-dut1-spec = tie.close (tie.spec split-requires utc-fraction-requires placed-requires returns)

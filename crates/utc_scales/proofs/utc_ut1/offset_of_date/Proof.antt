@@ -6,7 +6,7 @@ use Rattle.calendar.specs.Gregorian.{gregorianDate}
 use Rattle.day_number.specs.Answer.{dayOutcome}
 use Rattle.day_number.proofs.Ranges.{day-range, day-read}
 use Rattle.tai_utc.specs.Answers.{secondsOutcome}
-use Rattle.tai_utc.specs.Table.{fixed}
+use Rattle.tai_utc.specs.Lent.{rowsOf}
 use Rattle.utc_scales.specs.Dates.{offsetAt0h}
 use Rattle.utc_scales.proofs.Steps.{offset-no-date, offset-of-day}
 use borrow.Author.Needs.{needs}
@@ -27,7 +27,7 @@ offset-at-0h-requires c κs = search needs
 
 returns : tie.Need-returns
 unfolding secondsOutcome dayOutcome
-returns c = sym (offset-no-date _ _ _ (sym (c .before .before .before .day-number-and-fraction .ensures) ∙ ap dayOutcome (c .before .number .given .1)) fixed)
+returns c = sym (offset-no-date _ _ _ (sym (c .before .before .before .day-number-and-fraction .ensures) ∙ ap dayOutcome (c .before .number .given .1)) (rowsOf (c .before .before .before .before .args .table)))
 
 returns-2 : tie.Need-returns-2
 unfolding secondsOutcome dayOutcome
@@ -37,7 +37,7 @@ returns-2 c =
     let s = n .before in
     let e = sym (n .day-number-and-fraction .ensures) ∙ ap dayOutcome (d .d .given .1) in
     let r = day-range _ _ (yes (s .good .0 .1)) (yes (s .good .1 .0 .1)) _ e in
-    c .offset-at-0h .ensures ∙ ap (λ (z : ℤ). offsetAt0h fixed (gregorianDate z)) (day-read _ r) ∙ sym (offset-of-day fixed _ _ _ e)
+    c .offset-at-0h .ensures ∙ ap (λ (z : ℤ). offsetAt0h (rowsOf (c .before .before .before .before .before .before .args .table)) (gregorianDate z)) (day-read _ r) ∙ sym (offset-of-day (rowsOf (c .before .before .before .before .before .before .args .table)) _ _ _ e)
 
 pub offset-of-date-spec : {M : Type 1} → statement M
 offset-of-date-spec =

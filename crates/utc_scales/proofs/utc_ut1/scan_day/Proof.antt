@@ -12,7 +12,7 @@ use Rattle.day_number.specs.Answer.{dayOutcome}
 use Rattle.day_number.proofs.Ranges.{day-range, day-read}
 use Rattle.julian.specs.JulianDate.{julian}
 use Rattle.tai_utc.specs.Answers.{secondsOutcome}
-use Rattle.tai_utc.specs.Table.{fixed}
+use Rattle.tai_utc.specs.Lent.{rowsOf}
 use Rattle.utc_scales.specs.Dates.{offsetAt0h}
 use Rattle.utc_scales.specs.UtcUt1.{step, scanOutcome, nearStep}
 use Rattle.utc_scales.proofs.Midnights.{day-asked}
@@ -57,7 +57,7 @@ near-step-requires c κs = search needs
 
 returns : tie.Need-returns
 unfolding scanOutcome dayOutcome secondsOutcome ofBits
-returns c = sym (scan-no-date fixed _ _ _ _ _ _ (sym (c .before .before .before .day-number-and-fraction .ensures) ∙ ap dayOutcome (c .before .number .given .1)))
+returns c = sym (scan-no-date (rowsOf (c .before .before .before .before .args .table)) _ _ _ _ _ _ (sym (c .before .before .before .day-number-and-fraction .ensures) ∙ ap dayOutcome (c .before .number .given .1)))
 
 returns-2 : tie.Need-returns-2
 unfolding scanOutcome dayOutcome secondsOutcome ofBits
@@ -67,8 +67,8 @@ returns-2 c =
     let s = n .before in
     let e = sym (n .day-number-and-fraction .ensures) ∙ ap dayOutcome (d .d .given .1) in
     let r = day-range _ _ (yes (s .good .0 .1)) (add-fits binary64 (s .args .small) (s .args .i)) _ e in
-    let p = sym (c .before .before .before .offset-at-0h .ensures ∙ ap (λ (z : ℤ). offsetAt0h fixed (gregorianDate z)) (day-read _ r)) ∙ ap secondsOutcome (c .before .number2 .given .1) in
-    sym (scan-no-offset fixed _ _ _ _ _ _ e _ p)
+    let p = sym (c .before .before .before .offset-at-0h .ensures ∙ ap (λ (z : ℤ). offsetAt0h (rowsOf (c .before .before .before .before .before .before .before .before .before .args .table)) (gregorianDate z)) (day-read _ r)) ∙ ap secondsOutcome (c .before .number2 .given .1) in
+    sym (scan-no-offset (rowsOf (c .before .before .before .before .before .before .before .before .before .args .table)) _ _ _ _ _ _ e _ p)
 
 returns-3 : tie.Need-returns-3
 unfolding scanOutcome dayOutcome secondsOutcome ofBits
@@ -78,8 +78,8 @@ returns-3 c =
     let s = n .before in
     let e = sym (n .day-number-and-fraction .ensures) ∙ ap dayOutcome (d .d .given .1) in
     let r = day-range _ _ (yes (s .good .0 .1)) (add-fits binary64 (s .args .small) (s .args .i)) _ e in
-    let p = sym (c .before .before .before .before .before .offset-at-0h .ensures ∙ ap (λ (z : ℤ). offsetAt0h fixed (gregorianDate z)) (day-read _ r)) ∙ ap secondsOutcome (c .before .before .before .x .given .1) in
-    sym (scan-no-step fixed _ _ _ _ _ _ e _ p (ap (λ (z : Float). lt z half) (sym (c .before .fabs .ensures)) ∙ c .if1 .taken))
+    let p = sym (c .before .before .before .before .before .offset-at-0h .ensures ∙ ap (λ (z : ℤ). offsetAt0h (rowsOf (c .before .before .before .before .before .before .before .before .before .before .before .args .table)) (gregorianDate z)) (day-read _ r)) ∙ ap secondsOutcome (c .before .before .before .x .given .1) in
+    sym (scan-no-step (rowsOf (c .before .before .before .before .before .before .before .before .before .before .before .args .table)) _ _ _ _ _ _ e _ p (ap (λ (z : Float). lt z half) (sym (c .before .fabs .ensures)) ∙ c .if1 .taken))
 
 returns-4 : tie.Need-returns-4
 unfolding scanOutcome dayOutcome secondsOutcome ofBits
@@ -89,11 +89,11 @@ returns-4 c =
     let s = n .before in
     let e = sym (n .day-number-and-fraction .ensures) ∙ ap dayOutcome (d .d .given .1) in
     let r = day-range _ _ (yes (s .good .0 .1)) (add-fits binary64 (s .args .small) (s .args .i)) _ e in
-    let p = sym (c .before .before .before .before .before .before .before .before .offset-at-0h .ensures ∙ ap (λ (z : ℤ). offsetAt0h fixed (gregorianDate z)) (day-read _ r)) ∙ ap secondsOutcome (c .before .before .before .before .before .before .x .given .1) in
+    let p = sym (c .before .before .before .before .before .before .before .before .offset-at-0h .ensures ∙ ap (λ (z : ℤ). offsetAt0h (rowsOf (c .before .before .before .before .before .before .before .before .before .before .before .before .before .before .args .table)) (gregorianDate z)) (day-read _ r)) ∙ ap secondsOutcome (c .before .before .before .before .before .before .x .given .1) in
     let m = c .before .mjd-of .ensures ∙ ap (λ (z : ℤ). ofInt binary64 (z -ℤ pos 2400001)) (day-read _ r) in
     let delta = sub binary64 (c .before .before .before .before .before .before .x .given .0 .0) (s .args .before) in
     ap (λ (z : Float). answer (step z)) (c .near-step .ensures ∙ ap (λ (z : Float). nearStep (s .args .big) (s .args .small) (s .args .dut1) delta (julian mjdZeroPoint z)) m)
-    ∙ sym (scan-step fixed _ _ _ _ _ _ e _ p r (ap (λ (z : Float). lt z half) (sym (c .before .before .before .before .fabs .ensures)) ∙ c .before .before .before .if1 .left))
+    ∙ sym (scan-step (rowsOf (c .before .before .before .before .before .before .before .before .before .before .before .before .before .before .args .table)) _ _ _ _ _ _ e _ p r (ap (λ (z : Float). lt z half) (sym (c .before .before .before .before .fabs .ensures)) ∙ c .before .before .before .if1 .left))
 
 pub scan-day-spec : {M : Type 1} → statement M
 scan-day-spec =

@@ -1,0 +1,68 @@
+-- `tai_utc::lent::rises` meets its contract. The loop's invariant: the table rises up to lent row i, and `before` is the month of the row before it. The measure is what
+-- is left.
+-- Assumes nothing.
+use mathlib.Core.Path.{_≡_, refl, ap, sym, _∙_}
+use mathlib.Core.Bool.{Bool, true}
+use Prim.Native.Nat.{ℕ, _-_, _≤_, _<_}
+use native.Mathlib.Omega.{arith}
+use borrow.Author.Needs.{needs}
+use Rattle.tai_utc.specs.Table.{starts, rising}
+use Rattle.tai_utc.specs.Lent.{rowsTo}
+use Rattle.tai_utc.proofs.Tables.{monthBefore}
+use Rattle.tai_utc.proofs.TableTests.{rises-none, not-later, later}
+use Rattle.tai_utc.proofs.lent.rises.Statement.{statement}
+use Rattle.tai_utc.proofs.lent.rises.Tie as tie
+
+same : (a b : ℕ) → b ≤ a → a ≤ b → b ≡ a
+same a b g h = omega arith
+
+abbrev Inv-loop : tie.InvT-loop
+Inv-loop t size before₀ i₀ before i = (i ≤ size) × (before ≡ monthBefore t i) × (rising (starts (rowsTo t i)) ≡ true)
+
+abbrev μ-loop : tie.MeasureT-loop
+μ-loop t size before₀ i₀ before i = size - i
+
+loop-holds : tie.Need-loop-holds Inv-loop μ-loop
+loop-holds c = (omega arith, refl, rises-none (c .args .t))
+
+month-at-requires : tie.Need-month-at-requires Inv-loop μ-loop
+month-at-requires c κs = search needs
+
+returns : tie.Need-returns Inv-loop μ-loop
+returns c =
+    let l = c .before .before .before in
+    let s = l .before in
+    not-later (s .args .t) (l .loop .i) (s .args .size) (c .before .before .loop-test .taken) (omega (arith, c .if1 .taken, l .loop .inv .1, c .before .month-at .ensures .0))
+
+add-i : tie.Need-add-i Inv-loop μ-loop
+add-i c = search needs
+
+loop-less : tie.Need-loop-less Inv-loop μ-loop
+loop-less c = search needs
+
+loop-again : tie.Need-loop-again Inv-loop μ-loop
+loop-again c =
+    let l = c .before .before .before in
+    let s = l .before in
+    let m = c .before .month-at .ensures .0 in
+    let (a, b) = later (s .args .t) (l .loop .i) (l .loop .inv .2) (omega (arith, c .if1 .left, l .loop .inv .1, m)) in
+    (omega arith, m ∙ a, b)
+
+returns-2 : tie.Need-returns-2 Inv-loop μ-loop
+returns-2 c =
+    let l = c .before in
+    sym (ap (λ (k : ℕ). rising (starts (rowsTo (l .before .args .t) k))) (same _ _ (c .loop-test .left) (l .loop .inv .0)) ∙ l .loop .inv .2)
+
+pub rises-spec : {M : Type 1} → statement M
+rises-spec =
+    tie.close
+    (tie.spec
+    Inv-loop
+    μ-loop
+    loop-holds
+    month-at-requires
+    returns
+    add-i
+    loop-less
+    loop-again
+    returns-2)
