@@ -1,7 +1,7 @@
 -- `capi::gps_week_calls::put_week` meets its contract. Assumes nothing.
 use mathlib.Core.Path.{ap}
 use Rattle.gps_weeks.specs.WeekOf.{weekOutcome}
-use Rattle.c_answers.proofs.Deliveries.{answered, refused-on}
+use Rattle.c_answers.proofs.Deliveries.{delivered-answer, refused-on}
 use Rattle.capi.specs.WeekBytes.{weekBytes}
 use borrow.Author.Needs.{needs}
 use Rattle.capi.proofs.gps_week_calls.put_week.Statement.{statement}
@@ -26,7 +26,7 @@ returns : tie.Need-returns
 unfolding weekOutcome weekBytes
 returns c =
     let p = c .before .before in
-    answered weekBytes (p .put-two-numbers .ok) _ (ap weekOutcome (p .before .before .before .found .given .1)) (p .put-two-numbers .ensures)
+    delivered-answer weekBytes (p .put-two-numbers .ok) _ (ap weekOutcome (p .before .before .before .found .given .1)) (p .put-two-numbers .ensures)
 
 returns-2 : tie.Need-returns-2
 unfolding weekOutcome
