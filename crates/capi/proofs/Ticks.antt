@@ -12,7 +12,7 @@ use mir.Facts.{toZ-pos}
 use borrow.Author.Tests.{le-leb}
 use Rattle.refusals.specs.Outcome.{Outcome, answer, refusal, onward}
 use Rattle.utc_text.specs.Answer.{textWritten, bufferAfter}
-use Rattle.utc.specs.TextCall.{written, held}
+use Rattle.utc.specs.TextCall.{written, bufferHolds}
 use Rattle.tick_times.specs.declared.TicksAnswer.{TicksAnswer}
 use Rattle.tick_times.specs.declared.TicksAnswer.the-variants.{Written, Refused}
 use Rattle.tick_times.specs.Ticks.{ticksOutcome, lentAfter, TicksCall}
@@ -51,7 +51,7 @@ ticks-count (answer b) l out res fits p n i = omega (arith, count-is b l out res
 ticks-count (refusal k) l out res fits p n i = absurd (none-written k l out res p n i)
 
 pub ticks-put : (o : Outcome (List ℕ)) (l out : List ℕ) (res : TicksAnswer) → ((b : List ℕ) → o ≡ answer b → length b ≤ length l) → TicksCall o l res out → (n : ℕ) → res ≡ Written n → n < 2 ^ 63 → Delivered o l (toZ w64 n) out
-unfolding written onward held textWritten bufferAfter code lentAfter
+unfolding written onward bufferHolds textWritten bufferAfter code lentAfter
 ticks-put (answer b) l out res fits p n i h =
     let w : written (answer b) (length l) ≡ answer (length b) = simp (le-leb (length b) (length l) (fits b refl)) in
     record {
@@ -61,7 +61,7 @@ ticks-put (answer b) l out res fits p n i h =
 ticks-put (refusal k) l out res fits p n i h = absurd (none-written k l out res p n i)
 
 pub ticks-refused : (o : Outcome (List ℕ)) (l out : List ℕ) (res : TicksAnswer) → TicksCall o l res out → {r : ℤ} (n : ℕ) → mag r < 2 ^ 63 → res ≡ Refused n → r ≡ code (refusal n) → Delivered o l (toZ w64 (ofZ w64 r)) out
-unfolding written onward held lentAfter
+unfolding written onward bufferHolds lentAfter
 ticks-refused (answer b) l out res p n ok i e = absurd (none-refused b l out res p n i)
 ticks-refused (refusal k) l out res p n ok i e =
     record { returned = code-back ok ∙ e ∙ ap (λ (x : ℕ). code (refusal x)) (same-refusal k l out res p n i); holds = p .holds }
