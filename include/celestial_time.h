@@ -102,8 +102,9 @@ int64_t ct_julian_to_calendar(double jd1, double jd2, uint8_t *out, size_t out_l
 int64_t ct_from_calendar(int32_t year, uint8_t month, uint8_t day, uint8_t hour, uint8_t minute,
                          double second, uint8_t *out, size_t out_len);
 
-/* ---- Julian dates: these refuse nothing but 11. Where they take and give floats, a NaN gives a NaN,
-   and an infinity can make one: ct_add_days by an infinity, ct_difference of equal infinities */
+/* ---- Julian dates: these refuse nothing but 11, and ct_compare 9. Where they take and give floats, a
+   NaN gives a NaN, and an infinity can make one: ct_add_days and ct_add_seconds by an infinity give two, and ct_difference
+   of dates with the same infinity in the same part is one */
 
 /* jd1 + jd2, rounded. */
 double ct_to_f64(double jd1, double jd2);
@@ -134,7 +135,7 @@ enum { CT_UTC, CT_TAI, CT_UT1, CT_TT, CT_GPS, CT_TCG, CT_TCB, CT_TDB };
    (2451545.0, 0.0) and (2451544.75, 0.25). Stamps that are the same, with parts of at most 2^1021 in
    size, are equal too. A scale is compared and not judged: any other number is a scale of its own.
    Refuses nothing. */
-int64_t ct_same_stamp(uint32_t scale, uint64_t jd1, uint64_t jd2, uint32_t other_scale, uint64_t other1,
+int64_t ct_same_stamp(uint32_t scale, uint64_t jd1, uint64_t jd2, uint32_t other, uint64_t other1,
                       uint64_t other2);
 
 /* Which of two dates is first: 0 before the other, 1 equal, 2 after it, by their exact sums, however
@@ -143,9 +144,9 @@ int64_t ct_same_stamp(uint32_t scale, uint64_t jd1, uint64_t jd2, uint32_t other
    under 2^52 in size is answered. */
 int64_t ct_compare(double jd1, double jd2, double other1, double other2);
 
-/* The days from the other date to this, rounded. Its sign is no order: for dates that are split
-   differently it can be 0 or of the wrong sign where today's dates are under a microsecond apart. Sort
-   by ct_compare. */
+/* The days from the other date to this, rounded. It is no order: for dates that are split differently
+   it can be 0 where they are not equal, today's dates as (2457753.5, 0.7071109074091659) and 30 ns
+   later (2400000.5, 57753.70711090741). Sort by ct_compare. */
 double ct_difference(double jd1, double jd2, double other1, double other2);
 
 /* ---- TAI-UTC */
