@@ -27,6 +27,7 @@ static void prepare(const row *r)
 {
     draw_inputs(r->inputs, in);
     make_block();
+    make_ticks();
 }
 
 /* Runs a loop once and keeps its answers, as many bytes as are returned, at `answers`. */

@@ -10,12 +10,13 @@ typedef enum { LEAP_SECOND_YEARS, DRIFT_YEARS, MONTH_ENDS } set;
 static const char *const set_name[] = {"1972-2030", "1960-1971", "month ends"};
 
 /* A date in two parts, its fields and times of day, an offset in seconds, days and seconds to add, the date's Julian
-   year, and another date. */
+   year, another date, and a GPS week with its millisecond and date. */
 typedef struct {
     double jd1, jd2, fraction, second, offset, days, seconds, julian_year, other1, other2;
     int64_t unix_seconds;
     int year, month, day, hour, minute;
-    uint32_t nanos;
+    uint32_t nanos, week, millis;
+    double gps1, gps2;
 } input;
 
 static uint64_t state;
@@ -88,9 +89,21 @@ static void draw_others(input *in)
     }
 }
 
+/* Weeks 0 to 4,999, to 2075, each with the parts that the port gives. */
+static void draw_weeks(input *in)
+{
+    for (int i = 0; i < INPUTS; i++, in++) {
+        in->week = (uint32_t)below(5000);
+        in->millis = (uint32_t)below(604800000);
+        in->gps1 = 2444244.5 + 7 * in->week + in->millis / 86400000;
+        in->gps2 = (in->millis % 86400000) / 86400000.0;
+    }
+}
+
 static void draw_inputs(set which, input *in)
 {
     state = (uint64_t)which;
     draw_dates(which, in);
     draw_others(in);
+    draw_weeks(in);
 }

@@ -28,6 +28,10 @@ typedef int64_t jd_offset_call(double, double, double, uint8_t *, size_t);
 typedef int64_t unix_call(int64_t, uint32_t, uint8_t *, size_t);
 typedef int64_t fields_call(int32_t, uint8_t, uint8_t, uint8_t, uint8_t, double, uint8_t *, size_t);
 
+typedef int64_t week_call(uint32_t, uint32_t, uint8_t *, size_t);
+typedef int64_t full_week_call(uint32_t, uint32_t);
+typedef int64_t same_call(uint32_t, uint64_t, uint64_t, uint32_t, uint64_t, uint64_t);
+
 typedef int erfa_date_call(int, int, int, double *, double *);
 typedef void erfa_julian_year_call(double, double *, double *);
 typedef int erfa_next_call(int, int, int, int *, int *, int *);
@@ -114,6 +118,18 @@ static void julian_year_loop(any *f)
     EACH call(in[i].julian_year, slots[i].bytes, 16);
 }
 
+static void week_loop(any *f)
+{
+    week_call *call = (week_call *)f;
+    EACH call(in[i].week, in[i].millis, slots[i].bytes, 16);
+}
+
+static void gps_loop(any *f)
+{
+    jd_call *call = (jd_call *)f;
+    EACH call(in[i].gps1, in[i].gps2, slots[i].bytes, 8);
+}
+
 /* ---- calls that return their answer, which the loop writes into the slot */
 
 static void year_loop(any *f)
@@ -126,6 +142,20 @@ static void month_loop(any *f)
 {
     month_call *call = (month_call *)f;
     EACH slots[i].n = call(in[i].year, in[i].month);
+}
+
+/* The reference is up to 500 weeks before. */
+static void full_week_loop(any *f)
+{
+    full_week_call *call = (full_week_call *)f;
+    EACH slots[i].n = call((in[i].week + 500) % 1024, in[i].week);
+}
+
+/* Half of the stamps are the same. */
+static void same_loop(any *f)
+{
+    same_call *call = (same_call *)f;
+    EACH slots[i].n = call(CT_UTC, ct_bits_of(in[i].jd1), ct_bits_of(in[i].jd2), CT_UTC, ct_bits_of(in[i].jd1), ct_bits_of(in[i].days > 0.0 ? in[i].jd2 : in[i].jd1));
 }
 
 static void validate_loop(any *f)
@@ -244,3 +274,38 @@ static void port_listing_loop(any *f)
 }
 
 static void driver_listing_loop(any *text) { shown = list_block(block, (text_call *)text, listing, &shown_length); }
+
+/* ---- ticks between marker passes: one round is one list of all inputs, counted per tick, with its share of the judging */
+
+enum { PASSES = 2000, PASS_TICKS = 1000000, PASS_MILLIS = 61000 };
+
+static uint8_t pass_ticks[8 * PASSES], pass_millis[8 * PASSES], rising_ticks[8 * INPUTS], random_ticks[8 * INPUTS], tick_millis[8 * INPUTS];
+
+/* A pass every second or so, by a crystal that counts a million ticks a second; rising ticks two to a pass. */
+static void make_ticks(void)
+{
+    uint64_t n;
+    for (uint64_t i = 0; i < PASSES; i++) {
+        n = i * PASS_TICKS + draw() % (PASS_TICKS / 2);
+        memcpy(pass_ticks + 8 * i, &n, 8);
+        n = i * PASS_MILLIS + draw() % (PASS_MILLIS / 2);
+        memcpy(pass_millis + 8 * i, &n, 8);
+    }
+    for (uint64_t i = 0; i < INPUTS; i++) {
+        n = PASS_TICKS + i * ((PASSES - 2) * (uint64_t)PASS_TICKS / INPUTS);
+        memcpy(rising_ticks + 8 * i, &n, 8);
+        n = PASS_TICKS + draw() % ((PASSES - 2) * (uint64_t)PASS_TICKS);
+        memcpy(random_ticks + 8 * i, &n, 8);
+    }
+}
+
+static void place_ticks(const uint8_t *ticks)
+{
+    int64_t length = ct_place_ticks(pass_ticks, sizeof pass_ticks, pass_millis, sizeof pass_millis, ticks, 8 * INPUTS, tick_millis, sizeof tick_millis);
+    shown = tick_millis;
+    shown_length = length < 0 ? 0 : (size_t)length;
+}
+
+static void rising_ticks_loop(any *f) { (void)f, place_ticks(rising_ticks); }
+
+static void random_ticks_loop(any *f) { (void)f, place_ticks(random_ticks); }

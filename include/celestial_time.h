@@ -103,8 +103,7 @@ int64_t ct_from_calendar(int32_t year, uint8_t month, uint8_t day, uint8_t hour,
                          double second, uint8_t *out, size_t out_len);
 
 /* ---- Julian dates: these refuse nothing but 11, and ct_compare 9. Where they take and give floats, a
-   NaN gives a NaN, and an infinity can make one: ct_add_days and ct_add_seconds by an infinity give two, and ct_difference
-   of dates with the same infinity in the same part is one */
+   NaN gives a NaN, and an infinity can make one: so many days or seconds that are infinite give two */
 
 /* jd1 + jd2, rounded. */
 double ct_to_f64(double jd1, double jd2);
@@ -135,7 +134,7 @@ enum { CT_UTC, CT_TAI, CT_UT1, CT_TT, CT_GPS, CT_TCG, CT_TCB, CT_TDB };
    (2451545.0, 0.0) and (2451544.75, 0.25). Stamps that are the same, with parts of at most 2^1021 in
    size, are equal too. A scale is compared and not judged: any other number is a scale of its own.
    Refuses nothing. */
-int64_t ct_same_stamp(uint32_t scale, uint64_t jd1, uint64_t jd2, uint32_t other, uint64_t other1,
+int64_t ct_same_stamp(uint32_t scale, uint64_t jd1, uint64_t jd2, uint32_t other_scale, uint64_t other1,
                       uint64_t other2);
 
 /* Which of two dates is first: 0 before the other, 1 equal, 2 after it, by their exact sums, however
@@ -144,9 +143,10 @@ int64_t ct_same_stamp(uint32_t scale, uint64_t jd1, uint64_t jd2, uint32_t other
    under 2^52 in size is answered. */
 int64_t ct_compare(double jd1, double jd2, double other1, double other2);
 
-/* The days from the other date to this, rounded. It is no order: for dates that are split differently
-   it can be 0 where they are not equal, today's dates as (2457753.5, 0.7071109074091659) and 30 ns
-   later (2400000.5, 57753.70711090741). Sort by ct_compare. */
+/* The days from the other date to this, rounded. With parts under 2^52 in size never of the wrong sign,
+   but 0.0 also for some dates that differ, of today's under a microsecond apart, so that it is no order
+   to sort by: use ct_compare. The difference of two dates with the same infinity in the same part is a
+   NaN. */
 double ct_difference(double jd1, double jd2, double other1, double other2);
 
 /* ---- TAI-UTC */
@@ -185,6 +185,24 @@ int64_t ct_ut1_to_tai_with_offset(double jd1, double jd2, double seconds, uint8_
 int64_t ct_tai_to_ut1_with_offset(double jd1, double jd2, double seconds, uint8_t *out, size_t out_len);
 int64_t ct_ut1_to_tt_with_delta_t(double jd1, double jd2, double seconds, uint8_t *out, size_t out_len);
 int64_t ct_tt_to_ut1_with_delta_t(double jd1, double jd2, double seconds, uint8_t *out, size_t out_len);
+
+/* ---- GPS weeks, counted from 1980-01-06 0h GPS: week 0 */
+
+/* The GPS date of a week, 0 to 100,000, and a millisecond of it, below 604,800,000: its day's midnight
+   in jd1, the milliseconds of the day as a part of a day in jd2; 16 bytes. Refuses 18; 11. Week 100001
+   with no byte is 18. Weeks 1024 and 2048 begin on 1999-08-22 and 2019-04-07. */
+int64_t ct_gps_from_week(uint32_t week, uint32_t millis, uint8_t *out, size_t out_len);
+
+/* The week of a GPS date and the nearest millisecond of it, a half going up: 4 bytes each; 8 bytes. The
+   date of ct_gps_from_week comes back as its week and millisecond. Refuses 9; then 6; then 18, where the
+   rounded date is before week 0 or after week 100,000; 11. (infinity, -infinity) is 9, (1.7e308, 1.7e308)
+   is 6, and (2444244.5, -1.0) with no byte is 18; half a millisecond before 2444244.5 is week 0. */
+int64_t ct_gps_to_week(double jd1, double jd2, uint8_t *out, size_t out_len);
+
+/* The week whose ten lowest bits are `ten_bits` and that lies nearest the reference week and is not below
+   0: ten bits of 1023 at the reference 0 are week 1023. Refuses 18 for ten bits above 1,023 or a reference
+   above 99,000; then 19, where two weeks are equally near. (1024, 512) is 18, and (0, 512) is 19. */
+int64_t ct_gps_full_week(uint32_t ten_bits, uint32_t reference);
 
 /* ---- UTC: on a day that ends in a leap second, jd2 runs to the end of its 86,401 seconds */
 
@@ -230,6 +248,20 @@ int64_t ct_block_stamps(const uint8_t *block, size_t block_len);
    plus the line ends (byte 10) in this one. Refuses 11 only, where out_len is below 33. */
 int64_t ct_listing_part(const uint8_t *block, size_t block_len, uint32_t line, uint8_t *out,
                         size_t out_len);
+
+/* ---- Ticks between marker passes: lists of 8 bytes a number, the lowest byte first */
+
+/* Each tick's TAI millisecond on the straight line between the passes beside it, rounded down: 8 bytes a
+   tick, in the ticks' order. Pass i is number i of pass_ticks and of pass_millis. Ticks stand in any order
+   and may repeat; a tick at a pass has that pass's millisecond. Returns 8 times the number of ticks, 0 for
+   no tick; what lies behind the results stays. Refuses 14 for a length of the three lists that is no
+   multiple of 8; 11 for fewer whole places in out than ticks; 23 for lists of passes that are unequal,
+   under 2 or over 2,000, or have a number of 2^40 or more; 24 for passes that do not rise strictly in both;
+   25 for a tick before the first pass or after the last, 2^40 too. Nothing is written before all is judged.
+   Passes 0, 1000 at 0, 500 ms: tick 3 is at 1, and ticks 0, 1001 are 25. */
+int64_t ct_place_ticks(const uint8_t *pass_ticks, size_t pass_ticks_len, const uint8_t *pass_millis,
+                       size_t pass_millis_len, const uint8_t *ticks, size_t ticks_len, uint8_t *out,
+                       size_t out_len);
 
 /* ---- Reading bytes: these and ct_float_mode are compiled with the viewer, not in the archive */
 

@@ -5,6 +5,7 @@
    The answers are document 01's, whole numbers of seconds, or ERFA's. */
 #include "lent.h"
 #include "scale_calls.h"
+#include "tick_calls.h"
 
 static void month_lengths(void)
 {
@@ -101,7 +102,7 @@ static void date_calls(void)
 static void same_stamps(void)
 {
     static const uint64_t NOON = 0x4142b42c80000000, SIX = 0x4142b42c60000000, QUARTER = 0x3fd0000000000000; /* 2451545.0, 2451544.75, 0.25 */
-    static const uint64_t MINUS = 0x8000000000000000, QUIET = 0x7ff8000000000000, SIGNALLING = 0x7ff0000000000001;
+    static const uint64_t MINUS = 0x8000000000000000, QUIET_NAN = 0x7ff8000000000000, SIGNALLING_NAN = 0x7ff0000000000001;
     uint32_t scale;
     int bit;
     for (scale = CT_UTC; scale <= CT_TDB + 1; scale++) {
@@ -115,8 +116,8 @@ static void same_stamps(void)
     IS(0, ct_same_stamp(CT_UTC, NOON, QUARTER, CT_UTC, QUARTER, NOON));
     IS(0, ct_same_stamp(CT_UTC, NOON, 0, CT_UTC, NOON, MINUS));
     IS(0, ct_same_stamp(CT_UTC, MINUS, NOON, CT_UTC, 0, NOON));
-    IS(1, ct_same_stamp(CT_UTC, SIGNALLING, QUIET, CT_UTC, SIGNALLING, QUIET));
-    IS(0, ct_same_stamp(CT_UTC, SIGNALLING, QUIET, CT_UTC, QUIET, QUIET));
+    IS(1, ct_same_stamp(CT_UTC, SIGNALLING_NAN, QUIET_NAN, CT_UTC, SIGNALLING_NAN, QUIET_NAN));
+    IS(0, ct_same_stamp(CT_UTC, SIGNALLING_NAN, QUIET_NAN, CT_UTC, QUIET_NAN, QUIET_NAN));
     IS(1, ct_same_stamp(CT_UTC, 0x7ca8000000000000, 0xffefffffffffffff, CT_UTC, 0x7ca8000000000000, 0xffefffffffffffff));
     for (bit = 0; bit < 64; bit++) {
         IS(0, ct_same_stamp(CT_UTC, NOON, QUARTER, CT_UTC, NOON ^ (uint64_t)1 << bit, QUARTER));
@@ -124,6 +125,50 @@ static void same_stamps(void)
         if (bit < 32) IS(0, ct_same_stamp(CT_UTC, NOON, QUARTER, CT_UTC ^ (uint32_t)1 << bit, NOON, QUARTER));
     }
     IS(1, ct_bits_of(2451545.0) == NOON && ct_bits_of(-0.0) == MINUS && ct_bits_of(0.25) == QUARTER);
+}
+
+/* ---- GPS weeks: whole milliseconds from 2444244.5, and document 02's cases */
+
+static void gps_weeks(void)
+{
+    GIVES(parts(2444244.5, 0.0), ct_gps_from_week, 0, 0);
+    GIVES(parts(2444245.5, 1.0 / 86400000.0), ct_gps_from_week, 0, 86400001);
+    GIVES(parts(2451412.5, 0.0), ct_gps_from_week, 1024, 0);
+    GIVES(parts(2458580.5, 0.5), ct_gps_from_week, 2048, 43200000);
+    GIVES(parts(3144250.5, 86399999.0 / 86400000.0), ct_gps_from_week, 100000, 604799999);
+    REFUSES(18, ct_gps_from_week, 100001, 0);
+    REFUSES(18, ct_gps_from_week, 0, 604800000);
+    REFUSES(18, ct_gps_from_week, UINT32_MAX, UINT32_MAX);
+    GIVES(two_numbers(0, 0), ct_gps_to_week, 2444244.5, 0.0);
+    GIVES(two_numbers(0, 0), ct_gps_to_week, 2444244.5, 5.787037037037036e-09);
+    GIVES(two_numbers(0, 0), ct_gps_to_week, 2444244.5, -0.5 / 86400000.0);
+    GIVES(two_numbers(1024, 43200000), ct_gps_to_week, 2451413.0, 0.0);
+    GIVES(two_numbers(2048, 604799999), ct_gps_to_week, 2458587.5, -1.0 / 86400000.0);
+    GIVES(two_numbers(100000, 604799999), ct_gps_to_week, 3144251.5, -0.75 / 86400000.0);
+    REFUSES(18, ct_gps_to_week, 3144251.5, -0.5 / 86400000.0);
+    REFUSES(18, ct_gps_to_week, 3144251.5, 0.0);
+    REFUSES(18, ct_gps_to_week, 1e9, 0.0);
+    REFUSES(18, ct_gps_to_week, 2444244.5, -0.75 / 86400000.0);
+    REFUSES(18, ct_gps_to_week, 2444244.5, -1.0);
+    REFUSES(18, ct_gps_to_week, -68569.5, -0x1p-52);
+    REFUSES(6, ct_gps_to_week, -68570.0, 0.0);
+    REFUSES(6, ct_gps_to_week, 1e9, 1.0);
+    REFUSES(6, ct_gps_to_week, 1.7e308, 1.7e308);
+    REFUSES(9, ct_gps_to_week, infinite_float(), minus_infinite_float());
+    REFUSES(9, ct_gps_to_week, nan_float(), 0.0);
+    REFUSES(9, ct_gps_to_week, 2451545.0, signalling_float());
+    IS(1023, ct_gps_full_week(1023, 0));
+    IS(512, ct_gps_full_week(512, 0));
+    IS(0, ct_gps_full_week(0, 511));
+    IS(-19, ct_gps_full_week(0, 512));
+    IS(1024, ct_gps_full_week(0, 513));
+    IS(2050, ct_gps_full_week(2, 2400));
+    IS(99511, ct_gps_full_week(183, 99000));
+    IS(-19, ct_gps_full_week(184, 99000));
+    IS(98489, ct_gps_full_week(185, 99000));
+    IS(-18, ct_gps_full_week(1024, 512));
+    IS(-18, ct_gps_full_week(0, 99001));
+    IS(-18, ct_gps_full_week(UINT32_MAX, UINT32_MAX));
 }
 
 static void offset_calls(void)
@@ -298,6 +343,7 @@ int main(void)
     calendar_of_dates();
     date_calls();
     same_stamps();
+    gps_weeks();
     offset_calls();
     plain_scales();
     scales_with_offset();
@@ -308,5 +354,6 @@ int main(void)
     block_calls();
     read_numbers();
     read_answers();
+    tick_calls();
     return summary("calls");
 }

@@ -66,6 +66,13 @@ static void day(int32_t year, int32_t month, int32_t of_month)
     put((uint32_t)of_month, 4);
 }
 
+static void two_numbers(uint32_t a, uint32_t b)
+{
+    wanted_length = 0;
+    put(a, 4);
+    put(b, 4);
+}
+
 static void day_and_fraction(int32_t year, int32_t month, int32_t of_month, double fraction)
 {
     day(year, month, of_month);

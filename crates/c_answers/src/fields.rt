@@ -42,6 +42,28 @@ pub fn put_date(date: CalendarDate, out: &mut [u8]) -> i64
     put(&all, out)
 }
 
+fn two_numbers(a: u32, b: u32) -> [u8; 8]
+    ensures { λ r. ⌜ r ≡ fourBytes a ++ fourBytes b ⌝ }
+{
+    [
+        (a % 256) as u8,
+        (a / 0x100 % 256) as u8,
+        (a / 0x1_0000 % 256) as u8,
+        (a / 0x100_0000 % 256) as u8,
+        (b % 256) as u8,
+        (b / 0x100 % 256) as u8,
+        (b / 0x1_0000 % 256) as u8,
+        (b / 0x100_0000 % 256) as u8,
+    ]
+}
+
+pub fn put_two_numbers(a: u32, b: u32, out: &mut [u8]) -> i64
+    ensures { λ r. ⌜ Delivered (answer (fourBytes a ++ fourBytes b)) (now (out .entry)) r (now (out .exit)) ⌝ }
+{
+    let all = two_numbers(a, b);
+    put(&all, out)
+}
+
 pub fn put_float(x: f64, out: &mut [u8]) -> i64
     ensures { λ r. ⌜ Delivered (answer (floatBytes x)) (now (out .entry)) r (now (out .exit)) ⌝ }
 {

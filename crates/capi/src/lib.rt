@@ -2,8 +2,10 @@
 pub mod block_calls;
 pub mod calendar_calls;
 pub mod date_calls;
+pub mod gps_week_calls;
 pub mod offset_calls;
 pub mod order_calls;
 pub mod same_stamp_calls;
 pub mod scale_calls;
+pub mod tick_calls;
 pub mod utc_calls;

@@ -9,15 +9,15 @@ pub extern "C" fn ct_same_stamp(
     scale: u32,
     jd1: u64,
     jd2: u64,
-    other: u32,
+    other_scale: u32,
     other1: u64,
     other2: u64,
 ) -> i64
-    ensures { λ r. ⌜ r ≡ truth (same (stamp scale jd1 jd2) (stamp other other1 other2)) ⌝ }
+    ensures { λ r. ⌜ r ≡ truth (same (stamp scale jd1 jd2) (stamp «other_scale» other1 other2)) ⌝ }
 {
     let one = Stamp { scale, jd1, jd2 };
     let two = Stamp {
-        scale: other,
+        scale: other_scale,
         jd1: other1,
         jd2: other2,
     };

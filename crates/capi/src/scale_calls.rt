@@ -49,7 +49,7 @@ fn put_tt(found: TtAnswer, out: &mut [u8]) -> i64
     }
 }
 
-fn put_gps(found: GpsAnswer, out: &mut [u8]) -> i64
+pub(crate) fn put_gps(found: GpsAnswer, out: &mut [u8]) -> i64
     ensures { λ r. ⌜ Delivered (inBytes julianBytes (gpsOutcome found)) (now (out .entry)) r (now (out .exit)) ⌝ }
 {
     match found {

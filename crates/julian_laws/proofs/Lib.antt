@@ -18,7 +18,9 @@ pub mod JulianYears
 pub mod AddSeconds
 -- Differences: the difference of two dates, against the exact one.
 pub mod Differences
--- DistanceEnds: the ranges of these four are met at their ends.
+-- DifferenceSign: its sign is right where it is not 0.0.
+pub mod DifferenceSign
+-- DistanceEnds: the ranges of JulianYears, AddSeconds and Differences are met at their ends.
 pub mod DistanceEnds
 -- NotFinite: equality where a sum is not finite.
 pub mod NotFinite

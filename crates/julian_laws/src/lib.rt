@@ -1,1 +1,1 @@
-// No code: what the calls of julian mean in exact days (proofs/CalendarDays.antt, proofs/RoundTrip.antt, proofs/UnixTime.antt, proofs/AddDays.antt).
+// No code: what the calls of julian mean in exact numbers. proofs/Lib.antt says which file has what.

@@ -1,0 +1,2 @@
+-- What the laws of GPS weeks speak of.
+pub mod NearDate

@@ -1,0 +1,2 @@
+-- What the laws ask of the passes, and say of a result.
+pub mod Sound

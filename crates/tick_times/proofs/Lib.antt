@@ -1,0 +1,11 @@
+-- The laws of ticks between passes: the product by halves, the loops that judge, the search, the line, and what the call writes.
+pub mod Halves
+pub mod Parts
+pub mod Every
+pub mod Checks
+pub mod Search
+pub mod Lines
+pub mod Puts
+pub mod Neighbours
+pub mod Ladder
+pub mod Calls

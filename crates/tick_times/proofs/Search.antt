@@ -1,0 +1,119 @@
+-- The search by halving, and that the last pass not after a tick is the only one so placed. Assumes nothing.
+use Prim.Native.Nat.{ℕ, zero, suc, _+_, _-_, _/_, _<_, _≤_}
+use native.Mathlib.Omega.{arith}
+use native.Mathlib.Nat.{le-refl}
+use native.Mathlib.Numerals.{add-one}
+use native.Mathlib.Decide.{decLt}
+use mathlib.Core.Path.{_≡_, refl, sym, ap, subst, _∙_}
+use mathlib.Core.Bool.{Bool, true, false, cond}
+use lib.Dec.{leb}
+use borrow.Author.Tests.{leb-true, leb-false}
+use Rattle.tick_times.specs.Passes.{lastNotAfter}
+use Rattle.tick_times.specs.Asked.{Rises, Found}
+
+-- ---- halving
+pub record Seeking (tick : ℕ → ℕ) (low high t from to : ℕ) : Type 0 where
+  pub under : low ≤ from
+  pub order : from ≤ to
+  pub over : to ≤ high
+  pub at : tick from ≤ t
+  pub next : to < high → t < tick (to + 1)
+
+module _ (tick : ℕ → ℕ) (low high t : ℕ) where
+  pub seek-starts : low ≤ high → tick low ≤ t → Seeking tick low high t low high
+  seek-starts o f = record { under = le-refl low; order = o; over = le-refl high; at = f; next = λ h. absurd (omega arith) }
+
+  module _ (from to : ℕ) (s : Seeking tick low high t from to) (h : from < to) (m r : ℕ) (em : m ≡ to - (to - from) / 2) (er : r ≡ tick m) where
+    pub seek-up : r ≤ t → Seeking tick low high t m to
+    seek-up k = record { under = omega (arith, s .under); order = omega arith; over = s .over; at = omega arith; next = s .next }
+
+    pub seek-down : t < r → Seeking tick low high t from (m - 1)
+    seek-down k =
+        let e : m ≡ m - 1 + 1 = omega arith in
+        let q : t < tick m = omega arith in
+        record { under = s .under; order = omega arith; over = omega (arith, s .over); at = s .at; next = λ w. subst (λ (x : ℕ). t < tick x) e q }
+
+  pub seek-ends : (from to : ℕ) → Seeking tick low high t from to → to ≤ from → Found tick low high t from
+  seek-ends from to s h =
+      let e : to ≡ from = omega (arith, s .order) in
+      record {
+        low = s .under;
+        high = omega (arith, s .over);
+        from = s .at;
+        next = λ w. subst (λ (x : ℕ). t < tick (x + 1)) e (s .next (omega arith));
+      }
+
+-- ---- the last pass that is not after the tick
+climb : (f : ℕ → ℕ) (k : ℕ) → Rises f k → (i n : ℕ) → i + n ≤ k → f i ≤ f (i + n)
+climb f k r i zero h =
+    let e : i ≡ i + 0 = omega arith in
+    subst (λ (x : ℕ). f i ≤ f x) e (le-refl (f i))
+climb f k r i (suc n) h =
+    let e : i + n + 1 ≡ i + suc n = omega arith in
+    subst (λ (x : ℕ). f i ≤ f x) e (omega (arith, climb f k r i n (omega arith), r (i + n) (omega arith)))
+
+pub rises-to : (f : ℕ → ℕ) (k : ℕ) → Rises f k → (i j : ℕ) → i ≤ j → j ≤ k → f i ≤ f j
+rises-to f k r i j h l =
+    let e : i + (j - i) ≡ j = omega arith in
+    subst (λ (x : ℕ). f i ≤ f x) e (climb f k r i (j - i) (omega arith))
+
+module _ (tick : ℕ → ℕ) (t : ℕ) where
+  pub last-low : (k : ℕ) → lastNotAfter tick t k ≤ k
+  unfolding lastNotAfter
+  last-low zero = le-refl 0
+  last-low (suc k) = go (leb (tick (suc k)) t) (last-low k)
+    where
+      go : (b : Bool) → lastNotAfter tick t k ≤ k → cond b (suc k) (lastNotAfter tick t k) ≤ suc k
+      go true h = le-refl (suc k)
+      go false h = omega arith
+
+  pub last-from : tick 0 ≤ t → (k : ℕ) → tick (lastNotAfter tick t k) ≤ t
+  unfolding lastNotAfter
+  last-from l zero = l
+  last-from l (suc k) = go (leb (tick (suc k)) t) refl (last-from l k)
+    where
+      go : (b : Bool) → leb (tick (suc k)) t ≡ b → tick (lastNotAfter tick t k) ≤ t → tick (cond b (suc k) (lastNotAfter tick t k)) ≤ t
+      go true e h = leb-true (tick (suc k)) t e
+      go false e h = h
+
+  pub last-next : (k : ℕ) → lastNotAfter tick t k < k → t < tick (lastNotAfter tick t k + 1)
+  unfolding lastNotAfter
+  last-next zero h = absurd (omega arith)
+  last-next (suc k) h = go (leb (tick (suc k)) t) refl (last-next k) h
+    where
+      go : (b : Bool) → leb (tick (suc k)) t ≡ b → (lastNotAfter tick t k < k → t < tick (lastNotAfter tick t k + 1)) → cond b (suc k) (lastNotAfter tick t k) < suc k → t < tick (cond b (suc k) (lastNotAfter tick t k) + 1)
+      go true e hyp h = absurd (omega arith)
+      go false e hyp h = pick (decLt (lastNotAfter tick t k) k)
+        where
+          pick : Dec (lastNotAfter tick t k < k) → t < tick (lastNotAfter tick t k + 1)
+          pick (yes w) = hyp w
+          pick (no w) =
+              let m : suc k ≡ lastNotAfter tick t k + 1 = omega arith in
+              subst (λ (x : ℕ). t < tick x) m (leb-false (tick (suc k)) t e)
+
+  -- it is the only pass of 0 to k that is not after the tick and whose next is after it
+  pub last-only : (k : ℕ) → Rises tick k → (j : ℕ) → j ≤ k → tick j ≤ t → (j < k → t < tick (j + 1)) → j ≡ lastNotAfter tick t k
+  unfolding lastNotAfter
+  last-only zero r j h a n = omega arith
+  last-only (suc k) r j h a n = go (leb (tick (suc k)) t) refl (last-only k (λ i w. r i (omega arith)) j) (decLt j (suc k))
+    where
+      go : (b : Bool) → leb (tick (suc k)) t ≡ b → (j ≤ k → tick j ≤ t → (j < k → t < tick (j + 1)) → j ≡ lastNotAfter tick t k) → Dec (j < suc k) → j ≡ cond b (suc k) (lastNotAfter tick t k)
+      go true e hyp (yes w) = absurd (omega (arith, leb-true (tick (suc k)) t e, n w, rises-to tick (suc k) r (j + 1) (suc k) (omega arith) (omega arith)))
+      go true e hyp (no w) = omega arith
+      go false e hyp (yes w) = hyp (omega arith) a (λ z. n (omega arith))
+      go false e hyp (no w) =
+          let m : j ≡ suc k = omega arith in
+          absurd (omega (arith, leb-false (tick (suc k)) t e, subst (λ (x : ℕ). tick x ≤ t) m a))
+
+  -- what the search finds up to k, or up to a pass that is after the tick
+  pub found-last : (k : ℕ) → Rises tick k → (low r : ℕ) → Found tick low k t r → r ≡ lastNotAfter tick t k
+  found-last k u low r f = last-only k u r (f .high) (f .from) (f .next)
+
+  pub found-below : (k : ℕ) → Rises tick k → (low high r : ℕ) → high ≤ k → t < tick high → Found tick low high t r → r ≡ lastNotAfter tick t k
+  found-below k u low high r h l f = last-only k u r (omega (arith, f .high)) (f .from) (λ w. f .next (go (decLt r high)))
+    where
+      go : Dec (r < high) → r < high
+      go (yes w) = w
+      go (no w) =
+          let m : r ≡ high = omega (arith, f .high) in
+          absurd (omega (arith, subst (λ (x : ℕ). tick x ≤ t) m (f .from)))

@@ -1,0 +1,24 @@
+-- `tick_times::along` meets its contract: a number below 2^20 times one below 2^40 fits. Assumes nothing.
+use native.Mathlib.Omega.{arith}
+use Rattle.tick_times.proofs.Halves.{part-small}
+use borrow.Author.Needs.{needs}
+use Rattle.tick_times.proofs.along.Statement.{statement}
+use Rattle.tick_times.proofs.along.Tie as tie
+
+mul-result : tie.Need-mul-result
+mul-result c = record { fits = omega (arith, part-small (c .before .args .a) (c .before .args .c) (c .if1 .taken) (c .before .pre .1)) }
+
+div-result : tie.Need-div-result
+div-result c = search needs
+
+returns : tie.Need-returns
+returns c = search needs
+
+by-halves-requires : tie.Need-by-halves-requires
+by-halves-requires c κs = search needs
+
+returns-2 : tie.Need-returns-2
+returns-2 c = search needs
+
+pub along-spec : {M : Type 1} → statement M
+along-spec = tie.close (tie.spec mul-result div-result returns by-halves-requires returns-2)

@@ -1,0 +1,71 @@
+/* ct_place_ticks: answers, every refusal, and the order of two that would both hold. The milliseconds are whole-number arithmetic by hand. */
+enum { MOST_TICKS = 8, TICK_GUARD = 8 };
+
+typedef struct {
+    size_t count, length; /* how many numbers, and how many of their bytes are handed over */
+    uint8_t bytes[8 * MOST_TICKS];
+} tick_list;
+
+static tick_list numbers(int count, ...)
+{
+    tick_list list = {0};
+    va_list words;
+    va_start(words, count);
+    for (; (int)list.count < count; list.count++) {
+        uint64_t n = va_arg(words, uint64_t);
+        for (int k = 0; k < 8; k++) list.bytes[8 * list.count + (size_t)k] = (uint8_t)(n >> 8 * k);
+    }
+    va_end(words);
+    list.length = 8 * list.count;
+    return list;
+}
+
+static tick_list cut(tick_list list, size_t bytes)
+{
+    list.length -= bytes;
+    return list;
+}
+
+/* Asks with `room` bytes; number 0 says that the wanted milliseconds are due. Bytes behind them, and all at a refusal, stay. */
+static void places(int number, tick_list due, tick_list passes, tick_list millis, tick_list ticks, size_t place_bytes)
+{
+    uint8_t got[8 * MOST_TICKS + TICK_GUARD], want[sizeof got];
+    int64_t code;
+    memset(got, UNTOUCHED, sizeof got);
+    memset(want, UNTOUCHED, sizeof want);
+    if (!number) memcpy(want, due.bytes, due.length);
+    code = ct_place_ticks(passes.bytes, passes.length, millis.bytes, millis.length, ticks.bytes, ticks.length, got, place_bytes);
+    check(code == (number ? -number : (int64_t)due.length), "ct_place_ticks says %ld", (long)code);
+    check(!memcmp(got, want, sizeof got), "ct_place_ticks leaves other bytes");
+}
+
+#define N(...) numbers(sizeof((uint64_t[]){__VA_ARGS__}) / 8, __VA_ARGS__)
+#define U(n) ((uint64_t)(n))
+#define TOP U(0x10000000000)
+
+static void tick_calls(void)
+{
+    tick_list none = numbers(0), passes = N(U(0), U(1000), U(3000)), millis = N(U(0), U(500), U(501));
+    tick_list ticks = N(U(3000), U(3), U(0), U(1000), U(999), U(2999), U(3));
+    tick_list due = N(U(501), U(1), U(0), U(500), U(499), U(500), U(1));
+    tick_list wide = N(U(0), TOP - 1), all = N(TOP - 2), below = N(TOP - 2);
+    places(0, due, passes, millis, ticks, 56);
+    places(0, due, passes, millis, ticks, 63);
+    places(0, none, passes, millis, none, 0);
+    places(0, below, wide, wide, all, 8);
+    places(14, none, cut(passes, 1), millis, ticks, 0);
+    places(14, none, passes, cut(millis, 7), ticks, 0);
+    places(14, none, passes, millis, cut(ticks, 4), 0);
+    places(11, none, N(U(5), U(4)), millis, ticks, 55);
+    places(23, none, N(U(5), U(4)), millis, ticks, 56);
+    places(23, none, cut(passes, 16), cut(millis, 16), ticks, 56);
+    places(23, none, none, none, none, 0);
+    places(23, none, N(TOP, U(0)), N(U(0), U(1)), ticks, 56);
+    places(23, none, N(U(0), U(1)), N(U(0), TOP), ticks, 56);
+    places(24, none, N(U(0), U(0)), N(U(0), U(1)), N(U(7)), 8);
+    places(24, none, N(U(0), U(1)), N(U(1), U(1)), N(U(7)), 8);
+    places(24, none, N(U(0), U(2), U(1)), N(U(0), U(1), U(2)), none, 0);
+    places(25, none, passes, millis, N(U(1), U(3001)), 16);
+    places(25, none, N(U(2), U(4)), N(U(0), U(9)), N(U(3), U(1)), 16);
+    places(25, none, passes, millis, N(TOP), 8);
+}
