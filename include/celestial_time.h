@@ -59,7 +59,8 @@
      26  end of a standby before its start
      27  number of a bill over its limit
      28  both lengths of line 0
-   A call tests in the order in which its comment lists them, and 11 last. Where it has
+   A call tests in the order in which its comment lists them, and 11 last, but where
+   its comment has it earlier (ct_place_ticks). Where it has
    two or more, the comment has an example in which two hold, with the one that comes
    first. "With no byte" is with a buffer of length 0, of which 11 holds. */
 #ifndef CELESTIAL_TIME_H
