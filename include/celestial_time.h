@@ -39,12 +39,13 @@
       6  rounded sum jd1 + jd2 outside -68569.5 to 1e9, or NaN
       7  fraction outside 0 to 1, or NaN
       8  nanos 1,000,000,000 or more
-      9  jd1 or jd2 not finite; in ct_tcg_to_tai the TT in between, too
+      9  jd1 or jd2 not finite; in ct_tcg_to_tai the TT in between, too; in ct_compare also
+         where the sum of the parts or its rounding error overflows
      10  offset not finite
      11  buffer too short
      12  sizes of a block differ
      13  size of a block above 4,000
-     14  length of a block wrong
+     14  length of a block, or of a list of ticks or passes, wrong
      15  text outside the grammar
      16  more than 13 digits after a second's point
      17  date or stamp earlier than the one before it
@@ -59,10 +60,9 @@
      26  end of a standby before its start
      27  number of a bill over its limit
      28  both lengths of line 0
-   A call tests in the order in which its comment lists them, and 11 last, but where
-   its comment has it earlier (ct_place_ticks). Where it has
-   two or more, the comment has an example in which two hold, with the one that comes
-   first. "With no byte" is with a buffer of length 0, of which 11 holds. */
+   A call tests in the order in which its comment lists them, and 11 last, but for
+   ct_place_ticks. Where it has two or more, the comment has an example in which two
+   hold, with the one that comes first. "With no byte" is with a buffer of length 0, of which 11 holds. */
 #ifndef CELESTIAL_TIME_H
 #define CELESTIAL_TIME_H
 
