@@ -39,12 +39,13 @@
       6  rounded sum jd1 + jd2 outside -68569.5 to 1e9, or NaN
       7  fraction outside 0 to 1, or NaN
       8  nanos 1,000,000,000 or more
-      9  jd1 or jd2 not finite; in ct_tcg_to_tai the TT in between, too
+      9  jd1 or jd2 not finite; in ct_tcg_to_tai the TT in between, too; in ct_compare also
+         where the sum of the parts or its rounding error overflows
      10  offset not finite
      11  buffer too short
      12  sizes of a block differ
      13  size of a block above 4,000
-     14  length of a block wrong
+     14  length of a block, or of a list of ticks or passes, wrong
      15  text outside the grammar
      16  more than 13 digits after a second's point
      17  date or stamp earlier than the one before it
@@ -59,9 +60,9 @@
      26  end of a standby before its start
      27  number of a bill over its limit
      28  both lengths of line 0
-   A call tests in the order in which its comment lists them, and 11 last. Where it has
-   two or more, the comment has an example in which two hold, with the one that comes
-   first. "With no byte" is with a buffer of length 0, of which 11 holds. */
+   A call tests in the order in which its comment lists them, and 11 last, but for
+   ct_place_ticks. Where it has two or more, the comment has an example in which two
+   hold, with the one that comes first. "With no byte" is with a buffer of length 0, of which 11 holds. */
 #ifndef CELESTIAL_TIME_H
 #define CELESTIAL_TIME_H
 
@@ -102,8 +103,8 @@ int64_t ct_julian_to_calendar(double jd1, double jd2, uint8_t *out, size_t out_l
 int64_t ct_from_calendar(int32_t year, uint8_t month, uint8_t day, uint8_t hour, uint8_t minute,
                          double second, uint8_t *out, size_t out_len);
 
-/* ---- Julian dates: these refuse nothing but 11. Where they take and give floats, a NaN gives a NaN,
-   and an infinity can make one: ct_add_days by an infinity, ct_difference of equal infinities */
+/* ---- Julian dates: these refuse nothing but 11, and ct_compare 9. Where they take and give floats, a
+   NaN gives a NaN, and an infinity can make one: so many days or seconds that are infinite give two */
 
 /* jd1 + jd2, rounded. */
 double ct_to_f64(double jd1, double jd2);
@@ -143,9 +144,10 @@ int64_t ct_same_stamp(uint32_t scale, uint64_t jd1, uint64_t jd2, uint32_t other
    under 2^52 in size is answered. */
 int64_t ct_compare(double jd1, double jd2, double other1, double other2);
 
-/* The days from the other date to this, rounded. Never of the wrong sign, but 0.0 also for some dates
-   that differ, of today's under a microsecond apart, so that it is no order to sort by: use ct_compare.
-   The difference of two dates with the same infinity in the same part is a NaN. */
+/* The days from the other date to this, rounded. With parts under 2^52 in size never of the wrong sign,
+   but 0.0 also for some dates that differ, of today's under a microsecond apart, so that it is no order
+   to sort by: use ct_compare. The difference of two dates with the same infinity in the same part is a
+   NaN. */
 double ct_difference(double jd1, double jd2, double other1, double other2);
 
 /* ---- TAI-UTC */

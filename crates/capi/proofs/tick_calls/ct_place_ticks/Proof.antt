@@ -20,7 +20,7 @@ cast-result c =
     let s = c .before .before .before .before .before .before .before .before .before .before .before in
     let a = s .args in
     let q = c .before .before .before .before .before .place-ticks in
-    record { sfits = omega (arith, ticks-count (placedTicks (now (a .«pass_ticks»)) (now (a .«pass_millis»)) (now (a .ticks)) (length (now (a .out)))) (now (a .out)) _ (q .result) (placed-fits (now (a .«pass_ticks»)) (now (a .«pass_millis»)) (now (a .ticks)) (length (now (a .out)))) (q .ensures) _ (c .before .n .given .1), s .good) }
+    record { sfits = omega (arith, ticks-count (placedTicks (now (a .pass-ticks)) (now (a .pass-millis)) (now (a .ticks)) (length (now (a .out)))) (now (a .out)) _ (q .result) (placed-fits (now (a .pass-ticks)) (now (a .pass-millis)) (now (a .ticks)) (length (now (a .out)))) (q .ensures) _ (c .before .n .given .1), s .good) }
 
 enum-known-number : tie.Need-enum-known-number
 enum-known-number c = search needs
@@ -36,8 +36,8 @@ returns c =
     let s = c .before .before .before .before .before .before .before .before .before .before .before in
     let a = s .args in
     let q = c .before .before .before .before .before .place-ticks in
-    ticks-put (placedTicks (now (a .«pass_ticks»)) (now (a .«pass_millis»)) (now (a .ticks)) (length (now (a .out)))) (now (a .out)) _ (q .result) (placed-fits (now (a .«pass_ticks»)) (now (a .«pass_millis»)) (now (a .ticks)) (length (now (a .out)))) (q .ensures) _ (c .before .n .given .1)
-    (omega (arith, ticks-count (placedTicks (now (a .«pass_ticks»)) (now (a .«pass_millis»)) (now (a .ticks)) (length (now (a .out)))) (now (a .out)) _ (q .result) (placed-fits (now (a .«pass_ticks»)) (now (a .«pass_millis»)) (now (a .ticks)) (length (now (a .out)))) (q .ensures) _ (c .before .n .given .1), s .good))
+    ticks-put (placedTicks (now (a .pass-ticks)) (now (a .pass-millis)) (now (a .ticks)) (length (now (a .out)))) (now (a .out)) _ (q .result) (placed-fits (now (a .pass-ticks)) (now (a .pass-millis)) (now (a .ticks)) (length (now (a .out)))) (q .ensures) _ (c .before .n .given .1)
+    (omega (arith, ticks-count (placedTicks (now (a .pass-ticks)) (now (a .pass-millis)) (now (a .ticks)) (length (now (a .out)))) (now (a .out)) _ (q .result) (placed-fits (now (a .pass-ticks)) (now (a .pass-millis)) (now (a .ticks)) (length (now (a .out)))) (q .ensures) _ (c .before .n .given .1), s .good))
 
 same-length-2 : tie.Need-same-length-2
 same-length-2 c = search needs
@@ -46,7 +46,7 @@ returns-2 : tie.Need-returns-2
 returns-2 c =
     let a = c .before .before .before .before .before .before .before .before .before .before .before .before .args in
     let q = c .before .before .before .before .before .before .place-ticks in
-    ticks-refused (placedTicks (now (a .«pass_ticks»)) (now (a .«pass_millis»)) (now (a .ticks)) (length (now (a .out)))) (now (a .out)) _ (q .result) (q .ensures) _ (c .refused .ok) (c .before .before .number .given .1) (c .refused .ensures)
+    ticks-refused (placedTicks (now (a .pass-ticks)) (now (a .pass-millis)) (now (a .ticks)) (length (now (a .out)))) (now (a .out)) _ (q .result) (q .ensures) _ (c .refused .ok) (c .before .before .number .given .1) (c .refused .ensures)
 
 pub ct-place-ticks-spec : {M : Type 1} → statement M
 ct-place-ticks-spec =
