@@ -24,9 +24,9 @@ use Rattle.tai_utc.proofs.At.{same-three}
 use Rattle.tai_utc.proofs.Reached.{member}
 use Rattle.tai_utc.proofs.Years.{before-1960}
 use Rattle.tai_utc.proofs.Days.{day-offsets-are, leap-given, leap-came}
-use Rattle.time_of_day.specs.ExactTime.{leap1959}
+use Rattle.time_of_day.specs.ExactTime.{leap1959, minus-one-f}
 use Rattle.drift_days.specs.Small.{small}
-use Rattle.leap_days.specs.Leaps.{TableLeap, within, second, first}
+use Rattle.leap_days.specs.Leaps.{TableLeap, within, second, first, shorter}
 use Rattle.drift_days.proofs.Tests.{each, sameF}
 use Rattle.drift_days.proofs.Drift.{oneDay, dayTest, daysTest, rowsTest, monthTest}
 use Rattle.drift_days.proofs.Each.{all-months}
@@ -86,11 +86,14 @@ last-of-1959 = (refl, refl)
 abbrev pub AnyLeap : DayOffsets → Type 0
 AnyLeap o = TableLeap (leapOf o) × (leapAmount o ≡ leapOf o)
 
-of-zero : (o : DayOffsets) → Both o nought → AnyLeap o
+pub of-zero : (o : DayOffsets) → Both o nought → AnyLeap o
 of-zero o (p, q) = (within (subst (λ (z : Float). T (small z)) (sym p) tt), q ∙ sym p)
 
-of-one : (o : DayOffsets) → Both o one → AnyLeap o
+pub of-one : (o : DayOffsets) → Both o one → AnyLeap o
 of-one o (p, q) = (second p, q ∙ sym p)
+
+pub of-minus-one : (o : DayOffsets) → Both o minus-one-f → AnyLeap o
+of-minus-one o (p, q) = (shorter p, q ∙ sym p)
 
 of-first : (o : DayOffsets) → Both o leap1959 → AnyLeap o
 of-first o (p, q) = (first p, q ∙ sym p)
@@ -98,10 +101,10 @@ of-first o (p, q) = (first p, q ∙ sym p)
 of-step : (o : DayOffsets) → Step o → AnyLeap o
 of-step o (p, q) = (within p, q)
 
-small-not-1959 : (x : Float) → T (small x) → x ≡ leap1959 → ⊥
+pub small-not-1959 : (x : Float) → T (small x) → x ≡ leap1959 → ⊥
 small-not-1959 x t e = subst (λ (z : Float). T (small z)) e t
 
-one-not-1959 : one ≡ leap1959 → ⊥
+pub one-not-1959 : one ≡ leap1959 → ⊥
 one-not-1959 e = subst (λ (z : Float). T (sameF z one)) e tt
 
 mjd-same : (y m d : ℤ) (k j : ℕ) → natAbs m ≡ k → natAbs d ≡ j → mjdNumber y (pos k) (pos j) ≡ mjdNumber y m d
@@ -208,7 +211,7 @@ pub since : (y : ℕ) (m d : ℤ) (t : CalendarDate) (h : nextOf (pos y) m d ≡
 unfolding monthNumber
 since y m d t h = ap (λ (k : ℕ). offsetsOfDay fixed (monthOf y (natAbs m)) k (mjdNumber (pos y) m d)) (next-month-number y m d t h)
 
-any-date : (y m d : ℤ) (t : CalendarDate) → nextOf y m d ≡ answer t → AnyLeap (offsetsOn y m d t)
+pub any-date : (y m d : ℤ) (t : CalendarDate) → nextOf y m d ≡ answer t → AnyLeap (offsetsOn y m d t)
 unfolding monthNumber
 any-date (pos y) m d t h = subst AnyLeap (sym (since y m d t h)) (any-day y m d (accepted (pos y) m d (next-is (pos y) m d t h .0)))
 any-date (negsuc y) m d t h =

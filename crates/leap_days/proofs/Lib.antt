@@ -3,5 +3,6 @@ pub mod Months
 pub mod Quick
 pub mod Whole
 pub mod Every
+pub mod TableLeaps
 pub mod Seconds
 pub mod Formula

@@ -6,7 +6,7 @@ use Prim.Native.Nat.{ℕ, suc, _-_, _≤_, _<_}
 use native.Mathlib.Omega.{arith}
 use lib.Dec.{T}
 use lib.IntN.{ℤ, sucℤ}
-use lib.Ieee.{Float, binary64, round, add, sub, mul, ofInt}
+use lib.Ieee.{Float, binary64, round, add, sub, mul, ofInt, ofBits}
 use Rattle.floats.specs.Whole.{nought, half, one}
 use Rattle.tai_utc.specs.Table.{fixed, starts, reached}
 use Rattle.tai_utc.specs.Leap.{offsets, offsetsOfDay, leapOf, driftRate, leapAmount}
@@ -15,12 +15,13 @@ use Rattle.tai_utc.proofs.Reached.{member, month-later}
 use Rattle.tai_utc.proofs.Rows.{fixed-rises}
 use Rattle.tai_utc.proofs.Years.{whole-rows, most-rows, whole-seconds}
 use Rattle.tai_utc.specs.Offset.{wholeF}
+use Rattle.time_of_day.specs.ExactTime.{minus-one-f}
 use Rattle.drift_days.proofs.Tests.{then, then-left, then-right, each, sameF, same-float}
 
 abbrev pub Both : DayOffsets → Float → Type 0
 Both o x = (leapOf o ≡ x) × (leapAmount o ≡ x)
 
--- ---- of k whole seconds all day, and of k + 1 at its end, for each k below 64: computed
+-- ---- of k whole seconds all day, of k + 1 at its end, and of k + 1 with k at its end, for each k below 64: computed
 stayTest : ℕ → Bool
 unfolding leapOf leapAmount driftRate round add sub mul ofInt
 stayTest k = then (sameF (leapOf (offsets (wholeF k) (wholeF k) (wholeF k))) nought) (sameF (leapAmount (offsets (wholeF k) (wholeF k) (wholeF k))) nought)
@@ -42,6 +43,14 @@ stay k h = both (offsets (wholeF k) (wholeF k) (wholeF k)) nought (each stayTest
 pub step-up : (k : ℕ) → k < 64 → Both (offsets (wholeF k) (wholeF k) (wholeF (suc k))) one
 unfolding stepTest
 step-up k h = both (offsets (wholeF k) (wholeF k) (wholeF (suc k))) one (each stepTest 64 k h tt)
+
+downTest : ℕ → Bool
+unfolding leapOf leapAmount driftRate round add sub mul ofInt ofBits
+downTest k = then (sameF (leapOf (offsets (wholeF (suc k)) (wholeF (suc k)) (wholeF k))) minus-one-f) (sameF (leapAmount (offsets (wholeF (suc k)) (wholeF (suc k)) (wholeF k))) minus-one-f)
+
+pub step-down : (k : ℕ) → k < 64 → Both (offsets (wholeF (suc k)) (wholeF (suc k)) (wholeF k)) minus-one-f
+unfolding downTest
+step-down k h = both (offsets (wholeF (suc k)) (wholeF (suc k)) (wholeF k)) minus-one-f (each downTest 64 k h tt)
 
 -- ---- a day of month n; `last`: the next day is of the next month
 module _ (n : ℕ) (h : 23664 ≤ n) (j : ℤ) where

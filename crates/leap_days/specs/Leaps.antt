@@ -6,7 +6,7 @@ use mathlib.Core.List.{List, [], _∷_}
 use lib.Dec.{T, eqb}
 use lib.Ieee.{Float}
 use Rattle.floats.specs.Whole.{one}
-use Rattle.time_of_day.specs.ExactTime.{leap1959}
+use Rattle.time_of_day.specs.ExactTime.{leap1959, minus-one-f}
 use Rattle.drift_days.specs.Small.{small}
 
 pub record Day : Type 0 where
@@ -55,8 +55,9 @@ listed (t ∷ rest) y m d = (eqb y (t .year) && (eqb m (t .month) && eqb d (t .d
 unfoldable pub isLeapSecond : ℕ → ℕ → ℕ → Bool
 isLeapSecond y m d = listed leapSeconds y m d
 
--- the leaps that the table gives: fewer than `Leap` of `time_of_day` has, which a text is shown for
+-- the leaps that a table gives: fewer than `Leap` of `time_of_day` has, which a text is shown for; the fixed table gives no short day
 pub data TableLeap (x : Float) : Type 0 where
   within : T (small x) → TableLeap x
   second : x ≡ one → TableLeap x
   first : x ≡ leap1959 → TableLeap x
+  shorter : x ≡ minus-one-f → TableLeap x

@@ -22,14 +22,17 @@ use Rattle.julian.specs.JulianDate.{julian}
 use Rattle.tai_utc.specs.Table.{Row, fixed}
 use Rattle.tai_utc.specs.Leap.{leapAtEndOfDay}
 use Rattle.leap_days.specs.Leaps as Table
+use Rattle.tai_utc.specs.declared.LentRows.{LentRows}
+use Rattle.tai_utc.specs.Lent.{tableOf}
 use Rattle.leap_days.proofs.Every.{every-leap}
+use Rattle.leap_days.proofs.TableLeaps.{table-leap}
 use Rattle.leap_days.proofs.Seconds.{small-not-over}
 use Rattle.time_of_day.specs.declared.TimeShown.{TimeShown}
 use Rattle.time_of_day.specs.declared.TimeShown.the-variants.{At, NextMidnight}
 use Rattle.time_of_day.specs.Milliseconds.{wholeLeap}
 use Rattle.time_of_day.specs.TimeShown.{shownOf}
 use Rattle.time_of_day.specs.Nearest.{Nearest}
-use Rattle.time_of_day.specs.ExactTime.{Leap, little, second, first, Close, GoodTime, Good, shownMs, ShownRight}
+use Rattle.time_of_day.specs.ExactTime.{Leap, little, second, first, minus-second, Close, GoodTime, Good, shownMs, ShownRight}
 use Rattle.time_of_day.proofs.Rounded.{away-nearest}
 use Rattle.time_of_day.proofs.Fractions.{fraction-of}
 use Rattle.time_of_day.proofs.Shows.{shown-right-by}
@@ -44,11 +47,15 @@ use Rattle.utc.proofs.ShownDates.{early-refused, in-range, date-valid, 
 use Rattle.utc.proofs.DayTexts.{textOf, text-refused-by, leapOn, has-leap, has-text-by}
 use Rattle.utc.proofs.Sums.{in-days, fraction-fits, sumText, of-sum}
 
--- ---- the cases of leap: every leap of the fixed table is one
+-- ---- the cases of leap: every leap of a table that is taken is one
 case-of : (x : Float) → Table.TableLeap x → Leap x
 case-of x (Table.within t) = little (small-not-over x t)
 case-of x (Table.second e) = subst Leap (sym e) second
 case-of x (Table.first e) = subst Leap (sym e) first
+case-of x (Table.shorter e) = subst Leap (sym e) minus-second
+
+pub table-leaps : (t : LentRows) (rows : List Row) → tableOf t ≡ answer rows → (y m d : ℤ) (x : Float) → leapAtEndOfDay rows y m d ≡ answer x → Leap x
+table-leaps t rows p y m d x e = case-of x (table-leap t rows p y m d x e)
 
 pub fixed-leaps : (y m d : ℤ) (x : Float) → leapAtEndOfDay fixed y m d ≡ answer x → Leap x
 fixed-leaps y m d x e = case-of x (every-leap y m d x e)
@@ -136,6 +143,9 @@ module _ (rows : List Row) (cases : (y m d : ℤ) (x : Float) → leapAtEndOfDay
       subst (TextDemand rows (gridSum a b)) (sym (of-sum how rows (gridSum a b) r (julian x y) (record { first-float = fx; second-float = fy; first = a; second = b; sum-is = refl })))
       (sum-demand (gridSum a b) r)
 
--- ---- DEMAND 3, by document 01's rule and the fixed table
+-- ---- DEMAND 3, by document 01's rule: for every table that is taken, and for the fixed one
+pub table-demand-3 : (t : LentRows) (rows : List Row) → tableOf t ≡ answer rows → (x y : Float) → T (fits binary64 x) → T (fits binary64 y) → (a : OnGrid x) (b : OnGrid y) → GridSumInRange (gridSum a b) → TextDemand rows (gridSum a b) (isoText rows (julian x y))
+table-demand-3 t rows p = demand-3-by rows (table-leaps t rows p) away away-nearest
+
 pub demand-3 : (x y : Float) → T (fits binary64 x) → T (fits binary64 y) → (a : OnGrid x) (b : OnGrid y) → GridSumInRange (gridSum a b) → TextDemand fixed (gridSum a b) (isoText fixed (julian x y))
 demand-3 = demand-3-by fixed fixed-leaps away away-nearest

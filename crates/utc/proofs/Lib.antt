@@ -6,6 +6,7 @@ pub mod TextCalls
 pub mod DayTexts
 pub mod Numbers
 pub mod FromCalendars
+pub mod ShortDays
 pub mod DateNumbers
 pub mod Parts
 pub mod ShownDates

@@ -12,7 +12,9 @@ use Rattle.refusals.specs.Outcome.{answer, refusal}
 use Rattle.floats.specs.Whole.{away}
 use Rattle.day_number.specs.ExactDay.{GridSumInRange}
 use Rattle.julian.specs.declared.JulianDate.{JulianDate}
+use Rattle.tai_utc.specs.declared.LentRows.{LentRows}
 use Rattle.tai_utc.specs.Table.{Row, fixed}
+use Rattle.tai_utc.specs.Lent.{tableOf}
 use Rattle.tai_utc.specs.Leap.{leapAtEndOfDay}
 use Rattle.time_of_day.specs.Nearest.{Nearest}
 use Rattle.time_of_day.specs.ExactTime.{Leap}
@@ -25,7 +27,7 @@ use Rattle.utc.specs.Shows.{tooEarly, TextDemand}
 use Rattle.utc.specs.OneText.{Division, Put, fits-in, too-long, OneText}
 use Rattle.utc.proofs.TextCalls.{call-as}
 use Rattle.utc.proofs.Sums.{sumText, of-sum}
-use Rattle.utc.proofs.Demand3.{sum-demand, fixed-leaps}
+use Rattle.utc.proofs.Demand3.{sum-demand, fixed-leaps, table-leaps}
 use Rattle.utc.proofs.DayLengths.{a-length}
 use Rattle.utc.proofs.Alike.{alike, exactly, buffer}
 
@@ -72,6 +74,9 @@ module _ (rows : List Row) (cases : (y m d : ℤ) (x : Float) → leapAtEndOfDay
     );
     alike = λ jd d l r out c jd' d' l' r' out' c' h. alike (sumText how rows sum) l out l' out' r r' h (as-sum jd d l r out c) (as-sum jd' d' l' r' out' c');
   }
+
+pub table-text-for-every-buffer : (t : LentRows) (rows : List Row) → tableOf t ≡ answer rows → (sum : ℤ) → GridSumInRange sum → OneText away rows sum
+table-text-for-every-buffer t rows p = text-for-every-buffer-by rows (table-leaps t rows p) away away-nearest
 
 pub text-for-every-buffer : (sum : ℤ) → GridSumInRange sum → OneText away fixed sum
 text-for-every-buffer = text-for-every-buffer-by fixed fixed-leaps away away-nearest
