@@ -1,0 +1,5 @@
+-- The scan is the grammar, and what a text is read as.
+pub mod Blanks
+pub mod Fractions
+pub mod Heads
+pub mod Grammar
