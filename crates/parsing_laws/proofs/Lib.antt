@@ -3,3 +3,5 @@ pub mod Blanks
 pub mod Fractions
 pub mod Heads
 pub mod Grammar
+pub mod Ladder
+pub mod ReadBack
