@@ -3,5 +3,6 @@ pub mod block_calls;
 pub mod calendar_calls;
 pub mod date_calls;
 pub mod offset_calls;
+pub mod reader_calls;
 pub mod scale_calls;
 pub mod utc_calls;
