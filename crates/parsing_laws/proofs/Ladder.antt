@@ -61,7 +61,7 @@ module _ (w : Written) where
       first false k h = hour-over (leb-false _ _ k)
 
 -- ---- what is read is judged
-read-judged : (utc : Bool) (t : List ℕ) (w : Written) → Reads utc t w → parsed utc t ≡ judged w
+pub read-judged : (utc : Bool) (t : List ℕ) (w : Written) → Reads utc t w → parsed utc t ≡ judged w
 unfolding parsed onward
 read-judged utc t w r = ap (λ (o : Outcome Written). onward o judged) (answered r)
 

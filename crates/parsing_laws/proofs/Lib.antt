@@ -4,4 +4,5 @@ pub mod Fractions
 pub mod Heads
 pub mod Grammar
 pub mod Ladder
+pub mod Around
 pub mod ReadBack
