@@ -237,6 +237,21 @@ int64_t ct_ut1_to_utc_with_dut1(double jd1, double jd2, double dut1, uint8_t *ou
    2000-01-01. (-68571.0, 0.0) is 6; (-31739.5, 0.0), which is -4800-12-31, with no byte is 1. */
 int64_t ct_to_iso8601(double jd1, double jd2, uint8_t *out, size_t out_len);
 
+/* ---- Text read: YYYY-MM-DDThh:mm:ss, or a blank for the T, with a point and 1 to 13 digits or none.
+   Bytes 9 to 13 and 32 around it are dropped. The second is the float nearest to its decimal. A byte
+   0 does not end a text. */
+
+/* The six fields of a text of any scale: year, month, day, hour, minute as 4 bytes each, second as 8;
+   28 bytes. Second 60 may stand in any minute; a Z is 15. Refuses 15; 16, more than 13 digits; 2, 3;
+   then 4, an hour above 23, a minute above 59 or a second from 61 up; 11. 2000-13-01T24:00:00 with no
+   byte is 2. */
+int64_t ct_parse_iso8601(const uint8_t *text, size_t text_len, uint8_t *out, size_t out_len);
+
+/* The six fields of a UTC text, which may have one Z directly behind its second, and then the date
+   that ct_utc_from_calendar gives: jd1, jd2; 44 bytes. Refuses 15; 16; 2, 3; then 4, where the limit
+   at 23:59 is 60 plus the day's leap; 11. 2016-12-31T23:59:60.5Z is a date, 2015-12-31T23:59:60 is 4. */
+int64_t ct_utc_from_iso8601(const uint8_t *text, size_t text_len, uint8_t *out, size_t out_len);
+
 /* ---- Stamp block: two sizes of 4 bytes, all jd1, then all jd2, the lowest byte first */
 
 /* The number of stamps, 0 to 4,000. Refuses 14 under 8 bytes; 12; 13; then 14 for any other length

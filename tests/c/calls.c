@@ -1,5 +1,5 @@
 /* Each call of include/celestial_time.h: an answer, every refusal that it can give, the order of two
-   that would both hold, and the examples of its comment. A call that fills a buffer is lent every length from 0 to 34: with too few
+   that would both hold, and the examples of its comment. A call that fills a buffer is lent every length from 0 to 46: with too few
    bytes it says 11, after every other refusal, and no byte changes that it does not answer with. At the end the functions of the
    header that read numbers from bytes.
    The answers are document 01's, whole numbers of seconds, or ERFA's. */
@@ -273,6 +273,43 @@ static void utc_texts(void)
     REFUSES(1, ct_to_iso8601, -31739.5, 0.0);
 }
 
+/* ---- texts read: tests/reader has the bulk */
+
+#define TEXT(words) (const uint8_t *)(words), sizeof(words) - 1
+
+static void texts_read(void)
+{
+    GIVES(six_fields(2000, 1, 1, 12, 34, 56.789), ct_parse_iso8601, TEXT("2000-01-01T12:34:56.789"));
+    GIVES(six_fields(0, 2, 29, 0, 0, 60.9999999999999), ct_parse_iso8601, TEXT("\t 0000-02-29 00:00:60.9999999999999\r\n"));
+    GIVES(six_fields(9999, 12, 31, 23, 59, 0.0), ct_parse_iso8601, TEXT("9999-12-31T23:59:00"));
+    REFUSES(15, ct_parse_iso8601, TEXT("2000-01-01T12:34:56.789Z"));
+    REFUSES(15, ct_parse_iso8601, TEXT(""));
+    REFUSES(15, ct_parse_iso8601, TEXT("2000-13-01T24:00:00."));
+    REFUSES(15, ct_parse_iso8601, TEXT("2000-01-01T00:00:00\0"));
+    REFUSES(15, ct_parse_iso8601, TEXT("2000-01-01\t00:00:00"));
+    REFUSES(15, ct_parse_iso8601, TEXT("2000-01-01T00:00:00\x1c"));
+    REFUSES(16, ct_parse_iso8601, TEXT("2000-13-01T99:99:99.00000000000000"));
+    REFUSES(2, ct_parse_iso8601, TEXT("2000-13-01T24:00:00"));
+    REFUSES(3, ct_parse_iso8601, TEXT("1900-02-29T24:00:00"));
+    REFUSES(4, ct_parse_iso8601, TEXT("2000-01-01T24:00:00"));
+    REFUSES(4, ct_parse_iso8601, TEXT("2000-01-01T00:60:00"));
+    REFUSES(4, ct_parse_iso8601, TEXT("2000-01-01T00:00:61"));
+}
+
+static void utc_texts_read(void)
+{
+    GIVES((six_fields(2000, 1, 1, 12, 0, 0.0), and_parts(2451544.5, 0.5)), ct_utc_from_iso8601, TEXT("2000-01-01T12:00:00"));
+    GIVES((six_fields(2016, 12, 31, 23, 59, 60.5), and_parts(2457753.5, 86400.5 / 86401.0)), ct_utc_from_iso8601, TEXT(" 2016-12-31T23:59:60.5Z\n"));
+    REFUSES(15, ct_utc_from_iso8601, TEXT("2000-01-01T12:00:00 Z"));
+    REFUSES(15, ct_utc_from_iso8601, TEXT("2000-01-01T12:00:00ZZ"));
+    REFUSES(15, ct_utc_from_iso8601, TEXT("2000-01-01T12:00:00z"));
+    REFUSES(16, ct_utc_from_iso8601, TEXT("2000-13-01T99:99:99.00000000000000Z"));
+    REFUSES(2, ct_utc_from_iso8601, TEXT("2000-00-40T24:00:00Z"));
+    REFUSES(3, ct_utc_from_iso8601, TEXT("1900-02-29T24:00:00Z"));
+    REFUSES(4, ct_utc_from_iso8601, TEXT("2015-12-31T23:59:60Z"));
+    REFUSES(4, ct_utc_from_iso8601, TEXT("1961-07-31T23:59:59.96"));
+}
+
 /* ---- blocks: tests/c/damaged.c has the bulk */
 
 static void block_calls(void)
@@ -351,6 +388,8 @@ int main(void)
     utc_and_tai();
     utc_and_ut1();
     utc_texts();
+    texts_read();
+    utc_texts_read();
     block_calls();
     read_numbers();
     read_answers();

@@ -2,7 +2,7 @@
 #include "check.h"
 #include "patterns.h"
 
-enum { GUARD = 16, ROOM = 34, UNTOUCHED = 0xa5 };
+enum { GUARD = 16, ROOM = 46, UNTOUCHED = 0xa5 };
 
 static uint8_t lent[GUARD + ROOM + GUARD], wanted[ROOM];
 static size_t wanted_length, room;
@@ -83,4 +83,19 @@ static void text(const char *shown)
 {
     wanted_length = strlen(shown);
     memcpy(wanted, shown, wanted_length);
+}
+
+static void six_fields(int32_t year, int32_t month, int32_t of_month, int32_t hour, int32_t minute, double second)
+{
+    day(year, month, of_month);
+    put((uint32_t)hour, 4);
+    put((uint32_t)minute, 4);
+    put(ct_opaque_bits(second), 8);
+}
+
+/* behind what is wanted already */
+static void and_parts(double jd1, double jd2)
+{
+    put(ct_opaque_bits(jd1), 8);
+    put(ct_opaque_bits(jd2), 8);
 }

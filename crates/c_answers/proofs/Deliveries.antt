@@ -50,7 +50,7 @@ too-short t l r h e =
     record { returned = e ∙ sym (ap code w); holds = simp (lt-leb _ _ h) }
 
 -- after the copy of n bytes, all that t has
-pub copied : (t l out : List ℕ) (n : ℕ) → n ≡ length t → length t ≤ 32 → out ≡ take (length t) t ++ drop (length t) l → length t ≤ length l → Delivered (answer t) l (toZ w64 n) out
+pub copied : (t l out : List ℕ) (n : ℕ) → n ≡ length t → length t ≤ 64 → out ≡ take (length t) t ++ drop (length t) l → length t ≤ length l → Delivered (answer t) l (toZ w64 n) out
 unfolding written onward textWritten bufferHolds bufferAfter code
 copied t l out n e few eo h =
     let w : written (answer t) (length l) ≡ answer (length t) = simp (le-leb _ _ h) in

@@ -1,3 +1,4 @@
 -- The definitions of how an answer reaches a C caller, and of its values as bytes.
 pub mod Delivery
 pub mod Fields
+pub mod ReaderFields

@@ -10,7 +10,7 @@ use calendar::CalendarDate;
 use julian::CalendarFields;
 use julian::JulianDate;
 
-fn year_pattern(year: i32) -> u64
+pub(crate) fn year_pattern(year: i32) -> u64
     ensures { λ r. ⌜ r ≡ patternOf year ⌝ }
 {
     little_endian::pattern_of_i64(year as i64)

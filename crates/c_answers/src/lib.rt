@@ -1,5 +1,6 @@
 // How an answer reaches a C caller: a code, and bytes at the start of a lent buffer.
 pub mod fields;
+pub mod reader_fields;
 
 ghost use mathlib.Core.Path.{_≡_};
 ghost use Prim.Native.Nat.{_≤_};
@@ -18,7 +19,7 @@ pub fn refused(number: u32) -> i64
 
 // The number of bytes put; where they do not fit, 11 and nothing is written.
 pub(crate) fn put(all: &[u8], out: &mut [u8]) -> i64
-    requires { ⌜ length (now all) ≤ 32 ⌝ }
+    requires { ⌜ length (now all) ≤ 64 ⌝ }
     ensures { λ r. ⌜ Delivered (answer (now (all .entry))) (now (out .entry)) r (now (out .exit)) ⌝ }
 {
     if out.len() < all.len() {

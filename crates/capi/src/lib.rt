@@ -6,6 +6,7 @@ mod fixed_table;
 pub mod gps_week_calls;
 pub mod offset_calls;
 pub mod order_calls;
+pub mod reader_calls;
 pub mod same_stamp_calls;
 pub mod scale_calls;
 pub mod tick_calls;

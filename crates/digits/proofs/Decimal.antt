@@ -5,11 +5,20 @@ use native.Mathlib.Omega.{arith}
 use native.Mathlib.Nat.{add-mul, mul-assoc, mul-le-mul-right, pow-suc}
 use mathlib.Core.Path.{_≡_, refl, sym, ap, _∙_}
 use mathlib.Core.List.{List, [], _∷_, _++_}
-use mathlib.Core.Bool.{Bool, true, false, cond}
+use mathlib.Core.Bool.{Bool, true, false, cond, and-eq-true-iff}
 use lib.ListN.{length, length-append}
-use lib.Dec.{ltb}
-use borrow.Author.Tests.{ltb-true, ltb-false, lt-ltb, le-ltb}
-use Rattle.digits.specs.Decimal.{value, number, AllDigits, last, digitsIn, digitsOf}
+use lib.Dec.{leb, ltb}
+use borrow.Author.Tests.{leb-true, ltb-true, ltb-false, le-leb, lt-ltb, le-ltb}
+use Rattle.digits.specs.Decimal.{value, number, isDigit, AllDigits, last, digitsIn, digitsOf}
+
+-- ---- a digit's byte
+pub digit-bounds : (c : ℕ) → isDigit c ≡ true → (48 ≤ c) × (c ≤ 57)
+unfolding isDigit
+digit-bounds c e = let k = and-eq-true-iff (leb 48 c) (leb c 57) .0 e in (leb-true 48 c (k .0), leb-true c 57 (k .1))
+
+pub digit-within : (c : ℕ) → 48 ≤ c → c ≤ 57 → isDigit c ≡ true
+unfolding isDigit
+digit-within c l h = rw (le-leb 48 c l, le-leb c 57 h)
 
 -- ---- reading
 pub value-append : (v : ℕ) (cs ds : List ℕ) → value v (cs ++ ds) ≡ value (value v cs) ds

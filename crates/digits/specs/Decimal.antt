@@ -16,7 +16,7 @@ abbrev pub number : List ℕ → ℕ
 number cs = value 0 cs
 
 -- the byte is a digit's: 48 to 57
-abbrev pub isDigit : ℕ → Bool
+unfoldable pub isDigit : ℕ → Bool
 isDigit c = leb 48 c && leb c 57
 
 -- each byte is a digit's

@@ -20,14 +20,14 @@ one-more : (n : ℕ) (cs : List ℕ) → AllDigits cs → AllDigits (last n ∷ 
 unfolding AllDigits
 one-more n cs h = (omega arith, omega arith, h)
 
-two-digits : (n : ℕ) → AllDigits (two n)
+pub two-digits : (n : ℕ) → AllDigits (two n)
 unfolding AllDigits
 two-digits n = one-more (n / 10) (last n ∷ []) (one-more n [] tt)
 
-three-digits : (n : ℕ) → AllDigits (three n)
+pub three-digits : (n : ℕ) → AllDigits (three n)
 three-digits n = one-more (n / 100) (two n) (two-digits n)
 
-four-digits : (n : ℕ) → AllDigits (four n)
+pub four-digits : (n : ℕ) → AllDigits (four n)
 four-digits n = one-more (n / 1000) (three n) (three-digits n)
 
 five-digits : (n : ℕ) → AllDigits (five n)

@@ -44,13 +44,13 @@ all-six n = step-at n 100000 (five n) ∙ all-five n
 all-seven : (n : ℕ) → value (n / 10000000) (seven n) ≡ n
 all-seven n = step-at n 1000000 (six n) ∙ all-six n
 
-two-is : (n : ℕ) → n < 100 → number (two n) ≡ n
+pub two-is : (n : ℕ) → n < 100 → number (two n) ≡ n
 two-is n h = let z : n / 100 ≡ 0 = omega arith in rw z at (all-two n)
 
-three-is : (n : ℕ) → n < 1000 → number (three n) ≡ n
+pub three-is : (n : ℕ) → n < 1000 → number (three n) ≡ n
 three-is n h = let z : n / 1000 ≡ 0 = omega arith in rw z at (all-three n)
 
-four-is : (n : ℕ) → n < 10000 → number (four n) ≡ n
+pub four-is : (n : ℕ) → n < 10000 → number (four n) ≡ n
 four-is n h = let z : n / 10000 ≡ 0 = omega arith in rw z at (all-four n)
 
 five-is : (n : ℕ) → n < 100000 → number (five n) ≡ n

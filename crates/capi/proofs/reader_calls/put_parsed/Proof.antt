@@ -1,0 +1,45 @@
+-- `capi::reader_calls::put_parsed` meets its contract. Assumes nothing.
+use mathlib.Core.Path.{ap}
+use Rattle.parsing.specs.Parsed.{parsedOutcome}
+use Rattle.c_answers.specs.ReaderFields.{parsedBytes}
+use Rattle.c_answers.proofs.Deliveries.{delivered-answer, refused-on}
+use borrow.Author.Needs.{needs}
+use Rattle.capi.proofs.reader_calls.put_parsed.Statement.{statement}
+use Rattle.capi.proofs.reader_calls.put_parsed.Tie as tie
+
+enum-known-found : tie.Need-enum-known-found
+enum-known-found c = search needs
+
+put-parsed-requires : tie.Need-put-parsed-requires
+put-parsed-requires c κs = search needs
+
+enum-known-found-2 : tie.Need-enum-known-found-2
+enum-known-found-2 c = search needs
+
+refused-requires : tie.Need-refused-requires
+refused-requires c κs = search needs
+
+same-length : tie.Need-same-length
+same-length c = search needs
+
+returns : tie.Need-returns
+unfolding parsedOutcome
+returns c =
+    let p = c .before .before in
+    delivered-answer parsedBytes (p .put-parsed .ok) _ (ap parsedOutcome (p .before .before .before .found .given .1)) (p .put-parsed .ensures)
+
+returns-2 : tie.Need-returns-2
+unfolding parsedOutcome
+returns-2 c = refused-on parsedBytes (c .refused .ok) _ (ap parsedOutcome (c .before .before .found2 .given .1)) (c .refused .ensures)
+
+pub put-parsed-spec : {M : Type 1} → statement M
+put-parsed-spec =
+    tie.close
+    (tie.spec
+    enum-known-found
+    put-parsed-requires
+    enum-known-found-2
+    refused-requires
+    same-length
+    returns
+    returns-2)

@@ -1,0 +1,45 @@
+-- `capi::reader_calls::put_parsed_utc` meets its contract. Assumes nothing.
+use mathlib.Core.Path.{ap}
+use Rattle.parsing.specs.Parsed.{parsedUtcOutcome}
+use Rattle.c_answers.specs.ReaderFields.{parsedUtcBytes}
+use Rattle.c_answers.proofs.Deliveries.{delivered-answer, refused-on}
+use borrow.Author.Needs.{needs}
+use Rattle.capi.proofs.reader_calls.put_parsed_utc.Statement.{statement}
+use Rattle.capi.proofs.reader_calls.put_parsed_utc.Tie as tie
+
+enum-known-found : tie.Need-enum-known-found
+enum-known-found c = search needs
+
+put-parsed-utc-requires : tie.Need-put-parsed-utc-requires
+put-parsed-utc-requires c κs = search needs
+
+enum-known-found-2 : tie.Need-enum-known-found-2
+enum-known-found-2 c = search needs
+
+refused-requires : tie.Need-refused-requires
+refused-requires c κs = search needs
+
+same-length : tie.Need-same-length
+same-length c = search needs
+
+returns : tie.Need-returns
+unfolding parsedUtcOutcome
+returns c =
+    let p = c .before .before in
+    delivered-answer parsedUtcBytes (p .put-parsed-utc .ok) _ (ap parsedUtcOutcome (p .before .before .before .found .given .1)) (p .put-parsed-utc .ensures)
+
+returns-2 : tie.Need-returns-2
+unfolding parsedUtcOutcome
+returns-2 c = refused-on parsedUtcBytes (c .refused .ok) _ (ap parsedUtcOutcome (c .before .before .found2 .given .1)) (c .refused .ensures)
+
+pub put-parsed-utc-spec : {M : Type 1} → statement M
+put-parsed-utc-spec =
+    tie.close
+    (tie.spec
+    enum-known-found
+    put-parsed-utc-requires
+    enum-known-found-2
+    refused-requires
+    same-length
+    returns
+    returns-2)

@@ -1,0 +1,42 @@
+// Text that others wrote, read: its six fields, and of UTC text the date too.
+ghost use mathlib.Core.Bool.{false};
+ghost use Rattle.tai_utc.specs.Table.{fixed};
+ghost use Rattle.parsing.specs.Parsed.{parsedOutcome, parsedUtcOutcome, parsed, parsedUtc};
+ghost use Rattle.c_answers.specs.Delivery.{inBytes, Delivered};
+ghost use Rattle.c_answers.specs.ReaderFields.{parsedBytes, parsedUtcBytes};
+use c_answers::reader_fields;
+use c_answers::refused;
+use parsing::ParsedAnswer;
+use parsing::ParsedUtcAnswer;
+
+fn put_parsed(found: ParsedAnswer, out: &mut [u8]) -> i64
+    ensures { λ r. ⌜ Delivered (inBytes parsedBytes (parsedOutcome found)) (now (out .entry)) r (now (out .exit)) ⌝ }
+{
+    match found {
+        ParsedAnswer::Fields(fields) => reader_fields::put_parsed(fields, out),
+        ParsedAnswer::Refused(number) => refused(number),
+    }
+}
+
+fn put_parsed_utc(found: ParsedUtcAnswer, out: &mut [u8]) -> i64
+    ensures { λ r. ⌜ Delivered (inBytes parsedUtcBytes (parsedUtcOutcome found)) (now (out .entry)) r (now (out .exit)) ⌝ }
+{
+    match found {
+        ParsedUtcAnswer::Read(read) => reader_fields::put_parsed_utc(read, out),
+        ParsedUtcAnswer::Refused(number) => refused(number),
+    }
+}
+
+#[no_mangle]
+pub extern "C" fn ct_parse_iso8601(text: &[u8], out: &mut [u8]) -> i64
+    ensures { λ r. ⌜ Delivered (inBytes parsedBytes (parsed false (now (text .entry)))) (now (out .entry)) r (now (out .exit)) ⌝ }
+{
+    put_parsed(parsing::parse_iso8601(text), out)
+}
+
+#[no_mangle]
+pub extern "C" fn ct_utc_from_iso8601(text: &[u8], out: &mut [u8]) -> i64
+    ensures { λ r. ⌜ Delivered (inBytes parsedUtcBytes (parsedUtc fixed (now (text .entry)))) (now (out .entry)) r (now (out .exit)) ⌝ }
+{
+    put_parsed_utc(parsing::from_str(text), out)
+}

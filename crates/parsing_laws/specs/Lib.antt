@@ -1,0 +1,2 @@
+-- What the theorems of `parsing_laws` say of a text.
+pub mod Verdict
