@@ -13,6 +13,8 @@ ghost use mathlib.Core.Bool.{true, false};
 ghost use Prim.Native.Nat.{_≤_};
 ghost use Rattle.julian.specs.JulianDate.{julianOutcome};
 ghost use Rattle.tai_utc.specs.Table.{fixed};
+ghost use Rattle.scales.specs.Scales.{utcOutcome};
+ghost use Rattle.utc.specs.FromCalendar.{utcFromCalendar};
 ghost use Rattle.parsing.specs.Parsed.{parsedOutcome, parsedUtcOutcome, parsed, toJulianDate, dated as dated·of, parsedUtc};
 ghost use Rattle.parsing.specs.Scan.{timeIn, quotient, judgedForm};
 
@@ -135,10 +137,17 @@ pub fn from_str(text: &[u8]) -> ParsedUtcAnswer
     }
 }
 
+// `utc_from_calendar` with no lent rows.
+fn utc_from_calendar(year: i32, month: u8, day: u8, hour: u8, minute: u8, second: f64) -> UtcAnswer
+    ensures { λ r. ⌜ utcOutcome r ≡ utcFromCalendar fixed year month day hour minute second ⌝ }
+{
+    utc::utc_from_calendar_by_rows(year, month, day, hour, minute, second, tai_utc::no_rows())
+}
+
 fn dated(fields: ParsedDateTime) -> ParsedUtcAnswer
     ensures { λ r. ⌜ parsedUtcOutcome r ≡ dated·of fixed fields ⌝ }
 {
-    match utc::utc_from_calendar(
+    match utc_from_calendar(
         fields.year,
         fields.month,
         fields.day,
