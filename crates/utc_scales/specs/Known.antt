@@ -19,9 +19,9 @@ use Rattle.utc_scales.specs.Dates.{offsetsOf, offsetOfDate}
 unfoldable pub RightDay : List Row → KnownDay → Type 0
 RightDay rows k = offsetsOf rows (gregorianDate (k .day)) ≡ answer (k .offsets)
 
-unfoldable pub Right : List Row → Known → Type 0
-Right rows K.Nothing = Unit
-Right rows (K.Day k) = RightDay rows k
+unfoldable pub RightKnown : List Row → Known → Type 0
+RightKnown rows K.Nothing = Unit
+RightKnown rows (K.Day k) = RightDay rows k
 
 -- the part that an answer carries, and whether it carries a day known rightly
 unfoldable pub partOutcome : PartAnswer → Outcome Float

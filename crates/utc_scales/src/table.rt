@@ -7,7 +7,7 @@ ghost use Rattle.calendar.specs.Gregorian.{gregorianDate};
 ghost use Rattle.tai_utc.specs.Lent.{rowsOf};
 ghost use Rattle.tai_utc.specs.Answers.{secondsOutcome, dayOffsetsOutcome};
 ghost use Rattle.utc_scales.specs.Dates.{offsetAt0h, offsetsOf};
-ghost use Rattle.utc_scales.specs.Known.{Right};
+ghost use Rattle.utc_scales.specs.Known.{RightKnown};
 use tai_utc::DayOffsets;
 use tai_utc::DayOffsetsAnswer;
 use tai_utc::LentRows;
@@ -43,7 +43,7 @@ pub(crate) fn offsets_of(day: i64, table: LentRows) -> DayOffsetsAnswer
 
 // The same, with no look-up where the day is the known one.
 pub(crate) fn offsets_with(day: i64, known: Known, table: LentRows) -> DayOffsetsAnswer
-    requires { ⌜ Right (rowsOf table) known ⌝ }
+    requires { ⌜ RightKnown (rowsOf table) known ⌝ }
     ensures { λ r. ⌜ dayOffsetsOutcome r ≡ offsetsOf (rowsOf table) (gregorianDate day) ⌝ }
 {
     match known {
