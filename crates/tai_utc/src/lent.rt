@@ -12,8 +12,8 @@ const LAST_MONTH: u32 = 24204;
 
 const LAST_SECONDS: u32 = 37;
 
-// A number counted from 0; a negative one counts as 0.
-fn natural(x: i32) -> u32
+// A number counted from 0; a negative one counts as 0. The loops call it with an element of the table: a function that takes the whole table would copy it at each turn.
+pub(crate) fn natural(x: i32) -> u32
     ensures { λ r. ⌜ (r ≡ L.natural x) × (r < 2147483648) ⌝ }
 {
     if x < 0 {
@@ -22,28 +22,12 @@ fn natural(x: i32) -> u32
     x as u32
 }
 
-// The month in which the row of place i begins.
-pub(crate) fn month_at(t: LentRows, i: usize) -> u32
-    requires { ⌜ i < 16 ⌝ }
-    ensures { λ r. ⌜ (r ≡ (L.lentRow t i) .month) × (r < 2147483648) ⌝ }
-{
-    natural(t.months[i])
-}
-
-// Its seconds.
-fn whole_at(t: LentRows, i: usize) -> u32
-    requires { ⌜ i < 16 ⌝ }
-    ensures { λ r. ⌜ (r ≡ L.secondsAt t i) × (r < 2147483648) ⌝ }
-{
-    natural(t.seconds[i])
-}
-
-// The same as a float.
+// The seconds of the row of place i.
 pub(crate) fn seconds_at(t: LentRows, i: usize) -> f64
     requires { ⌜ i < 16 ⌝ }
     ensures { λ r. ⌜ r ≡ secondsOf (L.lentRow t i) ⌝ }
 {
-    whole_at(t, i) as f64
+    natural(t.seconds[i]) as f64
 }
 
 fn smaller(a: u32, b: u32) -> u32
@@ -67,7 +51,7 @@ fn rises(t: LentRows, size: usize) -> bool
     let mut before = LAST_MONTH;
     let mut i = 0;
     while i < size {
-        let month = month_at(t, i);
+        let month = natural(t.months[i]);
         if month <= before {
             return false;
         }
@@ -95,7 +79,7 @@ fn steps(t: LentRows, size: usize) -> bool
     let mut before = LAST_SECONDS;
     let mut i = 0;
     while i < size {
-        let seconds = whole_at(t, i);
+        let seconds = natural(t.seconds[i]);
         if !one_apart(before, seconds) {
             return false;
         }

@@ -201,7 +201,7 @@ fn table_rows_reached(t: LentRows, n: u64) -> usize
 {
     let mut i = lent::size_of(t);
     while 0 < i {
-        if lent::month_at(t, i - 1) as u64 <= n {
+        if lent::natural(t.months[i - 1]) as u64 <= n {
             return 42 + i;
         }
         i -= 1;
@@ -298,11 +298,14 @@ fn plain_day(year: i32, month: i32, day: i32) -> bool
     day <= 27
 }
 
-// TAI-UTC in a month from January 1972 on: the same at every fraction of each day.
+// TAI-UTC in a month from January 1972 on: the same at every fraction of each day. With no lent rows the table is not handed on, which would copy it.
 fn seconds_from_1972(t: LentRows, month: u64) -> f64
     requires { ⌜ 23664 ≤ month ⌝ }
     ensures { λ r. ⌜ ((mjd fraction : Float) → r ≡ offsetAt (rowsOf t) month mjd fraction) ⌝ }
 {
+    if lent::size_of(t) == 0 {
+        return whole_seconds(fixed_rows_reached(month));
+    }
     seconds_of_row(t, table_rows_reached(t, month))
 }
 

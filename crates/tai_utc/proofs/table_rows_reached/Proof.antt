@@ -4,10 +4,13 @@ use mathlib.Core.Path.{_≡_, refl, ap, sym, subst, _∙_}
 use Prim.Native.Nat.{ℕ, suc, _+_, _-_, _≤_, _<_}
 use native.Mathlib.Omega.{arith}
 use native.Mathlib.Nat.{le-refl}
+use lib.IntN.{pos}
+use lib.ListN.{getD}
 use borrow.Author.Needs.{needs}
 use Rattle.tai_utc.specs.declared.LentRows.{LentRows}
 use Rattle.tai_utc.specs.Table.{fixed, starts, reached}
 use Rattle.tai_utc.specs.Lent.{lentRow, rowsTo, lentSize, rowsOf}
+use Rattle.tai_utc.proofs.Naturals.{read-natural}
 use Rattle.tai_utc.proofs.Tables.{at-most-16, lent-found, lent-passed}
 use Rattle.tai_utc.proofs.table_rows_reached.Statement.{statement}
 use Rattle.tai_utc.proofs.table_rows_reached.Tie as tie
@@ -29,10 +32,10 @@ none-left : (i : ℕ) → i ≤ 0 → i ≡ 0
 none-left i h = omega arith
 
 abbrev Inv-loop : tie.InvT-loop
-Inv-loop t n i₀ i = (i ≤ lentSize t) × (reached (starts (rowsOf t)) n ≡ reached (starts (rowsTo t i)) n)
+Inv-loop n t i₀ i = (i ≤ lentSize t) × (reached (starts (rowsOf t)) n ≡ reached (starts (rowsTo t i)) n)
 
 abbrev μ-loop : tie.MeasureT-loop
-μ-loop t n i₀ i = i
+μ-loop n t i₀ i = i
 
 size-of-requires : tie.Need-size-of-requires Inv-loop μ-loop
 size-of-requires c κs = search needs
@@ -40,25 +43,36 @@ size-of-requires c κs = search needs
 loop-holds : tie.Need-loop-holds Inv-loop μ-loop
 loop-holds c =
     let e = c .size-of .ensures .0 in
-    (omega (arith, e), ap (λ (k : ℕ). reached (starts (rowsTo (c .before .args .t) k)) (c .before .args .n)) (sym e))
+    (omega (arith, e), ap (λ (k : ℕ). reached (starts (rowsTo (c .before .args .t1) k)) (c .before .args .n)) (sym e))
 
-sub-month-at : tie.Need-sub-month-at Inv-loop μ-loop
-sub-month-at c = search needs
+sub-natural : tie.Need-sub-natural Inv-loop μ-loop
+sub-natural c = search needs
 
-month-at-requires : tie.Need-month-at-requires Inv-loop μ-loop
-month-at-requires c κs = omega (arith, at-most-16 (c .before .before .before .args .t))
+mul-natural : tie.Need-mul-natural Inv-loop μ-loop
+mul-natural c = search needs
+
+element-copy-out-natural : tie.Need-element-copy-out-natural Inv-loop μ-loop
+element-copy-out-natural c = omega (arith, at-most-16 (c .before .before .before .args .t1))
+
+natural-requires : tie.Need-natural-requires Inv-loop μ-loop
+natural-requires c κs = search needs
 
 cast-if1 : tie.Need-cast-if1 Inv-loop μ-loop
 cast-if1 c = search needs
 
 add-result : tie.Need-add-result Inv-loop μ-loop
-add-result c = record { fits = omega (arith, at-most-16 (c .before .before .before .before .before .args .t)) }
+add-result c = record { fits = omega (arith, at-most-16 (c .before .before .before .before .before .before .args .t1)) }
+
+month-read : (c : tie.After-natural Inv-loop μ-loop) → let l = c .before .before .before in c .natural .result ≡ lentRow (l .before .before .args .t1) (l .loop .i - 1) .month
+month-read c =
+    let l = c .before .before .before in
+    c .natural .ensures .0 ∙ read-natural (getD (l .before .before .args .t1 .months) (l .loop .i - 1) (pos 0)) (record { sfits = c .before .natural-arg .given })
 
 returns : tie.Need-returns Inv-loop μ-loop
 returns c =
-    let l = c .before .before .before in
+    let l = c .before .before .before .before in
     let s = l .before .before in
-    (sym (l .loop .inv .1 ∙ found (s .args .t) (l .loop .i) (s .args .n) (c .before .before .loop-test .taken) (omega (arith, c .if1 .taken, c .before .month-at .ensures .0))), omega (arith, l .loop .inv .0))
+    (sym (l .loop .inv .1 ∙ found (s .args .t1) (l .loop .i) (s .args .n) (c .before .before .before .loop-test .taken) (omega (arith, c .if1 .taken, month-read (c .before)))), omega (arith, l .loop .inv .0))
 
 sub-i : tie.Need-sub-i Inv-loop μ-loop
 sub-i c = search needs
@@ -68,9 +82,9 @@ loop-less c = search needs
 
 loop-again : tie.Need-loop-again Inv-loop μ-loop
 loop-again c =
-    let l = c .before .before .before in
+    let l = c .before .before .before .before in
     let s = l .before .before in
-    (omega (arith, l .loop .inv .0), l .loop .inv .1 ∙ passed (s .args .t) (l .loop .i) (s .args .n) (c .before .before .loop-test .taken) (omega (arith, c .if1 .left, c .before .month-at .ensures .0)))
+    (omega (arith, l .loop .inv .0), l .loop .inv .1 ∙ passed (s .args .t1) (l .loop .i) (s .args .n) (c .before .before .before .loop-test .taken) (omega (arith, c .if1 .left, month-read (c .before))))
 
 fixed-rows-reached-requires : tie.Need-fixed-rows-reached-requires Inv-loop μ-loop
 fixed-rows-reached-requires c κs = search needs
@@ -82,7 +96,7 @@ returns-2 c =
     let s = l .before .before in
     let r = c .fixed-rows-reached .ensures in
     let z = none-left (l .loop .i) (c .before .loop-test .left) in
-    (r .0 ∙ sym (l .loop .inv .1 ∙ ap (λ (k : ℕ). reached (starts (rowsTo (s .args .t) k)) (s .args .n)) z), omega (arith, r .1))
+    (r .0 ∙ sym (l .loop .inv .1 ∙ ap (λ (k : ℕ). reached (starts (rowsTo (s .args .t1) k)) (s .args .n)) z), omega (arith, r .1))
 
 pub table-rows-reached-spec : {M : Type 1} → statement M
 table-rows-reached-spec =
@@ -92,8 +106,10 @@ table-rows-reached-spec =
     μ-loop
     size-of-requires
     loop-holds
-    sub-month-at
-    month-at-requires
+    sub-natural
+    mul-natural
+    element-copy-out-natural
+    natural-requires
     cast-if1
     add-result
     returns

@@ -18,7 +18,7 @@ array-borrow-prefix-buffer : tie.Need-array-borrow-prefix-buffer
 array-borrow-prefix-buffer c = search needs
 
 slice-aggregate-to-iso8601 : tie.Need-slice-aggregate-to-iso8601
-slice-aggregate-to-iso8601 c = simp length-take (omega (arith, c .before .before .room .ensures))
+slice-aggregate-to-iso8601 c = simp length-take (omega (arith, c .before .before .before .room .ensures))
 
 to-iso8601-requires : tie.Need-to-iso8601-requires
 to-iso8601-requires c κs = search needs

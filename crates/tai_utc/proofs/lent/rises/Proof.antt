@@ -5,9 +5,12 @@ use mathlib.Core.Path.{_≡_, refl, ap, sym, _∙_}
 use mathlib.Core.Bool.{Bool, true}
 use Prim.Native.Nat.{ℕ, _-_, _≤_, _<_}
 use native.Mathlib.Omega.{arith}
+use lib.IntN.{pos}
+use lib.ListN.{getD}
 use borrow.Author.Needs.{needs}
 use Rattle.tai_utc.specs.Table.{starts, rising}
-use Rattle.tai_utc.specs.Lent.{rowsTo}
+use Rattle.tai_utc.specs.Lent.{lentRow, rowsTo}
+use Rattle.tai_utc.proofs.Naturals.{read-natural}
 use Rattle.tai_utc.proofs.Tables.{monthBefore}
 use Rattle.tai_utc.proofs.TableTests.{rises-none, not-later, later}
 use Rattle.tai_utc.proofs.lent.rises.Statement.{statement}
@@ -17,22 +20,33 @@ same : (a b : ℕ) → b ≤ a → a ≤ b → b ≡ a
 same a b g h = omega arith
 
 abbrev Inv-loop : tie.InvT-loop
-Inv-loop t size before₀ i₀ before i = (i ≤ size) × (before ≡ monthBefore t i) × (rising (starts (rowsTo t i)) ≡ true)
+Inv-loop size t before₀ i₀ before i = (i ≤ size) × (before ≡ monthBefore t i) × (rising (starts (rowsTo t i)) ≡ true)
 
 abbrev μ-loop : tie.MeasureT-loop
-μ-loop t size before₀ i₀ before i = size - i
+μ-loop size t before₀ i₀ before i = size - i
 
 loop-holds : tie.Need-loop-holds Inv-loop μ-loop
-loop-holds c = (omega arith, refl, rises-none (c .args .t))
+loop-holds c = (omega arith, refl, rises-none (c .args .t1))
 
-month-at-requires : tie.Need-month-at-requires Inv-loop μ-loop
-month-at-requires c κs = search needs
+mul-natural : tie.Need-mul-natural Inv-loop μ-loop
+mul-natural c = search needs
+
+element-copy-out-natural : tie.Need-element-copy-out-natural Inv-loop μ-loop
+element-copy-out-natural c = search needs
+
+natural-requires : tie.Need-natural-requires Inv-loop μ-loop
+natural-requires c κs = search needs
+
+month-read : (c : tie.After-natural Inv-loop μ-loop) → let l = c .before .before .before in c .natural .result ≡ lentRow (l .before .args .t1) (l .loop .i) .month
+month-read c =
+    let l = c .before .before .before in
+    c .natural .ensures .0 ∙ read-natural (getD (l .before .args .t1 .months) (l .loop .i) (pos 0)) (record { sfits = c .before .natural-arg .given })
 
 returns : tie.Need-returns Inv-loop μ-loop
 returns c =
-    let l = c .before .before .before in
+    let l = c .before .before .before .before in
     let s = l .before in
-    not-later (s .args .t) (l .loop .i) (s .args .size) (c .before .before .loop-test .taken) (omega (arith, c .if1 .taken, l .loop .inv .1, c .before .month-at .ensures .0))
+    not-later (s .args .t1) (l .loop .i) (s .args .size) (c .before .before .before .loop-test .taken) (omega (arith, c .if1 .taken, l .loop .inv .1, month-read (c .before)))
 
 add-i : tie.Need-add-i Inv-loop μ-loop
 add-i c = search needs
@@ -42,16 +56,16 @@ loop-less c = search needs
 
 loop-again : tie.Need-loop-again Inv-loop μ-loop
 loop-again c =
-    let l = c .before .before .before in
+    let l = c .before .before .before .before in
     let s = l .before in
-    let m = c .before .month-at .ensures .0 in
-    let (a, b) = later (s .args .t) (l .loop .i) (l .loop .inv .2) (omega (arith, c .if1 .left, l .loop .inv .1, m)) in
+    let m = month-read (c .before) in
+    let (a, b) = later (s .args .t1) (l .loop .i) (l .loop .inv .2) (omega (arith, c .if1 .left, l .loop .inv .1, m)) in
     (omega arith, m ∙ a, b)
 
 returns-2 : tie.Need-returns-2 Inv-loop μ-loop
 returns-2 c =
     let l = c .before in
-    sym (ap (λ (k : ℕ). rising (starts (rowsTo (l .before .args .t) k))) (same _ _ (c .loop-test .left) (l .loop .inv .0)) ∙ l .loop .inv .2)
+    sym (ap (λ (k : ℕ). rising (starts (rowsTo (l .before .args .t1) k))) (same _ _ (c .loop-test .left) (l .loop .inv .0)) ∙ l .loop .inv .2)
 
 pub rises-spec : {M : Type 1} → statement M
 rises-spec =
@@ -60,7 +74,9 @@ rises-spec =
     Inv-loop
     μ-loop
     loop-holds
-    month-at-requires
+    mul-natural
+    element-copy-out-natural
+    natural-requires
     returns
     add-i
     loop-less

@@ -1,21 +1,31 @@
 -- `tai_utc::lent::seconds_at` meets its contract: whole seconds are their own float. Assumes nothing.
 use mathlib.Core.Path.{ap, sym, _∙_}
+use lib.IntN.{pos}
+use lib.ListN.{getD}
 use borrow.Author.Needs.{needs}
 use Rattle.tai_utc.specs.Offset.{wholeF}
+use Rattle.tai_utc.proofs.Naturals.{read-natural}
 use Rattle.tai_utc.proofs.Tables.{lent-seconds}
 use Rattle.tai_utc.proofs.lent.seconds_at.Statement.{statement}
 use Rattle.tai_utc.proofs.lent.seconds_at.Tie as tie
 
-whole-at-requires : tie.Need-whole-at-requires
-whole-at-requires c κs = search needs
+mul-natural : tie.Need-mul-natural
+mul-natural c = search needs
+
+element-copy-out-natural : tie.Need-element-copy-out-natural
+element-copy-out-natural c = search needs
+
+natural-requires : tie.Need-natural-requires
+natural-requires c κs = search needs
 
 int-to-float-result : tie.Need-int-to-float-result
 int-to-float-result c = search needs
 
 returns : tie.Need-returns
 returns c =
-    let s = c .before .before .args in
-    ap wholeF (c .before .whole-at .ensures .0) ∙ sym (lent-seconds (s .t) (s .i))
+    let n = c .before in
+    let s = n .before .before .args in
+    ap wholeF (n .natural .ensures .0 ∙ read-natural (getD (s .t1 .seconds) (s .i) (pos 0)) (record { sfits = n .before .natural-arg .given })) ∙ sym (lent-seconds (s .t1) (s .i))
 
 pub seconds-at-spec : {M : Type 1} → statement M
-seconds-at-spec = tie.close (tie.spec whole-at-requires int-to-float-result returns)
+seconds-at-spec = tie.close (tie.spec mul-natural element-copy-out-natural natural-requires int-to-float-result returns)

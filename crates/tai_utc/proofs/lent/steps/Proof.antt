@@ -5,9 +5,12 @@ use mathlib.Core.Path.{_≡_, refl, ap, sym, _∙_}
 use mathlib.Core.Bool.{Bool, true}
 use Prim.Native.Nat.{ℕ, _-_, _≤_, _<_}
 use native.Mathlib.Omega.{arith}
+use lib.IntN.{pos}
+use lib.ListN.{getD}
 use borrow.Author.Needs.{needs}
 use borrow.Author.Tests.{not-true, not-false}
-use Rattle.tai_utc.specs.Lent.{rowsTo, oneApart, bySeconds}
+use Rattle.tai_utc.specs.Lent.{secondsAt, rowsTo, oneApart, bySeconds}
+use Rattle.tai_utc.proofs.Naturals.{read-natural}
 use Rattle.tai_utc.proofs.Tables.{secondsBefore}
 use Rattle.tai_utc.proofs.TableTests.{steps-none, wrong-step, right-step}
 use Rattle.tai_utc.proofs.lent.steps.Statement.{statement}
@@ -17,19 +20,30 @@ same : (a b : ℕ) → b ≤ a → a ≤ b → b ≡ a
 same a b g h = omega arith
 
 abbrev Inv-loop : tie.InvT-loop
-Inv-loop t size before₀ i₀ before i = (i ≤ size) × (before < 2147483648) × (before ≡ secondsBefore t i) × (bySeconds (rowsTo t i) ≡ true)
+Inv-loop size t before₀ i₀ before i = (i ≤ size) × (before < 2147483648) × (before ≡ secondsBefore t i) × (bySeconds (rowsTo t i) ≡ true)
 
 abbrev μ-loop : tie.MeasureT-loop
-μ-loop t size before₀ i₀ before i = size - i
+μ-loop size t before₀ i₀ before i = size - i
 
 loop-holds : tie.Need-loop-holds Inv-loop μ-loop
-loop-holds c = (omega arith, omega arith, refl, steps-none (c .args .t))
+loop-holds c = (omega arith, omega arith, refl, steps-none (c .args .t1))
 
-whole-at-requires : tie.Need-whole-at-requires Inv-loop μ-loop
-whole-at-requires c κs = search needs
+mul-natural : tie.Need-mul-natural Inv-loop μ-loop
+mul-natural c = search needs
+
+element-copy-out-natural : tie.Need-element-copy-out-natural Inv-loop μ-loop
+element-copy-out-natural c = search needs
+
+natural-requires : tie.Need-natural-requires Inv-loop μ-loop
+natural-requires c κs = search needs
 
 one-apart-requires : tie.Need-one-apart-requires Inv-loop μ-loop
-one-apart-requires c κs = (c .before .before .loop .inv .1, c .whole-at .ensures .1)
+one-apart-requires c κs = (c .before .before .before .loop .inv .1, c .natural .ensures .1)
+
+seconds-read : (c : tie.After-natural Inv-loop μ-loop) → let l = c .before .before .before in c .natural .result ≡ secondsAt (l .before .args .t1) (l .loop .i)
+seconds-read c =
+    let l = c .before .before .before in
+    c .natural .ensures .0 ∙ read-natural (getD (l .before .args .t1 .seconds) (l .loop .i) (pos 0)) (record { sfits = c .before .natural-arg .given })
 
 -- what the test says of the definition's numbers
 apart : (a a′ b b′ : ℕ) → a ≡ a′ → b ≡ b′ → oneApart a b ≡ oneApart a′ b′
@@ -38,10 +52,10 @@ apart a a′ b b′ p q = λ i. oneApart (p i) (q i)
 returns : tie.Need-returns Inv-loop μ-loop
 returns c =
     let w = c .before .before in
-    let l = w .before .before in
+    let l = w .before .before .before in
     let s = l .before in
-    wrong-step (s .args .t) (l .loop .i) (s .args .size) (w .before .loop-test .taken)
-    (apart _ _ _ _ (sym (l .loop .inv .2)) (sym (w .whole-at .ensures .0)) ∙ sym (c .before .one-apart .ensures) ∙ not-true _ (c .if1 .taken))
+    wrong-step (s .args .t1) (l .loop .i) (s .args .size) (w .before .before .loop-test .taken)
+    (apart _ _ _ _ (sym (l .loop .inv .2)) (sym (seconds-read w)) ∙ sym (c .before .one-apart .ensures) ∙ not-true _ (c .if1 .taken))
 
 add-i : tie.Need-add-i Inv-loop μ-loop
 add-i c = search needs
@@ -52,16 +66,16 @@ loop-less c = search needs
 loop-again : tie.Need-loop-again Inv-loop μ-loop
 loop-again c =
     let w = c .before .before in
-    let l = w .before .before in
+    let l = w .before .before .before in
     let s = l .before in
-    let m = w .whole-at .ensures in
-    let (a, b) = right-step (s .args .t) (l .loop .i) (l .loop .inv .3) (apart _ _ _ _ (sym (l .loop .inv .2)) (sym (m .0)) ∙ sym (c .before .one-apart .ensures) ∙ not-false _ (c .if1 .left)) in
-    (omega arith, m .1, m .0 ∙ a, b)
+    let m = seconds-read w in
+    let (a, b) = right-step (s .args .t1) (l .loop .i) (l .loop .inv .3) (apart _ _ _ _ (sym (l .loop .inv .2)) (sym m) ∙ sym (c .before .one-apart .ensures) ∙ not-false _ (c .if1 .left)) in
+    (omega arith, w .natural .ensures .1, m ∙ a, b)
 
 returns-2 : tie.Need-returns-2 Inv-loop μ-loop
 returns-2 c =
     let l = c .before in
-    sym (ap (λ (k : ℕ). bySeconds (rowsTo (l .before .args .t) k)) (same _ _ (c .loop-test .left) (l .loop .inv .0)) ∙ l .loop .inv .3)
+    sym (ap (λ (k : ℕ). bySeconds (rowsTo (l .before .args .t1) k)) (same _ _ (c .loop-test .left) (l .loop .inv .0)) ∙ l .loop .inv .3)
 
 pub steps-spec : {M : Type 1} → statement M
 steps-spec =
@@ -70,7 +84,9 @@ steps-spec =
     Inv-loop
     μ-loop
     loop-holds
-    whole-at-requires
+    mul-natural
+    element-copy-out-natural
+    natural-requires
     one-apart-requires
     returns
     add-i
