@@ -34,7 +34,7 @@ number-five s m h k =
     ∙ (λ i. two-is s (omega arith) i * 1000 + three-is m (omega arith) i) ∙ (let e : s * 1000 + m ≡ 1000 * s + m = omega arith in e)
 
 -- the fields as what was written: no Z, and three places
-pub asWritten : ℕ → CalendarDate → TimeOfDay → Written
+unfoldable pub asWritten : ℕ → CalendarDate → TimeOfDay → Written
 asWritten y d u = record { year = y; month = d .month; day = d .day; hour = u .hour; minute = u .minute; whole = 1000 * u .second + u .milli; places = 3; zulu = false }
 
 -- ---- the text in the grammar
