@@ -1,15 +1,15 @@
 -- A UTC text that we write, of a day from 1972 to 9999, is read back as its fields and the date that they name. Assumes nothing.
 use Prim.Native.Nat.{ℕ, _+_, _*_, _≤_}
 use native.Mathlib.Omega.{arith}
-use mathlib.Core.Path.{_≡_, refl, sym, ap, _∙_, subst}
+use mathlib.Core.Path.{_≡_, refl, sym, subst}
 use mathlib.Core.Bool.{Bool, true, false, cond}
 use mathlib.Core.Logic.{_⊎_, inl, inr}
 use lib.Dec.{T, eqb}
 use lib.IntN.{ℤ, pos}
 use lib.Ieee.{Float, lt}
 use borrow.Author.Tests.{eqb-true, eqb-false}
-use Rattle.refusals.specs.Outcome.{Outcome, answer, onward}
-use Rattle.floats.specs.Whole.{nought, one, half, abs}
+use Rattle.refusals.specs.Outcome.{answer, onward}
+use Rattle.floats.specs.Whole.{nought, one, abs}
 use Rattle.constants.specs.Constants.{decimal}
 use Rattle.calendar.specs.declared.CalendarDate.{CalendarDate}
 use Rattle.calendar.specs.Refusals.{validDate}
@@ -25,9 +25,7 @@ use Rattle.leap_days.proofs.Seconds.{leap-seconds}
 use Rattle.utc_text.specs.Text.{utcText}
 use Rattle.utc.specs.FromCalendar.{utcFromCalendar}
 use Rattle.utc.proofs.FromCalendars.{time-given}
-use Rattle.parsing.specs.declared.ParsedDateTime.{ParsedDateTime}
-use Rattle.parsing.specs.declared.ParsedUtc.{ParsedUtc}
-use Rattle.parsing.specs.Parsed.{fieldsOf, parsed, dated, parsedUtc}
+use Rattle.parsing.specs.Parsed.{fieldsOf, dated, parsedUtc}
 use Rattle.parsing_laws.proofs.ReadBack.{asWritten, reads-back}
 use Rattle.parsing_laws.proofs.UtcTimes.{time-in-day}
 

@@ -7,13 +7,13 @@ use native.Mathlib.Nat.{le-of-lt, add-zero, one-mul, mul-assoc, add-mul, mul-le-
 use mathlib.Core.Path.{_≡_, refl, sym, ap, _∙_, subst}
 use mathlib.Core.Bool.{Bool, true, false, cond, _&&_}
 use mathlib.Core.Logic.{_⊎_, inl, inr}
-use lib.Dec.{T, lit<, lit≤, eqb, leb}
+use lib.Dec.{T, lit<, lit≤, eqb}
 use lib.IntN.{pos}
 use lib.Ieee.{Float, binary64, round, ofInt, add, lt, le}
 use lib.Ieee.Order.{round-mono}
 use borrow.Author.Tests.{lt-ltb, le-leb, eq-eqb}
 use Rattle.floats.specs.Whole.{nought, one}
-use Rattle.rounding.specs.Value.{Val, Rounds, L}
+use Rattle.rounding.specs.Value.{Val, L}
 use Rattle.rounding.proofs.Value.{val-scale, L-is, L-pos}
 use Rattle.rounding.proofs.Casts.{ofInt-val}
 use Rattle.rounding.proofs.Compare.{lt-val}
