@@ -13,7 +13,7 @@ use mir.Facts.{toZ-ofZ, toZ-pos}
 use borrow.Author.Tests.{lt-ltb, le-leb, lt-leb}
 use Rattle.refusals.specs.Outcome.{Outcome, answer, refusal, onward}
 use Rattle.utc_text.specs.Answer.{textWritten, bufferAfter}
-use Rattle.utc.specs.TextCall.{written, held}
+use Rattle.utc.specs.TextCall.{written, bufferHolds}
 use Rattle.c_answers.specs.Delivery.{code, done, inBytes, Delivered}
 
 -- ---- a refusal's code: 0 less its number
@@ -44,14 +44,14 @@ module _ (k : ℕ) (f : Fits w32 k) where
 
 -- ---- bytes put into a buffer
 pub too-short : (t l : List ℕ) (r : ℤ) → length l < length t → r ≡ code (refusal 11) → Delivered (answer t) l r l
-unfolding written onward textWritten held bufferAfter
+unfolding written onward textWritten bufferHolds bufferAfter
 too-short t l r h e =
     let w : written (answer t) (length l) ≡ refusal 11 = simp (lt-leb _ _ h) in
     record { returned = e ∙ sym (ap code w); holds = simp (lt-leb _ _ h) }
 
 -- after the copy of n bytes, all that t has
 pub copied : (t l out : List ℕ) (n : ℕ) → n ≡ length t → length t ≤ 64 → out ≡ take (length t) t ++ drop (length t) l → length t ≤ length l → Delivered (answer t) l (toZ w64 n) out
-unfolding written onward textWritten held bufferAfter code
+unfolding written onward textWritten bufferHolds bufferAfter code
 copied t l out n e few eo h =
     let w : written (answer t) (length l) ≡ answer (length t) = simp (le-leb _ _ h) in
     record {
@@ -70,12 +70,12 @@ pub same-bytes : {s t l out : List ℕ} {r : ℤ} → mag r < 2 ^ 63 → s ≡ t
 same-bytes {s} {t} {l} {out} {r} ok e p = back ok (subst (λ (x : List ℕ). Delivered (answer x) l r out) e p)
 
 module _ {A : Type 0} (bytes : A → List ℕ) {r : ℤ} (ok : mag r < 2 ^ 63) where
-  pub answered : {o : Outcome A} {l out : List ℕ} (a : A) → o ≡ answer a → Delivered (answer (bytes a)) l r out → Delivered (inBytes bytes o) l (toZ w64 (ofZ w64 r)) out
+  pub delivered-answer : {o : Outcome A} {l out : List ℕ} (a : A) → o ≡ answer a → Delivered (answer (bytes a)) l r out → Delivered (inBytes bytes o) l (toZ w64 (ofZ w64 r)) out
   unfolding inBytes onward
-  answered {o} {l} {out} a e p = back ok (subst (λ (x : Outcome A). Delivered (inBytes bytes x) l r out) (sym e) p)
+  delivered-answer {o} {l} {out} a e p = back ok (subst (λ (x : Outcome A). Delivered (inBytes bytes x) l r out) (sym e) p)
 
   pub refused-on : {o : Outcome A} {l : List ℕ} (k : ℕ) → o ≡ refusal k → r ≡ code (refusal k) → Delivered (inBytes bytes o) l (toZ w64 (ofZ w64 r)) l
-  unfolding inBytes onward written held
+  unfolding inBytes onward written bufferHolds
   refused-on {o} {l} k e c = back ok (subst (λ (x : Outcome A). Delivered (inBytes bytes x) l r l) (sym e) (record { returned = c; holds = refl }))
 
   pub same-outcome : {o o′ : Outcome A} {l out : List ℕ} → o ≡ o′ → Delivered (inBytes bytes o) l r out → Delivered (inBytes bytes o′) l (toZ w64 (ofZ w64 r)) out

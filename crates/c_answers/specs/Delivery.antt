@@ -7,7 +7,7 @@ use mathlib.Core.Bool.{Bool, cond}
 use lib.ListN.{length}
 use lib.IntN.{ℤ, pos, negℤ}
 use Rattle.refusals.specs.Outcome.{Outcome, answer, refusal, onward}
-use Rattle.utc.specs.TextCall.{written, held}
+use Rattle.utc.specs.TextCall.{written, bufferHolds}
 
 -- zero or more is the answer, below zero minus the refusal's number
 unfoldable pub code : Outcome ℕ → ℤ
@@ -30,4 +30,4 @@ inBytes bytes o = onward o (λ a. answer (bytes a))
 -- the answer's own refusal before that; `held` is the bytes at the start and the rest as it was, and on a refusal the buffer as it was.
 pub record Delivered (o : Outcome (List ℕ)) (before : List ℕ) (r : ℤ) (after : List ℕ) : Type 0 where
   pub returned : r ≡ code (written o (length before))
-  pub holds : after ≡ held o before
+  pub holds : after ≡ bufferHolds o before

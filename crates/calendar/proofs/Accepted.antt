@@ -12,7 +12,7 @@ use mir.Val.{SFits, toZ, ofZ}
 use mir.Facts.{toZ-ofZ}
 use borrow.Author.Tests.{ltb-true, ltb-false, lt-ltb, le-ltb}
 use Rattle.refusals.specs.Outcome.{Outcome, answer, refusal}
-use Rattle.calendar.specs.Calendar.{leap, lengths, monthLength, daysInMonth}
+use Rattle.calendar.specs.Calendar.{leapYear, lengths, monthLength, daysInMonth}
 use Rattle.calendar.specs.Refusals.{validDate}
 use Rattle.calendar.specs.Answers.{checkOutcome}
 use Rattle.calendar.specs.declared.CalendarDate.{CalendarDate}
@@ -52,7 +52,7 @@ no-month y (pos m) e = go (ltb m 1) refl (ltb 12 m) refl
     go : (s : Bool) → ltb m 1 ≡ s → (t : Bool) → ltb 12 m ≡ t → s || t ≡ true
     go true p t q = refl
     go false p true q = refl
-    go false p false q = absurd (omega (arith, has-days (leap y) m (ltb-false m 1 p) (ltb-false 12 m q), e))
+    go false p false q = absurd (omega (arith, has-days (leapYear y) m (ltb-false m 1 p) (ltb-false 12 m q), e))
 
 a-month-number : (b : Bool) (m : ℕ) → (lengths b m ≡ 0 → ⊥) → ltZ (pos m) (pos 1) || ltZ (pos 12) (pos m) ≡ false
 unfolding lengths
@@ -60,7 +60,7 @@ a-month-number b = numbers (λ m. (lengths b m ≡ 0 → ⊥) → ltZ (pos m) (p
 
 pub a-month : (y m : ℤ) → (daysInMonth y m ≡ 0 → ⊥) → ltZ m (pos 1) || ltZ (pos 12) m ≡ false
 unfolding daysInMonth
-a-month y (pos m) e = a-month-number (leap y) m e
+a-month y (pos m) e = a-month-number (leapYear y) m e
 a-month y (negsuc m) e = absurd (e refl)
 
 -- ---- each refusal by its test

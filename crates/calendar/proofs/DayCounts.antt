@@ -5,7 +5,7 @@ use mathlib.Core.Bool.{Bool}
 use Prim.Native.Nat.{ℕ, _+_, _-_, _*_, _/_, _≤_}
 use native.Mathlib.Omega.{arith}
 use lib.IntN.{ℤ, pos, subℕ, _+ℤ_, _-ℤ_, +ℤ-negℤ-cancel}
-use Rattle.calendar.specs.Calendar.{date, dateAt, lengths, leap, leapSize}
+use Rattle.calendar.specs.Calendar.{date, dateAt, lengths, leapYear, leapSize}
 use Rattle.calendar.specs.DayCount.{marchCount, civilCount}
 use Rattle.calendar.proofs.Months.{months}
 use Rattle.calendar.proofs.March.{daysBeforeYear, before-year-is, daysBefore, before-is, at, Valid, marchLength}
@@ -74,10 +74,10 @@ module _ (y d : ℕ) (h : 1 ≤ y) (l : 1 ≤ d) where
       (λ g. spring y 10 d (ok (y + 400) 10 d (omega arith) (omega arith) l g) ∙ late 12)
 
 -- the count less that of MJD 0 is k - 2578142, where day k after -5200-03-01 has the date
-pub count-of-date : (y : ℕ) (year : ℤ) (m d : ℕ) → pos y ≡ year +ℤ pos 4800 → 1 ≤ y → 1 ≤ m → m ≤ 12 → 1 ≤ d → d ≤ lengths (leap year) m → (subℕ (civilCount y m d) 2432076 ≡ subℕ (civilCount y m d + 146066) 2578142) × (dateAt (civilCount y m d + 146066) ≡ date year m d)
+pub count-of-date : (y : ℕ) (year : ℤ) (m d : ℕ) → pos y ≡ year +ℤ pos 4800 → 1 ≤ y → 1 ≤ m → m ≤ 12 → 1 ≤ d → d ≤ lengths (leapYear year) m → (subℕ (civilCount y m d) 2432076 ≡ subℕ (civilCount y m d + 146066) 2578142) × (dateAt (civilCount y m d + 146066) ≡ date year m d)
 count-of-date y year m d e h a b l g = (
   sym (sub-shift (civilCount y m d) 2432076 146066),
-  (count-right y d h l m a b (subst (λ (t : Bool). d ≤ lengths t m) (ap leap (sym is ∙ sym (sub-shift y 4800 400)) ∙ leap-same (y + 400)) g))
+  (count-right y d h l m a b (subst (λ (t : Bool). d ≤ lengths t m) (ap leapYear (sym is ∙ sym (sub-shift y 4800 400)) ∙ leap-same (y + 400)) g))
       ∙ ap (λ (z : ℤ). date z m d) is,
 )
   where

@@ -9,7 +9,7 @@ use lib.Dec.{eqb, ltb, leb}
 use lib.IntN.{ℤ, pos, negsuc, natAbs, sucℤ, _-ℤ_, sucℤ-+ℤ}
 use borrow.Author.Tests.{eqb-true, eqb-false, eq-eqb, ne-eqb, ltb-true, ltb-false}
 use Rattle.calendar.specs.declared.CalendarDate.{CalendarDate}
-use Rattle.calendar.specs.Calendar.{leapSize, leap, lengths, date, next, dateAt}
+use Rattle.calendar.specs.Calendar.{leapSize, leapYear, lengths, date, next, dateAt}
 use Rattle.calendar.proofs.Months.{months}
 use Rattle.calendar.proofs.March.{MarchDate, at, IsValid, marchLength, nextMarch, marchAt, march-at, count, is-march-at}
 
@@ -45,7 +45,7 @@ above a b e =
     (zeros (a % 4) (b % 4) (λ z. omega arith) (λ z. omega arith))
     (zeros (a % 100) (b % 100) (λ z. omega arith) (λ z. omega arith))
 
-pub leap-same : (y : ℕ) → leap (yearOf y) ≡ leapSize y
+pub leap-same : (y : ℕ) → leapYear (yearOf y) ≡ leapSize y
 leap-same y = go (ltb y 5200) refl
   where
     go : (t : Bool) → ltb y 5200 ≡ t → leapSize (natAbs (cond t (negsuc (5200 - suc y)) (pos (y - 5200)))) ≡ leapSize y

@@ -12,7 +12,7 @@ use mir.Val.{SFits}
 use borrow.Author.Tests.{eq-eqb, ne-eqb, lt-ltb, le-ltb, le-leb, lt-leb, ltb-true, ltb-false}
 use Rattle.refusals.specs.Outcome.{Outcome, answer, refusal, onward}
 use Rattle.calendar.specs.declared.CalendarDate.{CalendarDate}
-use Rattle.calendar.specs.Calendar.{date, dateAt, next, lengths, leap, monthLength}
+use Rattle.calendar.specs.Calendar.{date, dateAt, next, lengths, leapYear, monthLength}
 use Rattle.calendar.specs.Refusals.{validDate, nextOf, lastDate}
 use Rattle.calendar.specs.DayCount.{mjdOf}
 use Rattle.calendar.proofs.Accepted.{Accepted, accepted, short, InCalendar, in-calendar-valid}
@@ -65,7 +65,7 @@ module _ (y m d : ℤ) (ok : validDate y m d ≡ answer tt) where
   pub next-day : natAbs d < monthLength y (natAbs m) → nextOf y m d ≡ answer (date y (natAbs m) (natAbs d + 1))
   unfolding next
   next-day h =
-      by false (third-false (leZ (pos 2147483647) y) (eqb (natAbs m) 12) (eqb (natAbs d) 31) (ne-eqb (natAbs d) 31 (λ e. omega (arith, short (leap y) (natAbs m) (a .m-low) (a .m-high)))))
+      by false (third-false (leZ (pos 2147483647) y) (eqb (natAbs m) 12) (eqb (natAbs d) 31) (ne-eqb (natAbs d) 31 (λ e. omega (arith, short (leapYear y) (natAbs m) (a .m-low) (a .m-high)))))
       ∙ rw (lt-ltb (natAbs d) (monthLength y (natAbs m)) h)
 
   pub next-month : monthLength y (natAbs m) ≤ natAbs d → natAbs m < 12 → nextOf y m d ≡ answer (date y (natAbs m + 1) 1)
@@ -86,11 +86,11 @@ module _ (y m d : ℤ) (ok : validDate y m d ≡ answer tt) where
       twelve : natAbs m ≡ 12
       twelve = omega (arith, a .m-high)
 
-      same : monthLength y (natAbs m) ≡ lengths (leap y) 12
-      same = ap (lengths (leap y)) twelve
+      same : monthLength y (natAbs m) ≡ lengths (leapYear y) 12
+      same = ap (lengths (leapYear y)) twelve
 
       last : natAbs d ≡ 31
-      last = omega (arith, a .d-high, same, december (leap y))
+      last = omega (arith, a .d-high, same, december (leapYear y))
 
 -- ---- THE LAWS of the next date
 answered : (o : Outcome Unit) (b : Bool) (t u : CalendarDate) → onward o (λ _. cond b (refusal 5) (answer u)) ≡ answer t → (o ≡ answer tt) × (t ≡ u)

@@ -12,7 +12,7 @@ use lib.Signed.{ltZ, leZ}
 use borrow.Author.Tests.{lt-ltb, le-ltb, lt-leb, ltb-true, ltb-false}
 use Rattle.refusals.specs.Outcome.{Outcome, answer, refusal}
 use Rattle.calendar.specs.declared.CalendarDate.{CalendarDate}
-use Rattle.calendar.specs.Calendar.{date, dateAt, dateOf, next, leap, leapSize, lengths, monthLength, Counted}
+use Rattle.calendar.specs.Calendar.{date, dateAt, dateOf, next, leapYear, leapSize, lengths, monthLength, Counted}
 use Rattle.calendar.specs.Refusals.{validDate}
 use Rattle.calendar.specs.Gregorian.{gregorianDate}
 use Rattle.calendar.proofs.Signs.{raised, own-size, sub-at}
@@ -44,8 +44,8 @@ module _ (P : ℤ → Type 0) (up : (z : ℤ) → P z → P (sucℤ z)) where
       more : (x y : ℕ) → suc (x + y) ≡ x + suc y
       more x y = omega arith
 
-  pub later : (j k : ℕ) → j ≤ k → P (dateAt j .year) → P (dateAt k .year)
-  later j k l h = subst (λ (i : ℕ). P (dateAt i .year)) (sum j k l) (later-keeps (k - j) j h)
+  pub years-later : (j k : ℕ) → j ≤ k → P (dateAt j .year) → P (dateAt k .year)
+  years-later j k l h = subst (λ (i : ℕ). P (dateAt i .year)) (sum j k l) (later-keeps (k - j) j h)
     where
       sum : (x y : ℕ) → x ≤ y → x + (y - x) ≡ y
       sum x y m = omega arith
@@ -85,7 +85,7 @@ highest-date = seen 1000178141 2738394 9 27 (omega arith, omega arith, omega ari
 
 -- ---- the years by the count of days
 year-from : (k : ℕ) → 146403 ≤ k → ltZ (dateAt k .year) (negsuc 4798) ≡ false
-year-from k h = later (λ z. ltZ z (negsuc 4798) ≡ false) (not-before 4798) 146403 k h (ap (λ (t : CalendarDate). ltZ (t .year) (negsuc 4798)) first-valid)
+year-from k h = years-later (λ z. ltZ z (negsuc 4798) ≡ false) (not-before 4798) 146403 k h (ap (λ (t : CalendarDate). ltZ (t .year) (negsuc 4798)) first-valid)
 
 year-to : (k : ℕ) → k ≤ 146402 → ltZ (dateAt k .year) (negsuc 4798) ≡ true
 year-to k h = go (ltZ (dateAt k .year) (negsuc 4798)) refl
@@ -94,10 +94,10 @@ year-to k h = go (ltZ (dateAt k .year) (negsuc 4798)) refl
     go true e = e
     go false e =
         absurd
-        (true≢false (sym (ap (λ (t : CalendarDate). ltZ (t .year) (negsuc 4798)) last-refused) ∙ later (λ z. ltZ z (negsuc 4798) ≡ false) (not-before 4798) k 146402 h e))
+        (true≢false (sym (ap (λ (t : CalendarDate). ltZ (t .year) (negsuc 4798)) last-refused) ∙ years-later (λ z. ltZ z (negsuc 4798) ≡ false) (not-before 4798) k 146402 h e))
 
 low-year : (k : ℕ) → 109572 ≤ k → ltZ (dateAt k .year) (negsuc 4899) ≡ false
-low-year k h = later (λ z. ltZ z (negsuc 4899) ≡ false) (not-before 4899) 109572 k h (ap (λ (t : CalendarDate). ltZ (t .year) (negsuc 4899)) lowest-date)
+low-year k h = years-later (λ z. ltZ z (negsuc 4899) ≡ false) (not-before 4899) 109572 k h (ap (λ (t : CalendarDate). ltZ (t .year) (negsuc 4899)) lowest-date)
 
 high-year : (k : ℕ) → k ≤ 1000178141 → ltZ (pos 2733194) (dateAt k .year) ≡ false
 high-year k h = go (ltZ (pos 2733194) (dateAt k .year)) refl
@@ -106,7 +106,7 @@ high-year k h = go (ltZ (pos 2733194) (dateAt k .year)) refl
     go false e = e
     go true e =
         absurd
-        (true≢false (sym (later (λ z. ltZ (pos 2733194) z ≡ true) (past 2733194) k 1000178141 h e) ∙ ap (λ (t : CalendarDate). ltZ (pos 2733194) (t .year)) highest-date))
+        (true≢false (sym (years-later (λ z. ltZ (pos 2733194) z ≡ true) (past 2733194) k 1000178141 h e) ∙ ap (λ (t : CalendarDate). ltZ (pos 2733194) (t .year)) highest-date))
 
 -- ---- the count of a day number, from a bound on either side
 count-from : (n : ℤ) (p : ℕ) → suc p ≤ 178141 → ltZ n (negsuc p) ≡ false → 178141 - suc p ≤ natAbs (n +ℤ pos 178141)
@@ -147,7 +147,7 @@ each-date P low inside n = go (ltZ n (negsuc 68568)) refl (ltZ (pos 1000000000) 
     go false p false q = inside (natAbs (n +ℤ pos 178141)) (count-from n 68568 (omega arith) p) (count-to n 68568 1000000000 (omega arith) p q)
 
 -- year -4900 to 2733194, month 1 to 12, day 1 to 31
-pub record InRange (t : CalendarDate) : Type 0 where
+pub record DateInRange (t : CalendarDate) : Type 0 where
   pub year-low : ltZ (t .year) (negsuc 4899) ≡ false
   pub year-high : ltZ (pos 2733194) (t .year) ≡ false
   pub month-low : 1 ≤ t .month
@@ -156,8 +156,8 @@ pub record InRange (t : CalendarDate) : Type 0 where
   pub day-high : t .day ≤ 31
 
 -- THE RANGE of the date of any day number
-pub gregorian-in-range : (n : ℤ) → InRange (gregorianDate n)
-gregorian-in-range = each-date (λ t. InRange t)
+pub gregorian-in-range : (n : ℤ) → DateInRange (gregorianDate n)
+gregorian-in-range = each-date (λ t. DateInRange t)
     (record { year-low = refl; year-high = refl; month-low = omega arith; month-high = omega arith; day-low = omega arith; day-high = omega arith })
     (λ k l h.
     let g = date-at-in-calendar k in
@@ -167,7 +167,7 @@ gregorian-in-range = each-date (λ t. InRange t)
       month-low = g .m-low;
       month-high = g .m-high;
       day-low = g .d-low;
-      day-high = omega (arith, g .d-high, short (leap (dateAt k .year)) (dateAt k .month) (g .m-low) (g .m-high));
+      day-high = omega (arith, g .d-high, short (leapYear (dateAt k .year)) (dateAt k .month) (g .m-low) (g .m-high));
     })
 
 abbrev pub validOf : CalendarDate → Outcome Unit

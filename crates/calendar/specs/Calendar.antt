@@ -14,15 +14,15 @@ use Rattle.calendar.specs.declared.CalendarDate.{CalendarDate}
 unfoldable pub leapSize : ℕ → Bool
 leapSize n = eqb (n % 400) 0 || (eqb (n % 4) 0 && not (eqb (n % 100) 0))
 
-abbrev pub leap : ℤ → Bool
-leap y = leapSize (natAbs y)
+abbrev pub leapYear : ℤ → Bool
+leapYear y = leapSize (natAbs y)
 
 -- the days of months 1 to 12, in a leap year or another; no other number is a month, and has 0 days
 unfoldable pub lengths : Bool → ℕ → ℕ
 lengths isLeap m = getD (0 ∷ 31 ∷ cond isLeap 29 28 ∷ 31 ∷ 30 ∷ 31 ∷ 30 ∷ 31 ∷ 31 ∷ 30 ∷ 31 ∷ 30 ∷ 31 ∷ []) m 0
 
 abbrev pub monthLength : ℤ → ℕ → ℕ
-monthLength y m = lengths (leap y) m
+monthLength y m = lengths (leapYear y) m
 
 -- the same of a month that may be below 0
 unfoldable pub daysInMonth : ℤ → ℤ → ℕ

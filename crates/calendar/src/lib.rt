@@ -4,7 +4,7 @@ ghost use mathlib.Core.Bool.{false};
 ghost use Prim.Native.Nat.{_<_, _≤_};
 ghost use lib.IntN.{pos, negsuc, _+ℤ_, _-ℤ_};
 ghost use lib.Signed.{ltZ};
-ghost use Rattle.calendar.specs.Calendar.{leap, monthLength, daysInMonth};
+ghost use Rattle.calendar.specs.Calendar.{leapYear, monthLength, daysInMonth};
 ghost use Rattle.calendar.specs.Refusals.{validDate, nextOf};
 ghost use Rattle.calendar.specs.DayCount.{marchCount, civilCount, mjdOf};
 ghost use Rattle.calendar.specs.Gregorian.{gregorianDate, shiftedDate};
@@ -37,7 +37,7 @@ pub enum MjdAnswer {
 
 // Whether the year has a 29 February; year 0 and those below it follow the same rule.
 pub fn is_leap_year(year: i32) -> bool
-    ensures { λ r. ⌜ r ≡ leap year ⌝ }
+    ensures { λ r. ⌜ r ≡ leapYear year ⌝ }
 {
     (year % 4 == 0) && (year % 100 != 0 || year % 400 == 0)
 }

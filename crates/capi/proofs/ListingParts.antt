@@ -12,7 +12,7 @@ use mir.Facts.{toZ-pos}
 use borrow.Author.Tests.{le-leb, lt-leb}
 use Rattle.refusals.specs.Outcome.{answer, refusal, onward}
 use Rattle.utc_text.specs.Answer.{textWritten, bufferAfter}
-use Rattle.utc.specs.TextCall.{written, held}
+use Rattle.utc.specs.TextCall.{written, bufferHolds}
 use Rattle.stamps.specs.declared.BlockAnswer.{BlockAnswer}
 use Rattle.stamps.specs.declared.BlockAnswer.the-variants.{Stamps, Refused}
 use Rattle.stamps.specs.declared.Part.{Part}
@@ -26,7 +26,7 @@ use Rattle.c_answers.proofs.Deliveries.{code-back}
 
 -- ---- a part delivered
 pub no-room : (s l : List ℕ) (line : ℕ) {r : ℤ} → mag r < 2 ^ 63 → length l < 33 → r ≡ code (refusal 11) → Delivered (listingPart s line (length l)) l (toZ w64 (ofZ w64 r)) l
-unfolding listingPart written onward held
+unfolding listingPart written onward bufferHolds
 no-room s l line {r} ok h e =
     let w : written (listingPart s line (length l)) (length l) ≡ refusal 11 = simp (lt-leb _ _ h) in
     record { returned = code-back ok ∙ e ∙ sym (ap code w); holds = simp (lt-leb _ _ h) }
@@ -40,7 +40,7 @@ module _ {s l out : List ℕ} {line : ℕ} {r : Part} (p : PartPlaced s line l r
   count-fits = record { sfits = omega (arith, is, part-most s line (length l)) }
 
   pub part-put : 33 ≤ length l → Delivered (listingPart s line (length l)) l (toZ w64 (r .written)) out
-  unfolding listingPart written onward held textWritten bufferAfter code
+  unfolding listingPart written onward bufferHolds textWritten bufferAfter code
   part-put room =
       let fits = part-fits s line (length l) in
       let w : written (listingPart s line (length l)) (length l) ≡ answer (length (partText s line (length l))) = simp (le-leb _ _ room, le-leb _ _ fits) in

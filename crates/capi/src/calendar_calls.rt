@@ -1,7 +1,7 @@
 // The calendar by whole numbers.
 ghost use mathlib.Core.Path.{_≡_};
 ghost use lib.IntN.{pos};
-ghost use Rattle.calendar.specs.Calendar.{leap, daysInMonth};
+ghost use Rattle.calendar.specs.Calendar.{leapYear, daysInMonth};
 ghost use Rattle.calendar.specs.Refusals.{validDate, nextOf};
 ghost use Rattle.calendar.specs.Answers.{nextOutcome};
 ghost use Rattle.c_answers.specs.Delivery.{code, truth, done, inBytes, Delivered};
@@ -13,7 +13,7 @@ use calendar::NextDay;
 
 #[no_mangle]
 pub extern "C" fn ct_is_leap_year(year: i32) -> i64
-    ensures { λ r. ⌜ r ≡ truth (leap year) ⌝ }
+    ensures { λ r. ⌜ r ≡ truth (leapYear year) ⌝ }
 {
     if calendar::is_leap_year(year) { 1 } else { 0 }
 }

@@ -13,7 +13,7 @@ use lib.IntN.{ℤ, pos}
 use borrow.Author.Tests.{le-leb, ltb-true, ltb-false}
 use Rattle.refusals.specs.Outcome.{onward}
 use Rattle.utc_text.specs.Answer.{textWritten, bufferAfter}
-use Rattle.utc.specs.TextCall.{written, held}
+use Rattle.utc.specs.TextCall.{written, bufferHolds}
 use Rattle.stamps.specs.Block.{blockOf}
 use Rattle.stamps.specs.Listing.{listing}
 use Rattle.stamps.specs.Parts.{linesIn, linesFrom, partLines, partText}
@@ -37,7 +37,7 @@ module _ (s : List ℕ) (line : ℕ) {before after : List ℕ} {r : ℤ} (enough
 
   -- and the part at the buffer's start
   part-read : take (length (partText s line (length before))) after ≡ partText s line (length before)
-  unfolding listingPart held onward bufferAfter
+  unfolding listingPart bufferHolds onward bufferAfter
   part-read =
       let e : after ≡ partText s line (length before) ++ drop (length (partText s line (length before))) before =
       d .holds ∙ simp (le-leb _ _ enough, le-leb _ _ (part-fits s line (length before))) in

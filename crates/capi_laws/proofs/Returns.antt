@@ -15,7 +15,7 @@ use Rattle.utc_text.specs.declared.TextAnswer.the-variants.{Written, Refused}
 use Rattle.utc_text.specs.Answer.{textOutcome, textWritten, bufferAfter}
 use Rattle.utc.specs.IsoText.{isoTextBy}
 use Rattle.utc.specs.OneText.{Division, EveryCall}
-use Rattle.utc.specs.TextCall.{written, held, TextCall}
+use Rattle.utc.specs.TextCall.{written, bufferHolds, TextCall}
 use Rattle.c_answers.specs.Delivery.{code, Delivered}
 
 -- ---- a delivery is a text call with this answer, whose code is returned
@@ -44,13 +44,13 @@ negative-number {o} {l} {out} {m} p = go (written o (length l)) (p .returned)
     go (refusal (suc k)) e = cc
 
 pub negative-leaves : {o : Outcome (List ℕ)} {l out : List ℕ} {m : ℕ} → Delivered o l (negsuc m) out → out ≡ l
-unfolding code written held onward textWritten bufferAfter
+unfolding code written bufferHolds onward textWritten bufferAfter
 negative-leaves {o} {l} {out} {m} p = p .holds ∙ go o (p .returned)
   where
     fits : (t : List ℕ) (b : Bool) → negsuc m ≡ code (cond b (answer (length t)) (refusal 11)) → cond b (t ++ drop (length t) l) l ≡ l
     fits t true e = let z : _≡_ {A = ℕ} 0 1 = cc in absurd (omega arith)
     fits t false e = refl
 
-    go : (o : Outcome (List ℕ)) → negsuc m ≡ code (written o (length l)) → held o l ≡ l
+    go : (o : Outcome (List ℕ)) → negsuc m ≡ code (written o (length l)) → bufferHolds o l ≡ l
     go (answer t) e = fits t (leb (length t) (length l)) e
     go (refusal k) e = refl

@@ -15,7 +15,7 @@ use Rattle.floats.specs.NearestWhole.{nearestWhole}
 use Rattle.day_number.specs.declared.Summed.{Summed}
 use Rattle.day_number.specs.declared.Normalized.{Normalized}
 use Rattle.day_number.specs.declared.DayNumber.{DayNumber}
-use Rattle.day_number.specs.DayNumber.{accepted, sumFractions, normalizeFraction, split, rest, total, dayNumber, dayFraction, dayOf}
+use Rattle.day_number.specs.DayNumber.{accepted, sumFractions, normalizeFraction, joinedFractions, rest, total, dayNumber, fractionPassed, dayOf}
 use Rattle.day_number.specs.Sums.{Sums}
 use Rattle.day_number.proofs.Pair.{Accepted}
 use Rattle.day_number.proofs.Accepted.{accepted-pair}
@@ -25,11 +25,11 @@ use Rattle.day_number.proofs.TotalDay.{R, read-a, read-b, s4}
 pub total-is : (a b : Float) (up more down : ℕ) → Int (total a b up more down) (plusZ (toSigned 63 a) + plusZ (toSigned 63 b) + up + (more + 0)) (minusZ (toSigned 63 a) + minusZ (toSigned 63 b) + 0 + (0 + down))
 total-is a b up more down = int-add (int-add (int-add (int-own (toSigned 63 a)) (int-own (toSigned 63 b))) (int-own (pos up))) (int-sub (int-own (pos more)) (int-own (pos down)))
 
-pub number-is : (x y : Float) (up more down : ℕ) → sumFractions (rest x) (rest y) .carry ≡ up → split (rest x) (rest y) .carry ≡ more → split (rest x) (rest y) .borrow ≡ down → dayNumber x y ≡ total (nearestInt x) (nearestInt y) up more down
+pub number-is : (x y : Float) (up more down : ℕ) → sumFractions (rest x) (rest y) .carry ≡ up → joinedFractions (rest x) (rest y) .carry ≡ more → joinedFractions (rest x) (rest y) .borrow ≡ down → dayNumber x y ≡ total (nearestInt x) (nearestInt y) up more down
 unfolding dayNumber
 number-is x y up more down e f g =
-    ap (λ (z : ℕ). total (nearestInt x) (nearestInt y) z (split (rest x) (rest y) .carry) (split (rest x) (rest y) .borrow)) e
-    ∙ ap (λ (z : ℕ). total (nearestInt x) (nearestInt y) up z (split (rest x) (rest y) .borrow)) f
+    ap (λ (z : ℕ). total (nearestInt x) (nearestInt y) z (joinedFractions (rest x) (rest y) .carry) (joinedFractions (rest x) (rest y) .borrow)) e
+    ∙ ap (λ (z : ℕ). total (nearestInt x) (nearestInt y) up z (joinedFractions (rest x) (rest y) .borrow)) f
     ∙ ap (λ (z : ℕ). total (nearestInt x) (nearestInt y) up more z) g
 
 -- ---- the code
@@ -39,8 +39,8 @@ module _ (x y : Float) (fx : T (fits binary64 x)) (fy : T (fits binary64 y)) (ac
   unfolding rest nearestWhole
   ek' = ek ∙ ap (λ (z : NearestWhole). sumFractions (sub binary64 x (z .value)) (sub binary64 y (b .value))) ea ∙ ap (λ (z : NearestWhole). sumFractions (rest x) (sub binary64 y (z .value))) eb
 
-  ef' : f ≡ split (rest x) (rest y)
-  unfolding split
+  ef' : f ≡ joinedFractions (rest x) (rest y)
+  unfolding joinedFractions
   ef' = ef ∙ ap (λ (z : Summed). normalizeFraction (z .kahan)) ek'
 
   o : Accepted x y
@@ -81,8 +81,8 @@ module _ (x y : Float) (fx : T (fits binary64 x)) (fy : T (fits binary64 y)) (ac
       ∙ toZ-ofZ w64 _ (s4 (toSigned 63 (nearestInt x)) (toSigned 63 (nearestInt y)) (o .up) (o .more) (o .down) h)
       ∙ sym (number-is x y (o .up) (o .more) (o .down) (o .carry) (o .again) (o .borrow))
 
-  part : f .fraction ≡ dayFraction x y
-  unfolding dayFraction
+  part : f .fraction ≡ fractionPassed x y
+  unfolding fractionPassed
   part = ap (λ (z : Normalized). z .fraction) ef'
 
   pub gives : (d : ℤ) → d ≡ R (a .number) +ℤ R (b .number) +ℤ pos (k .carry) +ℤ (pos (f .carry) -ℤ pos (f .borrow)) → _≡_ {A = DayNumber} (record { day = R d; fraction = f .fraction }) (dayOf x y)

@@ -16,9 +16,9 @@ use Rattle.rounding.proofs.Exact.{exact-has}
 use Rattle.rounding.proofs.Casts.{plusZ, minusZ, add-pair}
 use Rattle.refusals.specs.Outcome.{answer}
 use Rattle.day_number.specs.declared.DayNumber.{DayNumber}
-use Rattle.day_number.specs.DayNumber.{inJulianRange, accepted, dayNumber, dayFraction, dayOf}
+use Rattle.day_number.specs.DayNumber.{inJulianRange, accepted, dayNumber, fractionPassed, dayOf}
 use Rattle.day_number.specs.Answer.{dayNumberAndFraction}
-use Rattle.day_number.specs.ExactDay.{OnGrid, exactSum, InJulianRange, wholeDays, unitsLeft, exactDay, exactFraction, exactDayNumber, fractionOf, DayAt}
+use Rattle.day_number.specs.ExactDay.{OnGrid, gridSum, GridSumInRange, wholeDays, unitsLeft, exactDay, exactFraction, exactDayNumber, fractionOf, DayAt}
 use Rattle.day_number.specs.MinusZero.{minusZero}
 use Rattle.day_number.proofs.Answer.{answered, refused}
 use Rattle.day_number.proofs.GridPairs.{Exactly, grid-pair, grid-accepted}
@@ -74,19 +74,19 @@ unfolding fractionOf
 fraction-is f u h k v = float-unique f (fractionOf u) false u (2 ^ 52) (pow-pos 52) (k .fit) (round-fits binary64 false u (2 ^ 52)) (plus-has f (v .sign) (v .size) u (k .sign) (v .has) (v .is)) (fraction-has u h)
 
 -- ---- an accepted pair on the grid
-day-is : (x y : Float) → T (fits binary64 x) → T (fits binary64 y) → (a : OnGrid x) (b : OnGrid y) → accepted x y ≡ true → dayOf x y ≡ exactDayNumber (exactSum a b)
+day-is : (x y : Float) → T (fits binary64 x) → T (fits binary64 y) → (a : OnGrid x) (b : OnGrid y) → accepted x y ≡ true → dayOf x y ≡ exactDayNumber (gridSum a b)
 unfolding dayOf
 day-is x y fx fy a b e = go (grid-pair x y fx fy e (plusZ (a .units)) (minusZ (a .units)) (plusZ (b .units)) (minusZ (b .units)) (a .val) (b .val) (omega (arith, a .high)) (omega (arith, a .low)) (omega (arith, b .high)) (omega (arith, b .low)))
   where
-    go : Exactly (plusZ (a .units)) (minusZ (a .units)) (plusZ (b .units)) (minusZ (b .units)) (dayNumber x y) (dayFraction x y) → _≡_ {A = DayNumber} (record { day = dayNumber x y; fraction = dayFraction x y }) (exactDayNumber (exactSum a b))
+    go : Exactly (plusZ (a .units)) (minusZ (a .units)) (plusZ (b .units)) (minusZ (b .units)) (dayNumber x y) (fractionPassed x y) → _≡_ {A = DayNumber} (record { day = dayNumber x y; fraction = fractionPassed x y }) (exactDayNumber (gridSum a b))
     go k =
-        let d : DayAt (exactSum a b) (dayNumber x y) (k .units) = record { below = k .below; total = omega (arith, k .total, add-pair (a .units) (b .units)) } in
+        let d : DayAt (gridSum a b) (dayNumber x y) (k .units) = record { below = k .below; total = omega (arith, k .total, add-pair (a .units) (b .units)) } in
         let o = only d in
-        ap (λ (z : ℤ). record { day = z; fraction = dayFraction x y }) (o .0)
-        ∙ ap (λ (z : Float). record { day = exactDay (exactSum a b); fraction = z }) (fraction-is (dayFraction x y) (k .units) (k .below) (fraction-unsigned x y) (k .val) ∙ ap fractionOf (o .1))
+        ap (λ (z : ℤ). record { day = z; fraction = fractionPassed x y }) (o .0)
+        ∙ ap (λ (z : Float). record { day = exactDay (gridSum a b); fraction = z }) (fraction-is (fractionPassed x y) (k .units) (k .below) (fraction-unsigned x y) (k .val) ∙ ap fractionOf (o .1))
 
 -- two parts on the grid whose exact sum is from -68569.5 to 10 ^ 9 are answered with the exact day and the exact fraction
-pub exact : (x y : Float) → T (fits binary64 x) → T (fits binary64 y) → (a : OnGrid x) (b : OnGrid y) → InJulianRange (exactSum a b) → dayNumberAndFraction x y ≡ answer (exactDayNumber (exactSum a b))
+pub exact : (x y : Float) → T (fits binary64 x) → T (fits binary64 y) → (a : OnGrid x) (b : OnGrid y) → GridSumInRange (gridSum a b) → dayNumberAndFraction x y ≡ answer (exactDayNumber (gridSum a b))
 exact x y fx fy a b r =
     let s = add-pair (a .units) (b .units) in
     let e = grid-accepted x y (plusZ (a .units)) (minusZ (a .units)) (plusZ (b .units)) (minusZ (b .units)) (a .val) (b .val) (omega (arith, r .low, s)) (omega (arith, r .high, s)) in
@@ -122,12 +122,12 @@ same-test {z} {z'} {P} {N} r r' = ap inJulianRange (r .eq) ∙ go (r .sign) (r' 
         plain : (a b : ℕ) → a + P ≡ N → b + N ≡ P → (a ≡ 0) × (b ≡ 0)
         plain a b i j = omega arith
 
-sum-test : {x y : Float} (a : OnGrid x) (b : OnGrid y) → Rounds binary64 (add binary64 x y) (plusZ (exactSum a b)) (minusZ (exactSum a b)) (2 ^ 52)
+sum-test : {x y : Float} (a : OnGrid x) (b : OnGrid y) → Rounds binary64 (add binary64 x y) (plusZ (gridSum a b)) (minusZ (gridSum a b)) (2 ^ 52)
 sum-test a b = rounds-move (add-rounds binary64 (pow-pos 52) (a .val) (b .val)) (omega (arith, add-pair (a .units) (b .units)))
 
 -- two divisions of one exact sum on the grid have one outcome, to the bit
 pub alike : (x y x' y' : Float) → T (fits binary64 x) → T (fits binary64 y) → T (fits binary64 x') → T (fits binary64 y') → (a : OnGrid x) (b : OnGrid y) (a' : OnGrid x') (b' : OnGrid y')
-    → exactSum a b ≡ exactSum a' b' → dayNumberAndFraction x y ≡ dayNumberAndFraction x' y'
+    → gridSum a b ≡ gridSum a' b' → dayNumberAndFraction x y ≡ dayNumberAndFraction x' y'
 unfolding accepted
 alike x y x' y' fx fy fx' fy' a b a' b' e = go (accepted x y) refl (accepted x' y') refl
   where

@@ -9,7 +9,7 @@ use Rattle.day_number.specs.declared.Kahan.{Kahan}
 use Rattle.day_number.specs.declared.Summed.{Summed}
 use Rattle.day_number.specs.declared.Carried.{Carried}
 use Rattle.day_number.specs.declared.Normalized.{Normalized}
-use Rattle.day_number.specs.DayNumber.{c-minus-eps-4, c-minus-eps-2, compensation, kahanStart, kahanOf, addFraction, sumFractions, borrowSum, borrowFraction, borrowDay, carryDay, carryEnd, moved, normalizeFraction, split, rest, dayFraction, dayOf}
+use Rattle.day_number.specs.DayNumber.{c-minus-eps-4, c-minus-eps-2, compensation, kahanStart, kahanOf, addFraction, sumFractions, borrowSum, borrowFraction, borrowDay, carryDay, carryEnd, moved, normalizeFraction, joinedFractions, rest, fractionPassed, dayOf}
 use Rattle.day_number.specs.declared.DayNumber.{DayNumber}
 use Rattle.day_number.specs.Answer.{dayNumberAndFraction}
 use Rattle.day_number.specs.MinusZero.{minusZero}
@@ -96,8 +96,8 @@ normal-step κ k = go (lt z nought)
     go true = carry-step (kahanOf (borrowSum s) w) w borrowed (record { sum = more; correction = sub-fits binary64 w (borrowSum s) })
     go false = carry-step (kahanOf s z) z (add-unsigned (κ .correction) (k .correction) (k .sum)) (record { sum = k .sum; correction = sub-fits binary64 z s })
 
-pub fraction-unsigned : (x y : Float) → Unsigned (dayFraction x y)
-unfolding dayFraction split
+pub fraction-unsigned : (x y : Float) → Unsigned (fractionPassed x y)
+unfolding fractionPassed joinedFractions
 fraction-unsigned x y = normal-step (sumFractions (rest x) (rest y) .kahan) (both (rest x) (rest y) (rest-fits x) (rest-fits y))
 
 -- the fraction of every answered pair of floats

@@ -13,7 +13,7 @@ use Rattle.rounding.proofs.Value.{val-scale, val-unique, has-scale}
 use Rattle.rounding.proofs.Signed.{plus-of, minus-of, signed-le}
 use Rattle.rounding.proofs.Casts.{plusZ, minusZ}
 use Rattle.floats.specs.Whole.{nearestInt}
-use Rattle.day_number.specs.DayNumber.{accepted, rest, sumFractions, split, total, dayNumber, dayFraction}
+use Rattle.day_number.specs.DayNumber.{accepted, rest, sumFractions, joinedFractions, total, dayNumber, fractionPassed}
 use Rattle.day_number.proofs.Units.{S, C, E}
 use Rattle.day_number.proofs.SignedUnits.{has-val}
 use Rattle.day_number.proofs.NearestInt.{Whole, whole, plain-plus, plain-minus}
@@ -35,11 +35,11 @@ few-days P A g h = omega (arith, g .high)
 
 module _ (x y : Float) (fx : T (fits binary64 x)) (fy : T (fits binary64 y)) (e : accepted x y ≡ true) (p n q m : ℕ) (vx : Val x p n S) (vy : Val y q m S)
     (h1 : p ≤ n + 2 ^ 62 * S) (h2 : n ≤ p + 2 ^ 62 * S) (h3 : q ≤ m + 2 ^ 62 * S) (h4 : m ≤ q + 2 ^ 62 * S) where
-  pub grid-pair : Exactly p n q m (dayNumber x y) (dayFraction x y)
-  unfolding dayFraction L
+  pub grid-pair : Exactly p n q m (dayNumber x y) (fractionPassed x y)
+  unfolding fractionPassed L
   grid-pair = go (vx .sign) (vy .sign) (vx .size) (vy .size) (vx .has) (vy .has) (vx .is) (vy .is)
     where
-      go : (s t : Bool) (P Q : ℕ) → HasValue x s P S → HasValue y t Q S → Signed s P p n → Signed t Q q m → Exactly p n q m (dayNumber x y) (dayFraction x y)
+      go : (s t : Bool) (P Q : ℕ) → HasValue x s P S → HasValue y t Q S → Signed s P p n → Signed t Q q m → Exactly p n q m (dayNumber x y) (fractionPassed x y)
       go s t P Q v w i j =
           let a = whole x s (P * C) fx (has-scale x s P S C v) in
           let b = whole y t (Q * C) fy (has-scale y t Q S C w) in
@@ -58,7 +58,7 @@ module _ (x y : Float) (fx : T (fits binary64 x)) (fy : T (fits binary64 y)) (e 
           fin P N Q M i l j o i' l' j' o' up more down units g h e1 e2 e3 e4 e5 e6 e7 u v = omega arith
 
           at : (A B : ℕ) → Whole (nearestInt x) s (P * C) A → Whole (nearestInt y) t (Q * C) B → A < 2 ^ 63 → B < 2 ^ 63
-              → Split S 0 (sumFractions (rest x) (rest y)) (split (rest x) (rest y)) (2 ^ 51 + (plus-of s P + minus-of s A * S) + (plus-of t Q + minus-of t B * S)) (minus-of s P + plus-of s A * S + (minus-of t Q + plus-of t B * S)) → Exactly p n q m (dayNumber x y) (split (rest x) (rest y) .fraction)
+              → Split S 0 (sumFractions (rest x) (rest y)) (joinedFractions (rest x) (rest y)) (2 ^ 51 + (plus-of s P + minus-of s A * S) + (plus-of t Q + minus-of t B * S)) (minus-of s P + plus-of s A * S + (minus-of t Q + plus-of t B * S)) → Exactly p n q m (dayNumber x y) (joinedFractions (rest x) (rest y) .fraction)
           at A B wx wy sa sb k =
               record {
                 units = k .units;

@@ -88,7 +88,7 @@ eighths-down : (c : ℕ) → c < 2 ^ 53 → Rep (dist 0 (c * E))
 eighths-down c h = rep-flip (c * E) 0 (eighths-up c h)
 
 -- the exact sum of the parts
-pub record InRange (P N : ℕ) : Type 0 where
+pub record SumInRange (P N : ℕ) : Type 0 where
   pub high : P < N + 8000000001 * E
   pub low : N < P + 548557 * E
 
@@ -96,7 +96,7 @@ module _ (x y : Float) (p n q m : ℕ) (vx : Val x p n L) (vy : Val y q m L) (lo
   s : Sum (add binary64 x y) (p + q) (n + m)
   s = sum-of (in-range (add binary64 x y) lo hi) (add-rounds binary64 L-pos vx vy)
 
-  pub exact-sum : InRange (p + q) (n + m)
+  pub exact-sum : SumInRange (p + q) (n + m)
   exact-sum =
       let u : s .p + 0 ≤ 8000000000 * E + s .n = le-true L-pos (s .val) max-L (is-true (le (add binary64 x y) c-djmax) hi) in
       let l : 0 + s .n ≤ s .p + 548556 * E = le-true L-pos min-L (s .val) (is-true (le c-djmin (add binary64 x y)) lo) in

@@ -15,7 +15,7 @@ use Rattle.rounding.proofs.Sizes.{under-size}
 use Rattle.refusals.specs.Outcome.{answer}
 use Rattle.floats.specs.Whole.{nearestInt}
 use Rattle.day_number.specs.declared.DayNumber.{DayNumber}
-use Rattle.day_number.specs.DayNumber.{accepted, rest, split, total, dayNumber, dayFraction, dayOf}
+use Rattle.day_number.specs.DayNumber.{accepted, rest, joinedFractions, total, dayNumber, fractionPassed, dayOf}
 use Rattle.day_number.specs.Answer.{dayNumberAndFraction}
 use Rattle.day_number.specs.NearDay.{DayNear}
 use Rattle.day_number.proofs.Units.{H, H-L, W, L-W}
@@ -46,11 +46,11 @@ times-L g K h I D e = sym (add-mul g K D) ∙ ap (λ (z : ℕ). z * D) e ∙ add
 
 module _ (x y : Float) (fx : T (fits binary64 x)) (fy : T (fits binary64 y)) (e : accepted x y ≡ true) (p n q m : ℕ) (vx : Val x p n L) (vy : Val y q m L)
     (h1 : p ≤ n + 2 ^ 62 * L) (h2 : n ≤ p + 2 ^ 62 * L) (h3 : q ≤ m + 2 ^ 62 * L) (h4 : m ≤ q + 2 ^ 62 * L) where
-  near-pair : NearPair p n q m (dayNumber x y) (dayFraction x y)
-  unfolding dayFraction
+  near-pair : NearPair p n q m (dayNumber x y) (fractionPassed x y)
+  unfolding fractionPassed
   near-pair = go (accepted-pair x y fx fy e)
     where
-      go : Accepted x y → NearPair p n q m (dayNumber x y) (split (rest x) (rest y) .fraction)
+      go : Accepted x y → NearPair p n q m (dayNumber x y) (joinedFractions (rest x) (rest y) .fraction)
       go o =
           let k = o .near in
           let ex = val-unique (has-val x (k .s) (k .X) L (k .vx)) vx in
@@ -61,7 +61,7 @@ module _ (x y : Float) (fx : T (fits binary64 x)) (fy : T (fits binary64 y)) (e 
           let f = ints (plusZ d) (minusZ d) (plus-of (k .s) (k .A)) (minus-of (k .s) (k .A)) (plus-of (k .t) (k .B)) (minus-of (k .t) (k .B)) _ _ _ _ (o .up) (o .more) (o .down)
           (plain-plus (k .s) (k .A) _ sa (k .wx .plus)) (plain-minus (k .s) (k .A) _ sa (k .wx .minus)) (plain-plus (k .t) (k .B) _ sb (k .wy .plus)) (plain-minus (k .t) (k .B) _ sb (k .wy .minus))
           (total-is (nearestInt x) (nearestInt y) (o .up) (o .more) (o .down) .is) in
-          subst (λ (z : ℤ). NearPair p n q m z (split (rest x) (rest y) .fraction)) (sym (number-is x y (o .up) (o .more) (o .down) (o .carry) (o .again) (o .borrow)))
+          subst (λ (z : ℤ). NearPair p n q m z (joinedFractions (rest x) (rest y) .fraction)) (sym (number-is x y (o .up) (o .more) (o .down) (o .carry) (o .again) (o .borrow)))
           (record {
             units = o .units;
             val = o .val;

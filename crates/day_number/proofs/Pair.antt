@@ -10,11 +10,11 @@ use Rattle.rounding.specs.Value.{Val, L}
 use Rattle.rounding.proofs.Signed.{plus-of, minus-of}
 use Rattle.floats.specs.Whole.{nearestInt}
 use Rattle.day_number.specs.Sums.{Sums}
-use Rattle.day_number.specs.DayNumber.{rest, sumFractions, split}
+use Rattle.day_number.specs.DayNumber.{rest, sumFractions, joinedFractions}
 use Rattle.day_number.proofs.Units.{H, H-L, W, L-W, E, E-L, E-pos}
 use Rattle.day_number.proofs.SplitOffGrid.{split-off}
 use Rattle.day_number.proofs.NearestInt.{Whole}
-use Rattle.day_number.proofs.JulianRange.{InRange}
+use Rattle.day_number.proofs.JulianRange.{SumInRange}
 use Rattle.day_number.proofs.Parts.{rest-fits, left-off, off-size}
 use Rattle.day_number.proofs.IntegerSum.{bounded, sums}
 
@@ -40,13 +40,13 @@ pub record Accepted (x y : Float) : Type 0 where
   pub carry : sumFractions (rest x) (rest y) .carry ≡ up
   pub more : ℕ
   pub one : more ≤ 1
-  pub again : split (rest x) (rest y) .carry ≡ more
+  pub again : joinedFractions (rest x) (rest y) .carry ≡ more
   pub down : ℕ
   pub least : down ≤ 1
-  pub borrow : split (rest x) (rest y) .borrow ≡ down
+  pub borrow : joinedFractions (rest x) (rest y) .borrow ≡ down
   pub ints : Sums (toSigned 63 (nearestInt x)) (toSigned 63 (nearestInt y)) up more down
   pub units : ℕ
-  pub val : Val (split (rest x) (rest y) .fraction) units 0 L
+  pub val : Val (joinedFractions (rest x) (rest y) .fraction) units 0 L
   pub below : units < L
   pub near : Near x y up more down units
 
@@ -54,7 +54,7 @@ small-e : 8 * (8 * W) ≤ L
 small-e = omega (arith, L-W)
 
 module _ (x y : Float) (s t : Bool) (X Y A B : ℕ) (vx : HasValue x s X L) (vy : HasValue y t Y L) (wx : Whole (nearestInt x) s X A) (wy : Whole (nearestInt y) t Y B)
-    (r : InRange (plus-of s X + plus-of t Y) (minus-of s X + minus-of t Y)) where
+    (r : SumInRange (plus-of s X + plus-of t Y) (minus-of s X + minus-of t Y)) where
   pub off : X < 2 ^ 50 * L → Y < 2 ^ 50 * L → Accepted x y
   off hx hy =
       let fx = off-size s X A (wx .numbers) hx in

@@ -12,12 +12,12 @@ use Rattle.rounding.specs.Value.{L}
 use Rattle.rounding.proofs.Value.{val-scale, has-scale}
 use Rattle.rounding.proofs.Signed.{plus-of, minus-of}
 use Rattle.floats.specs.Whole.{nearestInt}
-use Rattle.day_number.specs.DayNumber.{rest, sumFractions, split}
+use Rattle.day_number.specs.DayNumber.{rest, sumFractions, joinedFractions}
 use Rattle.day_number.proofs.Units.{S, C, H, W, E}
 use Rattle.day_number.proofs.Split.{Split}
 use Rattle.day_number.proofs.SplitOnGrid.{split-grid}
 use Rattle.day_number.proofs.NearestInt.{Whole}
-use Rattle.day_number.proofs.JulianRange.{InRange}
+use Rattle.day_number.proofs.JulianRange.{SumInRange}
 use Rattle.day_number.proofs.Parts.{GridNumbers, left-grid}
 use Rattle.day_number.proofs.IntegerSum.{Bounded, bounded, sums}
 use Rattle.day_number.proofs.Pair.{Accepted}
@@ -82,7 +82,7 @@ scaled s t P Q A B up more down u e h k =
 
 module _ (x y : Float) (s t : Bool) (X Y P Q A B : ℕ) (vx : HasValue x s P S) (vy : HasValue y t Q S) (wx : Whole (nearestInt x) s X A) (wy : Whole (nearestInt y) t Y B)
     (ex : X ≡ P * C) (ey : Y ≡ Q * C) (a : GridNumbers P A) (b : GridNumbers Q B) (r : GridRange (plus-of s P + plus-of t Q) (minus-of s P + minus-of t Q)) where
-  pub grid-split : Split S 0 (sumFractions (rest x) (rest y)) (split (rest x) (rest y)) (2 ^ 51 + (plus-of s P + minus-of s A * S) + (plus-of t Q + minus-of t B * S)) (minus-of s P + plus-of s A * S + (minus-of t Q + plus-of t B * S))
+  pub grid-split : Split S 0 (sumFractions (rest x) (rest y)) (joinedFractions (rest x) (rest y)) (2 ^ 51 + (plus-of s P + minus-of s A * S) + (plus-of t Q + minus-of t B * S)) (minus-of s P + plus-of s A * S + (minus-of t Q + plus-of t B * S))
   grid-split =
       let z = sizes s t P Q A B a b r in
       split-grid (rest x) (rest y) (plus-of s P + minus-of s A * S) (minus-of s P + plus-of s A * S) (plus-of t Q + minus-of t B * S) (minus-of t Q + plus-of t B * S)
@@ -128,7 +128,7 @@ module _ (x y : Float) (s t : Bool) (X Y P Q A B : ℕ) (vx : HasValue x s P S) 
       }
 
 -- ---- the range in the grid's units
-wide : (P N : ℕ) → InRange (P * C) (N * C) → GridRange P N
+wide : (P N : ℕ) → SumInRange (P * C) (N * C) → GridRange P N
 unfolding E
 wide P N r = record {
   high = lt-of-mul-lt-mul-right C (lt-of-lt-of-le (r .high) (le-of-eq (sym (add-mul N (8000000001 * 2 ^ 49) C))));
@@ -150,5 +150,5 @@ side-minus false true P Q = sym (add-mul 0 Q C)
 side-minus true false P Q = sym (add-mul P 0 C)
 side-minus true true P Q = sym (add-mul P Q C)
 
-pub grid-range : (s t : Bool) (P Q : ℕ) → InRange (plus-of s (P * C) + plus-of t (Q * C)) (minus-of s (P * C) + minus-of t (Q * C)) → GridRange (plus-of s P + plus-of t Q) (minus-of s P + minus-of t Q)
-grid-range s t P Q r = wide (plus-of s P + plus-of t Q) (minus-of s P + minus-of t Q) (subst (λ (z : ℕ). InRange z ((minus-of s P + minus-of t Q) * C)) (side-plus s t P Q) (subst (λ (z : ℕ). InRange (plus-of s (P * C) + plus-of t (Q * C)) z) (side-minus s t P Q) r))
+pub grid-range : (s t : Bool) (P Q : ℕ) → SumInRange (plus-of s (P * C) + plus-of t (Q * C)) (minus-of s (P * C) + minus-of t (Q * C)) → GridRange (plus-of s P + plus-of t Q) (minus-of s P + minus-of t Q)
+grid-range s t P Q r = wide (plus-of s P + plus-of t Q) (minus-of s P + minus-of t Q) (subst (λ (z : ℕ). SumInRange z ((minus-of s P + minus-of t Q) * C)) (side-plus s t P Q) (subst (λ (z : ℕ). SumInRange (plus-of s (P * C) + plus-of t (Q * C)) z) (side-minus s t P Q) r))

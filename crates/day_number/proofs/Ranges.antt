@@ -15,7 +15,7 @@ use Rattle.rounding.specs.Value.{InUnit}
 use Rattle.refusals.specs.Outcome.{answer}
 use Rattle.floats.specs.Whole.{nearestInt}
 use Rattle.day_number.specs.declared.DayNumber.{DayNumber}
-use Rattle.day_number.specs.DayNumber.{accepted, dayNumber, dayFraction, dayOf}
+use Rattle.day_number.specs.DayNumber.{accepted, dayNumber, fractionPassed, dayOf}
 use Rattle.day_number.specs.Answer.{dayNumberAndFraction}
 use Rattle.day_number.specs.Ranges.{InDays}
 use Rattle.day_number.proofs.Units.{one-L, nought-L}
@@ -31,8 +31,8 @@ day-of-range x y fx fy e =
     let s = sides 1000000000 68570 (total-is (nearestInt x) (nearestInt y) (o .up) (o .more) (o .down)) (omega (arith, i .high)) (omega (arith, i .low)) in
     subst InDays (sym (number-is x y (o .up) (o .more) (o .down) (o .carry) (o .again) (o .borrow))) (record { top = omega (arith, s .0); bottom = omega (arith, s .1) })
 
-fraction-of-range : (x y : Float) → T (fits binary64 x) → T (fits binary64 y) → accepted x y ≡ true → InUnit (dayFraction x y)
-unfolding dayFraction
+fraction-of-range : (x y : Float) → T (fits binary64 x) → T (fits binary64 y) → accepted x y ≡ true → InUnit (fractionPassed x y)
+unfolding fractionPassed
 fraction-of-range x y fx fy e =
     let o = accepted-pair x y fx fy e in
     record { low = le-show L-pos nought-L (o .val) (omega arith); high = lt-show L-pos (o .val) one-L (omega (arith, o .below)) }

@@ -13,7 +13,7 @@ use Rattle.rounding.proofs.Value.{L-pos, val-move, val-unique}
 use Rattle.rounding.proofs.Chain.{Close}
 use Rattle.day_number.specs.declared.Summed.{Summed}
 use Rattle.day_number.specs.declared.Normalized.{Normalized}
-use Rattle.day_number.specs.DayNumber.{kahanStart, kahanOf, addFraction, sumFractions, moved, carryDay, split, borrowFraction}
+use Rattle.day_number.specs.DayNumber.{kahanStart, kahanOf, addFraction, sumFractions, moved, carryDay, joinedFractions, borrowFraction}
 use Rattle.day_number.proofs.Units.{H, H-L, W, L-W, W-pos, Z, Z-W, one-L, half-L, nought-L}
 use Rattle.day_number.proofs.SumFractions.{Stage, Both, first, both}
 use Rattle.day_number.proofs.NormalizeFraction.{Normal, normal}
@@ -101,14 +101,14 @@ module _ (f g : Float) (ff : T (fits binary64 f)) (fg : T (fits binary64 g)) (P 
               subst (λ (i : Float). Close L i (H + P + Q + bo * L) (N + M + up * L) (8 * W)) (sym ez) (subst (λ (i : ℕ). Close L (add binary64 (sumFractions f g .kahan .sum) (sumFractions f g .kahan .correction)) (H + P + Q + i * L) (N + M + up * L) (8 * W)) (sym eb)
               (record { p = c .p; n = c .n; val = c .val; over = omega (arith, c .over, Z-W); under = omega (arith, c .under, Z-W) }))
 
-  pub split-off : Split L (8 * W) (sumFractions f g) (split f g) (H + P + Q) (N + M)
-  unfolding split
+  pub split-off : Split L (8 * W) (sumFractions f g) (joinedFractions f g) (H + P + Q) (N + M)
+  unfolding joinedFractions
   split-off =
       let b = both L H (2 * W) law2 L-pos H-L one-L half-L nought-L (omega (arith, L-W)) f g P N Q M vf vg (omega (arith, H-L)) (omega (arith, H-L, L-W)) (omega (arith, H-L, L-W)) (omega (arith, H-L, L-W)) (omega (arith, H-L, L-W)) in
       let k = sumFractions f g in
       go b (normal L (2 * W) law2 L-pos one-L nought-L (omega (arith, L-W)) (k .kahan) (H + P + Q) (N + M + b .up * L) (both-fits f g) (b .sum) (b .high) (b .low) (b .correction))
     where
-      go : (b : Both L (2 * W) (sumFractions f g) (H + P + Q) (N + M)) → (n : Normal L (2 * W) (sumFractions f g .kahan) (H + P + Q) (N + M + b .up * L)) → Split L (8 * W) (sumFractions f g) (split f g) (H + P + Q) (N + M)
+      go : (b : Both L (2 * W) (sumFractions f g) (H + P + Q) (N + M)) → (n : Normal L (2 * W) (sumFractions f g .kahan) (H + P + Q) (N + M + b .up * L)) → Split L (8 * W) (sumFractions f g) (joinedFractions f g) (H + P + Q) (N + M)
       go b n = let t = close-fraction b n in let w = val-unique (t .val) (n .ready .val) in fin (n .ready .sum .p) (n .ready .sum .n) (n .ready .p) (n .ready .n) (closer (t .p) (t .n) (n .ready .p) (n .ready .n) (H + P + Q + n .borrow * L) (N + M + b .up * L) w (t .over)) (closer' (t .p) (t .n) (n .ready .p) (n .ready .n) (H + P + Q + n .borrow * L) (N + M + b .up * L) w (t .under))
           (settled (n .sum) (n .fraction) (n .ready .p) (n .ready .n) (n .ready .sum .p) (n .ready .sum .n) (n .sum-fits) (n .fraction-fits) (n .ready .val) (n .ready .sum .val) (n .ready .low)
           (top (n .ready .p) (n .ready .n) (n .ready .high))
@@ -128,9 +128,9 @@ module _ (f g : Float) (ff : T (fits binary64 f)) (fg : T (fits binary64 g)) (P 
           near p n a b X Y x y = omega arith
 
           fin : (a c x y : ℕ) → x + (N + M + b .up * L) ≤ y + (H + P + Q + n .borrow * L) + 8 * W → y + (H + P + Q + n .borrow * L) ≤ x + (N + M + b .up * L) + 8 * W
-              → Settled (carryDay (kahanOf (n .sum) (n .fraction)) (n .fraction)) (n .fraction) x y → Split L (8 * W) (sumFractions f g) (split f g) (H + P + Q) (N + M)
+              → Settled (carryDay (kahanOf (n .sum) (n .fraction)) (n .fraction)) (n .fraction) x y → Split L (8 * W) (sumFractions f g) (joinedFractions f g) (H + P + Q) (N + M)
           fin a c x y o u k =
-              let e : split f g ≡ moved (n .borrow) (carryDay (kahanOf (n .sum) (n .fraction)) (n .fraction)) = n .is in
+              let e : joinedFractions f g ≡ moved (n .borrow) (carryDay (kahanOf (n .sum) (n .fraction)) (n .fraction)) = n .is in
               subst (λ (r : Normalized). Split L (8 * W) (sumFractions f g) r (H + P + Q) (N + M)) (sym e) (record {
                 up = b .up;
                 few = b .few;

@@ -105,21 +105,21 @@ abbrev pub total : Float → Float → ℕ → ℕ → ℕ → ℤ
 total a b carry more borrow = toSigned 63 a +ℤ toSigned 63 b +ℤ pos carry +ℤ (pos more -ℤ pos borrow)
 
 -- what the two fractions come to
-unfoldable pub split : Float → Float → Normalized
+unfoldable pub joinedFractions : Float → Float → Normalized
 unfolding sumFractions normalizeFraction
-split f g = normalizeFraction (sumFractions f g .kahan)
+joinedFractions f g = normalizeFraction (sumFractions f g .kahan)
 
 unfoldable pub dayNumber : Float → Float → ℤ
-unfolding toSigned nearestInt sumFractions split rest
-dayNumber jd1 jd2 = total (nearestInt jd1) (nearestInt jd2) (sumFractions (rest jd1) (rest jd2) .carry) (split (rest jd1) (rest jd2) .carry) (split (rest jd1) (rest jd2) .borrow)
+unfolding toSigned nearestInt sumFractions joinedFractions rest
+dayNumber jd1 jd2 = total (nearestInt jd1) (nearestInt jd2) (sumFractions (rest jd1) (rest jd2) .carry) (joinedFractions (rest jd1) (rest jd2) .carry) (joinedFractions (rest jd1) (rest jd2) .borrow)
 
-unfoldable pub dayFraction : Float → Float → Float
-unfolding split rest
-dayFraction jd1 jd2 = split (rest jd1) (rest jd2) .fraction
+unfoldable pub fractionPassed : Float → Float → Float
+unfolding joinedFractions rest
+fractionPassed jd1 jd2 = joinedFractions (rest jd1) (rest jd2) .fraction
 
 unfoldable pub dayOf : Float → Float → DayNumber
-unfolding dayNumber dayFraction
-dayOf jd1 jd2 = record { day = dayNumber jd1 jd2; fraction = dayFraction jd1 jd2 }
+unfolding dayNumber fractionPassed
+dayOf jd1 jd2 = record { day = dayNumber jd1 jd2; fraction = fractionPassed jd1 jd2 }
 
 -- the pairs that have a day: their rounded sum is in the range
 unfoldable pub accepted : Float → Float → Bool

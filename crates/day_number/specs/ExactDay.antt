@@ -16,11 +16,11 @@ pub record OnGrid (x : Float) : Type 0 where
   pub low : minusZ units < 2 ^ 104
 
 -- the exact sum of two parts
-abbrev pub exactSum : {x y : Float} → OnGrid x → OnGrid y → ℤ
-exactSum a b = a .units +ℤ b .units
+abbrev pub gridSum : {x y : Float} → OnGrid x → OnGrid y → ℤ
+gridSum a b = a .units +ℤ b .units
 
 -- a sum from -68569.5 to 10 ^ 9 days
-pub record InJulianRange (sum : ℤ) : Type 0 where
+pub record GridSumInRange (sum : ℤ) : Type 0 where
   pub low : 2 * minusZ sum ≤ 137139 * 2 ^ 52
   pub high : plusZ sum ≤ 1000000000 * 2 ^ 52
 

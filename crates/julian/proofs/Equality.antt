@@ -62,7 +62,7 @@ same-rounded {z} {y} {P} {N} {Q} {M} {p} {n} {q} {m} r s e v w = go (r .sign) (s
 -- ---- the two-sum of parts under 2^52
 
 -- the values of the rounded sum and of its error, which together are the exact sum (P - N) / L
-record Sums (d : JulianDate) (P N : ℕ) : Type 0 where
+record SumAndError (d : JulianDate) (P N : ℕ) : Type 0 where
   sp : ℕ
   sn : ℕ
   ep : ℕ
@@ -72,7 +72,7 @@ record Sums (d : JulianDate) (P N : ℕ) : Type 0 where
   total : sp + ep + N ≡ sn + en + P
   rounded : Rounds binary64 (sums d .sum) P N L
 
-sums-of : {d : JulianDate} {P N : ℕ} → SmallParts d → Worth d P N L → Sums d P N
+sums-of : {d : JulianDate} {P N : ℕ} → SmallParts d → Worth d P N L → SumAndError d P N
 unfolding sums exactSum twoSumError
 sums-of {d} {P} {N} s w =
     let x = two-sum-under (s .first) (s .second) (w .first) (w .second) in

@@ -16,7 +16,7 @@ use Rattle.rounding.proofs.Value.{val-scale, val-move}
 use Rattle.rounding.proofs.Exact.{add-exact}
 use Rattle.rounding.proofs.Casts.{plusZ, minusZ}
 use Rattle.constants.specs.Constants.{mjdZeroPoint}
-use Rattle.calendar.specs.Calendar.{leap}
+use Rattle.calendar.specs.Calendar.{leapYear}
 use Rattle.calendar.specs.Refusals.{validDate}
 use Rattle.calendar.specs.DayCount.{marchCount, civilCount, mjdNumber, mjdOf}
 use Rattle.calendar.proofs.Signs.{raised, at-most, lowered}
@@ -33,9 +33,9 @@ pub record Answered (y m d n : ℤ) : Type 0 where
   pub valid : validDate y m d ≡ answer tt
   pub is : n ≡ mjdNumber y m d
 
-pub answered : (y m d n : ℤ) → mjdOf y m d ≡ answer n → Answered y m d n
+pub midnight-answered : (y m d n : ℤ) → mjdOf y m d ≡ answer n → Answered y m d n
 unfolding mjdOf onward
-answered y m d n e = go (validDate y m d) refl e
+midnight-answered y m d n e = go (validDate y m d) refl e
   where
     go : (v : Outcome Unit) → validDate y m d ≡ v → onward v (λ _. answer (mjdNumber y m d)) ≡ answer n → Answered y m d n
     go (answer u) h k = record { valid = h; is = cc }
@@ -57,11 +57,11 @@ count-small y m d a b c = go (leb m 2)
 pub mjd-small : (y m d n : ℤ) → SFits w32 y → mjdOf y m d ≡ answer n → mag n < 2 ^ 42
 unfolding mjdNumber
 mjd-small y m d n f e =
-    let w = answered y m d n e in
+    let w = midnight-answered y m d n e in
     let a = accepted y m d (w .valid) in
     let r = raised y 4798 4800 2147483647 (lit≤ tt) (a .year) (at-most y f) in
     let h : natAbs (y +ℤ pos 4800) ≤ 2147488447 = subst (λ (z : ℤ). natAbs z ≤ 2147488447) (sym (r .is)) (r .high) in
-    let k : natAbs d ≤ 31 = le-trans (a .d-high) (short (leap y) (natAbs m) (a .m-low) (a .m-high)) in
+    let k : natAbs d ≤ 31 = le-trans (a .d-high) (short (leapYear y) (natAbs m) (a .m-low) (a .m-high)) in
     let c : civilCount (natAbs (y +ℤ pos 4800)) (natAbs m) (natAbs d) ≤ 2 ^ 41 = count-small (natAbs (y +ℤ pos 4800)) (natAbs m) (natAbs d) h (a .m-high) k in
     subst (λ (z : ℤ). mag z < 2 ^ 42) (sym (w .is)) (lowered (civilCount (natAbs (y +ℤ pos 4800)) (natAbs m) (natAbs d)) 2432076 (2 ^ 42) (omega arith) (lit< tt))
 

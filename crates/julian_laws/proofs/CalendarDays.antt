@@ -20,7 +20,7 @@ use Rattle.calendar.proofs.Gregorian.{gregorian-is-date-of-day}
 use Rattle.day_number.specs.declared.DayNumber.{DayNumber}
 use Rattle.day_number.specs.DayNumber.{accepted, dayOf}
 use Rattle.day_number.specs.Answer.{dayNumberAndFraction}
-use Rattle.day_number.specs.ExactDay.{OnGrid, exactSum, InJulianRange, exactDay, exactFraction, exactDayNumber, fractionOf, DayAt}
+use Rattle.day_number.specs.ExactDay.{OnGrid, gridSum, GridSumInRange, exactDay, exactFraction, exactDayNumber, fractionOf, DayAt}
 use Rattle.day_number.specs.NearDay.{DayNear}
 use Rattle.day_number.proofs.Answer.{answered, refused}
 use Rattle.day_number.proofs.Ranges.{day-range, fraction-range}
@@ -28,7 +28,7 @@ use Rattle.day_number.proofs.ExactDay.{exact-day, exact, alike}
 use Rattle.day_number.proofs.OffGrid.{day-near}
 use Rattle.julian.specs.declared.CalendarFields.{CalendarFields}
 use Rattle.julian.specs.Calendar.{fields, julianToCalendar}
-use Rattle.julian_laws.specs.CalendarAnswers.{InRange, NearDate}
+use Rattle.julian_laws.specs.CalendarAnswers.{FieldsInRange, NearDate}
 
 -- ---- the fields of an answered day, and back
 
@@ -65,7 +65,7 @@ only-six x y n e = go (accepted x y) refl
 -- ---- on the grid
 
 -- the exact day of a sum from -68569.5 to 10^9
-module _ (sum : ℤ) (r : InJulianRange sum) where
+module _ (sum : ℤ) (r : GridSumInRange sum) where
   pub day-low : minusZ (exactDay sum) ≤ 68569
   day-low = go (one-side (exactDay sum))
     where
@@ -95,22 +95,22 @@ not-above (pos n) h = le-ltb 1000000000 n h
 not-above (negsuc n) h = refl
 
 -- DEMAND 3: two parts on the grid, their exact sum from -68569.5 to 10^9, give the date of the exact day, and the exact fraction
-pub exact-date : (x y : Float) → T (fits binary64 x) → T (fits binary64 y) → (a : OnGrid x) (b : OnGrid y) → InJulianRange (exactSum a b)
-    → julianToCalendar x y ≡ answer (fields (dateOf (exactDay (exactSum a b))) (fractionOf (exactFraction (exactSum a b))))
+pub exact-date : (x y : Float) → T (fits binary64 x) → T (fits binary64 y) → (a : OnGrid x) (b : OnGrid y) → GridSumInRange (gridSum a b)
+    → julianToCalendar x y ≡ answer (fields (dateOf (exactDay (gridSum a b))) (fractionOf (exactFraction (gridSum a b))))
 exact-date x y fx fy a b r =
-    let s = exactSum a b in
+    let s = gridSum a b in
     fields-of x y (exactDayNumber s) (exact x y fx fy a b r)
     ∙ ap (λ (t : CalendarDate). answer (fields t (fractionOf (exactFraction s)))) (gregorian-is-date-of-day (exactDay s) (not-below (exactDay s) (day-low s r)) (not-above (exactDay s) (day-high s r)))
 
 -- all divisions of one date on the grid have one outcome, bit for bit, also where it is refused
 pub one-outcome : (x y x' y' : Float) → T (fits binary64 x) → T (fits binary64 y) → T (fits binary64 x') → T (fits binary64 y') → (a : OnGrid x) (b : OnGrid y) (a' : OnGrid x') (b' : OnGrid y')
-    → exactSum a b ≡ exactSum a' b' → julianToCalendar x y ≡ julianToCalendar x' y'
+    → gridSum a b ≡ gridSum a' b' → julianToCalendar x y ≡ julianToCalendar x' y'
 unfolding julianToCalendar
 one-outcome x y x' y' fx fy fx' fy' a b a' b' e = ap (λ (o : Outcome DayNumber). onward o (λ n. answer (fields (gregorianDate (n .day)) (n .fraction)))) (alike x y x' y' fx fy fx' fy' a b a' b' e)
 
 -- ---- every answer, and how near it is off the grid
 
-pub answered-in-range : (x y : Float) → T (fits binary64 x) → T (fits binary64 y) → (f : CalendarFields) → julianToCalendar x y ≡ answer f → InRange f
+pub answered-in-range : (x y : Float) → T (fits binary64 x) → T (fits binary64 y) → (f : CalendarFields) → julianToCalendar x y ≡ answer f → FieldsInRange f
 answered-in-range x y fx fy f e =
     let d = day-of x y f e in
     record { day = d .day .day; in-days = day-range x y fx fy (d .day) (d .given); date = d .date; fraction = subst InUnit (sym (d .fraction)) (fraction-range x y fx fy (d .day) (d .given)) }

@@ -21,13 +21,13 @@ use Rattle.calendar.specs.Calendar.{date}
 use Rattle.calendar.specs.Gregorian.{gregorianDate}
 use Rattle.calendar.specs.DayCount.{civilCount, mjdNumber, mjdOf}
 use Rattle.calendar.proofs.Mjd.{date-of-mjd}
-use Rattle.day_number.specs.ExactDay.{OnGrid, exactSum, InJulianRange, exactDayNumber, fractionOf, DayAt}
+use Rattle.day_number.specs.ExactDay.{OnGrid, gridSum, GridSumInRange, exactDayNumber, fractionOf, DayAt}
 use Rattle.day_number.proofs.ExactDay.{only, exact}
 use Rattle.julian.specs.JulianDate.{roundedSum}
 use Rattle.julian.specs.DayFraction.{dayFraction, timeInDay, secondLimit}
 use Rattle.julian.specs.Calendar.{fields, calendarToJulian, atTime, fromCalendar, julianToCalendar}
 use Rattle.julian.proofs.Integers.{integer-val, integer-fits}
-use Rattle.julian.proofs.Midnights.{answered, midnight-given, zero-point-val, midnight-sum}
+use Rattle.julian.proofs.Midnights.{midnight-answered, midnight-given, zero-point-val, midnight-sum}
 use Rattle.julian_laws.proofs.CalendarDays.{fields-of, not-above}
 
 -- ---- parts on the grid: a float worth (p - n) / 2^52, both small
@@ -53,19 +53,19 @@ Midnight n sum = plusZ sum + minusZ n * 2 ^ 52 ≡ minusZ sum + 4800001 * 2 ^ 51
 day-at : (n sum : ℤ) → Midnight n sum → DayAt sum (n +ℤ pos 2400001) 0
 day-at n sum e = record { below = lit< tt; total = omega (arith, e, add-pair n (pos 2400001)) }
 
-in-range : (n sum : ℤ) → plusZ n ≤ 997599999 → minusZ n ≤ 2432076 → Midnight n sum → InJulianRange sum
+in-range : (n sum : ℤ) → plusZ n ≤ 997599999 → minusZ n ≤ 2432076 → Midnight n sum → GridSumInRange sum
 in-range n sum high low e = go (one-side sum)
   where
-    go : (plusZ sum ≡ 0) ⊎ (minusZ sum ≡ 0) → InJulianRange sum
+    go : (plusZ sum ≡ 0) ⊎ (minusZ sum ≡ 0) → GridSumInRange sum
     go (inl h) = record { low = omega arith; high = omega arith }
     go (inr h) = record { low = omega arith; high = omega arith }
 
-module _ (x y : Float) (fx : T (fits binary64 x)) (fy : T (fits binary64 y)) (a : OnGrid x) (b : OnGrid y) (n : ℤ) (high : plusZ n ≤ 997599999) (low : minusZ n ≤ 2432076) (e : Midnight n (exactSum a b)) where
+module _ (x y : Float) (fx : T (fits binary64 x)) (fy : T (fits binary64 y)) (a : OnGrid x) (b : OnGrid y) (n : ℤ) (high : plusZ n ≤ 997599999) (low : minusZ n ≤ 2432076) (e : Midnight n (gridSum a b)) where
   back : julianToCalendar x y ≡ answer (fields (gregorianDate (n +ℤ pos 2400001)) nought)
   unfolding fractionOf round
   back =
-      let o = only (day-at n (exactSum a b) e) in
-      fields-of x y (exactDayNumber (exactSum a b)) (exact x y fx fy a b (in-range n (exactSum a b) high low e))
+      let o = only (day-at n (gridSum a b) e) in
+      fields-of x y (exactDayNumber (gridSum a b)) (exact x y fx fy a b (in-range n (gridSum a b) high low e))
       ∙ sym (λ i. answer (fields (gregorianDate (o .0 i)) (fractionOf (o .1 i))))
 
 -- ---- the two parts of `calendar_to_julian`
@@ -116,7 +116,7 @@ module _ (n : ℤ) (high : plusZ n ≤ 997599999) (low : minusZ n ≤ 2432076) w
 mjd-low : (y m d n : ℤ) → mjdOf y m d ≡ answer n → minusZ n ≤ 2432076
 unfolding mjdNumber
 mjd-low y m d n e =
-    let a = answered y m d n e in
+    let a = midnight-answered y m d n e in
     let c = civilCount (natAbs (y +ℤ pos 4800)) (natAbs m) (natAbs d) in
     subst (λ (z : ℤ). minusZ z ≤ 2432076) (sym (a .is)) (pair-le (pos c -ℤ pos 2432076) c 2432076 (omega (arith, sub-pair (pos c) (pos 2432076))) .1)
 

@@ -9,7 +9,7 @@ use Rattle.julian.specs.declared.CalendarFields.{CalendarFields}
 use Rattle.rounding.specs.Value.{InUnit}
 
 -- the answer is the date of a day from -68570 to 10^9, and a fraction from 0.0 to below 1.0
-pub record InRange (f : CalendarFields) : Type 0 where
+pub record FieldsInRange (f : CalendarFields) : Type 0 where
   pub day : ℤ
   pub in-days : InDays day
   pub date : f .date ≡ gregorianDate day

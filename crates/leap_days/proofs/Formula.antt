@@ -16,7 +16,7 @@ use lib.Ieee.Scale.{finite}
 use borrow.Author.Tests.{leb-true}
 use Rattle.refusals.specs.Outcome.{answer}
 use Rattle.floats.specs.Whole.{nought, one}
-use Rattle.calendar.specs.Calendar.{leap}
+use Rattle.calendar.specs.Calendar.{leapYear}
 use Rattle.calendar.specs.DayCount.{marchCount, civilCount, mjdNumber, mjdOf}
 use Rattle.calendar.proofs.Signs.{sub-at}
 use Rattle.calendar.proofs.Accepted.{Accepted, accepted, short}
@@ -304,7 +304,7 @@ mjd-range : (y : ℕ) (m d : ℤ) → 1960 ≤ y → y ≤ 1971 → Accepted (po
 unfolding mjdNumber
 mjd-range y m d l h a =
     let c = civilCount (y + 4800) (natAbs m) (natAbs d) in
-    let r = civil-range (y + 4800) (natAbs m) (natAbs d) (omega arith) (omega arith) (a .m-high) (omega (arith, a .d-high, short (leap (pos y)) (natAbs m) (a .m-low) (a .m-high))) in
+    let r = civil-range (y + 4800) (natAbs m) (natAbs d) (omega arith) (omega arith) (a .m-high) (omega (arith, a .d-high, short (leapYear (pos y)) (natAbs m) (a .m-low) (a .m-high))) in
     (c - 2432076, sub-at c 2432076 (r .0), omega (arith, r .0, r .1))
 
 pub drift-formula : (y : ℕ) (m d : ℤ) (f x : Float) → 1960 ≤ y → y ≤ 1971 → T (fits binary64 f) → taiUtcOffset fixed (pos y) m d f ≡ answer x → (j : ℕ) × (mjdOf (pos y) m d ≡ answer (pos j)) × NearFormula (rowAt (reached (starts fixed) (monthOf y (natAbs m)))) j f x

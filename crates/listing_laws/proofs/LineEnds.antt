@@ -22,7 +22,7 @@ use Rattle.utc_text.specs.Text.{last, two, three, four, five, six, seven, yearT
 use Rattle.utc.specs.IsoText.{midnight, nextMidnightText, shownText, dayTextBy, isoTextBy, isoText}
 use Rattle.stamps.specs.Block.{blockOf}
 use Rattle.stamps.specs.Decimal.{decimal}
-use Rattle.stamps.specs.Listing.{refusedWord, utcListingWords, blockRefusedWords, shownAt, shown, stampLine, refusedIn, header, blockRefused}
+use Rattle.stamps.specs.Listing.{refusedWord, utcListingWords, blockRefusedWords, textAt, shown, stampLine, refusedIn, header, blockRefused}
 use Rattle.stamps.specs.Parts.{lineOf, linesIn, linesFrom, partLines, partText}
 use Rattle.listing_laws.specs.LineEnds.{lineEnds}
 use Rattle.stamps.proofs.Parts.{held-some}
@@ -114,7 +114,7 @@ unfolding lineEnds
 words = (refl, refl, refl)
 
 stamp-one : (s : List ℕ) (n i : ℕ) → lineEnds (stampLine s n i) ≡ 1
-unfolding stampLine shownAt
+unfolding stampLine textAt
 stamp-one s n i = simp (ends-append, decimal-none, shown-none, blank, end)
 
 header-one : (n k : ℕ) → lineEnds (header n k) ≡ 1

@@ -18,7 +18,7 @@ use Rattle.utc.proofs.Numbers.{not-both, not-finite}
 use Rattle.stamps.specs.Block.{blockOf, jd1Bits, jd2Bits, stampAt}
 use Rattle.stamps.specs.Decimal.{decimal}
 use Rattle.listing_laws.specs.NotFinite.{exponentField, NotFinite, isNotFinite, notFiniteIn, HasText}
-use Rattle.stamps.specs.Listing.{refusedWord, shownAt, shown, stampLine, stampLines, oneIfRefused, refusedIn, header, listingOf, listing}
+use Rattle.stamps.specs.Listing.{refusedWord, textAt, shown, stampLine, stampLines, oneIfRefused, refusedIn, header, listingOf, listing}
 
 -- ---- the values that are not finite are those whose exponent field is all ones
 odd-finite : (d : ℕ) (s : Bool) (q k l : ℕ) → finite (odd d s q k l) ≡ true
@@ -47,8 +47,8 @@ no-second true b e = e
 no-second false b e = refl
 
 -- ---- A STAMP THAT IS NOT FINITE is refused with 6, its line says so, and it counts as one
-pub not-finite-refused : (s : List ℕ) (n i : ℕ) → NotFinite s n i → shownAt s n i ≡ refusal 6
-unfolding shownAt stampAt
+pub not-finite-refused : (s : List ℕ) (n i : ℕ) → NotFinite s n i → textAt s n i ≡ refusal 6
+unfolding textAt stampAt
 not-finite-refused s n i d = not-finite fixed (stampAt s n i) (by d)
   where
     by : NotFinite s n i → finite (stampAt s n i .jd1) && finite (stampAt s n i .jd2) ≡ false
@@ -66,7 +66,7 @@ not-finite-line s n i d =
     ap (λ (o : Outcome (List ℕ)). ((decimal i ++ (32 ∷ [])) ++ shown o) ++ (10 ∷ [])) (not-finite-refused s n i d)
     ∙ ap (λ (t : List ℕ). ((decimal i ++ (32 ∷ [])) ++ (refusedWord ++ t)) ++ (10 ∷ [])) six
 
-pub not-finite-one : (s : List ℕ) (n i : ℕ) → NotFinite s n i → oneIfRefused (shownAt s n i) ≡ 1
+pub not-finite-one : (s : List ℕ) (n i : ℕ) → NotFinite s n i → oneIfRefused (textAt s n i) ≡ 1
 unfolding oneIfRefused
 not-finite-one s n i d = ap oneIfRefused (not-finite-refused s n i d)
 
@@ -94,18 +94,18 @@ unfolding notFiniteIn refusedIn
 not-finite-counted s n zero = omega arith
 not-finite-counted s n (suc k) = let before = not-finite-counted s n k in let one = by (isNotFinite s n k) refl in omega arith
   where
-    by : (b : Bool) → isNotFinite s n k ≡ b → cond b 1 0 ≤ oneIfRefused (shownAt s n k)
+    by : (b : Bool) → isNotFinite s n k ≡ b → cond b 1 0 ≤ oneIfRefused (textAt s n k)
     by true e = omega (arith, not-finite-one s n k (tested-not-finite s n k e))
     by false e = omega arith
 
 -- and it is that number where each stamp is not finite or has a text
-one-each : (s : List ℕ) (n i : ℕ) → NotFinite s n i ⊎ HasText s n i → oneIfRefused (shownAt s n i) ≡ cond (isNotFinite s n i) 1 0
+one-each : (s : List ℕ) (n i : ℕ) → NotFinite s n i ⊎ HasText s n i → oneIfRefused (textAt s n i) ≡ cond (isNotFinite s n i) 1 0
 unfolding oneIfRefused
 one-each s n i (inl d) = not-finite-one s n i d ∙ ap (λ (b : Bool). cond {A = ℕ} b 1 0) (sym (not-finite-tested s n i d))
 one-each s n i (inr h) = by (isNotFinite s n i) refl
   where
-    by : (b : Bool) → isNotFinite s n i ≡ b → oneIfRefused (shownAt s n i) ≡ cond b 1 0
-    by true e = absurd (not-both (shownAt s n i) (h .text) 6 (h .is) (not-finite-refused s n i (tested-not-finite s n i e)))
+    by : (b : Bool) → isNotFinite s n i ≡ b → oneIfRefused (textAt s n i) ≡ cond b 1 0
+    by true e = absurd (not-both (textAt s n i) (h .text) 6 (h .is) (not-finite-refused s n i (tested-not-finite s n i e)))
     by false e = ap oneIfRefused (h .is)
 
 pub only-not-finite : (s : List ℕ) (n k : ℕ) → ((i : ℕ) → i < k → NotFinite s n i ⊎ HasText s n i) → refusedIn s n k ≡ notFiniteIn s n k

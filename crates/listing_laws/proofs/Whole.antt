@@ -12,7 +12,7 @@ use borrow.Author.Tests.{ltb-true, ltb-false, leb-true, ne-eqb}
 use Rattle.refusals.specs.Outcome.{Outcome, answer, refusal}
 use Rattle.stamps.specs.Block.{blockOf}
 use Rattle.stamps.specs.Listing.{header, refusedIn, stampLine, stampLines, listingOf, listing}
-use Rattle.stamps.specs.Parts.{lineOf, linesIn, linesFrom, heldLines, partLines, partText, partOf, lineAfter, partsOf}
+use Rattle.stamps.specs.Parts.{lineOf, linesIn, linesFrom, heldLines, partLines, partText, partOf, lineAfter, partsJoined}
 use Rattle.stamps.proofs.Parts.{held-few, held-some}
 use Rattle.stamps.proofs.Lengths.{lines-add}
 
@@ -49,8 +49,8 @@ all-lines s = all-lines-by s (blockOf s) refl
 -- ---- the parts
 module _ (s : List ℕ) where
   module _ (room : ℕ) where
-    parts-are : (k : ℕ) → partsOf s room k ≡ linesFrom s 0 (lineAfter s room k)
-    unfolding partsOf lineAfter partText linesFrom
+    parts-are : (k : ℕ) → partsJoined s room k ≡ linesFrom s 0 (lineAfter s room k)
+    unfolding partsJoined lineAfter partText linesFrom
     parts-are zero = refl
     parts-are (suc k) =
         ap (λ (l : List ℕ). l ++ partText s (lineAfter s room k) room) (parts-are k)
@@ -66,13 +66,13 @@ module _ (s : List ℕ) where
         omega arith
 
     -- whatever the scratch: where no line is left after k parts, they are the listing
-    whole-when-done : (k : ℕ) → linesIn (blockOf s) ≤ lineAfter s room k → partsOf s room k ≡ listing s
+    whole-when-done : (k : ℕ) → linesIn (blockOf s) ≤ lineAfter s room k → partsJoined s room k ≡ listing s
     whole-when-done k h =
         let e : lineAfter s room k ≡ linesIn (blockOf s) = omega (arith, within k) in
         parts-are k ∙ ap (linesFrom s 0) e ∙ all-lines s
 
     -- and so the parts up to one that says it is the last
-    pub whole-at-last : (k : ℕ) → partOf s (lineAfter s room k) room .done ≡ true → partsOf s room (suc k) ≡ listing s
+    pub whole-at-last : (k : ℕ) → partOf s (lineAfter s room k) room .done ≡ true → partsJoined s room (suc k) ≡ listing s
     unfolding partOf lineAfter
     whole-at-last k e = whole-when-done (suc k) (leb-true _ _ e)
 
@@ -91,5 +91,5 @@ module _ (s : List ℕ) where
           by false e before = let h : linesIn (blockOf s) ≤ lineAfter s room k = ltb-false _ _ e in omega (arith, hn)
 
       -- with 33 bytes or more the listing is whole after as many parts as it has lines, or sooner; parts after that are empty
-      pub whole : (k : ℕ) → linesIn (blockOf s) ≤ k → partsOf s room k ≡ listing s
+      pub whole : (k : ℕ) → linesIn (blockOf s) ≤ k → partsJoined s room k ≡ listing s
       whole k h = whole-when-done k (reached k (linesIn (blockOf s)) (omega arith) h)

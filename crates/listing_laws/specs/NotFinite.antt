@@ -8,7 +8,7 @@ use mathlib.Core.Bool.{Bool, cond, _||_}
 use lib.Dec.{eqb}
 use Rattle.refusals.specs.Outcome.{answer}
 use Rattle.stamps.specs.Block.{jd1Bits, jd2Bits}
-use Rattle.stamps.specs.Listing.{shownAt}
+use Rattle.stamps.specs.Listing.{textAt}
 
 -- bits 52 to 62 of a pattern
 abbrev pub exponentField : ℕ → ℕ
@@ -30,4 +30,4 @@ notFiniteIn s n (suc k) = notFiniteIn s n k + cond (isNotFinite s n k) 1 0
 -- stamp i of n has a text
 pub record HasText (s : List ℕ) (n i : ℕ) : Type 0 where
   pub text : List ℕ
-  pub is : shownAt s n i ≡ answer text
+  pub is : textAt s n i ≡ answer text

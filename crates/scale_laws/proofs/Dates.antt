@@ -29,8 +29,8 @@ pub record Sized (x : Float) (S : ℕ) : Type 0 where
   pub most : size ≤ S * U
 
 -- one part is at most S in size, and the other at most s
-abbrev pub InRange : ℕ → ℕ → JulianDate → Type 0
-InRange S s d = (Sized (d .jd1) S × Sized (d .jd2) s) ⊎ (Sized (d .jd1) s × Sized (d .jd2) S)
+abbrev pub PartsWithin : ℕ → ℕ → JulianDate → Type 0
+PartsWithin S s d = (Sized (d .jd1) S × Sized (d .jd2) s) ⊎ (Sized (d .jd1) s × Sized (d .jd2) S)
 
 -- ---- sizes and pairs
 side-high : (s : Bool) (a X : ℕ) → a ≤ X → plus-of s a ≤ minus-of s a + X
@@ -85,14 +85,14 @@ about-sized T' {x} {P} {N} {D} {M} {e} h a =
 unfoldable pub Chosen : ℕ → ℕ → JulianDate → Type 0
 Chosen S s d = ((firstIsLarger d ≡ true) × (Sized (d .jd1) S × Sized (d .jd2) s)) ⊎ ((firstIsLarger d ≡ false) × (Sized (d .jd2) S × Sized (d .jd1) s))
 
-pub chosen : (S s : ℕ) (d : JulianDate) → s ≤ S → InRange S s d → Chosen S s d
+pub chosen : (S s : ℕ) (d : JulianDate) → s ≤ S → PartsWithin S s d → Chosen S s d
 unfolding Chosen firstIsLarger
 chosen S s d l r = go (lt (abs (d .jd2)) (abs (d .jd1))) refl r
   where
     wide : {x : ℕ} → x ≤ s * U → x ≤ S * U
     wide h = le-trans h (mul-le-mul-right U l)
 
-    go : (b : Bool) → lt (abs (d .jd2)) (abs (d .jd1)) ≡ b → InRange S s d → Chosen S s d
+    go : (b : Bool) → lt (abs (d .jd2)) (abs (d .jd1)) ≡ b → PartsWithin S s d → Chosen S s d
     go true e (inl z) = inl (e, z)
     go true e (inr z) = inl (e, (under-as S (z .0) (wide (z .0 .most)), under-as s (z .1) (le-trans (smaller (z .1) (z .0) e) (z .0 .most))))
     go false e (inl z) = inr (e, (under-as S (z .1) (wide (z .1 .most)), under-as s (z .0) (le-trans (no-smaller (z .1) (z .0) e) (z .1 .most))))
@@ -150,7 +150,7 @@ module _ (ps S s a c B B' : ℕ) (f : Float → Float → Float) (law : Formula 
   unfolding Formula
   at {x} {y} z w = law x y (above z) (beneath z) (above w) (beneath w) (high z) (low z) (high w) (low w) (value z) (value w)
 
-  pub close : (d : JulianDate) → s ≤ S → InRange S s d → Close ps a c B B' d (mapSmallerPart f d)
+  pub close : (d : JulianDate) → s ≤ S → PartsWithin S s d → Close ps a c B B' d (mapSmallerPart f d)
   unfolding Chosen
   close d l r = subst (λ (e : JulianDate). Close ps a c B B' d e) (sym (map-is f d)) (go (chosen S s d l r))
     where

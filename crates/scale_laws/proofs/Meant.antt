@@ -23,7 +23,7 @@ use Rattle.scale_laws.specs.Meaning.{day, Close, Meaning, Means, meaning
 use Rattle.refusals.proofs.Onward.{went}
 use Rattle.shifts.proofs.Outcomes.{converted-is, by-is}
 use Rattle.shifts.proofs.SmallerPart.{mapAs, map-is}
-use Rattle.scale_laws.proofs.Dates.{Sized, InRange, above, beneath, value, high, low, under-as, Chosen, chosen, Formula, close}
+use Rattle.scale_laws.proofs.Dates.{Sized, PartsWithin, above, beneath, value, high, low, under-as, Chosen, chosen, Formula, close}
 use Rattle.scale_laws.proofs.Finiteness.{sized-finite, sized-at, power-units}
 use Rattle.scale_laws.proofs.Bounds.{halfDay, modifiedDays, Step, Laws, practical-laws, modified-laws}
 use Rattle.shifts.specs.Shifts.{plus, minus, daysOf, converted, convertedBy}
@@ -80,13 +80,13 @@ close-close s1 s2 s {a} {c} {a2} {c2} {B} {B'} {B2} {B2'} r x y =
     turn p n p' n' h = omega arith
 
 -- ---- the range after a first step
-range-after : (S s t : ℕ) (f : Float → Float → Float) (d : JulianDate) → s ≤ S → Step S s t f → InRange S s d → InRange S t (mapSmallerPart f d)
+range-after : (S s t : ℕ) (f : Float → Float → Float) (d : JulianDate) → s ≤ S → Step S s t f → PartsWithin S s d → PartsWithin S t (mapSmallerPart f d)
 unfolding Step Chosen
-range-after S s t f d l b r = subst (InRange S t) (sym (map-is f d)) (go (chosen S s d l r))
+range-after S s t f d l b r = subst (PartsWithin S t) (sym (map-is f d)) (go (chosen S s d l r))
   where
-    go : Chosen S s d → InRange S t (mapAs f d (firstIsLarger d))
-    go (inl (e, (z, w))) = subst (λ (x : Bool). InRange S t (mapAs f d x)) (sym e) (inl (z, b (d .jd1) (d .jd2) z w))
-    go (inr (e, (z, w))) = subst (λ (x : Bool). InRange S t (mapAs f d x)) (sym e) (inr (b (d .jd2) (d .jd1) z w, z))
+    go : Chosen S s d → PartsWithin S t (mapAs f d (firstIsLarger d))
+    go (inl (e, (z, w))) = subst (λ (x : Bool). PartsWithin S t (mapAs f d x)) (sym e) (inl (z, b (d .jd1) (d .jd2) z w))
+    go (inr (e, (z, w))) = subst (λ (x : Bool). PartsWithin S t (mapAs f d x)) (sym e) (inr (b (d .jd2) (d .jd1) z w, z))
 
 -- ---- the theorem, over sizes
 pub record Meant (ps : ℕ) (w : Meaning) (a : Outcome JulianDate) (d : JulianDate) : Type 0 where
@@ -94,18 +94,18 @@ pub record Meant (ps : ℕ) (w : Meaning) (a : Outcome JulianDate) (d : JulianDa
   pub is : a ≡ answer date
   pub means : Means ps w d date
 
-parts-finite : {S s : ℕ} {d : JulianDate} → InRange S s d → (finite (d .jd1) ≡ true) × (finite (d .jd2) ≡ true)
+parts-finite : {S s : ℕ} {d : JulianDate} → PartsWithin S s d → (finite (d .jd1) ≡ true) × (finite (d .jd2) ≡ true)
 parts-finite (inl z) = (sized-finite (z .0), sized-finite (z .1))
 parts-finite (inr z) = (sized-finite (z .0), sized-finite (z .1))
 
-module _ (S t : ℕ) (order : t ≤ S) (ps a c K K' : ℕ) (f : Float → Float → Float) (d : JulianDate) (law : Formula ps S t a c K K' f) (r : InRange S t d) where
+module _ (S t : ℕ) (order : t ≤ S) (ps a c K K' : ℕ) (f : Float → Float → Float) (d : JulianDate) (law : Formula ps S t a c K K' f) (r : PartsWithin S t d) where
   met : Close ps a c K K' d (mapSmallerPart f d)
   met = close ps S t a c K K' f law d order r
 
   meant : Meant ps (record { num = a; den = c; more = K; less = K' }) (converted f d) d
   meant = let h = parts-finite r in record { date = mapSmallerPart f d; is = converted-is f d (h .0) (h .1); means = met }
 
-  meant-then : (s2 s a2 c2 K2 K2' : ℕ) (g : Float → Float → Float) → a2 * ps + s2 * c2 ≤ s * c2 → Formula s2 S t a2 c2 K2 K2' g → InRange S t (mapSmallerPart f d)
+  meant-then : (s2 s a2 c2 K2 K2' : ℕ) (g : Float → Float → Float) → a2 * ps + s2 * c2 ≤ s * c2 → Formula s2 S t a2 c2 K2 K2' g → PartsWithin S t (mapSmallerPart f d)
       → Meant s (record { num = a * a2; den = c * c2; more = a2 * K + c * K2; less = a2 * K' + c * K2' }) (onward (converted f d) (converted g)) d
   meant-then s2 s a2 c2 K2 K2' g b law2 r2 =
       let h = parts-finite r in
@@ -116,24 +116,24 @@ module _ (S t : ℕ) (order : t ≤ S) (ps a c K K' : ℕ) (f : Float → Float 
         means = close-close ps s2 s b met (close s2 S t a2 c2 K2 K2' g law2 (mapSmallerPart f d) order r2);
       }
 
-meant-by : (S t : ℕ) → t ≤ S → (ps K K' : ℕ) (f : Float → Float → Float → Float) (s : Float) (d : JulianDate) → finite s ≡ true → Formula ps S t 86400 86400 K K' (f (daysOf s)) → InRange S t d
+meant-by : (S t : ℕ) → t ≤ S → (ps K K' : ℕ) (f : Float → Float → Float → Float) (s : Float) (d : JulianDate) → finite s ≡ true → Formula ps S t 86400 86400 K K' (f (daysOf s)) → PartsWithin S t d
     → Meant ps (record { num = 86400; den = 86400; more = K; less = K' }) (convertedBy f s d) d
 meant-by S t order ps K K' f s d l law r =
     let h = parts-finite r in
     record { date = mapSmallerPart (f (daysOf s)) d; is = by-is f s d (h .0) (h .1) l; means = met S t order ps 86400 86400 K K' (f (daysOf s)) d law r }
 
-pub sixteen : (b : Picoseconds) (S s t : ℕ) → Laws b S s t → (k : Conversion) (d : JulianDate) → InRange S s d → (o : Sized (offsetOf k) halfDay) → Meant (boundOf b k) (meaning k (above o) (beneath o)) (answerOf k d) d
+pub sixteen : (b : Picoseconds) (S s t : ℕ) → Laws b S s t → (k : Conversion) (d : JulianDate) → PartsWithin S s d → (o : Sized (offsetOf k) halfDay) → Meant (boundOf b k) (meaning k (above o) (beneath o)) (answerOf k d) d
 unfolding meaning boundOf answerOf offsetOf
 sixteen b S s t B k d r = go k
   where
     wide : {z : Float} → Sized z s → Sized z t
     wide q = under-as t q (le-trans (q .most) (mul-le-mul-right U (B .first)))
 
-    wider : InRange S s d → InRange S t d
+    wider : PartsWithin S s d → PartsWithin S t d
     wider (inl z) = inl (z .0, wide (z .1))
     wider (inr z) = inr (wide (z .0), z .1)
 
-    r' : InRange S t d
+    r' : PartsWithin S t d
     r' = wider r
 
     go : (k : Conversion) (o : Sized (offsetOf k) halfDay) → Meant (boundOf b k) (meaning k (above o) (beneath o)) (answerOf k d) d
@@ -170,7 +170,7 @@ modified-day = record { sign = false; size = modifiedDays * 2 ^ 984; has = (refl
 large : (x : Float) → AtMost (power 23) x → Sized x (2 ^ 113)
 large x h = sized-at (power 23) (2 ^ 113) (power-units 23) x h
 
-over-floats : (b : Picoseconds) (s t : ℕ) → Laws b (2 ^ 113) s t → (k : Conversion) (d : JulianDate) → InRange (2 ^ 113) s d → HalfDay (offsetOf k) → RightTo b k d
+over-floats : (b : Picoseconds) (s t : ℕ) → Laws b (2 ^ 113) s t → (k : Conversion) (d : JulianDate) → PartsWithin (2 ^ 113) s d → HalfDay (offsetOf k) → RightTo b k d
 over-floats b s t B k d r h =
     let o = sized-at (round binary64 false 43200 1) halfDay half-day (offsetOf k) h in
     let m = sixteen b (2 ^ 113) s t B k d r o in
@@ -183,7 +183,7 @@ practical k d r h = over-floats practicalBounds (2 ^ 90) (2 ^ 90 + 2 ^ 83) pract
     one : (x : Float) → AtMost (power 0) x → Sized x (2 ^ 90)
     one x h = sized-at (power 0) (2 ^ 90) (power-units 0) x h
 
-    go : Practical d → InRange (2 ^ 113) (2 ^ 90) d
+    go : Practical d → PartsWithin (2 ^ 113) (2 ^ 90) d
     go (inl z) = inl (large (d .jd1) (z .0), one (d .jd2) (z .1))
     go (inr z) = inr (one (d .jd1) (z .0), large (d .jd2) (z .1))
 
@@ -194,6 +194,6 @@ modified k d r h = over-floats modifiedBounds modifiedDays (modifiedDays + 2 ^ 8
     small : (x : Float) → AtMost (round binary64 false 131071 1) x → Sized x modifiedDays
     small x h = sized-at (round binary64 false 131071 1) modifiedDays modified-day x h
 
-    go : Modified d → InRange (2 ^ 113) modifiedDays d
+    go : Modified d → PartsWithin (2 ^ 113) modifiedDays d
     go (inl z) = inl (large (d .jd1) (z .0), small (d .jd2) (z .1))
     go (inr z) = inr (small (d .jd1) (z .0), large (d .jd2) (z .1))

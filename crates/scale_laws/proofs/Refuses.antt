@@ -12,7 +12,7 @@ use Rattle.julian.specs.declared.JulianDate.{JulianDate}
 use Rattle.shifts.specs.SmallerPart.{firstIsLarger, mapSmallerPart}
 use Rattle.scales.specs.Formulas.{gpsDays, ttDays, tcgToTt, ttToTcg, tcbToTdb, tdbToTcb}
 use Rattle.scales.specs.Conversions.{Conversion, gps-tai, tai-gps, tai-tt, tt-tai, tcg-tt, tt-tcg, tcb-tdb, tdb-tcb, tai-tcg, tcg-tai, tai-ut1, ut1-tai, ut1-tt, tt-ut1, tt-tdb, tdb-tt, offsetOf, answerOf}
-use Rattle.scales.specs.Refusals.{testedFinite, Decided}
+use Rattle.scales.specs.Refusals.{testedFinite, DecidedFinite}
 use Rattle.scale_laws.specs.Ranges.{Held}
 use Rattle.scale_laws.specs.Refusals.{Refusals}
 use Rattle.shifts.proofs.Outcomes.{and-left, and-right, first, first-by}
@@ -40,40 +40,40 @@ tt-between d f h = ap finiteParts (map-is (plus ttDays) d) ∙ go (firstIsLarger
     go false = both-true (added tt-small (d .jd1) (f .0) one) two
 
 -- ---- the three kinds of conversion
-plain : (f : Float → Float → Float) (d : JulianDate) → Decided (finiteParts d) true (converted f d)
-plain f d = subst (Decided (finiteParts d) true) (sym (first f d)) (go (finiteParts d))
+plain : (f : Float → Float → Float) (d : JulianDate) → DecidedFinite (finiteParts d) true (converted f d)
+plain f d = subst (DecidedFinite (finiteParts d) true) (sym (first f d)) (go (finiteParts d))
   where
-    go : (b : Bool) → Decided b true (cond b (answer (mapSmallerPart f d)) (refusal 9))
+    go : (b : Bool) → DecidedFinite b true (cond b (answer (mapSmallerPart f d)) (refusal 9))
     go true = (mapSmallerPart f d, refl)
     go false = refl
 
-given : (f : Float → Float → Float → Float) (s : Float) (d : JulianDate) → Decided (finiteParts d) (finite s) (convertedBy f s d)
-given f s d = subst (Decided (finiteParts d) (finite s)) (sym (first-by f s d)) (go (finiteParts d) (finite s))
+given : (f : Float → Float → Float → Float) (s : Float) (d : JulianDate) → DecidedFinite (finiteParts d) (finite s) (convertedBy f s d)
+given f s d = subst (DecidedFinite (finiteParts d) (finite s)) (sym (first-by f s d)) (go (finiteParts d) (finite s))
   where
-    go : (b c : Bool) → Decided b c (cond b (cond c (answer (mapSmallerPart (f (daysOf s)) d)) (refusal 10)) (refusal 9))
+    go : (b c : Bool) → DecidedFinite b c (cond b (cond c (answer (mapSmallerPart (f (daysOf s)) d)) (refusal 10)) (refusal 9))
     go true true = (mapSmallerPart (f (daysOf s)) d, refl)
     go true false = refl
     go false true = refl
     go false false = refl
 
-after : (g : Float → Float → Float) (e : JulianDate) (b : Bool) → Decided (b && finiteParts e) true (onward (cond b (answer e) (refusal 9)) (converted g))
+after : (g : Float → Float → Float) (e : JulianDate) (b : Bool) → DecidedFinite (b && finiteParts e) true (onward (cond b (answer e) (refusal 9)) (converted g))
 unfolding onward
 after g e true = plain g e
 after g e false = refl
 
-through : (f g : Float → Float → Float) (d : JulianDate) → Decided (finiteParts d && finiteParts (mapSmallerPart f d)) true (onward (converted f d) (converted g))
-through f g d = subst (λ (o : Outcome JulianDate). Decided (finiteParts d && finiteParts (mapSmallerPart f d)) true (onward o (converted g))) (sym (first f d)) (after g (mapSmallerPart f d) (finiteParts d))
+through : (f g : Float → Float → Float) (d : JulianDate) → DecidedFinite (finiteParts d && finiteParts (mapSmallerPart f d)) true (onward (converted f d) (converted g))
+through f g d = subst (λ (o : Outcome JulianDate). DecidedFinite (finiteParts d && finiteParts (mapSmallerPart f d)) true (onward o (converted g))) (sym (first f d)) (after g (mapSmallerPart f d) (finiteParts d))
 
 -- TT in between is finite
-through-tt : (d : JulianDate) → Held d → Decided (finiteParts d) true (onward (converted (plus ttDays) d) (converted ttToTcg))
-through-tt d f = subst (λ (b : Bool). Decided b true (onward (converted (plus ttDays) d) (converted ttToTcg))) (go (finiteParts d) (tt-between d f)) (through (plus ttDays) ttToTcg d)
+through-tt : (d : JulianDate) → Held d → DecidedFinite (finiteParts d) true (onward (converted (plus ttDays) d) (converted ttToTcg))
+through-tt d f = subst (λ (b : Bool). DecidedFinite b true (onward (converted (plus ttDays) d) (converted ttToTcg))) (go (finiteParts d) (tt-between d f)) (through (plus ttDays) ttToTcg d)
   where
     go : (b : Bool) → (b ≡ true → finiteParts (mapSmallerPart (plus ttDays) d) ≡ true) → (b && finiteParts (mapSmallerPart (plus ttDays) d)) ≡ b
     go true h = h refl
     go false h = refl
 
 -- ---- the theorem
-pub refuses : (k : Conversion) (d : JulianDate) → Held d → Decided (testedFinite k d) (finite (offsetOf k)) (answerOf k d)
+pub refuses : (k : Conversion) (d : JulianDate) → Held d → DecidedFinite (testedFinite k d) (finite (offsetOf k)) (answerOf k d)
 unfolding answerOf offsetOf testedFinite
 refuses gps-tai d f = plain (plus gpsDays) d
 refuses tai-gps d f = plain (minus gpsDays) d
@@ -103,17 +103,17 @@ refusals k d f = record {
     nine-ten : _≡_ {A = ℕ} 9 10 → ⊥
     nine-ten e = omega arith
 
-    go9 : (b c : Bool) (o : Outcome JulianDate) → Decided b c o → o ≡ refusal 9 → b ≡ false
+    go9 : (b c : Bool) (o : Outcome JulianDate) → DecidedFinite b c o → o ≡ refusal 9 → b ≡ false
     go9 true true o (u, e) h = let z : _≡_ {A = ℕ} 0 1 = cc in let w : ⊥ = omega arith in absurd w
     go9 true false o e h = let z : _≡_ {A = ℕ} 9 10 = cc in absurd (nine-ten z)
     go9 false c o e h = refl
 
-    go10 : (b c : Bool) (o : Outcome JulianDate) → Decided b c o → o ≡ refusal 10 → (b ≡ true) × (c ≡ false)
+    go10 : (b c : Bool) (o : Outcome JulianDate) → DecidedFinite b c o → o ≡ refusal 10 → (b ≡ true) × (c ≡ false)
     go10 true true o (u, e) h = let z : _≡_ {A = ℕ} 0 1 = cc in let w : ⊥ = omega arith in absurd w
     go10 true false o e h = (refl, refl)
     go10 false c o e h = let z : _≡_ {A = ℕ} 9 10 = cc in absurd (nine-ten z)
 
-    go : (b c : Bool) (o : Outcome JulianDate) → Decided b c o → (n : ℕ) → o ≡ refusal n → (n ≡ 9) ⊎ (n ≡ 10)
+    go : (b c : Bool) (o : Outcome JulianDate) → DecidedFinite b c o → (n : ℕ) → o ≡ refusal n → (n ≡ 9) ⊎ (n ≡ 10)
     go true true o (u, e) n h = let z : _≡_ {A = ℕ} 0 1 = cc in let w : ⊥ = omega arith in absurd w
     go true false o e n h = inr (cc)
     go false c o e n h = inl (cc)

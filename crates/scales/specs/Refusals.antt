@@ -28,7 +28,7 @@ testedFinite (tt-tdb seconds) d = finiteParts d
 testedFinite (tdb-tt seconds) d = finiteParts d
 
 -- what a conversion answers, by whether the parts that it tests are finite and whether the offset is
-abbrev pub Decided : Bool → Bool → Outcome JulianDate → Type 0
-Decided true true o = (u : JulianDate) × (o ≡ answer u)
-Decided true false o = o ≡ refusal 10
-Decided false b o = o ≡ refusal 9
+abbrev pub DecidedFinite : Bool → Bool → Outcome JulianDate → Type 0
+DecidedFinite true true o = (u : JulianDate) × (o ≡ answer u)
+DecidedFinite true false o = o ≡ refusal 10
+DecidedFinite false b o = o ≡ refusal 9

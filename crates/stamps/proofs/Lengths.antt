@@ -11,7 +11,7 @@ use borrow.Author.Tests.{leb-true}
 use Rattle.refusals.specs.Outcome.{Outcome, answer, refusal}
 use Rattle.tai_utc.specs.Table.{fixed}
 use Rattle.stamps.specs.Block.{blockOf, stampAt}
-use Rattle.stamps.specs.Listing.{shownAt, stampLine, refusedIn, header, blockRefused}
+use Rattle.stamps.specs.Listing.{textAt, stampLine, refusedIn, header, blockRefused}
 use Rattle.stamps.specs.Parts.{lineOf, linesIn, linesFrom, heldLines, partLines, partText}
 use Rattle.stamps.proofs.Blocks.{few-lines}
 use Rattle.stamps.proofs.Places.{decimal-most}
@@ -37,7 +37,7 @@ unfolding blockRefused
 refused-most k = simp length-append (omega (arith, decimal-most k))
 
 stamp-most : (s : List ℕ) (n i : ℕ) → length (stampLine s n i) ≤ 33
-unfolding stampLine shownAt
+unfolding stampLine textAt
 stamp-most s n i = simp length-append (omega (arith, decimal-most i, shown-most _ (brief fixed (stampAt s n i))))
 
 line-most : (o : Outcome ℕ) (s : List ℕ) (line : ℕ) → length (lineOf o s line) ≤ 33

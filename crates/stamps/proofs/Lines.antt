@@ -15,7 +15,7 @@ use Rattle.stamps.specs.declared.BlockAnswer.the-variants.{Stamps, Refus
 use Rattle.stamps.specs.Block.{blockOf, blockOutcome, stampAt}
 use Rattle.stamps.specs.Decimal.{decimal}
 use Rattle.stamps.specs.Placed.{Placed}
-use Rattle.stamps.specs.Listing.{shownAt, shown, stampLine, oneIfRefused, refusedIn, header, blockRefused}
+use Rattle.stamps.specs.Listing.{textAt, shown, stampLine, oneIfRefused, refusedIn, header, blockRefused}
 use Rattle.stamps.specs.Parts.{lineOf, linesIn, linesFrom}
 use Rattle.stamps.proofs.Blocks.{accepted}
 use Rattle.stamps.proofs.Places.{then, placed-as}
@@ -24,7 +24,7 @@ module _ {d d1 d2 d3 d4 : List ℕ} {at r1 r2 r3 r4 : ℕ} where
   pub stamp-put : (s : List ℕ) (n i : ℕ) (jd : JulianDate) → jd ≡ stampAt s n i
       → Placed d at (decimal i) r1 d1 → Placed d1 r1 (32 ∷ []) r2 d2 → Placed d2 r2 (shown (isoText fixed jd)) r3 d3 → Placed d3 r3 (10 ∷ []) r4 d4 → r4 ≤ length d
       → Placed d at (stampLine s n i) r4 d4
-  unfolding stampLine shownAt
+  unfolding stampLine textAt
   stamp-put s n i jd e p1 p2 p3 p4 le =
       let n3 : r3 ≡ r2 + length (shown (isoText fixed jd)) = p3 .ends in
       let n4 : r4 ≡ r3 + 1 = p4 .ends in
@@ -32,7 +32,7 @@ module _ {d d1 d2 d3 d4 : List ℕ} {at r1 r2 r3 r4 : ℕ} where
 
 -- one stamp more is counted
 pub refused-more : (s : List ℕ) (n k m : ℕ) (jd : JulianDate) (one : ℕ) → m ≡ refusedIn s n k → jd ≡ stampAt s n k → one ≡ oneIfRefused (isoText fixed jd) → m + one ≡ refusedIn s n (k + 1)
-unfolding refusedIn shownAt
+unfolding refusedIn textAt
 refused-more s n k m jd one em ej eo = rw add-one (cc)
 
 -- one line more is written

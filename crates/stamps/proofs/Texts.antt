@@ -14,7 +14,7 @@ use Rattle.utc_text.specs.declared.TextAnswer.{TextAnswer}
 use Rattle.utc_text.specs.declared.TextAnswer.the-variants.{Written, Refused}
 use Rattle.utc_text.specs.Answer.{textOutcome, textWritten, bufferAfter}
 use Rattle.utc.specs.IsoText.{isoText}
-use Rattle.utc.specs.TextCall.{written, held, TextCall}
+use Rattle.utc.specs.TextCall.{written, bufferHolds, TextCall}
 use Rattle.utc.proofs.Lengths.{text-length}
 use Rattle.stamps.specs.Listing.{shown}
 use Rattle.stamps.proofs.Places.{decimal-most}
@@ -38,8 +38,8 @@ written-by t p n true e = (cc, refl)
 written-by t p n false e = let z : _≡_ {A = ℕ} 0 1 = cc in absurd (omega arith)
 
 told-written : (o : Outcome (List ℕ)) (p : List ℕ) (n : ℕ) → written o (length p) ≡ answer n
-    → (n ≡ length (shown o)) × (held o p ≡ shown o ++ drop (length (shown o)) p)
-unfolding written held shown onward textWritten bufferAfter
+    → (n ≡ length (shown o)) × (bufferHolds o p ≡ shown o ++ drop (length (shown o)) p)
+unfolding written bufferHolds shown onward textWritten bufferAfter
 told-written (answer t) p n e = written-by t p n (leb (length t) (length p)) e
 told-written (refusal k) p n e = let z : _≡_ {A = ℕ} 0 1 = cc in absurd (omega arith)
 
@@ -50,8 +50,8 @@ refused-by t p k h e =
     let z : _≡_ {A = ℕ} 0 1 = cc in omega arith
 
 told-refused : (o : Outcome (List ℕ)) (p : List ℕ) (k : ℕ) → Brief o → 26 ≤ length p → written o (length p) ≡ refusal k
-    → (o ≡ refusal k) × (held o p ≡ p)
-unfolding written held onward
+    → (o ≡ refusal k) × (bufferHolds o p ≡ p)
+unfolding written bufferHolds onward
 told-refused (answer t) p k b h e = let m = b t refl in absurd (refused-by t p k (omega arith) e)
 told-refused (refusal j) p k b h e = let same : j ≡ k = cc in (ap refusal same, refl)
 

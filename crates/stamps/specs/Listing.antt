@@ -21,8 +21,8 @@ abbrev pub blockRefusedWords : List ℕ
 blockRefusedWords = 98 ∷ 108 ∷ 111 ∷ 99 ∷ 107 ∷ 32 ∷ refusedWord
 
 -- the conversion of stamp i of n: its text, or a refusal
-unfoldable pub shownAt : List ℕ → ℕ → ℕ → Outcome (List ℕ)
-shownAt s n i = isoText fixed (stampAt s n i)
+unfoldable pub textAt : List ℕ → ℕ → ℕ → Outcome (List ℕ)
+textAt s n i = isoText fixed (stampAt s n i)
 
 -- the text, or `refused` and the number
 unfoldable pub shown : Outcome (List ℕ) → List ℕ
@@ -31,7 +31,7 @@ shown (refusal k) = refusedWord ++ decimal k
 
 -- the line of stamp i of n
 unfoldable pub stampLine : List ℕ → ℕ → ℕ → List ℕ
-stampLine s n i = ((decimal i ++ (32 ∷ [])) ++ shown (shownAt s n i)) ++ (10 ∷ [])
+stampLine s n i = ((decimal i ++ (32 ∷ [])) ++ shown (textAt s n i)) ++ (10 ∷ [])
 
 -- the lines of the first k stamps of n
 unfoldable pub stampLines : List ℕ → ℕ → ℕ → List ℕ
@@ -45,7 +45,7 @@ oneIfRefused (refusal k) = 1
 
 unfoldable pub refusedIn : List ℕ → ℕ → ℕ → ℕ
 refusedIn s n zero = 0
-refusedIn s n (suc k) = refusedIn s n k + oneIfRefused (shownAt s n k)
+refusedIn s n (suc k) = refusedIn s n k + oneIfRefused (textAt s n k)
 
 -- `utc listing`, the number of stamps, `refused`, the number of refused stamps
 unfoldable pub header : ℕ → ℕ → List ℕ

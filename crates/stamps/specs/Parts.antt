@@ -55,6 +55,6 @@ unfoldable pub lineAfter : List ℕ → ℕ → ℕ → ℕ
 lineAfter s room zero = 0
 lineAfter s room (suc k) = lineAfter s room k + partLines s (lineAfter s room k) room
 
-unfoldable pub partsOf : List ℕ → ℕ → ℕ → List ℕ
-partsOf s room zero = []
-partsOf s room (suc k) = partsOf s room k ++ partText s (lineAfter s room k) room
+unfoldable pub partsJoined : List ℕ → ℕ → ℕ → List ℕ
+partsJoined s room zero = []
+partsJoined s room (suc k) = partsJoined s room k ++ partText s (lineAfter s room k) room

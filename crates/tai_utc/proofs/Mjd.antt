@@ -12,7 +12,7 @@ use mir.Val.{SFits, toZ, ofZ}
 use mir.Facts.{toZ-ofZ}
 use borrow.Author.Tests.{le-leb, lt-ltb, ltb-true}
 use Rattle.refusals.specs.Outcome.{answer, refusal}
-use Rattle.calendar.specs.Calendar.{leap}
+use Rattle.calendar.specs.Calendar.{leapYear}
 use Rattle.calendar.specs.Refusals.{nextOf}
 use Rattle.calendar.specs.DayCount.{marchCount, civilCount, mjdNumber, mjdOf}
 use Rattle.calendar.specs.Answers.{mjdOutcome, nextOutcome}
@@ -52,7 +52,7 @@ mjd-small y m d n f e =
     let r = raised y 4798 4800 2147483647 (omega arith) (a .year) (at-most y f) in
     let s = ap natAbs (r .is) in
     let u : natAbs (y +ℤ pos 4800) ≤ 2147488447 = omega (arith, s, r .high) in
-    let b = short (leap y) (natAbs m) (a .m-low) (a .m-high) in
+    let b = short (leapYear y) (natAbs m) (a .m-low) (a .m-high) in
     let c = civil-small (natAbs (y +ℤ pos 4800)) (natAbs m) (natAbs d) u (a .m-high) (omega (arith, a .d-high, b)) in
     let g = difference-small (civilCount (natAbs (y +ℤ pos 4800)) (natAbs m) (natAbs d)) 2432076 in
     let i : natAbs n ≡ natAbs (mjdNumber y m d) = ap natAbs (same-answer (sym e ∙ mjd-given y m d z)) in

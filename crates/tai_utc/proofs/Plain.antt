@@ -14,7 +14,7 @@ use mir.Facts.{toZ-ofZ}
 use borrow.Author.Tests.{ltb-false, leb-true}
 use Rattle.refusals.specs.Outcome.{answer}
 use Rattle.floats.specs.Whole.{nought, half}
-use Rattle.calendar.specs.Calendar.{date, leap, lengths}
+use Rattle.calendar.specs.Calendar.{date, leapYear, lengths}
 use Rattle.calendar.specs.Refusals.{validDate}
 use Rattle.calendar.specs.DayCount.{mjdNumber}
 use Rattle.calendar.proofs.Months.{months}
@@ -37,7 +37,7 @@ long false = months (λ m. 28 ≤ lengths false m) (omega arith) (omega arith) (
 up-to-27 : (y m d : ℕ) → 1972 ≤ y → 1 ≤ m → m ≤ 12 → 1 ≤ d → d ≤ 27 → Plain (pos y) (pos m) (pos d)
 unfolding monthNumber
 up-to-27 y m d p a b c e =
-    let h = long (leap (pos y)) m a b in
+    let h = long (leapYear (pos y)) m a b in
     let v : validDate (pos y) (pos m) (pos d) ≡ answer tt = in-calendar-valid (date (pos y) m d) (record { m-low = a; m-high = b; d-low = c; d-high = omega arith }) refl in
     record { same-month = next-day (pos y) (pos m) (pos d) v (omega arith); from-1972 = omega arith }
 

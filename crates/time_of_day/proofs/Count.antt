@@ -112,7 +112,7 @@ module _ (F B C E p n k : ℕ) (G : 0 < E) (hf : F < L) (hb : B ≤ C + E) (hc :
         go' a x d a' n p f b c u l e g h i j m = omega arith
 
 -- ---- what the count is
-pub record Counted (how : Bool → ℕ → ℕ → ℕ) (f l : Float) (u : AsUnits f) : Type 0 where
+pub record CountedTo (how : Bool → ℕ → ℕ → ℕ) (f l : Float) (u : AsUnits f) : Type 0 where
   pub k : ℕ
   pub is : millisOf how f l ≡ pos k
   pub close : (B C E W : ℕ) → 0 < E → Val l B C E → W + C ≡ 86400 * E + B → Close 16777216 8388609 (k * E) (u .F) L W E
@@ -138,7 +138,7 @@ module _ (how : Bool → ℕ → ℕ → ℕ) (rule : Nearest how) (f l : Float)
     close-at : (W : ℕ) → W + C ≡ 86400 * E + B → Close 16777216 8388609 (plusZ (millisOf how f l) * E) (u .F) L W E
     close-at W long = close (u .F) B C E (c .p) (c .n) (plusZ (millisOf how f l)) G (u .most) (at-most G v h) (at-least G v h) (c .over) (c .under) wo wu W long
 
-  pub counted : Counted how f l u
+  pub counted : CountedTo how f l u
   counted =
       let a = as-fraction l h in
       record { k = plusZ (millisOf how f l); is = pos-of (millisOf how f l) (none (a .B) (a .C) (a .E) (a .some) (a .val)); close = λ B C E W G v long. close-at B C E G v W long }

@@ -18,7 +18,7 @@ use Rattle.time_of_day.specs.Nearest.{Nearest}
 use Rattle.time_of_day.specs.ExactTime.{Leap, little, second, first, minus-second, DayLength, timeMs, shownMs, Close, Good, ShownRight}
 use Rattle.time_of_day.proofs.Rounded.{away-nearest}
 use Rattle.time_of_day.proofs.Fractions.{AsUnits, in-units, within-one, at-most, zero-val, minus-one-val, le-says, cross}
-use Rattle.time_of_day.proofs.Count.{Counted, counted}
+use Rattle.time_of_day.proofs.Count.{CountedTo, counted}
 use Rattle.time_of_day.proofs.Fields.{fields-ms, good-time}
 use Rattle.time_of_day.proofs.Close.{close-move, close-end, close-501}
 
@@ -48,7 +48,7 @@ module _ (how : Bool → ℕ → ℕ → ℕ) (rule : Nearest how) (f x : Float)
   u : AsUnits f
   u = in-units f h g
 
-  c : Counted how f (wholeLeap x) u
+  c : CountedTo how f (wholeLeap x) u
   c = counted how rule f (wholeLeap x) u (within-one x s)
 
   at-count : (F D W E : ℕ) → 0 < E → Val f F 0 D → DayLength x W E → Close 16777216 8388609 (c .k * E) (u .F) L W E

@@ -11,7 +11,7 @@ use lib.Seq.{take-at, drop-at}
 use lib.Ieee.{Float, binary64, fits}
 use Rattle.refusals.specs.Outcome.{Outcome, answer, refusal, onward}
 use Rattle.floats.specs.Whole.{away}
-use Rattle.day_number.specs.ExactDay.{OnGrid, exactSum}
+use Rattle.day_number.specs.ExactDay.{OnGrid, gridSum}
 use Rattle.julian.specs.declared.CalendarFields.{CalendarFields}
 use Rattle.julian.specs.JulianDate.{julian}
 use Rattle.julian_laws.proofs.CalendarDays.{one-outcome}
@@ -20,12 +20,12 @@ use Rattle.utc_text.specs.declared.TextAnswer.{TextAnswer}
 use Rattle.utc_text.specs.declared.TextAnswer.the-variants.{Written, Refused}
 use Rattle.utc_text.specs.Answer.{textOutcome, textWritten, bufferAfter}
 use Rattle.utc.specs.IsoText.{dayTextBy, isoTextBy, isoText}
-use Rattle.utc.specs.TextCall.{written, held, TextCall, Alike}
+use Rattle.utc.specs.TextCall.{written, bufferHolds, TextCall, Alike}
 use Rattle.utc.specs.Shows.{tooEarly, TextDemand}
 
 -- ---- one text, or one refusal, for all divisions
 pub one-text : (how : Bool → ℕ → ℕ → ℕ) (rows : List Row) (x y x' y' : Float) → T (fits binary64 x) → T (fits binary64 y) → T (fits binary64 x') → T (fits binary64 y') → (a : OnGrid x) (b : OnGrid y) (a' : OnGrid x') (b' : OnGrid y')
-    → exactSum a b ≡ exactSum a' b' → isoTextBy how rows (julian x y) ≡ isoTextBy how rows (julian x' y')
+    → gridSum a b ≡ gridSum a' b' → isoTextBy how rows (julian x y) ≡ isoTextBy how rows (julian x' y')
 unfolding isoTextBy
 one-text how rows x y x' y' fx fy fx' fy' a b a' b' e = ap (λ (o : Outcome CalendarFields). onward o (λ c. dayTextBy how rows (c .date) (c .fraction))) (one-outcome x y x' y' fx fy fx' fy' a b a' b' e)
 
@@ -40,27 +40,27 @@ same-answer (Refused m) (Refused n) e = ap Refused (let p : m ≡ n = cc in p)
 -- where n bytes are written they are the text, and the rest of the buffer stays
 module _ (o : Outcome (List ℕ)) (l out : List ℕ) (n : ℕ) (c : TextCall o l (Written n) out) where
   pub text-put : (t : List ℕ) × (o ≡ answer t) × (n ≡ length t) × (out ≡ t ++ drop (length t) l)
-  unfolding textOutcome written held textWritten bufferAfter onward
+  unfolding textOutcome written bufferHolds textWritten bufferAfter onward
   text-put = go o refl (c .says) (c .holds)
     where
       fits-in : (t : List ℕ) (b : Bool) → o ≡ answer t → answer n ≡ cond b (answer (length t)) (refusal 11) → out ≡ cond b (t ++ drop (length t) l) l → (s : List ℕ) × (o ≡ answer s) × (n ≡ length s) × (out ≡ s ++ drop (length s) l)
       fits-in t true p e q = (t, p, (let k : n ≡ length t = cc in k), q)
       fits-in t false p e q = let z : _≡_ {A = ℕ} 0 1 = cc in absurd (omega arith)
 
-      go : (x : Outcome (List ℕ)) → o ≡ x → answer n ≡ onward x (λ t. textWritten t (length l)) → out ≡ held x l → (s : List ℕ) × (o ≡ answer s) × (n ≡ length s) × (out ≡ s ++ drop (length s) l)
+      go : (x : Outcome (List ℕ)) → o ≡ x → answer n ≡ onward x (λ t. textWritten t (length l)) → out ≡ bufferHolds x l → (s : List ℕ) × (o ≡ answer s) × (n ≡ length s) × (out ≡ s ++ drop (length s) l)
       go (answer t) p e q = fits-in t (leb (length t) (length l)) p e q
       go (refusal k) p e q = let z : _≡_ {A = ℕ} 0 1 = cc in absurd (omega arith)
 
 -- A REFUSED CALL changes no byte of its buffer
 pub nothing-written : (o : Outcome (List ℕ)) (l out : List ℕ) (k : ℕ) → TextCall o l (Refused k) out → out ≡ l
-unfolding textOutcome written held textWritten bufferAfter onward
+unfolding textOutcome written bufferHolds textWritten bufferAfter onward
 nothing-written o l out k c = go o (c .says) (c .holds)
   where
     longer : (t : List ℕ) (b : Bool) → refusal k ≡ cond b (answer (length t)) (refusal 11) → out ≡ cond b (t ++ drop (length t) l) l → out ≡ l
     longer t true e q = let z : _≡_ {A = ℕ} 0 1 = cc in absurd (omega arith)
     longer t false e q = q
 
-    go : (x : Outcome (List ℕ)) → refusal k ≡ onward x (λ t. textWritten t (length l)) → out ≡ held x l → out ≡ l
+    go : (x : Outcome (List ℕ)) → refusal k ≡ onward x (λ t. textWritten t (length l)) → out ≡ bufferHolds x l → out ≡ l
     go (answer t) e q = longer t (leb (length t) (length l)) e q
     go (refusal j) e q = q
 
@@ -99,21 +99,21 @@ module _ (rows : List Row) (sum : ℤ) (o : Outcome (List ℕ)) (l out : List �
       go false = refl
 
   pub buffer : out ≡ cond (tooEarly sum) l (cond (leb (length (d .text)) (length l)) (d .text ++ drop (length (d .text)) l) l)
-  unfolding held bufferAfter
-  buffer = c .holds ∙ ap (λ (x : Outcome (List ℕ)). held x l) (d .is) ∙ go (tooEarly sum)
+  unfolding bufferHolds bufferAfter
+  buffer = c .holds ∙ ap (λ (x : Outcome (List ℕ)). bufferHolds x l) (d .is) ∙ go (tooEarly sum)
     where
-      go : (b : Bool) → held (cond b (refusal 1) (answer (d .text))) l ≡ cond b l (cond (leb (length (d .text)) (length l)) (d .text ++ drop (length (d .text)) l) l)
+      go : (b : Bool) → bufferHolds (cond b (refusal 1) (answer (d .text))) l ≡ cond b l (cond (leb (length (d .text)) (length l)) (d .text ++ drop (length (d .text)) l) l)
       go true = refl
       go false = refl
 
 -- ---- DEMAND 3: all divisions of one date on the grid are alike in text for buffers of one length, whatever the rule of rounding
 module _ (how : Bool → ℕ → ℕ → ℕ) (rows : List Row) (x y x' y' : Float) (fx : T (fits binary64 x)) (fy : T (fits binary64 y)) (fx' : T (fits binary64 x')) (fy' : T (fits binary64 y'))
-    (a : OnGrid x) (b : OnGrid y) (a' : OnGrid x') (b' : OnGrid y') (e : exactSum a b ≡ exactSum a' b') (l out l' out' : List ℕ) (r r' : TextAnswer) (h : length l ≡ length l') where
+    (a : OnGrid x) (b : OnGrid y) (a' : OnGrid x') (b' : OnGrid y') (e : gridSum a b ≡ gridSum a' b') (l out l' out' : List ℕ) (r r' : TextAnswer) (h : length l ≡ length l') where
   pub divisions-alike-by : TextCall (isoTextBy how rows (julian x y)) l r out → TextCall (isoTextBy how rows (julian x' y')) l' r' out' → Alike l r out l' r' out'
   divisions-alike-by c c' =
       alike (isoTextBy how rows (julian x y)) l out l' out' r r' h c (subst (λ (o : Outcome (List ℕ)). TextCall o l' r' out') (sym (one-text how rows x y x' y' fx fy fx' fy' a b a' b' e)) c')
 
 pub divisions-alike : (rows : List Row) (x y x' y' : Float) → T (fits binary64 x) → T (fits binary64 y) → T (fits binary64 x') → T (fits binary64 y') → (a : OnGrid x) (b : OnGrid y) (a' : OnGrid x') (b' : OnGrid y')
-    → exactSum a b ≡ exactSum a' b' → (l out l' out' : List ℕ) (r r' : TextAnswer) → length l ≡ length l'
+    → gridSum a b ≡ gridSum a' b' → (l out l' out' : List ℕ) (r r' : TextAnswer) → length l ≡ length l'
     → TextCall (isoText rows (julian x y)) l r out → TextCall (isoText rows (julian x' y')) l' r' out' → Alike l r out l' r' out'
 divisions-alike = divisions-alike-by away

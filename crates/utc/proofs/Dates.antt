@@ -10,7 +10,7 @@ use mir.Facts.{toZ-ofZ, toZ-pos}
 use Rattle.refusals.specs.Outcome.{Outcome, answer, refusal, onward}
 use Rattle.calendar.specs.declared.CalendarDate.{CalendarDate}
 use Rattle.calendar.specs.Gregorian.{gregorianDate}
-use Rattle.calendar.proofs.Years.{InRange, gregorian-in-range}
+use Rattle.calendar.proofs.Years.{DateInRange, gregorian-in-range}
 use Rattle.day_number.specs.declared.DayNumber.{DayNumber}
 use Rattle.day_number.specs.Answer.{dayNumberAndFraction}
 use Rattle.julian.specs.declared.CalendarFields.{CalendarFields}
@@ -25,8 +25,8 @@ day-of x y f = go (dayNumberAndFraction x y)
     go (answer d) e = let s : fields (gregorianDate (d .day)) (d .fraction) ≡ f = cc in (d .day, sym (ap (λ (z : CalendarFields). z .date) s))
     go (refusal k) e = let z : _≡_ {A = ℕ} 0 1 = cc in absurd (omega arith)
 
-pub date-in-range : (x y : Float) (f : CalendarFields) → julianToCalendar x y ≡ answer f → InRange (f .date)
-date-in-range x y f e = let (n, p) = day-of x y f e in subst InRange (sym p) (gregorian-in-range n)
+pub date-in-range : (x y : Float) (f : CalendarFields) → julianToCalendar x y ≡ answer f → DateInRange (f .date)
+date-in-range x y f e = let (n, p) = day-of x y f e in subst DateInRange (sym p) (gregorian-in-range n)
 
 -- a date's fields at a call
 pub read-fields : {A : Type 0} (g : ℤ → ℤ → ℤ → A) (d : CalendarDate) → SFits w32 (d .year) → d .month ≤ 12 → d .day ≤ 31

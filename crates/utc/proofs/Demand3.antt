@@ -15,7 +15,7 @@ use Rattle.rounding.specs.Value.{Val}
 use Rattle.floats.specs.Whole.{away}
 use Rattle.calendar.specs.declared.CalendarDate.{CalendarDate}
 use Rattle.calendar.specs.Calendar.{dateOf, next}
-use Rattle.day_number.specs.ExactDay.{OnGrid, exactSum, InJulianRange, exactDay, exactFraction, fractionOf}
+use Rattle.day_number.specs.ExactDay.{OnGrid, gridSum, GridSumInRange, exactDay, exactFraction, fractionOf}
 use Rattle.day_number.specs.Ranges.{InDays}
 use Rattle.day_number.proofs.ExactDay.{exact-day, fraction-exact}
 use Rattle.julian.specs.JulianDate.{julian}
@@ -88,7 +88,7 @@ module _ (n : ℤ) (low : ltZ (dateOf n .year) (negsuc 4798) ≡ false) (i : InD
 
 -- ---- DEMAND 3, by any rule that rounds to a nearest whole number
 module _ (rows : List Row) (cases : (y m d : ℤ) (x : Float) → leapAtEndOfDay rows y m d ≡ answer x → Leap x) (how : Bool → ℕ → ℕ → ℕ) (rule : Nearest how) where
-  pub sum-demand : (sum : ℤ) → InJulianRange sum → TextDemand rows sum (sumText how rows sum)
+  pub sum-demand : (sum : ℤ) → GridSumInRange sum → TextDemand rows sum (sumText how rows sum)
   sum-demand sum range = go (tooEarly sum) refl
     where
       n : ℤ
@@ -131,11 +131,11 @@ module _ (rows : List Row) (cases : (y m d : ℤ) (x : Float) → leapAtEndOfDay
             right = λ q. right n e i F f leap v (shownOf how f leap) (shown-right-by how rule f leap (fraction-fits F) (fraction-of f F (2 ^ 52) (lit< tt) v below) (cases _ _ _ leap given));
           }
 
-  pub demand-3-by : (x y : Float) → T (fits binary64 x) → T (fits binary64 y) → (a : OnGrid x) (b : OnGrid y) → InJulianRange (exactSum a b) → TextDemand rows (exactSum a b) (isoTextBy how rows (julian x y))
+  pub demand-3-by : (x y : Float) → T (fits binary64 x) → T (fits binary64 y) → (a : OnGrid x) (b : OnGrid y) → GridSumInRange (gridSum a b) → TextDemand rows (gridSum a b) (isoTextBy how rows (julian x y))
   demand-3-by x y fx fy a b r =
-      subst (TextDemand rows (exactSum a b)) (sym (of-sum how rows (exactSum a b) r (julian x y) (record { first-float = fx; second-float = fy; first = a; second = b; sum-is = refl })))
-      (sum-demand (exactSum a b) r)
+      subst (TextDemand rows (gridSum a b)) (sym (of-sum how rows (gridSum a b) r (julian x y) (record { first-float = fx; second-float = fy; first = a; second = b; sum-is = refl })))
+      (sum-demand (gridSum a b) r)
 
 -- ---- DEMAND 3, by document 01's rule and the fixed table
-pub demand-3 : (x y : Float) → T (fits binary64 x) → T (fits binary64 y) → (a : OnGrid x) (b : OnGrid y) → InJulianRange (exactSum a b) → TextDemand fixed (exactSum a b) (isoText fixed (julian x y))
+pub demand-3 : (x y : Float) → T (fits binary64 x) → T (fits binary64 y) → (a : OnGrid x) (b : OnGrid y) → GridSumInRange (gridSum a b) → TextDemand fixed (gridSum a b) (isoText fixed (julian x y))
 demand-3 = demand-3-by fixed fixed-leaps away away-nearest

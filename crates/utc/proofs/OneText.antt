@@ -10,7 +10,7 @@ use lib.Ieee.{Float}
 use borrow.Author.Tests.{leb-true, leb-false}
 use Rattle.refusals.specs.Outcome.{answer, refusal}
 use Rattle.floats.specs.Whole.{away}
-use Rattle.day_number.specs.ExactDay.{InJulianRange}
+use Rattle.day_number.specs.ExactDay.{GridSumInRange}
 use Rattle.julian.specs.declared.JulianDate.{JulianDate}
 use Rattle.tai_utc.specs.Table.{Row, fixed}
 use Rattle.tai_utc.specs.Leap.{leapAtEndOfDay}
@@ -40,7 +40,7 @@ put t l out r = go (leb (length t) (length l)) refl
     go true p e q = fits-in (leb-true (length t) (length l) p) e q
     go false p e q = too-long (leb-false (length t) (length l) p) e q
 
-module _ (rows : List Row) (cases : (y m d : ℤ) (x : Float) → leapAtEndOfDay rows y m d ≡ answer x → Leap x) (how : Bool → ℕ → ℕ → ℕ) (rule : Nearest how) (sum : ℤ) (range : InJulianRange sum) where
+module _ (rows : List Row) (cases : (y m d : ℤ) (x : Float) → leapAtEndOfDay rows y m d ≡ answer x → Leap x) (how : Bool → ℕ → ℕ → ℕ) (rule : Nearest how) (sum : ℤ) (range : GridSumInRange sum) where
   demand : TextDemand rows sum (sumText how rows sum)
   demand = sum-demand rows cases how rule sum range
 
@@ -73,5 +73,5 @@ module _ (rows : List Row) (cases : (y m d : ℤ) (x : Float) → leapAtEndOfDay
     alike = λ jd d l r out c jd' d' l' r' out' c' h. alike (sumText how rows sum) l out l' out' r r' h (as-sum jd d l r out c) (as-sum jd' d' l' r' out' c');
   }
 
-pub text-for-every-buffer : (sum : ℤ) → InJulianRange sum → OneText away fixed sum
+pub text-for-every-buffer : (sum : ℤ) → GridSumInRange sum → OneText away fixed sum
 text-for-every-buffer = text-for-every-buffer-by fixed fixed-leaps away away-nearest

@@ -16,7 +16,7 @@ use Rattle.calendar.proofs.Accepted.{in-calendar-valid, year-refused}
 use Rattle.calendar.proofs.Days.{next-number-is-next-date}
 use Rattle.calendar.proofs.Gregorian.{gregorian-is-date-of-day}
 use Rattle.calendar.proofs.Mjd.{date-of-mjd}
-use Rattle.calendar.proofs.Years.{InRange, gregorian-in-range, validOf, year-before-first, from-lower, date-of-in-calendar}
+use Rattle.calendar.proofs.Years.{DateInRange, gregorian-in-range, validOf, year-before-first, from-lower, date-of-in-calendar}
 use Rattle.day_number.specs.Ranges.{InDays}
 use Rattle.julian_laws.proofs.CalendarDays.{not-above}
 
@@ -46,8 +46,8 @@ module _ (n : ℤ) (low : ltZ (dateOf n .year) (negsuc 4798) ≡ false) (i : InD
   from-first : ltZ n (negsuc 31737) ≡ false
   from-first = sym (year-before-first n counted) ∙ low
 
-  pub in-range : InRange (dateOf n)
-  in-range = subst InRange (gregorian-is-date-of-day n (from-lower n from-first) (not-above n (i .top))) (gregorian-in-range n)
+  pub in-range : DateInRange (dateOf n)
+  in-range = subst DateInRange (gregorian-is-date-of-day n (from-lower n from-first) (not-above n (i .top))) (gregorian-in-range n)
 
   pub date-valid : validOf (dateOf n) ≡ answer tt
   date-valid = in-calendar-valid (dateOf n) (date-of-in-calendar n) low
@@ -55,7 +55,7 @@ module _ (n : ℤ) (low : ltZ (dateOf n .year) (negsuc 4798) ≡ false) (i : InD
   pub next-is : dateOf (sucℤ n) ≡ next (dateOf n)
   next-is = next-number-is-next-date n counted
 
-  pub next-in-range : InRange (next (dateOf n))
+  pub next-in-range : DateInRange (next (dateOf n))
   next-in-range = go (ltZ (pos 999999999) n) refl
     where
       later : (z : ℤ) → ltZ z (negsuc 31737) ≡ false → ltZ (sucℤ z) (negsuc 68568) ≡ false
@@ -72,8 +72,8 @@ module _ (n : ℤ) (low : ltZ (dateOf n .year) (negsuc 4798) ≡ false) (i : InD
       last (pos a) e h = ap pos (omega (arith, ltb-true 999999999 a e))
       last (negsuc a) e h = cc
 
-      go : (b : Bool) → ltZ (pos 999999999) n ≡ b → InRange (next (dateOf n))
-      go false e = subst InRange (gregorian-is-date-of-day (sucℤ n) (later n from-first) (up-to n e) ∙ next-is) (gregorian-in-range (sucℤ n))
+      go : (b : Bool) → ltZ (pos 999999999) n ≡ b → DateInRange (next (dateOf n))
+      go false e = subst DateInRange (gregorian-is-date-of-day (sucℤ n) (later n from-first) (up-to n e) ∙ next-is) (gregorian-in-range (sucℤ n))
       go true e =
-          subst InRange (sym (ap (λ (z : ℤ). next (dateOf z)) (last n e (i .top)) ∙ ap next last-date ∙ after-last))
+          subst DateInRange (sym (ap (λ (z : ℤ). next (dateOf z)) (last n e (i .top)) ∙ ap next last-date ∙ after-last))
           (record { year-low = refl; year-high = refl; month-low = omega arith; month-high = omega arith; day-low = omega arith; day-high = omega arith })

@@ -11,7 +11,7 @@ use lib.Ieee.{binary64, fits}
 use lib.Ieee.Fits.{round-fits}
 use Rattle.refusals.specs.Outcome.{Outcome}
 use Rattle.calendar.specs.Calendar.{dateOf}
-use Rattle.day_number.specs.ExactDay.{InJulianRange, exactDay, exactFraction, fractionOf}
+use Rattle.day_number.specs.ExactDay.{GridSumInRange, exactDay, exactFraction, fractionOf}
 use Rattle.day_number.specs.Ranges.{InDays}
 use Rattle.julian.specs.declared.JulianDate.{JulianDate}
 use Rattle.julian_laws.proofs.CalendarDays.{day-low, day-high, exact-date}
@@ -20,7 +20,7 @@ use Rattle.utc.specs.IsoText.{dayTextBy, isoTextBy}
 use Rattle.utc.specs.OneText.{Division}
 use Rattle.utc.proofs.TextCalls.{fields-given-by}
 
-pub in-days : (sum : ℤ) → InJulianRange sum → InDays (exactDay sum)
+pub in-days : (sum : ℤ) → GridSumInRange sum → InDays (exactDay sum)
 in-days sum r = record { top = day-high sum r; bottom = omega (arith, day-low sum r) }
 
 pub fraction-fits : (u : ℕ) → T (fits binary64 (fractionOf u))
@@ -31,7 +31,7 @@ fraction-fits u = round-fits binary64 false u (2 ^ 52)
 abbrev pub sumText : (Bool → ℕ → ℕ → ℕ) → List Row → ℤ → Outcome (List ℕ)
 sumText how rows sum = dayTextBy how rows (dateOf (exactDay sum)) (fractionOf (exactFraction sum))
 
-pub of-sum : (how : Bool → ℕ → ℕ → ℕ) (rows : List Row) (sum : ℤ) → InJulianRange sum → (jd : JulianDate) → Division sum jd → isoTextBy how rows jd ≡ sumText how rows sum
+pub of-sum : (how : Bool → ℕ → ℕ → ℕ) (rows : List Row) (sum : ℤ) → GridSumInRange sum → (jd : JulianDate) → Division sum jd → isoTextBy how rows jd ≡ sumText how rows sum
 of-sum how rows sum r jd d =
     subst (λ (s : ℤ). isoTextBy how rows jd ≡ sumText how rows s) (d .sum-is)
-    (fields-given-by how rows jd _ (exact-date (jd .jd1) (jd .jd2) (d .first-float) (d .second-float) (d .first) (d .second) (subst InJulianRange (sym (d .sum-is)) r)))
+    (fields-given-by how rows jd _ (exact-date (jd .jd1) (jd .jd2) (d .first-float) (d .second-float) (d .first) (d .second) (subst GridSumInRange (sym (d .sum-is)) r)))

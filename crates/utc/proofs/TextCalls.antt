@@ -20,14 +20,14 @@ use Rattle.utc_text.specs.declared.TextAnswer.the-variants.{Refused}
 use Rattle.utc_text.specs.Answer.{textOutcome, TextPut}
 use Rattle.utc_text.specs.Text.{utcText}
 use Rattle.utc.specs.IsoText.{midnight, nextMidnightText, shownText, dayTextBy, dayText, isoTextBy, isoText}
-use Rattle.utc.specs.TextCall.{written, held, TextCall}
+use Rattle.utc.specs.TextCall.{written, bufferHolds, TextCall}
 
 pub call-refused : (o : Outcome (List ℕ)) (n : ℕ) (l : List ℕ) → o ≡ refusal n → TextCall o l (Refused n) l
-unfolding written held textOutcome onward
+unfolding written bufferHolds textOutcome onward
 call-refused o n l e = subst (λ (x : Outcome (List ℕ)). TextCall x l (Refused n) l) (sym e) (record { says = refl; holds = refl })
 
 pub call-put : (o : Outcome (List ℕ)) (t l out : List ℕ) (r : TextAnswer) → o ≡ answer t → TextPut t l r out → TextCall o l r out
-unfolding written held onward
+unfolding written bufferHolds onward
 call-put o t l out r e p = subst (λ (x : Outcome (List ℕ)). TextCall x l r out) (sym e) (record { says = p .says; holds = p .holds })
 
 pub call-as : (o x : Outcome (List ℕ)) (l out : List ℕ) (r : TextAnswer) → o ≡ x → TextCall x l r out → TextCall o l r out

@@ -10,7 +10,7 @@ use lib.ListN.{length, drop}
 use lib.Ieee.{Float, binary64, fits}
 use Rattle.refusals.specs.Outcome.{answer, refusal}
 use Rattle.calendar.specs.Calendar.{dateOf}
-use Rattle.day_number.specs.ExactDay.{OnGrid, exactSum, exactDay, exactFraction}
+use Rattle.day_number.specs.ExactDay.{OnGrid, gridSum, exactDay, exactFraction}
 use Rattle.julian.specs.declared.JulianDate.{JulianDate}
 use Rattle.tai_utc.specs.Table.{Row}
 use Rattle.tai_utc.specs.Leap.{leapAtEndOfDay}
@@ -27,7 +27,7 @@ pub record Division (sum : ℤ) (jd : JulianDate) : Type 0 where
   pub second-float : T (fits binary64 (jd .jd2))
   pub first : OnGrid (jd .jd1)
   pub second : OnGrid (jd .jd2)
-  pub sum-is : exactSum first second ≡ sum
+  pub sum-is : gridSum first second ≡ sum
 
 -- P holds of each call for the text of a division of the sum, milliseconds rounded by the rule `how`: of what the buffer held before, the answer, and what it
 -- holds after

@@ -14,14 +14,14 @@ unfoldable pub written : Outcome (List ℕ) → ℕ → Outcome ℕ
 written text n = onward text (λ t. textWritten t n)
 
 -- the buffer l is as it was where the text is refused
-unfoldable pub held : Outcome (List ℕ) → List ℕ → List ℕ
-held (answer t) l = bufferAfter t l
-held (refusal n) l = l
+unfoldable pub bufferHolds : Outcome (List ℕ) → List ℕ → List ℕ
+bufferHolds (answer t) l = bufferAfter t l
+bufferHolds (refusal n) l = l
 
 -- r answers the text, and the buffer, which held `before`, holds `after`
 pub record TextCall (text : Outcome (List ℕ)) (before : List ℕ) (r : TextAnswer) (after : List ℕ) : Type 0 where
   pub says : textOutcome r ≡ written text (length before)
-  pub holds : after ≡ held text before
+  pub holds : after ≡ bufferHolds text before
 
 -- two calls have one answer, the same bytes written, and each the rest of its own buffer; where they are refused, each the whole of it
 pub record Alike (l : List ℕ) (r : TextAnswer) (out : List ℕ) (l' : List ℕ) (r' : TextAnswer) (out' : List ℕ) : Type 0 where

@@ -11,7 +11,7 @@ use Rattle.floats.specs.Whole.{nought}
 use Rattle.rounding.proofs.Casts.{sub-le}
 use Rattle.rounding.proofs.Sizes.{Size, size-add, size-sub, size-mul, size-div, int-size, power-size}
 use Rattle.constants.specs.Constants.{secondsPerDay}
-use Rattle.day_number.specs.DayNumber.{accepted, dayOf, dayFraction}
+use Rattle.day_number.specs.DayNumber.{accepted, dayOf, fractionPassed}
 use Rattle.day_number.specs.Ranges.{InDays}
 use Rattle.day_number.proofs.Accepted.{accepted-pair}
 use Rattle.tai_utc.specs.declared.DayOffsets.{DayOffsets}
@@ -28,7 +28,7 @@ use Rattle.utc_scale_laws.proofs.OffsetSizes.{offset-size, Offsets, zer
 
 -- ---- a day's midnight and the fraction of it
 fraction-size : (x y : Float) → Fits x → Fits y → accepted x y ≡ true → Size (dayOf x y .fraction) 0
-unfolding dayOf dayFraction
+unfolding dayOf fractionPassed
 fraction-size x y f g e =
     let o = accepted-pair x y f g e in
     record { p = o .units; n = 0; val = o .val; high = omega (arith, o .below); low = omega arith }

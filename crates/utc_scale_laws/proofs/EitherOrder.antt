@@ -9,7 +9,7 @@ use lib.Ieee.{Float, nan, inf, fin, Format, binary64, up, down, round, sum, add}
 use borrow.Author.Tests.{ltb-true, ltb-false}
 use Rattle.day_number.specs.DayNumber.{inJulianRange, accepted}
 use Rattle.julian.specs.declared.JulianDate.{JulianDate}
-use Rattle.utc_scales.specs.LargerPart.{firstIsLarger, partsAs, partsOf}
+use Rattle.utc_scales.specs.LargerPart.{firstIsKept, keptAs, keptParts}
 
 -- -a / c + b / c
 unlike-turned : (f : Format) (a b c : ℕ) → sum f true a false b c ≡ sum f false b true a c
@@ -54,10 +54,10 @@ add-turned f (fin s m e) (fin t n d) =
     ∙ ap (λ (c : ℕ). sum f t (n * up d * down e) s (m * up e * down d) c) (mul-comm (down e) (down d))
 
 -- the larger part first, or jd1 first
-pub accepted-either : (d : JulianDate) → accepted (partsOf d .larger) (partsOf d .smaller) ≡ accepted (d .jd1) (d .jd2)
-unfolding partsOf accepted
-accepted-either d = go (firstIsLarger d)
+pub accepted-either : (d : JulianDate) → accepted (keptParts d .larger) (keptParts d .smaller) ≡ accepted (d .jd1) (d .jd2)
+unfolding keptParts accepted
+accepted-either d = go (firstIsKept d)
   where
-    go : (b : Bool) → inJulianRange (add binary64 (partsAs d b .larger) (partsAs d b .smaller)) ≡ inJulianRange (add binary64 (d .jd1) (d .jd2))
+    go : (b : Bool) → inJulianRange (add binary64 (keptAs d b .larger) (keptAs d b .smaller)) ≡ inJulianRange (add binary64 (d .jd1) (d .jd2))
     go true = refl
     go false = ap inJulianRange (add-turned binary64 (d .jd2) (d .jd1))

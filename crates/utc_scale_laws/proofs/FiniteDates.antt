@@ -28,12 +28,12 @@ use Rattle.scales.specs.Conversions.{answerOf, tai-ut1}
 use Rattle.scale_laws.specs.Ranges.{Held, Billion, FiniteParts}
 use Rattle.refusals.proofs.Onward.{went}
 use Rattle.shifts.proofs.Outcomes.{by-is}
-use Rattle.utc_scales.specs.LargerPart.{firstIsLarger, partsAs, partsOf, putAs, putBack, placed, changeSmaller}
+use Rattle.utc_scales.specs.LargerPart.{firstIsKept, keptAs, keptParts, besideAs, putBeside, placed, changeSmaller}
 use Rattle.utc_scales.specs.Dates.{offsetAt0h, offsetsOf}
 use Rattle.utc_scales.specs.UtcTai.{taiFromMidnight, taiFraction, utcToTai, moved, refined, rounds, refineUtcFraction, taiToUtc}
 use Rattle.utc_scales.specs.UtcUt1.{utcToUt1, beforeStep, timePastLeap, atMostOne, afterStep, nearStep, Scanned, noStep, step, scanDay, untilStep, scan, adjustDut1, utcFraction, ut1ToUtc}
 use Rattle.utc_scale_laws.specs.Claims.{Holds, answers, SixOrOne, Fits}
-use Rattle.utc_scales.proofs.Midnights.{midnight, offset-early, offsets-early}
+use Rattle.utc_scales.proofs.Midnights.{midnightOfDay, offset-early, offsets-early}
 use Rattle.utc_scales.proofs.Steps.{tai-no-date, tai-no-offsets, tai-of-day, scan-no-date, scan-no-offset, scan-no-step, scan-step}
 use Rattle.utc_scale_laws.proofs.Outcomes.{holds-answer, holds-refusal, holds-onward, holds-more}
 use Rattle.utc_scale_laws.proofs.Days.{dateIn, Kind, outside, before, valid, kind, offset-answered, offsets-answered}
@@ -91,23 +91,23 @@ record Sized (k : ℕ) (d : JulianDate) : Type 0 where
   first : Size (d .jd1) k
   second : Size (d .jd2) k
 
-parts-size : (k : ℕ) (d : JulianDate) → Sized k d → Size (partsOf d .larger) k × Size (partsOf d .smaller) k
-unfolding partsOf
-parts-size k d s = go (firstIsLarger d)
+parts-size : (k : ℕ) (d : JulianDate) → Sized k d → Size (keptParts d .larger) k × Size (keptParts d .smaller) k
+unfolding keptParts
+parts-size k d s = go (firstIsKept d)
   where
-    go : (b : Bool) → Size (partsAs d b .larger) k × Size (partsAs d b .smaller) k
+    go : (b : Bool) → Size (keptAs d b .larger) k × Size (keptAs d b .smaller) k
     go true = (s .first, s .second)
     go false = (s .second, s .first)
 
-put-size : (k : ℕ) (d : JulianDate) (x : Float) → Size (partsOf d .larger) k → Size x k → Sized k (putBack (partsOf d) x)
-unfolding putBack
-put-size k d x s w = go (partsOf d .first)
+put-size : (k : ℕ) (d : JulianDate) (x : Float) → Size (keptParts d .larger) k → Size x k → Sized k (putBeside (keptParts d) x)
+unfolding putBeside
+put-size k d x s w = go (keptParts d .first)
   where
-    go : (b : Bool) → Sized k (putAs b (partsOf d .larger) x)
+    go : (b : Bool) → Sized k (besideAs b (keptParts d .larger) x)
     go true = record { first = s; second = w }
     go false = record { first = w; second = s }
 
-changed-size : (k : ℕ) {R : ℕ → Type 0} (f : Float → Float → Outcome Float) (d : JulianDate) → Size (partsOf d .larger) k → Holds (λ z. Size z k) R (f (partsOf d .larger) (partsOf d .smaller)) → Holds (Sized k) R (changeSmaller f d)
+changed-size : (k : ℕ) {R : ℕ → Type 0} (f : Float → Float → Outcome Float) (d : JulianDate) → Size (keptParts d .larger) k → Holds (λ z. Size z k) R (f (keptParts d .larger) (keptParts d .smaller)) → Holds (Sized k) R (changeSmaller f d)
 unfolding changeSmaller placed
 changed-size k f d s h = holds-onward _ h (λ x w. answers (put-size k d x s w))
 
@@ -116,7 +116,7 @@ unfolding utcToTai
 utc-size k w d h s =
     let p = parts-fit d h in
     let q = parts-size k d s in
-    changed-size (k + 3) (taiFraction fixed) d (size-more k (k + 3) (w .wide) (q .0)) (tai-size k w (partsOf d .larger) (partsOf d .smaller) (p .0) (p .1) (q .0))
+    changed-size (k + 3) (taiFraction fixed) d (size-more k (k + 3) (w .wide) (q .0)) (tai-size k w (keptParts d .larger) (keptParts d .smaller) (p .0) (p .1) (q .0))
 
 -- ---- TAI to UTC
 record Guess (k : ℕ) (x : Float) : Type 0 where
@@ -162,7 +162,7 @@ tai-to-utc-finite d h =
     let p = parts-fit d (held d h) in
     let q = parts-size 52 d (small-size d h) in
     holds-more (finite-parts 70) (λ n r. r)
-    (changed-size 70 (refineUtcFraction fixed) d (size-more 52 70 (lit≤ tt) (q .0)) (rounds-size (partsOf d .larger) (partsOf d .smaller) (p .0) (record { fits = p .1; size = q .1 }) (q .0)))
+    (changed-size 70 (refineUtcFraction fixed) d (size-more 52 70 (lit≤ tt) (q .0)) (rounds-size (keptParts d .larger) (keptParts d .smaller) (p .0) (record { fits = p .1; size = q .1 }) (q .0)))
 
 -- ---- UTC to UT1: so never 9, and 10 for DUT1 alone
 billion-val : Val (decimal 1000000000 0) (1000000000 * L) 0 L
@@ -215,21 +215,21 @@ module _ (big small dut1 : Float) (fb : Fits big) (sb : Size big 52) (ss : Size 
   unfolding beforeStep
   before-size delta s = either-size (le nought (mul binary64 delta dut1)) 31 (size-sub 30 12 31 (lit≤ tt) (lit≤ tt) sd s) (size-more 30 31 (lit≤ tt) sd)
 
-  past-size : (n : ℤ) → InDays n → (x : Float) → Size x 31 → Size (timePastLeap big small (midnight n) x) 54
+  past-size : (n : ℤ) → InDays n → (x : Float) → Size x 31 → Size (timePastLeap big small (midnightOfDay n) x) 54
   unfolding timePastLeap
   past-size n r x t =
       size-add 53 53 54 (lit≤ tt) (lit≤ tt) (size-sub 52 22 53 (lit≤ tt) (lit≤ tt) sb zero-point-size)
       (size-sub 52 33 53 (lit≤ tt) (lit≤ tt) ss
       (size-add 32 31 33 (lit≤ tt) (lit≤ tt) (size-sub 31 0 32 (lit≤ tt) (lit≤ tt) (midnight-size n r) (power-size 0)) (size-div 31 (lit≤ tt) t day-above)))
 
-  step-size : (delta : Float) (n : ℤ) → Size delta 12 → InDays n → Size (nearStep big small dut1 delta (midnight n)) 84
+  step-size : (delta : Float) (n : ℤ) → Size delta 12 → InDays n → Size (nearStep big small dut1 delta (midnightOfDay n)) 84
   unfolding nearStep afterStep atMostOne
   step-size delta n s r =
       let d = before-size delta s in
-      either-size (lt nought (timePastLeap big small (midnight n) (beforeStep delta dut1))) 84
+      either-size (lt nought (timePastLeap big small (midnightOfDay n) (beforeStep delta dut1))) 84
       (size-add 31 83 84 (lit≤ tt) (lit≤ tt) d
       (size-mul 12 71 (lit≤ tt) s
-      (either-size (lt (div binary64 (mul binary64 (timePastLeap big small (midnight n) (beforeStep delta dut1)) secondsPerDay) (add binary64 secondsPerDay delta)) one) 71
+      (either-size (lt (div binary64 (mul binary64 (timePastLeap big small (midnightOfDay n) (beforeStep delta dut1)) secondsPerDay) (add binary64 secondsPerDay delta)) one) 71
       (size-div 71 (lit≤ tt) (size-mul 54 17 (lit≤ tt) (past-size n r _ d) day-size) (day-more-above s)) (size-more 0 71 (lit≤ tt) (power-size 0)))))
       (size-more 31 84 (lit≤ tt) d)
 
@@ -281,4 +281,4 @@ ut1-to-utc-finite d dut1 h b =
     let w = billion-size dut1 b in
     subst (λ (o : Outcome JulianDate). Holds FiniteParts SixOrOne o) (sym (went _ (offset-answers dut1 30 w) ∙ went _ (date-answers d s)))
     (holds-more (finite-parts 85) (λ n r. r)
-    (changed-size 85 (utcFraction fixed dut1) d (size-more 52 85 (lit≤ tt) (q .0)) (utc-part-size (partsOf d .larger) (partsOf d .smaller) dut1 (p .0) (q .0) (q .1) w)))
+    (changed-size 85 (utcFraction fixed dut1) d (size-more 52 85 (lit≤ tt) (q .0)) (utc-part-size (keptParts d .larger) (keptParts d .smaller) dut1 (p .0) (q .0) (q .1) w)))

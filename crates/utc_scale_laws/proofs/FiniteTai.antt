@@ -23,11 +23,11 @@ use Rattle.tai_utc.specs.declared.DayOffsets.{DayOffsets}
 use Rattle.tai_utc.specs.Table.{fixed}
 use Rattle.scale_laws.specs.Ranges.{Held, FiniteParts}
 use Rattle.scale_laws.proofs.Shifts.{Small, added, taken-from, mjd-small}
-use Rattle.utc_scales.specs.LargerPart.{partsOf, putAs, putBack, placed, changeSmaller}
+use Rattle.utc_scales.specs.LargerPart.{keptParts, besideAs, putBeside, placed, changeSmaller}
 use Rattle.utc_scales.specs.Dates.{offsetsOf}
 use Rattle.utc_scales.specs.UtcTai.{taiFromMidnight, taiFraction, utcToTai}
 use Rattle.utc_scale_laws.specs.Claims.{Holds, answers, SixOrOne, Fits}
-use Rattle.utc_scales.proofs.Midnights.{midnight, offsets-early}
+use Rattle.utc_scales.proofs.Midnights.{midnightOfDay, offsets-early}
 use Rattle.utc_scales.proofs.Steps.{tai-no-date, tai-no-offsets, tai-of-day}
 use Rattle.utc_scale_laws.proofs.Outcomes.{holds-answer, holds-refusal, holds-onward}
 use Rattle.utc_scale_laws.proofs.Days.{dateIn, Kind, outside, before, valid, kind, offsets-answered}
@@ -49,7 +49,7 @@ kept-finite x y f a = val-finite-true (own-val x (own x f (accepted-finite x y a
 
 -- ---- the smaller part
 from-midnight-finite : (x y : Float) → Fits x → Fits y → accepted x y ≡ true → InDays (dayOf x y .day) → (o : DayOffsets) → Offsets o
-    → finite (taiFromMidnight x (midnight (dayOf x y .day)) o (dayOf x y .fraction)) ≡ true
+    → finite (taiFromMidnight x (midnightOfDay (dayOf x y .day)) o (dayOf x y .fraction)) ≡ true
 unfolding taiFromMidnight
 from-midnight-finite x y f g a r o z =
     added (size-small 37 (lit≤ tt) (since-midnight-size x y f g a o z)) _ (add-fits binary64 _ _)
@@ -75,11 +75,11 @@ tai-finite x y f g = go (kind x y f g)
         (record { kept = kept-finite x y f a; given = from-midnight-finite x y f g a r (o .0) z })
 
 -- ---- THE THEOREM
-put-finite : (d : JulianDate) (x : Float) → Both (partsOf d .larger) x → FiniteParts (putBack (partsOf d) x)
-unfolding putBack
-put-finite d x h = go (partsOf d .first)
+put-finite : (d : JulianDate) (x : Float) → Both (keptParts d .larger) x → FiniteParts (putBeside (keptParts d) x)
+unfolding putBeside
+put-finite d x h = go (keptParts d .first)
   where
-    go : (b : Bool) → FiniteParts (putAs b (partsOf d .larger) x)
+    go : (b : Bool) → FiniteParts (besideAs b (keptParts d .larger) x)
     go true = (h .kept, h .given)
     go false = (h .given, h .kept)
 
@@ -87,4 +87,4 @@ pub utc-to-tai-never-infinite : (d : JulianDate) → Held d → Holds FinitePart
 unfolding utcToTai changeSmaller placed
 utc-to-tai-never-infinite d h =
     let p = parts-fit d h in
-    holds-onward _ (tai-finite (partsOf d .larger) (partsOf d .smaller) (p .0) (p .1)) (λ x w. answers (put-finite d x w))
+    holds-onward _ (tai-finite (keptParts d .larger) (keptParts d .smaller) (p .0) (p .1)) (λ x w. answers (put-finite d x w))

@@ -9,25 +9,25 @@ use Rattle.refusals.specs.Outcome.{Outcome, answer, refusal, onward}
 use Rattle.julian.specs.declared.JulianDate.{JulianDate}
 use Rattle.julian.specs.Finite.{finiteParts, finiteJd, finiteArg}
 use Rattle.tai_utc.specs.Table.{Row}
-use Rattle.utc_scales.specs.LargerPart.{firstIsLarger, partsAs, partsOf, putBack, placed, changeSmaller}
+use Rattle.utc_scales.specs.LargerPart.{firstIsKept, keptAs, keptParts, putBeside, placed, changeSmaller}
 use Rattle.utc_scales.specs.UtcTai.{taiFraction, utcToTai, refineUtcFraction, taiToUtc}
 use Rattle.utc_scales.specs.UtcUt1.{utcFraction, ut1ToUtc}
 use Rattle.utc_scale_laws.specs.Claims.{partAt, KeepsLarger}
 use Rattle.refusals.proofs.Onward.{came}
 
-placed-keeps : (d : JulianDate) (x : Float) → KeepsLarger d (putBack (partsOf d) x)
-unfolding partsOf putBack
-placed-keeps d x = go (firstIsLarger d)
+placed-keeps : (d : JulianDate) (x : Float) → KeepsLarger d (putBeside (keptParts d) x)
+unfolding keptParts putBeside
+placed-keeps d x = go (firstIsKept d)
   where
-    go : (b : Bool) → partAt b (putBack (partsAs d b) x) ≡ partAt b d
+    go : (b : Bool) → partAt b (putBeside (keptAs d b) x) ≡ partAt b d
     go true = refl
     go false = refl
 
 changed-keeps : (f : Float → Float → Outcome Float) (d u : JulianDate) → changeSmaller f d ≡ answer u → KeepsLarger d u
 unfolding changeSmaller placed
 changed-keeps f d u e =
-    let (x, p, q) = came (f (partsOf d .larger) (partsOf d .smaller)) (placed (partsOf d)) u e in
-    let s : putBack (partsOf d) x ≡ u = cc in
+    let (x, p, q) = came (f (keptParts d .larger) (keptParts d .smaller)) (placed (keptParts d)) u e in
+    let s : putBeside (keptParts d) x ≡ u = cc in
     subst (KeepsLarger d) s (placed-keeps d x)
 
 pub utc-to-tai-keeps : (rows : List Row) (d u : JulianDate) → utcToTai rows d ≡ answer u → KeepsLarger d u

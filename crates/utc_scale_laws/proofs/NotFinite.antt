@@ -15,7 +15,7 @@ use Rattle.julian.specs.JulianDate.{julian}
 use Rattle.julian.specs.Finite.{bothFinite, finiteParts, finiteJd, finiteArg}
 use Rattle.tai_utc.specs.Table.{Row}
 use Rattle.refusals.proofs.Onward.{went, stopped}
-use Rattle.utc_scales.specs.LargerPart.{firstIsLarger, partsAs, partsOf, changeSmaller}
+use Rattle.utc_scales.specs.LargerPart.{firstIsKept, keptAs, keptParts, changeSmaller}
 use Rattle.utc_scales.specs.UtcTai.{utcToTai, refined, rounds, refineUtcFraction, taiToUtc}
 use Rattle.utc_scales.specs.UtcUt1.{utcToUt1, ut1ToUtc}
 use Rattle.utc_scales.proofs.Steps.{tai-no-date}
@@ -39,21 +39,21 @@ turned true false = refl
 turned false true = refl
 turned false false = refl
 
-parts-not : (d : JulianDate) → finiteParts d ≡ false → bothFinite (partsOf d .larger) (partsOf d .smaller) ≡ false
-unfolding partsOf
-parts-not d e = go (firstIsLarger d)
+parts-not : (d : JulianDate) → finiteParts d ≡ false → bothFinite (keptParts d .larger) (keptParts d .smaller) ≡ false
+unfolding keptParts
+parts-not d e = go (firstIsKept d)
   where
-    go : (b : Bool) → bothFinite (partsAs d b .larger) (partsAs d b .smaller) ≡ false
+    go : (b : Bool) → bothFinite (keptAs d b .larger) (keptAs d b .smaller) ≡ false
     go true = e
     go false = turned (finite (d .jd1)) (finite (d .jd2)) ∙ e
 
 pub utc-to-tai-not-finite : (rows : List Row) (d : JulianDate) → finiteParts d ≡ false → utcToTai rows d ≡ refusal 6
 unfolding utcToTai changeSmaller
-utc-to-tai-not-finite rows d e = let p = partsOf d in stopped _ (tai-no-date (p .larger) (p .smaller) 6 (refused (p .larger) (p .smaller) (not-accepted (p .larger) (p .smaller) (parts-not d e))) rows)
+utc-to-tai-not-finite rows d e = let p = keptParts d in stopped _ (tai-no-date (p .larger) (p .smaller) 6 (refused (p .larger) (p .smaller) (not-accepted (p .larger) (p .smaller) (parts-not d e))) rows)
 
 pub tai-to-utc-not-finite : (rows : List Row) (d : JulianDate) → finiteParts d ≡ false → taiToUtc rows d ≡ refusal 6
 unfolding taiToUtc changeSmaller refineUtcFraction rounds refined
-tai-to-utc-not-finite rows d e = let p = partsOf d in stopped _ (stopped _ (stopped _ (utc-to-tai-not-finite rows (julian (p .larger) (p .smaller)) (parts-not d e))))
+tai-to-utc-not-finite rows d e = let p = keptParts d in stopped _ (stopped _ (stopped _ (utc-to-tai-not-finite rows (julian (p .larger) (p .smaller)) (parts-not d e))))
 
 -- ---- DUT1
 offset-finite : (x : Float) (b : Bool) → finite x ≡ b → finiteArg x ≡ cond b (answer x) (refusal 10)

@@ -19,7 +19,7 @@ use Rattle.rounding.proofs.Near.{NearSum, add-near}
 use Rattle.rounding.proofs.Casts.{plusZ, minusZ}
 use Rattle.rounding.proofs.Sizes.{Size, size-add, size-sub, mul-small, decimal-size, int-size, whole-val, Above}
 use Rattle.constants.specs.Constants.{secondsPerDay, mjdZeroPoint}
-use Rattle.calendar.specs.Calendar.{leap}
+use Rattle.calendar.specs.Calendar.{leapYear}
 use Rattle.calendar.specs.Refusals.{nextOf}
 use Rattle.calendar.specs.DayCount.{marchCount, civilCount, mjdNumber, mjdOf}
 use Rattle.calendar.proofs.Accepted.{accepted, short}
@@ -153,7 +153,7 @@ unfolding mjdNumber
 mjd-size y m d n e p q =
     let v = mjd-valid y m d n e in
     let a = accepted y m d v in
-    let s = short (leap y) (natAbs m) (a .m-low) (a .m-high) in
+    let s = short (leapYear y) (natAbs m) (a .m-low) (a .m-high) in
     let h = mid-at y (natAbs m) (natAbs d) (a .m-low) (a .m-high) (omega (arith, a .d-high, s)) p q in
     subst (λ (z : ℤ). Size (ofInt binary64 z) 16) (same-answer (sym (mjd-given y m d v) ∙ e)) (int-size 16 _ (lit≤ tt) (h .0) (h .1))
 

@@ -14,7 +14,7 @@ use Rattle.day_number.proofs.ExactDay.{alike}
 use Rattle.julian.specs.declared.JulianDate.{JulianDate}
 use Rattle.tai_utc.specs.Table.{fixed}
 use Rattle.scale_laws.specs.Ranges.{Held}
-use Rattle.utc_scales.specs.LargerPart.{firstIsLarger, partsAs, partsOf}
+use Rattle.utc_scales.specs.LargerPart.{firstIsKept, keptAs, keptParts}
 use Rattle.utc_scales.specs.UtcUt1.{utcToUt1}
 use Rattle.utc_scale_laws.specs.Claims.{DecidedUt1, earlyDay, earlyUtc, OneDay, Fits}
 use Rattle.utc_scale_laws.proofs.EitherOrder.{add-turned}
@@ -34,12 +34,12 @@ day-turned x y f g a b e =
 module _ (d : JulianDate) (h : Held d) where
   -- the day of the larger part and the smaller one is that of jd1 and jd2
   one-day : OneDay d → accepted (d .jd1) (d .jd2) ≡ true → earlyUtc d ≡ earlyDay (d .jd1) (d .jd2)
-  unfolding partsOf
+  unfolding keptParts
   one-day (inl l) e =
-      ap (λ (b : Bool). earlyDay (partsAs d b .larger) (partsAs d b .smaller) || earlyDay (d .jd1) (d .jd2)) l ∙ twice (earlyDay (d .jd1) (d .jd2))
-  one-day (inr (a, b)) e = go (firstIsLarger d) ∙ twice (earlyDay (d .jd1) (d .jd2))
+      ap (λ (b : Bool). earlyDay (keptAs d b .larger) (keptAs d b .smaller) || earlyDay (d .jd1) (d .jd2)) l ∙ twice (earlyDay (d .jd1) (d .jd2))
+  one-day (inr (a, b)) e = go (firstIsKept d) ∙ twice (earlyDay (d .jd1) (d .jd2))
     where
-      go : (b : Bool) → (earlyDay (partsAs d b .larger) (partsAs d b .smaller) || earlyDay (d .jd1) (d .jd2))
+      go : (b : Bool) → (earlyDay (keptAs d b .larger) (keptAs d b .smaller) || earlyDay (d .jd1) (d .jd2))
           ≡ (earlyDay (d .jd1) (d .jd2) || earlyDay (d .jd1) (d .jd2))
       go true = refl
       go false = rw (day-turned (d .jd1) (d .jd2) (h .0) (h .1) a b e)

@@ -21,7 +21,7 @@ use Rattle.scales.specs.Conversions.{answerOf, tai-ut1}
 use Rattle.scale_laws.specs.Ranges.{Held}
 use Rattle.refusals.proofs.Onward.{went, stopped}
 use Rattle.shifts.proofs.Outcomes.{first-by}
-use Rattle.utc_scales.specs.LargerPart.{firstIsLarger, partsAs, partsOf, placed, changeSmaller}
+use Rattle.utc_scales.specs.LargerPart.{firstIsKept, keptAs, keptParts, placed, changeSmaller}
 use Rattle.utc_scales.specs.Dates.{offsetOfDate, offsetAt0h}
 use Rattle.utc_scales.specs.UtcTai.{taiFraction, utcToTai, moved, refined, rounds, refineUtcFraction, taiToUtc}
 use Rattle.utc_scales.specs.UtcUt1.{utcToUt1, Scanned, noStep, step, scanDay, untilStep, scan, adjustDut1, utcFraction, ut1ToUtc}
@@ -58,33 +58,33 @@ tai-fraction-refuses rows x y f g = go (tai rows x y f g)
     go (given-tai a b z e) = holds-answer z e tt
 
 -- ---- the parts
-pub parts-fit : (d : JulianDate) → Held d → T (fits binary64 (partsOf d .larger)) × T (fits binary64 (partsOf d .smaller))
-unfolding partsOf
-parts-fit d h = go (firstIsLarger d)
+pub parts-fit : (d : JulianDate) → Held d → T (fits binary64 (keptParts d .larger)) × T (fits binary64 (keptParts d .smaller))
+unfolding keptParts
+parts-fit d h = go (firstIsKept d)
   where
-    go : (b : Bool) → T (fits binary64 (partsAs d b .larger)) × T (fits binary64 (partsAs d b .smaller))
+    go : (b : Bool) → T (fits binary64 (keptAs d b .larger)) × T (fits binary64 (keptAs d b .smaller))
     go true = h
     go false = (h .1, h .0)
 
-placed-any : {R : ℕ → Type 0} (d : JulianDate) (o : Outcome Float) → Holds Any R o → Holds Any R (onward o (placed (partsOf d)))
+placed-any : {R : ℕ → Type 0} (d : JulianDate) (o : Outcome Float) → Holds Any R o → Holds Any R (onward o (placed (keptParts d)))
 unfolding placed
-placed-any d o h = holds-onward (placed (partsOf d)) h (λ x _. answers tt)
+placed-any d o h = holds-onward (placed (keptParts d)) h (λ x _. answers tt)
 
 -- ---- UTC to TAI
 pub utc-to-tai-decided : (rows : List Row) (d : JulianDate) → Held d
-    → C.Decided (accepted (partsOf d .larger) (partsOf d .smaller)) (C.earlyDay (partsOf d .larger) (partsOf d .smaller)) (utcToTai rows d)
+    → C.DecidedDay (accepted (keptParts d .larger) (keptParts d .smaller)) (C.earlyDay (keptParts d .larger) (keptParts d .smaller)) (utcToTai rows d)
 unfolding utcToTai changeSmaller placed
-utc-to-tai-decided rows d h = let p = parts-fit d h in go (tai rows (partsOf d .larger) (partsOf d .smaller) (p .0) (p .1))
+utc-to-tai-decided rows d h = let p = parts-fit d h in go (tai rows (keptParts d .larger) (keptParts d .smaller) (p .0) (p .1))
   where
-    go : Tai rows (partsOf d .larger) (partsOf d .smaller)
-        → C.Decided (accepted (partsOf d .larger) (partsOf d .smaller)) (C.earlyDay (partsOf d .larger) (partsOf d .smaller)) (utcToTai rows d)
+    go : Tai rows (keptParts d .larger) (keptParts d .smaller)
+        → C.DecidedDay (accepted (keptParts d .larger) (keptParts d .smaller)) (C.earlyDay (keptParts d .larger) (keptParts d .smaller)) (utcToTai rows d)
     go (outside-tai p e) = by-six _ _ p (stopped _ e)
     go (early-tai p q e) = by-one _ _ p q (stopped _ e)
     go (given-tai p q f e) = by-date _ _ p q _ (went _ e)
 
 pub utc-to-tai-refuses : (rows : List Row) (d : JulianDate) → Held d → Holds Any SixOrOne (utcToTai rows d)
 unfolding utcToTai changeSmaller
-utc-to-tai-refuses rows d h = let p = parts-fit d h in placed-any d _ (tai-fraction-refuses rows (partsOf d .larger) (partsOf d .smaller) (p .0) (p .1))
+utc-to-tai-refuses rows d h = let p = parts-fit d h in placed-any d _ (tai-fraction-refuses rows (keptParts d .larger) (keptParts d .smaller) (p .0) (p .1))
 
 -- ---- TAI to UTC
 refined-refuses : (rows : List Row) (big small guess : Float) → Fits big → Fits guess → Holds Fits SixOrOne (refined rows big small guess)
@@ -100,7 +100,7 @@ pub tai-to-utc-refuses : (rows : List Row) (d : JulianDate) → Held d → Holds
 unfolding taiToUtc changeSmaller refineUtcFraction
 tai-to-utc-refuses rows d h =
     let p = parts-fit d h in
-    placed-any d _ (holds-more (λ x _. tt) (λ n r. r) (rounds-refuses rows (partsOf d .larger) (partsOf d .smaller) (p .0) 3 (partsOf d .smaller) (p .1)))
+    placed-any d _ (holds-more (λ x _. tt) (λ n r. r) (rounds-refuses rows (keptParts d .larger) (keptParts d .smaller) (p .0) 3 (keptParts d .smaller) (p .1)))
 
 -- ---- UT1 to UTC
 offset-refuses : (rows : List Row) (x y : Float) → Fits x → Fits y → Holds Any SixOrOne (offsetOfDate rows x y)
@@ -162,7 +162,7 @@ pub ut1-to-utc-refuses : (rows : List Row) (d : JulianDate) (dut1 : Float) → H
 unfolding ut1ToUtc changeSmaller
 ut1-to-utc-refuses rows d dut1 h =
     holds-onward _ (dut1-refuses dut1) (λ _ _. holds-onward _ (date-refuses d h) (λ e g.
-    placed-any e _ (holds-more (λ x u. u) wider (fraction-refuses rows (partsOf e .larger) (partsOf e .smaller) dut1 (parts-fit e g .0)))))
+    placed-any e _ (holds-more (λ x u. u) wider (fraction-refuses rows (keptParts e .larger) (keptParts e .smaller) dut1 (parts-fit e g .0)))))
 
 -- ---- UTC to UT1
 later-refuses : (d : JulianDate) (seconds : Float) → Holds Any TenNineSixOrOne (answerOf (tai-ut1 seconds) d)

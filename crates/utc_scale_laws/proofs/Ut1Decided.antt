@@ -19,11 +19,11 @@ use Rattle.scale_laws.specs.Ranges.{Held, FiniteParts}
 use Rattle.refusals.proofs.Onward.{went, stopped}
 use Rattle.shifts.proofs.Outcomes.{by-is}
 use Rattle.scale_laws.proofs.Shifts.{taken}
-use Rattle.utc_scales.specs.LargerPart.{partsOf}
+use Rattle.utc_scales.specs.LargerPart.{keptParts}
 use Rattle.utc_scales.specs.Dates.{offsetOfDate}
 use Rattle.utc_scales.specs.UtcTai.{utcToTai}
 use Rattle.utc_scales.specs.UtcUt1.{utcToUt1}
-use Rattle.utc_scale_laws.specs.Claims.{Holds, Any, SixOrOne, Decided, DecidedUt1, earlyDay, earlyUtc, Fits}
+use Rattle.utc_scale_laws.specs.Claims.{Holds, Any, SixOrOne, DecidedDay, DecidedUt1, earlyDay, earlyUtc, Fits}
 use Rattle.utc_scales.proofs.Midnights.{offset-early}
 use Rattle.utc_scales.proofs.Steps.{offset-of-day}
 use Rattle.utc_scale_laws.proofs.Outcomes.{holds-answer, holds-refusal, holds-at}
@@ -62,13 +62,13 @@ module _ (d : JulianDate) (dut1 : Float) (h : Held d) (f : Fits dut1) (e : finit
       (w .0, went _ started ∙ went _ t ∙ went _ o ∙ w .1)
 
   -- by TAI, and by TAI-UTC of the day of jd1 and jd2
-  decided : Decided (accepted (d .jd1) (d .jd2)) (earlyUtc d) (utcToUt1 fixed d dut1)
+  decided : DecidedDay (accepted (d .jd1) (d .jd2)) (earlyUtc d) (utcToUt1 fixed d dut1)
   decided =
-      by-tai (accepted (partsOf d .larger) (partsOf d .smaller)) (accepted-either d)
-      (earlyDay (partsOf d .larger) (partsOf d .smaller)) (utc-to-tai-decided fixed d h)
+      by-tai (accepted (keptParts d .larger) (keptParts d .smaller)) (accepted-either d)
+      (earlyDay (keptParts d .larger) (keptParts d .smaller)) (utc-to-tai-decided fixed d h)
     where
       by-offset : (u : JulianDate) → utcToTai fixed d ≡ answer u → accepted (d .jd1) (d .jd2) ≡ true → Kind (d .jd1) (d .jd2)
-          → Decided (accepted (d .jd1) (d .jd2)) (earlyDay (d .jd1) (d .jd2)) (utcToUt1 fixed d dut1)
+          → DecidedDay (accepted (d .jd1) (d .jd2)) (earlyDay (d .jd1) (d .jd2)) (utcToUt1 fixed d dut1)
       by-offset u t p (outside a k) = absurd (true≢false (sym p ∙ a))
       by-offset u t p (before a k b v) = by-one _ _ a b (no-offset u t 1 (offset-of-day fixed (d .jd1) (d .jd2) _ k ∙ offset-early fixed _ v))
       by-offset u t p (valid a k b v r) =
@@ -76,8 +76,8 @@ module _ (d : JulianDate) (dut1 : Float) (h : Held d) (f : Fits dut1) (e : finit
           let w = given u t (o .0) (offset-of-day fixed (d .jd1) (d .jd2) _ k ∙ o .1) in
           by-date _ _ a b (w .0) (w .1)
 
-      by-tai : (a : Bool) → a ≡ accepted (d .jd1) (d .jd2) → (b : Bool) → Decided a b (utcToTai fixed d)
-          → Decided (accepted (d .jd1) (d .jd2)) (b || earlyDay (d .jd1) (d .jd2)) (utcToUt1 fixed d dut1)
+      by-tai : (a : Bool) → a ≡ accepted (d .jd1) (d .jd2) → (b : Bool) → DecidedDay a b (utcToTai fixed d)
+          → DecidedDay (accepted (d .jd1) (d .jd2)) (b || earlyDay (d .jd1) (d .jd2)) (utcToUt1 fixed d dut1)
       by-tai false p b t = by-six _ _ (sym p) (refused 6 t)
       by-tai true p true t = by-one _ _ (sym p) refl (refused 1 t)
       by-tai true p false (u, t) = by-offset u t (sym p) (kind (d .jd1) (d .jd2) (h .0) (h .1))
@@ -94,7 +94,7 @@ utc-to-ut1-decided d dut1 h f = go (finite dut1) refl
 pub utc-to-ut1-six-or-one : (d : JulianDate) (dut1 : Float) → Held d → Fits dut1 → finite dut1 ≡ true → Holds Any SixOrOne (utcToUt1 fixed d dut1)
 utc-to-ut1-six-or-one d dut1 h f e = go (accepted (d .jd1) (d .jd2)) (earlyUtc d) (decided d dut1 h f e)
   where
-    go : (a b : Bool) → Decided a b (utcToUt1 fixed d dut1) → Holds Any SixOrOne (utcToUt1 fixed d dut1)
+    go : (a b : Bool) → DecidedDay a b (utcToUt1 fixed d dut1) → Holds Any SixOrOne (utcToUt1 fixed d dut1)
     go false b t = holds-refusal 6 t (inl refl)
     go true true t = holds-refusal 1 t (inr refl)
     go true false (u, t) = holds-answer u t tt

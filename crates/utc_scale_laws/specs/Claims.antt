@@ -12,7 +12,7 @@ use Rattle.calendar.specs.Gregorian.{gregorianDate}
 use Rattle.day_number.specs.DayNumber.{dayOf}
 use Rattle.day_number.specs.ExactDay.{OnGrid}
 use Rattle.julian.specs.declared.JulianDate.{JulianDate}
-use Rattle.utc_scales.specs.LargerPart.{firstIsLarger, partsOf}
+use Rattle.utc_scales.specs.LargerPart.{firstIsKept, keptParts}
 
 -- A holds of the answer, or R of the refusal's number
 pub data Holds {X : Type 0} (A : X → Type 0) (R : ℕ → Type 0) : Outcome X → Type 0 where
@@ -29,15 +29,15 @@ abbrev pub TenNineSixOrOne : ℕ → Type 0
 TenNineSixOrOne n = (n ≡ 10) ⊎ ((n ≡ 9) ⊎ SixOrOne n)
 
 -- 6 where the sum is not in the range, 1 where it is and the year is before -4799, and else a date
-abbrev pub Decided : (inRange early : Bool) → Outcome JulianDate → Type 0
-Decided false e o = o ≡ refusal 6
-Decided true true o = o ≡ refusal 1
-Decided true false o = (u : JulianDate) × (o ≡ answer u)
+abbrev pub DecidedDay : (inRange early : Bool) → Outcome JulianDate → Type 0
+DecidedDay false e o = o ≡ refusal 6
+DecidedDay true true o = o ≡ refusal 1
+DecidedDay true false o = (u : JulianDate) × (o ≡ answer u)
 
 -- 10 where DUT1 is not finite, and else as above
 abbrev pub DecidedUt1 : (finiteDut1 inRange early : Bool) → Outcome JulianDate → Type 0
 DecidedUt1 false r e o = o ≡ refusal 10
-DecidedUt1 true r e o = Decided r e o
+DecidedUt1 true r e o = DecidedDay r e o
 
 -- whether the year of the day of a pair of parts is before -4799
 abbrev pub earlyDay : Float → Float → Bool
@@ -45,11 +45,11 @@ earlyDay x y = ltZ (gregorianDate (dayOf x y .day) .year) (negsuc 4798)
 
 -- the same of a date as UTC to UT1 reads it: the larger part first for TAI, and then jd1 first for TAI-UTC
 abbrev pub earlyUtc : JulianDate → Bool
-earlyUtc d = earlyDay (partsOf d .larger) (partsOf d .smaller) || earlyDay (d .jd1) (d .jd2)
+earlyUtc d = earlyDay (keptParts d .larger) (keptParts d .smaller) || earlyDay (d .jd1) (d .jd2)
 
 -- enough for one day in both orders: jd1 is the larger part, or both parts are on the grid
 abbrev pub OneDay : JulianDate → Type 0
-OneDay d = (firstIsLarger d ≡ true) ⊎ (OnGrid (d .jd1) × OnGrid (d .jd2))
+OneDay d = (firstIsKept d ≡ true) ⊎ (OnGrid (d .jd1) × OnGrid (d .jd2))
 
 -- the part in the place of the larger part of d, where b says whether that is jd1
 abbrev pub partAt : Bool → JulianDate → Float
@@ -58,7 +58,7 @@ partAt false d = d .jd2
 
 -- u has the larger part of d, the same float in the same place
 abbrev pub KeepsLarger : JulianDate → JulianDate → Type 0
-KeepsLarger d u = partAt (firstIsLarger d) u ≡ partAt (firstIsLarger d) d
+KeepsLarger d u = partAt (firstIsKept d) u ≡ partAt (firstIsKept d) d
 
 -- x is an f64
 abbrev pub Fits : Float → Type 0

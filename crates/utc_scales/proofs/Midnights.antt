@@ -34,8 +34,8 @@ use Rattle.tai_utc.proofs.Days.{day-refused}
 use Rattle.utc_scales.specs.Dates.{offsetAt0h, offsetsOf, midnightOf}
 
 -- the midnight of day n
-abbrev pub midnight : ℤ → JulianDate
-midnight n = julian mjdZeroPoint (ofInt binary64 (n -ℤ pos 2400001))
+abbrev pub midnightOfDay : ℤ → JulianDate
+midnightOfDay n = julian mjdZeroPoint (ofInt binary64 (n -ℤ pos 2400001))
 
 -- ---- a day number as the machine holds it
 day-fits : (z : ℤ) → InDays z → SFits w64 z
@@ -105,7 +105,7 @@ not-early : (b : Bool) → _≡_ {A = Outcome Unit} (cond b (refusal 1) (answer 
 not-early true e = let z : _≡_ {A = ℕ} 0 1 = cc in absurd (omega arith)
 not-early false e = refl
 
-pub valid-midnight : (n : ℤ) → InDays n → validOf (gregorianDate n) ≡ answer tt → midnightOf (gregorianDate n) ≡ answer (midnight n)
+pub valid-midnight : (n : ℤ) → InDays n → validOf (gregorianDate n) ≡ answer tt → midnightOf (gregorianDate n) ≡ answer (midnightOfDay n)
 unfolding midnightOf
 valid-midnight n r v =
     let t = gregorianDate n in

@@ -23,19 +23,19 @@ use Rattle.tai_utc.specs.Offset.{taiUtcOffset}
 use Rattle.tai_utc.specs.Leap.{offsets, dayOffsets}
 use Rattle.refusals.proofs.Onward.{went, stopped, came}
 use Rattle.utc_scales.specs.declared.larger_part.Parts.{Parts}
-use Rattle.utc_scales.specs.LargerPart.{firstIsLarger, partsAs, partsOf, placed, changeSmaller}
+use Rattle.utc_scales.specs.LargerPart.{firstIsKept, keptAs, keptParts, placed, changeSmaller}
 use Rattle.utc_scales.specs.Dates.{offsetOfDate, offsetAt0h, offsetsOf, midnightOf}
 use Rattle.utc_scales.specs.UtcTai.{taiFromMidnight, taiFraction, refined, rounds, refineUtcFraction}
 use Rattle.utc_scales.specs.UtcUt1.{nearStep, noStep, step, scanDay, untilStep, scan}
 use Rattle.utc_scales.specs.Known.{offsetOfParts}
-use Rattle.utc_scales.proofs.Midnights.{midnight, valid-midnight, offset-valid, offsets-valid}
+use Rattle.utc_scales.proofs.Midnights.{midnightOfDay, valid-midnight, offset-valid, offsets-valid}
 
 -- ---- the larger part
-pub parts-are : (d : JulianDate) (b : Bool) → b ≡ firstIsLarger d → partsAs d b ≡ partsOf d
-unfolding partsOf
-parts-are d b e = ap (partsAs d) e
+pub parts-are : (d : JulianDate) (b : Bool) → b ≡ firstIsKept d → keptAs d b ≡ keptParts d
+unfolding keptParts
+parts-are d b e = ap (keptAs d) e
 
-pub changes : (f : Float → Float → Outcome Float) (d : JulianDate) (p : Parts) (o : Outcome Float) → p ≡ partsOf d → o ≡ f (p .larger) (p .smaller) → onward o (placed p) ≡ changeSmaller f d
+pub changes : (f : Float → Float → Outcome Float) (d : JulianDate) (p : Parts) (o : Outcome Float) → p ≡ keptParts d → o ≡ f (p .larger) (p .smaller) → onward o (placed p) ≡ changeSmaller f d
 unfolding changeSmaller
 changes f d p o e h = ap (λ (x : Outcome Float). onward x (placed p)) h ∙ ap (λ (q : Parts). onward (f (q .larger) (q .smaller)) (placed q)) e
 
@@ -63,7 +63,7 @@ module _ (rows : List Row) (x y : Float) (d : DayNumber) (e : dayNumberAndFracti
   unfolding taiFraction
   tai-no-offsets n p = went _ (fields-of x y d e) ∙ stopped _ p
 
-  pub tai-of-day : InDays (d .day) → (o : DayOffsets) → offsetsOf rows (gregorianDate (d .day)) ≡ answer o → taiFraction rows x y ≡ answer (taiFromMidnight x (midnight (d .day)) o (d .fraction))
+  pub tai-of-day : InDays (d .day) → (o : DayOffsets) → offsetsOf rows (gregorianDate (d .day)) ≡ answer o → taiFraction rows x y ≡ answer (taiFromMidnight x (midnightOfDay (d .day)) o (d .fraction))
   unfolding taiFraction
   tai-of-day r o p = went _ (fields-of x y d e) ∙ went _ p ∙ went _ (valid-midnight (d .day) r (offsets-valid rows (d .day) o p))
 
@@ -85,7 +85,7 @@ module _ (rows : List Row) (big small dut1 i before : Float) (d : DayNumber) (e 
     pub scan-no-step : lt (abs (sub binary64 x before)) half ≡ true → scanDay rows big small dut1 i before ≡ answer (noStep x)
     scan-no-step h = at-day true h
 
-    pub scan-step : InDays (d .day) → lt (abs (sub binary64 x before)) half ≡ false → scanDay rows big small dut1 i before ≡ answer (step (nearStep big small dut1 (sub binary64 x before) (midnight (d .day))))
+    pub scan-step : InDays (d .day) → lt (abs (sub binary64 x before)) half ≡ false → scanDay rows big small dut1 i before ≡ answer (step (nearStep big small dut1 (sub binary64 x before) (midnightOfDay (d .day))))
     scan-step r h = at-day false h ∙ went _ (valid-midnight (d .day) r (offset-valid rows (d .day) x p))
 
 -- ---- the scan, of which 4 - i days are left at day i
@@ -148,10 +148,10 @@ pub parts-offset : (rows : List Row) (p : Parts) (b : Bool) → p .first ≡ b �
 unfolding offsetOfParts
 parts-offset rows p b e = ap (λ (c : Bool). cond c (offsetOfDate rows (p .larger) (p .smaller)) (offsetOfDate rows (p .smaller) (p .larger))) (sym e)
 
-pub date-offset : (rows : List Row) (d : JulianDate) (p : Parts) → p ≡ partsOf d → offsetOfParts rows p ≡ offsetOfDate rows (d .jd1) (d .jd2)
-unfolding partsOf offsetOfParts
-date-offset rows d p e = ap (offsetOfParts rows) e ∙ go (firstIsLarger d)
+pub date-offset : (rows : List Row) (d : JulianDate) (p : Parts) → p ≡ keptParts d → offsetOfParts rows p ≡ offsetOfDate rows (d .jd1) (d .jd2)
+unfolding keptParts offsetOfParts
+date-offset rows d p e = ap (offsetOfParts rows) e ∙ go (firstIsKept d)
   where
-    go : (b : Bool) → offsetOfParts rows (partsAs d b) ≡ offsetOfDate rows (d .jd1) (d .jd2)
+    go : (b : Bool) → offsetOfParts rows (keptAs d b) ≡ offsetOfDate rows (d .jd1) (d .jd2)
     go true = refl
     go false = refl

@@ -19,9 +19,9 @@ use Rattle.utc_scales.specs.Dates.{offsetsOf, offsetOfDate}
 unfoldable pub RightDay : KnownDay → Type 0
 RightDay k = offsetsOf fixed (gregorianDate (k .day)) ≡ answer (k .offsets)
 
-unfoldable pub Right : Known → Type 0
-Right K.Nothing = Unit
-Right (K.Day k) = RightDay k
+unfoldable pub RightKnown : Known → Type 0
+RightKnown K.Nothing = Unit
+RightKnown (K.Day k) = RightDay k
 
 -- the part that an answer carries, and whether it carries a day known rightly
 unfoldable pub partOutcome : PartAnswer → Outcome Float

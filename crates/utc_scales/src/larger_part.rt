@@ -3,7 +3,7 @@ ghost use mathlib.Core.Path.{_≡_};
 ghost use Rattle.refusals.specs.Outcome.{onward};
 ghost use Rattle.julian.specs.JulianDate.{julianOutcome};
 ghost use Rattle.julian.specs.DayFraction.{fractionOutcome};
-ghost use Rattle.utc_scales.specs.LargerPart.{firstIsLarger, partsOf, putBack, placed};
+ghost use Rattle.utc_scales.specs.LargerPart.{firstIsKept, keptParts, putBeside, placed};
 use julian::FractionAnswer;
 use julian::JulianAnswer;
 use julian::JulianDate;
@@ -16,13 +16,13 @@ pub(crate) struct Parts {
 
 // Whether jd1 counts as the larger part.
 fn first_is_larger(jd: JulianDate) -> bool
-    ensures { λ r. ⌜ r ≡ firstIsLarger jd ⌝ }
+    ensures { λ r. ⌜ r ≡ firstIsKept jd ⌝ }
 {
     floats::at_least_in_size(jd.jd1, jd.jd2)
 }
 
 pub(crate) fn split(jd: JulianDate) -> Parts
-    ensures { λ r. ⌜ r ≡ partsOf jd ⌝ }
+    ensures { λ r. ⌜ r ≡ keptParts jd ⌝ }
 {
     if first_is_larger(jd) {
         Parts {
@@ -41,7 +41,7 @@ pub(crate) fn split(jd: JulianDate) -> Parts
 
 // The larger part in its place, and x for the smaller one.
 pub(crate) fn put_back(p: Parts, x: f64) -> JulianDate
-    ensures { λ r. ⌜ r ≡ putBack p x ⌝ }
+    ensures { λ r. ⌜ r ≡ putBeside p x ⌝ }
 {
     if p.first {
         JulianDate {

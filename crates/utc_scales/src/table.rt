@@ -7,7 +7,7 @@ ghost use Rattle.calendar.specs.Gregorian.{gregorianDate};
 ghost use Rattle.tai_utc.specs.Table.{fixed};
 ghost use Rattle.tai_utc.specs.Answers.{secondsOutcome, dayOffsetsOutcome};
 ghost use Rattle.utc_scales.specs.Dates.{offsetAt0h, offsetsOf};
-ghost use Rattle.utc_scales.specs.Known.{Right};
+ghost use Rattle.utc_scales.specs.Known.{RightKnown};
 use tai_utc::DayOffsets;
 use tai_utc::DayOffsetsAnswer;
 use tai_utc::SecondsAnswer;
@@ -42,7 +42,7 @@ pub(crate) fn offsets_of(day: i64) -> DayOffsetsAnswer
 
 // The same, with no look-up where the day is the known one.
 pub(crate) fn offsets_with(day: i64, known: Known) -> DayOffsetsAnswer
-    requires { ⌜ Right known ⌝ }
+    requires { ⌜ RightKnown known ⌝ }
     ensures { λ r. ⌜ dayOffsetsOutcome r ≡ offsetsOf fixed (gregorianDate day) ⌝ }
 {
     match known {

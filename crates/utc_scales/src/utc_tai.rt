@@ -6,7 +6,7 @@ ghost use Rattle.julian.specs.DayFraction.{fractionOutcome};
 ghost use Rattle.constants.specs.Constants.{mjdZeroPoint};
 ghost use Rattle.tai_utc.specs.Table.{fixed};
 ghost use Rattle.scales.specs.Scales.{taiOutcome, utcOutcome};
-ghost use Rattle.utc_scales.specs.Known.{Right, partOutcome, RightPart, SameDays};
+ghost use Rattle.utc_scales.specs.Known.{RightKnown, partOutcome, RightPart, SameDays};
 ghost use Rattle.utc_scales.specs.UtcTai as U;
 use super::larger_part::placed;
 use super::larger_part::put_back;
@@ -60,7 +60,7 @@ fn tai_from_midnight(big: f64, mjd: f64, o: DayOffsets, fraction: f64) -> f64
 
 // The smaller part in TAI. Refusals in order: 6, then the date's.
 pub(crate) fn tai_fraction(big: f64, small: f64, known: Known) -> PartAnswer
-    requires { ⌜ Right known ⌝ }
+    requires { ⌜ RightKnown known ⌝ }
     ensures { λ r. ⌜ (partOutcome r ≡ U.taiFraction fixed big small) × RightPart r × SameDays big small r ⌝ }
 {
     match day_number::day_number_and_fraction(big, small) {
@@ -103,7 +103,7 @@ pub fn utc_to_tai(utc: UTC) -> TaiAnswer
 
 // One round: the guess moved by what its TAI is off.
 fn refined(big: f64, small: f64, guess: f64, known: Known) -> PartAnswer
-    requires { ⌜ Right known ⌝ }
+    requires { ⌜ RightKnown known ⌝ }
     ensures { λ r. ⌜ (partOutcome r ≡ U.refined fixed big small guess) × RightPart r ⌝ }
 {
     let p = split(JulianDate {

@@ -20,7 +20,7 @@ use Rattle.tai_utc.specs.Table.{fixed}
 use Rattle.utc.specs.FromCalendar.{utcFromCalendar}
 use Rattle.utc.specs.UnixTime.{unixDay, secondOfUnixDay, secondWithNanos, utcNew}
 use Rattle.utc.specs.IsoText.{dayText, isoTextBy, isoText}
-use Rattle.worked_cases.specs.Calls.{UtcCall, utc-from-calendar, utc-new, utc-parts, utcOf, Value, partsOf, fieldsOf, put, answerOf}
+use Rattle.worked_cases.specs.Calls.{UtcCall, utc-from-calendar, utc-new, utc-parts, utcOf, Value, partsValue, fieldsOf, put, answerOf}
 use Rattle.worked_cases.specs.Calls.{Call, calendar-to-julian, julian-to-calendar, get-tai-utc-offset, utc, to-iso8601}
 use Rattle.worked_cases.specs.Calls.{nearest-int, convert, utc-to-ut1, block-stamps}
 use Rattle.worked_cases.proofs.Divisions.{dividedDate, divided-date}
@@ -50,7 +50,7 @@ unfoldable pub answerBy : (ℤ → CalendarDate) → Call → Outcome Value
 answerBy dates (calendar-to-julian y m d) = answerOf (calendar-to-julian y m d)
 answerBy dates (julian-to-calendar jd1 jd2) = onward (toCalendar dates jd1 jd2) (λ c. fieldsOf c)
 answerBy dates (get-tai-utc-offset y m d fraction) = answerOf (get-tai-utc-offset y m d fraction)
-answerBy dates (utc u) = onward (utcBy dates u) (λ t. partsOf t)
+answerBy dates (utc u) = onward (utcBy dates u) (λ t. partsValue t)
 answerBy dates (to-iso8601 u n) = onward (utcBy dates u) (λ t. put n (textBy dates t))
 answerBy dates (nearest-int x) = answerOf (nearest-int x)
 answerBy dates (convert c jd1 jd2) = answerOf (convert c jd1 jd2)
@@ -69,7 +69,7 @@ unfolding answerBy answerOf julianToCalendar isoTextBy
 by-calendar (calendar-to-julian y m d) = refl
 by-calendar (julian-to-calendar jd1 jd2) = refl
 by-calendar (get-tai-utc-offset y m d fraction) = refl
-by-calendar (utc u) = ap (λ (o : Outcome JulianDate). onward o (λ t. partsOf t)) (by-calendar-utc u)
+by-calendar (utc u) = ap (λ (o : Outcome JulianDate). onward o (λ t. partsValue t)) (by-calendar-utc u)
 by-calendar (to-iso8601 u n) = ap (λ (o : Outcome JulianDate). onward o (λ t. put n (isoText fixed t))) (by-calendar-utc u)
 by-calendar (nearest-int x) = refl
 by-calendar (convert c jd1 jd2) = refl

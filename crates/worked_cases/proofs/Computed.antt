@@ -28,7 +28,7 @@ use Rattle.utc_text.specs.Answer.{textWritten, bufferAfter}
 use Rattle.utc.specs.FromCalendar.{atTime, utcFromCalendar}
 use Rattle.utc.specs.UnixTime.{unixDay, secondOfUnixDay, secondWithNanos}
 use Rattle.utc.specs.IsoText.{nextMidnightText, shownText, dayTextBy}
-use Rattle.utc.specs.TextCall.{written, held}
+use Rattle.utc.specs.TextCall.{written, bufferHolds}
 use Rattle.stamps.specs.Block.{blockOf}
 use Rattle.worked_cases.specs.Calls.{Call, Value, answerOf}
 use Rattle.worked_cases.proofs.Divisions.{dividedDate}
@@ -44,7 +44,7 @@ unfolding answerBy answerOf dividedDate onward
     fixed monthNumber reached secondsOf startOf rateOf byRow offsetBy offsetAt inDay taiUtcOffset dayOffsets leapOf leapAtEndOfDay
     finiteJd finiteArg Scales.answerOf converted changed mapSmallerPart partsOf putBack firstIsLarger tcbToTdb since daysOf tdb0 ttDays jd1977 utcToUt1
     shownOf shownAt fromZero timeOf dayEnd Millis.wholeLeap Millis.millisOf Millis.secondsOf
-    dayTextBy shownText nextMidnightText utcText yearText textWritten bufferAfter written held blockOf u32At fourAt
+    dayTextBy shownText nextMidnightText utcText yearText textWritten bufferAfter written bufferHolds blockOf u32At fourAt
     abs toWhole nearestInt round ofBits ofInt add sub mul div neg lt le eq toSigned
 computed c = literal (answerBy dividedDate c)
 

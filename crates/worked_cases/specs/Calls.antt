@@ -20,7 +20,7 @@ use Rattle.utc_scales.specs.UtcUt1.{utcToUt1}
 use Rattle.utc.specs.FromCalendar.{utcFromCalendar}
 use Rattle.utc.specs.UnixTime.{utcNew}
 use Rattle.utc.specs.IsoText.{isoText}
-use Rattle.utc.specs.TextCall.{written, held}
+use Rattle.utc.specs.TextCall.{written, bufferHolds}
 use Rattle.stamps.specs.Block.{blockOf}
 
 -- the calls that answer a UTC date: `utc_from_calendar` (year, month, day, hour, minute, second) and `UTC::new` (seconds, nanos); and a date given by its parts
@@ -51,15 +51,15 @@ pub data Value : Type 0 where
   bytes : List ℕ → Value
   count : ℕ → Value
 
-abbrev pub partsOf : JulianDate → Outcome Value
-partsOf t = answer (parts (t .jd1) (t .jd2))
+abbrev pub partsValue : JulianDate → Outcome Value
+partsValue t = answer (parts (t .jd1) (t .jd2))
 
 abbrev pub fieldsOf : CalendarFields → Outcome Value
 fieldsOf c = answer (fields (c .date .year) (c .date .month) (c .date .day) (c .fraction))
 
 -- a text, or a refusal, into a buffer of n zero bytes
 abbrev pub put : ℕ → Outcome (List ℕ) → Outcome Value
-put n t = onward (written t n) (λ _. answer (bytes (held t (replicate n 0))))
+put n t = onward (written t n) (λ _. answer (bytes (bufferHolds t (replicate n 0))))
 
 unfoldable pub utcOf : UtcCall → Outcome JulianDate
 utcOf (utc-from-calendar y m d hour minute second) = utcFromCalendar fixed y m d hour minute second
@@ -67,12 +67,12 @@ utcOf (utc-new seconds nanos) = utcNew fixed seconds nanos
 utcOf (utc-parts jd1 jd2) = answer (julian jd1 jd2)
 
 unfoldable pub answerOf : Call → Outcome Value
-answerOf (calendar-to-julian y m d) = onward (calendarToJulian y m d) (λ t. partsOf t)
+answerOf (calendar-to-julian y m d) = onward (calendarToJulian y m d) (λ t. partsValue t)
 answerOf (julian-to-calendar jd1 jd2) = onward (julianToCalendar jd1 jd2) (λ c. fieldsOf c)
 answerOf (get-tai-utc-offset y m d fraction) = onward (taiUtcOffset fixed y m d fraction) (λ x. answer (float x))
-answerOf (utc u) = onward (utcOf u) (λ t. partsOf t)
+answerOf (utc u) = onward (utcOf u) (λ t. partsValue t)
 answerOf (to-iso8601 u n) = onward (utcOf u) (λ t. put n (isoText fixed t))
 answerOf (nearest-int x) = answer (float (nearestInt x))
-answerOf (convert c jd1 jd2) = onward (Scales.answerOf c (julian jd1 jd2)) (λ t. partsOf t)
-answerOf (utc-to-ut1 jd1 jd2 dut1) = onward (utcToUt1 fixed (julian jd1 jd2) dut1) (λ t. partsOf t)
+answerOf (convert c jd1 jd2) = onward (Scales.answerOf c (julian jd1 jd2)) (λ t. partsValue t)
+answerOf (utc-to-ut1 jd1 jd2 dut1) = onward (utcToUt1 fixed (julian jd1 jd2) dut1) (λ t. partsValue t)
 answerOf (block-stamps block) = onward (blockOf block) (λ n. answer (count n))

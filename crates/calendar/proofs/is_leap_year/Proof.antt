@@ -9,7 +9,7 @@ use lib.Signed.{remZ}
 use mir.Syntax.{w32}
 use mir.Val.{SFits, toZ, ofZ}
 use borrow.Author.Tests.{eqb-false, eq-eqb, ne-eqb}
-use Rattle.calendar.specs.Calendar.{leapSize, leap}
+use Rattle.calendar.specs.Calendar.{leapSize, leapYear}
 use Rattle.calendar.proofs.Signs.{quot-fits, rem-zero}
 use Rattle.calendar.proofs.is_leap_year.Statement.{statement}
 use Rattle.calendar.proofs.is_leap_year.Tie as tie
@@ -47,15 +47,15 @@ module _ (z : ℤ) (f : SFits w32 z) where
   is : (k : ℕ) {t : Bool} → Zero z k ≡ t → eqb (natAbs z % k) 0 ≡ t
   is k e = sym (rem-zero z k f) ∙ e
 
-  yes-common : Zero z 4 ≡ true → Zero z 100 ≡ false → not (Zero z 100) ≡ leap z
+  yes-common : Zero z 4 ≡ true → Zero z 100 ≡ false → not (Zero z 100) ≡ leapYear z
   unfolding leapSize
   yes-common p q = ap not (rem-zero z 100 f) ∙ common (eqb (natAbs z % 400) 0) _ _ (is 4 p) (is 100 q)
 
-  at-century : Zero z 4 ≡ true → Zero z 100 ≡ true → Zero z 400 ≡ leap z
+  at-century : Zero z 4 ≡ true → Zero z 100 ≡ true → Zero z 400 ≡ leapYear z
   unfolding leapSize
   at-century p q = rem-zero z 400 f ∙ century (eqb (natAbs z % 400) 0) _ _ (is 4 p) (is 100 q)
 
-  not-four : Zero z 4 ≡ false → Zero z 4 ≡ leap z
+  not-four : Zero z 4 ≡ false → Zero z 4 ≡ leapYear z
   unfolding leapSize
   not-four p = rem-zero z 4 f ∙ other _ _ (eqb (natAbs z % 100) 0) (four (natAbs z) (is 4 p)) (is 4 p)
 

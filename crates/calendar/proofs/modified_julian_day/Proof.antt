@@ -7,7 +7,7 @@ use mir.Syntax.{w64}
 use mir.Facts.{toZ-ofZ}
 use borrow.Author.Needs.{needs}
 use Rattle.refusals.specs.Outcome.{answer}
-use Rattle.calendar.specs.Calendar.{leap}
+use Rattle.calendar.specs.Calendar.{leapYear}
 use Rattle.calendar.specs.Refusals.{validDate}
 use Rattle.calendar.specs.Answers.{mjdOutcome}
 use Rattle.calendar.proofs.Signs.{to-unsigned, read-back}
@@ -51,7 +51,7 @@ civil-count-requires c κs =
     let a = ok (c .before) in
     let m = read-back (s .args .month) (s .fits .month) in
     let d = read-back (s .args .day) (s .fits .day) in
-    let b = short (leap (s .args .year)) (natAbs (s .args .month)) (a .m-low) (a .m-high) in
+    let b = short (leapYear (s .args .year)) (natAbs (s .args .month)) (a .m-low) (a .m-high) in
     (c .raised-year .ensures .1, c .raised-year .ensures .2, omega (arith, m, a .m-low), omega (arith, m, a .m-high), omega (arith, d, a .d-high, b))
 
 count-to-mjd-requires : tie.Need-count-to-mjd-requires

@@ -7,7 +7,7 @@ use Prim.Native.Nat.{ℕ}
 use types.Run.{OneOf}
 use mir.Facts.{toZ-ofZ}
 use borrow.Author.Needs.{needs}
-use Rattle.calendar.specs.Calendar.{leap, lengths}
+use Rattle.calendar.specs.Calendar.{leapYear, lengths}
 use Rattle.calendar.proofs.Months.{numbers}
 use Rattle.calendar.proofs.month_length.Statement.{statement}
 use Rattle.calendar.proofs.month_length.Tie as tie
@@ -18,19 +18,19 @@ at b m k v p e = p ∙ ap (lengths b) (sym e)
 returns : tie.Need-returns
 unfolding lengths
 returns c =
-    let b = leap (c .before .args .year) in
+    let b = leapYear (c .before .args .year) in
     let m = c .before .args .month in
     ⊎-elim (at b m 1 31 refl) (⊎-elim (at b m 3 31 refl) (⊎-elim (at b m 5 31 refl) (⊎-elim (at b m 7 31 refl) (⊎-elim (at b m 10 31 refl) (at b m 12 31 refl)))))
     (c .match .keys1)
 
 returns-2 : tie.Need-returns-2
 unfolding lengths
-returns-2 c = at (leap (c .before .args .year)) (c .before .args .month) 8 31 refl (c .match .keys2)
+returns-2 c = at (leapYear (c .before .args .year)) (c .before .args .month) 8 31 refl (c .match .keys2)
 
 returns-3 : tie.Need-returns-3
 unfolding lengths
 returns-3 c =
-    let b = leap (c .before .args .year) in
+    let b = leapYear (c .before .args .year) in
     let m = c .before .args .month in
     ⊎-elim (at b m 4 30 refl) (⊎-elim (at b m 6 30 refl) (⊎-elim (at b m 9 30 refl) (at b m 11 30 refl))) (c .match .keys3)
 
@@ -41,8 +41,8 @@ is-leap-year-requires : tie.Need-is-leap-year-requires
 is-leap-year-requires c κs = search needs
 
 -- the year's rule, as it was computed
-is-leap : (c : tie.After-is-leap-year) → leap (c .before .before .args .year) ≡ c .is-leap-year .result
-is-leap c = sym (c .is-leap-year .ensures ∙ ap leap (toZ-ofZ (c .before .before .fits .year)))
+is-leap : (c : tie.After-is-leap-year) → leapYear (c .before .before .args .year) ≡ c .is-leap-year .result
+is-leap c = sym (c .is-leap-year .ensures ∙ ap leapYear (toZ-ofZ (c .before .before .fits .year)))
 
 returns-4 : tie.Need-returns-4
 unfolding lengths
@@ -74,7 +74,7 @@ none t =
 returns-6 : tie.Need-returns-6
 returns-6 c =
     let r = c .match .rest in
-    none (leap (c .before .args .year)) (c .before .args .month) (r .0 .0 .0 .1) (r .0 .0 .1) (r .0 .1) (r .1)
+    none (leapYear (c .before .args .year)) (c .before .args .month) (r .0 .0 .0 .1) (r .0 .0 .1) (r .0 .1) (r .1)
 
 pub month-length-spec : {M : Type 1} → statement M
 month-length-spec =

@@ -2,7 +2,7 @@
 use mathlib.Core.Path.{ap}
 use Rattle.calendar.specs.Answers.{nextOutcome}
 use Rattle.c_answers.specs.Fields.{dateBytes}
-use Rattle.c_answers.proofs.Deliveries.{answered, refused-on}
+use Rattle.c_answers.proofs.Deliveries.{delivered-answer, refused-on}
 use borrow.Author.Needs.{needs}
 use Rattle.capi.proofs.calendar_calls.put_next.Statement.{statement}
 use Rattle.capi.proofs.calendar_calls.put_next.Tie as tie
@@ -26,7 +26,7 @@ returns : tie.Need-returns
 unfolding nextOutcome
 returns c =
     let p = c .before .before in
-    answered dateBytes (p .put-date .ok) _ (ap nextOutcome (p .before .before .before .found .given .1)) (p .put-date .ensures)
+    delivered-answer dateBytes (p .put-date .ok) _ (ap nextOutcome (p .before .before .before .found .given .1)) (p .put-date .ensures)
 
 returns-2 : tie.Need-returns-2
 unfolding nextOutcome

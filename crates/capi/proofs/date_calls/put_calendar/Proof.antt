@@ -2,7 +2,7 @@
 use mathlib.Core.Path.{ap}
 use Rattle.julian.specs.Calendar.{calendarOutcome}
 use Rattle.c_answers.specs.Fields.{calendarBytes}
-use Rattle.c_answers.proofs.Deliveries.{answered, refused-on}
+use Rattle.c_answers.proofs.Deliveries.{delivered-answer, refused-on}
 use borrow.Author.Needs.{needs}
 use Rattle.capi.proofs.date_calls.put_calendar.Statement.{statement}
 use Rattle.capi.proofs.date_calls.put_calendar.Tie as tie
@@ -26,7 +26,7 @@ returns : tie.Need-returns
 unfolding calendarOutcome
 returns c =
     let p = c .before .before in
-    answered calendarBytes (p .put-calendar .ok) _ (ap calendarOutcome (p .before .before .before .found .given .1)) (p .put-calendar .ensures)
+    delivered-answer calendarBytes (p .put-calendar .ok) _ (ap calendarOutcome (p .before .before .before .found .given .1)) (p .put-calendar .ensures)
 
 returns-2 : tie.Need-returns-2
 unfolding calendarOutcome

@@ -2,7 +2,7 @@
 use mathlib.Core.Path.{ap}
 use Rattle.tai_utc.specs.Answers.{secondsOutcome}
 use Rattle.c_answers.specs.Fields.{floatBytes}
-use Rattle.c_answers.proofs.Deliveries.{answered, refused-on}
+use Rattle.c_answers.proofs.Deliveries.{delivered-answer, refused-on}
 use borrow.Author.Needs.{needs}
 use Rattle.capi.proofs.offset_calls.put_offset.Statement.{statement}
 use Rattle.capi.proofs.offset_calls.put_offset.Tie as tie
@@ -26,7 +26,7 @@ returns : tie.Need-returns
 unfolding secondsOutcome
 returns c =
     let p = c .before .before in
-    answered floatBytes (p .put-float .ok) _ (ap secondsOutcome (p .before .before .before .found .given .1)) (p .put-float .ensures)
+    delivered-answer floatBytes (p .put-float .ok) _ (ap secondsOutcome (p .before .before .before .found .given .1)) (p .put-float .ensures)
 
 returns-2 : tie.Need-returns-2
 unfolding secondsOutcome

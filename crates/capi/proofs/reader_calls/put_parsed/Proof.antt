@@ -2,7 +2,7 @@
 use mathlib.Core.Path.{ap}
 use Rattle.parsing.specs.Parsed.{parsedOutcome}
 use Rattle.c_answers.specs.ReaderFields.{parsedBytes}
-use Rattle.c_answers.proofs.Deliveries.{answered, refused-on}
+use Rattle.c_answers.proofs.Deliveries.{delivered-answer, refused-on}
 use borrow.Author.Needs.{needs}
 use Rattle.capi.proofs.reader_calls.put_parsed.Statement.{statement}
 use Rattle.capi.proofs.reader_calls.put_parsed.Tie as tie
@@ -26,7 +26,7 @@ returns : tie.Need-returns
 unfolding parsedOutcome
 returns c =
     let p = c .before .before in
-    answered parsedBytes (p .put-parsed .ok) _ (ap parsedOutcome (p .before .before .before .found .given .1)) (p .put-parsed .ensures)
+    delivered-answer parsedBytes (p .put-parsed .ok) _ (ap parsedOutcome (p .before .before .before .found .given .1)) (p .put-parsed .ensures)
 
 returns-2 : tie.Need-returns-2
 unfolding parsedOutcome

@@ -2,7 +2,7 @@
 use mathlib.Core.Path.{ap}
 use Rattle.parsing.specs.Parsed.{parsedUtcOutcome}
 use Rattle.c_answers.specs.ReaderFields.{parsedUtcBytes}
-use Rattle.c_answers.proofs.Deliveries.{answered, refused-on}
+use Rattle.c_answers.proofs.Deliveries.{delivered-answer, refused-on}
 use borrow.Author.Needs.{needs}
 use Rattle.capi.proofs.reader_calls.put_parsed_utc.Statement.{statement}
 use Rattle.capi.proofs.reader_calls.put_parsed_utc.Tie as tie
@@ -26,7 +26,7 @@ returns : tie.Need-returns
 unfolding parsedUtcOutcome
 returns c =
     let p = c .before .before in
-    answered parsedUtcBytes (p .put-parsed-utc .ok) _ (ap parsedUtcOutcome (p .before .before .before .found .given .1)) (p .put-parsed-utc .ensures)
+    delivered-answer parsedUtcBytes (p .put-parsed-utc .ok) _ (ap parsedUtcOutcome (p .before .before .before .found .given .1)) (p .put-parsed-utc .ensures)
 
 returns-2 : tie.Need-returns-2
 unfolding parsedUtcOutcome

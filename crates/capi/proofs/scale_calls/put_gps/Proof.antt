@@ -2,7 +2,7 @@
 use mathlib.Core.Path.{ap}
 use Rattle.scales.specs.Scales.{gpsOutcome}
 use Rattle.c_answers.specs.Fields.{julianBytes}
-use Rattle.c_answers.proofs.Deliveries.{answered, refused-on}
+use Rattle.c_answers.proofs.Deliveries.{delivered-answer, refused-on}
 use borrow.Author.Needs.{needs}
 use Rattle.capi.proofs.scale_calls.put_gps.Statement.{statement}
 use Rattle.capi.proofs.scale_calls.put_gps.Tie as tie
@@ -26,7 +26,7 @@ returns : tie.Need-returns
 unfolding gpsOutcome
 returns c =
     let p = c .before .before in
-    answered julianBytes (p .put-julian .ok) _ (ap gpsOutcome (p .before .before .before .found .given .1)) (p .put-julian .ensures)
+    delivered-answer julianBytes (p .put-julian .ok) _ (ap gpsOutcome (p .before .before .before .found .given .1)) (p .put-julian .ensures)
 
 returns-2 : tie.Need-returns-2
 unfolding gpsOutcome

@@ -2,7 +2,7 @@
 use mathlib.Core.Path.{ap}
 use Rattle.scales.specs.Scales.{utcOutcome}
 use Rattle.c_answers.specs.Fields.{julianBytes}
-use Rattle.c_answers.proofs.Deliveries.{answered, refused-on}
+use Rattle.c_answers.proofs.Deliveries.{delivered-answer, refused-on}
 use borrow.Author.Needs.{needs}
 use Rattle.capi.proofs.utc_calls.put_utc.Statement.{statement}
 use Rattle.capi.proofs.utc_calls.put_utc.Tie as tie
@@ -26,7 +26,7 @@ returns : tie.Need-returns
 unfolding utcOutcome
 returns c =
     let p = c .before .before in
-    answered julianBytes (p .put-julian .ok) _ (ap utcOutcome (p .before .before .before .found .given .1)) (p .put-julian .ensures)
+    delivered-answer julianBytes (p .put-julian .ok) _ (ap utcOutcome (p .before .before .before .found .given .1)) (p .put-julian .ensures)
 
 returns-2 : tie.Need-returns-2
 unfolding utcOutcome

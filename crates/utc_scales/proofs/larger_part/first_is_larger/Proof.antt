@@ -1,5 +1,5 @@
 -- `utc_scales::larger_part::first_is_larger` meets its contract. Assumes nothing.
-use Rattle.utc_scales.specs.LargerPart.{firstIsLarger}
+use Rattle.utc_scales.specs.LargerPart.{firstIsKept}
 use borrow.Author.Needs.{needs}
 use Rattle.utc_scales.proofs.larger_part.first_is_larger.Statement.{statement}
 use Rattle.utc_scales.proofs.larger_part.first_is_larger.Tie as tie
@@ -8,7 +8,7 @@ at-least-in-size-requires : tie.Need-at-least-in-size-requires
 at-least-in-size-requires c κs = search needs
 
 returns : tie.Need-returns
-unfolding firstIsLarger
+unfolding firstIsKept
 returns c = c .at-least-in-size .ensures
 
 pub first-is-larger-spec : {M : Type 1} → statement M

@@ -1,17 +1,17 @@
 -- `utc_scales::larger_part::put_back` meets its contract. Assumes nothing.
 use mathlib.Core.Bool.{Bool}
 use mathlib.Core.Path.{sym, ap}
-use Rattle.utc_scales.specs.LargerPart.{putAs, putBack}
+use Rattle.utc_scales.specs.LargerPart.{besideAs, putBeside}
 use Rattle.utc_scales.proofs.larger_part.put_back.Statement.{statement}
 use Rattle.utc_scales.proofs.larger_part.put_back.Tie as tie
 
 returns : tie.Need-returns
-unfolding putBack
-returns c = ap (λ (b : Bool). putAs b (c .before .args .p .larger) (c .before .args .x)) (sym (c .if1 .taken))
+unfolding putBeside
+returns c = ap (λ (b : Bool). besideAs b (c .before .args .p .larger) (c .before .args .x)) (sym (c .if1 .taken))
 
 returns-2 : tie.Need-returns-2
-unfolding putBack
-returns-2 c = ap (λ (b : Bool). putAs b (c .before .args .p .larger) (c .before .args .x)) (sym (c .if1 .left))
+unfolding putBeside
+returns-2 c = ap (λ (b : Bool). besideAs b (c .before .args .p .larger) (c .before .args .x)) (sym (c .if1 .left))
 
 pub put-back-spec : {M : Type 1} → statement M
 put-back-spec = tie.close (tie.spec returns returns-2)

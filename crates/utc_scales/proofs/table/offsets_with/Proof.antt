@@ -6,7 +6,7 @@ use Rattle.calendar.specs.Gregorian.{gregorianDate}
 use Rattle.tai_utc.specs.Answers.{dayOffsetsOutcome}
 use Rattle.tai_utc.specs.Table.{fixed}
 use Rattle.utc_scales.specs.Dates.{offsetsOf}
-use Rattle.utc_scales.specs.Known.{RightDay, Right}
+use Rattle.utc_scales.specs.Known.{RightDay, RightKnown}
 use Rattle.utc_scales.specs.declared.table.Known.{Known}
 use Rattle.utc_scales.proofs.Midnights.{same-day}
 use borrow.Author.Needs.{needs}
@@ -29,12 +29,12 @@ returns : tie.Need-returns
 returns c = c .offsets-of .ensures ∙ ap (λ (z : ℤ). offsetsOf fixed (gregorianDate z)) (toZ-ofZ (c .before .before .before .fits .day))
 
 returns-2 : tie.Need-returns-2
-unfolding dayOffsetsOutcome Right RightDay
+unfolding dayOffsetsOutcome RightKnown RightDay
 returns-2 c =
     let k = c .before .before .before .before .before in
     let s = k .before .before in
     let same = same-day _ _ (s .fits .day) (record { sfits = c .before .before .struct-told .given .0 .1 }) (c .before .if1 .taken) in
-    sym (subst (λ (x : Known). Right x) (k .known .given .1) (s .pre)) ∙ ap (λ (z : ℤ). offsetsOf fixed (gregorianDate z)) (sym same)
+    sym (subst (λ (x : Known). RightKnown x) (k .known .given .1) (s .pre)) ∙ ap (λ (z : ℤ). offsetsOf fixed (gregorianDate z)) (sym same)
 
 returns-3 : tie.Need-returns-3
 returns-3 c = c .offsets-of2 .ensures ∙ ap (λ (z : ℤ). offsetsOf fixed (gregorianDate z)) (toZ-ofZ (c .before .before .before .before .before .before .before .fits .day))

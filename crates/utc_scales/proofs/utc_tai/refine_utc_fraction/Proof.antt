@@ -4,7 +4,7 @@ use lib.Ieee.{Float}
 use Rattle.refusals.specs.Outcome.{Outcome, onward}
 use Rattle.julian.specs.DayFraction.{fractionOutcome}
 use Rattle.tai_utc.specs.Table.{fixed}
-use Rattle.utc_scales.specs.Known.{Right, partOutcome}
+use Rattle.utc_scales.specs.Known.{RightKnown, partOutcome}
 use Rattle.utc_scales.specs.UtcTai.{refined}
 use Rattle.utc_scales.proofs.Steps.{three-rounds}
 use borrow.Author.Needs.{needs}
@@ -12,7 +12,7 @@ use Rattle.utc_scales.proofs.utc_tai.refine_utc_fraction.Statement.{sta
 use Rattle.utc_scales.proofs.utc_tai.refine_utc_fraction.Tie as tie
 
 refined-requires : tie.Need-refined-requires
-unfolding Right
+unfolding RightKnown
 refined-requires c κs = tt
 
 refined-again-requires : tie.Need-refined-again-requires

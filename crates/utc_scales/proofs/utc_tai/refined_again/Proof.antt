@@ -1,7 +1,7 @@
 -- `utc_scales::utc_tai::refined_again` meets its contract. Assumes nothing.
 use mathlib.Core.Path.{sym, ap, subst, _∙_}
 use Rattle.refusals.proofs.Onward.{went, stopped}
-use Rattle.utc_scales.specs.Known.{Right, partOutcome, RightPart}
+use Rattle.utc_scales.specs.Known.{RightKnown, partOutcome, RightPart}
 use Rattle.utc_scales.specs.declared.utc_tai.PartAnswer.{PartAnswer}
 use borrow.Author.Needs.{needs}
 use Rattle.utc_scales.proofs.utc_tai.refined_again.Statement.{statement}
@@ -14,7 +14,7 @@ enum-known-guess-2 : tie.Need-enum-known-guess-2
 enum-known-guess-2 c = search needs
 
 refined-requires : tie.Need-refined-requires
-unfolding Right RightPart
+unfolding RightKnown RightPart
 refined-requires c κs = subst (λ (r : PartAnswer). RightPart r) (c .before .before .guess2 .given .1) (c .before .before .before .before .pre)
 
 returns : tie.Need-returns

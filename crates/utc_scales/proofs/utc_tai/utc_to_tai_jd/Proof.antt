@@ -4,7 +4,7 @@ use Rattle.refusals.specs.Outcome.{answer}
 use Rattle.julian.specs.JulianDate.{julianOutcome}
 use Rattle.tai_utc.specs.Table.{fixed}
 use Rattle.refusals.proofs.Onward.{went, stopped}
-use Rattle.utc_scales.specs.Known.{Right, partOutcome}
+use Rattle.utc_scales.specs.Known.{RightKnown, partOutcome}
 use Rattle.utc_scales.specs.LargerPart.{placed}
 use Rattle.utc_scales.specs.UtcTai.{taiFraction, utcToTai}
 use Rattle.utc_scales.proofs.Steps.{changes}
@@ -16,7 +16,7 @@ split-requires : tie.Need-split-requires
 split-requires c κs = search needs
 
 tai-fraction-requires : tie.Need-tai-fraction-requires
-unfolding Right
+unfolding RightKnown
 tai-fraction-requires c κs = tt
 
 enum-known-number : tie.Need-enum-known-number

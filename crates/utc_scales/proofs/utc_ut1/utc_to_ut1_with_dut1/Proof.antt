@@ -7,7 +7,7 @@ use Rattle.tai_utc.specs.Table.{fixed}
 use Rattle.scales.specs.Conversions.{answerOf, tai-ut1}
 use Rattle.scales.specs.Scales.{ut1Outcome}
 use Rattle.refusals.proofs.Onward.{went, stopped}
-use Rattle.utc_scales.specs.Known.{Right, partOutcome, SameDays}
+use Rattle.utc_scales.specs.Known.{RightKnown, partOutcome, SameDays}
 use Rattle.utc_scales.specs.LargerPart.{placed}
 use Rattle.utc_scales.specs.UtcTai.{taiFraction, utcToTai}
 use Rattle.utc_scales.specs.UtcUt1.{utcToUt1}
@@ -34,7 +34,7 @@ split-requires : tie.Need-split-requires
 split-requires c κs = search needs
 
 tai-fraction-requires : tie.Need-tai-fraction-requires
-unfolding Right
+unfolding RightKnown
 tai-fraction-requires c κs = tt
 
 enum-known-number-2 : tie.Need-enum-known-number-2
