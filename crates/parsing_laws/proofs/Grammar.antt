@@ -1,17 +1,17 @@
 -- The scan of the definition is the grammar, both ways: it answers w exactly where the text reads as w, and 15 exactly where it reads as nothing; so a text has one
 -- reading. Assumes nothing.
-use Prim.Native.Nat.{ℕ, _+_, _*_}
+use Prim.Native.Nat.{ℕ, _+_}
 use native.Mathlib.Omega.{arith}
 use mathlib.Core.Path.{_≡_, refl, sym, ap, _∙_, subst}
 use mathlib.Core.List.{List, [], _∷_, _++_}
-use mathlib.Core.Bool.{Bool, true, false, cond, _&&_, and-eq-true-iff}
+use mathlib.Core.Bool.{Bool, true, false, cond, and-eq-true-iff}
 use lib.ListN.{length, drop}
-use Rattle.refusals.specs.Outcome.{Outcome, answer, refusal}
+use Rattle.refusals.specs.Outcome.{answer, refusal}
 use Rattle.digits.specs.Decimal.{value, number, isDigit}
 use Rattle.digits.proofs.Decimal.{value-append, digit-bounds}
 use Rattle.parsing.specs.Written.{Written}
-use Rattle.parsing.specs.Grammar.{Pieces, headOf, textOf, Reads}
-use Rattle.parsing.specs.Form.{isBlank, afterBlanks, byteAt, twoDigits, twoSay, dateRight, timeRight, fractionDigits, afterFraction, zuluFirst, endRight, rightForm, says, formOf}
+use Rattle.parsing.specs.Grammar.{Pieces, headOf, Reads}
+use Rattle.parsing.specs.Form.{afterBlanks, byteAt, twoSay, dateRight, timeRight, fractionDigits, afterFraction, zuluFirst, endRight, rightForm, says, formOf}
 use Rattle.parsing.proofs.Bytes.{whole-form}
 use Rattle.parsing_laws.proofs.Blanks.{no-blank, frontBlanks, front-blank, front-split, skipped}
 use Rattle.parsing_laws.proofs.Fractions.{Tail, tail-of, digits-of, after-of, fractionBytes, fraction-of, fraction-split, end-of, zoneBytes, afterZone, zone-of, zone-split, end-blank}

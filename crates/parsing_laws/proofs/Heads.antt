@@ -1,17 +1,17 @@
 -- The nineteen bytes YYYY-MM-DDThh:mm:ss: which lists they are, what makes them right, and what their digits say. Assumes nothing.
-use Prim.Native.Nat.{ℕ, zero, suc, _+_, _-_, _*_, _<_, _≤_}
+use Prim.Native.Nat.{ℕ, _+_, _-_, _*_, _≤_}
 use native.Mathlib.Omega.{arith}
 use mathlib.Core.Path.{_≡_, refl, sym, ap, _∙_, subst}
-use mathlib.Core.List.{List, [], _∷_, _++_}
-use mathlib.Core.Bool.{Bool, true, false, cond, _&&_, _||_, and-eq-true-iff}
-use lib.ListN.{length, drop, getD, List·getD-eq-default}
+use mathlib.Core.List.{List, [], _∷_}
+use mathlib.Core.Bool.{Bool, true, false, _||_, and-eq-true-iff}
+use lib.ListN.{length, drop, List·getD-eq-default}
 use lib.Seq.{drop-cons}
 use lib.Dec.{ltb, eqb}
-use borrow.Author.Tests.{ltb-true, ltb-false, eqb-true, eq-eqb}
-use Rattle.digits.specs.Decimal.{value, number, isDigit, AllDigits, Digits}
+use borrow.Author.Tests.{ltb-true, ltb-false, eqb-true}
+use Rattle.digits.specs.Decimal.{number, isDigit, AllDigits, Digits}
 use Rattle.digits.proofs.Decimal.{digit-bounds, digit-within}
 use Rattle.parsing.specs.Grammar.{Separator, letter, space}
-use Rattle.parsing.specs.Form.{byteAt, twoDigits, digitSays, twoSay, isSeparator, dateRight, timeRight}
+use Rattle.parsing.specs.Form.{byteAt, twoDigits, twoSay, isSeparator, dateRight, timeRight}
 use Rattle.parsing.proofs.Runs.{worth-of}
 
 -- ---- digits as bytes

@@ -6,3 +6,5 @@ pub mod Grammar
 pub mod Ladder
 pub mod Around
 pub mod ReadBack
+pub mod UtcTimes
+pub mod UtcReadBack

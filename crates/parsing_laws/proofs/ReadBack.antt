@@ -1,18 +1,17 @@
 -- A text that we write reads back as its fields, where its year has four digits. Assumes nothing.
-use Prim.Native.Nat.{ℕ, _+_, _*_, _^_, _/_, _%_, _≤_, _<_}
+use Prim.Native.Nat.{ℕ, _+_, _*_, _≤_}
 use native.Mathlib.Omega.{arith}
 use mathlib.Core.Path.{_≡_, refl, sym, ap, _∙_, subst}
 use mathlib.Core.List.{List, [], _∷_, _++_}
-use mathlib.Core.Bool.{Bool, true, false, cond}
-use lib.ListN.{length}
+use mathlib.Core.Bool.{Bool, false, cond}
 use lib.Dec.{ltb}
 use lib.IntN.{ℤ, pos}
 use borrow.Author.Tests.{lt-ltb}
-use Rattle.refusals.specs.Outcome.{Outcome, answer}
+use Rattle.refusals.specs.Outcome.{answer}
 use Rattle.calendar.specs.declared.CalendarDate.{CalendarDate}
 use Rattle.calendar.specs.Refusals.{validDate}
 use Rattle.time_of_day.specs.declared.TimeOfDay.{TimeOfDay}
-use Rattle.digits.specs.Decimal.{value, number, AllDigits, Digits}
+use Rattle.digits.specs.Decimal.{number, Digits}
 use Rattle.digits.proofs.Decimal.{value-append, value-split}
 use Rattle.utc_text.proofs.ReadBack.{two-is, three-is, four-is}
 use Rattle.utc_text.proofs.Form.{two-digits, three-digits, four-digits}
@@ -20,7 +19,7 @@ use Rattle.utc_text.specs.Text.{two, three, four, five, six, seven, afterYear, 
 use Rattle.parsing.specs.Written.{Written}
 use Rattle.parsing.specs.Grammar.{Pieces, textOf, Reads, AllBlank, letter, some, plain}
 use Rattle.parsing.specs.Parsed.{fieldsOf, parsed}
-use Rattle.parsing_laws.specs.Verdict.{SomeTime, fields}
+use Rattle.parsing_laws.specs.Verdict.{fields}
 use Rattle.parsing_laws.proofs.Ladder.{deserved}
 
 -- ---- the digits that are written
@@ -34,7 +33,7 @@ number-five s m h k =
     ∙ (λ i. two-is s (omega arith) i * 1000 + three-is m (omega arith) i) ∙ (let e : s * 1000 + m ≡ 1000 * s + m = omega arith in e)
 
 -- the fields as what was written: no Z, and three places
-pub asWritten : ℕ → CalendarDate → TimeOfDay → Written
+unfoldable pub asWritten : ℕ → CalendarDate → TimeOfDay → Written
 asWritten y d u = record { year = y; month = d .month; day = d .day; hour = u .hour; minute = u .minute; whole = 1000 * u .second + u .milli; places = 3; zulu = false }
 
 -- ---- the text in the grammar
