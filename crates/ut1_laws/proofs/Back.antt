@@ -173,14 +173,14 @@ level D g =
 
 -- ---- UT1 less DUT1 on floats
 -- 86400 times it is within 86485 h of 86400 (up - un) - (x - y)
-record Less (z : Float) (up un x y : ℕ) : Type 0 where
-  p : ℕ
-  n : ℕ
-  val : Val z p n L
-  over : 86400 * (p + un) + x ≤ 86400 * (n + up) + y + 86485 * h
-  under : 86400 * (n + up) + y ≤ 86400 * (p + un) + x + 86485 * h
+pub record Less (z : Float) (up un x y : ℕ) : Type 0 where
+  pub p : ℕ
+  pub n : ℕ
+  pub val : Val z p n L
+  pub over : 86400 * (p + un) + x ≤ 86400 * (n + up) + y + 86485 * h
+  pub under : 86400 * (n + up) + y ≤ 86400 * (p + un) + x + 86485 * h
 
-less-dut1 : {u c : Float} {up un x y : ℕ} → SecondPart u up un → Val c x y L → x ≤ y + L → y ≤ x + L → Less (sub binary64 u (div binary64 c secondsPerDay)) up un x y
+pub less-dut1 : {u c : Float} {up un x y : ℕ} → SecondPart u up un → Val c x y L → x ≤ y + L → y ≤ x + L → Less (sub binary64 u (div binary64 c secondsPerDay)) up un x y
 less-dut1 {u} {c} {up} {un} {x} {y} w vc hx hy =
     let q = div-near 1012 86400 (lit< tt) (lit≤ tt) (room x y (2 ^ (53 + 1012)) size-q hx) (room y x (2 ^ (53 + 1012)) size-q hy) vc day-val in
     let r = close-sub L h adds (exactly (w .val)) (exactly (q .val)) (high (q .p) (q .n) (2 ^ 1012) unit-q (q .under)) (low (q .p) (q .n) (2 ^ 1012) unit-q (q .over)) in
@@ -242,7 +242,7 @@ module _ {a u : Float} {A up un : ℕ} (v : FirstPart a A) (w : SecondPart u up 
     unfolding finiteJd
     parts = λ j. cond (val-finite-true (v .val) j && val-finite-true (w .val) j) (answer (julian a u)) (refusal 9)
 
-    is : ut1ToUtc fixed (julian a u) c ≡ answer (julian a (sub binary64 u (div binary64 c secondsPerDay)))
+    pub is : ut1ToUtc fixed (julian a u) c ≡ answer (julian a (sub binary64 u (div binary64 c secondsPerDay)))
     unfolding ut1ToUtc
     is = went _ arg ∙ went _ parts ∙ changed (utcFraction fixed c) a u _ larger fraction-is
 
@@ -283,12 +283,12 @@ rises (suc k) m g b =
     let q = seconds-on-day (m + k) (omega arith) (omega arith) .next in
     subst (λ (j : ℕ). secondsOn m ≤ secondsOn j) e (omega arith)
 
-later : (m n : ℕ) → m ≤ n → 2441318 ≤ m → n < 1000000000 → secondsOn m ≤ secondsOn n
+pub later : (m n : ℕ) → m ≤ n → 2441318 ≤ m → n < 1000000000 → secondsOn m ≤ secondsOn n
 later m n k g b = let e : m + (n - m) ≡ n = omega arith in subst (λ (j : ℕ). secondsOn m ≤ secondsOn j) e (rises (n - m) m g (omega arith))
 
 -- ---- with no leap second near the exact day, the calendar finds days with one number of seconds
 module _ {a u : Float} {A up un : ℕ} (v : FirstPart a A) (w : SecondPart u up un) (n : ℕ) (o : OnDay (A + up) un n) (s : NoLeapNear n) where
-  exact-high : n < 5000003
+  pub exact-high : n < 5000003
   exact-high = lt-of-mul-lt-mul-right L (last (n * L) (o .f) (o .is))
     where
       last : (N f : ℕ) → N + f + un ≡ A + up + H → N < 5000003 * L
@@ -326,7 +326,7 @@ module _ {a u : Float} {A up un : ℕ} (v : FirstPart a A) (w : SecondPart u up 
         let r = later (z .n) (n + 4) (omega arith) (omega arith) (omega arith) in
         record { n = z .n; from = omega arith; day = z .day; seconds = omega (arith, s .same) }
 
-  no-step : NoStepFound (julian a u)
+  pub no-step : NoStepFound (julian a u)
   no-step = record {
     D = secondsOn (n - 2);
     before = found (negsuc 0) (lit≤ tt) (lit≤ tt);

@@ -1,4 +1,5 @@
--- The laws of `ut1_laws`: `utc-to-ut1-means`, and `ut1-to-utc-means` on days with no leap second near; and cases of such days.
+-- The laws of `ut1_laws`: `utc-to-ut1-means`; on days with no leap second near `ut1-to-utc-means` and `ut1-there-and-back`; and cases of such days.
 pub mod Ut1
 pub mod Back
+pub mod RoundTrip
 pub mod Cases

@@ -10,8 +10,8 @@ use Rattle.day_number.specs.DayNumber.{dayOf}
 use Rattle.julian.specs.declared.JulianDate.{JulianDate}
 use Rattle.julian.specs.JulianDate.{julian}
 use Rattle.tai_utc.specs.Table.{fixed}
-use Rattle.scale_laws.specs.Meaning.{Means, back, laterBy}
-use Rattle.utc_scales.specs.UtcUt1.{ut1ToUtc}
+use Rattle.scale_laws.specs.Meaning.{Apart, Means, back, laterBy}
+use Rattle.utc_scales.specs.UtcUt1.{utcToUt1, ut1ToUtc}
 use Rattle.tai_round_trip.specs.UtcDays.{secondsOn}
 
 -- the calendar finds a day from 1972 on for the date i days later, and TAI-UTC is D seconds on it
@@ -48,3 +48,11 @@ pub record RightUtcOfUt1 (ps : ℕ) (d : JulianDate) (dut1 : Float) : Type 0 whe
   pub jd2 : Float
   pub is : ut1ToUtc fixed d dut1 ≡ answer (julian (d .jd1) jd2)
   pub means : Means ps (back (laterBy x y)) d (julian (d .jd1) jd2)
+
+-- UT1 to UTC of d answers u, UTC to UT1 of u answers t by the same DUT1, and t is within ps picoseconds of d at their exact values
+pub record Ut1ThereAndBack (ps : ℕ) (d : JulianDate) (dut1 : Float) : Type 0 where
+  pub u : JulianDate
+  pub t : JulianDate
+  pub there : ut1ToUtc fixed d dut1 ≡ answer u
+  pub back : utcToUt1 fixed u dut1 ≡ answer t
+  pub apart : Apart ps d t
