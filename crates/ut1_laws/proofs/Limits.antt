@@ -5,7 +5,7 @@ use mathlib.Core.Bool.{false}
 use Prim.Native.Nat.{ℕ, _+_, _*_, _^_, _≤_, _<_}
 use native.Mathlib.Omega.{arith}
 use lib.Dec.{lit<}
-use lib.Ieee.{Float, binary64, round, ofBits}
+use lib.Ieee.{binary64, round, ofBits}
 use Rattle.refusals.specs.Outcome.{Outcome, answer}
 use Rattle.floats.specs.Whole.{half}
 use Rattle.constants.specs.Constants.{decimal}

@@ -16,11 +16,11 @@ use Rattle.day_number.specs.DayNumber.{dayOf}
 use Rattle.day_number.proofs.Units.{one-L}
 use Rattle.julian.specs.declared.JulianDate.{JulianDate}
 use Rattle.julian.specs.JulianDate.{julian}
-use Rattle.scale_laws.specs.Meaning.{day, Close, Apart}
+use Rattle.scale_laws.specs.Meaning.{day, Close}
 use Rattle.scale_laws.proofs.Meant.{worth-unique}
-use Rattle.tai_round_trip.specs.UtcDays.{H, secondsOn, leapAfter, OnDay, ExactDay}
+use Rattle.tai_round_trip.specs.UtcDays.{H, leapAfter, OnDay, ExactDay}
 use Rattle.tai_round_trip.specs.Ranges.{HalfDaySplit}
-use Rattle.tai_round_trip.proofs.Units.{h, L-H, L-h, h-small}
+use Rattle.tai_round_trip.proofs.Units.{h, L-h, h-small}
 use Rattle.tai_round_trip.proofs.Parts.{FirstPart, SecondPart, stamp-of, worth-of, joined, first-part}
 use Rattle.tai_round_trip.proofs.Located.{Located, located}
 use Rattle.tai_round_trip.proofs.Meant.{day-of}
