@@ -15,7 +15,7 @@ use Rattle.julian.specs.JulianDate.{julian}
 use Rattle.julian.specs.Worth.{Worth}
 use Rattle.tai_round_trip.specs.UtcDays.{H}
 use Rattle.tai_round_trip.specs.Ranges.{HalfDaySplit}
-use Rattle.tai_round_trip.proofs.Units.{L-H, in-units}
+use Rattle.tai_round_trip.proofs.Units.{L-H, H-pos, in-units}
 
 -- a float whose value is a whole number of half days, k of them, from 2441319.5 to 5000000.5 days
 pub record FirstPart (a : Float) (A : ℕ) : Type 0 where
@@ -56,7 +56,19 @@ joined {A = A} {p} {n} v w = record { p = A; n = 0; q = p; m = n; first = v; sec
 pub worth-of : {a u : Float} {A up un : ℕ} → FirstPart a A → SecondPart u up un → Worth (julian a u) (A + up) un L
 worth-of v w = joined (v .val) (w .val)
 
--- ---- two parts whose sum lies from 1972-01-01 to 8977-06-09, the second at most 131072 days in size
+-- ---- two parts whose sum lies from 2000000 to 6000000 days, the second at most 131072 days in size
+pub record Around (a u : Float) (A up un : ℕ) : Type 0 where
+  pub held1 : T (fits binary64 a)
+  pub held2 : T (fits binary64 u)
+  pub val1 : Val a A 0 L
+  pub val2 : Val u up un L
+  pub most : A ≤ 10000001 * H
+  pub over : up ≤ un + 131072 * L
+  pub under : un ≤ up + 131072 * L
+  pub low : 4000000 * H + un ≤ A + up
+  pub high : A + up ≤ un + 12000000 * H
+
+-- the same from 1972-01-01 to 8977-06-09
 pub record Stamp (a u : Float) (A up un : ℕ) : Type 0 where
   pub held1 : T (fits binary64 a)
   pub held2 : T (fits binary64 u)
@@ -67,6 +79,19 @@ pub record Stamp (a u : Float) (A up un : ℕ) : Type 0 where
   pub under : un ≤ up + 131072 * L
   pub low : 4882636 * H + un ≤ A + up
   pub high : A + up ≤ un + 10000004 * H
+
+pub around : {a u : Float} {A up un : ℕ} → Stamp a u A up un → Around a u A up un
+around s = record {
+  held1 = s .held1;
+  held2 = s .held2;
+  val1 = s .val1;
+  val2 = s .val2;
+  most = s .most;
+  over = s .over;
+  under = s .under;
+  low = omega (arith, s .low, H-pos);
+  high = omega (arith, s .high, H-pos);
+}
 
 pub stamp-of : {a u : Float} {A up un : ℕ} → FirstPart a A → SecondPart u up un → Stamp a u A up un
 stamp-of v w = record {

@@ -59,15 +59,15 @@ unit-64 : 2 ^ 1027 ≡ 64 * h
 unfolding h
 unit-64 = refl
 
-size-q : 512 * 2 ^ (53 + 1012) ≡ L
+pub size-q : 512 * 2 ^ (53 + 1012) ≡ L
 unfolding L
 size-q = refl
 
-unit-q : 512 * 2 ^ 1012 ≡ h
+pub unit-q : 512 * 2 ^ 1012 ≡ h
 unfolding h
 unit-q = refl
 
-seconds-val : (D : ℕ) → D ≤ 37 → Val (wholeF D) (D * L) 0 L
+pub seconds-val : (D : ℕ) → D ≤ 37 → Val (wholeF D) (D * L) 0 L
 seconds-val D l = subst (λ (z : ℕ). Val (wholeF D) (D * L) z L) (zero-mul L) (whole-val (ofInt-val (pos D) (omega arith) (omega arith)))
 
 -- z is (p - n) / L, and 86400 z is within 117 h of x - y - D L
