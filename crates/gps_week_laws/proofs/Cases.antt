@@ -48,6 +48,11 @@ pub below-a-half : at 0x4142_a5ea_4000_0000 0x3e38_daea_1d7f_4cf6 ≡ answer (we
 unfolding weekOf finiteJd onward weekOfDay weekAt millisOf productOf fromZero toWhole toSigned mul round dayNumberAndFraction ofBits lt add sub div neg
 below-a-half = refl
 
+-- (2444244.5, 5.787037037037037e-09): the product is exactly 0.5, and a half goes up, to the odd millisecond too
+pub up-from-a-half : at 0x4142_a5ea_4000_0000 0x3e38_daea_1d7f_4cf7 ≡ answer (weekTime 0 1)
+unfolding weekOf finiteJd onward weekOfDay weekAt millisOf productOf fromZero toWhole toSigned mul round dayNumberAndFraction ofBits lt add sub div neg
+up-from-a-half = refl
+
 -- (2444244.5, -0.5 ms): its day is 1980-01-05, and the rounded count is the first of week 0; 2^-27 day, 0.64 ms, before it the date is before the first week
 pub into-the-first-week : (at 0x4142_a5ea_4000_0000 0xbe38_daea_1d7f_4cf7 ≡ answer (weekTime 0 0)) × (at 0x4142_a5ea_4000_0000 0xbe40_0000_0000_0000 ≡ refusal 18)
 unfolding weekOf finiteJd onward weekOfDay weekAt millisOf productOf fromZero toWhole toSigned mul round dayNumberAndFraction ofBits lt add sub div neg

@@ -2,11 +2,13 @@
 use Prim.Native.Nat.{ℕ, _+_, _-_, _*_, _≤_, _<_}
 use Rattle.tick_times.specs.Passes.{Passes}
 
--- 2 or more passes that rise strictly in both, with numbers below 2^40
+-- 2 to 2,000 passes that rise strictly in both, with numbers below 2^40
 pub record Sound (p : Passes) : Type 0 where
   pub two : 2 ≤ p .size
+  pub most : p .size ≤ 2000
   pub ticks-rise : (i : ℕ) → i + 1 < p .size → p .tick i < p .tick (i + 1)
   pub millis-rise : (i : ℕ) → i + 1 < p .size → p .milli i < p .milli (i + 1)
+  pub ticks-small : (i : ℕ) → i < p .size → p .tick i < 0x100_0000_0000
   pub millis-small : (i : ℕ) → i < p .size → p .milli i < 0x100_0000_0000
 
 -- the tick lies from the first pass to the last

@@ -91,3 +91,19 @@ ut1-leap-day = given (ut1-utc dut1-before) (last-of-2016 (decimal 75 2)) (last-o
 pub ut1-day-after : Gives (ut1-utc dut1-after) (julian (decimal 24577545 1) (decimal 25 2)) (julian (decimal 24577545 1) (bits 0x3fcf_ffc6_8abb_3103))
 unfolding computed round ofBits neg
 ut1-day-after = given (ut1-utc dut1-after) (julian (decimal 24577545 1) (decimal 25 2)) (julian (decimal 24577545 1) (bits 0x3fcf_ffc6_8abb_3103)) refl
+
+-- at 6h of the day after with a DUT1 of 0.0, which counts as the one after the leap second: nothing is taken away
+pub ut1-no-dut1 : Gives (ut1-utc (decimal 0 0)) (julian (decimal 24577545 1) quarter) (julian (decimal 24577545 1) quarter)
+unfolding computed round ofBits
+ut1-no-dut1 = given (ut1-utc (decimal 0 0)) (julian (decimal 24577545 1) quarter) (julian (decimal 24577545 1) quarter) refl
+
+-- ---- in the years of drift
+-- noon of 1971-12-31, whose step of 0.107758 s is spread over the day
+pub step-noon : Gives utc-tai (julian (decimal 24413165 1) (decimal 5 1)) (julian (decimal 24413165 1) (bits 0x3fe0_00f1_62fd_d4fe))
+unfolding computed round ofBits
+step-noon = given utc-tai (julian (decimal 24413165 1) (decimal 5 1)) (julian (decimal 24413165 1) (bits 0x3fe0_00f1_62fd_d4fe)) refl
+
+-- 6h of 1966-06-15 with DUT1 0.1 s: TAI-UTC is that of 0h, so that UT1 runs ahead by the drift since, 0.648 ms
+pub drift-ut1 : Gives (utc-ut1 (decimal 1 1)) (julian (decimal 24392915 1) quarter) (julian (decimal 24392915 1) (bits 0x3fd0_0004_e2cf_4f58))
+unfolding computed round ofBits
+drift-ut1 = given (utc-ut1 (decimal 1 1)) (julian (decimal 24392915 1) quarter) (julian (decimal 24392915 1) (bits 0x3fd0_0004_e2cf_4f58)) refl
