@@ -276,8 +276,8 @@ int64_t ct_listing_part(const uint8_t *block, size_t block_len, uint32_t line, u
    multiple of 8; 11 for fewer whole places in out than ticks; 23 for lists of passes that are unequal,
    under 2 or over 2,000, or have a number of 2^40 or more; 24 for passes that do not rise strictly in both;
    25 for a tick before the first pass or after the last, 2^40 too. Nothing is written before all is judged.
-   Passes 0, 1000 at 0, 500 ms: tick 3 is at 1, and ticks 0, 1001 are 25, with 15 bytes 11, and by passes
-   0, 0 at 0, 500 ms 24. */
+   Passes 0, 1000 at 0, 500 ms: tick 3 is at 1, and ticks 0, 1001 are 25. With 15 bytes these are 11, and
+   with 16 and passes 0, 0 at 0, 500 ms they are 24. */
 int64_t ct_place_ticks(const uint8_t *pass_ticks, size_t pass_ticks_len, const uint8_t *pass_millis,
                        size_t pass_millis_len, const uint8_t *ticks, size_t ticks_len, uint8_t *out,
                        size_t out_len);
