@@ -61,8 +61,9 @@
      27  number of a bill over its limit
      28  both lengths of line 0
    A call tests in the order in which its comment lists them, and 11 last, but for
-   ct_place_ticks. Where it has two or more, the comment has an example in which two
-   hold, with the one that comes first. "With no byte" is with a buffer of length 0, of which 11 holds. */
+   ct_place_ticks, where 11 comes second. Where it has two or more, the comment has an
+   example in which two hold, with the one that comes first. "With no byte" is with a
+   buffer of length 0, of which 11 holds. */
 #ifndef CELESTIAL_TIME_H
 #define CELESTIAL_TIME_H
 
@@ -249,7 +250,8 @@ int64_t ct_parse_iso8601(const uint8_t *text, size_t text_len, uint8_t *out, siz
 
 /* The six fields of a UTC text, which may have one Z directly behind its second, and then the date
    that ct_utc_from_calendar gives: jd1, jd2; 44 bytes. Refuses 15; 16; 2, 3; then 4, where the limit
-   at 23:59 is 60 plus the day's leap; 11. 2016-12-31T23:59:60.5Z is a date, 2015-12-31T23:59:60 is 4. */
+   at 23:59 is 60 plus the day's leap; 11. 2016-12-31T23:59:60.5Z is a date, 2015-12-31T23:59:60 is 4,
+   and 2000-13-01T24:00:00Z with no byte is 2. */
 int64_t ct_utc_from_iso8601(const uint8_t *text, size_t text_len, uint8_t *out, size_t out_len);
 
 /* ---- Stamp block: two sizes of 4 bytes, all jd1, then all jd2, the lowest byte first */
@@ -274,7 +276,8 @@ int64_t ct_listing_part(const uint8_t *block, size_t block_len, uint32_t line, u
    multiple of 8; 11 for fewer whole places in out than ticks; 23 for lists of passes that are unequal,
    under 2 or over 2,000, or have a number of 2^40 or more; 24 for passes that do not rise strictly in both;
    25 for a tick before the first pass or after the last, 2^40 too. Nothing is written before all is judged.
-   Passes 0, 1000 at 0, 500 ms: tick 3 is at 1, and ticks 0, 1001 are 25. */
+   Passes 0, 1000 at 0, 500 ms: tick 3 is at 1, and ticks 0, 1001 are 25. With 15 bytes these are 11, and
+   with 16 and passes 0, 0 at 0, 500 ms they are 24. */
 int64_t ct_place_ticks(const uint8_t *pass_ticks, size_t pass_ticks_len, const uint8_t *pass_millis,
                        size_t pass_millis_len, const uint8_t *ticks, size_t ticks_len, uint8_t *out,
                        size_t out_len);
