@@ -109,6 +109,14 @@ static void same_stamps(void)
         IS(1, ct_same_stamp(scale, NOON, 0, scale, NOON, 0));
         IS(scale == 3, ct_same_stamp(scale, NOON, 0, CT_TT, NOON, 0));
     }
+    IS(0, CT_UTC); /* document 01's order */
+    IS(1, CT_TAI);
+    IS(2, CT_UT1);
+    IS(3, CT_TT);
+    IS(4, CT_GPS);
+    IS(5, CT_TCG);
+    IS(6, CT_TCB);
+    IS(7, CT_TDB);
     IS(1, ct_same_stamp(UINT32_MAX, NOON, 0, UINT32_MAX, NOON, 0));
     IS(0, ct_same_stamp(UINT32_MAX, NOON, 0, CT_UTC, NOON, 0));
     IS(1, ct_equal(2451545.0, 0.0, 2451544.75, 0.25));

@@ -19,6 +19,7 @@ static const struct { const char *name; plain_call *ask; int number; } PLAIN[] =
     {"ct_tai_to_tcg", ct_tai_to_tcg, 9}, {"ct_tcg_to_tai", ct_tcg_to_tai, 9},
     {"ct_tt_to_tcg", ct_tt_to_tcg, 9},   {"ct_tcg_to_tt", ct_tcg_to_tt, 9},
     {"ct_tcb_to_tdb", ct_tcb_to_tdb, 9}, {"ct_tdb_to_tcb", ct_tdb_to_tcb, 9},
+    {"ct_gps_to_week", ct_gps_to_week, 9},
 };
 
 static const struct { const char *name; offset_call *ask; int number; } WITH_OFFSET[] = {
@@ -61,6 +62,9 @@ static void ask_all(double jd1, double jd2)
     for (i = 0; i < COUNT(PLAIN); i++) due(PLAIN[i].name, PLAIN[i].number, PLAIN[i].ask(jd1, jd2, fresh(), ROOM));
     for (i = 0; i < COUNT(WITH_OFFSET); i++)
         due(WITH_OFFSET[i].name, WITH_OFFSET[i].number, WITH_OFFSET[i].ask(jd1, jd2, 0.5, fresh(), ROOM));
+    fresh(); /* which ct_compare is not lent */
+    due("ct_compare", 9, ct_compare(jd1, jd2, 2451545.0, 0.25));
+    due("ct_compare, the other date", 9, ct_compare(2451545.0, 0.25, jd1, jd2));
 }
 
 /* A part that is not finite in the place of the offset; 10 comes after 9 in six calls and before it in two. */

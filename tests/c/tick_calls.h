@@ -53,6 +53,10 @@ static void tick_calls(void)
     places(0, due, passes, millis, ticks, 63);
     places(0, none, passes, millis, none, 0);
     places(0, below, wide, wide, all, 8);
+    places(0, N(U(1)), N(U(0), U(1000)), N(U(0), U(500)), N(U(3)), 8); /* the header's examples */
+    places(25, none, N(U(0), U(1000)), N(U(0), U(500)), N(U(0), U(1001)), 16);
+    places(11, none, N(U(0), U(1000)), N(U(0), U(500)), N(U(0), U(1001)), 15);
+    places(24, none, N(U(0), U(0)), N(U(0), U(500)), N(U(0), U(1001)), 16);
     places(14, none, cut(passes, 1), millis, ticks, 0);
     places(14, none, passes, cut(millis, 7), ticks, 0);
     places(14, none, passes, millis, cut(ticks, 4), 0);
