@@ -43,6 +43,7 @@ static const row rows[] = {
     {"to_julian_year", LEAP_SECOND_YEARS, {BOTH(number_loop, to_julian_year), BY_ERFA(number_loop, eraEpj)}},
     {"from_julian_year", LEAP_SECOND_YEARS, {BOTH(julian_year_loop, from_julian_year), BY_ERFA(erfa_julian_year_loop, eraEpj2jd)}},
     {"equal", LEAP_SECOND_YEARS, {BOTH(equal_loop, equal), NOT_IN_ERFA}},
+    {"compare", LEAP_SECOND_YEARS, {PORT_ALONE(equal_loop, compare)}},
     {"same_stamp", LEAP_SECOND_YEARS, {PORT_ALONE(same_loop, same_stamp)}},
     {"difference", LEAP_SECOND_YEARS, {BOTH(difference_loop, difference), NOT_IN_ERFA}},
     {"get_tai_utc_offset", LEAP_SECOND_YEARS, {BOTH(offset_loop, get_tai_utc_offset), BY_ERFA(erfa_offset_loop, eraDat)}},
