@@ -1,8 +1,6 @@
 -- Published weeks, and cases at the edges. IS-GPS-200 counts from 1980-01-06; the ten bits began anew on 1999-08-22 and 2019-04-07. Assumes nothing.
 use mathlib.Core.Path.{_≡_, refl, sym, ap, _∙_}
-use Prim.Native.Nat.{ℕ, _+_, _*_, _≤_}
-use native.Mathlib.Nat.{add-zero}
-use borrow.Author.Tests.{le-leb}
+use Prim.Native.Nat.{ℕ, _+_, _*_}
 use lib.IntN.{ℤ, pos, natAbs, _+ℤ_}
 use lib.Ieee.{Float, binary64, ofBits, round, lt, le, eq, add, sub, mul, div, neg, inf, toSigned}
 use Rattle.refusals.specs.Outcome.{Outcome, answer, refusal, onward}
@@ -17,7 +15,7 @@ use Rattle.julian.specs.JulianDate.{julian}
 use Rattle.julian.specs.Finite.{finiteJd}
 use Rattle.time_of_day.specs.TimeShown.{fromZero}
 use Rattle.gps_weeks.specs.declared.WeekTime.{WeekTime}
-use Rattle.gps_weeks.specs.WeekDate.{firstDay, midnight, partOfDay, weekDate}
+use Rattle.gps_weeks.specs.WeekDate.{firstDay}
 use Rattle.gps_weeks.specs.WeekOf.{weekTime, productOf, millisOf, weekAt, weekOfDay, weekOf}
 
 -- ---- the dates on which weeks begin
@@ -62,11 +60,6 @@ into-the-first-week = (refl, refl)
 pub out-of-the-last-week : (at 0x4147_fd1d_c000_0000 0xbe38_daea_1d7f_4cf7 ≡ refusal 18) × (at 0x4147_fd1d_c000_0000 0xbe40_0000_0000_0000 ≡ answer (weekTime 100000 604799999))
 unfolding weekOf finiteJd onward weekOfDay weekAt millisOf productOf fromZero toWhole toSigned mul round dayNumberAndFraction ofBits lt add sub div neg
 out-of-the-last-week = (refl, refl)
-
--- the first part is exactly the day's midnight, at the first millisecond of every week
-pub begins : (week : ℕ) → week ≤ 100000 → weekDate week 0 ≡ answer (julian (midnight (firstDay + 7 * week)) (partOfDay 0))
-unfolding weekDate
-begins week h = rw (le-leb week 100000 h) (ap (λ (n : ℕ). answer (julian (midnight n) (partOfDay 0))) (add-zero (firstDay + 7 * week)))
 
 -- (infinity, -infinity) is 9, though its sum is no number; (1.7e308, 1.7e308) is finite and 6
 pub nine-before-six : (at 0x7ff0_0000_0000_0000 0xfff0_0000_0000_0000 ≡ refusal 9) × (at 0x7fee_42d1_3077_3b76 0x7fee_42d1_3077_3b76 ≡ refusal 6)
