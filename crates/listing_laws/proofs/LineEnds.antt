@@ -113,9 +113,9 @@ words : (lineEnds utcListingWords ≡ 0) × (lineEnds (32 ∷ refusedWord) ≡ 0
 unfolding lineEnds
 words = (refl, refl, refl)
 
-stamp-one : (s : List ℕ) (n i : ℕ) → lineEnds (stampLine s n i) ≡ 1
+stamp-one : (rows : List Row) (s : List ℕ) (n i : ℕ) → lineEnds (stampLine rows s n i) ≡ 1
 unfolding stampLine textAt
-stamp-one s n i = simp (ends-append, decimal-none, shown-none, blank, end)
+stamp-one rows s n i = simp (ends-append, decimal-none, shown-none, blank, end)
 
 header-one : (n k : ℕ) → lineEnds (header n k) ≡ 1
 unfolding header
@@ -125,29 +125,29 @@ refused-one : (k : ℕ) → lineEnds (blockRefused k) ≡ 1
 unfolding blockRefused
 refused-one k = simp (ends-append, decimal-none, words .2, end)
 
-line-one : (o : Outcome ℕ) (s : List ℕ) (line : ℕ) → lineEnds (lineOf o s line) ≡ 1
+line-one : (rows : List Row) (o : Outcome ℕ) (s : List ℕ) (line : ℕ) → lineEnds (lineOf rows o s line) ≡ 1
 unfolding lineOf
-line-one (refusal k) s line = refused-one k
-line-one (answer n) s line = by (eqb line 0)
+line-one rows (refusal k) s line = refused-one k
+line-one rows (answer n) s line = by (eqb line 0)
   where
-    by : (b : Bool) → lineEnds (cond b (header n (refusedIn s n n)) (stampLine s n (line - 1))) ≡ 1
-    by true = header-one n (refusedIn s n n)
-    by false = stamp-one s n (line - 1)
+    by : (b : Bool) → lineEnds (cond b (header n (refusedIn rows s n n)) (stampLine rows s n (line - 1))) ≡ 1
+    by true = header-one n (refusedIn rows s n n)
+    by false = stamp-one rows s n (line - 1)
 
-lines-ends : (s : List ℕ) (line k : ℕ) → lineEnds (linesFrom s line k) ≡ k
+lines-ends : (rows : List Row) (s : List ℕ) (line k : ℕ) → lineEnds (linesFrom rows s line k) ≡ k
 unfolding linesFrom lineEnds
-lines-ends s line zero = refl
-lines-ends s line (suc k) =
-    let e = ends-append (linesFrom s line k) (lineOf (blockOf s) s (line + k)) in
-    omega (arith, lines-ends s line k, line-one (blockOf s) s (line + k))
+lines-ends rows s line zero = refl
+lines-ends rows s line (suc k) =
+    let e = ends-append (linesFrom rows s line k) (lineOf rows (blockOf s) s (line + k)) in
+    omega (arith, lines-ends rows s line k, line-one rows (blockOf s) s (line + k))
 
 -- ---- what a caller learns of a part by its bytes alone
 -- the line ends of a part are its lines
-pub part-ends : (s : List ℕ) (line room : ℕ) → lineEnds (partText s line room) ≡ partLines s line room
+pub part-ends : (rows : List Row) (s : List ℕ) (line room : ℕ) → lineEnds (partText rows s line room) ≡ partLines rows s line room
 unfolding partText
-part-ends s line room = lines-ends s line (partLines s line room)
+part-ends rows s line room = lines-ends rows s line (partLines rows s line room)
 
 -- where a line is left, 33 bytes hold one
-pub part-some : (s : List ℕ) (line room : ℕ) → line < linesIn (blockOf s) → 33 ≤ room → 1 ≤ partLines s line room
+pub part-some : (rows : List Row) (s : List ℕ) (line room : ℕ) → line < linesIn (blockOf s) → 33 ≤ room → 1 ≤ partLines rows s line room
 unfolding partLines
-part-some s line room h enough = held-some s line room (linesIn (blockOf s) - line) enough (omega arith)
+part-some rows s line room h enough = held-some rows s line room (linesIn (blockOf s) - line) enough (omega arith)

@@ -1,4 +1,4 @@
-// Lists the stamp block that is read from standard input: the parts that `stamps::next_part` gives, one after the other. Proved here: the program is safe and ends.
+// Lists the stamp block that is read from standard input: the parts that `stamps::next_part_by_rows` gives, one after the other. Proved here: the program is safe and ends.
 // That the parts are the listing is a theorem (listing_laws); that they go out in order is tested by what the program prints.
 ghost use mathlib.Core.Path.{_≡_};
 ghost use lib.ListN.{length};
@@ -6,21 +6,25 @@ ghost use lib.ListN.{length};
 // One byte more than the longest block, 8 + 16 * 4000 bytes, so that a longer input is noticed.
 const BLOCK_SPACE: usize = 64009;
 
+// Through so many bytes the lines go out; a line has at most 33.
+const SCRATCH: usize = 64;
+
 fn block_space() -> [u8; BLOCK_SPACE]
     ensures { λ r. ⌜ 64009 ≡ length r ⌝ }
 {
     [0; BLOCK_SPACE]
 }
 
-// Where the output takes no more, the program ends: what it wrote until then has its last line cut short, or ends with a whole line.
+// The program lends no rows. Where the output takes no more, the program ends: what it wrote until then has its last line cut short, or ends with a whole line.
 fn main() {
     let mut space = block_space();
     let len = io::read_full(0, &mut space);
     let block = &space[..len];
-    let mut scratch = io::buffer();
+    let mut scratch = [0u8; SCRATCH];
+    let table = tai_utc::no_rows();
     let mut line = 0;
     loop {
-        let part = stamps::next_part(block, line, &mut scratch);
+        let part = stamps::next_part_by_rows(block, line, table, &mut scratch);
         let written = part.written;
         if !io::write_all(1, &scratch[..written]) {
             return;
