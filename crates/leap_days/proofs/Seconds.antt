@@ -8,7 +8,7 @@ use native.Mathlib.Omega.{arith}
 use lib.Dec.{T, eqb, ltb, leb, eqb→eq, leb→le}
 use lib.ListN.{length, getD, drop}
 use lib.IntN.{ℤ, pos, natAbs}
-use lib.Ieee.{Float, nan, inf, fin, binary64, add, lt, up, down, round, ofInt}
+use lib.Ieee.{Float, nan, inf, fin, binary64, add, lt, up, down, round, ofInt, ofBits}
 use lib.Ieee.Bits.{is-true}
 use lib.Ieee.Fits.{and-l, and-r}
 use borrow.Author.Tests.{eqb-true, eqb-false, eq-eqb, ne-eqb, ltb-true, ltb-false, le-ltb}
@@ -18,6 +18,10 @@ use Rattle.calendar.specs.Calendar.{lengths, leapSize}
 use Rattle.calendar.specs.DayCount.{mjdNumber}
 use Rattle.calendar.proofs.Accepted.{accepted}
 use Rattle.calendar.proofs.NextDates.{next-is}
+use Rattle.calendar.specs.declared.CalendarDate.{CalendarDate}
+use Rattle.calendar.specs.Refusals.{nextOf}
+use Rattle.tai_utc.specs.declared.LentRows.{LentRows}
+use Rattle.tai_utc.specs.Lent.{tableOf}
 use Rattle.tai_utc.specs.Table.{Row, fixed, starts, reached, monthNumber, monthOf}
 use Rattle.tai_utc.specs.Leap.{offsetsOfDay, leapOf, leapAtEndOfDay}
 use Rattle.tai_utc.proofs.Reached.{member, month-later, member-later}
@@ -31,7 +35,8 @@ use Rattle.tai_utc.specs.Offset.{none, secondsIn, wholeF}
 use Rattle.drift_days.specs.Small.{small}
 use Rattle.leap_days.specs.Leaps.{Day, leapSeconds, listed, isLeapSecond}
 use Rattle.leap_days.proofs.Months.{next-month-number}
-use Rattle.leap_days.proofs.TableLeaps.{no-step, one-second-more}
+use Rattle.leap_days.proofs.TableLeaps.{no-step, one-second-more, leap-is-step}
+use Rattle.leap_days.specs.Tables.{StepLeap, no-row, row-up, row-down}
 
 -- ---- 27 days, each the last of the month before one of rows 16 to 42 begins
 pub twenty-seven : length leapSeconds ≡ 27
@@ -187,6 +192,26 @@ lengths-are false = refl
 -- the day's length in seconds
 pub day-length : (y : ℕ) (m d : ℤ) (x : Float) → 1972 ≤ y → leapAtEndOfDay fixed (pos y) m d ≡ answer x → add binary64 (wholeF 86400) x ≡ wholeF (cond (isLeapSecond y (natAbs m) (natAbs d)) 86401 86400)
 day-length y m d x h e = ap (add binary64 (wholeF 86400)) (leap-seconds y m d x h e) ∙ lengths-are (isLeapSecond y (natAbs m) (natAbs d))
+
+-- the same of every table that is taken: 86,400 s and the step
+step-length : (rows : List Row) (n n′ : ℕ) (x : Float) → StepLeap rows n n′ x → add binary64 (wholeF 86400) x ≡ wholeF (86400 + secondsIn rows n′ - secondsIn rows n)
+unfolding add round ofInt ofBits
+step-length rows n n′ x (no-row r p) = ap (add binary64 (wholeF 86400)) p ∙ ap wholeF (level (secondsIn rows n′) (secondsIn rows n) (ap (λ (w : Row). w .units / 10000000) r))
+  where
+    level : (a b : ℕ) → a ≡ b → 86400 ≡ 86400 + a - b
+    level a b e = omega arith
+step-length rows n n′ x (row-up b s p) = ap (add binary64 (wholeF 86400)) p ∙ ap wholeF (more (secondsIn rows n′) (secondsIn rows n) s)
+  where
+    more : (a b : ℕ) → a ≡ b + 1 → 86401 ≡ 86400 + a - b
+    more a b e = omega arith
+step-length rows n n′ x (row-down b s p) = ap (add binary64 (wholeF 86400)) p ∙ ap wholeF (down-by (secondsIn rows n′) (secondsIn rows n) s)
+  where
+    down-by : (a b : ℕ) → b ≡ a + 1 → 86399 ≡ 86400 + a - b
+    down-by a b e = omega arith
+
+pub table-day-length : (t : LentRows) (rows : List Row) → tableOf t ≡ answer rows → (y m d : ℤ) (next : CalendarDate) (x : Float) → 23664 ≤ monthNumber y (natAbs m) → nextOf y m d ≡ answer next → leapAtEndOfDay rows y m d ≡ answer x
+    → add binary64 (wholeF 86400) x ≡ wholeF (86400 + secondsIn rows (monthNumber (next .year) (next .month)) - secondsIn rows (monthNumber y (natAbs m)))
+table-day-length t rows e y m d next x h n p = step-length rows _ _ x (leap-is-step t rows e y m d next x h n p)
 
 -- ---- the test of the text, 0.5 < |leap|: false of the small ones, and true of the other two
 pub small-not-over : (x : Float) → T (small x) → lt half (abs x) ≡ false

@@ -190,6 +190,20 @@ module _ (t : LentRows) (rows : List Row) (e : tableOf t ≡ answer rows) where
       go s q r (early l f (first-row a b c w)) = last-of-1959 a b c (r ∙ w .0)
       go s q r (early l f (by-drift b w)) = drifting b l (subst (λ (z : Float). T (small z)) (sym r) (w .0)) (leap-given fixed y m d s q ∙ ap answer (sym (r ∙ ap leapOf f)))
 
+  -- from 1972 on, by the month of the day and of the next
+  pub leap-is-step : (y m d : ℤ) (next : CalendarDate) (x : Float) → 23664 ≤ monthNumber y (natAbs m) → nextOf y m d ≡ answer next → leapAtEndOfDay rows y m d ≡ answer x → StepLeap rows (monthNumber y (natAbs m)) (monthNumber (next .year) (next .month)) x
+  unfolding monthNumber
+  leap-is-step y m d next x h n p = go (table-leap-on y m d x p)
+    where
+      go : LeapOn rows y m d x → StepLeap rows (monthNumber y (natAbs m)) (monthNumber (next .year) (next .month)) x
+      go (before-1960 b q) = absurd (omega arith)
+      go (last-of-1959 a b c q) = absurd (not-1959 (λ i. monthNumber (a i) (b i)))
+        where
+          not-1959 : monthNumber y (natAbs m) ≡ 23519 → ⊥
+          not-1959 k = omega arith
+      go (drifting a b s q) = absurd (omega arith)
+      go (from-1972 a s q w) = let k : s ≡ next = cc in subst (λ (u : CalendarDate). StepLeap rows (monthNumber y (natAbs m)) (monthNumber (u .year) (u .month)) x) k w
+
   -- its size
   step-size : {n n′ : ℕ} {x : Float} → StepLeap rows n n′ x → TableLeap x
   step-size (no-row b p) = within (subst (λ (z : Float). T (small z)) (sym p) tt)
