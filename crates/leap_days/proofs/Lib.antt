@@ -2,7 +2,9 @@
 pub mod Months
 pub mod Quick
 pub mod Whole
-pub mod Every
+pub mod Before1972
 pub mod TableLeaps
+pub mod Every
+pub mod EveryTable
 pub mod Seconds
 pub mod Formula

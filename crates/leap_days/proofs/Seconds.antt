@@ -3,29 +3,40 @@
 use mathlib.Core.Path.{_≡_, refl, ap, sym, _∙_}
 use mathlib.Core.Bool.{Bool, true, false, not, cond, _&&_, _||_}
 use mathlib.Core.List.{List, [], _∷_, map}
-use Prim.Native.Nat.{ℕ, suc, _+_, _*_, _≤_}
+use Prim.Native.Nat.{ℕ, suc, _+_, _-_, _*_, _/_, _≤_}
 use native.Mathlib.Omega.{arith}
-use lib.Dec.{T, eqb, ltb, leb, leb→le}
-use lib.ListN.{length, drop}
+use lib.Dec.{T, eqb, ltb, leb, eqb→eq, leb→le}
+use lib.ListN.{length, getD, drop}
 use lib.IntN.{ℤ, pos, natAbs}
-use lib.Ieee.{Float, nan, inf, fin, binary64, add, lt, up, down, round, ofInt}
+use lib.Ieee.{Float, nan, inf, fin, binary64, add, lt, up, down, round, ofInt, ofBits}
 use lib.Ieee.Bits.{is-true}
 use lib.Ieee.Fits.{and-l, and-r}
 use borrow.Author.Tests.{eqb-true, eqb-false, eq-eqb, ne-eqb, ltb-true, ltb-false, le-ltb}
 use Rattle.refusals.specs.Outcome.{answer}
 use Rattle.floats.specs.Whole.{abs, nought, half, one}
 use Rattle.calendar.specs.Calendar.{lengths, leapSize}
+use Rattle.calendar.specs.DayCount.{mjdNumber}
 use Rattle.calendar.proofs.Accepted.{accepted}
 use Rattle.calendar.proofs.NextDates.{next-is}
-use Rattle.tai_utc.specs.Table.{fixed, starts, monthOf}
-use Rattle.tai_utc.specs.Leap.{leapOf, leapAtEndOfDay}
-use Rattle.tai_utc.proofs.Reached.{member, member-later}
-use Rattle.tai_utc.proofs.Rows.{fixed-rises}
+use Rattle.calendar.specs.declared.CalendarDate.{CalendarDate}
+use Rattle.calendar.specs.Refusals.{nextOf}
+use Rattle.tai_utc.specs.declared.LentRows.{LentRows}
+use Rattle.tai_utc.specs.Lent.{tableOf}
+use Rattle.tai_utc.specs.Table.{Row, fixed, starts, reached, monthNumber, monthOf}
+use Rattle.tai_utc.specs.Leap.{offsetsOfDay, leapOf, leapAtEndOfDay}
+use Rattle.tai_utc.proofs.Reached.{member, month-later, member-later}
+use Rattle.tai_utc.proofs.Rows.{every, at, fixed-rises}
+use Rattle.tai_utc.proofs.Years.{whole-rows, most-rows}
+use Rattle.tai_utc.proofs.Cases.{forty-two-rows}
+use Rattle.tai_utc.proofs.NoRows.{none-lent, fixed-taken}
+use Rattle.tai_utc.proofs.TableSeconds.{seconds-stay}
 use Rattle.tai_utc.proofs.Days.{leap-came}
-use Rattle.tai_utc.specs.Offset.{wholeF}
+use Rattle.tai_utc.specs.Offset.{none, secondsIn, wholeF}
 use Rattle.drift_days.specs.Small.{small}
 use Rattle.leap_days.specs.Leaps.{Day, leapSeconds, listed, isLeapSecond}
-use Rattle.leap_days.proofs.Every.{from-1972, since}
+use Rattle.leap_days.proofs.Months.{next-month-number}
+use Rattle.leap_days.proofs.TableLeaps.{no-step, one-second-more, leap-is-step}
+use Rattle.leap_days.specs.Tables.{StepLeap, no-row, row-up, row-down}
 
 -- ---- 27 days, each the last of the month before one of rows 16 to 42 begins
 pub twenty-seven : length leapSeconds ≡ 27
@@ -124,14 +135,53 @@ module _ (y m d : ℕ) (l : 1 ≤ m) (h : m ≤ 12) where
       ∙ ap (λ (n : ℕ). E && member n (map monthAfter leapSeconds)) number
       ∙ sym (all leapSeconds all-last)
 
+-- ---- the rows of the fixed table from 1972 on, each a second more than the one before: computed
+countTest : ℕ → Row → Bool
+countTest k r = ltb k 14 || eqb (r .units / 10000000 + 4) k
+
+counts : T (every countTest 0 fixed)
+unfolding fixed countTest
+counts = tt
+
+fixed-seconds : (n : ℕ) → 23664 ≤ n → secondsIn fixed n + 5 ≡ reached (starts fixed) n
+unfolding countTest
+fixed-seconds n h =
+    let r = reached (starts fixed) n in
+    let w = whole-rows n h in
+    go (r - 1) (ltb (r - 1) 14) refl (omega (arith, w)) (at countTest fixed counts (r - 1) (omega (arith, w, most-rows n, forty-two-rows))) ∙ back r w
+  where
+    go : (k : ℕ) (b : Bool) → ltb k 14 ≡ b → 14 ≤ k → T (b || eqb (getD fixed k none .units / 10000000 + 4) k) → getD fixed k none .units / 10000000 + 5 ≡ suc k
+    go k true e l t = absurd (omega (arith, ltb-true k 14 e))
+    go k false e l t = omega (arith, eqb→eq (getD fixed k none .units / 10000000 + 4) k t)
+
+    back : (k : ℕ) → 15 ≤ k → suc (k - 1) ≡ k
+    back k l = omega arith
+
+module _ (n : ℕ) (h : 23664 ≤ n) (j : ℤ) where
+  abbrev B : Bool
+  B = member (suc n) (starts fixed)
+
+  -- a day of month n; `last`: the next day is of the next month
+  fixed-leap : (last : Bool) → leapOf (offsetsOfDay fixed n (cond last n (suc n)) j) ≡ cond (not last && B) one nought
+  fixed-leap true = no-step none-lent fixed fixed-taken n n h h j refl .0
+  fixed-leap false = go B refl
+    where
+      go : (b : Bool) → member (suc n) (starts fixed) ≡ b → leapOf (offsetsOfDay fixed n (suc n) j) ≡ cond b one nought
+      go true p =
+          let q : reached (starts fixed) (suc n) ≡ suc (reached (starts fixed) n) = month-later (starts fixed) fixed-rises n ∙ rw p in
+          one-second-more none-lent fixed fixed-taken n (suc n) h (omega arith) j (omega (arith, q, fixed-seconds n h, fixed-seconds (suc n) (omega arith))) .0
+      go false p = no-step none-lent fixed fixed-taken n (suc n) h (omega arith) j (seconds-stay none-lent fixed fixed-taken n h p) .0
+
 -- ---- THE LAWS, from 1972 on
 pub leap-seconds : (y : ℕ) (m d : ℤ) (x : Float) → 1972 ≤ y → leapAtEndOfDay fixed (pos y) m d ≡ answer x → x ≡ cond (isLeapSecond y (natAbs m) (natAbs d)) one nought
+unfolding monthNumber
 leap-seconds y m d x h e =
     let (t, p, q) = leap-came fixed (pos y) m d x e in
     let a = accepted (pos y) m d (next-is (pos y) m d t p .0) in
+    let n = monthOf y (natAbs m) in
     q
-    ∙ ap leapOf (since y m d t p)
-    ∙ from-1972 y m d a (late y (natAbs m) (natAbs d) (a .m-low) (a .m-high) h) .0
+    ∙ ap (λ (k : ℕ). leapOf (offsetsOfDay fixed n k (mjdNumber (pos y) m d))) (next-month-number y m d t p)
+    ∙ fixed-leap n (late y (natAbs m) (natAbs d) (a .m-low) (a .m-high) h) (mjdNumber (pos y) m d) (ltb (natAbs d) (lengths (leapSize y) (natAbs m)))
     ∙ ap (λ (b : Bool). cond b one nought) (the-list y (natAbs m) (natAbs d) (a .m-low) (a .m-high) h (a .d-high))
 
 lengths-are : (b : Bool) → add binary64 (wholeF 86400) (cond b one nought) ≡ wholeF (cond b 86401 86400)
@@ -142,6 +192,26 @@ lengths-are false = refl
 -- the day's length in seconds
 pub day-length : (y : ℕ) (m d : ℤ) (x : Float) → 1972 ≤ y → leapAtEndOfDay fixed (pos y) m d ≡ answer x → add binary64 (wholeF 86400) x ≡ wholeF (cond (isLeapSecond y (natAbs m) (natAbs d)) 86401 86400)
 day-length y m d x h e = ap (add binary64 (wholeF 86400)) (leap-seconds y m d x h e) ∙ lengths-are (isLeapSecond y (natAbs m) (natAbs d))
+
+-- the same of every table that is taken: 86,400 s and the step
+step-length : (rows : List Row) (n n′ : ℕ) (x : Float) → StepLeap rows n n′ x → add binary64 (wholeF 86400) x ≡ wholeF (86400 + secondsIn rows n′ - secondsIn rows n)
+unfolding add round ofInt ofBits
+step-length rows n n′ x (no-row r p) = ap (add binary64 (wholeF 86400)) p ∙ ap wholeF (level (secondsIn rows n′) (secondsIn rows n) (ap (λ (w : Row). w .units / 10000000) r))
+  where
+    level : (a b : ℕ) → a ≡ b → 86400 ≡ 86400 + a - b
+    level a b e = omega arith
+step-length rows n n′ x (row-up b s p) = ap (add binary64 (wholeF 86400)) p ∙ ap wholeF (more (secondsIn rows n′) (secondsIn rows n) s)
+  where
+    more : (a b : ℕ) → a ≡ b + 1 → 86401 ≡ 86400 + a - b
+    more a b e = omega arith
+step-length rows n n′ x (row-down b s p) = ap (add binary64 (wholeF 86400)) p ∙ ap wholeF (down-by (secondsIn rows n′) (secondsIn rows n) s)
+  where
+    down-by : (a b : ℕ) → b ≡ a + 1 → 86399 ≡ 86400 + a - b
+    down-by a b e = omega arith
+
+pub table-day-length : (t : LentRows) (rows : List Row) → tableOf t ≡ answer rows → (y m d : ℤ) (next : CalendarDate) (x : Float) → 23664 ≤ monthNumber y (natAbs m) → nextOf y m d ≡ answer next → leapAtEndOfDay rows y m d ≡ answer x
+    → add binary64 (wholeF 86400) x ≡ wholeF (86400 + secondsIn rows (monthNumber (next .year) (next .month)) - secondsIn rows (monthNumber y (natAbs m)))
+table-day-length t rows e y m d next x h n p = step-length rows _ _ x (leap-is-step t rows e y m d next x h n p)
 
 -- ---- the test of the text, 0.5 < |leap|: false of the small ones, and true of the other two
 pub small-not-over : (x : Float) → T (small x) → lt half (abs x) ≡ false

@@ -28,13 +28,13 @@ use Rattle.tai_round_trip.proofs.Parts.{joined}
 abbrev bits : ℕ → Float
 bits n = ofBits binary64 n
 
-to-tai : (d x : JulianDate) → computed utc-tai d ≡ answer x → utcToTai fixed d ≡ answer x
+to-tai : (d x : JulianDate) → computed fixed utc-tai d ≡ answer x → utcToTai fixed d ≡ answer x
 unfolding answerOfAny
-to-tai d x e = as-computed utc-tai d ∙ e
+to-tai d x e = as-computed fixed utc-tai d ∙ e
 
-to-utc : (d x : JulianDate) → computed tai-utc d ≡ answer x → taiToUtc fixed d ≡ answer x
+to-utc : (d x : JulianDate) → computed fixed tai-utc d ≡ answer x → taiToUtc fixed d ≡ answer x
 unfolding answerOfAny
-to-utc d x e = as-computed tai-utc d ∙ e
+to-utc d x e = as-computed fixed tai-utc d ∙ e
 
 same : {o : Outcome JulianDate} {x y : JulianDate} → o ≡ answer x → o ≡ answer y → x ≡ y
 same p q = cc

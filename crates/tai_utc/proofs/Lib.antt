@@ -7,6 +7,7 @@ pub mod Tables
 pub mod TableTests
 pub mod TablesTaken
 pub mod TableLaws
+pub mod NoRows
 pub mod Month
 pub mod At
 pub mod Mjd

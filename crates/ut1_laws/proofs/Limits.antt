@@ -27,13 +27,13 @@ use Rattle.ut1_laws.specs.Back.{Ut1ThereAndBack}
 abbrev stamp : ℕ → JulianDate
 stamp n = julian (decimal 24577515 1) (ofBits binary64 n)
 
-to-ut1 : (d x : JulianDate) → computed (utc-ut1 half) d ≡ answer x → utcToUt1 fixed d half ≡ answer x
+to-ut1 : (d x : JulianDate) → computed fixed (utc-ut1 half) d ≡ answer x → utcToUt1 fixed d half ≡ answer x
 unfolding answerOfAny
-to-ut1 d x e = as-computed (utc-ut1 half) d ∙ e
+to-ut1 d x e = as-computed fixed (utc-ut1 half) d ∙ e
 
-to-utc : (d x : JulianDate) → computed (ut1-utc half) d ≡ answer x → ut1ToUtc fixed d half ≡ answer x
+to-utc : (d x : JulianDate) → computed fixed (ut1-utc half) d ≡ answer x → ut1ToUtc fixed d half ≡ answer x
 unfolding answerOfAny
-to-utc d x e = as-computed (ut1-utc half) d ∙ e
+to-utc d x e = as-computed fixed (ut1-utc half) d ∙ e
 
 same : {o : Outcome JulianDate} {x y : JulianDate} → o ≡ answer x → o ≡ answer y → x ≡ y
 same p q = cc

@@ -1,12 +1,14 @@
--- The sizes of what a day hands to UTC to TAI and to UTC to UT1, by the table: its midnight, the fraction of it, stretched, and TAI-UTC. Assumes nothing.
+-- The sizes of what a day hands to UTC to TAI and to UTC to UT1, by every table that is taken: its midnight, the fraction of it, stretched, and TAI-UTC. Assumes nothing.
 use mathlib.Core.Path.{_≡_, refl, _∙_}
 use mathlib.Core.Bool.{true}
 use mathlib.Core.Logic.{inl, inr}
+use mathlib.Core.List.{List}
 use native.Mathlib.Nat.{le-trans}
 use native.Mathlib.Omega.{arith}
 use lib.Dec.{lit≤}
 use lib.IntN.{ℤ, pos, _-ℤ_}
 use lib.Ieee.{Float, binary64, ofInt, add, div}
+use Rattle.refusals.specs.Outcome.{answer}
 use Rattle.floats.specs.Whole.{nought}
 use Rattle.rounding.proofs.Casts.{sub-le}
 use Rattle.rounding.proofs.Sizes.{Size, size-add, size-sub, size-mul, size-div, int-size, power-size}
@@ -15,7 +17,9 @@ use Rattle.day_number.specs.DayNumber.{accepted, dayOf, fractionPassed}
 use Rattle.day_number.specs.Ranges.{InDays}
 use Rattle.day_number.proofs.Accepted.{accepted-pair}
 use Rattle.tai_utc.specs.declared.DayOffsets.{DayOffsets}
-use Rattle.tai_utc.specs.Table.{fixed}
+use Rattle.tai_utc.specs.declared.LentRows.{LentRows}
+use Rattle.tai_utc.specs.Table.{Row}
+use Rattle.tai_utc.specs.Lent.{tableOf}
 use Rattle.tai_utc.specs.Leap.{driftRate, leapAmount}
 use Rattle.utc_scales.specs.Dates.{offsetOfDate, offsetAt0h}
 use Rattle.utc_scales.specs.UtcTai.{stretchDayFraction}
@@ -58,14 +62,15 @@ since-midnight-size x y f g a o z =
     size-add 36 11 37 (lit≤ tt) (lit≤ tt) (stretched-size o (dayOf x y .fraction) z (fraction-size x y f g a)) (size-div 11 (lit≤ tt) (z .at-0h) day-above)
 
 -- ---- TAI-UTC at 0h of the day of a pair of parts
-pub day-offset-size : (x y : Float) → Fits x → Fits y → Holds (λ z. Size z 11) SixOrOne (offsetOfDate fixed x y)
-unfolding offsetAt0h
-day-offset-size x y f g = go (kind x y f g)
-  where
-    go : Kind x y → Holds (λ z. Size z 11) SixOrOne (offsetOfDate fixed x y)
-    go (outside a e) = holds-refusal 6 (offset-no-date x y 6 e fixed) (inl refl)
-    go (before a e b v) = holds-refusal 1 (offset-of-day fixed x y (dayOf x y) e ∙ offset-early fixed (dayOf x y .day) v) (inr refl)
-    go (valid a e b v r) =
-        let t = dateIn x y in
-        let o = offset-answered fixed (dayOf x y .day) v in
-        holds-answer (o .0) (offset-of-day fixed x y (dayOf x y) e ∙ o .1) (offset-size (t .year) (pos (t .month)) (pos (t .day)) nought (o .0) (zero-size 0) (o .1))
+module _ (t : LentRows) (rows : List Row) (taken : tableOf t ≡ answer rows) where
+  pub day-offset-size : (x y : Float) → Fits x → Fits y → Holds (λ z. Size z 11) SixOrOne (offsetOfDate rows x y)
+  unfolding offsetAt0h
+  day-offset-size x y f g = go (kind x y f g)
+    where
+      go : Kind x y → Holds (λ z. Size z 11) SixOrOne (offsetOfDate rows x y)
+      go (outside a e) = holds-refusal 6 (offset-no-date x y 6 e rows) (inl refl)
+      go (before a e b v) = holds-refusal 1 (offset-of-day rows x y (dayOf x y) e ∙ offset-early rows (dayOf x y .day) v) (inr refl)
+      go (valid a e b v r) =
+          let s = dateIn x y in
+          let o = offset-answered rows (dayOf x y .day) v in
+          holds-answer (o .0) (offset-of-day rows x y (dayOf x y) e ∙ o .1) (offset-size t rows taken (s .year) (pos (s .month)) (pos (s .day)) nought (o .0) (zero-size 0) (o .1))

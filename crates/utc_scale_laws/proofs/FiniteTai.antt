@@ -1,8 +1,9 @@
--- UTC TO TAI IS FINITE, by the table and for all floats: where it gives a date, both parts are finite. The larger part stays, and the numbers that are
+-- UTC TO TAI IS FINITE, by every table that is taken and for all floats: where it gives a date, both parts are finite. The larger part stays, and the numbers that are
 -- added to it are far below 2 ^ 969 in size, so that a finite part stays finite. Assumes nothing.
 use mathlib.Core.Path.{_≡_, refl, sym, subst}
 use mathlib.Core.Bool.{Bool, true, false}
 use mathlib.Core.Logic.{inl, inr}
+use mathlib.Core.List.{List}
 use Prim.Native.Nat.{ℕ, _*_, _^_, _≤_}
 use native.Mathlib.Nat.{le-trans, mul-le-mul-right}
 use lib.Dec.{lit≤}
@@ -10,6 +11,7 @@ use lib.IntN.{pos}
 use lib.Ieee.{Float, binary64}
 use lib.Ieee.Fits.{add-fits, sub-fits}
 use lib.Ieee.Scale.{finite}
+use Rattle.refusals.specs.Outcome.{answer}
 use Rattle.rounding.specs.Value.{L}
 use Rattle.rounding.proofs.Value.{L-is, val-finite-true}
 use Rattle.rounding.proofs.Own.{own, own-val}
@@ -20,7 +22,10 @@ use Rattle.day_number.specs.Ranges.{InDays}
 use Rattle.day_number.proofs.JulianRange.{accepted-finite}
 use Rattle.julian.specs.declared.JulianDate.{JulianDate}
 use Rattle.tai_utc.specs.declared.DayOffsets.{DayOffsets}
-use Rattle.tai_utc.specs.Table.{fixed}
+use Rattle.tai_utc.specs.declared.LentRows.{LentRows}
+use Rattle.tai_utc.specs.Table.{Row, fixed}
+use Rattle.tai_utc.specs.Lent.{tableOf}
+use Rattle.tai_utc.proofs.NoRows.{none-lent, fixed-taken}
 use Rattle.scale_laws.specs.Ranges.{Held, FiniteParts}
 use Rattle.scale_laws.proofs.Shifts.{Small, added, taken-from, mjd-small}
 use Rattle.utc_scales.specs.LargerPart.{keptParts, besideAs, putBeside, placed, changeSmaller}
@@ -60,21 +65,6 @@ record Both (x z : Float) : Type 0 where
   kept : finite x ≡ true
   given : finite z ≡ true
 
-tai-finite : (x y : Float) → Fits x → Fits y → Holds (Both x) SixOrOne (taiFraction fixed x y)
-unfolding offsetsOf
-tai-finite x y f g = go (kind x y f g)
-  where
-    go : Kind x y → Holds (Both x) SixOrOne (taiFraction fixed x y)
-    go (outside a e) = holds-refusal 6 (tai-no-date x y 6 e fixed) (inl refl)
-    go (before a e b v) = holds-refusal 1 (tai-no-offsets fixed x y (dayOf x y) e 1 (offsets-early fixed (dayOf x y .day) v)) (inr refl)
-    go (valid a e b v r) =
-        let t = dateIn x y in
-        let o = offsets-answered fixed (dayOf x y .day) v in
-        let z = offsets-size (t .year) (pos (t .month)) (pos (t .day)) (o .0) (o .1) in
-        holds-answer _ (tai-of-day fixed x y (dayOf x y) e r (o .0) (o .1))
-        (record { kept = kept-finite x y f a; given = from-midnight-finite x y f g a r (o .0) z })
-
--- ---- THE THEOREM
 put-finite : (d : JulianDate) (x : Float) → Both (keptParts d .larger) x → FiniteParts (putBeside (keptParts d) x)
 unfolding putBeside
 put-finite d x h = go (keptParts d .first)
@@ -83,8 +73,28 @@ put-finite d x h = go (keptParts d .first)
     go true = (h .kept, h .given)
     go false = (h .given, h .kept)
 
+-- ---- THE THEOREM, of every table that is taken
+module _ (t : LentRows) (rows : List Row) (taken : tableOf t ≡ answer rows) where
+  tai-finite : (x y : Float) → Fits x → Fits y → Holds (Both x) SixOrOne (taiFraction rows x y)
+  unfolding offsetsOf
+  tai-finite x y f g = go (kind x y f g)
+    where
+      go : Kind x y → Holds (Both x) SixOrOne (taiFraction rows x y)
+      go (outside a e) = holds-refusal 6 (tai-no-date x y 6 e rows) (inl refl)
+      go (before a e b v) = holds-refusal 1 (tai-no-offsets rows x y (dayOf x y) e 1 (offsets-early rows (dayOf x y .day) v)) (inr refl)
+      go (valid a e b v r) =
+          let s = dateIn x y in
+          let o = offsets-answered rows (dayOf x y .day) v in
+          let z = offsets-size t rows taken (s .year) (pos (s .month)) (pos (s .day)) (o .0) (o .1) in
+          holds-answer _ (tai-of-day rows x y (dayOf x y) e r (o .0) (o .1))
+          (record { kept = kept-finite x y f a; given = from-midnight-finite x y f g a r (o .0) z })
+
+  pub table-utc-to-tai-never-infinite : (d : JulianDate) → Held d → Holds FiniteParts SixOrOne (utcToTai rows d)
+  unfolding utcToTai changeSmaller placed
+  table-utc-to-tai-never-infinite d h =
+      let p = parts-fit d h in
+      holds-onward _ (tai-finite (keptParts d .larger) (keptParts d .smaller) (p .0) (p .1)) (λ x w. answers (put-finite d x w))
+
+-- of the fixed one
 pub utc-to-tai-never-infinite : (d : JulianDate) → Held d → Holds FiniteParts SixOrOne (utcToTai fixed d)
-unfolding utcToTai changeSmaller placed
-utc-to-tai-never-infinite d h =
-    let p = parts-fit d h in
-    holds-onward _ (tai-finite (keptParts d .larger) (keptParts d .smaller) (p .0) (p .1)) (λ x w. answers (put-finite d x w))
+utc-to-tai-never-infinite = table-utc-to-tai-never-infinite none-lent fixed fixed-taken

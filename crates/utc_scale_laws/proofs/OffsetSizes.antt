@@ -1,6 +1,7 @@
--- TAI-UTC by the table is at most 2 ^ 11 s in size at every date, so that what the conversions compute of it is of moderate size. Assumes nothing.
+-- TAI-UTC by every table that is taken is at most 2 ^ 11 s in size at every date, so that what the conversions compute of it is of moderate size. Assumes nothing.
 use mathlib.Core.Path.{_≡_, refl, ap, sym, subst, _∙_}
 use mathlib.Core.Bool.{Bool, true, false, cond, _&&_}
+use mathlib.Core.List.{List}
 use Prim.Native.Nat.{ℕ, suc, _+_, _-_, _*_, _^_, _≤_, _<_}
 use native.Mathlib.Nat.{le-trans, le-of-eq, mul-le-mul-right, zero-mul}
 use native.Mathlib.Omega.{arith}
@@ -25,13 +26,16 @@ use Rattle.calendar.specs.DayCount.{marchCount, civilCount, mjdNumber, mjdOf}
 use Rattle.calendar.proofs.Accepted.{accepted, short}
 use Rattle.calendar.proofs.Mjd.{mjd-given, mjd-valid, same-answer}
 use Rattle.tai_utc.specs.declared.DayOffsets.{DayOffsets}
+use Rattle.tai_utc.specs.declared.LentRows.{LentRows}
 use Rattle.tai_utc.specs.Table.{Row, fixed, starts, reached, monthNumber}
-use Rattle.tai_utc.specs.Offset.{secondsOf, startOf, rateOf, none, offsetAt, taiUtcOffset, rowAt}
+use Rattle.tai_utc.specs.Lent.{tableOf}
+use Rattle.tai_utc.specs.Offset.{secondsOf, startOf, rateOf, none, offsetAt, taiUtcOffset, rowAt, secondsIn}
 use Rattle.tai_utc.specs.Leap.{offsets, dayOffsets}
 use Rattle.tai_utc.proofs.Rows.{every, at}
 use Rattle.tai_utc.proofs.At.{drifting}
 use Rattle.tai_utc.proofs.Offsets.{offset-came}
-use Rattle.tai_utc.proofs.Years.{before-1960, one-row, drift-rows, most-rows, whole-seconds}
+use Rattle.tai_utc.proofs.Years.{before-1960, one-row, drift-rows}
+use Rattle.tai_utc.proofs.TableSeconds.{seconds-in-range, table-seconds, same-before-lent}
 use Rattle.tai_utc.proofs.Cases.{forty-two-rows}
 use Rattle.refusals.proofs.Onward.{came}
 
@@ -54,11 +58,11 @@ every-row : T (every slow 0 fixed)
 unfolding fixed slow
 every-row = tt
 
-slow-row : (i : ℕ) → i < 42 → Slow (getD fixed i none)
+slow-row : (i : ℕ) → i < 14 → Slow (getD fixed i none)
 unfolding slow
 slow-row i h =
     let r = getD fixed i none in
-    let k = all-three (leb (r .units) 640000000) (leb (r .start) 65536) (leb (r .rate) 39062500) (at slow fixed every-row i (subst (λ (n : ℕ). i < n) (sym forty-two-rows) h)) in
+    let k = all-three (leb (r .units) 640000000) (leb (r .start) 65536) (leb (r .rate) 39062500) (at slow fixed every-row i (omega (arith, forty-two-rows))) in
     record { units = leb→le (r .units) 640000000 (k .0); start = leb→le (r .start) 65536 (k .1); rate = leb→le (r .rate) 39062500 (k .2) }
 
 -- 2 ^ -8, in units
@@ -104,24 +108,19 @@ drift-size r s mjd f a b =
     (size-sub 17 16 18 (lit≤ tt) (lit≤ tt) (size-add 16 0 17 (lit≤ tt) (lit≤ tt) a b) (decimal-size 16 (r .start) 1 (lit< tt) (lit≤ tt) (s .start)))
     (rate-within (r .rate) (s .rate)))
 
-month-size : (n : ℕ) (mjd f : Float) → Size f 0 → (23520 ≤ n → n < 23664 → Size mjd 16) → Size (offsetAt fixed n mjd f) 11
+-- before 1972, in the fixed table
+early-size : (n : ℕ) (mjd f : Float) → n < 23664 → Size f 0 → (23520 ≤ n → Size mjd 16) → Size (offsetAt fixed n mjd f) 11
 unfolding offsetAt
-month-size n mjd f b s = go (leb 23520 n) refl (leb 23664 n) refl
+early-size n mjd f l b s = go (leb 23520 n) refl
   where
-    row : 23520 ≤ n → n < 23664 → Size (offsetAt fixed n mjd f) 11
-    row h l =
+    go : (x : Bool) → leb 23520 n ≡ x → Size (offsetAt fixed n mjd f) 11
+    go false e = subst (λ (x : Float). Size x 11) (sym (before-1960 n mjd f (leb-false 23520 n e))) (zero-size 11)
+    go true e =
         let k = reached (starts fixed) n in
-        let p = one-row n h in
+        let p = one-row n (leb-true 23520 n e) in
         let q = drift-rows n l in
         subst (λ (x : Float). Size x 11) (drifting k mjd f (omega (arith, p)) (omega (arith, p, q)) _ _ _ refl refl refl)
-        (drift-size (rowAt k) (slow-row (k - 1) (omega (arith, p, q))) mjd f (s h l) b)
-
-    go : (x : Bool) → leb 23520 n ≡ x → (y : Bool) → leb 23664 n ≡ y → Size (offsetAt fixed n mjd f) 11
-    go false e y g = subst (λ (x : Float). Size x 11) (sym (before-1960 n mjd f (leb-false 23520 n e))) (zero-size 11)
-    go true e true g =
-        subst (λ (x : Float). Size x 11) (sym (whole-seconds n mjd f (leb-true 23664 n g)))
-        (int-size 11 (pos (reached (starts fixed) n - 5)) (lit≤ tt) (omega (arith, most-rows n)) (omega arith))
-    go true e false g = row (leb-true 23520 n e) (leb-false 23664 n g)
+        (drift-size (rowAt k) (slow-row (k - 1) (omega (arith, p, q))) mjd f (s (leb-true 23520 n e)) b)
 
 -- ---- the Modified Julian Date of 1960 to 1971
 march-mid : (y m d : ℕ) → 6759 ≤ y → y ≤ 6771 → m ≤ 12 → d ≤ 31 → (marchCount y m d ≤ 2473600) × (2466000 ≤ marchCount y m d)
@@ -157,32 +156,45 @@ mjd-size y m d n e p q =
     let h = mid-at y (natAbs m) (natAbs d) (a .m-low) (a .m-high) (omega (arith, a .d-high, s)) p q in
     subst (λ (z : ℤ). Size (ofInt binary64 z) 16) (same-answer (sym (mjd-given y m d v) ∙ e)) (int-size 16 _ (lit≤ tt) (h .0) (h .1))
 
--- ---- THE SIZE OF TAI-UTC at a date
-pub offset-size : (y m d : ℤ) (f x : Float) → Size f 0 → taiUtcOffset fixed y m d f ≡ answer x → Size x 11
-offset-size y m d f x b e =
-    let (n, p, q) = offset-came fixed y m d f x e in
-    subst (λ (z : Float). Size z 11) (sym q) (month-size (monthNumber y (natAbs m)) (ofInt binary64 n) f b (mjd-size y m d n p))
-
+-- ---- THE SIZE OF TAI-UTC at a date, by a table that is taken
 -- the offsets of a day
 pub record Offsets (o : DayOffsets) : Type 0 where
   pub at-0h : Size (o .«at_0h») 11
   pub at-12h : Size (o .«at_12h») 11
   pub at-24h : Size (o .«at_24h») 11
 
-pub offsets-size : (y m d : ℤ) (o : DayOffsets) → dayOffsets fixed y m d ≡ answer o → Offsets o
-unfolding dayOffsets
-offsets-size y m d o e =
-    let (a, p, q) = came (taiUtcOffset fixed y m d nought) _ o e in
-    let (b, r, s) = came (taiUtcOffset fixed y m d half) _ o q in
-    let (t, u, v) = came (nextOf y m d) _ o s in
-    let (c, w, z) = came (taiUtcOffset fixed (t .year) (pos (t .month)) (pos (t .day)) nought) _ o v in
-    let k : offsets a b c ≡ o = cc in
-    subst Offsets k
-    (record {
-      at-0h = offset-size y m d nought a (zero-size 0) p;
-      at-12h = offset-size y m d half b half-size r;
-      at-24h = offset-size (t .year) (pos (t .month)) (pos (t .day)) nought c (zero-size 0) w;
-    })
+module _ (t : LentRows) (rows : List Row) (taken : tableOf t ≡ answer rows) where
+  month-size : (n : ℕ) (mjd f : Float) → Size f 0 → (23520 ≤ n → n < 23664 → Size mjd 16) → Size (offsetAt rows n mjd f) 11
+  month-size n mjd f b s = go (leb 23664 n) refl
+    where
+      go : (x : Bool) → leb 23664 n ≡ x → Size (offsetAt rows n mjd f) 11
+      go true e =
+          let h = leb-true 23664 n e in
+          subst (λ (x : Float). Size x 11) (sym (table-seconds t rows taken n h mjd f))
+          (int-size 11 (pos (secondsIn rows n)) (lit≤ tt) (omega (arith, seconds-in-range t rows taken n h .1)) (omega arith))
+      go false e =
+          let l = leb-false 23664 n e in
+          subst (λ (x : Float). Size x 11) (sym (same-before-lent t rows taken n (omega arith) mjd f)) (early-size n mjd f l b (λ h. s h l))
+
+  pub offset-size : (y m d : ℤ) (f x : Float) → Size f 0 → taiUtcOffset rows y m d f ≡ answer x → Size x 11
+  offset-size y m d f x b e =
+      let (n, p, q) = offset-came rows y m d f x e in
+      subst (λ (z : Float). Size z 11) (sym q) (month-size (monthNumber y (natAbs m)) (ofInt binary64 n) f b (mjd-size y m d n p))
+
+  pub offsets-size : (y m d : ℤ) (o : DayOffsets) → dayOffsets rows y m d ≡ answer o → Offsets o
+  unfolding dayOffsets
+  offsets-size y m d o e =
+      let (a, p, q) = came (taiUtcOffset rows y m d nought) _ o e in
+      let (b, r, s) = came (taiUtcOffset rows y m d half) _ o q in
+      let (n, u, v) = came (nextOf y m d) _ o s in
+      let (c, w, z) = came (taiUtcOffset rows (n .year) (pos (n .month)) (pos (n .day)) nought) _ o v in
+      let k : offsets a b c ≡ o = cc in
+      subst Offsets k
+      (record {
+        at-0h = offset-size y m d nought a (zero-size 0) p;
+        at-12h = offset-size y m d half b half-size r;
+        at-24h = offset-size (n .year) (pos (n .month)) (pos (n .day)) nought c (zero-size 0) w;
+      })
 
 -- ---- the seconds of a day, and a little more or less
 day-val : Val secondsPerDay (86400 * L) 0 L

@@ -2,23 +2,27 @@
 use mathlib.Core.Path.{_≡_, refl, sym, ap, _∙_, subst}
 use mathlib.Core.Bool.{Bool, true, false, _||_}
 use mathlib.Core.Logic.{inl, inr}
+use mathlib.Core.List.{List}
 use lib.IntN.{+ℤ-comm}
 use lib.Ieee.{Float, binary64}
 use lib.Ieee.Scale.{finite}
-use Rattle.refusals.specs.Outcome.{Outcome}
+use Rattle.refusals.specs.Outcome.{Outcome, answer}
 use Rattle.calendar.proofs.Mjd.{same-answer}
 use Rattle.day_number.specs.DayNumber.{inJulianRange, accepted, dayOf}
 use Rattle.day_number.specs.ExactDay.{OnGrid}
 use Rattle.day_number.proofs.Answer.{answered}
 use Rattle.day_number.proofs.ExactDay.{alike}
 use Rattle.julian.specs.declared.JulianDate.{JulianDate}
-use Rattle.tai_utc.specs.Table.{fixed}
+use Rattle.tai_utc.specs.declared.LentRows.{LentRows}
+use Rattle.tai_utc.specs.Table.{Row, fixed}
+use Rattle.tai_utc.specs.Lent.{tableOf}
+use Rattle.tai_utc.proofs.NoRows.{none-lent, fixed-taken}
 use Rattle.scale_laws.specs.Ranges.{Held}
 use Rattle.utc_scales.specs.LargerPart.{firstIsKept, keptAs, keptParts}
 use Rattle.utc_scales.specs.UtcUt1.{utcToUt1}
 use Rattle.utc_scale_laws.specs.Claims.{DecidedUt1, earlyDay, earlyUtc, OneDay, Fits}
 use Rattle.utc_scale_laws.proofs.EitherOrder.{add-turned}
-use Rattle.utc_scale_laws.proofs.Ut1Decided.{utc-to-ut1-decided}
+use Rattle.utc_scale_laws.proofs.Ut1Decided.{table-utc-to-ut1-decided}
 
 twice : (b : Bool) → (b || b) ≡ b
 twice true = refl
@@ -50,7 +54,12 @@ by-year o false r e g h k = k
 by-year o true false e g h k = k
 by-year o true true e g h k = subst (λ (b : Bool). DecidedUt1 true true b o) (h refl) k
 
+pub table-utc-to-ut1-decided-by-day : (t : LentRows) (rows : List Row) → tableOf t ≡ answer rows → (d : JulianDate) (dut1 : Float) → Held d → Fits dut1 → OneDay d
+    → DecidedUt1 (finite dut1) (accepted (d .jd1) (d .jd2)) (earlyDay (d .jd1) (d .jd2)) (utcToUt1 rows d dut1)
+table-utc-to-ut1-decided-by-day t rows taken d dut1 h f o =
+    by-year _ (finite dut1) (accepted (d .jd1) (d .jd2)) (earlyUtc d) (earlyDay (d .jd1) (d .jd2)) (one-day d h o) (table-utc-to-ut1-decided t rows taken d dut1 h f)
+
+-- by the fixed table
 pub utc-to-ut1-decided-by-day : (d : JulianDate) (dut1 : Float) → Held d → Fits dut1 → OneDay d
     → DecidedUt1 (finite dut1) (accepted (d .jd1) (d .jd2)) (earlyDay (d .jd1) (d .jd2)) (utcToUt1 fixed d dut1)
-utc-to-ut1-decided-by-day d dut1 h f o =
-    by-year _ (finite dut1) (accepted (d .jd1) (d .jd2)) (earlyUtc d) (earlyDay (d .jd1) (d .jd2)) (one-day d h o) (utc-to-ut1-decided d dut1 h f)
+utc-to-ut1-decided-by-day = table-utc-to-ut1-decided-by-day none-lent fixed fixed-taken

@@ -18,8 +18,8 @@ bits n = ofBits binary64 n
 abbrev Gives : Twenty → JulianDate → JulianDate → Type 0
 Gives c d x = answerOfAny fixed c d ≡ answer x
 
-given : (c : Twenty) (d x : JulianDate) → computed c d ≡ answer x → Gives c d x
-given c d x e = as-computed c d ∙ e
+given : (c : Twenty) (d x : JulianDate) → computed fixed c d ≡ answer x → Gives c d x
+given c d x e = as-computed fixed c d ∙ e
 
 -- ---- on equal sizes jd2 changes: the midnight of 2017-01-01 in two halves
 abbrev halves : JulianDate

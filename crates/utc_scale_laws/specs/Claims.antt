@@ -28,6 +28,15 @@ SixOrOne n = (n ≡ 6) ⊎ (n ≡ 1)
 abbrev pub TenNineSixOrOne : ℕ → Type 0
 TenNineSixOrOne n = (n ≡ 10) ⊎ ((n ≡ 9) ⊎ SixOrOne n)
 
+-- the number of a lent table that is turned away
+abbrev pub OfTable : ℕ → Type 0
+OfTable n = (n ≡ 20) ⊎ ((n ≡ 21) ⊎ (n ≡ 22))
+
+-- that, where the call reads a table, or one of R
+abbrev pub WithTable : (reads : Bool) → (ℕ → Type 0) → ℕ → Type 0
+WithTable true R n = OfTable n ⊎ R n
+WithTable false R n = R n
+
 -- 6 where the sum is not in the range, 1 where it is and the year is before -4799, and else a date
 abbrev pub DecidedDay : (inRange early : Bool) → Outcome JulianDate → Type 0
 DecidedDay false e o = o ≡ refusal 6

@@ -1,0 +1,50 @@
+-- EVERY TABLE THAT IS TAKEN: its rows, its offsets and its leaps, in one place. Assumes nothing.
+use mathlib.Core.Path.{_≡_, ap, sym, subst, _∙_}
+use mathlib.Core.Bool.{Bool, true, false}
+use mathlib.Core.List.{List}
+use Prim.Native.Nat.{ℕ, suc, _+_, _<_}
+use native.Mathlib.Omega.{arith}
+use lib.Dec.{eqb, ltb}
+use lib.ListN.{length, getD, length-map}
+use lib.Ieee.Bits.{is-true}
+use borrow.Author.Tests.{ltb-true}
+use Rattle.refusals.specs.Outcome.{answer}
+use Rattle.tai_utc.specs.declared.LentRows.{LentRows}
+use Rattle.tai_utc.specs.Table.{Row, starts}
+use Rattle.tai_utc.specs.Lent.{rowsTo, lentSize, tableOf}
+use Rattle.tai_utc.specs.Offset.{none}
+use Rattle.tai_utc.proofs.InTurn.{in-turn-at}
+use Rattle.tai_utc.proofs.Tables.{fixed-place, lent-place, table-drifts}
+use Rattle.tai_utc.proofs.TablesTaken.{Taken, when-taken, all-count}
+use Rattle.tai_utc.proofs.TableLaws.{table-rises, lengths}
+use Rattle.tai_utc.proofs.TableSeconds.{seconds-in-range, table-seconds, same-before-lent}
+use Rattle.leap_days.specs.Tables.{EveryTable}
+use Rattle.leap_days.proofs.TableLeaps.{starts-at, table-leap-on}
+
+module _ (t : LentRows) (rows : List Row) (e : tableOf t ≡ answer rows) where
+  abbrev k : Taken t rows
+  k = when-taken t rows e
+
+  -- the rows, as many as the size says
+  all-rows : rows ≡ rowsTo t (t .«months_size»)
+  all-rows = k .all ∙ ap (rowsTo t) (all-count t (k .one-size) (k .most))
+
+  rises-at : (i : ℕ) → suc i < length rows → getD rows i none .month < getD rows (suc i) none .month
+  rises-at i h =
+      subst (λ (a : ℕ). a < getD rows (suc i) none .month) (starts-at rows i)
+      (subst (λ (b : ℕ). getD (starts rows) i 0 < b) (starts-at rows (suc i))
+      (ltb-true _ _ (in-turn-at ltb 0 (starts rows) (is-true _ (table-rises t rows e)) i (omega (arith, h, length-map rows (λ (r : Row). r .month))))))
+
+  pub every-table : EveryTable t rows
+  every-table = record {
+    count = lengths t rows e .0;
+    most = lengths t rows e .1;
+    fixed-first = λ i h. ap (λ (l : List Row). getD l i none) all-rows ∙ fixed-place t (t .«months_size») i h;
+    lent-after = λ i h. ap (λ (l : List Row). getD l (42 + i) none) all-rows ∙ lent-place t (t .«months_size») i h;
+    rises = rises-at;
+    drifts = λ i h. ap (λ (l : List Row). eqb (getD l i none .rate) 0) all-rows ∙ table-drifts t (t .«months_size») i (omega (arith, h, lengths t rows e .0));
+    same-to-2017 = same-before-lent t rows e;
+    whole = table-seconds t rows e;
+    seconds = seconds-in-range t rows e;
+    leaps = table-leap-on t rows e;
+  }
