@@ -5,26 +5,26 @@ use native.Mathlib.Nat.{le-div-iff-mul-le, div-mul-le-self, le-refl, add-mul, ze
 use native.Mathlib.Decide.{decLt}
 use mathlib.Core.Path.{_≡_, refl, sym, ap, subst, _∙_}
 use Rattle.tick_times.specs.Line.{lineAt}
-use Rattle.tick_times.specs.Passes.{Passes, lastNotAfter, between, millisAt, OnLine}
-use Rattle.tick_times.specs.Asked.{Rises}
+use Rattle.tick_times.specs.Passes.{Passes, lastNotAfter, millisBetween, millisAt, OnSomeLine}
+use Rattle.tick_times.specs.Asked.{RisesTo}
 use Rattle.tick_times.proofs.Search.{rises-to, last-low, last-from, last-next, last-only}
 use Rattle.tick_times.proofs.Lines.{line-under}
-use Rattle.tick_laws.specs.Sound.{Sound, Inside, rise, ticksBetween, JustBelow}
+use Rattle.tick_laws.specs.Sound.{Sound, Inside, lineRise, ticksBetween, JustBelow}
 
 -- ---- one line
 quotient-up : (m n d : ℕ) → 0 < d → m ≤ n → m / d ≤ n / d
 quotient-up m n d z h = le-div-iff-mul-le z .1 (omega (arith, div-mul-le-self m d))
 
 module _ (t0 m0 t1 m1 : ℕ) where
-  pub at-start : lineAt t0 m0 t1 m1 t0 ≡ m0
+  pub line-at-start : lineAt t0 m0 t1 m1 t0 ≡ m0
   unfolding lineAt
-  at-start =
+  line-at-start =
       let e : t0 - t0 ≡ 0 = omega arith in
       rw (e, zero-mul, zero-div) (omega arith)
 
-  pub at-end : t0 < t1 → m0 ≤ m1 → lineAt t0 m0 t1 m1 t1 ≡ m1
+  pub line-at-end : t0 < t1 → m0 ≤ m1 → lineAt t0 m0 t1 m1 t1 ≡ m1
   unfolding lineAt
-  at-end h k =
+  line-at-end h k =
       let e : (t1 - t0) * (m1 - m0) / (t1 - t0) ≡ m1 - m0 = mul-div-cancel-left (m1 - m0) (omega arith) in
       rw e (omega arith)
 
@@ -42,41 +42,41 @@ module _ (t0 m0 t1 m1 : ℕ) where
 
 -- ---- the passes
 module _ (p : Passes) (s : Sound p) where
-  ticks : Rises (p .tick) (p .size - 1)
+  ticks : RisesTo (p .tick) (p .size - 1)
   ticks i h = s .ticks-rise i (omega arith)
 
-  ticks-to-k : Rises (p .tick) (p .size - 2)
+  ticks-to-k : RisesTo (p .tick) (p .size - 2)
   ticks-to-k i h = s .ticks-rise i (omega arith)
 
-  millis : Rises (p .milli) (p .size - 1)
+  millis : RisesTo (p .milli) (p .size - 1)
   millis i h = s .millis-rise i (omega arith)
 
-  same-line : (t j : ℕ) → j ≡ lastNotAfter (p .tick) t (p .size - 2) → between p j t ≡ millisAt p t
+  same-line : (t j : ℕ) → j ≡ lastNotAfter (p .tick) t (p .size - 2) → millisBetween p j t ≡ millisAt p t
   unfolding millisAt
-  same-line t j e = ap (λ (x : ℕ). between p x t) e
+  same-line t j e = ap (λ (x : ℕ). millisBetween p x t) e
 
   -- any neighbours that hold the tick say the same
-  pub on-line : (t r : ℕ) → OnLine p t r → r ≡ millisAt p t
+  pub on-line : (t r : ℕ) → OnSomeLine p t r → r ≡ millisAt p t
   on-line t r o = o .is ∙ go (decLt t (p .tick (o .j + 1))) (decLt (o .j) (p .size - 2))
     where
-      by-last : (o .j < p .size - 2 → t < p .tick (o .j + 1)) → between p (o .j) t ≡ millisAt p t
+      by-last : (o .j < p .size - 2 → t < p .tick (o .j + 1)) → millisBetween p (o .j) t ≡ millisAt p t
       by-last n = same-line t (o .j) (last-only (p .tick) t (p .size - 2) ticks-to-k (o .j) (omega (arith, o .next)) (o .from) n)
 
-      at-the-pass : t ≡ p .tick (o .j + 1) → o .j < p .size - 2 → between p (o .j) t ≡ millisAt p t
+      at-the-pass : t ≡ p .tick (o .j + 1) → o .j < p .size - 2 → millisBetween p (o .j) t ≡ millisAt p t
       at-the-pass e h =
-          ap (between p (o .j)) e
-          ∙ at-end (p .tick (o .j)) (p .milli (o .j)) (p .tick (o .j + 1)) (p .milli (o .j + 1)) (s .ticks-rise (o .j) (o .next)) (omega (arith, s .millis-rise (o .j) (o .next)))
-          ∙ sym (ap (between p (o .j + 1)) e ∙ at-start (p .tick (o .j + 1)) (p .milli (o .j + 1)) (p .tick (o .j + 1 + 1)) (p .milli (o .j + 1 + 1)))
+          ap (millisBetween p (o .j)) e
+          ∙ line-at-end (p .tick (o .j)) (p .milli (o .j)) (p .tick (o .j + 1)) (p .milli (o .j + 1)) (s .ticks-rise (o .j) (o .next)) (omega (arith, s .millis-rise (o .j) (o .next)))
+          ∙ sym (ap (millisBetween p (o .j + 1)) e ∙ line-at-start (p .tick (o .j + 1)) (p .milli (o .j + 1)) (p .tick (o .j + 1 + 1)) (p .milli (o .j + 1 + 1)))
           ∙ same-line t (o .j + 1) (last-only (p .tick) t (p .size - 2) ticks-to-k (o .j + 1) (omega arith) (omega (arith, e)) (λ w. omega (arith, e, s .ticks-rise (o .j + 1) (omega arith))))
 
-      go : Dec (t < p .tick (o .j + 1)) → Dec (o .j < p .size - 2) → between p (o .j) t ≡ millisAt p t
+      go : Dec (t < p .tick (o .j + 1)) → Dec (o .j < p .size - 2) → millisBetween p (o .j) t ≡ millisAt p t
       go (yes w) d = by-last (λ _. w)
       go (no w) (yes d) = at-the-pass (omega (arith, o .to)) d
       go (no w) (no d) = by-last (λ x. absurd (omega arith))
 
   -- every tick inside has neighbours, and its millisecond is on their line
   module _ (t : ℕ) (i : Inside p t) where
-    pub is-on-line : OnLine p t (millisAt p t)
+    pub is-on-line : OnSomeLine p t (millisAt p t)
     unfolding millisAt
     is-on-line =
         record {
@@ -98,7 +98,7 @@ module _ (p : Passes) (s : Sound p) where
   at-a-pass zero h =
       sym
       (on-line (p .tick 0) (p .milli 0)
-      (record { j = 0; next = omega (arith, s .two); from = le-refl _; to = omega (arith, s .ticks-rise 0 (omega (arith, s .two))); is = sym (at-start (p .tick 0) (p .milli 0) (p .tick (0 + 1)) (p .milli (0 + 1))) }))
+      (record { j = 0; next = omega (arith, s .two); from = le-refl _; to = omega (arith, s .ticks-rise 0 (omega (arith, s .two))); is = sym (line-at-start (p .tick 0) (p .milli 0) (p .tick (0 + 1)) (p .milli (0 + 1))) }))
   at-a-pass (suc j) h =
       let e : j + 1 ≡ suc j = omega arith in
       let n : j + 1 < p .size = omega arith in
@@ -106,13 +106,13 @@ module _ (p : Passes) (s : Sound p) where
       subst (λ (x : ℕ). millisAt p (p .tick x) ≡ p .milli x) e
       (sym
       (on-line (p .tick (j + 1)) (p .milli (j + 1))
-      (record { j = j; next = n; from = omega (arith, r); to = le-refl _; is = sym (at-end (p .tick j) (p .milli j) (p .tick (j + 1)) (p .milli (j + 1)) r (omega (arith, s .millis-rise j n))) })))
+      (record { j = j; next = n; from = omega (arith, r); to = le-refl _; is = sym (line-at-end (p .tick j) (p .milli j) (p .tick (j + 1)) (p .milli (j + 1)) r (omega (arith, s .millis-rise j n))) })))
 
   -- a later tick never has an earlier time
   pub never-earlier : (t t' : ℕ) → Inside p t → Inside p t' → t ≤ t' → millisAt p t ≤ millisAt p t'
   never-earlier t t' i i' h = go (is-on-line t i) (is-on-line t' i')
     where
-      go : OnLine p t (millisAt p t) → OnLine p t' (millisAt p t') → millisAt p t ≤ millisAt p t'
+      go : OnSomeLine p t (millisAt p t) → OnSomeLine p t' (millisAt p t') → millisAt p t ≤ millisAt p t'
       go o o' = by (decLt (o .j) (o' .j)) (decLt (o' .j) (o .j))
         where
           milli-up : (x y : ℕ) → x ≤ y → y < p .size → p .milli x ≤ p .milli y
@@ -135,7 +135,7 @@ module _ (p : Passes) (s : Sound p) where
               subst (λ (x : ℕ). millisAt p t ≤ millisAt p x) q (le-refl _)
           by (no w) (no d) =
               let e : o .j ≡ o' .j = omega arith in
-              omega (arith, o .is, o' .is, line-rises (p .tick (o .j)) (p .milli (o .j)) (p .tick (o .j + 1)) (p .milli (o .j + 1)) t t' (s .ticks-rise (o .j) (o .next)) h, ap (λ (x : ℕ). between p x t') e)
+              omega (arith, o .is, o' .is, line-rises (p .tick (o .j)) (p .milli (o .j)) (p .tick (o .j + 1)) (p .milli (o .j + 1)) t t' (s .ticks-rise (o .j) (o .next)) h, ap (λ (x : ℕ). millisBetween p x t') e)
 
   -- less than 1 ms below the exact line, between the neighbours' milliseconds, below 2^40
   pub just-below : (t : ℕ) → Inside p t → JustBelow p t (millisAt p t)
@@ -149,9 +149,9 @@ module _ (p : Passes) (s : Sound p) where
           let f : n / d * d + n % d ≡ n = div-add-mod' n d in
           (omega arith, omega (arith, mod-lt n z))
 
-      go : OnLine p t (millisAt p t) → JustBelow p t (millisAt p t)
+      go : OnSomeLine p t (millisAt p t) → JustBelow p t (millisAt p t)
       go o =
-          let w = floor (p .milli (o .j)) (rise p (o .j) t) (ticksBetween p (o .j)) (millisAt p t) (omega (arith, s .ticks-rise (o .j) (o .next))) (o .is) in
+          let w = floor (p .milli (o .j)) (lineRise p (o .j) t) (ticksBetween p (o .j)) (millisAt p t) (omega (arith, s .ticks-rise (o .j) (o .next))) (o .is) in
           let m : millisAt p t ≤ p .milli (o .j + 1) = omega (arith, o .is, to-end (p .tick (o .j)) (p .milli (o .j)) (p .tick (o .j + 1)) (p .milli (o .j + 1)) t (o .to) (omega (arith, s .millis-rise (o .j) (o .next)))) in
           record {
             j = o .j;

@@ -1,3 +1,6 @@
--- The meaning of a tick's millisecond, and of each refusal.
+-- The meaning of a tick's millisecond, of each refusal, and of the call as a whole.
 pub mod Laws
 pub mod Refusals
+pub mod Exactly
+pub mod Results
+pub mod Call

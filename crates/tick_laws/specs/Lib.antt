@@ -1,2 +1,3 @@
 -- What the laws ask of the passes, and say of a result.
 pub mod Sound
+pub mod Reasons

@@ -18,8 +18,8 @@ pub record Inside (p : Passes) (t : ℕ) : Type 0 where
 
 -- The passes j and j + 1 hold tick t, and r is at most the exact line there and less than 1 ms below it. With d ticks between the passes, the line is at
 -- (milli j * d + (t - tick j) * (milli (j + 1) - milli j)) / d, a fraction: r * d is at most the dividend and (r + 1) * d above it. And r lies between their milliseconds.
-abbrev pub rise : Passes → ℕ → ℕ → ℕ
-rise p j t = (t - p .tick j) * (p .milli (j + 1) - p .milli j)
+abbrev pub lineRise : Passes → ℕ → ℕ → ℕ
+lineRise p j t = (t - p .tick j) * (p .milli (j + 1) - p .milli j)
 
 abbrev pub ticksBetween : Passes → ℕ → ℕ
 ticksBetween p j = p .tick (j + 1) - p .tick j
@@ -29,8 +29,8 @@ pub record JustBelow (p : Passes) (t r : ℕ) : Type 0 where
   pub next : j + 1 < p .size
   pub from : p .tick j ≤ t
   pub to : t ≤ p .tick (j + 1)
-  pub not-above : r * ticksBetween p j ≤ p .milli j * ticksBetween p j + rise p j t
-  pub less-than-one : p .milli j * ticksBetween p j + rise p j t < (r + 1) * ticksBetween p j
+  pub not-above : r * ticksBetween p j ≤ p .milli j * ticksBetween p j + lineRise p j t
+  pub less-than-one : p .milli j * ticksBetween p j + lineRise p j t < (r + 1) * ticksBetween p j
   pub least : p .milli j ≤ r
   pub most : r ≤ p .milli (j + 1)
   pub small : r < 0x100_0000_0000

@@ -11,8 +11,8 @@ use Rattle.refusals.specs.Outcome.{Outcome, answer, refusal, onward}
 use Rattle.little_endian.specs.LittleEndian.{eightBytes}
 use Rattle.tick_times.specs.declared.TicksAnswer.the-variants.{Written, Refused}
 use Rattle.tick_times.specs.Passes.{millisAt}
-use Rattle.tick_times.specs.Ticks.{number, count, passesOf, refusedBy, bytesOf, placedTicks, ticksOutcome, lentAfter, TicksCall}
-use Rattle.tick_times.proofs.Ladder.{Accepted, accepted}
+use Rattle.tick_times.specs.Ticks.{numberAt, numbersIn, passesOf, refusedBy, bytesOf, placedTicks, ticksOutcome, lentAfter, TicksCall}
+use Rattle.tick_times.proofs.Ladder.{NothingRefused, nothing-refused}
 
 pub length-bytes : (f : ℕ → ℕ) (k : ℕ) → length (bytesOf f k) ≡ 8 * k
 unfolding bytesOf
@@ -27,7 +27,7 @@ module _ (ps ms ts out : List ℕ) where
   unfolding placedTicks
   is-refused k e h = rw (← e, ne-eqb k 0 h)
 
-  is-answer : refusedBy ps ms ts (length out) ≡ 0 → placedTicks ps ms ts (length out) ≡ answer (bytesOf (λ x. millisAt (passesOf ps ms) (number ts x)) (count ts))
+  is-answer : refusedBy ps ms ts (length out) ≡ 0 → placedTicks ps ms ts (length out) ≡ answer (bytesOf (λ x. millisAt (passesOf ps ms) (numberAt ts x)) (numbersIn ts))
   unfolding placedTicks
   is-answer e = rw e
 
@@ -35,16 +35,16 @@ module _ (ps ms ts out : List ℕ) where
   unfolding ticksOutcome onward lentAfter
   refused-call k e h = rw (is-refused k e h) (record { says = refl; holds = refl })
 
-  pub written-call : (out' : List ℕ) (k : ℕ) → k ≡ refusedBy ps ms ts (length out) → k ≡ 0 → out' ≡ bytesOf (λ x. millisAt (passesOf ps ms) (number ts x)) (count ts) ++ drop (8 * count ts) out → TicksCall (placedTicks ps ms ts (length out)) out (Written (length ts)) out'
+  pub written-call : (out' : List ℕ) (k : ℕ) → k ≡ refusedBy ps ms ts (length out) → k ≡ 0 → out' ≡ bytesOf (λ x. millisAt (passesOf ps ms) (numberAt ts x)) (numbersIn ts) ++ drop (8 * numbersIn ts) out → TicksCall (placedTicks ps ms ts (length out)) out (Written (length ts)) out'
   unfolding ticksOutcome onward lentAfter
   written-call out' k ek e eo =
       let z : refusedBy ps ms ts (length out) ≡ 0 = sym ek ∙ e in
-      let f : ℕ → ℕ = λ x. millisAt (passesOf ps ms) (number ts x) in
-      let n : length (bytesOf f (count ts)) ≡ length ts = length-bytes f (count ts) ∙ eights (length ts) (accepted ps ms ts (length out) z .ticks-whole) in
+      let f : ℕ → ℕ = λ x. millisAt (passesOf ps ms) (numberAt ts x) in
+      let n : length (bytesOf f (numbersIn ts)) ≡ length ts = length-bytes f (numbersIn ts) ∙ eights (length ts) (nothing-refused ps ms ts (length out) z .ticks-whole) in
       rw (is-answer z)
       (record {
         says = ap answer (sym n);
-        holds = eo ∙ ap (λ (m : ℕ). bytesOf f (count ts) ++ drop m out) (sym (length-bytes f (count ts)));
+        holds = eo ∙ ap (λ (m : ℕ). bytesOf f (numbersIn ts) ++ drop m out) (sym (length-bytes f (numbersIn ts)));
       })
     where
       eights : (m : ℕ) → m % 8 ≡ 0 → 8 * (m / 8) ≡ m
@@ -55,8 +55,8 @@ pub placed-fits : (ps ms ts : List ℕ) (room : ℕ) (b : List ℕ) → placedTi
 unfolding placedTicks
 placed-fits ps ms ts room b = go (eqb (refusedBy ps ms ts room) 0) refl
   where
-    go : (t : Bool) → eqb (refusedBy ps ms ts room) 0 ≡ t → cond t (answer (bytesOf (λ x. millisAt (passesOf ps ms) (number ts x)) (count ts))) (refusal (refusedBy ps ms ts room)) ≡ answer b → length b ≤ room
+    go : (t : Bool) → eqb (refusedBy ps ms ts room) 0 ≡ t → cond t (answer (bytesOf (λ x. millisAt (passesOf ps ms) (numberAt ts x)) (numbersIn ts))) (refusal (refusedBy ps ms ts room)) ≡ answer b → length b ≤ room
     go true e h =
-        let s : bytesOf (λ x. millisAt (passesOf ps ms) (number ts x)) (count ts) ≡ b = cc in
-        omega (arith, ap length s, length-bytes (λ x. millisAt (passesOf ps ms) (number ts x)) (count ts), accepted ps ms ts room (eqb-true (refusedBy ps ms ts room) 0 e) .fits)
+        let s : bytesOf (λ x. millisAt (passesOf ps ms) (numberAt ts x)) (numbersIn ts) ≡ b = cc in
+        omega (arith, ap length s, length-bytes (λ x. millisAt (passesOf ps ms) (numberAt ts x)) (numbersIn ts), nothing-refused ps ms ts room (eqb-true (refusedBy ps ms ts room) 0 e) .fits)
     go false e h = let z : _≡_ {A = ℕ} 0 1 = cc in absurd (omega arith)

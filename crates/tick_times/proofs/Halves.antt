@@ -24,12 +24,16 @@ halves a c d p =
     (mul-right-comm q 1048576 d))
     ∙ mul-add-div-right p (q * 1048576) (s * 1048576 + l * c)
 
+product-most : (a c A C : ℕ) → a ≤ A → c ≤ C → a * c ≤ A * C
+product-most a c A C u v = mul-le-mul u v
+
 -- a half below 2 ^ 20 times a number below 2 ^ 40
 pub part-small : (h c : ℕ) → h < 1048576 → c < 1099511627776 → h * c ≤ 1048575 * 1099511627775
-part-small h c x y = go 1048575 1099511627775 (omega arith) (omega arith)
-  where
-    go : (A B : ℕ) → h ≤ A → c ≤ B → h * c ≤ A * B
-    go A B u v = mul-le-mul u v
+part-small h c x y = product-most h c 1048575 1099511627775 (omega arith) (omega arith)
+
+-- two numbers below 2 ^ 32
+pub product-fits : (a c : ℕ) → a < 4294967296 → c < 4294967296 → a * c ≤ 4294967295 * 4294967295
+product-fits a c x y = product-most a c 4294967295 4294967295 (omega arith) (omega arith)
 
 pub quotient-small : (a c d : ℕ) → a ≤ d → a * c / d ≤ c
 quotient-small a c d h = div-le-of-le-mul d (mul-le-mul-right c h)

@@ -6,52 +6,51 @@ use mathlib.Core.Bool.{Bool, true, false, cond, _&&_}
 use mathlib.Core.List.{List}
 use lib.ListN.{length}
 use lib.Dec.{eqb, leb}
-use borrow.Author.Tests.{eqb-true, leb-true, ltb-true, eq-eqb, ne-eqb, le-leb, lt-leb}
-use Rattle.tick_times.specs.Passes.{small, rising, inside}
-use Rattle.tick_times.specs.Ticks.{number, count, whole, passesOf, usable, bothRising, allInside, refusedBy}
-use Rattle.tick_times.specs.Asked.{Good}
+use borrow.Author.Tests.{eqb-true, leb-true, eq-eqb, ne-eqb, le-leb, lt-leb}
+use Rattle.tick_times.specs.Passes.{allSmall, allRising, inside}
+use Rattle.tick_times.specs.Ticks.{numberAt, numbersIn, wholeNumbers, wellCounted, usable, bothRising, allInside, refusedBy}
+use Rattle.tick_times.specs.Asked.{judgedBy, GoodCall}
 use Rattle.tick_times.proofs.Every.{both, every-at}
-use Rattle.tick_times.proofs.Checks.{below, step, held}
+use Rattle.tick_times.proofs.Checks.{held, small-each}
+use Rattle.tick_times.proofs.ByLast.{rises-of}
 
 -- ---- passes that can be used
+pub record WellCounted (ps ms : List ℕ) : Type 0 where
+  pub equal : numbersIn ps ≡ numbersIn ms
+  pub two : 2 ≤ numbersIn ps
+  pub most : numbersIn ps ≤ 2000
+
 pub record Usable (ps ms : List ℕ) : Type 0 where
-  pub equal : count ps ≡ count ms
-  pub two : 2 ≤ count ps
-  pub most : count ps ≤ 2000
-  pub ticks : small (count ps) (number ps) ≡ true
-  pub millis : small (count ps) (number ms) ≡ true
+  pub counted : WellCounted ps ms
+  pub ticks : allSmall (numbersIn ps) (numberAt ps) ≡ true
+  pub millis : allSmall (numbersIn ps) (numberAt ms) ≡ true
 
 module _ (ps ms : List ℕ) where
-  pub unequal : (count ps ≡ count ms → ⊥) → false ≡ usable ps ms
-  unfolding usable
-  unequal h = rw (ne-eqb (count ps) (count ms) h)
+  pub unequal : (numbersIn ps ≡ numbersIn ms → ⊥) → false ≡ wellCounted ps ms
+  unfolding wellCounted
+  unequal h = rw (ne-eqb (numbersIn ps) (numbersIn ms) h)
 
-  pub too-few : count ps ≡ count ms → count ps < 2 → false ≡ usable ps ms
-  unfolding usable
-  too-few e h = rw (eq-eqb (count ps) (count ms) e, lt-leb 2 (count ps) h)
+  pub too-few : numbersIn ps ≡ numbersIn ms → numbersIn ps < 2 → false ≡ wellCounted ps ms
+  unfolding wellCounted
+  too-few e h = rw (eq-eqb (numbersIn ps) (numbersIn ms) e, lt-leb 2 (numbersIn ps) h)
 
-  pub too-many : count ps ≡ count ms → 2 ≤ count ps → 2000 < count ps → false ≡ usable ps ms
-  unfolding usable
-  too-many e l h = rw (eq-eqb (count ps) (count ms) e, le-leb 2 (count ps) l, lt-leb (count ps) 2000 h)
+  pub by-most : numbersIn ps ≡ numbersIn ms → 2 ≤ numbersIn ps → leb (numbersIn ps) 2000 ≡ wellCounted ps ms
+  unfolding wellCounted
+  by-most e l = rw (eq-eqb (numbersIn ps) (numbersIn ms) e, le-leb 2 (numbersIn ps) l)
 
-  pub by-size : (a b : Bool) → count ps ≡ count ms → 2 ≤ count ps → count ps ≤ 2000 → a ≡ small (count ps) (number ps) → b ≡ small (count ps) (number ms) → a && b ≡ usable ps ms
-  unfolding usable
-  by-size a b e l h p q = rw (eq-eqb (count ps) (count ms) e, le-leb 2 (count ps) l, le-leb (count ps) 2000 h, p, q)
+  pub counted-is : wellCounted ps ms ≡ true → WellCounted ps ms
+  unfolding wellCounted
+  counted-is e =
+      let y = both (eqb (numbersIn ps) (numbersIn ms)) _ e in
+      let z = both (leb 2 (numbersIn ps)) _ (y .1) in
+      record { equal = eqb-true (numbersIn ps) (numbersIn ms) (y .0); two = leb-true 2 (numbersIn ps) (z .0); most = leb-true (numbersIn ps) 2000 (z .1) }
 
   pub usable-is : usable ps ms ≡ true → Usable ps ms
   unfolding usable
   usable-is e =
-      let x = both _ _ e in
-      let y = both (eqb (count ps) (count ms)) _ (x .0) in
-      let z = both (leb 2 (count ps)) _ (y .1) in
-      let w = both (small (count ps) (number ps)) _ (x .1) in
-      record {
-        equal = eqb-true (count ps) (count ms) (y .0);
-        two = leb-true 2 (count ps) (z .0);
-        most = leb-true (count ps) 2000 (z .1);
-        ticks = w .0;
-        millis = w .1;
-      }
+      let x = both (wellCounted ps ms) _ e in
+      let w = both (allSmall (numbersIn ps) (numberAt ps)) _ (x .1) in
+      record { counted = counted-is (x .0); ticks = w .0; millis = w .1 }
 
 -- ---- the ladder
 pub record Wholes (ps ms ts : List ℕ) : Type 0 where
@@ -73,53 +72,73 @@ module _ (ps ms ts : List ℕ) (room : ℕ) where
   broken-ticks e f h = rw (eq-eqb (length ps % 8) 0 e, eq-eqb (length ms % 8) 0 f, ne-eqb (length ts % 8) 0 h)
 
   module _ (w : Wholes ps ms ts) where
-    all-whole : (whole ps && (whole ms && whole ts)) ≡ true
+    all-whole : (wholeNumbers ps && (wholeNumbers ms && wholeNumbers ts)) ≡ true
     all-whole = rw (eq-eqb (length ps % 8) 0 (w .passes), eq-eqb (length ms % 8) 0 (w .millis)) (eq-eqb (length ts % 8) 0 (w .ticks))
 
-    pub no-room : room / 8 < count ts → 11 ≡ refusedBy ps ms ts room
+    pub no-room : room / 8 < numbersIn ts → 11 ≡ refusedBy ps ms ts room
     unfolding refusedBy
-    no-room h = rw (all-whole, lt-leb (count ts) (room / 8) h)
+    no-room h = rw (all-whole, lt-leb (numbersIn ts) (room / 8) h)
 
-    module _ (r : count ts ≤ room / 8) where
+    module _ (r : numbersIn ts ≤ room / 8) where
       pub not-usable : usable ps ms ≡ false → 23 ≡ refusedBy ps ms ts room
       unfolding refusedBy
-      not-usable u = rw (all-whole, le-leb (count ts) (room / 8) r, u)
+      not-usable u = rw (all-whole, le-leb (numbersIn ts) (room / 8) r, u)
+
+      pub miscounted : wellCounted ps ms ≡ false → 23 ≡ refusedBy ps ms ts room
+      unfolding usable
+      miscounted c = not-usable (rw c)
 
       module _ (u : usable ps ms ≡ true) where
         pub not-rising : bothRising ps ms ≡ false → 24 ≡ refusedBy ps ms ts room
         unfolding refusedBy
-        not-rising b = rw (all-whole, le-leb (count ts) (room / 8) r, u, b)
+        not-rising b = rw (all-whole, le-leb (numbersIn ts) (room / 8) r, u, b)
 
         pub by-ticks : (b : Bool) → bothRising ps ms ≡ true → allInside ps ts ≡ b → cond b 0 25 ≡ refusedBy ps ms ts room
         unfolding refusedBy
-        by-ticks b d i = rw (all-whole, le-leb (count ts) (room / 8) r, u, d, i)
+        by-ticks b d i = rw (all-whole, le-leb (numbersIn ts) (room / 8) r, u, d, i)
 
-pub rising-both : (ps ms : List ℕ) (a b : Bool) → a ≡ rising (count ps) (number ps) → b ≡ rising (count ps) (number ms) → bothRising ps ms ≡ a && b
-unfolding bothRising
-rising-both ps ms a b p q = rw (p, q)
+      -- the passes by their numbers
+      module _ (c : wellCounted ps ms ≡ true) (k : ℕ) (e : k ≡ judgedBy (numbersIn ps) (numberAt ps) (numberAt ms)) where
+        pub by-passes : (k ≡ 0 → ⊥) → k ≡ refusedBy ps ms ts room
+        unfolding usable bothRising judgedBy
+        by-passes z = go (allSmall (numbersIn ps) (numberAt ps) && allSmall (numbersIn ps) (numberAt ms)) (allRising (numbersIn ps) (numberAt ps) && allRising (numbersIn ps) (numberAt ms)) refl refl e
+          where
+            go : (a b : Bool) → allSmall (numbersIn ps) (numberAt ps) && allSmall (numbersIn ps) (numberAt ms) ≡ a → allRising (numbersIn ps) (numberAt ps) && allRising (numbersIn ps) (numberAt ms) ≡ b → k ≡ cond a (cond b 0 24) 23 → k ≡ refusedBy ps ms ts room
+            go true true p q h = absurd (z h)
+            go true false p q h = h ∙ not-rising (rw c p) q
+            go false b p q h = h ∙ not-usable (rw c p)
 
-pub inside-is : (ps ts : List ℕ) (first last : ℕ) (b : Bool) → first ≡ number ps 0 → last ≡ number ps (count ps - 1) → b ≡ inside first last (count ts) (number ts) → allInside ps ts ≡ b
+        pub passes-right : k ≡ 0 → (usable ps ms ≡ true) × (bothRising ps ms ≡ true)
+        unfolding usable bothRising judgedBy
+        passes-right z = go (allSmall (numbersIn ps) (numberAt ps) && allSmall (numbersIn ps) (numberAt ms)) (allRising (numbersIn ps) (numberAt ps) && allRising (numbersIn ps) (numberAt ms)) refl refl e
+          where
+            go : (a b : Bool) → allSmall (numbersIn ps) (numberAt ps) && allSmall (numbersIn ps) (numberAt ms) ≡ a → allRising (numbersIn ps) (numberAt ps) && allRising (numbersIn ps) (numberAt ms) ≡ b → k ≡ cond a (cond b 0 24) 23 → (usable ps ms ≡ true) × (bothRising ps ms ≡ true)
+            go true true p q h = (rw c p, q)
+            go true false p q h = absurd (omega arith)
+            go false b p q h = absurd (omega arith)
+
+pub inside-is : (ps ts : List ℕ) (first last : ℕ) (b : Bool) → first ≡ numberAt ps 0 → last ≡ numberAt ps (numbersIn ps - 1) → b ≡ inside first last (numbersIn ts) (numberAt ts) → allInside ps ts ≡ b
 unfolding allInside
-inside-is ps ts first last b e f h = sym (h ∙ (λ i. inside (e i) (f i) (count ts) (number ts)))
+inside-is ps ts first last b e f h = sym (h ∙ (λ i. inside (e i) (f i) (numbersIn ts) (numberAt ts)))
 
 -- ---- nothing is refused
-pub record Accepted (ps ms ts : List ℕ) (room : ℕ) : Type 0 where
+pub record NothingRefused (ps ms ts : List ℕ) (room : ℕ) : Type 0 where
   pub ticks-whole : length ts % 8 ≡ 0
-  pub fits : count ts ≤ room / 8
+  pub fits : numbersIn ts ≤ room / 8
   pub good : usable ps ms ≡ true
   pub rise : bothRising ps ms ≡ true
   pub within : allInside ps ts ≡ true
 
-pub accepted : (ps ms ts : List ℕ) (room : ℕ) → refusedBy ps ms ts room ≡ 0 → Accepted ps ms ts room
+pub nothing-refused : (ps ms ts : List ℕ) (room : ℕ) → refusedBy ps ms ts room ≡ 0 → NothingRefused ps ms ts room
 unfolding refusedBy
-accepted ps ms ts room = go (whole ps && (whole ms && whole ts)) (leb (count ts) (room / 8)) (usable ps ms) (bothRising ps ms) (allInside ps ts) refl refl refl refl refl
+nothing-refused ps ms ts room = go (wholeNumbers ps && (wholeNumbers ms && wholeNumbers ts)) (leb (numbersIn ts) (room / 8)) (usable ps ms) (bothRising ps ms) (allInside ps ts) refl refl refl refl refl
   where
-    go : (a b c d e : Bool) → (whole ps && (whole ms && whole ts)) ≡ a → leb (count ts) (room / 8) ≡ b → usable ps ms ≡ c → bothRising ps ms ≡ d → allInside ps ts ≡ e
-        → _≡_ {A = ℕ} (cond a (cond b (cond c (cond d (cond e 0 25) 24) 23) 11) 14) 0 → Accepted ps ms ts room
+    go : (a b c d e : Bool) → (wholeNumbers ps && (wholeNumbers ms && wholeNumbers ts)) ≡ a → leb (numbersIn ts) (room / 8) ≡ b → usable ps ms ≡ c → bothRising ps ms ≡ d → allInside ps ts ≡ e
+        → _≡_ {A = ℕ} (cond a (cond b (cond c (cond d (cond e 0 25) 24) 23) 11) 14) 0 → NothingRefused ps ms ts room
     go true true true true true p q r s t h =
         record {
-          ticks-whole = eqb-true (length ts % 8) 0 (both (whole ms) (whole ts) (both (whole ps) (whole ms && whole ts) p .1) .1);
-          fits = leb-true (count ts) (room / 8) q;
+          ticks-whole = eqb-true (length ts % 8) 0 (both (wholeNumbers ms) (wholeNumbers ts) (both (wholeNumbers ps) (wholeNumbers ms && wholeNumbers ts) p .1) .1);
+          fits = leb-true (numbersIn ts) (room / 8) q;
           good = r;
           rise = s;
           within = t;
@@ -130,44 +149,36 @@ accepted ps ms ts room = go (whole ps && (whole ms && whole ts)) (leb (count ts)
     go true false c d e p q r s t h = absurd (omega arith)
     go false b c d e p q r s t h = absurd (omega arith)
 
-module _ (ps ms ts : List ℕ) (room : ℕ) (a : Accepted ps ms ts room) where
+module _ (ps ms ts : List ℕ) (room : ℕ) (a : NothingRefused ps ms ts room) where
   u : Usable ps ms
   u = usable-is ps ms (a .good)
 
-  pub passes-two : 2 ≤ count ps
-  passes-two = u .two
+  pub passes-two : 2 ≤ numbersIn ps
+  passes-two = u .counted .two
 
-  risen : (rising (count ps) (number ps) ≡ true) × (rising (count ps) (number ms) ≡ true)
+  risen : (allRising (numbersIn ps) (numberAt ps) ≡ true) × (allRising (numbersIn ps) (numberAt ms) ≡ true)
   unfolding bothRising
-  risen = both (rising (count ps) (number ps)) (rising (count ps) (number ms)) (a .rise)
+  risen = both (allRising (numbersIn ps) (numberAt ps)) (allRising (numbersIn ps) (numberAt ms)) (a .rise)
 
-  ticks-at : (i : ℕ) → i < count ts → (number ps 0 ≤ number ts i) × (number ts i ≤ number ps (count ps - 1))
+  ticks-at : (i : ℕ) → i < numbersIn ts → (numberAt ps 0 ≤ numberAt ts i) × (numberAt ts i ≤ numberAt ps (numbersIn ps - 1))
   unfolding allInside inside
   ticks-at i h =
-      let x = both (leb (number ps 0) (number ts i)) (leb (number ts i) (number ps (count ps - 1))) (every-at (held (number ps 0) (number ps (count ps - 1)) (number ts)) (count ts) (a .within) i h) in
-      (leb-true (number ps 0) (number ts i) (x .0), leb-true (number ts i) (number ps (count ps - 1)) (x .1))
+      let x = both (leb (numberAt ps 0) (numberAt ts i)) (leb (numberAt ts i) (numberAt ps (numbersIn ps - 1))) (every-at (held (numberAt ps 0) (numberAt ps (numbersIn ps - 1)) (numberAt ts)) (numbersIn ts) (a .within) i h) in
+      (leb-true (numberAt ps 0) (numberAt ts i) (x .0), leb-true (numberAt ts i) (numberAt ps (numbersIn ps - 1)) (x .1))
 
-  small-at : (f : ℕ → ℕ) → small (count ps) f ≡ true → (i : ℕ) → i < count ps → f i < 0x100_0000_0000
-  unfolding small
-  small-at f e i h = ltb-true (f i) 0x100_0000_0000 (every-at (below f) (count ps) e i h)
-
-  step-at : (f : ℕ → ℕ) → rising (count ps) f ≡ true → (i : ℕ) → i < count ps - 1 → f i < f (i + 1)
-  unfolding rising
-  step-at f e i h = ltb-true (f i) (f (i + 1)) (every-at (step f) (count ps - 1) e i h)
-
-  pub all-good : (k : ℕ) → k ≡ count ps - 2 → Good ps ms k (count ts) ts
+  pub all-good : (k : ℕ) → k ≡ numbersIn ps - 2 → GoodCall ps ms k (numbersIn ts) ts
   all-good k e =
-      let last : count ps - 1 ≡ k + 1 = omega (arith, u .two) in
+      let last : numbersIn ps - 1 ≡ k + 1 = omega (arith, u .counted .two) in
       record {
-        size = omega (arith, u .two);
-        few = omega (arith, u .most);
-        ticks-there = omega (arith, u .two);
-        millis-there = omega (arith, u .two, u .equal);
+        size = omega (arith, u .counted .two);
+        few = omega (arith, u .counted .most);
+        ticks-there = omega (arith, u .counted .two);
+        millis-there = omega (arith, u .counted .two, u .counted .equal);
         there = omega arith;
-        ticks-rise = λ i h. step-at (number ps) (risen .0) i (omega arith);
-        millis-rise = λ i h. step-at (number ms) (risen .1) i (omega arith);
-        ticks-small = λ i h. small-at (number ps) (u .ticks) i (omega (arith, u .two));
-        millis-small = λ i h. small-at (number ms) (u .millis) i (omega (arith, u .two));
+        ticks-rise = λ i h. rises-of (numbersIn ps) (numberAt ps) (risen .0) i (omega arith);
+        millis-rise = λ i h. rises-of (numbersIn ps) (numberAt ms) (risen .1) i (omega arith);
+        ticks-small = λ i h. small-each (numbersIn ps) (numberAt ps) (u .ticks) i (omega (arith, u .counted .two));
+        millis-small = λ i h. small-each (numbersIn ps) (numberAt ms) (u .millis) i (omega (arith, u .counted .two));
         low = λ i h. ticks-at i h .0;
-        high = λ i h. subst (λ (x : ℕ). number ts i ≤ number ps x) last (ticks-at i h .1);
+        high = λ i h. subst (λ (x : ℕ). numberAt ts i ≤ numberAt ps x) last (ticks-at i h .1);
       }

@@ -9,33 +9,54 @@ use mathlib.Core.Bool.{Bool, true, false, cond}
 use lib.Dec.{leb}
 use borrow.Author.Tests.{leb-true, leb-false}
 use Rattle.tick_times.specs.Passes.{lastNotAfter}
-use Rattle.tick_times.specs.Asked.{Rises, Found}
+use Rattle.tick_times.specs.Asked.{RisesTo, FoundPass}
 
--- ---- halving
-pub record Seeking (tick : ℕ → ℕ) (low high t from to : ℕ) : Type 0 where
+-- ---- halving: the pass is `from` or one of the `left` behind it
+pub record Seeking (tick : ℕ → ℕ) (low high t from left : ℕ) : Type 0 where
   pub under : low ≤ from
-  pub order : from ≤ to
-  pub over : to ≤ high
+  pub over : from + left ≤ high
   pub at : tick from ≤ t
-  pub next : to < high → t < tick (to + 1)
+  pub next : from + left < high → t < tick (from + left + 1)
 
 module _ (tick : ℕ → ℕ) (low high t : ℕ) where
-  pub seek-starts : low ≤ high → tick low ≤ t → Seeking tick low high t low high
-  seek-starts o f = record { under = le-refl low; order = o; over = le-refl high; at = f; next = λ h. absurd (omega arith) }
+  pub seek-starts : low ≤ high → tick low ≤ t → Seeking tick low high t low (high - low)
+  seek-starts o f = record { under = le-refl low; over = omega arith; at = f; next = λ h. absurd (omega arith) }
 
-  module _ (from to : ℕ) (s : Seeking tick low high t from to) (h : from < to) (m r : ℕ) (em : m ≡ to - (to - from) / 2) (er : r ≡ tick m) where
-    pub seek-up : r ≤ t → Seeking tick low high t m to
-    seek-up k = record { under = omega (arith, s .under); order = omega arith; over = s .over; at = omega arith; next = s .next }
+  module _ (from left : ℕ) (s : Seeking tick low high t from left) (h : 0 < left) (r : ℕ) (er : r ≡ tick (from + (left + 1) / 2)) where
+    pub seek-up : r ≤ t → Seeking tick low high t (from + (left + 1) / 2) (left / 2)
+    seek-up k =
+        let e : from + (left + 1) / 2 + left / 2 ≡ from + left = omega arith in
+        record {
+          under = omega (arith, s .under);
+          over = omega (arith, s .over);
+          at = omega arith;
+          next = λ w. subst (λ (x : ℕ). t < tick (x + 1)) (sym e) (s .next (omega arith));
+        }
 
-    pub seek-down : t < r → Seeking tick low high t from (m - 1)
-    seek-down k =
-        let e : m ≡ m - 1 + 1 = omega arith in
-        let q : t < tick m = omega arith in
-        record { under = s .under; order = omega arith; over = omega (arith, s .over); at = s .at; next = λ w. subst (λ (x : ℕ). t < tick x) e q }
+    -- of an even number left the pass in the middle stays among them, though it is after the tick: then the next is too
+    pub seek-down : RisesTo tick high → t < r → Seeking tick low high t from (left / 2)
+    seek-down u k =
+        record {
+          under = s .under;
+          over = omega (arith, s .over);
+          at = s .at;
+          next = λ w. after (decLt (left / 2) ((left + 1) / 2)) w;
+        }
+      where
+        m : t < tick (from + (left + 1) / 2)
+        m = omega arith
 
-  pub seek-ends : (from to : ℕ) → Seeking tick low high t from to → to ≤ from → Found tick low high t from
-  seek-ends from to s h =
-      let e : to ≡ from = omega (arith, s .order) in
+        after : Dec (left / 2 < (left + 1) / 2) → from + left / 2 < high → t < tick (from + left / 2 + 1)
+        after (yes d) w =
+            let e : from + (left + 1) / 2 ≡ from + left / 2 + 1 = omega arith in
+            subst (λ (x : ℕ). t < tick x) e m
+        after (no d) w =
+            let e : from + (left + 1) / 2 ≡ from + left / 2 = omega arith in
+            omega (arith, subst (λ (x : ℕ). t < tick x) e m, u (from + left / 2) w)
+
+  pub seek-ends : (from left : ℕ) → Seeking tick low high t from left → left ≡ 0 → FoundPass tick low high t from
+  seek-ends from left s h =
+      let e : from + left ≡ from = omega arith in
       record {
         low = s .under;
         high = omega (arith, s .over);
@@ -44,7 +65,7 @@ module _ (tick : ℕ → ℕ) (low high t : ℕ) where
       }
 
 -- ---- the last pass that is not after the tick
-climb : (f : ℕ → ℕ) (k : ℕ) → Rises f k → (i n : ℕ) → i + n ≤ k → f i ≤ f (i + n)
+climb : (f : ℕ → ℕ) (k : ℕ) → RisesTo f k → (i n : ℕ) → i + n ≤ k → f i ≤ f (i + n)
 climb f k r i zero h =
     let e : i ≡ i + 0 = omega arith in
     subst (λ (x : ℕ). f i ≤ f x) e (le-refl (f i))
@@ -52,7 +73,7 @@ climb f k r i (suc n) h =
     let e : i + n + 1 ≡ i + suc n = omega arith in
     subst (λ (x : ℕ). f i ≤ f x) e (omega (arith, climb f k r i n (omega arith), r (i + n) (omega arith)))
 
-pub rises-to : (f : ℕ → ℕ) (k : ℕ) → Rises f k → (i j : ℕ) → i ≤ j → j ≤ k → f i ≤ f j
+pub rises-to : (f : ℕ → ℕ) (k : ℕ) → RisesTo f k → (i j : ℕ) → i ≤ j → j ≤ k → f i ≤ f j
 rises-to f k r i j h l =
     let e : i + (j - i) ≡ j = omega arith in
     subst (λ (x : ℕ). f i ≤ f x) e (climb f k r i (j - i) (omega arith))
@@ -92,7 +113,7 @@ module _ (tick : ℕ → ℕ) (t : ℕ) where
               subst (λ (x : ℕ). t < tick x) m (leb-false (tick (suc k)) t e)
 
   -- it is the only pass of 0 to k that is not after the tick and whose next is after it
-  pub last-only : (k : ℕ) → Rises tick k → (j : ℕ) → j ≤ k → tick j ≤ t → (j < k → t < tick (j + 1)) → j ≡ lastNotAfter tick t k
+  pub last-only : (k : ℕ) → RisesTo tick k → (j : ℕ) → j ≤ k → tick j ≤ t → (j < k → t < tick (j + 1)) → j ≡ lastNotAfter tick t k
   unfolding lastNotAfter
   last-only zero r j h a n = omega arith
   last-only (suc k) r j h a n = go (leb (tick (suc k)) t) refl (last-only k (λ i w. r i (omega arith)) j) (decLt j (suc k))
@@ -106,10 +127,10 @@ module _ (tick : ℕ → ℕ) (t : ℕ) where
           absurd (omega (arith, leb-false (tick (suc k)) t e, subst (λ (x : ℕ). tick x ≤ t) m a))
 
   -- what the search finds up to k, or up to a pass that is after the tick
-  pub found-last : (k : ℕ) → Rises tick k → (low r : ℕ) → Found tick low k t r → r ≡ lastNotAfter tick t k
+  pub found-last : (k : ℕ) → RisesTo tick k → (low r : ℕ) → FoundPass tick low k t r → r ≡ lastNotAfter tick t k
   found-last k u low r f = last-only k u r (f .high) (f .from) (f .next)
 
-  pub found-below : (k : ℕ) → Rises tick k → (low high r : ℕ) → high ≤ k → t < tick high → Found tick low high t r → r ≡ lastNotAfter tick t k
+  pub found-below : (k : ℕ) → RisesTo tick k → (low high r : ℕ) → high ≤ k → t < tick high → FoundPass tick low high t r → r ≡ lastNotAfter tick t k
   found-below k u low high r h l f = last-only k u r (omega (arith, f .high)) (f .from) (λ w. f .next (go (decLt r high)))
     where
       go : Dec (r < high) → r < high

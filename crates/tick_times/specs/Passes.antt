@@ -13,21 +13,21 @@ pub record Passes : Type 0 where
   pub milli : ℕ → ℕ
 
 -- whether f is true of 0 to n - 1
-unfoldable pub every : ℕ → (ℕ → Bool) → Bool
-every zero f = true
-every (suc n) f = every n f && f n
+unfoldable pub holdsBelow : ℕ → (ℕ → Bool) → Bool
+holdsBelow zero f = true
+holdsBelow (suc n) f = holdsBelow n f && f n
 
 -- the first n numbers are below 2^40
-unfoldable pub small : ℕ → (ℕ → ℕ) → Bool
-small n f = every n (λ i. ltb (f i) 0x100_0000_0000)
+unfoldable pub allSmall : ℕ → (ℕ → ℕ) → Bool
+allSmall n f = holdsBelow n (λ i. ltb (f i) 0x100_0000_0000)
 
 -- each of the first n numbers but the last is below the next
-unfoldable pub rising : ℕ → (ℕ → ℕ) → Bool
-rising n f = every (n - 1) (λ i. ltb (f i) (f (i + 1)))
+unfoldable pub allRising : ℕ → (ℕ → ℕ) → Bool
+allRising n f = holdsBelow (n - 1) (λ i. ltb (f i) (f (i + 1)))
 
 -- the first k of some ticks lie from `first` to `last`
 unfoldable pub inside : ℕ → ℕ → ℕ → (ℕ → ℕ) → Bool
-inside first last k f = every k (λ i. leb first (f i) && leb (f i) last)
+inside first last k f = holdsBelow k (λ i. leb first (f i) && leb (f i) last)
 
 -- the last of the passes 0 to k that is not after tick t; 0 where there is none
 unfoldable pub lastNotAfter : (ℕ → ℕ) → ℕ → ℕ → ℕ
@@ -35,18 +35,18 @@ lastNotAfter tick t zero = zero
 lastNotAfter tick t (suc k) = cond (leb (tick (suc k)) t) (suc k) (lastNotAfter tick t k)
 
 -- the millisecond of tick t on the line between the passes j and j + 1
-abbrev pub between : Passes → ℕ → ℕ → ℕ
-between p j t = lineAt (p .tick j) (p .milli j) (p .tick (j + 1)) (p .milli (j + 1)) t
+abbrev pub millisBetween : Passes → ℕ → ℕ → ℕ
+millisBetween p j t = lineAt (p .tick j) (p .milli j) (p .tick (j + 1)) (p .milli (j + 1)) t
 
 -- The millisecond of tick t: on the line from the last pass, of all but the very last, that is not after it, to the next. Any other two neighbours that hold the tick give
 -- the same (`on-line`).
 unfoldable pub millisAt : Passes → ℕ → ℕ
-millisAt p t = between p (lastNotAfter (p .tick) t (p .size - 2)) t
+millisAt p t = millisBetween p (lastNotAfter (p .tick) t (p .size - 2)) t
 
 -- r is the millisecond of tick t by some two neighbours that hold it
-pub record OnLine (p : Passes) (t r : ℕ) : Type 0 where
+pub record OnSomeLine (p : Passes) (t r : ℕ) : Type 0 where
   pub j : ℕ
   pub next : j + 1 < p .size
   pub from : p .tick j ≤ t
   pub to : t ≤ p .tick (j + 1)
-  pub is : r ≡ between p j t
+  pub is : r ≡ millisBetween p j t

@@ -11,36 +11,40 @@ use Rattle.refusals.specs.Outcome.{Outcome, answer, refusal, onward}
 use Rattle.little_endian.specs.LittleEndian.{u64At, eightBytes}
 use Rattle.tick_times.specs.declared.TicksAnswer.{TicksAnswer}
 use Rattle.tick_times.specs.declared.TicksAnswer.the-variants.{Written, Refused}
-use Rattle.tick_times.specs.Passes.{Passes, small, rising, inside, millisAt}
+use Rattle.tick_times.specs.Passes.{Passes, allSmall, allRising, inside, millisAt}
 
 -- number i of a list, and how many it has
-abbrev pub number : List ℕ → ℕ → ℕ
-number s i = u64At s (8 * i)
+abbrev pub numberAt : List ℕ → ℕ → ℕ
+numberAt s i = u64At s (8 * i)
 
-abbrev pub count : List ℕ → ℕ
-count s = length s / 8
+abbrev pub numbersIn : List ℕ → ℕ
+numbersIn s = length s / 8
 
-abbrev pub whole : List ℕ → Bool
-whole s = eqb (length s % 8) 0
+abbrev pub wholeNumbers : List ℕ → Bool
+wholeNumbers s = eqb (length s % 8) 0
 
 abbrev pub passesOf : List ℕ → List ℕ → Passes
-passesOf ps ms = record { size = count ps; tick = number ps; milli = number ms }
+passesOf ps ms = record { size = numbersIn ps; tick = numberAt ps; milli = numberAt ms }
 
--- as many milliseconds as ticks, 2 to 2,000, all below 2^40
+-- as many milliseconds as ticks, 2 to 2,000
+unfoldable pub wellCounted : List ℕ → List ℕ → Bool
+wellCounted ps ms = eqb (numbersIn ps) (numbersIn ms) && (leb 2 (numbersIn ps) && leb (numbersIn ps) 2000)
+
+-- and all below 2^40
 unfoldable pub usable : List ℕ → List ℕ → Bool
-usable ps ms = (eqb (count ps) (count ms) && (leb 2 (count ps) && leb (count ps) 2000)) && (small (count ps) (number ps) && small (count ps) (number ms))
+usable ps ms = wellCounted ps ms && (allSmall (numbersIn ps) (numberAt ps) && allSmall (numbersIn ps) (numberAt ms))
 
 unfoldable pub bothRising : List ℕ → List ℕ → Bool
-bothRising ps ms = rising (count ps) (number ps) && rising (count ps) (number ms)
+bothRising ps ms = allRising (numbersIn ps) (numberAt ps) && allRising (numbersIn ps) (numberAt ms)
 
 unfoldable pub allInside : List ℕ → List ℕ → Bool
-allInside ps ts = inside (number ps 0) (number ps (count ps - 1)) (count ts) (number ts)
+allInside ps ts = inside (numberAt ps 0) (numberAt ps (numbersIn ps - 1)) (numbersIn ts) (numberAt ts)
 
 -- the number of the refusal for these passes and ticks and so many bytes of room, or 0
 unfoldable pub refusedBy : List ℕ → List ℕ → List ℕ → ℕ → ℕ
 refusedBy ps ms ts room =
-    cond (whole ps && (whole ms && whole ts))
-    (cond (leb (count ts) (room / 8))
+    cond (wholeNumbers ps && (wholeNumbers ms && wholeNumbers ts))
+    (cond (leb (numbersIn ts) (room / 8))
     (cond (usable ps ms)
     (cond (bothRising ps ms)
     (cond (allInside ps ts)
@@ -60,7 +64,7 @@ bytesOf f (suc k) = bytesOf f k ++ eightBytes (f k)
 unfoldable pub placedTicks : List ℕ → List ℕ → List ℕ → ℕ → Outcome (List ℕ)
 placedTicks ps ms ts room =
     cond (eqb (refusedBy ps ms ts room) 0)
-    (answer (bytesOf (λ i. millisAt (passesOf ps ms) (number ts i)) (count ts)))
+    (answer (bytesOf (λ i. millisAt (passesOf ps ms) (numberAt ts i)) (numbersIn ts)))
     (refusal (refusedBy ps ms ts room))
 
 unfoldable pub ticksOutcome : TicksAnswer → Outcome ℕ

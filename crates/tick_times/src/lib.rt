@@ -1,13 +1,14 @@
 // Ticks of a pig's crystal placed between marker passes, as TAI milliseconds. Lists are bytes: eight for a number, the lowest first.
 ghost use mathlib.Core.Path.{_≡_};
+ghost use mathlib.Core.Bool.{_&&_};
 ghost use mathlib.Core.List.{_++_};
 ghost use Prim.Native.Nat.{_+_, _-_, _*_, _/_, _<_, _≤_};
 ghost use lib.ListN.{length, drop};
 ghost use lib.Seq.{sets};
 ghost use Rattle.little_endian.specs.LittleEndian.{eightBytes};
-ghost use Rattle.tick_times.specs.Passes.{small, rising, inside, lastNotAfter, between, millisAt};
-ghost use Rattle.tick_times.specs.Ticks.{number, count, passesOf, usable, refusedBy, bytesOf, placedTicks, TicksCall};
-ghost use Rattle.tick_times.specs.Asked.{Sought, Found, Near, Holds, Good};
+ghost use Rattle.tick_times.specs.Passes.{allSmall, allRising, inside, lastNotAfter, millisBetween, millisAt};
+ghost use Rattle.tick_times.specs.Ticks.{numberAt, passesOf, wellCounted, refusedBy, bytesOf, placedTicks, TicksCall};
+ghost use Rattle.tick_times.specs.Asked.{judgedBy, Sought, FoundPass, NearPass, TickBetween, GoodCall};
 
 // Ticks and milliseconds are below 2^40.
 const LIMIT: u64 = 0x100_0000_0000;
@@ -31,13 +32,15 @@ fn by_halves(a: u64, c: u64, d: u64) -> u64
     quotient * 1048576 + (rest * 1048576 + low * c) / d
 }
 
-// The same; where a has no higher half the product fits.
+// The same; of two numbers below 2^32 the product fits.
 fn along(a: u64, c: u64, d: u64) -> u64
     requires { ⌜ (a < 1099511627776) × (c < 1099511627776) × (0 < d) × (d < 1099511627776) × (a ≤ d) ⌝ }
     ensures { λ r. ⌜ r ≡ a * c / d ⌝ }
 {
-    if a < 1048576 {
-        return a * c / d;
+    if a < 0x1_0000_0000 {
+        if c < 0x1_0000_0000 {
+            return a * c / d;
+        }
     }
     by_halves(a, c, d)
 }
@@ -45,7 +48,7 @@ fn along(a: u64, c: u64, d: u64) -> u64
 // Number i of a list that has it. Read from a part of eight bytes, it needs no test of the length.
 fn number_at(s: &[u8], i: usize) -> u64
     requires { ⌜ 8 * i + 8 ≤ length (now s) ⌝ }
-    ensures { λ r. ⌜ r ≡ number (now (s .entry)) i ⌝ }
+    ensures { λ r. ⌜ r ≡ numberAt (now (s .entry)) i ⌝ }
 {
     let at = 8 * i;
     let end = at + 8;
@@ -55,7 +58,7 @@ fn number_at(s: &[u8], i: usize) -> u64
 // Whether the first n numbers are below 2^40.
 fn all_small(s: &[u8], n: usize) -> bool
     requires { ⌜ (n ≤ 2000) × (8 * n ≤ length (now s)) ⌝ }
-    ensures { λ r. ⌜ r ≡ small n (number (now (s .entry))) ⌝ }
+    ensures { λ r. ⌜ r ≡ allSmall n (numberAt (now (s .entry))) ⌝ }
 {
     let mut i = 0;
     while i < n {
@@ -70,14 +73,17 @@ fn all_small(s: &[u8], n: usize) -> bool
 // Whether each of the first n numbers but the last is below the next.
 fn all_rising(s: &[u8], n: usize) -> bool
     requires { ⌜ (1 ≤ n) × (n ≤ 2000) × (8 * n ≤ length (now s)) ⌝ }
-    ensures { λ r. ⌜ r ≡ rising n (number (now (s .entry))) ⌝ }
+    ensures { λ r. ⌜ r ≡ allRising n (numberAt (now (s .entry))) ⌝ }
 {
     let last = n - 1;
+    let mut before = number_at(s, 0);
     let mut i = 0;
     while i < last {
-        if number_at(s, i + 1) <= number_at(s, i) {
+        let next = number_at(s, i + 1);
+        if next <= before {
             return false;
         }
+        before = next;
         i += 1;
     }
     true
@@ -86,7 +92,7 @@ fn all_rising(s: &[u8], n: usize) -> bool
 // Whether the n numbers lie from `first` to `last`.
 fn all_inside(s: &[u8], n: usize, first: u64, last: u64) -> bool
     requires { ⌜ 8 * n ≤ length (now s) ⌝ }
-    ensures { λ r. ⌜ r ≡ inside first last n (number (now (s .entry))) ⌝ }
+    ensures { λ r. ⌜ r ≡ inside first last n (numberAt (now (s .entry))) ⌝ }
 {
     let mut i = 0;
     while i < n {
@@ -102,28 +108,27 @@ fn all_inside(s: &[u8], n: usize, first: u64, last: u64) -> bool
     true
 }
 
-// The last of the passes `low` to `high` that is not after tick t, by halving.
+// The last of the passes `low` to `high` that is not after tick t, by halving: it is `from` or one of the `left` passes behind it.
 fn last_not_after(passes: &[u8], low: usize, high: usize, t: u64) -> usize
     requires { ⌜ Sought (now passes) low high t ⌝ }
-    ensures { λ r. ⌜ Found (number (now (passes .entry))) low high t r ⌝ }
+    ensures { λ r. ⌜ FoundPass (numberAt (now (passes .entry))) low high t r ⌝ }
 {
     let mut from = low;
-    let mut to = high;
-    while from < to {
-        let middle = to - (to - from) / 2;
+    let mut left = high - low;
+    while 0 < left {
+        let middle = from + (left + 1) / 2;
         if number_at(passes, middle) <= t {
             from = middle;
-        } else {
-            to = middle - 1;
         }
+        left = left / 2;
     }
     from
 }
 
 // The last of the passes 0 to k that is not after tick t. Rising ticks find it near the last one's, j; any other is sought by halving.
 fn neighbour(passes: &[u8], k: usize, j: usize, t: u64) -> usize
-    requires { ⌜ Near (now passes) k j t ⌝ }
-    ensures { λ r. ⌜ r ≡ lastNotAfter (number (now (passes .entry))) t k ⌝ }
+    requires { ⌜ NearPass (now passes) k j t ⌝ }
+    ensures { λ r. ⌜ r ≡ lastNotAfter (numberAt (now (passes .entry))) t k ⌝ }
 {
     if t < number_at(passes, j) {
         return last_not_after(passes, 0, j, t);
@@ -142,8 +147,8 @@ fn neighbour(passes: &[u8], k: usize, j: usize, t: u64) -> usize
 
 // The millisecond of tick t on the line between the passes j and j + 1.
 fn millis_between(passes: &[u8], millis: &[u8], j: usize, t: u64) -> u64
-    requires { ⌜ Holds (now passes) (now millis) j t ⌝ }
-    ensures { λ r. ⌜ r ≡ between (passesOf (now (passes .entry)) (now (millis .entry))) j t ⌝ }
+    requires { ⌜ TickBetween (now passes) (now millis) j t ⌝ }
+    ensures { λ r. ⌜ r ≡ millisBetween (passesOf (now (passes .entry)) (now (millis .entry))) j t ⌝ }
 {
     let t0 = number_at(passes, j);
     let t1 = number_at(passes, j + 1);
@@ -170,8 +175,8 @@ fn put_number(out: &mut [u8], at: usize, n: u64)
 
 // Places n ticks between k + 2 passes.
 fn place_all(passes: &[u8], millis: &[u8], k: usize, ticks: &[u8], n: usize, out: &mut [u8])
-    requires { ⌜ (Good (now passes) (now millis) k n (now ticks)) × (8 * n ≤ length (now out)) ⌝ }
-    ensures { λ _. ⌜ now (out .exit) ≡ bytesOf (λ i. millisAt (passesOf (now (passes .entry)) (now (millis .entry))) (number (now (ticks .entry)) i)) n ++ drop (8 * n) (now (out .entry)) ⌝ }
+    requires { ⌜ (GoodCall (now passes) (now millis) k n (now ticks)) × (8 * n ≤ length (now out)) ⌝ }
+    ensures { λ _. ⌜ now (out .exit) ≡ bytesOf (λ i. millisAt (passesOf (now (passes .entry)) (now (millis .entry))) (numberAt (now (ticks .entry)) i)) n ++ drop (8 * n) (now (out .entry)) ⌝ }
 {
     let mut j = 0;
     let mut i = 0;
@@ -184,9 +189,9 @@ fn place_all(passes: &[u8], millis: &[u8], k: usize, ticks: &[u8], n: usize, out
     }
 }
 
-// Whether the passes are as many in both lists, 2 to 2,000, and all below 2^40.
-fn are_usable(passes: &[u8], millis: &[u8]) -> bool
-    ensures { λ r. ⌜ r ≡ usable (now (passes .entry)) (now (millis .entry)) ⌝ }
+// Whether the passes are as many in both lists, 2 to 2,000.
+fn well_counted(passes: &[u8], millis: &[u8]) -> bool
+    ensures { λ r. ⌜ r ≡ wellCounted (now (passes .entry)) (now (millis .entry)) ⌝ }
 {
     let n = passes.len() / 8;
     if n != millis.len() / 8 {
@@ -195,10 +200,41 @@ fn are_usable(passes: &[u8], millis: &[u8]) -> bool
     if n < 2 {
         return false;
     }
-    if 2000 < n {
-        return false;
-    }
+    n <= 2000
+}
+
+fn both_small(passes: &[u8], millis: &[u8], n: usize) -> bool
+    requires { ⌜ (n ≤ 2000) × (8 * n ≤ length (now passes)) × (8 * n ≤ length (now millis)) ⌝ }
+    ensures { λ r. ⌜ r ≡ allSmall n (numberAt (now (passes .entry))) && allSmall n (numberAt (now (millis .entry))) ⌝ }
+{
     all_small(passes, n) && all_small(millis, n)
+}
+
+fn both_rising(passes: &[u8], millis: &[u8], n: usize) -> bool
+    requires { ⌜ (1 ≤ n) × (n ≤ 2000) × (8 * n ≤ length (now passes)) × (8 * n ≤ length (now millis)) ⌝ }
+    ensures { λ r. ⌜ r ≡ allRising n (numberAt (now (passes .entry))) && allRising n (numberAt (now (millis .entry))) ⌝ }
+{
+    all_rising(passes, n) && all_rising(millis, n)
+}
+
+// The number of the refusal for n passes by their numbers, or 0. Of numbers that rise the last is the largest, so that only passes which do not rise are looked at twice.
+fn judged(passes: &[u8], millis: &[u8], n: usize) -> u32
+    requires { ⌜ (1 ≤ n) × (n ≤ 2000) × (8 * n ≤ length (now passes)) × (8 * n ≤ length (now millis)) ⌝ }
+    ensures { λ r. ⌜ r ≡ judgedBy n (numberAt (now (passes .entry))) (numberAt (now (millis .entry))) ⌝ }
+{
+    if !both_rising(passes, millis, n) {
+        if both_small(passes, millis, n) {
+            return refusals::PASSES_NOT_RISING;
+        }
+        return refusals::PASSES_NOT_USABLE;
+    }
+    if LIMIT <= number_at(passes, n - 1) {
+        return refusals::PASSES_NOT_USABLE;
+    }
+    if LIMIT <= number_at(millis, n - 1) {
+        return refusals::PASSES_NOT_USABLE;
+    }
+    0
 }
 
 // The number of the refusal, or 0. All is judged before a place is written.
@@ -217,15 +253,13 @@ fn refused_by(passes: &[u8], millis: &[u8], ticks: &[u8], room: usize) -> u32
     if room / 8 < ticks.len() / 8 {
         return refusals::TEXT_LONGER_THAN_BUFFER;
     }
-    if !are_usable(passes, millis) {
+    if !well_counted(passes, millis) {
         return refusals::PASSES_NOT_USABLE;
     }
     let n = passes.len() / 8;
-    if !all_rising(passes, n) {
-        return refusals::PASSES_NOT_RISING;
-    }
-    if !all_rising(millis, n) {
-        return refusals::PASSES_NOT_RISING;
+    let number = judged(passes, millis, n);
+    if number != 0 {
+        return number;
     }
     let first = number_at(passes, 0);
     let last = number_at(passes, n - 1);

@@ -3,14 +3,14 @@ use native.Mathlib.Omega.{arith}
 use mathlib.Core.Path.{_≡_, refl}
 use mathlib.Core.Bool.{true}
 use Prim.Native.Nat.{_+_, _-_, _≤_}
-use Rattle.tick_times.specs.Ticks.{number}
-use Rattle.tick_times.specs.Passes.{every}
+use Rattle.tick_times.specs.Ticks.{numberAt}
+use Rattle.tick_times.specs.Passes.{holdsBelow}
 use Rattle.tick_times.proofs.Checks.{none-yet, below, small-more, small-stops, small-ends}
 use Rattle.tick_times.proofs.all_small.Statement.{statement}
 use Rattle.tick_times.proofs.all_small.Tie as tie
 
 abbrev Inv-loop : tie.InvT-loop
-Inv-loop s n i₀ i = (i ≤ n) × (every i (below (number s)) ≡ true)
+Inv-loop s n i₀ i = (i ≤ n) × (holdsBelow i (below (numberAt s)) ≡ true)
 
 abbrev μ-loop : tie.MeasureT-loop
 μ-loop s n i₀ i = n - i
@@ -25,7 +25,7 @@ returns : tie.Need-returns Inv-loop μ-loop
 returns c =
     let l = c .before .before .before in
     let a = l .before .before .args in
-    small-stops (number (a .s .now)) (a .n) (l .loop .i) (c .before .number-at .result) (c .before .number-at .ensures) (c .before .before .loop-test .taken) (c .if1 .taken)
+    small-stops (numberAt (a .s .now)) (a .n) (l .loop .i) (c .before .number-at .result) (c .before .number-at .ensures) (c .before .before .loop-test .taken) (c .if1 .taken)
 
 add-i : tie.Need-add-i Inv-loop μ-loop
 add-i c = record { fits = omega (arith, c .before .before .loop-test .taken, c .before .before .before .before .before .pre .0) }
@@ -37,13 +37,13 @@ loop-again : tie.Need-loop-again Inv-loop μ-loop
 loop-again c =
     let l = c .before .before .before in
     let a = l .before .before .args in
-    (omega (arith, c .before .before .loop-test .taken), small-more (number (a .s .now)) (a .n) (l .loop .i) (c .before .number-at .result) (c .before .number-at .ensures) (l .loop .inv .1) (c .if1 .left))
+    (omega (arith, c .before .before .loop-test .taken), small-more (numberAt (a .s .now)) (a .n) (l .loop .i) (c .before .number-at .result) (c .before .number-at .ensures) (l .loop .inv .1) (c .if1 .left))
 
 returns-2 : tie.Need-returns-2 Inv-loop μ-loop
 returns-2 c =
     let l = c .before in
     let a = l .before .before .args in
-    small-ends (number (a .s .now)) (a .n) (l .loop .i) (l .loop .inv .0) (c .loop-test .left) (l .loop .inv .1)
+    small-ends (numberAt (a .s .now)) (a .n) (l .loop .i) (l .loop .inv .0) (c .loop-test .left) (l .loop .inv .1)
 
 pub all-small-spec : {M : Type 1} → statement M
 all-small-spec =

@@ -1,12 +1,12 @@
--- `tick_times::along` meets its contract: a number below 2^20 times one below 2^40 fits. Assumes nothing.
+-- `tick_times::along` meets its contract: the product of two numbers below 2^32 fits. Assumes nothing.
 use native.Mathlib.Omega.{arith}
-use Rattle.tick_times.proofs.Halves.{part-small}
+use Rattle.tick_times.proofs.Halves.{product-fits}
 use borrow.Author.Needs.{needs}
 use Rattle.tick_times.proofs.along.Statement.{statement}
 use Rattle.tick_times.proofs.along.Tie as tie
 
 mul-result : tie.Need-mul-result
-mul-result c = record { fits = omega (arith, part-small (c .before .args .a) (c .before .args .c) (c .if1 .taken) (c .before .pre .1)) }
+mul-result c = record { fits = omega (arith, product-fits (c .before .before .args .a) (c .before .before .args .c) (c .before .if1 .taken) (c .if2 .taken)) }
 
 div-result : tie.Need-div-result
 div-result c = search needs
