@@ -13,6 +13,7 @@ use Rattle.tai_utc.specs.Table.{Row}
 use Rattle.utc_text.specs.declared.TextAnswer.{TextAnswer}
 use Rattle.utc_text.specs.declared.TextAnswer.the-variants.{Written, Refused}
 use Rattle.utc_text.specs.Answer.{textOutcome, textWritten, bufferAfter}
+use Rattle.utc.specs.Sheet.{Sheet}
 use Rattle.utc.specs.IsoText.{isoTextBy}
 use Rattle.utc.specs.OneText.{Division, EveryCall}
 use Rattle.utc.specs.TextCall.{written, bufferHolds, TextCall}
@@ -28,10 +29,10 @@ text-call {o} {l} {out} {r} p = go (written o (length l)) refl
     go (refusal k) e = (Refused k, record { says = sym e; holds = p .holds }, p .returned ∙ ap code e)
 
 -- so what holds of every call for the text of a date holds of every call from C: with utc's `text-for-every-buffer`, DEMAND 3
-pub every-return : (how : Bool → ℕ → ℕ → ℕ) (rows : List Row) (sum : ℤ) (P : List ℕ → TextAnswer → List ℕ → Type 0) → EveryCall how rows sum P
-    → (jd : JulianDate) → Division sum jd → (l out : List ℕ) (r : ℤ) → Delivered (isoTextBy how rows jd) l r out
+pub every-return : (sheet : Sheet) (rows : List Row) (sum : ℤ) (P : List ℕ → TextAnswer → List ℕ → Type 0) → EveryCall sheet rows sum P
+    → (jd : JulianDate) → Division sum jd → (l out : List ℕ) (r : ℤ) → Delivered (isoTextBy sheet rows jd) l r out
     → (a : TextAnswer) × P l a out × (r ≡ code (textOutcome a))
-every-return how rows sum P f jd d l out r p = let (a, c, e) = text-call p in (a, f jd d l a out c, e)
+every-return sheet rows sum P f jd d l out r p = let (a, c, e) = text-call p in (a, f jd d l a out c, e)
 
 -- ---- a negative return is a refusal's number, and leaves the buffer
 pub negative-number : {o : Outcome (List ℕ)} {l out : List ℕ} {m : ℕ} → Delivered o l (negsuc m) out → written o (length l) ≡ refusal (suc m)

@@ -19,7 +19,7 @@ use Rattle.time_of_day.specs.declared.TimeShown.{TimeShown}
 use Rattle.time_of_day.specs.declared.TimeShown.the-variants.{At, NextMidnight}
 use Rattle.time_of_day.specs.TimeShown.{shownOf}
 use Rattle.utc_text.specs.Text.{last, two, three, four, five, six, seven, yearText, afterYear, utcText}
-use Rattle.utc.specs.IsoText.{midnight, nextMidnightText, shownText, dayTextBy, isoTextBy, isoText}
+use Rattle.utc.specs.IsoText.{midnight, nextMidnightTextBy, shownTextBy, shownText, dayTextBy, isoTextBy, isoText}
 use Rattle.stamps.specs.Block.{blockOf}
 use Rattle.stamps.specs.Decimal.{decimal}
 use Rattle.stamps.specs.Listing.{refusedWord, utcListingWords, blockRefusedWords, textAt, shown, stampLine, refusedIn, header, blockRefused}
@@ -92,7 +92,7 @@ shown-onward (answer a) f h = h a
 shown-onward (refusal k) f h = refused-none k
 
 day-none : (d : CalendarDate) (r : TimeShown) → lineEnds (shown (shownText d r)) ≡ 0
-unfolding shownText nextMidnightText shown
+unfolding shownTextBy nextMidnightTextBy shown
 day-none d (At t) = text-none d t
 day-none d NextMidnight = shown-onward _ _ (λ t. text-none t midnight)
 

@@ -5,17 +5,17 @@ use Prim.Native.Nat.{ℕ, _+_, _*_, _≤_, _<_}
 use native.Mathlib.Nat.{le-trans, le-of-lt, mul-le-mul-right}
 use native.Mathlib.Omega.{arith}
 use mathlib.Core.Bool.{Bool, true, false, not, cond}
+use lib.IntN.{ℤ}
 use lib.Dec.{T, ltb, ltb→lt, nltb→le}
 use lib.Ieee.{Float, binary64, ofBits, lt, le, eq, fits}
 use Rattle.floats.specs.Whole.{abs, away, nought}
 use Rattle.rounding.specs.Value.{Val, L, InUnit}
 use Rattle.rounding.proofs.Value.{L-pos}
-use Rattle.time_of_day.specs.declared.TimeShown.{TimeShown}
 use Rattle.time_of_day.specs.declared.TimeShown.the-variants.{At, NextMidnight}
 use Rattle.time_of_day.specs.Milliseconds.{wholeLeap}
-use Rattle.time_of_day.specs.TimeShown.{timeOf, dayEnd, fromZero, shownAt, shownOf}
+use Rattle.time_of_day.specs.TimeShown.{timeOf, dayEnd, fromZero, shownAt, countBy, shownBy, shownOf}
 use Rattle.time_of_day.specs.Nearest.{Nearest}
-use Rattle.time_of_day.specs.ExactTime.{Leap, little, second, first, minus-second, DayLength, timeMs, shownMs, Close, Good, ShownRight}
+use Rattle.time_of_day.specs.ExactTime.{Leap, little, second, first, minus-second, DayLength, shownMs, Close, Good, ShownWithin, ShownRight}
 use Rattle.time_of_day.proofs.Rounded.{away-nearest}
 use Rattle.time_of_day.proofs.Fractions.{AsUnits, in-units, within-one, at-most, zero-val, minus-one-val, le-says, cross}
 use Rattle.time_of_day.proofs.Count.{CountedTo, counted}
@@ -43,44 +43,51 @@ longest x W E G minus-second d = go (d .p) (d .n) (d .is) (le-says G (d .leap-is
     go : (p n : ℕ) → W + n ≡ 86400 * E + p → p + E ≤ 0 + n → 1000 * W ≤ 86399000 * E
     go p n i a = omega arith
 
--- ---- what is shown, by a rule that gives a nearest whole number
+-- ---- what is shown of a count that is near the exact time of day: a count past the day's end becomes the day's end
+module _ (c e F D k : ℕ) (x : Float) (s : Leap x) (h : F ≤ D) (near : (W E : ℕ) → 0 < E → DayLength x W E → Close c e (k * E) F D W E) where
+  at-time : k < dayEnd (wholeLeap x) → ShownWithin c e F D x (At (timeOf k))
+  unfolding Good shownMs
+  at-time t = record { good = good-time k (wholeLeap x) t; near = λ W E G d. subst (λ (z : ℕ). Close c e (z * E) F D W E) (sym (fields-ms k)) (near W E G d) }
+
+  at-end : dayEnd (wholeLeap x) ≤ k → ShownWithin c e F D x NextMidnight
+  unfolding Good shownMs
+  at-end t = record { good = tt; near = λ W E G d. close-end c e (k * E) F D W E h (le-trans (longest x W E G s d) (mul-le-mul-right E t)) (near W E G d) }
+
+  pub shown-within : ShownWithin c e F D x (shownAt (wholeLeap x) k)
+  unfolding shownAt
+  shown-within = go (ltb k (dayEnd (wholeLeap x))) (ltb→lt k (dayEnd (wholeLeap x))) (nltb→le k (dayEnd (wholeLeap x)))
+    where
+      go : (b : Bool) → (T b → k < dayEnd (wholeLeap x)) → (T (not b) → dayEnd (wholeLeap x) ≤ k) → ShownWithin c e F D x (cond b (At (timeOf k)) NextMidnight)
+      go true t n = at-time (t tt)
+      go false t n = at-end (n tt)
+
+-- ---- by a rule that gives a nearest whole number
 module _ (how : Bool → ℕ → ℕ → ℕ) (rule : Nearest how) (f x : Float) (h : T (fits binary64 f)) (g : InUnit f) (s : Leap x) where
   u : AsUnits f
   u = in-units f h g
 
-  c : CountedTo how f (wholeLeap x) u
-  c = counted how rule f (wholeLeap x) u (within-one x s)
-
-  at-count : (F D W E : ℕ) → 0 < E → Val f F 0 D → DayLength x W E → Close 16777216 8388609 (c .k * E) (u .F) L W E
-  at-count F D W E G v d = c .close (d .p) (d .n) E W G (d .leap-is) (d .is)
+  counts : CountedTo how f (wholeLeap x) u
+  counts = counted how rule f (wholeLeap x) u (within-one x s)
 
   moved : (r F D W E : ℕ) → Val f F 0 D → Close 16777216 8388609 r (u .F) L W E → Close 16777216 8388609 r F D W E
   moved r F D W E v k = close-move 16777216 8388609 r F D (u .F) L W E L-pos (cross (u .val) v) k
 
-  right : (r : TimeShown) → Good r (wholeLeap x) → ((F D W E : ℕ) → 0 < E → Val f F 0 D → DayLength x W E → Close 16777216 8388609 (shownMs r W E) F D W E) → ShownRight f x r
-  right r a k = record {
-    good = a;
-    near = λ F D W E X G v d. close-501 (shownMs r W E) F D W E (k F D W E G v d);
-    nearer = λ F D W E X G v d. k F D W E G v d;
-  }
+  -- the count is within 1 / 2 + 2 ^ -24 ms
+  pub count-near : (F D W E : ℕ) → 0 < E → Val f F 0 D → DayLength x W E → Close 16777216 8388609 (countBy how f (wholeLeap x) * E) F D W E
+  unfolding countBy fromZero
+  count-near F D W E G v d =
+      subst (λ (z : ℤ). Close 16777216 8388609 (fromZero z * E) F D W E) (sym (counts .is)) (moved (counts .k * E) F D W E v (counts .close (d .p) (d .n) E W G (d .leap-is) (d .is)))
 
-  right-at : c .k < dayEnd (wholeLeap x) → ShownRight f x (At (timeOf (c .k)))
-  unfolding Good shownMs
-  right-at t = right (At (timeOf (c .k))) (good-time (c .k) (wholeLeap x) t)
-      (λ F D W E G v d. moved (timeMs (timeOf (c .k)) * E) F D W E v (subst (λ (z : ℕ). Close 16777216 8388609 (z * E) (u .F) L W E) (sym (fields-ms (c .k))) (at-count F D W E G v d)))
-
-  right-end : dayEnd (wholeLeap x) ≤ c .k → ShownRight f x NextMidnight
-  unfolding Good shownMs
-  right-end t = right NextMidnight tt
-      (λ F D W E G v d. moved (1000 * W) F D W E v (close-end 16777216 8388609 (c .k * E) (u .F) L W E (le-of-lt (u .most)) (le-trans (longest x W E G s d) (mul-le-mul-right E t)) (at-count F D W E G v d)))
+  shown : ShownWithin 16777216 8388609 (u .F) L x (shownOf how f x)
+  unfolding shownBy
+  shown = shown-within 16777216 8388609 (u .F) L (countBy how f (wholeLeap x)) x s (le-of-lt (u .most)) (λ W E G d. count-near (u .F) L W E G (u .val) d)
 
   pub shown-right-by : ShownRight f x (shownOf how f x)
-  unfolding shownOf shownAt fromZero
-  shown-right-by = subst (λ (z : _). ShownRight f x (shownAt (wholeLeap x) (fromZero z))) (sym (c .is)) (go (ltb (c .k) (dayEnd (wholeLeap x))) (ltb→lt (c .k) (dayEnd (wholeLeap x))) (nltb→le (c .k) (dayEnd (wholeLeap x))))
-    where
-      go : (b : Bool) → (T b → c .k < dayEnd (wholeLeap x)) → (T (not b) → dayEnd (wholeLeap x) ≤ c .k) → ShownRight f x (cond b (At (timeOf (c .k))) NextMidnight)
-      go true t n = right-at (t tt)
-      go false t n = right-end (n tt)
+  shown-right-by = record {
+    good = shown .good;
+    near = λ F D W E X G v d. close-501 (shownMs (shownOf how f x) W E) F D W E (moved (shownMs (shownOf how f x) W E) F D W E v (shown .near W E G d));
+    nearer = λ F D W E X G v d. moved (shownMs (shownOf how f x) W E) F D W E v (shown .near W E G d);
+  }
 
 -- what `time_shown` answers is within 0.501 ms of the exact time of day
 pub shown-right : (f x : Float) → T (fits binary64 f) → InUnit f → Leap x → ShownRight f x (shownOf away f x)

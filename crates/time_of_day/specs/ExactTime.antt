@@ -68,6 +68,11 @@ unfoldable pub Good : TimeShown → Float → Type 0
 Good (At t) leap = GoodTime t leap
 Good NextMidnight leap = Unit
 
+-- What is shown has good fields, and is within e / c milliseconds of F / D of the day, whatever fraction W / E the day length is written as
+pub record ShownWithin (c e F D : ℕ) (leap : Float) (r : TimeShown) : Type 0 where
+  pub good : Good r (wholeLeap leap)
+  pub near : (W E : ℕ) → 0 < E → DayLength leap W E → Close c e (shownMs r W E) F D W E
+
 -- What is shown has good fields, and is within 0.501 ms, and even within 1 / 2 + 2 ^ -24 ms, of the exact time of day, whatever fractions F / D and W / E the
 -- fraction and the day length are written as
 pub record ShownRight (fraction leap : Float) (r : TimeShown) : Type 0 where

@@ -38,7 +38,16 @@ unfoldable pub shownAt : Float → ℕ → TimeShown
 unfolding timeOf dayEnd
 shownAt leap k = cond (ltb k (dayEnd leap)) (At (timeOf k)) NextMidnight
 
--- what a fraction of a day with any leap shows, milliseconds rounded by the rule `how`
-unfoldable pub shownOf : (Bool → ℕ → ℕ → ℕ) → Float → Float → TimeShown
-unfolding shownAt fromZero
-shownOf how fraction leap = shownAt (wholeLeap leap) (fromZero (millisOf how fraction (wholeLeap leap)))
+-- the milliseconds of a fraction of a day with the leap that counts, rounded by the rule `how`
+unfoldable pub countBy : (Bool → ℕ → ℕ → ℕ) → Float → Float → ℕ
+unfolding fromZero
+countBy how fraction leap = fromZero (millisOf how fraction leap)
+
+-- what a fraction of a day with any leap shows, where `count` says the milliseconds of a fraction and a leap that counts
+unfoldable pub shownBy : (Float → Float → ℕ) → Float → Float → TimeShown
+unfolding shownAt
+shownBy count fraction leap = shownAt (wholeLeap leap) (count fraction (wholeLeap leap))
+
+-- by a rule of rounding
+abbrev pub shownOf : (Bool → ℕ → ℕ → ℕ) → Float → Float → TimeShown
+shownOf how fraction leap = shownBy (countBy how) fraction leap

@@ -10,7 +10,6 @@ use lib.ListN.{length, take, drop}
 use lib.Seq.{take-at, drop-at}
 use lib.Ieee.{Float, binary64, fits}
 use Rattle.refusals.specs.Outcome.{Outcome, answer, refusal, onward}
-use Rattle.floats.specs.Whole.{away}
 use Rattle.day_number.specs.ExactDay.{OnGrid, gridSum}
 use Rattle.julian.specs.declared.CalendarFields.{CalendarFields}
 use Rattle.julian.specs.JulianDate.{julian}
@@ -19,15 +18,16 @@ use Rattle.tai_utc.specs.Table.{Row}
 use Rattle.utc_text.specs.declared.TextAnswer.{TextAnswer}
 use Rattle.utc_text.specs.declared.TextAnswer.the-variants.{Written, Refused}
 use Rattle.utc_text.specs.Answer.{textOutcome, textWritten, bufferAfter}
-use Rattle.utc.specs.IsoText.{dayTextBy, isoTextBy, isoText}
+use Rattle.utc.specs.Sheet.{Sheet}
+use Rattle.utc.specs.IsoText.{dayTextBy, isoTextBy, isoText, sheet01}
 use Rattle.utc.specs.TextCall.{written, bufferHolds, TextCall, Alike}
-use Rattle.utc.specs.Shows.{tooEarly, TextDemand}
+use Rattle.utc.specs.Shows.{Promise, tooEarly, TextDemand}
 
 -- ---- one text, or one refusal, for all divisions
-pub one-text : (how : Bool → ℕ → ℕ → ℕ) (rows : List Row) (x y x' y' : Float) → T (fits binary64 x) → T (fits binary64 y) → T (fits binary64 x') → T (fits binary64 y') → (a : OnGrid x) (b : OnGrid y) (a' : OnGrid x') (b' : OnGrid y')
-    → gridSum a b ≡ gridSum a' b' → isoTextBy how rows (julian x y) ≡ isoTextBy how rows (julian x' y')
+pub one-text : (sheet : Sheet) (rows : List Row) (x y x' y' : Float) → T (fits binary64 x) → T (fits binary64 y) → T (fits binary64 x') → T (fits binary64 y') → (a : OnGrid x) (b : OnGrid y) (a' : OnGrid x') (b' : OnGrid y')
+    → gridSum a b ≡ gridSum a' b' → isoTextBy sheet rows (julian x y) ≡ isoTextBy sheet rows (julian x' y')
 unfolding isoTextBy
-one-text how rows x y x' y' fx fy fx' fy' a b a' b' e = ap (λ (o : Outcome CalendarFields). onward o (λ c. dayTextBy how rows (c .date) (c .fraction))) (one-outcome x y x' y' fx fy fx' fy' a b a' b' e)
+one-text sheet rows x y x' y' fx fy fx' fy' a b a' b' e = ap (λ (o : Outcome CalendarFields). onward o (λ c. dayTextBy sheet rows (c .date) (c .fraction))) (one-outcome x y x' y' fx fy fx' fy' a b a' b' e)
 
 -- ---- a call, by its outcome
 same-answer : (r s : TextAnswer) → textOutcome r ≡ textOutcome s → r ≡ s
@@ -89,7 +89,7 @@ alike o l out l' out' r r' e c c' = record {
     ends t x y n b d = ap (drop n) d ∙ drop-at t (drop (length t) x) n (sym b) ∙ ap (λ (k : ℕ). drop k x) (sym b)
 
 -- ---- THE REFUSALS of a call, exactly: 1 where the year is before -4799, else 11 where the text is longer than the buffer, else none
-module _ (rows : List Row) (sum : ℤ) (o : Outcome (List ℕ)) (l out : List ℕ) (r : TextAnswer) (d : TextDemand rows sum o) (c : TextCall o l r out) where
+module _ (p : Promise) (rows : List Row) (sum : ℤ) (o : Outcome (List ℕ)) (l out : List ℕ) (r : TextAnswer) (d : TextDemand p rows sum o) (c : TextCall o l r out) where
   pub exactly : textOutcome r ≡ cond (tooEarly sum) (refusal 1) (cond (leb (length (d .text)) (length l)) (answer (length (d .text))) (refusal 11))
   unfolding written textWritten onward
   exactly = c .says ∙ ap (λ (x : Outcome (List ℕ)). onward x (λ t. textWritten t (length l))) (d .is) ∙ go (tooEarly sum)
@@ -106,14 +106,14 @@ module _ (rows : List Row) (sum : ℤ) (o : Outcome (List ℕ)) (l out : List �
       go true = refl
       go false = refl
 
--- ---- DEMAND 3: all divisions of one date on the grid are alike in text for buffers of one length, whatever the rule of rounding
-module _ (how : Bool → ℕ → ℕ → ℕ) (rows : List Row) (x y x' y' : Float) (fx : T (fits binary64 x)) (fy : T (fits binary64 y)) (fx' : T (fits binary64 x')) (fy' : T (fits binary64 y'))
+-- ---- DEMAND 3: all divisions of one date on the grid are alike in text for buffers of one length, by any sheet
+module _ (sheet : Sheet) (rows : List Row) (x y x' y' : Float) (fx : T (fits binary64 x)) (fy : T (fits binary64 y)) (fx' : T (fits binary64 x')) (fy' : T (fits binary64 y'))
     (a : OnGrid x) (b : OnGrid y) (a' : OnGrid x') (b' : OnGrid y') (e : gridSum a b ≡ gridSum a' b') (l out l' out' : List ℕ) (r r' : TextAnswer) (h : length l ≡ length l') where
-  pub divisions-alike-by : TextCall (isoTextBy how rows (julian x y)) l r out → TextCall (isoTextBy how rows (julian x' y')) l' r' out' → Alike l r out l' r' out'
+  pub divisions-alike-by : TextCall (isoTextBy sheet rows (julian x y)) l r out → TextCall (isoTextBy sheet rows (julian x' y')) l' r' out' → Alike l r out l' r' out'
   divisions-alike-by c c' =
-      alike (isoTextBy how rows (julian x y)) l out l' out' r r' h c (subst (λ (o : Outcome (List ℕ)). TextCall o l' r' out') (sym (one-text how rows x y x' y' fx fy fx' fy' a b a' b' e)) c')
+      alike (isoTextBy sheet rows (julian x y)) l out l' out' r r' h c (subst (λ (o : Outcome (List ℕ)). TextCall o l' r' out') (sym (one-text sheet rows x y x' y' fx fy fx' fy' a b a' b' e)) c')
 
 pub divisions-alike : (rows : List Row) (x y x' y' : Float) → T (fits binary64 x) → T (fits binary64 y) → T (fits binary64 x') → T (fits binary64 y') → (a : OnGrid x) (b : OnGrid y) (a' : OnGrid x') (b' : OnGrid y')
     → gridSum a b ≡ gridSum a' b' → (l out l' out' : List ℕ) (r r' : TextAnswer) → length l ≡ length l'
     → TextCall (isoText rows (julian x y)) l r out → TextCall (isoText rows (julian x' y')) l' r' out' → Alike l r out l' r' out'
-divisions-alike = divisions-alike-by away
+divisions-alike = divisions-alike-by sheet01

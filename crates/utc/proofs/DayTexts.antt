@@ -1,6 +1,6 @@
 -- A date that is not refused has a next one, a leap, and a text; one before year -4799 is refused with 1. For any table of rows. Assumes nothing.
 use mathlib.Core.Path.{_≡_, refl, _∙_}
-use mathlib.Core.Bool.{Bool, false, _&&_}
+use mathlib.Core.Bool.{false, _&&_}
 use mathlib.Core.List.{List}
 use Prim.Native.Nat.{ℕ}
 use lib.Dec.{eqb}
@@ -18,28 +18,33 @@ use Rattle.calendar.proofs.Years.{validOf, before-last}
 use Rattle.tai_utc.specs.Table.{Row, monthNumber}
 use Rattle.tai_utc.specs.Leap.{leapOf, offsetsOfDay, leapAtEndOfDay}
 use Rattle.tai_utc.proofs.Days as Days
+use Rattle.time_of_day.specs.declared.TimeOfDay.{TimeOfDay}
 use Rattle.time_of_day.specs.declared.TimeShown.{TimeShown}
 use Rattle.time_of_day.specs.declared.TimeShown.the-variants.{At, NextMidnight}
-use Rattle.time_of_day.specs.TimeShown.{shownOf}
+use Rattle.time_of_day.specs.TimeShown.{shownBy, shownOf}
 use Rattle.utc_text.specs.Text.{utcText}
-use Rattle.utc.specs.IsoText.{midnight, shownText, dayTextBy, dayText}
+use Rattle.utc.specs.Sheet.{Sheet}
+use Rattle.utc.specs.IsoText.{midnight, shownTextBy, dayTextBy, dayText, sheet01}
 use Rattle.utc.proofs.TextCalls.{next-given, leap-refused, leap-given}
 
--- the text of a date that has a next one
+-- the text of a date that has a next one, by a way to write a date and a time; and document 01's
+abbrev pub textBy : (CalendarDate → TimeOfDay → List ℕ) → CalendarDate → TimeShown → List ℕ
+textBy write d (At t) = write d t
+textBy write d NextMidnight = write (next d) midnight
+
 abbrev pub textOf : CalendarDate → TimeShown → List ℕ
-textOf d (At t) = utcText d t
-textOf d NextMidnight = utcText (next d) midnight
+textOf d r = textBy utcText d r
 
 module _ (rows : List Row) (d : CalendarDate) where
   pub refused-early : (k : ℕ) → validOf d ≡ refusal k → leapAtEndOfDay rows (d .year) (pos (d .month)) (pos (d .day)) ≡ refusal k
   unfolding leapAtEndOfDay onward
   refused-early k e = rw (Days.day-offsets-are rows (d .year) (pos (d .month)) (pos (d .day)), refused (d .year) (pos (d .month)) (pos (d .day)) k e)
 
-  pub text-refused-by : (how : Bool → ℕ → ℕ → ℕ) (f : Float) (k : ℕ) → validOf d ≡ refusal k → dayTextBy how rows d f ≡ refusal k
-  text-refused-by how f k e = leap-refused how rows d f k (refused-early k e)
+  pub text-refused-by : (sheet : Sheet) (f : Float) (k : ℕ) → validOf d ≡ refusal k → dayTextBy sheet rows d f ≡ refusal k
+  text-refused-by sheet f k e = leap-refused sheet rows d f k (refused-early k e)
 
   pub text-refused : (f : Float) (k : ℕ) → validOf d ≡ refusal k → dayText rows d f ≡ refusal k
-  text-refused = text-refused-by away
+  text-refused = text-refused-by sheet01
 
   module _ (v : validOf d ≡ answer tt) (h : ltZ (pos 2733194) (d .year) ≡ false) where
     pub has-next : nextOf (d .year) (pos (d .month)) (pos (d .day)) ≡ answer (next d)
@@ -51,13 +56,13 @@ module _ (rows : List Row) (d : CalendarDate) where
     pub has-leap : leapAtEndOfDay rows (d .year) (pos (d .month)) (pos (d .day)) ≡ answer leapOn
     has-leap = Days.leap-given rows (d .year) (pos (d .month)) (pos (d .day)) (next d) has-next
 
-    shown : (r : TimeShown) → shownText d r ≡ answer (textOf d r)
-    unfolding shownText
-    shown (At t) = refl
-    shown NextMidnight = next-given d (next d) has-next
+    shown : (write : CalendarDate → TimeOfDay → List ℕ) (r : TimeShown) → shownTextBy write d r ≡ answer (textBy write d r)
+    unfolding shownTextBy
+    shown write (At t) = refl
+    shown write NextMidnight = next-given write d (next d) has-next
 
-    pub has-text-by : (how : Bool → ℕ → ℕ → ℕ) (f : Float) → dayTextBy how rows d f ≡ answer (textOf d (shownOf how f leapOn))
-    has-text-by how f = leap-given how rows d f leapOn has-leap ∙ shown (shownOf how f leapOn)
+    pub has-text-by : (sheet : Sheet) (f : Float) → dayTextBy sheet rows d f ≡ answer (textBy (sheet .write) d (shownBy (sheet .count) f leapOn))
+    has-text-by sheet f = leap-given sheet rows d f leapOn has-leap ∙ shown (sheet .write) (shownBy (sheet .count) f leapOn)
 
     pub has-text : (f : Float) → dayText rows d f ≡ answer (textOf d (shownOf away f leapOn))
-    has-text = has-text-by away
+    has-text = has-text-by sheet01

@@ -11,6 +11,7 @@ pub mod DateNumbers
 pub mod Parts
 pub mod ShownDates
 pub mod Sums
+pub mod Sheets
 pub mod Demand3
 pub mod DayLengths
 pub mod Alike

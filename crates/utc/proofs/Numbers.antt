@@ -23,11 +23,12 @@ use Rattle.julian_laws.proofs.CalendarDays.{only-six}
 use Rattle.tai_utc.specs.Table.{Row}
 use Rattle.utc_text.specs.declared.TextAnswer.the-variants.{Refused}
 use Rattle.utc_text.specs.Answer.{textOutcome, textWritten}
-use Rattle.utc.specs.IsoText.{isoText}
+use Rattle.utc.specs.Sheet.{Sheet}
+use Rattle.utc.specs.IsoText.{isoTextBy, isoText, sheet01}
 use Rattle.utc.specs.TextCall.{written, TextCall}
 use Rattle.utc.proofs.Dates.{day-of, date-in-range}
-use Rattle.utc.proofs.TextCalls.{fields-refused, fields-given}
-use Rattle.utc.proofs.DayTexts.{text-refused, has-text}
+use Rattle.utc.proofs.TextCalls.{fields-refused-by, fields-given-by}
+use Rattle.utc.proofs.DayTexts.{text-refused-by, has-text-by}
 
 pub not-both : {A : Type 0} (o : Outcome A) (a : A) (n : ℕ) → o ≡ answer a → o ≡ refusal n → ⊥
 not-both o a n p q = let z : _≡_ {A = ℕ} 0 1 = cc in omega arith
@@ -39,22 +40,22 @@ one-number o m n p q = cc
 pub date-refusal : (x y : Float) (c : CalendarFields) → julianToCalendar x y ≡ answer c → (validOf (c .date) ≡ answer tt) ⊎ (validOf (c .date) ≡ refusal 1)
 date-refusal x y c e = let (n, p) = day-of x y c e in subst (λ (d : CalendarDate). (validOf d ≡ answer tt) ⊎ (validOf d ≡ refusal 1)) (sym p) (gregorian-refusal n)
 
--- THE NUMBERS of a text, before the buffer is looked at
-pub text-numbers : (rows : List Row) (jd : JulianDate) (k : ℕ) → isoText rows jd ≡ refusal k → (k ≡ 6) ⊎ (k ≡ 1)
-text-numbers rows jd k e = go (julianToCalendar (jd .jd1) (jd .jd2)) refl
+-- THE NUMBERS of a text by any sheet, before the buffer is looked at
+pub text-numbers-by : (sheet : Sheet) (rows : List Row) (jd : JulianDate) (k : ℕ) → isoTextBy sheet rows jd ≡ refusal k → (k ≡ 6) ⊎ (k ≡ 1)
+text-numbers-by sheet rows jd k e = go (julianToCalendar (jd .jd1) (jd .jd2)) refl
   where
     go : (o : Outcome CalendarFields) → julianToCalendar (jd .jd1) (jd .jd2) ≡ o → (k ≡ 6) ⊎ (k ≡ 1)
-    go (refusal n) p = inl (one-number (isoText rows jd) k n e (fields-refused rows jd n p) ∙ only-six (jd .jd1) (jd .jd2) n p)
+    go (refusal n) p = inl (one-number (isoTextBy sheet rows jd) k n e (fields-refused-by sheet rows jd n p) ∙ only-six (jd .jd1) (jd .jd2) n p)
     go (answer c) p = by-date (date-refusal (jd .jd1) (jd .jd2) c p)
       where
         by-date : (validOf (c .date) ≡ answer tt) ⊎ (validOf (c .date) ≡ refusal 1) → (k ≡ 6) ⊎ (k ≡ 1)
-        by-date (inl v) = absurd (not-both (isoText rows jd) _ k (fields-given rows jd c p ∙ has-text rows (c .date) v (date-in-range (jd .jd1) (jd .jd2) c p .year-high) (c .fraction)) e)
-        by-date (inr v) = inr (one-number (isoText rows jd) k 1 e (fields-given rows jd c p ∙ text-refused rows (c .date) (c .fraction) 1 v))
+        by-date (inl v) = absurd (not-both (isoTextBy sheet rows jd) _ k (fields-given-by sheet rows jd c p ∙ has-text-by rows (c .date) v (date-in-range (jd .jd1) (jd .jd2) c p .year-high) sheet (c .fraction)) e)
+        by-date (inr v) = inr (one-number (isoTextBy sheet rows jd) k 1 e (fields-given-by sheet rows jd c p ∙ text-refused-by rows (c .date) sheet (c .fraction) 1 v))
 
 -- and of a call
-pub call-numbers : (rows : List Row) (jd : JulianDate) (l out : List ℕ) (k : ℕ) → TextCall (isoText rows jd) l (Refused k) out → (k ≡ 6) ⊎ ((k ≡ 1) ⊎ (k ≡ 11))
+pub call-numbers-by : (sheet : Sheet) (rows : List Row) (jd : JulianDate) (l out : List ℕ) (k : ℕ) → TextCall (isoTextBy sheet rows jd) l (Refused k) out → (k ≡ 6) ⊎ ((k ≡ 1) ⊎ (k ≡ 11))
 unfolding textOutcome written textWritten onward
-call-numbers rows jd l out k c = go (isoText rows jd) refl (c .says)
+call-numbers-by sheet rows jd l out k c = go (isoTextBy sheet rows jd) refl (c .says)
   where
     longer : (t : List ℕ) (b : Bool) → refusal k ≡ cond b (answer (length t)) (refusal 11) → k ≡ 11
     longer t true e = absurd (not-both (refusal k) _ k e refl)
@@ -64,20 +65,30 @@ call-numbers rows jd l out k c = go (isoText rows jd) refl (c .says)
     first (inl p) = inl p
     first (inr p) = inr (inl p)
 
-    go : (o : Outcome (List ℕ)) → isoText rows jd ≡ o → refusal k ≡ onward o (λ t. textWritten t (length l)) → (k ≡ 6) ⊎ ((k ≡ 1) ⊎ (k ≡ 11))
+    go : (o : Outcome (List ℕ)) → isoTextBy sheet rows jd ≡ o → refusal k ≡ onward o (λ t. textWritten t (length l)) → (k ≡ 6) ⊎ ((k ≡ 1) ⊎ (k ≡ 11))
     go (answer t) p e = inr (inr (longer t (leb (length t) (length l)) e))
-    go (refusal n) p e = let q : n ≡ k = cc in first (text-numbers rows jd k (subst (λ (j : ℕ). isoText rows jd ≡ refusal j) q p))
+    go (refusal n) p e = let q : n ≡ k = cc in first (text-numbers-by sheet rows jd k (subst (λ (j : ℕ). isoTextBy sheet rows jd ≡ refusal j) q p))
 
 -- ---- DEMAND 1: a part that is not finite is refused with 6
-pub not-finite : (rows : List Row) (jd : JulianDate) → finite (jd .jd1) && finite (jd .jd2) ≡ false → isoText rows jd ≡ refusal 6
+pub not-finite-by : (sheet : Sheet) (rows : List Row) (jd : JulianDate) → finite (jd .jd1) && finite (jd .jd2) ≡ false → isoTextBy sheet rows jd ≡ refusal 6
 unfolding julianToCalendar onward
-not-finite rows jd e = go (accepted (jd .jd1) (jd .jd2)) refl
+not-finite-by sheet rows jd e = go (accepted (jd .jd1) (jd .jd2)) refl
   where
     both : (a b : Bool) → T a → T b → a && b ≡ false → ⊥
     both true true s t q = true≢false q
     both true false s t q = absurd t
     both false b s t q = absurd s
 
-    go : (b : Bool) → accepted (jd .jd1) (jd .jd2) ≡ b → isoText rows jd ≡ refusal 6
+    go : (b : Bool) → accepted (jd .jd1) (jd .jd2) ≡ b → isoTextBy sheet rows jd ≡ refusal 6
     go true h = let (s, t) = accepted-finite (jd .jd1) (jd .jd2) h in absurd (both (finite (jd .jd1)) (finite (jd .jd2)) s t e)
-    go false h = fields-refused rows jd 6 (rw (refused (jd .jd1) (jd .jd2) h))
+    go false h = fields-refused-by sheet rows jd 6 (rw (refused (jd .jd1) (jd .jd2) h))
+
+-- ---- of document 01's
+pub text-numbers : (rows : List Row) (jd : JulianDate) (k : ℕ) → isoText rows jd ≡ refusal k → (k ≡ 6) ⊎ (k ≡ 1)
+text-numbers = text-numbers-by sheet01
+
+pub call-numbers : (rows : List Row) (jd : JulianDate) (l out : List ℕ) (k : ℕ) → TextCall (isoText rows jd) l (Refused k) out → (k ≡ 6) ⊎ ((k ≡ 1) ⊎ (k ≡ 11))
+call-numbers = call-numbers-by sheet01
+
+pub not-finite : (rows : List Row) (jd : JulianDate) → finite (jd .jd1) && finite (jd .jd2) ≡ false → isoText rows jd ≡ refusal 6
+not-finite = not-finite-by sheet01

@@ -9,24 +9,24 @@ use lib.ListN.{length, drop}
 use lib.Ieee.{Float}
 use borrow.Author.Tests.{leb-true, leb-false}
 use Rattle.refusals.specs.Outcome.{answer, refusal}
-use Rattle.floats.specs.Whole.{away}
 use Rattle.day_number.specs.ExactDay.{GridSumInRange}
 use Rattle.julian.specs.declared.JulianDate.{JulianDate}
 use Rattle.tai_utc.specs.declared.LentRows.{LentRows}
 use Rattle.tai_utc.specs.Table.{Row, fixed}
 use Rattle.tai_utc.specs.Lent.{tableOf}
 use Rattle.tai_utc.specs.Leap.{leapAtEndOfDay}
-use Rattle.time_of_day.specs.Nearest.{Nearest}
 use Rattle.time_of_day.specs.ExactTime.{Leap}
-use Rattle.time_of_day.proofs.Rounded.{away-nearest}
 use Rattle.utc_text.specs.declared.TextAnswer.{TextAnswer}
 use Rattle.utc_text.specs.Answer.{textOutcome}
-use Rattle.utc.specs.IsoText.{isoTextBy}
+use Rattle.utc.specs.Sheet.{Sheet}
+use Rattle.utc.specs.IsoText.{isoTextBy, sheet01}
 use Rattle.utc.specs.TextCall.{TextCall}
-use Rattle.utc.specs.Shows.{tooEarly, TextDemand}
+use Rattle.utc.specs.Shows.{Promise, promise01, tooEarly, TextDemand}
+use Rattle.utc.specs.GoodSheet.{GoodSheet}
 use Rattle.utc.specs.OneText.{Division, Put, fits-in, too-long, OneText}
 use Rattle.utc.proofs.TextCalls.{call-as}
 use Rattle.utc.proofs.Sums.{sumText, of-sum}
+use Rattle.utc.proofs.Sheets.{good01}
 use Rattle.utc.proofs.Demand3.{sum-demand, fixed-leaps, table-leaps}
 use Rattle.utc.proofs.DayLengths.{a-length}
 use Rattle.utc.proofs.Alike.{alike, exactly, buffer}
@@ -42,21 +42,21 @@ put t l out r = go (leb (length t) (length l)) refl
     go true p e q = fits-in (leb-true (length t) (length l) p) e q
     go false p e q = too-long (leb-false (length t) (length l) p) e q
 
-module _ (rows : List Row) (cases : (y m d : ℤ) (x : Float) → leapAtEndOfDay rows y m d ≡ answer x → Leap x) (how : Bool → ℕ → ℕ → ℕ) (rule : Nearest how) (sum : ℤ) (range : GridSumInRange sum) where
-  demand : TextDemand rows sum (sumText how rows sum)
-  demand = sum-demand rows cases how rule sum range
+module _ (rows : List Row) (cases : (y m d : ℤ) (x : Float) → leapAtEndOfDay rows y m d ≡ answer x → Leap x) (sheet : Sheet) (p : Promise) (good : GoodSheet sheet p) (sum : ℤ) (range : GridSumInRange sum) where
+  demand : TextDemand p rows sum (sumText sheet rows sum)
+  demand = sum-demand rows cases sheet p good sum range
 
   -- a call for a division is one for the sum
-  as-sum : (jd : JulianDate) → Division sum jd → (l : List ℕ) (r : TextAnswer) (out : List ℕ) → TextCall (isoTextBy how rows jd) l r out → TextCall (sumText how rows sum) l r out
-  as-sum jd d l r out c = call-as _ _ l out r (sym (of-sum how rows sum range jd d)) c
+  as-sum : (jd : JulianDate) → Division sum jd → (l : List ℕ) (r : TextAnswer) (out : List ℕ) → TextCall (isoTextBy sheet rows jd) l r out → TextCall (sumText sheet rows sum) l r out
+  as-sum jd d l r out c = call-as _ _ l out r (sym (of-sum sheet rows sum range jd d)) c
 
-  pub text-for-every-buffer-by : OneText how rows sum
+  pub text-for-every-buffer-by : OneText sheet p rows sum
   text-for-every-buffer-by = record {
     early = λ e jd d l r out c.
         let s = as-sum jd d l r out c in
         record {
-          says = exactly rows sum (sumText how rows sum) l out r demand s ∙ case (tooEarly sum) true (refusal 1) _ e;
-          holds = buffer rows sum (sumText how rows sum) l out r demand s ∙ case (tooEarly sum) true l _ e;
+          says = exactly p rows sum (sumText sheet rows sum) l out r demand s ∙ case (tooEarly sum) true (refusal 1) _ e;
+          holds = buffer p rows sum (sumText sheet rows sum) l out r demand s ∙ case (tooEarly sum) true l _ e;
         };
     shown = λ e. (
       demand .text,
@@ -69,14 +69,14 @@ module _ (rows : List Row) (cases : (y m d : ℤ) (x : Float) → leapAtEndOfDay
       λ jd d l r out c.
           let s = as-sum jd d l r out c in
           put (demand .text) l out r
-          (exactly rows sum (sumText how rows sum) l out r demand s ∙ case (tooEarly sum) false (refusal 1) _ e)
-          (buffer rows sum (sumText how rows sum) l out r demand s ∙ case (tooEarly sum) false l _ e),
+          (exactly p rows sum (sumText sheet rows sum) l out r demand s ∙ case (tooEarly sum) false (refusal 1) _ e)
+          (buffer p rows sum (sumText sheet rows sum) l out r demand s ∙ case (tooEarly sum) false l _ e),
     );
-    alike = λ jd d l r out c jd' d' l' r' out' c' h. alike (sumText how rows sum) l out l' out' r r' h (as-sum jd d l r out c) (as-sum jd' d' l' r' out' c');
+    alike = λ jd d l r out c jd' d' l' r' out' c' h. alike (sumText sheet rows sum) l out l' out' r r' h (as-sum jd d l r out c) (as-sum jd' d' l' r' out' c');
   }
 
-pub table-text-for-every-buffer : (t : LentRows) (rows : List Row) → tableOf t ≡ answer rows → (sum : ℤ) → GridSumInRange sum → OneText away rows sum
-table-text-for-every-buffer t rows p = text-for-every-buffer-by rows (table-leaps t rows p) away away-nearest
+pub table-text-for-every-buffer : (t : LentRows) (rows : List Row) → tableOf t ≡ answer rows → (sum : ℤ) → GridSumInRange sum → OneText sheet01 promise01 rows sum
+table-text-for-every-buffer t rows p = text-for-every-buffer-by rows (table-leaps t rows p) sheet01 promise01 good01
 
-pub text-for-every-buffer : (sum : ℤ) → GridSumInRange sum → OneText away fixed sum
-text-for-every-buffer = text-for-every-buffer-by fixed fixed-leaps away away-nearest
+pub text-for-every-buffer : (sum : ℤ) → GridSumInRange sum → OneText sheet01 promise01 fixed sum
+text-for-every-buffer = text-for-every-buffer-by fixed fixed-leaps sheet01 promise01 good01

@@ -1,7 +1,7 @@
 -- A sum from -68569.5 to 10^9 and its divisions into two parts on the grid: its exact day is one that the calendar has, and the text of each division is that
 -- of the exact day and the exact fraction. Assumes nothing.
 use mathlib.Core.Path.{_≡_, sym, subst}
-use mathlib.Core.Bool.{Bool, false}
+use mathlib.Core.Bool.{false}
 use mathlib.Core.List.{List}
 use Prim.Native.Nat.{ℕ, _^_}
 use native.Mathlib.Omega.{arith}
@@ -16,6 +16,7 @@ use Rattle.day_number.specs.Ranges.{InDays}
 use Rattle.julian.specs.declared.JulianDate.{JulianDate}
 use Rattle.julian_laws.proofs.CalendarDays.{day-low, day-high, exact-date}
 use Rattle.tai_utc.specs.Table.{Row}
+use Rattle.utc.specs.Sheet.{Sheet}
 use Rattle.utc.specs.IsoText.{dayTextBy, isoTextBy}
 use Rattle.utc.specs.OneText.{Division}
 use Rattle.utc.proofs.TextCalls.{fields-given-by}
@@ -28,10 +29,10 @@ unfolding fractionOf
 fraction-fits u = round-fits binary64 false u (2 ^ 52)
 
 -- the text of the exact day and the exact fraction
-abbrev pub sumText : (Bool → ℕ → ℕ → ℕ) → List Row → ℤ → Outcome (List ℕ)
-sumText how rows sum = dayTextBy how rows (dateOf (exactDay sum)) (fractionOf (exactFraction sum))
+abbrev pub sumText : Sheet → List Row → ℤ → Outcome (List ℕ)
+sumText sheet rows sum = dayTextBy sheet rows (dateOf (exactDay sum)) (fractionOf (exactFraction sum))
 
-pub of-sum : (how : Bool → ℕ → ℕ → ℕ) (rows : List Row) (sum : ℤ) → GridSumInRange sum → (jd : JulianDate) → Division sum jd → isoTextBy how rows jd ≡ sumText how rows sum
-of-sum how rows sum r jd d =
-    subst (λ (s : ℤ). isoTextBy how rows jd ≡ sumText how rows s) (d .sum-is)
-    (fields-given-by how rows jd _ (exact-date (jd .jd1) (jd .jd2) (d .first-float) (d .second-float) (d .first) (d .second) (subst GridSumInRange (sym (d .sum-is)) r)))
+pub of-sum : (sheet : Sheet) (rows : List Row) (sum : ℤ) → GridSumInRange sum → (jd : JulianDate) → Division sum jd → isoTextBy sheet rows jd ≡ sumText sheet rows sum
+of-sum sheet rows sum r jd d =
+    subst (λ (s : ℤ). isoTextBy sheet rows jd ≡ sumText sheet rows s) (d .sum-is)
+    (fields-given-by sheet rows jd _ (exact-date (jd .jd1) (jd .jd2) (d .first-float) (d .second-float) (d .first) (d .second) (subst GridSumInRange (sym (d .sum-is)) r)))

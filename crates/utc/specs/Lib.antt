@@ -1,8 +1,10 @@
 -- What the contracts of `utc` cite, in the order to read it.
 pub mod FromCalendar
 pub mod UnixTime
+pub mod Sheet
 pub mod IsoText
 pub mod TextCall
 -- The words of the theorems: no contract cites them.
 pub mod Shows
+pub mod GoodSheet
 pub mod OneText

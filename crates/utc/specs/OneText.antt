@@ -1,7 +1,7 @@
 -- Demand 3 of UTC text, whole: what every call for the text of a date on the grid answers and leaves in its buffer, however the date is divided and whatever
 -- the buffer holds. Written from demand 3 and document 01, "UTC text" and "Refusals by number". Assumes nothing.
 use mathlib.Core.Path.{_≡_}
-use mathlib.Core.Bool.{Bool, true, false}
+use mathlib.Core.Bool.{true, false}
 use mathlib.Core.List.{List, _++_}
 use Prim.Native.Nat.{ℕ, _≤_, _<_}
 use lib.Dec.{T}
@@ -17,9 +17,10 @@ use Rattle.tai_utc.specs.Leap.{leapAtEndOfDay}
 use Rattle.time_of_day.specs.ExactTime.{DayLength}
 use Rattle.utc_text.specs.declared.TextAnswer.{TextAnswer}
 use Rattle.utc_text.specs.Answer.{textOutcome}
+use Rattle.utc.specs.Sheet.{Sheet}
 use Rattle.utc.specs.IsoText.{isoTextBy}
 use Rattle.utc.specs.TextCall.{TextCall, Alike}
-use Rattle.utc.specs.Shows.{TextRight, tooEarly}
+use Rattle.utc.specs.Shows.{Promise, TextRight, tooEarly}
 
 -- a Julian date whose two parts are floats on the grid with this exact sum
 pub record Division (sum : ℤ) (jd : JulianDate) : Type 0 where
@@ -29,19 +30,19 @@ pub record Division (sum : ℤ) (jd : JulianDate) : Type 0 where
   pub second : OnGrid (jd .jd2)
   pub sum-is : gridSum first second ≡ sum
 
--- P holds of each call for the text of a division of the sum, milliseconds rounded by the rule `how`: of what the buffer held before, the answer, and what it
+-- P holds of each call for the text of a division of the sum, by a sheet: of what the buffer held before, the answer, and what it
 -- holds after
-abbrev pub EveryCall : (Bool → ℕ → ℕ → ℕ) → List Row → ℤ → (List ℕ → TextAnswer → List ℕ → Type 0) → Type 0
-EveryCall how rows sum P =
-    (jd : JulianDate) → Division sum jd → (before : List ℕ) (r : TextAnswer) (after : List ℕ) → TextCall (isoTextBy how rows jd) before r after → P before r after
+abbrev pub EveryCall : Sheet → List Row → ℤ → (List ℕ → TextAnswer → List ℕ → Type 0) → Type 0
+EveryCall sheet rows sum P =
+    (jd : JulianDate) → Division sum jd → (before : List ℕ) (r : TextAnswer) (after : List ℕ) → TextCall (isoTextBy sheet rows jd) before r after → P before r after
 
 -- the text t shows the exact day and the exact time of the sum, or the next day's midnight; the day's length is 86,400 s and the leap that the table gives,
 -- where it counts
-pub record ShowsExact (rows : List Row) (sum : ℤ) (t : List ℕ) : Type 0 where
+pub record ShowsExact (p : Promise) (rows : List Row) (sum : ℤ) (t : List ℕ) : Type 0 where
   pub leap : Float
   pub leap-is : leapAtEndOfDay rows (dateOf (exactDay sum) .year) (pos (dateOf (exactDay sum) .month)) (pos (dateOf (exactDay sum) .day)) ≡ answer leap
   pub has-length : (W : ℕ) × (E : ℕ) × (0 < E) × DayLength leap W E
-  pub right : TextRight t (exactDay sum) (exactFraction sum) leap
+  pub right : TextRight p t (exactDay sum) (exactFraction sum) leap
 
 -- 1, and no byte written
 pub record TooEarly (before : List ℕ) (r : TextAnswer) (after : List ℕ) : Type 0 where
@@ -55,7 +56,7 @@ pub data Put (t before : List ℕ) (r : TextAnswer) (after : List ℕ) : Type 0 
 
 -- One text, or one refusal, for all divisions of one date: 1 where the exact day's year is before -4799; else a text that is right, in every buffer that holds
 -- it; and any two calls, with buffers of one length, alike
-pub record OneText (how : Bool → ℕ → ℕ → ℕ) (rows : List Row) (sum : ℤ) : Type 0 where
-  pub early : tooEarly sum ≡ true → EveryCall how rows sum TooEarly
-  pub shown : tooEarly sum ≡ false → (t : List ℕ) × ShowsExact rows sum t × EveryCall how rows sum (Put t)
-  pub alike : EveryCall how rows sum (λ l r out. EveryCall how rows sum (λ l' r' out'. length l ≡ length l' → Alike l r out l' r' out'))
+pub record OneText (sheet : Sheet) (p : Promise) (rows : List Row) (sum : ℤ) : Type 0 where
+  pub early : tooEarly sum ≡ true → EveryCall sheet rows sum TooEarly
+  pub shown : tooEarly sum ≡ false → (t : List ℕ) × ShowsExact p rows sum t × EveryCall sheet rows sum (Put t)
+  pub alike : EveryCall sheet rows sum (λ l r out. EveryCall sheet rows sum (λ l' r' out'. length l ≡ length l' → Alike l r out l' r' out'))

@@ -30,25 +30,39 @@ unfoldable pub timeShown : {t : List ℕ} {n : ℤ} {leap : Float} → DayShown 
 timeShown {t} (on-day u r g) W E = readMs t * E
 timeShown (next-midnight r) W E = 1000 * W
 
--- t has the form of a text, no zero in front of a year of more than four characters, and 23 to 26 bytes; it shows day n, and a time within 0.501 ms of
--- F / 2 ^ 52 of the day, however the day's length is written as a fraction W / E of seconds
-pub record TextRight (t : List ℕ) (n : ℤ) (F : ℕ) (leap : Float) : Type 0 where
+-- What is promised of the texts of a sheet: a form, and that on a day with a leap the time shown is within e / c milliseconds of the exact one
+pub record Promise : Type 1 where
+  pub Form : List ℕ → Type 0
+  pub c : Float → ℕ
+  pub e : Float → ℕ
+
+-- t has the promised form; it shows day n, and a time as near to F / 2 ^ 52 of the day as is promised, however the day's length is written as a fraction W / E of
+-- seconds
+pub record TextRight (p : Promise) (t : List ℕ) (n : ℤ) (F : ℕ) (leap : Float) : Type 0 where
+  pub form : p .Form t
+  pub day : DayShown t n leap
+  pub near : (W E : ℕ) → 0 < E → DayLength leap W E → Close (p .c leap) (p .e leap) (timeShown day W E) F (2 ^ 52) W E
+
+-- document 01's form: no zero in front of a year of more than four characters, and 23 to 26 bytes
+pub record Form01 (t : List ℕ) : Type 0 where
   pub form : WellFormed t
   pub year-filled : YearFilledToFour t
-  pub day : DayShown t n leap
-  pub near : (W E : ℕ) → 0 < E → DayLength leap W E → Close 1000 501 (timeShown day W E) F (2 ^ 52) W E
   pub shortest : 23 ≤ length t
   pub longest : length t ≤ 26
+
+-- document 01's promise: 0.501 ms on every day
+abbrev pub promise01 : Promise
+promise01 = record { Form = Form01; c = λ leap. 1000; e = λ leap. 501 }
 
 -- the year of the sum's exact day is before -4799
 abbrev pub tooEarly : ℤ → Bool
 tooEarly sum = ltZ (dateOf (exactDay sum) .year) (negsuc 4798)
 
 -- Demand 3 of the outcome o of asking for the text of a date with this exact sum, in a table of rows: 1 exactly where the year is before -4799, and else a text
--- that shows the exact day and the exact time, or the next day's midnight
-pub record TextDemand (rows : List Row) (sum : ℤ) (o : Outcome (List ℕ)) : Type 0 where
+-- that shows the exact day and the exact time, or the next day's midnight, as is promised
+pub record TextDemand (p : Promise) (rows : List Row) (sum : ℤ) (o : Outcome (List ℕ)) : Type 0 where
   pub text : List ℕ
   pub is : o ≡ cond (tooEarly sum) (refusal 1) (answer text)
   pub leap : Float
   pub leap-is : tooEarly sum ≡ false → leapAtEndOfDay rows (dateOf (exactDay sum) .year) (pos (dateOf (exactDay sum) .month)) (pos (dateOf (exactDay sum) .day)) ≡ answer leap
-  pub right : tooEarly sum ≡ false → TextRight text (exactDay sum) (exactFraction sum) leap
+  pub right : tooEarly sum ≡ false → TextRight p text (exactDay sum) (exactFraction sum) leap

@@ -119,10 +119,10 @@ reads-back d u w = record {
     t : List ℕ
     t = afterYear d u
 
--- the milliseconds that the text shows are those of the time
-pub reads-ms : (d : CalendarDate) (u : TimeOfDay) → Writable d u → readMs (utcText d u) ≡ timeMs u
+-- the milliseconds that a text shows are those of the time that its digits say
+pub said-ms : {t : List ℕ} {d : CalendarDate} {u : TimeOfDay} → ReadsAs t d u → readMs t ≡ timeMs u
 unfolding readMs
-reads-ms d u w = let r = reads-back d u w in rw (r .hour, r .minute, r .second, r .milli)
+said-ms r = rw (r .hour, r .minute, r .second, r .milli)
 
 -- ---- the length
 few : (b : Bool) (n : ℕ) → skipped b n ≤ 3

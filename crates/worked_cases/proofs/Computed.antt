@@ -22,12 +22,12 @@ use Rattle.scales.specs.Formulas.{since, tdb0, ttDays, jd1977, tcbToTdb}
 use Rattle.scales.specs.Conversions as Scales
 use Rattle.utc_scales.specs.UtcUt1.{utcToUt1}
 use Rattle.time_of_day.specs.Milliseconds as Millis
-use Rattle.time_of_day.specs.TimeShown.{timeOf, dayEnd, fromZero, shownAt, shownOf}
+use Rattle.time_of_day.specs.TimeShown.{timeOf, dayEnd, fromZero, shownAt, countBy, shownBy}
 use Rattle.utc_text.specs.Text.{yearText, utcText}
 use Rattle.utc_text.specs.Answer.{textWritten, bufferAfter}
 use Rattle.utc.specs.FromCalendar.{atTime, utcFromCalendar}
 use Rattle.utc.specs.UnixTime.{unixDay, secondOfUnixDay, secondWithNanos}
-use Rattle.utc.specs.IsoText.{nextMidnightText, shownText, dayTextBy}
+use Rattle.utc.specs.IsoText.{nextMidnightTextBy, shownTextBy, dayTextBy}
 use Rattle.utc.specs.TextCall.{written, bufferHolds}
 use Rattle.stamps.specs.Block.{blockOf}
 use Rattle.worked_cases.specs.Calls.{Call, Value, answerOf}
@@ -43,8 +43,8 @@ unfolding answerBy answerOf dividedDate onward
     dayFraction timeInDay secondLimit atTime utcFromCalendar unixDay secondOfUnixDay secondWithNanos
     fixed monthNumber reached secondsOf startOf rateOf byRow offsetBy offsetAt inDay taiUtcOffset dayOffsets leapOf leapAtEndOfDay
     finiteJd finiteArg Scales.answerOf converted changed mapSmallerPart partsOf putBack firstIsLarger tcbToTdb since daysOf tdb0 ttDays jd1977 utcToUt1
-    shownOf shownAt fromZero timeOf dayEnd Millis.wholeLeap Millis.millisOf Millis.secondsOf
-    dayTextBy shownText nextMidnightText utcText yearText textWritten bufferAfter written bufferHolds blockOf u32At fourAt
+    shownBy countBy shownAt fromZero timeOf dayEnd Millis.wholeLeap Millis.millisOf Millis.secondsOf
+    dayTextBy shownTextBy nextMidnightTextBy utcText yearText textWritten bufferAfter written bufferHolds blockOf u32At fourAt
     abs toWhole nearestInt round ofBits ofInt add sub mul div neg lt le eq toSigned
 computed c = literal (answerBy dividedDate c)
 

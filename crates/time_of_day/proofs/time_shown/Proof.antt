@@ -14,7 +14,7 @@ use Rattle.floats.specs.Whole.{away}
 use Rattle.time_of_day.specs.declared.TimeOfDay.{TimeOfDay}
 use Rattle.time_of_day.specs.declared.TimeShown.the-variants.{At, NextMidnight}
 use Rattle.time_of_day.specs.Milliseconds.{wholeLeap, millisOf}
-use Rattle.time_of_day.specs.TimeShown.{fromZero, timeOf, dayEnd, shownAt, shownOf}
+use Rattle.time_of_day.specs.TimeShown.{fromZero, timeOf, dayEnd, shownAt, countBy, shownBy, shownOf}
 use Rattle.time_of_day.proofs.time_shown.Statement.{statement}
 use Rattle.time_of_day.proofs.time_shown.Tie as tie
 
@@ -38,7 +38,7 @@ time-of-requires c κs = search needs
 
 module _ (fraction leap stretch : Float) (z : ℤ) (k d : ℕ) (el : stretch ≡ wholeLeap leap) (ez : z ≡ millisOf away fraction stretch) (ek : k ≡ fromZero z) (ed : d ≡ dayEnd stretch) where
   is : shownAt stretch k ≡ shownOf away fraction leap
-  unfolding shownOf
+  unfolding shownBy countBy
   is = ap (shownAt stretch) (ek ∙ ap fromZero ez) ∙ ap (λ (l : Float). shownAt l (fromZero (millisOf away fraction l))) el
 
   at-time : (t : TimeOfDay) → t ≡ timeOf k → k < d → At t ≡ shownOf away fraction leap

@@ -2,11 +2,10 @@
 use mathlib.Core.Path.{sym, ap, _∙_}
 use mir.Syntax.{w32}
 use mir.Val.{SFits}
-use Rattle.floats.specs.Whole.{away}
 use Rattle.tai_utc.specs.Lent.{rowsOf}
 use Rattle.tai_utc.specs.Leap.{leapAtEndOfDay}
 use Rattle.tai_utc.specs.Answers.{secondsOutcome}
-use Rattle.utc.specs.IsoText.{shownText}
+use Rattle.utc.specs.IsoText.{shownText, sheet01}
 use Rattle.utc.proofs.Dates.{read-fields}
 use Rattle.utc.proofs.TextCalls.{call-refused, call-as, leap-refused, leap-given}
 use borrow.Author.Needs.{needs}
@@ -40,7 +39,7 @@ returns c =
     let v = c .before .before .before in
     let s = v .before .before .before .before .before in
     let f : SFits w32 (s .args .date .year) = record { sfits = v .before .struct-told .given .0 .1 } in
-    call-refused _ _ _ (leap-refused away (rowsOf (c .before .before .before .before .before .before .before .before .args .table)) (s .args .date) (s .args .fraction) _ (sym (read-fields (leapAtEndOfDay (rowsOf (c .before .before .before .before .before .before .before .before .args .table))) (s .args .date) f (s .pre .0) (s .pre .1)) ∙ sym (v .leap-at-end-of-day-by-rows .ensures) ∙ ap secondsOutcome (c .before .number .given .1)))
+    call-refused _ _ _ (leap-refused sheet01 (rowsOf (c .before .before .before .before .before .before .before .before .args .table)) (s .args .date) (s .args .fraction) _ (sym (read-fields (leapAtEndOfDay (rowsOf (c .before .before .before .before .before .before .before .before .args .table))) (s .args .date) f (s .pre .0) (s .pre .1)) ∙ sym (v .leap-at-end-of-day-by-rows .ensures) ∙ ap secondsOutcome (c .before .number .given .1)))
 
 same-length : tie.Need-same-length
 same-length c = search needs
@@ -55,7 +54,7 @@ returns-2 c =
     let s = v .before .before .before .before .before in
     let f : SFits w32 (s .args .date .year) = record { sfits = v .before .struct-told .given .0 .1 } in
     call-as _ _ _ _ _
-    (leap-given away (rowsOf (c .before .before .before .before .before .before .before .before .before .before .before .before .before .args .table)) (s .args .date) (s .args .fraction) _ (sym (read-fields (leapAtEndOfDay (rowsOf (c .before .before .before .before .before .before .before .before .before .before .before .before .before .args .table))) (s .args .date) f (s .pre .0) (s .pre .1)) ∙ sym (v .leap-at-end-of-day-by-rows .ensures) ∙ ap secondsOutcome (k .leap .given .1))
+    (leap-given sheet01 (rowsOf (c .before .before .before .before .before .before .before .before .before .before .before .before .before .args .table)) (s .args .date) (s .args .fraction) _ (sym (read-fields (leapAtEndOfDay (rowsOf (c .before .before .before .before .before .before .before .before .before .before .before .before .before .args .table))) (s .args .date) f (s .pre .0) (s .pre .1)) ∙ sym (v .leap-at-end-of-day-by-rows .ensures) ∙ ap secondsOutcome (k .leap .given .1))
     ∙ ap (shownText (s .args .date)) (sym (t .time-shown .ensures)))
     (p .put-shown .ensures)
 

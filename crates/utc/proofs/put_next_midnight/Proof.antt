@@ -4,6 +4,7 @@ use mir.Syntax.{w32}
 use mir.Val.{SFits}
 use Rattle.calendar.specs.Refusals.{nextOf}
 use Rattle.calendar.specs.Answers.{nextOutcome}
+use Rattle.utc_text.specs.Text.{utcText}
 use Rattle.utc.proofs.Dates.{read-fields}
 use Rattle.utc.proofs.TextCalls.{call-refused, call-put, next-refused, next-given}
 use borrow.Author.Needs.{needs}
@@ -34,7 +35,7 @@ returns c =
     let v = c .before .before .before in
     let s = v .before .before .before .before .before in
     let f : SFits w32 (s .args .date .year) = record { sfits = v .before .struct-told .given .0 .1 } in
-    call-refused _ _ _ (next-refused (s .args .date) _ (sym (read-fields nextOf (s .args .date) f (s .pre .0) (s .pre .1)) ∙ sym (v .next-calendar-day .ensures) ∙ ap nextOutcome (c .before .number .given .1)))
+    call-refused _ _ _ (next-refused utcText (s .args .date) _ (sym (read-fields nextOf (s .args .date) f (s .pre .0) (s .pre .1)) ∙ sym (v .next-calendar-day .ensures) ∙ ap nextOutcome (c .before .number .given .1)))
 
 same-length : tie.Need-same-length
 same-length c = search needs
@@ -47,7 +48,7 @@ returns-2 c =
     let v = n .before .before in
     let s = v .before .before .before .before .before in
     let f : SFits w32 (s .args .date .year) = record { sfits = v .before .struct-told .given .0 .1 } in
-    call-put _ _ _ _ _ (next-given (s .args .date) _ (sym (read-fields nextOf (s .args .date) f (s .pre .0) (s .pre .1)) ∙ sym (v .next-calendar-day .ensures) ∙ ap nextOutcome (n .next .given .1))) (p .put-text .ensures)
+    call-put _ _ _ _ _ (next-given utcText (s .args .date) _ (sym (read-fields nextOf (s .args .date) f (s .pre .0) (s .pre .1)) ∙ sym (v .next-calendar-day .ensures) ∙ ap nextOutcome (n .next .given .1))) (p .put-text .ensures)
 
 pub put-next-midnight-spec : {M : Type 1} → statement M
 put-next-midnight-spec =

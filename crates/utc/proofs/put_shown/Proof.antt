@@ -1,6 +1,6 @@
 -- `utc::put_shown` meets its contract: a time of the date itself, or the next date's midnight. Assumes nothing.
 use mathlib.Core.Path.{ap}
-use Rattle.utc.specs.IsoText.{shownText}
+use Rattle.utc.specs.IsoText.{shownTextBy, shownText}
 use Rattle.utc.proofs.TextCalls.{call-put, call-as}
 use borrow.Author.Needs.{needs}
 use Rattle.utc.proofs.put_shown.Statement.{statement}
@@ -22,7 +22,7 @@ same-length : tie.Need-same-length
 same-length c = search needs
 
 returns : tie.Need-returns
-unfolding shownText
+unfolding shownTextBy
 returns c =
     let p = c .before .before in
     let k = p .before .before .before in
@@ -33,7 +33,7 @@ same-length-2 : tie.Need-same-length-2
 same-length-2 c = search needs
 
 returns-2 : tie.Need-returns-2
-unfolding shownText
+unfolding shownTextBy
 returns-2 c =
     let p = c .before .before in
     let k = p .before .before in
