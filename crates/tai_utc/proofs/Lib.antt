@@ -7,6 +7,8 @@ pub mod Tables
 pub mod TableTests
 pub mod TablesTaken
 pub mod TableLaws
+pub mod ByParts
+pub mod Rules
 pub mod Month
 pub mod At
 pub mod Mjd
