@@ -8,6 +8,8 @@ pub mod TableTests
 pub mod TablesTaken
 pub mod TableLaws
 pub mod NoRows
+pub mod ByParts
+pub mod Rules
 pub mod Month
 pub mod At
 pub mod Mjd

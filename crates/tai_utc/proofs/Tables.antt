@@ -86,7 +86,7 @@ module _ (t : LentRows) where
           ∙ sym (ap not (le-ltb k 14 (omega arith)))
 
   -- ---- the look-up from the end
-  starts-more : (n : ℕ) → starts (rowsTo t (suc n)) ≡ starts (rowsTo t n) ++ (lentRow t n .month ∷ [])
+  pub starts-more : (n : ℕ) → starts (rowsTo t (suc n)) ≡ starts (rowsTo t n) ++ (lentRow t n .month ∷ [])
   unfolding rowsTo
   starts-more n = map-append (λ (r : Row). r .month) (rowsTo t n) (lentRow t n ∷ [])
 

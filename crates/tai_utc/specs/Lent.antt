@@ -42,6 +42,14 @@ lentSize t = least (least (t .«months_size») (t .«seconds_size»)) 16
 abbrev pub rowsOf : LentRows → List Row
 rowsOf t = rowsTo t (lentSize t)
 
+-- a table by its parts, as code has it that is lent the two arrays by reference
+abbrev pub lentTable : ℕ → ℕ → List ℤ → List ℤ → LentRows
+lentTable a b months seconds = record { «months_size» = a; «seconds_size» = b; months = months; seconds = seconds }
+
+-- the fixed rows, and after them as many lent ones as one size says, at most 16
+abbrev pub rowsIn : ℕ → List ℤ → List ℤ → List Row
+rowsIn size months seconds = rowsOf (lentTable size size months seconds)
+
 -- ---- the three tests
 abbrev pub sizesFit : LentRows → Bool
 sizesFit t = eqb (t .«months_size») (t .«seconds_size») && leb (t .«months_size») 16
@@ -91,3 +99,7 @@ pub data Decision (t : LentRows) : Type 0 where
 abbrev pub unlessRefused : {A : Type 0} → ℕ → A → Outcome A
 unlessRefused zero a = answer a
 unlessRefused (suc k) a = refusal (suc k)
+
+-- the number r says what becomes of the table t: 0 that it is taken
+abbrev pub Judged : ℕ → LentRows → Type 0
+Judged r t = unlessRefused r (rowsOf t) ≡ tableOf t

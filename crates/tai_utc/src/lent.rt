@@ -1,8 +1,8 @@
 // The announced rows that a caller lends after the table's own: document 02, item 8.
 ghost use mathlib.Core.Path.{_≡_};
+ghost use mathlib.Core.List.{[]};
 ghost use Prim.Native.Nat.{_+_, _≤_, _<_};
-ghost use lib.Ieee.{Float};
-ghost use Rattle.tai_utc.specs.Table.{starts, reached, rising};
+ghost use Rattle.tai_utc.specs.Table.{starts, rising};
 ghost use Rattle.tai_utc.specs.Lent as L;
 ghost use Rattle.tai_utc.specs.Offset.{secondsOf};
 use super::LentRows;
@@ -12,7 +12,7 @@ const LAST_MONTH: u32 = 24204;
 
 const LAST_SECONDS: u32 = 37;
 
-// A number counted from 0; a negative one counts as 0. The loops call it with an element of the table: a function that takes the whole table would copy it at each turn.
+// A number counted from 0; a negative one counts as 0.
 pub(crate) fn natural(x: i32) -> u32
     ensures { λ r. ⌜ (r ≡ L.natural x) × (r < 2147483648) ⌝ }
 {
@@ -23,11 +23,11 @@ pub(crate) fn natural(x: i32) -> u32
 }
 
 // The seconds of the row of place i.
-pub(crate) fn seconds_at(t: LentRows, i: usize) -> f64
+pub(crate) fn seconds_at(seconds: &[i32; 16], i: usize) -> f64
     requires { ⌜ i < 16 ⌝ }
-    ensures { λ r. ⌜ r ≡ secondsOf (L.lentRow t i) ⌝ }
+    ensures { λ r. ⌜ r ≡ secondsOf (L.lentRow (L.lentTable 0 0 [] (now (seconds .entry))) i) ⌝ }
 {
-    natural(t.seconds[i]) as f64
+    natural(seconds[i]) as f64
 }
 
 fn smaller(a: u32, b: u32) -> u32
@@ -36,22 +36,29 @@ fn smaller(a: u32, b: u32) -> u32
     if a <= b { a } else { b }
 }
 
-// How many lent rows count.
-pub(crate) fn size_of(t: LentRows) -> usize
-    ensures { λ r. ⌜ (r ≡ L.lentSize t) × (r ≤ 16) ⌝ }
+// How many rows both sizes of a table leave.
+pub fn size_of(t: LentRows) -> usize
+    ensures { λ r. ⌜ r ≡ L.least (t .«months_size») (t .«seconds_size») ⌝ }
 {
-    smaller(smaller(t.months_size, t.seconds_size), 16) as usize
+    smaller(t.months_size, t.seconds_size) as usize
+}
+
+// No more than a table has room for.
+pub(crate) fn at_most_16(size: usize) -> usize
+    ensures { λ r. ⌜ (r ≡ L.least size 16) × (r ≤ 16) ⌝ }
+{
+    if size <= 16 { size } else { 16 }
 }
 
 // Whether each lent row is later than the one before.
-fn rises(t: LentRows, size: usize) -> bool
+fn rises(months: &[i32; 16], size: usize) -> bool
     requires { ⌜ size ≤ 16 ⌝ }
-    ensures { λ r. ⌜ r ≡ rising (starts (L.rowsTo t size)) ⌝ }
+    ensures { λ r. ⌜ r ≡ rising (starts (L.rowsTo (L.lentTable 0 0 (now (months .entry)) []) size)) ⌝ }
 {
     let mut before = LAST_MONTH;
     let mut i = 0;
     while i < size {
-        let month = natural(t.months[i]);
+        let month = natural(months[i]);
         if month <= before {
             return false;
         }
@@ -72,39 +79,56 @@ fn one_apart(a: u32, b: u32) -> bool
 }
 
 // Whether each lent row is one second more or less than the one before.
-fn steps(t: LentRows, size: usize) -> bool
+fn steps(seconds: &[i32; 16], size: usize) -> bool
     requires { ⌜ size ≤ 16 ⌝ }
-    ensures { λ r. ⌜ r ≡ L.bySeconds (L.rowsTo t size) ⌝ }
+    ensures { λ r. ⌜ r ≡ L.bySeconds (L.rowsTo (L.lentTable 0 0 [] (now (seconds .entry))) size) ⌝ }
 {
     let mut before = LAST_SECONDS;
     let mut i = 0;
     while i < size {
-        let seconds = natural(t.seconds[i]);
-        if !one_apart(before, seconds) {
+        let next = natural(seconds[i]);
+        if !one_apart(before, next) {
             return false;
         }
-        before = seconds;
+        before = next;
         i += 1;
     }
     true
 }
 
 // The number by which a table is turned away, 0 if it is not: 20 the sizes, then 21 the order of the rows, then 22 their steps.
-pub fn table_refusal(table: LentRows) -> u32
-    ensures { λ r. ⌜ L.unlessRefused r (L.rowsOf table) ≡ L.tableOf table ⌝ }
+pub fn lent_refusal<'a>(
+    months_size: u32,
+    seconds_size: u32,
+    months: &'a [i32; 16],
+    seconds: &'a [i32; 16],
+) -> u32
+    ensures { λ r. ⌜ L.Judged r (L.lentTable «months_size» «seconds_size» (now (months .entry)) (now (seconds .entry))) ⌝ }
 {
-    if table.months_size != table.seconds_size {
+    if months_size != seconds_size {
         return refusals::TABLE_SIZES_WRONG;
     }
-    if 16 < table.months_size {
+    if 16 < months_size {
         return refusals::TABLE_SIZES_WRONG;
     }
-    let size = table.months_size as usize;
-    if !rises(table, size) {
+    let size = months_size as usize;
+    if !rises(months, size) {
         return refusals::TABLE_NOT_RISING;
     }
-    if !steps(table, size) {
+    if !steps(seconds, size) {
         return refusals::TABLE_STEP_WRONG;
     }
     0
+}
+
+// The same of a table by value.
+pub fn table_refusal(table: LentRows) -> u32
+    ensures { λ r. ⌜ L.Judged r table ⌝ }
+{
+    lent_refusal(
+        table.months_size,
+        table.seconds_size,
+        &table.months,
+        &table.seconds,
+    )
 }

@@ -1,8 +1,11 @@
 -- `tai_utc::lent::seconds_at` meets its contract: whole seconds are their own float. Assumes nothing.
 use mathlib.Core.Path.{ap, sym, _∙_}
+use mathlib.Core.List.{[]}
 use lib.IntN.{pos}
 use lib.ListN.{getD}
+use denote.Ref.{now}
 use borrow.Author.Needs.{needs}
+use Rattle.tai_utc.specs.Lent.{lentTable}
 use Rattle.tai_utc.specs.Offset.{wholeF}
 use Rattle.tai_utc.proofs.Naturals.{read-natural}
 use Rattle.tai_utc.proofs.Tables.{lent-seconds}
@@ -25,7 +28,7 @@ returns : tie.Need-returns
 returns c =
     let n = c .before in
     let s = n .before .before .args in
-    ap wholeF (n .natural .ensures .0 ∙ read-natural (getD (s .t1 .seconds) (s .i) (pos 0)) (record { sfits = n .before .natural-arg .given })) ∙ sym (lent-seconds (s .t1) (s .i))
+    ap wholeF (n .natural .ensures .0 ∙ read-natural (getD (now (s .seconds)) (s .i) (pos 0)) (record { sfits = n .before .natural-arg .given })) ∙ sym (lent-seconds (lentTable 0 0 [] (now (s .seconds))) (s .i))
 
 pub seconds-at-spec : {M : Type 1} → statement M
 seconds-at-spec = tie.close (tie.spec mul-natural element-copy-out-natural natural-requires int-to-float-result returns)

@@ -4,12 +4,15 @@
 use mathlib.Core.Path.{_≡_, refl, ap, sym, _∙_}
 use mathlib.Core.Bool.{Bool, true}
 use Prim.Native.Nat.{ℕ, _-_, _≤_, _<_}
+use mathlib.Core.List.{List, []}
+use denote.Ref.{now}
 use native.Mathlib.Omega.{arith}
-use lib.IntN.{pos}
+use lib.IntN.{ℤ, pos}
 use lib.ListN.{getD}
 use borrow.Author.Needs.{needs}
 use borrow.Author.Tests.{not-true, not-false}
-use Rattle.tai_utc.specs.Lent.{secondsAt, rowsTo, oneApart, bySeconds}
+use Rattle.tai_utc.specs.declared.LentRows.{LentRows}
+use Rattle.tai_utc.specs.Lent.{secondsAt, rowsTo, lentTable, oneApart, bySeconds}
 use Rattle.tai_utc.proofs.Naturals.{read-natural}
 use Rattle.tai_utc.proofs.Tables.{secondsBefore}
 use Rattle.tai_utc.proofs.TableTests.{steps-none, wrong-step, right-step}
@@ -19,14 +22,18 @@ use Rattle.tai_utc.proofs.lent.steps.Tie as tie
 same : (a b : ℕ) → b ≤ a → a ≤ b → b ≡ a
 same a b g h = omega arith
 
+-- the table whose seconds are lent
+abbrev lent : List ℤ → LentRows
+lent seconds = lentTable 0 0 [] seconds
+
 abbrev Inv-loop : tie.InvT-loop
-Inv-loop size t before₀ i₀ before i = (i ≤ size) × (before < 2147483648) × (before ≡ secondsBefore t i) × (bySeconds (rowsTo t i) ≡ true)
+Inv-loop seconds size before₀ i₀ before i = (i ≤ size) × (before < 2147483648) × (before ≡ secondsBefore (lent seconds) i) × (bySeconds (rowsTo (lent seconds) i) ≡ true)
 
 abbrev μ-loop : tie.MeasureT-loop
-μ-loop size t before₀ i₀ before i = size - i
+μ-loop seconds size before₀ i₀ before i = size - i
 
 loop-holds : tie.Need-loop-holds Inv-loop μ-loop
-loop-holds c = (omega arith, omega arith, refl, steps-none (c .args .t1))
+loop-holds c = (omega arith, omega arith, refl, steps-none (lent (now (c .args .seconds))))
 
 mul-natural : tie.Need-mul-natural Inv-loop μ-loop
 mul-natural c = search needs
@@ -40,10 +47,10 @@ natural-requires c κs = search needs
 one-apart-requires : tie.Need-one-apart-requires Inv-loop μ-loop
 one-apart-requires c κs = (c .before .before .before .loop .inv .1, c .natural .ensures .1)
 
-seconds-read : (c : tie.After-natural Inv-loop μ-loop) → let l = c .before .before .before in c .natural .result ≡ secondsAt (l .before .args .t1) (l .loop .i)
+seconds-read : (c : tie.After-natural Inv-loop μ-loop) → let l = c .before .before .before in c .natural .result ≡ secondsAt (lent (now (l .before .args .seconds))) (l .loop .i)
 seconds-read c =
     let l = c .before .before .before in
-    c .natural .ensures .0 ∙ read-natural (getD (l .before .args .t1 .seconds) (l .loop .i) (pos 0)) (record { sfits = c .before .natural-arg .given })
+    c .natural .ensures .0 ∙ read-natural (getD (now (l .before .args .seconds)) (l .loop .i) (pos 0)) (record { sfits = c .before .natural-arg .given })
 
 -- what the test says of the definition's numbers
 apart : (a a′ b b′ : ℕ) → a ≡ a′ → b ≡ b′ → oneApart a b ≡ oneApart a′ b′
@@ -54,7 +61,7 @@ returns c =
     let w = c .before .before in
     let l = w .before .before .before in
     let s = l .before in
-    wrong-step (s .args .t1) (l .loop .i) (s .args .size) (w .before .before .loop-test .taken)
+    wrong-step (lent (now (s .args .seconds))) (l .loop .i) (s .args .size) (w .before .before .loop-test .taken)
     (apart _ _ _ _ (sym (l .loop .inv .2)) (sym (seconds-read w)) ∙ sym (c .before .one-apart .ensures) ∙ not-true _ (c .if1 .taken))
 
 add-i : tie.Need-add-i Inv-loop μ-loop
@@ -69,13 +76,13 @@ loop-again c =
     let l = w .before .before .before in
     let s = l .before in
     let m = seconds-read w in
-    let (a, b) = right-step (s .args .t1) (l .loop .i) (l .loop .inv .3) (apart _ _ _ _ (sym (l .loop .inv .2)) (sym m) ∙ sym (c .before .one-apart .ensures) ∙ not-false _ (c .if1 .left)) in
+    let (a, b) = right-step (lent (now (s .args .seconds))) (l .loop .i) (l .loop .inv .3) (apart _ _ _ _ (sym (l .loop .inv .2)) (sym m) ∙ sym (c .before .one-apart .ensures) ∙ not-false _ (c .if1 .left)) in
     (omega arith, w .natural .ensures .1, m ∙ a, b)
 
 returns-2 : tie.Need-returns-2 Inv-loop μ-loop
 returns-2 c =
     let l = c .before in
-    sym (ap (λ (k : ℕ). bySeconds (rowsTo (l .before .args .t1) k)) (same _ _ (c .loop-test .left) (l .loop .inv .0)) ∙ l .loop .inv .3)
+    sym (ap (λ (k : ℕ). bySeconds (rowsTo (lent (now (l .before .args .seconds))) k)) (same _ _ (c .loop-test .left) (l .loop .inv .0)) ∙ l .loop .inv .3)
 
 pub steps-spec : {M : Type 1} → statement M
 steps-spec =

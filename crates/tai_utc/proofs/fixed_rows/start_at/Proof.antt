@@ -1,0 +1,24 @@
+-- `tai_utc::fixed_rows::start_at` meets its contract: each constant of the table is the float nearest to its decimal. Assumes nothing.
+use mathlib.Core.Path.{ap, _∙_}
+use borrow.Author.Needs.{needs}
+use lib.ListN.{take}
+use lib.Seq.{getD-take}
+use lib.Ieee.{round, ofBits}
+use Rattle.tai_utc.specs.Table.{fixed}
+use Rattle.tai_utc.specs.Offset.{startOf, none}
+use Rattle.tai_utc.proofs.Rows.{place}
+use Rattle.tai_utc.proofs.fixed_rows.start_at.Statement.{statement}
+use Rattle.tai_utc.proofs.fixed_rows.start_at.Tie as tie
+
+mul-result : tie.Need-mul-result
+mul-result c = search needs
+
+array-read-result : tie.Need-array-read-result
+array-read-result c = search needs
+
+returns : tie.Need-returns
+unfolding fixed startOf round ofBits
+returns c = place startOf (take 14 fixed) (c .args .i) (c .pre) ∙ ap startOf (getD-take 14 fixed (c .args .i) none (c .pre))
+
+pub start-at-spec : {M : Type 1} → statement M
+start-at-spec = tie.close (tie.spec mul-result array-read-result returns)

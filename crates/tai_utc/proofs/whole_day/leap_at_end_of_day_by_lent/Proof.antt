@@ -1,0 +1,49 @@
+-- `tai_utc::whole_day::leap_at_end_of_day_by_lent` meets its contract: the leap of the offsets of the day. Assumes nothing.
+use mathlib.Core.Path.{_≡_, ap, sym, _∙_}
+use mathlib.Core.List.{List}
+use denote.Ref.{now}
+use lib.Ieee.{ofBits}
+use mir.Facts.{toZ-ofZ}
+use Rattle.refusals.specs.Outcome.{onward, answer}
+use Rattle.tai_utc.specs.declared.DayByRule.{DayByRule}
+use Rattle.tai_utc.specs.Table.{Row}
+use Rattle.tai_utc.specs.Lent.{rowsIn}
+use Rattle.tai_utc.specs.Leap.{leapOf}
+use Rattle.tai_utc.specs.Rule.{dayByRule, leapByRule}
+use Rattle.tai_utc.specs.Answers.{secondsByRuleOutcome, dayByRuleOutcome}
+use Rattle.tai_utc.proofs.Rules.{leap-by-day}
+use borrow.Author.Needs.{needs}
+use Rattle.tai_utc.proofs.whole_day.leap_at_end_of_day_by_lent.Statement.{statement}
+use Rattle.tai_utc.proofs.whole_day.leap_at_end_of_day_by_lent.Tie as tie
+
+abbrev rows : tie.Start → List Row
+rows s = rowsIn (s .args .size) (now (s .args .months)) (now (s .args .seconds))
+
+called : (c : tie.After-day-offsets-by-lent) → let s = c .before in onward (dayByRuleOutcome (c .day-offsets-by-lent .result)) (λ p. answer (leapOf (p .0), p .1)) ≡ leapByRule (rows s) (s .args .year) (s .args .month) (s .args .day)
+called c =
+    let s = c .before in
+    (λ i. onward ((c .day-offsets-by-lent .ensures ∙ (λ j. dayByRule (rows s) (toZ-ofZ (s .fits .year) j) (toZ-ofZ (s .fits .month) j) (toZ-ofZ (s .fits .day) j))) i) (λ p. answer (leapOf (p .0), p .1)))
+    ∙ sym (leap-by-day (rows s) (s .args .year) (s .args .month) (s .args .day))
+
+day-offsets-by-lent-requires : tie.Need-day-offsets-by-lent-requires
+day-offsets-by-lent-requires c κs = search needs
+
+enum-known-number : tie.Need-enum-known-number
+enum-known-number c = search needs
+
+enum-known-o : tie.Need-enum-known-o
+enum-known-o c = search needs
+
+returns : tie.Need-returns
+unfolding secondsByRuleOutcome dayByRuleOutcome onward
+returns c = ap (λ (x : DayByRule). onward (dayByRuleOutcome x) (λ p. answer (leapOf (p .0), p .1))) (sym (c .before .number .given .1)) ∙ called (c .before .before .before)
+
+returns-2 : tie.Need-returns-2
+unfolding secondsByRuleOutcome dayByRuleOutcome leapOf onward ofBits
+returns-2 c =
+    let k = c .before .before .before .before in
+    ap (λ (x : DayByRule). onward (dayByRuleOutcome x) (λ p. answer (leapOf (p .0), p .1))) (sym (k .o .given .1)) ∙ called (k .before .before)
+
+pub leap-at-end-of-day-by-lent-spec : {M : Type 1} → statement M
+leap-at-end-of-day-by-lent-spec =
+    tie.close (tie.spec day-offsets-by-lent-requires enum-known-number enum-known-o returns returns-2)

@@ -1,0 +1,22 @@
+-- `tai_utc::whole_day::next_rows_reached` meets its contract: the same month has the same rows. Assumes nothing.
+use mathlib.Core.Path.{ap, sym, _∙_}
+use Rattle.tai_utc.specs.Table.{starts, reached}
+use Rattle.tai_utc.specs.Lent.{rowsIn}
+use denote.Ref.{now}
+use borrow.Author.Needs.{needs}
+use Rattle.tai_utc.proofs.whole_day.next_rows_reached.Statement.{statement}
+use Rattle.tai_utc.proofs.whole_day.next_rows_reached.Tie as tie
+
+returns : tie.Need-returns
+returns c =
+    let s = c .before in
+    (λ seconds. s .pre .0 seconds ∙ ap (reached (starts (rowsIn (s .args .size) (now (s .args .months)) seconds))) (sym (c .if1 .taken)), s .pre .1)
+
+table-rows-reached-requires : tie.Need-table-rows-reached-requires
+table-rows-reached-requires c κs = search needs
+
+returns-2 : tie.Need-returns-2
+returns-2 c = c .table-rows-reached .ensures
+
+pub next-rows-reached-spec : {M : Type 1} → statement M
+next-rows-reached-spec = tie.close (tie.spec returns table-rows-reached-requires returns-2)
