@@ -15,8 +15,10 @@ ghost use Rattle.tai_utc.specs.Plain.{Plain};
 ghost use Rattle.tai_utc.specs.Answers.{secondsOutcome, dayOffsetsOutcome, rowsOutcome};
 
 mod lent;
+mod seconds;
 
 pub use lent::table_refusal;
+pub use seconds::whole_seconds_by_rows;
 
 // The months in which the rows begin, numbered from January of year 0.
 const MONTHS: [u64; 42] = [
