@@ -19,4 +19,5 @@ pub mod Plain
 pub mod Years
 pub mod TableYears
 pub mod TableSeconds
+pub mod WholeSeconds
 pub mod Cases

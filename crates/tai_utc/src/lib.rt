@@ -11,6 +11,7 @@ mod fixed_rows;
 mod in_day;
 mod lent;
 mod look_up;
+mod seconds;
 mod whole_day;
 
 pub use in_day::get_tai_utc_offset;
@@ -19,6 +20,7 @@ pub use in_day::get_tai_utc_offset_by_rows;
 pub use lent::lent_refusal;
 pub use lent::size_of;
 pub use lent::table_refusal;
+pub use seconds::whole_seconds_by_rows;
 pub use whole_day::day_offsets;
 pub use whole_day::day_offsets_by_lent;
 pub use whole_day::day_offsets_by_rows;

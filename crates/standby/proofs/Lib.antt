@@ -1,0 +1,5 @@
+-- The laws that the functions' proofs cite.
+pub mod Numbers
+pub mod Shares
+pub mod Ladder
+pub mod Times

@@ -1,0 +1,117 @@
+-- `standby::at_time` meets its contract: the sum of the day, the time and TAI-UTC. Assumes nothing.
+use mathlib.Core.Path.{_≡_, ap, sym, subst, _∙_}
+use mathlib.Core.Bool.{Bool, true}
+use Prim.Native.Nat.{ℕ, _+_, _*_, _≤_}
+use native.Mathlib.Omega.{arith}
+use lib.IntN.{ℤ, pos}
+use mir.Syntax.{w32}
+use mir.Facts.{toZ-ofZ}
+use borrow.Author.Needs.{needs}
+use Rattle.refusals.specs.Outcome.{answer}
+use Rattle.calendar.specs.declared.CalendarDate.{CalendarDate}
+use Rattle.calendar.proofs.Accepted.{accepted}
+use Rattle.calendar.proofs.NextDates.{next-is}
+use Rattle.tai_utc.specs.declared.LentRows.{LentRows}
+use Rattle.tai_utc.specs.Lent.{rowsOf}
+use Rattle.tai_utc.specs.WholeSeconds.{wholeSeconds}
+use Rattle.standby.specs.declared.UtcTime.{UtcTime}
+use Rattle.standby.specs.declared.Instant.{Instant}
+use Rattle.standby.specs.Times.{inItsDay, lastMinute, offsetOf, taiMs}
+use Rattle.standby.specs.Answers.{instantOutcome}
+use Rattle.standby.specs.Asked.{Dated, Small}
+use Rattle.standby.proofs.Times.{same-instant, never-at, few-millis, offset-small, time-fits, time-refused}
+use Rattle.standby.proofs.at_time.Statement.{statement}
+use Rattle.standby.proofs.at_time.Tie as tie
+
+offset-limit : (table : LentRows) (t : UtcTime) (day : ℕ) (next : CalendarDate) → Dated table t day next → offsetOf (rowsOf table) t ≤ 53
+offset-limit table t day next d =
+    let a = accepted (t .year) (pos (t .month)) (pos (t .day)) (next-is (t .year) (pos (t .month)) (pos (t .day)) next (d .has-next) .0) in
+    offset-small table (rowsOf table) (d .taken) (t .year) (t .month) (d .from-1972) (a .m-low) (a .m-high) .1
+
+-- TAI-UTC, as it was looked up
+module _ (c : tie.After-whole-seconds-by-rows) where
+  offset-is : let s = c .before .before .before in c .whole-seconds-by-rows .result ≡ offsetOf (rowsOf (s .args .table)) (s .args .t)
+  offset-is =
+      let s = c .before .before .before in
+      c .whole-seconds-by-rows .ensures .0
+      ∙ ap (λ (y : ℤ). wholeSeconds (rowsOf (s .args .table)) y (s .args .t .month)) (toZ-ofZ {w = w32} (record { sfits = c .before .struct-told .given .0 .1 }))
+
+  offset-few : c .whole-seconds-by-rows .result ≤ 53
+  offset-few =
+      let s = c .before .before .before in
+      let a = s .args in
+      omega (arith, offset-is, offset-limit (a .table) (a .t) (a .day) (a .next) (s .pre))
+
+-- the test of the time
+module _ (c : tie.After-in-its-day) where
+  tested : (v : Bool) → c .in-its-day .result ≡ v → let s = c .before .before .before .before .before in inItsDay (s .args .t) (lastMinute (rowsOf (s .args .table)) (s .args .t) (s .args .next)) ≡ v
+  tested v p =
+      let s = c .before .before .before .before .before in
+      ap (inItsDay (s .args .t)) (sym (c .before .last-minute .ensures)) ∙ sym (c .in-its-day .ensures) ∙ p
+
+cast-whole-seconds-by-rows : tie.Need-cast-whole-seconds-by-rows
+cast-whole-seconds-by-rows c = search needs
+
+whole-seconds-by-rows-requires : tie.Need-whole-seconds-by-rows-requires
+whole-seconds-by-rows-requires c κs = search needs
+
+last-minute-requires : tie.Need-last-minute-requires
+last-minute-requires c κs = (offset-is c, omega (arith, offset-few c))
+
+in-its-day-requires : tie.Need-in-its-day-requires
+in-its-day-requires c κs = search needs
+
+mul-t10 : tie.Need-mul-t10
+mul-t10 c = search needs
+
+time-seconds-requires : tie.Need-time-seconds-requires
+time-seconds-requires c κs = search needs
+
+add-t12 : tie.Need-add-t12
+add-t12 c = search needs
+
+cast-t13 : tie.Need-cast-t13
+cast-t13 c = search needs
+
+add-t14 : tie.Need-add-t14
+add-t14 c = search needs
+
+returns : tie.Need-returns
+unfolding instantOutcome taiMs
+returns c =
+    let i = c .before in
+    let d = i .before in
+    let o = d .before .before in
+    let s = o .before .before .before in
+    let a = s .args in
+    let e = tested d true (i .if1 .taken) in
+    record {
+      says =
+          (λ j. answer (1000 * (86400 * (s .pre .day-is j) + (c .time-seconds .ensures .0 j) + (offset-is o j)) + a .t .millis))
+          ∙ time-fits (rowsOf (a .table)) (a .t) (a .next) e;
+      small = λ x p. subst (λ (y : Instant). Small y) (same-instant p)
+          (record { few-seconds = omega (arith, s .pre .few-days, c .time-seconds .ensures .1, offset-few o); few-millis = few-millis (a .t) (lastMinute (rowsOf (a .table)) (a .t) (a .next)) e });
+    }
+
+returns-2 : tie.Need-returns-2
+unfolding instantOutcome
+returns-2 c =
+    let d = c .before in
+    let a = d .before .before .before .before .before .args in
+    record { says = time-refused (rowsOf (a .table)) (a .t) (a .next) (tested d _ (c .if1 .left)); small = λ x p. never-at 4 x p }
+
+pub at-time-spec : {M : Type 1} → statement M
+at-time-spec =
+    tie.close
+    (tie.spec
+    cast-whole-seconds-by-rows
+    whole-seconds-by-rows-requires
+    last-minute-requires
+    in-its-day-requires
+    mul-t10
+    time-seconds-requires
+    add-t12
+    cast-t13
+    add-t14
+    returns
+    returns-2)
