@@ -1,5 +1,5 @@
 -- A line of a listing has one line end; so a part has as many line ends as lines, and a caller that counts them knows the next line. Assumes nothing.
-use Prim.Native.Nat.{ℕ, zero, suc, _+_, _-_, _%_, _<_, _≤_}
+use Prim.Native.Nat.{ℕ, zero, suc, _+_, _-_, _/_, _%_, _<_, _≤_}
 use native.Mathlib.Omega.{arith}
 use native.Mathlib.Nat.{add-assoc, zero-add}
 use mathlib.Core.Path.{_≡_, refl, sym, ap, _∙_}
@@ -10,6 +10,7 @@ use lib.Dec.{ltb, eqb}
 use lib.IntN.{ℤ, pos, negsuc}
 use borrow.Author.Tests.{ne-eqb}
 use Rattle.refusals.specs.Outcome.{Outcome, answer, refusal, onward}
+use Rattle.digits.specs.Decimal.{digitsIn}
 use Rattle.floats.specs.Whole.{away}
 use Rattle.calendar.specs.declared.CalendarDate.{CalendarDate}
 use Rattle.julian.specs.declared.JulianDate.{JulianDate}
@@ -21,8 +22,7 @@ use Rattle.time_of_day.specs.TimeShown.{shownOf}
 use Rattle.utc_text.specs.Text.{last, two, three, four, five, six, seven, yearText, afterYear, utcText}
 use Rattle.utc.specs.IsoText.{midnight, nextMidnightTextBy, shownTextBy, shownText, dayTextBy, isoTextBy, isoText}
 use Rattle.stamps.specs.Block.{blockOf}
-use Rattle.stamps.specs.Decimal.{decimal}
-use Rattle.stamps.specs.Listing.{refusedWord, utcListingWords, blockRefusedWords, textAt, shown, stampLine, refusedIn, header, blockRefused}
+use Rattle.stamps.specs.Listing.{numeral, refusedWord, utcListingWords, blockRefusedWords, textAt, shown, stampLine, refusedIn, header, blockRefused}
 use Rattle.stamps.specs.Parts.{lineOf, linesIn, linesFrom, partLines, partText}
 use Rattle.listing_laws.specs.LineEnds.{lineEnds}
 use Rattle.stamps.proofs.Parts.{held-some}
@@ -45,16 +45,14 @@ ends-most (c ∷ l) = omega (arith, one-most (eqb c 10), ends-most l)
 digit : (n : ℕ) → eqb (48 + n % 10) 10 ≡ false
 digit n = ne-eqb (48 + n % 10) 10 (λ e. (let no : ⊥ = omega arith in no))
 
-decimal-by : (n : ℕ) (a b c : Bool) → lineEnds (cond a (last n ∷ []) (cond b (two n) (cond c (three n) (four n)))) ≡ 0
-unfolding lineEnds
-decimal-by n true b c = simp digit
-decimal-by n false true c = simp digit
-decimal-by n false false true = simp digit
-decimal-by n false false false = simp digit
-
-decimal-none : (n : ℕ) → lineEnds (decimal n) ≡ 0
-unfolding decimal
-decimal-none n = decimal-by n (ltb n 10) (ltb n 100) (ltb n 1000)
+digits-none : (k n : ℕ) → lineEnds (digitsIn k n) ≡ 0
+unfolding digitsIn lineEnds
+digits-none zero n = refl
+digits-none (suc k) n = by (ltb n 10) (digits-none k (n / 10))
+  where
+    by : (b : Bool) → lineEnds (digitsIn k (n / 10)) ≡ 0 → lineEnds (cond b (last n ∷ []) (digitsIn k (n / 10) ++ (last n ∷ []))) ≡ 0
+    by true h = simp digit
+    by false h = ends-append (digitsIn k (n / 10)) (last n ∷ []) ∙ simp (h, digit)
 
 plus-by : (n : ℕ) (a b c : Bool) → lineEnds (cond a (four n) (cond b (five n) (cond c (six n) (seven n)))) ≡ 0
 unfolding lineEnds
@@ -82,9 +80,9 @@ unfolding utcText
 text-none d t = let e = ends-append (yearText (d .year)) (afterYear d t) in omega (arith, year-none (d .year), after-none d t)
 
 -- ---- nor has what is shown of a stamp
-refused-none : (k : ℕ) → lineEnds (refusedWord ++ decimal k) ≡ 0
+refused-none : (k : ℕ) → lineEnds (refusedWord ++ numeral k) ≡ 0
 unfolding lineEnds
-refused-none k = simp decimal-none
+refused-none k = simp (digits-none 4)
 
 shown-onward : {A : Type 0} (o : Outcome A) (f : A → Outcome (List ℕ)) → ((a : A) → lineEnds (shown (f a)) ≡ 0) → lineEnds (shown (onward o f)) ≡ 0
 unfolding onward shown
@@ -115,15 +113,15 @@ words = (refl, refl, refl)
 
 stamp-one : (rows : List Row) (s : List ℕ) (n i : ℕ) → lineEnds (stampLine rows s n i) ≡ 1
 unfolding stampLine textAt
-stamp-one rows s n i = simp (ends-append, decimal-none, shown-none, blank, end)
+stamp-one rows s n i = simp (ends-append, digits-none 4, shown-none, blank, end)
 
 header-one : (n k : ℕ) → lineEnds (header n k) ≡ 1
 unfolding header
-header-one n k = simp (ends-append, decimal-none, words .0, words .1, end)
+header-one n k = simp (ends-append, digits-none 4, words .0, words .1, end)
 
 refused-one : (k : ℕ) → lineEnds (blockRefused k) ≡ 1
 unfolding blockRefused
-refused-one k = simp (ends-append, decimal-none, words .2, end)
+refused-one k = simp (ends-append, digits-none 4, words .2, end)
 
 line-one : (rows : List Row) (o : Outcome ℕ) (s : List ℕ) (line : ℕ) → lineEnds (lineOf rows o s line) ≡ 1
 unfolding lineOf

@@ -11,14 +11,14 @@ use lib.Ieee.{nan, inf, binary64, odd, ofFields, ofBits}
 use lib.Ieee.Scale.{finite}
 use borrow.Author.Tests.{eqb-true, eq-eqb}
 use Rattle.refusals.specs.Outcome.{Outcome, answer, refusal}
+use Rattle.digits.specs.Decimal.{digitsIn}
 use Rattle.floats.proofs.Fields.{expo, ofBits-is}
 use Rattle.calendar.proofs.NextDates.{first-false}
 use Rattle.tai_utc.specs.Table.{Row}
 use Rattle.utc.proofs.Numbers.{not-both, not-finite}
 use Rattle.stamps.specs.Block.{blockOf, jd1Bits, jd2Bits, stampAt}
-use Rattle.stamps.specs.Decimal.{decimal}
 use Rattle.listing_laws.specs.NotFinite.{exponentField, NotFinite, isNotFinite, notFiniteIn, HasText}
-use Rattle.stamps.specs.Listing.{refusedWord, textAt, shown, stampLine, stampLines, oneIfRefused, refusedIn, header, listingOf, listing}
+use Rattle.stamps.specs.Listing.{numeral, refusedWord, textAt, shown, stampLine, stampLines, oneIfRefused, refusedIn, header, listingOf, listing}
 
 -- ---- the values that are not finite are those whose exponent field is all ones
 odd-finite : (d : ℕ) (s : Bool) (q k l : ℕ) → finite (odd d s q k l) ≡ true
@@ -55,16 +55,16 @@ not-finite-refused rows s n i d = not-finite rows (stampAt s n i) (by d)
     by (inl e) = first-false (finite (stampAt s n i .jd1)) (finite (stampAt s n i .jd2)) (field-not-finite (jd1Bits s i) e)
     by (inr e) = no-second (finite (stampAt s n i .jd1)) (finite (stampAt s n i .jd2)) (field-not-finite (jd2Bits s n i) e)
 
-six : decimal 6 ≡ 54 ∷ []
-unfolding decimal
+six : numeral 6 ≡ 54 ∷ []
+unfolding digitsIn
 six = refl
 
 -- `i refused 6`
-pub not-finite-line : (rows : List Row) (s : List ℕ) (n i : ℕ) → NotFinite s n i → stampLine rows s n i ≡ ((decimal i ++ (32 ∷ [])) ++ (refusedWord ++ (54 ∷ []))) ++ (10 ∷ [])
+pub not-finite-line : (rows : List Row) (s : List ℕ) (n i : ℕ) → NotFinite s n i → stampLine rows s n i ≡ ((numeral i ++ (32 ∷ [])) ++ (refusedWord ++ (54 ∷ []))) ++ (10 ∷ [])
 unfolding stampLine shown
 not-finite-line rows s n i d =
-    ap (λ (o : Outcome (List ℕ)). ((decimal i ++ (32 ∷ [])) ++ shown o) ++ (10 ∷ [])) (not-finite-refused rows s n i d)
-    ∙ ap (λ (t : List ℕ). ((decimal i ++ (32 ∷ [])) ++ (refusedWord ++ t)) ++ (10 ∷ [])) six
+    ap (λ (o : Outcome (List ℕ)). ((numeral i ++ (32 ∷ [])) ++ shown o) ++ (10 ∷ [])) (not-finite-refused rows s n i d)
+    ∙ ap (λ (t : List ℕ). ((numeral i ++ (32 ∷ [])) ++ (refusedWord ++ t)) ++ (10 ∷ [])) six
 
 pub not-finite-one : (rows : List Row) (s : List ℕ) (n i : ℕ) → NotFinite s n i → oneIfRefused (textAt rows s n i) ≡ 1
 unfolding oneIfRefused

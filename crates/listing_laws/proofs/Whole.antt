@@ -3,14 +3,14 @@
 use Prim.Native.Nat.{ℕ, zero, suc, _+_, _-_, _<_, _≤_, zero-le}
 use native.Mathlib.Omega.{arith}
 use native.Mathlib.Numerals.{add-one}
-use native.Mathlib.Nat.{zero-add}
+use native.Mathlib.Nat.{zero-add, le-refl}
 use mathlib.Core.Path.{_≡_, refl, sym, ap, _∙_}
 use mathlib.Core.Bool.{Bool, true, false}
 use mathlib.Core.List.{List, _++_, append-assoc, append-nil}
 use lib.Dec.{ltb}
-use borrow.Author.Tests.{ltb-true, ltb-false, leb-true, ne-eqb}
+use borrow.Author.Tests.{ltb-true, ltb-false, leb-true, le-leb, ne-eqb}
 use Rattle.refusals.specs.Outcome.{Outcome, answer, refusal}
-use Rattle.tai_utc.specs.Table.{Row}
+use Rattle.tai_utc.specs.Table.{Row, fixed}
 use Rattle.stamps.specs.Block.{blockOf}
 use Rattle.stamps.specs.Listing.{header, refusedIn, stampLine, stampLines, listingOf, listing}
 use Rattle.stamps.specs.Parts.{lineOf, linesIn, linesFrom, heldLines, partLines, partText, partOf, lineAfter, partsJoined}
@@ -94,3 +94,25 @@ module _ (rows : List Row) (s : List ℕ) where
       -- with 33 bytes or more the listing is whole after as many parts as it has lines, or sooner; parts after that are empty
       pub whole : (k : ℕ) → linesIn (blockOf s) ≤ k → partsJoined rows s room k ≡ listing rows s
       whole k h = whole-when-done k (reached k (linesIn (blockOf s)) (omega arith) h)
+
+-- ---- two scratches write the same: any two of 33 bytes or more, after as many parts as there are lines
+module _ (rows : List Row) (s : List ℕ) (a b : ℕ) where
+  pub parts-alike : 33 ≤ a → 33 ≤ b → (j k : ℕ) → linesIn (blockOf s) ≤ j → linesIn (blockOf s) ≤ k → partsJoined rows s a j ≡ partsJoined rows s b k
+  parts-alike ha hb j k hj hk = whole rows s a ha j hj ∙ sym (whole rows s b hb k hk)
+
+  -- and any two at all, each up to the part that says it is the last
+  pub last-alike : (j k : ℕ) → partOf rows s (lineAfter rows s a j) a .done ≡ true → partOf rows s (lineAfter rows s b k) b .done ≡ true
+      → partsJoined rows s a (suc j) ≡ partsJoined rows s b (suc k)
+  last-alike j k ej ek = whole-at-last rows s a j ej ∙ sym (whole-at-last rows s b k ek)
+
+-- document 02's item 12: what a program writes through 64 bytes is what it wrote through 4,096, with the fixed table and of every block, refused ones included
+pub sixty-four : (s : List ℕ) (j k : ℕ) → partOf fixed s (lineAfter fixed s 64 j) 64 .done ≡ true → partOf fixed s (lineAfter fixed s 4096 k) 4096 .done ≡ true
+    → partsJoined fixed s 64 (suc j) ≡ partsJoined fixed s 4096 (suc k)
+sixty-four s = last-alike fixed s 64 4096
+
+-- the last part comes: after as many parts as there are lines, or sooner
+pub comes-to-last : (rows : List Row) (s : List ℕ) (room : ℕ) → 33 ≤ room → partOf rows s (lineAfter rows s room (linesIn (blockOf s))) room .done ≡ true
+unfolding partOf
+comes-to-last rows s room enough =
+    let far = reached rows s room enough (linesIn (blockOf s)) (linesIn (blockOf s)) (le-refl _) (le-refl _) in
+    le-leb (linesIn (blockOf s)) (lineAfter rows s room (linesIn (blockOf s)) + partLines rows s (lineAfter rows s room (linesIn (blockOf s))) room) (omega arith)

@@ -14,17 +14,17 @@ use Rattle.stamps.specs.Block.{blockOf, stampAt}
 use Rattle.stamps.specs.Listing.{textAt, stampLine, refusedIn, header, blockRefused}
 use Rattle.stamps.specs.Parts.{lineOf, linesIn, linesFrom, heldLines, partLines, partText}
 use Rattle.stamps.proofs.Blocks.{few-lines}
-use Rattle.stamps.proofs.Places.{decimal-most}
+use Rattle.stamps.proofs.Places.{digits-most}
 use Rattle.stamps.proofs.Texts.{brief, shown-most}
 use Rattle.stamps.proofs.Parts.{held-few}
 
 header-most : (n k : ℕ) → length (header n k) ≤ 33
 unfolding header
-header-most n k = simp length-append (omega (arith, decimal-most n, decimal-most k))
+header-most n k = simp length-append (omega (arith, digits-most 4 n, digits-most 4 k))
 
 refused-most : (k : ℕ) → length (blockRefused k) ≤ 33
 unfolding blockRefused
-refused-most k = simp length-append (omega (arith, decimal-most k))
+refused-most k = simp length-append (omega (arith, digits-most 4 k))
 
 module _ (rows : List Row) where
   -- a lines from line i and the b after them are a + b lines
@@ -39,7 +39,7 @@ module _ (rows : List Row) where
 
   stamp-most : (s : List ℕ) (n i : ℕ) → length (stampLine rows s n i) ≤ 33
   unfolding stampLine textAt
-  stamp-most s n i = simp length-append (omega (arith, decimal-most i, shown-most _ (brief rows (stampAt s n i))))
+  stamp-most s n i = simp length-append (omega (arith, digits-most 4 i, shown-most _ (brief rows (stampAt s n i))))
 
   pub line-most : (o : Outcome ℕ) (s : List ℕ) (line : ℕ) → length (lineOf rows o s line) ≤ 33
   unfolding lineOf

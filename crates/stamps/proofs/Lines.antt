@@ -13,16 +13,15 @@ use Rattle.utc.specs.IsoText.{isoText}
 use Rattle.stamps.specs.declared.BlockAnswer.{BlockAnswer}
 use Rattle.stamps.specs.declared.BlockAnswer.the-variants.{Stamps, Refused}
 use Rattle.stamps.specs.Block.{blockOf, blockOutcome, stampAt}
-use Rattle.stamps.specs.Decimal.{decimal}
 use Rattle.stamps.specs.Placed.{Placed}
-use Rattle.stamps.specs.Listing.{textAt, shown, stampLine, oneIfRefused, refusedIn, header, blockRefused}
+use Rattle.stamps.specs.Listing.{numeral, textAt, shown, stampLine, oneIfRefused, refusedIn, header, blockRefused}
 use Rattle.stamps.specs.Parts.{lineOf, linesIn, linesFrom}
 use Rattle.stamps.proofs.Blocks.{accepted}
 use Rattle.stamps.proofs.Places.{then, placed-as}
 
 module _ {d d1 d2 d3 d4 : List ℕ} {at r1 r2 r3 r4 : ℕ} where
   pub stamp-put : (rows : List Row) (s : List ℕ) (n i : ℕ) (jd : JulianDate) → jd ≡ stampAt s n i
-      → Placed d at (decimal i) r1 d1 → Placed d1 r1 (32 ∷ []) r2 d2 → Placed d2 r2 (shown (isoText rows jd)) r3 d3 → Placed d3 r3 (10 ∷ []) r4 d4 → r4 ≤ length d
+      → Placed d at (numeral i) r1 d1 → Placed d1 r1 (32 ∷ []) r2 d2 → Placed d2 r2 (shown (isoText rows jd)) r3 d3 → Placed d3 r3 (10 ∷ []) r4 d4 → r4 ≤ length d
       → Placed d at (stampLine rows s n i) r4 d4
   unfolding stampLine textAt
   stamp-put rows s n i jd e p1 p2 p3 p4 le =

@@ -4,10 +4,15 @@
 use Prim.Native.Nat.{ℕ, zero, suc, _+_}
 use mathlib.Core.List.{List, [], _∷_, _++_}
 use Rattle.refusals.specs.Outcome.{Outcome, answer, refusal}
+use Rattle.digits.specs.Decimal.{digitsIn}
 use Rattle.tai_utc.specs.Table.{Row}
 use Rattle.utc.specs.IsoText.{isoText}
 use Rattle.stamps.specs.Block.{blockOf, stampAt}
-use Rattle.stamps.specs.Decimal.{decimal}
+
+-- a number, in decimal and with no zeros in front: four digits are enough, since the counts and the indexes of a listing are at most 4,000 and the refusals' numbers at
+-- most 28
+abbrev pub numeral : ℕ → List ℕ
+numeral n = digitsIn 4 n
 
 -- "refused "
 abbrev pub refusedWord : List ℕ
@@ -28,11 +33,11 @@ textAt rows s n i = isoText rows (stampAt s n i)
 -- the text, or `refused` and the number
 unfoldable pub shown : Outcome (List ℕ) → List ℕ
 shown (answer text) = text
-shown (refusal k) = refusedWord ++ decimal k
+shown (refusal k) = refusedWord ++ numeral k
 
 -- the line of stamp i of n
 unfoldable pub stampLine : List Row → List ℕ → ℕ → ℕ → List ℕ
-stampLine rows s n i = ((decimal i ++ (32 ∷ [])) ++ shown (textAt rows s n i)) ++ (10 ∷ [])
+stampLine rows s n i = ((numeral i ++ (32 ∷ [])) ++ shown (textAt rows s n i)) ++ (10 ∷ [])
 
 -- the lines of the first k stamps of n
 unfoldable pub stampLines : List Row → List ℕ → ℕ → ℕ → List ℕ
@@ -50,11 +55,11 @@ refusedIn rows s n (suc k) = refusedIn rows s n k + oneIfRefused (textAt rows s 
 
 -- `utc listing`, the number of stamps, `refused`, the number of refused stamps
 unfoldable pub header : ℕ → ℕ → List ℕ
-header stamps refused = (((utcListingWords ++ decimal stamps) ++ (32 ∷ refusedWord)) ++ decimal refused) ++ (10 ∷ [])
+header stamps refused = (((utcListingWords ++ numeral stamps) ++ (32 ∷ refusedWord)) ++ numeral refused) ++ (10 ∷ [])
 
 -- `block refused` and the number
 unfoldable pub blockRefused : ℕ → List ℕ
-blockRefused k = (blockRefusedWords ++ decimal k) ++ (10 ∷ [])
+blockRefused k = (blockRefusedWords ++ numeral k) ++ (10 ∷ [])
 
 unfoldable pub listingOf : List Row → Outcome ℕ → List ℕ → List ℕ
 listingOf rows (answer n) s = header n (refusedIn rows s n n) ++ stampLines rows s n n
