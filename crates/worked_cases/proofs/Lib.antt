@@ -3,3 +3,4 @@ pub mod ByDates
 pub mod Literals
 pub mod Computed
 pub mod Cases
+pub mod ShortDay

@@ -1,0 +1,62 @@
+-- THE LAST MINUTE OF A DAY THAT ENDS A SECOND EARLY, by computation: 2029-12-31 by the table of `ShortTable`. 23:59:59.0 and the Unix second of it are refused with 4, the
+-- float below passes, and the text ends at 86,399,000 ms. From document 02, item 8. Assumes nothing.
+use mathlib.Core.Path.{_≡_, refl, ap, _∙_}
+use mathlib.Core.Bool.{Bool, true, false}
+use mathlib.Core.List.{List}
+use Prim.Native.Nat.{ℕ}
+use lib.IntN.{ℤ, pos}
+use lib.Ieee.{Float, binary64, round, ofBits, ofInt, toSigned, add, sub, mul, div, neg, lt, le, eq}
+use Rattle.refusals.specs.Outcome.{Outcome, answer, refusal, onward}
+use Rattle.refusals.proofs.Onward.{went}
+use Rattle.floats.specs.Whole.{abs, toWhole, nearestInt, one}
+use Rattle.constants.specs.Constants.{decimal, secondsPerDay, mjdZeroPoint, unixEpochJd, nanosecondsPerSecond}
+use Rattle.calendar.specs.declared.CalendarDate.{CalendarDate}
+use Rattle.calendar.specs.Calendar.{next, leapSize, lengths, daysInMonth, date}
+use Rattle.calendar.specs.Refusals.{validDate, nextOf}
+use Rattle.calendar.specs.DayCount.{civilCount, mjdNumber, mjdOf}
+use Rattle.day_number.specs.Answer.{dayNumberAndFraction}
+use Rattle.julian.specs.declared.JulianDate.{JulianDate}
+use Rattle.julian.specs.declared.CalendarFields.{CalendarFields}
+use Rattle.julian.specs.JulianDate.{julian, roundedSum}
+use Rattle.julian.specs.DayFraction.{secondLimit, timeInDay, dayFraction}
+use Rattle.julian.specs.Calendar.{fields, julianToCalendar}
+use Rattle.julian_laws.proofs.Divisions.{dividedDate, divided-date}
+use Rattle.tai_utc.specs.Table.{Row, fixed, monthNumber, reached}
+use Rattle.tai_utc.specs.Lent.{tableOf}
+use Rattle.tai_utc.specs.Offset.{secondsOf, startOf, rateOf, byRow, offsetBy, offsetAt, inDay, taiUtcOffset}
+use Rattle.tai_utc.specs.Leap.{dayOffsets, leapOf, leapAtEndOfDay}
+use Rattle.time_of_day.specs.Milliseconds as Millis
+use Rattle.time_of_day.specs.TimeShown.{timeOf, dayEnd, fromZero, shownAt, shownOf}
+use Rattle.utc_text.specs.Text.{yearText, utcText}
+use Rattle.utc_scale_laws.specs.ShortTable.{shortTable, shortRows}
+use Rattle.utc_scale_laws.proofs.ShortDay.{short-taken, short-leap}
+use Rattle.utc.specs.FromCalendar.{utcFromCalendar}
+use Rattle.utc.specs.UnixTime.{unixDay, secondOfUnixDay, secondWithNanos, utcNew}
+use Rattle.utc.specs.IsoText.{nextMidnightText, shownText, dayTextBy, dayText, isoTextBy, isoText}
+use Rattle.utc.proofs.ShortDays.{short-day-refused, short-day-taken}
+use Rattle.worked_cases.specs.Cases.{ascii}
+
+abbrev bits : ℕ → Float
+bits n = ofBits binary64 n
+
+valid : validDate (pos 2029) (pos 12) (pos 31) ≡ answer tt
+unfolding validDate daysInMonth lengths leapSize
+valid = refl
+
+-- ---- `utc_from_calendar` at 23:59
+abbrev at-23-59 : Float → Outcome JulianDate
+at-23-59 second = onward (tableOf shortTable) (λ rows. utcFromCalendar rows (pos 2029) 12 31 23 59 second)
+
+pub second-59 : at-23-59 (decimal 59 0) ≡ refusal 4
+unfolding le lt round
+second-59 = went _ short-taken ∙ short-day-refused shortRows (pos 2029) 12 31 valid short-leap (decimal 59 0) refl
+
+-- the float below 59.0: its day is over, rounded once
+pub below-59 : at-23-59 (bits 0x404d_7fff_ffff_ffff) ≡ answer (julian (decimal 24625015 1) one)
+unfolding le lt round ofBits ofInt add mul div mjdNumber civilCount mjdZeroPoint secondsPerDay
+below-59 = went _ short-taken ∙ short-day-taken shortRows (pos 2029) 12 31 valid short-leap (bits 0x404d_7fff_ffff_ffff) refl
+
+-- 23:59:58.5 is 86,398.5 of 86,399 s
+pub half-past-58 : at-23-59 (decimal 585 1) ≡ answer (julian (decimal 24625015 1) (bits 0x3fef_fff3_dd12_7aef))
+unfolding le lt round ofBits ofInt add mul div mjdNumber civilCount mjdZeroPoint secondsPerDay
+half-past-58 = went _ short-taken ∙ short-day-taken shortRows (pos 2029) 12 31 valid short-leap (decimal 585 1) refl
