@@ -1,6 +1,5 @@
 -- EVERY TABLE THAT IS TAKEN: its rows, its offsets and its leaps, in one place. Assumes nothing.
-use mathlib.Core.Path.{_≡_, ap, sym, subst, _∙_}
-use mathlib.Core.Bool.{Bool, true, false}
+use mathlib.Core.Path.{_≡_, ap, subst, _∙_}
 use mathlib.Core.List.{List}
 use Prim.Native.Nat.{ℕ, suc, _+_, _<_}
 use native.Mathlib.Omega.{arith}
@@ -11,7 +10,7 @@ use borrow.Author.Tests.{ltb-true}
 use Rattle.refusals.specs.Outcome.{answer}
 use Rattle.tai_utc.specs.declared.LentRows.{LentRows}
 use Rattle.tai_utc.specs.Table.{Row, starts}
-use Rattle.tai_utc.specs.Lent.{rowsTo, lentSize, tableOf}
+use Rattle.tai_utc.specs.Lent.{rowsTo, tableOf}
 use Rattle.tai_utc.specs.Offset.{none}
 use Rattle.tai_utc.proofs.InTurn.{in-turn-at}
 use Rattle.tai_utc.proofs.Tables.{fixed-place, lent-place, table-drifts}
