@@ -1,6 +1,5 @@
 -- EVERY TABLE THAT IS TAKEN: its rows, its offsets and its leaps, in one place. Assumes nothing.
-use mathlib.Core.Path.{_≡_, ap, sym, subst, _∙_}
-use mathlib.Core.Bool.{Bool, true, false}
+use mathlib.Core.Path.{_≡_, ap, subst, _∙_}
 use mathlib.Core.List.{List}
 use Prim.Native.Nat.{ℕ, suc, _+_, _<_}
 use native.Mathlib.Omega.{arith}
@@ -11,14 +10,14 @@ use borrow.Author.Tests.{ltb-true}
 use Rattle.refusals.specs.Outcome.{answer}
 use Rattle.tai_utc.specs.declared.LentRows.{LentRows}
 use Rattle.tai_utc.specs.Table.{Row, starts}
-use Rattle.tai_utc.specs.Lent.{rowsTo, lentSize, tableOf}
+use Rattle.tai_utc.specs.Lent.{rowsTo, tableOf}
 use Rattle.tai_utc.specs.Offset.{none}
 use Rattle.tai_utc.proofs.InTurn.{in-turn-at}
 use Rattle.tai_utc.proofs.Tables.{fixed-place, lent-place, table-drifts}
 use Rattle.tai_utc.proofs.TablesTaken.{Taken, when-taken, all-count}
-use Rattle.tai_utc.proofs.TableLaws.{table-rises, lengths}
-use Rattle.tai_utc.proofs.TableSeconds.{seconds-in-range, table-seconds, same-before-lent}
-use Rattle.leap_days.specs.Tables.{EveryTable}
+use Rattle.tai_utc.proofs.TableLaws.{near, table-rises, lengths}
+use Rattle.tai_utc.proofs.TableSeconds.{row-step, seconds-in-range, table-seconds, same-before-lent}
+use Rattle.leap_days.specs.Tables.{secondsOfRow, EveryTable}
 use Rattle.leap_days.proofs.TableLeaps.{starts-at, table-leap-on}
 
 module _ (t : LentRows) (rows : List Row) (e : tableOf t ≡ answer rows) where
@@ -42,6 +41,7 @@ module _ (t : LentRows) (rows : List Row) (e : tableOf t ≡ answer rows) where
     fixed-first = λ i h. ap (λ (l : List Row). getD l i none) all-rows ∙ fixed-place t (t .«months_size») i h;
     lent-after = λ i h. ap (λ (l : List Row). getD l (42 + i) none) all-rows ∙ lent-place t (t .«months_size») i h;
     rises = rises-at;
+    by-one-second = λ i h l. near (secondsOfRow (getD rows i none)) (secondsOfRow (getD rows (suc i) none)) (row-step t rows e i h l);
     drifts = λ i h. ap (λ (l : List Row). eqb (getD l i none .rate) 0) all-rows ∙ table-drifts t (t .«months_size») i (omega (arith, h, lengths t rows e .0));
     same-to-2017 = same-before-lent t rows e;
     whole = table-seconds t rows e;

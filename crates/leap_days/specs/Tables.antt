@@ -1,8 +1,9 @@
 -- What is known of every table of lent rows that is taken, and of its leaps day by day. Written from document 02, item 8, and document 01, "TAI minus UTC". Assumes nothing.
 use mathlib.Core.Path.{_≡_}
 use mathlib.Core.Bool.{not}
+use mathlib.Core.Logic.{_⊎_}
 use mathlib.Core.List.{List}
-use Prim.Native.Nat.{ℕ, suc, _+_, _-_, _≤_, _<_}
+use Prim.Native.Nat.{ℕ, suc, _+_, _-_, _/_, _≤_, _<_}
 use lib.Dec.{T, eqb, ltb}
 use lib.IntN.{ℤ, pos, natAbs}
 use lib.ListN.{length, getD}
@@ -23,6 +24,10 @@ use Rattle.drift_days.specs.Small.{small}
 abbrev pub rowIn : List Row → ℕ → Row
 rowIn rows n = getD rows (reached (starts rows) n - 1) none
 
+-- the whole seconds of a row
+abbrev pub secondsOfRow : Row → ℕ
+secondsOfRow r = r .units / 10000000
+
 -- the leap of a day of month n whose next day is of month n′, from 1972 on: 0.0 where one row gives both offsets, and else the step of the row that begins on the next day
 pub data StepLeap (rows : List Row) (n n′ : ℕ) (x : Float) : Type 0 where
   no-row : rowIn rows n′ ≡ rowIn rows n → x ≡ nought → StepLeap rows n n′ x
@@ -36,7 +41,8 @@ pub data LeapOn (rows : List Row) (y m d : ℤ) (x : Float) : Type 0 where
   drifting : 23520 ≤ monthNumber y (natAbs m) → monthNumber y (natAbs m) < 23664 → T (small x) → leapAtEndOfDay fixed y m d ≡ answer x → LeapOn rows y m d x
   from-1972 : 23664 ≤ monthNumber y (natAbs m) → (next : CalendarDate) → nextOf y m d ≡ answer next → StepLeap rows (monthNumber y (natAbs m)) (monthNumber (next .year) (next .month)) x → LeapOn rows y m d x
 
--- of the rows: the 42 fixed ones and then the lent ones, at most 58, each month later than the one before, those of places 0 to 13 drifting and no other;
+-- of the rows: the 42 fixed ones and then the lent ones, at most 58, each month later than the one before and, from place 14 on, one second more or less, those of places 0 to
+-- 13 drifting and no other;
 -- of TAI-UTC: before February 2017 that of the fixed table, from 1972 on 10 to 53 whole seconds at every fraction of a day; and of the leaps
 pub record EveryTable (t : LentRows) (rows : List Row) : Type 0 where
   pub count : length rows ≡ 42 + t .«months_size»
@@ -44,6 +50,7 @@ pub record EveryTable (t : LentRows) (rows : List Row) : Type 0 where
   pub fixed-first : (i : ℕ) → i < 42 → getD rows i none ≡ getD fixed i none
   pub lent-after : (i : ℕ) → i < t .«months_size» → getD rows (42 + i) none ≡ lentRow t i
   pub rises : (i : ℕ) → suc i < length rows → getD rows i none .month < getD rows (suc i) none .month
+  pub by-one-second : (i : ℕ) → 14 ≤ i → suc i < length rows → (secondsOfRow (getD rows (suc i) none) ≡ secondsOfRow (getD rows i none) + 1) ⊎ (secondsOfRow (getD rows i none) ≡ secondsOfRow (getD rows (suc i) none) + 1)
   pub drifts : (i : ℕ) → i < length rows → eqb (getD rows i none .rate) 0 ≡ not (ltb i 14)
   pub same-to-2017 : (n : ℕ) → n < 24205 → (mjd f : Float) → offsetAt rows n mjd f ≡ offsetAt fixed n mjd f
   pub whole : (n : ℕ) → 23664 ≤ n → (mjd f : Float) → offsetAt rows n mjd f ≡ wholeF (secondsIn rows n)

@@ -1,6 +1,6 @@
 -- The four conversions that read the table, in a form that a check computes: the date of a day number by the Rust's divisions, where the calendar's definition counts day by
 -- day. The same answers. Assumes nothing.
-use mathlib.Core.Path.{_≡_, refl, ap, sym, _∙_}
+use mathlib.Core.Path.{_≡_, refl, sym, _∙_}
 use mathlib.Core.Bool.{cond}
 use mathlib.Core.List.{List}
 use Prim.Native.Nat.{ℕ, zero, suc, _+_}
@@ -9,7 +9,6 @@ use lib.Ieee.{Float, binary64, round, ofBits, ofInt, add, sub, mul, div, neg, lt
 use Rattle.refusals.specs.Outcome.{Outcome, answer, onward}
 use Rattle.floats.specs.Whole.{abs, half}
 use Rattle.constants.specs.Constants.{secondsPerDay, mjdZeroPoint}
-use Rattle.calendar.specs.declared.CalendarDate.{CalendarDate}
 use Rattle.calendar.specs.Calendar.{next, leapSize, lengths, daysInMonth}
 use Rattle.calendar.specs.Refusals.{validDate, nextOf}
 use Rattle.calendar.specs.DayCount.{civilCount, mjdNumber, mjdOf}

@@ -23,7 +23,7 @@ use Rattle.scales.specs.Conversions.{answerOf, tai-ut1}
 use Rattle.scale_laws.specs.Ranges.{Held, Billion, FiniteParts}
 use Rattle.shifts.proofs.Outcomes.{by-is}
 use Rattle.utc_scales.specs.LargerPart.{firstIsKept, keptAs, keptParts, besideAs, putBeside, placed, changeSmaller}
-use Rattle.utc_scales.specs.UtcUt1.{beforeStep, timePastLeap, atMostOne, afterStep, nearStep, Scanned, noStep, step, untilStep, scan}
+use Rattle.utc_scales.specs.UtcUt1.{beforeStep, timePastLeap, atMostOne, afterStep, nearStep, Scanned, noStep, step, untilStep}
 use Rattle.utc_scale_laws.specs.Claims.{Holds, answers, SixOrOne, Fits}
 use Rattle.utc_scales.proofs.Midnights.{midnightOfDay}
 use Rattle.utc_scale_laws.proofs.Outcomes.{holds-answer, holds-onward}

@@ -3,6 +3,7 @@
 use mathlib.Core.Path.{_≡_, refl, sym, subst, _∙_}
 use mathlib.Core.Bool.{Bool, true, false}
 use mathlib.Core.Logic.{inl, inr}
+use mathlib.Core.List.{List}
 use Prim.Native.Nat.{ℕ, zero, suc, _+_}
 use lib.Dec.{lit≤}
 use lib.IntN.{pos, negsuc}
@@ -15,6 +16,10 @@ use Rattle.day_number.specs.DayNumber.{dayOf}
 use Rattle.julian.specs.declared.JulianDate.{JulianDate}
 use Rattle.julian.specs.JulianDate.{julian}
 use Rattle.julian.specs.Worth.{SmallParts}
+use Rattle.tai_utc.specs.declared.LentRows.{LentRows}
+use Rattle.tai_utc.specs.Table.{Row, fixed}
+use Rattle.tai_utc.specs.Lent.{tableOf}
+use Rattle.tai_utc.proofs.NoRows.{none-lent, fixed-taken}
 use Rattle.scale_laws.specs.Ranges.{Held, Billion, FiniteParts}
 use Rattle.refusals.proofs.Onward.{went}
 use Rattle.utc_scales.specs.LargerPart.{keptParts}
@@ -29,11 +34,6 @@ use Rattle.utc_scale_laws.proofs.Days.{dateIn, Kind, outside, before, v
 use Rattle.utc_scale_laws.proofs.Refusals.{parts-fit}
 use Rattle.utc_scale_laws.proofs.OffsetSizes.{offset-size, offsets-size, zero-size, day-above, zero-point-size}
 use Rattle.utc_scale_laws.proofs.DaySizes.{midnight-size, since-midnight-size, day-offset-size}
-use mathlib.Core.List.{List}
-use Rattle.tai_utc.specs.declared.LentRows.{LentRows}
-use Rattle.tai_utc.specs.Table.{Row, fixed}
-use Rattle.tai_utc.specs.Lent.{tableOf}
-use Rattle.tai_utc.proofs.NoRows.{none-lent, fixed-taken}
 use Rattle.utc_scale_laws.proofs.FiniteTai.{table-utc-to-tai-never-infinite}
 use Rattle.utc_scale_laws.proofs.DateSizes.{Room, room52, room58, room64, Sized, parts-size, changed-size, Guess, finite-parts, small-size, held, billion-size, later-finite, offset-answers, step-size, ScanSize, until-size, date-answers}
 

@@ -6,7 +6,7 @@ use Rattle.refusals.specs.Outcome.{answer}
 use Rattle.floats.specs.Whole.{abs}
 use Rattle.julian.specs.declared.JulianDate.{JulianDate}
 use Rattle.tai_utc.specs.Table.{fixed}
-use Rattle.utc_scale_laws.specs.Published.{Check, on2006, utctai, taiutc, utcut1, ut1utc, MetToTheBit, Met}
+use Rattle.utc_scale_laws.specs.Published.{on2006, utctai, taiutc, utcut1, ut1utc, MetToTheBit, Met}
 use Rattle.utc_scale_laws.proofs.Computed.{computed, as-computed}
 
 utctai-computed : computed fixed (utctai .call) (utctai .given) ≡ answer (utctai .published)

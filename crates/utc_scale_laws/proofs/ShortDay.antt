@@ -1,7 +1,7 @@
 -- A DAY THAT ENDS A SECOND EARLY, by computation: 2029-12-31 by the table of `ShortTable`, of 86,399 s. Its leap, UTC to TAI and back, and UT1 to UTC before, on and
 -- after the day. Each answer is said by its bits. Assumes nothing.
 use mathlib.Core.Path.{_≡_, refl, _∙_}
-use mathlib.Core.Bool.{true, false}
+use mathlib.Core.Bool.{false}
 use Prim.Native.Nat.{ℕ}
 use lib.IntN.{pos}
 use lib.Ieee.{Float, binary64, round, ofBits, ofInt, add, sub, mul, neg, le}
@@ -17,7 +17,7 @@ use Rattle.tai_utc.specs.Table.{fixed, monthNumber, reached}
 use Rattle.tai_utc.specs.Lent.{rowsTo, lentSize, tableOf}
 use Rattle.tai_utc.specs.Offset.{secondsOf, byRow, offsetBy, offsetAt, inDay, taiUtcOffset}
 use Rattle.tai_utc.specs.Leap.{dayOffsets, leapOf, leapAtEndOfDay}
-use Rattle.utc_scale_laws.specs.Twenty.{Twenty, utc-tai, tai-utc, ut1-utc, answerOfAny, lentAnswer}
+use Rattle.utc_scale_laws.specs.Twenty.{Twenty, utc-tai, tai-utc, ut1-utc, lentAnswer}
 use Rattle.utc_scale_laws.specs.ShortTable.{shortTable, shortRows}
 use Rattle.utc_scale_laws.proofs.Computed.{computed, as-computed}
 use Rattle.utc_scale_laws.proofs.LentCalls.{by-its-rows}
