@@ -21,7 +21,7 @@ use Rattle.julian.specs.Equality.{twoSumError, exactSum, sums, FiniteSums}
 use Rattle.julian.specs.Equality as E
 use Rattle.julian.specs.Worth.{Worth, SmallParts}
 use Rattle.julian.proofs.Equality.{SumAndError, sums-of, small-sums, equal-sums}
-use Rattle.date_order.specs.Order.{Order, before, equal, after, sooner, order, compared, orderOf, notAfter, isEqual, DeadDate, first-dead, second-dead}
+use Rattle.date_order.specs.Order.{Order, comesBefore, sameSum, comesAfter, sooner, dateOrder, compared, orderOf, notAfter, isEqual, DeadDate, first-dead, second-dead}
 
 -- ---- the error is finite only where the parts and the sum are
 pub finite-error : (d : JulianDate) → T (finite (sums d .error)) → T (finite (d .jd1)) × (T (finite (d .jd2)) × T (finite (sums d .sum)))
@@ -78,8 +78,8 @@ sooner-exactly d e P N Q M s t v w =
     (ltb (x .sp + y .sn) (y .sp + x .sn)) (ltb (y .sp + x .sn) (x .sp + y .sn)) refl refl (ltb (P + M) (Q + N)) refl)
 
 -- the order of two dates whose two-sums do not overflow is that of P - N and Q - M
-pub order-exactly : (d e : JulianDate) (P N Q M : ℕ) → FiniteSums d → FiniteSums e → Worth d P N L → Worth e Q M L → order d e ≡ orderOf (P + M) (Q + N)
-unfolding order orderOf
+pub order-exactly : (d e : JulianDate) (P N Q M : ℕ) → FiniteSums d → FiniteSums e → Worth d P N L → Worth e Q M L → dateOrder d e ≡ orderOf (P + M) (Q + N)
+unfolding dateOrder orderOf
 order-exactly d e P N Q M s t v w = rw (sooner-exactly d e P N Q M s t v w, sooner-exactly e d Q M P N t s w v)
 
 -- ---- what an answer says
@@ -90,9 +90,9 @@ both-true false b o u h = let z : _≡_ {A = ℕ} 0 1 = cc in let w : ⊥ = omeg
 
 module _ (d e : JulianDate) (f1 : T (fits binary64 (d .jd1))) (f2 : T (fits binary64 (d .jd2))) (g1 : T (fits binary64 (e .jd1))) (g2 : T (fits binary64 (e .jd2)))
     (o : Order) (is : compared d e ≡ answer o) where
-  told : T (finite (sums d .error)) × (T (finite (sums e .error)) × (order d e ≡ o))
+  told : T (finite (sums d .error)) × (T (finite (sums e .error)) × (dateOrder d e ≡ o))
   unfolding compared
-  told = both-true (finite (sums d .error)) (finite (sums e .error)) o (order d e) is
+  told = both-true (finite (sums d .error)) (finite (sums e .error)) o (dateOrder d e) is
 
   -- both two-sums are finite
   pub answered-sums : FiniteSums d × FiniteSums e
@@ -114,14 +114,14 @@ refused-by false b u n h = ((let z : n ≡ 9 = cc in z), inl refl)
 -- 9 is the only refusal, and says that the two-sum of one of the dates is not finite
 pub refused-nine : (d e : JulianDate) (n : ℕ) → compared d e ≡ refusal n → (n ≡ 9) × ((finite (sums d .error) ≡ false) ⊎ (finite (sums e .error) ≡ false))
 unfolding compared
-refused-nine d e n h = refused-by (finite (sums d .error)) (finite (sums e .error)) (order d e) n h
+refused-nine d e n h = refused-by (finite (sums d .error)) (finite (sums e .error)) (dateOrder d e) n h
 
 as-true : (b : Bool) → T b → b ≡ true
 as-true true h = refl
 as-true false h = absurd h
 
 -- all dates with parts under 2^52 in size are answered
-pub small-answered : (d e : JulianDate) → SmallParts d → SmallParts e → compared d e ≡ answer (order d e)
+pub small-answered : (d e : JulianDate) → SmallParts d → SmallParts e → compared d e ≡ answer (dateOrder d e)
 unfolding compared
 small-answered d e s t =
     let x = as-true (finite (sums d .error)) (small-sums d s .error) in
@@ -162,13 +162,13 @@ worth-of d s =
     let b = own-val (d .jd2) (own (d .jd2) (s .second-float) (f .1 .0)) in
     (_, _, record { p = _; n = _; q = _; m = _; first = a; second = b; total = refl })
 
-of-numbers : (a b : ℕ) (s t : Bool) → ltb a b ≡ s → ltb b a ≡ t → notAfter (cond s before (cond t after equal)) ≡ true → a ≤ b
+of-numbers : (a b : ℕ) (s t : Bool) → ltb a b ≡ s → ltb b a ≡ t → notAfter (cond s comesBefore (cond t comesAfter sameSum)) ≡ true → a ≤ b
 unfolding notAfter
 of-numbers a b true t p q h = let i : a < b = ltb-true a b p in omega arith
 of-numbers a b false true p q h = absurd (true≢false (sym h))
 of-numbers a b false false p q h = ltb-false b a q
 
-to-numbers : (a b : ℕ) (s t : Bool) → ltb a b ≡ s → ltb b a ≡ t → a ≤ b → notAfter (cond s before (cond t after equal)) ≡ true
+to-numbers : (a b : ℕ) (s t : Bool) → ltb a b ≡ s → ltb b a ≡ t → a ≤ b → notAfter (cond s comesBefore (cond t comesAfter sameSum)) ≡ true
 unfolding notAfter
 to-numbers a b true t p q h = refl
 to-numbers a b false true p q h = let i : b < a = ltb-true b a q in let z : ⊥ = omega arith in absurd z
@@ -183,7 +183,7 @@ unfolding orderOf
 le-not-after a b h = to-numbers a b (ltb a b) (ltb b a) refl refl h
 
 -- of three dates, if the first is not after the second and that not after the third, the first is not after the third
-pub order-transitive : (d e f : JulianDate) → FiniteSums d → FiniteSums e → FiniteSums f → notAfter (order d e) ≡ true → notAfter (order e f) ≡ true → notAfter (order d f) ≡ true
+pub order-transitive : (d e f : JulianDate) → FiniteSums d → FiniteSums e → FiniteSums f → notAfter (dateOrder d e) ≡ true → notAfter (dateOrder e f) ≡ true → notAfter (dateOrder d f) ≡ true
 order-transitive d e f s t u h k =
     let v = worth-of d s in
     let w = worth-of e t in
@@ -192,7 +192,7 @@ order-transitive d e f s t u h k =
     let j = not-after-le (w .0 + x .1) (x .0 + w .1) (ap notAfter (sym (order-exactly e f (w .0) (w .1) (x .0) (x .1) t u (w .2) (x .2))) ∙ k) in
     ap notAfter (order-exactly d f (v .0) (v .1) (x .0) (x .1) s u (v .2) (x .2)) ∙ le-not-after (v .0 + x .1) (x .0 + v .1) (omega (arith, i, j))
 
-equal-numbers : (a b : ℕ) (s t : Bool) → ltb a b ≡ s → ltb b a ≡ t → isEqual (cond s before (cond t after equal)) ≡ eqb a b
+equal-numbers : (a b : ℕ) (s t : Bool) → ltb a b ≡ s → ltb b a ≡ t → isEqual (cond s comesBefore (cond t comesAfter sameSum)) ≡ eqb a b
 unfolding isEqual
 equal-numbers a b true t p q = let i : a < b = ltb-true a b p in sym (ne-eqb a b (λ r. omega arith))
 equal-numbers a b false true p q = let i : b < a = ltb-true b a q in sym (ne-eqb a b (λ r. omega arith))
@@ -206,7 +206,7 @@ unfolding orderOf
 number-equal a b = equal-numbers a b (ltb a b) (ltb b a) refl refl
 
 -- equal by the order exactly where equal by document 01's test
-pub equal-agrees : (d e : JulianDate) → FiniteSums d → FiniteSums e → isEqual (order d e) ≡ E.equal d e
+pub equal-agrees : (d e : JulianDate) → FiniteSums d → FiniteSums e → isEqual (dateOrder d e) ≡ E.equal d e
 equal-agrees d e s t =
     let v = worth-of d s in
     let w = worth-of e t in

@@ -9,7 +9,7 @@ use borrow.Author.Tests.{le-ltb, ltb-true}
 use Rattle.julian.specs.declared.JulianDate.{JulianDate}
 use Rattle.julian.specs.declared.ExactSum.{ExactSum}
 use Rattle.julian.specs.Equality.{sums}
-use Rattle.date_order.specs.Order.{Order, before, equal, after, sooner, order, swapped}
+use Rattle.date_order.specs.Order.{Order, comesBefore, sameSum, comesAfter, sooner, dateOrder, swapped}
 
 ltb-once : (a b : ℕ) → ltb a b ≡ true → ltb b a ≡ false
 ltb-once a b p = let h : a < b = ltb-true a b p in le-ltb b a (omega arith)
@@ -53,7 +53,7 @@ sooner-once : (s t : ExactSum) → sooner s t ≡ true → sooner t s ≡ false
 unfolding sooner
 sooner-once s t p = by-tests (lt (s .sum) (t .sum)) (lt (t .sum) (s .sum)) (lt (s .error) (t .error)) (lt (t .error) (s .error)) (lt-once (s .sum) (t .sum)) (lt-once (s .error) (t .error)) p
 
-swap-by : (a b : Bool) → (a ≡ true → b ≡ false) → cond b before (cond a after equal) ≡ swapped (cond a before (cond b after equal))
+swap-by : (a b : Bool) → (a ≡ true → b ≡ false) → cond b comesBefore (cond a comesAfter sameSum) ≡ swapped (cond a comesBefore (cond b comesAfter sameSum))
 unfolding swapped
 swap-by true true f = absurd (true≢false (f refl))
 swap-by true false f = refl
@@ -61,6 +61,6 @@ swap-by false true f = refl
 swap-by false false f = refl
 
 -- for all floats, NaNs and infinities included
-pub order-swapped : (d e : JulianDate) → order e d ≡ swapped (order d e)
-unfolding order
+pub order-swapped : (d e : JulianDate) → dateOrder e d ≡ swapped (dateOrder d e)
+unfolding dateOrder
 order-swapped d e = swap-by (sooner (sums d) (sums e)) (sooner (sums e) (sums d)) (sooner-once (sums d) (sums e))

@@ -14,48 +14,48 @@ use Rattle.date_order.specs.declared.OrderAnswer.the-variants as Answer
 use Rattle.date_order.specs.declared.OrderAnswer.{OrderAnswer}
 
 pub data Order : Type 0 where
-  before : Order
-  equal : Order
-  after : Order
+  comesBefore : Order
+  sameSum : Order
+  comesAfter : Order
 
 unfoldable pub orderOutcome : OrderAnswer → Outcome Order
-orderOutcome Answer.Before = answer before
-orderOutcome Answer.Equal = answer equal
-orderOutcome Answer.After = answer after
+orderOutcome Answer.Before = answer comesBefore
+orderOutcome Answer.Equal = answer sameSum
+orderOutcome Answer.After = answer comesAfter
 orderOutcome (Answer.Refused number) = refusal number
 
 -- the smaller sum comes first; of sums that are neither, the smaller error
 unfoldable pub sooner : ExactSum → ExactSum → Bool
 sooner s t = cond (lt (s .sum) (t .sum)) true (cond (lt (t .sum) (s .sum)) false (lt (s .error) (t .error)))
 
-unfoldable pub order : JulianDate → JulianDate → Order
-order d e = cond (sooner (sums d) (sums e)) before (cond (sooner (sums e) (sums d)) after equal)
+unfoldable pub dateOrder : JulianDate → JulianDate → Order
+dateOrder d e = cond (sooner (sums d) (sums e)) comesBefore (cond (sooner (sums e) (sums d)) comesAfter sameSum)
 
 -- 9: the error of a two-sum is not finite, as where a part or the sum is not
 unfoldable pub compared : JulianDate → JulianDate → Outcome Order
-compared d e = cond (finite (sums d .error) && finite (sums e .error)) (answer (order d e)) (refusal 9)
+compared d e = cond (finite (sums d .error) && finite (sums e .error)) (answer (dateOrder d e)) (refusal 9)
 
 -- ---- the words of the theorems
 
 -- the order of two numbers
 unfoldable pub orderOf : ℕ → ℕ → Order
-orderOf a b = cond (ltb a b) before (cond (ltb b a) after equal)
+orderOf a b = cond (ltb a b) comesBefore (cond (ltb b a) comesAfter sameSum)
 
 -- the order of the two the other way round
 unfoldable pub swapped : Order → Order
-swapped before = after
-swapped equal = equal
-swapped after = before
+swapped comesBefore = comesAfter
+swapped sameSum = sameSum
+swapped comesAfter = comesBefore
 
 unfoldable pub isEqual : Order → Bool
-isEqual before = false
-isEqual equal = true
-isEqual after = false
+isEqual comesBefore = false
+isEqual sameSum = true
+isEqual comesAfter = false
 
 unfoldable pub notAfter : Order → Bool
-notAfter before = true
-notAfter equal = true
-notAfter after = false
+notAfter comesBefore = true
+notAfter sameSum = true
+notAfter comesAfter = false
 
 -- a part of the date is not finite
 pub data DeadDate (d : JulianDate) : Type 0 where

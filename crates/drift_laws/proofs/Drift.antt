@@ -35,7 +35,7 @@ use Rattle.drift_laws.proofs.Days.{Offsets, offsets-near}
 use Rattle.drift_laws.proofs.Located.{Located, located}
 use Rattle.drift_laws.proofs.Seconds.{dayFs, Sec, sec-move, drift-near, leap-near, Factor, factor}
 use Rattle.drift_laws.proofs.Products.{in-days, Summed, summed}
-use Rattle.drift_laws.proofs.Rows.{Bounds, row-bounds, plus, minus, halfDrift, whole-drift, size-high, size-low, at-midnight, at-noon, no-step}
+use Rattle.drift_laws.proofs.Rows.{Bounds, row-bounds, rowPlus, rowMinus, halfDrift, whole-drift, size-high, size-low, at-midnight, at-noon, no-step}
 
 -- ---- 77 / 100 of 10^-10 s are 77 ps
 by-hundred : (a b x y g : ℕ) → 100 * a ≤ 100 * b + 77 * L → x ≡ 2 * a + g → y ≡ 2 * b + g → day * x ≤ day * y + driftPs * (1728000000000000 * L)
@@ -65,10 +65,10 @@ module _ (n : ℕ) {d : JulianDate} (k : DriftDate n d) where
     b : Bounds (rowOn n)
     b = row-bounds n (k .low) (omega (arith, k .high))
 
-    high : plus r (n - 2400001) ≤ minus r + 120000000000 * L
+    high : rowPlus r (n - 2400001) ≤ rowMinus r + 120000000000 * L
     high = size-high r b (n - 2400001) (omega (arith, k .low)) (omega (arith, k .high))
 
-    low : minus r ≤ plus r (n - 2400001) + 120000000000 * L
+    low : rowMinus r ≤ rowPlus r (n - 2400001) + 120000000000 * L
     low = size-low r b (n - 2400001) (omega (arith, k .low)) (omega (arith, k .high))
 
     small : 2 * halfDrift r ≤ 25920000 * L
@@ -78,15 +78,15 @@ module _ (n : ℕ) {d : JulianDate} (k : DriftDate n d) where
     Three = offsets (o .x) (o .y) (o .z)
 
     drift : Sec (driftRate Three) (2 * halfDrift r) 0 4006
-    drift = drift-near (plus r (n - 2400001)) (minus r) (halfDrift r) (plus (rowOn (suc n)) (suc n - 2400001)) (minus (rowOn (suc n))) (at-midnight (o .at-0h)) (at-noon (o .at-12h)) (at-midnight (o .at-24h)) high low small (no-step n (k .low) s)
+    drift = drift-near (rowPlus r (n - 2400001)) (rowMinus r) (halfDrift r) (rowPlus (rowOn (suc n)) (suc n - 2400001)) (rowMinus (rowOn (suc n))) (at-midnight (o .at-0h)) (at-noon (o .at-12h)) (at-midnight (o .at-24h)) high low small (no-step n (k .low) s)
 
     leap : Sec (leapAmount Three) 0 0 6010
-    leap = leap-near (plus r (n - 2400001)) (minus r) (halfDrift r) (plus (rowOn (suc n)) (suc n - 2400001)) (minus (rowOn (suc n))) (at-midnight (o .at-0h)) (at-noon (o .at-12h)) (at-midnight (o .at-24h)) high low small (no-step n (k .low) s)
+    leap = leap-near (rowPlus r (n - 2400001)) (rowMinus r) (halfDrift r) (rowPlus (rowOn (suc n)) (suc n - 2400001)) (rowMinus (rowOn (suc n))) (at-midnight (o .at-0h)) (at-noon (o .at-12h)) (at-midnight (o .at-24h)) high low small (no-step n (k .low) s)
 
     abbrev part : Float
     part = add binary64 (stretchDayFraction Three (dayOf (d .jd1) (d .jd2) .fraction)) (div binary64 (o .x) secondsPerDay)
 
-    whole : Summed part (at .f) (r .rate) (plus r (n - 2400001)) (minus r)
+    whole : Summed part (at .f) (r .rate) (rowPlus r (n - 2400001)) (rowMinus r)
     unfolding stretchDayFraction
     whole =
         summed (at .val) (at .below) (subst (Factor _) (sym (zero-mul L)) (factor leap (omega arith)))
@@ -138,11 +138,11 @@ module _ (n : ℕ) {d : JulianDate} (k : DriftDate n d) where
         count : (n : ℕ) → 2437301 ≤ n → 2 * n - 1 ≡ 2 * (n - 2400001) + 4800001
         count n l = omega arith
 
-    start : (2 * r .start + 4800001) * r .rate * L ≡ 2 * minus r + 4800001 * (r .rate * L)
+    start : (2 * r .start + 4800001) * r .rate * L ≡ 2 * rowMinus r + 4800001 * (r .rate * L)
     start =
         ap (λ (z : ℕ). z * L) (add-mul (2 * r .start) 4800001 (r .rate)) ∙ add-mul (2 * r .start * r .rate) (4800001 * r .rate) L
         ∙ ap (λ (z : ℕ). z + 4800001 * r .rate * L) (ap (λ (z : ℕ). z * L) (mul-assoc 2 (r .start) (r .rate)) ∙ mul-assoc 2 (r .start * r .rate) L ∙ ap (λ (z : ℕ). 2 * z) (mul-right-comm (r .start) (r .rate) L))
-        ∙ ap (λ (z : ℕ). 2 * minus r + z) (mul-assoc 4800001 (r .rate) L)
+        ∙ ap (λ (z : ℕ). 2 * rowMinus r + z) (mul-assoc 4800001 (r .rate) L)
 
     seconds : 2 * (r .units * 1000) * L ≡ 2 * (r .units * (1000 * L))
     seconds = mul-assoc 2 (r .units * 1000) L ∙ ap (λ (z : ℕ). 2 * z) (mul-assoc (r .units) 1000 L)
@@ -153,8 +153,8 @@ module _ (n : ℕ) {d : JulianDate} (k : DriftDate n d) where
     sides-low : (p n f x b c m : ℕ) → dayFs * n + dayFs * f + 100000 * x + 100000 * (b + c) ≤ dayFs * p + 100000 * m + 76150 * L → 100 * (864000000000000 * n + 864000000000000 * f + x + b + c) ≤ 100 * (864000000000000 * p + m) + 77 * L
     sides-low p n f x b c m h = omega arith
 
-    left-side : 1728000000000000 * (A + whole .p) + 2 * (864000000000000 + r .rate) * 0 + (2 * r .start + 4800001) * r .rate * L ≡ 2 * (864000000000000 * whole .p + minus r) + (1728000000000000 * A + 4800001 * (r .rate * L))
-    left-side = go A (whole .p) (minus r) (4800001 * (r .rate * L)) (2 * (864000000000000 + r .rate)) ((2 * r .start + 4800001) * r .rate * L) start
+    left-side : 1728000000000000 * (A + whole .p) + 2 * (864000000000000 + r .rate) * 0 + (2 * r .start + 4800001) * r .rate * L ≡ 2 * (864000000000000 * whole .p + rowMinus r) + (1728000000000000 * A + 4800001 * (r .rate * L))
+    left-side = go A (whole .p) (rowMinus r) (4800001 * (r .rate * L)) (2 * (864000000000000 + r .rate)) ((2 * r .start + 4800001) * r .rate * L) start
       where
         go : (a p m t s e : ℕ) → e ≡ 2 * m + t → 1728000000000000 * (a + p) + s * 0 + e ≡ 2 * (864000000000000 * p + m) + (1728000000000000 * a + t)
         go a p m t s e h = omega arith
@@ -180,7 +180,7 @@ module _ (n : ℕ) {d : JulianDate} (k : DriftDate n d) where
         n' = whole .n;
         from = record { p = A; n = 0; q = at .f; m = 0; first = first; second = at .second; total = omega arith };
         to = record { p = A; n = 0; q = whole .p; m = whole .n; first = first; second = t-val; total = omega arith };
-        over = by-hundred _ _ _ _ _ (sides-high (whole .p) (whole .n) (at .f) (r .rate * at .f) (r .units * (1000 * L)) ((n - 2400001) * L * r .rate) (minus r) (whole .over)) left-side right-side;
-        under = by-hundred _ _ _ _ _ (sides-low (whole .p) (whole .n) (at .f) (r .rate * at .f) (r .units * (1000 * L)) ((n - 2400001) * L * r .rate) (minus r) (whole .under)) right-side left-side;
+        over = by-hundred _ _ _ _ _ (sides-high (whole .p) (whole .n) (at .f) (r .rate * at .f) (r .units * (1000 * L)) ((n - 2400001) * L * r .rate) (rowMinus r) (whole .over)) left-side right-side;
+        under = by-hundred _ _ _ _ _ (sides-low (whole .p) (whole .n) (at .f) (r .rate * at .f) (r .units * (1000 * L)) ((n - 2400001) * L * r .rate) (rowMinus r) (whole .under)) right-side left-side;
       };
     }

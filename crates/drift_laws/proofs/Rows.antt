@@ -62,11 +62,11 @@ row-bounds n l h = go (year-of n l h)
         subst (λ (z : ℤ). Bounds (rowAt (reached (starts fixed) (monthNumber z (dateOf (pos n) .month))))) (sym p) (bounds (rowAt (reached (starts fixed) N)) (row-tested (reached (starts fixed) N - 1) (omega (arith, o, w))))
 
 -- ---- TAI-UTC at 0h of MJD j, times L: the difference of these two, in 10^-10 s
-abbrev pub plus : Row → ℕ → ℕ
-plus r j = r .units * (1000 * L) + j * L * r .rate
+abbrev pub rowPlus : Row → ℕ → ℕ
+rowPlus r j = r .units * (1000 * L) + j * L * r .rate
 
-abbrev pub minus : Row → ℕ
-minus r = r .start * L * r .rate
+abbrev pub rowMinus : Row → ℕ
+rowMinus r = r .start * L * r .rate
 
 -- the drift of half a day
 abbrev pub halfDrift : Row → ℕ
@@ -79,7 +79,7 @@ scaled : (u s r j : ℕ) → (u * 1000 + j * r) * L ≡ u * (1000 * L) + j * L *
 scaled u s r j = add-mul (u * 1000) (j * r) L ∙ ap (λ (z : ℕ). z + j * r * L) (mul-assoc u 1000 L) ∙ ap (λ (z : ℕ). u * (1000 * L) + z) (mul-right-comm j r L)
 
 module _ (r : Row) (b : Bounds r) (j : ℕ) (l : 37300 ≤ j) (h : j ≤ 41317) where
-  pub size-high : plus r j ≤ minus r + 120000000000 * L
+  pub size-high : rowPlus r j ≤ rowMinus r + 120000000000 * L
   size-high =
       subst₂ (λ (x y : ℕ). x ≤ y) (scaled (r .units) 0 (r .rate) j) (add-mul (r .start * r .rate) 120000000000 L ∙ ap (λ (z : ℕ). z + 120000000000 * L) (mul-right-comm (r .start) (r .rate) L))
       (mul-le-mul-right L (go (j * r .rate) (41317 * r .rate) (mul-le-mul-right (r .rate) h) (b .high)))
@@ -87,7 +87,7 @@ module _ (r : Row) (b : Bounds r) (j : ℕ) (l : 37300 ≤ j) (h : j ≤ 41317) 
       go : (x y : ℕ) → x ≤ y → r .units * 1000 + y ≤ r .start * r .rate + 120000000000 → r .units * 1000 + x ≤ r .start * r .rate + 120000000000
       go x y k g = omega arith
 
-  pub size-low : minus r ≤ plus r j + 120000000000 * L
+  pub size-low : rowMinus r ≤ rowPlus r j + 120000000000 * L
   size-low =
       subst₂ (λ (x y : ℕ). x ≤ y) (mul-right-comm (r .start) (r .rate) L) (add-mul (r .units * 1000 + j * r .rate) 120000000000 L ∙ ap (λ (z : ℕ). z + 120000000000 * L) (scaled (r .units) 0 (r .rate) j))
       (mul-le-mul-right L (go (j * r .rate) (37300 * r .rate) (mul-le-mul-right (r .rate) l) (b .low)))
@@ -102,40 +102,40 @@ near-of p n U J S q m e k h = omega arith
 near-under : (p n U J S q m e : ℕ) → q ≡ m + e → 10 ^ 12 * (n * 10 ^ 10 + (U + (J + q))) ≤ 10 ^ 12 * (p * 10 ^ 10 + (m + S)) + 10 ^ 10 * L → 1000000000000000 * n + 100000 * (U + J + e) ≤ 1000000000000000 * p + 100000 * S + 1000 * L
 near-under p n U J S q m e k h = omega arith
 
-seconds-of : {r : Row} {j : ℕ} {f x : Float} (e : ℕ) → Val f e 0 L → NearFormula r j f x → Sec x (plus r j + e * r .rate) (minus r) 1000
+seconds-of : {r : Row} {j : ℕ} {f x : Float} (e : ℕ) → Val f e 0 L → NearFormula r j f x → Sec x (rowPlus r j + e * r .rate) (rowMinus r) 1000
 seconds-of {r} {j} {f} {x} e v k =
     let q : k .q * r .rate ≡ k .m * r .rate + e * r .rate = ap (λ (z : ℕ). z * r .rate) (plain (k .q) (k .m) (val-unique (k .fraction) v)) ∙ add-mul (k .m) e (r .rate) in
     record {
       p = k .p;
       n = k .n;
       val = k .offset;
-      over = near-of (k .p) (k .n) (r .units * (1000 * L)) (j * L * r .rate) (minus r) (k .q * r .rate) (k .m * r .rate) (e * r .rate) q
+      over = near-of (k .p) (k .n) (r .units * (1000 * L)) (j * L * r .rate) (rowMinus r) (k .q * r .rate) (k .m * r .rate) (e * r .rate) q
           (subst₂ (λ (a b : ℕ). 10 ^ 12 * (k .p * 10 ^ 10 + a) ≤ 10 ^ 12 * (k .n * 10 ^ 10 + (r .units * (1000 * L) + b)) + 10 ^ 10 * L) (add-mul (k .m) (r .start * L) (r .rate)) (add-mul (j * L) (k .q) (r .rate)) (k .over));
-      under = near-under (k .p) (k .n) (r .units * (1000 * L)) (j * L * r .rate) (minus r) (k .q * r .rate) (k .m * r .rate) (e * r .rate) q
+      under = near-under (k .p) (k .n) (r .units * (1000 * L)) (j * L * r .rate) (rowMinus r) (k .q * r .rate) (k .m * r .rate) (e * r .rate) q
           (subst₂ (λ (a b : ℕ). 10 ^ 12 * (k .n * 10 ^ 10 + (r .units * (1000 * L) + b)) ≤ 10 ^ 12 * (k .p * 10 ^ 10 + a) + 10 ^ 10 * L) (add-mul (k .m) (r .start * L) (r .rate)) (add-mul (j * L) (k .q) (r .rate)) (k .under));
     }
   where
     plain : (q m : ℕ) → q + 0 ≡ e + m → q ≡ m + e
     plain q m h = omega arith
 
-pub at-midnight : {r : Row} {j : ℕ} {x : Float} → NearFormula r j nought x → Sec x (plus r j) (minus r) 1000
-at-midnight {r} {j} {x} k = subst (λ (z : ℕ). Sec x z (minus r) 1000) (ap (λ (z : ℕ). plus r j + z) (zero-mul (r .rate)) ∙ plain (plus r j)) (seconds-of 0 nought-L k)
+pub at-midnight : {r : Row} {j : ℕ} {x : Float} → NearFormula r j nought x → Sec x (rowPlus r j) (rowMinus r) 1000
+at-midnight {r} {j} {x} k = subst (λ (z : ℕ). Sec x z (rowMinus r) 1000) (ap (λ (z : ℕ). rowPlus r j + z) (zero-mul (r .rate)) ∙ plain (rowPlus r j)) (seconds-of 0 nought-L k)
   where
     plain : (z : ℕ) → z + 0 ≡ z
     plain z = omega arith
 
-pub at-noon : {r : Row} {j : ℕ} {x : Float} → NearFormula r j half x → Sec x (plus r j + halfDrift r) (minus r) 1000
+pub at-noon : {r : Row} {j : ℕ} {x : Float} → NearFormula r j half x → Sec x (rowPlus r j + halfDrift r) (rowMinus r) 1000
 at-noon k = seconds-of H half-L k
 
 -- ---- a day without a step
-pub no-step : (n : ℕ) → 2437301 ≤ n → NoStep n → plus (rowOn (suc n)) (suc n - 2400001) + minus (rowOn n) ≡ plus (rowOn n) (n - 2400001) + 2 * halfDrift (rowOn n) + minus (rowOn (suc n))
+pub no-step : (n : ℕ) → 2437301 ≤ n → NoStep n → rowPlus (rowOn (suc n)) (suc n - 2400001) + rowMinus (rowOn n) ≡ rowPlus (rowOn n) (n - 2400001) + 2 * halfDrift (rowOn n) + rowMinus (rowOn (suc n))
 no-step n l k =
     let r = rowOn n in
     let r' = rowOn (suc n) in
     let i = n - 2400000 in
     let e = sym (value r' r i) ∙ ap (λ (z : ℕ). z * L) (k .same) ∙ value r r' i in
-    subst (λ (z : ℕ). plus r' z + minus r ≡ plus r (n - 2400001) + 2 * halfDrift r + minus r') (next n l)
-    (go (plus r' i + minus r) (r .units * (1000 * L)) (i * L * r .rate) ((n - 2400001) * L * r .rate) (minus r') (2 * halfDrift r) (r .rate * L) e (later r (n - 2400001) i (before n l)) (whole-drift r))
+    subst (λ (z : ℕ). rowPlus r' z + rowMinus r ≡ rowPlus r (n - 2400001) + 2 * halfDrift r + rowMinus r') (next n l)
+    (go (rowPlus r' i + rowMinus r) (r .units * (1000 * L)) (i * L * r .rate) ((n - 2400001) * L * r .rate) (rowMinus r') (2 * halfDrift r) (r .rate * L) e (later r (n - 2400001) i (before n l)) (whole-drift r))
   where
     next : (n : ℕ) → 2437301 ≤ n → n - 2400000 ≡ suc n - 2400001
     next n l = omega arith
@@ -143,8 +143,8 @@ no-step n l k =
     before : (n : ℕ) → 2437301 ≤ n → n - 2400000 ≡ n - 2400001 + 1
     before n l = omega arith
 
-    value : (r s : Row) (i : ℕ) → (r .units * 1000 + i * r .rate + s .start * s .rate) * L ≡ plus r i + minus s
-    value r s i = add-mul (r .units * 1000 + i * r .rate) (s .start * s .rate) L ∙ ap (λ (z : ℕ). z + s .start * s .rate * L) (scaled (r .units) 0 (r .rate) i) ∙ ap (λ (z : ℕ). plus r i + z) (mul-right-comm (s .start) (s .rate) L)
+    value : (r s : Row) (i : ℕ) → (r .units * 1000 + i * r .rate + s .start * s .rate) * L ≡ rowPlus r i + rowMinus s
+    value r s i = add-mul (r .units * 1000 + i * r .rate) (s .start * s .rate) L ∙ ap (λ (z : ℕ). z + s .start * s .rate * L) (scaled (r .units) 0 (r .rate) i) ∙ ap (λ (z : ℕ). rowPlus r i + z) (mul-right-comm (s .start) (s .rate) L)
 
     later : (r : Row) (j i : ℕ) → i ≡ j + 1 → i * L * r .rate ≡ j * L * r .rate + r .rate * L
     later r j i e = ap (λ (z : ℕ). z * L * r .rate) e ∙ ap (λ (z : ℕ). z * r .rate) (add-mul j 1 L ∙ ap (λ (z : ℕ). j * L + z) (one-mul L)) ∙ add-mul (j * L) L (r .rate) ∙ ap (λ (z : ℕ). j * L * r .rate + z) (mul-comm L (r .rate))

@@ -13,7 +13,7 @@ use Rattle.rounding.proofs.Casts.{plusZ, minusZ}
 use Rattle.rounding.proofs.Scaled.{Scaled, mul-near}
 use Rattle.time_of_day.specs.TimeShown.{fromZero}
 use Rattle.time_of_day.proofs.Rounded.{Whole, away-nearest, rounded}
-use Rattle.gps_weeks.specs.WeekOf.{productOf, millisOf}
+use Rattle.gps_weeks.specs.WeekOf.{productOf, dayMillis}
 use Rattle.gps_weeks.proofs.Parts.{day-millis-val}
 
 -- half a place of a product below 2 ^ 27, in units: L is 2 ^ 26 of them
@@ -97,6 +97,6 @@ module _ (f : Float) (F : ℕ) (v : Val f F 0 L) (below : F < L) where
       no : (a : ℕ) → 1 * L ≤ a → 2 * (a + product .p) ≤ 2 * (0 * L + product .n) + L → ⊥
       no a g o = omega (arith, L-h, h-pos, p-under)
 
-  pub millis-near : CountNear F (millisOf f)
-  unfolding millisOf
+  pub millis-near : CountNear F (dayMillis f)
+  unfolding dayMillis
   millis-near = count-pos (toSigned 63 (toWhole away (productOf f))) whole

@@ -2,5 +2,6 @@
 pub mod Count
 pub mod NearDates
 pub mod RoundTrip
+pub mod CalendarDates
 pub mod Refusals
 pub mod Cases

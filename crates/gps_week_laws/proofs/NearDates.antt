@@ -25,7 +25,7 @@ use Rattle.julian.specs.Finite.{finiteParts, finiteJd}
 use Rattle.julian.specs.Worth.{Worth, SmallParts}
 use Rattle.time_of_day.proofs.Fractions.{one-val}
 use Rattle.gps_weeks.specs.declared.WeekTime.{WeekTime}
-use Rattle.gps_weeks.specs.WeekOf.{weekTime, millisOf, weekAt, weekOfDay, weekOf}
+use Rattle.gps_weeks.specs.WeekOf.{weekTime, dayMillis, weekAt, weekOfDay, weekOf}
 use Rattle.gps_week_laws.specs.NearDate.{millisSince, NearWeek}
 use Rattle.gps_week_laws.proofs.Count.{CountNear, millis-near}
 
@@ -60,7 +60,7 @@ pub record Day (d : JulianDate) (t : WeekTime) : Type 0 where
   pub given : dayNumberAndFraction (d .jd1) (d .jd2) ≡ answer number
   pub n : ℕ
   pub is : number .day ≡ pos n
-  pub count : Counted (n * 86400000 + millisOf (number .fraction)) t
+  pub count : Counted (n * 86400000 + dayMillis (number .fraction)) t
 
 in-day : (z : ℤ) (ms : ℕ) (t : WeekTime) → weekOfDay z ms ≡ answer t → (n : ℕ) × (z ≡ pos n) × Counted (n * 86400000 + ms) t
 unfolding weekOfDay
@@ -72,14 +72,14 @@ unfolding weekOf finiteJd onward
 day-of d t e = go (finiteParts d) (dayNumberAndFraction (d .jd1) (d .jd2)) refl e
   where
     days : Outcome DayNumber → Outcome WeekTime
-    days o = onward o (λ n. weekOfDay (n .day) (millisOf (n .fraction)))
+    days o = onward o (λ n. weekOfDay (n .day) (dayMillis (n .fraction)))
 
-    go : (b : Bool) (o : Outcome DayNumber) → dayNumberAndFraction (d .jd1) (d .jd2) ≡ o → onward (cond b (answer d) (refusal 9)) (λ e. onward (dayNumberAndFraction (e .jd1) (e .jd2)) (λ n. weekOfDay (n .day) (millisOf (n .fraction)))) ≡ answer t → Day d t
+    go : (b : Bool) (o : Outcome DayNumber) → dayNumberAndFraction (d .jd1) (d .jd2) ≡ o → onward (cond b (answer d) (refusal 9)) (λ e. onward (dayNumberAndFraction (e .jd1) (e .jd2)) (λ n. weekOfDay (n .day) (dayMillis (n .fraction)))) ≡ answer t → Day d t
     go false o f h = let z : _≡_ {A = ℕ} 0 1 = cc in absurd (omega arith)
     go true (refusal n) f h = let k : refusal n ≡ answer t = sym (ap days f) ∙ h in let z : _≡_ {A = ℕ} 0 1 = cc in absurd (omega arith)
     go true (answer n) f h =
-        let k : weekOfDay (n .day) (millisOf (n .fraction)) ≡ answer t = sym (ap days f) ∙ h in
-        let x = in-day (n .day) (millisOf (n .fraction)) t k in
+        let k : weekOfDay (n .day) (dayMillis (n .fraction)) ≡ answer t = sym (ap days f) ∙ h in
+        let x = in-day (n .day) (dayMillis (n .fraction)) t k in
         record { number = n; given = f; n = x .0; is = x .1; count = x .2 }
 
 -- ---- a date's day and milliseconds against its exact sum
@@ -130,14 +130,18 @@ module _ (d : JulianDate) (P N : ℕ) (s : SmallParts d) (w : Worth d P N L) (nu
       let h : near .units + 0 < L + 0 = lt-says L-pos (near .val) (one-val L) (r .high) in
       omega arith
 
-  pub sum-near : (n : ℕ) → number .day ≡ pos n → Near P N n (millisOf (number .fraction))
+  -- its milliseconds are at most a whole day's
+  pub in-a-day : dayMillis (number .fraction) ≤ 86400000
+  in-a-day = millis-near (number .fraction) (near .units) (near .val) below-one .most
+
+  pub sum-near : (n : ℕ) → number .day ≡ pos n → Near P N n (dayMillis (number .fraction))
   sum-near n e =
       let c = millis-near (number .fraction) (near .units) (near .val) below-one in
       let o = subst (λ (z : ℤ). 2 ^ 51 * (plusZ z * L + near .units + minusZ (i +ℤ j)) ≤ 2 ^ 51 * (plusZ (i +ℤ j) + minusZ z * L) + 2 ^ 50 * L + L) e (near .over) in
       let v = subst (λ (z : ℤ). 2 ^ 51 * (plusZ (i +ℤ j) + minusZ z * L) + 2 ^ 50 * L ≤ 2 ^ 51 * (plusZ z * L + near .units + minusZ (i +ℤ j)) + L) e (near .under) in
       record {
-        over = above P N (plusZ (i +ℤ j)) (minusZ (i +ℤ j)) (near .units) (n * L) (millisOf (number .fraction) * L) L is-sum (day-over (n * L) (near .units) _ _ L (plain _ _ _ _ o)) (count-over (millisOf (number .fraction) * L) (86400000 * near .units) L (c .over));
-        under = under P N (plusZ (i +ℤ j)) (minusZ (i +ℤ j)) (near .units) (n * L) (millisOf (number .fraction) * L) L is-sum (day-under (n * L) (near .units) _ _ L (plain' _ _ _ _ v)) (count-under (millisOf (number .fraction) * L) (86400000 * near .units) L (c .under));
+        over = above P N (plusZ (i +ℤ j)) (minusZ (i +ℤ j)) (near .units) (n * L) (dayMillis (number .fraction) * L) L is-sum (day-over (n * L) (near .units) _ _ L (plain _ _ _ _ o)) (count-over (dayMillis (number .fraction) * L) (86400000 * near .units) L (c .over));
+        under = under P N (plusZ (i +ℤ j)) (minusZ (i +ℤ j)) (near .units) (n * L) (dayMillis (number .fraction) * L) L is-sum (day-under (n * L) (near .units) _ _ L (plain' _ _ _ _ v)) (count-under (dayMillis (number .fraction) * L) (86400000 * near .units) L (c .under));
       }
     where
       plain : (a S l r : ℕ) → 2 ^ 51 * a ≤ 2 ^ 51 * (S + 0 * L) + l + r → 2 ^ 51 * a ≤ 2 ^ 51 * S + l + r
@@ -163,7 +167,7 @@ module _ (d : JulianDate) (P N : ℕ) (s : SmallParts d) (w : Worth d P N L) (nu
 pub week-near : (d : JulianDate) (P N : ℕ) → SmallParts d → Worth d P N L → (t : WeekTime) → weekOf d ≡ answer t → NearWeek P N t
 week-near d P N s w t e =
     let g = day-of d t e in
-    let m = millisOf (g .number .fraction) in
+    let m = dayMillis (g .number .fraction) in
     let k = sum-near d P N s w (g .number) (g .given) (g .n) (g .is) in
     let c : (millisSince t + 211182724800000) * L + 43200000 * L ≡ 86400000 * (g .n * L) + m * L = times (millisSince t) (g .n) m (g .count .is) in
     record { over = omega (arith, c, k .over); under = omega (arith, c, k .under) }

@@ -16,21 +16,21 @@ use Rattle.julian.specs.declared.JulianDate.{JulianDate}
 use Rattle.julian.specs.JulianDate.{julian}
 use Rattle.julian.specs.Finite.{finiteParts, finiteJd}
 use Rattle.gps_weeks.specs.declared.WeekTime.{WeekTime}
-use Rattle.gps_weeks.specs.WeekDate.{midnight, partOfDay, dayIn, weekDate}
-use Rattle.gps_weeks.specs.WeekOf.{weekTime, millisOf, weekAt, weekOfDay, weekOf}
+use Rattle.gps_weeks.specs.WeekDate.{weekMidnight, partOfDay, dayIn, weekDate}
+use Rattle.gps_weeks.specs.WeekOf.{weekTime, dayMillis, weekAt, weekOfDay, weekOf}
 
 -- ---- a week's date
 
 -- answered exactly where both fields are within their limits, and else 18
 pub data FromWeek (week ms : ℕ) : Outcome JulianDate → Type 0 where
-  dated : week ≤ 100000 → ms < 604800000 → FromWeek week ms (answer (julian (midnight (dayIn week ms)) (partOfDay (ms % 86400000))))
+  dated : week ≤ 100000 → ms < 604800000 → FromWeek week ms (answer (julian (weekMidnight (dayIn week ms)) (partOfDay (ms % 86400000))))
   over : (100000 < week) ⊎ (604800000 ≤ ms) → FromWeek week ms (refusal 18)
 
 pub from-week-decided : (week ms : ℕ) → FromWeek week ms (weekDate week ms)
 unfolding weekDate
 from-week-decided week ms = go (leb week 100000) (ltb ms 604800000) refl refl
   where
-    go : (x y : Bool) → leb week 100000 ≡ x → ltb ms 604800000 ≡ y → FromWeek week ms (cond (x && y) (answer (julian (midnight (dayIn week ms)) (partOfDay (ms % 86400000)))) (refusal 18))
+    go : (x y : Bool) → leb week 100000 ≡ x → ltb ms 604800000 ≡ y → FromWeek week ms (cond (x && y) (answer (julian (weekMidnight (dayIn week ms)) (partOfDay (ms % 86400000)))) (refusal 18))
     go true true f g = dated (leb-true week 100000 f) (ltb-true ms 604800000 g)
     go true false f g = over (inr (ltb-false ms 604800000 g))
     go false y f g = over (inl (leb-false week 100000 f))
@@ -64,7 +64,7 @@ pub data ToWeek (d : JulianDate) : Outcome WeekTime → Type 0 where
   no-day : finiteParts d ≡ true → accepted (d .jd1) (d .jd2) ≡ false → ToWeek d (refusal 6)
   before-day-0 : (n : ℕ) → finiteParts d ≡ true → accepted (d .jd1) (d .jd2) ≡ true → dayOf (d .jd1) (d .jd2) .day ≡ negsuc n → ToWeek d (refusal 18)
   counted : (n : ℕ) (o : Outcome WeekTime) → finiteParts d ≡ true → accepted (d .jd1) (d .jd2) ≡ true → dayOf (d .jd1) (d .jd2) .day ≡ pos n
-      → AtCount (n * 86400000 + millisOf (dayOf (d .jd1) (d .jd2) .fraction)) o → ToWeek d o
+      → AtCount (n * 86400000 + dayMillis (dayOf (d .jd1) (d .jd2) .fraction)) o → ToWeek d o
 
 pub to-week-decided : (d : JulianDate) → ToWeek d (weekOf d)
 unfolding weekOf finiteJd onward weekOfDay
@@ -73,12 +73,12 @@ to-week-decided d = go (finiteParts d) (accepted (d .jd1) (d .jd2)) refl refl
     number : DayNumber
     number = dayOf (d .jd1) (d .jd2)
 
-    on-day : (z : ℤ) → number .day ≡ z → finiteParts d ≡ true → accepted (d .jd1) (d .jd2) ≡ true → ToWeek d (weekOfDay z (millisOf (number .fraction)))
-    on-day (pos n) e f a = counted n (weekAt (n * 86400000 + millisOf (number .fraction))) f a e (count-decided (n * 86400000 + millisOf (number .fraction)))
+    on-day : (z : ℤ) → number .day ≡ z → finiteParts d ≡ true → accepted (d .jd1) (d .jd2) ≡ true → ToWeek d (weekOfDay z (dayMillis (number .fraction)))
+    on-day (pos n) e f a = counted n (weekAt (n * 86400000 + dayMillis (number .fraction))) f a e (count-decided (n * 86400000 + dayMillis (number .fraction)))
     on-day (negsuc n) e f a = before-day-0 n f a e
 
     go : (x y : Bool) → finiteParts d ≡ x → accepted (d .jd1) (d .jd2) ≡ y
-        → ToWeek d (onward (cond x (answer d) (refusal 9)) (λ e. onward (dayNumberAndFraction (e .jd1) (e .jd2)) (λ n. weekOfDay (n .day) (millisOf (n .fraction)))))
+        → ToWeek d (onward (cond x (answer d) (refusal 9)) (λ e. onward (dayNumberAndFraction (e .jd1) (e .jd2)) (λ n. weekOfDay (n .day) (dayMillis (n .fraction)))))
     go false y f a = not-finite f
     go true false f a = rw (refused (d .jd1) (d .jd2) a) (no-day f a)
     go true true f a = rw (answered (d .jd1) (d .jd2) a) (on-day (number .day) refl f a)

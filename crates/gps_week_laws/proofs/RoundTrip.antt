@@ -28,8 +28,8 @@ use Rattle.julian.specs.JulianDate.{julian}
 use Rattle.julian.specs.Finite.{finiteParts, finiteJd}
 use Rattle.julian.specs.Worth.{Worth, SmallParts}
 use Rattle.gps_weeks.specs.declared.WeekTime.{WeekTime}
-use Rattle.gps_weeks.specs.WeekDate.{midnight, partOfDay, dayIn, weekDate}
-use Rattle.gps_weeks.specs.WeekOf.{weekTime, millisOf, weekAt, weekOfDay, weekOf}
+use Rattle.gps_weeks.specs.WeekDate.{weekMidnight, partOfDay, dayIn, weekDate}
+use Rattle.gps_weeks.specs.WeekOf.{weekTime, dayMillis, weekAt, weekOfDay, weekOf}
 use Rattle.gps_weeks.proofs.Parts.{midnight-val}
 use Rattle.gps_week_laws.proofs.NearDates as N
 
@@ -89,7 +89,7 @@ module _ (r : ℕ) (short : r < 86400000) where
 -- ---- both, for the day n
 module _ (n r : ℕ) (early : 2444245 ≤ n) (late : n ≤ 3144252) (short : r < 86400000) where
   abbrev d : JulianDate
-  d = julian (midnight n) (partOfDay r)
+  d = julian (weekMidnight n) (partOfDay r)
 
   q : ℕ
   q = part r short .p
@@ -100,8 +100,8 @@ module _ (n r : ℕ) (early : 2444245 ≤ n) (late : n ≤ 3144252) (short : r <
   X : n * L ≡ 2 * n * H
   X = ap (λ (x : ℕ). n * x) H-L ∙ mul-left-comm n 2 H ∙ sym (mul-assoc 2 n H)
 
-  first : Val (midnight n) (n * L) H L
-  first = subst (λ (x : ℕ). Val (midnight n) (n * L) H x) (sym H-L) (val-move (val-scale H (midnight-val n (omega arith) (omega arith))) (omega (arith, X)))
+  first : Val (weekMidnight n) (n * L) H L
+  first = subst (λ (x : ℕ). Val (weekMidnight n) (n * L) H x) (sym H-L) (val-move (val-scale H (midnight-val n (omega arith) (omega arith))) (omega (arith, X)))
 
   second : Val (partOfDay r) q m L
   unfolding q m
@@ -122,7 +122,7 @@ module _ (n r : ℕ) (early : 2444245 ≤ n) (late : n ≤ 3144252) (short : r <
   q-low = part-low r short
 
   small : SmallParts d
-  unfolding midnight partOfDay
+  unfolding weekMidnight partOfDay
   small = record {
     first = under52 (round-fits binary64 false (2 * n - 1) 2) first (omega (arith, high, H-L)) (omega (arith, low, H-L));
     second = under52 (round-fits binary64 false r 86400000) second (omega (arith, q-high, g-le)) (omega (arith, q-low, g-le));
@@ -131,17 +131,17 @@ module _ (n r : ℕ) (early : 2444245 ≤ n) (late : n ≤ 3144252) (short : r <
   worth : Worth d (n * L + q) (H + m) L
   worth = record { p = n * L; n = H; q = q; m = m; first = first; second = second; total = refl }
 
-  number : DayNumber
-  number = dayOf (midnight n) (partOfDay r)
+  pub number : DayNumber
+  number = dayOf (weekMidnight n) (partOfDay r)
 
-  given : dayNumberAndFraction (midnight n) (partOfDay r) ≡ answer number
+  pub given : dayNumberAndFraction (weekMidnight n) (partOfDay r) ≡ answer number
   unfolding number
-  given = answered (midnight n) (partOfDay r) (accepts (midnight n) (partOfDay r) (n * L) H q m first second (omega (arith, high, q-high, E-L, g-le)) (omega (arith, low, q-low, H-L, E-L, g-le)))
+  given = answered (weekMidnight n) (partOfDay r) (accepts (weekMidnight n) (partOfDay r) (n * L) H q m first second (omega (arith, high, q-high, E-L, g-le)) (omega (arith, low, q-low, H-L, E-L, g-le)))
 
-  day : (k : ℕ) × (number .day ≡ pos k)
+  pub day : (k : ℕ) × (number .day ≡ pos k)
   day = N.from-day-0 d (n * L + q) (H + m) small worth number given (omega (arith, low, q-low, H-L, g-le)) (number .day) refl
 
-  near : N.Near (n * L + q) (H + m) (day .0) (millisOf (number .fraction))
+  near : N.Near (n * L + q) (H + m) (day .0) (dayMillis (number .fraction))
   near = N.sum-near d (n * L + q) (H + m) small worth number given (day .0) (day .1)
 
   spread : (k x : ℕ) → (86400000 * k + x) * L ≡ 86400000 * (k * L) + x * L
@@ -156,10 +156,10 @@ module _ (n r : ℕ) (early : 2444245 ≤ n) (late : n ≤ 3144252) (short : r <
   q-under = omega (arith, p-under r short, g-small)
 
   -- the count is that of the day and its milliseconds
-  count : 86400000 * day .0 + millisOf (number .fraction) ≡ 86400000 * n + r
-  count = both (86400000 * day .0 + millisOf (number .fraction)) (86400000 * n + r)
-      (lt-of-mul-lt-mul-right L (above (day .0 * L) (millisOf (number .fraction) * L) _ _ (spread (day .0) (millisOf (number .fraction))) (wider n r) (near .over)))
-      (lt-of-mul-lt-mul-right L (under (day .0 * L) (millisOf (number .fraction) * L) _ _ (wider (day .0) (millisOf (number .fraction))) (spread n r) (near .under)))
+  pub count : 86400000 * day .0 + dayMillis (number .fraction) ≡ 86400000 * n + r
+  count = both (86400000 * day .0 + dayMillis (number .fraction)) (86400000 * n + r)
+      (lt-of-mul-lt-mul-right L (above (day .0 * L) (dayMillis (number .fraction) * L) _ _ (spread (day .0) (dayMillis (number .fraction))) (wider n r) (near .over)))
+      (lt-of-mul-lt-mul-right L (under (day .0 * L) (dayMillis (number .fraction) * L) _ _ (wider (day .0) (dayMillis (number .fraction))) (spread n r) (near .under)))
     where
       wider : (k x : ℕ) → (86400000 * k + x + 1) * L ≡ 86400000 * (k * L) + x * L + L
       wider k x = add-mul (86400000 * k + x) 1 L ∙ ap (λ (y : ℕ). y + 1 * L) (spread k x) ∙ ap (λ (y : ℕ). 86400000 * (k * L) + x * L + y) (one-mul L)
@@ -173,12 +173,15 @@ module _ (n r : ℕ) (early : 2444245 ≤ n) (late : n ≤ 3144252) (short : r <
       both : (a b : ℕ) → a < b + 1 → b < a + 1 → a ≡ b
       both a b h k = omega arith
 
+  pub within-a-day : dayMillis (number .fraction) ≤ 86400000
+  within-a-day = N.in-a-day d (n * L + q) (H + m) small worth number given
+
   -- the day and the milliseconds are answered, and their week is that of the count
   round-trip-of : weekOf d ≡ weekAt (86400000 * n + r)
   unfolding weekOf finiteJd onward weekOfDay
   round-trip-of =
       rw (val-finite-true first, val-finite-true second, given, day .1)
-      (ap weekAt (ap (λ (y : ℕ). y + millisOf (number .fraction)) (mul-comm (day .0) 86400000) ∙ count))
+      (ap weekAt (ap (λ (y : ℕ). y + dayMillis (number .fraction)) (mul-comm (day .0) 86400000) ∙ count))
 
 -- ---- the theorem
 
@@ -192,16 +195,16 @@ week-of-count week ms h k = go (86400000 * (2444245 + 7 * week + ms / 86400000) 
         let j : (c - 211182768000000) % 604800000 ≡ ms = omega arith in
         rw (le-ltb c 211182768000000 (omega arith), i, j, le-leb week 100000 h)
 
-record InWeeks (week ms : ℕ) (d : JulianDate) : Type 0 where
-  week-most : week ≤ 100000
-  below : ms < 604800000
-  is : d ≡ julian (midnight (dayIn week ms)) (partOfDay (ms % 86400000))
+pub record InWeeks (week ms : ℕ) (d : JulianDate) : Type 0 where
+  pub week-most : week ≤ 100000
+  pub below : ms < 604800000
+  pub is : d ≡ julian (weekMidnight (dayIn week ms)) (partOfDay (ms % 86400000))
 
-in-weeks : (week ms : ℕ) (d : JulianDate) → weekDate week ms ≡ answer d → InWeeks week ms d
+pub in-weeks : (week ms : ℕ) (d : JulianDate) → weekDate week ms ≡ answer d → InWeeks week ms d
 unfolding weekDate
 in-weeks week ms d e = go (leb week 100000) (ltb ms 604800000) refl refl e
   where
-    go : (x y : Bool) → leb week 100000 ≡ x → ltb ms 604800000 ≡ y → cond (x && y) (answer (julian (midnight (dayIn week ms)) (partOfDay (ms % 86400000)))) (refusal 18) ≡ answer d → InWeeks week ms d
+    go : (x y : Bool) → leb week 100000 ≡ x → ltb ms 604800000 ≡ y → cond (x && y) (answer (julian (weekMidnight (dayIn week ms)) (partOfDay (ms % 86400000)))) (refusal 18) ≡ answer d → InWeeks week ms d
     go true true f g h = record { week-most = leb-true week 100000 f; below = ltb-true ms 604800000 g; is = sym (cc) }
     go true false f g h = let z : _≡_ {A = ℕ} 0 1 = cc in absurd (omega arith)
     go false y f g h = let z : _≡_ {A = ℕ} 0 1 = cc in absurd (omega arith)

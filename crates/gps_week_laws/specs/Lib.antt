@@ -1,2 +1,3 @@
 -- What the laws of GPS weeks speak of.
 pub mod NearDate
+pub mod OnCalendar

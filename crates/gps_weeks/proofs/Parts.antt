@@ -5,9 +5,11 @@ use native.Mathlib.Nat.{mul-one, div-lt-iff-lt-mul}
 use native.Mathlib.Omega.{arith}
 use mathlib.Core.Bool.{Bool, true, false, true≢false}
 use lib.Dec.{lit≤, lit<}
-use lib.IntN.{pos, negℤ}
+use lib.IntN.{ℤ, pos, negsuc, negℤ}
 use lib.Ieee.{Float, nan, inf, fin, binary64, up, down, round, ofInt, ofBits, sub, div, mul, lt, toUnsigned, toSigned}
 use lib.Ieee.Fits.{down-pos}
+use mir.Syntax.{w64}
+use mir.Val.{SFits}
 use borrow.Author.Tests.{ltb-true}
 use Rattle.floats.specs.Whole.{half}
 use Rattle.constants.specs.Constants.{decimal}
@@ -16,7 +18,7 @@ use Rattle.rounding.proofs.Value.{val-move, val-scale, sub-rounds, div-rounds, 
 use Rattle.rounding.proofs.Casts.{ofInt-val}
 use Rattle.rounding.proofs.Exact.{rounds-exact}
 use Rattle.time_of_day.specs.TimeShown.{fromZero}
-use Rattle.gps_weeks.specs.WeekDate.{midnight, partOfDay}
+use Rattle.gps_weeks.specs.WeekDate.{weekMidnight, partOfDay}
 
 -- 86400000.0
 pub day-millis : ofBits binary64 0x4194_9970_0000_0000 ≡ decimal 86400000 0
@@ -38,13 +40,13 @@ positive {z} {p} {n} {d} a r e h = go (r .sign) (r .size) (r .is) (r .eq)
 half-val : Val half 1 0 2
 half-val = record { sign = false; size = 1; has = (refl, refl); is = refl }
 
-pub midnight-is : (n : ℕ) → 0 < n → n ≤ 2 ^ 53 → sub binary64 (ofInt binary64 (pos n)) half ≡ midnight n
-unfolding midnight
+pub midnight-is : (n : ℕ) → 0 < n → n ≤ 2 ^ 53 → sub binary64 (ofInt binary64 (pos n)) half ≡ weekMidnight n
+unfolding weekMidnight
 midnight-is n h k = positive (2 * n - 1) (sub-rounds binary64 (lit< tt) (val-scale 2 (ofInt-val (pos n) k (lit≤ tt))) half-val) (omega arith) (omega arith)
 
 -- document 02: jd1 "is its day's midnight": n - 1 / 2, exactly
-pub midnight-val : (n : ℕ) → 0 < n → n ≤ 2 ^ 51 → Val (midnight n) (2 * n) 1 2
-unfolding midnight
+pub midnight-val : (n : ℕ) → 0 < n → n ≤ 2 ^ 51 → Val (weekMidnight n) (2 * n) 1 2
+unfolding weekMidnight
 midnight-val n h k = rounds-exact 1 (lit≤ tt) (omega arith) (omega arith) (record { sign = false; size = 2 * n - 1; eq = refl; is = omega arith })
 
 pub part-is : (ms : ℕ) → ms ≤ 2 ^ 53 → div binary64 (ofInt binary64 (pos ms)) (decimal 86400000 0) ≡ partOfDay ms
@@ -52,7 +54,12 @@ unfolding partOfDay div round ofInt
 part-is zero h = refl
 part-is (suc n) h = positive (suc n) (div-rounds binary64 (lit< tt) (lit< tt) (lit< tt) (ofInt-val (pos (suc n)) h (lit≤ tt)) day-millis-val) (omega arith) (omega arith)
 
--- ---- a count from 1 to 2 ^ 52 by one cast
+-- ---- a count of 64 bits, and one from 1 to 2 ^ 52 by one cast
+pub from-zero-most : (z : ℤ) → SFits w64 z → fromZero z ≤ 9223372036854775807
+unfolding fromZero
+from-zero-most (pos n) f = omega (arith, f .sfits)
+from-zero-most (negsuc n) f = omega arith
+
 from-negative : (k : ℕ) → 0 ≡ fromZero (negℤ (pos k))
 unfolding fromZero
 from-negative zero = refl

@@ -13,8 +13,8 @@ abbrev pub firstDay : ℕ
 firstDay = 2444245
 
 -- the Julian date of the midnight that begins day n: n - 1 / 2, which is a float
-unfoldable pub midnight : ℕ → Float
-midnight n = round binary64 false (2 * n - 1) 2
+unfoldable pub weekMidnight : ℕ → Float
+weekMidnight n = round binary64 false (2 * n - 1) 2
 
 -- ms milliseconds in days, rounded once
 unfoldable pub partOfDay : ℕ → Float
@@ -29,4 +29,4 @@ abbrev pub dayIn : ℕ → ℕ → ℕ
 dayIn week ms = firstDay + 7 * week + ms / 86400000
 
 unfoldable pub weekDate : ℕ → ℕ → Outcome JulianDate
-weekDate week ms = cond (inWeeks week ms) (answer (julian (midnight (dayIn week ms)) (partOfDay (ms % 86400000)))) (refusal 18)
+weekDate week ms = cond (inWeeks week ms) (answer (julian (weekMidnight (dayIn week ms)) (partOfDay (ms % 86400000)))) (refusal 18)

@@ -31,8 +31,8 @@ unfoldable pub productOf : Float → Float
 productOf fraction = mul binary64 fraction (decimal 86400000 0)
 
 -- the exact value of that product to the nearest whole number; of a number from 0 up, a half that goes away from 0 goes up. It is never below 0 (`millis-near`)
-unfoldable pub millisOf : Float → ℕ
-millisOf fraction = fromZero (toSigned 63 (toWhole away (productOf fraction)))
+unfoldable pub dayMillis : Float → ℕ
+dayMillis fraction = fromZero (toSigned 63 (toWhole away (productOf fraction)))
 
 -- the week of so many milliseconds since midnight of day 0
 unfoldable pub weekAt : ℕ → Outcome WeekTime
@@ -48,4 +48,4 @@ weekOfDay (pos n) ms = weekAt (n * 86400000 + ms)
 weekOfDay (negsuc n) ms = refusal 18
 
 unfoldable pub weekOf : JulianDate → Outcome WeekTime
-weekOf d = onward (finiteJd d) (λ e. onward (dayNumberAndFraction (e .jd1) (e .jd2)) (λ n. weekOfDay (n .day) (millisOf (n .fraction))))
+weekOf d = onward (finiteJd d) (λ e. onward (dayNumberAndFraction (e .jd1) (e .jd2)) (λ n. weekOfDay (n .day) (dayMillis (n .fraction))))

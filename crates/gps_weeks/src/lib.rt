@@ -4,9 +4,8 @@ ghost use Prim.Native.Nat.{_≤_, _<_};
 ghost use Rattle.refusals.specs.Outcome.{onward};
 ghost use Rattle.day_number.specs.Answer.{dayNumberAndFraction};
 ghost use Rattle.scales.specs.Scales.{gpsOutcome};
-ghost use Rattle.time_of_day.specs.TimeShown.{fromZero};
-ghost use Rattle.gps_weeks.specs.WeekDate.{midnight, partOfDay, weekDate};
-ghost use Rattle.gps_weeks.specs.WeekOf.{weekOutcome, productOf, millisOf, weekAt, weekOfDay, weekOf};
+ghost use Rattle.gps_weeks.specs.WeekDate.{weekMidnight, partOfDay, weekDate};
+ghost use Rattle.gps_weeks.specs.WeekOf.{weekOutcome, productOf, dayMillis, weekAt, weekOfDay, weekOf};
 ghost use Rattle.gps_weeks.specs.FullWeek.{fullOutcome, byDistance, fullWeek};
 use julian::JulianAnswer;
 use julian::JulianDate;
@@ -56,7 +55,7 @@ const LAST_REFERENCE: u32 = 99_000;
 // The Julian date of the midnight that begins a day from 1 on.
 fn midnight_of(day: u32) -> f64
     requires { ⌜ 0 < day ⌝ }
-    ensures { λ r. ⌜ r ≡ midnight day ⌝ }
+    ensures { λ r. ⌜ r ≡ weekMidnight day ⌝ }
 {
     day as f64 - 0.5
 }
@@ -83,22 +82,15 @@ pub fn from_week(week: u32, millis: u32) -> GpsAnswer
     GpsAnswer::Date(GPS(JulianDate { jd1, jd2 }))
 }
 
-// What is below 0 is taken as 0, which makes the cast safe with no condition: no fraction of a day has a count below 0, and such a day is refused before.
-fn from_zero(count: i64) -> u64
-    ensures { λ r. ⌜ (r ≡ fromZero count) × (r ≤ 9223372036854775807) ⌝ }
-{
-    if count < 0 { 0 } else { count as u64 }
-}
-
 // The milliseconds of a fraction of a day, a half going up. Nearly every count is from 1 to 2^52, where one cast does.
 fn millis_of(fraction: f64) -> u64
-    ensures { λ r. ⌜ (r ≡ millisOf fraction) × (r ≤ 9223372036854775807) ⌝ }
+    ensures { λ r. ⌜ (r ≡ dayMillis fraction) × (r ≤ 9223372036854775807) ⌝ }
 {
     let rounded = floats::round(fraction * 86400000.0);
     if rounded >= 1.0 && rounded < TWO_52 {
         return std::num::truncating_f64_to_u64(rounded);
     }
-    from_zero(floats::saturating_i64(rounded))
+    time_of_day::from_zero(floats::saturating_i64(rounded))
 }
 
 // The week of so many milliseconds since midnight of day 0.
@@ -122,12 +114,12 @@ fn week_at(count: u64) -> WeekAnswer
 
 // The limits are judged by the rounded count, so that a day's last half millisecond is in the next.
 fn week_of_day(day: i64, fraction: f64) -> WeekAnswer
-    ensures { λ r. ⌜ weekOutcome r ≡ weekOfDay day (millisOf fraction) ⌝ }
+    ensures { λ r. ⌜ weekOutcome r ≡ weekOfDay day (dayMillis fraction) ⌝ }
 {
     if day < 0 {
         return WeekAnswer::Refused(refusals::GPS_FIELD_OVER_LIMIT);
     }
-    let days = from_zero(day);
+    let days = time_of_day::from_zero(day);
     if days >= PAST_ALL_WEEKS {
         return WeekAnswer::Refused(refusals::GPS_FIELD_OVER_LIMIT);
     }
@@ -135,7 +127,7 @@ fn week_of_day(day: i64, fraction: f64) -> WeekAnswer
 }
 
 fn week_of_parts(jd1: f64, jd2: f64) -> WeekAnswer
-    ensures { λ r. ⌜ weekOutcome r ≡ onward (dayNumberAndFraction jd1 jd2) (λ n. weekOfDay (n .day) (millisOf (n .fraction))) ⌝ }
+    ensures { λ r. ⌜ weekOutcome r ≡ onward (dayNumberAndFraction jd1 jd2) (λ n. weekOfDay (n .day) (dayMillis (n .fraction))) ⌝ }
 {
     match day_number::day_number_and_fraction(jd1, jd2) {
         day_number::DayAnswer::Refused(number) => WeekAnswer::Refused(number),

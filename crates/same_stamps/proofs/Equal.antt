@@ -12,7 +12,7 @@ use Rattle.julian.specs.Finite.{bothFinite, finiteParts}
 use Rattle.julian.specs.Equality.{twoSumError, exactSum, sums, samePair, equal}
 use Rattle.julian.specs.Worth.{SmallParts}
 use Rattle.same_stamps.specs.declared.Stamp.{Stamp}
-use Rattle.same_stamps.specs.Same.{same, dateOf}
+use Rattle.same_stamps.specs.Same.{same, julianOf}
 use Rattle.same_stamps.specs.TwoSum.{NoOverflow, AtMost1021}
 use Rattle.same_stamps.proofs.Same.{same-is, split}
 use Rattle.same_stamps.proofs.TwoSum.{no-overflow, no-overflow-under, at-most-finite, under-finite}
@@ -57,17 +57,17 @@ no-error d n = rw (n .sum, finite-no-nan (sums d .error) (n .error))
 
 -- ---- the same stamp and document 01's equality
 -- finite and the same, they are unequal exactly where the sum is finite and the error a NaN
-pub same-equal : (a b : Stamp) → same a b ≡ true → finiteParts (dateOf a) ≡ true → equal (dateOf a) (dateOf b) ≡ not (finite (sums (dateOf a) .sum) && isNan (sums (dateOf a) .error))
-same-equal a b e h = ap (λ (s : Stamp). equal (dateOf a) (dateOf s)) (sym (same-is a b e)) ∙ equal-itself (dateOf a) h
+pub same-equal : (a b : Stamp) → same a b ≡ true → finiteParts (julianOf a) ≡ true → equal (julianOf a) (julianOf b) ≡ not (finite (sums (julianOf a) .sum) && isNan (sums (julianOf a) .error))
+same-equal a b e h = ap (λ (s : Stamp). equal (julianOf a) (julianOf s)) (sym (same-is a b e)) ∙ equal-itself (julianOf a) h
 
 -- document 02: "Equal by this test and finite implies equal by 01's wherever 01's two-sum doesn't overflow"
-pub same-implies-equal : (a b : Stamp) → same a b ≡ true → finiteParts (dateOf a) ≡ true → NoOverflow (dateOf a .jd1) (dateOf a .jd2) → equal (dateOf a) (dateOf b) ≡ true
-same-implies-equal a b e h n = same-equal a b e h ∙ ap not (no-error (dateOf a) n)
+pub same-implies-equal : (a b : Stamp) → same a b ≡ true → finiteParts (julianOf a) ≡ true → NoOverflow (julianOf a .jd1) (julianOf a .jd2) → equal (julianOf a) (julianOf b) ≡ true
+same-implies-equal a b e h n = same-equal a b e h ∙ ap not (no-error (julianOf a) n)
 
 -- so wherever both parts are at most 2 ^ 1021 in size
-pub same-equal-1021 : (a b : Stamp) → same a b ≡ true → AtMost1021 (dateOf a .jd1) → AtMost1021 (dateOf a .jd2) → equal (dateOf a) (dateOf b) ≡ true
-same-equal-1021 a b e x y = same-implies-equal a b e (both (dateOf a) (at-most-finite x) (at-most-finite y)) (no-overflow x y)
+pub same-equal-1021 : (a b : Stamp) → same a b ≡ true → AtMost1021 (julianOf a .jd1) → AtMost1021 (julianOf a .jd2) → equal (julianOf a) (julianOf b) ≡ true
+same-equal-1021 a b e x y = same-implies-equal a b e (both (julianOf a) (at-most-finite x) (at-most-finite y)) (no-overflow x y)
 
 -- and under 2 ^ 52, document 01's range
-pub same-equal-under : (a b : Stamp) → same a b ≡ true → SmallParts (dateOf a) → equal (dateOf a) (dateOf b) ≡ true
-same-equal-under a b e s = same-implies-equal a b e (both (dateOf a) (under-finite (s .first)) (under-finite (s .second))) (no-overflow-under (s .first) (s .second))
+pub same-equal-under : (a b : Stamp) → same a b ≡ true → SmallParts (julianOf a) → equal (julianOf a) (julianOf b) ≡ true
+same-equal-under a b e s = same-implies-equal a b e (both (julianOf a) (under-finite (s .first)) (under-finite (s .second))) (no-overflow-under (s .first) (s .second))

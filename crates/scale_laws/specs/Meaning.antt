@@ -74,8 +74,8 @@ abbrev pub back : Meaning → Meaning
 back w = record { num = w .den; den = w .num; more = w .less; less = w .more }
 
 -- one after the other
-abbrev pub after : Meaning → Meaning → Meaning
-after v w = record { num = v .num * w .num; den = v .den * w .den; more = w .num * v .more + v .den * w .more; less = w .num * v .less + v .den * w .less }
+abbrev pub thenBy : Meaning → Meaning → Meaning
+thenBy v w = record { num = v .num * w .num; den = v .den * w .den; more = w .num * v .more + v .den * w .more; less = w .num * v .less + v .den * w .less }
 
 -- SOFA's relations, each said once: the date by the scale named first, from the date by the scale named second
 abbrev pub taiOverGps : Meaning
@@ -100,8 +100,8 @@ meaning tcg-tt x y = ttOverTcg
 meaning tt-tcg x y = back ttOverTcg
 meaning tcb-tdb x y = tdbOverTcb
 meaning tdb-tcb x y = back tdbOverTcb
-meaning tai-tcg x y = after ttOverTai (back ttOverTcg)
-meaning tcg-tai x y = after ttOverTcg (back ttOverTai)
+meaning tai-tcg x y = thenBy ttOverTai (back ttOverTcg)
+meaning tcg-tai x y = thenBy ttOverTcg (back ttOverTai)
 meaning (tai-ut1 s) x y = laterBy x y
 meaning (ut1-tai s) x y = back (laterBy x y)
 meaning (ut1-tt s) x y = laterBy x y

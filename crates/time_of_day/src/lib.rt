@@ -40,8 +40,8 @@ fn milliseconds(fraction: f64, leap: f64) -> i64
     floats::saturating_i64(floats::round(1000.0 * seconds(fraction, leap)))
 }
 
-// No fraction of a day has a count below 0: this makes the cast below safe with no condition.
-fn from_zero(count: i64) -> u64
+// What is below 0 is taken as 0, which makes the cast safe with no condition: no fraction of a day has a count below 0.
+pub fn from_zero(count: i64) -> u64
     ensures { λ r. ⌜ r ≡ fromZero count ⌝ }
 {
     if count < 0 { 0 } else { count as u64 }

@@ -20,7 +20,7 @@ use Rattle.tai_utc.specs.Table.{fixed}
 use Rattle.utc.specs.FromCalendar.{utcFromCalendar}
 use Rattle.utc.specs.UnixTime.{unixDay, secondOfUnixDay, secondWithNanos, utcNew}
 use Rattle.utc.specs.IsoText.{dayText, isoTextBy, isoText}
-use Rattle.worked_cases.specs.Calls.{UtcCall, utc-from-calendar, utc-new, utc-parts, utcOf, Value, partsValue, fieldsOf, put, answerOf}
+use Rattle.worked_cases.specs.Calls.{UtcCall, utc-from-calendar, utc-new, utc-parts, utcOf, Value, partsValue, fieldsValue, put, callOutcome}
 use Rattle.worked_cases.specs.Calls.{Call, calendar-to-julian, julian-to-calendar, get-tai-utc-offset, utc, to-iso8601}
 use Rattle.worked_cases.specs.Calls.{nearest-int, convert, utc-to-ut1, block-stamps}
 use Rattle.julian_laws.proofs.Divisions.{dividedDate, divided-date}
@@ -47,15 +47,15 @@ utcBy dates (utc-parts jd1 jd2) = answer (julian jd1 jd2)
 
 -- the other calls stay as they are: they need no date of a day number, or, as `utc_to_ut1` of a DUT1 that is no number, refuse before they need it
 unfoldable pub answerBy : (ℤ → CalendarDate) → Call → Outcome Value
-answerBy dates (calendar-to-julian y m d) = answerOf (calendar-to-julian y m d)
-answerBy dates (julian-to-calendar jd1 jd2) = onward (toCalendar dates jd1 jd2) (λ c. fieldsOf c)
-answerBy dates (get-tai-utc-offset y m d fraction) = answerOf (get-tai-utc-offset y m d fraction)
+answerBy dates (calendar-to-julian y m d) = callOutcome (calendar-to-julian y m d)
+answerBy dates (julian-to-calendar jd1 jd2) = onward (toCalendar dates jd1 jd2) (λ c. fieldsValue c)
+answerBy dates (get-tai-utc-offset y m d fraction) = callOutcome (get-tai-utc-offset y m d fraction)
 answerBy dates (utc u) = onward (utcBy dates u) (λ t. partsValue t)
 answerBy dates (to-iso8601 u n) = onward (utcBy dates u) (λ t. put n (textBy dates t))
-answerBy dates (nearest-int x) = answerOf (nearest-int x)
-answerBy dates (convert c jd1 jd2) = answerOf (convert c jd1 jd2)
-answerBy dates (utc-to-ut1 jd1 jd2 dut1) = answerOf (utc-to-ut1 jd1 jd2 dut1)
-answerBy dates (block-stamps block) = answerOf (block-stamps block)
+answerBy dates (nearest-int x) = callOutcome (nearest-int x)
+answerBy dates (convert c jd1 jd2) = callOutcome (convert c jd1 jd2)
+answerBy dates (utc-to-ut1 jd1 jd2 dut1) = callOutcome (utc-to-ut1 jd1 jd2 dut1)
+answerBy dates (block-stamps block) = callOutcome (block-stamps block)
 
 -- by the calendar's own function they are the calls' answers
 by-calendar-utc : (u : UtcCall) → utcBy gregorianDate u ≡ utcOf u
@@ -64,8 +64,8 @@ by-calendar-utc (utc-from-calendar y m d hour minute second) = refl
 by-calendar-utc (utc-new seconds nanos) = refl
 by-calendar-utc (utc-parts jd1 jd2) = refl
 
-by-calendar : (c : Call) → answerBy gregorianDate c ≡ answerOf c
-unfolding answerBy answerOf julianToCalendar isoTextBy
+by-calendar : (c : Call) → answerBy gregorianDate c ≡ callOutcome c
+unfolding answerBy callOutcome julianToCalendar isoTextBy
 by-calendar (calendar-to-julian y m d) = refl
 by-calendar (julian-to-calendar jd1 jd2) = refl
 by-calendar (get-tai-utc-offset y m d fraction) = refl
@@ -76,5 +76,5 @@ by-calendar (convert c jd1 jd2) = refl
 by-calendar (utc-to-ut1 jd1 jd2 dut1) = refl
 by-calendar (block-stamps block) = refl
 
-pub by-division : (c : Call) → answerOf c ≡ answerBy dividedDate c
+pub by-division : (c : Call) → callOutcome c ≡ answerBy dividedDate c
 by-division c = sym (by-calendar c) ∙ ap (λ (dates : ℤ → CalendarDate). answerBy dates c) (λ i n. divided-date n i)

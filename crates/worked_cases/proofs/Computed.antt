@@ -30,14 +30,14 @@ use Rattle.utc.specs.UnixTime.{unixDay, secondOfUnixDay, secondWithNanos}
 use Rattle.utc.specs.IsoText.{nextMidnightTextBy, shownTextBy, dayTextBy}
 use Rattle.utc.specs.TextCall.{written, bufferHolds}
 use Rattle.stamps.specs.Block.{blockOf}
-use Rattle.worked_cases.specs.Calls.{Call, Value, answerOf}
+use Rattle.worked_cases.specs.Calls.{Call, Value, callOutcome}
 use Rattle.julian_laws.proofs.Divisions.{dividedDate}
 use Rattle.worked_cases.proofs.ByDates.{answerBy, by-division}
 use Rattle.worked_cases.proofs.Literals.{literal, literal-is}
 use Rattle.shifts.specs.Shifts.{daysOf, changed, converted}
 
 unfoldable pub computed : Call → Outcome Value
-unfolding answerBy answerOf dividedDate onward
+unfolding answerBy callOutcome dividedDate onward
     calendarToJulian fromCalendar Julian.atTime roundedSum mjdOf mjdNumber civilCount validDate nextOf next daysInMonth leapSize lengths dayNumberAndFraction
     mjdZeroPoint secondsPerDay unixEpochJd nanosecondsPerSecond tcbRateLb tdbOffset1977 ttTaiOffset mjd1977Jan1
     dayFraction timeInDay secondLimit atTime utcFromCalendar unixDay secondOfUnixDay secondWithNanos
@@ -48,6 +48,6 @@ unfolding answerBy answerOf dividedDate onward
     abs toWhole nearestInt round ofBits ofInt add sub mul div neg lt le eq toSigned
 computed c = literal (answerBy dividedDate c)
 
-pub as-computed : (c : Call) → answerOf c ≡ computed c
+pub as-computed : (c : Call) → callOutcome c ≡ computed c
 unfolding computed
 as-computed c = by-division c ∙ sym (literal-is (answerBy dividedDate c))

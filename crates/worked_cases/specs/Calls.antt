@@ -46,16 +46,16 @@ pub data Call : Type 0 where
 -- what a call that does not refuse answers: jd1 and jd2; year, month, day and fraction; a float; what the buffer holds; or a count
 pub data Value : Type 0 where
   parts : Float → Float → Value
-  fields : ℤ → ℕ → ℕ → Float → Value
+  dateFields : ℤ → ℕ → ℕ → Float → Value
   float : Float → Value
   bytes : List ℕ → Value
-  count : ℕ → Value
+  stampCount : ℕ → Value
 
 abbrev pub partsValue : JulianDate → Outcome Value
 partsValue t = answer (parts (t .jd1) (t .jd2))
 
-abbrev pub fieldsOf : CalendarFields → Outcome Value
-fieldsOf c = answer (fields (c .date .year) (c .date .month) (c .date .day) (c .fraction))
+abbrev pub fieldsValue : CalendarFields → Outcome Value
+fieldsValue c = answer (dateFields (c .date .year) (c .date .month) (c .date .day) (c .fraction))
 
 -- a text, or a refusal, into a buffer of n zero bytes
 abbrev pub put : ℕ → Outcome (List ℕ) → Outcome Value
@@ -66,13 +66,13 @@ utcOf (utc-from-calendar y m d hour minute second) = utcFromCalendar fixed y m d
 utcOf (utc-new seconds nanos) = utcNew fixed seconds nanos
 utcOf (utc-parts jd1 jd2) = answer (julian jd1 jd2)
 
-unfoldable pub answerOf : Call → Outcome Value
-answerOf (calendar-to-julian y m d) = onward (calendarToJulian y m d) (λ t. partsValue t)
-answerOf (julian-to-calendar jd1 jd2) = onward (julianToCalendar jd1 jd2) (λ c. fieldsOf c)
-answerOf (get-tai-utc-offset y m d fraction) = onward (taiUtcOffset fixed y m d fraction) (λ x. answer (float x))
-answerOf (utc u) = onward (utcOf u) (λ t. partsValue t)
-answerOf (to-iso8601 u n) = onward (utcOf u) (λ t. put n (isoText fixed t))
-answerOf (nearest-int x) = answer (float (nearestInt x))
-answerOf (convert c jd1 jd2) = onward (Scales.answerOf c (julian jd1 jd2)) (λ t. partsValue t)
-answerOf (utc-to-ut1 jd1 jd2 dut1) = onward (utcToUt1 fixed (julian jd1 jd2) dut1) (λ t. partsValue t)
-answerOf (block-stamps block) = onward (blockOf block) (λ n. answer (count n))
+unfoldable pub callOutcome : Call → Outcome Value
+callOutcome (calendar-to-julian y m d) = onward (calendarToJulian y m d) (λ t. partsValue t)
+callOutcome (julian-to-calendar jd1 jd2) = onward (julianToCalendar jd1 jd2) (λ c. fieldsValue c)
+callOutcome (get-tai-utc-offset y m d fraction) = onward (taiUtcOffset fixed y m d fraction) (λ x. answer (float x))
+callOutcome (utc u) = onward (utcOf u) (λ t. partsValue t)
+callOutcome (to-iso8601 u n) = onward (utcOf u) (λ t. put n (isoText fixed t))
+callOutcome (nearest-int x) = answer (float (nearestInt x))
+callOutcome (convert c jd1 jd2) = onward (Scales.answerOf c (julian jd1 jd2)) (λ t. partsValue t)
+callOutcome (utc-to-ut1 jd1 jd2 dut1) = onward (utcToUt1 fixed (julian jd1 jd2) dut1) (λ t. partsValue t)
+callOutcome (block-stamps block) = onward (blockOf block) (λ n. answer (stampCount n))

@@ -1,5 +1,6 @@
 -- `gps_weeks::millis_of` meets its contract: one cast from 1 to 2^52, and outside it the two plain calls. Assumes nothing.
-use mathlib.Core.Path.{_≡_, ap, _∙_}
+use Prim.Native.Nat.{ℕ, _≤_}
+use mathlib.Core.Path.{_≡_, sym, ap, subst, _∙_}
 use lib.Ieee.{Float, binary64, mul, ofBits, toSigned}
 use mir.Facts.{toZ-ofZ}
 use mir.Syntax.{w64}
@@ -7,14 +8,14 @@ use borrow.Author.Needs.{needs}
 use Rattle.floats.specs.Whole.{toWhole, away}
 use Rattle.floats.proofs.NearestWholes.{in-cast}
 use Rattle.time_of_day.specs.TimeShown.{fromZero}
-use Rattle.gps_weeks.specs.WeekOf.{productOf, millisOf}
-use Rattle.gps_weeks.proofs.Parts.{day-millis, short-cast}
+use Rattle.gps_weeks.specs.WeekOf.{productOf, dayMillis}
+use Rattle.gps_weeks.proofs.Parts.{day-millis, short-cast, from-zero-most}
 use Rattle.gps_weeks.proofs.millis_of.Statement.{statement}
 use Rattle.gps_weeks.proofs.millis_of.Tie as tie
 
 -- the count of the float that `round` gives
-is : (c : tie.After-round) → fromZero (toSigned 63 (c .round .result)) ≡ millisOf (c .before .args .fraction)
-unfolding millisOf productOf
+is : (c : tie.After-round) → fromZero (toSigned 63 (c .round .result)) ≡ dayMillis (c .before .args .fraction)
+unfolding dayMillis productOf
 is c = ap (λ (x : Float). fromZero (toSigned 63 x)) (c .round .ensures ∙ ap (λ (x : Float). toWhole away (mul binary64 (c .before .args .fraction) x)) day-millis)
 
 round-requires : tie.Need-round-requires
@@ -38,11 +39,10 @@ from-zero-requires c κs = search needs
 
 returns-2 : tie.Need-returns-2
 returns-2 c =
-    let s = c .before in (
-      c .from-zero .ensures .0
-          ∙ ap fromZero (toZ-ofZ {w = w64} {z = s .saturating-i64 .result} (record { sfits = s .saturating-i64 .ok }) ∙ s .saturating-i64 .ensures)
-          ∙ is (s .before .before),
-      c .from-zero .ensures .1,
+    let s = c .before in
+    let z = toZ-ofZ {w = w64} {z = s .saturating-i64 .result} (record { sfits = s .saturating-i64 .ok }) in (
+      c .from-zero .ensures ∙ ap fromZero (z ∙ s .saturating-i64 .ensures) ∙ is (s .before .before),
+      subst (λ (k : ℕ). k ≤ 9223372036854775807) (sym (c .from-zero .ensures ∙ ap fromZero z)) (from-zero-most (s .saturating-i64 .result) (record { sfits = s .saturating-i64 .ok })),
     )
 
 pub millis-of-spec : {M : Type 1} → statement M

@@ -46,7 +46,7 @@ from-zero-requires c κs = search needs
 
 returns-2 : tie.Need-returns-2
 unfolding weekOutcome
-returns-2 c = past-all _ _ (c .before .from-zero .result) _ _ (toZ-ofZ {w = w64} (c .before .before .before .fits .day)) (c .before .before .if1 .left) (c .before .from-zero .ensures .0) refl (c .if2 .taken)
+returns-2 c = past-all _ _ (c .before .from-zero .result) _ _ (toZ-ofZ {w = w64} (c .before .before .before .fits .day)) (c .before .before .if1 .left) (c .before .from-zero .ensures) refl (c .if2 .taken)
 
 cast-week-at : tie.Need-cast-week-at
 cast-week-at c = search needs
@@ -67,7 +67,7 @@ returns-3 : tie.Need-returns-3
 returns-3 c =
     let f = c .before .before .before in
     c .week-at .ensures
-    ∙ in-days _ _ (f .from-zero .result) _ (c .before .millis-of .result) (toZ-ofZ {w = w64} (f .before .before .fits .day)) (f .before .if1 .left) (f .from-zero .ensures .0) (c .before .millis-of .ensures .0)
+    ∙ in-days _ _ (f .from-zero .result) _ (c .before .millis-of .result) (toZ-ofZ {w = w64} (f .before .before .fits .day)) (f .before .if1 .left) (f .from-zero .ensures) (c .before .millis-of .ensures .0)
 
 pub week-of-day-spec : {M : Type 1} → statement M
 week-of-day-spec =
