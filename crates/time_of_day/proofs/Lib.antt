@@ -7,4 +7,6 @@ pub mod Count
 pub mod Fields
 pub mod Close
 pub mod Shows
+pub mod EvenSteps
+pub mod ByCount
 pub mod Cases

@@ -1,6 +1,7 @@
 -- What the contracts of `time_of_day` cite, in the order to read it.
 pub mod Milliseconds
 pub mod TimeShown
+pub mod HalfEven
 -- The words of the theorems, which speak of the exact time: no contract cites them.
 pub mod Nearest
 pub mod ExactTime

@@ -1,4 +1,7 @@
 // The time of day that UTC text shows, from a fraction of a day and the leap at the day's end: the middle of the Rust's `to_iso8601`.
+mod half_even;
+
+pub use half_even::time_shown_half_even;
 ghost use mathlib.Core.Path.{_≡_};
 ghost use Prim.Native.Nat.{_≤_};
 ghost use Rattle.floats.specs.Whole.{away};

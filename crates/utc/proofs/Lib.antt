@@ -18,3 +18,4 @@ pub mod Alike
 pub mod OneText
 pub mod Ends
 pub mod Lengths
+pub mod ExpandedTexts

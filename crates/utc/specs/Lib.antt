@@ -4,7 +4,9 @@ pub mod UnixTime
 pub mod Sheet
 pub mod IsoText
 pub mod TextCall
+pub mod Expanded
 -- The words of the theorems: no contract cites them.
 pub mod Shows
 pub mod GoodSheet
 pub mod OneText
+pub mod Beside

@@ -12,7 +12,7 @@ use Rattle.calendar.specs.declared.CalendarDate.{CalendarDate}
 use Rattle.time_of_day.specs.declared.TimeOfDay.{TimeOfDay}
 use Rattle.utc_text.specs.Text.{last, two, three, four, five, six, seven, afterYear, yearText, utcText}
 use Rattle.utc_text.specs.ReadBack.{part}
-use Rattle.utc_text.specs.WellFormed.{AllDigits, Digits, unsigned, WellFormed}
+use Rattle.utc_text.specs.WellFormed.{AllDigits, Digits, unsigned, RestFormed, WellFormed}
 use Rattle.utc_text.proofs.ReadBack.{part-of, front-of}
 
 -- ---- digits
@@ -36,7 +36,7 @@ five-digits n = one-more (n / 10000) (four n) (four-digits n)
 six-digits : (n : ℕ) → AllDigits (six n)
 six-digits n = one-more (n / 100000) (five n) (five-digits n)
 
-seven-digits : (n : ℕ) → AllDigits (seven n)
+pub seven-digits : (n : ℕ) → AllDigits (seven n)
 seven-digits n = one-more (n / 1000000) (six n) (six-digits n)
 
 -- ---- the year
@@ -64,31 +64,35 @@ unfolding yearText
 year-form (pos n) = after n (ltb n 10000) (ltb n 100000) (ltb n 1000000)
 year-form (negsuc n) = before (suc n) (ltb (suc n) 1000)
 
+-- ---- what stands behind the year, whatever the year is
+module _ (y : List ℕ) (d : CalendarDate) (u : TimeOfDay) where
+  abbrev t : List ℕ
+  t = afterYear d u
+
+  pair : (k : ℕ) → k ≤ 19 → (n : ℕ) → take 2 (drop (19 - k) t) ≡ two n → Digits 2 (part k 2 (y ++ t))
+  pair k h n e = subst (Digits 2) (sym (part-of y t k 2 h refl ∙ e)) (record { many = refl; all = two-digits n })
+
+  pub rest-formed : RestFormed (y ++ afterYear d u)
+  rest-formed = record {
+    after-year = part-of y t 19 1 (omega arith) refl;
+    month = pair 18 (omega arith) (d .month) refl;
+    after-month = part-of y t 16 1 (omega arith) refl;
+    day = pair 15 (omega arith) (d .day) refl;
+    after-day = part-of y t 13 1 (omega arith) refl;
+    hour = pair 12 (omega arith) (u .hour) refl;
+    after-hour = part-of y t 10 1 (omega arith) refl;
+    minute = pair 9 (omega arith) (u .minute) refl;
+    after-minute = part-of y t 7 1 (omega arith) refl;
+    second = pair 6 (omega arith) (u .second) refl;
+    after-second = part-of y t 4 1 (omega arith) refl;
+    milli = subst (Digits 3) (sym (part-of y t 3 3 (omega arith) refl)) (record { many = refl; all = three-digits (u .milli) });
+  }
+
 -- ---- the whole
 pub well-formed : (d : CalendarDate) (u : TimeOfDay) → WellFormed (utcText d u)
 unfolding utcText
 well-formed d u = record {
-  year-length = subst (λ (x : List ℕ). 4 ≤ length x) (sym (front-of y t refl)) (year-form (d .year) .0);
-  year = subst (λ (x : List ℕ). AllDigits (unsigned x)) (sym (front-of y t refl)) (year-form (d .year) .1);
-  after-year = part-of y t 19 1 (omega arith) refl;
-  month = pair 18 (omega arith) (d .month) refl;
-  after-month = part-of y t 16 1 (omega arith) refl;
-  day = pair 15 (omega arith) (d .day) refl;
-  after-day = part-of y t 13 1 (omega arith) refl;
-  hour = pair 12 (omega arith) (u .hour) refl;
-  after-hour = part-of y t 10 1 (omega arith) refl;
-  minute = pair 9 (omega arith) (u .minute) refl;
-  after-minute = part-of y t 7 1 (omega arith) refl;
-  second = pair 6 (omega arith) (u .second) refl;
-  after-second = part-of y t 4 1 (omega arith) refl;
-  milli = subst (Digits 3) (sym (part-of y t 3 3 (omega arith) refl)) (record { many = refl; all = three-digits (u .milli) });
+  year-length = subst (λ (x : List ℕ). 4 ≤ length x) (sym (front-of (yearText (d .year)) (afterYear d u) refl)) (year-form (d .year) .0);
+  year = subst (λ (x : List ℕ). AllDigits (unsigned x)) (sym (front-of (yearText (d .year)) (afterYear d u) refl)) (year-form (d .year) .1);
+  rest = rest-formed (yearText (d .year)) d u;
 }
-  where
-    y : List ℕ
-    y = yearText (d .year)
-
-    t : List ℕ
-    t = afterYear d u
-
-    pair : (k : ℕ) → k ≤ 19 → (n : ℕ) → take 2 (drop (19 - k) t) ≡ two n → Digits 2 (part k 2 (y ++ t))
-    pair k h n e = subst (Digits 2) (sym (part-of y t k 2 h refl ∙ e)) (record { many = refl; all = two-digits n })

@@ -5,3 +5,4 @@ pub mod ReadBack
 pub mod Form
 pub mod Cases
 pub mod YearZeros
+pub mod ExpandedLaws

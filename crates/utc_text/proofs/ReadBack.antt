@@ -59,16 +59,16 @@ five-is n h = let z : n / 100000 ≡ 0 = omega arith in rw z at (all-five n)
 six-is : (n : ℕ) → n < 1000000 → number (six n) ≡ n
 six-is n h = let z : n / 1000000 ≡ 0 = omega arith in rw z at (all-six n)
 
-seven-is : (n : ℕ) → n < 10000000 → number (seven n) ≡ n
+pub seven-is : (n : ℕ) → n < 10000000 → number (seven n) ≡ n
 seven-is n h = let z : n / 10000000 ≡ 0 = omega arith in rw z at (all-seven n)
 
 -- ---- the year
 -- a digit is no sign
-no-sign : (x n : ℕ) (cs : List ℕ) → number (last x ∷ cs) ≡ n → signedNumber (last x ∷ cs) ≡ pos n
+pub no-sign : (x n : ℕ) (cs : List ℕ) → number (last x ∷ cs) ≡ n → signedNumber (last x ∷ cs) ≡ pos n
 unfolding signedNumber
-no-sign x n cs e = ap (λ (b : Bool). cond b (negℤ (pos (number cs))) (pos (number (last x ∷ cs)))) (ne-eqb (last x) 45 (λ h. omega arith)) ∙ ap pos e
+no-sign x n cs e = rw (ne-eqb (last x) 45 (λ h. omega arith), ne-eqb (last x) 43 (λ h. omega arith)) (ap pos e)
 
-with-sign : (n : ℕ) (cs : List ℕ) → number cs ≡ suc n → signedNumber (45 ∷ cs) ≡ negsuc n
+pub with-sign : (n : ℕ) (cs : List ℕ) → number cs ≡ suc n → signedNumber (45 ∷ cs) ≡ negsuc n
 unfolding signedNumber
 with-sign n cs e = ap (λ (k : ℕ). negℤ (pos k)) e
 
@@ -101,10 +101,11 @@ front-of y t e = take-at y t (length (y ++ t) - 19) (places (length y) (length t
     places : (a b n : ℕ) → n ≡ a + b → b ≡ 19 → a ≡ n - 19
     places a b n g h = omega arith
 
-pub reads-back : (d : CalendarDate) (u : TimeOfDay) → Writable d u → ReadsAs (utcText d u) d u
-unfolding utcText readYear readMonth readDay readHour readMinute readSecond readMilli
-reads-back d u w = record {
-  year = ap signedNumber (front-of y t refl) ∙ year-read (d .year) (w .year-low) (w .year-high);
+-- behind a year that reads back the rest does
+pub year-and-rest : (y : List ℕ) (d : CalendarDate) (u : TimeOfDay) → signedNumber y ≡ d .year → Writable d u → ReadsAs (y ++ afterYear d u) d u
+unfolding readYear readMonth readDay readHour readMinute readSecond readMilli
+year-and-rest y d u e w = record {
+  year = ap signedNumber (front-of y t refl) ∙ e;
   month = ap number (part-of y t 18 2 (omega arith) refl) ∙ two-is (d .month) (omega (arith, w .month));
   day = ap number (part-of y t 15 2 (omega arith) refl) ∙ two-is (d .day) (omega (arith, w .day));
   hour = ap number (part-of y t 12 2 (omega arith) refl) ∙ two-is (u .hour) (omega (arith, w .hour));
@@ -113,11 +114,12 @@ reads-back d u w = record {
   milli = ap number (part-of y t 3 3 (omega arith) refl) ∙ three-is (u .milli) (omega (arith, w .milli));
 }
   where
-    y : List ℕ
-    y = yearText (d .year)
-
     t : List ℕ
     t = afterYear d u
+
+pub reads-back : (d : CalendarDate) (u : TimeOfDay) → Writable d u → ReadsAs (utcText d u) d u
+unfolding utcText
+reads-back d u w = year-and-rest (yearText (d .year)) d u (year-read (d .year) (w .year-low) (w .year-high)) w
 
 -- the milliseconds that a text shows are those of the time that its digits say
 pub said-ms : {t : List ℕ} {d : CalendarDate} {u : TimeOfDay} → ReadsAs t d u → readMs t ≡ timeMs u

@@ -1,5 +1,5 @@
 -- What the digits of a text say, read with no knowledge of how it was written: the year stands before the last 19 bytes, which are -MM-DDThh:mm:ss.mmm. Written
--- from document 01, "UTC text". Assumes nothing.
+-- from document 01, "UTC text", and document 02, item 6. Assumes nothing.
 use Prim.Native.Nat.{ℕ, _+_, _-_, _*_, _≤_}
 use mathlib.Core.Path.{_≡_}
 use mathlib.Core.List.{List, [], _∷_}
@@ -12,10 +12,10 @@ pub use Rattle.digits.specs.Decimal.{value, number}
 use Rattle.calendar.specs.declared.CalendarDate.{CalendarDate}
 use Rattle.time_of_day.specs.declared.TimeOfDay.{TimeOfDay}
 
--- with a minus sign, 45, in front of it or not
+-- with a minus sign, 45, or a plus sign, 43, in front of it or none
 unfoldable pub signedNumber : List ℕ → ℤ
 signedNumber [] = pos 0
-signedNumber (c ∷ cs) = cond (eqb c 45) (negℤ (pos (number cs))) (pos (number (c ∷ cs)))
+signedNumber (c ∷ cs) = cond (eqb c 45) (negℤ (pos (number cs))) (cond (eqb c 43) (pos (number cs)) (pos (number (c ∷ cs))))
 
 -- the n bytes that start k bytes before the end of t
 abbrev pub part : ℕ → ℕ → List ℕ → List ℕ

@@ -28,10 +28,8 @@ YearFilledToFour t = 4 < length (yearBytes t) → NoZeroFirst (unsigned (yearByt
 abbrev pub StandsAt : ℕ → ℕ → List ℕ → Type 0
 StandsAt c k t = part k 1 t ≡ c ∷ []
 
--- 45 is '-', 84 is 'T', 58 is ':' and 46 is '.'
-pub record WellFormed (t : List ℕ) : Type 0 where
-  pub year-length : 4 ≤ length (yearBytes t)
-  pub year : AllDigits (unsigned (yearBytes t))
+-- what stands behind the year. 45 is '-', 84 is 'T', 58 is ':' and 46 is '.'
+pub record RestFormed (t : List ℕ) : Type 0 where
   pub after-year : StandsAt 45 19 t
   pub month : Digits 2 (part 18 2 t)
   pub after-month : StandsAt 45 16 t
@@ -44,3 +42,9 @@ pub record WellFormed (t : List ℕ) : Type 0 where
   pub second : Digits 2 (part 6 2 t)
   pub after-second : StandsAt 46 4 t
   pub milli : Digits 3 (part 3 3 t)
+
+-- a year of at least four characters, all digits but a minus sign
+pub record WellFormed (t : List ℕ) : Type 0 where
+  pub year-length : 4 ≤ length (yearBytes t)
+  pub year : AllDigits (unsigned (yearBytes t))
+  pub rest : RestFormed t

@@ -1,7 +1,9 @@
 // UTC text into a lent buffer: the Rust's `iso_string`, with a byte slice in place of a string.
+mod expanded;
 mod year;
 
 use calendar::CalendarDate;
+pub use expanded::put_text_expanded;
 use time_of_day::TimeOfDay;
 ghost use mathlib.Core.Path.{_≡_};
 ghost use mathlib.Core.List.{_++_};

@@ -1,0 +1,44 @@
+-- `half_even::float_count` meets its contract. Assumes nothing.
+use mathlib.Core.Path.{ap, _∙_}
+use mir.Facts.{toZ-ofZ}
+use mir.Syntax.{w64}
+use Rattle.time_of_day.specs.TimeShown.{fromZero}
+use Rattle.time_of_day.proofs.EvenSteps.{float-is}
+use borrow.Author.Needs.{needs}
+use Rattle.time_of_day.proofs.half_even.float_count.Statement.{statement}
+use Rattle.time_of_day.proofs.half_even.float_count.Tie as tie
+
+twice-millis-requires : tie.Need-twice-millis-requires
+twice-millis-requires c κs = search needs
+
+saturating-i64-requires : tie.Need-saturating-i64-requires
+saturating-i64-requires c κs = search needs
+
+from-zero-requires : tie.Need-from-zero-requires
+from-zero-requires c κs = search needs
+
+worth-requires : tie.Need-worth-requires
+worth-requires c κs = search needs
+
+of-halves-requires : tie.Need-of-halves-requires
+of-halves-requires c κs = search needs
+
+returns : tie.Need-returns
+returns c = 
+    let z = c .before .before in
+    let s = z .before in
+    let p = s .before in
+    c .of-halves .ensures
+    ∙ float-is (p .before .args .fraction) (p .before .args .leap) (p .twice-millis .result) (s .saturating-i64 .result) (z .from-zero .result) (c .before .worth .result)
+    (p .twice-millis .ensures) (s .saturating-i64 .ensures) (z .from-zero .ensures ∙ ap fromZero (toZ-ofZ {w = w64} {z = s .saturating-i64 .result} (record { sfits = s .saturating-i64 .ok }))) (c .before .worth .ensures)
+
+pub float-count-spec : {M : Type 1} → statement M
+float-count-spec =
+    tie.close
+    (tie.spec
+    twice-millis-requires
+    saturating-i64-requires
+    from-zero-requires
+    worth-requires
+    of-halves-requires
+    returns)
