@@ -9,12 +9,12 @@ use lib.Dec.{eqb}
 use lib.ListN.{length, getD}
 use lib.Seq.{slice, getD-drop, getD-take}
 use borrow.Author.Tests.{eq-eqb, eqb-true, eqb-false}
 use Rattle.line_up.specs.Runs.{mark, marks, run, zeros, timesIn, MayFollow}
-use Rattle.line_up.specs.Claims.{Each, Pairs, Later, Judged, RightlyIn}
+use Rattle.line_up_laws.specs.Claims.{Each, Pairs, Later, Judged, RightlyIn}
 use Rattle.line_up.proofs.Zeros.{timesIn-zeros}
 use Rattle.line_up.proofs.Marks.{length-marks}
-use Rattle.line_up.proofs.Once.{any-default}
-use Rattle.line_up.proofs.Pairwise.{member}
+use Rattle.line_up_laws.proofs.Once.{any-default}
+use Rattle.line_up_laws.proofs.Pairwise.{member}
 
 -- ---- along the fold
 
@@ -25,19 +25,19 @@ record Reason (lt : ℕ → ℕ → Bool) (Acc : ℕ → Type 0) (p : ℕ) : Typ
   high : place < p
   sooner : lt p place ≡ true
 
-record Verdict (lt : ℕ → ℕ → Bool) (Acc : ℕ → Type 0) (p old new : ℕ) : Type 0 where
+record Ruling (lt : ℕ → ℕ → Bool) (Acc : ℕ → Type 0) (p old new : ℕ) : Type 0 where
   refused : (old ≡ 0 → ⊥) → new ≡ old
   turned : old ≡ 0 → (new ≡ 0) ⊎ ((new ≡ 17) × Reason lt Acc p)
 
 module _ (lt : ℕ → ℕ → Bool) (ns : List ℕ) (Acc : ℕ → Type 0) where
-  here-by : (n last i : ℕ) (s any t : Bool) → eqb n 0 ≡ s → lt i last ≡ t → (any ≡ true → Acc last × (last < i)) → Verdict lt Acc i n (cond s (cond (any && t) 17 0) n)
+  here-by : (n last i : ℕ) (s any t : Bool) → eqb n 0 ≡ s → lt i last ≡ t → (any ≡ true → Acc last × (last < i)) → Ruling lt Acc i n (cond s (cond (any && t) 17 0) n)
   here-by n last i true true true p q f =
       record { refused = λ h. absurd (h (eqb-true n 0 p)); turned = λ _. inr (refl, record { place = last; acc = f refl .0; high = f refl .1; sooner = q }) }
   here-by n last i true true false p q f = record { refused = λ h. absurd (h (eqb-true n 0 p)); turned = λ _. inl refl }
   here-by n last i true false t p q f = record { refused = λ h. absurd (h (eqb-true n 0 p)); turned = λ _. inl refl }
   here-by n last i false any t p q f = record { refused = λ _. refl; turned = λ e. absurd (eqb-false n 0 p e) }
 
-  here : (n last i : ℕ) (any : Bool) → (any ≡ true → Acc last × (last < i)) → Verdict lt Acc i n (mark lt n any last i)
+  here : (n last i : ℕ) (any : Bool) → (any ≡ true → Acc last × (last < i)) → Ruling lt Acc i n (mark lt n any last i)
   unfolding mark
   here n last i any f = here-by n last i (eqb n 0) any (lt i last) refl refl f
 
@@ -47,17 +47,17 @@ module _ (lt : ℕ → ℕ → Bool) (ns : List ℕ) (Acc : ℕ → Type 0) wher
   state false false last i g f e = let z : _≡_ {A = ℕ} 0 1 = ap (λ (c : Bool). cond c 1 0) e in let w : ⊥ = omega arith in absurd w
 
   judge : (k : ℕ) (any : Bool) (last i : ℕ) → (any ≡ true → Acc last × (last < i)) → ((j : ℕ) → j < k → getD (marks lt ns any last i k) j 0 ≡ 0 → Acc (i + j))
-      → (j : ℕ) → j < k → Verdict lt Acc (i + j) (getD ns (i + j) 0) (getD (marks lt ns any last i k) j 0)
+      → (j : ℕ) → j < k → Ruling lt Acc (i + j) (getD ns (i + j) 0) (getD (marks lt ns any last i k) j 0)
   unfolding marks
   judge zero any last i f h j b = let z : ⊥ = omega arith in absurd z
   judge (suc k) any last i f h zero b =
       let e : i ≡ i + 0 = omega arith in
-      subst (λ (p : ℕ). Verdict lt Acc p (getD ns p 0) (mark lt (getD ns i 0) any last i)) e (here (getD ns i 0) last i any f)
+      subst (λ (p : ℕ). Ruling lt Acc p (getD ns p 0) (mark lt (getD ns i 0) any last i)) e (here (getD ns i 0) last i any f)
   judge (suc k) any last i f h (suc j) b =
       let m = mark lt (getD ns i 0) any last i in
       let e : suc i + j ≡ i + suc j = omega arith in
       let g : eqb m 0 ≡ true → Acc i = λ q. let d : i + 0 ≡ i = omega arith in subst Acc d (h 0 (omega arith) (eqb-true m 0 q)) in
-      subst (λ (p : ℕ). Verdict lt Acc p (getD ns p 0) (getD (marks lt ns (any || eqb m 0) (cond (eqb m 0) i last) (suc i) k) j 0)) e
+      subst (λ (p : ℕ). Ruling lt Acc p (getD ns p 0) (getD (marks lt ns (any || eqb m 0) (cond (eqb m 0) i last) (suc i) k) j 0)) e
       (judge k (any || eqb m 0) (cond (eqb m 0) i last) (suc i) (state (eqb m 0) any last i g f)
       (λ j' b' q. let d : i + suc j' ≡ suc i + j' = omega arith in subst Acc d (h (suc j') (omega arith) q)) j (omega arith))
 
@@ -106,7 +106,7 @@ module _ (lt : ℕ → ℕ → Bool) (ns ms : List ℕ) (from to : ℕ) (ft : fr
   turned-by i (inl e) = inl e
   turned-by i (inr r) = inr (r .0, later-of i (r .1))
 
-  judged-of : (i : ℕ) → Verdict lt Acc i (getD ns i 0) (getD ms i 0) → Judged lt ns ms from i
+  judged-of : (i : ℕ) → Ruling lt Acc i (getD ns i 0) (getD ms i 0) → Judged lt ns ms from i
   judged-of i v = record { refused = v .refused; turned = λ e. turned-by i (v .turned e) }
 
   pub judged : (i : ℕ) → from ≤ i → i < to → Judged lt ns ms from i
@@ -115,7 +115,7 @@ module _ (lt : ℕ → ℕ → Bool) (ns ms : List ℕ) (from to : ℕ) (ft : fr
       let e : from + (i - from) ≡ i = omega arith in
       let v = judge lt ns Acc (to - from) false 0 from (λ q. let z : _≡_ {A = ℕ} 0 1 = ap (λ (c : Bool). cond c 1 0) q in let w : ⊥ = omega arith in absurd w)
       (λ j b q. (omega arith, sym (at j b) ∙ q)) (i - from) (omega arith) in
-      judged-of i (subst (λ (p : ℕ). Verdict lt Acc p (getD ns p 0) (getD ms p 0)) e (subst (Verdict lt Acc (from + (i - from)) (getD ns (from + (i - from)) 0)) (at (i - from) (omega arith)) v))
+      judged-of i (subst (λ (p : ℕ). Ruling lt Acc p (getD ns p 0) (getD ms p 0)) e (subst (Ruling lt Acc (from + (i - from)) (getD ns (from + (i - from)) 0)) (at (i - from) (omega arith)) v))
 
   zero-at : (i : ℕ) → from ≤ i → i < to → getD ms i 0 ≡ 0 → getD (run lt ns from to) (i - from) 1 ≡ 0
   zero-at i h k e =

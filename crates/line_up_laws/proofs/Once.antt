@@ -7,9 +7,9 @@ use mathlib.Core.List.{List, [], _∷_, map}
 use lib.Dec.{eqb, ltb}
 use lib.ListN.{length, getD, List·getD-map, List·getD-eq-default}
 use borrow.Author.Tests.{lt-ltb, le-ltb, ltb-true, ltb-false}
 use Rattle.line_up.specs.Runs.{zeros, timesIn}
-use Rattle.line_up.specs.Claims.{notInLine}
+use Rattle.line_up_laws.specs.Claims.{notInLine}
 use Rattle.line_up.proofs.Zeros.{timesIn-zeros}
 
 abbrev flip : ℕ → ℕ
 flip m = cond (eqb m 0) 1 0

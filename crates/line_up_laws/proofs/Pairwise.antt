@@ -7,8 +7,8 @@ use mathlib.Core.List.{List, [], _∷_}
 use lib.Dec.{eqb}
 use lib.ListN.{getD}
 use borrow.Author.Tests.{eq-eqb, ne-eqb, eqb-true, eqb-false}
 use Rattle.line_up.specs.Runs.{mark, marks, zeros, into, merge, once, timesIn, MayFollow, After, Rising}
-use Rattle.line_up.specs.Claims.{Each, Pairs}
+use Rattle.line_up_laws.specs.Claims.{Each, Pairs}
 
 -- ---- each
 
