@@ -12,7 +12,7 @@ use Rattle.line_up.specs.declared.LineUpAnswer.the-variants as Answer
 use Rattle.line_up.specs.declared.LineUpAnswer.{LineUpAnswer}
 use Rattle.line_up.specs.Runs.{allTested, run, numbersAfter, ordered}
 use Rattle.line_up.specs.LineUp.{deadAt, soonerAt, countOutcome, lineRefusal, lineWritten, putInLine, LinedUp, result, linedUp}
-use Rattle.line_up.proofs.Places.{after-length}
+use Rattle.line_up.proofs.Places.{after-length, ordered-length}
 use Rattle.line_up.proofs.Lines.{runTurned-is, runTurned-length}
 use Rattle.line_up.specs.Asked.{Ranged, Mergeable, Merged, runTurned}
 use Rattle.line_up.proofs.Cases.{Fine, fine}
@@ -109,6 +109,11 @@ module _ (js ks : List ℕ) (ns : List ℕ) (a c : ℕ) (out : List ℕ) (number
               room = four-each (length N3) (length out) (omega (arith, good .places, whole-3));
               small = omega (arith, good .small, whole-3);
             }
+
+            pub many-fit : (out' : List ℕ) (r : ℕ) → Merged (soonerAt js ks) N3 a (a + c) out out' r → r ≤ 4294967295
+            many-fit out' r m =
+                let l : a + c ≤ length N3 = omega (arith, sum-fits, whole-3) in
+                omega (arith, m .many, ordered-length (soonerAt js ks) N3 a (a + c) (omega arith) l, good .small, whole-3)
 
             pub line-ends : (out' : List ℕ) (r : ℕ) → Merged (soonerAt js ks) N3 a (a + c) out out' r → result (Answer.Ordered r) N3 out' ≡ linedUp js ks ns a c out
             unfolding linedUp putInLine lineWritten countOutcome

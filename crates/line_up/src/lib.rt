@@ -11,7 +11,7 @@ ghost use Rattle.line_up.specs.Asked as N;
 
 // How many stamps are ordered, or the number of the refusal.
 pub enum LineUpAnswer {
-    Ordered(usize),
+    Ordered(u32),
     Refused(u32),
 }
 
@@ -274,6 +274,6 @@ pub fn line_up(
     turn_away(jd1s, jd2s, numbers, 0, first);
     turn_away(jd1s, jd2s, numbers, first, rest);
     turn_away(jd1s, jd2s, numbers, rest, n);
-    let many = merge(jd1s, jd2s, numbers, first, rest, out);
+    let many = merge(jd1s, jd2s, numbers, first, rest, out) as u32;
     LineUpAnswer::Ordered(many)
 }

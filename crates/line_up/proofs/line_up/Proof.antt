@@ -1,7 +1,7 @@
 -- `line_up::line_up` meets its contract. Assumes nothing.
 use native.Mathlib.Omega.{arith}
 use borrow.Author.Needs.{needs}
-use Rattle.line_up.proofs.Calls.{line-refused, few, counts-fit, range-1, range-2, range-3, merge-fits, line-ends}
+use Rattle.line_up.proofs.Calls.{line-refused, few, counts-fit, range-1, range-2, range-3, merge-fits, many-fit, line-ends}
 use Rattle.line_up.proofs.line_up.Statement.{statement}
 use Rattle.line_up.proofs.line_up.Tie as tie
 
@@ -63,6 +63,13 @@ same-length c = search needs
 same-length-2 : tie.Need-same-length-2
 same-length-2 c = search needs
 
+cast-many : tie.Need-cast-many
+cast-many c =
+    let s = c .before .before .before .before .before .before .before .before .before .before .before .before .before .before .before .before .before .before .before .before .before .before .before .before .before .before .before in
+    let a = s .args in
+    let q = c .before .before .before .before .before .before .before .before .before .before .before .before .before .before .before .before .before .before .before .before .before .before in
+    record { fits = omega (arith, many-fit (a .jd1s .now) (a .jd2s .now) (a .numbers .now) (a .first) (a .second) (a .out .now) (q .line-refusal .result) (q .line-refusal .ensures) (c .before .before .before .before .before .before .before .before .before .before .before .before .before .before .before .before .before .before .before .before .before .if1 .left) (c .before .before .before .before .before .before .before .before .before .before .before .before .before .before .before .before .before .before .before .turn-dead-away .last .1 .1 .0) (c .before .before .before .before .before .before .before .before .before .before .before .before .before .before .before .before .before .before .before .turn-dead-away .ensures) (c .before .before .before .before .before .before .before .before .before .before .before .before .before .before .before .turn-away .last .1 .1 .0) (c .before .before .before .before .before .before .before .before .before .before .before .before .before .before .before .turn-away .ensures) (c .before .before .before .before .before .before .before .before .before .before .before .turn-away2 .last .1 .1 .0) (c .before .before .before .before .before .before .before .before .before .before .before .turn-away2 .ensures) (c .before .before .before .before .before .before .before .turn-away3 .last .1 .1 .0) (c .before .before .before .before .before .before .before .turn-away3 .ensures) (c .before .before .merge .last .1 .1 .1 .1 .1 .0) (c .before .before .merge .result) (c .before .before .merge .ensures)) }
+
 returns-2 : tie.Need-returns-2
 returns-2 c =
     let s = c .before .before .before .before .before .before .before .before .before .before .before .before .before .before .before .before .before .before .before .before .before .before .before .before .before .before .before in
@@ -82,6 +89,7 @@ line-up-spec =
     turn-away-requires-2
     turn-away-requires-3
     merge-requires
+    cast-many
     same-length
     same-length-2
     returns-2)
