@@ -2,3 +2,4 @@
 pub mod ListingPart
 pub mod OrderNumber
 pub mod WeekBytes
+pub mod LineDelivery

@@ -68,7 +68,7 @@ module _ (sp sn ep en tp tn fp fn P N Q M : ℕ) (h : sp + ep + N ≡ sn + en + 
       let j : Q + N ≤ P + M = ltb-false (P + M) (Q + N) r in
       le-ltb (ep + fn) (fp + en) (omega arith)
 
-sooner-exactly : (d e : JulianDate) (P N Q M : ℕ) → FiniteSums d → FiniteSums e → Worth d P N L → Worth e Q M L → sooner (sums d) (sums e) ≡ ltb (P + M) (Q + N)
+pub sooner-exactly : (d e : JulianDate) (P N Q M : ℕ) → FiniteSums d → FiniteSums e → Worth d P N L → Worth e Q M L → sooner (sums d) (sums e) ≡ ltb (P + M) (Q + N)
 unfolding sooner
 sooner-exactly d e P N Q M s t v w =
     let x = sums-of s v in
@@ -155,7 +155,7 @@ dead-second d e h = nine d e (inr (dead-error e h))
 
 -- ---- hence it is a total order of the exact sums
 -- every date whose two-sum is finite has an exact sum
-worth-of : (d : JulianDate) → FiniteSums d → (P : ℕ) × (N : ℕ) × Worth d P N L
+pub worth-of : (d : JulianDate) → FiniteSums d → (P : ℕ) × (N : ℕ) × Worth d P N L
 worth-of d s =
     let f = finite-error d (s .error) in
     let a = own-val (d .jd1) (own (d .jd1) (s .first-float) (f .0)) in

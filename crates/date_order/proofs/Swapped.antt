@@ -49,7 +49,7 @@ by-tests true b c d f g p = rw (f refl)
 by-tests false true c d f g p = absurd (true≢false (sym p))
 by-tests false false c d f g p = g p
 
-sooner-once : (s t : ExactSum) → sooner s t ≡ true → sooner t s ≡ false
+pub sooner-once : (s t : ExactSum) → sooner s t ≡ true → sooner t s ≡ false
 unfolding sooner
 sooner-once s t p = by-tests (lt (s .sum) (t .sum)) (lt (t .sum) (s .sum)) (lt (s .error) (t .error)) (lt (t .error) (s .error)) (lt-once (s .sum) (t .sum)) (lt-once (s .error) (t .error)) p
 

@@ -1,6 +1,7 @@
 // The order of two-part Julian dates by their exact sums.
 ghost use mathlib.Core.Path.{_≡_};
 ghost use Rattle.date_order.specs.Order as O;
+ghost use Rattle.date_order.specs.Places as P;
 
 // Whether one date is before another, or the number of the refusal.
 pub enum OrderAnswer {
@@ -42,4 +43,21 @@ pub fn compare(a: julian::JulianDate, b: julian::JulianDate) -> OrderAnswer
         return OrderAnswer::After;
     }
     OrderAnswer::Equal
+}
+
+// Whether a date has a place in the order: `compare` refuses it by 9 where it has none.
+pub fn has_place(a: julian::JulianDate) -> bool
+    ensures { λ r. ⌜ r ≡ P.hasPlace a ⌝ }
+{
+    let one = julian::exact_sum(a.jd1, a.jd2);
+    floats::is_finite(one.error)
+}
+
+// Whether the one date comes before the other; of dates that have a place.
+pub fn comes_before(a: julian::JulianDate, b: julian::JulianDate) -> bool
+    ensures { λ r. ⌜ r ≡ P.comesBefore a b ⌝ }
+{
+    let one = julian::exact_sum(a.jd1, a.jd2);
+    let two = julian::exact_sum(b.jd1, b.jd2);
+    sooner(one, two)
 }

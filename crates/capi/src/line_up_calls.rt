@@ -1,0 +1,29 @@
+// The stamps of up to three recorders in one order.
+ghost use Rattle.line_up.specs.LineUp.{linedUp};
+ghost use Rattle.capi.specs.LineDelivery.{LineDelivered};
+use c_answers::refused;
+use line_up::LineUpAnswer;
+
+#[no_mangle]
+pub extern "C" fn ct_line_up(
+    jd1: &[u8],
+    jd2: &[u8],
+    numbers: &mut [u8],
+    first_count: u64,
+    second_count: u64,
+    out: &mut [u8],
+) -> i64
+    ensures { λ r. ⌜ LineDelivered (linedUp (now (jd1 .entry)) (now (jd2 .entry)) (now (numbers .entry)) «first_count» «second_count» (now (out .entry))) r (now (numbers .exit)) (now (out .exit)) ⌝ }
+{
+    match line_up::line_up(
+        jd1,
+        jd2,
+        numbers,
+        first_count as usize,
+        second_count as usize,
+        out,
+    ) {
+        LineUpAnswer::Ordered(n) => n as i64,
+        LineUpAnswer::Refused(number) => refused(number),
+    }
+}

@@ -1,0 +1,23 @@
+-- `date_order::comes_before` meets its contract. Assumes nothing.
+use mathlib.Core.Path.{_∙_}
+use borrow.Author.Needs.{needs}
+use Rattle.julian.specs.Equality.{sums}
+use Rattle.date_order.specs.Places.{comesBefore}
+use Rattle.date_order.proofs.comes_before.Statement.{statement}
+use Rattle.date_order.proofs.comes_before.Tie as tie
+
+exact-sum-requires : tie.Need-exact-sum-requires
+exact-sum-requires c κs = search needs
+
+exact-sum-requires-2 : tie.Need-exact-sum-requires-2
+exact-sum-requires-2 c κs = search needs
+
+sooner-requires : tie.Need-sooner-requires
+sooner-requires c κs = search needs
+
+returns : tie.Need-returns
+unfolding sums comesBefore
+returns c = c .sooner .ensures ∙ rw (c .before .before .exact-sum .ensures, c .before .exact-sum2 .ensures)
+
+pub comes-before-spec : {M : Type 1} → statement M
+comes-before-spec = tie.close (tie.spec exact-sum-requires exact-sum-requires-2 sooner-requires returns)

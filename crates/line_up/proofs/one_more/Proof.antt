@@ -1,0 +1,13 @@
+-- `line_up::one_more` meets its contract. Assumes nothing.
+use borrow.Author.Needs.{needs}
+use Rattle.line_up.proofs.one_more.Statement.{statement}
+use Rattle.line_up.proofs.one_more.Tie as tie
+
+returns : tie.Need-returns
+returns c = search needs
+
+returns-2 : tie.Need-returns-2
+returns-2 c = rw (c .if1 .left)
+
+pub one-more-spec : {M : Type 1} → statement M
+one-more-spec = tie.close (tie.spec returns returns-2)

@@ -1,0 +1,23 @@
+-- `line_up::sooner_at` meets its contract. Assumes nothing.
+use mathlib.Core.Path.{_∙_}
+use Rattle.line_up.proofs.Cases.{sooner-is}
+use borrow.Author.Needs.{needs}
+use Rattle.line_up.proofs.sooner_at.Statement.{statement}
+use Rattle.line_up.proofs.sooner_at.Tie as tie
+
+stamp-of-requires : tie.Need-stamp-of-requires
+stamp-of-requires c κs = search needs
+
+stamp-of-requires-2 : tie.Need-stamp-of-requires-2
+stamp-of-requires-2 c κs = search needs
+
+comes-before-requires : tie.Need-comes-before-requires
+comes-before-requires c κs = search needs
+
+returns : tie.Need-returns
+returns c =
+    let a = c .before .before .before .before .before .args in
+    c .comes-before .ensures ∙ sooner-is (a .jd1s .now) (a .jd2s .now) (a .i) (a .j) (c .before .before .stamp-of .result) (c .before .stamp-of2 .result) (c .before .before .stamp-of .ensures) (c .before .stamp-of2 .ensures)
+
+pub sooner-at-spec : {M : Type 1} → statement M
+sooner-at-spec = tie.close (tie.spec stamp-of-requires stamp-of-requires-2 comes-before-requires returns)

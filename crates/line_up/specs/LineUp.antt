@@ -1,0 +1,76 @@
+-- The lining up of three runs of stamps, their parts and the places as bytes, the lowest first. This project's own, for the customer's three recorders: the stamps that
+-- nothing refused in the order of their exact sums. Refusals by document 01's numbers: 14 a broken length, 12 sizes that differ, 13 too many, 11 too few places; of a stamp
+-- 9 and document 02's 17. Assumes nothing.
+use Prim.Native.Nat.{ℕ, _+_, _-_, _*_, _/_, _%_}
+use mathlib.Core.Bool.{Bool, true, false, cond, not, _&&_}
+use mathlib.Core.List.{List, [], _∷_, _++_}
+use lib.Dec.{eqb, leb}
+use lib.ListN.{length, drop}
+use lib.Ieee.{ofBits, binary64}
+use Rattle.refusals.specs.Outcome.{Outcome, answer, refusal}
+use Rattle.little_endian.specs.LittleEndian.{u64At}
+use Rattle.julian.specs.declared.JulianDate.{JulianDate}
+use Rattle.julian.specs.JulianDate.{julian}
+use Rattle.date_order.specs.Places.{hasPlace, comesBefore}
+use Rattle.line_up.specs.declared.LineUpAnswer.the-variants as Answer
+use Rattle.line_up.specs.declared.LineUpAnswer.{LineUpAnswer}
+use Rattle.line_up.specs.Runs.{allTested, numbersAfter, ordered}
+
+-- the stamp at place i: eight bytes of each part
+unfoldable pub stampOf : List ℕ → List ℕ → ℕ → JulianDate
+stampOf js ks i = julian (ofBits binary64 (u64At js (8 * i))) (ofBits binary64 (u64At ks (8 * i)))
+
+-- it has no place in the order, as where a part is not finite
+unfoldable pub deadAt : List ℕ → List ℕ → ℕ → Bool
+deadAt js ks i = not (hasPlace (stampOf js ks i))
+
+-- the stamp at place i comes before that at j
+unfoldable pub soonerAt : List ℕ → List ℕ → ℕ → ℕ → Bool
+soonerAt js ks i j = comesBefore (stampOf js ks i) (stampOf js ks j)
+
+-- a place in four bytes
+abbrev pub fourBytes : ℕ → List ℕ
+fourBytes p = (p % 256) ∷ (p / 256 % 256) ∷ (p / 65536 % 256) ∷ (p / 16777216 % 256) ∷ []
+
+unfoldable pub placesBytes : List ℕ → List ℕ
+placesBytes [] = []
+placesBytes (p ∷ ps) = fourBytes p ++ placesBytes ps
+
+unfoldable pub countOutcome : LineUpAnswer → Outcome ℕ
+countOutcome (Answer.Ordered n) = answer n
+countOutcome (Answer.Refused number) = refusal number
+
+-- eight bytes for each of n stamps, where the size is a multiple of eight
+abbrev pub eightEach : ℕ → ℕ → Bool
+eightEach size n = eqb (size / 8) n
+
+-- the refusal of the sizes in bytes of the parts, of n stamps of which the first runs have `first` and `second`, and of the bytes for the places; 0 for none
+unfoldable pub lineRefusal : ℕ → ℕ → ℕ → ℕ → ℕ → ℕ → ℕ
+lineRefusal size1 size2 n first second room =
+    cond (eqb (size1 % 8) 0 && eqb (size2 % 8) 0)
+    (cond (eightEach size1 n && eightEach size2 n)
+    (cond (leb first n && leb second (n - first)) (cond (leb n 4294967295) (cond (leb n (room / 4)) 0 11) 13) 14)
+    12)
+    14
+
+-- the answer, and what is left in the two slices that are written
+pub record LinedUp : Type 0 where
+  pub answer : Outcome ℕ
+  pub numbers : List ℕ
+  pub out : List ℕ
+
+abbrev pub result : LineUpAnswer → List ℕ → List ℕ → LinedUp
+result r numbers out = record { answer = countOutcome r; numbers = numbers; out = out }
+
+-- the ordered places at the start of `out`, whose rest stays
+unfoldable pub lineWritten : List ℕ → List ℕ → List ℕ → LinedUp
+lineWritten ms places out = record { answer = Outcome.answer (length places); numbers = ms; out = placesBytes places ++ drop (4 * length places) out }
+
+unfoldable pub putInLine : (ℕ → ℕ → Bool) → List ℕ → ℕ → ℕ → List ℕ → LinedUp
+putInLine lt ns a b out = lineWritten (numbersAfter lt ns a b (length ns)) (ordered lt (numbersAfter lt ns a b (length ns)) a b (length ns)) out
+
+unfoldable pub linedUp : List ℕ → List ℕ → List ℕ → ℕ → ℕ → List ℕ → LinedUp
+linedUp js ks ns first second out =
+    cond (eqb (lineRefusal (length js) (length ks) (length ns) first second (length out)) 0)
+    (putInLine (soonerAt js ks) (allTested (deadAt js ks) 0 ns) first (first + second) out)
+    (record { answer = refusal (lineRefusal (length js) (length ks) (length ns) first second (length out)); numbers = ns; out = out })

@@ -1,0 +1,279 @@
+// Lining up: one order of the stamps of up to three recorders by their exact sums, in TAI. The parts of the stamps and the places are bytes, the lowest first.
+ghost use mathlib.Core.Path.{_≡_};
+ghost use mathlib.Core.Bool.{_||_, cond};
+ghost use lib.Dec.{eqb};
+ghost use lib.ListN.{length};
+ghost use lib.Seq.{sets};
+ghost use Prim.Native.Nat.{_≤_, _<_, _+_};
+ghost use Rattle.line_up.specs.Runs as R;
+ghost use Rattle.line_up.specs.LineUp as U;
+ghost use Rattle.line_up.specs.Asked as N;
+
+// How many stamps are ordered, or the number of the refusal.
+pub enum LineUpAnswer {
+    Ordered(u32),
+    Refused(u32),
+}
+
+fn stamp_of(jd1s: &[u8], jd2s: &[u8], i: usize) -> julian::JulianDate
+    requires { ⌜ i ≤ 4294967295 ⌝ }
+    ensures { λ r. ⌜ r ≡ U.stampOf (now (jd1s .entry)) (now (jd2s .entry)) i ⌝ }
+{
+    let a = little_endian::u64_at(jd1s, 8 * i);
+    let b = little_endian::u64_at(jd2s, 8 * i);
+    let x = floats::from_bits(a);
+    let y = floats::from_bits(b);
+    julian::JulianDate::new(x, y)
+}
+
+// The number of the stamp at place i: 9 where it comes in with 0 and has no place in the order, as a NaN has none.
+fn tested(jd1s: &[u8], jd2s: &[u8], number: u8, i: usize) -> u8
+    requires { ⌜ i ≤ 4294967295 ⌝ }
+    ensures { λ r. ⌜ r ≡ R.tested (U.deadAt (now (jd1s .entry)) (now (jd2s .entry))) number i ⌝ }
+{
+    if number == 0 {
+        if !date_order::has_place(stamp_of(jd1s, jd2s, i)) {
+            return 9;
+        }
+    }
+    number
+}
+
+// Turns away each dead stamp that nothing refused before.
+fn turn_dead_away(jd1s: &[u8], jd2s: &[u8], numbers: &mut [u8])
+    requires { ⌜ length (now numbers) ≤ 4294967295 ⌝ }
+    ensures { λ _. ⌜ now (numbers .exit) ≡ R.allTested (U.deadAt (now (jd1s .entry)) (now (jd2s .entry))) 0 (now (numbers .entry)) ⌝ }
+{
+    let n = numbers.len();
+    let mut i = 0;
+    while i < n {
+        let m = tested(jd1s, jd2s, numbers[i], i);
+        numbers[i] = m;
+        i += 1;
+    }
+}
+
+// Whether the stamp at place i comes before that at j.
+fn sooner_at(jd1s: &[u8], jd2s: &[u8], i: usize, j: usize) -> bool
+    requires { ⌜ N.BothPlaces i j ⌝ }
+    ensures { λ r. ⌜ r ≡ U.soonerAt (now (jd1s .entry)) (now (jd2s .entry)) i j ⌝ }
+{
+    let a = stamp_of(jd1s, jd2s, i);
+    let b = stamp_of(jd1s, jd2s, j);
+    date_order::comes_before(a, b)
+}
+
+// The number of the stamp at place i: 17 if it is earlier than the last accepted one of its run.
+fn mark(jd1s: &[u8], jd2s: &[u8], number: u8, any: bool, last: usize, i: usize) -> u8
+    requires { ⌜ N.BothPlaces i last ⌝ }
+    ensures { λ r. ⌜ r ≡ R.mark (U.soonerAt (now (jd1s .entry)) (now (jd2s .entry))) number any last i ⌝ }
+{
+    if number == 0 {
+        if any {
+            if sooner_at(jd1s, jd2s, i, last) {
+                return 17;
+            }
+        }
+    }
+    number
+}
+
+fn one_more(any: bool, m: u8) -> bool
+    ensures { λ r. ⌜ r ≡ (any || eqb m 0) ⌝ }
+{
+    any || m == 0
+}
+
+fn last_of(m: u8, i: usize, last: usize) -> usize
+    ensures { λ r. ⌜ r ≡ cond (eqb m 0) i last ⌝ }
+{
+    if m == 0 {
+        return i;
+    }
+    last
+}
+
+// Turns away each stamp of a run that is earlier than the last accepted one before it.
+fn turn_away(jd1s: &[u8], jd2s: &[u8], numbers: &mut [u8], from: usize, to: usize)
+    requires { ⌜ N.Ranged (now numbers) from to ⌝ }
+    ensures { λ _. ⌜ now (numbers .exit) ≡ N.runTurned (U.soonerAt (now (jd1s .entry)) (now (jd2s .entry))) (now (numbers .entry)) from to ⌝ }
+{
+    let mut any = false;
+    let mut last: usize = 0;
+    let mut i = from;
+    while i < to {
+        let m = mark(jd1s, jd2s, numbers[i], any, last, i);
+        numbers[i] = m;
+        any = one_more(any, m);
+        last = last_of(m, i, last);
+        i += 1;
+    }
+}
+
+// The first accepted place from `from` up to `to`, or the length.
+fn next_accepted(numbers: &[u8], from: usize, to: usize) -> usize
+    requires { ⌜ to ≤ length (now numbers) ⌝ }
+    ensures { λ r. ⌜ r ≡ R.firstOr (length (now (numbers .entry))) (R.acceptedIn (now (numbers .entry)) from to) ⌝ }
+{
+    let mut i = from;
+    while i < to {
+        if numbers[i] == 0 {
+            return i;
+        }
+        i += 1;
+    }
+    numbers.len()
+}
+
+// The cursor x of a run that ends at `to`, after place p went into the order.
+fn advance(numbers: &[u8], to: usize, p: usize, x: usize) -> usize
+    requires { ⌜ to ≤ length (now numbers) ⌝ }
+    requires { ⌜ p < length (now numbers) ⌝ }
+    ensures { λ r. ⌜ r ≡ R.cursorAfter (now (numbers .entry)) to p x ⌝ }
+{
+    if p == x {
+        return next_accepted(numbers, p + 1, to);
+    }
+    x
+}
+
+// Of two places the one that goes first; n is no place.
+fn pick(jd1s: &[u8], jd2s: &[u8], n: usize, x: usize, y: usize) -> usize
+    requires { ⌜ n ≤ 4294967295 ⌝ }
+    ensures { λ r. ⌜ r ≡ R.pick (U.soonerAt (now (jd1s .entry)) (now (jd2s .entry))) n x y ⌝ }
+{
+    if n <= y {
+        return x;
+    }
+    if n <= x {
+        return y;
+    }
+    if sooner_at(jd1s, jd2s, y, x) {
+        return y;
+    }
+    x
+}
+
+fn pick_of_three(jd1s: &[u8], jd2s: &[u8], n: usize, x: usize, y: usize, z: usize) -> usize
+    requires { ⌜ n ≤ 4294967295 ⌝ }
+    ensures { λ r. ⌜ r ≡ R.pick (U.soonerAt (now (jd1s .entry)) (now (jd2s .entry))) n (R.pick (U.soonerAt (now (jd1s .entry)) (now (jd2s .entry))) n x y) z ⌝ }
+{
+    let q = pick(jd1s, jd2s, n, x, y);
+    pick(jd1s, jd2s, n, q, z)
+}
+
+fn put_place(out: &mut [u8], at: usize, p: usize)
+    requires { ⌜ at + 4 ≤ length (now out) ⌝ }
+    ensures { λ _. ⌜ now (out .exit) ≡ sets (now (out .entry)) at (U.fourBytes p) ⌝ }
+{
+    let a = (p % 256) as u8;
+    let b = (p / 256 % 256) as u8;
+    let c = (p / 65536 % 256) as u8;
+    let d = (p / 16777216 % 256) as u8;
+    out[at] = a;
+    out[at + 1] = b;
+    out[at + 2] = c;
+    out[at + 3] = d;
+}
+
+// The merge, with a cursor in each run: the first accepted place that is left of it, or the length.
+fn merge(
+    jd1s: &[u8],
+    jd2s: &[u8],
+    numbers: &[u8],
+    first: usize,
+    second: usize,
+    out: &mut [u8],
+) -> usize
+    requires { ⌜ N.Mergeable (now numbers) first second (now out) ⌝ }
+    ensures { λ r. ⌜ N.Merged (U.soonerAt (now (jd1s .entry)) (now (jd2s .entry))) (now (numbers .entry)) first second (now (out .entry)) (now (out .exit)) r ⌝ }
+{
+    let n = numbers.len();
+    let mut x = next_accepted(numbers, 0, first);
+    let mut y = next_accepted(numbers, first, second);
+    let mut z = next_accepted(numbers, second, n);
+    let mut p = pick_of_three(jd1s, jd2s, n, x, y, z);
+    let mut k: usize = 0;
+    while p < n {
+        put_place(out, 4 * k, p);
+        k += 1;
+        x = advance(numbers, first, p, x);
+        y = advance(numbers, second, p, y);
+        z = advance(numbers, n, p, z);
+        p = pick_of_three(jd1s, jd2s, n, x, y, z);
+    }
+    k
+}
+
+// Whether a slice of so many bytes has eight for each of n stamps.
+fn eight_each(size: usize, n: usize) -> bool
+    ensures { λ r. ⌜ r ≡ U.eightEach size n ⌝ }
+{
+    size / 8 == n
+}
+
+// The refusal of the sizes, or 0.
+fn line_refusal(
+    size1: usize,
+    size2: usize,
+    n: usize,
+    first: usize,
+    second: usize,
+    room: usize,
+) -> u32
+    ensures { λ r. ⌜ r ≡ U.lineRefusal size1 size2 n first second room ⌝ }
+{
+    if size1 % 8 != 0 {
+        return refusals::BLOCK_LENGTH_WRONG;
+    }
+    if size2 % 8 != 0 {
+        return refusals::BLOCK_LENGTH_WRONG;
+    }
+    if !eight_each(size1, n) {
+        return refusals::BLOCK_SIZES_DIFFER;
+    }
+    if !eight_each(size2, n) {
+        return refusals::BLOCK_SIZES_DIFFER;
+    }
+    if first > n {
+        return refusals::BLOCK_LENGTH_WRONG;
+    }
+    if second > n - first {
+        return refusals::BLOCK_LENGTH_WRONG;
+    }
+    if n > 4294967295 {
+        return refusals::BLOCK_TOO_LARGE;
+    }
+    if room / 4 < n {
+        return refusals::TEXT_LONGER_THAN_BUFFER;
+    }
+    0
+}
+
+// The places of the accepted stamps (number 0) in the order of their exact sums, four bytes each in `out`; ties by run and then by place. The runs stand one after the
+// other, the third is what is left. A stamp that comes in with number 0 and is dead gets number 9, one that is earlier than an accepted one before it in its run 17.
+// Refusals in order: 14 a length of parts that is no multiple of eight, 12 not as many parts as numbers, 14 counts past the length, 13 more stamps than a place of four
+// bytes can number, 11 fewer than four bytes for each stamp; a refused call writes nothing.
+pub fn line_up(
+    jd1s: &[u8],
+    jd2s: &[u8],
+    numbers: &mut [u8],
+    first: usize,
+    second: usize,
+    out: &mut [u8],
+) -> LineUpAnswer
+    ensures { λ r. ⌜ U.result r (now (numbers .exit)) (now (out .exit)) ≡ U.linedUp (now (jd1s .entry)) (now (jd2s .entry)) (now (numbers .entry)) first second (now (out .entry)) ⌝ }
+{
+    let n = numbers.len();
+    let number = line_refusal(jd1s.len(), jd2s.len(), n, first, second, out.len());
+    if number != 0 {
+        return LineUpAnswer::Refused(number);
+    }
+    let rest = first + second;
+    turn_dead_away(jd1s, jd2s, numbers);
+    turn_away(jd1s, jd2s, numbers, 0, first);
+    turn_away(jd1s, jd2s, numbers, first, rest);
+    turn_away(jd1s, jd2s, numbers, rest, n);
+    let many = merge(jd1s, jd2s, numbers, first, rest, out) as u32;
+    LineUpAnswer::Ordered(many)
+}

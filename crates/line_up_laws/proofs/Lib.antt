@@ -1,0 +1,6 @@
+-- The laws of the lining up: any two of a list, each place once, who is dead, who is turned away, and last the theorems.
+pub mod Pairwise
+pub mod Once
+pub mod Dead
+pub mod Judging
+pub mod Theorems

@@ -1,0 +1,2 @@
+-- What the theorems of the lining up say.
+pub mod Claims
