@@ -1,0 +1,5 @@
+-- The laws of a standby bill.
+pub mod Quarters
+pub mod Sharing
+pub mod Decided
+pub mod Cases
