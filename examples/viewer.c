@@ -50,7 +50,7 @@ static int64_t count_refused(const uint8_t *block, int64_t stamps)
     uint8_t text[TEXT];
     int64_t i, refused = 0;
     for (i = 0; i < stamps; i++)
-        if (ct_to_iso8601(ct_float_at(jd1 + 8 * i), ct_float_at(jd2 + 8 * i), text, sizeof text) < 0) refused++;
+        if (ct_to_iso8601(ct_float_at(jd1 + 8 * i), ct_float_at(jd2 + 8 * i), ct_no_rows, sizeof ct_no_rows, text, sizeof text) < 0) refused++;
     return refused;
 }
 

@@ -45,7 +45,7 @@
      11  buffer too short
      12  sizes of a block differ
      13  size of a block above 4,000
-     14  length of a block, or of a list of ticks or passes, wrong
+     14  length of a block, of a table, or of a list of ticks or passes, wrong
      15  text outside the grammar
      16  more than 13 digits after a second's point
      17  date or stamp earlier than the one before it
@@ -151,17 +151,37 @@ int64_t ct_compare(double jd1, double jd2, double other1, double other2);
    NaN. */
 double ct_difference(double jd1, double jd2, double other1, double other2);
 
-/* ---- TAI-UTC */
+/* ---- Tables: leap rows that were announced after this library was built
 
-/* TAI-UTC in seconds at a fraction of a day; 8 bytes. Refuses 7; then 1, 2, 3; 11.
-   2000-13-01 with the fraction 1.5 is 7. */
+   A call that reads TAI-UTC is lent a table of 0 to 16 rows, which stand behind the library's own 42:
+   CT_TABLE_BYTES bytes. These are two sizes, 16 month starts (12 * year + month - 1) and 16 times
+   TAI-UTC in whole seconds from then on, 4 bytes each, in two's complement, the lowest byte first.
+   Places past the size are neither read nor judged. ct_no_rows is a table of no rows, and ct_table, at
+   the end of this file, fills one from two arrays.
+   A table is refused before anything else of the call, each number for all rows before the next: 14
+   for another length than CT_TABLE_BYTES; 20 for sizes that differ or are above 16; 21 for a row that
+   is not later than the one before it, the first than January 2017; 22 for a row that is not one
+   second more or less than the one before it, the first than 37. With the months 2027-01, 2027-01 and
+   the seconds 39, 40 it is 21; with one byte more it is 14. With no byte, a table that is refused is
+   not 11. */
+#define CT_TABLE_BYTES 136
+static const uint8_t ct_no_rows[CT_TABLE_BYTES] = {0};
+
+/* The number of rows of a table, the library's own among them: 42 to 58. Refuses 14; 20; 21; 22. */
+int64_t ct_check_table(const uint8_t *table, size_t table_len);
+
+/* ---- TAI-UTC: "the table" in front of the refusals is 14; 20; 21; 22, as above */
+
+/* TAI-UTC in seconds at a fraction of a day; 8 bytes. Refuses the table; 7; then 1, 2, 3; 11.
+   2000-13-01 with the fraction 1.5 is 7, and with a table of 135 bytes 14. */
 int64_t ct_get_tai_utc_offset(int32_t year, int32_t month, int32_t day, double fraction,
-                              uint8_t *out, size_t out_len);
+                              const uint8_t *table, size_t table_len, uint8_t *out, size_t out_len);
 
 /* The step of TAI-UTC at the end of a day in seconds; 8 bytes. On a day of 1960 to 1971 without a
-   step it may be some last places off zero: 1960-01-01 gives -2^-53. Refuses 1, 2, 3; then 5 on
-   2147483647-12-31; 11. 2000-13-40 is 2, and 2147483647-12-31 with no byte 5. */
-int64_t ct_leap_at_end_of_day(int32_t year, int32_t month, int32_t day, uint8_t *out, size_t out_len);
+   step it may be some last places off zero: 1960-01-01 gives -2^-53. Refuses the table; 1, 2, 3; then
+   5 on 2147483647-12-31; 11. 2000-13-40 is 2, and 2147483647-12-31 with no byte 5. */
+int64_t ct_leap_at_end_of_day(int32_t year, int32_t month, int32_t day, const uint8_t *table,
+                              size_t table_len, uint8_t *out, size_t out_len);
 
 /* ---- Scales: a date of the first scale in, the date of the second out: jd1, jd2; 16 bytes */
 
@@ -206,37 +226,46 @@ int64_t ct_gps_to_week(double jd1, double jd2, uint8_t *out, size_t out_len);
    above 99,000; then 19, where two weeks are equally near. (1024, 512) is 18, and (0, 512) is 19. */
 int64_t ct_gps_full_week(uint32_t ten_bits, uint32_t reference);
 
-/* ---- UTC: on a day that ends in a leap second, jd2 runs to the end of its 86,401 seconds */
+/* ---- UTC: on a day that ends in a leap second, jd2 runs to the end of its 86,401 seconds; on one that
+   ends in a step of -1 s, which only a lent row can make, of its 86,399 */
 
-/* The UTC date of a Unix time, divided downward: jd1, jd2; 16 bytes. Refuses 8; 6; then 1;
+/* The UTC date of a Unix time, divided downward: jd1, jd2; 16 bytes. Refuses the table; 8; 6; then 1;
    then 4, on a day that ends in a step back; 11. (INT64_MAX, 1000000000) is 8, and (INT64_MIN, 0)
-   is 6, though its year is before -4799 too. */
-int64_t ct_utc_new(int64_t seconds, uint32_t nanos, uint8_t *out, size_t out_len);
+   is 6, though its year is before -4799 too. The last second that Unix time counts in a day of
+   86,399 s is 4. */
+int64_t ct_utc_new(int64_t seconds, uint32_t nanos, const uint8_t *table, size_t table_len,
+                   uint8_t *out, size_t out_len);
 
-/* The UTC date of a day and time: jd1, jd2; 16 bytes. Refuses 1, 2, 3; then 5; then 4, where the
-   limit at 23:59 is 60 plus the day's leap; 11. 2147483647-12-31 at 25:00:00 is 5, and
+/* The UTC date of a day and time: jd1, jd2; 16 bytes. Refuses the table; 1, 2, 3; then 5; then 4, where
+   the limit at 23:59 is 60 plus the day's leap; 11. 2147483647-12-31 at 25:00:00 is 5, and
    2016-12-31 23:59:60.0 is a date. */
 int64_t ct_utc_from_calendar(int32_t year, uint8_t month, uint8_t day, uint8_t hour, uint8_t minute,
-                             double second, uint8_t *out, size_t out_len);
+                             double second, const uint8_t *table, size_t table_len, uint8_t *out,
+                             size_t out_len);
 
-/* UTC to TAI and back: jd1, jd2; 16 bytes. Refuses 6; then 1; 11. (-68571.0, 0.0) is 6, though its
-   year is before -4799 too; (-31739.5, 0.0), which is -4800-12-31, with no byte is 1. */
-int64_t ct_utc_to_tai(double jd1, double jd2, uint8_t *out, size_t out_len);
-int64_t ct_tai_to_utc(double jd1, double jd2, uint8_t *out, size_t out_len);
+/* UTC to TAI and back: jd1, jd2; 16 bytes. Refuses the table; 6; then 1; 11. (-68571.0, 0.0) is 6,
+   though its year is before -4799 too; (-31739.5, 0.0), which is -4800-12-31, with no byte is 1. */
+int64_t ct_utc_to_tai(double jd1, double jd2, const uint8_t *table, size_t table_len, uint8_t *out,
+                      size_t out_len);
+int64_t ct_tai_to_utc(double jd1, double jd2, const uint8_t *table, size_t table_len, uint8_t *out,
+                      size_t out_len);
 
-/* UTC to UT1 by DUT1 = UT1-UTC in seconds: jd1, jd2; 16 bytes. Refuses 10; 6; then 1; 11. The
-   date (NaN, 0.0) with DUT1 NaN is 10. */
-int64_t ct_utc_to_ut1_with_dut1(double jd1, double jd2, double dut1, uint8_t *out, size_t out_len);
+/* UTC to UT1 by DUT1 = UT1-UTC in seconds: jd1, jd2; 16 bytes. Refuses the table; 10; 6; then 1; 11.
+   The date (NaN, 0.0) with DUT1 NaN is 10. */
+int64_t ct_utc_to_ut1_with_dut1(double jd1, double jd2, double dut1, const uint8_t *table,
+                                size_t table_len, uint8_t *out, size_t out_len);
 
-/* UT1 to UTC: jd1, jd2; 16 bytes. Refuses 10; 9; then 6 or 1 by the days from one before to three
-   after, as far as they are looked up; 11. (NaN, 0.0) with DUT1 NaN is 10, and with DUT1 0.0 and no
-   byte 9. */
-int64_t ct_ut1_to_utc_with_dut1(double jd1, double jd2, double dut1, uint8_t *out, size_t out_len);
+/* UT1 to UTC: jd1, jd2; 16 bytes. Refuses the table; 10; 9; then 6 or 1 by the days from one before to
+   three after, as far as they are looked up; 11. (NaN, 0.0) with DUT1 NaN is 10, and with DUT1 0.0 and
+   no byte 9. */
+int64_t ct_ut1_to_utc_with_dut1(double jd1, double jd2, double dut1, const uint8_t *table,
+                                size_t table_len, uint8_t *out, size_t out_len);
 
 /* The UTC date as text, 23 to 26 bytes: 2016-12-31T23:59:60.000, to the nearest millisecond. No
-   byte 0 ends it; the call returns its length. Refuses 6; then 1; 11, which 22 bytes are for
+   byte 0 ends it; the call returns its length. Refuses the table; 6; then 1; 11, which 22 bytes are for
    2000-01-01. (-68571.0, 0.0) is 6; (-31739.5, 0.0), which is -4800-12-31, with no byte is 1. */
-int64_t ct_to_iso8601(double jd1, double jd2, uint8_t *out, size_t out_len);
+int64_t ct_to_iso8601(double jd1, double jd2, const uint8_t *table, size_t table_len, uint8_t *out,
+                      size_t out_len);
 
 /* ---- Text read: YYYY-MM-DDThh:mm:ss, or a blank for the T, with a point and 1 to 13 digits or none.
    Bytes 9 to 13 and 32 around it are dropped. The second is the float nearest to its decimal. A byte
@@ -282,7 +311,29 @@ int64_t ct_place_ticks(const uint8_t *pass_ticks, size_t pass_ticks_len, const u
                        size_t pass_millis_len, const uint8_t *ticks, size_t ticks_len, uint8_t *out,
                        size_t out_len);
 
-/* ---- Reading bytes: these and ct_float_mode are compiled with the viewer, not in the archive */
+/* ---- Writing and reading bytes: these and ct_float_mode are compiled with the viewer, not in the archive */
+
+/* The 4 bytes of a number of 32 bits, the lowest first. */
+static inline void ct_put_number(uint8_t *bytes, uint32_t number)
+{
+    int i;
+    for (i = 0; i < 4; i++) bytes[i] = (uint8_t)(number >> 8 * i);
+}
+
+/* A table of so many rows: their month starts, 12 * year + month - 1, and their seconds. More than 16
+   rows are not read, and the calls refuse the table by 20. */
+static inline void ct_table(const int32_t *months, const int32_t *seconds, uint32_t rows,
+                            uint8_t table[CT_TABLE_BYTES])
+{
+    uint32_t i;
+    memset(table, 0, CT_TABLE_BYTES);
+    ct_put_number(table, rows);
+    ct_put_number(table + 4, rows);
+    for (i = 0; i < rows && i < 16; i++) {
+        ct_put_number(table + 8 + 4 * i, (uint32_t)months[i]);
+        ct_put_number(table + 72 + 4 * i, (uint32_t)seconds[i]);
+    }
+}
 
 /* The number of `count` bytes, the lowest first, 8 at the most. */
 static inline uint64_t ct_pattern_at(const uint8_t *bytes, int count)

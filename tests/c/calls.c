@@ -5,6 +5,7 @@
    The answers are document 01's, whole numbers of seconds, or ERFA's. */
 #include "lent.h"
 #include "scale_calls.h"
+#include "table_calls.h"
 #include "tick_calls.h"
 
 static void month_lengths(void)
@@ -181,104 +182,104 @@ static void gps_weeks(void)
 
 static void offset_calls(void)
 {
-    GIVES(seconds(36.0), ct_get_tai_utc_offset, 2016, 12, 31, 0.0);
-    GIVES(seconds(0.0), ct_get_tai_utc_offset, 1959, 12, 31, 1.0);
-    GIVES(seconds(6.2830900000000005), ct_get_tai_utc_offset, 1968, 1, 31, 0.0);
-    GIVES(seconds(6.2843860000000005), ct_get_tai_utc_offset, 1968, 1, 31, 0.5);
-    REFUSES(7, ct_get_tai_utc_offset, 2000, 13, 1, 1.5);
-    REFUSES(7, ct_get_tai_utc_offset, -4800, 13, 40, 1.5);
-    REFUSES(7, ct_get_tai_utc_offset, 2000, 1, 1, -0.5);
-    REFUSES(7, ct_get_tai_utc_offset, 2000, 1, 1, nan_float());
-    REFUSES(7, ct_get_tai_utc_offset, 2000, 1, 1, signalling_float());
-    REFUSES(7, ct_get_tai_utc_offset, 2000, 1, 1, infinite_float());
-    REFUSES(1, ct_get_tai_utc_offset, -4800, 13, 40, 0.5);
-    REFUSES(2, ct_get_tai_utc_offset, 2000, 13, 40, 0.5);
-    REFUSES(3, ct_get_tai_utc_offset, 1900, 2, 29, 0.5);
-    GIVES(seconds(1.0), ct_leap_at_end_of_day, 2016, 12, 31);
-    GIVES(seconds(0.0), ct_leap_at_end_of_day, 2017, 1, 1);
-    GIVES(seconds(-0x1p-53), ct_leap_at_end_of_day, 1960, 1, 1);
-    REFUSES(1, ct_leap_at_end_of_day, -4800, 13, 40);
-    REFUSES(2, ct_leap_at_end_of_day, 2000, 13, 40);
-    REFUSES(3, ct_leap_at_end_of_day, 1900, 2, 29);
-    REFUSES(5, ct_leap_at_end_of_day, 2147483647, 12, 31);
+    GIVES(seconds(36.0), ct_get_tai_utc_offset, 2016, 12, 31, 0.0, NO_ROWS);
+    GIVES(seconds(0.0), ct_get_tai_utc_offset, 1959, 12, 31, 1.0, NO_ROWS);
+    GIVES(seconds(6.2830900000000005), ct_get_tai_utc_offset, 1968, 1, 31, 0.0, NO_ROWS);
+    GIVES(seconds(6.2843860000000005), ct_get_tai_utc_offset, 1968, 1, 31, 0.5, NO_ROWS);
+    REFUSES(7, ct_get_tai_utc_offset, 2000, 13, 1, 1.5, NO_ROWS);
+    REFUSES(7, ct_get_tai_utc_offset, -4800, 13, 40, 1.5, NO_ROWS);
+    REFUSES(7, ct_get_tai_utc_offset, 2000, 1, 1, -0.5, NO_ROWS);
+    REFUSES(7, ct_get_tai_utc_offset, 2000, 1, 1, nan_float(), NO_ROWS);
+    REFUSES(7, ct_get_tai_utc_offset, 2000, 1, 1, signalling_float(), NO_ROWS);
+    REFUSES(7, ct_get_tai_utc_offset, 2000, 1, 1, infinite_float(), NO_ROWS);
+    REFUSES(1, ct_get_tai_utc_offset, -4800, 13, 40, 0.5, NO_ROWS);
+    REFUSES(2, ct_get_tai_utc_offset, 2000, 13, 40, 0.5, NO_ROWS);
+    REFUSES(3, ct_get_tai_utc_offset, 1900, 2, 29, 0.5, NO_ROWS);
+    GIVES(seconds(1.0), ct_leap_at_end_of_day, 2016, 12, 31, NO_ROWS);
+    GIVES(seconds(0.0), ct_leap_at_end_of_day, 2017, 1, 1, NO_ROWS);
+    GIVES(seconds(-0x1p-53), ct_leap_at_end_of_day, 1960, 1, 1, NO_ROWS);
+    REFUSES(1, ct_leap_at_end_of_day, -4800, 13, 40, NO_ROWS);
+    REFUSES(2, ct_leap_at_end_of_day, 2000, 13, 40, NO_ROWS);
+    REFUSES(3, ct_leap_at_end_of_day, 1900, 2, 29, NO_ROWS);
+    REFUSES(5, ct_leap_at_end_of_day, 2147483647, 12, 31, NO_ROWS);
 }
 
 /* ---- UTC */
 
 static void utc_of_fields(void)
 {
-    GIVES(parts(2440586.5, 86399.0 / 86400.0), ct_utc_new, -1, 0);
-    REFUSES(8, ct_utc_new, 0, 1000000000);
-    REFUSES(8, ct_utc_new, INT64_MAX, 1000000000);
-    REFUSES(6, ct_utc_new, INT64_MAX, 999999999);
-    REFUSES(6, ct_utc_new, INT64_MIN, 0);
-    REFUSES(1, ct_utc_new, -213609052800, 0);
-    REFUSES(4, ct_utc_new, -265680001, 960000000);
-    GIVES(parts(2457753.5, 86400.0 / 86401.0), ct_utc_from_calendar, 2016, 12, 31, 23, 59, 60.0);
-    REFUSES(1, ct_utc_from_calendar, -4800, 13, 40, 25, 60, nan_float());
-    REFUSES(2, ct_utc_from_calendar, 2000, 13, 40, 25, 60, nan_float());
-    REFUSES(3, ct_utc_from_calendar, 2000, 2, 30, 25, 60, nan_float());
-    REFUSES(5, ct_utc_from_calendar, 2147483647, 12, 31, 25, 0, 0.0);
-    REFUSES(4, ct_utc_from_calendar, 2015, 12, 31, 23, 59, 60.0);
-    REFUSES(4, ct_utc_from_calendar, 2016, 12, 31, 23, 59, 61.0);
-    REFUSES(4, ct_utc_from_calendar, 1961, 7, 31, 23, 59, 59.96);
-    REFUSES(4, ct_utc_from_calendar, 2000, 1, 1, 24, 0, 0.0);
-    REFUSES(4, ct_utc_from_calendar, 2000, 1, 1, 0, 60, 0.0);
-    REFUSES(4, ct_utc_from_calendar, 2000, 1, 1, 0, 0, signalling_float());
+    GIVES(parts(2440586.5, 86399.0 / 86400.0), ct_utc_new, -1, 0, NO_ROWS);
+    REFUSES(8, ct_utc_new, 0, 1000000000, NO_ROWS);
+    REFUSES(8, ct_utc_new, INT64_MAX, 1000000000, NO_ROWS);
+    REFUSES(6, ct_utc_new, INT64_MAX, 999999999, NO_ROWS);
+    REFUSES(6, ct_utc_new, INT64_MIN, 0, NO_ROWS);
+    REFUSES(1, ct_utc_new, -213609052800, 0, NO_ROWS);
+    REFUSES(4, ct_utc_new, -265680001, 960000000, NO_ROWS);
+    GIVES(parts(2457753.5, 86400.0 / 86401.0), ct_utc_from_calendar, 2016, 12, 31, 23, 59, 60.0, NO_ROWS);
+    REFUSES(1, ct_utc_from_calendar, -4800, 13, 40, 25, 60, nan_float(), NO_ROWS);
+    REFUSES(2, ct_utc_from_calendar, 2000, 13, 40, 25, 60, nan_float(), NO_ROWS);
+    REFUSES(3, ct_utc_from_calendar, 2000, 2, 30, 25, 60, nan_float(), NO_ROWS);
+    REFUSES(5, ct_utc_from_calendar, 2147483647, 12, 31, 25, 0, 0.0, NO_ROWS);
+    REFUSES(4, ct_utc_from_calendar, 2015, 12, 31, 23, 59, 60.0, NO_ROWS);
+    REFUSES(4, ct_utc_from_calendar, 2016, 12, 31, 23, 59, 61.0, NO_ROWS);
+    REFUSES(4, ct_utc_from_calendar, 1961, 7, 31, 23, 59, 59.96, NO_ROWS);
+    REFUSES(4, ct_utc_from_calendar, 2000, 1, 1, 24, 0, 0.0, NO_ROWS);
+    REFUSES(4, ct_utc_from_calendar, 2000, 1, 1, 0, 60, 0.0, NO_ROWS);
+    REFUSES(4, ct_utc_from_calendar, 2000, 1, 1, 0, 0, signalling_float(), NO_ROWS);
 }
 
 static void utc_and_tai(void)
 {
-    GIVES(parts(2453750.5, 0.89248263844444442), ct_utc_to_tai, 2453750.5, 0.892100694);
-    GIVES(parts(2439886.5, 0.50007215724535303), ct_utc_to_tai, 2439886.5, 0.5);
-    REFUSES(6, ct_utc_to_tai, infinite_float(), 0.0);
-    REFUSES(6, ct_utc_to_tai, 2451545.0, signalling_float());
-    REFUSES(6, ct_utc_to_tai, 1e9, 1.0);
-    REFUSES(6, ct_utc_to_tai, -68571.0, 0.0);
-    REFUSES(1, ct_utc_to_tai, -31739.5, 0.0);
-    GIVES(parts(2453750.5, 0.89210069455555563), ct_tai_to_utc, 2453750.5, 0.892482639);
-    GIVES(parts(2439886.5, 0.49992784267329626), ct_tai_to_utc, 2439886.5, 0.5);
-    REFUSES(6, ct_tai_to_utc, nan_float(), 0.0);
-    REFUSES(6, ct_tai_to_utc, infinite_float(), minus_infinite_float());
-    REFUSES(6, ct_tai_to_utc, -68571.0, 0.0);
-    REFUSES(1, ct_tai_to_utc, -31739.5, 0.0);
+    GIVES(parts(2453750.5, 0.89248263844444442), ct_utc_to_tai, 2453750.5, 0.892100694, NO_ROWS);
+    GIVES(parts(2439886.5, 0.50007215724535303), ct_utc_to_tai, 2439886.5, 0.5, NO_ROWS);
+    REFUSES(6, ct_utc_to_tai, infinite_float(), 0.0, NO_ROWS);
+    REFUSES(6, ct_utc_to_tai, 2451545.0, signalling_float(), NO_ROWS);
+    REFUSES(6, ct_utc_to_tai, 1e9, 1.0, NO_ROWS);
+    REFUSES(6, ct_utc_to_tai, -68571.0, 0.0, NO_ROWS);
+    REFUSES(1, ct_utc_to_tai, -31739.5, 0.0, NO_ROWS);
+    GIVES(parts(2453750.5, 0.89210069455555563), ct_tai_to_utc, 2453750.5, 0.892482639, NO_ROWS);
+    GIVES(parts(2439886.5, 0.49992784267329626), ct_tai_to_utc, 2439886.5, 0.5, NO_ROWS);
+    REFUSES(6, ct_tai_to_utc, nan_float(), 0.0, NO_ROWS);
+    REFUSES(6, ct_tai_to_utc, infinite_float(), minus_infinite_float(), NO_ROWS);
+    REFUSES(6, ct_tai_to_utc, -68571.0, 0.0, NO_ROWS);
+    REFUSES(1, ct_tai_to_utc, -31739.5, 0.0, NO_ROWS);
 }
 
 static void utc_and_ut1(void)
 {
-    GIVES(parts(2453750.5, 0.89210456089814816), ct_utc_to_ut1_with_dut1, 2453750.5, 0.892100694, 0.3341);
-    REFUSES(10, ct_utc_to_ut1_with_dut1, nan_float(), 0.0, nan_float());
-    REFUSES(10, ct_utc_to_ut1_with_dut1, 2451545.0, 0.0, minus_infinite_float());
-    REFUSES(6, ct_utc_to_ut1_with_dut1, nan_float(), 0.0, 0.0);
-    REFUSES(6, ct_utc_to_ut1_with_dut1, 1e9, 1.0, 0.0);
-    REFUSES(1, ct_utc_to_ut1_with_dut1, -31739.5, 0.0, 0.0);
-    GIVES(parts(2453750.5, 0.89210069410185189), ct_ut1_to_utc_with_dut1, 2453750.5, 0.892104561, 0.3341);
-    REFUSES(10, ct_ut1_to_utc_with_dut1, nan_float(), 0.0, nan_float());
-    REFUSES(10, ct_ut1_to_utc_with_dut1, 2451545.0, 0.0, signalling_float());
-    REFUSES(9, ct_ut1_to_utc_with_dut1, nan_float(), 0.0, 0.0);
-    REFUSES(9, ct_ut1_to_utc_with_dut1, 2451545.0, infinite_float(), 0.0);
-    REFUSES(6, ct_ut1_to_utc_with_dut1, 1e9, 0.0, 0.0);
-    REFUSES(1, ct_ut1_to_utc_with_dut1, -31738.5, 0.0, 0.0);
+    GIVES(parts(2453750.5, 0.89210456089814816), ct_utc_to_ut1_with_dut1, 2453750.5, 0.892100694, 0.3341, NO_ROWS);
+    REFUSES(10, ct_utc_to_ut1_with_dut1, nan_float(), 0.0, nan_float(), NO_ROWS);
+    REFUSES(10, ct_utc_to_ut1_with_dut1, 2451545.0, 0.0, minus_infinite_float(), NO_ROWS);
+    REFUSES(6, ct_utc_to_ut1_with_dut1, nan_float(), 0.0, 0.0, NO_ROWS);
+    REFUSES(6, ct_utc_to_ut1_with_dut1, 1e9, 1.0, 0.0, NO_ROWS);
+    REFUSES(1, ct_utc_to_ut1_with_dut1, -31739.5, 0.0, 0.0, NO_ROWS);
+    GIVES(parts(2453750.5, 0.89210069410185189), ct_ut1_to_utc_with_dut1, 2453750.5, 0.892104561, 0.3341, NO_ROWS);
+    REFUSES(10, ct_ut1_to_utc_with_dut1, nan_float(), 0.0, nan_float(), NO_ROWS);
+    REFUSES(10, ct_ut1_to_utc_with_dut1, 2451545.0, 0.0, signalling_float(), NO_ROWS);
+    REFUSES(9, ct_ut1_to_utc_with_dut1, nan_float(), 0.0, 0.0, NO_ROWS);
+    REFUSES(9, ct_ut1_to_utc_with_dut1, 2451545.0, infinite_float(), 0.0, NO_ROWS);
+    REFUSES(6, ct_ut1_to_utc_with_dut1, 1e9, 0.0, 0.0, NO_ROWS);
+    REFUSES(1, ct_ut1_to_utc_with_dut1, -31738.5, 0.0, 0.0, NO_ROWS);
 }
 
 static void utc_texts(void)
 {
-    GIVES(text("2000-01-01T12:00:00.000"), ct_to_iso8601, 2451545.0, 0.0);
-    GIVES(text("2000-01-01T12:00:00.123"), ct_to_iso8601, 2451545.0, 0.123456789 / 86400.0);
-    GIVES(text("2000-01-01T12:34:56.789"), ct_to_iso8601, 2451544.5, 45296.7894 / 86400.0);
-    GIVES(text("2000-01-01T23:59:59.999"), ct_to_iso8601, 2451544.5, 86399.9994 / 86400.0);
-    GIVES(text("2000-01-02T00:00:00.000"), ct_to_iso8601, 2451544.5, 86399.9996 / 86400.0);
-    GIVES(text("2016-12-31T23:59:60.000"), ct_to_iso8601, 2457753.5, 86400.0 / 86401.0);
-    GIVES(text("2016-12-31T23:59:60.988"), ct_to_iso8601, 2457753.5, 86400.9876 / 86401.0);
-    GIVES(text("-4799-01-01T00:00:00.000"), ct_to_iso8601, -31738.5, 0.0);
-    GIVES(text("2733194-11-27T12:00:00.000"), ct_to_iso8601, 1e9, 0.0);
-    REFUSES(6, ct_to_iso8601, nan_float(), 0.0);
-    REFUSES(6, ct_to_iso8601, 2451545.0, signalling_float());
-    REFUSES(6, ct_to_iso8601, infinite_float(), minus_infinite_float());
-    REFUSES(6, ct_to_iso8601, 1e9, 1.0);
-    REFUSES(6, ct_to_iso8601, -68570.0, 0.0);
-    REFUSES(6, ct_to_iso8601, -68571.0, 0.0);
-    REFUSES(1, ct_to_iso8601, -31739.5, 0.0);
+    GIVES(text("2000-01-01T12:00:00.000"), ct_to_iso8601, 2451545.0, 0.0, NO_ROWS);
+    GIVES(text("2000-01-01T12:00:00.123"), ct_to_iso8601, 2451545.0, 0.123456789 / 86400.0, NO_ROWS);
+    GIVES(text("2000-01-01T12:34:56.789"), ct_to_iso8601, 2451544.5, 45296.7894 / 86400.0, NO_ROWS);
+    GIVES(text("2000-01-01T23:59:59.999"), ct_to_iso8601, 2451544.5, 86399.9994 / 86400.0, NO_ROWS);
+    GIVES(text("2000-01-02T00:00:00.000"), ct_to_iso8601, 2451544.5, 86399.9996 / 86400.0, NO_ROWS);
+    GIVES(text("2016-12-31T23:59:60.000"), ct_to_iso8601, 2457753.5, 86400.0 / 86401.0, NO_ROWS);
+    GIVES(text("2016-12-31T23:59:60.988"), ct_to_iso8601, 2457753.5, 86400.9876 / 86401.0, NO_ROWS);
+    GIVES(text("-4799-01-01T00:00:00.000"), ct_to_iso8601, -31738.5, 0.0, NO_ROWS);
+    GIVES(text("2733194-11-27T12:00:00.000"), ct_to_iso8601, 1e9, 0.0, NO_ROWS);
+    REFUSES(6, ct_to_iso8601, nan_float(), 0.0, NO_ROWS);
+    REFUSES(6, ct_to_iso8601, 2451545.0, signalling_float(), NO_ROWS);
+    REFUSES(6, ct_to_iso8601, infinite_float(), minus_infinite_float(), NO_ROWS);
+    REFUSES(6, ct_to_iso8601, 1e9, 1.0, NO_ROWS);
+    REFUSES(6, ct_to_iso8601, -68570.0, 0.0, NO_ROWS);
+    REFUSES(6, ct_to_iso8601, -68571.0, 0.0, NO_ROWS);
+    REFUSES(1, ct_to_iso8601, -31739.5, 0.0, NO_ROWS);
 }
 
 /* ---- texts read: tests/reader has the bulk */
@@ -402,5 +403,6 @@ int main(void)
     read_numbers();
     read_answers();
     tick_calls();
+    table_calls();
     return summary("calls");
 }

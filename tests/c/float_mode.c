@@ -30,7 +30,7 @@ static void ask_all(probe *p)
     probe *first = p;
     memset(p, 0, PROBES * sizeof *p);
     ASK(ct_gps_to_tai, tiny(), 0.0);
-    ASK(ct_utc_to_tai, 0.0, tiny());
+    ASK(ct_utc_to_tai, 0.0, tiny(), ct_no_rows, CT_TABLE_BYTES);
     ASK(ct_tt_to_tdb_with_offset, tiny(), 0.0, 0.0);
     ASK(ct_add_days, 2451545.0, tiny(), 0.0);
     ASK(ct_julian_to_calendar, -0.5, tiny());
@@ -39,7 +39,7 @@ static void ask_all(probe *p)
     p->name = "ct_equal(tiny(), 0.0, 0.0, 0.0)";
     p->code = ct_equal(tiny(), 0.0, 0.0, 0.0);
     p++;
-    ASK(ct_get_tai_utc_offset, 2000, 1, 1, minus_tiny());
+    ASK(ct_get_tai_utc_offset, 2000, 1, 1, minus_tiny(), ct_no_rows, CT_TABLE_BYTES);
     ASK(ct_from_calendar, 2000, 1, 1, 0, 0, minus_tiny());
     check(p - first == PROBES, "%d probes", (int)(p - first));
 }
@@ -64,14 +64,16 @@ enum { SUBNORMALS = sizeof SUBNORMAL / sizeof *SUBNORMAL, DAY_COUNT = sizeof DAY
 
 typedef struct { int64_t code[2]; uint8_t bytes[2][ROOM]; } texts;
 
+static int64_t text(double jd1, double jd2, uint8_t *out) { return ct_to_iso8601(jd1, jd2, ct_no_rows, CT_TABLE_BYTES, out, ROOM); }
+
 static void ask_texts(texts *t)
 {
     int i, k;
     memset(t, 0, SUBNORMALS * DAY_COUNT * sizeof *t);
     for (i = 0; i < SUBNORMALS; i++)
         for (k = 0; k < DAY_COUNT; k++, t++) {
-            t->code[0] = ct_to_iso8601(DAYS[k], ct_opaque_float(SUBNORMAL[i]), t->bytes[0], ROOM);
-            t->code[1] = ct_to_iso8601(ct_opaque_float(SUBNORMAL[i]), DAYS[k], t->bytes[1], ROOM);
+            t->code[0] = text(DAYS[k], ct_opaque_float(SUBNORMAL[i]), t->bytes[0]);
+            t->code[1] = text(ct_opaque_float(SUBNORMAL[i]), DAYS[k], t->bytes[1]);
         }
 }
 

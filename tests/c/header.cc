@@ -5,7 +5,7 @@
 int main()
 {
     uint8_t text[26];
-    int64_t length = ct_to_iso8601(2451545.0, 0.0, text, sizeof text);
+    int64_t length = ct_to_iso8601(2451545.0, 0.0, ct_no_rows, sizeof ct_no_rows, text, sizeof text);
     if (length < 0 || ct_float_mode() != 0) return 1;
     return std::fwrite(text, 1, (size_t)length, stdout) != (size_t)length;
 }

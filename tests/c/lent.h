@@ -34,6 +34,9 @@ static void judge(const char *call, int number, int64_t code)
         REFUSES(0, name, __VA_ARGS__); \
     } while (0)
 
+/* The table of a call that lends no rows. */
+#define NO_ROWS ct_no_rows, CT_TABLE_BYTES
+
 /* Calls without a buffer. */
 #define IS(value, call) check((call) == (value), #call " is not " #value)
 #define IS_FLOAT(value, call) check(ct_opaque_bits(call) == ct_opaque_bits(value), #call " is not " #value)

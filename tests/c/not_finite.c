@@ -11,9 +11,20 @@ enum { NOT_FINITE_STAMPS = 212, MOST_BYTES = 64008, ROOM = 32 };
 typedef int64_t plain_call(double, double, uint8_t *, size_t);
 typedef int64_t offset_call(double, double, double, uint8_t *, size_t);
 
+/* The calls that are lent a table, with no rows. */
+#define PLAIN_WITH_NO_ROWS(name, call) \
+    static int64_t name(double jd1, double jd2, uint8_t *out, size_t out_len) { return call(jd1, jd2, ct_no_rows, CT_TABLE_BYTES, out, out_len); }
+#define OFFSET_WITH_NO_ROWS(name, call) \
+    static int64_t name(double jd1, double jd2, double dut1, uint8_t *out, size_t out_len) { return call(jd1, jd2, dut1, ct_no_rows, CT_TABLE_BYTES, out, out_len); }
+PLAIN_WITH_NO_ROWS(text, ct_to_iso8601)
+PLAIN_WITH_NO_ROWS(utc_to_tai, ct_utc_to_tai)
+PLAIN_WITH_NO_ROWS(tai_to_utc, ct_tai_to_utc)
+OFFSET_WITH_NO_ROWS(utc_to_ut1, ct_utc_to_ut1_with_dut1)
+OFFSET_WITH_NO_ROWS(ut1_to_utc, ct_ut1_to_utc_with_dut1)
+
 static const struct { const char *name; plain_call *ask; int number; } PLAIN[] = {
-    {"ct_to_iso8601", ct_to_iso8601, 6}, {"ct_julian_to_calendar", ct_julian_to_calendar, 6},
-    {"ct_utc_to_tai", ct_utc_to_tai, 6}, {"ct_tai_to_utc", ct_tai_to_utc, 6},
+    {"ct_to_iso8601", text, 6}, {"ct_julian_to_calendar", ct_julian_to_calendar, 6},
+    {"ct_utc_to_tai", utc_to_tai, 6}, {"ct_tai_to_utc", tai_to_utc, 6},
     {"ct_gps_to_tai", ct_gps_to_tai, 9}, {"ct_tai_to_gps", ct_tai_to_gps, 9},
     {"ct_tai_to_tt", ct_tai_to_tt, 9},   {"ct_tt_to_tai", ct_tt_to_tai, 9},
     {"ct_tai_to_tcg", ct_tai_to_tcg, 9}, {"ct_tcg_to_tai", ct_tcg_to_tai, 9},
@@ -29,8 +40,8 @@ static const struct { const char *name; offset_call *ask; int number; } WITH_OFF
     {"ct_tai_to_ut1_with_offset", ct_tai_to_ut1_with_offset, 9},
     {"ct_ut1_to_tt_with_delta_t", ct_ut1_to_tt_with_delta_t, 9},
     {"ct_tt_to_ut1_with_delta_t", ct_tt_to_ut1_with_delta_t, 9},
-    {"ct_utc_to_ut1_with_dut1", ct_utc_to_ut1_with_dut1, 6},
-    {"ct_ut1_to_utc_with_dut1", ct_ut1_to_utc_with_dut1, 9},
+    {"ct_utc_to_ut1_with_dut1", utc_to_ut1, 6},
+    {"ct_ut1_to_utc_with_dut1", ut1_to_utc, 9},
 };
 
 #define COUNT(table) (sizeof table / sizeof *table)
@@ -90,7 +101,7 @@ int main(int count, char **words)
     for (i = 0; i < stamps; i++) {
         double first = ct_float_at(jd1 + 8 * i), second = ct_float_at(jd2 + 8 * i), sum = first + second;
         by_isnan += isnan(sum) != 0;
-        by_text += ct_to_iso8601(first, second, fresh(), ROOM) < 0;
+        by_text += text(first, second, fresh(), ROOM) < 0;
         if (!not_finite(jd1 + 8 * i) && !not_finite(jd2 + 8 * i)) continue;
         found++;
         ask_all(first, second);

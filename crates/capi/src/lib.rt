@@ -2,7 +2,6 @@
 pub mod block_calls;
 pub mod calendar_calls;
 pub mod date_calls;
-mod fixed_table;
 pub mod gps_week_calls;
 pub mod offset_calls;
 pub mod order_calls;

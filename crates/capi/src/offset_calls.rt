@@ -1,14 +1,31 @@
-// TAI-UTC by the table.
-ghost use Rattle.tai_utc.specs.Table.{fixed};
+// TAI-UTC by the table and the rows that are lent after it.
+ghost use mathlib.Core.Path.{_≡_};
+ghost use lib.ListN.{length};
+ghost use Rattle.refusals.specs.Outcome.{answer, onward};
 ghost use Rattle.tai_utc.specs.Offset.{taiUtcOffset};
 ghost use Rattle.tai_utc.specs.Leap.{leapAtEndOfDay};
 ghost use Rattle.tai_utc.specs.Answers.{secondsOutcome};
-ghost use Rattle.c_answers.specs.Delivery.{inBytes, Delivered};
+ghost use Rattle.lent_bytes.specs.TableBytes.{tableBytes};
+ghost use Rattle.c_answers.specs.Delivery.{code, inBytes, Delivered};
 ghost use Rattle.c_answers.specs.Fields.{floatBytes};
-use super::fixed_table;
 use c_answers::fields;
 use c_answers::refused;
+use lent_bytes::lent_rows_at;
+use lent_bytes::table_number;
 use tai_utc::SecondsAnswer;
+
+// 42 to 58.
+#[no_mangle]
+pub extern "C" fn ct_check_table(table: &[u8]) -> i64
+    ensures { λ r. ⌜ r ≡ code (onward (tableBytes (now (table .entry))) (λ rows. answer (length rows))) ⌝ }
+{
+    let rows = lent_rows_at(table);
+    let number = table_number(table.len(), rows);
+    if number != 0 {
+        return refused(number);
+    }
+    (42 + rows.months_size) as i64
+}
 
 fn put_offset(found: SecondsAnswer, out: &mut [u8]) -> i64
     ensures { λ r. ⌜ Delivered (inBytes floatBytes (secondsOutcome found)) (now (out .entry)) r (now (out .exit)) ⌝ }
@@ -25,19 +42,39 @@ pub extern "C" fn ct_get_tai_utc_offset(
     month: i32,
     day: i32,
     fraction: f64,
+    table: &[u8],
     out: &mut [u8],
 ) -> i64
-    ensures { λ r. ⌜ Delivered (inBytes floatBytes (taiUtcOffset fixed year month day fraction)) (now (out .entry)) r (now (out .exit)) ⌝ }
+    ensures { λ r. ⌜ Delivered (inBytes floatBytes (onward (tableBytes (now (table .entry))) (λ rows. taiUtcOffset rows year month day fraction))) (now (out .entry)) r (now (out .exit)) ⌝ }
 {
+    let rows = lent_rows_at(table);
+    let number = table_number(table.len(), rows);
+    if number != 0 {
+        return refused(number);
+    }
     put_offset(
-        fixed_table::get_tai_utc_offset(year, month, day, fraction),
+        tai_utc::get_tai_utc_offset_by_rows(year, month, day, fraction, rows),
         out,
     )
 }
 
 #[no_mangle]
-pub extern "C" fn ct_leap_at_end_of_day(year: i32, month: i32, day: i32, out: &mut [u8]) -> i64
-    ensures { λ r. ⌜ Delivered (inBytes floatBytes (leapAtEndOfDay fixed year month day)) (now (out .entry)) r (now (out .exit)) ⌝ }
+pub extern "C" fn ct_leap_at_end_of_day(
+    year: i32,
+    month: i32,
+    day: i32,
+    table: &[u8],
+    out: &mut [u8],
+) -> i64
+    ensures { λ r. ⌜ Delivered (inBytes floatBytes (onward (tableBytes (now (table .entry))) (λ rows. leapAtEndOfDay rows year month day))) (now (out .entry)) r (now (out .exit)) ⌝ }
 {
-    put_offset(fixed_table::leap_at_end_of_day(year, month, day), out)
+    let rows = lent_rows_at(table);
+    let number = table_number(table.len(), rows);
+    if number != 0 {
+        return refused(number);
+    }
+    put_offset(
+        tai_utc::leap_at_end_of_day_by_rows(year, month, day, rows),
+        out,
+    )
 }

@@ -1,16 +1,31 @@
 -- `capi::offset_calls::ct_leap_at_end_of_day` meets its contract. Assumes nothing.
 use mathlib.Core.Path.{_∙_}
 use Rattle.calendar.proofs.Signs.{read-date}
-use Rattle.tai_utc.specs.Table.{fixed}
+use Rattle.tai_utc.specs.Lent.{rowsOf}
 use Rattle.tai_utc.specs.Leap.{leapAtEndOfDay}
 use Rattle.c_answers.specs.Fields.{floatBytes}
-use Rattle.c_answers.proofs.Deliveries.{same-outcome}
+use Rattle.capi.proofs.Tables.{table-refused, with-rows}
 use borrow.Author.Needs.{needs}
 use Rattle.capi.proofs.offset_calls.ct_leap_at_end_of_day.Statement.{statement}
 use Rattle.capi.proofs.offset_calls.ct_leap_at_end_of_day.Tie as tie
 
-leap-at-end-of-day-requires : tie.Need-leap-at-end-of-day-requires
-leap-at-end-of-day-requires c κs = search needs
+lent-rows-at-requires : tie.Need-lent-rows-at-requires
+lent-rows-at-requires c κs = search needs
+
+table-number-requires : tie.Need-table-number-requires
+table-number-requires c κs = search needs
+
+refused-requires : tie.Need-refused-requires
+refused-requires c κs = search needs
+
+returns : tie.Need-returns
+returns c =
+    let n = c .before .before in
+    table-refused _ (n .before .lent-rows-at .result) (n .table-number .result) (n .table-number .ensures) (n .before .lent-rows-at .ensures) floatBytes _ (c .refused .ok)
+    (c .before .if1 .taken) (c .refused .ensures)
+
+leap-at-end-of-day-by-rows-requires : tie.Need-leap-at-end-of-day-by-rows-requires
+leap-at-end-of-day-by-rows-requires c κs = search needs
 
 put-offset-requires : tie.Need-put-offset-requires
 put-offset-requires c κs = search needs
@@ -18,15 +33,25 @@ put-offset-requires c κs = search needs
 same-length : tie.Need-same-length
 same-length c = search needs
 
-returns : tie.Need-returns
-returns c =
+returns-2 : tie.Need-returns-2
+returns-2 c =
     let p = c .before .before in
-    let n = p .before .before in
-    let s = n .before .before in
-    same-outcome floatBytes (p .put-offset .ok)
-    (n .leap-at-end-of-day .ensures ∙ read-date (leapAtEndOfDay fixed) _ _ _ (s .fits .year) (s .fits .month) (s .fits .day))
+    let b = p .before .before in
+    let n = b .before .before in
+    let s = n .before .before .before .before in
+    with-rows _ (n .before .lent-rows-at .result) (n .table-number .result) (n .table-number .ensures) (n .before .lent-rows-at .ensures) floatBytes _ (p .put-offset .ok) (b .before .if1 .left)
+    (b .leap-at-end-of-day-by-rows .ensures ∙ read-date (leapAtEndOfDay (rowsOf (n .before .lent-rows-at .result))) _ _ _ (s .fits .year) (s .fits .month) (s .fits .day))
     (p .put-offset .ensures)
 
 pub ct-leap-at-end-of-day-spec : {M : Type 1} → statement M
 ct-leap-at-end-of-day-spec =
-    tie.close (tie.spec leap-at-end-of-day-requires put-offset-requires same-length returns)
+    tie.close
+    (tie.spec
+    lent-rows-at-requires
+    table-number-requires
+    refused-requires
+    returns
+    leap-at-end-of-day-by-rows-requires
+    put-offset-requires
+    same-length
+    returns-2)

@@ -1,12 +1,27 @@
 -- `capi::utc_calls::ct_tai_to_utc` meets its contract. Assumes nothing.
 use Rattle.c_answers.specs.Fields.{julianBytes}
-use Rattle.c_answers.proofs.Deliveries.{same-outcome}
+use Rattle.capi.proofs.Tables.{table-refused, with-rows}
 use borrow.Author.Needs.{needs}
 use Rattle.capi.proofs.utc_calls.ct_tai_to_utc.Statement.{statement}
 use Rattle.capi.proofs.utc_calls.ct_tai_to_utc.Tie as tie
 
-tai-to-utc-requires : tie.Need-tai-to-utc-requires
-tai-to-utc-requires c κs = search needs
+lent-rows-at-requires : tie.Need-lent-rows-at-requires
+lent-rows-at-requires c κs = search needs
+
+table-number-requires : tie.Need-table-number-requires
+table-number-requires c κs = search needs
+
+refused-requires : tie.Need-refused-requires
+refused-requires c κs = search needs
+
+returns : tie.Need-returns
+returns c =
+    let n = c .before .before in
+    table-refused _ (n .before .lent-rows-at .result) (n .table-number .result) (n .table-number .ensures) (n .before .lent-rows-at .ensures) julianBytes _ (c .refused .ok)
+    (c .before .if1 .taken) (c .refused .ensures)
+
+tai-to-utc-by-rows-requires : tie.Need-tai-to-utc-by-rows-requires
+tai-to-utc-by-rows-requires c κs = search needs
 
 put-utc-requires : tie.Need-put-utc-requires
 put-utc-requires c κs = search needs
@@ -14,10 +29,24 @@ put-utc-requires c κs = search needs
 same-length : tie.Need-same-length
 same-length c = search needs
 
-returns : tie.Need-returns
-returns c =
+returns-2 : tie.Need-returns-2
+returns-2 c =
     let p = c .before .before in
-    same-outcome julianBytes (p .put-utc .ok) (p .before .before .tai-to-utc .ensures) (p .put-utc .ensures)
+    let b = p .before .before in
+    let n = b .before .before in
+    with-rows _ (n .before .lent-rows-at .result) (n .table-number .result) (n .table-number .ensures) (n .before .lent-rows-at .ensures) julianBytes _ (p .put-utc .ok) (b .before .if1 .left)
+    (b .tai-to-utc-by-rows .ensures)
+    (p .put-utc .ensures)
 
 pub ct-tai-to-utc-spec : {M : Type 1} → statement M
-ct-tai-to-utc-spec = tie.close (tie.spec tai-to-utc-requires put-utc-requires same-length returns)
+ct-tai-to-utc-spec =
+    tie.close
+    (tie.spec
+    lent-rows-at-requires
+    table-number-requires
+    refused-requires
+    returns
+    tai-to-utc-by-rows-requires
+    put-utc-requires
+    same-length
+    returns-2)

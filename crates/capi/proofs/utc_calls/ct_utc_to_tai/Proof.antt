@@ -1,12 +1,27 @@
 -- `capi::utc_calls::ct_utc_to_tai` meets its contract. Assumes nothing.
 use Rattle.c_answers.specs.Fields.{julianBytes}
-use Rattle.c_answers.proofs.Deliveries.{same-outcome}
+use Rattle.capi.proofs.Tables.{table-refused, with-rows}
 use borrow.Author.Needs.{needs}
 use Rattle.capi.proofs.utc_calls.ct_utc_to_tai.Statement.{statement}
 use Rattle.capi.proofs.utc_calls.ct_utc_to_tai.Tie as tie
 
-utc-to-tai-requires : tie.Need-utc-to-tai-requires
-utc-to-tai-requires c κs = search needs
+lent-rows-at-requires : tie.Need-lent-rows-at-requires
+lent-rows-at-requires c κs = search needs
+
+table-number-requires : tie.Need-table-number-requires
+table-number-requires c κs = search needs
+
+refused-requires : tie.Need-refused-requires
+refused-requires c κs = search needs
+
+returns : tie.Need-returns
+returns c =
+    let n = c .before .before in
+    table-refused _ (n .before .lent-rows-at .result) (n .table-number .result) (n .table-number .ensures) (n .before .lent-rows-at .ensures) julianBytes _ (c .refused .ok)
+    (c .before .if1 .taken) (c .refused .ensures)
+
+utc-to-tai-by-rows-requires : tie.Need-utc-to-tai-by-rows-requires
+utc-to-tai-by-rows-requires c κs = search needs
 
 put-tai-requires : tie.Need-put-tai-requires
 put-tai-requires c κs = search needs
@@ -14,10 +29,24 @@ put-tai-requires c κs = search needs
 same-length : tie.Need-same-length
 same-length c = search needs
 
-returns : tie.Need-returns
-returns c =
+returns-2 : tie.Need-returns-2
+returns-2 c =
     let p = c .before .before in
-    same-outcome julianBytes (p .put-tai .ok) (p .before .before .utc-to-tai .ensures) (p .put-tai .ensures)
+    let b = p .before .before in
+    let n = b .before .before in
+    with-rows _ (n .before .lent-rows-at .result) (n .table-number .result) (n .table-number .ensures) (n .before .lent-rows-at .ensures) julianBytes _ (p .put-tai .ok) (b .before .if1 .left)
+    (b .utc-to-tai-by-rows .ensures)
+    (p .put-tai .ensures)
 
 pub ct-utc-to-tai-spec : {M : Type 1} → statement M
-ct-utc-to-tai-spec = tie.close (tie.spec utc-to-tai-requires put-tai-requires same-length returns)
+ct-utc-to-tai-spec =
+    tie.close
+    (tie.spec
+    lent-rows-at-requires
+    table-number-requires
+    refused-requires
+    returns
+    utc-to-tai-by-rows-requires
+    put-tai-requires
+    same-length
+    returns-2)

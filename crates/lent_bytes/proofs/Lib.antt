@@ -1,0 +1,5 @@
+-- The laws of a table in bytes: numbers with a sign, what the code reads, a record and its bytes, and which bytes count.
+pub mod Signed32
+pub mod Reading
+pub mod ReadBack
+pub mod Laws

@@ -1,0 +1,82 @@
+-- What the code reads is the table of the bytes: the places that count, and no other. Assumes nothing.
+use Prim.Native.Nat.{ℕ, zero, suc, _+_, _*_, _≤_, _<_}
+use native.Mathlib.Omega.{arith}
+use native.Mathlib.Nat.{not-suc-le-zero}
+use mathlib.Core.Path.{_≡_, refl, sym, ap, _∙_}
+use mathlib.Core.Bool.{Bool, true, false, cond}
+use mathlib.Core.List.{List}
+use lib.Dec.{leb}
+use lib.IntN.{ℤ, pos}
+use lib.ListN.{length, getD, set, length-set}
+use lib.Seq.{getD-set-same, getD-set-other}
+use borrow.Author.Count.{below-more}
+use borrow.Author.Tests.{eq-eqb, ne-eqb, leb-true, leb-false}
+use Rattle.refusals.specs.Outcome.{Outcome, refusal}
+use Rattle.little_endian.specs.LittleEndian.{u32At}
+use Rattle.tai_utc.specs.declared.LentRows.{LentRows}
+use Rattle.tai_utc.specs.Table.{Row}
+use Rattle.tai_utc.specs.Lent.{least, lentSize, tableOf}
+use Rattle.tai_utc.proofs.Tables.{least-right}
+use Rattle.tai_utc.proofs.TableLaws.{spare-unread}
+use Rattle.lent_bytes.specs.TableBytes.{signedAt, signedFrom, recordIn, ofLength, tableBytes}
+
+-- ---- the numbers of an array by their places
+pub place-of : (s : List ℕ) (at n i : ℕ) → i < n → getD (signedFrom s at n) i (pos 0) ≡ signedAt s (at + 4 * i)
+unfolding signedFrom
+place-of s at zero i h = absurd (not-suc-le-zero h)
+place-of s at (suc n) zero h = ap (signedAt s) (first at)
+  where
+    first : (a : ℕ) → a ≡ a + 4 * 0
+    first a = omega arith
+place-of s at (suc n) (suc i) h = place-of s (at + 4) n i (omega arith) ∙ ap (signedAt s) (later at i)
+  where
+    later : (a j : ℕ) → a + 4 + 4 * j ≡ a + 4 * suc j
+    later a j = omega arith
+
+-- one place more is read
+pub one-more-read : (s : List ℕ) (at i : ℕ) (l : List ℤ) (z : ℤ) → length l ≡ 16 → i < 16 → z ≡ signedAt s (at + 4 * i) → ((k : ℕ) → k < i → getD l k (pos 0) ≡ signedAt s (at + 4 * k))
+    → (length (set l i z) ≡ 16) × ((k : ℕ) → k < i + 1 → getD (set l i z) k (pos 0) ≡ signedAt s (at + 4 * k))
+one-more-read s at i l z n h e all = (
+  length-set l i z ∙ n,
+  below-more (λ k. getD (set l i z) k (pos 0) ≡ signedAt s (at + 4 * k)) i (λ k g. getD-set-other l i k z (pos 0) (λ (p : k ≡ i). omega arith) ∙ all k g) (getD-set-same l i z (pos 0) (omega arith) ∙ e),
+)
+
+-- ---- a record that has the sizes of the bytes and their numbers as far as the first size goes has their table
+fewer : (m n : ℕ) → least (least m n) 16 ≤ least m 16
+fewer m n = go (leb m n) refl (leb m 16) refl
+  where
+    go : (a : Bool) → leb m n ≡ a → (b : Bool) → leb m 16 ≡ b → cond (leb (cond a m n) 16) (cond a m n) 16 ≤ cond b m 16
+    go true p true q = rw q (omega arith)
+    go true p false q = rw q (omega arith)
+    go false p true q = other (leb n 16) refl
+      where
+        other : (c : Bool) → leb n 16 ≡ c → cond c n 16 ≤ m
+        other true r = omega (arith, leb-false m n p)
+        other false r = omega (arith, leb-false n 16 r, leb-false m n p, leb-true m 16 q)
+    go false p false q = other (leb n 16) refl
+      where
+        other : (c : Bool) → leb n 16 ≡ c → cond c n 16 ≤ 16
+        other true r = leb-true n 16 r
+        other false r = omega arith
+
+abbrev Reads : List ℕ → ℕ → ℕ → List ℤ → Type 0
+Reads s at n l = (i : ℕ) → i < n → getD l i (pos 0) ≡ signedAt s (at + 4 * i)
+
+pub same-table : (s : List ℕ) (t : LentRows) → t .«months_size» ≡ u32At s 0 → t .«seconds_size» ≡ u32At s 4
+    → Reads s 8 (least (t .«months_size») 16) (t .months) → Reads s 72 (least (t .«months_size») 16) (t .seconds) → tableOf t ≡ tableOf (recordIn s)
+unfolding lentSize
+same-table s t p q ms ss =
+    let most : lentSize t ≤ least (t .«months_size») 16 = fewer (t .«months_size») (t .«seconds_size») in
+    let few : least (t .«months_size») 16 ≤ 16 = least-right (t .«months_size») 16 in
+    spare-unread t (recordIn s) p q (λ i h.
+    let k : i < least (t .«months_size») 16 = omega arith in
+    (ms i k ∙ sym (place-of s 8 16 i (omega arith)), ss i k ∙ sym (place-of s 72 16 i (omega arith))))
+
+-- ---- by the length
+pub of-136 : (s : List ℕ) (t : LentRows) → length s ≡ 136 → tableOf t ≡ tableOf (recordIn s) → ofLength (length s) (tableOf t) ≡ tableBytes s
+unfolding tableBytes
+of-136 s t e p = ap (ofLength (length s)) p
+
+pub of-another : (s : List ℕ) (o : Outcome (List Row)) → (length s ≡ 136 → ⊥) → ofLength (length s) o ≡ tableBytes s
+unfolding tableBytes ofLength
+of-another s o h = rw (ne-eqb (length s) 136 h)

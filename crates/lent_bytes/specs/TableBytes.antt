@@ -1,0 +1,38 @@
+-- The table that a C caller lends as bytes. Written from document 02, item 8: "From C it is these 136 bytes, little-endian; any other length is 14, before 20": two
+-- sizes of 4 bytes, 16 month starts and 16 seconds of 4 bytes each, in two's complement. Assumes nothing.
+use Prim.Native.Nat.{ℕ, zero, suc, _+_, _-_, _*_}
+use mathlib.Core.Bool.{cond}
+use mathlib.Core.List.{List, [], _∷_}
+use lib.Dec.{eqb, ltb}
+use lib.IntN.{ℤ, pos, negsuc}
+use lib.ListN.{length}
+use Rattle.refusals.specs.Outcome.{Outcome, refusal}
+use Rattle.little_endian.specs.LittleEndian.{u32At}
+use Rattle.tai_utc.specs.declared.LentRows.{LentRows}
+use Rattle.tai_utc.specs.Table.{Row}
+use Rattle.tai_utc.specs.Lent.{tableOf}
+
+-- the signed number of a pattern of 32 bits in two's complement
+unfoldable pub signed32 : ℕ → ℤ
+signed32 n = cond (ltb n 0x8000_0000) (pos n) (negsuc (0xffff_ffff - n))
+
+-- the signed number in the four bytes from `at` on
+abbrev pub signedAt : List ℕ → ℕ → ℤ
+signedAt s at = signed32 (u32At s at)
+
+-- n of them, one behind the other
+unfoldable pub signedFrom : List ℕ → ℕ → ℕ → List ℤ
+signedFrom s at zero = []
+signedFrom s at (suc n) = signedAt s at ∷ signedFrom s (at + 4) n
+
+-- the record in the bytes
+abbrev pub recordIn : List ℕ → LentRows
+recordIn s = record { «months_size» = u32At s 0; «seconds_size» = u32At s 4; months = signedFrom s 8 16; seconds = signedFrom s 72 16 }
+
+-- 14: a length other than 136
+unfoldable pub ofLength : ℕ → Outcome (List Row) → Outcome (List Row)
+ofLength n o = cond (eqb n 136) o (refusal 14)
+
+-- the length, then the tests of the table
+unfoldable pub tableBytes : List ℕ → Outcome (List Row)
+tableBytes s = ofLength (length s) (tableOf (recordIn s))

@@ -1,0 +1,69 @@
+// The announced rows that a C caller lends, as bytes: document 02, item 8.
+ghost use mathlib.Core.Path.{_≡_};
+ghost use Prim.Native.Nat.{ℕ, _+_, _*_, _<_, _≤_};
+ghost use lib.IntN.{pos};
+ghost use lib.ListN.{getD, length};
+ghost use Rattle.tai_utc.specs.Lent.{least, rowsOf, tableOf, unlessRefused};
+ghost use Rattle.lent_bytes.specs.TableBytes.{signed32, signedAt, ofLength, tableBytes};
+use tai_utc::LentRows;
+
+// The signed number of a pattern of 32 bits in two's complement.
+fn i32_of_pattern(n: u32) -> i32
+    ensures { λ r. ⌜ r ≡ signed32 n ⌝ }
+{
+    if n < 0x8000_0000 {
+        return n as i32;
+    }
+    -1 - (0xffff_ffff - n) as i32
+}
+
+// The first `size` of 16 numbers from `at` on; the places past them are not read, and 0.
+fn numbers_at(bytes: &[u8], at: usize, size: usize) -> [i32; 16]
+    requires { ⌜ (at < 100) × (size ≤ 16) ⌝ }
+    ensures { λ r. ⌜ ((i : ℕ) → i < size → getD r i (pos 0) ≡ signedAt (now (bytes .entry)) (at + 4 * i)) ⌝ }
+{
+    let mut numbers = [0; 16];
+    let mut i = 0;
+    while i < size {
+        numbers[i] = i32_of_pattern(little_endian::u32_at(bytes, at + 4 * i));
+        i += 1;
+    }
+    numbers
+}
+
+// How many places are read.
+fn places_of(size: u32) -> usize
+    ensures { λ r. ⌜ (r ≡ least size 16) × (r ≤ 16) ⌝ }
+{
+    if size <= 16 { size as usize } else { 16 }
+}
+
+// The rows that the bytes hold, as far as their first size goes; bytes of another length than 136 are not read.
+pub fn lent_rows_at(bytes: &[u8]) -> LentRows
+    ensures { λ r. ⌜ ofLength (length (now (bytes .entry))) (tableOf r) ≡ tableBytes (now (bytes .entry)) ⌝ }
+{
+    if bytes.len() != 136 {
+        return tai_utc::no_rows();
+    }
+    let months_size = little_endian::u32_at(bytes, 0);
+    let seconds_size = little_endian::u32_at(bytes, 4);
+    let size = places_of(months_size);
+    let months = numbers_at(bytes, 8, size);
+    let seconds = numbers_at(bytes, 72, size);
+    LentRows {
+        months_size,
+        seconds_size,
+        months,
+        seconds,
+    }
+}
+
+// The number by which a table in so many bytes is turned away, 0 if it is not: 14 the length, then those of the table.
+pub fn table_number(length: usize, rows: LentRows) -> u32
+    ensures { λ r. ⌜ unlessRefused r (rowsOf rows) ≡ ofLength length (tableOf rows) ⌝ }
+{
+    if length != 136 {
+        return refusals::BLOCK_LENGTH_WRONG;
+    }
+    tai_utc::table_refusal(rows)
+}

@@ -1,0 +1,197 @@
+/* Tables that are lent: each call with a row of +1 s and with one of -1 s, every refusal of a table before the call's own, and bytes
+   past the size, which no call reads. The row is of January 2027; 2026-12-31 is JD 2461405.5. */
+
+enum { JANUARY_2027 = 12 * 2027, JANUARY_2017 = 12 * 2017 };
+
+#define LENT table, CT_TABLE_BYTES
+
+static uint8_t table[CT_TABLE_BYTES + 1];
+
+static void one_row(int32_t month, int32_t of_seconds) { ct_table(&month, &of_seconds, 1, table); }
+
+static void two_rows(int32_t month, int32_t of_seconds, int32_t second_month, int32_t second_seconds)
+{
+    int32_t months[2], both[2];
+    months[0] = month;
+    months[1] = second_month;
+    both[0] = of_seconds;
+    both[1] = second_seconds;
+    ct_table(months, both, 2, table);
+}
+
+/* 38 and 37 s in turn, every January from 2027 on */
+static void many_rows(uint32_t rows)
+{
+    int32_t months[17], of_seconds[17];
+    int i;
+    for (i = 0; i < 17; i++) {
+        months[i] = JANUARY_2027 + 12 * i;
+        of_seconds[i] = i % 2 ? 37 : 38;
+    }
+    ct_table(months, of_seconds, rows, table);
+}
+
+/* ---- a row more: a leap second at the end of 2026 */
+
+static void with_a_leap_second(void)
+{
+    one_row(JANUARY_2027, 38);
+    IS(43, ct_check_table(LENT));
+    GIVES(seconds(37.0), ct_get_tai_utc_offset, 2026, 12, 31, 1.0, LENT);
+    GIVES(seconds(38.0), ct_get_tai_utc_offset, 2027, 1, 1, 0.0, LENT);
+    GIVES(seconds(1.0), ct_leap_at_end_of_day, 2026, 12, 31, LENT);
+    GIVES(seconds(0.0), ct_leap_at_end_of_day, 2026, 12, 31, NO_ROWS);
+    GIVES(parts(2461405.5, 86400.5 / 86401.0), ct_utc_from_calendar, 2026, 12, 31, 23, 59, 60.5, LENT);
+    REFUSES(4, ct_utc_from_calendar, 2026, 12, 31, 23, 59, 60.5, NO_ROWS);
+    REFUSES(4, ct_utc_from_calendar, 2026, 12, 31, 23, 59, 61.0, LENT);
+    GIVES(parts(2461405.5, 43200.0 / 86401.0), ct_utc_new, INT64_C(1798675200) + 43200, 0, LENT);
+    GIVES(parts(2461405.5, 0.5), ct_utc_new, INT64_C(1798675200) + 43200, 0, NO_ROWS);
+    GIVES(parts(2461406.5, 38.0 / 86400.0), ct_utc_to_tai, 2461406.5, 0.0, LENT);
+    GIVES(parts(2461406.5, 37.0 / 86400.0), ct_utc_to_tai, 2461406.5, 0.0, NO_ROWS);
+    GIVES(text("2026-12-31T23:59:60.500"), ct_to_iso8601, 2461405.5, 86400.5 / 86401.0, LENT);
+    GIVES(text("2026-12-31T23:59:59.500"), ct_to_iso8601, 2461405.5, 86399.5 / 86400.0, NO_ROWS);
+}
+
+/* ---- a row less: the day has 86,399 s, and its last minute 59 */
+
+static void with_a_second_left_out(void)
+{
+    one_row(JANUARY_2027, 36);
+    IS(43, ct_check_table(LENT));
+    GIVES(seconds(36.0), ct_get_tai_utc_offset, 2027, 1, 1, 0.0, LENT);
+    GIVES(seconds(-1.0), ct_leap_at_end_of_day, 2026, 12, 31, LENT);
+    GIVES(parts(2461405.5, 86398.5 / 86399.0), ct_utc_from_calendar, 2026, 12, 31, 23, 59, 58.5, LENT);
+    REFUSES(4, ct_utc_from_calendar, 2026, 12, 31, 23, 59, 59.0, LENT);
+    GIVES(parts(2461405.5, 86339.5 / 86399.0), ct_utc_from_calendar, 2026, 12, 31, 23, 58, 59.5, LENT);
+    GIVES(parts(2461405.5, 86398.0 / 86399.0), ct_utc_new, INT64_C(1798675200) + 86398, 0, LENT);
+    REFUSES(4, ct_utc_new, INT64_C(1798675200) + 86399, 0, LENT);
+    GIVES(parts(2461405.5, 0.5 * (86399.0 / 86400.0) + 37.0 / 86400.0), ct_utc_to_tai, 2461405.5, 0.5, LENT);
+    GIVES(text("2026-12-31T23:59:58.999"), ct_to_iso8601, 2461405.5, 86398.9994 / 86399.0, LENT);
+    GIVES(text("2027-01-01T00:00:00.000"), ct_to_iso8601, 2461405.5, 86398.9996 / 86399.0, LENT);
+    GIVES(text("2026-12-31T23:59:59.000"), ct_to_iso8601, 2461405.5, 86399.0 / 86400.0, NO_ROWS);
+}
+
+/* The four conversions there and back on a day of 86,401 s and on one of 86,399 s: within 1 ns. */
+static void there_and_back(int32_t of_seconds)
+{
+    uint8_t there[16], back[16];
+    one_row(JANUARY_2027, of_seconds);
+    IS(16, ct_utc_to_tai(2461405.5, 0.75, LENT, there, sizeof there));
+    IS(16, ct_tai_to_utc(ct_float_at(there), ct_float_at(there + 8), LENT, back, sizeof back));
+    IS_FLOAT(2461405.5, ct_float_at(back));
+    check(ct_float_at(back + 8) - 0.75 < 1e-14 && 0.75 - ct_float_at(back + 8) < 1e-14, "UTC by TAI with a row of %d s", (int)of_seconds);
+    IS(16, ct_utc_to_ut1_with_dut1(2461300.5, 0.75, 0.25, LENT, there, sizeof there));
+    IS(16, ct_ut1_to_utc_with_dut1(ct_float_at(there), ct_float_at(there + 8), 0.25, LENT, back, sizeof back));
+    check(ct_float_at(back + 8) - 0.75 < 1e-14 && 0.75 - ct_float_at(back + 8) < 1e-14, "UTC by UT1 with a row of %d s", (int)of_seconds);
+    /* a DUT1 that counts for after the row: half of the day before it, the step is taken off */
+    IS(16, ct_ut1_to_utc_with_dut1(2461405.5, 0.5, 0.25 * (of_seconds - 37), LENT, there, sizeof there));
+    IS(16, ct_ut1_to_utc_with_dut1(2461405.5, 0.5, 0.25 * (of_seconds - 37), NO_ROWS, back, sizeof back));
+    check(memcmp(there, back, 16) != 0, "UT1 to UTC does not see the row of %d s", (int)of_seconds);
+}
+
+/* ---- a table that is refused, by each call, first where the call would answer and then where it would refuse */
+
+static void each_call_refuses(int number, size_t table_len)
+{
+    check(ct_check_table(table, table_len) == -number, "ct_check_table is not %d", -number);
+    REFUSES(number, ct_get_tai_utc_offset, 2016, 12, 31, 0.0, table, table_len);
+    REFUSES(number, ct_get_tai_utc_offset, 2000, 13, 1, 1.5, table, table_len);
+    REFUSES(number, ct_leap_at_end_of_day, 2016, 12, 31, table, table_len);
+    REFUSES(number, ct_leap_at_end_of_day, 2000, 13, 40, table, table_len);
+    REFUSES(number, ct_utc_new, 0, 0, table, table_len);
+    REFUSES(number, ct_utc_new, INT64_MAX, 1000000000, table, table_len);
+    REFUSES(number, ct_utc_from_calendar, 2016, 12, 31, 23, 59, 60.0, table, table_len);
+    REFUSES(number, ct_utc_from_calendar, 2000, 13, 40, 25, 60, nan_float(), table, table_len);
+    REFUSES(number, ct_utc_to_tai, 2451545.0, 0.0, table, table_len);
+    REFUSES(number, ct_utc_to_tai, nan_float(), 0.0, table, table_len);
+    REFUSES(number, ct_tai_to_utc, 2451545.0, 0.0, table, table_len);
+    REFUSES(number, ct_tai_to_utc, nan_float(), 0.0, table, table_len);
+    REFUSES(number, ct_utc_to_ut1_with_dut1, 2451545.0, 0.0, 0.25, table, table_len);
+    REFUSES(number, ct_utc_to_ut1_with_dut1, nan_float(), 0.0, nan_float(), table, table_len);
+    REFUSES(number, ct_ut1_to_utc_with_dut1, 2451545.0, 0.0, 0.25, table, table_len);
+    REFUSES(number, ct_ut1_to_utc_with_dut1, nan_float(), 0.0, nan_float(), table, table_len);
+    REFUSES(number, ct_to_iso8601, 2451545.0, 0.0, table, table_len);
+    REFUSES(number, ct_to_iso8601, nan_float(), 0.0, table, table_len);
+}
+
+static void refused_tables(void)
+{
+    memset(table, 0, sizeof table);
+    each_call_refuses(14, 0);
+    each_call_refuses(14, CT_TABLE_BYTES - 1);
+    each_call_refuses(14, CT_TABLE_BYTES + 1);
+    ct_put_number(table, 1); /* and 20, and 21 and 22 */
+    each_call_refuses(14, CT_TABLE_BYTES - 1);
+    each_call_refuses(20, CT_TABLE_BYTES);
+    ct_put_number(table, 0);
+    ct_put_number(table + 4, 1);
+    each_call_refuses(20, CT_TABLE_BYTES);
+    many_rows(17);
+    each_call_refuses(20, CT_TABLE_BYTES);
+    ct_put_number(table, UINT32_MAX);
+    ct_put_number(table + 4, UINT32_MAX);
+    each_call_refuses(20, CT_TABLE_BYTES);
+    one_row(JANUARY_2017, 38);
+    each_call_refuses(21, CT_TABLE_BYTES);
+    one_row(-1, 38);
+    each_call_refuses(21, CT_TABLE_BYTES);
+    two_rows(JANUARY_2027, 39, JANUARY_2027, 40);
+    each_call_refuses(21, CT_TABLE_BYTES);
+    each_call_refuses(14, CT_TABLE_BYTES + 1);
+    one_row(JANUARY_2027, 37);
+    each_call_refuses(22, CT_TABLE_BYTES);
+    one_row(JANUARY_2027, 39);
+    each_call_refuses(22, CT_TABLE_BYTES);
+    one_row(JANUARY_2027, -38);
+    each_call_refuses(22, CT_TABLE_BYTES);
+    two_rows(JANUARY_2027, 38, JANUARY_2027 + 1, 38);
+    each_call_refuses(22, CT_TABLE_BYTES);
+}
+
+/* ---- the sizes, and what stands past them */
+
+static void spare_places(void)
+{
+    size_t i;
+    memset(table, 0xff, sizeof table);
+    memset(table, 0, 8);
+    IS(42, ct_check_table(LENT));
+    GIVES(seconds(37.0), ct_get_tai_utc_offset, 2147483647, 12, 31, 0.0, LENT);
+    GIVES(text("2016-12-31T23:59:60.000"), ct_to_iso8601, 2457753.5, 86400.0 / 86401.0, LENT);
+    one_row(JANUARY_2027, 38);
+    for (i = 12; i < CT_TABLE_BYTES; i++)
+        if (i < 72 || i >= 76) table[i] = (uint8_t)(0x9d * i);
+    IS(43, ct_check_table(LENT));
+    GIVES(seconds(37.0), ct_get_tai_utc_offset, 2026, 12, 31, 0.0, LENT);
+    GIVES(seconds(38.0), ct_get_tai_utc_offset, 2147483647, 12, 31, 0.0, LENT);
+    GIVES(seconds(1.0), ct_leap_at_end_of_day, 2026, 12, 31, LENT);
+}
+
+static void many(void)
+{
+    int i;
+    for (i = 0; i <= 16; i++) {
+        many_rows((uint32_t)i);
+        check(ct_check_table(LENT) == 42 + i, "%d rows", i);
+    }
+    for (i = 0; i < 16; i++) {
+        GIVES(seconds(i % 2 ? 37.0 : 38.0), ct_get_tai_utc_offset, 2027 + i, 1, 1, 0.0, LENT);
+        GIVES(seconds(i % 2 ? -1.0 : 1.0), ct_leap_at_end_of_day, 2026 + i, 12, 31, LENT);
+    }
+    /* the last month of 32 bits, which the calendar's dates reach and Julian dates do not */
+    one_row(INT32_MAX, 38);
+    GIVES(seconds(37.0), ct_get_tai_utc_offset, 178956970, 7, 31, 0.0, LENT);
+    GIVES(seconds(38.0), ct_get_tai_utc_offset, 178956970, 8, 1, 0.0, LENT);
+}
+
+static void table_calls(void)
+{
+    with_a_leap_second();
+    with_a_second_left_out();
+    there_and_back(38);
+    there_and_back(36);
+    refused_tables();
+    spare_places();
+    many();
+    IS(42, ct_check_table(NO_ROWS));
+}
