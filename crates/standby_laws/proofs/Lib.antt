@@ -1,0 +1,6 @@
+-- The laws of a standby bill.
+pub mod Quarters
+pub mod Sharing
+pub mod Decided
+pub mod Faults
+pub mod Cases
