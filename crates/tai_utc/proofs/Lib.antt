@@ -19,3 +19,4 @@ pub mod Years
 pub mod TableYears
 pub mod TableSeconds
 pub mod Cases
+pub mod RuleLaws
