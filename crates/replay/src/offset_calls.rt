@@ -2,6 +2,7 @@
 use crate::words;
 use crate::words::Answer;
 use tai_utc::SecondsAnswer;
+use tai_utc::SecondsByRule;
 
 fn found(a: SecondsAnswer) -> Answer {
     match a {
@@ -10,12 +11,19 @@ fn found(a: SecondsAnswer) -> Answer {
     }
 }
 
+fn found_by_rule(a: SecondsByRule) -> Answer {
+    match a {
+        SecondsByRule::Seconds(x, _) => words::float(x),
+        SecondsByRule::Refused(number) => words::refused(number),
+    }
+}
+
 pub(crate) fn answered(call: u64, record: &[u8; 128]) -> Answer {
     let year = words::small_at(record, 1);
     let month = words::small_at(record, 2);
     let day = words::small_at(record, 3);
     if call == 60 {
-        return found(tai_utc::get_tai_utc_offset(
+        return found_by_rule(tai_utc::get_tai_utc_offset(
             year,
             month,
             day,

@@ -17,14 +17,14 @@ use scales::UT1;
 use scales::UTC;
 use scales::Ut1Answer;
 
-pub(crate) fn found_tai(a: TaiAnswer) -> Answer {
+fn found_tai(a: TaiAnswer) -> Answer {
     match a {
         TaiAnswer::Date(tai) => words::date(tai.0),
         TaiAnswer::Refused(number) => words::refused(number),
     }
 }
 
-pub(crate) fn found_ut1(a: Ut1Answer) -> Answer {
+fn found_ut1(a: Ut1Answer) -> Answer {
     match a {
         Ut1Answer::Date(ut1) => words::date(ut1.0),
         Ut1Answer::Refused(number) => words::refused(number),

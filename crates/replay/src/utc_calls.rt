@@ -1,19 +1,33 @@
 // UTC: calls 120 to 126.
 ghost use Prim.Native.Nat.{_≤_};
-use crate::scale_calls::found_tai;
-use crate::scale_calls::found_ut1;
 use crate::words;
 use crate::words::Answer;
 use scales::TAI;
 use scales::UT1;
 use scales::UTC;
 use scales::UtcAnswer;
-use utc_text::TextAnswer;
+use utc::TextByRule;
+use utc_scales::utc_tai::TaiByRule;
+use utc_scales::utc_ut1::Ut1ByRule;
 
 fn found_utc(a: UtcAnswer) -> Answer {
     match a {
         UtcAnswer::Date(utc) => words::date(utc.0),
         UtcAnswer::Refused(number) => words::refused(number),
+    }
+}
+
+fn found_tai(a: TaiByRule) -> Answer {
+    match a {
+        TaiByRule::Date(tai, _) => words::date(tai.0),
+        TaiByRule::Refused(number) => words::refused(number),
+    }
+}
+
+fn found_ut1(a: Ut1ByRule) -> Answer {
+    match a {
+        Ut1ByRule::Date(ut1, _) => words::date(ut1.0),
+        Ut1ByRule::Refused(number) => words::refused(number),
     }
 }
 
@@ -45,8 +59,8 @@ fn text(record: &[u8; 128]) -> Answer {
         tai_utc::no_rows(),
         &mut buffer[..n],
     ) {
-        TextAnswer::Written(length) => words::text(0, length as u64, &buffer),
-        TextAnswer::Refused(number) => words::text(number as u64, 0, &buffer),
+        TextByRule::Written(length, _) => words::text(0, length as u64, &buffer),
+        TextByRule::Refused(number) => words::text(number as u64, 0, &buffer),
     }
 }
 

@@ -21,3 +21,4 @@ pub mod TableYears
 pub mod TableSeconds
 pub mod WholeSeconds
 pub mod Cases
+pub mod RuleLaws

@@ -46,6 +46,25 @@ module _ (rows : List Row) (y m d : ℤ) where
   unfolding leapByRule
   leap-forgets = forgets (leapAtEndOfDay rows y m d) _
 
+-- ---- taken apart
+-- the rule of an answer; of a refusal r
+abbrev pub ruleIn : {A : Type 0} → Rule → Outcome (A × Rule) → Rule
+ruleIn r (answer p) = p .1
+ruleIn r (refusal k) = r
+
+module _ {A : Type 0} (o : Outcome A) (r : Rule) where
+  pub apart : (a : A) (s : Rule) → withRule o r ≡ answer (a, s) → (o ≡ answer a) × (r ≡ s)
+  unfolding withRule forget onward
+  apart a s e = go o e
+    where
+      go : (u : Outcome A) → withRule u r ≡ answer (a, s) → (u ≡ answer a) × (r ≡ s)
+      go (answer x) h = (ap forget h, ap (ruleIn r) h)
+      go (refusal k) h = let z : _≡_ {A = ℕ} 0 1 = cc in absurd (omega arith)
+
+  pub refused-apart : (k : ℕ) → withRule o r ≡ refusal k → o ≡ refusal k
+  unfolding withRule forget onward
+  refused-apart k e = sym (forgets o r) ∙ ap forget e
+
 -- ---- a leap by the offsets of its day
 through : {A B : Type 0} (f : A → B) (o : Outcome A) (r : Rule) → withRule (onward o (λ a. answer (f a))) r ≡ onward (withRule o r) (λ p. answer (f (p .0), p .1))
 unfolding withRule onward

@@ -90,7 +90,7 @@ module _ (t : LentRows) where
   unfolding rowsTo
   starts-more n = map-append (λ (r : Row). r .month) (rowsTo t n) (lentRow t n ∷ [])
 
-  starts-length : (n : ℕ) → length (starts (rowsTo t n)) ≡ 42 + n
+  pub starts-length : (n : ℕ) → length (starts (rowsTo t n)) ≡ 42 + n
   starts-length n = length-map (rowsTo t n) (λ (r : Row). r .month) ∙ table-length n
 
   pub lent-found : (k n : ℕ) → lentRow t k .month ≤ n → reached (starts (rowsTo t (suc k))) n ≡ 42 + suc k

@@ -3,6 +3,7 @@ pub mod Dates
 pub mod UnixDays
 pub mod UnixTimes
 pub mod TextCalls
+pub mod TextRules
 pub mod DayTexts
 pub mod Numbers
 pub mod FromCalendars

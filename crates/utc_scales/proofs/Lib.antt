@@ -1,3 +1,4 @@
 -- What several proofs of `utc_scales` cite.
 pub mod Midnights
 pub mod Steps
+pub mod Rules

@@ -27,6 +27,7 @@ use Rattle.utc_scales.specs.LargerPart.{firstIsKept, keptAs, keptParts, 
 use Rattle.utc_scales.specs.Dates.{offsetOfDate, offsetAt0h, offsetsOf, midnightOf}
 use Rattle.utc_scales.specs.UtcTai.{taiFromMidnight, taiFraction, refined, rounds, refineUtcFraction}
 use Rattle.utc_scales.specs.UtcUt1.{nearStep, noStep, step, scanDay, untilStep, scan}
+use Rattle.utc_scales.specs.ByRule.{offsetOfDateByRule}
 use Rattle.utc_scales.specs.Known.{offsetOfParts}
 use Rattle.utc_scales.proofs.Midnights.{midnightOfDay, valid-midnight, offset-valid, offsets-valid}
 
@@ -144,14 +145,14 @@ offsets-first rows t o e =
     p ∙ ap (λ (z : DayOffsets). answer (z .«at_0h»)) k
 
 -- by the parts of a date
-pub parts-offset : (rows : List Row) (p : Parts) (b : Bool) → p .first ≡ b → cond b (offsetOfDate rows (p .larger) (p .smaller)) (offsetOfDate rows (p .smaller) (p .larger)) ≡ offsetOfParts rows p
+pub parts-offset : (rows : List Row) (p : Parts) (b : Bool) → p .first ≡ b → cond b (offsetOfDateByRule rows (p .larger) (p .smaller)) (offsetOfDateByRule rows (p .smaller) (p .larger)) ≡ offsetOfParts rows p
 unfolding offsetOfParts
-parts-offset rows p b e = ap (λ (c : Bool). cond c (offsetOfDate rows (p .larger) (p .smaller)) (offsetOfDate rows (p .smaller) (p .larger))) (sym e)
+parts-offset rows p b e = ap (λ (c : Bool). cond c (offsetOfDateByRule rows (p .larger) (p .smaller)) (offsetOfDateByRule rows (p .smaller) (p .larger))) (sym e)
 
-pub date-offset : (rows : List Row) (d : JulianDate) (p : Parts) → p ≡ keptParts d → offsetOfParts rows p ≡ offsetOfDate rows (d .jd1) (d .jd2)
+pub date-offset : (rows : List Row) (d : JulianDate) (p : Parts) → p ≡ keptParts d → offsetOfParts rows p ≡ offsetOfDateByRule rows (d .jd1) (d .jd2)
 unfolding keptParts offsetOfParts
 date-offset rows d p e = ap (offsetOfParts rows) e ∙ go (firstIsKept d)
   where
-    go : (b : Bool) → offsetOfParts rows (keptAs d b) ≡ offsetOfDate rows (d .jd1) (d .jd2)
+    go : (b : Bool) → offsetOfParts rows (keptAs d b) ≡ offsetOfDateByRule rows (d .jd1) (d .jd2)
     go true = refl
     go false = refl

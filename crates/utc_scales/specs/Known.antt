@@ -13,8 +13,11 @@ use Rattle.utc_scales.specs.declared.table.Known.the-variants as K
 use Rattle.utc_scales.specs.declared.utc_tai.PartAnswer.{PartAnswer}
 use Rattle.utc_scales.specs.declared.utc_tai.PartAnswer.the-variants as Part
 use Rattle.utc_scales.specs.declared.larger_part.Parts.{Parts}
-use Rattle.utc_scales.specs.declared.utc_tai.KnownPart.{KnownPart}
+use Rattle.utc_scales.specs.declared.utc_tai.RuledPart.{RuledPart}
+use Rattle.utc_scales.specs.declared.utc_tai.RuledPart.the-variants as Ruled
+use Rattle.tai_utc.specs.declared.Rule.{Rule}
 use Rattle.utc_scales.specs.Dates.{offsetsOf, offsetOfDate}
+use Rattle.utc_scales.specs.ByRule.{ruleOfDate, offsetOfDateByRule}
 
 unfoldable pub RightDay : List Row → KnownDay → Type 0
 RightDay rows k = offsetsOf rows (gregorianDate (k .day)) ≡ answer (k .offsets)
@@ -32,14 +35,20 @@ unfoldable pub RightPart : List Row → PartAnswer → Type 0
 RightPart rows (Part.Part p) = RightDay rows (p .known)
 RightPart rows (Part.Refused number) = Unit
 
--- the day that is known is the day of the Julian date (jd1, jd2)
-unfoldable pub SameDay : List Row → Float → Float → KnownPart → Type 0
-SameDay rows jd1 jd2 p = offsetOfDate rows jd1 jd2 ≡ answer (p .known .offsets .«at_0h»)
+-- the part that an answer with a rule carries
+unfoldable pub ruledPartOutcome : RuledPart → Outcome Float
+ruledPartOutcome (Ruled.Part part x rule) = answer part
+ruledPartOutcome (Ruled.Refused number) = refusal number
 
-unfoldable pub SameDays : List Row → Float → Float → PartAnswer → Type 0
-SameDays rows jd1 jd2 (Part.Part p) = SameDay rows jd1 jd2 p
-SameDays rows jd1 jd2 (Part.Refused number) = Unit
+-- x and the rule are TAI-UTC at 0h and the rule of the day of the Julian date (jd1, jd2)
+pub record SameDay (rows : List Row) (jd1 jd2 x : Float) (rule : Rule) : Type 0 where
+  pub offset : offsetOfDate rows jd1 jd2 ≡ answer x
+  pub told : ruleOfDate rows jd1 jd2 ≡ answer rule
 
--- TAI-UTC at 0h of the day of a Julian date by its parts, jd1 before jd2
-unfoldable pub offsetOfParts : List Row → Parts → Outcome Float
-offsetOfParts rows p = cond (p .first) (offsetOfDate rows (p .larger) (p .smaller)) (offsetOfDate rows (p .smaller) (p .larger))
+unfoldable pub SameDays : List Row → Float → Float → RuledPart → Type 0
+SameDays rows jd1 jd2 (Ruled.Part part x rule) = SameDay rows jd1 jd2 x rule
+SameDays rows jd1 jd2 (Ruled.Refused number) = Unit
+
+-- TAI-UTC at 0h of the day of a Julian date by its parts, jd1 before jd2, and its rule
+unfoldable pub offsetOfParts : List Row → Parts → Outcome (Float × Rule)
+offsetOfParts rows p = cond (p .first) (offsetOfDateByRule rows (p .larger) (p .smaller)) (offsetOfDateByRule rows (p .smaller) (p .larger))

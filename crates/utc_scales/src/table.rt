@@ -4,14 +4,16 @@ ghost use Prim.Native.Nat.{_≤_};
 ghost use lib.IntN.{pos, natAbs, _-ℤ_};
 ghost use lib.Ieee.{binary64, ofInt};
 ghost use Rattle.calendar.specs.Gregorian.{gregorianDate};
-ghost use Rattle.tai_utc.specs.Lent.{rowsOf};
-ghost use Rattle.tai_utc.specs.Answers.{secondsOutcome, dayOffsetsOutcome};
+ghost use Rattle.tai_utc.specs.Lent.{rowsIn};
+ghost use Rattle.tai_utc.specs.Rule.{withRule};
+ghost use Rattle.tai_utc.specs.Answers.{secondsByRuleOutcome, dayOffsetsOutcome, dayByRuleOutcome};
 ghost use Rattle.utc_scales.specs.Dates.{offsetAt0h, offsetsOf};
+ghost use Rattle.utc_scales.specs.ByRule.{ruleOn};
 ghost use Rattle.utc_scales.specs.Known.{RightKnown};
+use tai_utc::DayByRule;
 use tai_utc::DayOffsets;
 use tai_utc::DayOffsetsAnswer;
-use tai_utc::LentRows;
-use tai_utc::SecondsAnswer;
+use tai_utc::SecondsByRule;
 
 // The offsets of a day, looked up.
 pub(crate) struct KnownDay {
@@ -26,34 +28,73 @@ pub(crate) enum Known {
 }
 
 // At 0h.
-pub(crate) fn offset_at_0h(day: i64, table: LentRows) -> SecondsAnswer
-    ensures { λ r. ⌜ secondsOutcome r ≡ offsetAt0h (rowsOf table) (gregorianDate day) ⌝ }
+pub(crate) fn offset_at_0h<'a>(
+    day: i64,
+    size: usize,
+    months: &'a [i32; 16],
+    seconds: &'a [i32; 16],
+) -> SecondsByRule
+    ensures { λ r. ⌜ secondsByRuleOutcome r ≡ withRule (offsetAt0h (rowsIn size (now (months .entry)) (now (seconds .entry))) (gregorianDate day)) (ruleOn (rowsIn size (now (months .entry)) (now (seconds .entry))) (gregorianDate day)) ⌝ }
 {
     let t = calendar::gregorian_date(day);
-    tai_utc::get_tai_utc_offset_by_rows(t.year, t.month as i32, t.day as i32, 0.0, table)
+    tai_utc::get_tai_utc_offset_by_lent(
+        t.year,
+        t.month as i32,
+        t.day as i32,
+        0.0,
+        size,
+        months,
+        seconds,
+    )
 }
 
-// At 0h, at 12h and at 24h.
-pub(crate) fn offsets_of(day: i64, table: LentRows) -> DayOffsetsAnswer
-    ensures { λ r. ⌜ dayOffsetsOutcome r ≡ offsetsOf (rowsOf table) (gregorianDate day) ⌝ }
+// At 0h, at 12h and at 24h, and the rule of the day.
+pub(crate) fn day_of<'a>(
+    day: i64,
+    size: usize,
+    months: &'a [i32; 16],
+    seconds: &'a [i32; 16],
+) -> DayByRule
+    ensures { λ r. ⌜ dayByRuleOutcome r ≡ withRule (offsetsOf (rowsIn size (now (months .entry)) (now (seconds .entry))) (gregorianDate day)) (ruleOn (rowsIn size (now (months .entry)) (now (seconds .entry))) (gregorianDate day)) ⌝ }
 {
     let t = calendar::gregorian_date(day);
-    tai_utc::day_offsets_by_rows(t.year, t.month as i32, t.day as i32, table)
+    tai_utc::day_offsets_by_lent(t.year, t.month as i32, t.day as i32, size, months, seconds)
+}
+
+// The offsets alone.
+fn offsets_of<'a>(
+    day: i64,
+    size: usize,
+    months: &'a [i32; 16],
+    seconds: &'a [i32; 16],
+) -> DayOffsetsAnswer
+    ensures { λ r. ⌜ dayOffsetsOutcome r ≡ offsetsOf (rowsIn size (now (months .entry)) (now (seconds .entry))) (gregorianDate day) ⌝ }
+{
+    match day_of(day, size, months, seconds) {
+        DayByRule::Refused(number) => DayOffsetsAnswer::Refused(number),
+        DayByRule::Day(o, _) => DayOffsetsAnswer::Offsets(o),
+    }
 }
 
 // The same, with no look-up where the day is the known one.
-pub(crate) fn offsets_with(day: i64, known: Known, table: LentRows) -> DayOffsetsAnswer
-    requires { ⌜ RightKnown (rowsOf table) known ⌝ }
-    ensures { λ r. ⌜ dayOffsetsOutcome r ≡ offsetsOf (rowsOf table) (gregorianDate day) ⌝ }
+pub(crate) fn offsets_with<'a>(
+    day: i64,
+    known: Known,
+    size: usize,
+    months: &'a [i32; 16],
+    seconds: &'a [i32; 16],
+) -> DayOffsetsAnswer
+    requires { ⌜ RightKnown (rowsIn size (now months) (now seconds)) known ⌝ }
+    ensures { λ r. ⌜ dayOffsetsOutcome r ≡ offsetsOf (rowsIn size (now (months .entry)) (now (seconds .entry))) (gregorianDate day) ⌝ }
 {
     match known {
-        Known::Nothing => offsets_of(day, table),
+        Known::Nothing => offsets_of(day, size, months, seconds),
         Known::Day(k) => {
             if day == k.day {
                 let offsets = k.offsets;
                 DayOffsetsAnswer::Offsets(offsets)
             } else {
-                offsets_of(day, table)
+                offsets_of(day, size, months, seconds)
             }
         }
     }

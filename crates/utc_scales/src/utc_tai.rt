@@ -4,15 +4,17 @@ ghost use Rattle.refusals.specs.Outcome.{onward};
 ghost use Rattle.julian.specs.JulianDate.{julian, julianOutcome};
 ghost use Rattle.julian.specs.DayFraction.{fractionOutcome};
 ghost use Rattle.constants.specs.Constants.{mjdZeroPoint};
-ghost use Rattle.tai_utc.specs.Lent.{rowsOf, tableOf};
+ghost use Rattle.tai_utc.specs.Lent.{rowsIn, rowsOf, tableOf};
 ghost use Rattle.scales.specs.Scales.{taiOutcome, utcOutcome};
-ghost use Rattle.utc_scales.specs.Known.{RightKnown, partOutcome, RightPart, SameDays};
+ghost use Rattle.utc_scales.specs.ByRule.{utcToTaiByRule, taiByRuleOutcome};
+ghost use Rattle.utc_scales.specs.Known.{RightKnown, partOutcome, RightPart, ruledPartOutcome, SameDays};
 ghost use Rattle.utc_scales.specs.UtcTai as U;
 use super::larger_part::placed;
 use super::larger_part::put_back;
 use super::larger_part::split;
 use super::table::Known;
 use super::table::KnownDay;
+use super::table::day_of;
 use super::table::mjd_of;
 use super::table::offsets_with;
 use constants::MJD_ZERO_POINT;
@@ -25,9 +27,11 @@ use scales::TAI;
 use scales::TaiAnswer;
 use scales::UTC;
 use scales::UtcAnswer;
+use tai_utc::DayByRule;
 use tai_utc::DayOffsets;
 use tai_utc::DayOffsetsAnswer;
 use tai_utc::LentRows;
+use tai_utc::Rule;
 
 // The smaller part of a date, and the day that was looked up for it.
 pub(crate) struct KnownPart {
@@ -38,6 +42,18 @@ pub(crate) struct KnownPart {
 // The same, or the number of the refusal.
 pub(crate) enum PartAnswer {
     Part(KnownPart),
+    Refused(u32),
+}
+
+// The smaller part of a date, TAI-UTC at 0h of its day and the rule of the day; or the number of the refusal.
+pub(crate) enum RuledPart {
+    Part(f64, f64, Rule),
+    Refused(u32),
+}
+
+// A date with the rule of its offset, or the number of the refusal.
+pub enum TaiByRule {
+    Date(TAI, Rule),
     Refused(u32),
 }
 
@@ -60,13 +76,20 @@ fn tai_from_midnight(big: f64, mjd: f64, o: DayOffsets, fraction: f64) -> f64
 }
 
 // The smaller part in TAI. Refusals in order: 6, then the date's.
-pub(crate) fn tai_fraction(big: f64, small: f64, known: Known, table: LentRows) -> PartAnswer
-    requires { ⌜ RightKnown (rowsOf table) known ⌝ }
-    ensures { λ r. ⌜ (partOutcome r ≡ U.taiFraction (rowsOf table) big small) × RightPart (rowsOf table) r × SameDays (rowsOf table) big small r ⌝ }
+fn tai_fraction<'a>(
+    big: f64,
+    small: f64,
+    known: Known,
+    size: usize,
+    months: &'a [i32; 16],
+    seconds: &'a [i32; 16],
+) -> PartAnswer
+    requires { ⌜ RightKnown (rowsIn size (now months) (now seconds)) known ⌝ }
+    ensures { λ r. ⌜ (partOutcome r ≡ U.taiFraction (rowsIn size (now (months .entry)) (now (seconds .entry))) big small) × RightPart (rowsIn size (now (months .entry)) (now (seconds .entry))) r ⌝ }
 {
     match day_number::day_number_and_fraction(big, small) {
         DayAnswer::Refused(number) => PartAnswer::Refused(number),
-        DayAnswer::Day(d) => match offsets_with(d.day, known, table) {
+        DayAnswer::Day(d) => match offsets_with(d.day, known, size, months, seconds) {
             DayOffsetsAnswer::Refused(number) => PartAnswer::Refused(number),
             DayOffsetsAnswer::Offsets(o) => {
                 let part = tai_from_midnight(big, mjd_of(d.day), o, d.fraction);
@@ -82,47 +105,83 @@ pub(crate) fn tai_fraction(big: f64, small: f64, known: Known, table: LentRows) 
     }
 }
 
-fn utc_to_tai_jd(jd: JulianDate, table: LentRows) -> JulianAnswer
-    ensures { λ r. ⌜ julianOutcome r ≡ U.utcToTai (rowsOf table) jd ⌝ }
+// The same with the day's rule.
+pub(crate) fn tai_fraction_by_rule<'a>(
+    big: f64,
+    small: f64,
+    size: usize,
+    months: &'a [i32; 16],
+    seconds: &'a [i32; 16],
+) -> RuledPart
+    ensures { λ r. ⌜ (ruledPartOutcome r ≡ U.taiFraction (rowsIn size (now (months .entry)) (now (seconds .entry))) big small) × SameDays (rowsIn size (now (months .entry)) (now (seconds .entry))) big small r ⌝ }
 {
-    let p = split(jd);
-    match tai_fraction(p.larger, p.smaller, Known::Nothing, table) {
-        PartAnswer::Refused(number) => JulianAnswer::Refused(number),
-        PartAnswer::Part(k) => JulianAnswer::Date(put_back(p, k.part)),
+    match day_number::day_number_and_fraction(big, small) {
+        DayAnswer::Refused(number) => RuledPart::Refused(number),
+        DayAnswer::Day(d) => match day_of(d.day, size, months, seconds) {
+            DayByRule::Refused(number) => RuledPart::Refused(number),
+            DayByRule::Day(o, rule) => {
+                let part = tai_from_midnight(big, mjd_of(d.day), o, d.fraction);
+                RuledPart::Part(part, o.at_0h, rule)
+            }
+        },
     }
 }
 
-// By the rows of a table that is tested elsewhere. Refusals in order: 6, then the date's.
+// Refusals in order: 6, then the date's.
+pub fn utc_to_tai_by_lent<'a>(
+    utc: UTC,
+    size: usize,
+    months: &'a [i32; 16],
+    seconds: &'a [i32; 16],
+) -> TaiByRule
+    ensures { λ r. ⌜ taiByRuleOutcome r ≡ utcToTaiByRule (rowsIn size (now (months .entry)) (now (seconds .entry))) (utc .0) ⌝ }
+{
+    let p = split(utc.0);
+    match tai_fraction_by_rule(p.larger, p.smaller, size, months, seconds) {
+        RuledPart::Refused(number) => TaiByRule::Refused(number),
+        RuledPart::Part(part, _, rule) => TaiByRule::Date(TAI(put_back(p, part)), rule),
+    }
+}
+
+// By the rows of a table that is tested elsewhere, without the rule. Refusals in order: 6, then the date's.
 pub fn utc_to_tai_by_rows(utc: UTC, table: LentRows) -> TaiAnswer
     ensures { λ r. ⌜ taiOutcome r ≡ U.utcToTai (rowsOf table) (utc .0) ⌝ }
 {
-    match utc_to_tai_jd(utc.0, table) {
-        JulianAnswer::Refused(number) => TaiAnswer::Refused(number),
-        JulianAnswer::Date(jd) => TaiAnswer::Date(TAI(jd)),
+    match utc_to_tai_by_lent(utc, tai_utc::size_of(table), &table.months, &table.seconds) {
+        TaiByRule::Refused(number) => TaiAnswer::Refused(number),
+        TaiByRule::Date(tai, _) => TaiAnswer::Date(tai),
     }
 }
 
-// Refusals in order: 20 to 22 the table, 6, then the date's.
-pub fn utc_to_tai(utc: UTC, table: LentRows) -> TaiAnswer
-    ensures { λ r. ⌜ taiOutcome r ≡ onward (tableOf table) (λ rows. U.utcToTai rows (utc .0)) ⌝ }
+// TAI with the rule of TAI-UTC on the date. Refusals in order: 20 to 22 the table, 6, then the date's.
+pub fn utc_to_tai(utc: UTC, table: LentRows) -> TaiByRule
+    ensures { λ r. ⌜ taiByRuleOutcome r ≡ onward (tableOf table) (λ rows. utcToTaiByRule rows (utc .0)) ⌝ }
 {
     let number = tai_utc::table_refusal(table);
     if number != 0 {
-        return TaiAnswer::Refused(number);
+        return TaiByRule::Refused(number);
     }
-    utc_to_tai_by_rows(utc, table)
+    utc_to_tai_by_lent(utc, tai_utc::size_of(table), &table.months, &table.seconds)
 }
 
 // One round: the guess moved by what its TAI is off.
-fn refined(big: f64, small: f64, guess: f64, known: Known, table: LentRows) -> PartAnswer
-    requires { ⌜ RightKnown (rowsOf table) known ⌝ }
-    ensures { λ r. ⌜ (partOutcome r ≡ U.refined (rowsOf table) big small guess) × RightPart (rowsOf table) r ⌝ }
+fn refined<'a>(
+    big: f64,
+    small: f64,
+    guess: f64,
+    known: Known,
+    size: usize,
+    months: &'a [i32; 16],
+    seconds: &'a [i32; 16],
+) -> PartAnswer
+    requires { ⌜ RightKnown (rowsIn size (now months) (now seconds)) known ⌝ }
+    ensures { λ r. ⌜ (partOutcome r ≡ U.refined (rowsIn size (now (months .entry)) (now (seconds .entry))) big small guess) × RightPart (rowsIn size (now (months .entry)) (now (seconds .entry))) r ⌝ }
 {
     let p = split(JulianDate {
         jd1: big,
         jd2: guess,
     });
-    match tai_fraction(p.larger, p.smaller, known, table) {
+    match tai_fraction(p.larger, p.smaller, known, size, months, seconds) {
         PartAnswer::Refused(number) => PartAnswer::Refused(number),
         PartAnswer::Part(k) => {
             let tai = put_back(p, k.part);
@@ -135,28 +194,60 @@ fn refined(big: f64, small: f64, guess: f64, known: Known, table: LentRows) -> P
 }
 
 // One round more, where the guess was not refused.
-fn refined_again(big: f64, small: f64, guess: PartAnswer, table: LentRows) -> PartAnswer
-    requires { ⌜ RightPart (rowsOf table) guess ⌝ }
-    ensures { λ r. ⌜ (partOutcome r ≡ onward (partOutcome guess) (U.refined (rowsOf table) big small)) × RightPart (rowsOf table) r ⌝ }
+fn refined_again<'a>(
+    big: f64,
+    small: f64,
+    guess: PartAnswer,
+    size: usize,
+    months: &'a [i32; 16],
+    seconds: &'a [i32; 16],
+) -> PartAnswer
+    requires { ⌜ RightPart (rowsIn size (now months) (now seconds)) guess ⌝ }
+    ensures { λ r. ⌜ (partOutcome r ≡ onward (partOutcome guess) (U.refined (rowsIn size (now (months .entry)) (now (seconds .entry))) big small)) × RightPart (rowsIn size (now (months .entry)) (now (seconds .entry))) r ⌝ }
 {
     match guess {
         PartAnswer::Refused(number) => PartAnswer::Refused(number),
         PartAnswer::Part(k) => {
             let day = k.known;
-            refined(big, small, k.part, Known::Day(day), table)
+            refined(big, small, k.part, Known::Day(day), size, months, seconds)
         }
     }
 }
 
 // The guess starts at TAI and keeps TAI's larger part, so only the smaller part moves. The rounds mostly stay on one day, which is looked up once.
-fn refine_utc_fraction(big: f64, small: f64, table: LentRows) -> FractionAnswer
-    ensures { λ r. ⌜ fractionOutcome r ≡ U.refineUtcFraction (rowsOf table) big small ⌝ }
+fn refine_utc_fraction<'a>(
+    big: f64,
+    small: f64,
+    size: usize,
+    months: &'a [i32; 16],
+    seconds: &'a [i32; 16],
+) -> FractionAnswer
+    ensures { λ r. ⌜ fractionOutcome r ≡ U.refineUtcFraction (rowsIn size (now (months .entry)) (now (seconds .entry))) big small ⌝ }
 {
-    let one = refined(big, small, small, Known::Nothing, table);
-    let two = refined_again(big, small, one, table);
-    match refined_again(big, small, two, table) {
+    let one = refined(big, small, small, Known::Nothing, size, months, seconds);
+    let two = refined_again(big, small, one, size, months, seconds);
+    match refined_again(big, small, two, size, months, seconds) {
         PartAnswer::Refused(number) => FractionAnswer::Refused(number),
         PartAnswer::Part(k) => FractionAnswer::Fraction(k.part),
+    }
+}
+
+// Refusals in each round, in order: 6, then the date's.
+pub fn tai_to_utc_by_lent<'a>(
+    tai: TAI,
+    size: usize,
+    months: &'a [i32; 16],
+    seconds: &'a [i32; 16],
+) -> UtcAnswer
+    ensures { λ r. ⌜ utcOutcome r ≡ U.taiToUtc (rowsIn size (now (months .entry)) (now (seconds .entry))) (tai .0) ⌝ }
+{
+    let p = split(tai.0);
+    match placed(
+        p,
+        refine_utc_fraction(p.larger, p.smaller, size, months, seconds),
+    ) {
+        JulianAnswer::Refused(number) => UtcAnswer::Refused(number),
+        JulianAnswer::Date(jd) => UtcAnswer::Date(UTC(jd)),
     }
 }
 
@@ -164,11 +255,7 @@ fn refine_utc_fraction(big: f64, small: f64, table: LentRows) -> FractionAnswer
 pub fn tai_to_utc_by_rows(tai: TAI, table: LentRows) -> UtcAnswer
     ensures { λ r. ⌜ utcOutcome r ≡ U.taiToUtc (rowsOf table) (tai .0) ⌝ }
 {
-    let p = split(tai.0);
-    match placed(p, refine_utc_fraction(p.larger, p.smaller, table)) {
-        JulianAnswer::Refused(number) => UtcAnswer::Refused(number),
-        JulianAnswer::Date(jd) => UtcAnswer::Date(UTC(jd)),
-    }
+    tai_to_utc_by_lent(tai, tai_utc::size_of(table), &table.months, &table.seconds)
 }
 
 // Refusals in order: 20 to 22 the table; then in each round 6, then the date's.

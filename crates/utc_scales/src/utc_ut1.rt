@@ -5,23 +5,22 @@ ghost use Rattle.julian.specs.JulianDate.{julian, julianOutcome};
 ghost use Rattle.julian.specs.DayFraction.{fractionOutcome};
 ghost use Rattle.julian.specs.Finite as J;
 ghost use Rattle.refusals.specs.Outcome.{onward};
-ghost use Rattle.tai_utc.specs.Lent.{rowsOf, tableOf};
+ghost use Rattle.tai_utc.specs.Lent.{rowsIn, rowsOf, tableOf};
 ghost use Rattle.tai_utc.specs.Answers as T;
 ghost use Rattle.scales.specs.Scales.{utcOutcome, ut1Outcome};
 ghost use Rattle.utc_scales.specs.LargerPart.{changeSmaller};
-ghost use Rattle.utc_scales.specs.Dates.{offsetOfDate};
+ghost use Rattle.tai_utc.specs.Rule.{withRule};
+ghost use Rattle.utc_scales.specs.ByRule.{offsetOfDateByRule, utcToUt1ByRule, ut1ByRuleOutcome};
 ghost use Rattle.utc_scales.specs.Known.{SameDay, offsetOfParts};
 ghost use Rattle.utc_scales.specs.UtcUt1 as U;
 use super::larger_part::Parts;
 use super::larger_part::placed;
 use super::larger_part::put_back;
 use super::larger_part::split;
-use super::table::Known;
 use super::table::mjd_of;
 use super::table::offset_at_0h;
-use super::utc_tai::KnownPart;
-use super::utc_tai::PartAnswer;
-use super::utc_tai::tai_fraction;
+use super::utc_tai::RuledPart;
+use super::utc_tai::tai_fraction_by_rule;
 use constants::MJD_ZERO_POINT;
 use constants::SECONDS_PER_DAY_F64;
 use day_number::DayAnswer;
@@ -34,6 +33,14 @@ use scales::UTC;
 use scales::Ut1Answer;
 use scales::UtcAnswer;
 use tai_utc::LentRows;
+use tai_utc::Rule;
+use tai_utc::SecondsByRule;
+
+// A date with the rule of its offset, or the number of the refusal.
+pub enum Ut1ByRule {
+    Date(UT1, Rule),
+    Refused(u32),
+}
 
 // What a scanned day shows: its TAI-UTC, with no step from the day before; or DUT1 near its step.
 enum DayScan {
@@ -42,62 +49,110 @@ enum DayScan {
     Refused(u32),
 }
 
-// TAI-UTC at 0h of the day of a Julian date.
-fn offset_of_date(jd1: f64, jd2: f64, table: LentRows) -> tai_utc::SecondsAnswer
-    ensures { λ r. ⌜ T.secondsOutcome r ≡ offsetOfDate (rowsOf table) jd1 jd2 ⌝ }
+// TAI-UTC at 0h of the day of a Julian date, and its rule.
+fn offset_of_date<'a>(
+    jd1: f64,
+    jd2: f64,
+    size: usize,
+    months: &'a [i32; 16],
+    seconds: &'a [i32; 16],
+) -> SecondsByRule
+    ensures { λ r. ⌜ T.secondsByRuleOutcome r ≡ offsetOfDateByRule (rowsIn size (now (months .entry)) (now (seconds .entry))) jd1 jd2 ⌝ }
 {
     match day_number::day_number_and_fraction(jd1, jd2) {
-        DayAnswer::Refused(number) => tai_utc::SecondsAnswer::Refused(number),
-        DayAnswer::Day(d) => offset_at_0h(d.day, table),
+        DayAnswer::Refused(number) => SecondsByRule::Refused(number),
+        DayAnswer::Day(d) => offset_at_0h(d.day, size, months, seconds),
     }
 }
 
 // The same of jd1 and jd2 in their order. Where jd1 is the larger part, the day has been looked up for TAI.
-fn offset_with(p: Parts, k: KnownPart, table: LentRows) -> tai_utc::SecondsAnswer
-    requires { ⌜ SameDay (rowsOf table) (p .larger) (p .smaller) k ⌝ }
-    ensures { λ r. ⌜ T.secondsOutcome r ≡ offsetOfParts (rowsOf table) p ⌝ }
+fn offset_with<'a>(
+    p: Parts,
+    x: f64,
+    rule: Rule,
+    size: usize,
+    months: &'a [i32; 16],
+    seconds: &'a [i32; 16],
+) -> SecondsByRule
+    requires { ⌜ SameDay (rowsIn size (now months) (now seconds)) (p .larger) (p .smaller) x rule ⌝ }
+    ensures { λ r. ⌜ T.secondsByRuleOutcome r ≡ offsetOfParts (rowsIn size (now (months .entry)) (now (seconds .entry))) p ⌝ }
 {
     if p.first {
-        let day = k.known;
-        let o = day.offsets;
-        tai_utc::SecondsAnswer::Seconds(o.at_0h)
+        SecondsByRule::Seconds(x, rule)
     } else {
-        offset_of_date(p.smaller, p.larger, table)
+        offset_of_date(p.smaller, p.larger, size, months, seconds)
     }
 }
 
-// By the rows of a table that is tested elsewhere. Refusals in order: 10, 6, the date's.
-pub fn utc_to_ut1_with_dut1_by_rows(utc: UTC, dut1: f64, table: LentRows) -> Ut1Answer
-    ensures { λ r. ⌜ ut1Outcome r ≡ U.utcToUt1 (rowsOf table) (utc .0) dut1 ⌝ }
+fn with_rule(found: Ut1Answer, rule: Rule) -> Ut1ByRule
+    ensures { λ r. ⌜ ut1ByRuleOutcome r ≡ withRule (ut1Outcome found) rule ⌝ }
+{
+    match found {
+        Ut1Answer::Refused(number) => Ut1ByRule::Refused(number),
+        Ut1Answer::Date(ut1) => Ut1ByRule::Date(ut1, rule),
+    }
+}
+
+// Refusals in order: 10, 6, the date's.
+pub fn utc_to_ut1_with_dut1_by_lent<'a>(
+    utc: UTC,
+    dut1: f64,
+    size: usize,
+    months: &'a [i32; 16],
+    seconds: &'a [i32; 16],
+) -> Ut1ByRule
+    ensures { λ r. ⌜ ut1ByRuleOutcome r ≡ utcToUt1ByRule (rowsIn size (now (months .entry)) (now (seconds .entry))) (utc .0) dut1 ⌝ }
 {
     if let julian::OffsetAnswer::Refused(number) = julian::finite_arg(dut1) {
-        return Ut1Answer::Refused(number);
+        return Ut1ByRule::Refused(number);
     }
-    let jd = utc.0;
-    let p = split(jd);
-    match tai_fraction(p.larger, p.smaller, Known::Nothing, table) {
-        PartAnswer::Refused(number) => Ut1Answer::Refused(number),
-        PartAnswer::Part(k) => {
-            let tai = put_back(p, k.part);
-            match offset_with(p, k, table) {
-                tai_utc::SecondsAnswer::Refused(number) => Ut1Answer::Refused(number),
-                tai_utc::SecondsAnswer::Seconds(x) => {
-                    scales::ut1_tai::tai_to_ut1_with_offset(TAI(tai), dut1 - x)
-                }
+    let p = split(utc.0);
+    match tai_fraction_by_rule(p.larger, p.smaller, size, months, seconds) {
+        RuledPart::Refused(number) => Ut1ByRule::Refused(number),
+        RuledPart::Part(part, at_0h, rule) => {
+            let tai = put_back(p, part);
+            match offset_with(p, at_0h, rule, size, months, seconds) {
+                SecondsByRule::Refused(number) => Ut1ByRule::Refused(number),
+                SecondsByRule::Seconds(x, told) => with_rule(
+                    scales::ut1_tai::tai_to_ut1_with_offset(TAI(tai), dut1 - x),
+                    told,
+                ),
             }
         }
     }
 }
 
-// Refusals in order: 20 to 22 the table, 10, 6, the date's.
-pub fn utc_to_ut1_with_dut1(utc: UTC, dut1: f64, table: LentRows) -> Ut1Answer
-    ensures { λ r. ⌜ ut1Outcome r ≡ onward (tableOf table) (λ rows. U.utcToUt1 rows (utc .0) dut1) ⌝ }
+// By the rows of a table that is tested elsewhere, without the rule. Refusals in order: 10, 6, the date's.
+pub fn utc_to_ut1_with_dut1_by_rows(utc: UTC, dut1: f64, table: LentRows) -> Ut1Answer
+    ensures { λ r. ⌜ ut1Outcome r ≡ U.utcToUt1 (rowsOf table) (utc .0) dut1 ⌝ }
+{
+    match utc_to_ut1_with_dut1_by_lent(
+        utc,
+        dut1,
+        tai_utc::size_of(table),
+        &table.months,
+        &table.seconds,
+    ) {
+        Ut1ByRule::Refused(number) => Ut1Answer::Refused(number),
+        Ut1ByRule::Date(ut1, _) => Ut1Answer::Date(ut1),
+    }
+}
+
+// UT1 with the rule of TAI-UTC on the date. Refusals in order: 20 to 22 the table, 10, 6, the date's.
+pub fn utc_to_ut1_with_dut1(utc: UTC, dut1: f64, table: LentRows) -> Ut1ByRule
+    ensures { λ r. ⌜ ut1ByRuleOutcome r ≡ onward (tableOf table) (λ rows. utcToUt1ByRule rows (utc .0) dut1) ⌝ }
 {
     let number = tai_utc::table_refusal(table);
     if number != 0 {
-        return Ut1Answer::Refused(number);
+        return Ut1ByRule::Refused(number);
     }
-    utc_to_ut1_with_dut1_by_rows(utc, dut1, table)
+    utc_to_ut1_with_dut1_by_lent(
+        utc,
+        dut1,
+        tai_utc::size_of(table),
+        &table.months,
+        &table.seconds,
+    )
 }
 
 // DUT1 less the step, where both have one sign.
@@ -143,14 +198,23 @@ fn near_step(big: f64, small: f64, dut1: f64, delta: f64, mjd: f64) -> f64
 }
 
 // The day i days later. Refusals in order: 6, 1.
-fn scan_day(big: f64, small: f64, dut1: f64, i: f64, before: f64, table: LentRows) -> DayScan
-    ensures { λ r. ⌜ U.scanOutcome r ≡ U.scanDay (rowsOf table) big small dut1 i before ⌝ }
+fn scan_day<'a>(
+    big: f64,
+    small: f64,
+    dut1: f64,
+    i: f64,
+    before: f64,
+    size: usize,
+    months: &'a [i32; 16],
+    seconds: &'a [i32; 16],
+) -> DayScan
+    ensures { λ r. ⌜ U.scanOutcome r ≡ U.scanDay (rowsIn size (now (months .entry)) (now (seconds .entry))) big small dut1 i before ⌝ }
 {
     match day_number::day_number_and_fraction(big, small + i) {
         DayAnswer::Refused(number) => DayScan::Refused(number),
-        DayAnswer::Day(d) => match offset_at_0h(d.day, table) {
-            tai_utc::SecondsAnswer::Refused(number) => DayScan::Refused(number),
-            tai_utc::SecondsAnswer::Seconds(x) => {
+        DayAnswer::Day(d) => match offset_at_0h(d.day, size, months, seconds) {
+            SecondsByRule::Refused(number) => DayScan::Refused(number),
+            SecondsByRule::Seconds(x, _) => {
                 let delta = x - before;
                 if floats::fabs(delta) < 0.5 {
                     DayScan::NoStep(x)
@@ -163,13 +227,21 @@ fn scan_day(big: f64, small: f64, dut1: f64, i: f64, before: f64, table: LentRow
 }
 
 // The days 0 to 3, until a step; with none DUT1 stays.
-fn scan(big: f64, small: f64, dut1: f64, first: f64, table: LentRows) -> julian::OffsetAnswer
-    ensures { λ r. ⌜ J.offsetOutcome r ≡ U.scan (rowsOf table) big small dut1 4 0 first ⌝ }
+fn scan<'a>(
+    big: f64,
+    small: f64,
+    dut1: f64,
+    first: f64,
+    size: usize,
+    months: &'a [i32; 16],
+    seconds: &'a [i32; 16],
+) -> julian::OffsetAnswer
+    ensures { λ r. ⌜ J.offsetOutcome r ≡ U.scan (rowsIn size (now (months .entry)) (now (seconds .entry))) big small dut1 4 0 first ⌝ }
 {
     let mut before = first;
     let mut i: u32 = 0;
     while i < 4 {
-        match scan_day(big, small, dut1, i as f64, before, table) {
+        match scan_day(big, small, dut1, i as f64, before, size, months, seconds) {
             DayScan::NoStep(x) => {
                 before = x;
             }
@@ -186,25 +258,34 @@ fn scan(big: f64, small: f64, dut1: f64, first: f64, table: LentRows) -> julian:
 }
 
 // Day -1 is only looked up.
-fn adjust_dut1_for_leap_second(
+fn adjust_dut1_for_leap_second<'a>(
     big: f64,
     small: f64,
     dut1: f64,
-    table: LentRows,
+    size: usize,
+    months: &'a [i32; 16],
+    seconds: &'a [i32; 16],
 ) -> julian::OffsetAnswer
-    ensures { λ r. ⌜ J.offsetOutcome r ≡ U.adjustDut1 (rowsOf table) big small dut1 ⌝ }
+    ensures { λ r. ⌜ J.offsetOutcome r ≡ U.adjustDut1 (rowsIn size (now (months .entry)) (now (seconds .entry))) big small dut1 ⌝ }
 {
-    match offset_of_date(big, small + -1.0, table) {
-        tai_utc::SecondsAnswer::Refused(number) => julian::OffsetAnswer::Refused(number),
-        tai_utc::SecondsAnswer::Seconds(x) => scan(big, small, dut1, x, table),
+    match offset_of_date(big, small + -1.0, size, months, seconds) {
+        SecondsByRule::Refused(number) => julian::OffsetAnswer::Refused(number),
+        SecondsByRule::Seconds(x, _) => scan(big, small, dut1, x, size, months, seconds),
     }
 }
 
 // The smaller part in UTC.
-fn utc_fraction(dut1: f64, big: f64, small: f64, table: LentRows) -> FractionAnswer
-    ensures { λ r. ⌜ fractionOutcome r ≡ U.utcFraction (rowsOf table) dut1 big small ⌝ }
+fn utc_fraction<'a>(
+    dut1: f64,
+    big: f64,
+    small: f64,
+    size: usize,
+    months: &'a [i32; 16],
+    seconds: &'a [i32; 16],
+) -> FractionAnswer
+    ensures { λ r. ⌜ fractionOutcome r ≡ U.utcFraction (rowsIn size (now (months .entry)) (now (seconds .entry))) dut1 big small ⌝ }
 {
-    match adjust_dut1_for_leap_second(big, small, dut1, table) {
+    match adjust_dut1_for_leap_second(big, small, dut1, size, months, seconds) {
         julian::OffsetAnswer::Refused(number) => FractionAnswer::Refused(number),
         julian::OffsetAnswer::Offset(x) => FractionAnswer::Fraction(
             small - x / SECONDS_PER_DAY_F64,
@@ -213,27 +294,55 @@ fn utc_fraction(dut1: f64, big: f64, small: f64, table: LentRows) -> FractionAns
 }
 
 // The same in its place.
-fn less_dut1(jd: JulianDate, dut1: f64, table: LentRows) -> JulianAnswer
-    ensures { λ r. ⌜ julianOutcome r ≡ changeSmaller (U.utcFraction (rowsOf table) dut1) jd ⌝ }
+fn less_dut1<'a>(
+    jd: JulianDate,
+    dut1: f64,
+    size: usize,
+    months: &'a [i32; 16],
+    seconds: &'a [i32; 16],
+) -> JulianAnswer
+    ensures { λ r. ⌜ julianOutcome r ≡ changeSmaller (U.utcFraction (rowsIn size (now (months .entry)) (now (seconds .entry))) dut1) jd ⌝ }
 {
     let p = split(jd);
-    placed(p, utc_fraction(dut1, p.larger, p.smaller, table))
+    placed(
+        p,
+        utc_fraction(dut1, p.larger, p.smaller, size, months, seconds),
+    )
 }
 
-// By the rows of a table that is tested elsewhere. Refusals in order: 10, 9, then 6 or 1 for each scanned day.
-pub fn ut1_to_utc_with_dut1_by_rows(ut1: UT1, dut1: f64, table: LentRows) -> UtcAnswer
-    ensures { λ r. ⌜ utcOutcome r ≡ U.ut1ToUtc (rowsOf table) (ut1 .0) dut1 ⌝ }
+// Refusals in order: 10, 9, then 6 or 1 for each scanned day.
+pub fn ut1_to_utc_with_dut1_by_lent<'a>(
+    ut1: UT1,
+    dut1: f64,
+    size: usize,
+    months: &'a [i32; 16],
+    seconds: &'a [i32; 16],
+) -> UtcAnswer
+    ensures { λ r. ⌜ utcOutcome r ≡ U.ut1ToUtc (rowsIn size (now (months .entry)) (now (seconds .entry))) (ut1 .0) dut1 ⌝ }
 {
     if let julian::OffsetAnswer::Refused(number) = julian::finite_arg(dut1) {
         return UtcAnswer::Refused(number);
     }
     match julian::finite_jd(ut1.0) {
         JulianAnswer::Refused(number) => UtcAnswer::Refused(number),
-        JulianAnswer::Date(jd) => match less_dut1(jd, dut1, table) {
+        JulianAnswer::Date(jd) => match less_dut1(jd, dut1, size, months, seconds) {
             JulianAnswer::Refused(number) => UtcAnswer::Refused(number),
             JulianAnswer::Date(utc) => UtcAnswer::Date(UTC(utc)),
         },
     }
+}
+
+// By the rows of a table that is tested elsewhere. Refusals in order: 10, 9, then 6 or 1 for each scanned day.
+pub fn ut1_to_utc_with_dut1_by_rows(ut1: UT1, dut1: f64, table: LentRows) -> UtcAnswer
+    ensures { λ r. ⌜ utcOutcome r ≡ U.ut1ToUtc (rowsOf table) (ut1 .0) dut1 ⌝ }
+{
+    ut1_to_utc_with_dut1_by_lent(
+        ut1,
+        dut1,
+        tai_utc::size_of(table),
+        &table.months,
+        &table.seconds,
+    )
 }
 
 // Refusals in order: 20 to 22 the table, 10, 9, then 6 or 1 for each scanned day.

@@ -1,104 +1,24 @@
--- `utc::utc_from_calendar_by_rows` meets its contract: the refusal of the date, of its leap, or of the time of its day. Assumes nothing.
-use mathlib.Core.Path.{_≡_, sym, ap, _∙_}
-use native.Mathlib.Omega.{arith}
-use lib.IntN.{pos}
-use lib.Ieee.{ofBits}
-use mir.Syntax.{w32}
-use mir.Facts.{toZ-ofZ, toZ-pos}
-use Rattle.refusals.specs.Outcome.{answer, refusal, onward}
-use Rattle.floats.specs.Whole.{nought}
-use Rattle.julian.specs.JulianDate.{julianOutcome}
-use Rattle.julian.specs.Calendar.{fromCalendar}
-use Rattle.tai_utc.specs.Lent.{rowsOf}
-use Rattle.tai_utc.specs.Leap.{leapAtEndOfDay}
-use Rattle.tai_utc.specs.Answers.{secondsOutcome}
-use Rattle.scales.specs.Scales.{utcOutcome}
+-- `utc::utc_from_calendar_by_rows` meets its contract: by the table's two arrays. Assumes nothing.
+use mathlib.Core.Path.{_∙_}
+use mir.Facts.{toZ-ofZ}
+use Rattle.tai_utc.proofs.ByParts.{rows-in}
 use Rattle.utc.specs.FromCalendar.{utcFromCalendar}
 use borrow.Author.Needs.{needs}
 use Rattle.utc.proofs.utc_from_calendar_by_rows.Statement.{statement}
 use Rattle.utc.proofs.utc_from_calendar_by_rows.Tie as tie
 
--- the date's midnight
-midnight-given : (k : tie.After-midnight) → fromCalendar (k .before .before .before .args .year) (k .before .before .before .args .month) (k .before .before .before .args .day) 0 0 nought ≡ answer (k .midnight .given .0 .0)
-unfolding julianOutcome ofBits
-midnight-given k =
-    let v = k .before .before in
-    let s = v .before in
-    sym (λ i. fromCalendar (toZ-ofZ (s .fits .year) i) (s .args .month) (s .args .day) 0 0 nought) ∙ sym (v .from-calendar .ensures) ∙ ap julianOutcome (k .midnight .given .1)
+size-of-requires : tie.Need-size-of-requires
+size-of-requires c κs = search needs
 
--- the call for the day's leap
-leap-called : (l : tie.After-leap-at-end-of-day-by-rows)
-    → leapAtEndOfDay (rowsOf (l .before .before .before .before .before .args .table)) (l .before .before .before .before .before .args .year) (pos (l .before .before .before .before .before .args .month)) (pos (l .before .before .before .before .before .args .day)) ≡ secondsOutcome (l .leap-at-end-of-day-by-rows .result)
-leap-called l =
-    let s = l .before .before .before .before .before in
-    sym (l .leap-at-end-of-day-by-rows .ensures ∙ (λ i. leapAtEndOfDay (rowsOf (l .before .before .before .before .before .args .table)) (toZ-ofZ (s .fits .year) i) (toZ-pos w32 {n = s .args .month} (omega (arith, s .fits .month .fits)) i) (toZ-pos w32 {n = s .args .day} (omega (arith, s .fits .day .fits)) i)))
-
-from-calendar-requires : tie.Need-from-calendar-requires
-from-calendar-requires c κs = search needs
-
-enum-known-number : tie.Need-enum-known-number
-enum-known-number c = search needs
-
-enum-known-midnight : tie.Need-enum-known-midnight
-enum-known-midnight c = search needs
-
-cast-leap-at-end-of-day-by-rows : tie.Need-cast-leap-at-end-of-day-by-rows
-cast-leap-at-end-of-day-by-rows c = search needs
-
-cast-leap-at-end-of-day-by-rows-2 : tie.Need-cast-leap-at-end-of-day-by-rows-2
-cast-leap-at-end-of-day-by-rows-2 c = search needs
-
-leap-at-end-of-day-by-rows-requires : tie.Need-leap-at-end-of-day-by-rows-requires
-leap-at-end-of-day-by-rows-requires c κs = search needs
-
-enum-known-number-2 : tie.Need-enum-known-number-2
-enum-known-number-2 c = search needs
-
-enum-known-leap : tie.Need-enum-known-leap
-enum-known-leap c = search needs
-
-day-fraction-requires : tie.Need-day-fraction-requires
-day-fraction-requires c κs = search needs
-
-at-time-requires : tie.Need-at-time-requires
-at-time-requires c κs = search needs
+utc-from-calendar-by-lent-requires : tie.Need-utc-from-calendar-by-lent-requires
+utc-from-calendar-by-lent-requires c κs = search needs
 
 returns : tie.Need-returns
-unfolding utcOutcome utcFromCalendar onward julianOutcome ofBits
 returns c =
-    let v = c .before .before .before in
-    let s = v .before in
-    let e : fromCalendar (s .args .year) (s .args .month) (s .args .day) 0 0 nought ≡ refusal (c .before .number .given .0 .0) =
-    sym (λ i. fromCalendar (toZ-ofZ (s .fits .year) i) (s .args .month) (s .args .day) 0 0 nought) ∙ sym (v .from-calendar .ensures) ∙ ap julianOutcome (c .before .number .given .1) in
-    rw e
-
-returns-2 : tie.Need-returns-2
-unfolding utcOutcome utcFromCalendar onward secondsOutcome
-returns-2 c =
-    let l = c .before .before .before in
-    rw (midnight-given (l .before .before), leap-called l ∙ ap secondsOutcome (c .before .number2 .given .1))
-
-returns-3 : tie.Need-returns-3
-unfolding utcFromCalendar onward utcOutcome secondsOutcome
-returns-3 c =
-    let k = c .before .before .before in
-    let l = k .before .before in
-    rw (midnight-given (l .before .before), leap-called l ∙ ap secondsOutcome (k .leap .given .1), ← c .before .day-fraction .ensures) (c .at-time .ensures)
+    let z = c .before .before .before .before in
+    let s = z .before in
+    let rows = rows-in (s .args .t7) (z .size-of .result) (z .size-of .ensures) in
+    c .utc-from-calendar-by-lent .ensures ∙ (λ i. utcFromCalendar (rows i) (toZ-ofZ (s .fits .year) i) (s .args .month) (s .args .day) (s .args .hour) (s .args .minute) (s .args .second))
 
 pub utc-from-calendar-by-rows-spec : {M : Type 1} → statement M
-utc-from-calendar-by-rows-spec =
-    tie.close
-    (tie.spec
-    from-calendar-requires
-    enum-known-number
-    enum-known-midnight
-    cast-leap-at-end-of-day-by-rows
-    cast-leap-at-end-of-day-by-rows-2
-    leap-at-end-of-day-by-rows-requires
-    enum-known-number-2
-    enum-known-leap
-    day-fraction-requires
-    at-time-requires
-    returns
-    returns-2
-    returns-3)
+utc-from-calendar-by-rows-spec = tie.close (tie.spec size-of-requires utc-from-calendar-by-lent-requires returns)

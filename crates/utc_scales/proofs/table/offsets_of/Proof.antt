@@ -1,38 +1,49 @@
--- `utc_scales::table::offsets_of` meets its contract. Assumes nothing.
-use mathlib.Core.Path.{ap, _∙_}
-use lib.Ieee.{ofBits}
+-- `utc_scales::table::offsets_of` meets its contract: the day without its rule. Assumes nothing.
+use mathlib.Core.Path.{_≡_, sym, ap, _∙_}
+use mathlib.Core.List.{List}
+use denote.Ref.{now}
+use lib.IntN.{ℤ}
 use mir.Facts.{toZ-ofZ}
+use Rattle.refusals.specs.Outcome.{onward}
 use Rattle.calendar.specs.Gregorian.{gregorianDate}
-use Rattle.tai_utc.specs.Leap.{dayOffsets}
-use Rattle.tai_utc.specs.Lent.{rowsOf}
+use Rattle.tai_utc.specs.declared.DayByRule.{DayByRule}
+use Rattle.tai_utc.specs.Table.{Row}
+use Rattle.tai_utc.specs.Lent.{rowsIn}
+use Rattle.tai_utc.specs.Rule.{withRule, forget}
+use Rattle.tai_utc.specs.Answers.{dayOffsetsOutcome, dayByRuleOutcome}
+use Rattle.tai_utc.proofs.Rules.{forgets}
 use Rattle.utc_scales.specs.Dates.{offsetsOf}
-use Rattle.utc_scales.proofs.Midnights.{month-fits, day-of-month-fits, handed}
+use Rattle.utc_scales.specs.ByRule.{ruleOn}
 use borrow.Author.Needs.{needs}
 use Rattle.utc_scales.proofs.table.offsets_of.Statement.{statement}
 use Rattle.utc_scales.proofs.table.offsets_of.Tie as tie
 
-gregorian-date-requires : tie.Need-gregorian-date-requires
-gregorian-date-requires c κs = search needs
+-- the rows that are read
+abbrev rows : tie.Start → List Row
+rows s = rowsIn (s .args .size) (now (s .args .months)) (now (s .args .seconds))
 
-cast-day-offsets-by-rows : tie.Need-cast-day-offsets-by-rows
-cast-day-offsets-by-rows c = month-fits _ _ (c .before .gregorian-date .ensures ∙ ap gregorianDate (toZ-ofZ (c .before .before .fits .day)))
+called : (v : tie.After-day-of) → forget (dayByRuleOutcome (v .day-of .result)) ≡ offsetsOf (rows (v .before)) (gregorianDate (v .before .args .day))
+called v =
+    let s = v .before in
+    ap forget (v .day-of .ensures ∙ ap (λ (z : ℤ). withRule (offsetsOf (rows s) (gregorianDate z)) (ruleOn (rows s) (gregorianDate z))) (toZ-ofZ (s .fits .day)))
+    ∙ forgets (offsetsOf (rows s) (gregorianDate (s .args .day))) _
 
-cast-day-offsets-by-rows-2 : tie.Need-cast-day-offsets-by-rows-2
-cast-day-offsets-by-rows-2 c = day-of-month-fits _ _ (c .before .before .gregorian-date .ensures ∙ ap gregorianDate (toZ-ofZ (c .before .before .before .fits .day)))
+day-of-requires : tie.Need-day-of-requires
+day-of-requires c κs = search needs
 
-day-offsets-by-rows-requires : tie.Need-day-offsets-by-rows-requires
-day-offsets-by-rows-requires c κs = search needs
+enum-known-number : tie.Need-enum-known-number
+enum-known-number c = search needs
+
+enum-known-o : tie.Need-enum-known-o
+enum-known-o c = search needs
 
 returns : tie.Need-returns
-unfolding offsetsOf ofBits
-returns c = c .day-offsets-by-rows .ensures ∙ handed _ _ (c .before .before .before .before .gregorian-date .ensures ∙ ap gregorianDate (toZ-ofZ (c .before .before .before .before .before .fits .day))) (dayOffsets (rowsOf (c .before .before .before .before .before .args .table))) (record { sfits = c .before .struct-told .given .0 .1 })
+unfolding dayOffsetsOutcome dayByRuleOutcome forget onward
+returns c = ap (λ (x : DayByRule). forget (dayByRuleOutcome x)) (sym (c .before .number .given .1)) ∙ called (c .before .before .before)
+
+returns-2 : tie.Need-returns-2
+unfolding dayOffsetsOutcome dayByRuleOutcome forget onward
+returns-2 c = ap (λ (x : DayByRule). forget (dayByRuleOutcome x)) (sym (c .before .o .given .1)) ∙ called (c .before .before .before)
 
 pub offsets-of-spec : {M : Type 1} → statement M
-offsets-of-spec =
-    tie.close
-    (tie.spec
-    gregorian-date-requires
-    cast-day-offsets-by-rows
-    cast-day-offsets-by-rows-2
-    day-offsets-by-rows-requires
-    returns)
+offsets-of-spec = tie.close (tie.spec day-of-requires enum-known-number enum-known-o returns returns-2)

@@ -4,14 +4,21 @@ use lib.IntN.{ℤ}
 use mir.Facts.{toZ-ofZ}
 use Rattle.calendar.specs.Gregorian.{gregorianDate}
 use Rattle.tai_utc.specs.Answers.{dayOffsetsOutcome}
-use Rattle.tai_utc.specs.Lent.{rowsOf}
+use Rattle.tai_utc.specs.Table.{Row}
+use Rattle.tai_utc.specs.Lent.{rowsIn}
 use Rattle.utc_scales.specs.Dates.{offsetsOf}
 use Rattle.utc_scales.specs.Known.{RightDay, RightKnown}
 use Rattle.utc_scales.specs.declared.table.Known.{Known}
 use Rattle.utc_scales.proofs.Midnights.{same-day}
+use mathlib.Core.List.{List}
+use denote.Ref.{now}
 use borrow.Author.Needs.{needs}
 use Rattle.utc_scales.proofs.table.offsets_with.Statement.{statement}
 use Rattle.utc_scales.proofs.table.offsets_with.Tie as tie
+
+-- the rows that are read
+abbrev rows : tie.Start → List Row
+rows s = rowsIn (s .args .size) (now (s .args .months)) (now (s .args .seconds))
 
 enum-told : tie.Need-enum-told
 enum-told c = search needs
@@ -26,7 +33,7 @@ offsets-of-requires-2 : tie.Need-offsets-of-requires-2
 offsets-of-requires-2 c κs = search needs
 
 returns : tie.Need-returns
-returns c = c .offsets-of .ensures ∙ ap (λ (z : ℤ). offsetsOf (rowsOf (c .before .before .before .args .table)) (gregorianDate z)) (toZ-ofZ (c .before .before .before .fits .day))
+returns c = c .offsets-of .ensures ∙ ap (λ (z : ℤ). offsetsOf (rows (c .before .before .before)) (gregorianDate z)) (toZ-ofZ (c .before .before .before .fits .day))
 
 returns-2 : tie.Need-returns-2
 unfolding dayOffsetsOutcome RightKnown RightDay
@@ -34,12 +41,12 @@ returns-2 c =
     let k = c .before .before .before .before .before in
     let s = k .before .before in
     let same = same-day _ _ (s .fits .day) (record { sfits = c .before .before .struct-told .given .0 .1 }) (c .before .if1 .taken) in
-    sym (subst (λ (x : Known). RightKnown (rowsOf (s .args .table)) x) (k .known .given .1) (s .pre)) ∙ ap (λ (z : ℤ). offsetsOf (rowsOf (s .args .table)) (gregorianDate z)) (sym same)
+    sym (subst (λ (x : Known). RightKnown (rows s) x) (k .known .given .1) (s .pre)) ∙ ap (λ (z : ℤ). offsetsOf (rows s) (gregorianDate z)) (sym same)
 
 returns-3 : tie.Need-returns-3
 returns-3 c =
     let s = c .before .before .before .before .before .before .before in
-    c .offsets-of2 .ensures ∙ ap (λ (z : ℤ). offsetsOf (rowsOf (s .args .table)) (gregorianDate z)) (toZ-ofZ (s .fits .day))
+    c .offsets-of2 .ensures ∙ ap (λ (z : ℤ). offsetsOf (rows s) (gregorianDate z)) (toZ-ofZ (s .fits .day))
 
 pub offsets-with-spec : {M : Type 1} → statement M
 offsets-with-spec =

@@ -1,16 +1,23 @@
 -- `utc_scales::utc_tai::refined` meets its contract. Assumes nothing.
 use mathlib.Core.Path.{sym, ap, subst, _∙_}
 use Rattle.refusals.specs.Outcome.{answer}
-use Rattle.tai_utc.specs.Lent.{rowsOf}
+use Rattle.tai_utc.specs.Table.{Row}
+use Rattle.tai_utc.specs.Lent.{rowsIn}
 use Rattle.refusals.proofs.Onward.{went, stopped}
 use Rattle.utc_scales.specs.Known.{partOutcome, RightPart}
 use Rattle.utc_scales.specs.LargerPart.{placed}
 use Rattle.utc_scales.specs.UtcTai.{taiFraction, utcToTai, moved, refined}
 use Rattle.utc_scales.specs.declared.utc_tai.PartAnswer.{PartAnswer}
 use Rattle.utc_scales.proofs.Steps.{changes}
+use mathlib.Core.List.{List}
+use denote.Ref.{now}
 use borrow.Author.Needs.{needs}
 use Rattle.utc_scales.proofs.utc_tai.refined.Statement.{statement}
 use Rattle.utc_scales.proofs.utc_tai.refined.Tie as tie
+
+-- the rows that are read
+abbrev rows : tie.Start → List Row
+rows s = rowsIn (s .args .size) (now (s .args .months)) (now (s .args .seconds))
 
 split-requires : tie.Need-split-requires
 split-requires c κs = search needs
@@ -31,7 +38,7 @@ returns : tie.Need-returns
 unfolding partOutcome RightPart placed utcToTai moved refined
 returns c =
     let t = c .before .before .before in
-    let u = sym (changes (taiFraction (rowsOf (c .before .before .before .before .before .args .table))) _ _ _ (t .before .split .ensures) (t .tai-fraction .ensures .0)) in
+    let u = sym (changes (taiFraction (rows (c .before .before .before .before .before))) _ _ _ (t .before .split .ensures) (t .tai-fraction .ensures .0)) in
     (sym (stopped _ (u ∙ stopped _ (ap partOutcome (c .before .number .given .1)))), tt)
 
 returns-2 : tie.Need-returns-2
@@ -40,9 +47,9 @@ returns-2 c =
     let t = c .before .before .before .before .before .before .before in
     let s = t .before .before in
     let k = c .before .before .before .before .before .k in
-    let u = sym (changes (taiFraction (rowsOf (s .args .table))) _ _ _ (t .before .split .ensures) (t .tai-fraction .ensures .0)) in (
+    let u = sym (changes (taiFraction (rows s)) _ _ _ (t .before .split .ensures) (t .tai-fraction .ensures .0)) in (
       sym (went _ (u ∙ went _ (ap partOutcome (k .given .1)) ∙ ap answer (sym (c .before .before .before .put-back .ensures)))),
-      subst (λ (r : PartAnswer). RightPart (rowsOf (s .args .table)) r) (k .given .1) (t .tai-fraction .ensures .1),
+      subst (λ (r : PartAnswer). RightPart (rows s) r) (k .given .1) (t .tai-fraction .ensures .1),
     )
 
 pub refined-spec : {M : Type 1} → statement M

@@ -3,10 +3,17 @@ use mathlib.Core.Path.{sym, ap, subst, _∙_}
 use Rattle.refusals.proofs.Onward.{went, stopped}
 use Rattle.utc_scales.specs.Known.{RightKnown, partOutcome, RightPart}
 use Rattle.utc_scales.specs.declared.utc_tai.PartAnswer.{PartAnswer}
+use mathlib.Core.List.{List}
+use denote.Ref.{now}
 use borrow.Author.Needs.{needs}
-use Rattle.tai_utc.specs.Lent.{rowsOf}
+use Rattle.tai_utc.specs.Table.{Row}
+use Rattle.tai_utc.specs.Lent.{rowsIn}
 use Rattle.utc_scales.proofs.utc_tai.refined_again.Statement.{statement}
 use Rattle.utc_scales.proofs.utc_tai.refined_again.Tie as tie
+
+-- the rows that are read
+abbrev rows : tie.Start → List Row
+rows s = rowsIn (s .args .size) (now (s .args .months)) (now (s .args .seconds))
 
 enum-known-guess : tie.Need-enum-known-guess
 enum-known-guess c = search needs
@@ -18,7 +25,7 @@ refined-requires : tie.Need-refined-requires
 unfolding RightKnown RightPart
 refined-requires c κs =
     let s = c .before .before .before .before in
-    subst (λ (r : PartAnswer). RightPart (rowsOf (s .args .table)) r) (c .before .before .guess2 .given .1) (s .pre)
+    subst (λ (r : PartAnswer). RightPart (rows s) r) (c .before .before .guess2 .given .1) (s .pre)
 
 returns : tie.Need-returns
 unfolding partOutcome RightPart

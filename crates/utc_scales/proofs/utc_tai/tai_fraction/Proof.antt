@@ -10,17 +10,22 @@ use Rattle.day_number.specs.Answer.{dayOutcome}
 use Rattle.day_number.proofs.Ranges.{day-range, day-read}
 use Rattle.julian.specs.JulianDate.{julian}
 use Rattle.tai_utc.specs.Answers.{dayOffsetsOutcome}
-use Rattle.tai_utc.specs.Lent.{rowsOf}
+use Rattle.tai_utc.specs.Table.{Row}
+use Rattle.tai_utc.specs.Lent.{rowsIn}
 use Rattle.utc_scales.specs.Dates.{offsetsOf}
 use Rattle.utc_scales.specs.Known.{RightDay, partOutcome, RightPart}
-use Rattle.utc_scales.specs.Known.{SameDay, SameDays}
 use Rattle.utc_scales.specs.UtcTai.{taiFromMidnight}
 use Rattle.utc_scales.proofs.Midnights.{day-asked}
-use Rattle.utc_scales.proofs.Steps.{offset-of-day, offsets-first}
 use Rattle.utc_scales.proofs.Steps.{tai-no-date, tai-no-offsets, tai-of-day}
+use mathlib.Core.List.{List}
+use denote.Ref.{now}
 use borrow.Author.Needs.{needs}
 use Rattle.utc_scales.proofs.utc_tai.tai_fraction.Statement.{statement}
 use Rattle.utc_scales.proofs.utc_tai.tai_fraction.Tie as tie
+
+-- the rows that are read
+abbrev rows : tie.Start → List Row
+rows s = rowsIn (s .args .size) (now (s .args .months)) (now (s .args .seconds))
 
 day-number-and-fraction-requires : tie.Need-day-number-and-fraction-requires
 day-number-and-fraction-requires c κs = search needs
@@ -54,21 +59,21 @@ tai-from-midnight-requires : tie.Need-tai-from-midnight-requires
 tai-from-midnight-requires c κs = search needs
 
 returns : tie.Need-returns
-unfolding partOutcome RightPart RightDay SameDays SameDay dayOutcome dayOffsetsOutcome
-returns c = (sym (tai-no-date _ _ _ (sym (c .before .before .before .day-number-and-fraction .ensures) ∙ ap dayOutcome (c .before .number .given .1)) (rowsOf (c .before .before .before .before .args .table))), tt, tt)
+unfolding partOutcome RightPart RightDay dayOutcome dayOffsetsOutcome
+returns c = (sym (tai-no-date _ _ _ (sym (c .before .before .before .day-number-and-fraction .ensures) ∙ ap dayOutcome (c .before .number .given .1)) (rows (c .before .before .before .before))), tt)
 
 returns-2 : tie.Need-returns-2
-unfolding partOutcome RightPart RightDay SameDays SameDay dayOutcome dayOffsetsOutcome
+unfolding partOutcome RightPart RightDay dayOutcome dayOffsetsOutcome
 returns-2 c =
     let d = c .before .before .before .before .before .before in
     let n = d .before .before in
     let s = n .before in
     let e = sym (n .day-number-and-fraction .ensures) ∙ ap dayOutcome (d .d .given .1) in
     let r = day-range _ _ (yes (s .good .0 .1)) (yes (s .good .1 .0 .1)) _ e in
-    (sym (tai-no-offsets (rowsOf (c .before .before .before .before .before .before .before .before .before .args .table)) _ _ _ e _ (sym (c .before .before .before .offsets-with .ensures ∙ ap (λ (z : ℤ). offsetsOf (rowsOf (c .before .before .before .before .before .before .before .before .before .args .table)) (gregorianDate z)) (day-read _ r)) ∙ ap dayOffsetsOutcome (c .before .number2 .given .1))), tt, tt)
+    (sym (tai-no-offsets (rows (c .before .before .before .before .before .before .before .before .before)) _ _ _ e _ (sym (c .before .before .before .offsets-with .ensures ∙ ap (λ (z : ℤ). offsetsOf (rows (c .before .before .before .before .before .before .before .before .before)) (gregorianDate z)) (day-read _ r)) ∙ ap dayOffsetsOutcome (c .before .number2 .given .1))), tt)
 
 returns-3 : tie.Need-returns-3
-unfolding partOutcome RightPart RightDay SameDays SameDay dayOutcome dayOffsetsOutcome
+unfolding partOutcome RightPart RightDay dayOutcome dayOffsetsOutcome
 returns-3 c =
     let d = c .before .before .before .before .before .before .before .before .before .before in
     let n = d .before .before in
@@ -77,12 +82,11 @@ returns-3 c =
     let r = day-range _ _ (yes (s .good .0 .1)) (yes (s .good .1 .0 .1)) _ e in
     let w = c .before .before .before .before .before .before .before in
     let o = c .before .before .before .before .before .o in
-    let p = sym (w .offsets-with .ensures ∙ ap (λ (z : ℤ). offsetsOf (rowsOf (c .before .before .before .before .before .before .before .before .before .before .before .before .before .args .table)) (gregorianDate z)) (day-read _ r)) ∙ ap dayOffsetsOutcome (o .given .1) in
+    let p = sym (w .offsets-with .ensures ∙ ap (λ (z : ℤ). offsetsOf (rows (c .before .before .before .before .before .before .before .before .before .before .before .before .before)) (gregorianDate z)) (day-read _ r)) ∙ ap dayOffsetsOutcome (o .given .1) in
     let m = c .before .before .mjd-of .ensures ∙ ap (λ (z : ℤ). ofInt binary64 (z -ℤ pos 2400001)) (day-read _ r) in (
       ap answer (c .before .tai-from-midnight .ensures ∙ ap (λ (z : Float). taiFromMidnight (s .args .big) (julian mjdZeroPoint z) (o .given .0 .0) (d .d .given .0 .0 .fraction)) m)
-          ∙ sym (tai-of-day (rowsOf (c .before .before .before .before .before .before .before .before .before .before .before .before .before .args .table)) _ _ _ e r _ p),
+          ∙ sym (tai-of-day (rows (c .before .before .before .before .before .before .before .before .before .before .before .before .before)) _ _ _ e r _ p),
       sym (w .offsets-with .ensures) ∙ ap dayOffsetsOutcome (o .given .1),
-      offset-of-day (rowsOf (c .before .before .before .before .before .before .before .before .before .before .before .before .before .args .table)) _ _ _ e ∙ offsets-first (rowsOf (c .before .before .before .before .before .before .before .before .before .before .before .before .before .args .table)) _ _ p,
     )
 
 pub tai-fraction-spec : {M : Type 1} → statement M

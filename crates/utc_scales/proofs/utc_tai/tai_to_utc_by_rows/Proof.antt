@@ -1,45 +1,24 @@
--- `utc_scales::utc_tai::tai_to_utc_by_rows` meets its contract. Assumes nothing.
-use mathlib.Core.Path.{sym, ap, _∙_}
-use Rattle.julian.specs.JulianDate.{julianOutcome}
-use Rattle.tai_utc.specs.Lent.{rowsOf}
-use Rattle.scales.specs.Scales.{utcOutcome}
-use Rattle.utc_scales.specs.UtcTai.{refineUtcFraction, taiToUtc}
-use Rattle.utc_scales.proofs.Steps.{changes}
+-- `utc_scales::utc_tai::tai_to_utc_by_rows` meets its contract: by the table's two arrays. Assumes nothing.
+use mathlib.Core.Path.{ap, _∙_}
+use mathlib.Core.List.{List}
+use Rattle.tai_utc.specs.Table.{Row}
+use Rattle.tai_utc.proofs.ByParts.{rows-in}
+use Rattle.utc_scales.specs.UtcTai.{taiToUtc}
 use borrow.Author.Needs.{needs}
 use Rattle.utc_scales.proofs.utc_tai.tai_to_utc_by_rows.Statement.{statement}
 use Rattle.utc_scales.proofs.utc_tai.tai_to_utc_by_rows.Tie as tie
 
-split-requires : tie.Need-split-requires
-split-requires c κs = search needs
+size-of-requires : tie.Need-size-of-requires
+size-of-requires c κs = search needs
 
-refine-utc-fraction-requires : tie.Need-refine-utc-fraction-requires
-refine-utc-fraction-requires c κs = search needs
-
-placed-requires : tie.Need-placed-requires
-placed-requires c κs = search needs
-
-enum-known-number : tie.Need-enum-known-number
-enum-known-number c = search needs
-
-enum-known-jd : tie.Need-enum-known-jd
-enum-known-jd c = search needs
+tai-to-utc-by-lent-requires : tie.Need-tai-to-utc-by-lent-requires
+tai-to-utc-by-lent-requires c κs = search needs
 
 returns : tie.Need-returns
-unfolding utcOutcome julianOutcome taiToUtc
-returns c = sym (ap julianOutcome (c .before .number .given .1)) ∙ (c .before .before .before .placed .ensures ∙ changes (refineUtcFraction (rowsOf (c .before .before .before .before .before .before .args .table))) _ _ _ (c .before .before .before .before .before .split .ensures) (c .before .before .before .before .refine-utc-fraction .ensures))
-
-returns-2 : tie.Need-returns-2
-unfolding utcOutcome julianOutcome taiToUtc
-returns-2 c = sym (ap julianOutcome (c .before .jd .given .1)) ∙ (c .before .before .before .placed .ensures ∙ changes (refineUtcFraction (rowsOf (c .before .before .before .before .before .before .args .table))) _ _ _ (c .before .before .before .before .before .split .ensures) (c .before .before .before .before .refine-utc-fraction .ensures))
+returns c =
+    let z = c .before .before .before .before in
+    let s = z .before in
+    c .tai-to-utc-by-lent .ensures ∙ ap (λ (l : List Row). taiToUtc l (s .args .tai .0)) (rows-in (s .args .t2) (z .size-of .result) (z .size-of .ensures))
 
 pub tai-to-utc-by-rows-spec : {M : Type 1} → statement M
-tai-to-utc-by-rows-spec =
-    tie.close
-    (tie.spec
-    split-requires
-    refine-utc-fraction-requires
-    placed-requires
-    enum-known-number
-    enum-known-jd
-    returns
-    returns-2)
+tai-to-utc-by-rows-spec = tie.close (tie.spec size-of-requires tai-to-utc-by-lent-requires returns)

@@ -1,7 +1,10 @@
 -- `utc_scales::utc_tai::utc_to_tai` meets its contract: the table is tested, and its rows are read. Assumes nothing.
-use mathlib.Core.Path.{_∙_}
+use mathlib.Core.Path.{ap, _∙_}
+use mathlib.Core.List.{List}
+use Rattle.tai_utc.specs.Table.{Row}
+use Rattle.tai_utc.proofs.ByParts.{rows-in}
 use Rattle.tai_utc.proofs.TablesTaken.{turned-away, taken}
-use Rattle.scales.specs.Scales.{taiOutcome}
+use Rattle.utc_scales.specs.ByRule.{utcToTaiByRule, taiByRuleOutcome}
 use borrow.Author.Needs.{needs}
 use Rattle.utc_scales.proofs.utc_tai.utc_to_tai.Statement.{statement}
 use Rattle.utc_scales.proofs.utc_tai.utc_to_tai.Tie as tie
@@ -10,19 +13,24 @@ table-refusal-requires : tie.Need-table-refusal-requires
 table-refusal-requires c κs = search needs
 
 returns : tie.Need-returns
-unfolding taiOutcome
-returns c = let r = c .before in turned-away (r .before .args .table) (r .table-refusal .result) (r .table-refusal .ensures) _ (c .if1 .taken)
+unfolding taiByRuleOutcome
+returns c = let r = c .before in turned-away (r .before .args .t2) (r .table-refusal .result) (r .table-refusal .ensures) _ (c .if1 .taken)
 
-utc-to-tai-by-rows-requires : tie.Need-utc-to-tai-by-rows-requires
-utc-to-tai-by-rows-requires c κs = search needs
+size-of-requires : tie.Need-size-of-requires
+size-of-requires c κs = search needs
+
+utc-to-tai-by-lent-requires : tie.Need-utc-to-tai-by-lent-requires
+utc-to-tai-by-lent-requires c κs = search needs
 
 returns-2 : tie.Need-returns-2
 returns-2 c =
-    let r = c .before .before in
-    c .utc-to-tai-by-rows .ensures
-    ∙ taken (r .before .args .table) (r .table-refusal .result) (r .table-refusal .ensures) _ (c .before .if1 .left)
+    let z = c .before .before .before .before in
+    let r = z .before .before in
+    let s = r .before in
+    c .utc-to-tai-by-lent .ensures
+    ∙ ap (λ (l : List Row). utcToTaiByRule l (s .args .utc .0)) (rows-in (s .args .t2) (z .size-of .result) (z .size-of .ensures))
+    ∙ taken (s .args .t2) (r .table-refusal .result) (r .table-refusal .ensures) _ (z .before .if1 .left)
 
 pub utc-to-tai-spec : {M : Type 1} → statement M
 utc-to-tai-spec =
-    tie.close
-    (tie.spec table-refusal-requires returns utc-to-tai-by-rows-requires returns-2)
+    tie.close (tie.spec table-refusal-requires returns size-of-requires utc-to-tai-by-lent-requires returns-2)

@@ -1,28 +1,47 @@
--- `utc_scales::utc_tai::utc_to_tai_by_rows` meets its contract. Assumes nothing.
-use mathlib.Core.Path.{sym, ap, _∙_}
-use Rattle.julian.specs.JulianDate.{julianOutcome}
+-- `utc_scales::utc_tai::utc_to_tai_by_rows` meets its contract: by the table's two arrays, without the rule. Assumes nothing.
+use mathlib.Core.Path.{_≡_, sym, ap, _∙_}
+use mathlib.Core.List.{List}
+use Rattle.refusals.specs.Outcome.{onward}
+use Rattle.tai_utc.specs.Table.{Row}
+use Rattle.tai_utc.specs.Lent.{rowsOf}
+use Rattle.tai_utc.specs.Rule.{forget}
+use Rattle.tai_utc.proofs.ByParts.{rows-in}
 use Rattle.scales.specs.Scales.{taiOutcome}
+use Rattle.utc_scales.specs.declared.utc_tai.TaiByRule.{TaiByRule}
+use Rattle.utc_scales.specs.UtcTai.{utcToTai}
+use Rattle.utc_scales.specs.ByRule.{utcToTaiByRule, taiByRuleOutcome}
+use Rattle.utc_scales.proofs.Rules.{utc-to-tai-forgets}
 use borrow.Author.Needs.{needs}
 use Rattle.utc_scales.proofs.utc_tai.utc_to_tai_by_rows.Statement.{statement}
 use Rattle.utc_scales.proofs.utc_tai.utc_to_tai_by_rows.Tie as tie
 
-utc-to-tai-jd-requires : tie.Need-utc-to-tai-jd-requires
-utc-to-tai-jd-requires c κs = search needs
+called : (v : tie.After-utc-to-tai-by-lent) → let s = v .before .before .before .before .before in forget (taiByRuleOutcome (v .utc-to-tai-by-lent .result)) ≡ utcToTai (rowsOf (s .args .t2)) (s .args .utc .0)
+called v =
+    let z = v .before .before .before .before in
+    let s = z .before in
+    ap forget (v .utc-to-tai-by-lent .ensures ∙ ap (λ (l : List Row). utcToTaiByRule l (s .args .utc .0)) (rows-in (s .args .t2) (z .size-of .result) (z .size-of .ensures)))
+    ∙ utc-to-tai-forgets (rowsOf (s .args .t2)) (s .args .utc .0)
+
+size-of-requires : tie.Need-size-of-requires
+size-of-requires c κs = search needs
+
+utc-to-tai-by-lent-requires : tie.Need-utc-to-tai-by-lent-requires
+utc-to-tai-by-lent-requires c κs = search needs
 
 enum-known-number : tie.Need-enum-known-number
 enum-known-number c = search needs
 
-enum-known-jd : tie.Need-enum-known-jd
-enum-known-jd c = search needs
+enum-known-tai : tie.Need-enum-known-tai
+enum-known-tai c = search needs
 
 returns : tie.Need-returns
-unfolding taiOutcome julianOutcome
-returns c = sym (ap julianOutcome (c .before .number .given .1)) ∙ c .before .before .before .utc-to-tai-jd .ensures
+unfolding taiOutcome taiByRuleOutcome forget onward
+returns c = ap (λ (x : TaiByRule). forget (taiByRuleOutcome x)) (sym (c .before .number .given .1)) ∙ called (c .before .before .before)
 
 returns-2 : tie.Need-returns-2
-unfolding taiOutcome julianOutcome
-returns-2 c = sym (ap julianOutcome (c .before .jd .given .1)) ∙ c .before .before .before .utc-to-tai-jd .ensures
+unfolding taiOutcome taiByRuleOutcome forget onward
+returns-2 c = ap (λ (x : TaiByRule). forget (taiByRuleOutcome x)) (sym (c .before .tai .given .1)) ∙ called (c .before .before .before)
 
 pub utc-to-tai-by-rows-spec : {M : Type 1} → statement M
 utc-to-tai-by-rows-spec =
-    tie.close (tie.spec utc-to-tai-jd-requires enum-known-number enum-known-jd returns returns-2)
+    tie.close (tie.spec size-of-requires utc-to-tai-by-lent-requires enum-known-number enum-known-tai returns returns-2)

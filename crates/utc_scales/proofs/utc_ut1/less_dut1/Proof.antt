@@ -1,11 +1,18 @@
 -- `utc_scales::utc_ut1::less_dut1` meets its contract. Assumes nothing.
 use mathlib.Core.Path.{_∙_}
-use Rattle.tai_utc.specs.Lent.{rowsOf}
+use Rattle.tai_utc.specs.Table.{Row}
+use Rattle.tai_utc.specs.Lent.{rowsIn}
 use Rattle.utc_scales.specs.UtcUt1.{utcFraction}
 use Rattle.utc_scales.proofs.Steps.{changes}
+use mathlib.Core.List.{List}
+use denote.Ref.{now}
 use borrow.Author.Needs.{needs}
 use Rattle.utc_scales.proofs.utc_ut1.less_dut1.Statement.{statement}
 use Rattle.utc_scales.proofs.utc_ut1.less_dut1.Tie as tie
+
+-- the rows that are read
+abbrev rows : tie.Start → List Row
+rows s = rowsIn (s .args .size) (now (s .args .months)) (now (s .args .seconds))
 
 split-requires : tie.Need-split-requires
 split-requires c κs = search needs
@@ -17,7 +24,7 @@ placed-requires : tie.Need-placed-requires
 placed-requires c κs = search needs
 
 returns : tie.Need-returns
-returns c = (c .placed .ensures ∙ changes (utcFraction (rowsOf (c .before .before .before .args .table)) (c .before .before .before .args .dut1)) _ _ _ (c .before .before .split .ensures) (c .before .utc-fraction .ensures))
+returns c = (c .placed .ensures ∙ changes (utcFraction (rows (c .before .before .before)) (c .before .before .before .args .dut1)) _ _ _ (c .before .before .split .ensures) (c .before .utc-fraction .ensures))
 
 pub less-dut1-spec : {M : Type 1} → statement M
 less-dut1-spec = tie.close (tie.spec split-requires utc-fraction-requires placed-requires returns)

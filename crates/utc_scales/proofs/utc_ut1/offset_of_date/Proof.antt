@@ -5,13 +5,22 @@ use Rattle.floats.proofs.Laws.{yes}
 use Rattle.calendar.specs.Gregorian.{gregorianDate}
 use Rattle.day_number.specs.Answer.{dayOutcome}
 use Rattle.day_number.proofs.Ranges.{day-range, day-read}
-use Rattle.tai_utc.specs.Answers.{secondsOutcome}
-use Rattle.tai_utc.specs.Lent.{rowsOf}
+use Rattle.tai_utc.specs.Answers.{secondsByRuleOutcome}
+use Rattle.tai_utc.specs.Rule.{withRule}
+use Rattle.tai_utc.specs.Table.{Row}
+use Rattle.tai_utc.specs.Lent.{rowsIn}
 use Rattle.utc_scales.specs.Dates.{offsetAt0h}
-use Rattle.utc_scales.proofs.Steps.{offset-no-date, offset-of-day}
+use Rattle.utc_scales.specs.ByRule.{ruleOn}
+use Rattle.utc_scales.proofs.Rules.{offset-by-rule, offset-by-rule-refused}
+use mathlib.Core.List.{List}
+use denote.Ref.{now}
 use borrow.Author.Needs.{needs}
 use Rattle.utc_scales.proofs.utc_ut1.offset_of_date.Statement.{statement}
 use Rattle.utc_scales.proofs.utc_ut1.offset_of_date.Tie as tie
+
+-- the rows that are read
+abbrev rows : tie.Start → List Row
+rows s = rowsIn (s .args .size) (now (s .args .months)) (now (s .args .seconds))
 
 day-number-and-fraction-requires : tie.Need-day-number-and-fraction-requires
 day-number-and-fraction-requires c κs = search needs
@@ -26,18 +35,20 @@ offset-at-0h-requires : tie.Need-offset-at-0h-requires
 offset-at-0h-requires c κs = search needs
 
 returns : tie.Need-returns
-unfolding secondsOutcome dayOutcome
-returns c = sym (offset-no-date _ _ _ (sym (c .before .before .before .day-number-and-fraction .ensures) ∙ ap dayOutcome (c .before .number .given .1)) (rowsOf (c .before .before .before .before .args .table)))
+unfolding secondsByRuleOutcome dayOutcome
+returns c = offset-by-rule-refused (rows (c .before .before .before .before)) _ _ _ (sym (c .before .before .before .day-number-and-fraction .ensures) ∙ ap dayOutcome (c .before .number .given .1))
 
 returns-2 : tie.Need-returns-2
-unfolding secondsOutcome dayOutcome
+unfolding secondsByRuleOutcome dayOutcome
 returns-2 c =
     let d = c .before .before .before in
     let n = d .before .before in
     let s = n .before in
     let e = sym (n .day-number-and-fraction .ensures) ∙ ap dayOutcome (d .d .given .1) in
     let r = day-range _ _ (yes (s .good .0 .1)) (yes (s .good .1 .0 .1)) _ e in
-    c .offset-at-0h .ensures ∙ ap (λ (z : ℤ). offsetAt0h (rowsOf (c .before .before .before .before .before .before .args .table)) (gregorianDate z)) (day-read _ r) ∙ sym (offset-of-day (rowsOf (c .before .before .before .before .before .before .args .table)) _ _ _ e)
+    c .offset-at-0h .ensures
+    ∙ ap (λ (z : ℤ). withRule (offsetAt0h (rows s) (gregorianDate z)) (ruleOn (rows s) (gregorianDate z))) (day-read _ r)
+    ∙ offset-by-rule (rows s) _ _ _ e
 
 pub offset-of-date-spec : {M : Type 1} → statement M
 offset-of-date-spec =

@@ -1,23 +1,31 @@
 -- `utc_scales::utc_ut1::offset_with` meets its contract. Assumes nothing.
 use mathlib.Core.Bool.{true, false}
-use mathlib.Core.Path.{sym, _∙_}
-use Rattle.tai_utc.specs.Answers.{secondsOutcome}
-use Rattle.tai_utc.specs.Lent.{rowsOf}
-use Rattle.utc_scales.specs.Known.{SameDay}
+use mathlib.Core.Path.{_∙_}
+use mathlib.Core.List.{List}
+use denote.Ref.{now}
+use Rattle.tai_utc.specs.Table.{Row}
+use Rattle.tai_utc.specs.Lent.{rowsIn}
+use Rattle.tai_utc.specs.Answers.{secondsByRuleOutcome}
+use Rattle.utc_scales.specs.ByRule.{offsetOfDateByRule}
 use Rattle.utc_scales.proofs.Steps.{parts-offset}
+use Rattle.utc_scales.proofs.Rules.{passed}
 use borrow.Author.Needs.{needs}
 use Rattle.utc_scales.proofs.utc_ut1.offset_with.Statement.{statement}
 use Rattle.utc_scales.proofs.utc_ut1.offset_with.Tie as tie
+
+-- the rows that are read
+abbrev rows : tie.Start → List Row
+rows s = rowsIn (s .args .size) (now (s .args .months)) (now (s .args .seconds))
 
 offset-of-date-requires : tie.Need-offset-of-date-requires
 offset-of-date-requires c κs = search needs
 
 returns : tie.Need-returns
-unfolding secondsOutcome SameDay
-returns c = sym (c .before .before .before .pre) ∙ parts-offset (rowsOf (c .before .before .before .args .table)) _ true (c .before .before .if1 .taken)
+unfolding secondsByRuleOutcome offsetOfDateByRule
+returns c = let s = c .before in passed _ _ _ _ (s .pre .offset) (s .pre .told) ∙ parts-offset (rows s) (s .args .p) true (c .if1 .taken)
 
 returns-2 : tie.Need-returns-2
-returns-2 c = c .offset-of-date .ensures ∙ parts-offset (rowsOf (c .before .before .args .table)) _ false (c .before .if1 .left)
+returns-2 c = c .offset-of-date .ensures ∙ parts-offset (rows (c .before .before)) _ false (c .before .if1 .left)
 
 pub offset-with-spec : {M : Type 1} → statement M
 offset-with-spec = tie.close (tie.spec offset-of-date-requires returns returns-2)

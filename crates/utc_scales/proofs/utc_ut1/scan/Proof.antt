@@ -3,18 +3,25 @@ use mathlib.Core.Path.{_≡_, refl, sym, ap, _∙_}
 use Prim.Native.Nat.{_≤_, _-_}
 use native.Mathlib.Omega.{arith}
 use Rattle.julian.specs.Finite.{offsetOutcome}
-use Rattle.tai_utc.specs.Lent.{rowsOf}
+use Rattle.tai_utc.specs.Table.{Row}
+use Rattle.tai_utc.specs.Lent.{rowsIn}
 use Rattle.utc_scales.specs.UtcUt1.{scanOutcome, scan}
 use Rattle.utc_scales.proofs.Steps.{scan-on, scan-ends, scan-refused, scan-done}
+use mathlib.Core.List.{List}
+use denote.Ref.{now}
 use borrow.Author.Needs.{needs}
 use Rattle.utc_scales.proofs.utc_ut1.scan.Statement.{statement}
 use Rattle.utc_scales.proofs.utc_ut1.scan.Tie as tie
 
 abbrev Inv-loop : tie.InvT-loop
-Inv-loop big small dut1 first table before₀ i₀ before i = (i ≤ 4) × (scan (rowsOf table) big small dut1 (4 - i) i before ≡ scan (rowsOf table) big small dut1 4 0 first)
+Inv-loop big small dut1 first size months seconds before₀ i₀ before i = (i ≤ 4) × (scan (rowsIn size months seconds) big small dut1 (4 - i) i before ≡ scan (rowsIn size months seconds) big small dut1 4 0 first)
 
 abbrev μ-loop : tie.MeasureT-loop
-μ-loop big small dut1 first table before₀ i₀ before i = 4 - i
+μ-loop big small dut1 first size months seconds before₀ i₀ before i = 4 - i
+
+-- the rows that are read
+abbrev rows : tie.Start Inv-loop μ-loop → List Row
+rows s = rowsIn (s .args .size) (now (s .args .months)) (now (s .args .seconds))
 
 loop-holds : tie.Need-loop-holds Inv-loop μ-loop
 loop-holds c = (omega arith, refl)
@@ -33,14 +40,14 @@ enum-known-x-2 c = search needs
 
 returns : tie.Need-returns Inv-loop μ-loop
 unfolding scanOutcome offsetOutcome
-returns c = sym (scan-ends (rowsOf (c .before .before .before .before .before .before .before .args .table)) _ _ _ _ _ (omega arith) _ (sym (c .before .before .before .scan-day .ensures) ∙ ap scanOutcome (c .before .x2 .given .1))) ∙ c .before .before .before .before .before .before .loop .inv .1
+returns c = sym (scan-ends (rows (c .before .before .before .before .before .before .before)) _ _ _ _ _ (omega arith) _ (sym (c .before .before .before .scan-day .ensures) ∙ ap scanOutcome (c .before .x2 .given .1))) ∙ c .before .before .before .before .before .before .loop .inv .1
 
 enum-known-number : tie.Need-enum-known-number Inv-loop μ-loop
 enum-known-number c = search needs
 
 returns-2 : tie.Need-returns-2 Inv-loop μ-loop
 unfolding scanOutcome offsetOutcome
-returns-2 c = sym (scan-refused (rowsOf (c .before .before .before .before .before .before .before .args .table)) _ _ _ _ _ (omega arith) _ (sym (c .before .before .before .scan-day .ensures) ∙ ap scanOutcome (c .before .number .given .1))) ∙ c .before .before .before .before .before .before .loop .inv .1
+returns-2 c = sym (scan-refused (rows (c .before .before .before .before .before .before .before)) _ _ _ _ _ (omega arith) _ (sym (c .before .before .before .scan-day .ensures) ∙ ap scanOutcome (c .before .number .given .1))) ∙ c .before .before .before .before .before .before .loop .inv .1
 
 add-i : tie.Need-add-i Inv-loop μ-loop
 add-i c = omega arith
@@ -50,11 +57,11 @@ loop-less c = omega arith
 
 loop-again : tie.Need-loop-again Inv-loop μ-loop
 unfolding scanOutcome offsetOutcome
-loop-again c = (omega arith, sym (scan-on (rowsOf (c .before .before .before .before .before .before .before .args .table)) _ _ _ _ _ (omega arith) _ (sym (c .before .before .before .scan-day .ensures) ∙ ap scanOutcome (c .before .x .given .1))) ∙ c .before .before .before .before .before .before .loop .inv .1)
+loop-again c = (omega arith, sym (scan-on (rows (c .before .before .before .before .before .before .before)) _ _ _ _ _ (omega arith) _ (sym (c .before .before .before .scan-day .ensures) ∙ ap scanOutcome (c .before .x .given .1))) ∙ c .before .before .before .before .before .before .loop .inv .1)
 
 returns-3 : tie.Need-returns-3 Inv-loop μ-loop
 unfolding scanOutcome offsetOutcome
-returns-3 c = sym (scan-done (rowsOf (c .before .before .args .table)) _ _ _ _ _ (omega arith)) ∙ c .before .loop .inv .1
+returns-3 c = sym (scan-done (rows (c .before .before)) _ _ _ _ _ (omega arith)) ∙ c .before .loop .inv .1
 
 pub scan-spec : {M : Type 1} → statement M
 scan-spec =

@@ -11,15 +11,25 @@ use Rattle.calendar.specs.Gregorian.{gregorianDate}
 use Rattle.day_number.specs.Answer.{dayOutcome}
 use Rattle.day_number.proofs.Ranges.{day-range, day-read}
 use Rattle.julian.specs.JulianDate.{julian}
-use Rattle.tai_utc.specs.Answers.{secondsOutcome}
-use Rattle.tai_utc.specs.Lent.{rowsOf}
+use Rattle.tai_utc.specs.Answers.{secondsByRuleOutcome}
+use Rattle.tai_utc.specs.Rule.{withRule}
+use Rattle.utc_scales.specs.ByRule.{ruleOn}
+use Rattle.tai_utc.proofs.Rules.{apart, refused-apart}
+use Rattle.tai_utc.specs.Table.{Row}
+use Rattle.tai_utc.specs.Lent.{rowsIn}
 use Rattle.utc_scales.specs.Dates.{offsetAt0h}
 use Rattle.utc_scales.specs.UtcUt1.{step, scanOutcome, nearStep}
 use Rattle.utc_scales.proofs.Midnights.{day-asked}
 use Rattle.utc_scales.proofs.Steps.{scan-no-date, scan-no-offset, scan-no-step, scan-step}
+use mathlib.Core.List.{List}
+use denote.Ref.{now}
 use borrow.Author.Needs.{needs}
 use Rattle.utc_scales.proofs.utc_ut1.scan_day.Statement.{statement}
 use Rattle.utc_scales.proofs.utc_ut1.scan_day.Tie as tie
+
+-- the rows that are read
+abbrev rows : tie.Start → List Row
+rows s = rowsIn (s .args .size) (now (s .args .months)) (now (s .args .seconds))
 
 day-number-and-fraction-requires : tie.Need-day-number-and-fraction-requires
 day-number-and-fraction-requires c κs = search needs
@@ -56,44 +66,47 @@ near-step-requires : tie.Need-near-step-requires
 near-step-requires c κs = search needs
 
 returns : tie.Need-returns
-unfolding scanOutcome dayOutcome secondsOutcome ofBits
-returns c = sym (scan-no-date (rowsOf (c .before .before .before .before .args .table)) _ _ _ _ _ _ (sym (c .before .before .before .day-number-and-fraction .ensures) ∙ ap dayOutcome (c .before .number .given .1)))
+unfolding scanOutcome dayOutcome secondsByRuleOutcome ofBits
+returns c = sym (scan-no-date (rows (c .before .before .before .before)) _ _ _ _ _ _ (sym (c .before .before .before .day-number-and-fraction .ensures) ∙ ap dayOutcome (c .before .number .given .1)))
 
 returns-2 : tie.Need-returns-2
-unfolding scanOutcome dayOutcome secondsOutcome ofBits
+unfolding scanOutcome dayOutcome secondsByRuleOutcome ofBits
 returns-2 c =
     let d = c .before .before .before .before .before .before in
     let n = d .before .before in
     let s = n .before in
     let e = sym (n .day-number-and-fraction .ensures) ∙ ap dayOutcome (d .d .given .1) in
     let r = day-range _ _ (yes (s .good .0 .1)) (add-fits binary64 (s .args .small) (s .args .i)) _ e in
-    let p = sym (c .before .before .before .offset-at-0h .ensures ∙ ap (λ (z : ℤ). offsetAt0h (rowsOf (c .before .before .before .before .before .before .before .before .before .args .table)) (gregorianDate z)) (day-read _ r)) ∙ ap secondsOutcome (c .before .number2 .given .1) in
-    sym (scan-no-offset (rowsOf (c .before .before .before .before .before .before .before .before .before .args .table)) _ _ _ _ _ _ e _ p)
+    let h = c .before .before .before .offset-at-0h .ensures ∙ ap (λ (z : ℤ). withRule (offsetAt0h (rows s) (gregorianDate z)) (ruleOn (rows s) (gregorianDate z))) (day-read _ r) in
+    let p = refused-apart _ _ _ (sym h ∙ ap secondsByRuleOutcome (c .before .number2 .given .1)) in
+    sym (scan-no-offset (rows (c .before .before .before .before .before .before .before .before .before)) _ _ _ _ _ _ e _ p)
 
 returns-3 : tie.Need-returns-3
-unfolding scanOutcome dayOutcome secondsOutcome ofBits
+unfolding scanOutcome dayOutcome secondsByRuleOutcome ofBits
 returns-3 c =
     let d = c .before .before .before .before .before .before .before .before in
     let n = d .before .before in
     let s = n .before in
     let e = sym (n .day-number-and-fraction .ensures) ∙ ap dayOutcome (d .d .given .1) in
     let r = day-range _ _ (yes (s .good .0 .1)) (add-fits binary64 (s .args .small) (s .args .i)) _ e in
-    let p = sym (c .before .before .before .before .before .offset-at-0h .ensures ∙ ap (λ (z : ℤ). offsetAt0h (rowsOf (c .before .before .before .before .before .before .before .before .before .before .before .args .table)) (gregorianDate z)) (day-read _ r)) ∙ ap secondsOutcome (c .before .before .before .x .given .1) in
-    sym (scan-no-step (rowsOf (c .before .before .before .before .before .before .before .before .before .before .before .args .table)) _ _ _ _ _ _ e _ p (ap (λ (z : Float). lt z half) (sym (c .before .fabs .ensures)) ∙ c .if1 .taken))
+    let h = c .before .before .before .before .before .offset-at-0h .ensures ∙ ap (λ (z : ℤ). withRule (offsetAt0h (rows s) (gregorianDate z)) (ruleOn (rows s) (gregorianDate z))) (day-read _ r) in
+    let p = apart _ _ _ _ (sym h ∙ ap secondsByRuleOutcome (c .before .before .before .x .given .1)) .0 in
+    sym (scan-no-step (rows (c .before .before .before .before .before .before .before .before .before .before .before)) _ _ _ _ _ _ e _ p (ap (λ (z : Float). lt z half) (sym (c .before .fabs .ensures)) ∙ c .if1 .taken))
 
 returns-4 : tie.Need-returns-4
-unfolding scanOutcome dayOutcome secondsOutcome ofBits
+unfolding scanOutcome dayOutcome secondsByRuleOutcome ofBits
 returns-4 c =
     let d = c .before .before .before .before .before .before .before .before .before .before .before in
     let n = d .before .before in
     let s = n .before in
     let e = sym (n .day-number-and-fraction .ensures) ∙ ap dayOutcome (d .d .given .1) in
     let r = day-range _ _ (yes (s .good .0 .1)) (add-fits binary64 (s .args .small) (s .args .i)) _ e in
-    let p = sym (c .before .before .before .before .before .before .before .before .offset-at-0h .ensures ∙ ap (λ (z : ℤ). offsetAt0h (rowsOf (c .before .before .before .before .before .before .before .before .before .before .before .before .before .before .args .table)) (gregorianDate z)) (day-read _ r)) ∙ ap secondsOutcome (c .before .before .before .before .before .before .x .given .1) in
+    let h = c .before .before .before .before .before .before .before .before .offset-at-0h .ensures ∙ ap (λ (z : ℤ). withRule (offsetAt0h (rows s) (gregorianDate z)) (ruleOn (rows s) (gregorianDate z))) (day-read _ r) in
+    let p = apart _ _ _ _ (sym h ∙ ap secondsByRuleOutcome (c .before .before .before .before .before .before .x .given .1)) .0 in
     let m = c .before .mjd-of .ensures ∙ ap (λ (z : ℤ). ofInt binary64 (z -ℤ pos 2400001)) (day-read _ r) in
     let delta = sub binary64 (c .before .before .before .before .before .before .x .given .0 .0) (s .args .before) in
     ap (λ (z : Float). answer (step z)) (c .near-step .ensures ∙ ap (λ (z : Float). nearStep (s .args .big) (s .args .small) (s .args .dut1) delta (julian mjdZeroPoint z)) m)
-    ∙ sym (scan-step (rowsOf (c .before .before .before .before .before .before .before .before .before .before .before .before .before .before .args .table)) _ _ _ _ _ _ e _ p r (ap (λ (z : Float). lt z half) (sym (c .before .before .before .before .fabs .ensures)) ∙ c .before .before .before .if1 .left))
+    ∙ sym (scan-step (rows (c .before .before .before .before .before .before .before .before .before .before .before .before .before .before)) _ _ _ _ _ _ e _ p r (ap (λ (z : Float). lt z half) (sym (c .before .before .before .before .fabs .ensures)) ∙ c .before .before .before .if1 .left))
 
 pub scan-day-spec : {M : Type 1} → statement M
 scan-day-spec =

@@ -1,0 +1,45 @@
+-- `utc_scales::table::day_of` meets its contract. Assumes nothing.
+use mathlib.Core.Path.{ap, _∙_}
+use mir.Facts.{toZ-ofZ}
+use Rattle.calendar.specs.Gregorian.{gregorianDate}
+use Rattle.tai_utc.specs.Rule.{dayByRule}
+use Rattle.tai_utc.specs.Table.{Row}
+use Rattle.tai_utc.specs.Lent.{rowsIn}
+use Rattle.utc_scales.specs.Dates.{offsetsOf}
+use Rattle.utc_scales.specs.ByRule.{ruleOn}
+use Rattle.utc_scales.proofs.Midnights.{month-fits, day-of-month-fits, handed}
+use mathlib.Core.List.{List}
+use denote.Ref.{now}
+use borrow.Author.Needs.{needs}
+use Rattle.utc_scales.proofs.table.day_of.Statement.{statement}
+use Rattle.utc_scales.proofs.table.day_of.Tie as tie
+
+-- the rows that are read
+abbrev rows : tie.Start → List Row
+rows s = rowsIn (s .args .size) (now (s .args .months)) (now (s .args .seconds))
+
+gregorian-date-requires : tie.Need-gregorian-date-requires
+gregorian-date-requires c κs = search needs
+
+cast-day-offsets-by-lent : tie.Need-cast-day-offsets-by-lent
+cast-day-offsets-by-lent c = month-fits _ _ (c .before .gregorian-date .ensures ∙ ap gregorianDate (toZ-ofZ (c .before .before .fits .day)))
+
+cast-day-offsets-by-lent-2 : tie.Need-cast-day-offsets-by-lent-2
+cast-day-offsets-by-lent-2 c = day-of-month-fits _ _ (c .before .before .gregorian-date .ensures ∙ ap gregorianDate (toZ-ofZ (c .before .before .before .fits .day)))
+
+day-offsets-by-lent-requires : tie.Need-day-offsets-by-lent-requires
+day-offsets-by-lent-requires c κs = search needs
+
+returns : tie.Need-returns
+unfolding offsetsOf ruleOn dayByRule
+returns c = c .day-offsets-by-lent .ensures ∙ handed _ _ (c .before .before .before .before .gregorian-date .ensures ∙ ap gregorianDate (toZ-ofZ (c .before .before .before .before .before .fits .day))) (dayByRule (rows (c .before .before .before .before .before))) (record { sfits = c .before .struct-told .given .0 .1 })
+
+pub day-of-spec : {M : Type 1} → statement M
+day-of-spec =
+    tie.close
+    (tie.spec
+    gregorian-date-requires
+    cast-day-offsets-by-lent
+    cast-day-offsets-by-lent-2
+    day-offsets-by-lent-requires
+    returns)

@@ -1,0 +1,111 @@
+-- `utc_scales::utc_tai::tai_fraction_by_rule` meets its contract. Assumes nothing.
+use mathlib.Core.Path.{_≡_, sym, ap, _∙_}
+use mathlib.Core.List.{List}
+use denote.Ref.{now}
+use lib.Ieee.{Float, binary64, ofInt}
+use lib.IntN.{ℤ, pos, _-ℤ_}
+use Rattle.refusals.specs.Outcome.{answer}
+use Rattle.floats.proofs.Laws.{yes}
+use Rattle.constants.specs.Constants.{mjdZeroPoint}
+use Rattle.calendar.specs.Gregorian.{gregorianDate}
+use Rattle.day_number.specs.Answer.{dayOutcome}
+use Rattle.day_number.proofs.Ranges.{day-range, day-read}
+use Rattle.julian.specs.JulianDate.{julian}
+use Rattle.tai_utc.specs.Table.{Row}
+use Rattle.tai_utc.specs.Lent.{rowsIn}
+use Rattle.tai_utc.specs.Rule.{withRule}
+use Rattle.tai_utc.specs.Answers.{dayByRuleOutcome}
+use Rattle.utc_scales.specs.Dates.{offsetsOf}
+use Rattle.utc_scales.specs.ByRule.{ruleOn}
+use Rattle.utc_scales.specs.Known.{ruledPartOutcome, SameDays}
+use Rattle.utc_scales.specs.UtcTai.{taiFromMidnight}
+use Rattle.utc_scales.proofs.Midnights.{day-asked}
+use Rattle.utc_scales.proofs.Steps.{offset-of-day, offsets-first, tai-no-date, tai-no-offsets, tai-of-day}
+use Rattle.tai_utc.proofs.Rules.{apart, refused-apart}
+use Rattle.utc_scales.proofs.Rules.{rule-of-day}
+use borrow.Author.Needs.{needs}
+use Rattle.utc_scales.proofs.utc_tai.tai_fraction_by_rule.Statement.{statement}
+use Rattle.utc_scales.proofs.utc_tai.tai_fraction_by_rule.Tie as tie
+
+-- the rows that are read
+abbrev rows : tie.Start → List Row
+rows s = rowsIn (s .args .size) (now (s .args .months)) (now (s .args .seconds))
+
+day-number-and-fraction-requires : tie.Need-day-number-and-fraction-requires
+day-number-and-fraction-requires c κs = search needs
+
+enum-known-number : tie.Need-enum-known-number
+enum-known-number c = search needs
+
+enum-known-d : tie.Need-enum-known-d
+enum-known-d c = search needs
+
+day-of-requires : tie.Need-day-of-requires
+day-of-requires c κs = search needs
+
+enum-known-number-2 : tie.Need-enum-known-number-2
+enum-known-number-2 c = search needs
+
+enum-known-o : tie.Need-enum-known-o
+enum-known-o c = search needs
+
+mjd-of-requires : tie.Need-mjd-of-requires
+unfolding dayOutcome
+mjd-of-requires c κs =
+    let d = c .before .before .before .before .before .before .before in
+    let n = d .before .before in
+    let s = n .before in
+    let e = sym (n .day-number-and-fraction .ensures) ∙ ap dayOutcome (d .d .given .1) in
+    let r = day-range _ _ (yes (s .good .0 .1)) (yes (s .good .1 .0 .1)) _ e in
+    day-asked _ r
+
+tai-from-midnight-requires : tie.Need-tai-from-midnight-requires
+tai-from-midnight-requires c κs = search needs
+
+returns : tie.Need-returns
+unfolding ruledPartOutcome SameDays dayOutcome
+returns c = (sym (tai-no-date _ _ _ (sym (c .before .before .before .day-number-and-fraction .ensures) ∙ ap dayOutcome (c .before .number .given .1)) (rows (c .before .before .before .before))), tt)
+
+returns-2 : tie.Need-returns-2
+unfolding ruledPartOutcome SameDays dayOutcome dayByRuleOutcome
+returns-2 c =
+    let d = c .before .before .before .before .before .before in
+    let n = d .before .before in
+    let s = n .before in
+    let e = sym (n .day-number-and-fraction .ensures) ∙ ap dayOutcome (d .d .given .1) in
+    let r = day-range _ _ (yes (s .good .0 .1)) (yes (s .good .1 .0 .1)) _ e in
+    let h = c .before .before .before .day-of .ensures ∙ ap (λ (z : ℤ). withRule (offsetsOf (rows s) (gregorianDate z)) (ruleOn (rows s) (gregorianDate z))) (day-read _ r) in
+    (sym (tai-no-offsets (rows s) _ _ _ e _ (refused-apart _ _ _ (sym h ∙ ap dayByRuleOutcome (c .before .number2 .given .1)))), tt)
+
+returns-3 : tie.Need-returns-3
+unfolding ruledPartOutcome SameDays dayOutcome dayByRuleOutcome
+returns-3 c =
+    let d = c .before .before .before .before .before .before .before .before .before in
+    let n = d .before .before in
+    let s = n .before in
+    let e = sym (n .day-number-and-fraction .ensures) ∙ ap dayOutcome (d .d .given .1) in
+    let r = day-range _ _ (yes (s .good .0 .1)) (yes (s .good .1 .0 .1)) _ e in
+    let o = c .before .before .before .before .o in
+    let h = c .before .before .before .before .before .before .day-of .ensures ∙ ap (λ (z : ℤ). withRule (offsetsOf (rows s) (gregorianDate z)) (ruleOn (rows s) (gregorianDate z))) (day-read _ r) in
+    let q = apart _ _ _ _ (sym h ∙ ap dayByRuleOutcome (o .given .1)) in
+    let m = c .before .mjd-of .ensures ∙ ap (λ (z : ℤ). ofInt binary64 (z -ℤ pos 2400001)) (day-read _ r) in (
+      ap answer (c .tai-from-midnight .ensures ∙ ap (λ (z : Float). taiFromMidnight (s .args .big) (julian mjdZeroPoint z) (o .given .0 .0) (d .d .given .0 .0 .fraction)) m)
+          ∙ sym (tai-of-day (rows s) _ _ _ e r _ (q .0)),
+      record { offset = offset-of-day (rows s) _ _ _ e ∙ offsets-first (rows s) _ _ (q .0); told = rule-of-day (rows s) _ _ _ e ∙ ap answer (q .1) },
+    )
+
+pub tai-fraction-by-rule-spec : {M : Type 1} → statement M
+tai-fraction-by-rule-spec =
+    tie.close
+    (tie.spec
+    day-number-and-fraction-requires
+    enum-known-number
+    enum-known-d
+    day-of-requires
+    enum-known-number-2
+    enum-known-o
+    mjd-of-requires
+    tai-from-midnight-requires
+    returns
+    returns-2
+    returns-3)

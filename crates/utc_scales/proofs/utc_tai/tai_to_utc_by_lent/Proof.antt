@@ -1,0 +1,52 @@
+-- `utc_scales::utc_tai::tai_to_utc_by_lent` meets its contract. Assumes nothing.
+use mathlib.Core.Path.{sym, ap, _∙_}
+use Rattle.julian.specs.JulianDate.{julianOutcome}
+use Rattle.tai_utc.specs.Table.{Row}
+use Rattle.tai_utc.specs.Lent.{rowsIn}
+use Rattle.scales.specs.Scales.{utcOutcome}
+use Rattle.utc_scales.specs.UtcTai.{refineUtcFraction, taiToUtc}
+use Rattle.utc_scales.proofs.Steps.{changes}
+use mathlib.Core.List.{List}
+use denote.Ref.{now}
+use borrow.Author.Needs.{needs}
+use Rattle.utc_scales.proofs.utc_tai.tai_to_utc_by_lent.Statement.{statement}
+use Rattle.utc_scales.proofs.utc_tai.tai_to_utc_by_lent.Tie as tie
+
+-- the rows that are read
+abbrev rows : tie.Start → List Row
+rows s = rowsIn (s .args .size) (now (s .args .months)) (now (s .args .seconds))
+
+split-requires : tie.Need-split-requires
+split-requires c κs = search needs
+
+refine-utc-fraction-requires : tie.Need-refine-utc-fraction-requires
+refine-utc-fraction-requires c κs = search needs
+
+placed-requires : tie.Need-placed-requires
+placed-requires c κs = search needs
+
+enum-known-number : tie.Need-enum-known-number
+enum-known-number c = search needs
+
+enum-known-jd : tie.Need-enum-known-jd
+enum-known-jd c = search needs
+
+returns : tie.Need-returns
+unfolding utcOutcome julianOutcome taiToUtc
+returns c = sym (ap julianOutcome (c .before .number .given .1)) ∙ (c .before .before .before .placed .ensures ∙ changes (refineUtcFraction (rows (c .before .before .before .before .before .before))) _ _ _ (c .before .before .before .before .before .split .ensures) (c .before .before .before .before .refine-utc-fraction .ensures))
+
+returns-2 : tie.Need-returns-2
+unfolding utcOutcome julianOutcome taiToUtc
+returns-2 c = sym (ap julianOutcome (c .before .jd .given .1)) ∙ (c .before .before .before .placed .ensures ∙ changes (refineUtcFraction (rows (c .before .before .before .before .before .before))) _ _ _ (c .before .before .before .before .before .split .ensures) (c .before .before .before .before .refine-utc-fraction .ensures))
+
+pub tai-to-utc-by-lent-spec : {M : Type 1} → statement M
+tai-to-utc-by-lent-spec =
+    tie.close
+    (tie.spec
+    split-requires
+    refine-utc-fraction-requires
+    placed-requires
+    enum-known-number
+    enum-known-jd
+    returns
+    returns-2)
