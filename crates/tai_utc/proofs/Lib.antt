@@ -16,4 +16,5 @@ pub mod Plain
 pub mod Years
 pub mod TableYears
 pub mod TableSeconds
+pub mod Forward
 pub mod Cases

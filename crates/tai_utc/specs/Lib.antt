@@ -1,8 +1,9 @@
 -- The definitions that the contracts of TAI-UTC cite, in the order to read them: the table and the row of a month, the rows that a caller lends, the offset at a fraction of a day, the offsets
--- of a day and its leap, the dates of the code's short way, and the outcome that each answer of the code stands for.
+-- of a day and its leap, the dates of the code's short way, what a walk forward reads, and the outcome that each answer of the code stands for.
 pub mod Table
 pub mod Lent
 pub mod Offset
 pub mod Leap
 pub mod Plain
+pub mod Forward
 pub mod Answers

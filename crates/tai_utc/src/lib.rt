@@ -15,6 +15,7 @@ ghost use Rattle.tai_utc.specs.Plain.{Plain};
 ghost use Rattle.tai_utc.specs.Answers.{secondsOutcome, dayOffsetsOutcome, rowsOutcome};
 
 mod lent;
+pub mod walk_rows;
 
 pub use lent::table_refusal;
 
