@@ -28,6 +28,13 @@ fn month_at(months: &[u64], i: usize) -> u64
     months[i]
 }
 
+// How many rows a table has, the fixed ones included.
+pub fn row_count(table: LentRows) -> usize
+    ensures { λ r. ⌜ r ≡ length (rowsOf table) ⌝ }
+{
+    42 + super::lent::size_of(table)
+}
+
 // The month in which row i of a table begins; past the last row, a number that is later than the month of any date.
 pub fn row_start(table: LentRows, i: usize) -> u64
     ensures { λ r. ⌜ r ≡ getD (starts (rowsOf table)) i never ⌝ }
