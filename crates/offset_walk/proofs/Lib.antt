@@ -13,3 +13,9 @@ pub mod Writes
 pub mod Calls
 -- Floats: the same, as floats.
 pub mod Floats
+-- Eights: the same, as bytes.
+pub mod Eights
+-- Counts: how many rows a walk compares.
+pub mod Counts
+-- LookUp: each offset is that of the look-up of one date.
+pub mod LookUp

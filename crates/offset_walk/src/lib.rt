@@ -20,6 +20,10 @@ ghost use Rattle.offset_walk.specs.Call.{asFloats, WalkCall};
 ghost use Rattle.offset_walk.specs.Asked.{Standing, AtStart, Stepped, CountsNext, Good};
 ghost use Rattle.tai_utc.specs.Table.{rising};
 ghost use lib.Dec.{T};
+
+mod bytes;
+
+pub use bytes::offsets_at_0h_bytes;
 use tai_utc::LentRows;
 use tai_utc::walk_rows::RowTerms;
 
