@@ -3,5 +3,7 @@
 pub mod Laws
 -- Signed: patterns in two's complement, as the code computes them.
 pub mod Signed
+-- Signed32: the same with 32 bits.
+pub mod Signed32
 -- RoundTrip: what is written is read back.
 pub mod RoundTrip

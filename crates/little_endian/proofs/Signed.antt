@@ -28,7 +28,7 @@ one-less k = simp (le-ltb (suc k) 1 (some k)) (ap pos (less-one k))
     less-one : (k : ℕ) → suc k - 1 ≡ k
     less-one k = omega arith
 
-minus-one : (k : ℕ) → negsuc 0 -ℤ pos k ≡ negsuc k
+pub minus-one : (k : ℕ) → negsuc 0 -ℤ pos k ≡ negsuc k
 minus-one zero = refl
 minus-one (suc k) = ap (λ (n : ℕ). negsuc (suc n)) (none k)
   where

@@ -39,3 +39,11 @@ patternOf (negsuc k) = 0xffff_ffff_ffff_ffff - k
 -- and the number of a pattern
 unfoldable pub signedOf : ℕ → ℤ
 signedOf n = cond (ltb n 0x8000_0000_0000_0000) (pos n) (negsuc (0xffff_ffff_ffff_ffff - n))
+
+-- the same with 32 bits
+unfoldable pub signed32 : ℕ → ℤ
+signed32 n = cond (ltb n 0x8000_0000) (pos n) (negsuc (0xffff_ffff - n))
+
+-- the signed number in the four bytes from `at` on; 0 where they are not all there
+abbrev pub i32At : List ℕ → ℕ → ℤ
+i32At s at = signed32 (u32At s at)

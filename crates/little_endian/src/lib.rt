@@ -2,7 +2,7 @@
 ghost use mathlib.Core.Path.{_≡_};
 ghost use Prim.Native.Nat.{_+_, _≤_, _<_};
 ghost use lib.ListN.{length};
-ghost use Rattle.little_endian.specs.LittleEndian.{fourAt, u32At, u64At, eightBytes, patternOf, signedOf};
+ghost use Rattle.little_endian.specs.LittleEndian.{fourAt, u32At, u64At, eightBytes, patternOf, signedOf, signed32, i32At};
 
 fn wide(x: u8) -> u64
     ensures { λ r. ⌜ (r ≡ x) × (r < 256) ⌝ }
@@ -81,4 +81,21 @@ pub fn i64_of_pattern(n: u64) -> i64
         return n as i64;
     }
     -1 - (0xffff_ffff_ffff_ffff - n) as i64
+}
+
+// The same with 32 bits.
+pub fn i32_of_pattern(n: u32) -> i32
+    ensures { λ r. ⌜ r ≡ signed32 n ⌝ }
+{
+    if n < 0x8000_0000 {
+        return n as i32;
+    }
+    -1 - (0xffff_ffff - n) as i32
+}
+
+// The signed number in the four bytes from `at` on; 0 where they are not all there.
+pub fn i32_at(s: &[u8], at: usize) -> i32
+    ensures { λ r. ⌜ r ≡ i32At (now (s .entry)) at ⌝ }
+{
+    i32_of_pattern(u32_at(s, at))
 }

@@ -20,5 +20,6 @@ pub mod Years
 pub mod TableYears
 pub mod TableSeconds
 pub mod WholeSeconds
+pub mod Forward
 pub mod Cases
 pub mod RuleLaws

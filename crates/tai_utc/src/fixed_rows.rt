@@ -6,7 +6,7 @@ ghost use Rattle.tai_utc.specs.Table.{fixed, starts, reached};
 ghost use Rattle.tai_utc.specs.Offset.{none, secondsOf, startOf, rateOf};
 
 // The months in which the rows begin, numbered from January of year 0.
-const MONTHS: [u64; 42] = [
+pub(crate) const MONTHS: [u64; 42] = [
     23520, // 1960-01
     23532, // 1961-01
     23539, // 1961-08

@@ -12,6 +12,7 @@ mod in_day;
 mod lent;
 mod look_up;
 mod seconds;
+pub mod walk_rows;
 mod whole_day;
 
 pub use in_day::get_tai_utc_offset;

@@ -1,0 +1,67 @@
+-- Offsets written as bytes, eight places each. Assumes nothing.
+use Prim.Native.Nat.{ℕ, suc, _+_, _-_, _*_, _≤_, _<_}
+use native.Mathlib.Omega.{arith}
+use mathlib.Core.Path.{_≡_, refl, sym, ap, _∙_}
+use mathlib.Core.List.{List, [], _∷_, _++_, append-assoc, map}
+use lib.ListN.{length, take, drop, set, getD}
+use lib.Seq.{sets, sets-eq}
+use lib.Ieee.{Float, binary64, toBits}
+use Rattle.little_endian.specs.LittleEndian.{eightBytes}
+use Rattle.offset_walk.specs.declared.Triple.{Triple}
+use Rattle.offset_walk.specs.Lists.{datesFrom, inEights}
+use Rattle.offset_walk.proofs.Writes.{Putting, writing-starts, writing-goes, writing-ends, written-length}
+
+-- eight bytes one by one
+abbrev pub eightOf : List ℕ → List ℕ
+eightOf b = getD b 0 0 ∷ getD b 1 0 ∷ getD b 2 0 ∷ getD b 3 0 ∷ getD b 4 0 ∷ getD b 5 0 ∷ getD b 6 0 ∷ getD b 7 0 ∷ []
+
+pub put-eight : (l : List ℕ) (at : ℕ) (b : List ℕ)
+    → set (set (set (set (set (set (set (set l at (getD b 0 0)) (at + 1) (getD b 1 0)) (at + 2) (getD b 2 0)) (at + 3) (getD b 3 0)) (at + 4) (getD b 4 0)) (at + 5) (getD b 5 0)) (at + 6) (getD b 6 0)) (at + 7) (getD b 7 0)
+    ≡ sets l at (eightOf b)
+put-eight l at b =
+    let e1 : at + 1 ≡ suc at = omega arith in
+    let e2 : at + 2 ≡ suc (suc at) = omega arith in
+    let e3 : at + 3 ≡ suc (suc (suc at)) = omega arith in
+    let e4 : at + 4 ≡ suc (suc (suc (suc at))) = omega arith in
+    let e5 : at + 5 ≡ suc (suc (suc (suc (suc at)))) = omega arith in
+    let e6 : at + 6 ≡ suc (suc (suc (suc (suc (suc at))))) = omega arith in
+    let e7 : at + 7 ≡ suc (suc (suc (suc (suc (suc (suc at)))))) = omega arith in
+    rw (e1, e2, e3, e4, e5, e6, e7)
+
+abbrev put : Float → List ℕ
+put x = eightBytes (toBits binary64 x)
+
+abbrev place : ℕ → ℕ
+place i = 8 * i
+
+next-place : (i : ℕ) → 8 * (i + 1) ≡ 8 * i + 8
+next-place i = omega arith
+
+nil : inEights [] ≡ []
+unfolding inEights
+nil = refl
+
+cons : (x : Float) (l : List Float) → inEights (x ∷ l) ≡ put x ++ inEights l
+unfolding inEights
+cons x l = refl
+
+module _ (off : Triple → Float) (f : ℕ → Triple) (n : ℕ) (before : List ℕ) where
+  abbrev pub wholeE : List ℕ
+  wholeE = inEights (map off (datesFrom f 0 n)) ++ drop (8 * n) before
+
+  abbrev pub restE : ℕ → List ℕ
+  restE i = inEights (map off (datesFrom f i (n - i))) ++ drop (8 * n) before
+
+  pub eights-start : Putting wholeE (restE 0) before before (8 * 0)
+  eights-start = writing-starts inEights put 8 place refl next-place nil cons (λ x. refl) off f n before
+
+  pub eights-go : (i : ℕ) (now now′ : List ℕ) (x : Float) → i < n → Putting wholeE (restE i) before now (8 * i) → x ≡ off (f i) → now′ ≡ sets now (8 * i) (put x) → 8 * i + 8 ≤ length now → Putting wholeE (restE (i + 1)) before now′ (8 * (i + 1))
+  eights-go i now now′ x h p e o l =
+      writing-goes inEights put 8 place refl next-place nil cons (λ x. refl) off f n before i now now′ x h p e
+      (o ∙ sets-eq (put x) now (8 * i) l ∙ append-assoc (take (8 * i) now) (put x) (drop (8 * i + 8) now)) l
+
+  pub eights-end : (i : ℕ) (now : List ℕ) → i ≤ n → n ≤ i → Putting wholeE (restE i) before now (8 * i) → now ≡ wholeE
+  eights-end i now h g p = writing-ends inEights put 8 place refl next-place nil cons (λ x. refl) off f n before i now h g p
+
+pub eights-length : (off : Triple → Float) (f : ℕ → Triple) (n : ℕ) → length (inEights (map off (datesFrom f 0 n))) ≡ 8 * n
+eights-length off f n = written-length inEights put 8 place refl next-place nil cons (λ x. refl) off f n [] n 0

@@ -1,0 +1,21 @@
+-- The laws that the functions' proofs cite, and then what the definitions mean.
+-- Judges: a date by itself and after another, as the code tests them.
+pub mod Judges
+-- Goods: dates that nothing is refused of.
+pub mod Goods
+-- Forward: the rows that a walk passes, and that the last is the one that the look-up finds.
+pub mod Forward
+-- Pacing: the walk from date to date.
+pub mod Pacing
+-- Writes: the offsets written one after the other.
+pub mod Writes
+-- Calls: the refusals in their order, and the call as a whole.
+pub mod Calls
+-- Floats: the same, as floats.
+pub mod Floats
+-- Eights: the same, as bytes.
+pub mod Eights
+-- Counts: how many rows a walk compares.
+pub mod Counts
+-- LookUp: each offset is that of the look-up of one date.
+pub mod LookUp

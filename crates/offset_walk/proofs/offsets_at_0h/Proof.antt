@@ -1,0 +1,52 @@
+-- `offset_walk::offsets_at_0h` meets its contract: all is judged before a place is written. Assumes nothing.
+use Prim.Native.Nat.{_*_, _/_, _%_}
+use native.Mathlib.Omega.{arith}
+use mathlib.Core.Path.{_≡_, refl, sym, ap, _∙_}
+use lib.Dec.{eqb}
+use lib.ListN.{length}
+use Rattle.tai_utc.specs.Lent.{rowsOf}
+use Rattle.offset_walk.specs.Walk.{offsetAt0h}
+use Rattle.offset_walk.specs.Lists.{datesFrom, tripleAt}
+use Rattle.offset_walk.specs.Call.{asFloats}
+use Rattle.offset_walk.proofs.Goods.{all-good, how-many}
+use Rattle.offset_walk.proofs.Floats.{float-length}
+use Rattle.offset_walk.proofs.Calls.{passed, refused-call, walked-call}
+use borrow.Author.Needs.{needs}
+use Rattle.offset_walk.proofs.offsets_at_0h.Statement.{statement}
+use Rattle.offset_walk.proofs.offsets_at_0h.Tie as tie
+
+refused-by-requires : tie.Need-refused-by-requires
+refused-by-requires c κs = search needs
+
+returns : tie.Need-returns
+returns c =
+    let r = c .before in
+    let s = r .before .before .args in
+    let l = s .dates .now in
+    refused-call (s .table) (eqb (length l % 3) 0) (datesFrom (tripleAt l) 0 (length l / 3)) (length (s .out .now)) asFloats (s .out .now) (r .refused-by .result) (r .refused-by .ensures) (c .if1 .taken)
+
+walk-all-requires : tie.Need-walk-all-requires
+walk-all-requires c κs =
+    let i = c .before in
+    let r = i .before in
+    let s = r .before .before .args in
+    let l = s .dates .now in
+    let p = passed (s .table) (eqb (length l % 3) 0) (datesFrom (tripleAt l) 0 (length l / 3)) (length (s .out .now)) (r .refused-by .result) (r .refused-by .ensures) (i .if1 .left) in
+    (all-good (tripleAt l) (length l / 3) (p .good), p .order, omega arith, omega (arith, p .fits, how-many (tripleAt l) (length l / 3) 0))
+
+same-length : tie.Need-same-length
+same-length c = search needs
+
+returns-2 : tie.Need-returns-2
+returns-2 c =
+    let w = c .before .before in
+    let i = w .before .before in
+    let r = i .before in
+    let s = r .before .before .args in
+    let l = s .dates .now in
+    walked-call (s .table) (eqb (length l % 3) 0) (datesFrom (tripleAt l) 0 (length l / 3)) (length (s .out .now)) asFloats (s .out .now) (r .refused-by .result) (r .refused-by .ensures) (i .if1 .left)
+    (w .walk-all .result) _ (length l / 3) (w .walk-all .ensures .0) (w .walk-all .ensures .1) (float-length (offsetAt0h (rowsOf (s .table))) (tripleAt l) (length l / 3))
+
+pub offsets-at-0h-spec : {M : Type 1} → statement M
+offsets-at-0h-spec =
+    tie.close (tie.spec refused-by-requires returns walk-all-requires same-length returns-2)

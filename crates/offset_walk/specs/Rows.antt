@@ -1,0 +1,22 @@
+-- The rows that a walk forward through the table compares. Written from document 02, item 2: "A row counts each time a date's month is held against the start of the
+-- next row not yet reached." Assumes nothing.
+use Prim.Native.Nat.{ℕ, zero, suc, _+_}
+use mathlib.Core.Bool.{cond}
+use mathlib.Core.List.{List, [], _∷_}
+use lib.Dec.{leb}
+
+-- Of the starts of the rows not yet reached: how many a month is held against. Each that has begun is reached and the next is looked at; the first that has not begun counts
+-- too, and ends it.
+unfoldable pub held : List ℕ → ℕ → ℕ
+held [] n = 0
+held (a ∷ rest) n = cond (leb a n) (suc (held rest n)) 1
+
+-- and the starts that are then still not reached
+unfoldable pub left : List ℕ → ℕ → List ℕ
+left [] n = []
+left (a ∷ rest) n = cond (leb a n) (left rest n) (a ∷ rest)
+
+-- over the months of all dates, each going on where the one before it stopped
+unfoldable pub compared : List ℕ → List ℕ → ℕ
+compared starts [] = 0
+compared starts (n ∷ months) = held starts n + compared (left starts n) months

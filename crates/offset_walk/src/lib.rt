@@ -1,0 +1,273 @@
+// TAI-UTC at 0h of many dates in time order, in one walk through the leap table: document 02, item 2. All dates are judged before one offset is written.
+ghost use mathlib.Core.Path.{_≡_};
+ghost use mathlib.Core.Bool.{true};
+ghost use mathlib.Core.List.{_++_, map};
+ghost use Prim.Native.Nat.{_+_, _*_, _/_, _<_, _≤_};
+ghost use lib.IntN.{natAbs};
+ghost use lib.ListN.{length, drop};
+ghost use lib.Ieee.{binary64, ofInt};
+ghost use Rattle.refusals.specs.Outcome.{answer, onward};
+ghost use Rattle.floats.specs.Whole.{nought};
+ghost use Rattle.calendar.specs.DayCount.{mjdNumber};
+ghost use Rattle.tai_utc.specs.Table.{starts};
+ghost use Rattle.tai_utc.specs.Lent.{rowsOf, tableOf, unlessRefused};
+ghost use Rattle.tai_utc.specs.Forward.{byTerms};
+ghost use Rattle.offset_walk.specs.Rows.{compared};
+ghost use Rattle.offset_walk.specs.Judging.{earlier, validTriple, judgedNext, judged};
+ghost use Rattle.offset_walk.specs.Walk.{monthIn, offsetAt0h, walked};
+ghost use Rattle.offset_walk.specs.Lists.{datesFrom, tripleAt, walkOfNumbers};
+ghost use Rattle.offset_walk.specs.Call.{asFloats, WalkCall};
+ghost use Rattle.offset_walk.specs.Asked.{Standing, AtStart, Stepped, CountsNext, Good};
+ghost use Rattle.tai_utc.specs.Table.{rising};
+ghost use lib.Dec.{T};
+
+mod bytes;
+
+pub use bytes::offsets_at_0h_bytes;
+use tai_utc::LentRows;
+use tai_utc::walk_rows::RowTerms;
+
+// A year, month and day, a date or not.
+pub struct Triple {
+    pub year: i32,
+    pub month: i32,
+    pub day: i32,
+}
+
+// The number of rows compared, or the number of the refusal.
+pub enum WalkAnswer {
+    Compared(u64),
+    Refused(u32),
+}
+
+// How far a walk has come: the rows of the table and those reached, the start of the next one, the terms of the last one reached, and the rows compared so far.
+pub struct Walk {
+    pub rows: usize,
+    pub reached: usize,
+    pub next: u64,
+    pub terms: RowTerms,
+    pub compared: u64,
+}
+
+// Whether a is earlier than b.
+fn earlier(a: Triple, b: Triple) -> bool
+    ensures { λ r. ⌜ r ≡ earlier a b ⌝ }
+{
+    if a.year < b.year {
+        return true;
+    }
+    if b.year < a.year {
+        return false;
+    }
+    if a.month < b.month {
+        return true;
+    }
+    if b.month < a.month {
+        return false;
+    }
+    a.day < b.day
+}
+
+// Whether the day is one that every month has, of a year and month that are good: such a date needs no look at its month's length.
+fn in_every_month(t: Triple) -> bool
+    ensures { λ r. ⌜ (r ≡ true → validTriple t ≡ answer tt) ⌝ }
+{
+    if t.year < -4799 {
+        return false;
+    }
+    if t.month < 1 {
+        return false;
+    }
+    if 12 < t.month {
+        return false;
+    }
+    if t.day < 1 {
+        return false;
+    }
+    t.day <= 28
+}
+
+// The number by which a date is turned away by itself, 0 if it is not.
+fn own_number(t: Triple) -> u32
+    ensures { λ r. ⌜ unlessRefused r tt ≡ validTriple t ⌝ }
+{
+    if in_every_month(t) {
+        return 0;
+    }
+    match calendar::validate_calendar_date(t.year, t.month, t.day) {
+        calendar::DateCheck::Refused(number) => number,
+        calendar::DateCheck::Valid => 0,
+    }
+}
+
+// The number by which a date after another is turned away, 0 if it is not: its own, then 17.
+fn judge(before: Triple, t: Triple) -> u32
+    ensures { λ r. ⌜ unlessRefused r tt ≡ judgedNext before t ⌝ }
+{
+    let number = own_number(t);
+    if number != 0 {
+        return number;
+    }
+    if earlier(t, before) {
+        return refusals::EARLIER_THAN_BEFORE;
+    }
+    0
+}
+
+// The number of a date's month; 0 in the years before year 0.
+fn month_of(t: Triple) -> u64
+    requires { ⌜ validTriple t ≡ answer tt ⌝ }
+    ensures { λ r. ⌜ (r ≡ monthIn t) × (r < 1099511627776) ⌝ }
+{
+    if t.year < 0 {
+        return 0;
+    }
+    12 * (t.year as u64) + (t.month as u64) - 1
+}
+
+// The offset of a date at 0h by the terms of its row. Its day is counted only where the row drifts.
+fn offset_in(terms: RowTerms, t: Triple) -> f64
+    requires { ⌜ validTriple t ≡ answer tt ⌝ }
+    ensures { λ r. ⌜ r ≡ byTerms terms (ofInt binary64 (mjdNumber (t .year) (t .month) (t .day))) nought ⌝ }
+{
+    if !terms.drifts {
+        return terms.seconds;
+    }
+    match calendar::modified_julian_day(t.year, t.month, t.day) {
+        calendar::MjdAnswer::Refused(_) => 0.0,
+        calendar::MjdAnswer::Mjd(n) => terms.seconds + (n as f64 + 0.0 - terms.start) * terms.rate,
+    }
+}
+
+// A walk that has not begun: before the first row.
+fn at_start(table: LentRows) -> Walk
+    ensures { λ r. ⌜ AtStart (rowsOf table) r ⌝ }
+{
+    Walk {
+        rows: tai_utc::walk_rows::row_count(table),
+        reached: 0,
+        next: tai_utc::walk_rows::row_start(table, 0),
+        terms: tai_utc::walk_rows::row_terms(table, 0),
+        compared: 0,
+    }
+}
+
+// The walk goes on past each row that has begun in a month, and counts it.
+fn walk_to(w: Walk, table: LentRows, month: u64) -> Walk
+    requires { ⌜ (Standing (rowsOf table) w) × (month < 1099511627776) × (w .compared < 9223372036854775808) ⌝ }
+    ensures { λ r. ⌜ Stepped (rowsOf table) w month r ⌝ }
+{
+    let mut reached = w.reached;
+    let mut next = w.next;
+    let mut compared = w.compared;
+    while next <= month {
+        reached += 1;
+        compared += 1;
+        next = tai_utc::walk_rows::row_start(table, reached);
+    }
+    Walk {
+        rows: w.rows,
+        reached,
+        next,
+        terms: tai_utc::walk_rows::row_terms(table, reached),
+        compared,
+    }
+}
+
+// A row that is left and has not begun is compared too.
+fn next_counted(w: Walk) -> u64
+    requires { ⌜ w .compared < 18446744073709551615 ⌝ }
+    ensures { λ r. ⌜ CountsNext w r ⌝ }
+{
+    if w.rows <= w.reached {
+        return w.compared;
+    }
+    w.compared + 1
+}
+
+// Date i of a list that has it.
+fn triple_at(dates: &[i32], i: usize) -> Triple
+    requires { ⌜ 3 * i + 3 ≤ length (now dates) ⌝ }
+    ensures { λ r. ⌜ r ≡ tripleAt (now (dates .entry)) i ⌝ }
+{
+    let at = 3 * i;
+    Triple {
+        year: dates[at],
+        month: dates[at + 1],
+        day: dates[at + 2],
+    }
+}
+
+// The number by which the n dates are turned away, 0 if they are not. No valid date is earlier than the first of -4799.
+fn judge_all(dates: &[i32], n: usize) -> u32
+    requires { ⌜ 3 * n ≤ length (now dates) ⌝ }
+    ensures { λ r. ⌜ unlessRefused r tt ≡ judged (datesFrom (tripleAt (now (dates .entry))) 0 n) ⌝ }
+{
+    let mut before = Triple {
+        year: -4799,
+        month: 1,
+        day: 1,
+    };
+    let mut i = 0;
+    while i < n {
+        let t = triple_at(dates, i);
+        let number = judge(before, t);
+        if number != 0 {
+            return number;
+        }
+        before = t;
+        i += 1;
+    }
+    0
+}
+
+// Walks through the table with n dates, writes their offsets, and says how many rows it compared.
+fn walk_all(dates: &[i32], n: usize, table: LentRows, out: &mut [f64]) -> u64
+    requires { ⌜ (Good (tripleAt (now dates)) n) × (T (rising (starts (rowsOf table)))) × (3 * n ≤ length (now dates)) × (n ≤ length (now out)) ⌝ }
+    ensures { λ r. ⌜ (r ≡ compared (starts (rowsOf table)) (map monthIn (datesFrom (tripleAt (now (dates .entry))) 0 n))) × (now (out .exit) ≡ map (offsetAt0h (rowsOf table)) (datesFrom (tripleAt (now (dates .entry))) 0 n) ++ drop n (now (out .entry))) ⌝ }
+{
+    let mut w = at_start(table);
+    let mut i = 0;
+    while i < n {
+        let t = triple_at(dates, i);
+        let month = month_of(t);
+        if w.next <= month {
+            w = walk_to(w, table, month);
+        }
+        let count = next_counted(w);
+        w.compared = count;
+        out[i] = offset_in(w.terms, t);
+        i += 1;
+    }
+    w.compared
+}
+
+// The number by which the call is turned away, 0 if it is not.
+fn refused_by(dates: &[i32], table: LentRows, places: usize) -> u32
+    ensures { λ r. ⌜ unlessRefused r (walked (rowsOf table) (datesFrom (tripleAt (now (dates .entry))) 0 (length (now (dates .entry)) / 3))) ≡ onward (tableOf table) (λ rows. walkOfNumbers rows (now (dates .entry)) places) ⌝ }
+{
+    let number = tai_utc::table_refusal(table);
+    if number != 0 {
+        return number;
+    }
+    if dates.len() % 3 != 0 {
+        return refusals::BLOCK_LENGTH_WRONG;
+    }
+    let n = dates.len() / 3;
+    if places < n {
+        return refusals::TEXT_LONGER_THAN_BUFFER;
+    }
+    judge_all(dates, n)
+}
+
+// Writes TAI-UTC at 0h of each date, a year, a month and a day of `dates`, in their order, and answers how many rows of the table it compared. Refusals in order: 20 to 22 the
+// table; 14 a length of `dates` that is no multiple of 3; 11 fewer places than dates; then date by date 1 to 3 its own, 17 earlier than the one before it.
+pub fn offsets_at_0h(dates: &[i32], table: LentRows, out: &mut [f64]) -> WalkAnswer
+    ensures { λ r. ⌜ WalkCall asFloats (onward (tableOf table) (λ rows. walkOfNumbers rows (now (dates .entry)) (length (now (out .entry))))) (now (out .entry)) r (now (out .exit)) ⌝ }
+{
+    let number = refused_by(dates, table, out.len());
+    if number != 0 {
+        return WalkAnswer::Refused(number);
+    }
+    WalkAnswer::Compared(walk_all(dates, dates.len() / 3, table, out))
+}

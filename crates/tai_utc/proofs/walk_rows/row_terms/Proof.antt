@@ -1,0 +1,97 @@
+-- `tai_utc::walk_rows::row_terms` meets its contract: the four answers are those of At.antt and Forward.antt.
+-- Assumes nothing.
+use mathlib.Core.Path.{_≡_, ap, sym, _∙_}
+use mathlib.Core.Bool.{not}
+use Prim.Native.Nat.{ℕ, _-_, _<_}
+use native.Mathlib.Omega.{arith}
+use lib.Ieee.{Float, ofBits}
+use borrow.Author.Tests.{lt-ltb, le-ltb}
+use borrow.Author.Needs.{needs}
+use Rattle.tai_utc.specs.Lent.{lentSize, rowsOf}
+use Rattle.tai_utc.specs.Offset.{secondsOf, startOf, rateOf}
+use Rattle.tai_utc.specs.Forward.{byTerms}
+use Rattle.tai_utc.proofs.Tables.{at-most-16, fixed-place, table-drifts}
+use Rattle.tai_utc.proofs.At.{absent, row-drifts, row-stays}
+use Rattle.tai_utc.proofs.Forward.{no-row}
+use Rattle.tai_utc.proofs.walk_rows.row_terms.Statement.{statement}
+use Rattle.tai_utc.proofs.walk_rows.row_terms.Tie as tie
+
+above : (k : ℕ) → (k ≡ 0 → ⊥) → 0 < k
+above k h = omega arith
+
+returns : tie.Need-returns
+unfolding ofBits byTerms
+returns c =
+    let s = c .before .args in
+    λ mjd f. absent (rowsOf (s .table)) (s .rows) mjd f (c .if1 .taken)
+
+sub-i : tie.Need-sub-i
+sub-i c = search needs
+
+seconds-at-requires : tie.Need-seconds-at-requires
+seconds-at-requires c κs = search needs
+
+start-at-requires : tie.Need-start-at-requires
+start-at-requires c κs = search needs
+
+rate-at-requires : tie.Need-rate-at-requires
+rate-at-requires c κs = search needs
+
+returns-2 : tie.Need-returns-2
+unfolding byTerms
+returns-2 c =
+    let f = c .before .before .before .before in
+    let s = f .before .args in
+    let g = c .before .before .before .if2 .taken in
+    let p = sym (fixed-place (s .table) (lentSize (s .table)) (s .rows - 1) (omega arith)) in
+    λ mjd x.
+    row-drifts (rowsOf (s .table)) (s .rows) mjd x (above _ (f .if1 .left))
+    (table-drifts (s .table) (lentSize (s .table)) (s .rows - 1) (omega arith) ∙ ap not (lt-ltb (s .rows - 1) 14 g))
+    _ _ _
+    (c .before .before .seconds-at .ensures ∙ ap secondsOf p)
+    (c .before .start-at .ensures ∙ ap startOf p)
+    (c .rate-at .ensures ∙ ap rateOf p)
+
+lent-size-requires : tie.Need-lent-size-requires
+lent-size-requires c κs = search needs
+
+add-if3 : tie.Need-add-if3
+add-if3 c = search needs
+
+returns-3 : tie.Need-returns-3
+unfolding ofBits byTerms
+returns-3 c =
+    let n = c .before in
+    let s = n .before .before .before .args in
+    λ mjd f. no-row (s .table) (s .rows) mjd f (above _ (n .before .before .if1 .left)) (omega (arith, c .if3 .taken, n .lent-size .ensures .0))
+
+seconds-of-row-requires : tie.Need-seconds-of-row-requires
+seconds-of-row-requires c κs = (omega arith, omega (arith, c .if3 .left, c .before .lent-size .ensures .0))
+
+returns-4 : tie.Need-returns-4
+unfolding byTerms
+returns-4 c =
+    let q = c .before in
+    let n = q .before in
+    let f = n .before .before in
+    let s = f .before .args in
+    λ mjd x.
+    row-stays (rowsOf (s .table)) (s .rows) mjd x (above _ (f .if1 .left))
+    (table-drifts (s .table) (lentSize (s .table)) (s .rows - 1) (omega (arith, q .if3 .left, n .lent-size .ensures .0)) ∙ ap not (le-ltb (s .rows - 1) 14 (n .before .if2 .left)))
+    _ (c .seconds-of-row .ensures)
+
+pub row-terms-spec : {M : Type 1} → statement M
+row-terms-spec =
+    tie.close
+    (tie.spec
+    returns
+    sub-i
+    seconds-at-requires
+    start-at-requires
+    rate-at-requires
+    returns-2
+    lent-size-requires
+    add-if3
+    returns-3
+    seconds-of-row-requires
+    returns-4)
