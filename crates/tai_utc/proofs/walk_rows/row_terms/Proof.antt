@@ -1,17 +1,21 @@
 -- `tai_utc::walk_rows::row_terms` meets its contract: the four answers are those of At.antt and Forward.antt.
 -- Assumes nothing.
-use mathlib.Core.Path.{_≡_, ap, sym, _∙_}
+use mathlib.Core.Path.{_≡_, refl, ap, sym, _∙_}
+use mathlib.Core.List.{List}
 use mathlib.Core.Bool.{not}
-use Prim.Native.Nat.{ℕ, _-_, _<_}
+use Prim.Native.Nat.{ℕ, _+_, _-_, _≤_, _<_}
 use native.Mathlib.Omega.{arith}
+use lib.ListN.{getD}
 use lib.Ieee.{Float, ofBits}
 use borrow.Author.Tests.{lt-ltb, le-ltb}
 use borrow.Author.Needs.{needs}
-use Rattle.tai_utc.specs.Lent.{lentSize, rowsOf}
-use Rattle.tai_utc.specs.Offset.{secondsOf, startOf, rateOf}
+use Rattle.tai_utc.specs.Table.{Row}
+use Rattle.tai_utc.specs.Lent.{least, lentSize, rowsOf}
+use Rattle.tai_utc.specs.Offset.{none, secondsOf, startOf, rateOf}
 use Rattle.tai_utc.specs.Forward.{byTerms}
 use Rattle.tai_utc.proofs.Tables.{at-most-16, fixed-place, table-drifts}
 use Rattle.tai_utc.proofs.At.{absent, row-drifts, row-stays}
+use Rattle.tai_utc.proofs.ByParts.{rows-in}
 use Rattle.tai_utc.proofs.Forward.{no-row}
 use Rattle.tai_utc.proofs.walk_rows.row_terms.Statement.{statement}
 use Rattle.tai_utc.proofs.walk_rows.row_terms.Tie as tie
@@ -23,7 +27,7 @@ returns : tie.Need-returns
 unfolding ofBits byTerms
 returns c =
     let s = c .before .args in
-    λ mjd f. absent (rowsOf (s .table)) (s .rows) mjd f (c .if1 .taken)
+    λ mjd f. absent (rowsOf (s .t1)) (s .rows) mjd f (c .if1 .taken)
 
 sub-i : tie.Need-sub-i
 sub-i c = search needs
@@ -43,10 +47,10 @@ returns-2 c =
     let f = c .before .before .before .before in
     let s = f .before .args in
     let g = c .before .before .before .if2 .taken in
-    let p = sym (fixed-place (s .table) (lentSize (s .table)) (s .rows - 1) (omega arith)) in
+    let p = sym (fixed-place (s .t1) (lentSize (s .t1)) (s .rows - 1) (omega arith)) in
     λ mjd x.
-    row-drifts (rowsOf (s .table)) (s .rows) mjd x (above _ (f .if1 .left))
-    (table-drifts (s .table) (lentSize (s .table)) (s .rows - 1) (omega arith) ∙ ap not (lt-ltb (s .rows - 1) 14 g))
+    row-drifts (rowsOf (s .t1)) (s .rows) mjd x (above _ (f .if1 .left))
+    (table-drifts (s .t1) (lentSize (s .t1)) (s .rows - 1) (omega arith) ∙ ap not (lt-ltb (s .rows - 1) 14 g))
     _ _ _
     (c .before .before .seconds-at .ensures ∙ ap secondsOf p)
     (c .before .start-at .ensures ∙ ap startOf p)
@@ -63,22 +67,32 @@ unfolding ofBits byTerms
 returns-3 c =
     let n = c .before in
     let s = n .before .before .before .args in
-    λ mjd f. no-row (s .table) (s .rows) mjd f (above _ (n .before .before .if1 .left)) (omega (arith, c .if3 .taken, n .lent-size .ensures .0))
+    λ mjd f. no-row (s .t1) (s .rows) mjd f (above _ (n .before .before .if1 .left)) (omega (arith, c .if3 .taken, n .lent-size .ensures .0))
+
+-- how many rows there are at the last answer, and that row i is one of them
+module _ (c : tie.After-table) where
+  few : let s = c .before .before .before .before .before .args in s .rows ≤ 42 + lentSize (s .t1)
+  few = omega (arith, c .before .if3 .left, c .before .before .lent-size .ensures .0)
 
 seconds-of-row-requires : tie.Need-seconds-of-row-requires
-seconds-of-row-requires c κs = (omega arith, omega (arith, c .if3 .left, c .before .lent-size .ensures .0))
+seconds-of-row-requires c κs =
+    let q = c .before in
+    let s = q .before .before .before .before .before .args in
+    (omega (arith, q .before .before .before .if2 .left), omega (arith, few q, at-most-16 (s .t1)))
 
 returns-4 : tie.Need-returns-4
-unfolding byTerms
+unfolding byTerms lentSize
 returns-4 c =
-    let q = c .before in
-    let n = q .before in
+    let q = c .before .before in
+    let n = q .before .before in
     let f = n .before .before in
     let s = f .before .args in
+    let k = least (s .t1 .«months_size») (s .t1 .«seconds_size») in
+    let e = c .seconds-of-row .ensures k (s .t1 .months) (few q) ∙ ap (λ (l : List Row). secondsOf (getD l (s .rows - 1) none)) (rows-in (s .t1) k refl) in
     λ mjd x.
-    row-stays (rowsOf (s .table)) (s .rows) mjd x (above _ (f .if1 .left))
-    (table-drifts (s .table) (lentSize (s .table)) (s .rows - 1) (omega (arith, q .if3 .left, n .lent-size .ensures .0)) ∙ ap not (le-ltb (s .rows - 1) 14 (n .before .if2 .left)))
-    _ (c .seconds-of-row .ensures)
+    row-stays (rowsOf (s .t1)) (s .rows) mjd x (above _ (f .if1 .left))
+    (table-drifts (s .t1) (lentSize (s .t1)) (s .rows - 1) (omega (arith, q .before .if3 .left, n .lent-size .ensures .0)) ∙ ap not (le-ltb (s .rows - 1) 14 (n .before .if2 .left)))
+    _ e
 
 pub row-terms-spec : {M : Type 1} → statement M
 row-terms-spec =
