@@ -17,11 +17,11 @@ abbrev μ-loop : tie.MeasureT-loop
 block-space-requires : tie.Need-block-space-requires Inv-loop μ-loop
 block-space-requires c κs = search needs
 
-slice-aggregate-read-full : tie.Need-slice-aggregate-read-full Inv-loop μ-loop
-slice-aggregate-read-full c = search needs
+slice-aggregate-read-all : tie.Need-slice-aggregate-read-all Inv-loop μ-loop
+slice-aggregate-read-all c = search needs
 
-read-full-requires : tie.Need-read-full-requires Inv-loop μ-loop
-read-full-requires c κs = search needs
+read-all-requires : tie.Need-read-all-requires Inv-loop μ-loop
+read-all-requires c κs = search needs
 
 array-share-prefix-space : tie.Need-array-share-prefix-space Inv-loop μ-loop
 array-share-prefix-space c = search needs
@@ -73,8 +73,8 @@ main-spec =
     Inv-loop
     μ-loop
     block-space-requires
-    slice-aggregate-read-full
-    read-full-requires
+    slice-aggregate-read-all
+    read-all-requires
     array-share-prefix-space
     slice-aggregate-block
     no-rows-requires
