@@ -4,3 +4,4 @@ pub mod Refusals
 pub mod Exactly
 pub mod Results
 pub mod Call
+pub mod Cases
