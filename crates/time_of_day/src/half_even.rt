@@ -58,7 +58,10 @@ fn even_millis(units: u64, day: u64) -> u64
 {
     let low = units % HALF_BITS * day;
     let high = units / HALF_BITS * day + low / HALF_BITS;
-    nearest_even(high / HALF_BITS, high % HALF_BITS * HALF_BITS + low % HALF_BITS)
+    nearest_even(
+        high / HALF_BITS,
+        high % HALF_BITS * HALF_BITS + low % HALF_BITS,
+    )
 }
 
 // Twice the float that document 01's call rounds.

@@ -16,7 +16,7 @@ day-end-requires : tie.Need-day-end-requires
 day-end-requires c κs = search needs
 
 even-millis-requires : tie.Need-even-millis-requires
-even-millis-requires c κs = 
+even-millis-requires c κs =
     let t = c .before .before in
     let g = t .before in
     (omega (arith, g .grid-units .ensures, whole-small (g .before .args .fraction) (g .before .args .leap) (sym (t .in-whole .ensures) ∙ c .before .if1 .taken)), c .day-end .ensures .1)
@@ -25,7 +25,7 @@ float-count-requires : tie.Need-float-count-requires
 float-count-requires c κs = search needs
 
 returns : tie.Need-returns
-returns c = 
+returns c =
     let d = c .before in
     let t = d .before .before in
     let g = t .before in
@@ -33,7 +33,7 @@ returns c =
     ∙ count-in-whole (g .before .args .fraction) (g .before .args .leap) (g .grid-units .result) (d .day-end .result) (g .grid-units .ensures) (d .day-end .ensures .0) (sym (t .in-whole .ensures) ∙ d .before .if1 .taken)
 
 returns-2 : tie.Need-returns-2
-returns-2 c = 
+returns-2 c =
     let t = c .before .before in
     let g = t .before in
     c .float-count .ensures ∙ count-by-float (g .before .args .fraction) (g .before .args .leap) (sym (t .in-whole .ensures) ∙ c .before .if1 .left)

@@ -24,7 +24,7 @@ of-halves-requires : tie.Need-of-halves-requires
 of-halves-requires c κs = search needs
 
 returns : tie.Need-returns
-returns c = 
+returns c =
     let z = c .before .before in
     let s = z .before in
     let p = s .before in

@@ -13,12 +13,12 @@ whole-seconds-requires : tie.Need-whole-seconds-requires
 whole-seconds-requires c κs = search needs
 
 returns : tie.Need-returns
-returns c = 
+returns c =
     let w = c .before .before in
     c .whole-seconds .ensures ∙ sym (whole-test (w .before .args .fraction) (w .before .args .leap) (w .before .args .units) (w .worth .result) true (w .before .pre) (w .worth .ensures) (c .before .if1 .taken))
 
 returns-2 : tie.Need-returns-2
-returns-2 c = 
+returns-2 c =
     let w = c .before in
     sym (whole-test (w .before .args .fraction) (w .before .args .leap) (w .before .args .units) (w .worth .result) false (w .before .pre) (w .worth .ensures) (c .if1 .left))
 

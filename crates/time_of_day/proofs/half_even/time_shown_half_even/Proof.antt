@@ -22,7 +22,7 @@ time-of-requires : tie.Need-time-of-requires
 time-of-requires c κs = search needs
 
 returns : tie.Need-returns
-returns c = 
+returns c =
     let e = c .before .before in
     let n = e .before in
     let w = n .before in
@@ -30,7 +30,7 @@ returns c =
     (w .whole-leap .ensures) (n .even-count .ensures) (e .day-end .ensures .0) (c .time-of .result) (c .time-of .ensures) (c .before .if1 .taken)
 
 returns-2 : tie.Need-returns-2
-returns-2 c = 
+returns-2 c =
     let e = c .before in
     let n = e .before in
     let w = n .before in
