@@ -30,7 +30,7 @@ use Rattle.time_of_day.proofs.EvenRule.{even-nearest}
 use Rattle.time_of_day.proofs.EvenFloat.{to-count, by-float}
 
 -- ---- ON THE GRID the units are those of the fraction, and they are all of it
-two52-val : Val two52-f 4503599627370496 0 1
+pub two52-val : Val two52-f 4503599627370496 0 1
 unfolding ofBits
 two52-val = record { sign = false; size = 4503599627370496; has = (refl, refl); is = refl }
 

@@ -12,4 +12,6 @@ pub mod ByCount
 pub mod EvenRule
 pub mod EvenFloat
 pub mod EvenExact
+pub mod EvenGrid
+pub mod EvenCases
 pub mod Cases

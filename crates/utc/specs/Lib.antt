@@ -5,6 +5,7 @@ pub mod Sheet
 pub mod IsoText
 pub mod TextCall
 pub mod Expanded
+pub mod HalfEven
 -- The words of the theorems: no contract cites them.
 pub mod Shows
 pub mod GoodSheet
