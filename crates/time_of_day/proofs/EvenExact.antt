@@ -3,21 +3,21 @@
 use mathlib.Core.Path.{_≡_, refl, sym, ap, _∙_, subst}
 use mathlib.Core.Bool.{Bool, true, false, cond}
 use Prim.Native.Nat.{ℕ, _+_, _*_, _^_, _≤_, _<_}
-use native.Mathlib.Nat.{le-trans, le-of-eq, mul-comm, mul-assoc, mul-left-comm, mul-right-comm, add-mul, mul-le-mul-right}
+use native.Mathlib.Nat.{mul-assoc, mul-left-comm, mul-right-comm, add-mul, mul-le-mul-right}
 use native.Mathlib.Omega.{arith}
 use lib.Dec.{T, lit<, lit≤}
-use lib.IntN.{ℤ, pos}
-use lib.Ieee.{Float, binary64, ofBits, ofInt, round, mul, lt, eq, fits, toSigned}
+use lib.IntN.{pos}
+use lib.Ieee.{Float, binary64, ofBits, ofInt, round, mul, lt, eq, fits}
 use lib.Ieee.Exact.{HasValue}
 use borrow.Author.Tests.{eq-eqb, lt-ltb}
 use Rattle.floats.specs.Whole.{abs, nought, half, one}
 use Rattle.rounding.specs.Value.{Val, Rounds}
 use Rattle.rounding.proofs.Value.{mul-rounds, rounds-move, val-unscale, val-unique}
 use Rattle.rounding.proofs.Exact.{exact-has}
-use Rattle.rounding.proofs.Casts.{plusZ, minusZ, ofInt-val, trunc-val}
+use Rattle.rounding.proofs.Casts.{ofInt-val, trunc-val}
 use Rattle.rounding.proofs.Compare.{eq-val}
 use Rattle.time_of_day.specs.Milliseconds.{wholeLeap}
-use Rattle.time_of_day.specs.TimeShown.{fromZero, dayEnd, countBy}
+use Rattle.time_of_day.specs.TimeShown.{dayEnd, countBy}
 use Rattle.time_of_day.specs.ExactTime.{minus-one-f, leap1959, Leap, little, second, first, minus-second, DayLength, Close}
 use Rattle.time_of_day.specs.HalfEven.{two52-f, even, gridUnits, worth, wholeSeconds, inWhole, evenCount}
 use Rattle.time_of_day.specs.EvenPromise.{evenParts, evenMost}

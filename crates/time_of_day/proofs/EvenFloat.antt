@@ -4,11 +4,11 @@ use mathlib.Core.Path.{_≡_, refl, sym, ap, _∙_, subst}
 use mathlib.Core.Logic.{_⊎_, inl, inr}
 use mathlib.Core.Bool.{Bool, true, false, cond}
 use Prim.Native.Nat.{ℕ, suc, _+_, _*_, _/_, _%_, _^_, _≤_, _<_}
-use native.Mathlib.Nat.{le-trans, le-of-eq, lt-of-lt-of-le, mul-comm, mul-assoc, mul-left-comm, one-mul, add-mul, zero-mul, lt-of-mul-lt-mul-right, le-antisymm, div-add-mod', mod-lt, pow-suc}
+use native.Mathlib.Nat.{lt-of-lt-of-le, mul-comm, mul-assoc, mul-left-comm, one-mul, add-mul, zero-mul, lt-of-mul-lt-mul-right, div-add-mod', mod-lt, pow-suc}
 use native.Mathlib.Omega.{arith}
-use lib.Dec.{T, eqb, lit<, lit≤}
+use lib.Dec.{eqb, lit<, lit≤}
 use lib.IntN.{ℤ, pos, negsuc}
-use lib.Ieee.{Float, binary64, ofBits, ofInt, mul, eq, fits, toSigned}
+use lib.Ieee.{Float, binary64, ofBits, ofInt, mul, eq, toSigned}
 use lib.Ieee.Fits.{mul-fits}
 use lib.Ieee.Exact.{HasValue}
 use borrow.Author.Tests.{eq-eqb, ne-eqb, lt-ltb}
@@ -19,13 +19,12 @@ use Rattle.rounding.proofs.Own.{Rep, Own, own}
 use Rattle.rounding.proofs.Sterbenz.{rounds-rep}
 use Rattle.rounding.proofs.Casts.{plusZ, minusZ, one-side, ofInt-val, Cut, up-cut, down-cut, trunc-val}
 use Rattle.rounding.proofs.Compare.{eq-val}
-use Rattle.rounding.proofs.Range.{Between}
 use Rattle.rounding.proofs.Signed.{signed-lt}
 use Rattle.time_of_day.specs.Milliseconds.{thousand-f, secondsOf, millisOf}
 use Rattle.time_of_day.specs.TimeShown.{fromZero, countBy}
 use Rattle.time_of_day.specs.HalfEven.{two-f, nearestEven, even, worth, twice, halfMillis, ofHalves, floatCount}
 use Rattle.time_of_day.proofs.Rounded.{few, whole-has, cut-is}
-use Rattle.time_of_day.proofs.Fractions.{AsUnits, WithinOne, size-is}
+use Rattle.time_of_day.proofs.Fractions.{AsUnits, WithinOne}
 use Rattle.time_of_day.proofs.Count.{product-between}
 use Rattle.time_of_day.proofs.EvenSteps.{at-half, below-half, above-half, halves-even-number, halves-all, halves-more}
 use Rattle.time_of_day.proofs.EvenRule.{Side, below, at, above, side, even-nearest}

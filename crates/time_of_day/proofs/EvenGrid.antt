@@ -5,7 +5,7 @@ use Prim.Native.Nat.{ℕ, _+_, _*_, _^_, _≤_, _<_}
 use native.Mathlib.Nat.{lt-of-lt-of-le, mul-comm, mul-assoc, mul-one, one-mul, zero-mul}
 use lib.Pow.{pow-add}
 use native.Mathlib.Omega.{arith}
-use lib.Dec.{T, eqb, ltb, lit<, lit≤}
+use lib.Dec.{T, ltb, lit<, lit≤}
 use lib.IntN.{pos}
 use lib.Ieee.{Float, binary64, ofInt, mul, eq, fits}
 use borrow.Author.Tests.{ltb-true, eqb-true}
