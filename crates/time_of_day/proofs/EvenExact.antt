@@ -2,7 +2,7 @@
 -- shown is within 0.5 ms; on 1959-12-31 it is within 0.501 ms. Assumes nothing.
 use mathlib.Core.Path.{_≡_, refl, sym, ap, _∙_, subst}
 use mathlib.Core.Bool.{Bool, true, false, cond}
-use Prim.Native.Nat.{ℕ, _+_, _*_, _^_, _≤_, _<_}
+use Prim.Native.Nat.{ℕ, _+_, _*_, _/_, _%_, _^_, _≤_, _<_}
 use native.Mathlib.Nat.{mul-assoc, mul-left-comm, mul-right-comm, add-mul, mul-le-mul-right}
 use native.Mathlib.Omega.{arith}
 use lib.Dec.{T, lit<, lit≤}
@@ -26,7 +26,7 @@ use Rattle.time_of_day.proofs.Fractions.{in-units, fraction-of, within-
 use Rattle.time_of_day.proofs.Close.{close-501}
 use Rattle.time_of_day.proofs.Shows.{count-near}
 use Rattle.time_of_day.proofs.EvenSteps.{whole-test, count-in-whole, count-by-float}
-use Rattle.time_of_day.proofs.EvenRule.{even-nearest}
+use Rattle.time_of_day.proofs.EvenRule.{even-nearest, tie-even}
 use Rattle.time_of_day.proofs.EvenFloat.{to-count, by-float}
 
 -- ---- ON THE GRID the units are those of the fraction, and they are all of it
@@ -71,6 +71,10 @@ module _ (f : Float) (F : ℕ) (v : Val f F 0 4503599627370496) (h : F < 4503599
 
   pub in-whole-numbers : (l : Float) → wholeSeconds l ≡ true → evenCount f l ≡ even false (F * dayEnd l) 4503599627370496
   in-whole-numbers l t = sym (count-in-whole f l F (dayEnd l) (sym units-are) refl (decided l ∙ t))
+
+  -- a tie is even
+  pub tie-is-even : (l : Float) → wholeSeconds l ≡ true → 2 * (F * dayEnd l % 4503599627370496) ≡ 4503599627370496 → evenCount f l % 2 ≡ 0
+  tie-is-even l t e = ap (λ (z : ℕ). z % 2) (in-whole-numbers l t) ∙ tie-even (F * dayEnd l / 4503599627370496) (F * dayEnd l % 4503599627370496) 4503599627370496 e
 
 -- ---- a nearest whole number of F * M / 2 ^ 52, times E, is within 1 / 2 of the exact time of a day of M ms
 near-whole : (F M W E k : ℕ) → M * E ≡ 1000 * W → (2 * (k * 4503599627370496) ≤ 2 * (F * M) + 4503599627370496) × (2 * (F * M) ≤ 2 * (k * 4503599627370496) + 4503599627370496)
