@@ -9,6 +9,7 @@ use lib.IntN.{ℤ, pos, negsuc}
 use lib.Ieee.{Float, binary64, mul}
 use Rattle.rounding.specs.Value.{Val, L}
 use Rattle.rounding.proofs.Casts.{plusZ, minusZ, one-side}
+use Rattle.rounding.proofs.Range.{Between}
 use Rattle.time_of_day.specs.Milliseconds.{thousand-f, secondsOf, millisOf}
 use Rattle.time_of_day.specs.Nearest.{Nearest}
 use Rattle.time_of_day.specs.ExactTime.{Close}
@@ -56,11 +57,17 @@ module _ (F B C E p n k : ℕ) (G : 0 < E) (hf : F < L) (hb : B ≤ C + E) (hc :
   E-pos : 0 < E * U
   E-pos = mul-pos G U-pos
 
-  pub high : p < n + 4503599627370496 * L
-  high = lt-of-mul-lt-mul-right E (lt-of-lt-of-le (lt-of-le-of-lt (le-of-eq (mul-comm p E)) (go (E * p) (E * n) (E * F) (F * B) (F * C) (E * U) (E * L) over ef fb E-small E-pos)) (le-of-eq (sym (add-mul n (4503599627370496 * L) E ∙ ap (λ (z : ℕ). z + 4503599627370496 * L * E) (mul-comm n E) ∙ ap (λ (z : ℕ). E * n + z) (mul-assoc 4503599627370496 L E ∙ ap (λ (z : ℕ). 4503599627370496 * z) (mul-comm L E))))))
+  pub high-51 : p < n + 2251799813685248 * L
+  high-51 = lt-of-mul-lt-mul-right E (lt-of-lt-of-le (lt-of-le-of-lt (le-of-eq (mul-comm p E)) (go (E * p) (E * n) (E * F) (F * B) (F * C) (E * U) (E * L) over ef fb E-small E-pos)) (le-of-eq (sym (add-mul n (2251799813685248 * L) E ∙ ap (λ (z : ℕ). z + 2251799813685248 * L * E) (mul-comm n E) ∙ ap (λ (z : ℕ). E * n + z) (mul-assoc 2251799813685248 L E ∙ ap (λ (z : ℕ). 2251799813685248 * z) (mul-comm L E))))))
     where
-      go : (p n f b c u l : ℕ) → p + 1000 * c ≤ n + 86400000 * f + 1000 * b + 305445864 * u → f ≤ l → b ≤ c + l → 1000000000 * u ≤ l → 0 < u → p < n + 4503599627370496 * l
+      go : (p n f b c u l : ℕ) → p + 1000 * c ≤ n + 86400000 * f + 1000 * b + 305445864 * u → f ≤ l → b ≤ c + l → 1000000000 * u ≤ l → 0 < u → p < n + 2251799813685248 * l
       go p n f b c u l a d h e g = omega arith
+
+  pub high : p < n + 4503599627370496 * L
+  high = go p n L high-51
+    where
+      go : (p n l : ℕ) → p < n + 2251799813685248 * l → p < n + 4503599627370496 * l
+      go p n l h = omega arith
 
   pub low : n ≤ p + 305445864 * U
   low = le-of-mul-le-mul-right {k = E} (le-trans (le-of-eq (mul-comm n E)) (le-trans (go (E * p) (E * n) (E * F) (F * B) (F * C) (E * U) under fc) (le-of-eq (sym (add-mul p (305445864 * U) E ∙ ap (λ (z : ℕ). z + 305445864 * U * E) (mul-comm p E) ∙ ap (λ (z : ℕ). E * p + z) (mul-assoc 305445864 U E ∙ ap (λ (z : ℕ). 305445864 * z) (mul-comm U E))))))) G
@@ -68,11 +75,17 @@ module _ (F B C E p n k : ℕ) (G : 0 < E) (hf : F < L) (hb : B ≤ C + E) (hc :
       go : (p n f b c u : ℕ) → n + 86400000 * f + 1000 * b ≤ p + 1000 * c + 305445864 * u → c ≤ b + f → n ≤ p + 305445864 * u
       go p n f b c u a d = omega arith
 
-  pub low' : n < p + 4503599627370496 * L
-  low' = go p n U L low u-small U-pos
+  pub low-51 : n < p + 2251799813685248 * L
+  low-51 = go p n U L low u-small U-pos
     where
-      go : (p n u l : ℕ) → n ≤ p + 305445864 * u → 1000000000 * u ≤ l → 0 < u → n < p + 4503599627370496 * l
+      go : (p n u l : ℕ) → n ≤ p + 305445864 * u → 1000000000 * u ≤ l → 0 < u → n < p + 2251799813685248 * l
       go p n u l a e g = omega arith
+
+  pub low' : n < p + 4503599627370496 * L
+  low' = go p n L low-51
+    where
+      go : (p n l : ℕ) → n < p + 2251799813685248 * l → n < p + 4503599627370496 * l
+      go p n l h = omega arith
 
   module _ (w-over : 2 * (k * L + n) ≤ 2 * (0 * L + p) + L) (w-under : 2 * (0 * L + p) ≤ 2 * (k * L + n) + L) (W : ℕ) (long : W + C ≡ 86400 * E + B) where
     nought : (p : ℕ) → 0 * L + p ≡ p
@@ -142,3 +155,20 @@ module _ (how : Bool → ℕ → ℕ → ℕ) (rule : Nearest how) (f l : Float)
   counted =
       let a = as-fraction l h in
       record { k = plusZ (millisOf how f l); is = pos-of (millisOf how f l) (none (a .B) (a .C) (a .E) (a .some) (a .val)); close = λ B C E W G v long. close-at B C E G v W long }
+
+-- ---- the product itself is below 2 ^ 51 in size
+pub product-between : (f l : Float) (u : AsUnits f) → WithinOne l → Between (mul binary64 thousand-f (secondsOf f l)) 51
+product-between f l u h =
+    let a = as-fraction l h in
+    let B = a .B in
+    let C = a .C in
+    let E = a .E in
+    let G = a .some in
+    let c = chained (u .F) B C E f l (u .val) (a .val) G (u .most) (at-most G (a .val) h) (at-least G (a .val) h) in
+    record {
+      p = c .p;
+      n = c .n;
+      val = c .val;
+      high = high-51 (u .F) B C E (c .p) (c .n) 0 G (u .most) (at-most G (a .val) h) (at-least G (a .val) h) (c .over) (c .under);
+      low = low-51 (u .F) B C E (c .p) (c .n) 0 G (u .most) (at-most G (a .val) h) (at-least G (a .val) h) (c .over) (c .under);
+    }

@@ -36,18 +36,18 @@ pub part-most : (x y : ℕ) → x < 67108864 → x * y ≤ 67108863 * y
 part-most x y h = mul-le-mul-right y (omega arith)
 
 -- ---- what the tests say
-module _ (whole r : ℕ) where
-  pub at-half : 2 * r ≡ 4503599627370496 → whole + whole % 2 ≡ nearestEven whole r 4503599627370496
+module _ (whole r d : ℕ) where
+  pub at-half : 2 * r ≡ d → whole + whole % 2 ≡ nearestEven whole r d
   unfolding nearestEven
   at-half e = simp (eq-eqb _ _ e)
 
-  pub below-half : 2 * r < 4503599627370496 → whole ≡ nearestEven whole r 4503599627370496
+  pub below-half : 2 * r < d → whole ≡ nearestEven whole r d
   unfolding nearestEven
-  below-half h = simp (ne-eqb (2 * r) 4503599627370496 (λ e. omega arith), lt-ltb _ _ h)
+  below-half h = simp (ne-eqb (2 * r) d (λ e. omega arith), lt-ltb _ _ h)
 
-  pub above-half : 4503599627370496 < 2 * r → whole + 1 ≡ nearestEven whole r 4503599627370496
+  pub above-half : d < 2 * r → whole + 1 ≡ nearestEven whole r d
   unfolding nearestEven
-  above-half h = simp (ne-eqb (2 * r) 4503599627370496 (λ e. omega arith), le-ltb (2 * r) 4503599627370496 (omega arith))
+  above-half h = simp (ne-eqb (2 * r) d (λ e. omega arith), le-ltb (2 * r) d (omega arith))
 
 module _ (j : ℕ) (all : Bool) where
   pub halves-even-number : j % 2 ≡ 0 → j / 2 ≡ ofHalves j all

@@ -9,4 +9,9 @@ pub mod Close
 pub mod Shows
 pub mod EvenSteps
 pub mod ByCount
+pub mod EvenRule
+pub mod EvenFloat
+pub mod EvenExact
+pub mod EvenGrid
+pub mod EvenCases
 pub mod Cases

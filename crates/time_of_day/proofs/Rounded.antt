@@ -40,7 +40,7 @@ nearer-same n d g c h k e = div-same (2 * n + d) (2 * d) (2 * g + c) (2 * c) (mu
 pub away-nearest : Nearest away
 away-nearest = record { near = λ s g d h. near-div g d h; same = λ s n d g c h k e. nearer-same n d g c h k e }
 
-cut-is : (p n : ℕ) (z : ℤ) → Cut p n 1 z → plusZ z + n ≡ minusZ z + p
+pub cut-is : (p n : ℕ) (z : ℤ) → Cut p n 1 z → plusZ z + n ≡ minusZ z + p
 cut-is p n z (up-cut a b c) = omega arith
 cut-is p n z (down-cut a b c) = omega arith
 
@@ -60,13 +60,13 @@ above-63 k = omega arith
 
 module _ (how : Bool → ℕ → ℕ → ℕ) (rule : Nearest how) where
   -- at most 2 ^ 52
-  few : (s : Bool) (g : ℕ) → g < 4503599627370496 * L → how s g L < 4503599627370497
+  pub few : (s : Bool) (g : ℕ) → g < 4503599627370496 * L → how s g L < 4503599627370497
   few s g h = lt-of-mul-lt-mul-right L (go (how s g L * L) L g (rule .near s g L L-pos .0) h)
     where
       go : (k l g : ℕ) → 2 * k ≤ 2 * g + l → g < 4503599627370496 * l → k < 4503599627370497 * l
       go k l g a b = omega arith
 
-  whole-has : (g : ℕ) → g < 4503599627370496 * L → (x : Float) (s : Bool) → HasValue x s g L → HasValue (toWhole how x) s (how s g L) 1
+  pub whole-has : (g : ℕ) → g < 4503599627370496 * L → (x : Float) (s : Bool) → HasValue x s g L → HasValue (toWhole how x) s (how s g L) 1
   unfolding toWhole
   whole-has g l nan s h = h
   whole-has g l (inf t) s h = h

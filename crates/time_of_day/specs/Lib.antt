@@ -5,3 +5,4 @@ pub mod HalfEven
 -- The words of the theorems, which speak of the exact time: no contract cites them.
 pub mod Nearest
 pub mod ExactTime
+pub mod EvenPromise

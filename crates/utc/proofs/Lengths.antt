@@ -57,7 +57,7 @@ module _ (sheet : Sheet) (P : List ℕ → Type 0) (each : (d : CalendarDate) (u
       subst Q (sym q) (f t (every-text t p))
 
 -- ---- document 01's
-abbrev Length01 : ℕ → Type 0
+abbrev pub Length01 : ℕ → Type 0
 Length01 n = (23 ≤ n) × (n ≤ 26)
 
 pub text-length : (rows : List Row) (jd : JulianDate) (t : List ℕ) → isoText rows jd ≡ answer t → (23 ≤ length t) × (length t ≤ 26)

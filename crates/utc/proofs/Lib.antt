@@ -20,3 +20,4 @@ pub mod OneText
 pub mod Ends
 pub mod Lengths
 pub mod ExpandedTexts
+pub mod HalfEvenTexts

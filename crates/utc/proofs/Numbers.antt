@@ -83,6 +83,22 @@ not-finite-by sheet rows jd e = go (accepted (jd .jd1) (jd .jd2)) refl
     go true h = let (s, t) = accepted-finite (jd .jd1) (jd .jd2) h in absurd (both (finite (jd .jd1)) (finite (jd .jd2)) s t e)
     go false h = fields-refused-by sheet rows jd 6 (rw (refused (jd .jd1) (jd .jd2) h))
 
+-- ---- every sheet refuses alike
+pub refused-alike : (sheet other : Sheet) (rows : List Row) (jd : JulianDate) (k : ℕ) → isoTextBy sheet rows jd ≡ refusal k → isoTextBy other rows jd ≡ refusal k
+refused-alike sheet other rows jd k e = go (julianToCalendar (jd .jd1) (jd .jd2)) refl
+  where
+    both : (n : ℕ) → isoTextBy sheet rows jd ≡ refusal n → isoTextBy other rows jd ≡ refusal n → isoTextBy other rows jd ≡ refusal k
+    both n p q = subst (λ (j : ℕ). isoTextBy other rows jd ≡ refusal j) (one-number (isoTextBy sheet rows jd) n k p e) q
+
+    go : (o : Outcome CalendarFields) → julianToCalendar (jd .jd1) (jd .jd2) ≡ o → isoTextBy other rows jd ≡ refusal k
+    go (refusal n) p = both n (fields-refused-by sheet rows jd n p) (fields-refused-by other rows jd n p)
+    go (answer c) p = by-date (date-refusal (jd .jd1) (jd .jd2) c p)
+      where
+        by-date : (validOf (c .date) ≡ answer tt) ⊎ (validOf (c .date) ≡ refusal 1) → isoTextBy other rows jd ≡ refusal k
+        by-date (inl v) =
+            absurd (not-both (isoTextBy sheet rows jd) _ k (fields-given-by sheet rows jd c p ∙ has-text-by rows (c .date) v (date-in-range (jd .jd1) (jd .jd2) c p .year-high) sheet (c .fraction)) e)
+        by-date (inr v) = both 1 (fields-given-by sheet rows jd c p ∙ text-refused-by rows (c .date) sheet (c .fraction) 1 v) (fields-given-by other rows jd c p ∙ text-refused-by rows (c .date) other (c .fraction) 1 v)
+
 -- ---- of document 01's
 pub text-numbers : (rows : List Row) (jd : JulianDate) (k : ℕ) → isoText rows jd ≡ refusal k → (k ≡ 6) ⊎ (k ≡ 1)
 text-numbers = text-numbers-by sheet01

@@ -35,7 +35,7 @@ near-501 how rule F h x s W E G d =
     (count-near how rule (fractionOf F) x (fraction-fits F) (fraction-of (fractionOf F) F (2 ^ 52) (lit< tt) v h) s F (2 ^ 52) W E G v d)
 
 -- ---- document 01's
-form01 : (d : CalendarDate) (u : TimeOfDay) → Writable d u → Form01 (utcText d u)
+pub form01 : (d : CalendarDate) (u : TimeOfDay) → Writable d u → Form01 (utcText d u)
 form01 d u w = record { form = well-formed d u; year-filled = year-filled-to-four d u w; shortest = text-length d u .0; longest = text-length d u .1 }
 
 pub good01 : GoodSheet sheet01 promise01

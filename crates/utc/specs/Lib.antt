@@ -6,6 +6,7 @@ pub mod IsoText
 pub mod TextCall
 pub mod Expanded
 pub mod ByRule
+pub mod HalfEven
 -- The words of the theorems: no contract cites them.
 pub mod Shows
 pub mod GoodSheet

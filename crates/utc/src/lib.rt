@@ -1,8 +1,11 @@
 // UTC from Unix time and from the calendar, and UTC text into a lent buffer: scales/utc/mod.rs.
 mod expanded;
+mod half_even;
 
 pub use expanded::to_iso8601_expanded;
 pub use expanded::to_iso8601_expanded_by_rows;
+pub use half_even::to_iso8601_half_even;
+pub use half_even::to_iso8601_half_even_by_rows;
 ghost use mathlib.Core.Path.{_≡_};
 ghost use Prim.Native.Nat.{_<_, _≤_};
 ghost use Rattle.scales.specs.Scales.{utcOutcome};

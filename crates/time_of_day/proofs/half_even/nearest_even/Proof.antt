@@ -9,16 +9,16 @@ add-result : tie.Need-add-result
 add-result c = search needs
 
 returns : tie.Need-returns
-returns c = at-half (c .before .args .whole) (c .before .args .rest) (omega (arith, c .if1 .taken))
+returns c = at-half (c .before .args .whole) (c .before .args .rest) 4503599627370496 (omega (arith, c .if1 .taken))
 
 add-result-2 : tie.Need-add-result-2
 add-result-2 c = search needs
 
 returns-2 : tie.Need-returns-2
-returns-2 c = below-half (c .before .before .args .whole) (c .before .before .args .rest) (omega (arith, c .if2 .taken))
+returns-2 c = below-half (c .before .before .args .whole) (c .before .before .args .rest) 4503599627370496 (omega (arith, c .if2 .taken))
 
 returns-3 : tie.Need-returns-3
-returns-3 c = above-half (c .before .before .args .whole) (c .before .before .args .rest) (omega (arith, c .if2 .left, c .before .if1 .left))
+returns-3 c = above-half (c .before .before .args .whole) (c .before .before .args .rest) 4503599627370496 (omega (arith, c .if2 .left, c .before .if1 .left))
 
 pub nearest-even-spec : {M : Type 1} → statement M
 nearest-even-spec = tie.close (tie.spec add-result returns add-result-2 returns-2 returns-3)
