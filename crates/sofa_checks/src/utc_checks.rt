@@ -19,14 +19,26 @@ fn taiutc(t: Tally) -> Tally {
 fn utcut1(t: Tally) -> Tally {
     let mut out = [0u8; 16];
     let table = [0u8; 136];
-    let code = capi::utc_calls::ct_utc_to_ut1_with_dut1(2453750.5, 0.892100694, 0.3341, &table, &mut out);
+    let code = capi::utc_calls::ct_utc_to_ut1_with_dut1(
+        2453750.5,
+        0.892100694,
+        0.3341,
+        &table,
+        &mut out,
+    );
     tally::near_date(t, code, &out, 2453750.5, 1e-6, 0.8921045608981481481, 1e-12)
 }
 
 fn ut1utc(t: Tally) -> Tally {
     let mut out = [0u8; 16];
     let table = [0u8; 136];
-    let code = capi::utc_calls::ct_ut1_to_utc_with_dut1(2453750.5, 0.892104561, 0.3341, &table, &mut out);
+    let code = capi::utc_calls::ct_ut1_to_utc_with_dut1(
+        2453750.5,
+        0.892104561,
+        0.3341,
+        &table,
+        &mut out,
+    );
     tally::near_date(t, code, &out, 2453750.5, 1e-6, 0.8921006941018518519, 1e-12)
 }
 
@@ -34,7 +46,16 @@ fn ut1utc(t: Tally) -> Tally {
 fn dtf2d(t: Tally) -> Tally {
     let mut out = [0u8; 16];
     let table = [0u8; 136];
-    let code = capi::utc_calls::ct_utc_from_calendar(1994, 6, 30, 23, 59, 60.13599, &table, &mut out);
+    let code = capi::utc_calls::ct_utc_from_calendar(
+        1994,
+        6,
+        30,
+        23,
+        59,
+        60.13599,
+        &table,
+        &mut out,
+    );
     let status = tally::counted(t, code == 16);
     let sum = tally::float_at(&out, 0) + tally::float_at(&out, 8);
     tally::near(status, sum, 2449534.49999, 1e-6)
