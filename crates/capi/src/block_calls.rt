@@ -1,6 +1,7 @@
 // The stamp block: how many stamps it has, and its listing in parts.
 ghost use mathlib.Core.Path.{_≡_};
 ghost use lib.ListN.{length};
+ghost use Rattle.tai_utc.specs.Table.{fixed};
 ghost use Rattle.stamps.specs.Block.{blockOf};
 ghost use Rattle.c_answers.specs.Delivery.{code, Delivered};
 ghost use Rattle.capi.specs.ListingPart.{listingPart};
@@ -19,12 +20,12 @@ pub extern "C" fn ct_block_stamps(block: &[u8]) -> i64
 
 #[no_mangle]
 pub extern "C" fn ct_listing_part(block: &[u8], line: u32, out: &mut [u8]) -> i64
-    ensures { λ r. ⌜ Delivered (listingPart (now (block .entry)) line (length (now (out .entry)))) (now (out .entry)) r (now (out .exit)) ⌝ }
+    ensures { λ r. ⌜ Delivered (listingPart fixed (now (block .entry)) line (length (now (out .entry)))) (now (out .entry)) r (now (out .exit)) ⌝ }
 {
     if out.len() < 33 {
         return refused(refusals::TEXT_LONGER_THAN_BUFFER);
     }
-    let part = stamps::next_part(block, line as usize, out);
+    let part = stamps::next_part_by_rows(block, line as usize, tai_utc::no_rows(), out);
     let n = part.written;
     n as i64
 }

@@ -5,12 +5,13 @@ use Prim.Native.Nat.{ℕ, suc, _+_, _≤_, _<_}
 use mathlib.Core.List.{List, [], _++_}
 use lib.ListN.{length, take}
 use lib.IntN.{pos}
+use Rattle.tai_utc.specs.Table.{Row}
 use Rattle.listing_laws.specs.LineEnds.{lineEnds}
 use Rattle.c_answers.specs.Delivery.{Delivered}
 use Rattle.capi.specs.ListingPart.{listingPart}
 
--- after so many calls that each returned bytes, of a block s and with buffers of 33 bytes or more: the line to ask for next, and what was written
-pub data Listed (s : List ℕ) : ℕ → ℕ → List ℕ → Type 0 where
-  begun : Listed s 0 0 []
-  next : {calls line n : ℕ} {text before after : List ℕ} → Listed s calls line text → 33 ≤ length before → 0 < n
-      → Delivered (listingPart s line (length before)) before (pos n) after → Listed s (suc calls) (line + lineEnds (take n after)) (text ++ take n after)
+-- after so many calls that each returned bytes, of a block s, by one table's rows and with buffers of 33 bytes or more: the line to ask for next, and what was written
+pub data Listed (rows : List Row) (s : List ℕ) : ℕ → ℕ → List ℕ → Type 0 where
+  begun : Listed rows s 0 0 []
+  next : {calls line n : ℕ} {text before after : List ℕ} → Listed rows s calls line text → 33 ≤ length before → 0 < n
+      → Delivered (listingPart rows s line (length before)) before (pos n) after → Listed rows s (suc calls) (line + lineEnds (take n after)) (text ++ take n after)

@@ -2,3 +2,4 @@
 pub mod Whole
 pub mod LineEnds
 pub mod NotFinite
+pub mod Tables

@@ -1,5 +1,5 @@
 -- A line of a listing has one line end; so a part has as many line ends as lines, and a caller that counts them knows the next line. Assumes nothing.
-use Prim.Native.Nat.{ℕ, zero, suc, _+_, _-_, _%_, _<_, _≤_}
+use Prim.Native.Nat.{ℕ, zero, suc, _+_, _-_, _/_, _%_, _<_, _≤_}
 use native.Mathlib.Omega.{arith}
 use native.Mathlib.Nat.{add-assoc, zero-add}
 use mathlib.Core.Path.{_≡_, refl, sym, ap, _∙_}
@@ -10,6 +10,7 @@ use lib.Dec.{ltb, eqb}
 use lib.IntN.{ℤ, pos, negsuc}
 use borrow.Author.Tests.{ne-eqb}
 use Rattle.refusals.specs.Outcome.{Outcome, answer, refusal, onward}
+use Rattle.digits.specs.Decimal.{digitsIn}
 use Rattle.floats.specs.Whole.{away}
 use Rattle.calendar.specs.declared.CalendarDate.{CalendarDate}
 use Rattle.julian.specs.declared.JulianDate.{JulianDate}
@@ -21,8 +22,7 @@ use Rattle.time_of_day.specs.TimeShown.{shownOf}
 use Rattle.utc_text.specs.Text.{last, two, three, four, five, six, seven, yearText, afterYear, utcText}
 use Rattle.utc.specs.IsoText.{midnight, nextMidnightText, shownText, dayTextBy, isoTextBy, isoText}
 use Rattle.stamps.specs.Block.{blockOf}
-use Rattle.stamps.specs.Decimal.{decimal}
-use Rattle.stamps.specs.Listing.{refusedWord, utcListingWords, blockRefusedWords, textAt, shown, stampLine, refusedIn, header, blockRefused}
+use Rattle.stamps.specs.Listing.{numeral, refusedWord, utcListingWords, blockRefusedWords, textAt, shown, stampLine, refusedIn, header, blockRefused}
 use Rattle.stamps.specs.Parts.{lineOf, linesIn, linesFrom, partLines, partText}
 use Rattle.listing_laws.specs.LineEnds.{lineEnds}
 use Rattle.stamps.proofs.Parts.{held-some}
@@ -45,16 +45,14 @@ ends-most (c ∷ l) = omega (arith, one-most (eqb c 10), ends-most l)
 digit : (n : ℕ) → eqb (48 + n % 10) 10 ≡ false
 digit n = ne-eqb (48 + n % 10) 10 (λ e. (let no : ⊥ = omega arith in no))
 
-decimal-by : (n : ℕ) (a b c : Bool) → lineEnds (cond a (last n ∷ []) (cond b (two n) (cond c (three n) (four n)))) ≡ 0
-unfolding lineEnds
-decimal-by n true b c = simp digit
-decimal-by n false true c = simp digit
-decimal-by n false false true = simp digit
-decimal-by n false false false = simp digit
-
-decimal-none : (n : ℕ) → lineEnds (decimal n) ≡ 0
-unfolding decimal
-decimal-none n = decimal-by n (ltb n 10) (ltb n 100) (ltb n 1000)
+digits-none : (k n : ℕ) → lineEnds (digitsIn k n) ≡ 0
+unfolding digitsIn lineEnds
+digits-none zero n = refl
+digits-none (suc k) n = by (ltb n 10) (digits-none k (n / 10))
+  where
+    by : (b : Bool) → lineEnds (digitsIn k (n / 10)) ≡ 0 → lineEnds (cond b (last n ∷ []) (digitsIn k (n / 10) ++ (last n ∷ []))) ≡ 0
+    by true h = simp digit
+    by false h = ends-append (digitsIn k (n / 10)) (last n ∷ []) ∙ simp (h, digit)
 
 plus-by : (n : ℕ) (a b c : Bool) → lineEnds (cond a (four n) (cond b (five n) (cond c (six n) (seven n)))) ≡ 0
 unfolding lineEnds
@@ -82,9 +80,9 @@ unfolding utcText
 text-none d t = let e = ends-append (yearText (d .year)) (afterYear d t) in omega (arith, year-none (d .year), after-none d t)
 
 -- ---- nor has what is shown of a stamp
-refused-none : (k : ℕ) → lineEnds (refusedWord ++ decimal k) ≡ 0
+refused-none : (k : ℕ) → lineEnds (refusedWord ++ numeral k) ≡ 0
 unfolding lineEnds
-refused-none k = simp decimal-none
+refused-none k = simp (digits-none 4)
 
 shown-onward : {A : Type 0} (o : Outcome A) (f : A → Outcome (List ℕ)) → ((a : A) → lineEnds (shown (f a)) ≡ 0) → lineEnds (shown (onward o f)) ≡ 0
 unfolding onward shown
@@ -113,41 +111,41 @@ words : (lineEnds utcListingWords ≡ 0) × (lineEnds (32 ∷ refusedWord) ≡ 0
 unfolding lineEnds
 words = (refl, refl, refl)
 
-stamp-one : (s : List ℕ) (n i : ℕ) → lineEnds (stampLine s n i) ≡ 1
+stamp-one : (rows : List Row) (s : List ℕ) (n i : ℕ) → lineEnds (stampLine rows s n i) ≡ 1
 unfolding stampLine textAt
-stamp-one s n i = simp (ends-append, decimal-none, shown-none, blank, end)
+stamp-one rows s n i = simp (ends-append, digits-none 4, shown-none, blank, end)
 
 header-one : (n k : ℕ) → lineEnds (header n k) ≡ 1
 unfolding header
-header-one n k = simp (ends-append, decimal-none, words .0, words .1, end)
+header-one n k = simp (ends-append, digits-none 4, words .0, words .1, end)
 
 refused-one : (k : ℕ) → lineEnds (blockRefused k) ≡ 1
 unfolding blockRefused
-refused-one k = simp (ends-append, decimal-none, words .2, end)
+refused-one k = simp (ends-append, digits-none 4, words .2, end)
 
-line-one : (o : Outcome ℕ) (s : List ℕ) (line : ℕ) → lineEnds (lineOf o s line) ≡ 1
+line-one : (rows : List Row) (o : Outcome ℕ) (s : List ℕ) (line : ℕ) → lineEnds (lineOf rows o s line) ≡ 1
 unfolding lineOf
-line-one (refusal k) s line = refused-one k
-line-one (answer n) s line = by (eqb line 0)
+line-one rows (refusal k) s line = refused-one k
+line-one rows (answer n) s line = by (eqb line 0)
   where
-    by : (b : Bool) → lineEnds (cond b (header n (refusedIn s n n)) (stampLine s n (line - 1))) ≡ 1
-    by true = header-one n (refusedIn s n n)
-    by false = stamp-one s n (line - 1)
+    by : (b : Bool) → lineEnds (cond b (header n (refusedIn rows s n n)) (stampLine rows s n (line - 1))) ≡ 1
+    by true = header-one n (refusedIn rows s n n)
+    by false = stamp-one rows s n (line - 1)
 
-lines-ends : (s : List ℕ) (line k : ℕ) → lineEnds (linesFrom s line k) ≡ k
+lines-ends : (rows : List Row) (s : List ℕ) (line k : ℕ) → lineEnds (linesFrom rows s line k) ≡ k
 unfolding linesFrom lineEnds
-lines-ends s line zero = refl
-lines-ends s line (suc k) =
-    let e = ends-append (linesFrom s line k) (lineOf (blockOf s) s (line + k)) in
-    omega (arith, lines-ends s line k, line-one (blockOf s) s (line + k))
+lines-ends rows s line zero = refl
+lines-ends rows s line (suc k) =
+    let e = ends-append (linesFrom rows s line k) (lineOf rows (blockOf s) s (line + k)) in
+    omega (arith, lines-ends rows s line k, line-one rows (blockOf s) s (line + k))
 
 -- ---- what a caller learns of a part by its bytes alone
 -- the line ends of a part are its lines
-pub part-ends : (s : List ℕ) (line room : ℕ) → lineEnds (partText s line room) ≡ partLines s line room
+pub part-ends : (rows : List Row) (s : List ℕ) (line room : ℕ) → lineEnds (partText rows s line room) ≡ partLines rows s line room
 unfolding partText
-part-ends s line room = lines-ends s line (partLines s line room)
+part-ends rows s line room = lines-ends rows s line (partLines rows s line room)
 
 -- where a line is left, 33 bytes hold one
-pub part-some : (s : List ℕ) (line room : ℕ) → line < linesIn (blockOf s) → 33 ≤ room → 1 ≤ partLines s line room
+pub part-some : (rows : List Row) (s : List ℕ) (line room : ℕ) → line < linesIn (blockOf s) → 33 ≤ room → 1 ≤ partLines rows s line room
 unfolding partLines
-part-some s line room h enough = held-some s line room (linesIn (blockOf s) - line) enough (omega arith)
+part-some rows s line room h enough = held-some rows s line room (linesIn (blockOf s) - line) enough (omega arith)

@@ -11,14 +11,14 @@ use lib.Ieee.{nan, inf, binary64, odd, ofFields, ofBits}
 use lib.Ieee.Scale.{finite}
 use borrow.Author.Tests.{eqb-true, eq-eqb}
 use Rattle.refusals.specs.Outcome.{Outcome, answer, refusal}
+use Rattle.digits.specs.Decimal.{digitsIn}
 use Rattle.floats.proofs.Fields.{expo, ofBits-is}
 use Rattle.calendar.proofs.NextDates.{first-false}
-use Rattle.tai_utc.specs.Table.{fixed}
+use Rattle.tai_utc.specs.Table.{Row}
 use Rattle.utc.proofs.Numbers.{not-both, not-finite}
 use Rattle.stamps.specs.Block.{blockOf, jd1Bits, jd2Bits, stampAt}
-use Rattle.stamps.specs.Decimal.{decimal}
 use Rattle.listing_laws.specs.NotFinite.{exponentField, NotFinite, isNotFinite, notFiniteIn, HasText}
-use Rattle.stamps.specs.Listing.{refusedWord, textAt, shown, stampLine, stampLines, oneIfRefused, refusedIn, header, listingOf, listing}
+use Rattle.stamps.specs.Listing.{numeral, refusedWord, textAt, shown, stampLine, stampLines, oneIfRefused, refusedIn, header, listingOf, listing}
 
 -- ---- the values that are not finite are those whose exponent field is all ones
 odd-finite : (d : ℕ) (s : Bool) (q k l : ℕ) → finite (odd d s q k l) ≡ true
@@ -47,28 +47,28 @@ no-second true b e = e
 no-second false b e = refl
 
 -- ---- A STAMP THAT IS NOT FINITE is refused with 6, its line says so, and it counts as one
-pub not-finite-refused : (s : List ℕ) (n i : ℕ) → NotFinite s n i → textAt s n i ≡ refusal 6
+pub not-finite-refused : (rows : List Row) (s : List ℕ) (n i : ℕ) → NotFinite s n i → textAt rows s n i ≡ refusal 6
 unfolding textAt stampAt
-not-finite-refused s n i d = not-finite fixed (stampAt s n i) (by d)
+not-finite-refused rows s n i d = not-finite rows (stampAt s n i) (by d)
   where
     by : NotFinite s n i → finite (stampAt s n i .jd1) && finite (stampAt s n i .jd2) ≡ false
     by (inl e) = first-false (finite (stampAt s n i .jd1)) (finite (stampAt s n i .jd2)) (field-not-finite (jd1Bits s i) e)
     by (inr e) = no-second (finite (stampAt s n i .jd1)) (finite (stampAt s n i .jd2)) (field-not-finite (jd2Bits s n i) e)
 
-six : decimal 6 ≡ 54 ∷ []
-unfolding decimal
+six : numeral 6 ≡ 54 ∷ []
+unfolding digitsIn
 six = refl
 
 -- `i refused 6`
-pub not-finite-line : (s : List ℕ) (n i : ℕ) → NotFinite s n i → stampLine s n i ≡ ((decimal i ++ (32 ∷ [])) ++ (refusedWord ++ (54 ∷ []))) ++ (10 ∷ [])
+pub not-finite-line : (rows : List Row) (s : List ℕ) (n i : ℕ) → NotFinite s n i → stampLine rows s n i ≡ ((numeral i ++ (32 ∷ [])) ++ (refusedWord ++ (54 ∷ []))) ++ (10 ∷ [])
 unfolding stampLine shown
-not-finite-line s n i d =
-    ap (λ (o : Outcome (List ℕ)). ((decimal i ++ (32 ∷ [])) ++ shown o) ++ (10 ∷ [])) (not-finite-refused s n i d)
-    ∙ ap (λ (t : List ℕ). ((decimal i ++ (32 ∷ [])) ++ (refusedWord ++ t)) ++ (10 ∷ [])) six
+not-finite-line rows s n i d =
+    ap (λ (o : Outcome (List ℕ)). ((numeral i ++ (32 ∷ [])) ++ shown o) ++ (10 ∷ [])) (not-finite-refused rows s n i d)
+    ∙ ap (λ (t : List ℕ). ((numeral i ++ (32 ∷ [])) ++ (refusedWord ++ t)) ++ (10 ∷ [])) six
 
-pub not-finite-one : (s : List ℕ) (n i : ℕ) → NotFinite s n i → oneIfRefused (textAt s n i) ≡ 1
+pub not-finite-one : (rows : List Row) (s : List ℕ) (n i : ℕ) → NotFinite s n i → oneIfRefused (textAt rows s n i) ≡ 1
 unfolding oneIfRefused
-not-finite-one s n i d = ap oneIfRefused (not-finite-refused s n i d)
+not-finite-one rows s n i d = ap oneIfRefused (not-finite-refused rows s n i d)
 
 -- ---- the test says which stamps are not finite
 pub not-finite-tested : (s : List ℕ) (n i : ℕ) → NotFinite s n i → isNotFinite s n i ≡ true
@@ -89,31 +89,31 @@ tested-not-finite s n i = by (eqb (exponentField (jd1Bits s i)) 2047) refl
     by false p e = inr (eqb-true _ _ e)
 
 -- ---- THE COUNT of a block's header is at least the number of its stamps that are not finite
-pub not-finite-counted : (s : List ℕ) (n k : ℕ) → notFiniteIn s n k ≤ refusedIn s n k
+pub not-finite-counted : (rows : List Row) (s : List ℕ) (n k : ℕ) → notFiniteIn s n k ≤ refusedIn rows s n k
 unfolding notFiniteIn refusedIn
-not-finite-counted s n zero = omega arith
-not-finite-counted s n (suc k) = let before = not-finite-counted s n k in let one = by (isNotFinite s n k) refl in omega arith
+not-finite-counted rows s n zero = omega arith
+not-finite-counted rows s n (suc k) = let before = not-finite-counted rows s n k in let one = by (isNotFinite s n k) refl in omega arith
   where
-    by : (b : Bool) → isNotFinite s n k ≡ b → cond b 1 0 ≤ oneIfRefused (textAt s n k)
-    by true e = omega (arith, not-finite-one s n k (tested-not-finite s n k e))
+    by : (b : Bool) → isNotFinite s n k ≡ b → cond b 1 0 ≤ oneIfRefused (textAt rows s n k)
+    by true e = omega (arith, not-finite-one rows s n k (tested-not-finite s n k e))
     by false e = omega arith
 
 -- and it is that number where each stamp is not finite or has a text
-one-each : (s : List ℕ) (n i : ℕ) → NotFinite s n i ⊎ HasText s n i → oneIfRefused (textAt s n i) ≡ cond (isNotFinite s n i) 1 0
+one-each : (rows : List Row) (s : List ℕ) (n i : ℕ) → NotFinite s n i ⊎ HasText rows s n i → oneIfRefused (textAt rows s n i) ≡ cond (isNotFinite s n i) 1 0
 unfolding oneIfRefused
-one-each s n i (inl d) = not-finite-one s n i d ∙ ap (λ (b : Bool). cond {A = ℕ} b 1 0) (sym (not-finite-tested s n i d))
-one-each s n i (inr h) = by (isNotFinite s n i) refl
+one-each rows s n i (inl d) = not-finite-one rows s n i d ∙ ap (λ (b : Bool). cond {A = ℕ} b 1 0) (sym (not-finite-tested s n i d))
+one-each rows s n i (inr h) = by (isNotFinite s n i) refl
   where
-    by : (b : Bool) → isNotFinite s n i ≡ b → oneIfRefused (textAt s n i) ≡ cond b 1 0
-    by true e = absurd (not-both (textAt s n i) (h .text) 6 (h .is) (not-finite-refused s n i (tested-not-finite s n i e)))
+    by : (b : Bool) → isNotFinite s n i ≡ b → oneIfRefused (textAt rows s n i) ≡ cond b 1 0
+    by true e = absurd (not-both (textAt rows s n i) (h .text) 6 (h .is) (not-finite-refused rows s n i (tested-not-finite s n i e)))
     by false e = ap oneIfRefused (h .is)
 
-pub only-not-finite : (s : List ℕ) (n k : ℕ) → ((i : ℕ) → i < k → NotFinite s n i ⊎ HasText s n i) → refusedIn s n k ≡ notFiniteIn s n k
+pub only-not-finite : (rows : List Row) (s : List ℕ) (n k : ℕ) → ((i : ℕ) → i < k → NotFinite s n i ⊎ HasText rows s n i) → refusedIn rows s n k ≡ notFiniteIn s n k
 unfolding notFiniteIn refusedIn
-only-not-finite s n zero f = refl
-only-not-finite s n (suc k) f = let before = only-not-finite s n k (λ i h. f i (omega arith)) in let one = one-each s n k (f k (omega arith)) in omega arith
+only-not-finite rows s n zero f = refl
+only-not-finite rows s n (suc k) f = let before = only-not-finite rows s n k (λ i h. f i (omega arith)) in let one = one-each rows s n k (f k (omega arith)) in omega arith
 
-pub not-finite-header : (s : List ℕ) (n : ℕ) → blockOf s ≡ answer n → ((i : ℕ) → i < n → NotFinite s n i ⊎ HasText s n i)
-    → listing s ≡ header n (notFiniteIn s n n) ++ stampLines s n n
+pub not-finite-header : (rows : List Row) (s : List ℕ) (n : ℕ) → blockOf s ≡ answer n → ((i : ℕ) → i < n → NotFinite s n i ⊎ HasText rows s n i)
+    → listing rows s ≡ header n (notFiniteIn s n n) ++ stampLines rows s n n
 unfolding listing listingOf
-not-finite-header s n e f = ap (λ (o : Outcome ℕ). listingOf o s) e ∙ ap (λ (k : ℕ). header n k ++ stampLines s n n) (only-not-finite s n n f)
+not-finite-header rows s n e f = ap (λ (o : Outcome ℕ). listingOf rows o s) e ∙ ap (λ (k : ℕ). header n k ++ stampLines rows s n n) (only-not-finite rows s n n f)

@@ -7,6 +7,7 @@ use mathlib.Core.List.{List}
 use mathlib.Core.Bool.{Bool, cond, _||_}
 use lib.Dec.{eqb}
 use Rattle.refusals.specs.Outcome.{answer}
+use Rattle.tai_utc.specs.Table.{Row}
 use Rattle.stamps.specs.Block.{jd1Bits, jd2Bits}
 use Rattle.stamps.specs.Listing.{textAt}
 
@@ -27,7 +28,7 @@ unfoldable pub notFiniteIn : List ℕ → ℕ → ℕ → ℕ
 notFiniteIn s n zero = 0
 notFiniteIn s n (suc k) = notFiniteIn s n k + cond (isNotFinite s n k) 1 0
 
--- stamp i of n has a text
-pub record HasText (s : List ℕ) (n i : ℕ) : Type 0 where
+-- stamp i of n has a text by these rows
+pub record HasText (rows : List Row) (s : List ℕ) (n i : ℕ) : Type 0 where
   pub text : List ℕ
-  pub is : textAt s n i ≡ answer text
+  pub is : textAt rows s n i ≡ answer text

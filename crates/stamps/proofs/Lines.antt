@@ -8,45 +8,44 @@ use lib.ListN.{length}
 use borrow.Author.Tests.{eq-eqb, ne-eqb}
 use Rattle.refusals.specs.Outcome.{Outcome, answer}
 use Rattle.julian.specs.declared.JulianDate.{JulianDate}
-use Rattle.tai_utc.specs.Table.{fixed}
+use Rattle.tai_utc.specs.Table.{Row}
 use Rattle.utc.specs.IsoText.{isoText}
 use Rattle.stamps.specs.declared.BlockAnswer.{BlockAnswer}
 use Rattle.stamps.specs.declared.BlockAnswer.the-variants.{Stamps, Refused}
 use Rattle.stamps.specs.Block.{blockOf, blockOutcome, stampAt}
-use Rattle.stamps.specs.Decimal.{decimal}
 use Rattle.stamps.specs.Placed.{Placed}
-use Rattle.stamps.specs.Listing.{textAt, shown, stampLine, oneIfRefused, refusedIn, header, blockRefused}
+use Rattle.stamps.specs.Listing.{numeral, textAt, shown, stampLine, oneIfRefused, refusedIn, header, blockRefused}
 use Rattle.stamps.specs.Parts.{lineOf, linesIn, linesFrom}
 use Rattle.stamps.proofs.Blocks.{accepted}
 use Rattle.stamps.proofs.Places.{then, placed-as}
 
 module _ {d d1 d2 d3 d4 : List ℕ} {at r1 r2 r3 r4 : ℕ} where
-  pub stamp-put : (s : List ℕ) (n i : ℕ) (jd : JulianDate) → jd ≡ stampAt s n i
-      → Placed d at (decimal i) r1 d1 → Placed d1 r1 (32 ∷ []) r2 d2 → Placed d2 r2 (shown (isoText fixed jd)) r3 d3 → Placed d3 r3 (10 ∷ []) r4 d4 → r4 ≤ length d
-      → Placed d at (stampLine s n i) r4 d4
+  pub stamp-put : (rows : List Row) (s : List ℕ) (n i : ℕ) (jd : JulianDate) → jd ≡ stampAt s n i
+      → Placed d at (numeral i) r1 d1 → Placed d1 r1 (32 ∷ []) r2 d2 → Placed d2 r2 (shown (isoText rows jd)) r3 d3 → Placed d3 r3 (10 ∷ []) r4 d4 → r4 ≤ length d
+      → Placed d at (stampLine rows s n i) r4 d4
   unfolding stampLine textAt
-  stamp-put s n i jd e p1 p2 p3 p4 le =
-      let n3 : r3 ≡ r2 + length (shown (isoText fixed jd)) = p3 .ends in
+  stamp-put rows s n i jd e p1 p2 p3 p4 le =
+      let n3 : r3 ≡ r2 + length (shown (isoText rows jd)) = p3 .ends in
       let n4 : r4 ≡ r3 + 1 = p4 .ends in
-      then (then (then p1 p2 (omega arith)) (placed-as (ap (λ (j : JulianDate). shown (isoText fixed j)) e) p3) (omega arith)) p4 le
+      then (then (then p1 p2 (omega arith)) (placed-as (ap (λ (j : JulianDate). shown (isoText rows j)) e) p3) (omega arith)) p4 le
 
 -- one stamp more is counted
-pub refused-more : (s : List ℕ) (n k m : ℕ) (jd : JulianDate) (one : ℕ) → m ≡ refusedIn s n k → jd ≡ stampAt s n k → one ≡ oneIfRefused (isoText fixed jd) → m + one ≡ refusedIn s n (k + 1)
+pub refused-more : (rows : List Row) (s : List ℕ) (n k m : ℕ) (jd : JulianDate) (one : ℕ) → m ≡ refusedIn rows s n k → jd ≡ stampAt s n k → one ≡ oneIfRefused (isoText rows jd) → m + one ≡ refusedIn rows s n (k + 1)
 unfolding refusedIn textAt
-refused-more s n k m jd one em ej eo = rw add-one (cc)
+refused-more rows s n k m jd one em ej eo = rw add-one (cc)
 
 -- one line more is written
-pub lines-more : {d d1 d2 : List ℕ} {at r : ℕ} (s : List ℕ) (line k : ℕ) → Placed d 0 (linesFrom s line k) at d1 → Placed d1 at (lineOf (blockOf s) s (line + k)) r d2 → r ≤ length d
-    → Placed d 0 (linesFrom s line (k + 1)) r d2
+pub lines-more : {d d1 d2 : List ℕ} {at r : ℕ} (rows : List Row) (s : List ℕ) (line k : ℕ) → Placed d 0 (linesFrom rows s line k) at d1 → Placed d1 at (lineOf rows (blockOf s) s (line + k)) r d2 → r ≤ length d
+    → Placed d 0 (linesFrom rows s line (k + 1)) r d2
 unfolding linesFrom
-lines-more s line k p q le = rw add-one (then p q le)
+lines-more rows s line k p q le = rw add-one (then p q le)
 
 -- ---- which line it is
 module _ (s : List ℕ) (line : ℕ) (r : BlockAnswer) (e : blockOutcome r ≡ blockOf s) where
   module _ (k : ℕ) (is : r ≡ Refused k) where
-    pub refused-line : blockRefused k ≡ lineOf (blockOf s) s line
+    pub refused-line : (rows : List Row) → blockRefused k ≡ lineOf rows (blockOf s) s line
     unfolding lineOf blockOutcome
-    refused-line = ap (λ (o : Outcome ℕ). lineOf o s line) (sym (ap blockOutcome is) ∙ e)
+    refused-line rows = ap (λ (o : Outcome ℕ). lineOf rows o s line) (sym (ap blockOutcome is) ∙ e)
 
   module _ (n : ℕ) (is : r ≡ Stamps n) where
     block-is : answer n ≡ blockOf s
@@ -60,10 +59,10 @@ module _ (s : List ℕ) (line : ℕ) (r : BlockAnswer) (e : blockOutcome r ≡ b
     unfolding linesIn
     within h = rw (← block-is) at h
 
-    pub header-line : (m : ℕ) → line ≡ 0 → m ≡ refusedIn s n n → header n m ≡ lineOf (blockOf s) s line
+    pub header-line : (rows : List Row) (m : ℕ) → line ≡ 0 → m ≡ refusedIn rows s n n → header n m ≡ lineOf rows (blockOf s) s line
     unfolding lineOf
-    header-line m z em = rw (← block-is, eq-eqb line 0 z, em) refl
+    header-line rows m z em = rw (← block-is, eq-eqb line 0 z, em) refl
 
-    pub stamp-line : (line ≡ 0 → ⊥) → stampLine s n (line - 1) ≡ lineOf (blockOf s) s line
+    pub stamp-line : (rows : List Row) → (line ≡ 0 → ⊥) → stampLine rows s n (line - 1) ≡ lineOf rows (blockOf s) s line
     unfolding lineOf
-    stamp-line z = rw (← block-is, ne-eqb line 0 z) refl
+    stamp-line rows z = rw (← block-is, ne-eqb line 0 z) refl

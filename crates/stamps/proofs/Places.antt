@@ -1,15 +1,16 @@
 -- Bytes written one after the other, decimal numbers among them, and what a slice is after a part of it was lent. Assumes nothing.
-use Prim.Native.Nat.{ℕ, _+_, _-_, _≤_}
+use Prim.Native.Nat.{ℕ, zero, suc, _+_, _-_, _/_, _≤_, _<_}
 use native.Mathlib.Omega.{arith}
 use native.Mathlib.Nat.{le-refl}
+use native.Mathlib.Numerals.{add-one}
 use mathlib.Core.Path.{_≡_, refl, sym, ap, _∙_, subst}
 use mathlib.Core.List.{List, [], _∷_, _++_, append-assoc, append-nil}
 use mathlib.Core.Bool.{Bool, true, false, cond}
-use lib.ListN.{length, take, drop, length-drop, length-append, take-append-drop}
-use lib.Seq.{take-all, take-length, drop-length, drop-drop, take-at, drop-append-add, length-take-le}
+use lib.ListN.{length, take, drop, set, length-drop, length-append, take-append-drop}
+use lib.Seq.{take-all, take-length, drop-length, drop-drop, take-at, drop-append-add, length-take-le, set-split}
 use lib.Dec.{ltb}
-use Rattle.utc_text.specs.Text.{last, two, three, four}
-use Rattle.stamps.specs.Decimal.{decimal, leadingZeros}
+use borrow.Author.Tests.{lt-ltb, le-ltb}
+use Rattle.digits.specs.Decimal.{last, digitsIn}
 use Rattle.stamps.specs.Placed.{pasted, Placed}
 
 -- ---- a part that was lent, d[at..], and is back as ys
@@ -88,31 +89,36 @@ pub placed-into : {d e d′ t : List ℕ} {at r : ℕ} → d ≡ e → Placed d 
 placed-into {d} {e} {d′} {t} {at} {r} q p = subst (λ (l : List ℕ). Placed l at t r d′) q p
 
 -- ---- decimal numbers
-decimal-by : (n : ℕ) (a b c : Bool)
-    → drop (cond a 3 (cond b 2 (cond c 1 0))) (four n) ≡ cond a (last n ∷ []) (cond b (two n) (cond c (three n) (four n)))
-decimal-by n true b c = refl
-decimal-by n false true c = refl
-decimal-by n false false true = refl
-decimal-by n false false false = refl
+-- at most as many digits as there is room for
+pub digits-most : (k n : ℕ) → length (digitsIn k n) ≤ k
+unfolding digitsIn
+digits-most zero n = omega arith
+digits-most (suc k) n = by (ltb n 10) (digits-most k (n / 10))
+  where
+    by : (b : Bool) → length (digitsIn k (n / 10)) ≤ k → length (cond b (last n ∷ []) (digitsIn k (n / 10) ++ (last n ∷ []))) ≤ suc k
+    by true h = omega arith
+    by false h = simp length-append (omega arith)
 
-decimal-is : (n : ℕ) → drop (leadingZeros n) (four n) ≡ decimal n
-unfolding decimal leadingZeros
-decimal-is n = decimal-by n (ltb n 10) (ltb n 100) (ltb n 1000)
+-- one digit, written by its index
+pub digit-put : (d : List ℕ) (at c x : ℕ) → at < length d → c ≡ x → Placed d at (x ∷ []) (at + 1) (set d at c)
+unfolding pasted
+digit-put d at c x h e = record { ends = refl; holds = rw (set-split d at c h, e, add-one) refl }
 
-decimal-length : (n : ℕ) → length (decimal n) ≡ 4 - leadingZeros n
-decimal-length n = ap length (sym (decimal-is n)) ∙ simp length-drop
+pub first-digit : (n : ℕ) → last n ∷ [] ≡ digitsIn 1 n
+unfolding digitsIn
+first-digit n = by (ltb n 10)
+  where
+    by : (b : Bool) → last n ∷ [] ≡ cond b (last n ∷ []) ([] ++ (last n ∷ []))
+    by true = refl
+    by false = refl
 
-pub decimal-most : (n : ℕ) → length (decimal n) ≤ 4
-decimal-most n = omega (arith, decimal-length n)
+pub one-digit : {d d1 : List ℕ} {at r : ℕ} (n k : ℕ) → n < 10 → Placed d at (last n ∷ []) r d1 → Placed d at (digitsIn (suc k) n) r d1 × (r ≤ at + suc k)
+unfolding digitsIn
+one-digit n k h p = (rw (lt-ltb n 10 h) p, omega (arith, p .ends))
 
--- what `place::number` hands to `place::bytes`
-decimal-source : (n : ℕ) (all : List ℕ) (k : ℕ) → all ≡ four n → k ≡ leadingZeros n → take (4 - k) (drop k all) ≡ decimal n
-decimal-source n all k e ek =
-    let it : drop k all ≡ decimal n = cc (decimal-is n) in
-    ap (take (4 - k)) it ∙ take-all (4 - k) _ (rw (decimal-length n, ek) (le-refl _))
-
-pub decimal-put : {d d′ : List ℕ} {at r : ℕ} (n : ℕ) (all : List ℕ) (k : ℕ) → all ≡ four n → k ≡ leadingZeros n → Placed d at (take (4 - k) (drop k all)) r d′
-    → Placed d at (decimal n) r d′ × (r ≤ at + 4)
-decimal-put {d} {d′} {at} {r} n all k e ek p =
-    let q : Placed d at (decimal n) r d′ = placed-as (decimal-source n all k e ek) p in
-    (q, omega (arith, q .ends, decimal-most n))
+pub more-digits : {d d1 d2 : List ℕ} {at r r2 : ℕ} (n k : ℕ) → 10 ≤ n → at + suc k ≤ length d → Placed d at (digitsIn k (n / 10)) r d1 → Placed d1 r (last n ∷ []) r2 d2
+    → Placed d at (digitsIn (suc k) n) r2 d2 × (r2 ≤ at + suc k)
+unfolding digitsIn
+more-digits n k h room p q =
+    let most = digits-most k (n / 10) in
+    (rw (le-ltb n 10 h) (then p q (omega (arith, p .ends, q .ends))), omega (arith, p .ends, q .ends))

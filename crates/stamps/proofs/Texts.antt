@@ -17,7 +17,7 @@ use Rattle.utc.specs.IsoText.{isoText}
 use Rattle.utc.specs.TextCall.{written, bufferHolds, TextCall}
 use Rattle.utc.proofs.Lengths.{text-length}
 use Rattle.stamps.specs.Listing.{shown}
-use Rattle.stamps.proofs.Places.{decimal-most}
+use Rattle.stamps.proofs.Places.{digits-most}
 
 -- an outcome whose text, where it is one, has at most 26 bytes
 abbrev pub Brief : Outcome (List ℕ) → Type 0
@@ -30,7 +30,7 @@ brief rows jd t e = text-length rows jd t e .1
 pub shown-most : (o : Outcome (List ℕ)) → Brief o → length (shown o) ≤ 26
 unfolding shown
 shown-most (answer t) b = b t refl
-shown-most (refusal k) b = omega (arith, decimal-most k)
+shown-most (refusal k) b = omega (arith, digits-most 4 k)
 
 written-by : (t p : List ℕ) (n : ℕ) (b : Bool) → cond b (answer (length t)) (refusal 11) ≡ answer n
     → (n ≡ length t) × (cond b (t ++ drop (length t) p) p ≡ t ++ drop (length t) p)

@@ -1,6 +1,5 @@
 -- The definitions that the contracts of `stamps` cite: the stamp block, its listing, and the parts that a scratch holds.
 pub mod Block
-pub mod Decimal
 pub mod Listing
 pub mod Parts
 pub mod Placed

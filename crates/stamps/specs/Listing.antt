@@ -1,12 +1,18 @@
 -- The listing of a stamp block, a list of bytes. Written from document 01, "The program that lists a block": a header, then a line for each stamp; of a refused block
--- one line. Fields stand one space (32) apart, and every line ends with byte 10. Assumes nothing.
+-- one line. Fields stand one space (32) apart, and every line ends with byte 10. The texts are those of a table of rows, by document 02, item 8 ("All calls that
+-- read offsets take it"). Assumes nothing.
 use Prim.Native.Nat.{ℕ, zero, suc, _+_}
 use mathlib.Core.List.{List, [], _∷_, _++_}
 use Rattle.refusals.specs.Outcome.{Outcome, answer, refusal}
-use Rattle.tai_utc.specs.Table.{fixed}
+use Rattle.digits.specs.Decimal.{digitsIn}
+use Rattle.tai_utc.specs.Table.{Row}
 use Rattle.utc.specs.IsoText.{isoText}
 use Rattle.stamps.specs.Block.{blockOf, stampAt}
-use Rattle.stamps.specs.Decimal.{decimal}
+
+-- a number, in decimal and with no zeros in front: four digits are enough, since the counts and the indexes of a listing are at most 4,000 and the refusals' numbers at
+-- most 28
+abbrev pub numeral : ℕ → List ℕ
+numeral n = digitsIn 4 n
 
 -- "refused "
 abbrev pub refusedWord : List ℕ
@@ -21,44 +27,44 @@ abbrev pub blockRefusedWords : List ℕ
 blockRefusedWords = 98 ∷ 108 ∷ 111 ∷ 99 ∷ 107 ∷ 32 ∷ refusedWord
 
 -- the conversion of stamp i of n: its text, or a refusal
-unfoldable pub textAt : List ℕ → ℕ → ℕ → Outcome (List ℕ)
-textAt s n i = isoText fixed (stampAt s n i)
+unfoldable pub textAt : List Row → List ℕ → ℕ → ℕ → Outcome (List ℕ)
+textAt rows s n i = isoText rows (stampAt s n i)
 
 -- the text, or `refused` and the number
 unfoldable pub shown : Outcome (List ℕ) → List ℕ
 shown (answer text) = text
-shown (refusal k) = refusedWord ++ decimal k
+shown (refusal k) = refusedWord ++ numeral k
 
 -- the line of stamp i of n
-unfoldable pub stampLine : List ℕ → ℕ → ℕ → List ℕ
-stampLine s n i = ((decimal i ++ (32 ∷ [])) ++ shown (textAt s n i)) ++ (10 ∷ [])
+unfoldable pub stampLine : List Row → List ℕ → ℕ → ℕ → List ℕ
+stampLine rows s n i = ((numeral i ++ (32 ∷ [])) ++ shown (textAt rows s n i)) ++ (10 ∷ [])
 
 -- the lines of the first k stamps of n
-unfoldable pub stampLines : List ℕ → ℕ → ℕ → List ℕ
-stampLines s n zero = []
-stampLines s n (suc k) = stampLines s n k ++ stampLine s n k
+unfoldable pub stampLines : List Row → List ℕ → ℕ → ℕ → List ℕ
+stampLines rows s n zero = []
+stampLines rows s n (suc k) = stampLines rows s n k ++ stampLine rows s n k
 
 -- how many of the first k stamps of n are refused
 unfoldable pub oneIfRefused : Outcome (List ℕ) → ℕ
 oneIfRefused (answer text) = 0
 oneIfRefused (refusal k) = 1
 
-unfoldable pub refusedIn : List ℕ → ℕ → ℕ → ℕ
-refusedIn s n zero = 0
-refusedIn s n (suc k) = refusedIn s n k + oneIfRefused (textAt s n k)
+unfoldable pub refusedIn : List Row → List ℕ → ℕ → ℕ → ℕ
+refusedIn rows s n zero = 0
+refusedIn rows s n (suc k) = refusedIn rows s n k + oneIfRefused (textAt rows s n k)
 
 -- `utc listing`, the number of stamps, `refused`, the number of refused stamps
 unfoldable pub header : ℕ → ℕ → List ℕ
-header stamps refused = (((utcListingWords ++ decimal stamps) ++ (32 ∷ refusedWord)) ++ decimal refused) ++ (10 ∷ [])
+header stamps refused = (((utcListingWords ++ numeral stamps) ++ (32 ∷ refusedWord)) ++ numeral refused) ++ (10 ∷ [])
 
 -- `block refused` and the number
 unfoldable pub blockRefused : ℕ → List ℕ
-blockRefused k = (blockRefusedWords ++ decimal k) ++ (10 ∷ [])
+blockRefused k = (blockRefusedWords ++ numeral k) ++ (10 ∷ [])
 
-unfoldable pub listingOf : Outcome ℕ → List ℕ → List ℕ
-listingOf (answer n) s = header n (refusedIn s n n) ++ stampLines s n n
-listingOf (refusal k) s = blockRefused k
+unfoldable pub listingOf : List Row → Outcome ℕ → List ℕ → List ℕ
+listingOf rows (answer n) s = header n (refusedIn rows s n n) ++ stampLines rows s n n
+listingOf rows (refusal k) s = blockRefused k
 
--- the whole listing of the block s
-unfoldable pub listing : List ℕ → List ℕ
-listing s = listingOf (blockOf s) s
+-- the whole listing of the block s; a program that lends no rows lists with `fixed`
+unfoldable pub listing : List Row → List ℕ → List ℕ
+listing rows s = listingOf rows (blockOf s) s

@@ -4,6 +4,7 @@ mod place;
 
 use julian::JulianDate;
 pub use listing::next_part;
+pub use listing::next_part_by_rows;
 ghost use mathlib.Core.Path.{_≡_};
 ghost use Prim.Native.Nat.{_≤_, _<_};
 ghost use Rattle.stamps.specs.Block.{blockOutcome, blockOf, stampAt};
@@ -19,6 +20,12 @@ pub struct Part {
     pub written: usize,
     pub line: usize,
     pub done: bool,
+}
+
+// A part of the listing, or the number of the refusal.
+pub enum LinesAnswer {
+    Lines(Part),
+    Refused(u32),
 }
 
 // How many stamps the block has. Refusals in order: 14 under 8 bytes, 12, 13, then 14.

@@ -2,20 +2,22 @@
 ghost use mathlib.Core.Path.{_≡_};
 ghost use Prim.Native.Nat.{_+_, _-_, _≤_, _<_};
 ghost use mathlib.Core.Bool.{cond, _&&_};
+ghost use mathlib.Core.List.{List};
 ghost use lib.ListN.{length};
 ghost use lib.IntN.{negsuc};
 ghost use lib.Signed.{ltZ};
 ghost use lib.Ieee.{le};
 ghost use Rattle.floats.specs.Whole.{nought};
 ghost use Rattle.day_number.specs.DayNumber.{c-djmax};
-ghost use Rattle.tai_utc.specs.Table.{fixed};
+ghost use Rattle.tai_utc.specs.Table.{Row};
+ghost use Rattle.tai_utc.specs.Lent.{rowsOf, tableOf};
 ghost use Rattle.utc.specs.IsoText.{isoText};
-ghost use Rattle.utc.specs.TextCall.{TextCall};
 ghost use Rattle.stamps.specs.Block.{blockOutcome, blockOf};
 ghost use Rattle.stamps.specs.Placed.{Placed};
 ghost use Rattle.stamps.specs.Listing.{shown, stampLine, oneIfRefused, refusedIn, header, blockRefused};
-ghost use Rattle.stamps.specs.Parts.{lineOf, linesIn, PartPlaced};
+ghost use Rattle.stamps.specs.Parts.{lineOf, linesIn, PartPlaced, PartCall};
 use super::BlockAnswer;
+use super::LinesAnswer;
 use super::Part;
 use super::block_stamps;
 use super::place;
@@ -23,25 +25,19 @@ use super::stamp_at;
 use day_number::DayAnswer;
 use julian::JulianDate;
 use scales::UTC;
+use tai_utc::LentRows;
 use utc_text::TextAnswer;
 
 // A line is begun only where so many bytes are left. The longest line has 32: four of the index, a blank, the longest text, 26, and the line's end.
 const LINE_ROOM: usize = 33;
 
-// The text of a date, with no lent rows.
-fn to_iso8601(utc: UTC, out: &mut [u8]) -> TextAnswer
-    ensures { λ r. ⌜ TextCall (isoText fixed (utc .0)) (now (out .entry)) r (now (out .exit)) ⌝ }
-{
-    utc::to_iso8601_by_rows(utc, tai_utc::no_rows(), out)
-}
-
 // The text of a date, or `refused` and the number.
-fn place_shown(utc: UTC, dst: &mut [u8], at: usize) -> usize
+fn place_shown(utc: UTC, table: LentRows, dst: &mut [u8], at: usize) -> usize
     requires { ⌜ at + 26 ≤ length (now dst) ⌝ }
-    ensures { λ r. ⌜ Placed (now (dst .entry)) at (shown (isoText fixed (utc .0))) r (now (dst .exit)) ⌝ }
+    ensures { λ r. ⌜ Placed (now (dst .entry)) at (shown (isoText (rowsOf table) (utc .0))) r (now (dst .exit)) ⌝ }
     ensures { λ r. ⌜ r ≤ at + 26 ⌝ }
 {
-    match to_iso8601(utc, &mut dst[at..]) {
+    match utc::to_iso8601_by_rows(utc, table, &mut dst[at..]) {
         TextAnswer::Written(n) => at + n,
         TextAnswer::Refused(number) => {
             let next = place::bytes(b"refused ", dst, at);
@@ -50,14 +46,21 @@ fn place_shown(utc: UTC, dst: &mut [u8], at: usize) -> usize
     }
 }
 
-fn place_stamp_line(block: &[u8], stamps: usize, i: usize, dst: &mut [u8], at: usize) -> usize
+fn place_stamp_line(
+    block: &[u8],
+    stamps: usize,
+    i: usize,
+    table: LentRows,
+    dst: &mut [u8],
+    at: usize,
+) -> usize
     requires { ⌜ (i < stamps) × (stamps ≤ 4000) × (at + 33 ≤ length (now dst)) ⌝ }
-    ensures { λ r. ⌜ Placed (now (dst .entry)) at (stampLine (now (block .entry)) stamps i) r (now (dst .exit)) ⌝ }
+    ensures { λ r. ⌜ Placed (now (dst .entry)) at (stampLine (rowsOf table) (now (block .entry)) stamps i) r (now (dst .exit)) ⌝ }
     ensures { λ r. ⌜ r ≤ at + 33 ⌝ }
 {
     let a = place::number(i as u32, dst, at);
     let b = place::bytes(b" ", dst, a);
-    let c = place_shown(UTC(stamp_at(block, stamps, i)), dst, b);
+    let c = place_shown(UTC(stamp_at(block, stamps, i)), table, dst, b);
     place::bytes(b"\n", dst, c)
 }
 
@@ -75,9 +78,10 @@ fn surely_shown(sum: f64) -> bool
     sum >= 0.0 && sum <= 1e9
 }
 
-// 1 where a date has no text, else 0. Of the text's conversion the day number is made at most: what comes after it refuses only the days before the first.
+// 1 where a date has no text, else 0, by whatever rows. Of the text's conversion the day number is made at most: what comes after it refuses only the days before
+// the first.
 fn one_if_refused(jd: JulianDate) -> u32
-    ensures { λ r. ⌜ (r ≡ oneIfRefused (isoText fixed jd)) × (r ≤ 1) ⌝ }
+    ensures { λ r. ⌜ ((rows : List Row) → r ≡ oneIfRefused (isoText rows jd)) × (r ≤ 1) ⌝ }
 {
     if surely_shown(jd.jd1 + jd.jd2) {
         return 0;
@@ -88,10 +92,10 @@ fn one_if_refused(jd: JulianDate) -> u32
     }
 }
 
-// How many stamps are refused: each is judged as its conversion would be.
+// How many stamps are refused: each is judged as its conversion by any rows would be.
 fn refused_stamps(block: &[u8], stamps: usize) -> u32
     requires { ⌜ stamps ≤ 4000 ⌝ }
-    ensures { λ r. ⌜ r ≡ refusedIn (now (block .entry)) stamps stamps ⌝ }
+    ensures { λ r. ⌜ ((rows : List Row) → r ≡ refusedIn rows (now (block .entry)) stamps stamps) ⌝ }
 {
     let mut refused = 0;
     let mut i = 0;
@@ -125,9 +129,16 @@ fn place_block_refused(number: u32, dst: &mut [u8], at: usize) -> usize
 }
 
 // Line `line` of the listing of a block with this answer: line 0 is the header or the refusal, line i + 1 is stamp i's.
-fn place_line(block: &[u8], answer: BlockAnswer, line: usize, dst: &mut [u8], at: usize) -> usize
+fn place_line(
+    block: &[u8],
+    answer: BlockAnswer,
+    line: usize,
+    table: LentRows,
+    dst: &mut [u8],
+    at: usize,
+) -> usize
     requires { ⌜ (blockOutcome answer ≡ blockOf (now block)) × (line < linesIn (blockOf (now block))) × (at + 33 ≤ length (now dst)) ⌝ }
-    ensures { λ r. ⌜ Placed (now (dst .entry)) at (lineOf (blockOf (now (block .entry))) (now (block .entry)) line) r (now (dst .exit)) ⌝ }
+    ensures { λ r. ⌜ Placed (now (dst .entry)) at (lineOf (rowsOf table) (blockOf (now (block .entry))) (now (block .entry)) line) r (now (dst .exit)) ⌝ }
     ensures { λ r. ⌜ r ≤ at + 33 ⌝ }
 {
     match answer {
@@ -136,7 +147,7 @@ fn place_line(block: &[u8], answer: BlockAnswer, line: usize, dst: &mut [u8], at
             if line == 0 {
                 return place_header(stamps as u32, refused_stamps(block, stamps), dst, at);
             }
-            place_stamp_line(block, stamps, line - 1, dst, at)
+            place_stamp_line(block, stamps, line - 1, table, dst, at)
         }
     }
 }
@@ -158,10 +169,11 @@ fn less(a: usize, b: usize) -> usize
     if b < a { a - b } else { 0 }
 }
 
-// The next part of the listing, from line `line` on: as many whole lines as the scratch surely holds, at its start. A scratch of 33 bytes or more holds one.
-// Into a shorter one nothing is written, and the answer names the same line with `done` false: a caller that asks again with it never comes to an end.
-pub fn next_part(block: &[u8], line: usize, scratch: &mut [u8]) -> Part
-    ensures { λ r. ⌜ PartPlaced (now (block .entry)) line (now (scratch .entry)) r (now (scratch .exit)) ⌝ }
+// The next part of the listing, from line `line` on, by the rows of a table that is tested elsewhere: as many whole lines as the scratch surely holds, at its start.
+// A scratch of 33 bytes or more holds one. Into a shorter one nothing is written, and the answer names the same line with `done` false: a caller that asks again with
+// it never comes to an end.
+pub fn next_part_by_rows(block: &[u8], line: usize, table: LentRows, scratch: &mut [u8]) -> Part
+    ensures { λ r. ⌜ PartPlaced (rowsOf table) (now (block .entry)) line (now (scratch .entry)) r (now (scratch .exit)) ⌝ }
 {
     let answer = block_stamps(block);
     let left = less(lines_in(answer), line);
@@ -175,7 +187,7 @@ pub fn next_part(block: &[u8], line: usize, scratch: &mut [u8]) -> Part
                 done: false,
             };
         }
-        at = place_line(block, answer, line + count, scratch, at);
+        at = place_line(block, answer, line + count, table, scratch, at);
         count += 1;
     }
     Part {
@@ -183,4 +195,15 @@ pub fn next_part(block: &[u8], line: usize, scratch: &mut [u8]) -> Part
         line: line + count,
         done: true,
     }
+}
+
+// The same by a table that is tested first: 20 to 22 where it is turned away, and nothing is written.
+pub fn next_part(block: &[u8], line: usize, table: LentRows, scratch: &mut [u8]) -> LinesAnswer
+    ensures { λ r. ⌜ PartCall (tableOf table) (now (block .entry)) line (now (scratch .entry)) r (now (scratch .exit)) ⌝ }
+{
+    let number = tai_utc::table_refusal(table);
+    if number != 0 {
+        return LinesAnswer::Refused(number);
+    }
+    LinesAnswer::Lines(next_part_by_rows(block, line, table, scratch))
 }

@@ -10,28 +10,31 @@ use Rattle.listing_runs.proofs.list.Statement.{statement}
 use Rattle.listing_runs.proofs.list.Tie as tie
 
 abbrev Inv-loop : tie.InvT-loop
-Inv-loop block scratch₀ line₀ scratch line = (line ≤ 4001) × (4096 ≡ length scratch)
+Inv-loop block scratch₀ table line₀ scratch line = (line ≤ 4001) × (4096 ≡ length scratch)
 
 abbrev μ-loop : tie.MeasureT-loop
-μ-loop block scratch₀ line₀ scratch line = 4001 - line
+μ-loop block scratch₀ table line₀ scratch line = 4001 - line
 
 buffer-requires : tie.Need-buffer-requires Inv-loop μ-loop
 buffer-requires c κs = search needs
 
+no-rows-requires : tie.Need-no-rows-requires Inv-loop μ-loop
+no-rows-requires c κs = search needs
+
 loop-holds : tie.Need-loop-holds Inv-loop μ-loop
 loop-holds c = search needs
 
-slice-aggregate-next-part : tie.Need-slice-aggregate-next-part Inv-loop μ-loop
-slice-aggregate-next-part c = search needs
+slice-aggregate-next-part-by-rows : tie.Need-slice-aggregate-next-part-by-rows Inv-loop μ-loop
+slice-aggregate-next-part-by-rows c = search needs
 
-next-part-requires : tie.Need-next-part-requires Inv-loop μ-loop
-next-part-requires c κs = search needs
+next-part-by-rows-requires : tie.Need-next-part-by-rows-requires Inv-loop μ-loop
+next-part-by-rows-requires c κs = search needs
 
 array-share-prefix-scratch : tie.Need-array-share-prefix-scratch Inv-loop μ-loop
-array-share-prefix-scratch c = part-within (c .before .next-part .ensures) .0
+array-share-prefix-scratch c = part-within (c .before .next-part-by-rows .ensures) .0
 
 slice-aggregate-write-all : tie.Need-slice-aggregate-write-all Inv-loop μ-loop
-slice-aggregate-write-all c = part-within (c .before .before .next-part .ensures) .1
+slice-aggregate-write-all c = part-within (c .before .before .next-part-by-rows .ensures) .1
 
 write-all-requires : tie.Need-write-all-requires Inv-loop μ-loop
 write-all-requires c κs = search needs
@@ -44,12 +47,12 @@ returns-2 c = search needs
 
 loop-less : tie.Need-loop-less Inv-loop μ-loop
 loop-less c =
-    let on = part-brings-on (c .before .before .before .before .before .next-part .ensures) (omega arith) (c .if2 .left) in
+    let on = part-brings-on (c .before .before .before .before .before .next-part-by-rows .ensures) (omega arith) (c .if2 .left) in
     omega (arith, on .0, on .1)
 
 loop-again : tie.Need-loop-again Inv-loop μ-loop
 loop-again c =
-    let on = part-brings-on (c .before .before .before .before .before .next-part .ensures) (omega arith) (c .if2 .left) in
+    let on = part-brings-on (c .before .before .before .before .before .next-part-by-rows .ensures) (omega arith) (c .if2 .left) in
     (on .1, search needs)
 
 pub list-spec : {M : Type 1} → statement M
@@ -59,9 +62,10 @@ list-spec =
     Inv-loop
     μ-loop
     buffer-requires
+    no-rows-requires
     loop-holds
-    slice-aggregate-next-part
-    next-part-requires
+    slice-aggregate-next-part-by-rows
+    next-part-by-rows-requires
     array-share-prefix-scratch
     slice-aggregate-write-all
     write-all-requires

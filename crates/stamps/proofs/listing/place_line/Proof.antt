@@ -36,7 +36,7 @@ returns : tie.Need-returns
 returns c =
     let st = c .before .before .before .before .before .before .before .before .before .before .before in
     let p = c .before .before .place-header .ensures in
-    (placed-as (header-line (now (st .args .block)) (st .args .line) _ (st .pre .0) _ (c .before .before .before .before .before .before .before .answer2 .given .1) _ (c .before .before .before .before .before .if1 .taken) (c .before .before .before .before .refused-stamps .ensures)) (p .0), p .1)
+    (placed-as (header-line (now (st .args .block)) (st .args .line) _ (st .pre .0) _ (c .before .before .before .before .before .before .before .answer2 .given .1) _ _ (c .before .before .before .before .before .if1 .taken) (c .before .before .before .before .refused-stamps .ensures _)) (p .0), p .1)
 
 sub-place-stamp-line : tie.Need-sub-place-stamp-line
 sub-place-stamp-line c = search needs
@@ -55,7 +55,7 @@ returns-2 : tie.Need-returns-2
 returns-2 c =
     let st = c .before .before .before .before .before .before .before .before .before in
     let p = c .before .before .place-block-refused .ensures in
-    (placed-as (refused-line (now (st .args .block)) (st .args .line) _ (st .pre .0) _ (c .before .before .before .before .before .answer .given .1)) (p .0), p .1)
+    (placed-as (refused-line (now (st .args .block)) (st .args .line) _ (st .pre .0) _ (c .before .before .before .before .before .answer .given .1) _) (p .0), p .1)
 
 same-length-3 : tie.Need-same-length-3
 same-length-3 c = search needs
@@ -64,7 +64,7 @@ returns-3 : tie.Need-returns-3
 returns-3 c =
     let st = c .before .before .before .before .before .before .before .before .before .before in
     let p = c .before .before .place-stamp-line .ensures in
-    (placed-as (stamp-line (now (st .args .block)) (st .args .line) _ (st .pre .0) _ (c .before .before .before .before .before .before .answer2 .given .1) (c .before .before .before .before .if1 .left)) (p .0), p .1)
+    (placed-as (stamp-line (now (st .args .block)) (st .args .line) _ (st .pre .0) _ (c .before .before .before .before .before .before .answer2 .given .1) _ (c .before .before .before .before .if1 .left)) (p .0), p .1)
 
 pub place-line-spec : {M : Type 1} → statement M
 place-line-spec =

@@ -39,7 +39,7 @@ returns c =
     let p2 = c .before .before .before .before .before .before .before .before .before .before .before .before .bytes .ensures in
     let p3 = c .before .before .before .before .before .before .before .place-shown .ensures in
     let p4 = c .before .before .bytes2 .ensures in
-    (stamp-put _ _ _ _ (c .before .before .before .before .before .before .before .before .before .stamp-at .ensures) (p1 .0) p2 (p3 .0) p4 (omega (arith, pre, p1 .1, p2 .ends, p3 .1, p4 .ends)), omega (arith, p1 .1, p2 .ends, p3 .1, p4 .ends))
+    (stamp-put _ _ _ _ _ (c .before .before .before .before .before .before .before .before .before .stamp-at .ensures) (p1 .0) p2 (p3 .0) p4 (omega (arith, pre, p1 .1, p2 .ends, p3 .1, p4 .ends)), omega (arith, p1 .1, p2 .ends, p3 .1, p4 .ends))
 
 pub place-stamp-line-spec : {M : Type 1} → statement M
 place-stamp-line-spec =

@@ -1,6 +1,8 @@
 -- `listing::refused_stamps` meets its contract. The invariant: the first i stamps are counted. The measure is the number of stamps that are left. Assumes nothing.
 use mathlib.Core.Path.{_≡_, refl, ap, _∙_}
 use Prim.Native.Nat.{_-_, _≤_, zero-le}
+use mathlib.Core.List.{List}
+use Rattle.tai_utc.specs.Table.{Row}
 use borrow.Author.Needs.{needs}
 use native.Mathlib.Omega.{arith}
 use Rattle.stamps.specs.Listing.{refusedIn}
@@ -9,14 +11,14 @@ use Rattle.stamps.proofs.listing.refused_stamps.Statement.{statement}
 use Rattle.stamps.proofs.listing.refused_stamps.Tie as tie
 
 abbrev Inv-loop : tie.InvT-loop
-Inv-loop block stamps refused₀ i₀ refused i = (i ≤ stamps) × (refused ≡ refusedIn block stamps i) × (refused ≤ i)
+Inv-loop block stamps refused₀ i₀ refused i = (i ≤ stamps) × (((rows : List Row) → refused ≡ refusedIn rows block stamps i)) × (refused ≤ i)
 
 abbrev μ-loop : tie.MeasureT-loop
 μ-loop block stamps refused₀ i₀ refused i = stamps - i
 
 loop-holds : tie.Need-loop-holds Inv-loop μ-loop
 unfolding refusedIn
-loop-holds c = (zero-le, refl, zero-le)
+loop-holds c = (zero-le, (λ rows. refl), zero-le)
 
 stamp-at-requires : tie.Need-stamp-at-requires Inv-loop μ-loop
 stamp-at-requires c κs = search needs
@@ -36,13 +38,13 @@ loop-less c = omega arith
 loop-again : tie.Need-loop-again Inv-loop μ-loop
 loop-again c =
     let l = c .before .before .before .loop in
-    (omega arith, refused-more _ _ _ _ _ _ (l .inv .1) (c .before .stamp-at .ensures) (c .one-if-refused .ensures .0), omega (arith, c .one-if-refused .ensures .1))
+    (omega arith, (λ rows. refused-more rows _ _ _ _ _ _ (l .inv .1 rows) (c .before .stamp-at .ensures) (c .one-if-refused .ensures .0 rows)), omega (arith, c .one-if-refused .ensures .1))
 
 returns : tie.Need-returns Inv-loop μ-loop
 returns c =
     let l = c .before .loop in
     let e : l .i ≡ c .before .before .before .args .stamps = omega arith in
-    l .inv .1 ∙ ap (refusedIn _ _) e
+    λ rows. l .inv .1 rows ∙ ap (refusedIn rows _ _) e
 
 pub refused-stamps-spec : {M : Type 1} → statement M
 refused-stamps-spec =

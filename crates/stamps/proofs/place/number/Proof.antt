@@ -1,42 +1,41 @@
--- `place::number` meets its contract. Assumes nothing.
-use Rattle.stamps.proofs.Places.{decimal-put}
+-- `place::number` meets its contract: one digit, or those of a tenth and one more. Assumes nothing.
 use borrow.Author.Needs.{needs}
+use Rattle.stamps.proofs.Places.{one-digit, more-digits}
 use Rattle.stamps.proofs.place.number.Statement.{statement}
 use Rattle.stamps.proofs.place.number.Tie as tie
 
-four-digits-requires : tie.Need-four-digits-requires
-four-digits-requires c κs = search needs
-
-leading-zeros-requires : tie.Need-leading-zeros-requires
-leading-zeros-requires c κs = search needs
-
-sub-bytes : tie.Need-sub-bytes
-sub-bytes c = search needs
-
-part-bytes-start : tie.Need-part-bytes-start
-part-bytes-start c = search needs
-
-part-bytes-end : tie.Need-part-bytes-end
-part-bytes-end c = search needs
-
-bytes-requires : tie.Need-bytes-requires
-bytes-requires c κs = search needs
+digit-requires : tie.Need-digit-requires
+digit-requires c κs = search needs
 
 same-length : tie.Need-same-length
 same-length c = search needs
 
 returns : tie.Need-returns
-returns c = decimal-put _ _ _ (c .before .before .before .before .before .before .before .four-digits .ensures) (c .before .before .before .before .before .before .leading-zeros .ensures .0) (c .before .before .bytes .ensures)
+returns c = one-digit _ 3 (c .before .before .before .before .if1 .taken) (c .before .before .digit .ensures)
+
+three-digits-requires : tie.Need-three-digits-requires
+three-digits-requires c κs = search needs
+
+digit-requires-2 : tie.Need-digit-requires-2
+digit-requires-2 c κs = search needs
+
+same-length-2 : tie.Need-same-length-2
+same-length-2 c = search needs
+
+returns-2 : tie.Need-returns-2
+returns-2 c =
+    let q = c .before .before in
+    let p = q .before .before .before .before in
+    more-digits _ 3 (p .before .before .if1 .left) (p .before .before .before .before .pre) (p .three-digits .ensures .0) (q .digit2 .ensures)
 
 pub number-spec : {M : Type 1} → statement M
 number-spec =
     tie.close
     (tie.spec
-    four-digits-requires
-    leading-zeros-requires
-    sub-bytes
-    part-bytes-start
-    part-bytes-end
-    bytes-requires
+    digit-requires
     same-length
-    returns)
+    returns
+    three-digits-requires
+    digit-requires-2
+    same-length-2
+    returns-2)

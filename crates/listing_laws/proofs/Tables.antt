@@ -1,0 +1,104 @@
+-- A listing by a lent table: which stamps are refused, and so the header, is the same by all rows; a call with a taken table gives the part by its rows, one with no
+-- lent rows the part by the fixed table. Assumes nothing.
+use Prim.Native.Nat.{ℕ, zero, suc, _+_}
+use native.Mathlib.Omega.{arith}
+use mathlib.Core.Path.{_≡_, refl, sym, ap, _∙_}
+use mathlib.Core.Logic.{_⊎_, inl, inr}
+use mathlib.Core.List.{List}
+use lib.ListN.{length}
+use Rattle.refusals.specs.Outcome.{Outcome, answer, refusal, onward}
+use Rattle.calendar.proofs.Years.{validOf}
+use Rattle.julian.specs.declared.JulianDate.{JulianDate}
+use Rattle.julian.specs.declared.CalendarFields.{CalendarFields}
+use Rattle.julian.specs.Calendar.{julianToCalendar}
+use Rattle.tai_utc.specs.declared.LentRows.{LentRows}
+use Rattle.tai_utc.specs.Table.{Row, fixed}
+use Rattle.tai_utc.specs.Lent.{tableOf}
+use Rattle.tai_utc.proofs.TablesTaken.{table-none}
+use Rattle.utc.specs.IsoText.{isoText}
+use Rattle.utc.proofs.Dates.{date-in-range}
+use Rattle.utc.proofs.TextCalls.{fields-refused, fields-given}
+use Rattle.utc.proofs.DayTexts.{text-refused, has-text}
+use Rattle.utc.proofs.Numbers.{not-both, one-number, date-refusal}
+use Rattle.stamps.specs.declared.Part.{Part}
+use Rattle.stamps.specs.declared.LinesAnswer.{LinesAnswer}
+use Rattle.stamps.specs.declared.LinesAnswer.the-variants.{Lines, Refused}
+use Rattle.stamps.specs.Block.{blockOf, stampAt}
+use Rattle.stamps.specs.Listing.{textAt, shown, stampLine, oneIfRefused, refusedIn, header}
+use Rattle.stamps.specs.Parts.{lineOf, linesOutcome, scratchHolds, partOf, partText, PartPlaced, PartCall}
+
+-- ---- refusals read no row: what one table refuses every other refuses, by the same number
+module _ (a b : List Row) where
+  text-refused-alike : (jd : JulianDate) (k : ℕ) → isoText a jd ≡ refusal k → isoText b jd ≡ refusal k
+  text-refused-alike jd k e = go (julianToCalendar (jd .jd1) (jd .jd2)) refl
+    where
+      go : (o : Outcome CalendarFields) → julianToCalendar (jd .jd1) (jd .jd2) ≡ o → isoText b jd ≡ refusal k
+      go (refusal n) p = fields-refused b jd n p ∙ ap refusal (one-number (isoText a jd) n k (fields-refused a jd n p) e)
+      go (answer c) p = by-date (date-refusal (jd .jd1) (jd .jd2) c p)
+        where
+          by-date : (validOf (c .date) ≡ answer tt) ⊎ (validOf (c .date) ≡ refusal 1) → isoText b jd ≡ refusal k
+          by-date (inl v) = absurd (not-both (isoText a jd) _ k (fields-given a jd c p ∙ has-text a (c .date) v (date-in-range (jd .jd1) (jd .jd2) c p .year-high) (c .fraction)) e)
+          by-date (inr v) =
+              fields-given b jd c p
+              ∙ text-refused b (c .date) (c .fraction) 1 v
+              ∙ ap refusal (one-number (isoText a jd) 1 k (fields-given a jd c p ∙ text-refused a (c .date) (c .fraction) 1 v) e)
+
+  pub refused-alike : (s : List ℕ) (n i k : ℕ) → textAt a s n i ≡ refusal k → textAt b s n i ≡ refusal k
+  unfolding textAt
+  refused-alike s n i k e = text-refused-alike (stampAt s n i) k e
+
+one-alike : (o p : Outcome (List ℕ)) → ((k : ℕ) → o ≡ refusal k → p ≡ refusal k) → ((k : ℕ) → p ≡ refusal k → o ≡ refusal k) → oneIfRefused o ≡ oneIfRefused p
+unfolding oneIfRefused
+one-alike (answer t) (answer u) f g = refl
+one-alike (answer t) (refusal k) f g = absurd (not-both (answer t) t k refl (g k refl))
+one-alike (refusal k) (answer u) f g = absurd (not-both (answer u) u k refl (f k refl))
+one-alike (refusal k) (refusal j) f g = refl
+
+-- so the count is the same
+pub count-alike : (a b : List Row) (s : List ℕ) (n k : ℕ) → refusedIn a s n k ≡ refusedIn b s n k
+unfolding refusedIn
+count-alike a b s n zero = refl
+count-alike a b s n (suc k) =
+    let before = count-alike a b s n k in
+    let one = one-alike (textAt a s n k) (textAt b s n k) (refused-alike a b s n k) (refused-alike b a s n k) in
+    omega arith
+
+-- and the header, which is written without a look at the table, is right for each
+pub header-alike : (a b : List Row) (s : List ℕ) → lineOf a (blockOf s) s 0 ≡ lineOf b (blockOf s) s 0
+unfolding lineOf
+header-alike a b s = go (blockOf s)
+  where
+    go : (o : Outcome ℕ) → lineOf a o s 0 ≡ lineOf b o s 0
+    go (answer n) = ap (header n) (count-alike a b s n n)
+    go (refusal k) = refl
+
+-- the lines of stamps that are refused too
+pub refused-lines-alike : (a b : List Row) (s : List ℕ) (n i k : ℕ) → textAt a s n i ≡ refusal k → stampLine a s n i ≡ stampLine b s n i
+unfolding stampLine
+refused-lines-alike a b s n i k e = rw (e, refused-alike a b s n i k e)
+
+-- ---- a call: what it does with a table that is taken, and with one that is turned away
+module _ {table : Outcome (List Row)} {s before after : List ℕ} {line : ℕ} {r : LinesAnswer} (c : PartCall table s line before r after) where
+  pub part-of-taken : (rows : List Row) → table ≡ answer rows → (p : Part) × (r ≡ Lines p) × PartPlaced rows s line before p after
+  unfolding linesOutcome scratchHolds onward
+  part-of-taken rows e = go r (c .says ∙ ap (λ (o : Outcome (List Row)). onward o (λ rows. answer (partOf rows s line (length before)))) e)
+    where
+      go : (x : LinesAnswer) → linesOutcome x ≡ answer (partOf rows s line (length before)) → (p : Part) × (x ≡ Lines p) × PartPlaced rows s line before p after
+      go (Lines p) q = (p, refl, record { says = cc; holds = c .holds ∙ ap (λ (o : Outcome (List Row)). scratchHolds (onward o (λ rows. answer (partText rows s line (length before)))) before) e })
+      go (Refused k) q = let z : _≡_ {A = ℕ} 0 1 = cc in absurd (omega arith)
+
+  pub part-of-refused : (k : ℕ) → table ≡ refusal k → (r ≡ Refused k) × (after ≡ before)
+  unfolding linesOutcome scratchHolds onward
+  part-of-refused k e = (
+    go r (c .says ∙ ap (λ (o : Outcome (List Row)). onward o (λ rows. answer (partOf rows s line (length before)))) e),
+    c .holds ∙ ap (λ (o : Outcome (List Row)). scratchHolds (onward o (λ rows. answer (partText rows s line (length before)))) before) e,
+  )
+    where
+      go : (x : LinesAnswer) → linesOutcome x ≡ refusal k → x ≡ Refused k
+      go (Lines p) q = let z : _≡_ {A = ℕ} 0 1 = cc in absurd (omega arith)
+      go (Refused j) q = let same : j ≡ k = cc in ap Refused same
+
+-- with no lent rows, whatever the places hold, every byte is that of the fixed table
+pub part-without-rows : (t : LentRows) → t .«months_size» ≡ 0 → t .«seconds_size» ≡ 0 → {s before after : List ℕ} {line : ℕ} {r : LinesAnswer}
+    → PartCall (tableOf t) s line before r after → (p : Part) × (r ≡ Lines p) × PartPlaced fixed s line before p after
+part-without-rows t m z c = part-of-taken c fixed (table-none t m z)
