@@ -28,6 +28,7 @@ static void prepare(const row *r)
     draw_inputs(r->inputs, in);
     make_block();
     make_ticks();
+    make_table();
 }
 
 /* Runs a loop once and keeps its answers, as many bytes as are returned, at `answers`. */
@@ -42,7 +43,7 @@ static size_t answers_of(const side *s, uint8_t *answers)
     return shown_length;
 }
 
-/* How many inputs the port refuses: a refusal leaves its slot as it was, or the slot has its number, -14 to -1, which
+/* How many inputs the port refuses: a refusal leaves its slot as it was, or the slot has its number, -28 to -1, which
    are the bits of no answer. */
 static int refusals(const side *s)
 {
@@ -51,7 +52,7 @@ static int refusals(const side *s)
     shown_length = 0;
     s->loop(s->call);
     if (shown_length) return 0;
-    EACH refused += slots[i].n == (int64_t)0xaaaaaaaaaaaaaaaa || (slots[i].n >= -14 && slots[i].n < 0);
+    EACH refused += slots[i].n == (int64_t)0xaaaaaaaaaaaaaaaa || (slots[i].n >= -28 && slots[i].n < 0);
     return refused;
 }
 

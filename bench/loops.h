@@ -130,6 +130,36 @@ static void gps_loop(any *f)
     EACH call(in[i].gps1, in[i].gps2, slots[i].bytes, 8);
 }
 
+/* ---- the port's calls that are lent a table: of no rows, and of 16 rows from 2031 on, which no input reaches. Each loop has two arguments
+   more than that of the Rust. */
+
+static uint8_t sixteen_rows[CT_TABLE_BYTES];
+
+static void make_table(void)
+{
+    int32_t months[16], seconds[16];
+    for (int i = 0; i < 16; i++) months[i] = 12 * (2031 + i), seconds[i] = i % 2 ? 37 : 38;
+    ct_table(months, seconds, 16, sixteen_rows);
+}
+
+typedef int64_t table_date_call(int32_t, int32_t, int32_t, const uint8_t *, size_t, uint8_t *, size_t);
+typedef int64_t table_offset_call(int32_t, int32_t, int32_t, double, const uint8_t *, size_t, uint8_t *, size_t);
+typedef int64_t table_jd_call(double, double, const uint8_t *, size_t, uint8_t *, size_t);
+typedef int64_t table_jd_offset_call(double, double, double, const uint8_t *, size_t, uint8_t *, size_t);
+typedef int64_t table_unix_call(int64_t, uint32_t, const uint8_t *, size_t, uint8_t *, size_t);
+typedef int64_t table_fields_call(int32_t, uint8_t, uint8_t, uint8_t, uint8_t, double, const uint8_t *, size_t, uint8_t *, size_t);
+
+#define TABLE_LOOPS(kind, ...) \
+    static void none_##kind##_loop(any *f) { table_##kind##_call *call = (table_##kind##_call *)f; const uint8_t *table = ct_no_rows; EACH call(__VA_ARGS__); } \
+    static void sixteen_##kind##_loop(any *f) { table_##kind##_call *call = (table_##kind##_call *)f; const uint8_t *table = sixteen_rows; EACH call(__VA_ARGS__); }
+TABLE_LOOPS(date, in[i].year, in[i].month, in[i].day, table, CT_TABLE_BYTES, slots[i].bytes, 16)
+TABLE_LOOPS(offset, in[i].year, in[i].month, in[i].day, in[i].fraction, table, CT_TABLE_BYTES, slots[i].bytes, 8)
+TABLE_LOOPS(jd, in[i].jd1, in[i].jd2, table, CT_TABLE_BYTES, slots[i].bytes, MOST_TEXT)
+TABLE_LOOPS(jd_offset, in[i].jd1, in[i].jd2, in[i].offset, table, CT_TABLE_BYTES, slots[i].bytes, 16)
+TABLE_LOOPS(unix, in[i].unix_seconds, in[i].nanos, table, CT_TABLE_BYTES, slots[i].bytes, 16)
+TABLE_LOOPS(fields, in[i].year, (uint8_t)in[i].month, (uint8_t)in[i].day, (uint8_t)in[i].hour, (uint8_t)in[i].minute, in[i].second, table,
+            CT_TABLE_BYTES, slots[i].bytes, 16)
+
 /* ---- calls that return their answer, which the loop writes into the slot */
 
 static void year_loop(any *f)
@@ -181,6 +211,12 @@ static void difference_loop(any *f)
 {
     difference_call *call = (difference_call *)f;
     EACH slots[i].d[0] = call(in[i].jd1, in[i].jd2, in[i].other1, in[i].other2);
+}
+
+static void check_table_loop(any *f)
+{
+    stamps_call *call = (stamps_call *)f;
+    EACH slots[i].n = call(sixteen_rows, CT_TABLE_BYTES);
 }
 
 static void stamps_loop(any *f)

@@ -17,11 +17,13 @@ typedef struct {
 } row;
 
 #define BOTH(loop, name) {loop, (any *)ct_##name}, {loop, (any *)rs_##name}
+#define LENT(kind, name) {none_##kind##_loop, (any *)ct_##name}, {kind##_loop, (any *)rs_##name}
+#define SIXTEEN(kind, name) {sixteen_##kind##_loop, (any *)ct_##name}, {kind##_loop, (any *)rs_##name}, NOT_IN_ERFA
 #define BY_ERFA(loop, name) {loop, (any *)name}
 #define NOT_IN_ERFA {NULL, NULL}
 #define PORT_ALONE(loop, name) {loop, (any *)ct_##name}, {NULL, NULL}, {NULL, NULL}
 #define TEXT(kind, set, rust, erfa) \
-    {"UTC text, " kind, set, {{jd_loop, (any *)ct_to_iso8601}, {jd_loop, (any *)rust}, {jd_loop, (any *)erfa}}}
+    {"UTC text, " kind, set, {{none_jd_loop, (any *)ct_to_iso8601}, {jd_loop, (any *)rust}, {jd_loop, (any *)erfa}}}
 #define LISTING(kind, set, rust, erfa) \
     {"listing per stamp, " kind, set, \
      {{port_listing_loop, NULL}, {driver_listing_loop, (any *)rust}, {driver_listing_loop, (any *)erfa}}}
@@ -46,9 +48,9 @@ static const row rows[] = {
     {"compare", LEAP_SECOND_YEARS, {PORT_ALONE(equal_loop, compare)}},
     {"same_stamp", LEAP_SECOND_YEARS, {PORT_ALONE(same_loop, same_stamp)}},
     {"difference", LEAP_SECOND_YEARS, {BOTH(difference_loop, difference), NOT_IN_ERFA}},
-    {"get_tai_utc_offset", LEAP_SECOND_YEARS, {BOTH(offset_loop, get_tai_utc_offset), BY_ERFA(erfa_offset_loop, eraDat)}},
-    {"get_tai_utc_offset", DRIFT_YEARS, {BOTH(offset_loop, get_tai_utc_offset), BY_ERFA(erfa_offset_loop, eraDat)}},
-    {"leap_at_end_of_day", LEAP_SECOND_YEARS, {BOTH(date_loop, leap_at_end_of_day), BY_ERFA(erfa_leap_loop, erfa_leap)}},
+    {"get_tai_utc_offset", LEAP_SECOND_YEARS, {LENT(offset, get_tai_utc_offset), BY_ERFA(erfa_offset_loop, eraDat)}},
+    {"get_tai_utc_offset", DRIFT_YEARS, {LENT(offset, get_tai_utc_offset), BY_ERFA(erfa_offset_loop, eraDat)}},
+    {"leap_at_end_of_day", LEAP_SECOND_YEARS, {LENT(date, leap_at_end_of_day), BY_ERFA(erfa_leap_loop, erfa_leap)}},
     {"GPS to TAI", LEAP_SECOND_YEARS, {BOTH(jd_loop, gps_to_tai), NOT_IN_ERFA}},
     {"TAI to GPS", LEAP_SECOND_YEARS, {BOTH(jd_loop, tai_to_gps), NOT_IN_ERFA}},
     {"GPS date from week", LEAP_SECOND_YEARS, {PORT_ALONE(week_loop, gps_from_week)}},
@@ -68,21 +70,27 @@ static const row rows[] = {
     {"TAI to UT1", LEAP_SECOND_YEARS, {BOTH(jd_offset_loop, tai_to_ut1_with_offset), BY_ERFA(erfa_jd_offset_loop, eraTaiut1)}},
     {"UT1 to TT", LEAP_SECOND_YEARS, {BOTH(jd_offset_loop, ut1_to_tt_with_delta_t), BY_ERFA(erfa_jd_offset_loop, eraUt1tt)}},
     {"TT to UT1", LEAP_SECOND_YEARS, {BOTH(jd_offset_loop, tt_to_ut1_with_delta_t), BY_ERFA(erfa_jd_offset_loop, eraTtut1)}},
-    {"UTC to TAI", LEAP_SECOND_YEARS, {BOTH(jd_loop, utc_to_tai), BY_ERFA(erfa_jd_loop, eraUtctai)}},
-    {"UTC to TAI", DRIFT_YEARS, {BOTH(jd_loop, utc_to_tai), BY_ERFA(erfa_jd_loop, eraUtctai)}},
-    {"UTC to TAI", MONTH_ENDS, {BOTH(jd_loop, utc_to_tai), BY_ERFA(erfa_jd_loop, eraUtctai)}},
-    {"TAI to UTC", LEAP_SECOND_YEARS, {BOTH(jd_loop, tai_to_utc), BY_ERFA(erfa_jd_loop, eraTaiutc)}},
-    {"TAI to UTC", DRIFT_YEARS, {BOTH(jd_loop, tai_to_utc), BY_ERFA(erfa_jd_loop, eraTaiutc)}},
-    {"UTC to UT1", LEAP_SECOND_YEARS, {BOTH(jd_offset_loop, utc_to_ut1_with_dut1), BY_ERFA(erfa_jd_offset_loop, eraUtcut1)}},
-    {"UT1 to UTC", LEAP_SECOND_YEARS, {BOTH(jd_offset_loop, ut1_to_utc_with_dut1), BY_ERFA(erfa_jd_offset_loop, eraUt1utc)}},
-    {"UTC::new", LEAP_SECOND_YEARS, {BOTH(unix_loop, utc_new), BY_ERFA(erfa_unix_loop, erfa_from_unix)}},
-    {"utc_from_calendar", LEAP_SECOND_YEARS, {BOTH(fields_loop, utc_from_calendar), BY_ERFA(erfa_utc_fields_loop, eraDtf2d)}},
+    {"UTC to TAI", LEAP_SECOND_YEARS, {LENT(jd, utc_to_tai), BY_ERFA(erfa_jd_loop, eraUtctai)}},
+    {"UTC to TAI", DRIFT_YEARS, {LENT(jd, utc_to_tai), BY_ERFA(erfa_jd_loop, eraUtctai)}},
+    {"UTC to TAI", MONTH_ENDS, {LENT(jd, utc_to_tai), BY_ERFA(erfa_jd_loop, eraUtctai)}},
+    {"TAI to UTC", LEAP_SECOND_YEARS, {LENT(jd, tai_to_utc), BY_ERFA(erfa_jd_loop, eraTaiutc)}},
+    {"TAI to UTC", DRIFT_YEARS, {LENT(jd, tai_to_utc), BY_ERFA(erfa_jd_loop, eraTaiutc)}},
+    {"UTC to UT1", LEAP_SECOND_YEARS, {LENT(jd_offset, utc_to_ut1_with_dut1), BY_ERFA(erfa_jd_offset_loop, eraUtcut1)}},
+    {"UT1 to UTC", LEAP_SECOND_YEARS, {LENT(jd_offset, ut1_to_utc_with_dut1), BY_ERFA(erfa_jd_offset_loop, eraUt1utc)}},
+    {"UTC::new", LEAP_SECOND_YEARS, {LENT(unix, utc_new), BY_ERFA(erfa_unix_loop, erfa_from_unix)}},
+    {"utc_from_calendar", LEAP_SECOND_YEARS, {LENT(fields, utc_from_calendar), BY_ERFA(erfa_utc_fields_loop, eraDtf2d)}},
     TEXT(OWN, LEAP_SECOND_YEARS, rs_to_iso8601, erfa_text),
     TEXT(OWN, DRIFT_YEARS, rs_to_iso8601, erfa_text),
     TEXT(OWN, MONTH_ENDS, rs_to_iso8601, erfa_text),
     TEXT(BY_HAND, LEAP_SECOND_YEARS, rust_text_by_hand, erfa_text_by_hand),
     TEXT(BY_HAND, DRIFT_YEARS, rust_text_by_hand, erfa_text_by_hand),
     TEXT(BY_HAND, MONTH_ENDS, rust_text_by_hand, erfa_text_by_hand),
+    {"get_tai_utc_offset, 16 lent rows", LEAP_SECOND_YEARS, {SIXTEEN(offset, get_tai_utc_offset)}},
+    {"leap_at_end_of_day, 16 lent rows", LEAP_SECOND_YEARS, {SIXTEEN(date, leap_at_end_of_day)}},
+    {"UTC to TAI, 16 lent rows", LEAP_SECOND_YEARS, {SIXTEEN(jd, utc_to_tai)}},
+    {"TAI to UTC, 16 lent rows", LEAP_SECOND_YEARS, {SIXTEEN(jd, tai_to_utc)}},
+    {"UTC text, 16 lent rows", LEAP_SECOND_YEARS, {SIXTEEN(jd, to_iso8601)}},
+    {"check_table", LEAP_SECOND_YEARS, {{check_table_loop, (any *)ct_check_table}, {NULL, NULL}, {NULL, NULL}}},
     {"place_ticks per tick, rising", LEAP_SECOND_YEARS, {{rising_ticks_loop, NULL}, NOT_IN_ERFA, NOT_IN_ERFA}},
     {"place_ticks per tick, by chance", LEAP_SECOND_YEARS, {{random_ticks_loop, NULL}, NOT_IN_ERFA, NOT_IN_ERFA}},
     {"block_stamps", LEAP_SECOND_YEARS, {PORT_ALONE(stamps_loop, block_stamps)}},

@@ -284,8 +284,6 @@ static void utc_texts(void)
 
 /* ---- texts read: tests/reader has the bulk */
 
-#define TEXT(words) (const uint8_t *)(words), sizeof(words) - 1
-
 static void texts_read(void)
 {
     GIVES(six_fields(2000, 1, 1, 12, 34, 56.789), ct_parse_iso8601, TEXT("2000-01-01T12:34:56.789"));
@@ -307,16 +305,16 @@ static void texts_read(void)
 
 static void utc_texts_read(void)
 {
-    GIVES((six_fields(2000, 1, 1, 12, 0, 0.0), and_parts(2451544.5, 0.5)), ct_utc_from_iso8601, TEXT("2000-01-01T12:00:00"));
-    GIVES((six_fields(2016, 12, 31, 23, 59, 60.5), and_parts(2457753.5, 86400.5 / 86401.0)), ct_utc_from_iso8601, TEXT(" 2016-12-31T23:59:60.5Z\n"));
-    REFUSES(15, ct_utc_from_iso8601, TEXT("2000-01-01T12:00:00 Z"));
-    REFUSES(15, ct_utc_from_iso8601, TEXT("2000-01-01T12:00:00ZZ"));
-    REFUSES(15, ct_utc_from_iso8601, TEXT("2000-01-01T12:00:00z"));
-    REFUSES(16, ct_utc_from_iso8601, TEXT("2000-13-01T99:99:99.00000000000000Z"));
-    REFUSES(2, ct_utc_from_iso8601, TEXT("2000-00-40T24:00:00Z"));
-    REFUSES(3, ct_utc_from_iso8601, TEXT("1900-02-29T24:00:00Z"));
-    REFUSES(4, ct_utc_from_iso8601, TEXT("2015-12-31T23:59:60Z"));
-    REFUSES(4, ct_utc_from_iso8601, TEXT("1961-07-31T23:59:59.96"));
+    GIVES((six_fields(2000, 1, 1, 12, 0, 0.0), and_parts(2451544.5, 0.5)), ct_utc_from_iso8601, TEXT("2000-01-01T12:00:00"), NO_ROWS);
+    GIVES((six_fields(2016, 12, 31, 23, 59, 60.5), and_parts(2457753.5, 86400.5 / 86401.0)), ct_utc_from_iso8601, TEXT(" 2016-12-31T23:59:60.5Z\n"), NO_ROWS);
+    REFUSES(15, ct_utc_from_iso8601, TEXT("2000-01-01T12:00:00 Z"), NO_ROWS);
+    REFUSES(15, ct_utc_from_iso8601, TEXT("2000-01-01T12:00:00ZZ"), NO_ROWS);
+    REFUSES(15, ct_utc_from_iso8601, TEXT("2000-01-01T12:00:00z"), NO_ROWS);
+    REFUSES(16, ct_utc_from_iso8601, TEXT("2000-13-01T99:99:99.00000000000000Z"), NO_ROWS);
+    REFUSES(2, ct_utc_from_iso8601, TEXT("2000-00-40T24:00:00Z"), NO_ROWS);
+    REFUSES(3, ct_utc_from_iso8601, TEXT("1900-02-29T24:00:00Z"), NO_ROWS);
+    REFUSES(4, ct_utc_from_iso8601, TEXT("2015-12-31T23:59:60Z"), NO_ROWS);
+    REFUSES(4, ct_utc_from_iso8601, TEXT("1961-07-31T23:59:59.96"), NO_ROWS);
 }
 
 /* ---- blocks: tests/c/damaged.c has the bulk */

@@ -34,6 +34,9 @@ static void judge(const char *call, int number, int64_t code)
         REFUSES(0, name, __VA_ARGS__); \
     } while (0)
 
+/* A text that is read. */
+#define TEXT(words) (const uint8_t *)(words), sizeof(words) - 1
+
 /* The table of a call that lends no rows. */
 #define NO_ROWS ct_no_rows, CT_TABLE_BYTES
 

@@ -48,6 +48,8 @@ static void with_a_leap_second(void)
     GIVES(parts(2461405.5, 0.5), ct_utc_new, INT64_C(1798675200) + 43200, 0, NO_ROWS);
     GIVES(parts(2461406.5, 38.0 / 86400.0), ct_utc_to_tai, 2461406.5, 0.0, LENT);
     GIVES(parts(2461406.5, 37.0 / 86400.0), ct_utc_to_tai, 2461406.5, 0.0, NO_ROWS);
+    GIVES((six_fields(2026, 12, 31, 23, 59, 60.5), and_parts(2461405.5, 86400.5 / 86401.0)), ct_utc_from_iso8601, TEXT("2026-12-31T23:59:60.5Z"), LENT);
+    REFUSES(4, ct_utc_from_iso8601, TEXT("2026-12-31T23:59:60.5Z"), NO_ROWS);
     GIVES(text("2026-12-31T23:59:60.500"), ct_to_iso8601, 2461405.5, 86400.5 / 86401.0, LENT);
     GIVES(text("2026-12-31T23:59:59.500"), ct_to_iso8601, 2461405.5, 86399.5 / 86400.0, NO_ROWS);
 }
@@ -66,6 +68,8 @@ static void with_a_second_left_out(void)
     GIVES(parts(2461405.5, 86398.0 / 86399.0), ct_utc_new, INT64_C(1798675200) + 86398, 0, LENT);
     REFUSES(4, ct_utc_new, INT64_C(1798675200) + 86399, 0, LENT);
     GIVES(parts(2461405.5, 0.5 * (86399.0 / 86400.0) + 37.0 / 86400.0), ct_utc_to_tai, 2461405.5, 0.5, LENT);
+    GIVES((six_fields(2026, 12, 31, 23, 59, 58.999), and_parts(2461405.5, 86398.999 / 86399.0)), ct_utc_from_iso8601, TEXT("2026-12-31T23:59:58.999"), LENT);
+    REFUSES(4, ct_utc_from_iso8601, TEXT("2026-12-31T23:59:59"), LENT);
     GIVES(text("2026-12-31T23:59:58.999"), ct_to_iso8601, 2461405.5, 86398.9994 / 86399.0, LENT);
     GIVES(text("2027-01-01T00:00:00.000"), ct_to_iso8601, 2461405.5, 86398.9996 / 86399.0, LENT);
     GIVES(text("2026-12-31T23:59:59.000"), ct_to_iso8601, 2461405.5, 86399.0 / 86400.0, NO_ROWS);
@@ -112,6 +116,8 @@ static void each_call_refuses(int number, size_t table_len)
     REFUSES(number, ct_ut1_to_utc_with_dut1, nan_float(), 0.0, nan_float(), table, table_len);
     REFUSES(number, ct_to_iso8601, 2451545.0, 0.0, table, table_len);
     REFUSES(number, ct_to_iso8601, nan_float(), 0.0, table, table_len);
+    REFUSES(number, ct_utc_from_iso8601, TEXT("2000-01-01T12:00:00"), table, table_len);
+    REFUSES(number, ct_utc_from_iso8601, TEXT("2000-13-01T24:00:00x"), table, table_len);
 }
 
 static void refused_tables(void)

@@ -30,7 +30,7 @@ int main(void)
     while ((length = getchar()) != EOF) {
         if (fread(text, 1, (size_t)length, stdin) != (size_t)length) return 1;
         int64_t a = ct_parse_iso8601(text, (size_t)length, plain, sizeof plain);
-        int64_t b = ct_utc_from_iso8601(text, (size_t)length, utc, sizeof utc);
+        int64_t b = ct_utc_from_iso8601(text, (size_t)length, ct_no_rows, sizeof ct_no_rows, utc, sizeof utc);
         if (a == 28) fields(plain);
         else printf("refused %" PRId64, -a);
         if (b == 44) {

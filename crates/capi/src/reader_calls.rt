@@ -1,11 +1,14 @@
 // Text that others wrote, read: its six fields, and of UTC text the date too.
 ghost use mathlib.Core.Bool.{false};
-ghost use Rattle.tai_utc.specs.Table.{fixed};
+ghost use Rattle.refusals.specs.Outcome.{onward};
 ghost use Rattle.parsing.specs.Parsed.{parsedOutcome, parsedUtcOutcome, parsed, parsedUtc};
+ghost use Rattle.lent_bytes.specs.TableBytes.{tableBytes};
 ghost use Rattle.c_answers.specs.Delivery.{inBytes, Delivered};
 ghost use Rattle.c_answers.specs.ReaderFields.{parsedBytes, parsedUtcBytes};
 use c_answers::reader_fields;
 use c_answers::refused;
+use lent_bytes::lent_rows_at;
+use lent_bytes::table_number;
 use parsing::ParsedAnswer;
 use parsing::ParsedUtcAnswer;
 
@@ -35,8 +38,13 @@ pub extern "C" fn ct_parse_iso8601(text: &[u8], out: &mut [u8]) -> i64
 }
 
 #[no_mangle]
-pub extern "C" fn ct_utc_from_iso8601(text: &[u8], out: &mut [u8]) -> i64
-    ensures { λ r. ⌜ Delivered (inBytes parsedUtcBytes (parsedUtc fixed (now (text .entry)))) (now (out .entry)) r (now (out .exit)) ⌝ }
+pub extern "C" fn ct_utc_from_iso8601(text: &[u8], table: &[u8], out: &mut [u8]) -> i64
+    ensures { λ r. ⌜ Delivered (inBytes parsedUtcBytes (onward (tableBytes (now (table .entry))) (λ rows. parsedUtc rows (now (text .entry))))) (now (out .entry)) r (now (out .exit)) ⌝ }
 {
-    put_parsed_utc(parsing::from_str(text), out)
+    let rows = lent_rows_at(table);
+    let number = table_number(table.len(), rows);
+    if number != 0 {
+        return refused(number);
+    }
+    put_parsed_utc(parsing::from_str_by_rows(text, rows), out)
 }

@@ -3,21 +3,22 @@ use Prim.Native.Nat.{ℕ, zero, suc, _+_, _*_, _≤_, _<_}
 use native.Mathlib.Omega.{arith}
 use native.Mathlib.Nat.{not-suc-le-zero}
 use mathlib.Core.Path.{_≡_, refl, sym, ap, _∙_}
-use mathlib.Core.Bool.{Bool, true, false, cond}
+use mathlib.Core.Bool.{Bool, true, false, true≢false, cond, _&&_}
 use mathlib.Core.List.{List}
-use lib.Dec.{leb}
+use lib.Dec.{eqb, leb}
 use lib.IntN.{ℤ, pos}
 use lib.ListN.{length, getD, set, length-set}
 use lib.Seq.{getD-set-same, getD-set-other}
 use borrow.Author.Count.{below-more}
-use borrow.Author.Tests.{eq-eqb, ne-eqb, leb-true, leb-false}
-use Rattle.refusals.specs.Outcome.{Outcome, refusal}
+use borrow.Author.Tests.{eq-eqb, ne-eqb, eqb-true, leb-true, leb-false}
+use Rattle.refusals.specs.Outcome.{Outcome, answer, refusal}
 use Rattle.little_endian.specs.LittleEndian.{u32At}
 use Rattle.tai_utc.specs.declared.LentRows.{LentRows}
-use Rattle.tai_utc.specs.Table.{Row}
-use Rattle.tai_utc.specs.Lent.{least, lentSize, tableOf}
+use Rattle.tai_utc.specs.Table.{Row, fixed}
+use Rattle.tai_utc.specs.Lent.{least, lentSize, rowsOf, tableOf}
 use Rattle.tai_utc.proofs.Tables.{least-right}
 use Rattle.tai_utc.proofs.TableLaws.{spare-unread}
+use Rattle.tai_utc.proofs.TablesTaken.{table-none, none-rows}
 use Rattle.lent_bytes.specs.TableBytes.{signedAt, signedFrom, recordIn, ofLength, tableBytes}
 
 -- ---- the numbers of an array by their places
@@ -80,3 +81,23 @@ of-136 s t e p = ap (ofLength (length s)) p
 pub of-another : (s : List ℕ) (o : Outcome (List Row)) → (length s ≡ 136 → ⊥) → ofLength (length s) o ≡ tableBytes s
 unfolding tableBytes ofLength
 of-another s o h = rw (ne-eqb (length s) 136 h)
+
+-- ---- two sizes of 0 lend no rows
+both-none : (a b : ℕ) → eqb a 0 && eqb b 0 ≡ true → (a ≡ 0) × (b ≡ 0)
+both-none a b e = go (eqb a 0) refl e
+  where
+    go : (x : Bool) → eqb a 0 ≡ x → x && eqb b 0 ≡ true → (a ≡ 0) × (b ≡ 0)
+    go true p q = (eqb-true a 0 p, eqb-true b 0 q)
+    go false p q = absurd (true≢false (sym q))
+
+pub reads-none : (s : List ℕ) (t : LentRows) (a b : ℕ) → a ≡ u32At s 0 → b ≡ u32At s 4 → eqb a 0 && eqb b 0 ≡ true → tableOf t ≡ answer fixed → tableOf t ≡ tableOf (recordIn s)
+reads-none s t a b p q e f =
+    let (x, y) = both-none a b e in
+    f ∙ sym (table-none (recordIn s) (sym p ∙ x) (sym q ∙ y))
+
+pub refuses-none : (n : ℕ) (t : LentRows) → n ≡ 136 → eqb (t .«months_size») 0 && eqb (t .«seconds_size») 0 ≡ true → answer (rowsOf t) ≡ ofLength n (tableOf t)
+unfolding ofLength
+refuses-none n t h e =
+    let (x, y) = both-none (t .«months_size») (t .«seconds_size») e in
+    let f = table-none t x y in
+    ap answer (none-rows t f) ∙ sym f ∙ rw (eq-eqb n 136 h)

@@ -1,6 +1,8 @@
 // The announced rows that a C caller lends, as bytes: document 02, item 8.
 ghost use mathlib.Core.Path.{_≡_};
 ghost use Prim.Native.Nat.{ℕ, _+_, _*_, _<_, _≤_};
+ghost use mathlib.Core.Bool.{_&&_};
+ghost use lib.Dec.{eqb};
 ghost use lib.IntN.{pos};
 ghost use lib.ListN.{getD, length};
 ghost use Rattle.tai_utc.specs.Lent.{least, rowsOf, tableOf, unlessRefused};
@@ -38,6 +40,16 @@ fn places_of(size: u32) -> usize
     if size <= 16 { size as usize } else { 16 }
 }
 
+// Whether two sizes lend no rows. Such a table is neither copied nor tested row by row.
+fn lend_none(first: u32, second: u32) -> bool
+    ensures { λ r. ⌜ r ≡ eqb first 0 && eqb second 0 ⌝ }
+{
+    if first != 0 {
+        return false;
+    }
+    second == 0
+}
+
 // The rows that the bytes hold, as far as their first size goes; bytes of another length than 136 are not read.
 pub fn lent_rows_at(bytes: &[u8]) -> LentRows
     ensures { λ r. ⌜ ofLength (length (now (bytes .entry))) (tableOf r) ≡ tableBytes (now (bytes .entry)) ⌝ }
@@ -47,6 +59,9 @@ pub fn lent_rows_at(bytes: &[u8]) -> LentRows
     }
     let months_size = little_endian::u32_at(bytes, 0);
     let seconds_size = little_endian::u32_at(bytes, 4);
+    if lend_none(months_size, seconds_size) {
+        return tai_utc::no_rows();
+    }
     let size = places_of(months_size);
     let months = numbers_at(bytes, 8, size);
     let seconds = numbers_at(bytes, 72, size);
@@ -64,6 +79,9 @@ pub fn table_number(length: usize, rows: LentRows) -> u32
 {
     if length != 136 {
         return refusals::BLOCK_LENGTH_WRONG;
+    }
+    if lend_none(rows.months_size, rows.seconds_size) {
+        return 0;
     }
     tai_utc::table_refusal(rows)
 }

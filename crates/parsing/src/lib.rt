@@ -8,13 +8,13 @@ use scales::UTC;
 use scales::UtcAnswer;
 use scan::Form;
 use scan::Scanned;
+use tai_utc::LentRows;
 ghost use mathlib.Core.Path.{_≡_};
 ghost use mathlib.Core.Bool.{true, false};
 ghost use Prim.Native.Nat.{_≤_};
 ghost use Rattle.julian.specs.JulianDate.{julianOutcome};
-ghost use Rattle.tai_utc.specs.Table.{fixed};
-ghost use Rattle.scales.specs.Scales.{utcOutcome};
-ghost use Rattle.utc.specs.FromCalendar.{utcFromCalendar};
+ghost use Rattle.refusals.specs.Outcome.{onward};
+ghost use Rattle.tai_utc.specs.Lent.{rowsOf, tableOf};
 ghost use Rattle.parsing.specs.Parsed.{parsedOutcome, parsedUtcOutcome, parsed, toJulianDate, dated as dated·of, parsedUtc};
 ghost use Rattle.parsing.specs.Scan.{timeIn, quotient, judgedForm};
 
@@ -126,34 +126,40 @@ pub fn parse_iso8601(text: &[u8]) -> ParsedAnswer
     parse(text, false)
 }
 
-// The fields of a UTC text and the date that they name. Refusals in order: 15 the text, 16 its fraction, 2 the month, 3 the day, 4 the time, which goes by the
-// length of the day's last minute.
-pub fn from_str(text: &[u8]) -> ParsedUtcAnswer
-    ensures { λ r. ⌜ parsedUtcOutcome r ≡ parsedUtc fixed (now (text .entry)) ⌝ }
+// The fields of a UTC text and the date that they name, by the rows of a table that is tested elsewhere. Refusals in order: 15 the text, 16 its fraction, 2 the month,
+// 3 the day, 4 the time, which goes by the length of the day's last minute.
+pub fn from_str_by_rows(text: &[u8], table: LentRows) -> ParsedUtcAnswer
+    ensures { λ r. ⌜ parsedUtcOutcome r ≡ parsedUtc (rowsOf table) (now (text .entry)) ⌝ }
 {
     match parse(text, true) {
         ParsedAnswer::Refused(number) => ParsedUtcAnswer::Refused(number),
-        ParsedAnswer::Fields(fields) => dated(fields),
+        ParsedAnswer::Fields(fields) => dated(fields, table),
     }
 }
 
-// `utc_from_calendar` with no lent rows.
-fn utc_from_calendar(year: i32, month: u8, day: u8, hour: u8, minute: u8, second: f64) -> UtcAnswer
-    ensures { λ r. ⌜ utcOutcome r ≡ utcFromCalendar fixed year month day hour minute second ⌝ }
+// The fields of a UTC text and the date that they name. Refusals in order: 20 to 22 the table, 15 the text, 16 its fraction, 2 the month, 3 the day, 4 the time, which
+// goes by the length of the day's last minute.
+pub fn from_str(text: &[u8], table: LentRows) -> ParsedUtcAnswer
+    ensures { λ r. ⌜ parsedUtcOutcome r ≡ onward (tableOf table) (λ rows. parsedUtc rows (now (text .entry))) ⌝ }
 {
-    utc::utc_from_calendar_by_rows(year, month, day, hour, minute, second, tai_utc::no_rows())
+    let number = tai_utc::table_refusal(table);
+    if number != 0 {
+        return ParsedUtcAnswer::Refused(number);
+    }
+    from_str_by_rows(text, table)
 }
 
-fn dated(fields: ParsedDateTime) -> ParsedUtcAnswer
-    ensures { λ r. ⌜ parsedUtcOutcome r ≡ dated·of fixed fields ⌝ }
+fn dated(fields: ParsedDateTime, table: LentRows) -> ParsedUtcAnswer
+    ensures { λ r. ⌜ parsedUtcOutcome r ≡ dated·of (rowsOf table) fields ⌝ }
 {
-    match utc_from_calendar(
+    match utc::utc_from_calendar_by_rows(
         fields.year,
         fields.month,
         fields.day,
         fields.hour,
         fields.minute,
         fields.second,
+        table,
     ) {
         UtcAnswer::Refused(number) => ParsedUtcAnswer::Refused(number),
         UtcAnswer::Date(date) => ParsedUtcAnswer::Read(ParsedUtc { fields, date }),

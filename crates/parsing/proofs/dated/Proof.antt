@@ -2,7 +2,7 @@
 use Rattle.parsing.specs.Parsed.{parsedUtcOutcome, dated}
 use Rattle.utc.specs.FromCalendar.{utcFromCalendar}
 use Rattle.scales.specs.Scales.{utcOutcome}
-use Rattle.tai_utc.specs.Table.{fixed}
+use Rattle.tai_utc.specs.Lent.{rowsOf}
 use Rattle.refusals.specs.Outcome.{onward}
 use mir.Facts.{toZ-ofZ}
 use mir.Val.{SFits}
@@ -13,8 +13,8 @@ use borrow.Author.Needs.{needs}
 use Rattle.parsing.proofs.dated.Statement.{statement}
 use Rattle.parsing.proofs.dated.Tie as tie
 
-utc-from-calendar-requires : tie.Need-utc-from-calendar-requires
-utc-from-calendar-requires c κs = search needs
+utc-from-calendar-by-rows-requires : tie.Need-utc-from-calendar-by-rows-requires
+utc-from-calendar-by-rows-requires c κs = search needs
 
 enum-known-number : tie.Need-enum-known-number
 enum-known-number c = search needs
@@ -25,18 +25,20 @@ enum-known-date c = search needs
 returns : tie.Need-returns
 unfolding parsedUtcOutcome dated onward utcOutcome
 returns c =
-    let p = c .before .before .before .before .before .args .fields in
+    let a = c .before .before .before .before .before .args in
+    let p = a .fields in
     let fit : SFits w32 (p .year) = record { sfits = c .before .before .before .before .struct-told .given .0 .1 } in
-    rw (sym (λ i. utcFromCalendar fixed (toZ-ofZ {w = w32} {z = p .year} fit i) (p .month) (p .day) (p .hour) (p .minute) (p .second)) ∙ sym (c .before .before .before .utc-from-calendar .ensures) ∙ ap utcOutcome (c .before .number .given .1))
+    rw (sym (λ i. utcFromCalendar (rowsOf (a .table)) (toZ-ofZ {w = w32} {z = p .year} fit i) (p .month) (p .day) (p .hour) (p .minute) (p .second)) ∙ sym (c .before .before .before .utc-from-calendar-by-rows .ensures) ∙ ap utcOutcome (c .before .number .given .1))
 
 returns-2 : tie.Need-returns-2
 unfolding parsedUtcOutcome dated onward utcOutcome
 returns-2 c =
-    let p = c .before .before .before .before .before .args .fields in
+    let a = c .before .before .before .before .before .args in
+    let p = a .fields in
     let fit : SFits w32 (p .year) = record { sfits = c .before .before .before .before .struct-told .given .0 .1 } in
-    rw (sym (λ i. utcFromCalendar fixed (toZ-ofZ {w = w32} {z = p .year} fit i) (p .month) (p .day) (p .hour) (p .minute) (p .second)) ∙ sym (c .before .before .before .utc-from-calendar .ensures) ∙ ap utcOutcome (c .before .date .given .1))
+    rw (sym (λ i. utcFromCalendar (rowsOf (a .table)) (toZ-ofZ {w = w32} {z = p .year} fit i) (p .month) (p .day) (p .hour) (p .minute) (p .second)) ∙ sym (c .before .before .before .utc-from-calendar-by-rows .ensures) ∙ ap utcOutcome (c .before .date .given .1))
 
 pub dated-spec : {M : Type 1} → statement M
 dated-spec =
     tie.close
-    (tie.spec utc-from-calendar-requires enum-known-number enum-known-date returns returns-2)
+    (tie.spec utc-from-calendar-by-rows-requires enum-known-number enum-known-date returns returns-2)

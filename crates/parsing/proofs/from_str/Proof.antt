@@ -1,32 +1,26 @@
--- `from_str` meets its contract. Assumes nothing.
-use Rattle.parsing.specs.Parsed.{parsedOutcome, parsedUtcOutcome, parsedUtc}
-use Rattle.refusals.specs.Outcome.{onward}
-use mathlib.Core.Path.{sym, ap, _∙_}
+-- `from_str` meets its contract: the table is tested, and its rows are read. Assumes nothing.
+use mathlib.Core.Path.{_∙_}
+use Rattle.tai_utc.proofs.TablesTaken.{turned-away, taken}
+use Rattle.parsing.specs.Parsed.{parsedUtcOutcome}
 use borrow.Author.Needs.{needs}
 use Rattle.parsing.proofs.from_str.Statement.{statement}
 use Rattle.parsing.proofs.from_str.Tie as tie
 
-parse-requires : tie.Need-parse-requires
-parse-requires c κs = search needs
-
-enum-known-number : tie.Need-enum-known-number
-enum-known-number c = search needs
-
-enum-known-fields : tie.Need-enum-known-fields
-enum-known-fields c = search needs
-
-dated-requires : tie.Need-dated-requires
-dated-requires c κs = search needs
+table-refusal-requires : tie.Need-table-refusal-requires
+table-refusal-requires c κs = search needs
 
 returns : tie.Need-returns
-unfolding parsedUtcOutcome parsedUtc onward parsedOutcome
-returns c = rw (sym (c .before .before .before .parse .ensures) ∙ ap parsedOutcome (c .before .number .given .1))
+unfolding parsedUtcOutcome
+returns c = let r = c .before in turned-away (r .before .before .args .table) (r .table-refusal .result) (r .table-refusal .ensures) _ (c .if1 .taken)
+
+from-str-by-rows-requires : tie.Need-from-str-by-rows-requires
+from-str-by-rows-requires c κs = search needs
 
 returns-2 : tie.Need-returns-2
-unfolding parsedUtc onward parsedOutcome
-returns-2 c = rw (sym (c .before .before .before .before .parse .ensures) ∙ ap parsedOutcome (c .before .before .fields .given .1)) (c .dated .ensures)
+returns-2 c =
+    let r = c .before .before in
+    c .from-str-by-rows .ensures ∙ taken (r .before .before .args .table) (r .table-refusal .result) (r .table-refusal .ensures) _ (c .before .if1 .left)
 
 pub from-str-spec : {M : Type 1} → statement M
 from-str-spec =
-    tie.close
-    (tie.spec parse-requires enum-known-number enum-known-fields dated-requires returns returns-2)
+    tie.close (tie.spec table-refusal-requires returns from-str-by-rows-requires returns-2)
