@@ -11,5 +11,5 @@ abbrev pub hasPlace : JulianDate → Bool
 hasPlace d = finite (sums d .error)
 
 -- of dates that have a place, the one with the smaller exact sum
-unfoldable pub comesBefore : JulianDate → JulianDate → Bool
-comesBefore d e = sooner (sums d) (sums e)
+unfoldable pub isEarlier : JulianDate → JulianDate → Bool
+isEarlier d e = sooner (sums d) (sums e)

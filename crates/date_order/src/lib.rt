@@ -54,8 +54,8 @@ pub fn has_place(a: julian::JulianDate) -> bool
 }
 
 // Whether the one date comes before the other; of dates that have a place.
-pub fn comes_before(a: julian::JulianDate, b: julian::JulianDate) -> bool
-    ensures { λ r. ⌜ r ≡ P.comesBefore a b ⌝ }
+pub fn is_earlier(a: julian::JulianDate, b: julian::JulianDate) -> bool
+    ensures { λ r. ⌜ r ≡ P.isEarlier a b ⌝ }
 {
     let one = julian::exact_sum(a.jd1, a.jd2);
     let two = julian::exact_sum(b.jd1, b.jd2);

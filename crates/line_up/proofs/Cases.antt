@@ -12,7 +12,7 @@ use borrow.Author.Tests.{eq-eqb, ne-eqb, lt-ltb, le-ltb, le-leb, lt-leb, eqb-tru
 use Rattle.little_endian.specs.LittleEndian.{u64At}
 use Rattle.julian.specs.declared.JulianDate.{JulianDate}
 use Rattle.julian.specs.JulianDate.{julian}
-use Rattle.date_order.specs.Places.{hasPlace, comesBefore}
+use Rattle.date_order.specs.Places.{hasPlace, isEarlier}
 use Rattle.line_up.specs.Runs.{acceptedIn, firstOr, tested, mark, pick, cursorAfter}
 use Rattle.line_up.specs.LineUp.{stampOf, deadAt, soonerAt, eightEach, lineRefusal}
 
@@ -20,7 +20,7 @@ pub stamp-is : (js ks : List ℕ) (i a b : ℕ) (x y : Float) → a ≡ u64At js
 unfolding stampOf
 stamp-is js ks i a b x y p q r s = rw (r, s, p, q)
 
-pub sooner-is : (js ks : List ℕ) (i j : ℕ) (a b : JulianDate) → a ≡ stampOf js ks i → b ≡ stampOf js ks j → comesBefore a b ≡ soonerAt js ks i j
+pub sooner-is : (js ks : List ℕ) (i j : ℕ) (a b : JulianDate) → a ≡ stampOf js ks i → b ≡ stampOf js ks j → isEarlier a b ≡ soonerAt js ks i j
 unfolding soonerAt
 sooner-is js ks i j a b p q = rw (p, q)
 

@@ -11,7 +11,7 @@ use Rattle.refusals.specs.Outcome.{Outcome, answer, refusal}
 use Rattle.little_endian.specs.LittleEndian.{u64At}
 use Rattle.julian.specs.declared.JulianDate.{JulianDate}
 use Rattle.julian.specs.JulianDate.{julian}
-use Rattle.date_order.specs.Places.{hasPlace, comesBefore}
+use Rattle.date_order.specs.Places.{hasPlace, isEarlier}
 use Rattle.line_up.specs.declared.LineUpAnswer.the-variants as Answer
 use Rattle.line_up.specs.declared.LineUpAnswer.{LineUpAnswer}
 use Rattle.line_up.specs.Runs.{allTested, numbersAfter, ordered}
@@ -26,7 +26,7 @@ deadAt js ks i = not (hasPlace (stampOf js ks i))
 
 -- the stamp at place i comes before that at j
 unfoldable pub soonerAt : List ℕ → List ℕ → ℕ → ℕ → Bool
-soonerAt js ks i j = comesBefore (stampOf js ks i) (stampOf js ks j)
+soonerAt js ks i j = isEarlier (stampOf js ks i) (stampOf js ks j)
 
 -- a place in four bytes
 abbrev pub fourBytes : ℕ → List ℕ

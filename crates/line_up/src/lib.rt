@@ -60,7 +60,7 @@ fn sooner_at(jd1s: &[u8], jd2s: &[u8], i: usize, j: usize) -> bool
 {
     let a = stamp_of(jd1s, jd2s, i);
     let b = stamp_of(jd1s, jd2s, j);
-    date_order::comes_before(a, b)
+    date_order::is_earlier(a, b)
 }
 
 // The number of the stamp at place i: 17 if it is earlier than the last accepted one of its run.

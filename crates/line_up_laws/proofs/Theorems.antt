@@ -17,7 +17,7 @@ use Rattle.julian.specs.declared.JulianDate.{JulianDate}
 use Rattle.julian.specs.Equality.{FiniteSums}
 use Rattle.julian.specs.Worth.{Worth}
 use Rattle.little_endian.specs.LittleEndian.{u64At}
-use Rattle.date_order.specs.Places.{hasPlace, comesBefore}
+use Rattle.date_order.specs.Places.{hasPlace, isEarlier}
 use Rattle.date_order.proofs.Exactly.{finite-error, sooner-exactly, worth-of}
 use Rattle.date_order.proofs.Swapped.{sooner-once}
 use Rattle.julian.specs.Equality.{sums}
@@ -46,11 +46,11 @@ module _ (date : ℕ → JulianDate) (floats : (p : ℕ) → Floats (date p)) wh
       record { first-float = floats p .first; second-float = floats p .second; sum = finite-error (date p) h .1 .1; error = h }
 
   lt-is : (x y P N Q M : ℕ) → Sound x → Sound y → Worth (date x) P N L → Worth (date y) Q M L → by date x y ≡ ltb (P + M) (Q + N)
-  unfolding Sound comesBefore
+  unfolding Sound isEarlier
   lt-is x y P N Q M s t v w = sooner-exactly (date x) (date y) P N Q M s t v w
 
   asym : (x y : ℕ) → by date x y ≡ true → by date y x ≡ false
-  unfolding comesBefore
+  unfolding isEarlier
   asym x y p = sooner-once (sums (date x)) (sums (date y)) p
 
   exactly-of : (x y : ℕ) → Sound x → Sound y → MayFollow (by date) x y → InOrder date x y

@@ -12,7 +12,7 @@ use Rattle.refusals.specs.Outcome.{answer}
 use Rattle.rounding.specs.Value.{L}
 use Rattle.julian.specs.Worth.{Worth}
 use Rattle.julian.specs.declared.JulianDate.{JulianDate}
-use Rattle.date_order.specs.Places.{hasPlace, comesBefore}
+use Rattle.date_order.specs.Places.{hasPlace, isEarlier}
 use Rattle.line_up.specs.Runs.{timesIn}
 use Rattle.line_up.specs.LineUp.{stampOf, placesBytes, LinedUp}
 
@@ -23,7 +23,7 @@ pub record Floats (d : JulianDate) : Type 0 where
 
 -- the stamp at place x comes before that at y
 abbrev pub by : (ℕ → JulianDate) → ℕ → ℕ → Bool
-by date x y = comesBefore (date x) (date y)
+by date x y = isEarlier (date x) (date y)
 
 -- the places of the numbers that are not 0, where the first stands at place i: who is refused or turned away
 unfoldable pub notInLine : ℕ → List ℕ → List ℕ

@@ -1,10 +1,10 @@
--- `date_order::comes_before` meets its contract. Assumes nothing.
+-- `date_order::is_earlier` meets its contract. Assumes nothing.
 use mathlib.Core.Path.{_∙_}
 use borrow.Author.Needs.{needs}
 use Rattle.julian.specs.Equality.{sums}
-use Rattle.date_order.specs.Places.{comesBefore}
-use Rattle.date_order.proofs.comes_before.Statement.{statement}
-use Rattle.date_order.proofs.comes_before.Tie as tie
+use Rattle.date_order.specs.Places.{isEarlier}
+use Rattle.date_order.proofs.is_earlier.Statement.{statement}
+use Rattle.date_order.proofs.is_earlier.Tie as tie
 
 exact-sum-requires : tie.Need-exact-sum-requires
 exact-sum-requires c κs = search needs
@@ -16,8 +16,8 @@ sooner-requires : tie.Need-sooner-requires
 sooner-requires c κs = search needs
 
 returns : tie.Need-returns
-unfolding sums comesBefore
+unfolding sums isEarlier
 returns c = c .sooner .ensures ∙ rw (c .before .before .exact-sum .ensures, c .before .exact-sum2 .ensures)
 
-pub comes-before-spec : {M : Type 1} → statement M
-comes-before-spec = tie.close (tie.spec exact-sum-requires exact-sum-requires-2 sooner-requires returns)
+pub is-earlier-spec : {M : Type 1} → statement M
+is-earlier-spec = tie.close (tie.spec exact-sum-requires exact-sum-requires-2 sooner-requires returns)
