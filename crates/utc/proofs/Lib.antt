@@ -4,6 +4,7 @@ pub mod UnixDays
 pub mod UnixTimes
 pub mod TextCalls
 pub mod TextRules
+pub mod CarriedRules
 pub mod DayTexts
 pub mod Numbers
 pub mod FromCalendars

@@ -1,16 +1,17 @@
--- `utc::to_iso8601_by_rows` meets its contract: the refusal of the calendar, or the day that it answers. Assumes nothing.
+-- `utc::by_rule::to_iso8601_by_lent` meets its contract: the refusal of the calendar, or the day that it answers. Assumes nothing.
 use mathlib.Core.Path.{_≡_, sym, ap, _∙_}
 use native.Mathlib.Omega.{arith}
 use Rattle.refusals.specs.Outcome.{answer}
+use Rattle.refusals.proofs.Onward.{went, stopped}
 use Rattle.julian.specs.Calendar.{calendarOutcome, julianToCalendar}
-use Rattle.tai_utc.specs.Lent.{rowsOf}
+use Rattle.utc.specs.ByRule.{textByRule}
 use Rattle.utc.proofs.Dates.{date-in-range}
-use Rattle.utc.proofs.TextCalls.{call-refused, call-as, fields-refused, fields-given}
+use Rattle.utc.proofs.TextRules.{rule-call-refused, rule-call-as}
 use borrow.Author.Needs.{needs}
-use Rattle.utc.proofs.to_iso8601_by_rows.Statement.{statement}
-use Rattle.utc.proofs.to_iso8601_by_rows.Tie as tie
+use Rattle.utc.proofs.by_rule.to_iso8601_by_lent.Statement.{statement}
+use Rattle.utc.proofs.by_rule.to_iso8601_by_lent.Tie as tie
 
-calendar-answered : (k : tie.After-fields) → julianToCalendar (k .before .before .before .before .before .args .utc .0 .jd1) (k .before .before .before .before .before .args .utc .0 .jd2) ≡ answer (k .fields .given .0 .0)
+calendar-answered : (k : tie.After-fields) → let s = k .before .before .before .before .before in julianToCalendar (s .args .utc .0 .jd1) (s .args .utc .0 .jd2) ≡ answer (k .fields .given .0 .0)
 unfolding calendarOutcome
 calendar-answered k = sym (k .before .before .julian-to-calendar .ensures) ∙ ap calendarOutcome (k .fields .given .1)
 
@@ -30,22 +31,18 @@ put-day-requires c κs =
     (omega (arith, r .month-high), omega (arith, r .day-high))
 
 returns : tie.Need-returns
-unfolding calendarOutcome
-returns c =
-    let v = c .before .before .before in
-    call-refused _ _ _ (fields-refused (rowsOf (c .before .before .before .before .before .before .args .table)) _ _ (sym (v .julian-to-calendar .ensures) ∙ ap calendarOutcome (c .before .number .given .1)))
+unfolding calendarOutcome textByRule
+returns c = rule-call-refused _ _ _ (stopped _ (sym (c .before .before .before .julian-to-calendar .ensures) ∙ ap calendarOutcome (c .before .number .given .1)))
 
 same-length : tie.Need-same-length
 same-length c = search needs
 
 returns-2 : tie.Need-returns-2
-returns-2 c =
-    let p = c .before .before in
-    let k = p .before .before .before .before in
-    call-as _ _ _ _ _ (fields-given (rowsOf (c .before .before .before .before .before .before .before .before .before .before .before .args .table)) _ _ (calendar-answered k)) (p .put-day .ensures)
+unfolding textByRule
+returns-2 c = rule-call-as _ _ _ _ _ (went _ (calendar-answered (c .before .before .before .before .before .before))) (c .before .before .put-day .ensures)
 
-pub to-iso8601-by-rows-spec : {M : Type 1} → statement M
-to-iso8601-by-rows-spec =
+pub to-iso8601-by-lent-spec : {M : Type 1} → statement M
+to-iso8601-by-lent-spec =
     tie.close
     (tie.spec
     julian-to-calendar-requires
