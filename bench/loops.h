@@ -304,7 +304,7 @@ static void erfa_tai_fields_loop(any *f) { erfa_fields_loop("TAI", (erfa_fields_
 static void port_listing_loop(any *f)
 {
     (void)f;
-    int64_t length = ct_listing_part(block, BLOCK_SIZE, 0, listing, LISTING_ROOM);
+    int64_t length = ct_listing_part(block, BLOCK_SIZE, 0, ct_no_rows, CT_TABLE_BYTES, listing, LISTING_ROOM);
     shown = listing;
     shown_length = length < 0 ? 0 : (size_t)length;
 }

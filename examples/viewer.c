@@ -36,7 +36,7 @@ static int64_t print_listing(const uint8_t *block, size_t length)
     uint8_t part[PART];
     uint32_t lines = 0;
     int64_t n, i;
-    while ((n = ct_listing_part(block, length, lines, part, sizeof part)) > 0) {
+    while ((n = ct_listing_part(block, length, lines, ct_no_rows, sizeof ct_no_rows, part, sizeof part)) > 0) {
         for (i = 0; i < n; i++) lines += part[i] == '\n';
         if (fwrite(part, 1, (size_t)n, stdout) != (size_t)n) return -1;
     }

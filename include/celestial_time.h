@@ -293,9 +293,9 @@ int64_t ct_block_stamps(const uint8_t *block, size_t block_len);
 /* A part of the block's listing, from line `line` on: as many whole lines as surely fit, where one is
    begun only if 33 bytes are left. Line 0 is the header and line i + 1 stamp i's; a refused block has
    line 0 alone. Returns the number of bytes, 0 past the last line. The next part begins at `line`
-   plus the line ends (byte 10) in this one. Refuses 11 only, where out_len is below 33. */
-int64_t ct_listing_part(const uint8_t *block, size_t block_len, uint32_t line, uint8_t *out,
-                        size_t out_len);
+   plus the line ends (byte 10) in this one. Refuses the table; then 11, where out_len is below 33. */
+int64_t ct_listing_part(const uint8_t *block, size_t block_len, uint32_t line, const uint8_t *table,
+                        size_t table_len, uint8_t *out, size_t out_len);
 
 /* ---- Ticks between marker passes: lists of 8 bytes a number, the lowest byte first */
 

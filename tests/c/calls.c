@@ -334,9 +334,9 @@ static void block_calls(void)
     IS(-12, ct_block_stamps(block, 24));
     for (room = 0; room <= ROOM; room++) {
         text("block refused 12\n");
-        judge("ct_listing_part", room < 33 ? 11 : 0, ct_listing_part(block, 24, 0, fresh(), room));
+        judge("ct_listing_part", room < 33 ? 11 : 0, ct_listing_part(block, 24, 0, NO_ROWS, fresh(), room));
         wanted_length = 0;
-        judge("ct_listing_part past the end", room < 33 ? 11 : 0, ct_listing_part(block, 24, 1, fresh(), room));
+        judge("ct_listing_part past the end", room < 33 ? 11 : 0, ct_listing_part(block, 24, 1, NO_ROWS, fresh(), room));
     }
 }
 

@@ -33,7 +33,7 @@ static size_t try_part(const block *b, size_t line, size_t size)
         memcpy(due + written, lines[next_line], length);
         written += length;
     }
-    code = ct_listing_part(b->bytes, b->length, (uint32_t)line, out, size);
+    code = ct_listing_part(b->bytes, b->length, (uint32_t)line, ct_no_rows, CT_TABLE_BYTES, out, size);
     check(code == (size < LINE ? -11 : (int64_t)written), "part at line %ld in %ld bytes: %ld", (long)line, (long)size,
           (long)code);
     check(!memcmp(due, out, size), "part at line %ld in %ld bytes: other bytes", (long)line, (long)size);

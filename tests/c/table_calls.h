@@ -173,6 +173,35 @@ static void spare_places(void)
     GIVES(seconds(1.0), ct_leap_at_end_of_day, 2026, 12, 31, LENT);
 }
 
+/* ---- a listing by a lent row: the last second of 2026 is shown, and a refused table lists nothing */
+
+static void listing_calls(void)
+{
+    uint8_t block[8 + 16] = {1, 0, 0, 0, 1, 0, 0, 0};
+    uint64_t jd1 = ct_bits_of(2461405.5), jd2 = ct_bits_of(86400.5 / 86401.0);
+    int i;
+    for (i = 0; i < 8; i++) {
+        block[8 + i] = (uint8_t)(jd1 >> 8 * i);
+        block[16 + i] = (uint8_t)(jd2 >> 8 * i);
+    }
+    one_row(JANUARY_2027, 38);
+    for (room = 33; room <= ROOM; room++) {
+        text("0 2026-12-31T23:59:60.500\n");
+        judge("ct_listing_part with a lent row", 0, ct_listing_part(block, 24, 1, LENT, fresh(), room));
+        text("0 2026-12-31T23:59:59.500\n");
+        judge("ct_listing_part with no rows", 0, ct_listing_part(block, 24, 1, NO_ROWS, fresh(), room));
+    }
+    for (room = 0; room <= ROOM; room++) {
+        judge("ct_listing_part", 14, ct_listing_part(block, 24, 0, table, CT_TABLE_BYTES - 1, fresh(), room));
+        one_row(JANUARY_2027, 39);
+        judge("ct_listing_part", 22, ct_listing_part(block, 7, 0, LENT, fresh(), room));
+        one_row(JANUARY_2017, 39);
+        judge("ct_listing_part", 21, ct_listing_part(block, 7, 0, LENT, fresh(), room));
+        table[4] = 2;
+        judge("ct_listing_part", 20, ct_listing_part(block, 7, 0, LENT, fresh(), room));
+    }
+}
+
 static void many(void)
 {
     int i;
@@ -198,6 +227,7 @@ static void table_calls(void)
     there_and_back(36);
     refused_tables();
     spare_places();
+    listing_calls();
     many();
     IS(42, ct_check_table(NO_ROWS));
 }

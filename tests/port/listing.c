@@ -12,7 +12,7 @@ int main(int argc, char **argv)
     uint32_t line = 0;
     int64_t n;
     if (size > sizeof out) return 2;
-    while ((n = ct_listing_part(block, length, line, out, size)) > 0) {
+    while ((n = ct_listing_part(block, length, line, ct_no_rows, sizeof ct_no_rows, out, size)) > 0) {
         fwrite(out, 1, (size_t)n, stdout);
         for (int64_t i = 0; i < n; i++) line += out[i] == '\n';
     }
