@@ -2,4 +2,5 @@
 pub mod Quarters
 pub mod Sharing
 pub mod Decided
+pub mod Faults
 pub mod Cases
