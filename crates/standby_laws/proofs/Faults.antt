@@ -178,7 +178,7 @@ module _ (table : LentRows) (rows : List Row) (taken : tableOf table ≡ answer 
   short-minute k k′ (up e) = omega arith
   short-minute k k′ (down e) = omega arith
 
-  whole-here : (y : ℤ) (m : ℕ) → ltZ y (pos 1972) ≡ false → 1 ≤ m → m ≤ 12 → wholeSeconds rows y m ≡ K (monthNumber y m)
+  pub whole-here : (y : ℤ) (m : ℕ) → ltZ y (pos 1972) ≡ false → 1 ≤ m → m ≤ 12 → wholeSeconds rows y m ≡ K (monthNumber y m)
   unfolding wholeSeconds
   whole-here y m p g h = rw (p, le-ltb m 1 g, le-ltb 12 m h)
 

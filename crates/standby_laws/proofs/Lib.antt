@@ -3,4 +3,7 @@ pub mod Quarters
 pub mod Sharing
 pub mod Decided
 pub mod Faults
+pub mod Exact
+pub mod Dates
+pub mod Order
 pub mod Cases

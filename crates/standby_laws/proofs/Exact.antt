@@ -1,0 +1,30 @@
+-- THE OFFSET of a time's exact TAI is TAI-UTC of its date: the whole number whose float `get_tai_utc_offset` gives, at every fraction of the day. Assumes nothing.
+use mathlib.Core.Path.{_≡_, ap, sym, _∙_}
+use mathlib.Core.Bool.{true, false}
+use mathlib.Core.List.{List}
+use lib.IntN.{pos}
+use lib.Signed.{ltZ}
+use lib.Ieee.{Float}
+use Rattle.refusals.specs.Outcome.{answer}
+use Rattle.calendar.specs.Refusals.{validDate}
+use Rattle.calendar.proofs.Accepted.{accepted}
+use Rattle.calendar.proofs.Mjd.{mjd-given}
+use Rattle.tai_utc.specs.declared.LentRows.{LentRows}
+use Rattle.tai_utc.specs.Table.{Row, monthNumber}
+use Rattle.tai_utc.specs.Lent.{tableOf}
+use Rattle.tai_utc.specs.Offset.{inDay, taiUtcOffset, wholeF}
+use Rattle.tai_utc.proofs.Offsets.{offset-given}
+use Rattle.tai_utc.proofs.TableSeconds.{table-seconds}
+use Rattle.tai_utc.proofs.WholeSeconds.{late}
+use Rattle.standby.specs.declared.UtcTime.{UtcTime}
+use Rattle.standby.specs.Times.{offsetOf}
+use Rattle.standby_laws.proofs.Faults.{whole-here}
+
+pub offset-is-tai-utc : (table : LentRows) (rows : List Row) → tableOf table ≡ answer rows → (t : UtcTime) → ltZ (t .year) (pos 1972) ≡ false → validDate (t .year) (pos (t .month)) (pos (t .day)) ≡ answer tt
+    → (f : Float) → inDay f ≡ true → taiUtcOffset rows (t .year) (pos (t .month)) (pos (t .day)) f ≡ answer (wholeF (offsetOf rows t))
+offset-is-tai-utc table rows taken t p v f h =
+    let a = accepted (t .year) (pos (t .month)) (pos (t .day)) v in
+    offset-given rows (t .year) (pos (t .month)) (pos (t .day)) f h _ (mjd-given (t .year) (pos (t .month)) (pos (t .day)) v)
+    ∙ ap answer
+    (table-seconds table rows taken (monthNumber (t .year) (t .month)) (late (t .year) (t .month) p (a .m-low)) _ f
+    ∙ ap wholeF (sym (whole-here table rows taken (t .year) (t .month) p (a .m-low) (a .m-high))))
