@@ -5,15 +5,19 @@ use native.Mathlib.Omega.{arith}
 use mathlib.Core.Path.{_≡_, refl, sym, ap, subst, _∙_}
 use mathlib.Core.Bool.{Bool, true, false, cond}
 use mathlib.Core.List.{List, [], _∷_, map}
-use lib.Dec.{T, leb}
-use lib.ListN.{length, length-map}
+use lib.Dec.{T, leb, leb→le}
+use lib.ListN.{length, length-map, drop, getD}
+use lib.Ieee.Fits.{and-l, and-r}
+use native.Mathlib.Decide.{decLt}
 use borrow.Author.Tests.{leb-true, leb-false, le-leb, lt-leb}
 use Rattle.refusals.specs.Outcome.{answer}
 use Rattle.tai_utc.specs.Table.{Row, fixed, starts, reached, rising}
 use Rattle.tai_utc.specs.Lent.{tableOf}
 use Rattle.tai_utc.specs.declared.LentRows.{LentRows}
 use Rattle.tai_utc.proofs.TableLaws.{lengths}
-use Rattle.offset_walk.specs.Rows.{held, left, compared}
+use Rattle.tai_utc.proofs.Reached.{at-most, low, high, none-begun, last-begun}
+use Rattle.offset_walk.specs.Rows.{held, left, compared, inTime, lastReached, withRowLeft}
+use Rattle.offset_walk.proofs.Forward.{halts, between}
 
 -- in one month: at most one more than the rows passed
 pub held-most : (l : List ℕ) (n : ℕ) → held l n + length (left l n) ≤ suc (length l)
@@ -54,3 +58,47 @@ before-first a l n h = rw (lt-leb a n h)
 pub past-last : (n : ℕ) → held [] n ≡ 0
 unfolding held
 past-last n = refl
+
+-- ---- IN CLOSED FORM, for a table that rises and months in time order: the rows reached in the last month, and one for each month that leaves a row
+module _ (l : List ℕ) (r : T (rising l)) where
+  passed-begun : (m j : ℕ) → j < reached l m → getD l j 0 ≤ m
+  passed-begun m j h = go (decLt m (getD l j 0))
+    where
+      go : Dec (m < getD l j 0) → getD l j 0 ≤ m
+      go (yes w) = absurd (omega (arith, high l r j m (omega (arith, at-most l m)) w))
+      go (no w) = omega arith
+
+  next-not : (m : ℕ) → reached l m < length l → m < getD l (reached l m) 0
+  next-not m h = go (reached l m) refl
+    where
+      go : (k : ℕ) → reached l m ≡ k → m < getD l (reached l m) 0
+      go zero e = none-begun l m e (reached l m) h
+      go (suc i) e = last-begun l m i e .later-not (reached l m) (omega arith) h
+
+  no-fewer : (m n k : ℕ) → n ≤ m → k ≤ length l → ((j : ℕ) → j < k → getD l j 0 ≤ n) → k ≤ reached l m
+  no-fewer m n zero a h g = omega arith
+  no-fewer m n (suc k) a h g = low l k m (omega arith) (omega (arith, g k (omega arith)))
+
+  closed-from : (months : List ℕ) (k n : ℕ) → k ≤ length l → ((j : ℕ) → j < k → getD l j 0 ≤ n) → T (inTime n months) → k + compared (drop k l) months ≡ lastReached l k months + withRowLeft l months
+  unfolding compared lastReached withRowLeft inTime
+  closed-from [] k n h g t = refl
+  closed-from (m ∷ months) k n h g t =
+      let a = leb→le n m (and-l (leb n m) (inTime m months) t) in
+      let f = no-fewer m n k a h g in
+      let more = closed-from months (reached l m) m (at-most l m) (passed-begun m) (and-r (leb n m) (inTime m months) t) in
+      let e : k + (reached l m - k) ≡ reached l m = omega arith in
+      let b = between l m (reached l m - k) k (omega (arith, e, at-most l m)) (λ j x y. passed-begun m j (omega (arith, e))) in
+      let z = halts l m (reached l m) (next-not m) in
+      let held-is : held (drop k l) m ≡ reached l m - k + cond (leb (length l) (reached l m)) 0 1 = b .0 ∙ ap (λ (x : ℕ). reached l m - k + held (drop x l) m) e ∙ ap (λ (x : ℕ). reached l m - k + x) (z .1) in
+      let left-is : left (drop k l) m ≡ drop (reached l m) l = b .1 ∙ ap (λ (x : ℕ). left (drop x l) m) e ∙ z .0 in
+      ap (λ (x : ℕ). k + x) (λ i. held-is i + compared (left-is i) months)
+      ∙ sums k (reached l m) (cond (leb (length l) (reached l m)) 0 1) (compared (drop (reached l m) l) months) (lastReached l (reached l m) months) (withRowLeft l months) f more
+    where
+      sums : (k q one x y z : ℕ) → k ≤ q → q + x ≡ y + z → k + (q - k + one + x) ≡ y + (one + z)
+      sums k q one x y z h e = omega arith
+
+  pub compared-closed : (months : List ℕ) → T (inTime 0 months) → compared l months ≡ lastReached l 0 months + withRowLeft l months
+  compared-closed months t = nothing (compared l months) ∙ closed-from months 0 0 (omega arith) (λ j h. absurd (omega arith)) t
+    where
+      nothing : (x : ℕ) → x ≡ 0 + x
+      nothing x = omega arith

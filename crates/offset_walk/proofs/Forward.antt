@@ -68,20 +68,23 @@ module _ (l : List ℕ) where
         (ap (λ (m : List ℕ). held m n) e ∙ rw b, ap (λ (m : List ℕ). left m n) e ∙ rw b)
 
     -- a row that has not begun ends it, and counts; where no row is left nothing does
-    pub stops : (k : ℕ) → n < getD l k never → (left (drop k l) n ≡ drop k l) × (held (drop k l) n ≡ cond (leb (length l) k) 0 1)
+    pub halts : (k : ℕ) → (k < length l → n < getD l k 0) → (left (drop k l) n ≡ drop k l) × (held (drop k l) n ≡ cond (leb (length l) k) 0 1)
     unfolding held left
-    stops k g = go (decLt k (length l))
+    halts k g = go (decLt k (length l))
       where
         go : Dec (k < length l) → (left (drop k l) n ≡ drop k l) × (held (drop k l) n ≡ cond (leb (length l) k) 0 1)
         go (yes w) =
             let e = drop-cons l k 0 w in
-            let b = lt-leb (getD l k 0) n (omega (arith, there k 0 never w)) in
+            let b = lt-leb (getD l k 0) n (g w) in
             let c = lt-leb (length l) k w in
             (ap (λ (m : List ℕ). left m n) e ∙ rw b (sym e), ap (λ (m : List ℕ). held m n) e ∙ rw (b, c))
         go (no w) =
             let e = drop-past k (omega arith) in
             let c = le-leb (length l) k (omega arith) in
             (ap (λ (m : List ℕ). left m n) e ∙ sym e, ap (λ (m : List ℕ). held m n) e ∙ rw c)
+
+    pub stops : (k : ℕ) → n < getD l k never → (left (drop k l) n ≡ drop k l) × (held (drop k l) n ≡ cond (leb (length l) k) 0 1)
+    stops k g = halts k (λ w. omega (arith, there k 0 never w))
 
     -- from place k to place k + d
     pub between : (d k : ℕ) → k + d ≤ length l → ((j : ℕ) → k ≤ j → j < k + d → getD l j 0 ≤ n) → (held (drop k l) n ≡ d + held (drop (k + d) l) n) × (left (drop k l) n ≡ left (drop (k + d) l) n)

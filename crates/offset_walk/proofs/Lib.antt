@@ -19,3 +19,5 @@ pub mod Eights
 pub mod Counts
 -- LookUp: each offset is that of the look-up of one date.
 pub mod LookUp
+-- Codes: the count fits the code that a caller from C gets.
+pub mod Codes

@@ -29,7 +29,7 @@ loop-holds c = walking-starts (rowsOf (c .args .table)) (c .args .month) (c .arg
 inside : (c : tie.In-loop Inv-loop μ-loop) → let l = c .before in l .loop .reached < length (rowsOf (l .before .args .table))
 inside c =
     let l = c .before in
-    walking-in (rowsOf (l .before .args .table)) (l .before .args .month) _ _ (l .loop .reached) (l .loop .next) (l .loop .compared) (l .loop .inv) (l .before .pre .1) (c .loop-test .taken)
+    walking-in (rowsOf (l .before .args .table)) (l .before .args .month) _ _ (l .loop .reached) (l .loop .next) (l .loop .compared) (l .loop .inv) (l .before .pre .1) (omega (arith, c .loop-test .taken))
 
 add-reached : tie.Need-add-reached Inv-loop μ-loop
 add-reached c = record { fits = omega (arith, inside c, c .before .loop .inv .small) }
@@ -47,7 +47,7 @@ loop-again : tie.Need-loop-again Inv-loop μ-loop
 loop-again c =
     let l = c .before .before in
     let s = l .before .args in
-    walking-goes (rowsOf (s .table)) (s .month) _ _ (l .loop .reached) (l .loop .next) (l .loop .compared) (l .loop .inv) (l .before .pre .1) (c .before .loop-test .taken) (c .row-start .result) (c .row-start .ensures)
+    walking-goes (rowsOf (s .table)) (s .month) _ _ (l .loop .reached) (l .loop .next) (l .loop .compared) (l .loop .inv) (l .before .pre .1) (omega (arith, c .before .loop-test .taken)) (c .row-start .result) (c .row-start .ensures)
 
 row-terms-requires : tie.Need-row-terms-requires Inv-loop μ-loop
 row-terms-requires c κs = search needs
