@@ -33,7 +33,8 @@ use Rattle.utc.specs.TextCall.{TextCall}
 use Rattle.utc.specs.Shows.{TextDemand}
 use Rattle.utc.specs.GoodSheet.{GoodSheet}
 use Rattle.utc.specs.OneText.{OneText}
-use Rattle.utc.specs.Expanded.{expandedSheet, isoTextExpanded, expandedPromise}
+use Rattle.utc.specs.Expanded.{expandedSheet, isoTextExpanded}
+use Rattle.utc.specs.Promises.{expandedPromise}
 use Rattle.utc.specs.Beside.{Beside, refused, written}
 use Rattle.utc.proofs.Sheets.{near-501}
 use Rattle.utc.proofs.Demand3.{fixed-leaps, table-leaps, demand-3-by}

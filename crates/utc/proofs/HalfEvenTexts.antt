@@ -30,7 +30,8 @@ use Rattle.utc.specs.TextCall.{TextCall}
 use Rattle.utc.specs.Shows.{TextDemand}
 use Rattle.utc.specs.GoodSheet.{GoodSheet}
 use Rattle.utc.specs.OneText.{OneText}
-use Rattle.utc.specs.HalfEven.{evenSheet, isoTextHalfEven, evenPromise}
+use Rattle.utc.specs.HalfEven.{evenSheet, isoTextHalfEven}
+use Rattle.utc.specs.Promises.{evenPromise}
 use Rattle.utc.proofs.Sums.{fraction-fits}
 use Rattle.utc.proofs.Sheets.{form01}
 use Rattle.utc.proofs.Demand3.{fixed-leaps, table-leaps, demand-3-by}

@@ -1,4 +1,4 @@
--- The text of a UTC date with expanded years, and what is promised of it. Written from document 02, item 6: "a text call like 01's that writes such years as a sign
+-- The text of a UTC date with expanded years. Written from document 02, item 6: "a text call like 01's that writes such years as a sign
 -- and seven digits". Assumes nothing.
 use Prim.Native.Nat.{ℕ}
 use mathlib.Core.List.{List}
@@ -10,10 +10,8 @@ use Rattle.julian.specs.declared.JulianDate.{JulianDate}
 use Rattle.tai_utc.specs.Table.{Row}
 use Rattle.time_of_day.specs.TimeShown.{countBy}
 use Rattle.utc_text.specs.Expanded.{expandedText}
-use Rattle.utc_text.specs.ExpandedForm.{ExpandedForm}
 use Rattle.utc.specs.Sheet.{Sheet}
 use Rattle.utc.specs.IsoText.{dayTextBy, isoTextBy}
-use Rattle.utc.specs.Shows.{Promise}
 
 -- milliseconds as document 01's sheet counts them, years of four digits or of a sign and seven
 abbrev pub expandedSheet : Sheet
@@ -24,7 +22,3 @@ dayTextExpanded rows d fraction = dayTextBy expandedSheet rows d fraction
 
 abbrev pub isoTextExpanded : List Row → JulianDate → Outcome (List ℕ)
 isoTextExpanded rows jd = isoTextBy expandedSheet rows jd
-
--- 23 or 27 bytes, and 0.501 ms on every day
-abbrev pub expandedPromise : Promise
-expandedPromise = record { Form = ExpandedForm; c = λ leap. 1000; e = λ leap. 501 }

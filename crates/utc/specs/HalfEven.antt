@@ -1,4 +1,4 @@
--- The text of a UTC date with a half millisecond to the even one, and what is promised of it. Written from document 02, item 4: "a text call with that rule".
+-- The text of a UTC date with a half millisecond to the even one. Written from document 02, item 4: "a text call with that rule".
 -- Assumes nothing.
 use Prim.Native.Nat.{ℕ}
 use mathlib.Core.List.{List}
@@ -8,11 +8,9 @@ use Rattle.calendar.specs.declared.CalendarDate.{CalendarDate}
 use Rattle.julian.specs.declared.JulianDate.{JulianDate}
 use Rattle.tai_utc.specs.Table.{Row}
 use Rattle.time_of_day.specs.HalfEven.{evenCount}
-use Rattle.time_of_day.specs.EvenPromise.{evenParts, evenMost}
 use Rattle.utc_text.specs.Text.{utcText}
 use Rattle.utc.specs.Sheet.{Sheet}
 use Rattle.utc.specs.IsoText.{dayTextBy, isoTextBy}
-use Rattle.utc.specs.Shows.{Promise, Form01}
 
 -- a half millisecond to the even one, dates and times as document 01's sheet writes them
 abbrev pub evenSheet : Sheet
@@ -23,7 +21,3 @@ dayTextHalfEven rows d fraction = dayTextBy evenSheet rows d fraction
 
 abbrev pub isoTextHalfEven : List Row → JulianDate → Outcome (List ℕ)
 isoTextHalfEven rows jd = isoTextBy evenSheet rows jd
-
--- document 01's form; 0.5 ms on days of whole seconds, and 0.501 ms on 1959-12-31
-abbrev pub evenPromise : Promise
-evenPromise = record { Form = Form01; c = evenParts; e = evenMost }

@@ -9,6 +9,7 @@ pub mod ByRule
 pub mod HalfEven
 -- The words of the theorems: no contract cites them.
 pub mod Shows
+pub mod Promises
 pub mod GoodSheet
 pub mod OneText
 pub mod Beside
