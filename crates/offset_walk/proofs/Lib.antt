@@ -21,3 +21,5 @@ pub mod Counts
 pub mod LookUp
 -- Codes: the count fits the code that a caller from C gets.
 pub mod Codes
+-- Worked: the count and the refusals of real dates.
+pub mod Worked
