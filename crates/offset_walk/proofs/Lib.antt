@@ -23,3 +23,5 @@ pub mod LookUp
 pub mod Codes
 -- Worked: the count and the refusals of real dates.
 pub mod Worked
+-- DayOrder: the order of dates is that of their days.
+pub mod DayOrder
