@@ -45,7 +45,7 @@
      11  buffer too short
      12  sizes of a block differ
      13  size of a block above 4,000
-     14  length of a block, of a table, or of a list of ticks or passes, wrong
+     14  length of a block, of a table, or of a list of dates, ticks or passes, wrong
      15  text outside the grammar
      16  more than 13 digits after a second's point
      17  date or stamp earlier than the one before it
@@ -61,9 +61,10 @@
      27  number of a bill over its limit
      28  both lengths of line 0
    A call tests in the order in which its comment lists them, and 11 last, but for
-   ct_place_ticks, where 11 comes second. Where it has two or more, the comment has an
-   example in which two hold, with the one that comes first. "With no byte" is with a
-   buffer of length 0, of which 11 holds. */
+   ct_place_ticks, where 11 comes second, and ct_offsets_at_0h, where it comes before the
+   dates' numbers. Where it has two or more, the comment has an example in which two hold,
+   with the one that comes first. "With no byte" is with a buffer of length 0, of which 11
+   holds. */
 #ifndef CELESTIAL_TIME_H
 #define CELESTIAL_TIME_H
 
@@ -182,6 +183,18 @@ int64_t ct_get_tai_utc_offset(int32_t year, int32_t month, int32_t day, double f
    5 on 2147483647-12-31; 11. 2000-13-40 is 2, and 2147483647-12-31 with no byte 5. */
 int64_t ct_leap_at_end_of_day(int32_t year, int32_t month, int32_t day, const uint8_t *table,
                               size_t table_len, uint8_t *out, size_t out_len);
+
+/* TAI-UTC in seconds at 0h of each of many dates in time order, in one walk through the table: 8 bytes
+   a date, in the dates' order. A date is 12 bytes: year, month, day; equal dates may follow each other.
+   Returns the number of rows compared, at most the dates plus 58: a row counts each time a date's month
+   is held against the start of the next row not yet reached. What lies behind the offsets stays.
+   Refuses the table; 14 for a length of dates that is no multiple of 12; 11 for fewer whole places in
+   out than dates, here before the dates' numbers; then date by date 1, 2, 3, and 17 for one earlier
+   than the one before it. Nothing is written before all is judged. 2016-12-31, 2017-01-01 give 36.0,
+   37.0 and 43 rows; no date gives 0. 1999-02-29 with no byte is 11; 2017-01-01, 2016-12-31, 1999-02-29
+   are 17, and with one byte more of dates 14. */
+int64_t ct_offsets_at_0h(const uint8_t *dates, size_t dates_len, const uint8_t *table, size_t table_len,
+                         uint8_t *out, size_t out_len);
 
 /* ---- Scales: a date of the first scale in, the date of the second out: jd1, jd2; 16 bytes */
 

@@ -7,6 +7,7 @@
 #include "scale_calls.h"
 #include "table_calls.h"
 #include "tick_calls.h"
+#include "walk_calls.h"
 
 static void month_lengths(void)
 {
@@ -402,5 +403,6 @@ int main(void)
     read_answers();
     tick_calls();
     table_calls();
+    walk_calls();
     return summary("calls");
 }

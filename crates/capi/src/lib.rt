@@ -11,3 +11,4 @@ pub mod same_stamp_calls;
 pub mod scale_calls;
 pub mod tick_calls;
 pub mod utc_calls;
+pub mod walk_calls;

@@ -1,0 +1,60 @@
+-- A walk through the table is delivered, and its count fits a code. Assumes nothing.
+use Prim.Native.Nat.{ℕ, _+_, _/_, _%_, _≤_, _<_, _^_}
+use native.Mathlib.Omega.{arith}
+use mathlib.Core.Path.{_≡_, refl, sym, ap, subst, _∙_}
+use mathlib.Core.List.{List}
+use lib.Dec.{eqb}
+use lib.ListN.{length}
+use lib.IntN.{ℤ, pos}
+use lib.Signed.{mag}
+use mir.Syntax.{w64}
+use mir.Val.{toZ, ofZ}
+use mir.Facts.{toZ-pos}
+use Rattle.refusals.specs.Outcome.{Outcome, answer, refusal, onward}
+use Rattle.tai_utc.specs.declared.LentRows.{LentRows}
+use Rattle.tai_utc.specs.Table.{Row}
+use Rattle.tai_utc.specs.Lent.{rowsOf, tableOf, unlessRefused}
+use Rattle.offset_walk.specs.declared.WalkAnswer.{WalkAnswer}
+use Rattle.offset_walk.specs.declared.WalkAnswer.the-variants.{Compared, Refused}
+use Rattle.offset_walk.specs.Walk.{Walked}
+use Rattle.offset_walk.specs.Lists.{datesFrom, tripleIn, walkOfBytes, inEights}
+use Rattle.offset_walk.specs.Call.{walkOutcome, lentAfter, WalkCall}
+use Rattle.offset_walk.proofs.Goods.{how-many}
+use Rattle.offset_walk.proofs.Codes.{count-most}
+use Rattle.lent_bytes.specs.TableBytes.{ofLength, tableBytes}
+use Rattle.lent_bytes.proofs.Laws.{turned-away}
+use Rattle.c_answers.specs.Delivery.{code}
+use Rattle.c_answers.proofs.Deliveries.{code-back}
+use Rattle.capi.specs.WalkDelivery.{WalkDelivered}
+use Rattle.capi.proofs.Tables.{table-is}
+
+-- the rows t and the number n that the code finds in the bytes s; the dates and the buffer
+module _ (s : List ℕ) (t : LentRows) (n : ℕ) (e : unlessRefused n (rowsOf t) ≡ ofLength (length s) (tableOf t)) (f : ofLength (length s) (tableOf t) ≡ tableBytes s) (dates l : List ℕ) where
+  abbrev next : List Row → Outcome Walked
+  next rows = walkOfBytes rows dates (length l)
+
+  pub walk-table-refused : {r : ℤ} → mag r < 2 ^ 63 → (n ≡ 0 → ⊥) → r ≡ code (refusal n) → WalkDelivered (onward (tableBytes s) next) l (toZ w64 (ofZ w64 r)) l
+  unfolding onward lentAfter
+  walk-table-refused {r} ok h c =
+      subst (λ (o : Outcome Walked). WalkDelivered o l (toZ w64 (ofZ w64 r)) l) (sym (turned-away (rowsOf t) n (e ∙ f) next h))
+      (record { returned = code-back ok ∙ c; holds = refl })
+
+  module _ (h : n ≡ 0) {out : List ℕ} (res : WalkAnswer) (p : WalkCall inEights (onward (tableOf t) next) l res out) where
+    delivered : (r : ℤ) → r ≡ code (walkOutcome res) → WalkDelivered (onward (tableBytes s) next) l r out
+    delivered r c =
+        subst (λ (o : Outcome (List Row)). WalkDelivered (onward o next) l r out) (table-is s t n e f h)
+        (record { returned = c ∙ ap code (p .says); holds = p .holds })
+
+    pub walk-count : (k : ℕ) → res ≡ Compared k → k ≤ length dates / 12 + 58
+    unfolding walkOutcome
+    walk-count k i =
+        let q : answer k ≡ onward (onward (tableOf t) next) (λ w. answer (w .rowsCompared)) = sym (ap walkOutcome i) ∙ p .says in
+        omega (arith, count-most t (eqb (length dates % 12) 0) (datesFrom (tripleIn dates) 0 (length dates / 12)) (length l / 8) k q, how-many (tripleIn dates) (length dates / 12) 0)
+
+    pub walk-compared : (k : ℕ) → res ≡ Compared k → k < 2 ^ 63 → WalkDelivered (onward (tableBytes s) next) l (toZ w64 k) out
+    unfolding walkOutcome code
+    walk-compared k i b = delivered (toZ w64 k) (toZ-pos w64 {n = k} b ∙ sym (ap (λ (x : WalkAnswer). code (walkOutcome x)) i))
+
+    pub walk-refused : {r : ℤ} (k : ℕ) → mag r < 2 ^ 63 → res ≡ Refused k → r ≡ code (refusal k) → WalkDelivered (onward (tableBytes s) next) l (toZ w64 (ofZ w64 r)) out
+    unfolding walkOutcome
+    walk-refused {r} k ok i c = delivered (toZ w64 (ofZ w64 r)) (code-back ok ∙ c ∙ sym (ap (λ (x : WalkAnswer). code (walkOutcome x)) i))
