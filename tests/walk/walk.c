@@ -5,8 +5,6 @@
 #include <stdio.h>
 #include <stdlib.h>
 
-int64_t ct_offsets_at_0h(const uint8_t *dates, size_t dates_len, const uint8_t *table, size_t table_len, uint8_t *out, size_t out_len);
-
 static uint8_t *some(size_t n)
 {
     uint8_t *p = malloc(n + 1);
