@@ -3,3 +3,4 @@ pub mod Whole
 pub mod LineEnds
 pub mod NotFinite
 pub mod Tables
+pub mod Numerals

@@ -19,7 +19,7 @@ use Rattle.time_of_day.specs.declared.TimeOfDay.{TimeOfDay}
 use Rattle.time_of_day.specs.declared.TimeShown.{TimeShown}
 use Rattle.time_of_day.specs.declared.TimeShown.the-variants.{At, NextMidnight}
 use Rattle.time_of_day.specs.TimeShown.{shownOf}
-use Rattle.utc_text.specs.Text.{last, two, three, four, five, six, seven, yearText, afterYear, utcText}
+use Rattle.utc_text.specs.Text.{last, three, four, five, six, seven, yearText, afterYear, utcText}
 use Rattle.utc.specs.IsoText.{midnight, nextMidnightTextBy, shownTextBy, shownText, dayTextBy, isoTextBy, isoText}
 use Rattle.stamps.specs.Block.{blockOf}
 use Rattle.stamps.specs.Listing.{numeral, refusedWord, utcListingWords, blockRefusedWords, textAt, shown, stampLine, refusedIn, header, blockRefused}

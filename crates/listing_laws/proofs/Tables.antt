@@ -1,8 +1,8 @@
 -- A listing by a lent table: which stamps are refused, and so the header, is the same by all rows; a call with a taken table gives the part by its rows, one with no
 -- lent rows the part by the fixed table. Assumes nothing.
-use Prim.Native.Nat.{ℕ, zero, suc, _+_}
+use Prim.Native.Nat.{ℕ, zero, suc}
 use native.Mathlib.Omega.{arith}
-use mathlib.Core.Path.{_≡_, refl, sym, ap, _∙_}
+use mathlib.Core.Path.{_≡_, refl, ap, _∙_}
 use mathlib.Core.Logic.{_⊎_, inl, inr}
 use mathlib.Core.List.{List}
 use lib.ListN.{length}
@@ -24,7 +24,7 @@ use Rattle.stamps.specs.declared.Part.{Part}
 use Rattle.stamps.specs.declared.LinesAnswer.{LinesAnswer}
 use Rattle.stamps.specs.declared.LinesAnswer.the-variants.{Lines, Refused}
 use Rattle.stamps.specs.Block.{blockOf, stampAt}
-use Rattle.stamps.specs.Listing.{textAt, shown, stampLine, oneIfRefused, refusedIn, header}
+use Rattle.stamps.specs.Listing.{textAt, stampLine, oneIfRefused, refusedIn, header}
 use Rattle.stamps.specs.Parts.{lineOf, linesOutcome, scratchHolds, partOf, partText, PartPlaced, PartCall}
 
 -- ---- refusals read no row: what one table refuses every other refuses, by the same number

@@ -1,5 +1,4 @@
 // Bytes and decimal numbers into a lent slice from an index on. Each function answers the index after what it wrote.
-ghost use mathlib.Core.Path.{_≡_};
 ghost use Prim.Native.Nat.{_+_, _≤_, _<_};
 ghost use mathlib.Core.List.{[], _∷_};
 ghost use lib.ListN.{length};

@@ -1,5 +1,4 @@
 -- `listing::next_part` meets its contract: the table is tested, and its rows are read. Assumes nothing.
-use denote.Ref.{now}
 use Rattle.stamps.proofs.Parts.{part-refused, part-taken}
 use borrow.Author.Needs.{needs}
 use Rattle.stamps.proofs.listing.next_part.Statement.{statement}
