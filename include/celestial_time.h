@@ -43,9 +43,9 @@
          where the sum of the parts or its rounding error overflows
      10  offset not finite
      11  buffer too short
-     12  sizes of a block differ
-     13  size of a block above 4,000
-     14  length of a block, of a table, or of a list of dates, ticks or passes, wrong
+     12  sizes of a block, or of the lists of a line, differ
+     13  size of a block above 4,000, or more stamps than 4 bytes can number
+     14  length of a block, of a table, or of a list wrong, or counts past it
      15  text outside the grammar
      16  more than 13 digits after a second's point
      17  date or stamp earlier than the one before it
@@ -145,6 +145,21 @@ int64_t ct_same_stamp(uint32_t scale, uint64_t jd1, uint64_t jd2, uint32_t other
    large that the sum or its rounding error overflows, as of (1.7e308, 1.7e308); every date with parts
    under 2^52 in size is answered. */
 int64_t ct_compare(double jd1, double jd2, double other1, double other2);
+
+/* The stamps of up to three recorders in one order, by their exact sums; all of one scale, TAI. The runs
+   stand one after the other in the three slices, 8 bytes for each part and one byte for the number of each
+   stamp: first_count stamps, then second_count, then what is left. Number 0 is a stamp to order; any other
+   says by what it was refused before, and is left out. Returns how many are ordered; out has their places
+   in the slices, 4 bytes each, ties by run and then by place; what lies behind them stays. Into numbers is
+   written 9 for a stamp that came with 0 and that ct_compare would refuse, and 17 for one that is earlier
+   than an ordered one before it in its own run. Refuses 14 for a length of parts that is no multiple of 8;
+   12 for another number of parts than of numbers; 14 for counts past the length; 13 for more stamps than 4
+   bytes can number; 11 for fewer than 4 bytes a stamp, also where fewer are ordered. A refused call writes
+   nothing. Of two stamps, 2451545.0 and 2451544.0, with no recorder but the first (first_count 2), the
+   second gets 17; with first_count 1 both are ordered, the second first; with first_count 3 it is 14. */
+int64_t ct_line_up(const uint8_t *jd1, size_t jd1_len, const uint8_t *jd2, size_t jd2_len, uint8_t *numbers,
+                   size_t numbers_len, uint64_t first_count, uint64_t second_count, uint8_t *out,
+                   size_t out_len);
 
 /* The days from the other date to this, rounded. With parts under 2^52 in size never of the wrong sign,
    but 0.0 also for some dates that differ, of today's under a microsecond apart, so that it is no order
@@ -324,6 +339,22 @@ int64_t ct_listing_part(const uint8_t *block, size_t block_len, uint32_t line, c
 int64_t ct_place_ticks(const uint8_t *pass_ticks, size_t pass_ticks_len, const uint8_t *pass_millis,
                        size_t pass_millis_len, const uint8_t *ticks, size_t ticks_len, uint8_t *out,
                        size_t out_len);
+
+/* ---- Crew standby by quarter hours */
+
+/* The bill between two UTC times: each started 900 s, leap seconds counted, at `rate` cents, shared between
+   two owners by metres of line. 24 bytes: quarters 8, the first owner's cents 8, the second's 8 (ct_pattern_at
+   reads them). Both shares are rounded down, and a cent left over goes to the larger remainder, a tie to the
+   first. Equal times cost 0. Refuses the table's; of the start, then of the end: 1 for a year before 1972,
+   2, 3, 5, 4 as ct_utc_from_calendar, 4 also for a millisecond over 999; 26 for an end before the start;
+   27 for a rate, a length or quarters over 1,000,000; 28 for both lengths 0; 11 last. 2016-12-31 23:45:00
+   to 2017-01-01 0h is 2 quarters. An end on 1971-13-01 is 1, and with a start of second 60 at 23:58 4. */
+int64_t ct_standby_bill(int32_t start_year, uint8_t start_month, uint8_t start_day, uint8_t start_hour,
+                        uint8_t start_minute, uint8_t start_second, uint32_t start_millis, int32_t end_year,
+                        uint8_t end_month, uint8_t end_day, uint8_t end_hour, uint8_t end_minute,
+                        uint8_t end_second, uint32_t end_millis, uint32_t rate, uint32_t first_metres,
+                        uint32_t second_metres, const uint8_t *table, size_t table_len, uint8_t *out,
+                        size_t out_len);
 
 /* ---- Writing and reading bytes: these and ct_float_mode are compiled with the viewer, not in the archive */
 

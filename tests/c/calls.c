@@ -6,6 +6,8 @@
 #include "lent.h"
 #include "scale_calls.h"
 #include "table_calls.h"
+#include "line_up_calls.h"
+#include "standby_calls.h"
 #include "tick_calls.h"
 #include "walk_calls.h"
 
@@ -403,6 +405,8 @@ int main(void)
     read_answers();
     tick_calls();
     table_calls();
+    standby_calls();
+    line_up_calls();
     walk_calls();
     return summary("calls");
 }

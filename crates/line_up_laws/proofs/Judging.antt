@@ -10,7 +10,7 @@ use lib.ListN.{length, getD}
 use lib.Seq.{slice, getD-drop, getD-take}
 use borrow.Author.Tests.{eq-eqb, eqb-true, eqb-false}
 use Rattle.line_up.specs.Runs.{mark, marks, run, zeros, timesIn, MayFollow}
-use Rattle.line_up_laws.specs.Claims.{Each, Pairs, Later, Judged, RightlyIn}
+use Rattle.line_up_laws.specs.Claims.{Each, Pairs, Later, RunJudged, RightlyIn}
 use Rattle.line_up.proofs.Zeros.{timesIn-zeros}
 use Rattle.line_up.proofs.Marks.{length-marks}
 use Rattle.line_up_laws.proofs.Once.{any-default}
@@ -106,10 +106,10 @@ module _ (lt : ℕ → ℕ → Bool) (ns ms : List ℕ) (from to : ℕ) (ft : fr
   turned-by i (inl e) = inl e
   turned-by i (inr r) = inr (r .0, later-of i (r .1))
 
-  judged-of : (i : ℕ) → Ruling lt Acc i (getD ns i 0) (getD ms i 0) → Judged lt ns ms from i
+  judged-of : (i : ℕ) → Ruling lt Acc i (getD ns i 0) (getD ms i 0) → RunJudged lt ns ms from i
   judged-of i v = record { refused = v .refused; turned = λ e. turned-by i (v .turned e) }
 
-  pub judged : (i : ℕ) → from ≤ i → i < to → Judged lt ns ms from i
+  pub judged : (i : ℕ) → from ≤ i → i < to → RunJudged lt ns ms from i
   unfolding Acc
   judged i h k =
       let e : from + (i - from) ≡ i = omega arith in

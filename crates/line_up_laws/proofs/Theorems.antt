@@ -27,7 +27,7 @@ use Rattle.line_up.proofs.Cases.{Fine, fine}
 use Rattle.line_up.proofs.Testing.{tested-length}
 use Rattle.line_up.proofs.Places.{place-timesIn, after-length, ordered-rises, ordered-runs, first-run, second-run, third-run}
 use Rattle.line_up.proofs.Marks.{marks-rise}
-use Rattle.line_up_laws.specs.Claims.{Floats, by, notInLine, Each, Pairs, InOrder, Later, Judged, RightlyIn, Overtaken, Verdict, OneLine, Lined}
+use Rattle.line_up_laws.specs.Claims.{Floats, by, notInLine, Each, Pairs, InOrder, Later, RunJudged, RightlyIn, Overtaken, LineVerdict, OneLine, Lined}
 use Rattle.line_up_laws.proofs.Once.{two-lists}
 use Rattle.line_up_laws.proofs.Dead.{kept, nine, stays, zero-sound}
 use Rattle.line_up_laws.proofs.Judging.{judged, right}
@@ -178,8 +178,8 @@ module _ (date : ℕ → JulianDate) (floats : (p : ℕ) → Floats (date p)) (c
       was true q = eqb-true (getD ns i 0) 0 q
       was false q = let z : getD ns i 0 ≡ 0 = sym (k (eqb-false (getD ns i 0) 0 q)) ∙ e in z
 
-  module _ (from i : ℕ) (h : i < length ns) (each : (j : ℕ) → from ≤ j → j ≤ i → Judged (by date) ns after from j) (fi : from ≤ i) (in-run : RightlyIn (by date) after from i) where
-    judged-i : Judged (by date) ns after from i
+  module _ (from i : ℕ) (h : i < length ns) (each : (j : ℕ) → from ≤ j → j ≤ i → RunJudged (by date) ns after from j) (fi : from ≤ i) (in-run : RightlyIn (by date) after from i) where
+    judged-i : RunJudged (by date) ns after from i
     judged-i = each i fi (omega arith)
 
     overtaken : getD ns i 0 ≡ 0 → Later (by date) after from i → Overtaken date after from i
@@ -219,7 +219,7 @@ module _ (date : ℕ → JulianDate) (floats : (p : ℕ) → Floats (date p)) (c
     not-nine : (n : ℕ) → n ≡ 9 → n ≡ 0 → ⊥
     not-nine n p q = omega (arith, p, q)
 
-    verdict : Verdict date come after from i
+    verdict : LineVerdict date come after from i
     unfolding ns dead
     verdict = record {
       refused = λ k.

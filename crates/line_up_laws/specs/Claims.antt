@@ -53,7 +53,7 @@ pub record Later (lt : ℕ → ℕ → Bool) (ms : List ℕ) (from i : ℕ) : Ty
   pub sooner : lt i place ≡ true
 
 -- who came in refused keeps the number; who came in with 0 is accepted, or gets 17 and there is such a stamp
-pub record Judged (lt : ℕ → ℕ → Bool) (ns ms : List ℕ) (from i : ℕ) : Type 0 where
+pub record RunJudged (lt : ℕ → ℕ → Bool) (ns ms : List ℕ) (from i : ℕ) : Type 0 where
   pub refused : (getD ns i 0 ≡ 0 → ⊥) → getD ms i 0 ≡ getD ns i 0
   pub turned : getD ns i 0 ≡ 0 → (getD ms i 0 ≡ 0) ⊎ ((getD ms i 0 ≡ 17) × Later lt ms from i)
 
@@ -73,7 +73,7 @@ pub record Overtaken (date : ℕ → JulianDate) (ms : List ℕ) (from i : ℕ) 
 
 -- why the stamp at place i of the run that starts at `from` has its number after the call: its own where it was refused before; 9 where it has no place in the order; 17
 -- where it is overtaken; else 0
-pub record Verdict (date : ℕ → JulianDate) (ns ms : List ℕ) (from i : ℕ) : Type 0 where
+pub record LineVerdict (date : ℕ → JulianDate) (ns ms : List ℕ) (from i : ℕ) : Type 0 where
   pub refused : (getD ns i 0 ≡ 0 → ⊥) → getD ms i 0 ≡ getD ns i 0
   pub dead : getD ns i 0 ≡ 0 → hasPlace (date i) ≡ false → getD ms i 0 ≡ 9
   pub sound : getD ns i 0 ≡ 0 → hasPlace (date i) ≡ true → (getD ms i 0 ≡ 0) ⊎ ((getD ms i 0 ≡ 17) × Overtaken date ms from i)
@@ -84,9 +84,9 @@ pub record OneLine (date : ℕ → JulianDate) (ns : List ℕ) (a b : ℕ) (line
   pub as-many : length ms ≡ length ns
   pub once : (p : ℕ) → timesIn p line ≡ cond (eqb (getD ms p 1) 0) 1 0
   pub every-place : (p : ℕ) → timesIn p line + timesIn p (notInLine 0 ms) ≡ cond (ltb p (length ns)) 1 0
-  pub first-run : (i : ℕ) → i < a → Verdict date ns ms 0 i
-  pub second-run : (i : ℕ) → a ≤ i → i < b → Verdict date ns ms a i
-  pub third-run : (i : ℕ) → b ≤ i → i < length ns → Verdict date ns ms b i
+  pub first-run : (i : ℕ) → i < a → LineVerdict date ns ms 0 i
+  pub second-run : (i : ℕ) → a ≤ i → i < b → LineVerdict date ns ms a i
+  pub third-run : (i : ℕ) → b ≤ i → i < length ns → LineVerdict date ns ms b i
   pub in-order : Pairs (InOrder date) line
   pub only : (ys : List ℕ) → ((p : ℕ) → timesIn p ys ≡ cond (eqb (getD ms p 1) 0) 1 0) → Pairs (InOrder date) ys → ys ≡ line
 

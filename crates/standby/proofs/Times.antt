@@ -23,7 +23,7 @@ use Rattle.tai_utc.proofs.WholeSeconds.{late}
 use Rattle.standby.specs.declared.UtcTime.{UtcTime}
 use Rattle.standby.specs.declared.Instant.{Instant}
 use Rattle.standby.specs.declared.InstantAnswer.the-variants as I
-use Rattle.standby.specs.Times.{inItsDay, lastMinute, taiMs, atTime, instant}
+use Rattle.standby.specs.Times.{inItsDay, lastMinute, taiMs, instantOn, instant}
 
 -- ---- the answer's cases
 pub same-instant : {a b : Instant} → I.At a ≡ I.At b → a ≡ b
@@ -123,14 +123,14 @@ module _ (rows : List Row) (t : UtcTime) where
     pub no-date : (k : ℕ) → mjdOf (t .year) (pos (t .month)) (pos (t .day)) ≡ refusal k → refusal k ≡ instant rows t
     no-date k e = no-next k (next-refused (t .year) (pos (t .month)) (pos (t .day)) k e)
 
-    pub on-date : (next : CalendarDate) → nextOf (t .year) (pos (t .month)) (pos (t .day)) ≡ answer next → atTime rows t next ≡ instant rows t
+    pub on-date : (next : CalendarDate) → nextOf (t .year) (pos (t .month)) (pos (t .day)) ≡ answer next → instantOn rows t next ≡ instant rows t
     unfolding instant onward
     on-date next e = rw (p, e)
 
-  pub time-fits : (next : CalendarDate) → inItsDay t (lastMinute rows t next) ≡ true → answer (taiMs rows t) ≡ atTime rows t next
-  unfolding atTime
+  pub time-fits : (next : CalendarDate) → inItsDay t (lastMinute rows t next) ≡ true → answer (taiMs rows t) ≡ instantOn rows t next
+  unfolding instantOn
   time-fits next e = rw e
 
-  pub time-refused : (next : CalendarDate) → inItsDay t (lastMinute rows t next) ≡ false → refusal 4 ≡ atTime rows t next
-  unfolding atTime
+  pub time-refused : (next : CalendarDate) → inItsDay t (lastMinute rows t next) ≡ false → refusal 4 ≡ instantOn rows t next
+  unfolding instantOn
   time-refused next e = rw e

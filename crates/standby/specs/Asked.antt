@@ -30,7 +30,7 @@ pub record Small (i : Instant) : Type 0 where
   pub few-millis : i .millis ≤ 999
 
 -- the answer is the outcome o, and an instant is small
-pub record Judged (o : Outcome ℕ) (r : InstantAnswer) : Type 0 where
+pub record InstantIs (o : Outcome ℕ) (r : InstantAnswer) : Type 0 where
   pub says : instantOutcome r ≡ o
   pub small : (i : Instant) → r ≡ I.At i → Small i
 

@@ -45,11 +45,11 @@ unfoldable pub taiMs : List Row → UtcTime → ℕ
 taiMs rows t = 1000 * (86400 * dayOf t + timeSeconds t + offsetOf rows t) + t .millis
 
 -- 4: the time is not in the day
-unfoldable pub atTime : List Row → UtcTime → CalendarDate → Outcome ℕ
-atTime rows t next = cond (inItsDay t (lastMinute rows t next)) (answer (taiMs rows t)) (refusal 4)
+unfoldable pub instantOn : List Row → UtcTime → CalendarDate → Outcome ℕ
+instantOn rows t next = cond (inItsDay t (lastMinute rows t next)) (answer (taiMs rows t)) (refusal 4)
 
 -- 1: year before 1972; 2, 3 and 5 are the calendar's
 unfoldable pub instant : List Row → UtcTime → Outcome ℕ
 instant rows t =
     cond (ltZ (t .year) (pos 1972)) (refusal 1)
-    (onward (nextOf (t .year) (pos (t .month)) (pos (t .day))) (λ next. atTime rows t next))
+    (onward (nextOf (t .year) (pos (t .month)) (pos (t .day))) (λ next. instantOn rows t next))

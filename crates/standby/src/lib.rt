@@ -8,7 +8,7 @@ ghost use Rattle.standby.specs.Times as T;
 ghost use Rattle.standby.specs.Bills.{overLimit, shares, billBetween, standbyBill};
 ghost use Rattle.standby.specs.Bills as B;
 ghost use Rattle.standby.specs.Answers.{millisOf, instantOutcome, billOutcome};
-ghost use Rattle.standby.specs.Asked.{Dated, Judged, Small, InOrder, InLimits};
+ghost use Rattle.standby.specs.Asked.{Dated, InstantIs, Small, InOrder, InLimits};
 use calendar::CalendarDate;
 use calendar::MjdAnswer;
 use calendar::NextDay;
@@ -97,7 +97,7 @@ fn time_seconds(t: UtcTime) -> u64
 // The instant of a time on Modified Julian Date `day`, whose next date is `next`. Refusal 4: the time is not in the day.
 fn at_time(t: UtcTime, day: u64, next: CalendarDate, table: LentRows) -> InstantAnswer
     requires { ⌜ Dated table t day next ⌝ }
-    ensures { λ r. ⌜ Judged (T.atTime (rowsOf table) t next) r ⌝ }
+    ensures { λ r. ⌜ InstantIs (T.instantOn (rowsOf table) t next) r ⌝ }
 {
     let offset = tai_utc::whole_seconds_by_rows(t.year, t.month as u32, table);
     let last = last_minute(t, next, offset, table);
@@ -114,7 +114,7 @@ fn at_time(t: UtcTime, day: u64, next: CalendarDate, table: LentRows) -> Instant
 // The instant of a UTC time from 1972 on. Refusals in order: 1 the year, 2 the month, 3 the day, 5 no next day, 4 the time.
 fn instant_of(t: UtcTime, table: LentRows) -> InstantAnswer
     requires { ⌜ tableOf table ≡ answer (rowsOf table) ⌝ }
-    ensures { λ r. ⌜ Judged (T.instant (rowsOf table) t) r ⌝ }
+    ensures { λ r. ⌜ InstantIs (T.instant (rowsOf table) t) r ⌝ }
 {
     if t.year < 1972 {
         return InstantAnswer::Refused(refusals::YEAR_BEFORE_FIRST);

@@ -48,7 +48,7 @@ use Rattle.utc.specs.FromCalendar as From
 use Rattle.utc.proofs.FromCalendars.{date-refused, leap-refused, on-date}
 use Rattle.parsing_laws.proofs.UtcTimes.{not-negative, second-below}
 use Rattle.standby.specs.declared.UtcTime.{UtcTime}
-use Rattle.standby.specs.Times.{offsetOf, offsetAfter, lastMinute, inItsDay, taiMs, atTime, instant}
+use Rattle.standby.specs.Times.{offsetOf, offsetAfter, lastMinute, inItsDay, taiMs, instantOn, instant}
 use Rattle.standby.proofs.Times as Given
 use Rattle.standby_laws.specs.Verdict.{verdict}
 
@@ -252,7 +252,7 @@ module _ (table : LentRows) (rows : List Row) (taken : tableOf table ≡ answer 
           ∙ ap toVerdict time-same
 
       by-bill : verdict (instant rows t) ≡ toVerdict (inItsDay t (lastMinute rows t s))
-      unfolding onward atTime
+      unfolding onward instantOn
       by-bill = ap verdict (sym (Given.on-date rows t p s e)) ∙ go (inItsDay t (lastMinute rows t s))
         where
           go : (b : Bool) → verdict (cond b (answer (taiMs rows t)) (refusal 4)) ≡ toVerdict b

@@ -15,16 +15,16 @@ pub(crate) struct Parts {
 }
 
 // Whether jd1 counts as the larger part.
-fn first_is_larger(jd: JulianDate) -> bool
+fn first_is_kept(jd: JulianDate) -> bool
     ensures { λ r. ⌜ r ≡ firstIsKept jd ⌝ }
 {
     floats::at_least_in_size(jd.jd1, jd.jd2)
 }
 
-pub(crate) fn split(jd: JulianDate) -> Parts
+pub(crate) fn kept_parts(jd: JulianDate) -> Parts
     ensures { λ r. ⌜ r ≡ keptParts jd ⌝ }
 {
-    if first_is_larger(jd) {
+    if first_is_kept(jd) {
         Parts {
             larger: jd.jd1,
             smaller: jd.jd2,
@@ -40,7 +40,7 @@ pub(crate) fn split(jd: JulianDate) -> Parts
 }
 
 // The larger part in its place, and x for the smaller one.
-pub(crate) fn put_back(p: Parts, x: f64) -> JulianDate
+pub(crate) fn put_beside(p: Parts, x: f64) -> JulianDate
     ensures { λ r. ⌜ r ≡ putBeside p x ⌝ }
 {
     if p.first {
@@ -62,6 +62,6 @@ pub(crate) fn placed(p: Parts, x: FractionAnswer) -> JulianAnswer
 {
     match x {
         FractionAnswer::Refused(number) => JulianAnswer::Refused(number),
-        FractionAnswer::Fraction(f) => JulianAnswer::Date(put_back(p, f)),
+        FractionAnswer::Fraction(f) => JulianAnswer::Date(put_beside(p, f)),
     }
 }

@@ -9,9 +9,9 @@ ghost use Rattle.scales.specs.Scales.{taiOutcome, utcOutcome};
 ghost use Rattle.utc_scales.specs.ByRule.{utcToTaiByRule, taiByRuleOutcome};
 ghost use Rattle.utc_scales.specs.Known.{RightKnown, partOutcome, RightPart, ruledPartOutcome, SameDays};
 ghost use Rattle.utc_scales.specs.UtcTai as U;
+use super::larger_part::kept_parts;
 use super::larger_part::placed;
-use super::larger_part::put_back;
-use super::larger_part::split;
+use super::larger_part::put_beside;
 use super::table::Known;
 use super::table::KnownDay;
 use super::table::day_of;
@@ -136,10 +136,10 @@ pub fn utc_to_tai_by_lent<'a>(
 ) -> TaiByRule
     ensures { λ r. ⌜ taiByRuleOutcome r ≡ utcToTaiByRule (rowsIn size (now (months .entry)) (now (seconds .entry))) (utc .0) ⌝ }
 {
-    let p = split(utc.0);
+    let p = kept_parts(utc.0);
     match tai_fraction_by_rule(p.larger, p.smaller, size, months, seconds) {
         RuledPart::Refused(number) => TaiByRule::Refused(number),
-        RuledPart::Part(part, _, rule) => TaiByRule::Date(TAI(put_back(p, part)), rule),
+        RuledPart::Part(part, _, rule) => TaiByRule::Date(TAI(put_beside(p, part)), rule),
     }
 }
 
@@ -177,14 +177,14 @@ fn refined<'a>(
     requires { ⌜ RightKnown (rowsIn size (now months) (now seconds)) known ⌝ }
     ensures { λ r. ⌜ (partOutcome r ≡ U.refined (rowsIn size (now (months .entry)) (now (seconds .entry))) big small guess) × RightPart (rowsIn size (now (months .entry)) (now (seconds .entry))) r ⌝ }
 {
-    let p = split(JulianDate {
+    let p = kept_parts(JulianDate {
         jd1: big,
         jd2: guess,
     });
     match tai_fraction(p.larger, p.smaller, known, size, months, seconds) {
         PartAnswer::Refused(number) => PartAnswer::Refused(number),
         PartAnswer::Part(k) => {
-            let tai = put_back(p, k.part);
+            let tai = put_beside(p, k.part);
             let moved = guess + (big - tai.jd1);
             let part = moved + (small - tai.jd2);
             let day = k.known;
@@ -241,7 +241,7 @@ pub fn tai_to_utc_by_lent<'a>(
 ) -> UtcAnswer
     ensures { λ r. ⌜ utcOutcome r ≡ U.taiToUtc (rowsIn size (now (months .entry)) (now (seconds .entry))) (tai .0) ⌝ }
 {
-    let p = split(tai.0);
+    let p = kept_parts(tai.0);
     match placed(
         p,
         refine_utc_fraction(p.larger, p.smaller, size, months, seconds),

@@ -14,9 +14,9 @@ ghost use Rattle.utc_scales.specs.ByRule.{offsetOfDateByRule, utcToUt1By
 ghost use Rattle.utc_scales.specs.Known.{SameDay, offsetOfParts};
 ghost use Rattle.utc_scales.specs.UtcUt1 as U;
 use super::larger_part::Parts;
+use super::larger_part::kept_parts;
 use super::larger_part::placed;
-use super::larger_part::put_back;
-use super::larger_part::split;
+use super::larger_part::put_beside;
 use super::table::mjd_of;
 use super::table::offset_at_0h;
 use super::utc_tai::RuledPart;
@@ -106,11 +106,11 @@ pub fn utc_to_ut1_with_dut1_by_lent<'a>(
     if let julian::OffsetAnswer::Refused(number) = julian::finite_arg(dut1) {
         return Ut1ByRule::Refused(number);
     }
-    let p = split(utc.0);
+    let p = kept_parts(utc.0);
     match tai_fraction_by_rule(p.larger, p.smaller, size, months, seconds) {
         RuledPart::Refused(number) => Ut1ByRule::Refused(number),
         RuledPart::Part(part, at_0h, rule) => {
-            let tai = put_back(p, part);
+            let tai = put_beside(p, part);
             match offset_with(p, at_0h, rule, size, months, seconds) {
                 SecondsByRule::Refused(number) => Ut1ByRule::Refused(number),
                 SecondsByRule::Seconds(x, told) => with_rule(
@@ -303,7 +303,7 @@ fn less_dut1<'a>(
 ) -> JulianAnswer
     ensures { λ r. ⌜ julianOutcome r ≡ changeSmaller (U.utcFraction (rowsIn size (now (months .entry)) (now (seconds .entry))) dut1) jd ⌝ }
 {
-    let p = split(jd);
+    let p = kept_parts(jd);
     placed(
         p,
         utc_fraction(dut1, p.larger, p.smaller, size, months, seconds),

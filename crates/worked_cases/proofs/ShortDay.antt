@@ -25,13 +25,13 @@ use Rattle.tai_utc.specs.Lent.{tableOf}
 use Rattle.tai_utc.specs.Offset.{secondsOf, byRow, offsetBy, offsetAt, inDay, taiUtcOffset}
 use Rattle.tai_utc.specs.Leap.{dayOffsets, leapOf, leapAtEndOfDay}
 use Rattle.time_of_day.specs.Milliseconds as Millis
-use Rattle.time_of_day.specs.TimeShown.{timeOf, dayEnd, fromZero, shownAt, shownOf}
+use Rattle.time_of_day.specs.TimeShown.{timeOf, dayEnd, fromZero, shownAt, countBy, shownBy}
 use Rattle.utc_text.specs.Text.{yearText, utcText}
 use Rattle.utc_scale_laws.specs.ShortTable.{shortTable, shortRows}
 use Rattle.utc_scale_laws.proofs.ShortDay.{short-taken, short-leap}
 use Rattle.utc.specs.FromCalendar.{atTime, utcFromCalendar}
 use Rattle.utc.specs.UnixTime.{unixDay, secondOfUnixDay, secondWithNanos, utcNew}
-use Rattle.utc.specs.IsoText.{nextMidnightText, shownText, dayTextBy, dayText, isoTextBy, isoText}
+use Rattle.utc.specs.IsoText.{nextMidnightTextBy, shownTextBy, dayTextBy, dayText, isoTextBy, isoText}
 use Rattle.utc.proofs.ShortDays.{short-day-refused, short-day-taken}
 use Rattle.worked_cases.specs.Cases.{ascii}
 use Rattle.worked_cases.proofs.ByDates.{toCalendar}
@@ -88,13 +88,13 @@ as-divided fraction = went _ short-taken ∙ (λ i. textOn (λ n. divided-date n
 pub text-58-5 : text (bits 0x3fef_fff3_dd12_7aef) ≡ answer (ascii "2029-12-31T23:59:58.500")
 unfolding dayNumberAndFraction dividedDate onward
     validDate nextOf next daysInMonth leapSize lengths mjdOf mjdNumber civilCount leapAtEndOfDay leapOf dayOffsets taiUtcOffset inDay offsetAt offsetBy byRow secondsOf fixed monthNumber reached
-    shownOf shownAt fromZero timeOf dayEnd Millis.wholeLeap Millis.millisOf Millis.secondsOf dayTextBy shownText nextMidnightText utcText yearText secondsPerDay
+    shownBy countBy shownAt fromZero timeOf dayEnd Millis.wholeLeap Millis.millisOf Millis.secondsOf dayTextBy shownTextBy nextMidnightTextBy utcText yearText secondsPerDay
     abs toWhole nearestInt round ofBits ofInt add sub mul div neg lt le eq toSigned
 text-58-5 = as-divided (bits 0x3fef_fff3_dd12_7aef) ∙ refl
 
 pub text-at-end : text (bits 0x3fef_ffff_ffff_ffff) ≡ answer (ascii "2030-01-01T00:00:00.000")
 unfolding dayNumberAndFraction dividedDate onward
     validDate nextOf next daysInMonth leapSize lengths mjdOf mjdNumber civilCount leapAtEndOfDay leapOf dayOffsets taiUtcOffset inDay offsetAt offsetBy byRow secondsOf fixed monthNumber reached
-    shownOf shownAt fromZero timeOf dayEnd Millis.wholeLeap Millis.millisOf Millis.secondsOf dayTextBy shownText nextMidnightText utcText yearText secondsPerDay
+    shownBy countBy shownAt fromZero timeOf dayEnd Millis.wholeLeap Millis.millisOf Millis.secondsOf dayTextBy shownTextBy nextMidnightTextBy utcText yearText secondsPerDay
     abs toWhole nearestInt round ofBits ofInt add sub mul div neg lt le eq toSigned
 text-at-end = as-divided (bits 0x3fef_ffff_ffff_ffff) ∙ refl

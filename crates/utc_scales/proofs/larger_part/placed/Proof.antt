@@ -15,8 +15,8 @@ enum-known-x c = search needs
 enum-known-x-2 : tie.Need-enum-known-x-2
 enum-known-x-2 c = search needs
 
-put-back-requires : tie.Need-put-back-requires
-put-back-requires c κs = search needs
+put-beside-requires : tie.Need-put-beside-requires
+put-beside-requires c κs = search needs
 
 returns : tie.Need-returns
 unfolding julianOutcome fractionOutcome placed
@@ -24,7 +24,7 @@ returns c = sym (stopped _ (ap fractionOutcome (c .before .x .given .1)))
 
 returns-2 : tie.Need-returns-2
 unfolding julianOutcome fractionOutcome placed
-returns-2 c = ap answer (c .put-back .ensures) ∙ sym (went _ (ap fractionOutcome (c .before .before .x2 .given .1)))
+returns-2 c = ap answer (c .put-beside .ensures) ∙ sym (went _ (ap fractionOutcome (c .before .before .x2 .given .1)))
 
 pub placed-spec : {M : Type 1} → statement M
-placed-spec = tie.close (tie.spec enum-known-x enum-known-x-2 put-back-requires returns returns-2)
+placed-spec = tie.close (tie.spec enum-known-x enum-known-x-2 put-beside-requires returns returns-2)

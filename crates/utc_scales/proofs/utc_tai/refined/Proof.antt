@@ -19,8 +19,8 @@ use Rattle.utc_scales.proofs.utc_tai.refined.Tie as tie
 abbrev rows : tie.Start → List Row
 rows s = rowsIn (s .args .size) (now (s .args .months)) (now (s .args .seconds))
 
-split-requires : tie.Need-split-requires
-split-requires c κs = search needs
+kept-parts-requires : tie.Need-kept-parts-requires
+kept-parts-requires c κs = search needs
 
 tai-fraction-requires : tie.Need-tai-fraction-requires
 tai-fraction-requires c κs = search needs
@@ -31,14 +31,14 @@ enum-known-number c = search needs
 enum-known-k : tie.Need-enum-known-k
 enum-known-k c = search needs
 
-put-back-requires : tie.Need-put-back-requires
-put-back-requires c κs = search needs
+put-beside-requires : tie.Need-put-beside-requires
+put-beside-requires c κs = search needs
 
 returns : tie.Need-returns
 unfolding partOutcome RightPart placed utcToTai moved refined
 returns c =
     let t = c .before .before .before in
-    let u = sym (changes (taiFraction (rows (c .before .before .before .before .before))) _ _ _ (t .before .split .ensures) (t .tai-fraction .ensures .0)) in
+    let u = sym (changes (taiFraction (rows (c .before .before .before .before .before))) _ _ _ (t .before .kept-parts .ensures) (t .tai-fraction .ensures .0)) in
     (sym (stopped _ (u ∙ stopped _ (ap partOutcome (c .before .number .given .1)))), tt)
 
 returns-2 : tie.Need-returns-2
@@ -47,8 +47,8 @@ returns-2 c =
     let t = c .before .before .before .before .before .before .before in
     let s = t .before .before in
     let k = c .before .before .before .before .before .k in
-    let u = sym (changes (taiFraction (rows s)) _ _ _ (t .before .split .ensures) (t .tai-fraction .ensures .0)) in (
-      sym (went _ (u ∙ went _ (ap partOutcome (k .given .1)) ∙ ap answer (sym (c .before .before .before .put-back .ensures)))),
+    let u = sym (changes (taiFraction (rows s)) _ _ _ (t .before .kept-parts .ensures) (t .tai-fraction .ensures .0)) in (
+      sym (went _ (u ∙ went _ (ap partOutcome (k .given .1)) ∙ ap answer (sym (c .before .before .before .put-beside .ensures)))),
       subst (λ (r : PartAnswer). RightPart (rows s) r) (k .given .1) (t .tai-fraction .ensures .1),
     )
 
@@ -56,10 +56,10 @@ pub refined-spec : {M : Type 1} → statement M
 refined-spec =
     tie.close
     (tie.spec
-    split-requires
+    kept-parts-requires
     tai-fraction-requires
     enum-known-number
     enum-known-k
-    put-back-requires
+    put-beside-requires
     returns
     returns-2)

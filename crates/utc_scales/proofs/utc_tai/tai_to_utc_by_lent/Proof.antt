@@ -16,8 +16,8 @@ use Rattle.utc_scales.proofs.utc_tai.tai_to_utc_by_lent.Tie as tie
 abbrev rows : tie.Start → List Row
 rows s = rowsIn (s .args .size) (now (s .args .months)) (now (s .args .seconds))
 
-split-requires : tie.Need-split-requires
-split-requires c κs = search needs
+kept-parts-requires : tie.Need-kept-parts-requires
+kept-parts-requires c κs = search needs
 
 refine-utc-fraction-requires : tie.Need-refine-utc-fraction-requires
 refine-utc-fraction-requires c κs = search needs
@@ -33,17 +33,17 @@ enum-known-jd c = search needs
 
 returns : tie.Need-returns
 unfolding utcOutcome julianOutcome taiToUtc
-returns c = sym (ap julianOutcome (c .before .number .given .1)) ∙ (c .before .before .before .placed .ensures ∙ changes (refineUtcFraction (rows (c .before .before .before .before .before .before))) _ _ _ (c .before .before .before .before .before .split .ensures) (c .before .before .before .before .refine-utc-fraction .ensures))
+returns c = sym (ap julianOutcome (c .before .number .given .1)) ∙ (c .before .before .before .placed .ensures ∙ changes (refineUtcFraction (rows (c .before .before .before .before .before .before))) _ _ _ (c .before .before .before .before .before .kept-parts .ensures) (c .before .before .before .before .refine-utc-fraction .ensures))
 
 returns-2 : tie.Need-returns-2
 unfolding utcOutcome julianOutcome taiToUtc
-returns-2 c = sym (ap julianOutcome (c .before .jd .given .1)) ∙ (c .before .before .before .placed .ensures ∙ changes (refineUtcFraction (rows (c .before .before .before .before .before .before))) _ _ _ (c .before .before .before .before .before .split .ensures) (c .before .before .before .before .refine-utc-fraction .ensures))
+returns-2 c = sym (ap julianOutcome (c .before .jd .given .1)) ∙ (c .before .before .before .placed .ensures ∙ changes (refineUtcFraction (rows (c .before .before .before .before .before .before))) _ _ _ (c .before .before .before .before .before .kept-parts .ensures) (c .before .before .before .before .refine-utc-fraction .ensures))
 
 pub tai-to-utc-by-lent-spec : {M : Type 1} → statement M
 tai-to-utc-by-lent-spec =
     tie.close
     (tie.spec
-    split-requires
+    kept-parts-requires
     refine-utc-fraction-requires
     placed-requires
     enum-known-number

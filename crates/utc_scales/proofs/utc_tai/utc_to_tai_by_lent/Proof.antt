@@ -22,8 +22,8 @@ use Rattle.utc_scales.proofs.utc_tai.utc_to_tai_by_lent.Tie as tie
 abbrev rows : tie.Start → List Row
 rows s = rowsIn (s .args .size) (now (s .args .months)) (now (s .args .seconds))
 
-split-requires : tie.Need-split-requires
-split-requires c κs = search needs
+kept-parts-requires : tie.Need-kept-parts-requires
+kept-parts-requires c κs = search needs
 
 tai-fraction-by-rule-requires : tie.Need-tai-fraction-by-rule-requires
 tai-fraction-by-rule-requires c κs = search needs
@@ -34,15 +34,15 @@ enum-known-number c = search needs
 enum-known-part : tie.Need-enum-known-part
 enum-known-part c = search needs
 
-put-back-requires : tie.Need-put-back-requires
-put-back-requires c κs = search needs
+put-beside-requires : tie.Need-put-beside-requires
+put-beside-requires c κs = search needs
 
 returns : tie.Need-returns
 unfolding taiByRuleOutcome ruledPartOutcome placed utcToTai utcToTaiByRule
 returns c =
     let t = c .before .before .before in
     let s = t .before .before in
-    not-passed _ _ _ (sym (changes (taiFraction (rows s)) _ _ _ (t .before .split .ensures) (t .tai-fraction-by-rule .ensures .0)) ∙ stopped _ (ap ruledPartOutcome (c .before .number .given .1)))
+    not-passed _ _ _ (sym (changes (taiFraction (rows s)) _ _ _ (t .before .kept-parts .ensures) (t .tai-fraction-by-rule .ensures .0)) ∙ stopped _ (ap ruledPartOutcome (c .before .number .given .1)))
 
 returns-2 : tie.Need-returns-2
 unfolding taiByRuleOutcome ruledPartOutcome SameDays placed utcToTai utcToTaiByRule
@@ -50,20 +50,20 @@ returns-2 c =
     let k = c .before .before in
     let t = k .before .before in
     let s = t .before .before in
-    let p = t .before .split .result in
+    let p = t .before .kept-parts .result in
     let q : SameDay (rows s) (p .larger) (p .smaller) _ _ = subst (λ (r : RuledPart). SameDays (rows s) (p .larger) (p .smaller) r) (k .part .given .1) (t .tai-fraction-by-rule .ensures .1) in
     passed _ _ _ _
-    (sym (changes (taiFraction (rows s)) _ _ _ (t .before .split .ensures) (t .tai-fraction-by-rule .ensures .0)) ∙ went _ (ap ruledPartOutcome (k .part .given .1)) ∙ ap answer (sym (c .put-back .ensures)))
-    (ap (λ (z : Parts). ruleOfDate (rows s) (z .larger) (z .smaller)) (sym (t .before .split .ensures)) ∙ q .told)
+    (sym (changes (taiFraction (rows s)) _ _ _ (t .before .kept-parts .ensures) (t .tai-fraction-by-rule .ensures .0)) ∙ went _ (ap ruledPartOutcome (k .part .given .1)) ∙ ap answer (sym (c .put-beside .ensures)))
+    (ap (λ (z : Parts). ruleOfDate (rows s) (z .larger) (z .smaller)) (sym (t .before .kept-parts .ensures)) ∙ q .told)
 
 pub utc-to-tai-by-lent-spec : {M : Type 1} → statement M
 utc-to-tai-by-lent-spec =
     tie.close
     (tie.spec
-    split-requires
+    kept-parts-requires
     tai-fraction-by-rule-requires
     enum-known-number
     enum-known-part
-    put-back-requires
+    put-beside-requires
     returns
     returns-2)

@@ -14,8 +14,8 @@ use Rattle.utc_scales.proofs.utc_ut1.less_dut1.Tie as tie
 abbrev rows : tie.Start → List Row
 rows s = rowsIn (s .args .size) (now (s .args .months)) (now (s .args .seconds))
 
-split-requires : tie.Need-split-requires
-split-requires c κs = search needs
+kept-parts-requires : tie.Need-kept-parts-requires
+kept-parts-requires c κs = search needs
 
 utc-fraction-requires : tie.Need-utc-fraction-requires
 utc-fraction-requires c κs = search needs
@@ -24,7 +24,7 @@ placed-requires : tie.Need-placed-requires
 placed-requires c κs = search needs
 
 returns : tie.Need-returns
-returns c = (c .placed .ensures ∙ changes (utcFraction (rows (c .before .before .before)) (c .before .before .before .args .dut1)) _ _ _ (c .before .before .split .ensures) (c .before .utc-fraction .ensures))
+returns c = (c .placed .ensures ∙ changes (utcFraction (rows (c .before .before .before)) (c .before .before .before .args .dut1)) _ _ _ (c .before .before .kept-parts .ensures) (c .before .utc-fraction .ensures))
 
 pub less-dut1-spec : {M : Type 1} → statement M
-less-dut1-spec = tie.close (tie.spec split-requires utc-fraction-requires placed-requires returns)
+less-dut1-spec = tie.close (tie.spec kept-parts-requires utc-fraction-requires placed-requires returns)

@@ -38,8 +38,8 @@ returns c = not-passed _ _ _ (stopped _ (sym (c .before .before .before .finite-
 enum-told : tie.Need-enum-told
 enum-told c = search needs
 
-split-requires : tie.Need-split-requires
-split-requires c κs = search needs
+kept-parts-requires : tie.Need-kept-parts-requires
+kept-parts-requires c κs = search needs
 
 tai-fraction-by-rule-requires : tie.Need-tai-fraction-by-rule-requires
 tai-fraction-by-rule-requires c κs = search needs
@@ -50,15 +50,15 @@ enum-known-number-2 c = search needs
 enum-known-part : tie.Need-enum-known-part
 enum-known-part c = search needs
 
-put-back-requires : tie.Need-put-back-requires
-put-back-requires c κs = search needs
+put-beside-requires : tie.Need-put-beside-requires
+put-beside-requires c κs = search needs
 
 offset-with-requires : tie.Need-offset-with-requires
 unfolding SameDays
 offset-with-requires c κs =
     let t = c .before .before .before .before in
     let s = t .before .before .before .before .before in
-    let p = t .before .split .result in
+    let p = t .before .kept-parts .result in
     subst (λ (r : RuledPart). SameDays (rows s) (p .larger) (p .smaller) r) (c .before .before .part .given .1) (t .tai-fraction-by-rule .ensures .1)
 
 enum-known-number-3 : tie.Need-enum-known-number-3
@@ -80,7 +80,7 @@ returns-2 c =
     let h = t .before in
     let s = h .before .before .before .before in
     let g = sym (h .before .before .before .finite-arg .ensures) ∙ ap J.offsetOutcome (h .before .enum-told .given .1) in
-    not-passed _ _ _ (went _ g ∙ stopped _ (sym (changes (taiFraction (rows s)) _ _ _ (h .split .ensures) (t .tai-fraction-by-rule .ensures .0)) ∙ stopped _ (ap ruledPartOutcome (c .before .number2 .given .1))))
+    not-passed _ _ _ (went _ g ∙ stopped _ (sym (changes (taiFraction (rows s)) _ _ _ (h .kept-parts .ensures) (t .tai-fraction-by-rule .ensures .0)) ∙ stopped _ (ap ruledPartOutcome (c .before .number2 .given .1))))
 
 returns-3 : tie.Need-returns-3
 unfolding ut1ByRuleOutcome J.offsetOutcome T.secondsByRuleOutcome ruledPartOutcome placed utcToTai utcToUt1 utcToUt1ByRule
@@ -89,8 +89,8 @@ returns-3 c =
     let h = t .before in
     let s = h .before .before .before .before in
     let g = sym (h .before .before .before .finite-arg .ensures) ∙ ap J.offsetOutcome (h .before .enum-told .given .1) in
-    let u = sym (changes (taiFraction (rows s)) _ _ _ (h .split .ensures) (t .tai-fraction-by-rule .ensures .0)) ∙ went _ (ap ruledPartOutcome (c .before .before .before .before .before .before .part .given .1)) in
-    let o = offset-refused (rows s) _ _ _ (sym (c .before .before .before .offset-with .ensures ∙ date-offset (rows s) _ _ (h .split .ensures)) ∙ ap T.secondsByRuleOutcome (c .before .number3 .given .1)) in
+    let u = sym (changes (taiFraction (rows s)) _ _ _ (h .kept-parts .ensures) (t .tai-fraction-by-rule .ensures .0)) ∙ went _ (ap ruledPartOutcome (c .before .before .before .before .before .before .part .given .1)) in
+    let o = offset-refused (rows s) _ _ _ (sym (c .before .before .before .offset-with .ensures ∙ date-offset (rows s) _ _ (h .kept-parts .ensures)) ∙ ap T.secondsByRuleOutcome (c .before .number3 .given .1)) in
     not-passed _ _ _ (went _ g ∙ went _ u ∙ stopped _ o)
 
 returns-4 : tie.Need-returns-4
@@ -101,12 +101,12 @@ returns-4 c =
     let s = h .before .before .before .before in
     let x = c .before .before .before .x in
     let g = sym (h .before .before .before .finite-arg .ensures) ∙ ap J.offsetOutcome (h .before .enum-told .given .1) in
-    let u = sym (changes (taiFraction (rows s)) _ _ _ (h .split .ensures) (t .tai-fraction-by-rule .ensures .0)) ∙ went _ (ap ruledPartOutcome (c .before .before .before .before .before .before .before .before .part .given .1)) in
-    let o = offset-answered (rows s) _ _ _ _ (sym (c .before .before .before .before .before .offset-with .ensures ∙ date-offset (rows s) _ _ (h .split .ensures)) ∙ ap T.secondsByRuleOutcome (x .given .1)) in
+    let u = sym (changes (taiFraction (rows s)) _ _ _ (h .kept-parts .ensures) (t .tai-fraction-by-rule .ensures .0)) ∙ went _ (ap ruledPartOutcome (c .before .before .before .before .before .before .before .before .part .given .1)) in
+    let o = offset-answered (rows s) _ _ _ _ (sym (c .before .before .before .before .before .offset-with .ensures ∙ date-offset (rows s) _ _ (h .kept-parts .ensures)) ∙ ap T.secondsByRuleOutcome (x .given .1)) in
     let k = tai-ut1 (sub binary64 (s .args .dut1) (x .given .0 .0)) in
     c .with-rule .ensures
     ∙ with-passed _ _ _ _
-    (c .before .tai-to-ut1-with-offset .ensures ∙ ap (answerOf k) (c .before .before .before .before .before .before .put-back .ensures) ∙ sym (went _ g ∙ went _ u ∙ went _ (o .0)))
+    (c .before .tai-to-ut1-with-offset .ensures ∙ ap (answerOf k) (c .before .before .before .before .before .before .put-beside .ensures) ∙ sym (went _ g ∙ went _ u ∙ went _ (o .0)))
     (o .1)
 
 pub utc-to-ut1-with-dut1-by-lent-spec : {M : Type 1} → statement M
@@ -117,11 +117,11 @@ utc-to-ut1-with-dut1-by-lent-spec =
     enum-known-number
     returns
     enum-told
-    split-requires
+    kept-parts-requires
     tai-fraction-by-rule-requires
     enum-known-number-2
     enum-known-part
-    put-back-requires
+    put-beside-requires
     offset-with-requires
     enum-known-number-3
     enum-known-x

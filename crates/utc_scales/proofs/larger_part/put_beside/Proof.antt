@@ -1,9 +1,9 @@
--- `utc_scales::larger_part::put_back` meets its contract. Assumes nothing.
+-- `utc_scales::larger_part::put_beside` meets its contract. Assumes nothing.
 use mathlib.Core.Bool.{Bool}
 use mathlib.Core.Path.{sym, ap}
 use Rattle.utc_scales.specs.LargerPart.{besideAs, putBeside}
-use Rattle.utc_scales.proofs.larger_part.put_back.Statement.{statement}
-use Rattle.utc_scales.proofs.larger_part.put_back.Tie as tie
+use Rattle.utc_scales.proofs.larger_part.put_beside.Statement.{statement}
+use Rattle.utc_scales.proofs.larger_part.put_beside.Tie as tie
 
 returns : tie.Need-returns
 unfolding putBeside
@@ -13,5 +13,5 @@ returns-2 : tie.Need-returns-2
 unfolding putBeside
 returns-2 c = ap (λ (b : Bool). besideAs b (c .before .args .p .larger) (c .before .args .x)) (sym (c .if1 .left))
 
-pub put-back-spec : {M : Type 1} → statement M
-put-back-spec = tie.close (tie.spec returns returns-2)
+pub put-beside-spec : {M : Type 1} → statement M
+put-beside-spec = tie.close (tie.spec returns returns-2)
