@@ -312,6 +312,22 @@ int64_t ct_place_ticks(const uint8_t *pass_ticks, size_t pass_ticks_len, const u
                        size_t pass_millis_len, const uint8_t *ticks, size_t ticks_len, uint8_t *out,
                        size_t out_len);
 
+/* ---- Crew standby by quarter hours */
+
+/* The bill between two UTC times: each started 900 s, leap seconds counted, at `rate` cents, shared between
+   two owners by metres of line. 24 bytes: quarters 8, the first owner's cents 8, the second's 8 (ct_pattern_at
+   reads them). Both shares are rounded down, and a cent left over goes to the larger remainder, a tie to the
+   first. Equal times cost 0. Refuses the table's; of the start, then of the end: 1 for a year before 1972,
+   2, 3, 5, 4 as ct_utc_from_calendar, 4 also for a millisecond over 999; 26 for an end before the start;
+   27 for a rate, a length or quarters over 1,000,000; 28 for both lengths 0; 11 last. 2016-12-31 23:45:00
+   to 2017-01-01 0h is 2 quarters. An end on 1971-13-01 is 1, and with a start of second 60 at 23:58 4. */
+int64_t ct_standby_bill(int32_t start_year, uint8_t start_month, uint8_t start_day, uint8_t start_hour,
+                        uint8_t start_minute, uint8_t start_second, uint32_t start_millis, int32_t end_year,
+                        uint8_t end_month, uint8_t end_day, uint8_t end_hour, uint8_t end_minute,
+                        uint8_t end_second, uint32_t end_millis, uint32_t rate, uint32_t first_metres,
+                        uint32_t second_metres, const uint8_t *table, size_t table_len, uint8_t *out,
+                        size_t out_len);
+
 /* ---- Writing and reading bytes: these and ct_float_mode are compiled with the viewer, not in the archive */
 
 /* The 4 bytes of a number of 32 bits, the lowest first. */

@@ -6,6 +6,7 @@
 #include "lent.h"
 #include "scale_calls.h"
 #include "table_calls.h"
+#include "standby_calls.h"
 #include "tick_calls.h"
 
 static void month_lengths(void)
@@ -402,5 +403,6 @@ int main(void)
     read_answers();
     tick_calls();
     table_calls();
+    standby_calls();
     return summary("calls");
 }

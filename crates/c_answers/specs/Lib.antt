@@ -2,3 +2,4 @@
 pub mod Delivery
 pub mod Fields
 pub mod ReaderFields
+pub mod WideFields

@@ -47,7 +47,7 @@ module _ (s : List ℕ) (t : LentRows) (n : ℕ) (e : unlessRefused n (rowsOf t)
   pub count-refused : {r : ℤ} → mag r < 2 ^ 63 → (n ≡ 0 → ⊥) → r ≡ code (refusal n) → toZ w64 (ofZ w64 r) ≡ code (onward (tableBytes s) (λ rows. answer (length rows)))
   count-refused ok h c = code-back ok ∙ c ∙ sym (ap code (turned-away (rowsOf t) n (e ∙ f) (λ rows. answer (length rows)) h))
 
-  is-taken : n ≡ 0 → tableOf t ≡ answer (rowsOf t)
+  pub is-taken : n ≡ 0 → tableOf t ≡ answer (rowsOf t)
   unfolding ofLength
   is-taken h = go (eqb (length s) 136) (ap (λ (k : ℕ). unlessRefused k (rowsOf t)) (sym h) ∙ e)
     where
