@@ -43,9 +43,9 @@
          where the sum of the parts or its rounding error overflows
      10  offset not finite
      11  buffer too short
-     12  sizes of a block differ
-     13  size of a block above 4,000
-     14  length of a block, of a table, or of a list of ticks or passes, wrong
+     12  sizes of a block, or of the lists of a line, differ
+     13  size of a block above 4,000, or more stamps than 4 bytes can number
+     14  length of a block, of a table, or of a list wrong, or counts past it
      15  text outside the grammar
      16  more than 13 digits after a second's point
      17  date or stamp earlier than the one before it
@@ -144,6 +144,21 @@ int64_t ct_same_stamp(uint32_t scale, uint64_t jd1, uint64_t jd2, uint32_t other
    large that the sum or its rounding error overflows, as of (1.7e308, 1.7e308); every date with parts
    under 2^52 in size is answered. */
 int64_t ct_compare(double jd1, double jd2, double other1, double other2);
+
+/* The stamps of up to three recorders in one order, by their exact sums; all of one scale, TAI. The runs
+   stand one after the other in the three slices, 8 bytes for each part and one byte for the number of each
+   stamp: first_count stamps, then second_count, then what is left. Number 0 is a stamp to order; any other
+   says by what it was refused before, and is left out. Returns how many are ordered; out has their places
+   in the slices, 4 bytes each, ties by run and then by place; what lies behind them stays. Into numbers is
+   written 9 for a stamp that came with 0 and that ct_compare would refuse, and 17 for one that is earlier
+   than an ordered one before it in its own run. Refuses 14 for a length of parts that is no multiple of 8;
+   12 for another number of parts than of numbers; 14 for counts past the length; 13 for more stamps than 4
+   bytes can number; 11 for fewer than 4 bytes a stamp, also where fewer are ordered. A refused call writes
+   nothing. Of two stamps, 2451545.0 and 2451544.0, with no recorder but the first (first_count 2), the
+   second gets 17; with first_count 1 both are ordered, the second first; with first_count 3 it is 14. */
+int64_t ct_line_up(const uint8_t *jd1, size_t jd1_len, const uint8_t *jd2, size_t jd2_len, uint8_t *numbers,
+                   size_t numbers_len, uint64_t first_count, uint64_t second_count, uint8_t *out,
+                   size_t out_len);
 
 /* The days from the other date to this, rounded. With parts under 2^52 in size never of the wrong sign,
    but 0.0 also for some dates that differ, of today's under a microsecond apart, so that it is no order

@@ -6,6 +6,7 @@
 #include "lent.h"
 #include "scale_calls.h"
 #include "table_calls.h"
+#include "line_up_calls.h"
 #include "standby_calls.h"
 #include "tick_calls.h"
 
@@ -404,5 +405,6 @@ int main(void)
     tick_calls();
     table_calls();
     standby_calls();
+    line_up_calls();
     return summary("calls");
 }
