@@ -2,6 +2,7 @@
 pub mod Quarters
 pub mod Sharing
 pub mod Decided
+pub mod Means
 pub mod Faults
 pub mod Exact
 pub mod Dates
