@@ -10,9 +10,11 @@
 
 struct utc { int year; unsigned month, day, hour, minute, second, millis; };
 
+/* Exactly 23 bytes, so that .5 is not taken for 5 ms. */
 static int read_time(const char *text, struct utc *t)
 {
-    return sscanf(text, "%d-%2u-%2uT%2u:%2u:%2u.%3u", &t->year, &t->month, &t->day, &t->hour, &t->minute, &t->second, &t->millis) == 7;
+    int end = 0;
+    return sscanf(text, "%4d-%2u-%2uT%2u:%2u:%2u.%3u%n", &t->year, &t->month, &t->day, &t->hour, &t->minute, &t->second, &t->millis, &end) == 7 && end == 23 && !text[23];
 }
 
 /* A whole number of 32 bits; the call refuses those over its limits. */

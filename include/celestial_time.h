@@ -31,10 +31,11 @@
    Every float is taken, NaN and the infinities too.
 
    Refusals:
-      1  year before -4799
+      1  year before -4799, of a standby before 1972
       2  month not 1 to 12
       3  day not in month
-      4  hour above 23, minute above 59, or second NaN, below 0 or not below 60
+      4  hour above 23, minute above 59, second not one of its minute, or of a standby
+         more than 999 milliseconds
       5  no next day
       6  rounded sum jd1 + jd2 outside -68569.5 to 1e9, or NaN
       7  fraction outside 0 to 1, or NaN
