@@ -2,3 +2,5 @@
 pub mod Delivery
 pub mod Fields
 pub mod ReaderFields
+pub mod RuleFields
+pub mod TwoBuffers
