@@ -3,3 +3,4 @@ pub mod ListingPart
 pub mod OrderNumber
 pub mod WeekBytes
 pub mod LineDelivery
+pub mod TextRule

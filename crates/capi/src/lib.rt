@@ -9,5 +9,6 @@ pub mod order_calls;
 pub mod reader_calls;
 pub mod same_stamp_calls;
 pub mod scale_calls;
+pub mod text_calls;
 pub mod tick_calls;
 pub mod utc_calls;
