@@ -31,6 +31,13 @@ static void prepare(const row *r)
     make_table();
 }
 
+/* Where a call of the port tells a rule, which the other libraries do not; 0 for a call that tells none. */
+static size_t rule_at(any *call)
+{
+    if (call == (any *)ct_get_tai_utc_offset) return 8;
+    return call == (any *)ct_utc_to_tai || call == (any *)ct_utc_to_ut1_with_dut1 ? 16 : 0;
+}
+
 /* Runs a loop once and keeps its answers, as many bytes as are returned, at `answers`. */
 static size_t answers_of(const side *s, uint8_t *answers)
 {
@@ -39,6 +46,7 @@ static size_t answers_of(const side *s, uint8_t *answers)
     shown_length = sizeof slots;
     s->loop(s->call);
     if (s->loop == erfa_calendar_loop) EACH memmove(slots[i].bytes + 12, &slots[i].d[2], 12);
+    if (rule_at(s->call)) EACH memset(slots[i].bytes + rule_at(s->call), 0, CT_RULE_BYTES);
     memcpy(answers, shown, shown_length);
     return shown_length;
 }

@@ -134,6 +134,7 @@ static void gps_loop(any *f)
    more than that of the Rust. */
 
 static uint8_t sixteen_rows[CT_TABLE_BYTES];
+static uint8_t rules[64][CT_RULE_BYTES];
 
 static void make_table(void)
 {
@@ -146,6 +147,7 @@ typedef int64_t table_date_call(int32_t, int32_t, int32_t, const uint8_t *, size
 typedef int64_t table_offset_call(int32_t, int32_t, int32_t, double, const uint8_t *, size_t, uint8_t *, size_t);
 typedef int64_t table_jd_call(double, double, const uint8_t *, size_t, uint8_t *, size_t);
 typedef int64_t table_jd_offset_call(double, double, double, const uint8_t *, size_t, uint8_t *, size_t);
+typedef int64_t table_text_call(double, double, const uint8_t *, size_t, uint8_t *, size_t, uint8_t *, size_t);
 typedef int64_t table_unix_call(int64_t, uint32_t, const uint8_t *, size_t, uint8_t *, size_t);
 typedef int64_t table_fields_call(int32_t, uint8_t, uint8_t, uint8_t, uint8_t, double, const uint8_t *, size_t, uint8_t *, size_t);
 
@@ -153,9 +155,10 @@ typedef int64_t table_fields_call(int32_t, uint8_t, uint8_t, uint8_t, uint8_t, d
     static void none_##kind##_loop(any *f) { table_##kind##_call *call = (table_##kind##_call *)f; const uint8_t *table = ct_no_rows; EACH call(__VA_ARGS__); } \
     static void sixteen_##kind##_loop(any *f) { table_##kind##_call *call = (table_##kind##_call *)f; const uint8_t *table = sixteen_rows; EACH call(__VA_ARGS__); }
 TABLE_LOOPS(date, in[i].year, in[i].month, in[i].day, table, CT_TABLE_BYTES, slots[i].bytes, 16)
-TABLE_LOOPS(offset, in[i].year, in[i].month, in[i].day, in[i].fraction, table, CT_TABLE_BYTES, slots[i].bytes, 8)
+TABLE_LOOPS(offset, in[i].year, in[i].month, in[i].day, in[i].fraction, table, CT_TABLE_BYTES, slots[i].bytes, 16)
 TABLE_LOOPS(jd, in[i].jd1, in[i].jd2, table, CT_TABLE_BYTES, slots[i].bytes, MOST_TEXT)
-TABLE_LOOPS(jd_offset, in[i].jd1, in[i].jd2, in[i].offset, table, CT_TABLE_BYTES, slots[i].bytes, 16)
+TABLE_LOOPS(text, in[i].jd1, in[i].jd2, table, CT_TABLE_BYTES, slots[i].bytes, MOST_TEXT, rules[i % 64], CT_RULE_BYTES)
+TABLE_LOOPS(jd_offset, in[i].jd1, in[i].jd2, in[i].offset, table, CT_TABLE_BYTES, slots[i].bytes, 24)
 TABLE_LOOPS(unix, in[i].unix_seconds, in[i].nanos, table, CT_TABLE_BYTES, slots[i].bytes, 16)
 TABLE_LOOPS(fields, in[i].year, (uint8_t)in[i].month, (uint8_t)in[i].day, (uint8_t)in[i].hour, (uint8_t)in[i].minute, in[i].second, table,
             CT_TABLE_BYTES, slots[i].bytes, 16)

@@ -19,11 +19,12 @@ typedef struct {
 #define BOTH(loop, name) {loop, (any *)ct_##name}, {loop, (any *)rs_##name}
 #define LENT(kind, name) {none_##kind##_loop, (any *)ct_##name}, {kind##_loop, (any *)rs_##name}
 #define SIXTEEN(kind, name) {sixteen_##kind##_loop, (any *)ct_##name}, {kind##_loop, (any *)rs_##name}, NOT_IN_ERFA
+#define SIXTEEN_TEXT {sixteen_text_loop, (any *)ct_to_iso8601}, {jd_loop, (any *)rs_to_iso8601}, NOT_IN_ERFA
 #define BY_ERFA(loop, name) {loop, (any *)name}
 #define NOT_IN_ERFA {NULL, NULL}
 #define PORT_ALONE(loop, name) {loop, (any *)ct_##name}, {NULL, NULL}, {NULL, NULL}
 #define TEXT(kind, set, rust, erfa) \
-    {"UTC text, " kind, set, {{none_jd_loop, (any *)ct_to_iso8601}, {jd_loop, (any *)rust}, {jd_loop, (any *)erfa}}}
+    {"UTC text, " kind, set, {{none_text_loop, (any *)ct_to_iso8601}, {jd_loop, (any *)rust}, {jd_loop, (any *)erfa}}}
 #define LISTING(kind, set, rust, erfa) \
     {"listing per stamp, " kind, set, \
      {{port_listing_loop, NULL}, {driver_listing_loop, (any *)rust}, {driver_listing_loop, (any *)erfa}}}
@@ -93,7 +94,7 @@ static const row rows[] = {
     {"UT1 to UTC, 16 lent rows", LEAP_SECOND_YEARS, {SIXTEEN(jd_offset, ut1_to_utc_with_dut1)}},
     {"UTC::new, 16 lent rows", LEAP_SECOND_YEARS, {SIXTEEN(unix, utc_new)}},
     {"utc_from_calendar, 16 lent rows", LEAP_SECOND_YEARS, {SIXTEEN(fields, utc_from_calendar)}},
-    {"UTC text, 16 lent rows", LEAP_SECOND_YEARS, {SIXTEEN(jd, to_iso8601)}},
+    {"UTC text, 16 lent rows", LEAP_SECOND_YEARS, {SIXTEEN_TEXT}},
     {"check_table", LEAP_SECOND_YEARS, {{check_table_loop, (any *)ct_check_table}, {NULL, NULL}, {NULL, NULL}}},
     {"place_ticks per tick, rising", LEAP_SECOND_YEARS, {{rising_ticks_loop, NULL}, NOT_IN_ERFA, NOT_IN_ERFA}},
     {"place_ticks per tick, by chance", LEAP_SECOND_YEARS, {{random_ticks_loop, NULL}, NOT_IN_ERFA, NOT_IN_ERFA}},

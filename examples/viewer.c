@@ -47,10 +47,10 @@ static int64_t print_listing(const uint8_t *block, size_t length)
 static int64_t count_refused(const uint8_t *block, int64_t stamps)
 {
     const uint8_t *jd1 = block + 8, *jd2 = jd1 + 8 * stamps;
-    uint8_t text[TEXT];
+    uint8_t text[TEXT], rule[CT_RULE_BYTES];
     int64_t i, refused = 0;
     for (i = 0; i < stamps; i++)
-        if (ct_to_iso8601(ct_float_at(jd1 + 8 * i), ct_float_at(jd2 + 8 * i), ct_no_rows, sizeof ct_no_rows, text, sizeof text) < 0) refused++;
+        if (ct_to_iso8601(ct_float_at(jd1 + 8 * i), ct_float_at(jd2 + 8 * i), ct_no_rows, sizeof ct_no_rows, text, sizeof text, rule, sizeof rule) < 0) refused++;
     return refused;
 }
 

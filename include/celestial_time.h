@@ -187,10 +187,17 @@ static const uint8_t ct_no_rows[CT_TABLE_BYTES] = {0};
 /* The number of rows of a table, the library's own among them: 42 to 58. Refuses 14; 20; 21; 22. */
 int64_t ct_check_table(const uint8_t *table, size_t table_len);
 
-/* ---- TAI-UTC: "the table" in front of the refusals is 14; 20; 21; 22, as above */
+/* ---- TAI-UTC: "the table" in front of the refusals is 14; 20; 21; 22, as above. A rule says which row
+   of the table an offset was read from: its kind in 4 bytes, CT_RULE_ABSENT before 1960, CT_RULE_DRIFTING
+   or CT_RULE_WHOLE, and its row in 4, counted from 0, of an absent rule -1. The rows 0 to 13 drift, 41 is
+   that of 2017, and 42 the first lent one. */
+#define CT_RULE_BYTES 8
+#define CT_RULE_ABSENT 0
+#define CT_RULE_DRIFTING 1
+#define CT_RULE_WHOLE 2
 
-/* TAI-UTC in seconds at a fraction of a day; 8 bytes. Refuses the table; 7; then 1, 2, 3; 11.
-   2000-13-01 with the fraction 1.5 is 7, and with a table of 135 bytes 14. */
+/* TAI-UTC in seconds at a fraction of a day, and its rule; 16 bytes. Refuses the table; 7; then 1, 2, 3;
+   11. 2000-13-01 with the fraction 1.5 is 7, and with a table of 135 bytes 14. */
 int64_t ct_get_tai_utc_offset(int32_t year, int32_t month, int32_t day, double fraction,
                               const uint8_t *table, size_t table_len, uint8_t *out, size_t out_len);
 
@@ -272,15 +279,16 @@ int64_t ct_utc_from_calendar(int32_t year, uint8_t month, uint8_t day, uint8_t h
                              double second, const uint8_t *table, size_t table_len, uint8_t *out,
                              size_t out_len);
 
-/* UTC to TAI and back: jd1, jd2; 16 bytes. Refuses the table; 6; then 1; 11. (-68571.0, 0.0) is 6,
-   though its year is before -4799 too; (-31739.5, 0.0), which is -4800-12-31, with no byte is 1. */
+/* UTC to TAI: jd1, jd2, and the rule of the day; 24 bytes. And back: jd1, jd2; 16 bytes. Refuses the
+   table; 6; then 1; 11. (-68571.0, 0.0) is 6, though its year is before -4799 too; (-31739.5, 0.0),
+   which is -4800-12-31, with no byte is 1. */
 int64_t ct_utc_to_tai(double jd1, double jd2, const uint8_t *table, size_t table_len, uint8_t *out,
                       size_t out_len);
 int64_t ct_tai_to_utc(double jd1, double jd2, const uint8_t *table, size_t table_len, uint8_t *out,
                       size_t out_len);
 
-/* UTC to UT1 by DUT1 = UT1-UTC in seconds: jd1, jd2; 16 bytes. Refuses the table; 10; 6; then 1; 11.
-   The date (NaN, 0.0) with DUT1 NaN is 10. */
+/* UTC to UT1 by DUT1 = UT1-UTC in seconds: jd1, jd2, and the rule of the day; 24 bytes. Refuses the
+   table; 10; 6; then 1; 11. The date (NaN, 0.0) with DUT1 NaN is 10. */
 int64_t ct_utc_to_ut1_with_dut1(double jd1, double jd2, double dut1, const uint8_t *table,
                                 size_t table_len, uint8_t *out, size_t out_len);
 
@@ -290,11 +298,13 @@ int64_t ct_utc_to_ut1_with_dut1(double jd1, double jd2, double dut1, const uint8
 int64_t ct_ut1_to_utc_with_dut1(double jd1, double jd2, double dut1, const uint8_t *table,
                                 size_t table_len, uint8_t *out, size_t out_len);
 
-/* The UTC date as text, 23 to 26 bytes: 2016-12-31T23:59:60.000, to the nearest millisecond. No
-   byte 0 ends it; the call returns its length. Refuses the table; 6; then 1; 11, which 22 bytes are for
-   2000-01-01. (-68571.0, 0.0) is 6; (-31739.5, 0.0), which is -4800-12-31, with no byte is 1. */
+/* The UTC date as text, 23 to 26 bytes: 2016-12-31T23:59:60.000, to the nearest millisecond, and in
+   `rule` the rule of its day, 8 bytes: of the day before any carry, so a text that shows the next midnight
+   has that of the day that ends there. No byte 0 ends the text; the call returns its length. Refuses the
+   table; 6; then 1; 11, which 22 bytes are for 2000-01-01, and 7 for a rule. A refusal leaves both buffers.
+   (-68571.0, 0.0) is 6; (-31739.5, 0.0), which is -4800-12-31, with no byte is 1. */
 int64_t ct_to_iso8601(double jd1, double jd2, const uint8_t *table, size_t table_len, uint8_t *out,
-                      size_t out_len);
+                      size_t out_len, uint8_t *rule, size_t rule_len);
 
 /* ---- Text read: YYYY-MM-DDThh:mm:ss, or a blank for the T, with a point and 1 to 13 digits or none.
    Bytes 9 to 13 and 32 around it are dropped. The second is the float nearest to its decimal. A byte

@@ -185,10 +185,10 @@ static void gps_weeks(void)
 
 static void offset_calls(void)
 {
-    GIVES(seconds(36.0), ct_get_tai_utc_offset, 2016, 12, 31, 0.0, NO_ROWS);
-    GIVES(seconds(0.0), ct_get_tai_utc_offset, 1959, 12, 31, 1.0, NO_ROWS);
-    GIVES(seconds(6.2830900000000005), ct_get_tai_utc_offset, 1968, 1, 31, 0.0, NO_ROWS);
-    GIVES(seconds(6.2843860000000005), ct_get_tai_utc_offset, 1968, 1, 31, 0.5, NO_ROWS);
+    GIVES(seconds_by(36.0, CT_RULE_WHOLE, 40), ct_get_tai_utc_offset, 2016, 12, 31, 0.0, NO_ROWS);
+    GIVES(seconds_by(0.0, CT_RULE_ABSENT, -1), ct_get_tai_utc_offset, 1959, 12, 31, 1.0, NO_ROWS);
+    GIVES(seconds_by(6.2830900000000005, CT_RULE_DRIFTING, 12), ct_get_tai_utc_offset, 1968, 1, 31, 0.0, NO_ROWS);
+    GIVES(seconds_by(6.2843860000000005, CT_RULE_DRIFTING, 12), ct_get_tai_utc_offset, 1968, 1, 31, 0.5, NO_ROWS);
     REFUSES(7, ct_get_tai_utc_offset, 2000, 13, 1, 1.5, NO_ROWS);
     REFUSES(7, ct_get_tai_utc_offset, -4800, 13, 40, 1.5, NO_ROWS);
     REFUSES(7, ct_get_tai_utc_offset, 2000, 1, 1, -0.5, NO_ROWS);
@@ -233,8 +233,8 @@ static void utc_of_fields(void)
 
 static void utc_and_tai(void)
 {
-    GIVES(parts(2453750.5, 0.89248263844444442), ct_utc_to_tai, 2453750.5, 0.892100694, NO_ROWS);
-    GIVES(parts(2439886.5, 0.50007215724535303), ct_utc_to_tai, 2439886.5, 0.5, NO_ROWS);
+    GIVES(parts_by(2453750.5, 0.89248263844444442, CT_RULE_WHOLE, 37), ct_utc_to_tai, 2453750.5, 0.892100694, NO_ROWS);
+    GIVES(parts_by(2439886.5, 0.50007215724535303, CT_RULE_DRIFTING, 12), ct_utc_to_tai, 2439886.5, 0.5, NO_ROWS);
     REFUSES(6, ct_utc_to_tai, infinite_float(), 0.0, NO_ROWS);
     REFUSES(6, ct_utc_to_tai, 2451545.0, signalling_float(), NO_ROWS);
     REFUSES(6, ct_utc_to_tai, 1e9, 1.0, NO_ROWS);
@@ -250,7 +250,7 @@ static void utc_and_tai(void)
 
 static void utc_and_ut1(void)
 {
-    GIVES(parts(2453750.5, 0.89210456089814816), ct_utc_to_ut1_with_dut1, 2453750.5, 0.892100694, 0.3341, NO_ROWS);
+    GIVES(parts_by(2453750.5, 0.89210456089814816, CT_RULE_WHOLE, 37), ct_utc_to_ut1_with_dut1, 2453750.5, 0.892100694, 0.3341, NO_ROWS);
     REFUSES(10, ct_utc_to_ut1_with_dut1, nan_float(), 0.0, nan_float(), NO_ROWS);
     REFUSES(10, ct_utc_to_ut1_with_dut1, 2451545.0, 0.0, minus_infinite_float(), NO_ROWS);
     REFUSES(6, ct_utc_to_ut1_with_dut1, nan_float(), 0.0, 0.0, NO_ROWS);
@@ -267,22 +267,31 @@ static void utc_and_ut1(void)
 
 static void utc_texts(void)
 {
-    GIVES(text("2000-01-01T12:00:00.000"), ct_to_iso8601, 2451545.0, 0.0, NO_ROWS);
-    GIVES(text("2000-01-01T12:00:00.123"), ct_to_iso8601, 2451545.0, 0.123456789 / 86400.0, NO_ROWS);
-    GIVES(text("2000-01-01T12:34:56.789"), ct_to_iso8601, 2451544.5, 45296.7894 / 86400.0, NO_ROWS);
-    GIVES(text("2000-01-01T23:59:59.999"), ct_to_iso8601, 2451544.5, 86399.9994 / 86400.0, NO_ROWS);
-    GIVES(text("2000-01-02T00:00:00.000"), ct_to_iso8601, 2451544.5, 86399.9996 / 86400.0, NO_ROWS);
-    GIVES(text("2016-12-31T23:59:60.000"), ct_to_iso8601, 2457753.5, 86400.0 / 86401.0, NO_ROWS);
-    GIVES(text("2016-12-31T23:59:60.988"), ct_to_iso8601, 2457753.5, 86400.9876 / 86401.0, NO_ROWS);
-    GIVES(text("-4799-01-01T00:00:00.000"), ct_to_iso8601, -31738.5, 0.0, NO_ROWS);
-    GIVES(text("2733194-11-27T12:00:00.000"), ct_to_iso8601, 1e9, 0.0, NO_ROWS);
-    REFUSES(6, ct_to_iso8601, nan_float(), 0.0, NO_ROWS);
-    REFUSES(6, ct_to_iso8601, 2451545.0, signalling_float(), NO_ROWS);
-    REFUSES(6, ct_to_iso8601, infinite_float(), minus_infinite_float(), NO_ROWS);
-    REFUSES(6, ct_to_iso8601, 1e9, 1.0, NO_ROWS);
-    REFUSES(6, ct_to_iso8601, -68570.0, 0.0, NO_ROWS);
-    REFUSES(6, ct_to_iso8601, -68571.0, 0.0, NO_ROWS);
-    REFUSES(1, ct_to_iso8601, -31739.5, 0.0, NO_ROWS);
+    GIVES(text("2000-01-01T12:00:00.000"), text_of, 2451545.0, 0.0, NO_ROWS);
+    GIVES(text("2000-01-01T12:00:00.123"), text_of, 2451545.0, 0.123456789 / 86400.0, NO_ROWS);
+    GIVES(text("2000-01-01T12:34:56.789"), text_of, 2451544.5, 45296.7894 / 86400.0, NO_ROWS);
+    GIVES(text("2000-01-01T23:59:59.999"), text_of, 2451544.5, 86399.9994 / 86400.0, NO_ROWS);
+    GIVES(text("2000-01-02T00:00:00.000"), text_of, 2451544.5, 86399.9996 / 86400.0, NO_ROWS);
+    GIVES(text("2016-12-31T23:59:60.000"), text_of, 2457753.5, 86400.0 / 86401.0, NO_ROWS);
+    GIVES(text("2016-12-31T23:59:60.988"), text_of, 2457753.5, 86400.9876 / 86401.0, NO_ROWS);
+    GIVES(text("-4799-01-01T00:00:00.000"), text_of, -31738.5, 0.0, NO_ROWS);
+    GIVES(text("2733194-11-27T12:00:00.000"), text_of, 1e9, 0.0, NO_ROWS);
+    REFUSES(6, text_of, nan_float(), 0.0, NO_ROWS);
+    REFUSES(6, text_of, 2451545.0, signalling_float(), NO_ROWS);
+    REFUSES(6, text_of, infinite_float(), minus_infinite_float(), NO_ROWS);
+    REFUSES(6, text_of, 1e9, 1.0, NO_ROWS);
+    REFUSES(6, text_of, -68570.0, 0.0, NO_ROWS);
+    REFUSES(6, text_of, -68571.0, 0.0, NO_ROWS);
+    REFUSES(1, text_of, -31739.5, 0.0, NO_ROWS);
+    told("1959-12-30T12:00:00.000", 0, CT_RULE_ABSENT, -1, 2436932.5, 0.5, NO_ROWS);
+    told("1960-01-01T00:00:00.000", 0, CT_RULE_DRIFTING, 0, 2436934.5, 0.0, NO_ROWS);
+    told("1972-01-01T00:00:00.000", 0, CT_RULE_WHOLE, 14, 2441317.5, 0.0, NO_ROWS);
+    /* the rule of the day before a carry */
+    told("2017-01-01T00:00:00.000", 0, CT_RULE_WHOLE, 40, 2457753.5, 86400.9996 / 86401.0, NO_ROWS);
+    told("1972-01-01T00:00:00.000", 0, CT_RULE_DRIFTING, 13, 2441316.5, 1.0 - 0x1p-50, NO_ROWS);
+    told("", 6, 0, 0, nan_float(), 0.0, NO_ROWS);
+    told("", 1, 0, 0, -31739.5, 0.0, NO_ROWS);
+    told("", 14, 0, 0, nan_float(), 0.0, ct_no_rows, CT_TABLE_BYTES - 1);
 }
 
 /* ---- texts read: tests/reader has the bulk */

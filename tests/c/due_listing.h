@@ -27,7 +27,8 @@ static int64_t due_stamps(const uint8_t *bytes, size_t length)
 static int due_text(const block *b, int64_t i, char *text)
 {
     const uint8_t *jd1 = b->bytes + 8 + 8 * i, *jd2 = jd1 + 8 * b->stamps;
-    int64_t n = ct_to_iso8601(ct_float_at(jd1), ct_float_at(jd2), ct_no_rows, CT_TABLE_BYTES, (uint8_t *)text, 26);
+    uint8_t rule[CT_RULE_BYTES];
+    int64_t n = ct_to_iso8601(ct_float_at(jd1), ct_float_at(jd2), ct_no_rows, CT_TABLE_BYTES, (uint8_t *)text, 26, rule, sizeof rule);
     if (n < 0) return sprintf(text, "refused %ld", (long)-n), 0;
     text[n] = 0;
     return 1;

@@ -64,7 +64,11 @@ enum { SUBNORMALS = sizeof SUBNORMAL / sizeof *SUBNORMAL, DAY_COUNT = sizeof DAY
 
 typedef struct { int64_t code[2]; uint8_t bytes[2][ROOM]; } texts;
 
-static int64_t text(double jd1, double jd2, uint8_t *out) { return ct_to_iso8601(jd1, jd2, ct_no_rows, CT_TABLE_BYTES, out, ROOM); }
+static int64_t text(double jd1, double jd2, uint8_t *out)
+{
+    uint8_t rule[CT_RULE_BYTES];
+    return ct_to_iso8601(jd1, jd2, ct_no_rows, CT_TABLE_BYTES, out, ROOM, rule, sizeof rule);
+}
 
 static void ask_texts(texts *t)
 {

@@ -64,6 +64,25 @@ static void parts(double jd1, double jd2)
     put(ct_opaque_bits(jd2), 8);
 }
 
+/* The same with the rule of a call that tells it. */
+static void put_rule(int kind, int row)
+{
+    put((uint32_t)kind, 4);
+    put((uint32_t)row, 4);
+}
+
+static void seconds_by(double x, int kind, int row)
+{
+    seconds(x);
+    put_rule(kind, row);
+}
+
+static void parts_by(double jd1, double jd2, int kind, int row)
+{
+    parts(jd1, jd2);
+    put_rule(kind, row);
+}
+
 static void day(int32_t year, int32_t month, int32_t of_month)
 {
     wanted_length = 0;
@@ -89,6 +108,35 @@ static void text(const char *shown)
 {
     wanted_length = strlen(shown);
     memcpy(wanted, shown, wanted_length);
+}
+
+/* The text with room for its rule, for what is asked of the text alone. */
+static int64_t text_of(double jd1, double jd2, const uint8_t *table, size_t table_len, uint8_t *out, size_t out_len)
+{
+    uint8_t rule[CT_RULE_BYTES];
+    return ct_to_iso8601(jd1, jd2, table, table_len, out, out_len, rule, sizeof rule);
+}
+
+/* And what it puts into a buffer for the rule: `number` 0 says that kind and row are due. With too few bytes for either both stay. */
+static void told(const char *shown, int number, int kind, int row, double jd1, double jd2, const uint8_t *table, size_t table_len)
+{
+    size_t length;
+    for (length = 0; length <= CT_RULE_BYTES + 2; length++)
+        for (room = 0; room <= ROOM; room++) {
+            uint8_t rule[CT_RULE_BYTES + 3], due[CT_RULE_BYTES + 3];
+            size_t due_length;
+            int64_t code;
+            memset(rule, UNTOUCHED, sizeof rule);
+            memset(due, UNTOUCHED, sizeof due);
+            wanted_length = 0;
+            put_rule(kind, row);
+            due_length = strlen(shown);
+            if (!number && length >= CT_RULE_BYTES && room >= due_length) memcpy(due, wanted, CT_RULE_BYTES);
+            text(shown);
+            code = ct_to_iso8601(jd1, jd2, table, table_len, fresh(), room, rule, length);
+            judge("ct_to_iso8601 with a rule", number ? number : length < CT_RULE_BYTES ? 11 : 0, code);
+            check(!memcmp(due, rule, sizeof due), "the rule of %s in %d bytes", shown, (int)length);
+        }
 }
 
 static void six_fields(int32_t year, int32_t month, int32_t of_month, int32_t hour, int32_t minute, double second)

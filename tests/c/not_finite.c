@@ -16,7 +16,11 @@ typedef int64_t offset_call(double, double, double, uint8_t *, size_t);
     static int64_t name(double jd1, double jd2, uint8_t *out, size_t out_len) { return call(jd1, jd2, ct_no_rows, CT_TABLE_BYTES, out, out_len); }
 #define OFFSET_WITH_NO_ROWS(name, call) \
     static int64_t name(double jd1, double jd2, double dut1, uint8_t *out, size_t out_len) { return call(jd1, jd2, dut1, ct_no_rows, CT_TABLE_BYTES, out, out_len); }
-PLAIN_WITH_NO_ROWS(text, ct_to_iso8601)
+static int64_t text(double jd1, double jd2, uint8_t *out, size_t out_len)
+{
+    uint8_t rule[CT_RULE_BYTES];
+    return ct_to_iso8601(jd1, jd2, ct_no_rows, CT_TABLE_BYTES, out, out_len, rule, sizeof rule);
+}
 PLAIN_WITH_NO_ROWS(utc_to_tai, ct_utc_to_tai)
 PLAIN_WITH_NO_ROWS(tai_to_utc, ct_tai_to_utc)
 OFFSET_WITH_NO_ROWS(utc_to_ut1, ct_utc_to_ut1_with_dut1)

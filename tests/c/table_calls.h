@@ -37,8 +37,8 @@ static void with_a_leap_second(void)
 {
     one_row(JANUARY_2027, 38);
     IS(43, ct_check_table(LENT));
-    GIVES(seconds(37.0), ct_get_tai_utc_offset, 2026, 12, 31, 1.0, LENT);
-    GIVES(seconds(38.0), ct_get_tai_utc_offset, 2027, 1, 1, 0.0, LENT);
+    GIVES(seconds_by(37.0, CT_RULE_WHOLE, 41), ct_get_tai_utc_offset, 2026, 12, 31, 1.0, LENT);
+    GIVES(seconds_by(38.0, CT_RULE_WHOLE, 42), ct_get_tai_utc_offset, 2027, 1, 1, 0.0, LENT);
     GIVES(seconds(1.0), ct_leap_at_end_of_day, 2026, 12, 31, LENT);
     GIVES(seconds(0.0), ct_leap_at_end_of_day, 2026, 12, 31, NO_ROWS);
     GIVES(parts(2461405.5, 86400.5 / 86401.0), ct_utc_from_calendar, 2026, 12, 31, 23, 59, 60.5, LENT);
@@ -46,12 +46,13 @@ static void with_a_leap_second(void)
     REFUSES(4, ct_utc_from_calendar, 2026, 12, 31, 23, 59, 61.0, LENT);
     GIVES(parts(2461405.5, 43200.0 / 86401.0), ct_utc_new, INT64_C(1798675200) + 43200, 0, LENT);
     GIVES(parts(2461405.5, 0.5), ct_utc_new, INT64_C(1798675200) + 43200, 0, NO_ROWS);
-    GIVES(parts(2461406.5, 38.0 / 86400.0), ct_utc_to_tai, 2461406.5, 0.0, LENT);
-    GIVES(parts(2461406.5, 37.0 / 86400.0), ct_utc_to_tai, 2461406.5, 0.0, NO_ROWS);
+    GIVES(parts_by(2461406.5, 38.0 / 86400.0, CT_RULE_WHOLE, 42), ct_utc_to_tai, 2461406.5, 0.0, LENT);
+    GIVES(parts_by(2461406.5, 37.0 / 86400.0, CT_RULE_WHOLE, 41), ct_utc_to_tai, 2461406.5, 0.0, NO_ROWS);
     GIVES((six_fields(2026, 12, 31, 23, 59, 60.5), and_parts(2461405.5, 86400.5 / 86401.0)), ct_utc_from_iso8601, TEXT("2026-12-31T23:59:60.5Z"), LENT);
     REFUSES(4, ct_utc_from_iso8601, TEXT("2026-12-31T23:59:60.5Z"), NO_ROWS);
-    GIVES(text("2026-12-31T23:59:60.500"), ct_to_iso8601, 2461405.5, 86400.5 / 86401.0, LENT);
-    GIVES(text("2026-12-31T23:59:59.500"), ct_to_iso8601, 2461405.5, 86399.5 / 86400.0, NO_ROWS);
+    GIVES(text("2026-12-31T23:59:60.500"), text_of, 2461405.5, 86400.5 / 86401.0, LENT);
+    GIVES(text("2026-12-31T23:59:59.500"), text_of, 2461405.5, 86399.5 / 86400.0, NO_ROWS);
+    told("2027-01-01T12:00:00.000", 0, CT_RULE_WHOLE, 42, 2461406.5, 0.5, LENT);
 }
 
 /* ---- a row less: the day has 86,399 s, and its last minute 59 */
@@ -60,31 +61,31 @@ static void with_a_second_left_out(void)
 {
     one_row(JANUARY_2027, 36);
     IS(43, ct_check_table(LENT));
-    GIVES(seconds(36.0), ct_get_tai_utc_offset, 2027, 1, 1, 0.0, LENT);
+    GIVES(seconds_by(36.0, CT_RULE_WHOLE, 42), ct_get_tai_utc_offset, 2027, 1, 1, 0.0, LENT);
     GIVES(seconds(-1.0), ct_leap_at_end_of_day, 2026, 12, 31, LENT);
     GIVES(parts(2461405.5, 86398.5 / 86399.0), ct_utc_from_calendar, 2026, 12, 31, 23, 59, 58.5, LENT);
     REFUSES(4, ct_utc_from_calendar, 2026, 12, 31, 23, 59, 59.0, LENT);
     GIVES(parts(2461405.5, 86339.5 / 86399.0), ct_utc_from_calendar, 2026, 12, 31, 23, 58, 59.5, LENT);
     GIVES(parts(2461405.5, 86398.0 / 86399.0), ct_utc_new, INT64_C(1798675200) + 86398, 0, LENT);
     REFUSES(4, ct_utc_new, INT64_C(1798675200) + 86399, 0, LENT);
-    GIVES(parts(2461405.5, 0.5 * (86399.0 / 86400.0) + 37.0 / 86400.0), ct_utc_to_tai, 2461405.5, 0.5, LENT);
+    GIVES(parts_by(2461405.5, 0.5 * (86399.0 / 86400.0) + 37.0 / 86400.0, CT_RULE_WHOLE, 41), ct_utc_to_tai, 2461405.5, 0.5, LENT);
     GIVES((six_fields(2026, 12, 31, 23, 59, 58.999), and_parts(2461405.5, 86398.999 / 86399.0)), ct_utc_from_iso8601, TEXT("2026-12-31T23:59:58.999"), LENT);
     REFUSES(4, ct_utc_from_iso8601, TEXT("2026-12-31T23:59:59"), LENT);
-    GIVES(text("2026-12-31T23:59:58.999"), ct_to_iso8601, 2461405.5, 86398.9994 / 86399.0, LENT);
-    GIVES(text("2027-01-01T00:00:00.000"), ct_to_iso8601, 2461405.5, 86398.9996 / 86399.0, LENT);
-    GIVES(text("2026-12-31T23:59:59.000"), ct_to_iso8601, 2461405.5, 86399.0 / 86400.0, NO_ROWS);
+    GIVES(text("2026-12-31T23:59:58.999"), text_of, 2461405.5, 86398.9994 / 86399.0, LENT);
+    GIVES(text("2027-01-01T00:00:00.000"), text_of, 2461405.5, 86398.9996 / 86399.0, LENT);
+    GIVES(text("2026-12-31T23:59:59.000"), text_of, 2461405.5, 86399.0 / 86400.0, NO_ROWS);
 }
 
 /* The four conversions there and back on a day of 86,401 s and on one of 86,399 s: within 1 ns. */
 static void there_and_back(int32_t of_seconds)
 {
-    uint8_t there[16], back[16];
+    uint8_t there[24], back[16];
     one_row(JANUARY_2027, of_seconds);
-    IS(16, ct_utc_to_tai(2461405.5, 0.75, LENT, there, sizeof there));
+    IS(24, ct_utc_to_tai(2461405.5, 0.75, LENT, there, sizeof there));
     IS(16, ct_tai_to_utc(ct_float_at(there), ct_float_at(there + 8), LENT, back, sizeof back));
     IS_FLOAT(2461405.5, ct_float_at(back));
     check(ct_float_at(back + 8) - 0.75 < 1e-14 && 0.75 - ct_float_at(back + 8) < 1e-14, "UTC by TAI with a row of %d s", (int)of_seconds);
-    IS(16, ct_utc_to_ut1_with_dut1(2461300.5, 0.75, 0.25, LENT, there, sizeof there));
+    IS(24, ct_utc_to_ut1_with_dut1(2461300.5, 0.75, 0.25, LENT, there, sizeof there));
     IS(16, ct_ut1_to_utc_with_dut1(ct_float_at(there), ct_float_at(there + 8), 0.25, LENT, back, sizeof back));
     check(ct_float_at(back + 8) - 0.75 < 1e-14 && 0.75 - ct_float_at(back + 8) < 1e-14, "UTC by UT1 with a row of %d s", (int)of_seconds);
     /* a DUT1 that counts for after the row: half of the day before it, the step is taken off */
@@ -114,8 +115,8 @@ static void each_call_refuses(int number, size_t table_len)
     REFUSES(number, ct_utc_to_ut1_with_dut1, nan_float(), 0.0, nan_float(), table, table_len);
     REFUSES(number, ct_ut1_to_utc_with_dut1, 2451545.0, 0.0, 0.25, table, table_len);
     REFUSES(number, ct_ut1_to_utc_with_dut1, nan_float(), 0.0, nan_float(), table, table_len);
-    REFUSES(number, ct_to_iso8601, 2451545.0, 0.0, table, table_len);
-    REFUSES(number, ct_to_iso8601, nan_float(), 0.0, table, table_len);
+    REFUSES(number, text_of, 2451545.0, 0.0, table, table_len);
+    REFUSES(number, text_of, nan_float(), 0.0, table, table_len);
     REFUSES(number, ct_utc_from_iso8601, TEXT("2000-01-01T12:00:00"), table, table_len);
     REFUSES(number, ct_utc_from_iso8601, TEXT("2000-13-01T24:00:00x"), table, table_len);
 }
@@ -162,14 +163,14 @@ static void spare_places(void)
     memset(table, 0xff, sizeof table);
     memset(table, 0, 8);
     IS(42, ct_check_table(LENT));
-    GIVES(seconds(37.0), ct_get_tai_utc_offset, 2147483647, 12, 31, 0.0, LENT);
-    GIVES(text("2016-12-31T23:59:60.000"), ct_to_iso8601, 2457753.5, 86400.0 / 86401.0, LENT);
+    GIVES(seconds_by(37.0, CT_RULE_WHOLE, 41), ct_get_tai_utc_offset, 2147483647, 12, 31, 0.0, LENT);
+    GIVES(text("2016-12-31T23:59:60.000"), text_of, 2457753.5, 86400.0 / 86401.0, LENT);
     one_row(JANUARY_2027, 38);
     for (i = 12; i < CT_TABLE_BYTES; i++)
         if (i < 72 || i >= 76) table[i] = (uint8_t)(0x9d * i);
     IS(43, ct_check_table(LENT));
-    GIVES(seconds(37.0), ct_get_tai_utc_offset, 2026, 12, 31, 0.0, LENT);
-    GIVES(seconds(38.0), ct_get_tai_utc_offset, 2147483647, 12, 31, 0.0, LENT);
+    GIVES(seconds_by(37.0, CT_RULE_WHOLE, 41), ct_get_tai_utc_offset, 2026, 12, 31, 0.0, LENT);
+    GIVES(seconds_by(38.0, CT_RULE_WHOLE, 42), ct_get_tai_utc_offset, 2147483647, 12, 31, 0.0, LENT);
     GIVES(seconds(1.0), ct_leap_at_end_of_day, 2026, 12, 31, LENT);
 }
 
@@ -210,13 +211,13 @@ static void many(void)
         check(ct_check_table(LENT) == 42 + i, "%d rows", i);
     }
     for (i = 0; i < 16; i++) {
-        GIVES(seconds(i % 2 ? 37.0 : 38.0), ct_get_tai_utc_offset, 2027 + i, 1, 1, 0.0, LENT);
+        GIVES(seconds_by(i % 2 ? 37.0 : 38.0, CT_RULE_WHOLE, 42 + i), ct_get_tai_utc_offset, 2027 + i, 1, 1, 0.0, LENT);
         GIVES(seconds(i % 2 ? -1.0 : 1.0), ct_leap_at_end_of_day, 2026 + i, 12, 31, LENT);
     }
     /* the last month of 32 bits, which the calendar's dates reach and Julian dates do not */
     one_row(INT32_MAX, 38);
-    GIVES(seconds(37.0), ct_get_tai_utc_offset, 178956970, 7, 31, 0.0, LENT);
-    GIVES(seconds(38.0), ct_get_tai_utc_offset, 178956970, 8, 1, 0.0, LENT);
+    GIVES(seconds_by(37.0, CT_RULE_WHOLE, 41), ct_get_tai_utc_offset, 178956970, 7, 31, 0.0, LENT);
+    GIVES(seconds_by(38.0, CT_RULE_WHOLE, 42), ct_get_tai_utc_offset, 178956970, 8, 1, 0.0, LENT);
 }
 
 static void table_calls(void)

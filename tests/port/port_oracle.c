@@ -154,7 +154,7 @@ static record tai_utc(int call, const record *r)
 {
     int32_t year = (int32_t)n(r, 0), month = (int32_t)n(r, 1), day = (int32_t)n(r, 2);
     switch (call) {
-    case 60: return one_float(FILL(8, ct_get_tai_utc_offset, year, month, day, f(r, 3), NO_ROWS));
+    case 60: return one_float(FILL(16, ct_get_tai_utc_offset, year, month, day, f(r, 3), NO_ROWS));
     case 62: return one_float(FILL(8, ct_leap_at_end_of_day, year, month, day, NO_ROWS));
     }
     return none();
@@ -188,7 +188,8 @@ static record scales(int call, const record *r)
 static record text(double jd1, double jd2, size_t room)
 {
     uint8_t *out = lent();
-    int64_t code = ct_to_iso8601(jd1, jd2, NO_ROWS, out, room);
+    uint8_t rule[CT_RULE_BYTES];
+    int64_t code = ct_to_iso8601(jd1, jd2, NO_ROWS, out, room, rule, sizeof rule);
     must_stand(code < 0 ? 0 : (size_t)code, "ct_to_iso8601");
     record r = coded(code);
     for (int i = 0; i < 4; i++) r.word[2 + i] = read_bits((size_t)(8 * i));
@@ -204,9 +205,9 @@ static record utc(int call, const record *r)
         return two_floats(FILL(16, ct_utc_from_calendar, (int32_t)n(r, 0), (uint8_t)n(r, 1),
                                (uint8_t)n(r, 2), (uint8_t)n(r, 3), (uint8_t)n(r, 4), f(r, 5), NO_ROWS));
     case 122: return text(jd1, jd2, (size_t)n(r, 2));
-    case 123: return two_floats(FILL(16, ct_utc_to_tai, jd1, jd2, NO_ROWS));
+    case 123: return two_floats(FILL(24, ct_utc_to_tai, jd1, jd2, NO_ROWS));
     case 124: return two_floats(FILL(16, ct_tai_to_utc, jd1, jd2, NO_ROWS));
-    case 125: return two_floats(FILL(16, ct_utc_to_ut1_with_dut1, jd1, jd2, dut1, NO_ROWS));
+    case 125: return two_floats(FILL(24, ct_utc_to_ut1_with_dut1, jd1, jd2, dut1, NO_ROWS));
     case 126: return two_floats(FILL(16, ct_ut1_to_utc_with_dut1, jd1, jd2, dut1, NO_ROWS));
     }
     return none();

@@ -3,3 +3,5 @@ pub mod Delivery
 pub mod Fields
 pub mod ReaderFields
 pub mod WideFields
+pub mod RuleFields
+pub mod TwoBuffers

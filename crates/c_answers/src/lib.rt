@@ -2,6 +2,7 @@
 pub mod fields;
 pub mod reader_fields;
 pub mod wide_fields;
+pub mod rule_fields;
 
 ghost use mathlib.Core.Path.{_≡_};
 ghost use Prim.Native.Nat.{_≤_};

@@ -1,6 +1,8 @@
--- The laws that the proofs of the C interface cite: a table that is lent, the outcome of a text call, a part of a listing, ticks, and a walk.
+-- The laws that the proofs of the C interface cite: a table that is lent, by value and as two arrays, a text and its rule in two buffers, a part of a listing, three runs in a
+-- line, ticks, and a walk.
 pub mod Tables
-pub mod Texts
+pub mod Arrays
+pub mod TextRules
 pub mod ListingParts
 pub mod LineUps
 pub mod Ticks

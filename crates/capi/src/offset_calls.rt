@@ -2,17 +2,20 @@
 ghost use mathlib.Core.Path.{_≡_};
 ghost use lib.ListN.{length};
 ghost use Rattle.refusals.specs.Outcome.{answer, onward};
-ghost use Rattle.tai_utc.specs.Offset.{taiUtcOffset};
+ghost use Rattle.tai_utc.specs.Rule.{forget, offsetByRule};
 ghost use Rattle.tai_utc.specs.Leap.{leapAtEndOfDay};
-ghost use Rattle.tai_utc.specs.Answers.{secondsOutcome};
+ghost use Rattle.tai_utc.specs.Answers.{secondsByRuleOutcome};
 ghost use Rattle.lent_bytes.specs.TableBytes.{tableBytes};
 ghost use Rattle.c_answers.specs.Delivery.{code, inBytes, Delivered};
 ghost use Rattle.c_answers.specs.Fields.{floatBytes};
+ghost use Rattle.c_answers.specs.RuleFields.{offsetRuleBytes};
 use c_answers::fields;
 use c_answers::refused;
+use c_answers::rule_fields;
+use lent_bytes::arrays;
 use lent_bytes::lent_rows_at;
 use lent_bytes::table_number;
-use tai_utc::SecondsAnswer;
+use tai_utc::SecondsByRule;
 
 // 42 to 58.
 #[no_mangle]
@@ -27,12 +30,24 @@ pub extern "C" fn ct_check_table(table: &[u8]) -> i64
     (42 + rows.months_size) as i64
 }
 
-fn put_offset(found: SecondsAnswer, out: &mut [u8]) -> i64
-    ensures { λ r. ⌜ Delivered (inBytes floatBytes (secondsOutcome found)) (now (out .entry)) r (now (out .exit)) ⌝ }
+fn put_offset(found: SecondsByRule, out: &mut [u8]) -> i64
+    ensures { λ r. ⌜ Delivered (inBytes offsetRuleBytes (secondsByRuleOutcome found)) (now (out .entry)) r (now (out .exit)) ⌝ }
 {
     match found {
-        SecondsAnswer::Seconds(seconds) => fields::put_float(seconds, out),
-        SecondsAnswer::Refused(number) => refused(number),
+        SecondsByRule::Seconds(seconds, rule) => {
+            rule_fields::put_offset_by_rule(seconds, rule, out)
+        }
+        SecondsByRule::Refused(number) => refused(number),
+    }
+}
+
+// A leap passes no rule on.
+fn put_leap(found: SecondsByRule, out: &mut [u8]) -> i64
+    ensures { λ r. ⌜ Delivered (inBytes floatBytes (forget (secondsByRuleOutcome found))) (now (out .entry)) r (now (out .exit)) ⌝ }
+{
+    match found {
+        SecondsByRule::Seconds(seconds, _) => fields::put_float(seconds, out),
+        SecondsByRule::Refused(number) => refused(number),
     }
 }
 
@@ -45,15 +60,17 @@ pub extern "C" fn ct_get_tai_utc_offset(
     table: &[u8],
     out: &mut [u8],
 ) -> i64
-    ensures { λ r. ⌜ Delivered (inBytes floatBytes (onward (tableBytes (now (table .entry))) (λ rows. taiUtcOffset rows year month day fraction))) (now (out .entry)) r (now (out .exit)) ⌝ }
+    ensures { λ r. ⌜ Delivered (inBytes offsetRuleBytes (onward (tableBytes (now (table .entry))) (λ rows. offsetByRule rows year month day fraction))) (now (out .entry)) r (now (out .exit)) ⌝ }
 {
-    let rows = lent_rows_at(table);
-    let number = table_number(table.len(), rows);
+    let size = arrays::size_in(table);
+    let months = arrays::months_in(table);
+    let seconds = arrays::seconds_in(table);
+    let number = arrays::lent_number(table, &months, &seconds);
     if number != 0 {
         return refused(number);
     }
     put_offset(
-        tai_utc::get_tai_utc_offset_by_rows(year, month, day, fraction, rows),
+        tai_utc::get_tai_utc_offset_by_lent(year, month, day, fraction, size, &months, &seconds),
         out,
     )
 }
@@ -68,13 +85,15 @@ pub extern "C" fn ct_leap_at_end_of_day(
 ) -> i64
     ensures { λ r. ⌜ Delivered (inBytes floatBytes (onward (tableBytes (now (table .entry))) (λ rows. leapAtEndOfDay rows year month day))) (now (out .entry)) r (now (out .exit)) ⌝ }
 {
-    let rows = lent_rows_at(table);
-    let number = table_number(table.len(), rows);
+    let size = arrays::size_in(table);
+    let months = arrays::months_in(table);
+    let seconds = arrays::seconds_in(table);
+    let number = arrays::lent_number(table, &months, &seconds);
     if number != 0 {
         return refused(number);
     }
-    put_offset(
-        tai_utc::leap_at_end_of_day_by_rows(year, month, day, rows),
+    put_leap(
+        tai_utc::leap_at_end_of_day_by_lent(year, month, day, size, &months, &seconds),
         out,
     )
 }

@@ -1,29 +1,29 @@
-// UTC: from Unix time and from the calendar, to TAI and UT1 and back, and as text.
+// UTC: from Unix time and from the calendar, and to TAI and UT1 and back.
 ghost use Rattle.refusals.specs.Outcome.{onward};
 ghost use Rattle.julian.specs.JulianDate.{julian};
 ghost use Rattle.scales.specs.Scales.{utcOutcome};
-ghost use Rattle.utc_scales.specs.UtcTai.{utcToTai, taiToUtc};
-ghost use Rattle.utc_scales.specs.UtcUt1.{utcToUt1, ut1ToUtc};
+ghost use Rattle.utc_scales.specs.UtcTai.{taiToUtc};
+ghost use Rattle.utc_scales.specs.UtcUt1.{ut1ToUtc};
+ghost use Rattle.utc_scales.specs.ByRule.{utcToTaiByRule, utcToUt1ByRule, taiByRuleOutcome, ut1ByRuleOutcome};
 ghost use Rattle.utc.specs.UnixTime.{utcNew};
 ghost use Rattle.utc.specs.FromCalendar.{utcFromCalendar};
-ghost use Rattle.utc.specs.IsoText.{isoText};
 ghost use Rattle.lent_bytes.specs.TableBytes.{tableBytes};
 ghost use Rattle.c_answers.specs.Delivery.{inBytes, Delivered};
 ghost use Rattle.c_answers.specs.Fields.{julianBytes};
-use crate::scale_calls::put_tai;
-use crate::scale_calls::put_ut1;
+ghost use Rattle.c_answers.specs.RuleFields.{julianRuleBytes};
 use c_answers::fields;
 use c_answers::refused;
+use c_answers::rule_fields;
 use julian::JulianDate;
-use lent_bytes::lent_rows_at;
-use lent_bytes::table_number;
+use lent_bytes::arrays;
 use scales::TAI;
 use scales::UT1;
 use scales::UTC;
 use scales::UtcAnswer;
 use utc_scales::utc_tai;
+use utc_scales::utc_tai::TaiByRule;
 use utc_scales::utc_ut1;
-use utc_text::TextAnswer;
+use utc_scales::utc_ut1::Ut1ByRule;
 
 fn put_utc(found: UtcAnswer, out: &mut [u8]) -> i64
     ensures { λ r. ⌜ Delivered (inBytes julianBytes (utcOutcome found)) (now (out .entry)) r (now (out .exit)) ⌝ }
@@ -35,15 +35,17 @@ fn put_utc(found: UtcAnswer, out: &mut [u8]) -> i64
 }
 
 #[no_mangle]
-pub extern "C" fn ct_utc_new(seconds: i64, nanos: u32, table: &[u8], out: &mut [u8]) -> i64
-    ensures { λ r. ⌜ Delivered (inBytes julianBytes (onward (tableBytes (now (table .entry))) (λ rows. utcNew rows seconds nanos))) (now (out .entry)) r (now (out .exit)) ⌝ }
+pub extern "C" fn ct_utc_new(unix: i64, nanos: u32, table: &[u8], out: &mut [u8]) -> i64
+    ensures { λ r. ⌜ Delivered (inBytes julianBytes (onward (tableBytes (now (table .entry))) (λ rows. utcNew rows unix nanos))) (now (out .entry)) r (now (out .exit)) ⌝ }
 {
-    let rows = lent_rows_at(table);
-    let number = table_number(table.len(), rows);
+    let size = arrays::size_in(table);
+    let months = arrays::months_in(table);
+    let seconds = arrays::seconds_in(table);
+    let number = arrays::lent_number(table, &months, &seconds);
     if number != 0 {
         return refused(number);
     }
-    put_utc(utc::new_by_rows(seconds, nanos, rows), out)
+    put_utc(utc::new_by_lent(unix, nanos, size, &months, &seconds), out)
 }
 
 #[no_mangle]
@@ -59,41 +61,81 @@ pub extern "C" fn ct_utc_from_calendar(
 ) -> i64
     ensures { λ r. ⌜ Delivered (inBytes julianBytes (onward (tableBytes (now (table .entry))) (λ rows. utcFromCalendar rows year month day hour minute second))) (now (out .entry)) r (now (out .exit)) ⌝ }
 {
-    let rows = lent_rows_at(table);
-    let number = table_number(table.len(), rows);
+    let size = arrays::size_in(table);
+    let months = arrays::months_in(table);
+    let seconds = arrays::seconds_in(table);
+    let number = arrays::lent_number(table, &months, &seconds);
     if number != 0 {
         return refused(number);
     }
     put_utc(
-        utc::utc_from_calendar_by_rows(year, month, day, hour, minute, second, rows),
+        utc::utc_from_calendar_by_lent(
+            year,
+            month,
+            day,
+            hour,
+            minute,
+            second,
+            size,
+            &months,
+            &seconds,
+        ),
         out,
     )
 }
 
+fn put_tai_by_rule(found: TaiByRule, out: &mut [u8]) -> i64
+    ensures { λ r. ⌜ Delivered (inBytes julianRuleBytes (taiByRuleOutcome found)) (now (out .entry)) r (now (out .exit)) ⌝ }
+{
+    match found {
+        TaiByRule::Date(date, rule) => rule_fields::put_julian_by_rule(date.0, rule, out),
+        TaiByRule::Refused(number) => refused(number),
+    }
+}
+
 #[no_mangle]
 pub extern "C" fn ct_utc_to_tai(jd1: f64, jd2: f64, table: &[u8], out: &mut [u8]) -> i64
-    ensures { λ r. ⌜ Delivered (inBytes julianBytes (onward (tableBytes (now (table .entry))) (λ rows. utcToTai rows (julian jd1 jd2)))) (now (out .entry)) r (now (out .exit)) ⌝ }
+    ensures { λ r. ⌜ Delivered (inBytes julianRuleBytes (onward (tableBytes (now (table .entry))) (λ rows. utcToTaiByRule rows (julian jd1 jd2)))) (now (out .entry)) r (now (out .exit)) ⌝ }
 {
-    let rows = lent_rows_at(table);
-    let number = table_number(table.len(), rows);
+    let size = arrays::size_in(table);
+    let months = arrays::months_in(table);
+    let seconds = arrays::seconds_in(table);
+    let number = arrays::lent_number(table, &months, &seconds);
     if number != 0 {
         return refused(number);
     }
     let date = UTC(JulianDate { jd1, jd2 });
-    put_tai(utc_tai::utc_to_tai_by_rows(date, rows), out)
+    put_tai_by_rule(
+        utc_tai::utc_to_tai_by_lent(date, size, &months, &seconds),
+        out,
+    )
 }
 
 #[no_mangle]
 pub extern "C" fn ct_tai_to_utc(jd1: f64, jd2: f64, table: &[u8], out: &mut [u8]) -> i64
     ensures { λ r. ⌜ Delivered (inBytes julianBytes (onward (tableBytes (now (table .entry))) (λ rows. taiToUtc rows (julian jd1 jd2)))) (now (out .entry)) r (now (out .exit)) ⌝ }
 {
-    let rows = lent_rows_at(table);
-    let number = table_number(table.len(), rows);
+    let size = arrays::size_in(table);
+    let months = arrays::months_in(table);
+    let seconds = arrays::seconds_in(table);
+    let number = arrays::lent_number(table, &months, &seconds);
     if number != 0 {
         return refused(number);
     }
     let date = TAI(JulianDate { jd1, jd2 });
-    put_utc(utc_tai::tai_to_utc_by_rows(date, rows), out)
+    put_utc(
+        utc_tai::tai_to_utc_by_lent(date, size, &months, &seconds),
+        out,
+    )
+}
+
+fn put_ut1_by_rule(found: Ut1ByRule, out: &mut [u8]) -> i64
+    ensures { λ r. ⌜ Delivered (inBytes julianRuleBytes (ut1ByRuleOutcome found)) (now (out .entry)) r (now (out .exit)) ⌝ }
+{
+    match found {
+        Ut1ByRule::Date(date, rule) => rule_fields::put_julian_by_rule(date.0, rule, out),
+        Ut1ByRule::Refused(number) => refused(number),
+    }
 }
 
 #[no_mangle]
@@ -104,15 +146,20 @@ pub extern "C" fn ct_utc_to_ut1_with_dut1(
     table: &[u8],
     out: &mut [u8],
 ) -> i64
-    ensures { λ r. ⌜ Delivered (inBytes julianBytes (onward (tableBytes (now (table .entry))) (λ rows. utcToUt1 rows (julian jd1 jd2) dut1))) (now (out .entry)) r (now (out .exit)) ⌝ }
+    ensures { λ r. ⌜ Delivered (inBytes julianRuleBytes (onward (tableBytes (now (table .entry))) (λ rows. utcToUt1ByRule rows (julian jd1 jd2) dut1))) (now (out .entry)) r (now (out .exit)) ⌝ }
 {
-    let rows = lent_rows_at(table);
-    let number = table_number(table.len(), rows);
+    let size = arrays::size_in(table);
+    let months = arrays::months_in(table);
+    let seconds = arrays::seconds_in(table);
+    let number = arrays::lent_number(table, &months, &seconds);
     if number != 0 {
         return refused(number);
     }
     let date = UTC(JulianDate { jd1, jd2 });
-    put_ut1(utc_ut1::utc_to_ut1_with_dut1_by_rows(date, dut1, rows), out)
+    put_ut1_by_rule(
+        utc_ut1::utc_to_ut1_with_dut1_by_lent(date, dut1, size, &months, &seconds),
+        out,
+    )
 }
 
 #[no_mangle]
@@ -125,27 +172,16 @@ pub extern "C" fn ct_ut1_to_utc_with_dut1(
 ) -> i64
     ensures { λ r. ⌜ Delivered (inBytes julianBytes (onward (tableBytes (now (table .entry))) (λ rows. ut1ToUtc rows (julian jd1 jd2) dut1))) (now (out .entry)) r (now (out .exit)) ⌝ }
 {
-    let rows = lent_rows_at(table);
-    let number = table_number(table.len(), rows);
+    let size = arrays::size_in(table);
+    let months = arrays::months_in(table);
+    let seconds = arrays::seconds_in(table);
+    let number = arrays::lent_number(table, &months, &seconds);
     if number != 0 {
         return refused(number);
     }
     let date = UT1(JulianDate { jd1, jd2 });
-    put_utc(utc_ut1::ut1_to_utc_with_dut1_by_rows(date, dut1, rows), out)
-}
-
-#[no_mangle]
-pub extern "C" fn ct_to_iso8601(jd1: f64, jd2: f64, table: &[u8], out: &mut [u8]) -> i64
-    ensures { λ r. ⌜ Delivered (onward (tableBytes (now (table .entry))) (λ rows. isoText rows (julian jd1 jd2))) (now (out .entry)) r (now (out .exit)) ⌝ }
-{
-    let rows = lent_rows_at(table);
-    let number = table_number(table.len(), rows);
-    if number != 0 {
-        return refused(number);
-    }
-    let date = UTC(JulianDate { jd1, jd2 });
-    match utc::to_iso8601_by_rows(date, rows, out) {
-        TextAnswer::Written(n) => n as i64,
-        TextAnswer::Refused(number) => refused(number),
-    }
+    put_utc(
+        utc_ut1::ut1_to_utc_with_dut1_by_lent(date, dut1, size, &months, &seconds),
+        out,
+    )
 }

@@ -2,7 +2,7 @@
 use Prim.Native.Nat.{ℕ, zero, suc, _+_, _*_, _≤_, _<_}
 use native.Mathlib.Omega.{arith}
 use native.Mathlib.Nat.{not-suc-le-zero}
-use mathlib.Core.Path.{_≡_, refl, sym, ap, _∙_}
+use mathlib.Core.Path.{_≡_, refl, sym, ap, subst, _∙_}
 use mathlib.Core.Bool.{Bool, true, false, true≢false, cond, _&&_}
 use mathlib.Core.List.{List}
 use lib.Dec.{eqb, leb}
@@ -15,11 +15,12 @@ use Rattle.refusals.specs.Outcome.{Outcome, answer, refusal}
 use Rattle.little_endian.specs.LittleEndian.{u32At}
 use Rattle.tai_utc.specs.declared.LentRows.{LentRows}
 use Rattle.tai_utc.specs.Table.{Row, fixed}
-use Rattle.tai_utc.specs.Lent.{least, lentSize, rowsOf, tableOf}
+use Rattle.tai_utc.specs.Lent.{least, lentSize, rowsOf, rowsIn, lentTable, tableOf, unlessRefused, Judged}
 use Rattle.tai_utc.proofs.Tables.{least-right}
 use Rattle.tai_utc.proofs.TableLaws.{spare-unread}
-use Rattle.tai_utc.proofs.TablesTaken.{table-none, none-rows}
-use Rattle.lent_bytes.specs.TableBytes.{signedAt, signedFrom, recordIn, ofLength, tableBytes}
+use Rattle.tai_utc.proofs.ByParts.{least-low, rows-in}
+use Rattle.tai_utc.proofs.TablesTaken.{table-none, none-rows, when-taken}
+use Rattle.lent_bytes.specs.TableBytes.{signedAt, signedFrom, recordIn, ofLength, tableBytes, sizeIn, ReadFrom}
 
 -- ---- the numbers of an array by their places
 pub place-of : (s : List ℕ) (at n i : ℕ) → i < n → getD (signedFrom s at n) i (pos 0) ≡ signedAt s (at + 4 * i)
@@ -101,3 +102,32 @@ refuses-none n t h e =
     let (x, y) = both-none (t .«months_size») (t .«seconds_size») e in
     let f = table-none t x y in
     ap answer (none-rows t f) ∙ sym f ∙ rw (eq-eqb n 136 h)
+
+-- ---- a size and two arrays: where the table is taken, their rows are its rows
+pub by-arrays : (t : LentRows) (n : ℕ) → unlessRefused n (rowsOf t) ≡ tableOf t → unlessRefused n (rowsIn (least (t .«months_size») 16) (t .months) (t .seconds)) ≡ tableOf t
+by-arrays t (suc k) e = e
+by-arrays t zero e =
+    let k = when-taken t (rowsOf t) (sym e) in
+    ap answer (rows-in t (least (t .«months_size») 16) (least-low (t .«months_size») 16 (k .most) ∙ sym (least-low (t .«months_size») (t .«seconds_size») (omega (arith, k .one-size))))) ∙ e
+
+of-length-136 : (n : ℕ) (o : Outcome (List Row)) → n ≡ 136 → o ≡ ofLength n o
+unfolding ofLength
+of-length-136 n o h = rw (eq-eqb n 136 h)
+
+-- by the sizes a and b that were read
+module _ (n a b a′ b′ : ℕ) (m l : List ℤ) (p : a ≡ a′) (q : b ≡ b′) (h : n ≡ 136) where
+  pub arrays-judged : (number : ℕ) → Judged number (lentTable a b m l) → unlessRefused number (rowsIn (least a′ 16) m l) ≡ ofLength n (tableOf (lentTable a′ b′ m l))
+  arrays-judged number e =
+      by-arrays (lentTable a′ b′ m l) number (subst (λ (x : ℕ). Judged number (lentTable x b′ m l)) p (subst (λ (y : ℕ). Judged number (lentTable a y m l)) q e))
+      ∙ of-length-136 n (tableOf (lentTable a′ b′ m l)) h
+
+  pub arrays-none : eqb a 0 && eqb b 0 ≡ true → answer (rowsIn (least a′ 16) m l) ≡ ofLength n (tableOf (lentTable a′ b′ m l))
+  arrays-none e =
+      let (x, y) = both-none a b e in
+      let f = table-none (lentTable a b m l) x y in
+      arrays-judged 0 (ap answer (none-rows (lentTable a b m l) f) ∙ sym f)
+
+-- what was read of the bytes is their table
+pub arrays-of-bytes : (s : List ℕ) (m l : List ℤ) → ReadFrom s 8 m → ReadFrom s 72 l → ofLength (length s) (tableOf (lentTable (u32At s 0) (u32At s 4) m l)) ≡ tableBytes s
+unfolding tableBytes
+arrays-of-bytes s m l p q = ap (ofLength (length s)) (same-table s (lentTable (u32At s 0) (u32At s 4) m l) refl refl p q)

@@ -1,16 +1,17 @@
 -- The table that a C caller lends as bytes. Written from document 02, item 8: "From C it is these 136 bytes, little-endian; any other length is 14, before 20": two
 -- sizes of 4 bytes, 16 month starts and 16 seconds of 4 bytes each, in two's complement. Assumes nothing.
-use Prim.Native.Nat.{ℕ, zero, suc, _+_, _-_, _*_}
+use Prim.Native.Nat.{ℕ, zero, suc, _+_, _-_, _*_, _<_}
+use mathlib.Core.Path.{_≡_}
 use mathlib.Core.Bool.{cond}
 use mathlib.Core.List.{List, [], _∷_}
 use lib.Dec.{eqb, ltb}
 use lib.IntN.{ℤ, pos, negsuc}
-use lib.ListN.{length}
+use lib.ListN.{length, getD}
 use Rattle.refusals.specs.Outcome.{Outcome, refusal}
 use Rattle.little_endian.specs.LittleEndian.{u32At}
 use Rattle.tai_utc.specs.declared.LentRows.{LentRows}
 use Rattle.tai_utc.specs.Table.{Row}
-use Rattle.tai_utc.specs.Lent.{tableOf}
+use Rattle.tai_utc.specs.Lent.{least, tableOf}
 
 -- the signed number of a pattern of 32 bits in two's complement
 unfoldable pub signed32 : ℕ → ℤ
@@ -36,3 +37,12 @@ ofLength n o = cond (eqb n 136) o (refusal 14)
 -- the length, then the tests of the table
 unfoldable pub tableBytes : List ℕ → Outcome (List Row)
 tableBytes s = ofLength (length s) (tableOf (recordIn s))
+
+-- ---- the table as a size and two arrays, for code that lends these on
+-- how many places of both arrays are read: as many as the first size says, at most 16
+abbrev pub sizeIn : List ℕ → ℕ
+sizeIn s = least (u32At s 0) 16
+
+-- these places of an array hold the numbers from `at` on
+abbrev pub ReadFrom : List ℕ → ℕ → List ℤ → Type 0
+ReadFrom s at l = (i : ℕ) → i < sizeIn s → getD l i (pos 0) ≡ signedAt s (at + 4 * i)

@@ -1,4 +1,6 @@
 // The announced rows that a C caller lends, as bytes: document 02, item 8.
+pub mod arrays;
+
 ghost use mathlib.Core.Path.{_≡_};
 ghost use Prim.Native.Nat.{ℕ, _+_, _*_, _<_, _≤_};
 ghost use mathlib.Core.Bool.{_&&_};
@@ -20,7 +22,7 @@ fn i32_of_pattern(n: u32) -> i32
 }
 
 // The first `size` of 16 numbers from `at` on; the places past them are not read, and 0.
-fn numbers_at(bytes: &[u8], at: usize, size: usize) -> [i32; 16]
+pub(crate) fn numbers_at(bytes: &[u8], at: usize, size: usize) -> [i32; 16]
     requires { ⌜ (at < 100) × (size ≤ 16) ⌝ }
     ensures { λ r. ⌜ ((i : ℕ) → i < size → getD r i (pos 0) ≡ signedAt (now (bytes .entry)) (at + 4 * i)) ⌝ }
 {
@@ -34,14 +36,14 @@ fn numbers_at(bytes: &[u8], at: usize, size: usize) -> [i32; 16]
 }
 
 // How many places are read.
-fn places_of(size: u32) -> usize
+pub(crate) fn places_of(size: u32) -> usize
     ensures { λ r. ⌜ (r ≡ least size 16) × (r ≤ 16) ⌝ }
 {
     if size <= 16 { size as usize } else { 16 }
 }
 
 // Whether two sizes lend no rows. Such a table is neither copied nor tested row by row.
-fn lend_none(first: u32, second: u32) -> bool
+pub(crate) fn lend_none(first: u32, second: u32) -> bool
     ensures { λ r. ⌜ r ≡ eqb first 0 && eqb second 0 ⌝ }
 {
     if first != 0 {

@@ -19,10 +19,10 @@ fn jd2cal(t: Tally) -> Tally {
 }
 
 fn dat(t: Tally, year: i32, month: i32, day: i32, seconds: f64) -> Tally {
-    let mut out = [0u8; 8];
+    let mut out = [0u8; 16];
     let table = [0u8; 136];
     let code = capi::offset_calls::ct_get_tai_utc_offset(year, month, day, 0.0, &table, &mut out);
-    let status = tally::counted(t, code == 8);
+    let status = tally::counted(t, code == 16);
     tally::near(status, tally::float_at(&out, 0), seconds, 0.0)
 }
 

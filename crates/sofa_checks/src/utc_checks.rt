@@ -3,10 +3,18 @@ use crate::tally;
 use crate::tally::Tally;
 
 fn utctai(t: Tally) -> Tally {
-    let mut out = [0u8; 16];
+    let mut out = [0u8; 24];
     let table = [0u8; 136];
     let code = capi::utc_calls::ct_utc_to_tai(2453750.5, 0.892100694, &table, &mut out);
-    tally::near_date(t, code, &out, 2453750.5, 1e-6, 0.8924826384444444444, 1e-12)
+    tally::near_date(
+        t,
+        code - 8,
+        &out,
+        2453750.5,
+        1e-6,
+        0.8924826384444444444,
+        1e-12,
+    )
 }
 
 fn taiutc(t: Tally) -> Tally {
@@ -17,7 +25,7 @@ fn taiutc(t: Tally) -> Tally {
 }
 
 fn utcut1(t: Tally) -> Tally {
-    let mut out = [0u8; 16];
+    let mut out = [0u8; 24];
     let table = [0u8; 136];
     let code = capi::utc_calls::ct_utc_to_ut1_with_dut1(
         2453750.5,
@@ -26,7 +34,15 @@ fn utcut1(t: Tally) -> Tally {
         &table,
         &mut out,
     );
-    tally::near_date(t, code, &out, 2453750.5, 1e-6, 0.8921045608981481481, 1e-12)
+    tally::near_date(
+        t,
+        code - 8,
+        &out,
+        2453750.5,
+        1e-6,
+        0.8921045608981481481,
+        1e-12,
+    )
 }
 
 fn ut1utc(t: Tally) -> Tally {
@@ -65,7 +81,8 @@ fn dtf2d(t: Tally) -> Tally {
 fn d2dtf(t: Tally) -> Tally {
     let mut out = [0u8; 23];
     let table = [0u8; 136];
-    let code = capi::utc_calls::ct_to_iso8601(2400000.5, 49533.99999, &table, &mut out);
+    let mut rule = [0u8; 8];
+    let code = capi::text_calls::ct_to_iso8601(2400000.5, 49533.99999, &table, &mut out, &mut rule);
     let status = tally::counted(t, code == 23);
     tally::counted(status, check::same(&out, b"1994-06-30T23:59:60.136"))
 }

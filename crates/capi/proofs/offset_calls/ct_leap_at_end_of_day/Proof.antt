@@ -1,19 +1,27 @@
 -- `capi::offset_calls::ct_leap_at_end_of_day` meets its contract. Assumes nothing.
-use mathlib.Core.Path.{_∙_}
+use mathlib.Core.Path.{ap, _∙_}
 use Rattle.calendar.proofs.Signs.{read-date}
-use Rattle.tai_utc.specs.Lent.{rowsOf}
+use Rattle.tai_utc.specs.Lent.{rowsIn}
 use Rattle.tai_utc.specs.Leap.{leapAtEndOfDay}
+use Rattle.tai_utc.specs.Rule.{forget}
+use Rattle.tai_utc.proofs.Rules.{leap-forgets}
 use Rattle.c_answers.specs.Fields.{floatBytes}
-use Rattle.capi.proofs.Tables.{table-refused, with-rows}
+use Rattle.capi.proofs.Arrays.{lent-refused, with-lent}
 use borrow.Author.Needs.{needs}
 use Rattle.capi.proofs.offset_calls.ct_leap_at_end_of_day.Statement.{statement}
 use Rattle.capi.proofs.offset_calls.ct_leap_at_end_of_day.Tie as tie
 
-lent-rows-at-requires : tie.Need-lent-rows-at-requires
-lent-rows-at-requires c κs = search needs
+size-in-requires : tie.Need-size-in-requires
+size-in-requires c κs = search needs
 
-table-number-requires : tie.Need-table-number-requires
-table-number-requires c κs = search needs
+months-in-requires : tie.Need-months-in-requires
+months-in-requires c κs = search needs
+
+seconds-in-requires : tie.Need-seconds-in-requires
+seconds-in-requires c κs = search needs
+
+lent-number-requires : tie.Need-lent-number-requires
+lent-number-requires c κs = search needs
 
 refused-requires : tie.Need-refused-requires
 refused-requires c κs = search needs
@@ -21,14 +29,14 @@ refused-requires c κs = search needs
 returns : tie.Need-returns
 returns c =
     let n = c .before .before in
-    table-refused _ (n .before .lent-rows-at .result) (n .table-number .result) (n .table-number .ensures) (n .before .lent-rows-at .ensures) floatBytes _ (c .refused .ok)
+    lent-refused _ (n .before .before .before .before .before .size-in .result) (n .before .before .before .before .months-in .result) (n .before .before .before .seconds-in .result) (n .lent-number .result) (n .before .before .before .before .before .size-in .ensures) (n .before .before .before .before .months-in .ensures) (n .before .before .before .seconds-in .ensures) (n .lent-number .ensures) floatBytes _ (c .refused .ok)
     (c .before .if1 .taken) (c .refused .ensures)
 
-leap-at-end-of-day-by-rows-requires : tie.Need-leap-at-end-of-day-by-rows-requires
-leap-at-end-of-day-by-rows-requires c κs = search needs
+leap-at-end-of-day-by-lent-requires : tie.Need-leap-at-end-of-day-by-lent-requires
+leap-at-end-of-day-by-lent-requires c κs = search needs
 
-put-offset-requires : tie.Need-put-offset-requires
-put-offset-requires c κs = search needs
+put-leap-requires : tie.Need-put-leap-requires
+put-leap-requires c κs = search needs
 
 same-length : tie.Need-same-length
 same-length c = search needs
@@ -37,21 +45,23 @@ returns-2 : tie.Need-returns-2
 returns-2 c =
     let p = c .before .before in
     let b = p .before .before in
-    let n = b .before .before in
-    let s = n .before .before .before .before in
-    with-rows _ (n .before .lent-rows-at .result) (n .table-number .result) (n .table-number .ensures) (n .before .lent-rows-at .ensures) floatBytes _ (p .put-offset .ok) (b .before .if1 .left)
-    (b .leap-at-end-of-day-by-rows .ensures ∙ read-date (leapAtEndOfDay (rowsOf (n .before .lent-rows-at .result))) _ _ _ (s .fits .year) (s .fits .month) (s .fits .day))
-    (p .put-offset .ensures)
+    let n = b .before .before .before .before in
+    let s = n .before .before .before .before .before .before .before .before in
+    with-lent _ (n .before .before .before .before .before .size-in .result) (n .before .before .before .before .months-in .result) (n .before .before .before .seconds-in .result) (n .lent-number .result) (n .before .before .before .before .before .size-in .ensures) (n .before .before .before .before .months-in .ensures) (n .before .before .before .seconds-in .ensures) (n .lent-number .ensures) floatBytes _ (p .put-leap .ok) (b .before .before .before .if1 .left)
+    (ap forget (b .leap-at-end-of-day-by-lent .ensures) ∙ leap-forgets (rowsIn (n .before .before .before .before .before .size-in .result) (n .before .before .before .before .months-in .result) (n .before .before .before .seconds-in .result)) _ _ _ ∙ read-date (leapAtEndOfDay (rowsIn (n .before .before .before .before .before .size-in .result) (n .before .before .before .before .months-in .result) (n .before .before .before .seconds-in .result))) _ _ _ (s .fits .year) (s .fits .month) (s .fits .day))
+    (p .put-leap .ensures)
 
 pub ct-leap-at-end-of-day-spec : {M : Type 1} → statement M
 ct-leap-at-end-of-day-spec =
     tie.close
     (tie.spec
-    lent-rows-at-requires
-    table-number-requires
+    size-in-requires
+    months-in-requires
+    seconds-in-requires
+    lent-number-requires
     refused-requires
     returns
-    leap-at-end-of-day-by-rows-requires
-    put-offset-requires
+    leap-at-end-of-day-by-lent-requires
+    put-leap-requires
     same-length
     returns-2)

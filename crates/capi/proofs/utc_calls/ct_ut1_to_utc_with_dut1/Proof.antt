@@ -1,15 +1,21 @@
 -- `capi::utc_calls::ct_ut1_to_utc_with_dut1` meets its contract. Assumes nothing.
 use Rattle.c_answers.specs.Fields.{julianBytes}
-use Rattle.capi.proofs.Tables.{table-refused, with-rows}
+use Rattle.capi.proofs.Arrays.{lent-refused, with-lent}
 use borrow.Author.Needs.{needs}
 use Rattle.capi.proofs.utc_calls.ct_ut1_to_utc_with_dut1.Statement.{statement}
 use Rattle.capi.proofs.utc_calls.ct_ut1_to_utc_with_dut1.Tie as tie
 
-lent-rows-at-requires : tie.Need-lent-rows-at-requires
-lent-rows-at-requires c κs = search needs
+size-in-requires : tie.Need-size-in-requires
+size-in-requires c κs = search needs
 
-table-number-requires : tie.Need-table-number-requires
-table-number-requires c κs = search needs
+months-in-requires : tie.Need-months-in-requires
+months-in-requires c κs = search needs
+
+seconds-in-requires : tie.Need-seconds-in-requires
+seconds-in-requires c κs = search needs
+
+lent-number-requires : tie.Need-lent-number-requires
+lent-number-requires c κs = search needs
 
 refused-requires : tie.Need-refused-requires
 refused-requires c κs = search needs
@@ -17,11 +23,11 @@ refused-requires c κs = search needs
 returns : tie.Need-returns
 returns c =
     let n = c .before .before in
-    table-refused _ (n .before .lent-rows-at .result) (n .table-number .result) (n .table-number .ensures) (n .before .lent-rows-at .ensures) julianBytes _ (c .refused .ok)
+    lent-refused _ (n .before .before .before .before .before .size-in .result) (n .before .before .before .before .months-in .result) (n .before .before .before .seconds-in .result) (n .lent-number .result) (n .before .before .before .before .before .size-in .ensures) (n .before .before .before .before .months-in .ensures) (n .before .before .before .seconds-in .ensures) (n .lent-number .ensures) julianBytes _ (c .refused .ok)
     (c .before .if1 .taken) (c .refused .ensures)
 
-ut1-to-utc-with-dut1-by-rows-requires : tie.Need-ut1-to-utc-with-dut1-by-rows-requires
-ut1-to-utc-with-dut1-by-rows-requires c κs = search needs
+ut1-to-utc-with-dut1-by-lent-requires : tie.Need-ut1-to-utc-with-dut1-by-lent-requires
+ut1-to-utc-with-dut1-by-lent-requires c κs = search needs
 
 put-utc-requires : tie.Need-put-utc-requires
 put-utc-requires c κs = search needs
@@ -33,20 +39,22 @@ returns-2 : tie.Need-returns-2
 returns-2 c =
     let p = c .before .before in
     let b = p .before .before in
-    let n = b .before .before in
-    with-rows _ (n .before .lent-rows-at .result) (n .table-number .result) (n .table-number .ensures) (n .before .lent-rows-at .ensures) julianBytes _ (p .put-utc .ok) (b .before .if1 .left)
-    (b .ut1-to-utc-with-dut1-by-rows .ensures)
+    let n = b .before .before .before .before in
+    with-lent _ (n .before .before .before .before .before .size-in .result) (n .before .before .before .before .months-in .result) (n .before .before .before .seconds-in .result) (n .lent-number .result) (n .before .before .before .before .before .size-in .ensures) (n .before .before .before .before .months-in .ensures) (n .before .before .before .seconds-in .ensures) (n .lent-number .ensures) julianBytes _ (p .put-utc .ok) (b .before .before .before .if1 .left)
+    (b .ut1-to-utc-with-dut1-by-lent .ensures)
     (p .put-utc .ensures)
 
 pub ct-ut1-to-utc-with-dut1-spec : {M : Type 1} → statement M
 ct-ut1-to-utc-with-dut1-spec =
     tie.close
     (tie.spec
-    lent-rows-at-requires
-    table-number-requires
+    size-in-requires
+    months-in-requires
+    seconds-in-requires
+    lent-number-requires
     refused-requires
     returns
-    ut1-to-utc-with-dut1-by-rows-requires
+    ut1-to-utc-with-dut1-by-lent-requires
     put-utc-requires
     same-length
     returns-2)

@@ -2,19 +2,25 @@
 use mathlib.Core.Path.{ap, _∙_}
 use lib.IntN.{ℤ}
 use mir.Facts.{toZ-ofZ}
-use Rattle.tai_utc.specs.Lent.{rowsOf}
+use Rattle.tai_utc.specs.Lent.{rowsIn}
 use Rattle.utc.specs.UnixTime.{utcNew}
 use Rattle.c_answers.specs.Fields.{julianBytes}
-use Rattle.capi.proofs.Tables.{table-refused, with-rows}
+use Rattle.capi.proofs.Arrays.{lent-refused, with-lent}
 use borrow.Author.Needs.{needs}
 use Rattle.capi.proofs.utc_calls.ct_utc_new.Statement.{statement}
 use Rattle.capi.proofs.utc_calls.ct_utc_new.Tie as tie
 
-lent-rows-at-requires : tie.Need-lent-rows-at-requires
-lent-rows-at-requires c κs = search needs
+size-in-requires : tie.Need-size-in-requires
+size-in-requires c κs = search needs
 
-table-number-requires : tie.Need-table-number-requires
-table-number-requires c κs = search needs
+months-in-requires : tie.Need-months-in-requires
+months-in-requires c κs = search needs
+
+seconds-in-requires : tie.Need-seconds-in-requires
+seconds-in-requires c κs = search needs
+
+lent-number-requires : tie.Need-lent-number-requires
+lent-number-requires c κs = search needs
 
 refused-requires : tie.Need-refused-requires
 refused-requires c κs = search needs
@@ -22,11 +28,11 @@ refused-requires c κs = search needs
 returns : tie.Need-returns
 returns c =
     let n = c .before .before in
-    table-refused _ (n .before .lent-rows-at .result) (n .table-number .result) (n .table-number .ensures) (n .before .lent-rows-at .ensures) julianBytes _ (c .refused .ok)
+    lent-refused _ (n .before .before .before .before .before .size-in .result) (n .before .before .before .before .months-in .result) (n .before .before .before .seconds-in .result) (n .lent-number .result) (n .before .before .before .before .before .size-in .ensures) (n .before .before .before .before .months-in .ensures) (n .before .before .before .seconds-in .ensures) (n .lent-number .ensures) julianBytes _ (c .refused .ok)
     (c .before .if1 .taken) (c .refused .ensures)
 
-new-by-rows-requires : tie.Need-new-by-rows-requires
-new-by-rows-requires c κs = search needs
+new-by-lent-requires : tie.Need-new-by-lent-requires
+new-by-lent-requires c κs = search needs
 
 put-utc-requires : tie.Need-put-utc-requires
 put-utc-requires c κs = search needs
@@ -38,21 +44,23 @@ returns-2 : tie.Need-returns-2
 returns-2 c =
     let p = c .before .before in
     let b = p .before .before in
-    let n = b .before .before in
-    let s = n .before .before .before .before in
-    with-rows _ (n .before .lent-rows-at .result) (n .table-number .result) (n .table-number .ensures) (n .before .lent-rows-at .ensures) julianBytes _ (p .put-utc .ok) (b .before .if1 .left)
-    (b .new-by-rows .ensures ∙ ap (λ (z : ℤ). utcNew (rowsOf (n .before .lent-rows-at .result)) z (s .args .nanos)) (toZ-ofZ (s .fits .seconds)))
+    let n = b .before .before .before .before in
+    let s = n .before .before .before .before .before .before .before .before in
+    with-lent _ (n .before .before .before .before .before .size-in .result) (n .before .before .before .before .months-in .result) (n .before .before .before .seconds-in .result) (n .lent-number .result) (n .before .before .before .before .before .size-in .ensures) (n .before .before .before .before .months-in .ensures) (n .before .before .before .seconds-in .ensures) (n .lent-number .ensures) julianBytes _ (p .put-utc .ok) (b .before .before .before .if1 .left)
+    (b .new-by-lent .ensures ∙ ap (λ (z : ℤ). utcNew (rowsIn (n .before .before .before .before .before .size-in .result) (n .before .before .before .before .months-in .result) (n .before .before .before .seconds-in .result)) z (s .args .nanos)) (toZ-ofZ (s .fits .unix)))
     (p .put-utc .ensures)
 
 pub ct-utc-new-spec : {M : Type 1} → statement M
 ct-utc-new-spec =
     tie.close
     (tie.spec
-    lent-rows-at-requires
-    table-number-requires
+    size-in-requires
+    months-in-requires
+    seconds-in-requires
+    lent-number-requires
     refused-requires
     returns
-    new-by-rows-requires
+    new-by-lent-requires
     put-utc-requires
     same-length
     returns-2)

@@ -1,0 +1,169 @@
+-- The text call with its rule: what is put into the two buffers, and the refusals. Assumes nothing.
+use Prim.Native.Nat.{ℕ, _≤_, _<_, _^_}
+use native.Mathlib.Omega.{arith}
+use mathlib.Core.Path.{_≡_, refl, sym, ap, subst, _∙_}
+use mathlib.Core.Bool.{Bool, true, false, true≢false, cond, _&&_}
+use mathlib.Core.List.{List}
+use lib.ListN.{length}
+use lib.Dec.{leb}
+use lib.IntN.{ℤ, pos}
+use lib.Signed.{mag}
+use mir.Syntax.{w64}
+use mir.Val.{SFits, toZ, ofZ}
+use mir.Facts.{toZ-pos}
+use borrow.Author.Tests.{le-leb, lt-leb, leb-true}
+use Rattle.refusals.specs.Outcome.{Outcome, answer, refusal, onward}
+use Rattle.julian.specs.declared.JulianDate.{JulianDate}
+use Rattle.tai_utc.specs.declared.Rule.{Rule}
+use Rattle.tai_utc.specs.Table.{Row}
+use Rattle.tai_utc.specs.Rule.{withRule, forget}
+use Rattle.tai_utc.proofs.Rules.{ruleIn}
+use Rattle.utc_text.specs.Answer.{textWritten, bufferAfter}
+use Rattle.utc.specs.declared.TextByRule.{TextByRule}
+use Rattle.utc.specs.declared.TextByRule.the-variants.{Written, Refused}
+use Rattle.utc.specs.TextCall.{bufferHolds}
+use Rattle.utc.specs.ByRule.{isoTextByRule, textByRuleOutcome, writtenByRule, TextRuleCall}
+use Rattle.utc.proofs.TextRules.{iso-forgets}
+use Rattle.utc.proofs.Lengths.{text-length}
+use Rattle.c_answers.specs.Delivery.{code, Delivered}
+use Rattle.c_answers.specs.RuleFields.{ruleBytes}
+use Rattle.c_answers.specs.TwoBuffers.{bothFit, DeliveredTwo}
+use Rattle.c_answers.proofs.Deliveries.{code-back}
+use Rattle.capi.specs.TextRule.{ruled, noRoom}
+
+-- ---- the rule has no room
+nothing-told : (o : Outcome (List ℕ × Rule)) (m k : ℕ) → writtenByRule o m ≡ refusal k → refusal k ≡ noRoom o
+unfolding writtenByRule noRoom withRule textWritten onward
+nothing-told (refusal j) m k e = let z : j ≡ k = cc in ap refusal (sym z)
+nothing-told (answer t) m k e = go (leb (length (t .0)) m) e
+  where
+    go : (b : Bool) → withRule (cond b (answer (length (t .0))) (refusal 11)) (t .1) ≡ refusal k → _≡_ {A = Outcome ℕ} (refusal k) (refusal 11)
+    go true p = absurd (let z : _≡_ {A = ℕ} 0 1 = cc in let no : ⊥ = omega arith in no)
+    go false p = let z : _≡_ {A = ℕ} 11 k = cc in ap refusal (sym z)
+
+eleven-told : (o : Outcome (List ℕ × Rule)) (m n : ℕ) (rule : Rule) → writtenByRule o m ≡ answer (n, rule) → refusal 11 ≡ noRoom o
+unfolding writtenByRule noRoom onward
+eleven-told (refusal j) m n rule e = absurd (let z : _≡_ {A = ℕ} 0 1 = cc in let no : ⊥ = omega arith in no)
+eleven-told (answer t) m n rule e = refl
+
+module _ (o : Outcome (List ℕ × Rule)) {l out : List ℕ} {res : TextByRule} (p : TextRuleCall o l res out) where
+  pub no-room-refused : {k : ℕ} {r : ℤ} → mag r < 2 ^ 63 → res ≡ Refused k → r ≡ code (refusal k) → toZ w64 (ofZ w64 r) ≡ code (noRoom o)
+  unfolding textByRuleOutcome
+  no-room-refused {k} ok is c = code-back ok ∙ c ∙ ap code (nothing-told o (length l) k (sym (p .says) ∙ ap textByRuleOutcome is))
+
+  pub no-room-written : {n : ℕ} {rule : Rule} {r : ℤ} → mag r < 2 ^ 63 → res ≡ Written n rule → r ≡ code (refusal 11) → toZ w64 (ofZ w64 r) ≡ code (noRoom o)
+  unfolding textByRuleOutcome
+  no-room-written {n} {rule} ok is c = code-back ok ∙ c ∙ ap code (eleven-told o (length l) n rule (sym (p .says) ∙ ap textByRuleOutcome is))
+
+-- ---- two buffers: the rule has no room, and both stay as they were
+abbrev eleven-for : List ℕ × Rule → Outcome (List ℕ × List ℕ)
+eleven-for t = refusal 11
+
+eleven : (o : Outcome (List ℕ × Rule)) (m n : ℕ) → n < 8 → bothFit (ruled o) m n ≡ onward o eleven-for
+unfolding bothFit ruled onward
+eleven (refusal k) m n h = refl
+eleven (answer t) m n h = go (leb (length (t .0)) m)
+  where
+    go : (x : Bool) → cond {A = Outcome (List ℕ × List ℕ)} (x && leb 8 n) (answer (t .0, ruleBytes (t .1))) (refusal 11) ≡ refusal 11
+    go true = rw (lt-leb 8 n h)
+    go false = refl
+
+pub short-rule : (o : Outcome (List ℕ × Rule)) (b b′ : List ℕ) {r : ℤ} → mag r < 2 ^ 63 → length b′ < 8 → r ≡ code (noRoom o) → DeliveredTwo (ruled o) b b′ (toZ w64 (ofZ w64 r)) b b′
+unfolding noRoom onward bufferHolds
+short-rule o b b′ ok h c =
+    let e = eleven o (length b) (length b′) h in
+    record {
+      returned = code-back ok ∙ c ∙ ap code (sym (ap (λ (x : Outcome (List ℕ × List ℕ)). onward x (λ p. answer (length (p .0)))) e ∙ none o));
+      holds = sym (ap (λ (x : Outcome (List ℕ × List ℕ)). bufferHolds (onward x (λ p. answer (p .0))) b) e ∙ stays o);
+      holds-second = sym (ap (λ (x : Outcome (List ℕ × List ℕ)). bufferHolds (onward x (λ p. answer (p .1))) b′) e ∙ stays-second o);
+    }
+  where
+    none : (o : Outcome (List ℕ × Rule)) → onward (onward o eleven-for) (λ p. answer (length (p .0))) ≡ onward o (λ t. refusal 11)
+    none (answer t) = refl
+    none (refusal k) = refl
+
+    stays : (o : Outcome (List ℕ × Rule)) → bufferHolds (onward (onward o eleven-for) (λ p. answer (p .0))) b ≡ b
+    stays (answer t) = refl
+    stays (refusal k) = refl
+
+    stays-second : (o : Outcome (List ℕ × Rule)) → bufferHolds (onward (onward o eleven-for) (λ p. answer (p .1))) b′ ≡ b′
+    stays-second (answer t) = refl
+    stays-second (refusal k) = refl
+
+-- ---- the rule has room: the text fits
+record Fitted (o : Outcome (List ℕ × Rule)) (m n : ℕ) (rule : Rule) : Type 0 where
+  text : List ℕ
+  same : o ≡ answer (text, rule)
+  count : length text ≡ n
+  within : length text ≤ m
+
+fitted : (o : Outcome (List ℕ × Rule)) (m n : ℕ) (rule : Rule) → writtenByRule o m ≡ answer (n, rule) → Fitted o m n rule
+unfolding writtenByRule withRule textWritten forget onward
+fitted (refusal j) m n rule e = absurd (let z : _≡_ {A = ℕ} 0 1 = cc in let no : ⊥ = omega arith in no)
+fitted (answer t) m n rule e = go (leb (length (t .0)) m) refl e
+  where
+    go : (x : Bool) → leb (length (t .0)) m ≡ x → withRule (cond x (answer (length (t .0))) (refusal 11)) (t .1) ≡ answer (n, rule) → Fitted (answer t) m n rule
+    go true p q =
+        let r : t .1 ≡ rule = ap (ruleIn rule) q in
+        let f : _≡_ {A = Outcome ℕ} (answer (length (t .0))) (answer n) = ap forget q in
+        let c : length (t .0) ≡ n = cc in
+        record { text = t .0; same = λ i. answer (t .0, r i); count = c; within = leb-true (length (t .0)) m p }
+    go false p q = absurd (let z : _≡_ {A = ℕ} 0 1 = cc in let no : ⊥ = omega arith in no)
+
+both : (t : List ℕ) (rule : Rule) (m n : ℕ) → length t ≤ m → 8 ≤ n → bothFit (ruled (answer (t, rule))) m n ≡ answer (t, ruleBytes rule)
+unfolding bothFit ruled onward
+both t rule m n h g = simp (le-leb (length t) m h) (go (leb 8 n) (le-leb 8 n g))
+  where
+    go : (x : Bool) → x ≡ true → cond {A = Outcome (List ℕ × List ℕ)} (true && x) (answer (t, ruleBytes rule)) (refusal 11) ≡ answer (t, ruleBytes rule)
+    go true e = refl
+    go false e = absurd (true≢false (sym e))
+
+-- ---- or it is refused, by itself or by 11
+not-fitted : (o : Outcome (List ℕ × Rule)) (l : List ℕ) (n k : ℕ) → writtenByRule o (length l) ≡ refusal k → (bothFit (ruled o) (length l) n ≡ refusal k) × (bufferHolds (forget o) l ≡ l)
+unfolding writtenByRule withRule textWritten forget onward bothFit ruled bufferHolds bufferAfter
+not-fitted (refusal j) l n k e = let z : j ≡ k = cc in (ap refusal z, refl)
+not-fitted (answer t) l n k e = go (leb (length (t .0)) (length l)) refl e
+  where
+    go : (x : Bool) → leb (length (t .0)) (length l) ≡ x → withRule (cond x (answer (length (t .0))) (refusal 11)) (t .1) ≡ refusal k
+        → (cond {A = Outcome (List ℕ × List ℕ)} (leb (length (t .0)) (length l) && leb 8 n) (answer (t .0, ruleBytes (t .1))) (refusal 11) ≡ refusal k) × (bufferAfter (t .0) l ≡ l)
+    go true p q = absurd (let z : _≡_ {A = ℕ} 0 1 = cc in let no : ⊥ = omega arith in no)
+    go false p q = let z : _≡_ {A = ℕ} 11 k = cc in (rw p (ap refusal z), rw p)
+
+module _ (o : Outcome (List ℕ × Rule)) (few : (t : List ℕ) → forget o ≡ answer t → length t ≤ 64) {l out : List ℕ} {res : TextByRule} (p : TextRuleCall o l res out) where
+  module _ {n : ℕ} {rule : Rule} (is : res ≡ Written n rule) where
+    fit : Fitted o (length l) n rule
+    unfolding textByRuleOutcome
+    fit = fitted o (length l) n rule (sym (p .says) ∙ ap textByRuleOutcome is)
+
+    small : n ≤ 64
+    unfolding forget onward
+    small = omega (arith, few (fit .text) (ap forget (fit .same)), fit .count)
+
+    pub count-fits : SFits w64 (pos n)
+    count-fits = record { sfits = omega (arith, small) }
+
+    pub two-written : {b′ out′ : List ℕ} {r : ℤ} → 8 ≤ length b′ → Delivered (answer (ruleBytes rule)) b′ r out′ → DeliveredTwo (ruled o) l b′ (toZ w64 n) out out′
+    unfolding onward code bufferHolds forget
+    two-written {b′} {out′} room d =
+        let f = fit in
+        let e : bothFit (ruled o) (length l) (length b′) ≡ answer (f .text, ruleBytes rule)
+        = ap (λ (x : Outcome (List ℕ × Rule)). bothFit (ruled x) (length l) (length b′)) (f .same) ∙ both (f .text) rule (length l) (length b′) (f .within) room in
+        record {
+          returned = toZ-pos w64 {n = n} (omega (arith, small)) ∙ ap pos (sym (f .count)) ∙ sym (ap (λ (x : Outcome (List ℕ × List ℕ)). code (onward x (λ q. answer (length (q .0))))) e);
+          holds = p .holds ∙ ap (λ (x : Outcome (List ℕ × Rule)). bufferHolds (forget x) l) (f .same) ∙ sym (ap (λ (x : Outcome (List ℕ × List ℕ)). bufferHolds (onward x (λ q. answer (q .0))) l) e);
+          holds-second = d .holds ∙ sym (ap (λ (x : Outcome (List ℕ × List ℕ)). bufferHolds (onward x (λ q. answer (q .1))) b′) e);
+        }
+
+  pub two-refused : {k : ℕ} {r : ℤ} (b′ : List ℕ) → mag r < 2 ^ 63 → res ≡ Refused k → r ≡ code (refusal k) → DeliveredTwo (ruled o) l b′ (toZ w64 (ofZ w64 r)) out b′
+  unfolding textByRuleOutcome onward bufferHolds
+  two-refused {k} b′ ok is c =
+      let (e, f) = not-fitted o l (length b′) k (sym (p .says) ∙ ap textByRuleOutcome is) in
+      record {
+        returned = code-back ok ∙ c ∙ sym (ap (λ (x : Outcome (List ℕ × List ℕ)). code (onward x (λ q. answer (length (q .0))))) e);
+        holds = p .holds ∙ f ∙ sym (ap (λ (x : Outcome (List ℕ × List ℕ)). bufferHolds (onward x (λ q. answer (q .0))) l) e);
+        holds-second = sym (ap (λ (x : Outcome (List ℕ × List ℕ)). bufferHolds (onward x (λ q. answer (q .1))) b′) e);
+      }
+
+-- a text has at most 26 bytes
+pub iso-few : (rows : List Row) (jd : JulianDate) (t : List ℕ) → forget (isoTextByRule rows jd) ≡ answer t → length t ≤ 64
+iso-few rows jd t e = omega (arith, text-length rows jd t (sym (iso-forgets rows jd) ∙ e) .1)

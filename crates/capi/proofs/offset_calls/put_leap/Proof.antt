@@ -1,0 +1,48 @@
+-- `capi::offset_calls::put_leap` meets its contract. Assumes nothing.
+use mathlib.Core.Path.{ap}
+use Rattle.refusals.specs.Outcome.{onward}
+use Rattle.tai_utc.specs.declared.SecondsByRule.{SecondsByRule}
+use Rattle.tai_utc.specs.Rule.{forget}
+use Rattle.tai_utc.specs.Answers.{secondsByRuleOutcome}
+use Rattle.c_answers.specs.Fields.{floatBytes}
+use Rattle.c_answers.proofs.Deliveries.{delivered-answer, refused-on}
+use borrow.Author.Needs.{needs}
+use Rattle.capi.proofs.offset_calls.put_leap.Statement.{statement}
+use Rattle.capi.proofs.offset_calls.put_leap.Tie as tie
+
+enum-known-found : tie.Need-enum-known-found
+enum-known-found c = search needs
+
+put-float-requires : tie.Need-put-float-requires
+put-float-requires c κs = search needs
+
+enum-known-found-2 : tie.Need-enum-known-found-2
+enum-known-found-2 c = search needs
+
+refused-requires : tie.Need-refused-requires
+refused-requires c κs = search needs
+
+same-length : tie.Need-same-length
+same-length c = search needs
+
+returns : tie.Need-returns
+unfolding secondsByRuleOutcome forget onward
+returns c =
+    let p = c .before .before in
+    delivered-answer floatBytes (p .put-float .ok) _ (ap (λ (x : SecondsByRule). forget (secondsByRuleOutcome x)) (p .before .before .before .found .given .1)) (p .put-float .ensures)
+
+returns-2 : tie.Need-returns-2
+unfolding secondsByRuleOutcome forget onward
+returns-2 c = refused-on floatBytes (c .refused .ok) _ (ap (λ (x : SecondsByRule). forget (secondsByRuleOutcome x)) (c .before .before .found2 .given .1)) (c .refused .ensures)
+
+pub put-leap-spec : {M : Type 1} → statement M
+put-leap-spec =
+    tie.close
+    (tie.spec
+    enum-known-found
+    put-float-requires
+    enum-known-found-2
+    refused-requires
+    same-length
+    returns
+    returns-2)
