@@ -1,12 +1,12 @@
 // The refusals by number: 1 to 14 are document 01's, 15 to 28 document 02's. A refusal carries its number and nothing else.
 
-// The year is before -4799, that of a standby before 1972.
+// The year is before -4799.
 pub const YEAR_BEFORE_FIRST: u32 = 1;
 // The month is not 1 to 12.
 pub const MONTH_NOT_IN_YEAR: u32 = 2;
 // The day is not in the month.
 pub const DAY_NOT_IN_MONTH: u32 = 3;
-// The hour is above 23, the minute above 59, the second is not one of its minute, or a standby has more than 999 milliseconds.
+// The hour is above 23, the minute above 59, or the second is not one of its minute.
 pub const TIME_NOT_IN_DAY: u32 = 4;
 // No next day: the date is the last that the year's 32 bits can say.
 pub const NO_NEXT_DAY: u32 = 5;
