@@ -240,7 +240,7 @@ int64_t ct_gps_full_week(uint32_t ten_bits, uint32_t reference);
    then 4, on a day that ends in a step back; 11. (INT64_MAX, 1000000000) is 8, and (INT64_MIN, 0)
    is 6, though its year is before -4799 too. The last second that Unix time counts in a day of
    86,399 s is 4. */
-int64_t ct_utc_new(int64_t seconds, uint32_t nanos, const uint8_t *table, size_t table_len,
+int64_t ct_utc_new(int64_t unix_seconds, uint32_t nanos, const uint8_t *table, size_t table_len,
                    uint8_t *out, size_t out_len);
 
 /* The UTC date of a day and time: jd1, jd2; 16 bytes. Refuses the table; 1, 2, 3; then 5; then 4, where

@@ -35,8 +35,8 @@ fn put_utc(found: UtcAnswer, out: &mut [u8]) -> i64
 }
 
 #[no_mangle]
-pub extern "C" fn ct_utc_new(unix: i64, nanos: u32, table: &[u8], out: &mut [u8]) -> i64
-    ensures { λ r. ⌜ Delivered (inBytes julianBytes (onward (tableBytes (now (table .entry))) (λ rows. utcNew rows unix nanos))) (now (out .entry)) r (now (out .exit)) ⌝ }
+pub extern "C" fn ct_utc_new(unix_seconds: i64, nanos: u32, table: &[u8], out: &mut [u8]) -> i64
+    ensures { λ r. ⌜ Delivered (inBytes julianBytes (onward (tableBytes (now (table .entry))) (λ rows. utcNew rows «unix_seconds» nanos))) (now (out .entry)) r (now (out .exit)) ⌝ }
 {
     let size = arrays::size_in(table);
     let months = arrays::months_in(table);
@@ -45,7 +45,10 @@ pub extern "C" fn ct_utc_new(unix: i64, nanos: u32, table: &[u8], out: &mut [u8]
     if number != 0 {
         return refused(number);
     }
-    put_utc(utc::new_by_lent(unix, nanos, size, &months, &seconds), out)
+    put_utc(
+        utc::new_by_lent(unix_seconds, nanos, size, &months, &seconds),
+        out,
+    )
 }
 
 #[no_mangle]

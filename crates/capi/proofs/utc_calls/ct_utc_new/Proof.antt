@@ -47,7 +47,7 @@ returns-2 c =
     let n = b .before .before .before .before in
     let s = n .before .before .before .before .before .before .before .before in
     with-lent _ (n .before .before .before .before .before .size-in .result) (n .before .before .before .before .months-in .result) (n .before .before .before .seconds-in .result) (n .lent-number .result) (n .before .before .before .before .before .size-in .ensures) (n .before .before .before .before .months-in .ensures) (n .before .before .before .seconds-in .ensures) (n .lent-number .ensures) julianBytes _ (p .put-utc .ok) (b .before .before .before .if1 .left)
-    (b .new-by-lent .ensures ∙ ap (λ (z : ℤ). utcNew (rowsIn (n .before .before .before .before .before .size-in .result) (n .before .before .before .before .months-in .result) (n .before .before .before .seconds-in .result)) z (s .args .nanos)) (toZ-ofZ (s .fits .unix)))
+    (b .new-by-lent .ensures ∙ ap (λ (z : ℤ). utcNew (rowsIn (n .before .before .before .before .before .size-in .result) (n .before .before .before .before .months-in .result) (n .before .before .before .seconds-in .result)) z (s .args .nanos)) (toZ-ofZ (s .fits .unix-seconds)))
     (p .put-utc .ensures)
 
 pub ct-utc-new-spec : {M : Type 1} → statement M
