@@ -45,7 +45,10 @@ pub extern "C" fn ct_utc_new(seconds: i64, nanos: u32, table: &[u8], out: &mut [
     if number != 0 {
         return refused(number);
     }
-    put_utc(utc::new_by_lent(seconds, nanos, size, &months, &lent_seconds), out)
+    put_utc(
+        utc::new_by_lent(seconds, nanos, size, &months, &lent_seconds),
+        out,
+    )
 }
 
 #[no_mangle]

@@ -1,3 +1,4 @@
--- What a C caller may conclude: from the return of a call, and from the calls by which it lists a block.
+-- What a C caller may conclude: from the return of a call, from a text call that is lent room for the rule, and from the calls by which it lists a block.
 pub mod Returns
+pub mod TextCalls
 pub mod ListingCalls

@@ -1,0 +1,43 @@
+-- The text call from C with a rule's 8 bytes of room delivers document 01's text into its first buffer, as if it had no second one: so what is proved of that text holds
+-- of it. Assumes nothing.
+use Prim.Native.Nat.{ℕ, _≤_}
+use mathlib.Core.Path.{_≡_, refl, sym, ap, _∙_, subst}
+use mathlib.Core.Bool.{Bool, true, false, cond, _&&_}
+use mathlib.Core.List.{List, _++_}
+use lib.Dec.{leb}
+use lib.ListN.{length, drop}
+use lib.IntN.{ℤ}
+use borrow.Author.Tests.{le-leb}
+use Rattle.refusals.specs.Outcome.{Outcome, answer, refusal, onward}
+use Rattle.julian.specs.declared.JulianDate.{JulianDate}
+use Rattle.tai_utc.specs.declared.Rule.{Rule}
+use Rattle.tai_utc.specs.Table.{Row}
+use Rattle.tai_utc.specs.Rule.{forget}
+use Rattle.utc_text.specs.Answer.{textWritten, bufferAfter}
+use Rattle.utc.specs.TextCall.{written, bufferHolds}
+use Rattle.utc.specs.IsoText.{isoText}
+use Rattle.utc.specs.ByRule.{isoTextByRule}
+use Rattle.utc.proofs.TextRules.{iso-forgets}
+use Rattle.c_answers.specs.Delivery.{code, Delivered}
+use Rattle.c_answers.specs.TwoBuffers.{bothFit, DeliveredTwo}
+use Rattle.capi.specs.TextRule.{ruled}
+
+module _ (before second : List ℕ) (r : ℤ) (after after-second : List ℕ) (room : 8 ≤ length second) where
+  fits-both : (t u : List ℕ) (b : Bool) → leb (length t) (length before) ≡ b → leb (length u) (length second) ≡ true
+      → r ≡ code (onward (cond (b && leb (length u) (length second)) (answer (t, u)) (refusal 11)) (λ p. answer (length (p .0))))
+      → after ≡ bufferHolds (onward (cond (b && leb (length u) (length second)) (answer (t, u)) (refusal 11)) (λ p. answer (p .0))) before → Delivered (answer t) before r after
+  unfolding written onward bufferHolds textWritten bufferAfter
+  fits-both t u true e f p q = record { returned = p ∙ rw (e, f); holds = q ∙ rw (e, f) }
+  fits-both t u false e f p q = record { returned = p ∙ rw e; holds = q ∙ rw e }
+
+  pub text-delivered : (o : Outcome (List ℕ × Rule)) → DeliveredTwo (ruled o) before second r after after-second → Delivered (forget o) before r after
+  unfolding ruled forget onward bothFit written bufferHolds
+  text-delivered (answer t) d = fits-both (t .0) _ (leb (length (t .0)) (length before)) refl (le-leb 8 (length second) room) (d .returned) (d .holds)
+  text-delivered (refusal k) d = record { returned = d .returned; holds = d .holds }
+
+  -- by the rows of a table, or with what it is turned away by
+  pub iso-delivered : (table : Outcome (List Row)) (jd : JulianDate) → DeliveredTwo (ruled (onward table (λ rows. isoTextByRule rows jd))) before second r after after-second
+      → Delivered (onward table (λ rows. isoText rows jd)) before r after
+  unfolding onward
+  iso-delivered (answer rows) jd d = subst (λ (o : Outcome (List ℕ)). Delivered o before r after) (iso-forgets rows jd) (text-delivered (isoTextByRule rows jd) d)
+  iso-delivered (refusal k) jd d = text-delivered (refusal k) d
