@@ -19,25 +19,29 @@ use Rattle.utc.specs.IsoText.{isoText}
 use Rattle.utc.specs.ByRule.{isoTextByRule}
 use Rattle.utc.proofs.TextRules.{iso-forgets}
 use Rattle.c_answers.specs.Delivery.{code, Delivered}
+use Rattle.c_answers.specs.RuleFields.{ruleBytes}
 use Rattle.c_answers.specs.TwoBuffers.{bothFit, DeliveredTwo}
 use Rattle.capi.specs.TextRule.{ruled}
 
+abbrev both : List ℕ → List ℕ → List ℕ × List ℕ
+both t u = (t, u)
+
 module _ (before second : List ℕ) (r : ℤ) (after after-second : List ℕ) (room : 8 ≤ length second) where
   fits-both : (t u : List ℕ) (b : Bool) → leb (length t) (length before) ≡ b → leb (length u) (length second) ≡ true
-      → r ≡ code (onward (cond (b && leb (length u) (length second)) (answer (t, u)) (refusal 11)) (λ p. answer (length (p .0))))
-      → after ≡ bufferHolds (onward (cond (b && leb (length u) (length second)) (answer (t, u)) (refusal 11)) (λ p. answer (p .0))) before → Delivered (answer t) before r after
+      → r ≡ code (onward (cond (b && leb (length u) (length second)) (answer (both t u)) (refusal 11)) (λ p. answer (length (p .0))))
+      → after ≡ bufferHolds (onward (cond (b && leb (length u) (length second)) (answer (both t u)) (refusal 11)) (λ p. answer (p .0))) before → Delivered (answer t) before r after
   unfolding written onward bufferHolds textWritten bufferAfter
-  fits-both t u true e f p q = record { returned = p ∙ rw (e, f); holds = q ∙ rw (e, f) }
+  fits-both t u true e f p q = record { returned = p ∙ rw (e, f); holds = q ∙ rw f }
   fits-both t u false e f p q = record { returned = p ∙ rw e; holds = q ∙ rw e }
 
   pub text-delivered : (o : Outcome (List ℕ × Rule)) → DeliveredTwo (ruled o) before second r after after-second → Delivered (forget o) before r after
   unfolding ruled forget onward bothFit written bufferHolds
-  text-delivered (answer t) d = fits-both (t .0) _ (leb (length (t .0)) (length before)) refl (le-leb 8 (length second) room) (d .returned) (d .holds)
+  text-delivered (answer t) d = fits-both (t .0) (ruleBytes (t .1)) (leb (length (t .0)) (length before)) refl (le-leb 8 (length second) room) (d .returned) (d .holds)
   text-delivered (refusal k) d = record { returned = d .returned; holds = d .holds }
 
   -- by the rows of a table, or with what it is turned away by
   pub iso-delivered : (table : Outcome (List Row)) (jd : JulianDate) → DeliveredTwo (ruled (onward table (λ rows. isoTextByRule rows jd))) before second r after after-second
       → Delivered (onward table (λ rows. isoText rows jd)) before r after
-  unfolding onward
+  unfolding onward forget
   iso-delivered (answer rows) jd d = subst (λ (o : Outcome (List ℕ)). Delivered o before r after) (iso-forgets rows jd) (text-delivered (isoTextByRule rows jd) d)
   iso-delivered (refusal k) jd d = text-delivered (refusal k) d

@@ -5,7 +5,7 @@ use crate::tally::Tally;
 fn cal2jd(t: Tally) -> Tally {
     let mut out = [0u8; 16];
     let code = capi::date_calls::ct_calendar_to_julian(2003, 6, 1, &mut out);
-    tally::near_date(t, code, &out, 2400000.5, 0.0, 52791.0, 0.0)
+    tally::near_date(t, code == 16, &out, 2400000.5, 0.0, 52791.0, 0.0)
 }
 
 fn jd2cal(t: Tally) -> Tally {
@@ -34,7 +34,7 @@ fn epj(t: Tally) -> Tally {
 fn epj2jd(t: Tally) -> Tally {
     let mut out = [0u8; 16];
     let code = capi::date_calls::ct_from_julian_year(1996.8, &mut out);
-    tally::near_date(t, code, &out, 2400000.5, 1e-9, 50375.7, 1e-9)
+    tally::near_date(t, code == 16, &out, 2400000.5, 1e-9, 50375.7, 1e-9)
 }
 
 pub(crate) fn checked(t: Tally) -> Tally {

@@ -37,14 +37,14 @@ pub(crate) fn float_at(out: &[u8], at: usize) -> f64 {
 // A date of two parts: status 0, and both parts near.
 pub(crate) fn near_date(
     t: Tally,
-    code: i64,
+    answered: bool,
     out: &[u8],
     first: f64,
     first_tolerance: f64,
     second: f64,
     second_tolerance: f64,
 ) -> Tally {
-    let status = counted(t, code == 16);
+    let status = counted(t, answered);
     let one = near(status, float_at(out, 0), first, first_tolerance);
     near(one, float_at(out, 8), second, second_tolerance)
 }
