@@ -6,6 +6,7 @@ ghost use Rattle.little_endian.specs.LittleEndian.{eightBytes, patternOf};
 ghost use Rattle.c_answers.specs.Delivery.{Delivered};
 ghost use Rattle.c_answers.specs.Fields.{fourBytes, dateBytes, floatBytes, julianBytes, calendarBytes};
 use super::put;
+use super::refused;
 use calendar::CalendarDate;
 use julian::CalendarFields;
 use julian::JulianDate;
@@ -71,7 +72,7 @@ pub fn put_float(x: f64, out: &mut [u8]) -> i64
     put(&all, out)
 }
 
-fn two_patterns(a: u64, b: u64) -> [u8; 16]
+pub(crate) fn two_patterns(a: u64, b: u64) -> [u8; 16]
     ensures { λ r. ⌜ r ≡ eightBytes a ++ eightBytes b ⌝ }
 {
     [
@@ -101,42 +102,13 @@ pub fn put_julian(date: JulianDate, out: &mut [u8]) -> i64
     put(&all, out)
 }
 
-fn three_numbers_and_pattern(a: u64, b: u32, c: u32, d: u64) -> [u8; 20]
-    ensures { λ r. ⌜ r ≡ (fourBytes a ++ (fourBytes b ++ fourBytes c)) ++ eightBytes d ⌝ }
-{
-    [
-        (a % 256) as u8,
-        (a / 0x100 % 256) as u8,
-        (a / 0x1_0000 % 256) as u8,
-        (a / 0x100_0000 % 256) as u8,
-        (b % 256) as u8,
-        (b / 0x100 % 256) as u8,
-        (b / 0x1_0000 % 256) as u8,
-        (b / 0x100_0000 % 256) as u8,
-        (c % 256) as u8,
-        (c / 0x100 % 256) as u8,
-        (c / 0x1_0000 % 256) as u8,
-        (c / 0x100_0000 % 256) as u8,
-        (d % 256) as u8,
-        (d / 0x100 % 256) as u8,
-        (d / 0x1_0000 % 256) as u8,
-        (d / 0x100_0000 % 256) as u8,
-        (d / 0x1_0000_0000 % 256) as u8,
-        (d / 0x100_0000_0000 % 256) as u8,
-        (d / 0x1_0000_0000_0000 % 256) as u8,
-        (d / 0x100_0000_0000_0000 % 256) as u8,
-    ]
-}
-
 pub fn put_calendar(shown: CalendarFields, out: &mut [u8]) -> i64
     ensures { λ r. ⌜ Delivered (answer (calendarBytes shown)) (now (out .entry)) r (now (out .exit)) ⌝ }
 {
-    let date = shown.date;
-    let all = three_numbers_and_pattern(
-        year_pattern(date.year),
-        date.month,
-        date.day,
-        floats::to_bits(shown.fraction),
-    );
-    put(&all, out)
+    if out.len() < 20 {
+        return refused(refusals::TEXT_LONGER_THAN_BUFFER);
+    }
+    put_date(shown.date, out);
+    put_float(shown.fraction, &mut out[12..]);
+    20
 }

@@ -1,54 +1,54 @@
 -- `c_answers::fields::put_calendar` meets its contract. Assumes nothing.
-use mathlib.Core.Path.{ap, _∙_}
-use mathlib.Core.List.{_++_}
-use mir.Facts.{toZ-ofZ}
-use Rattle.little_endian.specs.LittleEndian.{eightBytes, patternOf}
-use Rattle.c_answers.specs.Fields.{fourBytes, dateBytes, calendarBytes}
-use Rattle.c_answers.proofs.Deliveries.{same-bytes}
+use mathlib.Core.Path.{refl, _∙_}
+use denote.Ref.{now}
+use Rattle.c_answers.specs.Fields.{dateBytes, floatBytes, calendarBytes}
+use Rattle.c_answers.proofs.Deliveries.{too-short, code-back}
+use Rattle.c_answers.proofs.Pieces.{in-two}
 use borrow.Author.Needs.{needs}
 use Rattle.c_answers.proofs.fields.put_calendar.Statement.{statement}
 use Rattle.c_answers.proofs.fields.put_calendar.Tie as tie
 
-year-pattern-requires : tie.Need-year-pattern-requires
-year-pattern-requires c κs = search needs
+refused-requires : tie.Need-refused-requires
+refused-requires c κs = search needs
 
-to-bits-requires : tie.Need-to-bits-requires
-to-bits-requires c κs = search needs
+returns : tie.Need-returns
+unfolding calendarBytes dateBytes
+returns c = too-short (calendarBytes (c .before .before .before .args .shown)) (now (c .before .before .before .args .out)) _ (c .before .if1 .taken) (code-back (c .refused .ok) ∙ c .refused .ensures)
 
-three-numbers-and-pattern-requires : tie.Need-three-numbers-and-pattern-requires
-three-numbers-and-pattern-requires c κs = search needs
+put-date-requires : tie.Need-put-date-requires
+put-date-requires c κs = search needs
 
-slice-aggregate-put : tie.Need-slice-aggregate-put
-slice-aggregate-put c = search needs
+sub-put-float : tie.Need-sub-put-float
+sub-put-float c = search needs
 
-put-requires : tie.Need-put-requires
-put-requires c κs = search needs
+part-put-float-start : tie.Need-part-put-float-start
+part-put-float-start c = search needs
+
+part-put-float-end : tie.Need-part-put-float-end
+part-put-float-end c = search needs
+
+put-float-requires : tie.Need-put-float-requires
+put-float-requires c κs = search needs
 
 same-length : tie.Need-same-length
 same-length c = search needs
 
-returns : tie.Need-returns
+returns-2 : tie.Need-returns-2
 unfolding calendarBytes dateBytes
-returns c =
-    let p = c .before .before in
-    let t = p .before .before .before in
-    let b = t .before in
-    let y = b .before in
-    let a = y .before .before .before .before .args in
-    let e = y .year-pattern .ensures ∙ ap patternOf (toZ-ofZ {z = a .shown .date .year} (record { sfits = y .before .struct-told .given .0 .1 })) in
-    same-bytes (p .put .ok)
-    (t .three-numbers-and-pattern .ensures
-    ∙ λ i. (fourBytes (e i) ++ (fourBytes (a .shown .date .month) ++ fourBytes (a .shown .date .day))) ++ eightBytes (b .to-bits .ensures i))
-    (p .put .ensures)
+returns-2 c =
+    let a = c .before .before .before .before .before .before .before .before .before .before .args in
+    in-two (dateBytes (a .shown .date)) (floatBytes (a .shown .fraction)) (now (a .out)) _ _ 12 20 refl refl (c .before .before .before .before .before .before .before .before .if1 .left) (c .before .before .before .before .before .before .put-date .ensures) (c .before .before .put-float .ensures)
 
 pub put-calendar-spec : {M : Type 1} → statement M
 put-calendar-spec =
     tie.close
     (tie.spec
-    year-pattern-requires
-    to-bits-requires
-    three-numbers-and-pattern-requires
-    slice-aggregate-put
-    put-requires
+    refused-requires
+    returns
+    put-date-requires
+    sub-put-float
+    part-put-float-start
+    part-put-float-end
+    put-float-requires
     same-length
-    returns)
+    returns-2)

@@ -1,70 +1,93 @@
 -- `c_answers::reader_fields::put_parsed` meets its contract. Assumes nothing.
-use mathlib.Core.Path.{ap, _∙_}
+use mathlib.Core.Path.{refl, _∙_}
 use mathlib.Core.List.{_++_}
 use mir.Facts.{toZ-ofZ}
-use Rattle.little_endian.specs.LittleEndian.{eightBytes, patternOf}
-use Rattle.c_answers.specs.Fields.{fourBytes}
+use denote.Ref.{now}
+use Rattle.little_endian.specs.LittleEndian.{patternOf}
+use Rattle.c_answers.specs.Fields.{fourBytes, floatBytes, dateBytes}
 use Rattle.c_answers.specs.ReaderFields.{parsedBytes}
-use Rattle.c_answers.proofs.Deliveries.{same-bytes}
+use Rattle.c_answers.proofs.Deliveries.{too-short, code-back}
+use Rattle.c_answers.proofs.Pieces.{in-three, of-bytes}
 use borrow.Author.Needs.{needs}
 use Rattle.c_answers.proofs.reader_fields.put_parsed.Statement.{statement}
 use Rattle.c_answers.proofs.reader_fields.put_parsed.Tie as tie
 
-year-pattern-requires : tie.Need-year-pattern-requires
-year-pattern-requires c κs = search needs
+refused-requires : tie.Need-refused-requires
+refused-requires c κs = search needs
 
-cast-five-numbers-and-pattern : tie.Need-cast-five-numbers-and-pattern
-cast-five-numbers-and-pattern c = search needs
+returns : tie.Need-returns
+unfolding parsedBytes
+returns c = too-short (parsedBytes (c .before .before .before .args .fields)) (now (c .before .before .before .args .out)) _ (c .before .if1 .taken) (code-back (c .refused .ok) ∙ c .refused .ensures)
 
-cast-five-numbers-and-pattern-2 : tie.Need-cast-five-numbers-and-pattern-2
-cast-five-numbers-and-pattern-2 c = search needs
+cast-put-two-numbers : tie.Need-cast-put-two-numbers
+cast-put-two-numbers c = search needs
 
-cast-five-numbers-and-pattern-3 : tie.Need-cast-five-numbers-and-pattern-3
-cast-five-numbers-and-pattern-3 c = search needs
+cast-put-two-numbers-2 : tie.Need-cast-put-two-numbers-2
+cast-put-two-numbers-2 c = search needs
 
-cast-five-numbers-and-pattern-4 : tie.Need-cast-five-numbers-and-pattern-4
-cast-five-numbers-and-pattern-4 c = search needs
+put-date-requires : tie.Need-put-date-requires
+put-date-requires c κs = search needs
 
-to-bits-requires : tie.Need-to-bits-requires
-to-bits-requires c κs = search needs
+cast-put-two-numbers-3 : tie.Need-cast-put-two-numbers-3
+cast-put-two-numbers-3 c = search needs
 
-five-numbers-and-pattern-requires : tie.Need-five-numbers-and-pattern-requires
-five-numbers-and-pattern-requires c κs = search needs
+cast-put-two-numbers-4 : tie.Need-cast-put-two-numbers-4
+cast-put-two-numbers-4 c = search needs
 
-slice-aggregate-put : tie.Need-slice-aggregate-put
-slice-aggregate-put c = search needs
+sub-put-two-numbers : tie.Need-sub-put-two-numbers
+sub-put-two-numbers c = search needs
 
-put-requires : tie.Need-put-requires
-put-requires c κs = search needs
+part-put-two-numbers-start : tie.Need-part-put-two-numbers-start
+part-put-two-numbers-start c = search needs
+
+part-put-two-numbers-end : tie.Need-part-put-two-numbers-end
+part-put-two-numbers-end c = search needs
+
+put-two-numbers-requires : tie.Need-put-two-numbers-requires
+put-two-numbers-requires c κs = search needs
+
+sub-put-float : tie.Need-sub-put-float
+sub-put-float c = search needs
+
+part-put-float-start : tie.Need-part-put-float-start
+part-put-float-start c = search needs
+
+part-put-float-end : tie.Need-part-put-float-end
+part-put-float-end c = search needs
+
+put-float-requires : tie.Need-put-float-requires
+put-float-requires c κs = search needs
 
 same-length : tie.Need-same-length
 same-length c = search needs
 
-returns : tie.Need-returns
-unfolding parsedBytes
-returns c =
-    let p = c .before .before in
-    let t = c .before .before .before .before .before in
-    let y = c .before .before .before .before .before .before .before .before .before .before .before in
-    let f = c .before .before .before .before .before .before .before .before .before .before .before .before .before .before .args .fields in
-    let e = y .year-pattern .ensures ∙ ap patternOf (toZ-ofZ {z = f .year} (record { sfits = y .before .struct-told .given .0 .1 })) in
-    same-bytes (p .put .ok)
-    (t .five-numbers-and-pattern .ensures
-    ∙ λ i. fourBytes (e i) ++ (fourBytes (f .month) ++ (fourBytes (f .day) ++ (fourBytes (f .hour) ++ (fourBytes (f .minute) ++ eightBytes (c .before .before .before .before .before .before .to-bits .ensures i))))))
-    (p .put .ensures)
+returns-2 : tie.Need-returns-2
+unfolding parsedBytes dateBytes
+returns-2 c =
+    let a = c .before .before .before .before .before .before .before .before .before .before .before .before .before .before .before .before .before .before .before .args in
+    let f = a .fields in
+    let e = toZ-ofZ {z = f .year} (record { sfits = c .before .before .before .before .before .before .before .before .before .before .before .before .before .before .struct-told .given .0 .1 }) in
+    of-bytes (λ i. fourBytes (patternOf (e i)) ++ (fourBytes (f .month) ++ (fourBytes (f .day) ++ (fourBytes (f .hour) ++ (fourBytes (f .minute) ++ floatBytes (f .second))))))
+    (in-three _ (fourBytes (f .hour) ++ fourBytes (f .minute)) (floatBytes (f .second)) (now (a .out)) _ _ _ _ 12 20 28 refl refl refl (c .before .before .before .before .before .before .before .before .before .before .before .before .before .before .before .before .before .if1 .left) (c .before .before .before .before .before .before .before .before .before .before .before .before .put-date .ensures) (c .before .before .before .before .before .before .put-two-numbers .ensures) refl (c .before .before .put-float .ensures))
 
 pub put-parsed-spec : {M : Type 1} → statement M
 put-parsed-spec =
     tie.close
     (tie.spec
-    year-pattern-requires
-    cast-five-numbers-and-pattern
-    cast-five-numbers-and-pattern-2
-    cast-five-numbers-and-pattern-3
-    cast-five-numbers-and-pattern-4
-    to-bits-requires
-    five-numbers-and-pattern-requires
-    slice-aggregate-put
-    put-requires
+    refused-requires
+    returns
+    cast-put-two-numbers
+    cast-put-two-numbers-2
+    put-date-requires
+    cast-put-two-numbers-3
+    cast-put-two-numbers-4
+    sub-put-two-numbers
+    part-put-two-numbers-start
+    part-put-two-numbers-end
+    put-two-numbers-requires
+    sub-put-float
+    part-put-float-start
+    part-put-float-end
+    put-float-requires
     same-length
-    returns)
+    returns-2)

@@ -1,55 +1,55 @@
 -- `c_answers::rule_fields::put_offset_by_rule` meets its contract. Assumes nothing.
-use mathlib.Core.Path.{_∙_}
-use mathlib.Core.List.{_++_}
-use Rattle.little_endian.specs.LittleEndian.{eightBytes}
-use Rattle.c_answers.specs.Fields.{fourBytes}
-use Rattle.c_answers.specs.RuleFields.{offsetRuleBytes}
-use Rattle.c_answers.proofs.Deliveries.{same-bytes}
+use mathlib.Core.Path.{refl, _∙_}
+use denote.Ref.{now}
+use Rattle.c_answers.specs.Fields.{floatBytes}
+use Rattle.c_answers.specs.RuleFields.{ruleBytes, offsetRuleBytes}
+use Rattle.c_answers.proofs.Deliveries.{too-short, code-back}
+use Rattle.c_answers.proofs.Pieces.{in-two}
 use borrow.Author.Needs.{needs}
 use Rattle.c_answers.proofs.rule_fields.put_offset_by_rule.Statement.{statement}
 use Rattle.c_answers.proofs.rule_fields.put_offset_by_rule.Tie as tie
 
-to-bits-requires : tie.Need-to-bits-requires
-to-bits-requires c κs = search needs
+refused-requires : tie.Need-refused-requires
+refused-requires c κs = search needs
 
-rule-number-requires : tie.Need-rule-number-requires
-rule-number-requires c κs = search needs
+returns : tie.Need-returns
+unfolding offsetRuleBytes
+returns c = too-short (offsetRuleBytes (c .before .before .before .args .seconds, c .before .before .before .args .rule)) (now (c .before .before .before .args .out)) _ (c .before .if1 .taken) (code-back (c .refused .ok) ∙ c .refused .ensures)
 
-row-pattern-requires : tie.Need-row-pattern-requires
-row-pattern-requires c κs = search needs
+put-float-requires : tie.Need-put-float-requires
+put-float-requires c κs = search needs
 
-pattern-and-two-numbers-requires : tie.Need-pattern-and-two-numbers-requires
-pattern-and-two-numbers-requires c κs = search needs
+sub-put-rule : tie.Need-sub-put-rule
+sub-put-rule c = search needs
 
-slice-aggregate-put : tie.Need-slice-aggregate-put
-slice-aggregate-put c = search needs
+part-put-rule-start : tie.Need-part-put-rule-start
+part-put-rule-start c = search needs
 
-put-requires : tie.Need-put-requires
-put-requires c κs = search needs
+part-put-rule-end : tie.Need-part-put-rule-end
+part-put-rule-end c = search needs
+
+put-rule-requires : tie.Need-put-rule-requires
+put-rule-requires c κs = search needs
 
 same-length : tie.Need-same-length
 same-length c = search needs
 
-returns : tie.Need-returns
+returns-2 : tie.Need-returns-2
 unfolding offsetRuleBytes
-returns c =
-    let p = c .before .before in
-    let t = p .before .before .before in
-    let b = t .before in
-    same-bytes (p .put .ok)
-    (t .pattern-and-two-numbers .ensures
-    ∙ λ i. eightBytes (b .before .before .to-bits .ensures i) ++ (fourBytes (b .before .rule-number .ensures i) ++ fourBytes (b .row-pattern .ensures i)))
-    (p .put .ensures)
+returns-2 c =
+    let a = c .before .before .before .before .before .before .before .before .before .before .args in
+    in-two (floatBytes (a .seconds)) (ruleBytes (a .rule)) (now (a .out)) _ _ 8 16 refl refl (c .before .before .before .before .before .before .before .before .if1 .left) (c .before .before .before .before .before .before .put-float .ensures) (c .before .before .put-rule .ensures)
 
 pub put-offset-by-rule-spec : {M : Type 1} → statement M
 put-offset-by-rule-spec =
     tie.close
     (tie.spec
-    to-bits-requires
-    rule-number-requires
-    row-pattern-requires
-    pattern-and-two-numbers-requires
-    slice-aggregate-put
-    put-requires
+    refused-requires
+    returns
+    put-float-requires
+    sub-put-rule
+    part-put-rule-start
+    part-put-rule-end
+    put-rule-requires
     same-length
-    returns)
+    returns-2)
