@@ -1,6 +1,8 @@
 -- The laws that the functions' proofs cite.
 -- Laws: where the bytes are there, and where not.
 pub mod Laws
+-- Puts: eight bytes put one by one.
+pub mod Puts
 -- Signed: patterns in two's complement, as the code computes them.
 pub mod Signed
 -- Signed32: the same with 32 bits.

@@ -1,9 +1,9 @@
 -- Whole numbers as bytes, the lowest first: the layout of the stamp block's numbers and of the numbers that the C interface hands out. Written from document 01,
 -- "Stamp block". Assumes nothing.
 use Prim.Native.Nat.{ℕ, _+_, _-_, _*_, _/_, _%_}
-use mathlib.Core.List.{List, [], _∷_}
+use mathlib.Core.List.{List, [], _∷_, _++_}
 use mathlib.Core.Bool.{cond}
-use lib.ListN.{length, getD}
+use lib.ListN.{length, getD, drop}
 use lib.Dec.{leb, ltb}
 use lib.IntN.{ℤ, pos, negsuc}
 
@@ -30,6 +30,10 @@ eightBytes n =
     ∷ n / 0x1_0000_0000_0000 % 256
     ∷ n / 0x100_0000_0000_0000 % 256
     ∷ []
+
+-- a list with the eight bytes of a number at its start; where they do not all fit, the list as it was
+unfoldable pub withU64 : List ℕ → ℕ → List ℕ
+withU64 l n = cond (leb 8 (length l)) (eightBytes n ++ drop 8 l) l
 
 -- the pattern of a signed number, 64 bits in two's complement: -1 is all ones. `negsuc k` is -1 - k
 unfoldable pub patternOf : ℤ → ℕ

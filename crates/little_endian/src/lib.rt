@@ -2,7 +2,7 @@
 ghost use mathlib.Core.Path.{_≡_};
 ghost use Prim.Native.Nat.{_+_, _≤_, _<_};
 ghost use lib.ListN.{length};
-ghost use Rattle.little_endian.specs.LittleEndian.{fourAt, u32At, u64At, eightBytes, patternOf, signedOf, signed32, i32At};
+ghost use Rattle.little_endian.specs.LittleEndian.{fourAt, u32At, u64At, eightBytes, withU64, patternOf, signedOf, signed32, i32At};
 
 fn wide(x: u8) -> u64
     ensures { λ r. ⌜ (r ≡ x) × (r < 256) ⌝ }
@@ -61,6 +61,24 @@ pub fn bytes_of_u64(n: u64) -> [u8; 8]
         (n / 0x1_0000_0000_0000 % 256) as u8,
         (n / 0x100_0000_0000_0000 % 256) as u8,
     ]
+}
+
+// The eight bytes of a number at the start of a lent slice; where they do not all fit, nothing is written. On a part of eight bytes the test costs nothing.
+pub fn put_u64(out: &mut [u8], n: u64)
+    ensures { λ _. ⌜ now (out .exit) ≡ withU64 (now (out .entry)) n ⌝ }
+{
+    if out.len() < 8 {
+        return;
+    }
+    let b = bytes_of_u64(n);
+    out[0] = b[0];
+    out[1] = b[1];
+    out[2] = b[2];
+    out[3] = b[3];
+    out[4] = b[4];
+    out[5] = b[5];
+    out[6] = b[6];
+    out[7] = b[7];
 }
 
 // The pattern of a signed number in two's complement.

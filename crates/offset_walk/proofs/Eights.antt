@@ -11,23 +11,6 @@ use Rattle.offset_walk.specs.declared.Triple.{Triple}
 use Rattle.offset_walk.specs.Lists.{datesFrom, inEights}
 use Rattle.offset_walk.proofs.Writes.{Putting, writing-starts, writing-goes, writing-ends, written-length}
 
--- eight bytes one by one
-abbrev pub eightOf : List ℕ → List ℕ
-eightOf b = getD b 0 0 ∷ getD b 1 0 ∷ getD b 2 0 ∷ getD b 3 0 ∷ getD b 4 0 ∷ getD b 5 0 ∷ getD b 6 0 ∷ getD b 7 0 ∷ []
-
-pub put-eight : (l : List ℕ) (at : ℕ) (b : List ℕ)
-    → set (set (set (set (set (set (set (set l at (getD b 0 0)) (at + 1) (getD b 1 0)) (at + 2) (getD b 2 0)) (at + 3) (getD b 3 0)) (at + 4) (getD b 4 0)) (at + 5) (getD b 5 0)) (at + 6) (getD b 6 0)) (at + 7) (getD b 7 0)
-    ≡ sets l at (eightOf b)
-put-eight l at b =
-    let e1 : at + 1 ≡ suc at = omega arith in
-    let e2 : at + 2 ≡ suc (suc at) = omega arith in
-    let e3 : at + 3 ≡ suc (suc (suc at)) = omega arith in
-    let e4 : at + 4 ≡ suc (suc (suc (suc at))) = omega arith in
-    let e5 : at + 5 ≡ suc (suc (suc (suc (suc at)))) = omega arith in
-    let e6 : at + 6 ≡ suc (suc (suc (suc (suc (suc at))))) = omega arith in
-    let e7 : at + 7 ≡ suc (suc (suc (suc (suc (suc (suc at)))))) = omega arith in
-    rw (e1, e2, e3, e4, e5, e6, e7)
-
 abbrev put : Float → List ℕ
 put x = eightBytes (toBits binary64 x)
 

@@ -37,15 +37,8 @@ fn put_offset(out: &mut [u8], at: usize, x: f64)
     requires { ⌜ at + 8 ≤ length (now out) ⌝ }
     ensures { λ _. ⌜ now (out .exit) ≡ sets (now (out .entry)) at (eightBytes (toBits binary64 x)) ⌝ }
 {
-    let b = little_endian::bytes_of_u64(floats::to_bits(x));
-    out[at] = b[0];
-    out[at + 1] = b[1];
-    out[at + 2] = b[2];
-    out[at + 3] = b[3];
-    out[at + 4] = b[4];
-    out[at + 5] = b[5];
-    out[at + 6] = b[6];
-    out[at + 7] = b[7];
+    let end = at + 8;
+    little_endian::put_u64(&mut out[at..end], floats::to_bits(x));
 }
 
 // The number by which the n dates are turned away, 0 if they are not.
