@@ -1,16 +1,13 @@
 -- The values of an answer as bytes, little-endian, in the order of its fields. Written from docs/DECISIONS.md 24: floats as the 8 bytes of their bits, a NaN as
 -- 7ff8000000000000; year, month and day as 4 bytes each, in two's complement. Assumes nothing.
-use Prim.Native.Nat.{ℕ, _/_, _%_}
-use mathlib.Core.List.{List, [], _∷_, _++_}
+use Prim.Native.Nat.{ℕ}
+use mathlib.Core.List.{List, _++_}
 use lib.Ieee.{Float, binary64, toBits}
 use Rattle.little_endian.specs.LittleEndian.{eightBytes, patternOf}
+pub use Rattle.little_endian.specs.LittleEndian.{fourBytes}
 use Rattle.calendar.specs.declared.CalendarDate.{CalendarDate}
 use Rattle.julian.specs.declared.JulianDate.{JulianDate}
 use Rattle.julian.specs.declared.CalendarFields.{CalendarFields}
-
--- the four lowest bytes of a number
-abbrev pub fourBytes : ℕ → List ℕ
-fourBytes n = n % 256 ∷ n / 0x100 % 256 ∷ n / 0x1_0000 % 256 ∷ n / 0x100_0000 % 256 ∷ []
 
 abbrev pub floatBytes : Float → List ℕ
 floatBytes x = eightBytes (toBits binary64 x)

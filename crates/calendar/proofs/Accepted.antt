@@ -115,9 +115,9 @@ pub record Accepted (y m d : ℤ) : Type 0 where
   pub d-low : 1 ≤ natAbs d
   pub d-high : natAbs d ≤ monthLength y (natAbs m)
 
-pub accepted : (y m d : ℤ) → validDate y m d ≡ answer tt → Accepted y m d
+pub date-accepted : (y m d : ℤ) → validDate y m d ≡ answer tt → Accepted y m d
 unfolding validDate
-accepted y m d e =
+date-accepted y m d e =
     let f = all-false (ltZ y (negsuc 4798)) (ltZ m (pos 1)) (ltZ (pos 12) m) (ltZ d (pos 1)) (ltZ (pos (daysInMonth y m)) d) e in
     let h : natAbs d ≤ daysInMonth y m = at-most (daysInMonth y m) d (f .3) (f .4) in
     record {

@@ -13,7 +13,7 @@ use Rattle.calendar.specs.Refusals.{validDate}
 use Rattle.calendar.specs.DayCount.{civilCount, mjdNumber, mjdOf, MjdMeaning}
 use Rattle.calendar.specs.Gregorian.{gregorianDate}
 use Rattle.calendar.proofs.Signs.{raised, own-size}
-use Rattle.calendar.proofs.Accepted.{accepted}
+use Rattle.calendar.proofs.Accepted.{date-accepted}
 use Rattle.calendar.proofs.Days.{number, counted, one-number-per-date}
 use Rattle.calendar.proofs.Years.{counted-from, from-lower, year-before-first, gregorian-valid}
 use Rattle.calendar.proofs.Gregorian.{gregorian-is-date-of-day}
@@ -40,10 +40,10 @@ raised-year z e =
     let s = ap natAbs (r .is) in
     (ap pos s ∙ sym (r .is), omega (arith, s, r .low))
 
-pub day-of : (y m d : ℤ) → validDate y m d ≡ answer tt → (k : ℕ) × (mjdNumber y m d ≡ pos k -ℤ pos 2578142) × (dateAt k ≡ date y (natAbs m) (natAbs d))
+pub day-of-date : (y m d : ℤ) → validDate y m d ≡ answer tt → (k : ℕ) × (mjdNumber y m d ≡ pos k -ℤ pos 2578142) × (dateAt k ≡ date y (natAbs m) (natAbs d))
 unfolding mjdNumber
-day-of y m d z =
-    let a = accepted y m d z in
+day-of-date y m d z =
+    let a = date-accepted y m d z in
     let u = raised-year y (a .year) in
     let r = natAbs (y +ℤ pos 4800) in
     let c = count-of-date r y (natAbs m) (natAbs d) (u .0) (u .1) (a .m-low) (a .m-high) (a .d-low) (a .d-high) in
@@ -62,7 +62,7 @@ same-mjd x n e = sym (+ℤ-negℤ-cancel x (pos 2400001)) ∙ ap (λ (z : ℤ). 
 
 pub mjd-meaning : (y m d : ℤ) → validDate y m d ≡ answer tt → MjdMeaning y m d
 mjd-meaning y m d z =
-    let k = day-of y m d z in
+    let k = day-of-date y m d z in
     let e = number-of (mjdNumber y m d) (k .0) (k .1) in
     let c : Counted (mjdNumber y m d +ℤ pos 2400001) = subst (λ (x : ℤ). Counted x) (sym e) (counted (k .0)) in
     let h : dateOf (mjdNumber y m d +ℤ pos 2400001) ≡ date y (natAbs m) (natAbs d) = ap dateOf e ∙ date-of-number (k .0) ∙ k .2 in
@@ -96,7 +96,7 @@ date-of-mjd y m d n e h =
     let s : g .n ≡ n = same-answer (sym (g .given) ∙ e) in
     let c : Counted (n +ℤ pos 2400001) = subst (λ (x : ℤ). Counted (x +ℤ pos 2400001)) s (g .counted-day) in
     let t : dateOf (n +ℤ pos 2400001) ≡ date y (natAbs m) (natAbs d) = subst (λ (x : ℤ). dateOf (x +ℤ pos 2400001) ≡ date y (natAbs m) (natAbs d)) s (g .has-date) in
-    let f = sym (year-before-first (n +ℤ pos 2400001) c) ∙ ap (λ (u : CalendarDate). ltZ (u .year) (negsuc 4798)) t ∙ accepted y m d z .year in
+    let f = sym (year-before-first (n +ℤ pos 2400001) c) ∙ ap (λ (u : CalendarDate). ltZ (u .year) (negsuc 4798)) t ∙ date-accepted y m d z .year in
     gregorian-is-date-of-day (n +ℤ pos 2400001) (from-lower (n +ℤ pos 2400001) f) h ∙ t
 
 -- from a day number to its date and back, from -68569 to 1,000,000,000, where the date's year is from -4799

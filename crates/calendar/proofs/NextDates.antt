@@ -16,10 +16,10 @@ use Rattle.calendar.specs.Calendar.{date, dateAt, next, lengths, leapYea
 use Rattle.calendar.specs.Refusals.{validDate, nextOf, lastDate}
 use Rattle.calendar.specs.DayCount.{mjdOf}
 use Rattle.calendar.specs.InCalendar.{InCalendar}
-use Rattle.calendar.proofs.Accepted.{Accepted, accepted, short, in-calendar-valid}
+use Rattle.calendar.proofs.Accepted.{Accepted, date-accepted, short, in-calendar-valid}
 use Rattle.calendar.proofs.Days.{after, one-day, date-at-in-calendar}
 use Rattle.calendar.proofs.Years.{next-keeps, not-before}
-use Rattle.calendar.proofs.Mjd.{mjd-given, day-of, same-answer}
+use Rattle.calendar.proofs.Mjd.{mjd-given, day-of-date, same-answer}
 
 december : (b : Bool) → lengths b 12 ≡ 31
 unfolding lengths
@@ -51,13 +51,13 @@ year-fits (pos n) f e = record { sfits = omega (arith, ltb-false 2147483646 n e)
 year-fits (negsuc zero) f e = record { sfits = omega arith }
 year-fits (negsuc (suc n)) f e = record { sfits = omega (arith, f .sfits) }
 
-pub refused : (y m d : ℤ) (k : ℕ) → validDate y m d ≡ refusal k → nextOf y m d ≡ refusal k
+pub refused-next : (y m d : ℤ) (k : ℕ) → validDate y m d ≡ refusal k → nextOf y m d ≡ refusal k
 unfolding nextOf onward
-refused y m d k e = rw e
+refused-next y m d k e = rw e
 
 module _ (y m d : ℤ) (ok : validDate y m d ≡ answer tt) where
   a : Accepted y m d
-  a = accepted y m d ok
+  a = date-accepted y m d ok
 
   pub by : (t : Bool) → lastDate y (natAbs m) (natAbs d) ≡ t → nextOf y m d ≡ cond t (refusal 5) (answer (next (date y (natAbs m) (natAbs d))))
   unfolding nextOf onward
@@ -106,10 +106,10 @@ unfolding nextOf
 next-is y m d t e = answered (validDate y m d) (lastDate y (natAbs m) (natAbs d)) t (next (date y (natAbs m) (natAbs d))) e
 
 module _ (y m d : ℤ) (t : CalendarDate) (h : nextOf y m d ≡ answer t) where
-  at-next : dateAt (suc (day-of y m d (next-is y m d t h .0) .0)) ≡ t
+  at-next : dateAt (suc (day-of-date y m d (next-is y m d t h .0) .0)) ≡ t
   at-next =
       let z = next-is y m d t h in
-      let k = day-of y m d (z .0) in
+      let k = day-of-date y m d (z .0) in
       after (k .0) ∙ ap next (k .2) ∙ sym (z .1)
 
   -- the next date has a month 1 to 12 and a day of that month
@@ -122,14 +122,14 @@ module _ (y m d : ℤ) (t : CalendarDate) (h : nextOf y m d ≡ answer t) where
       let z = next-is y m d t h in
       in-calendar-valid t next-in-calendar
       (subst (λ (x : CalendarDate). ltZ (x .year) (negsuc 4798) ≡ false) (sym (z .1))
-      (next-keeps (λ x. ltZ x (negsuc 4798) ≡ false) (not-before 4798) (date y (natAbs m) (natAbs d)) (accepted y m d (z .0) .year)))
+      (next-keeps (λ x. ltZ x (negsuc 4798) ≡ false) (not-before 4798) (date y (natAbs m) (natAbs d)) (date-accepted y m d (z .0) .year)))
 
   -- its MJD is one more
   pub next-mjd : (n : ℤ) → mjdOf y m d ≡ answer n → mjdOf (t .year) (pos (t .month)) (pos (t .day)) ≡ answer (sucℤ n)
   next-mjd n e =
       let z = next-is y m d t h in
-      let k = day-of y m d (z .0) in
-      let j = day-of (t .year) (pos (t .month)) (pos (t .day)) next-accepted in
+      let k = day-of-date y m d (z .0) in
+      let j = day-of-date (t .year) (pos (t .month)) (pos (t .day)) next-accepted in
       let s : j .0 ≡ suc (k .0) = one-day (j .0) (suc (k .0)) (j .2 ∙ sym at-next) in
       mjd-given (t .year) (pos (t .month)) (pos (t .day)) next-accepted
       ∙ ap answer

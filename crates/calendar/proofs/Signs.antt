@@ -89,9 +89,9 @@ own-size (pos n) = le-ltb n n (le-refl n)
 own-size (negsuc n) = refl
 
 -- an i32 is at most 2147483647
-pub at-most : (z : ℤ) → SFits w32 z → ltZ (pos 2147483647) z ≡ false
-at-most (pos n) f = le-ltb 2147483647 n (omega (arith, f .sfits))
-at-most (negsuc n) f = refl
+pub at-most-i32 : (z : ℤ) → SFits w32 z → ltZ (pos 2147483647) z ≡ false
+at-most-i32 (pos n) f = le-ltb 2147483647 n (omega (arith, f .sfits))
+at-most-i32 (negsuc n) f = refl
 
 -- the machine's sum, where it comes to r
 pub sum-fits : (x z : ℤ) (k r : ℕ) → x ≡ z → z +ℤ pos k ≡ pos r → r < 2 ^ 63 → SFits w64 (x +ℤ pos k)

@@ -14,7 +14,7 @@ use Rattle.calendar.specs.Gregorian.{gregorianDate}
 use Rattle.calendar.proofs.Signs.{Raised, raised, sub-at, sub-shift}
 use Rattle.calendar.proofs.Divisions.{centuryStart, c-low, f-low, good}
 use Rattle.calendar.proofs.Gregorian.{divisions-give-date, shifted-day-is, gregorian-is-date-of-day, gregorian-below}
-use Rattle.calendar_laws.specs.RustDate.{Triple, fromDayOfYear, fromDayOfCentury, fromShifted, rustDate}
+use Rattle.calendar_laws.specs.RustDate.{RustTriple, fromDayOfYear, fromDayOfCentury, fromShifted, rustDate}
 
 -- ---- differences of natural numbers
 minus : (a b : ℕ) → b ≤ a → pos a -ℤ pos b ≡ pos (a - b)
@@ -51,8 +51,8 @@ year-is n i o = go (ltb n 49) refl
     go false e = ap pos (omega (arith, ltb-false n 49 e)) ∙ sym (sub-at (100 * n + i + o) 4900 (omega (arith, ltb-false n 49 e)))
 
 -- a date as the Rust hands it out
-abbrev pub shown : CalendarDate → Triple
-shown t = record { year = t .year; month = pos (t .month); day = pos (t .day) }
+abbrev pub asTriple : CalendarDate → RustTriple
+asTriple t = record { year = t .year; month = pos (t .month); day = pos (t .day) }
 
 -- ---- the Rust's lines on a shifted number that is not below 0
 module _ (l n a i b k : ℕ) (en : n ≡ 4 * l / 146097) (ea : a ≡ l - centuryStart n) (ei : i ≡ 4000 * (a + 1) / 1461001) (eb : b ≡ a + 31 - 1461 * i / 4) (ek : k ≡ 80 * b / 2447) where
@@ -77,7 +77,7 @@ module _ (l n a i b k : ℕ) (en : n ≡ 4 * l / 146097) (ea : a ≡ l - century
       go : (v : ℕ) → 1 ≤ b - v → v ≤ b
       go v h = omega arith
 
-  by-month : fromDayOfYear (pos n) (pos i) (pos b) ≡ shown (date (subℕ (100 * n + i + k / 11) 4900) (k + 2 - 12 * (k / 11)) (b - 2447 * k / 80))
+  by-month : fromDayOfYear (pos n) (pos i) (pos b) ≡ asTriple (date (subℕ (100 * n + i + k / 11) 4900) (k + 2 - 12 * (k / 11)) (b - 2447 * k / 80))
   unfolding fromDayOfYear
   by-month =
       ap (λ (z : ℕ). record {
@@ -91,32 +91,32 @@ module _ (l n a i b k : ℕ) (en : n ≡ 4 * l / 146097) (ea : a ≡ l - century
         day = minus b (2447 * k / 80) day-fits j;
       })
 
-  by-lines : fromShifted (pos l) ≡ shown (dateAt (l + 109572))
-  by-lines = by-century ∙ by-year ∙ by-month ∙ ap shown (divisions-give-date l n a i b k en ea ei eb ek)
+  by-lines : fromShifted (pos l) ≡ asTriple (dateAt (l + 109572))
+  by-lines = by-century ∙ by-year ∙ by-month ∙ ap asTriple (divisions-give-date l n a i b k en ea ei eb ek)
 
-from-zero : (l : ℕ) → fromShifted (pos l) ≡ shown (dateAt (l + 109572))
+from-zero : (l : ℕ) → fromShifted (pos l) ≡ asTriple (dateAt (l + 109572))
 from-zero l = by-lines l _ _ _ _ _ refl refl refl refl refl
 
 -- ---- THE LAW
 -- the shifted number -1, by computing
-at-minus-one : rustDate (negsuc 68569) ≡ shown (gregorianDate (negsuc 68569))
+at-minus-one : rustDate (negsuc 68569) ≡ asTriple (gregorianDate (negsuc 68569))
 unfolding rustDate fromShifted fromDayOfCentury fromDayOfYear gregorianDate
 at-minus-one = refl
 
-above : (jd : ℤ) → ltZ jd (negsuc 68568) ≡ false → ltZ (pos 1000000000) jd ≡ false → rustDate jd ≡ shown (gregorianDate jd)
+above : (jd : ℤ) → ltZ jd (negsuc 68568) ≡ false → ltZ (pos 1000000000) jd ≡ false → rustDate jd ≡ asTriple (gregorianDate jd)
 unfolding rustDate
 above jd p q =
     let r = raised jd 68568 68569 1000000000 (omega arith) p q in
-    ap fromShifted (r .is) ∙ from-zero (r .r) ∙ ap shown (sym (shifted-day-is jd (r .r) (sym (r .is))) ∙ sym (gregorian-is-date-of-day jd p q))
+    ap fromShifted (r .is) ∙ from-zero (r .r) ∙ ap asTriple (sym (shifted-day-is jd (r .r) (sym (r .is))) ∙ sym (gregorian-is-date-of-day jd p q))
 
 lowest : (jd : ℤ) → ltZ jd (negsuc 68569) ≡ false → ltZ jd (negsuc 68568) ≡ true → jd ≡ negsuc 68569
 lowest (pos n) p q = absurd (true≢false (sym q))
 lowest (negsuc n) p q = ap negsuc (omega (arith, ltb-false 68569 n p, ltb-true 68568 n q))
 
 -- no answer changes: from -68570 to 1,000,000,000, all that a caller hands over, the Rust's date is the code's
-pub no-answer-changes : (jd : ℤ) → ltZ jd (negsuc 68569) ≡ false → ltZ (pos 1000000000) jd ≡ false → rustDate jd ≡ shown (gregorianDate jd)
+pub no-answer-changes : (jd : ℤ) → ltZ jd (negsuc 68569) ≡ false → ltZ (pos 1000000000) jd ≡ false → rustDate jd ≡ asTriple (gregorianDate jd)
 no-answer-changes jd p q = go (ltZ jd (negsuc 68568)) refl
   where
-    go : (t : Bool) → ltZ jd (negsuc 68568) ≡ t → rustDate jd ≡ shown (gregorianDate jd)
-    go true e = ap rustDate (lowest jd p e) ∙ at-minus-one ∙ ap (λ (z : ℤ). shown (gregorianDate z)) (sym (lowest jd p e))
+    go : (t : Bool) → ltZ jd (negsuc 68568) ≡ t → rustDate jd ≡ asTriple (gregorianDate jd)
+    go true e = ap rustDate (lowest jd p e) ∙ at-minus-one ∙ ap (λ (z : ℤ). asTriple (gregorianDate z)) (sym (lowest jd p e))
     go false e = above jd e q

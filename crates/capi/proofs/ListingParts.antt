@@ -19,7 +19,7 @@ use Rattle.stamps.specs.declared.BlockAnswer.the-variants.{Stamps, Refused}
 use Rattle.stamps.specs.declared.Part.{Part}
 use Rattle.stamps.specs.Block.{blockOutcome, blockOf}
 use Rattle.stamps.specs.Parts.{partText, partOf, PartPlaced}
-use Rattle.stamps.proofs.Blocks.{accepted}
+use Rattle.stamps.proofs.Blocks.{block-accepted}
 use Rattle.stamps.proofs.Lengths.{part-most, part-fits}
 use Rattle.c_answers.specs.Delivery.{code, Delivered}
 use Rattle.capi.specs.ListingPart.{listingPart}
@@ -54,11 +54,11 @@ module _ {rows : List Row} {s l out : List ℕ} {line : ℕ} {r : Part} (p : Par
 module _ (s : List ℕ) {res : BlockAnswer} (e : blockOutcome res ≡ blockOf s) where
   pub stamps-fit : (n : ℕ) → res ≡ Stamps n → SFits w64 (pos n)
   unfolding blockOutcome
-  stamps-fit n i = record { sfits = omega (arith, accepted s n (sym (ap blockOutcome i) ∙ e) .0) }
+  stamps-fit n i = record { sfits = omega (arith, block-accepted s n (sym (ap blockOutcome i) ∙ e) .0) }
 
   pub stamps-are : (n : ℕ) → res ≡ Stamps n → toZ w64 n ≡ code (blockOf s)
   unfolding blockOutcome code
-  stamps-are n i = toZ-pos w64 {n = n} (omega (arith, accepted s n (sym (ap blockOutcome i) ∙ e) .0)) ∙ ap code (sym (ap blockOutcome i) ∙ e)
+  stamps-are n i = toZ-pos w64 {n = n} (omega (arith, block-accepted s n (sym (ap blockOutcome i) ∙ e) .0)) ∙ ap code (sym (ap blockOutcome i) ∙ e)
 
   pub block-refused : {r : ℤ} (k : ℕ) → mag r < 2 ^ 63 → res ≡ Refused k → r ≡ code (refusal k) → toZ w64 (ofZ w64 r) ≡ code (blockOf s)
   unfolding blockOutcome

@@ -18,7 +18,7 @@ use Rattle.offset_walk.specs.declared.WalkAnswer.{WalkAnswer}
 use Rattle.offset_walk.specs.declared.WalkAnswer.the-variants.{Compared, Refused}
 use Rattle.offset_walk.specs.Walk.{Walked}
 use Rattle.offset_walk.specs.Lists.{datesFrom, tripleIn, walkOfBytes, inEights}
-use Rattle.offset_walk.specs.Call.{walkOutcome, lentAfter, WalkCall}
+use Rattle.offset_walk.specs.Call.{walkOutcome, listAfter, WalkCall}
 use Rattle.offset_walk.proofs.Goods.{how-many}
 use Rattle.offset_walk.proofs.Codes.{count-most}
 use Rattle.lent_bytes.specs.TableBytes.{ofLength, tableBytes}
@@ -34,7 +34,7 @@ module _ (s : List ℕ) (t : LentRows) (n : ℕ) (e : unlessRefused n (rowsOf t)
   next rows = walkOfBytes rows dates (length l)
 
   pub walk-table-refused : {r : ℤ} → mag r < 2 ^ 63 → (n ≡ 0 → ⊥) → r ≡ code (refusal n) → WalkDelivered (onward (tableBytes s) next) l (toZ w64 (ofZ w64 r)) l
-  unfolding onward lentAfter
+  unfolding onward listAfter
   walk-table-refused {r} ok h c =
       subst (λ (o : Outcome Walked). WalkDelivered o l (toZ w64 (ofZ w64 r)) l) (sym (turned-away (rowsOf t) n (e ∙ f) next h))
       (record { returned = code-back ok ∙ c; holds = refl })

@@ -7,10 +7,10 @@ use lib.IntN.{ℤ}
 use Rattle.refusals.specs.Outcome.{Outcome, answer, onward}
 use Rattle.offset_walk.specs.Walk.{Walked}
 use Rattle.offset_walk.specs.Lists.{inEights}
-use Rattle.offset_walk.specs.Call.{lentAfter}
+use Rattle.offset_walk.specs.Call.{listAfter}
 use Rattle.c_answers.specs.Delivery.{code}
 
 -- the call returned r, and the buffer, which held `before`, holds `after`: eight bytes an offset at its start and the rest as it was; refused, all as it was
 pub record WalkDelivered (o : Outcome Walked) (before : List ℕ) (r : ℤ) (after : List ℕ) : Type 0 where
   pub returned : r ≡ code (onward o (λ w. answer (w .rowsCompared)))
-  pub holds : after ≡ lentAfter inEights o before
+  pub holds : after ≡ listAfter inEights o before

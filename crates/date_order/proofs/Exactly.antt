@@ -21,7 +21,7 @@ use Rattle.julian.specs.Equality.{twoSumError, exactSum, sums, FiniteSums}
 use Rattle.julian.specs.Equality as E
 use Rattle.julian.specs.Worth.{Worth, SmallParts}
 use Rattle.julian.proofs.Equality.{SumAndError, sums-of, small-sums, equal-sums}
-use Rattle.date_order.specs.Order.{Order, comesBefore, sameSum, comesAfter, sooner, dateOrder, compared, orderOf, notAfter, isEqual, DeadDate, first-dead, second-dead}
+use Rattle.date_order.specs.Order.{Order, comesBefore, sameSum, comesAfter, sooner, dateOrder, comparison, orderOf, notAfter, isEqual, DeadDate, first-dead, second-dead}
 
 -- ---- the error is finite only where the parts and the sum are
 pub finite-error : (d : JulianDate) → T (finite (sums d .error)) → T (finite (d .jd1)) × (T (finite (d .jd2)) × T (finite (sums d .sum)))
@@ -89,9 +89,9 @@ both-true true false o u h = let z : _≡_ {A = ℕ} 0 1 = cc in let w : ⊥ = o
 both-true false b o u h = let z : _≡_ {A = ℕ} 0 1 = cc in let w : ⊥ = omega arith in absurd w
 
 module _ (d e : JulianDate) (f1 : T (fits binary64 (d .jd1))) (f2 : T (fits binary64 (d .jd2))) (g1 : T (fits binary64 (e .jd1))) (g2 : T (fits binary64 (e .jd2)))
-    (o : Order) (is : compared d e ≡ answer o) where
+    (o : Order) (is : comparison d e ≡ answer o) where
   told : T (finite (sums d .error)) × (T (finite (sums e .error)) × (dateOrder d e ≡ o))
-  unfolding compared
+  unfolding comparison
   told = both-true (finite (sums d .error)) (finite (sums e .error)) o (dateOrder d e) is
 
   -- both two-sums are finite
@@ -112,8 +112,8 @@ refused-by true false u n h = ((let z : n ≡ 9 = cc in z), inr refl)
 refused-by false b u n h = ((let z : n ≡ 9 = cc in z), inl refl)
 
 -- 9 is the only refusal, and says that the two-sum of one of the dates is not finite
-pub refused-nine : (d e : JulianDate) (n : ℕ) → compared d e ≡ refusal n → (n ≡ 9) × ((finite (sums d .error) ≡ false) ⊎ (finite (sums e .error) ≡ false))
-unfolding compared
+pub refused-nine : (d e : JulianDate) (n : ℕ) → comparison d e ≡ refusal n → (n ≡ 9) × ((finite (sums d .error) ≡ false) ⊎ (finite (sums e .error) ≡ false))
+unfolding comparison
 refused-nine d e n h = refused-by (finite (sums d .error)) (finite (sums e .error)) (dateOrder d e) n h
 
 as-true : (b : Bool) → T b → b ≡ true
@@ -121,8 +121,8 @@ as-true true h = refl
 as-true false h = absurd h
 
 -- all dates with parts under 2^52 in size are answered
-pub small-answered : (d e : JulianDate) → SmallParts d → SmallParts e → compared d e ≡ answer (dateOrder d e)
-unfolding compared
+pub small-answered : (d e : JulianDate) → SmallParts d → SmallParts e → comparison d e ≡ answer (dateOrder d e)
+unfolding comparison
 small-answered d e s t =
     let x = as-true (finite (sums d .error)) (small-sums d s .error) in
     let y = as-true (finite (sums e .error)) (small-sums e t .error) in
@@ -135,8 +135,8 @@ not-both true true (inr h) = absurd (h tt)
 not-both true false h = refl
 not-both false b h = refl
 
-nine : (d e : JulianDate) → (T (finite (sums d .error)) → ⊥) ⊎ (T (finite (sums e .error)) → ⊥) → compared d e ≡ refusal 9
-unfolding compared
+nine : (d e : JulianDate) → (T (finite (sums d .error)) → ⊥) ⊎ (T (finite (sums e .error)) → ⊥) → comparison d e ≡ refusal 9
+unfolding comparison
 nine d e h = rw (not-both (finite (sums d .error)) (finite (sums e .error)) h)
 
 no : (b : Bool) → b ≡ false → T b → ⊥
@@ -147,16 +147,16 @@ dead-error : (d : JulianDate) → DeadDate d → T (finite (sums d .error)) → 
 dead-error d (first-dead e) h = no (finite (d .jd1)) e (finite-error d h .0)
 dead-error d (second-dead e) h = no (finite (d .jd2)) e (finite-error d h .1 .0)
 
-pub dead-first : (d e : JulianDate) → DeadDate d → compared d e ≡ refusal 9
+pub dead-first : (d e : JulianDate) → DeadDate d → comparison d e ≡ refusal 9
 dead-first d e h = nine d e (inl (dead-error d h))
 
-pub dead-second : (d e : JulianDate) → DeadDate e → compared d e ≡ refusal 9
+pub dead-second : (d e : JulianDate) → DeadDate e → comparison d e ≡ refusal 9
 dead-second d e h = nine d e (inr (dead-error e h))
 
 -- ---- hence it is a total order of the exact sums
 -- every date whose two-sum is finite has an exact sum
-pub worth-of : (d : JulianDate) → FiniteSums d → (P : ℕ) × (N : ℕ) × Worth d P N L
-worth-of d s =
+pub sum-worth : (d : JulianDate) → FiniteSums d → (P : ℕ) × (N : ℕ) × Worth d P N L
+sum-worth d s =
     let f = finite-error d (s .error) in
     let a = own-val (d .jd1) (own (d .jd1) (s .first-float) (f .0)) in
     let b = own-val (d .jd2) (own (d .jd2) (s .second-float) (f .1 .0)) in
@@ -185,9 +185,9 @@ le-not-after a b h = to-numbers a b (ltb a b) (ltb b a) refl refl h
 -- of three dates, if the first is not after the second and that not after the third, the first is not after the third
 pub order-transitive : (d e f : JulianDate) → FiniteSums d → FiniteSums e → FiniteSums f → notAfter (dateOrder d e) ≡ true → notAfter (dateOrder e f) ≡ true → notAfter (dateOrder d f) ≡ true
 order-transitive d e f s t u h k =
-    let v = worth-of d s in
-    let w = worth-of e t in
-    let x = worth-of f u in
+    let v = sum-worth d s in
+    let w = sum-worth e t in
+    let x = sum-worth f u in
     let i = not-after-le (v .0 + w .1) (w .0 + v .1) (ap notAfter (sym (order-exactly d e (v .0) (v .1) (w .0) (w .1) s t (v .2) (w .2))) ∙ h) in
     let j = not-after-le (w .0 + x .1) (x .0 + w .1) (ap notAfter (sym (order-exactly e f (w .0) (w .1) (x .0) (x .1) t u (w .2) (x .2))) ∙ k) in
     ap notAfter (order-exactly d f (v .0) (v .1) (x .0) (x .1) s u (v .2) (x .2)) ∙ le-not-after (v .0 + x .1) (x .0 + v .1) (omega (arith, i, j))
@@ -208,8 +208,8 @@ number-equal a b = equal-numbers a b (ltb a b) (ltb b a) refl refl
 -- equal by the order exactly where equal by document 01's test
 pub equal-agrees : (d e : JulianDate) → FiniteSums d → FiniteSums e → isEqual (dateOrder d e) ≡ E.equal d e
 equal-agrees d e s t =
-    let v = worth-of d s in
-    let w = worth-of e t in
+    let v = sum-worth d s in
+    let w = sum-worth e t in
     ap isEqual (order-exactly d e (v .0) (v .1) (w .0) (w .1) s t (v .2) (w .2))
     ∙ number-equal (v .0 + w .1) (w .0 + v .1)
     ∙ sym (equal-sums d e (v .0) (v .1) (w .0) (w .1) s t (v .2) (w .2))

@@ -32,8 +32,8 @@ unfoldable pub dateOrder : JulianDate → JulianDate → Order
 dateOrder d e = cond (sooner (sums d) (sums e)) comesBefore (cond (sooner (sums e) (sums d)) comesAfter sameSum)
 
 -- 9: the error of a two-sum is not finite, as where a part or the sum is not
-unfoldable pub compared : JulianDate → JulianDate → Outcome Order
-compared d e = cond (finite (sums d .error) && finite (sums e .error)) (answer (dateOrder d e)) (refusal 9)
+unfoldable pub comparison : JulianDate → JulianDate → Outcome Order
+comparison d e = cond (finite (sums d .error) && finite (sums e .error)) (answer (dateOrder d e)) (refusal 9)
 
 -- ---- the words of the theorems
 

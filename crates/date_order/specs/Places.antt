@@ -1,4 +1,4 @@
--- What a list of dates in order asks of two of them, apart from the three answers of `compared`: whether a date has a place in the order, and whether one comes before
+-- What a list of dates in order asks of two of them, apart from the three answers of `comparison`: whether a date has a place in the order, and whether one comes before
 -- another. This project's own, as the order is. Assumes nothing.
 use mathlib.Core.Bool.{Bool}
 use lib.Ieee.Scale.{finite}

@@ -26,7 +26,7 @@ fn sooner(s: julian::ExactSum, t: julian::ExactSum) -> bool
 
 // The order of the exact sums, however each date is divided. 9 where a part is not finite, or so large that the two-sum overflows: then the error is not finite.
 pub fn compare(a: julian::JulianDate, b: julian::JulianDate) -> OrderAnswer
-    ensures { λ r. ⌜ O.orderOutcome r ≡ O.compared a b ⌝ }
+    ensures { λ r. ⌜ O.orderOutcome r ≡ O.comparison a b ⌝ }
 {
     let one = julian::exact_sum(a.jd1, a.jd2);
     let two = julian::exact_sum(b.jd1, b.jd2);

@@ -17,7 +17,7 @@ use Rattle.day_number.specs.declared.Normalized.{Normalized}
 use Rattle.day_number.specs.declared.DayNumber.{DayNumber}
 use Rattle.day_number.specs.DayNumber.{accepted, sumFractions, normalizeFraction, joinedFractions, rest, total, dayNumber, fractionPassed, dayOf}
 use Rattle.day_number.specs.Sums.{Sums}
-use Rattle.day_number.proofs.Pair.{Accepted}
+use Rattle.day_number.proofs.Pair.{AcceptedSum}
 use Rattle.day_number.proofs.Accepted.{accepted-pair}
 use Rattle.day_number.proofs.TotalDay.{R, read-a, read-b, s4}
 
@@ -43,7 +43,7 @@ module _ (x y : Float) (fx : T (fits binary64 x)) (fy : T (fits binary64 y)) (ac
   unfolding joinedFractions
   ef' = ef ∙ ap (λ (z : Summed). normalizeFraction (z .kahan)) ek'
 
-  o : Accepted x y
+  o : AcceptedSum x y
   o = accepted-pair x y fx fy acc
 
   h : Sums (toSigned 63 (nearestInt x)) (toSigned 63 (nearestInt y)) (o .up) (o .more) (o .down)

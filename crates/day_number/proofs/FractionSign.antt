@@ -9,7 +9,7 @@ use Rattle.day_number.specs.declared.Kahan.{Kahan}
 use Rattle.day_number.specs.declared.Summed.{Summed}
 use Rattle.day_number.specs.declared.Carried.{Carried}
 use Rattle.day_number.specs.declared.Normalized.{Normalized}
-use Rattle.day_number.specs.DayNumber.{c-minus-eps-4, c-minus-eps-2, compensation, kahanStart, kahanOf, addFraction, sumFractions, borrowSum, borrowFraction, borrowDay, carryDay, carryEnd, moved, normalizeFraction, joinedFractions, rest, fractionPassed, dayOf}
+use Rattle.day_number.specs.DayNumber.{c-minus-eps-4, c-minus-eps-2, compensation, kahanStart, kahanOf, addFraction, sumFractions, borrowSum, borrowFraction, borrowDay, carryDay, carryEnd, besideBorrowed, normalizeFraction, joinedFractions, rest, fractionPassed, dayOf}
 use Rattle.day_number.specs.declared.DayNumber.{DayNumber}
 use Rattle.day_number.specs.Answer.{dayNumberAndFraction}
 use Rattle.day_number.specs.MinusZero.{minusZero}
@@ -92,7 +92,7 @@ normal-step κ k = go (lt z nought)
     borrowed : Unsigned w
     borrowed = add-unsigned _ (add-fits binary64 rest' (add binary64 (sub binary64 one (borrowSum s)) s)) more
 
-    go : (b : Bool) → Unsigned (cond {A = Normalized} b (moved 1 (carryDay (kahanOf (borrowSum s) w) w)) (moved 0 (carryDay (kahanOf s z) z)) .fraction)
+    go : (b : Bool) → Unsigned (cond {A = Normalized} b (besideBorrowed 1 (carryDay (kahanOf (borrowSum s) w) w)) (besideBorrowed 0 (carryDay (kahanOf s z) z)) .fraction)
     go true = carry-step (kahanOf (borrowSum s) w) w borrowed (record { sum = more; correction = sub-fits binary64 w (borrowSum s) })
     go false = carry-step (kahanOf s z) z (add-unsigned (κ .correction) (k .correction) (k .sum)) (record { sum = k .sum; correction = sub-fits binary64 z s })
 

@@ -19,7 +19,7 @@ use Rattle.rounding.proofs.Own.{Rep, rep-flip}
 use Rattle.rounding.proofs.Optimal.{step}
 use Rattle.rounding.proofs.Relative.{grid-step, step-has}
 use Rattle.rounding.proofs.Nearest.{RN, rn-le, rn-ge}
-use Rattle.rounding.proofs.TwoSumFloat.{At, at}
+use Rattle.rounding.proofs.TwoSumFloat.{At, rounds-at}
 use Rattle.rounding.proofs.Compare.{le-true, le-show}
 use Rattle.day_number.specs.DayNumber.{c-djmin, c-djmax, inJulianRange, accepted}
 use Rattle.day_number.proofs.Units.{E, E-L, E-pos, min-L, max-L}
@@ -142,7 +142,7 @@ far = lit< tt
 
 module _ (x y : Float) (p n q m : ℕ) (vx : Val x p n L) (vy : Val y q m L) (h1 : p + q ≤ n + m + 8000000000 * E) (h2 : n + m ≤ p + q + 548556 * E) where
   rounded : At (add binary64 x y) (p + q) (n + m) (2 ^ 64 * L)
-  rounded = at far (omega (arith, E-L)) (omega (arith, E-L)) (add-rounds binary64 L-pos vx vy)
+  rounded = rounds-at far (omega (arith, E-L)) (omega (arith, E-L)) (add-rounds binary64 L-pos vx vy)
 
   pub accepts : accepted x y ≡ true
   unfolding accepted inJulianRange

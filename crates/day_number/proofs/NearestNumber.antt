@@ -10,7 +10,7 @@ use Rattle.rounding.specs.Value.{L}
 use Rattle.rounding.proofs.Value.{L-pos}
 use Rattle.rounding.proofs.Grid.{drop-le}
 use Rattle.rounding.proofs.Own.{Rep, rep-zero}
-use Rattle.rounding.proofs.Optimal.{step, cut, step-near, step-fix, step-le, step-optimal, multiple}
+use Rattle.rounding.proofs.Optimal.{step, digitsDropped, step-near, step-fix, step-le, step-optimal, multiple}
 use Rattle.rounding.proofs.Sterbenz.{rep-diff}
 use Rattle.day_number.proofs.Units.{H, H-L, W, L-W, H-W}
 
@@ -133,8 +133,8 @@ module _ (X : ℕ) (r : Rep X) (h : H ≤ X) where
 
   near-high : X < 2 ^ 50 * L → 8 * ((found X) * L) ≤ 8 * X + 5 * L
   near-high k =
-      let c : cut (X + H) ≤ 1072 = drop-le 53 (X + H) 1 1072 (lit< tt) (subst (λ (z : ℕ). X + H < z * 1) (sym two-51) (omega (arith, L-W, H-W))) in
-      let d : 2 ^ cut (X + H) ≤ 4503599627370496 * W = le-trans (pow-mono c) (le-of-eq a-quarter) in
+      let c : digitsDropped (X + H) ≤ 1072 = drop-le 53 (X + H) 1 1072 (lit< tt) (subst (λ (z : ℕ). X + H < z * 1) (sym two-51) (omega (arith, L-W, H-W))) in
+      let d : 2 ^ digitsDropped (X + H) ≤ 4503599627370496 * W = le-trans (pow-mono c) (le-of-eq a-quarter) in
       omega (arith, step-near (X + H) .0, down-to, L-W, H-W)
 
   few : X < 2 ^ 50 * L → (found X) < 2 ^ 53

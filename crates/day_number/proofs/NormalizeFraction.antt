@@ -9,9 +9,9 @@ use lib.Ieee.Fits.{add-fits}
 use Rattle.floats.specs.Whole.{nought, one}
 use Rattle.rounding.specs.Value.{Val}
 use Rattle.rounding.proofs.Compare.{lt-true, lt-false}
-use Rattle.rounding.proofs.Chain.{Close, Adds, exactly, close-move, close-add, close-sub}
+use Rattle.rounding.proofs.Chain.{ValClose, Adds, exactly, close-move, close-add, close-sub}
 use Rattle.day_number.specs.declared.Kahan.{Kahan}
-use Rattle.day_number.specs.DayNumber.{kahanOf, moved, normalizeFraction, carryDay, borrowSum, borrowFraction, borrowDay}
+use Rattle.day_number.specs.DayNumber.{kahanOf, besideBorrowed, normalizeFraction, carryDay, borrowSum, borrowFraction, borrowDay}
 
 -- what the last carry is handed: the sum s, and the fraction z that it makes, both near A - B
 pub record Ready (D h : ℕ) (s z : Float) (A B : ℕ) : Type 0 where
@@ -20,7 +20,7 @@ pub record Ready (D h : ℕ) (s z : Float) (A B : ℕ) : Type 0 where
   pub val : Val z p n D
   pub over : p + B ≤ n + A + 40 * h
   pub under : n + A ≤ p + B + 40 * h
-  pub sum : Close D s A B (40 * h)
+  pub sum : ValClose D s A B (40 * h)
   pub low : n ≤ p
   pub high : p < n + D + 64 * h
 
@@ -30,7 +30,7 @@ pub record Normal (D h : ℕ) (κ : Kahan) (A B : ℕ) : Type 0 where
   pub few : borrow ≤ 1
   pub sum : Float
   pub fraction : Float
-  pub is : normalizeFraction κ ≡ moved borrow (carryDay (kahanOf sum fraction) fraction)
+  pub is : normalizeFraction κ ≡ besideBorrowed borrow (carryDay (kahanOf sum fraction) fraction)
   pub ready : Ready D h sum fraction (A + borrow * D) B
   pub sum-fits : T (fits binary64 sum)
   pub fraction-fits : T (fits binary64 fraction)
@@ -40,22 +40,22 @@ pub record Normal (D h : ℕ) (κ : Kahan) (A B : ℕ) : Type 0 where
   pub fraction-is : fraction ≡ cond test (borrowFraction (κ .sum) (sub binary64 (add binary64 (κ .sum) (κ .correction)) (κ .sum))) (add binary64 (κ .sum) (κ .correction))
 
 module _ (D h : ℕ) (adds : Adds D h) (dpos : 0 < D) (one-val : Val one D 0 D) (nought-val : Val nought 0 0 D) (hs : 1024 * h ≤ D) (κ : Kahan) (A B : ℕ)
-    (fs : T (fits binary64 (κ .sum))) (a : Close D (κ .sum) A B (4 * h)) (h1 : A < B + D + 3 * h) (h2 : B + 60 * h ≤ A + D) where
+    (fs : T (fits binary64 (κ .sum))) (a : ValClose D (κ .sum) A B (4 * h)) (h1 : A < B + D + 3 * h) (h2 : B + 60 * h ≤ A + D) where
   abbrev s : Float
   s = κ .sum
 
   abbrev z : Float
   z = add binary64 (κ .sum) (κ .correction)
 
-  normal-of : (u : Bool) → Close D z A B (17 * h) → lt z nought ≡ u
-      → normalizeFraction κ ≡ cond u (moved 1 (carryDay (kahanOf (borrowSum s) (borrowFraction s (sub binary64 z s))) (borrowFraction s (sub binary64 z s)))) (moved 0 (carryDay (kahanOf s z) z)) → Normal D h κ A B
+  normal-of : (u : Bool) → ValClose D z A B (17 * h) → lt z nought ≡ u
+      → normalizeFraction κ ≡ cond u (besideBorrowed 1 (carryDay (kahanOf (borrowSum s) (borrowFraction s (sub binary64 z s))) (borrowFraction s (sub binary64 z s)))) (besideBorrowed 0 (carryDay (kahanOf s z) z)) → Normal D h κ A B
   normal-of true v test e =
       let w : v .p + 0 < 0 + v .n = lt-true dpos (v .val) nought-val test in
       let x : A < B + 17 * h = omega (arith, v .under, w) in
-      let c : Close D (sub binary64 z s) 0 0 (22 * h) = close-move (close-sub D h adds v a (omega arith) (omega arith)) (omega arith) (omega arith) in
-      let s3 : Close D (borrowSum s) (A + D) B (5 * h) = close-move (close-add D h adds a (exactly one-val) (omega arith) (omega arith)) (omega arith) (omega arith) in
-      let d : Close D (add binary64 (sub binary64 one (borrowSum s)) s) 0 0 (11 * h) = close-move (close-add D h adds (close-sub D h adds (exactly one-val) s3 (omega arith) (omega arith)) a (omega arith) (omega arith)) (omega arith) (omega arith) in
-      let g : Close D (borrowFraction s (sub binary64 z s)) (A + D) B (40 * h) =
+      let c : ValClose D (sub binary64 z s) 0 0 (22 * h) = close-move (close-sub D h adds v a (omega arith) (omega arith)) (omega arith) (omega arith) in
+      let s3 : ValClose D (borrowSum s) (A + D) B (5 * h) = close-move (close-add D h adds a (exactly one-val) (omega arith) (omega arith)) (omega arith) (omega arith) in
+      let d : ValClose D (add binary64 (sub binary64 one (borrowSum s)) s) 0 0 (11 * h) = close-move (close-add D h adds (close-sub D h adds (exactly one-val) s3 (omega arith) (omega arith)) a (omega arith) (omega arith)) (omega arith) (omega arith) in
+      let g : ValClose D (borrowFraction s (sub binary64 z s)) (A + D) B (40 * h) =
       close-move (close-add D h adds s3 (close-add D h adds c d (omega arith) (omega arith)) (omega arith) (omega arith)) (omega arith) (omega arith) in
       record {
         borrow = 1;
@@ -88,6 +88,6 @@ module _ (D h : ℕ) (adds : Adds D h) (dpos : 0 < D) (one-val : Val one D 0 D) 
         fraction-is = refl;
       }
 
-  pub normal : Close D (κ .correction) 0 0 (12 * h) → Normal D h κ A B
+  pub normal : ValClose D (κ .correction) 0 0 (12 * h) → Normal D h κ A B
   unfolding normalizeFraction borrowDay
   normal b = normal-of (lt z nought) (close-move (close-add D h adds a b (omega arith) (omega arith)) (omega arith) (omega arith)) refl refl

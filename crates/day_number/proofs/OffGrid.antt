@@ -22,7 +22,7 @@ use Rattle.day_number.proofs.Units.{H, H-L, W, L-W}
 use Rattle.day_number.proofs.SignedUnits.{has-val}
 use Rattle.day_number.proofs.NearestNumber.{Numbers}
 use Rattle.day_number.proofs.NearestInt.{plain-plus, plain-minus}
-use Rattle.day_number.proofs.Pair.{Accepted}
+use Rattle.day_number.proofs.Pair.{AcceptedSum}
 use Rattle.day_number.proofs.Accepted.{accepted-pair}
 use Rattle.day_number.proofs.DayInRange.{total-is, number-is}
 use Rattle.day_number.proofs.Answer.{answer-is}
@@ -50,7 +50,7 @@ module _ (x y : Float) (fx : T (fits binary64 x)) (fy : T (fits binary64 y)) (e 
   unfolding fractionPassed
   near-pair = go (accepted-pair x y fx fy e)
     where
-      go : Accepted x y → NearPair p n q m (dayNumber x y) (joinedFractions (rest x) (rest y) .fraction)
+      go : AcceptedSum x y → NearPair p n q m (dayNumber x y) (joinedFractions (rest x) (rest y) .fraction)
       go o =
           let k = o .near in
           let ex = val-unique (has-val x (k .s) (k .X) L (k .vx)) vx in

@@ -34,7 +34,7 @@ pub record Near (x y : Float) (up more down units : ℕ) : Type 0 where
   pub under : H + (plus-of s X + minus-of s A * L) + (plus-of t Y + minus-of t B * L) + down * L ≤ units + (minus-of s X + plus-of s A * L + (minus-of t Y + plus-of t B * L) + up * L) + more * L + 8 * W
 
 -- what is shown of every accepted pair
-pub record Accepted (x y : Float) : Type 0 where
+pub record AcceptedSum (x y : Float) : Type 0 where
   pub up : ℕ
   pub few : up ≤ 2
   pub carry : sumFractions (rest x) (rest y) .carry ≡ up
@@ -55,7 +55,7 @@ small-e = omega (arith, L-W)
 
 module _ (x y : Float) (s t : Bool) (X Y A B : ℕ) (vx : HasValue x s X L) (vy : HasValue y t Y L) (wx : Whole (nearestInt x) s X A) (wy : Whole (nearestInt y) t Y B)
     (r : SumInRange (plus-of s X + plus-of t Y) (minus-of s X + minus-of t Y)) where
-  pub off : X < 2 ^ 50 * L → Y < 2 ^ 50 * L → Accepted x y
+  pub off : X < 2 ^ 50 * L → Y < 2 ^ 50 * L → AcceptedSum x y
   off hx hy =
       let fx = off-size s X A (wx .numbers) hx in
       let fy = off-size t Y B (wy .numbers) hy in

@@ -20,7 +20,7 @@ use Rattle.day_number.proofs.NearestInt.{Whole}
 use Rattle.day_number.proofs.JulianRange.{SumInRange}
 use Rattle.day_number.proofs.Parts.{GridNumbers, left-grid}
 use Rattle.day_number.proofs.IntegerSum.{Bounded, bounded, sums}
-use Rattle.day_number.proofs.Pair.{Accepted}
+use Rattle.day_number.proofs.Pair.{AcceptedSum}
 
 -- the exact sum is in the range, to within 1/8
 pub record GridRange (P N : ℕ) : Type 0 where
@@ -93,7 +93,7 @@ module _ (x y : Float) (s t : Bool) (X Y P Q A B : ℕ) (vx : HasValue x s P S) 
       let k = grid-split in
       bounded S (2 ^ 51) (2 ^ 49) 0 (plus-of s P) (minus-of s P) (plus-of t Q) (minus-of t Q) (plus-of s A) (minus-of s A) (plus-of t B) (minus-of t B) (k .up) (k .more) (k .down) (k .units) refl refl (lit< tt) (lit≤ tt) (k .below) (k .over) (k .under) (r .high) (r .low)
 
-  pub grid : Accepted x y
+  pub grid : AcceptedSum x y
   unfolding L
   grid =
       let k = grid-split in

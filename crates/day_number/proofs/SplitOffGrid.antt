@@ -10,10 +10,10 @@ use lib.Ieee.Bits.{ofBits-fits}
 use Rattle.floats.specs.Whole.{nought}
 use Rattle.rounding.specs.Value.{Val, L}
 use Rattle.rounding.proofs.Value.{L-pos, val-move, val-unique}
-use Rattle.rounding.proofs.Chain.{Close}
+use Rattle.rounding.proofs.Chain.{ValClose}
 use Rattle.day_number.specs.declared.Summed.{Summed}
 use Rattle.day_number.specs.declared.Normalized.{Normalized}
-use Rattle.day_number.specs.DayNumber.{kahanStart, kahanOf, addFraction, sumFractions, moved, carryDay, joinedFractions, borrowFraction}
+use Rattle.day_number.specs.DayNumber.{kahanStart, kahanOf, addFraction, sumFractions, besideBorrowed, carryDay, joinedFractions, borrowFraction}
 use Rattle.day_number.proofs.Units.{H, H-L, W, L-W, W-pos, Z, Z-W, one-L, half-L, nought-L}
 use Rattle.day_number.proofs.SumFractions.{Stage, Both, first, both}
 use Rattle.day_number.proofs.NormalizeFraction.{Normal, normal}
@@ -68,10 +68,10 @@ module _ (f g : Float) (ff : T (fits binary64 f)) (fg : T (fits binary64 g)) (P 
           last u e p n a b o w (v, c, t) = (u + v, c ∙ ap (λ (z : ℕ). z + v) (e ∙ plain u), join u v _ p n a b o w t)
 
   -- the fraction that the last step takes
-  close-fraction : (b : Both L (2 * W) (sumFractions f g) (H + P + Q) (N + M)) → (n : Normal L (2 * W) (sumFractions f g .kahan) (H + P + Q) (N + M + b .up * L)) → Close L (n .fraction) (H + P + Q + n .borrow * L) (N + M + b .up * L) (8 * W)
+  close-fraction : (b : Both L (2 * W) (sumFractions f g) (H + P + Q) (N + M)) → (n : Normal L (2 * W) (sumFractions f g .kahan) (H + P + Q) (N + M + b .up * L)) → ValClose L (n .fraction) (H + P + Q + n .borrow * L) (N + M + b .up * L) (8 * W)
   close-fraction b n = go two-more
     where
-      go : (up : ℕ) × (sumFractions f g .carry ≡ up) × Tot (sumFractions f g) up (H + P + Q) (N + M) (2 * Z) → Close L (n .fraction) (H + P + Q + n .borrow * L) (N + M + b .up * L) (8 * W)
+      go : (up : ℕ) × (sumFractions f g .carry ≡ up) × Tot (sumFractions f g) up (H + P + Q) (N + M) (2 * Z) → ValClose L (n .fraction) (H + P + Q + n .borrow * L) (N + M + b .up * L) (8 * W)
       go (u, e, o) =
           let x = val-unique (b .sum .val) (o .sum) in
           let y = val-unique (b .correction .val) (o .correction) in
@@ -91,14 +91,14 @@ module _ (f g : Float) (ff : T (fits binary64 f)) (fg : T (fits binary64 g)) (P 
           which : (t : Bool) → lt (add binary64 (sumFractions f g .kahan .sum) (sumFractions f g .kahan .correction)) nought ≡ t → (bo : ℕ) → bo ≡ cond t 1 0 → (z : Float)
               → z ≡ cond t (borrowFraction (sumFractions f g .kahan .sum) (sub binary64 (add binary64 (sumFractions f g .kahan .sum) (sumFractions f g .kahan .correction)) (sumFractions f g .kahan .sum))) (add binary64 (sumFractions f g .kahan .sum) (sumFractions f g .kahan .correction))
               → (up p n a b : ℕ) → Val (sumFractions f g .kahan .sum) p n L → Val (sumFractions f g .kahan .correction) a b L → a ≤ b + 64 * W → b ≤ a + 64 * W → p < n + L + 64 * W → n + 100 * W < p + L
-              → p + a + (N + M + up * L) ≤ n + b + (H + P + Q) + (2 * Z) → n + b + (H + P + Q) ≤ p + a + (N + M + up * L) + (2 * Z) → Close L z (H + P + Q + bo * L) (N + M + up * L) (8 * W)
+              → p + a + (N + M + up * L) ≤ n + b + (H + P + Q) + (2 * Z) → n + b + (H + P + Q) ≤ p + a + (N + M + up * L) + (2 * Z) → ValClose L z (H + P + Q + bo * L) (N + M + up * L) (8 * W)
           which true test bo eb z ez up p n a b vs vk k1 k2 s1 s2 o v =
               let c = borrowed-near (sumFractions f g .kahan .sum) (sumFractions f g .kahan .correction) p n a b vs vk k1 k2 s1 s2 test in
-              subst (λ (i : Float). Close L i (H + P + Q + bo * L) (N + M + up * L) (8 * W)) (sym ez) (subst (λ (i : ℕ). Close L (borrowFraction (sumFractions f g .kahan .sum) (sub binary64 (add binary64 (sumFractions f g .kahan .sum) (sumFractions f g .kahan .correction)) (sumFractions f g .kahan .sum))) (H + P + Q + i * L) (N + M + up * L) (8 * W)) (sym eb)
+              subst (λ (i : Float). ValClose L i (H + P + Q + bo * L) (N + M + up * L) (8 * W)) (sym ez) (subst (λ (i : ℕ). ValClose L (borrowFraction (sumFractions f g .kahan .sum) (sub binary64 (add binary64 (sumFractions f g .kahan .sum) (sumFractions f g .kahan .correction)) (sumFractions f g .kahan .sum))) (H + P + Q + i * L) (N + M + up * L) (8 * W)) (sym eb)
               (record { p = c .p; n = c .n; val = c .val; over = omega (arith, c .over, Z-W); under = omega (arith, c .under, Z-W) }))
           which false test bo eb z ez up p n a b vs vk k1 k2 s1 s2 o v =
               let c = kept-near (sumFractions f g .kahan .sum) (sumFractions f g .kahan .correction) p n a b vs vk k1 k2 s1 s2 in
-              subst (λ (i : Float). Close L i (H + P + Q + bo * L) (N + M + up * L) (8 * W)) (sym ez) (subst (λ (i : ℕ). Close L (add binary64 (sumFractions f g .kahan .sum) (sumFractions f g .kahan .correction)) (H + P + Q + i * L) (N + M + up * L) (8 * W)) (sym eb)
+              subst (λ (i : Float). ValClose L i (H + P + Q + bo * L) (N + M + up * L) (8 * W)) (sym ez) (subst (λ (i : ℕ). ValClose L (add binary64 (sumFractions f g .kahan .sum) (sumFractions f g .kahan .correction)) (H + P + Q + i * L) (N + M + up * L) (8 * W)) (sym eb)
               (record { p = c .p; n = c .n; val = c .val; over = omega (arith, c .over, Z-W); under = omega (arith, c .under, Z-W) }))
 
   pub split-off : Split L (8 * W) (sumFractions f g) (joinedFractions f g) (H + P + Q) (N + M)
@@ -130,7 +130,7 @@ module _ (f g : Float) (ff : T (fits binary64 f)) (fg : T (fits binary64 g)) (P 
           fin : (a c x y : ℕ) → x + (N + M + b .up * L) ≤ y + (H + P + Q + n .borrow * L) + 8 * W → y + (H + P + Q + n .borrow * L) ≤ x + (N + M + b .up * L) + 8 * W
               → Settled (carryDay (kahanOf (n .sum) (n .fraction)) (n .fraction)) (n .fraction) x y → Split L (8 * W) (sumFractions f g) (joinedFractions f g) (H + P + Q) (N + M)
           fin a c x y o u k =
-              let e : joinedFractions f g ≡ moved (n .borrow) (carryDay (kahanOf (n .sum) (n .fraction)) (n .fraction)) = n .is in
+              let e : joinedFractions f g ≡ besideBorrowed (n .borrow) (carryDay (kahanOf (n .sum) (n .fraction)) (n .fraction)) = n .is in
               subst (λ (r : Normalized). Split L (8 * W) (sumFractions f g) r (H + P + Q) (N + M)) (sym e) (record {
                 up = b .up;
                 few = b .few;

@@ -15,7 +15,7 @@ use Rattle.rounding.proofs.Chain.{Adds, exactly}
 use Rattle.day_number.specs.declared.Kahan.{Kahan}
 use Rattle.day_number.specs.declared.Carried.{Carried}
 use Rattle.day_number.specs.declared.Normalized.{Normalized}
-use Rattle.day_number.specs.DayNumber.{c-minus-eps-4, kahanOf, sumFractions, moved, carryDay, joinedFractions}
+use Rattle.day_number.specs.DayNumber.{c-minus-eps-4, kahanOf, sumFractions, besideBorrowed, carryDay, joinedFractions}
 use Rattle.day_number.proofs.Units.{S, one-S, half-S, nought-S, minus-eps-4}
 use Rattle.day_number.proofs.SumFractions.{Both, both}
 use Rattle.day_number.proofs.NormalizeFraction.{Normal, normal}
@@ -50,7 +50,7 @@ module _ (f g : Float) (P N Q M : ℕ) (vf : Val f P N S) (vg : Val g Q M S) (f1
           fin : (x y : ℕ) → x + (N + M + b .up * S) ≤ y + (2 ^ 51 + P + Q + n .borrow * S) + 40 * 0 → y + (2 ^ 51 + P + Q + n .borrow * S) ≤ x + (N + M + b .up * S) + 40 * 0 → y ≤ x → x < y + S + 64 * 0 → Val (n .fraction) x y S
               → Split S 0 (sumFractions f g) (joinedFractions f g) (2 ^ 51 + P + Q) (N + M)
           fin x y o u l t v =
-              let e : joinedFractions f g ≡ record { carry = 0; borrow = n .borrow; fraction = n .fraction } = n .is ∙ ap (moved (n .borrow)) (stays (kahanOf (n .sum) (n .fraction)) (n .fraction) x y v (omega arith) l) in
+              let e : joinedFractions f g ≡ record { carry = 0; borrow = n .borrow; fraction = n .fraction } = n .is ∙ ap (besideBorrowed (n .borrow)) (stays (kahanOf (n .sum) (n .fraction)) (n .fraction) x y v (omega arith) l) in
               subst (λ (r : Normalized). Split S 0 (sumFractions f g) r (2 ^ 51 + P + Q) (N + M)) (sym e) (record {
                 up = b .up;
                 few = b .few;

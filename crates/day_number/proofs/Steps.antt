@@ -9,7 +9,7 @@ use Rattle.day_number.specs.declared.Kahan.{Kahan}
 use Rattle.day_number.specs.declared.Summed.{Summed}
 use Rattle.day_number.specs.declared.Borrowed.{Borrowed}
 use Rattle.day_number.specs.declared.Carried.{Carried}
-use Rattle.day_number.specs.DayNumber.{c-minus-eps-4, c-minus-eps-2, c-djmin, c-djmax, inJulianRange, compensation, kahanStart, addFraction, sumFractions, carryDay, moved, kahanOf, borrowDay, normalizeFraction}
+use Rattle.day_number.specs.DayNumber.{c-minus-eps-4, c-minus-eps-2, c-djmin, c-djmax, inJulianRange, compensation, kahanStart, addFraction, sumFractions, carryDay, besideBorrowed, kahanOf, borrowDay, normalizeFraction}
 
 pick : {A : Type 0} (b : Bool) (x y : A) → b ≡ true → x ≡ cond b x y
 pick b x y e = sym (ap (λ (u : Bool). cond u x y) e)
@@ -93,11 +93,11 @@ module _ (κ : Kahan) where
   abbrev pub fraction : Float
   fraction = add binary64 (κ .sum) (κ .correction)
 
-  pub borrowed : lt fraction nought ≡ true → (b : Borrowed) → b ≡ borrowDay (kahanOf (κ .sum) fraction) → (r : Carried) → r ≡ carryDay (b .kahan) (b .fraction) → moved (b .borrow) r ≡ normalizeFraction κ
+  pub borrowed : lt fraction nought ≡ true → (b : Borrowed) → b ≡ borrowDay (kahanOf (κ .sum) fraction) → (r : Carried) → r ≡ carryDay (b .kahan) (b .fraction) → besideBorrowed (b .borrow) r ≡ normalizeFraction κ
   unfolding normalizeFraction
   borrowed e b eb r er =
-      ap (moved (b .borrow)) er ∙ ap (λ (w : Borrowed). moved (w .borrow) (carryDay (w .kahan) (w .fraction))) eb ∙ pick (lt fraction nought) _ _ e
+      ap (besideBorrowed (b .borrow)) er ∙ ap (λ (w : Borrowed). besideBorrowed (w .borrow) (carryDay (w .kahan) (w .fraction))) eb ∙ pick (lt fraction nought) _ _ e
 
-  pub unborrowed : lt fraction nought ≡ false → (r : Carried) → r ≡ carryDay (kahanOf (κ .sum) fraction) fraction → moved 0 r ≡ normalizeFraction κ
+  pub unborrowed : lt fraction nought ≡ false → (r : Carried) → r ≡ carryDay (kahanOf (κ .sum) fraction) fraction → besideBorrowed 0 r ≡ normalizeFraction κ
   unfolding normalizeFraction
-  unborrowed e r er = ap (moved 0) er ∙ skip (lt fraction nought) _ _ e
+  unborrowed e r er = ap (besideBorrowed 0) er ∙ skip (lt fraction nought) _ _ e

@@ -8,7 +8,7 @@ use native.Mathlib.Omega.{arith}
 use lib.Ieee.{Float, binary64, add, sub, le}
 use Rattle.rounding.specs.Value.{Val}
 use Rattle.rounding.proofs.Compare.{le-true, le-false}
-use Rattle.rounding.proofs.Chain.{Close, Adds, exactly, close-move, close-add, close-sub}
+use Rattle.rounding.proofs.Chain.{ValClose, Adds, exactly, close-move, close-add, close-sub}
 use Rattle.floats.specs.Whole.{abs, nought, half, one}
 use Rattle.day_number.specs.declared.Kahan.{Kahan}
 use Rattle.day_number.specs.declared.Summed.{Summed}
@@ -19,23 +19,23 @@ pub record Stage (D h : ℕ) (k : Summed) (c A B e ek : ℕ) : Type 0 where
   pub up : ℕ
   pub few : up ≤ 1
   pub carry : k .carry ≡ c + up
-  pub sum : Close D (k .kahan .sum) A (B + up * D) (e + 2 * h)
-  pub correction : Close D (k .kahan .correction) 0 0 (ek + 2 * e + 4 * h)
+  pub sum : ValClose D (k .kahan .sum) A (B + up * D) (e + 2 * h)
+  pub correction : ValClose D (k .kahan .correction) 0 0 (ek + 2 * e + 4 * h)
   pub high : A < B + up * D + D + (e + h)
   pub reach : 1 ≤ up → B + up * D ≤ A + (e + h)
 
 module _ (D h : ℕ) (adds : Adds D h) (dpos : 0 < D) (one-val : Val one D 0 D) (hs : 64 * h ≤ D) where
   -- what the sum lost, off by no more than this
-  lost : (s f t : Float) (A B Q M e : ℕ) → Close D s A B e → Val f Q M D → Close D t (A + Q) (B + M) (e + h)
-      → e ≤ 2 * h → A < B + D + 8 * h → B + 8 * h < A + D → Q ≤ M + D → M ≤ Q + D → Close D (compensation s f t) 0 0 (2 * e + 3 * h)
+  lost : (s f t : Float) (A B Q M e : ℕ) → ValClose D s A B e → Val f Q M D → ValClose D t (A + Q) (B + M) (e + h)
+      → e ≤ 2 * h → A < B + D + 8 * h → B + 8 * h < A + D → Q ≤ M + D → M ≤ Q + D → ValClose D (compensation s f t) 0 0 (2 * e + 3 * h)
   unfolding compensation
   lost s f t A B Q M e a v c he h1 h2 h3 h4 = go (le (abs f) (abs s))
     where
-      go : (b : Bool) → Close D (cond b (add binary64 (sub binary64 s t) f) (add binary64 (sub binary64 f t) s)) 0 0 (2 * e + 3 * h)
+      go : (b : Bool) → ValClose D (cond b (add binary64 (sub binary64 s t) f) (add binary64 (sub binary64 f t) s)) 0 0 (2 * e + 3 * h)
       go true = close-move (close-add D h adds (close-sub D h adds a c (omega arith) (omega arith)) (exactly v) (omega arith) (omega arith)) (omega arith) (omega arith)
       go false = close-move (close-add D h adds (close-sub D h adds (exactly v) c (omega arith) (omega arith)) a (omega arith) (omega arith)) (omega arith) (omega arith)
 
-  settle : (u : Bool) (x y : Float) (c A B e ek : ℕ) → le one x ≡ u → Close D x A B (e + h) → Close D y 0 0 (ek + 2 * e + 4 * h) → e ≤ 2 * h → A + 8 * h < B + 2 * D + 8 * h → B ≤ A + 2 * D
+  settle : (u : Bool) (x y : Float) (c A B e ek : ℕ) → le one x ≡ u → ValClose D x A B (e + h) → ValClose D y 0 0 (ek + 2 * e + 4 * h) → e ≤ 2 * h → A + 8 * h < B + 2 * D + 8 * h → B ≤ A + 2 * D
       → Stage D h (cond u (record { carry = c + 1; kahan = record { sum = sub binary64 x one; correction = y } }) (record { carry = c; kahan = record { sum = x; correction = y } })) c A B e ek
   settle true x y c A B e ek test t r he h1 h2 =
       let w : D + t .n ≤ t .p + 0 = le-true dpos one-val (t .val) test in
@@ -65,12 +65,12 @@ module _ (D h : ℕ) (adds : Adds D h) (dpos : 0 < D) (one-val : Val one D 0 D) 
       plain : (c : ℕ) → c + 0 ≡ c
       plain c = omega arith
 
-  pub stage : (c : ℕ) (κ : Kahan) (f : Float) (A B Q M e ek : ℕ) → Close D (κ .sum) A B e → Close D (κ .correction) 0 0 ek → Val f Q M D
+  pub stage : (c : ℕ) (κ : Kahan) (f : Float) (A B Q M e ek : ℕ) → ValClose D (κ .sum) A B e → ValClose D (κ .correction) 0 0 ek → Val f Q M D
       → e ≤ 2 * h → ek ≤ 12 * h → A < B + D + 8 * h → B + 8 * h < A + D → Q + 16 * h ≤ M + D → M ≤ Q + D → Stage D h (addFraction c κ f) c (A + Q) (B + M) e ek
   unfolding addFraction
   stage c κ f A B Q M e ek a b v he hk h1 h2 h3 h4 =
       let s = κ .sum in
-      let t : Close D (add binary64 s f) (A + Q) (B + M) (e + h) = close-move (close-add D h adds a (exactly v) (omega arith) (omega arith)) refl (omega arith) in
+      let t : ValClose D (add binary64 s f) (A + Q) (B + M) (e + h) = close-move (close-add D h adds a (exactly v) (omega arith) (omega arith)) refl (omega arith) in
       let l = lost s f (add binary64 s f) A B Q M e a v t he h1 h2 (omega arith) h4 in
       let r = close-add D h adds b l (omega arith) (omega arith) in
       settle (le one (add binary64 s f)) (add binary64 s f) (add binary64 (κ .correction) (compensation s f (add binary64 s f))) c (A + Q) (B + M) e ek refl t (close-move r refl (omega arith)) he (omega arith) (omega arith)
@@ -80,8 +80,8 @@ pub record Both (D h : ℕ) (k : Summed) (A B : ℕ) : Type 0 where
   pub up : ℕ
   pub few : up ≤ 2
   pub carry : k .carry ≡ up
-  pub sum : Close D (k .kahan .sum) A (B + up * D) (4 * h)
-  pub correction : Close D (k .kahan .correction) 0 0 (12 * h)
+  pub sum : ValClose D (k .kahan .sum) A (B + up * D) (4 * h)
+  pub correction : ValClose D (k .kahan .correction) 0 0 (12 * h)
   pub high : A < B + up * D + D + 3 * h
   pub low : B + up * D + 60 * h ≤ A + D
 

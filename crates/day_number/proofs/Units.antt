@@ -9,6 +9,7 @@ use lib.Pow.{pow-pos}
 use lib.Ieee.{neg, div, ofBits}
 use Rattle.floats.specs.Whole.{nought, half, one}
 use Rattle.rounding.specs.Value.{Val, L}
+unfoldable pub use Rattle.rounding.specs.Value.{H}
 use Rattle.day_number.specs.DayNumber.{c-minus-eps-4, c-minus-eps-2, c-djmin, c-djmax}
 
 abbrev pub G : ℕ
@@ -21,10 +22,7 @@ S = 2 ^ 52
 abbrev pub C : ℕ
 C = 2 ^ 1022
 
--- 1/2, 1/8, 2 ^ -54 and 2 ^ -93 in units of 2 ^ -1074; shut, since `omega` takes no number so large
-unfoldable pub H : ℕ
-H = 2 ^ 1073
-
+-- 1/8, 2 ^ -54 and 2 ^ -93 in units of 2 ^ -1074, as H is 1/2; shut, since `omega` takes no number so large
 unfoldable pub E : ℕ
 E = 2 ^ 1071
 

@@ -81,8 +81,8 @@ carryDay kahan fraction =
     cond (lt (sub binary64 fraction one) c-minus-eps-4) (record { carry = 0; fraction = fraction }) (carryEnd (add binary64 sum correction))
 
 -- the days carried at the end beside those borrowed before
-abbrev pub moved : ℕ → Carried → Normalized
-moved borrow end = record { carry = end .carry; borrow = borrow; fraction = end .fraction }
+abbrev pub besideBorrowed : ℕ → Carried → Normalized
+besideBorrowed borrow end = record { carry = end .carry; borrow = borrow; fraction = end .fraction }
 
 -- the sum with what its fraction differs from it
 abbrev pub kahanOf : Float → Float → Kahan
@@ -93,7 +93,7 @@ unfolding lt borrowDay carryDay add sub
 normalizeFraction kahan =
     let fraction = add binary64 (kahan .sum) (kahan .correction) in
     let more = borrowDay (kahanOf (kahan .sum) fraction) in
-    cond (lt fraction nought) (moved (more .borrow) (carryDay (more .kahan) (more .fraction))) (moved 0 (carryDay (kahanOf (kahan .sum) fraction) fraction))
+    cond (lt fraction nought) (besideBorrowed (more .borrow) (carryDay (more .kahan) (more .fraction))) (besideBorrowed 0 (carryDay (kahanOf (kahan .sum) fraction) fraction))
 
 -- a part less its whole number
 unfoldable pub rest : Float → Float

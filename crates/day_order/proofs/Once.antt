@@ -17,13 +17,14 @@ use Rattle.rounding.proofs.Signed.{dist, dist-le, signed-dist}
 use Rattle.rounding.proofs.Own.{Rep, val-rep, val-small}
 use Rattle.rounding.proofs.Sterbenz.{rounds-rep}
 use Rattle.rounding.proofs.Nearest.{rn-le, rn-ge}
-use Rattle.rounding.proofs.TwoSumFloat.{At, at, Exact}
+use Rattle.rounding.proofs.TwoSumFloat.{At, rounds-at, Exact}
 use Rattle.rounding.proofs.Compensated.{compensated, compensated-either}
 use Rattle.rounding.proofs.Compare.{lt-true, lt-false, le-true}
 use Rattle.rounding.proofs.Near.{sum-near}
-use Rattle.day_number.specs.DayNumber.{compensation, addFraction, normalizeFraction, borrowDay, borrowSum, borrowFraction, carryDay, kahanOf, moved}
+use Rattle.day_number.specs.DayNumber.{compensation, addFraction, normalizeFraction, borrowDay, borrowSum, borrowFraction, carryDay, kahanOf, besideBorrowed}
 use Rattle.day_number.proofs.Units.{H, H-L, W, L-W, W-pos, one-L, half-L, nought-L}
 use Rattle.day_number.proofs.CarryDay.{Settled, settled, minus-one}
+pub use Rattle.day_number.proofs.Ends.{nought-fits}
 
 -- with A - B the exact sum: z is A - B + down - up rounded once, which lies from 0 to 1, and the fraction is z less the days `more` carried at the end
 pub record Once (up more down : ℕ) (fraction : Float) (A B : ℕ) : Type 0 where
@@ -42,10 +43,6 @@ pub again : {y z : Float} {P N : ℕ} → T (fits binary64 y) → Val y P N L �
 again {y} {z} {P} {N} f v r =
     let e = signed-dist (r .sign) (r .size) P N (r .is) in
     rounds-rep r (subst Rep e (val-rep f v)) (subst (λ (x : ℕ). x < 2 ^ 2098) e (val-small f v))
-
-pub nought-fits : T (fits binary64 nought)
-unfolding ofBits
-nought-fits = ofBits-fits binary64 0
 
 pub half-fits : T (fits binary64 half)
 unfolding ofBits
@@ -88,7 +85,7 @@ near {z} {P} {N} {p} {n} u l r v =
 module _ (s z : Float) (up down A B a b : ℕ) (fs : T (fits binary64 s)) (fz : T (fits binary64 z)) (r : Rounds binary64 z (A + down * L) (B + up * L) L) (vs : Val s a b L)
     (low : B + up * L ≤ A + down * L) (high : A + down * L ≤ B + up * L + L) (k1 : a + (B + up * L) ≤ b + (A + down * L) + 1024 * W) (k2 : b + (A + down * L) ≤ a + (B + up * L) + 1024 * W) where
   found : At z (A + down * L) (B + up * L) (2 * L)
-  found = at far2 (omega arith) (omega arith) r
+  found = rounds-at far2 (omega arith) (omega arith) r
 
   finish : Once up (carryDay (kahanOf s z) z .carry) down (carryDay (kahanOf s z) z .fraction) A B
   finish =
@@ -180,7 +177,7 @@ module _ (s t : Float) (up A B p n a b : ℕ) (fs : T (fits binary64 s)) (vs : V
   normal f g = go (lt z nought) f g
     where
       go : (u : Bool) → (u ≡ true → Borrows z p n a b) → (u ≡ false → (n + b ≤ p + a) × (p + a ≤ n + b + L))
-          → Once up (cond u (moved 1 (carryDay (kahanOf (borrowSum s) fr) fr)) (moved 0 (carryDay (kahanOf s z) z)) .carry) (cond u (moved 1 (carryDay (kahanOf (borrowSum s) fr) fr)) (moved 0 (carryDay (kahanOf s z) z)) .borrow) (cond u (moved 1 (carryDay (kahanOf (borrowSum s) fr) fr)) (moved 0 (carryDay (kahanOf s z) z)) .fraction) A B
+          → Once up (cond u (besideBorrowed 1 (carryDay (kahanOf (borrowSum s) fr) fr)) (besideBorrowed 0 (carryDay (kahanOf s z) z)) .carry) (cond u (besideBorrowed 1 (carryDay (kahanOf (borrowSum s) fr) fr)) (besideBorrowed 0 (carryDay (kahanOf s z) z)) .borrow) (cond u (besideBorrowed 1 (carryDay (kahanOf (borrowSum s) fr) fr)) (besideBorrowed 0 (carryDay (kahanOf s z) z)) .fraction) A B
       go true f g = borrowed (f refl)
       go false f g = let h = g refl in kept (h .0) (h .1)
 
@@ -265,7 +262,7 @@ module _ (g : Float) (Q M c : ℕ) (fg : T (fits binary64 g)) (vg : Val g Q M L)
 
   most : (p n : ℕ) → Val (add binary64 half g) p n L → p ≤ n + L
   most p n v =
-      let f = at far2 (omega (arith, H-L)) (omega (arith, H-L)) r1 in
+      let f = rounds-at far2 (omega (arith, H-L)) (omega (arith, H-L)) r1 in
       go (f .p) (f .n) (val-unique v (f .val)) (rn-le L 0 (val-rep one-fits one-L) (f .rn) (omega (arith, H-L)))
     where
       go : (x y : ℕ) → p + y ≡ x + n → x + 0 ≤ L + y → p ≤ n + L
@@ -300,7 +297,7 @@ module _ (g : Float) (Q M c : ℕ) (fg : T (fits binary64 g)) (vg : Val g Q M L)
 
           less : lt (add binary64 (temp c half g) (corr c half g)) nought ≡ true → Borrows (add binary64 (temp c half g) (corr c half g)) p n a b
           less h =
-              let f = at far2 (omega (arith, H-L)) (omega arith) (add-rounds binary64 L-pos vt v) in
+              let f = rounds-at far2 (omega (arith, H-L)) (omega arith) (add-rounds binary64 L-pos vt v) in
               let x : f .p + 0 < 0 + f .n = lt-true L-pos (f .val) nought-L h in
               let y : 0 + f .n ≤ f .p + 0 = rn-ge 0 0 (val-rep nought-fits nought-L) (f .rn) (omega arith) in
               let z : ⊥ = omega arith in absurd z

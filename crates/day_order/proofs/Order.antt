@@ -13,7 +13,7 @@ use Rattle.rounding.specs.Value.{Val, Rounds, L, plusZ, minusZ}
 use Rattle.rounding.proofs.Value.{L-pos, val-unique}
 use Rattle.rounding.proofs.Own.{val-rep, own, own-val}
 use Rattle.rounding.proofs.Nearest.{rn-le, rn-ge}
-use Rattle.rounding.proofs.TwoSumFloat.{at}
+use Rattle.rounding.proofs.TwoSumFloat.{rounds-at}
 use Rattle.rounding.proofs.Bound.{rounds-mono}
 use Rattle.rounding.proofs.Compare.{le-says}
 use Rattle.day_number.specs.declared.DayNumber.{DayNumber}
@@ -35,7 +35,7 @@ record Rest (D E zp zn : ℕ) : Type 0 where
 
 rest-of : {z : Float} {D E zp zn : ℕ} → Rounds binary64 z D E L → Val z zp zn L → E ≤ D → D ≤ E + L → Rest D E zp zn
 rest-of {z} {D} {E} {zp} {zn} r v low high =
-    let f = at far2 (omega arith) (omega arith) r in
+    let f = rounds-at far2 (omega arith) (omega arith) r in
     let e = val-unique v (f .val) in
     record {
       low = up (f .p) (f .n) e (rn-ge 0 0 (val-rep nought-fits nought-L) (f .rn) (omega arith));

@@ -21,7 +21,7 @@ use Rattle.day_number.proofs.SignedUnits.{has-val}
 use Rattle.day_number.proofs.NearestNumber.{Numbers}
 use Rattle.day_number.proofs.NearestInt.{Whole, plain-plus, plain-minus}
 use Rattle.day_number.proofs.Parts.{rest-fits, left-off, off-size}
-use Rattle.day_number.proofs.Pair.{Accepted}
+use Rattle.day_number.proofs.Pair.{AcceptedSum}
 use Rattle.day_number.proofs.Accepted.{accepted-pair}
 use Rattle.day_number.proofs.JulianRange.{SumInRange, exact-sum, accepted-lo, accepted-hi}
 use Rattle.day_number.proofs.DayInRange.{total-is}
@@ -193,7 +193,7 @@ module _ (a b : Float) (w : WholeHalves a) (fb : T (fits binary64 b)) (sb : T (l
   pub place : Place a b (p + q) (n + m)
   place = go (accepted-pair a b (w .held) fb acc)
     where
-      go : Accepted a b → Place a b (p + q) (n + m)
+      go : AcceptedSum a b → Place a b (p + q) (n + m)
       go o =
           let k = o .near in
           let ky = small (k .Y) (le-says L-pos (has-val (abs b) false (k .Y) L (abs-has b (k .t) (k .Y) L (k .vy))) one-L sb) in

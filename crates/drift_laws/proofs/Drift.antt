@@ -24,13 +24,13 @@ use Rattle.julian.proofs.Midnights.{zero-point-val}
 use Rattle.tai_utc.specs.Table.{Row, fixed}
 use Rattle.tai_utc.specs.Leap.{offsets, driftRate, leapAmount}
 use Rattle.tai_utc.specs.declared.DayOffsets.{DayOffsets}
-use Rattle.scale_laws.specs.Meaning.{day}
+use Rattle.rounding.specs.Picoseconds.{dayPs}
 use Rattle.utc_scales.specs.Dates.{offsetsOf}
 use Rattle.utc_scales.specs.UtcTai.{stretchDayFraction, taiFromMidnight, taiFraction, utcToTai}
 use Rattle.utc_scales.proofs.Midnights.{midnightOfDay}
 use Rattle.utc_scales.proofs.Steps.{tai-of-day}
 use Rattle.drift_laws.specs.Drift.{rowOn, NoStep, DriftDate, driftPs, OnLine}
-use Rattle.tai_round_trip.proofs.Kept.{first-larger, changed}
+use Rattle.tai_round_trip.proofs.Kept.{first-larger, kept-changed}
 use Rattle.drift_laws.proofs.Days.{Offsets, offsets-near}
 use Rattle.drift_laws.proofs.Located.{Located, located}
 use Rattle.drift_laws.proofs.Seconds.{dayFs, Sec, sec-move, drift-near, leap-near, Factor, factor}
@@ -38,7 +38,7 @@ use Rattle.drift_laws.proofs.Products.{in-days, Summed, summed}
 use Rattle.drift_laws.proofs.Rows.{Bounds, row-bounds, rowPlus, rowMinus, halfDrift, whole-drift, size-high, size-low, at-midnight, at-noon, no-step}
 
 -- ---- 77 / 100 of 10^-10 s are 77 ps
-by-hundred : (a b x y g : ℕ) → 100 * a ≤ 100 * b + 77 * L → x ≡ 2 * a + g → y ≡ 2 * b + g → day * x ≤ day * y + driftPs * (1728000000000000 * L)
+by-hundred : (a b x y g : ℕ) → 100 * a ≤ 100 * b + 77 * L → x ≡ 2 * a + g → y ≡ 2 * b + g → dayPs * x ≤ dayPs * y + driftPs * (1728000000000000 * L)
 by-hundred a b x y g h e f = omega arith
 
 -- ---- the days from jd1 to its midnight are none
@@ -119,7 +119,7 @@ module _ (n : ℕ) {d : JulianDate} (k : DriftDate n d) where
 
     is : utcToTai fixed d ≡ answer (julian (d .jd1) t)
     unfolding utcToTai
-    is = changed (taiFraction fixed) (d .jd1) (d .jd2) t (first-larger first (at .second) (omega (arith, at .below, large)) (omega arith)) given
+    is = kept-changed (taiFraction fixed) (d .jd1) (d .jd2) t (first-larger first (at .second) (omega (arith, at .below, large)) (omega arith)) given
 
     -- ---- the line, in the numbers of the sum
     line-at : (x : ℕ) → 2 * (864000000000000 + r .rate) * x ≡ 2 * (864000000000000 * x) + 2 * (r .rate * x)

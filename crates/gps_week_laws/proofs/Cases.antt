@@ -15,7 +15,7 @@ use Rattle.julian.specs.JulianDate.{julian}
 use Rattle.julian.specs.Finite.{finiteJd}
 use Rattle.time_of_day.specs.TimeShown.{fromZero}
 use Rattle.gps_weeks.specs.declared.WeekTime.{WeekTime}
-use Rattle.gps_weeks.specs.WeekDate.{firstDay}
+use Rattle.gps_weeks.specs.WeekDate.{firstDay, partOfDay}
 use Rattle.gps_weeks.specs.WeekOf.{weekTime, productOf, dayMillis, weekAt, weekOfDay, weekOf}
 
 -- ---- the dates on which weeks begin
@@ -34,6 +34,13 @@ week-1024-begins-1999-08-22 = has-date (pos 1999) (pos 8) (pos 22) (pos 51412) r
 pub week-2048-begins-2019-04-07 : dateOf (pos (firstDay + 7 * 2048)) ≡ date (pos 2019) 4 7
 unfolding mjdOf mjdNumber civilCount validDate onward daysInMonth lengths
 week-2048-begins-2019-04-07 = has-date (pos 2019) (pos 4) (pos 7) (pos 58580) refl refl
+
+-- ---- a day's part is divided once
+
+-- 27 ms: divided by 1000 and then by 86400, or taken times the float nearest to 1 / 86400000, it is the float below
+pub divided-once : partOfDay 27 ≡ ofBits binary64 0x3e94_f8b5_88e3_68f1
+unfolding partOfDay round ofBits
+divided-once = refl
 
 -- ---- the edges
 

@@ -12,7 +12,7 @@ use Rattle.rounding.proofs.Value.{L-pos}
 use Rattle.rounding.proofs.Casts.{plusZ, minusZ}
 use Rattle.rounding.proofs.Scaled.{Scaled, mul-near}
 use Rattle.time_of_day.specs.TimeShown.{fromZero}
-use Rattle.time_of_day.proofs.Rounded.{Whole, away-nearest, rounded}
+use Rattle.time_of_day.proofs.Rounded.{IsWhole, away-nearest, rounded}
 use Rattle.gps_weeks.specs.WeekOf.{productOf, dayMillis}
 use Rattle.gps_weeks.proofs.Parts.{day-millis-val}
 
@@ -60,7 +60,7 @@ module _ (f : Float) (F : ℕ) (v : Val f F 0 L) (below : F < L) where
   unfolding h
   p-under = product .under
 
-  whole : Whole (toSigned 63 (toWhole away (productOf f))) (product .p) (product .n)
+  whole : IsWhole (toSigned 63 (toWhole away (productOf f))) (product .p) (product .n)
   whole = rounded away away-nearest (product .val) (omega (arith, high, L-pos)) (omega (arith, low, L-pos))
     where
       high : product .p ≤ product .n + 86400001 * L
@@ -70,7 +70,7 @@ module _ (f : Float) (F : ℕ) (v : Val f F 0 L) (below : F < L) where
       low = omega (arith, h-le, p-under)
 
   -- no fraction has a count below 0
-  count-pos : (z : ℤ) → Whole z (product .p) (product .n) → CountNear F (fromZero z)
+  count-pos : (z : ℤ) → IsWhole z (product .p) (product .n) → CountNear F (fromZero z)
   unfolding fromZero
   count-pos (pos k) w = record {
     over = over k (k * L) (w .over);

@@ -26,55 +26,50 @@ use Rattle.julian.specs.Worth.{Worth, SmallParts}
 use Rattle.time_of_day.proofs.Fractions.{one-val}
 use Rattle.gps_weeks.specs.declared.WeekTime.{WeekTime}
 use Rattle.gps_weeks.specs.WeekOf.{weekTime, dayMillis, weekAt, weekOfDay, weekOf}
-use Rattle.gps_week_laws.specs.NearDate.{millisSince, NearWeek}
+use Rattle.gps_week_laws.specs.NearDate.{millisSince, OfCount, NearWeek}
 use Rattle.gps_week_laws.proofs.Count.{CountNear, millis-near}
 
 -- ---- what an answered week comes from
 
-pub record Counted (count : ℕ) (t : WeekTime) : Type 0 where
-  pub is : millisSince t + 211182768000000 ≡ count
-  pub week : t .week ≤ 100000
-  pub millis : t .millis < 604800000
-
-pub counted : (count : ℕ) (t : WeekTime) → weekAt count ≡ answer t → Counted count t
+pub of-count : (count : ℕ) (t : WeekTime) → weekAt count ≡ answer t → OfCount count t
 unfolding weekAt
-counted count t e = go (ltb count 211182768000000) (leb ((count - 211182768000000) / 604800000) 100000) refl refl e
+of-count count t e = go (ltb count 211182768000000) (leb ((count - 211182768000000) / 604800000) 100000) refl refl e
   where
     s : ℕ
     s = count - 211182768000000
 
-    go : (x y : Bool) → ltb count 211182768000000 ≡ x → leb (s / 604800000) 100000 ≡ y → cond x (refusal 18) (cond y (answer (weekTime (s / 604800000) (s % 604800000))) (refusal 18)) ≡ answer t → Counted count t
+    go : (x y : Bool) → ltb count 211182768000000 ≡ x → leb (s / 604800000) 100000 ≡ y → cond x (refusal 18) (cond y (answer (weekTime (s / 604800000) (s % 604800000))) (refusal 18)) ≡ answer t → OfCount count t
     go true y f g h = let z : _≡_ {A = ℕ} 0 1 = cc in absurd (omega arith)
     go false false f g h = let z : _≡_ {A = ℕ} 0 1 = cc in absurd (omega arith)
     go false true f g h =
         let k : weekTime (s / 604800000) (s % 604800000) ≡ t = cc in
         let b : 211182768000000 ≤ count = ltb-false count 211182768000000 f in
-        subst (Counted count) k (record { is = whole count b; week = leb-true (s / 604800000) 100000 g; millis = omega arith })
+        subst (OfCount count) k (record { is = whole count b; week = leb-true (s / 604800000) 100000 g; millis = omega arith })
       where
         whole : (c : ℕ) → 211182768000000 ≤ c → 604800000 * ((c - 211182768000000) / 604800000) + (c - 211182768000000) % 604800000 + 211182768000000 ≡ c
         whole c b = omega arith
 
 -- the day, its number not below 0, and the fraction
-pub record Day (d : JulianDate) (t : WeekTime) : Type 0 where
+pub record OfDay (d : JulianDate) (t : WeekTime) : Type 0 where
   pub number : DayNumber
   pub given : dayNumberAndFraction (d .jd1) (d .jd2) ≡ answer number
   pub n : ℕ
   pub is : number .day ≡ pos n
-  pub count : Counted (n * 86400000 + dayMillis (number .fraction)) t
+  pub count : OfCount (n * 86400000 + dayMillis (number .fraction)) t
 
-in-day : (z : ℤ) (ms : ℕ) (t : WeekTime) → weekOfDay z ms ≡ answer t → (n : ℕ) × (z ≡ pos n) × Counted (n * 86400000 + ms) t
+in-day : (z : ℤ) (ms : ℕ) (t : WeekTime) → weekOfDay z ms ≡ answer t → (n : ℕ) × (z ≡ pos n) × OfCount (n * 86400000 + ms) t
 unfolding weekOfDay
-in-day (pos n) ms t e = (n, refl, counted (n * 86400000 + ms) t e)
+in-day (pos n) ms t e = (n, refl, of-count (n * 86400000 + ms) t e)
 in-day (negsuc n) ms t e = let z : _≡_ {A = ℕ} 0 1 = cc in absurd (omega arith)
 
-pub day-of : (d : JulianDate) (t : WeekTime) → weekOf d ≡ answer t → Day d t
+pub of-day : (d : JulianDate) (t : WeekTime) → weekOf d ≡ answer t → OfDay d t
 unfolding weekOf finiteJd onward
-day-of d t e = go (finiteParts d) (dayNumberAndFraction (d .jd1) (d .jd2)) refl e
+of-day d t e = go (finiteParts d) (dayNumberAndFraction (d .jd1) (d .jd2)) refl e
   where
     days : Outcome DayNumber → Outcome WeekTime
     days o = onward o (λ n. weekOfDay (n .day) (dayMillis (n .fraction)))
 
-    go : (b : Bool) (o : Outcome DayNumber) → dayNumberAndFraction (d .jd1) (d .jd2) ≡ o → onward (cond b (answer d) (refusal 9)) (λ e. onward (dayNumberAndFraction (e .jd1) (e .jd2)) (λ n. weekOfDay (n .day) (dayMillis (n .fraction)))) ≡ answer t → Day d t
+    go : (b : Bool) (o : Outcome DayNumber) → dayNumberAndFraction (d .jd1) (d .jd2) ≡ o → onward (cond b (answer d) (refusal 9)) (λ e. onward (dayNumberAndFraction (e .jd1) (e .jd2)) (λ n. weekOfDay (n .day) (dayMillis (n .fraction)))) ≡ answer t → OfDay d t
     go false o f h = let z : _≡_ {A = ℕ} 0 1 = cc in absurd (omega arith)
     go true (refusal n) f h = let k : refusal n ≡ answer t = sym (ap days f) ∙ h in let z : _≡_ {A = ℕ} 0 1 = cc in absurd (omega arith)
     go true (answer n) f h =
@@ -85,7 +80,7 @@ day-of d t e = go (finiteParts d) (dayNumberAndFraction (d .jd1) (d .jd2)) refl 
 -- ---- a date's day and milliseconds against its exact sum
 
 -- |86400000 k + m - 43200000 - 86400000 (P - N) / L| ≤ 0.50000005, both sides times 20000000 L
-pub record Near (P N k m : ℕ) : Type 0 where
+pub record DaysNear (P N k m : ℕ) : Type 0 where
   pub over : 20000000 * (86400000 * (k * L) + m * L + 86400000 * N) ≤ 20000000 * (86400000 * P + 43200000 * L) + 10000001 * L
   pub under : 20000000 * (86400000 * P + 43200000 * L) ≤ 20000000 * (86400000 * (k * L) + m * L + 86400000 * N) + 10000001 * L
 
@@ -134,7 +129,7 @@ module _ (d : JulianDate) (P N : ℕ) (s : SmallParts d) (w : Worth d P N L) (nu
   pub in-a-day : dayMillis (number .fraction) ≤ 86400000
   in-a-day = millis-near (number .fraction) (near .units) (near .val) below-one .most
 
-  pub sum-near : (n : ℕ) → number .day ≡ pos n → Near P N n (dayMillis (number .fraction))
+  pub sum-near : (n : ℕ) → number .day ≡ pos n → DaysNear P N n (dayMillis (number .fraction))
   sum-near n e =
       let c = millis-near (number .fraction) (near .units) (near .val) below-one in
       let o = subst (λ (z : ℤ). 2 ^ 51 * (plusZ z * L + near .units + minusZ (i +ℤ j)) ≤ 2 ^ 51 * (plusZ (i +ℤ j) + minusZ z * L) + 2 ^ 50 * L + L) e (near .over) in
@@ -166,7 +161,7 @@ module _ (d : JulianDate) (P N : ℕ) (s : SmallParts d) (w : Worth d P N L) (nu
 -- document 02's way back, in exact numbers
 pub week-near : (d : JulianDate) (P N : ℕ) → SmallParts d → Worth d P N L → (t : WeekTime) → weekOf d ≡ answer t → NearWeek P N t
 week-near d P N s w t e =
-    let g = day-of d t e in
+    let g = of-day d t e in
     let m = dayMillis (g .number .fraction) in
     let k = sum-near d P N s w (g .number) (g .given) (g .n) (g .is) in
     let c : (millisSince t + 211182724800000) * L + 43200000 * L ≡ 86400000 * (g .n * L) + m * L = times (millisSince t) (g .n) m (g .count .is) in

@@ -18,13 +18,9 @@ use Rattle.julian.specs.Finite.{finiteParts, finiteJd}
 use Rattle.gps_weeks.specs.declared.WeekTime.{WeekTime}
 use Rattle.gps_weeks.specs.WeekDate.{weekMidnight, partOfDay, dayIn, weekDate}
 use Rattle.gps_weeks.specs.WeekOf.{weekTime, dayMillis, weekAt, weekOfDay, weekOf}
+use Rattle.gps_week_laws.specs.Decisions.{FromWeek, dated, over, AtCount, within, outside, ToWeek, not-finite, no-day, before-day-0, counted}
 
 -- ---- a week's date
-
--- answered exactly where both fields are within their limits, and else 18
-pub data FromWeek (week ms : ℕ) : Outcome JulianDate → Type 0 where
-  dated : week ≤ 100000 → ms < 604800000 → FromWeek week ms (answer (julian (weekMidnight (dayIn week ms)) (partOfDay (ms % 86400000))))
-  over : (100000 < week) ⊎ (604800000 ≤ ms) → FromWeek week ms (refusal 18)
 
 pub from-week-decided : (week ms : ℕ) → FromWeek week ms (weekDate week ms)
 unfolding weekDate
@@ -36,11 +32,6 @@ from-week-decided week ms = go (leb week 100000) (ltb ms 604800000) refl refl
     go false y f g = over (inl (leb-false week 100000 f))
 
 -- ---- a date's week
-
--- the rounded count, in milliseconds since midnight of day 0: the first week begins at 211182768000000 and the last ends at 271663372800000
-pub data AtCount (count : ℕ) : Outcome WeekTime → Type 0 where
-  within : (t : WeekTime) → 211182768000000 ≤ count → count < 271663372800000 → t .week ≤ 100000 → t .millis < 604800000 → AtCount count (answer t)
-  outside : (count < 211182768000000) ⊎ (271663372800000 ≤ count) → AtCount count (refusal 18)
 
 pub count-decided : (count : ℕ) → AtCount count (weekAt count)
 unfolding weekAt
@@ -56,15 +47,6 @@ count-decided count = go (ltb count 211182768000000) (leb ((count - 211182768000
         let k : s / 604800000 ≤ 100000 = leb-true (s / 604800000) 100000 g in
         within (weekTime (s / 604800000) (s % 604800000)) b (omega arith) k (omega arith)
     go false false f g = let k : 100000 < s / 604800000 = leb-false (s / 604800000) 100000 g in outside (inr (omega arith))
-
--- 9 exactly where a part is not finite, else 6 exactly where the rounded sum is out of document 01's range, else 18 exactly where the rounded count is before the first
--- week or past the last; a day below 0 is before the first
-pub data ToWeek (d : JulianDate) : Outcome WeekTime → Type 0 where
-  not-finite : finiteParts d ≡ false → ToWeek d (refusal 9)
-  no-day : finiteParts d ≡ true → accepted (d .jd1) (d .jd2) ≡ false → ToWeek d (refusal 6)
-  before-day-0 : (n : ℕ) → finiteParts d ≡ true → accepted (d .jd1) (d .jd2) ≡ true → dayOf (d .jd1) (d .jd2) .day ≡ negsuc n → ToWeek d (refusal 18)
-  counted : (n : ℕ) (o : Outcome WeekTime) → finiteParts d ≡ true → accepted (d .jd1) (d .jd2) ≡ true → dayOf (d .jd1) (d .jd2) .day ≡ pos n
-      → AtCount (n * 86400000 + dayMillis (dayOf (d .jd1) (d .jd2) .fraction)) o → ToWeek d o
 
 pub to-week-decided : (d : JulianDate) → ToWeek d (weekOf d)
 unfolding weekOf finiteJd onward weekOfDay

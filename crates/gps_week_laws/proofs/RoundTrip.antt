@@ -62,9 +62,10 @@ module _ (r : ℕ) (short : r < 86400000) where
   few : r * L < 86400000 * L
   few = mul-lt-mul-of-pos-right short L-pos
 
-  part : Near (partOfDay r) r 0 86400000 1021
+  -- a day's part is within 2 ^ -54 of r / 86400000
+  pub part-near : Near (partOfDay r) r 0 86400000 1021
   unfolding partOfDay
-  part = rounds-near 1021 (lit< tt) (lit≤ tt) (subst (λ (x : ℕ). r * L < 0 * L + x * 86400000) (sym top) (less (r * L) L few)) (subst (λ (x : ℕ). 0 * L < r * L + x * 86400000) (sym top) (more (r * L) L L-pos)) (record { sign = false; size = r; eq = refl; is = add-zero r })
+  part-near = rounds-near 1021 (lit< tt) (lit≤ tt) (subst (λ (x : ℕ). r * L < 0 * L + x * 86400000) (sym top) (less (r * L) L few)) (subst (λ (x : ℕ). 0 * L < r * L + x * 86400000) (sym top) (more (r * L) L L-pos)) (record { sign = false; size = r; eq = refl; is = add-zero r })
     where
       less : (a l : ℕ) → a < 86400000 * l → a < 0 * l + l * 86400000
       less a l h = omega arith
@@ -72,18 +73,18 @@ module _ (r : ℕ) (short : r < 86400000) where
       more : (a l : ℕ) → 0 < l → 0 * l < a + l * 86400000
       more a l h = omega arith
 
-  p-over : 2 * (part .p * 86400000 + 0 * L) ≤ 2 * (part .n * 86400000 + r * L) + 86400000 * g
+  p-over : 2 * (part-near .p * 86400000 + 0 * L) ≤ 2 * (part-near .n * 86400000 + r * L) + 86400000 * g
   unfolding g
-  p-over = part .over
+  p-over = part-near .over
 
-  p-under : 2 * (part .n * 86400000 + r * L) ≤ 2 * (part .p * 86400000 + 0 * L) + 86400000 * g
+  p-under : 2 * (part-near .n * 86400000 + r * L) ≤ 2 * (part-near .p * 86400000 + 0 * L) + 86400000 * g
   unfolding g
-  p-under = part .under
+  p-under = part-near .under
 
-  part-high : part .p ≤ part .n + L + g
+  part-high : part-near .p ≤ part-near .n + L + g
   part-high = omega (arith, p-over, few)
 
-  part-low : part .n ≤ part .p + g
+  part-low : part-near .n ≤ part-near .p + g
   part-low = omega (arith, p-under)
 
 -- ---- both, for the day n
@@ -92,10 +93,10 @@ module _ (n r : ℕ) (early : 2444245 ≤ n) (late : n ≤ 3144252) (short : r <
   d = julian (weekMidnight n) (partOfDay r)
 
   q : ℕ
-  q = part r short .p
+  q = part-near r short .p
 
   m : ℕ
-  m = part r short .n
+  m = part-near r short .n
 
   X : n * L ≡ 2 * n * H
   X = ap (λ (x : ℕ). n * x) H-L ∙ mul-left-comm n 2 H ∙ sym (mul-assoc 2 n H)
@@ -105,7 +106,7 @@ module _ (n r : ℕ) (early : 2444245 ≤ n) (late : n ≤ 3144252) (short : r <
 
   second : Val (partOfDay r) q m L
   unfolding q m
-  second = part r short .val
+  second = part-near r short .val
 
   low : 2444245 * L ≤ n * L
   low = mul-le-mul-right L early
@@ -141,7 +142,7 @@ module _ (n r : ℕ) (early : 2444245 ≤ n) (late : n ≤ 3144252) (short : r <
   pub day : (k : ℕ) × (number .day ≡ pos k)
   day = N.from-day-0 d (n * L + q) (H + m) small worth number given (omega (arith, low, q-low, H-L, g-le)) (number .day) refl
 
-  near : N.Near (n * L + q) (H + m) (day .0) (dayMillis (number .fraction))
+  near : N.DaysNear (n * L + q) (H + m) (day .0) (dayMillis (number .fraction))
   near = N.sum-near d (n * L + q) (H + m) small worth number given (day .0) (day .1)
 
   spread : (k x : ℕ) → (86400000 * k + x) * L ≡ 86400000 * (k * L) + x * L

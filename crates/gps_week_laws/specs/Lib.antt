@@ -1,3 +1,4 @@
 -- What the laws of GPS weeks speak of.
 pub mod NearDate
 pub mod OnCalendar
+pub mod Decisions

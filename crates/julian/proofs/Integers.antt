@@ -11,9 +11,9 @@ use Rattle.rounding.specs.Value.{Val}
 use Rattle.rounding.proofs.Casts.{plusZ, minusZ, ofInt-val}
 
 -- `mag z` is n both for n and for -(n + 1)
-pub sides : (z : ℤ) (B : ℕ) → mag z < B → (plusZ z ≤ B) × (minusZ z ≤ B)
-sides (pos n) B h = (omega arith, omega arith)
-sides (negsuc n) B h = (omega arith, omega arith)
+pub sides-mag : (z : ℤ) (B : ℕ) → mag z < B → (plusZ z ≤ B) × (minusZ z ≤ B)
+sides-mag (pos n) B h = (omega arith, omega arith)
+sides-mag (negsuc n) B h = (omega arith, omega arith)
 
 pub in-float : (z : ℤ) → mag z < 2 ^ 53 → T (inFloat binary64 z)
 unfolding inFloat
@@ -21,7 +21,7 @@ in-float (pos n) h = le→leb n (2 ^ 53) (omega arith)
 in-float (negsuc n) h = lt→ltb n (2 ^ 53) h
 
 pub integer-val : (z : ℤ) → mag z < 2 ^ 53 → Val (ofInt binary64 z) (plusZ z) (minusZ z) 1
-integer-val z h = let s = sides z (2 ^ 53) h in ofInt-val z (s .0) (s .1)
+integer-val z h = let s = sides-mag z (2 ^ 53) h in ofInt-val z (s .0) (s .1)
 
 pub integer-fits : (z : ℤ) → T (fits binary64 (ofInt binary64 z))
 unfolding ofInt

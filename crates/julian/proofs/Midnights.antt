@@ -19,13 +19,13 @@ use Rattle.constants.specs.Constants.{mjdZeroPoint}
 use Rattle.calendar.specs.Calendar.{leapYear}
 use Rattle.calendar.specs.Refusals.{validDate}
 use Rattle.calendar.specs.DayCount.{marchCount, civilCount, mjdNumber, mjdOf}
-use Rattle.calendar.proofs.Signs.{raised, at-most, lowered}
-use Rattle.calendar.proofs.Accepted.{accepted, short}
+use Rattle.calendar.proofs.Signs.{raised, at-most-i32, lowered}
+use Rattle.calendar.proofs.Accepted.{date-accepted, short}
 use Rattle.calendar.proofs.Mjd.{mjd-meaning}
 use Rattle.julian.specs.JulianDate.{julian, roundedSum}
 use Rattle.julian.specs.Calendar.{calendarToJulian}
 use Rattle.julian.specs.Midnight.{MidnightOf}
-use Rattle.julian.proofs.Integers.{sides, in-float, integer-val}
+use Rattle.julian.proofs.Integers.{sides-mag, in-float, integer-val}
 
 -- ---- a Modified Julian Date that is answered is the formula's, of a date that is not refused
 
@@ -54,12 +54,12 @@ count-small y m d a b c = go (leb m 2)
     go true = march-small (y - 1) (m + 10) d (omega arith) (omega arith) c
     go false = march-small y (m - 2) d a (omega arith) c
 
-pub mjd-small : (y m d n : ℤ) → SFits w32 y → mjdOf y m d ≡ answer n → mag n < 2 ^ 42
+pub mjd-in-42-bits : (y m d n : ℤ) → SFits w32 y → mjdOf y m d ≡ answer n → mag n < 2 ^ 42
 unfolding mjdNumber
-mjd-small y m d n f e =
+mjd-in-42-bits y m d n f e =
     let w = midnight-answered y m d n e in
-    let a = accepted y m d (w .valid) in
-    let r = raised y 4798 4800 2147483647 (lit≤ tt) (a .year) (at-most y f) in
+    let a = date-accepted y m d (w .valid) in
+    let r = raised y 4798 4800 2147483647 (lit≤ tt) (a .year) (at-most-i32 y f) in
     let h : natAbs (y +ℤ pos 4800) ≤ 2147488447 = subst (λ (z : ℤ). natAbs z ≤ 2147488447) (sym (r .is)) (r .high) in
     let k : natAbs d ≤ 31 = le-trans (a .d-high) (short (leapYear y) (natAbs m) (a .m-low) (a .m-high)) in
     let c : civilCount (natAbs (y +ℤ pos 4800)) (natAbs m) (natAbs d) ≤ 2 ^ 41 = count-small (natAbs (y +ℤ pos 4800)) (natAbs m) (natAbs d) h (a .m-high) k in
@@ -68,10 +68,10 @@ mjd-small y m d n f e =
 -- ---- so the cast to a float loses nothing
 
 pub mjd-fits : (y m d n : ℤ) → SFits w32 y → mjdOf y m d ≡ answer n → SFits w64 n
-mjd-fits y m d n f e = record { sfits = omega (arith, mjd-small y m d n f e) }
+mjd-fits y m d n f e = record { sfits = omega (arith, mjd-in-42-bits y m d n f e) }
 
 pub mjd-in-float : (y m d n : ℤ) → SFits w32 y → mjdOf y m d ≡ answer n → T (inFloat binary64 n)
-mjd-in-float y m d n f e = in-float n (omega (arith, mjd-small y m d n f e))
+mjd-in-float y m d n f e = in-float n (omega (arith, mjd-in-42-bits y m d n f e))
 
 -- ---- the midnight of a date, by the two cases of its Modified Julian Date
 
@@ -92,14 +92,14 @@ zero-point-val = record { sign = false; size = 4800001; has = (refl, refl); is =
 -- the rounded sum of the parts is not rounded: it is the first part of `from_calendar`
 pub midnight-sum : (n : ℤ) → mag n < 2 ^ 42 → Val (add binary64 mjdZeroPoint (ofInt binary64 n)) (4800001 + plusZ n * 2) (minusZ n * 2) 2
 midnight-sum n h =
-    let s = sides n (2 ^ 42) h in
+    let s = sides-mag n (2 ^ 42) h in
     val-move (add-exact 1 (lit≤ tt) (omega (arith, s .0)) (omega (arith, s .1)) zero-point-val (val-scale 2 (integer-val n (omega arith)))) (omega arith)
 
 pub midnight-of : (y m d : ℤ) → SFits w32 y → validDate y m d ≡ answer tt → (n : ℤ) × MidnightOf y m d n
 unfolding roundedSum
 midnight-of y m d f v =
     let k = mjd-meaning y m d v in
-    let h : mag (k .n) < 2 ^ 42 = mjd-small y m d (k .n) f (k .given) in
+    let h : mag (k .n) < 2 ^ 42 = mjd-in-42-bits y m d (k .n) f (k .given) in
     let w = integer-val (k .n) (omega arith) in (
       k .n,
       record {

@@ -14,7 +14,8 @@ use Rattle.rounding.proofs.Sizes.{whole-val}
 use Rattle.constants.specs.Constants.{secondsPerDay}
 use Rattle.julian.specs.declared.JulianDate.{JulianDate}
 use Rattle.julian.specs.JulianDate.{uncarried, addDays, addSeconds}
-use Rattle.julian_laws.specs.Distances.{day, UpTo, HalfDays, LaterBy}
+use Rattle.rounding.specs.Picoseconds.{dayPs}
+use Rattle.julian_laws.specs.Distances.{UpTo, HalfDays, LaterBy}
 use Rattle.julian_laws.proofs.UnixTime.{day-val}
 use Rattle.julian_laws.proofs.AddDays.{CutTo, cut-to}
 use Rattle.julian_laws.proofs.Steps.{E, L-E, H, L-H, half-val, step-add, step-sub, Times, step-div, worth-of}
@@ -31,7 +32,7 @@ module _ (d : JulianDate) (days : Float) (v1 : HalfDays (2 ^ 50) (d .jd1)) (v2 :
       → 1 * (P' + rp + (n + m)) + b ≤ 1 * (N' + rn + (p + q)) + a + 6 * e
   all p n q m a b tL tM cL cM fp fn up un rp rn P' N' e i j x y z = omega arith
 
-  in-picoseconds : (x y l e : ℕ) → l ≡ 18014398509481984 * e → x ≤ y + 6 * e → day * x ≤ day * y + 29 * (1 * l)
+  in-picoseconds : (x y l e : ℕ) → l ≡ 18014398509481984 * e → x ≤ y + 6 * e → dayPs * x ≤ dayPs * y + 29 * (1 * l)
   in-picoseconds x y l e h k = omega arith
 
   -- DAYS ADDED: at most 2 ^ 49 of them
@@ -70,10 +71,10 @@ module _ (d : JulianDate) (days : Float) (v1 : HalfDays (2 ^ 50) (d .jd1)) (v2 :
 -- ---- seconds: those of the quotient by 86,400, which is off by r units at most
 
 -- 86,400 times the days against the seconds, and the days added; s is the days' error, l a day, in units
-both : (ps x y a b p n l s : ℕ) → day * s + 29 * l ≤ ps * l → 86400 * a + 1 * n ≤ 86400 * b + 1 * p + 86400 * s → day * (1 * x + b) ≤ day * (1 * y + a) + 29 * (1 * l) → day * (86400 * x + n) ≤ day * (86400 * y + p) + ps * (86400 * l)
+both : (ps x y a b p n l s : ℕ) → dayPs * s + 29 * l ≤ ps * l → 86400 * a + 1 * n ≤ 86400 * b + 1 * p + 86400 * s → dayPs * (1 * x + b) ≤ dayPs * (1 * y + a) + 29 * (1 * l) → dayPs * (86400 * x + n) ≤ dayPs * (86400 * y + p) + ps * (86400 * l)
 both ps x y a b p n l s h k j = last x y a b p n l s (ps * l) (ps * (86400 * l)) (mul-left-comm ps 86400 l) h k j
   where
-    last : (x y a b p n l s t u : ℕ) → u ≡ 86400 * t → day * s + 29 * l ≤ t → 86400 * a + 1 * n ≤ 86400 * b + 1 * p + 86400 * s → day * (1 * x + b) ≤ day * (1 * y + a) + 29 * (1 * l) → day * (86400 * x + n) ≤ day * (86400 * y + p) + u
+    last : (x y a b p n l s t u : ℕ) → u ≡ 86400 * t → dayPs * s + 29 * l ≤ t → 86400 * a + 1 * n ≤ 86400 * b + 1 * p + 86400 * s → dayPs * (1 * x + b) ≤ dayPs * (1 * y + a) + 29 * (1 * l) → dayPs * (86400 * x + n) ≤ dayPs * (86400 * y + p) + u
     last x y a b p n l s t u i h k j = omega arith
 
 E-small : E ≤ L
@@ -90,7 +91,7 @@ many-days a b p n l e h k j = let g : a ≤ b + 100000 * l = omega arith in omeg
 
 module _ (d : JulianDate) (seconds : Float) (v1 : HalfDays (2 ^ 50) (d .jd1)) (v2 : UpTo 1 (d .jd2)) where
   -- by a quotient that is off by 2 ^ i * 2 ^ -54 day
-  by-quotient : (ps i : ℕ) (p n : ℕ) (x : Times (div binary64 seconds secondsPerDay) p n 1 86400 (2 ^ i * E)) → x .p ≤ x .n + 2 ^ 49 * L → x .n ≤ x .p + 2 ^ 49 * L → day * (2 ^ i * E) + 29 * L ≤ ps * L → LaterBy ps p n 86400 d (addSeconds d seconds)
+  by-quotient : (ps i : ℕ) (p n : ℕ) (x : Times (div binary64 seconds secondsPerDay) p n 1 86400 (2 ^ i * E)) → x .p ≤ x .n + 2 ^ 49 * L → x .n ≤ x .p + 2 ^ 49 * L → dayPs * (2 ^ i * E) + 29 * L ≤ ps * L → LaterBy ps p n 86400 d (addSeconds d seconds)
   unfolding addSeconds
   by-quotient ps i p n x high low h =
       let k = add-days-near d (div binary64 seconds secondsPerDay) v1 v2 (record { p = x .p; n = x .n; val = x .val; high = high; low = low }) in
@@ -111,7 +112,7 @@ module _ (d : JulianDate) (seconds : Float) (v1 : HalfDays (2 ^ 50) (d .jd1)) (v
       let x = step-div 1 {B = 1} {C = 86400} (lit< tt) (lit< tt) (lit≤ tt) (omega (arith, s .high, L-pos)) (omega (arith, s .low, L-pos)) (s .val) day-val in
       by-quotient 39 1 (s .p) (s .n) x (few-days (x .p) (x .n) (s .p) (s .n) L E E-small (x .over) (s .high)) (few-days (x .n) (x .p) (s .n) (s .p) L E E-small (x .under) (s .low)) (bound E L L-E)
     where
-      bound : (e l : ℕ) → l ≡ 18014398509481984 * e → day * (2 ^ 1 * e) + 29 * l ≤ 39 * l
+      bound : (e l : ℕ) → l ≡ 18014398509481984 * e → dayPs * (2 ^ 1 * e) + 29 * l ≤ 39 * l
       bound e l h = omega arith
 
   -- at most 10 ^ 9 of them, within 79 nanoseconds
@@ -120,5 +121,5 @@ module _ (d : JulianDate) (seconds : Float) (v1 : HalfDays (2 ^ 50) (d .jd1)) (v
       let x = step-div 14 {B = 1} {C = 86400} (lit< tt) (lit< tt) (lit≤ tt) (omega (arith, s .high, L-pos)) (omega (arith, s .low, L-pos)) (s .val) day-val in
       by-quotient 78610 14 (s .p) (s .n) x (many-days (x .p) (x .n) (s .p) (s .n) L E E-small (x .over) (s .high)) (many-days (x .n) (x .p) (s .n) (s .p) L E E-small (x .under) (s .low)) (bound E L L-E)
     where
-      bound : (e l : ℕ) → l ≡ 18014398509481984 * e → day * (2 ^ 14 * e) + 29 * l ≤ 78610 * l
+      bound : (e l : ℕ) → l ≡ 18014398509481984 * e → dayPs * (2 ^ 14 * e) + 29 * l ≤ 78610 * l
       bound e l h = omega arith

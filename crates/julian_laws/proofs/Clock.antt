@@ -28,7 +28,7 @@ use Rattle.julian.specs.declared.JulianDate.{JulianDate}
 use Rattle.julian.specs.JulianDate.{julian, roundedSum}
 use Rattle.julian.specs.DayFraction.{secondLimit, timeInDay, dayFraction}
 use Rattle.julian.specs.Calendar.{atTime, fromCalendar}
-use Rattle.julian.proofs.Midnights.{midnight-refused, midnight-given, midnight-sum, mjd-small}
+use Rattle.julian.proofs.Midnights.{midnight-refused, midnight-given, midnight-sum, mjd-in-42-bits}
 use Rattle.julian_laws.specs.Distances.{AtClock}
 
 -- ---- which times are refused
@@ -190,7 +190,7 @@ at-clock y m d hour minute second fy fs date e = go (mjdOf y (pos m) (pos d)) re
         let s : answer date ≡ answer (julian (add binary64 mjdZeroPoint (ofInt binary64 n)) (div binary64 (add binary64 (mul binary64 (decimal 60 0) (ofInt binary64 (pos (60 * hour + minute)))) second) (add binary64 secondsPerDay nought))) = sym e ∙ on-date y m d hour minute second n p ∙ rw q in
         let same : julian (add binary64 mjdZeroPoint (ofInt binary64 n)) (div binary64 (add binary64 (mul binary64 (decimal 60 0) (ofInt binary64 (pos (60 * hour + minute)))) second) (add binary64 secondsPerDay nought)) ≡ date = cc in
         subst (AtClock 17 y m d hour minute second) same
-        (record { n = n; mjd = p; midnight = midnight-sum n (mjd-small y (pos m) (pos d) n fy p); x = w .x; seconds = w .val; time = time-near hour minute second (i .hours) (i .minutes) w })
+        (record { n = n; mjd = p; midnight = midnight-sum n (mjd-in-42-bits y (pos m) (pos d) n fy p); x = w .x; seconds = w .val; time = time-near hour minute second (i .hours) (i .minutes) w })
 
     go : (o : Outcome ℤ) → mjdOf y (pos m) (pos d) ≡ o → AtClock 17 y m d hour minute second date
     go (answer n) p = timed n p (timeInDay hour minute second nought) refl

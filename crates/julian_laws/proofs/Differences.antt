@@ -11,7 +11,8 @@ use Rattle.rounding.proofs.Value.{L-pos}
 use Rattle.rounding.proofs.Exact.{sub-exact}
 use Rattle.julian.specs.declared.JulianDate.{JulianDate}
 use Rattle.julian.specs.JulianDate.{difference}
-use Rattle.julian_laws.specs.Distances.{day, UpTo, HalfDays, DifferenceNear}
+use Rattle.rounding.specs.Picoseconds.{dayPs}
+use Rattle.julian_laws.specs.Distances.{UpTo, HalfDays, DifferenceNear}
 use Rattle.julian_laws.proofs.Steps.{E, L-E, H, L-H, half-val, step-add, step-sub, within-of, worth-of}
 
 -- the three steps, for first parts whose difference is in hand
@@ -42,7 +43,7 @@ difference-near d e a b c f =
       });
     }
   where
-    bound : (e l : ℕ) → l ≡ 18014398509481984 * e → day * (33554436 * e) ≤ 161000000 * l
+    bound : (e l : ℕ) → l ≡ 18014398509481984 * e → dayPs * (33554436 * e) ≤ 161000000 * l
     bound e l h = omega arith
 
 -- ---- first parts in half days
@@ -88,7 +89,7 @@ module _ (d e : JulianDate) (a : HalfDays (2 ^ 50) (d .jd1)) (b : UpTo 1 (d .jd2
         });
       }
     where
-      bound : (e l : ℕ) → l ≡ 18014398509481984 * e → day * (8 * e) ≤ 39 * l
+      bound : (e l : ℕ) → l ≡ 18014398509481984 * e → dayPs * (8 * e) ≤ 39 * l
       bound e l h = omega arith
 
       total-of : (x x' u u' z w p n q m l e : ℕ) → l ≡ 18014398509481984 * e → 0 < l → x + x' ≤ u + u' + l → p ≤ n + 1 * l → m ≤ q + 1 * l → z + (n + q) ≤ w + (p + m) + 2 ^ 2 * e → x + x' + z < u + u' + w + 2 ^ 2 * l

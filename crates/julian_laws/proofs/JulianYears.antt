@@ -13,7 +13,8 @@ use Rattle.constants.specs.Constants.{decimal, daysPerJulianYear, j2000Jd, mjdZ
 use Rattle.julian.specs.declared.JulianDate.{JulianDate}
 use Rattle.julian.proofs.Midnights.{zero-point-val}
 use Rattle.julian.specs.JulianYear.{toJulianYear, fromJulianYear}
-use Rattle.julian_laws.specs.Distances.{day, UpTo, YearOf, DateOfYear}
+use Rattle.rounding.specs.Picoseconds.{dayPs}
+use Rattle.julian_laws.specs.Distances.{UpTo, YearOf, DateOfYear}
 use Rattle.julian_laws.proofs.Steps.{E, L-E, H, L-H, half-val, step-add, step-sub, step-mul, step-div, worth-of}
 
 -- ---- the constants: J2000.0, the year 2000, and 365.25 = 1461 / 4
@@ -77,7 +78,7 @@ from-year-low : (p n p1 n1 p2 n2 p3 n3 l h e : ℕ) → l ≡ 2 * h → n1 + (p 
     → 4 * (0 * h + n3 + 2451545 * l) + 1461 * p ≤ 4 * (4800001 * h + p3) + 1461 * (n + 2000 * l) + 114982912 * e
 from-year-low p n p1 n1 p2 n2 p3 n3 l h e k x1 x2 x3 = omega arith
 
-in-picoseconds : (x y l e : ℕ) → l ≡ 18014398509481984 * e → x ≤ y + 114982912 * e → day * x ≤ day * y + 138000000 * (4 * l)
+in-picoseconds : (x y l e : ℕ) → l ≡ 18014398509481984 * e → x ≤ y + 114982912 * e → dayPs * x ≤ dayPs * y + 138000000 * (4 * l)
 in-picoseconds x y l e h k = omega arith
 
 -- THE DATE OF A YEAR, for years of at most 20,000 in size

@@ -10,7 +10,7 @@ use Rattle.rounding.specs.Picoseconds.{Within}
 use Rattle.rounding.proofs.Value.{L-pos, L-is, val-scale, div-rounds}
 use Rattle.rounding.proofs.Near.{NearSum, add-near, sub-near}
 use Rattle.rounding.proofs.Scaled.{Scaled, scaled-near, mul-near}
-use Rattle.rounding.proofs.Chain.{Close}
+use Rattle.rounding.proofs.Chain.{ValClose}
 use Rattle.julian.specs.declared.JulianDate.{JulianDate}
 use Rattle.julian.specs.Worth.{Worth}
 
@@ -41,7 +41,7 @@ wide i x y h = subst (λ (z : ℕ). x < y + z) (sym (room i)) h
 halved : (i x y w : ℕ) → w ≡ 2 * (2 ^ i * E) → 2 * x ≤ 2 * y + w → x ≤ y + 2 ^ i * E
 halved i x y w e h = omega arith
 
-near-sum : (i : ℕ) {z : Float} {P N : ℕ} → NearSum z P N (1021 + i) → Close L z P N (2 ^ i * E)
+near-sum : (i : ℕ) {z : Float} {P N : ℕ} → NearSum z P N (1021 + i) → ValClose L z P N (2 ^ i * E)
 near-sum i {z} {P} {N} k = record {
   p = k .p;
   n = k .n;
@@ -50,10 +50,10 @@ near-sum i {z} {P} {N} k = record {
   under = halved i (k .n + P) (k .p + N) (2 ^ (1021 + i)) (half-unit i) (k .under);
 }
 
-pub step-add : (i : ℕ) {x y : Float} {p n q m : ℕ} → 1021 + i ≤ 2044 → p + q < n + m + 2 ^ i * L → n + m < p + q + 2 ^ i * L → Val x p n L → Val y q m L → Close L (add binary64 x y) (p + q) (n + m) (2 ^ i * E)
+pub step-add : (i : ℕ) {x y : Float} {p n q m : ℕ} → 1021 + i ≤ 2044 → p + q < n + m + 2 ^ i * L → n + m < p + q + 2 ^ i * L → Val x p n L → Val y q m L → ValClose L (add binary64 x y) (p + q) (n + m) (2 ^ i * E)
 step-add i {x} {y} {p} {n} {q} {m} I h k v w = near-sum i (add-near (1021 + i) I (wide i (p + q) (n + m) h) (wide i (n + m) (p + q) k) v w)
 
-pub step-sub : (i : ℕ) {x y : Float} {p n q m : ℕ} → 1021 + i ≤ 2044 → p + m < n + q + 2 ^ i * L → n + q < p + m + 2 ^ i * L → Val x p n L → Val y q m L → Close L (sub binary64 x y) (p + m) (n + q) (2 ^ i * E)
+pub step-sub : (i : ℕ) {x y : Float} {p n q m : ℕ} → 1021 + i ≤ 2044 → p + m < n + q + 2 ^ i * L → n + q < p + m + 2 ^ i * L → Val x p n L → Val y q m L → ValClose L (sub binary64 x y) (p + m) (n + q) (2 ^ i * E)
 step-sub i {x} {y} {p} {n} {q} {m} I h k v w = near-sum i (sub-near (1021 + i) I (wide i (p + m) (n + q) h) (wide i (n + q) (p + m) k) v w)
 
 -- ---- a product by B / C and a quotient by C / B, in C-ths of a unit
@@ -106,7 +106,7 @@ worth-of {p = p} {n = n} {q = q} {m = m} v w = record { p = p; n = n; q = q; m =
 
 -- ---- a distance in units as one in picoseconds
 
-pub within-of : (ps : ℕ) {z : Float} {P N r : ℕ} → 86400000000000000 * r ≤ ps * L → Close L z P N r → Within ps z P N L
+pub within-of : (ps : ℕ) {z : Float} {P N r : ℕ} → 86400000000000000 * r ≤ ps * L → ValClose L z P N r → Within ps z P N L
 within-of ps {z} {P} {N} {r} h c = record { p = c .p; n = c .n; val = c .val; over = go (c .p) (c .n) P N (c .over); under = go (c .n) (c .p) N P (c .under) }
   where
     go : (p n P N : ℕ) → p + N ≤ n + P + r → 86400000000000000 * (p * L + N * L) ≤ 86400000000000000 * (n * L + P * L) + ps * (L * L)

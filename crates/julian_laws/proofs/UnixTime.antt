@@ -21,7 +21,7 @@ use Rattle.rounding.specs.Picoseconds.{Within}
 use Rattle.constants.specs.Constants.{secondsPerDay, nanosecondsPerSecond, unixEpochJd}
 use Rattle.julian.specs.UnixTime.{daysTowardZero, secondsLeft, secondOfDay, fromUnixTime}
 use Rattle.julian.proofs.Seconds.{days-size, left-size}
-use Rattle.julian.proofs.Integers.{sides, integer-val}
+use Rattle.julian.proofs.Integers.{sides-mag, integer-val}
 
 -- ---- the day
 
@@ -34,7 +34,7 @@ pub unix-day : (seconds : ℤ) (nanos : ℕ) → SFits w64 seconds → Val (from
 unfolding fromUnixTime
 unix-day seconds nanos f =
     let z = daysTowardZero seconds in
-    let s = sides z (2 ^ 47) (days-size seconds f) in
+    let s = sides-mag z (2 ^ 47) (days-size seconds f) in
     val-move (add-exact 1 (lit≤ tt) (omega (arith, s .0)) (omega (arith, s .1)) epoch-val (val-scale 2 (integer-val z (omega (arith, days-size seconds f))))) (omega arith)
 
 -- ---- the days and the seconds left
@@ -76,7 +76,7 @@ pub unix-time : (seconds : ℤ) (nanos : ℕ) → Fits w32 nanos → Within 17 (
 unfolding fromUnixTime secondOfDay
 unix-time seconds nanos f =
     let z = secondsLeft seconds in
-    let s = sides z 86400 (left-size seconds) in
+    let s = sides-mag z 86400 (left-size seconds) in
     let r = about-scale (10 ^ 9) (lit< tt) (whole-about 86400 (integer-val z (omega (arith, left-size seconds))) (omega (arith, s .0)) (omega (arith, s .1))) in
     let n = about-div 39 (10 ^ 9) 5316911983139663491615228242 (2 ^ 39) (lit≤ tt) (lit< tt) (lit≤ tt) (lit< tt) (lit≤ tt) second-val (whole-about (2 ^ 32) (ofInt-val (pos nanos) (omega (arith, f .fits)) (omega arith)) (omega (arith, f .fits)) (omega arith)) in
     let a = about-add 53 (lit≤ tt) (lit< tt) r n in

@@ -7,15 +7,11 @@ use lib.IntN.{ℤ, pos}
 use lib.Ieee.{Float}
 use Rattle.refusals.specs.Outcome.{answer}
 use Rattle.rounding.specs.Value.{Val, L, plusZ, minusZ}
-use Rattle.rounding.specs.Picoseconds.{Within}
+use Rattle.rounding.specs.Picoseconds.{dayPs, Within}
 use Rattle.calendar.specs.DayCount.{mjdOf}
 use Rattle.julian.specs.declared.JulianDate.{JulianDate}
 use Rattle.julian.specs.JulianDate.{difference}
 use Rattle.julian.specs.Worth.{Worth}
-
--- the picoseconds of a day
-abbrev pub day : ℕ
-day = 86400000000000000
 
 -- x is (p - n) / L, and at most K in size
 pub record UpTo (K : ℕ) (x : Float) : Type 0 where
@@ -51,8 +47,8 @@ pub record LaterBy (ps a b c : ℕ) (d d' : JulianDate) : Type 0 where
   pub n' : ℕ
   pub from : Worth d p n L
   pub to : Worth d' p' n' L
-  pub over : day * (c * (p' + n) + b) ≤ day * (c * (n' + p) + a) + ps * (c * L)
-  pub under : day * (c * (n' + p) + a) ≤ day * (c * (p' + n) + b) + ps * (c * L)
+  pub over : dayPs * (c * (p' + n) + b) ≤ dayPs * (c * (n' + p) + a) + ps * (c * L)
+  pub under : dayPs * (c * (n' + p) + a) ≤ dayPs * (c * (p' + n) + b) + ps * (c * L)
 
 -- the difference of d and e is within ps picoseconds of the exact one
 pub record DifferenceNear (ps : ℕ) (d e : JulianDate) : Type 0 where
@@ -83,5 +79,5 @@ pub record DateOfYear (ps : ℕ) (year : Float) (d : JulianDate) : Type 0 where
   pub b : ℕ
   pub worth : Worth d p n L
   pub val : Val year a b L
-  pub over : day * (4 * p + 1461 * (b + 2000 * L)) ≤ day * (4 * (n + 2451545 * L) + 1461 * a) + ps * (4 * L)
-  pub under : day * (4 * (n + 2451545 * L) + 1461 * a) ≤ day * (4 * p + 1461 * (b + 2000 * L)) + ps * (4 * L)
+  pub over : dayPs * (4 * p + 1461 * (b + 2000 * L)) ≤ dayPs * (4 * (n + 2451545 * L) + 1461 * a) + ps * (4 * L)
+  pub under : dayPs * (4 * (n + 2451545 * L) + 1461 * a) ≤ dayPs * (4 * p + 1461 * (b + 2000 * L)) + ps * (4 * L)

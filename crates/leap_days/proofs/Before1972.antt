@@ -15,7 +15,7 @@ use Rattle.calendar.specs.Calendar.{lengths, leapSize}
 use Rattle.calendar.specs.Refusals.{nextOf}
 use Rattle.calendar.specs.DayCount.{civilCount, mjdNumber}
 use Rattle.calendar.specs.declared.CalendarDate.{CalendarDate}
-use Rattle.calendar.proofs.Accepted.{Accepted, accepted, short}
+use Rattle.calendar.proofs.Accepted.{Accepted, date-accepted, short}
 use Rattle.calendar.proofs.NextDates.{next-is}
 use Rattle.tai_utc.specs.Table.{Row, fixed, starts, reached, monthNumber, monthOf}
 use Rattle.tai_utc.specs.Offset.{secondsOf, startOf, rateOf, byRow, offsetBy, offsetAt, rowAt}
@@ -157,7 +157,7 @@ pub early-date : (y m d : ℤ) (s : CalendarDate) → nextOf y m d ≡ answer s 
 unfolding monthNumber
 early-date (pos y) m d s h l =
     subst (Early (pos y) m d) (sym (ap (λ (k : ℕ). offsetsOfDay fixed (monthOf y (natAbs m)) k (mjdNumber (pos y) m d)) (next-month-number y m d s h)))
-    (early-day y m d (accepted (pos y) m d (next-is (pos y) m d s h .0)) l)
+    (early-day y m d (date-accepted (pos y) m d (next-is (pos y) m d s h .0)) l)
 early-date (negsuc y) m d s h l =
     no-row-yet (omega arith)
     (subst (λ (k : ℕ). Both (offsetsOfDay fixed 0 k (mjdNumber (negsuc y) m d)) nought) (sym (next-month-early y m d s h)) (before 0 0 (mjdNumber (negsuc y) m d) (omega arith) (omega arith)))

@@ -19,7 +19,7 @@ use Rattle.floats.specs.Whole.{nought, one}
 use Rattle.calendar.specs.Calendar.{leapYear}
 use Rattle.calendar.specs.DayCount.{marchCount, civilCount, mjdNumber, mjdOf}
 use Rattle.calendar.proofs.Signs.{sub-at}
-use Rattle.calendar.proofs.Accepted.{Accepted, accepted, short}
+use Rattle.calendar.proofs.Accepted.{Accepted, date-accepted, short}
 use Rattle.calendar.proofs.Mjd.{mjd-given, mjd-valid, same-answer}
 use Rattle.rounding.specs.Value.{Val, L}
 use Rattle.rounding.proofs.Value.{L-pos}
@@ -312,7 +312,7 @@ unfolding monthNumber offsetAt
 drift-formula y m d f x l h g e =
     let (n, p, q) = offset-came fixed (pos y) m d f x e in
     let v = mjd-valid (pos y) m d n p in
-    let a = accepted (pos y) m d v in
+    let a = date-accepted (pos y) m d v in
     let (j, s, b) = mjd-range y m d l h a in
     let i : n ≡ pos j = same-answer (sym p ∙ mjd-given (pos y) m d v) ∙ s in
     let N = monthOf y (natAbs m) in

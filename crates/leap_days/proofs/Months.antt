@@ -11,7 +11,7 @@ use Rattle.refusals.specs.Outcome.{answer}
 use Rattle.calendar.specs.Calendar.{date, next, monthLength}
 use Rattle.calendar.specs.Refusals.{nextOf}
 use Rattle.calendar.specs.declared.CalendarDate.{CalendarDate}
-use Rattle.calendar.proofs.Accepted.{accepted}
+use Rattle.calendar.proofs.Accepted.{date-accepted}
 use Rattle.calendar.proofs.NextDates.{next-is}
 use Rattle.tai_utc.specs.Table.{monthNumber, monthOf}
 
@@ -41,7 +41,7 @@ pub next-month-number : (y : ℕ) (m d : ℤ) (t : CalendarDate) → nextOf (pos
 unfolding next number
 next-month-number y m d t h =
     let z = next-is (pos y) m d t h in
-    let a = accepted (pos y) m d (z .0) in
+    let a = date-accepted (pos y) m d (z .0) in
     ap number (z .1) ∙ later (ltb (natAbs d) (monthLength (pos y) (natAbs m))) (ltb (natAbs m) 12) y (natAbs m) (natAbs d + 1) (a .m-low) (ltb-true (natAbs m) 12) (twelve (natAbs m) (a .m-high))
 
 -- up to the first day of year 0 it is 0

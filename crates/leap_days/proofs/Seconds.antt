@@ -16,7 +16,7 @@ use Rattle.refusals.specs.Outcome.{answer}
 use Rattle.floats.specs.Whole.{abs, nought, half, one}
 use Rattle.calendar.specs.Calendar.{lengths, leapSize}
 use Rattle.calendar.specs.DayCount.{mjdNumber}
-use Rattle.calendar.proofs.Accepted.{accepted}
+use Rattle.calendar.proofs.Accepted.{date-accepted}
 use Rattle.calendar.proofs.NextDates.{next-is}
 use Rattle.calendar.specs.declared.CalendarDate.{CalendarDate}
 use Rattle.calendar.specs.Refusals.{nextOf}
@@ -177,7 +177,7 @@ pub leap-seconds : (y : ℕ) (m d : ℤ) (x : Float) → 1972 ≤ y → leapAtEn
 unfolding monthNumber
 leap-seconds y m d x h e =
     let (t, p, q) = leap-came fixed (pos y) m d x e in
-    let a = accepted (pos y) m d (next-is (pos y) m d t p .0) in
+    let a = date-accepted (pos y) m d (next-is (pos y) m d t p .0) in
     let n = monthOf y (natAbs m) in
     q
     ∙ ap (λ (k : ℕ). leapOf (offsetsOfDay fixed n k (mjdNumber (pos y) m d))) (next-month-number y m d t p)

@@ -15,7 +15,7 @@ use Rattle.tai_utc.specs.declared.LentRows.{LentRows}
 use Rattle.tai_utc.specs.Lent.{tableOf}
 use Rattle.c_answers.specs.Fields.{fourBytes}
 use Rattle.lent_bytes.specs.TableBytes.{signed32, signedAt, signedFrom, recordIn, ofLength, tableBytes}
-use Rattle.lent_bytes.specs.RecordBytes.{pattern32, inFours, recordBytes, Held}
+use Rattle.lent_bytes.specs.RecordBytes.{pattern32, inFours, recordBytes, MachineRecord}
 use Rattle.lent_bytes.proofs.Signed32.{signed-back, pattern-small}
 use Rattle.lent_bytes.proofs.Reading.{place-of}
 
@@ -81,7 +81,7 @@ unfolding signedFrom
 from-length s at zero = refl
 from-length s at (suc n) = ap suc (from-length s (at + 4) n)
 
-module _ (t : LentRows) (held : Held t) where
+module _ (t : LentRows) (held : MachineRecord t) where
   abbrev ms : List ℕ
   ms = map pattern32 (t .months)
 

@@ -24,7 +24,7 @@ abbrev pub recordBytes : LentRows → List ℕ
 recordBytes t = inFours (t .«months_size» ∷ (t .«seconds_size» ∷ (map pattern32 (t .months) ++ map pattern32 (t .seconds))))
 
 -- a record of the machine: two arrays of 16, and every number one of 32 bits
-pub record Held (t : LentRows) : Type 0 where
+pub record MachineRecord (t : LentRows) : Type 0 where
   pub months-size : t .«months_size» < 4294967296
   pub seconds-size : t .«seconds_size» < 4294967296
   pub sixteen-months : length (t .months) ≡ 16

@@ -1,21 +1,18 @@
 -- The table that a C caller lends as bytes. Written from document 02, item 8: "From C it is these 136 bytes, little-endian; any other length is 14, before 20": two
 -- sizes of 4 bytes, 16 month starts and 16 seconds of 4 bytes each, in two's complement. Assumes nothing.
-use Prim.Native.Nat.{ℕ, zero, suc, _+_, _-_, _*_, _<_}
+use Prim.Native.Nat.{ℕ, zero, suc, _+_, _*_, _<_}
 use mathlib.Core.Path.{_≡_}
 use mathlib.Core.Bool.{cond}
 use mathlib.Core.List.{List, [], _∷_}
-use lib.Dec.{eqb, ltb}
-use lib.IntN.{ℤ, pos, negsuc}
+use lib.Dec.{eqb}
+use lib.IntN.{ℤ, pos}
 use lib.ListN.{length, getD}
 use Rattle.refusals.specs.Outcome.{Outcome, refusal}
 use Rattle.little_endian.specs.LittleEndian.{u32At}
+unfoldable pub use Rattle.little_endian.specs.LittleEndian.{signed32}
 use Rattle.tai_utc.specs.declared.LentRows.{LentRows}
 use Rattle.tai_utc.specs.Table.{Row}
 use Rattle.tai_utc.specs.Lent.{least, tableOf}
-
--- the signed number of a pattern of 32 bits in two's complement
-unfoldable pub signed32 : ℕ → ℤ
-signed32 n = cond (ltb n 0x8000_0000) (pos n) (negsuc (0xffff_ffff - n))
 
 -- the signed number in the four bytes from `at` on
 abbrev pub signedAt : List ℕ → ℕ → ℤ

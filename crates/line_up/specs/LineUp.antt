@@ -8,7 +8,7 @@ use lib.Dec.{eqb, leb}
 use lib.ListN.{length, drop}
 use lib.Ieee.{ofBits, binary64}
 use Rattle.refusals.specs.Outcome.{Outcome, answer, refusal}
-use Rattle.little_endian.specs.LittleEndian.{u64At}
+use Rattle.little_endian.specs.LittleEndian.{fourBytes, u64At}
 use Rattle.julian.specs.declared.JulianDate.{JulianDate}
 use Rattle.julian.specs.JulianDate.{julian}
 use Rattle.date_order.specs.Places.{hasPlace, isEarlier}
@@ -29,9 +29,6 @@ unfoldable pub soonerAt : List ℕ → List ℕ → ℕ → ℕ → Bool
 soonerAt js ks i j = isEarlier (stampOf js ks i) (stampOf js ks j)
 
 -- a place in four bytes
-abbrev pub fourBytes : ℕ → List ℕ
-fourBytes p = (p % 256) ∷ (p / 256 % 256) ∷ (p / 65536 % 256) ∷ (p / 16777216 % 256) ∷ []
-
 unfoldable pub placesBytes : List ℕ → List ℕ
 placesBytes [] = []
 placesBytes (p ∷ ps) = fourBytes p ++ placesBytes ps

@@ -5,6 +5,7 @@ ghost use lib.Dec.{eqb};
 ghost use lib.ListN.{length};
 ghost use lib.Seq.{sets};
 ghost use Prim.Native.Nat.{_≤_, _<_, _+_};
+ghost use Rattle.little_endian.specs.LittleEndian.{fourBytes};
 ghost use Rattle.line_up.specs.Runs as R;
 ghost use Rattle.line_up.specs.LineUp as U;
 ghost use Rattle.line_up.specs.Asked as N;
@@ -164,7 +165,7 @@ fn pick_of_three(jd1s: &[u8], jd2s: &[u8], n: usize, x: usize, y: usize, z: usiz
 
 fn put_place(out: &mut [u8], at: usize, p: usize)
     requires { ⌜ at + 4 ≤ length (now out) ⌝ }
-    ensures { λ _. ⌜ now (out .exit) ≡ sets (now (out .entry)) at (U.fourBytes p) ⌝ }
+    ensures { λ _. ⌜ now (out .exit) ≡ sets (now (out .entry)) at (fourBytes p) ⌝ }
 {
     let a = (p % 256) as u8;
     let b = (p / 256 % 256) as u8;

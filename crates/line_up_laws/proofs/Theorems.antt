@@ -18,7 +18,7 @@ use Rattle.julian.specs.Equality.{FiniteSums}
 use Rattle.julian.specs.Worth.{Worth}
 use Rattle.little_endian.specs.LittleEndian.{u64At}
 use Rattle.date_order.specs.Places.{hasPlace, isEarlier}
-use Rattle.date_order.proofs.Exactly.{finite-error, sooner-exactly, worth-of}
+use Rattle.date_order.proofs.Exactly.{finite-error, sooner-exactly, sum-worth}
 use Rattle.date_order.proofs.Swapped.{sooner-once}
 use Rattle.julian.specs.Equality.{sums}
 use Rattle.line_up.specs.Runs.{allTested, run, numbersAfter, zeros, merge, ordered, timesIn, MayFollow, Rising}
@@ -62,8 +62,8 @@ module _ (date : ℕ → JulianDate) (floats : (p : ℕ) → Floats (date p)) wh
   of-exactly : (x y : ℕ) → Sound x → Sound y → InOrder date x y → MayFollow (by date) x y
   unfolding Sound
   of-exactly x y s t f =
-      let v = worth-of (date x) s in
-      let w = worth-of (date y) t in
+      let v = sum-worth (date x) s in
+      let w = sum-worth (date y) t in
       record {
         late = lt-is y x (w .0) (w .1) (v .0) (v .1) t s (w .2) (v .2) ∙ le-ltb (w .0 + v .1) (v .0 + w .1) (f .rises (v .0) (v .1) (w .0) (w .1) (v .2) (w .2));
         tied = λ p.
@@ -74,9 +74,9 @@ module _ (date : ℕ → JulianDate) (floats : (p : ℕ) → Floats (date p)) wh
   follows-trans : (x y z : ℕ) → Sound x → Sound y → Sound z → MayFollow (by date) x y → MayFollow (by date) y z → MayFollow (by date) x z
   unfolding Sound
   follows-trans x y z s t u f g =
-      let v = worth-of (date x) s in
-      let w = worth-of (date y) t in
-      let q = worth-of (date z) u in
+      let v = sum-worth (date x) s in
+      let w = sum-worth (date y) t in
+      let q = sum-worth (date z) u in
       let i = ltb-false (w .0 + v .1) (v .0 + w .1) (sym (lt-is y x (w .0) (w .1) (v .0) (v .1) t s (w .2) (v .2)) ∙ f .late) in
       let j = ltb-false (q .0 + w .1) (w .0 + q .1) (sym (lt-is z y (q .0) (q .1) (w .0) (w .1) u t (q .2) (w .2)) ∙ g .late) in
       record {
@@ -199,8 +199,8 @@ module _ (date : ℕ → JulianDate) (floats : (p : ℕ) → Floats (date p)) (c
     later e o =
         let s = accepted-sound i h (judged-i .refused) e in
         let t = accepted-sound (o .place) (omega (arith, o .high, h)) (each (o .place) (o .low) (omega (arith, o .high)) .refused) (o .in-line) in
-        let v = worth-of (date i) s in
-        let w = worth-of (date (o .place)) t in
+        let v = sum-worth (date i) s in
+        let w = sum-worth (date (o .place)) t in
         record {
           place = o .place;
           low = o .low;

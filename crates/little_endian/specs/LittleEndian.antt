@@ -18,6 +18,10 @@ u32At s at = cond (leb (at + 4) (length s)) (fourAt s at) 0
 unfoldable pub u64At : List ℕ → ℕ → ℕ
 u64At s at = cond (leb (at + 8) (length s)) (fourAt s at + 4294967296 * fourAt s (at + 4)) 0
 
+-- the four lowest bytes of a number
+abbrev pub fourBytes : ℕ → List ℕ
+fourBytes n = n % 256 ∷ n / 0x100 % 256 ∷ n / 0x1_0000 % 256 ∷ n / 0x100_0000 % 256 ∷ []
+
 -- the eight bytes of a number
 abbrev pub eightBytes : ℕ → List ℕ
 eightBytes n =

@@ -18,9 +18,9 @@ use Rattle.tai_utc.proofs.TableLaws.{table-rises}
 use Rattle.offset_walk.specs.declared.Triple.{Triple}
 use Rattle.offset_walk.specs.declared.WalkAnswer.the-variants.{Compared, Refused}
 use Rattle.offset_walk.specs.Rows.{compared}
-use Rattle.offset_walk.specs.Judging.{judged}
-use Rattle.offset_walk.specs.Walk.{monthIn, offsetAt0h, Walked, walked, walkOf}
-use Rattle.offset_walk.specs.Call.{walkOutcome, lentAfter, WalkCall}
+use Rattle.offset_walk.specs.Judging.{judgedAll}
+use Rattle.offset_walk.specs.Walk.{monthIn, tripleOffset, Walked, walked, walkOf}
+use Rattle.offset_walk.specs.Call.{walkOutcome, listAfter, WalkCall}
 
 -- a number that is not 0 refuses, whatever the answer would be
 pub refused-any : {A : Type 0} (k : ℕ) (a : A) → (k ≡ 0 → ⊥) → unlessRefused k a ≡ refusal k
@@ -39,27 +39,27 @@ module _ (rows : List Row) (dates : List Triple) (places : ℕ) where
   unfolding walkOf
   no-places n e h = rw (lt-leb (length dates) places (omega arith))
 
-  by-number : (k : ℕ) → unlessRefused k tt ≡ judged dates → unlessRefused k (walked rows dates) ≡ onward (judged dates) (λ _. answer (walked rows dates))
+  by-number : (k : ℕ) → unlessRefused k tt ≡ judgedAll dates → unlessRefused k (walked rows dates) ≡ onward (judgedAll dates) (λ _. answer (walked rows dates))
   unfolding onward
   by-number zero j = ap (λ (o : Outcome Unit). onward o (λ _. answer (walked rows dates))) j
   by-number (suc k) j = ap (λ (o : Outcome Unit). onward o (λ _. answer (walked rows dates))) j
 
-  pub by-dates : (n : ℕ) → length dates ≡ n → n ≤ places → (k : ℕ) → unlessRefused k tt ≡ judged dates → unlessRefused k (walked rows dates) ≡ walkOf rows true dates places
+  pub by-dates : (n : ℕ) → length dates ≡ n → n ≤ places → (k : ℕ) → unlessRefused k tt ≡ judgedAll dates → unlessRefused k (walked rows dates) ≡ walkOf rows true dates places
   unfolding walkOf
   by-dates n e h k j =
       by-number k j
-      ∙ sym (ap (λ (b : Bool). cond b (onward (judged dates) (λ _. answer (walked rows dates))) (refusal 11)) (le-leb (length dates) places (omega arith)))
+      ∙ sym (ap (λ (b : Bool). cond b (onward (judgedAll dates) (λ _. answer (walked rows dates))) (refusal 11)) (le-leb (length dates) places (omega arith)))
 
   pub record Through : Type 0 where
     pub fits : length dates ≤ places
-    pub good : judged dates ≡ answer tt
+    pub good : judgedAll dates ≡ answer tt
 
   pub through : (b : Bool) (x : Walked) → walkOf rows b dates places ≡ answer x → Through
   unfolding walkOf
   through true x e = go (leb (length dates) places) refl e
     where
-      go : (c : Bool) → leb (length dates) places ≡ c → cond c (onward (judged dates) (λ _. answer (walked rows dates))) (refusal 11) ≡ answer x → Through
-      go true p q = let (u, v, w) = came (judged dates) (λ _. answer (walked rows dates)) x q in record { fits = leb-true (length dates) places p; good = v }
+      go : (c : Bool) → leb (length dates) places ≡ c → cond c (onward (judgedAll dates) (λ _. answer (walked rows dates))) (refusal 11) ≡ answer x → Through
+      go true p q = let (u, v, w) = came (judgedAll dates) (λ _. answer (walked rows dates)) x q in record { fits = leb-true (length dates) places p; good = v }
       go false p q = let z : _≡_ {A = ℕ} 0 1 = cc in absurd (omega arith)
   through false x e = let z : _≡_ {A = ℕ} 0 1 = cc in absurd (omega arith)
 
@@ -80,7 +80,7 @@ module _ (t : LentRows) (b : Bool) (dates : List Triple) (places : ℕ) where
   pub record Passed : Type 0 where
     pub order : T (rising (starts (rowsOf t)))
     pub fits : length dates ≤ places
-    pub good : judged dates ≡ answer tt
+    pub good : judgedAll dates ≡ answer tt
 
   pub passed : (k : ℕ) → unlessRefused k (walked (rowsOf t) dates) ≡ whole → k ≡ 0 → Passed
   passed k e h =
@@ -94,12 +94,12 @@ module _ (t : LentRows) (b : Bool) (dates : List Triple) (places : ℕ) where
 
   module _ {A : Type 0} (write : List Float → List A) (before : List A) where
     pub refused-call : (k : ℕ) → unlessRefused k (walked (rowsOf t) dates) ≡ whole → (k ≡ 0 → ⊥) → WalkCall write whole before (Refused k) before
-    unfolding walkOutcome onward lentAfter
+    unfolding walkOutcome onward listAfter
     refused-call k e h = rw (sym e ∙ refused-any k (walked (rowsOf t) dates) h) (record { says = refl; holds = refl })
 
     pub walked-call : (k : ℕ) → unlessRefused k (walked (rowsOf t) dates) ≡ whole → k ≡ 0 → (c : ℕ) (after : List A) (room : ℕ)
-        → c ≡ compared (starts (rowsOf t)) (map monthIn dates) → after ≡ write (map (offsetAt0h (rowsOf t)) dates) ++ drop room before → length (write (map (offsetAt0h (rowsOf t)) dates)) ≡ room → WalkCall write whole before (Compared c) after
-    unfolding walkOutcome onward lentAfter
+        → c ≡ compared (starts (rowsOf t)) (map monthIn dates) → after ≡ write (map (tripleOffset (rowsOf t)) dates) ++ drop room before → length (write (map (tripleOffset (rowsOf t)) dates)) ≡ room → WalkCall write whole before (Compared c) after
+    unfolding walkOutcome onward listAfter
     walked-call k e h c after room p q r =
         rw (sym e ∙ answered-any k (walked (rowsOf t) dates) h)
-        (record { says = ap answer p; holds = q ∙ ap (λ (n : ℕ). write (map (offsetAt0h (rowsOf t)) dates) ++ drop n before) (sym r) })
+        (record { says = ap answer p; holds = q ∙ ap (λ (n : ℕ). write (map (tripleOffset (rowsOf t)) dates) ++ drop n before) (sym r) })

@@ -13,7 +13,7 @@ use Rattle.tai_utc.specs.Lent.{tableOf}
 use Rattle.tai_utc.specs.declared.LentRows.{LentRows}
 use Rattle.offset_walk.specs.declared.Triple.{Triple}
 use Rattle.offset_walk.specs.Rows.{compared}
-use Rattle.offset_walk.specs.Judging.{judged}
+use Rattle.offset_walk.specs.Judging.{judgedAll}
 use Rattle.offset_walk.specs.Walk.{monthIn, Walked, walked, walkOf}
 use Rattle.offset_walk.proofs.Counts.{most-58}
 
@@ -22,9 +22,9 @@ unfolding walkOf
 walk-is rows false dates places w e = let z : _≡_ {A = ℕ} 0 1 = cc in absurd (omega arith)
 walk-is rows true dates places w e = go (leb (length dates) places) e
   where
-    go : (c : Bool) → cond c (onward (judged dates) (λ _. answer (walked rows dates))) (refusal 11) ≡ answer w → w .rowsCompared ≡ compared (starts rows) (map monthIn dates)
+    go : (c : Bool) → cond c (onward (judgedAll dates) (λ _. answer (walked rows dates))) (refusal 11) ≡ answer w → w .rowsCompared ≡ compared (starts rows) (map monthIn dates)
     go true q =
-        let (u, v, x) = came (judged dates) (λ _. answer (walked rows dates)) w q in
+        let (u, v, x) = came (judgedAll dates) (λ _. answer (walked rows dates)) w q in
         let y : w ≡ walked rows dates = cc in
         ap (λ (k : Walked). k .rowsCompared) y
     go false q = let z : _≡_ {A = ℕ} 0 1 = cc in absurd (omega arith)

@@ -16,16 +16,16 @@ use Rattle.tai_utc.specs.Lent.{tableOf}
 use Rattle.tai_utc.specs.declared.LentRows.{LentRows}
 use Rattle.tai_utc.proofs.TableLaws.{lengths}
 use Rattle.tai_utc.proofs.Reached.{at-most, low, high, none-begun, last-begun}
-use Rattle.offset_walk.specs.Rows.{held, left, compared, inTime, lastReached, withRowLeft}
+use Rattle.offset_walk.specs.Rows.{heldAgainst, left, compared, inTime, lastReached, withRowLeft}
 use Rattle.offset_walk.proofs.Forward.{halts, between}
 
 -- in one month: at most one more than the rows passed
-pub held-most : (l : List ℕ) (n : ℕ) → held l n + length (left l n) ≤ suc (length l)
-unfolding held left
+pub held-most : (l : List ℕ) (n : ℕ) → heldAgainst l n + length (left l n) ≤ suc (length l)
+unfolding heldAgainst left
 held-most [] n = omega arith
 held-most (a ∷ l) n = go (leb a n) (held-most l n)
   where
-    go : (b : Bool) → held l n + length (left l n) ≤ suc (length l) → cond b (suc (held l n)) 1 + length (cond b (left l n) (a ∷ l)) ≤ suc (suc (length l))
+    go : (b : Bool) → heldAgainst l n + length (left l n) ≤ suc (length l) → cond b (suc (heldAgainst l n)) 1 + length (cond b (left l n) (a ∷ l)) ≤ suc (suc (length l))
     go true h = omega arith
     go false h = omega arith
 
@@ -51,12 +51,12 @@ unfolding compared
 compared-none l = refl
 
 -- a date before the first row compares it alone, and one past the last row, once it is reached, none
-pub before-first : (a : ℕ) (l : List ℕ) (n : ℕ) → n < a → held (a ∷ l) n ≡ 1
-unfolding held
+pub before-first : (a : ℕ) (l : List ℕ) (n : ℕ) → n < a → heldAgainst (a ∷ l) n ≡ 1
+unfolding heldAgainst
 before-first a l n h = rw (lt-leb a n h)
 
-pub past-last : (n : ℕ) → held [] n ≡ 0
-unfolding held
+pub past-last : (n : ℕ) → heldAgainst [] n ≡ 0
+unfolding heldAgainst
 past-last n = refl
 
 -- ---- IN CLOSED FORM, for a table that rises and months in time order: the rows reached in the last month, and one for each month that leaves a row
@@ -89,7 +89,7 @@ module _ (l : List ℕ) (r : T (rising l)) where
       let e : k + (reached l m - k) ≡ reached l m = omega arith in
       let b = between l m (reached l m - k) k (omega (arith, e, at-most l m)) (λ j x y. passed-begun m j (omega (arith, e))) in
       let z = halts l m (reached l m) (next-not m) in
-      let held-is : held (drop k l) m ≡ reached l m - k + cond (leb (length l) (reached l m)) 0 1 = b .0 ∙ ap (λ (x : ℕ). reached l m - k + held (drop x l) m) e ∙ ap (λ (x : ℕ). reached l m - k + x) (z .1) in
+      let held-is : heldAgainst (drop k l) m ≡ reached l m - k + cond (leb (length l) (reached l m)) 0 1 = b .0 ∙ ap (λ (x : ℕ). reached l m - k + heldAgainst (drop x l) m) e ∙ ap (λ (x : ℕ). reached l m - k + x) (z .1) in
       let left-is : left (drop k l) m ≡ drop (reached l m) l = b .1 ∙ ap (λ (x : ℕ). left (drop x l) m) e ∙ z .0 in
       ap (λ (x : ℕ). k + x) (λ i. held-is i + compared (left-is i) months)
       ∙ sums k (reached l m) (cond (leb (length l) (reached l m)) 0 1) (compared (drop (reached l m) l) months) (lastReached l (reached l m) months) (withRowLeft l months) f more

@@ -13,13 +13,13 @@ use Rattle.calendar.specs.declared.CalendarDate.{CalendarDate}
 use Rattle.calendar.specs.Calendar.{date, dateAt, next, leapYear, monthLength}
 use Rattle.calendar.specs.DayCount.{mjdNumber}
 use Rattle.calendar.specs.InCalendar.{InCalendar}
-use Rattle.calendar.proofs.Accepted.{Accepted, accepted, short}
+use Rattle.calendar.proofs.Accepted.{Accepted, date-accepted, short}
 use Rattle.calendar.proofs.Days.{after, date-at-in-calendar}
 use Rattle.calendar.proofs.Years.{years-later, not-before}
 use Rattle.calendar.proofs.Signs.{sub-at}
-use Rattle.calendar.proofs.Mjd.{day-of}
+use Rattle.calendar.proofs.Mjd.{day-of-date}
 use Rattle.offset_walk.specs.declared.Triple.{Triple}
-use Rattle.offset_walk.specs.Judging.{first, earlier, validTriple}
+use Rattle.offset_walk.specs.Judging.{byFirst, earlier, validTriple}
 
 -- ---- a year from -4799 on, counted from there
 abbrev From : ℤ → Type 0
@@ -123,10 +123,10 @@ less-by c a b = go (ltb a (suc c)) refl (ltb b (suc c)) refl
 
 module _ (a b : Triple) (p : validTriple a ≡ answer tt) (q : validTriple b ≡ answer tt) where
   good-a : Accepted (a .year) (a .month) (a .day)
-  good-a = accepted (a .year) (a .month) (a .day) p
+  good-a = date-accepted (a .year) (a .month) (a .day) p
 
   good-b : Accepted (b .year) (b .month) (b .day)
-  good-b = accepted (b .year) (b .month) (b .day) q
+  good-b = date-accepted (b .year) (b .month) (b .day) q
 
   by-fields : earlier a b ≡ ltb (place (since (a .year)) (natAbs (a .month)) (natAbs (a .day))) (place (since (b .year)) (natAbs (b .month)) (natAbs (b .day)))
   unfolding earlier
@@ -145,8 +145,8 @@ module _ (a b : Triple) (p : validTriple a ≡ answer tt) (q : validTriple b ≡
 
   pub earlier-by-day : earlier a b ≡ ltZ (mjdNumber (a .year) (a .month) (a .day)) (mjdNumber (b .year) (b .month) (b .day))
   earlier-by-day =
-      let (j, e, s) = day-of (a .year) (a .month) (a .day) p in
-      let (k, f, t) = day-of (b .year) (b .month) (b .day) q in
+      let (j, e, s) = day-of-date (a .year) (a .month) (a .day) p in
+      let (k, f, t) = day-of-date (b .year) (b .month) (b .day) q in
       by-fields
       ∙ sym (λ i. ltb (placeOf (s i)) (placeOf (t i)))
       ∙ sym (days j k (subst (λ (x : CalendarDate). From (x .year)) (sym s) (good-a .year)) (subst (λ (x : CalendarDate). From (x .year)) (sym t) (good-b .year)))

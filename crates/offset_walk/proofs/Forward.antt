@@ -18,7 +18,7 @@ use Rattle.tai_utc.specs.declared.walk_rows.RowTerms.{RowTerms}
 use Rattle.tai_utc.proofs.Reached.{at-most, low, high}
 use Rattle.tai_utc.specs.Offset.{offsetBy}
 use Rattle.offset_walk.specs.declared.Walk.{Walk}
-use Rattle.offset_walk.specs.Rows.{held, left, compared}
+use Rattle.offset_walk.specs.Rows.{heldAgainst, left, compared}
 use Rattle.offset_walk.specs.Asked.{Standing, Stepped}
 
 -- ---- the offset by a row's terms, in its two cases
@@ -60,37 +60,37 @@ module _ (l : List ℕ) where
 
   module _ (n : ℕ) where
     -- a row that has begun is passed, and counts
-    pub passes : (k : ℕ) → k < length l → getD l k 0 ≤ n → (held (drop k l) n ≡ suc (held (drop (suc k) l) n)) × (left (drop k l) n ≡ left (drop (suc k) l) n)
-    unfolding held left
+    pub passes : (k : ℕ) → k < length l → getD l k 0 ≤ n → (heldAgainst (drop k l) n ≡ suc (heldAgainst (drop (suc k) l) n)) × (left (drop k l) n ≡ left (drop (suc k) l) n)
+    unfolding heldAgainst left
     passes k h g =
         let e = drop-cons l k 0 h in
         let b = le-leb (getD l k 0) n g in
-        (ap (λ (m : List ℕ). held m n) e ∙ rw b, ap (λ (m : List ℕ). left m n) e ∙ rw b)
+        (ap (λ (m : List ℕ). heldAgainst m n) e ∙ rw b, ap (λ (m : List ℕ). left m n) e ∙ rw b)
 
     -- a row that has not begun ends it, and counts; where no row is left nothing does
-    pub halts : (k : ℕ) → (k < length l → n < getD l k 0) → (left (drop k l) n ≡ drop k l) × (held (drop k l) n ≡ cond (leb (length l) k) 0 1)
-    unfolding held left
+    pub halts : (k : ℕ) → (k < length l → n < getD l k 0) → (left (drop k l) n ≡ drop k l) × (heldAgainst (drop k l) n ≡ cond (leb (length l) k) 0 1)
+    unfolding heldAgainst left
     halts k g = go (decLt k (length l))
       where
-        go : Dec (k < length l) → (left (drop k l) n ≡ drop k l) × (held (drop k l) n ≡ cond (leb (length l) k) 0 1)
+        go : Dec (k < length l) → (left (drop k l) n ≡ drop k l) × (heldAgainst (drop k l) n ≡ cond (leb (length l) k) 0 1)
         go (yes w) =
             let e = drop-cons l k 0 w in
             let b = lt-leb (getD l k 0) n (g w) in
             let c = lt-leb (length l) k w in
-            (ap (λ (m : List ℕ). left m n) e ∙ rw b (sym e), ap (λ (m : List ℕ). held m n) e ∙ rw (b, c))
+            (ap (λ (m : List ℕ). left m n) e ∙ rw b (sym e), ap (λ (m : List ℕ). heldAgainst m n) e ∙ rw (b, c))
         go (no w) =
             let e = drop-past k (omega arith) in
             let c = le-leb (length l) k (omega arith) in
-            (ap (λ (m : List ℕ). left m n) e ∙ sym e, ap (λ (m : List ℕ). held m n) e ∙ rw c)
+            (ap (λ (m : List ℕ). left m n) e ∙ sym e, ap (λ (m : List ℕ). heldAgainst m n) e ∙ rw c)
 
-    pub stops : (k : ℕ) → n < getD l k never → (left (drop k l) n ≡ drop k l) × (held (drop k l) n ≡ cond (leb (length l) k) 0 1)
+    pub stops : (k : ℕ) → n < getD l k never → (left (drop k l) n ≡ drop k l) × (heldAgainst (drop k l) n ≡ cond (leb (length l) k) 0 1)
     stops k g = halts k (λ w. omega (arith, there k 0 never w))
 
     -- from place k to place k + d
-    pub between : (d k : ℕ) → k + d ≤ length l → ((j : ℕ) → k ≤ j → j < k + d → getD l j 0 ≤ n) → (held (drop k l) n ≡ d + held (drop (k + d) l) n) × (left (drop k l) n ≡ left (drop (k + d) l) n)
+    pub between : (d k : ℕ) → k + d ≤ length l → ((j : ℕ) → k ≤ j → j < k + d → getD l j 0 ≤ n) → (heldAgainst (drop k l) n ≡ d + heldAgainst (drop (k + d) l) n) × (left (drop k l) n ≡ left (drop (k + d) l) n)
     between zero k h g =
         let e : k ≡ k + 0 = omega arith in
-        (ap (λ (x : ℕ). held (drop x l) n) e ∙ zero-more (held (drop (k + 0) l) n), ap (λ (x : ℕ). left (drop x l) n) e)
+        (ap (λ (x : ℕ). heldAgainst (drop x l) n) e ∙ zero-more (heldAgainst (drop (k + 0) l) n), ap (λ (x : ℕ). left (drop x l) n) e)
       where
         zero-more : (x : ℕ) → x ≡ 0 + x
         zero-more x = omega arith
@@ -98,7 +98,7 @@ module _ (l : List ℕ) where
         let p = passes k (omega arith) (g k (omega arith) (omega arith)) in
         let q = between d (suc k) (omega arith) (λ j a b. g j (omega arith) (omega arith)) in
         let e : suc k + d ≡ k + suc d = omega arith in
-        (p .0 ∙ ap suc (q .0 ∙ ap (λ (x : ℕ). d + held (drop x l) n) e) ∙ suc-more d (held (drop (k + suc d) l) n), p .1 ∙ q .1 ∙ ap (λ (x : ℕ). left (drop x l) n) e)
+        (p .0 ∙ ap suc (q .0 ∙ ap (λ (x : ℕ). d + heldAgainst (drop x l) n) e) ∙ suc-more d (heldAgainst (drop (k + suc d) l) n), p .1 ∙ q .1 ∙ ap (λ (x : ℕ). left (drop x l) n) e)
       where
         suc-more : (a b : ℕ) → suc (a + b) ≡ suc a + b
         suc-more a b = omega arith

@@ -12,13 +12,13 @@ use lib.ListN.{length}
 use borrow.Author.Tests.{ltb-false, le-ltb}
 use Rattle.refusals.specs.Outcome.{Outcome, answer, refusal, onward}
 use Rattle.refusals.proofs.Onward.{came}
-use Rattle.calendar.proofs.Accepted.{Accepted, accepted}
+use Rattle.calendar.proofs.Accepted.{Accepted, date-accepted}
 use Rattle.tai_utc.specs.Table.{monthNumber, monthOf}
 use Rattle.offset_walk.specs.declared.Triple.{Triple}
-use Rattle.offset_walk.specs.Judging.{first, earlier, validTriple, judgedNext, judgedAfter, judged}
+use Rattle.offset_walk.specs.Judging.{byFirst, earlier, validTriple, judgedNext, judgedAfter, judgedAll}
 use Rattle.offset_walk.specs.Walk.{monthIn}
 use Rattle.offset_walk.specs.Lists.{datesFrom}
-use Rattle.offset_walk.specs.Asked.{Good}
+use Rattle.offset_walk.specs.Asked.{GoodDates}
 use Rattle.offset_walk.proofs.Judges.{firstDate, first-of-all}
 
 -- ---- the order of two dates, and of their months
@@ -55,8 +55,8 @@ month-order (pos a) (negsuc b) p q r = let y : _≡_ {A = ℕ} 0 1 = cc in absur
 
 pub in-order : (a b : Triple) → validTriple a ≡ answer tt → validTriple b ≡ answer tt → earlier a b ≡ false → monthIn b ≤ monthIn a
 in-order a b p q e =
-    let x = accepted (a .year) (a .month) (a .day) p in
-    let y = accepted (b .year) (b .month) (b .day) q in
+    let x = date-accepted (a .year) (a .month) (a .day) p in
+    let y = date-accepted (b .year) (b .month) (b .day) q in
     let z = not-earlier a b e in
     months-rise (a .year) (b .year) (natAbs (a .month)) (natAbs (b .month)) (x .m-low) (x .m-high) (y .m-low) (y .m-high) (z .year)
     (λ h. month-order (a .month) (b .month) (x .m-sign) (y .m-sign) (z .month h))
@@ -102,7 +102,7 @@ module _ (f : ℕ → Triple) where
           let e : i ≡ j = omega arith in
           subst (λ (x : ℕ). earlier (f (suc x)) (f x) ≡ false) e (r .start (omega arith))
 
-  pub all-good : (n : ℕ) → judged (datesFrom f 0 n) ≡ answer tt → Good f n
+  pub all-good : (n : ℕ) → judgedAll (datesFrom f 0 n) ≡ answer tt → GoodDates f n
   all-good n e =
       let r = from n 0 firstDate (sym (first-of-all (datesFrom f 0 n)) ∙ e) in
       record {

@@ -16,10 +16,10 @@ use Rattle.calendar.specs.Calendar.{leapYear, lengths, monthLength, daysInMonth
 use Rattle.calendar.specs.Refusals.{validDate}
 use Rattle.calendar.proofs.Months.{months}
 use Rattle.calendar.proofs.Signs.{at-least-one}
-use Rattle.calendar.proofs.Accepted.{Accepted, accepted, month-days}
+use Rattle.calendar.proofs.Accepted.{Accepted, date-accepted, month-days}
 use Rattle.tai_utc.specs.Lent.{unlessRefused}
 use Rattle.offset_walk.specs.declared.Triple.{Triple}
-use Rattle.offset_walk.specs.Judging.{triple, earlier, validTriple, judgedNext, judgedAfter, judged}
+use Rattle.offset_walk.specs.Judging.{triple, earlier, validTriple, judgedNext, judgedAfter, judgedAll}
 use Rattle.offset_walk.specs.Lists.{datesFrom}
 
 -- ---- a test of two numbers, which the machine reads back from their bits
@@ -105,7 +105,7 @@ firstDate = triple (negsuc 4798) (pos 1) (pos 1)
 not-earlier : (t : Triple) → validTriple t ≡ answer tt → earlier t firstDate ≡ false
 unfolding earlier
 not-earlier t e =
-    let a = accepted (t .year) (t .month) (t .day) e in
+    let a = date-accepted (t .year) (t .month) (t .day) e in
     rw (a .year, a .m-sign, a .d-sign) (both (ltZ (negsuc 4798) (t .year)) (ltZ (pos 1) (t .month)))
   where
     both : (b c : Bool) → cond b false (cond c false false) ≡ false
@@ -121,8 +121,8 @@ first-judged t = go (validTriple t) refl
     go (answer tt) e = sym (ap (λ (x : Bool). cond x (refusal 17) (answer tt)) (not-earlier t e))
     go (refusal k) e = refl
 
-pub first-of-all : (dates : List Triple) → judged dates ≡ judgedAfter firstDate dates
-unfolding judged judgedAfter
+pub first-of-all : (dates : List Triple) → judgedAll dates ≡ judgedAfter firstDate dates
+unfolding judgedAll judgedAfter
 first-of-all [] = refl
 first-of-all (t ∷ dates) = ap (λ (o : Outcome Unit). onward o (λ _. judgedAfter t dates)) (first-judged t)
 
@@ -162,7 +162,7 @@ module _ (f : ℕ → Triple) (n i : ℕ) where
         ∙ ap (λ (o : Outcome Unit). onward o (λ _. judgedAfter (f i) (datesFrom f (i + 1) (n - (i + 1))))) (sym (ap (λ (x : ℕ). unlessRefused x tt) (sym z) ∙ p ∙ ap (judgedNext before) e))
         ∙ ap (λ (x : Triple). judgedAfter x (datesFrom f (i + 1) (n - (i + 1)))) (sym e)
 
-    pub judging-starts : judged (datesFrom f 0 n) ≡ judgedAfter firstDate (datesFrom f 0 (n - 0))
+    pub judging-starts : judgedAll (datesFrom f 0 n) ≡ judgedAfter firstDate (datesFrom f 0 (n - 0))
     judging-starts = first-of-all (datesFrom f 0 n) ∙ ap (judgedAfter firstDate) all-dates
 
     pub judging-ends : n ≤ i → answer tt ≡ judgedAfter before (datesFrom f i (n - i))

@@ -12,9 +12,9 @@ use Rattle.tai_utc.specs.Offset.{taiUtcOffset}
 use Rattle.tai_utc.proofs.Offsets.{in-day-zero, offset-given}
 use Rattle.offset_walk.specs.declared.Triple.{Triple}
 use Rattle.offset_walk.specs.Judging.{validTriple}
-use Rattle.offset_walk.specs.Walk.{offsetAt0h}
+use Rattle.offset_walk.specs.Walk.{tripleOffset}
 
 -- EACH OFFSET is the one that the look-up gives for its date
-pub offset-of-look-up : (rows : List Row) (t : Triple) → validTriple t ≡ answer tt → taiUtcOffset rows (t .year) (t .month) (t .day) nought ≡ answer (offsetAt0h rows t)
-unfolding offsetAt0h
+pub offset-of-look-up : (rows : List Row) (t : Triple) → validTriple t ≡ answer tt → taiUtcOffset rows (t .year) (t .month) (t .day) nought ≡ answer (tripleOffset rows t)
+unfolding tripleOffset
 offset-of-look-up rows t e = offset-given rows (t .year) (t .month) (t .day) nought in-day-zero (mjdNumber (t .year) (t .month) (t .day)) (mjd-given (t .year) (t .month) (t .day) e)

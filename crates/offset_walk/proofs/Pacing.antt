@@ -16,10 +16,10 @@ use Rattle.tai_utc.specs.Offset.{offsetBy, offsetAt}
 use Rattle.tai_utc.specs.Forward.{never, byTerms}
 use Rattle.offset_walk.specs.declared.Triple.{Triple}
 use Rattle.offset_walk.specs.declared.Walk.{Walk}
-use Rattle.offset_walk.specs.Rows.{held, left, compared}
-use Rattle.offset_walk.specs.Walk.{monthIn, offsetAt0h}
+use Rattle.offset_walk.specs.Rows.{heldAgainst, left, compared}
+use Rattle.offset_walk.specs.Walk.{monthIn, tripleOffset}
 use Rattle.offset_walk.specs.Lists.{datesFrom}
-use Rattle.offset_walk.specs.Asked.{Standing, AtStart, Stepped, CountsNext, Good}
+use Rattle.offset_walk.specs.Asked.{Standing, AtStart, Stepped, CountsNext, GoodDates}
 use Rattle.offset_walk.proofs.Judges.{next-date, no-date, all-dates}
 use Rattle.offset_walk.proofs.Forward.{between, stops, found}
 
@@ -35,7 +35,7 @@ pub record Pacing (rows : List Row) (f : ℕ → Triple) (n i : ℕ) (w : Walk) 
 abbrev pub counting : Walk → ℕ → Walk
 counting w c = record { rows = w .rows; reached = w .reached; next = w .next; terms = w .terms; compared = c }
 
-one-date : (l : List ℕ) (m : ℕ) (ms : List ℕ) → compared l (m ∷ ms) ≡ held l m + compared (left l m) ms
+one-date : (l : List ℕ) (m : ℕ) (ms : List ℕ) → compared l (m ∷ ms) ≡ heldAgainst l m + compared (left l m) ms
 unfolding compared
 one-date l m ms = refl
 
@@ -81,7 +81,7 @@ module _ (rows : List Row) (f : ℕ → Triple) (n : ℕ) where
     next-later : m < getD l (v .reached) never
     next-later = omega (arith, s .later, s .stands .next)
 
-    pub pacing-goes : Good f n → (c : ℕ) → CountsNext v c → Pacing rows f n (i + 1) (counting v c)
+    pub pacing-goes : GoodDates f n → (c : ℕ) → CountsNext v c → Pacing rows f n (i + 1) (counting v c)
     pacing-goes g c k =
         record {
           within = omega arith;
@@ -97,10 +97,10 @@ module _ (rows : List Row) (f : ℕ → Triple) (n : ℕ) where
         there : w .reached + d ≡ v .reached
         there = omega (arith, s .forward)
 
-        b : (held (drop (w .reached) l) m ≡ d + held (drop (w .reached + d) l) m) × (left (drop (w .reached) l) m ≡ left (drop (w .reached + d) l) m)
+        b : (heldAgainst (drop (w .reached) l) m ≡ d + heldAgainst (drop (w .reached + d) l) m) × (left (drop (w .reached) l) m ≡ left (drop (w .reached + d) l) m)
         b = between l m d (w .reached) (omega (arith, there, s .stands .most, many)) (λ j x y. s .begun j x (omega (arith, there, y)))
 
-        z : (left (drop (v .reached) l) m ≡ drop (v .reached) l) × (held (drop (v .reached) l) m ≡ cond (leb (length l) (v .reached)) 0 1)
+        z : (left (drop (v .reached) l) m ≡ drop (v .reached) l) × (heldAgainst (drop (v .reached) l) m ≡ cond (leb (length l) (v .reached)) 0 1)
         z = stops l m (v .reached) next-later
 
         one : ℕ
@@ -116,8 +116,8 @@ module _ (rows : List Row) (f : ℕ → Triple) (n : ℕ) where
         c-is : c ≡ v .compared + one
         c-is = k ∙ ap (λ (x : ℕ). v .compared + cond (leb x (v .reached)) 0 1) (s .stands .all ∙ sym many)
 
-        held-is : held (drop (w .reached) l) m ≡ d + one
-        held-is = b .0 ∙ ap (λ (x : ℕ). d + held (drop x l) m) there ∙ ap (λ (x : ℕ). d + x) (z .1)
+        held-is : heldAgainst (drop (w .reached) l) m ≡ d + one
+        held-is = b .0 ∙ ap (λ (x : ℕ). d + heldAgainst (drop x l) m) there ∙ ap (λ (x : ℕ). d + x) (z .1)
 
         left-is : left (drop (w .reached) l) m ≡ drop (v .reached) l
         left-is = b .1 ∙ ap (λ (x : ℕ). left (drop x l) m) there ∙ z .0
@@ -128,7 +128,7 @@ module _ (rows : List Row) (f : ℕ → Triple) (n : ℕ) where
         months : rest i ≡ monthIn (f i) ∷ rest (i + 1)
         months = ap (map monthIn) (next-date f n i h)
 
-        onward-from : compared (drop (w .reached) l) (rest i) ≡ held (drop (w .reached) l) m + compared (left (drop (w .reached) l) m) (rest (i + 1))
+        onward-from : compared (drop (w .reached) l) (rest i) ≡ heldAgainst (drop (w .reached) l) m + compared (left (drop (w .reached) l) m) (rest (i + 1))
         onward-from = ap (compared (drop (w .reached) l)) (months ∙ ap (λ (x : ℕ). x ∷ rest (i + 1)) (sym e)) ∙ one-date (drop (w .reached) l) m (rest (i + 1))
 
         counted : c + compared (drop (v .reached) l) (rest (i + 1)) ≡ w .compared + compared (drop (w .reached) l) (rest i)
@@ -136,8 +136,8 @@ module _ (rows : List Row) (f : ℕ → Triple) (n : ℕ) where
             sums c (v .compared) (w .compared) (v .reached) (w .reached) d one (compared (drop (v .reached) l) (rest (i + 1))) c-is (s .count) there
             ∙ ap (λ (x : ℕ). w .compared + x) (sym (onward-from ∙ (λ x. held-is x + compared (left-is x) (rest (i + 1)))))
 
-    pub offset-is : T (rising l) → byTerms (v .terms) (ofInt binary64 (mjdNumber (f i .year) (f i .month) (f i .day))) nought ≡ offsetAt0h rows (f i)
-    unfolding offsetAt0h offsetAt
+    pub offset-is : T (rising l) → byTerms (v .terms) (ofInt binary64 (mjdNumber (f i .year) (f i .month) (f i .day))) nought ≡ tripleOffset rows (f i)
+    unfolding tripleOffset offsetAt
     offset-is r =
         let o = found l m r (v .reached) (omega (arith, s .stands .most, many)) all-begun next-later in
         s .stands .terms (ofInt binary64 (mjdNumber (f i .year) (f i .month) (f i .day))) nought

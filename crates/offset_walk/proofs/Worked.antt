@@ -9,8 +9,8 @@ use Rattle.tai_utc.specs.Table.{fixed, monthNumber}
 use Rattle.calendar.specs.Calendar.{leapSize, lengths, daysInMonth}
 use Rattle.calendar.specs.Refusals.{validDate}
 use Rattle.offset_walk.specs.declared.Triple.{Triple}
-use Rattle.offset_walk.specs.Rows.{held, left, compared}
-use Rattle.offset_walk.specs.Judging.{triple, earlier, judgedNext, judgedAfter, judged}
+use Rattle.offset_walk.specs.Rows.{heldAgainst, left, compared}
+use Rattle.offset_walk.specs.Judging.{triple, earlier, judgedNext, judgedAfter, judgedAll}
 use Rattle.offset_walk.specs.Walk.{walkOf}
 
 abbrev date : ℕ → ℕ → ℕ → Triple
@@ -18,17 +18,17 @@ date y m d = triple (pos y) (pos m) (pos d)
 
 -- the last day without a row, the first row's first day, and both sides of the last row's start: 42 rows are reached, and three of the dates leave one
 pub four-dates : onward (walkOf fixed true (date 1959 12 31 ∷ date 1960 1 1 ∷ date 2016 12 31 ∷ date 2017 1 1 ∷ []) 4) (λ w. answer (w .rowsCompared)) ≡ answer 45
-unfolding walkOf judged judgedAfter judgedNext earlier onward validDate daysInMonth lengths leapSize compared held left fixed monthNumber
+unfolding walkOf judgedAll judgedAfter judgedNext earlier onward validDate daysInMonth lengths leapSize compared heldAgainst left fixed monthNumber
 four-dates = refl
 
 -- the last leap second: 42 rows to 2016-12-31, and one to 2017-01-01
 pub last-leap : onward (walkOf fixed true (date 2016 12 31 ∷ date 2017 1 1 ∷ []) 2) (λ w. answer (w .rowsCompared)) ≡ answer 43
-unfolding walkOf judged judgedAfter judgedNext earlier onward validDate daysInMonth lengths leapSize compared held left fixed monthNumber
+unfolding walkOf judgedAll judgedAfter judgedNext earlier onward validDate daysInMonth lengths leapSize compared heldAgainst left fixed monthNumber
 last-leap = refl
 
 -- exchanged, 17; with no place, 11, though the date is none; a date that is none and earlier too, its own number
 pub exchanged : walkOf fixed true (date 2017 1 1 ∷ date 2016 12 31 ∷ []) 2 ≡ refusal 17
-unfolding walkOf judged judgedAfter judgedNext earlier onward validDate daysInMonth lengths leapSize
+unfolding walkOf judgedAll judgedAfter judgedNext earlier onward validDate daysInMonth lengths leapSize
 exchanged = refl
 
 pub no-place : walkOf fixed true (date 1999 2 29 ∷ []) 0 ≡ refusal 11
@@ -36,5 +36,5 @@ unfolding walkOf
 no-place = refl
 
 pub none-and-earlier : walkOf fixed true (date 2016 12 31 ∷ date 1999 2 29 ∷ []) 2 ≡ refusal 3
-unfolding walkOf judged judgedAfter judgedNext earlier onward validDate daysInMonth lengths leapSize
+unfolding walkOf judgedAll judgedAfter judgedNext earlier onward validDate daysInMonth lengths leapSize
 none-and-earlier = refl

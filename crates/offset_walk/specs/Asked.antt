@@ -41,6 +41,6 @@ abbrev pub CountsNext : Walk → ℕ → Type 0
 CountsNext w r = r ≡ w .compared + cond (leb (w .rows) (w .reached)) 0 1
 
 -- dates that nothing is refused of: each is good, and their months do not fall
-pub record Good (f : ℕ → Triple) (n : ℕ) : Type 0 where
+pub record GoodDates (f : ℕ → Triple) (n : ℕ) : Type 0 where
   pub good : (i : ℕ) → i < n → validTriple (f i) ≡ answer tt
   pub rise : (i : ℕ) → suc i < n → monthIn (f i) ≤ monthIn (f (suc i))

@@ -20,11 +20,11 @@ abbrev pub asFloats : List Float → List Float
 asFloats l = l
 
 -- the offsets, as `write` writes them, at the start of the lent list and the rest as it was; refused, all as it was
-unfoldable pub lentAfter : {A : Type 0} → (List Float → List A) → Outcome Walked → List A → List A
-lentAfter write (answer w) l = write (w .offsets) ++ drop (length (write (w .offsets))) l
-lentAfter write (refusal k) l = l
+unfoldable pub listAfter : {A : Type 0} → (List Float → List A) → Outcome Walked → List A → List A
+listAfter write (answer w) l = write (w .offsets) ++ drop (length (write (w .offsets))) l
+listAfter write (refusal k) l = l
 
 -- r is the number of rows compared, or the refusal, and the lent list, which held `before`, holds `after`
 pub record WalkCall {A : Type 0} (write : List Float → List A) (o : Outcome Walked) (before : List A) (r : WalkAnswer) (after : List A) : Type 0 where
   pub says : walkOutcome r ≡ onward o (λ w. answer (w .rowsCompared))
-  pub holds : after ≡ lentAfter write o before
+  pub holds : after ≡ listAfter write o before

@@ -13,12 +13,12 @@ abbrev pub triple : ℤ → ℤ → ℤ → Triple
 triple y m d = record { year = y; month = m; day = d }
 
 -- by the first field in which they differ
-abbrev pub first : ℤ → ℤ → Bool → Bool
-first a b rest = cond (ltZ a b) true (cond (ltZ b a) false rest)
+abbrev pub byFirst : ℤ → ℤ → Bool → Bool
+byFirst a b rest = cond (ltZ a b) true (cond (ltZ b a) false rest)
 
 -- whether date a is earlier than date b: by year, then month, then day
 unfoldable pub earlier : Triple → Triple → Bool
-earlier a b = first (a .year) (b .year) (first (a .month) (b .month) (ltZ (a .day) (b .day)))
+earlier a b = byFirst (a .year) (b .year) (byFirst (a .month) (b .month) (ltZ (a .day) (b .day)))
 
 -- 1 to 3: the numbers of a date
 abbrev pub validTriple : Triple → Outcome Unit
@@ -34,6 +34,6 @@ judgedAfter before [] = answer tt
 judgedAfter before (t ∷ dates) = onward (judgedNext before t) (λ _. judgedAfter t dates)
 
 -- all dates, the first of which has none before it
-unfoldable pub judged : List Triple → Outcome Unit
-judged [] = answer tt
-judged (t ∷ dates) = onward (validTriple t) (λ _. judgedAfter t dates)
+unfoldable pub judgedAll : List Triple → Outcome Unit
+judgedAll [] = answer tt
+judgedAll (t ∷ dates) = onward (validTriple t) (λ _. judgedAfter t dates)

@@ -9,9 +9,9 @@ use Rattle.tai_utc.specs.Table.{reached}
 
 -- Of the starts of the rows not yet reached: how many a month is held against. Each that has begun is reached and the next is looked at; the first that has not begun counts
 -- too, and ends it.
-unfoldable pub held : List ℕ → ℕ → ℕ
-held [] n = 0
-held (a ∷ rest) n = cond (leb a n) (suc (held rest n)) 1
+unfoldable pub heldAgainst : List ℕ → ℕ → ℕ
+heldAgainst [] n = 0
+heldAgainst (a ∷ rest) n = cond (leb a n) (suc (heldAgainst rest n)) 1
 
 -- and the starts that are then still not reached
 unfoldable pub left : List ℕ → ℕ → List ℕ
@@ -21,7 +21,7 @@ left (a ∷ rest) n = cond (leb a n) (left rest n) (a ∷ rest)
 -- over the months of all dates, each going on where the one before it stopped
 unfoldable pub compared : List ℕ → List ℕ → ℕ
 compared starts [] = 0
-compared starts (n ∷ months) = held starts n + compared (left starts n) months
+compared starts (n ∷ months) = heldAgainst starts n + compared (left starts n) months
 
 -- ---- the words of `compared-closed`: months in time order, none before n
 unfoldable pub inTime : ℕ → List ℕ → Bool

@@ -14,15 +14,15 @@ use Rattle.tai_utc.specs.Table.{Row, starts, monthNumber}
 use Rattle.tai_utc.specs.Offset.{offsetAt}
 use Rattle.offset_walk.specs.declared.Triple.{Triple}
 use Rattle.offset_walk.specs.Rows.{compared}
-use Rattle.offset_walk.specs.Judging.{judged}
+use Rattle.offset_walk.specs.Judging.{judgedAll}
 
 -- the number of a date's month
 abbrev pub monthIn : Triple → ℕ
 monthIn t = monthNumber (t .year) (natAbs (t .month))
 
 -- the offset of a date at 0h, by the row of its month: that of document 01's look-up (`offset-of-look-up`)
-unfoldable pub offsetAt0h : List Row → Triple → Float
-offsetAt0h rows t = offsetAt rows (monthIn t) (ofInt binary64 (mjdNumber (t .year) (t .month) (t .day))) nought
+unfoldable pub tripleOffset : List Row → Triple → Float
+tripleOffset rows t = offsetAt rows (monthIn t) (ofInt binary64 (mjdNumber (t .year) (t .month) (t .day))) nought
 
 -- the rows compared, and the offsets in the order of the dates
 pub record Walked : Type 0 where
@@ -30,13 +30,13 @@ pub record Walked : Type 0 where
   pub offsets : List Float
 
 abbrev pub walked : List Row → List Triple → Walked
-walked rows dates = record { rowsCompared = compared (starts rows) (map monthIn dates); offsets = map (offsetAt0h rows) dates }
+walked rows dates = record { rowsCompared = compared (starts rows) (map monthIn dates); offsets = map (tripleOffset rows) dates }
 
 -- `whole`: there is no broken triple
 unfoldable pub walkOf : List Row → Bool → List Triple → ℕ → Outcome Walked
 walkOf rows whole dates places =
     cond whole
     (cond (leb (length dates) places)
-    (onward (judged dates) (λ _. answer (walked rows dates)))
+    (onward (judgedAll dates) (λ _. answer (walked rows dates)))
     (refusal 11))
     (refusal 14)

@@ -11,11 +11,11 @@ ghost use Rattle.little_endian.specs.LittleEndian.{eightBytes};
 ghost use Rattle.tai_utc.specs.Table.{starts, rising};
 ghost use Rattle.tai_utc.specs.Lent.{rowsOf, tableOf, unlessRefused};
 ghost use Rattle.offset_walk.specs.Rows.{compared};
-ghost use Rattle.offset_walk.specs.Judging.{judged};
-ghost use Rattle.offset_walk.specs.Walk.{monthIn, offsetAt0h, walked};
+ghost use Rattle.offset_walk.specs.Judging.{judgedAll};
+ghost use Rattle.offset_walk.specs.Walk.{monthIn, tripleOffset, walked};
 ghost use Rattle.offset_walk.specs.Lists.{datesFrom, tripleIn, walkOfBytes, inEights};
 ghost use Rattle.offset_walk.specs.Call.{WalkCall};
-ghost use Rattle.offset_walk.specs.Asked.{Good};
+ghost use Rattle.offset_walk.specs.Asked.{GoodDates};
 use super::Triple;
 use super::WalkAnswer;
 use tai_utc::LentRows;
@@ -44,7 +44,7 @@ fn put_offset(out: &mut [u8], at: usize, x: f64)
 // The number by which the n dates are turned away, 0 if they are not.
 fn judge_all(dates: &[u8], n: usize) -> u32
     requires { ⌜ 12 * n ≤ length (now dates) ⌝ }
-    ensures { λ r. ⌜ unlessRefused r tt ≡ judged (datesFrom (tripleIn (now (dates .entry))) 0 n) ⌝ }
+    ensures { λ r. ⌜ unlessRefused r tt ≡ judgedAll (datesFrom (tripleIn (now (dates .entry))) 0 n) ⌝ }
 {
     let mut before = Triple {
         year: -4799,
@@ -66,8 +66,8 @@ fn judge_all(dates: &[u8], n: usize) -> u32
 
 // Walks through the table with n dates, writes their offsets, and says how many rows it compared.
 fn walk_all(dates: &[u8], n: usize, table: LentRows, out: &mut [u8]) -> u64
-    requires { ⌜ (Good (tripleIn (now dates)) n) × (T (rising (starts (rowsOf table)))) × (12 * n ≤ length (now dates)) × (8 * n ≤ length (now out)) ⌝ }
-    ensures { λ r. ⌜ (r ≡ compared (starts (rowsOf table)) (map monthIn (datesFrom (tripleIn (now (dates .entry))) 0 n))) × (now (out .exit) ≡ inEights (map (offsetAt0h (rowsOf table)) (datesFrom (tripleIn (now (dates .entry))) 0 n)) ++ drop (8 * n) (now (out .entry))) ⌝ }
+    requires { ⌜ (GoodDates (tripleIn (now dates)) n) × (T (rising (starts (rowsOf table)))) × (12 * n ≤ length (now dates)) × (8 * n ≤ length (now out)) ⌝ }
+    ensures { λ r. ⌜ (r ≡ compared (starts (rowsOf table)) (map monthIn (datesFrom (tripleIn (now (dates .entry))) 0 n))) × (now (out .exit) ≡ inEights (map (tripleOffset (rowsOf table)) (datesFrom (tripleIn (now (dates .entry))) 0 n)) ++ drop (8 * n) (now (out .entry))) ⌝ }
 {
     let mut w = super::at_start(table);
     let mut i = 0;

@@ -13,11 +13,11 @@ ghost use Rattle.tai_utc.specs.Table.{starts};
 ghost use Rattle.tai_utc.specs.Lent.{rowsOf, tableOf, unlessRefused};
 ghost use Rattle.tai_utc.specs.Forward.{byTerms};
 ghost use Rattle.offset_walk.specs.Rows.{compared};
-ghost use Rattle.offset_walk.specs.Judging.{earlier, validTriple, judgedNext, judged};
-ghost use Rattle.offset_walk.specs.Walk.{monthIn, offsetAt0h, walked};
+ghost use Rattle.offset_walk.specs.Judging.{earlier, validTriple, judgedNext, judgedAll};
+ghost use Rattle.offset_walk.specs.Walk.{monthIn, tripleOffset, walked};
 ghost use Rattle.offset_walk.specs.Lists.{datesFrom, tripleAt, walkOfNumbers};
 ghost use Rattle.offset_walk.specs.Call.{asFloats, WalkCall};
-ghost use Rattle.offset_walk.specs.Asked.{Standing, AtStart, Stepped, CountsNext, Good};
+ghost use Rattle.offset_walk.specs.Asked.{Standing, AtStart, Stepped, CountsNext, GoodDates};
 ghost use Rattle.tai_utc.specs.Table.{rising};
 ghost use lib.Dec.{T};
 
@@ -201,7 +201,7 @@ fn triple_at(dates: &[i32], i: usize) -> Triple
 // The number by which the n dates are turned away, 0 if they are not. No valid date is earlier than the first of -4799.
 fn judge_all(dates: &[i32], n: usize) -> u32
     requires { ⌜ 3 * n ≤ length (now dates) ⌝ }
-    ensures { λ r. ⌜ unlessRefused r tt ≡ judged (datesFrom (tripleAt (now (dates .entry))) 0 n) ⌝ }
+    ensures { λ r. ⌜ unlessRefused r tt ≡ judgedAll (datesFrom (tripleAt (now (dates .entry))) 0 n) ⌝ }
 {
     let mut before = Triple {
         year: -4799,
@@ -223,8 +223,8 @@ fn judge_all(dates: &[i32], n: usize) -> u32
 
 // Walks through the table with n dates, writes their offsets, and says how many rows it compared.
 fn walk_all(dates: &[i32], n: usize, table: LentRows, out: &mut [f64]) -> u64
-    requires { ⌜ (Good (tripleAt (now dates)) n) × (T (rising (starts (rowsOf table)))) × (3 * n ≤ length (now dates)) × (n ≤ length (now out)) ⌝ }
-    ensures { λ r. ⌜ (r ≡ compared (starts (rowsOf table)) (map monthIn (datesFrom (tripleAt (now (dates .entry))) 0 n))) × (now (out .exit) ≡ map (offsetAt0h (rowsOf table)) (datesFrom (tripleAt (now (dates .entry))) 0 n) ++ drop n (now (out .entry))) ⌝ }
+    requires { ⌜ (GoodDates (tripleAt (now dates)) n) × (T (rising (starts (rowsOf table)))) × (3 * n ≤ length (now dates)) × (n ≤ length (now out)) ⌝ }
+    ensures { λ r. ⌜ (r ≡ compared (starts (rowsOf table)) (map monthIn (datesFrom (tripleAt (now (dates .entry))) 0 n))) × (now (out .exit) ≡ map (tripleOffset (rowsOf table)) (datesFrom (tripleAt (now (dates .entry))) 0 n) ++ drop n (now (out .entry))) ⌝ }
 {
     let mut w = at_start(table);
     let mut i = 0;

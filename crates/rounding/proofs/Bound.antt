@@ -21,17 +21,17 @@ use Rattle.rounding.proofs.Own.{Rep, rep-flip, val-rep, val-small}
 
 -- ---- at most B in size
 -- z is finite, and |z| is at most B units
-pub record Within (z : Float) (B : ℕ) : Type 0 where
+pub record SizeWithin (z : Float) (B : ℕ) : Type 0 where
   pub p : ℕ
   pub n : ℕ
   pub val : Val z p n L
   pub high : p ≤ n + B
   pub low : n ≤ p + B
 
-pub within-more : {z : Float} {B C : ℕ} → B ≤ C → Within z B → Within z C
+pub within-more : {z : Float} {B C : ℕ} → B ≤ C → SizeWithin z B → SizeWithin z C
 within-more h w = record { p = w .p; n = w .n; val = w .val; high = omega (arith, w .high); low = omega (arith, w .low) }
 
-within-of : (s : Bool) (z : Float) (g B : ℕ) → HasValue z s g L → g ≤ B → Within z B
+within-of : (s : Bool) (z : Float) (g B : ℕ) → HasValue z s g L → g ≤ B → SizeWithin z B
 within-of false z g B h l = record { p = g; n = 0; val = record { sign = false; size = g; has = h; is = omega arith }; high = omega arith; low = omega arith }
 within-of true z g B h l = record { p = 0; n = g; val = record { sign = true; size = g; has = h; is = omega arith }; high = omega arith; low = omega arith }
 
@@ -44,7 +44,7 @@ unfolding L
 round-ge a D B r E h = le-trans (le-of-eq (r .is)) (grid-ge binary64 a D (r .q) (r .j) E (r .small) (subst (λ (x : ℕ). x * D ≤ a * 2 ^ 1074) (r .is) h))
 
 -- |P - N| / D ≤ B / L gives |z| ≤ B / L
-pub rounds-within : {z : Float} {P N D B : ℕ} → 0 < D → Rep B → B < 2 ^ 2098 → P * L ≤ N * L + B * D → N * L ≤ P * L + B * D → Rounds binary64 z P N D → Within z B
+pub rounds-within : {z : Float} {P N D B : ℕ} → 0 < D → Rep B → B < 2 ^ 2098 → P * L ≤ N * L + B * D → N * L ≤ P * L + B * D → Rounds binary64 z P N D → SizeWithin z B
 rounds-within {z} {P} {N} {D} {B} E rep b u l r =
     let g = round-le (r .size) D B rep E (signed-le (r .sign) (r .size * L) (P * L) (N * L) (B * D) (signed-scale (r .sign) (r .size) P N L (r .is)) u l)
     in within-of (r .sign) z (grid binary64 (r .size) D) B (rounds-has r (lt-of-le-of-lt g b)) g

@@ -14,12 +14,12 @@ use Rattle.rounding.proofs.Compare.{le-true, le-false}
 use Rattle.rounding.proofs.Own.{Rep, val-rep}
 use Rattle.rounding.proofs.Nearest.{rn-exact, error-rep}
 use Rattle.rounding.proofs.TwoSum.{dekker}
-use Rattle.rounding.proofs.TwoSumFloat.{At, at, Exact}
+use Rattle.rounding.proofs.TwoSumFloat.{At, rounds-at, Exact}
 
 module _ {a b s : Float} {p n q m M : ℕ} (fa : T (fits binary64 a)) (fb : T (fits binary64 b)) (va : Val a p n L) (vb : Val b q m L) (order : dist q m ≤ dist p n) (most : dist p n ≤ M) (far : 32 * M < 2 ^ 2098)
     (r : Rounds binary64 s (p + q) (n + m) L) where
   xs : At s (p + q) (n + m) (2 * M)
-  xs = at (twice M (2 ^ 2098) far) (join p n q m (dist p n) (dist q m) (dist-up p n .0) (dist-up q m .0) order most) (join n p m q (dist p n) (dist q m) (dist-up p n .1) (dist-up q m .1) order most) r
+  xs = rounds-at (twice M (2 ^ 2098) far) (join p n q m (dist p n) (dist q m) (dist-up p n .0) (dist-up q m .0) order most) (join n p m q (dist p n) (dist q m) (dist-up p n .1) (dist-up q m .1) order most) r
     where
       twice : (M t : ℕ) → 32 * M < t → 2 * (2 * M) < t
       twice M t h = omega arith
@@ -28,7 +28,7 @@ module _ {a b s : Float} {p n q m M : ℕ} (fa : T (fits binary64 a)) (fb : T (f
       join p n q m x y h k l o = omega arith
 
   xt : At (sub binary64 a s) (p + xs .n) (n + xs .p) (5 * M)
-  xt = at (twice M (2 ^ 2098) far) (join p n (xs .n) (xs .p) (dist p n) (dist-up p n .0) most (xs .low)) (join n p (xs .p) (xs .n) (dist p n) (dist-up p n .1) most (xs .high)) (sub-rounds binary64 L-pos va (xs .val))
+  xt = rounds-at (twice M (2 ^ 2098) far) (join p n (xs .n) (xs .p) (dist p n) (dist-up p n .0) most (xs .low)) (join n p (xs .p) (xs .n) (dist p n) (dist-up p n .1) most (xs .high)) (sub-rounds binary64 L-pos va (xs .val))
     where
       twice : (M t : ℕ) → 32 * M < t → 2 * (5 * M) < t
       twice M t h = omega arith
@@ -37,7 +37,7 @@ module _ {a b s : Float} {p n q m M : ℕ} (fa : T (fits binary64 a)) (fb : T (f
       join p n x y d h k l = omega arith
 
   xe : At (add binary64 (sub binary64 a s) b) (xt .p + q) (xt .n + m) (11 * M)
-  xe = at (twice M (2 ^ 2098) far) (join q m (xt .p) (xt .n) (dist p n) (dist q m) (dist-up q m .0) order most (xt .high)) (join m q (xt .n) (xt .p) (dist p n) (dist q m) (dist-up q m .1) order most (xt .low)) (add-rounds binary64 L-pos (xt .val) vb)
+  xe = rounds-at (twice M (2 ^ 2098) far) (join q m (xt .p) (xt .n) (dist p n) (dist q m) (dist-up q m .0) order most (xt .high)) (join m q (xt .n) (xt .p) (dist p n) (dist q m) (dist-up q m .1) order most (xt .low)) (add-rounds binary64 L-pos (xt .val) vb)
     where
       twice : (M t : ℕ) → 32 * M < t → 2 * (11 * M) < t
       twice M t h = omega arith

@@ -31,6 +31,6 @@ cross-r M c d B D e = mul-right-comm M c D ∙ ap (λ (x : ℕ). x * c) e ∙ mu
 pub times : (a b c d A B D E : ℕ) → a * D ≡ A * c → b * E ≡ B * d → a * b * (D * E) ≡ A * B * (c * d)
 times a b c d A B D E h k = mul-mul-mul-comm a b D E ∙ ap (λ (x : ℕ). x * (b * E)) h ∙ ap (λ (x : ℕ). A * c * x) k ∙ mul-mul-mul-comm A c B d
 
-pub quotient : (a b c d A B D E : ℕ) → a * D ≡ A * c → b * E ≡ B * d → a * d * (D * B) ≡ A * E * (b * c)
-quotient a b c d A B D E h k =
+pub quotient-same : (a b c d A B D E : ℕ) → a * D ≡ A * c → b * E ≡ B * d → a * d * (D * B) ≡ A * E * (b * c)
+quotient-same a b c d A B D E h k =
     simp (mul-assoc, mul-comm, mul-left-comm) (simp (mul-assoc, mul-comm, mul-left-comm) at (ap (λ (z : ℕ). z * (B * d)) h ∙ ap (λ (z : ℕ). A * c * z) (sym k)))

@@ -17,7 +17,7 @@ use Rattle.rounding.proofs.Signed.{dist, dist-hi}
 use Rattle.rounding.proofs.Grid.{kept-le, closest-exact}
 use Rattle.rounding.proofs.Own.{Rep, rep-flip, lift}
 use Rattle.rounding.proofs.Own.{rep-zero}
-use Rattle.rounding.proofs.Optimal.{cut, step, step-fix, step-le, step-optimal}
+use Rattle.rounding.proofs.Optimal.{digitsDropped, step, step-fix, step-le, step-optimal}
 
 -- ---- multiples of a power of two
 abbrev Mult : ℕ → ℕ → Type 0
@@ -32,16 +32,16 @@ mult-add e x y (a, p) (b, q) = (a + b, ap (λ (z : ℕ). z + y) p ∙ ap (λ (z 
 mult-sub : (e x y : ℕ) → Mult e x → Mult e y → Mult e (x - y)
 mult-sub e x y (a, p) (b, q) = (a - b, ap (λ (z : ℕ). z - y) p ∙ ap (λ (z : ℕ). a * 2 ^ e - z) q ∙ sym (sub-mul a b (2 ^ e)))
 
-step-exact-at : (a c : ℕ) → a ≡ c * 2 ^ cut a → step a ≡ a
+step-exact-at : (a c : ℕ) → a ≡ c * 2 ^ digitsDropped a → step a ≡ a
 step-exact-at a c e =
-    ap (λ (x : ℕ). x * 2 ^ cut a) (ap (λ (u : ℕ). closest a u) (one-mul (2 ^ cut a)) ∙ ap (λ (x : ℕ). closest x (2 ^ cut a)) e ∙ closest-exact c (2 ^ cut a) (pow-pos (cut a))) ∙ sym e
+    ap (λ (x : ℕ). x * 2 ^ digitsDropped a) (ap (λ (u : ℕ). closest a u) (one-mul (2 ^ digitsDropped a)) ∙ ap (λ (x : ℕ). closest x (2 ^ digitsDropped a)) e ∙ closest-exact c (2 ^ digitsDropped a) (pow-pos (digitsDropped a))) ∙ sym e
 
 mult-step : (e a : ℕ) → Mult e a → Mult e (step a)
-mult-step e a m = go (leb (cut a) e) (leb→le (cut a) e) (nleb→lt (cut a) e)
+mult-step e a m = go (leb (digitsDropped a) e) (leb→le (digitsDropped a) e) (nleb→lt (digitsDropped a) e)
   where
-    go : (b : Bool) → (T b → cut a ≤ e) → (T (not b) → e < cut a) → Mult e (step a)
-    go true f g = let k = mult-up (m .0) (cut a) e (f tt) in (m .0, step-exact-at a (k .0) (m .1 ∙ k .1) ∙ m .1)
-    go false f g = mult-up (kept 53 a 1) e (cut a) (le-of-lt (g tt))
+    go : (b : Bool) → (T b → digitsDropped a ≤ e) → (T (not b) → e < digitsDropped a) → Mult e (step a)
+    go true f g = let k = mult-up (m .0) (digitsDropped a) e (f tt) in (m .0, step-exact-at a (k .0) (m .1 ∙ k .1) ∙ m .1)
+    go false f g = mult-up (kept 53 a 1) e (digitsDropped a) (le-of-lt (g tt))
 
 -- ---- what is a multiple of the finer grid, and no more than either of two values, is a value
 rep-mult : (x y d : ℕ) (r : Rep x) (s : Rep y) → Mult (min (r .j) (s .j)) d → d ≤ x → d ≤ y → Rep d
@@ -74,8 +74,8 @@ mult-r x y r s = own-mult y s (min (r .j) (s .j)) (omega arith)
 -- what is rounded is a value of the format
 pub rep-step : (a : ℕ) → Rep (step a)
 rep-step a = elim (eq-or-lt-of-le (kept-le 53 a 1)) [
-  | inl e ↦ record { q = 1; j = 53 + cut a; is = ap (λ (x : ℕ). x * 2 ^ cut a) e ∙ sym (pow-add 2 53 (cut a)) ∙ sym (one-mul (2 ^ (53 + cut a))); small = lit< tt }
-  | inr l ↦ record { q = kept 53 a 1; j = cut a; is = refl; small = l }
+  | inl e ↦ record { q = 1; j = 53 + digitsDropped a; is = ap (λ (x : ℕ). x * 2 ^ digitsDropped a) e ∙ sym (pow-add 2 53 (digitsDropped a)) ∙ sym (one-mul (2 ^ (53 + digitsDropped a))); small = lit< tt }
+  | inr l ↦ record { q = kept 53 a 1; j = digitsDropped a; is = refl; small = l }
 ]
 
 -- p - n is P - N, rounded to nearest

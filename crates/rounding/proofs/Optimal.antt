@@ -16,15 +16,15 @@ use Rattle.rounding.proofs.Grid.{Half, closest-near, step-mono, step-ex
 use Rattle.rounding.proofs.Own.{Rep, lift}
 
 -- the number of binary digits that rounding drops from a whole number of units, and that number, rounded
-abbrev pub cut : ℕ → ℕ
-cut a = drop 53 a 1
+abbrev pub digitsDropped : ℕ → ℕ
+digitsDropped a = drop 53 a 1
 
 abbrev pub step : ℕ → ℕ
-step a = kept 53 a 1 * 2 ^ cut a
+step a = kept 53 a 1 * 2 ^ digitsDropped a
 
 -- off by at most a half of the last digit kept
-pub step-near : (a : ℕ) → Half (step a) a (2 ^ cut a)
-step-near a = subst (λ (u : ℕ). Half (closest a (1 * 2 ^ cut a) * u) a u) (one-mul (2 ^ cut a)) (closest-near a (1 * 2 ^ cut a) (subst (λ (u : ℕ). 0 < u) (sym (one-mul (2 ^ cut a))) (pow-pos (cut a))))
+pub step-near : (a : ℕ) → Half (step a) a (2 ^ digitsDropped a)
+step-near a = subst (λ (u : ℕ). Half (closest a (1 * 2 ^ digitsDropped a) * u) a u) (one-mul (2 ^ digitsDropped a)) (closest-near a (1 * 2 ^ digitsDropped a) (subst (λ (u : ℕ). 0 < u) (sym (one-mul (2 ^ digitsDropped a))) (pow-pos (digitsDropped a))))
 
 -- what the format holds is rounded to itself
 pub step-fix : (y : ℕ) → Rep y → step y ≡ y
@@ -52,14 +52,14 @@ gap K d u h = le-trans (le-of-eq (ap (λ (x : ℕ). K * u + x) (sym (one-mul u))
     more x y l = omega arith
 
 -- with digits dropped, a is 2 ^ (52 + k) at least
-pub reaches : (a : ℕ) → 0 < cut a → 2 ^ (52 + cut a) ≤ a
-reaches a h = le-trans (size-reaches (a / 1) (52 + cut a) (all (size (a / 1)) h)) (le-of-eq (div-one a))
+pub reaches : (a : ℕ) → 0 < digitsDropped a → 2 ^ (52 + digitsDropped a) ≤ a
+reaches a h = le-trans (size-reaches (a / 1) (52 + digitsDropped a) (all (size (a / 1)) h)) (le-of-eq (div-one a))
   where
     all : (z : ℕ) → 0 < z - 53 → 52 + (z - 53) < z
     all z l = omega arith
 
 -- with no digit dropped, nothing is rounded
-pub step-same : (a : ℕ) → cut a ≡ 0 → step a ≡ a
+pub step-same : (a : ℕ) → digitsDropped a ≡ 0 → step a ≡ a
 step-same a e = go (step a) (subst (λ (k : ℕ). Half (step a) a (2 ^ k)) e (step-near a))
   where
     go : (g : ℕ) → Half g a 1 → g ≡ a
@@ -67,15 +67,15 @@ step-same a e = go (step a) (subst (λ (k : ℕ). Half (step a) a (2 ^ k)) e (st
 
 -- ---- a value at or above a, with the rounded one at or below it, and the other way round
 opt-over : (a y : ℕ) → Rep y → a ≤ y → step a ≤ a → 2 * a ≤ step a + y
-opt-over a y r h l = elim (eq-zero-or-pos (cut a)) [ inl e ↦ none (step a) (step-same a e) | inr k ↦ some k ]
+opt-over a y r h l = elim (eq-zero-or-pos (digitsDropped a)) [ inl e ↦ none (step a) (step-same a e) | inr k ↦ some k ]
   where
     none : (g : ℕ) → g ≡ a → 2 * a ≤ g + y
     none g e = omega arith
 
-    some : 0 < cut a → 2 * a ≤ step a + y
+    some : 0 < digitsDropped a → 2 * a ≤ step a + y
     some k =
-        let m = multiple (cut a) y r (le-trans (reaches a k) h) in
-        elim (eq-or-lt-of-le (le-trans l h)) [ inl e ↦ same (step a) e l h | inr g ↦ apart (step a) (2 ^ cut a) (step-near a .1) (le-trans (gap (kept 53 a 1) (m .0) (2 ^ cut a) (lt-of-lt-of-le g (le-of-eq (m .1)))) (le-of-eq (sym (m .1)))) ]
+        let m = multiple (digitsDropped a) y r (le-trans (reaches a k) h) in
+        elim (eq-or-lt-of-le (le-trans l h)) [ inl e ↦ same (step a) e l h | inr g ↦ apart (step a) (2 ^ digitsDropped a) (step-near a .1) (le-trans (gap (kept 53 a 1) (m .0) (2 ^ digitsDropped a) (lt-of-lt-of-le g (le-of-eq (m .1)))) (le-of-eq (sym (m .1)))) ]
       where
         same : (g : ℕ) → g ≡ y → g ≤ a → a ≤ y → 2 * a ≤ g + y
         same g e x z = omega arith
@@ -84,13 +84,13 @@ opt-over a y r h l = elim (eq-zero-or-pos (cut a)) [ inl e ↦ none (step a) (st
         apart g u x z = omega arith
 
 opt-under : (a y : ℕ) → Rep y → y ≤ a → a ≤ step a → step a + y ≤ 2 * a
-opt-under a y r h l = elim (eq-zero-or-pos (cut a)) [ inl e ↦ none (step a) (step-same a e) | inr k ↦ some k (leb (2 ^ (52 + cut a)) y) (leb→le (2 ^ (52 + cut a)) y) (nleb→lt (2 ^ (52 + cut a)) y) ]
+opt-under a y r h l = elim (eq-zero-or-pos (digitsDropped a)) [ inl e ↦ none (step a) (step-same a e) | inr k ↦ some k (leb (2 ^ (52 + digitsDropped a)) y) (leb→le (2 ^ (52 + digitsDropped a)) y) (nleb→lt (2 ^ (52 + digitsDropped a)) y) ]
   where
     none : (g : ℕ) → g ≡ a → g + y ≤ 2 * a
     none g e = omega arith
 
-    below : (z d : ℕ) → z ≡ d * 2 ^ cut a → z ≤ a → step a + z ≤ 2 * a
-    below z d e b = elim (eq-or-lt-of-le (le-trans b l)) [ inl q ↦ same (step a) q | inr q ↦ apart (step a) (2 ^ cut a) (step-near a .0) (le-trans (le-of-eq (ap (λ (x : ℕ). x + 2 ^ cut a) e)) (gap d (kept 53 a 1) (2 ^ cut a) (lt-of-le-of-lt (le-of-eq (sym e)) q))) ]
+    below : (z d : ℕ) → z ≡ d * 2 ^ digitsDropped a → z ≤ a → step a + z ≤ 2 * a
+    below z d e b = elim (eq-or-lt-of-le (le-trans b l)) [ inl q ↦ same (step a) q | inr q ↦ apart (step a) (2 ^ digitsDropped a) (step-near a .0) (le-trans (le-of-eq (ap (λ (x : ℕ). x + 2 ^ digitsDropped a) e)) (gap d (kept 53 a 1) (2 ^ digitsDropped a) (lt-of-le-of-lt (le-of-eq (sym e)) q))) ]
       where
         same : (g : ℕ) → z ≡ g → g + z ≤ 2 * a
         same g q = omega arith
@@ -98,9 +98,9 @@ opt-under a y r h l = elim (eq-zero-or-pos (cut a)) [ inl e ↦ none (step a) (s
         apart : (g u : ℕ) → 2 * g ≤ 2 * a + u → z + u ≤ g → g + z ≤ 2 * a
         apart g u x w = omega arith
 
-    some : 0 < cut a → (b : Bool) → (T b → 2 ^ (52 + cut a) ≤ y) → (T (not b) → y < 2 ^ (52 + cut a)) → step a + y ≤ 2 * a
-    some k true f g = let m = multiple (cut a) y r (f tt) in below y (m .0) (m .1) h
-    some k false f g = far (step a) (2 ^ (52 + cut a)) (below (2 ^ (52 + cut a)) (2 ^ 52) (pow-add 2 52 (cut a)) (reaches a k)) (g tt)
+    some : 0 < digitsDropped a → (b : Bool) → (T b → 2 ^ (52 + digitsDropped a) ≤ y) → (T (not b) → y < 2 ^ (52 + digitsDropped a)) → step a + y ≤ 2 * a
+    some k true f g = let m = multiple (digitsDropped a) y r (f tt) in below y (m .0) (m .1) h
+    some k false f g = far (step a) (2 ^ (52 + digitsDropped a)) (below (2 ^ (52 + digitsDropped a)) (2 ^ 52) (pow-add 2 52 (digitsDropped a)) (reaches a k)) (g tt)
       where
         far : (s z : ℕ) → s + z ≤ 2 * a → y < z → s + y ≤ 2 * a
         far s z x w = omega arith

@@ -1,4 +1,4 @@
--- From a test on a float to bounds on its value: -2 ^ k < x < 2 ^ k (`between`), |x| ≤ c and |x| < c for a float c (`at-most`, `below`). Each shows that x is
+-- From a test on a float to bounds on its value: -2 ^ k < x < 2 ^ k (`between`), |x| ≤ c and |x| < c for a float c (`size-at-most`, `below`). Each shows that x is
 -- finite, so that no NaN and no infinity passes. Assumes nothing.
 use mathlib.Core.Path.{_≡_, refl}
 use Prim.Native.Nat.{ℕ, _+_, _*_, _^_, _≤_, _<_}
@@ -16,7 +16,7 @@ use Rattle.rounding.proofs.Value.{L-pos, abs-val}
 use Rattle.rounding.proofs.Signed.{dist, dist-up}
 use Rattle.rounding.proofs.Own.{Own, own, own-val, plus-of, minus-of}
 use Rattle.rounding.proofs.Compare.{lt-says, le-says}
-use Rattle.rounding.proofs.Bound.{Within}
+use Rattle.rounding.proofs.Bound.{SizeWithin}
 
 -- ±2 ^ k, in units of 1 / D
 pub power-val : (k D : ℕ) → Val (fin false 1 (pos k)) (2 ^ k * D) 0 D
@@ -73,20 +73,20 @@ lt-finite (inf t) (inf u) s a v h = absurd v
 lt-finite (inf t) (fin u m e) s a v h = absurd h
 lt-finite (fin t m e) c s a v h = tt
 
-within-dist : {x : Float} {p n W : ℕ} → Val x p n L → dist p n ≤ W → Within x W
+within-dist : {x : Float} {p n W : ℕ} → Val x p n L → dist p n ≤ W → SizeWithin x W
 within-dist {x} {p} {n} {W} v h = record { p = p; n = n; val = v; high = wide p n (dist p n) (dist-up p n .0) h; low = wide n p (dist p n) (dist-up p n .1) h }
   where
     wide : (p n d : ℕ) → p ≤ n + d → d ≤ W → p ≤ n + W
     wide p n d e g = omega arith
 
-pub at-most : {x c : Float} {W : ℕ} → T (fits binary64 x) → Val c W 0 L → T (le (abs x) c) → Within x W
-at-most {x} {c} {W} f w h =
+pub size-at-most : {x c : Float} {W : ℕ} → T (fits binary64 x) → Val c W 0 L → T (le (abs x) c) → SizeWithin x W
+size-at-most {x} {c} {W} f w h =
     let v = own-val x (own x f (le-finite x c (w .sign) (w .size) (w .has) h)) in within-dist v (plain _ W (le-says L-pos (abs-val v) w h))
   where
     plain : (d W : ℕ) → d + 0 ≤ W + 0 → d ≤ W
     plain d W e = omega arith
 
-pub below : {x c : Float} {W : ℕ} → T (fits binary64 x) → Val c W 0 L → T (lt (abs x) c) → Within x W
+pub below : {x c : Float} {W : ℕ} → T (fits binary64 x) → Val c W 0 L → T (lt (abs x) c) → SizeWithin x W
 below {x} {c} {W} f w h =
     let v = own-val x (own x f (lt-finite x c (w .sign) (w .size) (w .has) h)) in within-dist v (plain _ W (lt-says L-pos (abs-val v) w h))
   where

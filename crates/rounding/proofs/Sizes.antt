@@ -16,15 +16,15 @@ use Rattle.rounding.proofs.Range.{power-val, below}
 use Rattle.rounding.proofs.Signed.{product-le}
 use Rattle.rounding.proofs.Value.{val-finite-true, add-rounds, sub-rounds, mul-rounds, div-rounds, val-scale, L-is, L-pos}
 use Rattle.rounding.proofs.Own.{Rep}
-use Rattle.rounding.proofs.Bound.{Within, rounds-within, within-more}
+use Rattle.rounding.proofs.Bound.{SizeWithin, rounds-within, within-more}
 use lib.Ieee.Scale.{finite}
 
 -- x is finite, and at most 2 ^ k in size
 abbrev pub Size : Float → ℕ → Type 0
-Size x k = Within x (2 ^ k * L)
+Size x k = SizeWithin x (2 ^ k * L)
 
 -- what has a bound is finite
-pub size-finite : (x : Float) (B : ℕ) → Within x B → finite x ≡ true
+pub size-finite : (x : Float) (B : ℕ) → SizeWithin x B → finite x ≡ true
 size-finite x B w = val-finite-true (w .val)
 
 -- the format holds 2 ^ k
@@ -142,7 +142,7 @@ pub under-size : (x : Float) (k : ℕ) → T (fits binary64 x) → T (lt (abs x)
 under-size x k f h = below f (power-val k L) h
 
 -- a product with a float of at most B / L = 2 ^ -s in size
-pub mul-small : (i s B : ℕ) {x y : Float} → B * 2 ^ s ≡ L → 2 ^ i ≤ 2 ^ 1000 → Size x (i + s) → Within y B → Size (mul binary64 x y) i
+pub mul-small : (i s B : ℕ) {x y : Float} → B * 2 ^ s ≡ L → 2 ^ i ≤ 2 ^ 1000 → Size x (i + s) → SizeWithin y B → Size (mul binary64 x y) i
 mul-small i s B e b v w =
     rounds-within (mul-pos L-pos L-pos) (power-rep i) (power-small i b)
     (shape _ _ (product-le (v .p) (v .n) (w .p) (w .n) (2 ^ (i + s) * L) B (v .high) (v .low) (w .high) (w .low)))

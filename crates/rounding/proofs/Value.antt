@@ -14,7 +14,7 @@ use lib.Ieee.Exact.{HasValue}
 use lib.Ieee.Scale.{round-same, finite}
 use Rattle.floats.specs.Whole.{abs}
 use Rattle.rounding.specs.Value.{Signed, Val, Rounds, L}
-use Rattle.rounding.proofs.Fractions.{order, plus, less, times, quotient}
+use Rattle.rounding.proofs.Fractions.{order, plus, less, times, quotient-same}
 pub use Rattle.rounding.proofs.Fractions.{cross-l, cross-r}
 use Rattle.rounding.proofs.Signed.{dist, signed-dist, signed-not, signed-move, signed-scale, signed-times}
 
@@ -232,7 +232,7 @@ div-has f v (fin u a e) (fin w b d) s A B D E p n F G H h k i = go (eqb b 0) (eq
       sign = unlike u w;
       size = A * E;
       eq = round-same f (unlike u w) (a * up e * down d) (b * up d * down e) (A * E) (D * B) (mul-pos (mul-pos some (up-pos d)) (down-pos e)) (mul-pos F H)
-          (quotient (a * up e) (b * up d) (down e) (down d) A B D E (h .1) (k .1));
+          (quotient-same (a * up e) (b * up d) (down e) (down d) A B D E (h .1) (k .1));
       is = subst (λ (z : Bool). Signed (unlike u w) (A * E) (cond z (n * E) (p * E)) (cond z (p * E) (n * E))) (k .0)
           (unlike-side u w (A * E) (p * E) (n * E) (subst (λ (z : Bool). Signed z (A * E) (p * E) (n * E)) (sym (h .0)) (signed-scale s A p n E i)));
     }

@@ -51,3 +51,7 @@ minusZ (negsuc a) = suc a
 -- 2 ^ 1074: the smallest f64 above zero is 1 / L, and every finite f64 is a whole number of 1 / L. Shut, so that proofs do not compute it
 unfoldable pub L : ℕ
 L = 2 ^ 1074
+
+-- a half, in the same units; shut too. L = 2 H
+unfoldable pub H : ℕ
+H = 2 ^ 1073

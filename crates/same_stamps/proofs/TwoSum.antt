@@ -8,9 +8,9 @@ use lib.Dec.{lit≤, lit<}
 use lib.Ieee.{Float, binary64, add, sub}
 use lib.Ieee.Scale.{finite}
 use Rattle.rounding.specs.Value.{Val, L, Under52}
-use Rattle.rounding.proofs.Bound.{Within, within-more}
+use Rattle.rounding.proofs.Bound.{SizeWithin, within-more}
 use Rattle.rounding.proofs.Near.{NearSum, add-near, sub-near}
-use Rattle.rounding.proofs.Range.{power-val, at-most, below}
+use Rattle.rounding.proofs.Range.{power-val, size-at-most, below}
 use Rattle.rounding.proofs.Value.{val-finite-true}
 use Rattle.same_stamps.specs.TwoSum.{NoOverflow, AtMost1021}
 
@@ -57,13 +57,13 @@ module _ (a b : Float) (p n q m M j : ℕ) (va : Val a p n L) (vb : Val b q m L)
     error = val-finite-true (error .val);
   }
 
-within : {a b : Float} (M : ℕ) → 2 * M + 8 * 2 ^ 2044 < 2 ^ 2097 → Within a M → Within b M → NoOverflow a b
+within : {a b : Float} (M : ℕ) → 2 * M + 8 * 2 ^ 2044 < 2 ^ 2097 → SizeWithin a M → SizeWithin b M → NoOverflow a b
 within {a} {b} M room x y = finite-throughout a b (x .p) (x .n) (y .p) (y .n) M 2044 (x .val) (y .val) (x .high) (x .low) (y .high) (y .low) (lit≤ tt) room
 
-within-1021 : {x : Float} → AtMost1021 x → Within x (2 ^ 1021 * L)
-within-1021 x = at-most (x .held) (power-val 1021 L) (x .small)
+within-1021 : {x : Float} → AtMost1021 x → SizeWithin x (2 ^ 1021 * L)
+within-1021 x = size-at-most (x .held) (power-val 1021 L) (x .small)
 
-within-52 : {x : Float} → Under52 x → Within x (2 ^ 52 * L)
+within-52 : {x : Float} → Under52 x → SizeWithin x (2 ^ 52 * L)
 within-52 x = below (x .held) (power-val 52 L) (x .small)
 
 pub at-most-finite : {x : Float} → AtMost1021 x → finite x ≡ true

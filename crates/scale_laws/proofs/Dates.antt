@@ -15,10 +15,10 @@ use Rattle.rounding.proofs.Own.{plus-of, minus-of, signed-of}
 use Rattle.rounding.proofs.Signed.{signed-le}
 use Rattle.rounding.proofs.Compare.{lt-val}
 use Rattle.rounding.proofs.About.{U, About, size-high, size-low}
-use Rattle.rounding.specs.Picoseconds.{Within}
+use Rattle.rounding.specs.Picoseconds.{dayPs, Within}
 use Rattle.julian.specs.declared.JulianDate.{JulianDate}
 use Rattle.shifts.specs.SmallerPart.{firstIsLarger, mapSmallerPart}
-use Rattle.scale_laws.specs.Meaning.{day, Close}
+use Rattle.scale_laws.specs.Meaning.{Close}
 use Rattle.shifts.proofs.SmallerPart.{mapAs, map-is}
 
 -- x is finite, and at most S * 2 ^ -90 in size
@@ -103,38 +103,38 @@ pub record Near (ps a c B B' p n q m : ℕ) (r : Float) : Type 0 where
   pub u : ℕ
   pub v : ℕ
   pub val : Val r u v L
-  pub over : day * (c * (p + u) + a * (n + m) + B') ≤ day * (c * (n + v) + a * (p + q) + B) + ps * (c * L)
-  pub under : day * (c * (n + v) + a * (p + q) + B) ≤ day * (c * (p + u) + a * (n + m) + B') + ps * (c * L)
+  pub over : dayPs * (c * (p + u) + a * (n + m) + B') ≤ dayPs * (c * (n + v) + a * (p + q) + B) + ps * (c * L)
+  pub under : dayPs * (c * (n + v) + a * (p + q) + B) ≤ dayPs * (c * (p + u) + a * (n + m) + B') + ps * (c * L)
 
 -- The larger part stays: so c * (larger + smaller) moves by P - N, which is a * (larger + smaller) + B - B' less c * larger.
-whole-le : (ps c u v P N X Y : ℕ) → day * (u * (L * c) + N * L) ≤ day * (v * (L * c) + P * L) + ps * (L * (L * c)) → P + X ≡ N + Y → day * (c * u + X) ≤ day * (c * v + Y) + ps * (c * L)
+whole-le : (ps c u v P N X Y : ℕ) → dayPs * (u * (L * c) + N * L) ≤ dayPs * (v * (L * c) + P * L) + ps * (L * (L * c)) → P + X ≡ N + Y → dayPs * (c * u + X) ≤ dayPs * (c * v + Y) + ps * (c * L)
 whole-le ps c u v P N X Y h e =
     go (c * u) (c * v) P N X Y (ps * (c * L))
     (le-of-mul-le-mul-right {k = L} (le-trans (le-of-eq (left u N)) (le-trans h (le-of-eq (sym right)))) L-pos) e
   where
-    go : (x y P N X Y t : ℕ) → day * (x + N) ≤ day * (y + P) + t → P + X ≡ N + Y → day * (x + X) ≤ day * (y + Y) + t
+    go : (x y P N X Y t : ℕ) → dayPs * (x + N) ≤ dayPs * (y + P) + t → P + X ≡ N + Y → dayPs * (x + X) ≤ dayPs * (y + Y) + t
     go x y P N X Y t f g = omega arith
 
     term : (u N : ℕ) → (c * u + N) * L ≡ u * (L * c) + N * L
     term u N = add-mul (c * u) N L ∙ ap (λ (z : ℕ). z + N * L) (mul-right-comm c u L ∙ mul-comm (c * L) u ∙ ap (λ (z : ℕ). u * z) (mul-comm c L))
 
-    left : (u N : ℕ) → day * (c * u + N) * L ≡ day * (u * (L * c) + N * L)
-    left u N = mul-assoc day (c * u + N) L ∙ ap (λ (z : ℕ). day * z) (term u N)
+    left : (u N : ℕ) → dayPs * (c * u + N) * L ≡ dayPs * (u * (L * c) + N * L)
+    left u N = mul-assoc dayPs (c * u + N) L ∙ ap (λ (z : ℕ). dayPs * z) (term u N)
 
-    right : (day * (c * v + P) + ps * (c * L)) * L ≡ day * (v * (L * c) + P * L) + ps * (L * (L * c))
+    right : (dayPs * (c * v + P) + ps * (c * L)) * L ≡ dayPs * (v * (L * c) + P * L) + ps * (L * (L * c))
     right =
-        add-mul (day * (c * v + P)) (ps * (c * L)) L ∙ ap (λ (z : ℕ). z + ps * (c * L) * L) (left v P)
-        ∙ ap (λ (z : ℕ). day * (v * (L * c) + P * L) + z) (mul-assoc ps (c * L) L ∙ ap (λ (z : ℕ). ps * z) (mul-comm (c * L) L ∙ ap (λ (z : ℕ). L * z) (mul-comm c L)))
+        add-mul (dayPs * (c * v + P)) (ps * (c * L)) L ∙ ap (λ (z : ℕ). z + ps * (c * L) * L) (left v P)
+        ∙ ap (λ (z : ℕ). dayPs * (v * (L * c) + P * L) + z) (mul-assoc ps (c * L) L ∙ ap (λ (z : ℕ). ps * z) (mul-comm (c * L) L ∙ ap (λ (z : ℕ). L * z) (mul-comm c L)))
 
 pub near-of : (ps a c B B' p n q m : ℕ) {r : Float} {P N D : ℕ} → D ≡ L * c → P + (c * p + a * (n + m) + B') ≡ N + (c * n + a * (p + q) + B) → Within ps r P N D → Near ps a c B B' p n q m r
 near-of ps a c B B' p n q m {r} {P} {N} {D} d e w = record {
   u = w .p;
   v = w .n;
   val = w .val;
-  over = subst₂ (λ (s t : ℕ). day * s ≤ day * t + ps * (c * L)) (turn c (w .p) p (a * (n + m)) B') (turn c (w .n) n (a * (p + q)) B)
-      (whole-le ps c (w .p) (w .n) P N (c * p + a * (n + m) + B') (c * n + a * (p + q) + B) (subst (λ (z : ℕ). day * (w .p * z + N * L) ≤ day * (w .n * z + P * L) + ps * (L * z)) d (w .over)) e);
-  under = subst₂ (λ (s t : ℕ). day * s ≤ day * t + ps * (c * L)) (turn c (w .n) n (a * (p + q)) B) (turn c (w .p) p (a * (n + m)) B')
-      (whole-le ps c (w .n) (w .p) N P (c * n + a * (p + q) + B) (c * p + a * (n + m) + B') (subst (λ (z : ℕ). day * (w .n * z + P * L) ≤ day * (w .p * z + N * L) + ps * (L * z)) d (w .under)) (sym e));
+  over = subst₂ (λ (s t : ℕ). dayPs * s ≤ dayPs * t + ps * (c * L)) (turn c (w .p) p (a * (n + m)) B') (turn c (w .n) n (a * (p + q)) B)
+      (whole-le ps c (w .p) (w .n) P N (c * p + a * (n + m) + B') (c * n + a * (p + q) + B) (subst (λ (z : ℕ). dayPs * (w .p * z + N * L) ≤ dayPs * (w .n * z + P * L) + ps * (L * z)) d (w .over)) e);
+  under = subst₂ (λ (s t : ℕ). dayPs * s ≤ dayPs * t + ps * (c * L)) (turn c (w .n) n (a * (p + q)) B) (turn c (w .p) p (a * (n + m)) B')
+      (whole-le ps c (w .n) (w .p) N P (c * n + a * (p + q) + B) (c * p + a * (n + m) + B') (subst (λ (z : ℕ). dayPs * (w .n * z + P * L) ≤ dayPs * (w .p * z + N * L) + ps * (L * z)) d (w .under)) (sym e));
 }
   where
     turn : (c u p x y : ℕ) → c * u + (c * p + x + y) ≡ c * (p + u) + x + y

@@ -19,7 +19,8 @@ use Rattle.scales.specs.Conversions.{Conversion, gps-tai, tai-gps, tai-tt, tt-t
 use Rattle.scale_laws.specs.Ranges.{AtMost, power, Practical, Modified, HalfDay}
 use Rattle.scale_laws.specs.Picoseconds.{Picoseconds, boundOf, practicalBounds, modifiedBounds}
 use Rattle.julian.specs.Worth.{Worth}
-use Rattle.scale_laws.specs.Meaning.{day, Close, Meaning, Means, meaning, RightTo, Right, RightModified}
+use Rattle.rounding.specs.Picoseconds.{dayPs}
+use Rattle.scale_laws.specs.Meaning.{Close, Meaning, Means, meaning, RightTo, Right, RightModified}
 use Rattle.refusals.proofs.Onward.{went}
 use Rattle.shifts.proofs.Outcomes.{converted-is, by-is}
 use Rattle.shifts.proofs.SmallerPart.{mapAs, map-is}
@@ -38,16 +39,16 @@ worth-unique {d} {p} {n} {q} {m} v w =
 
 -- ---- one after the other
 chain-le : (s1 s2 s a c a2 c2 B B' B2 B2' X Y X' Y' P N P2 N2 : ℕ) → a2 * s1 + s2 * c2 ≤ s * c2 → X + Y' ≡ X' + Y
-    → day * (c * X + a * N + B') ≤ day * (c * Y + a * P + B) + s1 * (c * L) → day * (c2 * P2 + a2 * Y' + B2') ≤ day * (c2 * N2 + a2 * X' + B2) + s2 * (c2 * L)
-    → day * (c * c2 * P2 + a * a2 * N + (a2 * B' + c * B2')) ≤ day * (c * c2 * N2 + a * a2 * P + (a2 * B + c * B2)) + s * (c * c2 * L)
+    → dayPs * (c * X + a * N + B') ≤ dayPs * (c * Y + a * P + B) + s1 * (c * L) → dayPs * (c2 * P2 + a2 * Y' + B2') ≤ dayPs * (c2 * N2 + a2 * X' + B2) + s2 * (c2 * L)
+    → dayPs * (c * c2 * P2 + a * a2 * N + (a2 * B' + c * B2')) ≤ dayPs * (c * c2 * N2 + a * a2 * P + (a2 * B + c * B2)) + s * (c * c2 * L)
 chain-le s1 s2 s a c a2 c2 B B' B2 B2' X Y X' Y' P N P2 N2 r e h k =
     go (a2 * (c * X)) (a2 * (c * Y)) (c * (a2 * X')) (c * (a2 * Y')) (a * a2 * N) (a * a2 * P) (c * c2 * P2) (c * c2 * N2) (a2 * B') (a2 * B) (c * B2') (c * B2) (a2 * (s1 * (c * L))) (c * (s2 * (c2 * L))) (s * (c * c2 * L))
     first second move room
   where
-    first : day * (a2 * (c * X) + a * a2 * N + a2 * B') ≤ day * (a2 * (c * Y) + a * a2 * P + a2 * B) + a2 * (s1 * (c * L))
+    first : dayPs * (a2 * (c * X) + a * a2 * N + a2 * B') ≤ dayPs * (a2 * (c * Y) + a * a2 * P + a2 * B) + a2 * (s1 * (c * L))
     first = simp (mul-add, mul-assoc, mul-comm, mul-left-comm) (simp (mul-add, mul-assoc, mul-comm, mul-left-comm) at (mul-le-mul-left a2 h))
 
-    second : day * (c * c2 * P2 + c * (a2 * Y') + c * B2') ≤ day * (c * c2 * N2 + c * (a2 * X') + c * B2) + c * (s2 * (c2 * L))
+    second : dayPs * (c * c2 * P2 + c * (a2 * Y') + c * B2') ≤ dayPs * (c * c2 * N2 + c * (a2 * X') + c * B2) + c * (s2 * (c2 * L))
     second = simp (mul-add, mul-assoc, mul-comm, mul-left-comm) (simp (mul-add, mul-assoc, mul-comm, mul-left-comm) at (mul-le-mul-left c k))
 
     move : a2 * (c * X) + c * (a2 * Y') ≡ c * (a2 * X') + a2 * (c * Y)
@@ -56,8 +57,8 @@ chain-le s1 s2 s a c a2 c2 B B' B2 B2' X Y X' Y' P N P2 N2 r e h k =
     room : a2 * (s1 * (c * L)) + c * (s2 * (c2 * L)) ≤ s * (c * c2 * L)
     room = simp (mul-add, add-mul, mul-assoc, mul-comm, mul-left-comm) (simp (mul-add, add-mul, mul-assoc, mul-comm, mul-left-comm) at (mul-le-mul-right (c * L) r))
 
-    go : (x y x' y' n p p2 n2 b' b d' d t1 t2 t : ℕ) → day * (x + n + b') ≤ day * (y + p + b) + t1 → day * (p2 + y' + d') ≤ day * (n2 + x' + d) + t2 → x + y' ≡ x' + y → t1 + t2 ≤ t
-        → day * (p2 + n + (b' + d')) ≤ day * (n2 + p + (b + d)) + t
+    go : (x y x' y' n p p2 n2 b' b d' d t1 t2 t : ℕ) → dayPs * (x + n + b') ≤ dayPs * (y + p + b) + t1 → dayPs * (p2 + y' + d') ≤ dayPs * (n2 + x' + d) + t2 → x + y' ≡ x' + y → t1 + t2 ≤ t
+        → dayPs * (p2 + n + (b' + d')) ≤ dayPs * (n2 + p + (b + d)) + t
     go x y x' y' n p p2 n2 b' b d' d t1 t2 t f g u v = omega arith
 
 -- ---- Close after Close

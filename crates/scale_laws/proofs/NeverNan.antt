@@ -18,7 +18,7 @@ use Rattle.julian.specs.Finite.{finiteParts}
 use native.Mathlib.Omega.{arith}
 use Rattle.shifts.proofs.Outcomes.{and-left, and-right, first, first-by}
 use Rattle.shifts.proofs.SmallerPart.{mapAs, map-is}
-use Rattle.scale_laws.proofs.Shifts.{Small, added, taken, taken-from, gps-small, tt-small, tdb0-small, mjd-small, epoch-small, jd1977-small}
+use Rattle.scale_laws.proofs.Shifts.{Small, added, taken, taken-from, gps-small, tt-small, tdb0-small, zero-point-small, epoch-small, jd1977-small}
 use Rattle.shifts.specs.Shifts.{plus, minus, daysOf, converted, convertedBy}
 
 -- ---- the operations
@@ -146,11 +146,11 @@ ratio-lb-some = refl
 
 tcg-tt-fine : Fine tcgToTt
 unfolding Fine tcgToTt
-tcg-tt-fine big small fb fs hb hs = sub-number small _ hs (mul-number _ tcgRateLg (since-number mjd-small epoch-small big small fb hb hs) lg-some)
+tcg-tt-fine big small fb fs hb hs = sub-number small _ hs (mul-number _ tcgRateLg (since-number zero-point-small epoch-small big small fb hb hs) lg-some)
 
 tt-tcg-fine : Fine ttToTcg
 unfolding Fine ttToTcg
-tt-tcg-fine big small fb fs hb hs = add-number small _ hs (mul-number _ tcgRateRatio (since-number mjd-small epoch-small big small fb hb hs) ratio-lg-some)
+tt-tcg-fine big small fb fs hb hs = add-number small _ hs (mul-number _ tcgRateRatio (since-number zero-point-small epoch-small big small fb hb hs) ratio-lg-some)
 
 tcb-tdb-fine : Fine tcbToTdb
 unfolding Fine tcbToTdb

@@ -21,7 +21,8 @@ use Rattle.scales.specs.Formulas.{gpsDays}
 use Rattle.scales.specs.Conversions.{gps-tai, offsetOf, answerOf}
 use Rattle.scale_laws.specs.Ranges.{Held, Practical, Modified, HalfDay}
 use Rattle.scale_laws.specs.Picoseconds.{boundOf}
-use Rattle.scale_laws.specs.Meaning.{day, Close, Apart, Means, taiOverGps, meaning}
+use Rattle.rounding.specs.Picoseconds.{dayPs}
+use Rattle.scale_laws.specs.Meaning.{Close, Apart, Means, taiOverGps, meaning}
 use Rattle.scale_laws.specs.Recorders.{NotLater}
 use Rattle.shifts.proofs.Outcomes.{and-left, and-right, converted-is}
 use Rattle.shifts.proofs.SmallerPart.{mapAs, map-is}
@@ -57,12 +58,12 @@ one-relation {num} {more} {less} c e v w =
     bound : (c + e) * (1 * L) ≡ c * L + e * L
     bound = ap (λ (z : ℕ). (c + e) * z) (one-mul L) ∙ add-mul c e L
 
-    high : (p n a b p' n' a' b' M S x y : ℕ) {x' y' z : ℕ} → x' ≡ 86400 * x → y' ≡ 86400 * y → z ≡ x + y → p + b ≡ a + n → day * (86400 * n' + p + M) ≤ day * (86400 * p' + n + S) + y'
-        → day * (86400 * a' + b + S) ≤ day * (86400 * b' + a + M) + x' → day * (1 * a' + 1 * n' + 0) ≤ day * (1 * b' + 1 * p' + 0) + z
+    high : (p n a b p' n' a' b' M S x y : ℕ) {x' y' z : ℕ} → x' ≡ 86400 * x → y' ≡ 86400 * y → z ≡ x + y → p + b ≡ a + n → dayPs * (86400 * n' + p + M) ≤ dayPs * (86400 * p' + n + S) + y'
+        → dayPs * (86400 * a' + b + S) ≤ dayPs * (86400 * b' + a + M) + x' → dayPs * (1 * a' + 1 * n' + 0) ≤ dayPs * (1 * b' + 1 * p' + 0) + z
     high p n a b p' n' a' b' M S x y e f g o h k = omega arith
 
-    low : (p n a b p' n' a' b' M S x y : ℕ) {x' y' z : ℕ} → x' ≡ 86400 * x → y' ≡ 86400 * y → z ≡ x + y → p + b ≡ a + n → day * (86400 * p' + n + S) ≤ day * (86400 * n' + p + M) + y'
-        → day * (86400 * b' + a + M) ≤ day * (86400 * a' + b + S) + x' → day * (1 * b' + 1 * p' + 0) ≤ day * (1 * a' + 1 * n' + 0) + z
+    low : (p n a b p' n' a' b' M S x y : ℕ) {x' y' z : ℕ} → x' ≡ 86400 * x → y' ≡ 86400 * y → z ≡ x + y → p + b ≡ a + n → dayPs * (86400 * p' + n + S) ≤ dayPs * (86400 * n' + p + M) + y'
+        → dayPs * (86400 * b' + a + M) ≤ dayPs * (86400 * a' + b + S) + x' → dayPs * (1 * b' + 1 * p' + 0) ≤ dayPs * (1 * a' + 1 * n' + 0) + z
     low p n a b p' n' a' b' M S x y e f g o h k = omega arith
 
 -- GPS to TAI is 19 s later to 10 ps, and to 0.63 microseconds where the smaller part is a modified Julian date

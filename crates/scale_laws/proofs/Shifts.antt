@@ -48,8 +48,8 @@ gps-small = small-of (lit≤ tt) gps-about
 pub tdb0-small : Small tdb0
 tdb0-small = small-of (lit≤ tt) tdb0-about
 
-pub mjd-small : Small mjdZeroPoint
-mjd-small = small-of (lit≤ tt) mjd-about
+pub zero-point-small : Small mjdZeroPoint
+zero-point-small = small-of (lit≤ tt) mjd-about
 
 pub jd1977-small : Small jd1977
 jd1977-small = small-of (lit≤ tt) jd1977-about

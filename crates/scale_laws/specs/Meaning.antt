@@ -3,15 +3,12 @@
 use Prim.Native.Nat.{ℕ, _+_, _-_, _*_, _^_, _≤_}
 use mathlib.Core.Path.{_≡_}
 use Rattle.rounding.specs.Value.{Val, L}
+use Rattle.rounding.specs.Picoseconds.{dayPs}
 use Rattle.refusals.specs.Outcome.{answer}
 use Rattle.julian.specs.declared.JulianDate.{JulianDate}
 use Rattle.julian.specs.Worth.{Worth}
 use Rattle.scales.specs.Conversions.{Conversion, gps-tai, tai-gps, tai-tt, tt-tai, tcg-tt, tt-tcg, tcb-tdb, tdb-tcb, tai-tcg, tcg-tai, tai-ut1, ut1-tai, ut1-tt, tt-ut1, tt-tdb, tdb-tt, offsetOf, answerOf}
 use Rattle.scale_laws.specs.Picoseconds.{Picoseconds, boundOf, practicalBounds, modifiedBounds}
-
--- the picoseconds of a day
-abbrev pub day : ℕ
-day = 86400000000000000
 
 -- d' is within ps picoseconds of (num * d + (more - less) / L) / den, the dates taken at their exact values, (p - n) / L and (p' - n') / L days
 pub record Close (ps num den more less : ℕ) (d d' : JulianDate) : Type 0 where
@@ -21,8 +18,8 @@ pub record Close (ps num den more less : ℕ) (d d' : JulianDate) : Type 0 where
   pub n' : ℕ
   pub from : Worth d p n L
   pub to : Worth d' p' n' L
-  pub over : day * (den * p' + num * n + less) ≤ day * (den * n' + num * p + more) + ps * (den * L)
-  pub under : day * (den * n' + num * p + more) ≤ day * (den * p' + num * n + less) + ps * (den * L)
+  pub over : dayPs * (den * p' + num * n + less) ≤ dayPs * (den * n' + num * p + more) + ps * (den * L)
+  pub under : dayPs * (den * n' + num * p + more) ≤ dayPs * (den * p' + num * n + less) + ps * (den * L)
 
 -- the exact values differ by at most ps picoseconds
 abbrev pub Apart : ℕ → JulianDate → JulianDate → Type 0

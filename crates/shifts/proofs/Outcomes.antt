@@ -10,8 +10,8 @@ use Rattle.shifts.specs.SmallerPart.{mapSmallerPart}
 use Rattle.shifts.specs.Shifts.{daysOf, changed, converted, finiteOffset, finiteBoth, convertedBy}
 
 -- a date moved by so many days
-pub moved : (f : Float → Float → Float → Float) {o o' : Outcome JulianDate} {x x' : Float} → o ≡ o' → x ≡ x' → onward o (changed (f x)) ≡ onward o' (changed (f x'))
-moved f e h = cc
+pub moved-alike : (f : Float → Float → Float → Float) {o o' : Outcome JulianDate} {x x' : Float} → o ≡ o' → x ≡ x' → onward o (changed (f x)) ≡ onward o' (changed (f x'))
+moved-alike f e h = cc
 
 -- the date that is tested is the date that goes on
 pub both : (s : Float) (d : JulianDate) {o o' : Outcome JulianDate} → o ≡ finiteJd d → o' ≡ finiteOffset s d → onward o (λ (e : JulianDate). o') ≡ onward (finiteJd d) (finiteOffset s)

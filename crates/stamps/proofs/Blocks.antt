@@ -46,13 +46,13 @@ accepted-by s n false true false d ec ed e = let z : _≡_ {A = ℕ} 0 1 = cc in
 accepted-by s n false false c d ec ed e = let z : _≡_ {A = ℕ} 0 1 = cc in absurd (omega arith)
 accepted-by s n true b c d ec ed e = let z : _≡_ {A = ℕ} 0 1 = cc in absurd (omega arith)
 
-pub accepted : (s : List ℕ) (n : ℕ) → answer n ≡ blockOf s → (n ≤ 4000) × (length s ≡ 8 + 16 * n)
+pub block-accepted : (s : List ℕ) (n : ℕ) → answer n ≡ blockOf s → (n ≤ 4000) × (length s ≡ 8 + 16 * n)
 unfolding blockOf
-accepted s n e = accepted-by s n (ltb (length s) 8) (eqb (u32At s 0) (u32At s 4)) (leb (u32At s 0) 4000) (eqb (length s) (8 + 16 * u32At s 0)) refl refl e
+block-accepted s n e = accepted-by s n (ltb (length s) 8) (eqb (u32At s 0) (u32At s 4)) (leb (u32At s 0) 4000) (eqb (length s) (8 + 16 * u32At s 0)) refl refl e
 
 few-by : (s : List ℕ) (o : Outcome ℕ) → o ≡ blockOf s → linesIn o ≤ 4001
 unfolding linesIn
-few-by s (answer n) e = let a = accepted s n e in omega (arith, a .0)
+few-by s (answer n) e = let a = block-accepted s n e in omega (arith, a .0)
 few-by s (refusal k) e = omega arith
 
 -- a listing has at most 4,001 lines

@@ -18,7 +18,7 @@ use Rattle.rounding.proofs.Value.{L-pos, add-rounds}
 use Rattle.rounding.proofs.Signed.{plus-of, minus-of, dist, dist-zero}
 use Rattle.rounding.proofs.Own.{Rep, rep-flip, own, own-val}
 use Rattle.rounding.proofs.Nearest.{rn-le}
-use Rattle.rounding.proofs.TwoSumFloat.{At, at}
+use Rattle.rounding.proofs.TwoSumFloat.{At, rounds-at}
 use Rattle.rounding.proofs.Compare.{le-true, le-show}
 use Rattle.floats.specs.Whole.{nearestInt, nought}
 use Rattle.day_number.specs.declared.DayAnswer.the-variants.{Day}
@@ -29,7 +29,7 @@ use Rattle.day_number.proofs.SignedUnits.{has-val}
 use Rattle.day_number.proofs.NearestInt.{sat-plus, sat-minus}
 use Rattle.day_number.proofs.JulianRange.{exact-sum, far}
 use Rattle.day_number.proofs.IntegerSum.{gather3}
-use Rattle.day_number.proofs.Pair.{Accepted}
+use Rattle.day_number.proofs.Pair.{AcceptedSum}
 use Rattle.day_number.proofs.Accepted.{accepted-pair}
 use Rattle.day_number.proofs.TotalDay.{sides}
 use Rattle.day_number.proofs.DayInRange.{total-is, number-is}
@@ -85,7 +85,7 @@ module _ (x y : Float) (p n q m : ℕ) (vx : Val x p n L) (vy : Val y q m L) (l 
   late-exact : n + m < p + q + E
   late-exact =
       let r = exact-sum x y p n q m vx vy (late-low x y l) (subst T (sym (l .high)) tt) in
-      let a = at far (omega (arith, r .high, E-L)) (omega (arith, r .low, E-L)) (add-rounds binary64 L-pos vx vy) in
+      let a = rounds-at far (omega (arith, r .high, E-L)) (omega (arith, r .low, E-L)) (add-rounds binary64 L-pos vx vy) in
       by a (le-true L-pos nought-L (a .val) (l .low)) (leb (p + q + E) (n + m)) (leb→le (p + q + E) (n + m)) (nleb→lt (p + q + E) (n + m))
     where
       by : (a : At (add binary64 x y) (p + q) (n + m) (2 ^ 64 * L)) → 0 + a .n ≤ a .p + 0
@@ -123,7 +123,7 @@ saturated true false A B up more down h1 h2 h3 k = omega arith
 late-day : (x y : Float) → T (fits binary64 x) → T (fits binary64 y) → Late x y → minusZ (dayNumber x y) ≤ 3
 late-day x y fx fy l = go (accepted-pair x y fx fy (late-accepted x y l))
   where
-    go : Accepted x y → minusZ (dayNumber x y) ≤ 3
+    go : AcceptedSum x y → minusZ (dayNumber x y) ≤ 3
     go o =
         let k = o .near in
         let exact = late-exact x y _ _ _ _ (has-val x (k .s) (k .X) L (k .vx)) (has-val y (k .t) (k .Y) L (k .vy)) l in

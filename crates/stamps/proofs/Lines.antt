@@ -16,7 +16,7 @@ use Rattle.stamps.specs.Block.{blockOf, blockOutcome, stampAt}
 use Rattle.stamps.specs.Placed.{Placed}
 use Rattle.stamps.specs.Listing.{numeral, textAt, shown, stampLine, oneIfRefused, refusedIn, header, blockRefused}
 use Rattle.stamps.specs.Parts.{lineOf, linesIn, linesFrom}
-use Rattle.stamps.proofs.Blocks.{accepted}
+use Rattle.stamps.proofs.Blocks.{block-accepted}
 use Rattle.stamps.proofs.Places.{then, placed-as}
 
 module _ {d d1 d2 d3 d4 : List ℕ} {at r1 r2 r3 r4 : ℕ} where
@@ -53,7 +53,7 @@ module _ (s : List ℕ) (line : ℕ) (r : BlockAnswer) (e : blockOutcome r ≡ b
     block-is = sym (ap blockOutcome is) ∙ e
 
     pub stamps-few : n ≤ 4000
-    stamps-few = accepted s n block-is .0
+    stamps-few = block-accepted s n block-is .0
 
     pub within : line < linesIn (blockOf s) → line < n + 1
     unfolding linesIn

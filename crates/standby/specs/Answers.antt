@@ -13,9 +13,9 @@ billOutcome (B.Billed b) = answer b
 billOutcome (B.Refused number) = refusal number
 
 -- an instant of the code in milliseconds
-abbrev pub millisOf : Instant → ℕ
-millisOf i = 1000 * i .seconds + i .millis
+abbrev pub instantMs : Instant → ℕ
+instantMs i = 1000 * i .seconds + i .millis
 
 unfoldable pub instantOutcome : InstantAnswer → Outcome ℕ
-instantOutcome (I.At i) = answer (millisOf i)
+instantOutcome (I.At i) = answer (instantMs i)
 instantOutcome (I.Refused number) = refusal number

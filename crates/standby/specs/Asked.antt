@@ -13,31 +13,31 @@ use Rattle.standby.specs.declared.UtcTime.{UtcTime}
 use Rattle.standby.specs.declared.Instant.{Instant}
 use Rattle.standby.specs.declared.InstantAnswer.{InstantAnswer}
 use Rattle.standby.specs.declared.InstantAnswer.the-variants as I
-use Rattle.standby.specs.Times.{dayOf}
-use Rattle.standby.specs.Answers.{millisOf, instantOutcome}
+use Rattle.standby.specs.Times.{mjdDay}
+use Rattle.standby.specs.Answers.{instantMs, instantOutcome}
 
 -- a table that is taken, and a date from 1972 on with its day and its next date
 pub record Dated (table : LentRows) (t : UtcTime) (day : ℕ) (next : CalendarDate) : Type 0 where
   pub taken : tableOf table ≡ answer (rowsOf table)
   pub from-1972 : ltZ (t .year) (pos 1972) ≡ false
   pub has-next : nextOf (t .year) (pos (t .month)) (pos (t .day)) ≡ answer next
-  pub day-is : day ≡ dayOf t
+  pub day-is : day ≡ mjdDay t
   pub few-days : day < 1000000000000
 
 -- an instant whose sums fit
-pub record Small (i : Instant) : Type 0 where
+pub record SmallInstant (i : Instant) : Type 0 where
   pub few-seconds : i .seconds < 1000000000000000000
   pub few-millis : i .millis ≤ 999
 
 -- the answer is the outcome o, and an instant is small
 pub record InstantIs (o : Outcome ℕ) (r : InstantAnswer) : Type 0 where
   pub says : instantOutcome r ≡ o
-  pub small : (i : Instant) → r ≡ I.At i → Small i
+  pub small : (i : Instant) → r ≡ I.At i → SmallInstant i
 
-pub record InOrder (start end : Instant) : Type 0 where
-  pub small-start : Small start
-  pub small-end : Small end
-  pub order : millisOf start ≤ millisOf end
+pub record StartFirst (start end : Instant) : Type 0 where
+  pub small-start : SmallInstant start
+  pub small-end : SmallInstant end
+  pub order : instantMs start ≤ instantMs end
 
 pub record InLimits (q rate a b : ℕ) : Type 0 where
   pub few-quarters : q ≤ 1000000

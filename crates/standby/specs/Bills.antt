@@ -11,8 +11,8 @@ use Rattle.standby.specs.declared.UtcTime.{UtcTime}
 use Rattle.standby.specs.declared.Bill.{Bill}
 use Rattle.standby.specs.Times.{instant}
 
-abbrev pub before : ℕ → ℕ → Bool
-before a b = ltb a b
+abbrev pub isBefore : ℕ → ℕ → Bool
+isBefore a b = ltb a b
 
 -- each started 900,000 ms; it is the least number of them that holds the time (`quarters-least`)
 unfoldable pub quarters : ℕ → ℕ
@@ -26,15 +26,15 @@ unfoldable pub overLimit : ℕ → ℕ → ℕ → ℕ → Bool
 overLimit q rate a b = ltb 1000000 q || (ltb 1000000 rate || (ltb 1000000 a || ltb 1000000 b))
 
 -- the part of the total by metres of all the line, rounded down, and its remainder
-abbrev pub part : ℕ → ℕ → ℕ → ℕ
-part total metres all = total * metres / all
+abbrev pub shareDown : ℕ → ℕ → ℕ → ℕ
+shareDown total metres all = total * metres / all
 
 abbrev pub remainder : ℕ → ℕ → ℕ → ℕ
 remainder total metres all = total * metres % all
 
 -- what both parts leave of the total: nothing or one cent (`left-at-most-one`)
-abbrev pub left : ℕ → ℕ → ℕ → ℕ
-left total a b = total - part total a (a + b) - part total b (a + b)
+abbrev pub centLeft : ℕ → ℕ → ℕ → ℕ
+centLeft total a b = total - shareDown total a (a + b) - shareDown total b (a + b)
 
 abbrev pub bill : ℕ → ℕ → ℕ → Bill
 bill q first second = record { quarters = q; first = first; second = second }
@@ -43,12 +43,12 @@ bill q first second = record { quarters = q; first = first; second = second }
 unfoldable pub shares : ℕ → ℕ → ℕ → ℕ → Bill
 shares q total a b =
     cond (ltb (remainder total a (a + b)) (remainder total b (a + b)))
-    (bill q (part total a (a + b)) (part total b (a + b) + left total a b))
-    (bill q (part total a (a + b) + left total a b) (part total b (a + b)))
+    (bill q (shareDown total a (a + b)) (shareDown total b (a + b) + centLeft total a b))
+    (bill q (shareDown total a (a + b) + centLeft total a b) (shareDown total b (a + b)))
 
 unfoldable pub billBetween : ℕ → ℕ → ℕ → ℕ → ℕ → Outcome Bill
 billBetween start end rate a b =
-    cond (before end start) (refusal 26)
+    cond (isBefore end start) (refusal 26)
     (cond (overLimit (quartersBetween start end) rate a b) (refusal 27)
     (cond (eqb (a + b) 0) (refusal 28)
     (answer (shares (quartersBetween start end) (quartersBetween start end * rate) a b))))

@@ -16,15 +16,15 @@ use Rattle.tai_utc.specs.WholeSeconds.{wholeSeconds}
 use Rattle.standby.specs.declared.UtcTime.{UtcTime}
 
 -- TAI-UTC on the date, and on the next one
-abbrev pub offsetOf : List Row → UtcTime → ℕ
-offsetOf rows t = wholeSeconds rows (t .year) (t .month)
+abbrev pub offsetOnDate : List Row → UtcTime → ℕ
+offsetOnDate rows t = wholeSeconds rows (t .year) (t .month)
 
 abbrev pub offsetAfter : List Row → CalendarDate → ℕ
 offsetAfter rows next = wholeSeconds rows (next .year) (next .month)
 
 -- the seconds of the day's last minute: a leap second makes it longer, one left out makes it shorter
 unfoldable pub lastMinute : List Row → UtcTime → CalendarDate → ℕ
-lastMinute rows t next = 60 + offsetAfter rows next - offsetOf rows t
+lastMinute rows t next = 60 + offsetAfter rows next - offsetOnDate rows t
 
 -- the time is one of a day whose last minute has `last` seconds
 unfoldable pub inItsDay : UtcTime → ℕ → Bool
@@ -37,12 +37,12 @@ unfoldable pub timeSeconds : UtcTime → ℕ
 timeSeconds t = 3600 * t .hour + 60 * t .minute + t .second
 
 -- the Modified Julian Date
-abbrev pub dayOf : UtcTime → ℕ
-dayOf t = natAbs (mjdNumber (t .year) (pos (t .month)) (pos (t .day)))
+abbrev pub mjdDay : UtcTime → ℕ
+mjdDay t = natAbs (mjdNumber (t .year) (pos (t .month)) (pos (t .day)))
 
 -- the exact TAI in milliseconds from 0h TAI of Modified Julian Date 0; a day of TAI has 86,400 s
 unfoldable pub taiMs : List Row → UtcTime → ℕ
-taiMs rows t = 1000 * (86400 * dayOf t + timeSeconds t + offsetOf rows t) + t .millis
+taiMs rows t = 1000 * (86400 * mjdDay t + timeSeconds t + offsetOnDate rows t) + t .millis
 
 -- 4: the time is not in the day
 unfoldable pub instantOn : List Row → UtcTime → CalendarDate → Outcome ℕ

@@ -7,8 +7,8 @@ ghost use Rattle.standby.specs.Times.{inItsDay, lastMinute, timeSeconds}
 ghost use Rattle.standby.specs.Times as T;
 ghost use Rattle.standby.specs.Bills.{overLimit, shares, billBetween, standbyBill};
 ghost use Rattle.standby.specs.Bills as B;
-ghost use Rattle.standby.specs.Answers.{millisOf, instantOutcome, billOutcome};
-ghost use Rattle.standby.specs.Asked.{Dated, InstantIs, Small, InOrder, InLimits};
+ghost use Rattle.standby.specs.Answers.{instantMs, instantOutcome, billOutcome};
+ghost use Rattle.standby.specs.Asked.{Dated, InstantIs, SmallInstant, StartFirst, InLimits};
 use calendar::CalendarDate;
 use calendar::MjdAnswer;
 use calendar::NextDay;
@@ -55,7 +55,7 @@ enum InstantAnswer {
 
 // The seconds of the day's last minute: 60, and one more or less where the table steps with the next date. `offset` is TAI-UTC on the date.
 fn last_minute(t: UtcTime, next: CalendarDate, offset: u32, table: LentRows) -> u32
-    requires { ⌜ (offset ≡ T.offsetOf (rowsOf table) t) × (offset ≤ 60) ⌝ }
+    requires { ⌜ (offset ≡ T.offsetOnDate (rowsOf table) t) × (offset ≤ 60) ⌝ }
     ensures { λ r. ⌜ r ≡ lastMinute (rowsOf table) t next ⌝ }
 {
     if next.year == t.year {
@@ -132,8 +132,8 @@ fn instant_of(t: UtcTime, table: LentRows) -> InstantAnswer
 
 // Whether a is earlier than b.
 fn is_before(a: Instant, b: Instant) -> bool
-    requires { ⌜ (Small a) × (Small b) ⌝ }
-    ensures { λ r. ⌜ r ≡ B.before (millisOf a) (millisOf b) ⌝ }
+    requires { ⌜ (SmallInstant a) × (SmallInstant b) ⌝ }
+    ensures { λ r. ⌜ r ≡ B.isBefore (instantMs a) (instantMs b) ⌝ }
 {
     if a.seconds < b.seconds {
         return true;
@@ -146,8 +146,8 @@ fn is_before(a: Instant, b: Instant) -> bool
 
 // The started quarter hours from start to end: those of the started seconds, so that no milliseconds are counted, which might not fit.
 fn quarters_between(start: Instant, end: Instant) -> u64
-    requires { ⌜ InOrder start end ⌝ }
-    ensures { λ r. ⌜ r ≡ B.quartersBetween (millisOf start) (millisOf end) ⌝ }
+    requires { ⌜ StartFirst start end ⌝ }
+    ensures { λ r. ⌜ r ≡ B.quartersBetween (instantMs start) (instantMs end) ⌝ }
 {
     let seconds = end.seconds - start.seconds;
     if start.millis < end.millis {
@@ -207,8 +207,8 @@ fn bill_between(
     first_metres: u32,
     second_metres: u32,
 ) -> BillAnswer
-    requires { ⌜ (Small start) × (Small end) ⌝ }
-    ensures { λ r. ⌜ billOutcome r ≡ billBetween (millisOf start) (millisOf end) rate «first_metres» «second_metres» ⌝ }
+    requires { ⌜ (SmallInstant start) × (SmallInstant end) ⌝ }
+    ensures { λ r. ⌜ billOutcome r ≡ billBetween (instantMs start) (instantMs end) rate «first_metres» «second_metres» ⌝ }
 {
     if is_before(end, start) {
         return BillAnswer::Refused(refusals::END_BEFORE_START);

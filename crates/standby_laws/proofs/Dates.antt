@@ -14,10 +14,10 @@ use Rattle.calendar.specs.Calendar.{date, dateAt, next, leapYear, monthLength}
 use Rattle.calendar.specs.Refusals.{validDate}
 use Rattle.calendar.specs.DayCount.{mjdNumber}
 use Rattle.calendar.specs.InCalendar.{InCalendar}
-use Rattle.calendar.proofs.Accepted.{accepted, short}
+use Rattle.calendar.proofs.Accepted.{date-accepted, short}
 use Rattle.calendar.proofs.Days.{after, date-at-in-calendar}
 use Rattle.calendar.proofs.Years.{next-keeps, years-later}
-use Rattle.calendar.proofs.Mjd.{day-of}
+use Rattle.calendar.proofs.Mjd.{day-of-date}
 use Rattle.standby.proofs.Times.{mjd-natural}
 use Rattle.standby_laws.specs.Fields.{lessBy}
 
@@ -85,7 +85,7 @@ unsub k c n e = go (ltb k c) refl e
 module _ (y : ℤ) (m d : ℕ) (p : From y) (v : validDate y (pos m) (pos d) ≡ answer tt) where
   day-is : dateAt (mjd y m d + 2578142) ≡ date y m d
   day-is =
-      let k = day-of y (pos m) (pos d) v in
+      let k = day-of-date y (pos m) (pos d) v in
       ap dateAt (sym (unsub (k .0) 2578142 (mjd y m d) (sym (k .1) ∙ mjd-natural y (pos m) (pos d) p))) ∙ k .2
 
 module _ (y : ℤ) (m d : ℕ) (p : From y) (v : validDate y (pos m) (pos d) ≡ answer tt) (y′ : ℤ) (m′ d′ : ℕ) (p′ : From y′) (v′ : validDate y′ (pos m′) (pos d′) ≡ answer tt) where

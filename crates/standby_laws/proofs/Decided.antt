@@ -20,7 +20,7 @@ use Rattle.standby.specs.Bills.{quarters, quartersBetween, overLimit, bill, sha
 use Rattle.standby.proofs.Ladder as L
 use Rattle.standby.proofs.Numbers.{within}
 use Rattle.standby.proofs.Times as T
-use Rattle.standby_laws.specs.Decisions.{Over, Within, BillDecision, TimeDecision, backward, over, no-line, billed, early, no-day, no-time, given}
+use Rattle.standby_laws.specs.Decisions.{Over, NotOver, BillDecision, TimeDecision, backward, over, no-line, billed, early, no-day, no-time, given}
 use Rattle.standby_laws.proofs.Quarters.{no-time-no-quarter}
 use Rattle.standby_laws.proofs.Sharing.{nothing-shared}
 
@@ -44,7 +44,7 @@ which e rate a b p = go (ltb 1000000 (quarters e)) refl (ltb 1000000 rate) refl 
     go false x false y false z true w p = inr (inr (inr (ltb-true 1000000 b w)))
     go false x false y false z false w p = absurd (true≢false (sym p))
 
-none-over : (e rate a b : ℕ) → overLimit (quarters e) rate a b ≡ false → Within e rate a b
+none-over : (e rate a b : ℕ) → overLimit (quarters e) rate a b ≡ false → NotOver e rate a b
 none-over e rate a b p =
     let w = within (quarters e) rate a b p in
     record { time = few e (w .0); low-rate = w .1; short-first = w .2; short-second = w .3 }

@@ -7,7 +7,7 @@ use lib.Signed.{ltZ}
 use lib.Ieee.{Float}
 use Rattle.refusals.specs.Outcome.{answer}
 use Rattle.calendar.specs.Refusals.{validDate}
-use Rattle.calendar.proofs.Accepted.{accepted}
+use Rattle.calendar.proofs.Accepted.{date-accepted}
 use Rattle.calendar.proofs.Mjd.{mjd-given}
 use Rattle.tai_utc.specs.declared.LentRows.{LentRows}
 use Rattle.tai_utc.specs.Table.{Row, monthNumber}
@@ -17,13 +17,13 @@ use Rattle.tai_utc.proofs.Offsets.{offset-given}
 use Rattle.tai_utc.proofs.TableSeconds.{table-seconds}
 use Rattle.tai_utc.proofs.WholeSeconds.{late}
 use Rattle.standby.specs.declared.UtcTime.{UtcTime}
-use Rattle.standby.specs.Times.{offsetOf}
+use Rattle.standby.specs.Times.{offsetOnDate}
 use Rattle.standby_laws.proofs.Faults.{whole-here}
 
 pub offset-is-tai-utc : (table : LentRows) (rows : List Row) → tableOf table ≡ answer rows → (t : UtcTime) → ltZ (t .year) (pos 1972) ≡ false → validDate (t .year) (pos (t .month)) (pos (t .day)) ≡ answer tt
-    → (f : Float) → inDay f ≡ true → taiUtcOffset rows (t .year) (pos (t .month)) (pos (t .day)) f ≡ answer (wholeF (offsetOf rows t))
+    → (f : Float) → inDay f ≡ true → taiUtcOffset rows (t .year) (pos (t .month)) (pos (t .day)) f ≡ answer (wholeF (offsetOnDate rows t))
 offset-is-tai-utc table rows taken t p v f h =
-    let a = accepted (t .year) (pos (t .month)) (pos (t .day)) v in
+    let a = date-accepted (t .year) (pos (t .month)) (pos (t .day)) v in
     offset-given rows (t .year) (pos (t .month)) (pos (t .day)) f h _ (mjd-given (t .year) (pos (t .month)) (pos (t .day)) v)
     ∙ ap answer
     (table-seconds table rows taken (monthNumber (t .year) (t .month)) (late (t .year) (t .month) p (a .m-low)) _ f

@@ -25,7 +25,7 @@ use Rattle.calendar.specs.declared.CalendarDate.{CalendarDate}
 use Rattle.calendar.specs.Calendar.{date, monthLength}
 use Rattle.calendar.specs.Refusals.{validDate, nextOf}
 use Rattle.calendar.specs.DayCount.{mjdNumber}
-use Rattle.calendar.proofs.Accepted.{accepted}
+use Rattle.calendar.proofs.Accepted.{date-accepted}
 use Rattle.calendar.proofs.NextDates.{next-is, next-in-calendar}
 use Rattle.calendar.proofs.Years.{next-keeps}
 use Rattle.julian.specs.declared.JulianDate.{JulianDate}
@@ -43,14 +43,13 @@ use Rattle.tai_utc.proofs.WholeSeconds.{late}
 use Rattle.leap_days.proofs.Months.{next-month-number}
 use Rattle.leap_days.proofs.TableLeaps.{no-step, one-second-more, one-second-less}
 use Rattle.time_of_day.specs.ExactTime.{minus-one-f}
-use Rattle.utc.specs.FromCalendar.{utcFromCalendar}
 use Rattle.utc.specs.FromCalendar as From
 use Rattle.utc.proofs.FromCalendars.{date-refused, leap-refused, on-date}
 use Rattle.parsing_laws.proofs.UtcTimes.{not-negative, second-below}
 use Rattle.standby.specs.declared.UtcTime.{UtcTime}
-use Rattle.standby.specs.Times.{offsetOf, offsetAfter, lastMinute, inItsDay, taiMs, instantOn, instant}
+use Rattle.standby.specs.Times.{offsetOnDate, offsetAfter, lastMinute, inItsDay, taiMs, instantOn, instant}
 use Rattle.standby.proofs.Times as Given
-use Rattle.standby_laws.specs.Verdict.{verdict}
+use Rattle.standby_laws.specs.Verdict.{faultOf, asCalendar}
 
 -- ---- a second of milliseconds is not below a whole number that it reaches, as a float too
 holds : (b : Bool) → T b → b ≡ true
@@ -114,11 +113,11 @@ same-number e = cc
 abbrev toVerdict : Bool → Outcome Unit
 toVerdict b = cond b (answer tt) (refusal 4)
 
-time-verdict : (midnight : JulianDate) (hour minute : ℕ) (s x : Float) → verdict (From.atTime midnight (dayFraction hour minute s x)) ≡ toVerdict (timeInDay hour minute s x)
-unfolding onward From.atTime dayFraction
+time-verdict : (midnight : JulianDate) (hour minute : ℕ) (s x : Float) → faultOf (From.midnightPlus midnight (dayFraction hour minute s x)) ≡ toVerdict (timeInDay hour minute s x)
+unfolding onward From.midnightPlus dayFraction
 time-verdict midnight hour minute s x = go (timeInDay hour minute s x) refl
   where
-    go : (b : Bool) → timeInDay hour minute s x ≡ b → verdict (From.atTime midnight (dayFraction hour minute s x)) ≡ toVerdict b
+    go : (b : Bool) → timeInDay hour minute s x ≡ b → faultOf (From.midnightPlus midnight (dayFraction hour minute s x)) ≡ toVerdict b
     go true q = rw q
     go false q = rw q
 
@@ -205,9 +204,6 @@ module _ (table : LentRows) (rows : List Row) (taken : tableOf table ≡ answer 
     abbrev second : Float
     second = decimal (1000 * t .second + t .millis) 3
 
-    abbrev asCalendar : Outcome JulianDate
-    asCalendar = utcFromCalendar rows y m d (t .hour) (t .minute) second
-
     -- the test of the time is the same
     module _ (s : CalendarDate) (e : nextOf y (pos m) (pos d) ≡ answer s) where
       abbrev n : ℕ
@@ -217,7 +213,7 @@ module _ (table : LentRows) (rows : List Row) (taken : tableOf table ≡ answer 
       n′ = monthNumber (s .year) (s .month)
 
       late-here : 23664 ≤ n
-      late-here = late y m p (accepted y (pos m) (pos d) (next-is y (pos m) (pos d) s e .0) .m-low)
+      late-here = late y m p (date-accepted y (pos m) (pos d) (next-is y (pos m) (pos d) s e .0) .m-low)
 
       year-after : ltZ (s .year) (pos 1972) ≡ false
       year-after =
@@ -233,7 +229,7 @@ module _ (table : LentRows) (rows : List Row) (taken : tableOf table ≡ answer 
       minute-is : lastMinute rows t s ≡ 60 + K n′ - K n
       unfolding lastMinute
       minute-is =
-          let a = accepted y (pos m) (pos d) (next-is y (pos m) (pos d) s e .0) in
+          let a = date-accepted y (pos m) (pos d) (next-is y (pos m) (pos d) s e .0) in
           let c = next-in-calendar y (pos m) (pos d) s e in
           let u = whole-here y m p (a .m-low) (a .m-high) in
           let v = whole-here (s .year) (s .month) year-after (c .m-low) (c .m-high) in
@@ -245,17 +241,17 @@ module _ (table : LentRows) (rows : List Row) (taken : tableOf table ≡ answer 
           (minute-ends n n′ late-here late-after (mjdNumber y (pos m) (pos d)) a-step)
           ∙ ap (inItsDay t) (sym minute-is)
 
-      by-calendar : verdict asCalendar ≡ toVerdict (inItsDay t (lastMinute rows t s))
+      by-calendar : faultOf (asCalendar rows t) ≡ toVerdict (inItsDay t (lastMinute rows t s))
       by-calendar =
-          ap verdict (on-date rows y m d (t .hour) (t .minute) second (next-is y (pos m) (pos d) s e .0) (leapOf (offsetsOfDay rows n n′ (mjdNumber y (pos m) (pos d)))) (leap-given rows y (pos m) (pos d) s e))
+          ap faultOf (on-date rows y m d (t .hour) (t .minute) second (next-is y (pos m) (pos d) s e .0) (leapOf (offsetsOfDay rows n n′ (mjdNumber y (pos m) (pos d)))) (leap-given rows y (pos m) (pos d) s e))
           ∙ time-verdict _ (t .hour) (t .minute) second (leapOf (offsetsOfDay rows n n′ (mjdNumber y (pos m) (pos d))))
           ∙ ap toVerdict time-same
 
-      by-bill : verdict (instant rows t) ≡ toVerdict (inItsDay t (lastMinute rows t s))
+      by-bill : faultOf (instant rows t) ≡ toVerdict (inItsDay t (lastMinute rows t s))
       unfolding onward instantOn
-      by-bill = ap verdict (sym (Given.on-date rows t p s e)) ∙ go (inItsDay t (lastMinute rows t s))
+      by-bill = ap faultOf (sym (Given.on-date rows t p s e)) ∙ go (inItsDay t (lastMinute rows t s))
         where
-          go : (b : Bool) → verdict (cond b (answer (taiMs rows t)) (refusal 4)) ≡ toVerdict b
+          go : (b : Bool) → faultOf (cond b (answer (taiMs rows t)) (refusal 4)) ≡ toVerdict b
           go true = refl
           go false = refl
 
@@ -265,18 +261,18 @@ module _ (table : LentRows) (rows : List Row) (taken : tableOf table ≡ answer 
       unfolding leapAtEndOfDay onward
       no-leap = rw (day-offsets-are rows y (pos m) (pos d), e)
 
-      no-calendar : asCalendar ≡ refusal j
+      no-calendar : asCalendar rows t ≡ refusal j
       no-calendar = go (validDate y (pos m) (pos d)) refl
         where
-          go : (o : Outcome Unit) → validDate y (pos m) (pos d) ≡ o → asCalendar ≡ refusal j
+          go : (o : Outcome Unit) → validDate y (pos m) (pos d) ≡ o → asCalendar rows t ≡ refusal j
           go (answer x) q = leap-refused rows y m d (t .hour) (t .minute) second q j no-leap
           go (refusal i) q = date-refused rows y m d (t .hour) (t .minute) second i q ∙ ap refusal (same-number (sym (date-first y (pos m) (pos d) i q) ∙ e))
 
     -- THE LAW
-    pub faults-are-calendars : verdict (instant rows t) ≡ verdict asCalendar
+    pub faults-are-calendars : faultOf (instant rows t) ≡ faultOf (asCalendar rows t)
     unfolding onward
     faults-are-calendars = go (nextOf y (pos m) (pos d)) refl
       where
-        go : (o : Outcome CalendarDate) → nextOf y (pos m) (pos d) ≡ o → verdict (instant rows t) ≡ verdict asCalendar
+        go : (o : Outcome CalendarDate) → nextOf y (pos m) (pos d) ≡ o → faultOf (instant rows t) ≡ faultOf (asCalendar rows t)
         go (answer s) e = by-bill s e ∙ sym (by-calendar s e)
-        go (refusal j) e = ap verdict (sym (Given.no-next rows t p j e)) ∙ sym (ap verdict (no-calendar j e))
+        go (refusal j) e = ap faultOf (sym (Given.no-next rows t p j e)) ∙ sym (ap faultOf (no-calendar j e))

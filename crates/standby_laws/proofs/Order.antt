@@ -15,7 +15,7 @@ use Rattle.calendar.specs.declared.CalendarDate.{CalendarDate}
 use Rattle.calendar.specs.Calendar.{date, leapYear}
 use Rattle.calendar.specs.Refusals.{validDate, nextOf}
 use Rattle.calendar.specs.DayCount.{mjdNumber, mjdOf}
-use Rattle.calendar.proofs.Accepted.{Accepted, accepted, short}
+use Rattle.calendar.proofs.Accepted.{Accepted, date-accepted, short}
 use Rattle.calendar.proofs.Mjd.{mjd-given, same-answer}
 use Rattle.calendar.proofs.NextDates.{next-is, next-in-calendar, next-accepted, next-mjd}
 use Rattle.calendar.proofs.Years.{next-keeps}
@@ -24,10 +24,10 @@ use Rattle.tai_utc.specs.Table.{Row}
 use Rattle.tai_utc.specs.Lent.{tableOf}
 use Rattle.tai_utc.specs.WholeSeconds.{wholeSeconds}
 use Rattle.standby.specs.declared.UtcTime.{UtcTime}
-use Rattle.standby.specs.Times.{offsetOf, offsetAfter, lastMinute, inItsDay, timeSeconds, dayOf, taiMs, instant}
+use Rattle.standby.specs.Times.{offsetOnDate, offsetAfter, lastMinute, inItsDay, timeSeconds, mjdDay, taiMs, instant}
 use Rattle.standby.proofs.Times.{offset-small, mjd-natural}
 use Rattle.standby_laws.specs.Decisions.{TimeDecision, early, no-day, no-time, given}
-use Rattle.standby_laws.specs.Fields.{fields, lessBy}
+use Rattle.standby_laws.specs.Fields.{sevenFields, lessBy}
 use Rattle.standby_laws.proofs.Decided.{time-decided}
 use Rattle.standby_laws.proofs.Dates.{key, mjd, smaller, year-later, earlier-day, same-date, date-less, date-more, date-level}
 
@@ -142,12 +142,12 @@ module _ (table : LentRows) (rows : List Row) (taken : tableOf table ≡ answer 
     valid = next-is (t .year) (pos (t .month)) (pos (t .day)) (k .after) (k .has-next) .0
 
     date-ok : Accepted (t .year) (pos (t .month)) (pos (t .day))
-    date-ok = accepted (t .year) (pos (t .month)) (pos (t .day)) valid
+    date-ok = date-accepted (t .year) (pos (t .month)) (pos (t .day)) valid
 
     few-days : t .day ≤ 31
     few-days = omega (arith, date-ok .d-high, short (leapYear (t .year)) (t .month) (date-ok .m-low) (date-ok .m-high))
 
-    offset-range : (10 ≤ offsetOf rows t) × (offsetOf rows t ≤ 53)
+    offset-range : (10 ≤ offsetOnDate rows t) × (offsetOnDate rows t ≤ 53)
     offset-range = offset-small table rows taken (t .year) (t .month) (k .from) (date-ok .m-low) (date-ok .m-high)
 
     -- the next date is from 1972 on too, and a day later
@@ -164,52 +164,52 @@ module _ (table : LentRows) (rows : List Row) (taken : tableOf table ≡ answer 
     valid-after : validDate (k .after .year) (pos (k .after .month)) (pos (k .after .day)) ≡ answer tt
     valid-after = next-accepted (t .year) (pos (t .month)) (pos (t .day)) (k .after) (k .has-next)
 
-    day-after : mjd (k .after .year) (k .after .month) (k .after .day) ≡ dayOf t + 1
+    day-after : mjd (k .after .year) (k .after .month) (k .after .day) ≡ mjdDay t + 1
     day-after =
         let e = next-mjd (t .year) (pos (t .month)) (pos (t .day)) (k .after) (k .has-next) _ (mjd-given (t .year) (pos (t .month)) (pos (t .day)) valid) in
         let f = mjd-given (k .after .year) (pos (k .after .month)) (pos (k .after .day)) valid-after in
-        ap natAbs (same-answer (sym f ∙ e) ∙ ap sucℤ (mjd-natural (t .year) (pos (t .month)) (pos (t .day)) (k .from))) ∙ one (dayOf t)
+        ap natAbs (same-answer (sym f ∙ e) ∙ ap sucℤ (mjd-natural (t .year) (pos (t .month)) (pos (t .day)) (k .from))) ∙ one (mjdDay t)
       where
         one : (n : ℕ) → suc n ≡ n + 1
         one n = omega arith
 
     -- the time ends before the next midnight in TAI
-    before-midnight : timeSeconds t + offsetOf rows t < 86400 + offsetAfter rows (k .after)
+    before-midnight : timeSeconds t + offsetOnDate rows t < 86400 + offsetAfter rows (k .after)
     unfolding timeSeconds lastMinute
     before-midnight = omega (arith, k .time .ends, offset-range .0, offset-range .1, after-range .0, after-range .1)
 
   module _ (a b : UtcTime) (p : Known a) (q : Known b) where
     -- an earlier day, an earlier instant
-    days-apart : dayOf a < dayOf b → taiMs rows a < taiMs rows b
+    days-apart : mjdDay a < mjdDay b → taiMs rows a < taiMs rows b
     unfolding taiMs
-    days-apart h = go (eqb (dayOf a + 1) (dayOf b)) refl
+    days-apart h = go (eqb (mjdDay a + 1) (mjdDay b)) refl
       where
-        next-day : dayOf a + 1 ≡ dayOf b → offsetAfter rows (p .after) ≡ offsetOf rows b
+        next-day : mjdDay a + 1 ≡ mjdDay b → offsetAfter rows (p .after) ≡ offsetOnDate rows b
         next-day e =
             let s = same-date (p .after .year) (p .after .month) (p .after .day) (from-after a p) (valid-after a p) (b .year) (b .month) (b .day) (q .from) (valid b q) (day-after a p ∙ e) in
             ap (λ (x : CalendarDate). wholeSeconds rows (x .year) (x .month)) s
 
-        go : (t : Bool) → eqb (dayOf a + 1) (dayOf b) ≡ t → 1000 * (86400 * dayOf a + timeSeconds a + offsetOf rows a) + a .millis < 1000 * (86400 * dayOf b + timeSeconds b + offsetOf rows b) + b .millis
-        go true e = omega (arith, eqb-true (dayOf a + 1) (dayOf b) e, next-day (eqb-true (dayOf a + 1) (dayOf b) e), before-midnight a p, p .time .milliseconds)
+        go : (t : Bool) → eqb (mjdDay a + 1) (mjdDay b) ≡ t → 1000 * (86400 * mjdDay a + timeSeconds a + offsetOnDate rows a) + a .millis < 1000 * (86400 * mjdDay b + timeSeconds b + offsetOnDate rows b) + b .millis
+        go true e = omega (arith, eqb-true (mjdDay a + 1) (mjdDay b) e, next-day (eqb-true (mjdDay a + 1) (mjdDay b) e), before-midnight a p, p .time .milliseconds)
         go false e =
-            omega (arith, smaller (dayOf a + 1) (dayOf b) (eqb-false (dayOf a + 1) (dayOf b) e) (omega arith), before-midnight a p, p .time .milliseconds, after-range a p .1, offset-range b q .0)
+            omega (arith, smaller (mjdDay a + 1) (mjdDay b) (eqb-false (mjdDay a + 1) (mjdDay b) e) (omega arith), before-midnight a p, p .time .milliseconds, after-range a p .1, offset-range b q .0)
 
   module _ (a b : UtcTime) (p : Known a) (q : Known b) where
-    keys : dayOf a < dayOf b → key (natAbs (a .year)) (a .month) (a .day) < key (natAbs (b .year)) (b .month) (b .day)
+    keys : mjdDay a < mjdDay b → key (natAbs (a .year)) (a .month) (a .day) < key (natAbs (b .year)) (b .month) (b .day)
     keys h = earlier-day (a .year) (a .month) (a .day) (p .from) (valid a p) (b .year) (b .month) (b .day) (q .from) (valid b q) h
 
   abbrev Order : UtcTime → UtcTime → Type 0
-  Order a b = lessBy (fields a) (fields b) ≡ ltb (taiMs rows a) (taiMs rows b)
+  Order a b = lessBy (sevenFields a) (sevenFields b) ≡ ltb (taiMs rows a) (taiMs rows b)
 
-  on-one-day : (a b : UtcTime) → Known a → Known b → dayOf a ≡ dayOf b → Order a b
+  on-one-day : (a b : UtcTime) → Known a → Known b → mjdDay a ≡ mjdDay b → Order a b
   unfolding taiMs timeSeconds
   on-one-day a b p q e =
       let s = same-date (a .year) (a .month) (a .day) (p .from) (valid a p) (b .year) (b .month) (b .day) (q .from) (valid b q) e in
-      let o : offsetOf rows a ≡ offsetOf rows b = ap (λ (x : CalendarDate). wholeSeconds rows (x .year) (x .month)) s in
-      ap (λ (x : CalendarDate). lessBy (natAbs (x .year) ∷ x .month ∷ x .day ∷ clock a) (fields b)) s
+      let o : offsetOnDate rows a ≡ offsetOnDate rows b = ap (λ (x : CalendarDate). wholeSeconds rows (x .year) (x .month)) s in
+      ap (λ (x : CalendarDate). lessBy (natAbs (x .year) ∷ x .month ∷ x .day ∷ clock a) (sevenFields b)) s
       ∙ date-level (natAbs (b .year)) (b .month) (b .day) (clock a) (clock b)
       ∙ time-order a b (lastMinute rows a (p .after)) (lastMinute rows b (q .after)) (p .time) (q .time)
-      ∙ shifted (inMillis a) (inMillis b) (1000 * (86400 * dayOf a + offsetOf rows a)) (taiMs rows a) (taiMs rows b) (omega arith) (omega (arith, e, o))
+      ∙ shifted (inMillis a) (inMillis b) (1000 * (86400 * mjdDay a + offsetOnDate rows a)) (taiMs rows a) (taiMs rows b) (omega arith) (omega (arith, e, o))
     where
       shifted : (x y c u v : ℕ) → u ≡ c + x → v ≡ c + y → ltb x y ≡ ltb u v
       shifted x y c u v eu ev = go (ltb x y) refl
@@ -219,21 +219,21 @@ module _ (table : LentRows) (rows : List Row) (taken : tableOf table ≡ answer 
           go false l = sym (le-ltb u v (omega (arith, ltb-false x y l)))
 
   ordered : (a b : UtcTime) → Known a → Known b → Order a b
-  ordered a b p q = go (ltb (dayOf a) (dayOf b)) refl (ltb (dayOf b) (dayOf a)) refl
+  ordered a b p q = go (ltb (mjdDay a) (mjdDay b)) refl (ltb (mjdDay b) (mjdDay a)) refl
     where
-      go : (t : Bool) → ltb (dayOf a) (dayOf b) ≡ t → (u : Bool) → ltb (dayOf b) (dayOf a) ≡ u → Order a b
+      go : (t : Bool) → ltb (mjdDay a) (mjdDay b) ≡ t → (u : Bool) → ltb (mjdDay b) (mjdDay a) ≡ u → Order a b
       go true e u f =
-          let h = ltb-true (dayOf a) (dayOf b) e in
+          let h = ltb-true (mjdDay a) (mjdDay b) e in
           date-less (natAbs (a .year)) (a .month) (a .day) (natAbs (b .year)) (b .month) (b .day) (clock a) (clock b) (date-ok a p .m-high) (few-days a p) (date-ok b q .m-high) (few-days b q) (keys a b p q h)
           ∙ sym (lt-ltb (taiMs rows a) (taiMs rows b) (days-apart a b p q h))
       go false e true f =
-          let h = ltb-true (dayOf b) (dayOf a) f in
+          let h = ltb-true (mjdDay b) (mjdDay a) f in
           date-more (natAbs (a .year)) (a .month) (a .day) (natAbs (b .year)) (b .month) (b .day) (clock a) (clock b) (date-ok a p .m-high) (few-days a p) (date-ok b q .m-high) (few-days b q) (keys b a q p h)
           ∙ sym (le-ltb (taiMs rows a) (taiMs rows b) (omega (arith, days-apart b a q p h)))
-      go false e false f = on-one-day a b p q (omega (arith, ltb-false (dayOf a) (dayOf b) e, ltb-false (dayOf b) (dayOf a) f))
+      go false e false f = on-one-day a b p q (omega (arith, ltb-false (mjdDay a) (mjdDay b) e, ltb-false (mjdDay b) (mjdDay a) f))
 
   -- THE LAW: of two times that are taken, the one whose fields are first is the one whose exact TAI is first
-  pub order-of-fields : (a b : UtcTime) (s e : ℕ) → instant rows a ≡ answer s → instant rows b ≡ answer e → lessBy (fields a) (fields b) ≡ ltb s e
+  pub order-of-fields : (a b : UtcTime) (s e : ℕ) → instant rows a ≡ answer s → instant rows b ≡ answer e → lessBy (sevenFields a) (sevenFields b) ≡ ltb s e
   order-of-fields a b s e u v =
       let p = known a s u in
       let q = known b e v in

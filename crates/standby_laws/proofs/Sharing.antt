@@ -8,23 +8,23 @@ use native.Mathlib.Nat.{add-mul, one-mul, zero-mul, add-zero, add-comm, div-add-
 use lib.Dec.{ltb}
 use borrow.Author.Tests.{ltb-true, ltb-false}
 use Rattle.standby.specs.declared.Bill.{Bill}
-use Rattle.standby.specs.Bills.{part, remainder, left, bill, shares}
+use Rattle.standby.specs.Bills.{shareDown, remainder, centLeft, bill, shares}
 use Rattle.standby.proofs.Shares.{parts-at-most, left-whole, left-at-most-one}
 use Rattle.standby.proofs.Shares as S
 use Rattle.standby_laws.specs.Sharing.{WithinACent, Shared, Cent, none, to-first, to-second}
 
 -- a part rounded down, with nothing or one cent on top of it
-near-down : (total a m : ℕ) → 0 < m → WithinACent total a m (part total a m)
+near-down : (total a m : ℕ) → 0 < m → WithinACent total a m (shareDown total a m)
 near-down total a m h =
     let e = div-add-mod' (total * a) m in
     let l = mod-lt (total * a) h in
     record { over = omega (arith, e, l); under = omega (arith, e, l) }
 
-near-up : (total a m : ℕ) → 0 < m → 0 < remainder total a m → WithinACent total a m (part total a m + 1)
+near-up : (total a m : ℕ) → 0 < m → 0 < remainder total a m → WithinACent total a m (shareDown total a m + 1)
 near-up total a m h r =
     let e = div-add-mod' (total * a) m in
     let l = mod-lt (total * a) h in
-    let s : (part total a m + 1) * m ≡ part total a m * m + m = add-mul (part total a m) 1 m ∙ ap (λ (x : ℕ). part total a m * m + x) (one-mul m) in
+    let s : (shareDown total a m + 1) * m ≡ shareDown total a m * m + m = add-mul (shareDown total a m) 1 m ∙ ap (λ (x : ℕ). shareDown total a m * m + x) (one-mul m) in
     record { over = omega (arith, e, l, s, r); under = omega (arith, e, l, s) }
 
 module _ (q total a b : ℕ) (h : 0 < a + b) where
@@ -32,10 +32,10 @@ module _ (q total a b : ℕ) (h : 0 < a + b) where
   m = a + b
 
   abbrev x : ℕ
-  x = part total a m
+  x = shareDown total a m
 
   abbrev y : ℕ
-  y = part total b m
+  y = shareDown total b m
 
   abbrev r : ℕ
   r = remainder total a m
@@ -44,7 +44,7 @@ module _ (q total a b : ℕ) (h : 0 < a + b) where
   s = remainder total b m
 
   abbrev L : ℕ
-  L = left total a b
+  L = centLeft total a b
 
   whole : x + y + L ≡ total
   whole = omega (arith, parts-at-most total a b h)

@@ -19,7 +19,7 @@ use Rattle.standby.specs.Bills.{quarters, shares, billBetween}
 abbrev pub Over : ℕ → ℕ → ℕ → ℕ → Type 0
 Over elapsed rate a b = (900000000000 < elapsed) ⊎ ((1000000 < rate) ⊎ ((1000000 < a) ⊎ (1000000 < b)))
 
-pub record Within (elapsed rate a b : ℕ) : Type 0 where
+pub record NotOver (elapsed rate a b : ℕ) : Type 0 where
   pub time : elapsed ≤ 900000000000
   pub low-rate : rate ≤ 1000000
   pub short-first : a ≤ 1000000
@@ -29,8 +29,8 @@ pub record Within (elapsed rate a b : ℕ) : Type 0 where
 pub data BillDecision (s e rate a b : ℕ) : Type 0 where
   backward : e < s → billBetween s e rate a b ≡ refusal 26 → BillDecision s e rate a b
   over : s ≤ e → Over (e - s) rate a b → billBetween s e rate a b ≡ refusal 27 → BillDecision s e rate a b
-  no-line : s ≤ e → Within (e - s) rate a b → a + b ≡ 0 → billBetween s e rate a b ≡ refusal 28 → BillDecision s e rate a b
-  billed : s ≤ e → Within (e - s) rate a b → 0 < a + b → billBetween s e rate a b ≡ answer (shares (quarters (e - s)) (quarters (e - s) * rate) a b) → BillDecision s e rate a b
+  no-line : s ≤ e → NotOver (e - s) rate a b → a + b ≡ 0 → billBetween s e rate a b ≡ refusal 28 → BillDecision s e rate a b
+  billed : s ≤ e → NotOver (e - s) rate a b → 0 < a + b → billBetween s e rate a b ≡ answer (shares (quarters (e - s)) (quarters (e - s) * rate) a b) → BillDecision s e rate a b
 
 -- a UTC time
 pub data TimeDecision (rows : List Row) (t : UtcTime) : Type 0 where

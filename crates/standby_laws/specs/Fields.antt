@@ -7,8 +7,8 @@ use lib.IntN.{natAbs}
 use Rattle.standby.specs.declared.UtcTime.{UtcTime}
 
 -- years from 1972 on are their own size
-abbrev pub fields : UtcTime → List ℕ
-fields t = natAbs (t .year) ∷ t .month ∷ t .day ∷ t .hour ∷ t .minute ∷ t .second ∷ t .millis ∷ []
+abbrev pub sevenFields : UtcTime → List ℕ
+sevenFields t = natAbs (t .year) ∷ t .month ∷ t .day ∷ t .hour ∷ t .minute ∷ t .second ∷ t .millis ∷ []
 
 -- the first element that differs is less
 abbrev pub lessBy : List ℕ → List ℕ → Bool

@@ -3,7 +3,7 @@
 use Prim.Native.Nat.{ℕ, _+_, _*_, _≤_, _<_}
 use mathlib.Core.Path.{_≡_}
 use Rattle.standby.specs.declared.Bill.{Bill}
-use Rattle.standby.specs.Bills.{part, remainder}
+use Rattle.standby.specs.Bills.{shareDown, remainder}
 
 -- x cents are less than one cent away from total × metres / all, both sides times all
 pub record WithinACent (total metres all x : ℕ) : Type 0 where
@@ -18,6 +18,6 @@ pub record Shared (q total a b : ℕ) (r : Bill) : Type 0 where
 
 -- where the cent went
 pub data Cent (total a b : ℕ) (r : Bill) : Type 0 where
-  none : part total a (a + b) + part total b (a + b) ≡ total → r .first ≡ part total a (a + b) → r .second ≡ part total b (a + b) → Cent total a b r
-  to-first : part total a (a + b) + part total b (a + b) + 1 ≡ total → remainder total b (a + b) ≤ remainder total a (a + b) → r .first ≡ part total a (a + b) + 1 → r .second ≡ part total b (a + b) → Cent total a b r
-  to-second : part total a (a + b) + part total b (a + b) + 1 ≡ total → remainder total a (a + b) < remainder total b (a + b) → r .first ≡ part total a (a + b) → r .second ≡ part total b (a + b) + 1 → Cent total a b r
+  none : shareDown total a (a + b) + shareDown total b (a + b) ≡ total → r .first ≡ shareDown total a (a + b) → r .second ≡ shareDown total b (a + b) → Cent total a b r
+  to-first : shareDown total a (a + b) + shareDown total b (a + b) + 1 ≡ total → remainder total b (a + b) ≤ remainder total a (a + b) → r .first ≡ shareDown total a (a + b) + 1 → r .second ≡ shareDown total b (a + b) → Cent total a b r
+  to-second : shareDown total a (a + b) + shareDown total b (a + b) + 1 ≡ total → remainder total a (a + b) < remainder total b (a + b) → r .first ≡ shareDown total a (a + b) → r .second ≡ shareDown total b (a + b) + 1 → Cent total a b r

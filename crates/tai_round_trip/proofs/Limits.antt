@@ -15,7 +15,8 @@ use Rattle.day_number.proofs.Units.{nought-L}
 use Rattle.julian.specs.declared.JulianDate.{JulianDate}
 use Rattle.julian.specs.JulianDate.{julian}
 use Rattle.tai_utc.specs.Table.{fixed}
-use Rattle.scale_laws.specs.Meaning.{day, Apart}
+use Rattle.rounding.specs.Picoseconds.{dayPs}
+use Rattle.scale_laws.specs.Meaning.{Apart}
 use Rattle.scale_laws.proofs.Meant.{worth-unique}
 use Rattle.utc_scales.specs.UtcTai.{utcToTai, moved, refined, rounds, taiToUtc}
 use Rattle.utc_scale_laws.specs.Twenty.{utc-tai, tai-utc, answerOfAny}
@@ -23,7 +24,7 @@ use Rattle.utc_scale_laws.proofs.Computed.{computed, as-computed}
 use Rattle.tai_round_trip.specs.UtcDays.{H}
 use Rattle.tai_round_trip.specs.RoundTrip.{ThereAndBack}
 use Rattle.tai_round_trip.proofs.Units.{L-H, in-units}
-use Rattle.tai_round_trip.proofs.Parts.{joined}
+use Rattle.tai_round_trip.proofs.Parts.{parts-joined}
 
 abbrev bits : ℕ → Float
 bits n = ofBits binary64 n
@@ -83,9 +84,9 @@ no-29-ps r =
     let e : r .u ≡ after-leap 0xbc90_0800_0000_0000 = same (r .there) worst-there in
     let f : r .t ≡ after-leap 0x3f31_7228_3394_3000 = same (subst (λ (u : JulianDate). utcToTai fixed u ≡ answer (r .t)) e (r .back)) worst-back in
     let c : Apart 29 worst (after-leap 0x3f31_7228_3394_3000) = subst (λ (t : JulianDate). Apart 29 worst t) f (r .apart) in
-    go (c .p) (c .n) (c .p') (c .n') (4892495 * H) (worth-unique (c .from) (joined midnight-val given-val)) (worth-unique (c .to) (joined midnight-val back-val)) (c .under)
+    go (c .p) (c .n) (c .p') (c .n') (4892495 * H) (worth-unique (c .from) (parts-joined midnight-val given-val)) (worth-unique (c .to) (parts-joined midnight-val back-val)) (c .under)
   where
-    go : (p n p' n' A : ℕ) → p + 0 ≡ A + 19181998412873 * q + n → p' + 0 ≡ A + 19181998412848 * q + n' → day * (1 * n' + 1 * p + 0) ≤ day * (1 * p' + 1 * n + 0) + 29 * (1 * L) → ⊥
+    go : (p n p' n' A : ℕ) → p + 0 ≡ A + 19181998412873 * q + n → p' + 0 ≡ A + 19181998412848 * q + n' → dayPs * (1 * n' + 1 * p + 0) ≤ dayPs * (1 * p' + 1 * n + 0) + 29 * (1 * L) → ⊥
     go p n p' n' A e f k = omega (arith, L-q, q-pos)
 
 -- ---- 0h TAI of 2017-01-01, 37 s before the end of a leap second: after two rounds the guess is 4.97 ns off
@@ -136,9 +137,9 @@ unfolding ofBits
 third-val = in-units 4144 (2 ^ 56) q L-q (record { sign = false; size = 4144; has = (refl, refl); is = refl })
 
 pub two-rounds-miss : Apart 4960 (new-year nought) (new-year third-tai) → ⊥
-two-rounds-miss c = go (c .p) (c .n) (c .p') (c .n') (4915509 * H) (worth-unique (c .from) (joined new-year-val nought-L)) (worth-unique (c .to) (joined new-year-val third-val)) (c .over)
+two-rounds-miss c = go (c .p) (c .n) (c .p') (c .n') (4915509 * H) (worth-unique (c .from) (parts-joined new-year-val nought-L)) (worth-unique (c .to) (parts-joined new-year-val third-val)) (c .over)
   where
-    go : (p n p' n' A : ℕ) → p + 0 ≡ A + 0 + n → p' + 0 ≡ A + 4144 * q + n' → day * (1 * p' + 1 * n + 0) ≤ day * (1 * n' + 1 * p + 0) + 4960 * (1 * L) → ⊥
+    go : (p n p' n' A : ℕ) → p + 0 ≡ A + 0 + n → p' + 0 ≡ A + 4144 * q + n' → dayPs * (1 * p' + 1 * n + 0) ≤ dayPs * (1 * n' + 1 * p + 0) + 4960 * (1 * L) → ⊥
     go p n p' n' A e f k = omega (arith, L-q, q-pos)
 
 -- ---- 1976-01-01, whose 0h UTC is after a leap second: two TAI stamps in order, one unit in the last place apart, and their UTC stamps in the other order

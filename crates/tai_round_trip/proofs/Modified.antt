@@ -10,19 +10,19 @@ use Rattle.constants.specs.Constants.{decimal}
 use Rattle.rounding.specs.Value.{Val, L}
 use Rattle.rounding.proofs.Value.{L-pos}
 use Rattle.rounding.proofs.Sizes.{whole-val}
-use Rattle.rounding.proofs.Bound.{Within}
-use Rattle.rounding.proofs.Range.{at-most}
+use Rattle.rounding.proofs.Bound.{SizeWithin}
+use Rattle.rounding.proofs.Range.{size-at-most}
 use Rattle.rounding.proofs.Compare.{le-says}
 use Rattle.rounding.proofs.Near.{NearSum, add-near}
-use Rattle.rounding.proofs.Chain.{Close}
+use Rattle.rounding.proofs.Chain.{ValClose}
 use Rattle.julian.specs.declared.JulianDate.{JulianDate}
-use Rattle.scale_laws.specs.Meaning.{day}
+use Rattle.rounding.specs.Picoseconds.{dayPs}
 use Rattle.utc_scales.specs.LargerPart.{firstIsKept}
 use Rattle.tai_round_trip.specs.Ranges.{ModifiedSplit}
 use Rattle.tai_round_trip.specs.UtcDays.{H}
 use Rattle.tai_round_trip.specs.Relation.{RightTai}
 use Rattle.tai_round_trip.proofs.Units.{h, L-H, L-h, h-small, in-units}
-use Rattle.tai_round_trip.proofs.Parts.{HalfDays, Stamp, joined}
+use Rattle.tai_round_trip.proofs.Parts.{HalvesUp, Stamp, parts-joined}
 use Rattle.tai_round_trip.proofs.Kept.{first-larger}
 use Rattle.tai_round_trip.proofs.Evaluated.{SeenTo, since, day-sum, sum-high, sum-low, seen-to}
 use Rattle.tai_round_trip.proofs.Meant.{on-day, utc-meant}
@@ -36,7 +36,7 @@ units-17 : 2 ^ 1038 ≡ 131072 * h
 unfolding h
 units-17 = refl
 
-add-coarse : {x y : Float} {p n q k : ℕ} → p + q < n + k + 131072 * L → n + k < p + q + 131072 * L → Val x p n L → Val y q k L → Close L (add binary64 x y) (p + q) (n + k) (65536 * h)
+add-coarse : {x y : Float} {p n q k : ℕ} → p + q < n + k + 131072 * L → n + k < p + q + 131072 * L → Val x p n L → Val y q k L → ValClose L (add binary64 x y) (p + q) (n + k) (65536 * h)
 add-coarse {x} {y} {p} {n} {q} {k} u l v w =
     let s : NearSum (add binary64 x y) (p + q) (n + k) 1038 = add-near 1038 (lit≤ tt) (subst (λ (z : ℕ). p + q < n + k + z) (sym days-17) u) (subst (λ (z : ℕ). n + k < p + q + z) (sym days-17) l) v w in
     record { p = s .p; n = s .n; val = s .val; over = half (s .p + (n + k)) (s .n + (p + q)) (2 ^ 1038) units-17 (s .over); under = half (s .n + (p + q)) (s .p + (n + k)) (2 ^ 1038) units-17 (s .under) }
@@ -54,16 +54,16 @@ unfolding round
 last-day = subst (λ (z : ℕ). Val (decimal 131071 0) (131071 * L) z L) (zero-mul L) (whole-val (record { sign = false; size = 131071; has = (refl, refl); is = refl }))
 
 -- ---- all roundings, in picoseconds
-in-all : day * (5662510614 * h + 345604 * h) ≤ 628704 * (86400 * L)
-in-all = subst (λ (z : ℕ). day * (5662510614 * h + 345604 * h) ≤ 628704 * (86400 * z)) (sym L-h) (go h (mul-le-mul-right h (lit≤ tt)))
+in-all : dayPs * (5662510614 * h + 345604 * h) ≤ 628704 * (86400 * L)
+in-all = subst (λ (z : ℕ). dayPs * (5662510614 * h + 345604 * h) ≤ 628704 * (86400 * z)) (sym L-h) (go h (mul-le-mul-right h (lit≤ tt)))
   where
-    go : (k : ℕ) → 489270777235200000000000000 * k ≤ 489271294101831606809395200 * k → day * (5662510614 * k + 345604 * k) ≤ 628704 * (86400 * (9007199254740992 * k))
+    go : (k : ℕ) → 489270777235200000000000000 * k ≤ 489271294101831606809395200 * k → dayPs * (5662510614 * k + 345604 * k) ≤ 628704 * (86400 * (9007199254740992 * k))
     go k l = omega arith
 
 -- ---- the parts of such a date
 module _ {d : JulianDate} (s : ModifiedSplit d) where
-  u : Within (d .jd2) (131071 * L)
-  u = at-most (s .held .1) last-day (s .to)
+  u : SizeWithin (d .jd2) (131071 * L)
+  u = size-at-most (s .held .1) last-day (s .to)
 
   from-1972 : 41318 * L + u .n ≤ u .p
   from-1972 = plain (41318 * L) (0 * L) (u .p) (u .n) (zero-mul L) (le-says L-pos first-day (u .val) (s .from))
@@ -74,7 +74,7 @@ module _ {d : JulianDate} (s : ModifiedSplit d) where
   zero-point : Val (d .jd1) (4800001 * H) 0 L
   zero-point = in-units 4800001 2 H L-H (s .first)
 
-  days : HalfDays (d .jd1) (4800001 * H)
+  days : HalvesUp (d .jd1) (4800001 * H)
   days = record { val = zero-point; k = 4800001; halves = refl; high = omega arith }
 
   stamp : Stamp (d .jd1) (d .jd2) (4800001 * H) (u .p) (u .n)
@@ -112,4 +112,4 @@ module _ {d : JulianDate} (s : ModifiedSplit d) where
   utc-to-tai-modified =
       let o = on-day stamp in
       let r = utc-meant stamp modified-seen 628704 in-all (o .0) (o .1) in
-      record { n = o .0; on = record { p = _; m = _; worth = joined zero-point (u .val); on = o .1 }; date = r .date; is = r .is; means = r .means }
+      record { n = o .0; on = record { p = _; m = _; worth = parts-joined zero-point (u .val); on = o .1 }; date = r .date; is = r .is; means = r .means }

@@ -8,7 +8,7 @@ use lib.Dec.{T}
 use lib.Ieee.{Float, binary64, fits, le}
 use Rattle.floats.specs.Whole.{abs, one}
 use Rattle.rounding.specs.Value.{Val, L}
-use Rattle.rounding.proofs.Range.{at-most}
+use Rattle.rounding.proofs.Range.{size-at-most}
 use Rattle.day_number.proofs.Units.{one-L}
 use Rattle.julian.specs.declared.JulianDate.{JulianDate}
 use Rattle.julian.specs.JulianDate.{julian}
@@ -27,13 +27,13 @@ pub record FirstPart (a : Float) (A : ℕ) : Type 0 where
   pub high : A ≤ 10000001 * H
 
 -- the same from 0 on
-pub record HalfDays (a : Float) (A : ℕ) : Type 0 where
+pub record HalvesUp (a : Float) (A : ℕ) : Type 0 where
   pub val : Val a A 0 L
   pub k : ℕ
   pub halves : A ≡ k * H
   pub high : A ≤ 10000001 * H
 
-abbrev pub half-days : {a : Float} {A : ℕ} → FirstPart a A → HalfDays a A
+abbrev pub half-days : {a : Float} {A : ℕ} → FirstPart a A → HalvesUp a A
 half-days v = record { val = v .val; k = v .k; halves = v .halves; high = v .high }
 
 -- a float of at most 1027/1024 day in size
@@ -44,17 +44,17 @@ pub record SecondPart (u : Float) (up un : ℕ) : Type 0 where
   pub under : 1024 * un ≤ 1024 * up + 1027 * L
 
 pub smaller-part : (b : Float) → T (fits binary64 b) → T (le (abs b) one) → (p : ℕ) × (n : ℕ) × SecondPart b p n
-smaller-part b t k = let w = at-most t one-L k in (w .p, w .n, record { held = t; val = w .val; over = wide (w .p) (w .n) L (w .high); under = wide (w .n) (w .p) L (w .low) })
+smaller-part b t k = let w = size-at-most t one-L k in (w .p, w .n, record { held = t; val = w .val; over = wide (w .p) (w .n) L (w .high); under = wide (w .n) (w .p) L (w .low) })
   where
     wide : (p n Q : ℕ) → p ≤ n + Q → 1024 * p ≤ 1024 * n + 1027 * Q
     wide p n Q k = omega arith
 
 -- what the two are worth together
-pub joined : {a x : Float} {A p n : ℕ} → Val a A 0 L → Val x p n L → Worth (julian a x) (A + p) n L
-joined {A = A} {p} {n} v w = record { p = A; n = 0; q = p; m = n; first = v; second = w; total = omega arith }
+pub parts-joined : {a x : Float} {A p n : ℕ} → Val a A 0 L → Val x p n L → Worth (julian a x) (A + p) n L
+parts-joined {A = A} {p} {n} v w = record { p = A; n = 0; q = p; m = n; first = v; second = w; total = omega arith }
 
-pub worth-of : {a u : Float} {A up un : ℕ} → FirstPart a A → SecondPart u up un → Worth (julian a u) (A + up) un L
-worth-of v w = joined (v .val) (w .val)
+pub parts-worth : {a u : Float} {A up un : ℕ} → FirstPart a A → SecondPart u up un → Worth (julian a u) (A + up) un L
+parts-worth v w = parts-joined (v .val) (w .val)
 
 -- ---- two parts whose sum lies from 2000000 to 6000000 days, the second at most 131072 days in size
 pub record Around (a u : Float) (A up un : ℕ) : Type 0 where

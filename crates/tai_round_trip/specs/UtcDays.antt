@@ -2,17 +2,15 @@
 -- n begins half a day before the Julian date n, and the table's rows from 1972 on are whole seconds. Days are counted in units of 2 ^ -1074 day, of which L are a
 -- day, so that every float is a whole number of them. Assumes nothing.
 use mathlib.Core.Path.{_≡_}
-use Prim.Native.Nat.{ℕ, suc, _+_, _-_, _*_, _^_, _≤_, _<_}
+use Prim.Native.Nat.{ℕ, suc, _+_, _-_, _*_, _≤_, _<_}
 use lib.IntN.{pos}
 use Rattle.rounding.specs.Value.{L}
+unfoldable pub use Rattle.rounding.specs.Value.{H}
 use Rattle.calendar.specs.Calendar.{dateOf}
 use Rattle.julian.specs.declared.JulianDate.{JulianDate}
 use Rattle.julian.specs.Worth.{Worth}
-use Rattle.tai_utc.specs.Table.{fixed, starts, reached, monthNumber}
-
--- half a day; shut, so that proofs do not compute it. L = 2 H
-unfoldable pub H : ℕ
-H = 2 ^ 1073
+use Rattle.tai_utc.specs.Table.{fixed, monthNumber}
+use Rattle.tai_utc.specs.Offset.{secondsIn}
 
 -- (p - m) / L lies on day n: f / L of that day have passed
 pub record OnDay (p m n : ℕ) : Type 0 where
@@ -31,9 +29,9 @@ pub record ExactDay (d : JulianDate) (n : ℕ) : Type 0 where
 unfoldable pub monthOn : ℕ → ℕ
 monthOn n = monthNumber (dateOf (pos n) .year) (dateOf (pos n) .month)
 
--- TAI-UTC at 0h of day n, in whole seconds: of the rows that have begun the fifteenth, of January 1972, has 10 s, and each later row one more
+-- TAI-UTC at 0h of day n, in whole seconds: those of the table's row
 unfoldable pub secondsOn : ℕ → ℕ
-secondsOn n = reached (starts fixed) (monthOn n) - 5
+secondsOn n = secondsIn fixed (monthOn n)
 
 -- the leap seconds at the end of day n
 unfoldable pub leapAfter : ℕ → ℕ

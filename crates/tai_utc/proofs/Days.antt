@@ -15,7 +15,7 @@ use Rattle.calendar.specs.Refusals.{validDate, lastDate, nextOf}
 use Rattle.calendar.specs.DayCount.{mjdNumber, mjdOf}
 use Rattle.calendar.specs.declared.CalendarDate.{CalendarDate}
 use Rattle.calendar.proofs.Mjd.{mjd-refused, mjd-given}
-use Rattle.calendar.proofs.NextDates.{refused, next-mjd}
+use Rattle.calendar.proofs.NextDates.{refused-next, next-mjd}
 use Rattle.tai_utc.specs.declared.DayOffsets.{DayOffsets}
 use Rattle.tai_utc.specs.Table.{Row, monthNumber}
 use Rattle.tai_utc.specs.Leap.{offsetsOfDay, dayOffsets, leapOf, leapAtEndOfDay}
@@ -48,7 +48,7 @@ module _ (rows : List Row) (y m d : ℤ) where
   day-offsets-are = go (validDate y m d) refl (nextOf y m d) refl
     where
       go : (v : Outcome Unit) → validDate y m d ≡ v → (w : Outcome CalendarDate) → nextOf y m d ≡ w → dayOffsets rows y m d ≡ onward w (λ t. answer (offsetsOfDay rows (monthNumber y (natAbs m)) (monthNumber (t .year) (t .month)) (mjdNumber y m d)))
-      go (refusal k) p w q = day-refused rows y m d k (mjd-refused y m d k p) ∙ ap (λ (o : Outcome CalendarDate). onward o (λ t. answer (offsetsOfDay rows (monthNumber y (natAbs m)) (monthNumber (t .year) (t .month)) (mjdNumber y m d)))) (sym (refused y m d k p) ∙ q)
+      go (refusal k) p w q = day-refused rows y m d k (mjd-refused y m d k p) ∙ ap (λ (o : Outcome CalendarDate). onward o (λ t. answer (offsetsOfDay rows (monthNumber y (natAbs m)) (monthNumber (t .year) (t .month)) (mjdNumber y m d)))) (sym (refused-next y m d k p) ∙ q)
       go (answer x) p (refusal k) q = no-next-day rows y m d (mjdNumber y m d) (mjd-given y m d p) k q
       go (answer x) p (answer t) q = day-given rows y m d (mjdNumber y m d) (mjd-given y m d p) t q
 

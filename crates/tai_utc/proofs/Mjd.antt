@@ -21,8 +21,8 @@ use Rattle.calendar.specs.declared.MjdAnswer.{MjdAnswer}
 use Rattle.calendar.specs.declared.MjdAnswer.the-variants as Mjd
 use Rattle.calendar.specs.declared.NextDay.{NextDay}
 use Rattle.calendar.specs.declared.NextDay.the-variants as Next
-use Rattle.calendar.proofs.Signs.{raised, at-most}
-use Rattle.calendar.proofs.Accepted.{accepted, short}
+use Rattle.calendar.proofs.Signs.{raised, at-most-i32}
+use Rattle.calendar.proofs.Accepted.{date-accepted, short}
 use Rattle.calendar.proofs.Mjd.{mjd-given, mjd-valid, same-answer}
 
 -- ---- the size of the number
@@ -48,8 +48,8 @@ pub mjd-small : (y m d n : ℤ) → SFits w32 y → mjdOf y m d ≡ answer n →
 unfolding mjdNumber
 mjd-small y m d n f e =
     let z = mjd-valid y m d n e in
-    let a = accepted y m d z in
-    let r = raised y 4798 4800 2147483647 (omega arith) (a .year) (at-most y f) in
+    let a = date-accepted y m d z in
+    let r = raised y 4798 4800 2147483647 (omega arith) (a .year) (at-most-i32 y f) in
     let s = ap natAbs (r .is) in
     let u : natAbs (y +ℤ pos 4800) ≤ 2147488447 = omega (arith, s, r .high) in
     let b = short (leapYear y) (natAbs m) (a .m-low) (a .m-high) in

@@ -19,7 +19,7 @@ use Rattle.calendar.specs.Calendar.{date, leapYear, lengths}
 use Rattle.calendar.specs.Refusals.{validDate}
 use Rattle.calendar.specs.DayCount.{mjdNumber}
 use Rattle.calendar.proofs.Months.{months}
-use Rattle.calendar.proofs.Accepted.{Accepted, accepted, in-calendar-valid}
+use Rattle.calendar.proofs.Accepted.{Accepted, date-accepted, in-calendar-valid}
 use Rattle.calendar.proofs.Mjd.{mjd-given}
 use Rattle.calendar.proofs.NextDates.{next-day, next-is}
 use Rattle.tai_utc.specs.Table.{Row, monthNumber}
@@ -56,7 +56,7 @@ valid : (y m d : ℤ) → Plain y m d → validDate y m d ≡ answer tt
 valid y m d p = next-is y m d _ (p .same-month) .0
 
 pub plain-accepted : (y m d : ℤ) → Plain y m d → Accepted y m d
-plain-accepted y m d p = accepted y m d (valid y m d p)
+plain-accepted y m d p = date-accepted y m d (valid y m d p)
 
 -- a call is handed its three numbers read back from their bits
 pub read-plain : (y m d : ℤ) → SFits w32 y → SFits w32 m → SFits w32 d → Plain (toZ w32 (ofZ w32 y)) (toZ w32 (ofZ w32 m)) (toZ w32 (ofZ w32 d)) → Plain y m d

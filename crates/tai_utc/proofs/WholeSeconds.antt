@@ -14,6 +14,7 @@ use Rattle.tai_utc.specs.Lent.{secondsAt, lentSize, rowsOf}
 use Rattle.tai_utc.specs.Offset.{none, secondsIn}
 use Rattle.tai_utc.specs.WholeSeconds.{wholeSeconds}
 use Rattle.tai_utc.proofs.Rows.{every, at}
+use Rattle.tai_utc.proofs.Years.{most-rows, whole-rows}
 use Rattle.tai_utc.proofs.Tables.{fixed-place, lent-place}
 
 -- ---- the row of place k, from 14 to 41, has k - 4 seconds: computed
@@ -35,6 +36,16 @@ counted k h l = go (ltb k 14) refl (at countTest fixed tested k (omega (arith, f
     go : (b : Bool) → ltb k 14 ≡ b → T (b || eqb (getD fixed k none .units / 10000000) (k - 4)) → getD fixed k none .units / 10000000 ≡ k - 4
     go true e t = absurd (omega (arith, ltb-true k 14 e))
     go false e t = eqb→eq _ _ t
+
+-- from 1972 on the seconds of the row reached in the fixed table are the number of rows that have begun, less 5
+pub fixed-seconds : (n : ℕ) → 23664 ≤ n → secondsIn fixed n ≡ reached (starts fixed) n - 5
+fixed-seconds n h =
+    let a = whole-rows n h in
+    let b = most-rows n in
+    counted (reached (starts fixed) n - 1) (omega (arith, a)) (omega (arith, a, b)) ∙ less (reached (starts fixed) n) a
+  where
+    less : (j : ℕ) → 15 ≤ j → (j - 1) - 4 ≡ j - 5
+    less j g = omega arith
 
 module _ (t : LentRows) (n k : ℕ) (e : k ≡ reached (starts (rowsOf t)) n) (low : 15 ≤ k) where
   here : getD (rowsOf t) (k - 1) none .units / 10000000 ≡ secondsIn (rowsOf t) n

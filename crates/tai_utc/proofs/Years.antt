@@ -13,7 +13,7 @@ use lib.Ieee.{Float, nan, binary64, round, ofInt}
 use borrow.Author.Tests.{ltb-true}
 use Rattle.refusals.specs.Outcome.{answer}
 use Rattle.floats.specs.Whole.{nought}
-use Rattle.calendar.proofs.Accepted.{accepted}
+use Rattle.calendar.proofs.Accepted.{date-accepted}
 use Rattle.calendar.proofs.Mjd.{mjd-valid}
 use Rattle.tai_utc.specs.Table.{Row, fixed, starts, reached, monthOf, monthNumber}
 use Rattle.tai_utc.specs.Offset.{none, secondsOf, offsetAt, taiUtcOffset, rowAt, wholeF}
@@ -107,11 +107,11 @@ early (negsuc y) m e h = omega arith
 pub zero-before-1960 : (y m d : ℤ) (f x : Float) → ltZ y (pos 1960) ≡ true → taiUtcOffset fixed y m d f ≡ answer x → x ≡ nought
 zero-before-1960 y m d f x e p =
     let (n, q, r) = offset-came fixed y m d f x p in
-    r ∙ before-1960 (monthNumber y (natAbs m)) (ofInt binary64 n) f (early y (natAbs m) e (accepted y m d (mjd-valid y m d n q) .m-high))
+    r ∙ before-1960 (monthNumber y (natAbs m)) (ofInt binary64 n) f (early y (natAbs m) e (date-accepted y m d (mjd-valid y m d n q) .m-high))
 
 -- from 1972 on: the number of rows reached less 5, at every fraction
 pub whole-from-1972 : (y : ℕ) (m d : ℤ) (f x : Float) → 1972 ≤ y → taiUtcOffset fixed (pos y) m d f ≡ answer x → x ≡ ofInt binary64 (pos (reached (starts fixed) (monthOf y (natAbs m)) - 5))
 unfolding monthNumber
 whole-from-1972 y m d f x h p =
     let (n, q, r) = offset-came fixed (pos y) m d f x p in
-    r ∙ whole-seconds (monthOf y (natAbs m)) (ofInt binary64 n) f (omega (arith, accepted (pos y) m d (mjd-valid (pos y) m d n q) .m-low))
+    r ∙ whole-seconds (monthOf y (natAbs m)) (ofInt binary64 n) f (omega (arith, date-accepted (pos y) m d (mjd-valid (pos y) m d n q) .m-low))

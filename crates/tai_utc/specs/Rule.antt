@@ -5,9 +5,10 @@ use mathlib.Core.Bool.{cond}
 use mathlib.Core.List.{List}
 use lib.Dec.{eqb}
 use lib.ListN.{getD}
-use lib.IntN.{ℤ, natAbs}
+use lib.IntN.{ℤ, pos, natAbs}
 use lib.Ieee.{Float}
 use Rattle.refusals.specs.Outcome.{Outcome, answer, onward}
+use Rattle.calendar.specs.declared.CalendarDate.{CalendarDate}
 use Rattle.tai_utc.specs.declared.DayOffsets.{DayOffsets}
 use Rattle.tai_utc.specs.declared.Rule.{Rule}
 use Rattle.tai_utc.specs.declared.Rule.the-variants.{Absent, Drifting, Whole}
@@ -27,6 +28,10 @@ ruleOf rows n = ruleBy rows (reached (starts rows) n)
 -- on a date of year y and month m
 unfoldable pub ruleAt : List Row → ℤ → ℤ → Rule
 ruleAt rows y m = ruleOf rows (monthNumber y (natAbs m))
+
+-- on a calendar date
+unfoldable pub ruleOn : List Row → CalendarDate → Rule
+ruleOn rows t = ruleAt rows (t .year) (pos (t .month))
 
 -- an answer with its rule; a refusal has none
 unfoldable pub withRule : {A : Type 0} → Outcome A → Rule → Outcome (A × Rule)

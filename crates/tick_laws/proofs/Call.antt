@@ -13,7 +13,7 @@ use Rattle.tick_times.specs.declared.TicksAnswer.{TicksAnswer}
 use Rattle.tick_times.specs.declared.TicksAnswer.the-variants.{Written, Refused}
 use Rattle.tick_times.specs.Passes.{millisBetween, millisAt, OnSomeLine}
 use Rattle.tick_times.specs.Ticks.{numberAt, numbersIn, passesOf, refusedBy, bytesOf, placedTicks, ticksOutcome, lentAfter, TicksCall}
-use Rattle.tick_times.proofs.Ladder.{nothing-refused}
+use Rattle.tick_times.proofs.Ladder.{ladder-passed}
 use Rattle.tick_times.proofs.Calls.{length-bytes}
 use Rattle.tick_laws.specs.Sound.{Sound, Inside, JustBelow}
 use Rattle.tick_laws.specs.Reasons.{ExactlyWhen, PlacedRight, TicksMeaning}
@@ -58,7 +58,7 @@ module _ (ps ms ts before after : List ℕ) (r : TicksAnswer) (call : TicksCall 
     placed-right : PlacedRight ps ms ts before after
     placed-right =
         record {
-          as-long = ap length holds ∙ length-append (bytesOf f (numbersIn ts)) (drop (8 * numbersIn ts) before) ∙ omega (arith, length-bytes f (numbersIn ts), length-drop (8 * numbersIn ts) before, nothing-refused ps ms ts (length before) z .fits);
+          as-long = ap length holds ∙ length-append (bytesOf f (numbersIn ts)) (drop (8 * numbersIn ts) before) ∙ omega (arith, length-bytes f (numbersIn ts), length-drop (8 * numbersIn ts) before, ladder-passed ps ms ts (length before) z .fits);
           spare = ap (drop (8 * numbersIn ts)) holds ∙ drop-at (bytesOf f (numbersIn ts)) (drop (8 * numbersIn ts) before) (8 * numbersIn ts) (length-bytes f (numbersIn ts));
           on-any-line = λ i j h n a b. result i h ∙ sym (on-line (passesOf ps ms) sound (numberAt ts i) _ (record { j = j; next = n; from = a; to = b; is = refl }));
           at-passes = λ i j h n e. result i h ∙ ap (millisAt (passesOf ps ms)) e ∙ at-a-pass (passesOf ps ms) sound j n;

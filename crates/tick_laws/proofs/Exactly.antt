@@ -17,7 +17,7 @@ use Rattle.tick_times.specs.Ticks.{numberAt, numbersIn, passesOf, wholeNumbers,
 use Rattle.tick_times.proofs.Every.{both, every-at}
 use Rattle.tick_times.proofs.Checks.{held, small-all, small-each, rising-all, inside-all}
 use Rattle.tick_times.proofs.ByLast.{rises-of}
-use Rattle.tick_times.proofs.Ladder.{Usable, usable-is, NothingRefused, nothing-refused}
+use Rattle.tick_times.proofs.Ladder.{Usable, usable-is, NothingRefused, ladder-passed}
 use Rattle.tick_times.proofs.Calls.{length-bytes}
 use Rattle.tick_laws.specs.Sound.{Inside}
 use Rattle.tick_laws.specs.Reasons.{WholeLists, HasPlaces, UsablePasses, RisingPasses, TicksInside, ExactlyWhen}
@@ -198,7 +198,7 @@ module _ (ps ms ts before after : List ℕ) (r : TicksAnswer) (call : TicksCall 
       fro e = refused-out r n (is-refused (λ z. nz (sym e ∙ z)) ∙ ap refusal e)
 
   pub as-many : k ≡ 0 → length bytes ≡ length ts
-  as-many z = length-bytes (λ i. millisAt (passesOf ps ms) (numberAt ts i)) (numbersIn ts) ∙ eights (length ts) (nothing-refused ps ms ts (length before) z .ticks-whole)
+  as-many z = length-bytes (λ i. millisAt (passesOf ps ms) (numberAt ts i)) (numbersIn ts) ∙ eights (length ts) (ladder-passed ps ms ts (length before) z .ticks-whole)
     where
       eights : (m : ℕ) → m % 8 ≡ 0 → 8 * (m / 8) ≡ m
       eights m h = omega arith

@@ -5,15 +5,15 @@ use mathlib.Core.Path.{_≡_, refl, subst}
 use mathlib.Core.List.{List}
 use Rattle.tick_times.specs.Ticks.{numberAt, numbersIn, passesOf, refusedBy}
 use Rattle.tick_times.specs.Asked.{GoodCall}
-use Rattle.tick_times.proofs.Ladder.{nothing-refused, passes-two, all-good}
+use Rattle.tick_times.proofs.Ladder.{ladder-passed, passes-two, all-good}
 use Rattle.tick_laws.specs.Sound.{Sound, Inside}
 
 module _ (ps ms ts : List ℕ) (room : ℕ) (e : refusedBy ps ms ts room ≡ 0) where
   good : GoodCall ps ms (numbersIn ps - 2) (numbersIn ts) ts
-  good = all-good ps ms ts room (nothing-refused ps ms ts room e) (numbersIn ps - 2) refl
+  good = all-good ps ms ts room (ladder-passed ps ms ts room e) (numbersIn ps - 2) refl
 
   two : 2 ≤ numbersIn ps
-  two = passes-two ps ms ts room (nothing-refused ps ms ts room e)
+  two = passes-two ps ms ts room (ladder-passed ps ms ts room e)
 
   -- where nothing is refused the passes are sound
   pub passes-sound : Sound (passesOf ps ms)

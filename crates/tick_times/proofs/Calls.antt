@@ -12,7 +12,7 @@ use Rattle.little_endian.specs.LittleEndian.{eightBytes}
 use Rattle.tick_times.specs.declared.TicksAnswer.the-variants.{Written, Refused}
 use Rattle.tick_times.specs.Passes.{millisAt}
 use Rattle.tick_times.specs.Ticks.{numberAt, numbersIn, passesOf, refusedBy, bytesOf, placedTicks, ticksOutcome, lentAfter, TicksCall}
-use Rattle.tick_times.proofs.Ladder.{NothingRefused, nothing-refused}
+use Rattle.tick_times.proofs.Ladder.{NothingRefused, ladder-passed}
 
 pub length-bytes : (f : ℕ → ℕ) (k : ℕ) → length (bytesOf f k) ≡ 8 * k
 unfolding bytesOf
@@ -40,7 +40,7 @@ module _ (ps ms ts out : List ℕ) where
   written-call out' k ek e eo =
       let z : refusedBy ps ms ts (length out) ≡ 0 = sym ek ∙ e in
       let f : ℕ → ℕ = λ x. millisAt (passesOf ps ms) (numberAt ts x) in
-      let n : length (bytesOf f (numbersIn ts)) ≡ length ts = length-bytes f (numbersIn ts) ∙ eights (length ts) (nothing-refused ps ms ts (length out) z .ticks-whole) in
+      let n : length (bytesOf f (numbersIn ts)) ≡ length ts = length-bytes f (numbersIn ts) ∙ eights (length ts) (ladder-passed ps ms ts (length out) z .ticks-whole) in
       rw (is-answer z)
       (record {
         says = ap answer (sym n);
@@ -58,5 +58,5 @@ placed-fits ps ms ts room b = go (eqb (refusedBy ps ms ts room) 0) refl
     go : (t : Bool) → eqb (refusedBy ps ms ts room) 0 ≡ t → cond t (answer (bytesOf (λ x. millisAt (passesOf ps ms) (numberAt ts x)) (numbersIn ts))) (refusal (refusedBy ps ms ts room)) ≡ answer b → length b ≤ room
     go true e h =
         let s : bytesOf (λ x. millisAt (passesOf ps ms) (numberAt ts x)) (numbersIn ts) ≡ b = cc in
-        omega (arith, ap length s, length-bytes (λ x. millisAt (passesOf ps ms) (numberAt ts x)) (numbersIn ts), nothing-refused ps ms ts room (eqb-true (refusedBy ps ms ts room) 0 e) .fits)
+        omega (arith, ap length s, length-bytes (λ x. millisAt (passesOf ps ms) (numberAt ts x)) (numbersIn ts), ladder-passed ps ms ts room (eqb-true (refusedBy ps ms ts room) 0 e) .fits)
     go false e h = let z : _≡_ {A = ℕ} 0 1 = cc in absurd (omega arith)

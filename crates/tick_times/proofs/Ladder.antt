@@ -129,9 +129,9 @@ pub record NothingRefused (ps ms ts : List ℕ) (room : ℕ) : Type 0 where
   pub rise : bothRising ps ms ≡ true
   pub within : allInside ps ts ≡ true
 
-pub nothing-refused : (ps ms ts : List ℕ) (room : ℕ) → refusedBy ps ms ts room ≡ 0 → NothingRefused ps ms ts room
+pub ladder-passed : (ps ms ts : List ℕ) (room : ℕ) → refusedBy ps ms ts room ≡ 0 → NothingRefused ps ms ts room
 unfolding refusedBy
-nothing-refused ps ms ts room = go (wholeNumbers ps && (wholeNumbers ms && wholeNumbers ts)) (leb (numbersIn ts) (room / 8)) (usable ps ms) (bothRising ps ms) (allInside ps ts) refl refl refl refl refl
+ladder-passed ps ms ts room = go (wholeNumbers ps && (wholeNumbers ms && wholeNumbers ts)) (leb (numbersIn ts) (room / 8)) (usable ps ms) (bothRising ps ms) (allInside ps ts) refl refl refl refl refl
   where
     go : (a b c d e : Bool) → (wholeNumbers ps && (wholeNumbers ms && wholeNumbers ts)) ≡ a → leb (numbersIn ts) (room / 8) ≡ b → usable ps ms ≡ c → bothRising ps ms ≡ d → allInside ps ts ≡ e
         → _≡_ {A = ℕ} (cond a (cond b (cond c (cond d (cond e 0 25) 24) 23) 11) 14) 0 → NothingRefused ps ms ts room

@@ -13,7 +13,7 @@ use Rattle.rounding.specs.Value.{Val, Rounds, L}
 use Rattle.rounding.proofs.Value.{mul-rounds, rounds-move, L-pos}
 use Rattle.rounding.proofs.Near.{NearSum, add-near}
 use Rattle.rounding.proofs.Scaled.{Scaled, scaled-near, div-near}
-use Rattle.time_of_day.specs.Milliseconds.{secondsOf, thousand-f, day-f}
+use Rattle.time_of_day.specs.Milliseconds.{fractionSeconds, thousand-f, day-f}
 use Rattle.time_of_day.proofs.ChainNumbers.{in-one, size-one, in-two, size-two, in-three, in-three', size-three, size-three', in-four, size-four, in-five, gather, gather', finish, finish'}
 
 -- shut, as L is: `omega` takes it for an unknown
@@ -137,8 +137,8 @@ module _ (F B C E : ℕ) (f l : Float) (vf : Val f F 0 L) (vl : Val l B C E) (G 
   t3 : 86400 * x3 .n ≤ 86400 * x3 .p + 86401 * L + 172801 * U
   t3 = size-three' F (x2 .p) (x2 .n) (x3 .p) (x3 .n) L U (2 ^ 1022) u22 t2 (x3 .under)
 
-  x4 : Scaled (secondsOf f l) (x3 .p) (x3 .n) 86400 1 1038
-  unfolding secondsOf
+  x4 : Scaled (fractionSeconds f l) (x3 .p) (x3 .n) 86400 1 1038
+  unfolding fractionSeconds
   x4 = times-near 1038 (lit≤ tt) (in-four (x3 .p) (x3 .n) L U (2 ^ 1091) l91 L-pos u-small s3) (in-four (x3 .n) (x3 .p) L U (2 ^ 1091) l91 L-pos u-small t3) day-val (x3 .val)
 
   s4 : x4 .p ≤ x4 .n + 86401 * L + 238337 * U
@@ -147,10 +147,10 @@ module _ (F B C E : ℕ) (f l : Float) (vf : Val f F 0 L) (vl : Val l B C E) (G 
   t4 : x4 .n ≤ x4 .p + 86401 * L + 238337 * U
   t4 = size-four (x3 .n) (x3 .p) (x4 .n) (x4 .p) L U (2 ^ 1038) u38 t3 (x4 .under)
 
-  x5 : Scaled (mul binary64 thousand-f (secondsOf f l)) (x4 .p) (x4 .n) 1000 1 1048
+  x5 : Scaled (mul binary64 thousand-f (fractionSeconds f l)) (x4 .p) (x4 .n) 1000 1 1048
   x5 = times-near 1048 (lit≤ tt) (in-five (x4 .p) (x4 .n) L U (2 ^ 1101) l101 L-pos u-small s4) (in-five (x4 .n) (x4 .p) L U (2 ^ 1101) l101 L-pos u-small t4) thousand-val (x4 .val)
 
-  pub chained : Chained (mul binary64 thousand-f (secondsOf f l)) F B C E
+  pub chained : Chained (mul binary64 thousand-f (fractionSeconds f l)) F B C E
   chained = record {
     p = x5 .p;
     n = x5 .n;

@@ -3,9 +3,9 @@ use mathlib.Core.Path.{_≡_, sym, ap, _∙_}
 use Prim.Native.Nat.{ℕ, _+_, _*_, _≤_, _<_}
 use native.Mathlib.Nat.{le-trans, le-of-eq, mul-comm, mul-assoc, mul-right-comm, add-mul, mul-le-mul-left, mul-le-mul-right, le-of-mul-le-mul-right}
 use native.Mathlib.Omega.{arith}
-use Rattle.time_of_day.specs.ExactTime.{Close}
+use Rattle.time_of_day.specs.ExactTime.{TimeWithin}
 
-pub close-move : (c e s F D G C W E : ℕ) → 0 < C → G * D ≡ F * C → Close c e s G C W E → Close c e s F D W E
+pub close-move : (c e s F D G C W E : ℕ) → 0 < C → G * D ≡ F * C → TimeWithin c e s G C W E → TimeWithin c e s F D W E
 close-move c e s F D G C W E h q k = record {
   over = le-of-mul-le-mul-right {k = C} (le-trans (le-of-eq left) (le-trans (mul-le-mul-right D (k .over)) (le-of-eq right))) h;
   under = le-of-mul-le-mul-right {k = C} (le-trans (le-of-eq (sym part)) (le-trans (mul-le-mul-right D (k .under)) (le-of-eq both))) h;
@@ -26,7 +26,7 @@ close-move c e s F D G C W E h q k = record {
     both : (c * (s * C) + e * (C * E)) * D ≡ (c * (s * D) + e * (D * E)) * C
     both = add-mul (c * (s * C)) (e * (C * E)) D ∙ ap (λ (z : ℕ). z + e * (C * E) * D) (sym left) ∙ ap (λ (z : ℕ). c * (s * D) * C + z) err ∙ sym (add-mul (c * (s * D)) (e * (D * E)) C)
 
-pub close-end : (c e s F D W E : ℕ) → F ≤ D → 1000 * W ≤ s → Close c e s F D W E → Close c e (1000 * W) F D W E
+pub close-end : (c e s F D W E : ℕ) → F ≤ D → 1000 * W ≤ s → TimeWithin c e s F D W E → TimeWithin c e (1000 * W) F D W E
 close-end c e s F D W E h g k = record {
   over = le-trans (mul-le-mul-left c (mul-le-mul-right D g)) (k .over);
   under = le-trans (mul-le-mul-left c (le-trans (mul-le-mul-left 1000 (mul-le-mul-right W h)) (le-of-eq (ap (λ (z : ℕ). 1000 * z) (mul-comm D W) ∙ sym (mul-assoc 1000 W D))))) (some (c * (1000 * W * D)) (e * (D * E)));
@@ -35,7 +35,7 @@ close-end c e s F D W E h g k = record {
     some : (a b : ℕ) → a ≤ a + b
     some a b = omega arith
 
-pub close-501 : (s F D W E : ℕ) → Close 16777216 8388609 s F D W E → Close 1000 501 s F D W E
+pub close-501 : (s F D W E : ℕ) → TimeWithin 16777216 8388609 s F D W E → TimeWithin 1000 501 s F D W E
 close-501 s F D W E k = record { over = go (s * D) (1000 * (F * W)) (D * E) (k .over); under = go' (s * D) (1000 * (F * W)) (D * E) (k .under) }
   where
     go : (a x d : ℕ) → 16777216 * a ≤ 16777216 * x + 8388609 * d → 1000 * a ≤ 1000 * x + 501 * d

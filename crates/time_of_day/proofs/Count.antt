@@ -10,11 +10,11 @@ use lib.Ieee.{Float, binary64, mul}
 use Rattle.rounding.specs.Value.{Val, L}
 use Rattle.rounding.proofs.Casts.{plusZ, minusZ, one-side}
 use Rattle.rounding.proofs.Range.{Between}
-use Rattle.time_of_day.specs.Milliseconds.{thousand-f, secondsOf, millisOf}
+use Rattle.time_of_day.specs.Milliseconds.{thousand-f, fractionSeconds, millisOf}
 use Rattle.time_of_day.specs.Nearest.{Nearest}
-use Rattle.time_of_day.specs.ExactTime.{Close}
+use Rattle.time_of_day.specs.ExactTime.{TimeWithin}
 use Rattle.time_of_day.proofs.Chain.{U, U-pos, L-is-U, u-small, leap-part, Chained, chained}
-use Rattle.time_of_day.proofs.Rounded.{Whole, rounded}
+use Rattle.time_of_day.proofs.Rounded.{IsWhole, rounded}
 use Rattle.time_of_day.proofs.Fractions.{AsUnits, WithinOne, as-fraction, at-most, at-least}
 
 -- ---- the count is not below 0
@@ -28,7 +28,7 @@ pos-of (negsuc a) h = let w : ⊥ = omega arith in absurd w
 lt-one : (m : ℕ) → m < 1 → m ≡ 0
 lt-one m h = omega arith
 
-no-minus : (z : ℤ) (p n : ℕ) → Whole z p n → n ≤ p + 305445864 * U → minusZ z ≡ 0
+no-minus : (z : ℤ) (p n : ℕ) → IsWhole z p n → n ≤ p + 305445864 * U → minusZ z ≡ 0
 no-minus z p n w h = go (one-side z)
   where
     go : (plusZ z ≡ 0) ⊎ (minusZ z ≡ 0) → minusZ z ≡ 0
@@ -110,7 +110,7 @@ module _ (F B C E p n k : ℕ) (G : 0 < E) (hf : F < L) (hb : B ≤ C + E) (hc :
     shift : k * E * L ≡ E * (k * L)
     shift = ap (λ (z : ℕ). z * L) (mul-comm k E) ∙ mul-assoc E k L
 
-    pub close : Close 16777216 8388609 (k * E) F L W E
+    pub close : TimeWithin 16777216 8388609 (k * E) F L W E
     close = record {
       over = go (k * E * L) (1000 * (F * W)) (L * E) (E * (k * L)) (E * n) (E * p) (E * F) (F * B) (F * C) (E * U) (E * L) shift exact-is (mul-comm L E) t-over over E-L;
       under = go' (k * E * L) (1000 * (F * W)) (L * E) (E * (k * L)) (E * n) (E * p) (E * F) (F * B) (F * C) (E * U) (E * L) shift exact-is (mul-comm L E) t-under under E-L;
@@ -128,14 +128,14 @@ module _ (F B C E p n k : ℕ) (G : 0 < E) (hf : F < L) (hb : B ≤ C + E) (hc :
 pub record CountedTo (how : Bool → ℕ → ℕ → ℕ) (f l : Float) (u : AsUnits f) : Type 0 where
   pub k : ℕ
   pub is : millisOf how f l ≡ pos k
-  pub close : (B C E W : ℕ) → 0 < E → Val l B C E → W + C ≡ 86400 * E + B → Close 16777216 8388609 (k * E) (u .F) L W E
+  pub close : (B C E W : ℕ) → 0 < E → Val l B C E → W + C ≡ 86400 * E + B → TimeWithin 16777216 8388609 (k * E) (u .F) L W E
 
 module _ (how : Bool → ℕ → ℕ → ℕ) (rule : Nearest how) (f l : Float) (u : AsUnits f) (h : WithinOne l) where
   module _ (B C E : ℕ) (G : 0 < E) (v : Val l B C E) where
-    c : Chained (mul binary64 thousand-f (secondsOf f l)) (u .F) B C E
+    c : Chained (mul binary64 thousand-f (fractionSeconds f l)) (u .F) B C E
     c = chained (u .F) B C E f l (u .val) v G (u .most) (at-most G v h) (at-least G v h)
 
-    w : Whole (millisOf how f l) (c .p) (c .n)
+    w : IsWhole (millisOf how f l) (c .p) (c .n)
     unfolding millisOf
     w = rounded how rule (c .val) (high (u .F) B C E (c .p) (c .n) 0 G (u .most) (at-most G v h) (at-least G v h) (c .over) (c .under)) (low' (u .F) B C E (c .p) (c .n) 0 G (u .most) (at-most G v h) (at-least G v h) (c .over) (c .under))
 
@@ -148,7 +148,7 @@ module _ (how : Bool → ℕ → ℕ → ℕ) (rule : Nearest how) (f l : Float)
     wu : 2 * (0 * L + c .p) ≤ 2 * (plusZ (millisOf how f l) * L + c .n) + L
     wu = subst (λ (m : ℕ). 2 * (m * L + c .p) ≤ 2 * (plusZ (millisOf how f l) * L + c .n) + L) none (w .under)
 
-    close-at : (W : ℕ) → W + C ≡ 86400 * E + B → Close 16777216 8388609 (plusZ (millisOf how f l) * E) (u .F) L W E
+    close-at : (W : ℕ) → W + C ≡ 86400 * E + B → TimeWithin 16777216 8388609 (plusZ (millisOf how f l) * E) (u .F) L W E
     close-at W long = close (u .F) B C E (c .p) (c .n) (plusZ (millisOf how f l)) G (u .most) (at-most G v h) (at-least G v h) (c .over) (c .under) wo wu W long
 
   pub counted : CountedTo how f l u
@@ -157,7 +157,7 @@ module _ (how : Bool → ℕ → ℕ → ℕ) (rule : Nearest how) (f l : Float)
       record { k = plusZ (millisOf how f l); is = pos-of (millisOf how f l) (none (a .B) (a .C) (a .E) (a .some) (a .val)); close = λ B C E W G v long. close-at B C E G v W long }
 
 -- ---- the product itself is below 2 ^ 51 in size
-pub product-between : (f l : Float) (u : AsUnits f) → WithinOne l → Between (mul binary64 thousand-f (secondsOf f l)) 51
+pub product-between : (f l : Float) (u : AsUnits f) → WithinOne l → Between (mul binary64 thousand-f (fractionSeconds f l)) 51
 product-between f l u h =
     let a = as-fraction l h in
     let B = a .B in

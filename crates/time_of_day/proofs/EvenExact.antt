@@ -18,8 +18,8 @@ use Rattle.rounding.proofs.Casts.{ofInt-val, trunc-val}
 use Rattle.rounding.proofs.Compare.{eq-val}
 use Rattle.time_of_day.specs.Milliseconds.{wholeLeap}
 use Rattle.time_of_day.specs.TimeShown.{dayEnd, countBy}
-use Rattle.time_of_day.specs.ExactTime.{minus-one-f, leap1959, Leap, little, second, first, minus-second, DayLength, Close}
-use Rattle.time_of_day.specs.HalfEven.{two52-f, even, gridUnits, worth, wholeSeconds, inWhole, evenCount}
+use Rattle.time_of_day.specs.ExactTime.{minus-one-f, leap1959, Leap, little, second, first, minus-second, DayLength, TimeWithin}
+use Rattle.time_of_day.specs.HalfEven.{two52-f, even, gridUnits, worth, dayIsWhole, inWhole, evenCount}
 use Rattle.time_of_day.specs.EvenPromise.{evenParts, evenMost}
 use Rattle.time_of_day.proofs.Rounded.{cut-is}
 use Rattle.time_of_day.proofs.Fractions.{in-units, fraction-of, within-one, size-is, zero-val, one-val, minus-one-val}
@@ -66,19 +66,19 @@ module _ (f : Float) (F : ℕ) (v : Val f F 0 4503599627370496) (h : F < 4503599
       ∙ eq-eqb (F + 0) (F + 0) refl
 
   -- so whole numbers decide on a day of whole seconds, and else the float
-  pub decided : (l : Float) → inWhole f l ≡ wholeSeconds l
+  pub decided : (l : Float) → inWhole f l ≡ dayIsWhole l
   decided l = whole-test f l F (worth F (mul binary64 f two52-f)) true (sym units-are) refl all-worth
 
-  pub in-whole-numbers : (l : Float) → wholeSeconds l ≡ true → evenCount f l ≡ even false (F * dayEnd l) 4503599627370496
+  pub in-whole-numbers : (l : Float) → dayIsWhole l ≡ true → evenCount f l ≡ even false (F * dayEnd l) 4503599627370496
   in-whole-numbers l t = sym (count-in-whole f l F (dayEnd l) (sym units-are) refl (decided l ∙ t))
 
   -- a tie is even
-  pub tie-is-even : (l : Float) → wholeSeconds l ≡ true → 2 * (F * dayEnd l % 4503599627370496) ≡ 4503599627370496 → evenCount f l % 2 ≡ 0
+  pub tie-is-even : (l : Float) → dayIsWhole l ≡ true → 2 * (F * dayEnd l % 4503599627370496) ≡ 4503599627370496 → evenCount f l % 2 ≡ 0
   tie-is-even l t e = ap (λ (z : ℕ). z % 2) (in-whole-numbers l t) ∙ tie-even (F * dayEnd l / 4503599627370496) (F * dayEnd l % 4503599627370496) 4503599627370496 e
 
 -- ---- a nearest whole number of F * M / 2 ^ 52, times E, is within 1 / 2 of the exact time of a day of M ms
 near-whole : (F M W E k : ℕ) → M * E ≡ 1000 * W → (2 * (k * 4503599627370496) ≤ 2 * (F * M) + 4503599627370496) × (2 * (F * M) ≤ 2 * (k * 4503599627370496) + 4503599627370496)
-    → Close 2 1 (k * E) F (2 ^ 52) W E
+    → TimeWithin 2 1 (k * E) F (2 ^ 52) W E
 near-whole F M W E k e near = record {
   over = go (k * E * 4503599627370496) (1000 * (F * W)) (4503599627370496 * E) _ _ _ left right (add-mul (2 * (F * M)) 4503599627370496 E) (mul-le-mul-right E (near .0));
   under = go (1000 * (F * W)) (k * E * 4503599627370496) (4503599627370496 * E) _ _ _ right left (add-mul (2 * (k * 4503599627370496)) 4503599627370496 E) (mul-le-mul-right E (near .1));
@@ -94,20 +94,20 @@ near-whole F M W E k e near = record {
     go a b d x y z p q r s = omega arith
 
 -- ---- the days of whole seconds, and 1959-12-31
-whole-0 : wholeSeconds nought ≡ true
-unfolding wholeSeconds ofBits eq
+whole-0 : dayIsWhole nought ≡ true
+unfolding dayIsWhole ofBits eq
 whole-0 = refl
 
-whole-1 : wholeSeconds one ≡ true
-unfolding wholeSeconds ofBits eq abs
+whole-1 : dayIsWhole one ≡ true
+unfolding dayIsWhole ofBits eq abs
 whole-1 = refl
 
-whole-minus-1 : wholeSeconds minus-one-f ≡ true
-unfolding wholeSeconds ofBits eq abs
+whole-minus-1 : dayIsWhole minus-one-f ≡ true
+unfolding dayIsWhole ofBits eq abs
 whole-minus-1 = refl
 
-not-1959 : wholeSeconds leap1959 ≡ false
-unfolding wholeSeconds ofBits eq abs
+not-1959 : dayIsWhole leap1959 ≡ false
+unfolding dayIsWhole ofBits eq abs
 not-1959 = refl
 
 end-0 : dayEnd nought ≡ 86400000
@@ -139,10 +139,10 @@ lasts : (W E p n q m : ℕ) (M : ℕ) → W + n ≡ 86400 * E + p → p + m ≡ 
 lasts W E p n q m M e f g = omega arith
 
 module _ (f : Float) (F : ℕ) (t : T (fits binary64 f)) (v : Val f F 0 4503599627370496) (h : F < 4503599627370496) where
-  by-whole : (x l : Float) (W E : ℕ) → wholeLeap x ≡ l → wholeSeconds l ≡ true → dayEnd l * E ≡ 1000 * W → Close (evenParts x) (evenMost x) (evenCount f (wholeLeap x) * E) F (2 ^ 52) W E
+  by-whole : (x l : Float) (W E : ℕ) → wholeLeap x ≡ l → dayIsWhole l ≡ true → dayEnd l * E ≡ 1000 * W → TimeWithin (evenParts x) (evenMost x) (evenCount f (wholeLeap x) * E) F (2 ^ 52) W E
   by-whole x l W E el w e =
-      subst (λ (b : Bool). Close (cond b 2 1000) (cond b 1 501) (evenCount f (wholeLeap x) * E) F (2 ^ 52) W E) (sym (ap wholeSeconds el ∙ w))
-      (subst (λ (k : ℕ). Close 2 1 (k * E) F (2 ^ 52) W E) (sym (ap (evenCount f) el ∙ in-whole-numbers f F v h l w))
+      subst (λ (b : Bool). TimeWithin (cond b 2 1000) (cond b 1 501) (evenCount f (wholeLeap x) * E) F (2 ^ 52) W E) (sym (ap dayIsWhole el ∙ w))
+      (subst (λ (k : ℕ). TimeWithin 2 1 (k * E) F (2 ^ 52) W E) (sym (ap (evenCount f) el ∙ in-whole-numbers f F v h l w))
       (near-whole F (dayEnd l) W E (even false (F * dayEnd l) 4503599627370496) e (even-nearest .near false (F * dayEnd l) 4503599627370496 (lit< tt))))
 
   -- the leap of a day, and its value in two ways
@@ -151,7 +151,7 @@ module _ (f : Float) (F : ℕ) (t : T (fits binary64 f)) (v : Val f F 0 45035996
       ap (λ (k : ℕ). k * E) em ∙ lasts W E (d .p) (d .n) q m M (d .is) (val-unique (subst (λ (z : Float). Val z (d .p) (d .n) E) el (d .leap-is)) w) g
 
   -- EVEN EXACT: within 1 / 2 ms on every day of whole seconds, within 0.501 ms on 1959-12-31
-  pub even-exact : (x : Float) → Leap x → (W E : ℕ) → 0 < E → DayLength x W E → Close (evenParts x) (evenMost x) (evenCount f (wholeLeap x) * E) F (2 ^ 52) W E
+  pub even-exact : (x : Float) → Leap x → (W E : ℕ) → 0 < E → DayLength x W E → TimeWithin (evenParts x) (evenMost x) (evenCount f (wholeLeap x) * E) F (2 ^ 52) W E
   unfolding wholeLeap
   even-exact x (little e) W E G d =
       let el : wholeLeap x ≡ nought = ap (λ (b : Bool). cond b x nought) e in
@@ -167,7 +167,7 @@ module _ (f : Float) (F : ℕ) (t : T (fits binary64 f)) (v : Val f F 0 45035996
       go E = omega arith
   even-exact x first W E G d =
       let u = fraction-of f F 4503599627370496 (lit< tt) v h in
-      let count : evenCount f (wholeLeap leap1959) ≡ countBy even f (wholeLeap leap1959) = sym (count-by-float f (wholeLeap leap1959) (decided f F v h (wholeLeap leap1959) ∙ ap wholeSeconds counts-1959 ∙ not-1959)) ∙ by-float f (wholeLeap leap1959) (in-units f t u) (within-one leap1959 first) in
-      subst (λ (b : Bool). Close (cond b 2 1000) (cond b 1 501) (evenCount f (wholeLeap leap1959) * E) F (2 ^ 52) W E) (sym (ap wholeSeconds counts-1959 ∙ not-1959))
-      (subst (λ (k : ℕ). Close 1000 501 (k * E) F (2 ^ 52) W E) (sym count)
+      let count : evenCount f (wholeLeap leap1959) ≡ countBy even f (wholeLeap leap1959) = sym (count-by-float f (wholeLeap leap1959) (decided f F v h (wholeLeap leap1959) ∙ ap dayIsWhole counts-1959 ∙ not-1959)) ∙ by-float f (wholeLeap leap1959) (in-units f t u) (within-one leap1959 first) in
+      subst (λ (b : Bool). TimeWithin (cond b 2 1000) (cond b 1 501) (evenCount f (wholeLeap leap1959) * E) F (2 ^ 52) W E) (sym (ap dayIsWhole counts-1959 ∙ not-1959))
+      (subst (λ (k : ℕ). TimeWithin 1000 501 (k * E) F (2 ^ 52) W E) (sym count)
       (close-501 (countBy even f (wholeLeap leap1959) * E) F (2 ^ 52) W E (count-near even even-nearest f leap1959 t u first F 4503599627370496 W E G v d)))

@@ -20,7 +20,7 @@ use Rattle.rounding.proofs.Sterbenz.{rounds-rep}
 use Rattle.rounding.proofs.Casts.{plusZ, minusZ, one-side, ofInt-val, Cut, up-cut, down-cut, trunc-val}
 use Rattle.rounding.proofs.Compare.{eq-val}
 use Rattle.rounding.proofs.Signed.{signed-lt}
-use Rattle.time_of_day.specs.Milliseconds.{thousand-f, secondsOf, millisOf}
+use Rattle.time_of_day.specs.Milliseconds.{thousand-f, fractionSeconds, millisOf}
 use Rattle.time_of_day.specs.TimeShown.{fromZero, countBy}
 use Rattle.time_of_day.specs.HalfEven.{two-f, nearestEven, even, worth, twice, halfMillis, ofHalves, floatCount}
 use Rattle.time_of_day.proofs.Rounded.{few, whole-has, cut-is}
@@ -231,8 +231,8 @@ either x true g h has rep =
 pub by-float : (f l : Float) → AsUnits f → WithinOne l → floatCount f l ≡ countBy even f l
 unfolding floatCount halfMillis twice countBy millisOf
 by-float f l u h =
-    let x = mul binary64 thousand-f (secondsOf f l) in
+    let x = mul binary64 thousand-f (fractionSeconds f l) in
     let b = product-between f l u h in
-    let o = own x (mul-fits binary64 thousand-f (secondsOf f l)) (val-finite (b .val)) in
+    let o = own x (mul-fits binary64 thousand-f (fractionSeconds f l)) (val-finite (b .val)) in
     let s : b .val .size ≡ o .size = has-unique x (b .val .sign) (o .sign) (b .val .size) (o .size) L (b .val .has) (o .has) in
     either x (o .sign) (o .size) (subst (λ (k : ℕ). k < 2251799813685248 * L) s (signed-lt (b .val .sign) (b .val .size) (b .p) (b .n) (2251799813685248 * L) (b .val .is) (b .high) (b .low))) (o .has) (o .rep)

@@ -15,7 +15,7 @@ use Rattle.rounding.proofs.Own.{Rep, own}
 use Rattle.rounding.proofs.Sterbenz.{rounds-rep}
 use Rattle.rounding.proofs.Casts.{ofInt-val}
 use Rattle.rounding.proofs.Compare.{eq-val}
-use Rattle.time_of_day.specs.HalfEven.{two52-f, gridUnits, worth, wholeSeconds, inWhole}
+use Rattle.time_of_day.specs.HalfEven.{two52-f, gridUnits, worth, dayIsWhole, inWhole}
 use Rattle.time_of_day.proofs.Fractions.{AsUnits, in-units, size-is}
 use Rattle.time_of_day.proofs.EvenExact.{two52-val}
 
@@ -82,6 +82,6 @@ module _ (f : Float) (t : T (fits binary64 f)) (i : InUnit f) where
   unfolding inWhole
   only-on-grid l = go (worth (gridUnits f) (mul binary64 f two52-f)) refl
     where
-      go : (b : Bool) → worth (gridUnits f) (mul binary64 f two52-f) ≡ b → cond b (wholeSeconds l) false ≡ true → Val f (gridUnits f) 0 4503599627370496
+      go : (b : Bool) → worth (gridUnits f) (mul binary64 f two52-f) ≡ b → cond b (dayIsWhole l) false ≡ true → Val f (gridUnits f) 0 4503599627370496
       go true p e = on-grid (gridUnits f) p
       go false p e = let z : _≡_ {A = ℕ} 0 1 = cc in absurd (omega arith)

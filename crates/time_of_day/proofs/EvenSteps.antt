@@ -9,7 +9,7 @@ use lib.IntN.{ℤ, pos}
 use borrow.Author.Tests.{eq-eqb, ne-eqb, lt-ltb, le-ltb, ltb-true}
 use lib.Dec.{ltb}
 use Rattle.time_of_day.specs.TimeShown.{fromZero, dayEnd}
-use Rattle.time_of_day.specs.HalfEven.{two52-f, nearestEven, even, gridUnits, worth, wholeSeconds, twice, halfMillis, ofHalves, floatCount, inWhole, evenCount}
+use Rattle.time_of_day.specs.HalfEven.{two52-f, nearestEven, even, gridUnits, worth, dayIsWhole, twice, halfMillis, ofHalves, floatCount, inWhole, evenCount}
 
 -- ---- the product in two parts
 pub in-parts : (u y : ℕ) → u * y ≡ 67108864 * (u / 67108864 * y) + u % 67108864 * y
@@ -72,15 +72,15 @@ worth-small n x = go (ltb n 4503599627370496) refl
 
 -- ---- what the code's results put together
 module _ (f l : Float) where
-  pub whole-test : (u : ℕ) (w b : Bool) → u ≡ gridUnits f → w ≡ worth u (mul binary64 f two52-f) → w ≡ b → inWhole f l ≡ cond b (wholeSeconds l) false
+  pub whole-test : (u : ℕ) (w b : Bool) → u ≡ gridUnits f → w ≡ worth u (mul binary64 f two52-f) → w ≡ b → inWhole f l ≡ cond b (dayIsWhole l) false
   unfolding inWhole
-  whole-test u w b eu ew e = ap (λ (z : Bool). cond z (wholeSeconds l) false) (ap (λ (n : ℕ). worth n (mul binary64 f two52-f)) (sym eu) ∙ sym ew ∙ e)
+  whole-test u w b eu ew e = ap (λ (z : Bool). cond z (dayIsWhole l) false) (ap (λ (n : ℕ). worth n (mul binary64 f two52-f)) (sym eu) ∙ sym ew ∙ e)
 
   pub whole-small : inWhole f l ≡ true → gridUnits f < 4503599627370496
   unfolding inWhole
   whole-small = go (worth (gridUnits f) (mul binary64 f two52-f)) refl
     where
-      go : (b : Bool) → worth (gridUnits f) (mul binary64 f two52-f) ≡ b → cond b (wholeSeconds l) false ≡ true → gridUnits f < 4503599627370496
+      go : (b : Bool) → worth (gridUnits f) (mul binary64 f two52-f) ≡ b → cond b (dayIsWhole l) false ≡ true → gridUnits f < 4503599627370496
       go true e t = worth-small (gridUnits f) (mul binary64 f two52-f) e
       go false e t = let z : _≡_ {A = ℕ} 0 1 = cc in absurd (omega arith)
 

@@ -20,7 +20,7 @@ use Rattle.rounding.proofs.Signed.{signed-lt}
 use Rattle.rounding.proofs.Casts.{plusZ, minusZ, Cut, up-cut, down-cut, trunc-val}
 
 -- z is within 1 / 2 of (p - n) / L
-pub record Whole (z : ℤ) (p n : ℕ) : Type 0 where
+pub record IsWhole (z : ℤ) (p n : ℕ) : Type 0 where
   pub over : 2 * (plusZ z * L + n) ≤ 2 * (minusZ z * L + p) + L
   pub under : 2 * (minusZ z * L + p) ≤ 2 * (plusZ z * L + n) + L
 
@@ -78,7 +78,7 @@ module _ (how : Bool → ℕ → ℕ → ℕ) (rule : Nearest how) where
       lt-two : (k : ℕ) → k < 4503599627370497 → k ≤ 2 ^ 53
       lt-two k h = omega arith
 
-  rounded-has : (x : Float) (s : Bool) (g p n : ℕ) → g < 4503599627370496 * L → HasValue x s g L → Signed s g p n → Whole (toSigned 63 (toWhole how x)) p n
+  rounded-has : (x : Float) (s : Bool) (g p n : ℕ) → g < 4503599627370496 * L → HasValue x s g L → Signed s g p n → IsWhole (toSigned 63 (toWhole how x)) p n
   rounded-has x false g p n l h i =
       let k = how false g L in
       let z = toSigned 63 (toWhole how x) in
@@ -96,5 +96,5 @@ module _ (how : Bool → ℕ → ℕ → ℕ) (rule : Nearest how) where
       let r = down-side (plusZ z) (minusZ z) k g p n L e (rule .near true g L L-pos) i in
       record { over = r .0; under = r .1 }
 
-  pub rounded : {x : Float} {p n : ℕ} → Val x p n L → p < n + 4503599627370496 * L → n < p + 4503599627370496 * L → Whole (toSigned 63 (toWhole how x)) p n
+  pub rounded : {x : Float} {p n : ℕ} → Val x p n L → p < n + 4503599627370496 * L → n < p + 4503599627370496 * L → IsWhole (toSigned 63 (toWhole how x)) p n
   rounded {x} {p} {n} v u l = rounded-has x (v .sign) (v .size) p n (signed-lt (v .sign) (v .size) p n (4503599627370496 * L) (v .is) u l) (v .has) (v .is)

@@ -15,7 +15,7 @@ use Rattle.time_of_day.specs.declared.TimeShown.the-variants.{At, NextMi
 use Rattle.time_of_day.specs.Milliseconds.{wholeLeap}
 use Rattle.time_of_day.specs.TimeShown.{timeOf, dayEnd, fromZero, shownAt, countBy, shownBy, shownOf}
 use Rattle.time_of_day.specs.Nearest.{Nearest}
-use Rattle.time_of_day.specs.ExactTime.{Leap, little, second, first, minus-second, DayLength, shownMs, Close, Good, ShownWithin, ShownRight}
+use Rattle.time_of_day.specs.ExactTime.{Leap, little, second, first, minus-second, DayLength, shownMs, TimeWithin, Good, ShownWithin, ShownRight}
 use Rattle.time_of_day.proofs.Rounded.{away-nearest}
 use Rattle.time_of_day.proofs.Fractions.{AsUnits, in-units, within-one, at-most, zero-val, minus-one-val, le-says, cross}
 use Rattle.time_of_day.proofs.Count.{CountedTo, counted}
@@ -44,10 +44,10 @@ longest x W E G minus-second d = go (d .p) (d .n) (d .is) (le-says G (d .leap-is
     go p n i a = omega arith
 
 -- ---- what is shown of a count that is near the exact time of day: a count past the day's end becomes the day's end
-module _ (c e F D k : ℕ) (x : Float) (s : Leap x) (h : F ≤ D) (near : (W E : ℕ) → 0 < E → DayLength x W E → Close c e (k * E) F D W E) where
+module _ (c e F D k : ℕ) (x : Float) (s : Leap x) (h : F ≤ D) (near : (W E : ℕ) → 0 < E → DayLength x W E → TimeWithin c e (k * E) F D W E) where
   at-time : k < dayEnd (wholeLeap x) → ShownWithin c e F D x (At (timeOf k))
   unfolding Good shownMs
-  at-time t = record { good = good-time k (wholeLeap x) t; near = λ W E G d. subst (λ (z : ℕ). Close c e (z * E) F D W E) (sym (fields-ms k)) (near W E G d) }
+  at-time t = record { good = good-time k (wholeLeap x) t; near = λ W E G d. subst (λ (z : ℕ). TimeWithin c e (z * E) F D W E) (sym (fields-ms k)) (near W E G d) }
 
   at-end : dayEnd (wholeLeap x) ≤ k → ShownWithin c e F D x NextMidnight
   unfolding Good shownMs
@@ -69,14 +69,14 @@ module _ (how : Bool → ℕ → ℕ → ℕ) (rule : Nearest how) (f x : Float)
   counts : CountedTo how f (wholeLeap x) u
   counts = counted how rule f (wholeLeap x) u (within-one x s)
 
-  moved : (r F D W E : ℕ) → Val f F 0 D → Close 16777216 8388609 r (u .F) L W E → Close 16777216 8388609 r F D W E
+  moved : (r F D W E : ℕ) → Val f F 0 D → TimeWithin 16777216 8388609 r (u .F) L W E → TimeWithin 16777216 8388609 r F D W E
   moved r F D W E v k = close-move 16777216 8388609 r F D (u .F) L W E L-pos (cross (u .val) v) k
 
   -- the count is within 1 / 2 + 2 ^ -24 ms
-  pub count-near : (F D W E : ℕ) → 0 < E → Val f F 0 D → DayLength x W E → Close 16777216 8388609 (countBy how f (wholeLeap x) * E) F D W E
+  pub count-near : (F D W E : ℕ) → 0 < E → Val f F 0 D → DayLength x W E → TimeWithin 16777216 8388609 (countBy how f (wholeLeap x) * E) F D W E
   unfolding countBy fromZero
   count-near F D W E G v d =
-      subst (λ (z : ℤ). Close 16777216 8388609 (fromZero z * E) F D W E) (sym (counts .is)) (moved (counts .k * E) F D W E v (counts .close (d .p) (d .n) E W G (d .leap-is) (d .is)))
+      subst (λ (z : ℤ). TimeWithin 16777216 8388609 (fromZero z * E) F D W E) (sym (counts .is)) (moved (counts .k * E) F D W E v (counts .close (d .p) (d .n) E W G (d .leap-is) (d .is)))
 
   shown : ShownWithin 16777216 8388609 (u .F) L x (shownOf how f x)
   unfolding shownBy

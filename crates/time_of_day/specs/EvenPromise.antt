@@ -4,11 +4,11 @@ use Prim.Native.Nat.{ℕ}
 use mathlib.Core.Bool.{cond}
 use lib.Ieee.{Float}
 use Rattle.time_of_day.specs.Milliseconds.{wholeLeap}
-use Rattle.time_of_day.specs.HalfEven.{wholeSeconds}
+use Rattle.time_of_day.specs.HalfEven.{dayIsWhole}
 
 -- within evenMost / evenParts milliseconds on a day with this leap
 abbrev pub evenParts : Float → ℕ
-evenParts leap = cond (wholeSeconds (wholeLeap leap)) 2 1000
+evenParts leap = cond (dayIsWhole (wholeLeap leap)) 2 1000
 
 abbrev pub evenMost : Float → ℕ
-evenMost leap = cond (wholeSeconds (wholeLeap leap)) 1 501
+evenMost leap = cond (dayIsWhole (wholeLeap leap)) 1 501

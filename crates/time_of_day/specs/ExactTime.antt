@@ -50,7 +50,7 @@ shownMs (At t) W E = timeMs t * E
 shownMs NextMidnight W E = 1000 * W
 
 -- s / E milliseconds are within e / c milliseconds of the exact time of the fraction F / D of a day of W / E seconds. Both sides are taken times c * D * E
-pub record Close (c e s F D W E : ℕ) : Type 0 where
+pub record TimeWithin (c e s F D W E : ℕ) : Type 0 where
   pub over : c * (s * D) ≤ c * (1000 * exactTime F W) + e * (D * E)
   pub under : c * (1000 * exactTime F W) ≤ c * (s * D) + e * (D * E)
 
@@ -71,11 +71,11 @@ Good NextMidnight leap = Unit
 -- What is shown has good fields, and is within e / c milliseconds of F / D of the day, whatever fraction W / E the day length is written as
 pub record ShownWithin (c e F D : ℕ) (leap : Float) (r : TimeShown) : Type 0 where
   pub good : Good r (wholeLeap leap)
-  pub near : (W E : ℕ) → 0 < E → DayLength leap W E → Close c e (shownMs r W E) F D W E
+  pub near : (W E : ℕ) → 0 < E → DayLength leap W E → TimeWithin c e (shownMs r W E) F D W E
 
 -- What is shown has good fields, and is within 0.501 ms, and even within 1 / 2 + 2 ^ -24 ms, of the exact time of day, whatever fractions F / D and W / E the
 -- fraction and the day length are written as
 pub record ShownRight (fraction leap : Float) (r : TimeShown) : Type 0 where
   pub good : Good r (wholeLeap leap)
-  pub near : (F D W E : ℕ) → 0 < D → 0 < E → Val fraction F 0 D → DayLength leap W E → Close 1000 501 (shownMs r W E) F D W E
-  pub nearer : (F D W E : ℕ) → 0 < D → 0 < E → Val fraction F 0 D → DayLength leap W E → Close 16777216 8388609 (shownMs r W E) F D W E
+  pub near : (F D W E : ℕ) → 0 < D → 0 < E → Val fraction F 0 D → DayLength leap W E → TimeWithin 1000 501 (shownMs r W E) F D W E
+  pub nearer : (F D W E : ℕ) → 0 < D → 0 < E → Val fraction F 0 D → DayLength leap W E → TimeWithin 16777216 8388609 (shownMs r W E) F D W E

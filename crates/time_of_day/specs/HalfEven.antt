@@ -6,7 +6,7 @@ use lib.IntN.{pos}
 use lib.Dec.{eqb, ltb}
 use lib.Ieee.{Float, binary64, ofBits, ofInt, mul, eq, toSigned}
 use Rattle.floats.specs.Whole.{abs, nought, one}
-use Rattle.time_of_day.specs.Milliseconds.{thousand-f, secondsOf}
+use Rattle.time_of_day.specs.Milliseconds.{thousand-f, fractionSeconds}
 use Rattle.time_of_day.specs.TimeShown.{dayEnd, fromZero}
 
 -- 4503599627370496.0, which is 2 ^ 52, and 2.0
@@ -33,12 +33,12 @@ unfoldable pub worth : ℕ → Float → Bool
 worth n x = cond (ltb n 4503599627370496) (eq (ofInt binary64 (pos n)) x) false
 
 -- whether a day with the leap that counts has whole seconds: 86,400, 86,401 or 86,399
-unfoldable pub wholeSeconds : Float → Bool
-wholeSeconds leap = cond (eq leap nought) true (eq (abs leap) one)
+unfoldable pub dayIsWhole : Float → Bool
+dayIsWhole leap = cond (eq leap nought) true (eq (abs leap) one)
 
 -- twice the float that document 01's call rounds, and how many half milliseconds it has, toward zero
 unfoldable pub twice : Float → Float → Float
-twice fraction leap = mul binary64 two-f (mul binary64 thousand-f (secondsOf fraction leap))
+twice fraction leap = mul binary64 two-f (mul binary64 thousand-f (fractionSeconds fraction leap))
 
 unfoldable pub halfMillis : Float → Float → ℕ
 halfMillis fraction leap = fromZero (toSigned 63 (twice fraction leap))
@@ -52,7 +52,7 @@ floatCount fraction leap = ofHalves (halfMillis fraction leap) (worth (halfMilli
 
 -- whether whole numbers decide: the fraction is its units, and the day has whole seconds
 unfoldable pub inWhole : Float → Float → Bool
-inWhole fraction leap = cond (worth (gridUnits fraction) (mul binary64 fraction two52-f)) (wholeSeconds leap) false
+inWhole fraction leap = cond (worth (gridUnits fraction) (mul binary64 fraction two52-f)) (dayIsWhole leap) false
 
 -- the milliseconds of a fraction of a day with the leap that counts; on a day of whole seconds `dayEnd` is its length
 unfoldable pub evenCount : Float → Float → ℕ

@@ -18,11 +18,11 @@ unfoldable pub wholeLeap : Float → Float
 wholeLeap leap = cond (lt half (abs leap)) leap nought
 
 -- 86400.0 * (fraction + fraction * leap / 86400.0)
-unfoldable pub secondsOf : Float → Float → Float
-secondsOf fraction leap = mul binary64 day-f (add binary64 fraction (div binary64 (mul binary64 fraction leap) day-f))
+unfoldable pub fractionSeconds : Float → Float → Float
+fractionSeconds fraction leap = mul binary64 day-f (add binary64 fraction (div binary64 (mul binary64 fraction leap) day-f))
 
 -- 1000.0 times that, to a whole number by the rule `how` (specs/Whole of `floats`: the Rust's `round` is `away`, halves away from zero), and then
 -- Rust's `as i64`
 unfoldable pub millisOf : (Bool → ℕ → ℕ → ℕ) → Float → Float → ℤ
-unfolding secondsOf
-millisOf how fraction leap = toSigned 63 (toWhole how (mul binary64 thousand-f (secondsOf fraction leap)))
+unfolding fractionSeconds
+millisOf how fraction leap = toSigned 63 (toWhole how (mul binary64 thousand-f (fractionSeconds fraction leap)))

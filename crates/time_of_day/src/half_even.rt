@@ -4,7 +4,7 @@ ghost use mathlib.Core.Path.{_≡_};
 ghost use Prim.Native.Nat.{_*_, _≤_, _<_};
 ghost use mathlib.Core.Bool.{false};
 ghost use Rattle.time_of_day.specs.TimeShown.{shownBy};
-ghost use Rattle.time_of_day.specs.HalfEven.{nearestEven, even, gridUnits, worth as worth·of, wholeSeconds, twice, ofHalves, floatCount, inWhole, evenCount};
+ghost use Rattle.time_of_day.specs.HalfEven.{nearestEven, even, gridUnits, worth as worth·of, dayIsWhole, twice, ofHalves, floatCount, inWhole, evenCount};
 
 const TWO_52: f64 = 4503599627370496.0;
 
@@ -32,7 +32,7 @@ fn worth(n: u64, x: f64) -> bool
 }
 
 fn whole_seconds(leap: f64) -> bool
-    ensures { λ r. ⌜ r ≡ wholeSeconds leap ⌝ }
+    ensures { λ r. ⌜ r ≡ dayIsWhole leap ⌝ }
 {
     if leap == 0.0 {
         return true;

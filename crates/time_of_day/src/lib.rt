@@ -5,7 +5,7 @@ pub use half_even::time_shown_half_even;
 ghost use mathlib.Core.Path.{_≡_};
 ghost use Prim.Native.Nat.{_≤_};
 ghost use Rattle.floats.specs.Whole.{away};
-ghost use Rattle.time_of_day.specs.Milliseconds.{wholeLeap, secondsOf, millisOf};
+ghost use Rattle.time_of_day.specs.Milliseconds.{wholeLeap, fractionSeconds, millisOf};
 ghost use Rattle.time_of_day.specs.TimeShown.{fromZero, minuteOf, timeOf, dayEnd, shownOf};
 
 // A time of day to the millisecond; in a leap second `second` is 60.
@@ -31,7 +31,7 @@ pub fn whole_leap(leap: f64) -> f64
 
 // The seconds of the day, in the Rust's order of operations.
 fn seconds(fraction: f64, leap: f64) -> f64
-    ensures { λ r. ⌜ r ≡ secondsOf fraction leap ⌝ }
+    ensures { λ r. ⌜ r ≡ fractionSeconds fraction leap ⌝ }
 {
     86400.0 * (fraction + fraction * leap / 86400.0)
 }

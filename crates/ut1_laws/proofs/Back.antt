@@ -18,11 +18,11 @@ use Rattle.rounding.proofs.Value.{L-pos, abs-val, val-finite-true, sub-rounds}
 use Rattle.rounding.proofs.Signed.{dist, dist-le}
 use Rattle.rounding.proofs.Casts.{ofInt-val}
 use Rattle.rounding.proofs.Compare.{lt-show}
-use Rattle.rounding.proofs.Chain.{Close, exactly, close-sub}
+use Rattle.rounding.proofs.Chain.{ValClose, exactly, close-sub}
 use Rattle.rounding.proofs.Near.{add-near, sum-near}
 use Rattle.rounding.proofs.Scaled.{div-near}
 use Rattle.rounding.proofs.Sizes.{whole-val}
-use Rattle.rounding.proofs.Range.{at-most}
+use Rattle.rounding.proofs.Range.{size-at-most}
 use Rattle.calendar.specs.Gregorian.{gregorianDate}
 use Rattle.day_number.specs.DayNumber.{dayOf}
 use Rattle.day_number.proofs.Units.{H-L, one-L, half-L}
@@ -33,7 +33,7 @@ use Rattle.julian_laws.proofs.UnixTime.{day-val}
 use Rattle.tai_utc.specs.Table.{fixed}
 use Rattle.tai_utc.specs.Offset.{wholeF}
 use Rattle.tai_utc.specs.Leap.{offsets}
-use Rattle.scale_laws.specs.Meaning.{day}
+use Rattle.rounding.specs.Picoseconds.{dayPs}
 use Rattle.utc_scales.specs.Dates.{offsetAt0h, offsetOfDate}
 use Rattle.utc_scales.specs.LargerPart.{firstIsKept}
 use Rattle.utc_scales.specs.UtcUt1.{noStep, scanDay, adjustDut1, utcFraction, ut1ToUtc}
@@ -41,10 +41,10 @@ use Rattle.utc_scales.proofs.Steps.{offset-of-day, offsets-first, scan-no-step,
 use Rattle.tai_round_trip.specs.UtcDays.{H, secondsOn, OnDay, ExactDay}
 use Rattle.tai_round_trip.specs.Ranges.{HalfDaySplit}
 use Rattle.tai_round_trip.proofs.Units.{h, L-H, L-h, h-small, adds}
-use Rattle.tai_round_trip.proofs.Parts.{FirstPart, SecondPart, Around, worth-of, joined, first-part, second-part}
-use Rattle.tai_round_trip.proofs.Located.{Placed, placed}
+use Rattle.tai_round_trip.proofs.Parts.{FirstPart, SecondPart, Around, parts-worth, parts-joined, first-part, second-part}
+use Rattle.tai_round_trip.proofs.Located.{CalendarNear, placed}
 use Rattle.tai_round_trip.proofs.DaySeconds.{day-seconds, seconds-on-day}
-use Rattle.tai_round_trip.proofs.Kept.{first-larger, changed}
+use Rattle.tai_round_trip.proofs.Kept.{first-larger, kept-changed}
 use Rattle.tai_round_trip.proofs.Meant.{day-of}
 use Rattle.ut1_laws.specs.Back.{FoundWith, NoStepFound, NoLeapNear, utcPs, RightUtcOfUt1}
 use Rattle.ut1_laws.proofs.Ut1.{size-q, unit-q, seconds-val}
@@ -68,7 +68,7 @@ module _ {a u : Float} {A up un : ℕ} (v : FirstPart a A) (w : SecondPart u up 
   behind : minusZ i * L ≤ 1 * L
   behind = mul-le-mul-right L im
 
-  moved : Close L there (up + plusZ i * L) (un + minusZ i * L) (4 * h)
+  moved : ValClose L there (up + plusZ i * L) (un + minusZ i * L) (4 * h)
   moved =
       let s =
       add-near 1024 (lit≤ tt)
@@ -118,7 +118,7 @@ module _ {a u : Float} {A up un : ℕ} (v : FirstPart a A) (w : SecondPart u up 
       high p n q m k e = omega (arith, w .over, v .high, h-small, L-H, L-pos)
 
   -- the day that the calendar finds for it
-  abbrev spot : Placed a there A (moved .p) (moved .n)
+  abbrev spot : CalendarNear a there A (moved .p) (moved .n)
   spot = placed near
 
   day-high : spot .n < 1000000000
@@ -168,7 +168,7 @@ level D g =
     none' : (n p d : ℕ) → 2 * (n + (d + 0)) ≤ 2 * (p + (0 + d)) + 2 ^ 0 → n ≤ p + 0
     none' n p d k = omega arith
 
-    less : (e : ℕ) → e ≤ 0 → e + 0 < Rattle.day_number.proofs.Units.H + 0
+    less : (e : ℕ) → e ≤ 0 → e + 0 < H + 0
     less e k = omega (arith, H-L, L-pos)
 
 -- ---- UT1 less DUT1 on floats
@@ -198,7 +198,7 @@ less-dut1 {u} {c} {up} {un} {x} {y} w vc hx hy =
     end : (p n up un qp qn x y z : ℕ) → 512 * z ≡ h → p + (un + qp) ≤ n + (up + qn) + (0 + 0 + h) → 2 * (86400 * qn + 1 * x) ≤ 2 * (86400 * qp + 1 * y) + 86400 * z → 86400 * (p + un) + x ≤ 86400 * (n + up) + y + 86485 * h
     end p n up un qp qn x y z e r k = omega arith
 
-to-picoseconds : (x y : ℕ) → x ≤ y + 86485 * h → day * x ≤ day * y + utcPs * (86400 * L)
+to-picoseconds : (x y : ℕ) → x ≤ y + 86485 * h → dayPs * x ≤ dayPs * y + utcPs * (86400 * L)
 to-picoseconds x y k = omega (arith, L-h)
 
 -- ---- one evaluation, where TAI-UTC is D seconds on the days that the calendar finds
@@ -244,7 +244,7 @@ module _ {a u : Float} {A up un : ℕ} (v : FirstPart a A) (w : SecondPart u up 
 
     pub is : ut1ToUtc fixed (julian a u) c ≡ answer (julian a (sub binary64 u (div binary64 c secondsPerDay)))
     unfolding ut1ToUtc
-    is = went _ arg ∙ went _ parts ∙ changed (utcFraction fixed c) a u _ larger fraction-is
+    is = went _ arg ∙ went _ parts ∙ kept-changed (utcFraction fixed c) a u _ larger fraction-is
 
     right : RightUtcOfUt1 utcPs (julian a u) c
     right =
@@ -260,8 +260,8 @@ module _ {a u : Float} {A up un : ℕ} (v : FirstPart a A) (w : SecondPart u up 
             n = un;
             p' = A + r .p;
             n' = r .n;
-            from = worth-of v w;
-            to = joined (v .val) (r .val);
+            from = parts-worth v w;
+            to = parts-joined (v .val) (r .val);
             over = to-picoseconds _ _ (omega (arith, r .over));
             under = to-picoseconds _ _ (omega (arith, r .under));
           };
@@ -269,7 +269,7 @@ module _ {a u : Float} {A up un : ℕ} (v : FirstPart a A) (w : SecondPart u up 
 
 -- ---- THE THEOREM by the days that the calendar finds: jd1 and jd2 in the range of request 14, and a DUT1 of at most 1 s
 pub ut1-to-utc-by-days : {d : JulianDate} → HalfDaySplit d → NoStepFound d → (dut1 : Float) → T (fits binary64 dut1) → T (le (abs dut1) one) → RightUtcOfUt1 utcPs d dut1
-ut1-to-utc-by-days s o c f l = let z = at-most f one-L l in right (first-part s) (second-part s .2) o c (z .p) (z .n) (z .val) (z .high) (z .low)
+ut1-to-utc-by-days s o c f l = let z = size-at-most f one-L l in right (first-part s) (second-part s .2) o c (z .p) (z .n) (z .val) (z .high) (z .low)
 
 -- ---- TAI-UTC does not fall from a day to a later one
 rises : (k m : ℕ) → 2441318 ≤ m → m + k < 1000000000 → secondsOn m ≤ secondsOn (m + k)
@@ -283,8 +283,8 @@ rises (suc k) m g b =
     let q = seconds-on-day (m + k) (omega arith) (omega arith) .next in
     subst (λ (j : ℕ). secondsOn m ≤ secondsOn j) e (omega arith)
 
-pub later : (m n : ℕ) → m ≤ n → 2441318 ≤ m → n < 1000000000 → secondsOn m ≤ secondsOn n
-later m n k g b = let e : m + (n - m) ≡ n = omega arith in subst (λ (j : ℕ). secondsOn m ≤ secondsOn j) e (rises (n - m) m g (omega arith))
+pub seconds-later : (m n : ℕ) → m ≤ n → 2441318 ≤ m → n < 1000000000 → secondsOn m ≤ secondsOn n
+seconds-later m n k g b = let e : m + (n - m) ≡ n = omega arith in subst (λ (j : ℕ). secondsOn m ≤ secondsOn j) e (rises (n - m) m g (omega arith))
 
 -- ---- with no leap second near the exact day, the calendar finds days with one number of seconds
 module _ {a u : Float} {A up un : ℕ} (v : FirstPart a A) (w : SecondPart u up un) (n : ℕ) (o : OnDay (A + up) un n) (s : NoLeapNear n) where
@@ -295,7 +295,7 @@ module _ {a u : Float} {A up un : ℕ} (v : FirstPart a A) (w : SecondPart u up 
       last N f c = omega (arith, v .high, w .over, L-H, L-pos)
 
   module _ (i : ℤ) (ip : plusZ i ≤ 3) (im : minusZ i ≤ 1) where
-    abbrev z : Placed a (add binary64 u (ofInt binary64 i)) A (moved v w i ip im .p) (moved v w i ip im .n)
+    abbrev z : CalendarNear a (add binary64 u (ofInt binary64 i)) A (moved v w i ip im .p) (moved v w i ip im .n)
     z = spot v w i ip im
 
     below : z .n < n + 5
@@ -322,8 +322,8 @@ module _ {a u : Float} {A up un : ℕ} (v : FirstPart a A) (w : SecondPart u up 
         let b = below in
         let t = above in
         let x = exact-high in
-        let l = later (n - 2) (z .n) (omega arith) (omega arith) (omega arith) in
-        let r = later (z .n) (n + 4) (omega arith) (omega arith) (omega arith) in
+        let l = seconds-later (n - 2) (z .n) (omega arith) (omega arith) (omega arith) in
+        let r = seconds-later (z .n) (n + 4) (omega arith) (omega arith) (omega arith) in
         record { n = z .n; from = omega arith; day = z .day; seconds = omega (arith, s .same) }
 
   pub no-step : NoStepFound (julian a u)
@@ -341,4 +341,4 @@ pub ut1-to-utc-means : {d : JulianDate} {n : ℕ} → HalfDaySplit d → ExactDa
 ut1-to-utc-means {n = n} s x o c f l =
     let v = first-part s in
     let w = second-part s .2 in
-    ut1-to-utc-by-days s (no-step v w n (day-of x (worth-of v w)) o) c f l
+    ut1-to-utc-by-days s (no-step v w n (day-of x (parts-worth v w)) o) c f l

@@ -13,14 +13,15 @@ use Rattle.rounding.specs.Value.{Val, L}
 use Rattle.julian.specs.declared.JulianDate.{JulianDate}
 use Rattle.julian.specs.JulianDate.{julian}
 use Rattle.tai_utc.specs.Table.{fixed}
-use Rattle.scale_laws.specs.Meaning.{day, Apart}
+use Rattle.rounding.specs.Picoseconds.{dayPs}
+use Rattle.scale_laws.specs.Meaning.{Apart}
 use Rattle.scale_laws.proofs.Meant.{worth-unique}
 use Rattle.utc_scales.specs.UtcUt1.{utcToUt1, ut1ToUtc}
 use Rattle.utc_scale_laws.specs.Twenty.{utc-ut1, ut1-utc, answerOfAny}
 use Rattle.utc_scale_laws.proofs.Computed.{computed, as-computed}
 use Rattle.tai_round_trip.specs.UtcDays.{H}
 use Rattle.tai_round_trip.proofs.Units.{L-H, in-units}
-use Rattle.tai_round_trip.proofs.Parts.{joined}
+use Rattle.tai_round_trip.proofs.Parts.{parts-joined}
 use Rattle.ut1_laws.specs.Back.{Ut1ThereAndBack}
 
 -- a stamp of 2016-12-29
@@ -76,7 +77,7 @@ one-second-off r =
     let e : r .u ≡ stamp 0x3fd0_0018_45c8_a0ce = same (r .there) there in
     let f : r .t ≡ stamp 0x3fd0_0030_8b91_419c = same (subst (λ (u : JulianDate). utcToUt1 fixed u half ≡ answer (r .t)) e (r .back)) again in
     let c : Apart 999999999990 (stamp 0x3fd0_0000_0000_0000) (stamp 0x3fd0_0030_8b91_419c) = subst (λ (t : JulianDate). Apart 999999999990 (stamp 0x3fd0_0000_0000_0000) t) f (r .apart) in
-    go (c .p) (c .n) (c .p') (c .n') (4915503 * H) (worth-unique (c .from) (joined midnight-val given-val)) (worth-unique (c .to) (joined midnight-val again-val)) (c .over)
+    go (c .p) (c .n) (c .p') (c .n') (4915503 * H) (worth-unique (c .from) (parts-joined midnight-val given-val)) (worth-unique (c .to) (parts-joined midnight-val again-val)) (c .over)
   where
-    go : (p n p' n' A : ℕ) → p + 0 ≡ A + 4503599627370496 * q + n → p' + 0 ≡ A + 4503808127353244 * q + n' → day * (1 * p' + 1 * n + 0) ≤ day * (1 * n' + 1 * p + 0) + 999999999990 * (1 * L) → ⊥
+    go : (p n p' n' A : ℕ) → p + 0 ≡ A + 4503599627370496 * q + n → p' + 0 ≡ A + 4503808127353244 * q + n' → dayPs * (1 * p' + 1 * n + 0) ≤ dayPs * (1 * n' + 1 * p + 0) + 999999999990 * (1 * L) → ⊥
     go p n p' n' A e f k = omega (arith, L-q, q-pos)

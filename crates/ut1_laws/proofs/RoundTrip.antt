@@ -11,23 +11,24 @@ use Rattle.floats.specs.Whole.{abs, one}
 use Rattle.constants.specs.Constants.{secondsPerDay}
 use Rattle.rounding.specs.Value.{Val, L}
 use Rattle.rounding.proofs.Value.{L-pos, val-unique}
-use Rattle.rounding.proofs.Range.{at-most}
+use Rattle.rounding.proofs.Range.{size-at-most}
 use Rattle.day_number.specs.DayNumber.{dayOf}
 use Rattle.day_number.proofs.Units.{one-L}
 use Rattle.julian.specs.declared.JulianDate.{JulianDate}
 use Rattle.julian.specs.JulianDate.{julian}
-use Rattle.scale_laws.specs.Meaning.{day, Close}
+use Rattle.rounding.specs.Picoseconds.{dayPs}
+use Rattle.scale_laws.specs.Meaning.{Close}
 use Rattle.scale_laws.proofs.Meant.{worth-unique}
 use Rattle.tai_round_trip.specs.UtcDays.{H, leapAfter, OnDay, ExactDay}
 use Rattle.tai_round_trip.specs.Ranges.{HalfDaySplit}
 use Rattle.tai_round_trip.proofs.Units.{h, L-h, h-small}
-use Rattle.tai_round_trip.proofs.Parts.{FirstPart, SecondPart, stamp-of, worth-of, joined, first-part}
+use Rattle.tai_round_trip.proofs.Parts.{FirstPart, SecondPart, stamp-of, parts-worth, parts-joined, first-part}
 use Rattle.tai_round_trip.proofs.Located.{Located, located}
 use Rattle.tai_round_trip.proofs.Meant.{day-of}
 use Rattle.ut1_laws.specs.Ut1.{ut1Ps, RightUt1}
 use Rattle.ut1_laws.specs.Back.{NoLeapNear, Ut1ThereAndBack}
 use Rattle.ut1_laws.proofs.Ut1.{one-answer}
-use Rattle.ut1_laws.proofs.Back.{Less, less-dut1, later, exact-high, no-step, is}
+use Rattle.ut1_laws.proofs.Back.{Less, less-dut1, seconds-later, exact-high, no-step, is}
 
 wide : (p n : ℕ) → p ≤ n + L → 1024 * p ≤ 1024 * n + 1027 * L
 wide p n k = omega arith
@@ -57,14 +58,14 @@ sums' : (A p q P Q p' n' up un x y X Y N : ℕ) → P + q ≡ A + p + Q → x + 
     → 86400 * (1 * n' + 1 * (A + up) + 0) + (86400 * p' + 86400 * Q + (Y + 0 * N)) ≤ 86400 * (1 * p' + 1 * un + 0) + (86400 * n' + 86400 * P + (X + 0 * H)) + 86485 * h
 sums' A p q P Q p' n' up un x y X Y N e g k = omega arith
 
-ten : day * (86485 * h) ≤ 10 * (86400 * L)
+ten : dayPs * (86485 * h) ≤ 10 * (86400 * L)
 ten = omega (arith, L-h)
 
 -- 87 ps and 10 ps
-in-all : (X Z G K : ℕ) → day * X ≤ day * Z + 87 * (86400 * L) → 86400 * G + Z ≤ 86400 * K + X + 86485 * h → day * G ≤ day * K + 97 * (1 * L)
-in-all X Z G K c k = go (day * X) (day * Z) (day * G) (day * K) (day * (86485 * h)) c ten (times G Z K X (86485 * h) k)
+in-all : (X Z G K : ℕ) → dayPs * X ≤ dayPs * Z + 87 * (86400 * L) → 86400 * G + Z ≤ 86400 * K + X + 86485 * h → dayPs * G ≤ dayPs * K + 97 * (1 * L)
+in-all X Z G K c k = go (dayPs * X) (dayPs * Z) (dayPs * G) (dayPs * K) (dayPs * (86485 * h)) c ten (times G Z K X (86485 * h) k)
   where
-    times : (g z k x e : ℕ) → 86400 * g + z ≤ 86400 * k + x + e → 86400 * (day * g) + day * z ≤ 86400 * (day * k) + day * x + day * e
+    times : (g z k x e : ℕ) → 86400 * g + z ≤ 86400 * k + x + e → 86400 * (dayPs * g) + dayPs * z ≤ 86400 * (dayPs * k) + dayPs * x + dayPs * e
     times g z k x e l = omega arith
 
     go : (x z g k e : ℕ) → x ≤ z + 87 * (86400 * L) → e ≤ 10 * (86400 * L) → 86400 * g + z ≤ 86400 * k + x + e → g ≤ k + 97 * (1 * L)
@@ -112,8 +113,8 @@ module _ {a u : Float} {A up un : ℕ} (v : FirstPart a A) (hold : T (fits binar
       let b = below in
       let t = above in
       let e = exact-high v w n o s in
-      let i = later (n - 2) (z .n) (omega arith) (omega arith) (omega arith) in
-      let j = later (suc (z .n)) (n + 4) (omega arith) (omega arith) (omega arith) in
+      let i = seconds-later (n - 2) (z .n) (omega arith) (omega arith) (omega arith) in
+      let j = seconds-later (suc (z .n)) (n + 4) (omega arith) (omega arith) (omega arith) in
       omega (arith, s .same)
 
   no-leap : leapAfter (answered .n) ≡ 0
@@ -132,10 +133,10 @@ module _ {a u : Float} {A up un : ℕ} (v : FirstPart a A) (hold : T (fits binar
           n = un;
           p' = m .p';
           n' = m .n';
-          from = joined (v .val) val;
+          from = parts-joined (v .val) val;
           to = m .to;
-          over = in-all _ _ _ _ (m .over) (sums A (r .p) (r .n) (m .p) (m .n) (m .p') (m .n') up un x y (answered .x) (answered .y) (answered .n * L) (worth-unique (m .from) (worth-of v w')) (val-unique vc (answered .offset)) (r .over));
-          under = in-all _ _ _ _ (m .under) (sums' A (r .p) (r .n) (m .p) (m .n) (m .p') (m .n') up un x y (answered .x) (answered .y) (answered .n * L) (worth-unique (m .from) (worth-of v w')) (val-unique vc (answered .offset)) (r .under));
+          over = in-all _ _ _ _ (m .over) (sums A (r .p) (r .n) (m .p) (m .n) (m .p') (m .n') up un x y (answered .x) (answered .y) (answered .n * L) (worth-unique (m .from) (parts-worth v w')) (val-unique vc (answered .offset)) (r .over));
+          under = in-all _ _ _ _ (m .under) (sums' A (r .p) (r .n) (m .p) (m .n) (m .p') (m .n') up un x y (answered .x) (answered .y) (answered .n * L) (worth-unique (m .from) (parts-worth v w')) (val-unique vc (answered .offset)) (r .under));
         };
       }
 
@@ -143,6 +144,6 @@ module _ {a u : Float} {A up un : ℕ} (v : FirstPart a A) (hold : T (fits binar
 pub ut1-there-and-back : {d : JulianDate} {n : ℕ} → HalfDaySplit d → ExactDay d n → NoLeapNear n → (dut1 : Float) → T (fits binary64 dut1) → T (le (abs dut1) one) → Ut1ThereAndBack 97 d dut1
 ut1-there-and-back {n = n} s x o c f l =
     let v = first-part s in
-    let b = at-most (s .held .1) one-L (s .second) in
-    let z = at-most f one-L l in
-    back-again v (s .held .1) (b .val) (b .high) (b .low) n (day-of x (joined (v .val) (b .val))) o c f l (z .p) (z .n) (z .val) (z .high) (z .low)
+    let b = size-at-most (s .held .1) one-L (s .second) in
+    let z = size-at-most f one-L l in
+    back-again v (s .held .1) (b .val) (b .high) (b .low) n (day-of x (parts-joined (v .val) (b .val))) o c f l (z .p) (z .n) (z .val) (z .high) (z .low)

@@ -18,11 +18,11 @@ use Rattle.rounding.proofs.Value.{L-pos, abs-val, val-finite-true, rounds-move,
 use Rattle.rounding.proofs.Signed.{dist, dist-le}
 use Rattle.rounding.proofs.Casts.{ofInt-val}
 use Rattle.rounding.proofs.Compare.{lt-show}
-use Rattle.rounding.proofs.Chain.{Close}
+use Rattle.rounding.proofs.Chain.{ValClose}
 use Rattle.rounding.proofs.Near.{sum-near}
 use Rattle.rounding.proofs.Scaled.{div-near}
 use Rattle.rounding.proofs.Sizes.{whole-val}
-use Rattle.rounding.proofs.Range.{at-most}
+use Rattle.rounding.proofs.Range.{size-at-most}
 use Rattle.calendar.specs.Gregorian.{gregorianDate}
 use Rattle.day_number.specs.DayNumber.{dayOf}
 use Rattle.day_number.proofs.Units.{one-L}
@@ -38,14 +38,14 @@ use Rattle.shifts.specs.Shifts.{plus, daysOf}
 use Rattle.shifts.proofs.Outcomes.{by-is}
 use Rattle.shifts.proofs.SmallerPart.{mapAs, map-is}
 use Rattle.scales.specs.Conversions.{answerOf}
-use Rattle.scale_laws.specs.Meaning.{day}
+use Rattle.rounding.specs.Picoseconds.{dayPs}
 use Rattle.utc_scales.specs.Dates.{offsetAt0h, offsetOfDate}
 use Rattle.utc_scales.specs.UtcUt1.{utcToUt1}
 use Rattle.utc_scales.proofs.Steps.{offset-of-day, offsets-first}
 use Rattle.tai_round_trip.specs.UtcDays.{H, secondsOn, leapAfter}
 use Rattle.tai_round_trip.specs.Ranges.{HalfDaySplit}
 use Rattle.tai_round_trip.proofs.Units.{h, L-H, L-h, h-small, h-pos, add-close}
-use Rattle.tai_round_trip.proofs.Parts.{FirstPart, SecondPart, worth-of, first-part, second-part}
+use Rattle.tai_round_trip.proofs.Parts.{FirstPart, SecondPart, parts-worth, first-part, second-part}
 use Rattle.tai_round_trip.proofs.DaySeconds.{day-seconds}
 use Rattle.tai_round_trip.proofs.Evaluated.{Seen, seen}
 use Rattle.ut1_laws.specs.Ut1.{ut1Ps, RightUt1}
@@ -134,7 +134,7 @@ under-is zero d N f A up un tp tn qp qn rp rn x y k e i q r = omega arith
 under-is (suc zero) d N f A up un tp tn qp qn rp rn x y k e i q r = omega arith
 under-is (suc (suc s)) d N f A up un tp tn qp qn rp rn x y k e i q r = absurd (omega arith)
 
-to-picoseconds : (x y : ℕ) → x ≤ y + 777743 * h → day * x ≤ day * y + ut1Ps * (86400 * L)
+to-picoseconds : (x y : ℕ) → x ≤ y + 777743 * h → dayPs * x ≤ dayPs * y + ut1Ps * (86400 * L)
 to-picoseconds x y k = omega (arith, L-h)
 
 -- ---- one evaluation
@@ -143,7 +143,7 @@ module _ {a u : Float} {A up un : ℕ} (v : FirstPart a A) (w : SecondPart u up 
   o = seen v w
 
   dut : (p : ℕ) × (n : ℕ) × Val c p n L × (p ≤ n + L) × (n ≤ p + L)
-  dut = let z = at-most fc one-L kc in (z .p, z .n, z .val, z .high, z .low)
+  dut = let z = size-at-most fc one-L kc in (z .p, z .n, z .val, z .high, z .low)
 
   abbrev D : ℕ
   D = secondsOn (o .day)
@@ -175,7 +175,7 @@ module _ {a u : Float} {A up un : ℕ} (v : FirstPart a A) (w : SecondPart u up 
     tl : 64 * o .tn ≤ 64 * o .tp + 65 * L
     tl = t-low s (D * L) (o .day * L) (o .f) A up un (o .tp) (o .tn) (o .seconds .step) (o .eval-under) (o .near-under) (w .under)
 
-    r : Close L (add binary64 (o .t) q) (o .tp + z .p) (o .tn + z .n) h
+    r : ValClose L (add binary64 (o .t) q) (o .tp + z .p) (o .tn + z .n) h
     r = add-close (omega (arith, th, z .over, h-small, L-pos)) (omega (arith, tl, z .under, d-high, h-small, L-pos)) (o .val) (z .val)
 
     larger : firstIsLarger (julian a (o .t)) ≡ true
@@ -211,7 +211,7 @@ module _ {a u : Float} {A up un : ℕ} (v : FirstPart a A) (w : SecondPart u up 
         n = un;
         p' = A + r .p;
         n' = r .n;
-        from = worth-of v w;
+        from = parts-worth v w;
         to = record { p = A; n = 0; q = r .p; m = r .n; first = v .val; second = r .val; total = omega arith };
         over = to-picoseconds _ _ (over-is s (D * L) (o .day * L) (o .f) A up un (o .tp) (o .tn) (z .p) (z .n) (r .p) (r .n) x y (o .seconds .step) (o .eval-over) (o .near-over) (z .over) (r .over));
         under = to-picoseconds _ _ (under-is s (D * L) (o .day * L) (o .f) A up un (o .tp) (o .tn) (z .p) (z .n) (r .p) (r .n) x y (o .seconds .step) (o .eval-under) (o .near-under) (z .under) (r .under));

@@ -24,7 +24,7 @@ use Rattle.tai_utc.specs.Table.{Row}
 use Rattle.tai_utc.specs.Leap.{dayOffsets, leapOf, leapAtEndOfDay}
 use Rattle.tai_utc.specs.declared.DayOffsets.{DayOffsets}
 use Rattle.tai_utc.proofs.Days.{day-refusals}
-use Rattle.utc.specs.FromCalendar.{atTime, utcFromCalendar}
+use Rattle.utc.specs.FromCalendar.{midnightPlus, utcFromCalendar}
 use Rattle.utc.specs.UnixTime.{unixDay, secondOfUnixDay, secondWithNanos, utcNew}
 use Rattle.utc.proofs.Dates.{date-in-range}
 use Rattle.utc.proofs.UnixTimes.{nanos-refused, day-refused, day-given}
@@ -32,8 +32,8 @@ use Rattle.utc.proofs.DayTexts.{has-leap}
 use Rattle.utc.proofs.Numbers.{not-both, one-number, date-refusal}
 use Rattle.utc.proofs.FromCalendars.{date-refused, leap-refused, on-date}
 
-only-four : (hour minute : ℕ) (second leap : Float) (d : JulianDate) (k : ℕ) → atTime d (dayFraction hour minute second leap) ≡ refusal k → k ≡ 4
-unfolding atTime dayFraction onward
+only-four : (hour minute : ℕ) (second leap : Float) (d : JulianDate) (k : ℕ) → midnightPlus d (dayFraction hour minute second leap) ≡ refusal k → k ≡ 4
+unfolding midnightPlus dayFraction onward
 only-four hour minute second leap d k = go _ (timeInDay hour minute second leap)
   where
     go : (x : Float) (b : Bool) → onward (cond b (answer x) (refusal 4)) (λ f. answer (julian (d .jd1) (add binary64 (d .jd2) f))) ≡ refusal k → k ≡ 4

@@ -13,7 +13,7 @@ use Rattle.calendar.specs.declared.CalendarDate.{CalendarDate}
 use Rattle.calendar.specs.Calendar.{next}
 use Rattle.calendar.specs.Refusals.{nextOf}
 use Rattle.calendar.specs.DayCount.{mjdNumber}
-use Rattle.calendar.proofs.NextDates.{refused, by, first-false}
+use Rattle.calendar.proofs.NextDates.{refused-next, by, first-false}
 use Rattle.calendar.proofs.Years.{validOf, before-last}
 use Rattle.tai_utc.specs.Table.{Row, monthNumber}
 use Rattle.tai_utc.specs.Leap.{leapOf, offsetsOfDay, leapAtEndOfDay}
@@ -38,7 +38,7 @@ textOf d r = textBy utcText d r
 module _ (rows : List Row) (d : CalendarDate) where
   pub refused-early : (k : ℕ) → validOf d ≡ refusal k → leapAtEndOfDay rows (d .year) (pos (d .month)) (pos (d .day)) ≡ refusal k
   unfolding leapAtEndOfDay onward
-  refused-early k e = rw (Days.day-offsets-are rows (d .year) (pos (d .month)) (pos (d .day)), refused (d .year) (pos (d .month)) (pos (d .day)) k e)
+  refused-early k e = rw (Days.day-offsets-are rows (d .year) (pos (d .month)) (pos (d .day)), refused-next (d .year) (pos (d .month)) (pos (d .day)) k e)
 
   pub text-refused-by : (sheet : Sheet) (f : Float) (k : ℕ) → validOf d ≡ refusal k → dayTextBy sheet rows d f ≡ refusal k
   text-refused-by sheet f k e = leap-refused sheet rows d f k (refused-early k e)

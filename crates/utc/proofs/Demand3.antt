@@ -31,7 +31,7 @@ use Rattle.time_of_day.specs.declared.TimeShown.{TimeShown}
 use Rattle.time_of_day.specs.declared.TimeShown.the-variants.{At, NextMidnight}
 use Rattle.time_of_day.specs.Milliseconds.{wholeLeap}
 use Rattle.time_of_day.specs.TimeShown.{shownBy}
-use Rattle.time_of_day.specs.ExactTime.{Leap, little, second, first, minus-second, Close, GoodTime, Good, shownMs, ShownWithin}
+use Rattle.time_of_day.specs.ExactTime.{Leap, little, second, first, minus-second, TimeWithin, GoodTime, Good, shownMs, ShownWithin}
 use Rattle.time_of_day.proofs.Shows.{shown-within}
 use Rattle.utc_text.specs.ReadBack.{Writable, ReadsAs}
 use Rattle.utc_text.proofs.ReadBack.{said-ms}
@@ -77,7 +77,7 @@ module _ (sheet : Sheet) (p : Promise) (good : GoodSheet sheet p) (n : ℤ) (low
       record {
         form = good .form (dateOf n) u w;
         day = on-day u said (s .good);
-        near = λ W E h d. subst (λ (k : ℕ). Close (p .c x) (p .e x) (k * E) F (2 ^ 52) W E) (sym (said-ms said)) (s .near W E h d);
+        near = λ W E h d. subst (λ (k : ℕ). TimeWithin (p .c x) (p .e x) (k * E) F (2 ^ 52) W E) (sym (said-ms said)) (s .near W E h d);
       }
   right NextMidnight s = record {
     form = good .form (next (dateOf n)) midnight writable-next;

@@ -20,7 +20,7 @@ use Rattle.julian_laws.proofs.RoundTrip.{midnight-fraction}
 use Rattle.julian_laws.proofs.Clock.{hour-refused, minute-refused}
 use Rattle.tai_utc.specs.Table.{Row}
 use Rattle.tai_utc.specs.Leap.{leapAtEndOfDay}
-use Rattle.utc.specs.FromCalendar.{atTime, utcFromCalendar}
+use Rattle.utc.specs.FromCalendar.{midnightPlus, utcFromCalendar}
 
 -- ---- the cases
 module _ (rows : List Row) (y : ℤ) (m d hour minute : ℕ) (second : Float) where
@@ -38,7 +38,7 @@ module _ (rows : List Row) (y : ℤ) (m d hour minute : ℕ) (second : Float) wh
 
   -- MIDNIGHT in jd1: 2400000.5 plus the Modified Julian Date, rounded once; the fraction of the day in jd2
   pub on-date : validDate y (pos m) (pos d) ≡ answer tt → (x : Float) → leapAtEndOfDay rows y (pos m) (pos d) ≡ answer x
-      → utcFromCalendar rows y m d hour minute second ≡ atTime (julian (add binary64 mjdZeroPoint (ofInt binary64 (mjdNumber y (pos m) (pos d)))) nought) (dayFraction hour minute second x)
+      → utcFromCalendar rows y m d hour minute second ≡ midnightPlus (julian (add binary64 mjdZeroPoint (ofInt binary64 (mjdNumber y (pos m) (pos d)))) nought) (dayFraction hour minute second x)
   unfolding utcFromCalendar onward
   on-date v x e = rw (at-midnight v, e)
 
@@ -47,14 +47,14 @@ module _ (rows : List Row) (y : ℤ) (m d hour minute : ℕ) (second : Float) wh
     pub time-given : timeInDay hour minute second x ≡ true
         → utcFromCalendar rows y m d hour minute second
         ≡ answer (julian (add binary64 mjdZeroPoint (ofInt binary64 (mjdNumber y (pos m) (pos d)))) (add binary64 nought (div binary64 (add binary64 (mul binary64 (decimal 60 0) (ofInt binary64 (pos (60 * hour + minute)))) second) (add binary64 secondsPerDay x))))
-    unfolding atTime dayFraction onward
+    unfolding midnightPlus dayFraction onward
     time-given h = on-date v x e ∙ rw h
 
     -- HOUR 24 AND LATER, AND MINUTE 60 AND LATER, are refused with 4, whatever the day's length
     pub utc-hour-24-refused : 24 ≤ hour → utcFromCalendar rows y m d hour minute second ≡ refusal 4
-    unfolding atTime onward
+    unfolding midnightPlus onward
     utc-hour-24-refused h = on-date v x e ∙ rw (hour-refused hour minute second x h)
 
     pub utc-minute-60-refused : 60 ≤ minute → utcFromCalendar rows y m d hour minute second ≡ refusal 4
-    unfolding atTime onward
+    unfolding midnightPlus onward
     utc-minute-60-refused h = on-date v x e ∙ rw (minute-refused hour minute second x h)

@@ -21,7 +21,7 @@ use Rattle.tai_utc.specs.Lent.{tableOf}
 use Rattle.time_of_day.specs.Milliseconds.{wholeLeap}
 use Rattle.time_of_day.specs.HalfEven.{evenCount}
 use Rattle.time_of_day.specs.EvenPromise.{evenParts, evenMost}
-use Rattle.time_of_day.specs.ExactTime.{Leap, DayLength, Close}
+use Rattle.time_of_day.specs.ExactTime.{Leap, DayLength, TimeWithin}
 use Rattle.time_of_day.proofs.EvenExact.{even-exact}
 use Rattle.utc_text.specs.declared.TextAnswer.the-variants.{Written, Refused}
 use Rattle.utc_text.proofs.ReadBack as Read
@@ -40,7 +40,7 @@ use Rattle.utc.proofs.Numbers.{call-numbers-by, not-finite-by, refused-
 use Rattle.utc.proofs.Lengths.{Length01, every-text, every-call}
 
 -- ---- DEMAND 3
-near : (F : ℕ) → F < 2 ^ 52 → (x : Float) → Leap x → (W E : ℕ) → 0 < E → DayLength x W E → Close (evenParts x) (evenMost x) (evenCount (fractionOf F) (wholeLeap x) * E) F (2 ^ 52) W E
+near : (F : ℕ) → F < 2 ^ 52 → (x : Float) → Leap x → (W E : ℕ) → 0 < E → DayLength x W E → TimeWithin (evenParts x) (evenMost x) (evenCount (fractionOf F) (wholeLeap x) * E) F (2 ^ 52) W E
 near F h = even-exact (fractionOf F) F (fraction-fits F) (fraction-exact F h) h
 
 pub even-good : GoodSheet evenSheet evenPromise
@@ -58,10 +58,10 @@ even-for-every-buffer-fixed = text-for-every-buffer-by fixed fixed-leaps evenShe
 
 -- ---- over all floats: 23 to 26 bytes, the numbers 6, 1 and 11, and 6 and 1 exactly where document 01's text has them
 pub even-text-length : (rows : List Row) (jd : JulianDate) (t : List ℕ) → isoTextHalfEven rows jd ≡ answer t → (23 ≤ length t) × (length t ≤ 26)
-even-text-length = every-text evenSheet (λ t. Length01 (length t)) Read.text-length
+even-text-length = every-text evenSheet (λ t. Length01 (length t)) Read.written-length
 
 pub even-call-length : (rows : List Row) (jd : JulianDate) (l out : List ℕ) (n : ℕ) → TextCall (isoTextHalfEven rows jd) l (Written n) out → (23 ≤ n) × (n ≤ 26)
-even-call-length rows jd = every-call evenSheet (λ t. Length01 (length t)) Read.text-length rows jd Length01 (λ t h. h)
+even-call-length rows jd = every-call evenSheet (λ t. Length01 (length t)) Read.written-length rows jd Length01 (λ t h. h)
 
 pub even-numbers : (rows : List Row) (jd : JulianDate) (l out : List ℕ) (k : ℕ) → TextCall (isoTextHalfEven rows jd) l (Refused k) out → (k ≡ 6) ⊎ ((k ≡ 1) ⊎ (k ≡ 11))
 even-numbers = call-numbers-by evenSheet

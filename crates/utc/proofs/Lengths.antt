@@ -61,7 +61,7 @@ abbrev pub Length01 : ℕ → Type 0
 Length01 n = (23 ≤ n) × (n ≤ 26)
 
 pub text-length : (rows : List Row) (jd : JulianDate) (t : List ℕ) → isoText rows jd ≡ answer t → (23 ≤ length t) × (length t ≤ 26)
-text-length = every-text sheet01 (λ t. Length01 (length t)) Read.text-length
+text-length = every-text sheet01 (λ t. Length01 (length t)) Read.written-length
 
 pub call-length : (rows : List Row) (jd : JulianDate) (l out : List ℕ) (n : ℕ) → TextCall (isoText rows jd) l (Written n) out → (23 ≤ n) × (n ≤ 26)
-call-length rows jd = every-call sheet01 (λ t. Length01 (length t)) Read.text-length rows jd Length01 (λ t h. h)
+call-length rows jd = every-call sheet01 (λ t. Length01 (length t)) Read.written-length rows jd Length01 (λ t h. h)

@@ -27,7 +27,7 @@ use Rattle.day_number.proofs.MinusZero.{add-unsigned}
 use Rattle.julian.specs.declared.JulianDate.{JulianDate}
 use Rattle.julian.specs.JulianDate.{julian}
 use Rattle.julian.specs.DayFraction.{timeInDay}
-use Rattle.julian.proofs.Midnights.{mjd-small, midnight-sum}
+use Rattle.julian.proofs.Midnights.{mjd-in-42-bits, midnight-sum}
 use Rattle.tai_utc.specs.Table.{Row}
 use Rattle.tai_utc.specs.Leap.{leapAtEndOfDay}
 use Rattle.utc.specs.FromCalendar.{utcFromCalendar}
@@ -73,5 +73,5 @@ meaning rows y m d hour minute second n leap f e l h =
     let t = div-fits binary64 (add binary64 (mul binary64 (decimal 60 0) (ofInt binary64 (pos (60 * hour + minute)))) second) (add binary64 secondsPerDay leap) in (
       julian (add binary64 mjdZeroPoint (ofInt binary64 n)) (add binary64 nought q),
       time-given rows y m d hour minute second v leap l h ∙ ap (λ (k : ℤ). answer (julian (add binary64 mjdZeroPoint (ofInt binary64 k)) (add binary64 nought q))) is,
-      record { first = midnight-sum n (mjd-small y (pos m) (pos d) n f e); second = λ p m. quotient-kept t; not-minus = not-minus-zero q t },
+      record { first = midnight-sum n (mjd-in-42-bits y (pos m) (pos d) n f e); second = λ p m. quotient-kept t; not-minus = not-minus-zero q t },
     )

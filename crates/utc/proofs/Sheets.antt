@@ -11,14 +11,14 @@ use Rattle.time_of_day.specs.declared.TimeOfDay.{TimeOfDay}
 use Rattle.time_of_day.specs.Milliseconds.{wholeLeap}
 use Rattle.time_of_day.specs.TimeShown.{countBy}
 use Rattle.time_of_day.specs.Nearest.{Nearest}
-use Rattle.time_of_day.specs.ExactTime.{Leap, DayLength, Close}
+use Rattle.time_of_day.specs.ExactTime.{Leap, DayLength, TimeWithin}
 use Rattle.time_of_day.proofs.Rounded.{away-nearest}
 use Rattle.time_of_day.proofs.Fractions.{fraction-of}
 use Rattle.time_of_day.proofs.Close.{close-501}
 use Rattle.time_of_day.proofs.Shows.{count-near}
 use Rattle.utc_text.specs.Text.{utcText}
 use Rattle.utc_text.specs.ReadBack.{Writable}
-use Rattle.utc_text.proofs.ReadBack.{reads-back, text-length}
+use Rattle.utc_text.proofs.ReadBack.{reads-back, written-length}
 use Rattle.utc_text.proofs.Form.{well-formed}
 use Rattle.utc_text.proofs.YearZeros.{year-filled-to-four}
 use Rattle.utc.specs.IsoText.{sheet01}
@@ -28,7 +28,7 @@ use Rattle.utc.proofs.Sums.{fraction-fits}
 
 -- ---- a count by any rule that rounds to a nearest whole number is within 0.501 ms
 pub near-501 : (how : Bool → ℕ → ℕ → ℕ) → Nearest how → (F : ℕ) → F < 2 ^ 52 → (x : Float) → Leap x → (W E : ℕ) → 0 < E → DayLength x W E
-    → Close 1000 501 (countBy how (fractionOf F) (wholeLeap x) * E) F (2 ^ 52) W E
+    → TimeWithin 1000 501 (countBy how (fractionOf F) (wholeLeap x) * E) F (2 ^ 52) W E
 near-501 how rule F h x s W E G d =
     let v = fraction-exact F h in
     close-501 (countBy how (fractionOf F) (wholeLeap x) * E) F (2 ^ 52) W E
@@ -36,7 +36,7 @@ near-501 how rule F h x s W E G d =
 
 -- ---- document 01's
 pub form01 : (d : CalendarDate) (u : TimeOfDay) → Writable d u → Form01 (utcText d u)
-form01 d u w = record { form = well-formed d u; year-filled = year-filled-to-four d u w; shortest = text-length d u .0; longest = text-length d u .1 }
+form01 d u w = record { form = well-formed d u; year-filled = year-filled-to-four d u w; shortest = written-length d u .0; longest = written-length d u .1 }
 
 pub good01 : GoodSheet sheet01 promise01
 good01 = record { near = near-501 away away-nearest; reads = reads-back; form = form01 }

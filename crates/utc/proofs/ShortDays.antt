@@ -16,7 +16,7 @@ use Rattle.julian.specs.DayFraction.{secondLimit, timeInDay, dayFraction}
 use Rattle.tai_utc.specs.Table.{Row}
 use Rattle.tai_utc.specs.Leap.{leapAtEndOfDay}
 use Rattle.time_of_day.specs.ExactTime.{minus-one-f}
-use Rattle.utc.specs.FromCalendar.{atTime, utcFromCalendar}
+use Rattle.utc.specs.FromCalendar.{midnightPlus, utcFromCalendar}
 use Rattle.utc.proofs.FromCalendars.{on-date, time-given}
 
 limit : secondLimit 23 59 minus-one-f ≡ decimal 59 0
@@ -29,7 +29,7 @@ last-minute second = rw limit
 
 module _ (rows : List Row) (y : ℤ) (m d : ℕ) (v : validDate y (pos m) (pos d) ≡ answer tt) (e : leapAtEndOfDay rows y (pos m) (pos d) ≡ answer minus-one-f) (second : Float) where
   pub short-day-refused : le nought second && lt second (decimal 59 0) ≡ false → utcFromCalendar rows y m d 23 59 second ≡ refusal 4
-  unfolding atTime dayFraction onward
+  unfolding midnightPlus dayFraction onward
   short-day-refused h = on-date rows y m d 23 59 second v minus-one-f e ∙ rw (last-minute second ∙ h)
 
   pub short-day-taken : le nought second && lt second (decimal 59 0) ≡ true

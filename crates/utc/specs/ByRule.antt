@@ -4,7 +4,6 @@ use Prim.Native.Nat.{ℕ}
 use mathlib.Core.Path.{_≡_}
 use mathlib.Core.List.{List}
 use lib.ListN.{length}
-use lib.IntN.{pos}
 use lib.Ieee.{Float}
 use Rattle.refusals.specs.Outcome.{Outcome, answer, refusal, onward}
 use Rattle.calendar.specs.declared.CalendarDate.{CalendarDate}
@@ -12,16 +11,13 @@ use Rattle.julian.specs.declared.JulianDate.{JulianDate}
 use Rattle.julian.specs.Calendar.{julianToCalendar}
 use Rattle.tai_utc.specs.declared.Rule.{Rule}
 use Rattle.tai_utc.specs.Table.{Row}
-use Rattle.tai_utc.specs.Rule.{ruleAt, withRule, forget}
+use Rattle.tai_utc.specs.Rule.{withRule, forget}
+unfoldable pub use Rattle.tai_utc.specs.Rule.{ruleOn}
 use Rattle.utc_text.specs.Answer.{textWritten}
 use Rattle.utc.specs.declared.TextByRule.{TextByRule}
 use Rattle.utc.specs.declared.TextByRule.the-variants as Ruled
 use Rattle.utc.specs.IsoText.{dayText}
 use Rattle.utc.specs.TextCall.{bufferHolds}
-
--- the rule of a calendar date
-unfoldable pub ruleOn : List Row → CalendarDate → Rule
-ruleOn rows d = ruleAt rows (d .year) (pos (d .month))
 
 -- by what a fraction of a date's day shows
 unfoldable pub textByRule : (CalendarDate → Float → Outcome (List ℕ)) → List Row → JulianDate → Outcome (List ℕ × Rule)

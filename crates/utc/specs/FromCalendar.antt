@@ -14,12 +14,12 @@ use Rattle.tai_utc.specs.Table.{Row}
 use Rattle.tai_utc.specs.Leap.{leapAtEndOfDay}
 
 -- midnight with a fraction of its day
-unfoldable pub atTime : JulianDate → Outcome Float → Outcome JulianDate
-atTime midnight fraction = onward fraction (λ f. answer (julian (midnight .jd1) (add binary64 (midnight .jd2) f)))
+unfoldable pub midnightPlus : JulianDate → Outcome Float → Outcome JulianDate
+midnightPlus midnight fraction = onward fraction (λ f. answer (julian (midnight .jd1) (add binary64 (midnight .jd2) f)))
 
 -- the date's midnight, and the seconds over the length of its day, which is 86,400 s plus leap
 unfoldable pub utcFromCalendar : List Row → ℤ → ℕ → ℕ → ℕ → ℕ → Float → Outcome JulianDate
 utcFromCalendar rows y m d hour minute second =
     onward (fromCalendar y m d 0 0 nought) (λ midnight.
     onward (leapAtEndOfDay rows y (pos m) (pos d)) (λ leap.
-    atTime midnight (dayFraction hour minute second leap)))
+    midnightPlus midnight (dayFraction hour minute second leap)))

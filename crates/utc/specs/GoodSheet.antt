@@ -6,13 +6,13 @@ use Rattle.calendar.specs.declared.CalendarDate.{CalendarDate}
 use Rattle.day_number.specs.ExactDay.{fractionOf}
 use Rattle.time_of_day.specs.declared.TimeOfDay.{TimeOfDay}
 use Rattle.time_of_day.specs.Milliseconds.{wholeLeap}
-use Rattle.time_of_day.specs.ExactTime.{Leap, DayLength, Close}
+use Rattle.time_of_day.specs.ExactTime.{Leap, DayLength, TimeWithin}
 use Rattle.utc_text.specs.ReadBack.{ReadsAs, Writable}
 use Rattle.utc.specs.Sheet.{Sheet}
 use Rattle.utc.specs.Shows.{Promise}
 
 pub record GoodSheet (sheet : Sheet) (p : Promise) : Type 0 where
   pub near : (F : ℕ) → F < 2 ^ 52 → (leap : Float) → Leap leap → (W E : ℕ) → 0 < E → DayLength leap W E
-      → Close (p .c leap) (p .e leap) (sheet .count (fractionOf F) (wholeLeap leap) * E) F (2 ^ 52) W E
+      → TimeWithin (p .c leap) (p .e leap) (sheet .count (fractionOf F) (wholeLeap leap) * E) F (2 ^ 52) W E
   pub reads : (d : CalendarDate) (u : TimeOfDay) → Writable d u → ReadsAs (sheet .write d u) d u
   pub form : (d : CalendarDate) (u : TimeOfDay) → Writable d u → p .Form (sheet .write d u)

@@ -15,7 +15,7 @@ use Rattle.tai_utc.specs.Table.{Row}
 use Rattle.tai_utc.specs.Leap.{leapAtEndOfDay}
 use Rattle.time_of_day.specs.declared.TimeOfDay.{TimeOfDay}
 use Rattle.time_of_day.specs.Milliseconds.{wholeLeap}
-use Rattle.time_of_day.specs.ExactTime.{DayLength, Close, GoodTime}
+use Rattle.time_of_day.specs.ExactTime.{DayLength, TimeWithin, GoodTime}
 use Rattle.utc_text.specs.ReadBack.{ReadsAs, readMs}
 use Rattle.utc_text.specs.WellFormed.{WellFormed, YearFilledToFour}
 use Rattle.utc.specs.IsoText.{midnight}
@@ -41,7 +41,7 @@ pub record Promise : Type 1 where
 pub record TextRight (p : Promise) (t : List ℕ) (n : ℤ) (F : ℕ) (leap : Float) : Type 0 where
   pub form : p .Form t
   pub day : DayShown t n leap
-  pub near : (W E : ℕ) → 0 < E → DayLength leap W E → Close (p .c leap) (p .e leap) (timeShown day W E) F (2 ^ 52) W E
+  pub near : (W E : ℕ) → 0 < E → DayLength leap W E → TimeWithin (p .c leap) (p .e leap) (timeShown day W E) F (2 ^ 52) W E
 
 -- document 01's form: no zero in front of a year of more than four characters, and 23 to 26 bytes
 pub record Form01 (t : List ℕ) : Type 0 where

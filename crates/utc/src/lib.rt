@@ -12,7 +12,7 @@ ghost use Rattle.scales.specs.Scales.{utcOutcome};
 ghost use Rattle.julian.specs.DayFraction.{fractionOutcome};
 ghost use Rattle.refusals.specs.Outcome.{onward};
 ghost use Rattle.tai_utc.specs.Lent.{rowsIn, rowsOf, tableOf};
-ghost use Rattle.utc.specs.FromCalendar.{atTime, utcFromCalendar};
+ghost use Rattle.utc.specs.FromCalendar.{midnightPlus, utcFromCalendar};
 ghost use Rattle.utc.specs.UnixTime.{unixDay, secondOfUnixDay, secondWithNanos, utcNew};
 ghost use Rattle.utc.specs.IsoText.{nextMidnightText, shownText};
 ghost use Rattle.utc.specs.TextCall.{TextCall};
@@ -212,7 +212,7 @@ pub fn utc_from_calendar(
 }
 
 fn at_time(midnight: JulianDate, fraction: FractionAnswer) -> UtcAnswer
-    ensures { λ r. ⌜ utcOutcome r ≡ atTime midnight (fractionOutcome fraction) ⌝ }
+    ensures { λ r. ⌜ utcOutcome r ≡ midnightPlus midnight (fractionOutcome fraction) ⌝ }
 {
     match fraction {
         FractionAnswer::Refused(number) => UtcAnswer::Refused(number),

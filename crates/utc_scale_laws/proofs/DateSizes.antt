@@ -10,7 +10,7 @@ use lib.Ieee.{Float, binary64, round, add, mul, div, lt, le, fits}
 use Rattle.refusals.specs.Outcome.{Outcome, answer, refusal}
 use Rattle.floats.specs.Whole.{nought, one}
 use Rattle.rounding.specs.Value.{Val, L}
-use Rattle.rounding.proofs.Range.{at-most}
+use Rattle.rounding.proofs.Range.{size-at-most}
 use Rattle.rounding.proofs.Bound.{within-more}
 use Rattle.rounding.proofs.Sizes.{Size, size-finite, size-add, size-sub, size-mul, size-div, size-more, power-size, under-size, whole-val}
 use Rattle.constants.specs.Constants.{secondsPerDay, decimal}
@@ -102,7 +102,7 @@ unfolding round L
 billion-val = whole-val {p = 1000000000} {n = 0} (record { sign = false; size = 1000000000; has = (refl, refl); is = refl })
 
 pub billion-size : (x : Float) → Billion x → Size x 30
-billion-size x h = within-more (most L) (at-most (h .0) billion-val (h .1))
+billion-size x h = within-more (most L) (size-at-most (h .0) billion-val (h .1))
   where
     most : (l : ℕ) → 1000000000 * l ≤ 2 ^ 30 * l
     most l = omega arith

@@ -15,7 +15,7 @@ use Rattle.calendar.specs.declared.CalendarDate.{CalendarDate}
 use Rattle.calendar.specs.Calendar.{daysInMonth, date, next}
 use Rattle.calendar.specs.Refusals.{validDate, nextOf, lastDate}
 use Rattle.calendar.specs.Gregorian.{gregorianDate}
-use Rattle.calendar.proofs.Accepted.{accepted}
+use Rattle.calendar.proofs.Accepted.{date-accepted}
 use Rattle.calendar.proofs.Years.{validOf, gregorian-in-range, gregorian-refusal, before-last}
 use Rattle.calendar.proofs.Mjd.{mjd-given}
 use Rattle.calendar.proofs.NextDates.{by}
@@ -62,7 +62,7 @@ pub kind : (x y : Float) → T (fits binary64 x) → T (fits binary64 y) → Kin
 kind x y f g = go (D.accepted x y) refl
   where
     split : D.accepted x y ≡ true → (validOf (dateIn x y) ≡ answer tt) ⊎ (validOf (dateIn x y) ≡ refusal 1) → Kind x y
-    split e (inl v) = let t = dateIn x y in valid e (answered x y e) (accepted (t .year) (pos (t .month)) (pos (t .day)) v .year) v (day-range x y f g (dayOf x y) (answered x y e))
+    split e (inl v) = let t = dateIn x y in valid e (answered x y e) (date-accepted (t .year) (pos (t .month)) (pos (t .day)) v .year) v (day-range x y f g (dayOf x y) (answered x y e))
     split e (inr v) = let t = dateIn x y in before e (answered x y e) (refused-early (t .year) (pos (t .month)) (pos (t .day)) v) v
 
     go : (b : Bool) → D.accepted x y ≡ b → Kind x y

@@ -27,7 +27,7 @@ use Rattle.tai_utc.specs.Table.{Row, fixed}
 use Rattle.tai_utc.specs.Lent.{tableOf}
 use Rattle.tai_utc.proofs.NoRows.{none-lent, fixed-taken}
 use Rattle.scale_laws.specs.Ranges.{Held, FiniteParts}
-use Rattle.scale_laws.proofs.Shifts.{Small, added, taken-from, mjd-small}
+use Rattle.scale_laws.proofs.Shifts.{Small, added, taken-from, zero-point-small}
 use Rattle.utc_scales.specs.LargerPart.{keptParts, besideAs, putBeside, placed, changeSmaller}
 use Rattle.utc_scales.specs.Dates.{offsetsOf}
 use Rattle.utc_scales.specs.UtcTai.{taiFromMidnight, taiFraction, utcToTai}
@@ -58,7 +58,7 @@ from-midnight-finite : (x y : Float) → Fits x → Fits y → accepted x y ≡ 
 unfolding taiFromMidnight
 from-midnight-finite x y f g a r o z =
     added (size-small 37 (lit≤ tt) (since-midnight-size x y f g a o z)) _ (add-fits binary64 _ _)
-    (added (size-small 31 (lit≤ tt) (midnight-size (dayOf x y .day) r)) _ (sub-fits binary64 _ _) (taken-from mjd-small x f (kept-finite x y f a)))
+    (added (size-small 31 (lit≤ tt) (midnight-size (dayOf x y .day) r)) _ (sub-fits binary64 _ _) (taken-from zero-point-small x f (kept-finite x y f a)))
 
 -- x is finite, and so is the other part in TAI
 record Both (x z : Float) : Type 0 where

@@ -15,7 +15,7 @@ use Rattle.floats.specs.Whole.{nought, half}
 use Rattle.rounding.specs.Value.{Val, L}
 use Rattle.rounding.proofs.Value.{L-is, L-pos, val-move}
 use Rattle.rounding.proofs.Own.{Rep}
-use Rattle.rounding.proofs.Bound.{Within, rounds-within}
+use Rattle.rounding.proofs.Bound.{SizeWithin, rounds-within}
 use Rattle.rounding.proofs.Near.{NearSum, add-near}
 use Rattle.rounding.proofs.Casts.{plusZ, minusZ}
 use Rattle.rounding.proofs.Sizes.{Size, size-add, size-sub, mul-small, decimal-size, int-size, whole-val, Above}
@@ -23,7 +23,7 @@ use Rattle.constants.specs.Constants.{secondsPerDay, mjdZeroPoint}
 use Rattle.calendar.specs.Calendar.{leapYear}
 use Rattle.calendar.specs.Refusals.{nextOf}
 use Rattle.calendar.specs.DayCount.{marchCount, civilCount, mjdNumber, mjdOf}
-use Rattle.calendar.proofs.Accepted.{accepted, short}
+use Rattle.calendar.proofs.Accepted.{date-accepted, short}
 use Rattle.calendar.proofs.Mjd.{mjd-given, mjd-valid, same-answer}
 use Rattle.tai_utc.specs.declared.DayOffsets.{DayOffsets}
 use Rattle.tai_utc.specs.declared.LentRows.{LentRows}
@@ -81,7 +81,7 @@ B-small : B < 2 ^ 2098
 unfolding B
 B-small = lit< tt
 
-rate-within : (n : ℕ) → n ≤ 39062500 → Within (round binary64 false n 10000000000) B
+rate-within : (n : ℕ) → n ≤ 39062500 → SizeWithin (round binary64 false n 10000000000) B
 rate-within n h =
     rounds-within {N = 0} (lit< tt) B-rep B-small (subst (λ (l : ℕ). n * l ≤ 0 * l + B * 10000000000) B-L (wide B n h)) (none-over B n)
     (record { sign = false; size = n; eq = refl; is = omega arith })
@@ -151,7 +151,7 @@ mjd-size : (y m d n : ℤ) → mjdOf y m d ≡ answer n → 23520 ≤ monthNumbe
 unfolding mjdNumber
 mjd-size y m d n e p q =
     let v = mjd-valid y m d n e in
-    let a = accepted y m d v in
+    let a = date-accepted y m d v in
     let s = short (leapYear y) (natAbs m) (a .m-low) (a .m-high) in
     let h = mid-at y (natAbs m) (natAbs d) (a .m-low) (a .m-high) (omega (arith, a .d-high, s)) p q in
     subst (λ (z : ℤ). Size (ofInt binary64 z) 16) (same-answer (sym (mjd-given y m d v) ∙ e)) (int-size 16 _ (lit≤ tt) (h .0) (h .1))

@@ -18,7 +18,7 @@ use Rattle.floats.specs.Whole.{nought}
 use Rattle.constants.specs.Constants.{mjdZeroPoint}
 use Rattle.calendar.specs.declared.CalendarDate.{CalendarDate}
 use Rattle.calendar.specs.Gregorian.{gregorianDate}
-use Rattle.calendar.proofs.Accepted.{accepted}
+use Rattle.calendar.proofs.Accepted.{date-accepted}
 use Rattle.calendar.proofs.Years.{validOf, from-lower, gregorian-in-range, gregorian-valid, gregorian-refusal}
 use Rattle.calendar.proofs.Mjd.{mjd-refused, mjd-of-date}
 use Rattle.day_number.specs.Ranges.{InDays}
@@ -111,7 +111,7 @@ valid-midnight n r v =
     let t = gregorianDate n in
     let l = from-lower n (not-early (ltZ n (negsuc 31737)) (sym (gregorian-valid n) ∙ v)) in
     midnight-given (t .year) (pos (t .month)) (pos (t .day)) (n -ℤ pos 2400001)
-    (mjd-of-date n l (not-above n (r .top)) (accepted (t .year) (pos (t .month)) (pos (t .day)) v .year))
+    (mjd-of-date n l (not-above n (r .top)) (date-accepted (t .year) (pos (t .month)) (pos (t .day)) v .year))
 
 -- a date whose offset is answered is valid
 module _ (rows : List Row) (n : ℤ) where

@@ -1,15 +1,13 @@
 -- UTC to TAI and UTC to UT1 with the rule of the offset that they read. Written from document 02, item 5: each passes on the rule of the calendar's date at 0h, UTC to TAI
 -- that of the date of its larger and smaller part, UTC to UT1 that of (jd1, jd2), where its offset is read. Assumes nothing.
 use mathlib.Core.List.{List}
-use lib.IntN.{pos}
 use lib.Ieee.{Float}
 use Rattle.refusals.specs.Outcome.{Outcome, answer, refusal, onward}
-use Rattle.calendar.specs.declared.CalendarDate.{CalendarDate}
 use Rattle.julian.specs.declared.JulianDate.{JulianDate}
 use Rattle.julian.specs.Calendar.{julianToCalendar}
 use Rattle.tai_utc.specs.declared.Rule.{Rule}
 use Rattle.tai_utc.specs.Table.{Row}
-use Rattle.tai_utc.specs.Rule.{ruleAt}
+unfoldable pub use Rattle.tai_utc.specs.Rule.{ruleOn}
 use Rattle.utc_scales.specs.declared.utc_tai.TaiByRule.{TaiByRule}
 use Rattle.utc_scales.specs.declared.utc_tai.TaiByRule.the-variants as Tai
 use Rattle.utc_scales.specs.declared.utc_ut1.Ut1ByRule.{Ut1ByRule}
@@ -18,10 +16,6 @@ use Rattle.utc_scales.specs.LargerPart.{keptParts}
 use Rattle.utc_scales.specs.Dates.{offsetOfDate}
 use Rattle.utc_scales.specs.UtcTai.{utcToTai}
 use Rattle.utc_scales.specs.UtcUt1.{utcToUt1}
-
--- the rule of a calendar date
-unfoldable pub ruleOn : List Row → CalendarDate → Rule
-ruleOn rows t = ruleAt rows (t .year) (pos (t .month))
 
 -- the rule of the day of a Julian date
 unfoldable pub ruleOfDate : List Row → Float → Float → Outcome Rule

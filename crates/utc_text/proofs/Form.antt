@@ -11,7 +11,7 @@ use borrow.Author.Tests.{ne-eqb}
 use Rattle.calendar.specs.declared.CalendarDate.{CalendarDate}
 use Rattle.time_of_day.specs.declared.TimeOfDay.{TimeOfDay}
 use Rattle.utc_text.specs.Text.{last, two, three, four, five, six, seven, afterYear, yearText, utcText}
-use Rattle.utc_text.specs.ReadBack.{part}
+use Rattle.utc_text.specs.ReadBack.{fromEnd}
 use Rattle.utc_text.specs.WellFormed.{AllDigits, Digits, unsigned, RestFormed, WellFormed}
 use Rattle.utc_text.proofs.ReadBack.{part-of, front-of}
 
@@ -69,7 +69,7 @@ module _ (y : List ℕ) (d : CalendarDate) (u : TimeOfDay) where
   abbrev t : List ℕ
   t = afterYear d u
 
-  pair : (k : ℕ) → k ≤ 19 → (n : ℕ) → take 2 (drop (19 - k) t) ≡ two n → Digits 2 (part k 2 (y ++ t))
+  pair : (k : ℕ) → k ≤ 19 → (n : ℕ) → take 2 (drop (19 - k) t) ≡ two n → Digits 2 (fromEnd k 2 (y ++ t))
   pair k h n e = subst (Digits 2) (sym (part-of y t k 2 h refl ∙ e)) (record { many = refl; all = two-digits n })
 
   pub rest-formed : RestFormed (y ++ afterYear d u)

@@ -73,9 +73,9 @@ unfolding textOutcome textWritten bufferAfter
 short t l h = record { says = simp (lt-leb _ _ h); holds = simp (lt-leb _ _ h) }
 
 -- after the copy of src, which is the text
-pub done : (src t l out : List ℕ) (r : ℕ) → src ≡ t → r ≡ length src → out ≡ take (length src) src ++ drop (length src) l → length t ≤ length l → TextPut t l (Written r) out
+pub put-done : (src t l out : List ℕ) (r : ℕ) → src ≡ t → r ≡ length src → out ≡ take (length src) src ++ drop (length src) l → length t ≤ length l → TextPut t l (Written r) out
 unfolding textOutcome textWritten bufferAfter
-done src t l out r e er eo h = record {
+put-done src t l out r e er eo h = record {
   says = ap answer (er ∙ ap length e) ∙ simp (le-leb _ _ h);
   holds = eo ∙ ap (λ (x : List ℕ). x ++ drop (length src) l) (take-length src) ∙ ap (λ (x : List ℕ). x ++ drop (length x) l) e ∙ simp (le-leb _ _ h);
 }

@@ -15,7 +15,7 @@ use Rattle.calendar.specs.declared.CalendarDate.{CalendarDate}
 use Rattle.time_of_day.specs.declared.TimeOfDay.{TimeOfDay}
 use Rattle.time_of_day.specs.ExactTime.{timeMs}
 use Rattle.utc_text.specs.Text.{last, two, three, four, five, six, seven, afterYear, yearText, utcText}
-use Rattle.utc_text.specs.ReadBack.{value, number, signedNumber, part, readYear, readMonth, readDay, readHour, readMinute, readSecond, readMilli, readMs, ReadsAs, Writable}
+use Rattle.utc_text.specs.ReadBack.{value, number, signedNumber, fromEnd, readYear, readMonth, readDay, readHour, readMinute, readSecond, readMilli, readMs, ReadsAs, Writable}
 use Rattle.utc_text.specs.Layout.{skipped}
 use Rattle.utc_text.proofs.Laws.{year-is, wide-length}
 
@@ -89,7 +89,7 @@ year-read (pos n) l h = let k : n ≤ 2733194 = ltb-false 2733194 n h in after n
 year-read (negsuc n) l h = let k : n ≤ 4899 = ltb-false 4899 n l in before n (omega arith) (ltb (suc n) 1000) (ltb→lt (suc n) 1000)
 
 -- ---- the places, counted from the end, whatever the year's width
-pub part-of : (y t : List ℕ) (k n : ℕ) → k ≤ 19 → length t ≡ 19 → part k n (y ++ t) ≡ take n (drop (19 - k) t)
+pub part-of : (y t : List ℕ) (k n : ℕ) → k ≤ 19 → length t ≡ 19 → fromEnd k n (y ++ t) ≡ take n (drop (19 - k) t)
 part-of y t k n h e = ap (take n) (ap (λ (m : ℕ). drop m (y ++ t)) (ap (λ (m : ℕ). m - k) (length-append y t) ∙ places (length y) (length t) e) ∙ drop-append-add y t (19 - k))
   where
     places : (a b : ℕ) → b ≡ 19 → a + b - k ≡ a + (19 - k)
@@ -142,9 +142,9 @@ few false n = four-ways (ltb n 10000) (ltb n 100000) (ltb n 1000000)
     four-ways false false true = omega arith
     four-ways false false false = omega arith
 
-pub text-length : (d : CalendarDate) (u : TimeOfDay) → (23 ≤ length (utcText d u)) × (length (utcText d u) ≤ 26)
+pub written-length : (d : CalendarDate) (u : TimeOfDay) → (23 ≤ length (utcText d u)) × (length (utcText d u) ≤ 26)
 unfolding utcText
-text-length d u =
+written-length d u =
     let n = natAbs (d .year) in
     let b = not (nonNeg (d .year)) in
     go (length (yearText (d .year) ++ afterYear d u)) (skipped b n)

@@ -18,8 +18,8 @@ signedNumber [] = pos 0
 signedNumber (c ∷ cs) = cond (eqb c 45) (negℤ (pos (number cs))) (cond (eqb c 43) (pos (number cs)) (pos (number (c ∷ cs))))
 
 -- the n bytes that start k bytes before the end of t
-abbrev pub part : ℕ → ℕ → List ℕ → List ℕ
-part k n t = take n (drop (length t - k) t)
+abbrev pub fromEnd : ℕ → ℕ → List ℕ → List ℕ
+fromEnd k n t = take n (drop (length t - k) t)
 
 -- the bytes before the last 19
 abbrev pub yearBytes : List ℕ → List ℕ
@@ -30,22 +30,22 @@ unfolding signedNumber
 readYear t = signedNumber (yearBytes t)
 
 unfoldable pub readMonth : List ℕ → ℕ
-readMonth t = number (part 18 2 t)
+readMonth t = number (fromEnd 18 2 t)
 
 unfoldable pub readDay : List ℕ → ℕ
-readDay t = number (part 15 2 t)
+readDay t = number (fromEnd 15 2 t)
 
 unfoldable pub readHour : List ℕ → ℕ
-readHour t = number (part 12 2 t)
+readHour t = number (fromEnd 12 2 t)
 
 unfoldable pub readMinute : List ℕ → ℕ
-readMinute t = number (part 9 2 t)
+readMinute t = number (fromEnd 9 2 t)
 
 unfoldable pub readSecond : List ℕ → ℕ
-readSecond t = number (part 6 2 t)
+readSecond t = number (fromEnd 6 2 t)
 
 unfoldable pub readMilli : List ℕ → ℕ
-readMilli t = number (part 3 3 t)
+readMilli t = number (fromEnd 3 3 t)
 
 -- the milliseconds that the digits say: document 01's 3,600 × hour + 60 × minute + second, times 1000
 unfoldable pub readMs : List ℕ → ℕ

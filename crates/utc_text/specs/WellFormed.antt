@@ -8,7 +8,7 @@ use lib.ListN.{length}
 use lib.Dec.{eqb}
 unfoldable pub use Rattle.digits.specs.Decimal.{AllDigits}
 pub use Rattle.digits.specs.Decimal.{Digits}
-use Rattle.utc_text.specs.ReadBack.{part, yearBytes}
+use Rattle.utc_text.specs.ReadBack.{fromEnd, yearBytes}
 
 -- what stands after a minus sign, 45, or the whole where there is none
 unfoldable pub unsigned : List ℕ → List ℕ
@@ -26,22 +26,22 @@ YearFilledToFour t = 4 < length (yearBytes t) → NoZeroFirst (unsigned (yearByt
 
 -- the byte c stands k bytes before the end of t
 abbrev pub StandsAt : ℕ → ℕ → List ℕ → Type 0
-StandsAt c k t = part k 1 t ≡ c ∷ []
+StandsAt c k t = fromEnd k 1 t ≡ c ∷ []
 
 -- what stands behind the year. 45 is '-', 84 is 'T', 58 is ':' and 46 is '.'
 pub record RestFormed (t : List ℕ) : Type 0 where
   pub after-year : StandsAt 45 19 t
-  pub month : Digits 2 (part 18 2 t)
+  pub month : Digits 2 (fromEnd 18 2 t)
   pub after-month : StandsAt 45 16 t
-  pub day : Digits 2 (part 15 2 t)
+  pub day : Digits 2 (fromEnd 15 2 t)
   pub after-day : StandsAt 84 13 t
-  pub hour : Digits 2 (part 12 2 t)
+  pub hour : Digits 2 (fromEnd 12 2 t)
   pub after-hour : StandsAt 58 10 t
-  pub minute : Digits 2 (part 9 2 t)
+  pub minute : Digits 2 (fromEnd 9 2 t)
   pub after-minute : StandsAt 58 7 t
-  pub second : Digits 2 (part 6 2 t)
+  pub second : Digits 2 (fromEnd 6 2 t)
   pub after-second : StandsAt 46 4 t
-  pub milli : Digits 3 (part 3 3 t)
+  pub milli : Digits 3 (fromEnd 3 3 t)
 
 -- a year of at least four characters, all digits but a minus sign
 pub record WellFormed (t : List ℕ) : Type 0 where

@@ -25,7 +25,7 @@ use Rattle.time_of_day.specs.Milliseconds as Millis
 use Rattle.time_of_day.specs.TimeShown.{timeOf, dayEnd, fromZero, shownAt, countBy, shownBy}
 use Rattle.utc_text.specs.Text.{yearText, utcText}
 use Rattle.utc_text.specs.Answer.{textWritten, bufferAfter}
-use Rattle.utc.specs.FromCalendar.{atTime, utcFromCalendar}
+use Rattle.utc.specs.FromCalendar.{midnightPlus, utcFromCalendar}
 use Rattle.utc.specs.UnixTime.{unixDay, secondOfUnixDay, secondWithNanos}
 use Rattle.utc.specs.IsoText.{nextMidnightTextBy, shownTextBy, dayTextBy}
 use Rattle.utc.specs.TextCall.{written, bufferHolds}
@@ -40,10 +40,10 @@ unfoldable pub computed : Call → Outcome Value
 unfolding answerBy callOutcome dividedDate onward
     calendarToJulian fromCalendar Julian.atTime roundedSum mjdOf mjdNumber civilCount validDate nextOf next daysInMonth leapSize lengths dayNumberAndFraction
     mjdZeroPoint secondsPerDay unixEpochJd nanosecondsPerSecond tcbRateLb tdbOffset1977 ttTaiOffset mjd1977Jan1
-    dayFraction timeInDay secondLimit atTime utcFromCalendar unixDay secondOfUnixDay secondWithNanos
+    dayFraction timeInDay secondLimit midnightPlus utcFromCalendar unixDay secondOfUnixDay secondWithNanos
     fixed monthNumber reached secondsOf startOf rateOf byRow offsetBy offsetAt inDay taiUtcOffset dayOffsets leapOf leapAtEndOfDay
     finiteJd finiteArg Scales.answerOf converted changed mapSmallerPart partsOf putBack firstIsLarger tcbToTdb since daysOf tdb0 ttDays jd1977 utcToUt1
-    shownBy countBy shownAt fromZero timeOf dayEnd Millis.wholeLeap Millis.millisOf Millis.secondsOf
+    shownBy countBy shownAt fromZero timeOf dayEnd Millis.wholeLeap Millis.millisOf Millis.fractionSeconds
     dayTextBy shownTextBy nextMidnightTextBy utcText yearText textWritten bufferAfter written bufferHolds blockOf u32At fourAt
     abs toWhole nearestInt round ofBits ofInt add sub mul div neg lt le eq toSigned
 computed c = literal (answerBy dividedDate c)

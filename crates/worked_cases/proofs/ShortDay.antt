@@ -29,7 +29,7 @@ use Rattle.time_of_day.specs.TimeShown.{timeOf, dayEnd, fromZero, shownAt, coun
 use Rattle.utc_text.specs.Text.{yearText, utcText}
 use Rattle.utc_scale_laws.specs.ShortTable.{shortTable, shortRows}
 use Rattle.utc_scale_laws.proofs.ShortDay.{short-taken, short-leap}
-use Rattle.utc.specs.FromCalendar.{atTime, utcFromCalendar}
+use Rattle.utc.specs.FromCalendar.{midnightPlus, utcFromCalendar}
 use Rattle.utc.specs.UnixTime.{unixDay, secondOfUnixDay, secondWithNanos, utcNew}
 use Rattle.utc.specs.IsoText.{nextMidnightTextBy, shownTextBy, dayTextBy, dayText, isoTextBy, isoText}
 use Rattle.utc.proofs.ShortDays.{short-day-refused, short-day-taken}
@@ -64,7 +64,7 @@ half-past-58 = went _ short-taken ∙ short-day-taken shortRows (pos 2029) 12 31
 -- ---- `UTC::new` of the day's 86,400th second, which it does not have
 pub unix-second-refused : onward (tableOf shortTable) (λ rows. utcNew rows (pos 1893455999) 0) ≡ refusal 4
 unfolding utcNew julianToCalendar dayNumberAndFraction dividedDate onward unixEpochJd nanosecondsPerSecond unixDay secondOfUnixDay secondWithNanos
-    calendarToJulian fromCalendar Julian.atTime utcFromCalendar atTime dayFraction timeInDay secondLimit validDate nextOf next daysInMonth leapSize lengths mjdOf mjdNumber civilCount leapAtEndOfDay leapOf dayOffsets taiUtcOffset inDay offsetAt offsetBy byRow secondsOf
+    calendarToJulian fromCalendar Julian.atTime utcFromCalendar midnightPlus dayFraction timeInDay secondLimit validDate nextOf next daysInMonth leapSize lengths mjdOf mjdNumber civilCount leapAtEndOfDay leapOf dayOffsets taiUtcOffset inDay offsetAt offsetBy byRow secondsOf
     fixed monthNumber reached abs toWhole nearestInt roundedSum round ofBits ofInt add sub mul div neg lt le eq toSigned
 unix-second-refused = went _ short-taken ∙ (λ i. at-second (λ n. divided-date n i))
   where
@@ -88,13 +88,13 @@ as-divided fraction = went _ short-taken ∙ (λ i. textOn (λ n. divided-date n
 pub text-58-5 : text (bits 0x3fef_fff3_dd12_7aef) ≡ answer (ascii "2029-12-31T23:59:58.500")
 unfolding dayNumberAndFraction dividedDate onward
     validDate nextOf next daysInMonth leapSize lengths mjdOf mjdNumber civilCount leapAtEndOfDay leapOf dayOffsets taiUtcOffset inDay offsetAt offsetBy byRow secondsOf fixed monthNumber reached
-    shownBy countBy shownAt fromZero timeOf dayEnd Millis.wholeLeap Millis.millisOf Millis.secondsOf dayTextBy shownTextBy nextMidnightTextBy utcText yearText secondsPerDay
+    shownBy countBy shownAt fromZero timeOf dayEnd Millis.wholeLeap Millis.millisOf Millis.fractionSeconds dayTextBy shownTextBy nextMidnightTextBy utcText yearText secondsPerDay
     abs toWhole nearestInt round ofBits ofInt add sub mul div neg lt le eq toSigned
 text-58-5 = as-divided (bits 0x3fef_fff3_dd12_7aef) ∙ refl
 
 pub text-at-end : text (bits 0x3fef_ffff_ffff_ffff) ≡ answer (ascii "2030-01-01T00:00:00.000")
 unfolding dayNumberAndFraction dividedDate onward
     validDate nextOf next daysInMonth leapSize lengths mjdOf mjdNumber civilCount leapAtEndOfDay leapOf dayOffsets taiUtcOffset inDay offsetAt offsetBy byRow secondsOf fixed monthNumber reached
-    shownBy countBy shownAt fromZero timeOf dayEnd Millis.wholeLeap Millis.millisOf Millis.secondsOf dayTextBy shownTextBy nextMidnightTextBy utcText yearText secondsPerDay
+    shownBy countBy shownAt fromZero timeOf dayEnd Millis.wholeLeap Millis.millisOf Millis.fractionSeconds dayTextBy shownTextBy nextMidnightTextBy utcText yearText secondsPerDay
     abs toWhole nearestInt round ofBits ofInt add sub mul div neg lt le eq toSigned
 text-at-end = as-divided (bits 0x3fef_ffff_ffff_ffff) ∙ refl

@@ -11,7 +11,7 @@ use Rattle.calendar.specs.Calendar.{leapYear}
 use Rattle.calendar.specs.Refusals.{validDate}
 use Rattle.calendar.specs.Answers.{mjdOutcome}
 use Rattle.calendar.proofs.Signs.{to-unsigned, read-back}
-use Rattle.calendar.proofs.Accepted.{Accepted, accepted, short, is-valid, is-refused}
+use Rattle.calendar.proofs.Accepted.{Accepted, date-accepted, short, is-valid, is-refused}
 use Rattle.calendar.proofs.Mjd.{mjd-refused, mjd-given, number-is}
 use Rattle.calendar.proofs.modified_julian_day.Statement.{statement}
 use Rattle.calendar.proofs.modified_julian_day.Tie as tie
@@ -25,7 +25,7 @@ module _ (c : tie.After-enum-told) where
       is-valid _ _ _ (s .fits .year) (s .fits .month) (s .fits .day) (v .validate-calendar-date .result) (v .validate-calendar-date .ensures) (c .enum-told .given .1)
 
   ok : Accepted (c .before .before .before .args .year) (c .before .before .before .args .month) (c .before .before .before .args .day)
-  ok = accepted _ _ _ valid
+  ok = date-accepted _ _ _ valid
 
 validate-calendar-date-requires : tie.Need-validate-calendar-date-requires
 validate-calendar-date-requires c κs = search needs

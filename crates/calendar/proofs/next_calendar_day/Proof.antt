@@ -13,8 +13,8 @@ use Rattle.calendar.specs.Calendar.{date, monthLength}
 use Rattle.calendar.specs.Refusals.{validDate}
 use Rattle.calendar.specs.Answers.{nextOutcome}
 use Rattle.calendar.proofs.Signs.{to-unsigned, read-back, lt-right}
-use Rattle.calendar.proofs.Accepted.{Accepted, accepted, month-days, is-valid, is-refused, read-two}
-use Rattle.calendar.proofs.NextDates.{refused, next-day, next-month, next-year, no-next, year-fits}
+use Rattle.calendar.proofs.Accepted.{Accepted, date-accepted, month-days, is-valid, is-refused, read-two}
+use Rattle.calendar.proofs.NextDates.{refused-next, next-day, next-month, next-year, no-next, year-fits}
 use Rattle.calendar.proofs.next_calendar_day.Statement.{statement}
 use Rattle.calendar.proofs.next_calendar_day.Tie as tie
 
@@ -27,7 +27,7 @@ module _ (c : tie.After-enum-told) where
       is-valid _ _ _ (s .fits .year) (s .fits .month) (s .fits .day) (v .validate-calendar-date .result) (v .validate-calendar-date .ensures) (c .enum-told .given .1)
 
   ok : Accepted (c .before .before .before .args .year) (c .before .before .before .args .month) (c .before .before .before .args .day)
-  ok = accepted _ _ _ valid
+  ok = date-accepted _ _ _ valid
 
 -- the last day of the month, as it was computed
 module _ (c : tie.After-days-in-month) where
@@ -66,7 +66,7 @@ returns c =
     let v = c .before .before .before in
     let s = v .before in
     sym
-    (refused _ _ _ _
+    (refused-next _ _ _ _
     (is-refused _ _ _ (s .fits .year) (s .fits .month) (s .fits .day) (v .validate-calendar-date .result) (v .validate-calendar-date .ensures) _ (c .before .number .given .1)))
 
 enum-told : tie.Need-enum-told

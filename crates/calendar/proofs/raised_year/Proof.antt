@@ -6,12 +6,12 @@ use lib.IntN.{ℤ, pos, natAbs, _+ℤ_}
 use mir.Syntax.{w32, w64}
 use mir.Val.{SFits, toZ, ofZ}
 use mir.Facts.{toZ-ofZ, sfits-widen}
-use Rattle.calendar.proofs.Signs.{Raised, raised, at-most, sum-fits, sum-is, cast-fits}
+use Rattle.calendar.proofs.Signs.{Raised, raised, at-most-i32, sum-fits, sum-is, cast-fits}
 use Rattle.calendar.proofs.raised_year.Statement.{statement}
 use Rattle.calendar.proofs.raised_year.Tie as tie
 
 up : (c : tie.Start) → Raised (c .args .year) 4798 4800 2147483647
-up c = raised (c .args .year) 4798 4800 2147483647 (omega arith) (c .pre) (at-most (c .args .year) (c .fits .year))
+up c = raised (c .args .year) 4798 4800 2147483647 (omega arith) (c .pre) (at-most-i32 (c .args .year) (c .fits .year))
 
 small : (c : tie.Start) → up c .r < 2 ^ 63
 small c = omega (arith, up c .high)

@@ -6,7 +6,7 @@ use lib.IntN.{natAbs}
 use mir.Syntax.{w32}
 use mir.Val.{SFits, toZ, ofZ}
 use Rattle.calendar.proofs.Signs.{to-unsigned, read-back}
-use Rattle.calendar.proofs.Accepted.{Accepted, accepted}
+use Rattle.calendar.proofs.Accepted.{Accepted, date-accepted}
 use Rattle.tai_utc.proofs.Month.{year-small, negative, natural, counted}
 use Rattle.offset_walk.specs.declared.Triple.{Triple}
 use Rattle.offset_walk.proofs.month_of.Statement.{statement}
@@ -29,7 +29,7 @@ module _ (c : tie.After-struct-told3) where
   month-fits = record { sfits = c .struct-told3 .given .1 .0 .1 }
 
   good : Accepted (s .year) (s .month) (s .day)
-  good = accepted (s .year) (s .month) (s .day) (c .before .before .before .before .before .before .before .pre)
+  good = date-accepted (s .year) (s .month) (s .day) (c .before .before .before .before .before .before .before .pre)
 
   month-read : natAbs (toZ w32 (ofZ w32 (s .month))) ≡ natAbs (s .month)
   month-read = read-back (s .month) month-fits

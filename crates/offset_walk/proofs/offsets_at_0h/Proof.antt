@@ -5,7 +5,7 @@ use mathlib.Core.Path.{_≡_, refl, sym, ap, _∙_}
 use lib.Dec.{eqb}
 use lib.ListN.{length}
 use Rattle.tai_utc.specs.Lent.{rowsOf}
-use Rattle.offset_walk.specs.Walk.{offsetAt0h}
+use Rattle.offset_walk.specs.Walk.{tripleOffset}
 use Rattle.offset_walk.specs.Lists.{datesFrom, tripleAt}
 use Rattle.offset_walk.specs.Call.{asFloats}
 use Rattle.offset_walk.proofs.Goods.{all-good, how-many}
@@ -45,7 +45,7 @@ returns-2 c =
     let s = r .before .before .args in
     let l = s .dates .now in
     walked-call (s .table) (eqb (length l % 3) 0) (datesFrom (tripleAt l) 0 (length l / 3)) (length (s .out .now)) asFloats (s .out .now) (r .refused-by .result) (r .refused-by .ensures) (i .if1 .left)
-    (w .walk-all .result) _ (length l / 3) (w .walk-all .ensures .0) (w .walk-all .ensures .1) (float-length (offsetAt0h (rowsOf (s .table))) (tripleAt l) (length l / 3))
+    (w .walk-all .result) _ (length l / 3) (w .walk-all .ensures .0) (w .walk-all .ensures .1) (float-length (tripleOffset (rowsOf (s .table))) (tripleAt l) (length l / 3))
 
 pub offsets-at-0h-spec : {M : Type 1} → statement M
 offsets-at-0h-spec =

@@ -13,7 +13,7 @@ use Rattle.tai_utc.specs.Forward.{byTerms}
 use Rattle.offset_walk.specs.declared.Triple.{Triple}
 use Rattle.offset_walk.specs.declared.Walk.{Walk}
 use Rattle.offset_walk.specs.Judging.{validTriple}
-use Rattle.offset_walk.specs.Walk.{monthIn, offsetAt0h}
+use Rattle.offset_walk.specs.Walk.{monthIn, tripleOffset}
 use Rattle.offset_walk.specs.Lists.{tripleAt}
 use Rattle.offset_walk.specs.Asked.{Stepped}
 use Rattle.offset_walk.proofs.Pacing.{Pacing, pacing-starts, stays-there, pacing-goes, offset-is, pacing-ends}
@@ -25,7 +25,7 @@ use Rattle.offset_walk.proofs.walk_all.Tie as tie
 
 abbrev Inv-loop : tie.InvT-loop
 Inv-loop dates n table out₀ w₀ i₀ out w i =
-    Pacing (rowsOf table) (tripleAt dates) n i w × Putting (wholeF (offsetAt0h (rowsOf table)) (tripleAt dates) n out₀) (restF (offsetAt0h (rowsOf table)) (tripleAt dates) n out₀ i) out₀ out i
+    Pacing (rowsOf table) (tripleAt dates) n i w × Putting (wholeF (tripleOffset (rowsOf table)) (tripleAt dates) n out₀) (restF (tripleOffset (rowsOf table)) (tripleAt dates) n out₀ i) out₀ out i
 
 abbrev μ-loop : tie.MeasureT-loop
 μ-loop dates n table out₀ w₀ i₀ out w i = n - i
@@ -36,7 +36,7 @@ at-start-requires c κs = search needs
 loop-holds : tie.Need-loop-holds Inv-loop μ-loop
 loop-holds c =
     let s = c .before .before .args in
-    (pacing-starts (rowsOf (s .table)) (tripleAt (s .dates .now)) (s .n) (c .at-start .result) (c .at-start .ensures), float-starts (offsetAt0h (rowsOf (s .table))) (tripleAt (s .dates .now)) (s .n) (s .out .now))
+    (pacing-starts (rowsOf (s .table)) (tripleAt (s .dates .now)) (s .n) (c .at-start .result) (c .at-start .ensures), float-starts (tripleOffset (rowsOf (s .table))) (tripleAt (s .dates .now)) (s .n) (s .out .now))
 
 triple-at-requires : tie.Need-triple-at-requires Inv-loop μ-loop
 triple-at-requires c κs = omega (arith, c .loop-test .taken, c .before .before .before .before .pre .2)
@@ -112,7 +112,7 @@ loop-again c =
     ∙ ap (λ (y : Triple). byTerms (j .if1 .w .terms) (ofInt binary64 (mjdNumber (y .year) (y .month) (y .day))) nought) (m .before .triple-at .ensures)
     ∙ offset-is rows f (s .n) (l .loop .i) (m .month-of .result) (l .loop .w) (j .if1 .w) p h (month-is m) (stepped j) (b .pre .1) in (
       pacing-goes rows f (s .n) (l .loop .i) (m .month-of .result) (l .loop .w) (j .if1 .w) p h (month-is m) (stepped j) (b .pre .0) (c .before .next-counted .result) (c .before .next-counted .ensures),
-      float-goes (offsetAt0h rows) f (s .n) (s .out .now) (l .loop .i) (l .loop .out) (c .offset-in .result) h (l .loop .inv .1) x (omega (arith, l .loop .inv .1 .long, h, b .pre .3)),
+      float-goes (tripleOffset rows) f (s .n) (s .out .now) (l .loop .i) (l .loop .out) (c .offset-in .result) h (l .loop .inv .1) x (omega (arith, l .loop .inv .1 .long, h, b .pre .3)),
     )
 
 same-length : tie.Need-same-length Inv-loop μ-loop
@@ -124,7 +124,7 @@ returns c =
     let s = l .before .before .before .args in
     let rows = rowsOf (s .table) in
     let f = tripleAt (s .dates .now) in
-    (pacing-ends rows f (s .n) (l .loop .i) (l .loop .w) (l .loop .inv .0) (c .loop-test .left), float-ends (offsetAt0h rows) f (s .n) (s .out .now) (l .loop .i) (l .loop .out) (l .loop .inv .0 .within) (c .loop-test .left) (l .loop .inv .1))
+    (pacing-ends rows f (s .n) (l .loop .i) (l .loop .w) (l .loop .inv .0) (c .loop-test .left), float-ends (tripleOffset rows) f (s .n) (s .out .now) (l .loop .i) (l .loop .out) (l .loop .inv .0 .within) (c .loop-test .left) (l .loop .inv .1))
 
 pub walk-all-spec : {M : Type 1} → statement M
 walk-all-spec =

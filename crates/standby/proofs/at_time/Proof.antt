@@ -9,28 +9,28 @@ use mir.Facts.{toZ-ofZ}
 use borrow.Author.Needs.{needs}
 use Rattle.refusals.specs.Outcome.{answer}
 use Rattle.calendar.specs.declared.CalendarDate.{CalendarDate}
-use Rattle.calendar.proofs.Accepted.{accepted}
+use Rattle.calendar.proofs.Accepted.{date-accepted}
 use Rattle.calendar.proofs.NextDates.{next-is}
 use Rattle.tai_utc.specs.declared.LentRows.{LentRows}
 use Rattle.tai_utc.specs.Lent.{rowsOf}
 use Rattle.tai_utc.specs.WholeSeconds.{wholeSeconds}
 use Rattle.standby.specs.declared.UtcTime.{UtcTime}
 use Rattle.standby.specs.declared.Instant.{Instant}
-use Rattle.standby.specs.Times.{inItsDay, lastMinute, offsetOf, taiMs}
+use Rattle.standby.specs.Times.{inItsDay, lastMinute, offsetOnDate, taiMs}
 use Rattle.standby.specs.Answers.{instantOutcome}
-use Rattle.standby.specs.Asked.{Dated, Small}
+use Rattle.standby.specs.Asked.{Dated, SmallInstant}
 use Rattle.standby.proofs.Times.{same-instant, never-at, few-millis, offset-small, time-fits, time-refused}
 use Rattle.standby.proofs.at_time.Statement.{statement}
 use Rattle.standby.proofs.at_time.Tie as tie
 
-offset-limit : (table : LentRows) (t : UtcTime) (day : ℕ) (next : CalendarDate) → Dated table t day next → offsetOf (rowsOf table) t ≤ 53
+offset-limit : (table : LentRows) (t : UtcTime) (day : ℕ) (next : CalendarDate) → Dated table t day next → offsetOnDate (rowsOf table) t ≤ 53
 offset-limit table t day next d =
-    let a = accepted (t .year) (pos (t .month)) (pos (t .day)) (next-is (t .year) (pos (t .month)) (pos (t .day)) next (d .has-next) .0) in
+    let a = date-accepted (t .year) (pos (t .month)) (pos (t .day)) (next-is (t .year) (pos (t .month)) (pos (t .day)) next (d .has-next) .0) in
     offset-small table (rowsOf table) (d .taken) (t .year) (t .month) (d .from-1972) (a .m-low) (a .m-high) .1
 
 -- TAI-UTC, as it was looked up
 module _ (c : tie.After-whole-seconds-by-rows) where
-  offset-is : let s = c .before .before .before in c .whole-seconds-by-rows .result ≡ offsetOf (rowsOf (s .args .table)) (s .args .t)
+  offset-is : let s = c .before .before .before in c .whole-seconds-by-rows .result ≡ offsetOnDate (rowsOf (s .args .table)) (s .args .t)
   offset-is =
       let s = c .before .before .before in
       c .whole-seconds-by-rows .ensures .0
@@ -89,7 +89,7 @@ returns c =
       says =
           (λ j. answer (1000 * (86400 * (s .pre .day-is j) + (c .time-seconds .ensures .0 j) + (offset-is o j)) + a .t .millis))
           ∙ time-fits (rowsOf (a .table)) (a .t) (a .next) e;
-      small = λ x p. subst (λ (y : Instant). Small y) (same-instant p)
+      small = λ x p. subst (λ (y : Instant). SmallInstant y) (same-instant p)
           (record { few-seconds = omega (arith, s .pre .few-days, c .time-seconds .ensures .1, offset-few o); few-millis = few-millis (a .t) (lastMinute (rowsOf (a .table)) (a .t) (a .next)) e });
     }
 

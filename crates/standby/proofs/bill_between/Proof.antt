@@ -7,7 +7,7 @@ use borrow.Author.Needs.{needs}
 use borrow.Author.Tests.{ltb-true, ltb-false}
 use Rattle.refusals.specs.Outcome.{answer}
 use Rattle.standby.specs.Bills.{overLimit, shares, quartersBetween}
-use Rattle.standby.specs.Answers.{millisOf, billOutcome}
+use Rattle.standby.specs.Answers.{instantMs, billOutcome}
 use Rattle.standby.proofs.Numbers.{within}
 use Rattle.standby.proofs.Ladder.{backward, over, no-line, billed}
 use Rattle.standby.proofs.bill_between.Statement.{statement}
@@ -15,11 +15,11 @@ use Rattle.standby.proofs.bill_between.Tie as tie
 
 -- the end is not before the start
 module _ (c : tie.Else1) where
-  in-order : let s = c .before .before in millisOf (s .args .start) ≤ millisOf (s .args .end)
+  in-order : let s = c .before .before in instantMs (s .args .start) ≤ instantMs (s .args .end)
   in-order =
       let r = c .before in
       let s = r .before in
-      ltb-false (millisOf (s .args .end)) (millisOf (s .args .start)) (sym (r .is-before .ensures) ∙ c .if1 .left)
+      ltb-false (instantMs (s .args .end)) (instantMs (s .args .start)) (sym (r .is-before .ensures) ∙ c .if1 .left)
 
 -- the quarters, and what their limit test says
 module _ (c : tie.After-over-limit) where
@@ -27,7 +27,7 @@ module _ (c : tie.After-over-limit) where
   s₁ = c .before .before .before .before
 
   limits : (v : Bool) → c .over-limit .result ≡ v
-      → overLimit (quartersBetween (millisOf (s₁ .args .start)) (millisOf (s₁ .args .end))) (s₁ .args .rate) (s₁ .args .first-metres) (s₁ .args .second-metres) ≡ v
+      → overLimit (quartersBetween (instantMs (s₁ .args .start)) (instantMs (s₁ .args .end))) (s₁ .args .rate) (s₁ .args .first-metres) (s₁ .args .second-metres) ≡ v
   limits v p =
       ap (λ (q : ℕ). overLimit q (s₁ .args .rate) (s₁ .args .first-metres) (s₁ .args .second-metres)) (sym (c .before .quarters-between .ensures))
       ∙ sym (c .over-limit .ensures)
@@ -50,8 +50,8 @@ unfolding billOutcome
 returns c =
     let r = c .before in
     let a = r .before .args in
-    backward (millisOf (a .start)) (millisOf (a .end)) (a .rate) (a .first-metres) (a .second-metres)
-    (ltb-true (millisOf (a .end)) (millisOf (a .start)) (sym (r .is-before .ensures) ∙ c .if1 .taken))
+    backward (instantMs (a .start)) (instantMs (a .end)) (a .rate) (a .first-metres) (a .second-metres)
+    (ltb-true (instantMs (a .end)) (instantMs (a .start)) (sym (r .is-before .ensures) ∙ c .if1 .taken))
 
 quarters-between-requires : tie.Need-quarters-between-requires
 quarters-between-requires c κs = let s = c .before .before in record { small-start = s .pre .0; small-end = s .pre .1; order = in-order c }
@@ -65,7 +65,7 @@ returns-2 c =
     let l = c .before in
     let e = l .before .before in
     let a = e .before .before .args in
-    over (millisOf (a .start)) (millisOf (a .end)) (a .rate) (a .first-metres) (a .second-metres) (in-order e) (limits l true (c .if2 .taken))
+    over (instantMs (a .start)) (instantMs (a .end)) (a .rate) (a .first-metres) (a .second-metres) (in-order e) (limits l true (c .if2 .taken))
 
 add-if3 : tie.Need-add-if3
 add-if3 c = let w = all-within c in record { fits = omega (arith, w .2, w .3) }
@@ -77,7 +77,7 @@ returns-3 c =
     let l = n .before in
     let e = l .before .before in
     let a = e .before .before .args in
-    no-line (millisOf (a .start)) (millisOf (a .end)) (a .rate) (a .first-metres) (a .second-metres) (in-order e) (limits l false (n .if2 .left)) (c .if3 .taken)
+    no-line (instantMs (a .start)) (instantMs (a .end)) (a .rate) (a .first-metres) (a .second-metres) (in-order e) (limits l false (n .if2 .left)) (c .if3 .taken)
 
 shared-requires : tie.Need-shared-requires
 shared-requires c κs =
@@ -100,7 +100,7 @@ returns-4 c =
     ap answer
     (c .shared .ensures
     ∙ ap (λ (k : ℕ). shares k (k * a .rate) (a .first-metres) (a .second-metres)) (q .quarters-between .ensures))
-    ∙ billed (millisOf (a .start)) (millisOf (a .end)) (a .rate) (a .first-metres) (a .second-metres) (in-order e) (limits l false (n .if2 .left)) (t .if3 .left)
+    ∙ billed (instantMs (a .start)) (instantMs (a .end)) (a .rate) (a .first-metres) (a .second-metres) (in-order e) (limits l false (n .if2 .left)) (t .if3 .left)
 
 pub bill-between-spec : {M : Type 1} → statement M
 bill-between-spec =

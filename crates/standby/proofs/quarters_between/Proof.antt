@@ -2,12 +2,12 @@
 use Prim.Native.Nat.{_+_, _-_, _*_, _≤_}
 use native.Mathlib.Omega.{arith}
 use Rattle.standby.specs.declared.Instant.{Instant}
-use Rattle.standby.specs.Asked.{InOrder}
+use Rattle.standby.specs.Asked.{StartFirst}
 use Rattle.standby.proofs.Numbers.{more-millis, fewer-millis}
 use Rattle.standby.proofs.quarters_between.Statement.{statement}
 use Rattle.standby.proofs.quarters_between.Tie as tie
 
-in-seconds : (s e : Instant) → InOrder s e → s .seconds ≤ e .seconds
+in-seconds : (s e : Instant) → StartFirst s e → s .seconds ≤ e .seconds
 in-seconds s e o = omega (arith, o .order, o .small-start .few-millis, o .small-end .few-millis)
 
 sub-seconds : tie.Need-sub-seconds

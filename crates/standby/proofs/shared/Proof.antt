@@ -2,7 +2,7 @@
 use Prim.Native.Nat.{ℕ, _+_, _*_, _≤_}
 use native.Mathlib.Omega.{arith}
 use borrow.Author.Needs.{needs}
-use Rattle.standby.specs.Bills.{part}
+use Rattle.standby.specs.Bills.{shareDown}
 use Rattle.standby.specs.Asked.{InLimits}
 use Rattle.standby.proofs.Shares.{small-product, parts-at-most, to-second, to-first}
 use Rattle.standby.proofs.shared.Statement.{statement}
@@ -18,7 +18,7 @@ module _ (q rate a b : ℕ) (l : InLimits q rate a b) where
   small-second : q * rate * b ≤ 1000000000000000000
   small-second = small-product (q * rate) b 1000000000000 1000000 small-total (l .short-second)
 
-  all-at-most : part (q * rate) a (a + b) + part (q * rate) b (a + b) ≤ q * rate
+  all-at-most : shareDown (q * rate) a (a + b) + shareDown (q * rate) b (a + b) ≤ q * rate
   all-at-most = parts-at-most (q * rate) a b (l .some-line)
 
 mul-total : tie.Need-mul-total

@@ -11,7 +11,7 @@ use Rattle.tai_utc.proofs.TablesTaken.{turned-away, taken}
 use Rattle.standby.specs.declared.UtcTime.{UtcTime}
 use Rattle.standby.specs.Times.{instant}
 use Rattle.standby.specs.Bills.{billBetween, standbyBill}
-use Rattle.standby.specs.Answers.{millisOf, instantOutcome, billOutcome}
+use Rattle.standby.specs.Answers.{instantMs, instantOutcome, billOutcome}
 use Rattle.standby.proofs.standby_bill.Statement.{statement}
 use Rattle.standby.proofs.standby_bill.Tie as tie
 
@@ -34,12 +34,12 @@ module _ (rows : List Row) (s e : UtcTime) (rate a b : ℕ) where
 
 -- the start, and the end
 module _ (c : tie.After-known-told2) where
-  start-at : let a = c .before .before .before .before .before .before .args in instant (rowsOf (a .table)) (a .start) ≡ answer (millisOf (c .before .s .given .0 .0))
+  start-at : let a = c .before .before .before .before .before .before .args in instant (rowsOf (a .table)) (a .start) ≡ answer (instantMs (c .before .s .given .0 .0))
   unfolding instantOutcome
   start-at = sym (c .before .before .before .instant-of .ensures .says) ∙ ap instantOutcome (c .before .s .given .1)
 
 module _ (c : tie.After-known-told4) where
-  end-at : let a = c .before .before .before .before .before .before .before .before .before .before .args in instant (rowsOf (a .table)) (a .end) ≡ answer (millisOf (c .before .e .given .0 .0))
+  end-at : let a = c .before .before .before .before .before .before .before .before .before .before .args in instant (rowsOf (a .table)) (a .end) ≡ answer (instantMs (c .before .e .given .0 .0))
   unfolding instantOutcome
   end-at = sym (c .before .before .before .instant-of2 .ensures .says) ∙ ap instantOutcome (c .before .e .given .1)
 
@@ -97,7 +97,7 @@ returns-3 c =
     let r = i .before in
     let a = r .before .args in
     let q = sym (w .instant-of2 .ensures .says) ∙ ap instantOutcome (c .before .number2 .given .1) in
-    end-refused (rowsOf (a .table)) (a .start) (a .end) (a .rate) (a .first-metres) (a .second-metres) (millisOf (k .before .s .given .0 .0)) (c .before .number2 .given .0 .0) (start-at k) q
+    end-refused (rowsOf (a .table)) (a .start) (a .end) (a .rate) (a .first-metres) (a .second-metres) (instantMs (k .before .s .given .0 .0)) (c .before .number2 .given .0 .0) (start-at k) q
     ∙ taken (a .table) (r .table-refusal .result) (r .table-refusal .ensures) (λ rows. standbyBill rows (a .start) (a .end) (a .rate) (a .first-metres) (a .second-metres)) (i .if1 .left)
 
 returns-4 : tie.Need-returns-4
@@ -109,7 +109,7 @@ returns-4 c =
     let r = i .before in
     let a = r .before .args in
     c .bill-between .ensures
-    ∙ both-given (rowsOf (a .table)) (a .start) (a .end) (a .rate) (a .first-metres) (a .second-metres) (millisOf (k .before .s .given .0 .0)) (millisOf (d .before .e .given .0 .0)) (start-at k) (end-at d)
+    ∙ both-given (rowsOf (a .table)) (a .start) (a .end) (a .rate) (a .first-metres) (a .second-metres) (instantMs (k .before .s .given .0 .0)) (instantMs (d .before .e .given .0 .0)) (start-at k) (end-at d)
     ∙ taken (a .table) (r .table-refusal .result) (r .table-refusal .ensures) (λ rows. standbyBill rows (a .start) (a .end) (a .rate) (a .first-metres) (a .second-metres)) (i .if1 .left)
 
 pub standby-bill-spec : {M : Type 1} → statement M

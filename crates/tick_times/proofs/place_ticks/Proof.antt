@@ -2,7 +2,7 @@
 use native.Mathlib.Omega.{arith}
 use mathlib.Core.Path.{refl, sym, _∙_}
 use lib.ListN.{length}
-use Rattle.tick_times.proofs.Ladder.{nothing-refused, passes-two, all-good}
+use Rattle.tick_times.proofs.Ladder.{ladder-passed, passes-two, all-good}
 use Rattle.tick_times.proofs.Calls.{refused-call, written-call}
 use borrow.Author.Needs.{needs}
 use Rattle.tick_times.proofs.place_ticks.Statement.{statement}
@@ -19,12 +19,12 @@ returns c =
 sub-k : tie.Need-sub-k
 sub-k c =
     let a = c .before .before .before .before .before .before .args in
-    omega (arith, passes-two (a .passes .now) (a .millis .now) (a .ticks .now) (length (a .out .now)) (nothing-refused (a .passes .now) (a .millis .now) (a .ticks .now) (length (a .out .now)) (sym (c .before .refused-by .ensures) ∙ c .if1 .left)))
+    omega (arith, passes-two (a .passes .now) (a .millis .now) (a .ticks .now) (length (a .out .now)) (ladder-passed (a .passes .now) (a .millis .now) (a .ticks .now) (length (a .out .now)) (sym (c .before .refused-by .ensures) ∙ c .if1 .left)))
 
 place-all-requires : tie.Need-place-all-requires
 place-all-requires c κs =
     let a = c .before .before .before .before .before .before .before .args in
-    let z = nothing-refused (a .passes .now) (a .millis .now) (a .ticks .now) (length (a .out .now)) (sym (c .before .before .refused-by .ensures) ∙ c .before .if1 .left) in
+    let z = ladder-passed (a .passes .now) (a .millis .now) (a .ticks .now) (length (a .out .now)) (sym (c .before .before .refused-by .ensures) ∙ c .before .if1 .left) in
     (all-good (a .passes .now) (a .millis .now) (a .ticks .now) (length (a .out .now)) z _ refl, omega (arith, z .fits))
 
 same-length : tie.Need-same-length

@@ -1,11 +1,11 @@
 -- `time_of_day::seconds` meets its contract: it is the definition. Assumes nothing.
 use mathlib.Core.Path.{refl}
-use Rattle.time_of_day.specs.Milliseconds.{secondsOf}
+use Rattle.time_of_day.specs.Milliseconds.{fractionSeconds}
 use Rattle.time_of_day.proofs.seconds.Statement.{statement}
 use Rattle.time_of_day.proofs.seconds.Tie as tie
 
 returns : tie.Need-returns
-unfolding secondsOf
+unfolding fractionSeconds
 returns c = refl
 
 pub seconds-spec : {M : Type 1} → statement M

@@ -4,7 +4,7 @@ use denote.Ref.{now}
 use native.Mathlib.Omega.{arith}
 use borrow.Author.Needs.{needs}
 use Rattle.utc_text.specs.Text.{four, afterYear}
-use Rattle.utc_text.proofs.Laws.{short, done, basic-source}
+use Rattle.utc_text.proofs.Laws.{short, put-done, basic-source}
 use Rattle.utc_text.proofs.put_basic.Statement.{statement}
 use Rattle.utc_text.proofs.put_basic.Tie as tie
 
@@ -38,7 +38,7 @@ returns-2 : tie.Need-returns-2
 returns-2 c =
     let b = c .before .before .before .before .before .before .before in
     let a = b .before .before .before .args in
-    done _ (four (a .year) ++ afterYear (a .date) (a .time)) (now (a .out)) _ _
+    put-done _ (four (a .year) ++ afterYear (a .date) (a .time)) (now (a .out)) _ _
     (basic-source (a .year) (a .date) (a .time) _ _ _ (b .before .fourth .ensures) (b .wide-bytes .ensures))
     (c .before .before .copy .ensures .0)
     (c .before .before .copy .ensures .1)

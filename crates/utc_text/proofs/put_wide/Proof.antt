@@ -5,7 +5,7 @@ use native.Mathlib.Omega.{arith}
 use borrow.Author.Needs.{needs}
 use Rattle.utc_text.specs.Text.{afterYear}
 use Rattle.utc_text.specs.Layout.{signed}
-use Rattle.utc_text.proofs.Laws.{short, done, source, wide-length}
+use Rattle.utc_text.proofs.Laws.{short, put-done, source, wide-length}
 use Rattle.utc_text.proofs.put_wide.Statement.{statement}
 use Rattle.utc_text.proofs.put_wide.Tie as tie
 
@@ -49,7 +49,7 @@ returns-2 : tie.Need-returns-2
 returns-2 c =
     let b = c .before .before .before .before .before .before .before in
     let a = b .before .before .before .before .before .args in
-    done _ (signed (a .negative) (a .size) ++ afterYear (a .date) (a .time)) (now (a .out)) _ _
+    put-done _ (signed (a .negative) (a .size) ++ afterYear (a .date) (a .time)) (now (a .out)) _ _
     (source (a .size) (a .date) (a .time) (a .negative) _ _ _ _
     (b .before .before .before .third .ensures) (b .before .before .fourth .ensures) (b .skipped .ensures .0) (b .before .wide-bytes .ensures))
     (c .before .before .copy .ensures .0)

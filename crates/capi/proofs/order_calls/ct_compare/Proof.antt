@@ -5,7 +5,7 @@ use lib.IntN.{pos}
 use Rattle.refusals.specs.Outcome.{Outcome, answer, refusal, onward}
 use Rattle.julian.specs.declared.JulianDate.{JulianDate}
 use Rattle.julian.specs.JulianDate.{julian}
-use Rattle.date_order.specs.Order.{Order, orderOutcome, compared}
+use Rattle.date_order.specs.Order.{Order, orderOutcome, comparison}
 use Rattle.c_answers.specs.Delivery.{code}
 use Rattle.c_answers.proofs.Deliveries.{code-back}
 use Rattle.capi.specs.OrderNumber.{orderNumber, numbered}
@@ -14,8 +14,8 @@ use Rattle.capi.proofs.order_calls.ct_compare.Statement.{statement}
 use Rattle.capi.proofs.order_calls.ct_compare.Tie as tie
 
 is : (c : tie.After-compare)
-    → orderOutcome (c .compare .result) ≡ compared (julian (c .before .before .before .args .jd1) (c .before .before .before .args .jd2)) (julian (c .before .before .before .args .other1) (c .before .before .before .args .other2))
-is c = let n = c .before in c .compare .ensures ∙ λ i. compared (n .before .new .ensures i) (n .new2 .ensures i)
+    → orderOutcome (c .compare .result) ≡ comparison (julian (c .before .before .before .args .jd1) (c .before .before .before .args .jd2)) (julian (c .before .before .before .args .other1) (c .before .before .before .args .other2))
+is c = let n = c .before in c .compare .ensures ∙ λ i. comparison (n .before .new .ensures i) (n .new2 .ensures i)
 
 told : {o : Outcome Order} (x : Order) → o ≡ answer x → pos (orderNumber x) ≡ code (numbered o)
 unfolding code numbered onward

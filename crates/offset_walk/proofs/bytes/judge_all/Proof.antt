@@ -2,7 +2,7 @@
 use Prim.Native.Nat.{_-_, _≤_}
 use native.Mathlib.Omega.{arith}
 use mathlib.Core.Path.{_≡_, sym, _∙_}
-use Rattle.offset_walk.specs.Judging.{judged, judgedAfter}
+use Rattle.offset_walk.specs.Judging.{judgedAll, judgedAfter}
 use Rattle.offset_walk.specs.Lists.{datesFrom, tripleIn}
 use Rattle.offset_walk.proofs.Judges.{firstDate, judging-starts, judging-stops, judging-goes, judging-ends}
 use borrow.Author.Needs.{needs}
@@ -10,7 +10,7 @@ use Rattle.offset_walk.proofs.bytes.judge_all.Statement.{statement}
 use Rattle.offset_walk.proofs.bytes.judge_all.Tie as tie
 
 abbrev Inv-loop : tie.InvT-loop
-Inv-loop dates n before₀ i₀ before i = (i ≤ n) × (judged (datesFrom (tripleIn dates) 0 n) ≡ judgedAfter before (datesFrom (tripleIn dates) i (n - i)))
+Inv-loop dates n before₀ i₀ before i = (i ≤ n) × (judgedAll (datesFrom (tripleIn dates) 0 n) ≡ judgedAfter before (datesFrom (tripleIn dates) i (n - i)))
 
 abbrev μ-loop : tie.MeasureT-loop
 μ-loop dates n before₀ i₀ before i = n - i

@@ -5,7 +5,7 @@ use mathlib.Core.Path.{_≡_, refl, sym, ap, _∙_}
 use lib.Dec.{eqb}
 use lib.ListN.{length}
 use Rattle.tai_utc.specs.Lent.{rowsOf}
-use Rattle.offset_walk.specs.Walk.{offsetAt0h}
+use Rattle.offset_walk.specs.Walk.{tripleOffset}
 use Rattle.offset_walk.specs.Lists.{datesFrom, tripleIn, inEights}
 use Rattle.offset_walk.proofs.Goods.{all-good, how-many}
 use Rattle.offset_walk.proofs.Eights.{eights-length}
@@ -44,7 +44,7 @@ returns-2 c =
     let s = r .before .before .before .args in
     let l = s .dates .now in
     walked-call (s .table) (eqb (length l % 12) 0) (datesFrom (tripleIn l) 0 (length l / 12)) (length (s .out .now) / 8) inEights (s .out .now) (r .refused-by .result) (r .refused-by .ensures) (i .if1 .left)
-    (w .walk-all .result) _ (8 * (length l / 12)) (w .walk-all .ensures .0) (w .walk-all .ensures .1) (eights-length (offsetAt0h (rowsOf (s .table))) (tripleIn l) (length l / 12))
+    (w .walk-all .result) _ (8 * (length l / 12)) (w .walk-all .ensures .0) (w .walk-all .ensures .1) (eights-length (tripleOffset (rowsOf (s .table))) (tripleIn l) (length l / 12))
 
 pub offsets-at-0h-bytes-spec : {M : Type 1} → statement M
 offsets-at-0h-bytes-spec =

@@ -12,7 +12,7 @@ use Rattle.tai_utc.specs.Forward.{byTerms}
 use Rattle.offset_walk.specs.declared.Triple.{Triple}
 use Rattle.offset_walk.specs.declared.Walk.{Walk}
 use Rattle.offset_walk.specs.Judging.{validTriple}
-use Rattle.offset_walk.specs.Walk.{monthIn, offsetAt0h}
+use Rattle.offset_walk.specs.Walk.{monthIn, tripleOffset}
 use Rattle.offset_walk.specs.Lists.{tripleIn}
 use Rattle.offset_walk.specs.Asked.{Stepped}
 use Rattle.offset_walk.proofs.Pacing.{Pacing, pacing-starts, stays-there, pacing-goes, offset-is, pacing-ends}
@@ -24,7 +24,7 @@ use Rattle.offset_walk.proofs.bytes.walk_all.Tie as tie
 
 abbrev Inv-loop : tie.InvT-loop
 Inv-loop dates n table out₀ w₀ i₀ out w i =
-    Pacing (rowsOf table) (tripleIn dates) n i w × Putting (wholeE (offsetAt0h (rowsOf table)) (tripleIn dates) n out₀) (restE (offsetAt0h (rowsOf table)) (tripleIn dates) n out₀ i) out₀ out (8 * i)
+    Pacing (rowsOf table) (tripleIn dates) n i w × Putting (wholeE (tripleOffset (rowsOf table)) (tripleIn dates) n out₀) (restE (tripleOffset (rowsOf table)) (tripleIn dates) n out₀ i) out₀ out (8 * i)
 
 abbrev μ-loop : tie.MeasureT-loop
 μ-loop dates n table out₀ w₀ i₀ out w i = n - i
@@ -35,7 +35,7 @@ at-start-requires c κs = search needs
 loop-holds : tie.Need-loop-holds Inv-loop μ-loop
 loop-holds c =
     let s = c .before .before .before .args in
-    (pacing-starts (rowsOf (s .table)) (tripleIn (s .dates .now)) (s .n) (c .at-start .result) (c .at-start .ensures), eights-start (offsetAt0h (rowsOf (s .table))) (tripleIn (s .dates .now)) (s .n) (s .out .now))
+    (pacing-starts (rowsOf (s .table)) (tripleIn (s .dates .now)) (s .n) (c .at-start .result) (c .at-start .ensures), eights-start (tripleOffset (rowsOf (s .table))) (tripleIn (s .dates .now)) (s .n) (s .out .now))
 
 triple-in-requires : tie.Need-triple-in-requires Inv-loop μ-loop
 triple-in-requires c κs = omega (arith, c .loop-test .taken, c .before .before .before .before .before .pre .2)
@@ -114,7 +114,7 @@ loop-again c =
     ∙ ap (λ (y : Triple). byTerms (j .if1 .w .terms) (ofInt binary64 (mjdNumber (y .year) (y .month) (y .day))) nought) (m .before .triple-in .ensures)
     ∙ offset-is rows f (s .n) (l .loop .i) (m .month-of .result) (l .loop .w) (j .if1 .w) p h (month-is m) (stepped j) (b .pre .1) in (
       pacing-goes rows f (s .n) (l .loop .i) (m .month-of .result) (l .loop .w) (j .if1 .w) p h (month-is m) (stepped j) (b .pre .0) (o .before .next-counted .result) (o .before .next-counted .ensures),
-      eights-go (offsetAt0h rows) f (s .n) (s .out .now) (l .loop .i) (l .loop .out) _ (o .offset-in .result) h (l .loop .inv .1) x (u .put-offset .ensures) (omega (arith, l .loop .inv .1 .long, h, b .pre .3)),
+      eights-go (tripleOffset rows) f (s .n) (s .out .now) (l .loop .i) (l .loop .out) _ (o .offset-in .result) h (l .loop .inv .1) x (u .put-offset .ensures) (omega (arith, l .loop .inv .1 .long, h, b .pre .3)),
     )
 
 same-length : tie.Need-same-length Inv-loop μ-loop
@@ -126,7 +126,7 @@ returns c =
     let s = l .before .before .before .before .args in
     let rows = rowsOf (s .table) in
     let f = tripleIn (s .dates .now) in
-    (pacing-ends rows f (s .n) (l .loop .i) (l .loop .w) (l .loop .inv .0) (c .loop-test .left), eights-end (offsetAt0h rows) f (s .n) (s .out .now) (l .loop .i) (l .loop .out) (l .loop .inv .0 .within) (c .loop-test .left) (l .loop .inv .1))
+    (pacing-ends rows f (s .n) (l .loop .i) (l .loop .w) (l .loop .inv .0) (c .loop-test .left), eights-end (tripleOffset rows) f (s .n) (s .out .now) (l .loop .i) (l .loop .out) (l .loop .inv .0 .within) (c .loop-test .left) (l .loop .inv .1))
 
 pub walk-all-spec : {M : Type 1} → statement M
 walk-all-spec =

@@ -1,7 +1,7 @@
 -- `scales::gps_tai::gps_to_tai` meets its contract. Assumes nothing.
 use mathlib.Core.Path.{_∙_}
 use Rattle.scales.specs.Conversions.{answerOf}
-use Rattle.shifts.proofs.Outcomes.{moved}
+use Rattle.shifts.proofs.Outcomes.{moved-alike}
 use borrow.Author.Needs.{needs}
 use Rattle.scales.proofs.gps_tai.gps_to_tai.Statement.{statement}
 use Rattle.scales.proofs.gps_tai.gps_to_tai.Tie as tie
@@ -21,7 +21,7 @@ tai-answer-requires c κs = search needs
 
 returns : tie.Need-returns
 unfolding answerOf converted
-returns c = c .tai-answer .ensures ∙ c .before .later .ensures ∙ moved plus (c .before .before .before .finite-jd .ensures) (c .before .before .gps-days .ensures)
+returns c = c .tai-answer .ensures ∙ c .before .later .ensures ∙ moved-alike plus (c .before .before .before .finite-jd .ensures) (c .before .before .gps-days .ensures)
 
 pub gps-to-tai-spec : {M : Type 1} → statement M
 gps-to-tai-spec =

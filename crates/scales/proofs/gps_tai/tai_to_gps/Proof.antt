@@ -1,7 +1,7 @@
 -- `scales::gps_tai::tai_to_gps` meets its contract. Assumes nothing.
 use mathlib.Core.Path.{_∙_}
 use Rattle.scales.specs.Conversions.{answerOf}
-use Rattle.shifts.proofs.Outcomes.{moved}
+use Rattle.shifts.proofs.Outcomes.{moved-alike}
 use borrow.Author.Needs.{needs}
 use Rattle.scales.proofs.gps_tai.tai_to_gps.Statement.{statement}
 use Rattle.scales.proofs.gps_tai.tai_to_gps.Tie as tie
@@ -21,7 +21,7 @@ gps-answer-requires c κs = search needs
 
 returns : tie.Need-returns
 unfolding answerOf converted
-returns c = c .gps-answer .ensures ∙ c .before .earlier .ensures ∙ moved minus (c .before .before .before .finite-jd .ensures) (c .before .before .gps-days .ensures)
+returns c = c .gps-answer .ensures ∙ c .before .earlier .ensures ∙ moved-alike minus (c .before .before .before .finite-jd .ensures) (c .before .before .gps-days .ensures)
 
 pub tai-to-gps-spec : {M : Type 1} → statement M
 tai-to-gps-spec =

@@ -1,7 +1,7 @@
 -- `scales::tai_tt::tai_to_tt` meets its contract. Assumes nothing.
 use mathlib.Core.Path.{_∙_}
 use Rattle.scales.specs.Conversions.{answerOf}
-use Rattle.shifts.proofs.Outcomes.{moved}
+use Rattle.shifts.proofs.Outcomes.{moved-alike}
 use borrow.Author.Needs.{needs}
 use Rattle.scales.proofs.tai_tt.tai_to_tt.Statement.{statement}
 use Rattle.scales.proofs.tai_tt.tai_to_tt.Tie as tie
@@ -21,7 +21,7 @@ tt-answer-requires c κs = search needs
 
 returns : tie.Need-returns
 unfolding answerOf converted
-returns c = c .tt-answer .ensures ∙ c .before .later .ensures ∙ moved plus (c .before .before .before .finite-jd .ensures) (c .before .before .tt-days .ensures)
+returns c = c .tt-answer .ensures ∙ c .before .later .ensures ∙ moved-alike plus (c .before .before .before .finite-jd .ensures) (c .before .before .tt-days .ensures)
 
 pub tai-to-tt-spec : {M : Type 1} → statement M
 tai-to-tt-spec =

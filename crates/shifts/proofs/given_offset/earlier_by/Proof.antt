@@ -1,6 +1,6 @@
 -- `shifts::given_offset::earlier_by` meets its contract. Assumes nothing.
 use mathlib.Core.Path.{_∙_}
-use Rattle.shifts.proofs.Outcomes.{moved}
+use Rattle.shifts.proofs.Outcomes.{moved-alike}
 use borrow.Author.Needs.{needs}
 use Rattle.shifts.proofs.given_offset.earlier_by.Statement.{statement}
 use Rattle.shifts.proofs.given_offset.earlier_by.Tie as tie
@@ -17,7 +17,7 @@ earlier-requires c κs = search needs
 
 returns : tie.Need-returns
 unfolding convertedBy
-returns c = c .earlier .ensures ∙ moved minus (c .before .before .finite-both .ensures) (c .before .days-of .ensures)
+returns c = c .earlier .ensures ∙ moved-alike minus (c .before .before .finite-both .ensures) (c .before .days-of .ensures)
 
 pub earlier-by-spec : {M : Type 1} → statement M
 earlier-by-spec =

@@ -1,6 +1,6 @@
 -- `shifts::given_offset::later_by` meets its contract. Assumes nothing.
 use mathlib.Core.Path.{_∙_}
-use Rattle.shifts.proofs.Outcomes.{moved}
+use Rattle.shifts.proofs.Outcomes.{moved-alike}
 use borrow.Author.Needs.{needs}
 use Rattle.shifts.proofs.given_offset.later_by.Statement.{statement}
 use Rattle.shifts.proofs.given_offset.later_by.Tie as tie
@@ -17,7 +17,7 @@ later-requires c κs = search needs
 
 returns : tie.Need-returns
 unfolding convertedBy
-returns c = c .later .ensures ∙ moved plus (c .before .before .finite-both .ensures) (c .before .days-of .ensures)
+returns c = c .later .ensures ∙ moved-alike plus (c .before .before .finite-both .ensures) (c .before .days-of .ensures)
 
 pub later-by-spec : {M : Type 1} → statement M
 later-by-spec = tie.close (tie.spec finite-both-requires days-of-requires later-requires returns)

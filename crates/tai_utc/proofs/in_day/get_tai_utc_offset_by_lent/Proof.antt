@@ -7,7 +7,7 @@ use lib.Ieee.{ofBits}
 use Rattle.refusals.specs.Outcome.{answer}
 use Rattle.calendar.specs.DayCount.{mjdOf}
 use Rattle.calendar.proofs.Signs.{to-unsigned, read-back}
-use Rattle.calendar.proofs.Accepted.{Accepted, accepted}
+use Rattle.calendar.proofs.Accepted.{Accepted, date-accepted}
 use Rattle.calendar.proofs.Mjd.{mjd-valid}
 use denote.Ref.{now}
 use mathlib.Core.List.{List, []}
@@ -56,7 +56,7 @@ module _ (c : tie.After-known-told2) where
       mjd-is _ _ _ (s .fits .year) (s .fits .month) (s .fits .day) (v .modified-julian-day .result) (v .modified-julian-day .ensures) _ (c .before .n .given .1)
 
   ok : let s = c .before .before .before .before .before .before .before .before .args in Accepted (s .year) (s .month) (s .day)
-  ok = accepted _ _ _ (mjd-valid _ _ _ _ mjd)
+  ok = date-accepted _ _ _ (mjd-valid _ _ _ _ mjd)
 
   small : natAbs (c .before .n .given .0 .0) < 1000000000000
   small = mjd-small _ _ _ _ (c .before .before .before .before .before .before .before .before .fits .year) mjd

@@ -11,7 +11,7 @@ use Rattle.refusals.specs.Outcome.{answer}
 use Rattle.calendar.specs.Refusals.{nextOf}
 use Rattle.calendar.specs.DayCount.{mjdOf}
 use Rattle.calendar.proofs.Signs.{to-unsigned, read-back}
-use Rattle.calendar.proofs.Accepted.{Accepted, accepted}
+use Rattle.calendar.proofs.Accepted.{Accepted, date-accepted}
 use Rattle.calendar.proofs.Mjd.{mjd-valid}
 use Rattle.calendar.proofs.NextDates.{next-in-calendar}
 use denote.Ref.{now}
@@ -58,7 +58,7 @@ module _ (c : tie.After-known-told2) where
       mjd-is _ _ _ (s .fits .year) (s .fits .month) (s .fits .day) (v .modified-julian-day .result) (v .modified-julian-day .ensures) _ (c .before .n .given .1)
 
   ok : let s = c .before .before .before .before .before .before .args in Accepted (s .year) (s .month) (s .day)
-  ok = accepted _ _ _ (mjd-valid _ _ _ _ mjd)
+  ok = date-accepted _ _ _ (mjd-valid _ _ _ _ mjd)
 
   small : natAbs (c .before .n .given .0 .0) < 1000000000000
   small = mjd-small _ _ _ _ (c .before .before .before .before .before .before .fits .year) mjd

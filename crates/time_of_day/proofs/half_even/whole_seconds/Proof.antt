@@ -3,17 +3,17 @@ use mathlib.Core.Path.{_≡_, sym, ap, _∙_}
 use mathlib.Core.Bool.{Bool, true, false, cond}
 use lib.Ieee.{Float, ofBits, eq}
 use Rattle.floats.specs.Whole.{abs, nought, one}
-use Rattle.time_of_day.specs.HalfEven.{wholeSeconds}
+use Rattle.time_of_day.specs.HalfEven.{dayIsWhole}
 use borrow.Author.Needs.{needs}
 use Rattle.time_of_day.proofs.half_even.whole_seconds.Statement.{statement}
 use Rattle.time_of_day.proofs.half_even.whole_seconds.Tie as tie
 
-zero : (x : Float) → eq x nought ≡ true → true ≡ wholeSeconds x
-unfolding wholeSeconds
+zero : (x : Float) → eq x nought ≡ true → true ≡ dayIsWhole x
+unfolding dayIsWhole
 zero x e = sym (ap (λ (b : Bool). cond b true (eq (abs x) one)) e)
 
-other : (x r : Float) → eq x nought ≡ false → r ≡ abs x → eq r one ≡ wholeSeconds x
-unfolding wholeSeconds
+other : (x r : Float) → eq x nought ≡ false → r ≡ abs x → eq r one ≡ dayIsWhole x
+unfolding dayIsWhole
 other x r e a = ap (λ (z : Float). eq z one) a ∙ sym (ap (λ (b : Bool). cond b true (eq (abs x) one)) e)
 
 returns : tie.Need-returns
