@@ -330,8 +330,9 @@ int64_t ct_utc_from_iso8601(const uint8_t *text, size_t text_len, const uint8_t 
 int64_t ct_block_stamps(const uint8_t *block, size_t block_len);
 
 /* A part of the block's listing, from line `line` on: as many whole lines as surely fit, where one is
-   begun only if 33 bytes are left. Line 0 is the header and line i + 1 stamp i's; a refused block has
-   line 0 alone. Returns the number of bytes, 0 past the last line. The next part begins at `line`
+   begun only if 33 bytes are left, the longest line. Line 0 is the header and line i + 1 stamp i's, with
+   the text of 23 or 27 bytes in which a year outside 0000 to 9999 has a sign and seven digits; a refused
+   block has line 0 alone. Returns the number of bytes, 0 past the last line. The next part begins at `line`
    plus the line ends (byte 10) in this one. Refuses the table; then 11, where out_len is below 33. */
 int64_t ct_listing_part(const uint8_t *block, size_t block_len, uint32_t line, const uint8_t *table,
                         size_t table_len, uint8_t *out, size_t out_len);
