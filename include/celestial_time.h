@@ -306,6 +306,19 @@ int64_t ct_ut1_to_utc_with_dut1(double jd1, double jd2, double dut1, const uint8
 int64_t ct_to_iso8601(double jd1, double jd2, const uint8_t *table, size_t table_len, uint8_t *out,
                       size_t out_len, uint8_t *rule, size_t rule_len);
 
+/* The same with a half millisecond to the even one: (2451544.5, 3.0 / 2048.0) is 2000-01-01T00:02:06.562,
+   which ct_to_iso8601 shows as .563. Where the fraction of the day is a multiple of 2^-52 the millisecond
+   is the one nearest to the exact time, 1959-12-31 aside; so the two can part next to a half as well.
+   Length, rule, buffers and refusals are those of ct_to_iso8601. */
+int64_t ct_to_iso8601_half_even(double jd1, double jd2, const uint8_t *table, size_t table_len,
+                                uint8_t *out, size_t out_len, uint8_t *rule, size_t rule_len);
+
+/* The text of ct_to_iso8601 with a sign and seven digits for a year outside 0000 to 9999: 23 bytes, or 27
+   for -0000001-12-31T00:00:00.000 and +0012000-01-01T00:00:00.000. Rule, buffers and refusals are those of
+   ct_to_iso8601, 11 by the new length: 26 bytes do not hold the year 12000. */
+int64_t ct_to_iso8601_expanded(double jd1, double jd2, const uint8_t *table, size_t table_len,
+                               uint8_t *out, size_t out_len, uint8_t *rule, size_t rule_len);
+
 /* ---- Text read: YYYY-MM-DDThh:mm:ss, or a blank for the T, with a point and 1 to 13 digits or none.
    Bytes 9 to 13 and 32 around it are dropped. The second is the float nearest to its decimal. A byte
    0 does not end a text. */
@@ -330,8 +343,9 @@ int64_t ct_utc_from_iso8601(const uint8_t *text, size_t text_len, const uint8_t 
 int64_t ct_block_stamps(const uint8_t *block, size_t block_len);
 
 /* A part of the block's listing, from line `line` on: as many whole lines as surely fit, where one is
-   begun only if 33 bytes are left. Line 0 is the header and line i + 1 stamp i's; a refused block has
-   line 0 alone. Returns the number of bytes, 0 past the last line. The next part begins at `line`
+   begun only if 33 bytes are left, the longest line. Line 0 is the header and line i + 1 stamp i's, with
+   the text of 23 or 27 bytes in which a year outside 0000 to 9999 has a sign and seven digits; a refused
+   block has line 0 alone. Returns the number of bytes, 0 past the last line. The next part begins at `line`
    plus the line ends (byte 10) in this one. Refuses the table; then 11, where out_len is below 33. */
 int64_t ct_listing_part(const uint8_t *block, size_t block_len, uint32_t line, const uint8_t *table,
                         size_t table_len, uint8_t *out, size_t out_len);

@@ -5,6 +5,7 @@
    The answers are document 01's, whole numbers of seconds, or ERFA's. */
 #include "lent.h"
 #include "scale_calls.h"
+#include "sheet_calls.h"
 #include "table_calls.h"
 #include "line_up_calls.h"
 #include "standby_calls.h"
@@ -407,6 +408,7 @@ int main(void)
     utc_and_tai();
     utc_and_ut1();
     utc_texts();
+    sheet_calls();
     texts_read();
     utc_texts_read();
     block_calls();

@@ -1,7 +1,9 @@
 /* What the block call and the listing must say, worked out again: document 01's rules for a block (14, 12,
-   13, 14), and the lines of the listing around the text call. */
+   13, 14), and the lines of the listing around document 01's text, whose year is written anew where four
+   digits do not hold it. */
 #include "celestial_time.h"
 #include <stdio.h>
+#include <stdlib.h>
 
 /* A line is begun only where so many bytes are left. */
 enum { MOST_STAMPS = 4000, LINE = 33 };
@@ -23,14 +25,19 @@ static int64_t due_stamps(const uint8_t *bytes, size_t length)
     return length == 8 + 16 * (size_t)stamps ? (int64_t)stamps : -14;
 }
 
-/* The text of a stamp, or `refused` and the number. */
+/* The text of a stamp, or `refused` and the number. The 19 bytes behind the year are document 01's. */
 static int due_text(const block *b, int64_t i, char *text)
 {
     const uint8_t *jd1 = b->bytes + 8 + 8 * i, *jd2 = jd1 + 8 * b->stamps;
     uint8_t rule[CT_RULE_BYTES];
-    int64_t n = ct_to_iso8601(ct_float_at(jd1), ct_float_at(jd2), ct_no_rows, CT_TABLE_BYTES, (uint8_t *)text, 26, rule, sizeof rule);
+    char old[LINE];
+    int64_t n = ct_to_iso8601(ct_float_at(jd1), ct_float_at(jd2), ct_no_rows, CT_TABLE_BYTES, (uint8_t *)old, 26, rule, sizeof rule);
+    long year;
     if (n < 0) return sprintf(text, "refused %ld", (long)-n), 0;
-    text[n] = 0;
+    old[n] = 0;
+    year = strtol(old, 0, 10);
+    if (year >= 0 && year <= 9999) sprintf(text, "%04ld%s", year, old + n - 19);
+    else sprintf(text, "%c%07ld%s", year < 0 ? '-' : '+', labs(year), old + n - 19);
     return 1;
 }
 

@@ -110,15 +110,21 @@ static void text(const char *shown)
     memcpy(wanted, shown, wanted_length);
 }
 
-/* The text with room for its rule, for what is asked of the text alone. */
-static int64_t text_of(double jd1, double jd2, const uint8_t *table, size_t table_len, uint8_t *out, size_t out_len)
-{
-    uint8_t rule[CT_RULE_BYTES];
-    return ct_to_iso8601(jd1, jd2, table, table_len, out, out_len, rule, sizeof rule);
-}
+/* Each text with room for its rule, for what is asked of the text alone. */
+typedef int64_t text_call(double, double, const uint8_t *, size_t, uint8_t *, size_t, uint8_t *, size_t);
+typedef int64_t plain_text(double, double, const uint8_t *, size_t, uint8_t *, size_t);
+#define TEXT_ALONE(name, call) \
+    static int64_t name(double jd1, double jd2, const uint8_t *table, size_t table_len, uint8_t *out, size_t out_len) \
+    { \
+        uint8_t rule[CT_RULE_BYTES]; \
+        return call(jd1, jd2, table, table_len, out, out_len, rule, sizeof rule); \
+    }
+TEXT_ALONE(text_of, ct_to_iso8601)
+TEXT_ALONE(even_of, ct_to_iso8601_half_even)
+TEXT_ALONE(expanded_of, ct_to_iso8601_expanded)
 
 /* And what it puts into a buffer for the rule: `number` 0 says that kind and row are due. With too few bytes for either both stay. */
-static void told(const char *shown, int number, int kind, int row, double jd1, double jd2, const uint8_t *table, size_t table_len)
+static void told_by(const char *name, text_call *call, const char *shown, int number, int kind, int row, double jd1, double jd2, const uint8_t *table, size_t table_len)
 {
     size_t length;
     for (length = 0; length <= CT_RULE_BYTES + 2; length++)
@@ -133,11 +139,13 @@ static void told(const char *shown, int number, int kind, int row, double jd1, d
             due_length = strlen(shown);
             if (!number && length >= CT_RULE_BYTES && room >= due_length) memcpy(due, wanted, CT_RULE_BYTES);
             text(shown);
-            code = ct_to_iso8601(jd1, jd2, table, table_len, fresh(), room, rule, length);
-            judge("ct_to_iso8601 with a rule", number ? number : length < CT_RULE_BYTES ? 11 : 0, code);
-            check(!memcmp(due, rule, sizeof due), "the rule of %s in %d bytes", shown, (int)length);
+            code = call(jd1, jd2, table, table_len, fresh(), room, rule, length);
+            judge(name, number ? number : length < CT_RULE_BYTES ? 11 : 0, code);
+            check(!memcmp(due, rule, sizeof due), "%s: the rule of %s in %d bytes", name, shown, (int)length);
         }
 }
+
+#define told(...) told_by("ct_to_iso8601", ct_to_iso8601, __VA_ARGS__)
 
 static void six_fields(int32_t year, int32_t month, int32_t of_month, int32_t hour, int32_t minute, double second)
 {

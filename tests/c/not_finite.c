@@ -16,18 +16,22 @@ typedef int64_t offset_call(double, double, double, uint8_t *, size_t);
     static int64_t name(double jd1, double jd2, uint8_t *out, size_t out_len) { return call(jd1, jd2, ct_no_rows, CT_TABLE_BYTES, out, out_len); }
 #define OFFSET_WITH_NO_ROWS(name, call) \
     static int64_t name(double jd1, double jd2, double dut1, uint8_t *out, size_t out_len) { return call(jd1, jd2, dut1, ct_no_rows, CT_TABLE_BYTES, out, out_len); }
-static int64_t text(double jd1, double jd2, uint8_t *out, size_t out_len)
-{
-    uint8_t rule[CT_RULE_BYTES];
-    return ct_to_iso8601(jd1, jd2, ct_no_rows, CT_TABLE_BYTES, out, out_len, rule, sizeof rule);
-}
+#define TEXT_WITH_NO_ROWS(name, call) \
+    static int64_t name(double jd1, double jd2, uint8_t *out, size_t out_len) \
+    { \
+        uint8_t rule[CT_RULE_BYTES]; \
+        return call(jd1, jd2, ct_no_rows, CT_TABLE_BYTES, out, out_len, rule, sizeof rule); \
+    }
+TEXT_WITH_NO_ROWS(text, ct_to_iso8601)
+TEXT_WITH_NO_ROWS(half_even_text, ct_to_iso8601_half_even)
+TEXT_WITH_NO_ROWS(expanded_text, ct_to_iso8601_expanded)
 PLAIN_WITH_NO_ROWS(utc_to_tai, ct_utc_to_tai)
 PLAIN_WITH_NO_ROWS(tai_to_utc, ct_tai_to_utc)
 OFFSET_WITH_NO_ROWS(utc_to_ut1, ct_utc_to_ut1_with_dut1)
 OFFSET_WITH_NO_ROWS(ut1_to_utc, ct_ut1_to_utc_with_dut1)
 
 static const struct { const char *name; plain_call *ask; int number; } PLAIN[] = {
-    {"ct_to_iso8601", text, 6}, {"ct_julian_to_calendar", ct_julian_to_calendar, 6},
+    {"ct_to_iso8601", text, 6}, {"ct_to_iso8601_half_even", half_even_text, 6}, {"ct_to_iso8601_expanded", expanded_text, 6}, {"ct_julian_to_calendar", ct_julian_to_calendar, 6},
     {"ct_utc_to_tai", utc_to_tai, 6}, {"ct_tai_to_utc", tai_to_utc, 6},
     {"ct_gps_to_tai", ct_gps_to_tai, 9}, {"ct_tai_to_gps", ct_tai_to_gps, 9},
     {"ct_tai_to_tt", ct_tai_to_tt, 9},   {"ct_tt_to_tai", ct_tt_to_tai, 9},

@@ -53,6 +53,10 @@ static void with_a_leap_second(void)
     GIVES(text("2026-12-31T23:59:60.500"), text_of, 2461405.5, 86400.5 / 86401.0, LENT);
     GIVES(text("2026-12-31T23:59:59.500"), text_of, 2461405.5, 86399.5 / 86400.0, NO_ROWS);
     told("2027-01-01T12:00:00.000", 0, CT_RULE_WHOLE, 42, 2461406.5, 0.5, LENT);
+    GIVES(text("2026-12-31T01:30:00.062"), even_of, 2461405.5, 1.0 / 16.0, LENT);
+    GIVES(text("2026-12-31T23:59:60.500"), expanded_of, 2461405.5, 86400.5 / 86401.0, LENT);
+    told_by("ct_to_iso8601_half_even", ct_to_iso8601_half_even, "2027-01-01T12:00:00.000", 0, CT_RULE_WHOLE, 42, 2461406.5, 0.5, LENT);
+    told_by("ct_to_iso8601_expanded", ct_to_iso8601_expanded, "2027-01-01T12:00:00.000", 0, CT_RULE_WHOLE, 42, 2461406.5, 0.5, LENT);
 }
 
 /* ---- a row less: the day has 86,399 s, and its last minute 59 */
@@ -72,6 +76,9 @@ static void with_a_second_left_out(void)
     GIVES((six_fields(2026, 12, 31, 23, 59, 58.999), and_parts(2461405.5, 86398.999 / 86399.0)), ct_utc_from_iso8601, TEXT("2026-12-31T23:59:58.999"), LENT);
     REFUSES(4, ct_utc_from_iso8601, TEXT("2026-12-31T23:59:59"), LENT);
     GIVES(text("2026-12-31T23:59:58.999"), text_of, 2461405.5, 86398.9994 / 86399.0, LENT);
+    GIVES(text("2026-12-31T01:29:59.938"), even_of, 2461405.5, 1.0 / 16.0, LENT);
+    GIVES(text("2027-01-01T00:00:00.000"), even_of, 2461405.5, 86398.9996 / 86399.0, LENT);
+    GIVES(text("2027-01-01T00:00:00.000"), expanded_of, 2461405.5, 86398.9996 / 86399.0, LENT);
     GIVES(text("2027-01-01T00:00:00.000"), text_of, 2461405.5, 86398.9996 / 86399.0, LENT);
     GIVES(text("2026-12-31T23:59:59.000"), text_of, 2461405.5, 86399.0 / 86400.0, NO_ROWS);
 }
@@ -117,6 +124,10 @@ static void each_call_refuses(int number, size_t table_len)
     REFUSES(number, ct_ut1_to_utc_with_dut1, nan_float(), 0.0, nan_float(), table, table_len);
     REFUSES(number, text_of, 2451545.0, 0.0, table, table_len);
     REFUSES(number, text_of, nan_float(), 0.0, table, table_len);
+    REFUSES(number, even_of, 2451545.0, 0.0, table, table_len);
+    REFUSES(number, even_of, nan_float(), 0.0, table, table_len);
+    REFUSES(number, expanded_of, 2451545.0, 0.0, table, table_len);
+    REFUSES(number, expanded_of, nan_float(), 0.0, table, table_len);
     REFUSES(number, ct_utc_from_iso8601, TEXT("2000-01-01T12:00:00"), table, table_len);
     REFUSES(number, ct_utc_from_iso8601, TEXT("2000-13-01T24:00:00x"), table, table_len);
 }

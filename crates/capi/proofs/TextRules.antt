@@ -3,6 +3,7 @@ use Prim.Native.Nat.{ℕ, _≤_, _<_, _^_}
 use native.Mathlib.Omega.{arith}
 use mathlib.Core.Path.{_≡_, refl, sym, ap, subst, _∙_}
 use mathlib.Core.Bool.{Bool, true, false, true≢false, cond, _&&_}
+use mathlib.Core.Logic.{_⊎_, inl, inr}
 use mathlib.Core.List.{List}
 use lib.ListN.{length}
 use lib.Dec.{leb}
@@ -22,14 +23,26 @@ use Rattle.utc_text.specs.Answer.{textWritten, bufferAfter}
 use Rattle.utc.specs.declared.TextByRule.{TextByRule}
 use Rattle.utc.specs.declared.TextByRule.the-variants.{Written, Refused}
 use Rattle.utc.specs.TextCall.{bufferHolds}
-use Rattle.utc.specs.ByRule.{isoTextByRule, textByRuleOutcome, writtenByRule, TextRuleCall}
-use Rattle.utc.proofs.TextRules.{iso-forgets}
+use Rattle.utc.specs.ByRule.{textByRule, textByRuleOutcome, writtenByRule, TextRuleCall}
+use Rattle.utc.proofs.TextRules.{iso-forgets, even-forgets, expanded-forgets}
 use Rattle.utc.proofs.Lengths.{text-length}
+use Rattle.utc.proofs.HalfEvenTexts.{even-text-length}
+use Rattle.utc.proofs.ExpandedTexts.{expanded-text-length}
 use Rattle.c_answers.specs.Delivery.{code, Delivered}
 use Rattle.c_answers.specs.RuleFields.{ruleBytes}
 use Rattle.c_answers.specs.TwoBuffers.{bothFit, DeliveredTwo}
 use Rattle.c_answers.proofs.Deliveries.{code-back}
-use Rattle.capi.specs.TextRule.{ruled, noRoom}
+use Rattle.capi.specs.declared.text_calls.NamedSheet.{NamedSheet}
+use Rattle.capi.specs.declared.text_calls.NamedSheet.the-variants.{Document01, HalfEven, Expanded}
+use Rattle.capi.specs.TextRule.{ruled, noRoom, sheetNamed}
+
+-- ---- the call of the sheet that is named, and a code that is handed on
+pub named-call : (sheet k : NamedSheet) (rows : List Row) (jd : JulianDate) {l out : List ℕ} {r : TextByRule} → sheet ≡ k
+    → TextRuleCall (textByRule (sheetNamed k) rows jd) l r out → TextRuleCall (textByRule (sheetNamed sheet) rows jd) l r out
+named-call sheet k rows jd {l} {out} {r} e p = subst (λ (x : NamedSheet). TextRuleCall (textByRule (sheetNamed x) rows jd) l r out) (sym e) p
+
+pub handed-on : {o : Outcome (List ℕ × List ℕ)} {b b′ out out′ : List ℕ} {r : ℤ} → mag r < 2 ^ 63 → DeliveredTwo o b b′ r out out′ → DeliveredTwo o b b′ (toZ w64 (ofZ w64 r)) out out′
+handed-on {o} {b} {b′} {out} {out′} ok d = subst (λ (z : ℤ). DeliveredTwo o b b′ z out out′) (sym (code-back ok)) d
 
 -- ---- the rule has no room
 nothing-told : (o : Outcome (List ℕ × Rule)) (m k : ℕ) → writtenByRule o m ≡ refusal k → refusal k ≡ noRoom o
@@ -164,6 +177,13 @@ module _ (o : Outcome (List ℕ × Rule)) (few : (t : List ℕ) → forget o ≡
         holds-second = sym (ap (λ (x : Outcome (List ℕ × List ℕ)). bufferHolds (onward x (λ q. answer (q .1))) b′) e);
       }
 
--- a text has at most 26 bytes
-pub iso-few : (rows : List Row) (jd : JulianDate) (t : List ℕ) → forget (isoTextByRule rows jd) ≡ answer t → length t ≤ 64
-iso-few rows jd t e = omega (arith, text-length rows jd t (sym (iso-forgets rows jd) ∙ e) .1)
+-- a text has at most 27 bytes
+pub text-few : (sheet : NamedSheet) (rows : List Row) (jd : JulianDate) (t : List ℕ) → forget (textByRule (sheetNamed sheet) rows jd) ≡ answer t → length t ≤ 64
+unfolding sheetNamed
+text-few Document01 rows jd t e = omega (arith, text-length rows jd t (sym (iso-forgets rows jd) ∙ e) .1)
+text-few HalfEven rows jd t e = omega (arith, even-text-length rows jd t (sym (even-forgets rows jd) ∙ e) .1)
+text-few Expanded rows jd t e = by (expanded-text-length rows jd t (sym (expanded-forgets rows jd) ∙ e))
+  where
+    by : (length t ≡ 23) ⊎ (length t ≡ 27) → length t ≤ 64
+    by (inl h) = omega arith
+    by (inr h) = omega arith

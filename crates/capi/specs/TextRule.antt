@@ -1,10 +1,22 @@
--- A text and its rule for two buffers. Written from document 02, item 5 (the text calls pass on the rule), and document 01, "Refusals by number" (11 is judged last).
--- Assumes nothing.
+-- A text by one of the three sheets, and its rule for two buffers. Written from document 02, item 5 (the text calls pass on the rule), and document 01, "Refusals by
+-- number" (11 is judged last). Assumes nothing.
 use Prim.Native.Nat.{ℕ}
 use mathlib.Core.List.{List}
 use Rattle.refusals.specs.Outcome.{Outcome, answer, refusal, onward}
 use Rattle.tai_utc.specs.declared.Rule.{Rule}
+use Rattle.utc.specs.Sheet.{Sheet}
+use Rattle.utc.specs.IsoText.{sheet01}
+use Rattle.utc.specs.HalfEven.{evenSheet}
+use Rattle.utc.specs.Expanded.{expandedSheet}
 use Rattle.c_answers.specs.RuleFields.{ruleBytes}
+use Rattle.capi.specs.declared.text_calls.NamedSheet.{NamedSheet}
+use Rattle.capi.specs.declared.text_calls.NamedSheet.the-variants.{Document01, HalfEven, Expanded}
+
+-- document 01's sheet, and those of document 02's items 4 and 6
+unfoldable pub sheetNamed : NamedSheet → Sheet
+sheetNamed Document01 = sheet01
+sheetNamed HalfEven = evenSheet
+sheetNamed Expanded = expandedSheet
 
 -- the text, and the 8 bytes of its rule
 unfoldable pub ruled : Outcome (List ℕ × Rule) → Outcome (List ℕ × List ℕ)

@@ -1,14 +1,14 @@
-// UTC as text, with the rule of its day in a buffer of its own.
+// UTC as text by each of the three sheets, with the rule of its day in a buffer of its own.
 ghost use mathlib.Core.Path.{_≡_};
 ghost use Prim.Native.Nat.{ℕ};
 ghost use Rattle.refusals.specs.Outcome.{refusal, onward};
 ghost use Rattle.julian.specs.JulianDate.{julian};
 ghost use Rattle.tai_utc.specs.Lent.{rowsIn};
-ghost use Rattle.utc.specs.ByRule.{isoTextByRule};
+ghost use Rattle.utc.specs.ByRule.{textByRule, isoTextByRule, halfEvenByRule, expandedByRule, TextRuleCall};
 ghost use Rattle.lent_bytes.specs.TableBytes.{tableBytes};
 ghost use Rattle.c_answers.specs.Delivery.{code};
 ghost use Rattle.c_answers.specs.TwoBuffers.{DeliveredTwo};
-ghost use Rattle.capi.specs.TextRule.{ruled, noRoom};
+ghost use Rattle.capi.specs.TextRule.{ruled, noRoom, sheetNamed};
 use c_answers::refused;
 use c_answers::rule_fields;
 use julian::JulianDate;
@@ -16,23 +16,49 @@ use lent_bytes::arrays;
 use scales::UTC;
 use utc::TextByRule;
 
+// Which sheet a text call writes by.
+pub(crate) enum NamedSheet {
+    Document01,
+    HalfEven,
+    Expanded,
+}
+
+fn text_by<'a>(
+    sheet: NamedSheet,
+    date: UTC,
+    size: usize,
+    months: &'a [i32; 16],
+    seconds: &'a [i32; 16],
+    out: &mut [u8],
+) -> TextByRule
+    ensures { λ r. ⌜ TextRuleCall (textByRule (sheetNamed sheet) (rowsIn size (now (months .entry)) (now (seconds .entry))) (date .0)) (now (out .entry)) r (now (out .exit)) ⌝ }
+{
+    match sheet {
+        NamedSheet::Document01 => utc::to_iso8601_by_lent(date, size, months, seconds, out),
+        NamedSheet::HalfEven => utc::to_iso8601_half_even_by_lent(date, size, months, seconds, out),
+        NamedSheet::Expanded => utc::to_iso8601_expanded_by_lent(date, size, months, seconds, out),
+    }
+}
+
 // What is told where the rule has no room: the text's own refusal, and 11 after it. The text goes to a byte of its own.
 fn no_room_for_rule<'a>(
+    sheet: NamedSheet,
     date: UTC,
     size: usize,
     months: &'a [i32; 16],
     seconds: &'a [i32; 16],
 ) -> i64
-    ensures { λ r. ⌜ r ≡ code (noRoom (isoTextByRule (rowsIn size (now (months .entry)) (now (seconds .entry))) (date .0))) ⌝ }
+    ensures { λ r. ⌜ r ≡ code (noRoom (textByRule (sheetNamed sheet) (rowsIn size (now (months .entry)) (now (seconds .entry))) (date .0))) ⌝ }
 {
     let mut spare = [0; 1];
-    match utc::to_iso8601_by_lent(date, size, months, seconds, &mut spare) {
+    match text_by(sheet, date, size, months, seconds, &mut spare) {
         TextByRule::Refused(number) => refused(number),
         TextByRule::Written(_, _) => refused(refusals::TEXT_LONGER_THAN_BUFFER),
     }
 }
 
 fn put_text<'a>(
+    sheet: NamedSheet,
     date: UTC,
     size: usize,
     months: &'a [i32; 16],
@@ -40,18 +66,31 @@ fn put_text<'a>(
     out: &mut [u8],
     rule: &mut [u8],
 ) -> i64
-    ensures { λ r. ⌜ DeliveredTwo (ruled (isoTextByRule (rowsIn size (now (months .entry)) (now (seconds .entry))) (date .0))) (now (out .entry)) (now (rule .entry)) r (now (out .exit)) (now (rule .exit)) ⌝ }
+    ensures { λ r. ⌜ DeliveredTwo (ruled (textByRule (sheetNamed sheet) (rowsIn size (now (months .entry)) (now (seconds .entry))) (date .0))) (now (out .entry)) (now (rule .entry)) r (now (out .exit)) (now (rule .exit)) ⌝ }
 {
     if rule.len() < 8 {
-        return no_room_for_rule(date, size, months, seconds);
+        return no_room_for_rule(sheet, date, size, months, seconds);
     }
-    match utc::to_iso8601_by_lent(date, size, months, seconds, out) {
+    match text_by(sheet, date, size, months, seconds, out) {
         TextByRule::Refused(number) => refused(number),
         TextByRule::Written(n, told) => {
             rule_fields::put_rule(told, rule);
             n as i64
         }
     }
+}
+
+fn text_call(sheet: NamedSheet, date: UTC, table: &[u8], out: &mut [u8], rule: &mut [u8]) -> i64
+    ensures { λ r. ⌜ DeliveredTwo (ruled (onward (tableBytes (now (table .entry))) (λ rows. textByRule (sheetNamed sheet) rows (date .0)))) (now (out .entry)) (now (rule .entry)) r (now (out .exit)) (now (rule .exit)) ⌝ }
+{
+    let size = arrays::size_in(table);
+    let months = arrays::months_in(table);
+    let seconds = arrays::seconds_in(table);
+    let number = arrays::lent_number(table, &months, &seconds);
+    if number != 0 {
+        return refused(number);
+    }
+    put_text(sheet, date, size, &months, &seconds, out, rule)
 }
 
 #[no_mangle]
@@ -64,13 +103,49 @@ pub extern "C" fn ct_to_iso8601(
 ) -> i64
     ensures { λ r. ⌜ DeliveredTwo (ruled (onward (tableBytes (now (table .entry))) (λ rows. isoTextByRule rows (julian jd1 jd2)))) (now (out .entry)) (now (rule .entry)) r (now (out .exit)) (now (rule .exit)) ⌝ }
 {
-    let size = arrays::size_in(table);
-    let months = arrays::months_in(table);
-    let seconds = arrays::seconds_in(table);
-    let number = arrays::lent_number(table, &months, &seconds);
-    if number != 0 {
-        return refused(number);
-    }
-    let date = UTC(JulianDate { jd1, jd2 });
-    put_text(date, size, &months, &seconds, out, rule)
+    text_call(
+        NamedSheet::Document01,
+        UTC(JulianDate { jd1, jd2 }),
+        table,
+        out,
+        rule,
+    )
+}
+
+#[no_mangle]
+pub extern "C" fn ct_to_iso8601_half_even(
+    jd1: f64,
+    jd2: f64,
+    table: &[u8],
+    out: &mut [u8],
+    rule: &mut [u8],
+) -> i64
+    ensures { λ r. ⌜ DeliveredTwo (ruled (onward (tableBytes (now (table .entry))) (λ rows. halfEvenByRule rows (julian jd1 jd2)))) (now (out .entry)) (now (rule .entry)) r (now (out .exit)) (now (rule .exit)) ⌝ }
+{
+    text_call(
+        NamedSheet::HalfEven,
+        UTC(JulianDate { jd1, jd2 }),
+        table,
+        out,
+        rule,
+    )
+}
+
+#[no_mangle]
+pub extern "C" fn ct_to_iso8601_expanded(
+    jd1: f64,
+    jd2: f64,
+    table: &[u8],
+    out: &mut [u8],
+    rule: &mut [u8],
+) -> i64
+    ensures { λ r. ⌜ DeliveredTwo (ruled (onward (tableBytes (now (table .entry))) (λ rows. expandedByRule rows (julian jd1 jd2)))) (now (out .entry)) (now (rule .entry)) r (now (out .exit)) (now (rule .exit)) ⌝ }
+{
+    text_call(
+        NamedSheet::Expanded,
+        UTC(JulianDate { jd1, jd2 }),
+        table,
+        out,
+        rule,
+    )
 }

@@ -1,5 +1,5 @@
--- The text call from C with a rule's 8 bytes of room delivers document 01's text into its first buffer, as if it had no second one: so what is proved of that text holds
--- of it. Assumes nothing.
+-- A text call from C with a rule's 8 bytes of room delivers its sheet's text into its first buffer, as if it had no second one: so what is proved of that text holds of it.
+-- Assumes nothing.
 use Prim.Native.Nat.{ℕ, _≤_}
 use mathlib.Core.Path.{_≡_, refl, sym, ap, _∙_, subst}
 use mathlib.Core.Bool.{Bool, true, false, cond, _&&_}
@@ -15,9 +15,10 @@ use Rattle.tai_utc.specs.Table.{Row}
 use Rattle.tai_utc.specs.Rule.{forget}
 use Rattle.utc_text.specs.Answer.{textWritten, bufferAfter}
 use Rattle.utc.specs.TextCall.{written, bufferHolds}
-use Rattle.utc.specs.IsoText.{isoText}
-use Rattle.utc.specs.ByRule.{isoTextByRule}
-use Rattle.utc.proofs.TextRules.{iso-forgets}
+use Rattle.utc.specs.Sheet.{Sheet}
+use Rattle.utc.specs.IsoText.{isoTextBy}
+use Rattle.utc.specs.ByRule.{textByRule}
+use Rattle.utc.proofs.TextRules.{text-forgets}
 use Rattle.c_answers.specs.Delivery.{code, Delivered}
 use Rattle.c_answers.specs.RuleFields.{ruleBytes}
 use Rattle.c_answers.specs.TwoBuffers.{bothFit, DeliveredTwo}
@@ -40,8 +41,8 @@ module _ (before second : List ℕ) (r : ℤ) (after after-second : List ℕ) (r
   text-delivered (refusal k) d = record { returned = d .returned; holds = d .holds }
 
   -- by the rows of a table, or with what it is turned away by
-  pub iso-delivered : (table : Outcome (List Row)) (jd : JulianDate) → DeliveredTwo (ruled (onward table (λ rows. isoTextByRule rows jd))) before second r after after-second
-      → Delivered (onward table (λ rows. isoText rows jd)) before r after
+  pub iso-delivered : (sheet : Sheet) (table : Outcome (List Row)) (jd : JulianDate) → DeliveredTwo (ruled (onward table (λ rows. textByRule sheet rows jd))) before second r after after-second
+      → Delivered (onward table (λ rows. isoTextBy sheet rows jd)) before r after
   unfolding onward forget
-  iso-delivered (answer rows) jd d = subst (λ (o : Outcome (List ℕ)). Delivered o before r after) (iso-forgets rows jd) (text-delivered (isoTextByRule rows jd) d)
-  iso-delivered (refusal k) jd d = text-delivered (refusal k) d
+  iso-delivered sheet (answer rows) jd d = subst (λ (o : Outcome (List ℕ)). Delivered o before r after) (text-forgets sheet rows jd) (text-delivered (textByRule sheet rows jd) d)
+  iso-delivered sheet (refusal k) jd d = text-delivered (refusal k) d

@@ -1,5 +1,6 @@
 -- What a listing is as a whole: its parts in a row, the line end of each line, and every stamp that is not finite refused and counted.
 pub mod Whole
+pub mod Longest
 pub mod LineEnds
 pub mod NotFinite
 pub mod Tables

@@ -19,8 +19,10 @@ use Rattle.time_of_day.specs.declared.TimeOfDay.{TimeOfDay}
 use Rattle.time_of_day.specs.declared.TimeShown.{TimeShown}
 use Rattle.time_of_day.specs.declared.TimeShown.the-variants.{At, NextMidnight}
 use Rattle.time_of_day.specs.TimeShown.{shownOf}
-use Rattle.utc_text.specs.Text.{last, three, four, five, six, seven, yearText, afterYear, utcText}
-use Rattle.utc.specs.IsoText.{midnight, nextMidnightTextBy, shownTextBy, shownText, dayTextBy, isoTextBy, isoText}
+use Rattle.utc_text.specs.Text.{last, four, seven, afterYear}
+use Rattle.utc_text.specs.Expanded.{expandedYear, expandedText}
+use Rattle.utc.specs.IsoText.{midnight, nextMidnightTextBy, shownTextBy, dayTextBy, isoTextBy}
+use Rattle.utc.specs.Expanded.{isoTextExpanded}
 use Rattle.stamps.specs.Block.{blockOf}
 use Rattle.stamps.specs.Listing.{numeral, refusedWord, utcListingWords, blockRefusedWords, textAt, shown, stampLine, refusedIn, header, blockRefused}
 use Rattle.stamps.specs.Parts.{lineOf, linesIn, linesFrom, partLines, partText}
@@ -54,30 +56,27 @@ digits-none (suc k) n = by (ltb n 10) (digits-none k (n / 10))
     by true h = simp digit
     by false h = ends-append (digitsIn k (n / 10)) (last n ∷ []) ∙ simp (h, digit)
 
-plus-by : (n : ℕ) (a b c : Bool) → lineEnds (cond a (four n) (cond b (five n) (cond c (six n) (seven n)))) ≡ 0
+plus-by : (n : ℕ) (b : Bool) → lineEnds (cond b (four n) (43 ∷ seven n)) ≡ 0
 unfolding lineEnds
-plus-by n true b c = simp digit
-plus-by n false true c = simp digit
-plus-by n false false true = simp digit
-plus-by n false false false = simp digit
+plus-by n true = simp digit
+plus-by n false = simp digit
 
-minus-by : (n : ℕ) (a : Bool) → lineEnds (45 ∷ cond a (three n) (four n)) ≡ 0
+minus-by : (n : ℕ) → lineEnds (45 ∷ seven n) ≡ 0
 unfolding lineEnds
-minus-by n true = simp digit
-minus-by n false = simp digit
+minus-by n = simp digit
 
-year-none : (y : ℤ) → lineEnds (yearText y) ≡ 0
-unfolding yearText
-year-none (pos n) = plus-by n (ltb n 10000) (ltb n 100000) (ltb n 1000000)
-year-none (negsuc n) = minus-by (suc n) (ltb (suc n) 1000)
+year-none : (y : ℤ) → lineEnds (expandedYear y) ≡ 0
+unfolding expandedYear
+year-none (pos n) = plus-by n (ltb n 10000)
+year-none (negsuc n) = minus-by (suc n)
 
 after-none : (d : CalendarDate) (t : TimeOfDay) → lineEnds (afterYear d t) ≡ 0
 unfolding lineEnds
 after-none d t = simp digit
 
-text-none : (d : CalendarDate) (t : TimeOfDay) → lineEnds (utcText d t) ≡ 0
-unfolding utcText
-text-none d t = let e = ends-append (yearText (d .year)) (afterYear d t) in omega (arith, year-none (d .year), after-none d t)
+text-none : (d : CalendarDate) (t : TimeOfDay) → lineEnds (expandedText d t) ≡ 0
+unfolding expandedText
+text-none d t = let e = ends-append (expandedYear (d .year)) (afterYear d t) in omega (arith, year-none (d .year), after-none d t)
 
 -- ---- nor has what is shown of a stamp
 refused-none : (k : ℕ) → lineEnds (refusedWord ++ numeral k) ≡ 0
@@ -89,12 +88,12 @@ unfolding onward shown
 shown-onward (answer a) f h = h a
 shown-onward (refusal k) f h = refused-none k
 
-day-none : (d : CalendarDate) (r : TimeShown) → lineEnds (shown (shownText d r)) ≡ 0
+day-none : (d : CalendarDate) (r : TimeShown) → lineEnds (shown (shownTextBy expandedText d r)) ≡ 0
 unfolding shownTextBy nextMidnightTextBy shown
 day-none d (At t) = text-none d t
 day-none d NextMidnight = shown-onward _ _ (λ t. text-none t midnight)
 
-shown-none : (rows : List Row) (jd : JulianDate) → lineEnds (shown (isoText rows jd)) ≡ 0
+shown-none : (rows : List Row) (jd : JulianDate) → lineEnds (shown (isoTextExpanded rows jd)) ≡ 0
 unfolding isoTextBy dayTextBy
 shown-none rows jd = shown-onward _ _ (λ c. shown-onward _ _ (λ leap. day-none (c .date) (shownOf away (c .fraction) leap)))
 

@@ -15,7 +15,8 @@ use Rattle.digits.specs.Decimal.{digitsIn}
 use Rattle.floats.proofs.Fields.{expo, ofBits-is}
 use Rattle.calendar.proofs.NextDates.{first-false}
 use Rattle.tai_utc.specs.Table.{Row}
-use Rattle.utc.proofs.Numbers.{not-both, not-finite}
+use Rattle.utc.proofs.Numbers.{not-both}
+use Rattle.utc.proofs.ExpandedTexts.{expanded-not-finite}
 use Rattle.stamps.specs.Block.{blockOf, jd1Bits, jd2Bits, stampAt}
 use Rattle.listing_laws.specs.NotFinite.{exponentField, NotFinite, isNotFinite, notFiniteIn, HasText}
 use Rattle.stamps.specs.Listing.{numeral, refusedWord, textAt, shown, stampLine, stampLines, oneIfRefused, refusedIn, header, listingOf, listing}
@@ -49,7 +50,7 @@ no-second false b e = refl
 -- ---- A STAMP THAT IS NOT FINITE is refused with 6, its line says so, and it counts as one
 pub not-finite-refused : (rows : List Row) (s : List ℕ) (n i : ℕ) → NotFinite s n i → textAt rows s n i ≡ refusal 6
 unfolding textAt stampAt
-not-finite-refused rows s n i d = not-finite rows (stampAt s n i) (by d)
+not-finite-refused rows s n i d = expanded-not-finite rows (stampAt s n i) (by d)
   where
     by : NotFinite s n i → finite (stampAt s n i .jd1) && finite (stampAt s n i .jd2) ≡ false
     by (inl e) = first-false (finite (stampAt s n i .jd1)) (finite (stampAt s n i .jd2)) (field-not-finite (jd1Bits s i) e)

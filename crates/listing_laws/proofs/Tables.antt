@@ -15,10 +15,10 @@ use Rattle.tai_utc.specs.declared.LentRows.{LentRows}
 use Rattle.tai_utc.specs.Table.{Row, fixed}
 use Rattle.tai_utc.specs.Lent.{tableOf}
 use Rattle.tai_utc.proofs.TablesTaken.{table-none}
-use Rattle.utc.specs.IsoText.{isoText}
+use Rattle.utc.specs.Expanded.{expandedSheet, isoTextExpanded}
 use Rattle.utc.proofs.Dates.{date-in-range}
-use Rattle.utc.proofs.TextCalls.{fields-refused, fields-given}
-use Rattle.utc.proofs.DayTexts.{text-refused, has-text}
+use Rattle.utc.proofs.TextCalls.{fields-refused-by, fields-given-by}
+use Rattle.utc.proofs.DayTexts.{text-refused-by, has-text-by}
 use Rattle.utc.proofs.Numbers.{not-both, one-number, date-refusal}
 use Rattle.stamps.specs.declared.Part.{Part}
 use Rattle.stamps.specs.declared.LinesAnswer.{LinesAnswer}
@@ -29,19 +29,19 @@ use Rattle.stamps.specs.Parts.{lineOf, linesOutcome, scratchHolds, partOf, part
 
 -- ---- refusals read no row: what one table refuses every other refuses, by the same number
 module _ (a b : List Row) where
-  text-refused-alike : (jd : JulianDate) (k : ℕ) → isoText a jd ≡ refusal k → isoText b jd ≡ refusal k
+  text-refused-alike : (jd : JulianDate) (k : ℕ) → isoTextExpanded a jd ≡ refusal k → isoTextExpanded b jd ≡ refusal k
   text-refused-alike jd k e = go (julianToCalendar (jd .jd1) (jd .jd2)) refl
     where
-      go : (o : Outcome CalendarFields) → julianToCalendar (jd .jd1) (jd .jd2) ≡ o → isoText b jd ≡ refusal k
-      go (refusal n) p = fields-refused b jd n p ∙ ap refusal (one-number (isoText a jd) n k (fields-refused a jd n p) e)
+      go : (o : Outcome CalendarFields) → julianToCalendar (jd .jd1) (jd .jd2) ≡ o → isoTextExpanded b jd ≡ refusal k
+      go (refusal n) p = fields-refused-by expandedSheet b jd n p ∙ ap refusal (one-number (isoTextExpanded a jd) n k (fields-refused-by expandedSheet a jd n p) e)
       go (answer c) p = by-date (date-refusal (jd .jd1) (jd .jd2) c p)
         where
-          by-date : (validOf (c .date) ≡ answer tt) ⊎ (validOf (c .date) ≡ refusal 1) → isoText b jd ≡ refusal k
-          by-date (inl v) = absurd (not-both (isoText a jd) _ k (fields-given a jd c p ∙ has-text a (c .date) v (date-in-range (jd .jd1) (jd .jd2) c p .year-high) (c .fraction)) e)
+          by-date : (validOf (c .date) ≡ answer tt) ⊎ (validOf (c .date) ≡ refusal 1) → isoTextExpanded b jd ≡ refusal k
+          by-date (inl v) = absurd (not-both (isoTextExpanded a jd) _ k (fields-given-by expandedSheet a jd c p ∙ has-text-by a (c .date) v (date-in-range (jd .jd1) (jd .jd2) c p .year-high) expandedSheet (c .fraction)) e)
           by-date (inr v) =
-              fields-given b jd c p
-              ∙ text-refused b (c .date) (c .fraction) 1 v
-              ∙ ap refusal (one-number (isoText a jd) 1 k (fields-given a jd c p ∙ text-refused a (c .date) (c .fraction) 1 v) e)
+              fields-given-by expandedSheet b jd c p
+              ∙ text-refused-by b (c .date) expandedSheet (c .fraction) 1 v
+              ∙ ap refusal (one-number (isoTextExpanded a jd) 1 k (fields-given-by expandedSheet a jd c p ∙ text-refused-by a (c .date) expandedSheet (c .fraction) 1 v) e)
 
   pub refused-alike : (s : List ℕ) (n i k : ℕ) → textAt a s n i ≡ refusal k → textAt b s n i ≡ refusal k
   unfolding textAt

@@ -18,31 +18,31 @@ use Rattle.day_number.specs.Answer.{dayOutcome, dayNumberAndFraction}
 use Rattle.julian.specs.declared.JulianDate.{JulianDate}
 use Rattle.julian.specs.Calendar.{fields, julianToCalendar}
 use Rattle.tai_utc.specs.Table.{Row}
-use Rattle.utc.specs.IsoText.{isoText}
+use Rattle.utc.specs.Expanded.{expandedSheet, isoTextExpanded}
 use Rattle.utc.proofs.Dates.{date-in-range}
-use Rattle.utc.proofs.TextCalls.{fields-refused, fields-given}
-use Rattle.utc.proofs.DayTexts.{text-refused, has-text}
+use Rattle.utc.proofs.TextCalls.{fields-refused-by, fields-given-by}
+use Rattle.utc.proofs.DayTexts.{text-refused-by, has-text-by}
 use Rattle.stamps.specs.Listing.{oneIfRefused}
 
 module _ (rows : List Row) (jd : JulianDate) (res : DayAnswer) (e : dayOutcome res ≡ dayNumberAndFraction (jd .jd1) (jd .jd2)) where
-  pub day-refused : (k : ℕ) → res ≡ Refused k → 1 ≡ oneIfRefused (isoText rows jd)
+  pub day-refused : (k : ℕ) → res ≡ Refused k → 1 ≡ oneIfRefused (isoTextExpanded rows jd)
   unfolding dayOutcome julianToCalendar onward oneIfRefused
   day-refused k is =
       let d : dayNumberAndFraction (jd .jd1) (jd .jd2) ≡ refusal k = sym e ∙ ap dayOutcome is in
-      sym (ap oneIfRefused (fields-refused rows jd k (rw d refl)))
+      sym (ap oneIfRefused (fields-refused-by expandedSheet rows jd k (rw d refl)))
 
-  pub day-given : (n : DayNumber) → res ≡ Day n → cond (ltZ (n .day) (negsuc 31737)) 1 0 ≡ oneIfRefused (isoText rows jd)
+  pub day-given : (n : DayNumber) → res ≡ Day n → cond (ltZ (n .day) (negsuc 31737)) 1 0 ≡ oneIfRefused (isoTextExpanded rows jd)
   unfolding dayOutcome julianToCalendar onward oneIfRefused
   day-given n is = by (ltZ (n .day) (negsuc 31737)) (gregorian-valid (n .day))
     where
       given : julianToCalendar (jd .jd1) (jd .jd2) ≡ answer (fields (gregorianDate (n .day)) (n .fraction))
       given = let d : dayNumberAndFraction (jd .jd1) (jd .jd2) ≡ answer n = sym e ∙ ap dayOutcome is in rw d refl
 
-      by : (b : Bool) → validOf (gregorianDate (n .day)) ≡ cond b (refusal 1) (answer tt) → cond b 1 0 ≡ oneIfRefused (isoText rows jd)
-      by true v = sym (ap oneIfRefused (fields-given rows jd _ given ∙ text-refused rows (gregorianDate (n .day)) (n .fraction) 1 v))
+      by : (b : Bool) → validOf (gregorianDate (n .day)) ≡ cond b (refusal 1) (answer tt) → cond b 1 0 ≡ oneIfRefused (isoTextExpanded rows jd)
+      by true v = sym (ap oneIfRefused (fields-given-by expandedSheet rows jd _ given ∙ text-refused-by rows (gregorianDate (n .day)) expandedSheet (n .fraction) 1 v))
       by false v =
           sym
-          (ap oneIfRefused (fields-given rows jd _ given ∙ has-text rows (gregorianDate (n .day)) v (date-in-range (jd .jd1) (jd .jd2) _ given .year-high) (n .fraction)))
+          (ap oneIfRefused (fields-given-by expandedSheet rows jd _ given ∙ has-text-by rows (gregorianDate (n .day)) v (date-in-range (jd .jd1) (jd .jd2) _ given .year-high) expandedSheet (n .fraction)))
 
 -- a day as the machine reads it back from its bits
 pub day-test : (n : ℤ) (b : Bool) → SFits w64 n → ltZ (toZ w64 (ofZ w64 n)) (negsuc 31737) ≡ b → _≡_ {A = ℕ} (cond b 1 0) (cond (ltZ n (negsuc 31737)) 1 0)

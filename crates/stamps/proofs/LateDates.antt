@@ -36,7 +36,7 @@ use Rattle.day_number.proofs.DayInRange.{total-is, number-is}
 use Rattle.day_number.proofs.Answer.{answered}
 use Rattle.julian.specs.declared.JulianDate.{JulianDate}
 use Rattle.tai_utc.specs.Table.{Row}
-use Rattle.utc.specs.IsoText.{isoText}
+use Rattle.utc.specs.Expanded.{isoTextExpanded}
 use Rattle.stamps.specs.Listing.{oneIfRefused}
 use Rattle.stamps.proofs.Counts.{day-given}
 
@@ -141,7 +141,7 @@ not-early (pos n) h = refl
 not-early (negsuc n) h = le-ltb 31737 n (omega arith)
 
 pub late-shown : (rows : List Row) (jd : JulianDate) → T (fits binary64 (jd .jd1)) → T (fits binary64 (jd .jd2)) → Late (jd .jd1) (jd .jd2)
-    → 0 ≡ oneIfRefused (isoText rows jd)
+    → 0 ≡ oneIfRefused (isoTextExpanded rows jd)
 unfolding dayOutcome dayOf
 late-shown rows jd f1 f2 l =
     let day = dayOf (jd .jd1) (jd .jd2) in

@@ -9,7 +9,7 @@ use borrow.Author.Tests.{eq-eqb, ne-eqb}
 use Rattle.refusals.specs.Outcome.{Outcome, answer}
 use Rattle.julian.specs.declared.JulianDate.{JulianDate}
 use Rattle.tai_utc.specs.Table.{Row}
-use Rattle.utc.specs.IsoText.{isoText}
+use Rattle.utc.specs.Expanded.{isoTextExpanded}
 use Rattle.stamps.specs.declared.BlockAnswer.{BlockAnswer}
 use Rattle.stamps.specs.declared.BlockAnswer.the-variants.{Stamps, Refused}
 use Rattle.stamps.specs.Block.{blockOf, blockOutcome, stampAt}
@@ -21,16 +21,16 @@ use Rattle.stamps.proofs.Places.{then, placed-as}
 
 module _ {d d1 d2 d3 d4 : List ℕ} {at r1 r2 r3 r4 : ℕ} where
   pub stamp-put : (rows : List Row) (s : List ℕ) (n i : ℕ) (jd : JulianDate) → jd ≡ stampAt s n i
-      → Placed d at (numeral i) r1 d1 → Placed d1 r1 (32 ∷ []) r2 d2 → Placed d2 r2 (shown (isoText rows jd)) r3 d3 → Placed d3 r3 (10 ∷ []) r4 d4 → r4 ≤ length d
+      → Placed d at (numeral i) r1 d1 → Placed d1 r1 (32 ∷ []) r2 d2 → Placed d2 r2 (shown (isoTextExpanded rows jd)) r3 d3 → Placed d3 r3 (10 ∷ []) r4 d4 → r4 ≤ length d
       → Placed d at (stampLine rows s n i) r4 d4
   unfolding stampLine textAt
   stamp-put rows s n i jd e p1 p2 p3 p4 le =
-      let n3 : r3 ≡ r2 + length (shown (isoText rows jd)) = p3 .ends in
+      let n3 : r3 ≡ r2 + length (shown (isoTextExpanded rows jd)) = p3 .ends in
       let n4 : r4 ≡ r3 + 1 = p4 .ends in
-      then (then (then p1 p2 (omega arith)) (placed-as (ap (λ (j : JulianDate). shown (isoText rows j)) e) p3) (omega arith)) p4 le
+      then (then (then p1 p2 (omega arith)) (placed-as (ap (λ (j : JulianDate). shown (isoTextExpanded rows j)) e) p3) (omega arith)) p4 le
 
 -- one stamp more is counted
-pub refused-more : (rows : List Row) (s : List ℕ) (n k m : ℕ) (jd : JulianDate) (one : ℕ) → m ≡ refusedIn rows s n k → jd ≡ stampAt s n k → one ≡ oneIfRefused (isoText rows jd) → m + one ≡ refusedIn rows s n (k + 1)
+pub refused-more : (rows : List Row) (s : List ℕ) (n k m : ℕ) (jd : JulianDate) (one : ℕ) → m ≡ refusedIn rows s n k → jd ≡ stampAt s n k → one ≡ oneIfRefused (isoTextExpanded rows jd) → m + one ≡ refusedIn rows s n (k + 1)
 unfolding refusedIn textAt
 refused-more rows s n k m jd one em ej eo = rw add-one (cc)
 

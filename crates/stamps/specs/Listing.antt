@@ -1,12 +1,12 @@
 -- The listing of a stamp block, a list of bytes. Written from document 01, "The program that lists a block": a header, then a line for each stamp; of a refused block
--- one line. Fields stand one space (32) apart, and every line ends with byte 10. The texts are those of a table of rows, by document 02, item 8 ("All calls that
--- read offsets take it"). Assumes nothing.
+-- one line. Fields stand one space (32) apart, and every line ends with byte 10. The texts have expanded years, by document 02, item 6 ("The lister uses it from then
+-- on"), and are those of a table of rows, by item 8 ("All calls that read offsets take it"). Assumes nothing.
 use Prim.Native.Nat.{ℕ, zero, suc, _+_}
 use mathlib.Core.List.{List, [], _∷_, _++_}
 use Rattle.refusals.specs.Outcome.{Outcome, answer, refusal}
 use Rattle.digits.specs.Decimal.{digitsIn}
 use Rattle.tai_utc.specs.Table.{Row}
-use Rattle.utc.specs.IsoText.{isoText}
+use Rattle.utc.specs.Expanded.{isoTextExpanded}
 use Rattle.stamps.specs.Block.{blockOf, stampAt}
 
 -- a number, in decimal and with no zeros in front: four digits are enough, since the counts and the indexes of a listing are at most 4,000 and the refusals' numbers at
@@ -28,7 +28,7 @@ blockRefusedWords = 98 ∷ 108 ∷ 111 ∷ 99 ∷ 107 ∷ 32 ∷ refusedWord
 
 -- the conversion of stamp i of n: its text, or a refusal
 unfoldable pub textAt : List Row → List ℕ → ℕ → ℕ → Outcome (List ℕ)
-textAt rows s n i = isoText rows (stampAt s n i)
+textAt rows s n i = isoTextExpanded rows (stampAt s n i)
 
 -- the text, or `refused` and the number
 unfoldable pub shown : Outcome (List ℕ) → List ℕ

@@ -11,7 +11,7 @@ ghost use Rattle.floats.specs.Whole.{nought};
 ghost use Rattle.day_number.specs.DayNumber.{c-djmax};
 ghost use Rattle.tai_utc.specs.Table.{Row};
 ghost use Rattle.tai_utc.specs.Lent.{rowsOf, tableOf};
-ghost use Rattle.utc.specs.IsoText.{isoText};
+ghost use Rattle.utc.specs.Expanded.{isoTextExpanded};
 ghost use Rattle.stamps.specs.Block.{blockOutcome, blockOf};
 ghost use Rattle.stamps.specs.Placed.{Placed};
 ghost use Rattle.stamps.specs.Listing.{shown, stampLine, oneIfRefused, refusedIn, header, blockRefused};
@@ -28,16 +28,16 @@ use scales::UTC;
 use tai_utc::LentRows;
 use utc_text::TextAnswer;
 
-// A line is begun only where so many bytes are left. The longest line has 32: four of the index, a blank, the longest text, 26, and the line's end.
+// A line is begun only where so many bytes are left: the longest line has four of the index, a blank, the longest text, 27, and the line's end.
 const LINE_ROOM: usize = 33;
 
 // The text of a date, or `refused` and the number.
 fn place_shown(utc: UTC, table: LentRows, dst: &mut [u8], at: usize) -> usize
-    requires { ⌜ at + 26 ≤ length (now dst) ⌝ }
-    ensures { λ r. ⌜ Placed (now (dst .entry)) at (shown (isoText (rowsOf table) (utc .0))) r (now (dst .exit)) ⌝ }
-    ensures { λ r. ⌜ r ≤ at + 26 ⌝ }
+    requires { ⌜ at + 27 ≤ length (now dst) ⌝ }
+    ensures { λ r. ⌜ Placed (now (dst .entry)) at (shown (isoTextExpanded (rowsOf table) (utc .0))) r (now (dst .exit)) ⌝ }
+    ensures { λ r. ⌜ r ≤ at + 27 ⌝ }
 {
-    match utc::to_iso8601_by_rows(utc, table, &mut dst[at..]) {
+    match utc::to_iso8601_expanded_by_rows(utc, table, &mut dst[at..]) {
         TextAnswer::Written(n) => at + n,
         TextAnswer::Refused(number) => {
             let next = place::bytes(b"refused ", dst, at);
@@ -81,7 +81,7 @@ fn surely_shown(sum: f64) -> bool
 // 1 where a date has no text, else 0, by whatever rows. Of the text's conversion the day number is made at most: what comes after it refuses only the days before
 // the first.
 fn one_if_refused(jd: JulianDate) -> u32
-    ensures { λ r. ⌜ ((rows : List Row) → r ≡ oneIfRefused (isoText rows jd)) × (r ≤ 1) ⌝ }
+    ensures { λ r. ⌜ ((rows : List Row) → r ≡ oneIfRefused (isoTextExpanded rows jd)) × (r ≤ 1) ⌝ }
 {
     if surely_shown(jd.jd1 + jd.jd2) {
         return 0;

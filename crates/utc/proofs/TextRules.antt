@@ -3,10 +3,7 @@ use mathlib.Core.Path.{_≡_, refl, sym, ap, subst, _∙_}
 use Prim.Native.Nat.{ℕ}
 use mathlib.Core.List.{List}
 use lib.ListN.{length}
-use lib.IntN.{pos}
-use lib.Ieee.{Float}
 use Rattle.refusals.specs.Outcome.{Outcome, answer, refusal, onward}
-use Rattle.calendar.specs.declared.CalendarDate.{CalendarDate}
 use Rattle.julian.specs.declared.JulianDate.{JulianDate}
 use Rattle.julian.specs.declared.CalendarFields.{CalendarFields}
 use Rattle.julian.specs.Calendar.{julianToCalendar}
@@ -18,9 +15,12 @@ use Rattle.utc_text.specs.declared.TextAnswer.{TextAnswer}
 use Rattle.utc_text.specs.Answer.{textOutcome, textWritten}
 use Rattle.utc.specs.declared.TextByRule.{TextByRule}
 use Rattle.utc.specs.declared.TextByRule.the-variants.{Refused}
-use Rattle.utc.specs.IsoText.{dayText, isoTextBy, isoText}
+use Rattle.utc.specs.Sheet.{Sheet}
+use Rattle.utc.specs.IsoText.{sheet01, dayTextBy, isoTextBy, isoText}
+use Rattle.utc.specs.Expanded.{expandedSheet, isoTextExpanded}
+use Rattle.utc.specs.HalfEven.{evenSheet, isoTextHalfEven}
 use Rattle.utc.specs.TextCall.{written, bufferHolds, TextCall}
-use Rattle.utc.specs.ByRule.{ruleOn, textByRule, isoTextByRule, textByRuleOutcome, writtenByRule, TextRuleCall}
+use Rattle.utc.specs.ByRule.{ruleOn, textByRule, isoTextByRule, halfEvenByRule, expandedByRule, textByRuleOutcome, writtenByRule, TextRuleCall}
 
 pub rule-call-refused : (o : Outcome (List ℕ × Rule)) (n : ℕ) (l : List ℕ) → o ≡ refusal n → TextRuleCall o l (Refused n) l
 unfolding writtenByRule bufferHolds textByRuleOutcome forget onward
@@ -51,15 +51,20 @@ forget-written (refusal k) n = refl
 pub rule-call-forgets : (o : Outcome (List ℕ × Rule)) (l out : List ℕ) (r : TextByRule) (t : TextAnswer) → textOutcome t ≡ forget (textByRuleOutcome r) → TextRuleCall o l r out → TextCall (forget o) l t out
 rule-call-forgets o l out r t e p = record { says = e ∙ ap forget (p .says) ∙ forget-written o (length l); holds = p .holds }
 
-module _ (day : CalendarDate → Float → Outcome (List ℕ)) (rows : List Row) (jd : JulianDate) where
-  pub text-forgets : forget (textByRule day rows jd) ≡ onward (julianToCalendar (jd .jd1) (jd .jd2)) (λ c. day (c .date) (c .fraction))
-  unfolding textByRule forget onward
-  text-forgets = go (julianToCalendar (jd .jd1) (jd .jd2))
-    where
-      go : (w : Outcome CalendarFields) → forget (onward w (λ c. withRule (day (c .date) (c .fraction)) (ruleOn rows (c .date)))) ≡ onward w (λ c. day (c .date) (c .fraction))
-      go (answer c) = forgets (day (c .date) (c .fraction)) (ruleOn rows (c .date))
-      go (refusal k) = refl
+pub text-forgets : (sheet : Sheet) (rows : List Row) (jd : JulianDate) → forget (textByRule sheet rows jd) ≡ isoTextBy sheet rows jd
+unfolding textByRule isoTextBy forget onward
+text-forgets sheet rows jd = go (julianToCalendar (jd .jd1) (jd .jd2))
+  where
+    go : (w : Outcome CalendarFields) → forget (onward w (λ c. withRule (dayTextBy sheet rows (c .date) (c .fraction)) (ruleOn rows (c .date)))) ≡ onward w (λ c. dayTextBy sheet rows (c .date) (c .fraction))
+    go (answer c) = forgets (dayTextBy sheet rows (c .date) (c .fraction)) (ruleOn rows (c .date))
+    go (refusal k) = refl
 
+-- document 01's text and the two others
 pub iso-forgets : (rows : List Row) (jd : JulianDate) → forget (isoTextByRule rows jd) ≡ isoText rows jd
-unfolding isoTextBy
-iso-forgets rows jd = text-forgets (dayText rows) rows jd
+iso-forgets = text-forgets sheet01
+
+pub even-forgets : (rows : List Row) (jd : JulianDate) → forget (halfEvenByRule rows jd) ≡ isoTextHalfEven rows jd
+even-forgets = text-forgets evenSheet
+
+pub expanded-forgets : (rows : List Row) (jd : JulianDate) → forget (expandedByRule rows jd) ≡ isoTextExpanded rows jd
+expanded-forgets = text-forgets expandedSheet

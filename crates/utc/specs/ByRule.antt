@@ -1,10 +1,9 @@
--- The text of a UTC date with the rule of the day. Written from document 02, item 5: the text passes on the rule of the calendar's date at 0h, which is the date before
--- any carry: a text that shows the next midnight passes on the rule of the day that ends there. Assumes nothing.
+-- The text of a UTC date with the rule of the day, by each sheet. Written from document 02, item 5: the text calls pass on the rule of the calendar's date at 0h, which is
+-- the date before any carry: a text that shows the next midnight passes on the rule of the day that ends there. Assumes nothing.
 use Prim.Native.Nat.{ℕ}
 use mathlib.Core.Path.{_≡_}
 use mathlib.Core.List.{List}
 use lib.ListN.{length}
-use lib.Ieee.{Float}
 use Rattle.refusals.specs.Outcome.{Outcome, answer, refusal, onward}
 use Rattle.calendar.specs.declared.CalendarDate.{CalendarDate}
 use Rattle.julian.specs.declared.JulianDate.{JulianDate}
@@ -16,16 +15,25 @@ unfoldable pub use Rattle.tai_utc.specs.Rule.{ruleOn}
 use Rattle.utc_text.specs.Answer.{textWritten}
 use Rattle.utc.specs.declared.TextByRule.{TextByRule}
 use Rattle.utc.specs.declared.TextByRule.the-variants as Ruled
-use Rattle.utc.specs.IsoText.{dayText}
+use Rattle.utc.specs.Sheet.{Sheet}
+use Rattle.utc.specs.IsoText.{sheet01, dayTextBy}
+use Rattle.utc.specs.Expanded.{expandedSheet}
+use Rattle.utc.specs.HalfEven.{evenSheet}
 use Rattle.utc.specs.TextCall.{bufferHolds}
 
--- by what a fraction of a date's day shows
-unfoldable pub textByRule : (CalendarDate → Float → Outcome (List ℕ)) → List Row → JulianDate → Outcome (List ℕ × Rule)
-textByRule day rows jd = onward (julianToCalendar (jd .jd1) (jd .jd2)) (λ c. withRule (day (c .date) (c .fraction)) (ruleOn rows (c .date)))
+-- by any sheet
+unfoldable pub textByRule : Sheet → List Row → JulianDate → Outcome (List ℕ × Rule)
+textByRule sheet rows jd = onward (julianToCalendar (jd .jd1) (jd .jd2)) (λ c. withRule (dayTextBy sheet rows (c .date) (c .fraction)) (ruleOn rows (c .date)))
 
--- document 01's text
+-- document 01's text, and those of document 02's items 4 and 6
 abbrev pub isoTextByRule : List Row → JulianDate → Outcome (List ℕ × Rule)
-isoTextByRule rows jd = textByRule (dayText rows) rows jd
+isoTextByRule rows jd = textByRule sheet01 rows jd
+
+abbrev pub halfEvenByRule : List Row → JulianDate → Outcome (List ℕ × Rule)
+halfEvenByRule rows jd = textByRule evenSheet rows jd
+
+abbrev pub expandedByRule : List Row → JulianDate → Outcome (List ℕ × Rule)
+expandedByRule rows jd = textByRule expandedSheet rows jd
 
 -- ---- a call that writes it
 unfoldable pub textByRuleOutcome : TextByRule → Outcome (ℕ × Rule)

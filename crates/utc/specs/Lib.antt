@@ -5,8 +5,8 @@ pub mod Sheet
 pub mod IsoText
 pub mod TextCall
 pub mod Expanded
-pub mod ByRule
 pub mod HalfEven
+pub mod ByRule
 -- The words of the theorems: no contract cites them.
 pub mod Shows
 pub mod Promises

@@ -18,7 +18,7 @@ use tai_utc::Rule;
 use tai_utc::SecondsByRule;
 use utc_text::TextAnswer;
 
-fn with_rule(text: TextAnswer, rule: Rule) -> TextByRule
+pub(crate) fn with_rule(text: TextAnswer, rule: Rule) -> TextByRule
     ensures { λ r. ⌜ textByRuleOutcome r ≡ withRule (textOutcome text) rule ⌝ }
 {
     match text {

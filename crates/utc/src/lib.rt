@@ -3,8 +3,10 @@ mod expanded;
 mod half_even;
 
 pub use expanded::to_iso8601_expanded;
+pub use expanded::to_iso8601_expanded_by_lent;
 pub use expanded::to_iso8601_expanded_by_rows;
 pub use half_even::to_iso8601_half_even;
+pub use half_even::to_iso8601_half_even_by_lent;
 pub use half_even::to_iso8601_half_even_by_rows;
 ghost use mathlib.Core.Path.{_≡_};
 ghost use Prim.Native.Nat.{_<_, _≤_};

@@ -4,11 +4,11 @@ use borrow.Author.Needs.{needs}
 use Rattle.capi.proofs.text_calls.no_room_for_rule.Statement.{statement}
 use Rattle.capi.proofs.text_calls.no_room_for_rule.Tie as tie
 
-slice-aggregate-to-iso8601-by-lent : tie.Need-slice-aggregate-to-iso8601-by-lent
-slice-aggregate-to-iso8601-by-lent c = search needs
+slice-aggregate-text-by : tie.Need-slice-aggregate-text-by
+slice-aggregate-text-by c = search needs
 
-to-iso8601-by-lent-requires : tie.Need-to-iso8601-by-lent-requires
-to-iso8601-by-lent-requires c κs = search needs
+text-by-requires : tie.Need-text-by-requires
+text-by-requires c κs = search needs
 
 enum-known-number : tie.Need-enum-known-number
 enum-known-number c = search needs
@@ -23,17 +23,17 @@ refused-requires-2 : tie.Need-refused-requires-2
 refused-requires-2 c κs = search needs
 
 returns : tie.Need-returns
-returns c = no-room-refused _ (c .before .before .before .before .before .to-iso8601-by-lent .ensures) (c .refused .ok) (c .before .before .number .given .1) (c .refused .ensures)
+returns c = no-room-refused _ (c .before .before .before .before .before .text-by .ensures) (c .refused .ok) (c .before .before .number .given .1) (c .refused .ensures)
 
 returns-2 : tie.Need-returns-2
-returns-2 c = no-room-written _ (c .before .before .before .before .to-iso8601-by-lent .ensures) (c .refused2 .ok) (c .before .enum-told .given .1) (c .refused2 .ensures)
+returns-2 c = no-room-written _ (c .before .before .before .before .text-by .ensures) (c .refused2 .ok) (c .before .enum-told .given .1) (c .refused2 .ensures)
 
 pub no-room-for-rule-spec : {M : Type 1} → statement M
 no-room-for-rule-spec =
     tie.close
     (tie.spec
-    slice-aggregate-to-iso8601-by-lent
-    to-iso8601-by-lent-requires
+    slice-aggregate-text-by
+    text-by-requires
     enum-known-number
     refused-requires
     enum-told

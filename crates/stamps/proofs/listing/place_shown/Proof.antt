@@ -11,17 +11,17 @@ use borrow.Author.Needs.{needs}
 use Rattle.stamps.proofs.listing.place_shown.Statement.{statement}
 use Rattle.stamps.proofs.listing.place_shown.Tie as tie
 
-sub-to-iso8601-by-rows : tie.Need-sub-to-iso8601-by-rows
-sub-to-iso8601-by-rows c = search needs
+sub-to-iso8601-expanded-by-rows : tie.Need-sub-to-iso8601-expanded-by-rows
+sub-to-iso8601-expanded-by-rows c = search needs
 
-part-to-iso8601-by-rows-start : tie.Need-part-to-iso8601-by-rows-start
-part-to-iso8601-by-rows-start c = search needs
+part-to-iso8601-expanded-by-rows-start : tie.Need-part-to-iso8601-expanded-by-rows-start
+part-to-iso8601-expanded-by-rows-start c = search needs
 
-part-to-iso8601-by-rows-end : tie.Need-part-to-iso8601-by-rows-end
-part-to-iso8601-by-rows-end c = search needs
+part-to-iso8601-expanded-by-rows-end : tie.Need-part-to-iso8601-expanded-by-rows-end
+part-to-iso8601-expanded-by-rows-end c = search needs
 
-to-iso8601-by-rows-requires : tie.Need-to-iso8601-by-rows-requires
-to-iso8601-by-rows-requires c κs = search needs
+to-iso8601-expanded-by-rows-requires : tie.Need-to-iso8601-expanded-by-rows-requires
+to-iso8601-expanded-by-rows-requires c κs = search needs
 
 enum-known-n : tie.Need-enum-known-n
 enum-known-n c = search needs
@@ -29,7 +29,7 @@ enum-known-n c = search needs
 add-result : tie.Need-add-result
 add-result c =
     let st = c .before .before .before .before .before .before .before .before in
-    let w = text-written (c .before .before .before .before .before .to-iso8601-by-rows .ensures) _ (c .before .n .given .1) in
+    let w = text-written (c .before .before .before .before .before .to-iso8601-expanded-by-rows .ensures) _ (c .before .n .given .1) in
     omega (arith, w .0, shown-most _ (brief (rowsOf (st .args .table)) (st .args .utc .0)), st .pre, st .good)
 
 enum-known-number : tie.Need-enum-known-number
@@ -50,7 +50,7 @@ same-length c = search needs
 returns : tie.Need-returns
 returns c =
     let st = c .before .before .before .before .before .before .before .before in
-    let w = text-written (c .before .before .before .before .before .to-iso8601-by-rows .ensures) _ (c .before .n .given .1) in (
+    let w = text-written (c .before .before .before .before .before .to-iso8601-expanded-by-rows .ensures) _ (c .before .n .given .1) in (
       record {
         ends = ap (λ (k : ℕ). st .args .at + k) (w .0);
         holds = part-put (now (st .args .dst)) (st .args .at) (omega (arith, st .pre)) _ _ (w .1);
@@ -66,7 +66,7 @@ unfolding shown
 returns-2 c =
     let st = c .before .before .before .before .before .before .before .before .before .before .before .before .before .before .before .before .before in
     let room = lent-length (now (st .args .dst)) (st .args .at) (omega (arith, st .pre)) in
-    let w = text-refused (c .before .before .before .before .before .before .before .before .before .before .before .before .before .before .to-iso8601-by-rows .ensures) _ (c .before .before .before .before .before .before .before .before .before .before .number .given .1) (brief (rowsOf (st .args .table)) _) (omega (arith, room, st .pre)) in
+    let w = text-refused (c .before .before .before .before .before .before .before .before .before .before .before .before .before .before .to-iso8601-expanded-by-rows .ensures) _ (c .before .before .before .before .before .before .before .before .before .before .number .given .1) (brief (rowsOf (st .args .table)) _) (omega (arith, room, st .pre)) in
     let p1 = placed-into (part-kept (now (st .args .dst)) (st .args .at) (omega (arith, st .pre)) _ (w .1)) (c .before .before .before .before .before .before .bytes .ensures) in
     let p2 = c .before .before .number2 .ensures in
     (placed-as (sym (ap shown (w .0))) (then p1 (p2 .0) (omega (arith, st .pre, p2 .1, p1 .ends))), omega (arith, p2 .1, p1 .ends))
@@ -75,10 +75,10 @@ pub place-shown-spec : {M : Type 1} → statement M
 place-shown-spec =
     tie.close
     (tie.spec
-    sub-to-iso8601-by-rows
-    part-to-iso8601-by-rows-start
-    part-to-iso8601-by-rows-end
-    to-iso8601-by-rows-requires
+    sub-to-iso8601-expanded-by-rows
+    part-to-iso8601-expanded-by-rows-start
+    part-to-iso8601-expanded-by-rows-end
+    to-iso8601-expanded-by-rows-requires
     enum-known-n
     add-result
     enum-known-number

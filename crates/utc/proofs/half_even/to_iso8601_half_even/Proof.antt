@@ -1,7 +1,11 @@
--- `half_even::to_iso8601_half_even` meets its contract: the table is tested, and its rows are read. Assumes nothing.
-use mathlib.Core.Path.{sym}
+-- `utc::half_even::to_iso8601_half_even` meets its contract: the table is tested, and its rows are read. Assumes nothing.
+use mathlib.Core.Path.{sym, ap, _∙_}
+use mathlib.Core.List.{List}
+use Rattle.tai_utc.specs.Table.{Row}
+use Rattle.tai_utc.proofs.ByParts.{rows-in}
 use Rattle.tai_utc.proofs.TablesTaken.{turned-away, taken}
-use Rattle.utc.proofs.TextCalls.{call-refused, call-as}
+use Rattle.utc.specs.ByRule.{halfEvenByRule}
+use Rattle.utc.proofs.TextRules.{rule-call-refused, rule-call-as}
 use borrow.Author.Needs.{needs}
 use Rattle.utc.proofs.half_even.to_iso8601_half_even.Statement.{statement}
 use Rattle.utc.proofs.half_even.to_iso8601_half_even.Tie as tie
@@ -12,22 +16,34 @@ table-refusal-requires c κs = search needs
 returns : tie.Need-returns
 returns c =
     let r = c .before in
-    call-refused _ _ _ (sym (turned-away (r .before .before .args .table) (r .table-refusal .result) (r .table-refusal .ensures) _ (c .if1 .taken)))
+    rule-call-refused _ _ _ (sym (turned-away (r .before .before .args .t2) (r .table-refusal .result) (r .table-refusal .ensures) _ (c .if1 .taken)))
 
-to-iso8601-half-even-by-rows-requires : tie.Need-to-iso8601-half-even-by-rows-requires
-to-iso8601-half-even-by-rows-requires c κs = search needs
+size-of-requires : tie.Need-size-of-requires
+size-of-requires c κs = search needs
+
+to-iso8601-half-even-by-lent-requires : tie.Need-to-iso8601-half-even-by-lent-requires
+to-iso8601-half-even-by-lent-requires c κs = search needs
 
 same-length : tie.Need-same-length
 same-length c = search needs
 
 returns-2 : tie.Need-returns-2
 returns-2 c =
-    let p = c .before .before in
-    let i = p .before .before in
+    let v = c .before .before in
+    let z = v .before .before .before .before .before in
+    let i = v .before .before .before .before .before .before in
     let r = i .before in
-    call-as _ _ _ _ _ (sym (taken (r .before .before .args .table) (r .table-refusal .result) (r .table-refusal .ensures) _ (i .if1 .left))) (p .to-iso8601-half-even-by-rows .ensures)
+    let s = v .before .before .before .before .before .before .before .before .before in
+    let e = ap (λ (l : List Row). halfEvenByRule l (s .args .utc .0)) (rows-in (s .args .t2) (z .size-of .result) (z .size-of .ensures)) ∙ taken (s .args .t2) (r .table-refusal .result) (r .table-refusal .ensures) (λ l. halfEvenByRule l (s .args .utc .0)) (i .if1 .left) in
+    rule-call-as _ _ _ _ _ (sym e) (v .to-iso8601-half-even-by-lent .ensures)
 
 pub to-iso8601-half-even-spec : {M : Type 1} → statement M
 to-iso8601-half-even-spec =
     tie.close
-    (tie.spec table-refusal-requires returns to-iso8601-half-even-by-rows-requires same-length returns-2)
+    (tie.spec
+    table-refusal-requires
+    returns
+    size-of-requires
+    to-iso8601-half-even-by-lent-requires
+    same-length
+    returns-2)

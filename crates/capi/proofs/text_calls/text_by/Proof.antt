@@ -1,0 +1,71 @@
+-- `capi::text_calls::text_by` meets its contract: by the sheet that is named. Assumes nothing.
+use mathlib.Core.List.{List}
+use denote.Ref.{now}
+use borrow.Author.Needs.{needs}
+use Rattle.tai_utc.specs.Table.{Row}
+use Rattle.tai_utc.specs.Lent.{rowsIn}
+use Rattle.capi.specs.declared.text_calls.NamedSheet.the-variants.{Document01, HalfEven, Expanded}
+use Rattle.capi.specs.TextRule.{sheetNamed}
+use Rattle.capi.proofs.TextRules.{named-call}
+use Rattle.capi.proofs.text_calls.text_by.Statement.{statement}
+use Rattle.capi.proofs.text_calls.text_by.Tie as tie
+
+-- the rows that are read
+abbrev rows : tie.Start → List Row
+rows s = rowsIn (s .args .size) (now (s .args .months)) (now (s .args .seconds))
+
+enum-told : tie.Need-enum-told
+enum-told c = search needs
+
+to-iso8601-by-lent-requires : tie.Need-to-iso8601-by-lent-requires
+to-iso8601-by-lent-requires c κs = search needs
+
+enum-told-2 : tie.Need-enum-told-2
+enum-told-2 c = search needs
+
+to-iso8601-half-even-by-lent-requires : tie.Need-to-iso8601-half-even-by-lent-requires
+to-iso8601-half-even-by-lent-requires c κs = search needs
+
+enum-told-3 : tie.Need-enum-told-3
+enum-told-3 c = search needs
+
+to-iso8601-expanded-by-lent-requires : tie.Need-to-iso8601-expanded-by-lent-requires
+to-iso8601-expanded-by-lent-requires c κs = search needs
+
+same-length : tie.Need-same-length
+same-length c = search needs
+
+returns : tie.Need-returns
+unfolding sheetNamed
+returns c = let s = c .before .before .before .before .before .before .before in named-call (s .args .sheet) Document01 (rows s) (s .args .date .0) (c .before .before .before .before .enum-told .given .1) (c .before .before .to-iso8601-by-lent .ensures)
+
+same-length-2 : tie.Need-same-length-2
+same-length-2 c = search needs
+
+returns-2 : tie.Need-returns-2
+unfolding sheetNamed
+returns-2 c = let s = c .before .before .before .before .before .before .before in named-call (s .args .sheet) HalfEven (rows s) (s .args .date .0) (c .before .before .before .before .enum-told2 .given .1) (c .before .before .to-iso8601-half-even-by-lent .ensures)
+
+same-length-3 : tie.Need-same-length-3
+same-length-3 c = search needs
+
+returns-3 : tie.Need-returns-3
+unfolding sheetNamed
+returns-3 c = let s = c .before .before .before .before .before .before .before in named-call (s .args .sheet) Expanded (rows s) (s .args .date .0) (c .before .before .before .before .enum-told3 .given .1) (c .before .before .to-iso8601-expanded-by-lent .ensures)
+
+pub text-by-spec : {M : Type 1} → statement M
+text-by-spec =
+    tie.close
+    (tie.spec
+    enum-told
+    to-iso8601-by-lent-requires
+    enum-told-2
+    to-iso8601-half-even-by-lent-requires
+    enum-told-3
+    to-iso8601-expanded-by-lent-requires
+    same-length
+    returns
+    same-length-2
+    returns-2
+    same-length-3
+    returns-3)

@@ -1,0 +1,109 @@
+-- A line of 33 bytes, the most that `line-most` allows: a block of 1,001 stamps of two zeros is taken, and the line of its last stamp has four digits, a blank, a text of
+-- 27 bytes of the year -4713 and the line's end. Assumes nothing.
+use Prim.Native.Nat.{ℕ, zero, suc, _+_}
+use native.Mathlib.Omega.{arith}
+use mathlib.Core.Path.{_≡_, refl, ap, _∙_}
+use mathlib.Core.Bool.{false}
+use mathlib.Core.List.{List, [], _∷_}
+use lib.ListN.{length, getD, replicate, length-append, length-replicate}
+use lib.IntN.{pos, negsuc}
+use lib.Signed.{ltZ}
+use lib.Ieee.{Float, binary64, ofBits, round, ofInt, add, sub, div, neg, lt, le, eq, toSigned}
+use Rattle.refusals.specs.Outcome.{Outcome, answer, onward}
+use Rattle.little_endian.specs.LittleEndian.{fourAt, u32At, u64At}
+use Rattle.digits.specs.Decimal.{digitsIn}
+use Rattle.floats.specs.Whole.{abs, toWhole, nearestInt}
+use Rattle.calendar.specs.declared.CalendarDate.{CalendarDate}
+use Rattle.calendar.specs.Calendar.{date, next, leapSize, lengths, daysInMonth}
+use Rattle.calendar.specs.Refusals.{validDate}
+use Rattle.calendar.specs.Gregorian.{gregorianDate}
+use Rattle.calendar.proofs.Years.{validOf}
+use Rattle.day_number.specs.DayNumber.{dayOf}
+use Rattle.day_number.specs.Answer.{dayNumberAndFraction}
+use Rattle.julian.specs.JulianDate.{julian}
+use Rattle.julian.specs.Calendar.{fields, julianToCalendar}
+use Rattle.julian_laws.proofs.Divisions.{dividedDate, divided-date}
+use Rattle.tai_utc.specs.Table.{Row}
+use Rattle.time_of_day.specs.declared.TimeShown.{TimeShown}
+use Rattle.time_of_day.specs.declared.TimeShown.the-variants.{At, NextMidnight}
+use Rattle.time_of_day.specs.TimeShown.{shownBy}
+use Rattle.utc_text.specs.Expanded.{expandedYear, expandedText}
+use Rattle.utc.specs.Expanded.{expandedSheet, isoTextExpanded}
+use Rattle.utc.proofs.TextCalls.{fields-given-by}
+use Rattle.utc.proofs.DayTexts.{textBy, leapOn, has-text-by}
+use Rattle.stamps.specs.Block.{blockOf, jd1Bits, jd2Bits, stampAt}
+use Rattle.stamps.specs.Listing.{textAt, shown, stampLine}
+use Rattle.stamps.specs.Parts.{lineOf}
+
+-- ---- the date of two zeros is -4713-11-24, by any rows with a text of 27 bytes
+abbrev nil : Float
+nil = ofBits binary64 0
+
+abbrev zeroDate : CalendarDate
+zeroDate = date (negsuc 4712) 11 24
+
+zero-day : (dayNumberAndFraction nil nil ≡ answer (dayOf nil nil)) × (dayOf nil nil .day ≡ pos 0)
+unfolding dayNumberAndFraction dayOf abs toWhole nearestInt round ofBits ofInt add sub div neg lt le eq toSigned
+zero-day = (refl, refl)
+
+by-division : dividedDate (pos 0) ≡ zeroDate
+unfolding dividedDate
+by-division = refl
+
+zero-calendar : julianToCalendar nil nil ≡ answer (fields zeroDate (dayOf nil nil .fraction))
+unfolding julianToCalendar onward
+zero-calendar =
+    rw (zero-day .0) (ap (λ (d : CalendarDate). answer (fields d (dayOf nil nil .fraction))) (ap gregorianDate (zero-day .1) ∙ divided-date (pos 0) ∙ by-division))
+
+zero-valid : (validOf zeroDate ≡ answer tt) × (ltZ (pos 2733194) (zeroDate .year) ≡ false)
+unfolding validDate daysInMonth leapSize lengths onward
+zero-valid = (refl, refl)
+
+wide : (r : TimeShown) → length (textBy expandedText zeroDate r) ≡ 27
+unfolding expandedText expandedYear next lengths
+wide (At t) = refl
+wide NextMidnight = refl
+
+zero-text : (rows : List Row) → (t : List ℕ) × (isoTextExpanded rows (julian nil nil) ≡ answer t) × (length t ≡ 27)
+zero-text rows =
+    let r = shownBy (expandedSheet .count) (dayOf nil nil .fraction) (leapOn rows zeroDate (zero-valid .0) (zero-valid .1)) in (
+      textBy expandedText zeroDate r,
+      fields-given-by expandedSheet rows (julian nil nil) _ zero-calendar ∙ has-text-by rows zeroDate (zero-valid .0) (zero-valid .1) expandedSheet (dayOf nil nil .fraction),
+      wide r,
+    )
+
+-- ---- in a block
+module _ (z : List ℕ) (many : length z ≡ 16016) (each : (k : ℕ) → getD z k 0 ≡ 0) where
+  abbrev block : List ℕ
+  block = 233 ∷ 3 ∷ 0 ∷ 0 ∷ 233 ∷ 3 ∷ 0 ∷ 0 ∷ z
+
+  taken : blockOf block ≡ answer 1001
+  unfolding blockOf u32At fourAt
+  taken = rw many refl
+
+  zeros-at : (jd1Bits block 1000 ≡ 0) × (jd2Bits block 1001 1000 ≡ 0)
+  unfolding jd1Bits jd2Bits u64At fourAt
+  zeros-at = (rw many (simp each), rw many (simp each))
+
+  text-at : (rows : List Row) → textAt rows block 1001 1000 ≡ answer (zero-text rows .0)
+  unfolding textAt stampAt
+  text-at rows = (λ i. isoTextExpanded rows (julian (ofBits binary64 (zeros-at .0 i)) (ofBits binary64 (zeros-at .1 i)))) ∙ zero-text rows .1
+
+  line-33 : (rows : List Row) → length (stampLine rows block 1001 1000) ≡ 33
+  unfolding stampLine shown digitsIn
+  line-33 rows = rw (text-at rows) (let e = length-append (zero-text rows .0) (10 ∷ []) in omega (arith, zero-text rows .2))
+
+abbrev noughts : ℕ → List ℕ
+noughts n = replicate n 0
+
+zeros : (n k : ℕ) → getD (noughts n) k 0 ≡ 0
+zeros zero k = refl
+zeros (suc n) zero = refl
+zeros (suc n) (suc k) = zeros n k
+
+pub longest-line : (rows : List Row) → (s : List ℕ) × (line : ℕ) × (blockOf s ≡ answer 1001) × (length (lineOf rows (blockOf s) s line) ≡ 33)
+unfolding lineOf
+longest-line rows =
+    let z = noughts 16016 in
+    let m = length-replicate {A = ℕ} 16016 0 in
+    (block z m (zeros 16016), 1001, taken z m (zeros 16016), rw (taken z m (zeros 16016)) (line-33 z m (zeros 16016) rows))
