@@ -8,3 +8,4 @@ pub mod Around
 pub mod ReadBack
 pub mod UtcTimes
 pub mod UtcReadBack
+pub mod EveryText
