@@ -1,16 +1,17 @@
 -- EVERY UTC TEXT THAT WE WRITE, of whatever two floats, and whose shown year is 1972 to 9999, is read as the fields that it shows, with their date: by any sheet whose
 -- years of four digits are document 01's, for every table that is taken. Assumes nothing.
-use Prim.Native.Nat.{ℕ, _+_, _*_, _≤_}
+use Prim.Native.Nat.{ℕ, _+_, _*_, _≤_, _<_}
 use native.Mathlib.Omega.{arith}
 use mathlib.Core.Path.{_≡_, refl, sym, ap, _∙_, subst}
 use mathlib.Core.Bool.{Bool, true, false, true≢false, cond}
 use mathlib.Core.List.{List, _∷_, _++_}
-use lib.Dec.{T, ltb}
+use lib.Dec.{T, ltb, lit<}
 use lib.IntN.{ℤ, pos, negsuc}
 use lib.Signed.{ltZ}
-use lib.Ieee.{Float, binary64, fits}
+use lib.Ieee.{Float, binary64, fits, lt}
 use borrow.Author.Tests.{lt-ltb, ltb-true, ltb-false}
 use Rattle.refusals.specs.Outcome.{Outcome, answer, refusal, onward}
+use Rattle.floats.specs.Whole.{nought}
 use Rattle.constants.specs.Constants.{decimal}
 use Rattle.calendar.specs.declared.CalendarDate.{CalendarDate}
 use Rattle.calendar.specs.Calendar.{next, dateOf}
@@ -31,11 +32,10 @@ use Rattle.tai_utc.specs.Lent.{tableOf}
 use Rattle.tai_utc.specs.Leap.{leapAtEndOfDay}
 use Rattle.tai_utc.proofs.Days.{leap-came}
 use Rattle.time_of_day.specs.declared.TimeOfDay.{TimeOfDay}
-use Rattle.time_of_day.specs.declared.TimeShown.{TimeShown}
 use Rattle.time_of_day.specs.declared.TimeShown.the-variants.{At, NextMidnight}
 use Rattle.time_of_day.specs.Milliseconds.{wholeLeap}
 use Rattle.time_of_day.specs.TimeShown.{timeOf, dayEnd, shownAt, shownBy}
-use Rattle.time_of_day.specs.ExactTime.{GoodTime, Good}
+use Rattle.time_of_day.specs.ExactTime.{GoodTime}
 use Rattle.time_of_day.proofs.Fields.{good-time}
 use Rattle.utc_text.specs.Text.{four, five, six, seven, afterYear, yearText, utcText}
 use Rattle.utc_text.specs.Expanded.{expandedYear, expandedText}
@@ -60,36 +60,33 @@ use Rattle.parsing_laws.specs.Shown.{fieldsShown, withDate, YearShown, R
 use Rattle.parsing_laws.proofs.ReadBack.{asWritten}
 use Rattle.parsing_laws.proofs.UtcReadBack.{Back, utc-reads-back}
 
--- ---- what a text is written from: a date of the calendar with its leap, and a time of its day
+-- ---- what a text is written from: a date of the calendar with its leap, and a count of milliseconds below the end of its day
 pub record WrittenFrom (sheet : Sheet) (rows : List Row) (s : List ℕ) : Type 0 where
   pub date : CalendarDate
-  pub time : TimeOfDay
+  pub millis : ℕ
   pub leap : Float
-  pub text : s ≡ sheet .write date time
+  pub text : s ≡ sheet .write date (timeOf millis)
   pub range : DateInRange date
   pub valid : validOf date ≡ answer tt
   pub leap-is : leapAtEndOfDay rows (date .year) (pos (date .month)) (pos (date .day)) ≡ answer leap
-  pub good : GoodTime time (wholeLeap leap)
+  pub in-day : millis < dayEnd (wholeLeap leap)
+
+pub good-fields : {sheet : Sheet} {rows : List Row} {s : List ℕ} (w : WrittenFrom sheet rows s) → GoodTime (timeOf (w .millis)) (wholeLeap (w .leap))
+good-fields w = good-time (w .millis) (wholeLeap (w .leap)) (w .in-day)
 
 -- midnight is in every day
-midnight-good : (l : Float) → GoodTime midnight l
-midnight-good l = record {
-  hour = omega arith;
-  minute = omega arith;
-  second = omega arith;
-  milli = omega arith;
-  sixty = λ e. absurd (omega arith);
-  shorter = λ t h m. omega arith;
-}
-
--- whatever is shown has good fields
-good-shown : (count : Float → Float → ℕ) (f x : Float) → Good (shownBy count f x) (wholeLeap x)
-unfolding shownBy shownAt Good
-good-shown count f x = go (ltb (count f (wholeLeap x)) (dayEnd (wholeLeap x))) refl
+from-midnight : (l : Float) → 0 < dayEnd l
+unfolding dayEnd
+from-midnight l = go (lt nought l) (lt l nought)
   where
-    go : (b : Bool) → ltb (count f (wholeLeap x)) (dayEnd (wholeLeap x)) ≡ b → Good (cond b (At (timeOf (count f (wholeLeap x)))) NextMidnight) (wholeLeap x)
-    go true e = good-time (count f (wholeLeap x)) (wholeLeap x) (ltb-true _ _ e)
-    go false e = tt
+    go : (a b : Bool) → 0 < cond a 86401000 (cond b 86399000 86400000)
+    go true b = lit< tt
+    go false true = lit< tt
+    go false false = lit< tt
+
+at-midnight : midnight ≡ timeOf 0
+unfolding timeOf
+at-midnight = refl
 
 module _ (sheet : Sheet) (rows : List Row) (jd : JulianDate) (f1 : T (fits binary64 (jd .jd1))) (f2 : T (fits binary64 (jd .jd2))) (s : List ℕ) where
   module _ (c : CalendarFields) (given : julianToCalendar (jd .jd1) (jd .jd2) ≡ answer c) (x : Float)
@@ -128,29 +125,42 @@ module _ (sheet : Sheet) (rows : List Row) (jd : JulianDate) (f1 : T (fits binar
     next-valid : validOf (has-next .0) ≡ answer tt
     next-valid = next-accepted (c .date .year) (pos (c .date .month)) (pos (c .date .day)) (has-next .0) (has-next .1)
 
-    of-shown : (w : TimeShown) → Good w (wholeLeap x) → shownTextBy (sheet .write) (c .date) w ≡ answer s → WrittenFrom sheet rows s
-    unfolding shownTextBy Good
-    of-shown (At u) g e = record { date = c .date; time = u; leap = x; text = cc; range = in-range; valid = valid; leap-is = leap; good = g }
-    of-shown NextMidnight g e =
-        let k = sym (next-given (sheet .write) (c .date) (has-next .0) (has-next .1)) ∙ e in
+    -- a time of the day itself, or the midnight that ends it
+    on-day : (k : ℕ) → k < dayEnd (wholeLeap x) → shownTextBy (sheet .write) (c .date) (At (timeOf k)) ≡ answer s → WrittenFrom sheet rows s
+    unfolding shownTextBy
+    on-day k h e = record { date = c .date; millis = k; leap = x; text = cc; range = in-range; valid = valid; leap-is = leap; in-day = h }
+
+    next-day : shownTextBy (sheet .write) (c .date) NextMidnight ≡ answer s → WrittenFrom sheet rows s
+    unfolding shownTextBy
+    next-day e =
+        let k : answer (sheet .write (has-next .0) midnight) ≡ answer s = sym (next-given (sheet .write) (c .date) (has-next .0) (has-next .1)) ∙ e in
+        let g : s ≡ sheet .write (has-next .0) midnight = cc in
         record {
           date = has-next .0;
-          time = midnight;
+          millis = 0;
           leap = leapOn rows (has-next .0) next-valid (next-range .year-high);
-          text = cc;
+          text = g ∙ ap (sheet .write (has-next .0)) at-midnight;
           range = next-range;
           valid = next-valid;
           leap-is = has-leap rows (has-next .0) next-valid (next-range .year-high);
-          good = midnight-good (wholeLeap (leapOn rows (has-next .0) next-valid (next-range .year-high)));
+          in-day = from-midnight (wholeLeap (leapOn rows (has-next .0) next-valid (next-range .year-high)));
         }
 
+    of-count : (k : ℕ) → shownTextBy (sheet .write) (c .date) (shownAt (wholeLeap x) k) ≡ answer s → WrittenFrom sheet rows s
+    unfolding shownAt
+    of-count k = go (ltb k (dayEnd (wholeLeap x))) refl
+      where
+        go : (b : Bool) → ltb k (dayEnd (wholeLeap x)) ≡ b → shownTextBy (sheet .write) (c .date) (cond b (At (timeOf k)) NextMidnight) ≡ answer s → WrittenFrom sheet rows s
+        go true h e = on-day k (ltb-true _ _ h) e
+        go false h e = next-day e
+
   pub written-from : isoTextBy sheet rows jd ≡ answer s → WrittenFrom sheet rows s
-  unfolding isoTextBy dayTextBy onward
+  unfolding isoTextBy dayTextBy onward shownBy
   written-from = from-fields (julianToCalendar (jd .jd1) (jd .jd2)) refl
     where
       from-leap : (c : CalendarFields) → julianToCalendar (jd .jd1) (jd .jd2) ≡ answer c → (o : Outcome Float) → leapAtEndOfDay rows (c .date .year) (pos (c .date .month)) (pos (c .date .day)) ≡ o
           → onward o (λ leap. shownTextBy (sheet .write) (c .date) (shownBy (sheet .count) (c .fraction) leap)) ≡ answer s → WrittenFrom sheet rows s
-      from-leap c g (answer x) h e = of-shown c g x h (shownBy (sheet .count) (c .fraction) x) (good-shown (sheet .count) (c .fraction) x) e
+      from-leap c g (answer x) h e = of-count c g x h (sheet .count (c .fraction) (wholeLeap x)) e
       from-leap c g (refusal k) h e = let z : _≡_ {A = ℕ} 0 1 = cc in absurd (omega arith)
 
       from-fields : (o : Outcome CalendarFields) → julianToCalendar (jd .jd1) (jd .jd2) ≡ o → onward o (λ c. dayTextBy sheet rows (c .date) (c .fraction)) ≡ answer s → WrittenFrom sheet rows s
@@ -158,61 +168,69 @@ module _ (sheet : Sheet) (rows : List Row) (jd : JulianDate) (f1 : T (fits binar
       from-fields (refusal k) h e = let z : _≡_ {A = ℕ} 0 1 = cc in absurd (omega arith)
 
 -- ---- THE LAW, by any good sheet
-writable : {sheet : Sheet} {rows : List Row} {s : List ℕ} (w : WrittenFrom sheet rows s) → Writable (w .date) (w .time)
-writable w = record {
-  year-low = w .range .year-low;
-  year-high = w .range .year-high;
-  month = w .range .month-high;
-  day = w .range .day-high;
-  hour = w .good .hour;
-  minute = w .good .minute;
-  second = w .good .second;
-  milli = w .good .milli;
-}
+writable : {sheet : Sheet} {rows : List Row} {s : List ℕ} (w : WrittenFrom sheet rows s) → Writable (w .date) (timeOf (w .millis))
+writable w =
+    let g = good-fields w in
+    record {
+      year-low = w .range .year-low;
+      year-high = w .range .year-high;
+      month = w .range .month-high;
+      day = w .range .day-high;
+      hour = g .hour;
+      minute = g .minute;
+      second = g .second;
+      milli = g .milli;
+    }
 
 -- a year from 1972 to 9999 is a number
 as-number : (z : ℤ) → ltZ z (pos 1972) ≡ false → ltZ (pos 9999) z ≡ false → (y : ℕ) × (z ≡ pos y) × (1972 ≤ y) × (y ≤ 9999)
 as-number (pos n) h k = (n, refl, ltb-false n 1972 h, ltb-false 9999 n k)
 as-number (negsuc n) h k = absurd (true≢false h)
 
-module _ (sheet : Sheet) (p : Promise) (good : GoodSheet sheet p) (plain : FourDigits sheet) (t : LentRows) (rows : List Row) (taken : tableOf t ≡ answer rows) where
-  by-fields : (s : List ℕ) → YearShown s → WrittenFrom sheet rows s → ReadsBack rows s
+module _ (sheet : Sheet) (p : Promise) (good : GoodSheet sheet p) (rows : List Row) (s : List ℕ) (shown : YearShown s) (w : WrittenFrom sheet rows s) where
+  abbrev pub u : TimeOfDay
+  u = timeOf (w .millis)
+
+  pub says : ReadsAs s (w .date) u
+  says = subst (λ (l : List ℕ). ReadsAs l (w .date) u) (sym (w .text)) (good .reads (w .date) u (writable w))
+
+  pub y-is : (y : ℕ) × (readYear s ≡ pos y) × (1972 ≤ y) × (y ≤ 9999)
+  y-is = as-number (readYear s) (shown .from) (shown .to)
+
+  abbrev pub y : ℕ
+  y = y-is .0
+
+  pub year : w .date .year ≡ pos y
+  year = sym (says .year) ∙ y-is .1
+
+  pub named : utcFromCalendar rows (readYear s) (readMonth s) (readDay s) (readHour s) (readMinute s) (decimal (1000 * readSecond s + readMilli s) 3)
+      ≡ utcFromCalendar rows (pos y) (w .date .month) (w .date .day) (u .hour) (u .minute) (decimal (1000 * u .second + u .milli) 3)
+  named = λ i. utcFromCalendar rows (y-is .1 i) (says .month i) (says .day i) (says .hour i) (says .minute i) (decimal (1000 * says .second i + says .milli i) 3)
+
+  same-fields : fieldsShown s ≡ fieldsOf (asWritten y (w .date) u)
   unfolding asWritten
-  by-fields s shown w = record { date = back .date; accepted = named ∙ back .accepted; read = ap (parsedUtc rows) (w .text ∙ plain (w .date) (w .time) y year (y-is .3)) ∙ back .read ∙ answered }
-    where
-      says : ReadsAs s (w .date) (w .time)
-      says = subst (λ (l : List ℕ). ReadsAs l (w .date) (w .time)) (sym (w .text)) (good .reads (w .date) (w .time) (writable w))
+  same-fields = λ i. record { year = y-is .1 i; month = says .month i; day = says .day i; hour = says .hour i; minute = says .minute i; second = decimal (1000 * says .second i + says .milli i) 3 }
 
-      y-is : (y : ℕ) × (readYear s ≡ pos y) × (1972 ≤ y) × (y ≤ 9999)
-      y-is = as-number (readYear s) (shown .from) (shown .to)
+  module _ (plain : FourDigits sheet) (t : LentRows) (taken : tableOf t ≡ answer rows) where
+    back : Back rows (w .date) u y
+    back = utc-reads-back t rows taken (w .date) u y (w .leap) year (y-is .2) (y-is .3) (w .valid) (w .range .month-low) (w .range .month-high) (w .range .day-high) (w .leap-is) (good-fields w)
 
-      y : ℕ
-      y = y-is .0
+    pub by-fields : ReadsBack rows s
+    by-fields = record {
+      date = back .date;
+      accepted = named ∙ back .accepted;
+      read = ap (parsedUtc rows) (w .text ∙ plain (w .date) u y year (y-is .3)) ∙ back .read ∙ sym (ap (λ (f : ParsedDateTime). answer (withDate f (back .date))) same-fields);
+    }
 
-      year : w .date .year ≡ pos y
-      year = sym (says .year) ∙ y-is .1
-
-      back : Back rows (w .date) (w .time) y
-      back = utc-reads-back t rows taken (w .date) (w .time) y (w .leap) year (y-is .2) (y-is .3) (w .valid) (w .range .month-low) (w .range .month-high) (w .range .day-high) (w .leap-is) (w .good)
-
-      named : utcFromCalendar rows (readYear s) (readMonth s) (readDay s) (readHour s) (readMinute s) (decimal (1000 * readSecond s + readMilli s) 3)
-          ≡ utcFromCalendar rows (pos y) (w .date .month) (w .date .day) (w .time .hour) (w .time .minute) (decimal (1000 * w .time .second + w .time .milli) 3)
-      named = λ i. utcFromCalendar rows (y-is .1 i) (says .month i) (says .day i) (says .hour i) (says .minute i) (decimal (1000 * says .second i + says .milli i) 3)
-
-      same-fields : fieldsShown s ≡ fieldsOf (asWritten y (w .date) (w .time))
-      same-fields = λ i. record { year = y-is .1 i; month = says .month i; day = says .day i; hour = says .hour i; minute = says .minute i; second = decimal (1000 * says .second i + says .milli i) 3 }
-
-      answered : answer (withDate (fieldsOf (asWritten y (w .date) (w .time))) (back .date)) ≡ answer (withDate (fieldsShown s) (back .date))
-      answered = sym (ap (λ (f : ParsedDateTime). answer (withDate f (back .date))) same-fields)
-
+module _ (sheet : Sheet) (p : Promise) (good : GoodSheet sheet p) (plain : FourDigits sheet) (t : LentRows) (rows : List Row) (taken : tableOf t ≡ answer rows) where
   pub text-reads-back : (jd : JulianDate) → T (fits binary64 (jd .jd1)) → T (fits binary64 (jd .jd2)) → (s : List ℕ) → isoTextBy sheet rows jd ≡ answer s → YearShown s → ReadsBack rows s
-  text-reads-back jd f1 f2 s e shown = by-fields s shown (written-from sheet rows jd f1 f2 s e)
+  text-reads-back jd f1 f2 s e shown = by-fields sheet p good rows s shown (written-from sheet rows jd f1 f2 s e) plain t taken
 
 -- ---- the three sheets
-as-01 : FourDigits sheet01
+pub as-01 : FourDigits sheet01
 as-01 d u y e h = refl
 
-expanded-as-01 : FourDigits expandedSheet
+pub expanded-as-01 : FourDigits expandedSheet
 unfolding expandedText utcText expandedYear yearText
 expanded-as-01 d u y e h =
     ap (λ (z : ℤ). expandedYear z ++ afterYear d u) e

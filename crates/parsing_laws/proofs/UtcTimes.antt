@@ -45,8 +45,8 @@ wide nu u P e h k = omega arith
 wide-back : (nu u P : ℕ) → P ≡ 64 * u → 0 < u → 0 * u < nu + P * 1000
 wide-back nu u P e h = omega arith
 
-close : (n : ℕ) → n < 61000 → Near (decimal n 3) n 0 1000 1027
-close n h =
+pub second-near : (n : ℕ) → n < 61000 → Near (decimal n 3) n 0 1000 1027
+second-near n h =
     rounds-near 1027 {z = decimal n 3} {P = n} {N = 0} {D = 1000} (lit< tt) (lit≤ tt) (wide (n * L) L (2 ^ 1080) sixty-four L-pos (mul-le-mul-right L (le-of-lt h)))
     (wide-back (n * L) L (2 ^ 1080) sixty-four L-pos)
     (record { sign = false; size = n; eq = refl; is = add-zero n })
@@ -63,7 +63,7 @@ one-more n = ap (λ (x : ℕ). x * L) (sym (add-one n)) ∙ add-mul n 1 L ∙ ap
 
 pub second-below : (n b : ℕ) → n < 1000 * b → b ≤ 61 → lt (decimal n 3) (decimal b 0) ≡ true
 second-below n b h k =
-    let e = close n (omega arith) in
+    let e = second-near n (omega arith) in
     lt-val L-pos (e .val) (whole-val b k)
     ∙ lt-ltb _ _ (under (e .p) (e .n) (n * L) (b * L) L (1000 * 2 ^ 1027) (suc n * L) (e .over) small-step (one-more n) (subst (λ (x : ℕ). suc n * L ≤ x) (mul-assoc 1000 b L) (mul-le-mul-right L h)))
 
