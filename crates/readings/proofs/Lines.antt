@@ -8,7 +8,8 @@ use native.Mathlib.Nat.{le-trans, pow-suc, zero-add}
 use native.Mathlib.Numerals.{add-one}
 use native.Mathlib.Omega.{arith}
 use lib.Dec.{leb, ltb, lit≤}
-use lib.ListN.{length, take, drop}
+use lib.ListN.{length, take, drop, length-append}
+use lib.Seq.{length-take-le}
 use borrow.Author.Tests.{lt-ltb, le-ltb, le-leb, lt-leb}
 use Rattle.io.specs.Digits.{glyph, digits, Fewest}
 use Rattle.refusals.specs.Outcome.{Outcome, answer, refusal, onward}
@@ -149,3 +150,12 @@ line-put line before n after h p = record {
   says = ap answer (p .ends ∙ zero-add (length line)) ∙ sym (ap (λ (b : Bool). cond b (answer (length line)) (refusal 11)) (le-leb 50 (length before) h));
   holds = p .holds ∙ at-start line before ∙ sym (ap (λ (b : Bool). cond b (line ++ drop (length line) before) before) (le-leb 50 (length before) h));
 }
+
+-- what was written is within the buffer
+pub line-within : {line before after : List ℕ} {r : TextAnswer} → LineCall line before r after → (n : ℕ) → r ≡ Written n → (n ≤ length after) × (n ≡ length (take n after))
+unfolding textOutcome
+line-within {line} {before} {after} c n is = let h = go (leb 50 (length before)) (sym (ap textOutcome is) ∙ c .says) (c .holds) in (h, sym (length-take-le n after h))
+  where
+    go : (b : Bool) → answer n ≡ cond b (answer (length line)) (refusal 11) → after ≡ cond b (line ++ drop (length line) before) before → n ≤ length after
+    go true e h = let m : n ≡ length line = cc in subst (λ (l : List ℕ). n ≤ length l) (sym h) (simp length-append (omega arith))
+    go false e h = let z : _≡_ {A = ℕ} 0 1 = cc in absurd (omega arith)
