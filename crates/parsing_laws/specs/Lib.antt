@@ -1,2 +1,3 @@
 -- What the theorems of `parsing_laws` say of a text.
 pub mod Verdict
+pub mod Shown

@@ -1,0 +1,60 @@
+-- `readings::answer_line` meets its contract: four writes, one after the other. Assumes nothing.
+use Prim.Native.Nat.{_≤_}
+use denote.Ref.{now}
+use lib.ListN.{length}
+use native.Mathlib.Omega.{arith}
+use Rattle.readings.specs.Reading.{readingLine}
+use Rattle.stamps.proofs.Places.{then}
+use Rattle.readings.proofs.Lines.{no-room, line-put}
+use borrow.Author.Needs.{needs}
+use Rattle.readings.proofs.answer_line.Statement.{statement}
+use Rattle.readings.proofs.answer_line.Tie as tie
+
+returns : tie.Need-returns
+returns c = no-room _ _ (omega (arith, c .if1 .taken))
+
+place-number-requires : tie.Need-place-number-requires
+place-number-requires c κs = search needs
+
+slice-aggregate-place-bytes : tie.Need-slice-aggregate-place-bytes
+slice-aggregate-place-bytes c = search needs
+
+place-bytes-requires : tie.Need-place-bytes-requires
+place-bytes-requires c κs = search needs
+
+place-reading-requires : tie.Need-place-reading-requires
+place-reading-requires c κs = search needs
+
+slice-aggregate-place-bytes-2 : tie.Need-slice-aggregate-place-bytes-2
+slice-aggregate-place-bytes-2 c = search needs
+
+place-bytes-requires-2 : tie.Need-place-bytes-requires-2
+place-bytes-requires-2 c κs = search needs
+
+same-length : tie.Need-same-length
+same-length c = search needs
+
+returns-2 : tie.Need-returns-2
+unfolding readingLine
+returns-2 c =
+    let st = c .before .before .before .before .before .before .before .before .before .before .before .before .before .before .before .before .before .before .before .before .before in
+    let p1 = c .before .before .before .before .before .before .before .before .before .before .before .before .before .before .before .before .place-number .ensures in
+    let p2 = c .before .before .before .before .before .before .before .before .before .before .before .place-bytes .ensures in
+    let p3 = c .before .before .before .before .before .before .before .place-reading .ensures in
+    let p4 = c .before .before .place-bytes2 .ensures in
+    let room : 50 ≤ length (now (st .args .out)) = omega (arith, c .before .before .before .before .before .before .before .before .before .before .before .before .before .before .before .before .before .before .if1 .left) in
+    line-put _ _ _ _ room (then (then (then (p1 .0) p2 (omega (arith, room, p1 .1, p2 .ends))) (p3 .0) (omega (arith, room, p1 .1, p2 .ends, p3 .1))) p4 (omega (arith, room, p1 .1, p2 .ends, p3 .1, p4 .ends)))
+
+pub answer-line-spec : {M : Type 1} → statement M
+answer-line-spec =
+    tie.close
+    (tie.spec
+    returns
+    place-number-requires
+    slice-aggregate-place-bytes
+    place-bytes-requires
+    place-reading-requires
+    slice-aggregate-place-bytes-2
+    place-bytes-requires-2
+    same-length
+    returns-2)

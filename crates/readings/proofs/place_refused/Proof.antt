@@ -1,0 +1,37 @@
+-- `readings::place_refused` meets its contract: two writes, one after the other. Assumes nothing.
+use native.Mathlib.Omega.{arith}
+use Rattle.readings.specs.Reading.{told}
+use Rattle.stamps.proofs.Places.{then}
+use borrow.Author.Needs.{needs}
+use Rattle.readings.proofs.place_refused.Statement.{statement}
+use Rattle.readings.proofs.place_refused.Tie as tie
+
+slice-aggregate-place-bytes : tie.Need-slice-aggregate-place-bytes
+slice-aggregate-place-bytes c = search needs
+
+place-bytes-requires : tie.Need-place-bytes-requires
+place-bytes-requires c κs = search needs
+
+place-number-requires : tie.Need-place-number-requires
+place-number-requires c κs = search needs
+
+same-length : tie.Need-same-length
+same-length c = search needs
+
+returns : tie.Need-returns
+unfolding told
+returns c =
+    let p1 = c .before .before .before .before .before .before .place-bytes .ensures in
+    let p2 = c .before .before .place-number .ensures in
+    let st = c .before .before .before .before .before .before .before .before .before .before in
+    (then p1 (p2 .0) (omega (arith, st .pre, p1 .ends, p2 .1)), omega (arith, p1 .ends, p2 .1))
+
+pub place-refused-spec : {M : Type 1} → statement M
+place-refused-spec =
+    tie.close
+    (tie.spec
+    slice-aggregate-place-bytes
+    place-bytes-requires
+    place-number-requires
+    same-length
+    returns)

@@ -1,0 +1,81 @@
+-- `readings::place_text` meets its contract: the text stands where the call put it, and a refusal is written out where nothing was. Assumes nothing.
+use mathlib.Core.Path.{sym, ap}
+use Prim.Native.Nat.{ℕ, _+_}
+use denote.Ref.{now}
+use native.Mathlib.Omega.{arith}
+use Rattle.tai_utc.specs.Lent.{rowsOf}
+use Rattle.stamps.proofs.Places.{lent-length, part-put, part-kept, placed-as, placed-into}
+use Rattle.readings.specs.Reading.{told}
+use Rattle.readings.proofs.Lines.{short, text-written, text-refused}
+use borrow.Author.Needs.{needs}
+use Rattle.readings.proofs.place_text.Statement.{statement}
+use Rattle.readings.proofs.place_text.Tie as tie
+
+sub-to-iso8601-expanded-by-rows : tie.Need-sub-to-iso8601-expanded-by-rows
+sub-to-iso8601-expanded-by-rows c = search needs
+
+part-to-iso8601-expanded-by-rows-start : tie.Need-part-to-iso8601-expanded-by-rows-start
+part-to-iso8601-expanded-by-rows-start c = search needs
+
+part-to-iso8601-expanded-by-rows-end : tie.Need-part-to-iso8601-expanded-by-rows-end
+part-to-iso8601-expanded-by-rows-end c = search needs
+
+to-iso8601-expanded-by-rows-requires : tie.Need-to-iso8601-expanded-by-rows-requires
+to-iso8601-expanded-by-rows-requires c κs = search needs
+
+enum-known-n : tie.Need-enum-known-n
+enum-known-n c = search needs
+
+add-result : tie.Need-add-result
+add-result c =
+    let st = c .before .before .before .before .before .before .before .before in
+    let w = text-written (c .before .before .before .before .before .to-iso8601-expanded-by-rows .ensures) (short (rowsOf (st .args .table)) (st .args .utc .0)) _ (c .before .n .given .1) in
+    omega (arith, w .2, st .pre, st .good)
+
+enum-known-number : tie.Need-enum-known-number
+enum-known-number c = search needs
+
+place-refused-requires : tie.Need-place-refused-requires
+place-refused-requires c κs = search needs
+
+same-length : tie.Need-same-length
+same-length c = search needs
+
+returns : tie.Need-returns
+returns c =
+    let st = c .before .before .before .before .before .before .before .before in
+    let w = text-written (c .before .before .before .before .before .to-iso8601-expanded-by-rows .ensures) (short (rowsOf (st .args .table)) (st .args .utc .0)) _ (c .before .n .given .1) in (
+      record {
+        ends = ap (λ (k : ℕ). st .args .at + k) (w .0);
+        holds = part-put (now (st .args .dst)) (st .args .at) (omega (arith, st .pre)) _ _ (w .1);
+      },
+      omega (arith, w .2),
+    )
+
+same-length-2 : tie.Need-same-length-2
+same-length-2 c = search needs
+
+returns-2 : tie.Need-returns-2
+returns-2 c =
+    let st = c .before .before .before .before .before .before .before .before .before .before .before .before in
+    let room = lent-length (now (st .args .dst)) (st .args .at) (omega (arith, st .pre)) in
+    let w = text-refused (c .before .before .before .before .before .before .before .before .before .to-iso8601-expanded-by-rows .ensures) (short (rowsOf (st .args .table)) (st .args .utc .0)) _ (c .before .before .before .before .before .number .given .1) (omega (arith, room, st .pre)) in
+    let p = c .before .before .place-refused .ensures in
+    (placed-as (sym (ap told (w .0))) (placed-into (part-kept (now (st .args .dst)) (st .args .at) (omega (arith, st .pre)) _ (w .1)) (p .0)), p .1)
+
+pub place-text-spec : {M : Type 1} → statement M
+place-text-spec =
+    tie.close
+    (tie.spec
+    sub-to-iso8601-expanded-by-rows
+    part-to-iso8601-expanded-by-rows-start
+    part-to-iso8601-expanded-by-rows-end
+    to-iso8601-expanded-by-rows-requires
+    enum-known-n
+    add-result
+    enum-known-number
+    place-refused-requires
+    same-length
+    returns
+    same-length-2
+    returns-2)

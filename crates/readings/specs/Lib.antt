@@ -1,0 +1,2 @@
+-- What the contract of `readings` cites: the line that answers a text.
+pub mod Reading

@@ -1,0 +1,79 @@
+// A text as the marker boxes send it, answered by a line: its index and the text of its date, or `refused` and the number.
+use parsing::ParsedUtcAnswer;
+use scales::UTC;
+use tai_utc::LentRows;
+use utc_text::TextAnswer;
+ghost use Prim.Native.Nat.{_+_, _≤_};
+ghost use lib.ListN.{length};
+ghost use Rattle.digits.specs.Decimal.{digitsOf};
+ghost use Rattle.refusals.specs.Outcome.{refusal};
+ghost use Rattle.tai_utc.specs.Lent.{rowsOf};
+ghost use Rattle.utc.specs.Expanded.{isoTextExpanded};
+ghost use Rattle.stamps.specs.Placed.{Placed};
+ghost use Rattle.readings.specs.Reading.{reading, told, readingLine, LineCall};
+
+// So many bytes hold every line: an index of 64 bits has at most 20 digits, and so has a refusal's number for all that is proved of it; `refused` with its blank has 8, the
+// text of a date at most 27, and a blank and the line's end are left.
+const LINE_ROOM: usize = 50;
+
+fn place_bytes(src: &[u8], dst: &mut [u8], at: usize) -> usize
+    requires { ⌜ at + length (now src) ≤ length (now dst) ⌝ }
+    ensures { λ r. ⌜ Placed (now (dst .entry)) at (now (src .entry)) r (now (dst .exit)) ⌝ }
+{
+    at + bytes::copy(src, &mut dst[at..])
+}
+
+fn place_number(n: u64, dst: &mut [u8], at: usize) -> usize
+    requires { ⌜ at + 20 ≤ length (now dst) ⌝ }
+    ensures { λ r. ⌜ Placed (now (dst .entry)) at (digitsOf n) r (now (dst .exit)) ⌝ }
+    ensures { λ r. ⌜ r ≤ at + 20 ⌝ }
+{
+    let mut digits = [0u8; 20];
+    let count = io::decimal(n, &mut digits);
+    place_bytes(&digits[..count], dst, at)
+}
+
+fn place_refused(number: u32, dst: &mut [u8], at: usize) -> usize
+    requires { ⌜ at + 28 ≤ length (now dst) ⌝ }
+    ensures { λ r. ⌜ Placed (now (dst .entry)) at (told (refusal number)) r (now (dst .exit)) ⌝ }
+    ensures { λ r. ⌜ r ≤ at + 28 ⌝ }
+{
+    let next = place_bytes(b"refused ", dst, at);
+    place_number(number as u64, dst, next)
+}
+
+fn place_text(utc: UTC, table: LentRows, dst: &mut [u8], at: usize) -> usize
+    requires { ⌜ at + 28 ≤ length (now dst) ⌝ }
+    ensures { λ r. ⌜ Placed (now (dst .entry)) at (told (isoTextExpanded (rowsOf table) (utc .0))) r (now (dst .exit)) ⌝ }
+    ensures { λ r. ⌜ r ≤ at + 28 ⌝ }
+{
+    match utc::to_iso8601_expanded_by_rows(utc, table, &mut dst[at..]) {
+        TextAnswer::Written(n) => at + n,
+        TextAnswer::Refused(number) => place_refused(number, dst, at),
+    }
+}
+
+fn place_reading(text: &[u8], table: LentRows, dst: &mut [u8], at: usize) -> usize
+    requires { ⌜ at + 28 ≤ length (now dst) ⌝ }
+    ensures { λ r. ⌜ Placed (now (dst .entry)) at (told (reading (rowsOf table) (now (text .entry)))) r (now (dst .exit)) ⌝ }
+    ensures { λ r. ⌜ r ≤ at + 28 ⌝ }
+{
+    match parsing::from_str_by_rows(text, table) {
+        ParsedUtcAnswer::Refused(number) => place_refused(number, dst, at),
+        ParsedUtcAnswer::Read(read) => place_text(read.date, table, dst, at),
+    }
+}
+
+// The line that answers a text, at the start of the buffer, by the rows of a table that is tested elsewhere: how many bytes it has. 11 where the buffer has less than 50
+// bytes; nothing is written then.
+pub fn answer_line(text: &[u8], index: u64, table: LentRows, out: &mut [u8]) -> TextAnswer
+    ensures { λ r. ⌜ LineCall (readingLine (rowsOf table) (now (text .entry)) index) (now (out .entry)) r (now (out .exit)) ⌝ }
+{
+    if out.len() < LINE_ROOM {
+        return TextAnswer::Refused(refusals::TEXT_LONGER_THAN_BUFFER);
+    }
+    let a = place_number(index, out, 0);
+    let b = place_bytes(b" ", out, a);
+    let c = place_reading(text, table, out, b);
+    TextAnswer::Written(place_bytes(b"\n", out, c))
+}
