@@ -14,8 +14,9 @@ use Rattle.tai_utc.specs.Lent.{unlessRefused}
 use Rattle.runs.specs.declared.RunAnswer.{RunAnswer}
 use Rattle.runs.specs.declared.RunAnswer.the-variants as Answer
 use Rattle.runs.specs.Ways.{isRunScale}
-use Rattle.runs.specs.Run.{stampAnswer, runOutcome, runRefusal, RunCall, runCall, runWritten, runBy, convertedRun}
+use Rattle.runs.specs.Run.{stampAnswer, runOutcome, runRefusal, refusedAmong, runCall, runWritten, runBy, convertedRun}
 use Rattle.runs.specs.Asked.{Roomy, RunPut}
+use Rattle.runs.proofs.Puts.{at-most}
 
 -- ---- the refusals, by the outcomes of the tests
 module _ (from to size1 size2 room1 room2 room : ℕ) where
@@ -126,6 +127,20 @@ module _ (rows : List Row) (from to : ℕ) (js ks out1 out2 numbers : List ℕ) 
         → runCall (runOutcome (Answer.Converted r)) out1' out2' numbers' ≡ runBy rows from to js ks out1 out2 numbers
     unfolding runBy runOutcome runWritten
     run-ends r out1' out2' numbers' p = rw (← en, eq-eqb number 0 z, p .count, p .first, p .second, p .third)
+
+-- ---- at most all stamps are refused
+pub run-count : (rows : List Row) (from to : ℕ) (js ks out1 out2 numbers : List ℕ) (k : ℕ) → answer k ≡ runBy rows from to js ks out1 out2 numbers .answer → k ≤ length js / 8
+unfolding runBy runWritten
+run-count rows from to js ks out1 out2 numbers k e = go (eqb number 0) e
+  where
+    number : ℕ
+    number = runRefusal from to (length js) (length ks) (length out1) (length out2) (length numbers)
+
+    go : (b : Bool) → answer k ≡ cond b (runWritten (stampAnswer rows from to js ks) (length js / 8) out1 out2 numbers) (runCall (refusal number) out1 out2 numbers) .answer → k ≤ length js / 8
+    go true q =
+        let same : k ≡ refusedAmong (stampAnswer rows from to js ks) (length js / 8) = cc q in
+        omega (arith, same, at-most (stampAnswer rows from to js ks) (length js / 8))
+    go false q = let z : _≡_ {A = ℕ} 0 1 = cc q in let w : ⊥ = omega arith in absurd w
 
 -- ---- the call that tests its table: the number n that is found, and the rows
 module _ (o : Outcome (List Row)) (rows : List Row) (n : ℕ) (e : unlessRefused n rows ≡ o) (from to : ℕ) (js ks out1 out2 numbers : List ℕ) where
