@@ -1,4 +1,5 @@
 // A run of stamps from one scale to another in one call. The parts of the stamps and of the dates are bytes, eight each, the lowest first.
+mod fixed;
 mod ways;
 
 ghost use mathlib.Core.Path.{_≡_};
@@ -26,7 +27,7 @@ pub enum RunAnswer {
 }
 
 // Number i of a list that has it. Read from a part of eight bytes, it needs no test of the length.
-fn pattern_at(s: &[u8], i: usize) -> u64
+pub(crate) fn pattern_at(s: &[u8], i: usize) -> u64
     requires { ⌜ 8 * i + 8 ≤ length (now s) ⌝ }
     ensures { λ r. ⌜ r ≡ u64At (now (s .entry)) (8 * i) ⌝ }
 {
@@ -44,12 +45,12 @@ fn stamp_at(jd1s: &[u8], jd2s: &[u8], i: usize) -> JulianDate
     JulianDate::new(x, y)
 }
 
-// The eight bytes of a part at a place of the lent list.
-fn put_part(out: &mut [u8], at: usize, x: f64)
+// The eight bytes of a pattern at a place of the lent list.
+pub(crate) fn put_pattern(out: &mut [u8], at: usize, n: u64)
     requires { ⌜ at + 8 ≤ length (now out) ⌝ }
-    ensures { λ _. ⌜ now (out .exit) ≡ sets (now (out .entry)) at (eightBytes (toBits binary64 x)) ⌝ }
+    ensures { λ _. ⌜ now (out .exit) ≡ sets (now (out .entry)) at (eightBytes n) ⌝ }
 {
-    let b = little_endian::bytes_of_u64(floats::to_bits(x));
+    let b = little_endian::bytes_of_u64(n);
     out[at] = b[0];
     out[at + 1] = b[1];
     out[at + 2] = b[2];
@@ -68,14 +69,14 @@ fn put_answer(found: JulianAnswer, i: usize, out1: &mut [u8], out2: &mut [u8]) -
     match found {
         JulianAnswer::Refused(number) => (number % 256) as u8,
         JulianAnswer::Date(jd) => {
-            put_part(out1, 8 * i, jd.jd1);
-            put_part(out2, 8 * i, jd.jd2);
+            put_pattern(out1, 8 * i, floats::to_bits(jd.jd1));
+            put_pattern(out2, 8 * i, floats::to_bits(jd.jd2));
             0
         }
     }
 }
 
-fn one_if_refused(number: u8) -> usize
+pub(crate) fn one_if_refused(number: u8) -> usize
     ensures { λ r. ⌜ (r ≡ cond (eqb number 0) 0 1) × (r ≤ 1) ⌝ }
 {
     if number == 0 { 0 } else { 1 }
@@ -128,6 +129,42 @@ fn convert_all<'a>(
         i += 1;
     }
     refused
+}
+
+// The same, by the loop that is quicker where the scales are a fixed offset apart.
+fn convert_by<'a>(
+    from: u32,
+    to: u32,
+    jd1s: &[u8],
+    jd2s: &[u8],
+    n: usize,
+    size: usize,
+    months: &'a [i32; 16],
+    seconds: &'a [i32; 16],
+    out1: &mut [u8],
+    out2: &mut [u8],
+    numbers: &mut [u8],
+) -> usize
+    requires { ⌜ Roomy n (now jd1s) (now jd2s) (now out1) (now out2) (now numbers) ⌝ }
+    ensures { λ r. ⌜ RunPut (stampAnswer (rowsIn size (now (months .entry)) (now (seconds .entry))) from to (now (jd1s .entry)) (now (jd2s .entry))) n (now (out1 .entry)) (now (out2 .entry)) (now (numbers .entry)) r (now (out1 .exit)) (now (out2 .exit)) (now (numbers .exit)) ⌝ }
+{
+    if fixed::has_offset(from, to) {
+        let days = fixed::offset_days(from, to);
+        return fixed::shift_all(days, jd1s, jd2s, n, out1, out2, numbers);
+    }
+    convert_all(
+        from,
+        to,
+        jd1s,
+        jd2s,
+        n,
+        size,
+        months,
+        seconds,
+        out1,
+        out2,
+        numbers,
+    )
 }
 
 fn is_run_scale(n: u32) -> bool
@@ -215,7 +252,7 @@ pub fn convert_run_by_lent<'a>(
         return RunAnswer::Refused(number);
     }
     let n = jd1s.len() / 8;
-    RunAnswer::Converted(convert_all(
+    RunAnswer::Converted(convert_by(
         from,
         to,
         jd1s,

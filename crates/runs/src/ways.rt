@@ -170,7 +170,7 @@ fn through_tai<'a>(
 }
 
 // Whether `from` and `to` are these two scales.
-fn are(from: u32, to: u32, a: u32, b: u32) -> bool
+pub(crate) fn are(from: u32, to: u32, a: u32, b: u32) -> bool
     ensures { λ r. ⌜ r ≡ (eqb from a && eqb to b) ⌝ }
 {
     if from != a {

@@ -14,8 +14,8 @@ returns c =
     let q = c .before in
     run-refused (rowsIn (a .size) (a .months .now) (a .seconds .now)) (a .from) (a .to) (a .jd1s .now) (a .jd2s .now) (a .out1 .now) (a .out2 .now) (a .numbers .now) (q .run-refusal .result) (q .run-refusal .ensures) (c .if1 .taken)
 
-convert-all-requires : tie.Need-convert-all-requires
-convert-all-requires c κs =
+convert-by-requires : tie.Need-convert-by-requires
+convert-by-requires c κs =
     let a = c .before .before .before .before .before .before .before .before .before .before .args in
     let q = c .before .before .before .before in
     roomy (rowsIn (a .size) (a .months .now) (a .seconds .now)) (a .from) (a .to) (a .jd1s .now) (a .jd2s .now) (a .out1 .now) (a .out2 .now) (a .numbers .now) (q .run-refusal .result) (q .run-refusal .ensures) (c .before .before .before .if1 .left)
@@ -33,7 +33,7 @@ returns-2 : tie.Need-returns-2
 returns-2 c =
     let a = c .before .before .before .before .before .before .before .before .before .before .before .before .before .before .before .before .before .args in
     let q = c .before .before .before .before .before .before .before .before .before .before .before in
-    run-ends (rowsIn (a .size) (a .months .now) (a .seconds .now)) (a .from) (a .to) (a .jd1s .now) (a .jd2s .now) (a .out1 .now) (a .out2 .now) (a .numbers .now) (q .run-refusal .result) (q .run-refusal .ensures) (c .before .before .before .before .before .before .before .before .before .before .if1 .left) _ _ _ _ (c .before .before .before .before .before .before .convert-all .ensures)
+    run-ends (rowsIn (a .size) (a .months .now) (a .seconds .now)) (a .from) (a .to) (a .jd1s .now) (a .jd2s .now) (a .out1 .now) (a .out2 .now) (a .numbers .now) (q .run-refusal .result) (q .run-refusal .ensures) (c .before .before .before .before .before .before .before .before .before .before .if1 .left) _ _ _ _ (c .before .before .before .before .before .before .convert-by .ensures)
 
 pub convert-run-by-lent-spec : {M : Type 1} → statement M
 convert-run-by-lent-spec =
@@ -41,7 +41,7 @@ convert-run-by-lent-spec =
     (tie.spec
     run-refusal-requires
     returns
-    convert-all-requires
+    convert-by-requires
     same-length
     same-length-2
     same-length-3

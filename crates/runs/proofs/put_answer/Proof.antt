@@ -1,7 +1,7 @@
 -- `runs::put_answer` meets its contract. Assumes nothing.
 use mathlib.Core.Path.{_≡_, refl, sym, ap, subst, _∙_}
 use Rattle.julian.specs.JulianDate.{julianOutcome}
-use Rattle.runs.proofs.Puts.{put-refused, put-answered}
+use Rattle.runs.proofs.Puts.{put-refused, put-patterns}
 use borrow.Author.Needs.{needs}
 use Rattle.runs.proofs.put_answer.Statement.{statement}
 use Rattle.runs.proofs.put_answer.Tie as tie
@@ -15,17 +15,23 @@ cast-result c = search needs
 enum-known-found-2 : tie.Need-enum-known-found-2
 enum-known-found-2 c = search needs
 
-mul-put-part : tie.Need-mul-put-part
-mul-put-part c = search needs
+mul-put-pattern : tie.Need-mul-put-pattern
+mul-put-pattern c = search needs
 
-put-part-requires : tie.Need-put-part-requires
-put-part-requires c κs = search needs
+to-bits-requires : tie.Need-to-bits-requires
+to-bits-requires c κs = search needs
 
-mul-put-part-2 : tie.Need-mul-put-part-2
-mul-put-part-2 c = search needs
+put-pattern-requires : tie.Need-put-pattern-requires
+put-pattern-requires c κs = search needs
 
-put-part-requires-2 : tie.Need-put-part-requires-2
-put-part-requires-2 c κs = search needs
+mul-put-pattern-2 : tie.Need-mul-put-pattern-2
+mul-put-pattern-2 c = search needs
+
+to-bits-requires-2 : tie.Need-to-bits-requires-2
+to-bits-requires-2 c κs = search needs
+
+put-pattern-requires-2 : tie.Need-put-pattern-requires-2
+put-pattern-requires-2 c κs = search needs
 
 returns : tie.Need-returns
 unfolding julianOutcome
@@ -42,8 +48,8 @@ same-length-2 c = search needs
 returns-2 : tie.Need-returns-2
 unfolding julianOutcome
 returns-2 c =
-    let a = c .before .before .before .before .before .before .before .before .before .before .before .before .before .args in
-    put-answered (julianOutcome (a .found)) _ (a .i) (a .out1 .now) (a .out2 .now) _ _ (ap julianOutcome (c .before .before .before .before .before .before .before .before .before .found2 .given .1)) (c .before .before .before .before .before .before .put-part .ensures) (c .before .before .put-part2 .ensures)
+    let a = c .before .before .before .before .before .before .before .before .before .before .before .before .before .before .before .args in
+    put-patterns (julianOutcome (a .found)) _ (a .i) (a .out1 .now) (a .out2 .now) _ _ _ _ (ap julianOutcome (c .before .before .before .before .before .before .before .before .before .before .before .found2 .given .1)) (c .before .before .before .before .before .before .before .before .to-bits .ensures) (c .before .before .before .to-bits2 .ensures) (c .before .before .before .before .before .before .before .put-pattern .ensures) (c .before .before .put-pattern2 .ensures)
 
 pub put-answer-spec : {M : Type 1} → statement M
 put-answer-spec =
@@ -52,10 +58,12 @@ put-answer-spec =
     enum-known-found
     cast-result
     enum-known-found-2
-    mul-put-part
-    put-part-requires
-    mul-put-part-2
-    put-part-requires-2
+    mul-put-pattern
+    to-bits-requires
+    put-pattern-requires
+    mul-put-pattern-2
+    to-bits-requires-2
+    put-pattern-requires-2
     returns
     same-length
     same-length-2
