@@ -1,0 +1,131 @@
+-- `runs::fixed::shift_stamp` meets its contract: by the patterns, and the part that stays by its own. Assumes nothing.
+use mathlib.Core.Path.{_≡_, refl, sym, ap, subst, _∙_}
+use lib.Ieee.{binary64, add, lt, toBits}
+use Rattle.floats.specs.Whole.{abs}
+use borrow.Author.Tests.{not-true, not-false}
+use Rattle.runs.proofs.Puts.{put-refused, put-patterns}
+use Rattle.runs.proofs.Offsets.{pattern-back, shift-dead-first, shift-dead-second, shift-first, shift-second}
+use borrow.Author.Needs.{needs}
+use Rattle.runs.proofs.fixed.shift_stamp.Statement.{statement}
+use Rattle.runs.proofs.fixed.shift_stamp.Tie as tie
+
+pattern-at-requires : tie.Need-pattern-at-requires
+pattern-at-requires c κs = search needs
+
+pattern-at-requires-2 : tie.Need-pattern-at-requires-2
+pattern-at-requires-2 c κs = search needs
+
+is-number-requires : tie.Need-is-number-requires
+is-number-requires c κs = search needs
+
+returns : tie.Need-returns
+returns c =
+    let a = c .before .before .before .before .before .before .before .before .args in
+    put-refused _ 9 (a .i) _ (a .out1 .now) (a .out2 .now) (shift-dead-first (a .days) (a .jd1s .now) (a .jd2s .now) (a .i) _ _ (c .before .before .before .pattern-at .ensures) (c .before .before .pattern-at2 .ensures) (sym (c .before .is-number .ensures) ∙ not-true _ (c .if1 .taken))) refl
+
+is-number-requires-2 : tie.Need-is-number-requires-2
+is-number-requires-2 c κs = search needs
+
+returns-2 : tie.Need-returns-2
+returns-2 c =
+    let a = c .before .before .before .before .before .before .before .before .before .before .args in
+    put-refused _ 9 (a .i) _ (a .out1 .now) (a .out2 .now) (shift-dead-second (a .days) (a .jd1s .now) (a .jd2s .now) (a .i) _ _ (c .before .before .before .before .before .pattern-at .ensures) (c .before .before .before .before .pattern-at2 .ensures) (sym (c .before .before .before .is-number .ensures) ∙ not-false _ (c .before .before .if1 .left)) (sym (c .before .is-number2 .ensures) ∙ not-true _ (c .if2 .taken))) refl
+
+from-bits-requires : tie.Need-from-bits-requires
+from-bits-requires c κs = search needs
+
+from-bits-requires-2 : tie.Need-from-bits-requires-2
+from-bits-requires-2 c κs = search needs
+
+larger-in-size-requires : tie.Need-larger-in-size-requires
+larger-in-size-requires c κs = search needs
+
+mul-put-pattern : tie.Need-mul-put-pattern
+mul-put-pattern c = search needs
+
+put-pattern-requires : tie.Need-put-pattern-requires
+put-pattern-requires c κs = search needs
+
+mul-put-pattern-2 : tie.Need-mul-put-pattern-2
+mul-put-pattern-2 c = search needs
+
+to-bits-requires : tie.Need-to-bits-requires
+to-bits-requires c κs = search needs
+
+put-pattern-requires-2 : tie.Need-put-pattern-requires-2
+put-pattern-requires-2 c κs = search needs
+
+same-length : tie.Need-same-length
+same-length c = search needs
+
+same-length-2 : tie.Need-same-length-2
+same-length-2 c = search needs
+
+returns-3 : tie.Need-returns-3
+returns-3 c =
+    let a = c .before .before .before .before .before .before .before .before .before .before .before .before .before .before .before .before .before .before .before .before .before .before .before .args in
+    put-patterns _ _ (a .i) (a .out1 .now) (a .out2 .now) _ _ _ _
+    (shift-second (a .days) (a .jd1s .now) (a .jd2s .now) (a .i) _ _ (c .before .before .before .before .before .before .before .before .before .before .before .before .before .before .before .before .before .before .pattern-at .ensures) (c .before .before .before .before .before .before .before .before .before .before .before .before .before .before .before .before .before .pattern-at2 .ensures) (sym (c .before .before .before .before .before .before .before .before .before .before .before .before .before .before .before .before .is-number .ensures) ∙ not-false _ (c .before .before .before .before .before .before .before .before .before .before .before .before .before .before .before .if1 .left)) (sym (c .before .before .before .before .before .before .before .before .before .before .before .before .before .before .is-number2 .ensures) ∙ not-false _ (c .before .before .before .before .before .before .before .before .before .before .before .before .before .if2 .left)) (c .before .before .before .before .before .before .before .before .before .before .larger-in-size .result) (c .before .before .before .before .before .before .before .before .before .before .larger-in-size .ensures ∙ (λ k. lt (abs (c .before .before .before .before .before .before .before .before .before .before .before .from-bits2 .ensures k)) (abs (c .before .before .before .before .before .before .before .before .before .before .before .before .from-bits .ensures k)))) (c .before .before .before .before .before .before .before .before .before .if3 .taken))
+    (sym (pattern-back _ (c .before .before .before .before .before .before .before .before .before .before .before .before .before .before .before .before .before .before .pattern-at .ok) (sym (c .before .before .before .before .before .before .before .before .before .before .before .before .before .before .before .before .is-number .ensures) ∙ not-false _ (c .before .before .before .before .before .before .before .before .before .before .before .before .before .before .before .if1 .left))))
+    (c .before .before .before .to-bits .ensures ∙ ap (λ y. toBits binary64 (add binary64 y (a .days))) (c .before .before .before .before .before .before .before .before .before .before .before .from-bits2 .ensures))
+    (c .before .before .before .before .before .before .before .put-pattern .ensures) (c .before .before .put-pattern2 .ensures)
+
+mul-put-pattern-3 : tie.Need-mul-put-pattern-3
+mul-put-pattern-3 c = search needs
+
+to-bits-requires-2 : tie.Need-to-bits-requires-2
+to-bits-requires-2 c κs = search needs
+
+put-pattern-requires-3 : tie.Need-put-pattern-requires-3
+put-pattern-requires-3 c κs = search needs
+
+mul-put-pattern-4 : tie.Need-mul-put-pattern-4
+mul-put-pattern-4 c = search needs
+
+put-pattern-requires-4 : tie.Need-put-pattern-requires-4
+put-pattern-requires-4 c κs = search needs
+
+same-length-3 : tie.Need-same-length-3
+same-length-3 c = search needs
+
+same-length-4 : tie.Need-same-length-4
+same-length-4 c = search needs
+
+returns-4 : tie.Need-returns-4
+returns-4 c =
+    let a = c .before .before .before .before .before .before .before .before .before .before .before .before .before .before .before .before .before .before .before .before .before .before .before .args in
+    put-patterns _ _ (a .i) (a .out1 .now) (a .out2 .now) _ _ _ _
+    (shift-first (a .days) (a .jd1s .now) (a .jd2s .now) (a .i) _ _ (c .before .before .before .before .before .before .before .before .before .before .before .before .before .before .before .before .before .before .pattern-at .ensures) (c .before .before .before .before .before .before .before .before .before .before .before .before .before .before .before .before .before .pattern-at2 .ensures) (sym (c .before .before .before .before .before .before .before .before .before .before .before .before .before .before .before .before .is-number .ensures) ∙ not-false _ (c .before .before .before .before .before .before .before .before .before .before .before .before .before .before .before .if1 .left)) (sym (c .before .before .before .before .before .before .before .before .before .before .before .before .before .before .is-number2 .ensures) ∙ not-false _ (c .before .before .before .before .before .before .before .before .before .before .before .before .before .if2 .left)) (c .before .before .before .before .before .before .before .before .before .before .larger-in-size .result) (c .before .before .before .before .before .before .before .before .before .before .larger-in-size .ensures ∙ (λ k. lt (abs (c .before .before .before .before .before .before .before .before .before .before .before .from-bits2 .ensures k)) (abs (c .before .before .before .before .before .before .before .before .before .before .before .before .from-bits .ensures k)))) (c .before .before .before .before .before .before .before .before .before .if3 .left))
+    (c .before .before .before .before .before .before .before .to-bits2 .ensures ∙ ap (λ x. toBits binary64 (add binary64 x (a .days))) (c .before .before .before .before .before .before .before .before .before .before .before .before .from-bits .ensures))
+    (sym (pattern-back _ (c .before .before .before .before .before .before .before .before .before .before .before .before .before .before .before .before .before .pattern-at2 .ok) (sym (c .before .before .before .before .before .before .before .before .before .before .before .before .before .before .is-number2 .ensures) ∙ not-false _ (c .before .before .before .before .before .before .before .before .before .before .before .before .before .if2 .left))))
+    (c .before .before .before .before .before .before .put-pattern3 .ensures) (c .before .before .put-pattern4 .ensures)
+
+pub shift-stamp-spec : {M : Type 1} → statement M
+shift-stamp-spec =
+    tie.close
+    (tie.spec
+    pattern-at-requires
+    pattern-at-requires-2
+    is-number-requires
+    returns
+    is-number-requires-2
+    returns-2
+    from-bits-requires
+    from-bits-requires-2
+    larger-in-size-requires
+    mul-put-pattern
+    put-pattern-requires
+    mul-put-pattern-2
+    to-bits-requires
+    put-pattern-requires-2
+    same-length
+    same-length-2
+    returns-3
+    mul-put-pattern-3
+    to-bits-requires-2
+    put-pattern-requires-3
+    mul-put-pattern-4
+    put-pattern-requires-4
+    same-length-3
+    same-length-4
+    returns-4)
