@@ -12,12 +12,13 @@ static int64_t ct_convert_run(uint32_t from, uint32_t to, const uint8_t *jd1, si
         int64_t n = from == CT_GPS && to == CT_TAI   ? ct_gps_to_tai(a, b, out, sizeof out)
                     : from == CT_UTC && to == CT_TAI ? ct_utc_to_tai(a, b, table, table_len, out, sizeof out)
                     : from == CT_TAI && to == CT_UTC ? ct_tai_to_utc(a, b, table, table_len, out, sizeof out)
+                    : from == CT_TAI && to == CT_TAI ? ct_tai_to_tt(a, b, out, sizeof out)
                                                      : -14;
         numbers[i] = n < 0 ? (uint8_t)-n : 0;
         refused += n < 0;
         if (n < 0) continue;
-        memcpy(out1 + 8 * i, out, 8);
-        memcpy(out2 + 8 * i, out + 8, 8);
+        memcpy(out1 + 8 * i, from == to ? jd1 + 8 * i : out, 8);
+        memcpy(out2 + 8 * i, from == to ? jd2 + 8 * i : out + 8, 8);
     }
     return refused;
 }

@@ -27,8 +27,8 @@
    ` block 2 refused 14`, the blocks counted from 0, and what follows in the file is not read.
 
    Then each stamp of each run has one line: its recorder, its index in its run, counted from 0, and
-   what is told of it. An ordered stamp has its UTC, or `no text` and a number where it has no UTC
-   text; the others have `refused` and their number. The ordered stamps rise by their exact TAI; a tie
+   what is told of it. An ordered stamp has the UTC text of its TAI, or `no text` and a number where
+   its TAI has none; the others have `refused` and their number. The ordered stamps rise by their exact TAI; a tie
    goes by recorder, in the order above, and then by index. A stamp that is not ordered stands behind
    the last ordered stamp before it in its own run, directly, with those of its run that follow it up
    to the next ordered one, by index; where there is none before it, it stands before all ordered
@@ -53,7 +53,7 @@
 enum { DONE = 0, REFUSED = 1, FAILED = 2 };
 enum { RUNS = 3, MOST_STAMPS = 4000, BLOCK_BYTES = 8 + 16 * MOST_STAMPS };
 enum { PAGE = 4096, TEXT_BYTES = 27, LINE_BYTES = 96 }; /* stamps that get their texts at once, bytes of a text, of a line */
-enum { OUT_OF_TURN = 17, MOST_ROWS = 16, OUT_BYTES = 1 << 20 };
+enum { OUT_OF_TURN = 17, MOST_ROWS = 16, TABLE_LINE = 200, OUT_BYTES = 1 << 20 };
 enum { THE_END = -1001, UNREADABLE = -1002 };           /* of a file, in the place of a block's answer */
 
 struct run {
@@ -84,12 +84,12 @@ static int failed(const char *what, const char *why)
 }
 
 
-/* Tells on standard error, where it is a terminal, what is being done, and how many hundredths of it are done where
-   that is known. */
+/* Tells on standard error, where it is a terminal and the listing goes elsewhere, what is being done, and how many
+   hundredths of it are done where that is known. */
 static void tell(const char *doing, int hundredths)
 {
     static int said = -1;
-    if (!isatty(STDERR_FILENO) || (hundredths >= 0 && hundredths == said)) return;
+    if (!isatty(STDERR_FILENO) || isatty(STDOUT_FILENO) || (hundredths >= 0 && hundredths == said)) return;
     said = hundredths;
     if (hundredths < 0) fprintf(stderr, "\rline_up: %s        ", doing);
     else fprintf(stderr, "\rline_up: %s, %d %%   %s", doing, hundredths, hundredths == 100 ? "\n" : "");
@@ -156,30 +156,50 @@ static int read_row(const char *text, int32_t *month_start, int32_t *seconds)
     return *text && *text != '#' ? -1 : 1;
 }
 
-/* The rows of a file as the library takes them, or none without a file. It judges them. */
+/* The next line of a file, without its end: 1, or 0 where there is none, or -1 where it has a byte 0 or is too long. */
+static int read_line(FILE *file, char text[TABLE_LINE])
+{
+    size_t length = 0;
+    int c = getc(file);
+    if (c == EOF) return 0;
+    for (; c != EOF && c != '\n'; c = getc(file)) {
+        if (!c || length == TABLE_LINE - 1) return -1;
+        text[length++] = (char)c;
+    }
+    text[length] = 0;
+    return 1;
+}
+
+/* The rows of a file, at most one more than a table has; -1 where it can't be read or is not understood. */
+static int read_rows(FILE *file, const char *path, int32_t *months, int32_t *seconds)
+{
+    char text[TABLE_LINE];
+    int rows = 0, line = 0, found = 0;
+    while (rows <= MOST_ROWS && (found = read_line(file, text)) != 0) {
+        line++;
+        if (found > 0) found = read_row(text, &months[rows], &seconds[rows]);
+        if (found < 0) break;
+        rows += found;
+    }
+    if (ferror(file)) failed(path, strerror(errno));
+    else if (found < 0) fprintf(stderr, "line_up: %s: line %d is no month and seconds\n", path, line);
+    return ferror(file) || found < 0 ? -1 : rows;
+}
+
+/* The table of a file's rows, or of none without a file, as the library takes it. The library judges it. */
 static int read_table(const char *path, uint8_t table[CT_TABLE_BYTES])
 {
     int32_t months[MOST_ROWS + 1], seconds[MOST_ROWS + 1];
-    char text[200];
-    uint32_t rows = 0, row = 0;
-    int found = 0;
+    int rows = 0;
     int64_t answer;
-    FILE *file = NULL;
-    if (path && !(file = fopen(path, "r"))) return failed(path, strerror(errno));
-    while (file && rows <= MOST_ROWS && fgets(text, sizeof text, file)) {
-        row++;
-        found = strchr(text, '\n') || strlen(text) < sizeof text - 1 ? read_row(text, &months[rows], &seconds[rows]) : -1;
-        if (found < 0) break;
-        rows += (uint32_t)found;
-    }
-    if (file && (ferror(file) || found < 0)) {
-        if (ferror(file)) failed(path, strerror(errno));
-        else fprintf(stderr, "line_up: %s: line %lu is no month and seconds\n", path, (unsigned long)row);
+    FILE *file = path ? fopen(path, "r") : NULL;
+    if (path && !file) return failed(path, strerror(errno));
+    if (file) {
+        rows = read_rows(file, path, months, seconds);
         fclose(file);
-        return FAILED;
+        if (rows < 0) return FAILED;
     }
-    if (file) fclose(file);
-    ct_table(months, seconds, rows, table);
+    ct_table(months, seconds, (uint32_t)rows, table);
     answer = ct_check_table(table, CT_TABLE_BYTES);
     if (answer >= 0) return DONE;
     fprintf(stderr, "line_up: %s: table refused %d\n", path, (int)-answer);
@@ -221,8 +241,7 @@ static int make_room(struct stamps *all, size_t more)
     return DONE;
 }
 
-/* The stamps of a block behind the others: as recorded, then those that have one as TAI. Of a TAI run ct_line_up
-   refuses what is not finite. */
+/* The stamps of a block behind the others: as recorded, and over that the TAI of those that have one. */
 static int take_block(struct stamps *all, uint32_t scale, const uint8_t *block, size_t count, const uint8_t *table)
 {
     const uint8_t *first = block + 8, *second = first + 8 * count;
@@ -235,10 +254,10 @@ static int take_block(struct stamps *all, uint32_t scale, const uint8_t *block, 
     memcpy(jd2, second, 8 * count);
     memset(numbers, 0, count);
     all->count += count;
-    if (scale == CT_TAI || ct_convert_run(scale, CT_TAI, first, 8 * count, second, 8 * count, table, CT_TABLE_BYTES, jd1, 8 * count,
-                                          jd2, 8 * count, numbers, count) >= 0)
-        return DONE;
-    return failed("ct_convert_run", "a block that was taken is refused");
+    if (ct_convert_run(scale, CT_TAI, first, 8 * count, second, 8 * count, table, CT_TABLE_BYTES, jd1, 8 * count, jd2, 8 * count, numbers,
+                       count) < 0)
+        return failed("ct_convert_run", "a block that was taken is refused");
+    return DONE;
 }
 
 static int read_run(struct run *run, struct stamps *all, const uint8_t *table)
