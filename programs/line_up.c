@@ -48,7 +48,6 @@
 #include <stdio.h>
 #include <stdlib.h>
 #include <unistd.h>
-#include "convert_run.h"
 
 enum { DONE = 0, REFUSED = 1, FAILED = 2 };
 enum { RUNS = 3, MOST_STAMPS = 4000, BLOCK_BYTES = 8 + 16 * MOST_STAMPS };
@@ -64,9 +63,8 @@ struct run {
     int64_t block_refused; /* the number of the block that ended the run, or 0 */
 };
 
-/* The stamps of all runs, one run after the other: 8 bytes for each part, 1 for a number. A stamp that
-   has a number other than 0 keeps its parts as they were recorded, the others have those of their TAI;
-   a stamp that is turned away has both. */
+/* The stamps of all runs, one run after the other: 8 bytes for each part, 1 for a number, 4 for a place in
+   the line. The parts are those of the stamp's TAI, or as they were recorded where it has none. */
 struct stamps {
     uint8_t *jd1, *jd2, *numbers, *places;
     size_t count, room, ordered, textless;
@@ -252,7 +250,6 @@ static int take_block(struct stamps *all, uint32_t scale, const uint8_t *block, 
     numbers = all->numbers + all->count;
     memcpy(jd1, first, 8 * count);
     memcpy(jd2, second, 8 * count);
-    memset(numbers, 0, count);
     all->count += count;
     if (ct_convert_run(scale, CT_TAI, first, 8 * count, second, 8 * count, table, CT_TABLE_BYTES, jd1, 8 * count, jd2, 8 * count, numbers,
                        count) < 0)
@@ -396,7 +393,6 @@ static int convert_page(struct page *page, const struct stamps *all, size_t from
         memcpy(page->jd1 + 8 * i, all->jd1 + 8 * place, 8);
         memcpy(page->jd2 + 8 * i, all->jd2 + 8 * place, 8);
     }
-    memset(page->numbers, 0, count);
     if (ct_convert_run(CT_TAI, CT_UTC, page->jd1, 8 * count, page->jd2, 8 * count, table, CT_TABLE_BYTES, page->utc1, 8 * count,
                        page->utc2, 8 * count, page->numbers, count) < 0)
         return failed("ct_convert_run", "a page that was ordered is refused");
