@@ -406,7 +406,7 @@ static int write_page(struct run *runs, struct stamps *all, const struct page *p
     int k;
     for (i = 0; i < count; i++) {
         place = (size_t)ct_pattern_at(all->places + 4 * (from + i), 4);
-        for (k = 0, start = 0; place - start >= runs[k].stamps; k++) start += runs[k].stamps;
+        for (k = 0, start = 0; k < RUNS - 1 && place - start >= runs[k].stamps; k++) start += runs[k].stamps;
         if (write_line(line, put_text(put_index(line, &runs[k], place - start), all, page, i, table))) return FAILED;
         if (write_refused(&runs[k], all, start, place - start + 1)) return FAILED;
     }
