@@ -28,11 +28,12 @@
 
    Then each stamp of each run has one line: its recorder, its index in its run, counted from 0, and
    what is told of it. An ordered stamp has the UTC text of its TAI, or `no text` and a number where
-   its TAI has none; the others have `refused` and their number. The ordered stamps rise by their exact TAI; a tie
-   goes by recorder, in the order above, and then by index. A stamp that is not ordered stands behind
-   the last ordered stamp before it in its own run, directly, with those of its run that follow it up
-   to the next ordered one, by index; where there is none before it, it stands before all ordered
-   stamps, by recorder and then by index. So the lines of a recorder are in the order of its run.
+   its TAI has none; the others have `refused` and their number. The ordered stamps rise by their
+   exact TAI; a tie goes by recorder, in the order above, and then by index. A stamp that is not
+   ordered stands directly behind the last ordered stamp before it in its own run, with those of its
+   run that follow it up to the next ordered one, by index; where there is none before it, it stands
+   before all ordered stamps, by recorder and then by index. So the lines of a recorder are in the
+   order of its run.
    The last line has the number of ordered stamps, and of those that have no text.
 
    Exit status: 0 done; 1 a block or the table is refused, of which standard error tells more (a table
