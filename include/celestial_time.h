@@ -1,7 +1,8 @@
 /* Two-part Julian dates, eight time scales, the calendar, TAI-UTC, UTC text and stamp
    blocks, for C.
-   The archive is target/staticlib/libcapi.a, made by `rt staticlib capi`. The header is
-   written for C99 and later, and for C++.
+   `make install` installs it with an archive, a shared library and a file for pkg-config,
+   all named celestial_time. In the repository the archive is target/staticlib/libcapi.a,
+   made by `rt staticlib capi`. The header is written for C99 and later, and for C++.
 
    Answers. A call returns 64 bits signed: zero or more is its value, or the
    number of bytes that it wrote; below zero is minus the number of the refusal.
@@ -73,6 +74,13 @@
 #include <stddef.h>
 #include <stdint.h>
 #include <string.h>
+
+/* The version. A call that is taken away, or that answers otherwise or takes other arguments, raises
+   MAJOR, which is in the name of the shared library; a new call raises MINOR. */
+#define CT_VERSION_MAJOR 1
+#define CT_VERSION_MINOR 0
+#define CT_VERSION_PATCH 0
+#define CT_VERSION "1.0.0"
 
 #ifdef __cplusplus
 extern "C" {

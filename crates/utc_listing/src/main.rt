@@ -16,6 +16,26 @@ fn block_space() -> [u8; BLOCK_SPACE]
     [0; BLOCK_SPACE]
 }
 
+// What standard error is told. A message that standard error does not take is lost.
+fn tell_unread(got: isize) {
+    if got < 0 {
+        libc::write(2, b"utc_listing: the input can't be read\n");
+    }
+}
+
+fn tell_left_over(len: usize) {
+    if len == BLOCK_SPACE {
+        libc::write(
+            2,
+            b"utc_listing: the input is longer than any block, and its end was not read\n",
+        );
+    }
+}
+
+fn tell_unwritten() {
+    libc::write(2, b"utc_listing: the listing can't be written\n");
+}
+
 // Reads until `space` is full, the input ends or a read fails; the answer is how many bytes came. `io::read_full` would do, but holds 4,096 bytes of its own.
 fn read_all(space: &mut [u8]) -> usize
     ensures { λ r. ⌜ Counts r (now (space .exit)) ⌝ }
@@ -23,6 +43,7 @@ fn read_all(space: &mut [u8]) -> usize
     let mut done = 0;
     while done < space.len() {
         let got = libc::read(0, &mut space[done..]);
+        tell_unread(got);
         let more = io::count(got, &space[done..]);
         if more == 0 {
             break;
@@ -46,10 +67,11 @@ fn write_all(text: &[u8]) -> bool {
     true
 }
 
-// The program lends no rows. Where the output takes no more, the program ends: what it wrote until then has its last line cut short, or ends with a whole line.
+// The program lends no rows. Where the output takes no more, the program says so and ends: what it wrote until then has its last line cut short, or ends with a whole line.
 fn main() {
     let mut space = block_space();
     let len = read_all(&mut space);
+    tell_left_over(len);
     let block = &space[..len];
     let mut scratch = [0u8; SCRATCH];
     let table = tai_utc::no_rows();
@@ -58,6 +80,7 @@ fn main() {
         let part = stamps::next_part_by_rows(block, line, table, &mut scratch);
         let written = part.written;
         if !write_all(&scratch[..written]) {
+            tell_unwritten();
             return;
         }
         if part.done {

@@ -23,6 +23,9 @@ slice-aggregate-read-all c = search needs
 read-all-requires : tie.Need-read-all-requires Inv-loop μ-loop
 read-all-requires c κs = search needs
 
+tell-left-over-requires : tie.Need-tell-left-over-requires Inv-loop μ-loop
+tell-left-over-requires c κs = search needs
+
 array-share-prefix-space : tie.Need-array-share-prefix-space Inv-loop μ-loop
 array-share-prefix-space c = search needs
 
@@ -50,6 +53,9 @@ slice-aggregate-write-all c = part-within (c .before .before .next-part-by-rows 
 write-all-requires : tie.Need-write-all-requires Inv-loop μ-loop
 write-all-requires c κs = search needs
 
+tell-unwritten-requires : tie.Need-tell-unwritten-requires Inv-loop μ-loop
+tell-unwritten-requires c κs = search needs
+
 returns : tie.Need-returns Inv-loop μ-loop
 returns c = search needs
 
@@ -75,6 +81,7 @@ main-spec =
     block-space-requires
     slice-aggregate-read-all
     read-all-requires
+    tell-left-over-requires
     array-share-prefix-space
     slice-aggregate-block
     no-rows-requires
@@ -84,6 +91,7 @@ main-spec =
     array-share-prefix-scratch
     slice-aggregate-write-all
     write-all-requires
+    tell-unwritten-requires
     returns
     returns-2
     loop-less

@@ -34,6 +34,9 @@ part-read-end c = search needs
 read-requires : tie.Need-read-requires Inv-loop μ-loop
 read-requires c κs = search needs
 
+tell-unread-requires : tie.Need-tell-unread-requires Inv-loop μ-loop
+tell-unread-requires c κs = search needs
+
 sub-count : tie.Need-sub-count Inv-loop μ-loop
 sub-count c = search needs
 
@@ -84,6 +87,7 @@ read-all-spec =
     part-read-start
     part-read-end
     read-requires
+    tell-unread-requires
     sub-count
     part-count-start
     part-count-end
