@@ -348,7 +348,7 @@ static char *put_refusal(char *at, const struct stamps *all, size_t place)
 static int64_t utc_text(const uint8_t *jd1, const uint8_t *jd2, const uint8_t *table, char *out)
 {
     uint8_t rule[CT_RULE_BYTES];
-    return ct_to_iso8601(ct_float_at(jd1), ct_float_at(jd2), table, CT_TABLE_BYTES, (uint8_t *)out, TEXT_BYTES, rule, sizeof rule);
+    return ct_to_iso8601_expanded(ct_float_at(jd1), ct_float_at(jd2), table, CT_TABLE_BYTES, (uint8_t *)out, TEXT_BYTES, rule, sizeof rule);
 }
 
 static char *put_text(char *at, struct stamps *all, const struct page *page, size_t i, const uint8_t *table)

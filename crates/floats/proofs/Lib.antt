@@ -10,3 +10,4 @@ pub mod Cases
 pub mod NearestWholes
 pub mod Sizes
 pub mod FiniteTest
+pub mod ExponentField

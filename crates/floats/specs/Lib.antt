@@ -2,3 +2,5 @@
 pub mod Whole
 pub mod NearestWhole
 pub mod Size
+-- The words of theorems.
+pub mod ExponentField

@@ -12,36 +12,14 @@ use lib.Ieee.Scale.{finite}
 use borrow.Author.Tests.{eqb-true, eq-eqb}
 use Rattle.refusals.specs.Outcome.{Outcome, answer, refusal}
 use Rattle.digits.specs.Decimal.{digitsIn}
-use Rattle.floats.proofs.Fields.{expo, ofBits-is}
+use Rattle.floats.proofs.ExponentField.{finite-field, field-not-finite}
 use Rattle.calendar.proofs.NextDates.{first-false}
 use Rattle.tai_utc.specs.Table.{Row}
 use Rattle.utc.proofs.Numbers.{not-both}
 use Rattle.utc.proofs.ExpandedTexts.{expanded-not-finite}
 use Rattle.stamps.specs.Block.{blockOf, jd1Bits, jd2Bits, stampAt}
-use Rattle.listing_laws.specs.NotFinite.{exponentField, NotFinite, isNotFinite, notFiniteIn, HasText}
+use Rattle.listing_laws.specs.NotFinite.{NotFinite, isNotFinite, notFiniteIn, HasText}
 use Rattle.stamps.specs.Listing.{numeral, refusedWord, textAt, shown, stampLine, stampLines, oneIfRefused, refusedIn, header, listingOf, listing}
-
--- ---- the values that are not finite are those whose exponent field is all ones
-odd-finite : (d : ℕ) (s : Bool) (q k l : ℕ) → finite (odd d s q k l) ≡ true
-unfolding odd
-odd-finite d s zero k l = refl
-odd-finite d s (suc q) k l = refl
-
-fields-finite : (s : Bool) (e t : ℕ) → finite (ofFields binary64 s e t) ≡ not (eqb e 2047)
-unfolding ofFields
-fields-finite s zero t = odd-finite 53 s t 0 1074
-fields-finite s (suc e) t = by (eqb (suc e) 2047) (eqb t 0)
-  where
-    by : (a b : Bool) → finite (cond a (cond b (inf s) nan) (odd 53 s (2 ^ 52 + t) e 1074)) ≡ not a
-    by true true = refl
-    by true false = refl
-    by false b = odd-finite 53 s (2 ^ 52 + t) e 1074
-
-pub finite-field : (b : ℕ) → finite (ofBits binary64 b) ≡ not (eqb (exponentField b) 2047)
-finite-field b = ap finite (ofBits-is b) ∙ fields-finite _ (expo b) _ ∙ ap (λ (e : ℕ). not (eqb e 2047)) (field b 11 52)
-
-field-not-finite : (b : ℕ) → exponentField b ≡ 2047 → finite (ofBits binary64 b) ≡ false
-field-not-finite b e = finite-field b ∙ ap not (eq-eqb (exponentField b) 2047 e)
 
 no-second : (a b : Bool) → b ≡ false → a && b ≡ false
 no-second true b e = e

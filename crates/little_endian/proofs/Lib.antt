@@ -3,6 +3,8 @@
 pub mod Laws
 -- Puts: eight bytes put one by one.
 pub mod Puts
+-- Parts: a number read from a part of eight bytes.
+pub mod Parts
 -- Signed: patterns in two's complement, as the code computes them.
 pub mod Signed
 -- Signed32: the same with 32 bits.

@@ -13,6 +13,7 @@ use lib.Ieee.Scale.{finite}
 use borrow.Author.Tests.{ltb-true, ltb-false, eqb-true, eq-eqb, ne-eqb}
 use Rattle.floats.specs.Whole.{abs}
 use Rattle.floats.proofs.Fields.{expo}
+use Rattle.floats.proofs.ExponentField.{finite-field}
 use Rattle.refusals.specs.Outcome.{Outcome, answer, refusal, onward}
 use Rattle.julian.specs.declared.JulianDate.{JulianDate}
 use Rattle.julian.specs.JulianDate.{julian}
@@ -27,8 +28,6 @@ use Rattle.scales.specs.Formulas.{gpsDays, ttDays}
 use Rattle.scales.specs.Conversions.{answerOf}
 use Rattle.line_up.specs.LineUp.{stampOf}
 use Rattle.line_up.proofs.Cases.{stamp-is}
-use Rattle.listing_laws.specs.NotFinite.{exponentField}
-use Rattle.listing_laws.proofs.NotFinite.{finite-field}
 use Rattle.runs.specs.Ways.{intoTai, outOfTai, between, wayOf}
 use Rattle.runs.specs.Asked.{shiftedStamp, IsOffset}
 

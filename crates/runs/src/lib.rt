@@ -50,15 +50,8 @@ pub(crate) fn put_pattern(out: &mut [u8], at: usize, n: u64)
     requires { ⌜ at + 8 ≤ length (now out) ⌝ }
     ensures { λ _. ⌜ now (out .exit) ≡ sets (now (out .entry)) at (eightBytes n) ⌝ }
 {
-    let b = little_endian::bytes_of_u64(n);
-    out[at] = b[0];
-    out[at + 1] = b[1];
-    out[at + 2] = b[2];
-    out[at + 3] = b[3];
-    out[at + 4] = b[4];
-    out[at + 5] = b[5];
-    out[at + 6] = b[6];
-    out[at + 7] = b[7];
+    let end = at + 8;
+    little_endian::put_u64(&mut out[at..end], n);
 }
 
 // Both parts of an answer in the places of stamp i, and its number: 0, or that of the refusal, of which the places stay.

@@ -9,7 +9,7 @@ use lib.Seq.{take-at, drop-at}
 use Rattle.little_endian.specs.LittleEndian.{u64At, eightBytes}
 use Rattle.little_endian.proofs.RoundTrip.{read-written}
 use Rattle.tick_times.specs.Ticks.{numberAt, bytesOf}
-use Rattle.tick_times.proofs.Parts.{eight-in-part}
+use Rattle.little_endian.proofs.Parts.{eight-in-part}
 use Rattle.tick_times.proofs.Calls.{length-bytes}
 
 eight-there : (f : ℕ → ℕ) (n : ℕ) (rest : List ℕ) (i : ℕ) → i < n → take 8 (drop (8 * i) (bytesOf f n ++ rest)) ≡ eightBytes (f i)
