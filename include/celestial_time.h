@@ -358,7 +358,8 @@ int64_t ct_parse_iso8601(const uint8_t *text, size_t text_len, uint8_t *out, siz
 /* The six fields of a UTC text, which may have one Z directly behind its second, and then the date
    that ct_utc_from_calendar gives: jd1, jd2; 44 bytes. Refuses the table; 15; 16; 2, 3; then 4, where
    the limit at 23:59 is 60 plus the day's leap; 11. 2016-12-31T23:59:60.5Z is a date,
-   2015-12-31T23:59:60 is 4, and 2000-13-01T24:00:00Z with no byte is 2. */
+   2015-12-31T23:59:60 is 4, and 2000-13-01T24:00:00Z with no byte is 2. What ct_to_iso8601 writes by
+   the same table, of a shown year 1972 to 9999, reads back as its fields, and its date has that text. */
 int64_t ct_utc_from_iso8601(const uint8_t *text, size_t text_len, const uint8_t *table, size_t table_len,
                             uint8_t *out, size_t out_len);
 

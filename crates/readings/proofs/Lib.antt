@@ -1,2 +1,4 @@
 -- What the functions' proofs share.
 pub mod Lines
+-- What we write is answered by itself.
+pub mod OwnTexts
