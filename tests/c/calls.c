@@ -7,6 +7,7 @@
 #include "scale_calls.h"
 #include "table_calls.h"
 #include "line_up_calls.h"
+#include "run_calls.h"
 #include "standby_calls.h"
 #include "tick_calls.h"
 #include "walk_calls.h"
@@ -416,6 +417,7 @@ int main(void)
     table_calls();
     standby_calls();
     line_up_calls();
+    run_calls();
     walk_calls();
     return summary("calls");
 }
