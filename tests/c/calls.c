@@ -8,6 +8,7 @@
 #include "sheet_calls.h"
 #include "table_calls.h"
 #include "line_up_calls.h"
+#include "run_calls.h"
 #include "standby_calls.h"
 #include "tick_calls.h"
 #include "walk_calls.h"
@@ -418,6 +419,7 @@ int main(void)
     table_calls();
     standby_calls();
     line_up_calls();
+    run_calls();
     walk_calls();
     return summary("calls");
 }

@@ -94,11 +94,34 @@ static void ask_offsets(double not_finite)
         due(WITH_OFFSET[i].name, 10, WITH_OFFSET[i].ask(2451545.0, 0.25, not_finite, fresh(), ROOM));
 }
 
+/* The block as a run, between each two scales: every stamp that is not finite gets its number, 6 where the leap table is read first and else 9, keeps the bytes of its
+   places, and is counted. */
+static void ask_runs(const uint8_t *jd1, const uint8_t *jd2, size_t stamps, const uint8_t *dead)
+{
+    static const uint32_t SCALES[] = {CT_UTC, CT_TAI, CT_TT, CT_GPS, CT_TCG};
+    static uint8_t out1[MOST_BYTES], out2[MOST_BYTES], numbers[MOST_BYTES];
+    size_t i, k, j;
+    for (i = 0; i < COUNT(SCALES); i++)
+        for (k = 0; k < COUNT(SCALES); k++) {
+            int number = i != k && (SCALES[i] == CT_UTC || (SCALES[i] == CT_TAI && SCALES[k] == CT_UTC)) ? 6 : 9, right = 1;
+            memset(out1, 0xa5, sizeof out1);
+            memset(out2, 0xa5, sizeof out2);
+            check(ct_convert_run(SCALES[i], SCALES[k], jd1, 8 * stamps, jd2, 8 * stamps, ct_no_rows, CT_TABLE_BYTES, out1, sizeof out1, out2, sizeof out2, numbers, sizeof numbers) ==
+                      NOT_FINITE_STAMPS,
+                  "ct_convert_run from %d to %d counts other stamps", (int)SCALES[i], (int)SCALES[k]);
+            for (j = 0; j < stamps; j++) {
+                int stays = ct_pattern_at(out1 + 8 * j, 8) == 0xa5a5a5a5a5a5a5a5u && ct_pattern_at(out2 + 8 * j, 8) == 0xa5a5a5a5a5a5a5a5u;
+                if (numbers[j] != (dead[j] ? number : 0) || stays != dead[j]) right = 0;
+            }
+            check(right, "ct_convert_run from %d to %d has other numbers or places", (int)SCALES[i], (int)SCALES[k]);
+        }
+}
+
 static int not_finite(const uint8_t *at) { return (at[7] & 0x7f) == 0x7f && (at[6] & 0xf0) == 0xf0; }
 
 int main(int count, char **words)
 {
-    static uint8_t block[MOST_BYTES];
+    static uint8_t block[MOST_BYTES], dead[MOST_BYTES];
     const uint8_t *jd1 = block + 8, *jd2;
     FILE *file = count == 2 ? fopen(words[1], "rb") : NULL;
     int64_t i, stamps, found = 0, by_isnan = 0, by_text = 0;
@@ -112,9 +135,11 @@ int main(int count, char **words)
         by_text += text(first, second, fresh(), ROOM) < 0;
         if (!not_finite(jd1 + 8 * i) && !not_finite(jd2 + 8 * i)) continue;
         found++;
+        dead[i] = 1;
         ask_all(first, second);
         ask_offsets(not_finite(jd1 + 8 * i) ? first : second);
     }
+    ask_runs(jd1, jd2, (size_t)stamps, dead);
     check(found == NOT_FINITE_STAMPS, "%ld stamps of the block are not finite", (long)found);
     check(by_text == NOT_FINITE_STAMPS, "the text call refuses %ld stamps", (long)by_text);
     printf("not finite: %ld; isnan in this build says %ld, the text call refuses %ld\n", (long)found, (long)by_isnan,
