@@ -64,13 +64,14 @@ pub extern "C" fn ct_to_iso8601(
 ) -> i64
     ensures { λ r. ⌜ DeliveredTwo (ruled (onward (tableBytes (now (table .entry))) (λ rows. isoTextByRule rows (julian jd1 jd2)))) (now (out .entry)) (now (rule .entry)) r (now (out .exit)) (now (rule .exit)) ⌝ }
 {
-    let size = arrays::size_in(table);
-    let months = arrays::months_in(table);
-    let seconds = arrays::seconds_in(table);
-    let number = arrays::lent_number(table, &months, &seconds);
+    let mut months = [0; 16];
+    let mut seconds = [0; 16];
+    let lent = arrays::read_table(table, &mut months, &mut seconds);
+    let number = lent.number;
     if number != 0 {
         return refused(number);
     }
+    let size = lent.size;
     let date = UTC(JulianDate { jd1, jd2 });
     put_text(date, size, &months, &seconds, out, rule)
 }
