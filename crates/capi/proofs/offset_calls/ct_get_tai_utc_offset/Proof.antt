@@ -36,9 +36,9 @@ returns-2 c =
     let p = c .before .before in
     let b = p .before .before in
     let n = b .before .before .before .before in
-    let s = n .before .before .before .before .before .before .before .before in
+    let s = n .before .before .before .before .before in
     with-lent _ _ (n .read-table .result .number) (n .read-table .ensures .0) offsetRuleBytes _ (p .put-offset .ok) (b .before .before .before .if1 .left)
-    (b .get-tai-utc-offset-by-lent .ensures ∙ read-date (λ (y m d : ℤ). offsetByRule (rowsIn (n .before .before .before .before .before .size-in .result) (n .before .before .before .before .months-in .result) (n .before .before .before .seconds-in .result)) y m d (s .args .fraction)) _ _ _ (s .fits .year) (s .fits .month) (s .fits .day))
+    (b .get-tai-utc-offset-by-lent .ensures ∙ read-date (λ (y m d : ℤ). offsetByRule (rowsIn (n .read-table .result .size) (n .read-table .last .1 .0) (n .read-table .last .1 .1 .0)) y m d (s .args .fraction)) _ _ _ (s .fits .year) (s .fits .month) (s .fits .day))
     (p .put-offset .ensures)
 
 pub ct-get-tai-utc-offset-spec : {M : Type 1} → statement M

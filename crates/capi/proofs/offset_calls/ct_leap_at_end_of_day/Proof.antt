@@ -37,9 +37,9 @@ returns-2 c =
     let p = c .before .before in
     let b = p .before .before in
     let n = b .before .before .before .before in
-    let s = n .before .before .before .before .before .before .before .before in
+    let s = n .before .before .before .before .before in
     with-lent _ _ (n .read-table .result .number) (n .read-table .ensures .0) floatBytes _ (p .put-leap .ok) (b .before .before .before .if1 .left)
-    (ap forget (b .leap-at-end-of-day-by-lent .ensures) ∙ leap-forgets (rowsIn (n .before .before .before .before .before .size-in .result) (n .before .before .before .before .months-in .result) (n .before .before .before .seconds-in .result)) _ _ _ ∙ read-date (leapAtEndOfDay (rowsIn (n .before .before .before .before .before .size-in .result) (n .before .before .before .before .months-in .result) (n .before .before .before .seconds-in .result))) _ _ _ (s .fits .year) (s .fits .month) (s .fits .day))
+    (ap forget (b .leap-at-end-of-day-by-lent .ensures) ∙ leap-forgets (rowsIn (n .read-table .result .size) (n .read-table .last .1 .0) (n .read-table .last .1 .1 .0)) _ _ _ ∙ read-date (leapAtEndOfDay (rowsIn (n .read-table .result .size) (n .read-table .last .1 .0) (n .read-table .last .1 .1 .0))) _ _ _ (s .fits .year) (s .fits .month) (s .fits .day))
     (p .put-leap .ensures)
 
 pub ct-leap-at-end-of-day-spec : {M : Type 1} → statement M

@@ -36,9 +36,9 @@ returns-2 c =
     let p = c .before .before in
     let b = p .before .before in
     let n = b .before .before .before .before in
-    let s = n .before .before .before .before .before .before .before .before in
+    let s = n .before .before .before .before .before in
     with-lent _ _ (n .read-table .result .number) (n .read-table .ensures .0) julianBytes _ (p .put-utc .ok) (b .before .before .before .if1 .left)
-    (b .utc-from-calendar-by-lent .ensures ∙ ap (λ (y : ℤ). utcFromCalendar (rowsIn (n .before .before .before .before .before .size-in .result) (n .before .before .before .before .months-in .result) (n .before .before .before .seconds-in .result)) y (s .args .month) (s .args .day) (s .args .hour) (s .args .minute) (s .args .second)) (toZ-ofZ (s .fits .year)))
+    (b .utc-from-calendar-by-lent .ensures ∙ ap (λ (y : ℤ). utcFromCalendar (rowsIn (n .read-table .result .size) (n .read-table .last .1 .0) (n .read-table .last .1 .1 .0)) y (s .args .month) (s .args .day) (s .args .hour) (s .args .minute) (s .args .second)) (toZ-ofZ (s .fits .year)))
     (p .put-utc .ensures)
 
 pub ct-utc-from-calendar-spec : {M : Type 1} → statement M

@@ -36,9 +36,9 @@ returns-2 c =
     let p = c .before .before in
     let b = p .before .before in
     let n = b .before .before .before .before in
-    let s = n .before .before .before .before .before .before .before .before in
+    let s = n .before .before .before .before .before in
     with-lent _ _ (n .read-table .result .number) (n .read-table .ensures .0) julianBytes _ (p .put-utc .ok) (b .before .before .before .if1 .left)
-    (b .new-by-lent .ensures ∙ ap (λ (z : ℤ). utcNew (rowsIn (n .before .before .before .before .before .size-in .result) (n .before .before .before .before .months-in .result) (n .before .before .before .seconds-in .result)) z (s .args .nanos)) (toZ-ofZ (s .fits .seconds)))
+    (b .new-by-lent .ensures ∙ ap (λ (z : ℤ). utcNew (rowsIn (n .read-table .result .size) (n .read-table .last .1 .0) (n .read-table .last .1 .1 .0)) z (s .args .nanos)) (toZ-ofZ (s .fits .seconds)))
     (p .put-utc .ensures)
 
 pub ct-utc-new-spec : {M : Type 1} → statement M
