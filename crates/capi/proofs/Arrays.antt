@@ -1,20 +1,17 @@
 -- A call that is lent a table and lends its two arrays on: what the table refuses is handed on before every other refusal, and with its rows the call goes on. Assumes
 -- nothing.
-use Prim.Native.Nat.{ℕ, _<_, _≤_, _^_}
-use mathlib.Core.Path.{_≡_, refl, sym, ap, subst, _∙_}
+use Prim.Native.Nat.{ℕ, _<_, _^_}
+use mathlib.Core.Path.{_≡_, refl, sym, subst, _∙_}
 use mathlib.Core.List.{List}
 use lib.IntN.{ℤ}
-use lib.ListN.{length}
 use lib.Signed.{mag}
 use mir.Syntax.{w64}
 use mir.Val.{toZ, ofZ}
 use Rattle.refusals.specs.Outcome.{Outcome, answer, refusal, onward}
-use Rattle.little_endian.specs.LittleEndian.{u32At}
 use Rattle.tai_utc.specs.declared.Rule.{Rule}
 use Rattle.tai_utc.specs.Table.{Row}
-use Rattle.tai_utc.specs.Lent.{lentTable, rowsIn, tableOf, unlessRefused}
-use Rattle.lent_bytes.specs.TableBytes.{ofLength, tableBytes, sizeIn, ReadFrom}
-use Rattle.lent_bytes.proofs.Reading.{arrays-of-bytes}
+use Rattle.tai_utc.specs.Lent.{unlessRefused}
+use Rattle.lent_bytes.specs.TableBytes.{tableBytes}
 use Rattle.lent_bytes.proofs.Laws.{turned-away, gone-on}
 use Rattle.utc.specs.TextCall.{bufferHolds}
 use Rattle.c_answers.specs.Delivery.{code, inBytes, Delivered}
@@ -22,29 +19,25 @@ use Rattle.c_answers.specs.TwoBuffers.{bothFit, DeliveredTwo}
 use Rattle.c_answers.proofs.Deliveries.{code-back, refused-on, same-outcome}
 use Rattle.capi.specs.TextRule.{ruled}
 
--- the size k, the arrays m and l and the number n that the code finds in the bytes s
-module _ (s : List ℕ) (k : ℕ) (m l : List ℤ) (n : ℕ) (size : (k ≡ sizeIn s) × (k ≤ 16)) (months : ReadFrom s 8 m) (seconds : ReadFrom s 72 l)
-    (number : unlessRefused n (rowsIn (sizeIn s) m l) ≡ ofLength (length s) (tableOf (lentTable (u32At s 0) (u32At s 4) m l))) where
-  judged : unlessRefused n (rowsIn k m l) ≡ tableBytes s
-  judged = ap (λ (j : ℕ). unlessRefused n (rowsIn j m l)) (size .0) ∙ number ∙ arrays-of-bytes s m l months seconds
-
+-- the rows and the number n that the code reads in the bytes s
+module _ (s : List ℕ) (rows : List Row) (n : ℕ) (judged : unlessRefused n rows ≡ tableBytes s) where
   -- ---- an answer in bytes
   module _ {A : Type 0} (bytes : A → List ℕ) (next : List Row → Outcome A) {r : ℤ} (ok : mag r < 2 ^ 63) where
     pub lent-refused : {b : List ℕ} → (n ≡ 0 → ⊥) → r ≡ code (refusal n) → Delivered (inBytes bytes (onward (tableBytes s) next)) b (toZ w64 (ofZ w64 r)) b
-    lent-refused h c = refused-on bytes ok n (turned-away (rowsIn k m l) n judged next h) c
+    lent-refused h c = refused-on bytes ok n (turned-away rows n judged next h) c
 
-    pub with-lent : {o : Outcome A} {b out : List ℕ} → n ≡ 0 → o ≡ next (rowsIn k m l) → Delivered (inBytes bytes o) b r out → Delivered (inBytes bytes (onward (tableBytes s) next)) b (toZ w64 (ofZ w64 r)) out
-    with-lent h p d = same-outcome bytes ok (p ∙ gone-on (rowsIn k m l) n judged next h) d
+    pub with-lent : {o : Outcome A} {b out : List ℕ} → n ≡ 0 → o ≡ next rows → Delivered (inBytes bytes o) b r out → Delivered (inBytes bytes (onward (tableBytes s) next)) b (toZ w64 (ofZ w64 r)) out
+    with-lent h p d = same-outcome bytes ok (p ∙ gone-on rows n judged next h) d
 
   -- ---- a text and its rule in two buffers
   module _ (next : List Row → Outcome (List ℕ × Rule)) {r : ℤ} (ok : mag r < 2 ^ 63) where
     pub text-lent-refused : {b b′ : List ℕ} → (n ≡ 0 → ⊥) → r ≡ code (refusal n) → DeliveredTwo (ruled (onward (tableBytes s) next)) b b′ (toZ w64 (ofZ w64 r)) b b′
     unfolding onward bothFit bufferHolds ruled
     text-lent-refused {b} {b′} h c =
-        subst (λ (o : Outcome (List ℕ × Rule)). DeliveredTwo (ruled o) b b′ (toZ w64 (ofZ w64 r)) b b′) (sym (turned-away (rowsIn k m l) n judged next h))
+        subst (λ (o : Outcome (List ℕ × Rule)). DeliveredTwo (ruled o) b b′ (toZ w64 (ofZ w64 r)) b b′) (sym (turned-away rows n judged next h))
         (record { returned = code-back ok ∙ c; holds = refl; holds-second = refl })
 
-    pub text-with-lent : {b b′ out out′ : List ℕ} → n ≡ 0 → DeliveredTwo (ruled (next (rowsIn k m l))) b b′ r out out′ → DeliveredTwo (ruled (onward (tableBytes s) next)) b b′ (toZ w64 (ofZ w64 r)) out out′
+    pub text-with-lent : {b b′ out out′ : List ℕ} → n ≡ 0 → DeliveredTwo (ruled (next rows)) b b′ r out out′ → DeliveredTwo (ruled (onward (tableBytes s) next)) b b′ (toZ w64 (ofZ w64 r)) out out′
     text-with-lent {b} {b′} {out} {out′} h d =
         subst (λ (z : ℤ). DeliveredTwo (ruled (onward (tableBytes s) next)) b b′ z out out′) (sym (code-back ok))
-        (subst (λ (o : Outcome (List ℕ × Rule)). DeliveredTwo (ruled o) b b′ r out out′) (gone-on (rowsIn k m l) n judged next h) d)
+        (subst (λ (o : Outcome (List ℕ × Rule)). DeliveredTwo (ruled o) b b′ r out out′) (gone-on rows n judged next h) d)

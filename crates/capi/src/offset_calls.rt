@@ -62,13 +62,14 @@ pub extern "C" fn ct_get_tai_utc_offset(
 ) -> i64
     ensures { λ r. ⌜ Delivered (inBytes offsetRuleBytes (onward (tableBytes (now (table .entry))) (λ rows. offsetByRule rows year month day fraction))) (now (out .entry)) r (now (out .exit)) ⌝ }
 {
-    let size = arrays::size_in(table);
-    let months = arrays::months_in(table);
-    let seconds = arrays::seconds_in(table);
-    let number = arrays::lent_number(table, &months, &seconds);
+    let mut months = [0; 16];
+    let mut seconds = [0; 16];
+    let lent = arrays::read_table(table, &mut months, &mut seconds);
+    let number = lent.number;
     if number != 0 {
         return refused(number);
     }
+    let size = lent.size;
     put_offset(
         tai_utc::get_tai_utc_offset_by_lent(year, month, day, fraction, size, &months, &seconds),
         out,
@@ -85,13 +86,14 @@ pub extern "C" fn ct_leap_at_end_of_day(
 ) -> i64
     ensures { λ r. ⌜ Delivered (inBytes floatBytes (onward (tableBytes (now (table .entry))) (λ rows. leapAtEndOfDay rows year month day))) (now (out .entry)) r (now (out .exit)) ⌝ }
 {
-    let size = arrays::size_in(table);
-    let months = arrays::months_in(table);
-    let seconds = arrays::seconds_in(table);
-    let number = arrays::lent_number(table, &months, &seconds);
+    let mut months = [0; 16];
+    let mut seconds = [0; 16];
+    let lent = arrays::read_table(table, &mut months, &mut seconds);
+    let number = lent.number;
     if number != 0 {
         return refused(number);
     }
+    let size = lent.size;
     put_leap(
         tai_utc::leap_at_end_of_day_by_lent(year, month, day, size, &months, &seconds),
         out,

@@ -19,13 +19,14 @@ pub extern "C" fn ct_convert_run(
 ) -> i64
     ensures { λ r. ⌜ RunDelivered (convertedRun (tableBytes (now (table .entry))) from to (now (jd1 .entry)) (now (jd2 .entry)) (now (out1 .entry)) (now (out2 .entry)) (now (numbers .entry))) r (now (out1 .exit)) (now (out2 .exit)) (now (numbers .exit)) ⌝ }
 {
-    let size = arrays::size_in(table);
-    let months = arrays::months_in(table);
-    let seconds = arrays::seconds_in(table);
-    let number = arrays::lent_number(table, &months, &seconds);
+    let mut months = [0; 16];
+    let mut seconds = [0; 16];
+    let lent = arrays::read_table(table, &mut months, &mut seconds);
+    let number = lent.number;
     if number != 0 {
         return refused(number);
     }
+    let size = lent.size;
     match runs::convert_run_by_lent(
         from,
         to,

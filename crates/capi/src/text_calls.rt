@@ -83,13 +83,14 @@ fn put_text<'a>(
 fn text_call(sheet: NamedSheet, date: UTC, table: &[u8], out: &mut [u8], rule: &mut [u8]) -> i64
     ensures { λ r. ⌜ DeliveredTwo (ruled (onward (tableBytes (now (table .entry))) (λ rows. textByRule (sheetNamed sheet) rows (date .0)))) (now (out .entry)) (now (rule .entry)) r (now (out .exit)) (now (rule .exit)) ⌝ }
 {
-    let size = arrays::size_in(table);
-    let months = arrays::months_in(table);
-    let seconds = arrays::seconds_in(table);
-    let number = arrays::lent_number(table, &months, &seconds);
+    let mut months = [0; 16];
+    let mut seconds = [0; 16];
+    let lent = arrays::read_table(table, &mut months, &mut seconds);
+    let number = lent.number;
     if number != 0 {
         return refused(number);
     }
+    let size = lent.size;
     put_text(sheet, date, size, &months, &seconds, out, rule)
 }
 

@@ -38,13 +38,14 @@ fn put_utc(found: UtcAnswer, out: &mut [u8]) -> i64
 pub extern "C" fn ct_utc_new(seconds: i64, nanos: u32, table: &[u8], out: &mut [u8]) -> i64
     ensures { λ r. ⌜ Delivered (inBytes julianBytes (onward (tableBytes (now (table .entry))) (λ rows. utcNew rows seconds nanos))) (now (out .entry)) r (now (out .exit)) ⌝ }
 {
-    let size = arrays::size_in(table);
-    let months = arrays::months_in(table);
-    let lent_seconds = arrays::seconds_in(table);
-    let number = arrays::lent_number(table, &months, &lent_seconds);
+    let mut months = [0; 16];
+    let mut lent_seconds = [0; 16];
+    let lent = arrays::read_table(table, &mut months, &mut lent_seconds);
+    let number = lent.number;
     if number != 0 {
         return refused(number);
     }
+    let size = lent.size;
     put_utc(
         utc::new_by_lent(seconds, nanos, size, &months, &lent_seconds),
         out,
@@ -64,13 +65,14 @@ pub extern "C" fn ct_utc_from_calendar(
 ) -> i64
     ensures { λ r. ⌜ Delivered (inBytes julianBytes (onward (tableBytes (now (table .entry))) (λ rows. utcFromCalendar rows year month day hour minute second))) (now (out .entry)) r (now (out .exit)) ⌝ }
 {
-    let size = arrays::size_in(table);
-    let months = arrays::months_in(table);
-    let seconds = arrays::seconds_in(table);
-    let number = arrays::lent_number(table, &months, &seconds);
+    let mut months = [0; 16];
+    let mut seconds = [0; 16];
+    let lent = arrays::read_table(table, &mut months, &mut seconds);
+    let number = lent.number;
     if number != 0 {
         return refused(number);
     }
+    let size = lent.size;
     put_utc(
         utc::utc_from_calendar_by_lent(
             year,
@@ -100,13 +102,14 @@ fn put_tai_by_rule(found: TaiByRule, out: &mut [u8]) -> i64
 pub extern "C" fn ct_utc_to_tai(jd1: f64, jd2: f64, table: &[u8], out: &mut [u8]) -> i64
     ensures { λ r. ⌜ Delivered (inBytes julianRuleBytes (onward (tableBytes (now (table .entry))) (λ rows. utcToTaiByRule rows (julian jd1 jd2)))) (now (out .entry)) r (now (out .exit)) ⌝ }
 {
-    let size = arrays::size_in(table);
-    let months = arrays::months_in(table);
-    let seconds = arrays::seconds_in(table);
-    let number = arrays::lent_number(table, &months, &seconds);
+    let mut months = [0; 16];
+    let mut seconds = [0; 16];
+    let lent = arrays::read_table(table, &mut months, &mut seconds);
+    let number = lent.number;
     if number != 0 {
         return refused(number);
     }
+    let size = lent.size;
     let date = UTC(JulianDate { jd1, jd2 });
     put_tai_by_rule(
         utc_tai::utc_to_tai_by_lent(date, size, &months, &seconds),
@@ -118,13 +121,14 @@ pub extern "C" fn ct_utc_to_tai(jd1: f64, jd2: f64, table: &[u8], out: &mut [u8]
 pub extern "C" fn ct_tai_to_utc(jd1: f64, jd2: f64, table: &[u8], out: &mut [u8]) -> i64
     ensures { λ r. ⌜ Delivered (inBytes julianBytes (onward (tableBytes (now (table .entry))) (λ rows. taiToUtc rows (julian jd1 jd2)))) (now (out .entry)) r (now (out .exit)) ⌝ }
 {
-    let size = arrays::size_in(table);
-    let months = arrays::months_in(table);
-    let seconds = arrays::seconds_in(table);
-    let number = arrays::lent_number(table, &months, &seconds);
+    let mut months = [0; 16];
+    let mut seconds = [0; 16];
+    let lent = arrays::read_table(table, &mut months, &mut seconds);
+    let number = lent.number;
     if number != 0 {
         return refused(number);
     }
+    let size = lent.size;
     let date = TAI(JulianDate { jd1, jd2 });
     put_utc(
         utc_tai::tai_to_utc_by_lent(date, size, &months, &seconds),
@@ -151,13 +155,14 @@ pub extern "C" fn ct_utc_to_ut1_with_dut1(
 ) -> i64
     ensures { λ r. ⌜ Delivered (inBytes julianRuleBytes (onward (tableBytes (now (table .entry))) (λ rows. utcToUt1ByRule rows (julian jd1 jd2) dut1))) (now (out .entry)) r (now (out .exit)) ⌝ }
 {
-    let size = arrays::size_in(table);
-    let months = arrays::months_in(table);
-    let seconds = arrays::seconds_in(table);
-    let number = arrays::lent_number(table, &months, &seconds);
+    let mut months = [0; 16];
+    let mut seconds = [0; 16];
+    let lent = arrays::read_table(table, &mut months, &mut seconds);
+    let number = lent.number;
     if number != 0 {
         return refused(number);
     }
+    let size = lent.size;
     let date = UTC(JulianDate { jd1, jd2 });
     put_ut1_by_rule(
         utc_ut1::utc_to_ut1_with_dut1_by_lent(date, dut1, size, &months, &seconds),
@@ -175,13 +180,14 @@ pub extern "C" fn ct_ut1_to_utc_with_dut1(
 ) -> i64
     ensures { λ r. ⌜ Delivered (inBytes julianBytes (onward (tableBytes (now (table .entry))) (λ rows. ut1ToUtc rows (julian jd1 jd2) dut1))) (now (out .entry)) r (now (out .exit)) ⌝ }
 {
-    let size = arrays::size_in(table);
-    let months = arrays::months_in(table);
-    let seconds = arrays::seconds_in(table);
-    let number = arrays::lent_number(table, &months, &seconds);
+    let mut months = [0; 16];
+    let mut seconds = [0; 16];
+    let lent = arrays::read_table(table, &mut months, &mut seconds);
+    let number = lent.number;
     if number != 0 {
         return refused(number);
     }
+    let size = lent.size;
     let date = UT1(JulianDate { jd1, jd2 });
     put_utc(
         utc_ut1::ut1_to_utc_with_dut1_by_lent(date, dut1, size, &months, &seconds),

@@ -131,3 +131,26 @@ module _ (n a b a′ b′ : ℕ) (m l : List ℤ) (p : a ≡ a′) (q : b ≡ b�
 pub arrays-of-bytes : (s : List ℕ) (m l : List ℤ) → ReadFrom s 8 m → ReadFrom s 72 l → ofLength (length s) (tableOf (lentTable (u32At s 0) (u32At s 4) m l)) ≡ tableBytes s
 unfolding tableBytes
 arrays-of-bytes s m l p q = ap (ofLength (length s)) (same-table s (lentTable (u32At s 0) (u32At s 4) m l) refl refl p q)
+
+-- ---- what is read into two arrays and judged is the table of the bytes
+pub read-14 : (s : List ℕ) (rows : List Row) → (length s ≡ 136 → ⊥) → unlessRefused 14 rows ≡ tableBytes s
+unfolding tableBytes ofLength
+read-14 s rows h = rw (ne-eqb (length s) 136 h)
+
+module _ (s : List ℕ) (a b : ℕ) (m l : List ℤ) (p : a ≡ u32At s 0) (q : b ≡ u32At s 4) (h : length s ≡ 136) where
+  pub read-judged : (size number : ℕ) → size ≡ least a 16 → ((i : ℕ) → i < size → getD m i (pos 0) ≡ signedAt s (8 + 4 * i)) → ((i : ℕ) → i < size → getD l i (pos 0) ≡ signedAt s (72 + 4 * i))
+      → Judged number (lentTable a b m l) → unlessRefused number (rowsIn size m l) ≡ tableBytes s
+  read-judged size number e ms ss j =
+      let k : size ≡ sizeIn s = e ∙ ap (λ (x : ℕ). least x 16) p in
+      ap (λ (x : ℕ). unlessRefused number (rowsIn x m l)) k
+      ∙ arrays-judged (length s) a b (u32At s 0) (u32At s 4) m l p q h number j
+      ∙ arrays-of-bytes s m l (λ i g. ms i (subst (λ (x : ℕ). i < x) (sym k) g)) (λ i g. ss i (subst (λ (x : ℕ). i < x) (sym k) g))
+
+  pub read-none : eqb a 0 && eqb b 0 ≡ true → unlessRefused 0 (rowsIn 0 m l) ≡ tableBytes s
+  read-none e =
+      let (x, y) = both-none a b e in
+      let f = table-none (lentTable a b m l) x y in
+      read-judged 0 0 (none-of x) (λ i g. absurd (not-suc-le-zero g)) (λ i g. absurd (not-suc-le-zero g)) (ap answer (none-rows (lentTable a b m l) f) ∙ sym f)
+    where
+      none-of : a ≡ 0 → 0 ≡ least a 16
+      none-of x = ap (λ (k : ℕ). least k 16) (sym x)

@@ -1,46 +1,52 @@
 // The same table as a size and two arrays, for calls that lend these on: a record of 136 bytes is copied wherever it is handed on by value.
 ghost use mathlib.Core.Path.{_≡_};
-ghost use Prim.Native.Nat.{_≤_};
-ghost use lib.ListN.{length};
-ghost use Rattle.little_endian.specs.LittleEndian.{u32At};
-ghost use Rattle.tai_utc.specs.Lent.{lentTable, rowsIn, tableOf, unlessRefused};
-ghost use Rattle.lent_bytes.specs.TableBytes.{ofLength, sizeIn, ReadFrom};
+ghost use Prim.Native.Nat.{ℕ, _+_, _*_, _<_, _≤_};
+ghost use lib.IntN.{pos};
+ghost use lib.ListN.{getD, length};
+ghost use Rattle.tai_utc.specs.Lent.{rowsIn, unlessRefused};
+ghost use Rattle.lent_bytes.specs.TableBytes.{signedAt, tableBytes};
+use super::i32_of_pattern;
 use super::lend_none;
-use super::numbers_at;
 use super::places_of;
 
-// How many places of both arrays are read.
-pub fn size_in(bytes: &[u8]) -> usize
-    ensures { λ r. ⌜ (r ≡ sizeIn (now (bytes .entry))) × (r ≤ 16) ⌝ }
-{
-    places_of(little_endian::u32_at(bytes, 0))
+// What was read: the number by which the table is turned away, 0 if it is not, and how many places of both arrays are its rows.
+pub struct Lent {
+    pub number: u32,
+    pub size: usize,
 }
 
-pub fn months_in(bytes: &[u8]) -> [i32; 16]
-    ensures { λ r. ⌜ ReadFrom (now (bytes .entry)) 8 r ⌝ }
+// Writes the first `size` numbers from `at` on; the places past them stay.
+fn put_numbers(bytes: &[u8], at: usize, size: usize, numbers: &mut [i32; 16])
+    requires { ⌜ (at < 100) × (size ≤ 16) × (length (now numbers) ≡ 16) ⌝ }
+    ensures { λ _. ⌜ ((i : ℕ) → i < size → getD (now (numbers .exit)) i (pos 0) ≡ signedAt (now (bytes .entry)) (at + 4 * i)) ⌝ }
 {
-    let size = size_in(bytes);
-    numbers_at(bytes, 8, size)
+    let mut i = 0;
+    while i < size {
+        numbers[i] = i32_of_pattern(little_endian::u32_at(bytes, at + 4 * i));
+        i += 1;
+    }
 }
 
-pub fn seconds_in(bytes: &[u8]) -> [i32; 16]
-    ensures { λ r. ⌜ ReadFrom (now (bytes .entry)) 72 r ⌝ }
-{
-    let size = size_in(bytes);
-    numbers_at(bytes, 72, size)
-}
-
-// The number by which a table is turned away whose arrays are these, 0 if it is not: 14 the length, then those of the table.
-pub fn lent_number<'a>(bytes: &[u8], months: &'a [i32; 16], seconds: &'a [i32; 16]) -> u32
-    ensures { λ r. ⌜ unlessRefused r (rowsIn (sizeIn (now (bytes .entry))) (now (months .entry)) (now (seconds .entry))) ≡ ofLength (length (now (bytes .entry))) (tableOf (lentTable (u32At (now (bytes .entry)) 0) (u32At (now (bytes .entry)) 4) (now (months .entry)) (now (seconds .entry)))) ⌝ }
+// Reads a table from its bytes into two arrays, each size once, and judges it: 14 the length, then the tests of the table. Of a table of no rows nothing is read but the sizes.
+// What is asked of the arrays their types say.
+pub fn read_table(bytes: &[u8], months: &mut [i32; 16], seconds: &mut [i32; 16]) -> Lent
+    requires { ⌜ (length (now months) ≡ 16) × (length (now seconds) ≡ 16) ⌝ }
+    ensures { λ r. ⌜ (unlessRefused (r .number) (rowsIn (r .size) (now (months .exit)) (now (seconds .exit))) ≡ tableBytes (now (bytes .entry))) × (r .size ≤ 16) ⌝ }
 {
     if bytes.len() != 136 {
-        return refusals::BLOCK_LENGTH_WRONG;
+        return Lent {
+            number: refusals::BLOCK_LENGTH_WRONG,
+            size: 0,
+        };
     }
     let months_size = little_endian::u32_at(bytes, 0);
     let seconds_size = little_endian::u32_at(bytes, 4);
     if lend_none(months_size, seconds_size) {
-        return 0;
+        return Lent { number: 0, size: 0 };
     }
-    tai_utc::lent_refusal(months_size, seconds_size, months, seconds)
+    let size = places_of(months_size);
+    put_numbers(bytes, 8, size, months);
+    put_numbers(bytes, 72, size, seconds);
+    let number = tai_utc::lent_refusal(months_size, seconds_size, months, seconds);
+    Lent { number, size }
 }

@@ -12,7 +12,7 @@ ghost use Rattle.lent_bytes.specs.TableBytes.{signed32, signedAt, ofLeng
 use tai_utc::LentRows;
 
 // The signed number of a pattern of 32 bits in two's complement.
-fn i32_of_pattern(n: u32) -> i32
+pub(crate) fn i32_of_pattern(n: u32) -> i32
     ensures { λ r. ⌜ r ≡ signed32 n ⌝ }
 {
     if n < 0x8000_0000 {
@@ -22,7 +22,7 @@ fn i32_of_pattern(n: u32) -> i32
 }
 
 // The first `size` of 16 numbers from `at` on; the places past them are not read, and 0.
-pub(crate) fn numbers_at(bytes: &[u8], at: usize, size: usize) -> [i32; 16]
+fn numbers_at(bytes: &[u8], at: usize, size: usize) -> [i32; 16]
     requires { ⌜ (at < 100) × (size ≤ 16) ⌝ }
     ensures { λ r. ⌜ ((i : ℕ) → i < size → getD r i (pos 0) ≡ signedAt (now (bytes .entry)) (at + 4 * i)) ⌝ }
 {

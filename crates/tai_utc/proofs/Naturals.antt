@@ -1,17 +1,24 @@
 -- A number of the lent rows counted from 0, as the machine tests and reads it.
 -- Assumes nothing.
 use mathlib.Core.Path.{_≡_, refl, ap, sym, subst, _∙_}
-use mathlib.Core.Bool.{true, false, true≢false}
-use Prim.Native.Nat.{ℕ, _<_}
+use mathlib.Core.Bool.{Bool, true, false, true≢false, cond}
+use Prim.Native.Nat.{ℕ, _≤_, _<_}
 use native.Mathlib.Omega.{arith}
-use lib.Dec.{T}
+use lib.Dec.{T, leb}
 use lib.IntN.{ℤ, pos, negsuc, natAbs}
-use lib.Signed.{ltZ, nonNeg}
+use lib.Signed.{ltZ, leZ, nonNeg}
 use mir.Syntax.{w32}
 use mir.Val.{SFits, Fits, toZ, ofZ}
 use mir.Facts.{toZ-ofZ}
-use borrow.Author.Tests.{ltb-true}
-use Rattle.tai_utc.specs.Lent.{natural}
+use borrow.Author.Tests.{ltb-true, leb-true, leb-false}
+use Rattle.tai_utc.specs.Lent.{natural, least}
+
+least-left : (a b : ℕ) → least a b ≤ a
+least-left a b = go (leb a b) refl
+  where
+    go : (t : Bool) → leb a b ≡ t → cond t a b ≤ a
+    go true e = omega arith
+    go false e = omega (arith, leb-false a b e)
 
 before-zero : (z : ℤ) → ltZ z (pos 0) ≡ true → 0 ≡ natural z
 before-zero (pos n) e = absurd (omega (arith, ltb-true n 0 e))
@@ -41,3 +48,18 @@ module _ (z : ℤ) (f : SFits w32 z) where
 
     pub counted : (natAbs (toZ w32 (ofZ w32 z)) ≡ natural z) × (natAbs (toZ w32 (ofZ w32 z)) < 2147483648)
     counted = (read .1, omega (arith, read .1, small z f))
+
+-- a lent month has begun in month n where it is not above n cut at the largest lent number
+pub begun-or-not : (z : ℤ) (n : ℕ) → SFits w32 z → (leZ z (pos (least n 2147483647)) ≡ true → natural z ≤ n) × (leZ z (pos (least n 2147483647)) ≡ false → n < natural z)
+begun-or-not (negsuc k) n f = (λ e. omega arith, λ e. absurd (true≢false e))
+begun-or-not (pos k) n f = (λ e. omega (arith, leb-true k (least n 2147483647) e, least-left n 2147483647), λ e. above (leb-false k (least n 2147483647) e))
+  where
+    least-is : (b : Bool) → leb n 2147483647 ≡ b → least n 2147483647 ≡ cond b n 2147483647
+    least-is b e = rw e
+
+    above : least n 2147483647 < k → n < k
+    above h = go (leb n 2147483647) refl
+      where
+        go : (b : Bool) → leb n 2147483647 ≡ b → n < k
+        go true e = omega (arith, h, least-is true e)
+        go false e = absurd (omega (arith, h, least-is false e, small (pos k) f))

@@ -8,12 +8,12 @@ use Prim.Native.Nat.{ℕ, _≤_}
 use native.Mathlib.Omega.{arith}
 use lib.IntN.{ℤ, pos, negsuc, natAbs, sucℤ}
 use lib.Signed.{ltZ, leZ}
-use lib.Ieee.{Float, binary64, ofInt}
+use lib.Ieee.{Float, binary64, ofInt, sub, mul}
 use mir.Syntax.{w32}
 use mir.Val.{SFits, toZ, ofZ}
 use mir.Facts.{toZ-ofZ}
 use borrow.Author.Tests.{ltb-false, leb-true}
-use Rattle.refusals.specs.Outcome.{answer}
+use Rattle.refusals.specs.Outcome.{Outcome, answer, onward}
 use Rattle.floats.specs.Whole.{nought, half}
 use Rattle.calendar.specs.Calendar.{date, leapYear, lengths}
 use Rattle.calendar.specs.Refusals.{validDate}
@@ -22,10 +22,12 @@ use Rattle.calendar.proofs.Months.{months}
 use Rattle.calendar.proofs.Accepted.{Accepted, date-accepted, in-calendar-valid}
 use Rattle.calendar.proofs.Mjd.{mjd-given}
 use Rattle.calendar.proofs.NextDates.{next-day, next-is}
+use Rattle.tai_utc.specs.declared.DayOffsets.{DayOffsets}
 use Rattle.tai_utc.specs.Table.{Row, monthNumber}
 use Rattle.tai_utc.specs.Offset.{offsetAt, inDay, taiUtcOffset}
-use Rattle.tai_utc.specs.Leap.{offsets, offsetsOfDay, dayOffsets}
+use Rattle.tai_utc.specs.Leap.{offsets, offsetsOfDay, dayOffsets, leapOf, leapAtEndOfDay, twoF}
 use Rattle.tai_utc.specs.Plain.{Plain}
+use Rattle.tai_utc.specs.Rule.{ruleAt}
 use Rattle.tai_utc.proofs.Offsets.{offset-given}
 use Rattle.tai_utc.proofs.Days.{day-given}
 
@@ -62,6 +64,14 @@ plain-accepted y m d p = date-accepted y m d (valid y m d p)
 pub read-plain : (y m d : ℤ) → SFits w32 y → SFits w32 m → SFits w32 d → Plain (toZ w32 (ofZ w32 y)) (toZ w32 (ofZ w32 m)) (toZ w32 (ofZ w32 d)) → Plain y m d
 read-plain y m d f g h p = rw (toZ-ofZ f, toZ-ofZ g, toZ-ofZ h) at p
 
+-- and told of these again
+pub read-offset : (rows : List Row) (y m : ℤ) → SFits w32 y → SFits w32 m → (s : Float) → ((mjd f : Float) → s ≡ offsetAt rows (monthNumber (toZ w32 (ofZ w32 y)) (natAbs (toZ w32 (ofZ w32 m)))) mjd f)
+    → (mjd f : Float) → s ≡ offsetAt rows (monthNumber y (natAbs m)) mjd f
+read-offset rows y m f g s e = rw (toZ-ofZ f, toZ-ofZ g) at e
+
+pub read-rule : (rows : List Row) (y m : ℤ) → SFits w32 y → SFits w32 m → ruleAt rows (toZ w32 (ofZ w32 y)) (toZ w32 (ofZ w32 m)) ≡ ruleAt rows y m
+read-rule rows y m f g = λ i. ruleAt rows (toZ-ofZ f i) (toZ-ofZ g i)
+
 -- ---- the offsets, where s is that of the month
 module _ (rows : List Row) (y m d : ℤ) (p : Plain y m d) (s : Float) (e : (mjd f : Float) → s ≡ offsetAt rows (monthNumber y (natAbs m)) mjd f) where
   pub plain-offset : (f : Float) → inDay f ≡ true → answer s ≡ taiUtcOffset rows y m d f
@@ -72,3 +82,7 @@ module _ (rows : List Row) (y m d : ℤ) (p : Plain y m d) (s : Float) (e : (mjd
   plain-offsets =
       (λ i. answer (offsets (e (ofInt binary64 (mjdNumber y m d)) nought i) (e (ofInt binary64 (mjdNumber y m d)) half i) (e (ofInt binary64 (sucℤ (mjdNumber y m d))) nought i)))
       ∙ sym (day-given rows y m d _ (mjd-given y m d (valid y m d p)) _ (p .same-month))
+
+  pub plain-leap : answer (sub binary64 s (sub binary64 (mul binary64 twoF s) s)) ≡ leapAtEndOfDay rows y m d
+  unfolding leapAtEndOfDay leapOf onward
+  plain-leap = ap (λ (o : Outcome DayOffsets). onward o (λ x. answer (leapOf x))) plain-offsets

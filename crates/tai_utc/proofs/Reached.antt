@@ -81,7 +81,7 @@ tail-rises a [] t = tt
 tail-rises a (b ∷ l) t = and-r (ltb a b) (rising (b ∷ l)) t
 
 -- nothing after a has begun where the month is not past a
-late : (a : ℕ) (l : List ℕ) → T (rising (a ∷ l)) → (n : ℕ) → n ≤ a → reached l n ≡ 0
+pub late : (a : ℕ) (l : List ℕ) → T (rising (a ∷ l)) → (n : ℕ) → n ≤ a → reached l n ≡ 0
 unfolding reached
 late a [] t n h = refl
 late a (b ∷ l) t n h =

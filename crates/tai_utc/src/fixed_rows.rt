@@ -1,7 +1,7 @@
 // The fixed rows: the table of constants.rs.
 ghost use mathlib.Core.Path.{_≡_};
 ghost use Prim.Native.Nat.{_-_, _<_, _≤_};
-ghost use lib.ListN.{getD};
+ghost use lib.ListN.{getD, drop, length};
 ghost use Rattle.tai_utc.specs.Table.{fixed, starts, reached};
 ghost use Rattle.tai_utc.specs.Offset.{none, secondsOf, startOf, rateOf};
 
@@ -103,11 +103,12 @@ const RATES: [f64; 14] = [
     0.0025920,
 ];
 
-// How many rows of a list of months stand up to the last that has begun. From the end: a date of today takes one step.
-fn rows_reached(months: &[u64], n: u64) -> usize
+// How many rows of a list of months stand up to the last that has begun, where none from place `end` on has begun. From the end: a date of today takes one step.
+fn rows_reached(months: &[u64], end: usize, n: u64) -> usize
+    requires { ⌜ (end ≤ length (now months)) × (reached (drop end (now months)) n ≡ 0) ⌝ }
     ensures { λ r. ⌜ r ≡ reached (now (months .entry)) n ⌝ }
 {
-    let mut i = months.len();
+    let mut i = end;
     while 0 < i {
         if months[i - 1] <= n {
             return i;
@@ -117,11 +118,17 @@ fn rows_reached(months: &[u64], n: u64) -> usize
     0
 }
 
-// The same in the fixed table.
+// The same in the fixed table. The years before 1972, in which rows drift, and those up to 1987 do not look at the rows after them.
 pub(crate) fn fixed_rows_reached(n: u64) -> usize
     ensures { λ r. ⌜ (r ≡ reached (starts fixed) n) × (r ≤ 42) ⌝ }
 {
-    rows_reached(&MONTHS, n)
+    if 23856 <= n {
+        return rows_reached(&MONTHS, 42, n);
+    }
+    if 23664 <= n {
+        return rows_reached(&MONTHS, 28, n);
+    }
+    rows_reached(&MONTHS, 14, n)
 }
 
 // The decimals of row i as floats, each the nearest.

@@ -18,6 +18,7 @@ mod whole_day;
 pub use in_day::get_tai_utc_offset;
 pub use in_day::get_tai_utc_offset_by_lent;
 pub use in_day::get_tai_utc_offset_by_rows;
+pub use in_day::offset_at_0h_by_lent;
 pub use lent::lent_refusal;
 pub use lent::size_of;
 pub use lent::table_refusal;

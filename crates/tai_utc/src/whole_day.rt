@@ -18,11 +18,12 @@ use super::SecondsByRule;
 use super::in_day::without_rule;
 use super::lent::size_of;
 use super::lent::table_refusal;
+use super::look_up::any_rows_reached;
 use super::look_up::month_number;
+use super::look_up::of_plain_day;
 use super::look_up::offset_by;
 use super::look_up::plain_day;
 use super::look_up::rule_by;
-use super::look_up::seconds_of_row;
 use super::look_up::table_rows_reached;
 
 // The rows reached in the month of the next day: looked up again only where it is another month.
@@ -33,7 +34,7 @@ fn next_rows_reached(size: usize, months: &[i32; 16], rows: usize, month: u64, n
     if next == month {
         return rows;
     }
-    table_rows_reached(size, months, next)
+    any_rows_reached(size, months, next)
 }
 
 // The offsets of a day by its month, the month of the next day, and its Modified Julian Date.
@@ -60,8 +61,8 @@ fn offsets_of_day<'a>(
     DayByRule::Day(offsets, rule_by(rows))
 }
 
-// Refusals in order: 1 to 3 the date, then 5 no next day.
-pub fn day_offsets_by_lent<'a>(
+// By the Modified Julian Date and the next date. Refusals in order: 1 to 3 the date, then 5 no next day.
+fn by_next_day<'a>(
     year: i32,
     month: i32,
     day: i32,
@@ -71,16 +72,6 @@ pub fn day_offsets_by_lent<'a>(
 ) -> DayByRule
     ensures { λ r. ⌜ dayByRuleOutcome r ≡ dayByRule (rowsIn size (now (months .entry)) (now (seconds .entry))) year month day ⌝ }
 {
-    if plain_day(year, month, day) {
-        let rows = table_rows_reached(size, months, month_number(year, month as u32));
-        let x = seconds_of_row(seconds, rows);
-        let offsets = DayOffsets {
-            at_0h: x,
-            at_12h: x,
-            at_24h: x,
-        };
-        return DayByRule::Day(offsets, rule_by(rows));
-    }
     match calendar::modified_julian_day(year, month, day) {
         calendar::MjdAnswer::Refused(number) => DayByRule::Refused(number),
         calendar::MjdAnswer::Mjd(n) => match calendar::next_calendar_day(year, month, day) {
@@ -95,6 +86,30 @@ pub fn day_offsets_by_lent<'a>(
             ),
         },
     }
+}
+
+// Refusals in order: 1 to 3 the date, then 5 no next day.
+pub fn day_offsets_by_lent<'a>(
+    year: i32,
+    month: i32,
+    day: i32,
+    size: usize,
+    months: &'a [i32; 16],
+    seconds: &'a [i32; 16],
+) -> DayByRule
+    ensures { λ r. ⌜ dayByRuleOutcome r ≡ dayByRule (rowsIn size (now (months .entry)) (now (seconds .entry))) year month day ⌝ }
+{
+    if plain_day(year, month, day) {
+        let found = of_plain_day(year, month, day, size, months, seconds);
+        let offsets = DayOffsets {
+            at_0h: found.seconds,
+            at_12h: found.seconds,
+            at_24h: found.seconds,
+        };
+        let rule = found.rule;
+        return DayByRule::Day(offsets, rule);
+    }
+    by_next_day(year, month, day, size, months, seconds)
 }
 
 // Refusals in order: 1 to 3 the date, then 5 no next day.
@@ -136,7 +151,13 @@ pub fn leap_at_end_of_day_by_lent<'a>(
 ) -> SecondsByRule
     ensures { λ r. ⌜ secondsByRuleOutcome r ≡ leapByRule (rowsIn size (now (months .entry)) (now (seconds .entry))) year month day ⌝ }
 {
-    match day_offsets_by_lent(year, month, day, size, months, seconds) {
+    if plain_day(year, month, day) {
+        let found = of_plain_day(year, month, day, size, months, seconds);
+        let x = found.seconds;
+        let rule = found.rule;
+        return SecondsByRule::Seconds(x - (2.0 * x - x), rule);
+    }
+    match by_next_day(year, month, day, size, months, seconds) {
         DayByRule::Refused(number) => SecondsByRule::Refused(number),
         DayByRule::Day(o, rule) => {
             SecondsByRule::Seconds(o.at_24h - (2.0 * o.at_12h - o.at_0h), rule)

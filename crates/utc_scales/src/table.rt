@@ -37,15 +37,7 @@ pub(crate) fn offset_at_0h<'a>(
     ensures { λ r. ⌜ secondsByRuleOutcome r ≡ withRule (offsetAt0h (rowsIn size (now (months .entry)) (now (seconds .entry))) (gregorianDate day)) (ruleOn (rowsIn size (now (months .entry)) (now (seconds .entry))) (gregorianDate day)) ⌝ }
 {
     let t = calendar::gregorian_date(day);
-    tai_utc::get_tai_utc_offset_by_lent(
-        t.year,
-        t.month as i32,
-        t.day as i32,
-        0.0,
-        size,
-        months,
-        seconds,
-    )
+    tai_utc::offset_at_0h_by_lent(t.year, t.month as i32, t.day as i32, size, months, seconds)
 }
 
 // At 0h, at 12h and at 24h, and the rule of the day.

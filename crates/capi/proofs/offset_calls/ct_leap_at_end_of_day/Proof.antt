@@ -1,5 +1,5 @@
 -- `capi::offset_calls::ct_leap_at_end_of_day` meets its contract. Assumes nothing.
-use mathlib.Core.Path.{ap, _∙_}
+use mathlib.Core.Path.{ap, _∙_, refl}
 use Rattle.calendar.proofs.Signs.{read-date}
 use Rattle.tai_utc.specs.Lent.{rowsIn}
 use Rattle.tai_utc.specs.Leap.{leapAtEndOfDay}
@@ -11,17 +11,8 @@ use borrow.Author.Needs.{needs}
 use Rattle.capi.proofs.offset_calls.ct_leap_at_end_of_day.Statement.{statement}
 use Rattle.capi.proofs.offset_calls.ct_leap_at_end_of_day.Tie as tie
 
-size-in-requires : tie.Need-size-in-requires
-size-in-requires c κs = search needs
-
-months-in-requires : tie.Need-months-in-requires
-months-in-requires c κs = search needs
-
-seconds-in-requires : tie.Need-seconds-in-requires
-seconds-in-requires c κs = search needs
-
-lent-number-requires : tie.Need-lent-number-requires
-lent-number-requires c κs = search needs
+read-table-requires : tie.Need-read-table-requires
+read-table-requires c κs = (refl, refl)
 
 refused-requires : tie.Need-refused-requires
 refused-requires c κs = search needs
@@ -29,7 +20,7 @@ refused-requires c κs = search needs
 returns : tie.Need-returns
 returns c =
     let n = c .before .before in
-    lent-refused _ (n .before .before .before .before .before .size-in .result) (n .before .before .before .before .months-in .result) (n .before .before .before .seconds-in .result) (n .lent-number .result) (n .before .before .before .before .before .size-in .ensures) (n .before .before .before .before .months-in .ensures) (n .before .before .before .seconds-in .ensures) (n .lent-number .ensures) floatBytes _ (c .refused .ok)
+    lent-refused _ _ (n .read-table .result .number) (n .read-table .ensures .0) floatBytes _ (c .refused .ok)
     (c .before .if1 .taken) (c .refused .ensures)
 
 leap-at-end-of-day-by-lent-requires : tie.Need-leap-at-end-of-day-by-lent-requires
@@ -46,19 +37,16 @@ returns-2 c =
     let p = c .before .before in
     let b = p .before .before in
     let n = b .before .before .before .before in
-    let s = n .before .before .before .before .before .before .before .before in
-    with-lent _ (n .before .before .before .before .before .size-in .result) (n .before .before .before .before .months-in .result) (n .before .before .before .seconds-in .result) (n .lent-number .result) (n .before .before .before .before .before .size-in .ensures) (n .before .before .before .before .months-in .ensures) (n .before .before .before .seconds-in .ensures) (n .lent-number .ensures) floatBytes _ (p .put-leap .ok) (b .before .before .before .if1 .left)
-    (ap forget (b .leap-at-end-of-day-by-lent .ensures) ∙ leap-forgets (rowsIn (n .before .before .before .before .before .size-in .result) (n .before .before .before .before .months-in .result) (n .before .before .before .seconds-in .result)) _ _ _ ∙ read-date (leapAtEndOfDay (rowsIn (n .before .before .before .before .before .size-in .result) (n .before .before .before .before .months-in .result) (n .before .before .before .seconds-in .result))) _ _ _ (s .fits .year) (s .fits .month) (s .fits .day))
+    let s = n .before .before .before .before .before in
+    with-lent _ _ (n .read-table .result .number) (n .read-table .ensures .0) floatBytes _ (p .put-leap .ok) (b .before .before .before .if1 .left)
+    (ap forget (b .leap-at-end-of-day-by-lent .ensures) ∙ leap-forgets (rowsIn (n .read-table .result .size) (n .read-table .last .1 .0) (n .read-table .last .1 .1 .0)) _ _ _ ∙ read-date (leapAtEndOfDay (rowsIn (n .read-table .result .size) (n .read-table .last .1 .0) (n .read-table .last .1 .1 .0))) _ _ _ (s .fits .year) (s .fits .month) (s .fits .day))
     (p .put-leap .ensures)
 
 pub ct-leap-at-end-of-day-spec : {M : Type 1} → statement M
 ct-leap-at-end-of-day-spec =
     tie.close
     (tie.spec
-    size-in-requires
-    months-in-requires
-    seconds-in-requires
-    lent-number-requires
+    read-table-requires
     refused-requires
     returns
     leap-at-end-of-day-by-lent-requires

@@ -1,22 +1,14 @@
 -- `capi::run_calls::ct_convert_run` meets its contract. Assumes nothing.
 use native.Mathlib.Omega.{arith}
 use denote.Ref.{now}
+use mathlib.Core.Path.{refl}
 use Rattle.capi.proofs.Runs.{run-table-refused, run-counted, run-converted, run-refused}
 use borrow.Author.Needs.{needs}
 use Rattle.capi.proofs.run_calls.ct_convert_run.Statement.{statement}
 use Rattle.capi.proofs.run_calls.ct_convert_run.Tie as tie
 
-size-in-requires : tie.Need-size-in-requires
-size-in-requires c κs = search needs
-
-months-in-requires : tie.Need-months-in-requires
-months-in-requires c κs = search needs
-
-seconds-in-requires : tie.Need-seconds-in-requires
-seconds-in-requires c κs = search needs
-
-lent-number-requires : tie.Need-lent-number-requires
-lent-number-requires c κs = search needs
+read-table-requires : tie.Need-read-table-requires
+read-table-requires c κs = (refl, refl)
 
 refused-requires : tie.Need-refused-requires
 refused-requires c κs = search needs
@@ -75,10 +67,7 @@ pub ct-convert-run-spec : {M : Type 1} → statement M
 ct-convert-run-spec =
     tie.close
     (tie.spec
-    size-in-requires
-    months-in-requires
-    seconds-in-requires
-    lent-number-requires
+    read-table-requires
     refused-requires
     returns
     convert-run-by-lent-requires

@@ -1,20 +1,12 @@
 -- `capi::text_calls::text_call` meets its contract. Assumes nothing.
+use mathlib.Core.Path.{refl}
 use Rattle.capi.proofs.Arrays.{text-lent-refused, text-with-lent}
 use borrow.Author.Needs.{needs}
 use Rattle.capi.proofs.text_calls.text_call.Statement.{statement}
 use Rattle.capi.proofs.text_calls.text_call.Tie as tie
 
-size-in-requires : tie.Need-size-in-requires
-size-in-requires c κs = search needs
-
-months-in-requires : tie.Need-months-in-requires
-months-in-requires c κs = search needs
-
-seconds-in-requires : tie.Need-seconds-in-requires
-seconds-in-requires c κs = search needs
-
-lent-number-requires : tie.Need-lent-number-requires
-lent-number-requires c κs = search needs
+read-table-requires : tie.Need-read-table-requires
+read-table-requires c κs = (refl, refl)
 
 refused-requires : tie.Need-refused-requires
 refused-requires c κs = search needs
@@ -22,7 +14,7 @@ refused-requires c κs = search needs
 returns : tie.Need-returns
 returns c =
     let n = c .before .before in
-    text-lent-refused _ (n .before .before .before .before .before .size-in .result) (n .before .before .before .before .months-in .result) (n .before .before .before .seconds-in .result) (n .lent-number .result) (n .before .before .before .before .before .size-in .ensures) (n .before .before .before .before .months-in .ensures) (n .before .before .before .seconds-in .ensures) (n .lent-number .ensures) _ (c .refused .ok) (c .before .if1 .taken) (c .refused .ensures)
+    text-lent-refused _ _ (n .read-table .result .number) (n .read-table .ensures .0) _ (c .refused .ok) (c .before .if1 .taken) (c .refused .ensures)
 
 put-text-requires : tie.Need-put-text-requires
 put-text-requires c κs = search needs
@@ -38,16 +30,13 @@ returns-2 c =
     let p = c .before .before .before .before in
     let b = p .before .before .before .before .before in
     let n = b .before in
-    text-with-lent _ (n .before .before .before .before .before .size-in .result) (n .before .before .before .before .months-in .result) (n .before .before .before .seconds-in .result) (n .lent-number .result) (n .before .before .before .before .before .size-in .ensures) (n .before .before .before .before .months-in .ensures) (n .before .before .before .seconds-in .ensures) (n .lent-number .ensures) _ (p .put-text .ok) (b .if1 .left) (p .put-text .ensures)
+    text-with-lent _ _ (n .read-table .result .number) (n .read-table .ensures .0) _ (p .put-text .ok) (b .if1 .left) (p .put-text .ensures)
 
 pub text-call-spec : {M : Type 1} → statement M
 text-call-spec =
     tie.close
     (tie.spec
-    size-in-requires
-    months-in-requires
-    seconds-in-requires
-    lent-number-requires
+    read-table-requires
     refused-requires
     returns
     put-text-requires

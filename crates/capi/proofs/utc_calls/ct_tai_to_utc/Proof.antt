@@ -1,21 +1,13 @@
 -- `capi::utc_calls::ct_tai_to_utc` meets its contract. Assumes nothing.
+use mathlib.Core.Path.{refl}
 use Rattle.c_answers.specs.Fields.{julianBytes}
 use Rattle.capi.proofs.Arrays.{lent-refused, with-lent}
 use borrow.Author.Needs.{needs}
 use Rattle.capi.proofs.utc_calls.ct_tai_to_utc.Statement.{statement}
 use Rattle.capi.proofs.utc_calls.ct_tai_to_utc.Tie as tie
 
-size-in-requires : tie.Need-size-in-requires
-size-in-requires c κs = search needs
-
-months-in-requires : tie.Need-months-in-requires
-months-in-requires c κs = search needs
-
-seconds-in-requires : tie.Need-seconds-in-requires
-seconds-in-requires c κs = search needs
-
-lent-number-requires : tie.Need-lent-number-requires
-lent-number-requires c κs = search needs
+read-table-requires : tie.Need-read-table-requires
+read-table-requires c κs = (refl, refl)
 
 refused-requires : tie.Need-refused-requires
 refused-requires c κs = search needs
@@ -23,7 +15,7 @@ refused-requires c κs = search needs
 returns : tie.Need-returns
 returns c =
     let n = c .before .before in
-    lent-refused _ (n .before .before .before .before .before .size-in .result) (n .before .before .before .before .months-in .result) (n .before .before .before .seconds-in .result) (n .lent-number .result) (n .before .before .before .before .before .size-in .ensures) (n .before .before .before .before .months-in .ensures) (n .before .before .before .seconds-in .ensures) (n .lent-number .ensures) julianBytes _ (c .refused .ok)
+    lent-refused _ _ (n .read-table .result .number) (n .read-table .ensures .0) julianBytes _ (c .refused .ok)
     (c .before .if1 .taken) (c .refused .ensures)
 
 tai-to-utc-by-lent-requires : tie.Need-tai-to-utc-by-lent-requires
@@ -40,7 +32,7 @@ returns-2 c =
     let p = c .before .before in
     let b = p .before .before in
     let n = b .before .before .before .before in
-    with-lent _ (n .before .before .before .before .before .size-in .result) (n .before .before .before .before .months-in .result) (n .before .before .before .seconds-in .result) (n .lent-number .result) (n .before .before .before .before .before .size-in .ensures) (n .before .before .before .before .months-in .ensures) (n .before .before .before .seconds-in .ensures) (n .lent-number .ensures) julianBytes _ (p .put-utc .ok) (b .before .before .before .if1 .left)
+    with-lent _ _ (n .read-table .result .number) (n .read-table .ensures .0) julianBytes _ (p .put-utc .ok) (b .before .before .before .if1 .left)
     (b .tai-to-utc-by-lent .ensures)
     (p .put-utc .ensures)
 
@@ -48,10 +40,7 @@ pub ct-tai-to-utc-spec : {M : Type 1} → statement M
 ct-tai-to-utc-spec =
     tie.close
     (tie.spec
-    size-in-requires
-    months-in-requires
-    seconds-in-requires
-    lent-number-requires
+    read-table-requires
     refused-requires
     returns
     tai-to-utc-by-lent-requires

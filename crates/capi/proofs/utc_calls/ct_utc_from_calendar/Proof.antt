@@ -1,5 +1,5 @@
 -- `capi::utc_calls::ct_utc_from_calendar` meets its contract. Assumes nothing.
-use mathlib.Core.Path.{ap, _∙_}
+use mathlib.Core.Path.{ap, _∙_, refl}
 use lib.IntN.{ℤ}
 use mir.Facts.{toZ-ofZ}
 use Rattle.tai_utc.specs.Lent.{rowsIn}
@@ -10,17 +10,8 @@ use borrow.Author.Needs.{needs}
 use Rattle.capi.proofs.utc_calls.ct_utc_from_calendar.Statement.{statement}
 use Rattle.capi.proofs.utc_calls.ct_utc_from_calendar.Tie as tie
 
-size-in-requires : tie.Need-size-in-requires
-size-in-requires c κs = search needs
-
-months-in-requires : tie.Need-months-in-requires
-months-in-requires c κs = search needs
-
-seconds-in-requires : tie.Need-seconds-in-requires
-seconds-in-requires c κs = search needs
-
-lent-number-requires : tie.Need-lent-number-requires
-lent-number-requires c κs = search needs
+read-table-requires : tie.Need-read-table-requires
+read-table-requires c κs = (refl, refl)
 
 refused-requires : tie.Need-refused-requires
 refused-requires c κs = search needs
@@ -28,7 +19,7 @@ refused-requires c κs = search needs
 returns : tie.Need-returns
 returns c =
     let n = c .before .before in
-    lent-refused _ (n .before .before .before .before .before .size-in .result) (n .before .before .before .before .months-in .result) (n .before .before .before .seconds-in .result) (n .lent-number .result) (n .before .before .before .before .before .size-in .ensures) (n .before .before .before .before .months-in .ensures) (n .before .before .before .seconds-in .ensures) (n .lent-number .ensures) julianBytes _ (c .refused .ok)
+    lent-refused _ _ (n .read-table .result .number) (n .read-table .ensures .0) julianBytes _ (c .refused .ok)
     (c .before .if1 .taken) (c .refused .ensures)
 
 utc-from-calendar-by-lent-requires : tie.Need-utc-from-calendar-by-lent-requires
@@ -45,19 +36,16 @@ returns-2 c =
     let p = c .before .before in
     let b = p .before .before in
     let n = b .before .before .before .before in
-    let s = n .before .before .before .before .before .before .before .before in
-    with-lent _ (n .before .before .before .before .before .size-in .result) (n .before .before .before .before .months-in .result) (n .before .before .before .seconds-in .result) (n .lent-number .result) (n .before .before .before .before .before .size-in .ensures) (n .before .before .before .before .months-in .ensures) (n .before .before .before .seconds-in .ensures) (n .lent-number .ensures) julianBytes _ (p .put-utc .ok) (b .before .before .before .if1 .left)
-    (b .utc-from-calendar-by-lent .ensures ∙ ap (λ (y : ℤ). utcFromCalendar (rowsIn (n .before .before .before .before .before .size-in .result) (n .before .before .before .before .months-in .result) (n .before .before .before .seconds-in .result)) y (s .args .month) (s .args .day) (s .args .hour) (s .args .minute) (s .args .second)) (toZ-ofZ (s .fits .year)))
+    let s = n .before .before .before .before .before in
+    with-lent _ _ (n .read-table .result .number) (n .read-table .ensures .0) julianBytes _ (p .put-utc .ok) (b .before .before .before .if1 .left)
+    (b .utc-from-calendar-by-lent .ensures ∙ ap (λ (y : ℤ). utcFromCalendar (rowsIn (n .read-table .result .size) (n .read-table .last .1 .0) (n .read-table .last .1 .1 .0)) y (s .args .month) (s .args .day) (s .args .hour) (s .args .minute) (s .args .second)) (toZ-ofZ (s .fits .year)))
     (p .put-utc .ensures)
 
 pub ct-utc-from-calendar-spec : {M : Type 1} → statement M
 ct-utc-from-calendar-spec =
     tie.close
     (tie.spec
-    size-in-requires
-    months-in-requires
-    seconds-in-requires
-    lent-number-requires
+    read-table-requires
     refused-requires
     returns
     utc-from-calendar-by-lent-requires

@@ -6,20 +6,19 @@ use lib.ListN.{length, drop}
 use denote.Ref.{now}
 use native.Mathlib.Omega.{arith}
 use borrow.Author.Needs.{needs}
-use native.Mathlib.Nat.{le-refl}
 use Rattle.tai_utc.specs.Table.{reached}
-use Rattle.tai_utc.proofs.Reached.{found, passed, at-end, at-start}
+use Rattle.tai_utc.proofs.Reached.{found, passed, at-start}
 use Rattle.tai_utc.proofs.fixed_rows.rows_reached.Statement.{statement}
 use Rattle.tai_utc.proofs.fixed_rows.rows_reached.Tie as tie
 
 abbrev Inv-loop : tie.InvT-loop
-Inv-loop months n i₀ i = (i ≤ length months) × (reached (drop i months) n ≡ 0)
+Inv-loop months end n i₀ i = (i ≤ length months) × (reached (drop i months) n ≡ 0)
 
 abbrev μ-loop : tie.MeasureT-loop
-μ-loop months n i₀ i = i
+μ-loop months end n i₀ i = i
 
 loop-holds : tie.Need-loop-holds Inv-loop μ-loop
-loop-holds c = (le-refl _, at-end (now (c .args .months)) (c .args .n))
+loop-holds c = (c .pre .0, c .pre .1)
 
 sub-if1 : tie.Need-sub-if1 Inv-loop μ-loop
 sub-if1 c = search needs

@@ -1,33 +1,14 @@
--- `tai_utc::whole_day::day_offsets_by_lent` meets its contract: a plain date has one offset, and each other branch is a case of the look-ups at 0h, at 12h and on the next day.
--- Assumes nothing.
-use mathlib.Core.Path.{_≡_, ap, sym, subst, _∙_}
-use mathlib.Core.List.{List, []}
-use native.Mathlib.Omega.{arith}
-use Prim.Native.Nat.{ℕ, _≤_, _<_}
-use lib.IntN.{ℤ, natAbs}
-use mir.Facts.{toZ-ofZ}
-use mir.Syntax.{w32}
-use Rattle.refusals.specs.Outcome.{answer}
-use Rattle.calendar.specs.Refusals.{nextOf}
-use Rattle.calendar.specs.DayCount.{mjdOf}
-use Rattle.calendar.proofs.Signs.{to-unsigned, read-back}
-use Rattle.calendar.proofs.Accepted.{Accepted, date-accepted}
-use Rattle.calendar.proofs.Mjd.{mjd-valid}
-use Rattle.calendar.proofs.NextDates.{next-in-calendar}
+-- `tai_utc::whole_day::day_offsets_by_lent` meets its contract: a plain date has one offset. Assumes nothing.
+use mathlib.Core.Path.{_≡_, ap, sym, _∙_}
+use mathlib.Core.List.{List}
 use denote.Ref.{now}
-use Rattle.tai_utc.specs.Table.{Row, starts, reached, monthNumber}
+use mir.Facts.{toZ-ofZ}
+use Rattle.tai_utc.specs.Table.{Row}
 use Rattle.tai_utc.specs.Lent.{rowsIn}
-use Rattle.tai_utc.specs.Offset.{offsetAt}
-use Rattle.tai_utc.specs.Leap.{offsetsOfDay}
-use Rattle.tai_utc.specs.Rule.{ruleBy, ruleOf, ruleAt, dayByRule}
-use Rattle.tai_utc.specs.Plain.{Plain}
+use Rattle.tai_utc.specs.Rule.{dayByRule}
 use Rattle.tai_utc.specs.Answers.{dayByRuleOutcome}
-use Rattle.tai_utc.proofs.Month.{read-month}
-use Rattle.tai_utc.proofs.Mjd.{mjd-small, read, mjd-is, no-mjd, next-date, no-next-date}
-use Rattle.tai_utc.proofs.Days.{day-refused, no-next-day, day-given}
-use Rattle.tai_utc.proofs.ByParts.{few-rows, whole-reached, seconds-reached}
-use Rattle.tai_utc.proofs.Rules.{told, not-told}
-use Rattle.tai_utc.proofs.Plain.{plain-accepted, read-plain, plain-offsets}
+use Rattle.tai_utc.proofs.Rules.{told}
+use Rattle.tai_utc.proofs.Plain.{read-plain, plain-offsets, read-offset, read-rule}
 use borrow.Author.Needs.{needs}
 use Rattle.tai_utc.proofs.whole_day.day_offsets_by_lent.Statement.{statement}
 use Rattle.tai_utc.proofs.whole_day.day_offsets_by_lent.Tie as tie
@@ -36,190 +17,31 @@ use Rattle.tai_utc.proofs.whole_day.day_offsets_by_lent.Tie as tie
 abbrev rows : tie.Start → List Row
 rows s = rowsIn (s .args .size) (now (s .args .months)) (now (s .args .seconds))
 
--- where the date is plain
-module _ (c : tie.Then1) where
-  is-plain : let s = c .before .before .args in Plain (s .year) (s .month) (s .day)
-  is-plain =
-      let s = c .before .before in
-      read-plain _ _ _ (s .fits .year) (s .fits .month) (s .fits .day) (c .before .plain-day .ensures (c .if1 .taken))
-
-  plain-ok : let s = c .before .before .args in Accepted (s .year) (s .month) (s .day)
-  plain-ok = plain-accepted _ _ _ is-plain
-
-plain-month : (c : tie.After-month-number) → let s = c .before .before .before .args in c .month-number .result ≡ monthNumber (s .year) (natAbs (s .month))
-plain-month c = let s = c .before .before .before in c .month-number .ensures ∙ read-month _ _ (s .fits .year) (s .fits .month)
-
--- where the date is not refused
-module _ (c : tie.After-known-told2) where
-  mjd : let s = c .before .before .before .before .before .before .args in mjdOf (s .year) (s .month) (s .day) ≡ answer (c .before .n .given .0 .0)
-  mjd =
-      let v = c .before .before .before in
-      let s = v .before .before .before in
-      mjd-is _ _ _ (s .fits .year) (s .fits .month) (s .fits .day) (v .modified-julian-day .result) (v .modified-julian-day .ensures) _ (c .before .n .given .1)
-
-  ok : let s = c .before .before .before .before .before .before .args in Accepted (s .year) (s .month) (s .day)
-  ok = date-accepted _ _ _ (mjd-valid _ _ _ _ mjd)
-
-  small : natAbs (c .before .n .given .0 .0) < 1000000000000
-  small = mjd-small _ _ _ _ (c .before .before .before .before .before .before .fits .year) mjd
-
--- where it has a next date
-next : (c : tie.After-known-told4) → let s = c .before .before .before .before .before .before .before .before .before .before .args in nextOf (s .year) (s .month) (s .day) ≡ answer (c .before .t .given .0 .0)
-next c =
-    let v = c .before .before .before in
-    let s = v .before .before .before .before .before .before .before in
-    next-date _ _ _ (s .fits .year) (s .fits .month) (s .fits .day) (v .next-calendar-day .result) (v .next-calendar-day .ensures) _ (c .before .t .given .1)
-
-day-month : (c : tie.After-month-number2) → let s = c .before .before .before .before .before .before .before .before .before .before .before .args in c .month-number2 .result ≡ monthNumber (s .year) (natAbs (s .month))
-day-month c =
-    let s = c .before .before .before .before .before .before .before .before .before .before .before in
-    c .month-number2 .ensures ∙ read-month _ _ (s .fits .year) (s .fits .month)
-
-next-month : (c : tie.After-month-number3) → let t = c .before .before .before .before .t .given .0 .0 in c .month-number3 .result ≡ monthNumber (t .year) (t .month)
-next-month c =
-    let t = c .before .before .before .before .t .given .0 .0 in
-    let f = toZ-ofZ {w = w32} {z = t .year} (record { sfits = c .before .struct-told .given .0 .1 }) in
-    c .month-number3 .ensures ∙ ap (λ (y : ℤ). monthNumber y (t .month)) f
-
 plain-day-requires : tie.Need-plain-day-requires
 plain-day-requires c κs = search needs
 
-cast-month-number : tie.Need-cast-month-number
-cast-month-number c = let s = c .before .before in to-unsigned (s .args .month) (s .fits .month) (plain-ok c .m-sign)
-
-month-number-requires : tie.Need-month-number-requires
-month-number-requires c κs =
-    let s = c .before .before in
-    let m = read-back (s .args .month) (s .fits .month) in
-    (omega (arith, m, plain-ok c .m-low), omega (arith, m, plain-ok c .m-high))
-
-table-rows-reached-requires : tie.Need-table-rows-reached-requires
-table-rows-reached-requires c κs = search needs
-
-from-1972 : (c : tie.After-month-number) → 23664 ≤ c .month-number .result
-from-1972 c = omega (arith, plain-month c, is-plain (c .before) .from-1972)
-
-seconds-of-row-requires : tie.Need-seconds-of-row-requires
-seconds-of-row-requires c κs =
-    let n = c .before in
-    let s = n .before .before .before in
-    let r = c .table-rows-reached .ensures in
-    (whole-reached (s .args .size) (now (s .args .months)) [] (n .month-number .result) _ (from-1972 n) (r .0 []), few-rows (s .args .size) _ (r .1))
-
-rule-by-requires : tie.Need-rule-by-requires
-rule-by-requires c κs =
-    let r = c .before in
-    few-rows (r .before .before .before .before .args .size) _ (r .table-rows-reached .ensures .1)
+of-plain-day-requires : tie.Need-of-plain-day-requires
+of-plain-day-requires c κs = c .before .plain-day .ensures (c .if1 .taken)
 
 returns : tie.Need-returns
-unfolding dayByRuleOutcome dayByRule ruleOf ruleAt
+unfolding dayByRuleOutcome dayByRule
 returns c =
-    let r = c .before .before in
-    let n = r .before in
-    let s = n .before .before .before in
-    let m = now (s .args .months) in
-    let l = now (s .args .seconds) in
-    let k = r .table-rows-reached .ensures .0 l in
-    let h = r .table-rows-reached .ensures .1 in
-    let x = seconds-reached (s .args .size) m l (n .month-number .result) _ (from-1972 n) k (c .before .seconds-of-row .result) (c .before .seconds-of-row .ensures (s .args .size) m h) in
+    let t = c .before in
+    let s = t .before .before in
+    let (x, r) = c .of-plain-day .ensures in
     told _ _ _ _
-    (plain-offsets (rows s) _ _ _ (is-plain (n .before)) (c .before .seconds-of-row .result) (λ mjd f. x mjd f ∙ ap (λ (j : ℕ). offsetAt (rows s) j mjd f) (plain-month n)))
-    (c .rule-by .ensures (s .args .size) m l h ∙ ap (ruleBy (rows s)) k ∙ ap (λ (j : ℕ). ruleBy (rows s) (reached (starts (rows s)) j)) (plain-month n))
+    (plain-offsets (rows s) _ _ _ (read-plain _ _ _ (s .fits .year) (s .fits .month) (s .fits .day) (t .before .plain-day .ensures (t .if1 .taken))) _ (read-offset (rows s) _ _ (s .fits .year) (s .fits .month) _ x))
+    (r ∙ read-rule (rows s) _ _ (s .fits .year) (s .fits .month))
 
-modified-julian-day-requires : tie.Need-modified-julian-day-requires
-modified-julian-day-requires c κs = search needs
-
-enum-known-number : tie.Need-enum-known-number
-enum-known-number c = search needs
-
-enum-known-n : tie.Need-enum-known-n
-enum-known-n c = search needs
-
-next-calendar-day-requires : tie.Need-next-calendar-day-requires
-next-calendar-day-requires c κs = search needs
-
-enum-known-number-2 : tie.Need-enum-known-number-2
-enum-known-number-2 c = search needs
-
-enum-known-t : tie.Need-enum-known-t
-enum-known-t c = search needs
-
-cast-month-number-2 : tie.Need-cast-month-number-2
-cast-month-number-2 c = let s = c .before .before .before .before .before .before .before .before .before .before in to-unsigned (s .args .month) (s .fits .month) (ok (c .before .before .before .before) .m-sign)
-
-month-number-requires-2 : tie.Need-month-number-requires-2
-month-number-requires-2 c κs =
-    let k = c .before .before .before .before in
-    let s = k .before .before .before .before .before .before in
-    let m = read-back (s .args .month) (s .fits .month) in
-    (omega (arith, m, ok k .m-low), omega (arith, m, ok k .m-high))
-
-month-number-requires-3 : tie.Need-month-number-requires-3
-month-number-requires-3 c κs =
-    let g = next-in-calendar _ _ _ _ (next (c .before .before)) in
-    (g .m-low, g .m-high)
-
-offsets-of-day-requires : tie.Need-offsets-of-day-requires
-offsets-of-day-requires c κs =
-    let k = c .before .before .before .before .before .before .before in
-    let z = k .before .n .given .0 .0 in
-    subst (λ (x : ℤ). natAbs x < 1000000000000) (sym (read z (small k))) (small k)
+by-next-day-requires : tie.Need-by-next-day-requires
+by-next-day-requires c κs = search needs
 
 returns-2 : tie.Need-returns-2
-unfolding dayByRuleOutcome dayByRule
 returns-2 c =
-    let v = c .before .before .before in
-    let s = v .before .before .before in
-    not-told _ _ _ (sym (day-refused _ _ _ _ _ (no-mjd _ _ _ (s .fits .year) (s .fits .month) (s .fits .day) (v .modified-julian-day .result) (v .modified-julian-day .ensures) _ (c .before .number .given .1))))
-
-returns-3 : tie.Need-returns-3
-unfolding dayByRuleOutcome dayByRule
-returns-3 c =
-    let v = c .before .before .before in
-    let k = v .before in
-    let s = k .before .before .before .before .before .before in
-    not-told _ _ _ (sym (no-next-day _ _ _ _ _ (mjd k) _ (no-next-date _ _ _ (s .fits .year) (s .fits .month) (s .fits .day) (v .next-calendar-day .result) (v .next-calendar-day .ensures) _ (c .before .number2 .given .1))))
-
-same-day : (rows : List Row) (m m′ n n′ : ℕ) (z z′ : ℤ) → m ≡ m′ → n ≡ n′ → z ≡ z′ → offsetsOfDay rows m n z ≡ offsetsOfDay rows m′ n′ z′
-same-day rows m m′ n n′ z z′ p q r = λ i. offsetsOfDay rows (p i) (q i) (r i)
-
-returns-4 : tie.Need-returns-4
-unfolding dayByRule ruleAt
-returns-4 c =
-    let t = c .before .before .before .before in
-    let k = t .before .before .before .before in
-    let s = k .before .before .before .before .before .before in
-    c .offsets-of-day .ensures
-    ∙ told _ _ _ _
-    (ap answer
-    (same-day _ _ _ _ _ _ _
-    (day-month (c .before .before .before))
-    (next-month (c .before))
-    (read _ (small k)))
-    ∙ sym (day-given _ _ _ _ _ (mjd k) _ (next t)))
-    (ap (ruleOf (rows s)) (day-month (c .before .before .before)))
+    let s = c .before .before .before in
+    c .by-next-day .ensures ∙ (λ i. dayByRule (rows s) (toZ-ofZ (s .fits .year) i) (toZ-ofZ (s .fits .month) i) (toZ-ofZ (s .fits .day) i))
 
 pub day-offsets-by-lent-spec : {M : Type 1} → statement M
 day-offsets-by-lent-spec =
     tie.close
-    (tie.spec
-    plain-day-requires
-    cast-month-number
-    month-number-requires
-    table-rows-reached-requires
-    seconds-of-row-requires
-    rule-by-requires
-    returns
-    modified-julian-day-requires
-    enum-known-number
-    enum-known-n
-    next-calendar-day-requires
-    enum-known-number-2
-    enum-known-t
-    cast-month-number-2
-    month-number-requires-2
-    month-number-requires-3
-    offsets-of-day-requires
-    returns-2
-    returns-3
-    returns-4)
+    (tie.spec plain-day-requires of-plain-day-requires returns by-next-day-requires returns-2)

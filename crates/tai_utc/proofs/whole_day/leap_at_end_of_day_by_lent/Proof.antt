@@ -11,7 +11,8 @@ use Rattle.tai_utc.specs.Lent.{rowsIn}
 use Rattle.tai_utc.specs.Leap.{leapOf}
 use Rattle.tai_utc.specs.Rule.{dayByRule, leapByRule}
 use Rattle.tai_utc.specs.Answers.{secondsByRuleOutcome, dayByRuleOutcome}
-use Rattle.tai_utc.proofs.Rules.{leap-by-day}
+use Rattle.tai_utc.proofs.Rules.{leap-by-day, told}
+use Rattle.tai_utc.proofs.Plain.{read-plain, plain-leap, read-offset, read-rule}
 use borrow.Author.Needs.{needs}
 use Rattle.tai_utc.proofs.whole_day.leap_at_end_of_day_by_lent.Statement.{statement}
 use Rattle.tai_utc.proofs.whole_day.leap_at_end_of_day_by_lent.Tie as tie
@@ -19,14 +20,30 @@ use Rattle.tai_utc.proofs.whole_day.leap_at_end_of_day_by_lent.Tie as t
 abbrev rows : tie.Start → List Row
 rows s = rowsIn (s .args .size) (now (s .args .months)) (now (s .args .seconds))
 
-called : (c : tie.After-day-offsets-by-lent) → let s = c .before in onward (dayByRuleOutcome (c .day-offsets-by-lent .result)) (λ p. answer (leapOf (p .0), p .1)) ≡ leapByRule (rows s) (s .args .year) (s .args .month) (s .args .day)
+called : (c : tie.After-by-next-day) → let s = c .before .before .before in onward (dayByRuleOutcome (c .by-next-day .result)) (λ p. answer (leapOf (p .0), p .1)) ≡ leapByRule (rows s) (s .args .year) (s .args .month) (s .args .day)
 called c =
-    let s = c .before in
-    (λ i. onward ((c .day-offsets-by-lent .ensures ∙ (λ j. dayByRule (rows s) (toZ-ofZ (s .fits .year) j) (toZ-ofZ (s .fits .month) j) (toZ-ofZ (s .fits .day) j))) i) (λ p. answer (leapOf (p .0), p .1)))
+    let s = c .before .before .before in
+    (λ i. onward ((c .by-next-day .ensures ∙ (λ j. dayByRule (rows s) (toZ-ofZ (s .fits .year) j) (toZ-ofZ (s .fits .month) j) (toZ-ofZ (s .fits .day) j))) i) (λ p. answer (leapOf (p .0), p .1)))
     ∙ sym (leap-by-day (rows s) (s .args .year) (s .args .month) (s .args .day))
 
-day-offsets-by-lent-requires : tie.Need-day-offsets-by-lent-requires
-day-offsets-by-lent-requires c κs = search needs
+plain-day-requires : tie.Need-plain-day-requires
+plain-day-requires c κs = search needs
+
+of-plain-day-requires : tie.Need-of-plain-day-requires
+of-plain-day-requires c κs = c .before .plain-day .ensures (c .if1 .taken)
+
+returns : tie.Need-returns
+unfolding secondsByRuleOutcome leapByRule ofBits
+returns c =
+    let t = c .before in
+    let s = t .before .before in
+    let (x, r) = c .of-plain-day .ensures in
+    told _ _ _ _
+    (plain-leap (rows s) _ _ _ (read-plain _ _ _ (s .fits .year) (s .fits .month) (s .fits .day) (t .before .plain-day .ensures (t .if1 .taken))) _ (read-offset (rows s) _ _ (s .fits .year) (s .fits .month) _ x))
+    (r ∙ read-rule (rows s) _ _ (s .fits .year) (s .fits .month))
+
+by-next-day-requires : tie.Need-by-next-day-requires
+by-next-day-requires c κs = search needs
 
 enum-known-number : tie.Need-enum-known-number
 enum-known-number c = search needs
@@ -34,16 +51,25 @@ enum-known-number c = search needs
 enum-known-o : tie.Need-enum-known-o
 enum-known-o c = search needs
 
-returns : tie.Need-returns
-unfolding secondsByRuleOutcome dayByRuleOutcome onward
-returns c = ap (λ (x : DayByRule). onward (dayByRuleOutcome x) (λ p. answer (leapOf (p .0), p .1))) (sym (c .before .number .given .1)) ∙ called (c .before .before .before)
-
 returns-2 : tie.Need-returns-2
+unfolding secondsByRuleOutcome dayByRuleOutcome onward
+returns-2 c = ap (λ (x : DayByRule). onward (dayByRuleOutcome x) (λ p. answer (leapOf (p .0), p .1))) (sym (c .before .number .given .1)) ∙ called (c .before .before .before)
+
+returns-3 : tie.Need-returns-3
 unfolding secondsByRuleOutcome dayByRuleOutcome leapOf onward ofBits
-returns-2 c =
+returns-3 c =
     let k = c .before .before .before .before in
     ap (λ (x : DayByRule). onward (dayByRuleOutcome x) (λ p. answer (leapOf (p .0), p .1))) (sym (k .o .given .1)) ∙ called (k .before .before)
 
 pub leap-at-end-of-day-by-lent-spec : {M : Type 1} → statement M
 leap-at-end-of-day-by-lent-spec =
-    tie.close (tie.spec day-offsets-by-lent-requires enum-known-number enum-known-o returns returns-2)
+    tie.close
+    (tie.spec
+    plain-day-requires
+    of-plain-day-requires
+    returns
+    by-next-day-requires
+    enum-known-number
+    enum-known-o
+    returns-2
+    returns-3)

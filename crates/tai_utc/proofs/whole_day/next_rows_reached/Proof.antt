@@ -12,11 +12,11 @@ returns c =
     let s = c .before in
     (λ seconds. s .pre .0 seconds ∙ ap (reached (starts (rowsIn (s .args .size) (now (s .args .months)) seconds))) (sym (c .if1 .taken)), s .pre .1)
 
-table-rows-reached-requires : tie.Need-table-rows-reached-requires
-table-rows-reached-requires c κs = search needs
+any-rows-reached-requires : tie.Need-any-rows-reached-requires
+any-rows-reached-requires c κs = search needs
 
 returns-2 : tie.Need-returns-2
-returns-2 c = c .table-rows-reached .ensures
+returns-2 c = c .any-rows-reached .ensures
 
 pub next-rows-reached-spec : {M : Type 1} → statement M
-next-rows-reached-spec = tie.close (tie.spec returns table-rows-reached-requires returns-2)
+next-rows-reached-spec = tie.close (tie.spec returns any-rows-reached-requires returns-2)
