@@ -17,7 +17,7 @@ use Rattle.calendar.specs.declared.CalendarDate.{CalendarDate}
 use Rattle.calendar.specs.Calendar.{next, dateOf}
 use Rattle.calendar.specs.Gregorian.{gregorianDate}
 use Rattle.calendar.specs.Refusals.{nextOf, validDate}
-use Rattle.calendar.proofs.Accepted.{accepted}
+use Rattle.calendar.proofs.Accepted.{date-accepted}
 use Rattle.calendar.proofs.Gregorian.{gregorian-is-date-of-day}
 use Rattle.calendar.proofs.NextDates.{next-is, next-accepted}
 use Rattle.calendar.proofs.Years.{DateInRange, gregorian-in-range, validOf, from-lower, gregorian-valid}
@@ -120,7 +120,7 @@ module _ (sheet : Sheet) (rows : List Row) (jd : JulianDate) (f1 : T (fits binar
     next-range : DateInRange (has-next .0)
     next-range =
         subst DateInRange (sym (next-is (c .date .year) (pos (c .date .month)) (pos (c .date .day)) (has-next .0) (has-next .1) .1 ∙ ap next is-date-of))
-        (Dates.next-in-range (r .day) (subst (λ (d : CalendarDate). ltZ (d .year) (negsuc 4798) ≡ false) is-date-of (accepted (c .date .year) (pos (c .date .month)) (pos (c .date .day)) valid .year)) (r .in-days))
+        (Dates.next-in-range (r .day) (subst (λ (d : CalendarDate). ltZ (d .year) (negsuc 4798) ≡ false) is-date-of (date-accepted (c .date .year) (pos (c .date .month)) (pos (c .date .day)) valid .year)) (r .in-days))
 
     next-valid : validOf (has-next .0) ≡ answer tt
     next-valid = next-accepted (c .date .year) (pos (c .date .month)) (pos (c .date .day)) (has-next .0) (has-next .1)
