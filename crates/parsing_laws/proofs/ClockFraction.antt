@@ -1,6 +1,6 @@
 -- The fraction of a day that `utc_from_calendar` has for a time to the millisecond: within 2^-50 day of the milliseconds over those of the day, on days of 86,399 to
 -- 86,401 s. Assumes nothing.
-use mathlib.Core.Path.{_≡_, refl, sym, ap, _∙_, subst, subst₂}
+use mathlib.Core.Path.{_≡_, refl, ap, _∙_}
 use mathlib.Core.Bool.{false}
 use Prim.Native.Nat.{ℕ, _+_, _*_, _^_, _≤_, _<_}
 use native.Mathlib.Nat.{le-trans, le-of-eq, mul-assoc, mul-comm, mul-left-comm, mul-le-mul-right, zero-mul}
@@ -13,7 +13,7 @@ use Rattle.rounding.specs.Value.{Val, L}
 use Rattle.rounding.proofs.Sizes.{whole-val}
 use Rattle.rounding.proofs.Casts.{ofInt-val}
 use Rattle.rounding.proofs.About.{U, L-U, unit, About, about-scale, about-add, about-mul, about-div}
-use Rattle.constants.specs.Constants.{decimal, secondsPerDay}
+use Rattle.constants.specs.Constants.{decimal}
 use Rattle.parsing_laws.proofs.UtcTimes.{second-near}
 
 -- ---- the pieces, in units of 2 ^ -90

@@ -3,10 +3,9 @@
 use mathlib.Core.Path.{_≡_, refl, sym, ap, _∙_, subst}
 use mathlib.Core.Bool.{Bool, true, false}
 use Prim.Native.Nat.{ℕ, suc, _+_, _-_, _*_, _^_, _≤_, _<_}
-use native.Mathlib.Nat.{le-trans, le-of-eq, mul-comm, mul-assoc, mul-left-comm, add-mul, mul-add, mul-le-mul-right, mul-le-mul-left, zero-mul, one-mul, le-of-lt, le-of-mul-le-mul-right}
-use native.Mathlib.Numerals.{add-one}
+use native.Mathlib.Nat.{le-trans, le-of-eq, mul-comm, mul-assoc, add-mul, mul-le-mul-right, mul-le-mul-left, zero-mul, one-mul, le-of-lt, le-of-mul-le-mul-right}
 use native.Mathlib.Omega.{arith}
-use lib.Dec.{T, ltb, eqb, lit<, lit≤}
+use lib.Dec.{T, ltb}
 use lib.IntN.{ℤ, pos, negsuc, _+ℤ_, _-ℤ_}
 use lib.Ieee.{Float, binary64, fits, ofInt, add}
 use lib.Ieee.Fits.{add-fits}
@@ -18,7 +17,7 @@ use Rattle.rounding.proofs.Signed.{dist, dist-le}
 use Rattle.rounding.proofs.Casts.{add-pair, sub-pair}
 use Rattle.rounding.proofs.Compare.{lt-show, lt-says}
 use Rattle.rounding.proofs.Range.{power-val}
-use Rattle.rounding.proofs.About.{U, U-pos, L-U}
+use Rattle.rounding.proofs.About.{U, L-U}
 use Rattle.constants.specs.Constants.{mjdZeroPoint}
 use Rattle.day_number.specs.DayNumber.{accepted, dayOf}
 use Rattle.day_number.specs.Answer.{dayNumberAndFraction}

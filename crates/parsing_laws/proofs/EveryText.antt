@@ -15,8 +15,7 @@ use Rattle.floats.specs.Whole.{nought}
 use Rattle.constants.specs.Constants.{decimal}
 use Rattle.calendar.specs.declared.CalendarDate.{CalendarDate}
 use Rattle.calendar.specs.Calendar.{next, dateOf}
-use Rattle.calendar.specs.Gregorian.{gregorianDate}
-use Rattle.calendar.specs.Refusals.{nextOf, validDate}
+use Rattle.calendar.specs.Refusals.{nextOf}
 use Rattle.calendar.proofs.Accepted.{date-accepted}
 use Rattle.calendar.proofs.Gregorian.{gregorian-is-date-of-day}
 use Rattle.calendar.proofs.NextDates.{next-is, next-accepted}
@@ -41,7 +40,7 @@ use Rattle.utc_text.specs.Text.{four, five, six, seven, afterYear, yearText, ut
 use Rattle.utc_text.specs.Expanded.{expandedYear, expandedText}
 use Rattle.utc_text.specs.ReadBack.{ReadsAs, Writable, readYear, readMonth, readDay, readHour, readMinute, readSecond, readMilli}
 use Rattle.utc.specs.Sheet.{Sheet}
-use Rattle.utc.specs.IsoText.{midnight, nextMidnightTextBy, shownTextBy, dayTextBy, isoTextBy, isoText, sheet01}
+use Rattle.utc.specs.IsoText.{midnight, shownTextBy, dayTextBy, isoTextBy, isoText, sheet01}
 use Rattle.utc.specs.Expanded.{expandedSheet, isoTextExpanded}
 use Rattle.utc.specs.HalfEven.{evenSheet, isoTextHalfEven}
 use Rattle.utc.specs.GoodSheet.{GoodSheet}

@@ -11,7 +11,6 @@ use Rattle.time_of_day.specs.Milliseconds.{wholeLeap}
 use Rattle.time_of_day.specs.TimeShown.{countBy}
 use Rattle.time_of_day.specs.Nearest.{Nearest}
 use Rattle.time_of_day.specs.HalfEven.{even, evenCount, inWhole, gridUnits, dayIsWhole}
-use Rattle.time_of_day.specs.EvenPromise.{evenParts, evenMost}
 use Rattle.time_of_day.specs.ExactTime.{Leap, DayLength, TimeWithin}
 use Rattle.time_of_day.proofs.Rounded.{away-nearest}
 use Rattle.time_of_day.proofs.Fractions.{in-units, within-one, cross}

@@ -3,17 +3,17 @@
 use mathlib.Core.Path.{_≡_, refl, sym, ap, _∙_, subst}
 use mathlib.Core.Bool.{Bool, true, false, cond}
 use mathlib.Core.List.{List}
-use Prim.Native.Nat.{ℕ, zero, suc, _+_, _-_, _*_, _≤_, _<_}
+use Prim.Native.Nat.{ℕ, _+_, _-_, _*_, _≤_, _<_}
 use native.Mathlib.Nat.{mul-left-comm, mul-one, add-mul, one-mul, zero-mul, lt-of-mul-lt-mul-right}
 use native.Mathlib.Omega.{arith}
 use lib.Dec.{T, leb, ltb, lit<, lit≤}
-use lib.IntN.{ℤ, pos, _+ℤ_, _-ℤ_}
+use lib.IntN.{ℤ, pos, _+ℤ_}
 use lib.Signed.{ltZ}
 use lib.Ieee.{Float, binary64, fits, round, ofInt, ofBits, add, mul, div, lt, le, eq}
 use lib.Ieee.Fits.{add-fits}
 use borrow.Author.Tests.{lt-ltb, le-ltb, le-leb, ltb-true, ltb-false}
 use Rattle.refusals.specs.Outcome.{answer, onward}
-use Rattle.floats.specs.Whole.{nought, one, half, abs}
+use Rattle.floats.specs.Whole.{nought, one, abs}
 use Rattle.rounding.specs.Value.{Val, L, InUnit}
 use Rattle.rounding.proofs.Value.{L-pos}
 use Rattle.constants.specs.Constants.{decimal, secondsPerDay, mjdZeroPoint}
@@ -28,7 +28,6 @@ use Rattle.day_number.specs.DayNumber.{dayOf}
 use Rattle.day_number.proofs.Ends.{nought-fits}
 use Rattle.julian.specs.declared.JulianDate.{JulianDate}
 use Rattle.julian.specs.JulianDate.{julian, roundedSum}
-use Rattle.julian.specs.DayFraction.{timeInDay}
 use Rattle.julian.specs.Calendar.{fields, atTime, fromCalendar, julianToCalendar}
 use Rattle.julian.proofs.Midnights.{midnight-given}
 use Rattle.julian_laws.proofs.RoundTrip.{midnight-fraction, round-trip-at-midnight}
@@ -42,7 +41,7 @@ use Rattle.time_of_day.specs.declared.TimeOfDay.{TimeOfDay}
 use Rattle.time_of_day.specs.declared.TimeShown.the-variants.{At, NextMidnight}
 use Rattle.time_of_day.specs.Milliseconds.{wholeLeap}
 use Rattle.time_of_day.specs.TimeShown.{timeOf, dayEnd, shownAt, shownBy}
-use Rattle.time_of_day.specs.ExactTime.{minus-one-f, Leap, little, second, minus-second, DayLength, timeMs}
+use Rattle.time_of_day.specs.ExactTime.{minus-one-f, Leap, little, second, minus-second, DayLength}
 use Rattle.time_of_day.proofs.Fields.{fields-ms}
 use Rattle.utc_text.specs.ReadBack.{readYear}
 use Rattle.utc.specs.Sheet.{Sheet}
@@ -65,7 +64,7 @@ use Rattle.parsing_laws.proofs.UtcReadBack.{WholeStep, no-step, longer,
 use Rattle.parsing_laws.proofs.EveryText as Every
 use Rattle.parsing_laws.proofs.EveryText.{WrittenFrom, good-fields, written-from, as-01, expanded-as-01, by-fields}
 use Rattle.parsing_laws.proofs.ClockFraction.{TimeNear, fractionAt, time-near}
-use Rattle.parsing_laws.proofs.DayAgain.{MillisWorth, Found, found}
+use Rattle.parsing_laws.proofs.DayAgain.{MillisWorth, found}
 use Rattle.parsing_laws.proofs.NearCounts.{CountsNear, near01, near-expanded, near-even}
 
 -- ---- the three lengths of a day from 1972 on

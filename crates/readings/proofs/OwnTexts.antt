@@ -1,6 +1,6 @@
 -- A text of the text call with expanded years, and so of the listing, is answered by itself: where the shown year is 1972 to 9999, and for every table that is taken.
 -- Assumes nothing.
-use mathlib.Core.Path.{_≡_, refl, ap, _∙_}
+use mathlib.Core.Path.{_≡_, ap, _∙_}
 use mathlib.Core.List.{List, [], _∷_, _++_}
 use Prim.Native.Nat.{ℕ}
 use lib.Dec.{T}
@@ -13,7 +13,6 @@ use Rattle.tai_utc.specs.Table.{Row}
 use Rattle.tai_utc.specs.Lent.{tableOf}
 use Rattle.utc.specs.Expanded.{isoTextExpanded}
 use Rattle.parsing.specs.declared.ParsedUtc.{ParsedUtc}
-use Rattle.parsing.specs.Parsed.{parsedUtc}
 use Rattle.parsing_laws.specs.Shown.{YearShown, ReadsBack, fieldsShown, withDate}
 use Rattle.parsing_laws.proofs.EveryText.{expanded-text-reads-back, from-str-answers}
 use Rattle.parsing_laws.proofs.TextAgain.{expanded-text-again}

@@ -2,7 +2,6 @@
 use mathlib.Core.Path.{_≡_}
 use lib.ListN.{length}
 use borrow.Author.Needs.{needs}
-use native.Mathlib.Omega.{arith}
 use Rattle.utc_reading.proofs.main.Statement.{statement}
 use Rattle.utc_reading.proofs.main.Tie as tie
 

@@ -3,7 +3,6 @@ use Prim.Native.Nat.{_-_}
 use mathlib.Core.Path.{_≡_, refl}
 use lib.ListN.{length}
 use borrow.Author.Needs.{needs}
-use native.Mathlib.Omega.{arith}
 use Rattle.utc_reading.proofs.take_bytes.Statement.{statement}
 use Rattle.utc_reading.proofs.take_bytes.Tie as tie
 
