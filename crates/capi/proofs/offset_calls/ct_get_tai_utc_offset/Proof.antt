@@ -11,7 +11,7 @@ use Rattle.capi.proofs.offset_calls.ct_get_tai_utc_offset.Statement.{st
 use Rattle.capi.proofs.offset_calls.ct_get_tai_utc_offset.Tie as tie
 
 read-table-requires : tie.Need-read-table-requires
-read-table-requires c κs = (refl, refl)
+read-table-requires c κs = search needs
 
 refused-requires : tie.Need-refused-requires
 refused-requires c κs = search needs
@@ -19,7 +19,7 @@ refused-requires c κs = search needs
 returns : tie.Need-returns
 returns c =
     let n = c .before .before in
-    lent-refused _ _ (n .read-table .result .number) (n .read-table .ensures .0) offsetRuleBytes _ (c .refused .ok)
+    lent-refused _ _ (n .read-table .result .number) (n .read-table .ensures .0 refl refl) offsetRuleBytes _ (c .refused .ok)
     (c .before .if1 .taken) (c .refused .ensures)
 
 get-tai-utc-offset-by-lent-requires : tie.Need-get-tai-utc-offset-by-lent-requires
@@ -37,7 +37,7 @@ returns-2 c =
     let b = p .before .before in
     let n = b .before .before .before .before in
     let s = n .before .before .before .before .before in
-    with-lent _ _ (n .read-table .result .number) (n .read-table .ensures .0) offsetRuleBytes _ (p .put-offset .ok) (b .before .before .before .if1 .left)
+    with-lent _ _ (n .read-table .result .number) (n .read-table .ensures .0 refl refl) offsetRuleBytes _ (p .put-offset .ok) (b .before .before .before .if1 .left)
     (b .get-tai-utc-offset-by-lent .ensures ∙ read-date (λ (y m d : ℤ). offsetByRule (rowsIn (n .read-table .result .size) (n .read-table .last .1 .0) (n .read-table .last .1 .1 .0)) y m d (s .args .fraction)) _ _ _ (s .fits .year) (s .fits .month) (s .fits .day))
     (p .put-offset .ensures)
 

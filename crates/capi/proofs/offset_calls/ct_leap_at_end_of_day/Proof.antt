@@ -12,7 +12,7 @@ use Rattle.capi.proofs.offset_calls.ct_leap_at_end_of_day.Statement.{st
 use Rattle.capi.proofs.offset_calls.ct_leap_at_end_of_day.Tie as tie
 
 read-table-requires : tie.Need-read-table-requires
-read-table-requires c κs = (refl, refl)
+read-table-requires c κs = search needs
 
 refused-requires : tie.Need-refused-requires
 refused-requires c κs = search needs
@@ -20,7 +20,7 @@ refused-requires c κs = search needs
 returns : tie.Need-returns
 returns c =
     let n = c .before .before in
-    lent-refused _ _ (n .read-table .result .number) (n .read-table .ensures .0) floatBytes _ (c .refused .ok)
+    lent-refused _ _ (n .read-table .result .number) (n .read-table .ensures .0 refl refl) floatBytes _ (c .refused .ok)
     (c .before .if1 .taken) (c .refused .ensures)
 
 leap-at-end-of-day-by-lent-requires : tie.Need-leap-at-end-of-day-by-lent-requires
@@ -38,7 +38,7 @@ returns-2 c =
     let b = p .before .before in
     let n = b .before .before .before .before in
     let s = n .before .before .before .before .before in
-    with-lent _ _ (n .read-table .result .number) (n .read-table .ensures .0) floatBytes _ (p .put-leap .ok) (b .before .before .before .if1 .left)
+    with-lent _ _ (n .read-table .result .number) (n .read-table .ensures .0 refl refl) floatBytes _ (p .put-leap .ok) (b .before .before .before .if1 .left)
     (ap forget (b .leap-at-end-of-day-by-lent .ensures) ∙ leap-forgets (rowsIn (n .read-table .result .size) (n .read-table .last .1 .0) (n .read-table .last .1 .1 .0)) _ _ _ ∙ read-date (leapAtEndOfDay (rowsIn (n .read-table .result .size) (n .read-table .last .1 .0) (n .read-table .last .1 .1 .0))) _ _ _ (s .fits .year) (s .fits .month) (s .fits .day))
     (p .put-leap .ensures)
 

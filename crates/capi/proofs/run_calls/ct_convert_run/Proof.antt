@@ -8,7 +8,7 @@ use Rattle.capi.proofs.run_calls.ct_convert_run.Statement.{statement}
 use Rattle.capi.proofs.run_calls.ct_convert_run.Tie as tie
 
 read-table-requires : tie.Need-read-table-requires
-read-table-requires c κs = (refl, refl)
+read-table-requires c κs = search needs
 
 refused-requires : tie.Need-refused-requires
 refused-requires c κs = search needs

@@ -6,7 +6,7 @@ use Rattle.capi.proofs.text_calls.text_call.Statement.{statement}
 use Rattle.capi.proofs.text_calls.text_call.Tie as tie
 
 read-table-requires : tie.Need-read-table-requires
-read-table-requires c κs = (refl, refl)
+read-table-requires c κs = search needs
 
 refused-requires : tie.Need-refused-requires
 refused-requires c κs = search needs
@@ -14,7 +14,7 @@ refused-requires c κs = search needs
 returns : tie.Need-returns
 returns c =
     let n = c .before .before in
-    text-lent-refused _ _ (n .read-table .result .number) (n .read-table .ensures .0) _ (c .refused .ok) (c .before .if1 .taken) (c .refused .ensures)
+    text-lent-refused _ _ (n .read-table .result .number) (n .read-table .ensures .0 refl refl) _ (c .refused .ok) (c .before .if1 .taken) (c .refused .ensures)
 
 put-text-requires : tie.Need-put-text-requires
 put-text-requires c κs = search needs
@@ -30,7 +30,7 @@ returns-2 c =
     let p = c .before .before .before .before in
     let b = p .before .before .before .before .before in
     let n = b .before in
-    text-with-lent _ _ (n .read-table .result .number) (n .read-table .ensures .0) _ (p .put-text .ok) (b .if1 .left) (p .put-text .ensures)
+    text-with-lent _ _ (n .read-table .result .number) (n .read-table .ensures .0 refl refl) _ (p .put-text .ok) (b .if1 .left) (p .put-text .ensures)
 
 pub text-call-spec : {M : Type 1} → statement M
 text-call-spec =

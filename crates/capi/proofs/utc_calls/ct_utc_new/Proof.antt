@@ -11,7 +11,7 @@ use Rattle.capi.proofs.utc_calls.ct_utc_new.Statement.{statement}
 use Rattle.capi.proofs.utc_calls.ct_utc_new.Tie as tie
 
 read-table-requires : tie.Need-read-table-requires
-read-table-requires c κs = (refl, refl)
+read-table-requires c κs = search needs
 
 refused-requires : tie.Need-refused-requires
 refused-requires c κs = search needs
@@ -19,7 +19,7 @@ refused-requires c κs = search needs
 returns : tie.Need-returns
 returns c =
     let n = c .before .before in
-    lent-refused _ _ (n .read-table .result .number) (n .read-table .ensures .0) julianBytes _ (c .refused .ok)
+    lent-refused _ _ (n .read-table .result .number) (n .read-table .ensures .0 refl refl) julianBytes _ (c .refused .ok)
     (c .before .if1 .taken) (c .refused .ensures)
 
 new-by-lent-requires : tie.Need-new-by-lent-requires
@@ -37,7 +37,7 @@ returns-2 c =
     let b = p .before .before in
     let n = b .before .before .before .before in
     let s = n .before .before .before .before .before in
-    with-lent _ _ (n .read-table .result .number) (n .read-table .ensures .0) julianBytes _ (p .put-utc .ok) (b .before .before .before .if1 .left)
+    with-lent _ _ (n .read-table .result .number) (n .read-table .ensures .0 refl refl) julianBytes _ (p .put-utc .ok) (b .before .before .before .if1 .left)
     (b .new-by-lent .ensures ∙ ap (λ (z : ℤ). utcNew (rowsIn (n .read-table .result .size) (n .read-table .last .1 .0) (n .read-table .last .1 .1 .0)) z (s .args .nanos)) (toZ-ofZ (s .fits .seconds)))
     (p .put-utc .ensures)
 

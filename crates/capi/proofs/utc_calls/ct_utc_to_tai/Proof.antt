@@ -7,7 +7,7 @@ use Rattle.capi.proofs.utc_calls.ct_utc_to_tai.Statement.{statement}
 use Rattle.capi.proofs.utc_calls.ct_utc_to_tai.Tie as tie
 
 read-table-requires : tie.Need-read-table-requires
-read-table-requires c κs = (refl, refl)
+read-table-requires c κs = search needs
 
 refused-requires : tie.Need-refused-requires
 refused-requires c κs = search needs
@@ -15,7 +15,7 @@ refused-requires c κs = search needs
 returns : tie.Need-returns
 returns c =
     let n = c .before .before in
-    lent-refused _ _ (n .read-table .result .number) (n .read-table .ensures .0) julianRuleBytes _ (c .refused .ok)
+    lent-refused _ _ (n .read-table .result .number) (n .read-table .ensures .0 refl refl) julianRuleBytes _ (c .refused .ok)
     (c .before .if1 .taken) (c .refused .ensures)
 
 utc-to-tai-by-lent-requires : tie.Need-utc-to-tai-by-lent-requires
@@ -32,7 +32,7 @@ returns-2 c =
     let p = c .before .before in
     let b = p .before .before in
     let n = b .before .before .before .before in
-    with-lent _ _ (n .read-table .result .number) (n .read-table .ensures .0) julianRuleBytes _ (p .put-tai-by-rule .ok) (b .before .before .before .if1 .left)
+    with-lent _ _ (n .read-table .result .number) (n .read-table .ensures .0 refl refl) julianRuleBytes _ (p .put-tai-by-rule .ok) (b .before .before .before .if1 .left)
     (b .utc-to-tai-by-lent .ensures)
     (p .put-tai-by-rule .ensures)
 

@@ -14,13 +14,13 @@ use Rattle.lent_bytes.proofs.arrays.put_numbers.Statement.{statement}
 use Rattle.lent_bytes.proofs.arrays.put_numbers.Tie as tie
 
 abbrev Inv-loop : tie.InvT-loop
-Inv-loop bytes at size numbers₀ i₀ numbers i = (i ≤ size) × (length numbers ≡ 16) × ((k : ℕ) → k < i → getD numbers k (pos 0) ≡ signedAt bytes (at + 4 * k))
+Inv-loop bytes at size numbers₀ i₀ numbers i = (i ≤ size) × (length numbers₀ ≡ 16 → (length numbers ≡ 16) × ((k : ℕ) → k < i → getD numbers k (pos 0) ≡ signedAt bytes (at + 4 * k)))
 
 abbrev μ-loop : tie.MeasureT-loop
 μ-loop bytes at size numbers₀ i₀ numbers i = size - i
 
 loop-holds : tie.Need-loop-holds Inv-loop μ-loop
-loop-holds c = (omega arith, c .before .pre .2, λ k h. absurd (not-suc-le-zero h))
+loop-holds c = (omega arith, λ n. (n, λ k h. absurd (not-suc-le-zero h)))
 
 mul-u32-at : tie.Need-mul-u32-at Inv-loop μ-loop
 mul-u32-at c = search needs
@@ -49,13 +49,14 @@ loop-less c = search needs
 loop-again : tie.Need-loop-again Inv-loop μ-loop
 loop-again c =
     let l = c .before .before .before in
-    let a = l .before .before .args in
-    let (p, q) = one-more-read (a .bytes .now) (a .at) (l .loop .i) (l .loop .numbers) _ (l .loop .inv .1) (omega arith)
-    (toZ-ofZ {w = w32} {z = c .i32-of-pattern .result} (record { sfits = c .i32-of-pattern .ok }) ∙ c .i32-of-pattern .ensures ∙ ap signed32 (c .before .u32-at .ensures)) (l .loop .inv .2) in
-    (omega arith, p, q)
+    let a = l .before .before .args in (
+      omega arith,
+      λ n. one-more-read (a .bytes .now) (a .at) (l .loop .i) (l .loop .numbers) _ (l .loop .inv .1 n .0) (omega arith)
+          (toZ-ofZ {w = w32} {z = c .i32-of-pattern .result} (record { sfits = c .i32-of-pattern .ok }) ∙ c .i32-of-pattern .ensures ∙ ap signed32 (c .before .u32-at .ensures)) (l .loop .inv .1 n .1),
+    )
 
 returns : tie.Need-returns Inv-loop μ-loop
-returns c = let l = c .before in λ i h. l .loop .inv .2 i (omega arith)
+returns c = let l = c .before in λ n i h. l .loop .inv .1 n .1 i (omega arith)
 
 pub put-numbers-spec : {M : Type 1} → statement M
 put-numbers-spec =

@@ -10,7 +10,7 @@ use Rattle.lent_bytes.proofs.arrays.read_table.Statement.{statement}
 use Rattle.lent_bytes.proofs.arrays.read_table.Tie as tie
 
 returns : tie.Need-returns
-returns c = (read-14 _ [] (c .if1 .taken), omega arith)
+returns c = (λ p q. read-14 _ [] (c .if1 .taken), omega arith)
 
 u32-at-requires : tie.Need-u32-at-requires
 u32-at-requires c κs = search needs
@@ -25,7 +25,7 @@ returns-2 : tie.Need-returns-2
 returns-2 c =
     let n = c .before in
     let m = n .before .before in
-    (read-none _ _ _ _ _ (m .u32-at .ensures) (n .before .u32-at2 .ensures) (m .before .if1 .left) (sym (n .lend-none .ensures) ∙ c .if2 .taken), omega arith)
+    (λ p q. read-none _ _ _ _ _ (m .u32-at .ensures) (n .before .u32-at2 .ensures) (m .before .if1 .left) (sym (n .lend-none .ensures) ∙ c .if2 .taken), omega arith)
 
 places-of-requires : tie.Need-places-of-requires
 places-of-requires c κs = search needs
@@ -46,7 +46,7 @@ returns-3 c =
     let z = x .before .before in
     let n = z .before .before in
     let m = n .before .before in
-    (read-judged _ _ _ _ _ (m .u32-at .ensures) (n .before .u32-at2 .ensures) (m .before .if1 .left) _ (c .lent-refusal .result) (z .places-of .ensures .0) (x .put-numbers .ensures) (y .put-numbers2 .ensures) (c .lent-refusal .ensures), z .places-of .ensures .1)
+    (λ p q. read-judged _ _ _ _ _ (m .u32-at .ensures) (n .before .u32-at2 .ensures) (m .before .if1 .left) _ (c .lent-refusal .result) (z .places-of .ensures .0) (x .put-numbers .ensures p) (y .put-numbers2 .ensures q) (c .lent-refusal .ensures), z .places-of .ensures .1)
 
 pub read-table-spec : {M : Type 1} → statement M
 read-table-spec =
