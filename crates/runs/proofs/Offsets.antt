@@ -7,8 +7,8 @@ use mathlib.Core.Bool.{Bool, true, false, not, cond, _&&_}
 use mathlib.Core.List.{List}
 use lib.Dec.{T, eqb, ltb}
 use lib.Pow.{field, pow-pos}
-use lib.Ieee.{Float, nan, inf, fin, binary64, add, sub, neg, lt, ofBits, toBits, isNan}
-use lib.Ieee.Bits.{toBits-ofBits}
+use lib.Ieee.{Float, nan, inf, fin, binary64, add, sub, neg, lt, ofBits, toBits, nanBits, isNan}
+use lib.Ieee.Bits.{nanBits-is, toBits-ofBits}
 use lib.Ieee.Scale.{finite}
 use borrow.Author.Tests.{ltb-true, ltb-false, eqb-true, eq-eqb, ne-eqb}
 use Rattle.floats.specs.Whole.{abs}
@@ -53,6 +53,9 @@ unfolding isNan
 number-no-nan nan h = let z : true ≡ false = sym h in cc
 number-no-nan (inf s) h = refl
 number-no-nan (fin s m e) h = refl
+
+pub no-nan : (b : ℕ) → finite (ofBits binary64 b) ≡ true → T (not (nanBits binary64 b))
+no-nan b h = subst (λ (t : Bool). T (not t)) (sym (nanBits-is binary64 b ∙ number-no-nan (ofBits binary64 b) h)) tt
 
 -- written again, it is the same pattern
 pub pattern-back : (b : ℕ) → b < 2 ^ 64 → finite (ofBits binary64 b) ≡ true → toBits binary64 (ofBits binary64 b) ≡ b

@@ -85,8 +85,8 @@ fn shift_stamp(
     if !is_number(b) {
         return 9;
     }
-    let x = floats::from_bits(a);
-    let y = floats::from_bits(b);
+    let x = f64::from_bits(a);
+    let y = f64::from_bits(b);
     if floats::larger_in_size(x, y) {
         put_pattern(out1, 8 * i, a);
         put_pattern(out2, 8 * i, floats::to_bits(y + days));

@@ -1,10 +1,8 @@
 -- `runs::fixed::shift_stamp` meets its contract: by the patterns, and the part that stays by its own. Assumes nothing.
-use mathlib.Core.Path.{_≡_, refl, sym, ap, subst, _∙_}
-use lib.Ieee.{binary64, add, lt, toBits}
-use Rattle.floats.specs.Whole.{abs}
+use mathlib.Core.Path.{_≡_, refl, sym, ap, _∙_}
 use borrow.Author.Tests.{not-true, not-false}
 use Rattle.runs.proofs.Puts.{put-refused, put-patterns}
-use Rattle.runs.proofs.Offsets.{pattern-back, shift-dead-first, shift-dead-second, shift-first, shift-second}
+use Rattle.runs.proofs.Offsets.{no-nan, pattern-back, shift-dead-first, shift-dead-second, shift-first, shift-second}
 use borrow.Author.Needs.{needs}
 use Rattle.runs.proofs.fixed.shift_stamp.Statement.{statement}
 use Rattle.runs.proofs.fixed.shift_stamp.Tie as tie
@@ -31,11 +29,11 @@ returns-2 c =
     let a = c .before .before .before .before .before .before .before .before .before .before .args in
     put-refused _ 9 (a .i) _ (a .out1 .now) (a .out2 .now) (shift-dead-second (a .days) (a .jd1s .now) (a .jd2s .now) (a .i) _ _ (c .before .before .before .before .before .pattern-at .ensures) (c .before .before .before .before .pattern-at2 .ensures) (sym (c .before .before .before .is-number .ensures) ∙ not-false _ (c .before .before .if1 .left)) (sym (c .before .is-number2 .ensures) ∙ not-true _ (c .if2 .taken))) refl
 
-from-bits-requires : tie.Need-from-bits-requires
-from-bits-requires c κs = search needs
+float-from-bits-x : tie.Need-float-from-bits-x
+float-from-bits-x c = no-nan _ (sym (c .before .before .before .is-number .ensures) ∙ not-false _ (c .before .before .if1 .left))
 
-from-bits-requires-2 : tie.Need-from-bits-requires-2
-from-bits-requires-2 c κs = search needs
+float-from-bits-y : tie.Need-float-from-bits-y
+float-from-bits-y c = no-nan _ (sym (c .before .is-number2 .ensures) ∙ not-false _ (c .if2 .left))
 
 larger-in-size-requires : tie.Need-larger-in-size-requires
 larger-in-size-requires c κs = search needs
@@ -63,11 +61,11 @@ same-length-2 c = search needs
 
 returns-3 : tie.Need-returns-3
 returns-3 c =
-    let a = c .before .before .before .before .before .before .before .before .before .before .before .before .before .before .before .before .before .before .before .before .before .before .before .args in
+    let a = c .before .before .before .before .before .before .before .before .before .before .before .before .before .before .before .before .before .before .before .before .before .args in
     put-patterns _ _ (a .i) (a .out1 .now) (a .out2 .now) _ _ _ _
-    (shift-second (a .days) (a .jd1s .now) (a .jd2s .now) (a .i) _ _ (c .before .before .before .before .before .before .before .before .before .before .before .before .before .before .before .before .before .before .pattern-at .ensures) (c .before .before .before .before .before .before .before .before .before .before .before .before .before .before .before .before .before .pattern-at2 .ensures) (sym (c .before .before .before .before .before .before .before .before .before .before .before .before .before .before .before .before .is-number .ensures) ∙ not-false _ (c .before .before .before .before .before .before .before .before .before .before .before .before .before .before .before .if1 .left)) (sym (c .before .before .before .before .before .before .before .before .before .before .before .before .before .before .is-number2 .ensures) ∙ not-false _ (c .before .before .before .before .before .before .before .before .before .before .before .before .before .if2 .left)) (c .before .before .before .before .before .before .before .before .before .before .larger-in-size .result) (c .before .before .before .before .before .before .before .before .before .before .larger-in-size .ensures ∙ (λ k. lt (abs (c .before .before .before .before .before .before .before .before .before .before .before .from-bits2 .ensures k)) (abs (c .before .before .before .before .before .before .before .before .before .before .before .before .from-bits .ensures k)))) (c .before .before .before .before .before .before .before .before .before .if3 .taken))
-    (sym (pattern-back _ (c .before .before .before .before .before .before .before .before .before .before .before .before .before .before .before .before .before .before .pattern-at .ok) (sym (c .before .before .before .before .before .before .before .before .before .before .before .before .before .before .before .before .is-number .ensures) ∙ not-false _ (c .before .before .before .before .before .before .before .before .before .before .before .before .before .before .before .if1 .left))))
-    (c .before .before .before .to-bits .ensures ∙ ap (λ y. toBits binary64 (add binary64 y (a .days))) (c .before .before .before .before .before .before .before .before .before .before .before .from-bits2 .ensures))
+    (shift-second (a .days) (a .jd1s .now) (a .jd2s .now) (a .i) _ _ (c .before .before .before .before .before .before .before .before .before .before .before .before .before .before .before .before .pattern-at .ensures) (c .before .before .before .before .before .before .before .before .before .before .before .before .before .before .before .pattern-at2 .ensures) (sym (c .before .before .before .before .before .before .before .before .before .before .before .before .before .before .is-number .ensures) ∙ not-false _ (c .before .before .before .before .before .before .before .before .before .before .before .before .before .if1 .left)) (sym (c .before .before .before .before .before .before .before .before .before .before .before .before .is-number2 .ensures) ∙ not-false _ (c .before .before .before .before .before .before .before .before .before .before .before .if2 .left)) (c .before .before .before .before .before .before .before .before .before .before .larger-in-size .result) (c .before .before .before .before .before .before .before .before .before .before .larger-in-size .ensures) (c .before .before .before .before .before .before .before .before .before .if3 .taken))
+    (sym (pattern-back _ (c .before .before .before .before .before .before .before .before .before .before .before .before .before .before .before .before .pattern-at .ok) (sym (c .before .before .before .before .before .before .before .before .before .before .before .before .before .before .is-number .ensures) ∙ not-false _ (c .before .before .before .before .before .before .before .before .before .before .before .before .before .if1 .left))))
+    (c .before .before .before .to-bits .ensures)
     (c .before .before .before .before .before .before .before .put-pattern .ensures) (c .before .before .put-pattern2 .ensures)
 
 mul-put-pattern-3 : tie.Need-mul-put-pattern-3
@@ -93,11 +91,11 @@ same-length-4 c = search needs
 
 returns-4 : tie.Need-returns-4
 returns-4 c =
-    let a = c .before .before .before .before .before .before .before .before .before .before .before .before .before .before .before .before .before .before .before .before .before .before .before .args in
+    let a = c .before .before .before .before .before .before .before .before .before .before .before .before .before .before .before .before .before .before .before .before .before .args in
     put-patterns _ _ (a .i) (a .out1 .now) (a .out2 .now) _ _ _ _
-    (shift-first (a .days) (a .jd1s .now) (a .jd2s .now) (a .i) _ _ (c .before .before .before .before .before .before .before .before .before .before .before .before .before .before .before .before .before .before .pattern-at .ensures) (c .before .before .before .before .before .before .before .before .before .before .before .before .before .before .before .before .before .pattern-at2 .ensures) (sym (c .before .before .before .before .before .before .before .before .before .before .before .before .before .before .before .before .is-number .ensures) ∙ not-false _ (c .before .before .before .before .before .before .before .before .before .before .before .before .before .before .before .if1 .left)) (sym (c .before .before .before .before .before .before .before .before .before .before .before .before .before .before .is-number2 .ensures) ∙ not-false _ (c .before .before .before .before .before .before .before .before .before .before .before .before .before .if2 .left)) (c .before .before .before .before .before .before .before .before .before .before .larger-in-size .result) (c .before .before .before .before .before .before .before .before .before .before .larger-in-size .ensures ∙ (λ k. lt (abs (c .before .before .before .before .before .before .before .before .before .before .before .from-bits2 .ensures k)) (abs (c .before .before .before .before .before .before .before .before .before .before .before .before .from-bits .ensures k)))) (c .before .before .before .before .before .before .before .before .before .if3 .left))
-    (c .before .before .before .before .before .before .before .to-bits2 .ensures ∙ ap (λ x. toBits binary64 (add binary64 x (a .days))) (c .before .before .before .before .before .before .before .before .before .before .before .before .from-bits .ensures))
-    (sym (pattern-back _ (c .before .before .before .before .before .before .before .before .before .before .before .before .before .before .before .before .before .pattern-at2 .ok) (sym (c .before .before .before .before .before .before .before .before .before .before .before .before .before .before .is-number2 .ensures) ∙ not-false _ (c .before .before .before .before .before .before .before .before .before .before .before .before .before .if2 .left))))
+    (shift-first (a .days) (a .jd1s .now) (a .jd2s .now) (a .i) _ _ (c .before .before .before .before .before .before .before .before .before .before .before .before .before .before .before .before .pattern-at .ensures) (c .before .before .before .before .before .before .before .before .before .before .before .before .before .before .before .pattern-at2 .ensures) (sym (c .before .before .before .before .before .before .before .before .before .before .before .before .before .before .is-number .ensures) ∙ not-false _ (c .before .before .before .before .before .before .before .before .before .before .before .before .before .if1 .left)) (sym (c .before .before .before .before .before .before .before .before .before .before .before .before .is-number2 .ensures) ∙ not-false _ (c .before .before .before .before .before .before .before .before .before .before .before .if2 .left)) (c .before .before .before .before .before .before .before .before .before .before .larger-in-size .result) (c .before .before .before .before .before .before .before .before .before .before .larger-in-size .ensures) (c .before .before .before .before .before .before .before .before .before .if3 .left))
+    (c .before .before .before .before .before .before .before .to-bits2 .ensures)
+    (sym (pattern-back _ (c .before .before .before .before .before .before .before .before .before .before .before .before .before .before .before .pattern-at2 .ok) (sym (c .before .before .before .before .before .before .before .before .before .before .before .before .is-number2 .ensures) ∙ not-false _ (c .before .before .before .before .before .before .before .before .before .before .before .if2 .left))))
     (c .before .before .before .before .before .before .put-pattern3 .ensures) (c .before .before .put-pattern4 .ensures)
 
 pub shift-stamp-spec : {M : Type 1} → statement M
@@ -110,8 +108,8 @@ shift-stamp-spec =
     returns
     is-number-requires-2
     returns-2
-    from-bits-requires
-    from-bits-requires-2
+    float-from-bits-x
+    float-from-bits-y
     larger-in-size-requires
     mul-put-pattern
     put-pattern-requires
