@@ -36,13 +36,10 @@ use Rattle.capi.specs.declared.text_calls.NamedSheet.{NamedSheet}
 use Rattle.capi.specs.declared.text_calls.NamedSheet.the-variants.{Document01, HalfEven, Expanded}
 use Rattle.capi.specs.TextRule.{ruled, noRoom, sheetNamed}
 
--- ---- the call of the sheet that is named, and a code that is handed on
+-- ---- the call of the sheet that is named
 pub named-call : (sheet k : NamedSheet) (rows : List Row) (jd : JulianDate) {l out : List ℕ} {r : TextByRule} → sheet ≡ k
     → TextRuleCall (textByRule (sheetNamed k) rows jd) l r out → TextRuleCall (textByRule (sheetNamed sheet) rows jd) l r out
 named-call sheet k rows jd {l} {out} {r} e p = subst (λ (x : NamedSheet). TextRuleCall (textByRule (sheetNamed x) rows jd) l r out) (sym e) p
-
-pub handed-on : {o : Outcome (List ℕ × List ℕ)} {b b′ out out′ : List ℕ} {r : ℤ} → mag r < 2 ^ 63 → DeliveredTwo o b b′ r out out′ → DeliveredTwo o b b′ (toZ w64 (ofZ w64 r)) out out′
-handed-on {o} {b} {b′} {out} {out′} ok d = subst (λ (z : ℤ). DeliveredTwo o b b′ z out out′) (sym (code-back ok)) d
 
 -- ---- the rule has no room
 nothing-told : (o : Outcome (List ℕ × Rule)) (m k : ℕ) → writtenByRule o m ≡ refusal k → refusal k ≡ noRoom o

@@ -1,12 +1,23 @@
 -- `capi::text_calls::ct_to_iso8601_half_even` meets its contract. Assumes nothing.
+use mathlib.Core.Path.{refl}
+use Rattle.capi.proofs.Arrays.{text-lent-refused, text-with-lent}
 use borrow.Author.Needs.{needs}
-use Rattle.capi.specs.TextRule.{sheetNamed}
-use Rattle.capi.proofs.TextRules.{handed-on}
 use Rattle.capi.proofs.text_calls.ct_to_iso8601_half_even.Statement.{statement}
 use Rattle.capi.proofs.text_calls.ct_to_iso8601_half_even.Tie as tie
 
-text-call-requires : tie.Need-text-call-requires
-text-call-requires c κs = search needs
+read-table-requires : tie.Need-read-table-requires
+read-table-requires c κs = search needs
+
+refused-requires : tie.Need-refused-requires
+refused-requires c κs = search needs
+
+returns : tie.Need-returns
+returns c =
+    let n = c .before .before in
+    text-lent-refused _ _ (n .read-table .result .number) (n .read-table .ensures .0 refl refl) _ (c .refused .ok) (c .before .if1 .taken) (c .refused .ensures)
+
+put-half-even-requires : tie.Need-put-half-even-requires
+put-half-even-requires c κs = search needs
 
 same-length : tie.Need-same-length
 same-length c = search needs
@@ -14,10 +25,21 @@ same-length c = search needs
 same-length-2 : tie.Need-same-length-2
 same-length-2 c = search needs
 
-returns : tie.Need-returns
-unfolding sheetNamed
-returns c = let p = c .before .before .before .before in handed-on (p .text-call .ok) (p .text-call .ensures)
+returns-2 : tie.Need-returns-2
+returns-2 c =
+    let p = c .before .before .before .before in
+    let b = p .before .before .before .before .before in
+    let n = b .before in
+    text-with-lent _ _ (n .read-table .result .number) (n .read-table .ensures .0 refl refl) _ (p .put-half-even .ok) (b .if1 .left) (p .put-half-even .ensures)
 
 pub ct-to-iso8601-half-even-spec : {M : Type 1} → statement M
 ct-to-iso8601-half-even-spec =
-    tie.close (tie.spec text-call-requires same-length same-length-2 returns)
+    tie.close
+    (tie.spec
+    read-table-requires
+    refused-requires
+    returns
+    put-half-even-requires
+    same-length
+    same-length-2
+    returns-2)
