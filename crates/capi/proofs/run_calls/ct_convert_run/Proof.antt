@@ -15,8 +15,9 @@ refused-requires c κs = search needs
 
 returns : tie.Need-returns
 returns c =
-    let s = c .before .before .before .before .before .before .before .before .before .before .before .before .before .before in
-    run-table-refused _ (c .before .before .before .before .before .before .before .size-in .result) (c .before .before .before .before .before .before .months-in .result) (c .before .before .before .before .before .seconds-in .result) (c .before .before .lent-number .result) (c .before .before .before .before .before .before .before .size-in .ensures) (c .before .before .before .before .before .before .months-in .ensures) (c .before .before .before .before .before .seconds-in .ensures) (c .before .before .lent-number .ensures) (s .args .from) (s .args .to) (now (s .args .jd1)) (now (s .args .jd2)) (now (s .args .out1)) (now (s .args .out2)) (now (s .args .numbers)) (c .refused .ok) (c .before .if1 .taken) (c .refused .ensures)
+    let n = c .before .before in
+    let s = n .before .before .before .before .before .before .before .before .before in
+    run-table-refused _ _ (n .read-table .result .number) (n .read-table .ensures .0 refl refl) (s .args .from) (s .args .to) (now (s .args .jd1)) (now (s .args .jd2)) (now (s .args .out1)) (now (s .args .out2)) (now (s .args .numbers)) (c .refused .ok) (c .before .if1 .taken) (c .refused .ensures)
 
 convert-run-by-lent-requires : tie.Need-convert-run-by-lent-requires
 convert-run-by-lent-requires c κs = search needs
@@ -26,8 +27,11 @@ enum-known-n c = search needs
 
 cast-result : tie.Need-cast-result
 cast-result c =
-    let s = c .before .before .before .before .before .before .before .before .before .before .before .before .before .before .before .before .before .before .before .before .before .before .before .before .before .before .before .before in
-    record { sfits = omega (arith, run-counted _ (c .before .before .before .before .before .before .before .before .before .before .before .before .before .before .before .before .before .before .before .before .before .size-in .result) (c .before .before .before .before .before .before .before .before .before .before .before .before .before .before .before .before .before .before .before .before .months-in .result) (c .before .before .before .before .before .before .before .before .before .before .before .before .before .before .before .before .before .before .before .seconds-in .result) (c .before .before .before .before .before .before .before .before .before .before .before .before .before .before .before .before .lent-number .result) (c .before .before .before .before .before .before .before .before .before .before .before .before .before .before .before .before .before .before .before .before .before .size-in .ensures) (c .before .before .before .before .before .before .before .before .before .before .before .before .before .before .before .before .before .before .before .before .months-in .ensures) (c .before .before .before .before .before .before .before .before .before .before .before .before .before .before .before .before .before .before .before .seconds-in .ensures) (c .before .before .before .before .before .before .before .before .before .before .before .before .before .before .before .before .lent-number .ensures) (s .args .from) (s .args .to) (now (s .args .jd1)) (now (s .args .jd2)) (now (s .args .out1)) (now (s .args .out2)) (now (s .args .numbers)) (c .before .before .before .before .before .before .before .before .before .before .before .before .before .before .before .if1 .left) (c .before .before .before .before .before .before .before .before .before .convert-run-by-lent .result) (c .before .before .before .before .before .before .before .before .before .convert-run-by-lent .ensures) _ (c .before .n .given .1), s .good) }
+    let i = c .before .before .before .before .before .before .before .before .before .before .before .before .before .before .before in
+    let n = i .before in
+    let s = n .before .before .before .before .before .before .before .before .before in
+    let f = c .before .before .before .before .before .before .before .before .before in
+    record { sfits = omega (arith, run-counted _ _ (n .read-table .result .number) (n .read-table .ensures .0 refl refl) (s .args .from) (s .args .to) (now (s .args .jd1)) (now (s .args .jd2)) (now (s .args .out1)) (now (s .args .out2)) (now (s .args .numbers)) (i .if1 .left) (f .convert-run-by-lent .result) (f .convert-run-by-lent .ensures) _ (c .before .n .given .1), s .good) }
 
 enum-known-number : tie.Need-enum-known-number
 enum-known-number c = search needs
@@ -46,8 +50,12 @@ same-length-3 c = search needs
 
 returns-2 : tie.Need-returns-2
 returns-2 c =
-    let s = c .before .before .before .before .before .before .before .before .before .before .before .before .before .before .before .before .before .before .before .before .before .before .before .before .before .before .before .before in
-    run-converted _ (c .before .before .before .before .before .before .before .before .before .before .before .before .before .before .before .before .before .before .before .before .before .size-in .result) (c .before .before .before .before .before .before .before .before .before .before .before .before .before .before .before .before .before .before .before .before .months-in .result) (c .before .before .before .before .before .before .before .before .before .before .before .before .before .before .before .before .before .before .before .seconds-in .result) (c .before .before .before .before .before .before .before .before .before .before .before .before .before .before .before .before .lent-number .result) (c .before .before .before .before .before .before .before .before .before .before .before .before .before .before .before .before .before .before .before .before .before .size-in .ensures) (c .before .before .before .before .before .before .before .before .before .before .before .before .before .before .before .before .before .before .before .before .months-in .ensures) (c .before .before .before .before .before .before .before .before .before .before .before .before .before .before .before .before .before .before .before .seconds-in .ensures) (c .before .before .before .before .before .before .before .before .before .before .before .before .before .before .before .before .lent-number .ensures) (s .args .from) (s .args .to) (now (s .args .jd1)) (now (s .args .jd2)) (now (s .args .out1)) (now (s .args .out2)) (now (s .args .numbers)) (c .before .before .before .before .before .before .before .before .before .before .before .before .before .before .before .if1 .left) (c .before .before .before .before .before .before .before .before .before .convert-run-by-lent .result) (c .before .before .before .before .before .before .before .before .before .convert-run-by-lent .ensures) _ (c .before .n .given .1) (omega (arith, run-counted _ (c .before .before .before .before .before .before .before .before .before .before .before .before .before .before .before .before .before .before .before .before .before .size-in .result) (c .before .before .before .before .before .before .before .before .before .before .before .before .before .before .before .before .before .before .before .before .months-in .result) (c .before .before .before .before .before .before .before .before .before .before .before .before .before .before .before .before .before .before .before .seconds-in .result) (c .before .before .before .before .before .before .before .before .before .before .before .before .before .before .before .before .lent-number .result) (c .before .before .before .before .before .before .before .before .before .before .before .before .before .before .before .before .before .before .before .before .before .size-in .ensures) (c .before .before .before .before .before .before .before .before .before .before .before .before .before .before .before .before .before .before .before .before .months-in .ensures) (c .before .before .before .before .before .before .before .before .before .before .before .before .before .before .before .before .before .before .before .seconds-in .ensures) (c .before .before .before .before .before .before .before .before .before .before .before .before .before .before .before .before .lent-number .ensures) (s .args .from) (s .args .to) (now (s .args .jd1)) (now (s .args .jd2)) (now (s .args .out1)) (now (s .args .out2)) (now (s .args .numbers)) (c .before .before .before .before .before .before .before .before .before .before .before .before .before .before .before .if1 .left) (c .before .before .before .before .before .before .before .before .before .convert-run-by-lent .result) (c .before .before .before .before .before .before .before .before .before .convert-run-by-lent .ensures) _ (c .before .n .given .1), s .good))
+    let i = c .before .before .before .before .before .before .before .before .before .before .before .before .before .before .before in
+    let n = i .before in
+    let s = n .before .before .before .before .before .before .before .before .before in
+    let f = c .before .before .before .before .before .before .before .before .before in
+    run-converted _ _ (n .read-table .result .number) (n .read-table .ensures .0 refl refl) (s .args .from) (s .args .to) (now (s .args .jd1)) (now (s .args .jd2)) (now (s .args .out1)) (now (s .args .out2)) (now (s .args .numbers)) (i .if1 .left) (f .convert-run-by-lent .result) (f .convert-run-by-lent .ensures) _ (c .before .n .given .1)
+    (omega (arith, run-counted _ _ (n .read-table .result .number) (n .read-table .ensures .0 refl refl) (s .args .from) (s .args .to) (now (s .args .jd1)) (now (s .args .jd2)) (now (s .args .out1)) (now (s .args .out2)) (now (s .args .numbers)) (i .if1 .left) (f .convert-run-by-lent .result) (f .convert-run-by-lent .ensures) _ (c .before .n .given .1), s .good))
 
 same-length-4 : tie.Need-same-length-4
 same-length-4 c = search needs
@@ -60,8 +68,11 @@ same-length-6 c = search needs
 
 returns-3 : tie.Need-returns-3
 returns-3 c =
-    let s = c .before .before .before .before .before .before .before .before .before .before .before .before .before .before .before .before .before .before .before .before .before .before .before .before .before .before .before .before .before in
-    run-refused _ (c .before .before .before .before .before .before .before .before .before .before .before .before .before .before .before .before .before .before .before .before .before .before .size-in .result) (c .before .before .before .before .before .before .before .before .before .before .before .before .before .before .before .before .before .before .before .before .before .months-in .result) (c .before .before .before .before .before .before .before .before .before .before .before .before .before .before .before .before .before .before .before .before .seconds-in .result) (c .before .before .before .before .before .before .before .before .before .before .before .before .before .before .before .before .before .lent-number .result) (c .before .before .before .before .before .before .before .before .before .before .before .before .before .before .before .before .before .before .before .before .before .before .size-in .ensures) (c .before .before .before .before .before .before .before .before .before .before .before .before .before .before .before .before .before .before .before .before .before .months-in .ensures) (c .before .before .before .before .before .before .before .before .before .before .before .before .before .before .before .before .before .before .before .before .seconds-in .ensures) (c .before .before .before .before .before .before .before .before .before .before .before .before .before .before .before .before .before .lent-number .ensures) (s .args .from) (s .args .to) (now (s .args .jd1)) (now (s .args .jd2)) (now (s .args .out1)) (now (s .args .out2)) (now (s .args .numbers)) (c .before .before .before .before .before .before .before .before .before .before .before .before .before .before .before .before .if1 .left) (c .before .before .before .before .before .before .before .before .before .before .convert-run-by-lent .result) (c .before .before .before .before .before .before .before .before .before .before .convert-run-by-lent .ensures) _ (c .refused2 .ok) (c .before .before .number .given .1) (c .refused2 .ensures)
+    let i = c .before .before .before .before .before .before .before .before .before .before .before .before .before .before .before .before in
+    let n = i .before in
+    let s = n .before .before .before .before .before .before .before .before .before in
+    let f = c .before .before .before .before .before .before .before .before .before .before in
+    run-refused _ _ (n .read-table .result .number) (n .read-table .ensures .0 refl refl) (s .args .from) (s .args .to) (now (s .args .jd1)) (now (s .args .jd2)) (now (s .args .out1)) (now (s .args .out2)) (now (s .args .numbers)) (i .if1 .left) (f .convert-run-by-lent .result) (f .convert-run-by-lent .ensures) _ (c .refused2 .ok) (c .before .before .number .given .1) (c .refused2 .ensures)
 
 pub ct-convert-run-spec : {M : Type 1} → statement M
 ct-convert-run-spec =
