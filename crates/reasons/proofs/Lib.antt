@@ -1,0 +1,5 @@
+-- The laws that the proofs of `reasons` cite.
+pub mod Places
+pub mod Numbers
+pub mod FieldTests
+pub mod Told
