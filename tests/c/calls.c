@@ -8,6 +8,7 @@
 #include "table_calls.h"
 #include "line_up_calls.h"
 #include "standby_calls.h"
+#include "reason_calls.h"
 #include "tick_calls.h"
 #include "walk_calls.h"
 
@@ -412,6 +413,7 @@ int main(void)
     block_calls();
     read_numbers();
     read_answers();
+    reason_calls();
     tick_calls();
     table_calls();
     standby_calls();
