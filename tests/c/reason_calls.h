@@ -45,7 +45,7 @@ static void reason_calls(void)
     TELLS("time is not in the day", REASON(ct_time_reason, 4, 23, 59, 60.0, 1.0));
     TELLS("time is not in the day: seconds 7ff8000000000000", REASON(ct_time_reason, 4, 0, 0, -nan, 0.0));
     TELLS("date is outside the calendar: sum 7ff8000000000000", REASON(ct_parts_reason, 6, infinity, -infinity));
-    TELLS("date is outside the calendar: sum 41cdcd6500000001", REASON(ct_parts_reason, 6, 1e9, 2e-7));
+    TELLS("date is outside the calendar: sum 41cdcd6500000002", REASON(ct_parts_reason, 6, 1e9, 2e-7));
     TELLS("date is outside the calendar", REASON(ct_parts_reason, 6, 1e9, 0.0));
     TELLS("part of the date is not finite: jd1 7ff0000000000000", REASON(ct_parts_reason, 9, infinity, nan));
     TELLS("part of the date is not finite: jd2 fff0000000000000", REASON(ct_parts_reason, 9, 0.0, -infinity));
