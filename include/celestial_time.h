@@ -52,7 +52,7 @@
      16  more than 13 digits after a second's point
      17  date or stamp earlier than the one before it
      18  field of a GPS week over its limit, or date before the first week or past the last; in
-         ct_convert_run a scale that it does not take
+         ct_convert_run a scale that it does not take; number of a refusal not 1 to 28
      19  two weeks with the same ten bits equally near the reference
      20  sizes of a lent table differ, or above 16
      21  row of a lent table not later than the one before it
@@ -376,6 +376,33 @@ int64_t ct_block_stamps(const uint8_t *block, size_t block_len);
    plus the line ends (byte 10) in this one. Refuses the table; then 11, where out_len is below 33. */
 int64_t ct_listing_part(const uint8_t *block, size_t block_len, uint32_t line, const uint8_t *table,
                         size_t table_len, uint8_t *out, size_t out_len);
+
+/* ---- A refusal's reason as a sentence, in plain English: docs/SENTENCES.md has them all */
+
+/* The sentence of a refusal's number, 1 to 28, for a screen: printable ASCII, no line end, at most
+   CT_SENTENCE_BYTES. Returns its bytes. ct_reason has no values, and its sentence names no field. The others
+   take the values that the refused call's test read, and where a value fails the test of that number, the
+   sentence ends with the field and its value: ": month 13". A whole number is decimal; a float is the 16
+   hexadecimal digits of its bits, any NaN 7ff8000000000000. Each number goes by its own test alone: 3 with
+   month 13 names the day. A number that is not of the call's group names none, and so do values that pass.
+      ct_date_reason   1 year, 2 month, 3 day
+      ct_time_reason   4 the first wrong one of hour, minute, second; leap is the day's length less 86,400 s
+      ct_parts_reason  6 the rounded sum jd1 + jd2, 9 the first part that is not finite
+      ct_float_reason  7 a fraction, 10 an offset
+      ct_count_reason  8 nanos
+      ct_block_reason  12 the second size, 13 the size, 14 the whole length
+   Each refuses 18 for a number that is not 1 to 28; 11. Number 0 with no byte is 18. */
+#define CT_SENTENCE_BYTES 57
+int64_t ct_reason(uint32_t number, uint8_t *out, size_t out_len);
+int64_t ct_date_reason(uint32_t number, int32_t year, int32_t month, int32_t day, uint8_t *out,
+                       size_t out_len);
+int64_t ct_time_reason(uint32_t number, uint8_t hour, uint8_t minute, double second, double leap,
+                       uint8_t *out, size_t out_len);
+int64_t ct_parts_reason(uint32_t number, double jd1, double jd2, uint8_t *out, size_t out_len);
+int64_t ct_float_reason(uint32_t number, double x, uint8_t *out, size_t out_len);
+int64_t ct_count_reason(uint32_t number, uint32_t n, uint8_t *out, size_t out_len);
+int64_t ct_block_reason(uint32_t number, uint64_t length, uint32_t size, uint32_t second_size, uint8_t *out,
+                        size_t out_len);
 
 /* ---- Ticks between marker passes: lists of 8 bytes a number, the lowest byte first */
 

@@ -10,6 +10,7 @@
 #include "line_up_calls.h"
 #include "run_calls.h"
 #include "standby_calls.h"
+#include "reason_calls.h"
 #include "tick_calls.h"
 #include "walk_calls.h"
 
@@ -415,6 +416,7 @@ int main(void)
     block_calls();
     read_numbers();
     read_answers();
+    reason_calls();
     tick_calls();
     table_calls();
     standby_calls();

@@ -26,7 +26,7 @@ use Rattle.parsing.specs.declared.ParsedUtc.{ParsedUtc}
 use Rattle.parsing.specs.declared.ParsedUtcAnswer.{ParsedUtcAnswer}
 use Rattle.parsing.specs.declared.ParsedUtcAnswer.the-variants as Utc
 use Rattle.parsing.specs.Parsed.{parsedUtcOutcome, parsedUtc}
-use Rattle.stamps.specs.Placed.{pasted, Placed}
+use Rattle.digits.specs.Placed.{pasted, Placed}
 use Rattle.readings.specs.Reading.{reading, told, LineCall}
 
 -- ---- the digits that `io::decimal` writes, as few as hold the number, are the number's

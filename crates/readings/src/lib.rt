@@ -9,7 +9,7 @@ ghost use Rattle.digits.specs.Decimal.{digitsOf};
 ghost use Rattle.refusals.specs.Outcome.{refusal};
 ghost use Rattle.tai_utc.specs.Lent.{rowsOf};
 ghost use Rattle.utc.specs.Expanded.{isoTextExpanded};
-ghost use Rattle.stamps.specs.Placed.{Placed};
+ghost use Rattle.digits.specs.Placed.{Placed};
 ghost use Rattle.readings.specs.Reading.{reading, told, readingLine, LineCall};
 
 // So many bytes hold every line: an index of 64 bits has at most 20 digits, and so has a refusal's number for all that is proved of it; `refused` with its blank has 8, the

@@ -17,7 +17,7 @@ use Rattle.tai_utc.proofs.TablesTaken.{turned-away, taken}
 use Rattle.stamps.specs.declared.Part.{Part}
 use Rattle.stamps.specs.declared.LinesAnswer.the-variants.{Lines, Refused}
 use Rattle.stamps.specs.Block.{blockOf}
-use Rattle.stamps.specs.Placed.{pasted, Placed}
+use Rattle.digits.specs.Placed.{pasted, Placed}
 use Rattle.stamps.specs.Parts.{lineOf, linesIn, linesFrom, heldLines, partLines, partText, partOf, PartPlaced, linesOutcome, scratchHolds, PartCall}
 use Rattle.stamps.proofs.Blocks.{few-lines}
 

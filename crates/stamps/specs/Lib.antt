@@ -2,4 +2,3 @@
 pub mod Block
 pub mod Listing
 pub mod Parts
-pub mod Placed

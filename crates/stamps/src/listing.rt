@@ -13,7 +13,7 @@ ghost use Rattle.tai_utc.specs.Table.{Row};
 ghost use Rattle.tai_utc.specs.Lent.{rowsOf, tableOf};
 ghost use Rattle.utc.specs.Expanded.{isoTextExpanded};
 ghost use Rattle.stamps.specs.Block.{blockOutcome, blockOf};
-ghost use Rattle.stamps.specs.Placed.{Placed};
+ghost use Rattle.digits.specs.Placed.{Placed};
 ghost use Rattle.stamps.specs.Listing.{shown, stampLine, oneIfRefused, refusedIn, header, blockRefused};
 ghost use Rattle.stamps.specs.Parts.{lineOf, linesIn, PartPlaced, PartCall};
 use super::BlockAnswer;

@@ -4,7 +4,7 @@ use denote.Ref.{now}
 use Rattle.tai_utc.specs.Lent.{rowsOf}
 use Rattle.readings.specs.Reading.{told}
 use Rattle.readings.proofs.Lines.{read-refused, read-dated}
-use Rattle.stamps.proofs.Places.{placed-as}
+use Rattle.digits.proofs.Places.{placed-as}
 use borrow.Author.Needs.{needs}
 use Rattle.readings.proofs.place_reading.Statement.{statement}
 use Rattle.readings.proofs.place_reading.Tie as tie

@@ -4,7 +4,7 @@ use Prim.Native.Nat.{ℕ, _+_}
 use denote.Ref.{now}
 use native.Mathlib.Omega.{arith}
 use Rattle.tai_utc.specs.Lent.{rowsOf}
-use Rattle.stamps.proofs.Places.{lent-length, part-put, part-kept, placed-as, placed-into}
+use Rattle.digits.proofs.Places.{lent-length, part-put, part-kept, placed-as, placed-into}
 use Rattle.readings.specs.Reading.{told}
 use Rattle.readings.proofs.Lines.{short, text-written, text-refused}
 use borrow.Author.Needs.{needs}

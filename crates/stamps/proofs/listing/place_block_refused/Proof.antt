@@ -1,7 +1,7 @@
 -- `listing::place_block_refused` meets its contract: three writes, one after the other. Assumes nothing.
 use native.Mathlib.Omega.{arith}
 use Rattle.stamps.specs.Listing.{blockRefused}
-use Rattle.stamps.proofs.Places.{then}
+use Rattle.digits.proofs.Places.{then}
 use borrow.Author.Needs.{needs}
 use Rattle.stamps.proofs.listing.place_block_refused.Statement.{statement}
 use Rattle.stamps.proofs.listing.place_block_refused.Tie as tie

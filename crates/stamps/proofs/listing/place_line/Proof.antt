@@ -2,7 +2,7 @@
 use borrow.Author.Needs.{needs}
 use denote.Ref.{now}
 use native.Mathlib.Omega.{arith}
-use Rattle.stamps.proofs.Places.{placed-as}
+use Rattle.digits.proofs.Places.{placed-as}
 use Rattle.stamps.proofs.Lines.{refused-line, stamps-few, within, header-line, stamp-line}
 use Rattle.stamps.proofs.listing.place_line.Statement.{statement}
 use Rattle.stamps.proofs.listing.place_line.Tie as tie

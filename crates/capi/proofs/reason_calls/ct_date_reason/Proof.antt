@@ -1,0 +1,23 @@
+-- `capi::reason_calls::ct_date_reason` meets its contract. Assumes nothing.
+use mir.Facts.{toZ-ofZ}
+use Rattle.reasons.specs.declared.Values.the-variants.{Date}
+use Rattle.reasons.specs.Sentence.{sentence}
+use Rattle.capi.proofs.Texts.{told-on}
+use borrow.Author.Needs.{needs}
+use Rattle.capi.proofs.reason_calls.ct_date_reason.Statement.{statement}
+use Rattle.capi.proofs.reason_calls.ct_date_reason.Tie as tie
+
+told-requires : tie.Need-told-requires
+told-requires c κs = search needs
+
+same-length : tie.Need-same-length
+same-length c = search needs
+
+returns : tie.Need-returns
+returns c =
+    let t = c .before .before in
+    let s = t .before .before .before in
+    told-on (t .told .ok) (λ i. sentence (s .args .number) (Date (toZ-ofZ (s .fits .year) i) (toZ-ofZ (s .fits .month) i) (toZ-ofZ (s .fits .day) i))) (t .told .ensures)
+
+pub ct-date-reason-spec : {M : Type 1} → statement M
+ct-date-reason-spec = tie.close (tie.spec told-requires same-length returns)

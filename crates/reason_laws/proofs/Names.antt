@@ -1,0 +1,267 @@
+-- A refusal names its field: where a call of document 01 refuses by a number, the reason of that number with the call's values names the field that the call's test found
+-- wrong; and values that the test passes name none. Each law is of the landed definition of the call. Assumes nothing.
+use Prim.Native.Nat.{ℕ, _+_, _*_, _≤_, _<_}
+use native.Mathlib.Omega.{arith}
+use mathlib.Core.Path.{_≡_, refl, sym, ap, _∙_}
+use mathlib.Core.Bool.{Bool, true, false, cond, not, _&&_, _||_}
+use mathlib.Core.Logic.{_⊎_, inl, inr}
+use mathlib.Core.List.{List}
+use lib.Dec.{eqb, ltb, leb}
+use lib.ListN.{length}
+use lib.IntN.{ℤ, pos, negsuc, natAbs}
+use lib.Signed.{ltZ}
+use lib.Ieee.{Float, binary64, ofInt, add, le, lt}
+use lib.Ieee.Scale.{finite}
+use borrow.Author.Tests.{ltb-true, le-leb, ne-eqb}
+use Rattle.refusals.specs.Outcome.{Outcome, answer, refusal, onward}
+use Rattle.little_endian.specs.LittleEndian.{u32At}
+use Rattle.floats.specs.Whole.{nought}
+use Rattle.calendar.specs.Calendar.{daysInMonth}
+use Rattle.calendar.specs.Refusals.{validDate}
+use Rattle.calendar.specs.DayCount.{mjdNumber, mjdOf}
+use Rattle.day_number.specs.DayNumber.{inJulianRange, accepted}
+use Rattle.day_number.specs.declared.DayNumber.{DayNumber}
+use Rattle.day_number.specs.Answer.{dayNumberAndFraction}
+use Rattle.julian.specs.declared.JulianDate.{JulianDate}
+use Rattle.julian.specs.JulianDate.{julian, roundedSum}
+use Rattle.julian.specs.DayFraction.{secondLimit, timeInDay, dayFraction}
+use Rattle.julian.specs.Finite.{finiteJd, finiteArg}
+use Rattle.tai_utc.specs.Table.{Row, monthNumber}
+use Rattle.tai_utc.specs.Offset.{offsetAt, inDay, taiUtcOffset}
+use Rattle.stamps.specs.Block.{blockOf}
+use Rattle.reasons.specs.declared.Named.{Named}
+use Rattle.reasons.specs.declared.Named.the-variants.{NoField, Year, Month, Day, Hour, Minute, Second, Sum, Fraction, Nanos, FirstPart, SecondPart, Offset, SecondSize, Size, WholeLength}
+use Rattle.reasons.specs.declared.Values.{Values}
+use Rattle.reasons.specs.declared.Values.the-variants.{Date, Time, Parts, Number, Count, Block}
+use Rattle.reasons.specs.declared.Reason.{Reason}
+use Rattle.reasons.specs.Offending.{offending, dateField, yearField, monthField, dayField, timeField, sumField, partField, partsField, floatField, nanosField, blockField}
+use Rattle.reasons.specs.Sentence.{reasonOf}
+use Rattle.reasons.proofs.FieldTests.{hour-wrong, minute-wrong}
+
+-- number k with this field
+abbrev names : ℕ → Named → Outcome Reason
+names k f = answer (record { number = k; named = f })
+
+-- an impossible outcome
+no-answer : {A : Type 0} {a : A} {k : ℕ} → answer a ≡ refusal k → ⊥
+no-answer e = let z : _≡_ {A = ℕ} 0 1 = cc in omega arith
+
+no-refusal : {A : Type 0} {a : A} {k : ℕ} → refusal k ≡ answer a → ⊥
+no-refusal e = let z : _≡_ {A = ℕ} 0 1 = cc in omega arith
+
+other : {A : Type 0} {j k : ℕ} → _≡_ {A = Outcome A} (refusal j) (refusal k) → j ≡ k
+other e = cc
+
+-- one test
+tested : {A : Type 0} (a : A) (k : ℕ) (b : Bool) → cond b (answer a) (refusal k) ≡ refusal k → b ≡ false
+tested a k true e = absurd (no-answer e)
+tested a k false e = refl
+
+passed : {A : Type 0} (a x : A) (k : ℕ) (b : Bool) → cond b (answer a) (refusal k) ≡ answer x → b ≡ true
+passed a x k true e = refl
+passed a x k false e = absurd (no-refusal e)
+
+-- ---- 1, 2, 3: a date
+module _ (a b c : Bool) where
+  abbrev three : Outcome Unit
+  three = cond a (refusal 1) (cond b (refusal 2) (cond c (refusal 3) (answer tt)))
+
+by-year : (a b c : Bool) → three a b c ≡ refusal 1 → a ≡ true
+by-year true b c e = refl
+by-year false true c e = absurd (omega (arith, other e))
+by-year false false true e = absurd (omega (arith, other e))
+by-year false false false e = absurd (no-answer e)
+
+by-month : (a b c : Bool) → three a b c ≡ refusal 2 → b ≡ true
+by-month true b c e = absurd (omega (arith, other e))
+by-month false true c e = refl
+by-month false false true e = absurd (omega (arith, other e))
+by-month false false false e = absurd (no-answer e)
+
+by-day : (a b c : Bool) → three a b c ≡ refusal 3 → c ≡ true
+by-day true b c e = absurd (omega (arith, other e))
+by-day false true c e = absurd (omega (arith, other e))
+by-day false false true e = refl
+by-day false false false e = absurd (no-answer e)
+
+by-none : (a b c : Bool) → three a b c ≡ answer tt → (a ≡ false) × (b ≡ false) × (c ≡ false)
+by-none true b c e = absurd (no-refusal e)
+by-none false true c e = absurd (no-refusal e)
+by-none false false true e = absurd (no-refusal e)
+by-none false false false e = (refl, refl, refl)
+
+abbrev early : ℤ → Bool
+early y = ltZ y (negsuc 4798)
+
+abbrev no-month : ℤ → Bool
+no-month m = ltZ m (pos 1) || ltZ (pos 12) m
+
+abbrev no-day : ℤ → ℤ → ℤ → Bool
+no-day y m d = ltZ d (pos 1) || ltZ (pos (daysInMonth y m)) d
+
+module _ (y m d : ℤ) where
+  pub year-told : validDate y m d ≡ refusal 1 → reasonOf 1 (Date y m d) ≡ names 1 (Year y)
+  unfolding validDate reasonOf offending dateField yearField
+  year-told e = rw (by-year (early y) (no-month m) (no-day y m d) e)
+
+  pub month-told : validDate y m d ≡ refusal 2 → reasonOf 2 (Date y m d) ≡ names 2 (Month m)
+  unfolding validDate reasonOf offending dateField monthField
+  month-told e = rw (by-month (early y) (no-month m) (no-day y m d) e)
+
+  pub day-told : validDate y m d ≡ refusal 3 → reasonOf 3 (Date y m d) ≡ names 3 (Day d)
+  unfolding validDate reasonOf offending dateField dayField
+  day-told e = rw (by-day (early y) (no-month m) (no-day y m d) e)
+
+  -- a date that is taken names none, by whatever number
+  pub date-passes : (k : ℕ) → validDate y m d ≡ answer tt → offending k (Date y m d) ≡ NoField
+  unfolding validDate offending dateField yearField monthField dayField
+  date-passes k e =
+      let n : (early y ≡ false) × (no-month m ≡ false) × (no-day y m d ≡ false) = by-none (early y) (no-month m) (no-day y m d) e in
+      rw (n .0, n .1, n .2) (whichever (eqb k 1) (eqb k 2) (eqb k 3))
+    where
+      whichever : (p q r : Bool) → cond p NoField (cond q NoField (cond r NoField NoField)) ≡ NoField
+      whichever true q r = refl
+      whichever false true r = refl
+      whichever false false true = refl
+      whichever false false false = refl
+
+-- ---- 4: a time, by the first of its fields that is wrong
+module _ (hour minute : ℕ) (second leap : Float) where
+  pub hour-told : 23 < hour → reasonOf 4 (Time hour minute second leap) ≡ names 4 (Hour hour)
+  unfolding reasonOf offending
+  hour-told h = ap (names 4) (sym (hour-wrong hour minute second leap h))
+
+  pub minute-told : hour ≤ 23 → 59 < minute → reasonOf 4 (Time hour minute second leap) ≡ names 4 (Minute minute)
+  unfolding reasonOf offending
+  minute-told h m = ap (names 4) (sym (minute-wrong hour minute second leap h m))
+
+  pub second-told : dayFraction hour minute second leap ≡ refusal 4 → hour ≤ 23 → minute ≤ 59 → reasonOf 4 (Time hour minute second leap) ≡ names 4 (Second second)
+  unfolding reasonOf offending dayFraction timeField
+  second-told e h m = rw (le-leb hour 23 h, le-leb minute 59 m, tested _ 4 (timeInDay hour minute second leap) e)
+
+  -- a time that is taken names none
+  pub time-passes : (x : Float) → dayFraction hour minute second leap ≡ answer x → timeField hour minute second leap ≡ NoField
+  unfolding dayFraction timeField timeInDay
+  time-passes x e = go (leb hour 23) (leb minute 59) (le nought second && lt second (secondLimit hour minute leap)) (passed _ x 4 (timeInDay hour minute second leap) e)
+    where
+      go : (a b c : Bool) → (a && b) && c ≡ true → cond a (cond b (cond (not ((a && b) && c)) (Second second) NoField) (Minute minute)) (Hour hour) ≡ NoField
+      go true true true t = refl
+      go true true false t = let z : _≡_ {A = ℕ} 0 1 = cc in absurd (omega (arith, z))
+      go true false c t = let z : _≡_ {A = ℕ} 0 1 = cc in absurd (omega (arith, z))
+      go false b c t = let z : _≡_ {A = ℕ} 0 1 = cc in absurd (omega (arith, z))
+
+-- ---- 6: the rounded sum of the parts
+module _ (a b : Float) where
+  pub sum-told : dayNumberAndFraction a b ≡ refusal 6 → reasonOf 6 (Parts a b) ≡ names 6 (Sum (roundedSum (julian a b)))
+  unfolding reasonOf offending partsField sumField dayNumberAndFraction accepted roundedSum
+  sum-told e = rw (tested _ 6 (inJulianRange (add binary64 a b)) e)
+
+  pub sum-passes : (n : DayNumber) → dayNumberAndFraction a b ≡ answer n → offending 6 (Parts a b) ≡ NoField
+  unfolding offending partsField sumField dayNumberAndFraction accepted roundedSum
+  sum-passes n e = rw (passed _ n 6 (inJulianRange (add binary64 a b)) e)
+
+-- ---- 7: the fraction
+after-date : {A B C : Type 0} (f : A → B) (g : B → C) (a b c : Bool) (x : A) (k : ℕ)
+    → onward (onward (cond a (refusal 1) (cond b (refusal 2) (cond c (refusal 3) (answer x)))) (λ u. answer (f u))) (λ n. answer (g n)) ≡ refusal k → k ≤ 3
+unfolding onward
+after-date f g true b c x k e = omega (arith, other e)
+after-date f g false true c x k e = omega (arith, other e)
+after-date f g false false true x k e = omega (arith, other e)
+after-date f g false false false x k e = absurd (no-answer e)
+
+module _ (rows : List Row) (y m d : ℤ) (x : Float) where
+  pub fraction-told : taiUtcOffset rows y m d x ≡ refusal 7 → reasonOf 7 (Number x) ≡ names 7 (Fraction x)
+  unfolding reasonOf offending floatField taiUtcOffset mjdOf validDate
+  fraction-told e = rw (outside (inDay x) refl)
+    where
+      not-seven : onward (mjdOf y m d) (λ n. answer (offsetAt rows (monthNumber y (natAbs m)) (ofInt binary64 n) x)) ≡ refusal 7 → ⊥
+      not-seven q =
+          let h : 7 ≤ 3 = after-date {A = Unit} {B = ℤ} {C = Float} (λ u. mjdNumber y m d) (λ n. offsetAt rows (monthNumber y (natAbs m)) (ofInt binary64 n) x) (early y) (no-month m) (no-day y m d) tt 7 q in
+          omega (arith, h)
+
+      outside : (b : Bool) → inDay x ≡ b → inDay x ≡ false
+      outside true t = absurd (not-seven (rw t at e))
+      outside false t = t
+
+-- ---- 8: the nanoseconds
+module _ (n : ℕ) where
+  pub nanos-told : ltb n 1000000000 ≡ false → reasonOf 8 (Count n) ≡ names 8 (Nanos n)
+  unfolding reasonOf offending nanosField
+  nanos-told e = rw e
+
+  pub nanos-pass : ltb n 1000000000 ≡ true → offending 8 (Count n) ≡ NoField
+  unfolding offending nanosField
+  nanos-pass e = rw e
+
+-- ---- 9: the first part that is not finite
+module _ (d : JulianDate) where
+  pub part-told : finiteJd d ≡ refusal 9
+      → ((finite (d .jd1) ≡ false) × (reasonOf 9 (Parts (d .jd1) (d .jd2)) ≡ names 9 (FirstPart (d .jd1))))
+      ⊎ ((finite (d .jd1) ≡ true) × (reasonOf 9 (Parts (d .jd1) (d .jd2)) ≡ names 9 (SecondPart (d .jd2))))
+  unfolding reasonOf offending partsField partField finiteJd
+  part-told e = go (finite (d .jd1)) (finite (d .jd2)) refl refl (tested d 9 (finite (d .jd1) && finite (d .jd2)) e)
+    where
+      go : (a b : Bool) → finite (d .jd1) ≡ a → finite (d .jd2) ≡ b → finite (d .jd1) && finite (d .jd2) ≡ false
+          → ((finite (d .jd1) ≡ false) × (reasonOf 9 (Parts (d .jd1) (d .jd2)) ≡ names 9 (FirstPart (d .jd1))))
+          ⊎ ((finite (d .jd1) ≡ true) × (reasonOf 9 (Parts (d .jd1) (d .jd2)) ≡ names 9 (SecondPart (d .jd2))))
+      go false b p q t = inl (p, rw p)
+      go true false p q t = inr (p, rw (p, q))
+      go true true p q t = let z : _≡_ {A = Bool} true false = rw (p, q) at t in let w : _≡_ {A = ℕ} 0 1 = cc in absurd (omega (arith, w))
+
+  pub parts-pass : finiteJd d ≡ answer d → offending 9 (Parts (d .jd1) (d .jd2)) ≡ NoField
+  unfolding offending partsField partField finiteJd
+  parts-pass e = go (finite (d .jd1)) (finite (d .jd2)) (passed d d 9 (finite (d .jd1) && finite (d .jd2)) e)
+    where
+      go : (a b : Bool) → a && b ≡ true → cond a (cond (not b) (SecondPart (d .jd2)) NoField) (FirstPart (d .jd1)) ≡ NoField
+      go true true t = refl
+      go true false t = let z : _≡_ {A = ℕ} 0 1 = cc in absurd (omega (arith, z))
+      go false b t = let z : _≡_ {A = ℕ} 0 1 = cc in absurd (omega (arith, z))
+
+-- ---- 10: the offset
+module _ (x : Float) where
+  pub offset-told : finiteArg x ≡ refusal 10 → reasonOf 10 (Number x) ≡ names 10 (Offset x)
+  unfolding reasonOf offending floatField finiteArg
+  offset-told e = rw (tested x 10 (finite x) e)
+
+  pub offset-passes : finiteArg x ≡ answer x → offending 10 (Number x) ≡ NoField
+  unfolding offending floatField finiteArg
+  offset-passes e = rw (passed x x 10 (finite x) e)
+
+-- ---- 12, 13, 14: a block
+by-sizes : (n : ℕ) (a b c d : Bool) → cond a (refusal 14) (cond b (cond c (cond d (answer n) (refusal 14)) (refusal 13)) (refusal 12)) ≡ refusal 12 → b ≡ false
+by-sizes n true b c d e = absurd (omega (arith, other e))
+by-sizes n false true true true e = absurd (no-answer e)
+by-sizes n false true true false e = absurd (omega (arith, other e))
+by-sizes n false true false d e = absurd (omega (arith, other e))
+by-sizes n false false c d e = refl
+
+by-size : (n : ℕ) (a b c d : Bool) → cond a (refusal 14) (cond b (cond c (cond d (answer n) (refusal 14)) (refusal 13)) (refusal 12)) ≡ refusal 13 → c ≡ false
+by-size n true b c d e = absurd (omega (arith, other e))
+by-size n false true true true e = absurd (no-answer e)
+by-size n false true true false e = absurd (omega (arith, other e))
+by-size n false true false d e = refl
+by-size n false false c d e = absurd (omega (arith, other e))
+
+by-length : (n : ℕ) (a b c d : Bool) → cond a (refusal 14) (cond b (cond c (cond d (answer n) (refusal 14)) (refusal 13)) (refusal 12)) ≡ refusal 14 → (a ≡ true) ⊎ (d ≡ false)
+by-length n true b c d e = inl refl
+by-length n false true true true e = absurd (no-answer e)
+by-length n false true true false e = inr refl
+by-length n false true false d e = absurd (omega (arith, other e))
+by-length n false false c d e = absurd (omega (arith, other e))
+
+module _ (s : List ℕ) where
+  pub second-size-told : blockOf s ≡ refusal 12 → reasonOf 12 (Block (length s) (u32At s 0) (u32At s 4)) ≡ names 12 (SecondSize (u32At s 4))
+  unfolding reasonOf offending blockField blockOf
+  second-size-told e = rw (by-sizes (u32At s 0) (ltb (length s) 8) (eqb (u32At s 0) (u32At s 4)) (leb (u32At s 0) 4000) (eqb (length s) (8 + 16 * u32At s 0)) e)
+
+  pub size-told : blockOf s ≡ refusal 13 → reasonOf 13 (Block (length s) (u32At s 0) (u32At s 4)) ≡ names 13 (Size (u32At s 0))
+  unfolding reasonOf offending blockField blockOf
+  size-told e = rw (by-size (u32At s 0) (ltb (length s) 8) (eqb (u32At s 0) (u32At s 4)) (leb (u32At s 0) 4000) (eqb (length s) (8 + 16 * u32At s 0)) e)
+
+  pub length-told : blockOf s ≡ refusal 14 → reasonOf 14 (Block (length s) (u32At s 0) (u32At s 4)) ≡ names 14 (WholeLength (length s))
+  unfolding reasonOf offending blockField blockOf
+  length-told e = rw (wrong (by-length (u32At s 0) (ltb (length s) 8) (eqb (u32At s 0) (u32At s 4)) (leb (u32At s 0) 4000) (eqb (length s) (8 + 16 * u32At s 0)) e))
+    where
+      wrong : (ltb (length s) 8 ≡ true) ⊎ (eqb (length s) (8 + 16 * u32At s 0) ≡ false) → eqb (length s) (8 + 16 * u32At s 0) ≡ false
+      wrong (inl h) = ne-eqb (length s) (8 + 16 * u32At s 0) (λ q. omega (arith, ltb-true (length s) 8 h))
+      wrong (inr h) = h

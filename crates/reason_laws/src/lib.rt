@@ -1,0 +1,1 @@
+// Laws of the reasons in sentences; there is no code here.

@@ -1,0 +1,4 @@
+-- The laws that the proofs of `reasons` cite.
+pub mod Numbers
+pub mod FieldTests
+pub mod Told

@@ -1,0 +1,63 @@
+/* The reasons in sentences: a sentence of each number, the field of each, values that pass, a number outside, and a buffer of each length. */
+enum { REASON_ROOM = 64 };
+
+/* What the call before wrote: the text, or the refusal's number where it is below 0; the rest of the buffer, and all of it at a refusal, stays. */
+static void tells(const char *due, int64_t code, const uint8_t *got)
+{
+    size_t n = strlen(due), i;
+    int same = code == (int64_t)n && !memcmp(got, due, n);
+    for (i = n; i < REASON_ROOM; i++) same = same && got[i] == UNTOUCHED;
+    check(same, "in place of \"%s\" the code %ld", due, (long)code);
+}
+
+#define TELLS(due, call) do { uint8_t got[REASON_ROOM]; int64_t code; memset(got, UNTOUCHED, sizeof got); code = call; tells(due, code, got); } while (0)
+#define REASON(call_name, ...) call_name(__VA_ARGS__, got, sizeof got)
+
+static void reason_rooms(void)
+{
+    uint8_t got[REASON_ROOM];
+    size_t room, i;
+    for (room = 0; room < 30; room++) {
+        memset(got, UNTOUCHED, sizeof got);
+        int64_t code = ct_date_reason(2, 2000, 13, 1, got, room), due = room < 30 ? -11 : 30;
+        check(code == due, "30 bytes in %lu: %ld", (unsigned long)room, (long)code);
+        for (i = 0; i < sizeof got; i++) check(got[i] == UNTOUCHED, "byte %lu changed at 11", (unsigned long)i);
+    }
+    check(ct_date_reason(2, 2000, 13, 1, got, 30) == 30, "30 bytes in 30");
+    check(ct_reason(0, got, 0) == -18 && ct_reason(29, got, sizeof got) == -18 && ct_reason(UINT32_MAX, got, 0) == -18, "a number that is not 1 to 28");
+    check(ct_reason(28, got, 0) == -11, "11 after 18");
+}
+
+static void reason_calls(void)
+{
+    double infinity = ct_float_at((const uint8_t *)"\0\0\0\0\0\0\xf0\x7f"), nan = infinity - infinity;
+    TELLS("month is not 1 to 12", REASON(ct_reason, 2));
+    TELLS("both lengths of line are 0", REASON(ct_reason, 28));
+    TELLS("year is before -4799, in a bill 1972: year -2147483648", REASON(ct_date_reason, 1, INT32_MIN, 1, 1));
+    TELLS("year is before -4799, in a bill 1972", REASON(ct_date_reason, 1, -4799, 1, 1));
+    TELLS("month is not 1 to 12: month 13", REASON(ct_date_reason, 2, -5000, 13, 1));
+    TELLS("day is not in the month: day 30", REASON(ct_date_reason, 3, 2000, 2, 30));
+    TELLS("day is not in the month: day 1", REASON(ct_date_reason, 3, 2000, 13, 1));
+    TELLS("fraction is not 0 to 1", REASON(ct_date_reason, 7, -5000, 13, 40));
+    TELLS("time is not in the day: hour 24", REASON(ct_time_reason, 4, 24, 60, nan, 0.0));
+    TELLS("time is not in the day: minute 60", REASON(ct_time_reason, 4, 23, 60, nan, 0.0));
+    TELLS("time is not in the day: seconds 404e000000000000", REASON(ct_time_reason, 4, 23, 59, 60.0, 0.0));
+    TELLS("time is not in the day", REASON(ct_time_reason, 4, 23, 59, 60.0, 1.0));
+    TELLS("time is not in the day: seconds 7ff8000000000000", REASON(ct_time_reason, 4, 0, 0, -nan, 0.0));
+    TELLS("date is outside the calendar: sum 7ff8000000000000", REASON(ct_parts_reason, 6, infinity, -infinity));
+    TELLS("date is outside the calendar: sum 41cdcd6500000002", REASON(ct_parts_reason, 6, 1e9, 2e-7));
+    TELLS("date is outside the calendar", REASON(ct_parts_reason, 6, 1e9, 0.0));
+    TELLS("part of the date is not finite: jd1 7ff0000000000000", REASON(ct_parts_reason, 9, infinity, nan));
+    TELLS("part of the date is not finite: jd2 fff0000000000000", REASON(ct_parts_reason, 9, 0.0, -infinity));
+    TELLS("part of the date is not finite", REASON(ct_parts_reason, 9, 1e308, 1e308));
+    TELLS("fraction is not 0 to 1: fraction 3ff0000000000001", REASON(ct_float_reason, 7, 1.0000000000000002));
+    TELLS("fraction is not 0 to 1", REASON(ct_float_reason, 7, -0.0));
+    TELLS("offset is not finite: offset fff0000000000000", REASON(ct_float_reason, 10, -infinity));
+    TELLS("nanoseconds are a second or more: nanoseconds 4294967295", REASON(ct_count_reason, 8, UINT32_MAX));
+    TELLS("nanoseconds are a second or more", REASON(ct_count_reason, 8, 999999999));
+    TELLS("the two sizes differ: second size 7", REASON(ct_block_reason, 12, 8, 6, 7));
+    TELLS("there are too many stamps: size 4001", REASON(ct_block_reason, 13, 8, 4001, 2));
+    TELLS("the number of bytes is wrong: length 18446744073709551615", REASON(ct_block_reason, 14, UINT64_MAX, UINT32_MAX, 0));
+    TELLS("the number of bytes is wrong", REASON(ct_block_reason, 14, 8 + 16 * 4001, 4001, 0));
+    reason_rooms();
+}
