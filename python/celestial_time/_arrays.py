@@ -157,17 +157,18 @@ def each(
     places = lent(out, gives, shape)
     check_float_mode()
     single = shape == () and out is None
+    # Without nditer's flag `contig`: with it numpy 1.24 leaves a buffer unfilled where one value of another type is broadcast.
     walk = np.nditer(
         [array for _, array in takes] + places,
-        flags=["external_loop", "buffered", "growinner", "zerosize_ok", "copy_if_overlap"],
-        op_flags=[["readonly", "contig", "aligned"]] * len(takes) + [["writeonly", "allocate", "contig", "aligned", "no_broadcast"]] * len(gives),
+        flags=["external_loop", "buffered", "zerosize_ok", "copy_if_overlap"],
+        op_flags=[["readonly", "aligned"]] * len(takes) + [["writeonly", "allocate", "aligned", "no_broadcast"]] * len(gives),
         op_dtypes=[*dtypes, *(field.dtype for field in gives)],
         casting="safe",
         buffersize=BUFFER,
     )
     with walk:
         for stretch in walk:
-            loop(stretch[0].size, *map(address_of, stretch))
+            _in_one_piece(loop, stretch[: len(takes)], stretch[len(takes) :])
         answers = [kept if kept is not None else made for kept, made in zip(places, walk.operands[len(takes) :])]
     if not single:
         return tuple(answers)
@@ -175,3 +176,13 @@ def each(
     if gives[-1].name == "numbers" and values[-1]:
         raise Refused(values[-1], name, {argument: array.item() for argument, array in takes})
     return values
+
+
+def _in_one_piece(loop: Callable[..., int], taken: Sequence[NDArray[Any]], given: Sequence[NDArray[Any]]) -> None:
+    """One stretch: what does not lie in one piece goes through arrays that do."""
+    handed = [np.ascontiguousarray(part) for part in taken]
+    filled = [part if part.flags.c_contiguous else np.empty(part.shape, part.dtype) for part in given]
+    loop(len(handed[0]), *map(address_of, handed), *map(address_of, filled))
+    for part, whole_part in zip(given, filled):
+        if part is not whole_part:
+            part[...] = whole_part

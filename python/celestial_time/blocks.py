@@ -44,7 +44,7 @@ class BlockRefused(Refused):
 
 
 def read_blocks(source: Source) -> Stamps:
-    """The stamps of a recorder's file, or of its bytes. The stamps of one block are read where they lie; those of more are put together.
+    """The stamps of a recorder's file, or of its bytes; no bytes are no blocks. Those of one block are read where they lie, those of more are put together.
 
     >>> read_blocks(block_of([2451545.0, float('nan')], [0.0, 0.25]))
     Stamps(jd1=array([2451545.,      nan]), jd2=array([0.  , 0.25]), sizes=array([2]))
@@ -53,7 +53,7 @@ def read_blocks(source: Source) -> Stamps:
     parts: list[tuple[NDArray[Any], NDArray[Any]]] = []
     sizes: list[int] = []
     at = 0
-    while at < len(held) or not sizes:
+    while at < len(held):
         block = _first_block(held[at:])
         stamps = function("ct_block_stamps")(address_of(block), block.nbytes)
         if stamps < 0:

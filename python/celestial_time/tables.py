@@ -1,6 +1,8 @@
 """Announced leap rows, lent to the calls that read TAI-UTC."""
 from __future__ import annotations
 
+import os
+import re
 import struct
 from operator import index
 from typing import Iterable, Iterator
@@ -11,6 +13,7 @@ from ._library import TABLE_BYTES, function
 from .refusals import Refused
 
 _MOST = 16
+_ROW = re.compile(r"([0-9]{4})-(0[1-9]|1[0-2])[ \t]+([0-9]{1,9})")
 
 
 class Table:
@@ -66,6 +69,28 @@ class Table:
             raise Refused(-code, "Table.from_bytes")
         read = struct.unpack("<2I32i", given)
         return cls((read[2 + i] // 12, read[2 + i] % 12 + 1, read[18 + i]) for i in range(read[0]))
+
+    @classmethod
+    def from_file(cls, path: str | os.PathLike[str]) -> "Table":
+        """The table of a text file, a line for each row: the month from which on it holds, and TAI-UTC, as `2027-01 38`. What follows a # is left out.
+
+        >>> import pathlib, tempfile
+        >>> with tempfile.TemporaryDirectory() as folder:
+        ...     file = pathlib.Path(folder, 'rows')
+        ...     _ = file.write_text('2027-01 38   # made up')
+        ...     Table.from_file(file)
+        Table([(2027, 1, 38)])
+        """
+        rows = []
+        with open(path, encoding="ascii", errors="replace") as file:
+            for number, line in enumerate(file, 1):
+                row = line.split("#")[0].strip(" \t\r\n")
+                read = _ROW.fullmatch(row)
+                if row and not read:
+                    raise ValueError(f"{os.fspath(path)}: line {number} is no month and seconds")
+                if read:
+                    rows.append((int(read[1]), int(read[2]), int(read[3])))
+        return cls(rows)
 
     @property
     def address(self) -> int:
