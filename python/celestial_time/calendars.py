@@ -55,7 +55,7 @@ def dtf2d(
     Dates(jd1=array([2457753.5, 2457753.5,       nan]), jd2=array([0.99997685, 0.99999421,        nan]), numbers=array([0, 0, 4], dtype=uint8))
     >>> dtf2d('tai', 2016, 12, 31, 23, 59, 60.5)
     Traceback (most recent call last):
-    celestial_time.refusals.Refused: dtf2d: refused 4
+    celestial_time.refusals.Refused: dtf2d: refused 4...
     """
     if scale not in SCALES:
         raise ValueError(f"no scale: {scale!r}; the scales are {', '.join(SCALES)}")

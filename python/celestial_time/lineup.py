@@ -76,7 +76,7 @@ def listing_of(line: Line, recorders: tuple[Recorder, ...], table: Table | None 
     >>> print(b''.join(listing_of(line_up_files(gps), (gps,))).decode(), end='')
     line up 1 runs
     gps 2 refused 1 turned away 0
-    gps 0 2016-12-31T23:59:42.000
+    gps 0 2016-12-31T23:59:43.000
     gps 1 refused 9
     lined up 1 without text 0
     """

@@ -29,7 +29,7 @@ class Table:
     38.0
     >>> Table([(2016, 7, 38)])
     Traceback (most recent call last):
-    celestial_time.refusals.Refused: Table: refused 21
+    celestial_time.refusals.Refused: Table: refused 21...
     """
 
     __slots__ = ("_bytes", "_kept", "rows")
