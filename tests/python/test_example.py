@@ -38,7 +38,7 @@ class Example(unittest.TestCase):
         self.assertEqual((len(rows), sum(1 for row in rows if row[4])), (825, 13))
         texts = [row[0] for row in rows if row[0]]
         self.assertEqual(texts, sorted(texts))
-        self.assertEqual(len([text for text in texts if "23:59:60" in text]), 49)
+        self.assertEqual(len([text for text in texts if "23:59:60" in text]), 50)
         for scale in ("gps", "tai", "utc"):
             own = [row for row in rows if row[1] == scale]
             self.assertEqual([int(row[2]) for row in own], list(range(len(own))))

@@ -37,7 +37,7 @@ class Library(unittest.TestCase):
                 if "reason" in test.name and not _library.has("ct_reason"):
                     continue
                 with self.subTest(test.name), contextlib.redirect_stderr(io.StringIO()):
-                    result = doctest.DocTestRunner(optionflags=doctest.ELLIPSIS).run(test)
+                    result = doctest.DocTestRunner(verbose=False, optionflags=doctest.ELLIPSIS).run(test)
                     self.assertEqual(result.failed, 0)
                     tried += result.attempted
         self.assertGreater(tried, 80)
