@@ -90,7 +90,7 @@ def _ordered(name: str, jd1: NDArray[Any], jd2: NDArray[Any], numbers: NDArray[A
         raise Refused(-code, name)
     places = places[:code]
     starts = np.cumsum([0, *lengths])
-    run = np.searchsorted(starts[1:], places, side="right").astype("u1")
+    run = (places >= starts[1]).view("u1") + (places >= starts[2]).view("u1")
     index = places - starts.astype("<u4")[run]
     return Line(places, run, index, jd1, jd2, numbers, (*lengths, len(numbers) - sum(lengths)))
 
