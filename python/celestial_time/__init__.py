@@ -27,3 +27,12 @@ from .ticks import place_ticks
 from .weeks import gps_from_week, gps_full_week, gps_to_week
 
 __version__ = "0.1.0"
+__all__ = [
+    "ABSENT", "add_days", "add_seconds", "block_of", "BlockRefused", "cal2jd", "CalendarDates", "compare", "convert", "dat", "Dates", "DatesByRule",
+    "default_float_mode", "difference", "DRIFTING", "dtf2d", "equal", "Fields", "FloatModeError", "from_iso8601", "from_unix", "FullWeeks",
+    "gps_from_week", "gps_full_week", "gps_to_week", "gpstai", "jd2cal", "leap_at_end_of_day", "Leaps", "LibraryError", "Line", "line_up",
+    "line_up_recorders", "listing", "listings", "NO_INT", "Offsets", "offsets_at_0h", "Order", "parse_iso8601", "place_ticks", "read_blocks",
+    "reason", "Refused", "Run", "same_stamp", "SCALES", "SHEETS", "Stamps", "Table", "taigps", "taitcg", "taitt", "taiut1", "taiutc", "tcbtdb",
+    "tcgtai", "tcgtt", "tdbtcb", "tdbtt", "Texts", "TextsByRule", "to_iso8601", "tttai", "tttcg", "tttdb", "ttut1", "ut1tai", "ut1tt", "ut1utc",
+    "UtcFields", "utctai", "utcut1", "Walked", "Weeks", "WHOLE", "write_blocks",
+]

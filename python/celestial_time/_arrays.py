@@ -158,10 +158,12 @@ def each(
     check_float_mode()
     single = shape == () and out is None
     # Without nditer's flag `contig`: with it numpy 1.24 leaves a buffer unfilled where one value of another type is broadcast.
+    operands: Any = [array for _, array in takes] + places
+    flags: Any = [["readonly", "aligned"]] * len(takes) + [["writeonly", "allocate", "aligned", "no_broadcast"]] * len(gives)
     walk = np.nditer(
-        [array for _, array in takes] + places,
+        operands,
         flags=["external_loop", "buffered", "zerosize_ok", "copy_if_overlap"],
-        op_flags=[["readonly", "aligned"]] * len(takes) + [["writeonly", "allocate", "aligned", "no_broadcast"]] * len(gives),
+        op_flags=flags,
         op_dtypes=[*dtypes, *(field.dtype for field in gives)],
         casting="safe",
         buffersize=BUFFER,

@@ -161,7 +161,8 @@ def _bytes_of(source: Source) -> NDArray[np.uint8]:
     if isinstance(source, (str, os.PathLike)):
         # An empty file can't be mapped.
         return np.asarray(np.memmap(source, "u1", "r")) if os.path.getsize(source) else np.empty(0, "u1")
-    return np.frombuffer(source, "u1") if len(memoryview(source)) else np.empty(0, "u1")
+    held: Any = source
+    return np.frombuffer(held, "u1") if memoryview(held).nbytes else np.empty(0, "u1")
 
 
 def _first_block(held: NDArray[np.uint8]) -> NDArray[np.uint8]:

@@ -24,13 +24,13 @@ class Run(NamedTuple):
 class Line(NamedTuple):
     """Runs in one line.
 
-    `places` are the ordered stamps' places in the runs taken one after the other, `run` and `index` the same as the run and the place in it; `jd1` and `jd2`
+    `places` are the ordered stamps' places in the runs taken one after the other, `run` and `stamp` the same as the run and the place in it; `jd1` and `jd2`
     the TAI of all stamps, and `numbers` their numbers, both in the order of the runs. `counts` are the lengths of the runs.
     """
 
     places: NDArray[np.uint32]
     run: NDArray[np.uint8]
-    index: NDArray[np.uint32]
+    stamp: NDArray[np.uint32]
     jd1: NDArray[np.float64]
     jd2: NDArray[np.float64]
     numbers: NDArray[np.uint8]
@@ -59,7 +59,7 @@ def line_up_recorders(*runs: Run | tuple[str, ArrayLike, ArrayLike], table: Tabl
     """Up to three recorders, each with its own scale, put into one line by their TAI. A stamp that has no TAI keeps the number that it is refused by.
 
     >>> line = line_up_recorders(('gps', [2457754.5], [0.0]), ('utc', [2457753.5, float('nan')], [0.5, 0.0]))
-    >>> line.run, line.index, line.numbers
+    >>> line.run, line.stamp, line.numbers
     (array([1, 0], dtype=uint8), array([0, 0], dtype=uint32), array([0, 0, 6], dtype=uint8))
     """
     if not 1 <= len(runs) <= 3:
@@ -91,8 +91,8 @@ def _ordered(name: str, jd1: NDArray[Any], jd2: NDArray[Any], numbers: NDArray[A
     places = places[:code]
     starts = np.cumsum([0, *lengths])
     run = (places >= starts[1]).view("u1") + (places >= starts[2]).view("u1")
-    index = places - starts.astype("<u4")[run]
-    return Line(places, run, index, jd1, jd2, numbers, (*lengths, len(numbers) - sum(lengths)))
+    stamp = places - starts.astype("<u4")[run]
+    return Line(places, run, stamp, jd1, jd2, numbers, (*lengths, len(numbers) - sum(lengths)))
 
 
 def _in_one_piece(name: str, value: ArrayLike) -> NDArray[np.float64]:

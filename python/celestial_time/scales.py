@@ -36,22 +36,15 @@ def _shifted(name: str, call: str, jd1: ArrayLike, jd2: ArrayLike, by: ArrayLike
     return Dates(*each(name, lambda n, *a: loop(at, n, *a), takes, _DATES, [FLOAT] * 3, out))
 
 
-def _by_table(name: str, call: str, jd1: ArrayLike, jd2: ArrayLike, table: Table | None, out: Out, ruled: bool = False) -> Any:
+def _by_table(name: str, call: str, jd1: ArrayLike, jd2: ArrayLike, table: Table | None, out: Out) -> Dates:
     loop, at, rows = function("ct_each_utc"), address(call), lent_table(table)
-    takes = _parts("jd1", jd1, "jd2", jd2)
-    if ruled:
-        return DatesByRule(*each(name, lambda n, *a: loop(at, rows.address, n, *a), takes, _BY_RULE, [FLOAT] * 2, out))
     told = lambda n, a1, a2, o1, o2, numbers: loop(at, rows.address, n, a1, a2, o1, o2, 0, 0, numbers)
-    return Dates(*each(name, told, takes, _DATES, [FLOAT] * 2, out))
+    return Dates(*each(name, told, _parts("jd1", jd1, "jd2", jd2), _DATES, [FLOAT] * 2, out))
 
 
-def _shifted_by_table(
-    name: str, call: str, jd1: ArrayLike, jd2: ArrayLike, by: ArrayLike, table: Table | None, out: Out, ruled: bool = False
-) -> Any:
+def _shifted_by_table(name: str, call: str, jd1: ArrayLike, jd2: ArrayLike, by: ArrayLike, table: Table | None, out: Out) -> Dates:
     loop, at, rows = function("ct_each_utc_shift"), address(call), lent_table(table)
     takes = [*_parts("jd1", jd1, "jd2", jd2), ("offset", floats("offset", by))]
-    if ruled:
-        return DatesByRule(*each(name, lambda n, *a: loop(at, rows.address, n, *a), takes, _BY_RULE, [FLOAT] * 3, out))
     told = lambda n, a1, a2, b, o1, o2, numbers: loop(at, rows.address, n, a1, a2, b, o1, o2, 0, 0, numbers)
     return Dates(*each(name, told, takes, _DATES, [FLOAT] * 3, out))
 
@@ -210,7 +203,11 @@ def utctai(utc1: ArrayLike, utc2: ArrayLike, *, table: Table | None = None, retu
     >>> utctai(2457753.5, 0.0, return_rule=True).row
     40
     """
-    return _by_table("utctai", "ct_utc_to_tai", utc1, utc2, table, out, return_rule)
+    if not return_rule:
+        return _by_table("utctai", "ct_utc_to_tai", utc1, utc2, table, out)
+    loop, at, rows = function("ct_each_utc"), address("ct_utc_to_tai"), lent_table(table)
+    takes = _parts("jd1", utc1, "jd2", utc2)
+    return DatesByRule(*each("utctai", lambda n, *a: loop(at, rows.address, n, *a), takes, _BY_RULE, [FLOAT] * 2, out))
 
 
 def taiutc(tai1: ArrayLike, tai2: ArrayLike, *, table: Table | None = None, out: Out = None) -> Dates:
@@ -232,7 +229,11 @@ def utcut1(
     >>> utcut1(2451545.0, 0.25, 0.3341)
     Dates(jd1=2451545.0, jd2=0.25000386689814813, numbers=0)
     """
-    return _shifted_by_table("utcut1", "ct_utc_to_ut1_with_dut1", utc1, utc2, dut1, table, out, return_rule)
+    if not return_rule:
+        return _shifted_by_table("utcut1", "ct_utc_to_ut1_with_dut1", utc1, utc2, dut1, table, out)
+    loop, at, rows = function("ct_each_utc_shift"), address("ct_utc_to_ut1_with_dut1"), lent_table(table)
+    takes = [*_parts("jd1", utc1, "jd2", utc2), ("offset", floats("dut1", dut1))]
+    return DatesByRule(*each("utcut1", lambda n, *a: loop(at, rows.address, n, *a), takes, _BY_RULE, [FLOAT] * 3, out))
 
 
 def ut1utc(ut11: ArrayLike, ut12: ArrayLike, dut1: ArrayLike, *, table: Table | None = None, out: Out = None) -> Dates:

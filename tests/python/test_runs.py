@@ -42,8 +42,8 @@ class Runs(unittest.TestCase):
             self.assertEqual((line.places.tolist(), line.numbers.tolist()), (places, after))
             self.assertTrue(np.array_equal(kept, numbers))
             starts = np.cumsum([0, first, second])
-            self.assertTrue(np.array_equal(starts[line.run] + line.index, line.places))
-            self.assertTrue(all(0 <= i < n for i, n in zip(line.index, np.array(line.counts)[line.run])))
+            self.assertTrue(np.array_equal(starts[line.run] + line.stamp, line.places))
+            self.assertTrue(all(0 <= i < n for i, n in zip(line.stamp, np.array(line.counts)[line.run])))
             for make in (lambda a: a.astype(">f8"), lambda a: np.repeat(a, 2)[::2], lambda a: a.tolist()):
                 self.assertEqual(ct.line_up(make(jd1), make(jd2), counts, numbers=numbers).places.tolist(), places)
             self.assertIs(line.jd1, jd1)
@@ -73,7 +73,7 @@ class Runs(unittest.TestCase):
                 counts = [len(a) for _, a, _ in runs]
                 due = ct.line_up(np.concatenate([t.jd1 for t in tai]), np.concatenate([t.jd2 for t in tai]), counts[: max(len(counts) - 1, 0)],
                                  numbers=np.concatenate([t.numbers for t in tai]))
-                for name in ("places", "run", "index", "numbers"):
+                for name in ("places", "run", "stamp", "numbers"):
                     self.assertTrue(np.array_equal(getattr(line, name), getattr(due, name)), name)
                 self.assertEqual(list(line.counts)[: len(counts)], counts)
         for wrong in ([], [("tai", [], [])] * 4, [("tai", [1.0], [])], [("tai", 1.0, 0.0)], [("gsp", [1.0], [0.0])]):
