@@ -9,7 +9,7 @@ import pathlib
 import threading
 from typing import Any
 
-NAME = "libcelestial_time.so"
+NAME = "libcelestial_time_arrays.so"
 TABLE_BYTES = 136
 
 _U8, _U32, _U64 = ctypes.c_uint8, ctypes.c_uint32, ctypes.c_uint64
@@ -95,7 +95,7 @@ def places() -> list[str]:
         return [named]
     package = pathlib.Path(__file__).resolve().parent
     tried = [str(package / NAME), str(package.parents[1] / "target" / "lib" / NAME)]
-    system = ctypes.util.find_library("celestial_time")
+    system = ctypes.util.find_library("celestial_time_arrays")
     return tried + [system] if system else tried
 
 
@@ -108,7 +108,7 @@ def _load() -> ctypes.CDLL:
                 return ctypes.CDLL(place)
             except OSError as error:
                 raise LibraryError(f"{place} can't be loaded: {error}") from None
-    raise LibraryError(f"there is no {NAME}: python/build makes it. Looked for: {', '.join(tried)}")
+    raise LibraryError(f"there is no {NAME}: python/make makes it. Looked for: {', '.join(tried)}")
 
 
 def library() -> ctypes.CDLL:
@@ -133,13 +133,13 @@ def function(name: str) -> Any:
     0
     >>> function('ct_no_such_call')
     Traceback (most recent call last):
-    celestial_time._library.LibraryError: the library has no ct_no_such_call: it is older than this package, or was built without its loops (python/build)
+    celestial_time._library.LibraryError: the library has no ct_no_such_call: it is older than this package, or was built without its loops (python/make)
     """
     try:
         found = getattr(library(), name)
     except AttributeError:
         raise LibraryError(
-            f"the library has no {name}: it is older than this package, or was built without its loops (python/build)"
+            f"the library has no {name}: it is older than this package, or was built without its loops (python/make)"
         ) from None
     found.restype = _I64
     if name in _CALLS:

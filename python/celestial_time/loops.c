@@ -1,5 +1,5 @@
 /* Loops over the calls of include/celestial_time.h, for the Python package: one call for each stamp of an array, which from Python would take a microsecond.
-   They stand in the shared library beside the archive. The calls are proved; these loops are tested (tests/python) and not proved, and decide nothing: what
+   They stand beside the archive in the shared library that the package loads (python/make). The calls are proved; these loops are tested (tests/python) and not proved, and decide nothing: what
    a call answers goes into the places of its stamp, and what it refuses by goes into the stamp's number.
 
    A loop is named after the shape of its calls, and `call` is the call. `n` stamps; each array has n places. The number of an answered stamp is 0. In the

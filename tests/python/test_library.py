@@ -105,8 +105,8 @@ class Library(unittest.TestCase):
             for file in pathlib.Path(ct.__file__).parent.glob("*.py"):
                 (package / file.name).write_text(file.read_text())
             done = python("import celestial_time as ct; ct.gpstai(2451545.0, 0.0)", PYTHONPATH=folder, CELESTIAL_TIME_LIBRARY="")
-            self.assertIn("LibraryError: there is no libcelestial_time.so", done.stderr.splitlines()[-1])
-            (package / "libcelestial_time.so").write_bytes(pathlib.Path(library).read_bytes())
+            self.assertIn("LibraryError: there is no libcelestial_time_arrays.so", done.stderr.splitlines()[-1])
+            (package / "libcelestial_time_arrays.so").write_bytes(pathlib.Path(library).read_bytes())
             done = python("import celestial_time as ct; print(ct.gpstai(2451545.0, 0.0).numbers)", PYTHONPATH=folder, CELESTIAL_TIME_LIBRARY="")
             self.assertEqual(done.stdout, "0\n")
 
