@@ -44,13 +44,14 @@
          where the sum of the parts or its rounding error overflows
      10  offset not finite
      11  buffer too short
-     12  sizes of a block, or of the lists of a line, differ
+     12  sizes of a block, or of the lists of a line or a run, differ
      13  size of a block above 4,000, or more stamps than 4 bytes can number
      14  length of a block, of a table, or of a list wrong, or counts past it
      15  text outside the grammar
      16  more than 13 digits after a second's point
      17  date or stamp earlier than the one before it
-     18  field of a GPS week over its limit, or date before the first week or past the last
+     18  field of a GPS week over its limit, or date before the first week or past the last; in
+         ct_convert_run a scale that it does not take
      19  two weeks with the same ten bits equally near the reference
      20  sizes of a lent table differ, or above 16
      21  row of a lent table not later than the one before it
@@ -129,7 +130,7 @@ int64_t ct_from_julian_year(double year, uint8_t *out, size_t out_len);
    with a NaN equals none. */
 int64_t ct_equal(double jd1, double jd2, double other1, double other2);
 
-/* The scales by number, in ct_same_stamp. */
+/* The scales by number, in ct_same_stamp and ct_convert_run. */
 enum { CT_UTC, CT_TAI, CT_UT1, CT_TT, CT_GPS, CT_TCG, CT_TCB, CT_TDB };
 
 /* Whether two stamps are the same, 1 or 0: one scale, and both parts with the same bits. The parts
@@ -286,6 +287,23 @@ int64_t ct_utc_to_tai(double jd1, double jd2, const uint8_t *table, size_t table
                       size_t out_len);
 int64_t ct_tai_to_utc(double jd1, double jd2, const uint8_t *table, size_t table_len, uint8_t *out,
                       size_t out_len);
+
+/* A run of stamps of one scale in another, in one call. The scales are CT_UTC, CT_TAI, CT_TT, CT_GPS or
+   CT_TCG. Stamp i is bytes 8 * i to 8 * i + 7 of jd1 and of jd2. Its date goes into the same bytes of out1
+   and of out2, with the bits that the single calls give: through TAI (CT_UTC to CT_GPS is ct_utc_to_tai and
+   then ct_tai_to_gps), but CT_TT to CT_TCG and back by ct_tt_to_tcg and ct_tcg_to_tt. Into numbers goes one
+   byte a stamp: 0, or the number of the first refusal on the way, 1, 6 or 9; a refused stamp's bytes of out1
+   and out2 stay. Returns how many stamps are refused; what lies behind the last stamp's places stays. From a
+   scale to the same a stamp with finite parts passes with its bits, and any other is 9: a count of the dead
+   ones. Refuses the table, also where no scale is CT_UTC; 18 for another scale; 14 for a length of jd1 or
+   jd2 that is no multiple of 8; 12 for jd1 and jd2 of different lengths; 11 for fewer bytes in out1 or out2
+   than in jd1, or fewer in numbers than stamps. A refused call writes nothing. With the scales CT_UT1 and
+   CT_UTC, 7 bytes of jd1 and none of jd2 it is 18, with CT_TAI in the place of CT_UT1 14, and with 8 bytes
+   of jd1 12. The buffers overlap no other, so a run is not converted in its place. */
+int64_t ct_convert_run(uint32_t from, uint32_t to, const uint8_t *jd1, size_t jd1_len, const uint8_t *jd2,
+                       size_t jd2_len, const uint8_t *table, size_t table_len, uint8_t *out1,
+                       size_t out1_len, uint8_t *out2, size_t out2_len, uint8_t *numbers,
+                       size_t numbers_len);
 
 /* UTC to UT1 by DUT1 = UT1-UTC in seconds: jd1, jd2, and the rule of the day; 24 bytes. Refuses the
    table; 10; 6; then 1; 11. The date (NaN, 0.0) with DUT1 NaN is 10. */

@@ -7,6 +7,7 @@ pub mod line_up_calls;
 pub mod offset_calls;
 pub mod order_calls;
 pub mod reader_calls;
+pub mod run_calls;
 pub mod same_stamp_calls;
 pub mod scale_calls;
 pub mod standby_calls;

@@ -1,0 +1,60 @@
+-- A run is delivered, and its count fits a code. Assumes nothing.
+use Prim.Native.Nat.{ℕ, _/_, _≤_, _<_, _^_}
+use mathlib.Core.Path.{_≡_, refl, sym, ap, subst, _∙_}
+use mathlib.Core.List.{List}
+use lib.IntN.{ℤ}
+use lib.ListN.{length}
+use lib.Signed.{mag}
+use mir.Syntax.{w64}
+use mir.Val.{toZ, ofZ}
+use mir.Facts.{toZ-pos}
+use Rattle.refusals.specs.Outcome.{Outcome, answer, refusal}
+use Rattle.little_endian.specs.LittleEndian.{u32At}
+use Rattle.tai_utc.specs.Lent.{lentTable, rowsIn, tableOf, unlessRefused}
+use Rattle.runs.specs.declared.RunAnswer.{RunAnswer}
+use Rattle.runs.specs.declared.RunAnswer.the-variants.{Converted, Refused}
+use Rattle.runs.specs.Run.{RunCall, runOutcome, runCall, runBy, convertedRun}
+use Rattle.runs.proofs.Calls.{run-count, table-refused, table-taken}
+use Rattle.lent_bytes.specs.TableBytes.{ofLength, tableBytes, sizeIn, ReadFrom}
+use Rattle.lent_bytes.proofs.Reading.{arrays-of-bytes}
+use Rattle.c_answers.specs.Delivery.{code}
+use Rattle.c_answers.proofs.Deliveries.{code-back}
+use Rattle.capi.specs.RunDelivery.{RunDelivered}
+
+-- a call that ends so is delivered by its code
+ended : (c : RunCall) (res : RunAnswer) (r : ℤ) (out1 out2 numbers : List ℕ) → runCall (runOutcome res) out1 out2 numbers ≡ c → r ≡ code (runOutcome res) → RunDelivered c r out1 out2 numbers
+ended c res r out1 out2 numbers e h = record {
+  returned = h ∙ ap (λ (x : RunCall). code (x .answer)) e;
+  first = ap (λ (x : RunCall). x .out1) e;
+  second = ap (λ (x : RunCall). x .out2) e;
+  numbered = ap (λ (x : RunCall). x .numbers) e;
+}
+
+-- the size k, the arrays m and l and the number n that the code finds in the bytes s; the two scales, the parts and the three buffers
+module _ (s : List ℕ) (k : ℕ) (m l : List ℤ) (n : ℕ) (size : (k ≡ sizeIn s) × (k ≤ 16)) (months : ReadFrom s 8 m) (seconds : ReadFrom s 72 l)
+    (number : unlessRefused n (rowsIn (sizeIn s) m l) ≡ ofLength (length s) (tableOf (lentTable (u32At s 0) (u32At s 4) m l))) (from to : ℕ) (js ks b1 b2 b3 : List ℕ) where
+  judged : unlessRefused n (rowsIn k m l) ≡ tableBytes s
+  judged = ap (λ (j : ℕ). unlessRefused n (rowsIn j m l)) (size .0) ∙ number ∙ arrays-of-bytes s m l months seconds
+
+  abbrev asked : RunCall
+  asked = convertedRun (tableBytes s) from to js ks b1 b2 b3
+
+  pub run-table-refused : {r : ℤ} → mag r < 2 ^ 63 → (n ≡ 0 → ⊥) → r ≡ code (refusal n) → RunDelivered asked (toZ w64 (ofZ w64 r)) b1 b2 b3
+  unfolding runOutcome
+  run-table-refused {r} ok h c = ended asked (Refused n) (toZ w64 (ofZ w64 r)) b1 b2 b3 (table-refused (tableBytes s) (rowsIn k m l) n judged from to js ks b1 b2 b3 h) (code-back ok ∙ c)
+
+  module _ (h : n ≡ 0) {out1 out2 numbers : List ℕ} (res : RunAnswer) (e : runCall (runOutcome res) out1 out2 numbers ≡ runBy (rowsIn k m l) from to js ks b1 b2 b3) where
+    goes : runCall (runOutcome res) out1 out2 numbers ≡ asked
+    goes = e ∙ table-taken (tableBytes s) (rowsIn k m l) n judged from to js ks b1 b2 b3 h
+
+    pub run-counted : (j : ℕ) → res ≡ Converted j → j ≤ length js / 8
+    unfolding runOutcome
+    run-counted j i = run-count (rowsIn k m l) from to js ks b1 b2 b3 j (sym (ap runOutcome i) ∙ ap (λ (x : RunCall). x .answer) e)
+
+    pub run-converted : (j : ℕ) → res ≡ Converted j → j < 2 ^ 63 → RunDelivered asked (toZ w64 j) out1 out2 numbers
+    unfolding runOutcome code
+    run-converted j i b = ended asked res (toZ w64 j) out1 out2 numbers goes (toZ-pos w64 {n = j} b ∙ sym (ap (λ (x : RunAnswer). code (runOutcome x)) i))
+
+    pub run-refused : {r : ℤ} (j : ℕ) → mag r < 2 ^ 63 → res ≡ Refused j → r ≡ code (refusal j) → RunDelivered asked (toZ w64 (ofZ w64 r)) out1 out2 numbers
+    unfolding runOutcome
+    run-refused {r} j ok i c = ended asked res (toZ w64 (ofZ w64 r)) out1 out2 numbers goes (code-back ok ∙ c ∙ sym (ap (λ (x : RunAnswer). code (runOutcome x)) i))

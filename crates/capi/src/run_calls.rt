@@ -1,0 +1,44 @@
+// A run of stamps from one scale to another.
+ghost use Rattle.runs.specs.Run.{convertedRun};
+ghost use Rattle.lent_bytes.specs.TableBytes.{tableBytes};
+ghost use Rattle.capi.specs.RunDelivery.{RunDelivered};
+use c_answers::refused;
+use lent_bytes::arrays;
+use runs::RunAnswer;
+
+#[no_mangle]
+pub extern "C" fn ct_convert_run(
+    from: u32,
+    to: u32,
+    jd1: &[u8],
+    jd2: &[u8],
+    table: &[u8],
+    out1: &mut [u8],
+    out2: &mut [u8],
+    numbers: &mut [u8],
+) -> i64
+    ensures { λ r. ⌜ RunDelivered (convertedRun (tableBytes (now (table .entry))) from to (now (jd1 .entry)) (now (jd2 .entry)) (now (out1 .entry)) (now (out2 .entry)) (now (numbers .entry))) r (now (out1 .exit)) (now (out2 .exit)) (now (numbers .exit)) ⌝ }
+{
+    let size = arrays::size_in(table);
+    let months = arrays::months_in(table);
+    let seconds = arrays::seconds_in(table);
+    let number = arrays::lent_number(table, &months, &seconds);
+    if number != 0 {
+        return refused(number);
+    }
+    match runs::convert_run_by_lent(
+        from,
+        to,
+        jd1,
+        jd2,
+        size,
+        &months,
+        &seconds,
+        out1,
+        out2,
+        numbers,
+    ) {
+        RunAnswer::Converted(n) => n as i64,
+        RunAnswer::Refused(number) => refused(number),
+    }
+}

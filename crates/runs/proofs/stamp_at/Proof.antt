@@ -1,0 +1,38 @@
+-- `runs::stamp_at` meets its contract. Assumes nothing.
+use mathlib.Core.Path.{_≡_, refl, sym, ap, _∙_}
+use Rattle.line_up.proofs.Cases.{stamp-is}
+use borrow.Author.Needs.{needs}
+use Rattle.runs.proofs.stamp_at.Statement.{statement}
+use Rattle.runs.proofs.stamp_at.Tie as tie
+
+pattern-at-requires : tie.Need-pattern-at-requires
+pattern-at-requires c κs = search needs
+
+from-bits-requires : tie.Need-from-bits-requires
+from-bits-requires c κs = search needs
+
+pattern-at-requires-2 : tie.Need-pattern-at-requires-2
+pattern-at-requires-2 c κs = search needs
+
+from-bits-requires-2 : tie.Need-from-bits-requires-2
+from-bits-requires-2 c κs = search needs
+
+new-requires : tie.Need-new-requires
+new-requires c κs = search needs
+
+returns : tie.Need-returns
+returns c =
+    let s = c .before .before .before .before .before .before .before in
+    let a = s .args in
+    c .new .ensures ∙ stamp-is (a .jd1s .now) (a .jd2s .now) (a .i) _ _ _ _ (c .before .before .before .before .pattern-at .ensures) (c .before .before .pattern-at2 .ensures) (c .before .before .before .from-bits .ensures) (c .before .from-bits2 .ensures)
+
+pub stamp-at-spec : {M : Type 1} → statement M
+stamp-at-spec =
+    tie.close
+    (tie.spec
+    pattern-at-requires
+    from-bits-requires
+    pattern-at-requires-2
+    from-bits-requires-2
+    new-requires
+    returns)

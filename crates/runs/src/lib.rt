@@ -1,0 +1,264 @@
+// A run of stamps from one scale to another in one call. The parts of the stamps and of the dates are bytes, eight each, the lowest first.
+mod ways;
+
+ghost use mathlib.Core.Path.{_≡_};
+ghost use Prim.Native.Nat.{_+_, _*_, _≤_};
+ghost use mathlib.Core.Bool.{cond};
+ghost use lib.Dec.{eqb};
+ghost use lib.ListN.{length};
+ghost use lib.Seq.{sets};
+ghost use lib.Ieee.{binary64, toBits};
+ghost use Rattle.little_endian.specs.LittleEndian.{u64At, eightBytes};
+ghost use Rattle.julian.specs.JulianDate.{julianOutcome};
+ghost use Rattle.tai_utc.specs.Lent.{rowsIn, tableOf};
+ghost use Rattle.line_up.specs.LineUp.{stampOf};
+ghost use Rattle.runs.specs.Ways.{isRunScale};
+ghost use Rattle.runs.specs.Run.{stampAnswer, runOutcome, runRefusal, runCall, runBy, convertedRun};
+ghost use Rattle.runs.specs.Asked.{Roomy, HasPlace, StampPut, RunPut};
+use julian::JulianAnswer;
+use julian::JulianDate;
+use tai_utc::LentRows;
+
+// How many stamps are refused, or the number of the refusal of the whole run.
+pub enum RunAnswer {
+    Converted(usize),
+    Refused(u32),
+}
+
+// Number i of a list that has it. Read from a part of eight bytes, it needs no test of the length.
+fn pattern_at(s: &[u8], i: usize) -> u64
+    requires { ⌜ 8 * i + 8 ≤ length (now s) ⌝ }
+    ensures { λ r. ⌜ r ≡ u64At (now (s .entry)) (8 * i) ⌝ }
+{
+    let at = 8 * i;
+    let end = at + 8;
+    little_endian::u64_at(&s[at..end], 0)
+}
+
+fn stamp_at(jd1s: &[u8], jd2s: &[u8], i: usize) -> JulianDate
+    requires { ⌜ HasPlace i (now jd1s) (now jd2s) ⌝ }
+    ensures { λ r. ⌜ r ≡ stampOf (now (jd1s .entry)) (now (jd2s .entry)) i ⌝ }
+{
+    let x = floats::from_bits(pattern_at(jd1s, i));
+    let y = floats::from_bits(pattern_at(jd2s, i));
+    JulianDate::new(x, y)
+}
+
+// The eight bytes of a part at a place of the lent list.
+fn put_part(out: &mut [u8], at: usize, x: f64)
+    requires { ⌜ at + 8 ≤ length (now out) ⌝ }
+    ensures { λ _. ⌜ now (out .exit) ≡ sets (now (out .entry)) at (eightBytes (toBits binary64 x)) ⌝ }
+{
+    let b = little_endian::bytes_of_u64(floats::to_bits(x));
+    out[at] = b[0];
+    out[at + 1] = b[1];
+    out[at + 2] = b[2];
+    out[at + 3] = b[3];
+    out[at + 4] = b[4];
+    out[at + 5] = b[5];
+    out[at + 6] = b[6];
+    out[at + 7] = b[7];
+}
+
+// Both parts of an answer in the places of stamp i, and its number: 0, or that of the refusal, of which the places stay.
+fn put_answer(found: JulianAnswer, i: usize, out1: &mut [u8], out2: &mut [u8]) -> u8
+    requires { ⌜ HasPlace i (now out1) (now out2) ⌝ }
+    ensures { λ r. ⌜ StampPut (julianOutcome found) i (now (out1 .entry)) (now (out2 .entry)) r (now (out1 .exit)) (now (out2 .exit)) ⌝ }
+{
+    match found {
+        JulianAnswer::Refused(number) => (number % 256) as u8,
+        JulianAnswer::Date(jd) => {
+            put_part(out1, 8 * i, jd.jd1);
+            put_part(out2, 8 * i, jd.jd2);
+            0
+        }
+    }
+}
+
+fn one_if_refused(number: u8) -> usize
+    ensures { λ r. ⌜ (r ≡ cond (eqb number 0) 0 1) × (r ≤ 1) ⌝ }
+{
+    if number == 0 { 0 } else { 1 }
+}
+
+// Converts the stamp at place i, and gives its number.
+fn convert_stamp<'a>(
+    from: u32,
+    to: u32,
+    jd1s: &[u8],
+    jd2s: &[u8],
+    i: usize,
+    size: usize,
+    months: &'a [i32; 16],
+    seconds: &'a [i32; 16],
+    out1: &mut [u8],
+    out2: &mut [u8],
+) -> u8
+    requires { ⌜ (HasPlace i (now jd1s) (now jd2s)) × (HasPlace i (now out1) (now out2)) ⌝ }
+    ensures { λ r. ⌜ StampPut (stampAnswer (rowsIn size (now (months .entry)) (now (seconds .entry))) from to (now (jd1s .entry)) (now (jd2s .entry)) i) i (now (out1 .entry)) (now (out2 .entry)) r (now (out1 .exit)) (now (out2 .exit)) ⌝ }
+{
+    let jd = stamp_at(jd1s, jd2s, i);
+    let found = ways::convert(from, to, jd, size, months, seconds);
+    put_answer(found, i, out1, out2)
+}
+
+// Converts n stamps, and says how many are refused.
+fn convert_all<'a>(
+    from: u32,
+    to: u32,
+    jd1s: &[u8],
+    jd2s: &[u8],
+    n: usize,
+    size: usize,
+    months: &'a [i32; 16],
+    seconds: &'a [i32; 16],
+    out1: &mut [u8],
+    out2: &mut [u8],
+    numbers: &mut [u8],
+) -> usize
+    requires { ⌜ Roomy n (now jd1s) (now jd2s) (now out1) (now out2) (now numbers) ⌝ }
+    ensures { λ r. ⌜ RunPut (stampAnswer (rowsIn size (now (months .entry)) (now (seconds .entry))) from to (now (jd1s .entry)) (now (jd2s .entry))) n (now (out1 .entry)) (now (out2 .entry)) (now (numbers .entry)) r (now (out1 .exit)) (now (out2 .exit)) (now (numbers .exit)) ⌝ }
+{
+    let mut refused = 0;
+    let mut i = 0;
+    while i < n {
+        let number = convert_stamp(from, to, jd1s, jd2s, i, size, months, seconds, out1, out2);
+        numbers[i] = number;
+        refused += one_if_refused(number);
+        i += 1;
+    }
+    refused
+}
+
+fn is_run_scale(n: u32) -> bool
+    ensures { λ r. ⌜ r ≡ isRunScale n ⌝ }
+{
+    if n == same_stamps::UTC {
+        return true;
+    }
+    if n == same_stamps::TAI {
+        return true;
+    }
+    if n == same_stamps::TT {
+        return true;
+    }
+    if n == same_stamps::GPS {
+        return true;
+    }
+    n == same_stamps::TCG
+}
+
+// The refusal of the scales and of the lengths, or 0.
+fn run_refusal(
+    from: u32,
+    to: u32,
+    size1: usize,
+    size2: usize,
+    room1: usize,
+    room2: usize,
+    room: usize,
+) -> u32
+    ensures { λ r. ⌜ r ≡ runRefusal from to size1 size2 room1 room2 room ⌝ }
+{
+    if !is_run_scale(from) {
+        return refusals::GPS_FIELD_OVER_LIMIT;
+    }
+    if !is_run_scale(to) {
+        return refusals::GPS_FIELD_OVER_LIMIT;
+    }
+    if size1 % 8 != 0 {
+        return refusals::BLOCK_LENGTH_WRONG;
+    }
+    if size2 % 8 != 0 {
+        return refusals::BLOCK_LENGTH_WRONG;
+    }
+    if size1 != size2 {
+        return refusals::BLOCK_SIZES_DIFFER;
+    }
+    if room1 < size1 {
+        return refusals::TEXT_LONGER_THAN_BUFFER;
+    }
+    if room2 < size1 {
+        return refusals::TEXT_LONGER_THAN_BUFFER;
+    }
+    if room < size1 / 8 {
+        return refusals::TEXT_LONGER_THAN_BUFFER;
+    }
+    0
+}
+
+// By the rows of a table that is tested elsewhere: a size and two arrays that are lent on.
+pub fn convert_run_by_lent<'a>(
+    from: u32,
+    to: u32,
+    jd1s: &[u8],
+    jd2s: &[u8],
+    size: usize,
+    months: &'a [i32; 16],
+    seconds: &'a [i32; 16],
+    out1: &mut [u8],
+    out2: &mut [u8],
+    numbers: &mut [u8],
+) -> RunAnswer
+    ensures { λ r. ⌜ runCall (runOutcome r) (now (out1 .exit)) (now (out2 .exit)) (now (numbers .exit)) ≡ runBy (rowsIn size (now (months .entry)) (now (seconds .entry))) from to (now (jd1s .entry)) (now (jd2s .entry)) (now (out1 .entry)) (now (out2 .entry)) (now (numbers .entry)) ⌝ }
+{
+    let number = run_refusal(
+        from,
+        to,
+        jd1s.len(),
+        jd2s.len(),
+        out1.len(),
+        out2.len(),
+        numbers.len(),
+    );
+    if number != 0 {
+        return RunAnswer::Refused(number);
+    }
+    let n = jd1s.len() / 8;
+    RunAnswer::Converted(convert_all(
+        from,
+        to,
+        jd1s,
+        jd2s,
+        n,
+        size,
+        months,
+        seconds,
+        out1,
+        out2,
+        numbers,
+    ))
+}
+
+// The dates in scale `to` of a run of stamps in scale `from`: the parts of stamp i in the places i of `out1` and `out2`, its number in `numbers`, 0 or that of its refusal, and
+// the number of refused stamps as the answer. A refused stamp's places stay. Refusals of the whole run in order, before a byte is written: 20 to 22 the table, 18 a scale
+// that is not UTC, TAI, TT, GPS or TCG, 14 a length of parts that is no multiple of eight, 12 as many parts of one kind as of the other, 11 too few places.
+pub fn convert_run(
+    from: u32,
+    to: u32,
+    jd1s: &[u8],
+    jd2s: &[u8],
+    table: LentRows,
+    out1: &mut [u8],
+    out2: &mut [u8],
+    numbers: &mut [u8],
+) -> RunAnswer
+    ensures { λ r. ⌜ runCall (runOutcome r) (now (out1 .exit)) (now (out2 .exit)) (now (numbers .exit)) ≡ convertedRun (tableOf table) from to (now (jd1s .entry)) (now (jd2s .entry)) (now (out1 .entry)) (now (out2 .entry)) (now (numbers .entry)) ⌝ }
+{
+    let number = tai_utc::table_refusal(table);
+    if number != 0 {
+        return RunAnswer::Refused(number);
+    }
+    convert_run_by_lent(
+        from,
+        to,
+        jd1s,
+        jd2s,
+        tai_utc::size_of(table),
+        &table.months,
+        &table.seconds,
+        out1,
+        out2,
+        numbers,
+    )
+}
