@@ -4,7 +4,7 @@
 
 Needs Debian's python3-erfa and python3-astropy. The stamps are those of three recorders, a third each, a millisecond apart about the leap second of 2016-12-31. Before
 a row is measured, the answers are compared: conversions bit for bit with ERFA's (UT1 and others are not asked), texts byte for byte with astropy's, orders place by place.
-The time is the least of the rounds, each with arrays that are made anew, as a program makes them that keeps its answers.
+The time is the processor's, all in one thread, the least of the rounds, each with arrays that are made anew, as a program makes them that keeps its answers.
 """
 from __future__ import annotations
 
@@ -28,26 +28,25 @@ Row = tuple[str, Callable[[], Any], "Callable[[], Any] | None", "Callable[[], An
 
 
 def least(call: Callable[[], Any] | None, rounds: int) -> float | None:
-    """The least time of some rounds, in seconds."""
+    """The least processor time of some rounds, in seconds."""
     if call is None:
         return None
     times = []
     for _ in range(rounds):
-        start = time.perf_counter()
+        start = time.process_time()
         call()
-        times.append(time.perf_counter() - start)
+        times.append(time.process_time() - start)
     return min(times)
 
 
 def runs(count: int) -> list[ct.Run]:
-    """Three recorders, each with a third of the stamps, about the leap second."""
-    midnight = ct.utctai(*ct.dtf2d("utc", 2017, 1, 1, 0, 0, 0.0)[:2])
+    """Three recorders, each with a third of the stamps, about the leap second: midnight and the part of the day, as a recorder writes them."""
     made = []
-    for number, scale in enumerate(("gps", "tai", "utc")):
-        seconds = (np.arange(count // 3) - count / 6) * 0.001 + number * 0.0003
-        tai = ct.add_seconds(midnight.jd1, midnight.jd2, seconds)
-        jd1, jd2 = tai[:2] if scale == "tai" else ct.convert("tai", scale, tai.jd1, tai.jd2)[:2]
-        made.append(ct.Run(scale, jd1, jd2))
+    for scale, ahead, phase in (("gps", 18000.0, 0.0), ("tai", 37000.0, 0.3), ("utc", 0.0, 0.6)):
+        millis = np.arange(count // 3) - count // 6 + phase + ahead
+        before = millis < 0
+        length = np.where(before & (scale == "utc"), 86401000.0, 86400000.0)
+        made.append(ct.Run(scale, 2457754.5 - before, (millis + before * length) / length))
     return made
 
 
@@ -63,7 +62,7 @@ def rows(count: int) -> list[Row]:
     recorders = runs(count)
     line = ct.line_up_recorders(*recorders)
     tai1, tai2 = line.jd1, line.jd2
-    utc1, utc2 = ct.taiutc(tai1, tai2)[:2]
+    utc1, utc2 = (np.tile(part, 3) for part in recorders[2][1:])
     texts = ct.to_iso8601(utc1, utc2).text
     counts = line.counts[:2]
     utc = lambda: Time(utc1, utc2, format="jd", scale="utc")
@@ -73,11 +72,8 @@ def rows(count: int) -> list[Row]:
     same(ct.taiutc(tai1, tai2)[:2], erfa.taiutc(tai1, tai2), "TAI to UTC")
     same(ct.taitt(tai1, tai2)[:2], erfa.taitt(tai1, tai2), "TAI to TT")
     same([ct.to_iso8601(utc1[some], utc2[some]).text], [Time(utc1[some], utc2[some], format="jd", scale="utc").isot.astype("S27")], "text")
-    # The sums are exact in two parts with one day, so that sorting by both parts is the order here.
-    days = np.floor(tai1 + tai2 - 0.5) + 0.5
-    part = (tai1 - days) + tai2
-    due = np.lexsort((np.arange(len(days)), part, days))
-    same([line.places], [due], "order")
+    same([line.places], [erfa_order(recorders)], "order, pyerfa")
+    same([line.places], [astropy_order(recorders)], "order, astropy")
     return [
         ("UTC to TAI", lambda: ct.utctai(utc1, utc2), lambda: erfa.utctai(utc1, utc2), lambda: utc().tai.jd2),
         ("TAI to UTC", lambda: ct.taiutc(tai1, tai2), lambda: erfa.taiutc(tai1, tai2), lambda: tai().utc.jd2),
@@ -96,12 +92,13 @@ def erfa_texts(utc1: Any, utc2: Any) -> Any:
 
 
 def erfa_order(recorders: list[ct.Run]) -> Any:
-    """By pyerfa and numpy: GPS by 19 s, TAI as it is, UTC by ERFA, and then a sort by both parts, which is the order of exact sums only for dates of one jd1."""
+    """By pyerfa and numpy: GPS by 19 s, UTC by ERFA, then days and parts of days, so that a sort by both is an order in time to the last place of the part."""
     gps, tai, utc = recorders
     converted = erfa.utctai(utc.jd1, utc.jd2)
     jd1 = np.concatenate([gps.jd1, tai.jd1, converted[0]])
     jd2 = np.concatenate([gps.jd2 + 19.0 / 86400.0, tai.jd2, converted[1]])
-    return np.lexsort((jd2, jd1))
+    day = np.round(jd1 + jd2)
+    return np.lexsort(((jd1 - day) + jd2, day))
 
 
 def astropy_order(recorders: list[ct.Run]) -> Any:

@@ -170,7 +170,7 @@ def each(
     )
     with walk:
         for stretch in walk:
-            _in_one_piece(loop, stretch[: len(takes)], stretch[len(takes) :])
+            _in_one_piece(name, loop, stretch[: len(takes)], stretch[len(takes) :])
         answers = [kept if kept is not None else made for kept, made in zip(places, walk.operands[len(takes) :])]
     if not single:
         return tuple(answers)
@@ -180,11 +180,13 @@ def each(
     return values
 
 
-def _in_one_piece(loop: Callable[..., int], taken: Sequence[NDArray[Any]], given: Sequence[NDArray[Any]]) -> None:
+def _in_one_piece(name: str, loop: Callable[..., int], taken: Sequence[NDArray[Any]], given: Sequence[NDArray[Any]]) -> None:
     """One stretch: what does not lie in one piece goes through arrays that do."""
     handed = [np.ascontiguousarray(part) for part in taken]
     filled = [part if part.flags.c_contiguous else np.empty(part.shape, part.dtype) for part in given]
-    loop(len(handed[0]), *map(address_of, handed), *map(address_of, filled))
+    code = loop(len(handed[0]), *map(address_of, handed), *map(address_of, filled))
+    if code < 0:
+        raise Refused(-code, name)
     for part, whole_part in zip(given, filled):
         if part is not whole_part:
             part[...] = whole_part

@@ -22,7 +22,6 @@ _CALLS: dict[str, tuple[Any, ...]] = {
     "ct_check_table": _SLICE,
     "ct_offsets_at_0h": _SLICE * 3,
     "ct_line_up": (*_SLICE * 3, _U64, _U64, *_SLICE),
-    "ct_convert_run": (_U32, _U32, *_SLICE * 6),
     "ct_place_ticks": _SLICE * 4,
     "ct_block_stamps": _SLICE,
     "ct_listing_part": (*_SLICE, _U32, *_SLICE * 2),
@@ -37,6 +36,7 @@ _CALLS: dict[str, tuple[Any, ...]] = {
 }
 # The loops of loops.c, by how many addresses and lengths they take; a call that a loop is handed is an address too.
 _LOOPS: dict[str, int] = {
+    "ct_each_run": 9,
     "ct_each_date": 7,
     "ct_each_shift": 8,
     "ct_each_utc": 10,

@@ -53,6 +53,16 @@ static void put_rule(int64_t code, const uint8_t *bytes, int32_t *rule, int32_t 
 
 /* ---- Scales */
 
+/* A whole run by one call, and a NaN in the places of a refused stamp, which the call leaves. Returns as ct_convert_run does: below zero nothing is written. */
+int64_t ct_each_run(size_t from, size_t to, const uint8_t *table, size_t n, const double *jd1, const double *jd2, double *out1, double *out2, uint8_t *numbers)
+{
+    int64_t refused = ct_convert_run((uint32_t)from, (uint32_t)to, (const uint8_t *)jd1, 8 * n, (const uint8_t *)jd2, 8 * n, table, CT_TABLE_BYTES,
+                                     (uint8_t *)out1, 8 * n, (uint8_t *)out2, 8 * n, numbers, n);
+    for (size_t i = 0; refused > 0 && i < n; i++)
+        if (numbers[i] != 0) out1[i] = out2[i] = NAN;
+    return refused;
+}
+
 int64_t ct_each_date(date_call *call, size_t n, const double *jd1, const double *jd2, double *out1, double *out2, uint8_t *numbers)
 {
     uint8_t bytes[16];

@@ -70,13 +70,9 @@ def line_up_recorders(*runs: Run | tuple[str, ArrayLike, ArrayLike], table: Tabl
             raise ValueError(f"{run.scale}: {len(run.jd1)} first parts and {len(run.jd2)} second parts")
     counts = [len(run.jd1) for run in given]
     ends = np.cumsum([0, *counts])
-    jd1, jd2, numbers = np.empty(ends[-1], FLOAT), np.empty(ends[-1], FLOAT), np.zeros(ends[-1], "u1")
+    jd1, jd2, numbers = np.empty(ends[-1], FLOAT), np.empty(ends[-1], FLOAT), np.empty(ends[-1], "u1")
     for run, start, end in zip(given, ends, ends[1:]):
-        to = (jd1[start:end], jd2[start:end], numbers[start:end])
-        if run.scale == "tai":
-            to[0][...], to[1][...] = run.jd1, run.jd2
-        else:
-            convert(run.scale, "tai", run.jd1, run.jd2, table=table, out=to)
+        convert(run.scale, "tai", run.jd1, run.jd2, table=table, out=(jd1[start:end], jd2[start:end], numbers[start:end]))
     return _ordered("line_up_recorders", jd1, jd2, numbers, counts[:2] if len(counts) > 2 else counts[:-1])
 
 

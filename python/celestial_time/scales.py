@@ -15,14 +15,21 @@ from .tables import Table, lent_table
 
 Out = Union[Sequence[Any], None]
 
-# The scales by the numbers of the C interface, and the call from one to the other with the function that makes it.
+# The scales by the numbers of the C interface, and those between which a whole run is converted by one call.
 SCALES = {"utc": 0, "tai": 1, "ut1": 2, "tt": 3, "gps": 4, "tcg": 5, "tcb": 6, "tdb": 7}
+RUN_SCALES = ("utc", "tai", "tt", "gps", "tcg")
 _DATES = [Field("jd1", FLOAT), Field("jd2", FLOAT), Field("numbers", NUMBER)]
 _BY_RULE = [Field("jd1", FLOAT), Field("jd2", FLOAT), Field("rule", INT), Field("row", INT), Field("numbers", NUMBER)]
 
 
 def _parts(first: str, jd1: ArrayLike, second: str, jd2: ArrayLike) -> list[Any]:
     return [(first, floats(first, jd1)), (second, floats(second, jd2))]
+
+
+def _run(name: str, source: str, target: str, jd1: ArrayLike, jd2: ArrayLike, out: Out, table: Table | None = None) -> Dates:
+    loop, rows = function("ct_each_run"), lent_table(table)
+    ways = SCALES[source], SCALES[target], rows.address
+    return Dates(*each(name, lambda n, *a: loop(*ways, n, *a), _parts("jd1", jd1, "jd2", jd2), _DATES, [FLOAT] * 2, out))
 
 
 def _plain(name: str, call: str, jd1: ArrayLike, jd2: ArrayLike, out: Out) -> Dates:
@@ -34,12 +41,6 @@ def _shifted(name: str, call: str, jd1: ArrayLike, jd2: ArrayLike, by: ArrayLike
     loop, at = function("ct_each_shift"), address(call)
     takes = [*_parts("jd1", jd1, "jd2", jd2), ("offset", floats("offset", by))]
     return Dates(*each(name, lambda n, *a: loop(at, n, *a), takes, _DATES, [FLOAT] * 3, out))
-
-
-def _by_table(name: str, call: str, jd1: ArrayLike, jd2: ArrayLike, table: Table | None, out: Out) -> Dates:
-    loop, at, rows = function("ct_each_utc"), address(call), lent_table(table)
-    told = lambda n, a1, a2, o1, o2, numbers: loop(at, rows.address, n, a1, a2, o1, o2, 0, 0, numbers)
-    return Dates(*each(name, told, _parts("jd1", jd1, "jd2", jd2), _DATES, [FLOAT] * 2, out))
 
 
 def _shifted_by_table(name: str, call: str, jd1: ArrayLike, jd2: ArrayLike, by: ArrayLike, table: Table | None, out: Out) -> Dates:
@@ -55,7 +56,7 @@ def gpstai(gps1: ArrayLike, gps2: ArrayLike, *, out: Out = None) -> Dates:
     >>> gpstai(2451545.0, 0.25)
     Dates(jd1=2451545.0, jd2=0.2502199074074074, numbers=0)
     """
-    return _plain("gpstai", "ct_gps_to_tai", gps1, gps2, out)
+    return _run("gpstai", "gps", "tai", gps1, gps2, out)
 
 
 def taigps(tai1: ArrayLike, tai2: ArrayLike, *, out: Out = None) -> Dates:
@@ -64,7 +65,7 @@ def taigps(tai1: ArrayLike, tai2: ArrayLike, *, out: Out = None) -> Dates:
     >>> taigps(2451545.0, 0.25)
     Dates(jd1=2451545.0, jd2=0.2497800925925926, numbers=0)
     """
-    return _plain("taigps", "ct_tai_to_gps", tai1, tai2, out)
+    return _run("taigps", "tai", "gps", tai1, tai2, out)
 
 
 def taitt(tai1: ArrayLike, tai2: ArrayLike, *, out: Out = None) -> Dates:
@@ -73,7 +74,7 @@ def taitt(tai1: ArrayLike, tai2: ArrayLike, *, out: Out = None) -> Dates:
     >>> taitt(2451545.0, 0.25)
     Dates(jd1=2451545.0, jd2=0.2503725, numbers=0)
     """
-    return _plain("taitt", "ct_tai_to_tt", tai1, tai2, out)
+    return _run("taitt", "tai", "tt", tai1, tai2, out)
 
 
 def tttai(tt1: ArrayLike, tt2: ArrayLike, *, out: Out = None) -> Dates:
@@ -82,7 +83,7 @@ def tttai(tt1: ArrayLike, tt2: ArrayLike, *, out: Out = None) -> Dates:
     >>> tttai(2451545.0, 0.25)
     Dates(jd1=2451545.0, jd2=0.2496275, numbers=0)
     """
-    return _plain("tttai", "ct_tt_to_tai", tt1, tt2, out)
+    return _run("tttai", "tt", "tai", tt1, tt2, out)
 
 
 def taitcg(tai1: ArrayLike, tai2: ArrayLike, *, out: Out = None) -> Dates:
@@ -91,7 +92,7 @@ def taitcg(tai1: ArrayLike, tai2: ArrayLike, *, out: Out = None) -> Dates:
     >>> taitcg(2451545.0, 0.25)
     Dates(jd1=2451545.0, jd2=0.2503783547264134, numbers=0)
     """
-    return _plain("taitcg", "ct_tai_to_tcg", tai1, tai2, out)
+    return _run("taitcg", "tai", "tcg", tai1, tai2, out)
 
 
 def tcgtai(tcg1: ArrayLike, tcg2: ArrayLike, *, out: Out = None) -> Dates:
@@ -100,7 +101,7 @@ def tcgtai(tcg1: ArrayLike, tcg2: ArrayLike, *, out: Out = None) -> Dates:
     >>> tcgtai(2451545.0, 0.25)
     Dates(jd1=2451545.0, jd2=0.24962164527385028, numbers=0)
     """
-    return _plain("tcgtai", "ct_tcg_to_tai", tcg1, tcg2, out)
+    return _run("tcgtai", "tcg", "tai", tcg1, tcg2, out)
 
 
 def tttcg(tt1: ArrayLike, tt2: ArrayLike, *, out: Out = None) -> Dates:
@@ -109,7 +110,7 @@ def tttcg(tt1: ArrayLike, tt2: ArrayLike, *, out: Out = None) -> Dates:
     >>> tttcg(2451545.0, 0.25)
     Dates(jd1=2451545.0, jd2=0.2500058547261538, numbers=0)
     """
-    return _plain("tttcg", "ct_tt_to_tcg", tt1, tt2, out)
+    return _run("tttcg", "tt", "tcg", tt1, tt2, out)
 
 
 def tcgtt(tcg1: ArrayLike, tcg2: ArrayLike, *, out: Out = None) -> Dates:
@@ -118,7 +119,7 @@ def tcgtt(tcg1: ArrayLike, tcg2: ArrayLike, *, out: Out = None) -> Dates:
     >>> tcgtt(2451545.0, 0.25)
     Dates(jd1=2451545.0, jd2=0.24999414527385028, numbers=0)
     """
-    return _plain("tcgtt", "ct_tcg_to_tt", tcg1, tcg2, out)
+    return _run("tcgtt", "tcg", "tt", tcg1, tcg2, out)
 
 
 def tcbtdb(tcb1: ArrayLike, tcb2: ArrayLike, *, out: Out = None) -> Dates:
@@ -204,7 +205,7 @@ def utctai(utc1: ArrayLike, utc2: ArrayLike, *, table: Table | None = None, retu
     40
     """
     if not return_rule:
-        return _by_table("utctai", "ct_utc_to_tai", utc1, utc2, table, out)
+        return _run("utctai", "utc", "tai", utc1, utc2, out, table)
     loop, at, rows = function("ct_each_utc"), address("ct_utc_to_tai"), lent_table(table)
     takes = _parts("jd1", utc1, "jd2", utc2)
     return DatesByRule(*each("utctai", lambda n, *a: loop(at, rows.address, n, *a), takes, _BY_RULE, [FLOAT] * 2, out))
@@ -218,7 +219,7 @@ def taiutc(tai1: ArrayLike, tai2: ArrayLike, *, table: Table | None = None, out:
     >>> to_iso8601(*taiutc(2457754.5, 36.5 / 86400.0)[:2]).text
     b'2016-12-31T23:59:60.500'
     """
-    return _by_table("taiutc", "ct_tai_to_utc", tai1, tai2, table, out)
+    return _run("taiutc", "tai", "utc", tai1, tai2, out, table)
 
 
 def utcut1(
@@ -264,10 +265,10 @@ def add_seconds(jd1: ArrayLike, jd2: ArrayLike, seconds: ArrayLike, *, out: Out 
 
 
 def convert(source: str, target: str, jd1: ArrayLike, jd2: ArrayLike, *, table: Table | None = None, out: Out = None) -> Dates:
-    """From one scale to another, both by name: the conversions that take no offset.
+    """From one scale to another, both by name: any two of utc, tai, tt, gps and tcg, and tcb and tdb. From a scale to itself dead stamps are refused.
 
-    >>> convert('gps', 'tai', 2451545.0, 0.25)
-    Dates(jd1=2451545.0, jd2=0.2502199074074074, numbers=0)
+    >>> convert('gps', 'utc', 2451545.0, 0.25)
+    Dates(jd1=2451545.0, jd2=0.24984953703703705, numbers=0)
     >>> convert('tcb', 'utc', 2451545.0, 0.25)
     Traceback (most recent call last):
     ValueError: there is no conversion from tcb to utc that takes no offset
@@ -275,16 +276,8 @@ def convert(source: str, target: str, jd1: ArrayLike, jd2: ArrayLike, *, table: 
     for scale in (source, target):
         if scale not in SCALES:
             raise ValueError(f"no scale: {scale!r}; the scales are {', '.join(SCALES)}")
-    if (source, target) not in _WAYS:
-        raise ValueError(f"there is no conversion from {source} to {target} that takes no offset")
-    if "utc" in (source, target):
-        return _by_table("convert", _WAYS[source, target], jd1, jd2, table, out)
-    return _plain("convert", _WAYS[source, target], jd1, jd2, out)
-
-
-_WAYS = {
-    tuple(way.split()): f"ct_{way.replace(' ', '_to_')}"
-    for way in (
-        "gps tai", "tai gps", "tai tt", "tt tai", "tai tcg", "tcg tai", "tt tcg", "tcg tt", "tcb tdb", "tdb tcb", "utc tai", "tai utc",
-    )
-}
+    if source in RUN_SCALES and target in RUN_SCALES:
+        return _run("convert", source, target, jd1, jd2, out, table)
+    if {source, target} == {"tcb", "tdb"}:
+        return _plain("convert", f"ct_{source}_to_{target}", jd1, jd2, out)
+    raise ValueError(f"there is no conversion from {source} to {target} that takes no offset")

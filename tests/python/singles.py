@@ -12,6 +12,7 @@ import numpy as np
 
 import celestial_time as ct
 from celestial_time._library import library
+from celestial_time.scales import RUN_SCALES
 
 LIB = ctypes.CDLL(library()._name)  # not the package's own, whose functions have the package's types
 TABLE = ct.Table([(2027, 1, 38), (2028, 7, 37)])
@@ -61,6 +62,24 @@ def by_table(name, shape, table=None):
 
 def shifted_by_table(name, shape, table=None):
     return lambda a, b, x: answered(name, (F64(a), F64(b), F64(x), *table_of(table)), shape)
+
+
+def way(source, target, table=None):
+    """From one of the five scales of a run to another by single calls: through TAI, but TT and TCG without it; to the same scale what is finite stays."""
+    def step(a, b, one, other):
+        if "utc" in (one, other):
+            return cut(2, by_table(f"ct_{one}_to_{other}", "2d2i" if one == "utc" else "2d", table))(a, b)
+        return plain(f"ct_{one}_to_{other}")(a, b)
+
+    def through(a, b):
+        if source == target:
+            return (0, (a, b)) if math.isfinite(a) and math.isfinite(b) else (-9, None)
+        if "tai" in (source, target) or {source, target} == {"tt", "tcg"}:
+            return step(a, b, source, target)
+        code, values = step(a, b, source, "tai")
+        return (code, None) if code < 0 else step(*values, "tai", target)
+
+    return through
 
 
 def text(name, table=None):
@@ -145,7 +164,6 @@ def cases(rng, count):
         source, target = name.split("_")
         single = plain(f"ct_{source}_to_{target}")
         yield Case(getattr(ct, source + target), single, dates(rng, count), source + target)
-        yield Case(utc(lambda *a, s=source, t=target, **k: ct.convert(s, t, *a, **k)), single, dates(rng, count), f"convert {source} {target}")
     for name, called in (("tttdb", "tt_to_tdb_with_offset"), ("tdbtt", "tdb_to_tt_with_offset"), ("ut1tai", "ut1_to_tai_with_offset"), ("taiut1", "tai_to_ut1_with_offset"),
                          ("ut1tt", "ut1_to_tt_with_delta_t"), ("ttut1", "tt_to_ut1_with_delta_t"), ("add_days", "add_days"), ("add_seconds", "add_seconds")):
         yield Case(getattr(ct, name), shifted(f"ct_{called}"), [*dates(rng, count), offsets(rng, count)], name)
@@ -154,9 +172,9 @@ def cases(rng, count):
         said = "" if table is None else " with rows"
         yield Case(utc(ct.utctai, **lent), cut(2, by_table("ct_utc_to_tai", "2d2i", table)), dates(rng, count), "utctai" + said)
         yield Case(utc(ct.utctai, return_rule=True, **lent), by_table("ct_utc_to_tai", "2d2i", table), dates(rng, count), "utctai, rule" + said)
-        yield Case(utc(lambda *a, **k: ct.convert("utc", "tai", *a, **k), **lent), cut(2, by_table("ct_utc_to_tai", "2d2i", table)), dates(rng, count), "convert utc tai" + said)
+        for source, target in itertools.product(RUN_SCALES, RUN_SCALES):
+            yield Case(utc(lambda *a, s=source, t=target, **k: ct.convert(s, t, *a, **k), **lent), way(source, target, table), dates(rng, count), f"convert {source} {target}" + said)
         yield Case(utc(ct.taiutc, **lent), by_table("ct_tai_to_utc", "2d", table), dates(rng, count), "taiutc" + said)
-        yield Case(utc(lambda *a, **k: ct.convert("tai", "utc", *a, **k), **lent), by_table("ct_tai_to_utc", "2d", table), dates(rng, count), "convert tai utc" + said)
         by = [*dates(rng, count), offsets(rng, count)]
         yield Case(utc(ct.utcut1, **lent), cut(2, shifted_by_table("ct_utc_to_ut1_with_dut1", "2d2i", table)), by, "utcut1" + said)
         yield Case(utc(ct.utcut1, return_rule=True, **lent), shifted_by_table("ct_utc_to_ut1_with_dut1", "2d2i", table), by, "utcut1, rule" + said)
@@ -175,6 +193,8 @@ def cases(rng, count):
                 yield Case(utc(ct.to_iso8601, sheet=sheet, **lent), cut(1, text(called, table)), dates(rng, count), f"to_iso8601 {sheet}" + said)
                 yield Case(utc(ct.to_iso8601, sheet=sheet, return_rule=True, **lent), text(called, table), dates(rng, count), f"to_iso8601 {sheet}, rule" + said)
         yield Case(utc(ct.from_iso8601, **lent), lambda s, t=table: answered("ct_utc_from_iso8601", (s, ctypes.c_size_t(len(s)), *table_of(t)), "5i3d"), texts(rng, count), "from_iso8601" + said)
+    for source, target in (("tcb", "tdb"), ("tdb", "tcb")):
+        yield Case(utc(lambda *a, s=source, t=target, **k: ct.convert(s, t, *a, **k)), plain(f"ct_{source}_to_{target}"), dates(rng, count), f"convert {source} {target}")
     yield Case(ct.parse_iso8601, lambda s: answered("ct_parse_iso8601", (s, ctypes.c_size_t(len(s))), "5id"), texts(rng, count), "parse_iso8601")
     yield Case(ct.jd2cal, lambda a, b: answered("ct_julian_to_calendar", (F64(a), F64(b)), "3id"), dates(rng, count), "jd2cal")
     yield Case(ct.cal2jd, lambda y, m, d: answered("ct_calendar_to_julian", (I32(y), I32(m), I32(d)), "2d"), days(rng, count), "cal2jd")

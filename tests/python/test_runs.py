@@ -69,7 +69,7 @@ class Runs(unittest.TestCase):
             for table in (None, singles.TABLE):
                 runs = [(scale, *self.rising(int(self.rng.integers(0, 60)))) for scale in scales]
                 line = ct.line_up_recorders(*runs, table=table)
-                tai = [ct.Dates(a, b, np.zeros(len(a), "u1")) if scale == "tai" else ct.convert(scale, "tai", a, b, table=table) for scale, a, b in runs]
+                tai = [ct.Dates(a, b, np.zeros(len(a), "u1")) if scale == "tai" else ct.convert(scale, "tai", a, b, table=table) for scale, a, b in runs]  # dead TAI: 9 by line_up
                 counts = [len(a) for _, a, _ in runs]
                 due = ct.line_up(np.concatenate([t.jd1 for t in tai]), np.concatenate([t.jd2 for t in tai]), counts[: max(len(counts) - 1, 0)],
                                  numbers=np.concatenate([t.numbers for t in tai]))
