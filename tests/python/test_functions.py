@@ -9,6 +9,7 @@ import numpy as np
 
 import celestial_time as ct
 import singles
+from celestial_time import _arrays
 
 COUNT = 400
 
@@ -240,6 +241,22 @@ class Functions(unittest.TestCase):
         with self.assertRaises(ValueError):
             one = np.empty(2)
             ct.gpstai([1.0, 2.0], 0.0, out=(one, one, None))
+
+    def test_no_copies(self):
+        """Arrays in one piece are handed over where they lie: what the loops get are places in the arguments and in the answers."""
+        jd1, jd2 = singles.dates(self.rng, 200000)
+        handed = []
+        kept = _arrays._in_one_piece
+        try:
+            _arrays._in_one_piece = lambda name, loop, *parts: (handed.append(parts), kept(name, loop, *parts))
+            for lent in (None, (np.empty(200000), np.empty(200000), np.empty(200000, "u1"))):
+                handed.clear()
+                answer = ct.utctai(jd1, jd2, out=lent)
+                self.assertEqual(sum(len(taken[0]) for taken, _ in handed), 200000)
+                for taken, given in handed:
+                    self.assertTrue(all(np.shares_memory(part, whole) for part, whole in zip((*taken, *given), (jd1, jd2, *answer))))
+        finally:
+            _arrays._in_one_piece = kept
 
     def test_interleaved(self):
         """The two parts lent as columns of one array."""
