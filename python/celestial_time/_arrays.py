@@ -41,7 +41,7 @@ def as_array(name: str, value: ArrayLike) -> NDArray[Any]:
 
 
 def floats(name: str, value: ArrayLike) -> NDArray[Any]:
-    """Numbers that become 64-bit floats: floats of at most 64 bits, and whole numbers.
+    """Numbers that become 64-bit floats with nothing lost: floats of at most 64 bits, and whole numbers up to 2^53.
 
     >>> floats('jd1', ['2451545.0'])
     Traceback (most recent call last):
@@ -50,6 +50,10 @@ def floats(name: str, value: ArrayLike) -> NDArray[Any]:
     array = as_array(name, value)
     if array.dtype.kind not in "fiu" or not np.can_cast(array.dtype, FLOAT, "safe"):
         raise TypeError(f"{name} is of type {array.dtype} and not of 64-bit floats")
+    if array.dtype.kind != "f" and array.dtype.itemsize == 8 and array.size:
+        for end in (int(array.min()), int(array.max())):
+            if abs(end) > 1 << 53:
+                raise OverflowError(f"{name} holds {end}, which a 64-bit float may round")
     return array
 
 
@@ -87,7 +91,8 @@ def small(name: str, value: ArrayLike) -> NDArray[Any]:
         raise TypeError(f"{name} is of type {array.dtype} and not of whole numbers")
     if array.dtype == np.uint8:
         return array
-    return np.where((array < 0) | (array > 255), 255, array).astype("u1")
+    held = array.astype("u1")
+    return np.where((array < 0) | (array > 255), np.uint8(255), held)
 
 
 def lent(out: Sequence[Any] | None, gives: Sequence[Field], shape: tuple[int, ...]) -> list[NDArray[Any] | None]:
@@ -112,9 +117,16 @@ def lent(out: Sequence[Any] | None, gives: Sequence[Field], shape: tuple[int, ..
             raise ValueError(f"out: {field.name} has shape {array.shape}, and the answers have {shape}")
         if not array.flags.writeable:
             raise ValueError(f"out: {field.name} is read-only")
-    if any(a is not None and b is not None and np.shares_memory(a, b) for i, a in enumerate(out) for b in out[:i]):
+    if any(a is not None and b is not None and _overlap(a, b) for i, a in enumerate(out) for b in out[:i]):
         raise ValueError("out: two of the arrays share their memory")
     return list(out)
+
+
+def _overlap(one: NDArray[Any], other: NDArray[Any]) -> bool:
+    try:
+        return bool(np.shares_memory(one, other, max_work=100000))
+    except RuntimeError:  # numpy's TooHardError: so many steps do not tell
+        return True
 
 
 def common_shape(takes: Sequence[tuple[str, NDArray[Any]]]) -> tuple[int, ...]:

@@ -84,7 +84,7 @@ def block_of(jd1: ArrayLike, jd2: ArrayLike) -> bytes:
 def write_blocks(target: str | os.PathLike[str] | BinaryIO, jd1: ArrayLike, jd2: ArrayLike, *, size: int = MOST) -> int:
     """Write stamps as a file of blocks with `size` stamps each, the last with what is left, and return how many blocks they are. Their bits stay.
 
-    A path is written beside and then renamed, so that a refused call leaves the file as it was.
+    A file is written beside and then renamed, so that a call that fails leaves it as it was.
 
     >>> import io
     >>> file = io.BytesIO()
@@ -102,16 +102,24 @@ def write_blocks(target: str | os.PathLike[str] | BinaryIO, jd1: ArrayLike, jd2:
     blocks = (block_of(first[start : start + size], second[start : start + size]) for start in starts)
     if not isinstance(target, (str, os.PathLike)):
         target.writelines(blocks)
-        return len(starts)
-    beside = f"{os.fspath(target)}.new"
-    try:
-        with open(beside, "wb") as file:
-            file.writelines(blocks)
-        os.replace(beside, target)
-    finally:
-        if os.path.exists(beside):
-            os.remove(beside)
+    elif os.path.exists(target) and not os.path.isfile(target):
+        with open(target, "wb") as pipe:
+            pipe.writelines(blocks)
+    else:
+        _write_beside(os.path.realpath(target), blocks)
     return len(starts)
+
+
+def _write_beside(path: str, blocks: Iterator[bytes]) -> None:
+    beside = f"{path}.{os.getpid()}.new"
+    with open(beside, "xb") as file:
+        try:
+            file.writelines(blocks)
+            file.flush()
+            os.replace(beside, path)
+        except BaseException:
+            os.remove(beside)
+            raise
 
 
 def listing(block: Source, *, table: Table | None = None) -> bytes:
@@ -159,8 +167,11 @@ def _parts_of(block: NDArray[np.uint8], table: Table) -> Iterator[bytes]:
 
 def _bytes_of(source: Source) -> NDArray[np.uint8]:
     if isinstance(source, (str, os.PathLike)):
-        # An empty file can't be mapped.
-        return np.asarray(np.memmap(source, "u1", "r")) if os.path.getsize(source) else np.empty(0, "u1")
+        # A pipe can't be mapped, nor a file without a byte.
+        if os.path.isfile(source) and os.path.getsize(source):
+            return np.asarray(np.memmap(source, "u1", "r"))
+        with open(source, "rb") as file:
+            return _bytes_of(file.read())
     held: Any = source
     return np.frombuffer(held, "u1") if memoryview(held).nbytes else np.empty(0, "u1")
 

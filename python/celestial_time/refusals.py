@@ -2,6 +2,7 @@
 from __future__ import annotations
 
 import ctypes
+from operator import index
 from typing import Any
 
 from ._library import LibraryError, function
@@ -49,7 +50,7 @@ class Refused(ValueError):
         whole = len(read) == len(_READ.get(self.number, ()))
         try:
             return f"{said}: {reason(self.number, **read if whole else {})}"
-        except (LibraryError, Refused):
+        except (LibraryError, OverflowError, Refused):
             return said
 
 
@@ -74,8 +75,20 @@ def reason(number: int, **values: Any) -> str:
             raise TypeError(f"no sentence takes {', '.join(sorted(names))}")
         call = fitting[0]
         arguments += (values[field] for field in _SENTENCES[call])
+    called = function(call)
     text = ctypes.create_string_buffer(_LONGEST)
-    code = function(call)(*arguments, text, len(text))
+    given = [_fitting(value, kind) for value, kind in zip(arguments, called.argtypes)]
+    code = called(*given, text, len(text))
     if code < 0:
         raise Refused(-code, "reason")
     return text.raw[:code].decode("ascii")
+
+
+def _fitting(value: Any, kind: Any) -> Any:
+    """The value as the call's type takes it: ctypes would cut a whole number that does not fit."""
+    if kind is ctypes.c_double:
+        return float(value)
+    number = index(value)
+    if kind(number).value != number:
+        raise OverflowError(f"{number} does not fit the {8 * ctypes.sizeof(kind)} bits that the sentence's call takes")
+    return number

@@ -90,6 +90,29 @@ class Blocks(unittest.TestCase):
             ct.block_of([1.0, 2.0], [1.0])
         self.assertEqual(raised.exception.number, 12)
 
+    def test_pipes_and_links(self):
+        """A pipe is read and written as it is, and a link stays one."""
+        read, write = os.pipe()
+        with open(write, "wb") as file:
+            file.write(ct.block_of([2451545.0], [0.5]))
+        with open(read, "rb"):
+            self.assertEqual(ct.read_blocks(f"/dev/fd/{read}").jd1.tolist(), [2451545.0])
+        read, write = os.pipe()
+        with open(write, "wb"):
+            ct.write_blocks(f"/dev/fd/{write}", [2451545.0], [0.5])
+        with open(read, "rb") as file:
+            self.assertEqual(ct.read_blocks(file.read()).jd2.tolist(), [0.5])
+        (self.at / "file").write_bytes(b"before")
+        (self.at / "link").symlink_to(self.at / "file")
+        ct.write_blocks(self.at / "link", [1.0], [2.0])
+        self.assertTrue((self.at / "link").is_symlink())
+        self.assertEqual(ct.read_blocks(self.at / "file").jd1.tolist(), [1.0])
+        with self.assertRaises(OSError):
+            ct.write_blocks(self.at / "no" / "folder", [1.0], [2.0])
+        with self.assertRaises(OSError):
+            ct.read_blocks(self.at)
+        self.assertEqual(run("listing", self.at).returncode, 2)
+
     def test_listing(self):
         """As the listing program lists, where it is built."""
         jd1, jd2 = singles.dates(self.rng, 3000)

@@ -302,6 +302,12 @@ class Functions(unittest.TestCase):
                     function(wrong, 0)
         with self.assertRaises(OverflowError):
             ct.from_unix(1 << 63)
+        for wrong in ((1 << 53) + 1, -(1 << 60), np.uint64((1 << 64) - 1), [0, 1 << 62]):
+            with self.assertRaises(OverflowError):
+                ct.gpstai(wrong, 0.0)
+        self.assertEqual(ct.gpstai(1 << 53, 0).numbers, 0)
+        for small in (np.int8(-1), np.uint16(300), np.int64(-(1 << 63)), np.uint64((1 << 64) - 1), 256):
+            self.assertEqual(ct.dtf2d("utc", [2000], small, 1, 0, 0, 0.0).numbers.tolist(), [2])
 
     def test_texts_in_unicode(self):
         given = ["2016-12-31T23:59:60.5Z", "2000-01-01T00:00:00", "zwölf", ""]

@@ -151,6 +151,9 @@ class Library(unittest.TestCase):
         for number, values in groups:
             self.assertNotEqual(ct.reason(number, **values), ct.reason(number))
         self.assertIn(ct.reason(9, jd1=np.nan, jd2=0.0), str(ct.Refused(9, "gpstai", {"jd1": np.nan, "jd2": 0.0})))
+        for number, values in ((3, {"year": 1 << 31, "month": 1, "day": 1}), (4, {"hour": 300, "minute": 0, "second": 0.0, "leap": 0.0}), (8, {"nanos": -1}), (-1, {})):
+            with self.assertRaises(OverflowError):
+                ct.reason(number, **values)
         for wrong in ({"jd1": 0.0}, {"month": 1}, {"jd1": 0.0, "jd2": 0.0, "year": 1}):
             with self.assertRaises(TypeError):
                 ct.reason(9, **wrong)
