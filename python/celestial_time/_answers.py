@@ -11,7 +11,11 @@ NO_INT = -(2**31)
 
 
 class Dates(NamedTuple):
-    """Two-part Julian dates."""
+    """Two-part Julian dates.
+
+    >>> gpstai(2451545.0, 0.0).jd1
+    2451545.0
+    """
 
     jd1: Any
     jd2: Any
@@ -19,7 +23,11 @@ class Dates(NamedTuple):
 
 
 class DatesByRule(NamedTuple):
-    """Dates, and the row of TAI-UTC that they were read by: `rule` 0 absent, 1 drifting, 2 whole; `row` counted from 0, -1 where absent."""
+    """Dates, and the row of TAI-UTC that they were read by: `rule` 0 absent, 1 drifting, 2 whole; `row` counted from 0, -1 where absent.
+
+    >>> utctai(2451545.0, 0.0, return_rule=True).rule
+    2
+    """
 
     jd1: Any
     jd2: Any
@@ -29,7 +37,11 @@ class DatesByRule(NamedTuple):
 
 
 class CalendarDates(NamedTuple):
-    """Calendar fields, and the part of the day that has passed."""
+    """Calendar fields, and the part of the day that has passed.
+
+    >>> jd2cal(2451545.0, 0.0).year
+    2000
+    """
 
     year: Any
     month: Any
@@ -39,7 +51,11 @@ class CalendarDates(NamedTuple):
 
 
 class Offsets(NamedTuple):
-    """TAI-UTC in seconds, with its rule and row."""
+    """TAI-UTC in seconds, with its rule and row.
+
+    >>> dat(2017, 1, 1).seconds
+    37.0
+    """
 
     seconds: Any
     rule: Any
@@ -48,28 +64,44 @@ class Offsets(NamedTuple):
 
 
 class Leaps(NamedTuple):
-    """The step of TAI-UTC at the end of a day, in seconds."""
+    """The step of TAI-UTC at the end of a day, in seconds.
+
+    >>> leap_at_end_of_day(2016, 12, 31).seconds
+    1.0
+    """
 
     seconds: Any
     numbers: Any
 
 
 class Walked(NamedTuple):
-    """TAI-UTC at 0h of dates in time order, and the rows that were compared for it."""
+    """TAI-UTC at 0h of dates in time order, and the rows that were compared for it.
+
+    >>> offsets_at_0h([[2017, 1, 1]]).compared
+    42
+    """
 
     seconds: Any
     compared: int
 
 
 class Texts(NamedTuple):
-    """Texts as byte strings."""
+    """Texts as byte strings.
+
+    >>> to_iso8601(2451545.0, 0.0).text
+    b'2000-01-01T12:00:00.000'
+    """
 
     text: Any
     numbers: Any
 
 
 class TextsByRule(NamedTuple):
-    """Texts as byte strings, and the row of TAI-UTC of their day."""
+    """Texts as byte strings, and the row of TAI-UTC of their day.
+
+    >>> to_iso8601(2451545.0, 0.0, return_rule=True).row
+    36
+    """
 
     text: Any
     rule: Any
@@ -78,7 +110,11 @@ class TextsByRule(NamedTuple):
 
 
 class Fields(NamedTuple):
-    """The fields of a text."""
+    """The fields of a text.
+
+    >>> parse_iso8601('2000-01-01T12:00:00.5').second
+    0.5
+    """
 
     year: Any
     month: Any
@@ -90,7 +126,11 @@ class Fields(NamedTuple):
 
 
 class UtcFields(NamedTuple):
-    """The fields of a UTC text, and its date."""
+    """The fields of a UTC text, and its date.
+
+    >>> from_iso8601('2000-01-01T12:00:00.5Z').jd1
+    2451544.5
+    """
 
     year: Any
     month: Any
@@ -104,7 +144,11 @@ class UtcFields(NamedTuple):
 
 
 class Weeks(NamedTuple):
-    """GPS weeks and milliseconds of the week."""
+    """GPS weeks and milliseconds of the week.
+
+    >>> gps_to_week(2458581.5, 0.5).millis
+    129600000
+    """
 
     week: Any
     millis: Any
@@ -112,14 +156,22 @@ class Weeks(NamedTuple):
 
 
 class FullWeeks(NamedTuple):
-    """Whole GPS weeks."""
+    """Whole GPS weeks.
+
+    >>> gps_full_week(2, 2400).week
+    2050
+    """
 
     week: Any
     numbers: Any
 
 
 class Order(NamedTuple):
-    """-1 before the other date, 0 equal, 1 after it."""
+    """-1 before the other date, 0 equal, 1 after it.
+
+    >>> compare(2451545.0, 0.0, 2451545.0, 0.5).order
+    -1
+    """
 
     order: Any
     numbers: Any

@@ -19,7 +19,11 @@ _PLAIN = (np.ndarray, np.memmap)
 
 
 class Field(NamedTuple):
-    """An array of answers: its name and its type."""
+    """An array of answers: its name and its type.
+
+    >>> Field('jd1', FLOAT).dtype
+    '<f8'
+    """
 
     name: str
     dtype: str
@@ -164,6 +168,9 @@ def each(
 
     The answers come in the order of `gives`, whose last is the stamps' numbers where a call may refuse. Of single values the answers are single values, and a
     refusal is raised.
+
+    >>> each('gps_full_week', function('ct_each_full_week'), [('ten_bits', np.array(2)), ('reference', np.array(2400))], [Field('week', INT), Field('numbers', NUMBER)], ['<i4', '<i4'])
+    (2050, 0)
     """
     shape = common_shape(takes)
     places = lent(out, gives, shape)

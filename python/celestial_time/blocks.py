@@ -20,7 +20,11 @@ Source = Union[str, "os.PathLike[str]", bytes, bytearray, memoryview, "NDArray[n
 
 
 class Stamps(NamedTuple):
-    """The stamps of a file, and the number of stamps in each of its blocks."""
+    """The stamps of a file, and the number of stamps in each of its blocks.
+
+    >>> read_blocks(block_of([2451545.0], [0.0])).sizes
+    array([1])
+    """
 
     jd1: NDArray[np.float64]
     jd2: NDArray[np.float64]

@@ -21,7 +21,11 @@ _PAGE = 1 << 16
 
 
 class Recorder(NamedTuple):
-    """A recorder's file as far as it is good: its scale, its stamps, and the block that was refused, or None."""
+    """A recorder's file as far as it is good: its scale, its stamps, and the block that was refused, or None.
+
+    >>> read_recorder('gps', block_of([2451545.0], [0.0])).refused is None
+    True
+    """
 
     scale: str
     stamps: Stamps

@@ -14,7 +14,11 @@ from .tables import Table
 
 
 class Run(NamedTuple):
-    """What a recorder wrote: the name of its scale, and the two parts of its stamps."""
+    """What a recorder wrote: the name of its scale, and the two parts of its stamps.
+
+    >>> Run('gps', [2457754.5], [0.0]).scale
+    'gps'
+    """
 
     scale: str
     jd1: Any
@@ -26,6 +30,9 @@ class Line(NamedTuple):
 
     `places` are the ordered stamps' places in the runs taken one after the other, `run` and `stamp` the same as the run and the place in it; `jd1` and `jd2`
     the TAI of all stamps, and `numbers` their numbers, both in the order of the runs. `counts` are the lengths of the runs.
+
+    >>> line_up([2451545.0, 2451544.0], [0.0, 0.5], (1,)).places
+    array([1, 0], dtype=uint32)
     """
 
     places: NDArray[np.uint32]
