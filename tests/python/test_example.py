@@ -8,8 +8,6 @@ import unittest
 
 import numpy as np
 
-import celestial_time as ct
-
 ROOT = pathlib.Path(__file__).resolve().parents[2]
 PROGRAM = ROOT / "python" / "examples" / "three_recorders.py"
 
