@@ -1,9 +1,10 @@
-/* Loops over the calls of include/celestial_time.h, for the Python package: one call for each stamp of an array, which from Python would take a microsecond.
-   They stand beside the archive in the shared library that the package loads (python/make). The calls are proved; these loops are tested (tests/python) and not proved, and decide nothing: what
-   a call answers goes into the places of its stamp, and what it refuses by goes into the stamp's number.
+/* Loops over the calls of include/celestial_time.h, for the Python package: one call for each stamp of an array, which from Python would take a microsecond,
+   and where there is a call for a whole run, that one. They stand beside the archive in the shared library that the package loads (python/make). The calls are
+   proved; these loops are tested (tests/python) and not proved, and decide nothing: what a call answers goes into the places of its stamp, and what it refuses by
+   goes into the stamp's number.
 
-   A loop is named after the shape of its calls, and `call` is the call. `n` stamps; each array has n places. The number of an answered stamp is 0. In the
-   places of a refused one stand a NaN, the least number of 32 bits, or a text of no byte. Returns how many are refused. An array of answers overlaps no other. */
+   A loop is named after the shape of its calls, and `call` is the call. `n` stamps; each array has n places. The number of an answered stamp is 0. In the places
+   of a refused one stand a NaN, the least number of the type, or a text of no byte. Returns how many are refused. An array of answers overlaps no other. */
 #include "celestial_time.h"
 
 #include <fenv.h>

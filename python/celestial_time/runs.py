@@ -1,6 +1,7 @@
 """Runs of stamps put into one line: whole recorders, by their exact TAI."""
 from __future__ import annotations
 
+from operator import index
 from typing import Any, NamedTuple, Sequence
 
 import numpy as np
@@ -55,7 +56,7 @@ def line_up(jd1: ArrayLike, jd2: ArrayLike, counts: Sequence[int] = (), *, numbe
     (array([0, 2, 1], dtype=uint32), array([0, 1, 0], dtype=uint8), array([0, 0, 0], dtype=uint8))
     """
     first, second = (_in_one_piece(name, value) for name, value in (("jd1", jd1), ("jd2", jd2)))
-    lengths = [int(count) for count in counts]
+    lengths = [index(count) for count in counts]
     if len(lengths) > 2 or any(not 0 <= count < 2**63 for count in lengths):
         raise ValueError(f"counts are {counts}: those of the first and of the second run are due")
     judged = np.zeros(len(first), "u1") if numbers is None else _numbers(numbers)

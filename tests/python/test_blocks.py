@@ -2,6 +2,7 @@
 import io
 import os
 import pathlib
+import pickle
 import struct
 import subprocess
 import sys
@@ -73,6 +74,8 @@ class Blocks(unittest.TestCase):
                 refused = raised.exception
                 self.assertEqual((refused.number, refused.block, refused.at), (number, before, before * len(good)))
                 self.assertEqual(refused.before.jd1.tobytes(), jd1.tobytes() * before)
+                again = pickle.loads(pickle.dumps(refused))
+                self.assertEqual((again.number, again.block, again.at, str(again)), (number, before, refused.at, str(refused)))
         self.assertEqual(len(ct.read_blocks(b"").jd1), 0)
         with self.assertRaises(FileNotFoundError):
             ct.read_blocks(self.at / "none")

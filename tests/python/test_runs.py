@@ -52,7 +52,7 @@ class Runs(unittest.TestCase):
         good = np.zeros(4)
         for error, arguments, keywords in (
             (ct.Refused, (good, good[:3]), {}), (ct.Refused, (good, good, (5,)), {}), (ct.Refused, (good, good), {"numbers": np.zeros(3, "u1")}),
-            (ValueError, (good.reshape(2, 2), good), {}), (ValueError, (good, good, (1, 1, 2)), {}), (ValueError, (good, good, (-1,)), {}),
+            (ValueError, (good.reshape(2, 2), good), {}), (ValueError, (good, good, (1, 1, 2)), {}), (ValueError, (good, good, (-1,)), {}), (TypeError, (good, good, (1.5,)), {}),
             (TypeError, (good, good), {"numbers": np.zeros(4)}), (TypeError, (good, good), {"numbers": np.zeros(4, "i8")}), (TypeError, (good.astype(object), good), {}),
             (ValueError, (0.0, 0.0), {}), (TypeError, (np.ma.array(good), good), {}),
         ):
