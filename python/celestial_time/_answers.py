@@ -1,0 +1,177 @@
+"""What the functions answer: named tuples of arrays, or of single values where single values were given.
+
+The last field, `numbers`, has 0 for a stamp that is answered and the refusal's number for one that is not. In the places of a refused stamp stand NaN, the
+least number of the type (NO_INT of a field of 32 bits), or an empty text.
+"""
+from __future__ import annotations
+
+from typing import Any, NamedTuple
+
+NO_INT = -(2**31)
+
+
+class Dates(NamedTuple):
+    """Two-part Julian dates.
+
+    >>> gpstai(2451545.0, 0.0).jd1
+    2451545.0
+    """
+
+    jd1: Any
+    jd2: Any
+    numbers: Any
+
+
+class DatesByRule(NamedTuple):
+    """Dates, and the row of TAI-UTC that they were read by: `rule` 0 absent, 1 drifting, 2 whole; `row` counted from 0, -1 where absent.
+
+    >>> utctai(2451545.0, 0.0, return_rule=True).rule
+    2
+    """
+
+    jd1: Any
+    jd2: Any
+    rule: Any
+    row: Any
+    numbers: Any
+
+
+class CalendarDates(NamedTuple):
+    """Calendar fields, and the part of the day that has passed.
+
+    >>> jd2cal(2451545.0, 0.0).year
+    2000
+    """
+
+    year: Any
+    month: Any
+    day: Any
+    fraction: Any
+    numbers: Any
+
+
+class Offsets(NamedTuple):
+    """TAI-UTC in seconds, with its rule and row.
+
+    >>> dat(2017, 1, 1).seconds
+    37.0
+    """
+
+    seconds: Any
+    rule: Any
+    row: Any
+    numbers: Any
+
+
+class Leaps(NamedTuple):
+    """The step of TAI-UTC at the end of a day, in seconds.
+
+    >>> leap_at_end_of_day(2016, 12, 31).seconds
+    1.0
+    """
+
+    seconds: Any
+    numbers: Any
+
+
+class Walked(NamedTuple):
+    """TAI-UTC at 0h of dates in time order, and the rows that were compared for it.
+
+    >>> offsets_at_0h([[2017, 1, 1]]).compared
+    42
+    """
+
+    seconds: Any
+    compared: int
+
+
+class Texts(NamedTuple):
+    """Texts as byte strings.
+
+    >>> to_iso8601(2451545.0, 0.0).text
+    b'2000-01-01T12:00:00.000'
+    """
+
+    text: Any
+    numbers: Any
+
+
+class TextsByRule(NamedTuple):
+    """Texts as byte strings, and the row of TAI-UTC of their day.
+
+    >>> to_iso8601(2451545.0, 0.0, return_rule=True).row
+    36
+    """
+
+    text: Any
+    rule: Any
+    row: Any
+    numbers: Any
+
+
+class Fields(NamedTuple):
+    """The fields of a text.
+
+    >>> parse_iso8601('2000-01-01T12:00:00.5').second
+    0.5
+    """
+
+    year: Any
+    month: Any
+    day: Any
+    hour: Any
+    minute: Any
+    second: Any
+    numbers: Any
+
+
+class UtcFields(NamedTuple):
+    """The fields of a UTC text, and its date.
+
+    >>> from_iso8601('2000-01-01T12:00:00.5Z').jd1
+    2451544.5
+    """
+
+    year: Any
+    month: Any
+    day: Any
+    hour: Any
+    minute: Any
+    second: Any
+    jd1: Any
+    jd2: Any
+    numbers: Any
+
+
+class Weeks(NamedTuple):
+    """GPS weeks and milliseconds of the week.
+
+    >>> gps_to_week(2458581.5, 0.5).millis
+    129600000
+    """
+
+    week: Any
+    millis: Any
+    numbers: Any
+
+
+class FullWeeks(NamedTuple):
+    """Whole GPS weeks.
+
+    >>> gps_full_week(2, 2400).week
+    2050
+    """
+
+    week: Any
+    numbers: Any
+
+
+class Order(NamedTuple):
+    """-1 before the other date, 0 equal, 1 after it.
+
+    >>> compare(2451545.0, 0.0, 2451545.0, 0.5).order
+    -1
+    """
+
+    order: Any
+    numbers: Any

@@ -1,0 +1,211 @@
+"""Arrays handed to a loop of the library: what is taken, what is lent, and one walk over both.
+
+An array of the right type that lies in one piece is handed over as it is. Any other, one that is broadcast, strided, byte-swapped or of a smaller type, goes
+through a buffer of some thousand places; none is copied whole. Nothing is called before every argument has been looked at.
+"""
+from __future__ import annotations
+
+from typing import Any, Callable, NamedTuple, Sequence
+
+import numpy as np
+from numpy.typing import ArrayLike, NDArray
+
+from ._library import check_float_mode
+from .refusals import Refused
+
+BUFFER = 1 << 16
+FLOAT, INT, NUMBER = "<f8", "<i4", "u1"
+_PLAIN = (np.ndarray, np.memmap)
+
+
+class Field(NamedTuple):
+    """An array of answers: its name and its type.
+
+    >>> Field('jd1', FLOAT).dtype
+    '<f8'
+    """
+
+    name: str
+    dtype: str
+
+
+def as_array(name: str, value: ArrayLike) -> NDArray[Any]:
+    """The argument as a plain array; a masked array, or one with units, would lose what it has beside its numbers.
+
+    >>> as_array('jd1', [1, 2.5])
+    array([1. , 2.5])
+    >>> as_array('jd1', np.ma.masked_array([1.0], [True]))
+    Traceback (most recent call last):
+    TypeError: jd1 is a MaskedArray; hand over a plain array, of a masked one .filled(nan) or what is not masked
+    """
+    if isinstance(value, np.ndarray) and type(value) not in _PLAIN:
+        kind = type(value).__name__
+        raise TypeError(f"{name} is a {kind}; hand over a plain array, of a masked one .filled(nan) or what is not masked")
+    return np.asarray(value)
+
+
+def floats(name: str, value: ArrayLike) -> NDArray[Any]:
+    """Numbers that become 64-bit floats with nothing lost: floats of at most 64 bits, and whole numbers up to 2^53.
+
+    >>> floats('jd1', ['2451545.0'])
+    Traceback (most recent call last):
+    TypeError: jd1 is of type <U9 and not of 64-bit floats
+    """
+    array = as_array(name, value)
+    if array.dtype.kind not in "fiu" or not np.can_cast(array.dtype, FLOAT, "safe"):
+        raise TypeError(f"{name} is of type {array.dtype} and not of 64-bit floats")
+    if array.dtype.kind != "f" and array.dtype.itemsize == 8 and array.size:
+        for end in (int(array.min()), int(array.max())):
+            if abs(end) > 1 << 53:
+                raise OverflowError(f"{name} holds {end}, which a 64-bit float may round")
+    return array
+
+
+def whole(name: str, value: ArrayLike, dtype: str) -> NDArray[Any]:
+    """Whole numbers that fit the type: a number outside it can't be handed over, and is told with its place.
+
+    >>> whole('year', [2000, 1 << 31], INT)
+    Traceback (most recent call last):
+    OverflowError: year holds 2147483648 at place 1, which is no int32
+    """
+    array = as_array(name, value)
+    if array.dtype.kind not in "iu" and array.size:
+        raise TypeError(f"{name} is of type {array.dtype} and not of whole numbers")
+    if np.can_cast(array.dtype, dtype, "safe"):
+        return array
+    limits = np.iinfo(dtype)
+    if array.size:
+        # Python's own whole numbers: a comparison of int64 with uint64 would go by floats.
+        for end, place in ((int(array.min()), array.argmin), (int(array.max()), array.argmax)):
+            if not limits.min <= end <= limits.max:
+                raise OverflowError(f"{name} holds {end} at place {int(place())}, which is no {limits.dtype}")
+    # In range, a signed number of the same width has the bits of the unsigned one.
+    native = array.dtype.isnative and array.dtype.itemsize == limits.dtype.itemsize
+    return array.view(dtype) if native and array.dtype.kind in "iu" else array.astype(dtype)
+
+
+def small(name: str, value: ArrayLike) -> NDArray[Any]:
+    """A month, day, hour or minute for a call that takes 8 bits: what does not fit becomes 255, which the call refuses by the same number.
+
+    >>> small('month', [12, 13, -1, 1000])
+    array([ 12,  13, 255, 255], dtype=uint8)
+    """
+    array = as_array(name, value)
+    if array.dtype.kind not in "iu" and array.size:
+        raise TypeError(f"{name} is of type {array.dtype} and not of whole numbers")
+    if array.dtype == np.uint8:
+        return array
+    held = array.astype("u1")
+    return np.where((array < 0) | (array > 255), np.uint8(255), held)
+
+
+def lent(out: Sequence[Any] | None, gives: Sequence[Field], shape: tuple[int, ...]) -> list[NDArray[Any] | None]:
+    """The arrays that the caller lends for the answers, each of the answers' shape and of a type that holds them.
+
+    >>> lent(([1.0],), [Field('jd1', FLOAT)], (1,))
+    Traceback (most recent call last):
+    TypeError: out: jd1 is lent as a list and not as an array
+    """
+    if out is None:
+        return [None] * len(gives)
+    if not isinstance(out, (tuple, list)) or len(out) != len(gives):
+        raise ValueError(f"out: {len(gives)} arrays are due, each an array or None: {', '.join(field.name for field in gives)}")
+    for field, array in zip(gives, out):
+        if array is None:
+            continue
+        if type(array) not in _PLAIN:
+            raise TypeError(f"out: {field.name} is lent as a {type(array).__name__} and not as an array")
+        if not np.can_cast(field.dtype, array.dtype, "safe"):
+            raise TypeError(f"out: {field.name} is of type {array.dtype}, which does not hold {np.dtype(field.dtype)}")
+        if array.shape != shape:
+            raise ValueError(f"out: {field.name} has shape {array.shape}, and the answers have {shape}")
+        if not array.flags.writeable:
+            raise ValueError(f"out: {field.name} is read-only")
+    if any(a is not None and b is not None and _overlap(a, b) for i, a in enumerate(out) for b in out[:i]):
+        raise ValueError("out: two of the arrays share their memory")
+    return list(out)
+
+
+def _overlap(one: NDArray[Any], other: NDArray[Any]) -> bool:
+    try:
+        return bool(np.shares_memory(one, other, max_work=100000))
+    except RuntimeError:  # numpy's TooHardError: so many steps do not tell
+        return True
+
+
+def common_shape(takes: Sequence[tuple[str, NDArray[Any]]]) -> tuple[int, ...]:
+    """The shape to which numpy broadcasts the arguments.
+
+    >>> common_shape([('jd1', np.zeros(2)), ('jd2', np.zeros(3))])
+    Traceback (most recent call last):
+    ValueError: jd1 of shape (2,), jd2 of shape (3,) do not go together
+    """
+    try:
+        return np.broadcast_shapes(*(array.shape for _, array in takes))
+    except ValueError:
+        said = ", ".join(f"{name} of shape {array.shape}" for name, array in takes)
+        raise ValueError(f"{said} do not go together") from None
+
+
+def address_of(array: NDArray[Any]) -> int:
+    """Where an array's first place lies.
+
+    >>> address_of(np.zeros(1)) > 0
+    True
+    """
+    return int(array.__array_interface__["data"][0])
+
+
+def each(
+    name: str,
+    loop: Callable[..., int],
+    takes: Sequence[tuple[str, NDArray[Any]]],
+    gives: Sequence[Field],
+    dtypes: Sequence[str],
+    out: Sequence[Any] | None = None,
+) -> tuple[Any, ...]:
+    """Walk over the arguments and the answers, and call `loop(n, address, ..)` for each stretch of n places that lies in one piece.
+
+    The answers come in the order of `gives`, whose last is the stamps' numbers where a call may refuse. Of single values the answers are single values, and a
+    refusal is raised.
+
+    >>> each('gps_full_week', function('ct_each_full_week'), [('ten_bits', np.array(2)), ('reference', np.array(2400))], [Field('week', INT), Field('numbers', NUMBER)], ['<i4', '<i4'])
+    (2050, 0)
+    """
+    shape = common_shape(takes)
+    places = lent(out, gives, shape)
+    check_float_mode()
+    single = shape == () and out is None
+    # Without nditer's flag `contig`: with it numpy 1.24 leaves a buffer unfilled where one value of another type is broadcast.
+    operands: Any = [array for _, array in takes] + places
+    flags: Any = [["readonly", "aligned"]] * len(takes) + [["writeonly", "allocate", "aligned", "no_broadcast"]] * len(gives)
+    walk = np.nditer(
+        operands,
+        flags=["external_loop", "buffered", "zerosize_ok", "copy_if_overlap"],
+        op_flags=flags,
+        op_dtypes=[*dtypes, *(field.dtype for field in gives)],
+        casting="safe",
+        buffersize=BUFFER,
+    )
+    with walk:
+        for stretch in walk:
+            _in_one_piece(name, loop, stretch[: len(takes)], stretch[len(takes) :])
+        answers = [kept if kept is not None else made for kept, made in zip(places, walk.operands[len(takes) :])]
+    if not single:
+        return tuple(answers)
+    values = tuple(answer.item() for answer in answers)
+    if gives[-1].name == "numbers" and values[-1]:
+        raise Refused(values[-1], name, {argument: array.item() for argument, array in takes})
+    return values
+
+
+def _in_one_piece(name: str, loop: Callable[..., int], taken: Sequence[NDArray[Any]], given: Sequence[NDArray[Any]]) -> None:
+    """One stretch: what does not lie in one piece goes through arrays that do."""
+    handed = [np.ascontiguousarray(part) for part in taken]
+    filled = [part if part.flags.c_contiguous else np.empty(part.shape, part.dtype) for part in given]
+    code = loop(len(handed[0]), *map(address_of, handed), *map(address_of, filled))
+    if code < 0:
+        raise Refused(-code, name)
+    for part, whole_part in zip(given, filled):
+        if part is not whole_part:
+            part[...] = whole_part

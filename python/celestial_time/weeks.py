@@ -1,0 +1,42 @@
+"""GPS weeks and milliseconds of the week, and GPS dates, both ways."""
+from __future__ import annotations
+
+from numpy.typing import ArrayLike
+
+from ._answers import Dates, FullWeeks, Weeks
+from ._arrays import FLOAT, INT, NUMBER, Field, each, floats, whole
+from ._library import function
+from .scales import Out
+
+_NUMBERS = Field("numbers", NUMBER)
+
+
+def gps_from_week(week: ArrayLike, millis: ArrayLike, *, out: Out = None) -> Dates:
+    """The GPS date of a week, counted from 1980-01-06, and a millisecond of it.
+
+    >>> gps_from_week([0, 2048], 43200000)
+    Dates(jd1=array([2444244.5, 2458580.5]), jd2=array([0.5, 0.5]), numbers=array([0, 0], dtype=uint8))
+    """
+    takes = [("week", whole("week", week, "<u4")), ("millis", whole("millis", millis, "<u4"))]
+    gives = [Field("jd1", FLOAT), Field("jd2", FLOAT), _NUMBERS]
+    return Dates(*each("gps_from_week", function("ct_each_week_date"), takes, gives, ["<u4"] * 2, out))
+
+
+def gps_to_week(gps1: ArrayLike, gps2: ArrayLike, *, out: Out = None) -> Weeks:
+    """The week of a GPS date and the nearest millisecond of it.
+
+    >>> gps_to_week(2458581.5, [0.5, 7.0])
+    Weeks(week=array([2048, 2049], dtype=int32), millis=array([129600000,  86400000], dtype=int32), numbers=array([0, 0], dtype=uint8))
+    """
+    takes = [("jd1", floats("gps1", gps1)), ("jd2", floats("gps2", gps2))]
+    return Weeks(*each("gps_to_week", function("ct_each_week"), takes, [Field("week", INT), Field("millis", INT), _NUMBERS], [FLOAT] * 2, out))
+
+
+def gps_full_week(ten_bits: ArrayLike, reference: ArrayLike, *, out: Out = None) -> FullWeeks:
+    """The whole week of its ten lowest bits that lies nearest the reference week.
+
+    >>> gps_full_week(2, [2400, 514])
+    FullWeeks(week=array([       2050, -2147483648], dtype=int32), numbers=array([ 0, 19], dtype=uint8))
+    """
+    takes = [("ten_bits", whole("ten_bits", ten_bits, "<u4")), ("reference", whole("reference", reference, "<u4"))]
+    return FullWeeks(*each("gps_full_week", function("ct_each_full_week"), takes, [Field("week", INT), _NUMBERS], ["<u4"] * 2, out))

@@ -1,0 +1,330 @@
+"""Every function that goes over stamps, against the single calls: on plain arrays, and on arrays of every other make."""
+import math
+import pickle
+import tempfile
+import unittest
+import warnings
+
+import numpy as np
+
+import celestial_time as ct
+import singles
+from celestial_time import _arrays
+
+COUNT = 400
+
+
+def arrays_of(answer):
+    return answer if isinstance(answer, tuple) else (answer,)
+
+
+def same(a, b):
+    """The same type, shape and values, any NaN as any other."""
+    return a.dtype == b.dtype and a.shape == b.shape and (np.array_equal(a, b, equal_nan=True) if a.dtype.kind == "f" else np.array_equal(a, b))
+
+
+def unchanged(before, after):
+    return all(np.array_equal(a, np.array(b), equal_nan=a.dtype.kind == "f") for a, b in zip(before, after))
+
+
+def blank(array):
+    """What stands in the places of a refused stamp."""
+    kind = array.dtype.kind
+    return math.nan if kind == "f" else b"" if kind == "S" else np.iinfo(array.dtype).min
+
+
+class Functions(unittest.TestCase):
+    def setUp(self):
+        warnings.simplefilter("ignore", PendingDeprecationWarning)  # np.matrix, which is tried as a wrong argument
+        self.rng = np.random.default_rng(20161231)
+
+    def every(self):
+        yield from singles.cases(self.rng, COUNT)
+        yield from singles.never_refused(self.rng, COUNT)
+
+    def test_stamp_by_stamp(self):
+        """Each place has what the single call answers, and a refused one its number and blanks; both kinds are there."""
+        for case in singles.cases(self.rng, COUNT):
+            with self.subTest(case.name):
+                answer = case.function(*case.inputs)
+                numbers = answer.numbers
+                self.assertEqual(numbers.dtype, np.uint8)
+                for i, arguments in enumerate(zip(*(part.tolist() for part in case.inputs))):
+                    code, values = case.single(*arguments)
+                    due = [blank(part) for part in answer[:-1]] if values is None else values
+                    self.assertEqual(numbers[i], max(0, -code), (case.name, arguments))
+                    for part, value in zip(answer, due):
+                        got = part[i].item()
+                        self.assertTrue(got == value or got != got and value != value, (case.name, arguments, got, value))
+                        if isinstance(value, float) and value == 0:
+                            self.assertEqual(math.copysign(1, got), math.copysign(1, value), (case.name, arguments))
+                refused = np.count_nonzero(numbers)
+                if not case.name.startswith("add_"):
+                    self.assertGreater(refused, 0, case.name)
+                self.assertGreater(COUNT - refused, COUNT // 20, case.name)
+
+    def test_never_refused(self):
+        for case in singles.never_refused(self.rng, COUNT):
+            with self.subTest(case.name):
+                answer = case.function(*case.inputs)
+                for i, arguments in enumerate(zip(*(part.tolist() for part in case.inputs))):
+                    due = case.single(*arguments)
+                    self.assertTrue(answer[i] == due or due != due and answer[i] != answer[i], (case.name, arguments))
+
+    def test_single_values(self):
+        """A single value answers a single value, and a refusal is raised with its number; an array of no dimension is a single value."""
+        for case in self.every():
+            with self.subTest(case.name):
+                whole = arrays_of(case.function(*case.inputs))
+                for i, arguments in enumerate(zip(*(part[:60] for part in case.inputs))):
+                    for given in (arguments, [part.item() for part in arguments], [np.array(part) for part in arguments]):
+                        due = [part[i].item() for part in whole]
+                        if "numbers" in getattr(case.function(*case.inputs), "_fields", ()) and due[-1]:
+                            with self.assertRaises(ct.Refused) as raised:
+                                case.function(*given)
+                            self.assertEqual(raised.exception.number, due[-1])
+                            again = pickle.loads(pickle.dumps(raised.exception))
+                            self.assertEqual((again.number, again.call), (raised.exception.number, raised.exception.call))
+                            continue
+                        got = arrays_of(case.function(*given))
+                        for one, other in zip(got, due):
+                            self.assertNotIsInstance(one, np.ndarray)
+                            self.assertTrue(one == other or one != one and other != other, case.name)
+
+    def other_makes(self, array):
+        """The same values in arrays of other makes."""
+        wide = np.empty((len(array), 3), array.dtype)
+        wide[:, 1] = array
+        odd = np.empty(array.nbytes + 1, "u1")[1:].view(array.dtype)
+        odd[...] = array
+        locked = array.copy()
+        locked.flags.writeable = False
+        swapped = array.astype(array.dtype.newbyteorder(">")) if array.dtype.kind in "fiu" else array
+        yield "strided", wide[:, 1]
+        yield "backwards", array[::-1].copy()[::-1]
+        yield "unaligned", odd
+        yield "read-only", locked
+        yield "big-endian", swapped
+        yield "big-endian and strided", np.repeat(swapped, 2)[::2]
+        yield "list", array.tolist()
+        yield "memmap", self.mapped(array)
+
+    def mapped(self, array):
+        with tempfile.TemporaryFile() as file:
+            made = np.memmap(file, array.dtype, "w+", shape=array.shape)
+        made[...] = array
+        return made
+
+    def test_makes_of_arrays(self):
+        for case in self.every():
+            due = arrays_of(case.function(*case.inputs))
+            makes = [list(self.other_makes(part)) for part in case.inputs]
+            for which in range(len(makes[0])):
+                with self.subTest(case.name, make=makes[0][which][0]):
+                    given = [make[which][1] for make in makes]
+                    kept = [np.array(part) for part in given]
+                    got = arrays_of(case.function(*given))
+                    self.assertTrue(all(map(same, got, due)))
+                    self.assertTrue(unchanged(kept, given))
+
+    def test_shapes(self):
+        """Two dimensions in either order, one value broadcast over the others, and none."""
+        for case in self.every():
+            due = arrays_of(case.function(*case.inputs))
+            with self.subTest(case.name):
+                for order in "CF":
+                    got = arrays_of(case.function(*(np.asarray(part.reshape(20, -1), order=order) for part in case.inputs)))
+                    self.assertTrue(all(same(a, b.reshape(20, -1)) for a, b in zip(got, due)))
+                got = arrays_of(case.function(*(part.reshape(20, -1).T for part in case.inputs)))
+                self.assertTrue(all(same(a, b.reshape(20, -1).T) for a, b in zip(got, due)))
+                for which in range(len(case.inputs)):
+                    spread = [part[7:8] if which == i else part for i, part in enumerate(case.inputs)]
+                    held = [np.repeat(part[7:8], COUNT) if which == i else part for i, part in enumerate(case.inputs)]
+                    if len(case.inputs) > 1:
+                        self.assertTrue(all(map(same, arrays_of(case.function(*spread)), arrays_of(case.function(*held)))))
+                for shape in ((0,), (0, 3), (3, 0)):
+                    got = arrays_of(case.function(*(np.empty(shape, part.dtype) for part in case.inputs)))
+                    self.assertTrue(all(a.shape == shape and a.dtype == b.dtype for a, b in zip(got, due)))
+                got = arrays_of(case.function(*([] for _ in case.inputs)))
+                self.assertTrue(all(a.shape == (0,) for a in got))
+
+    def test_long_arrays(self):
+        """More stamps than a buffer has places, in one piece and not, give the same."""
+        jd1, jd2 = singles.dates(self.rng, 300001)
+        due = ct.utctai(jd1, jd2)
+        for given in ((jd1.astype(">f8"), jd2), (np.repeat(jd1, 2)[::2], jd2), (jd1[:, None], jd2[:, None])):
+            got = ct.utctai(*given)
+            self.assertTrue(all(same(a.ravel(), b) for a, b in zip(got, due)))
+        self.assertTrue(same(ct.to_iso8601(jd1.astype(">f8"), jd2).text, ct.to_iso8601(jd1, jd2).text))
+
+    def test_lent_arrays(self):
+        """Answers in arrays that the caller lends: of one piece, strided, byte-swapped; an input lent as an answer."""
+        for case in self.every():
+            due = arrays_of(case.function(*case.inputs))
+            lend = lambda made: {"out": tuple(made) if isinstance(case.function(*case.inputs), tuple) else made[0]}
+            with self.subTest(case.name):
+                for make in (lambda a: np.empty_like(a), lambda a: np.empty((len(a), 2), a.dtype)[:, 1], lambda a: np.empty(len(a), a.dtype)[::-1],
+                             lambda a: np.empty(len(a), a.dtype.newbyteorder(">") if a.dtype.kind in "fiu" else a.dtype)):
+                    made = [make(part) for part in due]
+                    got = arrays_of(case.function(*case.inputs, **lend(made)))
+                    self.assertTrue(all(a is b for a, b in zip(got, made)))
+                    self.assertTrue(all(same(a.astype(b.dtype), b) for a, b in zip(made, due)))
+                inputs = [part.copy() for part in case.inputs]
+                if isinstance(case.function(*case.inputs), ct.Dates) and len(inputs) >= 2 and all(part.dtype == float for part in inputs):
+                    case.function(*inputs, out=(inputs[1], inputs[0], None))
+                    self.assertTrue(same(inputs[1], due[0]) and same(inputs[0], due[1]))
+
+    def test_nothing_is_lost(self):
+        """A wrong argument is an error that names it, and changes neither arguments nor lent arrays."""
+        wrong = [
+            ("object", TypeError, lambda a: a.astype(object)),
+            ("masked", TypeError, lambda a: np.ma.masked_array(a, np.zeros(len(a), bool))),
+            ("matrix", TypeError, lambda a: np.asmatrix(a)),
+            ("bool", TypeError, lambda a: np.zeros(len(a), bool)),
+            ("complex", TypeError, lambda a: np.zeros(len(a), complex)),
+            ("dates", TypeError, lambda a: np.zeros(len(a), "M8[s]")),
+            ("void", TypeError, lambda a: np.zeros(len(a), [("jd1", "<f8")])),
+            ("None", TypeError, lambda a: [None] * len(a)),
+        ]
+        for case in self.every():
+            answer = case.function(*case.inputs)
+            made = [np.full_like(part, 7) for part in arrays_of(answer)]
+            kept = [part.copy() for part in made]
+            out = {"out": tuple(made) if isinstance(answer, tuple) else made[0]}
+            tries = [(name, error, which, make(part)) for which, part in enumerate(case.inputs) for name, error, make in wrong]
+            for which, part in enumerate(case.inputs):
+                if part.dtype.kind != "S":
+                    with np.errstate(invalid="ignore"):  # a NaN that signals
+                        tries += [("text", TypeError, which, part.astype("S40")), ("long double", TypeError, which, part.astype(np.longdouble))]
+                else:
+                    tries += [("float", TypeError, which, np.zeros(len(part)))]
+                if part.dtype.kind == "i":
+                    tries += [("float", TypeError, which, part.astype(float))]
+                if len(case.inputs) > 1:
+                    tries += [("length", ValueError, which, part[:-1])]
+            for name, error, which, value in tries:
+                with self.subTest(case.name, wrong=name, which=which):
+                    given = [value if i == which else part for i, part in enumerate(case.inputs)]
+                    with self.assertRaises(error) as raised:
+                        case.function(*given, **out)
+                    self.assertGreater(len(str(raised.exception)), 10)
+                    self.assertTrue(unchanged(kept, made))
+
+    def test_wrong_lent_arrays(self):
+        for case in self.every():
+            answer = case.function(*case.inputs)
+            several = isinstance(answer, tuple)
+            parts = arrays_of(answer)
+            locked = [np.full_like(part, 7) for part in parts]
+            for part in locked:
+                part.flags.writeable = False
+            narrow = {"f": np.float32, "i": np.int8, "u": np.int8, "S": "S10", "b": "S1"}
+            wrong = [("read-only", ValueError, lambda i: locked[i]), ("shape", ValueError, lambda i: np.full(len(parts[i]) + 1, 7).astype(parts[i].dtype)),
+                     ("list", TypeError, lambda i: parts[i].tolist()), ("masked", TypeError, lambda i: np.ma.array(parts[i])),
+                     ("object", TypeError, lambda i: None if parts[i].dtype == np.int8 else np.full(len(parts[i]), 7).astype(narrow[parts[i].dtype.kind]))]
+            for name, error, make in wrong:
+                for which in range(len(parts)):
+                    made = [make(i) if i == which else np.full_like(part, 7) for i, part in enumerate(parts)]
+                    if made[which] is None:
+                        continue
+                    kept = [np.array(part) for part in made]
+                    with self.subTest(case.name, wrong=name, which=which):
+                        with self.assertRaises(error) as raised:
+                            case.function(*case.inputs, out=tuple(made) if several else made[0])
+                        self.assertIn("out: ", str(raised.exception))
+                        self.assertTrue(unchanged(kept, made))
+            if several:
+                with self.assertRaises(ValueError):
+                    case.function(*case.inputs, out=parts[:-1])
+                with self.assertRaises(ValueError):
+                    case.function(*case.inputs, out=parts[0])
+        with self.assertRaises(ValueError):
+            one = np.empty(2)
+            ct.gpstai([1.0, 2.0], 0.0, out=(one, one, None))
+
+    def test_no_copies(self):
+        """Arrays in one piece are handed over where they lie: what the loops get are places in the arguments and in the answers."""
+        jd1, jd2 = singles.dates(self.rng, 200000)
+        handed = []
+        kept = _arrays._in_one_piece
+        try:
+            _arrays._in_one_piece = lambda name, loop, *parts: (handed.append(parts), kept(name, loop, *parts))
+            for lent in (None, (np.empty(200000), np.empty(200000), np.empty(200000, "u1"))):
+                handed.clear()
+                answer = ct.utctai(jd1, jd2, out=lent)
+                self.assertEqual(sum(len(taken[0]) for taken, _ in handed), 200000)
+                for taken, given in handed:
+                    self.assertTrue(all(np.shares_memory(part, whole) for part, whole in zip((*taken, *given), (jd1, jd2, *answer))))
+        finally:
+            _arrays._in_one_piece = kept
+
+    def test_interleaved(self):
+        """The two parts lent as columns of one array."""
+        jd1, jd2 = singles.dates(self.rng, COUNT)
+        due = ct.gpstai(jd1, jd2)
+        both = np.empty((COUNT, 2))
+        ct.gpstai(jd1, jd2, out=(both[:, 0], both[:, 1], None))
+        self.assertTrue(np.array_equal(both, np.stack([due.jd1, due.jd2], 1), equal_nan=True))
+
+    def test_other_numbers(self):
+        """Whole numbers and smaller floats become 64-bit floats as numpy makes them."""
+        for dtype in (np.int8, np.int32, np.int64, np.uint64, np.float32, np.float16, ">i4"):
+            given = np.array([0, 1, 100], dtype)
+            for other in (np.array(0, dtype), np.zeros(1, dtype), np.zeros(3, dtype)):
+                self.assertTrue(all(map(same, ct.gpstai(given, other), ct.gpstai(given.astype(float), np.zeros(3)))))
+                self.assertTrue(all(map(same, ct.gpstai(other, given), ct.gpstai(np.zeros(3), given.astype(float)))))
+        self.assertEqual(ct.gpstai(2451545, 0), ct.gpstai(2451545.0, 0.0))
+
+    def test_one_value_of_every_make(self):
+        """One value of each make, broadcast over the others of each make."""
+        for case in self.every():
+            for which in range(len(case.inputs)):
+                if len(case.inputs) == 1:
+                    continue
+                held = [np.repeat(part[5], COUNT) if i == which else part for i, part in enumerate(case.inputs)]
+                due = arrays_of(case.function(*held))
+                ones = [part[5:6] for part in map(np.asarray, (make for _, make in self.other_makes(case.inputs[which])))]
+                for one in ones:
+                    for given in (one, one[0], one.reshape(1, 1)[0]):
+                        for others in (lambda part: part, lambda part: part.astype(part.dtype.newbyteorder(">"))):
+                            got = arrays_of(case.function(*(given if i == which else others(part) for i, part in enumerate(case.inputs))))
+                            self.assertTrue(all(map(same, got, due)), (case.name, which))
+
+    def test_numbers_that_do_not_fit(self):
+        for wrong in (1 << 31, -(1 << 31) - 1, 1 << 63, 1 << 64, -(1 << 64)):
+            with self.assertRaises((OverflowError, TypeError)):
+                ct.cal2jd(wrong, 1, 1)
+            with self.assertRaises((OverflowError, TypeError)):
+                ct.cal2jd([2000, wrong], 1, 1)
+        for function in (ct.gps_from_week, ct.gps_full_week):
+            for wrong in (-1, 1 << 32):
+                with self.assertRaises(OverflowError):
+                    function(wrong, 0)
+        with self.assertRaises(OverflowError):
+            ct.from_unix(1 << 63)
+        for wrong in ((1 << 53) + 1, -(1 << 60), np.uint64((1 << 64) - 1), [0, 1 << 62]):
+            with self.assertRaises(OverflowError):
+                ct.gpstai(wrong, 0.0)
+        self.assertEqual(ct.gpstai(1 << 53, 0).numbers, 0)
+        for small in (np.int8(-1), np.uint16(300), np.int64(-(1 << 63)), np.uint64((1 << 64) - 1), 256):
+            self.assertEqual(ct.dtf2d("utc", [2000], small, 1, 0, 0, 0.0).numbers.tolist(), [2])
+
+    def test_texts_in_unicode(self):
+        given = ["2016-12-31T23:59:60.5Z", "2000-01-01T00:00:00", "zwölf", ""]
+        due = ct.from_iso8601([text.encode() for text in given])
+        for texts in (given, np.array(given)):
+            self.assertTrue(all(map(same, ct.from_iso8601(texts), due)))
+        self.assertEqual(due.numbers.tolist(), [0, 0, 15, 15])
+        self.assertEqual(ct.from_iso8601(np.empty(2, "S0")).numbers.tolist(), [15, 15])
+
+    def test_names(self):
+        for wrong in (lambda: ct.convert("gsp", "tai", 0.0, 0.0), lambda: ct.convert("tcb", "tai", 0.0, 0.0), lambda: ct.convert("ut1", "ut1", 0.0, 0.0), lambda: ct.convert("gps", None, 0.0, 0.0), lambda: ct.to_iso8601(0.0, 0.0, sheet="iso"),
+                      lambda: ct.dtf2d("UTC", 2000, 1, 1, 0, 0, 0.0), lambda: ct.same_stamp("tai", 0.0, 0.0, 1, 0.0, 0.0)):
+            with self.assertRaises(ValueError):
+                wrong()
+        with self.assertRaises(TypeError):
+            ct.utctai(2451545.0, 0.0, table=bytes(136))
+
+
+if __name__ == "__main__":
+    unittest.main()

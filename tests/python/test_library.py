@@ -1,0 +1,165 @@
+"""Finding the library, the examples of the docstrings, the float mode, reasons, and what every public name must have."""
+import contextlib
+import ctypes
+import doctest
+import importlib
+import inspect
+import io
+import os
+import pathlib
+import pkgutil
+import re
+import subprocess
+import sys
+import tempfile
+import unittest
+
+import numpy as np
+
+import celestial_time as ct
+from celestial_time import _library
+
+ROOT = pathlib.Path(__file__).resolve().parents[2]
+MODULES = [importlib.import_module(f"celestial_time.{one.name}") for one in pkgutil.iter_modules(ct.__path__)]
+
+
+def python(code, **environment):
+    held = {**os.environ, "PYTHONPATH": str(ROOT / "python"), **environment}
+    return subprocess.run([sys.executable, "-c", code], capture_output=True, text=True, env=held)
+
+
+class Library(unittest.TestCase):
+    def test_examples(self):
+        tried = 0
+        for module in (ct, *MODULES):
+            space = {**vars(_library), **vars(ct), **vars(module), "np": np}
+            for test in doctest.DocTestFinder(exclude_empty=True).find(module, globs=space):
+                if "reason" in test.name and not _library.has("ct_reason"):
+                    continue
+                with self.subTest(test.name), contextlib.redirect_stderr(io.StringIO()):
+                    result = doctest.DocTestRunner(verbose=False, optionflags=doctest.ELLIPSIS).run(test)
+                    self.assertEqual(result.failed, 0)
+                    tried += result.attempted
+        self.assertGreater(tried, 80)
+
+    def test_every_name_has_an_example_and_types(self):
+        """Every public function and class has a docstring with an example that is run, and each function a type for each argument and for its answer."""
+        for module in MODULES:
+            for name, one in vars(module).items():
+                if name.startswith("_") or getattr(one, "__module__", "") != module.__name__:
+                    continue
+                target = inspect.unwrap(one) if inspect.isfunction(inspect.unwrap(one)) else one
+                with self.subTest(f"{module.__name__}.{name}"):
+                    if inspect.isfunction(target) or inspect.isclass(target) and module.__name__ != "celestial_time.__main__":
+                        self.assertIn(">>> ", one.__doc__)
+                    if inspect.isfunction(target):
+                        signature = inspect.signature(target)
+                        self.assertTrue(all(part.annotation is not part.empty for part in signature.parameters.values()))
+                        self.assertIsNot(signature.return_annotation, signature.empty)
+
+    def test_loops_take_what_the_file_says(self):
+        """The number of arguments of each loop, by loops.c."""
+        text = (ROOT / "python" / "celestial_time" / "loops.c").read_text()
+        found = {name: 0 if inside.strip() == "void" else inside.count(",") + 1 for name, inside in re.findall(r"^(?:int64_t|int) (ct_each_\w+)\(([^)]*)\)\n\{", text, re.M)}
+        self.assertEqual(found, _library._LOOPS)
+
+    def test_calls_take_what_the_header_says(self):
+        text = (ROOT / "include" / "celestial_time.h").read_text()
+        sizes = {"uint8_t": 1, "uint32_t": 4, "int32_t": 4, "uint64_t": 8, "int64_t": 8, "size_t": 8, "double": 8}
+        declared = dict(re.findall(r"^int64_t (ct_\w+)\(([^)]*)\);", text, re.M))
+        held = 0
+        for name, types in _library._CALLS.items():
+            if name not in declared:
+                continue
+            held += 1
+            due = ["pointer" if "*" in one else one.split()[-2] for one in declared[name].split(",")]
+            self.assertEqual(len(due), len(types), name)
+            for one, kind in zip(due, types):
+                self.assertEqual(kind is ctypes.c_void_p, one == "pointer", name)
+                if one != "pointer":
+                    self.assertEqual(ctypes.sizeof(kind), sizes[one], name)
+                    self.assertEqual(kind is ctypes.c_double, one == "double", name)
+        self.assertGreaterEqual(held, 6)
+
+    def test_import_loads_nothing(self):
+        done = python("import celestial_time; from celestial_time import _library; print(_library._loaded)")
+        self.assertEqual(done.stdout, "None\n")
+
+    def test_places(self):
+        library = _library.library()._name
+        with tempfile.TemporaryDirectory() as folder:
+            done = python("import celestial_time as ct; print(ct.gpstai(2451545.0, 0.0).numbers)", CELESTIAL_TIME_LIBRARY=library)
+            self.assertEqual(done.stdout, "0\n")
+            for wrong in (f"{folder}/none.so", str(ROOT / "README.md"), folder):
+                done = python("import celestial_time as ct; ct.gpstai(2451545.0, 0.0)", CELESTIAL_TIME_LIBRARY=wrong)
+                self.assertEqual(done.returncode, 1)
+                self.assertIn("LibraryError", done.stderr.splitlines()[-1])
+                self.assertIn(wrong, done.stderr.splitlines()[-1])
+            bare = pathlib.Path(folder, "bare.so")
+            subprocess.run(["cc", "-shared", "-o", bare, "-x", "c", "/dev/null"], check=True)
+            done = python("import celestial_time as ct; ct.gpstai(2451545.0, 0.0)", CELESTIAL_TIME_LIBRARY=str(bare))
+            self.assertIn("LibraryError: the library has no ct_each_", done.stderr.splitlines()[-1])
+            package = pathlib.Path(folder, "celestial_time")
+            package.mkdir()
+            for file in pathlib.Path(ct.__file__).parent.glob("*.py"):
+                (package / file.name).write_text(file.read_text())
+            done = python("import celestial_time as ct; ct.gpstai(2451545.0, 0.0)", PYTHONPATH=folder, CELESTIAL_TIME_LIBRARY="")
+            self.assertIn("LibraryError: there is no libcelestial_time_arrays.so", done.stderr.splitlines()[-1])
+            (package / "libcelestial_time_arrays.so").write_bytes(pathlib.Path(library).read_bytes())
+            done = python("import celestial_time as ct; print(ct.gpstai(2451545.0, 0.0).numbers)", PYTHONPATH=folder, CELESTIAL_TIME_LIBRARY="")
+            self.assertEqual(done.stdout, "0\n")
+
+    def test_float_mode(self):
+        """A library that was linked with -ffast-math changes the mode of the process that loads it: no call answers until it is set back."""
+        with tempfile.TemporaryDirectory() as folder:
+            fast = pathlib.Path(folder, "fast.so")
+            subprocess.run(["cc", "-shared", "-fPIC", "-ffast-math", "-o", fast, "-x", "c", "/dev/null"], check=True)
+            code = f"""if True:
+                import ctypes, celestial_time as ct
+                one = 5e-324
+                ctypes.CDLL({str(fast)!r})
+                if one * 2.0 ** 52 != 0.0:
+                    print('kept')
+                for call in (lambda: ct.gpstai([2451545.0], 0.0), lambda: ct.line_up([1.0], [0.0]), lambda: ct.offsets_at_0h([[2000, 1, 1]])):
+                    try:
+                        call()
+                        print('answered')
+                    except ct.FloatModeError as error:
+                        print('refused')
+                ct.default_float_mode()
+                print(ct.gpstai([2451545.0], 0.0).numbers, one * 2.0 ** 52 != 0.0)
+            """
+            done = python(code)
+            self.assertEqual(done.stderr, "")
+            # A compiler whose -ffast-math does not touch the mode of a shared library leaves it.
+            self.assertIn(done.stdout, ("refused\nrefused\nrefused\n[0] True\n", "kept\nanswered\nanswered\nanswered\n[0] True\n"))
+
+    def test_reasons(self):
+        if not _library.has("ct_reason"):
+            with self.assertRaises(ct.LibraryError):
+                ct.reason(9)
+            self.assertEqual(str(ct.Refused(9, "gpstai")), "gpstai: refused 9")
+            self.skipTest("the library has no sentences yet")
+        self.assertEqual(len({ct.reason(number) for number in range(1, 29)}), 28)
+        for number in (0, 29, 1000):
+            with self.assertRaises(ct.Refused) as raised:
+                ct.reason(number)
+            self.assertEqual(raised.exception.number, 18)
+        groups = ((3, {"year": 2000, "month": 2, "day": 30}), (4, {"hour": 24, "minute": 0, "second": 0.0, "leap": 0.0}), (9, {"jd1": np.inf, "jd2": 0.0}), (7, {"fraction": 1.5}),
+                  (10, {"offset": np.nan}), (8, {"nanos": 10**9}), (14, {"length": 7, "size": 0, "second_size": 0}))
+        for number, values in groups:
+            self.assertNotEqual(ct.reason(number, **values), ct.reason(number))
+        self.assertIn(ct.reason(9, jd1=np.nan, jd2=0.0), str(ct.Refused(9, "gpstai", {"jd1": np.nan, "jd2": 0.0})))
+        for number, values in ((3, {"year": 1 << 31, "month": 1, "day": 1}), (4, {"hour": 300, "minute": 0, "second": 0.0, "leap": 0.0}), (8, {"nanos": -1}), (-1, {})):
+            with self.assertRaises(OverflowError):
+                ct.reason(number, **values)
+        for wrong in ({"jd1": 0.0}, {"month": 1}, {"jd1": 0.0, "jd2": 0.0, "year": 1}):
+            with self.assertRaises(TypeError):
+                ct.reason(9, **wrong)
+        with self.assertRaises(ct.Refused) as raised:
+            ct.gpstai(np.nan, 0.0)
+        self.assertIn(ct.reason(9, jd1=np.nan, jd2=0.0), str(raised.exception))
+
+
+if __name__ == "__main__":
+    unittest.main()
