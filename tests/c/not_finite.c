@@ -95,7 +95,8 @@ static void ask_offsets(double not_finite)
 }
 
 /* The block as a run, between each two scales: every stamp that is not finite gets its number, 6 where the leap table is read first and else 9, keeps the bytes of its
-   places, and is counted. */
+   places, and is counted. Beside them the block has dates at the ends of the calendar, which leave it on their way to UTC: two of the first midnight of -4799, which as TT
+   is the day before (1), and 1e9, which as GPS is past the last (6). */
 static void ask_runs(const uint8_t *jd1, const uint8_t *jd2, size_t stamps, const uint8_t *dead)
 {
     static const uint32_t SCALES[] = {CT_UTC, CT_TAI, CT_TT, CT_GPS, CT_TCG};
@@ -103,17 +104,20 @@ static void ask_runs(const uint8_t *jd1, const uint8_t *jd2, size_t stamps, cons
     size_t i, k, j;
     for (i = 0; i < COUNT(SCALES); i++)
         for (k = 0; k < COUNT(SCALES); k++) {
-            int number = i != k && (SCALES[i] == CT_UTC || (SCALES[i] == CT_TAI && SCALES[k] == CT_UTC)) ? 6 : 9, right = 1;
+            int number = i != k && (SCALES[i] == CT_UTC || (SCALES[i] == CT_TAI && SCALES[k] == CT_UTC)) ? 6 : 9, right = 1, outside = 0;
+            int tt = SCALES[i] == CT_TT && SCALES[k] == CT_UTC, gps = SCALES[i] == CT_GPS && SCALES[k] == CT_UTC, leave = tt ? 2 : gps ? 1 : 0;
             memset(out1, 0xa5, sizeof out1);
             memset(out2, 0xa5, sizeof out2);
             check(ct_convert_run(SCALES[i], SCALES[k], jd1, 8 * stamps, jd2, 8 * stamps, ct_no_rows, CT_TABLE_BYTES, out1, sizeof out1, out2, sizeof out2, numbers, sizeof numbers) ==
-                      NOT_FINITE_STAMPS,
+                      NOT_FINITE_STAMPS + leave,
                   "ct_convert_run from %d to %d counts other stamps", (int)SCALES[i], (int)SCALES[k]);
             for (j = 0; j < stamps; j++) {
                 int stays = ct_pattern_at(out1 + 8 * j, 8) == 0xa5a5a5a5a5a5a5a5u && ct_pattern_at(out2 + 8 * j, 8) == 0xa5a5a5a5a5a5a5a5u;
-                if (numbers[j] != (dead[j] ? number : 0) || stays != dead[j]) right = 0;
+                if (!dead[j] && numbers[j] == (tt ? 1 : 6)) outside++;
+                else if (numbers[j] != (dead[j] ? number : 0)) right = 0;
+                if (stays != (numbers[j] != 0)) right = 0;
             }
-            check(right, "ct_convert_run from %d to %d has other numbers or places", (int)SCALES[i], (int)SCALES[k]);
+            check(right && outside == leave, "ct_convert_run from %d to %d has other numbers or places", (int)SCALES[i], (int)SCALES[k]);
         }
 }
 

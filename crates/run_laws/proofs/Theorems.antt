@@ -42,6 +42,14 @@ refused-writes-nothing (answer rows) from to js ks out1 out2 numbers k e = go (e
     go true q = let z : _≡_ {A = ℕ} 0 1 = cc q in let w : ⊥ = omega arith in absurd w
     go false q = ap (λ (x : Outcome ℕ). runCall x out1 out2 numbers) q
 
+-- ---- THE ORDER of the refusals, by calls that break each rule and all behind it: scales, lengths of jd1 and jd2, places
+pub refusals-in-order :
+    (runRefusal 2 0 7 0 0 0 0 ≡ 18) × (runRefusal 0 6 7 0 0 0 0 ≡ 18) × (runRefusal 7 7 8 8 8 8 1 ≡ 18)
+    × (runRefusal 1 0 7 0 0 0 0 ≡ 14) × (runRefusal 1 0 8 15 0 0 0 ≡ 14) × (runRefusal 1 0 8 0 0 0 0 ≡ 12) × (runRefusal 1 0 8 16 0 0 0 ≡ 12)
+    × (runRefusal 1 0 8 8 7 8 1 ≡ 11) × (runRefusal 1 0 8 8 8 7 1 ≡ 11) × (runRefusal 1 0 8 8 8 8 0 ≡ 11) × (runRefusal 1 0 8 8 8 8 1 ≡ 0) × (runRefusal 3 5 0 0 0 0 0 ≡ 0)
+unfolding runRefusal isRunScale
+refusals-in-order = (refl, refl, refl, refl, refl, refl, refl, refl, refl, refl, refl, refl)
+
 -- ---- a call that is not refused
 module _ (rows : List Row) (from to : ℕ) (js ks out1 out2 numbers : List ℕ) (z : runRefusal from to (length js) (length ks) (length out1) (length out2) (length numbers) ≡ 0) where
   abbrev f : ℕ → Outcome JulianDate

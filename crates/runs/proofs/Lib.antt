@@ -1,5 +1,6 @@
 -- The laws of runs: the cases of a way, one stamp and a run of them, scales that are a fixed offset apart, and the call as a whole.
 pub mod Steps
 pub mod Puts
+pub mod PatternOrder
 pub mod Offsets
 pub mod Calls

@@ -33,7 +33,7 @@ use Rattle.runs.specs.Asked.{shiftedStamp, IsOffset}
 
 -- ---- a finite number's pattern
 
-field-most : (b : ℕ) → expo b ≤ 2047
+pub field-most : (b : ℕ) → expo b ≤ 2047
 field-most b = let h : expo b < 2048 = div-lt-iff-lt-mul (pow-pos 52) .1 (mod-lt b (pow-pos 63)) in omega arith
 
 pub number-pattern : (b : ℕ) → ltb (b % 0x8000_0000_0000_0000) 0x7ff0_0000_0000_0000 ≡ finite (ofBits binary64 b)

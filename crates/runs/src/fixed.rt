@@ -2,8 +2,9 @@
 // stays is handed on as its pattern.
 ghost use mathlib.Core.Path.{_≡_};
 ghost use mathlib.Core.Bool.{true};
-ghost use lib.Ieee.{binary64, ofBits};
+ghost use lib.Ieee.{binary64, ofBits, lt};
 ghost use lib.Ieee.Scale.{finite};
+ghost use Rattle.floats.specs.Whole.{abs};
 ghost use Rattle.scales.specs.Formulas.{gpsDays, ttDays};
 ghost use Rattle.runs.specs.Asked.{hasOffset, HasPlace, Roomy, StampPut, RunPut, shiftedStamp, IsOffset};
 use super::one_if_refused;
@@ -19,6 +20,14 @@ fn is_number(n: u64) -> bool
     ensures { λ r. ⌜ r ≡ finite (ofBits binary64 n) ⌝ }
 {
     n % 0x8000_0000_0000_0000 < 0x7ff0_0000_0000_0000
+}
+
+// Whether of two finite numbers the first is the larger in size: its pattern is, without the sign's bit.
+fn is_larger(a: u64, b: u64) -> bool
+    requires { ⌜ (finite (ofBits binary64 a) ≡ true) × (finite (ofBits binary64 b) ≡ true) ⌝ }
+    ensures { λ r. ⌜ r ≡ lt (abs (ofBits binary64 b)) (abs (ofBits binary64 a)) ⌝ }
+{
+    b % 0x8000_0000_0000_0000 < a % 0x8000_0000_0000_0000
 }
 
 fn gps_days() -> f64
@@ -85,13 +94,13 @@ fn shift_stamp(
     if !is_number(b) {
         return 9;
     }
-    let x = f64::from_bits(a);
-    let y = f64::from_bits(b);
-    if floats::larger_in_size(x, y) {
+    if is_larger(a, b) {
+        let y = f64::from_bits(b);
         put_pattern(out1, 8 * i, a);
         put_pattern(out2, 8 * i, floats::to_bits(y + days));
         return 0;
     }
+    let x = f64::from_bits(a);
     put_pattern(out1, 8 * i, floats::to_bits(x + days));
     put_pattern(out2, 8 * i, b);
     0

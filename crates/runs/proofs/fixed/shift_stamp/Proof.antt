@@ -29,14 +29,11 @@ returns-2 c =
     let a = c .before .before .before .before .before .before .before .before .before .before .args in
     put-refused _ 9 (a .i) _ (a .out1 .now) (a .out2 .now) (shift-dead-second (a .days) (a .jd1s .now) (a .jd2s .now) (a .i) _ _ (c .before .before .before .before .before .pattern-at .ensures) (c .before .before .before .before .pattern-at2 .ensures) (sym (c .before .before .before .is-number .ensures) ∙ not-false _ (c .before .before .if1 .left)) (sym (c .before .is-number2 .ensures) ∙ not-true _ (c .if2 .taken))) refl
 
-float-from-bits-x : tie.Need-float-from-bits-x
-float-from-bits-x c = no-nan _ (sym (c .before .before .before .is-number .ensures) ∙ not-false _ (c .before .before .if1 .left))
+is-larger-requires : tie.Need-is-larger-requires
+is-larger-requires c κs = (sym (c .before .before .before .is-number .ensures) ∙ not-false _ (c .before .before .if1 .left), sym (c .before .is-number2 .ensures) ∙ not-false _ (c .if2 .left))
 
 float-from-bits-y : tie.Need-float-from-bits-y
-float-from-bits-y c = no-nan _ (sym (c .before .is-number2 .ensures) ∙ not-false _ (c .if2 .left))
-
-larger-in-size-requires : tie.Need-larger-in-size-requires
-larger-in-size-requires c κs = search needs
+float-from-bits-y c = no-nan _ (sym (c .before .before .before .is-number2 .ensures) ∙ not-false _ (c .before .before .if2 .left))
 
 mul-put-pattern : tie.Need-mul-put-pattern
 mul-put-pattern c = search needs
@@ -63,10 +60,13 @@ returns-3 : tie.Need-returns-3
 returns-3 c =
     let a = c .before .before .before .before .before .before .before .before .before .before .before .before .before .before .before .before .before .before .before .before .before .args in
     put-patterns _ _ (a .i) (a .out1 .now) (a .out2 .now) _ _ _ _
-    (shift-second (a .days) (a .jd1s .now) (a .jd2s .now) (a .i) _ _ (c .before .before .before .before .before .before .before .before .before .before .before .before .before .before .before .before .pattern-at .ensures) (c .before .before .before .before .before .before .before .before .before .before .before .before .before .before .before .pattern-at2 .ensures) (sym (c .before .before .before .before .before .before .before .before .before .before .before .before .before .before .is-number .ensures) ∙ not-false _ (c .before .before .before .before .before .before .before .before .before .before .before .before .before .if1 .left)) (sym (c .before .before .before .before .before .before .before .before .before .before .before .before .is-number2 .ensures) ∙ not-false _ (c .before .before .before .before .before .before .before .before .before .before .before .if2 .left)) (c .before .before .before .before .before .before .before .before .before .before .larger-in-size .result) (c .before .before .before .before .before .before .before .before .before .before .larger-in-size .ensures) (c .before .before .before .before .before .before .before .before .before .if3 .taken))
+    (shift-second (a .days) (a .jd1s .now) (a .jd2s .now) (a .i) _ _ (c .before .before .before .before .before .before .before .before .before .before .before .before .before .before .before .before .pattern-at .ensures) (c .before .before .before .before .before .before .before .before .before .before .before .before .before .before .before .pattern-at2 .ensures) (sym (c .before .before .before .before .before .before .before .before .before .before .before .before .before .before .is-number .ensures) ∙ not-false _ (c .before .before .before .before .before .before .before .before .before .before .before .before .before .if1 .left)) (sym (c .before .before .before .before .before .before .before .before .before .before .before .before .is-number2 .ensures) ∙ not-false _ (c .before .before .before .before .before .before .before .before .before .before .before .if2 .left)) (c .before .before .before .before .before .before .before .before .before .before .is-larger .result) (c .before .before .before .before .before .before .before .before .before .before .is-larger .ensures) (c .before .before .before .before .before .before .before .before .before .if3 .taken))
     (sym (pattern-back _ (c .before .before .before .before .before .before .before .before .before .before .before .before .before .before .before .before .pattern-at .ok) (sym (c .before .before .before .before .before .before .before .before .before .before .before .before .before .before .is-number .ensures) ∙ not-false _ (c .before .before .before .before .before .before .before .before .before .before .before .before .before .if1 .left))))
     (c .before .before .before .to-bits .ensures)
     (c .before .before .before .before .before .before .before .put-pattern .ensures) (c .before .before .put-pattern2 .ensures)
+
+float-from-bits-x : tie.Need-float-from-bits-x
+float-from-bits-x c = no-nan _ (sym (c .before .before .before .before .before .is-number .ensures) ∙ not-false _ (c .before .before .before .before .if1 .left))
 
 mul-put-pattern-3 : tie.Need-mul-put-pattern-3
 mul-put-pattern-3 c = search needs
@@ -93,7 +93,7 @@ returns-4 : tie.Need-returns-4
 returns-4 c =
     let a = c .before .before .before .before .before .before .before .before .before .before .before .before .before .before .before .before .before .before .before .before .before .args in
     put-patterns _ _ (a .i) (a .out1 .now) (a .out2 .now) _ _ _ _
-    (shift-first (a .days) (a .jd1s .now) (a .jd2s .now) (a .i) _ _ (c .before .before .before .before .before .before .before .before .before .before .before .before .before .before .before .before .pattern-at .ensures) (c .before .before .before .before .before .before .before .before .before .before .before .before .before .before .before .pattern-at2 .ensures) (sym (c .before .before .before .before .before .before .before .before .before .before .before .before .before .before .is-number .ensures) ∙ not-false _ (c .before .before .before .before .before .before .before .before .before .before .before .before .before .if1 .left)) (sym (c .before .before .before .before .before .before .before .before .before .before .before .before .is-number2 .ensures) ∙ not-false _ (c .before .before .before .before .before .before .before .before .before .before .before .if2 .left)) (c .before .before .before .before .before .before .before .before .before .before .larger-in-size .result) (c .before .before .before .before .before .before .before .before .before .before .larger-in-size .ensures) (c .before .before .before .before .before .before .before .before .before .if3 .left))
+    (shift-first (a .days) (a .jd1s .now) (a .jd2s .now) (a .i) _ _ (c .before .before .before .before .before .before .before .before .before .before .before .before .before .before .before .before .pattern-at .ensures) (c .before .before .before .before .before .before .before .before .before .before .before .before .before .before .before .pattern-at2 .ensures) (sym (c .before .before .before .before .before .before .before .before .before .before .before .before .before .before .is-number .ensures) ∙ not-false _ (c .before .before .before .before .before .before .before .before .before .before .before .before .before .if1 .left)) (sym (c .before .before .before .before .before .before .before .before .before .before .before .before .is-number2 .ensures) ∙ not-false _ (c .before .before .before .before .before .before .before .before .before .before .before .if2 .left)) (c .before .before .before .before .before .before .before .before .before .before .is-larger .result) (c .before .before .before .before .before .before .before .before .before .before .is-larger .ensures) (c .before .before .before .before .before .before .before .before .before .if3 .left))
     (c .before .before .before .before .before .before .before .to-bits2 .ensures)
     (sym (pattern-back _ (c .before .before .before .before .before .before .before .before .before .before .before .before .before .before .before .pattern-at2 .ok) (sym (c .before .before .before .before .before .before .before .before .before .before .before .before .is-number2 .ensures) ∙ not-false _ (c .before .before .before .before .before .before .before .before .before .before .before .if2 .left))))
     (c .before .before .before .before .before .before .put-pattern3 .ensures) (c .before .before .put-pattern4 .ensures)
@@ -108,9 +108,8 @@ shift-stamp-spec =
     returns
     is-number-requires-2
     returns-2
-    float-from-bits-x
+    is-larger-requires
     float-from-bits-y
-    larger-in-size-requires
     mul-put-pattern
     put-pattern-requires
     mul-put-pattern-2
@@ -119,6 +118,7 @@ shift-stamp-spec =
     same-length
     same-length-2
     returns-3
+    float-from-bits-x
     mul-put-pattern-3
     to-bits-requires-2
     put-pattern-requires-3
