@@ -258,6 +258,21 @@ class Functions(unittest.TestCase):
         finally:
             _arrays._in_one_piece = kept
 
+    def test_overlap(self):
+        """Answers lent a place further on in an argument's own memory: the argument is read before it is overwritten."""
+        jd1, jd2 = singles.dates(self.rng, 100000)
+        for function in (ct.gpstai, ct.utctai, ct.tcbtdb, lambda *a, **k: ct.utctai(*a, return_rule=True, **k)):
+            due = function(jd1, jd2)
+            for shift in (1, -1, 0):
+                held = np.empty(len(jd1) + 1)
+                given, to = (held[:-1], held[1:]) if shift == 1 else (held[1:], held[:-1]) if shift == -1 else (held[1:], held[1:])
+                given[...] = jd1
+                function(given, jd2, out=(to, *[None] * (len(due) - 1)))
+                self.assertTrue(same(to, due[0]))
+                given[...] = jd1
+                function(given, jd2, out=(None, to, *[None] * (len(due) - 2)))
+                self.assertTrue(same(to, due[1]))
+
     def test_interleaved(self):
         """The two parts lent as columns of one array."""
         jd1, jd2 = singles.dates(self.rng, COUNT)
