@@ -14,7 +14,7 @@ use Rattle.floats.specs.Whole.{abs}
 use Rattle.floats.proofs.Fields.{sign, expo, digits, ofBits-is, digits-lt, normal, subnormal}
 use Rattle.rounding.specs.Value.{Val}
 use Rattle.rounding.proofs.Compare.{lt-val}
-use Rattle.listing_laws.proofs.NotFinite.{finite-field}
+use Rattle.floats.proofs.ExponentField.{finite-field}
 
 -- the value of the exponent's field e and the digits t, in units of the smallest number
 worth : ℕ → ℕ → ℕ
