@@ -1,39 +1,26 @@
 -- The reader gives every reason back from its sentence. So two sentences are the same only if number, field and value are the same. Assumes nothing.
 use Prim.Native.Nat.{ℕ, zero, suc, _+_, _<_, _≤_, _^_}
 use native.Mathlib.Omega.{arith}
-use mathlib.Core.Path.{_≡_, refl, sym, ap, subst, _∙_}
-use mathlib.Core.Bool.{Bool, true, false, cond}
+use mathlib.Core.Path.{_≡_, refl, sym, ap, _∙_}
 use mathlib.Core.List.{List, [], _∷_, _++_}
 use lib.ListN.{length, drop}
 use lib.Seq.{drop-append-seam}
-use lib.Dec.{T, ltb, eqb}
+use lib.Dec.{T}
 use lib.IntN.{ℤ, pos, negsuc, negℤ}
 use lib.Ieee.{Float, binary64, toBits, ofBits, fits}
 use lib.Ieee.Bits.{toBits-lt, ofBits-toBits}
-use borrow.Author.Tests.{ltb-true, ltb-false, ne-eqb}
+use borrow.Author.Tests.{ne-eqb}
 use Rattle.digits.specs.Decimal.{number, AllDigits, digitsOf}
 use Rattle.digits.proofs.Decimal.{number-digits, digits-all, digits-some}
 use Rattle.digits.specs.Hexadecimal.{hex16, hexNumber}
 use Rattle.digits.proofs.Hexadecimal.{number-hex}
+use Rattle.reasons.proofs.Each.{EachBelow, from-each}
 use Rattle.reasons.specs.declared.Named.{Named}
 use Rattle.reasons.specs.declared.Named.the-variants.{NoField, Year, Month, Day, Hour, Minute, Second, Sum, Fraction, Nanos, FirstPart, SecondPart, Offset, SecondSize, Size, WholeLength}
 use Rattle.reasons.specs.declared.Reason.{Reason}
 use Rattle.reasons.specs.Texts.{texts, fixedText}
 use Rattle.reasons.specs.Sentence.{signedDigits, floatDigits, namedText, render}
 use Rattle.reason_laws.specs.Reader.{startsWith, beginning, numberIn, readSigned, floatIn, fieldBy, readSentence, OfMachine}
-
--- ---- what holds of each number below n, one by one
-abbrev EachBelow : (ℕ → Type 0) → ℕ → Type 0
-EachBelow P zero = Unit
-EachBelow P (suc n) = EachBelow P n × P n
-
-pub from-each : (P : ℕ → Type 0) (n : ℕ) → EachBelow P n → (k : ℕ) → k < n → P k
-from-each P zero h k l = absurd (omega arith)
-from-each P (suc n) h k l = either (ltb k n) (ltb-true k n) (ltb-false k n) (from-each P n (h .0) k)
-  where
-    either : (b : Bool) → (b ≡ true → k < n) → (b ≡ false → n ≤ k) → (k < n → P k) → P k
-    either true t f rest = rest (t refl)
-    either false t f rest = subst P (let e : n ≡ k = omega (arith, f refl) in e) (h .1)
 
 -- ---- the number
 abbrev NumberRead : ℕ → Type 0

@@ -1,4 +1,5 @@
 -- The laws that the proofs of `reasons` cite.
+pub mod Each
 pub mod Numbers
 pub mod FieldTests
 pub mod Told

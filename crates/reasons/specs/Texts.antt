@@ -1,12 +1,12 @@
 -- The fixed texts of the sentences, as lists of bytes. Written from document 02, item 13 ("Compose an English sentence for each refusal from fixed parts"), and the
 -- refusals' own words in document 01's table and document 02. No text begins another, and no word of a field begins another, so that a sentence says its number and
 -- its field in plain English (`whole-reason` in reason_laws). Assumes nothing.
-use Prim.Native.Nat.{ℕ}
+use Prim.Native.Nat.{ℕ, _-_}
 use Prim.Native.Char.{code}
 use Prim.Native.String.{String}
 use Prim.Native.String as Native
-use mathlib.Core.List.{List, [], _∷_}
-use lib.ListN.{getD}
+use mathlib.Core.List.{List, [], _∷_, _++_}
+use lib.ListN.{length, getD, replicate}
 
 -- the bytes of a text
 abbrev pub asciiBytes : String → List ℕ
@@ -50,3 +50,7 @@ texts =
 -- the text of a number; a number past 28 has none
 unfoldable pub fixedText : ℕ → List ℕ
 fixedText k = getD texts k []
+
+-- the text with blanks behind it, 50 bytes in all; no contract of a public function cites it
+unfoldable pub paddedText : ℕ → List ℕ
+paddedText k = fixedText k ++ replicate (50 - length (fixedText k)) 32

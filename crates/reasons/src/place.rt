@@ -59,11 +59,13 @@ pub(crate) fn signed(n: i32, dst: &mut [u8], at: usize) -> usize
     decimal(digits, dst, at)
 }
 
+const HEXADECIMAL: [u8; 16] = *b"0123456789abcdef";
+
 fn hex_digit(d: u64) -> u8
     requires { ⌜ d < 16 ⌝ }
     ensures { λ r. ⌜ r ≡ hexDigit d ⌝ }
 {
-    if d < 10 { 48 + d as u8 } else { 87 + d as u8 }
+    HEXADECIMAL[d as usize]
 }
 
 // The 16 hexadecimal digits of a number.

@@ -1,51 +1,104 @@
 // The words of a sentence: the text of its number, and the field's word with its value.
+ghost use mathlib.Core.Path.{_≡_};
 ghost use Prim.Native.Nat.{_+_, _≤_};
 ghost use mathlib.Core.List.{_++_};
 ghost use lib.ListN.{length};
 ghost use Rattle.digits.specs.Decimal.{digitsOf};
 ghost use Rattle.digits.specs.Placed.{Placed};
-ghost use Rattle.reasons.specs.Texts.{fixedText};
+ghost use Rattle.reasons.specs.Texts.{fixedText, paddedText};
 ghost use Rattle.reasons.specs.Sentence.{signedDigits, floatDigits, namedText};
 use crate::Named;
 use crate::place;
 
-// The text of a number at the start of a slice. No number past 28 has one.
+// How long the text of each number is; 0 has none.
+const LENGTHS: [u8; 29] = [
+    0,
+    36,
+    20,
+    23,
+    22,
+    20,
+    28,
+    22,
+    32,
+    30,
+    20,
+    32,
+    20,
+    25,
+    28,
+    28,
+    46,
+    38,
+    38,
+    45,
+    34,
+    45,
+    37,
+    50,
+    44,
+    26,
+    38,
+    36,
+    26,
+];
+
+// The text of a number, with blanks behind it. No number past 28 has one.
+fn padded(number: u32) -> [u8; 50]
+    ensures { λ r. ⌜ r ≡ paddedText number ⌝ }
+{
+    match number {
+        1 => *b"year is before -4799, in a bill 1972              ",
+        2 => *b"month is not 1 to 12                              ",
+        3 => *b"day is not in the month                           ",
+        4 => *b"time is not in the day                            ",
+        5 => *b"there is no next day                              ",
+        6 => *b"date is outside the calendar                      ",
+        7 => *b"fraction is not 0 to 1                            ",
+        8 => *b"nanoseconds are a second or more                  ",
+        9 => *b"part of the date is not finite                    ",
+        10 => *b"offset is not finite                              ",
+        11 => *b"answer is longer than its buffer                  ",
+        12 => *b"the two sizes differ                              ",
+        13 => *b"there are too many stamps                         ",
+        14 => *b"the number of bytes is wrong                      ",
+        15 => *b"text is not an ISO 8601 time                      ",
+        16 => *b"second has more than 13 digits after its point    ",
+        17 => *b"date is earlier than the one before it            ",
+        18 => *b"number or GPS week is out of its range            ",
+        19 => *b"two weeks are equally near the reference week     ",
+        20 => *b"table sizes differ or are above 16                ",
+        21 => *b"table row is not later than the one before it     ",
+        22 => *b"table row does not step by one second             ",
+        23 => *b"passes are unequal, too few, too many or too large",
+        24 => *b"passes do not rise in ticks and milliseconds      ",
+        25 => *b"tick is outside the passes                        ",
+        26 => *b"end of the standby is before its start            ",
+        27 => *b"number of the bill is over its limit              ",
+        28 => *b"both lengths of line are 0                        ",
+        _ => *b"                                                  ",
+    }
+}
+
+fn text_length(number: u32) -> usize
+    ensures { λ r. ⌜ (r ≡ length (fixedText number)) × (r ≤ 50) ⌝ }
+{
+    if number > 28 {
+        return 0;
+    }
+    let k = number as usize;
+    LENGTHS[k] as usize
+}
+
+// The text of a number at the start of a slice: one copy for all, since in 28 the compiler would write the bytes one by one.
 pub(crate) fn text(number: u32, dst: &mut [u8]) -> usize
     requires { ⌜ 50 ≤ length (now dst) ⌝ }
     ensures { λ r. ⌜ Placed (now (dst .entry)) 0 (fixedText number) r (now (dst .exit)) ⌝ }
     ensures { λ r. ⌜ r ≤ 50 ⌝ }
 {
-    match number {
-        1 => bytes::copy(b"year is before -4799, in a bill 1972", dst),
-        2 => bytes::copy(b"month is not 1 to 12", dst),
-        3 => bytes::copy(b"day is not in the month", dst),
-        4 => bytes::copy(b"time is not in the day", dst),
-        5 => bytes::copy(b"there is no next day", dst),
-        6 => bytes::copy(b"date is outside the calendar", dst),
-        7 => bytes::copy(b"fraction is not 0 to 1", dst),
-        8 => bytes::copy(b"nanoseconds are a second or more", dst),
-        9 => bytes::copy(b"part of the date is not finite", dst),
-        10 => bytes::copy(b"offset is not finite", dst),
-        11 => bytes::copy(b"answer is longer than its buffer", dst),
-        12 => bytes::copy(b"the two sizes differ", dst),
-        13 => bytes::copy(b"there are too many stamps", dst),
-        14 => bytes::copy(b"the number of bytes is wrong", dst),
-        15 => bytes::copy(b"text is not an ISO 8601 time", dst),
-        16 => bytes::copy(b"second has more than 13 digits after its point", dst),
-        17 => bytes::copy(b"date is earlier than the one before it", dst),
-        18 => bytes::copy(b"number or GPS week is out of its range", dst),
-        19 => bytes::copy(b"two weeks are equally near the reference week", dst),
-        20 => bytes::copy(b"table sizes differ or are above 16", dst),
-        21 => bytes::copy(b"table row is not later than the one before it", dst),
-        22 => bytes::copy(b"table row does not step by one second", dst),
-        23 => bytes::copy(b"passes are unequal, too few, too many or too large", dst),
-        24 => bytes::copy(b"passes do not rise in ticks and milliseconds", dst),
-        25 => bytes::copy(b"tick is outside the passes", dst),
-        26 => bytes::copy(b"end of the standby is before its start", dst),
-        27 => bytes::copy(b"number of the bill is over its limit", dst),
-        28 => bytes::copy(b"both lengths of line are 0", dst),
-        _ => 0,
-    }
+    let all = padded(number);
+    let n = text_length(number);
+    bytes::copy(&all[..n], dst)
 }
 
 // A field's word, and a whole number that may be below 0.

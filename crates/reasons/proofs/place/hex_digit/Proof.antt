@@ -1,30 +1,14 @@
--- `place::hex_digit` meets its contract. Assumes nothing.
-use borrow.Author.Tests.{lt-ltb, le-ltb}
-use Rattle.digits.specs.Hexadecimal.{hexDigit}
+-- `place::hex_digit` meets its contract: the table has the digits in turn. Assumes nothing.
+use Rattle.reasons.proofs.Numbers.{in-turn}
 use borrow.Author.Needs.{needs}
 use Rattle.reasons.proofs.place.hex_digit.Statement.{statement}
 use Rattle.reasons.proofs.place.hex_digit.Tie as tie
 
-cast-result : tie.Need-cast-result
-cast-result c = search needs
-
-add-result : tie.Need-add-result
-add-result c = search needs
-
-cast-result-2 : tie.Need-cast-result-2
-cast-result-2 c = search needs
-
-add-result-2 : tie.Need-add-result-2
-add-result-2 c = search needs
+array-read-result : tie.Need-array-read-result
+array-read-result c = search needs
 
 returns : tie.Need-returns
-unfolding hexDigit
-returns c = rw (lt-ltb (c .before .args .d) 10 (c .if1 .taken))
-
-returns-2 : tie.Need-returns-2
-unfolding hexDigit
-returns-2 c = rw (le-ltb (c .before .args .d) 10 (c .if1 .left))
+returns c = in-turn (c .args .d) (c .pre)
 
 pub hex-digit-spec : {M : Type 1} → statement M
-hex-digit-spec =
-    tie.close (tie.spec cast-result add-result cast-result-2 add-result-2 returns returns-2)
+hex-digit-spec = tie.close (tie.spec array-read-result returns)
