@@ -254,6 +254,10 @@ static void utc_and_tai(void)
 static void utc_and_ut1(void)
 {
     GIVES(parts_by(2453750.5, 0.89210456089814816, CT_RULE_WHOLE, 37), ct_utc_to_ut1_with_dut1, 2453750.5, 0.892100694, 0.3341, NO_ROWS);
+    /* the rule is that of the UTC day, on days whose next one, or whose TAI, has another */
+    GIVES(parts_by(2457753.5, 1.0004224537037036, CT_RULE_WHOLE, 40), ct_utc_to_tai, 2457753.5, 86400.5 / 86401.0, NO_ROWS);
+    GIVES(parts_by(2439886.5, 0.50000232981479753, CT_RULE_DRIFTING, 12), ct_utc_to_ut1_with_dut1, 2439886.5, 0.5, 0.25, NO_ROWS);
+    GIVES(parts_by(2457753.5, 1.0000086805555555, CT_RULE_WHOLE, 40), ct_utc_to_ut1_with_dut1, 2457753.5, 86400.5 / 86401.0, 0.25, NO_ROWS);
     REFUSES(10, ct_utc_to_ut1_with_dut1, nan_float(), 0.0, nan_float(), NO_ROWS);
     REFUSES(10, ct_utc_to_ut1_with_dut1, 2451545.0, 0.0, minus_infinite_float(), NO_ROWS);
     REFUSES(6, ct_utc_to_ut1_with_dut1, nan_float(), 0.0, 0.0, NO_ROWS);

@@ -77,6 +77,9 @@ static void with_a_second_left_out(void)
     REFUSES(4, ct_utc_from_iso8601, TEXT("2026-12-31T23:59:59"), LENT);
     GIVES(text("2026-12-31T23:59:58.999"), text_of, 2461405.5, 86398.9994 / 86399.0, LENT);
     GIVES(text("2026-12-31T01:29:59.938"), even_of, 2461405.5, 1.0 / 16.0, LENT);
+    /* two fractions of a day of 86,399 s whose float would show a millisecond less and one more */
+    GIVES(text("2026-12-31T00:00:04.317"), even_of, 2461405.5, 225000148052.0 * 0x1p-52, LENT);
+    GIVES(text("2026-12-31T00:00:34.737"), even_of, 2461405.5, 1810712995009.0 * 0x1p-52, LENT);
     GIVES(text("2027-01-01T00:00:00.000"), even_of, 2461405.5, 86398.9996 / 86399.0, LENT);
     GIVES(text("2027-01-01T00:00:00.000"), expanded_of, 2461405.5, 86398.9996 / 86399.0, LENT);
     GIVES(text("2027-01-01T00:00:00.000"), text_of, 2461405.5, 86398.9996 / 86399.0, LENT);

@@ -94,19 +94,19 @@ near-whole F M W E k e near = record {
     go a b d x y z p q r s = omega arith
 
 -- ---- the days of whole seconds, and 1959-12-31
-whole-0 : dayIsWhole nought ≡ true
+pub whole-0 : dayIsWhole nought ≡ true
 unfolding dayIsWhole ofBits eq
 whole-0 = refl
 
-whole-1 : dayIsWhole one ≡ true
+pub whole-1 : dayIsWhole one ≡ true
 unfolding dayIsWhole ofBits eq abs
 whole-1 = refl
 
-whole-minus-1 : dayIsWhole minus-one-f ≡ true
+pub whole-minus-1 : dayIsWhole minus-one-f ≡ true
 unfolding dayIsWhole ofBits eq abs
 whole-minus-1 = refl
 
-not-1959 : dayIsWhole leap1959 ≡ false
+pub not-1959 : dayIsWhole leap1959 ≡ false
 unfolding dayIsWhole ofBits eq abs
 not-1959 = refl
 
