@@ -12,6 +12,7 @@ use lib.Ieee.Scale.{finite}
 use borrow.Author.Tests.{eqb-true, eq-eqb}
 use Rattle.refusals.specs.Outcome.{Outcome, answer, refusal}
 use Rattle.digits.specs.Decimal.{digitsIn}
+use Rattle.floats.specs.ExponentField.{exponentField}
 use Rattle.floats.proofs.ExponentField.{finite-field, field-not-finite}
 use Rattle.calendar.proofs.NextDates.{first-false}
 use Rattle.tai_utc.specs.Table.{Row}
