@@ -1,3 +1,4 @@
--- The definitions that the contracts of a table in bytes cite, and the bytes of a record, by which its laws are stated.
+-- What the contracts of a table in bytes cite.
 pub mod TableBytes
+-- The words of the theorems: no contract cites them.
 pub mod RecordBytes

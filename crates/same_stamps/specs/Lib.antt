@@ -1,3 +1,4 @@
--- The definitions that the contract and the laws of `same_stamps` cite, in the order to read them.
+-- What the contract of `same_stamps` cites.
 pub mod Same
+-- The words of the theorems: no contract cites them.
 pub mod TwoSum
