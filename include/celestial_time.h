@@ -50,7 +50,8 @@
      14  length of a block, of a table, or of a list wrong, or counts past it
      15  text outside the grammar
      16  more than 13 digits after a second's point
-     17  date or stamp earlier than the one before it
+     17  date earlier than the one before it, or stamp earlier than an ordered one before it in
+         its run
      18  field of a GPS week over its limit, or date before the first week or past the last; in
          ct_convert_run a scale that it does not take; number of a refusal not 1 to 28
      19  two weeks with the same ten bits equally near the reference

@@ -1,6 +1,6 @@
 /* Lines up the stamps of up to three recorders, one on GPS time, one on TAI and one on UTC.
 
-     line_up [gps=FILE] [tai=FILE] [utc=FILE] [table=FILE]
+     line_up [--reasons] [gps=FILE] [tai=FILE] [utc=FILE] [table=FILE]
      line_up --help
      line_up --version
 
@@ -34,6 +34,12 @@
    run that follow it up to the next ordered one, by index; where there is none before it, it stands
    before all ordered stamps, by recorder and then by index. So the lines of a recorder are in the
    order of its run.
+
+   With --reasons a colon and the library's sentence follow the number of each stamp that is refused, turned
+   away or without text, and the sentence ends with the part at fault, in the 16 hexadecimal digits of its
+   bits, where one is: `gps 1 refused 9: part of the date is not finite: jd1 7ff8000000000000`. It is told of
+   the parts as they were recorded; of a stamp without text, of those of its TAI or, where it has one, its UTC.
+
    The last line has the number of ordered stamps, and of those that have no text.
 
    Exit status: 0 done; 1 a block or the table is refused, of which standard error tells more (a table
@@ -69,6 +75,7 @@ struct run {
 struct stamps {
     uint8_t *jd1, *jd2, *numbers, *places;
     size_t count, room, ordered, textless;
+    int reasons; /* whether the sentence of a stamp's number is told behind it */
 };
 
 /* A page of stamps on their way from TAI to text. */
@@ -97,10 +104,11 @@ static void tell(const char *doing, int hundredths)
 /* ---- Words of the command line */
 
 static const char usage[] =
-    "line_up [gps=FILE] [tai=FILE] [utc=FILE] [table=FILE]\n"
+    "line_up [--reasons] [gps=FILE] [tai=FILE] [utc=FILE] [table=FILE]\n"
     "  Lines up the stamps of up to three recorders by their TAI, and lists them with their UTC.\n"
     "  gps, tai, utc: a recorder's run, stamp blocks one after the other; at least one\n"
     "  table: announced leap rows, a line for each, as 2027-01 38\n"
+    "  --reasons: behind the number of a refused stamp, the reason in a sentence\n"
     "line_up --help, line_up --version\n"
     "Exit status: 0 done, 1 a block or the table is refused, 2 not readable or writable, or other words\n";
 
@@ -113,11 +121,18 @@ static int names(const char *word, const char *name, const char **path)
     return 1;
 }
 
-static int read_words(int count, char **words, struct run *runs, const char **table)
+/* Whether a word is an option; it is taken once. */
+static int asks(const char *word, const char *option, int *asked)
+{
+    if (strcmp(word, option) || *asked) return 0;
+    return *asked = 1;
+}
+
+static int read_words(int count, char **words, struct run *runs, const char **table, int *reasons)
 {
     int i, k, taken, named = 0;
     for (i = 1; i < count; i++) {
-        taken = names(words[i], "table", table);
+        taken = names(words[i], "table", table) || asks(words[i], "--reasons", reasons);
         for (k = 0; k < RUNS && !taken; k++) named += taken = names(words[i], runs[k].name, &runs[k].path);
         if (!taken) {
             fprintf(stderr, "line_up: not understood, or there twice: %s\n%s", words[i], usage);
@@ -337,11 +352,23 @@ static char *put_decimal(char *at, uint64_t n)
     return at;
 }
 
-/* The line's words behind the index of a stamp that is refused or turned away: its number. Sentences would be
-   told here: the stamp's parts as they were recorded are those of `all` at `place`. */
+/* A refusal's number and, where it is asked for, its sentence with the part at fault. */
+static char *put_number(char *at, const struct stamps *all, uint32_t number, const uint8_t *jd1, const uint8_t *jd2)
+{
+    uint8_t sentence[CT_SENTENCE_BYTES];
+    int64_t length = -1;
+    if (all->reasons) length = ct_parts_reason(number, ct_float_at(jd1), ct_float_at(jd2), sentence, sizeof sentence);
+    at = put_decimal(at, number);
+    if (length < 0) return at;
+    at = put_word(at, ": ");
+    memcpy(at, sentence, (size_t)length);
+    return at + length;
+}
+
+/* The line's words behind the index of a stamp that is refused or turned away. */
 static char *put_refusal(char *at, const struct stamps *all, size_t place)
 {
-    return put_decimal(put_word(at, "refused "), all->numbers[place]);
+    return put_number(put_word(at, "refused "), all, all->numbers[place], all->jd1 + 8 * place, all->jd2 + 8 * place);
 }
 
 /* The UTC text of a UTC date, at most TEXT_BYTES, or minus the number of its refusal. */
@@ -353,12 +380,17 @@ static int64_t utc_text(const uint8_t *jd1, const uint8_t *jd2, const uint8_t *t
 
 static char *put_text(char *at, struct stamps *all, const struct page *page, size_t i, const uint8_t *table)
 {
+    const uint8_t *jd1 = page->jd1 + 8 * i, *jd2 = page->jd2 + 8 * i;
     int64_t number = page->numbers[i], length = 0;
-    if (!number) length = utc_text(page->utc1 + 8 * i, page->utc2 + 8 * i, table, at);
+    if (!number) {
+        jd1 = page->utc1 + 8 * i;
+        jd2 = page->utc2 + 8 * i;
+        length = utc_text(jd1, jd2, table, at);
+    }
     if (length < 0) number = -length;
     if (!number) return at + length;
     all->textless++;
-    return put_decimal(put_word(at, "no text "), (uint64_t)number);
+    return put_number(put_word(at, "no text "), all, (uint32_t)number, jd1, jd2);
 }
 
 static char *put_index(char *at, const struct run *run, size_t index)
@@ -461,7 +493,7 @@ static int line_up(int count, char **words)
     uint8_t table[CT_TABLE_BYTES];
     const char *table_path = NULL;
     int status;
-    if ((status = read_words(count, words, runs, &table_path)) || (status = set_float_mode())) return status;
+    if ((status = read_words(count, words, runs, &table_path, &all.reasons)) || (status = set_float_mode())) return status;
     if ((status = read_table(table_path, table))) return status;
     status = read_runs(runs, &all, table);
     if (status != FAILED && (put_in_order(runs, &all) || write_listing(runs, &all, table))) status = FAILED;

@@ -26,7 +26,8 @@ class Words(Exception):
 
 
 def _say(what: str) -> None:
-    print(f"celestial_time: {what}", file=sys.stderr)
+    if sys.stderr is not None:  # where it is closed, print would write into the listing
+        print(f"celestial_time: {what}", file=sys.stderr)
 
 
 def _source(name: str) -> Source:
@@ -76,10 +77,12 @@ def main(words: list[str]) -> int:
     2
     """
     commands = {"listing": _list, "lineup": _line_up}
-    if words in (["-h"], ["--help"], ["help"]):
-        print(__doc__, end="")
-        return DONE
     try:
+        if sys.stdout is None:
+            raise OSError("standard output is closed")
+        if words in (["-h"], ["--help"], ["help"]):
+            print(__doc__, end="", flush=True)
+            return DONE
         if not words or words[0] not in commands:
             raise Words("listing or lineup is due")
         status = commands[words[0]](words[1:])

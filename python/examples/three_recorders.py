@@ -117,7 +117,7 @@ def draw_dead(axes: Any, recorded: Recorded) -> None:
     for row, (scale, part) in enumerate(each_run(recorded)):
         dead = places_of_the_dead(time[part], line.numbers[part])
         axes.plot(dead, np.full(len(dead), -row), "x", color="#b3001b", markersize=6, markeredgewidth=1.4)
-        names.append(f"{scale.upper()}: {len(dead)}")
+        names.append(f"{scale.upper()}, {len(dead)} dead")
     axes.set_yticks([0, -1, -2], names, fontsize=9)
     axes.set_ylim(-2.7, 0.7)
     axes.set_title("Dead stamps, refused by number, where they stand in their files", loc="left", fontsize=11)

@@ -181,7 +181,7 @@ class Blocks(unittest.TestCase):
             self.assertEqual((done.returncode, b"Traceback" in done.stderr), (status, False), words)
             if program.exists():
                 due = subprocess.run([program, *given], capture_output=True)
-                self.assertEqual((done.returncode, done.stdout), (due.returncode, due.stdout), words)
+                self.assertTrue((done.returncode, done.stdout) == (due.returncode, due.stdout), (words, done.returncode, done.stdout[:300], due.returncode, due.stdout[:300]))
 
     def test_listed_places(self):
         """Against a walk stamp by stamp."""

@@ -69,8 +69,7 @@ class Library(unittest.TestCase):
         declared = dict(re.findall(r"^int64_t (ct_\w+)\(([^)]*)\);", text, re.M))
         held = 0
         for name, types in _library._CALLS.items():
-            if name not in declared:
-                continue
+            self.assertIn(name, declared)
             held += 1
             due = ["pointer" if "*" in one else one.split()[-2] for one in declared[name].split(",")]
             self.assertEqual(len(due), len(types), name)

@@ -33,7 +33,7 @@ texts =
     asciiBytes "the number of bytes is wrong" ∷
     asciiBytes "text is not an ISO 8601 time" ∷
     asciiBytes "second has more than 13 digits after its point" ∷
-    asciiBytes "date is earlier than the one before it" ∷
+    asciiBytes "date is earlier than one before it" ∷
     asciiBytes "number or GPS week is out of its range" ∷
     asciiBytes "two weeks are equally near the reference week" ∷
     asciiBytes "table sizes differ or are above 16" ∷

@@ -29,7 +29,7 @@ const LENGTHS: [u8; 29] = [
     28,
     28,
     46,
-    38,
+    34,
     38,
     45,
     34,
@@ -64,7 +64,7 @@ fn padded(number: u32) -> [u8; 50]
         14 => *b"the number of bytes is wrong                      ",
         15 => *b"text is not an ISO 8601 time                      ",
         16 => *b"second has more than 13 digits after its point    ",
-        17 => *b"date is earlier than the one before it            ",
+        17 => *b"date is earlier than one before it                ",
         18 => *b"number or GPS week is out of its range            ",
         19 => *b"two weeks are equally near the reference week     ",
         20 => *b"table sizes differ or are above 16                ",
@@ -90,7 +90,7 @@ fn text_length(number: u32) -> usize
     LENGTHS[k] as usize
 }
 
-// The text of a number at the start of a slice: one copy for all, since in 28 the compiler would write the bytes one by one.
+// The text of a number at the start of a slice.
 pub(crate) fn text(number: u32, dst: &mut [u8]) -> usize
     requires { ⌜ 50 ≤ length (now dst) ⌝ }
     ensures { λ r. ⌜ Placed (now (dst .entry)) 0 (fixedText number) r (now (dst .exit)) ⌝ }
