@@ -135,14 +135,14 @@ past-28 n h = List·getD-eq-default texts [] h
 
 -- ---- the two tables of the code: the lengths of the texts, and the hexadecimal digits
 abbrev pub textLengths : List ℕ
-textLengths = 0 ∷ 36 ∷ 20 ∷ 23 ∷ 22 ∷ 20 ∷ 28 ∷ 22 ∷ 32 ∷ 30 ∷ 20 ∷ 32 ∷ 20 ∷ 25 ∷ 28 ∷ 28 ∷ 46 ∷ 38 ∷ 38 ∷ 45 ∷ 34 ∷ 45 ∷ 37 ∷ 50 ∷ 44 ∷ 26 ∷ 38 ∷ 36 ∷ 26 ∷ []
+textLengths = 0 ∷ 36 ∷ 20 ∷ 23 ∷ 22 ∷ 20 ∷ 28 ∷ 22 ∷ 32 ∷ 30 ∷ 20 ∷ 32 ∷ 20 ∷ 25 ∷ 28 ∷ 28 ∷ 46 ∷ 34 ∷ 38 ∷ 45 ∷ 34 ∷ 45 ∷ 37 ∷ 50 ∷ 44 ∷ 26 ∷ 38 ∷ 36 ∷ 26 ∷ []
 
 abbrev Measured : ℕ → Type 0
 Measured k = (getD textLengths k 0 ≡ length (fixedText k)) × (getD textLengths k 0 ≤ 50)
 
 each-measured : EachBelow Measured 29
 unfolding fixedText texts
-each-measured = (((((((((((((((((((((((((((((tt, (refl, leb-true 0 50 refl)), (refl, leb-true 36 50 refl)), (refl, leb-true 20 50 refl)), (refl, leb-true 23 50 refl)), (refl, leb-true 22 50 refl)), (refl, leb-true 20 50 refl)), (refl, leb-true 28 50 refl)), (refl, leb-true 22 50 refl)), (refl, leb-true 32 50 refl)), (refl, leb-true 30 50 refl)), (refl, leb-true 20 50 refl)), (refl, leb-true 32 50 refl)), (refl, leb-true 20 50 refl)), (refl, leb-true 25 50 refl)), (refl, leb-true 28 50 refl)), (refl, leb-true 28 50 refl)), (refl, leb-true 46 50 refl)), (refl, leb-true 38 50 refl)), (refl, leb-true 38 50 refl)), (refl, leb-true 45 50 refl)), (refl, leb-true 34 50 refl)), (refl, leb-true 45 50 refl)), (refl, leb-true 37 50 refl)), (refl, leb-true 50 50 refl)), (refl, leb-true 44 50 refl)), (refl, leb-true 26 50 refl)), (refl, leb-true 38 50 refl)), (refl, leb-true 36 50 refl)), (refl, leb-true 26 50 refl))
+each-measured = (((((((((((((((((((((((((((((tt, (refl, leb-true 0 50 refl)), (refl, leb-true 36 50 refl)), (refl, leb-true 20 50 refl)), (refl, leb-true 23 50 refl)), (refl, leb-true 22 50 refl)), (refl, leb-true 20 50 refl)), (refl, leb-true 28 50 refl)), (refl, leb-true 22 50 refl)), (refl, leb-true 32 50 refl)), (refl, leb-true 30 50 refl)), (refl, leb-true 20 50 refl)), (refl, leb-true 32 50 refl)), (refl, leb-true 20 50 refl)), (refl, leb-true 25 50 refl)), (refl, leb-true 28 50 refl)), (refl, leb-true 28 50 refl)), (refl, leb-true 46 50 refl)), (refl, leb-true 34 50 refl)), (refl, leb-true 38 50 refl)), (refl, leb-true 45 50 refl)), (refl, leb-true 34 50 refl)), (refl, leb-true 45 50 refl)), (refl, leb-true 37 50 refl)), (refl, leb-true 50 50 refl)), (refl, leb-true 44 50 refl)), (refl, leb-true 26 50 refl)), (refl, leb-true 38 50 refl)), (refl, leb-true 36 50 refl)), (refl, leb-true 26 50 refl))
 
 pub measured : (k : ℕ) → k ≤ 28 → (getD textLengths k 0 ≡ length (fixedText k)) × (getD textLengths k 0 ≤ 50)
 measured k h = from-each Measured 29 each-measured k (omega arith)
