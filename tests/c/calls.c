@@ -336,6 +336,34 @@ static void utc_texts_read(void)
     REFUSES(4, ct_utc_from_iso8601, TEXT("1961-07-31T23:59:59.96"), NO_ROWS);
 }
 
+/* Each byte value at each place of a text, and in front of it and behind it: 15 exactly where the grammar has no such text. */
+static void each_byte(void)
+{
+    static const char form[] = "dddd-dd-ddTdd:dd:dd.dZ", good[] = "2016-12-31T23:59:60.5Z";
+    enum { LENGTH = sizeof good - 1 };
+    uint8_t text[LENGTH + 1], out[44];
+    int byte, at, digit, blank, due;
+    for (byte = 0; byte < 256; byte++) {
+        digit = byte >= '0' && byte <= '9';
+        blank = (byte >= 9 && byte <= 13) || byte == 32;
+        for (at = 0; at < LENGTH; at++) {
+            due = form[at] == 'd' ? digit : byte == form[at];
+            if (form[at] == 'T') due = due || byte == ' ';
+            if (form[at] == 'Z') due = due || digit || blank;
+            memcpy(text, good, LENGTH);
+            text[at] = (uint8_t)byte;
+            check((ct_utc_from_iso8601(text, LENGTH, NO_ROWS, out, sizeof out) != -15) == due, "byte %d at place %d of a UTC text", byte, at);
+            if (form[at] != 'Z') check((ct_parse_iso8601(text, LENGTH - 1, out, sizeof out) != -15) == due, "byte %d at place %d of a text", byte, at);
+        }
+        text[0] = (uint8_t)byte;
+        memcpy(text + 1, good, LENGTH);
+        check(ct_utc_from_iso8601(text, LENGTH + 1, NO_ROWS, out, sizeof out) == (blank ? 44 : -15), "byte %d in front", byte);
+        memcpy(text, good, LENGTH);
+        text[LENGTH] = (uint8_t)byte;
+        check(ct_utc_from_iso8601(text, LENGTH + 1, NO_ROWS, out, sizeof out) == (blank ? 44 : -15), "byte %d behind", byte);
+    }
+}
+
 /* ---- blocks: tests/c/damaged.c has the bulk */
 
 static void block_calls(void)
@@ -417,6 +445,7 @@ int main(void)
     sheet_calls();
     texts_read();
     utc_texts_read();
+    each_byte();
     block_calls();
     read_numbers();
     read_answers();

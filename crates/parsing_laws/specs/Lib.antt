@@ -1,3 +1,4 @@
 -- What the theorems of `parsing_laws` say of a text.
 pub mod Verdict
 pub mod Shown
+pub mod UtcVerdict
