@@ -13,6 +13,8 @@ pub mod Writes
 pub mod Calls
 -- Floats: the same, as floats.
 pub mod Floats
+-- Twelves: a date read from its twelve bytes.
+pub mod Twelves
 -- Eights: the same, as bytes.
 pub mod Eights
 -- Counts: how many rows a walk compares.

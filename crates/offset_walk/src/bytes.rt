@@ -20,15 +20,16 @@ use super::Triple;
 use super::WalkAnswer;
 use tai_utc::LentRows;
 
-// Date i of a list that has it.
+// Date i of a list that has it. Read from a part of twelve bytes, its numbers need no test of the length.
 fn triple_in(dates: &[u8], i: usize) -> Triple
     requires { ⌜ 12 * i + 12 ≤ length (now dates) ⌝ }
     ensures { λ r. ⌜ r ≡ tripleIn (now (dates .entry)) i ⌝ }
 {
     let at = 12 * i;
-    let year = little_endian::i32_at(dates, at);
-    let month = little_endian::i32_at(dates, at + 4);
-    let day = little_endian::i32_at(dates, at + 8);
+    let end = at + 12;
+    let year = little_endian::i32_at(&dates[at..end], 0);
+    let month = little_endian::i32_at(&dates[at..end], 4);
+    let day = little_endian::i32_at(&dates[at..end], 8);
     Triple { year, month, day }
 }
 
