@@ -30,7 +30,7 @@ static void reason_rooms(void)
 
 static void reason_calls(void)
 {
-    double infinity = ct_float_at((const uint8_t *)"\0\0\0\0\0\0\xf0\x7f"), nan = infinity - infinity;
+    double infinity = infinite_float(), nan = nan_float();
     TELLS("month is not 1 to 12", REASON(ct_reason, 2));
     TELLS("both lengths of line are 0", REASON(ct_reason, 28));
     TELLS("year is before -4799, in a bill 1972: year -2147483648", REASON(ct_date_reason, 1, INT32_MIN, 1, 1));
@@ -43,8 +43,8 @@ static void reason_calls(void)
     TELLS("time is not in the day: minute 60", REASON(ct_time_reason, 4, 23, 60, nan, 0.0));
     TELLS("time is not in the day: seconds 404e000000000000", REASON(ct_time_reason, 4, 23, 59, 60.0, 0.0));
     TELLS("time is not in the day", REASON(ct_time_reason, 4, 23, 59, 60.0, 1.0));
-    TELLS("time is not in the day: seconds 7ff8000000000000", REASON(ct_time_reason, 4, 0, 0, -nan, 0.0));
-    TELLS("date is outside the calendar: sum 7ff8000000000000", REASON(ct_parts_reason, 6, infinity, -infinity));
+    TELLS("time is not in the day: seconds 7ff8000000000000", REASON(ct_time_reason, 4, 0, 0, ct_opaque_float(SIGN | INFINITE | QUIET), 0.0));
+    TELLS("date is outside the calendar: sum 7ff8000000000000", REASON(ct_parts_reason, 6, infinity, minus_infinite_float()));
     TELLS("date is outside the calendar: sum 41cdcd6500000002", REASON(ct_parts_reason, 6, 1e9, 2e-7));
     TELLS("date is outside the calendar", REASON(ct_parts_reason, 6, 1e9, 0.0));
     TELLS("part of the date is not finite: jd1 7ff0000000000000", REASON(ct_parts_reason, 9, infinity, nan));
