@@ -10,7 +10,7 @@ use lib.Pow.{field, pow-pos}
 use lib.Ieee.{Float, nan, inf, fin, binary64, add, sub, neg, lt, ofBits, toBits, nanBits, isNan}
 use lib.Ieee.Bits.{nanBits-is, toBits-ofBits}
 use lib.Ieee.Scale.{finite}
-use borrow.Author.Tests.{ltb-true, ltb-false, eqb-true, eq-eqb, ne-eqb}
+use borrow.Author.Tests.{ltb-true, ltb-false, lt-ltb, eqb-true, eq-eqb, ne-eqb}
 use Rattle.floats.specs.Whole.{abs}
 use Rattle.floats.proofs.Fields.{expo}
 use Rattle.floats.proofs.ExponentField.{finite-field}
@@ -48,6 +48,20 @@ number-pattern b = go (ltb (b % 0x8000_0000_0000_0000) 0x7ff0_0000_0000_0000) re
         let q : expo b ≡ 2047 = omega (arith, field-most b) in
         sym (ap not (eq-eqb (expo b) 2047 q))
 
+-- of two patterns the larger decides for both: where it is a finite number's, so is the other
+module _ (a b : ℕ) where
+  pub smaller-second : ltb (b % 0x8000_0000_0000_0000) (a % 0x8000_0000_0000_0000) ≡ true → finite (ofBits binary64 a) ≡ true → finite (ofBits binary64 b) ≡ true
+  smaller-second l h =
+      let p : b % 0x8000_0000_0000_0000 < a % 0x8000_0000_0000_0000 = ltb-true (b % 0x8000_0000_0000_0000) (a % 0x8000_0000_0000_0000) l in
+      let q : a % 0x8000_0000_0000_0000 < 0x7ff0_0000_0000_0000 = ltb-true (a % 0x8000_0000_0000_0000) 0x7ff0_0000_0000_0000 (number-pattern a ∙ h) in
+      sym (number-pattern b) ∙ lt-ltb (b % 0x8000_0000_0000_0000) 0x7ff0_0000_0000_0000 (omega arith)
+
+  pub smaller-first : ltb (b % 0x8000_0000_0000_0000) (a % 0x8000_0000_0000_0000) ≡ false → finite (ofBits binary64 b) ≡ true → finite (ofBits binary64 a) ≡ true
+  smaller-first l h =
+      let p : a % 0x8000_0000_0000_0000 ≤ b % 0x8000_0000_0000_0000 = ltb-false (b % 0x8000_0000_0000_0000) (a % 0x8000_0000_0000_0000) l in
+      let q : b % 0x8000_0000_0000_0000 < 0x7ff0_0000_0000_0000 = ltb-true (b % 0x8000_0000_0000_0000) 0x7ff0_0000_0000_0000 (number-pattern b ∙ h) in
+      sym (number-pattern a) ∙ lt-ltb (a % 0x8000_0000_0000_0000) 0x7ff0_0000_0000_0000 (omega arith)
+
 number-no-nan : (x : Float) → finite x ≡ true → isNan x ≡ false
 unfolding isNan
 number-no-nan nan h = let z : true ≡ false = sym h in cc
@@ -75,7 +89,7 @@ module _ (days : Float) (js ks : List ℕ) (i a b : ℕ) (ea : a ≡ u64At js (8
   shift-dead-first h = rw h at judged
 
   module _ (h : finite (ofBits binary64 a) ≡ true) where
-    pub shift-dead-second : finite (ofBits binary64 b) ≡ false → shiftedStamp days js ks i ≡ refusal 9
+    shift-dead-second : finite (ofBits binary64 b) ≡ false → shiftedStamp days js ks i ≡ refusal 9
     shift-dead-second k = rw (h, k) at judged
 
     module _ (k : finite (ofBits binary64 b) ≡ true) (larger : Bool) (el : larger ≡ lt (abs (ofBits binary64 b)) (abs (ofBits binary64 a))) where
@@ -90,6 +104,13 @@ module _ (days : Float) (js ks : List ℕ) (i a b : ℕ) (ea : a ≡ u64At js (8
       pub shift-first : larger ≡ false → shiftedStamp days js ks i ≡ answer (julian (add binary64 (ofBits binary64 a) days) (ofBits binary64 b))
       unfolding plus
       shift-first e = rw e at moved
+
+  pub shift-dead-either : finite (ofBits binary64 b) ≡ false → shiftedStamp days js ks i ≡ refusal 9
+  shift-dead-either k = go (finite (ofBits binary64 a)) refl
+    where
+      go : (t : Bool) → finite (ofBits binary64 a) ≡ t → shiftedStamp days js ks i ≡ refusal 9
+      go true h = shift-dead-second h k
+      go false h = shift-dead-first h
 
 -- ---- the four ways
 at-tai : (rows : List Row) (o : Outcome JulianDate) → o ≡ onward o (outOfTai rows 1)

@@ -2,9 +2,10 @@
 // stays is handed on as its pattern.
 ghost use mathlib.Core.Path.{_≡_};
 ghost use mathlib.Core.Bool.{true};
-ghost use lib.Ieee.{binary64, ofBits, lt};
+ghost use Prim.Native.Nat.{_%_};
+ghost use lib.Dec.{ltb};
+ghost use lib.Ieee.{binary64, ofBits};
 ghost use lib.Ieee.Scale.{finite};
-ghost use Rattle.floats.specs.Whole.{abs};
 ghost use Rattle.scales.specs.Formulas.{gpsDays, ttDays};
 ghost use Rattle.runs.specs.Asked.{hasOffset, HasPlace, Roomy, StampPut, RunPut, shiftedStamp, IsOffset};
 use super::one_if_refused;
@@ -22,10 +23,10 @@ fn is_number(n: u64) -> bool
     n % 0x8000_0000_0000_0000 < 0x7ff0_0000_0000_0000
 }
 
-// Whether of two finite numbers the first is the larger in size: its pattern is, without the sign's bit.
+// Whether of two patterns the first is the larger without the sign's bit. Of two finite numbers it is then the larger in size; and where the larger is a finite number's the
+// other is, too.
 fn is_larger(a: u64, b: u64) -> bool
-    requires { ⌜ (finite (ofBits binary64 a) ≡ true) × (finite (ofBits binary64 b) ≡ true) ⌝ }
-    ensures { λ r. ⌜ r ≡ lt (abs (ofBits binary64 b)) (abs (ofBits binary64 a)) ⌝ }
+    ensures { λ r. ⌜ r ≡ ltb (b % 0x8000_0000_0000_0000) (a % 0x8000_0000_0000_0000) ⌝ }
 {
     b % 0x8000_0000_0000_0000 < a % 0x8000_0000_0000_0000
 }
@@ -88,17 +89,17 @@ fn shift_stamp(
 {
     let a = pattern_at(jd1s, i);
     let b = pattern_at(jd2s, i);
-    if !is_number(a) {
-        return 9;
-    }
-    if !is_number(b) {
-        return 9;
-    }
     if is_larger(a, b) {
+        if !is_number(a) {
+            return 9;
+        }
         let y = f64::from_bits(b);
         put_pattern(out1, 8 * i, a);
         put_pattern(out2, 8 * i, floats::to_bits(y + days));
         return 0;
+    }
+    if !is_number(b) {
+        return 9;
     }
     let x = f64::from_bits(a);
     put_pattern(out1, 8 * i, floats::to_bits(x + days));

@@ -1,8 +1,9 @@
--- `runs::fixed::shift_stamp` meets its contract: by the patterns, and the part that stays by its own. Assumes nothing.
-use mathlib.Core.Path.{_≡_, refl, sym, ap, _∙_}
+-- `runs::fixed::shift_stamp` meets its contract: by the patterns, of which the larger decides for both, and the part that stays by its own. Assumes nothing.
+use mathlib.Core.Path.{_≡_, refl, sym, _∙_}
 use borrow.Author.Tests.{not-true, not-false}
 use Rattle.runs.proofs.Puts.{put-refused, put-patterns}
-use Rattle.runs.proofs.Offsets.{no-nan, pattern-back, shift-dead-first, shift-dead-second, shift-first, shift-second}
+use Rattle.runs.proofs.PatternOrder.{larger-pattern}
+use Rattle.runs.proofs.Offsets.{field-most, no-nan, pattern-back, smaller-first, smaller-second, shift-dead-first, shift-dead-either, shift-first, shift-second}
 use borrow.Author.Needs.{needs}
 use Rattle.runs.proofs.fixed.shift_stamp.Statement.{statement}
 use Rattle.runs.proofs.fixed.shift_stamp.Tie as tie
@@ -13,27 +14,20 @@ pattern-at-requires c κs = search needs
 pattern-at-requires-2 : tie.Need-pattern-at-requires-2
 pattern-at-requires-2 c κs = search needs
 
+is-larger-requires : tie.Need-is-larger-requires
+is-larger-requires c κs = search needs
+
 is-number-requires : tie.Need-is-number-requires
 is-number-requires c κs = search needs
 
 returns : tie.Need-returns
 returns c =
-    let a = c .before .before .before .before .before .before .before .before .args in
-    put-refused _ 9 (a .i) _ (a .out1 .now) (a .out2 .now) (shift-dead-first (a .days) (a .jd1s .now) (a .jd2s .now) (a .i) _ _ (c .before .before .before .pattern-at .ensures) (c .before .before .pattern-at2 .ensures) (sym (c .before .is-number .ensures) ∙ not-true _ (c .if1 .taken))) refl
-
-is-number-requires-2 : tie.Need-is-number-requires-2
-is-number-requires-2 c κs = search needs
-
-returns-2 : tie.Need-returns-2
-returns-2 c =
     let a = c .before .before .before .before .before .before .before .before .before .before .args in
-    put-refused _ 9 (a .i) _ (a .out1 .now) (a .out2 .now) (shift-dead-second (a .days) (a .jd1s .now) (a .jd2s .now) (a .i) _ _ (c .before .before .before .before .before .pattern-at .ensures) (c .before .before .before .before .pattern-at2 .ensures) (sym (c .before .before .before .is-number .ensures) ∙ not-false _ (c .before .before .if1 .left)) (sym (c .before .is-number2 .ensures) ∙ not-true _ (c .if2 .taken))) refl
-
-is-larger-requires : tie.Need-is-larger-requires
-is-larger-requires c κs = (sym (c .before .before .before .is-number .ensures) ∙ not-false _ (c .before .before .if1 .left), sym (c .before .is-number2 .ensures) ∙ not-false _ (c .if2 .left))
+    put-refused _ 9 (a .i) _ (a .out1 .now) (a .out2 .now) (shift-dead-first (a .days) (a .jd1s .now) (a .jd2s .now) (a .i) _ _ (c .before .before .before .before .before .pattern-at .ensures) (c .before .before .before .before .pattern-at2 .ensures) (sym (c .before .is-number .ensures) ∙ not-true _ (c .if2 .taken))) refl
 
 float-from-bits-y : tie.Need-float-from-bits-y
-float-from-bits-y c = no-nan _ (sym (c .before .before .before .is-number2 .ensures) ∙ not-false _ (c .before .before .if2 .left))
+float-from-bits-y c =
+    no-nan _ (smaller-second (c .before .before .before .before .before .pattern-at .result) (c .before .before .before .before .pattern-at2 .result) (sym (c .before .before .before .is-larger .ensures) ∙ c .before .before .if1 .taken) (sym (c .before .is-number .ensures) ∙ not-false _ (c .if2 .left)))
 
 mul-put-pattern : tie.Need-mul-put-pattern
 mul-put-pattern c = search needs
@@ -56,17 +50,28 @@ same-length c = search needs
 same-length-2 : tie.Need-same-length-2
 same-length-2 c = search needs
 
-returns-3 : tie.Need-returns-3
-returns-3 c =
-    let a = c .before .before .before .before .before .before .before .before .before .before .before .before .before .before .before .before .before .before .before .before .before .args in
+returns-2 : tie.Need-returns-2
+returns-2 c =
+    let a = c .before .before .before .before .before .before .before .before .before .before .before .before .before .before .before .before .before .before .before .args in
+    let fa = sym (c .before .before .before .before .before .before .before .before .before .before .is-number .ensures) ∙ not-false _ (c .before .before .before .before .before .before .before .before .before .if2 .left) in
+    let fb = smaller-second (c .before .before .before .before .before .before .before .before .before .before .before .before .before .before .pattern-at .result) (c .before .before .before .before .before .before .before .before .before .before .before .before .before .pattern-at2 .result) (sym (c .before .before .before .before .before .before .before .before .before .before .before .before .is-larger .ensures) ∙ c .before .before .before .before .before .before .before .before .before .before .before .if1 .taken) fa in
     put-patterns _ _ (a .i) (a .out1 .now) (a .out2 .now) _ _ _ _
-    (shift-second (a .days) (a .jd1s .now) (a .jd2s .now) (a .i) _ _ (c .before .before .before .before .before .before .before .before .before .before .before .before .before .before .before .before .pattern-at .ensures) (c .before .before .before .before .before .before .before .before .before .before .before .before .before .before .before .pattern-at2 .ensures) (sym (c .before .before .before .before .before .before .before .before .before .before .before .before .before .before .is-number .ensures) ∙ not-false _ (c .before .before .before .before .before .before .before .before .before .before .before .before .before .if1 .left)) (sym (c .before .before .before .before .before .before .before .before .before .before .before .before .is-number2 .ensures) ∙ not-false _ (c .before .before .before .before .before .before .before .before .before .before .before .if2 .left)) (c .before .before .before .before .before .before .before .before .before .before .is-larger .result) (c .before .before .before .before .before .before .before .before .before .before .is-larger .ensures) (c .before .before .before .before .before .before .before .before .before .if3 .taken))
-    (sym (pattern-back _ (c .before .before .before .before .before .before .before .before .before .before .before .before .before .before .before .before .pattern-at .ok) (sym (c .before .before .before .before .before .before .before .before .before .before .before .before .before .before .is-number .ensures) ∙ not-false _ (c .before .before .before .before .before .before .before .before .before .before .before .before .before .if1 .left))))
+    (shift-second (a .days) (a .jd1s .now) (a .jd2s .now) (a .i) _ _ (c .before .before .before .before .before .before .before .before .before .before .before .before .before .before .pattern-at .ensures) (c .before .before .before .before .before .before .before .before .before .before .before .before .before .pattern-at2 .ensures) fa fb (c .before .before .before .before .before .before .before .before .before .before .before .before .is-larger .result) (c .before .before .before .before .before .before .before .before .before .before .before .before .is-larger .ensures ∙ larger-pattern _ _ (field-most _) (field-most _) fa fb) (c .before .before .before .before .before .before .before .before .before .before .before .if1 .taken))
+    (sym (pattern-back _ (c .before .before .before .before .before .before .before .before .before .before .before .before .before .before .pattern-at .ok) fa))
     (c .before .before .before .to-bits .ensures)
     (c .before .before .before .before .before .before .before .put-pattern .ensures) (c .before .before .put-pattern2 .ensures)
 
+is-number-requires-2 : tie.Need-is-number-requires-2
+is-number-requires-2 c κs = search needs
+
+returns-3 : tie.Need-returns-3
+returns-3 c =
+    let a = c .before .before .before .before .before .before .before .before .before .before .args in
+    put-refused _ 9 (a .i) _ (a .out1 .now) (a .out2 .now) (shift-dead-either (a .days) (a .jd1s .now) (a .jd2s .now) (a .i) _ _ (c .before .before .before .before .before .pattern-at .ensures) (c .before .before .before .before .pattern-at2 .ensures) (sym (c .before .is-number2 .ensures) ∙ not-true _ (c .if3 .taken))) refl
+
 float-from-bits-x : tie.Need-float-from-bits-x
-float-from-bits-x c = no-nan _ (sym (c .before .before .before .before .before .is-number .ensures) ∙ not-false _ (c .before .before .before .before .if1 .left))
+float-from-bits-x c =
+    no-nan _ (smaller-first (c .before .before .before .before .before .pattern-at .result) (c .before .before .before .before .pattern-at2 .result) (sym (c .before .before .before .is-larger .ensures) ∙ c .before .before .if1 .left) (sym (c .before .is-number2 .ensures) ∙ not-false _ (c .if3 .left)))
 
 mul-put-pattern-3 : tie.Need-mul-put-pattern-3
 mul-put-pattern-3 c = search needs
@@ -91,11 +96,13 @@ same-length-4 c = search needs
 
 returns-4 : tie.Need-returns-4
 returns-4 c =
-    let a = c .before .before .before .before .before .before .before .before .before .before .before .before .before .before .before .before .before .before .before .before .before .args in
+    let a = c .before .before .before .before .before .before .before .before .before .before .before .before .before .before .before .before .before .before .before .args in
+    let fb = sym (c .before .before .before .before .before .before .before .before .before .before .is-number2 .ensures) ∙ not-false _ (c .before .before .before .before .before .before .before .before .before .if3 .left) in
+    let fa = smaller-first (c .before .before .before .before .before .before .before .before .before .before .before .before .before .before .pattern-at .result) (c .before .before .before .before .before .before .before .before .before .before .before .before .before .pattern-at2 .result) (sym (c .before .before .before .before .before .before .before .before .before .before .before .before .is-larger .ensures) ∙ c .before .before .before .before .before .before .before .before .before .before .before .if1 .left) fb in
     put-patterns _ _ (a .i) (a .out1 .now) (a .out2 .now) _ _ _ _
-    (shift-first (a .days) (a .jd1s .now) (a .jd2s .now) (a .i) _ _ (c .before .before .before .before .before .before .before .before .before .before .before .before .before .before .before .before .pattern-at .ensures) (c .before .before .before .before .before .before .before .before .before .before .before .before .before .before .before .pattern-at2 .ensures) (sym (c .before .before .before .before .before .before .before .before .before .before .before .before .before .before .is-number .ensures) ∙ not-false _ (c .before .before .before .before .before .before .before .before .before .before .before .before .before .if1 .left)) (sym (c .before .before .before .before .before .before .before .before .before .before .before .before .is-number2 .ensures) ∙ not-false _ (c .before .before .before .before .before .before .before .before .before .before .before .if2 .left)) (c .before .before .before .before .before .before .before .before .before .before .is-larger .result) (c .before .before .before .before .before .before .before .before .before .before .is-larger .ensures) (c .before .before .before .before .before .before .before .before .before .if3 .left))
+    (shift-first (a .days) (a .jd1s .now) (a .jd2s .now) (a .i) _ _ (c .before .before .before .before .before .before .before .before .before .before .before .before .before .before .pattern-at .ensures) (c .before .before .before .before .before .before .before .before .before .before .before .before .before .pattern-at2 .ensures) fa fb (c .before .before .before .before .before .before .before .before .before .before .before .before .is-larger .result) (c .before .before .before .before .before .before .before .before .before .before .before .before .is-larger .ensures ∙ larger-pattern _ _ (field-most _) (field-most _) fa fb) (c .before .before .before .before .before .before .before .before .before .before .before .if1 .left))
     (c .before .before .before .before .before .before .before .to-bits2 .ensures)
-    (sym (pattern-back _ (c .before .before .before .before .before .before .before .before .before .before .before .before .before .before .before .pattern-at2 .ok) (sym (c .before .before .before .before .before .before .before .before .before .before .before .before .is-number2 .ensures) ∙ not-false _ (c .before .before .before .before .before .before .before .before .before .before .before .if2 .left))))
+    (sym (pattern-back _ (c .before .before .before .before .before .before .before .before .before .before .before .before .before .pattern-at2 .ok) fb))
     (c .before .before .before .before .before .before .put-pattern3 .ensures) (c .before .before .put-pattern4 .ensures)
 
 pub shift-stamp-spec : {M : Type 1} → statement M
@@ -104,11 +111,9 @@ shift-stamp-spec =
     (tie.spec
     pattern-at-requires
     pattern-at-requires-2
+    is-larger-requires
     is-number-requires
     returns
-    is-number-requires-2
-    returns-2
-    is-larger-requires
     float-from-bits-y
     mul-put-pattern
     put-pattern-requires
@@ -117,6 +122,8 @@ shift-stamp-spec =
     put-pattern-requires-2
     same-length
     same-length-2
+    returns-2
+    is-number-requires-2
     returns-3
     float-from-bits-x
     mul-put-pattern-3
