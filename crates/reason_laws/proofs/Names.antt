@@ -29,11 +29,11 @@ use Rattle.julian.specs.Finite.{finiteJd, finiteArg}
 use Rattle.tai_utc.specs.Table.{Row, monthNumber}
 use Rattle.tai_utc.specs.Offset.{offsetAt, inDay, taiUtcOffset}
 use Rattle.stamps.specs.Block.{blockOf}
-use Rattle.reasons.specs.declared.Named.{Named}
-use Rattle.reasons.specs.declared.Named.the-variants.{NoField, Year, Month, Day, Hour, Minute, Second, Sum, Fraction, Nanos, FirstPart, SecondPart, Offset, SecondSize, Size, WholeLength}
+use Rattle.sentences.specs.declared.Named.{Named}
+use Rattle.sentences.specs.declared.Named.the-variants.{NoField, Year, Month, Day, Hour, Minute, Second, Sum, Fraction, Nanos, FirstPart, SecondPart, Offset, SecondSize, Size, WholeLength}
 use Rattle.reasons.specs.declared.Values.{Values}
 use Rattle.reasons.specs.declared.Values.the-variants.{Date, Time, Parts, Number, Count, Block}
-use Rattle.reasons.specs.declared.Reason.{Reason}
+use Rattle.sentences.specs.declared.Reason.{Reason}
 use Rattle.reasons.specs.Offending.{offending, dateField, yearField, monthField, dayField, timeField, sumField, partField, partsField, floatField, nanosField, blockField}
 use Rattle.reasons.specs.Sentence.{reasonOf}
 use Rattle.reasons.proofs.FieldTests.{hour-wrong, minute-wrong}

@@ -21,14 +21,15 @@ use Rattle.digits.specs.Decimal.{AllDigits, digitsOf}
 use Rattle.digits.proofs.Decimal.{digits-all, digits-few}
 use Rattle.digits.specs.Hexadecimal.{hexDigit, hexDigits, hex16}
 use Rattle.digits.proofs.Hexadecimal.{hex-length}
-use Rattle.reasons.specs.declared.Named.{Named}
-use Rattle.reasons.specs.declared.Named.the-variants.{NoField, Year, Month, Day, Hour, Minute, Second, Sum, Fraction, Nanos, FirstPart, SecondPart, Offset, SecondSize, Size, WholeLength}
+use Rattle.sentences.specs.declared.Named.{Named}
+use Rattle.sentences.specs.declared.Named.the-variants.{NoField, Year, Month, Day, Hour, Minute, Second, Sum, Fraction, Nanos, FirstPart, SecondPart, Offset, SecondSize, Size, WholeLength}
 use Rattle.reasons.specs.declared.Values.{Values}
 use Rattle.reasons.specs.declared.Values.the-variants.{NoValues, Date, Time, Parts, Number, Count, Block}
-use Rattle.reasons.specs.declared.Reason.{Reason}
-use Rattle.reasons.specs.Texts.{asciiBytes, texts, fixedText}
+use Rattle.sentences.specs.declared.Reason.{Reason}
+use Rattle.sentences.specs.Texts.{asciiBytes, texts, fixedText}
 use Rattle.reasons.specs.Offending.{offending, yearField, monthField, dayField, dateField, timeField, sumField, partField, partsField, floatField, nanosField, blockField}
-use Rattle.reasons.specs.Sentence.{signedDigits, floatDigits, namedText, render, reasonOf, sentence}
+use Rattle.sentences.specs.Render.{signedDigits, floatDigits, namedText, render}
+use Rattle.reasons.specs.Sentence.{reasonOf, sentence}
 use Rattle.reason_laws.specs.Printable.{Printable}
 use Rattle.reason_laws.specs.Widths.{OfWidth}
 

@@ -14,12 +14,12 @@ use Rattle.digits.specs.Decimal.{number, AllDigits, digitsOf}
 use Rattle.digits.proofs.Decimal.{number-digits, digits-all, digits-some}
 use Rattle.digits.specs.Hexadecimal.{hex16, hexNumber}
 use Rattle.digits.proofs.Hexadecimal.{number-hex}
-use Rattle.reasons.proofs.Each.{EachBelow, from-each}
-use Rattle.reasons.specs.declared.Named.{Named}
-use Rattle.reasons.specs.declared.Named.the-variants.{NoField, Year, Month, Day, Hour, Minute, Second, Sum, Fraction, Nanos, FirstPart, SecondPart, Offset, SecondSize, Size, WholeLength}
-use Rattle.reasons.specs.declared.Reason.{Reason}
-use Rattle.reasons.specs.Texts.{texts, fixedText}
-use Rattle.reasons.specs.Sentence.{signedDigits, floatDigits, namedText, render}
+use Rattle.sentences.proofs.Each.{EachBelow, from-each}
+use Rattle.sentences.specs.declared.Named.{Named}
+use Rattle.sentences.specs.declared.Named.the-variants.{NoField, Year, Month, Day, Hour, Minute, Second, Sum, Fraction, Nanos, FirstPart, SecondPart, Offset, SecondSize, Size, WholeLength}
+use Rattle.sentences.specs.declared.Reason.{Reason}
+use Rattle.sentences.specs.Texts.{texts, fixedText}
+use Rattle.sentences.specs.Render.{signedDigits, floatDigits, namedText, render}
 use Rattle.reason_laws.specs.Reader.{startsWith, beginning, numberIn, readSigned, floatIn, fieldBy, readSentence, OfMachine}
 
 -- ---- the number

@@ -18,8 +18,8 @@ use Rattle.julian.specs.declared.FractionAnswer.the-variants as Answer
 use Rattle.julian.specs.DayFraction.{fractionOutcome, dayFraction, timeInDay}
 use Rattle.julian.specs.JulianDate.{julian, roundedSum}
 use Rattle.tai_utc.specs.Offset.{inDay}
-use Rattle.reasons.specs.declared.Named.{Named}
-use Rattle.reasons.specs.declared.Named.the-variants.{NoField, Year, Month, Day, Hour, Minute, Second, Sum, Fraction, Nanos, FirstPart, SecondPart, Offset, SecondSize, Size, WholeLength}
+use Rattle.sentences.specs.declared.Named.{Named}
+use Rattle.sentences.specs.declared.Named.the-variants.{NoField, Year, Month, Day, Hour, Minute, Second, Sum, Fraction, Nanos, FirstPart, SecondPart, Offset, SecondSize, Size, WholeLength}
 use Rattle.reasons.specs.Offending.{yearField, monthField, dayField, dateField, timeField, sumField, partField, partsField, floatField, nanosField, blockField}
 
 -- ---- a date

@@ -1,5 +1,3 @@
 -- The laws that the proofs of `reasons` cite.
-pub mod Each
-pub mod Numbers
 pub mod FieldTests
 pub mod Told

@@ -4,10 +4,11 @@ use mathlib.Core.Path.{_≡_, sym, ap, _∙_}
 use mathlib.Core.List.{List}
 use Rattle.refusals.specs.Outcome.{Outcome, answer, refusal, onward}
 use Rattle.reasons.specs.declared.Values.{Values}
-use Rattle.reasons.specs.declared.Reason.{Reason}
+use Rattle.sentences.specs.declared.Reason.{Reason}
 use Rattle.reasons.specs.declared.ReasonAnswer.{ReasonAnswer}
 use Rattle.reasons.specs.declared.ReasonAnswer.the-variants.{Told, Refused}
-use Rattle.reasons.specs.Sentence.{render, reasonOf, reasonOutcome, sentence}
+use Rattle.sentences.specs.Render.{render}
+use Rattle.reasons.specs.Sentence.{reasonOf, reasonOutcome, sentence}
 
 module _ (k : ℕ) (v : Values) (r : ReasonAnswer) (e : reasonOutcome r ≡ reasonOf k v) where
   pub told-refused : (n : ℕ) → r ≡ Refused n → sentence k v ≡ refusal n

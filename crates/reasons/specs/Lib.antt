@@ -1,4 +1,3 @@
--- What the contracts of `reasons` cite, in the order to read it: the fixed texts, which field a number names, and the sentence.
-pub mod Texts
+-- What the contracts of `reasons` cite, in the order to read it: which field a number names, and the sentence of a number with its values.
 pub mod Offending
 pub mod Sentence

@@ -1,0 +1,3 @@
+-- The laws that the proofs of `sentences` cite.
+pub mod Each
+pub mod Numbers
