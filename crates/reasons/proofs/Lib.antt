@@ -3,3 +3,4 @@ pub mod Each
 pub mod Numbers
 pub mod FieldTests
 pub mod Told
+pub mod SentenceLengths

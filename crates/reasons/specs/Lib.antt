@@ -2,3 +2,4 @@
 pub mod Texts
 pub mod Offending
 pub mod Sentence
+pub mod Widths
