@@ -23,8 +23,14 @@ use Rattle.utc_text.specs.Text.{last, four, seven, afterYear}
 use Rattle.utc_text.specs.Expanded.{expandedYear, expandedText}
 use Rattle.utc.specs.IsoText.{midnight, nextMidnightTextBy, shownTextBy, dayTextBy, isoTextBy}
 use Rattle.utc.specs.Expanded.{isoTextExpanded}
-use Rattle.stamps.specs.Block.{blockOf}
-use Rattle.stamps.specs.Listing.{numeral, refusedWord, utcListingWords, blockRefusedWords, textAt, shown, stampLine, refusedIn, header, blockRefused}
+use Rattle.reasons.specs.declared.Values.{Values}
+use Rattle.reasons.specs.Offending.{offending}
+use Rattle.reason_laws.specs.Printable.{Printable}
+use Rattle.reason_laws.proofs.Printed.{sentence-printable}
+use Rattle.stamps.specs.declared.Telling.{Telling}
+use Rattle.stamps.specs.declared.Telling.the-variants.{Numbers, Sentences}
+use Rattle.stamps.specs.Block.{blockOf, stampAt}
+use Rattle.stamps.specs.Listing.{numeral, refusedWord, utcListingWords, blockWord, lineRoom, told, textAt, refusedValues, shown, stampLine, refusedIn, header, blockRefused}
 use Rattle.stamps.specs.Parts.{lineOf, linesIn, linesFrom, partLines, partText}
 use Rattle.listing_laws.specs.LineEnds.{lineEnds}
 use Rattle.stamps.proofs.Parts.{held-some}
@@ -79,23 +85,33 @@ unfolding expandedText
 text-none d t = let e = ends-append (expandedYear (d .year)) (afterYear d t) in omega (arith, year-none (d .year), after-none d t)
 
 -- ---- nor has what is shown of a stamp
-refused-none : (k : ℕ) → lineEnds (refusedWord ++ numeral k) ≡ 0
-unfolding lineEnds
-refused-none k = simp (digits-none 4)
+printable-none : (cs : List ℕ) → Printable cs → lineEnds cs ≡ 0
+unfolding Printable lineEnds
+printable-none [] p = refl
+printable-none (c ∷ cs) p =
+    let low : 32 ≤ c = p .0 in
+    let none : eqb c 10 ≡ false = ne-eqb c 10 (λ e. (let no : ⊥ = omega arith in no)) in
+    rw none (omega (arith, printable-none cs (p .2)))
 
-shown-onward : {A : Type 0} (o : Outcome A) (f : A → Outcome (List ℕ)) → ((a : A) → lineEnds (shown (f a)) ≡ 0) → lineEnds (shown (onward o f)) ≡ 0
-unfolding onward shown
-shown-onward (answer a) f h = h a
-shown-onward (refusal k) f h = refused-none k
+pub told-none : (how : Telling) (k : ℕ) (v : Values) → lineEnds (told how k v) ≡ 0
+unfolding told lineEnds
+told-none Numbers k v = simp (digits-none 4)
+told-none (Sentences n) k v = printable-none _ (sentence-printable (record { number = k; named = offending k v }))
 
-day-none : (d : CalendarDate) (r : TimeShown) → lineEnds (shown (shownTextBy expandedText d r)) ≡ 0
-unfolding shownTextBy nextMidnightTextBy shown
-day-none d (At t) = text-none d t
-day-none d NextMidnight = shown-onward _ _ (λ t. text-none t midnight)
+module _ (how : Telling) (jd : JulianDate) where
+  shown-onward : {A : Type 0} (o : Outcome A) (f : A → Outcome (List ℕ)) → ((a : A) → lineEnds (shown how jd (f a)) ≡ 0) → lineEnds (shown how jd (onward o f)) ≡ 0
+  unfolding onward shown
+  shown-onward (answer a) f h = h a
+  shown-onward (refusal k) f h = told-none how k (refusedValues jd)
 
-shown-none : (rows : List Row) (jd : JulianDate) → lineEnds (shown (isoTextExpanded rows jd)) ≡ 0
-unfolding isoTextBy dayTextBy
-shown-none rows jd = shown-onward _ _ (λ c. shown-onward _ _ (λ leap. day-none (c .date) (shownOf away (c .fraction) leap)))
+  day-none : (d : CalendarDate) (r : TimeShown) → lineEnds (shown how jd (shownTextBy expandedText d r)) ≡ 0
+  unfolding shownTextBy nextMidnightTextBy shown
+  day-none d (At t) = text-none d t
+  day-none d NextMidnight = shown-onward _ _ (λ t. text-none t midnight)
+
+  shown-none : (rows : List Row) → lineEnds (shown how jd (isoTextExpanded rows jd)) ≡ 0
+  unfolding isoTextBy dayTextBy
+  shown-none rows = shown-onward _ _ (λ c. shown-onward _ _ (λ leap. day-none (c .date) (shownOf away (c .fraction) leap)))
 
 -- ---- a line has one
 blank : lineEnds (32 ∷ []) ≡ 0
@@ -106,45 +122,45 @@ end : lineEnds (10 ∷ []) ≡ 1
 unfolding lineEnds
 end = refl
 
-words : (lineEnds utcListingWords ≡ 0) × (lineEnds (32 ∷ refusedWord) ≡ 0) × (lineEnds blockRefusedWords ≡ 0)
+words : (lineEnds utcListingWords ≡ 0) × (lineEnds (32 ∷ refusedWord) ≡ 0) × (lineEnds blockWord ≡ 0)
 unfolding lineEnds
 words = (refl, refl, refl)
 
-stamp-one : (rows : List Row) (s : List ℕ) (n i : ℕ) → lineEnds (stampLine rows s n i) ≡ 1
+stamp-one : (how : Telling) (rows : List Row) (s : List ℕ) (n i : ℕ) → lineEnds (stampLine how rows s n i) ≡ 1
 unfolding stampLine textAt
-stamp-one rows s n i = simp (ends-append, digits-none 4, shown-none, blank, end)
+stamp-one how rows s n i = simp (ends-append, digits-none 4, shown-none, blank, end)
 
 header-one : (n k : ℕ) → lineEnds (header n k) ≡ 1
 unfolding header
 header-one n k = simp (ends-append, digits-none 4, words .0, words .1, end)
 
-refused-one : (k : ℕ) → lineEnds (blockRefused k) ≡ 1
+refused-one : (how : Telling) (s : List ℕ) (k : ℕ) → lineEnds (blockRefused how s k) ≡ 1
 unfolding blockRefused
-refused-one k = simp (ends-append, digits-none 4, words .2, end)
+refused-one how s k = simp (ends-append, told-none, words .2, end)
 
-line-one : (rows : List Row) (o : Outcome ℕ) (s : List ℕ) (line : ℕ) → lineEnds (lineOf rows o s line) ≡ 1
+line-one : (how : Telling) (rows : List Row) (o : Outcome ℕ) (s : List ℕ) (line : ℕ) → lineEnds (lineOf how rows o s line) ≡ 1
 unfolding lineOf
-line-one rows (refusal k) s line = refused-one k
-line-one rows (answer n) s line = by (eqb line 0)
+line-one how rows (refusal k) s line = refused-one how s k
+line-one how rows (answer n) s line = by (eqb line 0)
   where
-    by : (b : Bool) → lineEnds (cond b (header n (refusedIn rows s n n)) (stampLine rows s n (line - 1))) ≡ 1
+    by : (b : Bool) → lineEnds (cond b (header n (refusedIn rows s n n)) (stampLine how rows s n (line - 1))) ≡ 1
     by true = header-one n (refusedIn rows s n n)
-    by false = stamp-one rows s n (line - 1)
+    by false = stamp-one how rows s n (line - 1)
 
-lines-ends : (rows : List Row) (s : List ℕ) (line k : ℕ) → lineEnds (linesFrom rows s line k) ≡ k
+lines-ends : (how : Telling) (rows : List Row) (s : List ℕ) (line k : ℕ) → lineEnds (linesFrom how rows s line k) ≡ k
 unfolding linesFrom lineEnds
-lines-ends rows s line zero = refl
-lines-ends rows s line (suc k) =
-    let e = ends-append (linesFrom rows s line k) (lineOf rows (blockOf s) s (line + k)) in
-    omega (arith, lines-ends rows s line k, line-one rows (blockOf s) s (line + k))
+lines-ends how rows s line zero = refl
+lines-ends how rows s line (suc k) =
+    let e = ends-append (linesFrom how rows s line k) (lineOf how rows (blockOf s) s (line + k)) in
+    omega (arith, lines-ends how rows s line k, line-one how rows (blockOf s) s (line + k))
 
 -- ---- what a caller learns of a part by its bytes alone
 -- the line ends of a part are its lines
-pub part-ends : (rows : List Row) (s : List ℕ) (line room : ℕ) → lineEnds (partText rows s line room) ≡ partLines rows s line room
+pub part-ends : (how : Telling) (rows : List Row) (s : List ℕ) (line room : ℕ) → lineEnds (partText how rows s line room) ≡ partLines how rows s line room
 unfolding partText
-part-ends rows s line room = lines-ends rows s line (partLines rows s line room)
+part-ends how rows s line room = lines-ends how rows s line (partLines how rows s line room)
 
--- where a line is left, 33 bytes hold one
-pub part-some : (rows : List Row) (s : List ℕ) (line room : ℕ) → line < linesIn (blockOf s) → 33 ≤ room → 1 ≤ partLines rows s line room
+-- where a line is left, the room of a line holds one
+pub part-some : (how : Telling) (rows : List Row) (s : List ℕ) (line room : ℕ) → line < linesIn (blockOf s) → lineRoom how ≤ room → 1 ≤ partLines how rows s line room
 unfolding partLines
-part-some rows s line room h enough = held-some rows s line room (linesIn (blockOf s) - line) enough (omega arith)
+part-some how rows s line room h enough = held-some how rows s line room (linesIn (blockOf s) - line) enough (omega arith)

@@ -31,6 +31,7 @@ use Rattle.utc_text.specs.Expanded.{expandedYear, expandedText}
 use Rattle.utc.specs.Expanded.{expandedSheet, isoTextExpanded}
 use Rattle.utc.proofs.TextCalls.{fields-given-by}
 use Rattle.utc.proofs.DayTexts.{textBy, leapOn, has-text-by}
+use Rattle.stamps.specs.declared.Telling.the-variants.{Numbers}
 use Rattle.stamps.specs.Block.{blockOf, jd1Bits, jd2Bits, stampAt}
 use Rattle.stamps.specs.Listing.{textAt, shown, stampLine}
 use Rattle.stamps.specs.Parts.{lineOf}
@@ -89,7 +90,7 @@ module _ (z : List ℕ) (many : length z ≡ 16016) (each : (k : ℕ) → getD z
   unfolding textAt stampAt
   text-at rows = (λ i. isoTextExpanded rows (julian (ofBits binary64 (zeros-at .0 i)) (ofBits binary64 (zeros-at .1 i)))) ∙ zero-text rows .1
 
-  line-33 : (rows : List Row) → length (stampLine rows block 1001 1000) ≡ 33
+  line-33 : (rows : List Row) → length (stampLine Numbers rows block 1001 1000) ≡ 33
   unfolding stampLine shown digitsIn
   line-33 rows = rw (text-at rows) (let e = length-append (zero-text rows .0) (10 ∷ []) in omega (arith, zero-text rows .2))
 
@@ -101,7 +102,7 @@ zeros zero k = refl
 zeros (suc n) zero = refl
 zeros (suc n) (suc k) = zeros n k
 
-pub longest-line : (rows : List Row) → (s : List ℕ) × (line : ℕ) × (blockOf s ≡ answer 1001) × (length (lineOf rows (blockOf s) s line) ≡ 33)
+pub longest-line : (rows : List Row) → (s : List ℕ) × (line : ℕ) × (blockOf s ≡ answer 1001) × (length (lineOf Numbers rows (blockOf s) s line) ≡ 33)
 unfolding lineOf
 longest-line rows =
     let z = noughts 16016 in

@@ -18,9 +18,11 @@ use Rattle.calendar.proofs.NextDates.{first-false}
 use Rattle.tai_utc.specs.Table.{Row}
 use Rattle.utc.proofs.Numbers.{not-both}
 use Rattle.utc.proofs.ExpandedTexts.{expanded-not-finite}
+use Rattle.stamps.specs.declared.Telling.{Telling}
+use Rattle.stamps.specs.declared.Telling.the-variants.{Numbers, Sentences}
 use Rattle.stamps.specs.Block.{blockOf, jd1Bits, jd2Bits, stampAt}
 use Rattle.listing_laws.specs.NotFinite.{NotFinite, isNotFinite, notFiniteIn, HasText}
-use Rattle.stamps.specs.Listing.{numeral, refusedWord, textAt, shown, stampLine, stampLines, oneIfRefused, refusedIn, header, listingOf, listing}
+use Rattle.stamps.specs.Listing.{numeral, refusedWord, told, textAt, shown, stampLine, stampLines, oneIfRefused, refusedIn, header, listingOf, listing}
 
 no-second : (a b : Bool) → b ≡ false → a && b ≡ false
 no-second true b e = e
@@ -40,10 +42,10 @@ unfolding digitsIn
 six = refl
 
 -- `i refused 6`
-pub not-finite-line : (rows : List Row) (s : List ℕ) (n i : ℕ) → NotFinite s n i → stampLine rows s n i ≡ ((numeral i ++ (32 ∷ [])) ++ (refusedWord ++ (54 ∷ []))) ++ (10 ∷ [])
-unfolding stampLine shown
+pub not-finite-line : (rows : List Row) (s : List ℕ) (n i : ℕ) → NotFinite s n i → stampLine Numbers rows s n i ≡ ((numeral i ++ (32 ∷ [])) ++ (refusedWord ++ (54 ∷ []))) ++ (10 ∷ [])
+unfolding stampLine shown told
 not-finite-line rows s n i d =
-    ap (λ (o : Outcome (List ℕ)). ((numeral i ++ (32 ∷ [])) ++ shown o) ++ (10 ∷ [])) (not-finite-refused rows s n i d)
+    ap (λ (o : Outcome (List ℕ)). ((numeral i ++ (32 ∷ [])) ++ shown Numbers (stampAt s n i) o) ++ (10 ∷ [])) (not-finite-refused rows s n i d)
     ∙ ap (λ (t : List ℕ). ((numeral i ++ (32 ∷ [])) ++ (refusedWord ++ t)) ++ (10 ∷ [])) six
 
 pub not-finite-one : (rows : List Row) (s : List ℕ) (n i : ℕ) → NotFinite s n i → oneIfRefused (textAt rows s n i) ≡ 1
@@ -93,7 +95,7 @@ unfolding notFiniteIn refusedIn
 only-not-finite rows s n zero f = refl
 only-not-finite rows s n (suc k) f = let before = only-not-finite rows s n k (λ i h. f i (omega arith)) in let one = one-each rows s n k (f k (omega arith)) in omega arith
 
-pub not-finite-header : (rows : List Row) (s : List ℕ) (n : ℕ) → blockOf s ≡ answer n → ((i : ℕ) → i < n → NotFinite s n i ⊎ HasText rows s n i)
-    → listing rows s ≡ header n (notFiniteIn s n n) ++ stampLines rows s n n
+pub not-finite-header : (how : Telling) (rows : List Row) (s : List ℕ) (n : ℕ) → blockOf s ≡ answer n → ((i : ℕ) → i < n → NotFinite s n i ⊎ HasText rows s n i)
+    → listing how rows s ≡ header n (notFiniteIn s n n) ++ stampLines how rows s n n
 unfolding listing listingOf
-not-finite-header rows s n e f = ap (λ (o : Outcome ℕ). listingOf rows o s) e ∙ ap (λ (k : ℕ). header n k ++ stampLines rows s n n) (only-not-finite rows s n n f)
+not-finite-header how rows s n e f = ap (λ (o : Outcome ℕ). listingOf how rows o s) e ∙ ap (λ (k : ℕ). header n k ++ stampLines how rows s n n) (only-not-finite rows s n n f)

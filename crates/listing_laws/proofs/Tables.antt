@@ -20,6 +20,7 @@ use Rattle.utc.proofs.Dates.{date-in-range}
 use Rattle.utc.proofs.TextCalls.{fields-refused-by, fields-given-by}
 use Rattle.utc.proofs.DayTexts.{text-refused-by, has-text-by}
 use Rattle.utc.proofs.Numbers.{not-both, one-number, date-refusal}
+use Rattle.stamps.specs.declared.Telling.{Telling}
 use Rattle.stamps.specs.declared.Part.{Part}
 use Rattle.stamps.specs.declared.LinesAnswer.{LinesAnswer}
 use Rattle.stamps.specs.declared.LinesAnswer.the-variants.{Lines, Refused}
@@ -64,34 +65,34 @@ count-alike a b s n (suc k) =
     omega arith
 
 -- and the header, which is written without a look at the table, is right for each
-pub header-alike : (a b : List Row) (s : List ℕ) → lineOf a (blockOf s) s 0 ≡ lineOf b (blockOf s) s 0
+pub header-alike : (how : Telling) (a b : List Row) (s : List ℕ) → lineOf how a (blockOf s) s 0 ≡ lineOf how b (blockOf s) s 0
 unfolding lineOf
-header-alike a b s = go (blockOf s)
+header-alike how a b s = go (blockOf s)
   where
-    go : (o : Outcome ℕ) → lineOf a o s 0 ≡ lineOf b o s 0
+    go : (o : Outcome ℕ) → lineOf how a o s 0 ≡ lineOf how b o s 0
     go (answer n) = ap (header n) (count-alike a b s n n)
     go (refusal k) = refl
 
 -- the lines of stamps that are refused too
-pub refused-lines-alike : (a b : List Row) (s : List ℕ) (n i k : ℕ) → textAt a s n i ≡ refusal k → stampLine a s n i ≡ stampLine b s n i
+pub refused-lines-alike : (how : Telling) (a b : List Row) (s : List ℕ) (n i k : ℕ) → textAt a s n i ≡ refusal k → stampLine how a s n i ≡ stampLine how b s n i
 unfolding stampLine
-refused-lines-alike a b s n i k e = rw (e, refused-alike a b s n i k e)
+refused-lines-alike how a b s n i k e = rw (e, refused-alike a b s n i k e)
 
 -- ---- a call: what it does with a table that is taken, and with one that is turned away
-module _ {table : Outcome (List Row)} {s before after : List ℕ} {line : ℕ} {r : LinesAnswer} (c : PartCall table s line before r after) where
-  pub part-of-taken : (rows : List Row) → table ≡ answer rows → (p : Part) × (r ≡ Lines p) × PartPlaced rows s line before p after
+module _ {how : Telling} {table : Outcome (List Row)} {s before after : List ℕ} {line : ℕ} {r : LinesAnswer} (c : PartCall how table s line before r after) where
+  pub part-of-taken : (rows : List Row) → table ≡ answer rows → (p : Part) × (r ≡ Lines p) × PartPlaced how rows s line before p after
   unfolding linesOutcome scratchHolds onward
-  part-of-taken rows e = go r (c .says ∙ ap (λ (o : Outcome (List Row)). onward o (λ rows. answer (partOf rows s line (length before)))) e)
+  part-of-taken rows e = go r (c .says ∙ ap (λ (o : Outcome (List Row)). onward o (λ rows. answer (partOf how rows s line (length before)))) e)
     where
-      go : (x : LinesAnswer) → linesOutcome x ≡ answer (partOf rows s line (length before)) → (p : Part) × (x ≡ Lines p) × PartPlaced rows s line before p after
-      go (Lines p) q = (p, refl, record { says = cc; holds = c .holds ∙ ap (λ (o : Outcome (List Row)). scratchHolds (onward o (λ rows. answer (partText rows s line (length before)))) before) e })
+      go : (x : LinesAnswer) → linesOutcome x ≡ answer (partOf how rows s line (length before)) → (p : Part) × (x ≡ Lines p) × PartPlaced how rows s line before p after
+      go (Lines p) q = (p, refl, record { says = cc; holds = c .holds ∙ ap (λ (o : Outcome (List Row)). scratchHolds (onward o (λ rows. answer (partText how rows s line (length before)))) before) e })
       go (Refused k) q = let z : _≡_ {A = ℕ} 0 1 = cc in absurd (omega arith)
 
   pub part-of-refused : (k : ℕ) → table ≡ refusal k → (r ≡ Refused k) × (after ≡ before)
   unfolding linesOutcome scratchHolds onward
   part-of-refused k e = (
-    go r (c .says ∙ ap (λ (o : Outcome (List Row)). onward o (λ rows. answer (partOf rows s line (length before)))) e),
-    c .holds ∙ ap (λ (o : Outcome (List Row)). scratchHolds (onward o (λ rows. answer (partText rows s line (length before)))) before) e,
+    go r (c .says ∙ ap (λ (o : Outcome (List Row)). onward o (λ rows. answer (partOf how rows s line (length before)))) e),
+    c .holds ∙ ap (λ (o : Outcome (List Row)). scratchHolds (onward o (λ rows. answer (partText how rows s line (length before)))) before) e,
   )
     where
       go : (x : LinesAnswer) → linesOutcome x ≡ refusal k → x ≡ Refused k
@@ -99,6 +100,6 @@ module _ {table : Outcome (List Row)} {s before after : List ℕ} {line : ℕ} {
       go (Refused j) q = let same : j ≡ k = cc in ap Refused same
 
 -- with no lent rows, whatever the places hold, every byte is that of the fixed table
-pub part-without-rows : (t : LentRows) → t .«months_size» ≡ 0 → t .«seconds_size» ≡ 0 → {s before after : List ℕ} {line : ℕ} {r : LinesAnswer}
-    → PartCall (tableOf t) s line before r after → (p : Part) × (r ≡ Lines p) × PartPlaced fixed s line before p after
+pub part-without-rows : (t : LentRows) → t .«months_size» ≡ 0 → t .«seconds_size» ≡ 0 → {how : Telling} {s before after : List ℕ} {line : ℕ} {r : LinesAnswer}
+    → PartCall how (tableOf t) s line before r after → (p : Part) × (r ≡ Lines p) × PartPlaced how fixed s line before p after
 part-without-rows t m z c = part-of-taken c fixed (table-none t m z)

@@ -1,4 +1,3 @@
--- The words of the theorems: a reader of sentences with the reasons that it reads, printable text, and the values that the calls' types hold.
+-- The words of the theorems: a reader of sentences with the reasons that it reads, and printable text.
 pub mod Reader
 pub mod Printable
-pub mod Widths

@@ -1,3 +1,4 @@
 -- The laws that the proofs of `reasons` cite.
 pub mod FieldTests
 pub mod Told
+pub mod SentenceLengths

@@ -1,3 +1,4 @@
 -- What the contracts of `reasons` cite, in the order to read it: which field a number names, and the sentence of a number with its values.
 pub mod Offending
 pub mod Sentence
+pub mod Widths

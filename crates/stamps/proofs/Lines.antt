@@ -10,24 +10,25 @@ use Rattle.refusals.specs.Outcome.{Outcome, answer}
 use Rattle.julian.specs.declared.JulianDate.{JulianDate}
 use Rattle.tai_utc.specs.Table.{Row}
 use Rattle.utc.specs.Expanded.{isoTextExpanded}
+use Rattle.stamps.specs.declared.Telling.{Telling}
 use Rattle.stamps.specs.declared.BlockAnswer.{BlockAnswer}
 use Rattle.stamps.specs.declared.BlockAnswer.the-variants.{Stamps, Refused}
 use Rattle.stamps.specs.Block.{blockOf, blockOutcome, stampAt}
 use Rattle.digits.specs.Placed.{Placed}
 use Rattle.stamps.specs.Listing.{numeral, textAt, shown, stampLine, oneIfRefused, refusedIn, header, blockRefused}
 use Rattle.stamps.specs.Parts.{lineOf, linesIn, linesFrom}
-use Rattle.stamps.proofs.Blocks.{block-accepted}
+use Rattle.stamps.proofs.Blocks.{block-accepted, block-number}
 use Rattle.digits.proofs.Places.{then, placed-as}
 
 module _ {d d1 d2 d3 d4 : List ℕ} {at r1 r2 r3 r4 : ℕ} where
-  pub stamp-put : (rows : List Row) (s : List ℕ) (n i : ℕ) (jd : JulianDate) → jd ≡ stampAt s n i
-      → Placed d at (numeral i) r1 d1 → Placed d1 r1 (32 ∷ []) r2 d2 → Placed d2 r2 (shown (isoTextExpanded rows jd)) r3 d3 → Placed d3 r3 (10 ∷ []) r4 d4 → r4 ≤ length d
-      → Placed d at (stampLine rows s n i) r4 d4
+  pub stamp-put : (how : Telling) (rows : List Row) (s : List ℕ) (n i : ℕ) (jd : JulianDate) → jd ≡ stampAt s n i
+      → Placed d at (numeral i) r1 d1 → Placed d1 r1 (32 ∷ []) r2 d2 → Placed d2 r2 (shown how jd (isoTextExpanded rows jd)) r3 d3 → Placed d3 r3 (10 ∷ []) r4 d4 → r4 ≤ length d
+      → Placed d at (stampLine how rows s n i) r4 d4
   unfolding stampLine textAt
-  stamp-put rows s n i jd e p1 p2 p3 p4 le =
-      let n3 : r3 ≡ r2 + length (shown (isoTextExpanded rows jd)) = p3 .ends in
+  stamp-put how rows s n i jd e p1 p2 p3 p4 le =
+      let n3 : r3 ≡ r2 + length (shown how jd (isoTextExpanded rows jd)) = p3 .ends in
       let n4 : r4 ≡ r3 + 1 = p4 .ends in
-      then (then (then p1 p2 (omega arith)) (placed-as (ap (λ (j : JulianDate). shown (isoTextExpanded rows j)) e) p3) (omega arith)) p4 le
+      then (then (then p1 p2 (omega arith)) (placed-as (ap (λ (j : JulianDate). shown how j (isoTextExpanded rows j)) e) p3) (omega arith)) p4 le
 
 -- one stamp more is counted
 pub refused-more : (rows : List Row) (s : List ℕ) (n k m : ℕ) (jd : JulianDate) (one : ℕ) → m ≡ refusedIn rows s n k → jd ≡ stampAt s n k → one ≡ oneIfRefused (isoTextExpanded rows jd) → m + one ≡ refusedIn rows s n (k + 1)
@@ -35,17 +36,21 @@ unfolding refusedIn textAt
 refused-more rows s n k m jd one em ej eo = rw add-one (cc)
 
 -- one line more is written
-pub lines-more : {d d1 d2 : List ℕ} {at r : ℕ} (rows : List Row) (s : List ℕ) (line k : ℕ) → Placed d 0 (linesFrom rows s line k) at d1 → Placed d1 at (lineOf rows (blockOf s) s (line + k)) r d2 → r ≤ length d
-    → Placed d 0 (linesFrom rows s line (k + 1)) r d2
+pub lines-more : {d d1 d2 : List ℕ} {at r : ℕ} (how : Telling) (rows : List Row) (s : List ℕ) (line k : ℕ) → Placed d 0 (linesFrom how rows s line k) at d1 → Placed d1 at (lineOf how rows (blockOf s) s (line + k)) r d2 → r ≤ length d
+    → Placed d 0 (linesFrom how rows s line (k + 1)) r d2
 unfolding linesFrom
-lines-more rows s line k p q le = rw add-one (then p q le)
+lines-more how rows s line k p q le = rw add-one (then p q le)
 
 -- ---- which line it is
 module _ (s : List ℕ) (line : ℕ) (r : BlockAnswer) (e : blockOutcome r ≡ blockOf s) where
   module _ (k : ℕ) (is : r ≡ Refused k) where
-    pub refused-line : (rows : List Row) → blockRefused k ≡ lineOf rows (blockOf s) s line
+    pub refused-number : (1 ≤ k) × (k ≤ 28)
+    unfolding blockOutcome
+    refused-number = block-number s k (sym (ap blockOutcome is) ∙ e)
+
+    pub refused-line : (how : Telling) (rows : List Row) → blockRefused how s k ≡ lineOf how rows (blockOf s) s line
     unfolding lineOf blockOutcome
-    refused-line rows = ap (λ (o : Outcome ℕ). lineOf rows o s line) (sym (ap blockOutcome is) ∙ e)
+    refused-line how rows = ap (λ (o : Outcome ℕ). lineOf how rows o s line) (sym (ap blockOutcome is) ∙ e)
 
   module _ (n : ℕ) (is : r ≡ Stamps n) where
     block-is : answer n ≡ blockOf s
@@ -59,10 +64,10 @@ module _ (s : List ℕ) (line : ℕ) (r : BlockAnswer) (e : blockOutcome r ≡ b
     unfolding linesIn
     within h = rw (← block-is) at h
 
-    pub header-line : (rows : List Row) (m : ℕ) → line ≡ 0 → m ≡ refusedIn rows s n n → header n m ≡ lineOf rows (blockOf s) s line
+    pub header-line : (how : Telling) (rows : List Row) (m : ℕ) → line ≡ 0 → m ≡ refusedIn rows s n n → header n m ≡ lineOf how rows (blockOf s) s line
     unfolding lineOf
-    header-line rows m z em = rw (← block-is, eq-eqb line 0 z, em) refl
+    header-line how rows m z em = rw (← block-is, eq-eqb line 0 z, em) refl
 
-    pub stamp-line : (rows : List Row) → (line ≡ 0 → ⊥) → stampLine rows s n (line - 1) ≡ lineOf rows (blockOf s) s line
+    pub stamp-line : (how : Telling) (rows : List Row) → (line ≡ 0 → ⊥) → stampLine how rows s n (line - 1) ≡ lineOf how rows (blockOf s) s line
     unfolding lineOf
-    stamp-line rows z = rw (← block-is, ne-eqb line 0 z) refl
+    stamp-line how rows z = rw (← block-is, ne-eqb line 0 z) refl

@@ -14,123 +14,125 @@ use Rattle.tai_utc.specs.declared.LentRows.{LentRows}
 use Rattle.tai_utc.specs.Table.{Row}
 use Rattle.tai_utc.specs.Lent.{rowsOf, tableOf, unlessRefused}
 use Rattle.tai_utc.proofs.TablesTaken.{turned-away, taken}
+use Rattle.stamps.specs.declared.Telling.{Telling}
 use Rattle.stamps.specs.declared.Part.{Part}
 use Rattle.stamps.specs.declared.LinesAnswer.the-variants.{Lines, Refused}
 use Rattle.stamps.specs.Block.{blockOf}
 use Rattle.digits.specs.Placed.{pasted, Placed}
+use Rattle.stamps.specs.Listing.{lineRoom}
 use Rattle.stamps.specs.Parts.{lineOf, linesIn, linesFrom, heldLines, partLines, partText, partOf, PartPlaced, linesOutcome, scratchHolds, PartCall}
 use Rattle.stamps.proofs.Blocks.{few-lines}
 
-module _ (rows : List Row) (s : List ℕ) where
-  held-full : (line room left : ℕ) → room < 33 → heldLines rows s line room left ≡ 0
+module _ (how : Telling) (rows : List Row) (s : List ℕ) where
+  held-full : (line room left : ℕ) → room < lineRoom how → heldLines how rows s line room left ≡ 0
   unfolding heldLines
   held-full line room zero h = refl
   held-full line room (suc left) h = simp (lt-leb _ _ h)
 
-  held-one : (line room left : ℕ) → 33 ≤ room → heldLines rows s line room (suc left) ≡ 1 + heldLines rows s (line + 1) (room - length (lineOf rows (blockOf s) s line)) left
+  held-one : (line room left : ℕ) → lineRoom how ≤ room → heldLines how rows s line room (suc left) ≡ 1 + heldLines how rows s (line + 1) (room - length (lineOf how rows (blockOf s) s line)) left
   unfolding heldLines
   held-one line room left h = simp (le-leb _ _ h)
 
-  pub held-few : (line room left : ℕ) → heldLines rows s line room left ≤ left
+  pub held-few : (line room left : ℕ) → heldLines how rows s line room left ≤ left
   unfolding heldLines
   held-few line room zero = omega arith
-  held-few line room (suc left) = by (leb 33 room) refl (held-few (line + 1) (room - length (lineOf rows (blockOf s) s line)) left)
+  held-few line room (suc left) = by (leb (lineRoom how) room) refl (held-few (line + 1) (room - length (lineOf how rows (blockOf s) s line)) left)
     where
-      by : (b : Bool) → leb 33 room ≡ b → heldLines rows s (line + 1) (room - length (lineOf rows (blockOf s) s line)) left ≤ left → heldLines rows s line room (suc left) ≤ suc left
+      by : (b : Bool) → leb (lineRoom how) room ≡ b → heldLines how rows s (line + 1) (room - length (lineOf how rows (blockOf s) s line)) left ≤ left → heldLines how rows s line room (suc left) ≤ suc left
       by true e h = rw e (omega arith)
       by false e h = rw e (omega arith)
 
-  pub held-some : (line room left : ℕ) → 33 ≤ room → 0 < left → 1 ≤ heldLines rows s line room left
+  pub held-some : (line room left : ℕ) → lineRoom how ≤ room → 0 < left → 1 ≤ heldLines how rows s line room left
   held-some line room left h l =
       let e : left ≡ suc (left - 1) = omega arith in
-      let one = ap (heldLines rows s line room) e ∙ held-one line room (left - 1) h in
+      let one = ap (heldLines how rows s line room) e ∙ held-one line room (left - 1) h in
       omega arith
 
   -- before the first line
-  pub start : (line whole left : ℕ) → heldLines rows s line whole left ≡ 0 + heldLines rows s (line + 0) (whole - 0) (left - 0)
+  pub start : (line whole left : ℕ) → heldLines how rows s line whole left ≡ 0 + heldLines how rows s (line + 0) (whole - 0) (left - 0)
   start line whole left =
       let a : line ≡ line + 0 = omega arith in
       let b : whole ≡ whole - 0 = omega arith in
       let c : left ≡ left - 0 = omega arith in
-      ap (λ (x : ℕ). heldLines rows s x whole left) a
-      ∙ ap (λ (x : ℕ). heldLines rows s (line + 0) x left) b
-      ∙ ap (heldLines rows s (line + 0) (whole - 0)) c
-      ∙ sym (zero-add (heldLines rows s (line + 0) (whole - 0) (left - 0)))
+      ap (λ (x : ℕ). heldLines how rows s x whole left) a
+      ∙ ap (λ (x : ℕ). heldLines how rows s (line + 0) x left) b
+      ∙ ap (heldLines how rows s (line + 0) (whole - 0)) c
+      ∙ sym (zero-add (heldLines how rows s (line + 0) (whole - 0) (left - 0)))
 
   -- after k of the `left` lines from `line` on
-  module _ (line whole left k at : ℕ) (so-far : heldLines rows s line whole left ≡ k + heldLines rows s (line + k) (whole - at) (left - k)) where
-    pub ends-full : whole - at < 33 → heldLines rows s line whole left ≡ k
+  module _ (line whole left k at : ℕ) (so-far : heldLines how rows s line whole left ≡ k + heldLines how rows s (line + k) (whole - at) (left - k)) where
+    pub ends-full : whole - at < lineRoom how → heldLines how rows s line whole left ≡ k
     ends-full h = let z = held-full (line + k) (whole - at) (left - k) h in omega arith
 
-    pub ends-all : left ≤ k → heldLines rows s line whole left ≡ k
+    pub ends-all : left ≤ k → heldLines how rows s line whole left ≡ k
     ends-all h = let z = held-few (line + k) (whole - at) (left - k) in omega arith
 
-    pub goes-on : (r : ℕ) → k < left → 33 ≤ whole - at → r ≡ at + length (lineOf rows (blockOf s) s (line + k)) → heldLines rows s line whole left ≡ (k + 1) + heldLines rows s (line + (k + 1)) (whole - r) (left - (k + 1))
+    pub goes-on : (r : ℕ) → k < left → lineRoom how ≤ whole - at → r ≡ at + length (lineOf how rows (blockOf s) s (line + k)) → heldLines how rows s line whole left ≡ (k + 1) + heldLines how rows s (line + (k + 1)) (whole - r) (left - (k + 1))
     goes-on r h room e =
         let l : left - k ≡ suc (left - (k + 1)) = omega arith in
         let one = held-one (line + k) (whole - at) (left - (k + 1)) room in
-        let m : whole - at - length (lineOf rows (blockOf s) s (line + k)) ≡ whole - r = omega arith in
+        let m : whole - at - length (lineOf how rows (blockOf s) s (line + k)) ≡ whole - r = omega arith in
         so-far
-        ∙ ap (λ (x : ℕ). k + heldLines rows s (line + k) (whole - at) x) l
-        ∙ ap (λ (x : ℕ). k + x) (one ∙ ap (λ (x : ℕ). 1 + heldLines rows s (line + k + 1) x (left - (k + 1))) m ∙ ap (λ (x : ℕ). 1 + heldLines rows s x (whole - r) (left - (k + 1))) (add-assoc line k 1))
-        ∙ sym (add-assoc k 1 (heldLines rows s (line + (k + 1)) (whole - r) (left - (k + 1))))
+        ∙ ap (λ (x : ℕ). k + heldLines how rows s (line + k) (whole - at) x) l
+        ∙ ap (λ (x : ℕ). k + x) (one ∙ ap (λ (x : ℕ). 1 + heldLines how rows s (line + k + 1) x (left - (k + 1))) m ∙ ap (λ (x : ℕ). 1 + heldLines how rows s x (whole - r) (left - (k + 1))) (add-assoc line k 1))
+        ∙ sym (add-assoc k 1 (heldLines how rows s (line + (k + 1)) (whole - r) (left - (k + 1))))
 
   -- the answer
-  module _ (line : ℕ) (d d′ : List ℕ) (left k at : ℕ) (el : left ≡ linesIn (blockOf s) - line) (held : heldLines rows s line (length d) left ≡ k) (p : Placed d 0 (linesFrom rows s line k) at d′) where
-    count : partLines rows s line (length d) ≡ k
+  module _ (line : ℕ) (d d′ : List ℕ) (left k at : ℕ) (el : left ≡ linesIn (blockOf s) - line) (held : heldLines how rows s line (length d) left ≡ k) (p : Placed d 0 (linesFrom how rows s line k) at d′) where
+    count : partLines how rows s line (length d) ≡ k
     unfolding partLines
-    count = ap (heldLines rows s line (length d)) (sym el) ∙ held
+    count = ap (heldLines how rows s line (length d)) (sym el) ∙ held
 
-    text : partText rows s line (length d) ≡ linesFrom rows s line k
+    text : partText how rows s line (length d) ≡ linesFrom how rows s line k
     unfolding partText
-    text = ap (linesFrom rows s line) count
+    text = ap (linesFrom how rows s line) count
 
-    part-placed : (b : Bool) → b ≡ leb (linesIn (blockOf s)) (line + k) → PartPlaced rows s line d (record { written = at; line = line + k; done = b }) d′
+    part-placed : (b : Bool) → b ≡ leb (linesIn (blockOf s)) (line + k) → PartPlaced how rows s line d (record { written = at; line = line + k; done = b }) d′
     unfolding partOf pasted
     part-placed b eb =
-        let n : at ≡ length (linesFrom rows s line k) = p .ends ∙ zero-add (length (linesFrom rows s line k)) in
+        let n : at ≡ length (linesFrom how rows s line k) = p .ends ∙ zero-add (length (linesFrom how rows s line k)) in
         record {
           says = rw (text, count, n, eb) refl;
-          holds = rw text (p .holds ∙ ap (λ (i : ℕ). linesFrom rows s line k ++ drop i d) (zero-add (length (linesFrom rows s line k))));
+          holds = rw text (p .holds ∙ ap (λ (i : ℕ). linesFrom how rows s line k ++ drop i d) (zero-add (length (linesFrom how rows s line k))));
         }
 
-    pub stops-full : k < left → PartPlaced rows s line d (record { written = at; line = line + k; done = false }) d′
+    pub stops-full : k < left → PartPlaced how rows s line d (record { written = at; line = line + k; done = false }) d′
     stops-full h = part-placed false (sym (lt-leb (linesIn (blockOf s)) (line + k) (omega arith)))
 
-    pub stops-done : left ≤ k → PartPlaced rows s line d (record { written = at; line = line + k; done = true }) d′
+    pub stops-done : left ≤ k → PartPlaced how rows s line d (record { written = at; line = line + k; done = true }) d′
     stops-done h = part-placed true (sym (le-leb (linesIn (blockOf s)) (line + k) (omega arith)))
 
 -- ---- what a caller learns
-module _ {rows : List Row} {s d d′ : List ℕ} {line : ℕ} {r : Part} (p : PartPlaced rows s line d r d′) where
+module _ {how : Telling} {rows : List Row} {s d d′ : List ℕ} {line : ℕ} {r : Part} (p : PartPlaced how rows s line d r d′) where
   -- what is written lies within the scratch
   pub part-within : (r .written ≤ length d′) × (r .written ≡ length (take (r .written) d′))
   unfolding partOf
   part-within =
-      let n : r .written ≡ length (partText rows s line (length d)) = ap (λ (x : Part). x .written) (p .says) in
-      let m = ap length (p .holds) ∙ length-append (partText rows s line (length d)) (drop (length (partText rows s line (length d))) d) in
+      let n : r .written ≡ length (partText how rows s line (length d)) = ap (λ (x : Part). x .written) (p .says) in
+      let m = ap length (p .holds) ∙ length-append (partText how rows s line (length d)) (drop (length (partText how rows s line (length d))) d) in
       let le : r .written ≤ length d′ = omega arith in
       (le, sym (length-take-le (r .written) d′ le))
 
   -- a part that is not the last brings the caller on by a line at least
-  pub part-brings-on : 33 ≤ length d → r .done ≡ false → (line < r .line) × (r .line ≤ 4001)
+  pub part-brings-on : lineRoom how ≤ length d → r .done ≡ false → (line < r .line) × (r .line ≤ 4001)
   unfolding partOf partLines
   part-brings-on room e =
-      let n : r .line ≡ line + heldLines rows s line (length d) (linesIn (blockOf s) - line) = ap (λ (x : Part). x .line) (p .says) in
-      let b = leb-false (linesIn (blockOf s)) (line + heldLines rows s line (length d) (linesIn (blockOf s) - line)) (sym (ap (λ (x : Part). x .done) (p .says)) ∙ e) in
-      let some = held-some rows s line (length d) (linesIn (blockOf s) - line) room (omega arith) in
+      let n : r .line ≡ line + heldLines how rows s line (length d) (linesIn (blockOf s) - line) = ap (λ (x : Part). x .line) (p .says) in
+      let b = leb-false (linesIn (blockOf s)) (line + heldLines how rows s line (length d) (linesIn (blockOf s) - line)) (sym (ap (λ (x : Part). x .done) (p .says)) ∙ e) in
+      let some = held-some how rows s line (length d) (linesIn (blockOf s) - line) room (omega arith) in
       let few = few-lines s in
       (omega arith, omega arith)
 
 -- ---- the call that tests its table, by the number that the test answers
-module _ (t : LentRows) (n : ℕ) (e : unlessRefused n (rowsOf t) ≡ tableOf t) (s : List ℕ) (line : ℕ) (d : List ℕ) where
-  pub part-refused : (n ≡ 0 → ⊥) → PartCall (tableOf t) s line d (Refused n) d
+module _ (how : Telling) (t : LentRows) (n : ℕ) (e : unlessRefused n (rowsOf t) ≡ tableOf t) (s : List ℕ) (line : ℕ) (d : List ℕ) where
+  pub part-refused : (n ≡ 0 → ⊥) → PartCall how (tableOf t) s line d (Refused n) d
   unfolding linesOutcome scratchHolds
   part-refused h = record { says = turned-away t n e _ h; holds = ap (λ (o : Outcome (List ℕ)). scratchHolds o d) (turned-away t n e _ h) }
 
-  pub part-taken : n ≡ 0 → (r : Part) (d′ : List ℕ) → PartPlaced (rowsOf t) s line d r d′ → PartCall (tableOf t) s line d (Lines r) d′
+  pub part-taken : n ≡ 0 → (r : Part) (d′ : List ℕ) → PartPlaced how (rowsOf t) s line d r d′ → PartCall how (tableOf t) s line d (Lines r) d′
   unfolding linesOutcome scratchHolds
   part-taken h r d′ p =
       record {
-        says = ap answer (p .says) ∙ taken t n e (λ rows. answer (partOf rows s line (length d))) h;
-        holds = p .holds ∙ ap (λ (o : Outcome (List ℕ)). scratchHolds o d) (taken t n e (λ rows. answer (partText rows s line (length d))) h);
+        says = ap answer (p .says) ∙ taken t n e (λ rows. answer (partOf how rows s line (length d))) h;
+        holds = p .holds ∙ ap (λ (o : Outcome (List ℕ)). scratchHolds o d) (taken t n e (λ rows. answer (partText how rows s line (length d))) h);
       }

@@ -1,5 +1,6 @@
--- The text of a stamp has at most 27 bytes, so where there is room for them the text call refuses only what the conversion refuses. Assumes nothing.
-use Prim.Native.Nat.{ℕ, _≤_}
+-- The text of a stamp has at most 27 bytes, so where there is room for them the text call refuses only what the conversion refuses; and what is shown how jd of a stamp, or
+-- told of a refusal, leaves of a line's room the bytes before and after it. Assumes nothing.
+use Prim.Native.Nat.{ℕ, _+_, _≤_}
 use native.Mathlib.Omega.{arith}
 use mathlib.Core.Path.{_≡_, refl, sym, ap, _∙_}
 use mathlib.Core.Logic.{_⊎_, inl, inr}
@@ -7,18 +8,74 @@ use mathlib.Core.List.{List, _++_}
 use mathlib.Core.Bool.{Bool, true, false, cond}
 use lib.ListN.{length, drop}
 use lib.Dec.{leb}
-use borrow.Author.Tests.{le-leb}
+use lib.IntN.{ℤ, pos, negsuc, natAbs}
+use lib.Signed.{ltZ}
+use borrow.Author.Tests.{le-leb, ltb-false}
 use Rattle.refusals.specs.Outcome.{Outcome, answer, refusal, onward}
 use Rattle.julian.specs.declared.JulianDate.{JulianDate}
+use Rattle.julian.specs.declared.CalendarFields.{CalendarFields}
+use Rattle.julian.specs.Calendar.{julianToCalendar}
 use Rattle.tai_utc.specs.Table.{Row}
 use Rattle.utc_text.specs.declared.TextAnswer.{TextAnswer}
 use Rattle.utc_text.specs.declared.TextAnswer.the-variants.{Written, Refused}
 use Rattle.utc_text.specs.Answer.{textOutcome, textWritten, bufferAfter}
-use Rattle.utc.specs.Expanded.{isoTextExpanded}
+use Rattle.utc.specs.Expanded.{expandedSheet, isoTextExpanded}
 use Rattle.utc.specs.TextCall.{written, bufferHolds, TextCall}
+use Rattle.utc.proofs.Dates.{date-in-range}
+use Rattle.utc.proofs.Numbers.{text-numbers-by}
 use Rattle.utc.proofs.ExpandedTexts.{expanded-text-length}
-use Rattle.stamps.specs.Listing.{shown}
+use Rattle.reasons.specs.declared.Values.{Values}
+use Rattle.reasons.specs.Widths.{OfWidth}
+use Rattle.reasons.proofs.SentenceLengths.{reason-short}
+use Rattle.stamps.specs.declared.Telling.{Telling}
+use Rattle.stamps.specs.declared.Telling.the-variants.{Numbers, Sentences}
+use Rattle.stamps.specs.Listing.{lineRoom, told, valuesBy, refusedValues, shown}
+use Rattle.stamps.specs.Widths.{Wide}
 use Rattle.stamps.proofs.Places.{digits-most}
+
+-- ---- the room of a line
+pub room-low : (how : Telling) → 33 ≤ lineRoom how
+unfolding lineRoom
+room-low Numbers = omega arith
+room-low (Sentences n) = omega arith
+
+pub room-high : (how : Telling) → lineRoom how ≤ 64
+unfolding lineRoom
+room-high Numbers = omega arith
+room-high (Sentences n) = omega arith
+
+-- ---- a refusal
+pub told-most : (how : Telling) (k : ℕ) (v : Values) → Wide how v → length (told how k v) + 7 ≤ lineRoom how
+unfolding told lineRoom Wide
+told-most Numbers k v w = omega (arith, digits-most 4 k)
+told-most (Sentences n) k v w = omega (arith, reason-short k v w)
+
+year-within : (y : ℤ) → ltZ y (negsuc 4899) ≡ false → ltZ (pos 2733194) y ≡ false → natAbs y ≤ 2147483648
+year-within (pos n) l h = omega (arith, ltb-false 2733194 n h)
+year-within (negsuc n) l h = omega (arith, ltb-false 4899 n l)
+
+values-wide : (jd : JulianDate) (o : Outcome CalendarFields) → julianToCalendar (jd .jd1) (jd .jd2) ≡ o → OfWidth (valuesBy jd o)
+unfolding OfWidth valuesBy
+values-wide jd (answer c) e =
+    let r = date-in-range (jd .jd1) (jd .jd2) c e in
+    (year-within (c .date .year) (r .year-low) (r .year-high), omega (arith, r .month-high), omega (arith, r .day-high))
+values-wide jd (refusal k) e = tt
+
+pub refused-wide : (jd : JulianDate) → OfWidth (refusedValues jd)
+refused-wide jd = values-wide jd (julianToCalendar (jd .jd1) (jd .jd2)) refl
+
+date-wide : (how : Telling) (jd : JulianDate) → Wide how (refusedValues jd)
+unfolding Wide
+date-wide Numbers jd = tt
+date-wide (Sentences n) jd = refused-wide jd
+
+-- a date is refused by a number that has a sentence
+pub date-number : (rows : List Row) (jd : JulianDate) (k : ℕ) → isoTextExpanded rows jd ≡ refusal k → (1 ≤ k) × (k ≤ 28)
+date-number rows jd k e = by (text-numbers-by expandedSheet rows jd k e)
+  where
+    by : (k ≡ 6) ⊎ (k ≡ 1) → (1 ≤ k) × (k ≤ 28)
+    by (inl h) = (omega arith, omega arith)
+    by (inr h) = (omega arith, omega arith)
 
 -- an outcome whose text, where it is one, has at most 27 bytes
 abbrev pub Brief : Outcome (List ℕ) → Type 0
@@ -32,21 +89,21 @@ brief rows jd t e = by (expanded-text-length rows jd t e)
     by (inr h) = omega arith
 
 -- ---- what the text call answered
-pub shown-most : (o : Outcome (List ℕ)) → Brief o → length (shown o) ≤ 27
+pub shown-most : (how : Telling) (jd : JulianDate) (o : Outcome (List ℕ)) → Brief o → length (shown how jd o) + 6 ≤ lineRoom how
 unfolding shown
-shown-most (answer t) b = b t refl
-shown-most (refusal k) b = omega (arith, digits-most 4 k)
+shown-most how jd (answer t) b = omega (arith, b t refl, room-low how)
+shown-most how jd (refusal k) b = omega (arith, told-most how k (refusedValues jd) (date-wide how jd))
 
 written-by : (t p : List ℕ) (n : ℕ) (b : Bool) → cond b (answer (length t)) (refusal 11) ≡ answer n
     → (n ≡ length t) × (cond b (t ++ drop (length t) p) p ≡ t ++ drop (length t) p)
 written-by t p n true e = (cc, refl)
 written-by t p n false e = let z : _≡_ {A = ℕ} 0 1 = cc in absurd (omega arith)
 
-told-written : (o : Outcome (List ℕ)) (p : List ℕ) (n : ℕ) → written o (length p) ≡ answer n
-    → (n ≡ length (shown o)) × (bufferHolds o p ≡ shown o ++ drop (length (shown o)) p)
+told-written : (how : Telling) (jd : JulianDate) (o : Outcome (List ℕ)) (p : List ℕ) (n : ℕ) → written o (length p) ≡ answer n
+    → (n ≡ length (shown how jd o)) × (bufferHolds o p ≡ shown how jd o ++ drop (length (shown how jd o)) p)
 unfolding written bufferHolds shown onward textWritten bufferAfter
-told-written (answer t) p n e = written-by t p n (leb (length t) (length p)) e
-told-written (refusal k) p n e = let z : _≡_ {A = ℕ} 0 1 = cc in absurd (omega arith)
+told-written how jd (answer t) p n e = written-by t p n (leb (length t) (length p)) e
+told-written how jd (refusal k) p n e = let z : _≡_ {A = ℕ} 0 1 = cc in absurd (omega arith)
 
 refused-by : (t : List ℕ) (p : List ℕ) (k : ℕ) → length t ≤ length p → textWritten t (length p) ≡ refusal k → ⊥
 unfolding textWritten
@@ -61,10 +118,20 @@ told-refused (answer t) p k b h e = let m = b t refl in absurd (refused-by t p k
 told-refused (refusal j) p k b h e = let same : j ≡ k = cc in (ap refusal same, refl)
 
 module _ {o : Outcome (List ℕ)} {p ys : List ℕ} {res : TextAnswer} (call : TextCall o p res ys) where
-  pub text-written : (n : ℕ) → res ≡ Written n → (n ≡ length (shown o)) × (ys ≡ shown o ++ drop (length (shown o)) p)
+  pub text-written : (how : Telling) (jd : JulianDate) (n : ℕ) → res ≡ Written n → (n ≡ length (shown how jd o)) × (ys ≡ shown how jd o ++ drop (length (shown how jd o)) p)
   unfolding textOutcome
-  text-written n e = let w = told-written o p n (sym (call .says) ∙ ap textOutcome e) in (w .0, call .holds ∙ w .1)
+  text-written how jd n e = let w = told-written how jd o p n (sym (call .says) ∙ ap textOutcome e) in (w .0, call .holds ∙ w .1)
 
   pub text-refused : (k : ℕ) → res ≡ Refused k → Brief o → 27 ≤ length p → (o ≡ refusal k) × (ys ≡ p)
   unfolding textOutcome
   text-refused k e b h = let w = told-refused o p k b h (sym (call .says) ∙ ap textOutcome e) in (w .0, call .holds ∙ w .1)
+
+-- ---- a text that is surely there
+module _ {t p ys : List ℕ} {res : TextAnswer} (call : TextCall (answer t) p res ys) where
+  pub given-written : (n : ℕ) → res ≡ Written n → (n ≡ length t) × (ys ≡ t ++ drop (length t) p)
+  unfolding textOutcome written bufferHolds onward textWritten bufferAfter
+  given-written n e = let w = written-by t p n (leb (length t) (length p)) (sym (call .says) ∙ ap textOutcome e) in (w .0, call .holds ∙ w .1)
+
+  pub given-fits : (k : ℕ) → res ≡ Refused k → length t ≤ length p → ⊥
+  unfolding textOutcome written onward
+  given-fits k e h = refused-by t p k h (sym (call .says) ∙ ap textOutcome e)

@@ -2,3 +2,4 @@
 pub mod Block
 pub mod Listing
 pub mod Parts
+pub mod Widths

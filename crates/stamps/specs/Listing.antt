@@ -1,12 +1,25 @@
 -- The listing of a stamp block, a list of bytes. Written from document 01, "The program that lists a block": a header, then a line for each stamp; of a refused block
 -- one line. Fields stand one space (32) apart, and every line ends with byte 10. The texts have expanded years, by document 02, item 6 ("The lister uses it from then
--- on"), and are those of a table of rows, by item 8 ("All calls that read offsets take it"). Assumes nothing.
+-- on"), and are those of a table of rows, by item 8 ("All calls that read offsets take it"). How a refusal is told is a parameter: by its number, or, by item 13 ("A
+-- second listing program prints them in place of `refused` and the number, on stamp lines and after `block`, not in the header"), by its sentence. Assumes nothing.
 use Prim.Native.Nat.{ℕ, zero, suc, _+_}
 use mathlib.Core.List.{List, [], _∷_, _++_}
+use lib.ListN.{length}
+use lib.IntN.{pos}
 use Rattle.refusals.specs.Outcome.{Outcome, answer, refusal}
+use Rattle.little_endian.specs.LittleEndian.{u32At}
 use Rattle.digits.specs.Decimal.{digitsIn}
+use Rattle.julian.specs.declared.JulianDate.{JulianDate}
+use Rattle.julian.specs.declared.CalendarFields.{CalendarFields}
+use Rattle.julian.specs.Calendar.{julianToCalendar}
 use Rattle.tai_utc.specs.Table.{Row}
 use Rattle.utc.specs.Expanded.{isoTextExpanded}
+use Rattle.reasons.specs.declared.Values.{Values}
+use Rattle.reasons.specs.declared.Values.the-variants.{Date, Parts, Block}
+use Rattle.reasons.specs.Offending.{offending}
+use Rattle.sentences.specs.Render.{render}
+use Rattle.stamps.specs.declared.Telling.{Telling}
+use Rattle.stamps.specs.declared.Telling.the-variants.{Numbers, Sentences}
 use Rattle.stamps.specs.Block.{blockOf, stampAt}
 
 -- a number, in decimal and with no zeros in front: four digits are enough, since the counts and the indexes of a listing are at most 4,000 and the refusals' numbers at
@@ -22,27 +35,45 @@ refusedWord = 114 ∷ 101 ∷ 102 ∷ 117 ∷ 115 ∷ 101 ∷ 100 ∷ 32 ∷ []
 abbrev pub utcListingWords : List ℕ
 utcListingWords = 117 ∷ 116 ∷ 99 ∷ 32 ∷ 108 ∷ 105 ∷ 115 ∷ 116 ∷ 105 ∷ 110 ∷ 103 ∷ 32 ∷ []
 
--- "block refused "
-abbrev pub blockRefusedWords : List ℕ
-blockRefusedWords = 98 ∷ 108 ∷ 111 ∷ 99 ∷ 107 ∷ 32 ∷ refusedWord
+-- "block "
+abbrev pub blockWord : List ℕ
+blockWord = 98 ∷ 108 ∷ 111 ∷ 99 ∷ 107 ∷ 32 ∷ []
+
+-- the most bytes of a line: a line is begun only where so many are left
+unfoldable pub lineRoom : Telling → ℕ
+lineRoom Numbers = 33
+lineRoom (Sentences n) = 64
+
+-- `refused` and the number, or the number's sentence, which names the field of the values that is at fault
+unfoldable pub told : Telling → ℕ → Values → List ℕ
+told Numbers k values = refusedWord ++ numeral k
+told (Sentences n) k values = render (record { number = k; named = offending k values })
 
 -- the conversion of stamp i of n: its text, or a refusal
 unfoldable pub textAt : List Row → List ℕ → ℕ → ℕ → Outcome (List ℕ)
 textAt rows s n i = isoTextExpanded rows (stampAt s n i)
 
--- the text, or `refused` and the number
-unfoldable pub shown : Outcome (List ℕ) → List ℕ
-shown (answer text) = text
-shown (refusal k) = refusedWord ++ numeral k
+-- the values that the refusal of a date read: the calendar's date where the parts have a day, and else the parts
+unfoldable pub valuesBy : JulianDate → Outcome CalendarFields → Values
+valuesBy jd (answer c) = Date (c .date .year) (pos (c .date .month)) (pos (c .date .day))
+valuesBy jd (refusal k) = Parts (jd .jd1) (jd .jd2)
+
+abbrev pub refusedValues : JulianDate → Values
+refusedValues jd = valuesBy jd (julianToCalendar (jd .jd1) (jd .jd2))
+
+-- the text of a date, or its refusal
+unfoldable pub shown : Telling → JulianDate → Outcome (List ℕ) → List ℕ
+shown how jd (answer text) = text
+shown how jd (refusal k) = told how k (refusedValues jd)
 
 -- the line of stamp i of n
-unfoldable pub stampLine : List Row → List ℕ → ℕ → ℕ → List ℕ
-stampLine rows s n i = ((numeral i ++ (32 ∷ [])) ++ shown (textAt rows s n i)) ++ (10 ∷ [])
+unfoldable pub stampLine : Telling → List Row → List ℕ → ℕ → ℕ → List ℕ
+stampLine how rows s n i = ((numeral i ++ (32 ∷ [])) ++ shown how (stampAt s n i) (textAt rows s n i)) ++ (10 ∷ [])
 
 -- the lines of the first k stamps of n
-unfoldable pub stampLines : List Row → List ℕ → ℕ → ℕ → List ℕ
-stampLines rows s n zero = []
-stampLines rows s n (suc k) = stampLines rows s n k ++ stampLine rows s n k
+unfoldable pub stampLines : Telling → List Row → List ℕ → ℕ → ℕ → List ℕ
+stampLines how rows s n zero = []
+stampLines how rows s n (suc k) = stampLines how rows s n k ++ stampLine how rows s n k
 
 -- how many of the first k stamps of n are refused
 unfoldable pub oneIfRefused : Outcome (List ℕ) → ℕ
@@ -57,14 +88,23 @@ refusedIn rows s n (suc k) = refusedIn rows s n k + oneIfRefused (textAt rows s 
 unfoldable pub header : ℕ → ℕ → List ℕ
 header stamps refused = (((utcListingWords ++ numeral stamps) ++ (32 ∷ refusedWord)) ++ numeral refused) ++ (10 ∷ [])
 
--- `block refused` and the number
-unfoldable pub blockRefused : ℕ → List ℕ
-blockRefused k = (blockRefusedWords ++ numeral k) ++ (10 ∷ [])
+-- how many bytes came in all, of which the block has the first
+unfoldable pub came : Telling → List ℕ → ℕ
+came Numbers s = length s
+came (Sentences n) s = n
 
-unfoldable pub listingOf : List Row → Outcome ℕ → List ℕ → List ℕ
-listingOf rows (answer n) s = header n (refusedIn rows s n n) ++ stampLines rows s n n
-listingOf rows (refusal k) s = blockRefused k
+-- the values that the refusal of a block read: how many bytes came, and its two sizes
+abbrev pub blockValues : Telling → List ℕ → Values
+blockValues how s = Block (came how s) (u32At s 0) (u32At s 4)
+
+-- `block`, and its refusal
+unfoldable pub blockRefused : Telling → List ℕ → ℕ → List ℕ
+blockRefused how s k = (blockWord ++ told how k (blockValues how s)) ++ (10 ∷ [])
+
+unfoldable pub listingOf : Telling → List Row → Outcome ℕ → List ℕ → List ℕ
+listingOf how rows (answer n) s = header n (refusedIn rows s n n) ++ stampLines how rows s n n
+listingOf how rows (refusal k) s = blockRefused how s k
 
 -- the whole listing of the block s; a program that lends no rows lists with `fixed`
-unfoldable pub listing : List Row → List ℕ → List ℕ
-listing rows s = listingOf rows (blockOf s) s
+unfoldable pub listing : Telling → List Row → List ℕ → List ℕ
+listing how rows s = listingOf how rows (blockOf s) s

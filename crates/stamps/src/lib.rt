@@ -1,10 +1,13 @@
 // The stamp block, and its listing in parts that a lent scratch holds.
 mod listing;
 mod place;
+mod told;
 
 use julian::JulianDate;
 pub use listing::next_part;
 pub use listing::next_part_by_rows;
+pub use listing::next_told_part;
+pub use listing::next_told_part_by_rows;
 ghost use mathlib.Core.Path.{_≡_};
 ghost use Prim.Native.Nat.{_≤_, _<_};
 ghost use Rattle.stamps.specs.Block.{blockOutcome, blockOf, stampAt};
@@ -13,6 +16,12 @@ ghost use Rattle.stamps.specs.Block.{blockOutcome, blockOf, stampAt};
 pub enum BlockAnswer {
     Stamps(usize),
     Refused(u32),
+}
+
+// How a listing tells a refusal: by its number, or by its sentence; of a refused block the sentence may name how many bytes came in all, of which the block has the first.
+pub enum Telling {
+    Numbers,
+    Sentences(u64),
 }
 
 // What `next_part` put into the scratch: how many bytes, which line comes next, and whether the listing ends here.

@@ -14,39 +14,47 @@ ghost use Rattle.tai_utc.specs.Lent.{rowsOf, tableOf};
 ghost use Rattle.utc.specs.Expanded.{isoTextExpanded};
 ghost use Rattle.stamps.specs.Block.{blockOutcome, blockOf};
 ghost use Rattle.digits.specs.Placed.{Placed};
-ghost use Rattle.stamps.specs.Listing.{shown, stampLine, oneIfRefused, refusedIn, header, blockRefused};
+ghost use Rattle.stamps.specs.Listing.{lineRoom, shown, stampLine, oneIfRefused, refusedIn, header, blockRefused};
 ghost use Rattle.stamps.specs.Parts.{lineOf, linesIn, PartPlaced, PartCall};
 use super::BlockAnswer;
 use super::LinesAnswer;
 use super::Part;
+use super::Telling;
 use super::block_stamps;
 use super::place;
 use super::stamp_at;
+use super::told;
 use day_number::DayAnswer;
 use julian::JulianDate;
 use scales::UTC;
 use tai_utc::LentRows;
 use utc_text::TextAnswer;
 
-// A line is begun only where so many bytes are left: the longest line has four of the index, a blank, the longest text, 27, and the line's end.
-const LINE_ROOM: usize = 33;
-
-// The text of a date, or `refused` and the number.
-fn place_shown(utc: UTC, table: LentRows, dst: &mut [u8], at: usize) -> usize
-    requires { ⌜ at + 27 ≤ length (now dst) ⌝ }
-    ensures { λ r. ⌜ Placed (now (dst .entry)) at (shown (isoTextExpanded (rowsOf table) (utc .0))) r (now (dst .exit)) ⌝ }
-    ensures { λ r. ⌜ r ≤ at + 27 ⌝ }
+// A line is begun only where so many bytes are left. By numbers the longest line has four bytes of the index, a blank, the longest text, 27, and the line's end; by
+// sentences it has `block`, a blank, the longest sentence, 57, and the line's end.
+fn line_room(how: Telling) -> usize
+    ensures { λ r. ⌜ r ≡ lineRoom how ⌝ }
 {
-    match utc::to_iso8601_expanded_by_rows(utc, table, &mut dst[at..]) {
+    match how {
+        Telling::Numbers => 33,
+        Telling::Sentences(_) => 64,
+    }
+}
+
+// The text of a date, or its refusal.
+fn place_shown(how: Telling, jd: JulianDate, table: LentRows, dst: &mut [u8], at: usize) -> usize
+    requires { ⌜ at + lineRoom how ≤ length (now dst) + 5 ⌝ }
+    ensures { λ r. ⌜ Placed (now (dst .entry)) at (shown how jd (isoTextExpanded (rowsOf table) jd)) r (now (dst .exit)) ⌝ }
+    ensures { λ r. ⌜ r + 6 ≤ at + lineRoom how ⌝ }
+{
+    match utc::to_iso8601_expanded_by_rows(UTC(jd), table, &mut dst[at..]) {
         TextAnswer::Written(n) => at + n,
-        TextAnswer::Refused(number) => {
-            let next = place::bytes(b"refused ", dst, at);
-            place::number(number, dst, next)
-        }
+        TextAnswer::Refused(number) => told::place_date_refused(how, number, jd, dst, at),
     }
 }
 
 fn place_stamp_line(
+    how: Telling,
     block: &[u8],
     stamps: usize,
     i: usize,
@@ -54,13 +62,13 @@ fn place_stamp_line(
     dst: &mut [u8],
     at: usize,
 ) -> usize
-    requires { ⌜ (i < stamps) × (stamps ≤ 4000) × (at + 33 ≤ length (now dst)) ⌝ }
-    ensures { λ r. ⌜ Placed (now (dst .entry)) at (stampLine (rowsOf table) (now (block .entry)) stamps i) r (now (dst .exit)) ⌝ }
-    ensures { λ r. ⌜ r ≤ at + 33 ⌝ }
+    requires { ⌜ (i < stamps) × (stamps ≤ 4000) × (at + lineRoom how ≤ length (now dst)) ⌝ }
+    ensures { λ r. ⌜ Placed (now (dst .entry)) at (stampLine how (rowsOf table) (now (block .entry)) stamps i) r (now (dst .exit)) ⌝ }
+    ensures { λ r. ⌜ r ≤ at + lineRoom how ⌝ }
 {
     let a = place::number(i as u32, dst, at);
     let b = place::bytes(b" ", dst, a);
-    let c = place_shown(UTC(stamp_at(block, stamps, i)), table, dst, b);
+    let c = place_shown(how, stamp_at(block, stamps, i), table, dst, b);
     place::bytes(b"\n", dst, c)
 }
 
@@ -118,18 +126,25 @@ fn place_header(stamps: u32, refused: u32, dst: &mut [u8], at: usize) -> usize
     place::bytes(b"\n", dst, d)
 }
 
-fn place_block_refused(number: u32, dst: &mut [u8], at: usize) -> usize
-    requires { ⌜ at + 33 ≤ length (now dst) ⌝ }
-    ensures { λ r. ⌜ Placed (now (dst .entry)) at (blockRefused number) r (now (dst .exit)) ⌝ }
-    ensures { λ r. ⌜ r ≤ at + 33 ⌝ }
+fn place_block_refused(
+    how: Telling,
+    block: &[u8],
+    number: u32,
+    dst: &mut [u8],
+    at: usize,
+) -> usize
+    requires { ⌜ (1 ≤ number) × (number ≤ 28) × (at + lineRoom how ≤ length (now dst)) ⌝ }
+    ensures { λ r. ⌜ Placed (now (dst .entry)) at (blockRefused how (now (block .entry)) number) r (now (dst .exit)) ⌝ }
+    ensures { λ r. ⌜ r ≤ at + lineRoom how ⌝ }
 {
-    let a = place::bytes(b"block refused ", dst, at);
-    let b = place::number(number, dst, a);
+    let a = place::bytes(b"block ", dst, at);
+    let b = told::place_block_told(how, number, block, dst, a);
     place::bytes(b"\n", dst, b)
 }
 
 // Line `line` of the listing of a block with this answer: line 0 is the header or the refusal, line i + 1 is stamp i's.
 fn place_line(
+    how: Telling,
     block: &[u8],
     answer: BlockAnswer,
     line: usize,
@@ -137,17 +152,17 @@ fn place_line(
     dst: &mut [u8],
     at: usize,
 ) -> usize
-    requires { ⌜ (blockOutcome answer ≡ blockOf (now block)) × (line < linesIn (blockOf (now block))) × (at + 33 ≤ length (now dst)) ⌝ }
-    ensures { λ r. ⌜ Placed (now (dst .entry)) at (lineOf (rowsOf table) (blockOf (now (block .entry))) (now (block .entry)) line) r (now (dst .exit)) ⌝ }
-    ensures { λ r. ⌜ r ≤ at + 33 ⌝ }
+    requires { ⌜ (blockOutcome answer ≡ blockOf (now block)) × (line < linesIn (blockOf (now block))) × (at + lineRoom how ≤ length (now dst)) ⌝ }
+    ensures { λ r. ⌜ Placed (now (dst .entry)) at (lineOf how (rowsOf table) (blockOf (now (block .entry))) (now (block .entry)) line) r (now (dst .exit)) ⌝ }
+    ensures { λ r. ⌜ r ≤ at + lineRoom how ⌝ }
 {
     match answer {
-        BlockAnswer::Refused(number) => place_block_refused(number, dst, at),
+        BlockAnswer::Refused(number) => place_block_refused(how, block, number, dst, at),
         BlockAnswer::Stamps(stamps) => {
             if line == 0 {
                 return place_header(stamps as u32, refused_stamps(block, stamps), dst, at);
             }
-            place_stamp_line(block, stamps, line - 1, table, dst, at)
+            place_stamp_line(how, block, stamps, line - 1, table, dst, at)
         }
     }
 }
@@ -170,24 +185,31 @@ fn less(a: usize, b: usize) -> usize
 }
 
 // The next part of the listing, from line `line` on, by the rows of a table that is tested elsewhere: as many whole lines as the scratch surely holds, at its start.
-// A scratch of 33 bytes or more holds one. Into a shorter one nothing is written, and the answer names the same line with `done` false: a caller that asks again with
-// it never comes to an end.
-pub fn next_part_by_rows(block: &[u8], line: usize, table: LentRows, scratch: &mut [u8]) -> Part
-    ensures { λ r. ⌜ PartPlaced (rowsOf table) (now (block .entry)) line (now (scratch .entry)) r (now (scratch .exit)) ⌝ }
+// A scratch of 33 bytes or more holds one, and where sentences are told one of 64. Into a shorter one nothing is written, and the answer names the same line with `done`
+// false: a caller that asks again with it never comes to an end.
+pub fn next_told_part_by_rows(
+    how: Telling,
+    block: &[u8],
+    line: usize,
+    table: LentRows,
+    scratch: &mut [u8],
+) -> Part
+    ensures { λ r. ⌜ PartPlaced how (rowsOf table) (now (block .entry)) line (now (scratch .entry)) r (now (scratch .exit)) ⌝ }
 {
     let answer = block_stamps(block);
     let left = less(lines_in(answer), line);
+    let room = line_room(how);
     let mut at = 0;
     let mut count = 0;
     while count < left {
-        if scratch.len() - at < LINE_ROOM {
+        if scratch.len() - at < room {
             return Part {
                 written: at,
                 line: line + count,
                 done: false,
             };
         }
-        at = place_line(block, answer, line + count, table, scratch, at);
+        at = place_line(how, block, answer, line + count, table, scratch, at);
         count += 1;
     }
     Part {
@@ -197,13 +219,33 @@ pub fn next_part_by_rows(block: &[u8], line: usize, table: LentRows, scratch: &m
     }
 }
 
-// The same by a table that is tested first: 20 to 22 where it is turned away, and nothing is written.
-pub fn next_part(block: &[u8], line: usize, table: LentRows, scratch: &mut [u8]) -> LinesAnswer
-    ensures { λ r. ⌜ PartCall (tableOf table) (now (block .entry)) line (now (scratch .entry)) r (now (scratch .exit)) ⌝ }
+// The same with refusals told by their numbers.
+pub fn next_part_by_rows(block: &[u8], line: usize, table: LentRows, scratch: &mut [u8]) -> Part
+    ensures { λ r. ⌜ PartPlaced Telling.Numbers (rowsOf table) (now (block .entry)) line (now (scratch .entry)) r (now (scratch .exit)) ⌝ }
+{
+    next_told_part_by_rows(Telling::Numbers, block, line, table, scratch)
+}
+
+// The part by a table that is tested first: 20 to 22 where it is turned away, and nothing is written.
+pub fn next_told_part(
+    how: Telling,
+    block: &[u8],
+    line: usize,
+    table: LentRows,
+    scratch: &mut [u8],
+) -> LinesAnswer
+    ensures { λ r. ⌜ PartCall how (tableOf table) (now (block .entry)) line (now (scratch .entry)) r (now (scratch .exit)) ⌝ }
 {
     let number = tai_utc::table_refusal(table);
     if number != 0 {
         return LinesAnswer::Refused(number);
     }
-    LinesAnswer::Lines(next_part_by_rows(block, line, table, scratch))
+    LinesAnswer::Lines(next_told_part_by_rows(how, block, line, table, scratch))
+}
+
+// The same with refusals told by their numbers.
+pub fn next_part(block: &[u8], line: usize, table: LentRows, scratch: &mut [u8]) -> LinesAnswer
+    ensures { λ r. ⌜ PartCall Telling.Numbers (tableOf table) (now (block .entry)) line (now (scratch .entry)) r (now (scratch .exit)) ⌝ }
+{
+    next_told_part(Telling::Numbers, block, line, table, scratch)
 }

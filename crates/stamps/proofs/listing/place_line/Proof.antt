@@ -3,7 +3,8 @@ use borrow.Author.Needs.{needs}
 use denote.Ref.{now}
 use native.Mathlib.Omega.{arith}
 use Rattle.digits.proofs.Places.{placed-as}
-use Rattle.stamps.proofs.Lines.{refused-line, stamps-few, within, header-line, stamp-line}
+use Rattle.stamps.proofs.Texts.{room-low}
+use Rattle.stamps.proofs.Lines.{refused-number, refused-line, stamps-few, within, header-line, stamp-line}
 use Rattle.stamps.proofs.listing.place_line.Statement.{statement}
 use Rattle.stamps.proofs.listing.place_line.Tie as tie
 
@@ -11,7 +12,10 @@ enum-known-answer : tie.Need-enum-known-answer
 enum-known-answer c = search needs
 
 place-block-refused-requires : tie.Need-place-block-refused-requires
-place-block-refused-requires c κs = search needs
+place-block-refused-requires c κs =
+    let st = c .before .before .before .before .before .before in
+    let k = refused-number (now (st .args .block)) (st .args .line) _ (st .pre .0) _ (c .before .before .answer .given .1) in
+    (k .0, k .1, st .pre .2)
 
 enum-known-answer-2 : tie.Need-enum-known-answer-2
 enum-known-answer-2 c = search needs
@@ -27,7 +31,9 @@ refused-stamps-requires c κs =
     stamps-few (now (st .args .block)) (st .args .line) _ (st .pre .0) _ (c .before .before .answer2 .given .1)
 
 place-header-requires : tie.Need-place-header-requires
-place-header-requires c κs = search needs
+place-header-requires c κs =
+    let st = c .before .before .before .before .before .before .before .before in
+    omega (arith, room-low (st .args .how), st .pre .2)
 
 same-length : tie.Need-same-length
 same-length c = search needs
@@ -36,7 +42,7 @@ returns : tie.Need-returns
 returns c =
     let st = c .before .before .before .before .before .before .before .before .before .before .before in
     let p = c .before .before .place-header .ensures in
-    (placed-as (header-line (now (st .args .block)) (st .args .line) _ (st .pre .0) _ (c .before .before .before .before .before .before .before .answer2 .given .1) _ _ (c .before .before .before .before .before .if1 .taken) (c .before .before .before .before .refused-stamps .ensures _)) (p .0), p .1)
+    (placed-as (header-line (now (st .args .block)) (st .args .line) _ (st .pre .0) _ (c .before .before .before .before .before .before .before .answer2 .given .1) _ _ _ (c .before .before .before .before .before .if1 .taken) (c .before .before .before .before .refused-stamps .ensures _)) (p .0), omega (arith, p .1, room-low (st .args .how)))
 
 sub-place-stamp-line : tie.Need-sub-place-stamp-line
 sub-place-stamp-line c = search needs
@@ -55,7 +61,7 @@ returns-2 : tie.Need-returns-2
 returns-2 c =
     let st = c .before .before .before .before .before .before .before .before .before in
     let p = c .before .before .place-block-refused .ensures in
-    (placed-as (refused-line (now (st .args .block)) (st .args .line) _ (st .pre .0) _ (c .before .before .before .before .before .answer .given .1) _) (p .0), p .1)
+    (placed-as (refused-line (now (st .args .block)) (st .args .line) _ (st .pre .0) _ (c .before .before .before .before .before .answer .given .1) _ _) (p .0), p .1)
 
 same-length-3 : tie.Need-same-length-3
 same-length-3 c = search needs
@@ -64,7 +70,7 @@ returns-3 : tie.Need-returns-3
 returns-3 c =
     let st = c .before .before .before .before .before .before .before .before .before .before in
     let p = c .before .before .place-stamp-line .ensures in
-    (placed-as (stamp-line (now (st .args .block)) (st .args .line) _ (st .pre .0) _ (c .before .before .before .before .before .before .answer2 .given .1) _ (c .before .before .before .before .if1 .left)) (p .0), p .1)
+    (placed-as (stamp-line (now (st .args .block)) (st .args .line) _ (st .pre .0) _ (c .before .before .before .before .before .before .answer2 .given .1) _ _ (c .before .before .before .before .if1 .left)) (p .0), p .1)
 
 pub place-line-spec : {M : Type 1} → statement M
 place-line-spec =

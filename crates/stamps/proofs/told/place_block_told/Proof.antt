@@ -1,0 +1,66 @@
+-- `told::place_block_told` meets its contract, by either way of telling. Assumes nothing.
+use denote.Ref.{now}
+use native.Mathlib.Omega.{arith}
+use Rattle.digits.proofs.Places.{placed-as}
+use Rattle.stamps.proofs.Tellings.{numbers-room, numbers-told, sentences-room, sentences-told, block-values, block-width}
+use borrow.Author.Needs.{needs}
+use Rattle.stamps.proofs.told.place_block_told.Statement.{statement}
+use Rattle.stamps.proofs.told.place_block_told.Tie as tie
+
+enum-told : tie.Need-enum-told
+enum-told c = search needs
+
+place-number-requires : tie.Need-place-number-requires
+place-number-requires c κs =
+    let st = c .before .before .before .before .before in
+    omega (arith, numbers-room (st .args .how) (c .before .enum-told .given .1), st .pre .2)
+
+enum-known-how : tie.Need-enum-known-how
+enum-known-how c = search needs
+
+u32-at-requires : tie.Need-u32-at-requires
+u32-at-requires c κs = search needs
+
+u32-at-requires-2 : tie.Need-u32-at-requires-2
+u32-at-requires-2 c κs = search needs
+
+place-sentence-requires : tie.Need-place-sentence-requires
+place-sentence-requires c κs =
+    let st = c .before .before .before .before .before .before .before .before in
+    (st .pre .0, st .pre .1, block-width _ _ _ (search needs) (search needs) (search needs), omega (arith, sentences-room (st .args .how) _ (c .before .before .before .before .how .given .1), st .pre .2))
+
+same-length : tie.Need-same-length
+same-length c = search needs
+
+returns : tie.Need-returns
+returns c =
+    let st = c .before .before .before .before .before .before .before .before in
+    let e = c .before .before .before .before .enum-told .given .1 in
+    let p = c .before .before .place-number .ensures in
+    (placed-as (numbers-told (st .args .how) e (st .args .number) _) (p .0), omega (arith, p .1, numbers-room (st .args .how) e))
+
+same-length-2 : tie.Need-same-length-2
+same-length-2 c = search needs
+
+returns-2 : tie.Need-returns-2
+returns-2 c =
+    let st = c .before .before .before .before .before .before .before .before .before .before .before in
+    let e = c .before .before .before .before .before .before .before .how .given .1 in
+    let p = c .before .before .place-sentence .ensures in
+    let v = block-values (st .args .how) _ e (now (st .args .block)) _ _ (c .before .before .before .before .before .u32-at .ensures) (c .before .before .before .before .u32-at2 .ensures) in
+    (placed-as (sentences-told (st .args .how) _ e (st .args .number) _ _ v) (p .0), omega (arith, p .1, sentences-room (st .args .how) _ e))
+
+pub place-block-told-spec : {M : Type 1} → statement M
+place-block-told-spec =
+    tie.close
+    (tie.spec
+    enum-told
+    place-number-requires
+    enum-known-how
+    u32-at-requires
+    u32-at-requires-2
+    place-sentence-requires
+    same-length
+    returns
+    same-length-2
+    returns-2)

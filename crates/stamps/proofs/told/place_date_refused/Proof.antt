@@ -1,0 +1,63 @@
+-- `told::place_date_refused` meets its contract, by either way of telling. Assumes nothing.
+use mathlib.Core.Path.{sym, subst}
+use native.Mathlib.Omega.{arith}
+use Rattle.digits.proofs.Places.{placed-as}
+use Rattle.reasons.specs.Widths.{OfWidth}
+use Rattle.stamps.proofs.Texts.{refused-wide}
+use Rattle.stamps.proofs.Tellings.{numbers-room, numbers-told, sentences-room, sentences-told}
+use borrow.Author.Needs.{needs}
+use Rattle.stamps.proofs.told.place_date_refused.Statement.{statement}
+use Rattle.stamps.proofs.told.place_date_refused.Tie as tie
+
+enum-told : tie.Need-enum-told
+enum-told c = search needs
+
+place-number-requires : tie.Need-place-number-requires
+place-number-requires c κs =
+    let st = c .before .before .before .before in
+    omega (arith, numbers-room (st .args .how) (c .before .enum-told .given .1), st .pre .2)
+
+enum-told-2 : tie.Need-enum-told-2
+enum-told-2 c = search needs
+
+refused-values-requires : tie.Need-refused-values-requires
+refused-values-requires c κs = search needs
+
+place-sentence-requires : tie.Need-place-sentence-requires
+place-sentence-requires c κs =
+    let st = c .before .before .before .before .before in
+    (st .pre .0, st .pre .1, subst OfWidth (sym (c .before .refused-values .ensures)) (refused-wide (st .args .jd)), omega (arith, sentences-room (st .args .how) _ (c .before .before .enum-told2 .given .1), st .pre .2))
+
+same-length : tie.Need-same-length
+same-length c = search needs
+
+returns : tie.Need-returns
+returns c =
+    let st = c .before .before .before .before .before .before .before in
+    let e = c .before .before .before .before .enum-told .given .1 in
+    let p = c .before .before .place-number .ensures in
+    (placed-as (numbers-told (st .args .how) e (st .args .number) _) (p .0), omega (arith, p .1, numbers-room (st .args .how) e))
+
+same-length-2 : tie.Need-same-length-2
+same-length-2 c = search needs
+
+returns-2 : tie.Need-returns-2
+returns-2 c =
+    let st = c .before .before .before .before .before .before .before .before in
+    let e = c .before .before .before .before .before .enum-told2 .given .1 in
+    let p = c .before .before .place-sentence .ensures in
+    (placed-as (sentences-told (st .args .how) _ e (st .args .number) _ _ (c .before .before .before .before .refused-values .ensures)) (p .0), omega (arith, p .1, sentences-room (st .args .how) _ e))
+
+pub place-date-refused-spec : {M : Type 1} → statement M
+place-date-refused-spec =
+    tie.close
+    (tie.spec
+    enum-told
+    place-number-requires
+    enum-told-2
+    refused-values-requires
+    place-sentence-requires
+    same-length
+    returns
+    same-length-2
+    returns-2)

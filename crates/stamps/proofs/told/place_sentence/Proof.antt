@@ -1,0 +1,76 @@
+-- `told::place_sentence` meets its contract: the sentence fits, so that the call writes it. Assumes nothing.
+use Prim.Native.Nat.{ℕ, _+_}
+use mathlib.Core.Path.{ap}
+use denote.Ref.{now}
+use native.Mathlib.Omega.{arith}
+use Rattle.digits.proofs.Places.{lent-length, part-put}
+use Rattle.reasons.proofs.SentenceLengths.{reason-short}
+use Rattle.stamps.proofs.Texts.{given-written, given-fits}
+use Rattle.stamps.proofs.Tellings.{as-given}
+use borrow.Author.Needs.{needs}
+use Rattle.stamps.proofs.told.place_sentence.Statement.{statement}
+use Rattle.stamps.proofs.told.place_sentence.Tie as tie
+
+sub-put-reason : tie.Need-sub-put-reason
+sub-put-reason c = search needs
+
+part-put-reason-start : tie.Need-part-put-reason-start
+part-put-reason-start c = search needs
+
+part-put-reason-end : tie.Need-part-put-reason-end
+part-put-reason-end c = search needs
+
+put-reason-requires : tie.Need-put-reason-requires
+put-reason-requires c κs = search needs
+
+enum-known-n : tie.Need-enum-known-n
+enum-known-n c = search needs
+
+add-result : tie.Need-add-result
+add-result c =
+    let st = c .before .before .before .before .before .before .before .before in
+    let w = given-written (as-given (st .args .number) (st .args .values) (st .pre .0) (st .pre .1) (c .before .before .before .before .before .put-reason .ensures)) _ (c .before .n .given .1) in
+    omega (arith, w .0, reason-short (st .args .number) (st .args .values) (st .pre .2), st .pre .3, st .good)
+
+enum-told : tie.Need-enum-told
+enum-told c = search needs
+
+same-length : tie.Need-same-length
+same-length c = search needs
+
+returns : tie.Need-returns
+returns c =
+    let st = c .before .before .before .before .before .before .before .before in
+    let w = given-written (as-given (st .args .number) (st .args .values) (st .pre .0) (st .pre .1) (c .before .before .before .before .before .put-reason .ensures)) _ (c .before .n .given .1) in (
+      record {
+        ends = ap (λ (k : ℕ). st .args .at + k) (w .0);
+        holds = part-put (now (st .args .dst)) (st .args .at) (omega (arith, st .pre .3)) _ _ (w .1);
+      },
+      omega (arith, w .0, reason-short (st .args .number) (st .args .values) (st .pre .2)),
+    )
+
+same-length-2 : tie.Need-same-length-2
+same-length-2 c = search needs
+
+returns-2 : tie.Need-returns-2
+returns-2 c =
+    let st = c .before .before .before .before .before .before .before in
+    let room = lent-length (now (st .args .dst)) (st .args .at) (omega (arith, st .pre .3)) in
+    let short = reason-short (st .args .number) (st .args .values) (st .pre .2) in
+    absurd (given-fits (as-given (st .args .number) (st .args .values) (st .pre .0) (st .pre .1) (c .before .before .before .before .put-reason .ensures)) _ (c .enum-told .given .1) (omega (arith, room, short, st .pre .3)))
+
+pub place-sentence-spec : {M : Type 1} → statement M
+place-sentence-spec =
+    tie.close
+    (tie.spec
+    sub-put-reason
+    part-put-reason-start
+    part-put-reason-end
+    put-reason-requires
+    enum-known-n
+    add-result
+    enum-told
+    same-length
+    returns
+    same-length-2
+    returns-2)
