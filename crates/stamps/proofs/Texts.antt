@@ -16,7 +16,7 @@ use Rattle.utc_text.specs.declared.TextAnswer.the-variants.{Written, Refused}
 use Rattle.utc_text.specs.Answer.{textOutcome, textWritten, bufferAfter}
 use Rattle.utc.specs.Expanded.{isoTextExpanded}
 use Rattle.utc.specs.TextCall.{written, bufferHolds, TextCall}
-use Rattle.utc.proofs.ExpandedTexts.{expanded-text-length}
+use Rattle.utc_laws.proofs.ExpandedTexts.{expanded-text-length}
 use Rattle.stamps.specs.Listing.{shown}
 use Rattle.stamps.proofs.Places.{digits-most}
 
