@@ -25,9 +25,9 @@ use Rattle.utc.specs.declared.TextByRule.the-variants.{Written, Refused}
 use Rattle.utc.specs.TextCall.{bufferHolds}
 use Rattle.utc.specs.ByRule.{textByRule, textByRuleOutcome, writtenByRule, TextRuleCall}
 use Rattle.utc.proofs.TextRules.{iso-forgets, even-forgets, expanded-forgets}
-use Rattle.utc.proofs.Lengths.{text-length}
-use Rattle.utc.proofs.HalfEvenTexts.{even-text-length}
-use Rattle.utc.proofs.ExpandedTexts.{expanded-text-length}
+use Rattle.utc_laws.proofs.Lengths.{text-length}
+use Rattle.utc_laws.proofs.HalfEvenTexts.{even-text-length}
+use Rattle.utc_laws.proofs.ExpandedTexts.{expanded-text-length}
 use Rattle.c_answers.specs.Delivery.{code, Delivered}
 use Rattle.c_answers.specs.RuleFields.{ruleBytes}
 use Rattle.c_answers.specs.TwoBuffers.{bothFit, DeliveredTwo}

@@ -15,7 +15,7 @@ use Rattle.utc_text.specs.declared.TextAnswer.the-variants.{Written, Refused}
 use Rattle.utc_text.specs.Answer.{textOutcome, textWritten, bufferAfter}
 use Rattle.utc.specs.Sheet.{Sheet}
 use Rattle.utc.specs.IsoText.{isoTextBy}
-use Rattle.utc.specs.OneText.{Division, EveryCall}
+use Rattle.utc_laws.specs.OneText.{Division, EveryCall}
 use Rattle.utc.specs.TextCall.{written, bufferHolds, TextCall}
 use Rattle.c_answers.specs.Delivery.{code, Delivered}
 

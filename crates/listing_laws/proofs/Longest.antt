@@ -30,7 +30,7 @@ use Rattle.time_of_day.specs.TimeShown.{shownBy}
 use Rattle.utc_text.specs.Expanded.{expandedYear, expandedText}
 use Rattle.utc.specs.Expanded.{expandedSheet, isoTextExpanded}
 use Rattle.utc.proofs.TextCalls.{fields-given-by}
-use Rattle.utc.proofs.DayTexts.{textBy, leapOn, has-text-by}
+use Rattle.utc_laws.proofs.DayTexts.{textBy, leapOn, has-text-by}
 use Rattle.stamps.specs.declared.Telling.the-variants.{Numbers}
 use Rattle.stamps.specs.Block.{blockOf, jd1Bits, jd2Bits, stampAt}
 use Rattle.stamps.specs.Listing.{textAt, shown, stampLine}

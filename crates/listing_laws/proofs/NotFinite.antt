@@ -16,8 +16,8 @@ use Rattle.floats.specs.ExponentField.{exponentField}
 use Rattle.floats.proofs.ExponentField.{finite-field, field-not-finite}
 use Rattle.calendar.proofs.NextDates.{first-false}
 use Rattle.tai_utc.specs.Table.{Row}
-use Rattle.utc.proofs.Numbers.{not-both}
-use Rattle.utc.proofs.ExpandedTexts.{expanded-not-finite}
+use Rattle.utc_laws.proofs.Numbers.{not-both}
+use Rattle.utc_laws.proofs.ExpandedTexts.{expanded-not-finite}
 use Rattle.stamps.specs.declared.Telling.{Telling}
 use Rattle.stamps.specs.declared.Telling.the-variants.{Numbers, Sentences}
 use Rattle.stamps.specs.Block.{blockOf, jd1Bits, jd2Bits, stampAt}

@@ -18,8 +18,8 @@ use Rattle.tai_utc.proofs.TablesTaken.{table-none}
 use Rattle.utc.specs.Expanded.{expandedSheet, isoTextExpanded}
 use Rattle.utc.proofs.Dates.{date-in-range}
 use Rattle.utc.proofs.TextCalls.{fields-refused-by, fields-given-by}
-use Rattle.utc.proofs.DayTexts.{text-refused-by, has-text-by}
-use Rattle.utc.proofs.Numbers.{not-both, one-number, date-refusal}
+use Rattle.utc_laws.proofs.DayTexts.{text-refused-by, has-text-by}
+use Rattle.utc_laws.proofs.Numbers.{not-both, one-number, date-refusal}
 use Rattle.stamps.specs.declared.Telling.{Telling}
 use Rattle.stamps.specs.declared.Part.{Part}
 use Rattle.stamps.specs.declared.LinesAnswer.{LinesAnswer}

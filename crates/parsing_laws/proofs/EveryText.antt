@@ -43,15 +43,15 @@ use Rattle.utc.specs.Sheet.{Sheet}
 use Rattle.utc.specs.IsoText.{midnight, shownTextBy, dayTextBy, isoTextBy, isoText, sheet01}
 use Rattle.utc.specs.Expanded.{expandedSheet, isoTextExpanded}
 use Rattle.utc.specs.HalfEven.{evenSheet, isoTextHalfEven}
-use Rattle.utc.specs.GoodSheet.{GoodSheet}
-use Rattle.utc.specs.Shows.{Promise, promise01}
-use Rattle.utc.specs.Promises.{expandedPromise, evenPromise}
+use Rattle.utc_laws.specs.GoodSheet.{GoodSheet}
+use Rattle.utc_laws.specs.Shows.{Promise, promise01}
+use Rattle.utc_laws.specs.Promises.{expandedPromise, evenPromise}
 use Rattle.utc.specs.FromCalendar.{utcFromCalendar}
-use Rattle.utc.proofs.DayTexts.{leapOn, has-leap}
-use Rattle.utc.proofs.Sheets.{good01}
-use Rattle.utc.proofs.ExpandedTexts.{expanded-good}
-use Rattle.utc.proofs.HalfEvenTexts.{even-good}
-use Rattle.utc.proofs.ShownDates as Dates
+use Rattle.utc_laws.proofs.DayTexts.{leapOn, has-leap}
+use Rattle.utc_laws.proofs.Sheets.{good01}
+use Rattle.utc_laws.proofs.ExpandedTexts.{expanded-good}
+use Rattle.utc_laws.proofs.HalfEvenTexts.{even-good}
+use Rattle.utc_laws.proofs.ShownDates as Dates
 use Rattle.utc.proofs.TextCalls.{next-given}
 use Rattle.parsing.specs.declared.ParsedDateTime.{ParsedDateTime}
 use Rattle.parsing.specs.Parsed.{fieldsOf, parsedUtc}

@@ -45,18 +45,18 @@ use Rattle.time_of_day.specs.ExactTime.{minus-one-f, Leap, little, second, minu
 use Rattle.time_of_day.proofs.Fields.{fields-ms}
 use Rattle.utc_text.specs.ReadBack.{readYear}
 use Rattle.utc.specs.Sheet.{Sheet}
-use Rattle.utc.specs.Shows.{Promise, promise01}
-use Rattle.utc.specs.Promises.{expandedPromise, evenPromise}
-use Rattle.utc.specs.GoodSheet.{GoodSheet}
+use Rattle.utc_laws.specs.Shows.{Promise, promise01}
+use Rattle.utc_laws.specs.Promises.{expandedPromise, evenPromise}
+use Rattle.utc_laws.specs.GoodSheet.{GoodSheet}
 use Rattle.utc.specs.IsoText.{shownTextBy, isoTextBy, isoText, sheet01}
 use Rattle.utc.specs.Expanded.{expandedSheet, isoTextExpanded}
 use Rattle.utc.specs.HalfEven.{evenSheet, isoTextHalfEven}
 use Rattle.utc.specs.FromCalendar.{utcFromCalendar}
-use Rattle.utc.proofs.FromCalendars.{time-given}
+use Rattle.utc_laws.proofs.FromCalendars.{time-given}
 use Rattle.utc.proofs.TextCalls.{leap-given, fields-given-by}
-use Rattle.utc.proofs.Sheets.{good01}
-use Rattle.utc.proofs.ExpandedTexts.{expanded-good}
-use Rattle.utc.proofs.HalfEvenTexts.{even-good}
+use Rattle.utc_laws.proofs.Sheets.{good01}
+use Rattle.utc_laws.proofs.ExpandedTexts.{expanded-good}
+use Rattle.utc_laws.proofs.HalfEvenTexts.{even-good}
 use Rattle.parsing.specs.declared.ParsedUtc.{ParsedUtc}
 use Rattle.parsing.specs.Parsed.{parsedUtc}
 use Rattle.parsing_laws.specs.Shown.{fieldsShown, withDate, YearShown, ReadsBack, FourDigits}

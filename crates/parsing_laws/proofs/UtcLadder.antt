@@ -20,9 +20,9 @@ use Rattle.julian.specs.DayFraction.{timeInDay, dayFraction}
 use Rattle.tai_utc.specs.Table.{Row}
 use Rattle.tai_utc.specs.Leap.{leapAtEndOfDay}
 use Rattle.utc.specs.FromCalendar.{midnightPlus, utcFromCalendar}
-use Rattle.utc.proofs.FromCalendars.{on-date, time-given}
-use Rattle.utc.proofs.DayTexts.{has-leap}
-use Rattle.utc.proofs.Numbers.{not-both}
+use Rattle.utc_laws.proofs.FromCalendars.{on-date, time-given}
+use Rattle.utc_laws.proofs.DayTexts.{has-leap}
+use Rattle.utc_laws.proofs.Numbers.{not-both}
 use Rattle.parsing.specs.declared.ParsedDateTime.{ParsedDateTime}
 use Rattle.parsing.specs.declared.ParsedUtc.{ParsedUtc}
 use Rattle.parsing.specs.Written.{Written}

@@ -28,7 +28,7 @@ use Rattle.leap_days.specs.Tables.{StepLeap, no-row, row-up, row-down, LeapOn, 
 use Rattle.leap_days.proofs.TableLeaps.{table-leap-on}
 use Rattle.utc_text.specs.Text.{utcText}
 use Rattle.utc.specs.FromCalendar.{utcFromCalendar}
-use Rattle.utc.proofs.FromCalendars.{time-given}
+use Rattle.utc_laws.proofs.FromCalendars.{time-given}
 use Rattle.parsing.specs.Parsed.{fieldsOf, dated, parsedUtc}
 use Rattle.parsing_laws.specs.Shown.{withDate}
 use Rattle.parsing_laws.proofs.ReadBack.{asWritten, reads-back}

@@ -21,7 +21,7 @@ use Rattle.tai_utc.specs.Table.{Row}
 use Rattle.utc.specs.Expanded.{expandedSheet, isoTextExpanded}
 use Rattle.utc.proofs.Dates.{date-in-range}
 use Rattle.utc.proofs.TextCalls.{fields-refused-by, fields-given-by}
-use Rattle.utc.proofs.DayTexts.{text-refused-by, has-text-by}
+use Rattle.utc_laws.proofs.DayTexts.{text-refused-by, has-text-by}
 use Rattle.stamps.specs.Listing.{oneIfRefused}
 
 module _ (rows : List Row) (jd : JulianDate) (res : DayAnswer) (e : dayOutcome res ≡ dayNumberAndFraction (jd .jd1) (jd .jd2)) where

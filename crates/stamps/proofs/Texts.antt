@@ -22,8 +22,8 @@ use Rattle.utc_text.specs.Answer.{textOutcome, textWritten, bufferAfter}
 use Rattle.utc.specs.Expanded.{expandedSheet, isoTextExpanded}
 use Rattle.utc.specs.TextCall.{written, bufferHolds, TextCall}
 use Rattle.utc.proofs.Dates.{date-in-range}
-use Rattle.utc.proofs.Numbers.{text-numbers-by}
-use Rattle.utc.proofs.ExpandedTexts.{expanded-text-length}
+use Rattle.utc_laws.proofs.Numbers.{text-numbers-by}
+use Rattle.utc_laws.proofs.ExpandedTexts.{expanded-text-length}
 use Rattle.reasons.specs.declared.Values.{Values}
 use Rattle.reasons.specs.Widths.{OfWidth}
 use Rattle.reasons.proofs.SentenceLengths.{reason-short}

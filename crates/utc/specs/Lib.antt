@@ -7,9 +7,3 @@ pub mod TextCall
 pub mod Expanded
 pub mod HalfEven
 pub mod ByRule
--- The words of the theorems: no contract cites them.
-pub mod Shows
-pub mod Promises
-pub mod GoodSheet
-pub mod OneText
-pub mod Beside

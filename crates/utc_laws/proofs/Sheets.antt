@@ -21,10 +21,10 @@ use Rattle.utc_text.specs.ReadBack.{Writable}
 use Rattle.utc_text.proofs.ReadBack.{reads-back, written-length}
 use Rattle.utc_text.proofs.Form.{well-formed}
 use Rattle.utc_text.proofs.YearZeros.{year-filled-to-four}
 use Rattle.utc.specs.IsoText.{sheet01}
-use Rattle.utc.specs.Shows.{Form01, promise01}
-use Rattle.utc.specs.GoodSheet.{GoodSheet}
-use Rattle.utc.proofs.Sums.{fraction-fits}
+use Rattle.utc_laws.specs.Shows.{Form01, promise01}
+use Rattle.utc_laws.specs.GoodSheet.{GoodSheet}
+use Rattle.utc_laws.proofs.Sums.{fraction-fits}
 
 -- ---- a count by any rule that rounds to a nearest whole number is within 0.501 ms
 pub near-501 : (how : Bool → ℕ → ℕ → ℕ) → Nearest how → (F : ℕ) → F < 2 ^ 52 → (x : Float) → Leap x → (W E : ℕ) → 0 < E → DayLength x W E

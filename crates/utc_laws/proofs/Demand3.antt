@@ -35,14 +35,14 @@ use Rattle.time_of_day.specs.ExactTime.{Leap, little, second, first, minus-seco
 use Rattle.time_of_day.proofs.Shows.{shown-within}
 use Rattle.utc_text.specs.ReadBack.{Writable, ReadsAs}
 use Rattle.utc_text.proofs.ReadBack.{said-ms}
 use Rattle.utc.specs.Sheet.{Sheet}
 use Rattle.utc.specs.IsoText.{midnight, isoTextBy, isoText, sheet01}
-use Rattle.utc.specs.Shows.{Promise, promise01, on-day, next-midnight, timeShown, TextRight, tooEarly, TextDemand}
-use Rattle.utc.specs.GoodSheet.{GoodSheet}
-use Rattle.utc.proofs.ShownDates.{early-refused, in-range, date-valid, next-is, next-in-range}
-use Rattle.utc.proofs.DayTexts.{textBy, text-refused-by, leapOn, has-leap, has-text-by}
-use Rattle.utc.proofs.Sums.{in-days, sumText, of-sum}
-use Rattle.utc.proofs.Sheets.{good01}
+use Rattle.utc_laws.specs.Shows.{Promise, promise01, on-day, next-midnight, timeShown, TextRight, tooEarly, TextDemand}
+use Rattle.utc_laws.specs.GoodSheet.{GoodSheet}
+use Rattle.utc_laws.proofs.ShownDates.{early-refused, in-range, date-valid, next-is, next-in-range}
+use Rattle.utc_laws.proofs.DayTexts.{textBy, text-refused-by, leapOn, has-leap, has-text-by}
+use Rattle.utc_laws.proofs.Sums.{in-days, sumText, of-sum}
+use Rattle.utc_laws.proofs.Sheets.{good01}
 
 -- ---- the cases of leap: every leap of a table that is taken is one
 case-of : (x : Float) → Table.TableLeap x → Leap x

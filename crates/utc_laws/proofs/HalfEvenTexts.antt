@@ -25,19 +25,19 @@ use Rattle.time_of_day.specs.ExactTime.{Leap, DayLength, TimeWithin}
 use Rattle.time_of_day.proofs.EvenExact.{even-exact}
 use Rattle.utc_text.specs.declared.TextAnswer.the-variants.{Written, Refused}
 use Rattle.utc_text.proofs.ReadBack as Read
 use Rattle.utc.specs.IsoText.{isoText, sheet01}
 use Rattle.utc.specs.TextCall.{TextCall}
-use Rattle.utc.specs.Shows.{TextDemand}
-use Rattle.utc.specs.GoodSheet.{GoodSheet}
-use Rattle.utc.specs.OneText.{OneText}
+use Rattle.utc_laws.specs.Shows.{TextDemand}
+use Rattle.utc_laws.specs.GoodSheet.{GoodSheet}
+use Rattle.utc_laws.specs.OneText.{OneText}
 use Rattle.utc.specs.HalfEven.{evenSheet, isoTextHalfEven}
-use Rattle.utc.specs.Promises.{evenPromise}
-use Rattle.utc.proofs.Sums.{fraction-fits}
-use Rattle.utc.proofs.Sheets.{form01}
-use Rattle.utc.proofs.Demand3.{fixed-leaps, table-leaps, demand-3-by}
-use Rattle.utc.proofs.OneText.{text-for-every-buffer-by}
-use Rattle.utc.proofs.Numbers.{call-numbers-by, not-finite-by, refused-alike}
-use Rattle.utc.proofs.Lengths.{Length01, every-text, every-call}
+use Rattle.utc_laws.specs.Promises.{evenPromise}
+use Rattle.utc_laws.proofs.Sums.{fraction-fits}
+use Rattle.utc_laws.proofs.Sheets.{form01}
+use Rattle.utc_laws.proofs.Demand3.{fixed-leaps, table-leaps, demand-3-by}
+use Rattle.utc_laws.proofs.OneText.{text-for-every-buffer-by}
+use Rattle.utc_laws.proofs.Numbers.{call-numbers-by, not-finite-by, refused-alike}
+use Rattle.utc_laws.proofs.Lengths.{Length01, every-text, every-call}
 
 -- ---- DEMAND 3
 near : (F : ℕ) → F < 2 ^ 52 → (x : Float) → Leap x → (W E : ℕ) → 0 < E → DayLength x W E → TimeWithin (evenParts x) (evenMost x) (evenCount (fractionOf F) (wholeLeap x) * E) F (2 ^ 52) W E

@@ -24,13 +24,13 @@ use Rattle.tai_utc.specs.Table.{Row}
 use Rattle.tai_utc.specs.Leap.{dayOffsets, leapOf, leapAtEndOfDay}
 use Rattle.tai_utc.specs.declared.DayOffsets.{DayOffsets}
 use Rattle.tai_utc.proofs.Days.{day-refusals}
 use Rattle.utc.specs.FromCalendar.{midnightPlus, utcFromCalendar}
 use Rattle.utc.specs.UnixTime.{unixDay, secondOfUnixDay, secondWithNanos, utcNew}
 use Rattle.utc.proofs.Dates.{date-in-range}
 use Rattle.utc.proofs.UnixTimes.{nanos-refused, day-refused, day-given}
-use Rattle.utc.proofs.DayTexts.{has-leap}
-use Rattle.utc.proofs.Numbers.{not-both, one-number, date-refusal}
-use Rattle.utc.proofs.FromCalendars.{date-refused, leap-refused, on-date}
+use Rattle.utc_laws.proofs.DayTexts.{has-leap}
+use Rattle.utc_laws.proofs.Numbers.{not-both, one-number, date-refusal}
+use Rattle.utc_laws.proofs.FromCalendars.{date-refused, leap-refused, on-date}
 
 only-four : (hour minute : ℕ) (second leap : Float) (d : JulianDate) (k : ℕ) → midnightPlus d (dayFraction hour minute second leap) ≡ refusal k → k ≡ 4
 unfolding midnightPlus dayFraction onward

@@ -19,14 +19,14 @@ use Rattle.time_of_day.specs.declared.TimeShown.the-variants.{At, NextMidnight}
 use Rattle.time_of_day.specs.TimeShown.{shownBy}
 use Rattle.utc_text.specs.declared.TextAnswer.the-variants.{Written}
 use Rattle.utc_text.proofs.ReadBack as Read
 use Rattle.utc.specs.Sheet.{Sheet}
 use Rattle.utc.specs.IsoText.{midnight, isoTextBy, isoText, sheet01}
 use Rattle.utc.specs.TextCall.{TextCall}
 use Rattle.utc.proofs.Dates.{date-in-range}
 use Rattle.utc.proofs.TextCalls.{fields-refused-by, fields-given-by}
-use Rattle.utc.proofs.DayTexts.{textBy, text-refused-by, leapOn, has-text-by}
-use Rattle.utc.proofs.Numbers.{not-both, date-refusal}
-use Rattle.utc.proofs.Alike.{text-put}
+use Rattle.utc_laws.proofs.DayTexts.{textBy, text-refused-by, leapOn, has-text-by}
+use Rattle.utc_laws.proofs.Numbers.{not-both, date-refusal}
+use Rattle.utc_laws.proofs.Alike.{text-put}
 
 module _ (sheet : Sheet) (P : List ℕ → Type 0) (each : (d : CalendarDate) (u : TimeOfDay) → P (sheet .write d u)) (rows : List Row) (jd : JulianDate) where
   shown : (d : CalendarDate) (r : TimeShown) → P (textBy (sheet .write) d r)

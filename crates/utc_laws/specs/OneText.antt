@@ -17,10 +17,10 @@ use Rattle.tai_utc.specs.Leap.{leapAtEndOfDay}
 use Rattle.time_of_day.specs.ExactTime.{DayLength}
 use Rattle.utc_text.specs.declared.TextAnswer.{TextAnswer}
 use Rattle.utc_text.specs.Answer.{textOutcome}
 use Rattle.utc.specs.Sheet.{Sheet}
 use Rattle.utc.specs.IsoText.{isoTextBy}
 use Rattle.utc.specs.TextCall.{TextCall, Alike}
-use Rattle.utc.specs.Shows.{Promise, TextRight, tooEarly}
+use Rattle.utc_laws.specs.Shows.{Promise, TextRight, tooEarly}
 
 -- a Julian date whose two parts are floats on the grid with this exact sum
 pub record Division (sum : ℤ) (jd : JulianDate) : Type 0 where

@@ -28,19 +28,19 @@ use Rattle.utc_text.specs.declared.TextAnswer.the-variants.{Written, Refused}
 use Rattle.utc_text.specs.Text.{utcText}
 use Rattle.utc_text.specs.Expanded.{expandedYear, expandedText}
 use Rattle.utc_text.proofs.ExpandedLaws as Text
 use Rattle.utc.specs.IsoText.{midnight, nextMidnightTextBy, shownTextBy, dayTextBy, isoTextBy, isoText}
 use Rattle.utc.specs.TextCall.{TextCall}
-use Rattle.utc.specs.Shows.{TextDemand}
-use Rattle.utc.specs.GoodSheet.{GoodSheet}
-use Rattle.utc.specs.OneText.{OneText}
+use Rattle.utc_laws.specs.Shows.{TextDemand}
+use Rattle.utc_laws.specs.GoodSheet.{GoodSheet}
+use Rattle.utc_laws.specs.OneText.{OneText}
 use Rattle.utc.specs.Expanded.{expandedSheet, isoTextExpanded}
-use Rattle.utc.specs.Promises.{expandedPromise}
-use Rattle.utc.specs.Beside.{Beside, refused, written}
-use Rattle.utc.proofs.Sheets.{near-501}
-use Rattle.utc.proofs.Demand3.{fixed-leaps, table-leaps, demand-3-by}
-use Rattle.utc.proofs.OneText.{text-for-every-buffer-by}
-use Rattle.utc.proofs.Numbers.{call-numbers-by, not-finite-by}
-use Rattle.utc.proofs.Lengths.{every-text, every-call}
+use Rattle.utc_laws.specs.Promises.{expandedPromise}
+use Rattle.utc_laws.specs.Beside.{Beside, refused, written}
+use Rattle.utc_laws.proofs.Sheets.{near-501}
+use Rattle.utc_laws.proofs.Demand3.{fixed-leaps, table-leaps, demand-3-by}
+use Rattle.utc_laws.proofs.OneText.{text-for-every-buffer-by}
+use Rattle.utc_laws.proofs.Numbers.{call-numbers-by, not-finite-by}
+use Rattle.utc_laws.proofs.Lengths.{every-text, every-call}
 
 -- ---- DEMAND 3
 pub expanded-good : GoodSheet expandedSheet expandedPromise

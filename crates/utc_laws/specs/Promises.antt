@@ -1,7 +1,7 @@
 -- What document 02 promises of its two sheets, beside document 01's promise in Shows. Written from items 4 and 6. Assumes nothing.
 use Rattle.time_of_day.specs.EvenPromise.{evenParts, evenMost}
 use Rattle.utc_text.specs.ExpandedForm.{ExpandedForm}
-use Rattle.utc.specs.Shows.{Promise, Form01}
+use Rattle.utc_laws.specs.Shows.{Promise, Form01}
 
 -- item 6: 23 or 27 bytes, and 0.501 ms on every day
 abbrev pub expandedPromise : Promise

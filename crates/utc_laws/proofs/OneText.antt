@@ -18,18 +18,18 @@ use Rattle.tai_utc.specs.Leap.{leapAtEndOfDay}
 use Rattle.time_of_day.specs.ExactTime.{Leap}
 use Rattle.utc_text.specs.declared.TextAnswer.{TextAnswer}
 use Rattle.utc_text.specs.Answer.{textOutcome}
 use Rattle.utc.specs.Sheet.{Sheet}
 use Rattle.utc.specs.IsoText.{isoTextBy, sheet01}
 use Rattle.utc.specs.TextCall.{TextCall}
-use Rattle.utc.specs.Shows.{Promise, promise01, tooEarly, TextDemand}
-use Rattle.utc.specs.GoodSheet.{GoodSheet}
-use Rattle.utc.specs.OneText.{Division, Put, fits-in, too-long, OneText}
+use Rattle.utc_laws.specs.Shows.{Promise, promise01, tooEarly, TextDemand}
+use Rattle.utc_laws.specs.GoodSheet.{GoodSheet}
+use Rattle.utc_laws.specs.OneText.{Division, Put, fits-in, too-long, OneText}
 use Rattle.utc.proofs.TextCalls.{call-as}
-use Rattle.utc.proofs.Sums.{sumText, of-sum}
-use Rattle.utc.proofs.Sheets.{good01}
-use Rattle.utc.proofs.Demand3.{sum-demand, fixed-leaps, table-leaps}
-use Rattle.utc.proofs.DayLengths.{a-length}
-use Rattle.utc.proofs.Alike.{alike, exactly, buffer}
+use Rattle.utc_laws.proofs.Sums.{sumText, of-sum}
+use Rattle.utc_laws.proofs.Sheets.{good01}
+use Rattle.utc_laws.proofs.Demand3.{sum-demand, fixed-leaps, table-leaps}
+use Rattle.utc_laws.proofs.DayLengths.{a-length}
+use Rattle.utc_laws.proofs.Alike.{alike, exactly, buffer}
 
 -- ---- one call, by its two equations
 case : {A : Type 0} (b c : Bool) (x y : A) → b ≡ c → cond b x y ≡ cond c x y

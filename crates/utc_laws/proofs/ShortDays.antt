@@ -16,8 +16,8 @@ use Rattle.julian.specs.DayFraction.{secondLimit, timeInDay, dayFraction}
 use Rattle.tai_utc.specs.Table.{Row}
 use Rattle.tai_utc.specs.Leap.{leapAtEndOfDay}
 use Rattle.time_of_day.specs.ExactTime.{minus-one-f}
 use Rattle.utc.specs.FromCalendar.{midnightPlus, utcFromCalendar}
-use Rattle.utc.proofs.FromCalendars.{on-date, time-given}
+use Rattle.utc_laws.proofs.FromCalendars.{on-date, time-given}
 
 limit : secondLimit 23 59 minus-one-f ≡ decimal 59 0
 unfolding secondLimit round add ofBits

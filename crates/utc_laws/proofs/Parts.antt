@@ -30,8 +30,8 @@ use Rattle.julian.specs.DayFraction.{timeInDay}
 use Rattle.julian.proofs.Midnights.{mjd-in-42-bits, midnight-sum}
 use Rattle.tai_utc.specs.Table.{Row}
 use Rattle.tai_utc.specs.Leap.{leapAtEndOfDay}
 use Rattle.utc.specs.FromCalendar.{utcFromCalendar}
-use Rattle.utc.proofs.FromCalendars.{time-given}
+use Rattle.utc_laws.proofs.FromCalendars.{time-given}
 
 -- ---- 0.0 and a float
 zero-val : (D : ℕ) → Val nought 0 0 D

@@ -18,10 +18,10 @@ use Rattle.tai_utc.specs.Table.{Row}
 use Rattle.utc_text.specs.declared.TextAnswer.{TextAnswer}
 use Rattle.utc_text.specs.declared.TextAnswer.the-variants.{Written, Refused}
 use Rattle.utc_text.specs.Answer.{textOutcome, textWritten, bufferAfter}
 use Rattle.utc.specs.Sheet.{Sheet}
 use Rattle.utc.specs.IsoText.{dayTextBy, isoTextBy, isoText, sheet01}
 use Rattle.utc.specs.TextCall.{written, bufferHolds, TextCall, Alike}
-use Rattle.utc.specs.Shows.{Promise, tooEarly, TextDemand}
+use Rattle.utc_laws.specs.Shows.{Promise, tooEarly, TextDemand}
 
 -- ---- one text, or one refusal, for all divisions
 pub one-text : (sheet : Sheet) (rows : List Row) (x y x' y' : Float) → T (fits binary64 x) → T (fits binary64 y) → T (fits binary64 x') → T (fits binary64 y') → (a : OnGrid x) (b : OnGrid y) (a' : OnGrid x') (b' : OnGrid y')

@@ -5,11 +5,11 @@ use Rattle.day_number.specs.ExactDay.{gridSum}
 use Rattle.day_number.proofs.Ends.{lowest, highest, largest, opposite, lowest-fits, highest-fits, largest-fits, opposite-fits, nought-fits, lowest-grid, highest-grid, largest-grid, opposite-grid, nought-grid, lowest-range, highest-range, largest-range}
 use Rattle.julian.specs.JulianDate.{julian}
 use Rattle.tai_utc.specs.Table.{fixed}
 use Rattle.utc.specs.IsoText.{isoText, sheet01}
-use Rattle.utc.specs.Shows.{TextDemand, promise01}
-use Rattle.utc.specs.OneText.{OneText}
-use Rattle.utc.proofs.Demand3.{demand-3}
-use Rattle.utc.proofs.OneText.{text-for-every-buffer}
+use Rattle.utc_laws.specs.Shows.{TextDemand, promise01}
+use Rattle.utc_laws.specs.OneText.{OneText}
+use Rattle.utc_laws.proofs.Demand3.{demand-3}
+use Rattle.utc_laws.proofs.OneText.{text-for-every-buffer}
 
 -- one text, and what it shows
 pub text-at-lowest : TextDemand promise01 fixed (gridSum lowest-grid nought-grid) (isoText fixed (julian lowest nought))
