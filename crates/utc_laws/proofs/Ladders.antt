@@ -15,6 +15,7 @@ use Rattle.refusals.specs.Outcome.{Outcome, answer, refusal, onward}
 use Rattle.refusals.proofs.Onward.{went, stopped}
 use Rattle.calendar.specs.Calendar.{daysInMonth}
 use Rattle.calendar.specs.Refusals.{validDate}
+use Rattle.calendar.specs.declared.CalendarDate.{CalendarDate}
 use Rattle.calendar.proofs.Years.{validOf, gregorian-refusal}
 use Rattle.calendar.proofs.Accepted.{date-accepted}
 use Rattle.day_number.specs.DayNumber.{accepted, dayOf}
@@ -127,6 +128,11 @@ module _ {A : Type 0} {o : Outcome A} where
         go false false true e = passes no (passes no (stops refl (date-refused 3 e)))
         go false false false e = passes no (passes no (passes no (h e)))
 
+  -- ---- the year's, of a date whose month and day are good
+  pub by-year : (t : CalendarDate) (l : Ladder) → (validOf t ≡ answer tt) ⊎ (validOf t ≡ refusal 1) → (validOf t ≡ refusal 1 → o ≡ refusal 1) → (validOf t ≡ answer tt → Decided o l) → Decided o (refuse 1 (ltZ (t .year) (negsuc 4798) ≡ true) l)
+  by-year t l (inl v) early h = passes (λ e. true≢false (sym e ∙ date-accepted (t .year) (pos (t .month)) (pos (t .day)) v .year)) (h v)
+  by-year t l (inr v) early h = stops (refused-early (t .year) (pos (t .month)) (pos (t .day)) v) (early v)
+
   -- ---- those of two parts
   module _ (x y : Float) (l : Ladder) (no-date : julianToCalendar x y ≡ refusal 6 → o ≡ refusal 6) where
     abbrev c : CalendarFields
@@ -140,13 +146,9 @@ module _ {A : Type 0} {o : Outcome A} where
     unfolding julianToCalendar
     by-parts early h = go (accepted x y) refl
       where
-        yes : (b : Bool) → b ≡ true → b ≡ false → ⊥
-        yes b p q = true≢false (sym p ∙ q)
-
-        by-year : julianToCalendar x y ≡ answer c → (validOf (dateIn x y) ≡ answer tt) ⊎ (validOf (dateIn x y) ≡ refusal 1) → Decided o (refuse 1 (ltZ (dateIn x y .year) (negsuc 4798) ≡ true) l)
-        by-year p (inl v) = let t = dateIn x y in passes (λ e. true≢false (sym e ∙ date-accepted (t .year) (pos (t .month)) (pos (t .day)) v .year)) (h p v)
-        by-year p (inr v) = let t = dateIn x y in stops (refused-early (t .year) (pos (t .month)) (pos (t .day)) v) (early p v)
+        not-false : (b : Bool) → b ≡ true → b ≡ false → ⊥
+        not-false b p q = true≢false (sym p ∙ q)
 
         go : (b : Bool) → accepted x y ≡ b → Decided o (partsThen x y l)
         go false e = stops e (no-date (stopped _ (refused x y e)))
-        go true e = passes (yes (accepted x y) e) (by-year (given e) (gregorian-refusal (dayOf x y .day)))
+        go true e = passes (not-false (accepted x y) e) (by-year (dateIn x y) l (gregorian-refusal (dayOf x y .day)) (early (given e)) (h (given e)))

@@ -4,14 +4,15 @@ use mathlib.Core.Path.{_≡_}
 use mathlib.Core.Bool.{Bool, true, false, _||_}
 use mathlib.Core.Logic.{_⊎_}
 use mathlib.Core.List.{List}
-use Prim.Native.Nat.{ℕ, _/_, _%_, _≤_, _<_}
-use lib.IntN.{ℤ, pos, negsuc, natAbs}
+use Prim.Native.Nat.{ℕ, _≤_, _<_}
+use lib.IntN.{ℤ, pos, negsuc, natAbs, _+ℤ_}
 use lib.Signed.{ltZ}
 use lib.ListN.{length}
-use lib.Ieee.{Float, binary64, ofInt}
+use lib.Ieee.{Float, binary64, add, lt}
 use Rattle.refusals.specs.Outcome.{answer}
-use Rattle.constants.specs.Constants.{unixEpochJd}
-use Rattle.calendar.specs.Calendar.{daysInMonth}
+use Rattle.floats.specs.Whole.{nought}
+use Rattle.constants.specs.Constants.{decimal}
+use Rattle.calendar.specs.Calendar.{daysInMonth, dateOf}
 use Rattle.calendar.specs.Refusals.{lastDate}
 use Rattle.calendar.specs.Gregorian.{gregorianDate}
 use Rattle.calendar.specs.declared.CalendarDate.{CalendarDate}
@@ -59,6 +60,14 @@ partsThen x y later = refuse 6 (accepted x y ≡ false) (refuse 1 (ltZ (dateIn x
 abbrev pub TimeOutside : List Row → ℤ → ℤ → ℤ → ℕ → ℕ → Float → Type 0
 TimeOutside rows y m d hour minute second = (leap : Float) × (leapAtEndOfDay rows y m d ≡ answer leap) × (timeInDay hour minute second leap ≡ false)
 
+-- of a Unix time, whose second is below 60 by itself: the day ends in a step back, it is the last minute, and the second is not below 60 plus the leap
+pub record PastShortEnd (rows : List Row) (date : CalendarDate) (second nanos : ℕ) : Type 0 where
+  pub leap : Float
+  pub leap-is : leapAtEndOfDay rows (date .year) (pos (date .month)) (pos (date .day)) ≡ answer leap
+  pub step-back : lt leap nought ≡ true
+  pub last-minute : 86340 ≤ second
+  pub past : lt (secondWithNanos second nanos) (add binary64 (decimal 60 0) leap) ≡ false
+
 -- ---- the calls
 abbrev pub offsetLadder : LentRows → ℤ → ℤ → ℤ → Float → Ladder
 offsetLadder t y m d fraction = tableFirst t (refuse 7 (inDay fraction ≡ false) (dateThen y m d done))
@@ -73,15 +82,21 @@ fromCalendarLadder t y m d hour minute second =
     (refuse 5 (lastDate y m d ≡ true)
     (refuse 4 (TimeOutside (rowsOf t) y (pos m) (pos d) hour minute second) done)))
 
+-- a Unix day that has no calendar date: before -4900-03-01 or after the day on which the sum of the parts passes 10^9
+abbrev pub dayOutside : ℤ → Bool
+dayOutside n = ltZ n (negsuc 2509156) || ltZ (pos 997559412) n
+
+-- its date
+abbrev pub unixDate : ℤ → CalendarDate
+unixDate n = dateOf (n +ℤ pos 2440588)
+
 abbrev pub newLadder : LentRows → ℤ → ℕ → Ladder
 newLadder t seconds nanos =
-    let day = ofInt binary64 (unixDay seconds) in
-    let s = secondOfUnixDay seconds in
-    let date = dateIn unixEpochJd day in
     tableFirst t
     (refuse 8 (1000000000 ≤ nanos)
-    (partsThen unixEpochJd day
-    (refuse 4 (TimeOutside (rowsOf t) (date .year) (pos (date .month)) (pos (date .day)) (s / 3600) (s % 3600 / 60) (secondWithNanos s nanos)) done)))
+    (refuse 6 (dayOutside (unixDay seconds) ≡ true)
+    (refuse 1 (ltZ (unixDate (unixDay seconds) .year) (negsuc 4798) ≡ true)
+    (refuse 4 (PastShortEnd (rowsOf t) (unixDate (unixDay seconds)) (secondOfUnixDay seconds) nanos) done))))
 
 -- the text by a sheet, and the call that writes it into so many bytes
 abbrev pub textLadder : LentRows → JulianDate → Ladder
