@@ -43,6 +43,18 @@ refused-early y m d e = go (ltZ y (negsuc 4798)) (ltZ m (pos 1) || ltZ (pos 12) 
     go false false true h = absurd (differ 3 1 (λ z. omega arith) h)
     go false false false h = let z : _≡_ {A = ℕ} 0 1 = cc in absurd (omega arith)
 
+-- ---- a table that is taken has none of the table's reasons
+module _ (t : LentRows) where
+  right-sizes : t .«months_size» ≡ t .«seconds_size» → t .«months_size» ≤ 16 → WrongSizes t → ⊥
+  right-sizes p q (inl f) = f p
+  right-sizes p q (inr f) = omega arith
+
+  all-later : ((i : ℕ) → i < t .«months_size» → laterAt t i ≡ true) → RowNotLater t → ⊥
+  all-later h (i, g, e) = true≢false (sym (h i g) ∙ e)
+
+  all-steps : ((i : ℕ) → i < t .«months_size» → StepAt t i) → NotOneStep t → ⊥
+  all-steps h (i, g, f) = f (h i g)
+
 module _ {A : Type 0} {o : Outcome A} where
   not-both : {a : A} {n : ℕ} → o ≡ answer a → o ≡ refusal n → ⊥
   not-both p q = let z : _≡_ {A = ℕ} 0 1 = cc in omega arith
@@ -66,6 +78,14 @@ module _ {A : Type 0} {o : Outcome A} where
         to k (inl f) = absurd (c (f .0))
         to k (inr f) = d .refuses k (f .1)
 
+    -- back: past a reason that there is not
+    pub past : (C → ⊥) → Decided o (refuse n C l) → Decided o l
+    past c d = record { refuses = λ k f. d .refuses k (inr (c, f)); only = λ k r. back k (d .only k r); answers = λ u. d .answers (c, u); no-reason = λ a f. d .no-reason a f .1 }
+      where
+        back : (k : ℕ) → FirstReason k (refuse n C l) → FirstReason k l
+        back k (inl f) = absurd (c (f .0))
+        back k (inr f) = f .1
+
   -- by a test of two answers
   pub by-test : {n : ℕ} {l : Ladder} (b w : Bool) → (b ≡ w → o ≡ refusal n) → ((b ≡ w → ⊥) → Decided o l) → Decided o (refuse n (b ≡ w) l)
   by-test true true p q = stops refl (p refl)
@@ -84,16 +104,6 @@ module _ {A : Type 0} {o : Outcome A} where
     abbrev S : ℕ
     S = t .«seconds_size»
 
-    right-sizes : M ≡ S → M ≤ 16 → WrongSizes t → ⊥
-    right-sizes p q (inl f) = f p
-    right-sizes p q (inr f) = omega arith
-
-    all-later : ((i : ℕ) → i < M → laterAt t i ≡ true) → RowNotLater t → ⊥
-    all-later h (i, g, e) = true≢false (sym (h i g) ∙ e)
-
-    all-steps : ((i : ℕ) → i < M → StepAt t i) → NotOneStep t → ⊥
-    all-steps h (i, g, f) = f (h i g)
-
     wrong-sizes : (M ≡ S → 16 < M) → WrongSizes t
     wrong-sizes h = go (eqb M S) refl
       where
@@ -106,9 +116,9 @@ module _ {A : Type 0} {o : Outcome A} where
       where
         go : Decision t → Decided o (tableFirst t l)
         go (sizes f e) = stops (wrong-sizes f) (turned-away 20 e)
-        go (order p q i g f e) = passes (right-sizes p q) (stops (i, g, f) (turned-away 21 e))
-        go (step p q r i g f e) = passes (right-sizes p q) (passes (all-later r) (stops (i, g, f) (turned-away 22 e)))
-        go (taken p q r s e) = passes (right-sizes p q) (passes (all-later r) (passes (all-steps s) (h e)))
+        go (order p q i g f e) = passes (right-sizes t p q) (stops (i, g, f) (turned-away 21 e))
+        go (step p q r i g f e) = passes (right-sizes t p q) (passes (all-later t r) (stops (i, g, f) (turned-away 22 e)))
+        go (taken p q r s e) = passes (right-sizes t p q) (passes (all-later t r) (passes (all-steps t s) (h e)))
 
   -- ---- a date's three
   module _ (y m d : ℤ) (l : Ladder) (date-refused : (n : ℕ) → validDate y m d ≡ refusal n → o ≡ refusal n) where
@@ -152,3 +162,13 @@ module _ {A : Type 0} {o : Outcome A} where
         go : (b : Bool) → accepted x y ≡ b → Decided o (partsThen x y l)
         go false e = stops e (no-date (stopped _ (refused x y e)))
         go true e = passes (not-false (accepted x y) e) (by-year (dateIn x y) l (gregorian-refusal (dayOf x y .day)) (early (given e)) (h (given e)))
+
+-- ---- of a table that is taken only what comes after decides
+pub after-table : {A : Type 0} {o : Outcome A} {l : Ladder} (t : LentRows) (rows : List Row) → tableOf t ≡ answer rows → Decided o (tableFirst t l) → Decided o l
+after-table {o = o} {l} t rows e d = go (table-decided t)
+  where
+    go : Decision t → Decided o l
+    go (sizes g p) = absurd (not-both e p)
+    go (order a b i g h p) = absurd (not-both e p)
+    go (step a b c i g h p) = absurd (not-both e p)
+    go (taken a b c f p) = past (all-steps t f) (past (all-later t c) (past (right-sizes t a b) d))

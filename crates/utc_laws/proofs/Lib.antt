@@ -5,3 +5,4 @@ pub mod UnixDates
 pub mod UnixClock
 pub mod NewDecided
 pub mod TextDecided
+pub mod Witnesses
