@@ -55,8 +55,8 @@ module _ (t : LentRows) where
   offset-decided y m d f = decided-by (λ rows. offsetByRule rows y m d f) _ (by-test (inDay f) false
       (λ e. stopped _ (Offsets.fraction-refused rows y m d f e))
       (λ n. let i = is-true (inDay f) n in by-date y m d done
-        (λ k e. stopped _ (Offsets.date-refused rows y m d f i k (mjd-refused y m d k e)))
-        (λ v. reaches _ (went _ (Offsets.offset-given rows y m d f i _ (mjd-given y m d v))))))
+      (λ k e. stopped _ (Offsets.date-refused rows y m d f i k (mjd-refused y m d k e)))
+      (λ v. reaches _ (went _ (Offsets.offset-given rows y m d f i _ (mjd-given y m d v))))))
 
   -- ---- THE LEAP: 1, 2, 3 by the date, then 5 on the last date
   module _ (y m d : ℤ) where
@@ -96,5 +96,5 @@ module _ (t : LentRows) where
   from-calendar-decided y m d hour minute second = decided-by (λ rows. utcFromCalendar rows y m d hour minute second) _ (by-date y (pos m) (pos d) _
       (λ k e. date-refused rows y m d hour minute second k e)
       (λ v. by-test (lastDate y m d) true
-        (λ e. leap-refused rows y m d hour minute second v 5 (leap-as-next y (pos m) (pos d) 5 (no-next-day y (pos m) (pos d) v e)))
-        (λ n. time-decided y m d hour minute second v _ (leap-given rows y (pos m) (pos d) _ (next-day y (pos m) (pos d) v n)))))
+      (λ e. leap-refused rows y m d hour minute second v 5 (leap-as-next y (pos m) (pos d) 5 (no-next-day y (pos m) (pos d) v e)))
+      (λ n. time-decided y m d hour minute second v _ (leap-given rows y (pos m) (pos d) _ (next-day y (pos m) (pos d) v n)))))

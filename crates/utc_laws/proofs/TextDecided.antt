@@ -98,7 +98,7 @@ module _ (t : LentRows) where
               (λ p. stopped _ (stopped _ p))
               (λ p v. stopped _ (went _ p ∙ stopped _ (no-text 1 v)))
               (λ p v. let (text, q) = has-text p v in
-                subst (λ o. Decided o (refuse 11 TooLong done)) (sym (with-text text q p)) (by-room text (ruleOn rows D) (fields-given-by sheet rows jd F p ∙ q)))
+              subst (λ o. Decided o (refuse 11 TooLong done)) (sym (with-text text q p)) (by-room text (ruleOn rows D) (fields-given-by sheet rows jd F p ∙ q)))
 
     pub text-call-decided : (l out : List ℕ) (r : TextByRule) → TextRuleCall (byTable (λ rows. textByRule sheet rows jd)) l r out → Decided (textByRuleOutcome r) (textCallLadder sheet t jd (length l))
     text-call-decided l out r c = subst (λ o. Decided o (textCallLadder sheet t jd (length l))) (sym (c .says)) (written-decided (length l))

@@ -65,8 +65,7 @@ offset y m d f = plain (λ rows. offsetByRule rows y m d f)
 pub offset-numbers-occur : (offset (pos 2000) (pos 13) (pos 1) nan ≡ refusal 7) × (offset (negsuc 4799) (pos 12) (pos 31) nought ≡ refusal 1) × (offset (pos 2000) (pos 13) (pos 1) nought ≡ refusal 2) × (offset (pos 1900) (pos 2) (pos 29) nought ≡ refusal 3)
 unfolding inDay le lt eq daysInMonth lengths leapSize
 offset-numbers-occur =
-    let f = offset-decided none-lent in
-    (
+    let f = offset-decided none-lent in (
       decided (f (pos 2000) (pos 13) (pos 1) nan) .refuses 7 (inl (refl, refl)),
       decided (f (negsuc 4799) (pos 12) (pos 31) nought) .refuses 1 (inr (true≢false, inl (refl, refl))),
       decided (f (pos 2000) (pos 13) (pos 1) nought) .refuses 2 (inr (true≢false, inr (no, inl (refl, refl)))),
@@ -79,8 +78,7 @@ leap y m d = plain (λ rows. leapAtEndOfDay rows y m d)
 pub leap-numbers-occur : (leap (negsuc 4799) (pos 12) (pos 31) ≡ refusal 1) × (leap (pos 2000) (pos 13) (pos 1) ≡ refusal 2) × (leap (pos 1900) (pos 2) (pos 29) ≡ refusal 3) × (leap (pos 2147483647) (pos 12) (pos 31) ≡ refusal 5)
 unfolding daysInMonth lengths leapSize
 leap-numbers-occur =
-    let f = leap-decided none-lent in
-    (
+    let f = leap-decided none-lent in (
       decided (f (negsuc 4799) (pos 12) (pos 31)) .refuses 1 (inl (refl, refl)),
       decided (f (pos 2000) (pos 13) (pos 1)) .refuses 2 (inr (no, inl (refl, refl))),
       decided (f (pos 1900) (pos 2) (pos 29)) .refuses 3 (inr (no, inr (no, inl (refl, refl)))),
@@ -98,8 +96,7 @@ leap-on-2000 = (_, leap-given (rowsOf none-lent) (pos 2000) (pos 1) (pos 1) (dat
 pub from-calendar-numbers-occur : (fromCalendar (negsuc 4799) 12 31 0 ≡ refusal 1) × (fromCalendar (pos 2000) 13 1 0 ≡ refusal 2) × (fromCalendar (pos 1900) 2 29 0 ≡ refusal 3) × (fromCalendar (pos 2147483647) 12 31 0 ≡ refusal 5) × (fromCalendar (pos 2000) 1 1 24 ≡ refusal 4)
 unfolding daysInMonth lengths leapSize timeInDay
 from-calendar-numbers-occur =
-    let f = from-calendar-decided none-lent in
-    (
+    let f = from-calendar-decided none-lent in (
       decided (f (negsuc 4799) 12 31 0 0 nought) .refuses 1 (inl (refl, refl)),
       decided (f (pos 2000) 13 1 0 0 nought) .refuses 2 (inr (no, inl (refl, refl))),
       decided (f (pos 1900) 2 29 0 0 nought) .refuses 3 (inr (no, inr (no, inl (refl, refl)))),
