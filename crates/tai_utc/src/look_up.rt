@@ -110,11 +110,11 @@ pub(crate) fn rule_by(rows: usize) -> Rule
     if rows == 0 {
         return Rule::Absent;
     }
-    let i = rows - 1;
-    if i < 14 {
-        return Rule::Drifting(i as u32);
+    let row = rows - 1;
+    if row < 14 {
+        return Rule::Drifting(row as u32);
     }
-    Rule::Whole(i as u32)
+    Rule::Whole(row as u32)
 }
 
 // The rule of 15 or more rows: none of them drifts.

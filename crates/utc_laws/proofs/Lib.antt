@@ -21,3 +21,12 @@ pub mod Ends
 -- ExpandedTexts, HalfEvenTexts: document 02's two sheets.
 pub mod ExpandedTexts
 pub mod HalfEvenTexts
+-- Which refusals the calls give by every lent table, and exactly when. Ladders: of tables, dates and times. Decided, NewDecided, TextDecided: of each call; UnixDates,
+-- UnixClock: what a Unix time needs. Witnesses: each refusal does occur.
+pub mod Ladders
+pub mod Decided
+pub mod UnixDates
+pub mod UnixClock
+pub mod NewDecided
+pub mod TextDecided
+pub mod Witnesses

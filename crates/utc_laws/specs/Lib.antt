@@ -7,3 +7,6 @@ pub mod GoodSheet
 pub mod OneText
 -- Beside: two texts of one date, each written in its own way.
 pub mod Beside
+-- Ladder: an order of refusals. Ladders: those of the calls that read TAI-UTC.
+pub mod Ladder
+pub mod Ladders

@@ -23,3 +23,4 @@ pub mod Cases
 pub mod AllTwenty
 pub mod LentCalls
 pub mod ShortDay
+pub mod PassedRules

@@ -4,3 +4,4 @@ pub mod Literals
 pub mod Computed
 pub mod Cases
 pub mod ShortDay
+pub mod PassedRules

@@ -18,8 +18,8 @@ above k h = omega arith
 returns : tie.Need-returns
 returns c size months seconds h = rule-absent (rowsIn size months seconds) (c .before .args .rows) (c .if1 .taken)
 
-sub-i : tie.Need-sub-i
-sub-i c = search needs
+sub-row : tie.Need-sub-row
+sub-row c = search needs
 
 cast-t4 : tie.Need-cast-t4
 cast-t4 c = search needs
@@ -46,4 +46,4 @@ returns-3 c size months seconds h =
     (table-drifts t (lentSize t) (k - 1) (omega (arith, a, h, lent-size size months seconds)) ∙ ap not (le-ltb (k - 1) 14 (c .if2 .left)))
 
 pub rule-by-spec : {M : Type 1} → statement M
-rule-by-spec = tie.close (tie.spec returns sub-i cast-t4 returns-2 cast-t5 returns-3)
+rule-by-spec = tie.close (tie.spec returns sub-row cast-t4 returns-2 cast-t5 returns-3)
