@@ -66,7 +66,7 @@ class Library(unittest.TestCase):
         text = (ROOT / "python" / "README.md").read_text()
         result = doctest.testfile(str(ROOT / "python" / "README.md"), module_relative=False, globs={"ct": ct})
         self.assertEqual((result.failed, result.attempted > 0), (0, True))
-        program = "\n".join(line[4:] for line in re.search(r"## In a program\n\n((?:    .*\n)+)", text)[1].splitlines())
+        program = "\n".join(line[4:] for line in re.search(r"## In a program\n\n.*\n\n((?:    .*\n)+)", text)[1].splitlines())
         done = subprocess.run([sys.executable, "-c", program], cwd=ROOT / "python" / "examples", capture_output=True, text=True, env={**os.environ, "PYTHONPATH": str(ROOT / "python")})
         self.assertEqual((done.returncode, done.stderr), (0, ""))
         command = re.search(r"^    python/python3 (-m celestial_time lineup .*)$", text, re.M)[1]
