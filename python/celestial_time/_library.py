@@ -47,7 +47,7 @@ _LOOPS: dict[str, int] = {
     "ct_each_unix_time": 7,
     "ct_each_offset": 10,
     "ct_each_leap": 7,
-    "ct_each_text": 10,
+    "ct_each_text": 9,
     "ct_each_read": 10,
     "ct_each_read_utc": 13,
     "ct_each_week_date": 6,
