@@ -4,6 +4,7 @@
    The port and the Rust write an answer's bytes into a slot; ERFA writes its ints and doubles there,
    which on x86-64 are the same bytes. */
 #include <stddef.h>
+#include <stdio.h>
 
 #include "celestial_time.h"
 #include "erfa_calls.h"
@@ -348,3 +349,118 @@ static void place_ticks(const uint8_t *ticks)
 static void rising_ticks_loop(any *f) { (void)f, place_ticks(rising_ticks); }
 
 static void random_ticks_loop(any *f) { (void)f, place_ticks(random_ticks); }
+
+/* ---- runs: one round is one run of all inputs, counted per stamp. The parts of the stamps are those of the block. Of the Rust and of ERFA the driver makes a
+   run by their single calls. */
+
+static double run_out[2][INPUTS];
+static uint8_t run_numbers[INPUTS];
+
+static void run_loop(uint32_t from, uint32_t to)
+{
+    int64_t refused = ct_convert_run(from, to, block + 8, 8 * INPUTS, block + 8 + 8 * INPUTS, 8 * INPUTS, ct_no_rows, CT_TABLE_BYTES, (uint8_t *)run_out[0], 8 * INPUTS,
+                                     (uint8_t *)run_out[1], 8 * INPUTS, run_numbers, INPUTS);
+    shown = (const uint8_t *)run_out;
+    shown_length = refused == 0 ? sizeof run_out : 0;
+}
+
+static void gps_tai_run_loop(any *f) { (void)f, run_loop(CT_GPS, CT_TAI); }
+static void tai_tt_run_loop(any *f) { (void)f, run_loop(CT_TAI, CT_TT); }
+static void utc_tai_run_loop(any *f) { (void)f, run_loop(CT_UTC, CT_TAI); }
+static void tai_utc_run_loop(any *f) { (void)f, run_loop(CT_TAI, CT_UTC); }
+
+static void singles_run_loop(any *f)
+{
+    jd_call *call = (jd_call *)f;
+    double date[2];
+    EACH call(in[i].jd1, in[i].jd2, (uint8_t *)date, sizeof date), run_out[0][i] = date[0], run_out[1][i] = date[1];
+    shown = (const uint8_t *)run_out;
+    shown_length = sizeof run_out;
+}
+
+static void erfa_run_loop(any *f)
+{
+    erfa_jd_call *call = (erfa_jd_call *)f;
+    EACH call(in[i].jd1, in[i].jd2, &run_out[0][i], &run_out[1][i]);
+    shown = (const uint8_t *)run_out;
+    shown_length = sizeof run_out;
+}
+
+/* ---- texts that are read, 24 bytes each: with four digits of a fraction, and with three and a Z. The fields are 28 bytes, and the port's date of a UTC text stands
+   behind them. The Rust gives no fields with the date; there the port's stay. */
+
+enum { TEXT_BYTES = 24, FIELD_BYTES = 28 };
+
+typedef int64_t read_call(const uint8_t *, size_t, uint8_t *, size_t);
+typedef int64_t table_read_call(const uint8_t *, size_t, const uint8_t *, size_t, uint8_t *, size_t);
+
+static char plain_texts[INPUTS][TEXT_BYTES + 1], utc_texts[INPUTS][TEXT_BYTES + 1];
+static uint8_t wide[INPUTS][64];
+
+/* Whole numbers of two digits, and a year of four: with the remainders the compiler sees that a text fits. */
+static void make_text(const input *one, const char *end, unsigned digits, unsigned parts, char text[TEXT_BYTES + 1])
+{
+    snprintf(text, TEXT_BYTES + 1, "%04u-%02u-%02uT%02u:%02u:%02u.%0*u%s", (unsigned)one->year % 10000, (unsigned)one->month % 100, (unsigned)one->day % 100,
+             (unsigned)one->hour % 100, (unsigned)one->minute % 100, (unsigned)one->second % 100, (int)digits, parts, end);
+}
+
+static void make_texts(void)
+{
+    memset(wide, 0, sizeof wide);
+    EACH {
+        unsigned parts = (unsigned)(in[i].second * 10000.0) % 10000;
+        make_text(&in[i], "", 4, parts, plain_texts[i]);
+        make_text(&in[i], "Z", 3, parts / 10, utc_texts[i]);
+    }
+}
+
+/* The answers lie in `wide`, and there are none where a call refused: the signs of what the calls return are joined, one instruction a call. */
+static void show_wide(int64_t told)
+{
+    shown = wide[0];
+    shown_length = told < 0 ? 0 : sizeof wide;
+}
+
+static void read_loop(any *f)
+{
+    read_call *call = (read_call *)f;
+    int64_t told = 0;
+    EACH told |= call((const uint8_t *)plain_texts[i], TEXT_BYTES, wide[i], FIELD_BYTES);
+    show_wide(told);
+}
+
+static void read_utc_loop(table_read_call *call, const uint8_t *table)
+{
+    int64_t told = 0;
+    EACH told |= call((const uint8_t *)utc_texts[i], TEXT_BYTES, table, CT_TABLE_BYTES, wide[i], FIELD_BYTES + 16);
+    show_wide(told);
+}
+
+static void none_read_utc_loop(any *f) { read_utc_loop((table_read_call *)f, ct_no_rows); }
+static void sixteen_read_utc_loop(any *f) { read_utc_loop((table_read_call *)f, sixteen_rows); }
+
+static void rust_read_utc_loop(any *f)
+{
+    read_call *call = (read_call *)f;
+    int64_t told = 0;
+    EACH told |= call((const uint8_t *)utc_texts[i], TEXT_BYTES, wide[i] + FIELD_BYTES, 16);
+    show_wide(told);
+}
+
+/* ---- sentences: of numbers 1 to 28 with no value, and of each call a number whose sentence names a field */
+
+#define SENTENCE_LOOP(name, ...) \
+    static void name##_sentence_loop(any *f) \
+    { \
+        int64_t told = 0; \
+        (void)f; \
+        EACH told |= ct_##name(__VA_ARGS__, wide[i], CT_SENTENCE_BYTES); \
+        show_wide(told); \
+    }
+SENTENCE_LOOP(reason, 1 + (uint32_t)i % 28)
+SENTENCE_LOOP(date_reason, 3, in[i].year, in[i].month, 32 + in[i].day)
+SENTENCE_LOOP(time_reason, 4, (uint8_t)in[i].hour, (uint8_t)in[i].minute, 60.0 + in[i].second, 0.0)
+SENTENCE_LOOP(parts_reason, 6, in[i].jd1 + 1e9, in[i].jd2)
+SENTENCE_LOOP(float_reason, 7, 1.5 + in[i].fraction)
+SENTENCE_LOOP(count_reason, 8, 1000000000 + in[i].nanos)
+SENTENCE_LOOP(block_reason, 14, (uint64_t)in[i].unix_seconds << 20, 4000, 4000)

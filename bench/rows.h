@@ -28,6 +28,9 @@ typedef struct {
 #define LISTING(kind, set, rust, erfa) \
     {"listing per stamp, " kind, set, \
      {{port_listing_loop, NULL}, {driver_listing_loop, (any *)rust}, {driver_listing_loop, (any *)erfa}}}
+#define RUN(from, to) {from##_##to##_run_loop, NULL}, {singles_run_loop, (any *)rs_##from##_to_##to}
+#define UTC_READ(rows) {rows##_read_utc_loop, (any *)ct_utc_from_iso8601}, {rust_read_utc_loop, (any *)rs_utc_from_iso8601}
+#define SENTENCE(kind, name) {"sentence, " kind, LEAP_SECOND_YEARS, {{name##_sentence_loop, NULL}, NOT_IN_ERFA, NOT_IN_ERFA}}
 #define OWN "library's own digits"
 #define BY_HAND "digits by hand"
 
@@ -105,6 +108,20 @@ static const row rows[] = {
     {"place_ticks per tick, rising", LEAP_SECOND_YEARS, {{rising_ticks_loop, NULL}, NOT_IN_ERFA, NOT_IN_ERFA}},
     {"place_ticks per tick, by chance", LEAP_SECOND_YEARS, {{random_ticks_loop, NULL}, NOT_IN_ERFA, NOT_IN_ERFA}},
     {"block_stamps", LEAP_SECOND_YEARS, {PORT_ALONE(stamps_loop, block_stamps)}},
+    {"run per stamp, GPS to TAI", LEAP_SECOND_YEARS, {RUN(gps, tai), NOT_IN_ERFA}},
+    {"run per stamp, TAI to TT", LEAP_SECOND_YEARS, {RUN(tai, tt), BY_ERFA(erfa_run_loop, eraTaitt)}},
+    {"run per stamp, UTC to TAI", LEAP_SECOND_YEARS, {RUN(utc, tai), BY_ERFA(erfa_run_loop, eraUtctai)}},
+    {"run per stamp, TAI to UTC", LEAP_SECOND_YEARS, {RUN(tai, utc), BY_ERFA(erfa_run_loop, eraTaiutc)}},
+    {"parse_iso8601", LEAP_SECOND_YEARS, {BOTH(read_loop, parse_iso8601), NOT_IN_ERFA}},
+    {"UTC of a text", LEAP_SECOND_YEARS, {UTC_READ(none), NOT_IN_ERFA}},
+    {"UTC of a text, 16 lent rows", LEAP_SECOND_YEARS, {UTC_READ(sixteen), NOT_IN_ERFA}},
+    SENTENCE("number alone", reason),
+    SENTENCE("a day", date_reason),
+    SENTENCE("a second", time_reason),
+    SENTENCE("a sum of parts", parts_reason),
+    SENTENCE("a fraction", float_reason),
+    SENTENCE("nanoseconds", count_reason),
+    SENTENCE("a block's length", block_reason),
     LISTING(OWN, LEAP_SECOND_YEARS, rs_to_iso8601, erfa_text),
     LISTING(BY_HAND, LEAP_SECOND_YEARS, rust_text_by_hand, erfa_text_by_hand),
 };

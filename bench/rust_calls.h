@@ -25,6 +25,8 @@ int64_t rs_utc_from_calendar(int32_t year, uint8_t month, uint8_t day, uint8_t h
                              double second, uint8_t *out, size_t out_len);
 int64_t rs_utc_new(int64_t seconds, uint32_t nanos, uint8_t *out, size_t out_len);
 int64_t rs_to_iso8601(double jd1, double jd2, uint8_t *out, size_t out_len);
+int64_t rs_parse_iso8601(const uint8_t *text, size_t text_len, uint8_t *out, size_t out_len);
+int64_t rs_utc_from_iso8601(const uint8_t *text, size_t text_len, uint8_t *out, size_t out_len); /* the date alone */
 
 int64_t rs_gps_to_tai(double jd1, double jd2, uint8_t *out, size_t out_len);
 int64_t rs_tai_to_gps(double jd1, double jd2, uint8_t *out, size_t out_len);

@@ -165,6 +165,30 @@ pub extern "C" fn rs_to_iso8601(jd1: f64, jd2: f64, out: *mut u8, len: usize) ->
     put(UTC::from_julian_date(JulianDate::new(jd1, jd2)).to_iso8601(), out, len)
 }
 
+// The caller lends `len` bytes at `text`. What is no UTF-8 is none of the driver's texts.
+fn text_of(text: *const u8, len: usize) -> &'static str {
+    unsafe { std::str::from_utf8_unchecked(std::slice::from_raw_parts(text, len)) }
+}
+
+fn fields((y, m, d, h, n, s): (i32, u8, u8, u8, u8, f64)) -> [u8; 28] {
+    let mut bytes = [0; 28];
+    bytes[..12].copy_from_slice(&ymd((y, m as i32, d as i32)));
+    bytes[12..16].copy_from_slice(&(h as i32).to_le_bytes());
+    bytes[16..20].copy_from_slice(&(n as i32).to_le_bytes());
+    bytes[20..].copy_from_slice(&s.to_le_bytes());
+    bytes
+}
+
+#[no_mangle]
+pub extern "C" fn rs_parse_iso8601(text: *const u8, text_len: usize, out: *mut u8, len: usize) -> i64 {
+    put(Opened::parse_iso8601(text_of(text, text_len)).map(fields), out, len)
+}
+
+#[no_mangle]
+pub extern "C" fn rs_utc_from_iso8601(text: *const u8, text_len: usize, out: *mut u8, len: usize) -> i64 {
+    put(text_of(text, text_len).parse::<UTC>().map(|t| date(t.to_julian_date())), out, len)
+}
+
 macro_rules! conversions {
     ($($name:ident: $from:ident $method:ident;)*) => {$(
         #[no_mangle]

@@ -14,7 +14,7 @@ from ._library import check_float_mode
 from .refusals import Refused
 
 BUFFER = 1 << 16
-FLOAT, INT, NUMBER = "<f8", "<i4", "u1"
+FLOAT, INT, LONG, NUMBER = "<f8", "<i4", "<i8", "u1"
 _PLAIN = (np.ndarray, np.memmap)
 
 
@@ -85,18 +85,19 @@ def whole(name: str, value: ArrayLike, dtype: str) -> NDArray[Any]:
 
 
 def small(name: str, value: ArrayLike) -> NDArray[Any]:
-    """A month, day, hour or minute for a call that takes 8 bits: what does not fit becomes 255, which the call refuses by the same number.
+    """A month, day, hour or minute for a call that takes 8 bits, as whole numbers that fit 64 bits: of what does not fit 8, the loop hands 255 over.
 
     >>> small('month', [12, 13, -1, 1000])
-    array([ 12,  13, 255, 255], dtype=uint8)
+    array([  12,   13,   -1, 1000])
+    >>> small('month', np.array([12, 1 << 63], np.uint64))
+    array([ 12, 256])
     """
     array = as_array(name, value)
     if array.dtype.kind not in "iu" and array.size:
         raise TypeError(f"{name} is of type {array.dtype} and not of whole numbers")
-    if array.dtype == np.uint8:
+    if np.can_cast(array.dtype, LONG, "safe"):
         return array
-    held = array.astype("u1")
-    return np.where((array < 0) | (array > 255), np.uint8(255), held)
+    return np.asarray(np.minimum(array, array.dtype.type(256)) if array.size else array).astype(LONG)
 
 
 def lent(out: Sequence[Any] | None, gives: Sequence[Field], shape: tuple[int, ...]) -> list[NDArray[Any] | None]:
@@ -175,10 +176,51 @@ def each(
     shape = common_shape(takes)
     places = lent(out, gives, shape)
     check_float_mode()
-    single = shape == () and out is None
+    arrays = [array for _, array in takes]
+    if _lie_ready(arrays, dtypes, shape) and _are_apart(arrays, places, gives):
+        answers = [np.empty(shape, field.dtype) if place is None else place for place, field in zip(places, gives)]
+        _as_they_lie(name, loop, [*arrays, *answers])
+    else:
+        answers = _walked(name, loop, arrays, dtypes, places, gives)
+    if shape != () or out is not None:
+        return tuple(answers)
+    values = tuple(answer.item() for answer in answers)
+    if gives[-1].name == "numbers" and values[-1]:
+        raise Refused(values[-1], name, {argument: array.item() for argument, array in takes})
+    return values
+
+
+def _lie_ready(arrays: Sequence[NDArray[Any]], dtypes: Sequence[str], shape: tuple[int, ...]) -> bool:
+    """Whether all are of the loop's types and of one shape, each in one piece."""
+    return all(
+        array.dtype == dtype and array.shape == shape and array.flags.c_contiguous and array.flags.aligned for array, dtype in zip(arrays, dtypes)
+    )
+
+
+def _are_apart(arrays: Sequence[NDArray[Any]], places: Sequence[NDArray[Any] | None], gives: Sequence[Field]) -> bool:
+    """Whether the lent arrays are the loop's, too, and lie apart from the arguments."""
+    lent_places = [(place, field.dtype) for place, field in zip(places, gives) if place is not None]
+    return all(
+        _lie_ready([place], [dtype], place.shape) and not any(np.may_share_memory(place, array) for array in arrays) for place, dtype in lent_places
+    )
+
+
+def _as_they_lie(name: str, loop: Callable[..., int], arrays: Sequence[NDArray[Any]]) -> None:
+    """Arrays that each lie in one piece, handed over where they lie; in stretches, so that a long call can be interrupted between two."""
+    steps = [(address_of(array), array.itemsize) for array in arrays]
+    for first in range(0, arrays[0].size, BUFFER):
+        code = loop(min(BUFFER, arrays[0].size - first), *(address + size * first for address, size in steps))
+        if code < 0:
+            raise Refused(-code, name)
+
+
+def _walked(
+    name: str, loop: Callable[..., int], arrays: Sequence[NDArray[Any]], dtypes: Sequence[str], places: Sequence[NDArray[Any] | None], gives: Sequence[Field]
+) -> list[Any]:
+    """Arrays of any make, walked over by numpy, which casts, swaps and broadcasts through a buffer."""
     # Without nditer's flag `contig`: with it numpy 1.24 leaves a buffer unfilled where one value of another type is broadcast.
-    operands: Any = [array for _, array in takes] + places
-    flags: Any = [["readonly", "aligned"]] * len(takes) + [["writeonly", "allocate", "aligned", "no_broadcast"]] * len(gives)
+    operands: Any = [*arrays, *places]
+    flags: Any = [["readonly", "aligned"]] * len(arrays) + [["writeonly", "allocate", "aligned", "no_broadcast"]] * len(gives)
     walk = np.nditer(
         operands,
         flags=["external_loop", "buffered", "zerosize_ok", "copy_if_overlap"],
@@ -189,14 +231,8 @@ def each(
     )
     with walk:
         for stretch in walk:
-            _in_one_piece(name, loop, stretch[: len(takes)], stretch[len(takes) :])
-        answers = [kept if kept is not None else made for kept, made in zip(places, walk.operands[len(takes) :])]
-    if not single:
-        return tuple(answers)
-    values = tuple(answer.item() for answer in answers)
-    if gives[-1].name == "numbers" and values[-1]:
-        raise Refused(values[-1], name, {argument: array.item() for argument, array in takes})
-    return values
+            _in_one_piece(name, loop, stretch[: len(arrays)], stretch[len(arrays) :])
+        return [kept if kept is not None else made for kept, made in zip(places, walk.operands[len(arrays) :])]
 
 
 def _in_one_piece(name: str, loop: Callable[..., int], taken: Sequence[NDArray[Any]], given: Sequence[NDArray[Any]]) -> None:

@@ -56,6 +56,7 @@ _LOOPS: dict[str, int] = {
     "ct_each_compare": 7,
     "ct_each_equal": 6,
     "ct_each_difference": 6,
+    "ct_each_place": 6,
     "ct_each_same_stamp": 8,
     "ct_each_float_mode": 0,
     "ct_each_default_float_mode": 0,

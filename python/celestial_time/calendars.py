@@ -6,7 +6,7 @@ from typing import Any
 from numpy.typing import ArrayLike
 
 from ._answers import CalendarDates, Dates
-from ._arrays import FLOAT, INT, NUMBER, Field, each, floats, small, whole
+from ._arrays import FLOAT, INT, LONG, NUMBER, Field, each, floats, small, whole
 from ._library import function
 from .scales import SCALES, Out
 from .tables import Table, lent_table
@@ -66,7 +66,7 @@ def dtf2d(
     if scale == "utc":
         utc = function("ct_each_utc_time")
         loop = lambda n, *a: utc(rows.address, n, *a)
-    return Dates(*each("dtf2d", loop, takes, _DATES, [INT, *["u1"] * 4, FLOAT], out))
+    return Dates(*each("dtf2d", loop, takes, _DATES, [INT, *[LONG] * 4, FLOAT], out))
 
 
 def from_unix(seconds: ArrayLike, nanos: ArrayLike = 0, *, table: Table | None = None, out: Out = None) -> Dates:

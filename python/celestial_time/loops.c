@@ -3,8 +3,9 @@
    proved; these loops are tested (tests/python) and not proved, and decide nothing: what a call answers goes into the places of its stamp, and what it refuses by
    goes into the stamp's number.
 
-   A loop is named after the shape of its calls, and `call` is the call. `n` stamps; each array has n places. The number of an answered stamp is 0. In the places
-   of a refused one stand a NaN, the least number of the type, or a text of no byte. Returns how many are refused. An array of answers overlaps no other. */
+   A loop is named after the shape of its calls, and `call` is the call. `n` stamps; each array has n places. The number of an answered stamp is 0: all are set to
+   it at once, so that a loop has no more to do for one that is answered. In the places of a refused one stand a NaN, the least number of the type, or a text of no
+   byte. Returns how many are refused. An array of answers overlaps no other. */
 #include "celestial_time.h"
 
 #include <fenv.h>
@@ -31,10 +32,12 @@ static int32_t int_of(const uint8_t *bytes)
     return x;
 }
 
+/* The number of a refused stamp; that of another is 0 already. */
 static int put_number(int64_t code, uint8_t *number)
 {
-    *number = code < 0 ? (uint8_t)-code : 0;
-    return code < 0;
+    if (code >= 0) return 0;
+    *number = (uint8_t)-code;
+    return 1;
 }
 
 static int put_date(int64_t code, const uint8_t *bytes, double *out1, double *out2, uint8_t *number)
@@ -68,6 +71,7 @@ int64_t ct_each_date(date_call *call, size_t n, const double *jd1, const double 
 {
     uint8_t bytes[16];
     int64_t refused = 0;
+    memset(numbers, 0, n);
     for (size_t i = 0; i < n; i++)
         refused += put_date(call(jd1[i], jd2[i], bytes, sizeof bytes), bytes, out1 + i, out2 + i, numbers + i);
     return refused;
@@ -77,6 +81,7 @@ int64_t ct_each_shift(shift_call *call, size_t n, const double *jd1, const doubl
 {
     uint8_t bytes[16];
     int64_t refused = 0;
+    memset(numbers, 0, n);
     for (size_t i = 0; i < n; i++)
         refused += put_date(call(jd1[i], jd2[i], by[i], bytes, sizeof bytes), bytes, out1 + i, out2 + i, numbers + i);
     return refused;
@@ -87,6 +92,7 @@ int64_t ct_each_utc(table_call *call, const uint8_t *table, size_t n, const doub
 {
     uint8_t bytes[24];
     int64_t refused = 0;
+    memset(numbers, 0, n);
     for (size_t i = 0; i < n; i++) {
         int64_t code = call(jd1[i], jd2[i], table, CT_TABLE_BYTES, bytes, sizeof bytes);
         refused += put_date(code, bytes, out1 + i, out2 + i, numbers + i);
@@ -100,6 +106,7 @@ int64_t ct_each_utc_shift(table_shift_call *call, const uint8_t *table, size_t n
 {
     uint8_t bytes[24];
     int64_t refused = 0;
+    memset(numbers, 0, n);
     for (size_t i = 0; i < n; i++) {
         int64_t code = call(jd1[i], jd2[i], by[i], table, CT_TABLE_BYTES, bytes, sizeof bytes);
         refused += put_date(code, bytes, out1 + i, out2 + i, numbers + i);
@@ -114,6 +121,7 @@ int64_t ct_each_calendar_date(size_t n, const double *jd1, const double *jd2, in
 {
     uint8_t bytes[20];
     int64_t refused = 0;
+    memset(numbers, 0, n);
     for (size_t i = 0; i < n; i++) {
         int64_t code = ct_julian_to_calendar(jd1[i], jd2[i], bytes, sizeof bytes);
         year[i] = code < 0 ? INT32_MIN : int_of(bytes);
@@ -129,30 +137,40 @@ int64_t ct_each_midnight(size_t n, const int32_t *year, const int32_t *month, co
 {
     uint8_t bytes[16];
     int64_t refused = 0;
+    memset(numbers, 0, n);
     for (size_t i = 0; i < n; i++)
         refused += put_date(ct_calendar_to_julian(year[i], month[i], day[i], bytes, sizeof bytes), bytes, out1 + i, out2 + i, numbers + i);
     return refused;
 }
 
-int64_t ct_each_time(size_t n, const int32_t *year, const uint8_t *month, const uint8_t *day, const uint8_t *hour, const uint8_t *minute,
+/* A month, day, hour or minute as the call takes it: what does not fit 8 bits is handed over as 255, which the call refuses by the same number. */
+static uint8_t field_of(int64_t x)
+{
+    return x < 0 || x > 255 ? 255 : (uint8_t)x;
+}
+
+int64_t ct_each_time(size_t n, const int32_t *year, const int64_t *month, const int64_t *day, const int64_t *hour, const int64_t *minute,
                      const double *second, double *out1, double *out2, uint8_t *numbers)
 {
     uint8_t bytes[16];
     int64_t refused = 0;
+    memset(numbers, 0, n);
     for (size_t i = 0; i < n; i++) {
-        int64_t code = ct_from_calendar(year[i], month[i], day[i], hour[i], minute[i], second[i], bytes, sizeof bytes);
+        int64_t code = ct_from_calendar(year[i], field_of(month[i]), field_of(day[i]), field_of(hour[i]), field_of(minute[i]), second[i], bytes, sizeof bytes);
         refused += put_date(code, bytes, out1 + i, out2 + i, numbers + i);
     }
     return refused;
 }
 
-int64_t ct_each_utc_time(const uint8_t *table, size_t n, const int32_t *year, const uint8_t *month, const uint8_t *day, const uint8_t *hour,
-                         const uint8_t *minute, const double *second, double *out1, double *out2, uint8_t *numbers)
+int64_t ct_each_utc_time(const uint8_t *table, size_t n, const int32_t *year, const int64_t *month, const int64_t *day, const int64_t *hour,
+                         const int64_t *minute, const double *second, double *out1, double *out2, uint8_t *numbers)
 {
     uint8_t bytes[16];
     int64_t refused = 0;
+    memset(numbers, 0, n);
     for (size_t i = 0; i < n; i++) {
-        int64_t code = ct_utc_from_calendar(year[i], month[i], day[i], hour[i], minute[i], second[i], table, CT_TABLE_BYTES, bytes, sizeof bytes);
+        int64_t code = ct_utc_from_calendar(year[i], field_of(month[i]), field_of(day[i]), field_of(hour[i]), field_of(minute[i]), second[i], table,
+                                            CT_TABLE_BYTES, bytes, sizeof bytes);
         refused += put_date(code, bytes, out1 + i, out2 + i, numbers + i);
     }
     return refused;
@@ -162,6 +180,7 @@ int64_t ct_each_unix_time(const uint8_t *table, size_t n, const int64_t *seconds
 {
     uint8_t bytes[16];
     int64_t refused = 0;
+    memset(numbers, 0, n);
     for (size_t i = 0; i < n; i++) {
         int64_t code = ct_utc_new(seconds[i], nanos[i], table, CT_TABLE_BYTES, bytes, sizeof bytes);
         refused += put_date(code, bytes, out1 + i, out2 + i, numbers + i);
@@ -176,6 +195,7 @@ int64_t ct_each_offset(const uint8_t *table, size_t n, const int32_t *year, cons
 {
     uint8_t bytes[16];
     int64_t refused = 0;
+    memset(numbers, 0, n);
     for (size_t i = 0; i < n; i++) {
         int64_t code = ct_get_tai_utc_offset(year[i], month[i], day[i], fraction[i], table, CT_TABLE_BYTES, bytes, sizeof bytes);
         seconds[i] = code < 0 ? NAN : float_of(bytes);
@@ -189,6 +209,7 @@ int64_t ct_each_leap(const uint8_t *table, size_t n, const int32_t *year, const 
 {
     uint8_t bytes[8];
     int64_t refused = 0;
+    memset(numbers, 0, n);
     for (size_t i = 0; i < n; i++) {
         int64_t code = ct_leap_at_end_of_day(year[i], month[i], day[i], table, CT_TABLE_BYTES, bytes, sizeof bytes);
         seconds[i] = code < 0 ? NAN : float_of(bytes);
@@ -204,6 +225,7 @@ int64_t ct_each_text(text_call *call, const uint8_t *table, size_t width, size_t
 {
     uint8_t bytes[CT_RULE_BYTES];
     int64_t refused = 0;
+    memset(numbers, 0, n);
     for (size_t i = 0; i < n; i++) {
         uint8_t *text = texts + width * i;
         int64_t code = call(jd1[i], jd2[i], table, CT_TABLE_BYTES, text, width, bytes, sizeof bytes);
@@ -233,6 +255,7 @@ int64_t ct_each_read(size_t width, size_t n, const uint8_t *texts, int32_t *year
     int32_t *const fields[5] = {year, month, day, hour, minute};
     uint8_t bytes[28];
     int64_t refused = 0;
+    memset(numbers, 0, n);
     for (size_t i = 0; i < n; i++) {
         const uint8_t *text = texts + width * i;
         int64_t code = ct_parse_iso8601(text, text_length(text, width), bytes, sizeof bytes);
@@ -248,6 +271,7 @@ int64_t ct_each_read_utc(const uint8_t *table, size_t width, size_t n, const uin
     int32_t *const fields[5] = {year, month, day, hour, minute};
     uint8_t bytes[44];
     int64_t refused = 0;
+    memset(numbers, 0, n);
     for (size_t i = 0; i < n; i++) {
         const uint8_t *text = texts + width * i;
         int64_t code = ct_utc_from_iso8601(text, text_length(text, width), table, CT_TABLE_BYTES, bytes, sizeof bytes);
@@ -263,6 +287,7 @@ int64_t ct_each_week_date(size_t n, const uint32_t *week, const uint32_t *millis
 {
     uint8_t bytes[16];
     int64_t refused = 0;
+    memset(numbers, 0, n);
     for (size_t i = 0; i < n; i++)
         refused += put_date(ct_gps_from_week(week[i], millis[i], bytes, sizeof bytes), bytes, out1 + i, out2 + i, numbers + i);
     return refused;
@@ -272,6 +297,7 @@ int64_t ct_each_week(size_t n, const double *jd1, const double *jd2, int32_t *we
 {
     uint8_t bytes[8];
     int64_t refused = 0;
+    memset(numbers, 0, n);
     for (size_t i = 0; i < n; i++) {
         int64_t code = ct_gps_to_week(jd1[i], jd2[i], bytes, sizeof bytes);
         week[i] = code < 0 ? INT32_MIN : int_of(bytes);
@@ -284,6 +310,7 @@ int64_t ct_each_week(size_t n, const double *jd1, const double *jd2, int32_t *we
 int64_t ct_each_full_week(size_t n, const uint32_t *ten_bits, const uint32_t *reference, int32_t *week, uint8_t *numbers)
 {
     int64_t refused = 0;
+    memset(numbers, 0, n);
     for (size_t i = 0; i < n; i++) {
         int64_t code = ct_gps_full_week(ten_bits[i], reference[i]);
         week[i] = code < 0 ? INT32_MIN : (int32_t)code;
@@ -298,6 +325,7 @@ int64_t ct_each_full_week(size_t n, const uint32_t *ten_bits, const uint32_t *re
 int64_t ct_each_compare(size_t n, const double *jd1, const double *jd2, const double *other1, const double *other2, int8_t *order, uint8_t *numbers)
 {
     int64_t refused = 0;
+    memset(numbers, 0, n);
     for (size_t i = 0; i < n; i++) {
         int64_t code = ct_compare(jd1[i], jd2[i], other1[i], other2[i]);
         order[i] = code < 0 ? INT8_MIN : (int8_t)(code - 1);
@@ -315,6 +343,17 @@ int64_t ct_each_equal(size_t n, const double *jd1, const double *jd2, const doub
 int64_t ct_each_difference(size_t n, const double *jd1, const double *jd2, const double *other1, const double *other2, double *days)
 {
     for (size_t i = 0; i < n; i++) days[i] = ct_difference(jd1[i], jd2[i], other1[i], other2[i]);
+    return 0;
+}
+
+/* The run that a place of a line of three runs is in, counted from 0, and the stamp's place there; `second` and `third` are where these runs begin. */
+int64_t ct_each_place(size_t second, size_t third, size_t n, const uint32_t *places, uint8_t *run, uint32_t *stamp)
+{
+    for (size_t i = 0; i < n; i++) {
+        uint32_t at = places[i];
+        run[i] = (uint8_t)((at >= second) + (at >= third));
+        stamp[i] = at - (uint32_t)(at >= third ? third : at >= second ? second : 0);
+    }
     return 0;
 }
 

@@ -93,9 +93,8 @@ def _ordered(name: str, jd1: NDArray[Any], jd2: NDArray[Any], numbers: NDArray[A
     if code < 0:
         raise Refused(-code, name)
     places = places[:code]
-    starts = np.cumsum([0, *lengths])
-    run = (places >= starts[1]).view("u1") + (places >= starts[2]).view("u1")
-    stamp = places - starts.astype("<u4")[run]
+    run, stamp = np.empty(code, "u1"), np.empty(code, "<u4")
+    function("ct_each_place")(lengths[0], sum(lengths), code, *map(address_of, (places, run, stamp)))
     return Line(places, run, stamp, jd1, jd2, numbers, (*lengths, len(numbers) - sum(lengths)))
 
 

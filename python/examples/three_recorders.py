@@ -116,7 +116,7 @@ def draw_dead(axes: Any, recorded: Recorded) -> None:
     names = []
     for row, (scale, part) in enumerate(each_run(recorded)):
         dead = places_of_the_dead(time[part], line.numbers[part])
-        axes.plot(dead, np.full(len(dead), -row), "x", color="#b3001b", markersize=6, markeredgewidth=1.4)
+        axes.plot(dead, np.full(len(dead), -row), "|", color="#b3001b", markersize=13, markeredgewidth=1.2)
         names.append(f"{scale.upper()}, {len(dead)} dead")
     axes.set_yticks([0, -1, -2], names, fontsize=9)
     axes.set_ylim(-2.7, 0.7)
@@ -135,7 +135,7 @@ def picture(recorded: Recorded, file: str) -> None:
     matplotlib.use("Agg")
     from matplotlib import pyplot
 
-    figure, (clocks, line, dead) = pyplot.subplots(3, 1, figsize=(10, 8.5), dpi=110, gridspec_kw={"height_ratios": [5, 7, 2]})
+    figure, (clocks, line, dead) = pyplot.subplots(3, 1, figsize=(10, 8.5), dpi=110, layout="constrained", gridspec_kw={"height_ratios": [5, 8, 2]})
     line.sharex(dead)
     draw_clocks(clocks, recorded)
     draw_line(line, recorded)
@@ -145,7 +145,6 @@ def picture(recorded: Recorded, file: str) -> None:
     for axes in (clocks, line, dead):
         axes.grid(axis="y", color="#dddddd", linewidth=0.6)
         axes.spines[["top", "right"]].set_visible(False)
-    figure.tight_layout()
     figure.savefig(file, metadata={"Software": None})
 
 

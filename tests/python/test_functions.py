@@ -1,4 +1,5 @@
 """Every function that goes over stamps, against the single calls: on plain arrays, and on arrays of every other make."""
+import inspect
 import math
 import pickle
 import tempfile
@@ -9,7 +10,7 @@ import numpy as np
 
 import celestial_time as ct
 import singles
-from celestial_time import _arrays
+from celestial_time import _arrays, scales
 
 COUNT = 400
 
@@ -243,20 +244,73 @@ class Functions(unittest.TestCase):
             ct.gpstai([1.0, 2.0], 0.0, out=(one, one, None))
 
     def test_no_copies(self):
-        """Arrays in one piece are handed over where they lie: what the loops get are places in the arguments and in the answers."""
+        """Arrays in one piece are handed over where they lie: what the loop gets are the places of the arguments and of the answers, one stretch after the other."""
         jd1, jd2 = singles.dates(self.rng, 200000)
         handed = []
-        kept = _arrays._in_one_piece
+        kept = scales.function
         try:
-            _arrays._in_one_piece = lambda name, loop, *parts: (handed.append(parts), kept(name, loop, *parts))
+            scales.function = lambda name: lambda *given: (handed.append(given), kept(name)(*given))[1]
             for lent in (None, (np.empty(200000), np.empty(200000), np.empty(200000, "u1"))):
                 handed.clear()
                 answer = ct.utctai(jd1, jd2, out=lent)
-                self.assertEqual(sum(len(taken[0]) for taken, _ in handed), 200000)
-                for taken, given in handed:
-                    self.assertTrue(all(np.shares_memory(part, whole) for part, whole in zip((*taken, *given), (jd1, jd2, *answer))))
+                first = 0
+                for _, _, _, count, *addresses in handed:
+                    self.assertEqual(addresses, [_arrays.address_of(part[first:]) for part in (jd1, jd2, *answer)])
+                    first += count
+                self.assertEqual(first, 200000)
         finally:
-            _arrays._in_one_piece = kept
+            scales.function = kept
+
+    def test_many_stretches(self):
+        """Every function over more stamps than a stretch has, with refused ones in each, answers as over a few."""
+        times = _arrays.BUFFER // COUNT + 2
+        for case in self.every():
+            with self.subTest(case.name):
+                due = arrays_of(case.function(*case.inputs))
+                got = arrays_of(case.function(*(np.tile(part, times) for part in case.inputs)))
+                self.assertTrue(all(same(a, np.tile(b, times)) for a, b in zip(got, due)))
+
+    def test_nothing_around(self):
+        """What lies before and behind lent arrays stays, byte for byte."""
+        for case in self.every():
+            answer = case.function(*case.inputs)
+            held = [np.frombuffer(bytearray(b"\xa5" * (part.nbytes + 128)), "u1") for part in arrays_of(answer)]
+            lent = [whole[64:-64].view(part.dtype) for whole, part in zip(held, arrays_of(answer))]
+            with self.subTest(case.name):
+                case.function(*case.inputs, out=tuple(lent) if isinstance(answer, tuple) else lent[0])
+                self.assertTrue(all(map(same, lent, arrays_of(answer))))
+                self.assertTrue(all(bytes(whole[:64]) + bytes(whole[-64:]) == b"\xa5" * 128 for whole in held))
+
+    def test_lent_single_places(self):
+        """Single values with arrays of no dimension lent: the answer goes there, and a refusal's number too, with nothing raised."""
+        lent = np.zeros(()), np.zeros(()), np.zeros((), "u1")
+        self.assertTrue(all(a is b for a, b in zip(ct.gpstai(2451545.0, 0.25, out=lent), lent)))
+        self.assertEqual([part.item() for part in lent], list(ct.gpstai(2451545.0, 0.25)))
+        ct.gpstai(math.inf, 0.25, out=lent)
+        self.assertEqual((math.isnan(lent[0]), math.isnan(lent[1]), lent[2].item()), (True, True, 9))
+
+    def test_wrong_single_values(self):
+        """A single value that is no number, or not the call's, is an error that names the argument."""
+        for wrong in (True, None, "2451545", b"2451545", 1j, object(), np.datetime64("2000-01-01"), [[1.0], [1.0, 2.0]], {}):
+            with self.subTest(repr(wrong)), warnings.catch_warnings():
+                warnings.simplefilter("ignore")  # a ragged list: numpy says so before it refuses it
+                for call in (lambda: ct.gpstai(wrong, 0.0), lambda: ct.utctai(2451545.0, wrong), lambda: ct.cal2jd(2000, wrong, 1), lambda: ct.dtf2d("utc", 2000, wrong, 1, 0, 0, 0.0),
+                             lambda: ct.gps_from_week(wrong, 0), lambda: ct.from_unix(wrong)):
+                    with self.assertRaises((TypeError, ValueError)) as raised:
+                        call()
+                    self.assertNotIsInstance(raised.exception, ct.Refused)
+        for wrong in (1.5, 2000.0, np.float64(1.0)):
+            with self.assertRaises(TypeError):
+                ct.cal2jd(wrong, 1, 1)
+        for wrong in (1.5, None, 20000101, np.datetime64("2000-01-01")):
+            with self.assertRaises(TypeError):
+                ct.from_iso8601(wrong)
+
+    def test_every_function_is_here(self):
+        """Each public function that is lent places for its answers is held against the single calls above, or in test_runs."""
+        held = {case.name.replace(",", "").split()[0] for case in self.every()} | {"offsets_at_0h", "place_ticks"}
+        due = {name for name in ct.__all__ if inspect.isfunction(getattr(ct, name)) and "out" in inspect.signature(getattr(ct, name)).parameters}
+        self.assertEqual(held, due)
 
     def test_overlap(self):
         """Answers lent a place further on in an argument's own memory: the argument is read before it is overwritten."""
@@ -272,6 +326,10 @@ class Functions(unittest.TestCase):
                 given[...] = jd1
                 function(given, jd2, out=(None, to, *[None] * (len(due) - 2)))
                 self.assertTrue(same(to, due[1]))
+            given = jd1.copy()
+            numbers = given.view("u1")[3 : 3 + len(jd1)]  # in the bytes of the argument
+            got = function(given, jd2, out=(*[None] * (len(due) - 1), numbers))
+            self.assertTrue(all(map(same, got, due)))
 
     def test_interleaved(self):
         """The two parts lent as columns of one array."""
@@ -321,8 +379,11 @@ class Functions(unittest.TestCase):
             with self.assertRaises(OverflowError):
                 ct.gpstai(wrong, 0.0)
         self.assertEqual(ct.gpstai(1 << 53, 0).numbers, 0)
-        for small in (np.int8(-1), np.uint16(300), np.int64(-(1 << 63)), np.uint64((1 << 64) - 1), 256):
-            self.assertEqual(ct.dtf2d("utc", [2000], small, 1, 0, 0, 0.0).numbers.tolist(), [2])
+        # The lowest 8 bits of most are a month's.
+        for small in (np.int8(-1), np.uint16(300), np.int64(-(1 << 63)), np.uint64((1 << 64) - 1), 256, -251, 261, (1 << 32) + 5, np.uint64((1 << 63) + 5), np.int16(-250), np.uint32(3 << 24 | 5)):
+            for scale in ("utc", "tai"):
+                self.assertEqual(ct.dtf2d(scale, [2000], small, 1, 0, 0, 0.0).numbers.tolist(), [2])
+                self.assertEqual(ct.dtf2d(scale, [2000], 1, 1, small, 0, 0.0).numbers.tolist(), [4])
 
     def test_texts_in_unicode(self):
         given = ["2016-12-31T23:59:60.5Z", "2000-01-01T00:00:00", "zwölf", ""]

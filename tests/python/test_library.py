@@ -12,6 +12,7 @@ import re
 import subprocess
 import sys
 import tempfile
+import typing
 import unittest
 
 import numpy as np
@@ -56,6 +57,24 @@ class Library(unittest.TestCase):
                         signature = inspect.signature(target)
                         self.assertTrue(all(part.annotation is not part.empty for part in signature.parameters.values()))
                         self.assertIsNot(signature.return_annotation, signature.empty)
+
+                        if sys.version_info >= (3, 10):  # before that, a | of two types is no type yet
+                            self.assertIn("return", typing.get_type_hints(target))
+
+    def test_readme(self):
+        """The README's examples run, its second command begins as it says, and it names every public function."""
+        text = (ROOT / "python" / "README.md").read_text()
+        result = doctest.testfile(str(ROOT / "python" / "README.md"), module_relative=False, globs={"ct": ct})
+        self.assertEqual((result.failed, result.attempted > 0), (0, True))
+        program = "\n".join(line[4:] for line in re.search(r"## In a program\n\n.*\n\n((?:    .*\n)+)", text)[1].splitlines())
+        done = subprocess.run([sys.executable, "-c", program], cwd=ROOT / "python" / "examples", capture_output=True, text=True, env={**os.environ, "PYTHONPATH": str(ROOT / "python")})
+        self.assertEqual((done.returncode, done.stderr), (0, ""))
+        command = re.search(r"^    python/python3 (-m celestial_time lineup .*)$", text, re.M)[1]
+        begins = re.search(r"lines three recorders up and begins\n\n((?:    .*\n)+)", text)[1].replace("    ", "")
+        done = subprocess.run([sys.executable, *command.split()], cwd=ROOT, capture_output=True, text=True, env={**os.environ, "PYTHONPATH": "python"})
+        self.assertEqual((done.returncode, done.stdout[: len(begins)]), (0, begins))
+        named = set(re.findall(r"`(\w+)", text))
+        self.assertEqual({name for name in ct.__all__ if inspect.isfunction(getattr(ct, name))} - named, set())
 
     def test_loops_take_what_the_file_says(self):
         """The number of arguments of each loop, by loops.c."""

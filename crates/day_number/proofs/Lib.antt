@@ -59,3 +59,5 @@ pub mod SignedUnits
 -- Steps and DayInRange: what each step of the code computes is its definition's.
 pub mod Steps
 pub mod DayInRange
+-- Midnight: where the first part is a midnight, the second part's fraction is the sum.
+pub mod Midnight

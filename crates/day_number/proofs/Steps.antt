@@ -11,10 +11,10 @@ use Rattle.day_number.specs.declared.Borrowed.{Borrowed}
 use Rattle.day_number.specs.declared.Carried.{Carried}
 use Rattle.day_number.specs.DayNumber.{c-minus-eps-4, c-minus-eps-2, c-djmin, c-djmax, inJulianRange, compensation, kahanStart, addFraction, sumFractions, carryDay, besideBorrowed, kahanOf, borrowDay, normalizeFraction}
 
-pick : {A : Type 0} (b : Bool) (x y : A) → b ≡ true → x ≡ cond b x y
+pub pick : {A : Type 0} (b : Bool) (x y : A) → b ≡ true → x ≡ cond b x y
 pick b x y e = sym (ap (λ (u : Bool). cond u x y) e)
 
-skip : {A : Type 0} (b : Bool) (x y : A) → b ≡ false → y ≡ cond b x y
+pub skip : {A : Type 0} (b : Bool) (x y : A) → b ≡ false → y ≡ cond b x y
 skip b x y e = sym (ap (λ (u : Bool). cond u x y) e)
 
 -- ---- check_julian_range

@@ -6,6 +6,7 @@ ghost use lib.IntN.{pos, _+ℤ_, _-ℤ_};
 ghost use Rattle.day_number.specs.DayNumber as S;
 ghost use Rattle.day_number.specs.Answer.{dayOutcome, dayNumberAndFraction};
 ghost use Rattle.day_number.specs.Sums.{Sums};
+ghost use Rattle.floats.specs.NearestWhole.{nearestWhole};
 
 // A civil day by its Julian Day number, and the fraction of it since its midnight, from 0.0 to below 1.0.
 pub struct DayNumber {
@@ -194,13 +195,16 @@ fn total_day(a: i64, b: i64, carry: u64, more: u64, borrow: u64) -> i64
     a + b + (carry as i64) + ((more as i64) - (borrow as i64))
 }
 
-// The day and the fraction of a date whose rounded sum is in the range.
-fn day_in_range(jd1: f64, jd2: f64) -> DayNumber
-    requires { ⌜ S.accepted jd1 jd2 ≡ true ⌝ }
+// The day and the fraction by the sum of both parts' fractions.
+fn day_by_sums(
+    jd1: f64,
+    jd2: f64,
+    first: floats::NearestWhole,
+    second: floats::NearestWhole,
+) -> DayNumber
+    requires { ⌜ (S.accepted jd1 jd2 ≡ true) × (first ≡ nearestWhole jd1) × (second ≡ nearestWhole jd2) ⌝ }
     ensures { λ r. ⌜ r ≡ S.dayOf jd1 jd2 ⌝ }
 {
-    let first = floats::nearest_whole(jd1);
-    let second = floats::nearest_whole(jd2);
     let summed = sum_fractions(jd1 - first.value, jd2 - second.value);
     let kahan = summed.kahan;
     let end = normalize_fraction(kahan);
@@ -215,6 +219,38 @@ fn day_in_range(jd1: f64, jd2: f64) -> DayNumber
         day: day,
         fraction: end.fraction,
     }
+}
+
+// The day and the fraction of a date whose rounded sum is in the range. Where jd1 is a midnight, as mostly, its fraction takes the sum's 0.5 away: what is left is
+// jd2's fraction, of which a sum with 0.0 loses nothing, and with a day borrowed no more than its one rounding.
+fn day_in_range(jd1: f64, jd2: f64) -> DayNumber
+    requires { ⌜ S.accepted jd1 jd2 ≡ true ⌝ }
+    ensures { λ r. ⌜ r ≡ S.dayOf jd1 jd2 ⌝ }
+{
+    let first = floats::nearest_whole(jd1);
+    let second = floats::nearest_whole(jd2);
+    if jd1 - first.value == -0.5 {
+        let fraction = 0.0 + (jd2 - second.value);
+        if fraction >= 0.0 {
+            if fraction < 1.0 {
+                let day = total_day(first.number, second.number, 0, 0, 0);
+                return DayNumber {
+                    day: day,
+                    fraction: fraction,
+                };
+            }
+        } else if fraction > -1.0 {
+            let more = fraction + 1.0;
+            if more < 1.0 {
+                let day = total_day(first.number, second.number, 0, 0, 1);
+                return DayNumber {
+                    day: day,
+                    fraction: more,
+                };
+            }
+        }
+    }
+    day_by_sums(jd1, jd2, first, second)
 }
 
 // The day and the fraction of any two floats, or 6 where their rounded sum is outside the range.

@@ -1,6 +1,6 @@
 -- A refusal names its field: where a call of document 01 refuses by a number, the reason of that number with the call's values names the field that the call's test found
 -- wrong; and values that the test passes name none. Each law is of the landed definition of the call. Assumes nothing.
-use Prim.Native.Nat.{ℕ, _+_, _*_, _≤_, _<_}
+use Prim.Native.Nat.{ℕ, _+_, _*_, _/_, _%_, _≤_, _<_}
 use native.Mathlib.Omega.{arith}
 use mathlib.Core.Path.{_≡_, refl, sym, ap, _∙_}
 use mathlib.Core.Bool.{Bool, true, false, cond, not, _&&_, _||_}
@@ -16,6 +16,7 @@ use borrow.Author.Tests.{ltb-true, le-leb, ne-eqb}
 use Rattle.refusals.specs.Outcome.{Outcome, answer, refusal, onward}
 use Rattle.little_endian.specs.LittleEndian.{u32At}
 use Rattle.floats.specs.Whole.{nought}
+use Rattle.constants.specs.Constants.{unixEpochJd}
 use Rattle.calendar.specs.Calendar.{daysInMonth}
 use Rattle.calendar.specs.Refusals.{validDate}
 use Rattle.calendar.specs.DayCount.{mjdNumber, mjdOf}
@@ -26,8 +27,14 @@ use Rattle.julian.specs.declared.JulianDate.{JulianDate}
 use Rattle.julian.specs.JulianDate.{julian, roundedSum}
 use Rattle.julian.specs.DayFraction.{secondLimit, timeInDay, dayFraction}
 use Rattle.julian.specs.Finite.{finiteJd, finiteArg}
+use Rattle.julian.specs.declared.CalendarFields.{CalendarFields}
+use Rattle.julian.specs.Calendar.{julianToCalendar}
+use Rattle.julian_laws.proofs.CalendarDays.{only-six}
 use Rattle.tai_utc.specs.Table.{Row, monthNumber}
 use Rattle.tai_utc.specs.Offset.{offsetAt, inDay, taiUtcOffset}
+use Rattle.utc.specs.UnixTime.{unixDay, secondOfUnixDay, secondWithNanos, utcNew}
+use Rattle.utc.proofs.UnixTimes.{nanos-refused, day-refused, day-given}
+use Rattle.utc_laws.proofs.DateNumbers.{from-calendar-numbers}
 use Rattle.stamps.specs.Block.{blockOf}
 use Rattle.sentences.specs.declared.Named.{Named}
 use Rattle.sentences.specs.declared.Named.the-variants.{NoField, Year, Month, Day, Hour, Minute, Second, Sum, Fraction, Nanos, FirstPart, SecondPart, Offset, SecondSize, Size, WholeLength}
@@ -192,6 +199,45 @@ module _ (n : ℕ) where
   pub nanos-pass : ltb n 1000000000 ≡ true → offending 8 (Count n) ≡ NoField
   unfolding offending nanosField
   nanos-pass e = rw e
+
+-- of the ladder of UTC from Unix time no other step gives 8
+no-eight : (k : ℕ) → k ≡ 8 → ((k ≡ 1) ⊎ ((k ≡ 2) ⊎ (k ≡ 3))) ⊎ ((k ≡ 5) ⊎ (k ≡ 4)) → ⊥
+no-eight k h (inl (inl e)) = omega arith
+no-eight k h (inl (inr (inl e))) = omega arith
+no-eight k h (inl (inr (inr e))) = omega arith
+no-eight k h (inr (inl e)) = omega arith
+no-eight k h (inr (inr e)) = omega arith
+
+module _ (rows : List Row) (unix : ℤ) (nanos : ℕ) where
+  by-nanos : utcNew rows unix nanos ≡ refusal 8 → ltb nanos 1000000000 ≡ false
+  by-nanos e = go (ltb nanos 1000000000) refl
+    where
+      u : Float
+      u = ofInt binary64 (unixDay unix)
+
+      s : ℕ
+      s = secondOfUnixDay unix
+
+      by-day : ltb nanos 1000000000 ≡ true → (o : Outcome CalendarFields) → julianToCalendar unixEpochJd u ≡ o → ⊥
+      by-day p (refusal n) q = omega (arith, other (sym (day-refused rows unix nanos p n q) ∙ e), only-six unixEpochJd u n q)
+      by-day p (answer c) q =
+          no-eight 8 refl
+          (from-calendar-numbers rows (c .date .year) (c .date .month) (c .date .day) (s / 3600) (s % 3600 / 60) (secondWithNanos s nanos) 8
+          (day-given rows unix nanos p c q (c .date .year) s (secondWithNanos s nanos) refl refl refl ∙ e))
+
+      go : (b : Bool) → ltb nanos 1000000000 ≡ b → ltb nanos 1000000000 ≡ false
+      go false p = p
+      go true p = absurd (by-day p (julianToCalendar unixEpochJd u) refl)
+
+  pub unix-nanos-told : utcNew rows unix nanos ≡ refusal 8 → reasonOf 8 (Count nanos) ≡ names 8 (Nanos nanos)
+  unix-nanos-told e = nanos-told nanos (by-nanos e)
+
+  pub unix-nanos-pass : (d : JulianDate) → utcNew rows unix nanos ≡ answer d → offending 8 (Count nanos) ≡ NoField
+  unix-nanos-pass d e = go (ltb nanos 1000000000) refl
+    where
+      go : (b : Bool) → ltb nanos 1000000000 ≡ b → offending 8 (Count nanos) ≡ NoField
+      go true p = nanos-pass nanos p
+      go false p = absurd (no-refusal (sym (nanos-refused rows unix nanos p) ∙ e))
 
 -- ---- 9: the first part that is not finite
 module _ (d : JulianDate) where

@@ -17,7 +17,7 @@ use Rattle.digits.specs.Decimal.{last, digitsIn, digitsOf}
 use Rattle.digits.proofs.Decimal.{digits-few, digits-some}
 use Rattle.digits.specs.Hexadecimal.{hexDigit}
 use Rattle.sentences.proofs.Each.{EachBelow, from-each}
-use Rattle.sentences.specs.Texts.{texts, fixedText, paddedText}
+use Rattle.sentences.specs.Texts.{texts, fixedText}
 use Rattle.sentences.specs.Render.{signedDigits}
 
 -- ---- digits: room for more of them changes nothing
@@ -99,6 +99,15 @@ module _ {n rest i : ℕ} {all : List ℕ} (w : Behind n rest i all) where
     pub few-digits : rest < 10 → length (digitsOf n) ≤ 20
     few-digits m = omega (arith, ap length (sym (all-written m)), length-drop (i - 1) (set all (i - 1) (last rest)), length-set all (i - 1) (last rest), w .long)
 
+-- two digits at a time
+pub two-written : {n rest i : ℕ} {all : List ℕ} → Behind n rest i all → 1 ≤ i → 1 ≤ i - 1 → 100 ≤ rest
+    → Behind n (rest / 100) (i - 1 - 1) (set (set all (i - 1) (48 + rest % 100 % 10)) (i - 1 - 1) (48 + rest % 100 / 10))
+two-written {n} {rest} {i} {all} w h1 h2 m =
+    let a : rest % 100 % 10 ≡ rest % 10 = omega arith in
+    let b : rest % 100 / 10 ≡ rest / 10 % 10 = omega arith in
+    let c : rest / 100 ≡ rest / 10 / 10 = omega arith in
+    rw (a, b, c) (one-written (one-written w h1 (omega arith)) h2 (omega arith))
+
 -- ---- signs
 -- a signed number is its bits, read back
 pub back : (z : ℤ) → mag z < 2147483648 → toZ w32 (ofZ w32 z) ≡ z
@@ -159,8 +168,3 @@ each-in-turn = ((((((((((((((((tt, refl), refl), refl), refl), refl), refl), ref
 
 pub in-turn : (d : ℕ) → d < 16 → getD hexDigitsInTurn d 0 ≡ hexDigit d
 in-turn d h = from-each InTurn 16 each-in-turn d h
-
--- the text is in front of the blanks
-pub in-front : (k n : ℕ) (all : List ℕ) → all ≡ paddedText k → n ≡ length (fixedText k) → take n all ≡ fixedText k
-unfolding paddedText
-in-front k n all e h = ap (take n) e ∙ take-at (fixedText k) _ n (sym h)

@@ -7,6 +7,7 @@ use Prim.Native.String.{String}
 use Prim.Native.String as Native
 use mathlib.Core.List.{List, [], _∷_, _++_}
 use lib.ListN.{length, getD, replicate}
+use Rattle.little_endian.specs.LittleEndian.{eightBytes}
 
 -- the bytes of a text
 abbrev pub asciiBytes : String → List ℕ
@@ -51,6 +52,12 @@ texts =
 unfoldable pub fixedText : ℕ → List ℕ
 fixedText k = getD texts k []
 
--- the text with blanks behind it, 50 bytes in all; no contract of a public function cites it
+-- ---- what follows no contract of a public function cites
+-- the text with blanks behind it, 56 bytes in all
 unfoldable pub paddedText : ℕ → List ℕ
-paddedText k = fixedText k ++ replicate (50 - length (fixedText k)) 32
+paddedText k = fixedText k ++ replicate (56 - length (fixedText k)) 32
+
+-- numbers as their bytes, eight of each, the lowest first
+unfoldable pub inBytes : List ℕ → List ℕ
+inBytes [] = []
+inBytes (n ∷ ns) = eightBytes n ++ inBytes ns

@@ -6,7 +6,7 @@ use utc_text::TextAnswer;
 ghost use Prim.Native.Nat.{_≤_};
 ghost use lib.ListN.{length};
 ghost use Rattle.utc_text.specs.Answer.{TextPut};
-ghost use Rattle.digits.specs.Placed.{Placed};
+ghost use Rattle.sentences.specs.Begins.{Begins};
 ghost use Rattle.sentences.specs.Render.{render};
 
 // The field at fault, with its value.
@@ -38,7 +38,7 @@ pub struct Reason {
 // The sentence of any reason at the start of a slice that surely holds it.
 fn compose(reason: Reason, dst: &mut [u8]) -> usize
     requires { ⌜ 90 ≤ length (now dst) ⌝ }
-    ensures { λ r. ⌜ Placed (now (dst .entry)) 0 (render reason) r (now (dst .exit)) ⌝ }
+    ensures { λ r. ⌜ Begins (render reason) r (now (dst .exit)) ⌝ }
     ensures { λ r. ⌜ r ≤ 85 ⌝ }
 {
     let number = reason.number;

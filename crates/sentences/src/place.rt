@@ -15,7 +15,7 @@ pub(crate) fn bytes(src: &[u8], dst: &mut [u8], at: usize) -> usize
     at + bytes::copy(src, &mut dst[at..])
 }
 
-// A number in decimal, with no zeros in front: its digits from the last on, in a place that is long enough for all.
+// A number in decimal, with no zeros in front: its digits from the last on, two at a time, in a place that is long enough for all.
 pub(crate) fn decimal(n: u64, dst: &mut [u8], at: usize) -> usize
     requires { ⌜ at + 20 ≤ length (now dst) ⌝ }
     ensures { λ r. ⌜ Placed (now (dst .entry)) at (digitsOf n) r (now (dst .exit)) ⌝ }
@@ -24,13 +24,21 @@ pub(crate) fn decimal(n: u64, dst: &mut [u8], at: usize) -> usize
     let mut all = [0u8; 20];
     let mut rest = n;
     let mut i = 20;
-    while rest >= 10 {
+    while rest >= 100 {
+        let pair = (rest % 100) as u8;
         i -= 1;
-        all[i] = 48 + (rest % 10) as u8;
-        rest /= 10;
+        all[i] = 48 + pair % 10;
+        i -= 1;
+        all[i] = 48 + pair / 10;
+        rest /= 100;
     }
     i -= 1;
     all[i] = 48 + (rest % 10) as u8;
+    if rest >= 10 {
+        i -= 1;
+        all[i] = 48 + (rest / 10 % 10) as u8;
+        return bytes(&all[i..], dst, at);
+    }
     bytes(&all[i..], dst, at)
 }
 

@@ -5,7 +5,6 @@ use lib.ListN.{length}
 use denote.Ref.{now}
 use Rattle.utc_text.proofs.Laws.{short, put-done}
 use Rattle.sentences.specs.Render.{render}
-use Rattle.digits.proofs.Places.{placed-first}
 use borrow.Author.Needs.{needs}
 use Rattle.sentences.proofs.put_sentence.Statement.{statement}
 use Rattle.sentences.proofs.put_sentence.Tie as tie
@@ -28,12 +27,12 @@ array-share-prefix-all c = search needs
 slice-aggregate-copy : tie.Need-slice-aggregate-copy
 slice-aggregate-copy c =
     let p = c .before .before .before .compose .ensures .0 in
-    omega (arith, ap length (placed-first p), p .ends)
+    omega (arith, ap length (p .says), p .ends)
 
 copy-requires : tie.Need-copy-requires
 copy-requires c κs =
     let p = c .before .before .before .before .compose .ensures .0 in
-    omega (arith, ap length (placed-first p), p .ends, c .before .before .if1 .left)
+    omega (arith, ap length (p .says), p .ends, c .before .before .if1 .left)
 
 same-length : tie.Need-same-length
 same-length c = search needs
@@ -43,7 +42,7 @@ returns-2 c =
     let i = c .before .before .before .before .before in
     let m = i .before .before in
     let st = m .before .before .before in
-    put-done _ (render (st .args .reason)) (now (st .args .out)) _ _ (placed-first (m .compose .ensures .0)) (c .before .before .copy .ensures .0) (c .before .before .copy .ensures .1) (omega (arith, i .if1 .left, m .compose .ensures .0 .ends))
+    put-done _ (render (st .args .reason)) (now (st .args .out)) _ _ (m .compose .ensures .0 .says) (c .before .before .copy .ensures .0) (c .before .before .copy .ensures .1) (omega (arith, i .if1 .left, m .compose .ensures .0 .ends))
 
 pub put-sentence-spec : {M : Type 1} → statement M
 put-sentence-spec =
