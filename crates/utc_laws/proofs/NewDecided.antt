@@ -1,5 +1,5 @@
--- WHICH NUMBERS `UTC::new` GIVES, AND EXACTLY WHEN, by every lent table: its day in whole numbers, and 4 only past the end of a day that ends in a step back.
--- Assumes nothing.
+-- WHICH NUMBERS `UTC::new` GIVES, AND EXACTLY WHEN, by every lent table: its day in whole numbers, and 4 only past the end of a day that ends in a step back, which is from
+-- 1972 on second 86399 of a day with the leap -1.0. Assumes nothing.
 use mathlib.Core.Path.{_≡_, refl, sym, ap, subst, _∙_}
 use mathlib.Core.Bool.{Bool, true, false, not, true≢false}
 use mathlib.Core.Logic.{_⊎_}
@@ -16,6 +16,7 @@ use borrow.Author.Tests.{ltb-true, ltb-false}
 use mir.Syntax.{w64}
 use mir.Val.{SFits}
 use Rattle.refusals.specs.Outcome.{Outcome, answer, refusal, onward}
+use Rattle.floats.specs.Whole.{nought}
 use Rattle.refusals.proofs.Onward.{went, stopped}
 use Rattle.constants.specs.Constants.{decimal, unixEpochJd}
 use Rattle.calendar.specs.Calendar.{date}
@@ -29,11 +30,13 @@ use Rattle.julian.specs.declared.CalendarFields.{CalendarFields}
 use Rattle.julian.specs.DayFraction.{timeInDay}
 use Rattle.julian.specs.Calendar.{fields, julianToCalendar}
 use Rattle.tai_utc.specs.declared.LentRows.{LentRows}
-use Rattle.tai_utc.specs.Table.{Row}
+use Rattle.tai_utc.specs.Table.{Row, monthNumber}
+use Rattle.time_of_day.specs.ExactTime.{minus-one-f}
 use Rattle.tai_utc.specs.Lent.{rowsOf, tableOf}
 use Rattle.tai_utc.specs.Leap.{leapOf, leapAtEndOfDay}
 use Rattle.tai_utc.proofs.Days.{leap-came}
-use Rattle.leap_days.proofs.TableLeaps.{table-leap}
+use Rattle.leap_days.specs.Tables.{StepLeap, no-row, row-up, row-down}
+use Rattle.leap_days.proofs.TableLeaps.{table-leap, leap-is-step}
 use Rattle.utc.specs.FromCalendar.{utcFromCalendar}
 use Rattle.utc.specs.UnixTime.{unixDay, secondOfUnixDay, secondWithNanos, utcNew}
 use Rattle.utc_laws.proofs.FromCalendars.{date-refused, time-given}
@@ -44,7 +47,7 @@ use Rattle.utc_laws.specs.Ladder.{Ladder, done, refuse, Decided}
 use Rattle.utc_laws.specs.Ladders.{dateIn, newLadder, PastShortEnd, dayOutside, unixDate}
 use Rattle.utc_laws.proofs.Ladders.{reaches, stops, passes, by-year}
 use Rattle.utc_laws.proofs.UnixDates.{day-accepted, unix-date-is}
-use Rattle.utc_laws.proofs.UnixClock.{in-last-minute, not-in-day, steps-back}
+use Rattle.utc_laws.proofs.UnixClock.{in-last-minute, not-in-day, steps-back, only-last-second, last-second-past}
 use Rattle.leap_days.specs.Leaps as Leaps
 use Rattle.utc_laws.proofs.Decided.{decided-if, time-refused}
 
@@ -161,3 +164,28 @@ module _ (t : LentRows) where
         go : tableOf t ≡ answer rows → (b : Bool) → ltb nanos 1000000000 ≡ b → Decided (utcNew rows seconds nanos) (refuse 8 (1000000000 ≤ nanos) (refuse 6 (dayOutside n ≡ true) (refuse 1 (ltZ (on .year) (negsuc 4798) ≡ true) past-end)))
         go k false e = stops (ltb-false nanos 1000000000 e) (nanos-refused rows seconds nanos e)
         go k true e = passes (λ h. omega (arith, ltb-true nanos 1000000000 e)) (by-day k e (dayOutside n) refl)
+
+    -- ---- FROM 1972 ON 4 is given in second 86399 of a day with the leap -1.0, and in no other
+    pub four-from-1972 : tableOf t ≡ answer rows → nanos < 1000000000 → 23664 ≤ monthNumber (on .year) (on .month)
+        → (PastShortEnd rows on s nanos → (s ≡ 86399) × (leapAtEndOfDay rows (on .year) (pos (on .month)) (pos (on .day)) ≡ answer minus-one-f))
+        × ((s ≡ 86399) × (leapAtEndOfDay rows (on .year) (pos (on .month)) (pos (on .day)) ≡ answer minus-one-f) → PastShortEnd rows on s nanos)
+    unfolding ofBits lt
+    four-from-1972 k below h = (there, back)
+      where
+        by-step : {a b : ℕ} {x : Float} → StepLeap rows a b x → lt x nought ≡ true → x ≡ minus-one-f
+        by-step (no-row p e) q = absurd (true≢false (sym (sym (ap (λ (z : Float). lt z nought) e) ∙ q)))
+        by-step (row-up p r e) q = absurd (true≢false (sym (sym (ap (λ (z : Float). lt z nought) e) ∙ q)))
+        by-step (row-down p r e) q = e
+
+        minus-one : (x : Float) → leapAtEndOfDay rows (on .year) (pos (on .month)) (pos (on .day)) ≡ answer x → lt x nought ≡ true → x ≡ minus-one-f
+        minus-one x e q = let c = leap-came rows (on .year) (pos (on .month)) (pos (on .day)) x e in by-step (leap-is-step t rows k (on .year) (pos (on .month)) (pos (on .day)) (c .0) x h (c .1) e) q
+
+        there : PastShortEnd rows on s nanos → (s ≡ 86399) × (leapAtEndOfDay rows (on .year) (pos (on .month)) (pos (on .day)) ≡ answer minus-one-f)
+        there r =
+            let e = minus-one (r .leap) (r .leap-is) (r .step-back) in (
+              only-last-second s nanos (seconds-most seconds) below (r .last-minute) (sym (ap (λ (z : Float). lt (secondWithNanos s nanos) (add binary64 (decimal 60 0) z)) e) ∙ r .past),
+              r .leap-is ∙ ap answer e,
+            )
+
+        back : (s ≡ 86399) × (leapAtEndOfDay rows (on .year) (pos (on .month)) (pos (on .day)) ≡ answer minus-one-f) → PastShortEnd rows on s nanos
+        back (p, e) = record { leap = minus-one-f; leap-is = e; step-back = refl; last-minute = omega arith; past = last-second-past s nanos (seconds-most seconds) below p }
