@@ -25,6 +25,7 @@ _CALLS: dict[str, tuple[Any, ...]] = {
     "ct_place_ticks": _SLICE * 4,
     "ct_block_stamps": _SLICE,
     "ct_listing_part": (*_SLICE, _U32, *_SLICE * 2),
+    "ct_reason_listing_part": (*_SLICE, _U64, _U32, *_SLICE * 2),
     "ct_reason": (_U32, *_SLICE),
     "ct_date_reason": (_U32, _I32, _I32, _I32, *_SLICE),
     "ct_time_reason": (_U32, _U8, _U8, _F64, _F64, *_SLICE),

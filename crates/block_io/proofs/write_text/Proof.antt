@@ -1,10 +1,11 @@
--- `utc_listing::write_all` is safe and ends. The measure is the number of bytes that are left. Assumes nothing.
+-- `block_io::write_text` meets its contract. The measure is the number of bytes that are left. Assumes nothing.
 use lib.ListN.{length, length-take, length-drop}
 use Prim.Native.Nat.{_-_, _≤_, zero-le}
-use borrow.Author.Needs.{needs}
 use native.Mathlib.Omega.{arith}
-use Rattle.utc_listing.proofs.write_all.Statement.{statement}
-use Rattle.utc_listing.proofs.write_all.Tie as tie
+use borrow.Author.Needs.{needs}
+use Rattle.block_io.proofs.Counted.{counts}
+use Rattle.block_io.proofs.write_text.Statement.{statement}
+use Rattle.block_io.proofs.write_text.Tie as tie
 
 abbrev Inv-loop : tie.InvT-loop
 Inv-loop text done₀ done = done ≤ length text
@@ -30,9 +31,6 @@ write-requires c κs = search needs
 count-requires : tie.Need-count-requires Inv-loop μ-loop
 count-requires c κs = search needs
 
-returns : tie.Need-returns Inv-loop μ-loop
-returns c = search needs
-
 add-done : tie.Need-add-done Inv-loop μ-loop
 add-done c =
     let m = simp (length-take, length-drop) at (c .before .count .ensures .0 .0) in
@@ -48,11 +46,14 @@ loop-again c =
     let m = simp (length-take, length-drop) at (c .before .count .ensures .0 .0) in
     omega arith
 
-returns-2 : tie.Need-returns-2 Inv-loop μ-loop
-returns-2 c = search needs
+returns : tie.Need-returns Inv-loop μ-loop
+returns c = counts _ _ (search needs)
 
-pub write-all-spec : {M : Type 1} → statement M
-write-all-spec =
+returns-2 : tie.Need-returns-2 Inv-loop μ-loop
+returns-2 c = counts _ _ (search needs)
+
+pub write-text-spec : {M : Type 1} → statement M
+write-text-spec =
     tie.close
     (tie.spec
     Inv-loop
@@ -63,8 +64,8 @@ write-all-spec =
     part-rest-end
     write-requires
     count-requires
-    returns
     add-done
     loop-less
     loop-again
+    returns
     returns-2)

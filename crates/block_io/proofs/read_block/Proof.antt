@@ -1,17 +1,12 @@
--- `utc_listing::read_all` is safe, ends, and counts bytes of its space. The measure is the room that is left. Assumes nothing.
+-- `block_io::read_block` meets its contract. The measure is the room that is left. Assumes nothing.
 use lib.ListN.{length, length-take, length-drop}
-use lib.Seq.{length-take-le}
-use mathlib.Core.Path.{_≡_, refl, sym}
-use mathlib.Core.List.{List}
-use Prim.Native.Nat.{ℕ, _-_, _≤_, zero-le}
-use Rattle.io.specs.Counts.{Counts}
-use borrow.Author.Needs.{needs}
+use mathlib.Core.Path.{_≡_, refl}
+use Prim.Native.Nat.{_-_, _≤_, zero-le}
 use native.Mathlib.Omega.{arith}
-use Rattle.utc_listing.proofs.read_all.Statement.{statement}
-use Rattle.utc_listing.proofs.read_all.Tie as tie
-
-counts : (n : ℕ) (l : List ℕ) → n ≤ length l → Counts n l
-counts n l h = (h, sym (length-take-le n l h))
+use borrow.Author.Needs.{needs}
+use Rattle.block_io.proofs.Counted.{counts}
+use Rattle.block_io.proofs.read_block.Statement.{statement}
+use Rattle.block_io.proofs.read_block.Tie as tie
 
 abbrev Inv-loop : tie.InvT-loop
 Inv-loop space₀ done₀ space done = (done ≤ length space) × (length space ≡ length space₀)
@@ -34,8 +29,11 @@ part-read-end c = search needs
 read-requires : tie.Need-read-requires Inv-loop μ-loop
 read-requires c κs = search needs
 
-tell-unread-requires : tie.Need-tell-unread-requires Inv-loop μ-loop
-tell-unread-requires c κs = search needs
+same-length : tie.Need-same-length Inv-loop μ-loop
+same-length c = search needs
+
+returns : tie.Need-returns Inv-loop μ-loop
+returns c = counts _ _ (search needs)
 
 sub-count : tie.Need-sub-count Inv-loop μ-loop
 sub-count c = search needs
@@ -64,20 +62,20 @@ loop-again c =
     let m = simp (length-take, length-drop) at (c .before .count .ensures .0 .0) in
     (omega arith, omega arith)
 
-same-length : tie.Need-same-length Inv-loop μ-loop
-same-length c = search needs
-
-returns : tie.Need-returns Inv-loop μ-loop
-returns c = counts _ _ (c .before .loop .inv .0)
-
 same-length-2 : tie.Need-same-length-2 Inv-loop μ-loop
 same-length-2 c = search needs
 
 returns-2 : tie.Need-returns-2 Inv-loop μ-loop
 returns-2 c = counts _ _ (search needs)
 
-pub read-all-spec : {M : Type 1} → statement M
-read-all-spec =
+same-length-3 : tie.Need-same-length-3 Inv-loop μ-loop
+same-length-3 c = search needs
+
+returns-3 : tie.Need-returns-3 Inv-loop μ-loop
+returns-3 c = counts _ _ (search needs)
+
+pub read-block-spec : {M : Type 1} → statement M
+read-block-spec =
     tie.close
     (tie.spec
     Inv-loop
@@ -87,7 +85,8 @@ read-all-spec =
     part-read-start
     part-read-end
     read-requires
-    tell-unread-requires
+    same-length
+    returns
     sub-count
     part-count-start
     part-count-end
@@ -95,7 +94,7 @@ read-all-spec =
     add-done
     loop-less
     loop-again
-    same-length
-    returns
     same-length-2
-    returns-2)
+    returns-2
+    same-length-3
+    returns-3)
