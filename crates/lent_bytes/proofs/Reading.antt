@@ -121,12 +121,6 @@ module _ (n a b a′ b′ : ℕ) (m l : List ℤ) (p : a ≡ a′) (q : b ≡ b�
       by-arrays (lentTable a′ b′ m l) number (subst (λ (x : ℕ). Judged number (lentTable x b′ m l)) p (subst (λ (y : ℕ). Judged number (lentTable a y m l)) q e))
       ∙ of-length-136 n (tableOf (lentTable a′ b′ m l)) h
 
-  pub arrays-none : eqb a 0 && eqb b 0 ≡ true → answer (rowsIn (least a′ 16) m l) ≡ ofLength n (tableOf (lentTable a′ b′ m l))
-  arrays-none e =
-      let (x, y) = both-none a b e in
-      let f = table-none (lentTable a b m l) x y in
-      arrays-judged 0 (ap answer (none-rows (lentTable a b m l) f) ∙ sym f)
-
 -- what was read of the bytes is their table
 pub arrays-of-bytes : (s : List ℕ) (m l : List ℤ) → ReadFrom s 8 m → ReadFrom s 72 l → ofLength (length s) (tableOf (lentTable (u32At s 0) (u32At s 4) m l)) ≡ tableBytes s
 unfolding tableBytes

@@ -32,7 +32,7 @@ pub const BLOCK_LENGTH_WRONG: u32 = 14;
 pub const TEXT_OUTSIDE_GRAMMAR: u32 = 15;
 // A text's second has more than 13 digits after the point.
 pub const TOO_MANY_FRACTION_DIGITS: u32 = 16;
-// A date or a stamp is earlier than the one before it.
+// A date or a stamp is earlier than one before it.
 pub const EARLIER_THAN_BEFORE: u32 = 17;
 // A field of a GPS week is over its limit, or a date is before the first week or past the last.
 pub const GPS_FIELD_OVER_LIMIT: u32 = 18;

@@ -3,10 +3,10 @@ use Prim.Native.Nat.{ℕ, zero, suc, _+_, _*_, _<_, _≤_}
 use native.Mathlib.Omega.{arith}
 use native.Mathlib.Nat.{le-of-suc-le-suc}
 use native.Mathlib.Numerals.{add-one}
-use mathlib.Core.Path.{_≡_, refl, sym, ap, _∙_}
-use mathlib.Core.List.{List, [], _∷_, _++_, append-assoc}
+use mathlib.Core.Path.{_≡_, refl, sym, ap, _∙_, subst}
+use mathlib.Core.List.{List, [], _∷_, _++_, append-assoc, append-nil}
 use lib.ListN.{length, take, drop, getD, length-append}
-use lib.Seq.{sets, sets-eq, length-sets, take-at, take-all, take-take, length-take-le}
+use lib.Seq.{sets, sets-eq, length-sets, take-at, take-all, take-take, take-append-le, take-append-add, length-take-le}
 use Rattle.little_endian.specs.LittleEndian.{eightBytes}
 use Rattle.digits.specs.Placed.{pasted, Placed}
 use Rattle.sentences.specs.Texts.{fixedText, paddedText, inBytes}
@@ -73,3 +73,44 @@ begins-then {s} {t} {d} {after} {m} {r} a b le =
           ∙ take-at (take m d ++ t) (drop (m + length t) d) r l
           ∙ ap (λ (f : List ℕ). f ++ t) (a .says);
     }
+
+-- the same where the first text stands behind others
+pub behind-then : (d s : List ℕ) (at : ℕ) {t d′ after : List ℕ} {m r : ℕ} → Begins (take at d ++ s) m d′ → Placed d′ m t r after → m ≤ length d′ → Begins (take at d ++ (s ++ t)) r after
+behind-then d s at {t} {d′} {after} {m} {r} a b le = subst (λ (l : List ℕ). Begins l r after) (append-assoc (take at d) s t) (begins-then a b le)
+
+pub nothing-behind : (d : List ℕ) (at : ℕ) → at ≤ length d → Begins (take at d ++ []) at d
+nothing-behind d at h =
+    record { ends = sym (ap length (append-nil (take at d)) ∙ length-take-le at d h); says = sym (append-nil (take at d)) }
+
+-- a field's word: sixteen bytes, of which the first n count
+pub two-eights : (d d′ after : List ℕ) (at a b n : ℕ) → at + 16 ≤ length d → n ≤ 16
+    → d′ ≡ sets d at (eightBytes a) → after ≡ sets d′ (at + 8) (eightBytes b) → Begins (take at d ++ take n (eightBytes a ++ eightBytes b)) (at + n) after
+two-eights d d′ after at a b n h le ea eb =
+    let A : List ℕ = eightBytes a in
+    let B : List ℕ = eightBytes b in
+    let f : List ℕ = take at d in
+    let lf : length f ≡ at = length-take-le at d (omega arith) in
+    let l1 : length (f ++ A) ≡ at + 8 = length-append f A ∙ ap (λ (k : ℕ). k + 8) lf in
+    let ld : length d′ ≡ length d = ap length ea ∙ length-sets d at A in
+    let front : take (at + 8) d′ ≡ f ++ A = ap (take (at + 8)) (ea ∙ sets-eq A d at (omega arith)) ∙ take-at (f ++ A) (drop (at + 8) d) (at + 8) l1 in
+    let rest : List ℕ = drop (at + 8 + 8) d′ in
+    let whole : after ≡ f ++ ((A ++ B) ++ rest) =
+    eb
+    ∙ sets-eq B d′ (at + 8) (omega arith)
+    ∙ ap (λ (l : List ℕ). (l ++ B) ++ rest) front
+    ∙ ap (λ (l : List ℕ). l ++ rest) (append-assoc f A B)
+    ∙ append-assoc f (A ++ B) rest in
+    let t : take n ((A ++ B) ++ rest) ≡ take n (A ++ B) = take-append-le n (A ++ B) rest le in
+    record {
+      ends = sym (length-append f (take n (A ++ B)) ∙ (λ i. lf i + length-take-le n (A ++ B) le i));
+      says = ap (take (at + n)) whole
+          ∙ ap (λ (k : ℕ). take (k + n) (f ++ ((A ++ B) ++ rest))) (sym lf)
+          ∙ take-append-add f ((A ++ B) ++ rest) n
+          ∙ ap (λ (l : List ℕ). f ++ l) t;
+    }
+
+pub begins-as : (d : List ℕ) (at : ℕ) {t u after : List ℕ} {r : ℕ} → t ≡ u → Begins (take at d ++ t) r after → Begins (take at d ++ u) r after
+begins-as d at {t} {u} {after} {r} e b = subst (λ (l : List ℕ). Begins (take at d ++ l) r after) e b
+
+pub begins-both : (t : List ℕ) {s d after : List ℕ} {m r : ℕ} → Begins s m d → Begins (take m d ++ t) r after → Begins (s ++ t) r after
+begins-both t {s} {d} {after} {m} {r} a b = subst (λ (l : List ℕ). Begins (l ++ t) r after) (a .says) b

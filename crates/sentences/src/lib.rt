@@ -1,5 +1,6 @@
 // The sentence of a reason: a fixed text for the refusal's number and, where a field is at fault, the field's word and its value.
 mod place;
+mod texts;
 mod words;
 
 use utc_text::TextAnswer;
@@ -33,6 +34,21 @@ pub enum Named {
 pub struct Reason {
     pub number: u32,
     pub named: Named,
+}
+
+// A field's word with blanks behind it, as two numbers of eight bytes, the first byte the lowest, and the word's length.
+struct Word {
+    first: u64,
+    second: u64,
+    length: usize,
+}
+
+// A field's word, and its value by how it is shown: in decimal, with a sign or without, or by the float's bits.
+enum Shown {
+    Nothing,
+    Signed(Word, i32),
+    Whole(Word, u64),
+    Bits(Word, f64),
 }
 
 // The sentence of any reason at the start of a slice that surely holds it.

@@ -1,7 +1,7 @@
 -- `compose` meets its contract. Assumes nothing.
 use native.Mathlib.Omega.{arith}
-use Rattle.sentences.specs.Render.{render}
-use Rattle.sentences.proofs.Eights.{begins-then}
+use Rattle.sentences.specs.Render.{namedText, render}
+use Rattle.sentences.proofs.Eights.{begins-both}
 use borrow.Author.Needs.{needs}
 use Rattle.sentences.proofs.compose.Statement.{statement}
 use Rattle.sentences.proofs.compose.Tie as tie
@@ -21,7 +21,7 @@ returns c =
     let w = c .before .before in
     let t = w .before .before .before .before in
     let st = t .before .before .before in
-    (begins-then (t .text .ensures .0) (w .named .ensures .0) (omega (arith, t .text .ensures .1, st .pre)), omega (arith, w .named .ensures .1, t .text .ensures .1, st .pre))
+    (begins-both (namedText (st .args .reason .named)) (t .text .ensures .0) (w .named .ensures .0), omega (arith, w .named .ensures .1, t .text .ensures .1))
 
 pub compose-spec : {M : Type 1} → statement M
 compose-spec =

@@ -1,12 +1,14 @@
 -- `words::word_decimal` meets its contract. Assumes nothing.
 use native.Mathlib.Omega.{arith}
-use Rattle.digits.proofs.Places.{then}
+use denote.Ref.{now}
+use Rattle.sentences.specs.Shown.{wordText}
+use Rattle.sentences.proofs.Eights.{behind-then}
 use borrow.Author.Needs.{needs}
 use Rattle.sentences.proofs.words.word_decimal.Statement.{statement}
 use Rattle.sentences.proofs.words.word_decimal.Tie as tie
 
-bytes-requires : tie.Need-bytes-requires
-bytes-requires c κs = search needs
+word-requires : tie.Need-word-requires
+word-requires c κs = search needs
 
 decimal-requires : tie.Need-decimal-requires
 decimal-requires c κs = search needs
@@ -17,15 +19,9 @@ same-length c = search needs
 returns : tie.Need-returns
 returns c =
     let h = c .before .before in
-    let b = h .before .before .before .before in
-    let st = b .before .before .before .before in
-    (then (b .bytes .ensures) (h .decimal .ensures .0) (omega (arith, h .decimal .ensures .1, b .bytes .ensures .ends, st .pre)), omega (arith, h .decimal .ensures .1, b .bytes .ensures .ends, st .pre))
+    let w = h .before .before .before .before in
+    let st = w .before .before .before in
+    (behind-then (now (st .args .dst)) (wordText (st .args .w)) (st .args .at) (w .word .ensures .0) (h .decimal .ensures .0) (omega (arith, w .word .ensures .1, st .pre)), omega (arith, h .decimal .ensures .1, w .word .ensures .1, st .pre))
 
 pub word-decimal-spec : {M : Type 1} → statement M
-word-decimal-spec =
-    tie.close
-    (tie.spec
-    bytes-requires
-    decimal-requires
-    same-length
-    returns)
+word-decimal-spec = tie.close (tie.spec word-requires decimal-requires same-length returns)

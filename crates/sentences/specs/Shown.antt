@@ -1,0 +1,27 @@
+-- A field's word and its value as the code carries them. This project's own; no contract of a public function cites it. Assumes nothing.
+use Prim.Native.Nat.{ℕ, _≤_}
+use mathlib.Core.List.{List, [], _++_}
+use lib.ListN.{take}
+use Rattle.little_endian.specs.LittleEndian.{eightBytes}
+use Rattle.digits.specs.Decimal.{digitsOf}
+use Rattle.sentences.specs.declared.Word.{Word}
+use Rattle.sentences.specs.declared.Shown.{Shown}
+use Rattle.sentences.specs.declared.Shown.the-variants.{Nothing, Signed, Whole, Bits}
+use Rattle.sentences.specs.Render.{signedDigits, floatDigits}
+
+-- the word's own bytes
+unfoldable pub wordText : Word → List ℕ
+wordText w = take (w .length) (eightBytes (w .first) ++ eightBytes (w .second))
+
+unfoldable pub shownText : Shown → List ℕ
+shownText Nothing = []
+shownText (Signed w n) = wordText w ++ signedDigits n
+shownText (Whole w n) = wordText w ++ digitsOf n
+shownText (Bits w x) = wordText w ++ floatDigits x
+
+-- no word has more than 14 bytes
+unfoldable pub Short : Shown → Type 0
+Short Nothing = Unit
+Short (Signed w n) = w .length ≤ 14
+Short (Whole w n) = w .length ≤ 14
+Short (Bits w x) = w .length ≤ 14
