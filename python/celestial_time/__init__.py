@@ -11,7 +11,7 @@ other; a call with single values raises `Refused`, which carries the number.
 """
 from ._answers import NO_INT, CalendarDates, Dates, DatesByRule, Fields, FullWeeks, Leaps, Offsets, Order, Texts, TextsByRule, UtcFields, Walked, Weeks
 from ._library import FloatModeError, LibraryError, default_float_mode
-from .blocks import BlockRefused, Stamps, block_of, listing, listings, read_blocks, write_blocks
+from .blocks import BlockRefused, Stamps, block_of, listing, listings, read_blocks, reason_listing, write_blocks
 from .calendars import cal2jd, dtf2d, from_unix, jd2cal
 from .offsets import ABSENT, DRIFTING, WHOLE, dat, leap_at_end_of_day, offsets_at_0h
 from .order import compare, difference, equal, same_stamp
@@ -32,7 +32,7 @@ __all__ = [
     "default_float_mode", "difference", "DRIFTING", "dtf2d", "equal", "Fields", "FloatModeError", "from_iso8601", "from_unix", "FullWeeks",
     "gps_from_week", "gps_full_week", "gps_to_week", "gpstai", "jd2cal", "leap_at_end_of_day", "Leaps", "LibraryError", "Line", "line_up",
     "line_up_recorders", "listing", "listings", "NO_INT", "Offsets", "offsets_at_0h", "Order", "parse_iso8601", "place_ticks", "read_blocks",
-    "reason", "Refused", "Run", "same_stamp", "SCALES", "SHEETS", "Stamps", "Table", "taigps", "taitcg", "taitt", "taiut1", "taiutc", "tcbtdb",
+    "reason", "reason_listing", "Refused", "Run", "same_stamp", "SCALES", "SHEETS", "Stamps", "Table", "taigps", "taitcg", "taitt", "taiut1", "taiutc", "tcbtdb",
     "tcgtai", "tcgtt", "tdbtcb", "tdbtt", "Texts", "TextsByRule", "to_iso8601", "tttai", "tttcg", "tttdb", "ttut1", "ut1tai", "ut1tt", "ut1utc",
     "UtcFields", "utctai", "utcut1", "Walked", "Weeks", "WHOLE", "write_blocks",
 ]

@@ -13,8 +13,9 @@ from numpy.typing import ArrayLike, NDArray
 from ._library import check_float_mode
 from .refusals import Refused
 
-BUFFER = 1 << 16
+BUFFER, STRETCH = 1 << 16, 1 << 18
 FLOAT, INT, LONG, NUMBER = "<f8", "<i4", "<i8", "u1"
+_FLOAT = np.dtype(FLOAT)
 _PLAIN = (np.ndarray, np.memmap)
 
 
@@ -52,6 +53,8 @@ def floats(name: str, value: ArrayLike) -> NDArray[Any]:
     TypeError: jd1 is of type <U9 and not of 64-bit floats
     """
     array = as_array(name, value)
+    if array.dtype == _FLOAT:
+        return array
     if array.dtype.kind not in "fiu" or not np.can_cast(array.dtype, FLOAT, "safe"):
         raise TypeError(f"{name} is of type {array.dtype} and not of 64-bit floats")
     if array.dtype.kind != "f" and array.dtype.itemsize == 8 and array.size:
@@ -141,6 +144,9 @@ def common_shape(takes: Sequence[tuple[str, NDArray[Any]]]) -> tuple[int, ...]:
     Traceback (most recent call last):
     ValueError: jd1 of shape (2,), jd2 of shape (3,) do not go together
     """
+    shapes = {array.shape for _, array in takes}
+    if len(shapes) == 1:
+        return shapes.pop()
     try:
         return np.broadcast_shapes(*(array.shape for _, array in takes))
     except ValueError:
@@ -208,8 +214,8 @@ def _are_apart(arrays: Sequence[NDArray[Any]], places: Sequence[NDArray[Any] | N
 def _as_they_lie(name: str, loop: Callable[..., int], arrays: Sequence[NDArray[Any]]) -> None:
     """Arrays that each lie in one piece, handed over where they lie; in stretches, so that a long call can be interrupted between two."""
     steps = [(address_of(array), array.itemsize) for array in arrays]
-    for first in range(0, arrays[0].size, BUFFER):
-        code = loop(min(BUFFER, arrays[0].size - first), *(address + size * first for address, size in steps))
+    for first in range(0, arrays[0].size, STRETCH):
+        code = loop(min(STRETCH, arrays[0].size - first), *[address + size * first for address, size in steps])
         if code < 0:
             raise Refused(-code, name)
 

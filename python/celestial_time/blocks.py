@@ -137,6 +137,18 @@ def listing(block: Source, *, table: Table | None = None) -> bytes:
     return b"".join(_parts_of(_bytes_of(block), lent_table(table)))
 
 
+def reason_listing(block: Source, *, table: Table | None = None) -> bytes:
+    """The second listing of one block: as `listing`, with each refusal told in a sentence.
+
+    >>> print(reason_listing(block_of([2451545.0, float('nan')], [0.0, 0.0])).decode(), end='')
+    utc listing 2 refused 1
+    0 2000-01-01T12:00:00.000
+    1 date is outside the calendar: sum 7ff8000000000000
+    """
+    held = _bytes_of(block)
+    return b"".join(_parts_of(held, lent_table(table), "ct_reason_listing_part", held.nbytes))
+
+
 def listings(source: Source, *, table: Table | None = None) -> Iterator[bytes]:
     """The listings of a file's blocks, one after the other. Where a block is refused, its listing says so and is the last.
 
@@ -154,12 +166,12 @@ def listings(source: Source, *, table: Table | None = None) -> Iterator[bytes]:
             return
 
 
-def _parts_of(block: NDArray[np.uint8], table: Table) -> Iterator[bytes]:
+def _parts_of(block: NDArray[np.uint8], table: Table, call: str = "ct_listing_part", *came: int) -> Iterator[bytes]:
     part = np.empty(_PART, "u1")
     line = 0
     while True:
-        code = function("ct_listing_part")(
-            address_of(block), block.nbytes, line, table.address, TABLE_BYTES, address_of(part), part.nbytes
+        code = function(call)(
+            address_of(block), block.nbytes, *came, line, table.address, TABLE_BYTES, address_of(part), part.nbytes
         )
         if code < 0:
             raise Refused(-code, "listing")

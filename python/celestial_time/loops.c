@@ -218,19 +218,22 @@ int64_t ct_each_leap(const uint8_t *table, size_t n, const int32_t *year, const 
     return refused;
 }
 
-/* ---- Texts: `width` bytes each, filled up with 0 behind the text */
+/* ---- Texts: each in a place of one width, filled up with 0 behind the text */
 
-int64_t ct_each_text(text_call *call, const uint8_t *table, size_t width, size_t n, const double *jd1, const double *jd2, uint8_t *texts, int32_t *rule,
-                     int32_t *row, uint8_t *numbers)
+/* The place of a written text; the longest has 27 bytes. */
+enum { TEXT_PLACE = 27 };
+
+/* A place is set to 0 before its text is written: with a width that the compiler knows, that is two stores. */
+int64_t ct_each_text(text_call *call, const uint8_t *table, size_t n, const double *jd1, const double *jd2, uint8_t *texts, int32_t *rule, int32_t *row,
+                     uint8_t *numbers)
 {
     uint8_t bytes[CT_RULE_BYTES];
     int64_t refused = 0;
     memset(numbers, 0, n);
     for (size_t i = 0; i < n; i++) {
-        uint8_t *text = texts + width * i;
-        int64_t code = call(jd1[i], jd2[i], table, CT_TABLE_BYTES, text, width, bytes, sizeof bytes);
-        size_t length = code < 0 ? 0 : (size_t)code;
-        memset(text + length, 0, width - length);
+        uint8_t *text = texts + TEXT_PLACE * i;
+        memset(text, 0, TEXT_PLACE);
+        int64_t code = call(jd1[i], jd2[i], table, CT_TABLE_BYTES, text, TEXT_PLACE, bytes, sizeof bytes);
         put_rule(code, bytes, rule, row, i);
         refused += put_number(code, numbers + i);
     }

@@ -13,7 +13,7 @@ from .scales import Out
 from .tables import Table, lent_table
 
 SHEETS = {"iso8601": "ct_to_iso8601", "half_even": "ct_to_iso8601_half_even", "expanded": "ct_to_iso8601_expanded"}
-WIDTH = 27
+WIDTH = 27  # TEXT_PLACE of loops.c
 _FIELDS = [*(Field(name, INT) for name in ("year", "month", "day", "hour", "minute")), Field("second", FLOAT)]
 
 
@@ -41,8 +41,8 @@ def to_iso8601(
     texts, numbers = Field("text", f"S{WIDTH}"), Field("numbers", NUMBER)
     if return_rule:
         gives = [texts, Field("rule", INT), Field("row", INT), numbers]
-        return TextsByRule(*each("to_iso8601", lambda n, *a: loop(at, rows.address, WIDTH, n, *a), takes, gives, [FLOAT] * 2, out))
-    told = lambda n, a1, a2, text, number: loop(at, rows.address, WIDTH, n, a1, a2, text, 0, 0, number)
+        return TextsByRule(*each("to_iso8601", lambda n, *a: loop(at, rows.address, n, *a), takes, gives, [FLOAT] * 2, out))
+    told = lambda n, a1, a2, text, number: loop(at, rows.address, n, a1, a2, text, 0, 0, number)
     return Texts(*each("to_iso8601", told, takes, [texts, numbers], [FLOAT] * 2, out))
 
 

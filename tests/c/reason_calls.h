@@ -28,6 +28,37 @@ static void reason_rooms(void)
     check(ct_reason(28, got, 0) == -11, "11 after 18");
 }
 
+/* The second listing: its lines, refused blocks, and a buffer that is too short for a line. */
+#define LISTED(due, length, came, line) TELLS(due, ct_reason_listing_part(block, length, came, line, ct_no_rows, CT_TABLE_BYTES, got, sizeof got))
+
+static void reason_listing(void)
+{
+    uint8_t block[40] = {2, 0, 0, 0, 2, 0, 0, 0}, got[REASON_ROOM];
+    size_t room, i;
+    for (i = 0; i < 8; i++) block[8 + i] = (uint8_t)(ct_bits_of(2451545.0) >> 8 * i);
+    for (i = 0; i < 8; i++) block[16 + i] = (uint8_t)((SIGN | INFINITE | 1) >> 8 * i);
+    LISTED("utc listing 2 refused 1\n", 40, 40, 0);
+    LISTED("0 2000-01-01T12:00:00.000\n", 40, 40, 1);
+    LISTED("1 date is outside the calendar: sum 7ff8000000000000\n", 40, 40, 2);
+    LISTED("", 40, 40, 3);
+    for (i = 0; i < 8; i++) block[8 + i] = (uint8_t)(ct_bits_of(-31740.0) >> 8 * i);
+    LISTED("0 year is before -4799, in a bill 1972: year -4800\n", 40, 40, 1);
+    LISTED("block the number of bytes is wrong: length 18446744073709551615\n", 39, UINT64_MAX, 0);
+    LISTED("block the number of bytes is wrong: length 64010\n", 39, 64010, 0);
+    LISTED("block the number of bytes is wrong: length 7\n", 7, 7, 0);
+    block[4] = 3;
+    LISTED("block the two sizes differ: second size 3\n", 40, 40, 0);
+    block[0] = block[4] = 0xa1;
+    block[1] = block[5] = 0x0f;
+    LISTED("block there are too many stamps: size 4001\n", 40, 40, 0);
+    for (room = 0; room < REASON_ROOM; room++) {
+        memset(got, UNTOUCHED, sizeof got);
+        check(ct_reason_listing_part(block, 40, 40, 0, ct_no_rows, CT_TABLE_BYTES, got, room) == -11, "a line in %lu bytes", (unsigned long)room);
+        for (i = 0; i < sizeof got; i++) check(got[i] == UNTOUCHED, "byte %lu changed at 11", (unsigned long)i);
+    }
+    check(ct_reason_listing_part(block, 40, 40, 0, ct_no_rows, CT_TABLE_BYTES - 1, got, 0) == -14, "the table before 11");
+}
+
 static void reason_calls(void)
 {
     double infinity = infinite_float(), nan = nan_float();
@@ -60,4 +91,5 @@ static void reason_calls(void)
     TELLS("the number of bytes is wrong: length 18446744073709551615", REASON(ct_block_reason, 14, UINT64_MAX, UINT32_MAX, 0));
     TELLS("the number of bytes is wrong", REASON(ct_block_reason, 14, 8 + 16 * 4001, 4001, 0));
     reason_rooms();
+    reason_listing();
 }

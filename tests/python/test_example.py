@@ -1,6 +1,7 @@
 """The worked example: its files made again, its table, and its picture where matplotlib is there."""
 import importlib.util
 import pathlib
+import re
 import subprocess
 import sys
 import tempfile
@@ -34,6 +35,8 @@ class Example(unittest.TestCase):
         """A row for each stamp, the ordered ones rising in time, the dead ones with their numbers; the thin place is in the leap second for each recorder."""
         rows = [row.split(",") for row in run().stdout.splitlines()][1:]
         self.assertEqual((len(rows), sum(1 for row in rows if row[4])), (825, 13))
+        shown = re.search(r"with a dead stamp:\n\n((?:    .*\n)+)", (ROOT / "python" / "README.md").read_text())[1].split()
+        self.assertIn("\n".join(shown), "\n".join(",".join(row) for row in rows))
         texts = [row[0] for row in rows if row[0]]
         self.assertEqual(texts, sorted(texts))
         self.assertEqual(len([text for text in texts if "23:59:60" in text]), 50)

@@ -245,30 +245,35 @@ class Functions(unittest.TestCase):
 
     def test_no_copies(self):
         """Arrays in one piece are handed over where they lie: what the loop gets are the places of the arguments and of the answers, one stretch after the other."""
-        jd1, jd2 = singles.dates(self.rng, 200000)
+        count = 2 * _arrays.STRETCH + 5
+        jd1, jd2 = singles.dates(self.rng, count)
         handed = []
         kept = scales.function
         try:
             scales.function = lambda name: lambda *given: (handed.append(given), kept(name)(*given))[1]
-            for lent in (None, (np.empty(200000), np.empty(200000), np.empty(200000, "u1"))):
+            for lent in (None, (np.empty(count), np.empty(count), np.empty(count, "u1"))):
                 handed.clear()
                 answer = ct.utctai(jd1, jd2, out=lent)
                 first = 0
-                for _, _, _, count, *addresses in handed:
+                for _, _, _, stretch, *addresses in handed:
                     self.assertEqual(addresses, [_arrays.address_of(part[first:]) for part in (jd1, jd2, *answer)])
-                    first += count
-                self.assertEqual(first, 200000)
+                    first += stretch
+                self.assertEqual((first, len(handed)), (count, 3))
         finally:
             scales.function = kept
 
     def test_many_stretches(self):
-        """Every function over more stamps than a stretch has, with refused ones in each, answers as over a few."""
-        times = _arrays.BUFFER // COUNT + 2
+        """Every function over more stamps than a stretch has, with refused ones in each, answers as in one stretch; and so do arrays that go through a buffer."""
+        sizes = _arrays.STRETCH, _arrays.BUFFER
         for case in self.every():
-            with self.subTest(case.name):
-                due = arrays_of(case.function(*case.inputs))
-                got = arrays_of(case.function(*(np.tile(part, times) for part in case.inputs)))
-                self.assertTrue(all(same(a, np.tile(b, times)) for a, b in zip(got, due)))
+            due = arrays_of(case.function(*case.inputs))
+            try:
+                _arrays.STRETCH, _arrays.BUFFER = 150, 70
+                for make in (lambda part: part, lambda part: np.repeat(part, 2)[::2]):
+                    with self.subTest(case.name):
+                        self.assertTrue(all(map(same, arrays_of(case.function(*map(make, case.inputs))), due)))
+            finally:
+                _arrays.STRETCH, _arrays.BUFFER = sizes
 
     def test_nothing_around(self):
         """What lies before and behind lent arrays stays, byte for byte."""

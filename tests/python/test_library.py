@@ -18,7 +18,7 @@ import unittest
 import numpy as np
 
 import celestial_time as ct
-from celestial_time import _library
+from celestial_time import _library, texts
 
 ROOT = pathlib.Path(__file__).resolve().parents[2]
 MODULES = [importlib.import_module(f"celestial_time.{one.name}") for one in pkgutil.iter_modules(ct.__path__)]
@@ -81,6 +81,7 @@ class Library(unittest.TestCase):
         text = (ROOT / "python" / "celestial_time" / "loops.c").read_text()
         found = {name: 0 if inside.strip() == "void" else inside.count(",") + 1 for name, inside in re.findall(r"^(?:int64_t|int) (ct_each_\w+)\(([^)]*)\)\n\{", text, re.M)}
         self.assertEqual(found, _library._LOOPS)
+        self.assertIn(f"enum {{ TEXT_PLACE = {texts.WIDTH} }};", text)
 
     def test_calls_take_what_the_header_says(self):
         text = (ROOT / "include" / "celestial_time.h").read_text()

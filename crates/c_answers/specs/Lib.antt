@@ -1,7 +1,5 @@
 -- The definitions of how an answer reaches a C caller, and of its values as bytes.
 pub mod Delivery
 pub mod Fields
-pub mod ReaderFields
 pub mod WideFields
-pub mod RuleFields
 pub mod TwoBuffers

@@ -1,7 +1,5 @@
 // How an answer reaches a C caller: a code, and bytes at the start of a lent buffer.
 pub mod fields;
-pub mod reader_fields;
-pub mod rule_fields;
 pub mod wide_fields;
 
 ghost use mathlib.Core.Path.{_≡_};

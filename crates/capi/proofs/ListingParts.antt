@@ -14,10 +14,13 @@ use Rattle.refusals.specs.Outcome.{answer, refusal, onward}
 use Rattle.utc_text.specs.Answer.{textWritten, bufferAfter}
 use Rattle.utc.specs.TextCall.{written, bufferHolds}
 use Rattle.tai_utc.specs.Table.{Row}
+use Rattle.stamps.specs.declared.Telling.{Telling}
 use Rattle.stamps.specs.declared.BlockAnswer.{BlockAnswer}
 use Rattle.stamps.specs.declared.BlockAnswer.the-variants.{Stamps, Refused}
 use Rattle.stamps.specs.declared.Part.{Part}
 use Rattle.stamps.specs.Block.{blockOutcome, blockOf}
+use Rattle.stamps.specs.Listing.{lineRoom}
+use Rattle.stamps.specs.Widths.{InWidth}
 use Rattle.stamps.specs.Parts.{partText, partOf, PartPlaced}
 use Rattle.stamps.proofs.Blocks.{block-accepted}
 use Rattle.stamps.proofs.Lengths.{part-most, part-fits}
@@ -26,27 +29,27 @@ use Rattle.capi.specs.ListingPart.{listingPart}
 use Rattle.c_answers.proofs.Deliveries.{code-back}
 
 -- ---- a part delivered
-pub no-room : (rows : List Row) (s l : List ℕ) (line : ℕ) {r : ℤ} → mag r < 2 ^ 63 → length l < 33 → r ≡ code (refusal 11) → Delivered (listingPart rows s line (length l)) l (toZ w64 (ofZ w64 r)) l
+pub no-room : (how : Telling) (rows : List Row) (s l : List ℕ) (line : ℕ) {r : ℤ} → mag r < 2 ^ 63 → length l < lineRoom how → r ≡ code (refusal 11) → Delivered (listingPart how rows s line (length l)) l (toZ w64 (ofZ w64 r)) l
 unfolding listingPart written onward bufferHolds
-no-room rows s l line {r} ok h e =
-    let w : written (listingPart rows s line (length l)) (length l) ≡ refusal 11 = simp (lt-leb _ _ h) in
+no-room how rows s l line {r} ok h e =
+    let w : written (listingPart how rows s line (length l)) (length l) ≡ refusal 11 = simp (lt-leb _ _ h) in
     record { returned = code-back ok ∙ e ∙ sym (ap code w); holds = simp (lt-leb _ _ h) }
 
-module _ {rows : List Row} {s l out : List ℕ} {line : ℕ} {r : Part} (p : PartPlaced rows s line l r out) where
-  is : r .written ≡ length (partText rows s line (length l))
+module _ {how : Telling} {rows : List Row} {s l out : List ℕ} {line : ℕ} {r : Part} (w : InWidth how s) (p : PartPlaced how rows s line l r out) where
+  is : r .written ≡ length (partText how rows s line (length l))
   unfolding partOf
   is = ap (λ (x : Part). x .written) (p .says)
 
   pub count-fits : SFits w64 (pos (r .written))
-  count-fits = record { sfits = omega (arith, is, part-most rows s line (length l)) }
+  count-fits = record { sfits = omega (arith, is, part-most how rows s line (length l) w) }
 
-  pub part-put : 33 ≤ length l → Delivered (listingPart rows s line (length l)) l (toZ w64 (r .written)) out
+  pub part-put : lineRoom how ≤ length l → Delivered (listingPart how rows s line (length l)) l (toZ w64 (r .written)) out
   unfolding listingPart written onward bufferHolds textWritten bufferAfter code
   part-put room =
-      let fits = part-fits rows s line (length l) in
-      let w : written (listingPart rows s line (length l)) (length l) ≡ answer (length (partText rows s line (length l))) = simp (le-leb _ _ room, le-leb _ _ fits) in
+      let fits = part-fits how rows s line (length l) w in
+      let e : written (listingPart how rows s line (length l)) (length l) ≡ answer (length (partText how rows s line (length l))) = simp (le-leb _ _ room, le-leb _ _ fits) in
       record {
-        returned = toZ-pos w64 {n = r .written} (omega (arith, is, part-most rows s line (length l))) ∙ ap pos is ∙ sym (ap code w);
+        returned = toZ-pos w64 {n = r .written} (omega (arith, is, part-most how rows s line (length l) w)) ∙ ap pos is ∙ sym (ap code e);
         holds = p .holds ∙ simp (le-leb _ _ room, le-leb _ _ fits);
       }
 

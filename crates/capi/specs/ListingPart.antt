@@ -1,12 +1,15 @@
--- The listing of a stamp block, part by part, for C. Written from document 01, "The program that lists a block", and docs/DECISIONS.md 22 and 24. Assumes nothing.
+-- The listing of a stamp block, part by part, for C. Written from document 01, "The program that lists a block", document 02, item 13, and
+-- docs/DECISIONS.md 22, 24 and 84. Assumes nothing.
 use Prim.Native.Nat.{ℕ}
 use mathlib.Core.List.{List}
 use mathlib.Core.Bool.{cond}
 use lib.Dec.{leb}
 use Rattle.refusals.specs.Outcome.{Outcome, answer, refusal}
 use Rattle.tai_utc.specs.Table.{Row}
+use Rattle.stamps.specs.declared.Telling.{Telling}
+use Rattle.stamps.specs.Listing.{lineRoom}
 use Rattle.stamps.specs.Parts.{partText}
 
--- the lines from `line` on that go into `room` bytes, none past the last; 11 where there is not the room that a line is given, 33 bytes
-unfoldable pub listingPart : List Row → List ℕ → ℕ → ℕ → Outcome (List ℕ)
-listingPart rows s line room = cond (leb 33 room) (answer (partText rows s line room)) (refusal 11)
+-- the lines from `line` on that go into `room` bytes, none past the last; 11 where there is not the room that a line is given, 33 bytes, or 64 where sentences are told
+unfoldable pub listingPart : Telling → List Row → List ℕ → ℕ → ℕ → Outcome (List ℕ)
+listingPart how rows s line room = cond (leb (lineRoom how) room) (answer (partText how rows s line room)) (refusal 11)

@@ -8,7 +8,7 @@ use Rattle.utc.specs.Sheet.{Sheet}
 use Rattle.utc.specs.IsoText.{sheet01}
 use Rattle.utc.specs.HalfEven.{evenSheet}
 use Rattle.utc.specs.Expanded.{expandedSheet}
-use Rattle.c_answers.specs.RuleFields.{ruleBytes}
+use Rattle.rule_answers.specs.RuleFields.{ruleBytes}
 use Rattle.capi.specs.declared.text_calls.NamedSheet.{NamedSheet}
 use Rattle.capi.specs.declared.text_calls.NamedSheet.the-variants.{Document01, HalfEven, Expanded}
 

@@ -8,10 +8,9 @@ ghost use Rattle.tai_utc.specs.Answers.{secondsByRuleOutcome};
 ghost use Rattle.lent_bytes.specs.TableBytes.{tableBytes};
 ghost use Rattle.c_answers.specs.Delivery.{code, inBytes, Delivered};
 ghost use Rattle.c_answers.specs.Fields.{floatBytes};
-ghost use Rattle.c_answers.specs.RuleFields.{offsetRuleBytes};
+ghost use Rattle.rule_answers.specs.RuleFields.{offsetRuleBytes};
 use c_answers::fields;
 use c_answers::refused;
-use c_answers::rule_fields;
 use lent_bytes::arrays;
 use lent_bytes::lent_rows_at;
 use lent_bytes::table_number;
@@ -35,7 +34,7 @@ fn put_offset(found: SecondsByRule, out: &mut [u8]) -> i64
 {
     match found {
         SecondsByRule::Seconds(seconds, rule) => {
-            rule_fields::put_offset_by_rule(seconds, rule, out)
+            rule_answers::put_offset_by_rule(seconds, rule, out)
         }
         SecondsByRule::Refused(number) => refused(number),
     }

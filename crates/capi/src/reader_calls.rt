@@ -4,8 +4,7 @@ ghost use Rattle.refusals.specs.Outcome.{onward};
 ghost use Rattle.parsing.specs.Parsed.{parsedOutcome, parsedUtcOutcome, parsed, parsedUtc};
 ghost use Rattle.lent_bytes.specs.TableBytes.{tableBytes};
 ghost use Rattle.c_answers.specs.Delivery.{inBytes, Delivered};
-ghost use Rattle.c_answers.specs.ReaderFields.{parsedBytes, parsedUtcBytes};
-use c_answers::reader_fields;
+ghost use Rattle.reader_answers.specs.ReaderFields.{parsedBytes, parsedUtcBytes};
 use c_answers::refused;
 use lent_bytes::lent_rows_at;
 use lent_bytes::table_number;
@@ -16,7 +15,7 @@ fn put_parsed(found: ParsedAnswer, out: &mut [u8]) -> i64
     ensures { λ r. ⌜ Delivered (inBytes parsedBytes (parsedOutcome found)) (now (out .entry)) r (now (out .exit)) ⌝ }
 {
     match found {
-        ParsedAnswer::Fields(fields) => reader_fields::put_parsed(fields, out),
+        ParsedAnswer::Fields(fields) => reader_answers::put_parsed(fields, out),
         ParsedAnswer::Refused(number) => refused(number),
     }
 }
@@ -25,7 +24,7 @@ fn put_parsed_utc(found: ParsedUtcAnswer, out: &mut [u8]) -> i64
     ensures { λ r. ⌜ Delivered (inBytes parsedUtcBytes (parsedUtcOutcome found)) (now (out .entry)) r (now (out .exit)) ⌝ }
 {
     match found {
-        ParsedUtcAnswer::Read(read) => reader_fields::put_parsed_utc(read, out),
+        ParsedUtcAnswer::Read(read) => reader_answers::put_parsed_utc(read, out),
         ParsedUtcAnswer::Refused(number) => refused(number),
     }
 }

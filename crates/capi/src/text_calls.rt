@@ -11,7 +11,6 @@ ghost use Rattle.c_answers.specs.Delivery.{code};
 ghost use Rattle.c_answers.specs.TwoBuffers.{DeliveredTwo};
 ghost use Rattle.capi.specs.TextRule.{ruled, noRoom, sheetNamed};
 use c_answers::refused;
-use c_answers::rule_fields;
 use julian::JulianDate;
 use lent_bytes::arrays;
 use scales::UTC;
@@ -74,7 +73,7 @@ fn put_text<'a>(
     match utc::to_iso8601_by_lent(date, size, months, seconds, out) {
         TextByRule::Refused(number) => refused(number),
         TextByRule::Written(n, told) => {
-            rule_fields::put_rule(told, rule);
+            rule_answers::put_rule(told, rule);
             n as i64
         }
     }
@@ -96,7 +95,7 @@ fn put_half_even<'a>(
     match utc::to_iso8601_half_even_by_lent(date, size, months, seconds, out) {
         TextByRule::Refused(number) => refused(number),
         TextByRule::Written(n, told) => {
-            rule_fields::put_rule(told, rule);
+            rule_answers::put_rule(told, rule);
             n as i64
         }
     }
@@ -118,7 +117,7 @@ fn put_expanded<'a>(
     match utc::to_iso8601_expanded_by_lent(date, size, months, seconds, out) {
         TextByRule::Refused(number) => refused(number),
         TextByRule::Written(n, told) => {
-            rule_fields::put_rule(told, rule);
+            rule_answers::put_rule(told, rule);
             n as i64
         }
     }

@@ -10,10 +10,9 @@ ghost use Rattle.utc.specs.FromCalendar.{utcFromCalendar};
 ghost use Rattle.lent_bytes.specs.TableBytes.{tableBytes};
 ghost use Rattle.c_answers.specs.Delivery.{inBytes, Delivered};
 ghost use Rattle.c_answers.specs.Fields.{julianBytes};
-ghost use Rattle.c_answers.specs.RuleFields.{julianRuleBytes};
+ghost use Rattle.rule_answers.specs.RuleFields.{julianRuleBytes};
 use c_answers::fields;
 use c_answers::refused;
-use c_answers::rule_fields;
 use julian::JulianDate;
 use lent_bytes::arrays;
 use scales::TAI;
@@ -93,7 +92,7 @@ fn put_tai_by_rule(found: TaiByRule, out: &mut [u8]) -> i64
     ensures { λ r. ⌜ Delivered (inBytes julianRuleBytes (taiByRuleOutcome found)) (now (out .entry)) r (now (out .exit)) ⌝ }
 {
     match found {
-        TaiByRule::Date(date, rule) => rule_fields::put_julian_by_rule(date.0, rule, out),
+        TaiByRule::Date(date, rule) => rule_answers::put_julian_by_rule(date.0, rule, out),
         TaiByRule::Refused(number) => refused(number),
     }
 }
@@ -140,7 +139,7 @@ fn put_ut1_by_rule(found: Ut1ByRule, out: &mut [u8]) -> i64
     ensures { λ r. ⌜ Delivered (inBytes julianRuleBytes (ut1ByRuleOutcome found)) (now (out .entry)) r (now (out .exit)) ⌝ }
 {
     match found {
-        Ut1ByRule::Date(date, rule) => rule_fields::put_julian_by_rule(date.0, rule, out),
+        Ut1ByRule::Date(date, rule) => rule_answers::put_julian_by_rule(date.0, rule, out),
         Ut1ByRule::Refused(number) => refused(number),
     }
 }

@@ -20,7 +20,7 @@ use Rattle.utc.specs.IsoText.{isoTextBy}
 use Rattle.utc.specs.ByRule.{textByRule}
 use Rattle.utc.proofs.TextRules.{text-forgets}
 use Rattle.c_answers.specs.Delivery.{code, Delivered}
-use Rattle.c_answers.specs.RuleFields.{ruleBytes}
+use Rattle.rule_answers.specs.RuleFields.{ruleBytes}
 use Rattle.c_answers.specs.TwoBuffers.{bothFit, DeliveredTwo}
 use Rattle.capi.specs.TextRule.{ruled}
 

@@ -10,7 +10,7 @@ use Rattle.julian.specs.declared.JulianDate.{JulianDate}
 use Rattle.tai_utc.specs.declared.Rule.{Rule}
 use Rattle.tai_utc.specs.declared.Rule.the-variants.{Absent, Drifting, Whole}
 use Rattle.c_answers.specs.Fields.{julianBytes}
-use Rattle.c_answers.specs.RuleFields.{ruleNumber, rowPattern, ruleBytes, offsetRuleBytes, julianRuleBytes}
+use Rattle.rule_answers.specs.RuleFields.{ruleNumber, rowPattern, ruleBytes, offsetRuleBytes, julianRuleBytes}
 use Rattle.lent_bytes.specs.RecordBytes.{inFours}
 use Rattle.lent_bytes.specs.TableBytes.{signed32}
 use Rattle.lent_bytes.proofs.ReadBack.{in-place}

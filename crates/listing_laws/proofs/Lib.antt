@@ -5,3 +5,4 @@ pub mod LineEnds
 pub mod NotFinite
 pub mod Tables
 pub mod Numerals
+pub mod Sentences

@@ -1,6 +1,6 @@
 -- A line of 33 bytes, the most that `line-most` allows: a block of 1,001 stamps of two zeros is taken, and the line of its last stamp has four digits, a blank, a text of
 -- 27 bytes of the year -4713 and the line's end. Assumes nothing.
-use Prim.Native.Nat.{ℕ, zero, suc, _+_}
+use Prim.Native.Nat.{ℕ, zero, suc, _+_, _<_}
 use native.Mathlib.Omega.{arith}
 use mathlib.Core.Path.{_≡_, refl, ap, _∙_}
 use mathlib.Core.Bool.{false}
@@ -9,9 +9,9 @@ use lib.ListN.{length, getD, replicate, length-append, length-replicate}
 use lib.IntN.{pos, negsuc}
 use lib.Signed.{ltZ}
 use lib.Ieee.{Float, binary64, ofBits, round, ofInt, add, sub, div, neg, lt, le, eq, toSigned}
-use Rattle.refusals.specs.Outcome.{Outcome, answer, onward}
+use Rattle.refusals.specs.Outcome.{Outcome, answer, refusal, onward}
 use Rattle.little_endian.specs.LittleEndian.{fourAt, u32At, u64At}
-use Rattle.digits.specs.Decimal.{digitsIn}
+use Rattle.digits.specs.Decimal.{digitsIn, digitsOf}
 use Rattle.floats.specs.Whole.{abs, toWhole, nearestInt}
 use Rattle.calendar.specs.declared.CalendarDate.{CalendarDate}
 use Rattle.calendar.specs.Calendar.{date, next, leapSize, lengths, daysInMonth}
@@ -31,9 +31,12 @@ use Rattle.utc_text.specs.Expanded.{expandedYear, expandedText}
 use Rattle.utc.specs.Expanded.{expandedSheet, isoTextExpanded}
 use Rattle.utc.proofs.TextCalls.{fields-given-by}
 use Rattle.utc_laws.proofs.DayTexts.{textBy, leapOn, has-text-by}
-use Rattle.stamps.specs.declared.Telling.the-variants.{Numbers}
+use Rattle.sentences.specs.Texts.{texts, fixedText}
+use Rattle.reasons.specs.Offending.{offending, blockField}
+use Rattle.sentences.specs.Render.{namedText, render}
+use Rattle.stamps.specs.declared.Telling.the-variants.{Numbers, Sentences}
 use Rattle.stamps.specs.Block.{blockOf, jd1Bits, jd2Bits, stampAt}
-use Rattle.stamps.specs.Listing.{textAt, shown, stampLine}
+use Rattle.stamps.specs.Listing.{told, came, textAt, shown, stampLine, blockRefused}
 use Rattle.stamps.specs.Parts.{lineOf}
 
 -- ---- the date of two zeros is -4713-11-24, by any rows with a text of 27 bytes
@@ -108,3 +111,25 @@ longest-line rows =
     let z = noughts 16016 in
     let m = length-replicate {A = ℕ} 16016 0 in
     (block z m (zeros 16016), 1001, taken z m (zeros 16016), rw (taken z m (zeros 16016)) (line-33 z m (zeros 16016) rows))
+
+-- ---- a line of 64 bytes, the most of the second listing: an input of zeros whose length has 20 digits, of which the first 64,009 bytes are at hand
+abbrev twentyDigits : ℕ
+twentyDigits = 10000000000000000000
+
+module _ (z : List ℕ) (many : length z ≡ 64001) where
+  abbrev long : List ℕ
+  long = 0 ∷ 0 ∷ 0 ∷ 0 ∷ 0 ∷ 0 ∷ 0 ∷ 0 ∷ z
+
+  refused-14 : blockOf long ≡ refusal 14
+  unfolding blockOf u32At fourAt
+  refused-14 = rw many refl
+
+  line-64 : (rows : List Row) → length (lineOf (Sentences twentyDigits) rows (refusal 14) long 0) ≡ 64
+  unfolding lineOf blockRefused told came render offending blockField namedText fixedText texts digitsOf digitsIn u32At fourAt
+  line-64 rows = rw many refl
+
+pub longest-told : (rows : List Row) → (s : List ℕ) × (n : ℕ) × (n < 18446744073709551616) × (blockOf s ≡ refusal 14) × (length (lineOf (Sentences n) rows (blockOf s) s 0) ≡ 64)
+longest-told rows =
+    let z = noughts 64001 in
+    let m = length-replicate {A = ℕ} 64001 0 in
+    (long z m, twentyDigits, omega arith, refused-14 z m, rw (refused-14 z m) (line-64 z m rows))

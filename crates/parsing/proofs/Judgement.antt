@@ -16,13 +16,14 @@ use Rattle.constants.specs.Constants.{decimal}
 use Rattle.calendar.specs.Refusals.{validDate}
 use Rattle.digits.specs.Decimal.{value, number, isDigit, AllDigits}
 use Rattle.digits.proofs.Decimal.{digit-bounds, value-split, number-below}
-use Rattle.parsing.specs.declared.scan.Form.{Form}
+use Rattle.text_scan.specs.declared.Form.{Form}
 use Rattle.parsing.specs.declared.ParsedDateTime.{ParsedDateTime}
-use Rattle.parsing.specs.Written.{Written}
-use Rattle.parsing.specs.Form.{byteAt, digitSays, twoSay, leading, fractionDigits, afterBlanks, rightForm, says, formOf}
+use Rattle.text_scan.specs.Written.{Written}
+use Rattle.text_scan.specs.Form.{byteAt, digitSays, twoSay, leading, fractionDigits, afterBlanks, rightForm, says, formOf}
 use Rattle.parsing.specs.Parsed.{fieldsOf, timeFits, judged, parsed}
-use Rattle.parsing.specs.Scan.{joined, keptFrom, kept, formAt, scanOf, quotient, timeIn, fieldsBy, judgedForm}
-use Rattle.parsing.proofs.Runs.{worth-of, worth-most, kept-all-small}
+use Rattle.text_scan.specs.Scan.{joined, keptFrom, kept, formAt, scanOf}
+use Rattle.parsing.specs.Judging.{quotient, timeIn, fieldsBy, judgedForm}
+use Rattle.text_scan.proofs.Runs.{worth-of, worth-most, kept-all-small}
 use Rattle.parsing.proofs.Seconds.{one-division}
 
 -- ---- digits

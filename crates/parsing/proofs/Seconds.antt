@@ -14,7 +14,7 @@ use Rattle.rounding.specs.Value.{Val, Rounds, Signed}
 use Rattle.rounding.proofs.Value.{div-rounds}
 use Rattle.rounding.proofs.Casts.{ofInt-val}
 use Rattle.constants.specs.Constants.{decimal}
-use Rattle.parsing.specs.Scan.{quotient}
+use Rattle.parsing.specs.Judging.{quotient}
 
 -- f p, f (p + 1), .. : k values
 unfoldable pub valuesFrom : (ℕ → Float) → ℕ → ℕ → List Float

@@ -1,7 +1,5 @@
--- What the contracts of `parsing` cite, in the order to read it: what a text says, the form that decides the grammar, the answers, and the code's own scan.
-pub mod Written
-pub mod Form
+-- What the contracts of `parsing` cite, beside Written and Form of `text_scan`: the answers, and the code's own judging.
 pub mod Parsed
-pub mod Scan
+pub mod Judging
 -- The words of the theorems: no contract cites them. That the form is this grammar is proved in parsing_laws.
 pub mod Grammar

@@ -1,14 +1,12 @@
 // ISO 8601 text into fields, and for UTC into a date: parsing/mod.rs, and `FromStr` of scales/utc/mod.rs, with a byte slice in place of a string.
-mod scan;
-
 use calendar::DateCheck;
 use julian::JulianAnswer;
 use julian::JulianDate;
 use scales::UTC;
 use scales::UtcAnswer;
-use scan::Form;
-use scan::Scanned;
 use tai_utc::LentRows;
+use text_scan::Form;
+use text_scan::Scanned;
 ghost use mathlib.Core.Path.{_≡_};
 ghost use mathlib.Core.Bool.{true, false};
 ghost use Prim.Native.Nat.{_≤_};
@@ -16,7 +14,7 @@ ghost use Rattle.julian.specs.JulianDate.{julianOutcome};
 ghost use Rattle.refusals.specs.Outcome.{onward};
 ghost use Rattle.tai_utc.specs.Lent.{rowsOf, tableOf};
 ghost use Rattle.parsing.specs.Parsed.{parsedOutcome, parsedUtcOutcome, parsed, toJulianDate, dated as dated·of, parsedUtc};
-ghost use Rattle.parsing.specs.Scan.{timeIn, quotient, judgedForm};
+ghost use Rattle.parsing.specs.Judging.{timeIn, quotient, judgedForm};
 
 // The six fields of a text.
 pub struct ParsedDateTime {
@@ -113,7 +111,7 @@ fn judged(form: Form) -> ParsedAnswer
 fn parse(text: &[u8], utc: bool) -> ParsedAnswer
     ensures { λ r. ⌜ parsedOutcome r ≡ parsed utc (now (text .entry)) ⌝ }
 {
-    match scan::scan(text, utc) {
+    match text_scan::scan(text, utc) {
         Scanned::Outside => ParsedAnswer::Refused(refusals::TEXT_OUTSIDE_GRAMMAR),
         Scanned::Within(form) => judged(form),
     }

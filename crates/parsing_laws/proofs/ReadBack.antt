@@ -16,7 +16,7 @@ use Rattle.digits.proofs.Decimal.{value-append, value-split}
 use Rattle.utc_text.proofs.ReadBack.{two-is, three-is, four-is}
 use Rattle.utc_text.proofs.Form.{two-digits, three-digits, four-digits}
 use Rattle.utc_text.specs.Text.{two, three, four, five, six, seven, afterYear, yearText, utcText}
-use Rattle.parsing.specs.Written.{Written}
+use Rattle.text_scan.specs.Written.{Written}
 use Rattle.parsing.specs.Grammar.{Pieces, textOf, Reads, AllBlank, letter, some, plain}
 use Rattle.parsing.specs.Parsed.{fieldsOf, parsed}
 use Rattle.parsing_laws.specs.Verdict.{fields}

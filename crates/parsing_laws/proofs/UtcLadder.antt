@@ -25,7 +25,7 @@ use Rattle.utc_laws.proofs.DayTexts.{has-leap}
 use Rattle.utc_laws.proofs.Numbers.{not-both}
 use Rattle.parsing.specs.declared.ParsedDateTime.{ParsedDateTime}
 use Rattle.parsing.specs.declared.ParsedUtc.{ParsedUtc}
-use Rattle.parsing.specs.Written.{Written}
+use Rattle.text_scan.specs.Written.{Written}
 use Rattle.parsing.specs.Grammar.{Reads}
 use Rattle.parsing.specs.Parsed.{fieldsOf, parsed, dated, parsedUtc}
 use Rattle.parsing_laws.specs.Shown.{withDate}

@@ -6,7 +6,7 @@ use Rattle.julian.specs.declared.JulianDate.{JulianDate}
 use Rattle.tai_utc.specs.Table.{Row}
 use Rattle.scales.specs.Conversions.{answerOf, tt-tai, gps-tai, tcg-tai}
 use Rattle.utc_scales.specs.UtcTai.{utcToTai}
-use Rattle.runs.specs.Ways.{intoTai, outOfTai, between, wayOf}
+use Rattle.scale_ways.specs.Ways.{intoTai, outOfTai, between, wayOf}
 use Rattle.run_laws.specs.EachWay.{EachWay}
 
 -- TAI is reached: the last step stays

@@ -39,7 +39,7 @@ use Rattle.utc_scale_laws.proofs.NotFinite.{utc-to-tai-not-finite, tai-to-utc-n
 use Rattle.line_up.specs.LineUp.{stampOf}
 use Rattle.floats.specs.ExponentField.{exponentField}
 use Rattle.floats.proofs.ExponentField.{field-not-finite}
-use Rattle.runs.specs.Ways.{isRunScale, intoTai, outOfTai, between, wayOf}
+use Rattle.scale_ways.specs.Ways.{isRunScale, intoTai, outOfTai, between, wayOf}
 use Rattle.runs.specs.Run.{stampAnswer, numberByte}
 use Rattle.run_laws.specs.EachWay.{EachWay}
 use Rattle.run_laws.specs.Dead.{DeadStamp, deadNumber, OneSixNine}

@@ -17,7 +17,7 @@ use Rattle.little_endian.specs.LittleEndian.{u64At}
 use Rattle.tai_utc.specs.Table.{Row}
 use Rattle.shifts.proofs.Outcomes.{and-left, and-right}
 use Rattle.line_up.specs.LineUp.{stampOf}
-use Rattle.runs.specs.Ways.{isRunScale, wayOf}
+use Rattle.scale_ways.specs.Ways.{isRunScale, wayOf}
 use Rattle.runs.specs.Run.{stampAnswer, numberByte, firstPart, secondPart, withParts, withNumbers, refusedAmong, runRefusal, RunCall, runCall, runWritten, runBy, convertedRun}
 use Rattle.runs.proofs.Calls.{Fitting, fitting}
 use Rattle.runs.proofs.Offsets.{pattern-back}

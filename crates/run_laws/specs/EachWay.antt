@@ -7,7 +7,7 @@ use Rattle.julian.specs.Finite.{finiteJd}
 use Rattle.tai_utc.specs.Table.{Row}
 use Rattle.scales.specs.Conversions.{answerOf, gps-tai, tai-gps, tai-tt, tt-tai, tcg-tt, tt-tcg, tai-tcg, tcg-tai}
 use Rattle.utc_scales.specs.UtcTai.{utcToTai, taiToUtc}
-use Rattle.runs.specs.Ways.{wayOf}
+use Rattle.scale_ways.specs.Ways.{wayOf}
 
 -- UTC 0, TAI 1, TT 3, GPS 4, TCG 5
 pub record EachWay (rows : List Row) (d : JulianDate) : Type 0 where

@@ -13,7 +13,7 @@ use Rattle.tai_utc.specs.Table.{Row}
 use Rattle.tai_utc.specs.Lent.{unlessRefused}
 use Rattle.runs.specs.declared.RunAnswer.{RunAnswer}
 use Rattle.runs.specs.declared.RunAnswer.the-variants as Answer
-use Rattle.runs.specs.Ways.{isRunScale}
+use Rattle.scale_ways.specs.Ways.{isRunScale}
 use Rattle.runs.specs.Run.{stampAnswer, runOutcome, runRefusal, refusedAmong, runCall, runWritten, runBy, convertedRun}
 use Rattle.runs.specs.Asked.{Roomy, RunPut}
 use Rattle.runs.proofs.Puts.{at-most}

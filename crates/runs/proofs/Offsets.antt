@@ -28,7 +28,7 @@ use Rattle.scales.specs.Formulas.{gpsDays, ttDays}
 use Rattle.scales.specs.Conversions.{answerOf}
 use Rattle.line_up.specs.LineUp.{stampOf}
 use Rattle.line_up.proofs.Cases.{stamp-is}
-use Rattle.runs.specs.Ways.{intoTai, outOfTai, between, wayOf}
+use Rattle.scale_ways.specs.Ways.{intoTai, outOfTai, between, wayOf}
 use Rattle.runs.specs.Asked.{shiftedStamp, IsOffset}
 
 -- ---- a finite number's pattern

@@ -11,7 +11,7 @@ use Rattle.julian.specs.declared.JulianDate.{JulianDate}
 use Rattle.tai_utc.specs.Table.{Row}
 use Rattle.shifts.specs.Shifts.{plus, converted}
 use Rattle.line_up.specs.LineUp.{stampOf}
-use Rattle.runs.specs.Ways.{wayOf}
+use Rattle.scale_ways.specs.Ways.{wayOf}
 use Rattle.runs.specs.Run.{firstPart, secondPart, numberByte, withPart, withParts, withNumbers, refusedAmong}
 
 -- n stamps are there, and places for them

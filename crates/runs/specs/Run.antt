@@ -14,7 +14,7 @@ use Rattle.tai_utc.specs.Table.{Row}
 use Rattle.line_up.specs.LineUp.{stampOf}
 use Rattle.runs.specs.declared.RunAnswer.{RunAnswer}
 use Rattle.runs.specs.declared.RunAnswer.the-variants as Answer
-use Rattle.runs.specs.Ways.{isRunScale, wayOf}
+use Rattle.scale_ways.specs.Ways.{isRunScale, wayOf}
 
 -- ---- one stamp
 

@@ -11,10 +11,10 @@ ghost use Rattle.runs.specs.Asked.{hasOffset, HasPlace, Roomy, StampPut,
 use super::one_if_refused;
 use super::pattern_at;
 use super::put_pattern;
-use super::ways::are;
 use same_stamps::GPS;
 use same_stamps::TAI;
 use same_stamps::TT;
+use scale_ways::are;
 
 // Whether a pattern is a finite number's: its exponent is not all ones.
 fn is_number(n: u64) -> bool

@@ -1,6 +1,5 @@
 // A run of stamps from one scale to another in one call. The parts of the stamps and of the dates are bytes, eight each, the lowest first.
 mod fixed;
-mod ways;
 
 ghost use mathlib.Core.Path.{_≡_};
 ghost use Prim.Native.Nat.{_+_, _*_, _≤_};
@@ -13,7 +12,7 @@ ghost use Rattle.little_endian.specs.LittleEndian.{u64At, eightBytes};
 ghost use Rattle.julian.specs.JulianDate.{julianOutcome};
 ghost use Rattle.tai_utc.specs.Lent.{rowsIn, tableOf};
 ghost use Rattle.line_up.specs.LineUp.{stampOf};
-ghost use Rattle.runs.specs.Ways.{isRunScale};
+ghost use Rattle.scale_ways.specs.Ways.{isRunScale};
 ghost use Rattle.runs.specs.Run.{stampAnswer, runOutcome, runRefusal, runCall, runBy, convertedRun};
 ghost use Rattle.runs.specs.Asked.{Roomy, HasPlace, StampPut, RunPut};
 use julian::JulianAnswer;
@@ -92,7 +91,7 @@ fn convert_stamp<'a>(
     ensures { λ r. ⌜ StampPut (stampAnswer (rowsIn size (now (months .entry)) (now (seconds .entry))) from to (now (jd1s .entry)) (now (jd2s .entry)) i) i (now (out1 .entry)) (now (out2 .entry)) r (now (out1 .exit)) (now (out2 .exit)) ⌝ }
 {
     let jd = stamp_at(jd1s, jd2s, i);
-    let found = ways::convert(from, to, jd, size, months, seconds);
+    let found = scale_ways::convert_by_lent(from, to, jd, size, months, seconds);
     put_answer(found, i, out1, out2)
 }
 

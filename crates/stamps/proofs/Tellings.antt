@@ -2,7 +2,7 @@
 use Prim.Native.Nat.{ℕ, _+_, _*_, _≤_, _<_}
 use native.Mathlib.Omega.{arith}
 use mathlib.Core.Path.{_≡_, refl, sym, ap, subst, _∙_}
-use mathlib.Core.Bool.{false}
+use mathlib.Core.Bool.{Bool, true, false, cond}
 use mathlib.Core.List.{List, _++_}
 use lib.ListN.{length, getD}
 use lib.Dec.{leb}
@@ -12,7 +12,7 @@ use mir.Syntax.{w32}
 use mir.Val.{SFits, toZ, ofZ}
 use borrow.Author.Tests.{ltb-false}
 use Rattle.refusals.specs.Outcome.{Outcome, answer, refusal}
-use Rattle.little_endian.specs.LittleEndian.{u32At}
+use Rattle.little_endian.specs.LittleEndian.{fourAt, u32At}
 use Rattle.calendar.proofs.Years.{DateInRange}
 use Rattle.julian.specs.declared.JulianDate.{JulianDate}
 use Rattle.julian.specs.declared.CalendarFields.{CalendarFields}
@@ -33,6 +33,7 @@ use Rattle.reasons.proofs.SentenceLengths.{sentence-is}
 use Rattle.stamps.specs.declared.Telling.{Telling}
 use Rattle.stamps.specs.declared.Telling.the-variants.{Numbers, Sentences}
 use Rattle.stamps.specs.Listing.{numeral, refusedWord, lineRoom, told, came, valuesBy, refusedValues, blockValues}
+use Rattle.stamps.specs.Widths.{Wide, InWidth}
 
 -- ---- the words, by the way of telling
 module _ (how : Telling) (e : how ≡ Numbers) where
@@ -65,6 +66,19 @@ as-given k v {p} {ys} {res} low high call = subst (λ (o : Outcome (List ℕ)). 
 pub block-width : (n size second : ℕ) → n < 18446744073709551616 → size < 4294967296 → second < 4294967296 → OfWidth (Block n size second)
 unfolding OfWidth
 block-width n size second p q r = (p, q, r)
+
+-- the sizes of a block of bytes have 32 bits
+u32-fits : (s : List ℕ) (at : ℕ) → ((k : ℕ) → getD s k 0 < 256) → u32At s at < 4294967296
+unfolding u32At fourAt
+u32-fits s at bytes = by (leb (at + 4) (length s))
+  where
+    by : (b : Bool) → cond b (getD s at 0 + 256 * getD s (at + 1) 0 + 65536 * getD s (at + 2) 0 + 16777216 * getD s (at + 3) 0) 0 < 4294967296
+    by true = omega (arith, bytes at, bytes (at + 1), bytes (at + 2), bytes (at + 3))
+    by false = omega arith
+
+pub bytes-width : (n : ℕ) (s : List ℕ) → n < 18446744073709551616 → ((k : ℕ) → getD s k 0 < 256) → InWidth (Sentences n) s
+unfolding Wide came
+bytes-width n s h bytes = block-width n (u32At s 0) (u32At s 4) h (u32-fits s 0 bytes) (u32-fits s 4 bytes)
 
 -- ---- the values that the refusal of a date read
 year-fits : (y : ℤ) → ltZ y (negsuc 4899) ≡ false → ltZ (pos 2733194) y ≡ false → mag y < 2147483648

@@ -2,3 +2,4 @@
 pub mod Midnights
 pub mod Steps
 pub mod Rules
+pub mod Months

@@ -61,7 +61,7 @@ pub data Scanned : Type 0 where
   noStep step : Float → Scanned
 
 unfoldable pub scanOutcome : DayScan → Outcome Scanned
-scanOutcome (Day.NoStep x) = answer (noStep x)
+scanOutcome (Day.NoStep k) = answer (noStep (k .seconds))
 scanOutcome (Day.Step x) = answer (step x)
 scanOutcome (Day.Refused number) = refusal number
 

@@ -11,13 +11,18 @@ ghost use Rattle.scales.specs.Scales.{utcOutcome, ut1Outcome};
 ghost use Rattle.utc_scales.specs.LargerPart.{changeSmaller};
 ghost use Rattle.tai_utc.specs.Rule.{withRule};
 ghost use Rattle.utc_scales.specs.ByRule.{offsetOfDateByRule, utcToUt1ByRule, ut1ByRuleOutcome};
-ghost use Rattle.utc_scales.specs.Known.{SameDay, offsetOfParts};
+ghost use Rattle.utc_scales.specs.Known.{SameDay, offsetOfParts, RightMonth, RightMonths, RightScan, monthOutcome};
+ghost use Rattle.utc_scales.specs.Dates.{offsetOfDate};
 ghost use Rattle.utc_scales.specs.UtcUt1 as U;
 use super::larger_part::Parts;
 use super::larger_part::kept_parts;
 use super::larger_part::placed;
 use super::larger_part::put_beside;
+use super::table::KnownMonth;
+use super::table::MonthAnswer;
 use super::table::mjd_of;
+use super::table::month_of;
+use super::table::month_with;
 use super::table::offset_at_0h;
 use super::utc_tai::RuledPart;
 use super::utc_tai::tai_fraction_by_rule;
@@ -42,9 +47,9 @@ pub enum Ut1ByRule {
     Refused(u32),
 }
 
-// What a scanned day shows: its TAI-UTC, with no step from the day before; or DUT1 near its step.
+// What a scanned day shows: its month and TAI-UTC, with no step from the day before; or DUT1 near its step.
 enum DayScan {
-    NoStep(f64),
+    NoStep(KnownMonth),
     Step(f64),
     Refused(u32),
 }
@@ -203,21 +208,22 @@ fn scan_day<'a>(
     small: f64,
     dut1: f64,
     i: f64,
-    before: f64,
+    before: KnownMonth,
     size: usize,
     months: &'a [i32; 16],
     seconds: &'a [i32; 16],
 ) -> DayScan
-    ensures { λ r. ⌜ U.scanOutcome r ≡ U.scanDay (rowsIn size (now (months .entry)) (now (seconds .entry))) big small dut1 i before ⌝ }
+    requires { ⌜ RightMonth (rowsIn size (now months) (now seconds)) before ⌝ }
+    ensures { λ r. ⌜ (U.scanOutcome r ≡ U.scanDay (rowsIn size (now (months .entry)) (now (seconds .entry))) big small dut1 i (before .seconds)) × RightScan (rowsIn size (now (months .entry)) (now (seconds .entry))) r ⌝ }
 {
     match day_number::day_number_and_fraction(big, small + i) {
         DayAnswer::Refused(number) => DayScan::Refused(number),
-        DayAnswer::Day(d) => match offset_at_0h(d.day, size, months, seconds) {
-            SecondsByRule::Refused(number) => DayScan::Refused(number),
-            SecondsByRule::Seconds(x, _) => {
-                let delta = x - before;
+        DayAnswer::Day(d) => match month_with(d.day, before, size, months, seconds) {
+            MonthAnswer::Refused(number) => DayScan::Refused(number),
+            MonthAnswer::Month(k) => {
+                let delta = k.seconds - before.seconds;
                 if floats::fabs(delta) < 0.5 {
-                    DayScan::NoStep(x)
+                    DayScan::NoStep(k)
                 } else {
                     DayScan::Step(near_step(big, small, dut1, delta, mjd_of(d.day)))
                 }
@@ -226,24 +232,41 @@ fn scan_day<'a>(
     }
 }
 
+// TAI-UTC at 0h of the day of a Julian date, and its month.
+fn month_of_date<'a>(
+    jd1: f64,
+    jd2: f64,
+    size: usize,
+    months: &'a [i32; 16],
+    seconds: &'a [i32; 16],
+) -> MonthAnswer
+    ensures { λ r. ⌜ (monthOutcome r ≡ offsetOfDate (rowsIn size (now (months .entry)) (now (seconds .entry))) jd1 jd2) × RightMonths (rowsIn size (now (months .entry)) (now (seconds .entry))) r ⌝ }
+{
+    match day_number::day_number_and_fraction(jd1, jd2) {
+        DayAnswer::Refused(number) => MonthAnswer::Refused(number),
+        DayAnswer::Day(d) => month_of(d.day, size, months, seconds),
+    }
+}
+
 // The days 0 to 3, until a step; with none DUT1 stays.
 fn scan<'a>(
     big: f64,
     small: f64,
     dut1: f64,
-    first: f64,
+    first: KnownMonth,
     size: usize,
     months: &'a [i32; 16],
     seconds: &'a [i32; 16],
 ) -> julian::OffsetAnswer
-    ensures { λ r. ⌜ J.offsetOutcome r ≡ U.scan (rowsIn size (now (months .entry)) (now (seconds .entry))) big small dut1 4 0 first ⌝ }
+    requires { ⌜ RightMonth (rowsIn size (now months) (now seconds)) first ⌝ }
+    ensures { λ r. ⌜ J.offsetOutcome r ≡ U.scan (rowsIn size (now (months .entry)) (now (seconds .entry))) big small dut1 4 0 (first .seconds) ⌝ }
 {
     let mut before = first;
     let mut i: u32 = 0;
     while i < 4 {
         match scan_day(big, small, dut1, i as f64, before, size, months, seconds) {
-            DayScan::NoStep(x) => {
-                before = x;
+            DayScan::NoStep(k) => {
+                before = k;
             }
             DayScan::Step(x) => {
                 return julian::OffsetAnswer::Offset(x);
@@ -268,9 +291,9 @@ fn adjust_dut1_for_leap_second<'a>(
 ) -> julian::OffsetAnswer
     ensures { λ r. ⌜ J.offsetOutcome r ≡ U.adjustDut1 (rowsIn size (now (months .entry)) (now (seconds .entry))) big small dut1 ⌝ }
 {
-    match offset_of_date(big, small + -1.0, size, months, seconds) {
-        SecondsByRule::Refused(number) => julian::OffsetAnswer::Refused(number),
-        SecondsByRule::Seconds(x, _) => scan(big, small, dut1, x, size, months, seconds),
+    match month_of_date(big, small + -1.0, size, months, seconds) {
+        MonthAnswer::Refused(number) => julian::OffsetAnswer::Refused(number),
+        MonthAnswer::Month(k) => scan(big, small, dut1, k, size, months, seconds),
     }
 }
 

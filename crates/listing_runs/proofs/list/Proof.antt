@@ -5,6 +5,8 @@ use mathlib.Core.Path.{_≡_}
 use Prim.Native.Nat.{_-_, _≤_}
 use borrow.Author.Needs.{needs}
 use native.Mathlib.Omega.{arith}
+use Rattle.stamps.specs.declared.Telling.the-variants.{Numbers}
+use Rattle.stamps.proofs.Texts.{room-high}
 use Rattle.stamps.proofs.Parts.{part-within, part-brings-on}
 use Rattle.listing_runs.proofs.list.Statement.{statement}
 use Rattle.listing_runs.proofs.list.Tie as tie
@@ -47,12 +49,12 @@ returns-2 c = search needs
 
 loop-less : tie.Need-loop-less Inv-loop μ-loop
 loop-less c =
-    let on = part-brings-on (c .before .before .before .before .before .next-part-by-rows .ensures) (omega arith) (c .if2 .left) in
+    let on = part-brings-on (c .before .before .before .before .before .next-part-by-rows .ensures) (omega (arith, room-high Numbers)) (c .if2 .left) in
     omega (arith, on .0, on .1)
 
 loop-again : tie.Need-loop-again Inv-loop μ-loop
 loop-again c =
-    let on = part-brings-on (c .before .before .before .before .before .next-part-by-rows .ensures) (omega arith) (c .if2 .left) in
+    let on = part-brings-on (c .before .before .before .before .before .next-part-by-rows .ensures) (omega (arith, room-high Numbers)) (c .if2 .left) in
     (on .1, search needs)
 
 pub list-spec : {M : Type 1} → statement M

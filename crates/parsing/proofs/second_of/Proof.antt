@@ -1,6 +1,6 @@
 -- `second_of` meets its contract. Assumes nothing.
 use Rattle.parsing.proofs.Seconds.{valuesFrom, value-at, power}
-use Rattle.parsing.specs.Scan.{quotient}
+use Rattle.parsing.specs.Judging.{quotient}
 use lib.Ieee.{binary64, ofInt, ofBits, round, div, inFloat}
 use lib.IntN.{pos}
 use lib.Dec.{le→leb}

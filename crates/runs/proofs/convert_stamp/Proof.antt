@@ -1,7 +1,7 @@
 -- `runs::convert_stamp` meets its contract. Assumes nothing.
 use mathlib.Core.Path.{_≡_, refl, sym, ap, subst, _∙_}
 use Rattle.tai_utc.specs.Lent.{rowsIn}
-use Rattle.runs.specs.Ways.{wayOf}
+use Rattle.scale_ways.specs.Ways.{wayOf}
 use Rattle.runs.proofs.Puts.{put-same}
 use borrow.Author.Needs.{needs}
 use Rattle.runs.proofs.convert_stamp.Statement.{statement}
@@ -10,8 +10,8 @@ use Rattle.runs.proofs.convert_stamp.Tie as tie
 stamp-at-requires : tie.Need-stamp-at-requires
 stamp-at-requires c κs = search needs
 
-convert-requires : tie.Need-convert-requires
-convert-requires c κs = search needs
+convert-by-lent-requires : tie.Need-convert-by-lent-requires
+convert-by-lent-requires c κs = search needs
 
 put-answer-requires : tie.Need-put-answer-requires
 put-answer-requires c κs = search needs
@@ -27,7 +27,7 @@ returns c =
     let a = c .before .before .before .before .before .before .before .before .before .before .before .before .before .args in
     let k = c .before .before .before .before .before .before .before in
     put-same
-    (k .convert .ensures ∙ ap (wayOf (rowsIn (a .size) (a .months .now) (a .seconds .now)) (a .from) (a .to)) (c .before .before .before .before .before .before .before .before .stamp-at .ensures))
+    (k .convert-by-lent .ensures ∙ ap (wayOf (rowsIn (a .size) (a .months .now) (a .seconds .now)) (a .from) (a .to)) (c .before .before .before .before .before .before .before .before .stamp-at .ensures))
     (c .before .before .before .before .put-answer .ensures)
 
 pub convert-stamp-spec : {M : Type 1} → statement M
@@ -35,7 +35,7 @@ convert-stamp-spec =
     tie.close
     (tie.spec
     stamp-at-requires
-    convert-requires
+    convert-by-lent-requires
     put-answer-requires
     same-length
     same-length-2

@@ -1,5 +1,5 @@
 -- `capi::reader_calls::ct_utc_from_iso8601` meets its contract. Assumes nothing.
-use Rattle.c_answers.specs.ReaderFields.{parsedUtcBytes}
+use Rattle.reader_answers.specs.ReaderFields.{parsedUtcBytes}
 use Rattle.capi.proofs.Tables.{table-refused, with-rows}
 use borrow.Author.Needs.{needs}
 use Rattle.capi.proofs.reader_calls.ct_utc_from_iso8601.Statement.{statement}

@@ -1,10 +1,12 @@
 -- `utc_scales::utc_ut1::scan` meets its contract. Assumes nothing.
-use mathlib.Core.Path.{_≡_, refl, sym, ap, _∙_}
+use mathlib.Core.Path.{_≡_, refl, sym, ap, _∙_, subst}
 use Prim.Native.Nat.{_≤_, _-_}
 use native.Mathlib.Omega.{arith}
 use Rattle.julian.specs.Finite.{offsetOutcome}
 use Rattle.tai_utc.specs.Table.{Row}
 use Rattle.tai_utc.specs.Lent.{rowsIn}
+use Rattle.utc_scales.specs.declared.utc_ut1.DayScan.{DayScan}
+use Rattle.utc_scales.specs.Known.{RightMonth, RightScan}
 use Rattle.utc_scales.specs.UtcUt1.{scanOutcome, scan}
 use Rattle.utc_scales.proofs.Steps.{scan-on, scan-ends, scan-refused, scan-done}
 use mathlib.Core.List.{List}
@@ -14,40 +16,41 @@ use Rattle.utc_scales.proofs.utc_ut1.scan.Statement.{statement}
 use Rattle.utc_scales.proofs.utc_ut1.scan.Tie as tie
 
 abbrev Inv-loop : tie.InvT-loop
-Inv-loop big small dut1 first size months seconds before₀ i₀ before i = (i ≤ 4) × (scan (rowsIn size months seconds) big small dut1 (4 - i) i before ≡ scan (rowsIn size months seconds) big small dut1 4 0 first)
+Inv-loop big small dut1 size months seconds before₀ i₀ before i =
+    (i ≤ 4) × (scan (rowsIn size months seconds) big small dut1 (4 - i) i (before .seconds) ≡ scan (rowsIn size months seconds) big small dut1 4 0 (before₀ .seconds)) × RightMonth (rowsIn size months seconds) before
 
 abbrev μ-loop : tie.MeasureT-loop
-μ-loop big small dut1 first size months seconds before₀ i₀ before i = 4 - i
+μ-loop big small dut1 size months seconds before₀ i₀ before i = 4 - i
 
 -- the rows that are read
 abbrev rows : tie.Start Inv-loop μ-loop → List Row
 rows s = rowsIn (s .args .size) (now (s .args .months)) (now (s .args .seconds))
 
 loop-holds : tie.Need-loop-holds Inv-loop μ-loop
-loop-holds c = (omega arith, refl)
+loop-holds c = (omega arith, refl, c .pre)
 
 int-to-float-scan-day : tie.Need-int-to-float-scan-day Inv-loop μ-loop
 int-to-float-scan-day c = tt
 
 scan-day-requires : tie.Need-scan-day-requires Inv-loop μ-loop
-scan-day-requires c κs = search needs
+scan-day-requires c κs = c .before .before .loop .inv .2
+
+enum-known-k : tie.Need-enum-known-k Inv-loop μ-loop
+enum-known-k c = search needs
 
 enum-known-x : tie.Need-enum-known-x Inv-loop μ-loop
 enum-known-x c = search needs
 
-enum-known-x-2 : tie.Need-enum-known-x-2 Inv-loop μ-loop
-enum-known-x-2 c = search needs
-
 returns : tie.Need-returns Inv-loop μ-loop
 unfolding scanOutcome offsetOutcome
-returns c = sym (scan-ends (rows (c .before .before .before .before .before .before .before)) _ _ _ _ _ (omega arith) _ (sym (c .before .before .before .scan-day .ensures) ∙ ap scanOutcome (c .before .x2 .given .1))) ∙ c .before .before .before .before .before .before .loop .inv .1
+returns c = sym (scan-ends (rows (c .before .before .before .before .before .before .before)) _ _ _ _ _ (omega arith) _ (sym (c .before .before .before .scan-day .ensures .0) ∙ ap scanOutcome (c .before .x .given .1))) ∙ c .before .before .before .before .before .before .loop .inv .1
 
 enum-known-number : tie.Need-enum-known-number Inv-loop μ-loop
 enum-known-number c = search needs
 
 returns-2 : tie.Need-returns-2 Inv-loop μ-loop
 unfolding scanOutcome offsetOutcome
-returns-2 c = sym (scan-refused (rows (c .before .before .before .before .before .before .before)) _ _ _ _ _ (omega arith) _ (sym (c .before .before .before .scan-day .ensures) ∙ ap scanOutcome (c .before .number .given .1))) ∙ c .before .before .before .before .before .before .loop .inv .1
+returns-2 c = sym (scan-refused (rows (c .before .before .before .before .before .before .before)) _ _ _ _ _ (omega arith) _ (sym (c .before .before .before .scan-day .ensures .0) ∙ ap scanOutcome (c .before .number .given .1))) ∙ c .before .before .before .before .before .before .loop .inv .1
 
 add-i : tie.Need-add-i Inv-loop μ-loop
 add-i c = omega arith
@@ -56,8 +59,12 @@ loop-less : tie.Need-loop-less Inv-loop μ-loop
 loop-less c = omega arith
 
 loop-again : tie.Need-loop-again Inv-loop μ-loop
-unfolding scanOutcome offsetOutcome
-loop-again c = (omega arith, sym (scan-on (rows (c .before .before .before .before .before .before .before)) _ _ _ _ _ (omega arith) _ (sym (c .before .before .before .scan-day .ensures) ∙ ap scanOutcome (c .before .x .given .1))) ∙ c .before .before .before .before .before .before .loop .inv .1)
+unfolding scanOutcome offsetOutcome RightScan
+loop-again c = (
+  omega arith,
+  sym (scan-on (rows (c .before .before .before .before .before .before .before)) _ _ _ _ _ (omega arith) _ (sym (c .before .before .before .scan-day .ensures .0) ∙ ap scanOutcome (c .before .k .given .1))) ∙ c .before .before .before .before .before .before .loop .inv .1,
+  subst (λ (z : DayScan). RightScan (rows (c .before .before .before .before .before .before .before)) z) (c .before .k .given .1) (c .before .before .before .scan-day .ensures .1),
+)
 
 returns-3 : tie.Need-returns-3 Inv-loop μ-loop
 unfolding scanOutcome offsetOutcome
@@ -72,8 +79,8 @@ scan-spec =
     loop-holds
     int-to-float-scan-day
     scan-day-requires
+    enum-known-k
     enum-known-x
-    enum-known-x-2
     returns
     enum-known-number
     returns-2

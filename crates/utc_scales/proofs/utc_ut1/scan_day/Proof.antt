@@ -1,5 +1,5 @@
 -- `utc_scales::utc_ut1::scan_day` meets its contract. Assumes nothing.
-use mathlib.Core.Path.{sym, ap, _∙_}
+use mathlib.Core.Path.{_≡_, sym, ap, _∙_, subst}
 use lib.Ieee.Fits.{add-fits}
 use lib.Ieee.{Float, binary64, ofInt, ofBits, sub, lt}
 use lib.IntN.{ℤ, pos, _-ℤ_}
@@ -11,13 +11,11 @@ use Rattle.calendar.specs.Gregorian.{gregorianDate}
 use Rattle.day_number.specs.Answer.{dayOutcome}
 use Rattle.day_number.proofs.Ranges.{day-range, day-read}
 use Rattle.julian.specs.JulianDate.{julian}
-use Rattle.tai_utc.specs.Answers.{secondsByRuleOutcome}
-use Rattle.tai_utc.specs.Rule.{withRule}
-use Rattle.utc_scales.specs.ByRule.{ruleOn}
-use Rattle.tai_utc.proofs.Rules.{apart, refused-apart}
 use Rattle.tai_utc.specs.Table.{Row}
 use Rattle.tai_utc.specs.Lent.{rowsIn}
 use Rattle.utc_scales.specs.Dates.{offsetAt0h}
+use Rattle.utc_scales.specs.declared.table.MonthAnswer.{MonthAnswer}
+use Rattle.utc_scales.specs.Known.{monthOutcome, RightMonths, RightScan}
 use Rattle.utc_scales.specs.UtcUt1.{step, scanOutcome, nearStep}
 use Rattle.utc_scales.proofs.Midnights.{day-asked}
 use Rattle.utc_scales.proofs.Steps.{scan-no-date, scan-no-offset, scan-no-step, scan-step}
@@ -40,14 +38,14 @@ enum-known-number c = search needs
 enum-known-d : tie.Need-enum-known-d
 enum-known-d c = search needs
 
-offset-at-0h-requires : tie.Need-offset-at-0h-requires
-offset-at-0h-requires c κs = search needs
+month-with-requires : tie.Need-month-with-requires
+month-with-requires c κs = search needs
 
 enum-known-number-2 : tie.Need-enum-known-number-2
 enum-known-number-2 c = search needs
 
-enum-known-x : tie.Need-enum-known-x
-enum-known-x c = search needs
+enum-known-k : tie.Need-enum-known-k
+enum-known-k c = search needs
 
 fabs-requires : tie.Need-fabs-requires
 fabs-requires c κs = search needs
@@ -55,7 +53,7 @@ fabs-requires c κs = search needs
 mjd-of-requires : tie.Need-mjd-of-requires
 unfolding dayOutcome
 mjd-of-requires c κs =
-    let d = c .before .before .before .before .before .before .before .before .before in
+    let d = c .before .before .before .before .before .before .before .before .before .before .before in
     let n = d .before .before in
     let s = n .before in
     let e = sym (n .day-number-and-fraction .ensures) ∙ ap dayOutcome (d .d .given .1) in
@@ -66,47 +64,52 @@ near-step-requires : tie.Need-near-step-requires
 near-step-requires c κs = search needs
 
 returns : tie.Need-returns
-unfolding scanOutcome dayOutcome secondsByRuleOutcome ofBits
-returns c = sym (scan-no-date (rows (c .before .before .before .before)) _ _ _ _ _ _ (sym (c .before .before .before .day-number-and-fraction .ensures) ∙ ap dayOutcome (c .before .number .given .1)))
+unfolding scanOutcome dayOutcome monthOutcome RightScan RightMonths ofBits
+returns c = (sym (scan-no-date (rows (c .before .before .before .before)) _ _ _ _ _ _ (sym (c .before .before .before .day-number-and-fraction .ensures) ∙ ap dayOutcome (c .before .number .given .1))), tt)
 
 returns-2 : tie.Need-returns-2
-unfolding scanOutcome dayOutcome secondsByRuleOutcome ofBits
+unfolding scanOutcome dayOutcome monthOutcome RightScan RightMonths ofBits
 returns-2 c =
     let d = c .before .before .before .before .before .before in
     let n = d .before .before in
     let s = n .before in
     let e = sym (n .day-number-and-fraction .ensures) ∙ ap dayOutcome (d .d .given .1) in
     let r = day-range _ _ (yes (s .good .0 .1)) (add-fits binary64 (s .args .small) (s .args .i)) _ e in
-    let h = c .before .before .before .offset-at-0h .ensures ∙ ap (λ (z : ℤ). withRule (offsetAt0h (rows s) (gregorianDate z)) (ruleOn (rows s) (gregorianDate z))) (day-read _ r) in
-    let p = refused-apart _ _ _ (sym h ∙ ap secondsByRuleOutcome (c .before .number2 .given .1)) in
-    sym (scan-no-offset (rows (c .before .before .before .before .before .before .before .before .before)) _ _ _ _ _ _ e _ p)
+    let m = c .before .before .before in
+    let h = m .month-with .ensures .0 ∙ ap (λ (z : ℤ). offsetAt0h (rows s) (gregorianDate z)) (day-read _ r) in
+    (sym (scan-no-offset (rows s) _ _ _ _ _ _ e _ (sym h ∙ ap monthOutcome (c .before .number2 .given .1))), tt)
 
 returns-3 : tie.Need-returns-3
-unfolding scanOutcome dayOutcome secondsByRuleOutcome ofBits
+unfolding scanOutcome dayOutcome monthOutcome RightScan RightMonths ofBits
 returns-3 c =
-    let d = c .before .before .before .before .before .before .before .before in
+    let d = c .before .before .before .before .before .before .before .before .before .before in
     let n = d .before .before in
     let s = n .before in
     let e = sym (n .day-number-and-fraction .ensures) ∙ ap dayOutcome (d .d .given .1) in
     let r = day-range _ _ (yes (s .good .0 .1)) (add-fits binary64 (s .args .small) (s .args .i)) _ e in
-    let h = c .before .before .before .before .before .offset-at-0h .ensures ∙ ap (λ (z : ℤ). withRule (offsetAt0h (rows s) (gregorianDate z)) (ruleOn (rows s) (gregorianDate z))) (day-read _ r) in
-    let p = apart _ _ _ _ (sym h ∙ ap secondsByRuleOutcome (c .before .before .before .x .given .1)) .0 in
-    sym (scan-no-step (rows (c .before .before .before .before .before .before .before .before .before .before .before)) _ _ _ _ _ _ e _ p (ap (λ (z : Float). lt z half) (sym (c .before .fabs .ensures)) ∙ c .if1 .taken))
+    let m = c .before .before .before .before .before .before .before in
+    let k = c .before .before .before .before .before in
+    let h = m .month-with .ensures .0 ∙ ap (λ (z : ℤ). offsetAt0h (rows s) (gregorianDate z)) (day-read _ r) in (
+      sym (scan-no-step (rows s) _ _ _ _ _ _ e _ (sym h ∙ ap monthOutcome (k .k .given .1)) (ap (λ (z : Float). lt z half) (sym (c .before .fabs .ensures)) ∙ c .if1 .taken)),
+      subst (λ (z : MonthAnswer). RightMonths (rows s) z) (k .k .given .1) (m .month-with .ensures .1),
+    )
 
 returns-4 : tie.Need-returns-4
-unfolding scanOutcome dayOutcome secondsByRuleOutcome ofBits
+unfolding scanOutcome dayOutcome monthOutcome RightScan RightMonths ofBits
 returns-4 c =
-    let d = c .before .before .before .before .before .before .before .before .before .before .before in
+    let d = c .before .before .before .before .before .before .before .before .before .before .before .before .before in
     let n = d .before .before in
     let s = n .before in
     let e = sym (n .day-number-and-fraction .ensures) ∙ ap dayOutcome (d .d .given .1) in
     let r = day-range _ _ (yes (s .good .0 .1)) (add-fits binary64 (s .args .small) (s .args .i)) _ e in
-    let h = c .before .before .before .before .before .before .before .before .offset-at-0h .ensures ∙ ap (λ (z : ℤ). withRule (offsetAt0h (rows s) (gregorianDate z)) (ruleOn (rows s) (gregorianDate z))) (day-read _ r) in
-    let p = apart _ _ _ _ (sym h ∙ ap secondsByRuleOutcome (c .before .before .before .before .before .before .x .given .1)) .0 in
-    let m = c .before .mjd-of .ensures ∙ ap (λ (z : ℤ). ofInt binary64 (z -ℤ pos 2400001)) (day-read _ r) in
-    let delta = sub binary64 (c .before .before .before .before .before .before .x .given .0 .0) (s .args .before) in
-    ap (λ (z : Float). answer (step z)) (c .near-step .ensures ∙ ap (λ (z : Float). nearStep (s .args .big) (s .args .small) (s .args .dut1) delta (julian mjdZeroPoint z)) m)
-    ∙ sym (scan-step (rows (c .before .before .before .before .before .before .before .before .before .before .before .before .before .before)) _ _ _ _ _ _ e _ p r (ap (λ (z : Float). lt z half) (sym (c .before .before .before .before .fabs .ensures)) ∙ c .before .before .before .if1 .left))
+    let m = c .before .before .before .before .before .before .before .before .before .before in
+    let k = c .before .before .before .before .before .before .before .before in
+    let h = m .month-with .ensures .0 ∙ ap (λ (z : ℤ). offsetAt0h (rows s) (gregorianDate z)) (day-read _ r) in
+    let w = c .before .mjd-of .ensures ∙ ap (λ (z : ℤ). ofInt binary64 (z -ℤ pos 2400001)) (day-read _ r) in (
+      ap (λ (z : Float). answer (step z)) (c .near-step .ensures ∙ ap (λ (z : Float). nearStep (s .args .big) (s .args .small) (s .args .dut1) (sub binary64 (k .k .given .0 .0 .seconds) (s .args .before .seconds)) (julian mjdZeroPoint z)) w)
+          ∙ sym (scan-step (rows s) _ _ _ _ _ _ e _ (sym h ∙ ap monthOutcome (k .k .given .1)) r (ap (λ (z : Float). lt z half) (sym (c .before .before .before .before .fabs .ensures)) ∙ c .before .before .before .if1 .left)),
+      tt,
+    )
 
 pub scan-day-spec : {M : Type 1} → statement M
 scan-day-spec =
@@ -115,9 +118,9 @@ scan-day-spec =
     day-number-and-fraction-requires
     enum-known-number
     enum-known-d
-    offset-at-0h-requires
+    month-with-requires
     enum-known-number-2
-    enum-known-x
+    enum-known-k
     fabs-requires
     mjd-of-requires
     near-step-requires

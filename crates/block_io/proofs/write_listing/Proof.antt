@@ -1,0 +1,77 @@
+-- `block_io::write_listing` meets its contract: a part that is not the last brings it on by a line at least. The measure is the number of lines that can be left. Assumes
+-- nothing.
+use Prim.Native.Nat.{ℕ, _-_, _≤_, zero-le}
+use mathlib.Core.Path.{_≡_}
+use lib.ListN.{length}
+use native.Mathlib.Omega.{arith}
+use borrow.Author.Needs.{needs}
+use Rattle.stamps.specs.Block.{blockOf}
+use Rattle.stamps.specs.Parts.{linesIn}
+use Rattle.stamps.proofs.Texts.{room-high}
+use Rattle.stamps.proofs.Parts.{part-within, part-brings-on}
+use Rattle.block_io.proofs.Counted.{next-within, comes-last}
+use Rattle.block_io.proofs.write_listing.Statement.{statement}
+use Rattle.block_io.proofs.write_listing.Tie as tie
+
+abbrev Inv-loop : tie.InvT-loop
+Inv-loop how block scratch₀ table line₀ scratch line = (line ≤ linesIn (blockOf block)) × (64 ≡ length scratch)
+
+abbrev μ-loop : tie.MeasureT-loop
+μ-loop how block scratch₀ table line₀ scratch line = 4001 - line
+
+no-rows-requires : tie.Need-no-rows-requires Inv-loop μ-loop
+no-rows-requires c κs = search needs
+
+loop-holds : tie.Need-loop-holds Inv-loop μ-loop
+loop-holds c = (zero-le, search needs)
+
+slice-aggregate-next-told-part-by-rows :
+    tie.Need-slice-aggregate-next-told-part-by-rows Inv-loop μ-loop
+slice-aggregate-next-told-part-by-rows c = search needs
+
+next-told-part-by-rows-requires : tie.Need-next-told-part-by-rows-requires Inv-loop μ-loop
+next-told-part-by-rows-requires c κs = search needs
+
+array-share-prefix-scratch : tie.Need-array-share-prefix-scratch Inv-loop μ-loop
+array-share-prefix-scratch c = part-within (c .before .next-told-part-by-rows .ensures) .0
+
+slice-aggregate-write-text : tie.Need-slice-aggregate-write-text Inv-loop μ-loop
+slice-aggregate-write-text c = part-within (c .before .before .next-told-part-by-rows .ensures) .1
+
+write-text-requires : tie.Need-write-text-requires Inv-loop μ-loop
+write-text-requires c κs = search needs
+
+returns : tie.Need-returns Inv-loop μ-loop
+returns c = record { within = c .before .before .before .before .before .before .loop .inv .0; whole = λ e. (let z : _≡_ {A = ℕ} 0 1 = cc in absurd (omega arith)) }
+
+returns-2 : tie.Need-returns-2 Inv-loop μ-loop
+returns-2 c =
+    let p = c .before .before .before .before .before .next-told-part-by-rows .ensures in
+    let h = c .before .before .before .before .before .before .before .loop .inv .0 in
+    record { within = next-within p h; whole = λ e. comes-last p h (c .if2 .taken) }
+
+loop-less : tie.Need-loop-less Inv-loop μ-loop
+loop-less c =
+    let on = part-brings-on (c .before .before .before .before .before .next-told-part-by-rows .ensures) (omega (arith, room-high (c .before .before .before .before .before .before .before .before .before .before .args .how), c .before .before .before .before .before .before .before .loop .inv .1)) (c .if2 .left) in
+    omega (arith, on .0, on .1)
+
+loop-again : tie.Need-loop-again Inv-loop μ-loop
+loop-again c = (next-within (c .before .before .before .before .before .next-told-part-by-rows .ensures) (c .before .before .before .before .before .before .before .loop .inv .0), search needs)
+
+pub write-listing-spec : {M : Type 1} → statement M
+write-listing-spec =
+    tie.close
+    (tie.spec
+    Inv-loop
+    μ-loop
+    no-rows-requires
+    loop-holds
+    slice-aggregate-next-told-part-by-rows
+    next-told-part-by-rows-requires
+    array-share-prefix-scratch
+    slice-aggregate-write-text
+    write-text-requires
+    returns
+    returns-2
+    loop-less
+    loop-again)

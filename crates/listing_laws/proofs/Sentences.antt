@@ -1,0 +1,219 @@
+-- The second listing, with refusals told in sentences: what it has from the first, and what each sentence names. Assumes nothing.
+use Prim.Native.Nat.{ℕ, zero, suc, _+_, _-_, _*_, _≤_, _<_}
+use native.Mathlib.Omega.{arith}
+use mathlib.Core.Path.{_≡_, refl, sym, ap, subst, _∙_}
+use mathlib.Core.Logic.{_⊎_, inl, inr}
+use mathlib.Core.Bool.{Bool, true, false, cond, not, _&&_}
+use mathlib.Core.List.{List, [], _∷_, _++_}
+use lib.ListN.{length, take, getD, length-append, length-replicate, length-take}
+use lib.Seq.{getD-take, length-take-le, take-all}
+use lib.Dec.{ltb, leb, eqb}
+use lib.IntN.{pos}
+use lib.Ieee.{Float}
+use borrow.Author.Tests.{ltb-true, ltb-false, leb-true, leb-false, le-leb, lt-leb, lt-ltb, le-ltb, ne-eqb, eqb-true, eqb-false}
+use Rattle.refusals.specs.Outcome.{Outcome, answer, refusal, onward}
+use Rattle.little_endian.specs.LittleEndian.{fourAt, u32At}
+use Rattle.digits.specs.Decimal.{digitsIn, digitsOf}
+use Rattle.calendar.proofs.Years.{validOf}
+use Rattle.day_number.specs.declared.DayNumber.{DayNumber}
+use Rattle.day_number.specs.Answer.{dayNumberAndFraction}
+use Rattle.julian.specs.declared.JulianDate.{JulianDate}
+use Rattle.julian.specs.declared.CalendarFields.{CalendarFields}
+use Rattle.julian.specs.JulianDate.{julian, roundedSum}
+use Rattle.julian.specs.Calendar.{fields, julianToCalendar}
+use Rattle.julian_laws.proofs.CalendarDays.{fields-of, only-six}
+use Rattle.tai_utc.specs.Table.{Row}
+use Rattle.utc.specs.Expanded.{expandedSheet, isoTextExpanded}
+use Rattle.utc.proofs.Dates.{date-in-range}
+use Rattle.utc_laws.proofs.Numbers.{not-both, one-number, date-refusal}
+use Rattle.utc.proofs.TextCalls.{fields-refused-by, fields-given-by}
+use Rattle.utc_laws.proofs.DayTexts.{text-refused-by, has-text-by}
+use Rattle.sentences.specs.declared.Named.{Named}
+use Rattle.sentences.specs.declared.Named.the-variants.{Year, Sum, SecondSize, Size, WholeLength}
+use Rattle.reasons.specs.declared.Values.{Values}
+use Rattle.reasons.specs.declared.Values.the-variants.{Date, Parts, Block}
+use Rattle.sentences.specs.declared.Reason.{Reason}
+use Rattle.sentences.specs.Texts.{asciiBytes, texts, fixedText}
+use Rattle.reasons.specs.Offending.{offending, blockField}
+use Rattle.sentences.specs.Render.{namedText, render}
+use Rattle.reasons.specs.Sentence.{reasonOf}
+use Rattle.reasons.specs.Widths.{OfWidth}
+use Rattle.reason_laws.proofs.Names.{year-told, sum-told, second-size-told, size-told, length-told}
+use Rattle.stamps.specs.declared.Telling.{Telling}
+use Rattle.stamps.specs.declared.Telling.the-variants.{Numbers, Sentences}
+use Rattle.stamps.specs.Block.{blockOf, stampAt}
+use Rattle.stamps.specs.Listing.{numeral, lineRoom, told, came, textAt, valuesBy, refusedValues, shown, stampLine, refusedIn, header, blockWord, blockValues, blockRefused, listingOf, listing}
+use Rattle.stamps.specs.Parts.{lineOf}
+use Rattle.stamps.specs.Widths.{Wide, InWidth}
+use Rattle.stamps.proofs.Tellings.{bytes-width}
+use Rattle.stamps.proofs.Lengths.{line-most}
+use Rattle.listing_laws.specs.NotFinite.{NotFinite}
+use Rattle.listing_laws.proofs.NotFinite.{not-finite-refused}
+
+-- ---- what the two listings share
+-- the header
+pub header-shared : (how other : Telling) (rows : List Row) (s : List ℕ) (n : ℕ) → blockOf s ≡ answer n → lineOf how rows (blockOf s) s 0 ≡ lineOf other rows (blockOf s) s 0
+unfolding lineOf
+header-shared how other rows s n e = rw e refl
+
+-- and the line of every stamp that has a text
+pub text-line-shared : (how other : Telling) (rows : List Row) (s : List ℕ) (n i : ℕ) (t : List ℕ) → textAt rows s n i ≡ answer t → stampLine how rows s n i ≡ stampLine other rows s n i
+unfolding stampLine shown
+text-line-shared how other rows s n i t e = rw e refl
+
+-- ---- every line has at most 64 bytes, of every block of bytes and however many of 64 bits came
+pub told-line-most : (n : ℕ) → n < 18446744073709551616 → (rows : List Row) (s : List ℕ) → ((k : ℕ) → getD s k 0 < 256) → (line : ℕ) → length (lineOf (Sentences n) rows (blockOf s) s line) ≤ 64
+unfolding lineRoom
+told-line-most n h rows s bytes line = line-most (Sentences n) rows (blockOf s) s line (bytes-width n s h bytes)
+
+-- ---- which field a sentence names
+-- the sentence of a number with its field
+abbrev sentenceOf : ℕ → Named → List ℕ
+sentenceOf k f = render (record { number = k; named = f })
+
+-- the reason of a number from 1 to 28 has the field that is at fault
+same-field : {k : ℕ} {f g : Named} → _≡_ {A = Outcome Reason} (answer (record { number = k; named = f })) (answer (record { number = k; named = g })) → f ≡ g
+same-field {k} {f} {g} e = let r : _≡_ {A = Reason} (record { number = k; named = f }) (record { number = k; named = g }) = cc in ap (λ (x : Reason). x .named) r
+
+-- ---- a stamp
+no-day : (a b : Float) → julianToCalendar a b ≡ refusal 6 → dayNumberAndFraction a b ≡ refusal 6
+unfolding julianToCalendar onward
+no-day a b e = go (dayNumberAndFraction a b) refl
+  where
+    go : (o : Outcome DayNumber) → dayNumberAndFraction a b ≡ o → dayNumberAndFraction a b ≡ refusal 6
+    go (answer d) p = absurd (not-both (julianToCalendar a b) _ 6 (fields-of a b d p) e)
+    go (refusal k) p = p ∙ ap refusal (one-number (julianToCalendar a b) k 6 (rw p refl) e)
+
+-- by 6 where the parts have no day, by 1 where the day has no text
+abbrev Which : JulianDate → ℕ → Type 0
+Which jd k = ((k ≡ 6) × (julianToCalendar (jd .jd1) (jd .jd2) ≡ refusal 6)) ⊎ ((k ≡ 1) × ((c : CalendarFields) × (julianToCalendar (jd .jd1) (jd .jd2) ≡ answer c) × (validOf (c .date) ≡ refusal 1)))
+
+module _ (rows : List Row) (jd : JulianDate) where
+  module _ (k : ℕ) (e : isoTextExpanded rows jd ≡ refusal k) where
+    which : Which jd k
+    which = go (julianToCalendar (jd .jd1) (jd .jd2)) refl
+      where
+        go : (o : Outcome CalendarFields) → julianToCalendar (jd .jd1) (jd .jd2) ≡ o
+            → Which jd k
+        go (refusal n) p =
+            let six = only-six (jd .jd1) (jd .jd2) n p in
+            inl (one-number (isoTextExpanded rows jd) k n e (fields-refused-by expandedSheet rows jd n p) ∙ six, p ∙ ap refusal six)
+        go (answer c) p = by-date (date-refusal (jd .jd1) (jd .jd2) c p)
+          where
+            by-date : (validOf (c .date) ≡ answer tt) ⊎ (validOf (c .date) ≡ refusal 1)
+                → Which jd k
+            by-date (inl v) = absurd (not-both (isoTextExpanded rows jd) _ k (fields-given-by expandedSheet rows jd c p ∙ has-text-by rows (c .date) v (date-in-range (jd .jd1) (jd .jd2) c p .year-high) expandedSheet (c .fraction)) e)
+            by-date (inr v) = inr (one-number (isoTextExpanded rows jd) k 1 e (fields-given-by expandedSheet rows jd c p ∙ text-refused-by rows (c .date) expandedSheet (c .fraction) 1 v), (c, p, v))
+
+  sum-named : isoTextExpanded rows jd ≡ refusal 6 → offending 6 (refusedValues jd) ≡ Sum (roundedSum jd)
+  unfolding valuesBy reasonOf
+  sum-named e = go (which 6 e)
+    where
+      go : Which jd 6
+          → offending 6 (refusedValues jd) ≡ Sum (roundedSum jd)
+      go (inl (q, p)) = ap (λ (o : Outcome CalendarFields). offending 6 (valuesBy jd o)) p ∙ same-field (sum-told (jd .jd1) (jd .jd2) (no-day (jd .jd1) (jd .jd2) p))
+      go (inr (q, r)) = absurd (let z : ⊥ = omega arith in z)
+
+  year-named : isoTextExpanded rows jd ≡ refusal 1 → (c : CalendarFields) × (julianToCalendar (jd .jd1) (jd .jd2) ≡ answer c) × (offending 1 (refusedValues jd) ≡ Year (c .date .year))
+  unfolding valuesBy reasonOf
+  year-named e = go (which 1 e)
+    where
+      go : Which jd 1
+          → (c : CalendarFields) × (julianToCalendar (jd .jd1) (jd .jd2) ≡ answer c) × (offending 1 (refusedValues jd) ≡ Year (c .date .year))
+      go (inl (q, p)) = absurd (let z : ⊥ = omega arith in z)
+      go (inr (q, (c, p, v))) = (c, p, ap (λ (o : Outcome CalendarFields). offending 1 (valuesBy jd o)) p ∙ same-field (year-told (c .date .year) (pos (c .date .month)) (pos (c .date .day)) v))
+
+-- the line of a stamp whose refusal tells this sentence
+abbrev sentenceLine : ℕ → ℕ → Named → List ℕ
+sentenceLine i k f = ((numeral i ++ (32 ∷ [])) ++ sentenceOf k f) ++ (10 ∷ [])
+
+module _ (m : ℕ) (rows : List Row) (s : List ℕ) (n i : ℕ) where
+  told-line : (k : ℕ) (f : Named) → textAt rows s n i ≡ refusal k → offending k (refusedValues (stampAt s n i)) ≡ f → stampLine (Sentences m) rows s n i ≡ sentenceLine i k f
+  unfolding stampLine shown told
+  told-line k f e q =
+      ap (λ (o : Outcome (List ℕ)). ((numeral i ++ (32 ∷ [])) ++ shown (Sentences m) (stampAt s n i) o) ++ (10 ∷ [])) e
+      ∙ ap (sentenceLine i k) q
+
+  -- a stamp that is refused by 6 names the rounded sum of its own parts
+  pub sum-line : textAt rows s n i ≡ refusal 6 → stampLine (Sentences m) rows s n i ≡ sentenceLine i 6 (Sum (roundedSum (stampAt s n i)))
+  unfolding textAt
+  sum-line e = told-line 6 _ e (sum-named rows (stampAt s n i) e)
+
+  -- so does every stamp that is not finite
+  pub not-finite-sum : NotFinite s n i → stampLine (Sentences m) rows s n i ≡ sentenceLine i 6 (Sum (roundedSum (stampAt s n i)))
+  not-finite-sum d = sum-line (not-finite-refused rows s n i d)
+
+  -- one that is refused by 1 names the year of its own date
+  pub year-line : textAt rows s n i ≡ refusal 1
+      → (c : CalendarFields) × (julianToCalendar (stampAt s n i .jd1) (stampAt s n i .jd2) ≡ answer c) × (stampLine (Sentences m) rows s n i ≡ sentenceLine i 1 (Year (c .date .year)))
+  unfolding textAt
+  year-line e = let (c, p, q) = year-named rows (stampAt s n i) e in (c, p, told-line 1 _ e q)
+
+-- ---- a block
+module _ (m : ℕ) (rows : List Row) (s : List ℕ) (line : ℕ) where
+  block-line : (k : ℕ) (f : Named) → blockOf s ≡ refusal k → offending k (blockValues (Sentences m) s) ≡ f → lineOf (Sentences m) rows (blockOf s) s line ≡ (blockWord ++ sentenceOf k f) ++ (10 ∷ [])
+  unfolding lineOf blockRefused told
+  block-line k f e q = ap (λ (o : Outcome ℕ). lineOf (Sentences m) rows o s line) e ∙ ap (λ (x : Named). (blockWord ++ sentenceOf k x) ++ (10 ∷ [])) q
+
+  -- 12 names the block's second size, 13 its size
+  pub second-size-line : blockOf s ≡ refusal 12 → lineOf (Sentences m) rows (blockOf s) s line ≡ (blockWord ++ sentenceOf 12 (SecondSize (u32At s 4))) ++ (10 ∷ [])
+  unfolding reasonOf offending blockField
+  second-size-line e = block-line 12 _ e (same-field (second-size-told s e))
+
+  pub size-line : blockOf s ≡ refusal 13 → lineOf (Sentences m) rows (blockOf s) s line ≡ (blockWord ++ sentenceOf 13 (Size (u32At s 0))) ++ (10 ∷ [])
+  unfolding reasonOf offending blockField
+  size-line e = block-line 13 _ e (same-field (size-told s e))
+
+-- 14 names how many bytes came
+pub length-line : (rows : List Row) (s : List ℕ) (line : ℕ) → blockOf s ≡ refusal 14
+    → lineOf (Sentences (length s)) rows (blockOf s) s line ≡ (blockWord ++ sentenceOf 14 (WholeLength (length s))) ++ (10 ∷ [])
+unfolding reasonOf came
+length-line rows s line e = block-line (length s) rows s line 14 _ e (same-field (length-told s e))
+
+-- ---- an input that is longer than any block: its first 64,009 bytes are listed as all of it
+size-cut : (s : List ℕ) (at : ℕ) → at ≤ 4 → 64009 < length s → u32At (take 64009 s) at ≡ u32At s at
+unfolding u32At fourAt
+size-cut s at h l =
+    let n : length (take 64009 s) ≡ 64009 = length-take-le 64009 s (omega arith) in
+    rw (le-leb (at + 4) (length s) (omega arith), le-leb (at + 4) (length (take 64009 s)) (omega arith))
+    (simp (getD-take 64009 s at 0 (omega arith), getD-take 64009 s (at + 1) 0 (omega arith), getD-take 64009 s (at + 2) 0 (omega arith), getD-take 64009 s (at + 3) 0 (omega arith)))
+
+-- by its sizes alone
+abbrev bySizes : ℕ → ℕ → Outcome ℕ
+bySizes a b = cond (eqb a b) (cond (leb a 4000) (refusal 14) (refusal 13)) (refusal 12)
+
+long-block : (s : List ℕ) → 64009 ≤ length s → blockOf s ≡ bySizes (u32At s 0) (u32At s 4)
+unfolding blockOf
+long-block s l = rw (le-ltb (length s) 8 (omega arith)) (go (eqb (u32At s 0) (u32At s 4)) (leb (u32At s 0) 4000) refl)
+  where
+    go : (p q : Bool) → leb (u32At s 0) 4000 ≡ q
+        → cond p (cond q (cond (eqb (length s) (8 + 16 * u32At s 0)) (answer (u32At s 0)) (refusal 14)) (refusal 13)) (refusal 12) ≡ cond p (cond q (refusal 14) (refusal 13)) (refusal 12)
+    go false q e = refl
+    go true false e = refl
+    go true true e =
+        let few : u32At s 0 ≤ 4000 = leb-true _ _ e in
+        rw (ne-eqb (length s) (8 + 16 * u32At s 0) (λ same. (let no : ⊥ = omega arith in no))) refl
+
+refused-alike : (how : Telling) (s t : List ℕ) (k : ℕ) → u32At s 0 ≡ u32At t 0 → u32At s 4 ≡ u32At t 4 → blockRefused how s k ≡ blockRefused how t k
+unfolding blockRefused told came
+refused-alike Numbers s t k p q = refl
+refused-alike (Sentences n) s t k p q = λ i. (blockWord ++ told (Sentences n) k (Block n (p i) (q i))) ++ (10 ∷ [])
+
+pub cut-listing : (how : Telling) (rows : List Row) (s : List ℕ) → listing how rows (take 64009 s) ≡ listing how rows s
+unfolding listing listingOf
+cut-listing how rows s = go (leb (length s) 64009) refl
+  where
+    go : (b : Bool) → leb (length s) 64009 ≡ b → listing how rows (take 64009 s) ≡ listing how rows s
+    go true e = ap (listing how rows) (take-all 64009 s (leb-true _ _ e))
+    go false e =
+        let l : 64009 < length s = leb-false _ _ e in
+        let n : length (take 64009 s) ≡ 64009 = length-take-le 64009 s (omega arith) in
+        let p = size-cut s 0 (omega arith) l in
+        let q = size-cut s 4 (omega arith) l in
+        rw (long-block (take 64009 s) (omega arith) ∙ (λ i. bySizes (p i) (q i)), long-block s (omega arith)) (either p q (eqb (u32At s 0) (u32At s 4)) (leb (u32At s 0) 4000))
+      where
+        either : u32At (take 64009 s) 0 ≡ u32At s 0 → u32At (take 64009 s) 4 ≡ u32At s 4 → (a b : Bool)
+            → listingOf how rows (cond a (cond b (refusal 14) (refusal 13)) (refusal 12)) (take 64009 s) ≡ listingOf how rows (cond a (cond b (refusal 14) (refusal 13)) (refusal 12)) s
+        either p q false b = refused-alike how (take 64009 s) s 12 p q
+        either p q true false = refused-alike how (take 64009 s) s 13 p q
+        either p q true true = refused-alike how (take 64009 s) s 14 p q

@@ -1,0 +1,2 @@
+-- The cases of a way.
+pub mod Steps

@@ -1,0 +1,14 @@
+-- `scale_ways::are` meets its contract. Assumes nothing.
+use borrow.Author.Tests.{eq-eqb, ne-eqb}
+use borrow.Author.Needs.{needs}
+use Rattle.scale_ways.proofs.are.Statement.{statement}
+use Rattle.scale_ways.proofs.are.Tie as tie
+
+returns : tie.Need-returns
+returns c = rw (ne-eqb _ _ (c .if1 .taken))
+
+returns-2 : tie.Need-returns-2
+returns-2 c = rw (eq-eqb _ _ (c .if1 .left))
+
+pub are-spec : {M : Type 1} → statement M
+are-spec = tie.close (tie.spec returns returns-2)
