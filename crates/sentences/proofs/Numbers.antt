@@ -1,11 +1,11 @@
 -- Numbers as the code writes them: decimal digits from the last on, signs, and the numbers that have no text. Assumes nothing.
-use Prim.Native.Nat.{ℕ, zero, suc, _+_, _-_, _*_, _/_, _%_, _^_, _<_, _≤_}
+use Prim.Native.Nat.{ℕ, zero, suc, _+_, _-_, _/_, _%_, _<_, _≤_}
 use native.Mathlib.Omega.{arith}
 use mathlib.Core.Path.{_≡_, refl, sym, ap, _∙_}
 use mathlib.Core.List.{List, [], _∷_, _++_, append-assoc, append-nil}
 use mathlib.Core.Bool.{Bool, true, false, cond}
 use lib.ListN.{length, take, drop, set, length-append, length-drop, length-set, getD, List·getD-eq-default}
-use lib.Seq.{take-at, take-all, drop-length, set-split, drop-at, length-take-le}
+use lib.Seq.{take-all, drop-length, set-split, drop-at, length-take-le}
 use lib.IntN.{ℤ, pos, negsuc, natAbs}
 use lib.Signed.{ltZ, mag}
 use mir.Syntax.{w32}

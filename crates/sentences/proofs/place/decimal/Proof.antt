@@ -1,5 +1,5 @@
 -- `place::decimal` meets its contract: the digits are written from the last on. Assumes nothing.
-use Prim.Native.Nat.{_+_, _-_, _/_, _%_, _≤_, _<_}
+use Prim.Native.Nat.{_+_, _-_, _/_, _%_}
 use mathlib.Core.Path.{refl, ap}
 use lib.ListN.{length, set, length-set}
 use native.Mathlib.Omega.{arith}
