@@ -9,9 +9,10 @@ use lib.ListN.{length, getD, replicate, length-append, length-replicate}
 use lib.IntN.{pos, negsuc}
 use lib.Signed.{ltZ}
 use lib.Ieee.{Float, binary64, ofBits, round, ofInt, add, sub, div, neg, lt, le, eq, toSigned}
+use lib.Dec.{lit<}
 use Rattle.refusals.specs.Outcome.{Outcome, answer, refusal, onward}
 use Rattle.little_endian.specs.LittleEndian.{fourAt, u32At, u64At}
-use Rattle.digits.specs.Decimal.{digitsIn, digitsOf}
+use Rattle.digits.specs.Decimal.{digitsIn}
 use Rattle.floats.specs.Whole.{abs, toWhole, nearestInt}
 use Rattle.calendar.specs.declared.CalendarDate.{CalendarDate}
 use Rattle.calendar.specs.Calendar.{date, next, leapSize, lengths, daysInMonth}
@@ -38,6 +39,7 @@ use Rattle.stamps.specs.declared.Telling.the-variants.{Numbers, Sentences}
 use Rattle.stamps.specs.Block.{blockOf, jd1Bits, jd2Bits, stampAt}
 use Rattle.stamps.specs.Listing.{told, came, textAt, shown, stampLine, blockRefused}
 use Rattle.stamps.specs.Parts.{lineOf}
+use Rattle.listing_laws.proofs.Numerals.{digits-whole}
 
 -- ---- the date of two zeros is -4713-11-24, by any rows with a text of 27 bytes
 abbrev nil : Float
@@ -125,8 +127,8 @@ module _ (z : List ℕ) (many : length z ≡ 64001) where
   refused-14 = rw many refl
 
   line-64 : (rows : List Row) → length (lineOf (Sentences twentyDigits) rows (refusal 14) long 0) ≡ 64
-  unfolding lineOf blockRefused told came render offending blockField namedText fixedText texts digitsOf digitsIn u32At fourAt
-  line-64 rows = rw many refl
+  unfolding lineOf blockRefused told came render offending blockField namedText fixedText texts digitsIn u32At fourAt
+  line-64 rows = rw (many, ← digits-whole 19 twentyDigits (lit< tt)) refl
 
 pub longest-told : (rows : List Row) → (s : List ℕ) × (n : ℕ) × (n < 18446744073709551616) × (blockOf s ≡ refusal 14) × (length (lineOf (Sentences n) rows (blockOf s) s 0) ≡ 64)
 longest-told rows =

@@ -36,9 +36,12 @@ below-power (suc n) = rw (pow-suc 10 (suc n)) (step (10 ^ suc n) (below-power n)
     step : (P : ℕ) → n < P → suc n < P * 10
     step P h = omega arith
 
-pub numeral-whole : (n : ℕ) → n < 10000 → numeral n ≡ digitsOf n
+pub digits-whole : (k n : ℕ) → n < 10 ^ suc k → digitsIn (suc k) n ≡ digitsOf n
 unfolding digitsOf
-numeral-whole n h = enough 3 n n h (below-power n)
+digits-whole k n h = enough k n n h (below-power n)
+
+pub numeral-whole : (n : ℕ) → n < 10000 → numeral n ≡ digitsOf n
+numeral-whole n h = digits-whole 3 n h
 
 pub numeral-reads : (n : ℕ) → n < 10000 → number (numeral n) ≡ n
 numeral-reads n h = ap number (numeral-whole n h) ∙ number-digits n

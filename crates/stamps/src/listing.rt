@@ -126,13 +126,7 @@ fn place_header(stamps: u32, refused: u32, dst: &mut [u8], at: usize) -> usize
     place::bytes(b"\n", dst, d)
 }
 
-fn place_block_refused(
-    how: Telling,
-    block: &[u8],
-    number: u32,
-    dst: &mut [u8],
-    at: usize,
-) -> usize
+fn place_block_refused(how: Telling, block: &[u8], number: u32, dst: &mut [u8], at: usize) -> usize
     requires { ⌜ (1 ≤ number) × (number ≤ 28) × (at + lineRoom how ≤ length (now dst)) ⌝ }
     ensures { λ r. ⌜ Placed (now (dst .entry)) at (blockRefused how (now (block .entry)) number) r (now (dst .exit)) ⌝ }
     ensures { λ r. ⌜ r ≤ at + lineRoom how ⌝ }
