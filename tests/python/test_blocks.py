@@ -134,6 +134,17 @@ class Blocks(unittest.TestCase):
             for given in (block, block[:-1], b"", bytes(8), SAMPLE.read_bytes()):
                 self.assertEqual(ct.listing(given), subprocess.run([program], input=given, capture_output=True).stdout)
 
+    def test_reason_listing(self):
+        """As the second listing program lists, where it is built; and by the single sentences."""
+        block = ct.block_of([2451545.0, float("inf"), -31740.0], [0.0, float("-inf"), 0.0])
+        told = ct.reason_listing(block).decode().splitlines()
+        self.assertEqual(told[:2], ct.listing(block).decode().splitlines()[:2])
+        self.assertEqual(told[2:], [f"1 {ct.reason(6, jd1=float('inf'), jd2=float('-inf'))}", f"2 {ct.reason(1, year=-4800, month=1, day=1)}"])
+        program = ROOT / "target" / "bin" / "reason_listing"
+        if program.exists():
+            for given in (block, block[:-1], b"", bytes(8), bytes(100000), SAMPLE.read_bytes()):
+                self.assertEqual(ct.reason_listing(given), subprocess.run([program], input=given, capture_output=True).stdout)
+
     def test_command_listing(self):
         done = run("listing", SAMPLE)
         self.assertEqual((done.returncode, done.stdout), (0, b"utc listing 3 refused 1\n0 2000-01-01T12:00:00.000\n1 2000-01-01T00:00:00.000\n2 refused 6\n"))
