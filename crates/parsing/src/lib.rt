@@ -146,12 +146,7 @@ pub fn from_str_by_lent<'a>(
 pub fn from_str_by_rows(text: &[u8], table: LentRows) -> ParsedUtcAnswer
     ensures { λ r. ⌜ parsedUtcOutcome r ≡ parsedUtc (rowsOf table) (now (text .entry)) ⌝ }
 {
-    from_str_by_lent(
-        text,
-        tai_utc::size_of(table),
-        &table.months,
-        &table.seconds,
-    )
+    from_str_by_lent(text, tai_utc::size_of(table), &table.months, &table.seconds)
 }
 
 // The fields of a UTC text and the date that they name. Refusals in order: 20 to 22 the table, 15 the text, 16 its fraction, 2 the month, 3 the day, 4 the time, which
