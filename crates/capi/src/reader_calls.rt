@@ -6,8 +6,7 @@ ghost use Rattle.lent_bytes.specs.TableBytes.{tableBytes};
 ghost use Rattle.c_answers.specs.Delivery.{inBytes, Delivered};
 ghost use Rattle.reader_answers.specs.ReaderFields.{parsedBytes, parsedUtcBytes};
 use c_answers::refused;
-use lent_bytes::lent_rows_at;
-use lent_bytes::table_number;
+use lent_bytes::arrays;
 use parsing::ParsedAnswer;
 use parsing::ParsedUtcAnswer;
 
@@ -40,10 +39,16 @@ pub extern "C" fn ct_parse_iso8601(text: &[u8], out: &mut [u8]) -> i64
 pub extern "C" fn ct_utc_from_iso8601(text: &[u8], table: &[u8], out: &mut [u8]) -> i64
     ensures { λ r. ⌜ Delivered (inBytes parsedUtcBytes (onward (tableBytes (now (table .entry))) (λ rows. parsedUtc rows (now (text .entry))))) (now (out .entry)) r (now (out .exit)) ⌝ }
 {
-    let rows = lent_rows_at(table);
-    let number = table_number(table.len(), rows);
+    let mut months = [0; 16];
+    let mut seconds = [0; 16];
+    let lent = arrays::read_table(table, &mut months, &mut seconds);
+    let number = lent.number;
     if number != 0 {
         return refused(number);
     }
-    put_parsed_utc(parsing::from_str_by_rows(text, rows), out)
+    let size = lent.size;
+    put_parsed_utc(
+        parsing::from_str_by_lent(text, size, &months, &seconds),
+        out,
+    )
 }

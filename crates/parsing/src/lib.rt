@@ -12,7 +12,7 @@ ghost use mathlib.Core.Bool.{true, false};
 ghost use Prim.Native.Nat.{_≤_};
 ghost use Rattle.julian.specs.JulianDate.{julianOutcome};
 ghost use Rattle.refusals.specs.Outcome.{onward};
-ghost use Rattle.tai_utc.specs.Lent.{rowsOf, tableOf};
+ghost use Rattle.tai_utc.specs.Lent.{rowsIn, rowsOf, tableOf};
 ghost use Rattle.parsing.specs.Parsed.{parsedOutcome, parsedUtcOutcome, parsed, toJulianDate, dated as dated·of, parsedUtc};
 ghost use Rattle.parsing.specs.Judging.{timeIn, quotient, judgedForm};
 
@@ -124,15 +124,27 @@ pub fn parse_iso8601(text: &[u8]) -> ParsedAnswer
     parse(text, false)
 }
 
-// The fields of a UTC text and the date that they name, by the rows of a table that is tested elsewhere. Refusals in order: 15 the text, 16 its fraction, 2 the month,
-// 3 the day, 4 the time, which goes by the length of the day's last minute.
-pub fn from_str_by_rows(text: &[u8], table: LentRows) -> ParsedUtcAnswer
-    ensures { λ r. ⌜ parsedUtcOutcome r ≡ parsedUtc (rowsOf table) (now (text .entry)) ⌝ }
+// The fields of a UTC text and the date that they name, by rows that are tested elsewhere. Refusals in order: 15 the text, 16 its fraction, 2 the month, 3 the day, 4 the
+// time, which goes by the length of the day's last minute.
+pub fn from_str_by_lent<'a>(
+    text: &[u8],
+    size: usize,
+    months: &'a [i32; 16],
+    seconds: &'a [i32; 16],
+) -> ParsedUtcAnswer
+    ensures { λ r. ⌜ parsedUtcOutcome r ≡ parsedUtc (rowsIn size (now (months .entry)) (now (seconds .entry))) (now (text .entry)) ⌝ }
 {
     match parse(text, true) {
         ParsedAnswer::Refused(number) => ParsedUtcAnswer::Refused(number),
-        ParsedAnswer::Fields(fields) => dated(fields, table),
+        ParsedAnswer::Fields(fields) => dated(fields, size, months, seconds),
     }
+}
+
+// The same by the rows of a table.
+pub fn from_str_by_rows(text: &[u8], table: LentRows) -> ParsedUtcAnswer
+    ensures { λ r. ⌜ parsedUtcOutcome r ≡ parsedUtc (rowsOf table) (now (text .entry)) ⌝ }
+{
+    from_str_by_lent(text, tai_utc::size_of(table), &table.months, &table.seconds)
 }
 
 // The fields of a UTC text and the date that they name. Refusals in order: 20 to 22 the table, 15 the text, 16 its fraction, 2 the month, 3 the day, 4 the time, which
@@ -147,17 +159,24 @@ pub fn from_str(text: &[u8], table: LentRows) -> ParsedUtcAnswer
     from_str_by_rows(text, table)
 }
 
-fn dated(fields: ParsedDateTime, table: LentRows) -> ParsedUtcAnswer
-    ensures { λ r. ⌜ parsedUtcOutcome r ≡ dated·of (rowsOf table) fields ⌝ }
+fn dated<'a>(
+    fields: ParsedDateTime,
+    size: usize,
+    months: &'a [i32; 16],
+    seconds: &'a [i32; 16],
+) -> ParsedUtcAnswer
+    ensures { λ r. ⌜ parsedUtcOutcome r ≡ dated·of (rowsIn size (now (months .entry)) (now (seconds .entry))) fields ⌝ }
 {
-    match utc::utc_from_calendar_by_rows(
+    match utc::utc_from_calendar_by_lent(
         fields.year,
         fields.month,
         fields.day,
         fields.hour,
         fields.minute,
         fields.second,
-        table,
+        size,
+        months,
+        seconds,
     ) {
         UtcAnswer::Refused(number) => ParsedUtcAnswer::Refused(number),
         UtcAnswer::Date(date) => ParsedUtcAnswer::Read(ParsedUtc { fields, date }),

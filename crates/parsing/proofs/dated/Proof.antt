@@ -2,8 +2,9 @@
 use Rattle.parsing.specs.Parsed.{parsedUtcOutcome, dated}
 use Rattle.utc.specs.FromCalendar.{utcFromCalendar}
 use Rattle.scales.specs.Scales.{utcOutcome}
-use Rattle.tai_utc.specs.Lent.{rowsOf}
+use Rattle.tai_utc.specs.Lent.{rowsIn}
 use Rattle.refusals.specs.Outcome.{onward}
+use denote.Ref.{now}
 use mir.Facts.{toZ-ofZ}
 use mir.Val.{SFits}
 use mir.Syntax.{w32}
@@ -13,8 +14,8 @@ use borrow.Author.Needs.{needs}
 use Rattle.parsing.proofs.dated.Statement.{statement}
 use Rattle.parsing.proofs.dated.Tie as tie
 
-utc-from-calendar-by-rows-requires : tie.Need-utc-from-calendar-by-rows-requires
-utc-from-calendar-by-rows-requires c κs = search needs
+utc-from-calendar-by-lent-requires : tie.Need-utc-from-calendar-by-lent-requires
+utc-from-calendar-by-lent-requires c κs = search needs
 
 enum-known-number : tie.Need-enum-known-number
 enum-known-number c = search needs
@@ -28,7 +29,7 @@ returns c =
     let a = c .before .before .before .before .before .args in
     let p = a .fields in
     let fit : SFits w32 (p .year) = record { sfits = c .before .before .before .before .struct-told .given .0 .1 } in
-    rw (sym (λ i. utcFromCalendar (rowsOf (a .table)) (toZ-ofZ {w = w32} {z = p .year} fit i) (p .month) (p .day) (p .hour) (p .minute) (p .second)) ∙ sym (c .before .before .before .utc-from-calendar-by-rows .ensures) ∙ ap utcOutcome (c .before .number .given .1))
+    rw (sym (λ i. utcFromCalendar (rowsIn (a .size) (now (a .months)) (now (a .seconds))) (toZ-ofZ {w = w32} {z = p .year} fit i) (p .month) (p .day) (p .hour) (p .minute) (p .second)) ∙ sym (c .before .before .before .utc-from-calendar-by-lent .ensures) ∙ ap utcOutcome (c .before .number .given .1))
 
 returns-2 : tie.Need-returns-2
 unfolding parsedUtcOutcome dated onward utcOutcome
@@ -36,9 +37,9 @@ returns-2 c =
     let a = c .before .before .before .before .before .args in
     let p = a .fields in
     let fit : SFits w32 (p .year) = record { sfits = c .before .before .before .before .struct-told .given .0 .1 } in
-    rw (sym (λ i. utcFromCalendar (rowsOf (a .table)) (toZ-ofZ {w = w32} {z = p .year} fit i) (p .month) (p .day) (p .hour) (p .minute) (p .second)) ∙ sym (c .before .before .before .utc-from-calendar-by-rows .ensures) ∙ ap utcOutcome (c .before .date .given .1))
+    rw (sym (λ i. utcFromCalendar (rowsIn (a .size) (now (a .months)) (now (a .seconds))) (toZ-ofZ {w = w32} {z = p .year} fit i) (p .month) (p .day) (p .hour) (p .minute) (p .second)) ∙ sym (c .before .before .before .utc-from-calendar-by-lent .ensures) ∙ ap utcOutcome (c .before .date .given .1))
 
 pub dated-spec : {M : Type 1} → statement M
 dated-spec =
     tie.close
-    (tie.spec utc-from-calendar-by-rows-requires enum-known-number enum-known-date returns returns-2)
+    (tie.spec utc-from-calendar-by-lent-requires enum-known-number enum-known-date returns returns-2)

@@ -1,32 +1,24 @@
--- `from_str_by_rows` meets its contract. Assumes nothing.
-use Rattle.parsing.specs.Parsed.{parsedOutcome, parsedUtcOutcome, parsedUtc}
-use Rattle.refusals.specs.Outcome.{onward}
-use mathlib.Core.Path.{sym, ap, _∙_}
+-- `from_str_by_rows` meets its contract: by the table's two arrays. Assumes nothing.
+use mathlib.Core.Path.{_∙_}
+use denote.Ref.{now}
+use Rattle.tai_utc.proofs.ByParts.{rows-in}
+use Rattle.parsing.specs.Parsed.{parsedUtc}
 use borrow.Author.Needs.{needs}
 use Rattle.parsing.proofs.from_str_by_rows.Statement.{statement}
 use Rattle.parsing.proofs.from_str_by_rows.Tie as tie
 
-parse-requires : tie.Need-parse-requires
-parse-requires c κs = search needs
+size-of-requires : tie.Need-size-of-requires
+size-of-requires c κs = search needs
 
-enum-known-number : tie.Need-enum-known-number
-enum-known-number c = search needs
-
-enum-known-fields : tie.Need-enum-known-fields
-enum-known-fields c = search needs
-
-dated-requires : tie.Need-dated-requires
-dated-requires c κs = search needs
+from-str-by-lent-requires : tie.Need-from-str-by-lent-requires
+from-str-by-lent-requires c κs = search needs
 
 returns : tie.Need-returns
-unfolding parsedUtcOutcome parsedUtc onward parsedOutcome
-returns c = rw (sym (c .before .before .before .parse .ensures) ∙ ap parsedOutcome (c .before .number .given .1))
-
-returns-2 : tie.Need-returns-2
-unfolding parsedUtc onward parsedOutcome
-returns-2 c = rw (sym (c .before .before .before .before .parse .ensures) ∙ ap parsedOutcome (c .before .before .fields .given .1)) (c .dated .ensures)
+returns c =
+    let z = c .before .before .before .before in
+    let s = z .before .before in
+    let rows = rows-in (s .args .t2) (z .size-of .result) (z .size-of .ensures) in
+    c .from-str-by-lent .ensures ∙ (λ i. parsedUtc (rows i) (now (s .args .text)))
 
 pub from-str-by-rows-spec : {M : Type 1} → statement M
-from-str-by-rows-spec =
-    tie.close
-    (tie.spec parse-requires enum-known-number enum-known-fields dated-requires returns returns-2)
+from-str-by-rows-spec = tie.close (tie.spec size-of-requires from-str-by-lent-requires returns)

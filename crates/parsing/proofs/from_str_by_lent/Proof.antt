@@ -1,0 +1,32 @@
+-- `from_str_by_lent` meets its contract. Assumes nothing.
+use Rattle.parsing.specs.Parsed.{parsedOutcome, parsedUtcOutcome, parsedUtc}
+use Rattle.refusals.specs.Outcome.{onward}
+use mathlib.Core.Path.{sym, ap, _∙_}
+use borrow.Author.Needs.{needs}
+use Rattle.parsing.proofs.from_str_by_lent.Statement.{statement}
+use Rattle.parsing.proofs.from_str_by_lent.Tie as tie
+
+parse-requires : tie.Need-parse-requires
+parse-requires c κs = search needs
+
+enum-known-number : tie.Need-enum-known-number
+enum-known-number c = search needs
+
+enum-known-fields : tie.Need-enum-known-fields
+enum-known-fields c = search needs
+
+dated-requires : tie.Need-dated-requires
+dated-requires c κs = search needs
+
+returns : tie.Need-returns
+unfolding parsedUtcOutcome parsedUtc onward parsedOutcome
+returns c = rw (sym (c .before .before .before .parse .ensures) ∙ ap parsedOutcome (c .before .number .given .1))
+
+returns-2 : tie.Need-returns-2
+unfolding parsedUtc onward parsedOutcome
+returns-2 c = rw (sym (c .before .before .before .before .parse .ensures) ∙ ap parsedOutcome (c .before .before .fields .given .1)) (c .dated .ensures)
+
+pub from-str-by-lent-spec : {M : Type 1} → statement M
+from-str-by-lent-spec =
+    tie.close
+    (tie.spec parse-requires enum-known-number enum-known-fields dated-requires returns returns-2)
