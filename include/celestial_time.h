@@ -382,8 +382,9 @@ int64_t ct_listing_part(const uint8_t *block, size_t block_len, uint32_t line, c
    lines of stamps and after `block`. The header is the same. A stamp that is refused by 6 names the rounded
    sum of its parts, by 1 its year; a block by 12 the second size, by 13 the size, and by 14 `input_len`: how
    many bytes came in all, of which the block has the first (block_len, where all are there; a block that is
-   cut off after 64,009 bytes is refused as a whole one would be). A line has at most 64 bytes, and 11 is
-   where out_len is below 64. */
+   cut off after 64,009 bytes is refused as a whole one would be). input_len is not held against block_len,
+   and where it fits the sizes none is named. A line has at most 64 bytes, and 11 is where out_len is below
+   64. */
 int64_t ct_reason_listing_part(const uint8_t *block, size_t block_len, uint64_t input_len, uint32_t line,
                                const uint8_t *table, size_t table_len, uint8_t *out, size_t out_len);
 
