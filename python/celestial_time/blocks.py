@@ -8,7 +8,7 @@ from typing import Any, BinaryIO, Iterator, NamedTuple, Union
 import numpy as np
 from numpy.typing import ArrayLike, NDArray
 
-from ._library import TABLE_BYTES, function
+from ._library import TABLE_BYTES, check_float_mode, function
 from ._arrays import FLOAT, address_of
 from .refusals import Refused
 from .runs import _in_one_piece
@@ -134,7 +134,9 @@ def listing(block: Source, *, table: Table | None = None) -> bytes:
     0 2000-01-01T12:00:00.000
     1 refused 6
     """
-    return b"".join(_parts_of(_bytes_of(block), lent_table(table)))
+    held, rows = _bytes_of(block), lent_table(table)
+    check_float_mode()
+    return b"".join(_parts_of(held, rows))
 
 
 def listings(source: Source, *, table: Table | None = None) -> Iterator[bytes]:

@@ -5,7 +5,7 @@ import ctypes
 from operator import index
 from typing import Any
 
-from ._library import LibraryError, function
+from ._library import FloatModeError, LibraryError, check_float_mode, function
 
 # Which values each sentence takes, and the call that composes it.
 _SENTENCES: dict[str, tuple[str, ...]] = {
@@ -50,7 +50,7 @@ class Refused(ValueError):
         whole = len(read) == len(_READ.get(self.number, ()))
         try:
             return f"{said}: {reason(self.number, **read if whole else {})}"
-        except (LibraryError, OverflowError, Refused):
+        except (FloatModeError, LibraryError, OverflowError, Refused):
             return said
 
 
@@ -76,6 +76,8 @@ def reason(number: int, **values: Any) -> str:
         call = fitting[0]
         arguments += (values[field] for field in _SENTENCES[call])
     called = function(call)
+    if ctypes.c_double in called.argtypes:
+        check_float_mode()
     text = ctypes.create_string_buffer(_LONGEST)
     given = [_fitting(value, kind) for value, kind in zip(arguments, called.argtypes)]
     code = called(*given, text, len(text))

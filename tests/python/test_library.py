@@ -139,19 +139,23 @@ class Library(unittest.TestCase):
                 ctypes.CDLL({str(fast)!r})
                 if one * 2.0 ** 52 != 0.0:
                     print('kept')
-                for call in (lambda: ct.gpstai([2451545.0], 0.0), lambda: ct.line_up([1.0], [0.0]), lambda: ct.offsets_at_0h([[2000, 1, 1]])):
+                block = ct.block_of([2451545.0], [0.0])  # does not ask
+                calls = (lambda: ct.gpstai([2451545.0], 0.0), lambda: ct.line_up([1.0], [0.0]), lambda: ct.offsets_at_0h([[2000, 1, 1]]), lambda: ct.listing(block),
+                         lambda: next(ct.listings(block)), lambda: ct.reason(9, jd1=0.0, jd2=0.0))
+                for call in calls:
                     try:
                         call()
                         print('answered')
                     except ct.FloatModeError as error:
                         print('refused')
+                assert ct.reason(9) and str(ct.Refused(9, 'gpstai', {{'jd1': 0.0, 'jd2': 0.0}})) and ct.place_ticks([0, 2], [0, 1], 2) == 1
                 ct.default_float_mode()
                 print(ct.gpstai([2451545.0], 0.0).numbers, one * 2.0 ** 52 != 0.0)
             """
             done = python(code)
             self.assertEqual(done.stderr, "")
             # A compiler whose -ffast-math does not touch the mode of a shared library leaves it.
-            self.assertIn(done.stdout, ("refused\nrefused\nrefused\n[0] True\n", "kept\nanswered\nanswered\nanswered\n[0] True\n"))
+            self.assertIn(done.stdout, ("refused\n" * 6 + "[0] True\n", "kept\n" + "answered\n" * 6 + "[0] True\n"))
 
     def test_reasons(self):
         if not _library.has("ct_reason"):
