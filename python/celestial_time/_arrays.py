@@ -1,7 +1,7 @@
 """Arrays handed to a loop of the library: what is taken, what is lent, and one walk over both.
 
-An array of the right type that lies in one piece is handed over as it is. Any other, one that is broadcast, strided, byte-swapped or of a smaller type, goes
-through a buffer of some thousand places; none is copied whole. Nothing is called before every argument has been looked at.
+An array of the right type that lies in one piece is handed over as it is. Any other, one that is broadcast, strided, byte-swapped or of another type, goes
+through a buffer of some thousand places; none is copied whole here. Nothing is called before every argument has been looked at.
 """
 from __future__ import annotations
 
@@ -17,6 +17,7 @@ BUFFER, STRETCH = 1 << 16, 1 << 18
 FLOAT, INT, LONG, NUMBER = "<f8", "<i4", "<i8", "u1"
 _FLOAT = np.dtype(FLOAT)
 _PLAIN = (np.ndarray, np.memmap)
+_NUMBERS = {int, float, str, bytes}
 
 
 class Field(NamedTuple):
@@ -39,10 +40,49 @@ def as_array(name: str, value: ArrayLike) -> NDArray[Any]:
     Traceback (most recent call last):
     TypeError: jd1 is a MaskedArray; hand over a plain array, of a masked one .filled(nan) or what is not masked
     """
-    if isinstance(value, np.ndarray) and type(value) not in _PLAIN:
-        kind = type(value).__name__
-        raise TypeError(f"{name} is a {kind}; hand over a plain array, of a masked one .filled(nan) or what is not masked")
-    return np.asarray(value)
+    _look_at(name, value)
+    array = np.asarray(value)
+    # Of whole numbers and floats in one list numpy makes floats.
+    if array.dtype.kind == "f" and isinstance(value, (list, tuple)):
+        _look_at_whole_numbers(name, value)
+    return array
+
+
+def _look_at(name: str, value: Any) -> None:
+    """An array, or the items of a list or tuple: numpy would take a mask off, and True among numbers for 1."""
+    if isinstance(value, np.ndarray):
+        if type(value) not in _PLAIN:
+            kind = type(value).__name__
+            raise TypeError(f"{name} is a {kind}; hand over a plain array, of a masked one .filled(nan) or what is not masked")
+    elif isinstance(value, (list, tuple)):
+        kinds = set(map(type, value))
+        if not kinds <= _NUMBERS:
+            for item in value:
+                if isinstance(item, (bool, np.bool_)) or isinstance(item, np.ndarray) and item.dtype.kind == "b":
+                    raise TypeError(f"{name} holds {item!r}, which is no number")
+                _look_at(name, item)
+
+
+def _look_at_whole_numbers(name: str, value: Any) -> None:
+    """That none of a list or tuple is rounded where they become floats."""
+    if isinstance(value, (list, tuple)):
+        if set(map(type, value)) != {float}:
+            for item in value:
+                _look_at_whole_numbers(name, item)
+    elif isinstance(value, np.ndarray):
+        floats(name, value)
+    elif isinstance(value, (int, np.integer)):
+        _check_whole(name, int(value))
+
+
+def _check_whole(name: str, number: int) -> None:
+    if abs(number) > 1 << 53:
+        raise OverflowError(f"{name} holds {number}, which a 64-bit float may round")
+
+
+def _once(array: NDArray[Any]) -> NDArray[Any]:
+    """The array without the axes along which one value is broadcast, which may be longer than any memory."""
+    return array[tuple(slice(0, 1) if step == 0 else slice(None) for step in array.strides)]
 
 
 def floats(name: str, value: ArrayLike) -> NDArray[Any]:
@@ -58,9 +98,9 @@ def floats(name: str, value: ArrayLike) -> NDArray[Any]:
     if array.dtype.kind not in "fiu" or not np.can_cast(array.dtype, FLOAT, "safe"):
         raise TypeError(f"{name} is of type {array.dtype} and not of 64-bit floats")
     if array.dtype.kind != "f" and array.dtype.itemsize == 8 and array.size:
-        for end in (int(array.min()), int(array.max())):
-            if abs(end) > 1 << 53:
-                raise OverflowError(f"{name} holds {end}, which a 64-bit float may round")
+        held = _once(array)
+        _check_whole(name, int(held.min()))
+        _check_whole(name, int(held.max()))
     return array
 
 
@@ -76,31 +116,33 @@ def whole(name: str, value: ArrayLike, dtype: str) -> NDArray[Any]:
         raise TypeError(f"{name} is of type {array.dtype} and not of whole numbers")
     if np.can_cast(array.dtype, dtype, "safe"):
         return array
-    limits = np.iinfo(dtype)
-    if array.size:
-        # Python's own whole numbers: a comparison of int64 with uint64 would go by floats.
-        for end, place in ((int(array.min()), array.argmin), (int(array.max()), array.argmax)):
-            if not limits.min <= end <= limits.max:
-                raise OverflowError(f"{name} holds {end} at place {int(place())}, which is no {limits.dtype}")
-    # In range, a signed number of the same width has the bits of the unsigned one.
-    native = array.dtype.isnative and array.dtype.itemsize == limits.dtype.itemsize
-    return array.view(dtype) if native and array.dtype.kind in "iu" else array.astype(dtype)
+    if not array.size:
+        return array.astype(dtype)
+    limits, held = np.iinfo(dtype), _once(array)
+    # Python's own whole numbers: a comparison of int64 with uint64 would go by floats.
+    for end, find in ((int(held.min()), held.argmin), (int(held.max()), held.argmax)):
+        if not limits.min <= end <= limits.max:
+            place = np.ravel_multi_index(np.unravel_index(int(find()), held.shape), array.shape)
+            raise OverflowError(f"{name} holds {end} at place {place}, which is no {limits.dtype}")
+    # In range, a signed number of the same width has the bits of the unsigned one. Of another width, it is cast in the walk.
+    return array.view(dtype) if array.dtype.isnative and array.dtype.itemsize == limits.dtype.itemsize else array
 
 
 def small(name: str, value: ArrayLike) -> NDArray[Any]:
-    """A month, day, hour or minute for a call that takes 8 bits, as whole numbers that fit 64 bits: of what does not fit 8, the loop hands 255 over.
+    """A month, day, hour or minute for a call that takes 8 bits, or a week or millisecond for one that takes 32, as whole numbers of 64 bits: of what does not
+    fit, the loop hands the greatest number over, which the call refuses. One of 2^63 and more has the bits of one below zero, which does not fit either.
 
     >>> small('month', [12, 13, -1, 1000])
     array([  12,   13,   -1, 1000])
     >>> small('month', np.array([12, 1 << 63], np.uint64))
-    array([ 12, 256])
+    array([                  12, -9223372036854775808])
     """
     array = as_array(name, value)
     if array.dtype.kind not in "iu" and array.size:
         raise TypeError(f"{name} is of type {array.dtype} and not of whole numbers")
     if np.can_cast(array.dtype, LONG, "safe"):
         return array
-    return np.asarray(np.minimum(array, array.dtype.type(256)) if array.size else array).astype(LONG)
+    return array.view(array.dtype.str.replace("u", "i")) if array.size else array.astype(LONG)
 
 
 def lent(out: Sequence[Any] | None, gives: Sequence[Field], shape: tuple[int, ...]) -> list[NDArray[Any] | None]:
@@ -176,7 +218,7 @@ def each(
     The answers come in the order of `gives`, whose last is the stamps' numbers where a call may refuse. Of single values the answers are single values, and a
     refusal is raised.
 
-    >>> each('gps_full_week', function('ct_each_full_week'), [('ten_bits', np.array(2)), ('reference', np.array(2400))], [Field('week', INT), Field('numbers', NUMBER)], ['<i4', '<i4'])
+    >>> each('gps_full_week', function('ct_each_full_week'), [('ten_bits', np.array(2)), ('reference', np.array(2400))], [Field('week', INT), Field('numbers', NUMBER)], [LONG, LONG])
     (2050, 0)
     """
     shape = common_shape(takes)
@@ -232,7 +274,7 @@ def _walked(
         flags=["external_loop", "buffered", "zerosize_ok", "copy_if_overlap"],
         op_flags=flags,
         op_dtypes=[*dtypes, *(field.dtype for field in gives)],
-        casting="safe",
+        casting="unsafe",  # what would lose something has been refused above
         buffersize=BUFFER,
     )
     with walk:
