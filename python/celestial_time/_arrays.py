@@ -18,6 +18,8 @@ FLOAT, INT, LONG, NUMBER = "<f8", "<i4", "<i8", "u1"
 _FLOAT = np.dtype(FLOAT)
 _PLAIN = (np.ndarray, np.memmap)
 _NUMBERS = {int, float, str, bytes}
+# The kinds of arrays that may be lent for answers of a kind.
+_HOLD = {**dict.fromkeys("fiu", "fiu"), "b": "bfiu", "S": "SU"}
 
 
 class Field(NamedTuple):
@@ -161,15 +163,29 @@ def lent(out: Sequence[Any] | None, gives: Sequence[Field], shape: tuple[int, ..
             continue
         if type(array) not in _PLAIN:
             raise TypeError(f"out: {field.name} is lent as a {type(array).__name__} and not as an array")
-        if not np.can_cast(field.dtype, array.dtype, "safe"):
+        if array.dtype.kind not in _HOLD[np.dtype(field.dtype).kind] or not np.can_cast(field.dtype, array.dtype, "safe"):
             raise TypeError(f"out: {field.name} is of type {array.dtype}, which does not hold {np.dtype(field.dtype)}")
         if array.shape != shape:
             raise ValueError(f"out: {field.name} has shape {array.shape}, and the answers have {shape}")
         if not array.flags.writeable:
             raise ValueError(f"out: {field.name} is read-only")
+        if _overlaps_itself(array):
+            raise ValueError(f"out: two places of {field.name} share their memory")
     if any(a is not None and b is not None and _overlap(a, b) for i, a in enumerate(out) for b in out[:i]):
         raise ValueError("out: two of the arrays share their memory")
     return list(out)
+
+
+def _overlaps_itself(array: NDArray[Any]) -> bool:
+    """Whether a step along an axis is not past what the axes of smaller steps reach over: one that is lent so is odd enough to be refused."""
+    if array.flags.c_contiguous:
+        return False
+    reach = array.itemsize
+    for step, length in sorted((abs(step), length) for step, length in zip(array.strides, array.shape) if length > 1):
+        if step < reach and array.size:
+            return True
+        reach += step * (length - 1)
+    return False
 
 
 def _overlap(one: NDArray[Any], other: NDArray[Any]) -> bool:

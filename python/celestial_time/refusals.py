@@ -48,10 +48,15 @@ class Refused(ValueError):
         said = f"refused {self.number}" if not self.call else f"{self.call}: refused {self.number}"
         read = {name: self.values[name] for name in _READ.get(self.number, ()) if name in self.values}
         whole = len(read) == len(_READ.get(self.number, ()))
-        try:
-            return f"{said}: {reason(self.number, **read if whole else {})}"
-        except (FloatModeError, LibraryError, OverflowError, Refused):
-            return said
+        # The sentence has a float's bits; Python's own words for the values stand behind it.
+        values = f" ({', '.join(f'{name}={value!r}' for name, value in read.items())})" if read else ""
+        # A value that the sentence's call can't be handed leaves the sentence that names no field.
+        for given in (read if whole else {}, {}):
+            try:
+                return f"{said}: {reason(self.number, **given)}{values}"
+            except (FloatModeError, LibraryError, OverflowError, Refused):
+                continue
+        return said + values
 
 
 def reason(number: int, **values: Any) -> str:

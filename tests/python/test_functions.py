@@ -243,6 +243,27 @@ class Functions(unittest.TestCase):
         with self.assertRaises(ValueError):
             one = np.empty(2)
             ct.gpstai([1.0, 2.0], 0.0, out=(one, one, None))
+        strided = np.lib.stride_tricks.as_strided
+        held = np.full(8, 7.0)
+        for wrong in (strided(held, (2, 3), (24, 0)), strided(held, (2, 3), (8, 8)), strided(held, (2, 3), (24, 4)), strided(held, (2, 3), (0, 8)), strided(held[::-1], (2, 3), (-8, -8))):
+            with self.assertRaises(ValueError) as raised:
+                ct.gpstai(np.ones((2, 3)), 0.0, out=(wrong, None, None))
+            self.assertIn("out: two places of jd1", str(raised.exception))
+        self.assertEqual(held.tolist(), [7.0] * 8)
+        for good in (np.empty((3, 2)).T, np.empty((2, 6))[::-1, ::-2], np.empty((4, 3, 5))[1::2, :, 2], strided(held, (2, 3), (32, 8))):
+            self.assertIs(ct.gpstai(np.ones((2, 3)), 0.0, out=(good, None, None)).jd1, good)
+        self.assertEqual(ct.gpstai(np.ones((0, 3)), 0.0, out=(strided(held, (0, 3), (0, 0)), None, None)).jd1.shape, (0, 3))
+        for dtype in (object, complex, "M8[s]", "m8[s]", "V8", [("a", "f8")], "S40", bool):
+            for i in range(3):
+                with self.subTest(dtype=dtype), self.assertRaises(TypeError) as raised:
+                    ct.gpstai([1.0], 0.0, out=[np.empty(1, dtype) if i == k else None for k in range(3)])
+                self.assertIn("which does not hold", str(raised.exception))
+            with self.assertRaises(TypeError):
+                ct.to_iso8601([1.0], 0.0, out=(np.empty(1, dtype if dtype != "S40" else "S26"), None))
+            if dtype is not bool:
+                with self.assertRaises(TypeError):
+                    ct.equal([1.0], 0.0, 1.0, 0.0, out=np.empty(1, dtype))
+        self.assertEqual(ct.to_iso8601([2451545.0], 0.0, out=(np.empty(1, "U30"), None)).text.tolist(), ["2000-01-01T12:00:00.000"])
 
     def test_no_copies(self):
         """Arrays in one piece are handed over where they lie: what the loop gets are the places of the arguments and of the answers, one stretch after the other."""
@@ -465,6 +486,12 @@ class Functions(unittest.TestCase):
             self.assertTrue(all(map(same, ct.from_iso8601(texts), due)))
         self.assertEqual(due.numbers.tolist(), [0, 0, 15, 15])
         self.assertEqual(ct.from_iso8601(np.empty(2, "S0")).numbers.tolist(), [15, 15])
+        for dtype in ("U25", "S25", "U1"):
+            for shape in ((0,), (0, 3), (3, 0)):
+                self.assertEqual([part.shape for part in ct.from_iso8601(np.empty(shape, dtype))], [shape] * 9)
+        self.assertEqual(ct.from_iso8601([given[:2], ["\ud800", "2000-01-01T00:00:0\udfff"]]).numbers.tolist(), [[0, 0], [15, 15]])
+        with self.assertRaises(ct.Refused):
+            ct.from_iso8601("\ud800")
 
     def test_names(self):
         for wrong in (lambda: ct.convert("gsp", "tai", 0.0, 0.0), lambda: ct.convert("tcb", "tai", 0.0, 0.0), lambda: ct.convert("ut1", "ut1", 0.0, 0.0), lambda: ct.convert("gps", None, 0.0, 0.0), lambda: ct.to_iso8601(0.0, 0.0, sheet="iso"),

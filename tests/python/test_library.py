@@ -81,6 +81,9 @@ class Library(unittest.TestCase):
         text = (ROOT / "python" / "celestial_time" / "loops.c").read_text()
         found = {name: 0 if inside.strip() == "void" else inside.count(",") + 1 for name, inside in re.findall(r"^(?:int64_t|int) (ct_each_\w+)\(([^)]*)\)\n\{", text, re.M)}
         self.assertEqual(found, _library._LOOPS)
+        self.assertEqual(set(re.findall(r"^int (ct_each_\w+)\(", text, re.M)), set(_library._INTS))
+        for name in found:
+            self.assertIs(_library.function(name).restype, ctypes.c_int if name in _library._INTS else ctypes.c_int64)
         self.assertIn(f"enum {{ TEXT_PLACE = {texts.WIDTH} }};", text)
 
     def test_calls_take_what_the_header_says(self):
@@ -182,6 +185,19 @@ class Library(unittest.TestCase):
         with self.assertRaises(ct.Refused) as raised:
             ct.gpstai(np.nan, 0.0)
         self.assertIn(ct.reason(9, jd1=np.nan, jd2=0.0), str(raised.exception))
+
+    def test_words_of_a_refusal(self):
+        """The sentence, and the values as Python writes them; where a value can't be handed to the sentence's call, the sentence that names no field."""
+        for call, number, values in (
+            (lambda: ct.dat(2017, 1, 1, 2.0), 7, {"fraction": 2.0}), (lambda: ct.cal2jd(2000, 2, 30), 3, {"year": 2000, "month": 2, "day": 30}),
+            (lambda: ct.tttdb(2451545.0, 0.0, np.inf), 10, {"offset": np.inf}), (lambda: ct.from_unix(0, 10**9), 8, {"nanos": 10**9}),
+            (lambda: ct.dtf2d("utc", 2000, 1 << 40, 1, 0, 0, 0.0), 2, {"year": 2000, "month": 1 << 40, "day": 1}),
+        ):
+            with self.assertRaises(ct.Refused) as raised:
+                call()
+            said = str(raised.exception)
+            due = ct.reason(number) if 1 << 40 in values.values() else ct.reason(number, **values)
+            self.assertTrue(said.endswith(f"refused {number}: {due} ({', '.join(f'{name}={value!r}' for name, value in values.items())})"), said)
 
 
 if __name__ == "__main__":
