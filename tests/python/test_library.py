@@ -3,6 +3,7 @@ import contextlib
 import ctypes
 import doctest
 import importlib
+import importlib.util
 import inspect
 import io
 import os
@@ -14,6 +15,7 @@ import sys
 import tempfile
 import typing
 import unittest
+import zipfile
 
 import numpy as np
 
@@ -130,6 +132,28 @@ class Library(unittest.TestCase):
             (package / "libcelestial_time_arrays.so").write_bytes(pathlib.Path(library).read_bytes())
             done = python("import celestial_time as ct; print(ct.gpstai(2451545.0, 0.0).numbers)", PYTHONPATH=folder, CELESTIAL_TIME_LIBRARY="")
             self.assertEqual(done.stdout, "0\n")
+
+    def test_stage(self):
+        """The folder that pip installs from has the package and its library, the clone gets nothing, and the wheel is named for one processor."""
+        before = sorted((ROOT / "python").rglob("*"))
+        with tempfile.TemporaryDirectory() as folder:
+            stage = pathlib.Path(folder, "stage")
+            subprocess.run([ROOT / "python" / "stage", stage], check=True)
+            self.assertNotEqual(subprocess.run([ROOT / "python" / "stage", stage], capture_output=True).returncode, 0)
+            for file in pathlib.Path(ct.__file__).parent.glob("*.*"):
+                self.assertEqual((stage / "celestial_time" / file.name).read_bytes(), file.read_bytes())
+            done = python("import celestial_time as ct; ct.Table(); from celestial_time import _library; print(_library._loaded._name)", PYTHONPATH=str(stage), CELESTIAL_TIME_LIBRARY="")
+            self.assertEqual(done.stdout, f"{stage.resolve()}/celestial_time/libcelestial_time_arrays.so\n")
+            if not all(importlib.util.find_spec(name) for name in ("pip", "setuptools", "wheel")):
+                self.skipTest("the wheel is not made again: no pip, setuptools or wheel here")
+            words = ["-m", "pip", "wheel", "--no-build-isolation", "--no-deps", "--no-index", "--disable-pip-version-check", "-w", folder, stage]
+            done = subprocess.run([sys.executable, *words], capture_output=True, text=True)
+            self.assertEqual(done.returncode, 0, done.stderr)
+            (wheel,) = pathlib.Path(folder).glob("*.whl")
+            self.assertRegex(wheel.name, r"^celestial_time-[0-9.]+-py3-none-linux_\w+\.whl$")
+            with zipfile.ZipFile(wheel) as held:
+                self.assertTrue({f"celestial_time/{name}" for name in ("libcelestial_time_arrays.so", "py.typed", "loops.c", "runs.py")} <= set(held.namelist()))
+        self.assertEqual(sorted((ROOT / "python").rglob("*")), before)
 
     def test_float_mode(self):
         """A library that was linked with -ffast-math changes the mode of the process that loads it: no call answers until it is set back."""
