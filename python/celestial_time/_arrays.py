@@ -17,7 +17,9 @@ BUFFER, STRETCH = 1 << 16, 1 << 18
 FLOAT, INT, LONG, NUMBER = "<f8", "<i4", "<i8", "u1"
 _FLOAT = np.dtype(FLOAT)
 _PLAIN = (np.ndarray, np.memmap)
-_NUMBERS = {int, float, str, bytes}
+# Items of lists that lose nothing by themselves, and those of them that become floats as they are.
+_FLOATS = {float, np.float64, np.float32}
+_ITEMS = {int, str, bytes, np.int64, np.int32, np.str_, np.bytes_, *_FLOATS}
 # The kinds of arrays that may be lent for answers of a kind.
 _HOLD = {**dict.fromkeys("fiu", "fiu"), "b": "bfiu", "S": "SU"}
 
@@ -44,9 +46,9 @@ def as_array(name: str, value: ArrayLike) -> NDArray[Any]:
     """
     _look_at(name, value)
     array = np.asarray(value)
-    # Of whole numbers and floats in one list numpy makes floats.
-    if array.dtype.kind == "f" and isinstance(value, (list, tuple)):
-        _look_at_whole_numbers(name, value)
+    # Of whole numbers and floats in one list numpy makes floats, and of texts and numbers texts.
+    if array.dtype.kind in "fSU" and isinstance(value, (list, tuple)):
+        _look_at_numbers(name, value, array.dtype.kind == "f")
     return array
 
 
@@ -57,20 +59,22 @@ def _look_at(name: str, value: Any) -> None:
             kind = type(value).__name__
             raise TypeError(f"{name} is a {kind}; hand over a plain array, of a masked one .filled(nan) or what is not masked")
     elif isinstance(value, (list, tuple)):
-        kinds = set(map(type, value))
-        if not kinds <= _NUMBERS:
+        if not set(map(type, value)) <= _ITEMS:
             for item in value:
                 if isinstance(item, (bool, np.bool_)) or isinstance(item, np.ndarray) and item.dtype.kind == "b":
                     raise TypeError(f"{name} holds {item!r}, which is no number")
                 _look_at(name, item)
 
 
-def _look_at_whole_numbers(name: str, value: Any) -> None:
-    """That none of a list or tuple is rounded where they become floats."""
+def _look_at_numbers(name: str, value: Any, become_floats: bool) -> None:
+    """That no whole number of a list or tuple is rounded where they become floats, and that no number becomes a text."""
     if isinstance(value, (list, tuple)):
-        if set(map(type, value)) != {float}:
+        if not set(map(type, value)) <= (_FLOATS if become_floats else {str, bytes}):
             for item in value:
-                _look_at_whole_numbers(name, item)
+                _look_at_numbers(name, item, become_floats)
+    elif not become_floats:
+        if np.asarray(value).dtype.kind not in "SU":
+            raise TypeError(f"{name} holds {value!r} among texts")
     elif isinstance(value, np.ndarray):
         floats(name, value)
     elif isinstance(value, (int, np.integer)):

@@ -429,6 +429,10 @@ class Functions(unittest.TestCase):
         for wrong in ([2**53 + 1, 0.5], ([2**53 + 1], [0.5]), [np.int64(2**53 + 1), 0.5], [np.array([2**53 + 1]), np.array([0.5])], [2**63, -1], [np.uint64(2**63), np.int64(1)]):
             with self.subTest(repr(wrong)), self.assertRaises(OverflowError):
                 ct.gpstai(wrong, 0.0)
+        for wrong in (["2000-01-01T00:00:00", 2000], [[b"2000-01-01T00:00:00"], [0.5]], ["2000-01-01T00:00:00", True], ["2000-01-01T00:00:00", np.array(5)]):
+            with self.subTest(repr(wrong)), self.assertRaises(TypeError):
+                ct.from_iso8601(wrong)
+        self.assertEqual(ct.from_iso8601([np.str_("2000-01-01T00:00:00"), np.array("2000-01-01T00:00:00")]).numbers.tolist(), [0, 0])
         self.assertEqual(ct.gpstai([2**53, 0.5, np.float32(0.5), np.int8(3)], 0.0).numbers.tolist(), [0] * 4)
         self.assertEqual(ct.gpstai([np.array([1, 2]), [0.5, 1]], 0.0).jd1.tolist(), [[1.0, 2.0], [0.5, 1.0]])
 
