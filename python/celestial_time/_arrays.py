@@ -186,7 +186,7 @@ def _overlaps_itself(array: NDArray[Any]) -> bool:
         return False
     reach = array.itemsize
     for step, length in sorted((abs(step), length) for step, length in zip(array.strides, array.shape) if length > 1):
-        if step < reach and array.size:
+        if step < reach:
             return True
         reach += step * (length - 1)
     return False
