@@ -1,7 +1,7 @@
 """Arrays handed to a loop of the library: what is taken, what is lent, and one walk over both.
 
-An array of the right type that lies in one piece is handed over as it is. Any other, one that is broadcast, strided, byte-swapped or of a smaller type, goes
-through a buffer of some thousand places; none is copied whole. Nothing is called before every argument has been looked at.
+An array of the right type that lies in one piece is handed over as it is. Any other, one that is broadcast, strided, byte-swapped or of another type, goes
+through a buffer of some thousand places; none is copied whole here. Nothing is called before every argument has been looked at.
 """
 from __future__ import annotations
 
@@ -17,6 +17,11 @@ BUFFER, STRETCH = 1 << 16, 1 << 18
 FLOAT, INT, LONG, NUMBER = "<f8", "<i4", "<i8", "u1"
 _FLOAT = np.dtype(FLOAT)
 _PLAIN = (np.ndarray, np.memmap)
+# Items of lists that lose nothing by themselves, and those of them that become floats as they are.
+_FLOATS = {float, np.float64, np.float32}
+_ITEMS = {int, str, bytes, np.int64, np.int32, np.str_, np.bytes_, *_FLOATS}
+# The kinds of arrays that may be lent for answers of a kind.
+_HOLD = {**dict.fromkeys("fiu", "fiu"), "b": "bfiu", "S": "SU"}
 
 
 class Field(NamedTuple):
@@ -39,10 +44,51 @@ def as_array(name: str, value: ArrayLike) -> NDArray[Any]:
     Traceback (most recent call last):
     TypeError: jd1 is a MaskedArray; hand over a plain array, of a masked one .filled(nan) or what is not masked
     """
-    if isinstance(value, np.ndarray) and type(value) not in _PLAIN:
-        kind = type(value).__name__
-        raise TypeError(f"{name} is a {kind}; hand over a plain array, of a masked one .filled(nan) or what is not masked")
-    return np.asarray(value)
+    _look_at(name, value)
+    array = np.asarray(value)
+    # Of whole numbers and floats in one list numpy makes floats, and of texts and numbers texts.
+    if array.dtype.kind in "fSU" and isinstance(value, (list, tuple)):
+        _look_at_numbers(name, value, array.dtype.kind == "f")
+    return array
+
+
+def _look_at(name: str, value: Any) -> None:
+    """An array, or the items of a list or tuple: numpy would take a mask off, and True among numbers for 1."""
+    if isinstance(value, np.ndarray):
+        if type(value) not in _PLAIN:
+            kind = type(value).__name__
+            raise TypeError(f"{name} is a {kind}; hand over a plain array, of a masked one .filled(nan) or what is not masked")
+    elif isinstance(value, (list, tuple)):
+        if not set(map(type, value)) <= _ITEMS:
+            for item in value:
+                if isinstance(item, (bool, np.bool_)) or isinstance(item, np.ndarray) and item.dtype.kind == "b":
+                    raise TypeError(f"{name} holds {item!r}, which is no number")
+                _look_at(name, item)
+
+
+def _look_at_numbers(name: str, value: Any, become_floats: bool) -> None:
+    """That no whole number of a list or tuple is rounded where they become floats, and that no number becomes a text."""
+    if isinstance(value, (list, tuple)):
+        if not set(map(type, value)) <= (_FLOATS if become_floats else {str, bytes}):
+            for item in value:
+                _look_at_numbers(name, item, become_floats)
+    elif not become_floats:
+        if np.asarray(value).dtype.kind not in "SU":
+            raise TypeError(f"{name} holds {value!r} among texts")
+    elif isinstance(value, np.ndarray):
+        floats(name, value)
+    elif isinstance(value, (int, np.integer)):
+        _check_whole(name, int(value))
+
+
+def _check_whole(name: str, number: int) -> None:
+    if abs(number) > 1 << 53:
+        raise OverflowError(f"{name} holds {number}, which a 64-bit float may round")
+
+
+def _once(array: NDArray[Any]) -> NDArray[Any]:
+    """The array without the axes along which one value is broadcast, which may be longer than any memory."""
+    return array[tuple(slice(0, 1) if step == 0 else slice(None) for step in array.strides)]
 
 
 def floats(name: str, value: ArrayLike) -> NDArray[Any]:
@@ -58,9 +104,9 @@ def floats(name: str, value: ArrayLike) -> NDArray[Any]:
     if array.dtype.kind not in "fiu" or not np.can_cast(array.dtype, FLOAT, "safe"):
         raise TypeError(f"{name} is of type {array.dtype} and not of 64-bit floats")
     if array.dtype.kind != "f" and array.dtype.itemsize == 8 and array.size:
-        for end in (int(array.min()), int(array.max())):
-            if abs(end) > 1 << 53:
-                raise OverflowError(f"{name} holds {end}, which a 64-bit float may round")
+        held = _once(array)
+        _check_whole(name, int(held.min()))
+        _check_whole(name, int(held.max()))
     return array
 
 
@@ -76,31 +122,33 @@ def whole(name: str, value: ArrayLike, dtype: str) -> NDArray[Any]:
         raise TypeError(f"{name} is of type {array.dtype} and not of whole numbers")
     if np.can_cast(array.dtype, dtype, "safe"):
         return array
-    limits = np.iinfo(dtype)
-    if array.size:
-        # Python's own whole numbers: a comparison of int64 with uint64 would go by floats.
-        for end, place in ((int(array.min()), array.argmin), (int(array.max()), array.argmax)):
-            if not limits.min <= end <= limits.max:
-                raise OverflowError(f"{name} holds {end} at place {int(place())}, which is no {limits.dtype}")
-    # In range, a signed number of the same width has the bits of the unsigned one.
-    native = array.dtype.isnative and array.dtype.itemsize == limits.dtype.itemsize
-    return array.view(dtype) if native and array.dtype.kind in "iu" else array.astype(dtype)
+    if not array.size:
+        return array.astype(dtype)
+    limits, held = np.iinfo(dtype), _once(array)
+    # Python's own whole numbers: a comparison of int64 with uint64 would go by floats.
+    for end, find in ((int(held.min()), held.argmin), (int(held.max()), held.argmax)):
+        if not limits.min <= end <= limits.max:
+            place = np.ravel_multi_index(np.unravel_index(int(find()), held.shape), array.shape)
+            raise OverflowError(f"{name} holds {end} at place {place}, which is no {limits.dtype}")
+    # In range, a signed number of the same width has the bits of the unsigned one. Of another width, it is cast in the walk.
+    return array.view(dtype) if array.dtype.isnative and array.dtype.itemsize == limits.dtype.itemsize else array
 
 
 def small(name: str, value: ArrayLike) -> NDArray[Any]:
-    """A month, day, hour or minute for a call that takes 8 bits, as whole numbers that fit 64 bits: of what does not fit 8, the loop hands 255 over.
+    """A month, day, hour or minute for a call that takes 8 bits, or a week or millisecond for one that takes 32, as whole numbers of 64 bits: of what does not
+    fit, the loop hands the greatest number over, which the call refuses. One of 2^63 and more has the bits of one below zero, which does not fit either.
 
     >>> small('month', [12, 13, -1, 1000])
     array([  12,   13,   -1, 1000])
     >>> small('month', np.array([12, 1 << 63], np.uint64))
-    array([ 12, 256])
+    array([                  12, -9223372036854775808])
     """
     array = as_array(name, value)
     if array.dtype.kind not in "iu" and array.size:
         raise TypeError(f"{name} is of type {array.dtype} and not of whole numbers")
     if np.can_cast(array.dtype, LONG, "safe"):
         return array
-    return np.asarray(np.minimum(array, array.dtype.type(256)) if array.size else array).astype(LONG)
+    return array.view(array.dtype.str.replace("u", "i")) if array.size else array.astype(LONG)
 
 
 def lent(out: Sequence[Any] | None, gives: Sequence[Field], shape: tuple[int, ...]) -> list[NDArray[Any] | None]:
@@ -119,15 +167,29 @@ def lent(out: Sequence[Any] | None, gives: Sequence[Field], shape: tuple[int, ..
             continue
         if type(array) not in _PLAIN:
             raise TypeError(f"out: {field.name} is lent as a {type(array).__name__} and not as an array")
-        if not np.can_cast(field.dtype, array.dtype, "safe"):
+        if array.dtype.kind not in _HOLD[np.dtype(field.dtype).kind] or not np.can_cast(field.dtype, array.dtype, "safe"):
             raise TypeError(f"out: {field.name} is of type {array.dtype}, which does not hold {np.dtype(field.dtype)}")
         if array.shape != shape:
             raise ValueError(f"out: {field.name} has shape {array.shape}, and the answers have {shape}")
         if not array.flags.writeable:
             raise ValueError(f"out: {field.name} is read-only")
+        if _overlaps_itself(array):
+            raise ValueError(f"out: two places of {field.name} share their memory")
     if any(a is not None and b is not None and _overlap(a, b) for i, a in enumerate(out) for b in out[:i]):
         raise ValueError("out: two of the arrays share their memory")
     return list(out)
+
+
+def _overlaps_itself(array: NDArray[Any]) -> bool:
+    """Whether a step along an axis is not past what the axes of smaller steps reach over: one that is lent so is odd enough to be refused."""
+    if array.flags.c_contiguous:
+        return False
+    reach = array.itemsize
+    for step, length in sorted((abs(step), length) for step, length in zip(array.strides, array.shape) if length > 1):
+        if step < reach:
+            return True
+        reach += step * (length - 1)
+    return False
 
 
 def _overlap(one: NDArray[Any], other: NDArray[Any]) -> bool:
@@ -176,7 +238,7 @@ def each(
     The answers come in the order of `gives`, whose last is the stamps' numbers where a call may refuse. Of single values the answers are single values, and a
     refusal is raised.
 
-    >>> each('gps_full_week', function('ct_each_full_week'), [('ten_bits', np.array(2)), ('reference', np.array(2400))], [Field('week', INT), Field('numbers', NUMBER)], ['<i4', '<i4'])
+    >>> each('gps_full_week', function('ct_each_full_week'), [('ten_bits', np.array(2)), ('reference', np.array(2400))], [Field('week', INT), Field('numbers', NUMBER)], [LONG, LONG])
     (2050, 0)
     """
     shape = common_shape(takes)
@@ -232,7 +294,7 @@ def _walked(
         flags=["external_loop", "buffered", "zerosize_ok", "copy_if_overlap"],
         op_flags=flags,
         op_dtypes=[*dtypes, *(field.dtype for field in gives)],
-        casting="safe",
+        casting="unsafe",  # what would lose something has been refused above
         buffersize=BUFFER,
     )
     with walk:

@@ -62,6 +62,7 @@ _LOOPS: dict[str, int] = {
     "ct_each_float_mode": 0,
     "ct_each_default_float_mode": 0,
 }
+_INTS = ("ct_each_float_mode", "ct_each_default_float_mode")
 _loaded: ctypes.CDLL | None = None
 _loading = threading.Lock()
 
@@ -142,7 +143,7 @@ def function(name: str) -> Any:
         raise LibraryError(
             f"the library has no {name}: it is older than this package, or was built without its loops (python/make)"
         ) from None
-    found.restype = _I64
+    found.restype = ctypes.c_int if name in _INTS else _I64
     if name in _CALLS:
         found.argtypes = _CALLS[name]
     elif name in _LOOPS:

@@ -2,13 +2,14 @@
 from __future__ import annotations
 
 import os
+import stat
 import struct
 from typing import Any, BinaryIO, Iterator, NamedTuple, Union
 
 import numpy as np
 from numpy.typing import ArrayLike, NDArray
 
-from ._library import TABLE_BYTES, function
+from ._library import TABLE_BYTES, check_float_mode, function
 from ._arrays import FLOAT, address_of
 from .refusals import Refused
 from .runs import _in_one_piece
@@ -16,7 +17,7 @@ from .tables import Table, lent_table
 
 MOST = 4000
 _PART = 1 << 16
-Source = Union[str, "os.PathLike[str]", bytes, bytearray, memoryview, "NDArray[np.uint8]"]
+Source = Union[str, "os.PathLike[str]", bytes, bytearray, memoryview, "NDArray[np.uint8]", BinaryIO]
 
 
 class Stamps(NamedTuple):
@@ -48,7 +49,9 @@ class BlockRefused(Refused):
 
 
 def read_blocks(source: Source) -> Stamps:
-    """The stamps of a recorder's file, or of its bytes; no bytes are no blocks. Those of one block are read where they lie, those of more are put together.
+    """The stamps of a recorder's file, of its bytes, or of what an open file has left to read; no bytes are no blocks.
+
+    Those of one block are read where they lie, and are read-only where the bytes are or a file is mapped; those of more are put together, and may be written.
 
     >>> read_blocks(block_of([2451545.0, float('nan')], [0.0, 0.25]))
     Stamps(jd1=array([2451545.,      nan]), jd2=array([0.  , 0.25]), sizes=array([2]))
@@ -88,7 +91,7 @@ def block_of(jd1: ArrayLike, jd2: ArrayLike) -> bytes:
 def write_blocks(target: str | os.PathLike[str] | BinaryIO, jd1: ArrayLike, jd2: ArrayLike, *, size: int = MOST) -> int:
     """Write stamps as a file of blocks with `size` stamps each, the last with what is left, and return how many blocks they are. Their bits stay.
 
-    A file is written beside and then renamed, so that a call that fails leaves it as it was.
+    A file is written beside and then renamed, so that a call that fails leaves it as it was; who may read and write it stays.
 
     >>> import io
     >>> file = io.BytesIO()
@@ -102,6 +105,8 @@ def write_blocks(target: str | os.PathLike[str] | BinaryIO, jd1: ArrayLike, jd2:
         raise ValueError(f"{len(first)} first parts and {len(second)} second parts")
     if size < 1:
         raise ValueError(f"blocks of {size} stamps")
+    if not isinstance(target, (str, os.PathLike)) and not hasattr(target, "writelines"):
+        raise TypeError(f"target is a {type(target).__name__} and neither a path nor a file that is open to be written")
     starts = range(0, max(len(first), 1), size)
     blocks = (block_of(first[start : start + size], second[start : start + size]) for start in starts)
     if not isinstance(target, (str, os.PathLike)):
@@ -116,8 +121,12 @@ def write_blocks(target: str | os.PathLike[str] | BinaryIO, jd1: ArrayLike, jd2:
 
 def _write_beside(path: str, blocks: Iterator[bytes]) -> None:
     beside = f"{path}.{os.getpid()}.new"
-    with open(beside, "xb") as file:
+    kept = stat.S_IMODE(os.stat(path).st_mode) if os.path.exists(path) else None
+    # Opened with no more than the mode that is kept, from which the process's mask may take.
+    with open(beside, "xb", opener=lambda name, flags: os.open(name, flags, 0o666 if kept is None else kept & 0o777)) as file:
         try:
+            if kept is not None:
+                os.fchmod(file.fileno(), kept)
             file.writelines(blocks)
             file.flush()
             os.replace(beside, path)
@@ -134,7 +143,9 @@ def listing(block: Source, *, table: Table | None = None) -> bytes:
     0 2000-01-01T12:00:00.000
     1 refused 6
     """
-    return b"".join(_parts_of(_bytes_of(block), lent_table(table)))
+    held, rows = _bytes_of(block), lent_table(table)
+    check_float_mode()
+    return b"".join(_parts_of(held, rows))
 
 
 def reason_listing(block: Source, *, table: Table | None = None) -> bytes:
@@ -189,7 +200,16 @@ def _bytes_of(source: Source) -> NDArray[np.uint8]:
         with open(source, "rb") as file:
             return _bytes_of(file.read())
     held: Any = source
-    return np.frombuffer(held, "u1") if memoryview(held).nbytes else np.empty(0, "u1")
+    try:
+        size = memoryview(held).nbytes
+    except TypeError:
+        if not hasattr(held, "read"):
+            raise TypeError(f"a {type(held).__name__} is neither a path, nor bytes, nor a file that is open to be read") from None
+        read = held.read()
+        if not isinstance(read, bytes):
+            raise TypeError(f"the file reads a {type(read).__name__} and no bytes: open it with 'rb'") from None
+        return _bytes_of(read)
+    return np.frombuffer(held, "u1") if size else np.empty(0, "u1")
 
 
 def _first_block(held: NDArray[np.uint8]) -> NDArray[np.uint8]:

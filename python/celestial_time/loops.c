@@ -286,13 +286,19 @@ int64_t ct_each_read_utc(const uint8_t *table, size_t width, size_t n, const uin
 
 /* ---- GPS weeks */
 
-int64_t ct_each_week_date(size_t n, const uint32_t *week, const uint32_t *millis, double *out1, double *out2, uint8_t *numbers)
+/* What does not fit the call's 32 bits is handed over as the greatest number, which no call takes. */
+static uint32_t week_field(int64_t x)
+{
+    return x < 0 || x > UINT32_MAX ? UINT32_MAX : (uint32_t)x;
+}
+
+int64_t ct_each_week_date(size_t n, const int64_t *week, const int64_t *millis, double *out1, double *out2, uint8_t *numbers)
 {
     uint8_t bytes[16];
     int64_t refused = 0;
     memset(numbers, 0, n);
     for (size_t i = 0; i < n; i++)
-        refused += put_date(ct_gps_from_week(week[i], millis[i], bytes, sizeof bytes), bytes, out1 + i, out2 + i, numbers + i);
+        refused += put_date(ct_gps_from_week(week_field(week[i]), week_field(millis[i]), bytes, sizeof bytes), bytes, out1 + i, out2 + i, numbers + i);
     return refused;
 }
 
@@ -310,12 +316,12 @@ int64_t ct_each_week(size_t n, const double *jd1, const double *jd2, int32_t *we
     return refused;
 }
 
-int64_t ct_each_full_week(size_t n, const uint32_t *ten_bits, const uint32_t *reference, int32_t *week, uint8_t *numbers)
+int64_t ct_each_full_week(size_t n, const int64_t *ten_bits, const int64_t *reference, int32_t *week, uint8_t *numbers)
 {
     int64_t refused = 0;
     memset(numbers, 0, n);
     for (size_t i = 0; i < n; i++) {
-        int64_t code = ct_gps_full_week(ten_bits[i], reference[i]);
+        int64_t code = ct_gps_full_week(week_field(ten_bits[i]), week_field(reference[i]));
         week[i] = code < 0 ? INT32_MIN : (int32_t)code;
         refused += put_number(code, numbers + i);
     }

@@ -1,7 +1,7 @@
 """The order of dates by their exact sums, and which stamps are one."""
 from __future__ import annotations
 
-from typing import Any
+from typing import Any, Sequence
 
 import numpy as np
 from numpy.typing import ArrayLike, NDArray
@@ -53,23 +53,23 @@ def same_stamp(
             raise ValueError(f"no scale: {name!r}; the scales are {', '.join(SCALES)}")
     loop, mine, others = function("ct_each_same_stamp"), SCALES[scale], SCALES[other_scale]
     takes = [(name, _bits(name, value)) for name, value in (("jd1", jd1), ("jd2", jd2), ("other1", other1), ("other2", other2))]
-    return _only("same_stamp", lambda n, *a: loop(mine, others, n, *a), takes, "?", out)
+    handed = [(name, array) for name, (array, _) in takes]
+    return _only("same_stamp", lambda n, *a: loop(mine, others, n, *a), handed, "?", out, [dtype for _, (_, dtype) in takes])
 
 
 def _four(jd1: ArrayLike, jd2: ArrayLike, other1: ArrayLike, other2: ArrayLike) -> list[Any]:
     return [(name, floats(name, value)) for name, value in (("jd1", jd1), ("jd2", jd2), ("other1", other1), ("other2", other2))]
 
 
-def _bits(name: str, value: ArrayLike) -> NDArray[np.uint64]:
-    """The bits of 64-bit floats. As numbers they are swapped and copied, so that no NaN goes through a float."""
+def _bits(name: str, value: ArrayLike) -> tuple[NDArray[Any], str]:
+    """The bits of 64-bit floats, as numbers, which are swapped and copied with no NaN going through a float; of other numbers the 64-bit floats."""
     array = as_array(name, value)
     if array.dtype.kind == "f" and array.dtype.itemsize == 8:
-        return array.view(array.dtype.str.replace("f", "u"))
-    return np.asarray(floats(name, array).astype(FLOAT)).view("<u8")
+        return array.view(array.dtype.str.replace("f", "u")), "<u8"
+    return floats(name, array), FLOAT
 
 
-def _only(name: str, loop: Any, takes: list[Any], dtype: str, out: Any) -> Any:
+def _only(name: str, loop: Any, takes: list[Any], dtype: str, out: Any, inputs: Sequence[str] = (FLOAT,) * 4) -> Any:
     called = function(loop) if isinstance(loop, str) else loop
-    inputs = ["<u8" if array.dtype.kind == "u" and name == "same_stamp" else FLOAT for _, array in takes]
     (answer,) = each(name, called, takes, [Field("answer", dtype)], inputs, None if out is None else (out,))
     return answer

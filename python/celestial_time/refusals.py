@@ -5,7 +5,7 @@ import ctypes
 from operator import index
 from typing import Any
 
-from ._library import LibraryError, function
+from ._library import FloatModeError, LibraryError, check_float_mode, function
 
 # Which values each sentence takes, and the call that composes it.
 _SENTENCES: dict[str, tuple[str, ...]] = {
@@ -48,10 +48,15 @@ class Refused(ValueError):
         said = f"refused {self.number}" if not self.call else f"{self.call}: refused {self.number}"
         read = {name: self.values[name] for name in _READ.get(self.number, ()) if name in self.values}
         whole = len(read) == len(_READ.get(self.number, ()))
-        try:
-            return f"{said}: {reason(self.number, **read if whole else {})}"
-        except (LibraryError, OverflowError, Refused):
-            return said
+        # The sentence has a float's bits; Python's own words for the values stand behind it.
+        values = f" ({', '.join(f'{name}={value!r}' for name, value in read.items())})" if read else ""
+        # A value that the sentence's call can't be handed leaves the sentence that names no field.
+        for given in (read if whole else {}, {}):
+            try:
+                return f"{said}: {reason(self.number, **given)}{values}"
+            except (FloatModeError, LibraryError, OverflowError, Refused):
+                continue
+        return said + values
 
 
 def reason(number: int, **values: Any) -> str:
@@ -76,6 +81,8 @@ def reason(number: int, **values: Any) -> str:
         call = fitting[0]
         arguments += (values[field] for field in _SENTENCES[call])
     called = function(call)
+    if ctypes.c_double in called.argtypes:
+        check_float_mode()
     text = ctypes.create_string_buffer(_LONGEST)
     given = [_fitting(value, kind) for value, kind in zip(arguments, called.argtypes)]
     code = called(*given, text, len(text))

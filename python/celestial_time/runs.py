@@ -46,7 +46,8 @@ class Line(NamedTuple):
 
 
 def line_up(jd1: ArrayLike, jd2: ArrayLike, counts: Sequence[int] = (), *, numbers: ArrayLike | None = None) -> Line:
-    """The order of up to three runs of TAI stamps that stand one after the other: counts[0] of the first, counts[1] of the second, then what is left.
+    """The order of up to three runs of TAI stamps that stand one after the other: counts[0] of the first, counts[1] of the second, then what is left;
+    a third count is that of what is left, as an answer's `counts` have it.
 
     A stamp whose number is not 0 is left out. One that has no place in the order gets 9, and one that is earlier than an ordered one before it in its own run
     gets 17. The answer's `numbers` are a copy; the lent ones stay. Ties go by run. An array in one piece is not copied.
@@ -57,8 +58,10 @@ def line_up(jd1: ArrayLike, jd2: ArrayLike, counts: Sequence[int] = (), *, numbe
     """
     first, second = (_in_one_piece(name, value) for name, value in (("jd1", jd1), ("jd2", jd2)))
     lengths = [index(count) for count in counts]
+    if len(lengths) == 3 and sum(lengths) == len(first):
+        lengths.pop()
     if len(lengths) > 2 or any(not 0 <= count < 2**63 for count in lengths):
-        raise ValueError(f"counts are {counts}: those of the first and of the second run are due")
+        raise ValueError(f"counts are {counts}: those of the first and of the second run are due, and a third only where the three are all {len(first)} stamps")
     judged = np.zeros(len(first), "u1") if numbers is None else _numbers(numbers)
     return _ordered("line_up", first, second, judged, lengths)
 

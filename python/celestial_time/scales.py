@@ -6,7 +6,8 @@ from __future__ import annotations
 
 from typing import Any, Sequence, Union
 
-from numpy.typing import ArrayLike
+import numpy as np
+from numpy.typing import ArrayLike, NDArray
 
 from ._answers import Dates, DatesByRule
 from ._arrays import FLOAT, INT, NUMBER, Field, each, floats
@@ -22,30 +23,40 @@ _DATES = [Field("jd1", FLOAT), Field("jd2", FLOAT), Field("numbers", NUMBER)]
 _BY_RULE = [Field("jd1", FLOAT), Field("jd2", FLOAT), Field("rule", INT), Field("row", INT), Field("numbers", NUMBER)]
 
 
-def _parts(first: str, jd1: ArrayLike, second: str, jd2: ArrayLike) -> list[Any]:
-    return [(first, floats(first, jd1)), (second, floats(second, jd2))]
+def _parts(scale: str, jd1: ArrayLike, jd2: ArrayLike) -> list[Any]:
+    """Both parts by the names that the sentences have, looked at by the names that the function has."""
+    return [("jd1", floats(f"{scale}1", jd1)), ("jd2", floats(f"{scale}2", jd2))]
+
+
+def _offset(name: str, by: ArrayLike) -> tuple[str, NDArray[Any]]:
+    array = floats(name, by)
+    if array.dtype == np.uint8:
+        raise TypeError(f"{name} is of 8 bits unsigned, as the numbers of an answer are: of an answer hand over [:2], and then the {name}")
+    return "offset", array
 
 
 def _run(name: str, source: str, target: str, jd1: ArrayLike, jd2: ArrayLike, out: Out, table: Table | None = None) -> Dates:
+    named = "jd" if name == "convert" else source
     loop, rows = function("ct_each_run"), lent_table(table)
     ways = SCALES[source], SCALES[target], rows.address
-    return Dates(*each(name, lambda n, *a: loop(*ways, n, *a), _parts("jd1", jd1, "jd2", jd2), _DATES, [FLOAT] * 2, out))
+    return Dates(*each(name, lambda n, *a: loop(*ways, n, *a), _parts(named, jd1, jd2), _DATES, [FLOAT] * 2, out))
 
 
 def _plain(name: str, call: str, jd1: ArrayLike, jd2: ArrayLike, out: Out) -> Dates:
     loop, at = function("ct_each_date"), address(call)
-    return Dates(*each(name, lambda n, *a: loop(at, n, *a), _parts("jd1", jd1, "jd2", jd2), _DATES, [FLOAT] * 2, out))
+    named = "jd" if name == "convert" else name[:3]
+    return Dates(*each(name, lambda n, *a: loop(at, n, *a), _parts(named, jd1, jd2), _DATES, [FLOAT] * 2, out))
 
 
-def _shifted(name: str, call: str, jd1: ArrayLike, jd2: ArrayLike, by: ArrayLike, out: Out) -> Dates:
+def _shifted(name: str, call: str, jd1: ArrayLike, jd2: ArrayLike, by: ArrayLike, out: Out, named: tuple[str, str]) -> Dates:
     loop, at = function("ct_each_shift"), address(call)
-    takes = [*_parts("jd1", jd1, "jd2", jd2), ("offset", floats("offset", by))]
+    takes = [*_parts(named[0], jd1, jd2), _offset(named[1], by)]
     return Dates(*each(name, lambda n, *a: loop(at, n, *a), takes, _DATES, [FLOAT] * 3, out))
 
 
 def _shifted_by_table(name: str, call: str, jd1: ArrayLike, jd2: ArrayLike, by: ArrayLike, table: Table | None, out: Out) -> Dates:
     loop, at, rows = function("ct_each_utc_shift"), address(call), lent_table(table)
-    takes = [*_parts("jd1", jd1, "jd2", jd2), ("offset", floats("offset", by))]
+    takes = [*_parts(name[:3], jd1, jd2), _offset("dut1", by)]
     told = lambda n, a1, a2, b, o1, o2, numbers: loop(at, rows.address, n, a1, a2, b, o1, o2, 0, 0, numbers)
     return Dates(*each(name, told, takes, _DATES, [FLOAT] * 3, out))
 
@@ -146,7 +157,7 @@ def tttdb(tt1: ArrayLike, tt2: ArrayLike, dtr: ArrayLike, *, out: Out = None) ->
     >>> tttdb(2451545.0, 0.25, 0.001)
     Dates(jd1=2451545.0, jd2=0.2500000115740741, numbers=0)
     """
-    return _shifted("tttdb", "ct_tt_to_tdb_with_offset", tt1, tt2, dtr, out)
+    return _shifted("tttdb", "ct_tt_to_tdb_with_offset", tt1, tt2, dtr, out, ("tt", "dtr"))
 
 
 def tdbtt(tdb1: ArrayLike, tdb2: ArrayLike, dtr: ArrayLike, *, out: Out = None) -> Dates:
@@ -155,7 +166,7 @@ def tdbtt(tdb1: ArrayLike, tdb2: ArrayLike, dtr: ArrayLike, *, out: Out = None) 
     >>> tdbtt(2451545.0, 0.25, 0.001)
     Dates(jd1=2451545.0, jd2=0.24999998842592594, numbers=0)
     """
-    return _shifted("tdbtt", "ct_tdb_to_tt_with_offset", tdb1, tdb2, dtr, out)
+    return _shifted("tdbtt", "ct_tdb_to_tt_with_offset", tdb1, tdb2, dtr, out, ("tdb", "dtr"))
 
 
 def ut1tai(ut11: ArrayLike, ut12: ArrayLike, dta: ArrayLike, *, out: Out = None) -> Dates:
@@ -164,7 +175,7 @@ def ut1tai(ut11: ArrayLike, ut12: ArrayLike, dta: ArrayLike, *, out: Out = None)
     >>> ut1tai(2451545.0, 0.25, -32.6659)
     Dates(jd1=2451545.0, jd2=0.2503780775462963, numbers=0)
     """
-    return _shifted("ut1tai", "ct_ut1_to_tai_with_offset", ut11, ut12, dta, out)
+    return _shifted("ut1tai", "ct_ut1_to_tai_with_offset", ut11, ut12, dta, out, ("ut1", "dta"))
 
 
 def taiut1(tai1: ArrayLike, tai2: ArrayLike, dta: ArrayLike, *, out: Out = None) -> Dates:
@@ -173,7 +184,7 @@ def taiut1(tai1: ArrayLike, tai2: ArrayLike, dta: ArrayLike, *, out: Out = None)
     >>> taiut1(2451545.0, 0.25, -32.6659)
     Dates(jd1=2451545.0, jd2=0.2496219224537037, numbers=0)
     """
-    return _shifted("taiut1", "ct_tai_to_ut1_with_offset", tai1, tai2, dta, out)
+    return _shifted("taiut1", "ct_tai_to_ut1_with_offset", tai1, tai2, dta, out, ("tai", "dta"))
 
 
 def ut1tt(ut11: ArrayLike, ut12: ArrayLike, dt: ArrayLike, *, out: Out = None) -> Dates:
@@ -182,7 +193,7 @@ def ut1tt(ut11: ArrayLike, ut12: ArrayLike, dt: ArrayLike, *, out: Out = None) -
     >>> ut1tt(2451545.0, 0.25, 64.8499)
     Dates(jd1=2451545.0, jd2=0.2507505775462963, numbers=0)
     """
-    return _shifted("ut1tt", "ct_ut1_to_tt_with_delta_t", ut11, ut12, dt, out)
+    return _shifted("ut1tt", "ct_ut1_to_tt_with_delta_t", ut11, ut12, dt, out, ("ut1", "dt"))
 
 
 def ttut1(tt1: ArrayLike, tt2: ArrayLike, dt: ArrayLike, *, out: Out = None) -> Dates:
@@ -191,7 +202,7 @@ def ttut1(tt1: ArrayLike, tt2: ArrayLike, dt: ArrayLike, *, out: Out = None) -> 
     >>> ttut1(2451545.0, 0.25, 64.8499)
     Dates(jd1=2451545.0, jd2=0.2492494224537037, numbers=0)
     """
-    return _shifted("ttut1", "ct_tt_to_ut1_with_delta_t", tt1, tt2, dt, out)
+    return _shifted("ttut1", "ct_tt_to_ut1_with_delta_t", tt1, tt2, dt, out, ("tt", "dt"))
 
 
 def utctai(utc1: ArrayLike, utc2: ArrayLike, *, table: Table | None = None, return_rule: bool = False, out: Out = None) -> Any:
@@ -207,7 +218,7 @@ def utctai(utc1: ArrayLike, utc2: ArrayLike, *, table: Table | None = None, retu
     if not return_rule:
         return _run("utctai", "utc", "tai", utc1, utc2, out, table)
     loop, at, rows = function("ct_each_utc"), address("ct_utc_to_tai"), lent_table(table)
-    takes = _parts("jd1", utc1, "jd2", utc2)
+    takes = _parts("utc", utc1, utc2)
     return DatesByRule(*each("utctai", lambda n, *a: loop(at, rows.address, n, *a), takes, _BY_RULE, [FLOAT] * 2, out))
 
 
@@ -233,7 +244,7 @@ def utcut1(
     if not return_rule:
         return _shifted_by_table("utcut1", "ct_utc_to_ut1_with_dut1", utc1, utc2, dut1, table, out)
     loop, at, rows = function("ct_each_utc_shift"), address("ct_utc_to_ut1_with_dut1"), lent_table(table)
-    takes = [*_parts("jd1", utc1, "jd2", utc2), ("offset", floats("dut1", dut1))]
+    takes = [*_parts("utc", utc1, utc2), _offset("dut1", dut1)]
     return DatesByRule(*each("utcut1", lambda n, *a: loop(at, rows.address, n, *a), takes, _BY_RULE, [FLOAT] * 3, out))
 
 
@@ -252,7 +263,7 @@ def add_days(jd1: ArrayLike, jd2: ArrayLike, days: ArrayLike, *, out: Out = None
     >>> add_days(2451545.0, 0.0, [1.0, 2.0]).jd1
     array([2451546., 2451547.])
     """
-    return _shifted("add_days", "ct_add_days", jd1, jd2, days, out)
+    return _shifted("add_days", "ct_add_days", jd1, jd2, days, out, ("jd", "days"))
 
 
 def add_seconds(jd1: ArrayLike, jd2: ArrayLike, seconds: ArrayLike, *, out: Out = None) -> Dates:
@@ -261,7 +272,7 @@ def add_seconds(jd1: ArrayLike, jd2: ArrayLike, seconds: ArrayLike, *, out: Out 
     >>> add_seconds(2451545.0, 0.0, 43200.0)
     Dates(jd1=2451545.0, jd2=0.5, numbers=0)
     """
-    return _shifted("add_seconds", "ct_add_seconds", jd1, jd2, seconds, out)
+    return _shifted("add_seconds", "ct_add_seconds", jd1, jd2, seconds, out, ("jd", "seconds"))
 
 
 def convert(source: str, target: str, jd1: ArrayLike, jd2: ArrayLike, *, table: Table | None = None, out: Out = None) -> Dates:

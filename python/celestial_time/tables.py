@@ -32,11 +32,10 @@ class Table:
     celestial_time.refusals.Refused: Table: refused 21...
     """
 
-    __slots__ = ("_bytes", "_kept", "rows")
-    rows: tuple[tuple[int, int, int], ...]
+    __slots__ = ("_bytes", "_kept", "_rows")
 
     def __init__(self, rows: Iterable[tuple[int, int, int]] = ()) -> None:
-        self.rows = tuple((index(year), index(month), index(seconds)) for year, month, seconds in rows)
+        self._rows = tuple((index(year), index(month), index(seconds)) for year, month, seconds in rows)
         for year, month, _ in self.rows:
             if not 1 <= month <= 12:
                 raise ValueError(f"no month: {year}-{month}")
@@ -63,7 +62,7 @@ class Table:
         >>> Table.from_bytes(bytes(Table([(2027, 1, 38)]))).rows
         ((2027, 1, 38),)
         """
-        given = bytes(given)
+        given = memoryview(given).tobytes()  # bytes(136) would be those of no rows
         code = function("ct_check_table")(given, len(given))
         if code < 0:
             raise Refused(-code, "Table.from_bytes")
@@ -91,6 +90,15 @@ class Table:
                 if read:
                     rows.append((int(read[1]), int(read[2]), int(read[3])))
         return cls(rows)
+
+    @property
+    def rows(self) -> tuple[tuple[int, int, int], ...]:
+        """The rows that were announced. A table is not changed: the calls read its bytes.
+
+        >>> Table([(2027, 1, 38)]).rows
+        ((2027, 1, 38),)
+        """
+        return self._rows
 
     @property
     def address(self) -> int:

@@ -74,7 +74,8 @@ def from_iso8601(texts: ArrayLike, *, table: Table | None = None, out: Out = Non
 def _byte_strings(texts: ArrayLike) -> NDArray[Any]:
     given = as_array("texts", texts)
     if given.dtype.kind == "U":
-        given = np.asarray(np.char.encode(given, "utf-8"))
+        # A lone half of a pair is bytes as any other: the library refuses the text that has it, and no more. Of no texts numpy forgets the shape.
+        given = np.asarray(np.char.encode(given, "utf-8", "surrogatepass")).reshape(given.shape)
     if given.dtype.kind != "S" and given.size:
         raise TypeError(f"texts is of type {given.dtype} and not of byte strings")
     return given if given.dtype.kind == "S" and given.dtype.itemsize else given.astype("S1")

@@ -19,17 +19,17 @@ def place_ticks(pass_ticks: ArrayLike, pass_millis: ArrayLike, ticks: ArrayLike,
     >>> place_ticks([0, 1000], [0, 500], [0, 3, 1000])
     array([  0,   1, 500], dtype=uint64)
     """
-    single = np.ndim(ticks) == 0 and out is None
     given = [_list(name, value) for name, value in (("pass_ticks", pass_ticks), ("pass_millis", pass_millis), ("ticks", ticks))]
-    (lent_millis,) = lent(None if out is None else (out,), [Field("millis", "<u8")], given[2].shape)
+    shape = np.shape(ticks)
+    (lent_millis,) = lent(None if out is None else (out,), [Field("millis", "<u8")], shape)
     millis = np.empty(given[2].shape, "<u8")
     slices = [part for array in (*given, millis) for part in (address_of(array), array.nbytes)]
     code = function("ct_place_ticks")(*slices)
     if code < 0:
         raise Refused(-code, "place_ticks")
     if lent_millis is None:
-        return int(millis[0]) if single else millis
-    lent_millis[...] = millis
+        return millis if shape else int(millis[0])
+    lent_millis[...] = millis.reshape(shape)
     return lent_millis
 
 

@@ -56,6 +56,42 @@ class Blocks(unittest.TestCase):
         held = ct.block_of([2451545.0], [0.5])
         self.assertTrue(np.shares_memory(ct.read_blocks(held).jd1, np.frombuffer(held, "u1")))
 
+    def test_read_only(self):
+        """One block of bytes or of a mapped file is read-only, one of a bytearray or more than one block may be written."""
+        held = ct.block_of([2451545.0], [0.5])
+        (self.at / "run").write_bytes(held)
+        for source, due in ((held, False), (self.at / "run", False), (bytearray(held), True), (held * 2, True)):
+            read = ct.read_blocks(source)
+            self.assertEqual((read.jd1.flags.writeable, read.jd2.flags.writeable), (due, due))
+
+    def test_open_files(self):
+        held = ct.block_of([2451545.0], [0.5])
+        (self.at / "run").write_bytes(b"x" + held)
+        with open(self.at / "run", "rb") as file, open(self.at / "run", "rb", buffering=0) as raw:
+            file.read(1), raw.read(1)
+            self.assertEqual(ct.read_blocks(file).jd2.tolist(), [0.5])
+            self.assertEqual(ct.listing(raw), ct.listing(held))
+        self.assertEqual(len(list(ct.listings(io.BytesIO(held * 2)))), 2)
+        self.assertEqual(len(ct.read_blocks(io.BytesIO()).jd1), 0)
+        for wrong in (io.StringIO("a"), 5, None, [1, 2], 2.5):
+            with self.assertRaises(TypeError) as raised:
+                ct.read_blocks(wrong)
+            self.assertIn("bytes", str(raised.exception))
+        for wrong in (b"run", 5, None, bytearray(b"run")):
+            with self.assertRaises(TypeError) as raised:
+                ct.write_blocks(wrong, [1.0], [2.0])
+            self.assertIn("target is a ", str(raised.exception))
+
+    def test_mode_is_kept(self):
+        for mode in (0o600, 0o640, 0o755, 0o666):
+            (self.at / "run").write_bytes(b"before")
+            (self.at / "run").chmod(mode)
+            ct.write_blocks(self.at / "run", [1.0], [2.0])
+            self.assertEqual((self.at / "run").stat().st_mode & 0o7777, mode)
+        (self.at / "other").write_bytes(b"")
+        ct.write_blocks(self.at / "new", [1.0], [2.0])
+        self.assertEqual((self.at / "new").stat().st_mode, (self.at / "other").stat().st_mode)
+
     def test_odd_place(self):
         held = b"x" + ct.block_of([2451545.0, 2.0], [0.5, 3.0])
         read = ct.read_blocks(memoryview(held)[1:])

@@ -3,6 +3,7 @@ import inspect
 import math
 import pickle
 import tempfile
+import tracemalloc
 import unittest
 import warnings
 
@@ -242,6 +243,27 @@ class Functions(unittest.TestCase):
         with self.assertRaises(ValueError):
             one = np.empty(2)
             ct.gpstai([1.0, 2.0], 0.0, out=(one, one, None))
+        strided = np.lib.stride_tricks.as_strided
+        held = np.full(8, 7.0)
+        for wrong in (strided(held, (2, 3), (24, 0)), strided(held, (2, 3), (8, 8)), strided(held, (2, 3), (24, 4)), strided(held, (2, 3), (0, 8)), strided(held[::-1], (2, 3), (-8, -8))):
+            with self.assertRaises(ValueError) as raised:
+                ct.gpstai(np.ones((2, 3)), 0.0, out=(wrong, None, None))
+            self.assertIn("out: two places of jd1", str(raised.exception))
+        self.assertEqual(held.tolist(), [7.0] * 8)
+        for good in (np.empty((3, 2)).T, np.empty((2, 6))[::-1, ::-2], np.empty((4, 3, 5))[1::2, :, 2], strided(held, (2, 3), (32, 8))):
+            self.assertIs(ct.gpstai(np.ones((2, 3)), 0.0, out=(good, None, None)).jd1, good)
+        self.assertEqual(ct.gpstai(np.ones((0, 3)), 0.0, out=(strided(held, (0, 3), (0, 0)), None, None)).jd1.shape, (0, 3))
+        for dtype in (object, complex, "M8[s]", "m8[s]", "V8", [("a", "f8")], "S40", bool):
+            for i in range(3):
+                with self.subTest(dtype=dtype), self.assertRaises(TypeError) as raised:
+                    ct.gpstai([1.0], 0.0, out=[np.empty(1, dtype) if i == k else None for k in range(3)])
+                self.assertIn("which does not hold", str(raised.exception))
+            with self.assertRaises(TypeError):
+                ct.to_iso8601([1.0], 0.0, out=(np.empty(1, dtype if dtype != "S40" else "S26"), None))
+            if dtype is not bool:
+                with self.assertRaises(TypeError):
+                    ct.equal([1.0], 0.0, 1.0, 0.0, out=np.empty(1, dtype))
+        self.assertEqual(ct.to_iso8601([2451545.0], 0.0, out=(np.empty(1, "U30"), None)).text.tolist(), ["2000-01-01T12:00:00.000"])
 
     def test_no_copies(self):
         """Arrays in one piece are handed over where they lie: what the loop gets are the places of the arguments and of the answers, one stretch after the other."""
@@ -374,10 +396,12 @@ class Functions(unittest.TestCase):
                 ct.cal2jd(wrong, 1, 1)
             with self.assertRaises((OverflowError, TypeError)):
                 ct.cal2jd([2000, wrong], 1, 1)
+        # The lowest 32 bits of most are a week's.
         for function in (ct.gps_from_week, ct.gps_full_week):
-            for wrong in (-1, 1 << 32):
-                with self.assertRaises(OverflowError):
-                    function(wrong, 0)
+            for wrong in (-1, 1 << 32, (1 << 40) + 5, (1 << 63) + 5, ct.NO_INT, np.int8(-1), np.uint64((1 << 64) - 1), -(1 << 63)):
+                self.assertEqual((function([wrong], 1).numbers.tolist(), function(5, [wrong]).numbers.tolist()), ([18], [18]))
+        weeks = ct.gps_to_week([2458581.5, math.nan], 0.0)
+        self.assertEqual(ct.gps_from_week(weeks.week, weeks.millis).numbers.tolist(), [0, 18])
         with self.assertRaises(OverflowError):
             ct.from_unix(1 << 63)
         for wrong in ((1 << 53) + 1, -(1 << 60), np.uint64((1 << 64) - 1), [0, 1 << 62]):
@@ -390,6 +414,75 @@ class Functions(unittest.TestCase):
                 self.assertEqual(ct.dtf2d(scale, [2000], small, 1, 0, 0, 0.0).numbers.tolist(), [2])
                 self.assertEqual(ct.dtf2d(scale, [2000], 1, 1, small, 0, 0.0).numbers.tolist(), [4])
 
+    def test_lists_lose_nothing(self):
+        """What an array would be refused for is refused among the items of a list, too."""
+        masked = np.ma.array([1.0, 2.0], mask=[True, False])
+        for wrong in ([masked], ([masked],), [np.ma.masked, 0.5], [True, 0.5], [[True], [0.5]], [np.bool_(True), 0.5], [np.array([True]), np.array([0.5])], [np.asmatrix([0.5])]):
+            with self.subTest(repr(wrong)), self.assertRaises(TypeError) as raised:
+                ct.gpstai(wrong, 0.0)
+            self.assertIn("gps1 ", str(raised.exception))
+        for wrong in ([2000, True], [[2000], [np.bool_(True)]], (2000, np.array(True))):
+            with self.assertRaises(TypeError):
+                ct.cal2jd(wrong, 1, 1)
+            with self.assertRaises(TypeError):
+                ct.dtf2d("utc", 2000, wrong, 1, 0, 0, 0.0)
+        for wrong in ([2**53 + 1, 0.5], ([2**53 + 1], [0.5]), [np.int64(2**53 + 1), 0.5], [np.array([2**53 + 1]), np.array([0.5])], [2**63, -1], [np.uint64(2**63), np.int64(1)]):
+            with self.subTest(repr(wrong)), self.assertRaises(OverflowError):
+                ct.gpstai(wrong, 0.0)
+        for wrong in (["2000-01-01T00:00:00", 2000], [[b"2000-01-01T00:00:00"], [0.5]], ["2000-01-01T00:00:00", True], ["2000-01-01T00:00:00", np.array(5)]):
+            with self.subTest(repr(wrong)), self.assertRaises(TypeError):
+                ct.from_iso8601(wrong)
+        self.assertEqual(ct.from_iso8601([np.str_("2000-01-01T00:00:00"), np.array("2000-01-01T00:00:00")]).numbers.tolist(), [0, 0])
+        self.assertEqual(ct.gpstai([2**53, 0.5, np.float32(0.5), np.int8(3)], 0.0).numbers.tolist(), [0] * 4)
+        self.assertEqual(ct.gpstai([np.array([1, 2]), [0.5, 1]], 0.0).jd1.tolist(), [[1.0, 2.0], [0.5, 1.0]])
+
+    def test_numbers_are_no_offset(self):
+        """An answer handed on whole would hand its numbers over as the offset."""
+        tt = ct.taitt([2451545.0, math.nan], 0.25)
+        for function in (ct.tttdb, ct.tdbtt, ct.ut1tai, ct.taiut1, ct.ut1tt, ct.ttut1, ct.utcut1, ct.ut1utc, ct.add_days, ct.add_seconds):
+            with self.assertRaises(TypeError) as raised:
+                function(*tt)
+            self.assertIn(list(inspect.signature(function).parameters)[2] + " is of 8 bits", str(raised.exception))
+            self.assertEqual(len(function(tt.jd1, tt.jd2, 0.001).numbers), 2)
+        with self.assertRaises(TypeError):
+            ct.utcut1(*tt, return_rule=True)
+
+    def test_errors_name_the_parameter(self):
+        """Of each function that takes floats first, by its own name for them."""
+        for name in ct.SCALES:
+            for function in (getattr(ct, one) for one in ct.__all__ if one.startswith(name) and one[len(name) :] in ct.SCALES):
+                names = list(inspect.signature(function).parameters.values())
+                due = [part.name for part in names if part.default is part.empty]
+                for i, one in enumerate(due):
+                    with self.assertRaises(TypeError) as raised:
+                        function(*("x" if i == k else 0.0 for k in range(len(due))))
+                    self.assertTrue(str(raised.exception).startswith(f"{one} is of type "), str(raised.exception))
+
+    def test_not_copied_whole(self):
+        """Arrays of another type go through a buffer."""
+        count = 2000000
+        numbers = np.empty(count, "u1")
+        dates = np.empty(count), np.empty(count), numbers
+        years, floats, longs = np.full(count, 2000), np.full(count, 2.5, "f4"), np.full(count, 5, "u8")
+        for call in (lambda: ct.cal2jd(years, 1, 1, out=dates), lambda: ct.from_unix(years, years, out=dates), lambda: ct.gpstai(years, floats, out=dates),
+                     lambda: ct.dtf2d("utc", years, longs, longs, longs, longs, floats, out=dates), lambda: ct.gps_from_week(years, longs, out=dates),
+                     lambda: ct.same_stamp("tai", floats, years, "tai", longs, floats, out=numbers)):
+            call()
+            tracemalloc.start()
+            call()
+            most = tracemalloc.get_traced_memory()[1]
+            tracemalloc.stop()
+            self.assertLess(most, 6 * 8 * _arrays.BUFFER + 100000)
+
+    def test_one_value_over_all(self):
+        """One value that is broadcast over more places than any memory has is looked at once; the answers then find no memory."""
+        for call in (lambda: ct.cal2jd(np.broadcast_to(2000, (10**17,)), 1, 1), lambda: ct.gpstai(np.broadcast_to(2000, (10**8, 10**9)), 0.0)):
+            with self.assertRaises((MemoryError, ValueError)):
+                call()
+        with self.assertRaises(OverflowError) as raised:
+            ct.cal2jd(np.broadcast_to([[2000], [1 << 40]], (2, 10**9)), 1, 1)
+        self.assertIn("at place 1000000000,", str(raised.exception))
+
     def test_texts_in_unicode(self):
         given = ["2016-12-31T23:59:60.5Z", "2000-01-01T00:00:00", "zwölf", ""]
         due = ct.from_iso8601([text.encode() for text in given])
@@ -397,6 +490,12 @@ class Functions(unittest.TestCase):
             self.assertTrue(all(map(same, ct.from_iso8601(texts), due)))
         self.assertEqual(due.numbers.tolist(), [0, 0, 15, 15])
         self.assertEqual(ct.from_iso8601(np.empty(2, "S0")).numbers.tolist(), [15, 15])
+        for dtype in ("U25", "S25", "U1"):
+            for shape in ((0,), (0, 3), (3, 0)):
+                self.assertEqual([part.shape for part in ct.from_iso8601(np.empty(shape, dtype))], [shape] * 9)
+        self.assertEqual(ct.from_iso8601([given[:2], ["\ud800", "2000-01-01T00:00:0\udfff"]]).numbers.tolist(), [[0, 0], [15, 15]])
+        with self.assertRaises(ct.Refused):
+            ct.from_iso8601("\ud800")
 
     def test_names(self):
         for wrong in (lambda: ct.convert("gsp", "tai", 0.0, 0.0), lambda: ct.convert("tcb", "tai", 0.0, 0.0), lambda: ct.convert("ut1", "ut1", 0.0, 0.0), lambda: ct.convert("gps", None, 0.0, 0.0), lambda: ct.to_iso8601(0.0, 0.0, sheet="iso"),

@@ -3,6 +3,7 @@ import contextlib
 import ctypes
 import doctest
 import importlib
+import importlib.util
 import inspect
 import io
 import os
@@ -14,6 +15,7 @@ import sys
 import tempfile
 import typing
 import unittest
+import zipfile
 
 import numpy as np
 
@@ -81,6 +83,9 @@ class Library(unittest.TestCase):
         text = (ROOT / "python" / "celestial_time" / "loops.c").read_text()
         found = {name: 0 if inside.strip() == "void" else inside.count(",") + 1 for name, inside in re.findall(r"^(?:int64_t|int) (ct_each_\w+)\(([^)]*)\)\n\{", text, re.M)}
         self.assertEqual(found, _library._LOOPS)
+        self.assertEqual(set(re.findall(r"^int (ct_each_\w+)\(", text, re.M)), set(_library._INTS))
+        for name in found:
+            self.assertIs(_library.function(name).restype, ctypes.c_int if name in _library._INTS else ctypes.c_int64)
         self.assertIn(f"enum {{ TEXT_PLACE = {texts.WIDTH} }};", text)
 
     def test_calls_take_what_the_header_says(self):
@@ -128,6 +133,28 @@ class Library(unittest.TestCase):
             done = python("import celestial_time as ct; print(ct.gpstai(2451545.0, 0.0).numbers)", PYTHONPATH=folder, CELESTIAL_TIME_LIBRARY="")
             self.assertEqual(done.stdout, "0\n")
 
+    def test_stage(self):
+        """The folder that pip installs from has the package and its library, the clone gets nothing, and the wheel is named for one processor."""
+        before = sorted((ROOT / "python").rglob("*"))
+        with tempfile.TemporaryDirectory() as folder:
+            stage = pathlib.Path(folder, "stage")
+            subprocess.run([ROOT / "python" / "stage", stage], check=True)
+            self.assertNotEqual(subprocess.run([ROOT / "python" / "stage", stage], capture_output=True).returncode, 0)
+            for file in pathlib.Path(ct.__file__).parent.glob("*.*"):
+                self.assertEqual((stage / "celestial_time" / file.name).read_bytes(), file.read_bytes())
+            done = python("import celestial_time as ct; ct.Table(); from celestial_time import _library; print(_library._loaded._name)", PYTHONPATH=str(stage), CELESTIAL_TIME_LIBRARY="")
+            self.assertEqual(done.stdout, f"{stage.resolve()}/celestial_time/libcelestial_time_arrays.so\n")
+            if not all(importlib.util.find_spec(name) for name in ("pip", "setuptools", "wheel")):
+                self.skipTest("the wheel is not made again: no pip, setuptools or wheel here")
+            words = ["-m", "pip", "wheel", "--no-build-isolation", "--no-deps", "--no-index", "--disable-pip-version-check", "-w", folder, stage]
+            done = subprocess.run([sys.executable, *words], capture_output=True, text=True)
+            self.assertEqual(done.returncode, 0, done.stderr)
+            (wheel,) = pathlib.Path(folder).glob("*.whl")
+            self.assertRegex(wheel.name, r"^celestial_time-[0-9.]+-py3-none-linux_\w+\.whl$")
+            with zipfile.ZipFile(wheel) as held:
+                self.assertTrue({f"celestial_time/{name}" for name in ("libcelestial_time_arrays.so", "py.typed", "loops.c", "runs.py")} <= set(held.namelist()))
+        self.assertEqual(sorted((ROOT / "python").rglob("*")), before)
+
     def test_float_mode(self):
         """A library that was linked with -ffast-math changes the mode of the process that loads it: no call answers until it is set back."""
         with tempfile.TemporaryDirectory() as folder:
@@ -139,19 +166,23 @@ class Library(unittest.TestCase):
                 ctypes.CDLL({str(fast)!r})
                 if one * 2.0 ** 52 != 0.0:
                     print('kept')
-                for call in (lambda: ct.gpstai([2451545.0], 0.0), lambda: ct.line_up([1.0], [0.0]), lambda: ct.offsets_at_0h([[2000, 1, 1]])):
+                block = ct.block_of([2451545.0], [0.0])  # does not ask
+                calls = (lambda: ct.gpstai([2451545.0], 0.0), lambda: ct.line_up([1.0], [0.0]), lambda: ct.offsets_at_0h([[2000, 1, 1]]), lambda: ct.listing(block),
+                         lambda: next(ct.listings(block)), lambda: ct.reason(9, jd1=0.0, jd2=0.0))
+                for call in calls:
                     try:
                         call()
                         print('answered')
                     except ct.FloatModeError as error:
                         print('refused')
+                assert ct.reason(9) and str(ct.Refused(9, 'gpstai', {{'jd1': 0.0, 'jd2': 0.0}})) and ct.place_ticks([0, 2], [0, 1], 2) == 1
                 ct.default_float_mode()
                 print(ct.gpstai([2451545.0], 0.0).numbers, one * 2.0 ** 52 != 0.0)
             """
             done = python(code)
             self.assertEqual(done.stderr, "")
             # A compiler whose -ffast-math does not touch the mode of a shared library leaves it.
-            self.assertIn(done.stdout, ("refused\nrefused\nrefused\n[0] True\n", "kept\nanswered\nanswered\nanswered\n[0] True\n"))
+            self.assertIn(done.stdout, ("refused\n" * 6 + "[0] True\n", "kept\n" + "answered\n" * 6 + "[0] True\n"))
 
     def test_reasons(self):
         if not _library.has("ct_reason"):
@@ -178,6 +209,19 @@ class Library(unittest.TestCase):
         with self.assertRaises(ct.Refused) as raised:
             ct.gpstai(np.nan, 0.0)
         self.assertIn(ct.reason(9, jd1=np.nan, jd2=0.0), str(raised.exception))
+
+    def test_words_of_a_refusal(self):
+        """The sentence, and the values as Python writes them; where a value can't be handed to the sentence's call, the sentence that names no field."""
+        for call, number, values in (
+            (lambda: ct.dat(2017, 1, 1, 2.0), 7, {"fraction": 2.0}), (lambda: ct.cal2jd(2000, 2, 30), 3, {"year": 2000, "month": 2, "day": 30}),
+            (lambda: ct.tttdb(2451545.0, 0.0, np.inf), 10, {"offset": np.inf}), (lambda: ct.from_unix(0, 10**9), 8, {"nanos": 10**9}),
+            (lambda: ct.dtf2d("utc", 2000, 1 << 40, 1, 0, 0, 0.0), 2, {"year": 2000, "month": 1 << 40, "day": 1}),
+        ):
+            with self.assertRaises(ct.Refused) as raised:
+                call()
+            said = str(raised.exception)
+            due = ct.reason(number) if 1 << 40 in values.values() else ct.reason(number, **values)
+            self.assertTrue(said.endswith(f"refused {number}: {due} ({', '.join(f'{name}={value!r}' for name, value in values.items())})"), said)
 
 
 if __name__ == "__main__":

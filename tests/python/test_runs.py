@@ -47,12 +47,14 @@ class Runs(unittest.TestCase):
             for make in (lambda a: a.astype(">f8"), lambda a: np.repeat(a, 2)[::2], lambda a: a.tolist()):
                 self.assertEqual(ct.line_up(make(jd1), make(jd2), counts, numbers=numbers).places.tolist(), places)
             self.assertIs(line.jd1, jd1)
+            again = ct.line_up(jd1, jd2, line.counts, numbers=numbers)
+            self.assertEqual((again.places.tolist(), again.counts), (places, line.counts))
 
     def test_line_up_wrong(self):
         good = np.zeros(4)
         for error, arguments, keywords in (
             (ct.Refused, (good, good[:3]), {}), (ct.Refused, (good, good, (5,)), {}), (ct.Refused, (good, good), {"numbers": np.zeros(3, "u1")}),
-            (ValueError, (good.reshape(2, 2), good), {}), (ValueError, (good, good, (1, 1, 2)), {}), (ValueError, (good, good, (-1,)), {}), (TypeError, (good, good, (1.5,)), {}),
+            (ValueError, (good.reshape(2, 2), good), {}), (ValueError, (good, good, (1, 1, 1)), {}), (ValueError, (good, good, (1, 1, 2, 0)), {}), (ValueError, (good, good, (5, -2, 1)), {}), (ValueError, (good, good, (-1,)), {}), (TypeError, (good, good, (1.5,)), {}),
             (TypeError, (good, good), {"numbers": np.zeros(4)}), (TypeError, (good, good), {"numbers": np.zeros(4, "i8")}), (TypeError, (good.astype(object), good), {}),
             (ValueError, (0.0, 0.0), {}), (TypeError, (np.ma.array(good), good), {}),
         ):
@@ -122,6 +124,12 @@ class Runs(unittest.TestCase):
         self.assertEqual(ct.place_ticks(passes, millis, np.repeat(ticks, 2)[::2]).tolist(), due)
         self.assertEqual(ct.place_ticks(passes, millis, []).tolist(), [])
         self.assertEqual((ct.place_ticks(passes, millis, 10), type(ct.place_ticks(passes, millis, 10))), (6, int))
+        one = np.zeros((), "<u8")
+        self.assertIs(ct.place_ticks(passes, millis, 10, out=one), one)
+        self.assertEqual(one, 6)
+        for given, wrong in ((10, np.zeros(1, "<u8")), ([10], one)):
+            with self.assertRaises(ValueError):
+                ct.place_ticks(passes, millis, given, out=wrong)
         lent = np.full(len(ticks), 7, "<u8")
         self.assertIs(ct.place_ticks(passes, millis, ticks, out=lent), lent)
         kept = lent.copy()
@@ -154,6 +162,14 @@ class Runs(unittest.TestCase):
         for error, wrong in ((ValueError, [(2027, 13, 38)]), (OverflowError, [(1 << 40, 1, 38)]), (TypeError, [(2027.5, 1, 38)]), (ValueError, [(2027, 1)])):
             with self.assertRaises(error):
                 ct.Table(wrong)
+        for wrong in (136, None, "a" * 136, [0] * 136):
+            with self.assertRaises(TypeError):
+                ct.Table.from_bytes(wrong)
+        self.assertEqual(ct.Table.from_bytes(memoryview(bytearray(bytes(full)))), full)
+        for name in ("rows", "count", "other"):
+            with self.assertRaises(AttributeError):
+                setattr(full, name, ())
+        self.assertEqual(full.rows, tuple(rows))
         utc = ct.dtf2d("utc", 2026, 12, 31, 23, 59, 60.5, table=ct.Table(rows[:1]))
         self.assertEqual(ct.to_iso8601(utc.jd1, utc.jd2, table=ct.Table(rows[:1])).text, b"2026-12-31T23:59:60.500")
 
