@@ -69,6 +69,13 @@ passed : {A : Type 0} (a x : A) (k : ℕ) (b : Bool) → cond b (answer a) (refu
 passed a x k true e = refl
 passed a x k false e = absurd (no-refusal e)
 
+-- three tests that pass
+whichever : (p q r : Bool) → cond p NoField (cond q NoField (cond r NoField NoField)) ≡ NoField
+whichever true q r = refl
+whichever false true r = refl
+whichever false false true = refl
+whichever false false false = refl
+
 -- ---- 1, 2, 3: a date
 module _ (a b c : Bool) where
   abbrev three : Outcome Unit
@@ -126,12 +133,6 @@ module _ (y m d : ℤ) where
   date-passes k e =
       let n : (early y ≡ false) × (no-month m ≡ false) × (no-day y m d ≡ false) = by-none (early y) (no-month m) (no-day y m d) e in
       rw (n .0, n .1, n .2) (whichever (eqb k 1) (eqb k 2) (eqb k 3))
-    where
-      whichever : (p q r : Bool) → cond p NoField (cond q NoField (cond r NoField NoField)) ≡ NoField
-      whichever true q r = refl
-      whichever false true r = refl
-      whichever false false true = refl
-      whichever false false false = refl
 
 -- ---- 4: a time, by the first of its fields that is wrong
 module _ (hour minute : ℕ) (second leap : Float) where
@@ -335,12 +336,6 @@ module _ (s : List ℕ) where
   block-passes k n e =
       let t = by-none-of (u32At s 0) n (ltb (length s) 8) (eqb (u32At s 0) (u32At s 4)) (leb (u32At s 0) 4000) (eqb (length s) (8 + 16 * u32At s 0)) e in
       rw (t .0, t .1, t .2) (whichever (eqb k 12) (eqb k 13) (eqb k 14))
-    where
-      whichever : (p q r : Bool) → cond p NoField (cond q NoField (cond r NoField NoField)) ≡ NoField
-      whichever true q r = refl
-      whichever false true r = refl
-      whichever false false true = refl
-      whichever false false false = refl
 
 -- ---- a number whose test reads other values names none
 none-of-one : (p : Bool) (a : Named) → p ≡ false → cond p a NoField ≡ NoField
