@@ -1,32 +1,35 @@
 -- A C caller that lists a block by counting line ends is never refused, makes at most 4,001 calls that return bytes, and has then written
 -- the block's listing by the table's rows, whatever they are; by either way of telling, where `InWidth` asks nothing of numbers, and of sentences what every block of
--- bytes has (`bytes-width`). Assumes nothing.
+-- bytes has (`bytes-width`). 11 is returned exactly where the buffer has not the room of a line. Assumes nothing.
 use Prim.Native.Nat.{ℕ, zero, suc, _+_, _-_, _<_, _≤_}
 use native.Mathlib.Omega.{arith}
 use native.Mathlib.Nat.{zero-add}
 use mathlib.Core.Path.{_≡_, refl, sym, ap, _∙_}
 use mathlib.Core.Bool.{Bool, true, false}
 use mathlib.Core.List.{List, _++_}
-use lib.ListN.{length, take, drop}
+use lib.ListN.{length, take, drop, getD}
 use lib.Seq.{take-at}
-use lib.Dec.{ltb}
-use lib.IntN.{ℤ, pos}
-use borrow.Author.Tests.{le-leb, ltb-true, ltb-false}
-use Rattle.refusals.specs.Outcome.{onward}
+use lib.Dec.{ltb, leb}
+use lib.IntN.{ℤ, pos, negsuc}
+use borrow.Author.Tests.{le-leb, lt-leb, leb-true, leb-false, ltb-true, ltb-false}
+use Rattle.refusals.specs.Outcome.{answer, onward}
 use Rattle.utc_text.specs.Answer.{textWritten, bufferAfter}
 use Rattle.utc.specs.TextCall.{written, bufferHolds}
 use Rattle.tai_utc.specs.Table.{Row}
 use Rattle.stamps.specs.Block.{blockOf}
 use Rattle.stamps.specs.declared.Telling.{Telling}
+use Rattle.stamps.specs.declared.Telling.the-variants.{Numbers, Sentences}
 use Rattle.stamps.specs.Listing.{lineRoom, listing}
-use Rattle.stamps.specs.Widths.{InWidth}
+use Rattle.stamps.specs.Widths.{Wide, InWidth}
 use Rattle.stamps.specs.Parts.{linesIn, linesFrom, partLines, partText}
 use Rattle.listing_laws.specs.LineEnds.{lineEnds}
 use Rattle.stamps.proofs.Blocks.{few-lines}
 use Rattle.stamps.proofs.Parts.{held-few}
+use Rattle.stamps.proofs.Tellings.{bytes-width}
 use Rattle.listing_laws.proofs.Whole.{all-lines}
 use Rattle.stamps.proofs.Lengths.{part-fits, lines-add}
 use Rattle.listing_laws.proofs.LineEnds.{ends-most, part-ends, part-some}
+use Rattle.lent_bytes.specs.TableBytes.{tableBytes}
 use Rattle.c_answers.specs.Delivery.{code, Delivered}
 use Rattle.capi.specs.ListingPart.{listingPart}
 use Rattle.capi_laws.specs.ListingCalls.{Listed, begun, next}
@@ -46,6 +49,40 @@ module _ (how : Telling) (rows : List Row) (s : List ℕ) (line : ℕ) (w : InWi
       let e : after ≡ partText how rows s line (length before) ++ drop (length (partText how rows s line (length before))) before =
       d .holds ∙ simp (le-leb _ _ enough, le-leb _ _ (part-fits how rows s line (length before) w)) in
       ap (take (length (partText how rows s line (length before)))) e ∙ take-at (partText how rows s line (length before)) _ _ refl
+
+-- ---- 11 is returned exactly where the buffer has not a line's room, and leaves it, as far as the table is taken, which is tested first
+module _ (how : Telling) (table s : List ℕ) (rows : List Row) (line : ℕ) (w : InWidth how s) {before after : List ℕ} {r : ℤ} (taken : tableBytes table ≡ answer rows)
+    (d : Delivered (onward (tableBytes table) (λ rows. listingPart how rows s line (length before))) before r after) where
+  by-rows : Delivered (listingPart how rows s line (length before)) before r after
+  unfolding onward
+  by-rows = rw taken at d
+
+  too-short : length before < lineRoom how → (r ≡ negsuc 10) × (after ≡ before)
+  unfolding listingPart written onward bufferHolds code
+  too-short h = (by-rows .returned ∙ simp (lt-leb _ _ h), by-rows .holds ∙ simp (lt-leb _ _ h))
+
+  only-short : r ≡ negsuc 10 → length before < lineRoom how
+  only-short e = go (leb (lineRoom how) (length before)) refl
+    where
+      go : (b : Bool) → leb (lineRoom how) (length before) ≡ b → length before < lineRoom how
+      go false t = leb-false _ _ t
+      go true t = let c = returns-count how rows s line w (leb-true _ _ t) by-rows in let z : _≡_ {A = ℕ} 0 1 = cc in absurd (omega (arith, z))
+
+-- 33 bytes where numbers are told
+pub listing-room : (table s : List ℕ) (rows : List Row) (line : ℕ) {before after : List ℕ} {r : ℤ} → tableBytes table ≡ answer rows
+    → Delivered (onward (tableBytes table) (λ rows. listingPart Numbers rows s line (length before))) before r after
+    → (length before < 33 → (r ≡ negsuc 10) × (after ≡ before)) × (r ≡ negsuc 10 → length before < 33)
+unfolding lineRoom Wide
+listing-room table s rows line taken d = (too-short Numbers table s rows line tt taken d, only-short Numbers table s rows line tt taken d)
+
+-- and 64 where sentences are told, of every block of bytes and however many of 64 bits came
+pub told-room : (n : ℕ) → n < 18446744073709551616 → (table s : List ℕ) → ((k : ℕ) → getD s k 0 < 256) → (rows : List Row) (line : ℕ) {before after : List ℕ} {r : ℤ}
+    → tableBytes table ≡ answer rows → Delivered (onward (tableBytes table) (λ rows. listingPart (Sentences n) rows s line (length before))) before r after
+    → (length before < 64 → (r ≡ negsuc 10) × (after ≡ before)) × (r ≡ negsuc 10 → length before < 64)
+unfolding lineRoom
+told-room n h table s bytes rows line taken d =
+    let w = bytes-width n s h bytes in
+    (too-short (Sentences n) table s rows line w taken d, only-short (Sentences n) table s rows line w taken d)
 
 -- a part with bytes has a line
 some-by : (how : Telling) (rows : List Row) (s : List ℕ) (line k : ℕ) → 0 < length (linesFrom how rows s line k) → 1 ≤ k

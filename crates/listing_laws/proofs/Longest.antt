@@ -1,6 +1,7 @@
--- A line of 33 bytes, the most that `line-most` allows: a block of 1,001 stamps of two zeros is taken, and the line of its last stamp has four digits, a blank, a text of
--- 27 bytes of the year -4713 and the line's end. Assumes nothing.
-use Prim.Native.Nat.{ℕ, zero, suc, _+_, _<_}
+-- A line has at most 33 bytes where numbers are told, and there is one of 33: a block of 1,001 stamps of two zeros is taken, and the line of its last stamp has four
+-- digits, a blank, a text of 27 bytes of the year -4713 and the line's end. Where sentences are told a line has at most 64 (`told-line-most` in Sentences), and there is
+-- one of 64: an input whose length has 20 digits is refused by 14, and names its length. Assumes nothing.
+use Prim.Native.Nat.{ℕ, zero, suc, _+_, _<_, _≤_}
 use native.Mathlib.Omega.{arith}
 use mathlib.Core.Path.{_≡_, refl, ap, _∙_}
 use mathlib.Core.Bool.{false}
@@ -37,9 +38,16 @@ use Rattle.reasons.specs.Offending.{offending, blockField}
 use Rattle.sentences.specs.Render.{namedText, render}
 use Rattle.stamps.specs.declared.Telling.the-variants.{Numbers, Sentences}
 use Rattle.stamps.specs.Block.{blockOf, jd1Bits, jd2Bits, stampAt}
-use Rattle.stamps.specs.Listing.{told, came, textAt, shown, stampLine, blockRefused}
+use Rattle.stamps.specs.Listing.{lineRoom, told, came, textAt, shown, stampLine, blockRefused}
 use Rattle.stamps.specs.Parts.{lineOf}
+use Rattle.stamps.specs.Widths.{Wide}
+use Rattle.stamps.proofs.Lengths.{line-most}
 use Rattle.listing_laws.proofs.Numerals.{digits-whole}
+
+-- ---- every line, of every list of bytes and by any rows
+pub number-line-most : (rows : List Row) (s : List ℕ) (line : ℕ) → length (lineOf Numbers rows (blockOf s) s line) ≤ 33
+unfolding lineRoom Wide
+number-line-most rows s line = line-most Numbers rows (blockOf s) s line tt
 
 -- ---- the date of two zeros is -4713-11-24, by any rows with a text of 27 bytes
 abbrev nil : Float

@@ -217,3 +217,13 @@ cut-listing how rows s = go (leb (length s) 64009) refl
         either p q false b = refused-alike how (take 64009 s) s 12 p q
         either p q true false = refused-alike how (take 64009 s) s 13 p q
         either p q true true = refused-alike how (take 64009 s) s 14 p q
+
+-- so the listing of an input that 14 refuses, of which the program keeps no more than that, names how many bytes came in all
+pub whole-length-named : (rows : List Row) (s : List ℕ) → blockOf s ≡ refusal 14
+    → listing (Sentences (length s)) rows (take 64009 s) ≡ (blockWord ++ sentenceOf 14 (WholeLength (length s))) ++ (10 ∷ [])
+unfolding listing listingOf lineOf
+whole-length-named rows s e =
+    cut-listing (Sentences (length s)) rows s
+    ∙ ap (λ (o : Outcome ℕ). listingOf (Sentences (length s)) rows o s) e
+    ∙ sym (ap (λ (o : Outcome ℕ). lineOf (Sentences (length s)) rows o s 0) e)
+    ∙ length-line rows s 0 e

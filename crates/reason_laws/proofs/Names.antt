@@ -1,5 +1,5 @@
 -- A refusal names its field: where a call of document 01 refuses by a number, the reason of that number with the call's values names the field that the call's test found
--- wrong; and values that the test passes name none. Each law is of the landed definition of the call. Assumes nothing.
+-- wrong; and values that the test passes name none, nor does a number whose test reads other values. Each law is of the landed definition of the call. Assumes nothing.
 use Prim.Native.Nat.{ℕ, _+_, _*_, _/_, _%_, _≤_, _<_}
 use native.Mathlib.Omega.{arith}
 use mathlib.Core.Path.{_≡_, refl, sym, ap, _∙_}
@@ -39,11 +39,12 @@ use Rattle.stamps.specs.Block.{blockOf}
 use Rattle.sentences.specs.declared.Named.{Named}
 use Rattle.sentences.specs.declared.Named.the-variants.{NoField, Year, Month, Day, Hour, Minute, Second, Sum, Fraction, Nanos, FirstPart, SecondPart, Offset, SecondSize, Size, WholeLength}
 use Rattle.reasons.specs.declared.Values.{Values}
-use Rattle.reasons.specs.declared.Values.the-variants.{Date, Time, Parts, Number, Count, Block}
+use Rattle.reasons.specs.declared.Values.the-variants.{NoValues, Date, Time, Parts, Number, Count, Block}
 use Rattle.sentences.specs.declared.Reason.{Reason}
 use Rattle.reasons.specs.Offending.{offending, dateField, yearField, monthField, dayField, timeField, sumField, partField, partsField, floatField, nanosField, blockField}
 use Rattle.reasons.specs.Sentence.{reasonOf}
 use Rattle.reasons.proofs.FieldTests.{hour-wrong, minute-wrong}
+use Rattle.reason_laws.specs.Groups.{reads}
 
 -- number k with this field
 abbrev names : ℕ → Named → Outcome Reason
@@ -67,6 +68,13 @@ tested a k false e = refl
 passed : {A : Type 0} (a x : A) (k : ℕ) (b : Bool) → cond b (answer a) (refusal k) ≡ answer x → b ≡ true
 passed a x k true e = refl
 passed a x k false e = absurd (no-refusal e)
+
+-- three tests that pass
+whichever : (p q r : Bool) → cond p NoField (cond q NoField (cond r NoField NoField)) ≡ NoField
+whichever true q r = refl
+whichever false true r = refl
+whichever false false true = refl
+whichever false false false = refl
 
 -- ---- 1, 2, 3: a date
 module _ (a b c : Bool) where
@@ -125,12 +133,6 @@ module _ (y m d : ℤ) where
   date-passes k e =
       let n : (early y ≡ false) × (no-month m ≡ false) × (no-day y m d ≡ false) = by-none (early y) (no-month m) (no-day y m d) e in
       rw (n .0, n .1, n .2) (whichever (eqb k 1) (eqb k 2) (eqb k 3))
-    where
-      whichever : (p q r : Bool) → cond p NoField (cond q NoField (cond r NoField NoField)) ≡ NoField
-      whichever true q r = refl
-      whichever false true r = refl
-      whichever false false true = refl
-      whichever false false false = refl
 
 -- ---- 4: a time, by the first of its fields that is wrong
 module _ (hour minute : ℕ) (second leap : Float) where
@@ -189,6 +191,15 @@ module _ (rows : List Row) (y m d : ℤ) (x : Float) where
       outside : (b : Bool) → inDay x ≡ b → inDay x ≡ false
       outside true t = absurd (not-seven (rw t at e))
       outside false t = t
+
+  -- a fraction that is taken names none
+  pub fraction-passes : (offset : Float) → taiUtcOffset rows y m d x ≡ answer offset → offending 7 (Number x) ≡ NoField
+  unfolding offending floatField taiUtcOffset
+  fraction-passes offset e = go (inDay x) refl
+    where
+      go : (b : Bool) → inDay x ≡ b → offending 7 (Number x) ≡ NoField
+      go true t = rw t
+      go false t = absurd (no-refusal (rw t at e))
 
 -- ---- 8: the nanoseconds
 module _ (n : ℕ) where
@@ -295,6 +306,13 @@ by-length n false true true false e = inr refl
 by-length n false true false d e = absurd (omega (arith, other e))
 by-length n false false c d e = absurd (omega (arith, other e))
 
+by-none-of : (n x : ℕ) (a b c d : Bool) → cond a (refusal 14) (cond b (cond c (cond d (answer n) (refusal 14)) (refusal 13)) (refusal 12)) ≡ answer x → (b ≡ true) × (c ≡ true) × (d ≡ true)
+by-none-of n x true b c d e = absurd (no-refusal e)
+by-none-of n x false true true true e = (refl, refl, refl)
+by-none-of n x false true true false e = absurd (no-refusal e)
+by-none-of n x false true false d e = absurd (no-refusal e)
+by-none-of n x false false c d e = absurd (no-refusal e)
+
 module _ (s : List ℕ) where
   pub second-size-told : blockOf s ≡ refusal 12 → reasonOf 12 (Block (length s) (u32At s 0) (u32At s 4)) ≡ names 12 (SecondSize (u32At s 4))
   unfolding reasonOf offending blockField blockOf
@@ -311,3 +329,33 @@ module _ (s : List ℕ) where
       wrong : (ltb (length s) 8 ≡ true) ⊎ (eqb (length s) (8 + 16 * u32At s 0) ≡ false) → eqb (length s) (8 + 16 * u32At s 0) ≡ false
       wrong (inl h) = ne-eqb (length s) (8 + 16 * u32At s 0) (λ q. omega (arith, ltb-true (length s) 8 h))
       wrong (inr h) = h
+
+  -- a block that is taken names none, by whatever number
+  pub block-passes : (k n : ℕ) → blockOf s ≡ answer n → offending k (Block (length s) (u32At s 0) (u32At s 4)) ≡ NoField
+  unfolding offending blockField blockOf
+  block-passes k n e =
+      let t = by-none-of (u32At s 0) n (ltb (length s) 8) (eqb (u32At s 0) (u32At s 4)) (leb (u32At s 0) 4000) (eqb (length s) (8 + 16 * u32At s 0)) e in
+      rw (t .0, t .1, t .2) (whichever (eqb k 12) (eqb k 13) (eqb k 14))
+
+-- ---- a number whose test reads other values names none
+none-of-one : (p : Bool) (a : Named) → p ≡ false → cond p a NoField ≡ NoField
+none-of-one p a e = rw e
+
+none-of-two : (p q : Bool) (a b : Named) → p || q ≡ false → cond p a (cond q b NoField) ≡ NoField
+none-of-two false false a b e = refl
+none-of-two false true a b e = let z : _≡_ {A = ℕ} 0 1 = cc in absurd (omega (arith, z))
+none-of-two true q a b e = let z : _≡_ {A = ℕ} 0 1 = cc in absurd (omega (arith, z))
+
+none-of-three : (p q r : Bool) (a b c : Named) → p || (q || r) ≡ false → cond p a (cond q b (cond r c NoField)) ≡ NoField
+none-of-three false q r a b c e = none-of-two q r b c e
+none-of-three true q r a b c e = let z : _≡_ {A = ℕ} 0 1 = cc in absurd (omega (arith, z))
+
+pub other-number : (k : ℕ) (values : Values) → reads k values ≡ false → offending k values ≡ NoField
+unfolding reads offending dateField partsField floatField blockField
+other-number k NoValues e = refl
+other-number k (Date y m d) e = none-of-three (eqb k 1) (eqb k 2) (eqb k 3) _ _ _ e
+other-number k (Time hour minute second leap) e = none-of-one (eqb k 4) _ e
+other-number k (Parts a b) e = none-of-two (eqb k 6) (eqb k 9) _ _ e
+other-number k (Number x) e = none-of-two (eqb k 7) (eqb k 10) _ _ e
+other-number k (Count n) e = none-of-one (eqb k 8) _ e
+other-number k (Block len size second) e = none-of-three (eqb k 12) (eqb k 13) (eqb k 14) _ _ _ e
