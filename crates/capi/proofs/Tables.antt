@@ -55,10 +55,6 @@ module _ (s : List ℕ) (t : LentRows) (n : ℕ) (e : unlessRefused n (rowsOf t)
       go true p = sym p
       go false p = absurd (let z : _≡_ {A = ℕ} 0 1 = cc in let no : ⊥ = omega arith in no)
 
-  -- the rows that the code has are the table in the bytes
-  pub table-is : n ≡ 0 → tableOf t ≡ tableBytes s
-  table-is h = is-taken h ∙ ap (λ (k : ℕ). unlessRefused k (rowsOf t)) (sym h) ∙ e ∙ f
-
   module _ (h : n ≡ 0) where
     counted : (length (rowsOf t) ≡ 42 + t .«months_size») × (length (rowsOf t) ≤ 58)
     counted = lengths t (rowsOf t) (is-taken h)

@@ -1,7 +1,7 @@
 -- Lists of dates worked out to the end: what the closed form says of real dates. Assumes nothing.
 use Prim.Native.Nat.{ℕ}
 use mathlib.Core.Path.{_≡_, refl}
-use mathlib.Core.Bool.{true}
+use mathlib.Core.Bool.{true, false}
 use mathlib.Core.List.{List, [], _∷_, map}
 use lib.IntN.{pos, negsuc}
 use Rattle.refusals.specs.Outcome.{answer, refusal, onward}
@@ -38,3 +38,16 @@ no-place = refl
 pub none-and-earlier : walkOf fixed true (date 2016 12 31 ∷ date 1999 2 29 ∷ []) 2 ≡ refusal 3
 unfolding walkOf judgedAll judgedAfter judgedNext earlier onward validDate daysInMonth lengths leapSize
 none-and-earlier = refl
+
+-- equal dates pass, and the second compares no row more; a broken triple is 14 before the places are counted; 17 of an earlier date comes before a later date's own number
+pub equal-pass : onward (walkOf fixed true (date 2017 1 1 ∷ date 2017 1 1 ∷ []) 2) (λ w. answer (w .rowsCompared)) ≡ answer 42
+unfolding walkOf judgedAll judgedAfter judgedNext earlier onward validDate daysInMonth lengths leapSize compared heldAgainst left fixed monthNumber
+equal-pass = refl
+
+pub broken-first : walkOf fixed false (date 2017 1 1 ∷ []) 0 ≡ refusal 14
+unfolding walkOf
+broken-first = refl
+
+pub earlier-before-later : walkOf fixed true (date 2017 1 1 ∷ date 2016 12 31 ∷ date 1999 2 29 ∷ []) 3 ≡ refusal 17
+unfolding walkOf judgedAll judgedAfter judgedNext earlier onward validDate daysInMonth lengths leapSize
+earlier-before-later = refl
