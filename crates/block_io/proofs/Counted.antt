@@ -1,5 +1,5 @@
 -- A number of bytes at the start of a list, and what a writer of a listing learns of its parts. Assumes nothing.
-use Prim.Native.Nat.{ℕ, _+_, _-_, _<_, _≤_}
+use Prim.Native.Nat.{ℕ, _+_, _-_, _≤_}
 use native.Mathlib.Omega.{arith}
 use mathlib.Core.Path.{_≡_, sym, ap, _∙_}
 use mathlib.Core.Bool.{true}
@@ -12,7 +12,7 @@ use Rattle.tai_utc.specs.Table.{Row}
 use Rattle.stamps.specs.declared.Telling.{Telling}
 use Rattle.stamps.specs.declared.Part.{Part}
 use Rattle.stamps.specs.Block.{blockOf}
-use Rattle.stamps.specs.Parts.{linesIn, heldLines, partLines, partOf, PartPlaced}
+use Rattle.stamps.specs.Parts.{linesIn, partLines, partOf, PartPlaced}
 use Rattle.stamps.proofs.Parts.{held-few}
 
 pub counts : (n : ℕ) (l : List ℕ) → n ≤ length l → Counts n l

@@ -17,7 +17,7 @@ use Rattle.floats.proofs.Laws.{yes}
 use Rattle.rounding.specs.Value.{Signed, Val, Rounds, L, H}
 use Rattle.rounding.proofs.Value.{L-pos, val-unique, add-rounds, sub-rounds, rounds-move, val-move}
 use Rattle.rounding.proofs.Signed.{dist, dist-le, dist-shift, signed-dist, plus-of, minus-of}
-use Rattle.rounding.proofs.Compare.{lt-val, lt-true, lt-false, le-true, le-false, lt-show, le-says, eq-val}
+use Rattle.rounding.proofs.Compare.{lt-true, le-true, le-false, lt-show, le-says, eq-val}
 use Rattle.rounding.proofs.Bound.{rounds-mono}
 use Rattle.rounding.proofs.Own.{Rep, own, own-val, val-rep, val-small}
 use Rattle.rounding.proofs.Sterbenz.{rounds-rep}
@@ -27,12 +27,11 @@ use Rattle.rounding.proofs.Compensated.{compensated, compensated-either}
 use Rattle.day_number.specs.declared.Kahan.{Kahan}
 use Rattle.day_number.specs.declared.Summed.{Summed}
 use Rattle.day_number.specs.declared.Normalized.{Normalized}
-use Rattle.day_number.specs.declared.Carried.{Carried}
-use Rattle.day_number.specs.DayNumber.{compensation, addFraction, kahanStart, sumFractions, kahanOf, besideBorrowed, carryDay, borrowSum, borrowFraction, borrowDay, normalizeFraction, c-minus-eps-4}
-use Rattle.day_number.proofs.Units.{one-L, half-L, nought-L, H-L, H-pos}
+use Rattle.day_number.specs.DayNumber.{compensation, addFraction, sumFractions, kahanOf, borrowFraction, borrowDay, normalizeFraction, c-minus-eps-4}
+use Rattle.day_number.proofs.Units.{one-L, nought-L, H-pos}
 use Rattle.day_number.specs.MinusZero.{minusZero}
 use Rattle.day_number.proofs.SignedUnits.{has-val}
-use Rattle.day_number.proofs.MinusZero.{Unsigned, some-size, add-unsigned, sub-unsigned}
+use Rattle.day_number.proofs.MinusZero.{Unsigned, some-size, add-unsigned}
 use Rattle.day_number.proofs.CarryTest.{carry-test}
 use Rattle.day_number.proofs.Steps.{skip, borrowed, unborrowed, carry-none}
 

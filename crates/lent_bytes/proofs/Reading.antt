@@ -11,7 +11,7 @@ use lib.ListN.{length, getD, set, length-set}
 use lib.Seq.{getD-set-same, getD-set-other}
 use borrow.Author.Count.{below-more}
 use borrow.Author.Tests.{eq-eqb, ne-eqb, eqb-true, leb-true, leb-false}
-use Rattle.refusals.specs.Outcome.{Outcome, answer, refusal}
+use Rattle.refusals.specs.Outcome.{Outcome, answer}
 use Rattle.little_endian.specs.LittleEndian.{u32At}
 use Rattle.tai_utc.specs.declared.LentRows.{LentRows}
 use Rattle.tai_utc.specs.Table.{Row, fixed}

@@ -29,8 +29,8 @@ use Rattle.reason_laws.specs.Printable.{Printable}
 use Rattle.reason_laws.proofs.Printed.{sentence-printable}
 use Rattle.stamps.specs.declared.Telling.{Telling}
 use Rattle.stamps.specs.declared.Telling.the-variants.{Numbers, Sentences}
-use Rattle.stamps.specs.Block.{blockOf, stampAt}
-use Rattle.stamps.specs.Listing.{numeral, refusedWord, utcListingWords, blockWord, lineRoom, told, textAt, refusedValues, shown, stampLine, refusedIn, header, blockRefused}
+use Rattle.stamps.specs.Block.{blockOf}
+use Rattle.stamps.specs.Listing.{refusedWord, utcListingWords, blockWord, lineRoom, told, textAt, refusedValues, shown, stampLine, refusedIn, header, blockRefused}
 use Rattle.stamps.specs.Parts.{lineOf, linesIn, linesFrom, partLines, partText}
 use Rattle.listing_laws.specs.LineEnds.{lineEnds}
 use Rattle.stamps.proofs.Parts.{held-some}

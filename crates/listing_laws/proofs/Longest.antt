@@ -1,7 +1,7 @@
 -- A line has at most 33 bytes where numbers are told, and there is one of 33: a block of 1,001 stamps of two zeros is taken, and the line of its last stamp has four
 -- digits, a blank, a text of 27 bytes of the year -4713 and the line's end. Where sentences are told a line has at most 64 (`told-line-most` in Sentences), and there is
 -- one of 64: an input whose length has 20 digits is refused by 14, and names its length. Assumes nothing.
-use Prim.Native.Nat.{ℕ, zero, suc, _+_, _<_, _≤_}
+use Prim.Native.Nat.{ℕ, zero, suc, _<_, _≤_}
 use native.Mathlib.Omega.{arith}
 use mathlib.Core.Path.{_≡_, refl, ap, _∙_}
 use mathlib.Core.Bool.{false}
@@ -11,7 +11,7 @@ use lib.IntN.{pos, negsuc}
 use lib.Signed.{ltZ}
 use lib.Ieee.{Float, binary64, ofBits, round, ofInt, add, sub, div, neg, lt, le, eq, toSigned}
 use lib.Dec.{lit<}
-use Rattle.refusals.specs.Outcome.{Outcome, answer, refusal, onward}
+use Rattle.refusals.specs.Outcome.{answer, refusal, onward}
 use Rattle.little_endian.specs.LittleEndian.{fourAt, u32At, u64At}
 use Rattle.digits.specs.Decimal.{digitsIn}
 use Rattle.floats.specs.Whole.{abs, toWhole, nearestInt}

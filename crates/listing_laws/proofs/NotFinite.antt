@@ -3,23 +3,22 @@ use mathlib.Core.Path.{_≡_, refl, sym, ap, _∙_}
 use mathlib.Core.Logic.{_⊎_, inl, inr}
 use mathlib.Core.Bool.{Bool, true, false, not, cond, _&&_, _||_}
 use mathlib.Core.List.{List, [], _∷_, _++_}
-use Prim.Native.Nat.{ℕ, zero, suc, _+_, _^_, _≤_, _<_}
+use Prim.Native.Nat.{ℕ, zero, suc, _+_, _≤_, _<_}
 use native.Mathlib.Omega.{arith}
 use lib.Dec.{eqb}
 use lib.Pow.{field}
-use lib.Ieee.{nan, inf, binary64, odd, ofFields, ofBits}
 use lib.Ieee.Scale.{finite}
 use borrow.Author.Tests.{eqb-true, eq-eqb}
 use Rattle.refusals.specs.Outcome.{Outcome, answer, refusal}
 use Rattle.digits.specs.Decimal.{digitsIn}
 use Rattle.floats.specs.ExponentField.{exponentField}
-use Rattle.floats.proofs.ExponentField.{finite-field, field-not-finite}
+use Rattle.floats.proofs.ExponentField.{field-not-finite}
 use Rattle.calendar.proofs.NextDates.{first-false}
 use Rattle.tai_utc.specs.Table.{Row}
 use Rattle.utc_laws.proofs.Numbers.{not-both}
 use Rattle.utc_laws.proofs.ExpandedTexts.{expanded-not-finite}
 use Rattle.stamps.specs.declared.Telling.{Telling}
-use Rattle.stamps.specs.declared.Telling.the-variants.{Numbers, Sentences}
+use Rattle.stamps.specs.declared.Telling.the-variants.{Numbers}
 use Rattle.stamps.specs.Block.{blockOf, jd1Bits, jd2Bits, stampAt}
 use Rattle.listing_laws.specs.NotFinite.{NotFinite, isNotFinite, notFiniteIn, HasText}
 use Rattle.stamps.specs.Listing.{numeral, refusedWord, told, textAt, shown, stampLine, stampLines, oneIfRefused, refusedIn, header, listingOf, listing}

@@ -1,19 +1,18 @@
 -- The second listing, with refusals told in sentences: what it has from the first, and what each sentence names. Assumes nothing.
-use Prim.Native.Nat.{ℕ, zero, suc, _+_, _-_, _*_, _≤_, _<_}
+use Prim.Native.Nat.{ℕ, _+_, _-_, _*_, _≤_, _<_}
 use native.Mathlib.Omega.{arith}
-use mathlib.Core.Path.{_≡_, refl, sym, ap, subst, _∙_}
+use mathlib.Core.Path.{_≡_, refl, sym, ap, _∙_}
 use mathlib.Core.Logic.{_⊎_, inl, inr}
-use mathlib.Core.Bool.{Bool, true, false, cond, not, _&&_}
+use mathlib.Core.Bool.{Bool, true, false, cond, not}
 use mathlib.Core.List.{List, [], _∷_, _++_}
-use lib.ListN.{length, take, getD, length-append, length-replicate, length-take}
+use lib.ListN.{length, take, getD, length-take}
 use lib.Seq.{getD-take, length-take-le, take-all}
 use lib.Dec.{ltb, leb, eqb}
 use lib.IntN.{pos}
 use lib.Ieee.{Float}
-use borrow.Author.Tests.{ltb-true, ltb-false, leb-true, leb-false, le-leb, lt-leb, lt-ltb, le-ltb, ne-eqb, eqb-true, eqb-false}
+use borrow.Author.Tests.{leb-true, leb-false, le-leb, le-ltb, ne-eqb}
 use Rattle.refusals.specs.Outcome.{Outcome, answer, refusal, onward}
 use Rattle.little_endian.specs.LittleEndian.{fourAt, u32At}
-use Rattle.digits.specs.Decimal.{digitsIn, digitsOf}
 use Rattle.calendar.proofs.Years.{validOf}
 use Rattle.day_number.specs.declared.DayNumber.{DayNumber}
 use Rattle.day_number.specs.Answer.{dayNumberAndFraction}
@@ -31,20 +30,17 @@ use Rattle.utc_laws.proofs.DayTexts.{text-refused-by, has-text-by}
 use Rattle.sentences.specs.declared.Named.{Named}
 use Rattle.sentences.specs.declared.Named.the-variants.{Year, Sum, SecondSize, Size, WholeLength}
 use Rattle.reasons.specs.declared.Values.{Values}
-use Rattle.reasons.specs.declared.Values.the-variants.{Date, Parts, Block}
+use Rattle.reasons.specs.declared.Values.the-variants.{Date, Block}
 use Rattle.sentences.specs.declared.Reason.{Reason}
-use Rattle.sentences.specs.Texts.{asciiBytes, texts, fixedText}
 use Rattle.reasons.specs.Offending.{offending, blockField}
-use Rattle.sentences.specs.Render.{namedText, render}
+use Rattle.sentences.specs.Render.{render}
 use Rattle.reasons.specs.Sentence.{reasonOf}
-use Rattle.reasons.specs.Widths.{OfWidth}
 use Rattle.reason_laws.proofs.Names.{year-told, sum-told, second-size-told, size-told, length-told}
 use Rattle.stamps.specs.declared.Telling.{Telling}
 use Rattle.stamps.specs.declared.Telling.the-variants.{Numbers, Sentences}
 use Rattle.stamps.specs.Block.{blockOf, stampAt}
-use Rattle.stamps.specs.Listing.{numeral, lineRoom, told, came, textAt, valuesBy, refusedValues, shown, stampLine, refusedIn, header, blockWord, blockValues, blockRefused, listingOf, listing}
+use Rattle.stamps.specs.Listing.{numeral, lineRoom, told, came, textAt, valuesBy, refusedValues, shown, stampLine, header, blockWord, blockValues, blockRefused, listingOf, listing}
 use Rattle.stamps.specs.Parts.{lineOf}
-use Rattle.stamps.specs.Widths.{Wide, InWidth}
 use Rattle.stamps.proofs.Tellings.{bytes-width}
 use Rattle.stamps.proofs.Lengths.{line-most}
 use Rattle.listing_laws.specs.NotFinite.{NotFinite}

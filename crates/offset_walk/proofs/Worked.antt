@@ -2,8 +2,8 @@
 use Prim.Native.Nat.{ℕ}
 use mathlib.Core.Path.{_≡_, refl}
 use mathlib.Core.Bool.{true, false}
-use mathlib.Core.List.{List, [], _∷_, map}
-use lib.IntN.{pos, negsuc}
+use mathlib.Core.List.{[], _∷_}
+use lib.IntN.{pos}
 use Rattle.refusals.specs.Outcome.{answer, refusal, onward}
 use Rattle.tai_utc.specs.Table.{fixed, monthNumber}
 use Rattle.calendar.specs.Calendar.{leapSize, lengths, daysInMonth}

@@ -1,15 +1,14 @@
 -- What the code judges is what the text says: the number that it keeps of a fraction of at most 13 digits is the whole one, and its second is below 61 exactly
 -- where the decimal is. Assumes nothing.
-use Prim.Native.Nat.{ℕ, zero, suc, _+_, _-_, _*_, _^_, _<_, _≤_}
+use Prim.Native.Nat.{ℕ, _+_, _-_, _*_, _^_, _<_, _≤_}
 use native.Mathlib.Omega.{arith}
-use native.Mathlib.Nat.{add-mul, mul-le-mul-right, add-zero}
-use mathlib.Core.Path.{_≡_, refl, sym, ap, _∙_}
+use native.Mathlib.Nat.{mul-le-mul-right}
+use mathlib.Core.Path.{_≡_, refl, ap, _∙_}
 use mathlib.Core.List.{List, [], _∷_}
-use mathlib.Core.Bool.{Bool, true, false, cond, _&&_}
+use mathlib.Core.Bool.{Bool, true, false, cond}
 use lib.ListN.{length, drop}
 use lib.Dec.{leb, ltb, eqb}
 use lib.IntN.{pos}
-use lib.Ieee.{Float}
 use borrow.Author.Tests.{leb-true, leb-false, le-leb, lt-leb, lt-ltb, le-ltb}
 use Rattle.refusals.specs.Outcome.{Outcome, answer, refusal, onward}
 use Rattle.constants.specs.Constants.{decimal}
@@ -18,7 +17,6 @@ use Rattle.digits.specs.Decimal.{value, number, isDigit, AllDigits}
 use Rattle.digits.proofs.Decimal.{digit-bounds, value-split, number-below}
 use Rattle.text_scan.specs.declared.Form.{Form}
 use Rattle.parsing.specs.declared.ParsedDateTime.{ParsedDateTime}
-use Rattle.text_scan.specs.Written.{Written}
 use Rattle.text_scan.specs.Form.{byteAt, digitSays, twoSay, leading, fractionDigits, afterBlanks, rightForm, says, formOf}
 use Rattle.parsing.specs.Parsed.{fieldsOf, timeFits, judged, parsed}
 use Rattle.text_scan.specs.Scan.{joined, keptFrom, kept, formAt, scanOf}

@@ -5,8 +5,7 @@ use Prim.Native.Nat.{ℕ, _*_, _^_}
 use mathlib.Core.List.{List}
 use mathlib.Core.Bool.{Bool, true, cond, _&&_}
 use lib.Dec.{leb, ltb}
-use lib.IntN.{ℤ, pos}
-use lib.Ieee.{Float}
+use lib.IntN.{pos}
 use Rattle.refusals.specs.Outcome.{Outcome, answer, refusal, onward}
 use Rattle.constants.specs.Constants.{decimal}
 use Rattle.calendar.specs.Refusals.{validDate}

@@ -27,7 +27,7 @@ use Rattle.parsing.specs.declared.ParsedUtcAnswer.{ParsedUtcAnswer}
 use Rattle.parsing.specs.declared.ParsedUtcAnswer.the-variants as Utc
 use Rattle.parsing.specs.Parsed.{parsedUtcOutcome, parsedUtc}
 use Rattle.digits.specs.Placed.{pasted, Placed}
-use Rattle.readings.specs.Reading.{reading, told, LineCall}
+use Rattle.readings.specs.Reading.{reading, readingTold, LineCall}
 
 -- ---- the digits that `io::decimal` writes, as few as hold the number, are the number's
 glyph-last : (n : ℕ) → glyph (n % 10) ≡ last n
@@ -98,8 +98,8 @@ written-by t p n true e = (cc, refl)
 written-by t p n false e = let z : _≡_ {A = ℕ} 0 1 = cc in absurd (omega arith)
 
 told-written : (o : Outcome (List ℕ)) (p : List ℕ) (n : ℕ) → Short o → written o (length p) ≡ answer n
-    → (n ≡ length (told o)) × (bufferHolds o p ≡ told o ++ drop (length (told o)) p) × (n ≤ 27)
-unfolding written bufferHolds told onward textWritten bufferAfter
+    → (n ≡ length (readingTold o)) × (bufferHolds o p ≡ readingTold o ++ drop (length (readingTold o)) p) × (n ≤ 27)
+unfolding written bufferHolds readingTold onward textWritten bufferAfter
 told-written (answer t) p n s e = let w = written-by t p n (leb (length t) (length p)) e in let m = s t refl in (w .0, w .1, omega (arith, w .0))
 told-written (refusal k) p n s e = let z : _≡_ {A = ℕ} 0 1 = cc in absurd (omega arith)
 
@@ -115,7 +115,7 @@ told-refused (answer t) p k s h e = let m = s t refl in absurd (refused-by t p k
 told-refused (refusal j) p k s h e = let same : j ≡ k = cc in (ap refusal same, refl)
 
 module _ {o : Outcome (List ℕ)} {p ys : List ℕ} {res : TextAnswer} (call : TextCall o p res ys) (s : Short o) where
-  pub text-written : (n : ℕ) → res ≡ Written n → (n ≡ length (told o)) × (ys ≡ told o ++ drop (length (told o)) p) × (n ≤ 27)
+  pub text-written : (n : ℕ) → res ≡ Written n → (n ≡ length (readingTold o)) × (ys ≡ readingTold o ++ drop (length (readingTold o)) p) × (n ≤ 27)
   unfolding textOutcome
   text-written n e = let w = told-written o p n s (sym (call .says) ∙ ap textOutcome e) in (w .0, call .holds ∙ w .1, w .2)
 

@@ -10,7 +10,7 @@ ghost use Rattle.refusals.specs.Outcome.{refusal};
 ghost use Rattle.tai_utc.specs.Lent.{rowsOf};
 ghost use Rattle.utc.specs.Expanded.{isoTextExpanded};
 ghost use Rattle.digits.specs.Placed.{Placed};
-ghost use Rattle.readings.specs.Reading.{reading, told, readingLine, LineCall};
+ghost use Rattle.readings.specs.Reading.{reading, readingTold, readingLine, LineCall};
 
 // So many bytes hold every line: an index of 64 bits has at most 20 digits, and so has a refusal's number for all that is proved of it; `refused` with its blank has 8, the
 // text of a date at most 27, and a blank and the line's end are left.
@@ -35,7 +35,7 @@ fn place_number(n: u64, dst: &mut [u8], at: usize) -> usize
 
 fn place_refused(number: u32, dst: &mut [u8], at: usize) -> usize
     requires { ⌜ at + 28 ≤ length (now dst) ⌝ }
-    ensures { λ r. ⌜ Placed (now (dst .entry)) at (told (refusal number)) r (now (dst .exit)) ⌝ }
+    ensures { λ r. ⌜ Placed (now (dst .entry)) at (readingTold (refusal number)) r (now (dst .exit)) ⌝ }
     ensures { λ r. ⌜ r ≤ at + 28 ⌝ }
 {
     let next = place_bytes(b"refused ", dst, at);
@@ -44,7 +44,7 @@ fn place_refused(number: u32, dst: &mut [u8], at: usize) -> usize
 
 fn place_text(utc: UTC, table: LentRows, dst: &mut [u8], at: usize) -> usize
     requires { ⌜ at + 28 ≤ length (now dst) ⌝ }
-    ensures { λ r. ⌜ Placed (now (dst .entry)) at (told (isoTextExpanded (rowsOf table) (utc .0))) r (now (dst .exit)) ⌝ }
+    ensures { λ r. ⌜ Placed (now (dst .entry)) at (readingTold (isoTextExpanded (rowsOf table) (utc .0))) r (now (dst .exit)) ⌝ }
     ensures { λ r. ⌜ r ≤ at + 28 ⌝ }
 {
     match utc::to_iso8601_expanded_by_rows(utc, table, &mut dst[at..]) {
@@ -55,7 +55,7 @@ fn place_text(utc: UTC, table: LentRows, dst: &mut [u8], at: usize) -> usize
 
 fn place_reading(text: &[u8], table: LentRows, dst: &mut [u8], at: usize) -> usize
     requires { ⌜ at + 28 ≤ length (now dst) ⌝ }
-    ensures { λ r. ⌜ Placed (now (dst .entry)) at (told (reading (rowsOf table) (now (text .entry)))) r (now (dst .exit)) ⌝ }
+    ensures { λ r. ⌜ Placed (now (dst .entry)) at (readingTold (reading (rowsOf table) (now (text .entry)))) r (now (dst .exit)) ⌝ }
     ensures { λ r. ⌜ r ≤ at + 28 ⌝ }
 {
     match parsing::from_str_by_rows(text, table) {

@@ -1,5 +1,5 @@
 -- The reader gives every reason back from its sentence. So two sentences are the same only if number, field and value are the same. Assumes nothing.
-use Prim.Native.Nat.{ℕ, zero, suc, _+_, _<_, _≤_, _^_}
+use Prim.Native.Nat.{ℕ, zero, suc, _+_, _≤_}
 use native.Mathlib.Omega.{arith}
 use mathlib.Core.Path.{_≡_, refl, sym, ap, _∙_}
 use mathlib.Core.List.{List, [], _∷_, _++_}
@@ -12,7 +12,6 @@ use lib.Ieee.Bits.{toBits-lt, ofBits-toBits}
 use borrow.Author.Tests.{ne-eqb}
 use Rattle.digits.specs.Decimal.{number, AllDigits, digitsOf}
 use Rattle.digits.proofs.Decimal.{number-digits, digits-all, digits-some}
-use Rattle.digits.specs.Hexadecimal.{hex16, hexNumber}
 use Rattle.digits.proofs.Hexadecimal.{number-hex}
 use Rattle.sentences.proofs.Each.{EachBelow, from-each}
 use Rattle.sentences.specs.declared.Named.{Named}

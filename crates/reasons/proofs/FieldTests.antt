@@ -1,24 +1,23 @@
 -- Which field each number names, test by test, as the code finds it. Assumes nothing.
 use Prim.Native.Nat.{ℕ, _+_, _*_, _≤_, _<_}
 use native.Mathlib.Omega.{arith}
-use mathlib.Core.Path.{_≡_, refl, sym, ap, _∙_}
+use mathlib.Core.Path.{_≡_, refl, ap}
 use mathlib.Core.Bool.{Bool, true, false, cond, not}
 use lib.Dec.{eqb, leb, ltb}
 use lib.IntN.{ℤ, pos, negsuc}
 use lib.Signed.{ltZ}
 use lib.Ieee.{Float, le, add, binary64}
 use lib.Ieee.Scale.{finite}
-use borrow.Author.Tests.{eq-eqb, ne-eqb, le-leb, lt-leb, lt-ltb, le-ltb, not-true, not-false}
-use Rattle.refusals.specs.Outcome.{Outcome, answer, refusal}
+use borrow.Author.Tests.{eq-eqb, ne-eqb, le-leb, lt-leb, lt-ltb, le-ltb}
+use Rattle.refusals.specs.Outcome.{Outcome}
 use Rattle.floats.specs.Whole.{nought, one}
 use Rattle.calendar.specs.Calendar.{daysInMonth}
 use Rattle.day_number.specs.DayNumber.{inJulianRange, c-djmin, c-djmax}
 use Rattle.julian.specs.declared.FractionAnswer.{FractionAnswer}
 use Rattle.julian.specs.declared.FractionAnswer.the-variants as Answer
 use Rattle.julian.specs.DayFraction.{fractionOutcome, dayFraction, timeInDay}
-use Rattle.julian.specs.JulianDate.{julian, roundedSum}
+use Rattle.julian.specs.JulianDate.{roundedSum}
 use Rattle.tai_utc.specs.Offset.{inDay}
-use Rattle.sentences.specs.declared.Named.{Named}
 use Rattle.sentences.specs.declared.Named.the-variants.{NoField, Year, Month, Day, Hour, Minute, Second, Sum, Fraction, Nanos, FirstPart, SecondPart, Offset, SecondSize, Size, WholeLength}
 use Rattle.reasons.specs.Offending.{yearField, monthField, dayField, dateField, timeField, sumField, partField, partsField, floatField, nanosField, blockField}
 

@@ -1,9 +1,9 @@
 -- A sentence has at most 57 bytes: every one that a call gives. Assumes nothing.
 use Prim.Native.Nat.{ℕ, suc, _+_, _*_, _≤_, _<_}
 use native.Mathlib.Omega.{arith}
-use mathlib.Core.Path.{_≡_, refl, sym, ap, subst, _∙_}
+use mathlib.Core.Path.{_≡_, refl, sym, ap, subst}
 use mathlib.Core.Bool.{Bool, true, false, cond, not, _&&_, _||_}
-use mathlib.Core.List.{List, [], _++_}
+use mathlib.Core.List.{List, _++_}
 use lib.ListN.{length, length-append}
 use lib.Dec.{leb, ltb, eqb}
 use lib.IntN.{ℤ, pos, negsuc, natAbs}
@@ -11,7 +11,7 @@ use lib.Signed.{ltZ}
 use lib.Ieee.{Float, binary64, toBits}
 use lib.Ieee.Scale.{finite}
 use borrow.Author.Tests.{leb-true, leb-false, le-leb, eqb-true}
-use Rattle.refusals.specs.Outcome.{Outcome, answer, refusal, onward}
+use Rattle.refusals.specs.Outcome.{answer, refusal, onward}
 use Rattle.calendar.specs.Calendar.{daysInMonth}
 use Rattle.day_number.specs.DayNumber.{inJulianRange}
 use Rattle.julian.specs.JulianDate.{julian, roundedSum}

@@ -1,7 +1,6 @@
 -- The sentence of a call, by what the call before it answered. Assumes nothing.
 use Prim.Native.Nat.{ℕ}
 use mathlib.Core.Path.{_≡_, sym, ap, _∙_}
-use mathlib.Core.List.{List}
 use Rattle.refusals.specs.Outcome.{Outcome, answer, refusal, onward}
 use Rattle.reasons.specs.declared.Values.{Values}
 use Rattle.sentences.specs.declared.Reason.{Reason}

@@ -1,6 +1,5 @@
 -- Which stamps of a run are refused, and by which number. Assumes nothing.
-use Prim.Native.Nat.{ℕ, zero, suc, _*_, _%_}
-use native.Mathlib.Omega.{arith}
+use Prim.Native.Nat.{ℕ, _*_}
 use mathlib.Core.Path.{_≡_, refl, sym, ap, subst, _∙_}
 use mathlib.Core.Logic.{_⊎_, inl, inr}
 use mathlib.Core.Bool.{Bool, true, false, not, cond, _&&_, _||_, true≢false}
@@ -12,7 +11,7 @@ use lib.Ieee.Fits.{add-fits, sub-fits}
 use lib.Ieee.Scale.{finite}
 use borrow.Author.Tests.{eqb-true, eq-eqb}
 use Rattle.refusals.specs.Outcome.{Outcome, answer, refusal, onward}
-use Rattle.refusals.proofs.Onward.{went, stopped, came}
+use Rattle.refusals.proofs.Onward.{stopped, came}
 use Rattle.julian.specs.declared.JulianDate.{JulianDate}
 use Rattle.julian.specs.JulianDate.{julian}
 use Rattle.julian.specs.Finite.{finiteParts, finiteJd}
@@ -25,7 +24,7 @@ use Rattle.shifts.proofs.SmallerPart.{map-is, mapAs}
 use Rattle.constants.specs.Constants.{mjdZeroPoint, tcgReferenceEpoch, tcgRateLg, tcgRateRatio}
 use Rattle.scales.specs.Formulas.{gpsDays, ttDays, since, tcgToTt, ttToTcg}
 use Rattle.scale_laws.specs.Ranges.{Held}
-use Rattle.scales.specs.Conversions.{answerOf, gps-tai, tai-gps, tai-tt, tt-tai, tcg-tt, tt-tcg, tai-tcg, tcg-tai}
+use Rattle.scales.specs.Conversions.{answerOf}
 use Rattle.julian.specs.declared.CalendarFields.{CalendarFields}
 use Rattle.julian.specs.Calendar.{julianToCalendar}
 use Rattle.tai_utc.specs.declared.DayOffsets.{DayOffsets}
@@ -37,11 +36,8 @@ use Rattle.utc_scale_laws.proofs.Outcomes.{holds-onward, holds-more}
 use Rattle.utc_scale_laws.proofs.Refusals.{parts-fit, utc-to-tai-refuses, tai-to-utc-refuses}
 use Rattle.utc_scale_laws.proofs.NotFinite.{utc-to-tai-not-finite, tai-to-utc-not-finite}
 use Rattle.line_up.specs.LineUp.{stampOf}
-use Rattle.floats.specs.ExponentField.{exponentField}
 use Rattle.floats.proofs.ExponentField.{field-not-finite}
 use Rattle.scale_ways.specs.Ways.{isRunScale, intoTai, outOfTai, between, wayOf}
-use Rattle.runs.specs.Run.{stampAnswer, numberByte}
-use Rattle.run_laws.specs.EachWay.{EachWay}
 use Rattle.run_laws.specs.Dead.{DeadStamp, deadNumber, OneSixNine}
 use Rattle.run_laws.proofs.EachWay.{each-way}
 

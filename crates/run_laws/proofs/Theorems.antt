@@ -1,5 +1,5 @@
 -- WHAT A RUN MEANS, for every run of every length: each stamp's answer and number, the count, the dead stamps, the same scale, and a refused call. Assumes nothing.
-use Prim.Native.Nat.{ℕ, zero, suc, _+_, _*_, _/_, _%_, _<_, _≤_, _^_}
+use Prim.Native.Nat.{ℕ, _*_, _/_, _%_, _<_, _≤_, _^_}
 use native.Mathlib.Omega.{arith}
 use native.Mathlib.Nat.{div-mul-le-self}
 use mathlib.Core.Path.{_≡_, refl, sym, ap, subst, _∙_}
@@ -9,7 +9,7 @@ use lib.Dec.{eqb}
 use lib.ListN.{length, getD}
 use lib.Ieee.{binary64, ofBits, toBits}
 use lib.Ieee.Scale.{finite}
-use borrow.Author.Tests.{eq-eqb, ne-eqb}
+use borrow.Author.Tests.{eq-eqb}
 use Rattle.refusals.specs.Outcome.{Outcome, answer, refusal}
 use Rattle.julian.specs.declared.JulianDate.{JulianDate}
 use Rattle.julian.specs.Finite.{finiteParts}
@@ -17,8 +17,8 @@ use Rattle.little_endian.specs.LittleEndian.{u64At}
 use Rattle.tai_utc.specs.Table.{Row}
 use Rattle.shifts.proofs.Outcomes.{and-left, and-right}
 use Rattle.line_up.specs.LineUp.{stampOf}
-use Rattle.scale_ways.specs.Ways.{isRunScale, wayOf}
-use Rattle.runs.specs.Run.{stampAnswer, numberByte, firstPart, secondPart, withParts, withNumbers, refusedAmong, runRefusal, RunCall, runCall, runWritten, runBy, convertedRun}
+use Rattle.scale_ways.specs.Ways.{isRunScale}
+use Rattle.runs.specs.Run.{stampAnswer, numberByte, firstPart, secondPart, runRefusal, RunCall, runCall, runWritten, runBy, convertedRun}
 use Rattle.runs.proofs.Calls.{Fitting, fitting}
 use Rattle.runs.proofs.Offsets.{pattern-back}
 use Rattle.utc_scale_laws.specs.Claims.{Holds, Any}

@@ -1,5 +1,5 @@
 -- The call as a whole: the refusals of the scales and the lengths, what no refusal says, and the answer. Assumes nothing.
-use Prim.Native.Nat.{ℕ, zero, suc, _+_, _*_, _/_, _%_, _<_, _≤_}
+use Prim.Native.Nat.{ℕ, zero, suc, _*_, _/_, _%_, _<_, _≤_}
 use native.Mathlib.Omega.{arith}
 use native.Mathlib.Nat.{div-mul-le-self}
 use mathlib.Core.Path.{_≡_, refl, sym, ap, _∙_}
@@ -11,7 +11,6 @@ use borrow.Author.Tests.{eq-eqb, ne-eqb, le-leb, lt-leb, eqb-true, leb-true}
 use Rattle.refusals.specs.Outcome.{Outcome, answer, refusal}
 use Rattle.tai_utc.specs.Table.{Row}
 use Rattle.tai_utc.specs.Lent.{unlessRefused}
-use Rattle.runs.specs.declared.RunAnswer.{RunAnswer}
 use Rattle.runs.specs.declared.RunAnswer.the-variants as Answer
 use Rattle.scale_ways.specs.Ways.{isRunScale}
 use Rattle.runs.specs.Run.{stampAnswer, runOutcome, runRefusal, refusedAmong, runCall, runWritten, runBy, convertedRun}

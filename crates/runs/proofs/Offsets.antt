@@ -1,5 +1,5 @@
 -- Stamps of scales that are a fixed offset apart, by their patterns. Assumes nothing.
-use Prim.Native.Nat.{ℕ, _*_, _/_, _%_, _^_, _<_, _≤_}
+use Prim.Native.Nat.{ℕ, _*_, _%_, _^_, _<_, _≤_}
 use native.Mathlib.Omega.{arith}
 use native.Mathlib.Nat.{div-lt-iff-lt-mul, le-div-iff-mul-le, mod-lt}
 use mathlib.Core.Path.{_≡_, refl, sym, ap, subst, _∙_}
@@ -17,7 +17,6 @@ use Rattle.floats.proofs.ExponentField.{finite-field}
 use Rattle.refusals.specs.Outcome.{Outcome, answer, refusal, onward}
 use Rattle.julian.specs.declared.JulianDate.{JulianDate}
 use Rattle.julian.specs.JulianDate.{julian}
-use Rattle.julian.specs.Finite.{finiteParts}
 use Rattle.little_endian.specs.LittleEndian.{u64At}
 use Rattle.tai_utc.specs.Table.{Row}
 use Rattle.shifts.specs.SmallerPart.{firstIsLarger}

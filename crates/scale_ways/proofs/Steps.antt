@@ -1,6 +1,6 @@
 -- The cases of a way, by the outcomes of the tests. Assumes nothing.
 use Prim.Native.Nat.{ℕ}
-use mathlib.Core.Path.{_≡_, refl}
+use mathlib.Core.Path.{_≡_}
 use mathlib.Core.Bool.{true, false, _&&_}
 use mathlib.Core.List.{List}
 use lib.Dec.{eqb}
@@ -11,7 +11,7 @@ use Rattle.julian.specs.Finite.{finiteJd}
 use Rattle.tai_utc.specs.Table.{Row}
 use Rattle.scales.specs.Conversions.{answerOf, gps-tai, tai-gps, tai-tt, tt-tai, tcg-tt, tt-tcg, tai-tcg, tcg-tai}
 use Rattle.utc_scales.specs.UtcTai.{utcToTai, taiToUtc}
-use Rattle.scale_ways.specs.Ways.{isRunScale, intoTai, outOfTai, between, wayOf}
+use Rattle.scale_ways.specs.Ways.{intoTai, outOfTai, between, wayOf}
 
 module _ (rows : List Row) (n : ℕ) (d : JulianDate) where
   pub into-utc : n ≡ 0 → utcToTai rows d ≡ intoTai rows n d

@@ -9,26 +9,26 @@ use lib.ListN.{length, take, drop, getD, length-append}
 use lib.Seq.{sets, sets-eq, length-sets, take-at, take-all, take-take, take-append-le, take-append-add, length-take-le}
 use Rattle.little_endian.specs.LittleEndian.{eightBytes}
 use Rattle.digits.specs.Placed.{pasted, Placed}
-use Rattle.sentences.specs.Texts.{fixedText, paddedText, inBytes}
+use Rattle.sentences.specs.Texts.{fixedText, paddedText, eightsInBytes}
 use Rattle.sentences.specs.Begins.{Begins}
 
 -- one number more
-one-eight : (ns : List ℕ) (k : ℕ) → k < length ns → inBytes (take (suc k) ns) ≡ inBytes (take k ns) ++ eightBytes (getD ns k 0)
-unfolding inBytes
+one-eight : (ns : List ℕ) (k : ℕ) → k < length ns → eightsInBytes (take (suc k) ns) ≡ eightsInBytes (take k ns) ++ eightBytes (getD ns k 0)
+unfolding eightsInBytes
 one-eight [] k h = absurd (omega arith)
 one-eight (n ∷ ns) zero h = refl
 one-eight (n ∷ ns) (suc k) h =
     ap (λ (l : List ℕ). eightBytes n ++ l) (one-eight ns k (le-of-suc-le-suc h))
-    ∙ sym (append-assoc (eightBytes n) (inBytes (take k ns)) (eightBytes (getD ns k 0)))
+    ∙ sym (append-assoc (eightBytes n) (eightsInBytes (take k ns)) (eightBytes (getD ns k 0)))
 
 -- of seven numbers the first k stand in front
 pub record InFront (ns : List ℕ) (k : ℕ) (first now : List ℕ) : Type 0 where
   pub within : k ≤ 7
   pub long : length now ≡ length first
-  pub says : take (8 * k) now ≡ inBytes (take k ns)
+  pub says : take (8 * k) now ≡ eightsInBytes (take k ns)
 
 pub none-yet : (ns d : List ℕ) → InFront ns 0 d d
-unfolding inBytes
+unfolding eightsInBytes
 none-yet ns d = record { within = omega arith; long = refl; says = refl }
 
 module _ {ns first now : List ℕ} {k : ℕ} (w : InFront ns k first now) (seven : length ns ≡ 7) (room : 56 ≤ length first) where
@@ -45,16 +45,16 @@ module _ {ns first now : List ℕ} {k : ℕ} (w : InFront ns k first now) (seven
             ∙ take-at (take (8 * k) now ++ b) (drop (8 * k + 8) now) (8 * (k + 1)) long
             ∙ ap (λ (t : List ℕ). t ++ b) (w .says)
             ∙ sym (one-eight ns k (omega arith))
-            ∙ ap (λ (j : ℕ). inBytes (take j ns)) (sym (add-one k));
+            ∙ ap (λ (j : ℕ). eightsInBytes (take j ns)) (sym (add-one k));
       }
 
-  pub text-begins : (number n : ℕ) → 7 ≤ k → inBytes ns ≡ paddedText number → n ≡ length (fixedText number) → n ≤ 50 → Begins (fixedText number) n now
+  pub text-begins : (number n : ℕ) → 7 ≤ k → eightsInBytes ns ≡ paddedText number → n ≡ length (fixedText number) → n ≤ 50 → Begins (fixedText number) n now
   unfolding paddedText
   text-begins number n h e en le =
       let b : k ≤ 7 = w .within in
       let k7 : k ≡ 7 = omega arith in
       let all : take 56 now ≡ paddedText number =
-      ap (λ (j : ℕ). take (8 * j) now) (sym k7) ∙ w .says ∙ ap inBytes (take-all k ns (omega arith)) ∙ e in
+      ap (λ (j : ℕ). take (8 * j) now) (sym k7) ∙ w .says ∙ ap eightsInBytes (take-all k ns (omega arith)) ∙ e in
       record {
         ends = en;
         says = sym (take-take n 56 now (omega arith)) ∙ ap (take n) all ∙ take-at (fixedText number) _ n (sym en);

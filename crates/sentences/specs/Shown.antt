@@ -13,11 +13,11 @@ use Rattle.sentences.specs.Render.{signedDigits, floatDigits}
 unfoldable pub wordText : Word → List ℕ
 wordText w = take (w .length) (eightBytes (w .first) ++ eightBytes (w .second))
 
-unfoldable pub shownText : Shown → List ℕ
-shownText Nothing = []
-shownText (Signed w n) = wordText w ++ signedDigits n
-shownText (Whole w n) = wordText w ++ digitsOf n
-shownText (Bits w x) = wordText w ++ floatDigits x
+unfoldable pub wordAndValue : Shown → List ℕ
+wordAndValue Nothing = []
+wordAndValue (Signed w n) = wordText w ++ signedDigits n
+wordAndValue (Whole w n) = wordText w ++ digitsOf n
+wordAndValue (Bits w x) = wordText w ++ floatDigits x
 
 -- no word has more than 14 bytes
 unfoldable pub Short : Shown → Type 0

@@ -58,6 +58,6 @@ unfoldable pub paddedText : ℕ → List ℕ
 paddedText k = fixedText k ++ replicate (56 - length (fixedText k)) 32
 
 -- numbers as their bytes, eight of each, the lowest first
-unfoldable pub inBytes : List ℕ → List ℕ
-inBytes [] = []
-inBytes (n ∷ ns) = eightBytes n ++ inBytes ns
+unfoldable pub eightsInBytes : List ℕ → List ℕ
+eightsInBytes [] = []
+eightsInBytes (n ∷ ns) = eightBytes n ++ eightsInBytes ns

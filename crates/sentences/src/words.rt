@@ -4,10 +4,10 @@ ghost use Prim.Native.Nat.{_+_, _≤_};
 ghost use mathlib.Core.List.{_++_};
 ghost use lib.ListN.{length, take};
 ghost use Rattle.digits.specs.Decimal.{digitsOf};
-ghost use Rattle.sentences.specs.Texts.{fixedText, paddedText, inBytes};
+ghost use Rattle.sentences.specs.Texts.{fixedText, paddedText, eightsInBytes};
 ghost use Rattle.sentences.specs.Begins.{Begins};
 ghost use Rattle.sentences.specs.Render.{signedDigits, floatDigits, namedText};
-ghost use Rattle.sentences.specs.Shown.{wordText, shownText, Short};
+ghost use Rattle.sentences.specs.Shown.{wordText, wordAndValue, Short};
 use crate::Named;
 use crate::Shown;
 use crate::Word;
@@ -49,7 +49,7 @@ const LENGTHS: [u8; 29] = [
 
 // The text of a number, with blanks behind it. No number past 28 has one.
 fn eights(number: u32) -> [u64; 7]
-    ensures { λ r. ⌜ (inBytes r ≡ paddedText number) × (length r ≡ 7) ⌝ }
+    ensures { λ r. ⌜ (eightsInBytes r ≡ paddedText number) × (length r ≡ 7) ⌝ }
 {
     match number {
         1 => texts::TEXT_1,
@@ -113,7 +113,7 @@ pub(crate) fn text(number: u32, dst: &mut [u8]) -> usize
 
 // The word of a field, as two numbers of eight bytes, and how its value is shown.
 fn shown(field: Named) -> Shown
-    ensures { λ r. ⌜ (shownText r ≡ namedText field) × Short r ⌝ }
+    ensures { λ r. ⌜ (wordAndValue r ≡ namedText field) × Short r ⌝ }
 {
     match field {
         Named::NoField => Shown::Nothing,

@@ -1,7 +1,7 @@
 -- A refusal as the code tells it is the refusal of the definition: which values it read, and its words by the way of telling. Assumes nothing.
 use Prim.Native.Nat.{ℕ, _+_, _*_, _≤_, _<_}
 use native.Mathlib.Omega.{arith}
-use mathlib.Core.Path.{_≡_, refl, sym, ap, subst, _∙_}
+use mathlib.Core.Path.{_≡_, sym, ap, subst, _∙_}
 use mathlib.Core.Bool.{Bool, true, false, cond}
 use mathlib.Core.List.{List, _++_}
 use lib.ListN.{length, getD}
@@ -11,7 +11,7 @@ use lib.Signed.{ltZ, mag}
 use mir.Syntax.{w32}
 use mir.Val.{SFits, toZ, ofZ}
 use borrow.Author.Tests.{ltb-false}
-use Rattle.refusals.specs.Outcome.{Outcome, answer, refusal}
+use Rattle.refusals.specs.Outcome.{Outcome, answer}
 use Rattle.little_endian.specs.LittleEndian.{fourAt, u32At}
 use Rattle.calendar.proofs.Years.{DateInRange}
 use Rattle.julian.specs.declared.JulianDate.{JulianDate}
@@ -22,7 +22,6 @@ use Rattle.julian.specs.Calendar.{calendarOutcome, julianToCalendar}
 use Rattle.utc_text.specs.declared.TextAnswer.{TextAnswer}
 use Rattle.utc.specs.TextCall.{TextCall}
 use Rattle.utc.proofs.Dates.{date-in-range, read-fields}
-use Rattle.sentences.specs.declared.Reason.{Reason}
 use Rattle.reasons.specs.declared.Values.{Values}
 use Rattle.reasons.specs.declared.Values.the-variants.{Date, Parts, Block}
 use Rattle.reasons.specs.Offending.{offending}

@@ -38,7 +38,7 @@ use Rattle.tai_utc.specs.Leap.{leapOf, offsetsOfDay, leapAtEndOfDay}
 use Rattle.tai_utc.specs.WholeSeconds.{wholeSeconds}
 use Rattle.tai_utc.proofs.Reached.{member}
 use Rattle.tai_utc.proofs.Days.{day-offsets-are, leap-given}
-use Rattle.tai_utc.proofs.TableSeconds.{seconds-in-range, seconds-stay, seconds-step}
+use Rattle.tai_utc.proofs.TableSeconds.{seconds-stay, seconds-step}
 use Rattle.tai_utc.proofs.WholeSeconds.{late}
 use Rattle.leap_days.proofs.Months.{next-month-number}
 use Rattle.leap_days.proofs.TableLeaps.{no-step, one-second-more, one-second-less}
@@ -47,7 +47,7 @@ use Rattle.utc.specs.FromCalendar as From
 use Rattle.utc_laws.proofs.FromCalendars.{date-refused, leap-refused, on-date}
 use Rattle.parsing_laws.proofs.UtcTimes.{not-negative, second-below}
 use Rattle.standby.specs.declared.UtcTime.{UtcTime}
-use Rattle.standby.specs.Times.{offsetOnDate, offsetAfter, lastMinute, inItsDay, taiMs, instantOn, instant}
+use Rattle.standby.specs.Times.{lastMinute, inItsDay, taiMs, instantOn, instant}
 use Rattle.standby.proofs.Times as Given
 use Rattle.standby_laws.specs.Verdict.{faultOf, asCalendar}
 

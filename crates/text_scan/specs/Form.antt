@@ -1,7 +1,7 @@
 -- The grammar decided by one scan from the left: what a text says, or 15. That it is the grammar is proved (`parsing_laws`, proofs/Grammar.antt). Written from
 -- document 02, item 1. Assumes nothing.
 use Prim.Native.Nat.{ℕ, _+_, _-_, _*_}
-use mathlib.Core.List.{List, [], _∷_, _++_}
+use mathlib.Core.List.{List, [], _∷_}
 use mathlib.Core.Bool.{Bool, cond, _&&_, _||_}
 use lib.ListN.{length, drop, getD}
 use lib.Dec.{leb, eqb}

@@ -1,7 +1,7 @@
 -- WHICH NUMBERS, AND EXACTLY WHEN, by every lent table, one that is turned away too: the look-up, the leap, and UTC from the calendar. UTC from Unix time and the text stand in
 -- NewDecided and TextDecided. Assumes nothing.
 use mathlib.Core.Path.{_≡_, refl, sym, ap, subst, _∙_}
-use mathlib.Core.Bool.{Bool, true, false, not, true≢false}
+use mathlib.Core.Bool.{Bool, true, false, true≢false}
 use mathlib.Core.List.{List}
 use Prim.Native.Nat.{ℕ}
 use lib.IntN.{ℤ, pos, natAbs}

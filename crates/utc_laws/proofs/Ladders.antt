@@ -1,6 +1,6 @@
 -- Going up an order of refusals, test by test: the first reason that there is stops, and with none the call answers; the table's three tests, a date's three, and those of two
 -- parts. Assumes nothing.
-use mathlib.Core.Path.{_≡_, refl, sym, ap, subst, _∙_}
+use mathlib.Core.Path.{_≡_, refl, sym, ap, _∙_}
 use mathlib.Core.Bool.{Bool, true, false, cond, _||_, true≢false}
 use mathlib.Core.Logic.{_⊎_, inl, inr}
 use mathlib.Core.List.{List}
@@ -11,7 +11,7 @@ use lib.IntN.{ℤ, pos, negsuc}
 use lib.Signed.{ltZ}
 use lib.Ieee.{Float}
 use borrow.Author.Tests.{eqb-true, eqb-false}
-use Rattle.refusals.specs.Outcome.{Outcome, answer, refusal, onward}
+use Rattle.refusals.specs.Outcome.{Outcome, answer, refusal}
 use Rattle.refusals.proofs.Onward.{went, stopped}
 use Rattle.calendar.specs.Calendar.{daysInMonth}
 use Rattle.calendar.specs.Refusals.{validDate}
@@ -26,7 +26,7 @@ use Rattle.tai_utc.specs.declared.LentRows.{LentRows}
 use Rattle.tai_utc.specs.Table.{Row}
 use Rattle.tai_utc.specs.Lent.{rowsOf, laterAt, StepAt, tableOf, Decision, sizes, order, step, taken}
 use Rattle.tai_utc.proofs.TableLaws.{table-decided}
-use Rattle.utc_laws.specs.Ladder.{Ladder, done, refuse, FirstReason, NoReason, Decided}
+use Rattle.utc_laws.specs.Ladder.{Ladder, done, refuse, FirstReason, Decided}
 use Rattle.utc_laws.specs.Ladders.{WrongSizes, RowNotLater, NotOneStep, tableFirst, dateThen, dateIn, partsThen}
 
 differ : {X : Type 0} (m n : ℕ) → (m ≡ n → ⊥) → _≡_ {A = Outcome X} (refusal m) (refusal n) → ⊥

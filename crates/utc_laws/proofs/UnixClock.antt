@@ -1,11 +1,11 @@
 -- The time of a Unix second on its day: hour, minute and second are always good, and the second is below 60; so a time is outside its day only in the last minute of a day that
 -- ends in a step back, from 60 s plus the leap on; with a leap of -1.0 s that is second 86399. Assumes nothing.
 use mathlib.Core.Path.{_≡_, refl, sym, ap, _∙_, subst, subst₂}
-use mathlib.Core.Bool.{Bool, true, false, cond, _&&_, true≢false}
-use Prim.Native.Nat.{ℕ, _+_, _*_, _/_, _%_, _^_, _≤_, _<_}
+use mathlib.Core.Bool.{Bool, true, false, cond, true≢false}
+use Prim.Native.Nat.{ℕ, _+_, _*_, _/_, _%_, _≤_, _<_}
 use native.Mathlib.Nat.{add-mul, mul-le-mul-right}
 use native.Mathlib.Omega.{arith}
-use lib.Dec.{T, eqb, leb, lit≤, lit<}
+use lib.Dec.{T, eqb, leb, lit<}
 use lib.IntN.{pos}
 use lib.Ieee.{Float, nan, inf, fin, binary64, fits, round, ofBits, ofInt, add, div, lt, le, eq}
 use lib.Ieee.Fits.{add-fits, div-fits}
@@ -15,7 +15,7 @@ use Rattle.floats.specs.Whole.{nought}
 use Rattle.rounding.specs.Value.{Val, Rounds, L}
 use Rattle.rounding.proofs.Value.{L-pos, add-rounds, div-rounds}
 use Rattle.rounding.proofs.Bound.{rounds-mono}
-use Rattle.rounding.proofs.Own.{own, own-val, plus-of, minus-of}
+use Rattle.rounding.proofs.Own.{own, own-val}
 use Rattle.rounding.proofs.Compare.{lt-val, lt-says, le-says, lt-show, lt-false}
 use Rattle.rounding.proofs.Sizes.{whole-val}
 use Rattle.rounding.proofs.Casts.{ofInt-val}

@@ -1,19 +1,19 @@
 -- The calendar's date of a Unix day, in whole numbers: the sum of its parts is exact, so that 6 and 1 go by the count of days alone, and the date is that of day n + 2440588.
 -- Assumes nothing.
-use mathlib.Core.Path.{_≡_, refl, sym, ap, _∙_, subst}
+use mathlib.Core.Path.{_≡_, refl, ap, _∙_}
 use mathlib.Core.Bool.{Bool, true, false, not, _&&_, _||_}
-use Prim.Native.Nat.{ℕ, zero, suc, _+_, _*_, _^_, _≤_, _<_}
+use Prim.Native.Nat.{ℕ, suc, _+_, _*_, _^_, _≤_, _<_}
 use native.Mathlib.Omega.{arith}
 use lib.Dec.{T, leb, ltb, lit≤, lit<}
 use lib.IntN.{ℤ, pos, negsuc, _+ℤ_}
 use lib.Signed.{ltZ}
 use lib.Ieee.{Float, binary64, fits, round, ofBits, ofInt, add, le}
 use lib.Ieee.Fits.{round-fits}
-use borrow.Author.Tests.{leb-true, leb-false, ltb-true, ltb-false, le-leb, lt-leb, le-ltb}
+use borrow.Author.Tests.{ltb-true, ltb-false, le-leb, lt-leb, le-ltb}
 use mir.Syntax.{w64}
 use mir.Val.{SFits}
 use Rattle.rounding.specs.Value.{Val, plusZ, minusZ}
-use Rattle.rounding.proofs.Value.{val-scale, val-move}
+use Rattle.rounding.proofs.Value.{val-scale}
 use Rattle.rounding.proofs.Exact.{add-exact}
 use Rattle.rounding.proofs.Compare.{le-val}
 use Rattle.rounding.proofs.Casts.{add-pair}
@@ -21,8 +21,8 @@ use Rattle.constants.specs.Constants.{unixEpochJd}
 use Rattle.calendar.specs.Calendar.{dateOf}
 use Rattle.calendar.specs.Gregorian.{gregorianDate}
 use Rattle.calendar.proofs.Gregorian.{gregorian-is-date-of-day}
-use Rattle.day_number.specs.DayNumber.{c-djmin, c-djmax, inJulianRange, accepted, dayOf, dayNumber, fractionPassed}
-use Rattle.day_number.proofs.GridPairs.{Exactly, grid-pair}
+use Rattle.day_number.specs.DayNumber.{c-djmin, c-djmax, inJulianRange, accepted, dayOf, dayNumber}
+use Rattle.day_number.proofs.GridPairs.{grid-pair}
 use Rattle.julian.proofs.Integers.{sides-mag, integer-val, integer-fits}
 use Rattle.utc.specs.UnixTime.{unixDay}
 use Rattle.utc.proofs.UnixDays.{day-size}

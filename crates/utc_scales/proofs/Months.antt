@@ -1,26 +1,25 @@
 -- From 1972 on no row drifts, so that TAI-UTC at 0h of one day of a month is that of each of its days. Assumes nothing.
-use mathlib.Core.Path.{_≡_, refl, sym, ap, _∙_, subst}
+use mathlib.Core.Path.{_≡_, refl, sym, ap, _∙_}
 use mathlib.Core.Bool.{Bool, true, false, cond, _||_}
 use mathlib.Core.List.{List}
 use mathlib.Core.Logic.{_⊎_, inl, inr}
 use Prim.Native.Nat.{ℕ, _≤_}
 use native.Mathlib.Omega.{arith}
-use lib.IntN.{ℤ, pos, negsuc, natAbs}
+use lib.IntN.{ℤ, pos, negsuc}
 use lib.Signed.{ltZ, leZ}
 use lib.Ieee.{Float, binary64, ofInt}
 use mir.Syntax.{w32}
 use mir.Val.{SFits, toZ, ofZ}
 use mir.Facts.{toZ-ofZ}
-use borrow.Author.Tests.{leb-true, ltb-false}
+use borrow.Author.Tests.{leb-true}
 use Rattle.refusals.specs.Outcome.{Outcome, answer, refusal}
 use Rattle.floats.specs.Whole.{nought}
-use Rattle.calendar.specs.declared.CalendarDate.{CalendarDate}
 use Rattle.calendar.specs.Calendar.{daysInMonth}
 use Rattle.calendar.specs.Refusals.{validDate}
 use Rattle.calendar.specs.Gregorian.{gregorianDate}
 use Rattle.calendar.proofs.Years.{validOf, gregorian-in-range, gregorian-refusal}
 use Rattle.calendar.proofs.Mjd.{mjd-given}
-use Rattle.tai_utc.specs.Table.{monthNumber, reached, starts}
+use Rattle.tai_utc.specs.Table.{monthNumber, reached}
 use Rattle.tai_utc.specs.Lent.{rowsIn}
 use Rattle.tai_utc.specs.Offset.{offsetAt}
 use Rattle.tai_utc.proofs.ByParts.{seconds-reached}

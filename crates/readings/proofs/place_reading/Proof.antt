@@ -2,7 +2,7 @@
 use mathlib.Core.Path.{sym, ap}
 use denote.Ref.{now}
 use Rattle.tai_utc.specs.Lent.{rowsOf}
-use Rattle.readings.specs.Reading.{told}
+use Rattle.readings.specs.Reading.{readingTold}
 use Rattle.readings.proofs.Lines.{read-refused, read-dated}
 use Rattle.digits.proofs.Places.{placed-as}
 use borrow.Author.Needs.{needs}
@@ -32,7 +32,7 @@ returns c =
     let st = c .before .before .before .before .before .before .before .before .before .before in
     let p = c .before .before .place-refused .ensures in
     let e = read-refused (rowsOf (st .args .table)) (now (st .args .text)) _ (c .before .before .before .before .before .before .before .from-str-by-rows .ensures) _ (c .before .before .before .before .before .number .given .1) in
-    (placed-as (sym (ap told e)) (p .0), p .1)
+    (placed-as (sym (ap readingTold e)) (p .0), p .1)
 
 same-length-2 : tie.Need-same-length-2
 same-length-2 c = search needs
@@ -42,7 +42,7 @@ returns-2 c =
     let st = c .before .before .before .before .before .before .before .before .before .before in
     let p = c .before .before .place-text .ensures in
     let e = read-dated (rowsOf (st .args .table)) (now (st .args .text)) _ (c .before .before .before .before .before .before .before .from-str-by-rows .ensures) _ (c .before .before .before .before .before .read .given .1) in
-    (placed-as (sym (ap told e)) (p .0), p .1)
+    (placed-as (sym (ap readingTold e)) (p .0), p .1)
 
 pub place-reading-spec : {M : Type 1} → statement M
 place-reading-spec =

@@ -1,6 +1,6 @@
 -- `readings::place_refused` meets its contract: two writes, one after the other. Assumes nothing.
 use native.Mathlib.Omega.{arith}
-use Rattle.readings.specs.Reading.{told}
+use Rattle.readings.specs.Reading.{readingTold}
 use Rattle.digits.proofs.Places.{then}
 use borrow.Author.Needs.{needs}
 use Rattle.readings.proofs.place_refused.Statement.{statement}
@@ -19,7 +19,7 @@ same-length : tie.Need-same-length
 same-length c = search needs
 
 returns : tie.Need-returns
-unfolding told
+unfolding readingTold
 returns c =
     let p1 = c .before .before .before .before .before .before .place-bytes .ensures in
     let p2 = c .before .before .place-number .ensures in

@@ -5,7 +5,7 @@ use denote.Ref.{now}
 use native.Mathlib.Omega.{arith}
 use Rattle.tai_utc.specs.Lent.{rowsOf}
 use Rattle.digits.proofs.Places.{lent-length, part-put, part-kept, placed-as, placed-into}
-use Rattle.readings.specs.Reading.{told}
+use Rattle.readings.specs.Reading.{readingTold}
 use Rattle.readings.proofs.Lines.{short, text-written, text-refused}
 use borrow.Author.Needs.{needs}
 use Rattle.readings.proofs.place_text.Statement.{statement}
@@ -61,7 +61,7 @@ returns-2 c =
     let room = lent-length (now (st .args .dst)) (st .args .at) (omega (arith, st .pre)) in
     let w = text-refused (c .before .before .before .before .before .before .before .before .before .to-iso8601-expanded-by-rows .ensures) (short (rowsOf (st .args .table)) (st .args .utc .0)) _ (c .before .before .before .before .before .number .given .1) (omega (arith, room, st .pre)) in
     let p = c .before .before .place-refused .ensures in
-    (placed-as (sym (ap told (w .0))) (placed-into (part-kept (now (st .args .dst)) (st .args .at) (omega (arith, st .pre)) _ (w .1)) (p .0)), p .1)
+    (placed-as (sym (ap readingTold (w .0))) (placed-into (part-kept (now (st .args .dst)) (st .args .at) (omega (arith, st .pre)) _ (w .1)) (p .0)), p .1)
 
 pub place-text-spec : {M : Type 1} → statement M
 place-text-spec =

@@ -1,5 +1,5 @@
 -- `runs::convert_stamp` meets its contract. Assumes nothing.
-use mathlib.Core.Path.{_≡_, refl, sym, ap, subst, _∙_}
+use mathlib.Core.Path.{ap, _∙_}
 use Rattle.tai_utc.specs.Lent.{rowsIn}
 use Rattle.scale_ways.specs.Ways.{wayOf}
 use Rattle.runs.proofs.Puts.{put-same}

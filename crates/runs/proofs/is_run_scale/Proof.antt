@@ -1,7 +1,6 @@
 -- `runs::is_run_scale` meets its contract. Assumes nothing.
 use borrow.Author.Tests.{eq-eqb, ne-eqb}
 use Rattle.scale_ways.specs.Ways.{isRunScale}
-use borrow.Author.Needs.{needs}
 use Rattle.runs.proofs.is_run_scale.Statement.{statement}
 use Rattle.runs.proofs.is_run_scale.Tie as tie
 

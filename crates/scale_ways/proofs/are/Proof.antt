@@ -1,6 +1,5 @@
 -- `scale_ways::are` meets its contract. Assumes nothing.
 use borrow.Author.Tests.{eq-eqb, ne-eqb}
-use borrow.Author.Needs.{needs}
 use Rattle.scale_ways.proofs.are.Statement.{statement}
 use Rattle.scale_ways.proofs.are.Tie as tie
 

@@ -1,5 +1,5 @@
 -- `scale_ways::between` meets its contract. Assumes nothing.
-use mathlib.Core.Path.{_≡_, refl, sym, ap, subst, _∙_}
+use mathlib.Core.Path.{sym, _∙_}
 use Rattle.tai_utc.specs.Lent.{rowsIn}
 use Rattle.scale_ways.proofs.Steps.{between-tcg, between-tt, between-tai}
 use borrow.Author.Needs.{needs}

@@ -1,9 +1,9 @@
 -- `scale_ways::through_tai` meets its contract: the second step where the first answers. Assumes nothing.
-use mathlib.Core.Path.{_≡_, refl, sym, ap, _∙_}
+use mathlib.Core.Path.{sym, ap, _∙_}
 use Rattle.tai_utc.specs.Lent.{rowsIn}
 use Rattle.refusals.proofs.Onward.{went, stopped}
 use Rattle.julian.specs.JulianDate.{julianOutcome}
-use Rattle.scale_ways.specs.Ways.{intoTai, outOfTai}
+use Rattle.scale_ways.specs.Ways.{outOfTai}
 use borrow.Author.Needs.{needs}
 use Rattle.scale_ways.proofs.through_tai.Statement.{statement}
 use Rattle.scale_ways.proofs.through_tai.Tie as tie

@@ -2,13 +2,11 @@
 use Rattle.text_scan.proofs.Runs.{Small, small-start, small-more, RunsOn, run-start, run-on, run-stops, run-out}
 use native.Mathlib.Nat.{sub-self}
 use Rattle.text_scan.proofs.Runs.{Small, small-start, small-more, run-start, run-on, run-stops, run-out}
-use Rattle.text_scan.specs.Scan.{keptFrom}
-use Rattle.text_scan.specs.Form.{leading}
 use borrow.Author.Tests.{not-true, not-false}
-use lib.ListN.{length, drop}
+use lib.ListN.{length}
 use native.Mathlib.Omega.{arith}
 use borrow.Author.Needs.{needs}
-use mathlib.Core.Path.{_≡_, refl, sym, ap, _∙_}
+use mathlib.Core.Path.{_≡_, sym, _∙_}
 use Prim.Native.Nat.{_+_, _-_, _<_, _≤_}
 use Rattle.text_scan.proofs.digits_run.Statement.{statement}
 use Rattle.text_scan.proofs.digits_run.Tie as tie

@@ -1,6 +1,5 @@
 -- `place::hexadecimal` meets its contract. Assumes nothing.
 use native.Mathlib.Omega.{arith}
-use mathlib.Core.Path.{ap, _∙_}
 use lib.ListN.{length}
 use Rattle.digits.proofs.Hexadecimal.{hex-length}
 use Rattle.digits.proofs.Places.{placed-as}

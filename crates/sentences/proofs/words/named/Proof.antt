@@ -5,7 +5,7 @@ use mathlib.Core.Path.{sym, ap, subst, _∙_}
 use mathlib.Core.List.{_++_}
 use lib.IntN.{ℤ}
 use Rattle.sentences.specs.Render.{signedDigits}
-use Rattle.sentences.specs.Shown.{wordText, shownText, Short}
+use Rattle.sentences.specs.Shown.{wordText, wordAndValue, Short}
 use Rattle.sentences.proofs.Numbers.{back}
 use Rattle.sentences.proofs.Eights.{begins-as, nothing-behind}
 use borrow.Author.Needs.{needs}
@@ -40,46 +40,46 @@ unfolding Short
 word-float-requires c κs = (subst Short (c .before .before .w3 .given .1) (c .before .before .before .before .shown .ensures .1), omega (arith, c .before .before .before .before .before .before .pre))
 
 returns : tie.Need-returns
-unfolding shownText
+unfolding wordAndValue
 returns c =
     let s = c .before .before in
     let st = s .before .before in
-    (begins-as (now (st .args .dst)) (st .args .at) (sym (ap shownText (c .enum-told .given .1)) ∙ s .shown .ensures .0) (nothing-behind _ _ (omega (arith, st .pre))), omega arith)
+    (begins-as (now (st .args .dst)) (st .args .at) (sym (ap wordAndValue (c .enum-told .given .1)) ∙ s .shown .ensures .0) (nothing-behind _ _ (omega (arith, st .pre))), omega arith)
 
 same-length : tie.Need-same-length
 same-length c = search needs
 
 returns-2 : tie.Need-returns-2
-unfolding shownText
+unfolding wordAndValue
 returns-2 c =
     let h = c .before .before in
     let w = h .before .before .before in
     let k = h .before .before .known-told .given in
     let v = w .w .given in
     let st = w .before .before .before .before in
-    (begins-as (now (st .args .dst)) (st .args .at) (ap (λ (z : ℤ). wordText (v .0 .0) ++ signedDigits z) (back (v .0 .1 .0) (k .1 .0 .1)) ∙ sym (ap shownText (v .1)) ∙ w .before .before .shown .ensures .0) (h .word-signed .ensures .0), h .word-signed .ensures .1)
+    (begins-as (now (st .args .dst)) (st .args .at) (ap (λ (z : ℤ). wordText (v .0 .0) ++ signedDigits z) (back (v .0 .1 .0) (k .1 .0 .1)) ∙ sym (ap wordAndValue (v .1)) ∙ w .before .before .shown .ensures .0) (h .word-signed .ensures .0), h .word-signed .ensures .1)
 
 same-length-2 : tie.Need-same-length-2
 same-length-2 c = search needs
 
 returns-3 : tie.Need-returns-3
-unfolding shownText
+unfolding wordAndValue
 returns-3 c =
     let h = c .before .before in
     let w = h .before .before .before in
     let st = w .before .before .before .before in
-    (begins-as (now (st .args .dst)) (st .args .at) (sym (ap shownText (w .w2 .given .1)) ∙ w .before .before .shown .ensures .0) (h .word-decimal .ensures .0), h .word-decimal .ensures .1)
+    (begins-as (now (st .args .dst)) (st .args .at) (sym (ap wordAndValue (w .w2 .given .1)) ∙ w .before .before .shown .ensures .0) (h .word-decimal .ensures .0), h .word-decimal .ensures .1)
 
 same-length-3 : tie.Need-same-length-3
 same-length-3 c = search needs
 
 returns-4 : tie.Need-returns-4
-unfolding shownText
+unfolding wordAndValue
 returns-4 c =
     let h = c .before .before in
     let w = h .before .before .before in
     let st = w .before .before .before .before in
-    (begins-as (now (st .args .dst)) (st .args .at) (sym (ap shownText (w .w3 .given .1)) ∙ w .before .before .shown .ensures .0) (h .word-float .ensures .0), h .word-float .ensures .1)
+    (begins-as (now (st .args .dst)) (st .args .at) (sym (ap wordAndValue (w .w3 .given .1)) ∙ w .before .before .shown .ensures .0) (h .word-float .ensures .0), h .word-float .ensures .1)
 
 pub named-spec : {M : Type 1} → statement M
 named-spec =

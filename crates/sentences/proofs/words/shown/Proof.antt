@@ -5,7 +5,7 @@ use mathlib.Core.List.{_++_}
 use lib.IntN.{ℤ}
 use Rattle.sentences.specs.Texts.{asciiBytes}
 use Rattle.sentences.specs.Render.{signedDigits, namedText}
-use Rattle.sentences.specs.Shown.{wordText, shownText, Short}
+use Rattle.sentences.specs.Shown.{wordText, wordAndValue, Short}
 use Rattle.sentences.proofs.Numbers.{back}
 use borrow.Author.Needs.{needs}
 use Rattle.sentences.proofs.words.shown.Statement.{statement}
@@ -75,67 +75,67 @@ enum-known-field-15 : tie.Need-enum-known-field-15
 enum-known-field-15 c = search needs
 
 returns : tie.Need-returns
-unfolding shownText wordText namedText Short
+unfolding wordAndValue wordText namedText Short
 returns c = (sym (ap namedText (c .enum-told .given .1)), tt)
 
 returns-2 : tie.Need-returns-2
-unfolding shownText wordText namedText Short
+unfolding wordAndValue wordText namedText Short
 returns-2 c = (ap (λ (z : ℤ). asciiBytes ": year " ++ signedDigits z) (back (c .before .field .given .0 .0) (c .known-told .given .0 .1)) ∙ sym (ap namedText (c .before .field .given .1)), omega arith)
 
 returns-3 : tie.Need-returns-3
-unfolding shownText wordText namedText Short
+unfolding wordAndValue wordText namedText Short
 returns-3 c = (ap (λ (z : ℤ). asciiBytes ": month " ++ signedDigits z) (back (c .before .field2 .given .0 .0) (c .known-told2 .given .0 .1)) ∙ sym (ap namedText (c .before .field2 .given .1)), omega arith)
 
 returns-4 : tie.Need-returns-4
-unfolding shownText wordText namedText Short
+unfolding wordAndValue wordText namedText Short
 returns-4 c = (ap (λ (z : ℤ). asciiBytes ": day " ++ signedDigits z) (back (c .before .field3 .given .0 .0) (c .known-told3 .given .0 .1)) ∙ sym (ap namedText (c .before .field3 .given .1)), omega arith)
 
 returns-5 : tie.Need-returns-5
-unfolding shownText wordText namedText Short
+unfolding wordAndValue wordText namedText Short
 returns-5 c = (sym (ap namedText (c .before .field4 .given .1)), omega arith)
 
 returns-6 : tie.Need-returns-6
-unfolding shownText wordText namedText Short
+unfolding wordAndValue wordText namedText Short
 returns-6 c = (sym (ap namedText (c .before .field5 .given .1)), omega arith)
 
 returns-7 : tie.Need-returns-7
-unfolding shownText wordText namedText Short
+unfolding wordAndValue wordText namedText Short
 returns-7 c = (sym (ap namedText (c .before .field6 .given .1)), omega arith)
 
 returns-8 : tie.Need-returns-8
-unfolding shownText wordText namedText Short
+unfolding wordAndValue wordText namedText Short
 returns-8 c = (sym (ap namedText (c .before .field7 .given .1)), omega arith)
 
 returns-9 : tie.Need-returns-9
-unfolding shownText wordText namedText Short
+unfolding wordAndValue wordText namedText Short
 returns-9 c = (sym (ap namedText (c .before .field8 .given .1)), omega arith)
 
 returns-10 : tie.Need-returns-10
-unfolding shownText wordText namedText Short
+unfolding wordAndValue wordText namedText Short
 returns-10 c = (sym (ap namedText (c .before .field9 .given .1)), omega arith)
 
 returns-11 : tie.Need-returns-11
-unfolding shownText wordText namedText Short
+unfolding wordAndValue wordText namedText Short
 returns-11 c = (sym (ap namedText (c .before .field10 .given .1)), omega arith)
 
 returns-12 : tie.Need-returns-12
-unfolding shownText wordText namedText Short
+unfolding wordAndValue wordText namedText Short
 returns-12 c = (sym (ap namedText (c .before .field11 .given .1)), omega arith)
 
 returns-13 : tie.Need-returns-13
-unfolding shownText wordText namedText Short
+unfolding wordAndValue wordText namedText Short
 returns-13 c = (sym (ap namedText (c .before .field12 .given .1)), omega arith)
 
 returns-14 : tie.Need-returns-14
-unfolding shownText wordText namedText Short
+unfolding wordAndValue wordText namedText Short
 returns-14 c = (sym (ap namedText (c .before .field13 .given .1)), omega arith)
 
 returns-15 : tie.Need-returns-15
-unfolding shownText wordText namedText Short
+unfolding wordAndValue wordText namedText Short
 returns-15 c = (sym (ap namedText (c .before .field14 .given .1)), omega arith)
 
 returns-16 : tie.Need-returns-16
-unfolding shownText wordText namedText Short
+unfolding wordAndValue wordText namedText Short
 returns-16 c = (sym (ap namedText (c .before .field15 .given .1)), omega arith)
 
 pub shown-spec : {M : Type 1} → statement M

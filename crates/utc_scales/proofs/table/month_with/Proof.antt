@@ -1,5 +1,5 @@
 -- `utc_scales::table::month_with` meets its contract. Assumes nothing.
-use mathlib.Core.Path.{_≡_, sym, ap, _∙_}
+use mathlib.Core.Path.{sym, ap, _∙_}
 use lib.IntN.{ℤ, pos}
 use lib.Signed.{leZ}
 use mir.Facts.{toZ-ofZ}

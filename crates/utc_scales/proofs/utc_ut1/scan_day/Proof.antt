@@ -1,5 +1,5 @@
 -- `utc_scales::utc_ut1::scan_day` meets its contract. Assumes nothing.
-use mathlib.Core.Path.{_≡_, sym, ap, _∙_, subst}
+use mathlib.Core.Path.{sym, ap, _∙_, subst}
 use lib.Ieee.Fits.{add-fits}
 use lib.Ieee.{Float, binary64, ofInt, ofBits, sub, lt}
 use lib.IntN.{ℤ, pos, _-ℤ_}
