@@ -53,7 +53,8 @@
      17  date earlier than the one before it, or stamp earlier than an ordered one before it in
          its run
      18  field of a GPS week over its limit, or date before the first week or past the last; in
-         ct_convert_run a scale that it does not take; number of a refusal not 1 to 28
+         ct_convert_run a scale that it does not take, in ct_formula_run two scales that it does
+         not; number of a refusal not 1 to 28
      19  two weeks with the same ten bits equally near the reference
      20  sizes of a lent table differ, or above 16
      21  row of a lent table not later than the one before it
@@ -139,7 +140,7 @@ int64_t ct_from_julian_year(double year, uint8_t *out, size_t out_len);
    with a NaN equals none. */
 int64_t ct_equal(double jd1, double jd2, double other1, double other2);
 
-/* The scales by number, in ct_same_stamp and ct_convert_run. */
+/* The scales by number, in ct_same_stamp, ct_convert_run and ct_formula_run. */
 enum { CT_UTC, CT_TAI, CT_UT1, CT_TT, CT_GPS, CT_TCG, CT_TCB, CT_TDB };
 
 /* Whether two stamps are the same, 1 or 0: one scale, and both parts with the same bits. The parts
@@ -311,6 +312,21 @@ int64_t ct_tai_to_utc(double jd1, double jd2, const uint8_t *table, size_t table
    of jd1 12. The buffers overlap no other, so a run is not converted in its place. */
 int64_t ct_convert_run(uint32_t from, uint32_t to, const uint8_t *jd1, size_t jd1_len, const uint8_t *jd2,
                        size_t jd2_len, const uint8_t *table, size_t table_len, uint8_t *out1,
+                       size_t out1_len, uint8_t *out2, size_t out2_len, uint8_t *numbers,
+                       size_t numbers_len);
+
+/* A run of stamps by one conversion that is a formula and reads no table, in one call. The two scales are,
+   either way round, CT_GPS and CT_TAI, CT_TAI and CT_TT, CT_TT and CT_TCG, or CT_TCB and CT_TDB; offsets has
+   no byte then. Or they are CT_TAI and CT_UT1, CT_UT1 and CT_TT, or CT_TT and CT_TDB; bytes 8 * i to 8 * i + 7
+   of offsets are then the offset of stamp i in seconds, UT1-TAI, TT-UT1 or TDB-TT. Stamps, dates and numbers
+   lie as in ct_convert_run, with the bits that the single call between the two scales gives, which refuses a
+   stamp by 9 or 10. Returns how many stamps are refused; a refused stamp's bytes of out1 and out2 stay, and
+   what lies behind the last stamp's places. Refuses 18 for two other scales; 14 for a length of jd1, jd2 or
+   offsets that is no multiple of 8; 12 for another length of jd2, or of offsets, than is due beside jd1; 11 as
+   ct_convert_run. A refused call writes nothing. With CT_TAI and CT_TCG, 7 bytes of jd1 and none of jd2 it is
+   18, with CT_TDB and CT_TCB 14, and with 8 bytes of jd1 12. The buffers overlap no other. */
+int64_t ct_formula_run(uint32_t from, uint32_t to, const uint8_t *jd1, size_t jd1_len, const uint8_t *jd2,
+                       size_t jd2_len, const uint8_t *offsets, size_t offsets_len, uint8_t *out1,
                        size_t out1_len, uint8_t *out2, size_t out2_len, uint8_t *numbers,
                        size_t numbers_len);
 

@@ -11,9 +11,12 @@ use mir.Facts.{toZ-pos}
 use Rattle.refusals.specs.Outcome.{Outcome, answer, refusal}
 use Rattle.tai_utc.specs.Table.{Row}
 use Rattle.tai_utc.specs.Lent.{unlessRefused}
-use Rattle.runs.specs.declared.RunAnswer.{RunAnswer}
-use Rattle.runs.specs.declared.RunAnswer.the-variants.{Converted, Refused}
-use Rattle.runs.specs.Run.{RunCall, runOutcome, runCall, runBy, convertedRun}
+use Rattle.formula_runs.specs.declared.RunAnswer.{RunAnswer}
+use Rattle.formula_runs.specs.declared.RunAnswer.the-variants.{Converted, Refused}
+use Rattle.formula_runs.specs.Run.{RunCall, runOutcome, runCall}
+use Rattle.runs.specs.Run.{runBy, convertedRun}
+use Rattle.formula_runs.specs.Formula.{formulaRun}
+use Rattle.formula_runs.proofs.Calls.{formula-count}
 use Rattle.runs.proofs.Calls.{run-count, table-refused, table-taken}
 use Rattle.lent_bytes.specs.TableBytes.{tableBytes}
 use Rattle.c_answers.specs.Delivery.{code}
@@ -28,6 +31,22 @@ ended c res r out1 out2 numbers e h = record {
   second = ap (λ (x : RunCall). x .out2) e;
   numbered = ap (λ (x : RunCall). x .numbers) e;
 }
+
+-- a call that answers so
+module _ (asked : RunCall) {out1 out2 numbers : List ℕ} (res : RunAnswer) (e : runCall (runOutcome res) out1 out2 numbers ≡ asked) where
+  pub all-converted : (j : ℕ) → res ≡ Converted j → j < 2 ^ 63 → RunDelivered asked (toZ w64 j) out1 out2 numbers
+  unfolding runOutcome code
+  all-converted j i b = ended asked res (toZ w64 j) out1 out2 numbers e (toZ-pos w64 {n = j} b ∙ sym (ap (λ (x : RunAnswer). code (runOutcome x)) i))
+
+  pub all-refused : {r : ℤ} (j : ℕ) → mag r < 2 ^ 63 → res ≡ Refused j → r ≡ code (refusal j) → RunDelivered asked (toZ w64 (ofZ w64 r)) out1 out2 numbers
+  unfolding runOutcome
+  all-refused {r} j ok i c = ended asked res (toZ w64 (ofZ w64 r)) out1 out2 numbers e (code-back ok ∙ c ∙ sym (ap (λ (x : RunAnswer). code (runOutcome x)) i))
+
+-- by a formula
+module _ (from to : ℕ) (js ks os b1 b2 b3 : List ℕ) {out1 out2 numbers : List ℕ} (res : RunAnswer) (e : runCall (runOutcome res) out1 out2 numbers ≡ formulaRun from to js ks os b1 b2 b3) where
+  pub formula-counted : (j : ℕ) → res ≡ Converted j → j ≤ length js / 8
+  unfolding runOutcome
+  formula-counted j i = formula-count from to js ks os b1 b2 b3 j (sym (ap runOutcome i) ∙ ap (λ (x : RunCall). x .answer) e)
 
 -- the rows and the number n that the code reads in the bytes s; the two scales, the parts and the three buffers
 module _ (s : List ℕ) (rows : List Row) (n : ℕ) (judged : unlessRefused n rows ≡ tableBytes s) (from to : ℕ) (js ks b1 b2 b3 : List ℕ) where
@@ -47,9 +66,7 @@ module _ (s : List ℕ) (rows : List Row) (n : ℕ) (judged : unlessRefused n ro
     run-counted j i = run-count rows from to js ks b1 b2 b3 j (sym (ap runOutcome i) ∙ ap (λ (x : RunCall). x .answer) e)
 
     pub run-converted : (j : ℕ) → res ≡ Converted j → j < 2 ^ 63 → RunDelivered asked (toZ w64 j) out1 out2 numbers
-    unfolding runOutcome code
-    run-converted j i b = ended asked res (toZ w64 j) out1 out2 numbers goes (toZ-pos w64 {n = j} b ∙ sym (ap (λ (x : RunAnswer). code (runOutcome x)) i))
+    run-converted = all-converted asked res goes
 
     pub run-refused : {r : ℤ} (j : ℕ) → mag r < 2 ^ 63 → res ≡ Refused j → r ≡ code (refusal j) → RunDelivered asked (toZ w64 (ofZ w64 r)) out1 out2 numbers
-    unfolding runOutcome
-    run-refused {r} j ok i c = ended asked res (toZ w64 (ofZ w64 r)) out1 out2 numbers goes (code-back ok ∙ c ∙ sym (ap (λ (x : RunAnswer). code (runOutcome x)) i))
+    run-refused j ok i c = all-refused asked res goes j ok i c

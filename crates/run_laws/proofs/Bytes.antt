@@ -13,8 +13,8 @@ use lib.Ieee.{Float, binary64, toBits}
 use Rattle.refusals.specs.Outcome.{Outcome, answer, refusal}
 use Rattle.little_endian.specs.LittleEndian.{eightBytes}
 use Rattle.julian.specs.declared.JulianDate.{JulianDate}
-use Rattle.runs.specs.Run.{numberByte, withPart, withParts, withNumbers, refusedAmong}
-use Rattle.runs.proofs.Puts.{parts-length, numbers-length}
+use Rattle.formula_runs.specs.Run.{numberByte, withPart, withParts, withNumbers, refusedAmong}
+use Rattle.formula_runs.proofs.Puts.{parts-length, numbers-length}
 use Rattle.run_laws.specs.Dead.{notZeroIn}
 
 -- ---- bytes set one after the other from index i on

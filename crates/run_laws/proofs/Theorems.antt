@@ -18,9 +18,10 @@ use Rattle.tai_utc.specs.Table.{Row}
 use Rattle.shifts.proofs.Outcomes.{and-left, and-right}
 use Rattle.line_up.specs.LineUp.{stampOf}
 use Rattle.scale_ways.specs.Ways.{isRunScale}
-use Rattle.runs.specs.Run.{stampAnswer, numberByte, firstPart, secondPart, runRefusal, RunCall, runCall, runWritten, runBy, convertedRun}
+use Rattle.formula_runs.specs.Run.{numberByte, firstPart, secondPart, RunCall, runCall, runWritten}
+use Rattle.runs.specs.Run.{stampAnswer, runRefusal, runBy, convertedRun}
 use Rattle.runs.proofs.Calls.{Fitting, fitting}
-use Rattle.runs.proofs.Offsets.{pattern-back}
+use Rattle.formula_runs.proofs.Judged.{pattern-back}
 use Rattle.utc_scale_laws.specs.Claims.{Holds, Any}
 use Rattle.run_laws.specs.Dead.{DeadStamp, deadNumber, OneSixNine, notZeroIn}
 use Rattle.run_laws.specs.Done.{StampDone, SpareStays}

@@ -7,7 +7,7 @@ use lib.Ieee.{binary64, toBits}
 use Rattle.refusals.specs.Outcome.{Outcome, answer, refusal}
 use Rattle.little_endian.specs.LittleEndian.{eightBytes}
 use Rattle.julian.specs.declared.JulianDate.{JulianDate}
-use Rattle.runs.specs.Run.{RunCall, numberByte}
+use Rattle.formula_runs.specs.Run.{RunCall, numberByte}
 
 -- the stamp at place i, whose answer is o, after the call c; before it the places held out1 and out2
 pub record StampDone (o : Outcome JulianDate) (i : ℕ) (out1 out2 : List ℕ) (c : RunCall) : Type 0 where

@@ -11,11 +11,12 @@ use borrow.Author.Tests.{eq-eqb, ne-eqb, le-leb, lt-leb, eqb-true, leb-true}
 use Rattle.refusals.specs.Outcome.{Outcome, answer, refusal}
 use Rattle.tai_utc.specs.Table.{Row}
 use Rattle.tai_utc.specs.Lent.{unlessRefused}
-use Rattle.runs.specs.declared.RunAnswer.the-variants as Answer
+use Rattle.formula_runs.specs.declared.RunAnswer.the-variants as Answer
 use Rattle.scale_ways.specs.Ways.{isRunScale}
-use Rattle.runs.specs.Run.{stampAnswer, runOutcome, runRefusal, refusedAmong, runCall, runWritten, runBy, convertedRun}
-use Rattle.runs.specs.Asked.{Roomy, RunPut}
-use Rattle.runs.proofs.Puts.{at-most}
+use Rattle.formula_runs.specs.Run.{runOutcome, refusedAmong, runCall, runWritten}
+use Rattle.runs.specs.Run.{stampAnswer, runRefusal, runBy, convertedRun}
+use Rattle.formula_runs.specs.Asked.{Roomy, RunPut}
+use Rattle.formula_runs.proofs.Puts.{at-most}
 
 -- ---- the refusals, by the outcomes of the tests
 module _ (from to size1 size2 room1 room2 room : ℕ) where

@@ -1,5 +1,3 @@
--- The laws of runs: one stamp and a run of them, scales that are a fixed offset apart, and the call as a whole.
-pub mod Puts
-pub mod PatternOrder
-pub mod Offsets
+-- The laws of runs: the pairs of scales whose way is one formula, and the call as a whole.
+pub mod Short
 pub mod Calls

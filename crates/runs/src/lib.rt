@@ -1,10 +1,6 @@
 // A run of stamps from one scale to another in one call. The parts of the stamps and of the dates are bytes, eight each, the lowest first.
-mod fixed;
-
 ghost use mathlib.Core.Path.{_≡_};
 ghost use Prim.Native.Nat.{_+_, _*_, _≤_};
-ghost use mathlib.Core.Bool.{cond};
-ghost use lib.Dec.{eqb};
 ghost use lib.ListN.{length};
 ghost use lib.Seq.{sets};
 ghost use lib.Ieee.{binary64, toBits};
@@ -13,20 +9,23 @@ ghost use Rattle.julian.specs.JulianDate.{julianOutcome};
 ghost use Rattle.tai_utc.specs.Lent.{rowsIn, tableOf};
 ghost use Rattle.line_up.specs.LineUp.{stampOf};
 ghost use Rattle.scale_ways.specs.Ways.{isRunScale};
-ghost use Rattle.runs.specs.Run.{stampAnswer, runOutcome, runRefusal, runCall, runBy, convertedRun};
-ghost use Rattle.runs.specs.Asked.{Roomy, HasPlace, StampPut, RunPut};
+ghost use Rattle.formula_runs.specs.Run.{runOutcome, runCall};
+ghost use Rattle.formula_runs.specs.Asked.{Roomy, HasPlace, StampPut, RunPut};
+ghost use Rattle.runs.specs.Run.{stampAnswer, runRefusal, runBy, convertedRun};
+ghost use Rattle.runs.specs.Asked.{isShort};
+use formula_runs::RunAnswer;
+use formula_runs::one_if_refused;
 use julian::JulianAnswer;
 use julian::JulianDate;
+use same_stamps::GPS;
+use same_stamps::TAI;
+use same_stamps::TCG;
+use same_stamps::TT;
+use same_stamps::are;
 use tai_utc::LentRows;
 
-// How many stamps are refused, or the number of the refusal of the whole run.
-pub enum RunAnswer {
-    Converted(usize),
-    Refused(u32),
-}
-
 // Number i of a list that has it. Read from a part of eight bytes, it needs no test of the length.
-pub(crate) fn pattern_at(s: &[u8], i: usize) -> u64
+fn pattern_at(s: &[u8], i: usize) -> u64
     requires { ⌜ 8 * i + 8 ≤ length (now s) ⌝ }
     ensures { λ r. ⌜ r ≡ u64At (now (s .entry)) (8 * i) ⌝ }
 {
@@ -45,7 +44,7 @@ fn stamp_at(jd1s: &[u8], jd2s: &[u8], i: usize) -> JulianDate
 }
 
 // The eight bytes of a pattern at a place of the lent list.
-pub(crate) fn put_pattern(out: &mut [u8], at: usize, n: u64)
+fn put_pattern(out: &mut [u8], at: usize, n: u64)
     requires { ⌜ at + 8 ≤ length (now out) ⌝ }
     ensures { λ _. ⌜ now (out .exit) ≡ sets (now (out .entry)) at (eightBytes n) ⌝ }
 {
@@ -66,12 +65,6 @@ fn put_answer(found: JulianAnswer, i: usize, out1: &mut [u8], out2: &mut [u8]) -
             0
         }
     }
-}
-
-pub(crate) fn one_if_refused(number: u8) -> usize
-    ensures { λ r. ⌜ (r ≡ cond (eqb number 0) 0 1) × (r ≤ 1) ⌝ }
-{
-    if number == 0 { 0 } else { 1 }
 }
 
 // Converts the stamp at place i, and gives its number.
@@ -123,42 +116,6 @@ fn convert_all<'a>(
     refused
 }
 
-// The same, by the loop that is quicker where the scales are a fixed offset apart.
-fn convert_by<'a>(
-    from: u32,
-    to: u32,
-    jd1s: &[u8],
-    jd2s: &[u8],
-    n: usize,
-    size: usize,
-    months: &'a [i32; 16],
-    seconds: &'a [i32; 16],
-    out1: &mut [u8],
-    out2: &mut [u8],
-    numbers: &mut [u8],
-) -> usize
-    requires { ⌜ Roomy n (now jd1s) (now jd2s) (now out1) (now out2) (now numbers) ⌝ }
-    ensures { λ r. ⌜ RunPut (stampAnswer (rowsIn size (now (months .entry)) (now (seconds .entry))) from to (now (jd1s .entry)) (now (jd2s .entry))) n (now (out1 .entry)) (now (out2 .entry)) (now (numbers .entry)) r (now (out1 .exit)) (now (out2 .exit)) (now (numbers .exit)) ⌝ }
-{
-    if fixed::has_offset(from, to) {
-        let days = fixed::offset_days(from, to);
-        return fixed::shift_all(days, jd1s, jd2s, n, out1, out2, numbers);
-    }
-    convert_all(
-        from,
-        to,
-        jd1s,
-        jd2s,
-        n,
-        size,
-        months,
-        seconds,
-        out1,
-        out2,
-        numbers,
-    )
-}
-
 fn is_run_scale(n: u32) -> bool
     ensures { λ r. ⌜ r ≡ isRunScale n ⌝ }
 {
@@ -175,6 +132,28 @@ fn is_run_scale(n: u32) -> bool
         return true;
     }
     n == same_stamps::TCG
+}
+
+// Whether the way is one formula, by which a run is quicker.
+fn is_short(from: u32, to: u32) -> bool
+    ensures { λ r. ⌜ r ≡ isShort from to ⌝ }
+{
+    if are(from, to, GPS, TAI) {
+        return true;
+    }
+    if are(from, to, TAI, GPS) {
+        return true;
+    }
+    if are(from, to, TAI, TT) {
+        return true;
+    }
+    if are(from, to, TT, TAI) {
+        return true;
+    }
+    if are(from, to, TT, TCG) {
+        return true;
+    }
+    are(from, to, TCG, TT)
 }
 
 // The refusal of the scales and of the lengths, or 0.
@@ -243,8 +222,12 @@ pub fn convert_run_by_lent<'a>(
     if number != 0 {
         return RunAnswer::Refused(number);
     }
+    if is_short(from, to) {
+        let none = &jd1s[0..0];
+        return formula_runs::formula_run(from, to, jd1s, jd2s, none, out1, out2, numbers);
+    }
     let n = jd1s.len() / 8;
-    RunAnswer::Converted(convert_by(
+    RunAnswer::Converted(convert_all(
         from,
         to,
         jd1s,

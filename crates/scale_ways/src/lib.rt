@@ -1,7 +1,5 @@
 // The way of a date from one scale to another: the single calls, through TAI. A scale is its number. The rows of a table are a size and two arrays that are lent on.
 ghost use mathlib.Core.Path.{_≡_};
-ghost use mathlib.Core.Bool.{_&&_};
-ghost use lib.Dec.{eqb};
 ghost use Rattle.refusals.specs.Outcome.{onward};
 ghost use Rattle.julian.specs.JulianDate.{julianOutcome};
 ghost use Rattle.tai_utc.specs.Lent.{rowsIn};
@@ -14,6 +12,7 @@ use same_stamps::GPS;
 use same_stamps::TCG;
 use same_stamps::TT;
 use same_stamps::UTC;
+use same_stamps::are;
 use scales::GpsAnswer;
 use scales::TaiAnswer;
 use scales::TcgAnswer;
@@ -167,16 +166,6 @@ fn through_tai<'a>(
         JulianAnswer::Refused(n) => JulianAnswer::Refused(n),
         JulianAnswer::Date(tai) => out_of_tai(to, tai, size, months, seconds),
     }
-}
-
-// Whether `from` and `to` are these two scales.
-pub fn are(from: u32, to: u32, a: u32, b: u32) -> bool
-    ensures { λ r. ⌜ r ≡ (eqb from a && eqb to b) ⌝ }
-{
-    if from != a {
-        return false;
-    }
-    to == b
 }
 
 fn between<'a>(

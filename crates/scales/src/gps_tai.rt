@@ -14,7 +14,7 @@ use constants::SECONDS_PER_DAY_F64;
 use shifts::smaller_part::earlier;
 use shifts::smaller_part::later;
 
-fn gps_days() -> f64
+pub fn gps_days() -> f64
     ensures { λ r. ⌜ r ≡ gpsDays ⌝ }
 {
     GPS_TO_TAI_OFFSET_SECONDS / SECONDS_PER_DAY_F64

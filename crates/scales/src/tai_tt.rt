@@ -18,7 +18,7 @@ use constants::TT_TAI_OFFSET;
 use shifts::smaller_part::earlier;
 use shifts::smaller_part::later;
 
-fn tt_days() -> f64
+pub fn tt_days() -> f64
     ensures { λ r. ⌜ r ≡ ttDays ⌝ }
 {
     TT_TAI_OFFSET / SECONDS_PER_DAY_F64

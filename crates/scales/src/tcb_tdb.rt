@@ -27,13 +27,13 @@ const T77TF: f64 = TT_TAI_OFFSET / SECONDS_PER_DAY_F64;
 
 const TDB0: f64 = TDB_OFFSET_1977 / SECONDS_PER_DAY_F64;
 
-fn tcb_to_tdb_part(larger: f64, smaller: f64) -> f64
+pub fn tcb_to_tdb_part(larger: f64, smaller: f64) -> f64
     ensures { λ r. ⌜ r ≡ tcbToTdb larger smaller ⌝ }
 {
     smaller + TDB0 - ((larger - T77TD) + (smaller - T77TF)) * TCB_RATE_LB
 }
 
-fn tdb_to_tcb_part(larger: f64, smaller: f64) -> f64
+pub fn tdb_to_tcb_part(larger: f64, smaller: f64) -> f64
     ensures { λ r. ⌜ r ≡ tdbToTcb larger smaller ⌝ }
 {
     let f = smaller - TDB0;

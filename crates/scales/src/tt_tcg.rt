@@ -17,13 +17,13 @@ use julian::JulianDate;
 use shifts::smaller_part::put_back;
 use shifts::smaller_part::split;
 
-fn tcg_to_tt_part(larger: f64, smaller: f64) -> f64
+pub fn tcg_to_tt_part(larger: f64, smaller: f64) -> f64
     ensures { λ r. ⌜ r ≡ tcgToTt larger smaller ⌝ }
 {
     smaller - ((larger - MJD_ZERO_POINT) + (smaller - TCG_REFERENCE_EPOCH)) * TCG_RATE_LG
 }
 
-fn tt_to_tcg_part(larger: f64, smaller: f64) -> f64
+pub fn tt_to_tcg_part(larger: f64, smaller: f64) -> f64
     ensures { λ r. ⌜ r ≡ ttToTcg larger smaller ⌝ }
 {
     smaller + ((larger - MJD_ZERO_POINT) + (smaller - TCG_REFERENCE_EPOCH)) * TCG_RATE_RATIO

@@ -1,5 +1,7 @@
 -- `runs::convert_run_by_lent` meets its contract. Assumes nothing.
+use mathlib.Core.Path.{refl, sym, _∙_}
 use Rattle.tai_utc.specs.Lent.{rowsIn}
+use Rattle.runs.proofs.Short.{short-run}
 use Rattle.runs.proofs.Calls.{run-refused, roomy, run-ends}
 use borrow.Author.Needs.{needs}
 use Rattle.runs.proofs.convert_run_by_lent.Statement.{statement}
@@ -9,16 +11,25 @@ run-refusal-requires : tie.Need-run-refusal-requires
 run-refusal-requires c κs = search needs
 
 returns : tie.Need-returns
-returns c =
+returns c = 
     let a = c .before .before .before .before .before .before .before .args in
-    let q = c .before in
-    run-refused (rowsIn (a .size) (a .months .now) (a .seconds .now)) (a .from) (a .to) (a .jd1s .now) (a .jd2s .now) (a .out1 .now) (a .out2 .now) (a .numbers .now) (q .run-refusal .result) (q .run-refusal .ensures) (c .if1 .taken)
+    let q = c .before .run-refusal in
+    run-refused (rowsIn (a .size) (a .months .now) (a .seconds .now)) (a .from) (a .to) (a .jd1s .now) (a .jd2s .now) (a .out1 .now) (a .out2 .now) (a .numbers .now) (q .result) (q .ensures) (c .if1 .taken)
 
-convert-by-requires : tie.Need-convert-by-requires
-convert-by-requires c κs =
-    let a = c .before .before .before .before .before .before .before .before .before .before .args in
-    let q = c .before .before .before .before in
-    roomy (rowsIn (a .size) (a .months .now) (a .seconds .now)) (a .from) (a .to) (a .jd1s .now) (a .jd2s .now) (a .out1 .now) (a .out2 .now) (a .numbers .now) (q .run-refusal .result) (q .run-refusal .ensures) (c .before .before .before .if1 .left)
+is-short-requires : tie.Need-is-short-requires
+is-short-requires c κs = search needs
+
+sub-none : tie.Need-sub-none
+sub-none c = search needs
+
+part-none-start : tie.Need-part-none-start
+part-none-start c = search needs
+
+part-none-end : tie.Need-part-none-end
+part-none-end c = search needs
+
+formula-run-requires : tie.Need-formula-run-requires
+formula-run-requires c κs = search needs
 
 same-length : tie.Need-same-length
 same-length c = search needs
@@ -30,10 +41,30 @@ same-length-3 : tie.Need-same-length-3
 same-length-3 c = search needs
 
 returns-2 : tie.Need-returns-2
-returns-2 c =
-    let a = c .before .before .before .before .before .before .before .before .before .before .before .before .before .before .before .before .before .args in
-    let q = c .before .before .before .before .before .before .before .before .before .before .before in
-    run-ends (rowsIn (a .size) (a .months .now) (a .seconds .now)) (a .from) (a .to) (a .jd1s .now) (a .jd2s .now) (a .out1 .now) (a .out2 .now) (a .numbers .now) (q .run-refusal .result) (q .run-refusal .ensures) (c .before .before .before .before .before .before .before .before .before .before .if1 .left) _ _ _ _ (c .before .before .before .before .before .before .convert-by .ensures)
+returns-2 c = 
+    let a = c .before .before .before .before .before .before .before .before .before .before .before .before .before .before .before .before .before .before .before .before .args in
+    c .before .before .before .before .before .before .formula-run .ensures ∙ short-run (rowsIn (a .size) (a .months .now) (a .seconds .now)) (a .from) (a .to) (sym (c .before .before .before .before .before .before .before .before .before .before .before .before .is-short .ensures) ∙ c .before .before .before .before .before .before .before .before .before .before .before .if2 .taken) (a .jd1s .now) (a .jd2s .now) _ (a .out1 .now) (a .out2 .now) (a .numbers .now) refl
+
+convert-all-requires : tie.Need-convert-all-requires
+convert-all-requires c κs = 
+    let a = c .before .before .before .before .before .before .before .before .before .before .before .before .args in
+    let q = c .before .before .before .before .before .before .run-refusal in
+    roomy (rowsIn (a .size) (a .months .now) (a .seconds .now)) (a .from) (a .to) (a .jd1s .now) (a .jd2s .now) (a .out1 .now) (a .out2 .now) (a .numbers .now) (q .result) (q .ensures) (c .before .before .before .before .before .if1 .left)
+
+same-length-4 : tie.Need-same-length-4
+same-length-4 c = search needs
+
+same-length-5 : tie.Need-same-length-5
+same-length-5 c = search needs
+
+same-length-6 : tie.Need-same-length-6
+same-length-6 c = search needs
+
+returns-3 : tie.Need-returns-3
+returns-3 c = 
+    let a = c .before .before .before .before .before .before .before .before .before .before .before .before .before .before .before .before .before .before .before .args in
+    let q = c .before .before .before .before .before .before .before .before .before .before .before .before .before .run-refusal in
+    run-ends (rowsIn (a .size) (a .months .now) (a .seconds .now)) (a .from) (a .to) (a .jd1s .now) (a .jd2s .now) (a .out1 .now) (a .out2 .now) (a .numbers .now) (q .result) (q .ensures) (c .before .before .before .before .before .before .before .before .before .before .before .before .if1 .left) _ _ _ _ (c .before .before .before .before .before .before .convert-all .ensures)
 
 pub convert-run-by-lent-spec : {M : Type 1} → statement M
 convert-run-by-lent-spec =
@@ -41,8 +72,17 @@ convert-run-by-lent-spec =
     (tie.spec
     run-refusal-requires
     returns
-    convert-by-requires
+    is-short-requires
+    sub-none
+    part-none-start
+    part-none-end
+    formula-run-requires
     same-length
     same-length-2
     same-length-3
-    returns-2)
+    returns-2
+    convert-all-requires
+    same-length-4
+    same-length-5
+    same-length-6
+    returns-3)

@@ -2,7 +2,7 @@
 use mathlib.Core.Path.{ap, _∙_}
 use Rattle.tai_utc.specs.Lent.{rowsIn}
 use Rattle.scale_ways.specs.Ways.{wayOf}
-use Rattle.runs.proofs.Puts.{put-same}
+use Rattle.formula_runs.proofs.Puts.{put-same}
 use borrow.Author.Needs.{needs}
 use Rattle.runs.proofs.convert_stamp.Statement.{statement}
 use Rattle.runs.proofs.convert_stamp.Tie as tie

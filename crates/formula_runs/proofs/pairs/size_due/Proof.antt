@@ -1,0 +1,20 @@
+-- `formula_runs::pairs::size_due` meets its contract. Assumes nothing.
+use mathlib.Core.Path.{sym, _∙_}
+use Rattle.formula_runs.specs.Asked.{sizeDue}
+use borrow.Author.Needs.{needs}
+use Rattle.formula_runs.proofs.pairs.size_due.Statement.{statement}
+use Rattle.formula_runs.proofs.pairs.size_due.Tie as tie
+
+takes-offsets-requires : tie.Need-takes-offsets-requires
+takes-offsets-requires c κs = search needs
+
+returns : tie.Need-returns
+unfolding sizeDue
+returns c = rw (sym (c .before .takes-offsets .ensures) ∙ c .if1 .taken)
+
+returns-2 : tie.Need-returns-2
+unfolding sizeDue
+returns-2 c = rw (sym (c .before .takes-offsets .ensures) ∙ c .if1 .left)
+
+pub size-due-spec : {M : Type 1} → statement M
+size-due-spec = tie.close (tie.spec takes-offsets-requires returns returns-2)
