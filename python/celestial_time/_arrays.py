@@ -259,9 +259,10 @@ def each(
 
 
 def _lie_ready(arrays: Sequence[NDArray[Any]], dtypes: Sequence[str], shape: tuple[int, ...]) -> bool:
-    """Whether all are of the loop's types and of one shape, each in one piece."""
+    """Whether all are of the loop's types and of one shape, each in one piece; a single value of that type goes with any shape."""
     return all(
-        array.dtype == dtype and array.shape == shape and array.flags.c_contiguous and array.flags.aligned for array, dtype in zip(arrays, dtypes)
+        array.dtype == dtype and (array.shape == shape or array.shape == ()) and array.flags.c_contiguous and array.flags.aligned
+        for array, dtype in zip(arrays, dtypes)
     )
 
 
@@ -274,10 +275,13 @@ def _are_apart(arrays: Sequence[NDArray[Any]], places: Sequence[NDArray[Any] | N
 
 
 def _as_they_lie(name: str, loop: Callable[..., int], arrays: Sequence[NDArray[Any]]) -> None:
-    """Arrays that each lie in one piece, handed over where they lie; in stretches, so that a long call can be interrupted between two."""
-    steps = [(address_of(array), array.itemsize) for array in arrays]
-    for first in range(0, arrays[0].size, STRETCH):
-        code = loop(min(STRETCH, arrays[0].size - first), *[address + size * first for address, size in steps])
+    """Arrays that each lie in one piece, handed over where they lie; in stretches, so that a long call can be interrupted between two. A single value among the
+    arguments stands in each place of one stretch, which is handed over for all."""
+    size = arrays[-1].size
+    pieces = [np.full(min(STRETCH, size), array) if array.shape == () != arrays[-1].shape else array for array in arrays]
+    steps = [(address_of(piece), piece.itemsize if piece is array else 0) for piece, array in zip(pieces, arrays)]
+    for first in range(0, size, STRETCH):
+        code = loop(min(STRETCH, size - first), *[address + step * first for address, step in steps])
         if code < 0:
             raise Refused(-code, name)
 

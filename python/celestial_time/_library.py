@@ -37,7 +37,8 @@ _CALLS: dict[str, tuple[Any, ...]] = {
 # The loops of loops.c, by how many addresses and lengths they take; a call that a loop is handed is an address too.
 _LOOPS: dict[str, int] = {
     "ct_each_run": 9,
-    "ct_each_date": 7,
+    "ct_each_formula": 8,
+    "ct_each_formula_by": 9,
     "ct_each_shift": 8,
     "ct_each_utc": 10,
     "ct_each_utc_shift": 11,

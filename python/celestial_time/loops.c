@@ -11,7 +11,6 @@
 #include <fenv.h>
 #include <math.h>
 
-typedef int64_t date_call(double, double, uint8_t *, size_t);
 typedef int64_t shift_call(double, double, double, uint8_t *, size_t);
 typedef int64_t table_call(double, double, const uint8_t *, size_t, uint8_t *, size_t);
 typedef int64_t table_shift_call(double, double, double, const uint8_t *, size_t, uint8_t *, size_t);
@@ -57,24 +56,33 @@ static void put_rule(int64_t code, const uint8_t *bytes, int32_t *rule, int32_t 
 
 /* ---- Scales */
 
-/* A whole run by one call, and a NaN in the places of a refused stamp, which the call leaves. Returns as ct_convert_run does: below zero nothing is written. */
-int64_t ct_each_run(size_t from, size_t to, const uint8_t *table, size_t n, const double *jd1, const double *jd2, double *out1, double *out2, uint8_t *numbers)
+/* A NaN in the places of a refused stamp, which the call for a run leaves. Returns what that call returned: below zero nothing is written. */
+static int64_t put_nans(int64_t refused, size_t n, double *out1, double *out2, const uint8_t *numbers)
 {
-    int64_t refused = ct_convert_run((uint32_t)from, (uint32_t)to, (const uint8_t *)jd1, 8 * n, (const uint8_t *)jd2, 8 * n, table, CT_TABLE_BYTES,
-                                     (uint8_t *)out1, 8 * n, (uint8_t *)out2, 8 * n, numbers, n);
     for (size_t i = 0; refused > 0 && i < n; i++)
         if (numbers[i] != 0) out1[i] = out2[i] = NAN;
     return refused;
 }
 
-int64_t ct_each_date(date_call *call, size_t n, const double *jd1, const double *jd2, double *out1, double *out2, uint8_t *numbers)
+int64_t ct_each_run(size_t from, size_t to, const uint8_t *table, size_t n, const double *jd1, const double *jd2, double *out1, double *out2, uint8_t *numbers)
 {
-    uint8_t bytes[16];
-    int64_t refused = 0;
-    memset(numbers, 0, n);
-    for (size_t i = 0; i < n; i++)
-        refused += put_date(call(jd1[i], jd2[i], bytes, sizeof bytes), bytes, out1 + i, out2 + i, numbers + i);
-    return refused;
+    int64_t refused = ct_convert_run((uint32_t)from, (uint32_t)to, (const uint8_t *)jd1, 8 * n, (const uint8_t *)jd2, 8 * n, table, CT_TABLE_BYTES,
+                                     (uint8_t *)out1, 8 * n, (uint8_t *)out2, 8 * n, numbers, n);
+    return put_nans(refused, n, out1, out2, numbers);
+}
+
+int64_t ct_each_formula(size_t from, size_t to, size_t n, const double *jd1, const double *jd2, double *out1, double *out2, uint8_t *numbers)
+{
+    int64_t refused = ct_formula_run((uint32_t)from, (uint32_t)to, (const uint8_t *)jd1, 8 * n, (const uint8_t *)jd2, 8 * n, (const uint8_t *)jd1, 0, (uint8_t *)out1, 8 * n,
+                                     (uint8_t *)out2, 8 * n, numbers, n);
+    return put_nans(refused, n, out1, out2, numbers);
+}
+
+int64_t ct_each_formula_by(size_t from, size_t to, size_t n, const double *jd1, const double *jd2, const double *by, double *out1, double *out2, uint8_t *numbers)
+{
+    int64_t refused = ct_formula_run((uint32_t)from, (uint32_t)to, (const uint8_t *)jd1, 8 * n, (const uint8_t *)jd2, 8 * n, (const uint8_t *)by, 8 * n,
+                                     (uint8_t *)out1, 8 * n, (uint8_t *)out2, 8 * n, numbers, n);
+    return put_nans(refused, n, out1, out2, numbers);
 }
 
 int64_t ct_each_shift(shift_call *call, size_t n, const double *jd1, const double *jd2, const double *by, double *out1, double *out2, uint8_t *numbers)

@@ -42,15 +42,21 @@ def _run(name: str, source: str, target: str, jd1: ArrayLike, jd2: ArrayLike, ou
     return Dates(*each(name, lambda n, *a: loop(*ways, n, *a), _parts(named, jd1, jd2), _DATES, [FLOAT] * 2, out))
 
 
-def _plain(name: str, call: str, jd1: ArrayLike, jd2: ArrayLike, out: Out) -> Dates:
-    loop, at = function("ct_each_date"), address(call)
-    named = "jd" if name == "convert" else name[:3]
-    return Dates(*each(name, lambda n, *a: loop(at, n, *a), _parts(named, jd1, jd2), _DATES, [FLOAT] * 2, out))
+def _formula(name: str, source: str, target: str, jd1: ArrayLike, jd2: ArrayLike, out: Out) -> Dates:
+    loop, ways = function("ct_each_formula"), (SCALES[source], SCALES[target])
+    named = "jd" if name == "convert" else source
+    return Dates(*each(name, lambda n, *a: loop(*ways, n, *a), _parts(named, jd1, jd2), _DATES, [FLOAT] * 2, out))
 
 
-def _shifted(name: str, call: str, jd1: ArrayLike, jd2: ArrayLike, by: ArrayLike, out: Out, named: tuple[str, str]) -> Dates:
+def _formula_by(name: str, source: str, target: str, jd1: ArrayLike, jd2: ArrayLike, named: str, by: ArrayLike, out: Out) -> Dates:
+    loop, ways = function("ct_each_formula_by"), (SCALES[source], SCALES[target])
+    takes = [*_parts(source, jd1, jd2), _offset(named, by)]
+    return Dates(*each(name, lambda n, *a: loop(*ways, n, *a), takes, _DATES, [FLOAT] * 3, out))
+
+
+def _shifted(name: str, call: str, jd1: ArrayLike, jd2: ArrayLike, by: ArrayLike, out: Out, named: str) -> Dates:
     loop, at = function("ct_each_shift"), address(call)
-    takes = [*_parts(named[0], jd1, jd2), _offset(named[1], by)]
+    takes = [*_parts("jd", jd1, jd2), _offset(named, by)]
     return Dates(*each(name, lambda n, *a: loop(at, n, *a), takes, _DATES, [FLOAT] * 3, out))
 
 
@@ -139,7 +145,7 @@ def tcbtdb(tcb1: ArrayLike, tcb2: ArrayLike, *, out: Out = None) -> Dates:
     >>> tcbtdb(2451545.0, 0.25)
     Dates(jd1=2451545.0, jd2=0.24986974395826356, numbers=0)
     """
-    return _plain("tcbtdb", "ct_tcb_to_tdb", tcb1, tcb2, out)
+    return _formula("tcbtdb", "tcb", "tdb", tcb1, tcb2, out)
 
 
 def tdbtcb(tdb1: ArrayLike, tdb2: ArrayLike, *, out: Out = None) -> Dates:
@@ -148,7 +154,7 @@ def tdbtcb(tdb1: ArrayLike, tdb2: ArrayLike, *, out: Out = None) -> Dates:
     >>> tdbtcb(2451545.0, 0.25)
     Dates(jd1=2451545.0, jd2=0.2501302560437561, numbers=0)
     """
-    return _plain("tdbtcb", "ct_tdb_to_tcb", tdb1, tdb2, out)
+    return _formula("tdbtcb", "tdb", "tcb", tdb1, tdb2, out)
 
 
 def tttdb(tt1: ArrayLike, tt2: ArrayLike, dtr: ArrayLike, *, out: Out = None) -> Dates:
@@ -157,7 +163,7 @@ def tttdb(tt1: ArrayLike, tt2: ArrayLike, dtr: ArrayLike, *, out: Out = None) ->
     >>> tttdb(2451545.0, 0.25, 0.001)
     Dates(jd1=2451545.0, jd2=0.2500000115740741, numbers=0)
     """
-    return _shifted("tttdb", "ct_tt_to_tdb_with_offset", tt1, tt2, dtr, out, ("tt", "dtr"))
+    return _formula_by("tttdb", "tt", "tdb", tt1, tt2, "dtr", dtr, out)
 
 
 def tdbtt(tdb1: ArrayLike, tdb2: ArrayLike, dtr: ArrayLike, *, out: Out = None) -> Dates:
@@ -166,7 +172,7 @@ def tdbtt(tdb1: ArrayLike, tdb2: ArrayLike, dtr: ArrayLike, *, out: Out = None) 
     >>> tdbtt(2451545.0, 0.25, 0.001)
     Dates(jd1=2451545.0, jd2=0.24999998842592594, numbers=0)
     """
-    return _shifted("tdbtt", "ct_tdb_to_tt_with_offset", tdb1, tdb2, dtr, out, ("tdb", "dtr"))
+    return _formula_by("tdbtt", "tdb", "tt", tdb1, tdb2, "dtr", dtr, out)
 
 
 def ut1tai(ut11: ArrayLike, ut12: ArrayLike, dta: ArrayLike, *, out: Out = None) -> Dates:
@@ -175,7 +181,7 @@ def ut1tai(ut11: ArrayLike, ut12: ArrayLike, dta: ArrayLike, *, out: Out = None)
     >>> ut1tai(2451545.0, 0.25, -32.6659)
     Dates(jd1=2451545.0, jd2=0.2503780775462963, numbers=0)
     """
-    return _shifted("ut1tai", "ct_ut1_to_tai_with_offset", ut11, ut12, dta, out, ("ut1", "dta"))
+    return _formula_by("ut1tai", "ut1", "tai", ut11, ut12, "dta", dta, out)
 
 
 def taiut1(tai1: ArrayLike, tai2: ArrayLike, dta: ArrayLike, *, out: Out = None) -> Dates:
@@ -184,7 +190,7 @@ def taiut1(tai1: ArrayLike, tai2: ArrayLike, dta: ArrayLike, *, out: Out = None)
     >>> taiut1(2451545.0, 0.25, -32.6659)
     Dates(jd1=2451545.0, jd2=0.2496219224537037, numbers=0)
     """
-    return _shifted("taiut1", "ct_tai_to_ut1_with_offset", tai1, tai2, dta, out, ("tai", "dta"))
+    return _formula_by("taiut1", "tai", "ut1", tai1, tai2, "dta", dta, out)
 
 
 def ut1tt(ut11: ArrayLike, ut12: ArrayLike, dt: ArrayLike, *, out: Out = None) -> Dates:
@@ -193,7 +199,7 @@ def ut1tt(ut11: ArrayLike, ut12: ArrayLike, dt: ArrayLike, *, out: Out = None) -
     >>> ut1tt(2451545.0, 0.25, 64.8499)
     Dates(jd1=2451545.0, jd2=0.2507505775462963, numbers=0)
     """
-    return _shifted("ut1tt", "ct_ut1_to_tt_with_delta_t", ut11, ut12, dt, out, ("ut1", "dt"))
+    return _formula_by("ut1tt", "ut1", "tt", ut11, ut12, "dt", dt, out)
 
 
 def ttut1(tt1: ArrayLike, tt2: ArrayLike, dt: ArrayLike, *, out: Out = None) -> Dates:
@@ -202,7 +208,7 @@ def ttut1(tt1: ArrayLike, tt2: ArrayLike, dt: ArrayLike, *, out: Out = None) -> 
     >>> ttut1(2451545.0, 0.25, 64.8499)
     Dates(jd1=2451545.0, jd2=0.2492494224537037, numbers=0)
     """
-    return _shifted("ttut1", "ct_tt_to_ut1_with_delta_t", tt1, tt2, dt, out, ("tt", "dt"))
+    return _formula_by("ttut1", "tt", "ut1", tt1, tt2, "dt", dt, out)
 
 
 def utctai(utc1: ArrayLike, utc2: ArrayLike, *, table: Table | None = None, return_rule: bool = False, out: Out = None) -> Any:
@@ -263,7 +269,7 @@ def add_days(jd1: ArrayLike, jd2: ArrayLike, days: ArrayLike, *, out: Out = None
     >>> add_days(2451545.0, 0.0, [1.0, 2.0]).jd1
     array([2451546., 2451547.])
     """
-    return _shifted("add_days", "ct_add_days", jd1, jd2, days, out, ("jd", "days"))
+    return _shifted("add_days", "ct_add_days", jd1, jd2, days, out, "days")
 
 
 def add_seconds(jd1: ArrayLike, jd2: ArrayLike, seconds: ArrayLike, *, out: Out = None) -> Dates:
@@ -272,7 +278,7 @@ def add_seconds(jd1: ArrayLike, jd2: ArrayLike, seconds: ArrayLike, *, out: Out 
     >>> add_seconds(2451545.0, 0.0, 43200.0)
     Dates(jd1=2451545.0, jd2=0.5, numbers=0)
     """
-    return _shifted("add_seconds", "ct_add_seconds", jd1, jd2, seconds, out, ("jd", "seconds"))
+    return _shifted("add_seconds", "ct_add_seconds", jd1, jd2, seconds, out, "seconds")
 
 
 def convert(source: str, target: str, jd1: ArrayLike, jd2: ArrayLike, *, table: Table | None = None, out: Out = None) -> Dates:
@@ -290,5 +296,5 @@ def convert(source: str, target: str, jd1: ArrayLike, jd2: ArrayLike, *, table: 
     if source in RUN_SCALES and target in RUN_SCALES:
         return _run("convert", source, target, jd1, jd2, out, table)
     if {source, target} == {"tcb", "tdb"}:
-        return _plain("convert", f"ct_{source}_to_{target}", jd1, jd2, out)
+        return _formula("convert", source, target, jd1, jd2, out)
     raise ValueError(f"there is no conversion from {source} to {target} that takes no offset")
