@@ -1,11 +1,11 @@
--- `tick_times::both_rising` meets its contract. Assumes nothing.
+-- `tick_judging::both_rising` meets its contract. Assumes nothing.
 use mathlib.Core.Path.{_≡_, sym, ap, _∙_}
 use mathlib.Core.Bool.{Bool, _&&_}
-use Rattle.tick_times.specs.Ticks.{numberAt}
-use Rattle.tick_times.specs.Passes.{allRising}
+use Rattle.tick_judging.specs.Refusing.{numberAt}
+use Rattle.tick_judging.specs.Numbers.{allRising}
 use borrow.Author.Needs.{needs}
-use Rattle.tick_times.proofs.both_rising.Statement.{statement}
-use Rattle.tick_times.proofs.both_rising.Tie as tie
+use Rattle.tick_judging.proofs.both_rising.Statement.{statement}
+use Rattle.tick_judging.proofs.both_rising.Tie as tie
 
 all-rising-requires : tie.Need-all-rising-requires
 all-rising-requires c κs = search needs

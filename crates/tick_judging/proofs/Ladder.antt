@@ -7,12 +7,12 @@ use mathlib.Core.List.{List}
 use lib.ListN.{length}
 use lib.Dec.{eqb, leb}
 use borrow.Author.Tests.{eqb-true, leb-true, eq-eqb, ne-eqb, le-leb, lt-leb}
-use Rattle.tick_times.specs.Passes.{allSmall, allRising, inside}
-use Rattle.tick_times.specs.Ticks.{numberAt, numbersIn, wholeNumbers, wellCounted, usable, bothRising, allInside, refusedBy}
-use Rattle.tick_times.specs.Asked.{judgedBy, GoodCall}
-use Rattle.tick_times.proofs.Every.{both, every-at}
-use Rattle.tick_times.proofs.Checks.{held, small-each}
-use Rattle.tick_times.proofs.ByLast.{rises-of}
+use Rattle.tick_judging.specs.Numbers.{allSmall, allRising, inside}
+use Rattle.tick_judging.specs.Refusing.{numberAt, numbersIn, wholeNumbers, wellCounted, usable, bothRising, allInside, refusedBy, judgedBy}
+use Rattle.tick_judging.specs.GoodCalls.{GoodCall}
+use Rattle.tick_judging.proofs.Every.{both, every-at}
+use Rattle.tick_judging.proofs.Checks.{held, small-each}
+use Rattle.tick_judging.proofs.ByLast.{rises-of}
 
 -- ---- passes that can be used
 pub record WellCounted (ps ms : List ℕ) : Type 0 where

@@ -1,13 +1,13 @@
--- `tick_times::all_inside` meets its contract: the numbers passed lie between the two. Assumes nothing.
+-- `tick_judging::all_inside` meets its contract: the numbers passed lie between the two. Assumes nothing.
 use native.Mathlib.Omega.{arith}
 use mathlib.Core.Path.{_≡_, refl}
 use mathlib.Core.Bool.{true}
 use Prim.Native.Nat.{_+_, _-_, _≤_}
-use Rattle.tick_times.specs.Ticks.{numberAt}
-use Rattle.tick_times.specs.Passes.{holdsBelow}
-use Rattle.tick_times.proofs.Checks.{none-yet, held, inside-more, inside-stops-low, inside-stops-high, inside-ends}
-use Rattle.tick_times.proofs.all_inside.Statement.{statement}
-use Rattle.tick_times.proofs.all_inside.Tie as tie
+use Rattle.tick_judging.specs.Refusing.{numberAt}
+use Rattle.tick_judging.specs.Numbers.{holdsBelow}
+use Rattle.tick_judging.proofs.Checks.{none-yet, held, inside-more, inside-stops-low, inside-stops-high, inside-ends}
+use Rattle.tick_judging.proofs.all_inside.Statement.{statement}
+use Rattle.tick_judging.proofs.all_inside.Tie as tie
 
 abbrev Inv-loop : tie.InvT-loop
 Inv-loop s n first last i₀ i = (i ≤ n) × (holdsBelow i (held first last (numberAt s)) ≡ true)

@@ -5,8 +5,8 @@ use mathlib.Core.Path.{_≡_, refl, sym, ap, subst, _∙_}
 use mathlib.Core.Bool.{Bool, true, false, _&&_}
 use lib.Dec.{ltb, leb}
 use borrow.Author.Tests.{ltb-true, lt-ltb, le-ltb, le-leb, lt-leb}
-use Rattle.tick_times.specs.Passes.{holdsBelow, allSmall, allRising, inside}
-use Rattle.tick_times.proofs.Every.{every-more, every-stops, every-all, every-at}
+use Rattle.tick_judging.specs.Numbers.{holdsBelow, allSmall, allRising, inside}
+use Rattle.tick_judging.proofs.Every.{every-more, every-stops, every-all, every-at}
 
 pub none-yet : (f : ℕ → Bool) → holdsBelow 0 f ≡ true
 unfolding holdsBelow

@@ -5,7 +5,7 @@ use native.Mathlib.Numerals.{add-one}
 use native.Mathlib.Decide.{decLt}
 use mathlib.Core.Path.{_≡_, refl, sym, ap, subst, _∙_}
 use mathlib.Core.Bool.{Bool, true, false, _&&_, true≢false}
-use Rattle.tick_times.specs.Passes.{holdsBelow}
+use Rattle.tick_judging.specs.Numbers.{holdsBelow}
 
 and-first : (a b : Bool) → a && b ≡ true → a ≡ true
 and-first true b e = refl

@@ -1,13 +1,13 @@
--- `tick_times::all_rising` meets its contract: each number passed is below the next. Assumes nothing.
+-- `tick_judging::all_rising` meets its contract: each number passed is below the next. Assumes nothing.
 use native.Mathlib.Omega.{arith}
 use mathlib.Core.Path.{_≡_, refl}
 use mathlib.Core.Bool.{true}
 use Prim.Native.Nat.{_+_, _-_, _≤_}
-use Rattle.tick_times.specs.Ticks.{numberAt}
-use Rattle.tick_times.specs.Passes.{holdsBelow}
-use Rattle.tick_times.proofs.Checks.{none-yet, step, rising-more, rising-stops, rising-ends}
-use Rattle.tick_times.proofs.all_rising.Statement.{statement}
-use Rattle.tick_times.proofs.all_rising.Tie as tie
+use Rattle.tick_judging.specs.Refusing.{numberAt}
+use Rattle.tick_judging.specs.Numbers.{holdsBelow}
+use Rattle.tick_judging.proofs.Checks.{none-yet, step, rising-more, rising-stops, rising-ends}
+use Rattle.tick_judging.proofs.all_rising.Statement.{statement}
+use Rattle.tick_judging.proofs.all_rising.Tie as tie
 
 abbrev Inv-loop : tie.InvT-loop
 Inv-loop s n last before₀ i₀ before i = (i ≤ n - 1) × (holdsBelow i (step (numberAt s)) ≡ true) × (before ≡ numberAt s i)

@@ -1,14 +1,27 @@
 -- Passes judged by their numbers: of numbers that rise the last is the largest, so that all are below 2^40 where it is. Assumes nothing.
-use Prim.Native.Nat.{ℕ, _+_, _-_, _<_, _≤_}
+use Prim.Native.Nat.{ℕ, zero, suc, _+_, _-_, _<_, _≤_}
 use native.Mathlib.Omega.{arith}
+use native.Mathlib.Nat.{le-refl}
 use mathlib.Core.Path.{_≡_, refl, sym, ap, subst, _∙_}
 use mathlib.Core.Bool.{Bool, true, false, cond, _&&_}
 use borrow.Author.Tests.{ltb-true}
-use Rattle.tick_times.specs.Passes.{allSmall, allRising}
-use Rattle.tick_times.specs.Asked.{RisesTo, judgedBy}
-use Rattle.tick_times.proofs.Every.{both, and-false, every-at}
-use Rattle.tick_times.proofs.Checks.{step, small-all, small-not}
-use Rattle.tick_times.proofs.Search.{rises-to}
+use Rattle.tick_judging.specs.Numbers.{allSmall, allRising, RisesTo}
+use Rattle.tick_judging.specs.Refusing.{judgedBy}
+use Rattle.tick_judging.proofs.Every.{both, and-false, every-at}
+use Rattle.tick_judging.proofs.Checks.{step, small-all, small-not}
+
+climb : (f : ℕ → ℕ) (k : ℕ) → RisesTo f k → (i n : ℕ) → i + n ≤ k → f i ≤ f (i + n)
+climb f k r i zero h =
+    let e : i ≡ i + 0 = omega arith in
+    subst (λ (x : ℕ). f i ≤ f x) e (le-refl (f i))
+climb f k r i (suc n) h =
+    let e : i + n + 1 ≡ i + suc n = omega arith in
+    subst (λ (x : ℕ). f i ≤ f x) e (omega (arith, climb f k r i n (omega arith), r (i + n) (omega arith)))
+
+pub rises-to : (f : ℕ → ℕ) (k : ℕ) → RisesTo f k → (i j : ℕ) → i ≤ j → j ≤ k → f i ≤ f j
+rises-to f k r i j h l =
+    let e : i + (j - i) ≡ j = omega arith in
+    subst (λ (x : ℕ). f i ≤ f x) e (climb f k r i (j - i) (omega arith))
 
 pub rises-of : (n : ℕ) (f : ℕ → ℕ) → allRising n f ≡ true → RisesTo f (n - 1)
 unfolding allRising

@@ -1,14 +1,14 @@
--- `tick_times::refused_by` meets its contract. Assumes nothing.
+-- `tick_judging::refused_by` meets its contract. Assumes nothing.
 use native.Mathlib.Omega.{arith}
 use Prim.Native.Nat.{_≤_}
 use mathlib.Core.Path.{_≡_, refl, sym, _∙_}
 use mathlib.Core.Bool.{true, false}
-use Rattle.tick_times.specs.Ticks.{wellCounted, usable, bothRising}
+use Rattle.tick_judging.specs.Refusing.{wellCounted, usable, bothRising}
 use borrow.Author.Tests.{not-true, not-false}
-use Rattle.tick_times.proofs.Ladder.{Wholes, WellCounted, broken-passes, broken-millis, broken-ticks, no-room, miscounted, counted-is, by-passes, passes-right, by-ticks, inside-is}
+use Rattle.tick_judging.proofs.Ladder.{Wholes, WellCounted, broken-passes, broken-millis, broken-ticks, no-room, miscounted, counted-is, by-passes, passes-right, by-ticks, inside-is}
 use borrow.Author.Needs.{needs}
-use Rattle.tick_times.proofs.refused_by.Statement.{statement}
-use Rattle.tick_times.proofs.refused_by.Tie as tie
+use Rattle.tick_judging.proofs.refused_by.Statement.{statement}
+use Rattle.tick_judging.proofs.refused_by.Tie as tie
 
 returns : tie.Need-returns
 returns c =

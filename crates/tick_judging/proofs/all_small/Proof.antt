@@ -1,13 +1,13 @@
--- `tick_times::all_small` meets its contract: the numbers passed are below 2^40. Assumes nothing.
+-- `tick_judging::all_small` meets its contract: the numbers passed are below 2^40. Assumes nothing.
 use native.Mathlib.Omega.{arith}
 use mathlib.Core.Path.{_≡_, refl}
 use mathlib.Core.Bool.{true}
 use Prim.Native.Nat.{_+_, _-_, _≤_}
-use Rattle.tick_times.specs.Ticks.{numberAt}
-use Rattle.tick_times.specs.Passes.{holdsBelow}
-use Rattle.tick_times.proofs.Checks.{none-yet, below, small-more, small-stops, small-ends}
-use Rattle.tick_times.proofs.all_small.Statement.{statement}
-use Rattle.tick_times.proofs.all_small.Tie as tie
+use Rattle.tick_judging.specs.Refusing.{numberAt}
+use Rattle.tick_judging.specs.Numbers.{holdsBelow}
+use Rattle.tick_judging.proofs.Checks.{none-yet, below, small-more, small-stops, small-ends}
+use Rattle.tick_judging.proofs.all_small.Statement.{statement}
+use Rattle.tick_judging.proofs.all_small.Tie as tie
 
 abbrev Inv-loop : tie.InvT-loop
 Inv-loop s n i₀ i = (i ≤ n) × (holdsBelow i (below (numberAt s)) ≡ true)

@@ -1,11 +1,11 @@
--- `tick_times::both_small` meets its contract. Assumes nothing.
+-- `tick_judging::both_small` meets its contract. Assumes nothing.
 use mathlib.Core.Path.{_≡_, sym, ap, _∙_}
 use mathlib.Core.Bool.{Bool, _&&_}
-use Rattle.tick_times.specs.Ticks.{numberAt}
-use Rattle.tick_times.specs.Passes.{allSmall}
+use Rattle.tick_judging.specs.Refusing.{numberAt}
+use Rattle.tick_judging.specs.Numbers.{allSmall}
 use borrow.Author.Needs.{needs}
-use Rattle.tick_times.proofs.both_small.Statement.{statement}
-use Rattle.tick_times.proofs.both_small.Tie as tie
+use Rattle.tick_judging.proofs.both_small.Statement.{statement}
+use Rattle.tick_judging.proofs.both_small.Tie as tie
 
 all-small-requires : tie.Need-all-small-requires
 all-small-requires c κs = search needs

@@ -1,13 +1,13 @@
--- `tick_times::judged` meets its contract: of numbers that rise the last is the largest. Assumes nothing.
+-- `tick_judging::judged` meets its contract: of numbers that rise the last is the largest. Assumes nothing.
 use native.Mathlib.Omega.{arith}
 use mathlib.Core.Path.{_≡_, sym, ap, _∙_}
 use mathlib.Core.Bool.{true, false}
 use borrow.Author.Tests.{not-true, not-false}
-use Rattle.tick_times.specs.Ticks.{numberAt}
-use Rattle.tick_times.proofs.ByLast.{by-tests, last-tick-large, last-milli-large, nothing-wrong}
+use Rattle.tick_judging.specs.Refusing.{numberAt}
+use Rattle.tick_judging.proofs.ByLast.{by-tests, last-tick-large, last-milli-large, nothing-wrong}
 use borrow.Author.Needs.{needs}
-use Rattle.tick_times.proofs.judged.Statement.{statement}
-use Rattle.tick_times.proofs.judged.Tie as tie
+use Rattle.tick_judging.proofs.judged.Statement.{statement}
+use Rattle.tick_judging.proofs.judged.Tie as tie
 
 both-rising-requires : tie.Need-both-rising-requires
 both-rising-requires c κs = search needs

@@ -1,7 +1,7 @@
--- `tick_times::well_counted` meets its contract. Assumes nothing.
-use Rattle.tick_times.proofs.Ladder.{unequal, too-few, by-most}
-use Rattle.tick_times.proofs.well_counted.Statement.{statement}
-use Rattle.tick_times.proofs.well_counted.Tie as tie
+-- `tick_judging::well_counted` meets its contract. Assumes nothing.
+use Rattle.tick_judging.proofs.Ladder.{unequal, too-few, by-most}
+use Rattle.tick_judging.proofs.well_counted.Statement.{statement}
+use Rattle.tick_judging.proofs.well_counted.Tie as tie
 
 returns : tie.Need-returns
 returns c = let a = c .before .args in unequal (a .passes .now) (a .millis .now) (c .if1 .taken)
