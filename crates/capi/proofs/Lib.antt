@@ -1,11 +1,9 @@
--- The laws that the proofs of the C interface cite: a table that is lent, by value and as two arrays, a text, and one with its rule in two buffers, a part of a listing, three
--- runs in a line, ticks, a walk, and a run.
-pub mod Tables
+-- The laws that the proofs of the C interface cite: a table that is lent as two arrays, a text, and one with its rule in two buffers, the number of a
+-- block's stamps, three runs in a line, ticks, and a run.
 pub mod Arrays
 pub mod TextRules
-pub mod ListingParts
+pub mod BlockStamps
 pub mod LineUps
 pub mod Texts
 pub mod Ticks
-pub mod Walks
 pub mod Runs

@@ -2,7 +2,7 @@
 ghost use mathlib.Core.Path.{_≡_};
 ghost use Rattle.refusals.specs.Outcome.{answer};
 ghost use Rattle.julian.specs.JulianDate.{julian, julianOutcome, roundedSum, addDays, addSeconds, difference};
-ghost use Rattle.julian.specs.Calendar.{calendarOutcome, calendarToJulian, julianToCalendar, fromCalendar};
+ghost use Rattle.julian.specs.Calendar.{calendarToJulian, julianToCalendar, fromCalendar};
 ghost use Rattle.julian.specs.UnixTime.{fromUnixTime};
 ghost use Rattle.julian.specs.JulianYear.{toJulianYear, fromJulianYear};
 ghost use Rattle.julian.specs.Equality.{equal};
@@ -10,7 +10,6 @@ ghost use Rattle.c_answers.specs.Delivery.{truth, inBytes, Delivered};
 ghost use Rattle.c_answers.specs.Fields.{julianBytes, calendarBytes};
 use c_answers::fields;
 use c_answers::refused;
-use julian::CalendarAnswer;
 use julian::JulianAnswer;
 use julian::JulianDate;
 
@@ -20,15 +19,6 @@ fn put_date(found: JulianAnswer, out: &mut [u8]) -> i64
     match found {
         JulianAnswer::Date(date) => fields::put_julian(date, out),
         JulianAnswer::Refused(number) => refused(number),
-    }
-}
-
-fn put_calendar(found: CalendarAnswer, out: &mut [u8]) -> i64
-    ensures { λ r. ⌜ Delivered (inBytes calendarBytes (calendarOutcome found)) (now (out .entry)) r (now (out .exit)) ⌝ }
-{
-    match found {
-        CalendarAnswer::Fields(shown) => fields::put_calendar(shown, out),
-        CalendarAnswer::Refused(number) => refused(number),
     }
 }
 
@@ -43,7 +33,7 @@ pub extern "C" fn ct_calendar_to_julian(year: i32, month: i32, day: i32, out: &m
 pub extern "C" fn ct_julian_to_calendar(jd1: f64, jd2: f64, out: &mut [u8]) -> i64
     ensures { λ r. ⌜ Delivered (inBytes calendarBytes (julianToCalendar jd1 jd2)) (now (out .entry)) r (now (out .exit)) ⌝ }
 {
-    put_calendar(julian::julian_to_calendar(jd1, jd2), out)
+    date_parts::julian_to_calendar(jd1, jd2, out)
 }
 
 #[no_mangle]
@@ -121,5 +111,5 @@ pub extern "C" fn ct_equal(jd1: f64, jd2: f64, other1: f64, other2: f64) -> i64
 pub extern "C" fn ct_difference(jd1: f64, jd2: f64, other1: f64, other2: f64) -> f64
     ensures { λ r. ⌜ r ≡ difference (julian jd1 jd2) (julian other1 other2) ⌝ }
 {
-    JulianDate::new(jd1, jd2).sub(JulianDate::new(other1, other2))
+    date_parts::difference(jd1, jd2, other1, other2)
 }

@@ -1,23 +1,13 @@
-// TAI-UTC at 0h of many dates in time order, in one walk through the table. Its length is tested here, its rows by the walk: a test of all rows is most of what they cost.
+// TAI-UTC at 0h of many dates in time order, in one walk through the table.
 ghost use lib.ListN.{length};
 ghost use Rattle.refusals.specs.Outcome.{onward};
 ghost use Rattle.offset_walk.specs.Lists.{walkOfBytes};
 ghost use Rattle.lent_bytes.specs.TableBytes.{tableBytes};
-ghost use Rattle.capi.specs.WalkDelivery.{WalkDelivered};
-use c_answers::refused;
-use lent_bytes::lent_rows_at;
-use offset_walk::WalkAnswer;
+ghost use Rattle.lent_calls.specs.WalkDelivery.{WalkDelivered};
 
 #[no_mangle]
 pub extern "C" fn ct_offsets_at_0h(dates: &[u8], table: &[u8], out: &mut [u8]) -> i64
     ensures { λ r. ⌜ WalkDelivered (onward (tableBytes (now (table .entry))) (λ rows. walkOfBytes rows (now (dates .entry)) (length (now (out .entry))))) (now (out .entry)) r (now (out .exit)) ⌝ }
 {
-    if table.len() != 136 {
-        return refused(refusals::BLOCK_LENGTH_WRONG);
-    }
-    let rows = lent_rows_at(table);
-    match offset_walk::offsets_at_0h_bytes(dates, rows, out) {
-        WalkAnswer::Compared(n) => n as i64,
-        WalkAnswer::Refused(number) => refused(number),
-    }
+    lent_calls::offsets_at_0h(dates, table, out)
 }

@@ -31,7 +31,7 @@ use Rattle.stamps.proofs.Lengths.{part-fits, lines-add}
 use Rattle.listing_laws.proofs.LineEnds.{ends-most, part-ends, part-some}
 use Rattle.lent_bytes.specs.TableBytes.{tableBytes}
 use Rattle.c_answers.specs.Delivery.{code, Delivered}
-use Rattle.capi.specs.ListingPart.{listingPart}
+use Rattle.lent_calls.specs.ListingPart.{listingPart}
 use Rattle.capi_laws.specs.ListingCalls.{Listed, begun, next}
 
 -- ---- what one call delivers to a buffer that holds a line

@@ -12,8 +12,9 @@ use Rattle.refusals.specs.Outcome.{Outcome, answer, refusal}
 use Rattle.tick_times.specs.declared.TicksAnswer.{TicksAnswer}
 use Rattle.tick_times.specs.declared.TicksAnswer.the-variants.{Written, Refused}
 use Rattle.tick_times.specs.Passes.{millisBetween, millisAt, OnSomeLine}
-use Rattle.tick_times.specs.Ticks.{numberAt, numbersIn, passesOf, refusedBy, bytesOf, placedTicks, ticksOutcome, lentAfter, TicksCall}
-use Rattle.tick_times.proofs.Ladder.{ladder-passed}
+use Rattle.tick_judging.specs.Refusing.{numberAt, numbersIn, refusedBy}
+use Rattle.tick_times.specs.Ticks.{passesOf, bytesOf, placedTicks, ticksOutcome, lentAfter, TicksCall}
+use Rattle.tick_judging.proofs.Ladder.{ladder-passed}
 use Rattle.tick_times.proofs.Calls.{length-bytes}
 use Rattle.tick_laws.specs.Sound.{Sound, Inside, JustBelow}
 use Rattle.tick_laws.specs.Reasons.{ExactlyWhen, PlacedRight, TicksMeaning}

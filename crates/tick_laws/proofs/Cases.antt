@@ -5,8 +5,10 @@ use mathlib.Core.List.{List, [], _++_}
 use Rattle.refusals.specs.Outcome.{answer, refusal}
 use Rattle.little_endian.specs.LittleEndian.{fourAt, u64At, eightBytes}
 use Rattle.tick_times.specs.Line.{lineAt}
-use Rattle.tick_times.specs.Passes.{holdsBelow, allSmall, allRising, inside, lastNotAfter, millisAt}
-use Rattle.tick_times.specs.Ticks.{wellCounted, usable, bothRising, allInside, refusedBy, bytesOf, placedTicks}
+use Rattle.tick_judging.specs.Numbers.{holdsBelow, allSmall, allRising, inside}
+use Rattle.tick_times.specs.Passes.{lastNotAfter, millisAt}
+use Rattle.tick_judging.specs.Refusing.{wellCounted, usable, bothRising, allInside, refusedBy}
+use Rattle.tick_times.specs.Ticks.{bytesOf, placedTicks}
 
 abbrev pub twoNumbers : ℕ → ℕ → List ℕ
 twoNumbers a b = eightBytes a ++ eightBytes b

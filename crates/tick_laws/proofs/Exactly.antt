@@ -12,12 +12,14 @@ use borrow.Author.Tests.{eqb-true, leb-true, eq-eqb, ne-eqb, le-leb}
 use Rattle.refusals.specs.Outcome.{Outcome, answer, refusal, onward}
 use Rattle.tick_times.specs.declared.TicksAnswer.{TicksAnswer}
 use Rattle.tick_times.specs.declared.TicksAnswer.the-variants.{Written, Refused}
-use Rattle.tick_times.specs.Passes.{allSmall, allRising, inside, millisAt}
-use Rattle.tick_times.specs.Ticks.{numberAt, numbersIn, passesOf, wholeNumbers, wellCounted, usable, bothRising, allInside, refusedBy, bytesOf, placedTicks, ticksOutcome, TicksCall}
-use Rattle.tick_times.proofs.Every.{both, every-at}
-use Rattle.tick_times.proofs.Checks.{held, small-all, small-each, rising-all, inside-all}
-use Rattle.tick_times.proofs.ByLast.{rises-of}
-use Rattle.tick_times.proofs.Ladder.{Usable, usable-is, NothingRefused, ladder-passed}
+use Rattle.tick_judging.specs.Numbers.{allSmall, allRising, inside}
+use Rattle.tick_times.specs.Passes.{millisAt}
+use Rattle.tick_judging.specs.Refusing.{numberAt, numbersIn, wholeNumbers, wellCounted, usable, bothRising, allInside, refusedBy}
+use Rattle.tick_times.specs.Ticks.{passesOf, bytesOf, placedTicks, ticksOutcome, TicksCall}
+use Rattle.tick_judging.proofs.Every.{both, every-at}
+use Rattle.tick_judging.proofs.Checks.{held, small-all, small-each, rising-all, inside-all}
+use Rattle.tick_judging.proofs.ByLast.{rises-of}
+use Rattle.tick_judging.proofs.Ladder.{Usable, usable-is, NothingRefused, ladder-passed}
 use Rattle.tick_times.proofs.Calls.{length-bytes}
 use Rattle.tick_laws.specs.Sound.{Inside}
 use Rattle.tick_laws.specs.Reasons.{WholeLists, HasPlaces, UsablePasses, RisingPasses, TicksInside, ExactlyWhen}

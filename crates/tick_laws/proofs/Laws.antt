@@ -6,8 +6,9 @@ use native.Mathlib.Decide.{decLt}
 use mathlib.Core.Path.{_≡_, refl, sym, ap, subst, _∙_}
 use Rattle.tick_times.specs.Line.{lineAt}
 use Rattle.tick_times.specs.Passes.{Passes, lastNotAfter, millisBetween, millisAt, OnSomeLine}
-use Rattle.tick_times.specs.Asked.{RisesTo}
-use Rattle.tick_times.proofs.Search.{rises-to, last-low, last-from, last-next, last-only}
+use Rattle.tick_judging.specs.Numbers.{RisesTo}
+use Rattle.tick_judging.proofs.ByLast.{rises-to}
+use Rattle.tick_times.proofs.Search.{last-low, last-from, last-next, last-only}
 use Rattle.tick_times.proofs.Lines.{line-under}
 use Rattle.tick_laws.specs.Sound.{Sound, Inside, lineRise, ticksBetween, JustBelow}
 

@@ -3,9 +3,10 @@ use Prim.Native.Nat.{ℕ, _+_, _-_, _≤_, _<_}
 use native.Mathlib.Omega.{arith}
 use mathlib.Core.Path.{_≡_, refl, subst}
 use mathlib.Core.List.{List}
-use Rattle.tick_times.specs.Ticks.{numberAt, numbersIn, passesOf, refusedBy}
-use Rattle.tick_times.specs.Asked.{GoodCall}
-use Rattle.tick_times.proofs.Ladder.{ladder-passed, passes-two, all-good}
+use Rattle.tick_judging.specs.Refusing.{numberAt, numbersIn, refusedBy}
+use Rattle.tick_times.specs.Ticks.{passesOf}
+use Rattle.tick_judging.specs.GoodCalls.{GoodCall}
+use Rattle.tick_judging.proofs.Ladder.{ladder-passed, passes-two, all-good}
 use Rattle.tick_laws.specs.Sound.{Sound, Inside}
 
 module _ (ps ms ts : List ℕ) (room : ℕ) (e : refusedBy ps ms ts room ≡ 0) where

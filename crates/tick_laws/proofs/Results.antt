@@ -8,7 +8,8 @@ use lib.ListN.{length, take, drop, length-append}
 use lib.Seq.{take-at, drop-at}
 use Rattle.little_endian.specs.LittleEndian.{u64At, eightBytes}
 use Rattle.little_endian.proofs.RoundTrip.{read-written}
-use Rattle.tick_times.specs.Ticks.{numberAt, bytesOf}
+use Rattle.tick_judging.specs.Refusing.{numberAt}
+use Rattle.tick_times.specs.Ticks.{bytesOf}
 use Rattle.little_endian.proofs.Parts.{eight-in-part}
 use Rattle.tick_times.proofs.Calls.{length-bytes}
 

@@ -9,7 +9,8 @@ use lib.ListN.{length, drop}
 use Rattle.tick_times.specs.declared.TicksAnswer.{TicksAnswer}
 use Rattle.tick_times.specs.declared.TicksAnswer.the-variants.{Written, Refused}
 use Rattle.tick_times.specs.Passes.{millisBetween}
-use Rattle.tick_times.specs.Ticks.{numberAt, numbersIn, passesOf}
+use Rattle.tick_judging.specs.Refusing.{numberAt, numbersIn}
+use Rattle.tick_times.specs.Ticks.{passesOf}
 use Rattle.tick_laws.specs.Sound.{Inside, JustBelow}
 
 -- the lists are made of numbers of eight bytes; else 14

@@ -11,8 +11,9 @@ use Rattle.refusals.specs.Outcome.{Outcome, answer, refusal, onward}
 use Rattle.little_endian.specs.LittleEndian.{eightBytes}
 use Rattle.tick_times.specs.declared.TicksAnswer.the-variants.{Written, Refused}
 use Rattle.tick_times.specs.Passes.{millisAt}
-use Rattle.tick_times.specs.Ticks.{numberAt, numbersIn, passesOf, refusedBy, bytesOf, placedTicks, ticksOutcome, lentAfter, TicksCall}
-use Rattle.tick_times.proofs.Ladder.{NothingRefused, ladder-passed}
+use Rattle.tick_judging.specs.Refusing.{numberAt, numbersIn, refusedBy}
+use Rattle.tick_times.specs.Ticks.{passesOf, bytesOf, placedTicks, ticksOutcome, lentAfter, TicksCall}
+use Rattle.tick_judging.proofs.Ladder.{NothingRefused, ladder-passed}
 
 pub length-bytes : (f : ℕ → ℕ) (k : ℕ) → length (bytesOf f k) ≡ 8 * k
 unfolding bytesOf

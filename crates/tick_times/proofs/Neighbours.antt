@@ -4,9 +4,11 @@ use native.Mathlib.Omega.{arith}
 use native.Mathlib.Decide.{decLt}
 use mathlib.Core.Path.{_≡_, refl, sym, ap, subst, _∙_}
 use mathlib.Core.List.{List}
-use Rattle.tick_times.specs.Ticks.{numberAt, numbersIn, passesOf}
+use Rattle.tick_judging.specs.Refusing.{numberAt, numbersIn}
+use Rattle.tick_times.specs.Ticks.{passesOf}
 use Rattle.tick_times.specs.Passes.{lastNotAfter, millisBetween, millisAt}
-use Rattle.tick_times.specs.Asked.{NearPass, TickBetween, GoodCall}
+use Rattle.tick_judging.specs.GoodCalls.{GoodCall}
+use Rattle.tick_times.specs.Asked.{NearPass, TickBetween}
 use Rattle.tick_times.proofs.Search.{last-low, last-from, last-next}
 
 module _ (ps ms : List ℕ) (k n : ℕ) (ts : List ℕ) (g : GoodCall ps ms k n ts) (i : ℕ) (h : i < n) where

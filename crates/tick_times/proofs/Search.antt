@@ -9,7 +9,9 @@ use mathlib.Core.Bool.{Bool, true, false, cond}
 use lib.Dec.{leb}
 use borrow.Author.Tests.{leb-true, leb-false}
 use Rattle.tick_times.specs.Passes.{lastNotAfter}
-use Rattle.tick_times.specs.Asked.{RisesTo, FoundPass}
+use Rattle.tick_judging.specs.Numbers.{RisesTo}
+use Rattle.tick_times.specs.Asked.{FoundPass}
+use Rattle.tick_judging.proofs.ByLast.{rises-to}
 
 -- ---- halving: the pass is `from` or one of the `left` behind it
 pub record Seeking (tick : ℕ → ℕ) (low high t from left : ℕ) : Type 0 where
@@ -65,19 +67,6 @@ module _ (tick : ℕ → ℕ) (low high t : ℕ) where
       }
 
 -- ---- the last pass that is not after the tick
-climb : (f : ℕ → ℕ) (k : ℕ) → RisesTo f k → (i n : ℕ) → i + n ≤ k → f i ≤ f (i + n)
-climb f k r i zero h =
-    let e : i ≡ i + 0 = omega arith in
-    subst (λ (x : ℕ). f i ≤ f x) e (le-refl (f i))
-climb f k r i (suc n) h =
-    let e : i + n + 1 ≡ i + suc n = omega arith in
-    subst (λ (x : ℕ). f i ≤ f x) e (omega (arith, climb f k r i n (omega arith), r (i + n) (omega arith)))
-
-pub rises-to : (f : ℕ → ℕ) (k : ℕ) → RisesTo f k → (i j : ℕ) → i ≤ j → j ≤ k → f i ≤ f j
-rises-to f k r i j h l =
-    let e : i + (j - i) ≡ j = omega arith in
-    subst (λ (x : ℕ). f i ≤ f x) e (climb f k r i (j - i) (omega arith))
-
 module _ (tick : ℕ → ℕ) (t : ℕ) where
   pub last-low : (k : ℕ) → lastNotAfter tick t k ≤ k
   unfolding lastNotAfter

@@ -1,9 +1,8 @@
--- The marker passes of a run, which of them can be used, and a tick between them. Written from document 02, item 10: 2 to 2,000 passes, numbers below 2^40, "passes not
--- strictly rising in both", "a tick outside them". Assumes nothing.
+-- The marker passes of a run, and a tick between them. Written from document 02, item 10. Assumes nothing.
 use Prim.Native.Nat.{ℕ, zero, suc, _+_, _-_, _≤_, _<_}
 use mathlib.Core.Path.{_≡_}
-use mathlib.Core.Bool.{Bool, true, cond, _&&_}
-use lib.Dec.{ltb, leb, eqb}
+use mathlib.Core.Bool.{cond}
+use lib.Dec.{leb}
 use Rattle.tick_times.specs.Line.{lineAt}
 
 -- pass i, from 0 up to size - 1, has tick number `tick i` and TAI millisecond `milli i`
@@ -11,23 +10,6 @@ pub record Passes : Type 0 where
   pub size : ℕ
   pub tick : ℕ → ℕ
   pub milli : ℕ → ℕ
-
--- whether f is true of 0 to n - 1
-unfoldable pub holdsBelow : ℕ → (ℕ → Bool) → Bool
-holdsBelow zero f = true
-holdsBelow (suc n) f = holdsBelow n f && f n
-
--- the first n numbers are below 2^40
-unfoldable pub allSmall : ℕ → (ℕ → ℕ) → Bool
-allSmall n f = holdsBelow n (λ i. ltb (f i) 0x100_0000_0000)
-
--- each of the first n numbers but the last is below the next
-unfoldable pub allRising : ℕ → (ℕ → ℕ) → Bool
-allRising n f = holdsBelow (n - 1) (λ i. ltb (f i) (f (i + 1)))
-
--- the first k of some ticks lie from `first` to `last`
-unfoldable pub inside : ℕ → ℕ → ℕ → (ℕ → ℕ) → Bool
-inside first last k f = holdsBelow k (λ i. leb first (f i) && leb (f i) last)
 
 -- the last of the passes 0 to k that is not after tick t; 0 where there is none
 unfoldable pub lastNotAfter : (ℕ → ℕ) → ℕ → ℕ → ℕ

@@ -1,59 +1,20 @@
--- Lists of ticks and milliseconds as bytes, eight for a number, the lowest first; which lists are refused, and what the lent list holds after the call. Written from
--- document 02, item 10: "Turned away whole, in this order: 11 .. 23 .. 24 .. 25", and item 2: "spare places of a lent list stay, here and later". A length that is no
--- multiple of 8 has no number there; it is 14, before all others, as a broken triple of item 2. Assumes nothing.
-use Prim.Native.Nat.{ℕ, zero, suc, _+_, _-_, _*_, _/_, _%_}
+-- Lists of ticks and milliseconds as bytes, eight for a number, the lowest first, and what the lent list holds after the call. Written from document 02, item 10, and
+-- item 2: "spare places of a lent list stay, here and later". Which lists are refused says tick_judging. Assumes nothing.
+use Prim.Native.Nat.{ℕ, zero, suc}
 use mathlib.Core.Path.{_≡_}
-use mathlib.Core.Bool.{Bool, cond, _&&_}
+use mathlib.Core.Bool.{cond}
 use mathlib.Core.List.{List, [], _++_}
 use lib.ListN.{length, drop}
-use lib.Dec.{leb, eqb}
+use lib.Dec.{eqb}
 use Rattle.refusals.specs.Outcome.{Outcome, answer, refusal, onward}
-use Rattle.little_endian.specs.LittleEndian.{u64At, eightBytes}
+use Rattle.little_endian.specs.LittleEndian.{eightBytes}
 use Rattle.tick_times.specs.declared.TicksAnswer.{TicksAnswer}
 use Rattle.tick_times.specs.declared.TicksAnswer.the-variants.{Written, Refused}
-use Rattle.tick_times.specs.Passes.{Passes, allSmall, allRising, inside, millisAt}
-
--- number i of a list, and how many it has
-abbrev pub numberAt : List ℕ → ℕ → ℕ
-numberAt s i = u64At s (8 * i)
-
-abbrev pub numbersIn : List ℕ → ℕ
-numbersIn s = length s / 8
-
-abbrev pub wholeNumbers : List ℕ → Bool
-wholeNumbers s = eqb (length s % 8) 0
+use Rattle.tick_judging.specs.Refusing.{numberAt, numbersIn, refusedBy}
+use Rattle.tick_times.specs.Passes.{Passes, millisAt}
 
 abbrev pub passesOf : List ℕ → List ℕ → Passes
 passesOf ps ms = record { size = numbersIn ps; tick = numberAt ps; milli = numberAt ms }
-
--- as many milliseconds as ticks, 2 to 2,000
-unfoldable pub wellCounted : List ℕ → List ℕ → Bool
-wellCounted ps ms = eqb (numbersIn ps) (numbersIn ms) && (leb 2 (numbersIn ps) && leb (numbersIn ps) 2000)
-
--- and all below 2^40
-unfoldable pub usable : List ℕ → List ℕ → Bool
-usable ps ms = wellCounted ps ms && (allSmall (numbersIn ps) (numberAt ps) && allSmall (numbersIn ps) (numberAt ms))
-
-unfoldable pub bothRising : List ℕ → List ℕ → Bool
-bothRising ps ms = allRising (numbersIn ps) (numberAt ps) && allRising (numbersIn ps) (numberAt ms)
-
-unfoldable pub allInside : List ℕ → List ℕ → Bool
-allInside ps ts = inside (numberAt ps 0) (numberAt ps (numbersIn ps - 1)) (numbersIn ts) (numberAt ts)
-
--- the number of the refusal for these passes and ticks and so many bytes of room, or 0
-unfoldable pub refusedBy : List ℕ → List ℕ → List ℕ → ℕ → ℕ
-refusedBy ps ms ts room =
-    cond (wholeNumbers ps && (wholeNumbers ms && wholeNumbers ts))
-    (cond (leb (numbersIn ts) (room / 8))
-    (cond (usable ps ms)
-    (cond (bothRising ps ms)
-    (cond (allInside ps ts)
-    0
-    25)
-    24)
-    23)
-    11)
-    14
 
 -- the bytes of f 0, f 1, .. f (k - 1)
 unfoldable pub bytesOf : (ℕ → ℕ) → ℕ → List ℕ

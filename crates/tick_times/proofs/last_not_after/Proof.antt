@@ -3,7 +3,7 @@ use Prim.Native.Nat.{ℕ, _/_}
 use native.Mathlib.Omega.{arith}
 use mathlib.Core.Path.{_≡_, sym, subst}
 use mathlib.Core.Logic.{⊎-elim}
-use Rattle.tick_times.specs.Ticks.{numberAt}
+use Rattle.tick_judging.specs.Refusing.{numberAt}
 use Rattle.tick_times.proofs.Search.{Seeking, seek-starts, seek-up, seek-down, seek-ends}
 use Rattle.tick_times.proofs.last_not_after.Statement.{statement}
 use Rattle.tick_times.proofs.last_not_after.Tie as tie

@@ -2,7 +2,7 @@
 use Prim.Native.Nat.{ℕ, _+_, _<_}
 use native.Mathlib.Omega.{arith}
 use mathlib.Core.Path.{_≡_, subst}
-use Rattle.tick_times.specs.Ticks.{numberAt}
+use Rattle.tick_judging.specs.Refusing.{numberAt}
 use Rattle.tick_times.proofs.Search.{last-only, found-last, found-below}
 use borrow.Author.Needs.{needs}
 use Rattle.tick_times.proofs.neighbour.Statement.{statement}

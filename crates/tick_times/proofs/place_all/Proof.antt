@@ -3,7 +3,8 @@ use Prim.Native.Nat.{ℕ, _+_, _-_, _*_, _≤_}
 use native.Mathlib.Omega.{arith}
 use mathlib.Core.Path.{_≡_, ap, subst, sym, _∙_}
 use Rattle.tick_times.specs.Passes.{millisAt, lastNotAfter, millisBetween}
-use Rattle.tick_times.specs.Ticks.{numberAt, passesOf}
+use Rattle.tick_judging.specs.Refusing.{numberAt}
+use Rattle.tick_times.specs.Ticks.{passesOf}
 use Rattle.tick_times.specs.Asked.{NearPass, TickBetween}
 use Rattle.tick_times.proofs.Puts.{Placing, placing-starts, placing-goes, placing-ends}
 use Rattle.tick_times.proofs.Neighbours.{near, still-near, holds, millis-is}

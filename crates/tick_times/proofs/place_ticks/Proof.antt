@@ -2,7 +2,7 @@
 use native.Mathlib.Omega.{arith}
 use mathlib.Core.Path.{refl, sym, _∙_}
 use lib.ListN.{length}
-use Rattle.tick_times.proofs.Ladder.{ladder-passed, passes-two, all-good}
+use Rattle.tick_judging.proofs.Ladder.{ladder-passed, passes-two, all-good}
 use Rattle.tick_times.proofs.Calls.{refused-call, written-call}
 use borrow.Author.Needs.{needs}
 use Rattle.tick_times.proofs.place_ticks.Statement.{statement}

@@ -1,5 +1,5 @@
 -- `capi::block_calls::ct_block_stamps` meets its contract. Assumes nothing.
-use Rattle.capi.proofs.ListingParts.{stamps-fit, stamps-are, block-refused}
+use Rattle.capi.proofs.BlockStamps.{stamps-fit, stamps-are, block-refused}
 use borrow.Author.Needs.{needs}
 use Rattle.capi.proofs.block_calls.ct_block_stamps.Statement.{statement}
 use Rattle.capi.proofs.block_calls.ct_block_stamps.Tie as tie

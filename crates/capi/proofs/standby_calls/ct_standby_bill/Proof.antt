@@ -1,17 +1,17 @@
--- `capi::standby_calls::ct_standby_bill` meets its contract: the packed times have the fields that were passed, the years read back from their bits. Assumes nothing.
+-- `capi::standby_calls::ct_standby_bill` meets its contract: the years read back from their bits. Assumes nothing.
 use denote.Ref.{now}
 use mir.Facts.{toZ-ofZ}
 use Rattle.refusals.specs.Outcome.{onward}
 use Rattle.standby.specs.Bills.{standbyBill}
 use Rattle.lent_bytes.specs.TableBytes.{tableBytes}
 use Rattle.c_answers.proofs.Deliveries.{same-outcome}
-use Rattle.capi.specs.BillBytes.{billBytes, utcTime}
+use Rattle.lent_calls.specs.BillBytes.{billBytes, utcTime}
 use borrow.Author.Needs.{needs}
 use Rattle.capi.proofs.standby_calls.ct_standby_bill.Statement.{statement}
 use Rattle.capi.proofs.standby_calls.ct_standby_bill.Tie as tie
 
-bill-call-requires : tie.Need-bill-call-requires
-bill-call-requires c κs = search needs
+standby-bill-requires : tie.Need-standby-bill-requires
+standby-bill-requires c κs = search needs
 
 same-length : tie.Need-same-length
 same-length c = search needs
@@ -21,13 +21,13 @@ returns c =
     let p = c .before .before in
     let s = p .before .before .before .before in
     let a = s .args in
-    same-outcome billBytes (p .bill-call .ok)
+    same-outcome billBytes (p .standby-bill .ok)
     (λ i. onward (tableBytes (now (a .table))) (λ rows.
     standbyBill rows
     (utcTime (toZ-ofZ (s .fits .start-year) i) (a .start-month) (a .start-day) (a .start-hour) (a .start-minute) (a .start-second) (a .start-millis))
     (utcTime (toZ-ofZ (s .fits .end-year) i) (a .end-month) (a .end-day) (a .end-hour) (a .end-minute) (a .end-second) (a .end-millis))
     (a .rate) (a .first-metres) (a .second-metres)))
-    (p .bill-call .ensures)
+    (p .standby-bill .ensures)
 
 pub ct-standby-bill-spec : {M : Type 1} → statement M
-ct-standby-bill-spec = tie.close (tie.spec bill-call-requires same-length returns)
+ct-standby-bill-spec = tie.close (tie.spec standby-bill-requires same-length returns)
