@@ -18,7 +18,7 @@ use Rattle.tai_utc.specs.Table.{Row}
 use Rattle.shifts.proofs.Outcomes.{and-left, and-right}
 use Rattle.line_up.specs.LineUp.{stampOf}
 use Rattle.scale_ways.specs.Ways.{isRunScale}
-use Rattle.formula_runs.specs.Run.{numberByte, firstPart, secondPart, RunCall, runCall, runWritten}
+use Rattle.formula_runs.specs.Run.{numberByte, RunCall, runCall, runWritten}
 use Rattle.runs.specs.Run.{stampAnswer, runRefusal, runBy, convertedRun}
 use Rattle.runs.proofs.Calls.{Fitting, fitting}
 use Rattle.formula_runs.proofs.Judged.{pattern-back}
@@ -26,7 +26,7 @@ use Rattle.utc_scale_laws.specs.Claims.{Holds, Any}
 use Rattle.run_laws.specs.Dead.{DeadStamp, deadNumber, OneSixNine, notZeroIn}
 use Rattle.run_laws.specs.Done.{StampDone, SpareStays}
 use Rattle.run_laws.proofs.Refusing.{five, not-finite-way, dead-not-finite, same-passes, way-refusals, stamp-held}
-use Rattle.run_laws.proofs.Bytes.{parts-beyond, answered-at, refused-at, numbers-beyond, number-at, counted}
+use Rattle.run_laws.proofs.Written.{stamp-written, spare-kept, count-written}
 
 -- ---- A REFUSED CALL writes nothing
 pub refused-writes-nothing : (o : Outcome (List Row)) (from to : ℕ) (js ks out1 out2 numbers : List ℕ) (k : ℕ) → convertedRun o from to js ks out1 out2 numbers .answer ≡ refusal k
@@ -77,27 +77,14 @@ module _ (rows : List Row) (from to : ℕ) (js ks out1 out2 numbers : List ℕ) 
 
   -- EACH STAMP'S ANSWER is that of the single calls on its way
   pub each-stamp : (i : ℕ) → i < n → StampDone (f i) i out1 out2 (convertedRun (answer rows) from to js ks out1 out2 numbers)
-  unfolding runWritten
-  each-stamp i h = subst (StampDone (f i) i out1 out2) (sym written) (record {
-    numbered = number-at f numbers n i h (fits .bytes);
-    first = λ d e k b. answered-at firstPart f out1 n i k d h b room1 e;
-    second = λ d e k b. answered-at secondPart f out2 n i k d h b room2 e;
-    first-stays = λ r e k b. refused-at firstPart f out1 n i k r h b e;
-    second-stays = λ r e k b. refused-at secondPart f out2 n i k r h b e;
-  })
+  each-stamp i h = subst (StampDone (f i) i out1 out2) (sym written) (stamp-written f n out1 out2 numbers room1 room2 (fits .bytes) i h)
 
   pub spare-stays : SpareStays n out1 out2 numbers (convertedRun (answer rows) from to js ks out1 out2 numbers)
-  unfolding runWritten
-  spare-stays = subst (SpareStays n out1 out2 numbers) (sym written) (record {
-    first = λ j h. parts-beyond firstPart f out1 n j h;
-    second = λ j h. parts-beyond secondPart f out2 n j h;
-    third = λ j h. numbers-beyond f numbers n j h;
-  })
+  spare-stays = subst (SpareStays n out1 out2 numbers) (sym written) (spare-kept f n out1 out2 numbers room1 room2 (fits .bytes))
 
   -- THE COUNT is of the numbers that are not 0
   pub count-is : convertedRun (answer rows) from to js ks out1 out2 numbers .answer ≡ answer (notZeroIn n (convertedRun (answer rows) from to js ks out1 out2 numbers .numbers))
-  unfolding runWritten
-  count-is = subst (λ (c : RunCall). c .answer ≡ answer (notZeroIn n (c .numbers))) (sym written) (ap answer (counted f numbers n n (omega arith) (fits .bytes)))
+  count-is = subst (λ (c : RunCall). c .answer ≡ answer (notZeroIn n (c .numbers))) (sym written) (count-written f n out1 out2 numbers room1 room2 (fits .bytes))
 
   -- EVERY DEAD STAMP is refused, by 6 where the first call reads the leap table and else by 9
   pub dead-stamp-refused : (i : ℕ) → DeadStamp js ks i → f i ≡ refusal (deadNumber from to)
