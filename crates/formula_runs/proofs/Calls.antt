@@ -108,7 +108,7 @@ module _ (kind size1 size2 size3 room1 room2 room : ℕ) where
 
 -- ---- the call
 module _ (from to : ℕ) (js ks os out1 out2 numbers : List ℕ) (kind : ℕ) (days : Float) (is : IsFormula from to kind days) (number : ℕ)
-         (en : number ≡ kindRefusal kind (length js) (length ks) (length os) (length out1) (length out2) (length numbers)) where
+    (en : number ≡ kindRefusal kind (length js) (length ks) (length os) (length out1) (length out2) (length numbers)) where
   refusal-is : number ≡ formulaRefusal from to (length js) (length ks) (length os) (length out1) (length out2) (length numbers)
   refusal-is = en ∙ is .refuses (length js) (length ks) (length os) (length out1) (length out2) (length numbers)
 

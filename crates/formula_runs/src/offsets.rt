@@ -49,7 +49,15 @@ fn shift_stamp(
         return dead_number(jd1s, jd2s, i);
     }
     let days = f64::from_bits(c) / constants::SECONDS_PER_DAY_F64;
-    change_stamp(pairs::SHIFT, turned(earlier, days), jd1s, jd2s, i, out1, out2)
+    change_stamp(
+        pairs::SHIFT,
+        turned(earlier, days),
+        jd1s,
+        jd2s,
+        i,
+        out1,
+        out2,
+    )
 }
 
 // Moves n stamps by their offsets, and says how many are refused.

@@ -93,6 +93,6 @@ unfolding formulaRun runBy
 short-run rows from to h js ks os out1 out2 numbers none =
     let s : Short from to = short from to h in
     let number : formulaRefusal from to (length js) (length ks) (length os) (length out1) (length out2) (length numbers) ≡ runRefusal from to (length js) (length ks) (length out1) (length out2) (length numbers)
-            = ap (λ (n : ℕ). formulaRefusal from to (length js) (length ks) n (length out1) (length out2) (length numbers)) none ∙ short-refusal from to s (length js) (length ks) (length out1) (length out2) (length numbers) in
+    = ap (λ (n : ℕ). formulaRefusal from to (length js) (length ks) n (length out1) (length out2) (length numbers)) none ∙ short-refusal from to s (length js) (length ks) (length out1) (length out2) (length numbers) in
     let answers : formulaAnswer from to js ks os ≡ stampAnswer rows from to js ks = λ k i. short-way from to s rows (ofBits binary64 (u64At os (8 * i))) (stampOf js ks i) k in
     λ k. cond (eqb (number k) 0) (runWritten (answers k) (length js / 8) out1 out2 numbers) (runCall (refusal (number k)) out1 out2 numbers)

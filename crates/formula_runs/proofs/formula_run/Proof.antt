@@ -12,7 +12,7 @@ formula-refusal-requires : tie.Need-formula-refusal-requires
 formula-refusal-requires c κs = search needs
 
 returns : tie.Need-returns
-returns c = 
+returns c =
     let a = c .before .before .before .before .before .before .before .before .before .args in
     let f = c .before .before .formula-of in
     let q = c .before .formula-refusal in
@@ -22,7 +22,7 @@ takes-offsets-requires : tie.Need-takes-offsets-requires
 takes-offsets-requires c κs = search needs
 
 shift-all-requires : tie.Need-shift-all-requires
-shift-all-requires c κs = 
+shift-all-requires c κs =
     let a = c .before .before .before .before .before .before .before .before .before .before .before .before .before .before .before .args in
     let f = c .before .before .before .before .before .before .before .before .formula-of in
     let q = c .before .before .before .before .before .before .before .formula-refusal in
@@ -38,14 +38,14 @@ same-length-3 : tie.Need-same-length-3
 same-length-3 c = search needs
 
 returns-2 : tie.Need-returns-2
-returns-2 c = 
+returns-2 c =
     let a = c .before .before .before .before .before .before .before .before .before .before .before .before .before .before .before .before .before .before .before .before .before .before .args in
     let f = c .before .before .before .before .before .before .before .before .before .before .before .before .before .before .before .formula-of in
     let q = c .before .before .before .before .before .before .before .before .before .before .before .before .before .before .formula-refusal in
     ends-by-offsets (a .from) (a .to) (a .jd1s .now) (a .jd2s .now) (a .offsets .now) (a .out1 .now) (a .out2 .now) (a .numbers .now) (f .result .kind) (f .result .days) (f .ensures) (q .result) (q .ensures) (c .before .before .before .before .before .before .before .before .before .before .before .before .before .if1 .left) _ (sym (c .before .before .before .before .before .before .before .before .before .before .before .before .takes-offsets .ensures) ∙ c .before .before .before .before .before .before .before .before .before .before .before .if2 .taken) refl _ _ _ _ (c .before .before .before .before .before .before .shift-all .ensures)
 
 change-all-requires : tie.Need-change-all-requires
-change-all-requires c κs = 
+change-all-requires c κs =
     let a = c .before .before .before .before .before .before .before .before .before .before .before .before .before .before .args in
     let f = c .before .before .before .before .before .before .before .formula-of in
     let q = c .before .before .before .before .before .before .formula-refusal in
@@ -61,7 +61,7 @@ same-length-6 : tie.Need-same-length-6
 same-length-6 c = search needs
 
 returns-3 : tie.Need-returns-3
-returns-3 c = 
+returns-3 c =
     let a = c .before .before .before .before .before .before .before .before .before .before .before .before .before .before .before .before .before .before .before .before .before .args in
     let f = c .before .before .before .before .before .before .before .before .before .before .before .before .before .before .formula-of in
     let q = c .before .before .before .before .before .before .before .before .before .before .before .before .before .formula-refusal in

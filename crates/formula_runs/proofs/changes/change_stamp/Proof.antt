@@ -23,7 +23,7 @@ is-number-requires : tie.Need-is-number-requires
 is-number-requires c κs = search needs
 
 returns : tie.Need-returns
-returns c = 
+returns c =
     let a = c .before .before .before .before .before .before .before .before .before .before .args in
     put-refused _ 9 (a .i) _ (a .out1 .now) (a .out2 .now) (dead-first (changeOf (a .kind) (a .days)) (a .jd1s .now) (a .jd2s .now) (a .i) _ _ (c .before .before .before .before .before .pattern-at .ensures) (c .before .before .before .before .pattern-at2 .ensures) (sym (c .before .is-number .ensures) ∙ not-true _ (c .if2 .taken))) refl
 
@@ -58,7 +58,7 @@ same-length-2 : tie.Need-same-length-2
 same-length-2 c = search needs
 
 returns-2 : tie.Need-returns-2
-returns-2 c = 
+returns-2 c =
     let a = c .before .before .before .before .before .before .before .before .before .before .before .before .before .before .before .before .before .before .before .before .args in
     let fa = sym (c .before .before .before .before .before .before .before .before .before .before .before .is-number .ensures) ∙ not-false _ (c .before .before .before .before .before .before .before .before .before .before .if2 .left) in
     let fb = smaller-second (c .before .before .before .before .before .before .before .before .before .before .before .before .before .before .before .pattern-at .result) (c .before .before .before .before .before .before .before .before .before .before .before .before .before .before .pattern-at2 .result) (sym (c .before .before .before .before .before .before .before .before .before .before .before .before .before .is-larger .ensures) ∙ (c .before .before .before .before .before .before .before .before .before .before .before .before .if1 .taken)) fa in
@@ -72,7 +72,7 @@ is-number-requires-2 : tie.Need-is-number-requires-2
 is-number-requires-2 c κs = search needs
 
 returns-3 : tie.Need-returns-3
-returns-3 c = 
+returns-3 c =
     let a = c .before .before .before .before .before .before .before .before .before .before .args in
     put-refused _ 9 (a .i) _ (a .out1 .now) (a .out2 .now) (dead-either (changeOf (a .kind) (a .days)) (a .jd1s .now) (a .jd2s .now) (a .i) _ _ (c .before .before .before .before .before .pattern-at .ensures) (c .before .before .before .before .pattern-at2 .ensures) (sym (c .before .is-number2 .ensures) ∙ not-true _ (c .if3 .taken))) refl
 
@@ -107,7 +107,7 @@ same-length-4 : tie.Need-same-length-4
 same-length-4 c = search needs
 
 returns-4 : tie.Need-returns-4
-returns-4 c = 
+returns-4 c =
     let a = c .before .before .before .before .before .before .before .before .before .before .before .before .before .before .before .before .before .before .before .before .args in
     let fb = sym (c .before .before .before .before .before .before .before .before .before .before .before .is-number2 .ensures) ∙ not-false _ (c .before .before .before .before .before .before .before .before .before .before .if3 .left) in
     let fa = smaller-first (c .before .before .before .before .before .before .before .before .before .before .before .before .before .before .before .pattern-at .result) (c .before .before .before .before .before .before .before .before .before .before .before .before .before .before .pattern-at2 .result) (sym (c .before .before .before .before .before .before .before .before .before .before .before .before .before .is-larger .ensures) ∙ (c .before .before .before .before .before .before .before .before .before .before .before .before .if1 .left)) fb in

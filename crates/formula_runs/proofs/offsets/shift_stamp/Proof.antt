@@ -21,7 +21,7 @@ dead-number-requires : tie.Need-dead-number-requires
 dead-number-requires c κs = search needs
 
 returns : tie.Need-returns
-returns c = 
+returns c =
     let a = c .before .before .before .before .before .before .before .before .before .args in
     put-refused _ _ (a .i) _ (a .out1 .now) (a .out2 .now) (offset-dead (a .earlier) (a .jd1s .now) (a .jd2s .now) (a .offsets .now) (a .i) _ (c .before .before .before .pattern-at .ensures) (sym (c .before .before .is-number .ensures) ∙ not-true _ (c .before .if1 .taken))) (c .dead-number .ensures ∙ dead-small (a .earlier) (a .jd1s .now) (a .jd2s .now) (a .offsets .now) (a .i))
 
@@ -42,7 +42,7 @@ same-length-2 c = search needs
 
 returns-2 : tie.Need-returns-2
 unfolding daysOf
-returns-2 c = 
+returns-2 c =
     let a = c .before .before .before .before .before .before .before .before .before .before .before .before .before .before .before .before .args in
     put-same (offset-moves (a .earlier) (a .jd1s .now) (a .jd2s .now) (a .offsets .now) (a .i) _ _ (c .before .before .before .before .before .before .before .before .before .before .pattern-at .ensures) (sym (c .before .before .before .before .before .before .before .before .before .is-number .ensures) ∙ not-false _ (c .before .before .before .before .before .before .before .before .if1 .left)) (c .before .before .before .before .before .before .before .turned .ensures ∙ ap (λ (z : Float). cond (a .earlier) (neg (div binary64 (ofBits binary64 (c .before .before .before .before .before .before .before .before .before .before .pattern-at .result)) z)) (div binary64 (ofBits binary64 (c .before .before .before .before .before .before .before .before .before .before .pattern-at .result)) z)) seconds-per-day)) (c .before .before .before .before .change-stamp .ensures)
 
