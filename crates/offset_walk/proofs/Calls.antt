@@ -10,11 +10,11 @@ use lib.Ieee.{Float}
 use borrow.Author.Tests.{le-leb, lt-leb, leb-true}
 use Rattle.refusals.specs.Outcome.{Outcome, answer, refusal, onward}
 use Rattle.refusals.proofs.Onward.{came, went, stopped}
-use Rattle.tai_utc.specs.Table.{Row, starts, rising}
-use Rattle.tai_utc.specs.Lent.{rowsOf, tableOf, unlessRefused}
-use Rattle.tai_utc.specs.declared.LentRows.{LentRows}
-use Rattle.tai_utc.proofs.TablesTaken.{turned-away, taken, when-taken}
-use Rattle.tai_utc.proofs.TableLaws.{table-rises}
+use Rattle.lent_rows.specs.Table.{Row, starts, rising}
+use Rattle.lent_rows.specs.Lent.{rowsOf, tableOf, unlessRefused}
+use Rattle.lent_rows.specs.declared.LentRows.{LentRows}
+use Rattle.lent_rows.proofs.TablesTaken.{turned-away, taken, when-taken}
+use Rattle.lent_rows.proofs.TableLaws.{table-rises}
 use Rattle.offset_walk.specs.declared.Triple.{Triple}
 use Rattle.offset_walk.specs.declared.WalkAnswer.the-variants.{Compared, Refused}
 use Rattle.offset_walk.specs.Rows.{compared}

@@ -13,7 +13,7 @@ use borrow.Author.Tests.{ltb-false, le-ltb}
 use Rattle.refusals.specs.Outcome.{Outcome, answer, refusal, onward}
 use Rattle.refusals.proofs.Onward.{came}
 use Rattle.calendar.proofs.Accepted.{Accepted, date-accepted}
-use Rattle.tai_utc.specs.Table.{monthNumber, monthOf}
+use Rattle.lent_rows.specs.Table.{monthNumber, monthOf}
 use Rattle.offset_walk.specs.declared.Triple.{Triple}
 use Rattle.offset_walk.specs.Judging.{byFirst, earlier, validTriple, judgedNext, judgedAfter, judgedAll}
 use Rattle.offset_walk.specs.Walk.{monthIn}

@@ -17,7 +17,7 @@ use Rattle.calendar.specs.Refusals.{validDate}
 use Rattle.calendar.proofs.Months.{months}
 use Rattle.calendar.proofs.Signs.{at-least-one}
 use Rattle.calendar.proofs.Accepted.{Accepted, date-accepted, month-days}
-use Rattle.tai_utc.specs.Lent.{unlessRefused}
+use Rattle.lent_rows.specs.Lent.{unlessRefused}
 use Rattle.offset_walk.specs.declared.Triple.{Triple}
 use Rattle.offset_walk.specs.Judging.{triple, earlier, validTriple, judgedNext, judgedAfter, judgedAll}
 use Rattle.offset_walk.specs.Lists.{datesFrom}

@@ -7,7 +7,7 @@ use Rattle.refusals.specs.Outcome.{Outcome, answer}
 use Rattle.floats.specs.Whole.{nought}
 use Rattle.calendar.specs.DayCount.{mjdNumber}
 use Rattle.calendar.proofs.Mjd.{mjd-given}
-use Rattle.tai_utc.specs.Table.{Row}
+use Rattle.lent_rows.specs.Table.{Row}
 use Rattle.tai_utc.specs.Offset.{taiUtcOffset}
 use Rattle.tai_utc.proofs.Offsets.{in-day-zero, offset-given}
 use Rattle.offset_walk.specs.declared.Triple.{Triple}

@@ -11,7 +11,7 @@ use lib.ListN.{length, getD, drop, length-map}
 use lib.Ieee.{Float, binary64, ofInt}
 use Rattle.floats.specs.Whole.{nought}
 use Rattle.calendar.specs.DayCount.{mjdNumber}
-use Rattle.tai_utc.specs.Table.{Row, starts, reached, rising}
+use Rattle.lent_rows.specs.Table.{Row, starts, reached, rising}
 use Rattle.tai_utc.specs.Offset.{offsetBy, offsetAt}
 use Rattle.tai_utc.specs.Forward.{never, byTerms}
 use Rattle.offset_walk.specs.declared.Triple.{Triple}

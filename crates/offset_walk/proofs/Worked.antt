@@ -5,7 +5,7 @@ use mathlib.Core.Bool.{true, false}
 use mathlib.Core.List.{[], _∷_}
 use lib.IntN.{pos}
 use Rattle.refusals.specs.Outcome.{answer, refusal, onward}
-use Rattle.tai_utc.specs.Table.{fixed, monthNumber}
+use Rattle.lent_rows.specs.Table.{fixed, monthNumber}
 use Rattle.calendar.specs.Calendar.{leapSize, lengths, daysInMonth}
 use Rattle.calendar.specs.Refusals.{validDate}
 use Rattle.offset_walk.specs.declared.Triple.{Triple}

@@ -9,7 +9,7 @@ use lib.ListN.{length, getD}
 use lib.Ieee.{Float, binary64, toBits}
 use Rattle.refusals.specs.Outcome.{Outcome}
 use Rattle.little_endian.specs.LittleEndian.{eightBytes, i32At}
-use Rattle.tai_utc.specs.Table.{Row}
+use Rattle.lent_rows.specs.Table.{Row}
 use Rattle.offset_walk.specs.declared.Triple.{Triple}
 use Rattle.offset_walk.specs.Judging.{triple}
 use Rattle.offset_walk.specs.Walk.{Walked, walkOf}

@@ -8,8 +8,8 @@ ghost use lib.Seq.{sets};
 ghost use lib.Ieee.{binary64, toBits};
 ghost use Rattle.refusals.specs.Outcome.{onward};
 ghost use Rattle.little_endian.specs.LittleEndian.{eightBytes};
-ghost use Rattle.tai_utc.specs.Table.{starts, rising};
-ghost use Rattle.tai_utc.specs.Lent.{rowsOf, tableOf, unlessRefused};
+ghost use Rattle.lent_rows.specs.Table.{starts, rising};
+ghost use Rattle.lent_rows.specs.Lent.{rowsOf, tableOf, unlessRefused};
 ghost use Rattle.offset_walk.specs.Rows.{compared};
 ghost use Rattle.offset_walk.specs.Judging.{judgedAll};
 ghost use Rattle.offset_walk.specs.Walk.{monthIn, tripleOffset, walked};
@@ -18,7 +18,7 @@ ghost use Rattle.offset_walk.specs.Call.{WalkCall};
 ghost use Rattle.offset_walk.specs.Asked.{GoodDates};
 use super::Triple;
 use super::WalkAnswer;
-use tai_utc::LentRows;
+use lent_rows::LentRows;
 
 // Date i of a list that has it. Read from a part of twelve bytes, its numbers need no test of the length.
 fn triple_in(dates: &[u8], i: usize) -> Triple
@@ -91,7 +91,7 @@ fn walk_all(dates: &[u8], n: usize, table: LentRows, out: &mut [u8]) -> u64
 fn refused_by(dates: &[u8], table: LentRows, room: usize) -> u32
     ensures { λ r. ⌜ unlessRefused r (walked (rowsOf table) (datesFrom (tripleIn (now (dates .entry))) 0 (length (now (dates .entry)) / 12))) ≡ onward (tableOf table) (λ rows. walkOfBytes rows (now (dates .entry)) room) ⌝ }
 {
-    let number = tai_utc::table_refusal(table);
+    let number = lent_rows::table_refusal(table);
     if number != 0 {
         return number;
     }

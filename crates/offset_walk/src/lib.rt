@@ -9,8 +9,8 @@ ghost use lib.Ieee.{binary64, ofInt};
 ghost use Rattle.refusals.specs.Outcome.{answer, onward};
 ghost use Rattle.floats.specs.Whole.{nought};
 ghost use Rattle.calendar.specs.DayCount.{mjdNumber};
-ghost use Rattle.tai_utc.specs.Table.{starts};
-ghost use Rattle.tai_utc.specs.Lent.{rowsOf, tableOf, unlessRefused};
+ghost use Rattle.lent_rows.specs.Table.{starts, rising};
+ghost use Rattle.lent_rows.specs.Lent.{rowsOf, tableOf, unlessRefused};
 ghost use Rattle.tai_utc.specs.Forward.{byTerms};
 ghost use Rattle.offset_walk.specs.Rows.{compared};
 ghost use Rattle.offset_walk.specs.Judging.{earlier, validTriple, judgedNext, judgedAll};
@@ -18,13 +18,12 @@ ghost use Rattle.offset_walk.specs.Walk.{monthIn, tripleOffset, walked};
 ghost use Rattle.offset_walk.specs.Lists.{datesFrom, tripleAt, walkOfNumbers};
 ghost use Rattle.offset_walk.specs.Call.{asFloats, WalkCall};
 ghost use Rattle.offset_walk.specs.Asked.{Standing, AtStart, Stepped, CountsNext, GoodDates};
-ghost use Rattle.tai_utc.specs.Table.{rising};
 ghost use lib.Dec.{T};
 
 mod bytes;
 
 pub use bytes::offsets_at_0h_bytes;
-use tai_utc::LentRows;
+use lent_rows::LentRows;
 use tai_utc::walk_rows::RowTerms;
 
 // A year, month and day, a date or not.
@@ -246,7 +245,7 @@ fn walk_all(dates: &[i32], n: usize, table: LentRows, out: &mut [f64]) -> u64
 fn refused_by(dates: &[i32], table: LentRows, places: usize) -> u32
     ensures { λ r. ⌜ unlessRefused r (walked (rowsOf table) (datesFrom (tripleAt (now (dates .entry))) 0 (length (now (dates .entry)) / 3))) ≡ onward (tableOf table) (λ rows. walkOfNumbers rows (now (dates .entry)) places) ⌝ }
 {
-    let number = tai_utc::table_refusal(table);
+    let number = lent_rows::table_refusal(table);
     if number != 0 {
         return number;
     }

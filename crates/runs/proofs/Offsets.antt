@@ -18,7 +18,7 @@ use Rattle.refusals.specs.Outcome.{Outcome, answer, refusal, onward}
 use Rattle.julian.specs.declared.JulianDate.{JulianDate}
 use Rattle.julian.specs.JulianDate.{julian}
 use Rattle.little_endian.specs.LittleEndian.{u64At}
-use Rattle.tai_utc.specs.Table.{Row}
+use Rattle.lent_rows.specs.Table.{Row}
 use Rattle.shifts.specs.SmallerPart.{firstIsLarger}
 use Rattle.shifts.specs.Shifts.{plus, minus, converted}
 use Rattle.shifts.proofs.Outcomes.{first, and-left, and-right}

@@ -8,7 +8,7 @@ use lib.ListN.{length}
 use lib.Ieee.{Float}
 use Rattle.refusals.specs.Outcome.{Outcome}
 use Rattle.julian.specs.declared.JulianDate.{JulianDate}
-use Rattle.tai_utc.specs.Table.{Row}
+use Rattle.lent_rows.specs.Table.{Row}
 use Rattle.shifts.specs.Shifts.{plus, converted}
 use Rattle.line_up.specs.LineUp.{stampOf}
 use Rattle.scale_ways.specs.Ways.{wayOf}

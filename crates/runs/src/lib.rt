@@ -10,14 +10,14 @@ ghost use lib.Seq.{sets};
 ghost use lib.Ieee.{binary64, toBits};
 ghost use Rattle.little_endian.specs.LittleEndian.{u64At, eightBytes};
 ghost use Rattle.julian.specs.JulianDate.{julianOutcome};
-ghost use Rattle.tai_utc.specs.Lent.{rowsIn, tableOf};
+ghost use Rattle.lent_rows.specs.Lent.{rowsIn, tableOf};
 ghost use Rattle.line_up.specs.LineUp.{stampOf};
 ghost use Rattle.scale_ways.specs.Ways.{isRunScale};
 ghost use Rattle.runs.specs.Run.{stampAnswer, runOutcome, runRefusal, runCall, runBy, convertedRun};
 ghost use Rattle.runs.specs.Asked.{Roomy, HasPlace, StampPut, RunPut};
 use julian::JulianAnswer;
 use julian::JulianDate;
-use tai_utc::LentRows;
+use lent_rows::LentRows;
 
 // How many stamps are refused, or the number of the refusal of the whole run.
 pub enum RunAnswer {
@@ -274,7 +274,7 @@ pub fn convert_run(
 ) -> RunAnswer
     ensures { λ r. ⌜ runCall (runOutcome r) (now (out1 .exit)) (now (out2 .exit)) (now (numbers .exit)) ≡ convertedRun (tableOf table) from to (now (jd1s .entry)) (now (jd2s .entry)) (now (out1 .entry)) (now (out2 .entry)) (now (numbers .entry)) ⌝ }
 {
-    let number = tai_utc::table_refusal(table);
+    let number = lent_rows::table_refusal(table);
     if number != 0 {
         return RunAnswer::Refused(number);
     }
@@ -283,7 +283,7 @@ pub fn convert_run(
         to,
         jd1s,
         jd2s,
-        tai_utc::size_of(table),
+        lent_rows::size_of(table),
         &table.months,
         &table.seconds,
         out1,

@@ -1,6 +1,6 @@
 -- `runs::convert_by` meets its contract: a fixed offset is the way between its two scales. Assumes nothing.
 use mathlib.Core.Path.{sym, _∙_}
-use Rattle.tai_utc.specs.Lent.{rowsIn}
+use Rattle.lent_rows.specs.Lent.{rowsIn}
 use Rattle.line_up.specs.LineUp.{stampOf}
 use Rattle.runs.proofs.Puts.{run-same}
 use borrow.Author.Needs.{needs}

@@ -1,5 +1,5 @@
 -- `runs::convert_run_by_lent` meets its contract. Assumes nothing.
-use Rattle.tai_utc.specs.Lent.{rowsIn}
+use Rattle.lent_rows.specs.Lent.{rowsIn}
 use Rattle.runs.proofs.Calls.{run-refused, roomy, run-ends}
 use borrow.Author.Needs.{needs}
 use Rattle.runs.proofs.convert_run_by_lent.Statement.{statement}

@@ -4,7 +4,7 @@ use native.Mathlib.Omega.{arith}
 use mathlib.Core.Path.{_≡_, refl, sym, ap, _∙_}
 use lib.Dec.{eqb}
 use lib.ListN.{length}
-use Rattle.tai_utc.specs.Lent.{rowsOf}
+use Rattle.lent_rows.specs.Lent.{rowsOf}
 use Rattle.offset_walk.specs.Walk.{tripleOffset}
 use Rattle.offset_walk.specs.Lists.{datesFrom, tripleIn, inEights}
 use Rattle.offset_walk.proofs.Goods.{all-good, how-many}

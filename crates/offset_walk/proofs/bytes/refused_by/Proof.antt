@@ -6,7 +6,7 @@ use mathlib.Core.Bool.{Bool, true, false}
 use lib.Dec.{eqb}
 use lib.ListN.{length}
 use borrow.Author.Tests.{eq-eqb, ne-eqb}
-use Rattle.tai_utc.specs.Lent.{rowsOf}
+use Rattle.lent_rows.specs.Lent.{rowsOf}
 use Rattle.offset_walk.specs.Walk.{walkOf, walked}
 use Rattle.offset_walk.specs.Lists.{datesFrom, tripleIn}
 use Rattle.offset_walk.proofs.Goods.{how-many}
