@@ -10,8 +10,8 @@ use Rattle.calendar.proofs.Mjd.{mjd-given}
 use Rattle.lent_rows.specs.Table.{Row}
 use Rattle.tai_utc.specs.Offset.{taiUtcOffset}
 use Rattle.tai_utc.proofs.Offsets.{in-day-zero, offset-given}
-use Rattle.offset_walk.specs.declared.Triple.{Triple}
-use Rattle.offset_walk.specs.Judging.{validTriple}
+use Rattle.date_judging.specs.declared.Triple.{Triple}
+use Rattle.date_judging.specs.Judging.{validTriple}
 use Rattle.offset_walk.specs.Walk.{tripleOffset}
 
 -- EACH OFFSET is the one that the look-up gives for its date

@@ -12,9 +12,9 @@ use Rattle.floats.specs.Whole.{nought}
 use Rattle.calendar.specs.DayCount.{mjdNumber}
 use Rattle.lent_rows.specs.Table.{Row, starts, monthNumber}
 use Rattle.tai_utc.specs.Offset.{offsetAt}
-use Rattle.offset_walk.specs.declared.Triple.{Triple}
+use Rattle.date_judging.specs.declared.Triple.{Triple}
 use Rattle.offset_walk.specs.Rows.{compared}
-use Rattle.offset_walk.specs.Judging.{judgedAll}
+use Rattle.date_judging.specs.Judging.{judgedAll}
 
 -- the number of a date's month
 abbrev pub monthIn : Triple → ℕ

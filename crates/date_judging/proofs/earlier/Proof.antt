@@ -1,8 +1,8 @@
--- `offset_walk::earlier` meets its contract. Assumes nothing.
+-- `date_judging::earlier` meets its contract. Assumes nothing.
 use mathlib.Core.Path.{_≡_, refl}
-use Rattle.offset_walk.proofs.Judges.{lt-read, year-earlier, year-later, month-earlier, month-later, by-day}
-use Rattle.offset_walk.proofs.earlier.Statement.{statement}
-use Rattle.offset_walk.proofs.earlier.Tie as tie
+use Rattle.date_judging.proofs.Judges.{lt-read, year-earlier, year-later, month-earlier, month-later, by-day}
+use Rattle.date_judging.proofs.earlier.Statement.{statement}
+use Rattle.date_judging.proofs.earlier.Tie as tie
 
 returns : tie.Need-returns
 returns c =

@@ -1,4 +1,4 @@
--- `offset_walk::in_every_month` meets its contract: each month has 28 days. Assumes nothing.
+-- `date_judging::in_every_month` meets its contract: each month has 28 days. Assumes nothing.
 use mathlib.Core.Path.{_≡_, sym, ap, _∙_}
 use mathlib.Core.Bool.{true≢false}
 use lib.IntN.{ℤ, pos, negsuc}
@@ -6,9 +6,9 @@ use lib.Signed.{leZ}
 use mir.Syntax.{w32}
 use mir.Facts.{toZ-ofZ}
 use Rattle.calendar.proofs.Signs.{lt-left, lt-right}
-use Rattle.offset_walk.proofs.Judges.{every-month}
-use Rattle.offset_walk.proofs.in_every_month.Statement.{statement}
-use Rattle.offset_walk.proofs.in_every_month.Tie as tie
+use Rattle.date_judging.proofs.Judges.{every-month}
+use Rattle.date_judging.proofs.in_every_month.Statement.{statement}
+use Rattle.date_judging.proofs.in_every_month.Tie as tie
 
 returns : tie.Need-returns
 returns c e = absurd (true≢false (sym e))

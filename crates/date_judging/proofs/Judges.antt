@@ -7,6 +7,7 @@ use mathlib.Core.Bool.{Bool, true, false, cond, _||_}
 use mathlib.Core.List.{List, [], _∷_}
 use lib.IntN.{ℤ, pos, negsuc, natAbs}
 use lib.Signed.{ltZ, leZ}
+use lib.ListN.{length}
 use mir.Syntax.{w32}
 use mir.Val.{SFits, toZ, ofZ}
 use mir.Facts.{toZ-ofZ}
@@ -18,9 +19,9 @@ use Rattle.calendar.proofs.Months.{months}
 use Rattle.calendar.proofs.Signs.{at-least-one}
 use Rattle.calendar.proofs.Accepted.{Accepted, date-accepted, month-days}
 use Rattle.lent_rows.specs.Lent.{unlessRefused}
-use Rattle.offset_walk.specs.declared.Triple.{Triple}
-use Rattle.offset_walk.specs.Judging.{triple, earlier, validTriple, judgedNext, judgedAfter, judgedAll}
-use Rattle.offset_walk.specs.Lists.{datesFrom}
+use Rattle.date_judging.specs.declared.Triple.{Triple}
+use Rattle.date_judging.specs.Judging.{triple, earlier, validTriple, judgedNext, judgedAfter, judgedAll}
+use Rattle.date_judging.specs.Lists.{datesFrom}
 
 -- ---- a test of two numbers, which the machine reads back from their bits
 pub lt-read : (x y : ℤ) (t : Bool) → SFits w32 x → SFits w32 y → ltZ (toZ w32 (ofZ w32 x)) (toZ w32 (ofZ w32 y)) ≡ t → ltZ x y ≡ t
@@ -125,6 +126,11 @@ pub first-of-all : (dates : List Triple) → judgedAll dates ≡ judgedAfter fir
 unfolding judgedAll judgedAfter
 first-of-all [] = refl
 first-of-all (t ∷ dates) = ap (λ (o : Outcome Unit). onward o (λ _. judgedAfter t dates)) (first-judged t)
+
+pub how-many : (f : ℕ → Triple) (k i : ℕ) → length (datesFrom f i k) ≡ k
+unfolding datesFrom
+how-many f zero i = refl
+how-many f (suc k) i = ap suc (how-many f k (suc i))
 
 module _ (f : ℕ → Triple) (n i : ℕ) where
   pub next-date : i < n → datesFrom f i (n - i) ≡ f i ∷ datesFrom f (i + 1) (n - (i + 1))

@@ -18,8 +18,8 @@ use Rattle.calendar.proofs.Days.{after, date-at-in-calendar}
 use Rattle.calendar.proofs.Years.{years-later, not-before}
 use Rattle.calendar.proofs.Signs.{sub-at}
 use Rattle.calendar.proofs.Mjd.{day-of-date}
-use Rattle.offset_walk.specs.declared.Triple.{Triple}
-use Rattle.offset_walk.specs.Judging.{byFirst, earlier, validTriple}
+use Rattle.date_judging.specs.declared.Triple.{Triple}
+use Rattle.date_judging.specs.Judging.{byFirst, earlier, validTriple}
 
 -- ---- a year from -4799 on, counted from there
 abbrev From : ℤ → Type 0

@@ -1,13 +1,13 @@
--- `offset_walk::own_number` meets its contract. Assumes nothing.
+-- `date_judging::own_number` meets its contract. Assumes nothing.
 use mathlib.Core.Path.{_≡_, sym}
 use lib.IntN.{ℤ}
 use mir.Syntax.{w32}
 use mir.Val.{SFits}
 use Rattle.calendar.proofs.Accepted.{is-valid, is-refused}
-use Rattle.offset_walk.proofs.Judges.{own-number}
+use Rattle.date_judging.proofs.Judges.{own-number}
 use borrow.Author.Needs.{needs}
-use Rattle.offset_walk.proofs.own_number.Statement.{statement}
-use Rattle.offset_walk.proofs.own_number.Tie as tie
+use Rattle.date_judging.proofs.own_number.Statement.{statement}
+use Rattle.date_judging.proofs.own_number.Tie as tie
 
 in-every-month-requires : tie.Need-in-every-month-requires
 in-every-month-requires c κs = search needs

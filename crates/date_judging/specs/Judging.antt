@@ -1,13 +1,15 @@
--- Which lists of dates are turned away, and by which number. Written from document 02, item 2: "date by date, a bad one by its own number, then 17 for one earlier than the
--- one before it". Assumes nothing.
+-- Which lists of dates are turned away, and by which number. Written from document 02, item 2: "14 for a broken triple, then 11 for fewer offset places than dates; then, date by
+-- date, a bad one by its own number, then 17 for one earlier than the one before it". Assumes nothing.
 use Prim.Native.Nat.{ℕ}
 use mathlib.Core.Bool.{Bool, true, false, cond}
 use mathlib.Core.List.{List, [], _∷_}
+use lib.Dec.{leb}
+use lib.ListN.{length}
 use lib.IntN.{ℤ}
 use lib.Signed.{ltZ}
 use Rattle.refusals.specs.Outcome.{Outcome, answer, refusal, onward}
 use Rattle.calendar.specs.Refusals.{validDate}
-use Rattle.offset_walk.specs.declared.Triple.{Triple}
+use Rattle.date_judging.specs.declared.Triple.{Triple}
 
 abbrev pub triple : ℤ → ℤ → ℤ → Triple
 triple y m d = record { year = y; month = m; day = d }
@@ -37,3 +39,7 @@ judgedAfter before (t ∷ dates) = onward (judgedNext before t) (λ _. judgedAft
 unfoldable pub judgedAll : List Triple → Outcome Unit
 judgedAll [] = answer tt
 judgedAll (t ∷ dates) = onward (validTriple t) (λ _. judgedAfter t dates)
+
+-- and before them the list as it is; `whole`: there is no broken triple
+unfoldable pub judgedList : Bool → List Triple → ℕ → Outcome Unit
+judgedList whole dates places = cond whole (cond (leb (length dates) places) (judgedAll dates) (refusal 11)) (refusal 14)

@@ -1,4 +1,4 @@
--- `offset_walk::refused_by` meets its contract. Assumes nothing.
+-- `date_judging::numbers_refusal` meets its contract. Assumes nothing.
 use Prim.Native.Nat.{_/_, _%_}
 use native.Mathlib.Omega.{arith}
 use mathlib.Core.Path.{_≡_, refl, sym, ap, subst, _∙_}
@@ -6,14 +6,13 @@ use mathlib.Core.Bool.{Bool, true, false}
 use lib.Dec.{eqb}
 use lib.ListN.{length}
 use borrow.Author.Tests.{eq-eqb, ne-eqb}
-use Rattle.lent_rows.specs.Lent.{rowsOf}
-use Rattle.offset_walk.specs.Walk.{walkOf, walked}
-use Rattle.offset_walk.specs.Lists.{datesFrom, tripleAt}
-use Rattle.offset_walk.proofs.Goods.{how-many}
-use Rattle.offset_walk.proofs.Calls.{broken, no-places, by-dates, table-away, table-taken}
+use Rattle.date_judging.specs.Judging.{judgedList}
+use Rattle.date_judging.specs.Lists.{datesFrom, tripleAt}
+use Rattle.date_judging.proofs.Judges.{how-many}
+use Rattle.date_judging.proofs.Refused.{broken, no-places, by-dates, table-away, table-taken}
 use borrow.Author.Needs.{needs}
-use Rattle.offset_walk.proofs.refused_by.Statement.{statement}
-use Rattle.offset_walk.proofs.refused_by.Tie as tie
+use Rattle.date_judging.proofs.numbers_refusal.Statement.{statement}
+use Rattle.date_judging.proofs.numbers_refusal.Tie as tie
 
 table-refusal-requires : tie.Need-table-refusal-requires
 table-refusal-requires c κs = search needs
@@ -33,7 +32,7 @@ returns-2 c =
     let l = s .dates .now in
     let d = datesFrom (tripleAt l) 0 (length l / 3) in
     table-taken (s .table) (eqb (length l % 3) 0) d (s .places) (r .table-refusal .result) (r .table-refusal .ensures) (i .if1 .left) _
-    (broken (rowsOf (s .table)) d (s .places) ∙ ap (λ (b : Bool). walkOf (rowsOf (s .table)) b d (s .places)) (sym (ne-eqb (length l % 3) 0 (c .if2 .taken))))
+    (broken d (s .places) ∙ ap (λ (b : Bool). judgedList b d (s .places)) (sym (ne-eqb (length l % 3) 0 (c .if2 .taken))))
 
 returns-3 : tie.Need-returns-3
 returns-3 c =
@@ -44,7 +43,7 @@ returns-3 c =
     let l = s .dates .now in
     let d = datesFrom (tripleAt l) 0 (length l / 3) in
     table-taken (s .table) (eqb (length l % 3) 0) d (s .places) (r .table-refusal .result) (r .table-refusal .ensures) (i .if1 .left) _
-    (no-places (rowsOf (s .table)) d (s .places) (length l / 3) (how-many (tripleAt l) (length l / 3) 0) (c .if3 .taken) ∙ ap (λ (b : Bool). walkOf (rowsOf (s .table)) b d (s .places)) (sym (eq-eqb (length l % 3) 0 (k .if2 .left))))
+    (no-places d (s .places) (length l / 3) (how-many (tripleAt l) (length l / 3) 0) (c .if3 .taken) ∙ ap (λ (b : Bool). judgedList b d (s .places)) (sym (eq-eqb (length l % 3) 0 (k .if2 .left))))
 
 judge-all-requires : tie.Need-judge-all-requires
 judge-all-requires c κs = search needs
@@ -59,8 +58,8 @@ returns-4 c =
     let l = s .dates .now in
     let d = datesFrom (tripleAt l) 0 (length l / 3) in
     table-taken (s .table) (eqb (length l % 3) 0) d (s .places) (r .table-refusal .result) (r .table-refusal .ensures) (i .if1 .left) _
-    (by-dates (rowsOf (s .table)) d (s .places) (length l / 3) (how-many (tripleAt l) (length l / 3) 0) (q .if3 .left) (c .judge-all .result) (c .judge-all .ensures) ∙ ap (λ (b : Bool). walkOf (rowsOf (s .table)) b d (s .places)) (sym (eq-eqb (length l % 3) 0 (k .if2 .left))))
+    (by-dates d (s .places) (length l / 3) (how-many (tripleAt l) (length l / 3) 0) (q .if3 .left) (c .judge-all .result) (c .judge-all .ensures) ∙ ap (λ (b : Bool). judgedList b d (s .places)) (sym (eq-eqb (length l % 3) 0 (k .if2 .left))))
 
-pub refused-by-spec : {M : Type 1} → statement M
-refused-by-spec =
+pub numbers-refusal-spec : {M : Type 1} → statement M
+numbers-refusal-spec =
     tie.close (tie.spec table-refusal-requires returns returns-2 returns-3 judge-all-requires returns-4)

@@ -1,13 +1,13 @@
--- `offset_walk::judge_all` meets its contract. The loop's invariant: what is left to judge is the dates from i on, after `before`. Assumes nothing.
+-- `date_judging::judge_all` meets its contract. The loop's invariant: what is left to judge is the dates from i on, after `before`. Assumes nothing.
 use Prim.Native.Nat.{_-_, _≤_}
 use native.Mathlib.Omega.{arith}
 use mathlib.Core.Path.{_≡_, sym, _∙_}
-use Rattle.offset_walk.specs.Judging.{judgedAll, judgedAfter}
-use Rattle.offset_walk.specs.Lists.{datesFrom, tripleAt}
-use Rattle.offset_walk.proofs.Judges.{firstDate, judging-starts, judging-stops, judging-goes, judging-ends}
+use Rattle.date_judging.specs.Judging.{judgedAll, judgedAfter}
+use Rattle.date_judging.specs.Lists.{datesFrom, tripleAt}
+use Rattle.date_judging.proofs.Judges.{firstDate, judging-starts, judging-stops, judging-goes, judging-ends}
 use borrow.Author.Needs.{needs}
-use Rattle.offset_walk.proofs.judge_all.Statement.{statement}
-use Rattle.offset_walk.proofs.judge_all.Tie as tie
+use Rattle.date_judging.proofs.judge_all.Statement.{statement}
+use Rattle.date_judging.proofs.judge_all.Tie as tie
 
 abbrev Inv-loop : tie.InvT-loop
 Inv-loop dates n before₀ i₀ before i = (i ≤ n) × (judgedAll (datesFrom (tripleAt dates) 0 n) ≡ judgedAfter before (datesFrom (tripleAt dates) i (n - i)))

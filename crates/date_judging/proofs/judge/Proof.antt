@@ -1,10 +1,10 @@
--- `offset_walk::judge` meets its contract. Assumes nothing.
+-- `date_judging::judge` meets its contract. Assumes nothing.
 use mathlib.Core.Path.{_≡_, sym, _∙_}
 use mathlib.Core.Bool.{true, false}
-use Rattle.offset_walk.proofs.Judges.{judged-bad, judged-order}
+use Rattle.date_judging.proofs.Judges.{judged-bad, judged-order}
 use borrow.Author.Needs.{needs}
-use Rattle.offset_walk.proofs.judge.Statement.{statement}
-use Rattle.offset_walk.proofs.judge.Tie as tie
+use Rattle.date_judging.proofs.judge.Statement.{statement}
+use Rattle.date_judging.proofs.judge.Tie as tie
 
 own-number-requires : tie.Need-own-number-requires
 own-number-requires c κs = search needs
