@@ -9,8 +9,8 @@ use mir.Syntax.{w64}
 use mir.Val.{toZ, ofZ}
 use Rattle.refusals.specs.Outcome.{Outcome, answer, refusal, onward}
 use Rattle.tai_utc.specs.declared.Rule.{Rule}
-use Rattle.tai_utc.specs.Table.{Row}
-use Rattle.tai_utc.specs.Lent.{unlessRefused}
+use Rattle.lent_rows.specs.Table.{Row}
+use Rattle.lent_rows.specs.Lent.{unlessRefused}
 use Rattle.lent_bytes.specs.TableBytes.{tableBytes}
 use Rattle.lent_bytes.proofs.Laws.{turned-away, gone-on}
 use Rattle.utc.specs.TextCall.{bufferHolds}

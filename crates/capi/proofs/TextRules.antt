@@ -16,7 +16,7 @@ use borrow.Author.Tests.{le-leb, lt-leb, leb-true}
 use Rattle.refusals.specs.Outcome.{Outcome, answer, refusal, onward}
 use Rattle.julian.specs.declared.JulianDate.{JulianDate}
 use Rattle.tai_utc.specs.declared.Rule.{Rule}
-use Rattle.tai_utc.specs.Table.{Row}
+use Rattle.lent_rows.specs.Table.{Row}
 use Rattle.tai_utc.specs.Rule.{withRule, forget}
 use Rattle.tai_utc.proofs.Rules.{ruleIn}
 use Rattle.utc_text.specs.Answer.{textWritten, bufferAfter}

@@ -10,8 +10,8 @@ use Rattle.floats.specs.Whole.{nought, half}
 use Rattle.calendar.specs.Calendar.{lengths, leapSize}
 use Rattle.calendar.specs.DayCount.{civilCount, mjdNumber}
 use Rattle.rounding.proofs.Quick.{qadd, qsub, qmul, qint}
-use Rattle.tai_utc.specs.Table.{Row, fixed, starts, reached}
-use Rattle.tai_utc.specs.Offset.{none, secondsOf, startOf, rateOf}
+use Rattle.lent_rows.specs.Table.{Row, fixed, starts, reached, none}
+use Rattle.tai_utc.specs.Offset.{secondsOf, startOf, rateOf}
 use Rattle.tai_utc.specs.Leap.{twoF}
 use Rattle.drift_days.specs.Small.{small}
 use Rattle.drift_days.proofs.Tests.{then, every, sameF}

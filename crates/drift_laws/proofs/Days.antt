@@ -20,7 +20,7 @@ use Rattle.calendar.proofs.Signs.{sub-at}
 use Rattle.calendar.proofs.Years.{years-later, validOf, gregorian-valid, gregorian-in-range, before-last}
 use Rattle.calendar.proofs.Mjd.{date-of-mjd, mjd-of-date, same-answer}
 use Rattle.calendar.proofs.NextDates.{by, first-false}
-use Rattle.tai_utc.specs.Table.{fixed, starts, reached, monthNumber, monthOf}
+use Rattle.lent_rows.specs.Table.{fixed, starts, reached, monthNumber, monthOf}
 use Rattle.tai_utc.specs.Offset.{taiUtcOffset, rowAt}
 use Rattle.tai_utc.specs.Leap.{offsets, dayOffsets}
 use Rattle.tai_utc.specs.declared.DayOffsets.{DayOffsets}

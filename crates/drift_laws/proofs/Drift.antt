@@ -21,7 +21,7 @@ use Rattle.day_order.proofs.Once.{again}
 use Rattle.julian.specs.declared.JulianDate.{JulianDate}
 use Rattle.julian.specs.JulianDate.{julian}
 use Rattle.julian.proofs.Midnights.{zero-point-val}
-use Rattle.tai_utc.specs.Table.{Row, fixed}
+use Rattle.lent_rows.specs.Table.{Row, fixed}
 use Rattle.tai_utc.specs.Leap.{offsets, driftRate, leapAmount}
 use Rattle.tai_utc.specs.declared.DayOffsets.{DayOffsets}
 use Rattle.rounding.specs.Picoseconds.{dayPs}

@@ -16,9 +16,9 @@ use Rattle.rounding.proofs.Value.{val-unique}
 use Rattle.calendar.specs.Calendar.{dateOf}
 use Rattle.calendar.proofs.Years.{date-of-in-calendar}
 use Rattle.day_number.proofs.Units.{H, H-L, half-L, nought-L}
-use Rattle.tai_utc.specs.Table.{Row, fixed, starts, reached, monthNumber, monthOf}
-use Rattle.tai_utc.specs.Offset.{none, rowAt}
-use Rattle.tai_utc.proofs.Rows.{at}
+use Rattle.lent_rows.specs.Table.{Row, fixed, starts, reached, monthNumber, monthOf, none}
+use Rattle.tai_utc.specs.Offset.{rowAt}
+use Rattle.lent_rows.proofs.Rows.{at}
 use Rattle.tai_utc.proofs.Years.{one-row, drift-rows}
 use Rattle.drift_days.proofs.Tests.{then, then-left, then-right}
 use Rattle.leap_days.specs.Formula.{NearFormula}

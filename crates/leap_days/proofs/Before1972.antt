@@ -17,7 +17,7 @@ use Rattle.calendar.specs.DayCount.{civilCount, mjdNumber}
 use Rattle.calendar.specs.declared.CalendarDate.{CalendarDate}
 use Rattle.calendar.proofs.Accepted.{Accepted, date-accepted, short}
 use Rattle.calendar.proofs.NextDates.{next-is}
-use Rattle.tai_utc.specs.Table.{Row, fixed, starts, reached, monthNumber, monthOf}
+use Rattle.lent_rows.specs.Table.{Row, fixed, starts, reached, monthNumber, monthOf}
 use Rattle.tai_utc.specs.Offset.{secondsOf, startOf, rateOf, byRow, offsetBy, offsetAt, rowAt}
 use Rattle.tai_utc.specs.Leap.{offsets, offsetsOfDay, leapOf, driftRate, leapAmount}
 use Rattle.tai_utc.specs.declared.DayOffsets.{DayOffsets}

@@ -6,10 +6,10 @@ use lib.Ieee.{Float}
 use Rattle.refusals.specs.Outcome.{answer, onward}
 use Rattle.calendar.specs.Calendar.{lengths, leapSize, daysInMonth, date, next}
 use Rattle.calendar.specs.Refusals.{validDate, nextOf}
-use Rattle.tai_utc.specs.Table.{fixed, monthNumber}
+use Rattle.lent_rows.specs.Table.{fixed, monthNumber}
 use Rattle.tai_utc.specs.Leap.{dayOffsets, leapOf, leapAtEndOfDay, leapAmount}
 use Rattle.tai_utc.specs.declared.DayOffsets.{DayOffsets}
-use Rattle.tai_utc.proofs.NoRows.{none-lent, fixed-taken}
+use Rattle.lent_rows.proofs.NoRows.{none-lent, fixed-taken}
 use Rattle.tai_utc.proofs.Days.{leap-given}
 use Rattle.time_of_day.specs.ExactTime.{leap1959}
 use Rattle.leap_days.specs.Leaps.{TableLeap}

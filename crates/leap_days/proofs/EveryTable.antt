@@ -8,14 +8,13 @@ use lib.ListN.{length, getD, length-map}
 use lib.Ieee.Bits.{is-true}
 use borrow.Author.Tests.{ltb-true}
 use Rattle.refusals.specs.Outcome.{answer}
-use Rattle.tai_utc.specs.declared.LentRows.{LentRows}
-use Rattle.tai_utc.specs.Table.{Row, starts}
-use Rattle.tai_utc.specs.Lent.{rowsTo, tableOf}
-use Rattle.tai_utc.specs.Offset.{none}
-use Rattle.tai_utc.proofs.InTurn.{in-turn-at}
-use Rattle.tai_utc.proofs.Tables.{fixed-place, lent-place, table-drifts}
-use Rattle.tai_utc.proofs.TablesTaken.{Taken, when-taken, all-count}
-use Rattle.tai_utc.proofs.TableLaws.{near, table-rises, lengths}
+use Rattle.lent_rows.specs.declared.LentRows.{LentRows}
+use Rattle.lent_rows.specs.Table.{Row, starts, none}
+use Rattle.lent_rows.specs.Lent.{rowsTo, tableOf}
+use Rattle.lent_rows.proofs.InTurn.{in-turn-at}
+use Rattle.lent_rows.proofs.Tables.{fixed-place, lent-place, table-drifts}
+use Rattle.lent_rows.proofs.TablesTaken.{Taken, when-taken, all-count}
+use Rattle.lent_rows.proofs.TableLaws.{near, table-rises, lengths}
 use Rattle.tai_utc.proofs.TableSeconds.{row-step, seconds-in-range, table-seconds, same-before-lent}
 use Rattle.leap_days.specs.Tables.{secondsOfRow, EveryTable}
 use Rattle.leap_days.proofs.TableLeaps.{starts-at, table-leap-on}

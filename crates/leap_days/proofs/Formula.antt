@@ -28,9 +28,9 @@ use Rattle.rounding.proofs.Range.{power-val}
 use Rattle.rounding.proofs.Compare.{le-val}
 use Rattle.rounding.proofs.Near.{rounds-near}
 use Rattle.rounding.proofs.About.{U, U-pos, L-U, unit, room, About, about-own, about-scale, about-add, about-sub, about-mul}
-use Rattle.tai_utc.specs.Table.{Row, fixed, starts, reached, monthOf, monthNumber}
-use Rattle.tai_utc.specs.Offset.{none, secondsOf, startOf, rateOf, offsetBy, offsetAt, inDay, taiUtcOffset, rowAt}
-use Rattle.tai_utc.proofs.Rows.{at}
+use Rattle.lent_rows.specs.Table.{Row, fixed, starts, reached, monthOf, monthNumber, none}
+use Rattle.tai_utc.specs.Offset.{secondsOf, startOf, rateOf, offsetBy, offsetAt, inDay, taiUtcOffset, rowAt}
+use Rattle.lent_rows.proofs.Rows.{at}
 use Rattle.tai_utc.proofs.At.{drifting}
 use Rattle.tai_utc.proofs.Years.{one-row, drift-rows}
 use Rattle.tai_utc.proofs.Offsets.{offset-came, offset-in-day}

@@ -9,11 +9,11 @@ use lib.IntN.{ℤ}
 use lib.Ieee.{Float, binary64, add, sub, mul, ofInt}
 use borrow.Author.Tests.{ltb-true, ltb-false, lt-ltb, le-ltb}
 use Rattle.rounding.proofs.Quick.{qadd, qsub, qmul, qint, add-is, sub-is, mul-is, int-is}
-use Rattle.tai_utc.specs.Table.{Row, fixed, starts, reached}
+use Rattle.lent_rows.specs.Table.{Row, fixed, starts, reached}
 use Rattle.tai_utc.specs.Offset.{secondsOf, startOf, rateOf, offsetAt, rowAt}
 use Rattle.tai_utc.specs.Leap.{twoF, offsets, leapOf, driftRate, leapAmount}
 use Rattle.tai_utc.specs.declared.DayOffsets.{DayOffsets}
-use Rattle.tai_utc.proofs.Rows.{drifts}
+use Rattle.lent_rows.proofs.Rows.{drifts}
 use Rattle.tai_utc.proofs.At.{drifting, steady}
 use Rattle.tai_utc.proofs.Years.{one-row, drift-rows, whole-rows, most-rows}
 use Rattle.drift_days.specs.Small.{small}

@@ -20,18 +20,18 @@ use Rattle.calendar.proofs.Accepted.{date-accepted}
 use Rattle.calendar.proofs.NextDates.{next-is}
 use Rattle.calendar.specs.declared.CalendarDate.{CalendarDate}
 use Rattle.calendar.specs.Refusals.{nextOf}
-use Rattle.tai_utc.specs.declared.LentRows.{LentRows}
-use Rattle.tai_utc.specs.Lent.{tableOf}
-use Rattle.tai_utc.specs.Table.{Row, fixed, starts, reached, monthNumber, monthOf}
+use Rattle.lent_rows.specs.declared.LentRows.{LentRows}
+use Rattle.lent_rows.specs.Lent.{tableOf}
+use Rattle.lent_rows.specs.Table.{Row, fixed, starts, reached, monthNumber, monthOf, none}
 use Rattle.tai_utc.specs.Leap.{offsetsOfDay, leapOf, leapAtEndOfDay}
-use Rattle.tai_utc.proofs.Reached.{member, month-later, member-later}
-use Rattle.tai_utc.proofs.Rows.{every, at, fixed-rises}
+use Rattle.lent_rows.proofs.Reached.{member, month-later, member-later}
+use Rattle.lent_rows.proofs.Rows.{every, at, fixed-rises}
 use Rattle.tai_utc.proofs.Years.{whole-rows, most-rows}
 use Rattle.tai_utc.proofs.Cases.{forty-two-rows}
-use Rattle.tai_utc.proofs.NoRows.{none-lent, fixed-taken}
+use Rattle.lent_rows.proofs.NoRows.{none-lent, fixed-taken}
 use Rattle.tai_utc.proofs.TableSeconds.{seconds-stay}
 use Rattle.tai_utc.proofs.Days.{leap-came}
-use Rattle.tai_utc.specs.Offset.{none, secondsIn, wholeF}
+use Rattle.tai_utc.specs.Offset.{secondsIn, wholeF}
 use Rattle.drift_days.specs.Small.{small}
 use Rattle.leap_days.specs.Leaps.{Day, leapSeconds, listed, isLeapSecond}
 use Rattle.leap_days.proofs.Months.{next-month-number}

@@ -5,9 +5,9 @@ use Prim.Native.Nat.{ℕ, zero, suc, _-_, _*_}
 use lib.IntN.{ℤ, pos, negsuc}
 use lib.ListN.{length}
 use Rattle.refusals.specs.Outcome.{answer, refusal}
-use Rattle.tai_utc.specs.declared.LentRows.{LentRows}
-use Rattle.tai_utc.specs.Table.{Row, row, fixed, reached}
-use Rattle.tai_utc.specs.Lent.{rowsTo, lentSize, tableOf}
+use Rattle.lent_rows.specs.declared.LentRows.{LentRows}
+use Rattle.lent_rows.specs.Table.{Row, row, fixed, reached}
+use Rattle.lent_rows.specs.Lent.{rowsTo, lentSize, tableOf}
 use Rattle.tai_utc.specs.Offset.{secondsIn}
 
 abbrev lent : (months seconds : ℕ) → List ℤ → List ℤ → LentRows

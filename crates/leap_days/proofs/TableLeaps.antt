@@ -19,15 +19,15 @@ use Rattle.calendar.specs.Calendar.{monthLength}
 use Rattle.calendar.specs.Refusals.{nextOf}
 use Rattle.calendar.specs.DayCount.{mjdNumber}
 use Rattle.calendar.specs.declared.CalendarDate.{CalendarDate}
-use Rattle.tai_utc.specs.declared.LentRows.{LentRows}
+use Rattle.lent_rows.specs.declared.LentRows.{LentRows}
 use Rattle.tai_utc.specs.declared.DayOffsets.{DayOffsets}
-use Rattle.tai_utc.specs.Table.{Row, fixed, starts, reached, monthNumber, monthOf}
-use Rattle.tai_utc.specs.Lent.{tableOf}
-use Rattle.tai_utc.specs.Offset.{none, secondsIn, wholeF}
+use Rattle.lent_rows.specs.Table.{Row, fixed, starts, reached, monthNumber, monthOf, none}
+use Rattle.lent_rows.specs.Lent.{tableOf}
+use Rattle.tai_utc.specs.Offset.{secondsIn, wholeF}
 use Rattle.tai_utc.specs.Leap.{offsets, offsetsOfDay, dayOffsets, leapOf, leapAtEndOfDay, leapAmount}
-use Rattle.tai_utc.proofs.Reached.{member, month-later, last-begun}
-use Rattle.tai_utc.proofs.TablesTaken.{when-taken}
-use Rattle.tai_utc.proofs.TableLaws.{table-rises}
+use Rattle.lent_rows.proofs.Reached.{member, month-later, last-begun}
+use Rattle.lent_rows.proofs.TablesTaken.{when-taken}
+use Rattle.lent_rows.proofs.TableLaws.{table-rises}
 use Rattle.tai_utc.proofs.TableYears.{whole-rows-of}
 use Rattle.tai_utc.proofs.Days.{day-offsets-are, leap-given, leap-came}
 use Rattle.tai_utc.proofs.TableSeconds.{seconds-in-range, table-seconds, seconds-stay, seconds-step, same-before-lent}

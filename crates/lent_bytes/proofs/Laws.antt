@@ -11,11 +11,11 @@ use lib.ListN.{length, getD, replicate}
 use borrow.Author.Tests.{eq-eqb, eqb-true}
 use Rattle.refusals.specs.Outcome.{Outcome, answer, refusal, onward}
 use Rattle.little_endian.specs.LittleEndian.{fourAt, u32At}
-use Rattle.tai_utc.specs.Table.{Row, row, fixed}
-use Rattle.tai_utc.specs.Lent.{least, rowsTo, lentSize, rowsOf, tableOf, Decision, sizes, order, step, taken, unlessRefused}
-use Rattle.tai_utc.proofs.Tables.{least-right}
-use Rattle.tai_utc.proofs.TableLaws.{table-decided}
-use Rattle.tai_utc.proofs.TablesTaken.{table-none}
+use Rattle.lent_rows.specs.Table.{Row, row, fixed}
+use Rattle.lent_rows.specs.Lent.{least, rowsTo, lentSize, rowsOf, tableOf, Decision, sizes, order, step, taken, unlessRefused}
+use Rattle.lent_rows.proofs.Tables.{least-right}
+use Rattle.lent_rows.proofs.TableLaws.{table-decided}
+use Rattle.lent_rows.proofs.TablesTaken.{table-none}
 use Rattle.lent_bytes.specs.TableBytes.{signed32, signedAt, signedFrom, recordIn, ofLength, tableBytes}
 use Rattle.lent_bytes.proofs.Reading.{place-of, same-table}
 

@@ -13,13 +13,13 @@ use borrow.Author.Count.{below-more}
 use borrow.Author.Tests.{eq-eqb, ne-eqb, eqb-true, leb-true, leb-false}
 use Rattle.refusals.specs.Outcome.{Outcome, answer}
 use Rattle.little_endian.specs.LittleEndian.{u32At}
-use Rattle.tai_utc.specs.declared.LentRows.{LentRows}
-use Rattle.tai_utc.specs.Table.{Row, fixed}
-use Rattle.tai_utc.specs.Lent.{least, lentSize, rowsOf, rowsIn, lentTable, tableOf, unlessRefused, Judged}
-use Rattle.tai_utc.proofs.Tables.{least-right}
-use Rattle.tai_utc.proofs.TableLaws.{spare-unread}
-use Rattle.tai_utc.proofs.ByParts.{least-low, rows-in}
-use Rattle.tai_utc.proofs.TablesTaken.{table-none, none-rows, when-taken}
+use Rattle.lent_rows.specs.declared.LentRows.{LentRows}
+use Rattle.lent_rows.specs.Table.{Row, fixed}
+use Rattle.lent_rows.specs.Lent.{least, lentSize, rowsOf, rowsIn, lentTable, tableOf, unlessRefused, Judged}
+use Rattle.lent_rows.proofs.Tables.{least-right}
+use Rattle.lent_rows.proofs.TableLaws.{spare-unread}
+use Rattle.lent_rows.proofs.ByParts.{least-low, rows-in}
+use Rattle.lent_rows.proofs.TablesTaken.{table-none, none-rows, when-taken}
 use Rattle.lent_bytes.specs.TableBytes.{signedAt, signedFrom, recordIn, ofLength, tableBytes, sizeIn, ReadFrom}
 
 -- ---- the numbers of an array by their places

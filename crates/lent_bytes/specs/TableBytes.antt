@@ -10,9 +10,9 @@ use lib.ListN.{length, getD}
 use Rattle.refusals.specs.Outcome.{Outcome, refusal}
 use Rattle.little_endian.specs.LittleEndian.{u32At}
 unfoldable pub use Rattle.little_endian.specs.LittleEndian.{signed32}
-use Rattle.tai_utc.specs.declared.LentRows.{LentRows}
-use Rattle.tai_utc.specs.Table.{Row}
-use Rattle.tai_utc.specs.Lent.{least, tableOf}
+use Rattle.lent_rows.specs.declared.LentRows.{LentRows}
+use Rattle.lent_rows.specs.Table.{Row}
+use Rattle.lent_rows.specs.Lent.{least, tableOf}
 
 -- the signed number in the four bytes from `at` on
 abbrev pub signedAt : List ℕ → ℕ → ℤ

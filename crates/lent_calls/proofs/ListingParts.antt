@@ -13,7 +13,7 @@ use borrow.Author.Tests.{le-leb, lt-leb}
 use Rattle.refusals.specs.Outcome.{answer, refusal, onward}
 use Rattle.utc_text.specs.Answer.{textWritten, bufferAfter}
 use Rattle.utc.specs.TextCall.{written, bufferHolds}
-use Rattle.tai_utc.specs.Table.{Row}
+use Rattle.lent_rows.specs.Table.{Row}
 use Rattle.stamps.specs.declared.Telling.{Telling}
 use Rattle.stamps.specs.declared.Part.{Part}
 use Rattle.stamps.specs.Listing.{lineRoom}

@@ -13,15 +13,16 @@ use mir.Syntax.{w64}
 use mir.Val.{toZ, ofZ}
 use mir.Facts.{toZ-pos}
 use Rattle.refusals.specs.Outcome.{Outcome, answer, refusal, onward}
-use Rattle.tai_utc.specs.declared.LentRows.{LentRows}
-use Rattle.tai_utc.specs.Table.{Row}
-use Rattle.tai_utc.specs.Lent.{tableOf}
+use Rattle.lent_rows.specs.declared.LentRows.{LentRows}
+use Rattle.lent_rows.specs.Table.{Row}
+use Rattle.lent_rows.specs.Lent.{tableOf}
 use Rattle.offset_walk.specs.declared.WalkAnswer.{WalkAnswer}
 use Rattle.offset_walk.specs.declared.WalkAnswer.the-variants.{Compared, Refused}
 use Rattle.offset_walk.specs.Walk.{Walked}
-use Rattle.offset_walk.specs.Lists.{datesFrom, tripleIn, walkOfBytes, inEights}
+use Rattle.date_judging.specs.Lists.{datesFrom, tripleIn}
+use Rattle.offset_walk.specs.Lists.{walkOfBytes, inEights}
 use Rattle.offset_walk.specs.Call.{walkOutcome, listAfter, WalkCall}
-use Rattle.offset_walk.proofs.Goods.{how-many}
+use Rattle.date_judging.proofs.Judges.{how-many}
 use Rattle.offset_walk.proofs.Codes.{count-most}
 use Rattle.lent_bytes.specs.TableBytes.{ofLength, tableBytes}
 use Rattle.lent_bytes.proofs.Laws.{other-length}

@@ -14,7 +14,7 @@ use Rattle.digits.specs.Decimal.{digitsIn}
 use Rattle.floats.specs.Whole.{away}
 use Rattle.calendar.specs.declared.CalendarDate.{CalendarDate}
 use Rattle.julian.specs.declared.JulianDate.{JulianDate}
-use Rattle.tai_utc.specs.Table.{Row}
+use Rattle.lent_rows.specs.Table.{Row}
 use Rattle.time_of_day.specs.declared.TimeOfDay.{TimeOfDay}
 use Rattle.time_of_day.specs.declared.TimeShown.{TimeShown}
 use Rattle.time_of_day.specs.declared.TimeShown.the-variants.{At, NextMidnight}

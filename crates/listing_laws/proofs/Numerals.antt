@@ -10,7 +10,7 @@ use borrow.Author.Tests.{ltb-false}
 use Rattle.refusals.specs.Outcome.{Outcome, answer, refusal}
 use Rattle.digits.specs.Decimal.{number, last, digitsIn, digitsOf}
 use Rattle.digits.proofs.Decimal.{number-digits}
-use Rattle.tai_utc.specs.Table.{Row}
+use Rattle.lent_rows.specs.Table.{Row}
 use Rattle.stamps.specs.Listing.{numeral, textAt, oneIfRefused, refusedIn}
 
 -- ---- with room for all its digits a number has the same whatever the room

@@ -11,10 +11,10 @@ use Rattle.calendar.proofs.Years.{validOf}
 use Rattle.julian.specs.declared.JulianDate.{JulianDate}
 use Rattle.julian.specs.declared.CalendarFields.{CalendarFields}
 use Rattle.julian.specs.Calendar.{julianToCalendar}
-use Rattle.tai_utc.specs.declared.LentRows.{LentRows}
-use Rattle.tai_utc.specs.Table.{Row, fixed}
-use Rattle.tai_utc.specs.Lent.{tableOf}
-use Rattle.tai_utc.proofs.TablesTaken.{table-none}
+use Rattle.lent_rows.specs.declared.LentRows.{LentRows}
+use Rattle.lent_rows.specs.Table.{Row, fixed}
+use Rattle.lent_rows.specs.Lent.{tableOf}
+use Rattle.lent_rows.proofs.TablesTaken.{table-none}
 use Rattle.utc.specs.Expanded.{expandedSheet, isoTextExpanded}
 use Rattle.utc.proofs.Dates.{date-in-range}
 use Rattle.utc.proofs.TextCalls.{fields-refused-by, fields-given-by}

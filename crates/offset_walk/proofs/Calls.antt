@@ -1,54 +1,47 @@
 -- The call as a whole: its refusals in their order, what is known where nothing is refused, and what the lent list holds. Assumes nothing.
-use Prim.Native.Nat.{ℕ, zero, suc, _+_, _*_, _≤_, _<_}
+use Prim.Native.Nat.{ℕ, zero, suc, _≤_}
 use native.Mathlib.Omega.{arith}
 use mathlib.Core.Path.{_≡_, refl, sym, ap, subst, _∙_}
 use mathlib.Core.Bool.{Bool, true, false, cond}
-use mathlib.Core.List.{List, [], _∷_, _++_, map}
+use mathlib.Core.List.{List, _++_, map}
 use lib.Dec.{T, leb}
-use lib.ListN.{length, drop, length-map}
+use lib.ListN.{length, drop}
 use lib.Ieee.{Float}
-use borrow.Author.Tests.{le-leb, lt-leb, leb-true}
+use borrow.Author.Tests.{leb-true}
 use Rattle.refusals.specs.Outcome.{Outcome, answer, refusal, onward}
-use Rattle.refusals.proofs.Onward.{came, went, stopped}
-use Rattle.tai_utc.specs.Table.{Row, starts, rising}
-use Rattle.tai_utc.specs.Lent.{rowsOf, tableOf, unlessRefused}
-use Rattle.tai_utc.specs.declared.LentRows.{LentRows}
-use Rattle.tai_utc.proofs.TablesTaken.{turned-away, taken, when-taken}
-use Rattle.tai_utc.proofs.TableLaws.{table-rises}
-use Rattle.offset_walk.specs.declared.Triple.{Triple}
+use Rattle.refusals.proofs.Onward.{came}
+use Rattle.lent_rows.specs.Table.{Row, starts, rising}
+use Rattle.lent_rows.specs.Lent.{rowsOf, tableOf, unlessRefused}
+use Rattle.lent_rows.specs.declared.LentRows.{LentRows}
+use Rattle.lent_rows.proofs.TablesTaken.{when-taken}
+use Rattle.lent_rows.proofs.TableLaws.{table-rises}
+use Rattle.date_judging.specs.declared.Triple.{Triple}
 use Rattle.offset_walk.specs.declared.WalkAnswer.the-variants.{Compared, Refused}
 use Rattle.offset_walk.specs.Rows.{compared}
-use Rattle.offset_walk.specs.Judging.{judgedAll}
+use Rattle.date_judging.specs.Judging.{judgedAll, judgedList}
+use Rattle.date_judging.proofs.Refused.{refused-any}
 use Rattle.offset_walk.specs.Walk.{monthIn, tripleOffset, Walked, walked, walkOf}
 use Rattle.offset_walk.specs.Call.{walkOutcome, listAfter, WalkCall}
-
--- a number that is not 0 refuses, whatever the answer would be
-pub refused-any : {A : Type 0} (k : ℕ) (a : A) → (k ≡ 0 → ⊥) → unlessRefused k a ≡ refusal k
-refused-any zero a h = absurd (h refl)
-refused-any (suc k) a h = refl
 
 pub answered-any : {A : Type 0} (k : ℕ) (a : A) → k ≡ 0 → unlessRefused k a ≡ answer a
 answered-any k a e = ap (λ (x : ℕ). unlessRefused x a) e
 
+-- the same, by an answer that says nothing
+by-number : {A : Type 0} (k : ℕ) (a : A) → unlessRefused k a ≡ onward (unlessRefused {A = Unit} k tt) (λ _. answer a)
+unfolding onward
+by-number zero a = refl
+by-number (suc k) a = refl
+
 module _ (rows : List Row) (dates : List Triple) (places : ℕ) where
-  pub broken : refusal 14 ≡ walkOf rows false dates places
-  unfolding walkOf
-  broken = refl
-
-  pub no-places : (n : ℕ) → length dates ≡ n → places < n → refusal 11 ≡ walkOf rows true dates places
-  unfolding walkOf
-  no-places n e h = rw (lt-leb (length dates) places (omega arith))
-
-  by-number : (k : ℕ) → unlessRefused k tt ≡ judgedAll dates → unlessRefused k (walked rows dates) ≡ onward (judgedAll dates) (λ _. answer (walked rows dates))
-  unfolding onward
-  by-number zero j = ap (λ (o : Outcome Unit). onward o (λ _. answer (walked rows dates))) j
-  by-number (suc k) j = ap (λ (o : Outcome Unit). onward o (λ _. answer (walked rows dates))) j
-
-  pub by-dates : (n : ℕ) → length dates ≡ n → n ≤ places → (k : ℕ) → unlessRefused k tt ≡ judgedAll dates → unlessRefused k (walked rows dates) ≡ walkOf rows true dates places
-  unfolding walkOf
-  by-dates n e h k j =
-      by-number k j
-      ∙ sym (ap (λ (b : Bool). cond b (onward (judgedAll dates) (λ _. answer (walked rows dates))) (refusal 11)) (le-leb (length dates) places (omega arith)))
+  -- the dates are judged, and then there is the walk
+  pub judged-first : (b : Bool) → onward (judgedList b dates places) (λ _. answer (walked rows dates)) ≡ walkOf rows b dates places
+  unfolding walkOf judgedList onward
+  judged-first true = go (leb (length dates) places)
+    where
+      go : (c : Bool) → onward (cond c (judgedAll dates) (refusal 11)) (λ _. answer (walked rows dates)) ≡ cond c (onward (judgedAll dates) (λ _. answer (walked rows dates))) (refusal 11)
+      go true = refl
+      go false = refl
+  judged-first false = refl
 
   pub record Through : Type 0 where
     pub fits : length dates ≤ places
@@ -71,20 +64,26 @@ module _ (t : LentRows) (b : Bool) (dates : List Triple) (places : ℕ) where
   abbrev whole : Outcome Walked
   whole = onward (tableOf t) next
 
-  pub table-away : (k : ℕ) → unlessRefused k (rowsOf t) ≡ tableOf t → (k ≡ 0 → ⊥) → unlessRefused k (walked (rowsOf t) dates) ≡ whole
-  table-away k e h = refused-any k (walked (rowsOf t) dates) h ∙ turned-away t k e next h
+  -- the number by which the list is turned away is that of the walk
+  abbrev judged : Outcome Unit
+  judged = onward (tableOf t) (λ _. judgedList b dates places)
 
-  pub table-taken : (k : ℕ) → unlessRefused k (rowsOf t) ≡ tableOf t → k ≡ 0 → (o : Outcome Walked) → o ≡ walkOf (rowsOf t) b dates places → o ≡ whole
-  table-taken k e h o p = p ∙ taken t k e next h
+  pub judged-walk : (k : ℕ) → unlessRefused k tt ≡ judged → unlessRefused k (walked (rowsOf t) dates) ≡ whole
+  unfolding onward
+  judged-walk k e = by-number k (walked (rowsOf t) dates) ∙ ap (λ (o : Outcome Unit). onward o (λ _. answer (walked (rowsOf t) dates))) e ∙ go (tableOf t) refl
+    where
+      go : (o : Outcome (List Row)) → tableOf t ≡ o → onward (onward o (λ _. judgedList b dates places)) (λ _. answer (walked (rowsOf t) dates)) ≡ onward o next
+      go (answer rows) p = ap (λ (l : List Row). onward (judgedList b dates places) (λ _. answer (walked l dates))) (sym (when-taken t rows p .all)) ∙ judged-first rows dates places b
+      go (refusal j) p = refl
 
   pub record Passed : Type 0 where
     pub order : T (rising (starts (rowsOf t)))
     pub fits : length dates ≤ places
     pub good : judgedAll dates ≡ answer tt
 
-  pub passed : (k : ℕ) → unlessRefused k (walked (rowsOf t) dates) ≡ whole → k ≡ 0 → Passed
+  pub passed : (k : ℕ) → unlessRefused k tt ≡ judged → k ≡ 0 → Passed
   passed k e h =
-      let (rows, p, q) = came (tableOf t) next (walked (rowsOf t) dates) (sym e ∙ answered-any k (walked (rowsOf t) dates) h) in
+      let (rows, p, q) = came (tableOf t) next (walked (rowsOf t) dates) (sym (judged-walk k e) ∙ answered-any k (walked (rowsOf t) dates) h) in
       let r = through rows dates places b (walked (rowsOf t) dates) q in
       record {
         order = subst (λ (l : List Row). T (rising (starts l))) (when-taken t rows p .all) (table-rises t rows p);
@@ -93,13 +92,13 @@ module _ (t : LentRows) (b : Bool) (dates : List Triple) (places : ℕ) where
       }
 
   module _ {A : Type 0} (write : List Float → List A) (before : List A) where
-    pub refused-call : (k : ℕ) → unlessRefused k (walked (rowsOf t) dates) ≡ whole → (k ≡ 0 → ⊥) → WalkCall write whole before (Refused k) before
+    pub refused-call : (k : ℕ) → unlessRefused k tt ≡ judged → (k ≡ 0 → ⊥) → WalkCall write whole before (Refused k) before
     unfolding walkOutcome onward listAfter
-    refused-call k e h = rw (sym e ∙ refused-any k (walked (rowsOf t) dates) h) (record { says = refl; holds = refl })
+    refused-call k e h = rw (sym (judged-walk k e) ∙ refused-any k (walked (rowsOf t) dates) h) (record { says = refl; holds = refl })
 
-    pub walked-call : (k : ℕ) → unlessRefused k (walked (rowsOf t) dates) ≡ whole → k ≡ 0 → (c : ℕ) (after : List A) (room : ℕ)
+    pub walked-call : (k : ℕ) → unlessRefused k tt ≡ judged → k ≡ 0 → (c : ℕ) (after : List A) (room : ℕ)
         → c ≡ compared (starts (rowsOf t)) (map monthIn dates) → after ≡ write (map (tripleOffset (rowsOf t)) dates) ++ drop room before → length (write (map (tripleOffset (rowsOf t)) dates)) ≡ room → WalkCall write whole before (Compared c) after
     unfolding walkOutcome onward listAfter
     walked-call k e h c after room p q r =
-        rw (sym e ∙ answered-any k (walked (rowsOf t) dates) h)
+        rw (sym (judged-walk k e) ∙ answered-any k (walked (rowsOf t) dates) h)
         (record { says = ap answer p; holds = q ∙ ap (λ (n : ℕ). write (map (tripleOffset (rowsOf t)) dates) ++ drop n before) (sym r) })

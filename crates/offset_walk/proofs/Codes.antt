@@ -8,12 +8,12 @@ use lib.Dec.{leb}
 use lib.ListN.{length, length-map}
 use Rattle.refusals.specs.Outcome.{Outcome, answer, refusal, onward}
 use Rattle.refusals.proofs.Onward.{came}
-use Rattle.tai_utc.specs.Table.{Row, starts}
-use Rattle.tai_utc.specs.Lent.{tableOf}
-use Rattle.tai_utc.specs.declared.LentRows.{LentRows}
-use Rattle.offset_walk.specs.declared.Triple.{Triple}
+use Rattle.lent_rows.specs.Table.{Row, starts}
+use Rattle.lent_rows.specs.Lent.{tableOf}
+use Rattle.lent_rows.specs.declared.LentRows.{LentRows}
+use Rattle.date_judging.specs.declared.Triple.{Triple}
 use Rattle.offset_walk.specs.Rows.{compared}
-use Rattle.offset_walk.specs.Judging.{judgedAll}
+use Rattle.date_judging.specs.Judging.{judgedAll}
 use Rattle.offset_walk.specs.Walk.{monthIn, Walked, walked, walkOf}
 use Rattle.offset_walk.proofs.Counts.{most-58}
 

@@ -11,11 +11,11 @@ use lib.Ieee.Fits.{and-l, and-r}
 use native.Mathlib.Decide.{decLt}
 use borrow.Author.Tests.{leb-true, leb-false, le-leb, lt-leb}
 use Rattle.refusals.specs.Outcome.{answer}
-use Rattle.tai_utc.specs.Table.{Row, fixed, starts, reached, rising}
-use Rattle.tai_utc.specs.Lent.{tableOf}
-use Rattle.tai_utc.specs.declared.LentRows.{LentRows}
-use Rattle.tai_utc.proofs.TableLaws.{lengths}
-use Rattle.tai_utc.proofs.Reached.{at-most, low, high, none-begun, last-begun}
+use Rattle.lent_rows.specs.Table.{Row, fixed, starts, reached, rising}
+use Rattle.lent_rows.specs.Lent.{tableOf}
+use Rattle.lent_rows.specs.declared.LentRows.{LentRows}
+use Rattle.lent_rows.proofs.TableLaws.{lengths}
+use Rattle.lent_rows.proofs.Reached.{at-most, low, high, none-begun, last-begun}
 use Rattle.offset_walk.specs.Rows.{heldAgainst, left, compared, inTime, lastReached, withRowLeft}
 use Rattle.offset_walk.proofs.Forward.{halts, between}
 

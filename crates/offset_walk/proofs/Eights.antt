@@ -7,8 +7,9 @@ use lib.ListN.{length, take, drop, set, getD}
 use lib.Seq.{sets, sets-eq}
 use lib.Ieee.{Float, binary64, toBits}
 use Rattle.little_endian.specs.LittleEndian.{eightBytes}
-use Rattle.offset_walk.specs.declared.Triple.{Triple}
-use Rattle.offset_walk.specs.Lists.{datesFrom, inEights}
+use Rattle.date_judging.specs.declared.Triple.{Triple}
+use Rattle.date_judging.specs.Lists.{datesFrom}
+use Rattle.offset_walk.specs.Lists.{inEights}
 use Rattle.offset_walk.proofs.Writes.{Putting, writing-starts, writing-goes, writing-ends, written-length}
 
 abbrev put : Float → List ℕ

@@ -5,10 +5,10 @@ use mathlib.Core.Path.{_≡_, refl, sym, ap, _∙_}
 use mathlib.Core.List.{List, [], _∷_, _++_, map}
 use lib.ListN.{length, set, drop, length-map}
 use lib.Ieee.{Float}
-use Rattle.offset_walk.specs.declared.Triple.{Triple}
-use Rattle.offset_walk.specs.Lists.{datesFrom}
+use Rattle.date_judging.specs.declared.Triple.{Triple}
+use Rattle.date_judging.specs.Lists.{datesFrom}
 use Rattle.offset_walk.specs.Call.{asFloats}
-use Rattle.offset_walk.proofs.Goods.{how-many}
+use Rattle.date_judging.proofs.Judges.{how-many}
 use Rattle.offset_walk.proofs.Writes.{Putting, one-put, whole, rest, writing-starts, writing-goes, writing-ends}
 
 module _ (off : Triple → Float) (f : ℕ → Triple) (n : ℕ) (before : List Float) where

@@ -12,10 +12,10 @@ use lib.ListN.{length, getD, drop, List·getD-eq-default, length-map}
 use lib.Seq.{drop-cons, drop-length}
 use lib.Ieee.{Float, binary64, add, sub, mul}
 use borrow.Author.Tests.{le-leb, lt-leb, eq-eqb, ne-eqb}
-use Rattle.tai_utc.specs.Table.{Row, starts, reached, rising}
+use Rattle.lent_rows.specs.Table.{Row, starts, reached, rising}
 use Rattle.tai_utc.specs.Forward.{never, byTerms}
 use Rattle.tai_utc.specs.declared.walk_rows.RowTerms.{RowTerms}
-use Rattle.tai_utc.proofs.Reached.{at-most, low, high}
+use Rattle.lent_rows.proofs.Reached.{at-most, low, high}
 use Rattle.tai_utc.specs.Offset.{offsetBy}
 use Rattle.offset_walk.specs.declared.Walk.{Walk}
 use Rattle.offset_walk.specs.Rows.{heldAgainst, left, compared}

@@ -8,18 +8,17 @@ use mathlib.Core.Bool.{Bool, true, false, cond}
 use mathlib.Core.List.{List, [], _∷_}
 use lib.IntN.{ℤ, pos, negsuc, natAbs}
 use lib.Signed.{ltZ}
-use lib.ListN.{length}
 use borrow.Author.Tests.{ltb-false, le-ltb}
 use Rattle.refusals.specs.Outcome.{Outcome, answer, refusal, onward}
 use Rattle.refusals.proofs.Onward.{came}
 use Rattle.calendar.proofs.Accepted.{Accepted, date-accepted}
-use Rattle.tai_utc.specs.Table.{monthNumber, monthOf}
-use Rattle.offset_walk.specs.declared.Triple.{Triple}
-use Rattle.offset_walk.specs.Judging.{byFirst, earlier, validTriple, judgedNext, judgedAfter, judgedAll}
+use Rattle.lent_rows.specs.Table.{monthNumber, monthOf}
+use Rattle.date_judging.specs.declared.Triple.{Triple}
+use Rattle.date_judging.specs.Judging.{byFirst, earlier, validTriple, judgedNext, judgedAfter, judgedAll}
 use Rattle.offset_walk.specs.Walk.{monthIn}
-use Rattle.offset_walk.specs.Lists.{datesFrom}
+use Rattle.date_judging.specs.Lists.{datesFrom}
 use Rattle.offset_walk.specs.Asked.{GoodDates}
-use Rattle.offset_walk.proofs.Judges.{firstDate, first-of-all}
+use Rattle.date_judging.proofs.Judges.{firstDate, first-of-all}
 
 -- ---- the order of two dates, and of their months
 pub record NotEarlier (a b : Triple) : Type 0 where
@@ -109,8 +108,3 @@ module _ (f : ℕ → Triple) where
         good = λ i h. r .good i (omega arith) (omega arith);
         rise = λ i h. in-order (f (suc i)) (f i) (r .good (suc i) (omega arith) (omega arith)) (r .good i (omega arith) (omega arith)) (r .order i (omega arith) (omega arith));
       }
-
-  pub how-many : (k i : ℕ) → length (datesFrom f i k) ≡ k
-  unfolding datesFrom
-  how-many zero i = refl
-  how-many (suc k) i = ap suc (how-many k (suc i))

@@ -1,6 +1,4 @@
 -- The laws that the functions' proofs cite, and then what the definitions mean.
--- Judges: a date by itself and after another, as the code tests them.
-pub mod Judges
 -- Goods: dates that nothing is refused of.
 pub mod Goods
 -- Forward: the rows that a walk passes, and that the last is the one that the look-up finds.
@@ -13,8 +11,6 @@ pub mod Writes
 pub mod Calls
 -- Floats: the same, as floats.
 pub mod Floats
--- Twelves: a date read from its twelve bytes.
-pub mod Twelves
 -- Eights: the same, as bytes.
 pub mod Eights
 -- Counts: how many rows a walk compares.
@@ -25,5 +21,3 @@ pub mod LookUp
 pub mod Codes
 -- Worked: the count and the refusals of real dates.
 pub mod Worked
--- DayOrder: the order of dates is that of their days.
-pub mod DayOrder

@@ -7,11 +7,11 @@ use Rattle.refusals.specs.Outcome.{Outcome, answer}
 use Rattle.floats.specs.Whole.{nought}
 use Rattle.calendar.specs.DayCount.{mjdNumber}
 use Rattle.calendar.proofs.Mjd.{mjd-given}
-use Rattle.tai_utc.specs.Table.{Row}
+use Rattle.lent_rows.specs.Table.{Row}
 use Rattle.tai_utc.specs.Offset.{taiUtcOffset}
 use Rattle.tai_utc.proofs.Offsets.{in-day-zero, offset-given}
-use Rattle.offset_walk.specs.declared.Triple.{Triple}
-use Rattle.offset_walk.specs.Judging.{validTriple}
+use Rattle.date_judging.specs.declared.Triple.{Triple}
+use Rattle.date_judging.specs.Judging.{validTriple}
 use Rattle.offset_walk.specs.Walk.{tripleOffset}
 
 -- EACH OFFSET is the one that the look-up gives for its date

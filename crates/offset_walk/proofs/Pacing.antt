@@ -11,16 +11,16 @@ use lib.ListN.{length, getD, drop, length-map}
 use lib.Ieee.{Float, binary64, ofInt}
 use Rattle.floats.specs.Whole.{nought}
 use Rattle.calendar.specs.DayCount.{mjdNumber}
-use Rattle.tai_utc.specs.Table.{Row, starts, reached, rising}
+use Rattle.lent_rows.specs.Table.{Row, starts, reached, rising}
 use Rattle.tai_utc.specs.Offset.{offsetBy, offsetAt}
 use Rattle.tai_utc.specs.Forward.{never, byTerms}
-use Rattle.offset_walk.specs.declared.Triple.{Triple}
+use Rattle.date_judging.specs.declared.Triple.{Triple}
 use Rattle.offset_walk.specs.declared.Walk.{Walk}
 use Rattle.offset_walk.specs.Rows.{heldAgainst, left, compared}
 use Rattle.offset_walk.specs.Walk.{monthIn, tripleOffset}
-use Rattle.offset_walk.specs.Lists.{datesFrom}
+use Rattle.date_judging.specs.Lists.{datesFrom}
 use Rattle.offset_walk.specs.Asked.{Standing, AtStart, Stepped, CountsNext, GoodDates}
-use Rattle.offset_walk.proofs.Judges.{next-date, no-date, all-dates}
+use Rattle.date_judging.proofs.Judges.{next-date, no-date, all-dates}
 use Rattle.offset_walk.proofs.Forward.{between, stops, found}
 
 -- before date i

@@ -5,12 +5,12 @@ use mathlib.Core.Bool.{true, false}
 use mathlib.Core.List.{[], _∷_}
 use lib.IntN.{pos}
 use Rattle.refusals.specs.Outcome.{answer, refusal, onward}
-use Rattle.tai_utc.specs.Table.{fixed, monthNumber}
+use Rattle.lent_rows.specs.Table.{fixed, monthNumber}
 use Rattle.calendar.specs.Calendar.{leapSize, lengths, daysInMonth}
 use Rattle.calendar.specs.Refusals.{validDate}
-use Rattle.offset_walk.specs.declared.Triple.{Triple}
+use Rattle.date_judging.specs.declared.Triple.{Triple}
 use Rattle.offset_walk.specs.Rows.{heldAgainst, left, compared}
-use Rattle.offset_walk.specs.Judging.{triple, earlier, judgedNext, judgedAfter, judgedAll}
+use Rattle.date_judging.specs.Judging.{triple, earlier, judgedNext, judgedAfter, judgedAll}
 use Rattle.offset_walk.specs.Walk.{walkOf}
 
 abbrev date : ℕ → ℕ → ℕ → Triple

@@ -7,9 +7,9 @@ use mathlib.Core.List.{List, [], _∷_, _++_, append-assoc, map}
 use lib.ListN.{length, take, drop, set, length-append, length-drop, take-append-drop}
 use lib.Ieee.{Float}
 use lib.Seq.{take-at, drop-at, drop-drop, length-take-le, set-split}
-use Rattle.offset_walk.specs.declared.Triple.{Triple}
-use Rattle.offset_walk.specs.Lists.{datesFrom}
-use Rattle.offset_walk.proofs.Judges.{next-date, no-date, all-dates}
+use Rattle.date_judging.specs.declared.Triple.{Triple}
+use Rattle.date_judging.specs.Lists.{datesFrom}
+use Rattle.date_judging.proofs.Judges.{next-date, no-date, all-dates}
 
 -- Up to place `at` all is written; `rest` is what the list is to hold from there on, and still holds what it held.
 pub record Putting {A : Type 0} (all rest before now : List A) (at : ℕ) : Type 0 where

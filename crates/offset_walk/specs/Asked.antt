@@ -7,12 +7,12 @@ use lib.Dec.{leb}
 use lib.ListN.{length, getD}
 use lib.Ieee.{Float}
 use Rattle.refusals.specs.Outcome.{answer}
-use Rattle.tai_utc.specs.Table.{Row, starts}
+use Rattle.lent_rows.specs.Table.{Row, starts}
 use Rattle.tai_utc.specs.Offset.{offsetBy}
 use Rattle.tai_utc.specs.Forward.{never, byTerms}
-use Rattle.offset_walk.specs.declared.Triple.{Triple}
+use Rattle.date_judging.specs.declared.Triple.{Triple}
 use Rattle.offset_walk.specs.declared.Walk.{Walk}
-use Rattle.offset_walk.specs.Judging.{validTriple}
+use Rattle.date_judging.specs.Judging.{validTriple}
 use Rattle.offset_walk.specs.Walk.{monthIn}
 
 -- what a walk holds is of the rows that it has reached

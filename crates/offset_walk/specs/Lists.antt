@@ -1,30 +1,15 @@
--- Dates as signed 32-bit numbers, three a date, and as bytes, twelve a date in two's complement, the lowest first; offsets as bytes, eight each. Written from document 02,
--- item 2 ("a slice of signed 32-bit numbers, year, month, day triples"); the bytes are the layout for C. Assumes nothing.
-use Prim.Native.Nat.{ℕ, zero, suc, _+_, _*_, _/_, _%_}
-use mathlib.Core.Bool.{Bool}
+-- The walk over dates as numbers and as bytes; offsets as bytes, eight each, the lowest first. Written from document 02, item 2; the bytes are the layout for C. Assumes nothing.
+use Prim.Native.Nat.{ℕ, _/_, _%_}
 use mathlib.Core.List.{List, [], _∷_, _++_}
 use lib.Dec.{eqb}
-use lib.IntN.{ℤ, pos}
-use lib.ListN.{length, getD}
+use lib.IntN.{ℤ}
+use lib.ListN.{length}
 use lib.Ieee.{Float, binary64, toBits}
 use Rattle.refusals.specs.Outcome.{Outcome}
-use Rattle.little_endian.specs.LittleEndian.{eightBytes, i32At}
-use Rattle.tai_utc.specs.Table.{Row}
-use Rattle.offset_walk.specs.declared.Triple.{Triple}
-use Rattle.offset_walk.specs.Judging.{triple}
+use Rattle.little_endian.specs.LittleEndian.{eightBytes}
+use Rattle.lent_rows.specs.Table.{Row}
+use Rattle.date_judging.specs.Lists.{datesFrom, tripleAt, tripleIn}
 use Rattle.offset_walk.specs.Walk.{Walked, walkOf}
-
--- the k dates f i, f (i + 1), ..
-unfoldable pub datesFrom : (ℕ → Triple) → ℕ → ℕ → List Triple
-datesFrom f i zero = []
-datesFrom f i (suc k) = f i ∷ datesFrom f (suc i) k
-
--- date i of a list of numbers, and of a list of bytes
-abbrev pub tripleAt : List ℤ → ℕ → Triple
-tripleAt l i = triple (getD l (3 * i) (pos 0)) (getD l (3 * i + 1) (pos 0)) (getD l (3 * i + 2) (pos 0))
-
-abbrev pub tripleIn : List ℕ → ℕ → Triple
-tripleIn s i = triple (i32At s (12 * i)) (i32At s (12 * i + 4)) (i32At s (12 * i + 8))
 
 -- the walk over numbers and so many places
 abbrev pub walkOfNumbers : List Row → List ℤ → ℕ → Outcome Walked

@@ -5,7 +5,7 @@ use mathlib.Core.Bool.{Bool, true, cond, _&&_}
 use mathlib.Core.List.{List, [], _∷_}
 use lib.Dec.{leb}
 use lib.ListN.{length}
-use Rattle.tai_utc.specs.Table.{reached}
+use Rattle.lent_rows.specs.Table.{reached}
 
 -- Of the starts of the rows not yet reached: how many a month is held against. Each that has begun is reached and the next is looked at; the first that has not begun counts
 -- too, and ends it.

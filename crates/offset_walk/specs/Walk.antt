@@ -10,11 +10,11 @@ use lib.Ieee.{Float, binary64, ofInt}
 use Rattle.refusals.specs.Outcome.{Outcome, answer, refusal, onward}
 use Rattle.floats.specs.Whole.{nought}
 use Rattle.calendar.specs.DayCount.{mjdNumber}
-use Rattle.tai_utc.specs.Table.{Row, starts, monthNumber}
+use Rattle.lent_rows.specs.Table.{Row, starts, monthNumber}
 use Rattle.tai_utc.specs.Offset.{offsetAt}
-use Rattle.offset_walk.specs.declared.Triple.{Triple}
+use Rattle.date_judging.specs.declared.Triple.{Triple}
 use Rattle.offset_walk.specs.Rows.{compared}
-use Rattle.offset_walk.specs.Judging.{judgedAll}
+use Rattle.date_judging.specs.Judging.{judgedAll}
 
 -- the number of a date's month
 abbrev pub monthIn : Triple → ℕ

@@ -1,24 +1,24 @@
 // The walk over lists of bytes, for callers from C: twelve bytes a date, eight an offset, the lowest first.
 ghost use mathlib.Core.Path.{_≡_};
 ghost use mathlib.Core.List.{_++_, map};
-ghost use Prim.Native.Nat.{_+_, _*_, _/_, _≤_};
+ghost use Prim.Native.Nat.{_+_, _*_, _≤_};
 ghost use lib.Dec.{T};
 ghost use lib.ListN.{length, drop};
 ghost use lib.Seq.{sets};
 ghost use lib.Ieee.{binary64, toBits};
 ghost use Rattle.refusals.specs.Outcome.{onward};
 ghost use Rattle.little_endian.specs.LittleEndian.{eightBytes};
-ghost use Rattle.tai_utc.specs.Table.{starts, rising};
-ghost use Rattle.tai_utc.specs.Lent.{rowsOf, tableOf, unlessRefused};
+ghost use Rattle.lent_rows.specs.Table.{starts, rising};
+ghost use Rattle.lent_rows.specs.Lent.{rowsOf, tableOf};
 ghost use Rattle.offset_walk.specs.Rows.{compared};
-ghost use Rattle.offset_walk.specs.Judging.{judgedAll};
-ghost use Rattle.offset_walk.specs.Walk.{monthIn, tripleOffset, walked};
-ghost use Rattle.offset_walk.specs.Lists.{datesFrom, tripleIn, walkOfBytes, inEights};
+ghost use Rattle.offset_walk.specs.Walk.{monthIn, tripleOffset};
+ghost use Rattle.date_judging.specs.Lists.{datesFrom, tripleIn};
+ghost use Rattle.offset_walk.specs.Lists.{walkOfBytes, inEights};
 ghost use Rattle.offset_walk.specs.Call.{WalkCall};
 ghost use Rattle.offset_walk.specs.Asked.{GoodDates};
-use super::Triple;
 use super::WalkAnswer;
-use tai_utc::LentRows;
+use date_judging::Triple;
+use lent_rows::LentRows;
 
 // Date i of a list that has it. Read from a part of twelve bytes, its numbers need no test of the length.
 fn triple_in(dates: &[u8], i: usize) -> Triple
@@ -40,29 +40,6 @@ fn put_offset(out: &mut [u8], at: usize, x: f64)
 {
     let end = at + 8;
     little_endian::put_u64(&mut out[at..end], floats::to_bits(x));
-}
-
-// The number by which the n dates are turned away, 0 if they are not.
-fn judge_all(dates: &[u8], n: usize) -> u32
-    requires { ⌜ 12 * n ≤ length (now dates) ⌝ }
-    ensures { λ r. ⌜ unlessRefused r tt ≡ judgedAll (datesFrom (tripleIn (now (dates .entry))) 0 n) ⌝ }
-{
-    let mut before = Triple {
-        year: -4799,
-        month: 1,
-        day: 1,
-    };
-    let mut i = 0;
-    while i < n {
-        let t = triple_in(dates, i);
-        let number = super::judge(before, t);
-        if number != 0 {
-            return number;
-        }
-        before = t;
-        i += 1;
-    }
-    0
 }
 
 // Walks through the table with n dates, writes their offsets, and says how many rows it compared.
@@ -87,29 +64,11 @@ fn walk_all(dates: &[u8], n: usize, table: LentRows, out: &mut [u8]) -> u64
     w.compared
 }
 
-// The number by which the call is turned away, 0 if it is not.
-fn refused_by(dates: &[u8], table: LentRows, room: usize) -> u32
-    ensures { λ r. ⌜ unlessRefused r (walked (rowsOf table) (datesFrom (tripleIn (now (dates .entry))) 0 (length (now (dates .entry)) / 12))) ≡ onward (tableOf table) (λ rows. walkOfBytes rows (now (dates .entry)) room) ⌝ }
-{
-    let number = tai_utc::table_refusal(table);
-    if number != 0 {
-        return number;
-    }
-    if dates.len() % 12 != 0 {
-        return refusals::BLOCK_LENGTH_WRONG;
-    }
-    let n = dates.len() / 12;
-    if room / 8 < n {
-        return refusals::TEXT_LONGER_THAN_BUFFER;
-    }
-    judge_all(dates, n)
-}
-
 // The offsets at 0h as `offsets_at_0h` gives them, from dates and into places that are bytes. Refusals as there, 14 where the bytes of `dates` are no multiple of 12.
 pub fn offsets_at_0h_bytes(dates: &[u8], table: LentRows, out: &mut [u8]) -> WalkAnswer
     ensures { λ r. ⌜ WalkCall inEights (onward (tableOf table) (λ rows. walkOfBytes rows (now (dates .entry)) (length (now (out .entry))))) (now (out .entry)) r (now (out .exit)) ⌝ }
 {
-    let number = refused_by(dates, table, out.len());
+    let number = date_judging::bytes_refusal(dates, table, out.len());
     if number != 0 {
         return WalkAnswer::Refused(number);
     }

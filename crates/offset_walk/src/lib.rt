@@ -1,38 +1,31 @@
-// TAI-UTC at 0h of many dates in time order, in one walk through the leap table: document 02, item 2. All dates are judged before one offset is written.
+// TAI-UTC at 0h of many dates in time order, in one walk through the leap table: document 02, item 2. All dates are judged, by `date_judging`, before one offset is written.
 ghost use mathlib.Core.Path.{_≡_};
-ghost use mathlib.Core.Bool.{true};
 ghost use mathlib.Core.List.{_++_, map};
-ghost use Prim.Native.Nat.{_+_, _*_, _/_, _<_, _≤_};
+ghost use Prim.Native.Nat.{_+_, _*_, _<_, _≤_};
 ghost use lib.IntN.{natAbs};
 ghost use lib.ListN.{length, drop};
 ghost use lib.Ieee.{binary64, ofInt};
 ghost use Rattle.refusals.specs.Outcome.{answer, onward};
 ghost use Rattle.floats.specs.Whole.{nought};
 ghost use Rattle.calendar.specs.DayCount.{mjdNumber};
-ghost use Rattle.tai_utc.specs.Table.{starts};
-ghost use Rattle.tai_utc.specs.Lent.{rowsOf, tableOf, unlessRefused};
+ghost use Rattle.lent_rows.specs.Table.{starts, rising};
+ghost use Rattle.lent_rows.specs.Lent.{rowsOf, tableOf};
 ghost use Rattle.tai_utc.specs.Forward.{byTerms};
 ghost use Rattle.offset_walk.specs.Rows.{compared};
-ghost use Rattle.offset_walk.specs.Judging.{earlier, validTriple, judgedNext, judgedAll};
-ghost use Rattle.offset_walk.specs.Walk.{monthIn, tripleOffset, walked};
-ghost use Rattle.offset_walk.specs.Lists.{datesFrom, tripleAt, walkOfNumbers};
+ghost use Rattle.date_judging.specs.Judging.{validTriple};
+ghost use Rattle.offset_walk.specs.Walk.{monthIn, tripleOffset};
+ghost use Rattle.date_judging.specs.Lists.{datesFrom, tripleAt};
+ghost use Rattle.offset_walk.specs.Lists.{walkOfNumbers};
 ghost use Rattle.offset_walk.specs.Call.{asFloats, WalkCall};
 ghost use Rattle.offset_walk.specs.Asked.{Standing, AtStart, Stepped, CountsNext, GoodDates};
-ghost use Rattle.tai_utc.specs.Table.{rising};
 ghost use lib.Dec.{T};
 
 mod bytes;
 
 pub use bytes::offsets_at_0h_bytes;
-use tai_utc::LentRows;
+use date_judging::Triple;
+use lent_rows::LentRows;
 use tai_utc::walk_rows::RowTerms;
-
-// A year, month and day, a date or not.
-pub struct Triple {
-    pub year: i32,
-    pub month: i32,
-    pub day: i32,
-}
 
 // The number of rows compared, or the number of the refusal.
 pub enum WalkAnswer {
@@ -47,71 +40,6 @@ pub struct Walk {
     pub next: u64,
     pub terms: RowTerms,
     pub compared: u64,
-}
-
-// Whether a is earlier than b.
-fn earlier(a: Triple, b: Triple) -> bool
-    ensures { λ r. ⌜ r ≡ earlier a b ⌝ }
-{
-    if a.year < b.year {
-        return true;
-    }
-    if b.year < a.year {
-        return false;
-    }
-    if a.month < b.month {
-        return true;
-    }
-    if b.month < a.month {
-        return false;
-    }
-    a.day < b.day
-}
-
-// Whether the day is one that every month has, of a year and month that are good: such a date needs no look at its month's length.
-fn in_every_month(t: Triple) -> bool
-    ensures { λ r. ⌜ (r ≡ true → validTriple t ≡ answer tt) ⌝ }
-{
-    if t.year < -4799 {
-        return false;
-    }
-    if t.month < 1 {
-        return false;
-    }
-    if 12 < t.month {
-        return false;
-    }
-    if t.day < 1 {
-        return false;
-    }
-    t.day <= 28
-}
-
-// The number by which a date is turned away by itself, 0 if it is not.
-fn own_number(t: Triple) -> u32
-    ensures { λ r. ⌜ unlessRefused r tt ≡ validTriple t ⌝ }
-{
-    if in_every_month(t) {
-        return 0;
-    }
-    match calendar::validate_calendar_date(t.year, t.month, t.day) {
-        calendar::DateCheck::Refused(number) => number,
-        calendar::DateCheck::Valid => 0,
-    }
-}
-
-// The number by which a date after another is turned away, 0 if it is not: its own, then 17.
-fn judge(before: Triple, t: Triple) -> u32
-    ensures { λ r. ⌜ unlessRefused r tt ≡ judgedNext before t ⌝ }
-{
-    let number = own_number(t);
-    if number != 0 {
-        return number;
-    }
-    if earlier(t, before) {
-        return refusals::EARLIER_THAN_BEFORE;
-    }
-    0
 }
 
 // The number of a date's month; 0 in the years before year 0.
@@ -198,29 +126,6 @@ fn triple_at(dates: &[i32], i: usize) -> Triple
     }
 }
 
-// The number by which the n dates are turned away, 0 if they are not. No valid date is earlier than the first of -4799.
-fn judge_all(dates: &[i32], n: usize) -> u32
-    requires { ⌜ 3 * n ≤ length (now dates) ⌝ }
-    ensures { λ r. ⌜ unlessRefused r tt ≡ judgedAll (datesFrom (tripleAt (now (dates .entry))) 0 n) ⌝ }
-{
-    let mut before = Triple {
-        year: -4799,
-        month: 1,
-        day: 1,
-    };
-    let mut i = 0;
-    while i < n {
-        let t = triple_at(dates, i);
-        let number = judge(before, t);
-        if number != 0 {
-            return number;
-        }
-        before = t;
-        i += 1;
-    }
-    0
-}
-
 // Walks through the table with n dates, writes their offsets, and says how many rows it compared.
 fn walk_all(dates: &[i32], n: usize, table: LentRows, out: &mut [f64]) -> u64
     requires { ⌜ (GoodDates (tripleAt (now dates)) n) × (T (rising (starts (rowsOf table)))) × (3 * n ≤ length (now dates)) × (n ≤ length (now out)) ⌝ }
@@ -242,30 +147,12 @@ fn walk_all(dates: &[i32], n: usize, table: LentRows, out: &mut [f64]) -> u64
     w.compared
 }
 
-// The number by which the call is turned away, 0 if it is not.
-fn refused_by(dates: &[i32], table: LentRows, places: usize) -> u32
-    ensures { λ r. ⌜ unlessRefused r (walked (rowsOf table) (datesFrom (tripleAt (now (dates .entry))) 0 (length (now (dates .entry)) / 3))) ≡ onward (tableOf table) (λ rows. walkOfNumbers rows (now (dates .entry)) places) ⌝ }
-{
-    let number = tai_utc::table_refusal(table);
-    if number != 0 {
-        return number;
-    }
-    if dates.len() % 3 != 0 {
-        return refusals::BLOCK_LENGTH_WRONG;
-    }
-    let n = dates.len() / 3;
-    if places < n {
-        return refusals::TEXT_LONGER_THAN_BUFFER;
-    }
-    judge_all(dates, n)
-}
-
 // Writes TAI-UTC at 0h of each date, a year, a month and a day of `dates`, in their order, and answers how many rows of the table it compared. Refusals in order: 20 to 22 the
 // table; 14 a length of `dates` that is no multiple of 3; 11 fewer places than dates; then date by date 1 to 3 its own, 17 earlier than the one before it.
 pub fn offsets_at_0h(dates: &[i32], table: LentRows, out: &mut [f64]) -> WalkAnswer
     ensures { λ r. ⌜ WalkCall asFloats (onward (tableOf table) (λ rows. walkOfNumbers rows (now (dates .entry)) (length (now (out .entry))))) (now (out .entry)) r (now (out .exit)) ⌝ }
 {
-    let number = refused_by(dates, table, out.len());
+    let number = date_judging::numbers_refusal(dates, table, out.len());
     if number != 0 {
         return WalkAnswer::Refused(number);
     }

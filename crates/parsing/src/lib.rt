@@ -2,9 +2,9 @@
 use calendar::DateCheck;
 use julian::JulianAnswer;
 use julian::JulianDate;
+use lent_rows::LentRows;
 use scales::UTC;
 use scales::UtcAnswer;
-use tai_utc::LentRows;
 use text_scan::Form;
 use text_scan::Scanned;
 ghost use mathlib.Core.Path.{_≡_};
@@ -12,7 +12,7 @@ ghost use mathlib.Core.Bool.{true, false};
 ghost use Prim.Native.Nat.{_≤_};
 ghost use Rattle.julian.specs.JulianDate.{julianOutcome};
 ghost use Rattle.refusals.specs.Outcome.{onward};
-ghost use Rattle.tai_utc.specs.Lent.{rowsIn, rowsOf, tableOf};
+ghost use Rattle.lent_rows.specs.Lent.{rowsIn, rowsOf, tableOf};
 ghost use Rattle.parsing.specs.Parsed.{parsedOutcome, parsedUtcOutcome, parsed, toJulianDate, dated as dated·of, parsedUtc};
 ghost use Rattle.parsing.specs.Judging.{timeIn, quotient, judgedForm};
 
@@ -144,7 +144,12 @@ pub fn from_str_by_lent<'a>(
 pub fn from_str_by_rows(text: &[u8], table: LentRows) -> ParsedUtcAnswer
     ensures { λ r. ⌜ parsedUtcOutcome r ≡ parsedUtc (rowsOf table) (now (text .entry)) ⌝ }
 {
-    from_str_by_lent(text, tai_utc::size_of(table), &table.months, &table.seconds)
+    from_str_by_lent(
+        text,
+        lent_rows::size_of(table),
+        &table.months,
+        &table.seconds,
+    )
 }
 
 // The fields of a UTC text and the date that they name. Refusals in order: 20 to 22 the table, 15 the text, 16 its fraction, 2 the month, 3 the day, 4 the time, which
@@ -152,7 +157,7 @@ pub fn from_str_by_rows(text: &[u8], table: LentRows) -> ParsedUtcAnswer
 pub fn from_str(text: &[u8], table: LentRows) -> ParsedUtcAnswer
     ensures { λ r. ⌜ parsedUtcOutcome r ≡ onward (tableOf table) (λ rows. parsedUtc rows (now (text .entry))) ⌝ }
 {
-    let number = tai_utc::table_refusal(table);
+    let number = lent_rows::table_refusal(table);
     if number != 0 {
         return ParsedUtcAnswer::Refused(number);
     }

@@ -25,9 +25,9 @@ use Rattle.julian.specs.declared.CalendarFields.{CalendarFields}
 use Rattle.julian.specs.Calendar.{julianToCalendar}
 use Rattle.julian_laws.specs.CalendarAnswers.{FieldsInRange}
 use Rattle.julian_laws.proofs.CalendarDays.{answered-in-range, not-above}
-use Rattle.tai_utc.specs.declared.LentRows.{LentRows}
-use Rattle.tai_utc.specs.Table.{Row}
-use Rattle.tai_utc.specs.Lent.{tableOf}
+use Rattle.lent_rows.specs.declared.LentRows.{LentRows}
+use Rattle.lent_rows.specs.Table.{Row}
+use Rattle.lent_rows.specs.Lent.{tableOf}
 use Rattle.tai_utc.specs.Leap.{leapAtEndOfDay}
 use Rattle.tai_utc.proofs.Days.{leap-came}
 use Rattle.time_of_day.specs.declared.TimeOfDay.{TimeOfDay}

@@ -33,9 +33,9 @@ use Rattle.julian.proofs.Midnights.{midnight-given}
 use Rattle.julian_laws.proofs.RoundTrip.{midnight-fraction, round-trip-at-midnight}
 use Rattle.julian_laws.proofs.CalendarDays.{fields-of}
 use Rattle.tai_round_trip.proofs.Fraction.{fraction-fits}
-use Rattle.tai_utc.specs.declared.LentRows.{LentRows}
-use Rattle.tai_utc.specs.Table.{Row}
-use Rattle.tai_utc.specs.Lent.{tableOf}
+use Rattle.lent_rows.specs.declared.LentRows.{LentRows}
+use Rattle.lent_rows.specs.Table.{Row}
+use Rattle.lent_rows.specs.Lent.{tableOf}
 use Rattle.tai_utc.specs.Leap.{leapAtEndOfDay}
 use Rattle.time_of_day.specs.declared.TimeOfDay.{TimeOfDay}
 use Rattle.time_of_day.specs.declared.TimeShown.the-variants.{At, NextMidnight}

@@ -8,9 +8,9 @@ use lib.Ieee.{binary64, fits}
 use Rattle.refusals.specs.Outcome.{Outcome, answer, onward}
 use Rattle.digits.specs.Decimal.{digitsOf}
 use Rattle.julian.specs.declared.JulianDate.{JulianDate}
-use Rattle.tai_utc.specs.declared.LentRows.{LentRows}
-use Rattle.tai_utc.specs.Table.{Row}
-use Rattle.tai_utc.specs.Lent.{tableOf}
+use Rattle.lent_rows.specs.declared.LentRows.{LentRows}
+use Rattle.lent_rows.specs.Table.{Row}
+use Rattle.lent_rows.specs.Lent.{tableOf}
 use Rattle.utc.specs.Expanded.{isoTextExpanded}
 use Rattle.parsing.specs.declared.ParsedUtc.{ParsedUtc}
 use Rattle.parsing_laws.specs.Shown.{YearShown, ReadsBack, fieldsShown, withDate}

@@ -1,13 +1,13 @@
 // A text as the marker boxes send it, answered by a line: its index and the text of its date, or `refused` and the number.
+use lent_rows::LentRows;
 use parsing::ParsedUtcAnswer;
 use scales::UTC;
-use tai_utc::LentRows;
 use utc_text::TextAnswer;
 ghost use Prim.Native.Nat.{_+_, _≤_};
 ghost use lib.ListN.{length};
 ghost use Rattle.digits.specs.Decimal.{digitsOf};
 ghost use Rattle.refusals.specs.Outcome.{refusal};
-ghost use Rattle.tai_utc.specs.Lent.{rowsOf};
+ghost use Rattle.lent_rows.specs.Lent.{rowsOf};
 ghost use Rattle.utc.specs.Expanded.{isoTextExpanded};
 ghost use Rattle.digits.specs.Placed.{Placed};
 ghost use Rattle.readings.specs.Reading.{reading, readingTold, readingLine, LineCall};

@@ -28,8 +28,8 @@ pub(crate) fn answered(call: u64, record: &[u8; 128]) -> Answer {
             month,
             day,
             words::float_at(record, 4),
-            tai_utc::no_rows(),
+            lent_rows::no_rows(),
         ));
     }
-    found(tai_utc::leap_at_end_of_day(year, month, day, tai_utc::no_rows()))
+    found(tai_utc::leap_at_end_of_day(year, month, day, lent_rows::no_rows()))
 }

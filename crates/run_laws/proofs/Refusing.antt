@@ -16,7 +16,7 @@ use Rattle.julian.specs.declared.JulianDate.{JulianDate}
 use Rattle.julian.specs.JulianDate.{julian}
 use Rattle.julian.specs.Finite.{finiteParts, finiteJd}
 use Rattle.little_endian.specs.LittleEndian.{u64At}
-use Rattle.tai_utc.specs.Table.{Row}
+use Rattle.lent_rows.specs.Table.{Row}
 use Rattle.shifts.specs.Shifts.{plus, minus, converted}
 use Rattle.shifts.specs.SmallerPart.{firstIsLarger, mapSmallerPart}
 use Rattle.shifts.proofs.Outcomes.{first}

@@ -9,8 +9,8 @@ ghost use lib.Signed.{ltZ};
 ghost use lib.Ieee.{le};
 ghost use Rattle.floats.specs.Whole.{nought};
 ghost use Rattle.day_number.specs.DayNumber.{c-djmax};
-ghost use Rattle.tai_utc.specs.Table.{Row};
-ghost use Rattle.tai_utc.specs.Lent.{rowsOf, tableOf};
+ghost use Rattle.lent_rows.specs.Table.{Row};
+ghost use Rattle.lent_rows.specs.Lent.{rowsOf, tableOf};
 ghost use Rattle.utc.specs.Expanded.{isoTextExpanded};
 ghost use Rattle.stamps.specs.Block.{blockOutcome, blockOf};
 ghost use Rattle.digits.specs.Placed.{Placed};
@@ -26,8 +26,8 @@ use super::stamp_at;
 use super::told;
 use day_number::DayAnswer;
 use julian::JulianDate;
+use lent_rows::LentRows;
 use scales::UTC;
-use tai_utc::LentRows;
 use utc_text::TextAnswer;
 
 // A line is begun only where so many bytes are left. By numbers the longest line has four bytes of the index, a blank, the longest text, 27, and the line's end; by
@@ -230,7 +230,7 @@ pub fn next_told_part(
 ) -> LinesAnswer
     ensures { λ r. ⌜ PartCall how (tableOf table) (now (block .entry)) line (now (scratch .entry)) r (now (scratch .exit)) ⌝ }
 {
-    let number = tai_utc::table_refusal(table);
+    let number = lent_rows::table_refusal(table);
     if number != 0 {
         return LinesAnswer::Refused(number);
     }

@@ -11,7 +11,7 @@ use Rattle.refusals.specs.Outcome.{Outcome, answer, refusal, onward}
 use Rattle.calendar.specs.declared.CalendarDate.{CalendarDate}
 use Rattle.calendar.specs.Refusals.{nextOf}
 use Rattle.calendar.specs.DayCount.{mjdNumber}
-use Rattle.tai_utc.specs.Table.{Row}
+use Rattle.lent_rows.specs.Table.{Row}
 use Rattle.tai_utc.specs.WholeSeconds.{wholeSeconds}
 use Rattle.standby.specs.declared.UtcTime.{UtcTime}
 

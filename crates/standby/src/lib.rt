@@ -2,7 +2,7 @@
 ghost use mathlib.Core.Path.{_≡_};
 ghost use Prim.Native.Nat.{_+_, _*_, _≤_, _<_};
 ghost use Rattle.refusals.specs.Outcome.{answer, onward};
-ghost use Rattle.tai_utc.specs.Lent.{rowsOf, tableOf};
+ghost use Rattle.lent_rows.specs.Lent.{rowsOf, tableOf};
 ghost use Rattle.standby.specs.Times.{inItsDay, lastMinute, timeSeconds};
 ghost use Rattle.standby.specs.Times as T;
 ghost use Rattle.standby.specs.Bills.{overLimit, shares, billBetween, standbyBill};
@@ -12,7 +12,7 @@ ghost use Rattle.standby.specs.Asked.{Dated, InstantIs, SmallInstant, St
 use calendar::CalendarDate;
 use calendar::MjdAnswer;
 use calendar::NextDay;
-use tai_utc::LentRows;
+use lent_rows::LentRows;
 
 // The longest of each: quarters, cents a quarter, metres.
 const LIMIT: u64 = 1_000_000;
@@ -240,7 +240,7 @@ pub fn standby_bill(
 ) -> BillAnswer
     ensures { λ r. ⌜ billOutcome r ≡ onward (tableOf table) (λ rows. standbyBill rows start end rate «first_metres» «second_metres») ⌝ }
 {
-    let number = tai_utc::table_refusal(table);
+    let number = lent_rows::table_refusal(table);
     if number != 0 {
         return BillAnswer::Refused(number);
     }

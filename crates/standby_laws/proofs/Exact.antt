@@ -9,9 +9,9 @@ use Rattle.refusals.specs.Outcome.{answer}
 use Rattle.calendar.specs.Refusals.{validDate}
 use Rattle.calendar.proofs.Accepted.{date-accepted}
 use Rattle.calendar.proofs.Mjd.{mjd-given}
-use Rattle.tai_utc.specs.declared.LentRows.{LentRows}
-use Rattle.tai_utc.specs.Table.{Row, monthNumber}
-use Rattle.tai_utc.specs.Lent.{tableOf}
+use Rattle.lent_rows.specs.declared.LentRows.{LentRows}
+use Rattle.lent_rows.specs.Table.{Row, monthNumber}
+use Rattle.lent_rows.specs.Lent.{tableOf}
 use Rattle.tai_utc.specs.Offset.{inDay, taiUtcOffset, wholeF}
 use Rattle.tai_utc.proofs.Offsets.{offset-given}
 use Rattle.tai_utc.proofs.TableSeconds.{table-seconds}

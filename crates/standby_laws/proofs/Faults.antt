@@ -30,13 +30,13 @@ use Rattle.calendar.proofs.NextDates.{next-is, next-in-calendar}
 use Rattle.calendar.proofs.Years.{next-keeps}
 use Rattle.julian.specs.declared.JulianDate.{JulianDate}
 use Rattle.julian.specs.DayFraction.{secondLimit, timeInDay, dayFraction}
-use Rattle.tai_utc.specs.declared.LentRows.{LentRows}
-use Rattle.tai_utc.specs.Table.{Row, starts, monthNumber}
-use Rattle.tai_utc.specs.Lent.{tableOf}
+use Rattle.lent_rows.specs.declared.LentRows.{LentRows}
+use Rattle.lent_rows.specs.Table.{Row, starts, monthNumber}
+use Rattle.lent_rows.specs.Lent.{tableOf}
 use Rattle.tai_utc.specs.Offset.{secondsIn}
 use Rattle.tai_utc.specs.Leap.{leapOf, offsetsOfDay, leapAtEndOfDay}
 use Rattle.tai_utc.specs.WholeSeconds.{wholeSeconds}
-use Rattle.tai_utc.proofs.Reached.{member}
+use Rattle.lent_rows.proofs.Reached.{member}
 use Rattle.tai_utc.proofs.Days.{day-offsets-are, leap-given}
 use Rattle.tai_utc.proofs.TableSeconds.{seconds-stay, seconds-step}
 use Rattle.tai_utc.proofs.WholeSeconds.{late}

@@ -19,9 +19,9 @@ use Rattle.calendar.proofs.Accepted.{Accepted, date-accepted, short}
 use Rattle.calendar.proofs.Mjd.{mjd-given, same-answer}
 use Rattle.calendar.proofs.NextDates.{next-is, next-in-calendar, next-accepted, next-mjd}
 use Rattle.calendar.proofs.Years.{next-keeps}
-use Rattle.tai_utc.specs.declared.LentRows.{LentRows}
-use Rattle.tai_utc.specs.Table.{Row}
-use Rattle.tai_utc.specs.Lent.{tableOf}
+use Rattle.lent_rows.specs.declared.LentRows.{LentRows}
+use Rattle.lent_rows.specs.Table.{Row}
+use Rattle.lent_rows.specs.Lent.{tableOf}
 use Rattle.tai_utc.specs.WholeSeconds.{wholeSeconds}
 use Rattle.standby.specs.declared.UtcTime.{UtcTime}
 use Rattle.standby.specs.Times.{offsetOnDate, offsetAfter, lastMinute, inItsDay, timeSeconds, mjdDay, taiMs, instant}

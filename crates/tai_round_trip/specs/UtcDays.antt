@@ -9,7 +9,7 @@ unfoldable pub use Rattle.rounding.specs.Value.{H}
 use Rattle.calendar.specs.Calendar.{dateOf}
 use Rattle.julian.specs.declared.JulianDate.{JulianDate}
 use Rattle.julian.specs.Worth.{Worth}
-use Rattle.tai_utc.specs.Table.{fixed, monthNumber}
+use Rattle.lent_rows.specs.Table.{fixed, monthNumber}
 use Rattle.tai_utc.specs.Offset.{secondsIn}
 
 -- (p - m) / L lies on day n: f / L of that day have passed

@@ -12,10 +12,10 @@ use lib.IntN.{ℤ}
 use lib.Ieee.{Float, binary64, add, sub, mul, ofInt}
 use borrow.Author.Tests.{lt-ltb, le-ltb}
 use Rattle.floats.specs.Whole.{nought}
-use Rattle.tai_utc.specs.Table.{Row, fixed, starts, reached}
-use Rattle.tai_utc.specs.Offset.{secondsOf, startOf, rateOf, byRow, none, offsetBy, offsetAt, rowAt}
+use Rattle.lent_rows.specs.Table.{Row, fixed, starts, reached, none}
+use Rattle.tai_utc.specs.Offset.{secondsOf, startOf, rateOf, byRow, offsetBy, offsetAt, rowAt}
 use Rattle.tai_utc.specs.Leap.{offsets}
-use Rattle.tai_utc.proofs.Rows.{drifts}
+use Rattle.lent_rows.proofs.Rows.{drifts}
 
 abbrev drift : Row → Float → Float → Float
 drift r mjd f = add binary64 (secondsOf r) (mul binary64 (sub binary64 (add binary64 mjd f) (startOf r)) (rateOf r))

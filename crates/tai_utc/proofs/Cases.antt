@@ -10,7 +10,7 @@ use Rattle.floats.specs.Whole.{one}
 use Rattle.calendar.specs.Calendar.{leapSize, lengths, daysInMonth}
 use Rattle.calendar.specs.Refusals.{validDate, nextOf}
 use Rattle.calendar.specs.DayCount.{civilCount, mjdNumber, mjdOf}
-use Rattle.tai_utc.specs.Table.{fixed, monthNumber, reached}
+use Rattle.lent_rows.specs.Table.{fixed, monthNumber, reached}
 use Rattle.tai_utc.specs.Offset.{secondsOf, byRow, offsetBy, offsetAt, inDay, taiUtcOffset}
 use Rattle.tai_utc.specs.Leap.{dayOffsets, leapAtEndOfDay}
 

@@ -17,7 +17,7 @@ use Rattle.calendar.specs.declared.CalendarDate.{CalendarDate}
 use Rattle.calendar.proofs.Mjd.{mjd-refused, mjd-given}
 use Rattle.calendar.proofs.NextDates.{refused-next, next-mjd}
 use Rattle.tai_utc.specs.declared.DayOffsets.{DayOffsets}
-use Rattle.tai_utc.specs.Table.{Row, monthNumber}
+use Rattle.lent_rows.specs.Table.{Row, monthNumber}
 use Rattle.tai_utc.specs.Leap.{offsetsOfDay, dayOffsets, leapOf, leapAtEndOfDay}
 use Rattle.tai_utc.proofs.Offsets.{in-day-zero, in-day-half, date-refused, offset-given}
 

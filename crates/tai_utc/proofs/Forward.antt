@@ -10,12 +10,12 @@ use lib.Dec.{eqb}
 use lib.ListN.{length, getD}
 use lib.Ieee.{Float, round}
 use Rattle.floats.specs.Whole.{nought}
-use Rattle.tai_utc.specs.declared.LentRows.{LentRows}
-use Rattle.tai_utc.specs.Table.{Row, fixed, starts}
-use Rattle.tai_utc.specs.Lent.{lentRow, lentSize, rowsOf}
-use Rattle.tai_utc.specs.Offset.{none, secondsOf, offsetBy}
+use Rattle.lent_rows.specs.declared.LentRows.{LentRows}
+use Rattle.lent_rows.specs.Table.{Row, fixed, starts, none}
+use Rattle.lent_rows.specs.Lent.{lentRow, lentSize, rowsOf}
+use Rattle.tai_utc.specs.Offset.{secondsOf, offsetBy}
 use Rattle.tai_utc.specs.Forward.{never}
-use Rattle.tai_utc.proofs.Tables.{table-length, fixed-place, lent-place}
+use Rattle.lent_rows.proofs.Tables.{table-length, fixed-place, lent-place}
 use Rattle.tai_utc.proofs.At.{row-stays}
 
 -- the start at a place is the month of the row there, and past the last row it is what is asked for instead

@@ -1,13 +1,4 @@
--- The laws of the table and of its look-ups.
-pub mod Reached
-pub mod Rows
-pub mod Naturals
-pub mod InTurn
-pub mod Tables
-pub mod TableTests
-pub mod TablesTaken
-pub mod TableLaws
-pub mod NoRows
+-- The laws of the look-ups.
 pub mod ByParts
 pub mod Rules
 pub mod Month

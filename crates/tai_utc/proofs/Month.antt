@@ -11,7 +11,7 @@ use mir.Syntax.{w32, w64}
 use mir.Val.{SFits, Fits, toZ, ofZ}
 use mir.Facts.{toZ-ofZ}
 use borrow.Author.Tests.{ltb-true}
-use Rattle.tai_utc.specs.Table.{monthNumber, monthOf}
+use Rattle.lent_rows.specs.Table.{monthNumber, monthOf}
 
 small : (z : ℤ) → SFits w32 z → natAbs z ≤ 2147483648
 small (pos n) f = omega (arith, f .sfits)

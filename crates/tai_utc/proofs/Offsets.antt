@@ -10,7 +10,7 @@ use lib.Ieee.{Float, binary64, ofInt, le}
 use Rattle.refusals.specs.Outcome.{Outcome, answer, refusal, onward}
 use Rattle.floats.specs.Whole.{nought, half, one}
 use Rattle.calendar.specs.DayCount.{mjdOf}
-use Rattle.tai_utc.specs.Table.{Row, monthNumber}
+use Rattle.lent_rows.specs.Table.{Row, monthNumber}
 use Rattle.tai_utc.specs.Offset.{offsetAt, inDay, taiUtcOffset}
 
 flip : (b t : Bool) → not b ≡ t → b ≡ not t

@@ -23,7 +23,7 @@ use Rattle.calendar.proofs.Accepted.{Accepted, date-accepted, in-calendar-valid
 use Rattle.calendar.proofs.Mjd.{mjd-given}
 use Rattle.calendar.proofs.NextDates.{next-day, next-is}
 use Rattle.tai_utc.specs.declared.DayOffsets.{DayOffsets}
-use Rattle.tai_utc.specs.Table.{Row, monthNumber}
+use Rattle.lent_rows.specs.Table.{Row, monthNumber}
 use Rattle.tai_utc.specs.Offset.{offsetAt, inDay, taiUtcOffset}
 use Rattle.tai_utc.specs.Leap.{offsets, offsetsOfDay, dayOffsets, leapOf, leapAtEndOfDay, twoF}
 use Rattle.tai_utc.specs.Plain.{Plain}

@@ -12,17 +12,17 @@ use lib.Ieee.{Float}
 use borrow.Author.Tests.{ltb-true, ltb-false, lt-ltb, le-ltb}
 use Rattle.refusals.specs.Outcome.{answer}
 use Rattle.floats.specs.Whole.{nought}
-use Rattle.tai_utc.specs.declared.LentRows.{LentRows}
+use Rattle.lent_rows.specs.declared.LentRows.{LentRows}
 use Rattle.tai_utc.specs.declared.Rule.{Rule}
 use Rattle.tai_utc.specs.declared.Rule.the-variants.{Absent, Drifting, Whole}
-use Rattle.tai_utc.specs.Table.{Row, fixed, starts, reached, LastBegun, monthNumber}
-use Rattle.tai_utc.specs.Lent.{lentRow, rowsTo, lentSize, rowsOf, tableOf}
-use Rattle.tai_utc.specs.Offset.{none, byRow, offsetBy, offsetAt}
+use Rattle.lent_rows.specs.Table.{Row, fixed, starts, reached, LastBegun, monthNumber, none}
+use Rattle.lent_rows.specs.Lent.{lentRow, rowsTo, lentSize, rowsOf, tableOf}
+use Rattle.tai_utc.specs.Offset.{byRow, offsetBy, offsetAt}
 use Rattle.tai_utc.specs.Rule.{ruleBy, ruleOf, ruleAt}
-use Rattle.tai_utc.proofs.Reached.{last-begun, none-begun, high}
-use Rattle.tai_utc.proofs.Tables.{table-length, table-drifts, lent-place, starts-more, starts-length, most-of-table, no-fewer}
-use Rattle.tai_utc.proofs.TablesTaken.{when-taken}
-use Rattle.tai_utc.proofs.TableLaws.{table-rises}
+use Rattle.lent_rows.proofs.Reached.{last-begun, none-begun, high}
+use Rattle.lent_rows.proofs.Tables.{table-length, table-drifts, lent-place, starts-more, starts-length, most-of-table, no-fewer}
+use Rattle.lent_rows.proofs.TablesTaken.{when-taken}
+use Rattle.lent_rows.proofs.TableLaws.{table-rises}
 use Rattle.tai_utc.proofs.Years.{one-row}
 
 -- ---- which rule it is, by the number of rows reached

@@ -13,8 +13,8 @@ use Rattle.refusals.specs.Outcome.{Outcome, answer, refusal, onward}
 use Rattle.tai_utc.specs.declared.DayOffsets.{DayOffsets}
 use Rattle.tai_utc.specs.declared.Rule.{Rule}
 use Rattle.tai_utc.specs.declared.Rule.the-variants.{Absent, Drifting, Whole}
-use Rattle.tai_utc.specs.Table.{Row}
-use Rattle.tai_utc.specs.Offset.{none, taiUtcOffset}
+use Rattle.lent_rows.specs.Table.{Row, none}
+use Rattle.tai_utc.specs.Offset.{taiUtcOffset}
 use Rattle.tai_utc.specs.Leap.{dayOffsets, leapOf, leapAtEndOfDay}
 use Rattle.tai_utc.specs.Rule.{ruleBy, withRule, forget, offsetByRule, dayByRule, leapByRule}
 

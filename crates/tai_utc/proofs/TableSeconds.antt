@@ -16,16 +16,16 @@ use lib.Ieee.Scale.{round-same}
 use lib.Ieee.Fits.{and-l, and-r}
 use borrow.Author.Tests.{ltb-true, ltb-false}
 use Rattle.refusals.specs.Outcome.{answer}
-use Rattle.tai_utc.specs.declared.LentRows.{LentRows}
-use Rattle.tai_utc.specs.Table.{Row, fixed, starts, reached, rising}
-use Rattle.tai_utc.specs.Lent.{secondsAt, lentRow, rowsTo, lentSize, rowsOf, oneApart, oneSecond, bySeconds, tableOf}
-use Rattle.tai_utc.specs.Offset.{none, secondsOf, byRow, offsetBy, offsetAt, secondsIn, wholeF}
-use Rattle.tai_utc.proofs.Reached.{at-most, member, month-later}
-use Rattle.tai_utc.proofs.Rows.{every, at}
-use Rattle.tai_utc.proofs.InTurn.{in-turn-at, all-hold}
-use Rattle.tai_utc.proofs.Tables.{table-length, fixed-place, lent-place, lent-passed, most-of-table, monthBefore, rises-more}
-use Rattle.tai_utc.proofs.TablesTaken.{Taken, when-taken, all-count}
-use Rattle.tai_utc.proofs.TableLaws.{near, high-month, table-rises, lent-seconds-near}
+use Rattle.lent_rows.specs.declared.LentRows.{LentRows}
+use Rattle.lent_rows.specs.Table.{Row, fixed, starts, reached, rising, none}
+use Rattle.lent_rows.specs.Lent.{secondsAt, lentRow, rowsTo, lentSize, rowsOf, oneApart, oneSecond, bySeconds, tableOf}
+use Rattle.tai_utc.specs.Offset.{secondsOf, byRow, offsetBy, offsetAt, secondsIn, wholeF}
+use Rattle.lent_rows.proofs.Reached.{at-most, member, month-later}
+use Rattle.lent_rows.proofs.Rows.{every, at}
+use Rattle.lent_rows.proofs.InTurn.{in-turn-at, all-hold}
+use Rattle.lent_rows.proofs.Tables.{table-length, fixed-place, lent-place, lent-passed, most-of-table, monthBefore, rises-more}
+use Rattle.lent_rows.proofs.TablesTaken.{Taken, when-taken, all-count}
+use Rattle.lent_rows.proofs.TableLaws.{near, high-month, table-rises, lent-seconds-near}
 use Rattle.tai_utc.proofs.TableYears.{whole-rows-of, row-seconds-of}
 
 -- ---- the fixed rows from place 14 on are 10 to 37 whole seconds: computed

@@ -7,11 +7,11 @@ use native.Mathlib.Omega.{arith}
 use lib.ListN.{getD}
 use lib.Ieee.{Float}
 use borrow.Author.Tests.{le-ltb}
-use Rattle.tai_utc.specs.declared.LentRows.{LentRows}
-use Rattle.tai_utc.specs.Table.{starts, reached}
-use Rattle.tai_utc.specs.Lent.{lentSize, rowsOf}
-use Rattle.tai_utc.specs.Offset.{none, secondsOf, offsetAt}
-use Rattle.tai_utc.proofs.Tables.{table-drifts, no-fewer, most-of-table}
+use Rattle.lent_rows.specs.declared.LentRows.{LentRows}
+use Rattle.lent_rows.specs.Table.{starts, reached, none}
+use Rattle.lent_rows.specs.Lent.{lentSize, rowsOf}
+use Rattle.tai_utc.specs.Offset.{secondsOf, offsetAt}
+use Rattle.lent_rows.proofs.Tables.{table-drifts, no-fewer, most-of-table}
 use Rattle.tai_utc.proofs.At.{row-stays}
 use Rattle.tai_utc.proofs.Years.{whole-rows}
 

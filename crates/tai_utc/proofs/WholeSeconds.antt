@@ -8,14 +8,14 @@ use lib.ListN.{length, getD}
 use lib.IntN.{ℤ, pos, negsuc}
 use lib.Signed.{ltZ}
 use borrow.Author.Tests.{ltb-true, ltb-false, lt-ltb, le-ltb}
-use Rattle.tai_utc.specs.declared.LentRows.{LentRows}
-use Rattle.tai_utc.specs.Table.{Row, fixed, starts, reached, monthNumber}
-use Rattle.tai_utc.specs.Lent.{secondsAt, lentSize, rowsOf}
-use Rattle.tai_utc.specs.Offset.{none, secondsIn}
+use Rattle.lent_rows.specs.declared.LentRows.{LentRows}
+use Rattle.lent_rows.specs.Table.{Row, fixed, starts, reached, monthNumber, none}
+use Rattle.lent_rows.specs.Lent.{secondsAt, lentSize, rowsOf}
+use Rattle.tai_utc.specs.Offset.{secondsIn}
 use Rattle.tai_utc.specs.WholeSeconds.{wholeSeconds}
-use Rattle.tai_utc.proofs.Rows.{every, at}
+use Rattle.lent_rows.proofs.Rows.{every, at}
 use Rattle.tai_utc.proofs.Years.{most-rows, whole-rows}
-use Rattle.tai_utc.proofs.Tables.{fixed-place, lent-place}
+use Rattle.lent_rows.proofs.Tables.{fixed-place, lent-place}
 
 -- ---- the row of place k, from 14 to 41, has k - 4 seconds: computed
 countTest : ℕ → Row → Bool

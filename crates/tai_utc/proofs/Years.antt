@@ -15,10 +15,10 @@ use Rattle.refusals.specs.Outcome.{answer}
 use Rattle.floats.specs.Whole.{nought}
 use Rattle.calendar.proofs.Accepted.{date-accepted}
 use Rattle.calendar.proofs.Mjd.{mjd-valid}
-use Rattle.tai_utc.specs.Table.{Row, fixed, starts, reached, monthOf, monthNumber}
-use Rattle.tai_utc.specs.Offset.{none, secondsOf, offsetAt, taiUtcOffset, rowAt, wholeF}
-use Rattle.tai_utc.proofs.Reached.{low, high, at-most}
-use Rattle.tai_utc.proofs.Rows.{place, fixed-rises}
+use Rattle.lent_rows.specs.Table.{Row, fixed, starts, reached, monthOf, monthNumber, none}
+use Rattle.tai_utc.specs.Offset.{secondsOf, offsetAt, taiUtcOffset, rowAt, wholeF}
+use Rattle.lent_rows.proofs.Reached.{low, high, at-most}
+use Rattle.lent_rows.proofs.Rows.{place, fixed-rises}
 use Rattle.tai_utc.proofs.At.{absent, steady}
 use Rattle.tai_utc.proofs.Offsets.{offset-came}
 

@@ -1,11 +1,8 @@
--- The outcome that each case of the answer enums stands for. Written from document 01, "Refusals by number", and document 02, items 5 and 8. Assumes nothing.
-use Prim.Native.Nat.{ℕ}
+-- The outcome that each case of the answer enums stands for. Written from document 01, "Refusals by number", and document 02, item 5. Assumes nothing.
 use lib.Ieee.{Float}
 use Rattle.refusals.specs.Outcome.{Outcome, answer, refusal}
 use Rattle.tai_utc.specs.declared.DayOffsets.{DayOffsets}
 use Rattle.tai_utc.specs.declared.Rule.{Rule}
-use Rattle.tai_utc.specs.declared.RowsAnswer.{RowsAnswer}
-use Rattle.tai_utc.specs.declared.RowsAnswer.the-variants as Rows
 use Rattle.tai_utc.specs.declared.SecondsAnswer.{SecondsAnswer}
 use Rattle.tai_utc.specs.declared.SecondsAnswer.the-variants as Offset
 use Rattle.tai_utc.specs.declared.DayOffsetsAnswer.{DayOffsetsAnswer}
@@ -14,10 +11,6 @@ use Rattle.tai_utc.specs.declared.SecondsByRule.{SecondsByRule}
 use Rattle.tai_utc.specs.declared.SecondsByRule.the-variants as Ruled
 use Rattle.tai_utc.specs.declared.DayByRule.{DayByRule}
 use Rattle.tai_utc.specs.declared.DayByRule.the-variants as RuledDay
-
-unfoldable pub rowsOutcome : RowsAnswer → Outcome ℕ
-rowsOutcome (Rows.Rows n) = answer n
-rowsOutcome (Rows.Refused number) = refusal number
 
 unfoldable pub secondsOutcome : SecondsAnswer → Outcome Float
 secondsOutcome (Offset.Seconds x) = answer x

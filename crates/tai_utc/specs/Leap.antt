@@ -9,7 +9,7 @@ use Rattle.refusals.specs.Outcome.{Outcome, answer, onward}
 use Rattle.floats.specs.Whole.{nought, half}
 use Rattle.calendar.specs.Refusals.{nextOf}
 use Rattle.tai_utc.specs.declared.DayOffsets.{DayOffsets}
-use Rattle.tai_utc.specs.Table.{Row}
+use Rattle.lent_rows.specs.Table.{Row}
 use Rattle.tai_utc.specs.Offset.{offsetAt, taiUtcOffset}
 
 abbrev pub twoF : Float

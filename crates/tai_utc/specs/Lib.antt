@@ -1,7 +1,5 @@
--- The definitions that the contracts of TAI-UTC cite, in the order to read them: the table and the row of a month, the rows that a caller lends, the offset at a fraction of a day, the offsets
--- of a day and its leap, the rule of an offset, the dates of the code's short way, whole seconds, what a walk forward reads, and the outcome that each answer of the code stands for.
-pub mod Table
-pub mod Lent
+-- The definitions that the contracts of TAI-UTC cite, in the order to read them, after those of `lent_rows`: the offset at a fraction of a day, the offsets of a day and its leap, the rule of an
+-- offset, the dates of the code's short way, whole seconds, what a walk forward reads, and the outcome that each answer of the code stands for.
 pub mod Offset
 pub mod Leap
 pub mod Rule

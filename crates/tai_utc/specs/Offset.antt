@@ -11,7 +11,7 @@ use Rattle.refusals.specs.Outcome.{Outcome, answer, refusal, onward}
 use Rattle.floats.specs.Whole.{nought, one}
 use Rattle.constants.specs.Constants.{decimal}
 use Rattle.calendar.specs.DayCount.{mjdOf}
-use Rattle.tai_utc.specs.Table.{Row, monthNumber, starts, reached, fixed}
+use Rattle.lent_rows.specs.Table.{Row, fixed, none, monthNumber, starts, reached}
 
 -- the floats nearest to a row's decimals
 unfoldable pub secondsOf : Row → Float
@@ -28,10 +28,6 @@ unfoldable pub byRow : Row → Float → Float → Float
 byRow r mjd fraction =
     cond (eqb (r .rate) 0) (secondsOf r)
     (add binary64 (secondsOf r) (mul binary64 (sub binary64 (add binary64 mjd fraction) (startOf r)) (rateOf r)))
-
--- no row: what a look-up past the end of the table would read
-abbrev pub none : Row
-none = record { month = 0; units = 0; start = 0; rate = 0 }
 
 -- by the number of rows reached: 0.0 before the first
 unfoldable pub offsetBy : List Row → ℕ → Float → Float → Float

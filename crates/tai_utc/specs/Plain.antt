@@ -6,7 +6,7 @@ use lib.IntN.{ℤ, natAbs}
 use Rattle.refusals.specs.Outcome.{answer}
 use Rattle.calendar.specs.Calendar.{date}
 use Rattle.calendar.specs.Refusals.{nextOf}
-use Rattle.tai_utc.specs.Table.{fixed, monthNumber, reached, starts}
+use Rattle.lent_rows.specs.Table.{fixed, monthNumber, reached, starts}
 
 pub record Plain (y m d : ℤ) : Type 0 where
   pub same-month : nextOf y m d ≡ answer (date y (natAbs m) (natAbs d + 1))

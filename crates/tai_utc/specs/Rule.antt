@@ -12,8 +12,8 @@ use Rattle.calendar.specs.declared.CalendarDate.{CalendarDate}
 use Rattle.tai_utc.specs.declared.DayOffsets.{DayOffsets}
 use Rattle.tai_utc.specs.declared.Rule.{Rule}
 use Rattle.tai_utc.specs.declared.Rule.the-variants.{Absent, Drifting, Whole}
-use Rattle.tai_utc.specs.Table.{Row, monthNumber, starts, reached}
-use Rattle.tai_utc.specs.Offset.{none, taiUtcOffset}
+use Rattle.lent_rows.specs.Table.{Row, monthNumber, starts, reached, none}
+use Rattle.tai_utc.specs.Offset.{taiUtcOffset}
 use Rattle.tai_utc.specs.Leap.{dayOffsets, leapAtEndOfDay}
 
 -- by the number of rows reached; a row whose rate is 0 does not drift

@@ -6,7 +6,7 @@ use mathlib.Core.List.{List}
 use lib.Dec.{ltb}
 use lib.IntN.{ℤ, pos}
 use lib.Signed.{ltZ}
-use Rattle.tai_utc.specs.Table.{Row, monthNumber}
+use Rattle.lent_rows.specs.Table.{Row, monthNumber}
 use Rattle.tai_utc.specs.Offset.{secondsIn}
 
 -- 0 in the years before 1972, whose rows drift, and for a number that is no month

@@ -2,8 +2,8 @@
 ghost use mathlib.Core.Path.{_≡_};
 ghost use Prim.Native.Nat.{_-_, _<_, _≤_};
 ghost use lib.ListN.{getD, drop, length};
-ghost use Rattle.tai_utc.specs.Table.{fixed, starts, reached};
-ghost use Rattle.tai_utc.specs.Offset.{none, secondsOf, startOf, rateOf};
+ghost use Rattle.lent_rows.specs.Table.{fixed, starts, reached, none};
+ghost use Rattle.tai_utc.specs.Offset.{secondsOf, startOf, rateOf};
 
 // The months in which the rows begin, numbered from January of year 0.
 pub(crate) const MONTHS: [u64; 42] = [

@@ -3,21 +3,21 @@ ghost use mathlib.Core.Path.{_≡_};
 ghost use mathlib.Core.Bool.{true};
 ghost use Rattle.floats.specs.Whole.{nought};
 ghost use Rattle.refusals.specs.Outcome.{onward};
-ghost use Rattle.tai_utc.specs.Lent.{rowsIn, rowsOf, tableOf};
+ghost use Rattle.lent_rows.specs.Lent.{rowsIn, rowsOf, tableOf};
 ghost use Rattle.tai_utc.specs.Offset.{inDay, taiUtcOffset};
 ghost use Rattle.tai_utc.specs.Rule.{forget, offsetByRule};
 ghost use Rattle.tai_utc.specs.Answers.{secondsOutcome, secondsByRuleOutcome};
-use super::LentRows;
 use super::SecondsAnswer;
 use super::SecondsByRule;
-use super::lent::size_of;
-use super::lent::table_refusal;
 use super::look_up::month_number;
 use super::look_up::of_plain_day;
 use super::look_up::offset_by;
 use super::look_up::plain_day;
 use super::look_up::rule_by;
 use super::look_up::table_rows_reached;
+use lent_rows::LentRows;
+use lent_rows::size_of;
+use lent_rows::table_refusal;
 
 // By the Modified Julian Date. Refusals 1 to 3, the date.
 fn by_mjd<'a>(

@@ -7,9 +7,9 @@ ghost use lib.IntN.{ℤ, pos, natAbs};
 ghost use lib.Signed.{leZ};
 ghost use lib.Ieee.{Float};
 ghost use lib.ListN.{getD};
-ghost use Rattle.tai_utc.specs.Table.{starts, reached, monthNumber};
-ghost use Rattle.tai_utc.specs.Lent.{least, lentTable, rowsIn, rowsTo};
-ghost use Rattle.tai_utc.specs.Offset.{none, secondsOf, offsetAt, offsetBy};
+ghost use Rattle.lent_rows.specs.Table.{starts, reached, monthNumber, none};
+ghost use Rattle.lent_rows.specs.Lent.{least, lentTable, rowsIn, rowsTo};
+ghost use Rattle.tai_utc.specs.Offset.{secondsOf, offsetAt, offsetBy};
 ghost use Rattle.tai_utc.specs.Rule.{ruleAt, ruleBy};
 ghost use Rattle.tai_utc.specs.Plain.{Plain, byFound};
 use super::Rule;
@@ -59,7 +59,7 @@ fn lent_rows_reached(size: u32, months: &[i32; 16], n: u64) -> u32
 pub(crate) fn any_rows_reached(size: usize, months: &[i32; 16], n: u64) -> usize
     ensures { λ r. ⌜ ((seconds : List ℤ) → r ≡ reached (starts (rowsIn size (now (months .entry)) seconds)) n) × (r ≤ 42 + least size 16) ⌝ }
 {
-    let found = lent_rows_reached(lent::at_most_16(size) as u32, months, n);
+    let found = lent_rows_reached(lent_rows::at_most_16(size) as u32, months, n);
     if found == 0 {
         return fixed_rows_reached(n);
     }

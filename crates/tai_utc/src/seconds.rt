@@ -1,14 +1,14 @@
 // TAI-UTC of a month in whole seconds, for those who count a time from 1972 on in whole numbers.
 ghost use mathlib.Core.Path.{_≡_};
 ghost use Prim.Native.Nat.{_≤_, _<_};
-ghost use Rattle.tai_utc.specs.Lent.{rowsOf};
+ghost use Rattle.lent_rows.specs.Lent.{rowsOf};
 ghost use Rattle.tai_utc.specs.Offset.{secondsIn};
 ghost use Rattle.tai_utc.specs.WholeSeconds.{wholeSeconds};
-use super::LentRows;
-use super::lent::natural;
-use super::lent::size_of;
 use super::look_up::month_number;
 use super::look_up::table_rows_reached;
+use lent_rows::LentRows;
+use lent_rows::natural;
+use lent_rows::size_of;
 
 // The seconds of the row reached in a month from January 1972 on.
 fn seconds_in(t: LentRows, month: u64) -> u32

@@ -3,11 +3,11 @@ ghost use mathlib.Core.Path.{_≡_};
 ghost use Prim.Native.Nat.{_<_, _≤_};
 ghost use lib.ListN.{getD, length};
 ghost use lib.Ieee.{Float};
-ghost use Rattle.tai_utc.specs.Table.{fixed, starts};
-ghost use Rattle.tai_utc.specs.Lent.{lentSize, rowsOf};
+ghost use Rattle.lent_rows.specs.Table.{fixed, starts};
+ghost use Rattle.lent_rows.specs.Lent.{lentSize, rowsOf};
 ghost use Rattle.tai_utc.specs.Offset.{offsetBy};
 ghost use Rattle.tai_utc.specs.Forward.{never, byTerms};
-use super::LentRows;
+use lent_rows::LentRows;
 
 // Later than the month of any date.
 const NEVER: u64 = 0xffff_ffff_ffff_ffff;
@@ -32,7 +32,7 @@ fn month_at(months: &[u64], i: usize) -> u64
 fn lent_size(t: LentRows) -> usize
     ensures { λ r. ⌜ (r ≡ lentSize t) × (r ≤ 16) ⌝ }
 {
-    super::lent::at_most_16(super::lent::size_of(t))
+    lent_rows::at_most_16(lent_rows::size_of(t))
 }
 
 // How many rows a table has, the fixed ones included.
@@ -51,7 +51,7 @@ pub fn row_start(table: LentRows, i: usize) -> u64
     }
     let place = i - 42;
     if place < lent_size(table) {
-        return super::lent::natural(table.months[place]) as u64;
+        return lent_rows::natural(table.months[place]) as u64;
     }
     NEVER
 }

@@ -4,20 +4,17 @@ ghost use mathlib.Core.List.{List};
 ghost use Prim.Native.Nat.{_+_, _<_, _≤_};
 ghost use lib.IntN.{ℤ, natAbs};
 ghost use Rattle.refusals.specs.Outcome.{answer, onward};
-ghost use Rattle.tai_utc.specs.Table.{starts, reached};
-ghost use Rattle.tai_utc.specs.Lent.{least, rowsIn, rowsOf, tableOf};
+ghost use Rattle.lent_rows.specs.Table.{starts, reached};
+ghost use Rattle.lent_rows.specs.Lent.{least, rowsIn, rowsOf, tableOf};
 ghost use Rattle.tai_utc.specs.Leap.{offsetsOfDay, dayOffsets, leapAtEndOfDay};
 ghost use Rattle.tai_utc.specs.Rule.{ruleOf, dayByRule, leapByRule};
 ghost use Rattle.tai_utc.specs.Answers.{secondsOutcome, secondsByRuleOutcome, dayOffsetsOutcome, dayByRuleOutcome};
 use super::DayByRule;
 use super::DayOffsets;
 use super::DayOffsetsAnswer;
-use super::LentRows;
 use super::SecondsAnswer;
 use super::SecondsByRule;
 use super::in_day::without_rule;
-use super::lent::size_of;
-use super::lent::table_refusal;
 use super::look_up::any_rows_reached;
 use super::look_up::month_number;
 use super::look_up::of_plain_day;
@@ -25,6 +22,9 @@ use super::look_up::offset_by;
 use super::look_up::plain_day;
 use super::look_up::rule_by;
 use super::look_up::table_rows_reached;
+use lent_rows::LentRows;
+use lent_rows::size_of;
+use lent_rows::table_refusal;
 
 // The rows reached in the month of the next day: looked up again only where it is another month.
 fn next_rows_reached(size: usize, months: &[i32; 16], rows: usize, month: u64, next: u64) -> usize

@@ -30,7 +30,7 @@ use Rattle.julian.specs.declared.JulianDate.{JulianDate}
 use Rattle.julian.specs.JulianDate.{julian}
 use Rattle.julian.specs.Finite.{finiteArg, finiteJd}
 use Rattle.julian_laws.proofs.UnixTime.{day-val}
-use Rattle.tai_utc.specs.Table.{fixed}
+use Rattle.lent_rows.specs.Table.{fixed}
 use Rattle.tai_utc.specs.Offset.{wholeF}
 use Rattle.tai_utc.specs.Leap.{offsets}
 use Rattle.rounding.specs.Picoseconds.{dayPs}

@@ -9,7 +9,7 @@ use Rattle.rounding.specs.Value.{Val, L}
 use Rattle.day_number.specs.DayNumber.{dayOf}
 use Rattle.day_number.specs.Answer.{dayNumberAndFraction}
 use Rattle.julian.specs.declared.JulianDate.{JulianDate}
-use Rattle.tai_utc.specs.Table.{fixed}
+use Rattle.lent_rows.specs.Table.{fixed}
 use Rattle.scale_laws.specs.Meaning.{Meaning, Means}
 use Rattle.utc_scales.specs.UtcUt1.{utcToUt1}
 use Rattle.tai_round_trip.specs.UtcDays.{H, leapAfter}

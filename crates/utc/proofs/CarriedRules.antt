@@ -13,7 +13,7 @@ use Rattle.julian.specs.declared.CalendarFields.{CalendarFields}
 use Rattle.julian.specs.Calendar.{julianToCalendar}
 use Rattle.tai_utc.specs.declared.Rule.{Rule}
 use Rattle.tai_utc.specs.declared.Rule.the-variants.{Drifting, Whole}
-use Rattle.tai_utc.specs.Table.{Row, fixed}
+use Rattle.lent_rows.specs.Table.{Row, fixed}
 use Rattle.tai_utc.specs.Rule.{withRule}
 use Rattle.tai_utc.proofs.RuleLaws.{rule-cases}
 use Rattle.utc.specs.Sheet.{Sheet}

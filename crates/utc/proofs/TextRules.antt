@@ -8,7 +8,7 @@ use Rattle.julian.specs.declared.JulianDate.{JulianDate}
 use Rattle.julian.specs.declared.CalendarFields.{CalendarFields}
 use Rattle.julian.specs.Calendar.{julianToCalendar}
 use Rattle.tai_utc.specs.declared.Rule.{Rule}
-use Rattle.tai_utc.specs.Table.{Row}
+use Rattle.lent_rows.specs.Table.{Row}
 use Rattle.tai_utc.specs.Rule.{withRule, forget}
 use Rattle.tai_utc.proofs.Rules.{forgets}
 use Rattle.utc_text.specs.declared.TextAnswer.{TextAnswer}

@@ -9,7 +9,7 @@ use Rattle.calendar.specs.declared.CalendarDate.{CalendarDate}
 use Rattle.julian.specs.declared.JulianDate.{JulianDate}
 use Rattle.julian.specs.Calendar.{julianToCalendar}
 use Rattle.tai_utc.specs.declared.Rule.{Rule}
-use Rattle.tai_utc.specs.Table.{Row}
+use Rattle.lent_rows.specs.Table.{Row}
 use Rattle.tai_utc.specs.Rule.{withRule, forget}
 unfoldable pub use Rattle.tai_utc.specs.Rule.{ruleOn}
 use Rattle.utc_text.specs.Answer.{textWritten}

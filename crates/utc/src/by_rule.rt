@@ -2,7 +2,7 @@
 ghost use mathlib.Core.Path.{_≡_};
 ghost use Prim.Native.Nat.{_≤_};
 ghost use Rattle.refusals.specs.Outcome.{onward};
-ghost use Rattle.tai_utc.specs.Lent.{rowsIn, rowsOf, tableOf};
+ghost use Rattle.lent_rows.specs.Lent.{rowsIn, rowsOf, tableOf};
 ghost use Rattle.tai_utc.specs.Rule.{withRule};
 ghost use Rattle.utc_text.specs.Answer.{textOutcome};
 ghost use Rattle.utc.specs.IsoText.{dayText, isoText};
@@ -12,8 +12,8 @@ use super::TextByRule;
 use super::put_shown;
 use calendar::CalendarDate;
 use julian::CalendarAnswer;
+use lent_rows::LentRows;
 use scales::UTC;
-use tai_utc::LentRows;
 use tai_utc::Rule;
 use tai_utc::SecondsByRule;
 use utc_text::TextAnswer;
@@ -81,7 +81,7 @@ pub fn to_iso8601_by_rows(utc: UTC, table: LentRows, out: &mut [u8]) -> TextAnsw
 {
     match to_iso8601_by_lent(
         utc,
-        tai_utc::size_of(table),
+        lent_rows::size_of(table),
         &table.months,
         &table.seconds,
         out,
@@ -96,13 +96,13 @@ pub fn to_iso8601_by_rows(utc: UTC, table: LentRows, out: &mut [u8]) -> TextAnsw
 pub fn to_iso8601(utc: UTC, table: LentRows, out: &mut [u8]) -> TextByRule
     ensures { λ r. ⌜ TextRuleCall (onward (tableOf table) (λ rows. isoTextByRule rows (utc .0))) (now (out .entry)) r (now (out .exit)) ⌝ }
 {
-    let number = tai_utc::table_refusal(table);
+    let number = lent_rows::table_refusal(table);
     if number != 0 {
         return TextByRule::Refused(number);
     }
     to_iso8601_by_lent(
         utc,
-        tai_utc::size_of(table),
+        lent_rows::size_of(table),
         &table.months,
         &table.seconds,
         out,

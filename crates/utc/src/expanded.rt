@@ -1,7 +1,7 @@
 // UTC text with a sign and seven digits for a year that four digits do not hold: ISO 8601's expanded representation.
 ghost use Prim.Native.Nat.{_≤_};
 ghost use Rattle.refusals.specs.Outcome.{onward};
-ghost use Rattle.tai_utc.specs.Lent.{rowsIn, rowsOf, tableOf};
+ghost use Rattle.lent_rows.specs.Lent.{rowsIn, rowsOf, tableOf};
 ghost use Rattle.tai_utc.specs.Rule.{withRule};
 ghost use Rattle.utc_text.specs.Expanded.{expandedText};
 ghost use Rattle.utc.specs.IsoText.{nextMidnightTextBy, shownTextBy};
@@ -13,8 +13,8 @@ use super::by_rule::with_rule;
 use calendar::CalendarDate;
 use calendar::NextDay;
 use julian::CalendarAnswer;
+use lent_rows::LentRows;
 use scales::UTC;
-use tai_utc::LentRows;
 use tai_utc::SecondsByRule;
 use time_of_day::TimeOfDay;
 use time_of_day::TimeShown;
@@ -74,7 +74,7 @@ pub fn to_iso8601_expanded_by_rows(utc: UTC, table: LentRows, out: &mut [u8]) ->
 {
     match to_iso8601_expanded_by_lent(
         utc,
-        tai_utc::size_of(table),
+        lent_rows::size_of(table),
         &table.months,
         &table.seconds,
         out,
@@ -89,13 +89,13 @@ pub fn to_iso8601_expanded_by_rows(utc: UTC, table: LentRows, out: &mut [u8]) ->
 pub fn to_iso8601_expanded(utc: UTC, table: LentRows, out: &mut [u8]) -> TextByRule
     ensures { λ r. ⌜ TextRuleCall (onward (tableOf table) (λ rows. expandedByRule rows (utc .0))) (now (out .entry)) r (now (out .exit)) ⌝ }
 {
-    let number = tai_utc::table_refusal(table);
+    let number = lent_rows::table_refusal(table);
     if number != 0 {
         return TextByRule::Refused(number);
     }
     to_iso8601_expanded_by_lent(
         utc,
-        tai_utc::size_of(table),
+        lent_rows::size_of(table),
         &table.months,
         &table.seconds,
         out,

@@ -1,7 +1,7 @@
 // UTC text with a half millisecond to the even one, in document 01's form.
 ghost use Prim.Native.Nat.{_≤_};
 ghost use Rattle.refusals.specs.Outcome.{onward};
-ghost use Rattle.tai_utc.specs.Lent.{rowsIn, rowsOf, tableOf};
+ghost use Rattle.lent_rows.specs.Lent.{rowsIn, rowsOf, tableOf};
 ghost use Rattle.tai_utc.specs.Rule.{withRule};
 ghost use Rattle.utc.specs.HalfEven.{dayTextHalfEven, isoTextHalfEven};
 ghost use Rattle.utc.specs.TextCall.{TextCall};
@@ -11,8 +11,8 @@ use super::by_rule::with_rule;
 use super::put_shown;
 use calendar::CalendarDate;
 use julian::CalendarAnswer;
+use lent_rows::LentRows;
 use scales::UTC;
-use tai_utc::LentRows;
 use tai_utc::SecondsByRule;
 use utc_text::TextAnswer;
 
@@ -70,7 +70,7 @@ pub fn to_iso8601_half_even_by_rows(utc: UTC, table: LentRows, out: &mut [u8]) -
 {
     match to_iso8601_half_even_by_lent(
         utc,
-        tai_utc::size_of(table),
+        lent_rows::size_of(table),
         &table.months,
         &table.seconds,
         out,
@@ -85,13 +85,13 @@ pub fn to_iso8601_half_even_by_rows(utc: UTC, table: LentRows, out: &mut [u8]) -
 pub fn to_iso8601_half_even(utc: UTC, table: LentRows, out: &mut [u8]) -> TextByRule
     ensures { λ r. ⌜ TextRuleCall (onward (tableOf table) (λ rows. halfEvenByRule rows (utc .0))) (now (out .entry)) r (now (out .exit)) ⌝ }
 {
-    let number = tai_utc::table_refusal(table);
+    let number = lent_rows::table_refusal(table);
     if number != 0 {
         return TextByRule::Refused(number);
     }
     to_iso8601_half_even_by_lent(
         utc,
-        tai_utc::size_of(table),
+        lent_rows::size_of(table),
         &table.months,
         &table.seconds,
         out,

@@ -13,7 +13,7 @@ ghost use Prim.Native.Nat.{_<_, _≤_};
 ghost use Rattle.scales.specs.Scales.{utcOutcome};
 ghost use Rattle.julian.specs.DayFraction.{fractionOutcome};
 ghost use Rattle.refusals.specs.Outcome.{onward};
-ghost use Rattle.tai_utc.specs.Lent.{rowsIn, rowsOf, tableOf};
+ghost use Rattle.lent_rows.specs.Lent.{rowsIn, rowsOf, tableOf};
 ghost use Rattle.utc.specs.FromCalendar.{midnightPlus, utcFromCalendar};
 ghost use Rattle.utc.specs.UnixTime.{unixDay, secondOfUnixDay, secondWithNanos, utcNew};
 ghost use Rattle.utc.specs.IsoText.{nextMidnightText, shownText};
@@ -30,9 +30,9 @@ use julian::CalendarAnswer;
 use julian::FractionAnswer;
 use julian::JulianAnswer;
 use julian::JulianDate;
+use lent_rows::LentRows;
 use scales::UTC;
 use scales::UtcAnswer;
-use tai_utc::LentRows;
 use tai_utc::Rule;
 use tai_utc::SecondsByRule;
 use time_of_day::TimeOfDay;
@@ -117,7 +117,7 @@ pub fn new_by_rows(seconds: i64, nanos: u32, table: LentRows) -> UtcAnswer
     new_by_lent(
         seconds,
         nanos,
-        tai_utc::size_of(table),
+        lent_rows::size_of(table),
         &table.months,
         &table.seconds,
     )
@@ -127,7 +127,7 @@ pub fn new_by_rows(seconds: i64, nanos: u32, table: LentRows) -> UtcAnswer
 pub fn new(seconds: i64, nanos: u32, table: LentRows) -> UtcAnswer
     ensures { λ r. ⌜ utcOutcome r ≡ onward (tableOf table) (λ rows. utcNew rows seconds nanos) ⌝ }
 {
-    let number = tai_utc::table_refusal(table);
+    let number = lent_rows::table_refusal(table);
     if number != 0 {
         return UtcAnswer::Refused(number);
     }
@@ -187,7 +187,7 @@ pub fn utc_from_calendar_by_rows(
         hour,
         minute,
         second,
-        tai_utc::size_of(table),
+        lent_rows::size_of(table),
         &table.months,
         &table.seconds,
     )
@@ -206,7 +206,7 @@ pub fn utc_from_calendar(
 ) -> UtcAnswer
     ensures { λ r. ⌜ utcOutcome r ≡ onward (tableOf table) (λ rows. utcFromCalendar rows year month day hour minute second) ⌝ }
 {
-    let number = tai_utc::table_refusal(table);
+    let number = lent_rows::table_refusal(table);
     if number != 0 {
         return UtcAnswer::Refused(number);
     }

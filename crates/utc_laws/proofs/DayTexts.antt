@@ -15,7 +15,7 @@ use Rattle.calendar.specs.Refusals.{nextOf}
 use Rattle.calendar.specs.DayCount.{mjdNumber}
 use Rattle.calendar.proofs.NextDates.{refused-next, by, first-false}
 use Rattle.calendar.proofs.Years.{validOf, before-last}
-use Rattle.tai_utc.specs.Table.{Row, monthNumber}
+use Rattle.lent_rows.specs.Table.{Row, monthNumber}
 use Rattle.tai_utc.specs.Leap.{leapOf, offsetsOfDay, leapAtEndOfDay}
 use Rattle.tai_utc.proofs.Days as Days
 use Rattle.time_of_day.specs.declared.TimeOfDay.{TimeOfDay}

@@ -13,9 +13,9 @@ use Rattle.calendar.specs.Refusals.{validDate, lastDate, nextOf}
 use Rattle.calendar.proofs.NextDates.{by, refused-next}
 use Rattle.calendar.proofs.Mjd.{mjd-refused, mjd-given}
 use Rattle.julian.specs.DayFraction.{timeInDay, dayFraction}
-use Rattle.tai_utc.specs.declared.LentRows.{LentRows}
-use Rattle.tai_utc.specs.Table.{Row}
-use Rattle.tai_utc.specs.Lent.{rowsOf, tableOf}
+use Rattle.lent_rows.specs.declared.LentRows.{LentRows}
+use Rattle.lent_rows.specs.Table.{Row}
+use Rattle.lent_rows.specs.Lent.{rowsOf, tableOf}
 use Rattle.tai_utc.specs.Offset.{inDay}
 use Rattle.tai_utc.specs.Leap.{leapAtEndOfDay}
 use Rattle.tai_utc.specs.Rule.{withRule, offsetByRule}

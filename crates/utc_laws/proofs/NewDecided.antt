@@ -29,10 +29,10 @@ use Rattle.drift_days.specs.Small.{small}
 use Rattle.julian.specs.declared.CalendarFields.{CalendarFields}
 use Rattle.julian.specs.DayFraction.{timeInDay}
 use Rattle.julian.specs.Calendar.{fields, julianToCalendar}
-use Rattle.tai_utc.specs.declared.LentRows.{LentRows}
-use Rattle.tai_utc.specs.Table.{Row, monthNumber}
+use Rattle.lent_rows.specs.declared.LentRows.{LentRows}
+use Rattle.lent_rows.specs.Table.{Row, monthNumber}
 use Rattle.time_of_day.specs.ExactTime.{minus-one-f}
-use Rattle.tai_utc.specs.Lent.{rowsOf, tableOf}
+use Rattle.lent_rows.specs.Lent.{rowsOf, tableOf}
 use Rattle.tai_utc.specs.Leap.{leapOf, leapAtEndOfDay}
 use Rattle.tai_utc.proofs.Days.{leap-came}
 use Rattle.leap_days.specs.Tables.{StepLeap, no-row, row-up, row-down}

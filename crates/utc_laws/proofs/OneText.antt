@@ -11,9 +11,9 @@ use borrow.Author.Tests.{leb-true, leb-false}
 use Rattle.refusals.specs.Outcome.{answer, refusal}
 use Rattle.day_number.specs.ExactDay.{GridSumInRange}
 use Rattle.julian.specs.declared.JulianDate.{JulianDate}
-use Rattle.tai_utc.specs.declared.LentRows.{LentRows}
-use Rattle.tai_utc.specs.Table.{Row, fixed}
-use Rattle.tai_utc.specs.Lent.{tableOf}
+use Rattle.lent_rows.specs.declared.LentRows.{LentRows}
+use Rattle.lent_rows.specs.Table.{Row, fixed}
+use Rattle.lent_rows.specs.Lent.{tableOf}
 use Rattle.tai_utc.specs.Leap.{leapAtEndOfDay}
 use Rattle.time_of_day.specs.ExactTime.{Leap}
 use Rattle.utc_text.specs.declared.TextAnswer.{TextAnswer}

@@ -18,10 +18,10 @@ use Rattle.day_number.specs.DayNumber.{dayOf}
 use Rattle.julian.specs.declared.JulianDate.{JulianDate}
 use Rattle.julian.specs.declared.CalendarFields.{CalendarFields}
 use Rattle.julian.specs.Calendar.{julianToCalendar}
-use Rattle.tai_utc.specs.declared.LentRows.{LentRows}
+use Rattle.lent_rows.specs.declared.LentRows.{LentRows}
 use Rattle.tai_utc.specs.declared.Rule.{Rule}
-use Rattle.tai_utc.specs.Table.{Row}
-use Rattle.tai_utc.specs.Lent.{rowsOf, tableOf}
+use Rattle.lent_rows.specs.Table.{Row}
+use Rattle.lent_rows.specs.Lent.{rowsOf, tableOf}
 use Rattle.tai_utc.specs.Rule.{ruleOn, withRule}
 use Rattle.utc_text.specs.Answer.{textWritten}
 use Rattle.utc.specs.declared.TextByRule.{TextByRule}

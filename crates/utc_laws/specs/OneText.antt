@@ -12,7 +12,7 @@ use Rattle.refusals.specs.Outcome.{answer, refusal}
 use Rattle.calendar.specs.Calendar.{dateOf}
 use Rattle.day_number.specs.ExactDay.{OnGrid, gridSum, exactDay, exactFraction}
 use Rattle.julian.specs.declared.JulianDate.{JulianDate}
-use Rattle.tai_utc.specs.Table.{Row}
+use Rattle.lent_rows.specs.Table.{Row}
 use Rattle.tai_utc.specs.Leap.{leapAtEndOfDay}
 use Rattle.time_of_day.specs.ExactTime.{DayLength}
 use Rattle.utc_text.specs.declared.TextAnswer.{TextAnswer}

@@ -5,7 +5,7 @@ use lib.Ieee.{nan, inf}
 use Rattle.refusals.specs.Outcome.{refusal}
 use Rattle.floats.specs.Whole.{nought}
 use Rattle.julian.specs.JulianDate.{julian}
-use Rattle.tai_utc.specs.Table.{fixed}
+use Rattle.lent_rows.specs.Table.{fixed}
 use Rattle.utc_scales.specs.UtcTai.{utcToTai, taiToUtc}
 use Rattle.utc_scales.specs.UtcUt1.{utcToUt1, ut1ToUtc}
 use Rattle.utc_scale_laws.proofs.NotFinite.{utc-to-tai-not-finite, tai-to-utc-not-finite, utc-to-ut1-no-offset, ut1-to-utc-no-offset, utc-to-ut1-not-finite, ut1-to-utc-not-finite}

@@ -20,7 +20,7 @@ use Rattle.julian.specs.Finite.{finiteJd, finiteArg}
 use Rattle.julian.specs.Calendar.{fields, calendarToJulian, julianToCalendar}
 use Rattle.julian_laws.proofs.Divisions.{dividedDate, divided-date}
 use Rattle.julian_laws.proofs.Literals.{literalDate, literal-date-is}
-use Rattle.tai_utc.specs.Table.{Row, fixed, monthNumber, reached}
+use Rattle.lent_rows.specs.Table.{Row, fixed, monthNumber, reached}
 use Rattle.tai_utc.specs.Offset.{secondsOf, startOf, rateOf, byRow, offsetBy, offsetAt, inDay, taiUtcOffset}
 use Rattle.tai_utc.specs.Leap.{dayOffsets, driftRate, leapAmount}
 use Rattle.shifts.specs.SmallerPart as Shifts

@@ -17,9 +17,9 @@ use Rattle.day_number.specs.DayNumber.{accepted, dayOf, fractionPassed}
 use Rattle.day_number.specs.Ranges.{InDays}
 use Rattle.day_number.proofs.Accepted.{accepted-pair}
 use Rattle.tai_utc.specs.declared.DayOffsets.{DayOffsets}
-use Rattle.tai_utc.specs.declared.LentRows.{LentRows}
-use Rattle.tai_utc.specs.Table.{Row}
-use Rattle.tai_utc.specs.Lent.{tableOf}
+use Rattle.lent_rows.specs.declared.LentRows.{LentRows}
+use Rattle.lent_rows.specs.Table.{Row}
+use Rattle.lent_rows.specs.Lent.{tableOf}
 use Rattle.tai_utc.specs.Leap.{driftRate, leapAmount}
 use Rattle.utc_scales.specs.Dates.{offsetOfDate, offsetAt0h}
 use Rattle.utc_scales.specs.UtcTai.{stretchDayFraction}

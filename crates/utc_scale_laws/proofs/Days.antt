@@ -26,7 +26,7 @@ use Rattle.day_number.specs.Ranges.{InDays}
 use Rattle.day_number.proofs.Answer.{answered, refused}
 use Rattle.day_number.proofs.Ranges.{day-range}
 use Rattle.tai_utc.specs.declared.DayOffsets.{DayOffsets}
-use Rattle.tai_utc.specs.Table.{Row}
+use Rattle.lent_rows.specs.Table.{Row}
 use Rattle.tai_utc.proofs.Offsets.{in-day-zero, offset-given}
 use Rattle.tai_utc.proofs.Days.{day-offsets-are}
 use Rattle.refusals.proofs.Onward.{went}

@@ -22,10 +22,10 @@ use Rattle.day_number.specs.Ranges.{InDays}
 use Rattle.day_number.proofs.JulianRange.{accepted-finite}
 use Rattle.julian.specs.declared.JulianDate.{JulianDate}
 use Rattle.tai_utc.specs.declared.DayOffsets.{DayOffsets}
-use Rattle.tai_utc.specs.declared.LentRows.{LentRows}
-use Rattle.tai_utc.specs.Table.{Row, fixed}
-use Rattle.tai_utc.specs.Lent.{tableOf}
-use Rattle.tai_utc.proofs.NoRows.{none-lent, fixed-taken}
+use Rattle.lent_rows.specs.declared.LentRows.{LentRows}
+use Rattle.lent_rows.specs.Table.{Row, fixed}
+use Rattle.lent_rows.specs.Lent.{tableOf}
+use Rattle.lent_rows.proofs.NoRows.{none-lent, fixed-taken}
 use Rattle.scale_laws.specs.Ranges.{Held, FiniteParts}
 use Rattle.scale_laws.proofs.Shifts.{Small, added, taken-from, zero-point-small}
 use Rattle.utc_scales.specs.LargerPart.{keptParts, besideAs, putBeside, placed, changeSmaller}

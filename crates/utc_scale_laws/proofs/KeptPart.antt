@@ -8,7 +8,7 @@ use lib.Ieee.{Float}
 use Rattle.refusals.specs.Outcome.{Outcome, answer, refusal, onward}
 use Rattle.julian.specs.declared.JulianDate.{JulianDate}
 use Rattle.julian.specs.Finite.{finiteParts, finiteJd, finiteArg}
-use Rattle.tai_utc.specs.Table.{Row}
+use Rattle.lent_rows.specs.Table.{Row}
 use Rattle.utc_scales.specs.LargerPart.{firstIsKept, keptAs, keptParts, putBeside, placed, changeSmaller}
 use Rattle.utc_scales.specs.UtcTai.{taiFraction, utcToTai, refineUtcFraction, taiToUtc}
 use Rattle.utc_scales.specs.UtcUt1.{utcFraction, ut1ToUtc}

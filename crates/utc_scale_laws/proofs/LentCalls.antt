@@ -11,12 +11,12 @@ use Rattle.refusals.proofs.Onward.{went, stopped}
 use Rattle.julian.specs.declared.JulianDate.{JulianDate}
 use Rattle.julian.specs.Finite.{finiteParts}
 use Rattle.julian.specs.Worth.{SmallParts}
-use Rattle.tai_utc.specs.declared.LentRows.{LentRows}
-use Rattle.tai_utc.specs.Table.{Row, fixed}
-use Rattle.tai_utc.specs.Lent.{rowsOf, tableOf, Decision, sizes, order, step, taken}
-use Rattle.tai_utc.proofs.TablesTaken.{table-none}
-use Rattle.tai_utc.proofs.TableLaws.{table-decided}
-use Rattle.tai_utc.proofs.NoRows.{none-lent, fixed-taken}
+use Rattle.lent_rows.specs.declared.LentRows.{LentRows}
+use Rattle.lent_rows.specs.Table.{Row, fixed}
+use Rattle.lent_rows.specs.Lent.{rowsOf, tableOf, Decision, sizes, order, step, taken}
+use Rattle.lent_rows.proofs.TablesTaken.{table-none}
+use Rattle.lent_rows.proofs.TableLaws.{table-decided}
+use Rattle.lent_rows.proofs.NoRows.{none-lent, fixed-taken}
 use Rattle.scales.specs.Conversions.{Conversion, answerOf}
 use Rattle.scale_laws.specs.Ranges.{Held, Billion, FiniteParts}
 use Rattle.scale_laws.proofs.Refuses.{refusals}

@@ -26,12 +26,12 @@ use Rattle.calendar.specs.DayCount.{marchCount, civilCount, mjdNumber, mjdOf}
 use Rattle.calendar.proofs.Accepted.{date-accepted, short}
 use Rattle.calendar.proofs.Mjd.{mjd-given, mjd-valid, same-answer}
 use Rattle.tai_utc.specs.declared.DayOffsets.{DayOffsets}
-use Rattle.tai_utc.specs.declared.LentRows.{LentRows}
-use Rattle.tai_utc.specs.Table.{Row, fixed, starts, reached, monthNumber}
-use Rattle.tai_utc.specs.Lent.{tableOf}
-use Rattle.tai_utc.specs.Offset.{secondsOf, startOf, rateOf, none, offsetAt, taiUtcOffset, rowAt, secondsIn}
+use Rattle.lent_rows.specs.declared.LentRows.{LentRows}
+use Rattle.lent_rows.specs.Table.{Row, fixed, starts, reached, monthNumber, none}
+use Rattle.lent_rows.specs.Lent.{tableOf}
+use Rattle.tai_utc.specs.Offset.{secondsOf, startOf, rateOf, offsetAt, taiUtcOffset, rowAt, secondsIn}
 use Rattle.tai_utc.specs.Leap.{offsets, dayOffsets}
-use Rattle.tai_utc.proofs.Rows.{every, at}
+use Rattle.lent_rows.proofs.Rows.{every, at}
 use Rattle.tai_utc.proofs.At.{drifting}
 use Rattle.tai_utc.proofs.Offsets.{offset-came}
 use Rattle.tai_utc.proofs.Years.{before-1960, one-row, drift-rows}

@@ -13,10 +13,10 @@ use Rattle.day_number.specs.ExactDay.{OnGrid}
 use Rattle.day_number.proofs.Answer.{answered}
 use Rattle.day_number.proofs.ExactDay.{alike}
 use Rattle.julian.specs.declared.JulianDate.{JulianDate}
-use Rattle.tai_utc.specs.declared.LentRows.{LentRows}
-use Rattle.tai_utc.specs.Table.{Row, fixed}
-use Rattle.tai_utc.specs.Lent.{tableOf}
-use Rattle.tai_utc.proofs.NoRows.{none-lent, fixed-taken}
+use Rattle.lent_rows.specs.declared.LentRows.{LentRows}
+use Rattle.lent_rows.specs.Table.{Row, fixed}
+use Rattle.lent_rows.specs.Lent.{tableOf}
+use Rattle.lent_rows.proofs.NoRows.{none-lent, fixed-taken}
 use Rattle.scale_laws.specs.Ranges.{Held}
 use Rattle.utc_scales.specs.LargerPart.{firstIsKept, keptAs, keptParts}
 use Rattle.utc_scales.specs.UtcUt1.{utcToUt1}

@@ -9,9 +9,9 @@ use lib.Ieee.{Float}
 use Rattle.refusals.specs.Outcome.{Outcome, onward}
 use Rattle.floats.specs.Whole.{nought}
 use Rattle.julian.specs.declared.JulianDate.{JulianDate}
-use Rattle.tai_utc.specs.declared.LentRows.{LentRows}
-use Rattle.tai_utc.specs.Table.{Row}
-use Rattle.tai_utc.specs.Lent.{tableOf}
+use Rattle.lent_rows.specs.declared.LentRows.{LentRows}
+use Rattle.lent_rows.specs.Table.{Row}
+use Rattle.lent_rows.specs.Lent.{tableOf}
 use Rattle.scales.specs.Conversions.{Conversion, answerOf, offsetOf}
 use Rattle.utc_scales.specs.UtcTai.{utcToTai, taiToUtc}
 use Rattle.utc_scales.specs.UtcUt1.{utcToUt1, ut1ToUtc}

@@ -28,7 +28,7 @@ use Rattle.julian.specs.JulianDate.{julian}
 use Rattle.julian_laws.proofs.CalendarDays.{not-above}
 use Rattle.julian.proofs.Midnights.{midnight-given}
 use Rattle.tai_utc.specs.declared.DayOffsets.{DayOffsets}
-use Rattle.tai_utc.specs.Table.{Row}
+use Rattle.lent_rows.specs.Table.{Row}
 use Rattle.tai_utc.proofs.Offsets.{in-day-zero, date-refused}
 use Rattle.tai_utc.proofs.Days.{day-refused}
 use Rattle.utc_scales.specs.Dates.{offsetAt0h, offsetsOf, midnightOf}

@@ -19,8 +19,8 @@ use Rattle.calendar.specs.Refusals.{validDate}
 use Rattle.calendar.specs.Gregorian.{gregorianDate}
 use Rattle.calendar.proofs.Years.{validOf, gregorian-in-range, gregorian-refusal}
 use Rattle.calendar.proofs.Mjd.{mjd-given}
-use Rattle.tai_utc.specs.Table.{monthNumber, reached}
-use Rattle.tai_utc.specs.Lent.{rowsIn}
+use Rattle.lent_rows.specs.Table.{monthNumber, reached}
+use Rattle.lent_rows.specs.Lent.{rowsIn}
 use Rattle.tai_utc.specs.Offset.{offsetAt}
 use Rattle.tai_utc.proofs.ByParts.{seconds-reached}
 use Rattle.tai_utc.proofs.Offsets.{in-day-zero, offset-given, offset-came}

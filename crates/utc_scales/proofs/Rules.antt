@@ -16,7 +16,7 @@ use Rattle.julian.specs.Calendar.{julianToCalendar}
 use Rattle.julian.specs.Finite.{finiteArg}
 use Rattle.julian_laws.proofs.CalendarDays.{fields-of}
 use Rattle.tai_utc.specs.declared.Rule.{Rule}
-use Rattle.tai_utc.specs.Table.{Row}
+use Rattle.lent_rows.specs.Table.{Row}
 use Rattle.tai_utc.specs.Rule.{withRule, forget}
 use Rattle.tai_utc.proofs.Rules.{ruleIn}
 use Rattle.utc_scales.specs.LargerPart.{keptParts, changeSmaller}

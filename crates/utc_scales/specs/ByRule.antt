@@ -6,7 +6,7 @@ use Rattle.refusals.specs.Outcome.{Outcome, answer, refusal, onward}
 use Rattle.julian.specs.declared.JulianDate.{JulianDate}
 use Rattle.julian.specs.Calendar.{julianToCalendar}
 use Rattle.tai_utc.specs.declared.Rule.{Rule}
-use Rattle.tai_utc.specs.Table.{Row}
+use Rattle.lent_rows.specs.Table.{Row}
 unfoldable pub use Rattle.tai_utc.specs.Rule.{ruleOn}
 use Rattle.utc_scales.specs.declared.utc_tai.TaiByRule.{TaiByRule}
 use Rattle.utc_scales.specs.declared.utc_tai.TaiByRule.the-variants as Tai

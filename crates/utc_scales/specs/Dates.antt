@@ -9,7 +9,7 @@ use Rattle.calendar.specs.declared.CalendarDate.{CalendarDate}
 use Rattle.julian.specs.declared.JulianDate.{JulianDate}
 use Rattle.julian.specs.Calendar.{calendarToJulian, julianToCalendar}
 use Rattle.tai_utc.specs.declared.DayOffsets.{DayOffsets}
-use Rattle.tai_utc.specs.Table.{Row}
+use Rattle.lent_rows.specs.Table.{Row}
 use Rattle.tai_utc.specs.Offset.{taiUtcOffset}
 use Rattle.tai_utc.specs.Leap.{dayOffsets}
 

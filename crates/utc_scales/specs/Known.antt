@@ -8,7 +8,7 @@ use lib.Signed.{leZ}
 use lib.Ieee.{Float}
 use Rattle.refusals.specs.Outcome.{Outcome, answer, refusal}
 use Rattle.calendar.specs.Gregorian.{gregorianDate}
-use Rattle.tai_utc.specs.Table.{Row}
+use Rattle.lent_rows.specs.Table.{Row}
 use Rattle.utc_scales.specs.declared.table.KnownDay.{KnownDay}
 use Rattle.utc_scales.specs.declared.table.Known.{Known}
 use Rattle.utc_scales.specs.declared.table.Known.the-variants as K

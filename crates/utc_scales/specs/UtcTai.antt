@@ -9,7 +9,7 @@ use Rattle.julian.specs.declared.JulianDate.{JulianDate}
 use Rattle.julian.specs.JulianDate.{julian}
 use Rattle.julian.specs.Calendar.{julianToCalendar}
 use Rattle.tai_utc.specs.declared.DayOffsets.{DayOffsets}
-use Rattle.tai_utc.specs.Table.{Row}
+use Rattle.lent_rows.specs.Table.{Row}
 use Rattle.tai_utc.specs.Leap.{driftRate, leapAmount}
 use Rattle.utc_scales.specs.LargerPart.{changeSmaller}
 use Rattle.utc_scales.specs.Dates.{offsetsOf, midnightOf}

@@ -12,7 +12,7 @@ use Rattle.constants.specs.Constants.{secondsPerDay}
 use Rattle.julian.specs.declared.JulianDate.{JulianDate}
 use Rattle.julian.specs.Calendar.{julianToCalendar}
 use Rattle.julian.specs.Finite.{finiteJd, finiteArg}
-use Rattle.tai_utc.specs.Table.{Row}
+use Rattle.lent_rows.specs.Table.{Row}
 use Rattle.scales.specs.Conversions.{answerOf, tai-ut1}
 use Rattle.utc_scales.specs.declared.utc_ut1.DayScan.{DayScan}
 use Rattle.utc_scales.specs.declared.utc_ut1.DayScan.the-variants as Day

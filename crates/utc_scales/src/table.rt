@@ -4,7 +4,7 @@ ghost use Prim.Native.Nat.{_≤_};
 ghost use lib.IntN.{pos, natAbs, _-ℤ_};
 ghost use lib.Ieee.{binary64, ofInt};
 ghost use Rattle.calendar.specs.Gregorian.{gregorianDate};
-ghost use Rattle.tai_utc.specs.Lent.{rowsIn};
+ghost use Rattle.lent_rows.specs.Lent.{rowsIn};
 ghost use Rattle.tai_utc.specs.Rule.{withRule};
 ghost use Rattle.tai_utc.specs.Answers.{secondsByRuleOutcome, dayOffsetsOutcome, dayByRuleOutcome};
 ghost use Rattle.utc_scales.specs.Dates.{offsetAt0h, offsetsOf};

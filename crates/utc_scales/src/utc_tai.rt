@@ -4,7 +4,7 @@ ghost use Rattle.refusals.specs.Outcome.{onward};
 ghost use Rattle.julian.specs.JulianDate.{julian, julianOutcome};
 ghost use Rattle.julian.specs.DayFraction.{fractionOutcome};
 ghost use Rattle.constants.specs.Constants.{mjdZeroPoint};
-ghost use Rattle.tai_utc.specs.Lent.{rowsIn, rowsOf, tableOf};
+ghost use Rattle.lent_rows.specs.Lent.{rowsIn, rowsOf, tableOf};
 ghost use Rattle.scales.specs.Scales.{taiOutcome, utcOutcome};
 ghost use Rattle.utc_scales.specs.ByRule.{utcToTaiByRule, taiByRuleOutcome};
 ghost use Rattle.utc_scales.specs.Known.{RightKnown, partOutcome, RightPart, ruledPartOutcome, SameDays};
@@ -23,6 +23,7 @@ use day_number::DayAnswer;
 use julian::FractionAnswer;
 use julian::JulianAnswer;
 use julian::JulianDate;
+use lent_rows::LentRows;
 use scales::TAI;
 use scales::TaiAnswer;
 use scales::UTC;
@@ -30,7 +31,6 @@ use scales::UtcAnswer;
 use tai_utc::DayByRule;
 use tai_utc::DayOffsets;
 use tai_utc::DayOffsetsAnswer;
-use tai_utc::LentRows;
 use tai_utc::Rule;
 
 // The smaller part of a date, and the day that was looked up for it.
@@ -147,7 +147,12 @@ pub fn utc_to_tai_by_lent<'a>(
 pub fn utc_to_tai_by_rows(utc: UTC, table: LentRows) -> TaiAnswer
     ensures { λ r. ⌜ taiOutcome r ≡ U.utcToTai (rowsOf table) (utc .0) ⌝ }
 {
-    match utc_to_tai_by_lent(utc, tai_utc::size_of(table), &table.months, &table.seconds) {
+    match utc_to_tai_by_lent(
+        utc,
+        lent_rows::size_of(table),
+        &table.months,
+        &table.seconds,
+    ) {
         TaiByRule::Refused(number) => TaiAnswer::Refused(number),
         TaiByRule::Date(tai, _) => TaiAnswer::Date(tai),
     }
@@ -157,11 +162,16 @@ pub fn utc_to_tai_by_rows(utc: UTC, table: LentRows) -> TaiAnswer
 pub fn utc_to_tai(utc: UTC, table: LentRows) -> TaiByRule
     ensures { λ r. ⌜ taiByRuleOutcome r ≡ onward (tableOf table) (λ rows. utcToTaiByRule rows (utc .0)) ⌝ }
 {
-    let number = tai_utc::table_refusal(table);
+    let number = lent_rows::table_refusal(table);
     if number != 0 {
         return TaiByRule::Refused(number);
     }
-    utc_to_tai_by_lent(utc, tai_utc::size_of(table), &table.months, &table.seconds)
+    utc_to_tai_by_lent(
+        utc,
+        lent_rows::size_of(table),
+        &table.months,
+        &table.seconds,
+    )
 }
 
 // One round: the guess moved by what its TAI is off.
@@ -255,14 +265,19 @@ pub fn tai_to_utc_by_lent<'a>(
 pub fn tai_to_utc_by_rows(tai: TAI, table: LentRows) -> UtcAnswer
     ensures { λ r. ⌜ utcOutcome r ≡ U.taiToUtc (rowsOf table) (tai .0) ⌝ }
 {
-    tai_to_utc_by_lent(tai, tai_utc::size_of(table), &table.months, &table.seconds)
+    tai_to_utc_by_lent(
+        tai,
+        lent_rows::size_of(table),
+        &table.months,
+        &table.seconds,
+    )
 }
 
 // Refusals in order: 20 to 22 the table; then in each round 6, then the date's.
 pub fn tai_to_utc(tai: TAI, table: LentRows) -> UtcAnswer
     ensures { λ r. ⌜ utcOutcome r ≡ onward (tableOf table) (λ rows. U.taiToUtc rows (tai .0)) ⌝ }
 {
-    let number = tai_utc::table_refusal(table);
+    let number = lent_rows::table_refusal(table);
     if number != 0 {
         return UtcAnswer::Refused(number);
     }

@@ -5,7 +5,7 @@ ghost use Rattle.julian.specs.JulianDate.{julian, julianOutcome};
 ghost use Rattle.julian.specs.DayFraction.{fractionOutcome};
 ghost use Rattle.julian.specs.Finite as J;
 ghost use Rattle.refusals.specs.Outcome.{onward};
-ghost use Rattle.tai_utc.specs.Lent.{rowsIn, rowsOf, tableOf};
+ghost use Rattle.lent_rows.specs.Lent.{rowsIn, rowsOf, tableOf};
 ghost use Rattle.tai_utc.specs.Answers as T;
 ghost use Rattle.scales.specs.Scales.{utcOutcome, ut1Outcome};
 ghost use Rattle.utc_scales.specs.LargerPart.{changeSmaller};
@@ -32,12 +32,12 @@ use day_number::DayAnswer;
 use julian::FractionAnswer;
 use julian::JulianAnswer;
 use julian::JulianDate;
+use lent_rows::LentRows;
 use scales::TAI;
 use scales::UT1;
 use scales::UTC;
 use scales::Ut1Answer;
 use scales::UtcAnswer;
-use tai_utc::LentRows;
 use tai_utc::Rule;
 use tai_utc::SecondsByRule;
 
@@ -134,7 +134,7 @@ pub fn utc_to_ut1_with_dut1_by_rows(utc: UTC, dut1: f64, table: LentRows) -> Ut1
     match utc_to_ut1_with_dut1_by_lent(
         utc,
         dut1,
-        tai_utc::size_of(table),
+        lent_rows::size_of(table),
         &table.months,
         &table.seconds,
     ) {
@@ -147,14 +147,14 @@ pub fn utc_to_ut1_with_dut1_by_rows(utc: UTC, dut1: f64, table: LentRows) -> Ut1
 pub fn utc_to_ut1_with_dut1(utc: UTC, dut1: f64, table: LentRows) -> Ut1ByRule
     ensures { λ r. ⌜ ut1ByRuleOutcome r ≡ onward (tableOf table) (λ rows. utcToUt1ByRule rows (utc .0) dut1) ⌝ }
 {
-    let number = tai_utc::table_refusal(table);
+    let number = lent_rows::table_refusal(table);
     if number != 0 {
         return Ut1ByRule::Refused(number);
     }
     utc_to_ut1_with_dut1_by_lent(
         utc,
         dut1,
-        tai_utc::size_of(table),
+        lent_rows::size_of(table),
         &table.months,
         &table.seconds,
     )
@@ -362,7 +362,7 @@ pub fn ut1_to_utc_with_dut1_by_rows(ut1: UT1, dut1: f64, table: LentRows) -> Utc
     ut1_to_utc_with_dut1_by_lent(
         ut1,
         dut1,
-        tai_utc::size_of(table),
+        lent_rows::size_of(table),
         &table.months,
         &table.seconds,
     )
@@ -372,7 +372,7 @@ pub fn ut1_to_utc_with_dut1_by_rows(ut1: UT1, dut1: f64, table: LentRows) -> Utc
 pub fn ut1_to_utc_with_dut1(ut1: UT1, dut1: f64, table: LentRows) -> UtcAnswer
     ensures { λ r. ⌜ utcOutcome r ≡ onward (tableOf table) (λ rows. U.ut1ToUtc rows (ut1 .0) dut1) ⌝ }
 {
-    let number = tai_utc::table_refusal(table);
+    let number = lent_rows::table_refusal(table);
     if number != 0 {
         return UtcAnswer::Refused(number);
     }

@@ -14,7 +14,7 @@ use Rattle.julian.specs.DayFraction.{secondLimit, timeInDay, dayFraction}
 use Rattle.julian.specs.Finite.{finiteJd, finiteArg}
 use Rattle.julian.specs.Calendar.{calendarToJulian, fromCalendar}
 use Rattle.julian.specs.Calendar as Julian
-use Rattle.tai_utc.specs.Table.{fixed, monthNumber, reached}
+use Rattle.lent_rows.specs.Table.{fixed, monthNumber, reached}
 use Rattle.tai_utc.specs.Offset.{secondsOf, startOf, rateOf, byRow, offsetBy, offsetAt, inDay, taiUtcOffset}
 use Rattle.tai_utc.specs.Leap.{dayOffsets, leapOf, leapAtEndOfDay}
 use Rattle.shifts.specs.SmallerPart.{firstIsLarger, partsOf, putBack, mapSmallerPart}

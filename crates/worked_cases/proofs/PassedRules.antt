@@ -22,8 +22,8 @@ use Rattle.julian.specs.Calendar as Julian
 use Rattle.julian_laws.proofs.Divisions.{dividedDate, divided-date}
 use Rattle.tai_utc.specs.declared.Rule.{Rule}
 use Rattle.tai_utc.specs.declared.Rule.the-variants.{Absent, Drifting, Whole}
-use Rattle.tai_utc.specs.Table.{Row, fixed, monthNumber, reached}
-use Rattle.tai_utc.specs.Lent.{tableOf}
+use Rattle.lent_rows.specs.Table.{Row, fixed, monthNumber, reached}
+use Rattle.lent_rows.specs.Lent.{tableOf}
 use Rattle.tai_utc.specs.Offset.{secondsOf, startOf, rateOf, byRow, offsetBy, offsetAt, inDay, taiUtcOffset}
 use Rattle.tai_utc.specs.Leap.{dayOffsets, leapOf, leapAtEndOfDay}
 use Rattle.tai_utc.specs.Rule.{ruleBy, ruleOf, ruleAt, ruleOn, withRule}

@@ -20,8 +20,8 @@ use Rattle.julian.specs.DayFraction.{secondLimit, timeInDay, dayFraction}
 use Rattle.julian.specs.Calendar.{fromCalendar, calendarToJulian, julianToCalendar}
 use Rattle.julian.specs.Calendar as Julian
 use Rattle.julian_laws.proofs.Divisions.{dividedDate, divided-date}
-use Rattle.tai_utc.specs.Table.{fixed, monthNumber, reached}
-use Rattle.tai_utc.specs.Lent.{tableOf}
+use Rattle.lent_rows.specs.Table.{fixed, monthNumber, reached}
+use Rattle.lent_rows.specs.Lent.{tableOf}
 use Rattle.tai_utc.specs.Offset.{secondsOf, byRow, offsetBy, offsetAt, inDay, taiUtcOffset}
 use Rattle.tai_utc.specs.Leap.{dayOffsets, leapOf, leapAtEndOfDay}
 use Rattle.time_of_day.specs.Milliseconds as Millis

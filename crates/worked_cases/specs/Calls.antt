@@ -12,7 +12,7 @@ use Rattle.julian.specs.declared.JulianDate.{JulianDate}
 use Rattle.julian.specs.declared.CalendarFields.{CalendarFields}
 use Rattle.julian.specs.JulianDate.{julian}
 use Rattle.julian.specs.Calendar.{calendarToJulian, julianToCalendar}
-use Rattle.tai_utc.specs.Table.{fixed}
+use Rattle.lent_rows.specs.Table.{fixed}
 use Rattle.tai_utc.specs.Offset.{taiUtcOffset}
 use Rattle.scales.specs.Conversions.{Conversion}
 use Rattle.scales.specs.Conversions as Scales

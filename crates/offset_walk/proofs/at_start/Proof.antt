@@ -2,8 +2,8 @@
 use native.Mathlib.Omega.{arith}
 use mathlib.Core.Path.{refl}
 use borrow.Author.Needs.{needs}
-use Rattle.tai_utc.specs.Lent.{lentSize}
-use Rattle.tai_utc.proofs.Tables.{table-length, at-most-16}
+use Rattle.lent_rows.specs.Lent.{lentSize}
+use Rattle.lent_rows.proofs.Tables.{table-length, at-most-16}
 use Rattle.offset_walk.proofs.at_start.Statement.{statement}
 use Rattle.offset_walk.proofs.at_start.Tie as tie
 

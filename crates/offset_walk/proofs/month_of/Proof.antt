@@ -8,7 +8,7 @@ use mir.Val.{SFits, toZ, ofZ}
 use Rattle.calendar.proofs.Signs.{to-unsigned, read-back}
 use Rattle.calendar.proofs.Accepted.{Accepted, date-accepted}
 use Rattle.tai_utc.proofs.Month.{year-small, negative, natural, counted}
-use Rattle.offset_walk.specs.declared.Triple.{Triple}
+use Rattle.date_judging.specs.declared.Triple.{Triple}
 use Rattle.offset_walk.proofs.month_of.Statement.{statement}
 use Rattle.offset_walk.proofs.month_of.Tie as tie
 

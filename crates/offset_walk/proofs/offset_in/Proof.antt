@@ -9,7 +9,7 @@ use Rattle.refusals.specs.Outcome.{answer}
 use Rattle.calendar.specs.DayCount.{mjdNumber, mjdOf}
 use Rattle.calendar.proofs.Mjd.{mjd-given, same-answer}
 use Rattle.tai_utc.proofs.Mjd.{mjd-small, read, float-fits, mjd-is, no-mjd}
-use Rattle.offset_walk.specs.declared.Triple.{Triple}
+use Rattle.date_judging.specs.declared.Triple.{Triple}
 use Rattle.offset_walk.proofs.Forward.{stays, goes}
 use borrow.Author.Needs.{needs}
 use Rattle.offset_walk.proofs.offset_in.Statement.{statement}

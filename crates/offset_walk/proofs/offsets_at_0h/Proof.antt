@@ -4,26 +4,27 @@ use native.Mathlib.Omega.{arith}
 use mathlib.Core.Path.{_≡_, refl, sym, ap, _∙_}
 use lib.Dec.{eqb}
 use lib.ListN.{length}
-use Rattle.tai_utc.specs.Lent.{rowsOf}
+use Rattle.lent_rows.specs.Lent.{rowsOf}
 use Rattle.offset_walk.specs.Walk.{tripleOffset}
-use Rattle.offset_walk.specs.Lists.{datesFrom, tripleAt}
+use Rattle.date_judging.specs.Lists.{datesFrom, tripleAt}
 use Rattle.offset_walk.specs.Call.{asFloats}
-use Rattle.offset_walk.proofs.Goods.{all-good, how-many}
+use Rattle.date_judging.proofs.Judges.{how-many}
+use Rattle.offset_walk.proofs.Goods.{all-good}
 use Rattle.offset_walk.proofs.Floats.{float-length}
 use Rattle.offset_walk.proofs.Calls.{passed, refused-call, walked-call}
 use borrow.Author.Needs.{needs}
 use Rattle.offset_walk.proofs.offsets_at_0h.Statement.{statement}
 use Rattle.offset_walk.proofs.offsets_at_0h.Tie as tie
 
-refused-by-requires : tie.Need-refused-by-requires
-refused-by-requires c κs = search needs
+numbers-refusal-requires : tie.Need-numbers-refusal-requires
+numbers-refusal-requires c κs = search needs
 
 returns : tie.Need-returns
 returns c =
     let r = c .before in
     let s = r .before .before .args in
     let l = s .dates .now in
-    refused-call (s .table) (eqb (length l % 3) 0) (datesFrom (tripleAt l) 0 (length l / 3)) (length (s .out .now)) asFloats (s .out .now) (r .refused-by .result) (r .refused-by .ensures) (c .if1 .taken)
+    refused-call (s .table) (eqb (length l % 3) 0) (datesFrom (tripleAt l) 0 (length l / 3)) (length (s .out .now)) asFloats (s .out .now) (r .numbers-refusal .result) (r .numbers-refusal .ensures) (c .if1 .taken)
 
 walk-all-requires : tie.Need-walk-all-requires
 walk-all-requires c κs =
@@ -31,7 +32,7 @@ walk-all-requires c κs =
     let r = i .before in
     let s = r .before .before .args in
     let l = s .dates .now in
-    let p = passed (s .table) (eqb (length l % 3) 0) (datesFrom (tripleAt l) 0 (length l / 3)) (length (s .out .now)) (r .refused-by .result) (r .refused-by .ensures) (i .if1 .left) in
+    let p = passed (s .table) (eqb (length l % 3) 0) (datesFrom (tripleAt l) 0 (length l / 3)) (length (s .out .now)) (r .numbers-refusal .result) (r .numbers-refusal .ensures) (i .if1 .left) in
     (all-good (tripleAt l) (length l / 3) (p .good), p .order, omega arith, omega (arith, p .fits, how-many (tripleAt l) (length l / 3) 0))
 
 same-length : tie.Need-same-length
@@ -44,9 +45,9 @@ returns-2 c =
     let r = i .before in
     let s = r .before .before .args in
     let l = s .dates .now in
-    walked-call (s .table) (eqb (length l % 3) 0) (datesFrom (tripleAt l) 0 (length l / 3)) (length (s .out .now)) asFloats (s .out .now) (r .refused-by .result) (r .refused-by .ensures) (i .if1 .left)
+    walked-call (s .table) (eqb (length l % 3) 0) (datesFrom (tripleAt l) 0 (length l / 3)) (length (s .out .now)) asFloats (s .out .now) (r .numbers-refusal .result) (r .numbers-refusal .ensures) (i .if1 .left)
     (w .walk-all .result) _ (length l / 3) (w .walk-all .ensures .0) (w .walk-all .ensures .1) (float-length (tripleOffset (rowsOf (s .table))) (tripleAt l) (length l / 3))
 
 pub offsets-at-0h-spec : {M : Type 1} → statement M
 offsets-at-0h-spec =
-    tie.close (tie.spec refused-by-requires returns walk-all-requires same-length returns-2)
+    tie.close (tie.spec numbers-refusal-requires returns walk-all-requires same-length returns-2)

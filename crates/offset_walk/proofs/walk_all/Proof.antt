@@ -8,13 +8,13 @@ use lib.Ieee.{Float, binary64, ofInt}
 use Rattle.refusals.specs.Outcome.{answer}
 use Rattle.floats.specs.Whole.{nought}
 use Rattle.calendar.specs.DayCount.{mjdNumber}
-use Rattle.tai_utc.specs.Lent.{rowsOf}
+use Rattle.lent_rows.specs.Lent.{rowsOf}
 use Rattle.tai_utc.specs.Forward.{byTerms}
-use Rattle.offset_walk.specs.declared.Triple.{Triple}
+use Rattle.date_judging.specs.declared.Triple.{Triple}
 use Rattle.offset_walk.specs.declared.Walk.{Walk}
-use Rattle.offset_walk.specs.Judging.{validTriple}
+use Rattle.date_judging.specs.Judging.{validTriple}
 use Rattle.offset_walk.specs.Walk.{monthIn, tripleOffset}
-use Rattle.offset_walk.specs.Lists.{tripleAt}
+use Rattle.date_judging.specs.Lists.{tripleAt}
 use Rattle.offset_walk.specs.Asked.{Stepped}
 use Rattle.offset_walk.proofs.Pacing.{Pacing, pacing-starts, stays-there, pacing-goes, offset-is, pacing-ends}
 use Rattle.offset_walk.proofs.Writes.{Putting, one-put}

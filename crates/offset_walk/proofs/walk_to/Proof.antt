@@ -7,10 +7,10 @@ use mathlib.Core.Path.{_≡_, refl, sym, ap, subst, _∙_}
 use lib.ListN.{length, getD, length-map}
 use borrow.Author.Count.{below-more}
 use borrow.Author.Needs.{needs}
-use Rattle.tai_utc.specs.Table.{Row, starts}
-use Rattle.tai_utc.specs.Lent.{rowsOf}
+use Rattle.lent_rows.specs.Table.{Row, starts}
+use Rattle.lent_rows.specs.Lent.{rowsOf}
 use Rattle.tai_utc.specs.Forward.{never}
-use Rattle.tai_utc.specs.declared.LentRows.{LentRows}
+use Rattle.lent_rows.specs.declared.LentRows.{LentRows}
 use Rattle.offset_walk.specs.declared.Walk.{Walk}
 use Rattle.offset_walk.specs.Asked.{Standing, Stepped}
 use Rattle.offset_walk.proofs.Forward.{Walking, walking-starts, walking-goes, walking-ends, walking-in}

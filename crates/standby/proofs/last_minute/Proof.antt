@@ -7,7 +7,7 @@ use mir.Syntax.{w32}
 use mir.Val.{toZ}
 use mir.Facts.{toZ-ofZ}
 use borrow.Author.Needs.{needs}
-use Rattle.tai_utc.specs.Lent.{rowsOf}
+use Rattle.lent_rows.specs.Lent.{rowsOf}
 use Rattle.tai_utc.specs.WholeSeconds.{wholeSeconds}
 use Rattle.standby.specs.Times.{lastMinute}
 use Rattle.standby.proofs.last_minute.Statement.{statement}

@@ -9,8 +9,8 @@ use Rattle.refusals.specs.Outcome.{answer, refusal, onward}
 use Rattle.floats.specs.Whole.{nought}
 use Rattle.julian.specs.JulianDate.{julianOutcome}
 use Rattle.julian.specs.Calendar.{fromCalendar}
-use Rattle.tai_utc.specs.Table.{Row}
-use Rattle.tai_utc.specs.Lent.{rowsIn}
+use Rattle.lent_rows.specs.Table.{Row}
+use Rattle.lent_rows.specs.Lent.{rowsIn}
 use Rattle.tai_utc.specs.Leap.{leapAtEndOfDay}
 use Rattle.tai_utc.specs.declared.SecondsByRule.{SecondsByRule}
 use Rattle.tai_utc.specs.Rule.{forget, leapByRule}

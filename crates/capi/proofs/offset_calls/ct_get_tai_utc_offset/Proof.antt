@@ -2,7 +2,7 @@
 use mathlib.Core.Path.{_∙_, refl}
 use lib.IntN.{ℤ}
 use Rattle.calendar.proofs.Signs.{read-date}
-use Rattle.tai_utc.specs.Lent.{rowsIn}
+use Rattle.lent_rows.specs.Lent.{rowsIn}
 use Rattle.tai_utc.specs.Rule.{offsetByRule}
 use Rattle.rule_answers.specs.RuleFields.{offsetRuleBytes}
 use Rattle.capi.proofs.Arrays.{lent-refused, with-lent}

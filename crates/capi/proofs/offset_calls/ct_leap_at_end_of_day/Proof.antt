@@ -1,7 +1,7 @@
 -- `capi::offset_calls::ct_leap_at_end_of_day` meets its contract. Assumes nothing.
 use mathlib.Core.Path.{ap, _∙_, refl}
 use Rattle.calendar.proofs.Signs.{read-date}
-use Rattle.tai_utc.specs.Lent.{rowsIn}
+use Rattle.lent_rows.specs.Lent.{rowsIn}
 use Rattle.tai_utc.specs.Leap.{leapAtEndOfDay}
 use Rattle.tai_utc.specs.Rule.{forget}
 use Rattle.tai_utc.proofs.Rules.{leap-forgets}

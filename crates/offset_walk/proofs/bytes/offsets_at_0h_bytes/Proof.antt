@@ -4,25 +4,27 @@ use native.Mathlib.Omega.{arith}
 use mathlib.Core.Path.{_≡_, refl, sym, ap, _∙_}
 use lib.Dec.{eqb}
 use lib.ListN.{length}
-use Rattle.tai_utc.specs.Lent.{rowsOf}
+use Rattle.lent_rows.specs.Lent.{rowsOf}
 use Rattle.offset_walk.specs.Walk.{tripleOffset}
-use Rattle.offset_walk.specs.Lists.{datesFrom, tripleIn, inEights}
-use Rattle.offset_walk.proofs.Goods.{all-good, how-many}
+use Rattle.date_judging.specs.Lists.{datesFrom, tripleIn}
+use Rattle.offset_walk.specs.Lists.{inEights}
+use Rattle.date_judging.proofs.Judges.{how-many}
+use Rattle.offset_walk.proofs.Goods.{all-good}
 use Rattle.offset_walk.proofs.Eights.{eights-length}
 use Rattle.offset_walk.proofs.Calls.{passed, refused-call, walked-call}
 use borrow.Author.Needs.{needs}
 use Rattle.offset_walk.proofs.bytes.offsets_at_0h_bytes.Statement.{statement}
 use Rattle.offset_walk.proofs.bytes.offsets_at_0h_bytes.Tie as tie
 
-refused-by-requires : tie.Need-refused-by-requires
-refused-by-requires c κs = search needs
+bytes-refusal-requires : tie.Need-bytes-refusal-requires
+bytes-refusal-requires c κs = search needs
 
 returns : tie.Need-returns
 returns c =
     let r = c .before in
     let s = r .before .before .before .args in
     let l = s .dates .now in
-    refused-call (s .table) (eqb (length l % 12) 0) (datesFrom (tripleIn l) 0 (length l / 12)) (length (s .out .now) / 8) inEights (s .out .now) (r .refused-by .result) (r .refused-by .ensures) (c .if1 .taken)
+    refused-call (s .table) (eqb (length l % 12) 0) (datesFrom (tripleIn l) 0 (length l / 12)) (length (s .out .now) / 8) inEights (s .out .now) (r .bytes-refusal .result) (r .bytes-refusal .ensures) (c .if1 .taken)
 
 walk-all-requires : tie.Need-walk-all-requires
 walk-all-requires c κs =
@@ -30,7 +32,7 @@ walk-all-requires c κs =
     let r = i .before in
     let s = r .before .before .before .args in
     let l = s .dates .now in
-    let p = passed (s .table) (eqb (length l % 12) 0) (datesFrom (tripleIn l) 0 (length l / 12)) (length (s .out .now) / 8) (r .refused-by .result) (r .refused-by .ensures) (i .if1 .left) in
+    let p = passed (s .table) (eqb (length l % 12) 0) (datesFrom (tripleIn l) 0 (length l / 12)) (length (s .out .now) / 8) (r .bytes-refusal .result) (r .bytes-refusal .ensures) (i .if1 .left) in
     (all-good (tripleIn l) (length l / 12) (p .good), p .order, omega arith, omega (arith, p .fits, how-many (tripleIn l) (length l / 12) 0))
 
 same-length : tie.Need-same-length
@@ -43,9 +45,9 @@ returns-2 c =
     let r = i .before in
     let s = r .before .before .before .args in
     let l = s .dates .now in
-    walked-call (s .table) (eqb (length l % 12) 0) (datesFrom (tripleIn l) 0 (length l / 12)) (length (s .out .now) / 8) inEights (s .out .now) (r .refused-by .result) (r .refused-by .ensures) (i .if1 .left)
+    walked-call (s .table) (eqb (length l % 12) 0) (datesFrom (tripleIn l) 0 (length l / 12)) (length (s .out .now) / 8) inEights (s .out .now) (r .bytes-refusal .result) (r .bytes-refusal .ensures) (i .if1 .left)
     (w .walk-all .result) _ (8 * (length l / 12)) (w .walk-all .ensures .0) (w .walk-all .ensures .1) (eights-length (tripleOffset (rowsOf (s .table))) (tripleIn l) (length l / 12))
 
 pub offsets-at-0h-bytes-spec : {M : Type 1} → statement M
 offsets-at-0h-bytes-spec =
-    tie.close (tie.spec refused-by-requires returns walk-all-requires same-length returns-2)
+    tie.close (tie.spec bytes-refusal-requires returns walk-all-requires same-length returns-2)

@@ -6,8 +6,8 @@ use mir.Syntax.{w32}
 use mir.Facts.{toZ-ofZ}
 use denote.Ref.{now}
 use Rattle.little_endian.specs.LittleEndian.{i32At}
-use Rattle.offset_walk.specs.Judging.{triple}
-use Rattle.offset_walk.proofs.Twelves.{in-twelve}
+use Rattle.date_judging.specs.Judging.{triple}
+use Rattle.date_judging.proofs.Twelves.{in-twelve}
 use borrow.Author.Needs.{needs}
 use Rattle.offset_walk.proofs.bytes.triple_in.Statement.{statement}
 use Rattle.offset_walk.proofs.bytes.triple_in.Tie as tie

@@ -5,8 +5,8 @@ use Prim.Native.Nat.{ℕ, _<_}
 use native.Mathlib.Omega.{arith}
 use lib.ListN.{drop}
 use borrow.Author.Needs.{needs}
-use Rattle.tai_utc.specs.Table.{fixed, starts, reached}
-use Rattle.tai_utc.proofs.Reached.{at-most, late}
+use Rattle.lent_rows.specs.Table.{fixed, starts, reached}
+use Rattle.lent_rows.proofs.Reached.{at-most, late}
 use Rattle.tai_utc.proofs.fixed_rows.fixed_rows_reached.Statement.{statement}
 use Rattle.tai_utc.proofs.fixed_rows.fixed_rows_reached.Tie as tie
 

@@ -6,8 +6,8 @@ use lib.ListN.{length, drop}
 use denote.Ref.{now}
 use native.Mathlib.Omega.{arith}
 use borrow.Author.Needs.{needs}
-use Rattle.tai_utc.specs.Table.{reached}
-use Rattle.tai_utc.proofs.Reached.{found, passed, at-start}
+use Rattle.lent_rows.specs.Table.{reached}
+use Rattle.lent_rows.proofs.Reached.{found, passed, at-start}
 use Rattle.tai_utc.proofs.fixed_rows.rows_reached.Statement.{statement}
 use Rattle.tai_utc.proofs.fixed_rows.rows_reached.Tie as tie
 

@@ -4,9 +4,9 @@ use borrow.Author.Needs.{needs}
 use lib.ListN.{take}
 use lib.Seq.{getD-take}
 use lib.Ieee.{round, ofBits}
-use Rattle.tai_utc.specs.Table.{fixed}
-use Rattle.tai_utc.specs.Offset.{startOf, none}
-use Rattle.tai_utc.proofs.Rows.{place}
+use Rattle.lent_rows.specs.Table.{fixed, none}
+use Rattle.tai_utc.specs.Offset.{startOf}
+use Rattle.lent_rows.proofs.Rows.{place}
 use Rattle.tai_utc.proofs.fixed_rows.start_at.Statement.{statement}
 use Rattle.tai_utc.proofs.fixed_rows.start_at.Tie as tie
 

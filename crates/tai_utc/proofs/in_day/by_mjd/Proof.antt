@@ -10,8 +10,8 @@ use Rattle.calendar.proofs.Accepted.{Accepted, date-accepted}
 use Rattle.calendar.proofs.Mjd.{mjd-valid}
 use denote.Ref.{now}
 use mathlib.Core.List.{List}
-use Rattle.tai_utc.specs.Table.{Row, starts, reached}
-use Rattle.tai_utc.specs.Lent.{rowsIn}
+use Rattle.lent_rows.specs.Table.{Row, starts, reached}
+use Rattle.lent_rows.specs.Lent.{rowsIn}
 use Rattle.tai_utc.specs.Offset.{taiUtcOffset}
 use Rattle.tai_utc.specs.Rule.{ruleBy, ruleOf, ruleAt, offsetByRule}
 use Rattle.tai_utc.specs.Answers.{secondsByRuleOutcome}
@@ -19,7 +19,7 @@ use Rattle.tai_utc.proofs.Month.{read-month}
 use Rattle.tai_utc.proofs.Mjd.{mjd-small, read, float-fits, mjd-is, no-mjd}
 use Rattle.tai_utc.proofs.At.{at-month}
 use Rattle.tai_utc.proofs.Offsets.{date-refused, offset-given}
-use Rattle.tai_utc.proofs.ByParts.{few-rows}
+use Rattle.lent_rows.proofs.ByParts.{few-rows}
 use Rattle.tai_utc.proofs.Rules.{told, not-told}
 use borrow.Author.Needs.{needs}
 use Rattle.tai_utc.proofs.in_day.by_mjd.Statement.{statement}

@@ -4,8 +4,8 @@ use mir.Facts.{toZ-ofZ}
 use borrow.Author.Needs.{needs}
 use Rattle.tai_utc.specs.Rule.{offsetByRule}
 use Rattle.tai_utc.specs.Answers.{secondsByRuleOutcome}
-use Rattle.tai_utc.proofs.ByParts.{rows-in}
-use Rattle.tai_utc.proofs.TablesTaken.{turned-away, taken}
+use Rattle.lent_rows.proofs.ByParts.{rows-in}
+use Rattle.lent_rows.proofs.TablesTaken.{turned-away, taken}
 use Rattle.tai_utc.proofs.in_day.get_tai_utc_offset.Statement.{statement}
 use Rattle.tai_utc.proofs.in_day.get_tai_utc_offset.Tie as tie
 

@@ -4,8 +4,8 @@ use mathlib.Core.List.{List}
 use denote.Ref.{now}
 use lib.Ieee.{ofBits}
 use mir.Facts.{toZ-ofZ}
-use Rattle.tai_utc.specs.Table.{Row}
-use Rattle.tai_utc.specs.Lent.{rowsIn}
+use Rattle.lent_rows.specs.Table.{Row}
+use Rattle.lent_rows.specs.Lent.{rowsIn}
 use Rattle.tai_utc.specs.Rule.{offsetByRule}
 use Rattle.tai_utc.specs.Answers.{secondsByRuleOutcome}
 use Rattle.tai_utc.proofs.Offsets.{too-low, too-high, in-day, fraction-refused}

@@ -2,9 +2,9 @@
 use mathlib.Core.Path.{ap, _∙_}
 use mir.Facts.{toZ-ofZ}
 use borrow.Author.Needs.{needs}
-use Rattle.tai_utc.specs.Lent.{rowsOf}
+use Rattle.lent_rows.specs.Lent.{rowsOf}
 use Rattle.tai_utc.specs.Rule.{forget, offsetByRule}
-use Rattle.tai_utc.proofs.ByParts.{rows-in}
+use Rattle.lent_rows.proofs.ByParts.{rows-in}
 use Rattle.tai_utc.proofs.Rules.{offset-forgets}
 use Rattle.tai_utc.proofs.in_day.get_tai_utc_offset_by_rows.Statement.{statement}
 use Rattle.tai_utc.proofs.in_day.get_tai_utc_offset_by_rows.Tie as tie

@@ -6,8 +6,8 @@ use denote.Ref.{now}
 use lib.Ieee.{ofBits, le}
 use mir.Facts.{toZ-ofZ}
 use Rattle.floats.specs.Whole.{nought}
-use Rattle.tai_utc.specs.Table.{Row}
-use Rattle.tai_utc.specs.Lent.{rowsIn}
+use Rattle.lent_rows.specs.Table.{Row}
+use Rattle.lent_rows.specs.Lent.{rowsIn}
 use Rattle.tai_utc.specs.Offset.{inDay}
 use Rattle.tai_utc.specs.Rule.{offsetByRule}
 use Rattle.tai_utc.specs.Answers.{secondsByRuleOutcome}

@@ -5,10 +5,10 @@ use lib.IntN.{pos}
 use lib.ListN.{getD}
 use denote.Ref.{now}
 use borrow.Author.Needs.{needs}
-use Rattle.tai_utc.specs.Lent.{lentTable}
+use Rattle.lent_rows.specs.Lent.{lentTable}
 use Rattle.tai_utc.specs.Offset.{wholeF}
-use Rattle.tai_utc.proofs.Naturals.{read-natural}
-use Rattle.tai_utc.proofs.Tables.{lent-seconds}
+use Rattle.lent_rows.proofs.Naturals.{read-natural}
+use Rattle.tai_utc.proofs.ByParts.{lent-seconds}
 use Rattle.tai_utc.proofs.lent.seconds_at.Statement.{statement}
 use Rattle.tai_utc.proofs.lent.seconds_at.Tie as tie
 

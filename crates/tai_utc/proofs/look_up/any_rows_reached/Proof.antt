@@ -6,11 +6,11 @@ use native.Mathlib.Omega.{arith}
 use denote.Ref.{now}
 use lib.IntN.{ℤ}
 use borrow.Author.Needs.{needs}
-use Rattle.tai_utc.specs.Table.{fixed, starts, reached}
-use Rattle.tai_utc.specs.Lent.{least, lentSize, lentTable, rowsIn, rowsTo}
+use Rattle.lent_rows.specs.Table.{fixed, starts, reached}
+use Rattle.lent_rows.specs.Lent.{least, lentSize, lentTable, rowsIn, rowsTo}
 use Rattle.tai_utc.specs.Plain.{byFound}
-use Rattle.tai_utc.proofs.Tables.{least-right}
-use Rattle.tai_utc.proofs.ByParts.{lent-size, starts-alike}
+use Rattle.lent_rows.proofs.Tables.{least-right}
+use Rattle.lent_rows.proofs.ByParts.{lent-size, starts-alike}
 use Rattle.tai_utc.proofs.look_up.any_rows_reached.Statement.{statement}
 use Rattle.tai_utc.proofs.look_up.any_rows_reached.Tie as tie
 

@@ -5,7 +5,7 @@ use lib.IntN.{pos}
 use mir.Syntax.{w32}
 use mir.Facts.{toZ-pos}
 use borrow.Author.Needs.{needs}
-use Rattle.tai_utc.proofs.ByParts.{least-low, least-high}
+use Rattle.lent_rows.proofs.ByParts.{least-low, least-high}
 use Rattle.tai_utc.proofs.look_up.as_lent.Statement.{statement}
 use Rattle.tai_utc.proofs.look_up.as_lent.Tie as tie
 

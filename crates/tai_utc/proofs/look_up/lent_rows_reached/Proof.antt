@@ -15,12 +15,12 @@ use mir.Val.{SFits}
 use mir.Facts.{toZ-ofZ}
 use borrow.Author.Needs.{needs}
 use borrow.Author.Tests.{leb-true, leb-false}
-use Rattle.tai_utc.specs.declared.LentRows.{LentRows}
-use Rattle.tai_utc.specs.Table.{fixed, starts, reached}
-use Rattle.tai_utc.specs.Lent.{natural, least, lentRow, lentTable, rowsTo}
+use Rattle.lent_rows.specs.declared.LentRows.{LentRows}
+use Rattle.lent_rows.specs.Table.{fixed, starts, reached}
+use Rattle.lent_rows.specs.Lent.{natural, least, lentRow, lentTable, rowsTo}
 use Rattle.tai_utc.specs.Plain.{byFound}
-use Rattle.tai_utc.proofs.Tables.{lent-found, lent-passed}
-use Rattle.tai_utc.proofs.Naturals.{begun-or-not}
+use Rattle.lent_rows.proofs.Tables.{lent-found, lent-passed}
+use Rattle.lent_rows.proofs.Naturals.{begun-or-not}
 use Rattle.tai_utc.proofs.look_up.lent_rows_reached.Statement.{statement}
 use Rattle.tai_utc.proofs.look_up.lent_rows_reached.Tie as tie
 

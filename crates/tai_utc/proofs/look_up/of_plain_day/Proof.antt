@@ -7,12 +7,13 @@ use denote.Ref.{now}
 use lib.IntN.{natAbs}
 use Rattle.calendar.proofs.Signs.{to-unsigned, read-back}
 use Rattle.calendar.proofs.Accepted.{Accepted}
-use Rattle.tai_utc.specs.Table.{Row, starts, reached, monthNumber}
-use Rattle.tai_utc.specs.Lent.{rowsIn}
+use Rattle.lent_rows.specs.Table.{Row, starts, reached, monthNumber}
+use Rattle.lent_rows.specs.Lent.{rowsIn}
 use Rattle.tai_utc.specs.Offset.{offsetAt}
 use Rattle.tai_utc.specs.Rule.{ruleBy, ruleOf, ruleAt}
 use Rattle.tai_utc.proofs.Month.{read-month}
-use Rattle.tai_utc.proofs.ByParts.{few-rows, whole-reached, seconds-reached}
+use Rattle.lent_rows.proofs.ByParts.{few-rows}
+use Rattle.tai_utc.proofs.ByParts.{whole-reached, seconds-reached}
 use Rattle.tai_utc.proofs.Plain.{plain-accepted}
 use borrow.Author.Needs.{needs}
 use Rattle.tai_utc.proofs.look_up.of_plain_day.Statement.{statement}

@@ -8,10 +8,10 @@ use lib.Ieee.{ofBits}
 use borrow.Author.Tests.{lt-ltb, le-ltb}
 use borrow.Author.Needs.{needs}
 use denote.Ref.{now}
-use Rattle.tai_utc.specs.Lent.{lentSize, lentTable, rowsIn}
+use Rattle.lent_rows.specs.Lent.{lentSize, lentTable, rowsIn}
 use Rattle.tai_utc.specs.Offset.{secondsOf, startOf, rateOf}
-use Rattle.tai_utc.proofs.Tables.{fixed-place, table-drifts}
-use Rattle.tai_utc.proofs.ByParts.{lent-size}
+use Rattle.lent_rows.proofs.Tables.{fixed-place, table-drifts}
+use Rattle.lent_rows.proofs.ByParts.{lent-size}
 use Rattle.tai_utc.proofs.At.{absent, row-drifts, row-stays}
 use Rattle.tai_utc.proofs.look_up.offset_by.Statement.{statement}
 use Rattle.tai_utc.proofs.look_up.offset_by.Tie as tie

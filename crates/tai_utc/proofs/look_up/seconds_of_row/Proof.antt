@@ -6,10 +6,12 @@ use lib.ListN.{getD}
 use borrow.Author.Needs.{needs}
 use denote.Ref.{now}
 use mathlib.Core.List.{[]}
-use Rattle.tai_utc.specs.Lent.{lentSize, lentTable, rowsIn}
-use Rattle.tai_utc.specs.Offset.{none, secondsOf}
-use Rattle.tai_utc.proofs.Tables.{fixed-place, lent-place}
-use Rattle.tai_utc.proofs.ByParts.{lent-size, seconds-alike}
+use Rattle.lent_rows.specs.Lent.{lentSize, lentTable, rowsIn}
+use Rattle.lent_rows.specs.Table.{none}
+use Rattle.tai_utc.specs.Offset.{secondsOf}
+use Rattle.lent_rows.proofs.Tables.{fixed-place, lent-place}
+use Rattle.lent_rows.proofs.ByParts.{lent-size}
+use Rattle.tai_utc.proofs.ByParts.{seconds-alike}
 use Rattle.tai_utc.proofs.look_up.seconds_of_row.Statement.{statement}
 use Rattle.tai_utc.proofs.look_up.seconds_of_row.Tie as tie
 

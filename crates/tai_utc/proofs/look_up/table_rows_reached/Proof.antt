@@ -6,9 +6,9 @@ use native.Mathlib.Omega.{arith}
 use denote.Ref.{now}
 use lib.IntN.{ℤ}
 use borrow.Author.Needs.{needs}
-use Rattle.tai_utc.specs.Table.{fixed, starts, reached}
-use Rattle.tai_utc.specs.Lent.{least, lentTable, rowsIn, rowsTo}
-use Rattle.tai_utc.proofs.ByParts.{lent-size}
+use Rattle.lent_rows.specs.Table.{fixed, starts, reached}
+use Rattle.lent_rows.specs.Lent.{least, lentTable, rowsIn, rowsTo}
+use Rattle.lent_rows.proofs.ByParts.{lent-size}
 use Rattle.tai_utc.proofs.look_up.table_rows_reached.Statement.{statement}
 use Rattle.tai_utc.proofs.look_up.table_rows_reached.Tie as tie
 

@@ -5,9 +5,9 @@ use Prim.Native.Nat.{ℕ, _-_, _≤_, _<_}
 use native.Mathlib.Omega.{arith}
 use borrow.Author.Tests.{le-ltb}
 use borrow.Author.Needs.{needs}
-use Rattle.tai_utc.specs.Lent.{lentSize, lentTable, rowsIn}
-use Rattle.tai_utc.proofs.Tables.{table-drifts}
-use Rattle.tai_utc.proofs.ByParts.{lent-size}
+use Rattle.lent_rows.specs.Lent.{lentSize, lentTable, rowsIn}
+use Rattle.lent_rows.proofs.Tables.{table-drifts}
+use Rattle.lent_rows.proofs.ByParts.{lent-size}
 use Rattle.tai_utc.proofs.Rules.{rule-whole}
 use Rattle.tai_utc.proofs.look_up.whole_rule.Statement.{statement}
 use Rattle.tai_utc.proofs.look_up.whole_rule.Tie as tie

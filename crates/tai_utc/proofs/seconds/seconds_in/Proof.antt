@@ -6,11 +6,11 @@ use native.Mathlib.Omega.{arith}
 use lib.IntN.{pos}
 use lib.ListN.{getD}
 use borrow.Author.Needs.{needs}
-use Rattle.tai_utc.specs.Table.{Row, starts, reached}
-use Rattle.tai_utc.specs.Lent.{least, lentSize, rowsOf}
-use Rattle.tai_utc.proofs.Naturals.{read-natural}
-use Rattle.tai_utc.proofs.Tables.{at-most-16}
-use Rattle.tai_utc.proofs.ByParts.{rows-in}
+use Rattle.lent_rows.specs.Table.{Row, starts, reached}
+use Rattle.lent_rows.specs.Lent.{least, lentSize, rowsOf}
+use Rattle.lent_rows.proofs.Naturals.{read-natural}
+use Rattle.lent_rows.proofs.Tables.{at-most-16}
+use Rattle.lent_rows.proofs.ByParts.{rows-in}
 use Rattle.tai_utc.proofs.TableYears.{whole-rows-of}
 use Rattle.tai_utc.proofs.WholeSeconds.{in-fixed-row, in-lent-row}
 use Rattle.tai_utc.proofs.seconds.seconds_in.Statement.{statement}

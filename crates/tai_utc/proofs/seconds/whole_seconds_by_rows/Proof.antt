@@ -8,8 +8,8 @@ use lib.Signed.{ltZ}
 use mir.Facts.{toZ-ofZ}
 use borrow.Author.Needs.{needs}
 use Rattle.calendar.proofs.Signs.{lt-left}
-use Rattle.tai_utc.specs.Table.{monthNumber}
-use Rattle.tai_utc.specs.Lent.{rowsOf}
+use Rattle.lent_rows.specs.Table.{monthNumber}
+use Rattle.lent_rows.specs.Lent.{rowsOf}
 use Rattle.tai_utc.specs.Offset.{secondsIn}
 use Rattle.tai_utc.proofs.WholeSeconds.{no-year, month-below, month-above, a-month, late}
 use Rattle.tai_utc.proofs.seconds.whole_seconds_by_rows.Statement.{statement}

@@ -2,7 +2,7 @@
 use Prim.Native.Nat.{ℕ}
 use mathlib.Core.Path.{ap, _∙_}
 use borrow.Author.Needs.{needs}
-use Rattle.tai_utc.specs.Lent.{least, lentSize}
+use Rattle.lent_rows.specs.Lent.{least, lentSize}
 use Rattle.tai_utc.proofs.walk_rows.lent_size.Statement.{statement}
 use Rattle.tai_utc.proofs.walk_rows.lent_size.Tie as tie
 

@@ -2,8 +2,8 @@
 use Prim.Native.Nat.{ℕ, _+_}
 use mathlib.Core.Path.{ap, sym, _∙_}
 use borrow.Author.Needs.{needs}
-use Rattle.tai_utc.specs.Lent.{lentSize}
-use Rattle.tai_utc.proofs.Tables.{table-length}
+use Rattle.lent_rows.specs.Lent.{lentSize}
+use Rattle.lent_rows.proofs.Tables.{table-length}
 use Rattle.tai_utc.proofs.walk_rows.row_count.Statement.{statement}
 use Rattle.tai_utc.proofs.walk_rows.row_count.Tie as tie
 

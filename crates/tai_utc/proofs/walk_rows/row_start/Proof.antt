@@ -5,8 +5,8 @@ use native.Mathlib.Omega.{arith}
 use lib.IntN.{pos}
 use lib.ListN.{getD}
 use borrow.Author.Needs.{needs}
-use Rattle.tai_utc.specs.Table.{fixed}
-use Rattle.tai_utc.proofs.Naturals.{read-natural}
+use Rattle.lent_rows.specs.Table.{fixed}
+use Rattle.lent_rows.proofs.Naturals.{read-natural}
 use Rattle.tai_utc.proofs.Forward.{start-fixed, start-lent, start-past}
 use Rattle.tai_utc.proofs.walk_rows.row_start.Statement.{statement}
 use Rattle.tai_utc.proofs.walk_rows.row_start.Tie as tie

@@ -9,13 +9,13 @@ use lib.ListN.{getD}
 use lib.Ieee.{Float, ofBits}
 use borrow.Author.Tests.{lt-ltb, le-ltb}
 use borrow.Author.Needs.{needs}
-use Rattle.tai_utc.specs.Table.{Row}
-use Rattle.tai_utc.specs.Lent.{least, lentSize, rowsOf}
-use Rattle.tai_utc.specs.Offset.{none, secondsOf, startOf, rateOf}
+use Rattle.lent_rows.specs.Table.{Row, none}
+use Rattle.lent_rows.specs.Lent.{least, lentSize, rowsOf}
+use Rattle.tai_utc.specs.Offset.{secondsOf, startOf, rateOf}
 use Rattle.tai_utc.specs.Forward.{byTerms}
-use Rattle.tai_utc.proofs.Tables.{at-most-16, fixed-place, table-drifts}
+use Rattle.lent_rows.proofs.Tables.{at-most-16, fixed-place, table-drifts}
 use Rattle.tai_utc.proofs.At.{absent, row-drifts, row-stays}
-use Rattle.tai_utc.proofs.ByParts.{rows-in}
+use Rattle.lent_rows.proofs.ByParts.{rows-in}
 use Rattle.tai_utc.proofs.Forward.{no-row}
 use Rattle.tai_utc.proofs.walk_rows.row_terms.Statement.{statement}
 use Rattle.tai_utc.proofs.walk_rows.row_terms.Tie as tie

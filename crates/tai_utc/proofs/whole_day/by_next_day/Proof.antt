@@ -15,8 +15,8 @@ use Rattle.calendar.proofs.Accepted.{Accepted, date-accepted}
 use Rattle.calendar.proofs.Mjd.{mjd-valid}
 use Rattle.calendar.proofs.NextDates.{next-in-calendar}
 use denote.Ref.{now}
-use Rattle.tai_utc.specs.Table.{Row, monthNumber}
-use Rattle.tai_utc.specs.Lent.{rowsIn}
+use Rattle.lent_rows.specs.Table.{Row, monthNumber}
+use Rattle.lent_rows.specs.Lent.{rowsIn}
 use Rattle.tai_utc.specs.Leap.{offsetsOfDay}
 use Rattle.tai_utc.specs.Rule.{ruleOf, ruleAt, dayByRule}
 use Rattle.tai_utc.specs.Answers.{dayByRuleOutcome}

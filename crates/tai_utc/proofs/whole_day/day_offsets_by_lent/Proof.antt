@@ -3,8 +3,8 @@ use mathlib.Core.Path.{_≡_, ap, sym, _∙_}
 use mathlib.Core.List.{List}
 use denote.Ref.{now}
 use mir.Facts.{toZ-ofZ}
-use Rattle.tai_utc.specs.Table.{Row}
-use Rattle.tai_utc.specs.Lent.{rowsIn}
+use Rattle.lent_rows.specs.Table.{Row}
+use Rattle.lent_rows.specs.Lent.{rowsIn}
 use Rattle.tai_utc.specs.Rule.{dayByRule}
 use Rattle.tai_utc.specs.Answers.{dayByRuleOutcome}
 use Rattle.tai_utc.proofs.Rules.{told}

@@ -4,11 +4,11 @@ use mir.Facts.{toZ-ofZ}
 use borrow.Author.Needs.{needs}
 use Rattle.refusals.specs.Outcome.{onward}
 use Rattle.tai_utc.specs.declared.DayByRule.{DayByRule}
-use Rattle.tai_utc.specs.Lent.{rowsOf}
+use Rattle.lent_rows.specs.Lent.{rowsOf}
 use Rattle.tai_utc.specs.Leap.{dayOffsets}
 use Rattle.tai_utc.specs.Rule.{forget, dayByRule}
 use Rattle.tai_utc.specs.Answers.{dayOffsetsOutcome, dayByRuleOutcome}
-use Rattle.tai_utc.proofs.ByParts.{rows-in}
+use Rattle.lent_rows.proofs.ByParts.{rows-in}
 use Rattle.tai_utc.proofs.Rules.{day-forgets}
 use Rattle.tai_utc.proofs.whole_day.day_offsets_by_rows.Statement.{statement}
 use Rattle.tai_utc.proofs.whole_day.day_offsets_by_rows.Tie as tie

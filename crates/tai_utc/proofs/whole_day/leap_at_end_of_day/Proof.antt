@@ -2,10 +2,10 @@
 use mathlib.Core.Path.{_≡_, _∙_}
 use mir.Facts.{toZ-ofZ}
 use borrow.Author.Needs.{needs}
-use Rattle.tai_utc.specs.Lent.{rowsOf}
+use Rattle.lent_rows.specs.Lent.{rowsOf}
 use Rattle.tai_utc.specs.Leap.{leapAtEndOfDay}
 use Rattle.tai_utc.specs.Answers.{secondsOutcome}
-use Rattle.tai_utc.proofs.TablesTaken.{turned-away, taken}
+use Rattle.lent_rows.proofs.TablesTaken.{turned-away, taken}
 use Rattle.tai_utc.proofs.whole_day.leap_at_end_of_day.Statement.{statement}
 use Rattle.tai_utc.proofs.whole_day.leap_at_end_of_day.Tie as tie
 

@@ -6,8 +6,8 @@ use lib.Ieee.{ofBits}
 use mir.Facts.{toZ-ofZ}
 use Rattle.refusals.specs.Outcome.{onward, answer}
 use Rattle.tai_utc.specs.declared.DayByRule.{DayByRule}
-use Rattle.tai_utc.specs.Table.{Row}
-use Rattle.tai_utc.specs.Lent.{rowsIn}
+use Rattle.lent_rows.specs.Table.{Row}
+use Rattle.lent_rows.specs.Lent.{rowsIn}
 use Rattle.tai_utc.specs.Leap.{leapOf}
 use Rattle.tai_utc.specs.Rule.{dayByRule, leapByRule}
 use Rattle.tai_utc.specs.Answers.{secondsByRuleOutcome, dayByRuleOutcome}

@@ -1,7 +1,7 @@
 -- `tai_utc::whole_day::next_rows_reached` meets its contract: the same month has the same rows. Assumes nothing.
 use mathlib.Core.Path.{ap, sym, _∙_}
-use Rattle.tai_utc.specs.Table.{starts, reached}
-use Rattle.tai_utc.specs.Lent.{rowsIn}
+use Rattle.lent_rows.specs.Table.{starts, reached}
+use Rattle.lent_rows.specs.Lent.{rowsIn}
 use denote.Ref.{now}
 use borrow.Author.Needs.{needs}
 use Rattle.tai_utc.proofs.whole_day.next_rows_reached.Statement.{statement}

@@ -5,13 +5,13 @@ use Prim.Native.Nat.{_≤_}
 use denote.Ref.{now}
 use lib.Ieee.{ofBits}
 use Rattle.tai_utc.specs.Leap.{offsetsOfDay}
-use Rattle.tai_utc.specs.Table.{Row}
-use Rattle.tai_utc.specs.Lent.{rowsIn}
+use Rattle.lent_rows.specs.Table.{Row}
+use Rattle.lent_rows.specs.Lent.{rowsIn}
 use Rattle.tai_utc.specs.Rule.{ruleBy, ruleOf}
 use Rattle.tai_utc.specs.Answers.{dayByRuleOutcome}
 use Rattle.refusals.specs.Outcome.{answer}
 use Rattle.tai_utc.proofs.Mjd.{read, float-fits, one-more-fits, read-next-day, next-float-fits}
-use Rattle.tai_utc.proofs.ByParts.{few-rows}
+use Rattle.lent_rows.proofs.ByParts.{few-rows}
 use Rattle.tai_utc.proofs.At.{at-month, same-three}
 use borrow.Author.Needs.{needs}
 use Rattle.tai_utc.proofs.whole_day.offsets_of_day.Statement.{statement}

@@ -4,8 +4,8 @@ use mathlib.Core.List.{List}
 use denote.Ref.{now}
 use mir.Syntax.{w32}
 use mir.Val.{SFits}
-use Rattle.tai_utc.specs.Table.{Row}
-use Rattle.tai_utc.specs.Lent.{rowsIn}
+use Rattle.lent_rows.specs.Table.{Row}
+use Rattle.lent_rows.specs.Lent.{rowsIn}
 use Rattle.tai_utc.specs.Rule.{withRule, leapByRule}
 use Rattle.tai_utc.specs.Answers.{secondsByRuleOutcome}
 use Rattle.tai_utc.proofs.Rules.{not-told, apart, refused-apart}

@@ -1,9 +1,9 @@
 -- `utc::by_rule::to_iso8601` meets its contract: the table is tested, and its rows are read. Assumes nothing.
 use mathlib.Core.Path.{sym, ap, _∙_}
 use mathlib.Core.List.{List}
-use Rattle.tai_utc.specs.Table.{Row}
-use Rattle.tai_utc.proofs.ByParts.{rows-in}
-use Rattle.tai_utc.proofs.TablesTaken.{turned-away, taken}
+use Rattle.lent_rows.specs.Table.{Row}
+use Rattle.lent_rows.proofs.ByParts.{rows-in}
+use Rattle.lent_rows.proofs.TablesTaken.{turned-away, taken}
 use Rattle.utc.specs.ByRule.{isoTextByRule}
 use Rattle.utc.proofs.TextRules.{rule-call-refused, rule-call-as}
 use borrow.Author.Needs.{needs}

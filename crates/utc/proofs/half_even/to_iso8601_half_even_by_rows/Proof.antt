@@ -2,10 +2,10 @@
 use mathlib.Core.Path.{sym, ap, _∙_}
 use mathlib.Core.List.{List}
 use Rattle.refusals.specs.Outcome.{onward}
-use Rattle.tai_utc.specs.Table.{Row}
-use Rattle.tai_utc.specs.Lent.{rowsOf}
+use Rattle.lent_rows.specs.Table.{Row}
+use Rattle.lent_rows.specs.Lent.{rowsOf}
 use Rattle.tai_utc.specs.Rule.{forget}
-use Rattle.tai_utc.proofs.ByParts.{rows-in}
+use Rattle.lent_rows.proofs.ByParts.{rows-in}
 use Rattle.utc_text.specs.Answer.{textOutcome}
 use Rattle.utc.specs.declared.TextByRule.{TextByRule}
 use Rattle.utc.specs.ByRule.{halfEvenByRule, textByRuleOutcome}

@@ -6,8 +6,8 @@ use lib.IntN.{ℤ}
 use mir.Facts.{toZ-ofZ}
 use Rattle.calendar.specs.declared.CalendarDate.{CalendarDate}
 use Rattle.calendar.specs.Gregorian.{gregorianDate}
-use Rattle.tai_utc.specs.Table.{Row}
-use Rattle.tai_utc.specs.Lent.{rowsIn}
+use Rattle.lent_rows.specs.Table.{Row}
+use Rattle.lent_rows.specs.Lent.{rowsIn}
 use Rattle.tai_utc.specs.Rule.{withRule}
 use Rattle.tai_utc.specs.Answers.{secondsByRuleOutcome}
 use Rattle.tai_utc.proofs.Rules.{apart, refused-apart}

@@ -4,8 +4,8 @@ use mir.Facts.{toZ-ofZ}
 use Rattle.floats.specs.Whole.{nought}
 use Rattle.calendar.specs.Gregorian.{gregorianDate}
 use Rattle.tai_utc.specs.Rule.{offsetByRule}
-use Rattle.tai_utc.specs.Table.{Row}
-use Rattle.tai_utc.specs.Lent.{rowsIn}
+use Rattle.lent_rows.specs.Table.{Row}
+use Rattle.lent_rows.specs.Lent.{rowsIn}
 use Rattle.utc_scales.specs.Dates.{offsetAt0h}
 use Rattle.utc_scales.specs.ByRule.{ruleOn}
 use Rattle.utc_scales.proofs.Midnights.{month-fits, day-of-month-fits, handed}

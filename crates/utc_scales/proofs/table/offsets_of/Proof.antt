@@ -7,8 +7,8 @@ use mir.Facts.{toZ-ofZ}
 use Rattle.refusals.specs.Outcome.{onward}
 use Rattle.calendar.specs.Gregorian.{gregorianDate}
 use Rattle.tai_utc.specs.declared.DayByRule.{DayByRule}
-use Rattle.tai_utc.specs.Table.{Row}
-use Rattle.tai_utc.specs.Lent.{rowsIn}
+use Rattle.lent_rows.specs.Table.{Row}
+use Rattle.lent_rows.specs.Lent.{rowsIn}
 use Rattle.tai_utc.specs.Rule.{withRule, forget}
 use Rattle.tai_utc.specs.Answers.{dayOffsetsOutcome, dayByRuleOutcome}
 use Rattle.tai_utc.proofs.Rules.{forgets}

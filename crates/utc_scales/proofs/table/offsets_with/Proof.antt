@@ -4,8 +4,8 @@ use lib.IntN.{ℤ}
 use mir.Facts.{toZ-ofZ}
 use Rattle.calendar.specs.Gregorian.{gregorianDate}
 use Rattle.tai_utc.specs.Answers.{dayOffsetsOutcome}
-use Rattle.tai_utc.specs.Table.{Row}
-use Rattle.tai_utc.specs.Lent.{rowsIn}
+use Rattle.lent_rows.specs.Table.{Row}
+use Rattle.lent_rows.specs.Lent.{rowsIn}
 use Rattle.utc_scales.specs.Dates.{offsetsOf}
 use Rattle.utc_scales.specs.Known.{RightDay, RightKnown}
 use Rattle.utc_scales.specs.declared.table.Known.{Known}

@@ -5,8 +5,8 @@ use denote.Ref.{now}
 use lib.Ieee.{ofBits, ofInt, neg, round}
 use Rattle.julian.specs.Finite as J
 use Rattle.refusals.proofs.Onward.{went, stopped}
-use Rattle.tai_utc.specs.Table.{Row}
-use Rattle.tai_utc.specs.Lent.{rowsIn}
+use Rattle.lent_rows.specs.Table.{Row}
+use Rattle.lent_rows.specs.Lent.{rowsIn}
 use Rattle.utc_scales.specs.declared.table.MonthAnswer.{MonthAnswer}
 use Rattle.utc_scales.specs.Known.{monthOutcome, RightMonths}
 use Rattle.utc_scales.specs.UtcUt1.{adjustDut1}

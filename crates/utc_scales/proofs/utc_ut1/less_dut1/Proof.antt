@@ -1,7 +1,7 @@
 -- `utc_scales::utc_ut1::less_dut1` meets its contract. Assumes nothing.
 use mathlib.Core.Path.{_∙_}
-use Rattle.tai_utc.specs.Table.{Row}
-use Rattle.tai_utc.specs.Lent.{rowsIn}
+use Rattle.lent_rows.specs.Table.{Row}
+use Rattle.lent_rows.specs.Lent.{rowsIn}
 use Rattle.utc_scales.specs.UtcUt1.{utcFraction}
 use Rattle.utc_scales.proofs.Steps.{changes}
 use mathlib.Core.List.{List}

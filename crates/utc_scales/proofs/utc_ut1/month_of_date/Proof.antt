@@ -10,8 +10,8 @@ use Rattle.utc_scales.specs.Known.{monthOutcome, RightMonths}
 use Rattle.utc_scales.proofs.Steps.{offset-no-date, offset-of-day}
 use mathlib.Core.List.{List}
 use denote.Ref.{now}
-use Rattle.tai_utc.specs.Table.{Row}
-use Rattle.tai_utc.specs.Lent.{rowsIn}
+use Rattle.lent_rows.specs.Table.{Row}
+use Rattle.lent_rows.specs.Lent.{rowsIn}
 use borrow.Author.Needs.{needs}
 use Rattle.utc_scales.proofs.utc_ut1.month_of_date.Statement.{statement}
 use Rattle.utc_scales.proofs.utc_ut1.month_of_date.Tie as tie

@@ -7,8 +7,8 @@ use Rattle.day_number.specs.Answer.{dayOutcome}
 use Rattle.day_number.proofs.Ranges.{day-range, day-read}
 use Rattle.tai_utc.specs.Answers.{secondsByRuleOutcome}
 use Rattle.tai_utc.specs.Rule.{withRule}
-use Rattle.tai_utc.specs.Table.{Row}
-use Rattle.tai_utc.specs.Lent.{rowsIn}
+use Rattle.lent_rows.specs.Table.{Row}
+use Rattle.lent_rows.specs.Lent.{rowsIn}
 use Rattle.utc_scales.specs.Dates.{offsetAt0h}
 use Rattle.utc_scales.specs.ByRule.{ruleOn}
 use Rattle.utc_scales.proofs.Rules.{offset-by-rule, offset-by-rule-refused}

@@ -3,8 +3,8 @@ use mathlib.Core.Bool.{true, false}
 use mathlib.Core.Path.{_∙_}
 use mathlib.Core.List.{List}
 use denote.Ref.{now}
-use Rattle.tai_utc.specs.Table.{Row}
-use Rattle.tai_utc.specs.Lent.{rowsIn}
+use Rattle.lent_rows.specs.Table.{Row}
+use Rattle.lent_rows.specs.Lent.{rowsIn}
 use Rattle.tai_utc.specs.Answers.{secondsByRuleOutcome}
 use Rattle.utc_scales.specs.ByRule.{offsetOfDateByRule}
 use Rattle.utc_scales.proofs.Steps.{parts-offset}

@@ -3,8 +3,8 @@ use mathlib.Core.Path.{_≡_, refl, sym, ap, _∙_, subst}
 use Prim.Native.Nat.{_≤_, _-_}
 use native.Mathlib.Omega.{arith}
 use Rattle.julian.specs.Finite.{offsetOutcome}
-use Rattle.tai_utc.specs.Table.{Row}
-use Rattle.tai_utc.specs.Lent.{rowsIn}
+use Rattle.lent_rows.specs.Table.{Row}
+use Rattle.lent_rows.specs.Lent.{rowsIn}
 use Rattle.utc_scales.specs.declared.utc_ut1.DayScan.{DayScan}
 use Rattle.utc_scales.specs.Known.{RightMonth, RightScan}
 use Rattle.utc_scales.specs.UtcUt1.{scanOutcome, scan}

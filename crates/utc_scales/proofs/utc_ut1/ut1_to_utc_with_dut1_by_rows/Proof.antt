@@ -1,8 +1,8 @@
 -- `utc_scales::utc_ut1::ut1_to_utc_with_dut1_by_rows` meets its contract: by the table's two arrays. Assumes nothing.
 use mathlib.Core.Path.{ap, _∙_}
 use mathlib.Core.List.{List}
-use Rattle.tai_utc.specs.Table.{Row}
-use Rattle.tai_utc.proofs.ByParts.{rows-in}
+use Rattle.lent_rows.specs.Table.{Row}
+use Rattle.lent_rows.proofs.ByParts.{rows-in}
 use Rattle.utc_scales.specs.UtcUt1.{ut1ToUtc}
 use borrow.Author.Needs.{needs}
 use Rattle.utc_scales.proofs.utc_ut1.ut1_to_utc_with_dut1_by_rows.Statement.{statement}

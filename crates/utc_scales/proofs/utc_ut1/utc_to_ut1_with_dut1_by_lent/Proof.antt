@@ -5,8 +5,8 @@ use denote.Ref.{now}
 use lib.Ieee.{binary64, sub}
 use Rattle.julian.specs.Finite as J
 use Rattle.tai_utc.specs.Answers as T
-use Rattle.tai_utc.specs.Table.{Row}
-use Rattle.tai_utc.specs.Lent.{rowsIn}
+use Rattle.lent_rows.specs.Table.{Row}
+use Rattle.lent_rows.specs.Lent.{rowsIn}
 use Rattle.scales.specs.Conversions.{answerOf, tai-ut1}
 use Rattle.refusals.proofs.Onward.{went, stopped}
 use Rattle.utc_scales.specs.declared.utc_tai.RuledPart.{RuledPart}

@@ -2,10 +2,10 @@
 use mathlib.Core.Path.{_≡_, sym, ap, _∙_}
 use mathlib.Core.List.{List}
 use Rattle.refusals.specs.Outcome.{onward}
-use Rattle.tai_utc.specs.Table.{Row}
-use Rattle.tai_utc.specs.Lent.{rowsOf}
+use Rattle.lent_rows.specs.Table.{Row}
+use Rattle.lent_rows.specs.Lent.{rowsOf}
 use Rattle.tai_utc.specs.Rule.{forget}
-use Rattle.tai_utc.proofs.ByParts.{rows-in}
+use Rattle.lent_rows.proofs.ByParts.{rows-in}
 use Rattle.scales.specs.Scales.{ut1Outcome}
 use Rattle.utc_scales.specs.declared.utc_ut1.Ut1ByRule.{Ut1ByRule}
 use Rattle.utc_scales.specs.UtcUt1.{utcToUt1}
