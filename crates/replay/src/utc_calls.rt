@@ -2,11 +2,11 @@
 ghost use Prim.Native.Nat.{_≤_};
 use crate::words;
 use crate::words::Answer;
+use iso_texts::TextByRule;
 use scales::TAI;
 use scales::UT1;
 use scales::UTC;
 use scales::UtcAnswer;
-use utc::TextByRule;
 use utc_scales::utc_tai::TaiByRule;
 use utc_scales::utc_ut1::Ut1ByRule;
 
@@ -54,7 +54,7 @@ fn room(record: &[u8; 128]) -> usize
 fn text(record: &[u8; 128]) -> Answer {
     let mut buffer = [0xaau8; 32];
     let n = room(record);
-    match utc::to_iso8601(
+    match iso_texts::to_iso8601(
         UTC(words::date_at(record, 1)),
         tai_utc::no_rows(),
         &mut buffer[..n],

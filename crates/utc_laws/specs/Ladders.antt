@@ -24,8 +24,8 @@ use Rattle.tai_utc.specs.Table.{Row}
 use Rattle.tai_utc.specs.Lent.{rowsOf, laterAt, StepAt}
 use Rattle.tai_utc.specs.Offset.{inDay}
 use Rattle.tai_utc.specs.Leap.{leapAtEndOfDay}
-use Rattle.utc.specs.Sheet.{Sheet}
-use Rattle.utc.specs.IsoText.{isoTextBy}
+use Rattle.iso_texts.specs.Sheet.{Sheet}
+use Rattle.iso_texts.specs.IsoText.{isoTextBy}
 use Rattle.utc.specs.UnixTime.{unixDay, secondOfUnixDay, secondWithNanos}
 use Rattle.utc_laws.specs.Ladder.{Ladder, done, refuse}
 

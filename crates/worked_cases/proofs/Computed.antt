@@ -27,8 +27,8 @@ use Rattle.utc_text.specs.Text.{yearText, utcText}
 use Rattle.utc_text.specs.Answer.{textWritten, bufferAfter}
 use Rattle.utc.specs.FromCalendar.{midnightPlus, utcFromCalendar}
 use Rattle.utc.specs.UnixTime.{unixDay, secondOfUnixDay, secondWithNanos}
-use Rattle.utc.specs.IsoText.{nextMidnightTextBy, shownTextBy, dayTextBy}
-use Rattle.utc.specs.TextCall.{written, bufferHolds}
+use Rattle.iso_texts.specs.IsoText.{nextMidnightTextBy, shownTextBy, dayTextBy}
+use Rattle.iso_texts.specs.TextCall.{written, bufferHolds}
 use Rattle.stamps.specs.Block.{blockOf}
 use Rattle.worked_cases.specs.Calls.{Call, Value, callOutcome}
 use Rattle.julian_laws.proofs.Divisions.{dividedDate}
