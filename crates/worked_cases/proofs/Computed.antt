@@ -20,7 +20,7 @@ use Rattle.tai_utc.specs.Leap.{dayOffsets, leapOf, leapAtEndOfDay}
 use Rattle.shifts.specs.SmallerPart.{firstIsLarger, partsOf, putBack, mapSmallerPart}
 use Rattle.scales.specs.Formulas.{since, tdb0, ttDays, jd1977, tcbToTdb}
 use Rattle.scales.specs.Conversions as Scales
-use Rattle.utc_scales.specs.UtcUt1.{utcToUt1}
+use Rattle.utc_to_ut1.specs.UtcUt1.{utcToUt1}
 use Rattle.time_of_day.specs.Milliseconds as Millis
 use Rattle.time_of_day.specs.TimeShown.{timeOf, dayEnd, fromZero, shownAt, countBy, shownBy}
 use Rattle.utc_text.specs.Text.{yearText, utcText}

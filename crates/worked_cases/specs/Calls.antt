@@ -16,7 +16,7 @@ use Rattle.tai_utc.specs.Table.{fixed}
 use Rattle.tai_utc.specs.Offset.{taiUtcOffset}
 use Rattle.scales.specs.Conversions.{Conversion}
 use Rattle.scales.specs.Conversions as Scales
-use Rattle.utc_scales.specs.UtcUt1.{utcToUt1}
+use Rattle.utc_to_ut1.specs.UtcUt1.{utcToUt1}
 use Rattle.utc.specs.FromCalendar.{utcFromCalendar}
 use Rattle.utc.specs.UnixTime.{utcNew}
 use Rattle.iso_texts.specs.IsoText.{isoText}
