@@ -27,6 +27,7 @@ static void prepare(const row *r)
 {
     draw_inputs(r->inputs, in);
     make_block();
+    make_run_offsets();
     make_ticks();
     make_table();
     make_texts();

@@ -369,6 +369,44 @@ static void tai_tt_run_loop(any *f) { (void)f, run_loop(CT_TAI, CT_TT); }
 static void utc_tai_run_loop(any *f) { (void)f, run_loop(CT_UTC, CT_TAI); }
 static void tai_utc_run_loop(any *f) { (void)f, run_loop(CT_TAI, CT_UTC); }
 
+static void tt_tcg_run_loop(any *f) { (void)f, run_loop(CT_TT, CT_TCG); }
+
+/* By one formula, with the offsets of the stamps where it takes some: their list is made before anything is measured. */
+static double run_offsets[INPUTS];
+
+static void make_run_offsets(void)
+{
+    EACH run_offsets[i] = in[i].offset;
+}
+
+static void formula_loop(uint32_t from, uint32_t to, size_t offsets_len)
+{
+    int64_t refused = ct_formula_run(from, to, block + 8, 8 * INPUTS, block + 8 + 8 * INPUTS, 8 * INPUTS, (const uint8_t *)run_offsets, offsets_len,
+                                     (uint8_t *)run_out[0], 8 * INPUTS, (uint8_t *)run_out[1], 8 * INPUTS, run_numbers, INPUTS);
+    shown = (const uint8_t *)run_out;
+    shown_length = refused == 0 ? sizeof run_out : 0;
+}
+
+static void tcb_tdb_run_loop(any *f) { (void)f, formula_loop(CT_TCB, CT_TDB, 0); }
+static void tt_tdb_run_loop(any *f) { (void)f, formula_loop(CT_TT, CT_TDB, sizeof run_offsets); }
+
+static void singles_offset_run_loop(any *f)
+{
+    jd_offset_call *call = (jd_offset_call *)f;
+    double date[2];
+    EACH call(in[i].jd1, in[i].jd2, in[i].offset, (uint8_t *)date, sizeof date), run_out[0][i] = date[0], run_out[1][i] = date[1];
+    shown = (const uint8_t *)run_out;
+    shown_length = sizeof run_out;
+}
+
+static void erfa_offset_run_loop(any *f)
+{
+    erfa_jd_offset_call *call = (erfa_jd_offset_call *)f;
+    EACH call(in[i].jd1, in[i].jd2, in[i].offset, &run_out[0][i], &run_out[1][i]);
+    shown = (const uint8_t *)run_out;
+    shown_length = sizeof run_out;
+}
+
 static void singles_run_loop(any *f)
 {
     jd_call *call = (jd_call *)f;

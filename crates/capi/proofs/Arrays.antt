@@ -13,7 +13,7 @@ use Rattle.lent_rows.specs.Table.{Row}
 use Rattle.lent_rows.specs.Lent.{unlessRefused}
 use Rattle.lent_bytes.specs.TableBytes.{tableBytes}
 use Rattle.lent_bytes.proofs.Laws.{turned-away, gone-on}
-use Rattle.utc.specs.TextCall.{bufferHolds}
+use Rattle.iso_texts.specs.TextCall.{bufferHolds}
 use Rattle.c_answers.specs.Delivery.{code, inBytes, Delivered}
 use Rattle.c_answers.specs.TwoBuffers.{bothFit, DeliveredTwo}
 use Rattle.c_answers.proofs.Deliveries.{code-back, refused-on, same-outcome}

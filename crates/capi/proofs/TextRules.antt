@@ -20,11 +20,11 @@ use Rattle.lent_rows.specs.Table.{Row}
 use Rattle.tai_utc.specs.Rule.{withRule, forget}
 use Rattle.tai_utc.proofs.Rules.{ruleIn}
 use Rattle.utc_text.specs.Answer.{textWritten, bufferAfter}
-use Rattle.utc.specs.declared.TextByRule.{TextByRule}
-use Rattle.utc.specs.declared.TextByRule.the-variants.{Written, Refused}
-use Rattle.utc.specs.TextCall.{bufferHolds}
-use Rattle.utc.specs.ByRule.{textByRule, textByRuleOutcome, writtenByRule, TextRuleCall}
-use Rattle.utc.proofs.TextRules.{iso-forgets, even-forgets, expanded-forgets}
+use Rattle.iso_texts.specs.declared.TextByRule.{TextByRule}
+use Rattle.iso_texts.specs.declared.TextByRule.the-variants.{Written, Refused}
+use Rattle.iso_texts.specs.TextCall.{bufferHolds}
+use Rattle.iso_texts.specs.ByRule.{textByRule, textByRuleOutcome, writtenByRule, TextRuleCall}
+use Rattle.iso_texts.proofs.TextRules.{iso-forgets, even-forgets, expanded-forgets}
 use Rattle.utc_laws.proofs.Lengths.{text-length}
 use Rattle.utc_laws.proofs.HalfEvenTexts.{even-text-length}
 use Rattle.utc_laws.proofs.ExpandedTexts.{expanded-text-length}

@@ -16,7 +16,7 @@ use Rattle.refusals.specs.Outcome.{Outcome, answer, refusal, onward}
 use Rattle.utc_text.specs.declared.TextAnswer.{TextAnswer}
 use Rattle.utc_text.specs.declared.TextAnswer.the-variants.{Written, Refused}
 use Rattle.utc_text.specs.Answer.{textOutcome, textWritten}
-use Rattle.utc.specs.TextCall.{written, TextCall}
+use Rattle.iso_texts.specs.TextCall.{written, TextCall}
 use Rattle.c_answers.specs.Delivery.{code, Delivered}
 use Rattle.c_answers.proofs.Deliveries.{code-back}
 

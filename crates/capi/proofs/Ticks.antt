@@ -12,7 +12,7 @@ use mir.Facts.{toZ-pos}
 use borrow.Author.Tests.{le-leb}
 use Rattle.refusals.specs.Outcome.{Outcome, answer, refusal, onward}
 use Rattle.utc_text.specs.Answer.{textWritten, bufferAfter}
-use Rattle.utc.specs.TextCall.{written, bufferHolds}
+use Rattle.iso_texts.specs.TextCall.{written, bufferHolds}
 use Rattle.tick_times.specs.declared.TicksAnswer.{TicksAnswer}
 use Rattle.tick_times.specs.declared.TicksAnswer.the-variants.{Written, Refused}
 use Rattle.tick_times.specs.Ticks.{ticksOutcome, lentAfter, TicksCall}

@@ -14,7 +14,7 @@ use lib.IntN.{ℤ, pos, negsuc}
 use borrow.Author.Tests.{le-leb, lt-leb, leb-true, leb-false, ltb-true, ltb-false}
 use Rattle.refusals.specs.Outcome.{answer, onward}
 use Rattle.utc_text.specs.Answer.{textWritten, bufferAfter}
-use Rattle.utc.specs.TextCall.{written, bufferHolds}
+use Rattle.iso_texts.specs.TextCall.{written, bufferHolds}
 use Rattle.lent_rows.specs.Table.{Row}
 use Rattle.stamps.specs.Block.{blockOf}
 use Rattle.stamps.specs.declared.Telling.{Telling}

@@ -13,10 +13,10 @@ use Rattle.lent_rows.specs.Table.{Row}
 use Rattle.utc_text.specs.declared.TextAnswer.{TextAnswer}
 use Rattle.utc_text.specs.declared.TextAnswer.the-variants.{Written, Refused}
 use Rattle.utc_text.specs.Answer.{textOutcome, textWritten, bufferAfter}
-use Rattle.utc.specs.Sheet.{Sheet}
-use Rattle.utc.specs.IsoText.{isoTextBy}
+use Rattle.iso_texts.specs.Sheet.{Sheet}
+use Rattle.iso_texts.specs.IsoText.{isoTextBy}
 use Rattle.utc_laws.specs.OneText.{Division, EveryCall}
-use Rattle.utc.specs.TextCall.{written, bufferHolds, TextCall}
+use Rattle.iso_texts.specs.TextCall.{written, bufferHolds, TextCall}
 use Rattle.c_answers.specs.Delivery.{code, Delivered}
 
 -- ---- a delivery is a text call with this answer, whose code is returned

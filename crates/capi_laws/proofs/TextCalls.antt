@@ -14,11 +14,11 @@ use Rattle.tai_utc.specs.declared.Rule.{Rule}
 use Rattle.lent_rows.specs.Table.{Row}
 use Rattle.tai_utc.specs.Rule.{forget}
 use Rattle.utc_text.specs.Answer.{textWritten, bufferAfter}
-use Rattle.utc.specs.TextCall.{written, bufferHolds}
-use Rattle.utc.specs.Sheet.{Sheet}
-use Rattle.utc.specs.IsoText.{isoTextBy}
-use Rattle.utc.specs.ByRule.{textByRule}
-use Rattle.utc.proofs.TextRules.{text-forgets}
+use Rattle.iso_texts.specs.TextCall.{written, bufferHolds}
+use Rattle.iso_texts.specs.Sheet.{Sheet}
+use Rattle.iso_texts.specs.IsoText.{isoTextBy}
+use Rattle.iso_texts.specs.ByRule.{textByRule}
+use Rattle.iso_texts.proofs.TextRules.{text-forgets}
 use Rattle.c_answers.specs.Delivery.{code, Delivered}
 use Rattle.rule_answers.specs.RuleFields.{ruleBytes}
 use Rattle.c_answers.specs.TwoBuffers.{bothFit, DeliveredTwo}

@@ -27,7 +27,7 @@ use Rattle.tai_utc.specs.declared.DayOffsets.{DayOffsets}
 use Rattle.tai_utc.proofs.Days.{day-offsets-are}
 use Rattle.leap_days.specs.Formula.{NearFormula}
 use Rattle.leap_days.proofs.Formula.{drift-formula}
-use Rattle.utc_scales.specs.Dates.{offsetsOf}
+use Rattle.utc_days.specs.Dates.{offsetsOf}
 use Rattle.day_order.proofs.Once.{nought-fits, half-fits}
 use Rattle.tai_round_trip.proofs.DaySeconds.{date-of, next-date}
 use Rattle.drift_laws.specs.Drift.{rowOn}

@@ -25,9 +25,9 @@ use Rattle.lent_rows.specs.Table.{Row, fixed}
 use Rattle.tai_utc.specs.Leap.{offsets, driftRate, leapAmount}
 use Rattle.tai_utc.specs.declared.DayOffsets.{DayOffsets}
 use Rattle.rounding.specs.Picoseconds.{dayPs}
-use Rattle.utc_scales.specs.Dates.{offsetsOf}
+use Rattle.utc_days.specs.Dates.{offsetsOf}
 use Rattle.utc_scales.specs.UtcTai.{stretchDayFraction, taiFromMidnight, taiFraction, utcToTai}
-use Rattle.utc_scales.proofs.Midnights.{midnightOfDay}
+use Rattle.utc_days.proofs.Midnights.{midnightOfDay}
 use Rattle.utc_scales.proofs.Steps.{tai-of-day}
 use Rattle.drift_laws.specs.Drift.{rowOn, NoStep, DriftDate, driftPs, OnLine}
 use Rattle.tai_round_trip.proofs.Kept.{first-larger, kept-changed}

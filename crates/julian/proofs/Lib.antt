@@ -3,3 +3,4 @@ pub mod Integers
 pub mod Seconds
 pub mod Equality
 pub mod Midnights
+pub mod Dates

@@ -18,7 +18,7 @@ use Rattle.lent_rows.specs.Lent.{rowsOf, tableOf, unlessRefused}
 use Rattle.lent_rows.proofs.TableLaws.{lengths}
 use Rattle.lent_bytes.specs.TableBytes.{ofLength, tableBytes}
 use Rattle.lent_bytes.proofs.Laws.{turned-away, gone-on}
-use Rattle.utc.specs.TextCall.{written, bufferHolds}
+use Rattle.iso_texts.specs.TextCall.{written, bufferHolds}
 use Rattle.c_answers.specs.Delivery.{code, inBytes, Delivered}
 use Rattle.c_answers.proofs.Deliveries.{code-back, refused-on, same-outcome}
 

@@ -21,8 +21,8 @@ use Rattle.time_of_day.specs.declared.TimeShown.the-variants.{At, NextMidnight}
 use Rattle.time_of_day.specs.TimeShown.{shownOf}
 use Rattle.utc_text.specs.Text.{last, four, seven, afterYear}
 use Rattle.utc_text.specs.Expanded.{expandedYear, expandedText}
-use Rattle.utc.specs.IsoText.{midnight, nextMidnightTextBy, shownTextBy, dayTextBy, isoTextBy}
-use Rattle.utc.specs.Expanded.{isoTextExpanded}
+use Rattle.iso_texts.specs.IsoText.{midnight, nextMidnightTextBy, shownTextBy, dayTextBy, isoTextBy}
+use Rattle.iso_texts.specs.Expanded.{isoTextExpanded}
 use Rattle.reasons.specs.declared.Values.{Values}
 use Rattle.reasons.specs.Offending.{offending}
 use Rattle.reason_laws.specs.Printable.{Printable}

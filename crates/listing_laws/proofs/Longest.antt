@@ -30,8 +30,8 @@ use Rattle.time_of_day.specs.declared.TimeShown.{TimeShown}
 use Rattle.time_of_day.specs.declared.TimeShown.the-variants.{At, NextMidnight}
 use Rattle.time_of_day.specs.TimeShown.{shownBy}
 use Rattle.utc_text.specs.Expanded.{expandedYear, expandedText}
-use Rattle.utc.specs.Expanded.{expandedSheet, isoTextExpanded}
-use Rattle.utc.proofs.TextCalls.{fields-given-by}
+use Rattle.iso_texts.specs.Expanded.{expandedSheet, isoTextExpanded}
+use Rattle.iso_texts.proofs.TextCalls.{fields-given-by}
 use Rattle.utc_laws.proofs.DayTexts.{textBy, leapOn, has-text-by}
 use Rattle.sentences.specs.Texts.{texts, fixedText}
 use Rattle.reasons.specs.Offending.{offending, blockField}

@@ -22,10 +22,10 @@ use Rattle.julian.specs.JulianDate.{julian, roundedSum}
 use Rattle.julian.specs.Calendar.{fields, julianToCalendar}
 use Rattle.julian_laws.proofs.CalendarDays.{fields-of, only-six}
 use Rattle.lent_rows.specs.Table.{Row}
-use Rattle.utc.specs.Expanded.{expandedSheet, isoTextExpanded}
-use Rattle.utc.proofs.Dates.{date-in-range}
+use Rattle.iso_texts.specs.Expanded.{expandedSheet, isoTextExpanded}
+use Rattle.julian.proofs.Dates.{date-in-range}
 use Rattle.utc_laws.proofs.Numbers.{not-both, one-number, date-refusal}
-use Rattle.utc.proofs.TextCalls.{fields-refused-by, fields-given-by}
+use Rattle.iso_texts.proofs.TextCalls.{fields-refused-by, fields-given-by}
 use Rattle.utc_laws.proofs.DayTexts.{text-refused-by, has-text-by}
 use Rattle.sentences.specs.declared.Named.{Named}
 use Rattle.sentences.specs.declared.Named.the-variants.{Year, Sum, SecondSize, Size, WholeLength}

@@ -15,9 +15,9 @@ use Rattle.lent_rows.specs.declared.LentRows.{LentRows}
 use Rattle.lent_rows.specs.Table.{Row, fixed}
 use Rattle.lent_rows.specs.Lent.{tableOf}
 use Rattle.lent_rows.proofs.TablesTaken.{table-none}
-use Rattle.utc.specs.Expanded.{expandedSheet, isoTextExpanded}
-use Rattle.utc.proofs.Dates.{date-in-range}
-use Rattle.utc.proofs.TextCalls.{fields-refused-by, fields-given-by}
+use Rattle.iso_texts.specs.Expanded.{expandedSheet, isoTextExpanded}
+use Rattle.julian.proofs.Dates.{date-in-range}
+use Rattle.iso_texts.proofs.TextCalls.{fields-refused-by, fields-given-by}
 use Rattle.utc_laws.proofs.DayTexts.{text-refused-by, has-text-by}
 use Rattle.utc_laws.proofs.Numbers.{not-both, one-number, date-refusal}
 use Rattle.stamps.specs.declared.Telling.{Telling}

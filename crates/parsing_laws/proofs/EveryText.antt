@@ -39,10 +39,10 @@ use Rattle.time_of_day.proofs.Fields.{good-time}
 use Rattle.utc_text.specs.Text.{four, five, six, seven, afterYear, yearText, utcText}
 use Rattle.utc_text.specs.Expanded.{expandedYear, expandedText}
 use Rattle.utc_text.specs.ReadBack.{ReadsAs, Writable, readYear, readMonth, readDay, readHour, readMinute, readSecond, readMilli}
-use Rattle.utc.specs.Sheet.{Sheet}
-use Rattle.utc.specs.IsoText.{midnight, shownTextBy, dayTextBy, isoTextBy, isoText, sheet01}
-use Rattle.utc.specs.Expanded.{expandedSheet, isoTextExpanded}
-use Rattle.utc.specs.HalfEven.{evenSheet, isoTextHalfEven}
+use Rattle.iso_texts.specs.Sheet.{Sheet}
+use Rattle.iso_texts.specs.IsoText.{midnight, shownTextBy, dayTextBy, isoTextBy, isoText, sheet01}
+use Rattle.iso_texts.specs.Expanded.{expandedSheet, isoTextExpanded}
+use Rattle.iso_texts.specs.HalfEven.{evenSheet, isoTextHalfEven}
 use Rattle.utc_laws.specs.GoodSheet.{GoodSheet}
 use Rattle.utc_laws.specs.Shows.{Promise, promise01}
 use Rattle.utc_laws.specs.Promises.{expandedPromise, evenPromise}
@@ -52,7 +52,7 @@ use Rattle.utc_laws.proofs.Sheets.{good01}
 use Rattle.utc_laws.proofs.ExpandedTexts.{expanded-good}
 use Rattle.utc_laws.proofs.HalfEvenTexts.{even-good}
 use Rattle.utc_laws.proofs.ShownDates as Dates
-use Rattle.utc.proofs.TextCalls.{next-given}
+use Rattle.iso_texts.proofs.TextCalls.{next-given}
 use Rattle.parsing.specs.declared.ParsedDateTime.{ParsedDateTime}
 use Rattle.parsing.specs.Parsed.{fieldsOf, parsedUtc}
 use Rattle.parsing_laws.specs.Shown.{fieldsShown, withDate, YearShown, ReadsBack, FourDigits}

@@ -14,7 +14,7 @@ use Rattle.lent_rows.specs.Table.{Row}
 use Rattle.time_of_day.specs.declared.TimeOfDay.{TimeOfDay}
 use Rattle.utc_text.specs.Text.{utcText}
 use Rattle.utc_text.specs.ReadBack.{readYear, readMonth, readDay, readHour, readMinute, readSecond, readMilli}
-use Rattle.utc.specs.Sheet.{Sheet}
+use Rattle.iso_texts.specs.Sheet.{Sheet}
 use Rattle.utc.specs.FromCalendar.{utcFromCalendar}
 use Rattle.parsing.specs.declared.ParsedDateTime.{ParsedDateTime}
 use Rattle.parsing.specs.declared.ParsedUtc.{ParsedUtc}

@@ -19,8 +19,8 @@ use Rattle.lent_rows.specs.Table.{Row}
 use Rattle.utc_text.specs.declared.TextAnswer.{TextAnswer}
 use Rattle.utc_text.specs.declared.TextAnswer.the-variants.{Written, Refused}
 use Rattle.utc_text.specs.Answer.{textOutcome, textWritten, bufferAfter}
-use Rattle.utc.specs.TextCall.{written, bufferHolds, TextCall}
-use Rattle.utc.specs.Expanded.{isoTextExpanded}
+use Rattle.iso_texts.specs.TextCall.{written, bufferHolds, TextCall}
+use Rattle.iso_texts.specs.Expanded.{isoTextExpanded}
 use Rattle.utc_laws.proofs.ExpandedTexts.{expanded-text-length}
 use Rattle.parsing.specs.declared.ParsedUtc.{ParsedUtc}
 use Rattle.parsing.specs.declared.ParsedUtcAnswer.{ParsedUtcAnswer}

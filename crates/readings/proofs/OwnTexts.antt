@@ -11,7 +11,7 @@ use Rattle.julian.specs.declared.JulianDate.{JulianDate}
 use Rattle.lent_rows.specs.declared.LentRows.{LentRows}
 use Rattle.lent_rows.specs.Table.{Row}
 use Rattle.lent_rows.specs.Lent.{tableOf}
-use Rattle.utc.specs.Expanded.{isoTextExpanded}
+use Rattle.iso_texts.specs.Expanded.{isoTextExpanded}
 use Rattle.parsing.specs.declared.ParsedUtc.{ParsedUtc}
 use Rattle.parsing_laws.specs.Shown.{YearShown, ReadsBack, fieldsShown, withDate}
 use Rattle.parsing_laws.proofs.EveryText.{expanded-text-reads-back, from-str-answers}

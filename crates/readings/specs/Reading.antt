@@ -12,7 +12,7 @@ use Rattle.digits.specs.Decimal.{digitsOf}
 use Rattle.lent_rows.specs.Table.{Row}
 use Rattle.utc_text.specs.declared.TextAnswer.{TextAnswer}
 use Rattle.utc_text.specs.Answer.{textOutcome}
-use Rattle.utc.specs.Expanded.{isoTextExpanded}
+use Rattle.iso_texts.specs.Expanded.{isoTextExpanded}
 use Rattle.parsing.specs.Parsed.{parsedUtc}
 use Rattle.stamps.specs.Listing.{refusedWord}
 

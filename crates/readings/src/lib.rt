@@ -8,7 +8,7 @@ ghost use lib.ListN.{length};
 ghost use Rattle.digits.specs.Decimal.{digitsOf};
 ghost use Rattle.refusals.specs.Outcome.{refusal};
 ghost use Rattle.lent_rows.specs.Lent.{rowsOf};
-ghost use Rattle.utc.specs.Expanded.{isoTextExpanded};
+ghost use Rattle.iso_texts.specs.Expanded.{isoTextExpanded};
 ghost use Rattle.digits.specs.Placed.{Placed};
 ghost use Rattle.readings.specs.Reading.{reading, readingTold, readingLine, LineCall};
 
@@ -47,7 +47,7 @@ fn place_text(utc: UTC, table: LentRows, dst: &mut [u8], at: usize) -> usize
     ensures { λ r. ⌜ Placed (now (dst .entry)) at (readingTold (isoTextExpanded (rowsOf table) (utc .0))) r (now (dst .exit)) ⌝ }
     ensures { λ r. ⌜ r ≤ at + 28 ⌝ }
 {
-    match utc::to_iso8601_expanded_by_rows(utc, table, &mut dst[at..]) {
+    match iso_texts::to_iso8601_expanded_by_rows(utc, table, &mut dst[at..]) {
         TextAnswer::Written(n) => at + n,
         TextAnswer::Refused(number) => place_refused(number, dst, at),
     }

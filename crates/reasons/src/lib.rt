@@ -5,7 +5,7 @@ use sentences::Named;
 use sentences::Reason;
 use utc_text::TextAnswer;
 ghost use mathlib.Core.Path.{_≡_};
-ghost use Rattle.utc.specs.TextCall.{TextCall};
+ghost use Rattle.iso_texts.specs.TextCall.{TextCall};
 ghost use Rattle.reasons.specs.Offending.{offending};
 ghost use Rattle.reasons.specs.Sentence.{reasonOf, reasonOutcome, sentence};
 

@@ -2,13 +2,13 @@
 ghost use Prim.Native.Nat.{_≤_};
 use crate::words;
 use crate::words::Answer;
+use iso_texts::TextByRule;
 use scales::TAI;
 use scales::UT1;
 use scales::UTC;
 use scales::UtcAnswer;
-use utc::TextByRule;
 use utc_scales::utc_tai::TaiByRule;
-use utc_scales::utc_ut1::Ut1ByRule;
+use utc_to_ut1::Ut1ByRule;
 
 fn found_utc(a: UtcAnswer) -> Answer {
     match a {
@@ -54,7 +54,7 @@ fn room(record: &[u8; 128]) -> usize
 fn text(record: &[u8; 128]) -> Answer {
     let mut buffer = [0xaau8; 32];
     let n = room(record);
-    match utc::to_iso8601(
+    match iso_texts::to_iso8601(
         UTC(words::date_at(record, 1)),
         lent_rows::no_rows(),
         &mut buffer[..n],
@@ -77,15 +77,7 @@ pub(crate) fn answered(call: u64, record: &[u8; 128]) -> Answer {
         122 => text(record),
         123 => found_tai(utc_scales::utc_tai::utc_to_tai(UTC(date), lent_rows::no_rows())),
         124 => found_utc(utc_scales::utc_tai::tai_to_utc(TAI(date), lent_rows::no_rows())),
-        125 => found_ut1(utc_scales::utc_ut1::utc_to_ut1_with_dut1(
-            UTC(date),
-            dut1,
-            lent_rows::no_rows(),
-        )),
-        _ => found_utc(utc_scales::utc_ut1::ut1_to_utc_with_dut1(
-            UT1(date),
-            dut1,
-            lent_rows::no_rows(),
-        )),
+        125 => found_ut1(utc_to_ut1::utc_to_ut1_with_dut1(UTC(date), dut1, lent_rows::no_rows())),
+        _ => found_utc(ut1_to_utc::ut1_to_utc_with_dut1(UT1(date), dut1, lent_rows::no_rows())),
     }
 }

@@ -28,8 +28,8 @@ use Rattle.scales.specs.Conversions.{answerOf}
 use Rattle.julian.specs.declared.CalendarFields.{CalendarFields}
 use Rattle.julian.specs.Calendar.{julianToCalendar}
 use Rattle.tai_utc.specs.declared.DayOffsets.{DayOffsets}
-use Rattle.utc_scales.specs.LargerPart.{keptParts, besideAs, putBeside, placed, changeSmaller}
-use Rattle.utc_scales.specs.Dates.{offsetsOf, midnightOf}
+use Rattle.utc_days.specs.LargerPart.{keptParts, besideAs, putBeside, placed, changeSmaller}
+use Rattle.utc_days.specs.Dates.{offsetsOf, midnightOf}
 use Rattle.utc_scales.specs.UtcTai.{taiFromMidnight, taiFraction, utcToTai, taiToUtc}
 use Rattle.utc_scale_laws.specs.Claims.{Holds, answers, refuses, Any, SixOrOne}
 use Rattle.utc_scale_laws.proofs.Outcomes.{holds-onward, holds-more}

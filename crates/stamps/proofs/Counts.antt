@@ -18,9 +18,9 @@ use Rattle.day_number.specs.Answer.{dayOutcome, dayNumberAndFraction}
 use Rattle.julian.specs.declared.JulianDate.{JulianDate}
 use Rattle.julian.specs.Calendar.{fields, julianToCalendar}
 use Rattle.lent_rows.specs.Table.{Row}
-use Rattle.utc.specs.Expanded.{expandedSheet, isoTextExpanded}
-use Rattle.utc.proofs.Dates.{date-in-range}
-use Rattle.utc.proofs.TextCalls.{fields-refused-by, fields-given-by}
+use Rattle.iso_texts.specs.Expanded.{expandedSheet, isoTextExpanded}
+use Rattle.julian.proofs.Dates.{date-in-range}
+use Rattle.iso_texts.proofs.TextCalls.{fields-refused-by, fields-given-by}
 use Rattle.utc_laws.proofs.DayTexts.{text-refused-by, has-text-by}
 use Rattle.stamps.specs.Listing.{oneIfRefused}
 

@@ -9,7 +9,7 @@ use borrow.Author.Tests.{eq-eqb, ne-eqb}
 use Rattle.refusals.specs.Outcome.{Outcome, answer}
 use Rattle.julian.specs.declared.JulianDate.{JulianDate}
 use Rattle.lent_rows.specs.Table.{Row}
-use Rattle.utc.specs.Expanded.{isoTextExpanded}
+use Rattle.iso_texts.specs.Expanded.{isoTextExpanded}
 use Rattle.stamps.specs.declared.Telling.{Telling}
 use Rattle.stamps.specs.declared.BlockAnswer.{BlockAnswer}
 use Rattle.stamps.specs.declared.BlockAnswer.the-variants.{Stamps, Refused}

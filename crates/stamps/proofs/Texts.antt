@@ -19,9 +19,9 @@ use Rattle.lent_rows.specs.Table.{Row}
 use Rattle.utc_text.specs.declared.TextAnswer.{TextAnswer}
 use Rattle.utc_text.specs.declared.TextAnswer.the-variants.{Written, Refused}
 use Rattle.utc_text.specs.Answer.{textOutcome, textWritten, bufferAfter}
-use Rattle.utc.specs.Expanded.{expandedSheet, isoTextExpanded}
-use Rattle.utc.specs.TextCall.{written, bufferHolds, TextCall}
-use Rattle.utc.proofs.Dates.{date-in-range}
+use Rattle.iso_texts.specs.Expanded.{expandedSheet, isoTextExpanded}
+use Rattle.iso_texts.specs.TextCall.{written, bufferHolds, TextCall}
+use Rattle.julian.proofs.Dates.{date-in-range}
 use Rattle.utc_laws.proofs.Numbers.{text-numbers-by}
 use Rattle.utc_laws.proofs.ExpandedTexts.{expanded-text-length}
 use Rattle.reasons.specs.declared.Values.{Values}

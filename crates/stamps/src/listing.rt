@@ -11,7 +11,7 @@ ghost use Rattle.floats.specs.Whole.{nought};
 ghost use Rattle.day_number.specs.DayNumber.{c-djmax};
 ghost use Rattle.lent_rows.specs.Table.{Row};
 ghost use Rattle.lent_rows.specs.Lent.{rowsOf, tableOf};
-ghost use Rattle.utc.specs.Expanded.{isoTextExpanded};
+ghost use Rattle.iso_texts.specs.Expanded.{isoTextExpanded};
 ghost use Rattle.stamps.specs.Block.{blockOutcome, blockOf};
 ghost use Rattle.digits.specs.Placed.{Placed};
 ghost use Rattle.stamps.specs.Listing.{lineRoom, shown, stampLine, oneIfRefused, refusedIn, header, blockRefused};
@@ -47,7 +47,7 @@ fn place_shown(how: Telling, jd: JulianDate, table: LentRows, dst: &mut [u8], at
     ensures { λ r. ⌜ Placed (now (dst .entry)) at (shown how jd (isoTextExpanded (rowsOf table) jd)) r (now (dst .exit)) ⌝ }
     ensures { λ r. ⌜ r + 6 ≤ at + lineRoom how ⌝ }
 {
-    match utc::to_iso8601_expanded_by_rows(UTC(jd), table, &mut dst[at..]) {
+    match iso_texts::to_iso8601_expanded_by_rows(UTC(jd), table, &mut dst[at..]) {
         TextAnswer::Written(n) => at + n,
         TextAnswer::Refused(number) => told::place_date_refused(how, number, jd, dst, at),
     }

@@ -18,7 +18,7 @@ use Rattle.julian.specs.Worth.{Worth}
 use Rattle.lent_rows.specs.Table.{fixed}
 use Rattle.scale_laws.specs.Meaning.{Close}
 use Rattle.scale_laws.proofs.Meant.{more-close}
-use Rattle.utc_scales.specs.LargerPart.{firstIsKept, keptAs, keptParts, putBeside, placed, changeSmaller}
+use Rattle.utc_days.specs.LargerPart.{firstIsKept, keptAs, keptParts, putBeside, placed, changeSmaller}
 use Rattle.utc_scales.specs.UtcTai.{taiFraction, refineUtcFraction, utcToTai, taiToUtc}
 use Rattle.tai_round_trip.specs.Ranges.{HalfDaySplit}
 use Rattle.tai_round_trip.specs.UtcDays.{ExactDay}

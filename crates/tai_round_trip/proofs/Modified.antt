@@ -17,7 +17,7 @@ use Rattle.rounding.proofs.Near.{NearSum, add-near}
 use Rattle.rounding.proofs.Chain.{ValClose}
 use Rattle.julian.specs.declared.JulianDate.{JulianDate}
 use Rattle.rounding.specs.Picoseconds.{dayPs}
-use Rattle.utc_scales.specs.LargerPart.{firstIsKept}
+use Rattle.utc_days.specs.LargerPart.{firstIsKept}
 use Rattle.tai_round_trip.specs.Ranges.{ModifiedSplit}
 use Rattle.tai_round_trip.specs.UtcDays.{H}
 use Rattle.tai_round_trip.specs.Relation.{RightTai}

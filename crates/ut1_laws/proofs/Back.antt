@@ -34,10 +34,12 @@ use Rattle.lent_rows.specs.Table.{fixed}
 use Rattle.tai_utc.specs.Offset.{wholeF}
 use Rattle.tai_utc.specs.Leap.{offsets}
 use Rattle.rounding.specs.Picoseconds.{dayPs}
-use Rattle.utc_scales.specs.Dates.{offsetAt0h, offsetOfDate}
-use Rattle.utc_scales.specs.LargerPart.{firstIsKept}
-use Rattle.utc_scales.specs.UtcUt1.{noStep, scanDay, adjustDut1, utcFraction, ut1ToUtc}
-use Rattle.utc_scales.proofs.Steps.{offset-of-day, offsets-first, scan-no-step, scan-on, scan-done}
+use Rattle.utc_days.specs.Dates.{offsetAt0h, offsetOfDate}
+use Rattle.utc_days.specs.LargerPart.{firstIsKept}
+use Rattle.ut1_to_utc.specs.Ut1Utc.{noStep, scanDay, adjustDut1, utcFraction, ut1ToUtc}
+use Rattle.utc_days.proofs.Steps.{offset-of-day}
+use Rattle.utc_scales.proofs.Steps.{offsets-first}
+use Rattle.ut1_to_utc.proofs.Steps.{scan-no-step, scan-on, scan-done}
 use Rattle.tai_round_trip.specs.UtcDays.{H, secondsOn, OnDay, ExactDay}
 use Rattle.tai_round_trip.specs.Ranges.{HalfDaySplit}
 use Rattle.tai_round_trip.proofs.Units.{h, L-H, L-h, h-small, adds}

@@ -16,7 +16,8 @@ use Rattle.lent_rows.specs.Table.{fixed}
 use Rattle.rounding.specs.Picoseconds.{dayPs}
 use Rattle.scale_laws.specs.Meaning.{Apart}
 use Rattle.scale_laws.proofs.Meant.{worth-unique}
-use Rattle.utc_scales.specs.UtcUt1.{utcToUt1, ut1ToUtc}
+use Rattle.utc_to_ut1.specs.UtcUt1.{utcToUt1}
+use Rattle.ut1_to_utc.specs.Ut1Utc.{ut1ToUtc}
 use Rattle.utc_scale_laws.specs.Twenty.{utc-ut1, ut1-utc, answerOfAny}
 use Rattle.utc_scale_laws.proofs.Computed.{computed, as-computed}
 use Rattle.tai_round_trip.specs.UtcDays.{H}

@@ -39,9 +39,10 @@ use Rattle.shifts.proofs.Outcomes.{by-is}
 use Rattle.shifts.proofs.SmallerPart.{mapAs, map-is}
 use Rattle.scales.specs.Conversions.{answerOf}
 use Rattle.rounding.specs.Picoseconds.{dayPs}
-use Rattle.utc_scales.specs.Dates.{offsetAt0h, offsetOfDate}
-use Rattle.utc_scales.specs.UtcUt1.{utcToUt1}
-use Rattle.utc_scales.proofs.Steps.{offset-of-day, offsets-first}
+use Rattle.utc_days.specs.Dates.{offsetAt0h, offsetOfDate}
+use Rattle.utc_to_ut1.specs.UtcUt1.{utcToUt1}
+use Rattle.utc_days.proofs.Steps.{offset-of-day}
+use Rattle.utc_scales.proofs.Steps.{offsets-first}
 use Rattle.tai_round_trip.specs.UtcDays.{H, secondsOn, leapAfter}
 use Rattle.tai_round_trip.specs.Ranges.{HalfDaySplit}
 use Rattle.tai_round_trip.proofs.Units.{h, L-H, L-h, h-small, h-pos, add-close}

@@ -11,7 +11,8 @@ use Rattle.julian.specs.declared.JulianDate.{JulianDate}
 use Rattle.julian.specs.JulianDate.{julian}
 use Rattle.lent_rows.specs.Table.{fixed}
 use Rattle.scale_laws.specs.Meaning.{Apart, Means, back, laterBy}
-use Rattle.utc_scales.specs.UtcUt1.{utcToUt1, ut1ToUtc}
+use Rattle.utc_to_ut1.specs.UtcUt1.{utcToUt1}
+use Rattle.ut1_to_utc.specs.Ut1Utc.{ut1ToUtc}
 use Rattle.tai_round_trip.specs.UtcDays.{secondsOn}
 
 -- the calendar finds a day from 1972 on for the date i days later, and TAI-UTC is D seconds on it

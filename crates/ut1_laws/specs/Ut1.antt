@@ -11,7 +11,7 @@ use Rattle.day_number.specs.Answer.{dayNumberAndFraction}
 use Rattle.julian.specs.declared.JulianDate.{JulianDate}
 use Rattle.lent_rows.specs.Table.{fixed}
 use Rattle.scale_laws.specs.Meaning.{Meaning, Means}
-use Rattle.utc_scales.specs.UtcUt1.{utcToUt1}
+use Rattle.utc_to_ut1.specs.UtcUt1.{utcToUt1}
 use Rattle.tai_round_trip.specs.UtcDays.{H, leapAfter}
 
 -- on day n, with s leap seconds at its end and a DUT1 of (x - y) / L seconds: UT1 = UTC + (DUT1 + s * (UTC + 1/2 - n)) / 86400 days

@@ -1,7 +1,3 @@
--- The laws of UTC: from Unix time, from the calendar, and as text.
-pub mod Dates
+-- The laws of UTC from Unix time.
 pub mod UnixDays
 pub mod UnixTimes
-pub mod TextCalls
-pub mod TextRules
-pub mod CarriedRules

@@ -1,31 +1,12 @@
-// UTC from Unix time and from the calendar, and UTC text into a lent buffer: scales/utc/mod.rs.
-mod expanded;
-mod half_even;
-
-pub use expanded::to_iso8601_expanded;
-pub use expanded::to_iso8601_expanded_by_lent;
-pub use expanded::to_iso8601_expanded_by_rows;
-pub use half_even::to_iso8601_half_even;
-pub use half_even::to_iso8601_half_even_by_lent;
-pub use half_even::to_iso8601_half_even_by_rows;
+// UTC from Unix time and from the calendar: scales/utc/mod.rs.
 ghost use mathlib.Core.Path.{_≡_};
-ghost use Prim.Native.Nat.{_<_, _≤_};
+ghost use Prim.Native.Nat.{_<_};
 ghost use Rattle.scales.specs.Scales.{utcOutcome};
 ghost use Rattle.julian.specs.DayFraction.{fractionOutcome};
 ghost use Rattle.refusals.specs.Outcome.{onward};
 ghost use Rattle.lent_rows.specs.Lent.{rowsIn, rowsOf, tableOf};
 ghost use Rattle.utc.specs.FromCalendar.{midnightPlus, utcFromCalendar};
 ghost use Rattle.utc.specs.UnixTime.{unixDay, secondOfUnixDay, secondWithNanos, utcNew};
-ghost use Rattle.utc.specs.IsoText.{nextMidnightText, shownText};
-ghost use Rattle.utc.specs.TextCall.{TextCall};
-
-mod by_rule;
-
-pub use by_rule::to_iso8601;
-pub use by_rule::to_iso8601_by_lent;
-pub use by_rule::to_iso8601_by_rows;
-use calendar::CalendarDate;
-use calendar::NextDay;
 use julian::CalendarAnswer;
 use julian::FractionAnswer;
 use julian::JulianAnswer;
@@ -33,17 +14,7 @@ use julian::JulianDate;
 use lent_rows::LentRows;
 use scales::UTC;
 use scales::UtcAnswer;
-use tai_utc::Rule;
 use tai_utc::SecondsByRule;
-use time_of_day::TimeOfDay;
-use time_of_day::TimeShown;
-use utc_text::TextAnswer;
-
-// How many bytes were written and the rule of the day, or the number of the refusal.
-pub enum TextByRule {
-    Written(usize, Rule),
-    Refused(u32),
-}
 
 // The day of a Unix time, counted from 1970-01-01: the Rust's `div_euclid`, which divides downward.
 fn unix_day(seconds: i64) -> i64
@@ -222,33 +193,5 @@ fn at_time(midnight: JulianDate, fraction: FractionAnswer) -> UtcAnswer
             midnight.jd1,
             midnight.jd2 + f,
         ))),
-    }
-}
-
-pub(crate) fn put_shown(date: CalendarDate, shown: TimeShown, out: &mut [u8]) -> TextAnswer
-    requires { ⌜ (date .month ≤ 12) × (date .day ≤ 31) ⌝ }
-    ensures { λ r. ⌜ TextCall (shownText date shown) (now (out .entry)) r (now (out .exit)) ⌝ }
-{
-    match shown {
-        TimeShown::At(time) => utc_text::put_text(date, time, out),
-        TimeShown::NextMidnight => put_next_midnight(date, out),
-    }
-}
-
-fn put_next_midnight(date: CalendarDate, out: &mut [u8]) -> TextAnswer
-    requires { ⌜ (date .month ≤ 12) × (date .day ≤ 31) ⌝ }
-    ensures { λ r. ⌜ TextCall (nextMidnightText date) (now (out .entry)) r (now (out .exit)) ⌝ }
-{
-    match calendar::next_calendar_day(date.year, date.month as i32, date.day as i32) {
-        NextDay::Refused(number) => TextAnswer::Refused(number),
-        NextDay::Date(next) => {
-            let midnight = TimeOfDay {
-                hour: 0,
-                minute: 0,
-                second: 0,
-                milli: 0,
-            };
-            utc_text::put_text(next, midnight, out)
-        }
     }
 }

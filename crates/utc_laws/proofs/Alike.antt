@@ -18,9 +18,9 @@ use Rattle.lent_rows.specs.Table.{Row}
 use Rattle.utc_text.specs.declared.TextAnswer.{TextAnswer}
 use Rattle.utc_text.specs.declared.TextAnswer.the-variants.{Written, Refused}
 use Rattle.utc_text.specs.Answer.{textOutcome, textWritten, bufferAfter}
-use Rattle.utc.specs.Sheet.{Sheet}
-use Rattle.utc.specs.IsoText.{dayTextBy, isoTextBy, isoText, sheet01}
-use Rattle.utc.specs.TextCall.{written, bufferHolds, TextCall, Alike}
+use Rattle.iso_texts.specs.Sheet.{Sheet}
+use Rattle.iso_texts.specs.IsoText.{dayTextBy, isoTextBy, isoText, sheet01}
+use Rattle.iso_texts.specs.TextCall.{written, bufferHolds, TextCall, Alike}
 use Rattle.utc_laws.specs.Shows.{Promise, tooEarly, TextDemand}
 
 -- ---- one text, or one refusal, for all divisions

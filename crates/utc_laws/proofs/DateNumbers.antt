@@ -26,7 +26,7 @@ use Rattle.tai_utc.specs.declared.DayOffsets.{DayOffsets}
 use Rattle.tai_utc.proofs.Days.{day-refusals}
 use Rattle.utc.specs.FromCalendar.{midnightPlus, utcFromCalendar}
 use Rattle.utc.specs.UnixTime.{unixDay, secondOfUnixDay, secondWithNanos, utcNew}
-use Rattle.utc.proofs.Dates.{date-in-range}
+use Rattle.julian.proofs.Dates.{date-in-range}
 use Rattle.utc.proofs.UnixTimes.{nanos-refused, day-refused, day-given}
 use Rattle.utc_laws.proofs.DayTexts.{has-leap}
 use Rattle.utc_laws.proofs.Numbers.{not-both, one-number, date-refusal}

@@ -23,9 +23,9 @@ use Rattle.time_of_day.specs.declared.TimeShown.{TimeShown}
 use Rattle.time_of_day.specs.declared.TimeShown.the-variants.{At, NextMidnight}
 use Rattle.time_of_day.specs.TimeShown.{shownBy, shownOf}
 use Rattle.utc_text.specs.Text.{utcText}
-use Rattle.utc.specs.Sheet.{Sheet}
-use Rattle.utc.specs.IsoText.{midnight, shownTextBy, dayTextBy, dayText, sheet01}
-use Rattle.utc.proofs.TextCalls.{next-given, leap-refused, leap-given}
+use Rattle.iso_texts.specs.Sheet.{Sheet}
+use Rattle.iso_texts.specs.IsoText.{midnight, shownTextBy, dayTextBy, dayText, sheet01}
+use Rattle.iso_texts.proofs.TextCalls.{next-given, leap-refused, leap-given}
 
 -- the text of a date that has a next one, by a way to write a date and a time; and document 01's
 abbrev pub textBy : (CalendarDate → TimeOfDay → List ℕ) → CalendarDate → TimeShown → List ℕ

@@ -35,8 +35,8 @@ use Rattle.time_of_day.specs.ExactTime.{Leap, little, second, first, minus-seco
 use Rattle.time_of_day.proofs.Shows.{shown-within}
 use Rattle.utc_text.specs.ReadBack.{Writable, ReadsAs}
 use Rattle.utc_text.proofs.ReadBack.{said-ms}
-use Rattle.utc.specs.Sheet.{Sheet}
-use Rattle.utc.specs.IsoText.{midnight, isoTextBy, isoText, sheet01}
+use Rattle.iso_texts.specs.Sheet.{Sheet}
+use Rattle.iso_texts.specs.IsoText.{midnight, isoTextBy, isoText, sheet01}
 use Rattle.utc_laws.specs.Shows.{Promise, promise01, on-day, next-midnight, timeShown, TextRight, tooEarly, TextDemand}
 use Rattle.utc_laws.specs.GoodSheet.{GoodSheet}
 use Rattle.utc_laws.proofs.ShownDates.{early-refused, in-range, date-valid, next-is, next-in-range}

@@ -5,7 +5,7 @@ use Rattle.day_number.specs.ExactDay.{gridSum}
 use Rattle.day_number.proofs.Ends.{lowest, highest, largest, opposite, lowest-fits, highest-fits, largest-fits, opposite-fits, nought-fits, lowest-grid, highest-grid, largest-grid, opposite-grid, nought-grid, lowest-range, highest-range, largest-range}
 use Rattle.julian.specs.JulianDate.{julian}
 use Rattle.lent_rows.specs.Table.{fixed}
-use Rattle.utc.specs.IsoText.{isoText, sheet01}
+use Rattle.iso_texts.specs.IsoText.{isoText, sheet01}
 use Rattle.utc_laws.specs.Shows.{TextDemand, promise01}
 use Rattle.utc_laws.specs.OneText.{OneText}
 use Rattle.utc_laws.proofs.Demand3.{demand-3}

@@ -28,12 +28,12 @@ use Rattle.utc_text.specs.declared.TextAnswer.the-variants.{Written, Refused}
 use Rattle.utc_text.specs.Text.{utcText}
 use Rattle.utc_text.specs.Expanded.{expandedYear, expandedText}
 use Rattle.utc_text.proofs.ExpandedLaws as Text
-use Rattle.utc.specs.IsoText.{midnight, nextMidnightTextBy, shownTextBy, dayTextBy, isoTextBy, isoText}
-use Rattle.utc.specs.TextCall.{TextCall}
+use Rattle.iso_texts.specs.IsoText.{midnight, nextMidnightTextBy, shownTextBy, dayTextBy, isoTextBy, isoText}
+use Rattle.iso_texts.specs.TextCall.{TextCall}
 use Rattle.utc_laws.specs.Shows.{TextDemand}
 use Rattle.utc_laws.specs.GoodSheet.{GoodSheet}
 use Rattle.utc_laws.specs.OneText.{OneText}
-use Rattle.utc.specs.Expanded.{expandedSheet, isoTextExpanded}
+use Rattle.iso_texts.specs.Expanded.{expandedSheet, isoTextExpanded}
 use Rattle.utc_laws.specs.Promises.{expandedPromise}
 use Rattle.utc_laws.specs.Beside.{Beside, refused, written}
 use Rattle.utc_laws.proofs.Sheets.{near-501}

@@ -25,12 +25,12 @@ use Rattle.time_of_day.specs.ExactTime.{Leap, DayLength, TimeWithin}
 use Rattle.time_of_day.proofs.EvenExact.{even-exact}
 use Rattle.utc_text.specs.declared.TextAnswer.the-variants.{Written, Refused}
 use Rattle.utc_text.proofs.ReadBack as Read
-use Rattle.utc.specs.IsoText.{isoText, sheet01}
-use Rattle.utc.specs.TextCall.{TextCall}
+use Rattle.iso_texts.specs.IsoText.{isoText, sheet01}
+use Rattle.iso_texts.specs.TextCall.{TextCall}
 use Rattle.utc_laws.specs.Shows.{TextDemand}
 use Rattle.utc_laws.specs.GoodSheet.{GoodSheet}
 use Rattle.utc_laws.specs.OneText.{OneText}
-use Rattle.utc.specs.HalfEven.{evenSheet, isoTextHalfEven}
+use Rattle.iso_texts.specs.HalfEven.{evenSheet, isoTextHalfEven}
 use Rattle.utc_laws.specs.Promises.{evenPromise}
 use Rattle.utc_laws.proofs.Sums.{fraction-fits}
 use Rattle.utc_laws.proofs.Sheets.{form01}

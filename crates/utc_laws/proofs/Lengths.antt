@@ -19,11 +19,11 @@ use Rattle.time_of_day.specs.declared.TimeShown.the-variants.{At, NextMidnight}
 use Rattle.time_of_day.specs.TimeShown.{shownBy}
 use Rattle.utc_text.specs.declared.TextAnswer.the-variants.{Written}
 use Rattle.utc_text.proofs.ReadBack as Read
-use Rattle.utc.specs.Sheet.{Sheet}
-use Rattle.utc.specs.IsoText.{midnight, isoTextBy, isoText, sheet01}
-use Rattle.utc.specs.TextCall.{TextCall}
-use Rattle.utc.proofs.Dates.{date-in-range}
-use Rattle.utc.proofs.TextCalls.{fields-refused-by, fields-given-by}
+use Rattle.iso_texts.specs.Sheet.{Sheet}
+use Rattle.iso_texts.specs.IsoText.{midnight, isoTextBy, isoText, sheet01}
+use Rattle.iso_texts.specs.TextCall.{TextCall}
+use Rattle.julian.proofs.Dates.{date-in-range}
+use Rattle.iso_texts.proofs.TextCalls.{fields-refused-by, fields-given-by}
 use Rattle.utc_laws.proofs.DayTexts.{textBy, text-refused-by, leapOn, has-text-by}
 use Rattle.utc_laws.proofs.Numbers.{not-both, date-refusal}
 use Rattle.utc_laws.proofs.Alike.{text-put}

@@ -23,11 +23,11 @@ use Rattle.julian_laws.proofs.CalendarDays.{only-six}
 use Rattle.lent_rows.specs.Table.{Row}
 use Rattle.utc_text.specs.declared.TextAnswer.the-variants.{Refused}
 use Rattle.utc_text.specs.Answer.{textOutcome, textWritten}
-use Rattle.utc.specs.Sheet.{Sheet}
-use Rattle.utc.specs.IsoText.{isoTextBy, isoText, sheet01}
-use Rattle.utc.specs.TextCall.{written, TextCall}
-use Rattle.utc.proofs.Dates.{day-of, date-in-range}
-use Rattle.utc.proofs.TextCalls.{fields-refused-by, fields-given-by}
+use Rattle.iso_texts.specs.Sheet.{Sheet}
+use Rattle.iso_texts.specs.IsoText.{isoTextBy, isoText, sheet01}
+use Rattle.iso_texts.specs.TextCall.{written, TextCall}
+use Rattle.julian.proofs.Dates.{day-of, date-in-range}
+use Rattle.iso_texts.proofs.TextCalls.{fields-refused-by, fields-given-by}
 use Rattle.utc_laws.proofs.DayTexts.{text-refused-by, has-text-by}
 
 pub not-both : {A : Type 0} (o : Outcome A) (a : A) (n : ℕ) → o ≡ answer a → o ≡ refusal n → ⊥

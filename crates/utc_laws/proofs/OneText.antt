@@ -18,13 +18,13 @@ use Rattle.tai_utc.specs.Leap.{leapAtEndOfDay}
 use Rattle.time_of_day.specs.ExactTime.{Leap}
 use Rattle.utc_text.specs.declared.TextAnswer.{TextAnswer}
 use Rattle.utc_text.specs.Answer.{textOutcome}
-use Rattle.utc.specs.Sheet.{Sheet}
-use Rattle.utc.specs.IsoText.{isoTextBy, sheet01}
-use Rattle.utc.specs.TextCall.{TextCall}
+use Rattle.iso_texts.specs.Sheet.{Sheet}
+use Rattle.iso_texts.specs.IsoText.{isoTextBy, sheet01}
+use Rattle.iso_texts.specs.TextCall.{TextCall}
 use Rattle.utc_laws.specs.Shows.{Promise, promise01, tooEarly, TextDemand}
 use Rattle.utc_laws.specs.GoodSheet.{GoodSheet}
 use Rattle.utc_laws.specs.OneText.{Division, Put, fits-in, too-long, OneText}
-use Rattle.utc.proofs.TextCalls.{call-as}
+use Rattle.iso_texts.proofs.TextCalls.{call-as}
 use Rattle.utc_laws.proofs.Sums.{sumText, of-sum}
 use Rattle.utc_laws.proofs.Sheets.{good01}
 use Rattle.utc_laws.proofs.Demand3.{sum-demand, fixed-leaps, table-leaps}

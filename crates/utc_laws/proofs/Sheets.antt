@@ -21,7 +21,7 @@ use Rattle.utc_text.specs.ReadBack.{Writable}
 use Rattle.utc_text.proofs.ReadBack.{reads-back, written-length}
 use Rattle.utc_text.proofs.Form.{well-formed}
 use Rattle.utc_text.proofs.YearZeros.{year-filled-to-four}
-use Rattle.utc.specs.IsoText.{sheet01}
+use Rattle.iso_texts.specs.IsoText.{sheet01}
 use Rattle.utc_laws.specs.Shows.{Form01, promise01}
 use Rattle.utc_laws.specs.GoodSheet.{GoodSheet}
 use Rattle.utc_laws.proofs.Sums.{fraction-fits}

@@ -16,10 +16,10 @@ use Rattle.day_number.specs.Ranges.{InDays}
 use Rattle.julian.specs.declared.JulianDate.{JulianDate}
 use Rattle.julian_laws.proofs.CalendarDays.{day-low, day-high, exact-date}
 use Rattle.lent_rows.specs.Table.{Row}
-use Rattle.utc.specs.Sheet.{Sheet}
-use Rattle.utc.specs.IsoText.{dayTextBy, isoTextBy}
+use Rattle.iso_texts.specs.Sheet.{Sheet}
+use Rattle.iso_texts.specs.IsoText.{dayTextBy, isoTextBy}
 use Rattle.utc_laws.specs.OneText.{Division}
-use Rattle.utc.proofs.TextCalls.{fields-given-by}
+use Rattle.iso_texts.proofs.TextCalls.{fields-given-by}
 
 pub in-days : (sum : ℤ) → GridSumInRange sum → InDays (exactDay sum)
 in-days sum r = record { top = day-high sum r; bottom = omega (arith, day-low sum r) }

@@ -24,14 +24,14 @@ use Rattle.lent_rows.specs.Table.{Row}
 use Rattle.lent_rows.specs.Lent.{rowsOf, tableOf}
 use Rattle.tai_utc.specs.Rule.{ruleOn, withRule}
 use Rattle.utc_text.specs.Answer.{textWritten}
-use Rattle.utc.specs.declared.TextByRule.{TextByRule}
-use Rattle.utc.specs.Sheet.{Sheet}
-use Rattle.utc.specs.IsoText.{sheet01, dayTextBy, isoTextBy}
-use Rattle.utc.specs.Expanded.{expandedSheet}
-use Rattle.utc.specs.HalfEven.{evenSheet}
-use Rattle.utc.specs.ByRule.{textByRule, textByRuleOutcome, writtenByRule, TextRuleCall}
+use Rattle.iso_texts.specs.declared.TextByRule.{TextByRule}
+use Rattle.iso_texts.specs.Sheet.{Sheet}
+use Rattle.iso_texts.specs.IsoText.{sheet01, dayTextBy, isoTextBy}
+use Rattle.iso_texts.specs.Expanded.{expandedSheet}
+use Rattle.iso_texts.specs.HalfEven.{evenSheet}
+use Rattle.iso_texts.specs.ByRule.{textByRule, textByRuleOutcome, writtenByRule, TextRuleCall}
 use Rattle.utc_laws.proofs.DayTexts.{text-refused-by, has-text-by}
-use Rattle.utc.proofs.TextCalls.{fields-given-by}
+use Rattle.iso_texts.proofs.TextCalls.{fields-given-by}
 use Rattle.utc_laws.specs.Ladder.{done, refuse, Decided}
 use Rattle.utc_laws.specs.Ladders.{dateIn, textLadder, textCallLadder, partsThen}
 use Rattle.utc_laws.proofs.Ladders.{reaches, stops, passes, under-table, by-parts}

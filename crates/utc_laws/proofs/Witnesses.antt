@@ -35,8 +35,8 @@ use Rattle.lent_rows.proofs.NoRows.{none-lent, fixed-taken}
 use Rattle.leap_days.proofs.TableCases.{unequal-sizes, january-2017, no-second}
 use Rattle.utc.specs.FromCalendar.{utcFromCalendar}
 use Rattle.utc.specs.UnixTime.{unixDay, utcNew}
-use Rattle.utc.specs.Sheet.{Sheet}
-use Rattle.utc.specs.ByRule.{textByRule}
+use Rattle.iso_texts.specs.Sheet.{Sheet}
+use Rattle.iso_texts.specs.ByRule.{textByRule}
 use Rattle.utc_laws.specs.Ladder.{Ladder, Decided}
 use Rattle.utc_laws.specs.Ladders.{tableFirst}
 use Rattle.utc_laws.proofs.Ladders.{after-table}

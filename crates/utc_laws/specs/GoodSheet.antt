@@ -8,7 +8,7 @@ use Rattle.time_of_day.specs.declared.TimeOfDay.{TimeOfDay}
 use Rattle.time_of_day.specs.Milliseconds.{wholeLeap}
 use Rattle.time_of_day.specs.ExactTime.{Leap, DayLength, TimeWithin}
 use Rattle.utc_text.specs.ReadBack.{ReadsAs, Writable}
-use Rattle.utc.specs.Sheet.{Sheet}
+use Rattle.iso_texts.specs.Sheet.{Sheet}
 use Rattle.utc_laws.specs.Shows.{Promise}
 
 pub record GoodSheet (sheet : Sheet) (p : Promise) : Type 0 where

@@ -24,8 +24,8 @@ use Rattle.lent_rows.specs.Table.{Row}
 use Rattle.lent_rows.specs.Lent.{rowsOf, laterAt, StepAt}
 use Rattle.tai_utc.specs.Offset.{inDay}
 use Rattle.tai_utc.specs.Leap.{leapAtEndOfDay}
-use Rattle.utc.specs.Sheet.{Sheet}
-use Rattle.utc.specs.IsoText.{isoTextBy}
+use Rattle.iso_texts.specs.Sheet.{Sheet}
+use Rattle.iso_texts.specs.IsoText.{isoTextBy}
 use Rattle.utc.specs.UnixTime.{unixDay, secondOfUnixDay, secondWithNanos}
 use Rattle.utc_laws.specs.Ladder.{Ladder, done, refuse}
 

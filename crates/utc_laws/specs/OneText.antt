@@ -17,9 +17,9 @@ use Rattle.tai_utc.specs.Leap.{leapAtEndOfDay}
 use Rattle.time_of_day.specs.ExactTime.{DayLength}
 use Rattle.utc_text.specs.declared.TextAnswer.{TextAnswer}
 use Rattle.utc_text.specs.Answer.{textOutcome}
-use Rattle.utc.specs.Sheet.{Sheet}
-use Rattle.utc.specs.IsoText.{isoTextBy}
-use Rattle.utc.specs.TextCall.{TextCall, Alike}
+use Rattle.iso_texts.specs.Sheet.{Sheet}
+use Rattle.iso_texts.specs.IsoText.{isoTextBy}
+use Rattle.iso_texts.specs.TextCall.{TextCall, Alike}
 use Rattle.utc_laws.specs.Shows.{Promise, TextRight, tooEarly}
 
 -- a Julian date whose two parts are floats on the grid with this exact sum

@@ -18,7 +18,7 @@ use Rattle.time_of_day.specs.Milliseconds.{wholeLeap}
 use Rattle.time_of_day.specs.ExactTime.{DayLength, TimeWithin, GoodTime}
 use Rattle.utc_text.specs.ReadBack.{ReadsAs, readMs}
 use Rattle.utc_text.specs.WellFormed.{WellFormed, YearFilledToFour}
-use Rattle.utc.specs.IsoText.{midnight}
+use Rattle.iso_texts.specs.IsoText.{midnight}
 
 -- the digits of t say the date of day n and a time of a day with this leap, or the next day's midnight
 pub data DayShown (t : List ℕ) (n : ℤ) (leap : Float) : Type 0 where

@@ -7,7 +7,8 @@ use Rattle.floats.specs.Whole.{nought}
 use Rattle.julian.specs.JulianDate.{julian}
 use Rattle.lent_rows.specs.Table.{fixed}
 use Rattle.utc_scales.specs.UtcTai.{utcToTai, taiToUtc}
-use Rattle.utc_scales.specs.UtcUt1.{utcToUt1, ut1ToUtc}
+use Rattle.utc_to_ut1.specs.UtcUt1.{utcToUt1}
+use Rattle.ut1_to_utc.specs.Ut1Utc.{ut1ToUtc}
 use Rattle.utc_scale_laws.proofs.NotFinite.{utc-to-tai-not-finite, tai-to-utc-not-finite, utc-to-ut1-no-offset, ut1-to-utc-no-offset, utc-to-ut1-not-finite, ut1-to-utc-not-finite}
 
 utc-nan : utcToTai fixed (julian nan nought) ≡ refusal 6

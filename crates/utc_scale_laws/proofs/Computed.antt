@@ -26,10 +26,11 @@ use Rattle.tai_utc.specs.Leap.{dayOffsets, driftRate, leapAmount}
 use Rattle.shifts.specs.SmallerPart as Shifts
 use Rattle.shifts.specs.Shifts.{plus, minus, daysOf, changed, convertedBy, finiteBoth, finiteOffset}
 use Rattle.scales.specs.Conversions.{answerOf, tai-ut1}
-use Rattle.utc_scales.specs.LargerPart.{firstIsKept, keptParts, putBeside, placed, changeSmaller}
-use Rattle.utc_scales.specs.Dates.{offsetAt0h, offsetsOf, midnightOf, offsetOfDate}
+use Rattle.utc_days.specs.LargerPart.{firstIsKept, keptParts, putBeside, placed, changeSmaller}
+use Rattle.utc_days.specs.Dates.{offsetAt0h, offsetsOf, midnightOf, offsetOfDate}
 use Rattle.utc_scales.specs.UtcTai.{stretchDayFraction, taiFromMidnight, taiFraction, utcToTai, moved, refined, rounds, refineUtcFraction, taiToUtc}
-use Rattle.utc_scales.specs.UtcUt1.{Scanned, noStep, step, beforeStep, timePastLeap, atMostOne, afterStep, nearStep, scanDay, untilStep, scan, adjustDut1, utcFraction, utcToUt1, ut1ToUtc}
+use Rattle.ut1_to_utc.specs.Ut1Utc.{Scanned, noStep, step, beforeStep, timePastLeap, atMostOne, afterStep, nearStep, scanDay, untilStep, scan, adjustDut1, utcFraction, ut1ToUtc}
+use Rattle.utc_to_ut1.specs.UtcUt1.{utcToUt1}
 use Rattle.utc_scale_laws.specs.Twenty.{Twenty, by-formula, utc-tai, tai-utc, utc-ut1, ut1-utc, answerOfAny}
 
 -- a calendar: what `julianToCalendar` is

@@ -22,10 +22,10 @@ use Rattle.shifts.specs.SmallerPart as S
 use Rattle.scales.specs.Conversions.{answerOf, tai-ut1}
 use Rattle.scale_laws.specs.Ranges.{Held, Billion, FiniteParts}
 use Rattle.shifts.proofs.Outcomes.{by-is}
-use Rattle.utc_scales.specs.LargerPart.{firstIsKept, keptAs, keptParts, besideAs, putBeside, placed, changeSmaller}
-use Rattle.utc_scales.specs.UtcUt1.{beforeStep, timePastLeap, atMostOne, afterStep, nearStep, Scanned, noStep, step, untilStep}
+use Rattle.utc_days.specs.LargerPart.{firstIsKept, keptAs, keptParts, besideAs, putBeside, placed, changeSmaller}
+use Rattle.ut1_to_utc.specs.Ut1Utc.{beforeStep, timePastLeap, atMostOne, afterStep, nearStep, Scanned, noStep, step, untilStep}
 use Rattle.utc_scale_laws.specs.Claims.{Holds, answers, SixOrOne, Fits}
-use Rattle.utc_scales.proofs.Midnights.{midnightOfDay}
+use Rattle.utc_days.proofs.Midnights.{midnightOfDay}
 use Rattle.utc_scale_laws.proofs.Outcomes.{holds-answer, holds-onward}
 use Rattle.utc_scale_laws.proofs.OffsetSizes.{day-size, day-above, day-more-above, zero-point-size}
 use Rattle.utc_scale_laws.proofs.DaySizes.{midnight-size}

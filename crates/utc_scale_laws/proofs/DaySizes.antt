@@ -21,11 +21,11 @@ use Rattle.lent_rows.specs.declared.LentRows.{LentRows}
 use Rattle.lent_rows.specs.Table.{Row}
 use Rattle.lent_rows.specs.Lent.{tableOf}
 use Rattle.tai_utc.specs.Leap.{driftRate, leapAmount}
-use Rattle.utc_scales.specs.Dates.{offsetOfDate, offsetAt0h}
+use Rattle.utc_days.specs.Dates.{offsetOfDate, offsetAt0h}
 use Rattle.utc_scales.specs.UtcTai.{stretchDayFraction}
 use Rattle.utc_scale_laws.specs.Claims.{Holds, SixOrOne, Fits}
-use Rattle.utc_scales.proofs.Midnights.{offset-early}
-use Rattle.utc_scales.proofs.Steps.{offset-no-date, offset-of-day}
+use Rattle.utc_days.proofs.Midnights.{offset-early}
+use Rattle.utc_days.proofs.Steps.{offset-no-date, offset-of-day}
 use Rattle.utc_scale_laws.proofs.Outcomes.{holds-answer, holds-refusal}
 use Rattle.utc_scale_laws.proofs.Days.{dateIn, Kind, outside, before, valid, kind, offset-answered}
 use Rattle.utc_scale_laws.proofs.OffsetSizes.{offset-size, Offsets, zero-size, day-size, day-above}

@@ -30,7 +30,7 @@ use Rattle.lent_rows.specs.Table.{Row}
 use Rattle.tai_utc.proofs.Offsets.{in-day-zero, offset-given}
 use Rattle.tai_utc.proofs.Days.{day-offsets-are}
 use Rattle.refusals.proofs.Onward.{went}
-use Rattle.utc_scales.specs.Dates.{offsetAt0h, offsetsOf}
+use Rattle.utc_days.specs.Dates.{offsetAt0h, offsetsOf}
 
 -- whether the year is before -4799
 abbrev pub early : CalendarDate → Bool

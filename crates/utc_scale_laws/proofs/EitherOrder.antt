@@ -9,7 +9,7 @@ use lib.Ieee.{Float, nan, inf, fin, Format, binary64, up, down, round, sum, add}
 use borrow.Author.Tests.{ltb-true, ltb-false}
 use Rattle.day_number.specs.DayNumber.{inJulianRange, accepted}
 use Rattle.julian.specs.declared.JulianDate.{JulianDate}
-use Rattle.utc_scales.specs.LargerPart.{firstIsKept, keptAs, keptParts}
+use Rattle.utc_days.specs.LargerPart.{firstIsKept, keptAs, keptParts}
 
 -- -a / c + b / c
 unlike-turned : (f : Format) (a b c : ℕ) → sum f true a false b c ≡ sum f false b true a c

@@ -22,13 +22,15 @@ use Rattle.lent_rows.specs.Lent.{tableOf}
 use Rattle.lent_rows.proofs.NoRows.{none-lent, fixed-taken}
 use Rattle.scale_laws.specs.Ranges.{Held, Billion, FiniteParts}
 use Rattle.refusals.proofs.Onward.{went}
-use Rattle.utc_scales.specs.LargerPart.{keptParts}
-use Rattle.utc_scales.specs.Dates.{offsetAt0h, offsetsOf}
+use Rattle.utc_days.specs.LargerPart.{keptParts}
+use Rattle.utc_days.specs.Dates.{offsetAt0h, offsetsOf}
 use Rattle.utc_scales.specs.UtcTai.{taiFromMidnight, taiFraction, utcToTai, moved, refined, rounds, refineUtcFraction, taiToUtc}
-use Rattle.utc_scales.specs.UtcUt1.{utcToUt1, noStep, scanDay, scan, adjustDut1, utcFraction, ut1ToUtc}
+use Rattle.utc_to_ut1.specs.UtcUt1.{utcToUt1}
+use Rattle.ut1_to_utc.specs.Ut1Utc.{noStep, scanDay, scan, adjustDut1, utcFraction, ut1ToUtc}
 use Rattle.utc_scale_laws.specs.Claims.{Holds, answers, SixOrOne, Fits}
-use Rattle.utc_scales.proofs.Midnights.{offset-early, offsets-early}
-use Rattle.utc_scales.proofs.Steps.{tai-no-date, tai-no-offsets, tai-of-day, scan-no-date, scan-no-offset, scan-no-step, scan-step}
+use Rattle.utc_days.proofs.Midnights.{offset-early, offsets-early}
+use Rattle.utc_scales.proofs.Steps.{tai-no-date, tai-no-offsets, tai-of-day}
+use Rattle.ut1_to_utc.proofs.Steps.{scan-no-date, scan-no-offset, scan-no-step, scan-step}
 use Rattle.utc_scale_laws.proofs.Outcomes.{holds-answer, holds-refusal, holds-onward, holds-more}
 use Rattle.utc_scale_laws.proofs.Days.{dateIn, Kind, outside, before, valid, kind, offset-answered, offsets-answered}
 use Rattle.utc_scale_laws.proofs.Refusals.{parts-fit}

@@ -28,11 +28,11 @@ use Rattle.lent_rows.specs.Lent.{tableOf}
 use Rattle.lent_rows.proofs.NoRows.{none-lent, fixed-taken}
 use Rattle.scale_laws.specs.Ranges.{Held, FiniteParts}
 use Rattle.scale_laws.proofs.Shifts.{Small, added, taken-from, zero-point-small}
-use Rattle.utc_scales.specs.LargerPart.{keptParts, besideAs, putBeside, placed, changeSmaller}
-use Rattle.utc_scales.specs.Dates.{offsetsOf}
+use Rattle.utc_days.specs.LargerPart.{keptParts, besideAs, putBeside, placed, changeSmaller}
+use Rattle.utc_days.specs.Dates.{offsetsOf}
 use Rattle.utc_scales.specs.UtcTai.{taiFromMidnight, taiFraction, utcToTai}
 use Rattle.utc_scale_laws.specs.Claims.{Holds, answers, SixOrOne, Fits}
-use Rattle.utc_scales.proofs.Midnights.{midnightOfDay, offsets-early}
+use Rattle.utc_days.proofs.Midnights.{midnightOfDay, offsets-early}
 use Rattle.utc_scales.proofs.Steps.{tai-no-date, tai-no-offsets, tai-of-day}
 use Rattle.utc_scale_laws.proofs.Outcomes.{holds-answer, holds-refusal, holds-onward}
 use Rattle.utc_scale_laws.proofs.Days.{dateIn, Kind, outside, before, valid, kind, offsets-answered}

@@ -15,9 +15,10 @@ use Rattle.julian.specs.JulianDate.{julian}
 use Rattle.julian.specs.Finite.{bothFinite, finiteParts, finiteJd, finiteArg}
 use Rattle.lent_rows.specs.Table.{Row}
 use Rattle.refusals.proofs.Onward.{went, stopped}
-use Rattle.utc_scales.specs.LargerPart.{firstIsKept, keptAs, keptParts, changeSmaller}
+use Rattle.utc_days.specs.LargerPart.{firstIsKept, keptAs, keptParts, changeSmaller}
 use Rattle.utc_scales.specs.UtcTai.{utcToTai, refined, rounds, refineUtcFraction, taiToUtc}
-use Rattle.utc_scales.specs.UtcUt1.{utcToUt1, ut1ToUtc}
+use Rattle.utc_to_ut1.specs.UtcUt1.{utcToUt1}
+use Rattle.ut1_to_utc.specs.Ut1Utc.{ut1ToUtc}
 use Rattle.utc_scales.proofs.Steps.{tai-no-date}
 
 -- a pair that passes the range test is finite

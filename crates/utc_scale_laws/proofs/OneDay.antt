@@ -18,8 +18,8 @@ use Rattle.lent_rows.specs.Table.{Row, fixed}
 use Rattle.lent_rows.specs.Lent.{tableOf}
 use Rattle.lent_rows.proofs.NoRows.{none-lent, fixed-taken}
 use Rattle.scale_laws.specs.Ranges.{Held}
-use Rattle.utc_scales.specs.LargerPart.{firstIsKept, keptAs, keptParts}
-use Rattle.utc_scales.specs.UtcUt1.{utcToUt1}
+use Rattle.utc_days.specs.LargerPart.{firstIsKept, keptAs, keptParts}
+use Rattle.utc_to_ut1.specs.UtcUt1.{utcToUt1}
 use Rattle.utc_scale_laws.specs.Claims.{DecidedUt1, earlyDay, earlyUtc, OneDay, Fits}
 use Rattle.utc_scale_laws.proofs.EitherOrder.{add-turned}
 use Rattle.utc_scale_laws.proofs.Ut1Decided.{table-utc-to-ut1-decided}

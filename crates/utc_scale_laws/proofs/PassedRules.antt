@@ -19,9 +19,11 @@ use Rattle.tai_utc.specs.declared.Rule.the-variants.{Absent, Drifting, Whole}
 use Rattle.lent_rows.specs.Table.{Row, fixed, monthNumber, reached}
 use Rattle.lent_rows.specs.Lent.{tableOf}
 use Rattle.tai_utc.specs.Rule.{ruleBy, ruleOf, ruleAt, ruleOn}
-use Rattle.utc_scales.specs.LargerPart.{firstIsKept, keptParts}
-use Rattle.utc_scales.specs.ByRule.{ruleOfDate, utcToTaiByRule, utcToUt1ByRule}
-use Rattle.utc_scales.proofs.Rules.{passed}
+use Rattle.utc_days.specs.LargerPart.{firstIsKept, keptParts}
+use Rattle.utc_days.specs.DateRule.{ruleOfDate}
+use Rattle.utc_scales.specs.ByRule.{utcToTaiByRule}
+use Rattle.utc_to_ut1.specs.ByRule.{utcToUt1ByRule}
+use Rattle.utc_days.proofs.Rules.{passed}
 use Rattle.utc_scale_laws.specs.Twenty.{Twenty, utc-tai, utc-ut1, answerOfAny}
 use Rattle.utc_scale_laws.specs.ShortTable.{shortTable, shortRows}
 use Rattle.utc_scale_laws.proofs.Computed.{computed, as-computed}

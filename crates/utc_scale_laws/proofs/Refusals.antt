@@ -21,14 +21,17 @@ use Rattle.scales.specs.Conversions.{answerOf, tai-ut1}
 use Rattle.scale_laws.specs.Ranges.{Held}
 use Rattle.refusals.proofs.Onward.{went, stopped}
 use Rattle.shifts.proofs.Outcomes.{first-by}
-use Rattle.utc_scales.specs.LargerPart.{firstIsKept, keptAs, keptParts, placed, changeSmaller}
-use Rattle.utc_scales.specs.Dates.{offsetOfDate, offsetAt0h}
+use Rattle.utc_days.specs.LargerPart.{firstIsKept, keptAs, keptParts, placed, changeSmaller}
+use Rattle.utc_days.specs.Dates.{offsetOfDate, offsetAt0h}
 use Rattle.utc_scales.specs.UtcTai.{taiFraction, utcToTai, moved, refined, rounds, refineUtcFraction, taiToUtc}
-use Rattle.utc_scales.specs.UtcUt1.{utcToUt1, Scanned, noStep, step, scanDay, untilStep, scan, adjustDut1, utcFraction, ut1ToUtc}
+use Rattle.utc_to_ut1.specs.UtcUt1.{utcToUt1}
+use Rattle.ut1_to_utc.specs.Ut1Utc.{Scanned, noStep, step, scanDay, untilStep, scan, adjustDut1, utcFraction, ut1ToUtc}
 use Rattle.utc_scale_laws.specs.Claims as C
 use Rattle.utc_scale_laws.specs.Claims.{Holds, answers, refuses, Any, SixOrOne, TenNineSixOrOne, Fits}
-use Rattle.utc_scales.proofs.Midnights.{offset-early, offsets-early}
-use Rattle.utc_scales.proofs.Steps.{tai-no-date, tai-no-offsets, tai-of-day, offset-no-date, offset-of-day, scan-no-date, scan-no-offset, scan-no-step, scan-step}
+use Rattle.utc_days.proofs.Midnights.{offset-early, offsets-early}
+use Rattle.utc_scales.proofs.Steps.{tai-no-date, tai-no-offsets, tai-of-day}
+use Rattle.utc_days.proofs.Steps.{offset-no-date, offset-of-day}
+use Rattle.ut1_to_utc.proofs.Steps.{scan-no-date, scan-no-offset, scan-no-step, scan-step}
 use Rattle.utc_scale_laws.proofs.Outcomes.{holds-answer, holds-refusal, holds-onward, holds-more}
 use Rattle.utc_scale_laws.proofs.Decided.{by-six, by-one, by-date}
 use Rattle.utc_scale_laws.proofs.Days.{early, dateIn, Kind, outside, before, valid, kind, offset-answered, offsets-answered}

@@ -23,13 +23,13 @@ use Rattle.scale_laws.specs.Ranges.{Held, FiniteParts}
 use Rattle.refusals.proofs.Onward.{went, stopped}
 use Rattle.shifts.proofs.Outcomes.{by-is}
 use Rattle.scale_laws.proofs.Shifts as Shifts
-use Rattle.utc_scales.specs.LargerPart.{keptParts}
-use Rattle.utc_scales.specs.Dates.{offsetOfDate}
+use Rattle.utc_days.specs.LargerPart.{keptParts}
+use Rattle.utc_days.specs.Dates.{offsetOfDate}
 use Rattle.utc_scales.specs.UtcTai.{utcToTai}
-use Rattle.utc_scales.specs.UtcUt1.{utcToUt1}
+use Rattle.utc_to_ut1.specs.UtcUt1.{utcToUt1}
 use Rattle.utc_scale_laws.specs.Claims.{Holds, Any, SixOrOne, DecidedDay, DecidedUt1, earlyDay, earlyUtc, Fits}
-use Rattle.utc_scales.proofs.Midnights.{offset-early}
-use Rattle.utc_scales.proofs.Steps.{offset-of-day}
+use Rattle.utc_days.proofs.Midnights.{offset-early}
+use Rattle.utc_days.proofs.Steps.{offset-of-day}
 use Rattle.utc_scale_laws.proofs.Outcomes.{holds-answer, holds-refusal, holds-at}
 use Rattle.utc_scale_laws.proofs.Days.{Kind, outside, before, valid, kind, offset-answered}
 use Rattle.utc_scale_laws.proofs.Refusals.{utc-to-tai-decided}

@@ -12,7 +12,7 @@ use Rattle.calendar.specs.Gregorian.{gregorianDate}
 use Rattle.day_number.specs.DayNumber.{dayOf}
 use Rattle.day_number.specs.ExactDay.{OnGrid}
 use Rattle.julian.specs.declared.JulianDate.{JulianDate}
-use Rattle.utc_scales.specs.LargerPart.{firstIsKept, keptParts}
+use Rattle.utc_days.specs.LargerPart.{firstIsKept, keptParts}
 
 -- A holds of the answer, or R of the refusal's number
 pub data Holds {X : Type 0} (A : X → Type 0) (R : ℕ → Type 0) : Outcome X → Type 0 where

@@ -14,7 +14,8 @@ use Rattle.lent_rows.specs.Table.{Row}
 use Rattle.lent_rows.specs.Lent.{tableOf}
 use Rattle.scales.specs.Conversions.{Conversion, answerOf, offsetOf}
 use Rattle.utc_scales.specs.UtcTai.{utcToTai, taiToUtc}
-use Rattle.utc_scales.specs.UtcUt1.{utcToUt1, ut1ToUtc}
+use Rattle.utc_to_ut1.specs.UtcUt1.{utcToUt1}
+use Rattle.ut1_to_utc.specs.Ut1Utc.{ut1ToUtc}
 use Rattle.utc_scale_laws.specs.Claims.{SixOrOne, TenNineSixOrOne}
 
 pub data Twenty : Type 0 where

@@ -11,8 +11,8 @@ use Rattle.julian.specs.Calendar.{julianToCalendar}
 use Rattle.tai_utc.specs.declared.DayOffsets.{DayOffsets}
 use Rattle.lent_rows.specs.Table.{Row}
 use Rattle.tai_utc.specs.Leap.{driftRate, leapAmount}
-use Rattle.utc_scales.specs.LargerPart.{changeSmaller}
-use Rattle.utc_scales.specs.Dates.{offsetsOf, midnightOf}
+use Rattle.utc_days.specs.LargerPart.{changeSmaller}
+use Rattle.utc_days.specs.Dates.{offsetsOf, midnightOf}
 
 -- the fraction of a day in days of 86,400 s: the day is longer by its drift and by the leap at its end
 unfoldable pub stretchDayFraction : DayOffsets → Float → Float

@@ -6,14 +6,13 @@ ghost use lib.Ieee.{binary64, ofInt};
 ghost use Rattle.calendar.specs.Gregorian.{gregorianDate};
 ghost use Rattle.lent_rows.specs.Lent.{rowsIn};
 ghost use Rattle.tai_utc.specs.Rule.{withRule};
-ghost use Rattle.tai_utc.specs.Answers.{secondsByRuleOutcome, dayOffsetsOutcome, dayByRuleOutcome};
-ghost use Rattle.utc_scales.specs.Dates.{offsetAt0h, offsetsOf};
-ghost use Rattle.utc_scales.specs.ByRule.{ruleOn};
-ghost use Rattle.utc_scales.specs.Known.{RightKnown, RightMonth, RightMonths, monthOutcome};
+ghost use Rattle.tai_utc.specs.Answers.{dayOffsetsOutcome, dayByRuleOutcome};
+ghost use Rattle.utc_days.specs.Dates.{offsetsOf};
+ghost use Rattle.utc_days.specs.DateRule.{ruleOn};
+ghost use Rattle.utc_scales.specs.Known.{RightKnown};
 use tai_utc::DayByRule;
 use tai_utc::DayOffsets;
 use tai_utc::DayOffsetsAnswer;
-use tai_utc::SecondsByRule;
 
 // The offsets of a day, looked up.
 pub(crate) struct KnownDay {
@@ -25,76 +24,6 @@ pub(crate) struct KnownDay {
 pub(crate) enum Known {
     Nothing,
     Day(KnownDay),
-}
-
-// A month, and TAI-UTC at 0h of one of its days: from 1972 on that of all of them.
-pub(crate) struct KnownMonth {
-    pub year: i32,
-    pub month: u32,
-    pub seconds: f64,
-}
-
-// The same, or the number of the refusal.
-pub(crate) enum MonthAnswer {
-    Month(KnownMonth),
-    Refused(u32),
-}
-
-// At 0h.
-pub(crate) fn offset_at_0h<'a>(
-    day: i64,
-    size: usize,
-    months: &'a [i32; 16],
-    seconds: &'a [i32; 16],
-) -> SecondsByRule
-    ensures { λ r. ⌜ secondsByRuleOutcome r ≡ withRule (offsetAt0h (rowsIn size (now (months .entry)) (now (seconds .entry))) (gregorianDate day)) (ruleOn (rowsIn size (now (months .entry)) (now (seconds .entry))) (gregorianDate day)) ⌝ }
-{
-    let t = calendar::gregorian_date(day);
-    tai_utc::offset_at_0h_by_lent(t.year, t.month as i32, t.day as i32, size, months, seconds)
-}
-
-// At 0h, with the month of the day.
-pub(crate) fn month_of<'a>(
-    day: i64,
-    size: usize,
-    months: &'a [i32; 16],
-    seconds: &'a [i32; 16],
-) -> MonthAnswer
-    ensures { λ r. ⌜ (monthOutcome r ≡ offsetAt0h (rowsIn size (now (months .entry)) (now (seconds .entry))) (gregorianDate day)) × RightMonths (rowsIn size (now (months .entry)) (now (seconds .entry))) r ⌝ }
-{
-    match offset_at_0h(day, size, months, seconds) {
-        SecondsByRule::Refused(number) => MonthAnswer::Refused(number),
-        SecondsByRule::Seconds(x, _) => {
-            let t = calendar::gregorian_date(day);
-            MonthAnswer::Month(KnownMonth {
-                year: t.year,
-                month: t.month,
-                seconds: x,
-            })
-        }
-    }
-}
-
-// The same, with no look-up where the month is the known one.
-pub(crate) fn month_with<'a>(
-    day: i64,
-    known: KnownMonth,
-    size: usize,
-    months: &'a [i32; 16],
-    seconds: &'a [i32; 16],
-) -> MonthAnswer
-    requires { ⌜ RightMonth (rowsIn size (now months) (now seconds)) known ⌝ }
-    ensures { λ r. ⌜ (monthOutcome r ≡ offsetAt0h (rowsIn size (now (months .entry)) (now (seconds .entry))) (gregorianDate day)) × RightMonths (rowsIn size (now (months .entry)) (now (seconds .entry))) r ⌝ }
-{
-    let t = calendar::gregorian_date(day);
-    if t.month == known.month {
-        if t.year == known.year {
-            if t.year >= 1972 {
-                return MonthAnswer::Month(known);
-            }
-        }
-    }
-    month_of(day, size, months, seconds)
 }
 
 // At 0h, at 12h and at 24h, and the rule of the day.

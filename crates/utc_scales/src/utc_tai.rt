@@ -9,9 +9,6 @@ ghost use Rattle.scales.specs.Scales.{taiOutcome, utcOutcome};
 ghost use Rattle.utc_scales.specs.ByRule.{utcToTaiByRule, taiByRuleOutcome};
 ghost use Rattle.utc_scales.specs.Known.{RightKnown, partOutcome, RightPart, ruledPartOutcome, SameDays};
 ghost use Rattle.utc_scales.specs.UtcTai as U;
-use super::larger_part::kept_parts;
-use super::larger_part::placed;
-use super::larger_part::put_beside;
 use super::table::Known;
 use super::table::KnownDay;
 use super::table::day_of;
@@ -32,6 +29,9 @@ use tai_utc::DayByRule;
 use tai_utc::DayOffsets;
 use tai_utc::DayOffsetsAnswer;
 use tai_utc::Rule;
+use utc_days::kept_parts;
+use utc_days::placed;
+use utc_days::put_beside;
 
 // The smaller part of a date, and the day that was looked up for it.
 pub(crate) struct KnownPart {
@@ -46,7 +46,7 @@ pub(crate) enum PartAnswer {
 }
 
 // The smaller part of a date, TAI-UTC at 0h of its day and the rule of the day; or the number of the refusal.
-pub(crate) enum RuledPart {
+pub enum RuledPart {
     Part(f64, f64, Rule),
     Refused(u32),
 }
@@ -105,8 +105,8 @@ fn tai_fraction<'a>(
     }
 }
 
-// The same with the day's rule.
-pub(crate) fn tai_fraction_by_rule<'a>(
+// The smaller part in TAI, with TAI-UTC at 0h of the day and its rule, which UTC to UT1 reads too. Refusals in order: 6, then the date's.
+pub fn tai_fraction_by_rule<'a>(
     big: f64,
     small: f64,
     size: usize,

@@ -31,8 +31,8 @@ use Rattle.time_of_day.specs.Milliseconds as Millis
 use Rattle.time_of_day.specs.TimeShown.{timeOf, dayEnd, fromZero, shownAt, countBy, shownBy}
 use Rattle.utc_text.specs.Text.{yearText, utcText}
 use Rattle.utc.specs.FromCalendar.{midnightPlus, utcFromCalendar}
-use Rattle.utc.specs.IsoText.{nextMidnightTextBy, shownTextBy, dayTextBy, dayText}
-use Rattle.utc.specs.ByRule.{textByRule, isoTextByRule}
+use Rattle.iso_texts.specs.IsoText.{nextMidnightTextBy, shownTextBy, dayTextBy, dayText}
+use Rattle.iso_texts.specs.ByRule.{textByRule, isoTextByRule}
 use Rattle.utc_scale_laws.specs.ShortTable.{shortTable, shortRows}
 use Rattle.utc_scale_laws.proofs.ShortDay.{short-taken}
 use Rattle.worked_cases.specs.Cases.{ascii}

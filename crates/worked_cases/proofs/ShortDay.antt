@@ -31,7 +31,7 @@ use Rattle.utc_scale_laws.specs.ShortTable.{shortTable, shortRows}
 use Rattle.utc_scale_laws.proofs.ShortDay.{short-taken, short-leap}
 use Rattle.utc.specs.FromCalendar.{midnightPlus, utcFromCalendar}
 use Rattle.utc.specs.UnixTime.{unixDay, secondOfUnixDay, secondWithNanos, utcNew}
-use Rattle.utc.specs.IsoText.{nextMidnightTextBy, shownTextBy, dayTextBy, dayText, isoTextBy, isoText}
+use Rattle.iso_texts.specs.IsoText.{nextMidnightTextBy, shownTextBy, dayTextBy, dayText, isoTextBy, isoText}
 use Rattle.utc_laws.proofs.ShortDays.{short-day-refused, short-day-taken}
 use Rattle.worked_cases.specs.Cases.{ascii}
 use Rattle.worked_cases.proofs.ByDates.{toCalendar}

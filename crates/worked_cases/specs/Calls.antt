@@ -16,11 +16,11 @@ use Rattle.lent_rows.specs.Table.{fixed}
 use Rattle.tai_utc.specs.Offset.{taiUtcOffset}
 use Rattle.scales.specs.Conversions.{Conversion}
 use Rattle.scales.specs.Conversions as Scales
-use Rattle.utc_scales.specs.UtcUt1.{utcToUt1}
+use Rattle.utc_to_ut1.specs.UtcUt1.{utcToUt1}
 use Rattle.utc.specs.FromCalendar.{utcFromCalendar}
 use Rattle.utc.specs.UnixTime.{utcNew}
-use Rattle.utc.specs.IsoText.{isoText}
-use Rattle.utc.specs.TextCall.{written, bufferHolds}
+use Rattle.iso_texts.specs.IsoText.{isoText}
+use Rattle.iso_texts.specs.TextCall.{written, bufferHolds}
 use Rattle.stamps.specs.Block.{blockOf}
 
 -- the calls that answer a UTC date: `utc_from_calendar` (year, month, day, hour, minute, second) and `UTC::new` (seconds, nanos); and a date given by its parts

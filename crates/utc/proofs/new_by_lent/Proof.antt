@@ -18,7 +18,7 @@ use Rattle.scales.specs.Scales.{utcOutcome}
 use Rattle.lent_rows.specs.Table.{Row}
 use Rattle.lent_rows.specs.Lent.{rowsIn}
 use Rattle.utc.specs.UnixTime.{unixDay, secondOfUnixDay}
-use Rattle.utc.proofs.Dates.{date-in-range}
+use Rattle.julian.proofs.Dates.{date-in-range}
 use Rattle.utc.proofs.UnixDays.{day-fits, day-in-float}
 use Rattle.utc.proofs.UnixTimes.{nanos-refused, day-refused, day-given}
 use mathlib.Core.List.{List}

@@ -5,9 +5,9 @@ use Rattle.calendar.specs.Gregorian.{gregorianDate}
 use Rattle.tai_utc.specs.Rule.{dayByRule}
 use Rattle.lent_rows.specs.Table.{Row}
 use Rattle.lent_rows.specs.Lent.{rowsIn}
-use Rattle.utc_scales.specs.Dates.{offsetsOf}
-use Rattle.utc_scales.specs.ByRule.{ruleOn}
-use Rattle.utc_scales.proofs.Midnights.{month-fits, day-of-month-fits, handed}
+use Rattle.utc_days.specs.Dates.{offsetsOf}
+use Rattle.utc_days.specs.DateRule.{ruleOn}
+use Rattle.utc_days.proofs.Midnights.{month-fits, day-of-month-fits, handed}
 use mathlib.Core.List.{List}
 use denote.Ref.{now}
 use borrow.Author.Needs.{needs}

@@ -12,8 +12,8 @@ use Rattle.lent_rows.specs.Lent.{rowsIn}
 use Rattle.tai_utc.specs.Rule.{withRule, forget}
 use Rattle.tai_utc.specs.Answers.{dayOffsetsOutcome, dayByRuleOutcome}
 use Rattle.tai_utc.proofs.Rules.{forgets}
-use Rattle.utc_scales.specs.Dates.{offsetsOf}
-use Rattle.utc_scales.specs.ByRule.{ruleOn}
+use Rattle.utc_days.specs.Dates.{offsetsOf}
+use Rattle.utc_days.specs.DateRule.{ruleOn}
 use borrow.Author.Needs.{needs}
 use Rattle.utc_scales.proofs.table.offsets_of.Statement.{statement}
 use Rattle.utc_scales.proofs.table.offsets_of.Tie as tie

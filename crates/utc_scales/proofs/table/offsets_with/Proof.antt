@@ -6,10 +6,10 @@ use Rattle.calendar.specs.Gregorian.{gregorianDate}
 use Rattle.tai_utc.specs.Answers.{dayOffsetsOutcome}
 use Rattle.lent_rows.specs.Table.{Row}
 use Rattle.lent_rows.specs.Lent.{rowsIn}
-use Rattle.utc_scales.specs.Dates.{offsetsOf}
+use Rattle.utc_days.specs.Dates.{offsetsOf}
 use Rattle.utc_scales.specs.Known.{RightDay, RightKnown}
 use Rattle.utc_scales.specs.declared.table.Known.{Known}
-use Rattle.utc_scales.proofs.Midnights.{same-day}
+use Rattle.utc_days.proofs.Midnights.{same-day}
 use mathlib.Core.List.{List}
 use denote.Ref.{now}
 use borrow.Author.Needs.{needs}

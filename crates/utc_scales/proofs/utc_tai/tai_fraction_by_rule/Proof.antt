@@ -15,14 +15,15 @@ use Rattle.lent_rows.specs.Table.{Row}
 use Rattle.lent_rows.specs.Lent.{rowsIn}
 use Rattle.tai_utc.specs.Rule.{withRule}
 use Rattle.tai_utc.specs.Answers.{dayByRuleOutcome}
-use Rattle.utc_scales.specs.Dates.{offsetsOf}
-use Rattle.utc_scales.specs.ByRule.{ruleOn}
+use Rattle.utc_days.specs.Dates.{offsetsOf}
+use Rattle.utc_days.specs.DateRule.{ruleOn}
 use Rattle.utc_scales.specs.Known.{ruledPartOutcome, SameDays}
 use Rattle.utc_scales.specs.UtcTai.{taiFromMidnight}
-use Rattle.utc_scales.proofs.Midnights.{day-asked}
-use Rattle.utc_scales.proofs.Steps.{offset-of-day, offsets-first, tai-no-date, tai-no-offsets, tai-of-day}
+use Rattle.utc_days.proofs.Midnights.{day-asked}
+use Rattle.utc_days.proofs.Steps.{offset-of-day}
+use Rattle.utc_scales.proofs.Steps.{offsets-first, tai-no-date, tai-no-offsets, tai-of-day}
 use Rattle.tai_utc.proofs.Rules.{apart, refused-apart}
-use Rattle.utc_scales.proofs.Rules.{rule-of-day}
+use Rattle.utc_days.proofs.Rules.{rule-of-day}
 use borrow.Author.Needs.{needs}
 use Rattle.utc_scales.proofs.utc_tai.tai_fraction_by_rule.Statement.{statement}
 use Rattle.utc_scales.proofs.utc_tai.tai_fraction_by_rule.Tie as tie

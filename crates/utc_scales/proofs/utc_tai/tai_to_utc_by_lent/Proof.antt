@@ -5,7 +5,7 @@ use Rattle.lent_rows.specs.Table.{Row}
 use Rattle.lent_rows.specs.Lent.{rowsIn}
 use Rattle.scales.specs.Scales.{utcOutcome}
 use Rattle.utc_scales.specs.UtcTai.{refineUtcFraction, taiToUtc}
-use Rattle.utc_scales.proofs.Steps.{changes}
+use Rattle.utc_days.proofs.Steps.{changes}
 use mathlib.Core.List.{List}
 use denote.Ref.{now}
 use borrow.Author.Needs.{needs}

@@ -6,14 +6,15 @@ use Rattle.refusals.specs.Outcome.{answer}
 use Rattle.lent_rows.specs.Table.{Row}
 use Rattle.lent_rows.specs.Lent.{rowsIn}
 use Rattle.refusals.proofs.Onward.{went, stopped}
-use Rattle.utc_scales.specs.declared.larger_part.Parts.{Parts}
+use Rattle.utc_days.specs.declared.Parts.{Parts}
 use Rattle.utc_scales.specs.declared.utc_tai.RuledPart.{RuledPart}
 use Rattle.utc_scales.specs.Known.{ruledPartOutcome, SameDay, SameDays}
-use Rattle.utc_scales.specs.LargerPart.{placed}
+use Rattle.utc_days.specs.LargerPart.{placed}
 use Rattle.utc_scales.specs.UtcTai.{taiFraction, utcToTai}
-use Rattle.utc_scales.specs.ByRule.{ruleOfDate, utcToTaiByRule, taiByRuleOutcome}
-use Rattle.utc_scales.proofs.Steps.{changes}
-use Rattle.utc_scales.proofs.Rules.{passed, not-passed}
+use Rattle.utc_days.specs.DateRule.{ruleOfDate}
+use Rattle.utc_scales.specs.ByRule.{utcToTaiByRule, taiByRuleOutcome}
+use Rattle.utc_days.proofs.Steps.{changes}
+use Rattle.utc_days.proofs.Rules.{passed, not-passed}
 use borrow.Author.Needs.{needs}
 use Rattle.utc_scales.proofs.utc_tai.utc_to_tai_by_lent.Statement.{statement}
 use Rattle.utc_scales.proofs.utc_tai.utc_to_tai_by_lent.Tie as tie

@@ -1,0 +1,4 @@
+-- The laws of UTC text, in the order to read them.
+pub mod TextCalls
+pub mod TextRules
+pub mod CarriedRules

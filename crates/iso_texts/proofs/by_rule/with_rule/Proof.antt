@@ -1,0 +1,27 @@
+-- `utc::by_rule::with_rule` meets its contract. Assumes nothing.
+use mathlib.Core.Path.{ap, sym}
+use Rattle.refusals.specs.Outcome.{onward}
+use Rattle.tai_utc.specs.Rule.{withRule}
+use Rattle.utc_text.specs.declared.TextAnswer.{TextAnswer}
+use Rattle.utc_text.specs.Answer.{textOutcome}
+use Rattle.iso_texts.specs.ByRule.{textByRuleOutcome}
+use borrow.Author.Needs.{needs}
+use Rattle.iso_texts.proofs.by_rule.with_rule.Statement.{statement}
+use Rattle.iso_texts.proofs.by_rule.with_rule.Tie as tie
+
+enum-known-text : tie.Need-enum-known-text
+enum-known-text c = search needs
+
+enum-known-text-2 : tie.Need-enum-known-text-2
+enum-known-text-2 c = search needs
+
+returns : tie.Need-returns
+unfolding textByRuleOutcome textOutcome withRule onward
+returns c = ap (λ (x : TextAnswer). withRule (textOutcome x) (c .before .before .before .args .rule)) (sym (c .before .text .given .1))
+
+returns-2 : tie.Need-returns-2
+unfolding textByRuleOutcome textOutcome withRule onward
+returns-2 c = ap (λ (x : TextAnswer). withRule (textOutcome x) (c .before .before .before .args .rule)) (sym (c .before .text2 .given .1))
+
+pub with-rule-spec : {M : Type 1} → statement M
+with-rule-spec = tie.close (tie.spec enum-known-text enum-known-text-2 returns returns-2)

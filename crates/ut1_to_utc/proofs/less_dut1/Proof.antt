@@ -1,0 +1,30 @@
+-- `ut1_to_utc::less_dut1` meets its contract. Assumes nothing.
+use mathlib.Core.Path.{_∙_}
+use Rattle.lent_rows.specs.Table.{Row}
+use Rattle.lent_rows.specs.Lent.{rowsIn}
+use Rattle.ut1_to_utc.specs.Ut1Utc.{utcFraction}
+use Rattle.utc_days.proofs.Steps.{changes}
+use mathlib.Core.List.{List}
+use denote.Ref.{now}
+use borrow.Author.Needs.{needs}
+use Rattle.ut1_to_utc.proofs.less_dut1.Statement.{statement}
+use Rattle.ut1_to_utc.proofs.less_dut1.Tie as tie
+
+-- the rows that are read
+abbrev rows : tie.Start → List Row
+rows s = rowsIn (s .args .size) (now (s .args .months)) (now (s .args .seconds))
+
+kept-parts-requires : tie.Need-kept-parts-requires
+kept-parts-requires c κs = search needs
+
+utc-fraction-requires : tie.Need-utc-fraction-requires
+utc-fraction-requires c κs = search needs
+
+placed-requires : tie.Need-placed-requires
+placed-requires c κs = search needs
+
+returns : tie.Need-returns
+returns c = (c .placed .ensures ∙ changes (utcFraction (rows (c .before .before .before)) (c .before .before .before .args .dut1)) _ _ _ (c .before .before .kept-parts .ensures) (c .before .utc-fraction .ensures))
+
+pub less-dut1-spec : {M : Type 1} → statement M
+less-dut1-spec = tie.close (tie.spec kept-parts-requires utc-fraction-requires placed-requires returns)
