@@ -1,6 +1,13 @@
 /* ct_formula_run: stamps by each of its fourteen conversions, dead parts and dead offsets among them, against the single calls; every other pair of scales; the refusals of the
    whole call in their order, each with all that come after it; and what stays, the bytes around all six buffers among it. Everything is compared by its bits. */
-enum { FORMULA_STAMPS = 21, FORMULA_MODE_STAMPS = 2, FORMULA_BYTES = 8 * FORMULA_STAMPS, FORMULA_ROOM = FORMULA_BYTES + 16, FORMULA_GUARD = 16, FORMULA_WIDTH = FORMULA_ROOM + 2 * FORMULA_GUARD };
+enum {
+    FORMULA_STAMPS = 21,
+    FORMULA_MODE_STAMPS = 2, /* the last ones, which depend on the float mode */
+    FORMULA_BYTES = 8 * FORMULA_STAMPS,
+    FORMULA_ROOM = FORMULA_BYTES + 16,
+    FORMULA_GUARD = 16,
+    FORMULA_WIDTH = FORMULA_GUARD + FORMULA_ROOM + FORMULA_GUARD
+};
 
 typedef struct {
     uint8_t jd1[FORMULA_WIDTH], jd2[FORMULA_WIDTH], offsets[FORMULA_WIDTH], out1[FORMULA_WIDTH], out2[FORMULA_WIDTH], numbers[FORMULA_WIDTH];
@@ -62,7 +69,7 @@ static void formula_fresh(formula_lent *lent)
         {day, SIGN | 1, SIGN | 1},
         {1, SIGN | subnormal, subnormal},
         {ct_bits_of(1.7e308), ct_bits_of(1.6e308), SIGN | most},
-        /* whose larger part reads as zero in some float modes: FORMULA_MODE_STAMPS */
+        /* both parts subnormal or zero, the larger one first: FORMULA_MODE_STAMPS */
         {subnormal, 1, ct_bits_of(1e-300)},
         {SIGN | 1, 0, 1},
     };
