@@ -9,6 +9,7 @@
 #include "table_calls.h"
 #include "line_up_calls.h"
 #include "run_calls.h"
+#include "formula_run_calls.h"
 #include "standby_calls.h"
 #include "reason_calls.h"
 #include "tick_calls.h"
@@ -455,6 +456,7 @@ int main(void)
     standby_calls();
     line_up_calls();
     run_calls();
+    formula_run_calls();
     walk_calls();
     return summary("calls");
 }

@@ -123,6 +123,50 @@ static void ask_runs(const uint8_t *jd1, const uint8_t *jd2, size_t stamps, cons
 
 static int not_finite(const uint8_t *at) { return (at[7] & 0x7f) == 0x7f && (at[6] & 0xf0) == 0xf0; }
 
+/* And by each conversion that is a formula: 9 for every stamp that is not finite, whatever its offset, and 10 for every other whose offset is not. */
+static void ask_formula_run(uint32_t from, uint32_t to, const uint8_t *jd1, const uint8_t *jd2, const uint8_t *offsets, size_t stamps, const uint8_t *due)
+{
+    static const uint8_t none[1];
+    static uint8_t out1[MOST_BYTES], out2[MOST_BYTES], numbers[MOST_BYTES];
+    int64_t refused = 0;
+    int right = 1;
+    size_t j;
+    memset(out1, 0xa5, sizeof out1);
+    memset(out2, 0xa5, sizeof out2);
+    for (j = 0; j < stamps; j++) refused += due[j] != 0;
+    check(ct_formula_run(from, to, jd1, 8 * stamps, jd2, 8 * stamps, offsets ? offsets : none, offsets ? 8 * stamps : 0, out1, sizeof out1, out2, sizeof out2, numbers, sizeof numbers) == refused,
+          "ct_formula_run from %d to %d counts other stamps", (int)from, (int)to);
+    for (j = 0; j < stamps; j++) {
+        int stays = ct_pattern_at(out1 + 8 * j, 8) == 0xa5a5a5a5a5a5a5a5u && ct_pattern_at(out2 + 8 * j, 8) == 0xa5a5a5a5a5a5a5a5u;
+        if (numbers[j] != due[j] || stays != (due[j] != 0)) right = 0;
+    }
+    check(right, "ct_formula_run from %d to %d has other numbers or places", (int)from, (int)to);
+}
+
+/* The six with an offset first with offsets that are all finite; then with the first parts as the offsets; then with these for stamps that are all finite. */
+static void ask_formula_runs(const uint8_t *jd1, const uint8_t *jd2, size_t stamps, const uint8_t *dead)
+{
+    static const uint32_t PLAIN_PAIRS[][2] = {{CT_GPS, CT_TAI}, {CT_TAI, CT_GPS}, {CT_TAI, CT_TT}, {CT_TT, CT_TAI}, {CT_TT, CT_TCG}, {CT_TCG, CT_TT}, {CT_TCB, CT_TDB}, {CT_TDB, CT_TCB}};
+    static const uint32_t OFFSET_PAIRS[][2] = {{CT_TAI, CT_UT1}, {CT_UT1, CT_TAI}, {CT_UT1, CT_TT}, {CT_TT, CT_UT1}, {CT_TT, CT_TDB}, {CT_TDB, CT_TT}};
+    static uint8_t by_parts[MOST_BYTES], by_offset[MOST_BYTES], ones[3][MOST_BYTES], parts[MOST_BYTES];
+    size_t i, j;
+    memcpy(parts, jd1, 8 * stamps); /* buffers overlap no other */
+    for (j = 0; j < stamps; j++) {
+        by_parts[j] = dead[j] ? 9 : 0;
+        by_offset[j] = not_finite(jd1 + 8 * j) ? 10 : 0;
+        for (i = 0; i < COUNT(ones); i++) {
+            ones[i][8 * j + 6] = 0xf0;
+            ones[i][8 * j + 7] = 0x3f;
+        }
+    }
+    for (i = 0; i < COUNT(PLAIN_PAIRS); i++) ask_formula_run(PLAIN_PAIRS[i][0], PLAIN_PAIRS[i][1], jd1, jd2, NULL, stamps, by_parts);
+    for (i = 0; i < COUNT(OFFSET_PAIRS); i++) {
+        ask_formula_run(OFFSET_PAIRS[i][0], OFFSET_PAIRS[i][1], jd1, jd2, ones[0], stamps, by_parts);
+        ask_formula_run(OFFSET_PAIRS[i][0], OFFSET_PAIRS[i][1], jd1, jd2, parts, stamps, by_parts);
+        ask_formula_run(OFFSET_PAIRS[i][0], OFFSET_PAIRS[i][1], ones[1], ones[2], parts, stamps, by_offset);
+    }
+}
+
 int main(int count, char **words)
 {
     static uint8_t block[MOST_BYTES], dead[MOST_BYTES];
@@ -144,6 +188,7 @@ int main(int count, char **words)
         ask_offsets(not_finite(jd1 + 8 * i) ? first : second);
     }
     ask_runs(jd1, jd2, (size_t)stamps, dead);
+    ask_formula_runs(jd1, jd2, (size_t)stamps, dead);
     check(found == NOT_FINITE_STAMPS, "%ld stamps of the block are not finite", (long)found);
     check(by_text == NOT_FINITE_STAMPS, "the text call refuses %ld stamps", (long)by_text);
     printf("not finite: %ld; isnan in this build says %ld, the text call refuses %ld\n", (long)found, (long)by_isnan,
