@@ -173,6 +173,11 @@ module _ (from to : ℕ) (js ks os out1 out2 numbers : List ℕ) (kind : ℕ) (d
         → runCall (runOutcome (Answer.Converted r)) out1' out2' numbers' ≡ formulaRun from to js ks os out1 out2 numbers
     ends-by-change h r out1' out2' numbers' p = ends r out1' out2' numbers' (run-same (by-change h) p)
 
+    pub ends-by-shift : (eqb kind 1 || eqb kind 2) ≡ false → kind ≡ 3 → (r : ℕ) (out1' out2' numbers' : List ℕ)
+        → RunPut (changedStamp (changeOf 3 days) js ks) (length js / 8) out1 out2 numbers r out1' out2' numbers'
+        → runCall (runOutcome (Answer.Converted r)) out1' out2' numbers' ≡ formulaRun from to js ks os out1 out2 numbers
+    ends-by-shift h e r out1' out2' numbers' p = ends-by-change h r out1' out2' numbers' (run-same (λ i. ap (λ (k : ℕ). changedStamp (changeOf k days) js ks i) (sym e)) p)
+
 -- ---- at most all stamps are refused
 pub formula-count : (from to : ℕ) (js ks os out1 out2 numbers : List ℕ) (k : ℕ) → answer k ≡ formulaRun from to js ks os out1 out2 numbers .answer → k ≤ length js / 8
 unfolding formulaRun runWritten

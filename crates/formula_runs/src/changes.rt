@@ -75,7 +75,31 @@ pub(crate) fn change_stamp(
     0
 }
 
-// Changes n stamps, and says how many are refused.
+// Moves n stamps by so many days, and says how many are refused. Its own loop, so that the compiler knows the formula in it.
+pub(crate) fn shift_all(
+    days: f64,
+    jd1s: &[u8],
+    jd2s: &[u8],
+    n: usize,
+    out1: &mut [u8],
+    out2: &mut [u8],
+    numbers: &mut [u8],
+) -> usize
+    requires { ⌜ Roomy n (now jd1s) (now jd2s) (now out1) (now out2) (now numbers) ⌝ }
+    ensures { λ r. ⌜ RunPut (changedStamp (changeOf 3 days) (now (jd1s .entry)) (now (jd2s .entry))) n (now (out1 .entry)) (now (out2 .entry)) (now (numbers .entry)) r (now (out1 .exit)) (now (out2 .exit)) (now (numbers .exit)) ⌝ }
+{
+    let mut refused = 0;
+    let mut i = 0;
+    while i < n {
+        let number = change_stamp(pairs::SHIFT, days, jd1s, jd2s, i, out1, out2);
+        numbers[i] = number;
+        refused += one_if_refused(number);
+        i += 1;
+    }
+    refused
+}
+
+// Changes n stamps by a formula of any kind, and says how many are refused.
 pub(crate) fn change_all(
     kind: u32,
     days: f64,

@@ -130,25 +130,14 @@ pub fn formula_run(
     let n = jd1s.len() / 8;
     if pairs::takes_offsets(found.kind) {
         let earlier = found.kind == pairs::EARLIER;
-        return RunAnswer::Converted(offsets::shift_all(
-            earlier,
-            jd1s,
-            jd2s,
-            offsets,
-            n,
-            out1,
-            out2,
-            numbers,
-        ));
+        let count = offsets::offset_all(earlier, jd1s, jd2s, offsets, n, out1, out2, numbers);
+        return RunAnswer::Converted(count);
     }
-    RunAnswer::Converted(changes::change_all(
-        found.kind,
-        found.days,
-        jd1s,
-        jd2s,
-        n,
-        out1,
-        out2,
-        numbers,
-    ))
+    if found.kind == pairs::SHIFT {
+        let count = changes::shift_all(found.days, jd1s, jd2s, n, out1, out2, numbers);
+        return RunAnswer::Converted(count);
+    }
+    let kind = found.kind;
+    let count = changes::change_all(kind, found.days, jd1s, jd2s, n, out1, out2, numbers);
+    RunAnswer::Converted(count)
 }

@@ -32,7 +32,7 @@ fn turned(earlier: bool, days: f64) -> f64
 }
 
 // Moves the stamp at place i by its offset, and gives its number.
-fn shift_stamp(
+fn offset_stamp(
     earlier: bool,
     jd1s: &[u8],
     jd2s: &[u8],
@@ -61,7 +61,7 @@ fn shift_stamp(
 }
 
 // Moves n stamps by their offsets, and says how many are refused.
-pub(crate) fn shift_all(
+pub(crate) fn offset_all(
     earlier: bool,
     jd1s: &[u8],
     jd2s: &[u8],
@@ -77,7 +77,7 @@ pub(crate) fn shift_all(
     let mut refused = 0;
     let mut i = 0;
     while i < n {
-        let number = shift_stamp(earlier, jd1s, jd2s, offsets, i, out1, out2);
+        let number = offset_stamp(earlier, jd1s, jd2s, offsets, i, out1, out2);
         numbers[i] = number;
         refused += one_if_refused(number);
         i += 1;

@@ -1,11 +1,11 @@
--- `formula_runs::offsets::shift_all` meets its contract: the stamps before place i are put. Assumes nothing.
+-- `formula_runs::offsets::offset_all` meets its contract: the stamps before place i are put. Assumes nothing.
 use Prim.Native.Nat.{_-_}
 use native.Mathlib.Omega.{arith}
 use borrow.Author.Needs.{needs}
 use Rattle.formula_runs.specs.Asked.{offsetStamp}
 use Rattle.formula_runs.proofs.Puts.{Putting, putting-starts, len1, len2, len3, few, putting-goes, putting-ends}
-use Rattle.formula_runs.proofs.offsets.shift_all.Statement.{statement}
-use Rattle.formula_runs.proofs.offsets.shift_all.Tie as tie
+use Rattle.formula_runs.proofs.offsets.offset_all.Statement.{statement}
+use Rattle.formula_runs.proofs.offsets.offset_all.Tie as tie
 
 abbrev Inv-loop : tie.InvT-loop
 Inv-loop earlier jd1s jd2s offsets n out1₀ out2₀ numbers₀ refused₀ i₀ out1 out2 numbers refused i =
@@ -19,8 +19,8 @@ loop-holds c =
     let a = c .before .before .before .before .before .before .args in
     putting-starts (offsetStamp (a .earlier) (a .jd1s .now) (a .jd2s .now) (a .offsets .now)) (a .n) (a .out1 .now) (a .out2 .now) (a .numbers .now)
 
-shift-stamp-requires : tie.Need-shift-stamp-requires Inv-loop μ-loop
-shift-stamp-requires c κs =
+offset-stamp-requires : tie.Need-offset-stamp-requires Inv-loop μ-loop
+offset-stamp-requires c κs =
     let l = c .before .before .before in
     let s = c .before .before .before .before .before .before .before .before .before .before in
     let a = s .args in
@@ -58,7 +58,7 @@ loop-again c =
     let l = c .before .before .before .before .before .before .before .before .before in
     let s = c .before .before .before .before .before .before .before .before .before .before .before .before .before .before .before .before in
     let a = s .args in
-    putting-goes (offsetStamp (a .earlier) (a .jd1s .now) (a .jd2s .now) (a .offsets .now)) (a .n) (a .out1 .now) (a .out2 .now) (a .numbers .now) (l .loop .out1) (l .loop .out2) (l .loop .numbers) (l .loop .refused) (l .loop .i) (l .loop .inv) _ _ _ _ (c .before .before .before .before .before .before .before .before .loop-test .taken) (c .before .before .before .before .before .shift-stamp .ensures) (c .one-if-refused .ensures .0)
+    putting-goes (offsetStamp (a .earlier) (a .jd1s .now) (a .jd2s .now) (a .offsets .now)) (a .n) (a .out1 .now) (a .out2 .now) (a .numbers .now) (l .loop .out1) (l .loop .out2) (l .loop .numbers) (l .loop .refused) (l .loop .i) (l .loop .inv) _ _ _ _ (c .before .before .before .before .before .before .before .before .loop-test .taken) (c .before .before .before .before .before .offset-stamp .ensures) (c .one-if-refused .ensures .0)
 
 same-length : tie.Need-same-length Inv-loop μ-loop
 same-length c =
@@ -88,14 +88,14 @@ returns c =
     let a = s .args in
     putting-ends (offsetStamp (a .earlier) (a .jd1s .now) (a .jd2s .now) (a .offsets .now)) (a .n) (a .out1 .now) (a .out2 .now) (a .numbers .now) (l .loop .out1) (l .loop .out2) (l .loop .numbers) (l .loop .refused) (l .loop .i) (l .loop .inv) (omega (arith, c .loop-test .left))
 
-pub shift-all-spec : {M : Type 1} → statement M
-shift-all-spec =
+pub offset-all-spec : {M : Type 1} → statement M
+offset-all-spec =
     tie.close
     (tie.spec
     Inv-loop
     μ-loop
     loop-holds
-    shift-stamp-requires
+    offset-stamp-requires
     slice-write-numbers
     one-if-refused-requires
     add-refused

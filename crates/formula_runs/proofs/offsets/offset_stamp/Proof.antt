@@ -1,4 +1,4 @@
--- `formula_runs::offsets::shift_stamp` meets its contract: a dead offset is told after a dead part, and else the stamp is moved by so many days. Assumes nothing.
+-- `formula_runs::offsets::offset_stamp` meets its contract: a dead offset is told after a dead part, and else the stamp is moved by so many days. Assumes nothing.
 use mathlib.Core.Path.{sym, ap, _∙_}
 use mathlib.Core.Bool.{cond}
 use lib.Ieee.{Float, binary64, ofBits, neg, div}
@@ -8,8 +8,8 @@ use Rattle.shifts.specs.Shifts.{daysOf}
 use Rattle.formula_runs.proofs.Puts.{put-refused, put-same}
 use Rattle.formula_runs.proofs.Judged.{no-nan, offset-dead, dead-small, offset-moves}
 use borrow.Author.Needs.{needs}
-use Rattle.formula_runs.proofs.offsets.shift_stamp.Statement.{statement}
-use Rattle.formula_runs.proofs.offsets.shift_stamp.Tie as tie
+use Rattle.formula_runs.proofs.offsets.offset_stamp.Statement.{statement}
+use Rattle.formula_runs.proofs.offsets.offset_stamp.Tie as tie
 
 pattern-at-requires : tie.Need-pattern-at-requires
 pattern-at-requires c κs = search needs
@@ -46,8 +46,8 @@ returns-2 c =
     let a = c .before .before .before .before .before .before .before .before .before .before .before .before .before .before .before .before .args in
     put-same (offset-moves (a .earlier) (a .jd1s .now) (a .jd2s .now) (a .offsets .now) (a .i) _ _ (c .before .before .before .before .before .before .before .before .before .before .pattern-at .ensures) (sym (c .before .before .before .before .before .before .before .before .before .is-number .ensures) ∙ not-false _ (c .before .before .before .before .before .before .before .before .if1 .left)) (c .before .before .before .before .before .before .before .turned .ensures ∙ ap (λ (z : Float). cond (a .earlier) (neg (div binary64 (ofBits binary64 (c .before .before .before .before .before .before .before .before .before .before .pattern-at .result)) z)) (div binary64 (ofBits binary64 (c .before .before .before .before .before .before .before .before .before .before .pattern-at .result)) z)) seconds-per-day)) (c .before .before .before .before .change-stamp .ensures)
 
-pub shift-stamp-spec : {M : Type 1} → statement M
-shift-stamp-spec =
+pub offset-stamp-spec : {M : Type 1} → statement M
+offset-stamp-spec =
     tie.close
     (tie.spec
     pattern-at-requires
