@@ -25,6 +25,7 @@ import celestial_time as ct
 
 SPEED = pathlib.Path(__file__).resolve().parents[1] / "docs" / "SPEED.md"
 DUT1 = -0.41
+DTR = 0.00165
 BEGIN, END = "<!-- python: begin -->", "<!-- python: end -->"
 Row = tuple[str, Callable[[], Any], "Callable[[], Any] | None", "Callable[[], Any] | None"]
 
@@ -83,6 +84,8 @@ def compared(count: int, recorders: list[ct.Run], line: ct.Line, utc1: Any, utc2
         ("TAI to TT", ct.taitt(tai1, tai2), erfa.taitt(tai1, tai2)),
         ("TT to TCG", ct.tttcg(tai1, tai2), erfa.tttcg(tai1, tai2)),
         ("TCB to TDB", ct.tcbtdb(tai1, tai2), erfa.tcbtdb(tai1, tai2)),
+        ("TT to TDB", ct.tttdb(tai1, tai2, DTR), erfa.tttdb(tai1, tai2, DTR)),
+        ("UT1 to TAI", ct.ut1tai(tai1, tai2, line.jd2), erfa.ut1tai(tai1, tai2, line.jd2)),
         ("UTC to UT1", ct.utcut1(utc1, utc2, DUT1), erfa.utcut1(utc1, utc2, DUT1)),
         ("UT1 to UTC", ct.ut1utc(utc1, utc2, DUT1), erfa.ut1utc(utc1, utc2, DUT1)),
         ("calendar date", ct.jd2cal(utc1, utc2), erfa.jd2cal(utc1, utc2)),
@@ -112,6 +115,8 @@ def rows(count: int) -> list[Row]:
         ("TAI to TT", lambda: ct.taitt(tai1, tai2), lambda: erfa.taitt(tai1, tai2), lambda: tai().tt.jd2),
         ("TT to TCG", lambda: ct.tttcg(tai1, tai2), lambda: erfa.tttcg(tai1, tai2), lambda: tai("tt").tcg.jd2),
         ("TCB to TDB", lambda: ct.tcbtdb(tai1, tai2), lambda: erfa.tcbtdb(tai1, tai2), lambda: tai("tcb").tdb.jd2),
+        ("TT to TDB, one offset", lambda: ct.tttdb(tai1, tai2, DTR), lambda: erfa.tttdb(tai1, tai2, DTR), None),
+        ("UT1 to TAI, an offset each", lambda: ct.ut1tai(tai1, tai2, line.jd2), lambda: erfa.ut1tai(tai1, tai2, line.jd2), None),
         ("UTC to UT1", lambda: ct.utcut1(utc1, utc2, DUT1), lambda: erfa.utcut1(utc1, utc2, DUT1), lambda: given_dut1(utc()).ut1.jd2),
         ("UT1 to UTC", lambda: ct.ut1utc(utc1, utc2, DUT1), lambda: erfa.ut1utc(utc1, utc2, DUT1), lambda: given_dut1(tai("ut1")).utc.jd2),
         ("calendar date", lambda: ct.jd2cal(utc1, utc2), lambda: erfa.jd2cal(utc1, utc2), lambda: utc().ymdhms),
