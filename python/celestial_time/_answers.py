@@ -10,6 +10,17 @@ from typing import Any, NamedTuple
 NO_INT = -(2**31)
 
 
+class Number(int):
+    """The number of a single answer, a whole number like any other. Its type tells it from an offset, for which an answer that is handed on whole would give it.
+
+    >>> gpstai(2451545.0, 0.0).numbers
+    0
+    >>> tttdb(*taitt(2451545.0, 0.25))
+    Traceback (most recent call last):
+    TypeError: dtr is the number of an answer: of an answer hand over [:2], and then the dtr
+    """
+
+
 class Dates(NamedTuple):
     """Two-part Julian dates.
 

@@ -10,6 +10,7 @@ from typing import Any, Callable, NamedTuple, Sequence
 import numpy as np
 from numpy.typing import ArrayLike, NDArray
 
+from ._answers import Number
 from ._library import check_float_mode
 from .refusals import Refused
 
@@ -253,9 +254,11 @@ def each(
     if shape != () or out is not None:
         return tuple(answers)
     values = tuple(answer.item() for answer in answers)
-    if gives[-1].name == "numbers" and values[-1]:
+    if gives[-1].name != "numbers":
+        return values
+    if values[-1]:
         raise Refused(values[-1], name, {argument: array.item() for argument, array in takes})
-    return values
+    return *values[:-1], Number(values[-1])
 
 
 def _lie_ready(arrays: Sequence[NDArray[Any]], dtypes: Sequence[str], shape: tuple[int, ...]) -> bool:

@@ -9,7 +9,7 @@ from typing import Any, Sequence, Union
 import numpy as np
 from numpy.typing import ArrayLike, NDArray
 
-from ._answers import Dates, DatesByRule
+from ._answers import Dates, DatesByRule, Number
 from ._arrays import FLOAT, INT, NUMBER, Field, each, floats
 from ._library import address, function
 from .tables import Table, lent_table
@@ -29,6 +29,8 @@ def _parts(scale: str, jd1: ArrayLike, jd2: ArrayLike) -> list[Any]:
 
 
 def _offset(name: str, by: ArrayLike) -> tuple[str, NDArray[Any]]:
+    if isinstance(by, Number):
+        raise TypeError(f"{name} is the number of an answer: of an answer hand over [:2], and then the {name}")
     array = floats(name, by)
     if array.dtype == np.uint8:
         raise TypeError(f"{name} is of 8 bits unsigned, as the numbers of an answer are: of an answer hand over [:2], and then the {name}")

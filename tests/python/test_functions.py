@@ -446,6 +446,13 @@ class Functions(unittest.TestCase):
             self.assertEqual(len(function(tt.jd1, tt.jd2, 0.001).numbers), 2)
         with self.assertRaises(TypeError):
             ct.utcut1(*tt, return_rule=True)
+        one = ct.taitt(2451545.0, 0.25)
+        for function in (ct.tttdb, ct.ttut1, ct.utcut1, ct.add_days):
+            with self.assertRaises(TypeError) as raised:
+                function(*one)
+            self.assertIn(list(inspect.signature(function).parameters)[2] + " is the number of an answer", str(raised.exception))
+            self.assertEqual(function(*one[:2], 0).numbers, 0)
+        self.assertIsInstance(one.numbers, int)
 
     def test_errors_name_the_parameter(self):
         """Of each function that takes floats first, by its own name for them."""
