@@ -61,10 +61,11 @@ def runs(count: int) -> list[ct.Run]:
 
 
 def same(ours: Any, theirs: Any, what: str) -> None:
-    """Stop where two answers differ."""
+    """Stop where two answers differ; floats by their bits, so that -0.0 is not 0.0."""
     for a, b in zip(ours, theirs):
+        a, b = (np.asarray(x).view("<u8") if np.asarray(x).dtype == np.float64 else np.asarray(x) for x in (a, b))
         if not np.array_equal(a, b):
-            sys.exit(f"bench: {what}: {np.count_nonzero(np.asarray(a) != np.asarray(b))} answers differ")
+            sys.exit(f"bench: {what}: {np.count_nonzero(a != b)} answers differ")
 
 
 def fields_of(utc1: Any, utc2: Any) -> list[Any]:

@@ -17,7 +17,7 @@ class Number(int):
     0
     >>> tttdb(*taitt(2451545.0, 0.25))
     Traceback (most recent call last):
-    TypeError: dtr is the number of an answer: of an answer hand over [:2], and then the dtr
+    TypeError: dtr is the number of an answer: of an answer hand over [:2]
     """
 
 

@@ -1,7 +1,8 @@
 """Arrays handed to a loop of the library: what is taken, what is lent, and one walk over both.
 
-An array of the right type that lies in one piece is handed over as it is. Any other, one that is broadcast, strided, byte-swapped or of another type, goes
-through a buffer of some thousand places; none is copied whole here. Nothing is called before every argument has been looked at.
+An array of the right type that lies in one piece is handed over as it is, and a single float beside such as one stretch of places that all hold it. Any other, one
+that is broadcast, strided, byte-swapped or of another type, goes through a buffer of some thousand places; none is copied whole here. Nothing is called before every
+argument has been looked at.
 """
 from __future__ import annotations
 
@@ -64,6 +65,7 @@ def _look_at(name: str, value: Any) -> None:
             for item in value:
                 if isinstance(item, (bool, np.bool_)) or isinstance(item, np.ndarray) and item.dtype.kind == "b":
                     raise TypeError(f"{name} holds {item!r}, which is no number")
+                _check_no_number(name, item)
                 _look_at(name, item)
 
 
@@ -82,6 +84,14 @@ def _look_at_numbers(name: str, value: Any, become_floats: bool) -> None:
         _check_whole(name, int(value))
 
 
+def _check_no_number(name: str, value: Any) -> None:
+    """That an argument is not the numbers of an answer, which come with its dates where it is handed on whole."""
+    if isinstance(value, Number):
+        raise TypeError(f"{name} is the number of an answer: of an answer hand over [:2]")
+    if isinstance(value, (np.ndarray, np.uint8)) and value.dtype == np.uint8:
+        raise TypeError(f"{name} is of 8 bits unsigned, as the numbers of an answer are: of an answer hand over [:2]")
+
+
 def _check_whole(name: str, number: int) -> None:
     if abs(number) > 1 << 53:
         raise OverflowError(f"{name} holds {number}, which a 64-bit float may round")
@@ -93,7 +103,7 @@ def _once(array: NDArray[Any]) -> NDArray[Any]:
 
 
 def floats(name: str, value: ArrayLike) -> NDArray[Any]:
-    """Numbers that become 64-bit floats with nothing lost: floats of at most 64 bits, and whole numbers up to 2^53.
+    """Numbers that become 64-bit floats with nothing lost: floats of at most 64 bits, and whole numbers up to 2^53, but for those of an answer's refusals.
 
     >>> floats('jd1', ['2451545.0'])
     Traceback (most recent call last):
@@ -102,6 +112,8 @@ def floats(name: str, value: ArrayLike) -> NDArray[Any]:
     array = as_array(name, value)
     if array.dtype == _FLOAT:
         return array
+    _check_no_number(name, value)
+    _check_no_number(name, array)
     if array.dtype.kind not in "fiu" or not np.can_cast(array.dtype, FLOAT, "safe"):
         raise TypeError(f"{name} is of type {array.dtype} and not of 64-bit floats")
     if array.dtype.kind != "f" and array.dtype.itemsize == 8 and array.size:
@@ -233,16 +245,17 @@ def each(
     gives: Sequence[Field],
     dtypes: Sequence[str],
     out: Sequence[Any] | None = None,
+    shown: Sequence[str] = (),
 ) -> tuple[Any, ...]:
     """Walk over the arguments and the answers, and call `loop(n, address, ..)` for each stretch of n places that lies in one piece.
 
     The answers come in the order of `gives`, whose last is the stamps' numbers where a call may refuse. Of single values the answers are single values, and a
-    refusal is raised.
+    refusal is raised; where `out` lends places they are arrays, and a refusal is in them. `shown` names the arguments in errors where `takes` has other words for them.
 
     >>> each('gps_full_week', function('ct_each_full_week'), [('ten_bits', np.array(2)), ('reference', np.array(2400))], [Field('week', INT), Field('numbers', NUMBER)], [LONG, LONG])
     (2050, 0)
     """
-    shape = common_shape(takes)
+    shape = common_shape(list(zip(shown, (array for _, array in takes))) if shown else takes)
     places = lent(out, gives, shape)
     check_float_mode()
     arrays = [array for _, array in takes]

@@ -9,7 +9,7 @@ from typing import Any, Sequence, Union
 import numpy as np
 from numpy.typing import ArrayLike, NDArray
 
-from ._answers import Dates, DatesByRule, Number
+from ._answers import Dates, DatesByRule
 from ._arrays import FLOAT, INT, NUMBER, Field, each, floats
 from ._library import address, function
 from .tables import Table, lent_table
@@ -23,50 +23,50 @@ _DATES = [Field("jd1", FLOAT), Field("jd2", FLOAT), Field("numbers", NUMBER)]
 _BY_RULE = [Field("jd1", FLOAT), Field("jd2", FLOAT), Field("rule", INT), Field("row", INT), Field("numbers", NUMBER)]
 
 
+def _names(scale: str, *by: str) -> tuple[str, ...]:
+    """The arguments as a function names them."""
+    return f"{scale}1", f"{scale}2", *by
+
+
 def _parts(scale: str, jd1: ArrayLike, jd2: ArrayLike) -> list[Any]:
     """Both parts by the names that the sentences have, looked at by the names that the function has."""
     return [("jd1", floats(f"{scale}1", jd1)), ("jd2", floats(f"{scale}2", jd2))]
 
 
 def _offset(name: str, by: ArrayLike) -> tuple[str, NDArray[Any]]:
-    if isinstance(by, Number):
-        raise TypeError(f"{name} is the number of an answer: of an answer hand over [:2], and then the {name}")
-    array = floats(name, by)
-    if array.dtype == np.uint8:
-        raise TypeError(f"{name} is of 8 bits unsigned, as the numbers of an answer are: of an answer hand over [:2], and then the {name}")
-    return "offset", array
+    return "offset", floats(name, by)
 
 
 def _run(name: str, source: str, target: str, jd1: ArrayLike, jd2: ArrayLike, out: Out, table: Table | None = None) -> Dates:
     named = "jd" if name == "convert" else source
     loop, rows = function("ct_each_run"), lent_table(table)
     ways = SCALES[source], SCALES[target], rows.address
-    return Dates(*each(name, lambda n, *a: loop(*ways, n, *a), _parts(named, jd1, jd2), _DATES, [FLOAT] * 2, out))
+    return Dates(*each(name, lambda n, *a: loop(*ways, n, *a), _parts(named, jd1, jd2), _DATES, [FLOAT] * 2, out, _names(named)))
 
 
 def _formula(name: str, source: str, target: str, jd1: ArrayLike, jd2: ArrayLike, out: Out) -> Dates:
     loop, ways = function("ct_each_formula"), (SCALES[source], SCALES[target])
     named = "jd" if name == "convert" else source
-    return Dates(*each(name, lambda n, *a: loop(*ways, n, *a), _parts(named, jd1, jd2), _DATES, [FLOAT] * 2, out))
+    return Dates(*each(name, lambda n, *a: loop(*ways, n, *a), _parts(named, jd1, jd2), _DATES, [FLOAT] * 2, out, _names(named)))
 
 
 def _formula_by(name: str, source: str, target: str, jd1: ArrayLike, jd2: ArrayLike, named: str, by: ArrayLike, out: Out) -> Dates:
     loop, ways = function("ct_each_formula_by"), (SCALES[source], SCALES[target])
     takes = [*_parts(source, jd1, jd2), _offset(named, by)]
-    return Dates(*each(name, lambda n, *a: loop(*ways, n, *a), takes, _DATES, [FLOAT] * 3, out))
+    return Dates(*each(name, lambda n, *a: loop(*ways, n, *a), takes, _DATES, [FLOAT] * 3, out, _names(source, named)))
 
 
 def _shifted(name: str, call: str, jd1: ArrayLike, jd2: ArrayLike, by: ArrayLike, out: Out, named: str) -> Dates:
     loop, at = function("ct_each_shift"), address(call)
     takes = [*_parts("jd", jd1, jd2), _offset(named, by)]
-    return Dates(*each(name, lambda n, *a: loop(at, n, *a), takes, _DATES, [FLOAT] * 3, out))
+    return Dates(*each(name, lambda n, *a: loop(at, n, *a), takes, _DATES, [FLOAT] * 3, out, _names("jd", named)))
 
 
 def _shifted_by_table(name: str, call: str, jd1: ArrayLike, jd2: ArrayLike, by: ArrayLike, table: Table | None, out: Out) -> Dates:
     loop, at, rows = function("ct_each_utc_shift"), address(call), lent_table(table)
     takes = [*_parts(name[:3], jd1, jd2), _offset("dut1", by)]
     told = lambda n, a1, a2, b, o1, o2, numbers: loop(at, rows.address, n, a1, a2, b, o1, o2, 0, 0, numbers)
-    return Dates(*each(name, told, takes, _DATES, [FLOAT] * 3, out))
+    return Dates(*each(name, told, takes, _DATES, [FLOAT] * 3, out, _names(name[:3], "dut1")))
 
 
 def gpstai(gps1: ArrayLike, gps2: ArrayLike, *, out: Out = None) -> Dates:
@@ -227,7 +227,7 @@ def utctai(utc1: ArrayLike, utc2: ArrayLike, *, table: Table | None = None, retu
         return _run("utctai", "utc", "tai", utc1, utc2, out, table)
     loop, at, rows = function("ct_each_utc"), address("ct_utc_to_tai"), lent_table(table)
     takes = _parts("utc", utc1, utc2)
-    return DatesByRule(*each("utctai", lambda n, *a: loop(at, rows.address, n, *a), takes, _BY_RULE, [FLOAT] * 2, out))
+    return DatesByRule(*each("utctai", lambda n, *a: loop(at, rows.address, n, *a), takes, _BY_RULE, [FLOAT] * 2, out, _names("utc")))
 
 
 def taiutc(tai1: ArrayLike, tai2: ArrayLike, *, table: Table | None = None, out: Out = None) -> Dates:
@@ -253,7 +253,7 @@ def utcut1(
         return _shifted_by_table("utcut1", "ct_utc_to_ut1_with_dut1", utc1, utc2, dut1, table, out)
     loop, at, rows = function("ct_each_utc_shift"), address("ct_utc_to_ut1_with_dut1"), lent_table(table)
     takes = [*_parts("utc", utc1, utc2), _offset("dut1", dut1)]
-    return DatesByRule(*each("utcut1", lambda n, *a: loop(at, rows.address, n, *a), takes, _BY_RULE, [FLOAT] * 3, out))
+    return DatesByRule(*each("utcut1", lambda n, *a: loop(at, rows.address, n, *a), takes, _BY_RULE, [FLOAT] * 3, out, _names("utc", "dut1")))
 
 
 def ut1utc(ut11: ArrayLike, ut12: ArrayLike, dut1: ArrayLike, *, table: Table | None = None, out: Out = None) -> Dates:
@@ -284,7 +284,8 @@ def add_seconds(jd1: ArrayLike, jd2: ArrayLike, seconds: ArrayLike, *, out: Out 
 
 
 def convert(source: str, target: str, jd1: ArrayLike, jd2: ArrayLike, *, table: Table | None = None, out: Out = None) -> Dates:
-    """From one scale to another, both by name: any two of utc, tai, tt, gps and tcg, and tcb and tdb. From a scale to itself dead stamps are refused.
+    """From one scale to another, both by name: any two of utc, tai, tt, gps and tcg, and tcb and tdb. From one of the five to itself dead
+    stamps are refused.
 
     >>> convert('gps', 'utc', 2451545.0, 0.25)
     Dates(jd1=2451545.0, jd2=0.24984953703703705, numbers=0)
@@ -293,10 +294,11 @@ def convert(source: str, target: str, jd1: ArrayLike, jd2: ArrayLike, *, table: 
     ValueError: there is no conversion from tcb to utc that takes no offset
     """
     for scale in (source, target):
-        if scale not in SCALES:
+        if not isinstance(scale, str) or scale not in SCALES:
             raise ValueError(f"no scale: {scale!r}; the scales are {', '.join(SCALES)}")
     if source in RUN_SCALES and target in RUN_SCALES:
         return _run("convert", source, target, jd1, jd2, out, table)
+    lent_table(table)
     if {source, target} == {"tcb", "tdb"}:
         return _formula("convert", source, target, jd1, jd2, out)
     raise ValueError(f"there is no conversion from {source} to {target} that takes no offset")

@@ -453,6 +453,42 @@ class Functions(unittest.TestCase):
             self.assertIn(list(inspect.signature(function).parameters)[2] + " is the number of an answer", str(raised.exception))
             self.assertEqual(function(*one[:2], 0).numbers, 0)
         self.assertIsInstance(one.numbers, int)
+        for wrong in (lambda: ct.compare(*tt, 0.25), lambda: ct.compare(*one, 0.25), lambda: ct.gpstai([one.numbers, 0.5], 0.0), lambda: ct.gpstai(np.uint8(1), 0.0)):
+            with self.assertRaises(TypeError) as raised:
+                wrong()
+            self.assertIn("of an answer hand over [:2]", str(raised.exception))
+
+    def test_shapes_are_told_by_parameter(self):
+        """Two shapes that do not go together, by the function's own names for its arguments."""
+        for function, names in ((ct.ttut1, "tt1 of shape (2,), tt2 of shape (3,), dt of"), (ct.utcut1, "utc1 of shape (2,), utc2 of shape (3,), dut1 of")):
+            with self.assertRaises(ValueError) as raised:
+                function([1.0, 2.0], [1.0, 2.0, 3.0], 0.5)
+            self.assertTrue(str(raised.exception).startswith(names), str(raised.exception))
+        with self.assertRaises(ValueError) as raised:
+            ct.tcbtdb([1.0, 2.0], [1.0, 2.0, 3.0])
+        self.assertTrue(str(raised.exception).startswith("tcb1 of shape (2,), tcb2 of"), str(raised.exception))
+
+    def test_convert_looks_at_its_arguments(self):
+        """A table that is none, also where none is read, and scales that are no words."""
+        with self.assertRaises(TypeError):
+            ct.convert("tcb", "tdb", 2451545.0, 0.25, table="nonsense")
+        for wrong in (["tcb"], None, 6):
+            with self.assertRaises(ValueError):
+                ct.convert(wrong, "tdb", 2451545.0, 0.25)
+
+    def test_single_values_beside_arrays(self):
+        """A single float beside arrays that lie in one piece, around the length of a stretch, against arrays of that float."""
+        for size in (1, 5, 262143, 262144, 262145, 524289):
+            parts = np.linspace(0.0, 1.0, size)
+            parts[size // 2 :: 3] = math.nan
+            full = np.full(size, 2451545.0)
+            for single, whole in (
+                (ct.tttdb(2451545.0, parts, 0.001), ct.tttdb(full, parts, np.full(size, 0.001))),
+                (ct.tcbtdb(2451545.0, parts), ct.tcbtdb(full, parts)),
+                (ct.ut1tai(full, parts, math.inf), ct.ut1tai(full, parts, np.full(size, math.inf))),
+            ):
+                for one, other in zip(single, whole):
+                    self.assertEqual(one.tobytes(), other.tobytes())
 
     def test_errors_name_the_parameter(self):
         """Of each function that takes floats first, by its own name for them."""

@@ -101,7 +101,7 @@ fn formula_refusal(
 // offset in seconds for each stamp, which is that of the second scale less the first: `offsets` has one for each stamp then, and else no byte. The parts of stamp i go into
 // the places i of `out1` and `out2`, its number into `numbers`, 0 or that of its refusal, and the number of refused stamps is the answer. A refused stamp's places stay.
 // Refusals of the whole run in order, before a byte is written: 18 two scales that are no such pair, 14 a length of parts or offsets that is no multiple of eight, 12 another
-// number of parts or offsets than of first parts, 11 too few places.
+// number of second parts than of first, or of offsets than is due, 11 too few places.
 pub fn formula_run(
     from: u32,
     to: u32,

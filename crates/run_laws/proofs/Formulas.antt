@@ -1,4 +1,4 @@
--- WHAT A RUN BY A FORMULA MEANS, for every run of every length: which conversions it takes, each stamp's answer and number, the count, the dead stamps and offsets, and a refused
+-- WHAT A RUN BY A FORMULA MEANS, for every run of every length: which conversions it takes and with which lengths, each stamp's answer and number, the count, the dead stamps and offsets, and a refused
 -- call. Assumes nothing.
 use Prim.Native.Nat.{ℕ, _*_, _/_, _%_, _<_, _≤_}
 use native.Mathlib.Omega.{arith}
@@ -11,7 +11,7 @@ use lib.Dec.{eqb, leb}
 use lib.ListN.{length}
 use lib.Ieee.{Float, binary64, ofBits}
 use lib.Ieee.Scale.{finite}
-use borrow.Author.Tests.{eq-eqb, eqb-true, leb-true}
+use borrow.Author.Tests.{eq-eqb, le-leb, eqb-true, leb-true}
 use Rattle.refusals.specs.Outcome.{Outcome, answer, refusal, onward}
 use Rattle.julian.specs.declared.JulianDate.{JulianDate}
 use Rattle.julian.specs.Finite.{finiteParts}
@@ -26,7 +26,7 @@ use Rattle.formula_runs.specs.Run.{RunCall, runCall, runWritten}
 use Rattle.formula_runs.specs.Formula.{formulaOf, byFormula, formulaAnswer, takesOffset, lengthsRefusal, formulaRefusal, formulaRun}
 use Rattle.run_laws.specs.Dead.{DeadStamp, notZeroIn}
 use Rattle.run_laws.specs.Done.{StampDone, SpareStays}
-use Rattle.run_laws.specs.EachFormula.{EachFormula, OffsetPair, tai-ut1-pair, ut1-tai-pair, ut1-tt-pair, tt-ut1-pair, tt-tdb-pair, tdb-tt-pair, FormulaPair, gps-tai-pair, tai-gps-pair, tai-tt-pair, tt-tai-pair, tt-tcg-pair, tcg-tt-pair, tcb-tdb-pair, tdb-tcb-pair, offset-pair, FormulaRefusal}
+use Rattle.run_laws.specs.EachFormula.{EachFormula, OffsetPair, tai-ut1-pair, ut1-tai-pair, ut1-tt-pair, tt-ut1-pair, tt-tdb-pair, tdb-tt-pair, FormulaPair, gps-tai-pair, tai-gps-pair, tai-tt-pair, tt-tai-pair, tt-tcg-pair, tcg-tt-pair, tcb-tdb-pair, tdb-tcb-pair, offset-pair, FormulaRefusal, dueOf, LengthsDue}
 use Rattle.run_laws.proofs.Refusing.{dead-not-finite}
 use Rattle.run_laws.proofs.Written.{stamp-written, spare-kept, count-written}
 
@@ -208,25 +208,70 @@ other-scales-18 from to seconds k =
     (eighteen-next (eqb from 7 && eqb to 3) _ _ k
     (λ e. cc e))))))))))))))
 
--- ---- what no refusal says of the places
-pub record Placed (size1 room1 room2 room : ℕ) : Type 0 where
-  pub places1 : size1 ≤ room1
-  pub places2 : size1 ≤ room2
-  pub bytes : size1 / 8 ≤ room
-
+-- ---- THE LENGTHS with which a call is answered: exactly those that are due, of the offsets as many as of the first parts for the pairs that take some, and else none
 module _ (size1 size2 size3 room1 room2 room : ℕ) where
-  placed-by : (b0 b1 b2 b3 b4 : Bool) → leb size1 room1 ≡ b2 → leb size1 room2 ≡ b3 → leb (size1 / 8) room ≡ b4 → _≡_ {A = ℕ} (cond b0 (cond b1 (cond (b2 && (b3 && b4)) 0 11) 12) 14) 0 → Placed size1 room1 room2 room
-  placed-by true true true true true p q r z = record { places1 = leb-true size1 room1 p; places2 = leb-true size1 room2 q; bytes = leb-true (size1 / 8) room r }
-  placed-by true true true true false p q r z = let w : ⊥ = omega arith in absurd w
-  placed-by true true true false b4 p q r z = let w : ⊥ = omega arith in absurd w
-  placed-by true true false b3 b4 p q r z = let w : ⊥ = omega arith in absurd w
-  placed-by true false b2 b3 b4 p q r z = let w : ⊥ = omega arith in absurd w
-  placed-by false b1 b2 b3 b4 p q r z = let w : ⊥ = omega arith in absurd w
+  abbrev judged : ℕ → ℕ
+  judged due = cond (eqb (size1 % 8) 0 && (eqb (size2 % 8) 0 && eqb (size3 % 8) 0)) (cond (eqb size1 size2 && eqb size3 due) (cond (leb size1 room1 && (leb size1 room2 && leb (size1 / 8) room)) 0 11) 12) 14
 
-  placed : (from to : ℕ) (o : Outcome Conversion) → formulaOf from to nought ≡ o → lengthsRefusal o size1 size2 size3 room1 room2 room ≡ 0 → Placed size1 room1 room2 room
+  lengths-by : (due : ℕ) (b0 b1 b2 b3 b4 b5 b6 b7 : Bool) → eqb (size1 % 8) 0 ≡ b0 → eqb (size2 % 8) 0 ≡ b1 → eqb (size3 % 8) 0 ≡ b2 → eqb size1 size2 ≡ b3 → eqb size3 due ≡ b4 → leb size1 room1 ≡ b5 → leb size1 room2 ≡ b6 → leb (size1 / 8) room ≡ b7
+      → _≡_ {A = ℕ} (cond (b0 && (b1 && b2)) (cond (b3 && b4) (cond (b5 && (b6 && b7)) 0 11) 12) 14) 0 → LengthsDue size1 size2 size3 due room1 room2 room
+  lengths-by due true true true true true true true true p0 p1 p2 p3 p4 p5 p6 p7 z = record {
+    whole1 = eqb-true (size1 % 8) 0 p0;
+    whole2 = eqb-true (size2 % 8) 0 p1;
+    whole3 = eqb-true (size3 % 8) 0 p2;
+    parts = eqb-true size1 size2 p3;
+    offsets = eqb-true size3 due p4;
+    places1 = leb-true size1 room1 p5;
+    places2 = leb-true size1 room2 p6;
+    bytes = leb-true (size1 / 8) room p7;
+  }
+  lengths-by due true true true true true true true false p0 p1 p2 p3 p4 p5 p6 p7 z = let w : ⊥ = omega arith in absurd w
+  lengths-by due true true true true true true false b7 p0 p1 p2 p3 p4 p5 p6 p7 z = let w : ⊥ = omega arith in absurd w
+  lengths-by due true true true true true false b6 b7 p0 p1 p2 p3 p4 p5 p6 p7 z = let w : ⊥ = omega arith in absurd w
+  lengths-by due true true true true false b5 b6 b7 p0 p1 p2 p3 p4 p5 p6 p7 z = let w : ⊥ = omega arith in absurd w
+  lengths-by due true true true false b4 b5 b6 b7 p0 p1 p2 p3 p4 p5 p6 p7 z = let w : ⊥ = omega arith in absurd w
+  lengths-by due true true false b3 b4 b5 b6 b7 p0 p1 p2 p3 p4 p5 p6 p7 z = let w : ⊥ = omega arith in absurd w
+  lengths-by due true false b2 b3 b4 b5 b6 b7 p0 p1 p2 p3 p4 p5 p6 p7 z = let w : ⊥ = omega arith in absurd w
+  lengths-by due false b1 b2 b3 b4 b5 b6 b7 p0 p1 p2 p3 p4 p5 p6 p7 z = let w : ⊥ = omega arith in absurd w
+
+  lengths : (due : ℕ) → judged due ≡ 0 → LengthsDue size1 size2 size3 due room1 room2 room
+  lengths due z = lengths-by due (eqb (size1 % 8) 0) (eqb (size2 % 8) 0) (eqb (size3 % 8) 0) (eqb size1 size2) (eqb size3 due) (leb size1 room1) (leb size1 room2) (leb (size1 / 8) room) refl refl refl refl refl refl refl refl z
+
+  lengths-pass : (due : ℕ) → LengthsDue size1 size2 size3 due room1 room2 room → judged due ≡ 0
+  lengths-pass due l = rw (eq-eqb (size1 % 8) 0 (l .whole1), eq-eqb (size2 % 8) 0 (l .whole2), eq-eqb (size3 % 8) 0 (l .whole3), eq-eqb size1 size2 (l .parts), eq-eqb size3 due (l .offsets), le-leb size1 room1 (l .places1), le-leb size1 room2 (l .places2), le-leb (size1 / 8) room (l .bytes))
+
+  judged-given : (from to : ℕ) → OffsetPair from to → formulaRefusal from to size1 size2 size3 room1 room2 room ≡ judged size1
+  unfolding formulaRefusal formulaOf lengthsRefusal takesOffset
+  judged-given _ _ tai-ut1-pair = refl
+  judged-given _ _ ut1-tai-pair = refl
+  judged-given _ _ ut1-tt-pair = refl
+  judged-given _ _ tt-ut1-pair = refl
+  judged-given _ _ tt-tdb-pair = refl
+  judged-given _ _ tdb-tt-pair = refl
+
+  judged-pair : (from to : ℕ) (p : FormulaPair from to) → formulaRefusal from to size1 size2 size3 room1 room2 room ≡ judged (dueOf p size1)
+  unfolding formulaRefusal formulaOf lengthsRefusal takesOffset dueOf
+  judged-pair _ _ gps-tai-pair = refl
+  judged-pair _ _ tai-gps-pair = refl
+  judged-pair _ _ tai-tt-pair = refl
+  judged-pair _ _ tt-tai-pair = refl
+  judged-pair _ _ tt-tcg-pair = refl
+  judged-pair _ _ tcg-tt-pair = refl
+  judged-pair _ _ tcb-tdb-pair = refl
+  judged-pair _ _ tdb-tcb-pair = refl
+  judged-pair from to (offset-pair p) = judged-given from to p
+
+  pub answered-lengths : (from to : ℕ) (p : FormulaPair from to) → formulaRefusal from to size1 size2 size3 room1 room2 room ≡ 0 → LengthsDue size1 size2 size3 (dueOf p size1) room1 room2 room
+  answered-lengths from to p z = lengths (dueOf p size1) (sym (judged-pair from to p) ∙ z)
+
+  pub lengths-answered : (from to : ℕ) (p : FormulaPair from to) → LengthsDue size1 size2 size3 (dueOf p size1) room1 room2 room → formulaRefusal from to size1 size2 size3 room1 room2 room ≡ 0
+  lengths-answered from to p l = judged-pair from to p ∙ lengths-pass (dueOf p size1) l
+
+  -- a call that is answered is of a pair
+  answered-pair : (from to : ℕ) (o : Outcome Conversion) → formulaOf from to nought ≡ o → lengthsRefusal o size1 size2 size3 room1 room2 room ≡ 0 → FormulaPair from to
   unfolding lengthsRefusal
-  placed from to (answer c) e z = placed-by (eqb (size1 % 8) 0 && (eqb (size2 % 8) 0 && eqb (size3 % 8) 0)) (eqb size1 size2 && eqb size3 (cond (takesOffset c) size1 0)) (leb size1 room1) (leb size1 room2) (leb (size1 / 8) room) refl refl refl z
-  placed from to (refusal k) e z = let h : k ≡ 18 = other-scales-18 from to nought k e in let w : ⊥ = omega arith in absurd w
+  answered-pair from to (answer c) e z = no-other-pair from to nought c e
+  answered-pair from to (refusal k) e z = let h : k ≡ 18 = other-scales-18 from to nought k e in let w : ⊥ = omega arith in absurd w
 
 -- ---- a call that is not refused
 module _ (from to : ℕ) (js ks os out1 out2 numbers : List ℕ) (z : formulaRefusal from to (length js) (length ks) (length os) (length out1) (length out2) (length numbers) ≡ 0) where
@@ -240,9 +285,12 @@ module _ (from to : ℕ) (js ks os out1 out2 numbers : List ℕ) (z : formulaRef
   unfolding formulaRun
   written = rw (eq-eqb _ 0 z)
 
-  fits : Placed (length js) (length out1) (length out2) (length numbers)
+  pair : FormulaPair from to
   unfolding formulaRefusal
-  fits = placed (length js) (length ks) (length os) (length out1) (length out2) (length numbers) from to (formulaOf from to nought) refl z
+  pair = answered-pair (length js) (length ks) (length os) (length out1) (length out2) (length numbers) from to (formulaOf from to nought) refl z
+
+  fits : LengthsDue (length js) (length ks) (length os) (dueOf pair (length js)) (length out1) (length out2) (length numbers)
+  fits = answered-lengths (length js) (length ks) (length os) (length out1) (length out2) (length numbers) from to pair z
 
   whole : 8 * n ≤ length js
   whole = omega (arith, div-mul-le-self (length js) 8)
@@ -265,5 +313,5 @@ module _ (from to : ℕ) (js ks os out1 out2 numbers : List ℕ) (z : formulaRef
   formula-count-is = subst (λ (c : RunCall). c .answer ≡ answer (notZeroIn n (c .numbers))) (sym written) (count-written f n out1 out2 numbers room1 room2 (fits .bytes))
 
   -- EVERY DEAD STAMP is refused by 9
-  pub formula-dead-refused : FormulaPair from to → (i : ℕ) → DeadStamp js ks i → f i ≡ refusal 9
-  formula-dead-refused p i h = dead-part-refused (ofBits binary64 (u64At os (8 * i))) (stampOf js ks i) from to p (dead-not-finite js ks i h)
+  pub formula-dead-refused : (i : ℕ) → DeadStamp js ks i → f i ≡ refusal 9
+  formula-dead-refused i h = dead-part-refused (ofBits binary64 (u64At os (8 * i))) (stampOf js ks i) from to pair (dead-not-finite js ks i h)

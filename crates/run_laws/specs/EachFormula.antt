@@ -1,5 +1,5 @@
--- The conversions of a run by a formula, written out one by one, and why a stamp is refused. From include/celestial_time.h. Assumes nothing.
-use Prim.Native.Nat.{ℕ}
+-- The conversions of a run by a formula, written out one by one, why a stamp is refused, and with which lengths a call is answered. From include/celestial_time.h. Assumes nothing.
+use Prim.Native.Nat.{ℕ, _/_, _%_, _≤_}
 use mathlib.Core.Path.{_≡_}
 use mathlib.Core.Logic.{_⊎_}
 use mathlib.Core.Bool.{true, false}
@@ -50,3 +50,26 @@ pub data FormulaPair : ℕ → ℕ → Type 0 where
 -- why a stamp is refused by k: 9 for a part that is not finite, and only then 10 for the offset
 abbrev pub FormulaRefusal : Float → JulianDate → ℕ → Type 0
 FormulaRefusal seconds d k = ((finiteParts d ≡ false) × (k ≡ 9)) ⊎ (((finiteParts d ≡ true) × (finite seconds ≡ false)) × (k ≡ 10))
+
+-- the bytes of the offsets that are due beside so many bytes of first parts: as many for the last six pairs, and none for the others
+unfoldable pub dueOf : {from to : ℕ} → FormulaPair from to → ℕ → ℕ
+dueOf gps-tai-pair size = 0
+dueOf tai-gps-pair size = 0
+dueOf tai-tt-pair size = 0
+dueOf tt-tai-pair size = 0
+dueOf tt-tcg-pair size = 0
+dueOf tcg-tt-pair size = 0
+dueOf tcb-tdb-pair size = 0
+dueOf tdb-tcb-pair size = 0
+dueOf (offset-pair p) size = size
+
+-- the lengths in bytes with which a call is answered
+pub record LengthsDue (size1 size2 size3 due room1 room2 room : ℕ) : Type 0 where
+  pub whole1 : size1 % 8 ≡ 0
+  pub whole2 : size2 % 8 ≡ 0
+  pub whole3 : size3 % 8 ≡ 0
+  pub parts : size1 ≡ size2
+  pub offsets : size3 ≡ due
+  pub places1 : size1 ≤ room1
+  pub places2 : size1 ≤ room2
+  pub bytes : size1 / 8 ≤ room

@@ -244,7 +244,7 @@ pub fn convert_run_by_lent<'a>(
 
 // The dates in scale `to` of a run of stamps in scale `from`: the parts of stamp i in the places i of `out1` and `out2`, its number in `numbers`, 0 or that of its refusal, and
 // the number of refused stamps as the answer. A refused stamp's places stay. Refusals of the whole run in order, before a byte is written: 20 to 22 the table, 18 a scale
-// that is not UTC, TAI, TT, GPS or TCG, 14 a length of parts that is no multiple of eight, 12 as many parts of one kind as of the other, 11 too few places.
+// that is not UTC, TAI, TT, GPS or TCG, 14 a length of parts that is no multiple of eight, 12 another number of second parts than of first, 11 too few places.
 pub fn convert_run(
     from: u32,
     to: u32,

@@ -1,1 +1,1 @@
-// No code: what the calls of utc mean in exact days and times. proofs/Lib.antt says which file has what.
+// No code: what the calls of utc and the texts of iso_texts mean in exact days and times. proofs/Lib.antt says which file has what.

@@ -1,4 +1,4 @@
--- `utc::put_next_midnight` meets its contract: the refusal of the next date, or its midnight put. Assumes nothing.
+-- `iso_texts::put_next_midnight` meets its contract: the refusal of the next date, or its midnight put. Assumes nothing.
 use mathlib.Core.Path.{sym, ap, _∙_}
 use mir.Syntax.{w32}
 use mir.Val.{SFits}

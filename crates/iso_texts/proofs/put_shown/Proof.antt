@@ -1,4 +1,4 @@
--- `utc::put_shown` meets its contract: a time of the date itself, or the next date's midnight. Assumes nothing.
+-- `iso_texts::put_shown` meets its contract: a time of the date itself, or the next date's midnight. Assumes nothing.
 use mathlib.Core.Path.{ap}
 use Rattle.iso_texts.specs.IsoText.{shownTextBy, shownText}
 use Rattle.iso_texts.proofs.TextCalls.{call-put, call-as}

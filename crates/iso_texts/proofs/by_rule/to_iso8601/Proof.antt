@@ -1,4 +1,4 @@
--- `utc::by_rule::to_iso8601` meets its contract: the table is tested, and its rows are read. Assumes nothing.
+-- `iso_texts::by_rule::to_iso8601` meets its contract: the table is tested, and its rows are read. Assumes nothing.
 use mathlib.Core.Path.{sym, ap, _∙_}
 use mathlib.Core.List.{List}
 use Rattle.lent_rows.specs.Table.{Row}

@@ -1,4 +1,4 @@
--- `utc::by_rule::with_rule` meets its contract. Assumes nothing.
+-- `iso_texts::by_rule::with_rule` meets its contract. Assumes nothing.
 use mathlib.Core.Path.{ap, sym}
 use Rattle.refusals.specs.Outcome.{onward}
 use Rattle.tai_utc.specs.Rule.{withRule}

@@ -1,4 +1,4 @@
--- `utc::expanded::to_iso8601_expanded_by_lent` meets its contract: the refusal of the calendar, or the day that it answers. Assumes nothing.
+-- `iso_texts::expanded::to_iso8601_expanded_by_lent` meets its contract: the refusal of the calendar, or the day that it answers. Assumes nothing.
 use mathlib.Core.Path.{_≡_, sym, ap, _∙_}
 use native.Mathlib.Omega.{arith}
 use Rattle.refusals.specs.Outcome.{answer}

@@ -1,4 +1,4 @@
--- `utc::expanded::to_iso8601_expanded_by_rows` meets its contract: by the table's two arrays, without the rule. Assumes nothing.
+-- `iso_texts::expanded::to_iso8601_expanded_by_rows` meets its contract: by the table's two arrays, without the rule. Assumes nothing.
 use mathlib.Core.Path.{sym, ap, _∙_}
 use mathlib.Core.List.{List}
 use Rattle.refusals.specs.Outcome.{onward}

@@ -1,4 +1,4 @@
--- `utc::half_even::put_day` meets its contract: the refusal of the day's leap, or what is shown on a day with it and the rule of the day. Assumes nothing.
+-- `iso_texts::half_even::put_day` meets its contract: the refusal of the day's leap, or what is shown on a day with it and the rule of the day. Assumes nothing.
 use mathlib.Core.Path.{sym, ap, _∙_}
 use mathlib.Core.List.{List}
 use denote.Ref.{now}

@@ -1,4 +1,4 @@
--- `utc::half_even::to_iso8601_half_even` meets its contract: the table is tested, and its rows are read. Assumes nothing.
+-- `iso_texts::half_even::to_iso8601_half_even` meets its contract: the table is tested, and its rows are read. Assumes nothing.
 use mathlib.Core.Path.{sym, ap, _∙_}
 use mathlib.Core.List.{List}
 use Rattle.lent_rows.specs.Table.{Row}
