@@ -10,7 +10,7 @@ use lib.IntN.{ℤ, pos}
 use lib.ListN.{getD}
 use borrow.Author.Tests.{le-leb, lt-leb}
 use Rattle.lent_rows.specs.declared.LentRows.{LentRows}
-use Rattle.lent_rows.specs.Table.{Row, starts, reached}
+use Rattle.lent_rows.specs.Table.{Row, starts, reached, fixedRows, mostRows}
 use Rattle.lent_rows.specs.Lent.{natural, lentRow, rowsTo, least, lentSize, rowsOf, lentTable, rowsIn, oneApart, bySeconds}
 use Rattle.lent_rows.proofs.Tables.{least-right, starts-more, secondsBefore, steps-more}
 
@@ -73,5 +73,5 @@ reached-alike k m s l n =
     ∙ ap (λ (x : List ℕ). reached x n) (starts-alike k k k k l m s (lentSize (lentTable k k m l)))
 
 -- no table has more than 58 rows
-pub few-rows : (k rows : ℕ) → rows ≤ 42 + least k 16 → rows ≤ 58
+pub few-rows : (k rows : ℕ) → rows ≤ fixedRows + least k 16 → rows ≤ mostRows
 few-rows k rows h = omega (arith, h, least-right k 16)

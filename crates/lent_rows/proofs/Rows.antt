@@ -9,7 +9,7 @@ use lib.Dec.{T, ltb, eqb}
 use lib.ListN.{length, getD}
 use lib.Ieee.{Float, nan}
 use lib.Ieee.Fits.{and-l, and-r}
-use Rattle.lent_rows.specs.Table.{Row, fixed, none, starts, rising}
+use Rattle.lent_rows.specs.Table.{Row, fixed, none, starts, rising, fixedRows}
 
 -- what stands at place i of the list made by f is f of the row at place i
 pub place : (f : Row → Float) (rows : List Row) (i : ℕ) → i < length rows → getD (map f rows) i nan ≡ f (getD rows i none)
@@ -46,6 +46,6 @@ same true false t = refl
 same false true t = refl
 same false false t = absurd t
 
-pub drifts : (k : ℕ) → k < 42 → eqb (getD fixed k none .rate) 0 ≡ not (ltb k 14)
+pub drifts : (k : ℕ) → k < fixedRows → eqb (getD fixed k none .rate) 0 ≡ not (ltb k 14)
 unfolding fixed driftTest
 drifts k h = same (ltb k 14) (eqb (getD fixed k none .rate) 0) (at driftTest fixed tt k h)

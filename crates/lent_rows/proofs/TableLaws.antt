@@ -16,7 +16,7 @@ use lib.ListN.{length, getD}
 use borrow.Author.Tests.{ltb-true, ltb-false, le-ltb, leb-true, leb-false, eqb-true, eqb-false, lt-leb, ne-eqb}
 use Rattle.refusals.specs.Outcome.{Outcome, answer, refusal}
 use Rattle.lent_rows.specs.declared.LentRows.{LentRows}
-use Rattle.lent_rows.specs.Table.{Row, fixed, starts, rising}
+use Rattle.lent_rows.specs.Table.{Row, fixed, starts, rising, fixedRows, lastMonth, mostRows}
 use Rattle.lent_rows.specs.Lent.{natural, secondsAt, lentRow, rowsTo, least, lentSize, rowsOf, oneApart, bySeconds, tableOf, before, laterAt, OneStep, StepAt, Decision, sizes, order, step, taken}
 use Rattle.lent_rows.proofs.InTurn.{all-hold, first-fails}
 use Rattle.lent_rows.proofs.Tables.{table-length, monthBefore, rises-more, secondsBefore, steps-more}
@@ -82,13 +82,13 @@ module _ (t : LentRows) where
   stepTo n = oneApart (secondsBefore t n) (secondsAt t n)
 
   -- where the rows rise up to row i, the month before it is positive
-  pub high-month : (i : ℕ) → risesTo i ≡ true → 24204 ≤ monthBefore t i
+  pub high-month : (i : ℕ) → risesTo i ≡ true → lastMonth ≤ monthBefore t i
   high-month zero e = omega arith
   high-month (suc i) e =
       let (p, q) = all-hold risesTo laterTo (rises-more t) (suc i) e i (omega arith) in
       omega (arith, high-month i p, ltb-true (monthBefore t i) (lentRow t i .month) q)
 
-  month-read : (i : ℕ) → risesTo i ≡ true → before (pos 24204) (t .months) i ≡ pos (monthBefore t i)
+  month-read : (i : ℕ) → risesTo i ≡ true → before (pos lastMonth) (t .months) i ≡ pos (monthBefore t i)
   month-read zero e = refl
   month-read (suc i) e = is-positive (getD (t .months) i (pos 0)) (omega (arith, high-month (suc i) e))
 
@@ -166,9 +166,9 @@ module _ (t : LentRows) (rows : List Row) (e : tableOf t ≡ answer rows) where
   pub table-rises : T (rising (starts rows))
   table-rises = subst (λ (l : List Row). T (rising (starts l))) (sym (k .all)) (is-true _ (k .in-order))
 
-  pub lengths : (length rows ≡ 42 + t .«months_size») × (length rows ≤ 58)
+  pub lengths : (length rows ≡ fixedRows + t .«months_size») × (length rows ≤ mostRows)
   lengths =
-      let l = ap length (k .all) ∙ table-length t (lentSize t) ∙ ap (λ (n : ℕ). 42 + n) (all-count t (k .one-size) (k .most)) in
+      let l = ap length (k .all) ∙ table-length t (lentSize t) ∙ ap (λ (n : ℕ). fixedRows + n) (all-count t (k .one-size) (k .most)) in
       (l, omega (arith, l, k .most))
 
   -- the seconds of lent row i, counted from 0, are within i + 1 of 37

@@ -11,13 +11,13 @@ use lib.ListN.{length, getD, drop, length-append, length-map, length-drop, List�
 use lib.Seq.{getD-at, drop-append-le}
 use borrow.Author.Tests.{ltb-true, ltb-false, le-ltb, leb-true, leb-false}
 use Rattle.lent_rows.specs.declared.LentRows.{LentRows}
-use Rattle.lent_rows.specs.Table.{Row, fixed, none, starts, reached, inTurn, rising}
+use Rattle.lent_rows.specs.Table.{Row, fixed, none, starts, reached, inTurn, rising, fixedRows, lastMonth}
 use Rattle.lent_rows.specs.Lent.{secondsAt, lentRow, rowsTo, least, lentSize, rowsOf, oneApart, oneSecond, bySeconds}
 use Rattle.lent_rows.proofs.Reached.{at-most, last-has-begun, last-has-not}
 use Rattle.lent_rows.proofs.Rows.{drifts}
 use Rattle.lent_rows.proofs.InTurn.{lastOf, last-of-more, one-more}
 
-fixed-length : length fixed ≡ 42
+fixed-length : length fixed ≡ fixedRows
 unfolding fixed
 fixed-length = refl
 
@@ -37,12 +37,12 @@ least-right a b = go (leb a b) refl
     go false e = omega arith
 
 module _ (t : LentRows) where
-  pub table-length : (n : ℕ) → length (rowsTo t n) ≡ 42 + n
+  pub table-length : (n : ℕ) → length (rowsTo t n) ≡ fixedRows + n
   unfolding rowsTo
   table-length zero = fixed-length
   table-length (suc n) = length-append (rowsTo t n) (lentRow t n ∷ []) ∙ go (length (rowsTo t n)) (table-length n)
     where
-      go : (k : ℕ) → k ≡ 42 + n → k + 1 ≡ 42 + suc n
+      go : (k : ℕ) → k ≡ fixedRows + n → k + 1 ≡ fixedRows + suc n
       go k e = omega arith
 
   pub at-most-16 : lentSize t ≤ 16
@@ -50,12 +50,12 @@ module _ (t : LentRows) where
   at-most-16 = least-right (least (t .«months_size») (t .«seconds_size»)) 16
 
   -- ---- the rows by their places
-  pub fixed-place : (n k : ℕ) → k < 42 → getD (rowsTo t n) k none ≡ getD fixed k none
+  pub fixed-place : (n k : ℕ) → k < fixedRows → getD (rowsTo t n) k none ≡ getD fixed k none
   unfolding rowsTo
   fixed-place zero k h = refl
   fixed-place (suc n) k h = List·getD-append (rowsTo t n) (lentRow t n ∷ []) none k (omega (arith, table-length n)) ∙ fixed-place n k h
 
-  pub lent-place : (n k : ℕ) → k < n → getD (rowsTo t n) (42 + k) none ≡ lentRow t k
+  pub lent-place : (n k : ℕ) → k < n → getD (rowsTo t n) (fixedRows + k) none ≡ lentRow t k
   unfolding rowsTo
   lent-place zero k h = absurd (not-suc-le-zero h)
   lent-place (suc n) k h = go (ltb k n) refl (λ g. lent-place n k g)
@@ -63,23 +63,23 @@ module _ (t : LentRows) where
       same : (a b : ℕ) → ltb a b ≡ false → a < suc b → a ≡ b
       same a b e g = omega (arith, ltb-false a b e)
 
-      go : (b : Bool) → ltb k n ≡ b → (k < n → getD (rowsTo t n) (42 + k) none ≡ lentRow t k) → getD (rowsTo t n ++ (lentRow t n ∷ [])) (42 + k) none ≡ lentRow t k
-      go true e more = List·getD-append (rowsTo t n) (lentRow t n ∷ []) none (42 + k) (omega (arith, table-length n, ltb-true k n e)) ∙ more (ltb-true k n e)
-      go false e more = getD-at (rowsTo t n) (lentRow t n) [] none (42 + k) (table-length n ∙ ap (λ (j : ℕ). 42 + j) (sym (same k n e h))) ∙ ap (lentRow t) (sym (same k n e h))
+      go : (b : Bool) → ltb k n ≡ b → (k < n → getD (rowsTo t n) (fixedRows + k) none ≡ lentRow t k) → getD (rowsTo t n ++ (lentRow t n ∷ [])) (fixedRows + k) none ≡ lentRow t k
+      go true e more = List·getD-append (rowsTo t n) (lentRow t n ∷ []) none (fixedRows + k) (omega (arith, table-length n, ltb-true k n e)) ∙ more (ltb-true k n e)
+      go false e more = getD-at (rowsTo t n) (lentRow t n) [] none (fixedRows + k) (table-length n ∙ ap (λ (j : ℕ). fixedRows + j) (sym (same k n e h))) ∙ ap (lentRow t) (sym (same k n e h))
 
   -- the rows of places 0 to 13 drift, and no other
-  pub table-drifts : (n k : ℕ) → k < 42 + n → eqb (getD (rowsTo t n) k none .rate) 0 ≡ not (ltb k 14)
-  table-drifts n k h = go (ltb k 42) refl
+  pub table-drifts : (n k : ℕ) → k < fixedRows + n → eqb (getD (rowsTo t n) k none .rate) 0 ≡ not (ltb k 14)
+  table-drifts n k h = go (ltb k fixedRows) refl
     where
-      back : (j : ℕ) → 42 ≤ j → 42 + (j - 42) ≡ j
+      back : (j : ℕ) → fixedRows ≤ j → fixedRows + (j - fixedRows) ≡ j
       back j g = omega arith
 
-      go : (b : Bool) → ltb k 42 ≡ b → eqb (getD (rowsTo t n) k none .rate) 0 ≡ not (ltb k 14)
-      go true e = ap (λ (r : Row). eqb (r .rate) 0) (fixed-place n k (ltb-true k 42 e)) ∙ drifts k (ltb-true k 42 e)
+      go : (b : Bool) → ltb k fixedRows ≡ b → eqb (getD (rowsTo t n) k none .rate) 0 ≡ not (ltb k 14)
+      go true e = ap (λ (r : Row). eqb (r .rate) 0) (fixed-place n k (ltb-true k fixedRows e)) ∙ drifts k (ltb-true k fixedRows e)
       go false e =
-          let g = ltb-false k 42 e in
+          let g = ltb-false k fixedRows e in
           ap (λ (j : ℕ). eqb (getD (rowsTo t n) j none .rate) 0) (sym (back k g))
-          ∙ ap (λ (r : Row). eqb (r .rate) 0) (lent-place n (k - 42) (omega arith))
+          ∙ ap (λ (r : Row). eqb (r .rate) 0) (lent-place n (k - fixedRows) (omega arith))
           ∙ sym (ap not (le-ltb k 14 (omega arith)))
 
   -- ---- the look-up from the end
@@ -87,15 +87,15 @@ module _ (t : LentRows) where
   unfolding rowsTo
   starts-more n = map-append (λ (r : Row). r .month) (rowsTo t n) (lentRow t n ∷ [])
 
-  pub starts-length : (n : ℕ) → length (starts (rowsTo t n)) ≡ 42 + n
+  pub starts-length : (n : ℕ) → length (starts (rowsTo t n)) ≡ fixedRows + n
   starts-length n = length-map (rowsTo t n) (λ (r : Row). r .month) ∙ table-length n
 
-  pub lent-found : (k n : ℕ) → lentRow t k .month ≤ n → reached (starts (rowsTo t (suc k))) n ≡ 42 + suc k
+  pub lent-found : (k n : ℕ) → lentRow t k .month ≤ n → reached (starts (rowsTo t (suc k))) n ≡ fixedRows + suc k
   lent-found k n h =
       ap (λ (l : List ℕ). reached l n) (starts-more k)
       ∙ last-has-begun (starts (rowsTo t k)) (lentRow t k .month) n h
       ∙ ap suc (starts-length k)
-      ∙ sym (add-suc 42 k)
+      ∙ sym (add-suc fixedRows k)
 
   pub lent-passed : (k n : ℕ) → n < lentRow t k .month → reached (starts (rowsTo t (suc k))) n ≡ reached (starts (rowsTo t k)) n
   lent-passed k n h =
@@ -112,15 +112,15 @@ module _ (t : LentRows) where
       go true e h = omega (arith, lent-found k n (leb-true (lentRow t k .month) n e), at-most (starts fixed) n, starts-length 0)
       go false e h = omega (arith, lent-passed k n (leb-false (lentRow t k .month) n e))
 
-  pub most-of-table : (k n : ℕ) → reached (starts (rowsTo t k)) n ≤ 42 + k
+  pub most-of-table : (k n : ℕ) → reached (starts (rowsTo t k)) n ≤ fixedRows + k
   most-of-table k n = omega (arith, at-most (starts (rowsTo t k)) n, starts-length k)
 
   -- ---- the tests, with one row more
   abbrev pub monthBefore : ℕ → ℕ
-  monthBefore zero = 24204
+  monthBefore zero = lastMonth
   monthBefore (suc n) = lentRow t n .month
 
-  last-month-fixed : lastOf 0 (starts (rowsTo t 0)) ≡ 24204
+  last-month-fixed : lastOf 0 (starts (rowsTo t 0)) ≡ lastMonth
   unfolding rowsTo fixed
   last-month-fixed = refl
 

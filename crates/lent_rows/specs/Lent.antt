@@ -12,7 +12,7 @@ use lib.Signed.{ltZ}
 use lib.ListN.{getD, drop}
 use Rattle.refusals.specs.Outcome.{Outcome, answer, refusal}
 use Rattle.lent_rows.specs.declared.LentRows.{LentRows}
-use Rattle.lent_rows.specs.Table.{Row, fixed, starts, inTurn, rising}
+use Rattle.lent_rows.specs.Table.{Row, fixed, starts, inTurn, rising, lastMonth}
 
 -- a number counted from 0; a negative one, which no accepted table has, counts as 0
 abbrev pub natural : ℤ → ℕ
@@ -79,7 +79,7 @@ before z l (suc i) = getD l i (pos 0)
 
 -- the month start of place i is later than the one before, that of the first later than January 2017
 abbrev pub laterAt : LentRows → ℕ → Bool
-laterAt t i = ltZ (before (pos 24204) (t .months) i) (getD (t .months) i (pos 0))
+laterAt t i = ltZ (before (pos lastMonth) (t .months) i) (getD (t .months) i (pos 0))
 
 -- the seconds of place i are one more or one less than those before, those of the first than 37
 abbrev pub OneStep : ℤ → ℤ → Type 0

@@ -21,6 +21,16 @@ monthOf y m = 12 * y + m - 1
 abbrev pub row : ℕ → ℕ → ℕ → ℕ → ℕ → Row
 row y m u s r = record { month = monthOf y m; units = u; start = s; rate = r }
 
+-- how many rows the table has, how many it has with sixteen lent ones, and the month of its last
+abbrev pub fixedRows : ℕ
+fixedRows = 42
+
+abbrev pub mostRows : ℕ
+mostRows = 58
+
+abbrev pub lastMonth : ℕ
+lastMonth = 24204
+
 -- the table: year, month, units, start, rate
 unfoldable pub fixed : List Row
 fixed =

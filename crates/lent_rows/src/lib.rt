@@ -25,6 +25,9 @@ pub struct LentRows {
     pub seconds: [i32; 16],
 }
 
+// How many rows the fixed table has.
+pub const FIXED_ROWS: u32 = 42;
+
 // How many rows a table has, or the number of the refusal.
 pub enum RowsAnswer {
     Rows(u32),
@@ -52,5 +55,5 @@ pub fn check_table(table: LentRows) -> RowsAnswer
     if number != 0 {
         return RowsAnswer::Refused(number);
     }
-    RowsAnswer::Rows(42 + table.months_size)
+    RowsAnswer::Rows(FIXED_ROWS + table.months_size)
 }

@@ -13,7 +13,7 @@ use Rattle.little_endian.specs.LittleEndian.{u64At}
 use Rattle.julian.specs.declared.JulianDate.{JulianDate}
 use Rattle.julian.specs.JulianDate.{julian}
 use Rattle.date_order.specs.Places.{hasPlace, isEarlier}
-use Rattle.line_up.specs.Runs.{acceptedIn, firstOr, tested, mark, pick, cursorAfter}
+use Rattle.line_up.specs.Runs.{acceptedIn, firstOr, tested, pick, cursorAfter}
 use Rattle.line_up.specs.LineUp.{stampOf, deadAt, soonerAt, eightEach, lineRefusal}
 
 pub stamp-is : (js ks : List ℕ) (i a b : ℕ) (x y : Float) → a ≡ u64At js (8 * i) → b ≡ u64At ks (8 * i) → x ≡ ofBits binary64 a → y ≡ ofBits binary64 b → julian x y ≡ stampOf js ks i
@@ -40,23 +40,6 @@ module _ (dead : ℕ → Bool) (number i : ℕ) where
   pub tested-refused : (number ≡ 0 → ⊥) → number ≡ tested dead number i
   unfolding tested
   tested-refused h = rw (ne-eqb number 0 h)
-
-module _ (lt : ℕ → ℕ → Bool) (number : ℕ) (any : Bool) (last i : ℕ) where
-  pub mark-turned : number ≡ 0 → any ≡ true → lt i last ≡ true → 17 ≡ mark lt number any last i
-  unfolding mark
-  mark-turned e f g = rw (eq-eqb number 0 e, f, g)
-
-  pub mark-kept : number ≡ 0 → any ≡ true → lt i last ≡ false → number ≡ mark lt number any last i
-  unfolding mark
-  mark-kept e f g = rw (eq-eqb number 0 e, f, g) e
-
-  pub mark-first : number ≡ 0 → any ≡ false → number ≡ mark lt number any last i
-  unfolding mark
-  mark-first e f = rw (eq-eqb number 0 e, f) e
-
-  pub mark-refused : (number ≡ 0 → ⊥) → number ≡ mark lt number any last i
-  unfolding mark
-  mark-refused h = rw (ne-eqb number 0 h)
 
 module _ (lt : ℕ → ℕ → Bool) (n x y : ℕ) where
   pub pick-x : n ≤ y → x ≡ pick lt n x y

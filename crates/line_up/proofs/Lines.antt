@@ -1,51 +1,73 @@
--- A run looks at its own numbers only, so that three runs are judged one after the other in one list. Assumes nothing.
-use Prim.Native.Nat.{ℕ, zero, suc, _+_, _-_, _<_, _≤_}
+-- A run looks at its own numbers only, so that three runs are judged one after the other in one list, and who comes to it with 0 is not dead. Assumes nothing.
+use Prim.Native.Nat.{ℕ, _+_, _-_, _*_, _/_, _<_, _≤_}
 use native.Mathlib.Omega.{arith}
-use mathlib.Core.Path.{_≡_, refl, sym, ap, _∙_, subst}
-use mathlib.Core.Bool.{Bool, true, false, cond, _&&_, _||_}
-use mathlib.Core.List.{List, [], _∷_, _++_, append-assoc, append-nil}
-use lib.Dec.{eqb, leb}
-use lib.ListN.{length, getD, take, drop, length-append, length-drop, drop-of-length-le}
-use lib.Seq.{take-at, drop-at, drop-drop, getD-drop, length-take-le}
-use lib.Ieee.{Float}
-use borrow.Author.Tests.{eq-eqb, ne-eqb, eqb-true, leb-true}
-use Rattle.refusals.specs.Outcome.{Outcome, answer, refusal}
-use Rattle.line_up.specs.declared.LineUpAnswer.the-variants as Answer
-use Rattle.line_up.specs.declared.LineUpAnswer.{LineUpAnswer}
-use Rattle.line_up.specs.Runs.{mark, marks, run, numbersAfter, ordered}
-use Rattle.line_up.specs.LineUp.{soonerAt, countOutcome, lineRefusal, LinedUp, result, lineWritten, putInLine, linedUp}
-use Rattle.line_up.specs.Asked.{Ranged, Mergeable, runTurned, Merged}
-use Rattle.line_up.proofs.Marks.{length-marks}
-use Rattle.line_up.proofs.Places.{after-length}
-
--- ---- a run looks at its own numbers only
+use native.Mathlib.Nat.{div-mul-le-self}
+use mathlib.Core.Path.{_≡_, refl, sym, ap, _∙_}
+use mathlib.Core.Bool.{Bool, true, false, cond}
+use mathlib.Core.List.{List, _++_}
+use lib.Dec.{ltb}
+use lib.ListN.{length, getD, drop}
+use lib.Seq.{drop-drop}
+use borrow.Author.Tests.{ltb-true, ltb-false}
+use Rattle.keep_most.proofs.Housing.{run-is, run-long, run-number}
+use Rattle.keep_dates.specs.Asked.{Alive, Lent}
+use Rattle.line_up.specs.Runs.{allTested, run}
+use Rattle.line_up.specs.LineUp.{deadAt, smaller, leastRoom}
+use Rattle.line_up.specs.Asked.{runTurned}
+use Rattle.line_up.proofs.Testing.{tested-length}
+use Rattle.line_up.proofs.Dead.{zero-sound}
 
 pub drop-later : (a b : ℕ) (l m : List ℕ) → a ≤ b → drop a l ≡ drop a m → drop b l ≡ drop b m
 drop-later a b l m h e =
     let k : b ≡ a + (b - a) = omega arith in
     ap (λ (j : ℕ). drop j l) k ∙ sym (drop-drop (b - a) a l) ∙ ap (drop (b - a)) e ∙ drop-drop (b - a) a m ∙ ap (λ (j : ℕ). drop j m) (sym k)
 
-same-at : (i : ℕ) (l m : List ℕ) → drop i l ≡ drop i m → getD l i 0 ≡ getD m i 0
-same-at i l m e =
-    let k : i + 0 ≡ i = omega arith in
-    ap (λ (j : ℕ). getD l j 0) (sym k) ∙ sym (getD-drop i l 0 0) ∙ ap (λ (x : List ℕ). getD x 0 0) e ∙ getD-drop i m 0 0 ∙ ap (λ (j : ℕ). getD m j 0) k
+-- four bytes for each of n places, where n is at most a quarter of the bytes
+pub four-each : (n room : ℕ) → n ≤ room / 4 → 4 * n ≤ room
+four-each n room h = omega (arith, h, div-mul-le-self room 4)
 
-marks-same : (lt : ℕ → ℕ → Bool) (l m : List ℕ) (any : Bool) (last i k : ℕ) → drop i l ≡ drop i m → marks lt l any last i k ≡ marks lt m any last i k
-unfolding marks
-marks-same lt l m any last i zero e = refl
-marks-same lt l m any last i (suc k) e =
-    rw (same-at i l m e)
-    (ap (λ (x : List ℕ). mark lt (getD m i 0) any last i ∷ x)
-    (marks-same lt l m (any || eqb (mark lt (getD m i 0) any last i) 0) (cond (eqb (mark lt (getD m i 0) any last i) 0) i last) (suc i) k (drop-later i (suc i) l m (omega arith) e)))
+smaller-by : (c : Bool) (n a b : ℕ) → ltb a b ≡ c → n ≤ cond c a b / 4 → (4 * n ≤ a) × (4 * n ≤ b)
+smaller-by true n a b e h = let k : a < b = ltb-true a b e in let m = four-each n a h in (m, omega (arith, m))
+smaller-by false n a b e h = let k : b ≤ a = ltb-false a b e in let m = four-each n b h in (omega (arith, m), m)
 
-module _ (lt : ℕ → ℕ → Bool) (ns P : List ℕ) (from to : ℕ) (ft : from ≤ to) (len : length P ≡ from) where
+four-smaller : (c : Bool) (n a b : ℕ) → ltb a b ≡ c → 4 * n ≤ cond c a b → (4 * n ≤ a) × (4 * n ≤ b)
+four-smaller true n a b e h = let k : a < b = ltb-true a b e in (h, omega arith)
+four-smaller false n a b e h = let k : b ≤ a = ltb-false a b e in (omega arith, h)
+
+-- the room of each area
+pub record Rooms (n out tails ranks : ℕ) : Type 0 where
+  pub outRoom : 4 * n ≤ out
+  pub tailRoom : 4 * n ≤ tails
+  pub rankRoom : 4 * n ≤ ranks
+
+pub rooms : (n out tails ranks : ℕ) → n ≤ leastRoom out tails ranks / 4 → Rooms n out tails ranks
+rooms n out tails ranks h =
+    let x = smaller-by (ltb out (smaller tails ranks)) n out (smaller tails ranks) refl h in
+    let y = four-smaller (ltb tails ranks) n tails ranks refl (x .1) in
+    record { outRoom = x .0; tailRoom = y .0; rankRoom = y .1 }
+
+module _ (lt : ℕ → ℕ → Bool) (ns P : List ℕ) (from to : ℕ) (ft : from ≤ to) (tn : to ≤ length ns) (len : length P ≡ from) where
   pub runTurned-is : (N : List ℕ) → N ≡ P ++ drop from ns → runTurned lt N from to ≡ (P ++ run lt ns from to) ++ drop to ns
-  runTurned-is N e =
-      let t : take from N ≡ P = ap (take from) e ∙ take-at P (drop from ns) from len in
-      let d : drop from N ≡ drop from ns = ap (drop from) e ∙ drop-at P (drop from ns) from len in
-      let r : run lt N from to ≡ run lt ns from to = marks-same lt N ns false 0 from (to - from) d in
-      let q : drop to N ≡ drop to ns = drop-later from to N ns ft d in
-      rw (t, r, q) (sym (append-assoc P (run lt ns from to) (drop to ns)))
+  runTurned-is N e = run-is lt ns P from to ft tn len N e
 
   pub runTurned-length : length (P ++ run lt ns from to) ≡ to
-  runTurned-length = length-append P (run lt ns from to) ∙ rw (len, length-marks lt ns false 0 from (to - from)) (omega arith)
+  runTurned-length = run-long lt ns P from to ft tn len (P ++ drop from ns) refl
+
+-- what a run is lent, where the runs before it left P and the dead are turned away
+module _ (js ks come N0 P N : List ℕ) (from to : ℕ) (lt : ℕ → ℕ → Bool) (e0 : N0 ≡ allTested (deadAt js ks) 0 come) (ft : from ≤ to) (tn : to ≤ length N0) (len : length P ≡ from) (e : N ≡ P ++ drop from N0)
+    (long : length N ≡ length N0) (few : length N0 ≤ 4294967295) where
+  pub run-alive : Alive js ks N from to
+  run-alive p h k z =
+      let m : getD N0 p 0 ≡ 0 = sym (run-number lt N0 P from to ft tn len N e p 0 h) ∙ z in
+      let q : p < length come = omega (arith, ap length e0, tested-length (deadAt js ks) 0 come) in
+      zero-sound (deadAt js ks) come p q (ap (λ (l : List ℕ). getD l p 0) (sym e0) ∙ m) .1
+
+  pub run-lent : (tails ranks : List ℕ) (out : ℕ) → Rooms (length N0) out (length tails) (length ranks) → Lent js ks N from to tails ranks
+  run-lent tails ranks out r = record {
+    low = ft;
+    high = omega (arith, long);
+    small = omega arith;
+    tailRoom = omega (arith, r .tailRoom);
+    rankRoom = omega (arith, r .rankRoom);
+    alive = run-alive;
+  }

@@ -7,10 +7,10 @@ use mathlib.Core.List.{List, [], _∷_, _++_, append-assoc}
 use lib.Dec.{eqb}
 use lib.ListN.{length, getD, take, drop, length-append, List·getD-eq-default}
 use lib.Seq.{slice, length-slice, take-length, take-all, take-at, drop-at, drop-append-add, take-append-add}
-use Rattle.line_up.specs.Runs.{marks, run, numbersAfter, zeros, acceptedIn, merge, merged, ordered, timesIn, Rising}
+use Rattle.line_up.specs.Runs.{run, numbersAfter, zeros, acceptedIn, merge, merged, ordered, timesIn, Rising}
 use Rattle.line_up.proofs.Merges.{Under, From, under-more, under-merge, timesIn-merge, length-merge, rising-merge}
 use Rattle.line_up.proofs.Zeros.{zeros-from, zeros-under, length-zeros, timesIn-zeros, timesIn-append, zeros-append, slice-split}
-use Rattle.line_up.proofs.Marks.{length-marks, marks-rise}
+use Rattle.line_up.proofs.Marks.{length-run, run-rises}
 
 -- ---- every place once
 
@@ -53,24 +53,33 @@ module _ (lt : ℕ → ℕ → Bool) (ms : List ℕ) (a b : ℕ) (ab : a ≤ b) 
 -- ---- rising
 
 -- the three runs are the parts of the numbers
-module _ (lt : ℕ → ℕ → Bool) (ns : List ℕ) (a b n : ℕ) (ab : a ≤ b) (bn : b ≤ n) where
+module _ (lt : ℕ → ℕ → Bool) (ns : List ℕ) (a b n : ℕ) (ab : a ≤ b) (bn : b ≤ n) (nl : n ≤ length ns) where
+  long-1 : length (run lt ns 0 a) ≡ a - 0
+  long-1 = length-run lt ns 0 a (omega arith)
+
+  long-2 : length (run lt ns a b) ≡ b - a
+  long-2 = length-run lt ns a b (omega arith)
+
+  long-3 : length (run lt ns b n) ≡ n - b
+  long-3 = length-run lt ns b n nl
+
   pub after-length : length (numbersAfter lt ns a b n) ≡ n
   unfolding numbersAfter
-  after-length = rw (length-append (run lt ns 0 a) (run lt ns a b ++ run lt ns b n), length-append (run lt ns a b) (run lt ns b n), length-marks lt ns false 0 0 (a - 0), length-marks lt ns false 0 a (b - a), length-marks lt ns false 0 b (n - b)) (omega arith)
+  after-length = rw (length-append (run lt ns 0 a) (run lt ns a b ++ run lt ns b n), length-append (run lt ns a b) (run lt ns b n), long-1, long-2, long-3) (omega arith)
 
   pub first-run : slice 0 a (numbersAfter lt ns a b n) ≡ run lt ns 0 a
   unfolding numbersAfter
-  first-run = take-at (run lt ns 0 a) (run lt ns a b ++ run lt ns b n) a (length-marks lt ns false 0 0 (a - 0) ∙ (let e : a - 0 ≡ a = omega arith in e))
+  first-run = take-at (run lt ns 0 a) (run lt ns a b ++ run lt ns b n) a (long-1 ∙ (let e : a - 0 ≡ a = omega arith in e))
 
   two-length : length (run lt ns 0 a ++ run lt ns a b) ≡ b
-  two-length = rw (length-append (run lt ns 0 a) (run lt ns a b), length-marks lt ns false 0 0 (a - 0), length-marks lt ns false 0 a (b - a)) (omega arith)
+  two-length = rw (length-append (run lt ns 0 a) (run lt ns a b), long-1, long-2) (omega arith)
 
   pub second-run : slice a b (numbersAfter lt ns a b n) ≡ run lt ns a b
   unfolding numbersAfter
   second-run =
       ap (λ (l : List ℕ). drop a (take b l)) (sym (append-assoc (run lt ns 0 a) (run lt ns a b) (run lt ns b n)))
       ∙ ap (drop a) (take-at (run lt ns 0 a ++ run lt ns a b) (run lt ns b n) b two-length)
-      ∙ drop-at (run lt ns 0 a) (run lt ns a b) a (length-marks lt ns false 0 0 (a - 0) ∙ (let e : a - 0 ≡ a = omega arith in e))
+      ∙ drop-at (run lt ns 0 a) (run lt ns a b) a (long-1 ∙ (let e : a - 0 ≡ a = omega arith in e))
 
   pub third-run : slice b n (numbersAfter lt ns a b n) ≡ run lt ns b n
   unfolding numbersAfter
@@ -91,11 +100,11 @@ module _ (lt : ℕ → ℕ → Bool) (ns : List ℕ) (a b n : ℕ) (ab : a ≤ b
         rw (first-run, second-run, third-run)
         (rising-merge lt anti b (merge lt (zeros 0 (run lt ns 0 a)) (zeros a (run lt ns a b))) (zeros b (run lt ns b n))
         (under-merge lt b (zeros 0 (run lt ns 0 a)) (zeros a (run lt ns a b))
-        (zeros-under 0 b (run lt ns 0 a) (omega (arith, length-marks lt ns false 0 0 (a - 0))))
-        (zeros-under a b (run lt ns a b) (omega (arith, length-marks lt ns false 0 a (b - a)))))
+        (zeros-under 0 b (run lt ns 0 a) (omega (arith, long-1)))
+        (zeros-under a b (run lt ns a b) (omega (arith, long-2))))
         (zeros-from b (run lt ns b n))
         (rising-merge lt anti a (zeros 0 (run lt ns 0 a)) (zeros a (run lt ns a b))
-        (zeros-under 0 a (run lt ns 0 a) (omega (arith, length-marks lt ns false 0 0 (a - 0))))
+        (zeros-under 0 a (run lt ns 0 a) (omega (arith, long-1)))
         (zeros-from a (run lt ns a b))
-        (marks-rise lt ns 0 (a - 0)) (marks-rise lt ns a (b - a)))
-        (marks-rise lt ns b (n - b)))
+        (run-rises lt ns 0 a) (run-rises lt ns a b))
+        (run-rises lt ns b n))

@@ -3,18 +3,14 @@ use Prim.Native.Nat.{ℕ, _≤_, _<_, _*_, _+_}
 use mathlib.Core.Path.{_≡_}
 use mathlib.Core.List.{List, _++_}
 use mathlib.Core.Bool.{Bool}
-use lib.ListN.{length, take, drop}
-use Rattle.line_up.specs.Runs.{run, ordered}
+use lib.ListN.{length, drop}
+use Rattle.keep_most.specs.Piles.{runKept}
+use Rattle.line_up.specs.Runs.{ordered}
 use Rattle.line_up.specs.LineUp.{placesBytes}
 
 pub record BothPlaces (i j : ℕ) : Type 0 where
   pub one : i ≤ 4294967295
   pub two : j ≤ 4294967295
-
-pub record Ranged (ns : List ℕ) (from to : ℕ) : Type 0 where
-  pub low : from ≤ to
-  pub high : to ≤ length ns
-  pub small : length ns ≤ 4294967295
 
 pub record Mergeable (ns : List ℕ) (first second : ℕ) (out : List ℕ) : Type 0 where
   pub low : first ≤ second
@@ -28,4 +24,4 @@ pub record Merged (lt : ℕ → ℕ → Bool) (ns : List ℕ) (first second : �
 
 -- the run's numbers are put in the place of the old ones
 abbrev pub runTurned : (ℕ → ℕ → Bool) → List ℕ → ℕ → ℕ → List ℕ
-runTurned lt ns from to = take from ns ++ (run lt ns from to ++ drop to ns)
+runTurned lt ns from to = runKept lt ns from to

@@ -4,7 +4,7 @@
 use Prim.Native.Nat.{ℕ, _+_, _-_, _*_, _/_, _%_}
 use mathlib.Core.Bool.{Bool, true, false, cond, not, _&&_}
 use mathlib.Core.List.{List, [], _∷_, _++_}
-use lib.Dec.{eqb, leb}
+use lib.Dec.{eqb, leb, ltb}
 use lib.ListN.{length, drop}
 use lib.Ieee.{ofBits, binary64}
 use Rattle.refusals.specs.Outcome.{Outcome, answer, refusal}
@@ -12,21 +12,10 @@ use Rattle.little_endian.specs.LittleEndian.{fourBytes, u64At}
 use Rattle.julian.specs.declared.JulianDate.{JulianDate}
 use Rattle.julian.specs.JulianDate.{julian}
 use Rattle.date_order.specs.Places.{hasPlace, isEarlier}
+unfoldable pub use Rattle.keep_dates.specs.Stamps.{stampOf, deadAt, soonerAt}
 use Rattle.line_up.specs.declared.LineUpAnswer.the-variants as Answer
 use Rattle.line_up.specs.declared.LineUpAnswer.{LineUpAnswer}
 use Rattle.line_up.specs.Runs.{allTested, numbersAfter, ordered}
-
--- the stamp at place i: eight bytes of each part
-unfoldable pub stampOf : List ℕ → List ℕ → ℕ → JulianDate
-stampOf js ks i = julian (ofBits binary64 (u64At js (8 * i))) (ofBits binary64 (u64At ks (8 * i)))
-
--- it has no place in the order, as where a part is not finite
-unfoldable pub deadAt : List ℕ → List ℕ → ℕ → Bool
-deadAt js ks i = not (hasPlace (stampOf js ks i))
-
--- the stamp at place i comes before that at j
-unfoldable pub soonerAt : List ℕ → List ℕ → ℕ → ℕ → Bool
-soonerAt js ks i j = isEarlier (stampOf js ks i) (stampOf js ks j)
 
 -- a place in four bytes
 unfoldable pub placesBytes : List ℕ → List ℕ
@@ -66,8 +55,16 @@ lineWritten ms places out = record { answer = Outcome.answer (length places); nu
 unfoldable pub putInLine : (ℕ → ℕ → Bool) → List ℕ → ℕ → ℕ → List ℕ → LinedUp
 putInLine lt ns a b out = lineWritten (numbersAfter lt ns a b (length ns)) (ordered lt (numbersAfter lt ns a b (length ns)) a b (length ns)) out
 
-unfoldable pub linedUp : List ℕ → List ℕ → List ℕ → ℕ → ℕ → List ℕ → LinedUp
-linedUp js ks ns first second out =
-    cond (eqb (lineRefusal (length js) (length ks) (length ns) first second (length out)) 0)
+abbrev pub smaller : ℕ → ℕ → ℕ
+smaller a b = cond (ltb a b) a b
+
+-- the bytes of the least of the places and the two work areas
+abbrev pub leastRoom : ℕ → ℕ → ℕ → ℕ
+leastRoom out tails ranks = smaller out (smaller tails ranks)
+
+-- with work areas of so many bytes
+unfoldable pub linedUp : List ℕ → List ℕ → List ℕ → ℕ → ℕ → List ℕ → ℕ → ℕ → LinedUp
+linedUp js ks ns first second out tails ranks =
+    cond (eqb (lineRefusal (length js) (length ks) (length ns) first second (leastRoom (length out) tails ranks)) 0)
     (putInLine (soonerAt js ks) (allTested (deadAt js ks) 0 ns) first (first + second) out)
-    (record { answer = refusal (lineRefusal (length js) (length ks) (length ns) first second (length out)); numbers = ns; out = out })
+    (record { answer = refusal (lineRefusal (length js) (length ks) (length ns) first second (leastRoom (length out) tails ranks)); numbers = ns; out = out })

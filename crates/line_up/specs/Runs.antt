@@ -1,12 +1,13 @@
 -- Runs of stamps as lists of places: which stamps of a run are accepted, and how the accepted places of three runs are merged. `lt x y` says that the stamp at
 -- place x is earlier than that at y. Assumes nothing.
-use Prim.Native.Nat.{ℕ, zero, suc, _+_, _-_, _<_}
+use Prim.Native.Nat.{ℕ, zero, suc, _+_, _<_}
 use mathlib.Core.Path.{_≡_}
 use mathlib.Core.Bool.{Bool, true, false, cond, _&&_, _||_}
 use mathlib.Core.List.{List, [], _∷_, _++_}
 use lib.Dec.{eqb, ltb}
 use lib.ListN.{getD, length}
 use lib.Seq.{slice}
+unfoldable pub use Rattle.keep_most.specs.Piles.{zeros, mostKept}
 
 -- ---- who is dead
 
@@ -21,31 +22,15 @@ allTested dead i (n ∷ ns) = tested dead n i ∷ allTested dead (suc i) ns
 
 -- ---- who is turned away
 
--- the number of the stamp at place i: its own if it is refused already; 17 if it is earlier than the last accepted stamp of its run; else 0
-unfoldable pub mark : (ℕ → ℕ → Bool) → ℕ → Bool → ℕ → ℕ → ℕ
-mark lt number any last i = cond (eqb number 0) (cond (any && lt i last) 17 0) number
-
--- the numbers of the `count` stamps of a run from place i on; `any` says that one was accepted before, and `last` is the last such
-unfoldable pub marks : (ℕ → ℕ → Bool) → List ℕ → Bool → ℕ → ℕ → ℕ → List ℕ
-marks lt ns any last i zero = []
-marks lt ns any last i (suc timesIn) =
-    mark lt (getD ns i 0) any last i
-    ∷ marks lt ns (any || eqb (mark lt (getD ns i 0) any last i) 0) (cond (eqb (mark lt (getD ns i 0) any last i) 0) i last) (suc i) timesIn
-
--- the numbers of the run from place `from` up to `to`
+-- the numbers of the run from place `from` up to `to`: the most that rise keep 0
 abbrev pub run : (ℕ → ℕ → Bool) → List ℕ → ℕ → ℕ → List ℕ
-run lt ns from to = marks lt ns false 0 from (to - from)
+run lt ns from to = mostKept lt from (slice from to ns)
 
 -- the numbers of three runs, which end at places a, b and n
 unfoldable pub numbersAfter : (ℕ → ℕ → Bool) → List ℕ → ℕ → ℕ → ℕ → List ℕ
 numbersAfter lt ns a b n = run lt ns 0 a ++ (run lt ns a b ++ run lt ns b n)
 
 -- ---- the order
-
--- the places of the numbers that are 0, where the first stands at place i
-unfoldable pub zeros : ℕ → List ℕ → List ℕ
-zeros i [] = []
-zeros i (m ∷ ms) = cond (eqb m 0) (i ∷ zeros (suc i) ms) (zeros (suc i) ms)
 
 -- the places from `from` up to `to` that are accepted
 abbrev pub acceptedIn : List ℕ → ℕ → ℕ → List ℕ

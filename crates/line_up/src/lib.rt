@@ -1,7 +1,5 @@
 // Lining up: one order of the stamps of up to three recorders by their exact sums, in TAI. The parts of the stamps and the places are bytes, the lowest first.
 ghost use mathlib.Core.Path.{_≡_};
-ghost use mathlib.Core.Bool.{_||_, cond};
-ghost use lib.Dec.{eqb};
 ghost use lib.ListN.{length};
 ghost use lib.Seq.{sets};
 ghost use Prim.Native.Nat.{_≤_, _<_, _+_};
@@ -62,53 +60,6 @@ fn sooner_at(jd1s: &[u8], jd2s: &[u8], i: usize, j: usize) -> bool
     let a = stamp_of(jd1s, jd2s, i);
     let b = stamp_of(jd1s, jd2s, j);
     date_order::is_earlier(a, b)
-}
-
-// The number of the stamp at place i: 17 if it is earlier than the last accepted one of its run.
-fn mark(jd1s: &[u8], jd2s: &[u8], number: u8, any: bool, last: usize, i: usize) -> u8
-    requires { ⌜ N.BothPlaces i last ⌝ }
-    ensures { λ r. ⌜ r ≡ R.mark (U.soonerAt (now (jd1s .entry)) (now (jd2s .entry))) number any last i ⌝ }
-{
-    if number == 0 {
-        if any {
-            if sooner_at(jd1s, jd2s, i, last) {
-                return 17;
-            }
-        }
-    }
-    number
-}
-
-fn one_more(any: bool, m: u8) -> bool
-    ensures { λ r. ⌜ r ≡ (any || eqb m 0) ⌝ }
-{
-    any || m == 0
-}
-
-fn last_of(m: u8, i: usize, last: usize) -> usize
-    ensures { λ r. ⌜ r ≡ cond (eqb m 0) i last ⌝ }
-{
-    if m == 0 {
-        return i;
-    }
-    last
-}
-
-// Turns away each stamp of a run that is earlier than the last accepted one before it.
-fn turn_away(jd1s: &[u8], jd2s: &[u8], numbers: &mut [u8], from: usize, to: usize)
-    requires { ⌜ N.Ranged (now numbers) from to ⌝ }
-    ensures { λ _. ⌜ now (numbers .exit) ≡ N.runTurned (U.soonerAt (now (jd1s .entry)) (now (jd2s .entry))) (now (numbers .entry)) from to ⌝ }
-{
-    let mut any = false;
-    let mut last: usize = 0;
-    let mut i = from;
-    while i < to {
-        let m = mark(jd1s, jd2s, numbers[i], any, last, i);
-        numbers[i] = m;
-        any = one_more(any, m);
-        last = last_of(m, i, last);
-        i += 1;
-    }
 }
 
 // The first accepted place from `from` up to `to`, or the length.
@@ -213,6 +164,15 @@ fn eight_each(size: usize, n: usize) -> bool
     size / 8 == n
 }
 
+fn smaller(a: usize, b: usize) -> usize
+    ensures { λ r. ⌜ r ≡ U.smaller a b ⌝ }
+{
+    if a < b {
+        return a;
+    }
+    b
+}
+
 // The refusal of the sizes, or 0.
 fn line_refusal(
     size1: usize,
@@ -252,9 +212,9 @@ fn line_refusal(
 }
 
 // The places of the accepted stamps (number 0) in the order of their exact sums, four bytes each in `out`; ties by run and then by place. The runs stand one after the
-// other, the third is what is left. A stamp that comes in with number 0 and is dead gets number 9, one that is earlier than an accepted one before it in its run 17.
+// other, the third is what is left. A stamp that comes in with number 0 and is dead gets number 9; of the others of a run the most that rise stay at 0, and the rest get 17.
 // Refusals in order: 14 a length of parts that is no multiple of eight, 12 not as many parts as numbers, 14 counts past the length, 13 more stamps than a place of four
-// bytes can number, 11 fewer than four bytes for each stamp; a refused call writes nothing.
+// bytes can number, 11 fewer than four bytes for each stamp in `out` or in a work area; a refused call writes nothing.
 pub fn line_up(
     jd1s: &[u8],
     jd2s: &[u8],
@@ -262,19 +222,23 @@ pub fn line_up(
     first: usize,
     second: usize,
     out: &mut [u8],
+    tails: &mut [u8],
+    ranks: &mut [u8],
 ) -> LineUpAnswer
-    ensures { λ r. ⌜ U.result r (now (numbers .exit)) (now (out .exit)) ≡ U.linedUp (now (jd1s .entry)) (now (jd2s .entry)) (now (numbers .entry)) first second (now (out .entry)) ⌝ }
+    ensures { λ r. ⌜ U.result r (now (numbers .exit)) (now (out .exit)) ≡ U.linedUp (now (jd1s .entry)) (now (jd2s .entry)) (now (numbers .entry)) first second (now (out .entry)) (length (now (tails .entry))) (length (now (ranks .entry))) ⌝ }
 {
     let n = numbers.len();
-    let number = line_refusal(jd1s.len(), jd2s.len(), n, first, second, out.len());
+    let work = smaller(tails.len(), ranks.len());
+    let room = smaller(out.len(), work);
+    let number = line_refusal(jd1s.len(), jd2s.len(), n, first, second, room);
     if number != 0 {
         return LineUpAnswer::Refused(number);
     }
     let rest = first + second;
     turn_dead_away(jd1s, jd2s, numbers);
-    turn_away(jd1s, jd2s, numbers, 0, first);
-    turn_away(jd1s, jd2s, numbers, first, rest);
-    turn_away(jd1s, jd2s, numbers, rest, n);
+    keep_dates::keep_most(jd1s, jd2s, numbers, 0, first, tails, ranks);
+    keep_dates::keep_most(jd1s, jd2s, numbers, first, rest, tails, ranks);
+    keep_dates::keep_most(jd1s, jd2s, numbers, rest, n, tails, ranks);
     let many = merge(jd1s, jd2s, numbers, first, rest, out) as u32;
     LineUpAnswer::Ordered(many)
 }

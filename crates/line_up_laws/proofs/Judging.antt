@@ -2,64 +2,22 @@
 use Prim.Native.Nat.{ℕ, zero, suc, _+_, _-_, _<_, _≤_}
 use native.Mathlib.Omega.{arith}
 use mathlib.Core.Path.{_≡_, refl, sym, ap, _∙_, subst}
-use mathlib.Core.Bool.{Bool, true, false, cond, _&&_, _||_}
+use mathlib.Core.Bool.{Bool, true, false, cond}
 use mathlib.Core.Logic.{_⊎_, inl, inr}
 use mathlib.Core.List.{List, [], _∷_}
 use lib.Dec.{eqb}
 use lib.ListN.{length, getD}
-use lib.Seq.{slice, getD-drop, getD-take}
+use lib.Seq.{slice, length-slice, getD-drop, getD-take}
 use borrow.Author.Tests.{eq-eqb, eqb-true, eqb-false}
-use Rattle.line_up.specs.Runs.{mark, marks, run, zeros, timesIn, MayFollow}
-use Rattle.line_up_laws.specs.Claims.{Each, Pairs, Later, RunJudged, RightlyIn}
+use Rattle.keep_most.specs.Piles.{Order, Alive, Contradicted}
+use Rattle.keep_most.proofs.Theorems.{Judged, kept-judged}
+use Rattle.keep_most.proofs.Contradicted.{turned-contradicted}
+use Rattle.line_up.specs.Runs.{run, zeros, timesIn, MayFollow}
+use Rattle.line_up_laws.specs.Claims.{Each, Pairs, Contrary, RunJudged, RightlyIn}
 use Rattle.line_up.proofs.Zeros.{timesIn-zeros}
-use Rattle.line_up.proofs.Marks.{length-marks}
+use Rattle.line_up.proofs.Marks.{length-run}
 use Rattle.line_up_laws.proofs.Once.{any-default}
 use Rattle.line_up_laws.proofs.Pairwise.{member}
-
--- ---- along the fold
-
--- a place of Acc before p, which the stamp at p is earlier than
-record Reason (lt : ℕ → ℕ → Bool) (Acc : ℕ → Type 0) (p : ℕ) : Type 0 where
-  place : ℕ
-  acc : Acc place
-  high : place < p
-  sooner : lt p place ≡ true
-
-record Ruling (lt : ℕ → ℕ → Bool) (Acc : ℕ → Type 0) (p old new : ℕ) : Type 0 where
-  refused : (old ≡ 0 → ⊥) → new ≡ old
-  turned : old ≡ 0 → (new ≡ 0) ⊎ ((new ≡ 17) × Reason lt Acc p)
-
-module _ (lt : ℕ → ℕ → Bool) (ns : List ℕ) (Acc : ℕ → Type 0) where
-  here-by : (n last i : ℕ) (s any t : Bool) → eqb n 0 ≡ s → lt i last ≡ t → (any ≡ true → Acc last × (last < i)) → Ruling lt Acc i n (cond s (cond (any && t) 17 0) n)
-  here-by n last i true true true p q f =
-      record { refused = λ h. absurd (h (eqb-true n 0 p)); turned = λ _. inr (refl, record { place = last; acc = f refl .0; high = f refl .1; sooner = q }) }
-  here-by n last i true true false p q f = record { refused = λ h. absurd (h (eqb-true n 0 p)); turned = λ _. inl refl }
-  here-by n last i true false t p q f = record { refused = λ h. absurd (h (eqb-true n 0 p)); turned = λ _. inl refl }
-  here-by n last i false any t p q f = record { refused = λ _. refl; turned = λ e. absurd (eqb-false n 0 p e) }
-
-  here : (n last i : ℕ) (any : Bool) → (any ≡ true → Acc last × (last < i)) → Ruling lt Acc i n (mark lt n any last i)
-  unfolding mark
-  here n last i any f = here-by n last i (eqb n 0) any (lt i last) refl refl f
-
-  state : (t any : Bool) (last i : ℕ) → (t ≡ true → Acc i) → (any ≡ true → Acc last × (last < i)) → (any || t) ≡ true → Acc (cond t i last) × (cond t i last < suc i)
-  state true any last i g f e = (g refl, omega arith)
-  state false true last i g f e = (f refl .0, omega (arith, f refl .1))
-  state false false last i g f e = let z : _≡_ {A = ℕ} 0 1 = ap (λ (c : Bool). cond c 1 0) e in let w : ⊥ = omega arith in absurd w
-
-  judge : (k : ℕ) (any : Bool) (last i : ℕ) → (any ≡ true → Acc last × (last < i)) → ((j : ℕ) → j < k → getD (marks lt ns any last i k) j 0 ≡ 0 → Acc (i + j))
-      → (j : ℕ) → j < k → Ruling lt Acc (i + j) (getD ns (i + j) 0) (getD (marks lt ns any last i k) j 0)
-  unfolding marks
-  judge zero any last i f h j b = let z : ⊥ = omega arith in absurd z
-  judge (suc k) any last i f h zero b =
-      let e : i ≡ i + 0 = omega arith in
-      subst (λ (p : ℕ). Ruling lt Acc p (getD ns p 0) (mark lt (getD ns i 0) any last i)) e (here (getD ns i 0) last i any f)
-  judge (suc k) any last i f h (suc j) b =
-      let m = mark lt (getD ns i 0) any last i in
-      let e : suc i + j ≡ i + suc j = omega arith in
-      let g : eqb m 0 ≡ true → Acc i = λ q. let d : i + 0 ≡ i = omega arith in subst Acc d (h 0 (omega arith) (eqb-true m 0 q)) in
-      subst (λ (p : ℕ). Ruling lt Acc p (getD ns p 0) (getD (marks lt ns (any || eqb m 0) (cond (eqb m 0) i last) (suc i) k) j 0)) e
-      (judge k (any || eqb m 0) (cond (eqb m 0) i last) (suc i) (state (eqb m 0) any last i g f)
-      (λ j' b' q. let d : i + suc j' ≡ suc i + j' = omega arith in subst Acc d (h (suc j') (omega arith) q)) j (omega arith))
 
 -- ---- any two accepted places of a run
 
@@ -89,46 +47,101 @@ two-places R (m ∷ ms) i (suc x) (suc y) h a b p =
     let e : suc i + y ≡ i + suc y = omega arith in
     subst (λ (q : ℕ). R q (i + suc y)) d (subst (R (suc i + x)) e r)
 
+-- ---- which accepted place contradicts
+
+record Found (lt : ℕ → ℕ → Bool) (ms : List ℕ) (i p : ℕ) : Type 0 where
+  index : ℕ
+  high : index < length ms
+  in-line : getD ms index 0 ≡ 0
+  against : ((i + index < p) × (lt p (i + index) ≡ true)) ⊎ ((p < i + index) × (lt (i + index) p ≡ true))
+
+module _ (lt : ℕ → ℕ → Bool) (p : ℕ) where
+  found-more : (m i : ℕ) (ms : List ℕ) → Found lt ms (suc i) p → Found lt (m ∷ ms) i p
+  found-more m i ms f =
+      let e : suc i + f .index ≡ i + suc (f .index) = omega arith in
+      record {
+        index = suc (f .index);
+        high = omega (arith, f .high);
+        in-line = f .in-line;
+        against = subst (λ (q : ℕ). ((q < p) × (lt p q ≡ true)) ⊎ ((p < q) × (lt q p ≡ true))) e (f .against);
+      }
+
+  found-by : (c : Bool) (m i : ℕ) (ms : List ℕ) → eqb m 0 ≡ c → (Contradicted lt p (zeros (suc i) ms) → Found lt ms (suc i) p) → Contradicted lt p (cond c (i ∷ zeros (suc i) ms) (zeros (suc i) ms)) → Found lt (m ∷ ms) i p
+  found-by true m i ms e f (inl h) =
+      let d : i ≡ i + 0 = omega arith in
+      record { index = 0; high = omega arith; in-line = eqb-true m 0 e; against = subst (λ (q : ℕ). ((q < p) × (lt p q ≡ true)) ⊎ ((p < q) × (lt q p ≡ true))) d h }
+  found-by true m i ms e f (inr h) = found-more m i ms (f h)
+  found-by false m i ms e f h = found-more m i ms (f h)
+
+  found : (i : ℕ) (ms : List ℕ) → Contradicted lt p (zeros i ms) → Found lt ms i p
+  unfolding zeros
+  found i [] h = absurd h
+  found i (m ∷ ms) h = found-by (eqb m 0) m i ms refl (found (suc i) ms) h
+
 -- ---- a run in its block
 
-module _ (lt : ℕ → ℕ → Bool) (ns ms : List ℕ) (from to : ℕ) (ft : from ≤ to) (is : slice from to ms ≡ run lt ns from to) where
+module _ (lt : ℕ → ℕ → Bool) (ns ms : List ℕ) (from to : ℕ) (ft : from ≤ to) (tn : to ≤ length ns) (is : slice from to ms ≡ run lt ns from to) where
   at : (j : ℕ) → j < to - from → getD (run lt ns from to) j 0 ≡ getD ms (from + j) 0
   at j h = ap (λ (l : List ℕ). getD l j 0) (sym is) ∙ getD-drop from _ j 0 ∙ getD-take to ms (from + j) 0 (omega arith)
 
-  Acc : ℕ → Type 0
-  Acc q = (from ≤ q) × (getD ms q 0 ≡ 0)
+  was : (d j : ℕ) → j < to - from → getD (slice from to ns) j d ≡ getD ns (from + j) d
+  was d j h = getD-drop from _ j d ∙ getD-take to ns (from + j) d (omega arith)
 
-  later-of : (p : ℕ) → Reason lt Acc p → Later lt ms from p
-  unfolding Acc
-  later-of p r = record { place = r .place; low = r .acc .0; high = r .high; in-line = r .acc .1; sooner = r .sooner }
-
-  turned-by : (i : ℕ) → (getD ms i 0 ≡ 0) ⊎ ((getD ms i 0 ≡ 17) × Reason lt Acc i) → (getD ms i 0 ≡ 0) ⊎ ((getD ms i 0 ≡ 17) × Later lt ms from i)
-  turned-by i (inl e) = inl e
-  turned-by i (inr r) = inr (r .0, later-of i (r .1))
-
-  judged-of : (i : ℕ) → Ruling lt Acc i (getD ns i 0) (getD ms i 0) → RunJudged lt ns ms from i
-  judged-of i v = record { refused = v .refused; turned = λ e. turned-by i (v .turned e) }
-
-  pub judged : (i : ℕ) → from ≤ i → i < to → RunJudged lt ns ms from i
-  unfolding Acc
-  judged i h k =
-      let e : from + (i - from) ≡ i = omega arith in
-      let v = judge lt ns Acc (to - from) false 0 from (λ q. let z : _≡_ {A = ℕ} 0 1 = ap (λ (c : Bool). cond c 1 0) q in let w : ⊥ = omega arith in absurd w)
-      (λ j b q. (omega arith, sym (at j b) ∙ q)) (i - from) (omega arith) in
-      judged-of i (subst (λ (p : ℕ). Ruling lt Acc p (getD ns p 0) (getD ms p 0)) e (subst (Ruling lt Acc (from + (i - from)) (getD ns (from + (i - from)) 0)) (at (i - from) (omega arith)) v))
+  long : length (run lt ns from to) ≡ to - from
+  long = length-run lt ns from to tn
 
   zero-at : (i : ℕ) → from ≤ i → i < to → getD ms i 0 ≡ 0 → getD (run lt ns from to) (i - from) 1 ≡ 0
   zero-at i h k e =
       let d : from + (i - from) ≡ i = omega arith in
-      any-default (run lt ns from to) (i - from) 1 0 (omega (arith, length-marks lt ns false 0 from (to - from))) ∙ at (i - from) (omega arith) ∙ ap (λ (q : ℕ). getD ms q 0) d ∙ e
+      any-default (run lt ns from to) (i - from) 1 0 (omega (arith, long)) ∙ at (i - from) (omega arith) ∙ ap (λ (q : ℕ). getD ms q 0) d ∙ e
 
-  pub right : Pairs (MayFollow lt) (zeros from (run lt ns from to)) → (i : ℕ) → from ≤ i → i < to → RightlyIn lt ms from i
-  right ps i h k = record {
-    none = λ e l.
-        let f = two-places (MayFollow lt) (run lt ns from to) from (l .place - from) (i - from) (omega (arith, l .low, l .high)) (zero-at (l .place) (l .low) (omega (arith, l .high)) (l .in-line)) (zero-at i h k e) ps in
-        let d : from + (l .place - from) ≡ l .place = omega (arith, l .low) in
-        let g : from + (i - from) ≡ i = omega arith in
-        let q : lt i (l .place) ≡ false = ap (λ (x : ℕ). lt x (l .place)) (sym g) ∙ ap (lt (from + (i - from))) (sym d) ∙ f .late in
-        let z : _≡_ {A = ℕ} 0 1 = ap (λ (c : Bool). cond c 0 1) (sym (l .sooner) ∙ q) in
-        omega arith;
-  }
+  module _ (ok : ℕ → Type 0) (order : Order ok lt) (alive : Alive ok from (slice from to ns)) where
+    contrary-of : (i : ℕ) → Found lt (run lt ns from to) from i → Contrary lt ms from to i
+    contrary-of i f =
+        let h : f .index < to - from = omega (arith, f .high, long) in
+        record { place = from + f .index; low = omega arith; high = omega (arith, h); in-line = sym (at (f .index) h) ∙ f .in-line; against = f .against }
+
+    module _ (i : ℕ) (h : from ≤ i) (k : i < to) where
+      here : from + (i - from) ≡ i
+      here = omega arith
+
+      inside : i - from < to - from
+      inside = omega arith
+
+      now-is : getD (run lt ns from to) (i - from) 0 ≡ getD ms i 0
+      now-is = at (i - from) inside ∙ ap (λ (q : ℕ). getD ms q 0) here
+
+      was-is : (d : ℕ) → getD (slice from to ns) (i - from) d ≡ getD ns i d
+      was-is d = was d (i - from) inside ∙ ap (λ (q : ℕ). getD ns q d) here
+
+      ruling : Judged (getD (slice from to ns) (i - from) 0) (getD (run lt ns from to) (i - from) 0)
+      ruling = kept-judged lt from (slice from to ns) (i - from) (omega (arith, length-slice from to ns tn))
+
+      turned-by : getD ns i 0 ≡ 0 → (getD (run lt ns from to) (i - from) 0 ≡ 0) ⊎ (getD (run lt ns from to) (i - from) 0 ≡ 17) → (getD ms i 0 ≡ 0) ⊎ ((getD ms i 0 ≡ 17) × Contrary lt ms from to i)
+      turned-by e (inl q) = inl (sym now-is ∙ q)
+      turned-by e (inr q) =
+          let z : getD (slice from to ns) (i - from) 1 ≡ 0 = any-default (slice from to ns) (i - from) 1 0 (omega (arith, length-slice from to ns tn)) ∙ was-is 0 ∙ e in
+          let no : getD (run lt ns from to) (i - from) 0 ≡ 0 → ⊥ = λ y. omega (arith, y, q) in
+          inr (sym now-is ∙ q, contrary-of i (found lt i from (run lt ns from to) (turned-contradicted ok lt order from (slice from to ns) alive i h z no)))
+
+      pub judged : RunJudged lt ns ms from to i
+      judged = record {
+        refused = λ n. sym now-is ∙ ruling .refused (λ z. n (sym (was-is 0) ∙ z)) ∙ was-is 0;
+        turned = λ e. turned-by e (ruling .accepted (was-is 0 ∙ e));
+      }
+
+  no-two : (x y : ℕ) → from ≤ x → x < y → y < to → Pairs (MayFollow lt) (zeros from (run lt ns from to)) → getD ms x 0 ≡ 0 → getD ms y 0 ≡ 0 → lt y x ≡ true → ⊥
+  no-two x y h m k ps ex ey t =
+      let f = two-places (MayFollow lt) (run lt ns from to) from (x - from) (y - from) (omega arith) (zero-at x h (omega arith) ex) (zero-at y (omega arith) k ey) ps in
+      let d : from + (x - from) ≡ x = omega arith in
+      let g : from + (y - from) ≡ y = omega arith in
+      let q : lt y x ≡ false = ap (λ (z : ℕ). lt z x) (sym g) ∙ ap (lt (from + (y - from))) (sym d) ∙ f .late in
+      let z : _≡_ {A = ℕ} 0 1 = ap (λ (c : Bool). cond c 0 1) (sym t ∙ q) in
+      omega arith
+
+  none-by : (i : ℕ) → from ≤ i → i < to → Pairs (MayFollow lt) (zeros from (run lt ns from to)) → getD ms i 0 ≡ 0 → (q : ℕ) → from ≤ q → q < to → getD ms q 0 ≡ 0 → ((q < i) × (lt i q ≡ true)) ⊎ ((i < q) × (lt q i ≡ true)) → ⊥
+  none-by i h k ps e q a b z (inl t) = no-two q i a (t .0) k ps z e (t .1)
+  none-by i h k ps e q a b z (inr t) = no-two i q h (t .0) b ps e z (t .1)
+
+  pub right : Pairs (MayFollow lt) (zeros from (run lt ns from to)) → (i : ℕ) → from ≤ i → i < to → RightlyIn lt ms from to i
+  right ps i h k = record { none = λ e l. none-by i h k ps e (l .place) (l .low) (l .high) (l .in-line) (l .against) }

@@ -7,7 +7,7 @@ use mathlib.Core.List.{List, [], _∷_}
 use lib.Dec.{eqb}
 use lib.ListN.{getD}
 use borrow.Author.Tests.{eq-eqb, ne-eqb, eqb-true, eqb-false}
-use Rattle.line_up.specs.Runs.{mark, marks, zeros, into, merge, once, timesIn, MayFollow, After, Rising}
+use Rattle.line_up.specs.Runs.{into, merge, once, timesIn, MayFollow, After, Rising}
 use Rattle.line_up_laws.specs.Claims.{Each, Pairs}
 
 -- ---- each
@@ -26,27 +26,6 @@ module _ (lt : ℕ → ℕ → Bool) (Good : ℕ → Type 0) where
   unfolding merge
   each-merge [] ys e f = f
   each-merge (x ∷ xs) ys e f = each-into x (merge lt xs) (e .0) (λ zs g. each-merge xs zs (e .1) g) ys f
-
-  each-choose : (t : Bool) (i : ℕ) (xs : List ℕ) → (t ≡ true → Good i) → Each Good xs → Each Good (cond t (i ∷ xs) xs)
-  each-choose true i xs g e = (g refl, e)
-  each-choose false i xs g e = e
-
-  zero-was : (n : ℕ) (s t : Bool) → eqb n 0 ≡ s → eqb (cond s (cond t 17 0) n) 0 ≡ true → n ≡ 0
-  zero-was n true t p h = eqb-true n 0 p
-  zero-was n false t p h = eqb-true n 0 h
-
-  -- who is accepted came in accepted
-  came-acceptedIn : (n : ℕ) (any : Bool) (last i : ℕ) → eqb (mark lt n any last i) 0 ≡ true → n ≡ 0
-  unfolding mark
-  came-acceptedIn n any last i h = zero-was n (eqb n 0) (any && lt i last) refl h
-
-  pub each-marks : (ns : List ℕ) (k : ℕ) (any : Bool) (last i : ℕ) → ((p : ℕ) → i ≤ p → p < i + k → getD ns p 0 ≡ 0 → Good p) → Each Good (zeros i (marks lt ns any last i k))
-  unfolding marks zeros
-  each-marks ns zero any last i h = tt
-  each-marks ns (suc k) any last i h =
-      each-choose (eqb (mark lt (getD ns i 0) any last i) 0) i (zeros (suc i) (marks lt ns (any || eqb (mark lt (getD ns i 0) any last i) 0) (cond (eqb (mark lt (getD ns i 0) any last i) 0) i last) (suc i) k))
-      (λ e. h i (omega arith) (omega arith) (came-acceptedIn (getD ns i 0) any last i e))
-      (each-marks ns k (any || eqb (mark lt (getD ns i 0) any last i) 0) (cond (eqb (mark lt (getD ns i 0) any last i) 0) i last) (suc i) (λ p a b e. h p (omega arith) (omega arith) e))
 
   -- ---- any two
 

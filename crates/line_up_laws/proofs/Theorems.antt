@@ -8,6 +8,7 @@ use mathlib.Core.Logic.{_⊎_, inl, inr}
 use mathlib.Core.List.{List, [], _∷_, _++_}
 use lib.Dec.{T, eqb, ltb}
 use lib.ListN.{length, getD, drop}
+use lib.Seq.{slice}
 use lib.Ieee.{binary64}
 use lib.Ieee.Bits.{ofBits-fits}
 use borrow.Author.Tests.{ltb-true, ltb-false, lt-ltb, le-ltb, ne-eqb, eqb-true, eqb-false}
@@ -22,16 +23,20 @@ use Rattle.date_order.proofs.Exactly.{finite-error, sooner-exactly, sum-worth}
 use Rattle.date_order.proofs.Swapped.{sooner-once}
 use Rattle.julian.specs.Equality.{sums}
 use Rattle.line_up.specs.Runs.{allTested, run, numbersAfter, zeros, merge, ordered, timesIn, MayFollow, Rising}
-use Rattle.line_up.specs.LineUp.{stampOf, deadAt, soonerAt, lineRefusal, lineWritten, putInLine, linedUp}
+use Rattle.line_up.specs.LineUp.{stampOf, deadAt, soonerAt, leastRoom, lineRefusal, lineWritten, putInLine, linedUp}
 use Rattle.line_up.proofs.Cases.{Fine, fine}
 use Rattle.line_up.proofs.Testing.{tested-length}
 use Rattle.line_up.proofs.Places.{place-timesIn, after-length, ordered-rises, ordered-runs, first-run, second-run, third-run}
-use Rattle.line_up.proofs.Marks.{marks-rise}
-use Rattle.line_up_laws.specs.Claims.{Floats, by, notInLine, Each, Pairs, InOrder, Later, RunJudged, RightlyIn, Overtaken, LineVerdict, OneLine, Lined}
-use Rattle.line_up_laws.proofs.Once.{two-lists}
+use Rattle.keep_most.specs.Piles.{Order, All, Alive}
+use Rattle.keep_most.proofs.Longest.{chosen-ok}
+use Rattle.keep_most.proofs.Theorems.{kept-chosen}
+use Rattle.keep_most.proofs.OfRuns.{alive, slice-most}
+use Rattle.line_up.proofs.Marks.{run-rises}
+use Rattle.line_up_laws.specs.Claims.{Floats, by, notInLine, Each, Pairs, InOrder, Contrary, RunJudged, RightlyIn, Overtaken, LineVerdict, RunMost, OneLine, Lined}
+use Rattle.line_up_laws.proofs.Once.{any-default, two-lists}
 use Rattle.line_up_laws.proofs.Dead.{kept, nine, stays, zero-sound}
 use Rattle.line_up_laws.proofs.Judging.{judged, right}
-use Rattle.line_up_laws.proofs.Pairwise.{each-merge, each-marks, rising-pairs, pairs-map, member, each-of-timesIn, one-list}
+use Rattle.line_up_laws.proofs.Pairwise.{each-merge, rising-pairs, pairs-map, member, each-of-timesIn, one-list}
 
 -- ---- the order of two stamps that have a place in it
 
@@ -88,6 +93,29 @@ module _ (date : ℕ → JulianDate) (floats : (p : ℕ) → Floats (date p)) wh
             omega (arith, m, n);
       }
 
+  sound-order : Order Sound (by date)
+  unfolding Sound
+  sound-order = record {
+    less = λ x y z s t u e f.
+        let v = sum-worth (date x) s in
+        let w = sum-worth (date y) t in
+        let q = sum-worth (date z) u in
+        let i = ltb-true (v .0 + w .1) (w .0 + v .1) (sym (lt-is x y (v .0) (v .1) (w .0) (w .1) s t (v .2) (w .2)) ∙ e) in
+        let j = ltb-true (w .0 + q .1) (q .0 + w .1) (sym (lt-is y z (w .0) (w .1) (q .0) (q .1) t u (w .2) (q .2)) ∙ f) in
+        lt-is x z (v .0) (v .1) (q .0) (q .1) s u (v .2) (q .2) ∙ lt-ltb (v .0 + q .1) (q .0 + v .1) (omega (arith, i, j));
+    notLess = λ x y z s t u e f.
+        let v = sum-worth (date x) s in
+        let w = sum-worth (date y) t in
+        let q = sum-worth (date z) u in
+        let i = ltb-false (w .0 + v .1) (v .0 + w .1) (sym (lt-is y x (w .0) (w .1) (v .0) (v .1) t s (w .2) (v .2)) ∙ e) in
+        let j = ltb-false (q .0 + w .1) (w .0 + q .1) (sym (lt-is z y (q .0) (q .1) (w .0) (w .1) u t (q .2) (w .2)) ∙ f) in
+        lt-is z x (q .0) (q .1) (v .0) (v .1) u s (q .2) (v .2) ∙ le-ltb (q .0 + v .1) (v .0 + q .1) (omega (arith, i, j));
+  }
+
+all-each : (Q : ℕ → Type 0) (xs : List ℕ) → All Q xs → Each Q xs
+all-each Q [] a = tt
+all-each Q (x ∷ xs) a = (a .0, all-each Q xs (a .1))
+
 -- ---- three runs of stamps, which end at places a, b and the length; come are their numbers before the call
 
 module _ (date : ℕ → JulianDate) (floats : (p : ℕ) → Floats (date p)) (come : List ℕ) (a b : ℕ) (ab : a ≤ b) (bc : b ≤ length come) where
@@ -114,7 +142,7 @@ module _ (date : ℕ → JulianDate) (floats : (p : ℕ) → Floats (date p)) (c
 
   len : length after ≡ length ns
   unfolding after
-  len = after-length (by date) ns a b (length ns) ab bn
+  len = after-length (by date) ns a b (length ns) ab bn (omega arith)
 
   line-timesIn : (p : ℕ) → timesIn p line ≡ cond (eqb (getD after p 1) 0) 1 0
   unfolding line
@@ -128,7 +156,7 @@ module _ (date : ℕ → JulianDate) (floats : (p : ℕ) → Floats (date p)) (c
 
   line-rises : Rising (by date) line
   unfolding line after
-  line-rises = ordered-rises (by date) ns a b (length ns) ab bn (asym date floats)
+  line-rises = ordered-rises (by date) ns a b (length ns) ab bn (omega arith) (asym date floats)
 
   not-dead : (t : Bool) → not t ≡ false → t ≡ true
   not-dead true e = refl
@@ -139,20 +167,25 @@ module _ (date : ℕ → JulianDate) (floats : (p : ℕ) → Floats (date p)) (c
   unfolding ns dead
   sound p h e = sound-of date floats p (not-dead (hasPlace (date p)) (zero-sound dead come p (omega (arith, h, same)) e .1))
 
+  run-alive : (from to : ℕ) → from ≤ to → to ≤ length ns → Alive (Sound date floats) from (slice from to ns)
+  run-alive from to h k = alive (by date) ns from to h k (Sound date floats) (sound-order date floats) (λ p u v e. sound p (omega arith) e)
+
   run-sound : (from to : ℕ) → from ≤ to → to ≤ length ns → Each (Sound date floats) (zeros from (run (by date) ns from to))
-  run-sound from to h k = each-marks (by date) (Sound date floats) ns (to - from) false 0 from (λ p u v e. sound p (omega arith) e)
+  run-sound from to h k =
+      all-each (Sound date floats) (zeros from (run (by date) ns from to))
+      (chosen-ok (Sound date floats) (by date) (sound-order date floats) (kept-chosen (by date) from (slice from to ns)) (run-alive from to h k))
 
   line-sound : Each (Sound date floats) line
   unfolding line after
   line-sound =
-      subst (Each (Sound date floats)) (sym (ordered-runs (by date) ns a b (length ns) ab bn))
+      subst (Each (Sound date floats)) (sym (ordered-runs (by date) ns a b (length ns) ab bn (omega arith)))
       (each-merge (by date) (Sound date floats) (merge (by date) (zeros 0 (run (by date) ns 0 a)) (zeros a (run (by date) ns a b))) (zeros b (run (by date) ns b (length ns)))
       (each-merge (by date) (Sound date floats) (zeros 0 (run (by date) ns 0 a)) (zeros a (run (by date) ns a b)) (run-sound 0 a (omega arith) (omega (arith, bn))) (run-sound a b ab bn))
       (run-sound b (length ns) bn (omega arith)))
 
   run-pairs : (from to : ℕ) → from ≤ to → to ≤ length ns → Pairs (MayFollow (by date)) (zeros from (run (by date) ns from to))
   run-pairs from to h k =
-      rising-pairs (by date) (Sound date floats) (follows-trans date floats) (zeros from (run (by date) ns from to)) (run-sound from to h k) (marks-rise (by date) ns from (to - from))
+      rising-pairs (by date) (Sound date floats) (follows-trans date floats) (zeros from (run (by date) ns from to)) (run-sound from to h k) (run-rises (by date) ns from to)
 
   line-pairs : Pairs (MayFollow (by date)) line
   line-pairs = rising-pairs (by date) (Sound date floats) (follows-trans date floats) line line-sound line-rises
@@ -178,38 +211,51 @@ module _ (date : ℕ → JulianDate) (floats : (p : ℕ) → Floats (date p)) (c
       was true q = eqb-true (getD ns i 0) 0 q
       was false q = let z : getD ns i 0 ≡ 0 = sym (k (eqb-false (getD ns i 0) 0 q)) ∙ e in z
 
-  module _ (from i : ℕ) (h : i < length ns) (each : (j : ℕ) → from ≤ j → j ≤ i → RunJudged (by date) ns after from j) (fi : from ≤ i) (in-run : RightlyIn (by date) after from i) where
-    judged-i : RunJudged (by date) ns after from i
-    judged-i = each i fi (omega arith)
+  module _ (from to i : ℕ) (h : i < length ns) (tn : to ≤ length ns) (each : (j : ℕ) → from ≤ j → j < to → RunJudged (by date) ns after from to j) (fi : from ≤ i) (it : i < to)
+      (in-run : RightlyIn (by date) after from to i) where
+    judged-i : RunJudged (by date) ns after from to i
+    judged-i = each i fi it
 
-    overtaken : getD ns i 0 ≡ 0 → Later (by date) after from i → Overtaken date after from i
-    overtaken e l =
-        let s = sound i h e in
-        let t = accepted-sound (l .place) (omega (arith, l .high, h)) (each (l .place) (l .low) (omega (arith, l .high)) .refused) (l .in-line) in
-        record {
-          place = l .place;
-          low = l .low;
-          high = l .high;
-          in-line = l .in-line;
-          greater = λ P N Q M v w. ltb-true (P + M) (Q + N) (sym (lt-is date floats i (l .place) P N Q M s t v w) ∙ l .sooner);
-        }
+    sound-at : (q : ℕ) → from ≤ q → q < to → getD after q 0 ≡ 0 → Sound date floats q
+    sound-at q l m e = accepted-sound q (omega arith) (each q l m .refused) e
 
-    later : getD after i 0 ≡ 0 → Overtaken date after from i → Later (by date) after from i
+    exact-by : (q : ℕ) → Sound date floats i → Sound date floats q → ((q < i) × (by date i q ≡ true)) ⊎ ((i < q) × (by date q i ≡ true))
+        → ((q < i) × ((P N Q M : ℕ) → Worth (date i) P N L → Worth (date q) Q M L → P + M < Q + N)) ⊎ ((i < q) × ((P N Q M : ℕ) → Worth (date i) P N L → Worth (date q) Q M L → Q + N < P + M))
+    exact-by q s t (inl r) = inl (r .0, λ P N Q M v w. ltb-true (P + M) (Q + N) (sym (lt-is date floats i q P N Q M s t v w) ∙ r .1))
+    exact-by q s t (inr r) = inr (r .0, λ P N Q M v w. ltb-true (Q + N) (P + M) (sym (lt-is date floats q i Q M P N t s w v) ∙ r .1))
+
+    by-exact : (q : ℕ) → Sound date floats i → Sound date floats q
+        → ((q < i) × ((P N Q M : ℕ) → Worth (date i) P N L → Worth (date q) Q M L → P + M < Q + N)) ⊎ ((i < q) × ((P N Q M : ℕ) → Worth (date i) P N L → Worth (date q) Q M L → Q + N < P + M))
+        → ((q < i) × (by date i q ≡ true)) ⊎ ((i < q) × (by date q i ≡ true))
     unfolding Sound
-    later e o =
-        let s = accepted-sound i h (judged-i .refused) e in
-        let t = accepted-sound (o .place) (omega (arith, o .high, h)) (each (o .place) (o .low) (omega (arith, o .high)) .refused) (o .in-line) in
+    by-exact q s t (inl r) =
         let v = sum-worth (date i) s in
-        let w = sum-worth (date (o .place)) t in
-        record {
-          place = o .place;
-          low = o .low;
-          high = o .high;
-          in-line = o .in-line;
-          sooner = lt-is date floats i (o .place) (v .0) (v .1) (w .0) (w .1) s t (v .2) (w .2) ∙ lt-ltb (v .0 + w .1) (w .0 + v .1) (o .greater (v .0) (v .1) (w .0) (w .1) (v .2) (w .2));
-        }
+        let w = sum-worth (date q) t in
+        inl (r .0, lt-is date floats i q (v .0) (v .1) (w .0) (w .1) s t (v .2) (w .2) ∙ lt-ltb (v .0 + w .1) (w .0 + v .1) (r .1 (v .0) (v .1) (w .0) (w .1) (v .2) (w .2)))
+    by-exact q s t (inr r) =
+        let v = sum-worth (date i) s in
+        let w = sum-worth (date q) t in
+        inr (r .0, lt-is date floats q i (w .0) (w .1) (v .0) (v .1) t s (w .2) (v .2) ∙ lt-ltb (w .0 + v .1) (v .0 + w .1) (r .1 (v .0) (v .1) (w .0) (w .1) (v .2) (w .2)))
 
-    turned-by : getD ns i 0 ≡ 0 → (getD after i 0 ≡ 0) ⊎ ((getD after i 0 ≡ 17) × Later (by date) after from i) → (getD after i 0 ≡ 0) ⊎ ((getD after i 0 ≡ 17) × Overtaken date after from i)
+    overtaken : getD ns i 0 ≡ 0 → Contrary (by date) after from to i → Overtaken date after from to i
+    overtaken e l = record {
+      place = l .place;
+      low = l .low;
+      high = l .high;
+      in-line = l .in-line;
+      against = exact-by (l .place) (sound i h e) (sound-at (l .place) (l .low) (l .high) (l .in-line)) (l .against);
+    }
+
+    contrary : getD after i 0 ≡ 0 → Overtaken date after from to i → Contrary (by date) after from to i
+    contrary e o = record {
+      place = o .place;
+      low = o .low;
+      high = o .high;
+      in-line = o .in-line;
+      against = by-exact (o .place) (sound-at i fi it e) (sound-at (o .place) (o .low) (o .high) (o .in-line)) (o .against);
+    }
+
+    turned-by : getD ns i 0 ≡ 0 → (getD after i 0 ≡ 0) ⊎ ((getD after i 0 ≡ 17) × Contrary (by date) after from to i) → (getD after i 0 ≡ 0) ⊎ ((getD after i 0 ≡ 17) × Overtaken date after from to i)
     turned-by e (inl q) = inl q
     turned-by e (inr q) = inr (q .0, overtaken e (q .1))
 
@@ -219,7 +265,7 @@ module _ (date : ℕ → JulianDate) (floats : (p : ℕ) → Floats (date p)) (c
     not-nine : (n : ℕ) → n ≡ 9 → n ≡ 0 → ⊥
     not-nine n p q = omega (arith, p, q)
 
-    verdict : LineVerdict date come after from i
+    verdict : LineVerdict date come after from to i
     unfolding ns dead
     verdict = record {
       refused = λ k.
@@ -231,32 +277,57 @@ module _ (date : ℕ → JulianDate) (floats : (p : ℕ) → Floats (date p)) (c
       sound = λ e d.
           let q : getD ns i 0 ≡ 0 = stays dead come i i-come e (ap not d) in
           turned-by q (judged-i .turned q);
-      in-line = λ e o. in-run .none e (later e o);
+      in-line = λ e o. in-run .none e (contrary e o);
     }
 
+  slice-1 : slice 0 a after ≡ run (by date) ns 0 a
+  unfolding after
+  slice-1 = first-run (by date) ns a b (length ns) ab bn (omega arith)
+
+  slice-2 : slice a b after ≡ run (by date) ns a b
+  unfolding after
+  slice-2 = second-run (by date) ns a b (length ns) ab bn (omega arith)
+
+  slice-3 : slice b (length ns) after ≡ run (by date) ns b (length ns)
+  unfolding after
+  slice-3 = third-run (by date) ns a b (length ns) ab bn (omega arith)
+
+  run-verdict : (from to : ℕ) → (ft : from ≤ to) → (tn : to ≤ length ns) → slice from to after ≡ run (by date) ns from to → (i : ℕ) → from ≤ i → i < to → LineVerdict date come after from to i
+  run-verdict from to ft tn r i g h =
+      verdict from to i (omega (arith, h, tn)) tn (λ j f k. judged (by date) ns after from to ft tn r (Sound date floats) (sound-order date floats) (run-alive from to ft tn) j f k) g h
+      (right (by date) ns after from to ft tn r (run-pairs from to ft tn) i g h)
+
+  zero-still : (to : ℕ) → to ≤ length come → (xs : List ℕ) → Each (λ (x : ℕ). (x < to) × ((getD come x 1 ≡ 0) × (hasPlace (date x) ≡ true))) xs → All (λ (x : ℕ). (x < to) × (getD ns x 1 ≡ 0)) xs
+  unfolding ns dead
+  zero-still to tn [] e = tt
+  zero-still to tn (x ∷ xs) e =
+      let h : x < length come = omega (arith, e .0 .0, tn) in
+      let z : getD come x 0 ≡ 0 = any-default come x 0 1 h ∙ e .0 .1 .0 in
+      ((e .0 .0, any-default ns x 1 0 (omega (arith, h, same)) ∙ stays dead come x h z (ap not (e .0 .1 .1))), zero-still to tn xs (e .1))
+
+  run-most : (from to : ℕ) → (ft : from ≤ to) → (tn : to ≤ length ns) → slice from to after ≡ run (by date) ns from to → RunMost date come from to after
+  run-most from to ft tn r xs u e rs =
+      rw r (slice-most (by date) ns from to ft tn (Sound date floats) (sound-order date floats) (λ p g k z. sound p (omega (arith, k, tn)) z) xs u (zero-still to (omega (arith, tn, same)) xs e) rs)
+
   one-line : OneLine date come a b line after
-  unfolding after line
-  one-line = record {
-    as-many = len ∙ same;
-    once = line-timesIn;
-    every-place = every-place-once;
-    first-run = λ i h.
-        let r = first-run (by date) ns a b (length ns) ab bn in
-        let z : 0 ≤ a = omega arith in
-        verdict 0 i (omega (arith, h, ab, bn)) (λ j f k. judged (by date) ns after 0 a z r j f (omega (arith, k, h))) (omega arith)
-        (right (by date) ns after 0 a z r (run-pairs 0 a z (omega (arith, ab, bn))) i (omega arith) h);
-    second-run = λ i g h.
-        let r = second-run (by date) ns a b (length ns) ab bn in
-        verdict a i (omega (arith, h, bn)) (λ j f k. judged (by date) ns after a b ab r j f (omega (arith, k, h))) g
-        (right (by date) ns after a b ab r (run-pairs a b ab bn) i g h);
-    third-run = λ i g h.
-        let r = third-run (by date) ns a b (length ns) ab bn in
-        let k' : i < length ns = omega (arith, h, same) in
-        verdict b i k' (λ j f k. judged (by date) ns after b (length ns) bn r j f (omega (arith, k, k'))) g
-        (right (by date) ns after b (length ns) bn r (run-pairs b (length ns) bn (omega arith)) i g k');
-    in-order = line-exactly;
-    only = line-only;
-  }
+  one-line =
+      let r1 : slice 0 a after ≡ run (by date) ns 0 a = slice-1 in
+      let r2 : slice a b after ≡ run (by date) ns a b = slice-2 in
+      let r3 : slice b (length ns) after ≡ run (by date) ns b (length ns) = slice-3 in
+      let z : 0 ≤ a = omega arith in
+      let an : a ≤ length ns = omega (arith, ab, bn) in
+      let nn : length ns ≤ length ns = omega arith in
+      record {
+        as-many = len ∙ same;
+        once = line-timesIn;
+        every-place = every-place-once;
+        first-run = λ i h. run-verdict 0 a z an r1 i (omega arith) h;
+        second-run = λ i g h. run-verdict a b ab bn r2 i g h;
+        third-run = λ i g h. subst (λ (n : ℕ). LineVerdict date come after b n i) same (run-verdict b (length ns) bn nn r3 i g (omega (arith, h, same)));
+        most = (run-most 0 a z an r1, (run-most a b ab bn r2, subst (λ (n : ℕ). RunMost date come b n after) same (run-most b (length ns) bn nn r3)));
+        in-order = line-exactly;
+        only = line-only;
+      }
 
 -- ---- the call
 
@@ -264,18 +335,18 @@ bytes-floats : (js ks : List ℕ) (p : ℕ) → Floats (stampOf js ks p)
 unfolding stampOf
 bytes-floats js ks p = record { first = ofBits-fits binary64 (u64At js (8 * p)); second = ofBits-fits binary64 (u64At ks (8 * p)) }
 
-module _ (js ks come : List ℕ) (first second : ℕ) (out : List ℕ) where
+module _ (js ks come : List ℕ) (first second : ℕ) (out : List ℕ) (tails ranks : ℕ) where
   -- a refused call writes nothing
-  pub refused-line : (n : ℕ) → lineRefusal (length js) (length ks) (length come) first second (length out) ≡ suc n
-      → linedUp js ks come first second out ≡ record { answer = refusal (suc n); numbers = come; out = out }
+  pub refused-line : (n : ℕ) → lineRefusal (length js) (length ks) (length come) first second (leastRoom (length out) tails ranks) ≡ suc n
+      → linedUp js ks come first second out tails ranks ≡ record { answer = refusal (suc n); numbers = come; out = out }
   unfolding linedUp
   refused-line n e = rw (e, ne-eqb (suc n) 0 (λ q. let z : ⊥ = omega (arith, q) in z))
 
   -- THE LINE: every call that is not refused
-  pub lined-up : lineRefusal (length js) (length ks) (length come) first second (length out) ≡ 0 → Lined js ks come first second out (linedUp js ks come first second out)
+  pub lined-up : lineRefusal (length js) (length ks) (length come) first second (leastRoom (length out) tails ranks) ≡ 0 → Lined js ks come first second out (linedUp js ks come first second out tails ranks)
   unfolding linedUp putInLine lineWritten line after ns dead deadAt soonerAt
   lined-up z =
-      let sizes = fine (length js) (length ks) (length come) first second (length out) z in
+      let sizes = fine (length js) (length ks) (length come) first second (leastRoom (length out) tails ranks) z in
       let up : first ≤ first + second = omega arith in
       let fit : first + second ≤ length come = omega (arith, sizes .count1, sizes .count2) in
       rw z

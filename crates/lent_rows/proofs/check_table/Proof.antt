@@ -12,6 +12,7 @@ use Rattle.lent_rows.proofs.Tables.{table-length}
 use Rattle.lent_rows.proofs.TablesTaken.{turned-away, taken, all-count, Taken, when-taken}
 use Rattle.lent_rows.proofs.check_table.Statement.{statement}
 use Rattle.lent_rows.proofs.check_table.Tie as tie
+use Rattle.lent_rows.specs.Table.{fixedRows}
 
 table-refusal-requires : tie.Need-table-refusal-requires
 table-refusal-requires c κs = search needs
@@ -34,7 +35,7 @@ unfolding rowsOutcome
 returns-2 c =
     let r = c .before .before in
     let t = r .before .args .table in
-    ap (λ (k : ℕ). answer (42 + k)) (sym (all-count t (found c .one-size) (found c .most)))
+    ap (λ (k : ℕ). answer (fixedRows + k)) (sym (all-count t (found c .one-size) (found c .most)))
     ∙ ap answer (sym (table-length t (lentSize t)))
     ∙ taken t (r .table-refusal .result) (r .table-refusal .ensures) (λ rows. answer (length rows)) (c .before .if1 .left)
 
