@@ -9,9 +9,9 @@ ghost use Rattle.lent_rows.specs.Lent.{tableOf, unlessRefused};
 ghost use Rattle.date_judging.specs.Judging.{earlier, validTriple, judgedNext, judgedAll};
 ghost use Rattle.date_judging.specs.Lists.{datesFrom, tripleAt, judgedNumbers};
 
-mod bytes;
+mod in_bytes;
 
-pub use bytes::bytes_refusal;
+pub use in_bytes::bytes_refusal;
 use lent_rows::LentRows;
 
 // A year, month and day, a date or not.

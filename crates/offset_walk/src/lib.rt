@@ -20,9 +20,9 @@ ghost use Rattle.offset_walk.specs.Call.{asFloats, WalkCall};
 ghost use Rattle.offset_walk.specs.Asked.{Standing, AtStart, Stepped, CountsNext, GoodDates};
 ghost use lib.Dec.{T};
 
-mod bytes;
+mod in_bytes;
 
-pub use bytes::offsets_at_0h_bytes;
+pub use in_bytes::offsets_at_0h_bytes;
 use date_judging::Triple;
 use lent_rows::LentRows;
 use tai_utc::walk_rows::RowTerms;

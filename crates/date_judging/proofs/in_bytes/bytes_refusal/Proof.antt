@@ -1,4 +1,4 @@
--- `date_judging::bytes::bytes_refusal` meets its contract. Assumes nothing.
+-- `date_judging::in_bytes::bytes_refusal` meets its contract. Assumes nothing.
 use Prim.Native.Nat.{_/_, _%_}
 use native.Mathlib.Omega.{arith}
 use mathlib.Core.Path.{_≡_, refl, sym, ap, subst, _∙_}
@@ -11,8 +11,8 @@ use Rattle.date_judging.specs.Lists.{datesFrom, tripleIn}
 use Rattle.date_judging.proofs.Judges.{how-many}
 use Rattle.date_judging.proofs.Refused.{broken, no-places, by-dates, table-away, table-taken}
 use borrow.Author.Needs.{needs}
-use Rattle.date_judging.proofs.bytes.bytes_refusal.Statement.{statement}
-use Rattle.date_judging.proofs.bytes.bytes_refusal.Tie as tie
+use Rattle.date_judging.proofs.in_bytes.bytes_refusal.Statement.{statement}
+use Rattle.date_judging.proofs.in_bytes.bytes_refusal.Tie as tie
 
 table-refusal-requires : tie.Need-table-refusal-requires
 table-refusal-requires c κs = search needs

@@ -1,4 +1,4 @@
--- `date_judging::bytes::triple_in` meets its contract: the twelve bytes of the part are those of the list. Assumes nothing.
+-- `offset_walk::in_bytes::triple_in` meets its contract: the twelve bytes of the part are those of the list. Assumes nothing.
 use Prim.Native.Nat.{ℕ, _+_, _-_, _*_}
 use native.Mathlib.Omega.{arith}
 use mathlib.Core.Path.{_≡_, ap, _∙_}
@@ -6,11 +6,11 @@ use mir.Syntax.{w32}
 use mir.Facts.{toZ-ofZ}
 use denote.Ref.{now}
 use Rattle.little_endian.specs.LittleEndian.{i32At}
 use Rattle.date_judging.specs.Judging.{triple}
 use Rattle.date_judging.proofs.Twelves.{in-twelve}
 use borrow.Author.Needs.{needs}
-use Rattle.date_judging.proofs.bytes.triple_in.Statement.{statement}
-use Rattle.date_judging.proofs.bytes.triple_in.Tie as tie
+use Rattle.offset_walk.proofs.in_bytes.triple_in.Statement.{statement}
+use Rattle.offset_walk.proofs.in_bytes.triple_in.Tie as tie
 
 mul-at : tie.Need-mul-at
 mul-at c = search needs

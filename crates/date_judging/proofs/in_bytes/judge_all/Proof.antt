@@ -1,4 +1,4 @@
--- `date_judging::bytes::judge_all` meets its contract. The loop's invariant: what is left to judge is the dates from i on, after `before`. Assumes nothing.
+-- `date_judging::in_bytes::judge_all` meets its contract. The loop's invariant: what is left to judge is the dates from i on, after `before`. Assumes nothing.
 use Prim.Native.Nat.{_-_, _≤_}
 use native.Mathlib.Omega.{arith}
 use mathlib.Core.Path.{_≡_, sym, _∙_}
@@ -6,8 +6,8 @@ use Rattle.date_judging.specs.Judging.{judgedAll, judgedAfter}
 use Rattle.date_judging.specs.Lists.{datesFrom, tripleIn}
 use Rattle.date_judging.proofs.Judges.{firstDate, judging-starts, judging-stops, judging-goes, judging-ends}
 use borrow.Author.Needs.{needs}
-use Rattle.date_judging.proofs.bytes.judge_all.Statement.{statement}
-use Rattle.date_judging.proofs.bytes.judge_all.Tie as tie
+use Rattle.date_judging.proofs.in_bytes.judge_all.Statement.{statement}
+use Rattle.date_judging.proofs.in_bytes.judge_all.Tie as tie
 
 abbrev Inv-loop : tie.InvT-loop
 Inv-loop dates n before₀ i₀ before i = (i ≤ n) × (judgedAll (datesFrom (tripleIn dates) 0 n) ≡ judgedAfter before (datesFrom (tripleIn dates) i (n - i)))

@@ -1,4 +1,4 @@
--- `offset_walk::bytes::put_offset` meets its contract. Assumes nothing.
+-- `offset_walk::in_bytes::put_offset` meets its contract. Assumes nothing.
 use Prim.Native.Nat.{ℕ, _+_, _-_}
 use native.Mathlib.Omega.{arith}
 use mathlib.Core.Path.{ap, _∙_}
@@ -7,8 +7,8 @@ use lib.Seq.{sets}
 use Rattle.little_endian.specs.LittleEndian.{eightBytes}
 use Rattle.little_endian.proofs.Puts.{put-in-place}
 use borrow.Author.Needs.{needs}
-use Rattle.offset_walk.proofs.bytes.put_offset.Statement.{statement}
-use Rattle.offset_walk.proofs.bytes.put_offset.Tie as tie
+use Rattle.offset_walk.proofs.in_bytes.put_offset.Statement.{statement}
+use Rattle.offset_walk.proofs.in_bytes.put_offset.Tie as tie
 
 add-end : tie.Need-add-end
 add-end c = search needs

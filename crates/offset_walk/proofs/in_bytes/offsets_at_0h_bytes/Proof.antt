@@ -1,4 +1,4 @@
--- `offset_walk::bytes::offsets_at_0h_bytes` meets its contract: all is judged before a place is written. Assumes nothing.
+-- `offset_walk::in_bytes::offsets_at_0h_bytes` meets its contract: all is judged before a place is written. Assumes nothing.
 use Prim.Native.Nat.{_*_, _/_, _%_}
 use native.Mathlib.Omega.{arith}
 use mathlib.Core.Path.{_≡_, refl, sym, ap, _∙_}
@@ -13,8 +13,8 @@ use Rattle.offset_walk.proofs.Goods.{all-good}
 use Rattle.offset_walk.proofs.Eights.{eights-length}
 use Rattle.offset_walk.proofs.Calls.{passed, refused-call, walked-call}
 use borrow.Author.Needs.{needs}
-use Rattle.offset_walk.proofs.bytes.offsets_at_0h_bytes.Statement.{statement}
-use Rattle.offset_walk.proofs.bytes.offsets_at_0h_bytes.Tie as tie
+use Rattle.offset_walk.proofs.in_bytes.offsets_at_0h_bytes.Statement.{statement}
+use Rattle.offset_walk.proofs.in_bytes.offsets_at_0h_bytes.Tie as tie
 
 bytes-refusal-requires : tie.Need-bytes-refusal-requires
 bytes-refusal-requires c κs = search needs

@@ -1,4 +1,4 @@
--- `offset_walk::bytes::walk_all` meets its contract. The loop's invariant: the walk stands before date i, and the offsets of the dates before it are written. Assumes nothing.
+-- `offset_walk::in_bytes::walk_all` meets its contract. The loop's invariant: the walk stands before date i, and the offsets of the dates before it are written. Assumes nothing.
 use Prim.Native.Nat.{ℕ, _+_, _-_, _*_, _≤_, _<_}
 use native.Mathlib.Omega.{arith}
 use mathlib.Core.Path.{_≡_, refl, sym, ap, subst, _∙_}
@@ -19,8 +19,8 @@ use Rattle.offset_walk.proofs.Pacing.{Pacing, pacing-starts, stays-ther
 use Rattle.offset_walk.proofs.Writes.{Putting}
 use Rattle.offset_walk.proofs.Eights.{wholeE, restE, eights-start, eights-go, eights-end}
 use borrow.Author.Needs.{needs}
-use Rattle.offset_walk.proofs.bytes.walk_all.Statement.{statement}
-use Rattle.offset_walk.proofs.bytes.walk_all.Tie as tie
+use Rattle.offset_walk.proofs.in_bytes.walk_all.Statement.{statement}
+use Rattle.offset_walk.proofs.in_bytes.walk_all.Tie as tie
 
 abbrev Inv-loop : tie.InvT-loop
 Inv-loop dates n table out₀ w₀ i₀ out w i =
