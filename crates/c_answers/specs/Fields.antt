@@ -3,8 +3,8 @@
 use Prim.Native.Nat.{ℕ}
 use mathlib.Core.List.{List, _++_}
 use lib.Ieee.{Float, binary64, toBits}
-use Rattle.little_endian.specs.LittleEndian.{eightBytes, patternOf}
-pub use Rattle.little_endian.specs.LittleEndian.{fourBytes}
+use Rattle.numerals.specs.little_endian.LittleEndian.{eightBytes, patternOf}
+pub use Rattle.numerals.specs.little_endian.LittleEndian.{fourBytes}
 use Rattle.calendar.specs.declared.CalendarDate.{CalendarDate}
 use Rattle.julian.specs.declared.JulianDate.{JulianDate}
 use Rattle.julian.specs.declared.CalendarFields.{CalendarFields}

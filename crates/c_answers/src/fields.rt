@@ -2,7 +2,7 @@
 ghost use mathlib.Core.Path.{_≡_};
 ghost use mathlib.Core.List.{_++_};
 ghost use Rattle.refusals.specs.Outcome.{answer};
-ghost use Rattle.little_endian.specs.LittleEndian.{eightBytes, patternOf};
+ghost use Rattle.numerals.specs.little_endian.LittleEndian.{eightBytes, patternOf};
 ghost use Rattle.c_answers.specs.Delivery.{Delivered};
 ghost use Rattle.c_answers.specs.Fields.{fourBytes, dateBytes, floatBytes, julianBytes, calendarBytes};
 use super::put;
@@ -14,7 +14,7 @@ use julian::JulianDate;
 pub(crate) fn year_pattern(year: i32) -> u64
     ensures { λ r. ⌜ r ≡ patternOf year ⌝ }
 {
-    little_endian::pattern_of_i64(year as i64)
+    numerals::little_endian::pattern_of_i64(year as i64)
 }
 
 fn three_numbers(a: u64, b: u32, c: u32) -> [u8; 12]
@@ -68,7 +68,7 @@ pub fn put_two_numbers(a: u32, b: u32, out: &mut [u8]) -> i64
 pub fn put_float(x: f64, out: &mut [u8]) -> i64
     ensures { λ r. ⌜ Delivered (answer (floatBytes x)) (now (out .entry)) r (now (out .exit)) ⌝ }
 {
-    let all = little_endian::bytes_of_u64(floats::to_bits(x));
+    let all = numerals::little_endian::bytes_of_u64(floats::to_bits(x));
     put(&all, out)
 }
 

@@ -13,7 +13,7 @@ pub fn put_three_patterns(a: u64, b: u64, c: u64, out: &mut [u8]) -> i64
         return refused(refusals::TEXT_LONGER_THAN_BUFFER);
     }
     let first = two_patterns(a, b);
-    let last = little_endian::bytes_of_u64(c);
+    let last = numerals::little_endian::bytes_of_u64(c);
     put(&first, out);
     put(&last, &mut out[16..]);
     24

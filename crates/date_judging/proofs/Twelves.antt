@@ -6,7 +6,7 @@ use mathlib.Core.List.{List}
 use lib.ListN.{length, take, drop, getD, length-drop}
 use lib.Seq.{getD-take, getD-drop, length-take-le}
 use borrow.Author.Tests.{le-leb}
-use Rattle.little_endian.specs.LittleEndian.{fourAt, u32At, i32At, signed32}
+use Rattle.numerals.specs.little_endian.LittleEndian.{fourAt, u32At, i32At, signed32}
 
 module _ (s : List ℕ) (at : ℕ) where
   byte : (i : ℕ) → i < 12 → getD (take 12 (drop at s)) i 0 ≡ getD s (at + i) 0

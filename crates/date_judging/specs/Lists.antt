@@ -6,7 +6,7 @@ use lib.Dec.{eqb}
 use lib.IntN.{ℤ, pos}
 use lib.ListN.{length, getD}
 use Rattle.refusals.specs.Outcome.{Outcome}
-use Rattle.little_endian.specs.LittleEndian.{i32At}
+use Rattle.numerals.specs.little_endian.LittleEndian.{i32At}
 use Rattle.date_judging.specs.declared.Triple.{Triple}
 use Rattle.date_judging.specs.Judging.{triple, judgedList}
 

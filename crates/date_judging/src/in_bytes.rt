@@ -16,9 +16,9 @@ fn triple_in(dates: &[u8], i: usize) -> Triple
 {
     let at = 12 * i;
     let end = at + 12;
-    let year = little_endian::i32_at(&dates[at..end], 0);
-    let month = little_endian::i32_at(&dates[at..end], 4);
-    let day = little_endian::i32_at(&dates[at..end], 8);
+    let year = numerals::little_endian::i32_at(&dates[at..end], 0);
+    let month = numerals::little_endian::i32_at(&dates[at..end], 4);
+    let day = numerals::little_endian::i32_at(&dates[at..end], 8);
     Triple { year, month, day }
 }
 

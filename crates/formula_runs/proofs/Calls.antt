@@ -11,7 +11,7 @@ use lib.Ieee.{Float, binary64, ofBits}
 use borrow.Author.Tests.{eq-eqb, ne-eqb, le-leb, lt-leb, eqb-true, leb-true}
 use Rattle.refusals.specs.Outcome.{Outcome, answer, refusal}
 use Rattle.julian.specs.declared.JulianDate.{JulianDate}
-use Rattle.little_endian.specs.LittleEndian.{u64At}
+use Rattle.numerals.specs.little_endian.LittleEndian.{u64At}
 use Rattle.shifts.specs.Shifts.{plus, minus}
 use Rattle.line_up.specs.LineUp.{stampOf}
 use Rattle.formula_runs.specs.declared.RunAnswer.the-variants as Answer

@@ -17,7 +17,7 @@ use Rattle.floats.proofs.ExponentField.{finite-field}
 use Rattle.refusals.specs.Outcome.{Outcome, answer, refusal}
 use Rattle.julian.specs.declared.JulianDate.{JulianDate}
 use Rattle.julian.specs.JulianDate.{julian}
-use Rattle.little_endian.specs.LittleEndian.{u64At}
+use Rattle.numerals.specs.little_endian.LittleEndian.{u64At}
 use Rattle.shifts.specs.SmallerPart.{firstIsLarger}
 use Rattle.shifts.specs.Shifts.{daysOf, plus, minus, converted, convertedBy}
 use Rattle.shifts.proofs.Outcomes.{first, first-by}

@@ -8,7 +8,7 @@ use lib.ListN.{set}
 use lib.Seq.{sets}
 use lib.Ieee.{Float, binary64, toBits}
 use Rattle.refusals.specs.Outcome.{Outcome, answer, refusal}
-use Rattle.little_endian.specs.LittleEndian.{eightBytes}
+use Rattle.numerals.specs.little_endian.LittleEndian.{eightBytes}
 use Rattle.julian.specs.declared.JulianDate.{JulianDate}
 use Rattle.formula_runs.specs.declared.RunAnswer.{RunAnswer}
 use Rattle.formula_runs.specs.declared.RunAnswer.the-variants as Answer

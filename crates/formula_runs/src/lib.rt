@@ -12,7 +12,7 @@ ghost use lib.Ieee.{binary64, ofBits};
 ghost use lib.Ieee.Scale.{finite};
 ghost use lib.ListN.{length};
 ghost use lib.Seq.{sets};
-ghost use Rattle.little_endian.specs.LittleEndian.{u64At, eightBytes};
+ghost use Rattle.numerals.specs.little_endian.LittleEndian.{u64At, eightBytes};
 ghost use Rattle.formula_runs.specs.Run.{runOutcome, runCall};
 ghost use Rattle.formula_runs.specs.Formula.{formulaRun};
 ghost use Rattle.formula_runs.specs.Asked.{kindRefusal};
@@ -30,7 +30,7 @@ pub(crate) fn pattern_at(s: &[u8], i: usize) -> u64
 {
     let at = 8 * i;
     let end = at + 8;
-    little_endian::u64_at(&s[at..end], 0)
+    numerals::little_endian::u64_at(&s[at..end], 0)
 }
 
 // The eight bytes of a pattern at a place of the lent list.
@@ -39,7 +39,7 @@ pub(crate) fn put_pattern(out: &mut [u8], at: usize, n: u64)
     ensures { λ _. ⌜ now (out .exit) ≡ sets (now (out .entry)) at (eightBytes n) ⌝ }
 {
     let end = at + 8;
-    little_endian::put_u64(&mut out[at..end], n);
+    numerals::little_endian::put_u64(&mut out[at..end], n);
 }
 
 // Whether a pattern is a finite number's: its exponent is not all ones.

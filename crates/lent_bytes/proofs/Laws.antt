@@ -10,7 +10,7 @@ use lib.IntN.{pos}
 use lib.ListN.{length, getD, replicate}
 use borrow.Author.Tests.{eq-eqb, eqb-true}
 use Rattle.refusals.specs.Outcome.{Outcome, answer, refusal, onward}
-use Rattle.little_endian.specs.LittleEndian.{fourAt, u32At}
+use Rattle.numerals.specs.little_endian.LittleEndian.{fourAt, u32At}
 use Rattle.lent_rows.specs.Table.{Row, row, fixed}
 use Rattle.lent_rows.specs.Lent.{least, rowsTo, lentSize, rowsOf, tableOf, Decision, sizes, order, step, taken, unlessRefused}
 use Rattle.lent_rows.proofs.Tables.{least-right}

@@ -10,7 +10,7 @@ use lib.Seq.{getD-append-add, ext-getD}
 use mir.Syntax.{w32}
 use mir.Val.{SFits}
 use borrow.Author.Tests.{le-leb, eq-eqb}
-use Rattle.little_endian.specs.LittleEndian.{fourAt, u32At}
+use Rattle.numerals.specs.little_endian.LittleEndian.{fourAt, u32At}
 use Rattle.lent_rows.specs.declared.LentRows.{LentRows}
 use Rattle.lent_rows.specs.Lent.{tableOf}
 use Rattle.c_answers.specs.Fields.{fourBytes}

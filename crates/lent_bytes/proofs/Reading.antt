@@ -12,7 +12,7 @@ use lib.Seq.{getD-set-same, getD-set-other}
 use borrow.Author.Count.{below-more}
 use borrow.Author.Tests.{eq-eqb, ne-eqb, eqb-true, leb-true, leb-false}
 use Rattle.refusals.specs.Outcome.{Outcome, answer}
-use Rattle.little_endian.specs.LittleEndian.{u32At}
+use Rattle.numerals.specs.little_endian.LittleEndian.{u32At}
 use Rattle.lent_rows.specs.declared.LentRows.{LentRows}
 use Rattle.lent_rows.specs.Table.{Row, fixed}
 use Rattle.lent_rows.specs.Lent.{least, lentSize, rowsOf, rowsIn, lentTable, tableOf, unlessRefused, Judged}

@@ -8,8 +8,8 @@ use lib.Dec.{eqb}
 use lib.IntN.{ℤ, pos}
 use lib.ListN.{length, getD}
 use Rattle.refusals.specs.Outcome.{Outcome, refusal}
-use Rattle.little_endian.specs.LittleEndian.{u32At}
-unfoldable pub use Rattle.little_endian.specs.LittleEndian.{signed32}
+use Rattle.numerals.specs.little_endian.LittleEndian.{u32At}
+unfoldable pub use Rattle.numerals.specs.little_endian.LittleEndian.{signed32}
 use Rattle.lent_rows.specs.declared.LentRows.{LentRows}
 use Rattle.lent_rows.specs.Table.{Row}
 use Rattle.lent_rows.specs.Lent.{least, tableOf}

@@ -22,7 +22,7 @@ fn put_numbers(bytes: &[u8], at: usize, size: usize, numbers: &mut [i32; 16])
 {
     let mut i = 0;
     while i < size {
-        numbers[i] = i32_of_pattern(little_endian::u32_at(bytes, at + 4 * i));
+        numbers[i] = i32_of_pattern(numerals::little_endian::u32_at(bytes, at + 4 * i));
         i += 1;
     }
 }
@@ -38,8 +38,8 @@ pub fn read_table(bytes: &[u8], months: &mut [i32; 16], seconds: &mut [i32; 16])
             size: 0,
         };
     }
-    let months_size = little_endian::u32_at(bytes, 0);
-    let seconds_size = little_endian::u32_at(bytes, 4);
+    let months_size = numerals::little_endian::u32_at(bytes, 0);
+    let seconds_size = numerals::little_endian::u32_at(bytes, 4);
     if lend_none(months_size, seconds_size) {
         return Lent { number: 0, size: 0 };
     }

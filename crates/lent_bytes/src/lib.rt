@@ -29,7 +29,7 @@ fn numbers_at(bytes: &[u8], at: usize, size: usize) -> [i32; 16]
     let mut numbers = [0; 16];
     let mut i = 0;
     while i < size {
-        numbers[i] = i32_of_pattern(little_endian::u32_at(bytes, at + 4 * i));
+        numbers[i] = i32_of_pattern(numerals::little_endian::u32_at(bytes, at + 4 * i));
         i += 1;
     }
     numbers
@@ -59,8 +59,8 @@ pub fn lent_rows_at(bytes: &[u8]) -> LentRows
     if bytes.len() != 136 {
         return lent_rows::no_rows();
     }
-    let months_size = little_endian::u32_at(bytes, 0);
-    let seconds_size = little_endian::u32_at(bytes, 4);
+    let months_size = numerals::little_endian::u32_at(bytes, 0);
+    let seconds_size = numerals::little_endian::u32_at(bytes, 4);
     if lend_none(months_size, seconds_size) {
         return lent_rows::no_rows();
     }

@@ -9,7 +9,7 @@ use lib.Dec.{eqb, ltb, leb}
 use lib.ListN.{length, getD, set}
 use lib.Ieee.{Float, ofBits, binary64}
 use borrow.Author.Tests.{eq-eqb, ne-eqb, lt-ltb, le-ltb, le-leb, lt-leb, eqb-true, leb-true}
-use Rattle.little_endian.specs.LittleEndian.{u64At}
+use Rattle.numerals.specs.little_endian.LittleEndian.{u64At}
 use Rattle.julian.specs.declared.JulianDate.{JulianDate}
 use Rattle.julian.specs.JulianDate.{julian}
 use Rattle.date_order.specs.Places.{hasPlace, isEarlier}

@@ -12,7 +12,7 @@ use Rattle.line_up.proofs.Zeros.{zeros-from}
 use Rattle.line_up.proofs.Places.{ordered-length}
 use Rattle.line_up.proofs.Cursors.{Cursors, cursor-first, first-low, from-start, next-is, cursors-cursorAfter, merged-cursorAfter, acceptedIn-under}
 use Rattle.line_up.proofs.Lines.{drop-later}
-use Rattle.little_endian.specs.LittleEndian.{fourBytes}
+use Rattle.numerals.specs.little_endian.LittleEndian.{fourBytes}
 use Rattle.line_up.specs.LineUp.{placesBytes}
 use Rattle.line_up.specs.Asked.{Merged}
 

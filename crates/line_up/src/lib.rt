@@ -3,7 +3,7 @@ ghost use mathlib.Core.Path.{_≡_};
 ghost use lib.ListN.{length};
 ghost use lib.Seq.{sets};
 ghost use Prim.Native.Nat.{_≤_, _<_, _+_};
-ghost use Rattle.little_endian.specs.LittleEndian.{fourBytes};
+ghost use Rattle.numerals.specs.little_endian.LittleEndian.{fourBytes};
 ghost use Rattle.line_up.specs.Runs as R;
 ghost use Rattle.line_up.specs.LineUp as U;
 ghost use Rattle.line_up.specs.Asked as N;
@@ -18,8 +18,8 @@ fn stamp_of(jd1s: &[u8], jd2s: &[u8], i: usize) -> julian::JulianDate
     requires { ⌜ i ≤ 4294967295 ⌝ }
     ensures { λ r. ⌜ r ≡ U.stampOf (now (jd1s .entry)) (now (jd2s .entry)) i ⌝ }
 {
-    let a = little_endian::u64_at(jd1s, 8 * i);
-    let b = little_endian::u64_at(jd2s, 8 * i);
+    let a = numerals::little_endian::u64_at(jd1s, 8 * i);
+    let b = numerals::little_endian::u64_at(jd2s, 8 * i);
     let x = floats::from_bits(a);
     let y = floats::from_bits(b);
     julian::JulianDate::new(x, y)

@@ -17,7 +17,7 @@ use Rattle.rounding.specs.Value.{L}
 use Rattle.julian.specs.declared.JulianDate.{JulianDate}
 use Rattle.julian.specs.Equality.{FiniteSums}
 use Rattle.julian.specs.Worth.{Worth}
-use Rattle.little_endian.specs.LittleEndian.{u64At}
+use Rattle.numerals.specs.little_endian.LittleEndian.{u64At}
 use Rattle.date_order.specs.Places.{hasPlace, isEarlier}
 use Rattle.date_order.proofs.Exactly.{finite-error, sooner-exactly, sum-worth}
 use Rattle.date_order.proofs.Swapped.{sooner-once}

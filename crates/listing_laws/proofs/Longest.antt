@@ -12,8 +12,8 @@ use lib.Signed.{ltZ}
 use lib.Ieee.{Float, binary64, ofBits, round, ofInt, add, sub, div, neg, lt, le, eq, toSigned}
 use lib.Dec.{lit<}
 use Rattle.refusals.specs.Outcome.{answer, refusal, onward}
-use Rattle.little_endian.specs.LittleEndian.{fourAt, u32At, u64At}
-use Rattle.digits.specs.Decimal.{digitsIn}
+use Rattle.numerals.specs.little_endian.LittleEndian.{fourAt, u32At, u64At}
+use Rattle.numerals.specs.digits.Decimal.{digitsIn}
 use Rattle.floats.specs.Whole.{abs, toWhole, nearestInt}
 use Rattle.calendar.specs.declared.CalendarDate.{CalendarDate}
 use Rattle.calendar.specs.Calendar.{date, next, leapSize, lengths, daysInMonth}

@@ -10,7 +10,7 @@ use lib.Pow.{field}
 use lib.Ieee.Scale.{finite}
 use borrow.Author.Tests.{eqb-true, eq-eqb}
 use Rattle.refusals.specs.Outcome.{Outcome, answer, refusal}
-use Rattle.digits.specs.Decimal.{digitsIn}
+use Rattle.numerals.specs.digits.Decimal.{digitsIn}
 use Rattle.floats.specs.ExponentField.{exponentField}
 use Rattle.floats.proofs.ExponentField.{field-not-finite}
 use Rattle.calendar.proofs.NextDates.{first-false}

@@ -8,8 +8,8 @@ use mathlib.Core.List.{List, [], _∷_, _++_}
 use lib.Dec.{ltb}
 use borrow.Author.Tests.{ltb-false}
 use Rattle.refusals.specs.Outcome.{Outcome, answer, refusal}
-use Rattle.digits.specs.Decimal.{number, last, digitsIn, digitsOf}
-use Rattle.digits.proofs.Decimal.{number-digits}
+use Rattle.numerals.specs.digits.Decimal.{number, last, digitsIn, digitsOf}
+use Rattle.numerals.proofs.digits.Decimal.{number-digits}
 use Rattle.lent_rows.specs.Table.{Row}
 use Rattle.stamps.specs.Listing.{numeral, textAt, oneIfRefused, refusedIn}
 

@@ -36,7 +36,7 @@ fn list_next(space: &mut [u8]) -> bool {
     if io::read_full(0, &mut head) < 4 {
         return false;
     }
-    let len = little_endian::u32_at(&head, 0) as usize;
+    let len = numerals::little_endian::u32_at(&head, 0) as usize;
     if space.len() < len {
         return false;
     }

@@ -6,7 +6,7 @@ use mathlib.Core.List.{List, [], _∷_, _++_, append-assoc, map}
 use lib.ListN.{length, take, drop, set, getD}
 use lib.Seq.{sets, sets-eq}
 use lib.Ieee.{Float, binary64, toBits}
-use Rattle.little_endian.specs.LittleEndian.{eightBytes}
+use Rattle.numerals.specs.little_endian.LittleEndian.{eightBytes}
 use Rattle.date_judging.specs.declared.Triple.{Triple}
 use Rattle.date_judging.specs.Lists.{datesFrom}
 use Rattle.offset_walk.specs.Lists.{inEights}

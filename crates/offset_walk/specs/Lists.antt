@@ -6,7 +6,7 @@ use lib.IntN.{ℤ}
 use lib.ListN.{length}
 use lib.Ieee.{Float, binary64, toBits}
 use Rattle.refusals.specs.Outcome.{Outcome}
-use Rattle.little_endian.specs.LittleEndian.{eightBytes}
+use Rattle.numerals.specs.little_endian.LittleEndian.{eightBytes}
 use Rattle.lent_rows.specs.Table.{Row}
 use Rattle.date_judging.specs.Lists.{datesFrom, tripleAt, tripleIn}
 use Rattle.offset_walk.specs.Walk.{Walked, walkOf}

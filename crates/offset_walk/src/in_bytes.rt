@@ -7,7 +7,7 @@ ghost use lib.ListN.{length, drop};
 ghost use lib.Seq.{sets};
 ghost use lib.Ieee.{binary64, toBits};
 ghost use Rattle.refusals.specs.Outcome.{onward};
-ghost use Rattle.little_endian.specs.LittleEndian.{eightBytes};
+ghost use Rattle.numerals.specs.little_endian.LittleEndian.{eightBytes};
 ghost use Rattle.lent_rows.specs.Table.{starts, rising};
 ghost use Rattle.lent_rows.specs.Lent.{rowsOf, tableOf};
 ghost use Rattle.offset_walk.specs.Rows.{compared};
@@ -27,9 +27,9 @@ fn triple_in(dates: &[u8], i: usize) -> Triple
 {
     let at = 12 * i;
     let end = at + 12;
-    let year = little_endian::i32_at(&dates[at..end], 0);
-    let month = little_endian::i32_at(&dates[at..end], 4);
-    let day = little_endian::i32_at(&dates[at..end], 8);
+    let year = numerals::little_endian::i32_at(&dates[at..end], 0);
+    let month = numerals::little_endian::i32_at(&dates[at..end], 4);
+    let day = numerals::little_endian::i32_at(&dates[at..end], 8);
     Triple { year, month, day }
 }
 
@@ -39,7 +39,7 @@ fn put_offset(out: &mut [u8], at: usize, x: f64)
     ensures { λ _. ⌜ now (out .exit) ≡ sets (now (out .entry)) at (eightBytes (toBits binary64 x)) ⌝ }
 {
     let end = at + 8;
-    little_endian::put_u64(&mut out[at..end], floats::to_bits(x));
+    numerals::little_endian::put_u64(&mut out[at..end], floats::to_bits(x));
 }
 
 // Walks through the table with n dates, writes their offsets, and says how many rows it compared.

@@ -13,8 +13,8 @@ use borrow.Author.Tests.{leb-true, leb-false, le-leb, lt-leb, lt-ltb, le-ltb}
 use Rattle.refusals.specs.Outcome.{Outcome, answer, refusal, onward}
 use Rattle.constants.specs.Constants.{decimal}
 use Rattle.calendar.specs.Refusals.{validDate}
-use Rattle.digits.specs.Decimal.{value, number, isDigit, AllDigits}
-use Rattle.digits.proofs.Decimal.{digit-bounds, value-split, number-below}
+use Rattle.numerals.specs.digits.Decimal.{value, number, isDigit, AllDigits}
+use Rattle.numerals.proofs.digits.Decimal.{digit-bounds, value-split, number-below}
 use Rattle.text_scan.specs.declared.Form.{Form}
 use Rattle.parsing.specs.declared.ParsedDateTime.{ParsedDateTime}
 use Rattle.text_scan.specs.Form.{byteAt, digitSays, twoSay, leading, fractionDigits, afterBlanks, rightForm, says, formOf}

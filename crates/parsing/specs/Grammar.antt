@@ -6,7 +6,7 @@ use mathlib.Core.List.{List, [], _∷_, _++_}
 use mathlib.Core.Bool.{Bool, true, false}
 use lib.ListN.{length}
 use mathlib.Core.Logic.{_⊎_}
-use Rattle.digits.specs.Decimal.{number, AllDigits, Digits}
+use Rattle.numerals.specs.digits.Decimal.{number, AllDigits, Digits}
 use Rattle.text_scan.specs.Written.{Written}
 
 -- document 02: "bytes 9 to 13 or 32"

@@ -9,8 +9,8 @@ use lib.ListN.{length, drop}
 use lib.Seq.{drop-append-seam}
 use lib.Dec.{eqb}
 use borrow.Author.Tests.{eqb-true, eqb-false, ne-eqb}
-use Rattle.digits.specs.Decimal.{isDigit, AllDigits}
-use Rattle.digits.proofs.Decimal.{digit-bounds, digit-within}
+use Rattle.numerals.specs.digits.Decimal.{isDigit, AllDigits}
+use Rattle.numerals.proofs.digits.Decimal.{digit-bounds, digit-within}
 use Rattle.parsing.specs.Grammar.{Blank, AllBlank, Fraction, none, some, Zone, plain, zulu}
 use Rattle.text_scan.specs.Form.{afterBlanks, byteAt, leading, fractionDigits, afterFraction, zuluFirst, endRight}
 use Rattle.parsing.proofs.Judgement.{leading-digits}

@@ -7,8 +7,8 @@ use mathlib.Core.List.{List, [], _∷_, _++_}
 use mathlib.Core.Bool.{Bool, true, false, cond, and-eq-true-iff}
 use lib.ListN.{length, drop}
 use Rattle.refusals.specs.Outcome.{answer, refusal}
-use Rattle.digits.specs.Decimal.{value, number, isDigit}
-use Rattle.digits.proofs.Decimal.{value-append, digit-bounds}
+use Rattle.numerals.specs.digits.Decimal.{value, number, isDigit}
+use Rattle.numerals.proofs.digits.Decimal.{value-append, digit-bounds}
 use Rattle.text_scan.specs.Written.{Written}
 use Rattle.parsing.specs.Grammar.{Pieces, headOf, Reads}
 use Rattle.text_scan.specs.Form.{afterBlanks, byteAt, twoSay, dateRight, timeRight, fractionDigits, afterFraction, zuluFirst, endRight, rightForm, says, formOf}

@@ -8,8 +8,8 @@ use lib.ListN.{length, drop, List·getD-eq-default}
 use lib.Seq.{drop-cons}
 use lib.Dec.{ltb, eqb}
 use borrow.Author.Tests.{ltb-true, ltb-false, eqb-true}
-use Rattle.digits.specs.Decimal.{number, isDigit, AllDigits, Digits}
-use Rattle.digits.proofs.Decimal.{digit-bounds, digit-within}
+use Rattle.numerals.specs.digits.Decimal.{number, isDigit, AllDigits, Digits}
+use Rattle.numerals.proofs.digits.Decimal.{digit-bounds, digit-within}
 use Rattle.parsing.specs.Grammar.{Separator, letter, space}
 use Rattle.text_scan.specs.Form.{byteAt, twoDigits, twoSay, isSeparator, dateRight, timeRight}
 use Rattle.text_scan.proofs.Runs.{worth-of}

@@ -11,8 +11,8 @@ use Rattle.refusals.specs.Outcome.{answer}
 use Rattle.calendar.specs.declared.CalendarDate.{CalendarDate}
 use Rattle.calendar.specs.Refusals.{validDate}
 use Rattle.time_of_day.specs.declared.TimeOfDay.{TimeOfDay}
-use Rattle.digits.specs.Decimal.{number, Digits}
-use Rattle.digits.proofs.Decimal.{value-append, value-split}
+use Rattle.numerals.specs.digits.Decimal.{number, Digits}
+use Rattle.numerals.proofs.digits.Decimal.{value-append, value-split}
 use Rattle.utc_text.proofs.ReadBack.{two-is, three-is, four-is}
 use Rattle.utc_text.proofs.Form.{two-digits, three-digits, four-digits}
 use Rattle.utc_text.specs.Text.{two, three, four, five, six, seven, afterYear, yearText, utcText}

@@ -10,8 +10,8 @@ use lib.Signed.{ltZ}
 use lib.Ieee.{Float}
 use borrow.Author.Tests.{le-ltb}
 use Rattle.refusals.specs.Outcome.{Outcome, answer, refusal, onward}
-use Rattle.digits.specs.Decimal.{number}
-use Rattle.digits.proofs.Decimal.{number-below}
+use Rattle.numerals.specs.digits.Decimal.{number}
+use Rattle.numerals.proofs.digits.Decimal.{number-below}
 use Rattle.calendar.specs.declared.CalendarDate.{CalendarDate}
 use Rattle.calendar.specs.Refusals.{validDate}
 use Rattle.julian.specs.declared.JulianDate.{JulianDate}

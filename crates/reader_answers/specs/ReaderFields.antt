@@ -3,7 +3,7 @@
 -- Assumes nothing.
 use Prim.Native.Nat.{ℕ}
 use mathlib.Core.List.{List, _++_}
-use Rattle.little_endian.specs.LittleEndian.{patternOf}
+use Rattle.numerals.specs.little_endian.LittleEndian.{patternOf}
 use Rattle.parsing.specs.declared.ParsedDateTime.{ParsedDateTime}
 use Rattle.parsing.specs.declared.ParsedUtc.{ParsedUtc}
 use Rattle.c_answers.specs.Fields.{fourBytes, floatBytes, julianBytes}

@@ -12,8 +12,8 @@ use lib.Seq.{length-take-le}
 use borrow.Author.Tests.{lt-ltb, le-ltb, le-leb, lt-leb}
 use Rattle.io.specs.Digits.{glyph, digits, Fewest}
 use Rattle.refusals.specs.Outcome.{Outcome, answer, refusal, onward}
-use Rattle.digits.specs.Decimal.{last, digitsIn, digitsOf}
-use Rattle.digits.proofs.Decimal.{digits-few}
+use Rattle.numerals.specs.digits.Decimal.{last, digitsIn, digitsOf}
+use Rattle.numerals.proofs.digits.Decimal.{digits-few}
 use Rattle.julian.specs.declared.JulianDate.{JulianDate}
 use Rattle.lent_rows.specs.Table.{Row}
 use Rattle.utc_text.specs.declared.TextAnswer.{TextAnswer}
@@ -26,7 +26,7 @@ use Rattle.parsing.specs.declared.ParsedUtc.{ParsedUtc}
 use Rattle.parsing.specs.declared.ParsedUtcAnswer.{ParsedUtcAnswer}
 use Rattle.parsing.specs.declared.ParsedUtcAnswer.the-variants as Utc
 use Rattle.parsing.specs.Parsed.{parsedUtcOutcome, parsedUtc}
-use Rattle.digits.specs.Placed.{pasted, Placed}
+use Rattle.numerals.specs.digits.Placed.{pasted, Placed}
 use Rattle.readings.specs.Reading.{reading, readingTold, LineCall}
 
 -- ---- the digits that `io::decimal` writes, as few as hold the number, are the number's

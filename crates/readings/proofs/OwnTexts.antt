@@ -6,7 +6,7 @@ use Prim.Native.Nat.{ℕ}
 use lib.Dec.{T}
 use lib.Ieee.{binary64, fits}
 use Rattle.refusals.specs.Outcome.{Outcome, answer, onward}
-use Rattle.digits.specs.Decimal.{digitsOf}
+use Rattle.numerals.specs.digits.Decimal.{digitsOf}
 use Rattle.julian.specs.declared.JulianDate.{JulianDate}
 use Rattle.lent_rows.specs.declared.LentRows.{LentRows}
 use Rattle.lent_rows.specs.Table.{Row}

@@ -8,7 +8,7 @@ use mathlib.Core.Bool.{cond}
 use lib.ListN.{length, drop}
 use lib.Dec.{leb}
 use Rattle.refusals.specs.Outcome.{Outcome, answer, refusal, onward}
-use Rattle.digits.specs.Decimal.{digitsOf}
+use Rattle.numerals.specs.digits.Decimal.{digitsOf}
 use Rattle.lent_rows.specs.Table.{Row}
 use Rattle.utc_text.specs.declared.TextAnswer.{TextAnswer}
 use Rattle.utc_text.specs.Answer.{textOutcome}

@@ -5,11 +5,11 @@ use scales::UTC;
 use utc_text::TextAnswer;
 ghost use Prim.Native.Nat.{_+_, _≤_};
 ghost use lib.ListN.{length};
-ghost use Rattle.digits.specs.Decimal.{digitsOf};
+ghost use Rattle.numerals.specs.digits.Decimal.{digitsOf};
 ghost use Rattle.refusals.specs.Outcome.{refusal};
 ghost use Rattle.lent_rows.specs.Lent.{rowsOf};
 ghost use Rattle.iso_texts.specs.Expanded.{isoTextExpanded};
-ghost use Rattle.digits.specs.Placed.{Placed};
+ghost use Rattle.numerals.specs.digits.Placed.{Placed};
 ghost use Rattle.readings.specs.Reading.{reading, readingTold, readingLine, LineCall};
 
 // So many bytes hold every line: an index of 64 bits has at most 20 digits, and so has a refusal's number for all that is proved of it; `refused` with its blank has 8, the

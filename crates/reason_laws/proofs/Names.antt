@@ -14,7 +14,7 @@ use lib.Ieee.{Float, binary64, ofInt, add, le, lt}
 use lib.Ieee.Scale.{finite}
 use borrow.Author.Tests.{ltb-true, le-leb, ne-eqb}
 use Rattle.refusals.specs.Outcome.{Outcome, answer, refusal, onward}
-use Rattle.little_endian.specs.LittleEndian.{u32At}
+use Rattle.numerals.specs.little_endian.LittleEndian.{u32At}
 use Rattle.floats.specs.Whole.{nought}
 use Rattle.constants.specs.Constants.{unixEpochJd}
 use Rattle.calendar.specs.Calendar.{daysInMonth}

@@ -9,9 +9,9 @@ use lib.Dec.{leb, ltb}
 use lib.IntN.{ℤ, pos, negsuc}
 use lib.Ieee.{Float, binary64, toBits}
 use borrow.Author.Tests.{leb-true}
-use Rattle.digits.specs.Decimal.{AllDigits, digitsOf}
-use Rattle.digits.proofs.Decimal.{digits-all}
-use Rattle.digits.specs.Hexadecimal.{hexDigit, hexDigits, hex16}
+use Rattle.numerals.specs.digits.Decimal.{AllDigits, digitsOf}
+use Rattle.numerals.proofs.digits.Decimal.{digits-all}
+use Rattle.numerals.specs.digits.Hexadecimal.{hexDigit, hexDigits, hex16}
 use Rattle.sentences.specs.declared.Named.{Named}
 use Rattle.sentences.specs.declared.Named.the-variants.{NoField, Year, Month, Day, Hour, Minute, Second, Sum, Fraction, Nanos, FirstPart, SecondPart, Offset, SecondSize, Size, WholeLength}
 use Rattle.sentences.specs.declared.Reason.{Reason}

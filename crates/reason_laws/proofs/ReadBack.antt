@@ -10,9 +10,9 @@ use lib.IntN.{ℤ, pos, negsuc, negℤ}
 use lib.Ieee.{Float, binary64, toBits, ofBits, fits}
 use lib.Ieee.Bits.{toBits-lt, ofBits-toBits}
 use borrow.Author.Tests.{ne-eqb}
-use Rattle.digits.specs.Decimal.{number, AllDigits, digitsOf}
-use Rattle.digits.proofs.Decimal.{number-digits, digits-all, digits-some}
-use Rattle.digits.proofs.Hexadecimal.{number-hex}
+use Rattle.numerals.specs.digits.Decimal.{number, AllDigits, digitsOf}
+use Rattle.numerals.proofs.digits.Decimal.{number-digits, digits-all, digits-some}
+use Rattle.numerals.proofs.digits.Hexadecimal.{number-hex}
 use Rattle.sentences.proofs.Each.{EachBelow, from-each}
 use Rattle.sentences.specs.declared.Named.{Named}
 use Rattle.sentences.specs.declared.Named.the-variants.{NoField, Year, Month, Day, Hour, Minute, Second, Sum, Fraction, Nanos, FirstPart, SecondPart, Offset, SecondSize, Size, WholeLength}

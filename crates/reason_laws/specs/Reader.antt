@@ -8,8 +8,8 @@ use lib.ListN.{length, drop}
 use lib.Dec.{T, eqb}
 use lib.IntN.{ℤ, pos, negℤ}
 use lib.Ieee.{Float, binary64, ofBits, fits}
-use Rattle.digits.specs.Decimal.{number}
-use Rattle.digits.specs.Hexadecimal.{hexNumber}
+use Rattle.numerals.specs.digits.Decimal.{number}
+use Rattle.numerals.specs.digits.Hexadecimal.{hexNumber}
 use Rattle.sentences.specs.declared.Named.{Named}
 use Rattle.sentences.specs.declared.Named.the-variants.{NoField, Year, Month, Day, Hour, Minute, Second, Sum, Fraction, Nanos, FirstPart, SecondPart, Offset, SecondSize, Size, WholeLength}
 use Rattle.sentences.specs.declared.Reason.{Reason}

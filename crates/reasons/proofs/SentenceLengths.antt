@@ -17,9 +17,9 @@ use Rattle.day_number.specs.DayNumber.{inJulianRange}
 use Rattle.julian.specs.JulianDate.{julian, roundedSum}
 use Rattle.julian.specs.DayFraction.{timeInDay}
 use Rattle.tai_utc.specs.Offset.{inDay}
-use Rattle.digits.specs.Decimal.{digitsOf}
-use Rattle.digits.proofs.Decimal.{digits-few}
-use Rattle.digits.proofs.Hexadecimal.{hex-length}
+use Rattle.numerals.specs.digits.Decimal.{digitsOf}
+use Rattle.numerals.proofs.digits.Decimal.{digits-few}
+use Rattle.numerals.proofs.digits.Hexadecimal.{hex-length}
 use Rattle.sentences.specs.declared.Named.{Named}
 use Rattle.sentences.specs.declared.Named.the-variants.{NoField, Year, Month, Day, Hour, Minute, Second, Sum, Fraction, Nanos, FirstPart, SecondPart, Offset, SecondSize, Size, WholeLength}
 use Rattle.reasons.specs.declared.Values.{Values}

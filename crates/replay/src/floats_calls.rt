@@ -12,7 +12,7 @@ pub(crate) fn answered(call: u64, record: &[u8; 128]) -> Answer {
         5 => words::float(floats::fabs(x)),
         6 => words::truth(floats::is_finite(x)),
         7 => words::values(
-            little_endian::pattern_of_i64(floats::saturating_i64(x)),
+            numerals::little_endian::pattern_of_i64(floats::saturating_i64(x)),
             0,
             0,
             0,

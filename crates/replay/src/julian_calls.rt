@@ -32,7 +32,7 @@ fn found_fields(a: CalendarAnswer) -> Answer {
 fn found_day(a: day_number::DayAnswer) -> Answer {
     match a {
         day_number::DayAnswer::Day(found) => {
-            let day = little_endian::pattern_of_i64(found.day);
+            let day = numerals::little_endian::pattern_of_i64(found.day);
             words::values(day, floats::to_bits(found.fraction), 0, 0)
         }
         day_number::DayAnswer::Refused(number) => words::refused(number),

@@ -51,7 +51,7 @@ pub(crate) fn float_at(record: &[u8; 128], k: usize) -> f64 {
 }
 
 pub(crate) fn signed_at(record: &[u8; 128], k: usize) -> i64 {
-    little_endian::i64_of_pattern(word_at(record, k))
+    numerals::little_endian::i64_of_pattern(word_at(record, k))
 }
 
 // A number of 32 bits; the list has no other where this is asked.
@@ -70,11 +70,11 @@ pub(crate) fn word_at(record: &[u8; 128], k: usize) -> u64 {
     if k > 15 {
         return 0;
     }
-    little_endian::u64_at(record, 8 * k)
+    numerals::little_endian::u64_at(record, 8 * k)
 }
 
 pub(crate) fn year_word(year: i32) -> u64 {
-    little_endian::pattern_of_i64(year as i64)
+    numerals::little_endian::pattern_of_i64(year as i64)
 }
 
 pub(crate) fn byte_at(record: &[u8; 128], k: usize) -> u8 {
@@ -103,10 +103,10 @@ pub(crate) fn text(number: u64, length: u64, buffer: &[u8; 32]) -> Answer {
     Answer {
         number,
         first: length,
-        second: little_endian::u64_at(buffer, 0),
-        third: little_endian::u64_at(buffer, 8),
-        fourth: little_endian::u64_at(buffer, 16),
-        fifth: little_endian::u64_at(buffer, 24),
+        second: numerals::little_endian::u64_at(buffer, 0),
+        third: numerals::little_endian::u64_at(buffer, 8),
+        fourth: numerals::little_endian::u64_at(buffer, 16),
+        fifth: numerals::little_endian::u64_at(buffer, 24),
     }
 }
 

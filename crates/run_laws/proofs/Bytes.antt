@@ -11,7 +11,7 @@ use lib.ListN.{length, getD, set, length-set}
 use lib.Seq.{sets, getD-set-same, getD-set-other}
 use lib.Ieee.{Float, binary64, toBits}
 use Rattle.refusals.specs.Outcome.{Outcome, answer, refusal}
-use Rattle.little_endian.specs.LittleEndian.{eightBytes}
+use Rattle.numerals.specs.little_endian.LittleEndian.{eightBytes}
 use Rattle.julian.specs.declared.JulianDate.{JulianDate}
 use Rattle.formula_runs.specs.Run.{numberByte, withPart, withParts, withNumbers, refusedAmong}
 use Rattle.formula_runs.proofs.Puts.{parts-length, numbers-length}

@@ -15,7 +15,7 @@ use borrow.Author.Tests.{eq-eqb, le-leb, eqb-true, leb-true}
 use Rattle.refusals.specs.Outcome.{Outcome, answer, refusal, onward}
 use Rattle.julian.specs.declared.JulianDate.{JulianDate}
 use Rattle.julian.specs.Finite.{finiteParts}
-use Rattle.little_endian.specs.LittleEndian.{u64At}
+use Rattle.numerals.specs.little_endian.LittleEndian.{u64At}
 use Rattle.floats.specs.Whole.{nought}
 use Rattle.shifts.specs.SmallerPart.{mapSmallerPart}
 use Rattle.shifts.specs.Shifts.{daysOf, converted, convertedBy}

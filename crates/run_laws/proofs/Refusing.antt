@@ -15,7 +15,7 @@ use Rattle.refusals.proofs.Onward.{stopped, came}
 use Rattle.julian.specs.declared.JulianDate.{JulianDate}
 use Rattle.julian.specs.JulianDate.{julian}
 use Rattle.julian.specs.Finite.{finiteParts, finiteJd}
-use Rattle.little_endian.specs.LittleEndian.{u64At}
+use Rattle.numerals.specs.little_endian.LittleEndian.{u64At}
 use Rattle.lent_rows.specs.Table.{Row}
 use Rattle.shifts.specs.Shifts.{plus, minus, converted}
 use Rattle.shifts.specs.SmallerPart.{firstIsLarger, mapSmallerPart}

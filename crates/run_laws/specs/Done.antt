@@ -5,7 +5,7 @@ use mathlib.Core.List.{List}
 use lib.ListN.{getD}
 use lib.Ieee.{binary64, toBits}
 use Rattle.refusals.specs.Outcome.{Outcome, answer, refusal}
-use Rattle.little_endian.specs.LittleEndian.{eightBytes}
+use Rattle.numerals.specs.little_endian.LittleEndian.{eightBytes}
 use Rattle.julian.specs.declared.JulianDate.{JulianDate}
 use Rattle.formula_runs.specs.Run.{RunCall, numberByte}
 

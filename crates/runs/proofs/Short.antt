@@ -9,7 +9,7 @@ use lib.Ieee.{Float, binary64, ofBits}
 use borrow.Author.Tests.{eqb-true}
 use Rattle.refusals.specs.Outcome.{Outcome, answer, refusal, onward}
 use Rattle.julian.specs.declared.JulianDate.{JulianDate}
-use Rattle.little_endian.specs.LittleEndian.{u64At}
+use Rattle.numerals.specs.little_endian.LittleEndian.{u64At}
 use Rattle.lent_rows.specs.Table.{Row}
 use Rattle.shifts.proofs.Outcomes.{and-left, and-right}
 use Rattle.scales.specs.Conversions.{answerOf, gps-tai, tt-tai}

@@ -4,7 +4,7 @@ ghost use Prim.Native.Nat.{_+_, _*_, _≤_};
 ghost use lib.ListN.{length};
 ghost use lib.Seq.{sets};
 ghost use lib.Ieee.{binary64, toBits};
-ghost use Rattle.little_endian.specs.LittleEndian.{u64At, eightBytes};
+ghost use Rattle.numerals.specs.little_endian.LittleEndian.{u64At, eightBytes};
 ghost use Rattle.julian.specs.JulianDate.{julianOutcome};
 ghost use Rattle.lent_rows.specs.Lent.{rowsIn, tableOf};
 ghost use Rattle.line_up.specs.LineUp.{stampOf};
@@ -31,7 +31,7 @@ fn pattern_at(s: &[u8], i: usize) -> u64
 {
     let at = 8 * i;
     let end = at + 8;
-    little_endian::u64_at(&s[at..end], 0)
+    numerals::little_endian::u64_at(&s[at..end], 0)
 }
 
 fn stamp_at(jd1s: &[u8], jd2s: &[u8], i: usize) -> JulianDate
@@ -49,7 +49,7 @@ fn put_pattern(out: &mut [u8], at: usize, n: u64)
     ensures { λ _. ⌜ now (out .exit) ≡ sets (now (out .entry)) at (eightBytes n) ⌝ }
 {
     let end = at + 8;
-    little_endian::put_u64(&mut out[at..end], n);
+    numerals::little_endian::put_u64(&mut out[at..end], n);
 }
 
 // Both parts of an answer in the places of stamp i, and its number: 0, or that of the refusal, of which the places stay.

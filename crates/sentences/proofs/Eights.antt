@@ -7,8 +7,8 @@ use mathlib.Core.Path.{_≡_, refl, sym, ap, _∙_, subst}
 use mathlib.Core.List.{List, [], _∷_, _++_, append-assoc, append-nil}
 use lib.ListN.{length, take, drop, getD, length-append}
 use lib.Seq.{sets, sets-eq, length-sets, take-at, take-all, take-take, take-append-le, take-append-add, length-take-le}
-use Rattle.little_endian.specs.LittleEndian.{eightBytes}
-use Rattle.digits.specs.Placed.{pasted, Placed}
+use Rattle.numerals.specs.little_endian.LittleEndian.{eightBytes}
+use Rattle.numerals.specs.digits.Placed.{pasted, Placed}
 use Rattle.sentences.specs.Texts.{fixedText, paddedText, eightsInBytes}
 use Rattle.sentences.specs.Begins.{Begins}
 

@@ -13,9 +13,9 @@ use mir.Val.{toZ, ofZ}
 use mir.Facts.{toZ-ofZ}
 use lib.Dec.{ltb}
 use borrow.Author.Tests.{leb-true, ltb-true, ltb-false, lt-ltb, le-ltb}
-use Rattle.digits.specs.Decimal.{last, digitsIn, digitsOf}
-use Rattle.digits.proofs.Decimal.{digits-few, digits-some}
-use Rattle.digits.specs.Hexadecimal.{hexDigit}
+use Rattle.numerals.specs.digits.Decimal.{last, digitsIn, digitsOf}
+use Rattle.numerals.proofs.digits.Decimal.{digits-few, digits-some}
+use Rattle.numerals.specs.digits.Hexadecimal.{hexDigit}
 use Rattle.sentences.proofs.Each.{EachBelow, from-each}
 use Rattle.sentences.specs.Texts.{texts, fixedText}
 use Rattle.sentences.specs.Render.{signedDigits}

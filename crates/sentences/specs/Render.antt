@@ -4,8 +4,8 @@ use Prim.Native.Nat.{ℕ, suc}
 use mathlib.Core.List.{List, [], _∷_, _++_}
 use lib.IntN.{ℤ, pos, negsuc}
 use lib.Ieee.{Float, binary64, toBits}
-use Rattle.digits.specs.Decimal.{digitsOf}
-use Rattle.digits.specs.Hexadecimal.{hex16}
+use Rattle.numerals.specs.digits.Decimal.{digitsOf}
+use Rattle.numerals.specs.digits.Hexadecimal.{hex16}
 use Rattle.sentences.specs.declared.Named.{Named}
 use Rattle.sentences.specs.declared.Named.the-variants.{NoField, Year, Month, Day, Hour, Minute, Second, Sum, Fraction, Nanos, FirstPart, SecondPart, Offset, SecondSize, Size, WholeLength}
 use Rattle.sentences.specs.declared.Reason.{Reason}

@@ -2,8 +2,8 @@
 use Prim.Native.Nat.{ℕ, _≤_}
 use mathlib.Core.List.{List, [], _++_}
 use lib.ListN.{take}
-use Rattle.little_endian.specs.LittleEndian.{eightBytes}
-use Rattle.digits.specs.Decimal.{digitsOf}
+use Rattle.numerals.specs.little_endian.LittleEndian.{eightBytes}
+use Rattle.numerals.specs.digits.Decimal.{digitsOf}
 use Rattle.sentences.specs.declared.Word.{Word}
 use Rattle.sentences.specs.declared.Shown.{Shown}
 use Rattle.sentences.specs.declared.Shown.the-variants.{Nothing, Signed, Whole, Bits}

@@ -7,7 +7,7 @@ use Prim.Native.String.{String}
 use Prim.Native.String as Native
 use mathlib.Core.List.{List, [], _∷_, _++_}
 use lib.ListN.{length, getD, replicate}
-use Rattle.little_endian.specs.LittleEndian.{eightBytes}
+use Rattle.numerals.specs.little_endian.LittleEndian.{eightBytes}
 
 -- the bytes of a text
 abbrev pub asciiBytes : String → List ℕ

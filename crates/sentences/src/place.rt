@@ -3,9 +3,9 @@ ghost use Prim.Native.Nat.{_+_, _≤_, _<_};
 ghost use mathlib.Core.Path.{_≡_};
 ghost use lib.ListN.{length};
 ghost use lib.IntN.{natAbs};
-ghost use Rattle.digits.specs.Decimal.{digitsOf};
-ghost use Rattle.digits.specs.Hexadecimal.{hexDigit, hex16};
-ghost use Rattle.digits.specs.Placed.{Placed};
+ghost use Rattle.numerals.specs.digits.Decimal.{digitsOf};
+ghost use Rattle.numerals.specs.digits.Hexadecimal.{hexDigit, hex16};
+ghost use Rattle.numerals.specs.digits.Placed.{Placed};
 ghost use Rattle.sentences.specs.Render.{signedDigits};
 
 pub(crate) fn bytes(src: &[u8], dst: &mut [u8], at: usize) -> usize

@@ -3,7 +3,7 @@ ghost use mathlib.Core.Path.{_≡_};
 ghost use Prim.Native.Nat.{_+_, _≤_};
 ghost use mathlib.Core.List.{_++_};
 ghost use lib.ListN.{length, take};
-ghost use Rattle.digits.specs.Decimal.{digitsOf};
+ghost use Rattle.numerals.specs.digits.Decimal.{digitsOf};
 ghost use Rattle.sentences.specs.Texts.{fixedText, paddedText, eightsInBytes};
 ghost use Rattle.sentences.specs.Begins.{Begins};
 ghost use Rattle.sentences.specs.Render.{signedDigits, floatDigits, namedText};
@@ -105,7 +105,7 @@ pub(crate) fn text(number: u32, dst: &mut [u8]) -> usize
     while k < 7 {
         let at = 8 * k;
         let end = at + 8;
-        little_endian::put_u64(&mut dst[at..end], all[k]);
+        numerals::little_endian::put_u64(&mut dst[at..end], all[k]);
         k += 1;
     }
     text_length(number)
@@ -146,8 +146,8 @@ fn word(w: Word, dst: &mut [u8], at: usize) -> usize
     let n = w.length;
     let middle = at + 8;
     let end = at + 16;
-    little_endian::put_u64(&mut dst[at..middle], first);
-    little_endian::put_u64(&mut dst[middle..end], second);
+    numerals::little_endian::put_u64(&mut dst[at..middle], first);
+    numerals::little_endian::put_u64(&mut dst[middle..end], second);
     at + n
 }
 

@@ -12,9 +12,9 @@ fn jd2cal(t: Tally) -> Tally {
     let mut out = [0u8; 20];
     let code = capi::date_calls::ct_julian_to_calendar(2400000.5, 50123.9999, &mut out);
     let status = tally::counted(t, code == 20);
-    let year = tally::counted(status, little_endian::u32_at(&out, 0) == 1996);
-    let month = tally::counted(year, little_endian::u32_at(&out, 4) == 2);
-    let day = tally::counted(month, little_endian::u32_at(&out, 8) == 10);
+    let year = tally::counted(status, numerals::little_endian::u32_at(&out, 0) == 1996);
+    let month = tally::counted(year, numerals::little_endian::u32_at(&out, 4) == 2);
+    let day = tally::counted(month, numerals::little_endian::u32_at(&out, 8) == 10);
     tally::near(day, tally::float_at(&out, 12), 0.9999, 1e-7)
 }
 

@@ -31,7 +31,7 @@ pub(crate) fn near(t: Tally, x: f64, published: f64, tolerance: f64) -> Tally {
 }
 
 pub(crate) fn float_at(out: &[u8], at: usize) -> f64 {
-    floats::from_bits(little_endian::u64_at(out, at))
+    floats::from_bits(numerals::little_endian::u64_at(out, at))
 }
 
 // A date of two parts: status 0, and both parts near.

@@ -8,7 +8,7 @@ use lib.ListN.{length}
 use lib.Dec.{ltb, leb, eqb}
 use borrow.Author.Tests.{lt-ltb, le-ltb, le-leb, lt-leb, eq-eqb, ne-eqb, leb-true, eqb-true}
 use Rattle.refusals.specs.Outcome.{Outcome, answer, refusal}
-use Rattle.little_endian.specs.LittleEndian.{u32At}
+use Rattle.numerals.specs.little_endian.LittleEndian.{u32At}
 use Rattle.stamps.specs.Block.{blockOf}
 use Rattle.stamps.specs.Parts.{linesIn}
 

@@ -14,11 +14,11 @@ use Rattle.stamps.specs.declared.Telling.{Telling}
 use Rattle.stamps.specs.declared.BlockAnswer.{BlockAnswer}
 use Rattle.stamps.specs.declared.BlockAnswer.the-variants.{Stamps, Refused}
 use Rattle.stamps.specs.Block.{blockOf, blockOutcome, stampAt}
-use Rattle.digits.specs.Placed.{Placed}
+use Rattle.numerals.specs.digits.Placed.{Placed}
 use Rattle.stamps.specs.Listing.{numeral, textAt, shown, stampLine, oneIfRefused, refusedIn, header, blockRefused}
 use Rattle.stamps.specs.Parts.{lineOf, linesIn, linesFrom}
 use Rattle.stamps.proofs.Blocks.{block-accepted, block-number}
-use Rattle.digits.proofs.Places.{then, placed-as}
+use Rattle.numerals.proofs.digits.Places.{then, placed-as}
 
 module _ {d d1 d2 d3 d4 : List ℕ} {at r1 r2 r3 r4 : ℕ} where
   pub stamp-put : (how : Telling) (rows : List Row) (s : List ℕ) (n i : ℕ) (jd : JulianDate) → jd ≡ stampAt s n i

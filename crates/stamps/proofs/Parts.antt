@@ -18,7 +18,7 @@ use Rattle.stamps.specs.declared.Telling.{Telling}
 use Rattle.stamps.specs.declared.Part.{Part}
 use Rattle.stamps.specs.declared.LinesAnswer.the-variants.{Lines, Refused}
 use Rattle.stamps.specs.Block.{blockOf}
-use Rattle.digits.specs.Placed.{pasted, Placed}
+use Rattle.numerals.specs.digits.Placed.{pasted, Placed}
 use Rattle.stamps.specs.Listing.{lineRoom}
 use Rattle.stamps.specs.Parts.{lineOf, linesIn, linesFrom, heldLines, partLines, partText, partOf, PartPlaced, linesOutcome, scratchHolds, PartCall}
 use Rattle.stamps.proofs.Blocks.{few-lines}

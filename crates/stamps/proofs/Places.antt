@@ -7,9 +7,9 @@ use mathlib.Core.Bool.{Bool, true, false, cond}
 use lib.ListN.{length, length-append}
 use lib.Dec.{ltb}
 use borrow.Author.Tests.{lt-ltb, le-ltb}
-use Rattle.digits.specs.Decimal.{last, digitsIn}
-use Rattle.digits.specs.Placed.{Placed}
-use Rattle.digits.proofs.Places.{then}
+use Rattle.numerals.specs.digits.Decimal.{last, digitsIn}
+use Rattle.numerals.specs.digits.Placed.{Placed}
+use Rattle.numerals.proofs.digits.Places.{then}
 
 -- at most as many digits as there is room for
 pub digits-most : (k n : ℕ) → length (digitsIn k n) ≤ k

@@ -12,7 +12,7 @@ use mir.Syntax.{w32}
 use mir.Val.{SFits, toZ, ofZ}
 use borrow.Author.Tests.{ltb-false}
 use Rattle.refusals.specs.Outcome.{Outcome, answer}
-use Rattle.little_endian.specs.LittleEndian.{fourAt, u32At}
+use Rattle.numerals.specs.little_endian.LittleEndian.{fourAt, u32At}
 use Rattle.calendar.proofs.Years.{DateInRange}
 use Rattle.julian.specs.declared.JulianDate.{JulianDate}
 use Rattle.julian.specs.declared.CalendarFields.{CalendarFields}

@@ -7,8 +7,8 @@ use mathlib.Core.List.{List, [], _∷_, _++_}
 use lib.ListN.{length}
 use lib.IntN.{pos}
 use Rattle.refusals.specs.Outcome.{Outcome, answer, refusal}
-use Rattle.little_endian.specs.LittleEndian.{u32At}
-use Rattle.digits.specs.Decimal.{digitsIn}
+use Rattle.numerals.specs.little_endian.LittleEndian.{u32At}
+use Rattle.numerals.specs.digits.Decimal.{digitsIn}
 use Rattle.julian.specs.declared.JulianDate.{JulianDate}
 use Rattle.julian.specs.declared.CalendarFields.{CalendarFields}
 use Rattle.julian.specs.Calendar.{julianToCalendar}

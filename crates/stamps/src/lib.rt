@@ -44,8 +44,8 @@ pub fn block_stamps(block: &[u8]) -> BlockAnswer
     if block.len() < 8 {
         return BlockAnswer::Refused(refusals::BLOCK_LENGTH_WRONG);
     }
-    let size = little_endian::u32_at(block, 0);
-    let second_size = little_endian::u32_at(block, 4);
+    let size = numerals::little_endian::u32_at(block, 0);
+    let second_size = numerals::little_endian::u32_at(block, 4);
     if size != second_size {
         return BlockAnswer::Refused(refusals::BLOCK_SIZES_DIFFER);
     }
@@ -64,8 +64,8 @@ pub(crate) fn stamp_at(block: &[u8], stamps: usize, i: usize) -> JulianDate
     requires { ⌜ (i < stamps) × (stamps ≤ 4000) ⌝ }
     ensures { λ r. ⌜ r ≡ stampAt (now (block .entry)) stamps i ⌝ }
 {
-    let jd1 = little_endian::u64_at(block, 8 + 8 * i);
-    let jd2 = little_endian::u64_at(block, 8 + 8 * stamps + 8 * i);
+    let jd1 = numerals::little_endian::u64_at(block, 8 + 8 * i);
+    let jd2 = numerals::little_endian::u64_at(block, 8 + 8 * stamps + 8 * i);
     JulianDate {
         jd1: floats::from_bits(jd1),
         jd2: floats::from_bits(jd2),

@@ -13,7 +13,7 @@ ghost use Rattle.lent_rows.specs.Table.{Row};
 ghost use Rattle.lent_rows.specs.Lent.{rowsOf, tableOf};
 ghost use Rattle.iso_texts.specs.Expanded.{isoTextExpanded};
 ghost use Rattle.stamps.specs.Block.{blockOutcome, blockOf};
-ghost use Rattle.digits.specs.Placed.{Placed};
+ghost use Rattle.numerals.specs.digits.Placed.{Placed};
 ghost use Rattle.stamps.specs.Listing.{lineRoom, shown, stampLine, oneIfRefused, refusedIn, header, blockRefused};
 ghost use Rattle.stamps.specs.Parts.{lineOf, linesIn, PartPlaced, PartCall};
 use super::BlockAnswer;

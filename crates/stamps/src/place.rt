@@ -2,8 +2,8 @@
 ghost use Prim.Native.Nat.{_+_, _≤_, _<_};
 ghost use mathlib.Core.List.{[], _∷_};
 ghost use lib.ListN.{length};
-ghost use Rattle.digits.specs.Decimal.{last, digitsIn};
-ghost use Rattle.digits.specs.Placed.{Placed};
+ghost use Rattle.numerals.specs.digits.Decimal.{last, digitsIn};
+ghost use Rattle.numerals.specs.digits.Placed.{Placed};
 ghost use Rattle.stamps.specs.Listing.{numeral};
 
 pub(crate) fn bytes(src: &[u8], dst: &mut [u8], at: usize) -> usize

@@ -3,7 +3,7 @@ ghost use mathlib.Core.Path.{_≡_};
 ghost use Prim.Native.Nat.{_+_, _≤_};
 ghost use mathlib.Core.List.{_++_};
 ghost use lib.ListN.{length};
-ghost use Rattle.digits.specs.Placed.{Placed};
+ghost use Rattle.numerals.specs.digits.Placed.{Placed};
 ghost use Rattle.sentences.specs.declared.Reason.{Reason};
 ghost use Rattle.reasons.specs.Offending.{offending};
 ghost use Rattle.sentences.specs.Render.{render};
@@ -84,8 +84,8 @@ pub(crate) fn place_block_told(
     match how {
         Telling::Numbers => place_number(number, dst, at),
         Telling::Sentences(came) => {
-            let size = little_endian::u32_at(block, 0);
-            let second = little_endian::u32_at(block, 4);
+            let size = numerals::little_endian::u32_at(block, 0);
+            let second = numerals::little_endian::u32_at(block, 4);
             place_sentence(number, Values::Block(came, size, second), dst, at)
         }
     }

@@ -10,7 +10,7 @@ use lib.Seq.{getD-drop, drop-drop}
 use lib.Dec.{eqb}
 use borrow.Author.Tests.{eq-eqb, ne-eqb, eqb-true, eqb-false}
 use Rattle.refusals.specs.Outcome.{answer, refusal}
-use Rattle.digits.specs.Decimal.{isDigit}
+use Rattle.numerals.specs.digits.Decimal.{isDigit}
 use Rattle.text_scan.specs.declared.Form.{Form}
 use Rattle.text_scan.specs.declared.Run.{Run}
 use Rattle.text_scan.specs.Form.{byteAt, twoDigits, twoSay, isSeparator, fractionDigits, dateRight, timeRight, afterBlanks, afterFraction, endRight, rightForm}

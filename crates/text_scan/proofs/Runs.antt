@@ -10,8 +10,8 @@ use lib.ListN.{length, drop, getD, drop-of-length-le, List·getD-eq-default}
 use lib.Seq.{drop-cons, drop-drop, getD-drop}
 use lib.Dec.{ltb, eqb}
 use borrow.Author.Tests.{ltb-true, ltb-false, eq-eqb, ne-eqb}
-use Rattle.digits.specs.Decimal.{isDigit}
-use Rattle.digits.proofs.Decimal.{digit-bounds}
+use Rattle.numerals.specs.digits.Decimal.{isDigit}
+use Rattle.numerals.proofs.digits.Decimal.{digit-bounds}
 use Rattle.text_scan.specs.declared.Run.{Run}
 use Rattle.text_scan.specs.Form.{isBlank, afterBlanks, byteAt, digitSays, leading, fractionDigits, afterFraction, zuluFirst}
 use Rattle.text_scan.specs.Scan.{joined, keptFrom, kept, DigitsRun, FractionRun}

@@ -6,7 +6,7 @@ use mathlib.Core.Bool.{Bool, cond, _&&_, _||_}
 use lib.ListN.{length, drop, getD}
 use lib.Dec.{leb, eqb}
 use Rattle.refusals.specs.Outcome.{Outcome, answer, refusal}
-use Rattle.digits.specs.Decimal.{value, isDigit}
+use Rattle.numerals.specs.digits.Decimal.{value, isDigit}
 use Rattle.text_scan.specs.Written.{Written}
 
 unfoldable pub isBlank : ℕ → Bool

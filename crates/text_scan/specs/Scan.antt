@@ -7,7 +7,7 @@ use mathlib.Core.Bool.{Bool, cond}
 use lib.ListN.{length, drop}
 use lib.Dec.{ltb, eqb}
 use Rattle.refusals.specs.Outcome.{Outcome, answer, refusal}
-use Rattle.digits.specs.Decimal.{isDigit}
+use Rattle.numerals.specs.digits.Decimal.{isDigit}
 use Rattle.text_scan.specs.declared.Form.{Form}
 use Rattle.text_scan.specs.declared.Run.{Run}
 use Rattle.text_scan.specs.declared.Scanned.{Scanned}

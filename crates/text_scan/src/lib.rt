@@ -3,7 +3,7 @@ ghost use mathlib.Core.Path.{_≡_};
 ghost use mathlib.Core.Bool.{cond};
 ghost use Prim.Native.Nat.{_+_, _≤_};
 ghost use lib.ListN.{length, drop, getD};
-ghost use Rattle.digits.specs.Decimal.{isDigit};
+ghost use Rattle.numerals.specs.digits.Decimal.{isDigit};
 ghost use Rattle.text_scan.specs.Form.{isBlank, afterBlanks, twoDigits, digitSays, twoSay, dateRight, isSeparator, timeRight, zuluFirst, endRight};
 ghost use Rattle.text_scan.specs.Scan.{joined as joined·of, DigitsRun, FractionRun, formBy, scannedOutcome, scanOf};
 

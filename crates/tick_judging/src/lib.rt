@@ -16,7 +16,7 @@ fn number_at(s: &[u8], i: usize) -> u64
 {
     let at = 8 * i;
     let end = at + 8;
-    little_endian::u64_at(&s[at..end], 0)
+    numerals::little_endian::u64_at(&s[at..end], 0)
 }
 
 // Whether the first n numbers are below 2^40.

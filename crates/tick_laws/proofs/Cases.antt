@@ -3,7 +3,7 @@ use mathlib.Core.Path.{_≡_, refl}
 use Prim.Native.Nat.{ℕ}
 use mathlib.Core.List.{List, [], _++_}
 use Rattle.refusals.specs.Outcome.{answer, refusal}
-use Rattle.little_endian.specs.LittleEndian.{fourAt, u64At, eightBytes}
+use Rattle.numerals.specs.little_endian.LittleEndian.{fourAt, u64At, eightBytes}
 use Rattle.tick_times.specs.Line.{lineAt}
 use Rattle.tick_judging.specs.Numbers.{holdsBelow, allSmall, allRising, inside}
 use Rattle.tick_times.specs.Passes.{lastNotAfter, millisAt}

@@ -6,11 +6,11 @@ use mathlib.Core.Path.{_≡_, refl, sym, ap, subst, _∙_}
 use mathlib.Core.List.{List, [], _∷_, _++_, append-assoc}
 use lib.ListN.{length, take, drop, length-append}
 use lib.Seq.{take-at, drop-at}
-use Rattle.little_endian.specs.LittleEndian.{u64At, eightBytes}
-use Rattle.little_endian.proofs.RoundTrip.{read-written}
+use Rattle.numerals.specs.little_endian.LittleEndian.{u64At, eightBytes}
+use Rattle.numerals.proofs.little_endian.RoundTrip.{read-written}
 use Rattle.tick_judging.specs.Refusing.{numberAt}
 use Rattle.tick_times.specs.Ticks.{bytesOf}
-use Rattle.little_endian.proofs.Parts.{eight-in-part}
+use Rattle.numerals.proofs.little_endian.Parts.{eight-in-part}
 use Rattle.tick_times.proofs.Calls.{length-bytes}
 
 eight-there : (f : ℕ → ℕ) (n : ℕ) (rest : List ℕ) (i : ℕ) → i < n → take 8 (drop (8 * i) (bytesOf f n ++ rest)) ≡ eightBytes (f i)

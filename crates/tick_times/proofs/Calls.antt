@@ -8,7 +8,7 @@ use lib.ListN.{length, drop, length-append}
 use lib.Dec.{eqb}
 use borrow.Author.Tests.{eqb-true, ne-eqb}
 use Rattle.refusals.specs.Outcome.{Outcome, answer, refusal, onward}
-use Rattle.little_endian.specs.LittleEndian.{eightBytes}
+use Rattle.numerals.specs.little_endian.LittleEndian.{eightBytes}
 use Rattle.tick_times.specs.declared.TicksAnswer.the-variants.{Written, Refused}
 use Rattle.tick_times.specs.Passes.{millisAt}
 use Rattle.tick_judging.specs.Refusing.{numberAt, numbersIn, refusedBy}

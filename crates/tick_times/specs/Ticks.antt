@@ -7,7 +7,7 @@ use mathlib.Core.List.{List, [], _++_}
 use lib.ListN.{length, drop}
 use lib.Dec.{eqb}
 use Rattle.refusals.specs.Outcome.{Outcome, answer, refusal, onward}
-use Rattle.little_endian.specs.LittleEndian.{eightBytes}
+use Rattle.numerals.specs.little_endian.LittleEndian.{eightBytes}
 use Rattle.tick_times.specs.declared.TicksAnswer.{TicksAnswer}
 use Rattle.tick_times.specs.declared.TicksAnswer.the-variants.{Written, Refused}
 use Rattle.tick_judging.specs.Refusing.{numberAt, numbersIn, refusedBy}

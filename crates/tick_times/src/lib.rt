@@ -4,7 +4,7 @@ ghost use mathlib.Core.List.{_++_};
 ghost use Prim.Native.Nat.{_+_, _-_, _*_, _/_, _<_, _≤_};
 ghost use lib.ListN.{length, drop};
 ghost use lib.Seq.{sets};
-ghost use Rattle.little_endian.specs.LittleEndian.{eightBytes};
+ghost use Rattle.numerals.specs.little_endian.LittleEndian.{eightBytes};
 ghost use Rattle.tick_times.specs.Passes.{lastNotAfter, millisBetween, millisAt};
 ghost use Rattle.tick_judging.specs.Refusing.{numberAt};
 ghost use Rattle.tick_times.specs.Ticks.{passesOf, bytesOf, placedTicks, TicksCall};
@@ -50,7 +50,7 @@ fn number_at(s: &[u8], i: usize) -> u64
 {
     let at = 8 * i;
     let end = at + 8;
-    little_endian::u64_at(&s[at..end], 0)
+    numerals::little_endian::u64_at(&s[at..end], 0)
 }
 
 // The last of the passes `low` to `high` that is not after tick t, by halving: it is `from` or one of the `left` passes behind it.
@@ -108,7 +108,7 @@ fn put_number(out: &mut [u8], at: usize, n: u64)
     ensures { λ _. ⌜ now (out .exit) ≡ sets (now (out .entry)) at (eightBytes n) ⌝ }
 {
     let end = at + 8;
-    little_endian::put_u64(&mut out[at..end], n);
+    numerals::little_endian::put_u64(&mut out[at..end], n);
 }
 
 // Places n ticks between k + 2 passes.

@@ -5,7 +5,7 @@ use mathlib.Core.List.{List, [], _∷_, _++_}
 use mathlib.Core.Bool.{cond}
 use lib.IntN.{ℤ, pos, negsuc}
 use lib.Dec.{ltb}
-pub use Rattle.digits.specs.Decimal.{last}
+pub use Rattle.numerals.specs.digits.Decimal.{last}
 use Rattle.calendar.specs.declared.CalendarDate.{CalendarDate}
 use Rattle.time_of_day.specs.declared.TimeOfDay.{TimeOfDay}
 

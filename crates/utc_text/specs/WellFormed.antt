@@ -6,8 +6,8 @@ use mathlib.Core.List.{List, [], _∷_}
 use mathlib.Core.Bool.{cond}
 use lib.ListN.{length}
 use lib.Dec.{eqb}
-unfoldable pub use Rattle.digits.specs.Decimal.{AllDigits}
-pub use Rattle.digits.specs.Decimal.{Digits}
+unfoldable pub use Rattle.numerals.specs.digits.Decimal.{AllDigits}
+pub use Rattle.numerals.specs.digits.Decimal.{Digits}
 use Rattle.utc_text.specs.ReadBack.{fromEnd, yearBytes}
 
 -- what stands after a minus sign, 45, or the whole where there is none

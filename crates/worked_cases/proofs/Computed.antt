@@ -4,7 +4,7 @@ use lib.Ieee.{round, ofBits, ofInt, add, sub, mul, div, neg, lt, le, eq, toSigne
 use Rattle.refusals.specs.Outcome.{Outcome, onward}
 use Rattle.constants.specs.Constants.{secondsPerDay, mjdZeroPoint, unixEpochJd, nanosecondsPerSecond, tcbRateLb, tdbOffset1977, ttTaiOffset, mjd1977Jan1}
 use Rattle.floats.specs.Whole.{abs, toWhole, nearestInt}
-use Rattle.little_endian.specs.LittleEndian.{fourAt, u32At}
+use Rattle.numerals.specs.little_endian.LittleEndian.{fourAt, u32At}
 use Rattle.calendar.specs.Calendar.{next, leapSize, lengths, daysInMonth}
 use Rattle.calendar.specs.Refusals.{validDate, nextOf}
 use Rattle.calendar.specs.DayCount.{civilCount, mjdNumber, mjdOf}

@@ -3,7 +3,7 @@ use mathlib.Core.Path.{refl, _∙_}
 use mathlib.Core.List.{_++_}
 use mir.Facts.{toZ-ofZ}
 use denote.Ref.{now}
-use Rattle.little_endian.specs.LittleEndian.{patternOf}
+use Rattle.numerals.specs.little_endian.LittleEndian.{patternOf}
 use Rattle.c_answers.specs.Fields.{fourBytes, floatBytes, dateBytes}
 use Rattle.reader_answers.specs.ReaderFields.{parsedBytes}
 use Rattle.c_answers.proofs.Deliveries.{too-short, code-back}

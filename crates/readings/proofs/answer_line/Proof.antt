@@ -4,7 +4,7 @@ use denote.Ref.{now}
 use lib.ListN.{length}
 use native.Mathlib.Omega.{arith}
 use Rattle.readings.specs.Reading.{readingLine}
-use Rattle.digits.proofs.Places.{then}
+use Rattle.numerals.proofs.digits.Places.{then}
 use Rattle.readings.proofs.Lines.{no-room, line-put}
 use borrow.Author.Needs.{needs}
 use Rattle.readings.proofs.answer_line.Statement.{statement}

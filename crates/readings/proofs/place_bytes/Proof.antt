@@ -1,7 +1,7 @@
 -- `readings::place_bytes` meets its contract. Assumes nothing.
 use denote.Ref.{now}
 use native.Mathlib.Omega.{arith}
-use Rattle.digits.proofs.Places.{bytes-put}
+use Rattle.numerals.proofs.digits.Places.{bytes-put}
 use borrow.Author.Needs.{needs}
 use Rattle.readings.proofs.place_bytes.Statement.{statement}
 use Rattle.readings.proofs.place_bytes.Tie as tie

@@ -1,6 +1,6 @@
 -- `readings::place_number` meets its contract: the digits that `io::decimal` wrote, copied. Assumes nothing.
 use native.Mathlib.Omega.{arith}
-use Rattle.digits.proofs.Places.{placed-as}
+use Rattle.numerals.proofs.digits.Places.{placed-as}
 use Rattle.readings.proofs.Lines.{number-bytes}
 use borrow.Author.Needs.{needs}
 use Rattle.readings.proofs.place_number.Statement.{statement}

@@ -4,7 +4,7 @@ use denote.Ref.{now}
 use Rattle.lent_rows.specs.Lent.{rowsOf}
 use Rattle.readings.specs.Reading.{readingTold}
 use Rattle.readings.proofs.Lines.{read-refused, read-dated}
-use Rattle.digits.proofs.Places.{placed-as}
+use Rattle.numerals.proofs.digits.Places.{placed-as}
 use borrow.Author.Needs.{needs}
 use Rattle.readings.proofs.place_reading.Statement.{statement}
 use Rattle.readings.proofs.place_reading.Tie as tie

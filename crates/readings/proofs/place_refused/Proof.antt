@@ -1,7 +1,7 @@
 -- `readings::place_refused` meets its contract: two writes, one after the other. Assumes nothing.
 use native.Mathlib.Omega.{arith}
 use Rattle.readings.specs.Reading.{readingTold}
-use Rattle.digits.proofs.Places.{then}
+use Rattle.numerals.proofs.digits.Places.{then}
 use borrow.Author.Needs.{needs}
 use Rattle.readings.proofs.place_refused.Statement.{statement}
 use Rattle.readings.proofs.place_refused.Tie as tie

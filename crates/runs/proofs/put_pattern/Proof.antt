@@ -2,7 +2,7 @@
 use Prim.Native.Nat.{_+_, _-_}
 use native.Mathlib.Omega.{arith}
 use denote.Ref.{now}
-use Rattle.little_endian.proofs.Puts.{put-in-place}
+use Rattle.numerals.proofs.little_endian.Puts.{put-in-place}
 use borrow.Author.Needs.{needs}
 use Rattle.runs.proofs.put_pattern.Statement.{statement}
 use Rattle.runs.proofs.put_pattern.Tie as tie

@@ -1,6 +1,6 @@
 -- `text_scan::digit` meets its contract. Assumes nothing.
 use borrow.Author.Tests.{le-leb, lt-leb}
-use Rattle.digits.specs.Decimal.{isDigit}
+use Rattle.numerals.specs.digits.Decimal.{isDigit}
 use Rattle.text_scan.proofs.digit.Statement.{statement}
 use Rattle.text_scan.proofs.digit.Tie as tie
 

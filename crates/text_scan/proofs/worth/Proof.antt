@@ -1,7 +1,7 @@
 -- `text_scan::worth` meets its contract. Assumes nothing.
 use mathlib.Core.Path.{sym, _∙_}
 use native.Mathlib.Omega.{arith}
-use Rattle.digits.proofs.Decimal.{digit-bounds}
+use Rattle.numerals.proofs.digits.Decimal.{digit-bounds}
 use Rattle.text_scan.proofs.Runs.{worth-of, worth-none}
 use borrow.Author.Needs.{needs}
 use Rattle.text_scan.proofs.worth.Statement.{statement}

@@ -3,8 +3,8 @@ use Prim.Native.Nat.{ℕ, _+_, _-_, _*_}
 use native.Mathlib.Omega.{arith}
 use mathlib.Core.Path.{_≡_, ap, _∙_}
 use lib.ListN.{take, drop}
-use Rattle.little_endian.specs.LittleEndian.{u64At}
-use Rattle.little_endian.proofs.Parts.{eight-in-part}
+use Rattle.numerals.specs.little_endian.LittleEndian.{u64At}
+use Rattle.numerals.proofs.little_endian.Parts.{eight-in-part}
 use borrow.Author.Needs.{needs}
 use Rattle.tick_judging.proofs.number_at.Statement.{statement}
 use Rattle.tick_judging.proofs.number_at.Tie as tie

@@ -3,7 +3,7 @@ use mathlib.Core.Path.{_∙_, ap}
 use mathlib.Core.List.{_++_}
 use Prim.Native.Nat.{ℕ}
 use mir.Facts.{toZ-ofZ}
-use Rattle.little_endian.specs.LittleEndian.{patternOf}
+use Rattle.numerals.specs.little_endian.LittleEndian.{patternOf}
 use Rattle.c_answers.specs.Fields.{fourBytes, dateBytes}
 use Rattle.c_answers.proofs.Deliveries.{same-bytes}
 use borrow.Author.Needs.{needs}

@@ -1,6 +1,6 @@
 -- `c_answers::fields::put_float` meets its contract. Assumes nothing.
 use mathlib.Core.Path.{_∙_, ap}
-use Rattle.little_endian.specs.LittleEndian.{eightBytes}
+use Rattle.numerals.specs.little_endian.LittleEndian.{eightBytes}
 use Rattle.c_answers.proofs.Deliveries.{same-bytes}
 use borrow.Author.Needs.{needs}
 use Rattle.c_answers.proofs.fields.put_float.Statement.{statement}

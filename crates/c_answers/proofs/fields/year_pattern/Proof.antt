@@ -3,7 +3,7 @@ use mathlib.Core.Path.{sym, ap, subst, _∙_}
 use mir.Syntax.{w32, w64}
 use mir.Val.{SFits, toZ, ofZ}
 use mir.Facts.{toZ-ofZ, sfits-widen}
-use Rattle.little_endian.specs.LittleEndian.{patternOf}
+use Rattle.numerals.specs.little_endian.LittleEndian.{patternOf}
 use borrow.Author.Needs.{needs}
 use Rattle.c_answers.proofs.fields.year_pattern.Statement.{statement}
 use Rattle.c_answers.proofs.fields.year_pattern.Tie as tie

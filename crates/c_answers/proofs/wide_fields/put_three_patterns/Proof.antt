@@ -2,7 +2,7 @@
 use mathlib.Core.Path.{refl, _∙_}
 use mathlib.Core.List.{_++_}
 use denote.Ref.{now}
-use Rattle.little_endian.specs.LittleEndian.{eightBytes}
+use Rattle.numerals.specs.little_endian.LittleEndian.{eightBytes}
 use Rattle.c_answers.specs.WideFields.{threeEights}
 use Rattle.c_answers.proofs.Deliveries.{too-short, code-back}
 use Rattle.c_answers.proofs.Pieces.{in-two, of-bytes}

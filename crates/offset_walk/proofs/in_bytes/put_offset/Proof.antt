@@ -4,8 +4,8 @@ use native.Mathlib.Omega.{arith}
 use mathlib.Core.Path.{ap, _∙_}
 use denote.Ref.{now}
 use lib.Seq.{sets}
-use Rattle.little_endian.specs.LittleEndian.{eightBytes}
-use Rattle.little_endian.proofs.Puts.{put-in-place}
+use Rattle.numerals.specs.little_endian.LittleEndian.{eightBytes}
+use Rattle.numerals.proofs.little_endian.Puts.{put-in-place}
 use borrow.Author.Needs.{needs}
 use Rattle.offset_walk.proofs.in_bytes.put_offset.Statement.{statement}
 use Rattle.offset_walk.proofs.in_bytes.put_offset.Tie as tie

@@ -5,7 +5,7 @@ use mathlib.Core.Path.{_≡_, ap, _∙_}
 use mir.Syntax.{w32}
 use mir.Facts.{toZ-ofZ}
 use denote.Ref.{now}
-use Rattle.little_endian.specs.LittleEndian.{i32At}
+use Rattle.numerals.specs.little_endian.LittleEndian.{i32At}
 use Rattle.date_judging.specs.Judging.{triple}
 use Rattle.date_judging.proofs.Twelves.{in-twelve}
 use borrow.Author.Needs.{needs}

@@ -1,7 +1,7 @@
 -- `place::bytes` meets its contract. Assumes nothing.
 use denote.Ref.{now}
 use native.Mathlib.Omega.{arith}
-use Rattle.digits.proofs.Places.{bytes-put}
+use Rattle.numerals.proofs.digits.Places.{bytes-put}
 use borrow.Author.Needs.{needs}
 use Rattle.sentences.proofs.place.bytes.Statement.{statement}
 use Rattle.sentences.proofs.place.bytes.Tie as tie

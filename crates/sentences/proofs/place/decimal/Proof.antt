@@ -4,7 +4,7 @@ use mathlib.Core.Path.{refl, ap}
 use lib.ListN.{length, set, length-set}
 use native.Mathlib.Omega.{arith}
 use borrow.Author.Needs.{needs}
-use Rattle.digits.proofs.Places.{placed-as}
+use Rattle.numerals.proofs.digits.Places.{placed-as}
 use Rattle.sentences.proofs.Numbers.{Behind, begun, room-left, one-written, two-written, part-written, few-digits}
 use Rattle.sentences.proofs.place.decimal.Statement.{statement}
 use Rattle.sentences.proofs.place.decimal.Tie as tie

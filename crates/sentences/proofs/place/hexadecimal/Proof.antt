@@ -1,8 +1,8 @@
 -- `place::hexadecimal` meets its contract. Assumes nothing.
 use native.Mathlib.Omega.{arith}
 use lib.ListN.{length}
-use Rattle.digits.proofs.Hexadecimal.{hex-length}
-use Rattle.digits.proofs.Places.{placed-as}
+use Rattle.numerals.proofs.digits.Hexadecimal.{hex-length}
+use Rattle.numerals.proofs.digits.Places.{placed-as}
 use borrow.Author.Needs.{needs}
 use Rattle.sentences.proofs.place.hexadecimal.Statement.{statement}
 use Rattle.sentences.proofs.place.hexadecimal.Tie as tie

@@ -7,8 +7,8 @@ use mathlib.Core.Bool.{true, false}
 use lib.IntN.{pos, natAbs}
 use mir.Facts.{toZ-ofZ}
 use Rattle.calendar.proofs.Signs.{lt-left}
-use Rattle.digits.specs.Decimal.{digitsOf}
-use Rattle.digits.proofs.Places.{then, placed-as}
+use Rattle.numerals.specs.digits.Decimal.{digitsOf}
+use Rattle.numerals.proofs.digits.Places.{then, placed-as}
 use Rattle.sentences.proofs.Numbers.{signed-below, signed-from}
 use borrow.Author.Needs.{needs}
 use Rattle.sentences.proofs.place.signed.Statement.{statement}

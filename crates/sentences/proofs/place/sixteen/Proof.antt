@@ -1,5 +1,5 @@
 -- `place::sixteen` meets its contract. Assumes nothing.
-use Rattle.digits.specs.Hexadecimal.{hex16, hexDigits}
+use Rattle.numerals.specs.digits.Hexadecimal.{hex16, hexDigits}
 use borrow.Author.Needs.{needs}
 use Rattle.sentences.proofs.place.sixteen.Statement.{statement}
 use Rattle.sentences.proofs.place.sixteen.Tie as tie

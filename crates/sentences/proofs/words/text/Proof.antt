@@ -1,7 +1,7 @@
 -- `words::text` meets its contract: the text and its blanks go in eight bytes at a time. Assumes nothing.
 use Prim.Native.Nat.{_+_, _*_, _-_}
 use native.Mathlib.Omega.{arith}
-use Rattle.little_endian.proofs.Puts.{put-in-place}
+use Rattle.numerals.proofs.little_endian.Puts.{put-in-place}
 use Rattle.sentences.proofs.Eights.{InFront, none-yet, next-eight, text-begins}
 use borrow.Author.Needs.{needs}
 use Rattle.sentences.proofs.words.text.Statement.{statement}

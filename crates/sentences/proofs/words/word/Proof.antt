@@ -5,8 +5,8 @@ use mathlib.Core.Path.{refl, ap}
 use lib.ListN.{length}
 use denote.Ref.{now}
 use lib.Seq.{length-sets}
-use Rattle.little_endian.specs.LittleEndian.{eightBytes}
-use Rattle.little_endian.proofs.Puts.{put-in-place}
+use Rattle.numerals.specs.little_endian.LittleEndian.{eightBytes}
+use Rattle.numerals.proofs.little_endian.Puts.{put-in-place}
 use Rattle.sentences.specs.Shown.{wordText}
 use Rattle.sentences.proofs.Eights.{two-eights}
 use borrow.Author.Needs.{needs}

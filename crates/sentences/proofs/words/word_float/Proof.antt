@@ -2,8 +2,8 @@
 use native.Mathlib.Omega.{arith}
 use denote.Ref.{now}
 use mathlib.Core.Path.{ap}
-use Rattle.digits.specs.Hexadecimal.{hex16}
-use Rattle.digits.proofs.Places.{placed-as}
+use Rattle.numerals.specs.digits.Hexadecimal.{hex16}
+use Rattle.numerals.proofs.digits.Places.{placed-as}
 use Rattle.sentences.specs.Shown.{wordText}
 use Rattle.sentences.proofs.Eights.{behind-then}
 use borrow.Author.Needs.{needs}

@@ -4,7 +4,7 @@ use denote.Ref.{now}
 use mathlib.Core.Path.{ap}
 use mir.Facts.{toZ-ofZ}
 use Rattle.sentences.specs.Render.{signedDigits}
-use Rattle.digits.proofs.Places.{placed-as}
+use Rattle.numerals.proofs.digits.Places.{placed-as}
 use Rattle.sentences.specs.Shown.{wordText}
 use Rattle.sentences.proofs.Eights.{behind-then}
 use borrow.Author.Needs.{needs}

@@ -7,9 +7,9 @@ use denote.Ref.{now}
 use native.Mathlib.Omega.{arith}
 use Rattle.lent_rows.specs.Lent.{rowsOf}
 use Rattle.stamps.specs.Parts.{linesIn, linesFrom, heldLines}
-use Rattle.digits.specs.Placed.{Placed}
+use Rattle.numerals.specs.digits.Placed.{Placed}
 use Rattle.stamps.proofs.Blocks.{few-lines}
-use Rattle.digits.proofs.Places.{nothing}
+use Rattle.numerals.proofs.digits.Places.{nothing}
 use Rattle.stamps.proofs.Lines.{lines-more}
 use Rattle.stamps.proofs.Parts.{start, ends-full, ends-all, goes-on, stops-full, stops-done}
 use Rattle.stamps.proofs.listing.next_told_part_by_rows.Statement.{statement}

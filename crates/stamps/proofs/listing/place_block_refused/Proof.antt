@@ -1,6 +1,6 @@
 -- `listing::place_block_refused` meets its contract: three writes, one after the other. Assumes nothing.
 use native.Mathlib.Omega.{arith}
-use Rattle.digits.proofs.Places.{then}
+use Rattle.numerals.proofs.digits.Places.{then}
 use Rattle.stamps.specs.Listing.{blockRefused}
 use Rattle.stamps.proofs.Texts.{room-low}
 use borrow.Author.Needs.{needs}

@@ -1,7 +1,7 @@
 -- `listing::place_header` meets its contract: five writes, one after the other. Assumes nothing.
 use native.Mathlib.Omega.{arith}
 use Rattle.stamps.specs.Listing.{header}
-use Rattle.digits.proofs.Places.{then}
+use Rattle.numerals.proofs.digits.Places.{then}
 use borrow.Author.Needs.{needs}
 use Rattle.stamps.proofs.listing.place_header.Statement.{statement}
 use Rattle.stamps.proofs.listing.place_header.Tie as tie

@@ -2,7 +2,7 @@
 use borrow.Author.Needs.{needs}
 use denote.Ref.{now}
 use native.Mathlib.Omega.{arith}
-use Rattle.digits.proofs.Places.{placed-as}
+use Rattle.numerals.proofs.digits.Places.{placed-as}
 use Rattle.stamps.proofs.Texts.{room-low}
 use Rattle.stamps.proofs.Lines.{refused-number, refused-line, stamps-few, within, header-line, stamp-line}
 use Rattle.stamps.proofs.listing.place_line.Statement.{statement}

@@ -5,7 +5,7 @@ use Prim.Native.Nat.{ℕ, _+_}
 use denote.Ref.{now}
 use native.Mathlib.Omega.{arith}
 use Rattle.stamps.specs.Listing.{shown}
-use Rattle.digits.proofs.Places.{lent-length, part-put, part-kept, placed-as, placed-into}
+use Rattle.numerals.proofs.digits.Places.{lent-length, part-put, part-kept, placed-as, placed-into}
 use Rattle.stamps.proofs.Texts.{room-low, room-high, brief, date-number, shown-most, text-written, text-refused}
 use borrow.Author.Needs.{needs}
 use Rattle.stamps.proofs.listing.place_shown.Statement.{statement}

@@ -2,7 +2,7 @@
 use mathlib.Core.Path.{refl}
 use denote.Ref.{now}
 use borrow.Author.Needs.{needs}
-use Rattle.digits.proofs.Places.{digit-put}
+use Rattle.numerals.proofs.digits.Places.{digit-put}
 use Rattle.stamps.proofs.place.digit.Statement.{statement}
 use Rattle.stamps.proofs.place.digit.Tie as tie
 

@@ -1,6 +1,6 @@
 -- `place::two_digits` meets its contract: one digit, or those of a tenth and one more. Assumes nothing.
 use borrow.Author.Needs.{needs}
-use Rattle.digits.proofs.Places.{placed-as}
+use Rattle.numerals.proofs.digits.Places.{placed-as}
 use Rattle.stamps.proofs.Places.{one-digit, more-digits, first-digit}
 use Rattle.stamps.proofs.place.two_digits.Statement.{statement}
 use Rattle.stamps.proofs.place.two_digits.Tie as tie

@@ -1,7 +1,7 @@
 -- `told::place_block_told` meets its contract, by either way of telling. Assumes nothing.
 use denote.Ref.{now}
 use native.Mathlib.Omega.{arith}
-use Rattle.digits.proofs.Places.{placed-as}
+use Rattle.numerals.proofs.digits.Places.{placed-as}
 use Rattle.stamps.proofs.Tellings.{numbers-room, numbers-told, sentences-room, sentences-told, block-values, block-width}
 use borrow.Author.Needs.{needs}
 use Rattle.stamps.proofs.told.place_block_told.Statement.{statement}

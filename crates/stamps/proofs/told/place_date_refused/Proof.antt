@@ -1,7 +1,7 @@
 -- `told::place_date_refused` meets its contract, by either way of telling. Assumes nothing.
 use mathlib.Core.Path.{sym, subst}
 use native.Mathlib.Omega.{arith}
-use Rattle.digits.proofs.Places.{placed-as}
+use Rattle.numerals.proofs.digits.Places.{placed-as}
 use Rattle.reasons.specs.Widths.{OfWidth}
 use Rattle.stamps.proofs.Texts.{refused-wide}
 use Rattle.stamps.proofs.Tellings.{numbers-room, numbers-told, sentences-room, sentences-told}

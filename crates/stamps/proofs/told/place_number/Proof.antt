@@ -1,6 +1,6 @@
 -- `told::place_number` meets its contract: two writes, one after the other. Assumes nothing.
 use native.Mathlib.Omega.{arith}
-use Rattle.digits.proofs.Places.{then}
+use Rattle.numerals.proofs.digits.Places.{then}
 use borrow.Author.Needs.{needs}
 use Rattle.stamps.proofs.told.place_number.Statement.{statement}
 use Rattle.stamps.proofs.told.place_number.Tie as tie

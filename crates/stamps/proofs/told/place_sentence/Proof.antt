@@ -3,7 +3,7 @@ use Prim.Native.Nat.{ℕ, _+_}
 use mathlib.Core.Path.{ap}
 use denote.Ref.{now}
 use native.Mathlib.Omega.{arith}
-use Rattle.digits.proofs.Places.{lent-length, part-put}
+use Rattle.numerals.proofs.digits.Places.{lent-length, part-put}
 use Rattle.reasons.proofs.SentenceLengths.{reason-short}
 use Rattle.stamps.proofs.Texts.{given-written, given-fits}
 use Rattle.stamps.proofs.Tellings.{as-given}

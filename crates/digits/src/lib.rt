@@ -1,1 +1,0 @@
-// Definitions and laws only: numbers as decimal and hexadecimal digits, written and read.

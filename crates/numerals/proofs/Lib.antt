@@ -1,0 +1,2 @@
+-- The modules of numerals.
+pub mod digits

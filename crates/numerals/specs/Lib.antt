@@ -1,0 +1,3 @@
+-- The modules of numerals.
+pub mod little_endian
+pub mod digits

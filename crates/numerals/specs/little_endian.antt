@@ -1,0 +1,2 @@
+-- The definitions that the contracts of `numerals::little_endian` cite.
+pub mod LittleEndian

@@ -1,0 +1,2 @@
+// numerals, in modules.
+pub mod little_endian;
