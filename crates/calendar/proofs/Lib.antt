@@ -13,3 +13,4 @@ pub mod Gregorian
 pub mod DayCounts
 pub mod Mjd
 pub mod NextDates
+pub mod laws

@@ -7,3 +7,4 @@ pub mod Gregorian
 pub mod Answers
 -- The words of the theorems: no contract cites them.
 pub mod InCalendar
+pub mod laws

@@ -8,13 +8,13 @@ use lib.Dec.{ltb}
 use lib.IntN.{ℤ, pos, negsuc, negℤ, subℕ, _+ℤ_, _-ℤ_, _*ℤ_, +ℤ-assoc}
 use lib.Signed.{ltZ, quotZ}
 use borrow.Author.Tests.{ltb-true, ltb-false}
 use Rattle.calendar.specs.declared.CalendarDate.{CalendarDate}
 use Rattle.calendar.specs.Calendar.{date, dateAt}
 use Rattle.calendar.specs.Gregorian.{gregorianDate}
 use Rattle.calendar.proofs.Signs.{Raised, raised, sub-at, sub-shift}
 use Rattle.calendar.proofs.Divisions.{centuryStart, c-low, f-low, good}
 use Rattle.calendar.proofs.Gregorian.{divisions-give-date, shifted-day-is, gregorian-is-date-of-day, gregorian-below}
-use Rattle.calendar_laws.specs.RustDate.{RustTriple, fromDayOfYear, fromDayOfCentury, fromShifted, rustDate}
+use Rattle.calendar.specs.laws.RustDate.{RustTriple, fromDayOfYear, fromDayOfCentury, fromShifted, rustDate}
 
 -- ---- differences of natural numbers
 minus : (a b : ℕ) → b ≤ a → pos a -ℤ pos b ≡ pos (a - b)

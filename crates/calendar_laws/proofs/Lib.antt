@@ -1,2 +1,0 @@
--- The Rust's expression and the calendar's dates.
-pub mod NoAnswerChanges
