@@ -13,9 +13,9 @@ use borrow.Author.Tests.{le-leb}
 use Rattle.refusals.specs.Outcome.{Outcome, answer, refusal, onward}
 use Rattle.utc_text.specs.Answer.{textWritten, bufferAfter}
 use Rattle.iso_texts.specs.TextCall.{written, bufferHolds}
-use Rattle.tick_times.specs.declared.TicksAnswer.{TicksAnswer}
-use Rattle.tick_times.specs.declared.TicksAnswer.the-variants.{Written, Refused}
-use Rattle.tick_times.specs.Ticks.{ticksOutcome, lentAfter, TicksCall}
+use Rattle.ticks.specs.declared.TicksAnswer.{TicksAnswer}
+use Rattle.ticks.specs.declared.TicksAnswer.the-variants.{Written, Refused}
+use Rattle.ticks.specs.Ticks.{ticksOutcome, lentAfter, TicksCall}
 use Rattle.c_answers.specs.Delivery.{code, Delivered}
 use Rattle.c_answers.proofs.Deliveries.{code-back}
 

@@ -1,9 +1,9 @@
 // A list of ticks placed between marker passes.
 ghost use lib.ListN.{length};
-ghost use Rattle.tick_times.specs.Ticks.{placedTicks};
+ghost use Rattle.ticks.specs.Ticks.{placedTicks};
 ghost use Rattle.c_answers.specs.Delivery.{Delivered};
 use c_answers::refused;
-use tick_times::TicksAnswer;
+use ticks::TicksAnswer;
 
 #[no_mangle]
 pub extern "C" fn ct_place_ticks(
@@ -14,7 +14,7 @@ pub extern "C" fn ct_place_ticks(
 ) -> i64
     ensures { λ r. ⌜ Delivered (placedTicks (now («pass_ticks» .entry)) (now («pass_millis» .entry)) (now (ticks .entry)) (length (now (out .entry)))) (now (out .entry)) r (now (out .exit)) ⌝ }
 {
-    match tick_times::place_ticks(pass_ticks, pass_millis, ticks, out) {
+    match ticks::place_ticks(pass_ticks, pass_millis, ticks, out) {
         TicksAnswer::Written(n) => n as i64,
         TicksAnswer::Refused(number) => refused(number),
     }

@@ -2,8 +2,8 @@
 use native.Mathlib.Omega.{arith}
 use denote.Ref.{now}
 use lib.ListN.{length}
-use Rattle.tick_times.specs.Ticks.{placedTicks}
-use Rattle.tick_times.proofs.Calls.{placed-fits}
+use Rattle.ticks.specs.Ticks.{placedTicks}
+use Rattle.ticks.proofs.Calls.{placed-fits}
 use Rattle.capi.proofs.Ticks.{ticks-count, ticks-put, ticks-refused}
 use borrow.Author.Needs.{needs}
 use Rattle.capi.proofs.tick_calls.ct_place_ticks.Statement.{statement}

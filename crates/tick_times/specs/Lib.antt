@@ -1,6 +1,0 @@
--- The definitions that the contracts of tick_times cite, in the order to read them, after those of `tick_judging`: the straight line, the passes and the neighbours of a tick, and
--- lists of ticks as bytes. Asked has what the functions below the call ask and keep.
-pub mod Line
-pub mod Passes
-pub mod Ticks
-pub mod Asked

@@ -1,0 +1,23 @@
+-- `ticks::judging::both_rising` meets its contract. Assumes nothing.
+use mathlib.Core.Path.{_≡_, sym, ap, _∙_}
+use mathlib.Core.Bool.{Bool, _&&_}
+use Rattle.ticks.specs.judging.Refusing.{numberAt}
+use Rattle.ticks.specs.judging.Numbers.{allRising}
+use borrow.Author.Needs.{needs}
+use Rattle.ticks.proofs.judging.both_rising.Statement.{statement}
+use Rattle.ticks.proofs.judging.both_rising.Tie as tie
+
+all-rising-requires : tie.Need-all-rising-requires
+all-rising-requires c κs = search needs
+
+all-rising-requires-2 : tie.Need-all-rising-requires-2
+all-rising-requires-2 c κs = search needs
+
+returns : tie.Need-returns
+returns c = rw (← c .before .before .all-rising .ensures, c .before .if1 .taken) (c .all-rising2 .ensures)
+
+returns-2 : tie.Need-returns-2
+returns-2 c = c .if1 .left ∙ rw (← c .before .all-rising .ensures, c .if1 .left)
+
+pub both-rising-spec : {M : Type 1} → statement M
+both-rising-spec = tie.close (tie.spec all-rising-requires all-rising-requires-2 returns returns-2)

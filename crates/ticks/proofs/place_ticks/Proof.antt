@@ -1,0 +1,40 @@
+-- `ticks::place_ticks` meets its contract: all is judged before a place is written. Assumes nothing.
+use native.Mathlib.Omega.{arith}
+use mathlib.Core.Path.{refl, sym, _∙_}
+use lib.ListN.{length}
+use Rattle.ticks.proofs.judging.Ladder.{ladder-passed, passes-two, all-good}
+use Rattle.ticks.proofs.Calls.{refused-call, written-call}
+use borrow.Author.Needs.{needs}
+use Rattle.ticks.proofs.place_ticks.Statement.{statement}
+use Rattle.ticks.proofs.place_ticks.Tie as tie
+
+refused-by-requires : tie.Need-refused-by-requires
+refused-by-requires c κs = search needs
+
+returns : tie.Need-returns
+returns c =
+    let a = c .before .before .before .before .before .before .args in
+    refused-call (a .passes .now) (a .millis .now) (a .ticks .now) (a .out .now) (c .before .refused-by .result) (c .before .refused-by .ensures) (c .if1 .taken)
+
+sub-k : tie.Need-sub-k
+sub-k c =
+    let a = c .before .before .before .before .before .before .args in
+    omega (arith, passes-two (a .passes .now) (a .millis .now) (a .ticks .now) (length (a .out .now)) (ladder-passed (a .passes .now) (a .millis .now) (a .ticks .now) (length (a .out .now)) (sym (c .before .refused-by .ensures) ∙ c .if1 .left)))
+
+place-all-requires : tie.Need-place-all-requires
+place-all-requires c κs =
+    let a = c .before .before .before .before .before .before .before .args in
+    let z = ladder-passed (a .passes .now) (a .millis .now) (a .ticks .now) (length (a .out .now)) (sym (c .before .before .refused-by .ensures) ∙ c .before .if1 .left) in
+    (all-good (a .passes .now) (a .millis .now) (a .ticks .now) (length (a .out .now)) z _ refl, omega (arith, z .fits))
+
+same-length : tie.Need-same-length
+same-length c = search needs
+
+returns-2 : tie.Need-returns-2
+returns-2 c =
+    let a = c .before .before .before .before .before .before .before .before .before .before .args in
+    written-call (a .passes .now) (a .millis .now) (a .ticks .now) (a .out .now) _ (c .before .before .before .before .before .refused-by .result) (c .before .before .before .before .before .refused-by .ensures) (c .before .before .before .before .if1 .left) (c .before .before .place-all .ensures)
+
+pub place-ticks-spec : {M : Type 1} → statement M
+place-ticks-spec =
+    tie.close (tie.spec refused-by-requires returns sub-k place-all-requires same-length returns-2)
