@@ -14,7 +14,7 @@ endif
 CT_CFLAGS := -I$(CT_ROOT)/include
 CT_LIBS := $(CT_ROOT)/target/staticlib/libcapi.a
 
-$(CT_LIBS): $(wildcard $(CT_ROOT)/crates/*/src/*.rt)
+$(CT_LIBS): $(wildcard $(CT_ROOT)/crates/*/src/*.rt $(CT_ROOT)/crates/*/src/*/*.rt)
 	cd $(CT_ROOT) && rt staticlib capi
 	touch $@
 

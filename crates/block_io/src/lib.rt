@@ -65,7 +65,7 @@ pub fn write_listing(how: Telling, block: &[u8]) -> Sent
     ensures { λ r. ⌜ SentOf (now (block .entry)) r ⌝ }
 {
     let mut scratch = [0u8; SCRATCH];
-    let table = lent_rows::no_rows();
+    let table = leap_table::rows::no_rows();
     let mut line = 0;
     loop {
         let part = stamps::next_told_part_by_rows(how, block, line, table, &mut scratch);

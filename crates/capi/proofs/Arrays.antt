@@ -8,9 +8,9 @@ use lib.Signed.{mag}
 use mir.Syntax.{w64}
 use mir.Val.{toZ, ofZ}
 use Rattle.refusals.specs.Outcome.{Outcome, answer, refusal, onward}
-use Rattle.tai_utc.specs.declared.Rule.{Rule}
-use Rattle.lent_rows.specs.Table.{Row}
-use Rattle.lent_rows.specs.Lent.{unlessRefused}
+use Rattle.leap_table.specs.declared.offsets.Rule.{Rule}
+use Rattle.leap_table.specs.rows.Table.{Row}
+use Rattle.leap_table.specs.rows.Lent.{unlessRefused}
 use Rattle.lent_bytes.specs.TableBytes.{tableBytes}
 use Rattle.lent_bytes.proofs.Laws.{turned-away, gone-on}
 use Rattle.iso_texts.specs.TextCall.{bufferHolds}

@@ -9,8 +9,8 @@ use mir.Syntax.{w64}
 use mir.Val.{toZ, ofZ}
 use mir.Facts.{toZ-pos}
 use Rattle.refusals.specs.Outcome.{Outcome, answer, refusal}
-use Rattle.lent_rows.specs.Table.{Row}
-use Rattle.lent_rows.specs.Lent.{unlessRefused}
+use Rattle.leap_table.specs.rows.Table.{Row}
+use Rattle.leap_table.specs.rows.Lent.{unlessRefused}
 use Rattle.formula_runs.specs.declared.RunAnswer.{RunAnswer}
 use Rattle.formula_runs.specs.declared.RunAnswer.the-variants.{Converted, Refused}
 use Rattle.formula_runs.specs.Run.{RunCall, runOutcome, runCall}

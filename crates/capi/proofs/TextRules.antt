@@ -15,10 +15,10 @@ use mir.Facts.{toZ-pos}
 use borrow.Author.Tests.{le-leb, lt-leb, leb-true}
 use Rattle.refusals.specs.Outcome.{Outcome, answer, refusal, onward}
 use Rattle.julian.specs.declared.JulianDate.{JulianDate}
-use Rattle.tai_utc.specs.declared.Rule.{Rule}
-use Rattle.lent_rows.specs.Table.{Row}
-use Rattle.tai_utc.specs.Rule.{withRule, forget}
-use Rattle.tai_utc.proofs.Rules.{ruleIn}
+use Rattle.leap_table.specs.declared.offsets.Rule.{Rule}
+use Rattle.leap_table.specs.rows.Table.{Row}
+use Rattle.leap_table.specs.offsets.Rule.{withRule, forget}
+use Rattle.leap_table.proofs.offsets.Rules.{ruleIn}
 use Rattle.utc_text.specs.Answer.{textWritten, bufferAfter}
 use Rattle.iso_texts.specs.declared.TextByRule.{TextByRule}
 use Rattle.iso_texts.specs.declared.TextByRule.the-variants.{Written, Refused}

@@ -3,7 +3,7 @@
 use Prim.Native.Nat.{ℕ}
 use mathlib.Core.List.{List}
 use Rattle.refusals.specs.Outcome.{Outcome, answer, refusal, onward}
-use Rattle.tai_utc.specs.declared.Rule.{Rule}
+use Rattle.leap_table.specs.declared.offsets.Rule.{Rule}
 use Rattle.iso_texts.specs.Sheet.{Sheet}
 use Rattle.iso_texts.specs.IsoText.{sheet01}
 use Rattle.iso_texts.specs.HalfEven.{evenSheet}

@@ -2,9 +2,9 @@
 ghost use mathlib.Core.Path.{_≡_};
 ghost use lib.ListN.{length};
 ghost use Rattle.refusals.specs.Outcome.{answer, onward};
-ghost use Rattle.tai_utc.specs.Rule.{forget, offsetByRule};
-ghost use Rattle.tai_utc.specs.Leap.{leapAtEndOfDay};
-ghost use Rattle.tai_utc.specs.Answers.{secondsByRuleOutcome};
+ghost use Rattle.leap_table.specs.offsets.Rule.{forget, offsetByRule};
+ghost use Rattle.leap_table.specs.offsets.Leap.{leapAtEndOfDay};
+ghost use Rattle.leap_table.specs.offsets.Answers.{secondsByRuleOutcome};
 ghost use Rattle.lent_bytes.specs.TableBytes.{tableBytes};
 ghost use Rattle.c_answers.specs.Delivery.{code, inBytes, Delivered};
 ghost use Rattle.c_answers.specs.Fields.{floatBytes};
@@ -14,7 +14,7 @@ use c_answers::refused;
 use lent_bytes::arrays;
 use lent_bytes::lent_rows_at;
 use lent_bytes::table_number;
-use tai_utc::SecondsByRule;
+use leap_table::offsets::SecondsByRule;
 
 // 42 to 58.
 #[no_mangle]
@@ -70,7 +70,7 @@ pub extern "C" fn ct_get_tai_utc_offset(
     }
     let size = lent.size;
     put_offset(
-        tai_utc::get_tai_utc_offset_by_lent(year, month, day, fraction, size, &months, &seconds),
+        leap_table::offsets::get_tai_utc_offset_by_lent(year, month, day, fraction, size, &months, &seconds),
         out,
     )
 }
@@ -94,7 +94,7 @@ pub extern "C" fn ct_leap_at_end_of_day(
     }
     let size = lent.size;
     put_leap(
-        tai_utc::leap_at_end_of_day_by_lent(year, month, day, size, &months, &seconds),
+        leap_table::offsets::leap_at_end_of_day_by_lent(year, month, day, size, &months, &seconds),
         out,
     )
 }

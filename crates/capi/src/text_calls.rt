@@ -4,7 +4,7 @@ ghost use mathlib.Core.Path.{_≡_};
 ghost use Prim.Native.Nat.{ℕ};
 ghost use Rattle.refusals.specs.Outcome.{refusal, onward};
 ghost use Rattle.julian.specs.JulianDate.{julian};
-ghost use Rattle.lent_rows.specs.Lent.{rowsIn};
+ghost use Rattle.leap_table.specs.rows.Lent.{rowsIn};
 ghost use Rattle.iso_texts.specs.ByRule.{textByRule, isoTextByRule, halfEvenByRule, expandedByRule, TextRuleCall};
 ghost use Rattle.lent_bytes.specs.TableBytes.{tableBytes};
 ghost use Rattle.c_answers.specs.Delivery.{code};

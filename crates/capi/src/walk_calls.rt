@@ -1,7 +1,7 @@
 // TAI-UTC at 0h of many dates in time order, in one walk through the table.
 ghost use lib.ListN.{length};
 ghost use Rattle.refusals.specs.Outcome.{onward};
-ghost use Rattle.offset_walk.specs.Lists.{walkOfBytes};
+ghost use Rattle.leap_table.specs.walk.Lists.{walkOfBytes};
 ghost use Rattle.lent_bytes.specs.TableBytes.{tableBytes};
 ghost use Rattle.lent_calls.specs.WalkDelivery.{WalkDelivered};
 

@@ -15,7 +15,7 @@ use borrow.Author.Tests.{le-leb, lt-leb, leb-true, leb-false, ltb-true, ltb-fals
 use Rattle.refusals.specs.Outcome.{answer, onward}
 use Rattle.utc_text.specs.Answer.{textWritten, bufferAfter}
 use Rattle.iso_texts.specs.TextCall.{written, bufferHolds}
-use Rattle.lent_rows.specs.Table.{Row}
+use Rattle.leap_table.specs.rows.Table.{Row}
 use Rattle.stamps.specs.Block.{blockOf}
 use Rattle.stamps.specs.declared.Telling.{Telling}
 use Rattle.stamps.specs.declared.Telling.the-variants.{Numbers, Sentences}

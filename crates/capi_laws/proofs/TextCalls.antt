@@ -10,9 +10,9 @@ use lib.IntN.{ℤ}
 use borrow.Author.Tests.{le-leb}
 use Rattle.refusals.specs.Outcome.{Outcome, answer, refusal, onward}
 use Rattle.julian.specs.declared.JulianDate.{JulianDate}
-use Rattle.tai_utc.specs.declared.Rule.{Rule}
-use Rattle.lent_rows.specs.Table.{Row}
-use Rattle.tai_utc.specs.Rule.{forget}
+use Rattle.leap_table.specs.declared.offsets.Rule.{Rule}
+use Rattle.leap_table.specs.rows.Table.{Row}
+use Rattle.leap_table.specs.offsets.Rule.{forget}
 use Rattle.utc_text.specs.Answer.{textWritten, bufferAfter}
 use Rattle.iso_texts.specs.TextCall.{written, bufferHolds}
 use Rattle.iso_texts.specs.Sheet.{Sheet}

@@ -10,9 +10,9 @@ use Rattle.floats.specs.Whole.{nought, half}
 use Rattle.calendar.specs.Calendar.{lengths, leapSize}
 use Rattle.calendar.specs.DayCount.{civilCount, mjdNumber}
 use Rattle.rounding.proofs.Quick.{qadd, qsub, qmul, qint}
-use Rattle.lent_rows.specs.Table.{Row, fixed, starts, reached, none}
-use Rattle.tai_utc.specs.Offset.{secondsOf, startOf, rateOf}
-use Rattle.tai_utc.specs.Leap.{twoF}
+use Rattle.leap_table.specs.rows.Table.{Row, fixed, starts, reached, none}
+use Rattle.leap_table.specs.offsets.Offset.{secondsOf, startOf, rateOf}
+use Rattle.leap_table.specs.offsets.Leap.{twoF}
 use Rattle.drift_days.specs.Small.{small}
 use Rattle.drift_days.proofs.Tests.{then, every, sameF}
 

@@ -16,8 +16,8 @@ use Rattle.calendar.specs.DayCount.{mjdOf, mjdNumber, civilCount}
 use Rattle.calendar.proofs.Mjd.{date-of-mjd}
 use Rattle.julian.specs.declared.JulianDate.{JulianDate}
 use Rattle.julian.specs.JulianDate.{julian}
-use Rattle.lent_rows.specs.Table.{Row, row, fixed, starts, reached, monthNumber}
-use Rattle.tai_utc.specs.Offset.{rowAt}
+use Rattle.leap_table.specs.rows.Table.{Row, row, fixed, starts, reached, monthNumber}
+use Rattle.leap_table.specs.offsets.Offset.{rowAt}
 use Rattle.drift_laws.specs.Drift.{rowOn, NoStep, DriftDate, driftPs, OnLine}
 use Rattle.tai_round_trip.proofs.DaySeconds.{date-of}
 use Rattle.drift_laws.proofs.Drift.{utc-to-tai-on-line}

@@ -20,11 +20,11 @@ use Rattle.calendar.proofs.Signs.{sub-at}
 use Rattle.calendar.proofs.Years.{years-later, validOf, gregorian-valid, gregorian-in-range, before-last}
 use Rattle.calendar.proofs.Mjd.{date-of-mjd, mjd-of-date, same-answer}
 use Rattle.calendar.proofs.NextDates.{by, first-false}
-use Rattle.lent_rows.specs.Table.{fixed, starts, reached, monthNumber, monthOf}
-use Rattle.tai_utc.specs.Offset.{taiUtcOffset, rowAt}
-use Rattle.tai_utc.specs.Leap.{offsets, dayOffsets}
-use Rattle.tai_utc.specs.declared.DayOffsets.{DayOffsets}
-use Rattle.tai_utc.proofs.Days.{day-offsets-are}
+use Rattle.leap_table.specs.rows.Table.{fixed, starts, reached, monthNumber, monthOf}
+use Rattle.leap_table.specs.offsets.Offset.{taiUtcOffset, rowAt}
+use Rattle.leap_table.specs.offsets.Leap.{offsets, dayOffsets}
+use Rattle.leap_table.specs.declared.offsets.DayOffsets.{DayOffsets}
+use Rattle.leap_table.proofs.offsets.Days.{day-offsets-are}
 use Rattle.leap_days.specs.Formula.{NearFormula}
 use Rattle.leap_days.proofs.Formula.{drift-formula}
 use Rattle.utc_days.specs.Dates.{offsetsOf}

@@ -21,9 +21,9 @@ use Rattle.day_order.proofs.Once.{again}
 use Rattle.julian.specs.declared.JulianDate.{JulianDate}
 use Rattle.julian.specs.JulianDate.{julian}
 use Rattle.julian.proofs.Midnights.{zero-point-val}
-use Rattle.lent_rows.specs.Table.{Row, fixed}
-use Rattle.tai_utc.specs.Leap.{offsets, driftRate, leapAmount}
-use Rattle.tai_utc.specs.declared.DayOffsets.{DayOffsets}
+use Rattle.leap_table.specs.rows.Table.{Row, fixed}
+use Rattle.leap_table.specs.offsets.Leap.{offsets, driftRate, leapAmount}
+use Rattle.leap_table.specs.declared.offsets.DayOffsets.{DayOffsets}
 use Rattle.rounding.specs.Picoseconds.{dayPs}
 use Rattle.utc_days.specs.Dates.{offsetsOf}
 use Rattle.utc_scales.specs.UtcTai.{stretchDayFraction, taiFromMidnight, taiFraction, utcToTai}

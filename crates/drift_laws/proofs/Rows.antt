@@ -16,10 +16,10 @@ use Rattle.rounding.proofs.Value.{val-unique}
 use Rattle.calendar.specs.Calendar.{dateOf}
 use Rattle.calendar.proofs.Years.{date-of-in-calendar}
 use Rattle.day_number.proofs.Units.{H, H-L, half-L, nought-L}
-use Rattle.lent_rows.specs.Table.{Row, fixed, starts, reached, monthNumber, monthOf, none}
-use Rattle.tai_utc.specs.Offset.{rowAt}
-use Rattle.lent_rows.proofs.Rows.{at}
-use Rattle.tai_utc.proofs.Years.{one-row, drift-rows}
+use Rattle.leap_table.specs.rows.Table.{Row, fixed, starts, reached, monthNumber, monthOf, none}
+use Rattle.leap_table.specs.offsets.Offset.{rowAt}
+use Rattle.leap_table.proofs.rows.Rows.{at}
+use Rattle.leap_table.proofs.offsets.Years.{one-row, drift-rows}
 use Rattle.drift_days.proofs.Tests.{then, then-left, then-right}
 use Rattle.leap_days.specs.Formula.{NearFormula}
 use Rattle.drift_laws.specs.Drift.{rowOn, NoStep}

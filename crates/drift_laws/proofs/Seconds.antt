@@ -13,7 +13,7 @@ use Rattle.rounding.proofs.Value.{L-pos, val-move, val-scale, add-rounds, sub-r
 use Rattle.rounding.proofs.Near.{sum-near}
 use Rattle.rounding.proofs.Scaled.{Scaled, div-near}
 use Rattle.julian_laws.proofs.UnixTime.{day-val}
-use Rattle.tai_utc.specs.Leap.{twoF, offsets, driftRate, leapAmount}
+use Rattle.leap_table.specs.offsets.Leap.{twoF, offsets, driftRate, leapAmount}
 
 -- a day in femtoseconds
 abbrev pub dayFs : ℕ

@@ -9,8 +9,8 @@ use Rattle.refusals.specs.Outcome.{answer}
 use Rattle.rounding.specs.Value.{Val, InUnit, L}
 use Rattle.calendar.specs.Calendar.{dateOf}
 use Rattle.julian.specs.declared.JulianDate.{JulianDate}
-use Rattle.lent_rows.specs.Table.{Row, fixed, starts, reached, monthNumber}
-use Rattle.tai_utc.specs.Offset.{rowAt}
+use Rattle.leap_table.specs.rows.Table.{Row, fixed, starts, reached, monthNumber}
+use Rattle.leap_table.specs.offsets.Offset.{rowAt}
 use Rattle.scale_laws.specs.Meaning.{Meaning, Means}
 use Rattle.utc_scales.specs.UtcTai.{utcToTai}
 

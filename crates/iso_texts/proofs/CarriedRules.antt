@@ -11,11 +11,11 @@ use Rattle.calendar.specs.declared.CalendarDate.{CalendarDate}
 use Rattle.julian.specs.declared.JulianDate.{JulianDate}
 use Rattle.julian.specs.declared.CalendarFields.{CalendarFields}
 use Rattle.julian.specs.Calendar.{julianToCalendar}
-use Rattle.tai_utc.specs.declared.Rule.{Rule}
-use Rattle.tai_utc.specs.declared.Rule.the-variants.{Drifting, Whole}
-use Rattle.lent_rows.specs.Table.{Row, fixed}
-use Rattle.tai_utc.specs.Rule.{withRule}
-use Rattle.tai_utc.proofs.RuleLaws.{rule-cases}
+use Rattle.leap_table.specs.declared.offsets.Rule.{Rule}
+use Rattle.leap_table.specs.declared.offsets.Rule.the-variants.{Drifting, Whole}
+use Rattle.leap_table.specs.rows.Table.{Row, fixed}
+use Rattle.leap_table.specs.offsets.Rule.{withRule}
+use Rattle.leap_table.proofs.offsets.RuleLaws.{rule-cases}
 use Rattle.iso_texts.specs.Sheet.{Sheet}
 use Rattle.iso_texts.specs.IsoText.{nextMidnightTextBy, dayTextBy}
 use Rattle.iso_texts.specs.ByRule.{ruleOn, textByRule}

@@ -10,8 +10,8 @@ use Rattle.calendar.specs.Refusals.{nextOf}
 use Rattle.julian.specs.declared.JulianDate.{JulianDate}
 use Rattle.julian.specs.declared.CalendarFields.{CalendarFields}
 use Rattle.julian.specs.Calendar.{julianToCalendar}
-use Rattle.lent_rows.specs.Table.{Row}
-use Rattle.tai_utc.specs.Leap.{leapAtEndOfDay}
+use Rattle.leap_table.specs.rows.Table.{Row}
+use Rattle.leap_table.specs.offsets.Leap.{leapAtEndOfDay}
 use Rattle.time_of_day.specs.declared.TimeOfDay.{TimeOfDay}
 use Rattle.time_of_day.specs.TimeShown.{shownBy}
 use Rattle.utc_text.specs.declared.TextAnswer.{TextAnswer}

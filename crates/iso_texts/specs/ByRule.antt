@@ -8,10 +8,10 @@ use Rattle.refusals.specs.Outcome.{Outcome, answer, refusal, onward}
 use Rattle.calendar.specs.declared.CalendarDate.{CalendarDate}
 use Rattle.julian.specs.declared.JulianDate.{JulianDate}
 use Rattle.julian.specs.Calendar.{julianToCalendar}
-use Rattle.tai_utc.specs.declared.Rule.{Rule}
-use Rattle.lent_rows.specs.Table.{Row}
-use Rattle.tai_utc.specs.Rule.{withRule, forget}
-unfoldable pub use Rattle.tai_utc.specs.Rule.{ruleOn}
+use Rattle.leap_table.specs.declared.offsets.Rule.{Rule}
+use Rattle.leap_table.specs.rows.Table.{Row}
+use Rattle.leap_table.specs.offsets.Rule.{withRule, forget}
+unfoldable pub use Rattle.leap_table.specs.offsets.Rule.{ruleOn}
 use Rattle.utc_text.specs.Answer.{textWritten}
 use Rattle.iso_texts.specs.declared.TextByRule.{TextByRule}
 use Rattle.iso_texts.specs.declared.TextByRule.the-variants as Ruled

@@ -7,7 +7,7 @@ use Rattle.refusals.specs.Outcome.{Outcome}
 use Rattle.floats.specs.Whole.{away}
 use Rattle.calendar.specs.declared.CalendarDate.{CalendarDate}
 use Rattle.julian.specs.declared.JulianDate.{JulianDate}
-use Rattle.lent_rows.specs.Table.{Row}
+use Rattle.leap_table.specs.rows.Table.{Row}
 use Rattle.time_of_day.specs.TimeShown.{countBy}
 use Rattle.utc_text.specs.Expanded.{expandedText}
 use Rattle.iso_texts.specs.Sheet.{Sheet}

@@ -6,7 +6,7 @@ use lib.Ieee.{Float}
 use Rattle.refusals.specs.Outcome.{Outcome}
 use Rattle.calendar.specs.declared.CalendarDate.{CalendarDate}
 use Rattle.julian.specs.declared.JulianDate.{JulianDate}
-use Rattle.lent_rows.specs.Table.{Row}
+use Rattle.leap_table.specs.rows.Table.{Row}
 use Rattle.time_of_day.specs.HalfEven.{evenCount}
 use Rattle.utc_text.specs.Text.{utcText}
 use Rattle.iso_texts.specs.Sheet.{Sheet}

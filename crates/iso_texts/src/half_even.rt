@@ -1,8 +1,8 @@
 // UTC text with a half millisecond to the even one, in document 01's form.
 ghost use Prim.Native.Nat.{_≤_};
 ghost use Rattle.refusals.specs.Outcome.{onward};
-ghost use Rattle.lent_rows.specs.Lent.{rowsIn, rowsOf, tableOf};
-ghost use Rattle.tai_utc.specs.Rule.{withRule};
+ghost use Rattle.leap_table.specs.rows.Lent.{rowsIn, rowsOf, tableOf};
+ghost use Rattle.leap_table.specs.offsets.Rule.{withRule};
 ghost use Rattle.iso_texts.specs.HalfEven.{dayTextHalfEven, isoTextHalfEven};
 ghost use Rattle.iso_texts.specs.TextCall.{TextCall};
 ghost use Rattle.iso_texts.specs.ByRule.{ruleOn, halfEvenByRule, TextRuleCall};
@@ -11,9 +11,9 @@ use super::by_rule::with_rule;
 use super::put_shown;
 use calendar::CalendarDate;
 use julian::CalendarAnswer;
-use lent_rows::LentRows;
+use leap_table::rows::LentRows;
 use scales::UTC;
-use tai_utc::SecondsByRule;
+use leap_table::offsets::SecondsByRule;
 use utc_text::TextAnswer;
 
 fn put_day<'a>(
@@ -27,7 +27,7 @@ fn put_day<'a>(
     requires { ⌜ (date .month ≤ 12) × (date .day ≤ 31) ⌝ }
     ensures { λ r. ⌜ TextRuleCall (withRule (dayTextHalfEven (rowsIn size (now (months .entry)) (now (seconds .entry))) date fraction) (ruleOn (rowsIn size (now (months .entry)) (now (seconds .entry))) date)) (now (out .entry)) r (now (out .exit)) ⌝ }
 {
-    match tai_utc::leap_at_end_of_day_by_lent(
+    match leap_table::offsets::leap_at_end_of_day_by_lent(
         date.year,
         date.month as i32,
         date.day as i32,
@@ -70,7 +70,7 @@ pub fn to_iso8601_half_even_by_rows(utc: UTC, table: LentRows, out: &mut [u8]) -
 {
     match to_iso8601_half_even_by_lent(
         utc,
-        lent_rows::size_of(table),
+        leap_table::rows::size_of(table),
         &table.months,
         &table.seconds,
         out,
@@ -85,13 +85,13 @@ pub fn to_iso8601_half_even_by_rows(utc: UTC, table: LentRows, out: &mut [u8]) -
 pub fn to_iso8601_half_even(utc: UTC, table: LentRows, out: &mut [u8]) -> TextByRule
     ensures { λ r. ⌜ TextRuleCall (onward (tableOf table) (λ rows. halfEvenByRule rows (utc .0))) (now (out .entry)) r (now (out .exit)) ⌝ }
 {
-    let number = lent_rows::table_refusal(table);
+    let number = leap_table::rows::table_refusal(table);
     if number != 0 {
         return TextByRule::Refused(number);
     }
     to_iso8601_half_even_by_lent(
         utc,
-        lent_rows::size_of(table),
+        leap_table::rows::size_of(table),
         &table.months,
         &table.seconds,
         out,

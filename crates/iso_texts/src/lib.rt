@@ -18,7 +18,7 @@ pub use expanded::to_iso8601_expanded_by_rows;
 pub use half_even::to_iso8601_half_even;
 pub use half_even::to_iso8601_half_even_by_lent;
 pub use half_even::to_iso8601_half_even_by_rows;
-use tai_utc::Rule;
+use leap_table::offsets::Rule;
 use time_of_day::TimeOfDay;
 use time_of_day::TimeShown;
 use utc_text::TextAnswer;

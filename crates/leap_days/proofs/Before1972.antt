@@ -17,12 +17,12 @@ use Rattle.calendar.specs.DayCount.{civilCount, mjdNumber}
 use Rattle.calendar.specs.declared.CalendarDate.{CalendarDate}
 use Rattle.calendar.proofs.Accepted.{Accepted, date-accepted, short}
 use Rattle.calendar.proofs.NextDates.{next-is}
-use Rattle.lent_rows.specs.Table.{Row, fixed, starts, reached, monthNumber, monthOf}
-use Rattle.tai_utc.specs.Offset.{secondsOf, startOf, rateOf, byRow, offsetBy, offsetAt, rowAt}
-use Rattle.tai_utc.specs.Leap.{offsets, offsetsOfDay, leapOf, driftRate, leapAmount}
-use Rattle.tai_utc.specs.declared.DayOffsets.{DayOffsets}
-use Rattle.tai_utc.proofs.At.{same-three}
-use Rattle.tai_utc.proofs.Years.{before-1960}
+use Rattle.leap_table.specs.rows.Table.{Row, fixed, starts, reached, monthNumber, monthOf}
+use Rattle.leap_table.specs.offsets.Offset.{secondsOf, startOf, rateOf, byRow, offsetBy, offsetAt, rowAt}
+use Rattle.leap_table.specs.offsets.Leap.{offsets, offsetsOfDay, leapOf, driftRate, leapAmount}
+use Rattle.leap_table.specs.declared.offsets.DayOffsets.{DayOffsets}
+use Rattle.leap_table.proofs.offsets.At.{same-three}
+use Rattle.leap_table.proofs.offsets.Years.{before-1960}
 use Rattle.time_of_day.specs.ExactTime.{leap1959}
 use Rattle.drift_days.proofs.Tests.{each}
 use Rattle.drift_days.proofs.Drift.{oneDay, dayTest, daysTest, rowsTest, monthTest}

@@ -8,14 +8,14 @@ use lib.ListN.{length, getD, length-map}
 use lib.Ieee.Bits.{is-true}
 use borrow.Author.Tests.{ltb-true}
 use Rattle.refusals.specs.Outcome.{answer}
-use Rattle.lent_rows.specs.declared.LentRows.{LentRows}
-use Rattle.lent_rows.specs.Table.{Row, starts, none}
-use Rattle.lent_rows.specs.Lent.{rowsTo, tableOf}
-use Rattle.lent_rows.proofs.InTurn.{in-turn-at}
-use Rattle.lent_rows.proofs.Tables.{fixed-place, lent-place, table-drifts}
-use Rattle.lent_rows.proofs.TablesTaken.{Taken, when-taken, all-count}
-use Rattle.lent_rows.proofs.TableLaws.{near, table-rises, lengths}
-use Rattle.tai_utc.proofs.TableSeconds.{row-step, seconds-in-range, table-seconds, same-before-lent}
+use Rattle.leap_table.specs.declared.rows.LentRows.{LentRows}
+use Rattle.leap_table.specs.rows.Table.{Row, starts, none}
+use Rattle.leap_table.specs.rows.Lent.{rowsTo, tableOf}
+use Rattle.leap_table.proofs.rows.InTurn.{in-turn-at}
+use Rattle.leap_table.proofs.rows.Tables.{fixed-place, lent-place, table-drifts}
+use Rattle.leap_table.proofs.rows.TablesTaken.{Taken, when-taken, all-count}
+use Rattle.leap_table.proofs.rows.TableLaws.{near, table-rises, lengths}
+use Rattle.leap_table.proofs.offsets.TableSeconds.{row-step, seconds-in-range, table-seconds, same-before-lent}
 use Rattle.leap_days.specs.Tables.{secondsOfRow, EveryTable}
 use Rattle.leap_days.proofs.TableLeaps.{starts-at, table-leap-on}
 

@@ -28,12 +28,12 @@ use Rattle.rounding.proofs.Range.{power-val}
 use Rattle.rounding.proofs.Compare.{le-val}
 use Rattle.rounding.proofs.Near.{rounds-near}
 use Rattle.rounding.proofs.About.{U, U-pos, L-U, unit, room, About, about-own, about-scale, about-add, about-sub, about-mul}
-use Rattle.lent_rows.specs.Table.{Row, fixed, starts, reached, monthOf, monthNumber, none}
-use Rattle.tai_utc.specs.Offset.{secondsOf, startOf, rateOf, offsetBy, offsetAt, inDay, taiUtcOffset, rowAt}
-use Rattle.lent_rows.proofs.Rows.{at}
-use Rattle.tai_utc.proofs.At.{drifting}
-use Rattle.tai_utc.proofs.Years.{one-row, drift-rows}
-use Rattle.tai_utc.proofs.Offsets.{offset-came, offset-in-day}
+use Rattle.leap_table.specs.rows.Table.{Row, fixed, starts, reached, monthOf, monthNumber, none}
+use Rattle.leap_table.specs.offsets.Offset.{secondsOf, startOf, rateOf, offsetBy, offsetAt, inDay, taiUtcOffset, rowAt}
+use Rattle.leap_table.proofs.rows.Rows.{at}
+use Rattle.leap_table.proofs.offsets.At.{drifting}
+use Rattle.leap_table.proofs.offsets.Years.{one-row, drift-rows}
+use Rattle.leap_table.proofs.offsets.Offsets.{offset-came, offset-in-day}
 use Rattle.drift_days.proofs.Tests.{then, then-left, then-right}
 use Rattle.leap_days.specs.Formula.{NearFormula}
 

@@ -13,7 +13,7 @@ use Rattle.calendar.specs.Refusals.{nextOf}
 use Rattle.calendar.specs.declared.CalendarDate.{CalendarDate}
 use Rattle.calendar.proofs.Accepted.{date-accepted}
 use Rattle.calendar.proofs.NextDates.{next-is}
-use Rattle.lent_rows.specs.Table.{monthNumber, monthOf}
+use Rattle.leap_table.specs.rows.Table.{monthNumber, monthOf}
 
 unfoldable number : CalendarDate → ℕ
 number t = monthNumber (t .year) (t .month)

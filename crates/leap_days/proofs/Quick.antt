@@ -9,13 +9,13 @@ use lib.IntN.{ℤ}
 use lib.Ieee.{Float, binary64, add, sub, mul, ofInt}
 use borrow.Author.Tests.{ltb-true, ltb-false, lt-ltb, le-ltb}
 use Rattle.rounding.proofs.Quick.{qadd, qsub, qmul, qint, add-is, sub-is, mul-is, int-is}
-use Rattle.lent_rows.specs.Table.{Row, fixed, starts, reached}
-use Rattle.tai_utc.specs.Offset.{secondsOf, startOf, rateOf, offsetAt, rowAt}
-use Rattle.tai_utc.specs.Leap.{twoF, offsets, leapOf, driftRate, leapAmount}
-use Rattle.tai_utc.specs.declared.DayOffsets.{DayOffsets}
-use Rattle.lent_rows.proofs.Rows.{drifts}
-use Rattle.tai_utc.proofs.At.{drifting, steady}
-use Rattle.tai_utc.proofs.Years.{one-row, drift-rows, whole-rows, most-rows}
+use Rattle.leap_table.specs.rows.Table.{Row, fixed, starts, reached}
+use Rattle.leap_table.specs.offsets.Offset.{secondsOf, startOf, rateOf, offsetAt, rowAt}
+use Rattle.leap_table.specs.offsets.Leap.{twoF, offsets, leapOf, driftRate, leapAmount}
+use Rattle.leap_table.specs.declared.offsets.DayOffsets.{DayOffsets}
+use Rattle.leap_table.proofs.rows.Rows.{drifts}
+use Rattle.leap_table.proofs.offsets.At.{drifting, steady}
+use Rattle.leap_table.proofs.offsets.Years.{one-row, drift-rows, whole-rows, most-rows}
 use Rattle.drift_days.specs.Small.{small}
 use Rattle.drift_days.proofs.Tests.{then-left, then-right, sameF, same-float}
 use Rattle.drift_days.proofs.Drift.{qby, qleap, qamount, leapTest}

@@ -20,18 +20,18 @@ use Rattle.calendar.proofs.Accepted.{date-accepted}
 use Rattle.calendar.proofs.NextDates.{next-is}
 use Rattle.calendar.specs.declared.CalendarDate.{CalendarDate}
 use Rattle.calendar.specs.Refusals.{nextOf}
-use Rattle.lent_rows.specs.declared.LentRows.{LentRows}
-use Rattle.lent_rows.specs.Lent.{tableOf}
-use Rattle.lent_rows.specs.Table.{Row, fixed, starts, reached, monthNumber, monthOf, none}
-use Rattle.tai_utc.specs.Leap.{offsetsOfDay, leapOf, leapAtEndOfDay}
-use Rattle.lent_rows.proofs.Reached.{member, month-later, member-later}
-use Rattle.lent_rows.proofs.Rows.{every, at, fixed-rises}
-use Rattle.tai_utc.proofs.Years.{whole-rows, most-rows}
-use Rattle.tai_utc.proofs.Cases.{forty-two-rows}
-use Rattle.lent_rows.proofs.NoRows.{none-lent, fixed-taken}
-use Rattle.tai_utc.proofs.TableSeconds.{seconds-stay}
-use Rattle.tai_utc.proofs.Days.{leap-came}
-use Rattle.tai_utc.specs.Offset.{secondsIn, wholeF}
+use Rattle.leap_table.specs.declared.rows.LentRows.{LentRows}
+use Rattle.leap_table.specs.rows.Lent.{tableOf}
+use Rattle.leap_table.specs.rows.Table.{Row, fixed, starts, reached, monthNumber, monthOf, none}
+use Rattle.leap_table.specs.offsets.Leap.{offsetsOfDay, leapOf, leapAtEndOfDay}
+use Rattle.leap_table.proofs.rows.Reached.{member, month-later, member-later}
+use Rattle.leap_table.proofs.rows.Rows.{every, at, fixed-rises}
+use Rattle.leap_table.proofs.offsets.Years.{whole-rows, most-rows}
+use Rattle.leap_table.proofs.offsets.Cases.{forty-two-rows}
+use Rattle.leap_table.proofs.rows.NoRows.{none-lent, fixed-taken}
+use Rattle.leap_table.proofs.offsets.TableSeconds.{seconds-stay}
+use Rattle.leap_table.proofs.offsets.Days.{leap-came}
+use Rattle.leap_table.specs.offsets.Offset.{secondsIn, wholeF}
 use Rattle.drift_days.specs.Small.{small}
 use Rattle.leap_days.specs.Leaps.{Day, leapSeconds, listed, isLeapSecond}
 use Rattle.leap_days.proofs.Months.{next-month-number}

@@ -5,10 +5,10 @@ use Prim.Native.Nat.{ℕ, zero, suc, _-_, _*_}
 use lib.IntN.{ℤ, pos, negsuc}
 use lib.ListN.{length}
 use Rattle.refusals.specs.Outcome.{answer, refusal}
-use Rattle.lent_rows.specs.declared.LentRows.{LentRows}
-use Rattle.lent_rows.specs.Table.{Row, row, fixed, reached}
-use Rattle.lent_rows.specs.Lent.{rowsTo, lentSize, tableOf}
-use Rattle.tai_utc.specs.Offset.{secondsIn}
+use Rattle.leap_table.specs.declared.rows.LentRows.{LentRows}
+use Rattle.leap_table.specs.rows.Table.{Row, row, fixed, reached}
+use Rattle.leap_table.specs.rows.Lent.{rowsTo, lentSize, tableOf}
+use Rattle.leap_table.specs.offsets.Offset.{secondsIn}
 
 abbrev lent : (months seconds : ℕ) → List ℤ → List ℤ → LentRows
 lent a b m s = record { «months_size» = a; «seconds_size» = b; months = m; seconds = s }

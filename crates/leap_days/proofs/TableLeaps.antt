@@ -19,18 +19,18 @@ use Rattle.calendar.specs.Calendar.{monthLength}
 use Rattle.calendar.specs.Refusals.{nextOf}
 use Rattle.calendar.specs.DayCount.{mjdNumber}
 use Rattle.calendar.specs.declared.CalendarDate.{CalendarDate}
-use Rattle.lent_rows.specs.declared.LentRows.{LentRows}
-use Rattle.tai_utc.specs.declared.DayOffsets.{DayOffsets}
-use Rattle.lent_rows.specs.Table.{Row, fixed, starts, reached, monthNumber, monthOf, none}
-use Rattle.lent_rows.specs.Lent.{tableOf}
-use Rattle.tai_utc.specs.Offset.{secondsIn, wholeF}
-use Rattle.tai_utc.specs.Leap.{offsets, offsetsOfDay, dayOffsets, leapOf, leapAtEndOfDay, leapAmount}
-use Rattle.lent_rows.proofs.Reached.{member, month-later, last-begun}
-use Rattle.lent_rows.proofs.TablesTaken.{when-taken}
-use Rattle.lent_rows.proofs.TableLaws.{table-rises}
-use Rattle.tai_utc.proofs.TableYears.{whole-rows-of}
-use Rattle.tai_utc.proofs.Days.{day-offsets-are, leap-given, leap-came}
-use Rattle.tai_utc.proofs.TableSeconds.{seconds-in-range, table-seconds, seconds-stay, seconds-step, same-before-lent}
+use Rattle.leap_table.specs.declared.rows.LentRows.{LentRows}
+use Rattle.leap_table.specs.declared.offsets.DayOffsets.{DayOffsets}
+use Rattle.leap_table.specs.rows.Table.{Row, fixed, starts, reached, monthNumber, monthOf, none}
+use Rattle.leap_table.specs.rows.Lent.{tableOf}
+use Rattle.leap_table.specs.offsets.Offset.{secondsIn, wholeF}
+use Rattle.leap_table.specs.offsets.Leap.{offsets, offsetsOfDay, dayOffsets, leapOf, leapAtEndOfDay, leapAmount}
+use Rattle.leap_table.proofs.rows.Reached.{member, month-later, last-begun}
+use Rattle.leap_table.proofs.rows.TablesTaken.{when-taken}
+use Rattle.leap_table.proofs.rows.TableLaws.{table-rises}
+use Rattle.leap_table.proofs.offsets.TableYears.{whole-rows-of}
+use Rattle.leap_table.proofs.offsets.Days.{day-offsets-are, leap-given, leap-came}
+use Rattle.leap_table.proofs.offsets.TableSeconds.{seconds-in-range, table-seconds, seconds-stay, seconds-step, same-before-lent}
 use Rattle.time_of_day.specs.ExactTime.{leap1959, minus-one-f}
 use Rattle.drift_days.specs.Small.{small}
 use Rattle.drift_days.proofs.Tests.{sameF}

@@ -6,9 +6,9 @@ use Prim.Native.Nat.{ℕ, suc, _<_}
 use lib.Dec.{T}
 use lib.Ieee.{Float, round, add, sub, mul, ofInt, ofBits}
 use Rattle.floats.specs.Whole.{nought, one}
-use Rattle.tai_utc.specs.Leap.{offsets, leapOf, driftRate, leapAmount}
-use Rattle.tai_utc.specs.declared.DayOffsets.{DayOffsets}
-use Rattle.tai_utc.specs.Offset.{wholeF}
+use Rattle.leap_table.specs.offsets.Leap.{offsets, leapOf, driftRate, leapAmount}
+use Rattle.leap_table.specs.declared.offsets.DayOffsets.{DayOffsets}
+use Rattle.leap_table.specs.offsets.Offset.{wholeF}
 use Rattle.time_of_day.specs.ExactTime.{minus-one-f}
 use Rattle.drift_days.proofs.Tests.{then, then-left, then-right, each, sameF, same-float}
 

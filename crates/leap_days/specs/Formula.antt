@@ -3,7 +3,7 @@
 use Prim.Native.Nat.{ℕ, _+_, _*_, _^_, _≤_}
 use lib.Ieee.{Float}
 use Rattle.rounding.specs.Value.{Val, L}
-use Rattle.lent_rows.specs.Table.{Row}
+use Rattle.leap_table.specs.rows.Table.{Row}
 
 -- x is within 10^-12 s of the formula at MJD j and the fraction f of its day: with f = (q - m) / L and x = (p - n) / L, both sides times 10^12 times 10^10 L
 pub record NearFormula (r : Row) (j : ℕ) (f x : Float) : Type 0 where

@@ -12,11 +12,11 @@ use Rattle.refusals.specs.Outcome.{answer}
 use Rattle.floats.specs.Whole.{nought, one}
 use Rattle.calendar.specs.declared.CalendarDate.{CalendarDate}
 use Rattle.calendar.specs.Refusals.{nextOf}
-use Rattle.lent_rows.specs.declared.LentRows.{LentRows}
-use Rattle.lent_rows.specs.Table.{Row, fixed, starts, reached, monthNumber, none}
-use Rattle.lent_rows.specs.Lent.{lentRow}
-use Rattle.tai_utc.specs.Offset.{offsetAt, secondsIn, wholeF}
-use Rattle.tai_utc.specs.Leap.{leapAtEndOfDay}
+use Rattle.leap_table.specs.declared.rows.LentRows.{LentRows}
+use Rattle.leap_table.specs.rows.Table.{Row, fixed, starts, reached, monthNumber, none}
+use Rattle.leap_table.specs.rows.Lent.{lentRow}
+use Rattle.leap_table.specs.offsets.Offset.{offsetAt, secondsIn, wholeF}
+use Rattle.leap_table.specs.offsets.Leap.{leapAtEndOfDay}
 use Rattle.time_of_day.specs.ExactTime.{leap1959, minus-one-f}
 use Rattle.drift_days.specs.Small.{small}
 

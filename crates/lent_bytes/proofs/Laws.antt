@@ -11,11 +11,11 @@ use lib.ListN.{length, getD, replicate}
 use borrow.Author.Tests.{eq-eqb, eqb-true}
 use Rattle.refusals.specs.Outcome.{Outcome, answer, refusal, onward}
 use Rattle.numerals.specs.little_endian.LittleEndian.{fourAt, u32At}
-use Rattle.lent_rows.specs.Table.{Row, row, fixed}
-use Rattle.lent_rows.specs.Lent.{least, rowsTo, lentSize, rowsOf, tableOf, Decision, sizes, order, step, taken, unlessRefused}
-use Rattle.lent_rows.proofs.Tables.{least-right}
-use Rattle.lent_rows.proofs.TableLaws.{table-decided}
-use Rattle.lent_rows.proofs.TablesTaken.{table-none}
+use Rattle.leap_table.specs.rows.Table.{Row, row, fixed}
+use Rattle.leap_table.specs.rows.Lent.{least, rowsTo, lentSize, rowsOf, tableOf, Decision, sizes, order, step, taken, unlessRefused}
+use Rattle.leap_table.proofs.rows.Tables.{least-right}
+use Rattle.leap_table.proofs.rows.TableLaws.{table-decided}
+use Rattle.leap_table.proofs.rows.TablesTaken.{table-none}
 use Rattle.lent_bytes.specs.TableBytes.{signed32, signedAt, signedFrom, recordIn, ofLength, tableBytes}
 use Rattle.lent_bytes.proofs.Reading.{place-of, same-table}
 

@@ -11,8 +11,8 @@ use mir.Syntax.{w32}
 use mir.Val.{SFits}
 use borrow.Author.Tests.{le-leb, eq-eqb}
 use Rattle.numerals.specs.little_endian.LittleEndian.{fourAt, u32At}
-use Rattle.lent_rows.specs.declared.LentRows.{LentRows}
-use Rattle.lent_rows.specs.Lent.{tableOf}
+use Rattle.leap_table.specs.declared.rows.LentRows.{LentRows}
+use Rattle.leap_table.specs.rows.Lent.{tableOf}
 use Rattle.c_answers.specs.Fields.{fourBytes}
 use Rattle.lent_bytes.specs.TableBytes.{signed32, signedAt, signedFrom, recordIn, ofLength, tableBytes}
 use Rattle.lent_bytes.specs.RecordBytes.{pattern32, inFours, recordBytes, MachineRecord}

@@ -13,13 +13,13 @@ use borrow.Author.Count.{below-more}
 use borrow.Author.Tests.{eq-eqb, ne-eqb, eqb-true, leb-true, leb-false}
 use Rattle.refusals.specs.Outcome.{Outcome, answer}
 use Rattle.numerals.specs.little_endian.LittleEndian.{u32At}
-use Rattle.lent_rows.specs.declared.LentRows.{LentRows}
-use Rattle.lent_rows.specs.Table.{Row, fixed}
-use Rattle.lent_rows.specs.Lent.{least, lentSize, rowsOf, rowsIn, lentTable, tableOf, unlessRefused, Judged}
-use Rattle.lent_rows.proofs.Tables.{least-right}
-use Rattle.lent_rows.proofs.TableLaws.{spare-unread}
-use Rattle.lent_rows.proofs.ByParts.{least-low, rows-in}
-use Rattle.lent_rows.proofs.TablesTaken.{table-none, none-rows, when-taken}
+use Rattle.leap_table.specs.declared.rows.LentRows.{LentRows}
+use Rattle.leap_table.specs.rows.Table.{Row, fixed}
+use Rattle.leap_table.specs.rows.Lent.{least, lentSize, rowsOf, rowsIn, lentTable, tableOf, unlessRefused, Judged}
+use Rattle.leap_table.proofs.rows.Tables.{least-right}
+use Rattle.leap_table.proofs.rows.TableLaws.{spare-unread}
+use Rattle.leap_table.proofs.rows.ByParts.{least-low, rows-in}
+use Rattle.leap_table.proofs.rows.TablesTaken.{table-none, none-rows, when-taken}
 use Rattle.lent_bytes.specs.TableBytes.{signedAt, signedFrom, recordIn, ofLength, tableBytes, sizeIn, ReadFrom}
 
 -- ---- the numbers of an array by their places

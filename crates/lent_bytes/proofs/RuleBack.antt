@@ -7,8 +7,8 @@ use lib.IntN.{negsuc}
 use lib.Ieee.{Float}
 use Rattle.numerals.specs.little_endian.LittleEndian.{fourAt, u32At}
 use Rattle.julian.specs.declared.JulianDate.{JulianDate}
-use Rattle.tai_utc.specs.declared.Rule.{Rule}
-use Rattle.tai_utc.specs.declared.Rule.the-variants.{Absent, Drifting, Whole}
+use Rattle.leap_table.specs.declared.offsets.Rule.{Rule}
+use Rattle.leap_table.specs.declared.offsets.Rule.the-variants.{Absent, Drifting, Whole}
 use Rattle.c_answers.specs.Fields.{julianBytes}
 use Rattle.rule_answers.specs.RuleFields.{ruleNumber, rowPattern, ruleBytes, offsetRuleBytes, julianRuleBytes}
 use Rattle.lent_bytes.specs.RecordBytes.{inFours}

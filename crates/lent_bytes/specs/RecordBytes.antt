@@ -6,7 +6,7 @@ use lib.IntN.{ℤ, pos, negsuc}
 use lib.ListN.{length, getD}
 use mir.Syntax.{w32}
 use mir.Val.{SFits}
-use Rattle.lent_rows.specs.declared.LentRows.{LentRows}
+use Rattle.leap_table.specs.declared.rows.LentRows.{LentRows}
 use Rattle.c_answers.specs.Fields.{fourBytes}
 
 -- the pattern of a signed number, 32 bits in two's complement: -1 is all ones

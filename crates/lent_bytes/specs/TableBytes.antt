@@ -10,9 +10,9 @@ use lib.ListN.{length, getD}
 use Rattle.refusals.specs.Outcome.{Outcome, refusal}
 use Rattle.numerals.specs.little_endian.LittleEndian.{u32At}
 unfoldable pub use Rattle.numerals.specs.little_endian.LittleEndian.{signed32}
-use Rattle.lent_rows.specs.declared.LentRows.{LentRows}
-use Rattle.lent_rows.specs.Table.{Row}
-use Rattle.lent_rows.specs.Lent.{least, tableOf}
+use Rattle.leap_table.specs.declared.rows.LentRows.{LentRows}
+use Rattle.leap_table.specs.rows.Table.{Row}
+use Rattle.leap_table.specs.rows.Lent.{least, tableOf}
 
 -- the signed number in the four bytes from `at` on
 abbrev pub signedAt : List ℕ → ℕ → ℤ

@@ -3,7 +3,7 @@ ghost use mathlib.Core.Path.{_≡_};
 ghost use Prim.Native.Nat.{ℕ, _+_, _*_, _<_, _≤_};
 ghost use lib.IntN.{pos};
 ghost use lib.ListN.{getD, length};
-ghost use Rattle.lent_rows.specs.Lent.{rowsIn, unlessRefused};
+ghost use Rattle.leap_table.specs.rows.Lent.{rowsIn, unlessRefused};
 ghost use Rattle.lent_bytes.specs.TableBytes.{signedAt, tableBytes};
 use super::i32_of_pattern;
 use super::lend_none;
@@ -46,6 +46,6 @@ pub fn read_table(bytes: &[u8], months: &mut [i32; 16], seconds: &mut [i32; 16])
     let size = places_of(months_size);
     put_numbers(bytes, 8, size, months);
     put_numbers(bytes, 72, size, seconds);
-    let number = lent_rows::lent_refusal(months_size, seconds_size, months, seconds);
+    let number = leap_table::rows::lent_refusal(months_size, seconds_size, months, seconds);
     Lent { number, size }
 }

@@ -7,9 +7,9 @@ ghost use mathlib.Core.Bool.{_&&_};
 ghost use lib.Dec.{eqb};
 ghost use lib.IntN.{pos};
 ghost use lib.ListN.{getD, length};
-ghost use Rattle.lent_rows.specs.Lent.{least, rowsOf, tableOf, unlessRefused};
+ghost use Rattle.leap_table.specs.rows.Lent.{least, rowsOf, tableOf, unlessRefused};
 ghost use Rattle.lent_bytes.specs.TableBytes.{signed32, signedAt, ofLength, tableBytes};
-use lent_rows::LentRows;
+use leap_table::rows::LentRows;
 
 // The signed number of a pattern of 32 bits in two's complement.
 pub(crate) fn i32_of_pattern(n: u32) -> i32
@@ -57,12 +57,12 @@ pub fn lent_rows_at(bytes: &[u8]) -> LentRows
     ensures { λ r. ⌜ ofLength (length (now (bytes .entry))) (tableOf r) ≡ tableBytes (now (bytes .entry)) ⌝ }
 {
     if bytes.len() != 136 {
-        return lent_rows::no_rows();
+        return leap_table::rows::no_rows();
     }
     let months_size = numerals::little_endian::u32_at(bytes, 0);
     let seconds_size = numerals::little_endian::u32_at(bytes, 4);
     if lend_none(months_size, seconds_size) {
-        return lent_rows::no_rows();
+        return leap_table::rows::no_rows();
     }
     let size = places_of(months_size);
     let months = numbers_at(bytes, 8, size);
@@ -85,5 +85,5 @@ pub fn table_number(length: usize, rows: LentRows) -> u32
     if lend_none(rows.months_size, rows.seconds_size) {
         return 0;
     }
-    lent_rows::table_refusal(rows)
+    leap_table::rows::table_refusal(rows)
 }

@@ -12,10 +12,10 @@ use mir.Syntax.{w32, w64}
 use mir.Val.{Fits, SFits, toZ, ofZ}
 use mir.Facts.{toZ-pos}
 use Rattle.refusals.specs.Outcome.{Outcome, answer, refusal, onward}
-use Rattle.lent_rows.specs.declared.LentRows.{LentRows}
-use Rattle.lent_rows.specs.Table.{Row}
-use Rattle.lent_rows.specs.Lent.{rowsOf, tableOf, unlessRefused}
-use Rattle.lent_rows.proofs.TableLaws.{lengths}
+use Rattle.leap_table.specs.declared.rows.LentRows.{LentRows}
+use Rattle.leap_table.specs.rows.Table.{Row}
+use Rattle.leap_table.specs.rows.Lent.{rowsOf, tableOf, unlessRefused}
+use Rattle.leap_table.proofs.rows.TableLaws.{lengths}
 use Rattle.lent_bytes.specs.TableBytes.{ofLength, tableBytes}
 use Rattle.lent_bytes.proofs.Laws.{turned-away, gone-on}
 use Rattle.iso_texts.specs.TextCall.{written, bufferHolds}

@@ -13,17 +13,17 @@ use mir.Syntax.{w64}
 use mir.Val.{toZ, ofZ}
 use mir.Facts.{toZ-pos}
 use Rattle.refusals.specs.Outcome.{Outcome, answer, refusal, onward}
-use Rattle.lent_rows.specs.declared.LentRows.{LentRows}
-use Rattle.lent_rows.specs.Table.{Row}
-use Rattle.lent_rows.specs.Lent.{tableOf}
-use Rattle.offset_walk.specs.declared.WalkAnswer.{WalkAnswer}
-use Rattle.offset_walk.specs.declared.WalkAnswer.the-variants.{Compared, Refused}
-use Rattle.offset_walk.specs.Walk.{Walked}
-use Rattle.date_judging.specs.Lists.{datesFrom, tripleIn}
-use Rattle.offset_walk.specs.Lists.{walkOfBytes, inEights}
-use Rattle.offset_walk.specs.Call.{walkOutcome, listAfter, WalkCall}
-use Rattle.date_judging.proofs.Judges.{how-many}
-use Rattle.offset_walk.proofs.Codes.{count-most}
+use Rattle.leap_table.specs.declared.rows.LentRows.{LentRows}
+use Rattle.leap_table.specs.rows.Table.{Row}
+use Rattle.leap_table.specs.rows.Lent.{tableOf}
+use Rattle.leap_table.specs.declared.walk.WalkAnswer.{WalkAnswer}
+use Rattle.leap_table.specs.declared.walk.WalkAnswer.the-variants.{Compared, Refused}
+use Rattle.leap_table.specs.walk.Walk.{Walked}
+use Rattle.leap_table.specs.judging.Lists.{datesFrom, tripleIn}
+use Rattle.leap_table.specs.walk.Lists.{walkOfBytes, inEights}
+use Rattle.leap_table.specs.walk.Call.{walkOutcome, listAfter, WalkCall}
+use Rattle.leap_table.proofs.judging.Judges.{how-many}
+use Rattle.leap_table.proofs.walk.Codes.{count-most}
 use Rattle.lent_bytes.specs.TableBytes.{ofLength, tableBytes}
 use Rattle.lent_bytes.proofs.Laws.{other-length}
 use Rattle.c_answers.specs.Delivery.{code}

@@ -5,9 +5,9 @@ use mathlib.Core.List.{List}
 use Prim.Native.Nat.{ℕ}
 use lib.IntN.{ℤ}
 use Rattle.refusals.specs.Outcome.{Outcome, answer, onward}
-use Rattle.offset_walk.specs.Walk.{Walked}
-use Rattle.offset_walk.specs.Lists.{inEights}
-use Rattle.offset_walk.specs.Call.{listAfter}
+use Rattle.leap_table.specs.walk.Walk.{Walked}
+use Rattle.leap_table.specs.walk.Lists.{inEights}
+use Rattle.leap_table.specs.walk.Call.{listAfter}
 use Rattle.c_answers.specs.Delivery.{code}
 
 -- the call returned r, and the buffer, which held `before`, holds `after`: eight bytes an offset at its start and the rest as it was; refused, all as it was

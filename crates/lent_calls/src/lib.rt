@@ -8,7 +8,7 @@ ghost use Rattle.refusals.specs.Outcome.{onward};
 ghost use Rattle.stamps.specs.declared.Telling.the-variants.{Numbers, Sentences};
 ghost use Rattle.stamps.specs.Listing.{lineRoom};
 ghost use Rattle.stamps.specs.Widths.{InWidth};
-ghost use Rattle.offset_walk.specs.Lists.{walkOfBytes};
+ghost use Rattle.leap_table.specs.walk.Lists.{walkOfBytes};
 ghost use Rattle.lent_bytes.specs.TableBytes.{tableBytes};
 ghost use Rattle.c_answers.specs.Delivery.{Delivered};
 ghost use Rattle.lent_calls.specs.ListingPart.{listingPart};
@@ -16,7 +16,7 @@ ghost use Rattle.lent_calls.specs.WalkDelivery.{WalkDelivered};
 use c_answers::refused;
 use lent_bytes::lent_rows_at;
 use lent_bytes::table_number;
-use offset_walk::WalkAnswer;
+use leap_table::walk::WalkAnswer;
 use stamps::Telling;
 
 // A part of the listing by the table's rows; 11 where the buffer has not the room of a line.
@@ -71,7 +71,7 @@ pub fn offsets_at_0h(dates: &[u8], table: &[u8], out: &mut [u8]) -> i64
         return refused(refusals::BLOCK_LENGTH_WRONG);
     }
     let rows = lent_rows_at(table);
-    match offset_walk::offsets_at_0h_bytes(dates, rows, out) {
+    match leap_table::walk::offsets_at_0h_bytes(dates, rows, out) {
         WalkAnswer::Compared(n) => n as i64,
         WalkAnswer::Refused(number) => refused(number),
     }

@@ -14,7 +14,7 @@ use Rattle.numerals.specs.digits.Decimal.{digitsIn}
 use Rattle.floats.specs.Whole.{away}
 use Rattle.calendar.specs.declared.CalendarDate.{CalendarDate}
 use Rattle.julian.specs.declared.JulianDate.{JulianDate}
-use Rattle.lent_rows.specs.Table.{Row}
+use Rattle.leap_table.specs.rows.Table.{Row}
 use Rattle.time_of_day.specs.declared.TimeOfDay.{TimeOfDay}
 use Rattle.time_of_day.specs.declared.TimeShown.{TimeShown}
 use Rattle.time_of_day.specs.declared.TimeShown.the-variants.{At, NextMidnight}

@@ -25,7 +25,7 @@ use Rattle.day_number.specs.Answer.{dayNumberAndFraction}
 use Rattle.julian.specs.JulianDate.{julian}
 use Rattle.julian.specs.Calendar.{fields, julianToCalendar}
 use Rattle.julian_laws.proofs.Divisions.{dividedDate, divided-date}
-use Rattle.lent_rows.specs.Table.{Row}
+use Rattle.leap_table.specs.rows.Table.{Row}
 use Rattle.time_of_day.specs.declared.TimeShown.{TimeShown}
 use Rattle.time_of_day.specs.declared.TimeShown.the-variants.{At, NextMidnight}
 use Rattle.time_of_day.specs.TimeShown.{shownBy}

@@ -14,7 +14,7 @@ use Rattle.numerals.specs.digits.Decimal.{digitsIn}
 use Rattle.floats.specs.ExponentField.{exponentField}
 use Rattle.floats.proofs.ExponentField.{field-not-finite}
 use Rattle.calendar.proofs.NextDates.{first-false}
-use Rattle.lent_rows.specs.Table.{Row}
+use Rattle.leap_table.specs.rows.Table.{Row}
 use Rattle.utc_laws.proofs.Numbers.{not-both}
 use Rattle.utc_laws.proofs.ExpandedTexts.{expanded-not-finite}
 use Rattle.stamps.specs.declared.Telling.{Telling}

@@ -10,7 +10,7 @@ use borrow.Author.Tests.{ltb-false}
 use Rattle.refusals.specs.Outcome.{Outcome, answer, refusal}
 use Rattle.numerals.specs.digits.Decimal.{number, last, digitsIn, digitsOf}
 use Rattle.numerals.proofs.digits.Decimal.{number-digits}
-use Rattle.lent_rows.specs.Table.{Row}
+use Rattle.leap_table.specs.rows.Table.{Row}
 use Rattle.stamps.specs.Listing.{numeral, textAt, oneIfRefused, refusedIn}
 
 -- ---- with room for all its digits a number has the same whatever the room

@@ -21,7 +21,7 @@ use Rattle.julian.specs.declared.CalendarFields.{CalendarFields}
 use Rattle.julian.specs.JulianDate.{julian, roundedSum}
 use Rattle.julian.specs.Calendar.{fields, julianToCalendar}
 use Rattle.julian_laws.proofs.CalendarDays.{fields-of, only-six}
-use Rattle.lent_rows.specs.Table.{Row}
+use Rattle.leap_table.specs.rows.Table.{Row}
 use Rattle.iso_texts.specs.Expanded.{expandedSheet, isoTextExpanded}
 use Rattle.julian.proofs.Dates.{date-in-range}
 use Rattle.utc_laws.proofs.Numbers.{not-both, one-number, date-refusal}

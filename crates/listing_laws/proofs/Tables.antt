@@ -11,10 +11,10 @@ use Rattle.calendar.proofs.Years.{validOf}
 use Rattle.julian.specs.declared.JulianDate.{JulianDate}
 use Rattle.julian.specs.declared.CalendarFields.{CalendarFields}
 use Rattle.julian.specs.Calendar.{julianToCalendar}
-use Rattle.lent_rows.specs.declared.LentRows.{LentRows}
-use Rattle.lent_rows.specs.Table.{Row, fixed}
-use Rattle.lent_rows.specs.Lent.{tableOf}
-use Rattle.lent_rows.proofs.TablesTaken.{table-none}
+use Rattle.leap_table.specs.declared.rows.LentRows.{LentRows}
+use Rattle.leap_table.specs.rows.Table.{Row, fixed}
+use Rattle.leap_table.specs.rows.Lent.{tableOf}
+use Rattle.leap_table.proofs.rows.TablesTaken.{table-none}
 use Rattle.iso_texts.specs.Expanded.{expandedSheet, isoTextExpanded}
 use Rattle.julian.proofs.Dates.{date-in-range}
 use Rattle.iso_texts.proofs.TextCalls.{fields-refused-by, fields-given-by}

@@ -10,7 +10,7 @@ use mathlib.Core.List.{List, _++_, append-assoc, append-nil}
 use lib.Dec.{ltb}
 use borrow.Author.Tests.{ltb-true, ltb-false, leb-true, le-leb, ne-eqb}
 use Rattle.refusals.specs.Outcome.{Outcome, answer, refusal}
-use Rattle.lent_rows.specs.Table.{Row, fixed}
+use Rattle.leap_table.specs.rows.Table.{Row, fixed}
 use Rattle.stamps.specs.declared.Telling.{Telling}
 use Rattle.stamps.specs.Block.{blockOf}
 use Rattle.stamps.specs.Listing.{lineRoom, header, refusedIn, stampLine, stampLines, listingOf, listing}

@@ -8,7 +8,7 @@ use mathlib.Core.Bool.{Bool, cond, _||_}
 use lib.Dec.{eqb}
 use Rattle.refusals.specs.Outcome.{answer}
 use Rattle.floats.specs.ExponentField.{exponentField}
-use Rattle.lent_rows.specs.Table.{Row}
+use Rattle.leap_table.specs.rows.Table.{Row}
 use Rattle.stamps.specs.Block.{jd1Bits, jd2Bits}
 use Rattle.stamps.specs.Listing.{textAt}
 

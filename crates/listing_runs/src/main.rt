@@ -15,7 +15,7 @@ fn block_space() -> [u8; BLOCK_SPACE]
 // The loop of the program utc_listing. The answer is whether the output took the whole listing.
 fn list(block: &[u8]) -> bool {
     let mut scratch = io::buffer();
-    let table = lent_rows::no_rows();
+    let table = leap_table::rows::no_rows();
     let mut line = 0;
     loop {
         let part = stamps::next_part_by_rows(block, line, table, &mut scratch);

@@ -11,7 +11,7 @@ use Rattle.constants.specs.Constants.{decimal}
 use Rattle.calendar.specs.Refusals.{validDate}
 use Rattle.julian.specs.declared.JulianDate.{JulianDate}
 use Rattle.julian.specs.Calendar.{fromCalendar}
-use Rattle.lent_rows.specs.Table.{Row}
+use Rattle.leap_table.specs.rows.Table.{Row}
 use Rattle.utc.specs.FromCalendar.{utcFromCalendar}
 use Rattle.parsing.specs.declared.ParsedDateTime.{ParsedDateTime}
 use Rattle.parsing.specs.declared.ParsedUtc.{ParsedUtc}

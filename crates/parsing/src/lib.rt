@@ -2,7 +2,7 @@
 use calendar::DateCheck;
 use julian::JulianAnswer;
 use julian::JulianDate;
-use lent_rows::LentRows;
+use leap_table::rows::LentRows;
 use scales::UTC;
 use scales::UtcAnswer;
 use text_scan::Form;
@@ -12,7 +12,7 @@ ghost use mathlib.Core.Bool.{true, false};
 ghost use Prim.Native.Nat.{_≤_};
 ghost use Rattle.julian.specs.JulianDate.{julianOutcome};
 ghost use Rattle.refusals.specs.Outcome.{onward};
-ghost use Rattle.lent_rows.specs.Lent.{rowsIn, rowsOf, tableOf};
+ghost use Rattle.leap_table.specs.rows.Lent.{rowsIn, rowsOf, tableOf};
 ghost use Rattle.parsing.specs.Parsed.{parsedOutcome, parsedUtcOutcome, parsed, toJulianDate, dated as dated·of, parsedUtc};
 ghost use Rattle.parsing.specs.Judging.{timeIn, quotient, judgedForm};
 
@@ -146,7 +146,7 @@ pub fn from_str_by_rows(text: &[u8], table: LentRows) -> ParsedUtcAnswer
 {
     from_str_by_lent(
         text,
-        lent_rows::size_of(table),
+        leap_table::rows::size_of(table),
         &table.months,
         &table.seconds,
     )
@@ -157,7 +157,7 @@ pub fn from_str_by_rows(text: &[u8], table: LentRows) -> ParsedUtcAnswer
 pub fn from_str(text: &[u8], table: LentRows) -> ParsedUtcAnswer
     ensures { λ r. ⌜ parsedUtcOutcome r ≡ onward (tableOf table) (λ rows. parsedUtc rows (now (text .entry))) ⌝ }
 {
-    let number = lent_rows::table_refusal(table);
+    let number = leap_table::rows::table_refusal(table);
     if number != 0 {
         return ParsedUtcAnswer::Refused(number);
     }

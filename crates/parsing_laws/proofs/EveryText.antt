@@ -25,11 +25,11 @@ use Rattle.julian.specs.declared.CalendarFields.{CalendarFields}
 use Rattle.julian.specs.Calendar.{julianToCalendar}
 use Rattle.julian_laws.specs.CalendarAnswers.{FieldsInRange}
 use Rattle.julian_laws.proofs.CalendarDays.{answered-in-range, not-above}
-use Rattle.lent_rows.specs.declared.LentRows.{LentRows}
-use Rattle.lent_rows.specs.Table.{Row}
-use Rattle.lent_rows.specs.Lent.{tableOf}
-use Rattle.tai_utc.specs.Leap.{leapAtEndOfDay}
-use Rattle.tai_utc.proofs.Days.{leap-came}
+use Rattle.leap_table.specs.declared.rows.LentRows.{LentRows}
+use Rattle.leap_table.specs.rows.Table.{Row}
+use Rattle.leap_table.specs.rows.Lent.{tableOf}
+use Rattle.leap_table.specs.offsets.Leap.{leapAtEndOfDay}
+use Rattle.leap_table.proofs.offsets.Days.{leap-came}
 use Rattle.time_of_day.specs.declared.TimeOfDay.{TimeOfDay}
 use Rattle.time_of_day.specs.declared.TimeShown.the-variants.{At, NextMidnight}
 use Rattle.time_of_day.specs.Milliseconds.{wholeLeap}

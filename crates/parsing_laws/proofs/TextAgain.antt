@@ -33,10 +33,10 @@ use Rattle.julian.proofs.Midnights.{midnight-given}
 use Rattle.julian_laws.proofs.RoundTrip.{midnight-fraction, round-trip-at-midnight}
 use Rattle.julian_laws.proofs.CalendarDays.{fields-of}
 use Rattle.tai_round_trip.proofs.Fraction.{fraction-fits}
-use Rattle.lent_rows.specs.declared.LentRows.{LentRows}
-use Rattle.lent_rows.specs.Table.{Row}
-use Rattle.lent_rows.specs.Lent.{tableOf}
-use Rattle.tai_utc.specs.Leap.{leapAtEndOfDay}
+use Rattle.leap_table.specs.declared.rows.LentRows.{LentRows}
+use Rattle.leap_table.specs.rows.Table.{Row}
+use Rattle.leap_table.specs.rows.Lent.{tableOf}
+use Rattle.leap_table.specs.offsets.Leap.{leapAtEndOfDay}
 use Rattle.time_of_day.specs.declared.TimeOfDay.{TimeOfDay}
 use Rattle.time_of_day.specs.declared.TimeShown.the-variants.{At, NextMidnight}
 use Rattle.time_of_day.specs.Milliseconds.{wholeLeap}

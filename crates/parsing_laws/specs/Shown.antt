@@ -10,7 +10,7 @@ use Rattle.refusals.specs.Outcome.{answer}
 use Rattle.constants.specs.Constants.{decimal}
 use Rattle.calendar.specs.declared.CalendarDate.{CalendarDate}
 use Rattle.julian.specs.declared.JulianDate.{JulianDate}
-use Rattle.lent_rows.specs.Table.{Row}
+use Rattle.leap_table.specs.rows.Table.{Row}
 use Rattle.time_of_day.specs.declared.TimeOfDay.{TimeOfDay}
 use Rattle.utc_text.specs.Text.{utcText}
 use Rattle.utc_text.specs.ReadBack.{readYear, readMonth, readDay, readHour, readMinute, readSecond, readMilli}

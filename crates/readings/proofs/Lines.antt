@@ -15,7 +15,7 @@ use Rattle.refusals.specs.Outcome.{Outcome, answer, refusal, onward}
 use Rattle.numerals.specs.digits.Decimal.{last, digitsIn, digitsOf}
 use Rattle.numerals.proofs.digits.Decimal.{digits-few}
 use Rattle.julian.specs.declared.JulianDate.{JulianDate}
-use Rattle.lent_rows.specs.Table.{Row}
+use Rattle.leap_table.specs.rows.Table.{Row}
 use Rattle.utc_text.specs.declared.TextAnswer.{TextAnswer}
 use Rattle.utc_text.specs.declared.TextAnswer.the-variants.{Written, Refused}
 use Rattle.utc_text.specs.Answer.{textOutcome, textWritten, bufferAfter}

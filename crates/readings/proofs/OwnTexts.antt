@@ -8,9 +8,9 @@ use lib.Ieee.{binary64, fits}
 use Rattle.refusals.specs.Outcome.{Outcome, answer, onward}
 use Rattle.numerals.specs.digits.Decimal.{digitsOf}
 use Rattle.julian.specs.declared.JulianDate.{JulianDate}
-use Rattle.lent_rows.specs.declared.LentRows.{LentRows}
-use Rattle.lent_rows.specs.Table.{Row}
-use Rattle.lent_rows.specs.Lent.{tableOf}
+use Rattle.leap_table.specs.declared.rows.LentRows.{LentRows}
+use Rattle.leap_table.specs.rows.Table.{Row}
+use Rattle.leap_table.specs.rows.Lent.{tableOf}
 use Rattle.iso_texts.specs.Expanded.{isoTextExpanded}
 use Rattle.parsing.specs.declared.ParsedUtc.{ParsedUtc}
 use Rattle.parsing_laws.specs.Shown.{YearShown, ReadsBack, fieldsShown, withDate}

@@ -9,7 +9,7 @@ use lib.ListN.{length, drop}
 use lib.Dec.{leb}
 use Rattle.refusals.specs.Outcome.{Outcome, answer, refusal, onward}
 use Rattle.numerals.specs.digits.Decimal.{digitsOf}
-use Rattle.lent_rows.specs.Table.{Row}
+use Rattle.leap_table.specs.rows.Table.{Row}
 use Rattle.utc_text.specs.declared.TextAnswer.{TextAnswer}
 use Rattle.utc_text.specs.Answer.{textOutcome}
 use Rattle.iso_texts.specs.Expanded.{isoTextExpanded}

@@ -1,5 +1,5 @@
 // A text as the marker boxes send it, answered by a line: its index and the text of its date, or `refused` and the number.
-use lent_rows::LentRows;
+use leap_table::rows::LentRows;
 use parsing::ParsedUtcAnswer;
 use scales::UTC;
 use utc_text::TextAnswer;
@@ -7,7 +7,7 @@ ghost use Prim.Native.Nat.{_+_, _≤_};
 ghost use lib.ListN.{length};
 ghost use Rattle.numerals.specs.digits.Decimal.{digitsOf};
 ghost use Rattle.refusals.specs.Outcome.{refusal};
-ghost use Rattle.lent_rows.specs.Lent.{rowsOf};
+ghost use Rattle.leap_table.specs.rows.Lent.{rowsOf};
 ghost use Rattle.iso_texts.specs.Expanded.{isoTextExpanded};
 ghost use Rattle.numerals.specs.digits.Placed.{Placed};
 ghost use Rattle.readings.specs.Reading.{reading, readingTold, readingLine, LineCall};

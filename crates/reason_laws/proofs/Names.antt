@@ -30,8 +30,8 @@ use Rattle.julian.specs.Finite.{finiteJd, finiteArg}
 use Rattle.julian.specs.declared.CalendarFields.{CalendarFields}
 use Rattle.julian.specs.Calendar.{julianToCalendar}
 use Rattle.julian_laws.proofs.CalendarDays.{only-six}
-use Rattle.lent_rows.specs.Table.{Row, monthNumber}
-use Rattle.tai_utc.specs.Offset.{offsetAt, inDay, taiUtcOffset}
+use Rattle.leap_table.specs.rows.Table.{Row, monthNumber}
+use Rattle.leap_table.specs.offsets.Offset.{offsetAt, inDay, taiUtcOffset}
 use Rattle.utc.specs.UnixTime.{unixDay, secondOfUnixDay, secondWithNanos, utcNew}
 use Rattle.utc.proofs.UnixTimes.{nanos-refused, day-refused, day-given}
 use Rattle.utc_laws.proofs.DateNumbers.{from-calendar-numbers}

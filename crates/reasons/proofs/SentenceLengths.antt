@@ -16,7 +16,7 @@ use Rattle.calendar.specs.Calendar.{daysInMonth}
 use Rattle.day_number.specs.DayNumber.{inJulianRange}
 use Rattle.julian.specs.JulianDate.{julian, roundedSum}
 use Rattle.julian.specs.DayFraction.{timeInDay}
-use Rattle.tai_utc.specs.Offset.{inDay}
+use Rattle.leap_table.specs.offsets.Offset.{inDay}
 use Rattle.numerals.specs.digits.Decimal.{digitsOf}
 use Rattle.numerals.proofs.digits.Decimal.{digits-few}
 use Rattle.numerals.proofs.digits.Hexadecimal.{hex-length}

@@ -13,7 +13,7 @@ use Rattle.calendar.specs.Calendar.{daysInMonth}
 use Rattle.day_number.specs.DayNumber.{inJulianRange}
 use Rattle.julian.specs.JulianDate.{julian, roundedSum}
 use Rattle.julian.specs.DayFraction.{timeInDay}
-use Rattle.tai_utc.specs.Offset.{inDay}
+use Rattle.leap_table.specs.offsets.Offset.{inDay}
 use Rattle.sentences.specs.declared.Named.{Named}
 use Rattle.sentences.specs.declared.Named.the-variants.{NoField, Year, Month, Day, Hour, Minute, Second, Sum, Fraction, Nanos, FirstPart, SecondPart, Offset, SecondSize, Size, WholeLength}
 use Rattle.reasons.specs.declared.Values.{Values}

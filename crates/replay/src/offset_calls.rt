@@ -1,8 +1,8 @@
 // TAI-UTC: calls 60 and 62.
 use crate::words;
 use crate::words::Answer;
-use tai_utc::SecondsAnswer;
-use tai_utc::SecondsByRule;
+use leap_table::offsets::SecondsAnswer;
+use leap_table::offsets::SecondsByRule;
 
 fn found(a: SecondsAnswer) -> Answer {
     match a {
@@ -23,13 +23,13 @@ pub(crate) fn answered(call: u64, record: &[u8; 128]) -> Answer {
     let month = words::small_at(record, 2);
     let day = words::small_at(record, 3);
     if call == 60 {
-        return found_by_rule(tai_utc::get_tai_utc_offset(
+        return found_by_rule(leap_table::offsets::get_tai_utc_offset(
             year,
             month,
             day,
             words::float_at(record, 4),
-            lent_rows::no_rows(),
+            leap_table::rows::no_rows(),
         ));
     }
-    found(tai_utc::leap_at_end_of_day(year, month, day, lent_rows::no_rows()))
+    found(leap_table::offsets::leap_at_end_of_day(year, month, day, leap_table::rows::no_rows()))
 }

@@ -39,7 +39,7 @@ fn from_calendar(record: &[u8; 128]) -> UtcAnswer {
         words::byte_at(record, 4),
         words::byte_at(record, 5),
         words::float_at(record, 6),
-        lent_rows::no_rows(),
+        leap_table::rows::no_rows(),
     )
 }
 
@@ -56,7 +56,7 @@ fn text(record: &[u8; 128]) -> Answer {
     let n = room(record);
     match iso_texts::to_iso8601(
         UTC(words::date_at(record, 1)),
-        lent_rows::no_rows(),
+        leap_table::rows::no_rows(),
         &mut buffer[..n],
     ) {
         TextByRule::Written(length, _) => words::text(0, length as u64, &buffer),
@@ -71,13 +71,13 @@ pub(crate) fn answered(call: u64, record: &[u8; 128]) -> Answer {
         120 => found_utc(utc::new(
             words::signed_at(record, 1),
             words::number_at(record, 2),
-            lent_rows::no_rows(),
+            leap_table::rows::no_rows(),
         )),
         121 => found_utc(from_calendar(record)),
         122 => text(record),
-        123 => found_tai(utc_scales::utc_tai::utc_to_tai(UTC(date), lent_rows::no_rows())),
-        124 => found_utc(utc_scales::utc_tai::tai_to_utc(TAI(date), lent_rows::no_rows())),
-        125 => found_ut1(utc_to_ut1::utc_to_ut1_with_dut1(UTC(date), dut1, lent_rows::no_rows())),
-        _ => found_utc(ut1_to_utc::ut1_to_utc_with_dut1(UT1(date), dut1, lent_rows::no_rows())),
+        123 => found_tai(utc_scales::utc_tai::utc_to_tai(UTC(date), leap_table::rows::no_rows())),
+        124 => found_utc(utc_scales::utc_tai::tai_to_utc(TAI(date), leap_table::rows::no_rows())),
+        125 => found_ut1(utc_to_ut1::utc_to_ut1_with_dut1(UTC(date), dut1, leap_table::rows::no_rows())),
+        _ => found_utc(ut1_to_utc::ut1_to_utc_with_dut1(UT1(date), dut1, leap_table::rows::no_rows())),
     }
 }

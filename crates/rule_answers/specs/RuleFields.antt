@@ -4,8 +4,8 @@ use Prim.Native.Nat.{ℕ}
 use mathlib.Core.List.{List, _++_}
 use lib.Ieee.{Float}
 use Rattle.julian.specs.declared.JulianDate.{JulianDate}
-use Rattle.tai_utc.specs.declared.Rule.{Rule}
-use Rattle.tai_utc.specs.declared.Rule.the-variants.{Absent, Drifting, Whole}
+use Rattle.leap_table.specs.declared.offsets.Rule.{Rule}
+use Rattle.leap_table.specs.declared.offsets.Rule.the-variants.{Absent, Drifting, Whole}
 use Rattle.c_answers.specs.Fields.{fourBytes, floatBytes, julianBytes}
 
 unfoldable pub ruleNumber : Rule → ℕ

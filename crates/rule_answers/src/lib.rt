@@ -8,7 +8,7 @@ use c_answers::fields::put_julian;
 use c_answers::fields::put_two_numbers;
 use c_answers::refused;
 use julian::JulianDate;
-use tai_utc::Rule;
+use leap_table::offsets::Rule;
 
 fn rule_number(rule: Rule) -> u32
     ensures { λ r. ⌜ r ≡ ruleNumber rule ⌝ }

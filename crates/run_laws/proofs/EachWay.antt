@@ -3,7 +3,7 @@ use mathlib.Core.Path.{_≡_, refl}
 use mathlib.Core.List.{List}
 use Rattle.refusals.specs.Outcome.{Outcome, answer, refusal, onward}
 use Rattle.julian.specs.declared.JulianDate.{JulianDate}
-use Rattle.lent_rows.specs.Table.{Row}
+use Rattle.leap_table.specs.rows.Table.{Row}
 use Rattle.scales.specs.Conversions.{answerOf, tt-tai, gps-tai, tcg-tai}
 use Rattle.utc_scales.specs.UtcTai.{utcToTai}
 use Rattle.scale_ways.specs.Ways.{intoTai, outOfTai, between, wayOf}

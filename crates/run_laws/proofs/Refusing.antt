@@ -16,7 +16,7 @@ use Rattle.julian.specs.declared.JulianDate.{JulianDate}
 use Rattle.julian.specs.JulianDate.{julian}
 use Rattle.julian.specs.Finite.{finiteParts, finiteJd}
 use Rattle.numerals.specs.little_endian.LittleEndian.{u64At}
-use Rattle.lent_rows.specs.Table.{Row}
+use Rattle.leap_table.specs.rows.Table.{Row}
 use Rattle.shifts.specs.Shifts.{plus, minus, converted}
 use Rattle.shifts.specs.SmallerPart.{firstIsLarger, mapSmallerPart}
 use Rattle.shifts.proofs.Outcomes.{first}
@@ -27,7 +27,7 @@ use Rattle.scale_laws.specs.Ranges.{Held}
 use Rattle.scales.specs.Conversions.{answerOf}
 use Rattle.julian.specs.declared.CalendarFields.{CalendarFields}
 use Rattle.julian.specs.Calendar.{julianToCalendar}
-use Rattle.tai_utc.specs.declared.DayOffsets.{DayOffsets}
+use Rattle.leap_table.specs.declared.offsets.DayOffsets.{DayOffsets}
 use Rattle.utc_days.specs.LargerPart.{keptParts, besideAs, putBeside, placed, changeSmaller}
 use Rattle.utc_days.specs.Dates.{offsetsOf, midnightOf}
 use Rattle.utc_scales.specs.UtcTai.{taiFromMidnight, taiFraction, utcToTai, taiToUtc}

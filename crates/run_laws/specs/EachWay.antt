@@ -4,7 +4,7 @@ use mathlib.Core.List.{List}
 use Rattle.refusals.specs.Outcome.{onward}
 use Rattle.julian.specs.declared.JulianDate.{JulianDate}
 use Rattle.julian.specs.Finite.{finiteJd}
-use Rattle.lent_rows.specs.Table.{Row}
+use Rattle.leap_table.specs.rows.Table.{Row}
 use Rattle.scales.specs.Conversions.{answerOf, gps-tai, tai-gps, tai-tt, tt-tai, tcg-tt, tt-tcg, tai-tcg, tcg-tai}
 use Rattle.utc_scales.specs.UtcTai.{utcToTai, taiToUtc}
 use Rattle.scale_ways.specs.Ways.{wayOf}

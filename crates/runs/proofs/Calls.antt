@@ -9,8 +9,8 @@ use lib.Dec.{eqb, leb}
 use lib.ListN.{length}
 use borrow.Author.Tests.{eq-eqb, ne-eqb, le-leb, lt-leb, eqb-true, leb-true}
 use Rattle.refusals.specs.Outcome.{Outcome, answer, refusal}
-use Rattle.lent_rows.specs.Table.{Row}
-use Rattle.lent_rows.specs.Lent.{unlessRefused}
+use Rattle.leap_table.specs.rows.Table.{Row}
+use Rattle.leap_table.specs.rows.Lent.{unlessRefused}
 use Rattle.formula_runs.specs.declared.RunAnswer.the-variants as Answer
 use Rattle.scale_ways.specs.Ways.{isRunScale}
 use Rattle.formula_runs.specs.Run.{runOutcome, refusedAmong, runCall, runWritten}

@@ -8,7 +8,7 @@ use lib.Dec.{eqb, leb}
 use lib.ListN.{length}
 use Rattle.refusals.specs.Outcome.{Outcome, answer, refusal}
 use Rattle.julian.specs.declared.JulianDate.{JulianDate}
-use Rattle.lent_rows.specs.Table.{Row}
+use Rattle.leap_table.specs.rows.Table.{Row}
 use Rattle.line_up.specs.LineUp.{stampOf}
 use Rattle.formula_runs.specs.Run.{RunCall, runCall, runWritten}
 use Rattle.scale_ways.specs.Ways.{isRunScale, wayOf}

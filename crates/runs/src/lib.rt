@@ -6,7 +6,7 @@ ghost use lib.Seq.{sets};
 ghost use lib.Ieee.{binary64, toBits};
 ghost use Rattle.numerals.specs.little_endian.LittleEndian.{u64At, eightBytes};
 ghost use Rattle.julian.specs.JulianDate.{julianOutcome};
-ghost use Rattle.lent_rows.specs.Lent.{rowsIn, tableOf};
+ghost use Rattle.leap_table.specs.rows.Lent.{rowsIn, tableOf};
 ghost use Rattle.line_up.specs.LineUp.{stampOf};
 ghost use Rattle.scale_ways.specs.Ways.{isRunScale};
 ghost use Rattle.formula_runs.specs.Run.{runOutcome, runCall};
@@ -17,7 +17,7 @@ use formula_runs::RunAnswer;
 use formula_runs::one_if_refused;
 use julian::JulianAnswer;
 use julian::JulianDate;
-use lent_rows::LentRows;
+use leap_table::rows::LentRows;
 use same_stamps::GPS;
 use same_stamps::TAI;
 use same_stamps::TCG;
@@ -257,7 +257,7 @@ pub fn convert_run(
 ) -> RunAnswer
     ensures { λ r. ⌜ runCall (runOutcome r) (now (out1 .exit)) (now (out2 .exit)) (now (numbers .exit)) ≡ convertedRun (tableOf table) from to (now (jd1s .entry)) (now (jd2s .entry)) (now (out1 .entry)) (now (out2 .entry)) (now (numbers .entry)) ⌝ }
 {
-    let number = lent_rows::table_refusal(table);
+    let number = leap_table::rows::table_refusal(table);
     if number != 0 {
         return RunAnswer::Refused(number);
     }
@@ -266,7 +266,7 @@ pub fn convert_run(
         to,
         jd1s,
         jd2s,
-        lent_rows::size_of(table),
+        leap_table::rows::size_of(table),
         &table.months,
         &table.seconds,
         out1,

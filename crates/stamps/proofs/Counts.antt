@@ -17,7 +17,7 @@ use Rattle.day_number.specs.declared.DayAnswer.the-variants.{Day, Refused}
 use Rattle.day_number.specs.Answer.{dayOutcome, dayNumberAndFraction}
 use Rattle.julian.specs.declared.JulianDate.{JulianDate}
 use Rattle.julian.specs.Calendar.{fields, julianToCalendar}
-use Rattle.lent_rows.specs.Table.{Row}
+use Rattle.leap_table.specs.rows.Table.{Row}
 use Rattle.iso_texts.specs.Expanded.{expandedSheet, isoTextExpanded}
 use Rattle.julian.proofs.Dates.{date-in-range}
 use Rattle.iso_texts.proofs.TextCalls.{fields-refused-by, fields-given-by}

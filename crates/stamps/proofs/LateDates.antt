@@ -35,7 +35,7 @@ use Rattle.day_number.proofs.TotalDay.{sides}
 use Rattle.day_number.proofs.DayInRange.{total-is, number-is}
 use Rattle.day_number.proofs.Answer.{answered}
 use Rattle.julian.specs.declared.JulianDate.{JulianDate}
-use Rattle.lent_rows.specs.Table.{Row}
+use Rattle.leap_table.specs.rows.Table.{Row}
 use Rattle.iso_texts.specs.Expanded.{isoTextExpanded}
 use Rattle.stamps.specs.Listing.{oneIfRefused}
 use Rattle.stamps.proofs.Counts.{day-given}

@@ -9,7 +9,7 @@ use lib.ListN.{length, length-append}
 use lib.Dec.{leb, eqb}
 use borrow.Author.Tests.{leb-true}
 use Rattle.refusals.specs.Outcome.{Outcome, answer, refusal}
-use Rattle.lent_rows.specs.Table.{Row}
+use Rattle.leap_table.specs.rows.Table.{Row}
 use Rattle.iso_texts.specs.Expanded.{isoTextExpanded}
 use Rattle.stamps.specs.declared.Telling.{Telling}
 use Rattle.stamps.specs.Block.{blockOf, stampAt}

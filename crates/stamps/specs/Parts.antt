@@ -7,7 +7,7 @@ use mathlib.Core.Bool.{cond}
 use lib.ListN.{length, drop}
 use lib.Dec.{leb, eqb}
 use Rattle.refusals.specs.Outcome.{Outcome, answer, refusal, onward}
-use Rattle.lent_rows.specs.Table.{Row}
+use Rattle.leap_table.specs.rows.Table.{Row}
 use Rattle.stamps.specs.declared.Telling.{Telling}
 use Rattle.stamps.specs.declared.Part.{Part}
 use Rattle.stamps.specs.declared.LinesAnswer.{LinesAnswer}

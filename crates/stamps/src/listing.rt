@@ -9,8 +9,8 @@ ghost use lib.Signed.{ltZ};
 ghost use lib.Ieee.{le};
 ghost use Rattle.floats.specs.Whole.{nought};
 ghost use Rattle.day_number.specs.DayNumber.{c-djmax};
-ghost use Rattle.lent_rows.specs.Table.{Row};
-ghost use Rattle.lent_rows.specs.Lent.{rowsOf, tableOf};
+ghost use Rattle.leap_table.specs.rows.Table.{Row};
+ghost use Rattle.leap_table.specs.rows.Lent.{rowsOf, tableOf};
 ghost use Rattle.iso_texts.specs.Expanded.{isoTextExpanded};
 ghost use Rattle.stamps.specs.Block.{blockOutcome, blockOf};
 ghost use Rattle.numerals.specs.digits.Placed.{Placed};
@@ -26,7 +26,7 @@ use super::stamp_at;
 use super::told;
 use day_number::DayAnswer;
 use julian::JulianDate;
-use lent_rows::LentRows;
+use leap_table::rows::LentRows;
 use scales::UTC;
 use utc_text::TextAnswer;
 
@@ -230,7 +230,7 @@ pub fn next_told_part(
 ) -> LinesAnswer
     ensures { λ r. ⌜ PartCall how (tableOf table) (now (block .entry)) line (now (scratch .entry)) r (now (scratch .exit)) ⌝ }
 {
-    let number = lent_rows::table_refusal(table);
+    let number = leap_table::rows::table_refusal(table);
     if number != 0 {
         return LinesAnswer::Refused(number);
     }

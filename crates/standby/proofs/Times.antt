@@ -13,13 +13,13 @@ use Rattle.calendar.specs.declared.CalendarDate.{CalendarDate}
 use Rattle.calendar.specs.Refusals.{validDate, nextOf}
 use Rattle.calendar.specs.DayCount.{marchCount, civilCount, mjdNumber, mjdOf}
 use Rattle.calendar.proofs.Signs.{sub-at}
-use Rattle.lent_rows.specs.declared.LentRows.{LentRows}
-use Rattle.lent_rows.specs.Table.{Row, monthNumber}
-use Rattle.lent_rows.specs.Lent.{tableOf}
-use Rattle.tai_utc.specs.Offset.{secondsIn}
-use Rattle.tai_utc.specs.WholeSeconds.{wholeSeconds}
-use Rattle.tai_utc.proofs.TableSeconds.{seconds-in-range}
-use Rattle.tai_utc.proofs.WholeSeconds.{late}
+use Rattle.leap_table.specs.declared.rows.LentRows.{LentRows}
+use Rattle.leap_table.specs.rows.Table.{Row, monthNumber}
+use Rattle.leap_table.specs.rows.Lent.{tableOf}
+use Rattle.leap_table.specs.offsets.Offset.{secondsIn}
+use Rattle.leap_table.specs.offsets.WholeSeconds.{wholeSeconds}
+use Rattle.leap_table.proofs.offsets.TableSeconds.{seconds-in-range}
+use Rattle.leap_table.proofs.offsets.WholeSeconds.{late}
 use Rattle.standby.specs.declared.UtcTime.{UtcTime}
 use Rattle.standby.specs.declared.Instant.{Instant}
 use Rattle.standby.specs.declared.InstantAnswer.the-variants as I

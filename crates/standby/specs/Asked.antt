@@ -7,8 +7,8 @@ use lib.Signed.{ltZ}
 use Rattle.refusals.specs.Outcome.{Outcome, answer}
 use Rattle.calendar.specs.declared.CalendarDate.{CalendarDate}
 use Rattle.calendar.specs.Refusals.{nextOf}
-use Rattle.lent_rows.specs.declared.LentRows.{LentRows}
-use Rattle.lent_rows.specs.Lent.{rowsOf, tableOf}
+use Rattle.leap_table.specs.declared.rows.LentRows.{LentRows}
+use Rattle.leap_table.specs.rows.Lent.{rowsOf, tableOf}
 use Rattle.standby.specs.declared.UtcTime.{UtcTime}
 use Rattle.standby.specs.declared.Instant.{Instant}
 use Rattle.standby.specs.declared.InstantAnswer.{InstantAnswer}

@@ -2,7 +2,7 @@
 ghost use mathlib.Core.Path.{_≡_};
 ghost use Prim.Native.Nat.{_+_, _*_, _≤_, _<_};
 ghost use Rattle.refusals.specs.Outcome.{answer, onward};
-ghost use Rattle.lent_rows.specs.Lent.{rowsOf, tableOf};
+ghost use Rattle.leap_table.specs.rows.Lent.{rowsOf, tableOf};
 ghost use Rattle.standby.specs.Times.{inItsDay, lastMinute, timeSeconds};
 ghost use Rattle.standby.specs.Times as T;
 ghost use Rattle.standby.specs.Bills.{overLimit, shares, billBetween, standbyBill};
@@ -12,7 +12,7 @@ ghost use Rattle.standby.specs.Asked.{Dated, InstantIs, SmallInstant, St
 use calendar::CalendarDate;
 use calendar::MjdAnswer;
 use calendar::NextDay;
-use lent_rows::LentRows;
+use leap_table::rows::LentRows;
 
 // The longest of each: quarters, cents a quarter, metres.
 const LIMIT: u64 = 1_000_000;
@@ -63,7 +63,7 @@ fn last_minute(t: UtcTime, next: CalendarDate, offset: u32, table: LentRows) -> 
             return 60;
         }
     }
-    60 + tai_utc::whole_seconds_by_rows(next.year, next.month, table) - offset
+    60 + leap_table::offsets::whole_seconds_by_rows(next.year, next.month, table) - offset
 }
 
 // Whether the time is one of a day whose last minute has `last` seconds.
@@ -99,7 +99,7 @@ fn at_time(t: UtcTime, day: u64, next: CalendarDate, table: LentRows) -> Instant
     requires { ⌜ Dated table t day next ⌝ }
     ensures { λ r. ⌜ InstantIs (T.instantOn (rowsOf table) t next) r ⌝ }
 {
-    let offset = tai_utc::whole_seconds_by_rows(t.year, t.month as u32, table);
+    let offset = leap_table::offsets::whole_seconds_by_rows(t.year, t.month as u32, table);
     let last = last_minute(t, next, offset, table);
     if in_its_day(t, last) {
         InstantAnswer::At(Instant {
@@ -240,7 +240,7 @@ pub fn standby_bill(
 ) -> BillAnswer
     ensures { λ r. ⌜ billOutcome r ≡ onward (tableOf table) (λ rows. standbyBill rows start end rate «first_metres» «second_metres») ⌝ }
 {
-    let number = lent_rows::table_refusal(table);
+    let number = leap_table::rows::table_refusal(table);
     if number != 0 {
         return BillAnswer::Refused(number);
     }

@@ -6,8 +6,8 @@ use Rattle.refusals.specs.Outcome.{Outcome, answer, refusal, onward}
 use Rattle.calendar.specs.Calendar.{leapSize, lengths, daysInMonth, next}
 use Rattle.calendar.specs.Refusals.{validDate, nextOf}
 use Rattle.calendar.specs.DayCount.{civilCount, mjdNumber}
-use Rattle.lent_rows.specs.Table.{fixed, reached, monthNumber}
-use Rattle.tai_utc.specs.WholeSeconds.{wholeSeconds}
+use Rattle.leap_table.specs.rows.Table.{fixed, reached, monthNumber}
+use Rattle.leap_table.specs.offsets.WholeSeconds.{wholeSeconds}
 use Rattle.standby.specs.declared.UtcTime.{UtcTime}
 use Rattle.standby.specs.Times.{lastMinute, inItsDay, timeSeconds, taiMs, instantOn, instant}
 use Rattle.standby.specs.Bills.{quarters, overLimit, bill, shares, billBetween, standbyBill}

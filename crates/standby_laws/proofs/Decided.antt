@@ -13,7 +13,7 @@ use borrow.Author.Tests.{ltb-true, ltb-false, eqb-true, eqb-false}
 use Rattle.refusals.specs.Outcome.{Outcome, answer, refusal, onward}
 use Rattle.calendar.specs.declared.CalendarDate.{CalendarDate}
 use Rattle.calendar.specs.Refusals.{nextOf}
-use Rattle.lent_rows.specs.Table.{Row}
+use Rattle.leap_table.specs.rows.Table.{Row}
 use Rattle.standby.specs.declared.UtcTime.{UtcTime}
 use Rattle.standby.specs.Times.{inItsDay, lastMinute, instant}
 use Rattle.standby.specs.Bills.{quarters, quartersBetween, overLimit, bill, shares, billBetween, standbyBill}

@@ -9,13 +9,13 @@ use Rattle.refusals.specs.Outcome.{answer}
 use Rattle.calendar.specs.Refusals.{validDate}
 use Rattle.calendar.proofs.Accepted.{date-accepted}
 use Rattle.calendar.proofs.Mjd.{mjd-given}
-use Rattle.lent_rows.specs.declared.LentRows.{LentRows}
-use Rattle.lent_rows.specs.Table.{Row, monthNumber}
-use Rattle.lent_rows.specs.Lent.{tableOf}
-use Rattle.tai_utc.specs.Offset.{inDay, taiUtcOffset, wholeF}
-use Rattle.tai_utc.proofs.Offsets.{offset-given}
-use Rattle.tai_utc.proofs.TableSeconds.{table-seconds}
-use Rattle.tai_utc.proofs.WholeSeconds.{late}
+use Rattle.leap_table.specs.declared.rows.LentRows.{LentRows}
+use Rattle.leap_table.specs.rows.Table.{Row, monthNumber}
+use Rattle.leap_table.specs.rows.Lent.{tableOf}
+use Rattle.leap_table.specs.offsets.Offset.{inDay, taiUtcOffset, wholeF}
+use Rattle.leap_table.proofs.offsets.Offsets.{offset-given}
+use Rattle.leap_table.proofs.offsets.TableSeconds.{table-seconds}
+use Rattle.leap_table.proofs.offsets.WholeSeconds.{late}
 use Rattle.standby.specs.declared.UtcTime.{UtcTime}
 use Rattle.standby.specs.Times.{offsetOnDate}
 use Rattle.standby_laws.proofs.Faults.{whole-here}

@@ -30,16 +30,16 @@ use Rattle.calendar.proofs.NextDates.{next-is, next-in-calendar}
 use Rattle.calendar.proofs.Years.{next-keeps}
 use Rattle.julian.specs.declared.JulianDate.{JulianDate}
 use Rattle.julian.specs.DayFraction.{secondLimit, timeInDay, dayFraction}
-use Rattle.lent_rows.specs.declared.LentRows.{LentRows}
-use Rattle.lent_rows.specs.Table.{Row, starts, monthNumber}
-use Rattle.lent_rows.specs.Lent.{tableOf}
-use Rattle.tai_utc.specs.Offset.{secondsIn}
-use Rattle.tai_utc.specs.Leap.{leapOf, offsetsOfDay, leapAtEndOfDay}
-use Rattle.tai_utc.specs.WholeSeconds.{wholeSeconds}
-use Rattle.lent_rows.proofs.Reached.{member}
-use Rattle.tai_utc.proofs.Days.{day-offsets-are, leap-given}
-use Rattle.tai_utc.proofs.TableSeconds.{seconds-stay, seconds-step}
-use Rattle.tai_utc.proofs.WholeSeconds.{late}
+use Rattle.leap_table.specs.declared.rows.LentRows.{LentRows}
+use Rattle.leap_table.specs.rows.Table.{Row, starts, monthNumber}
+use Rattle.leap_table.specs.rows.Lent.{tableOf}
+use Rattle.leap_table.specs.offsets.Offset.{secondsIn}
+use Rattle.leap_table.specs.offsets.Leap.{leapOf, offsetsOfDay, leapAtEndOfDay}
+use Rattle.leap_table.specs.offsets.WholeSeconds.{wholeSeconds}
+use Rattle.leap_table.proofs.rows.Reached.{member}
+use Rattle.leap_table.proofs.offsets.Days.{day-offsets-are, leap-given}
+use Rattle.leap_table.proofs.offsets.TableSeconds.{seconds-stay, seconds-step}
+use Rattle.leap_table.proofs.offsets.WholeSeconds.{late}
 use Rattle.leap_days.proofs.Months.{next-month-number}
 use Rattle.leap_days.proofs.TableLeaps.{no-step, one-second-more, one-second-less}
 use Rattle.time_of_day.specs.ExactTime.{minus-one-f}

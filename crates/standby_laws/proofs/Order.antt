@@ -19,10 +19,10 @@ use Rattle.calendar.proofs.Accepted.{Accepted, date-accepted, short}
 use Rattle.calendar.proofs.Mjd.{mjd-given, same-answer}
 use Rattle.calendar.proofs.NextDates.{next-is, next-in-calendar, next-accepted, next-mjd}
 use Rattle.calendar.proofs.Years.{next-keeps}
-use Rattle.lent_rows.specs.declared.LentRows.{LentRows}
-use Rattle.lent_rows.specs.Table.{Row}
-use Rattle.lent_rows.specs.Lent.{tableOf}
-use Rattle.tai_utc.specs.WholeSeconds.{wholeSeconds}
+use Rattle.leap_table.specs.declared.rows.LentRows.{LentRows}
+use Rattle.leap_table.specs.rows.Table.{Row}
+use Rattle.leap_table.specs.rows.Lent.{tableOf}
+use Rattle.leap_table.specs.offsets.WholeSeconds.{wholeSeconds}
 use Rattle.standby.specs.declared.UtcTime.{UtcTime}
 use Rattle.standby.specs.Times.{offsetOnDate, offsetAfter, lastMinute, inItsDay, timeSeconds, mjdDay, taiMs, instant}
 use Rattle.standby.proofs.Times.{offset-small, mjd-natural}

@@ -9,7 +9,7 @@ use lib.Signed.{ltZ}
 use Rattle.refusals.specs.Outcome.{Outcome, answer, refusal}
 use Rattle.calendar.specs.declared.CalendarDate.{CalendarDate}
 use Rattle.calendar.specs.Refusals.{nextOf}
-use Rattle.lent_rows.specs.Table.{Row}
+use Rattle.leap_table.specs.rows.Table.{Row}
 use Rattle.standby.specs.declared.UtcTime.{UtcTime}
 use Rattle.standby.specs.declared.Bill.{Bill}
 use Rattle.standby.specs.Times.{inItsDay, lastMinute, taiMs, instant}

@@ -4,7 +4,7 @@ use mathlib.Core.List.{List}
 use Rattle.refusals.specs.Outcome.{Outcome, answer, onward}
 use Rattle.constants.specs.Constants.{decimal}
 use Rattle.julian.specs.declared.JulianDate.{JulianDate}
-use Rattle.lent_rows.specs.Table.{Row}
+use Rattle.leap_table.specs.rows.Table.{Row}
 use Rattle.utc.specs.FromCalendar.{utcFromCalendar}
 use Rattle.standby.specs.declared.UtcTime.{UtcTime}
 

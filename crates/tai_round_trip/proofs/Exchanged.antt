@@ -15,7 +15,7 @@ use Rattle.rounding.proofs.Compare.{le-val}
 use Rattle.julian.specs.declared.JulianDate.{JulianDate}
 use Rattle.julian.specs.JulianDate.{julian}
 use Rattle.julian.specs.Worth.{Worth}
-use Rattle.lent_rows.specs.Table.{fixed}
+use Rattle.leap_table.specs.rows.Table.{fixed}
 use Rattle.scale_laws.specs.Meaning.{Close}
 use Rattle.scale_laws.proofs.Meant.{more-close}
 use Rattle.utc_days.specs.LargerPart.{firstIsKept, keptAs, keptParts, putBeside, placed, changeSmaller}

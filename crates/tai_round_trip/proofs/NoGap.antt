@@ -15,7 +15,7 @@ use Rattle.day_number.specs.Answer.{dayNumberAndFraction}
 use Rattle.day_order.specs.Order.{WholeHalves, NoLater}
 use Rattle.day_order.proofs.Order.{calendar-order}
 use Rattle.julian.specs.declared.JulianDate.{JulianDate}
-use Rattle.lent_rows.specs.Table.{fixed}
+use Rattle.leap_table.specs.rows.Table.{fixed}
 use Rattle.utc_scales.specs.UtcTai.{utcToTai}
 use Rattle.tai_round_trip.specs.Ranges.{HalfDaySplit}
 use Rattle.tai_round_trip.specs.Order.{PartsInOrder}

@@ -9,8 +9,8 @@ unfoldable pub use Rattle.rounding.specs.Value.{H}
 use Rattle.calendar.specs.Calendar.{dateOf}
 use Rattle.julian.specs.declared.JulianDate.{JulianDate}
 use Rattle.julian.specs.Worth.{Worth}
-use Rattle.lent_rows.specs.Table.{fixed, monthNumber}
-use Rattle.tai_utc.specs.Offset.{secondsIn}
+use Rattle.leap_table.specs.rows.Table.{fixed, monthNumber}
+use Rattle.leap_table.specs.offsets.Offset.{secondsIn}
 
 -- (p - m) / L lies on day n: f / L of that day have passed
 pub record OnDay (p m n : ℕ) : Type 0 where

@@ -30,9 +30,9 @@ use Rattle.julian.specs.declared.JulianDate.{JulianDate}
 use Rattle.julian.specs.JulianDate.{julian}
 use Rattle.julian.specs.Finite.{finiteArg, finiteJd}
 use Rattle.julian_laws.proofs.UnixTime.{day-val}
-use Rattle.lent_rows.specs.Table.{fixed}
-use Rattle.tai_utc.specs.Offset.{wholeF}
-use Rattle.tai_utc.specs.Leap.{offsets}
+use Rattle.leap_table.specs.rows.Table.{fixed}
+use Rattle.leap_table.specs.offsets.Offset.{wholeF}
+use Rattle.leap_table.specs.offsets.Leap.{offsets}
 use Rattle.rounding.specs.Picoseconds.{dayPs}
 use Rattle.utc_days.specs.Dates.{offsetAt0h, offsetOfDate}
 use Rattle.utc_days.specs.LargerPart.{firstIsKept}

@@ -9,7 +9,7 @@ use Rattle.calendar.specs.Calendar.{date, dateOf, leapSize, lengths, daysInMont
 use Rattle.calendar.specs.Refusals.{validDate}
 use Rattle.calendar.specs.DayCount.{mjdOf, mjdNumber, civilCount}
 use Rattle.calendar.proofs.Mjd.{date-of-mjd}
-use Rattle.lent_rows.specs.Table.{fixed, reached, monthNumber}
+use Rattle.leap_table.specs.rows.Table.{fixed, reached, monthNumber}
 use Rattle.tai_round_trip.specs.UtcDays.{secondsOn}
 use Rattle.tai_round_trip.proofs.DaySeconds.{date-of}
 use Rattle.tai_round_trip.proofs.Cases.{seconds-of, thirty-six, thirty-seven}

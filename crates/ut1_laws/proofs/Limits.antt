@@ -12,7 +12,7 @@ use Rattle.constants.specs.Constants.{decimal}
 use Rattle.rounding.specs.Value.{Val, L}
 use Rattle.julian.specs.declared.JulianDate.{JulianDate}
 use Rattle.julian.specs.JulianDate.{julian}
-use Rattle.lent_rows.specs.Table.{fixed}
+use Rattle.leap_table.specs.rows.Table.{fixed}
 use Rattle.rounding.specs.Picoseconds.{dayPs}
 use Rattle.scale_laws.specs.Meaning.{Apart}
 use Rattle.scale_laws.proofs.Meant.{worth-unique}

@@ -9,7 +9,7 @@ use Rattle.rounding.specs.Value.{Val, L}
 use Rattle.day_number.specs.DayNumber.{dayOf}
 use Rattle.julian.specs.declared.JulianDate.{JulianDate}
 use Rattle.julian.specs.JulianDate.{julian}
-use Rattle.lent_rows.specs.Table.{fixed}
+use Rattle.leap_table.specs.rows.Table.{fixed}
 use Rattle.scale_laws.specs.Meaning.{Apart, Means, back, laterBy}
 use Rattle.utc_to_ut1.specs.UtcUt1.{utcToUt1}
 use Rattle.ut1_to_utc.specs.Ut1Utc.{ut1ToUtc}

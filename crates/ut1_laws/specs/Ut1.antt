@@ -9,7 +9,7 @@ use Rattle.rounding.specs.Value.{Val, L}
 use Rattle.day_number.specs.DayNumber.{dayOf}
 use Rattle.day_number.specs.Answer.{dayNumberAndFraction}
 use Rattle.julian.specs.declared.JulianDate.{JulianDate}
-use Rattle.lent_rows.specs.Table.{fixed}
+use Rattle.leap_table.specs.rows.Table.{fixed}
 use Rattle.scale_laws.specs.Meaning.{Meaning, Means}
 use Rattle.utc_to_ut1.specs.UtcUt1.{utcToUt1}
 use Rattle.tai_round_trip.specs.UtcDays.{H, leapAfter}

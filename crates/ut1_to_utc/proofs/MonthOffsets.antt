@@ -19,11 +19,11 @@ use Rattle.calendar.specs.Refusals.{validDate}
 use Rattle.calendar.specs.Gregorian.{gregorianDate}
 use Rattle.calendar.proofs.Years.{validOf, gregorian-in-range, gregorian-refusal}
 use Rattle.calendar.proofs.Mjd.{mjd-given}
-use Rattle.lent_rows.specs.Table.{monthNumber, reached}
-use Rattle.lent_rows.specs.Lent.{rowsIn}
-use Rattle.tai_utc.specs.Offset.{offsetAt}
-use Rattle.tai_utc.proofs.ByParts.{seconds-reached}
-use Rattle.tai_utc.proofs.Offsets.{in-day-zero, offset-given, offset-came}
+use Rattle.leap_table.specs.rows.Table.{monthNumber, reached}
+use Rattle.leap_table.specs.rows.Lent.{rowsIn}
+use Rattle.leap_table.specs.offsets.Offset.{offsetAt}
+use Rattle.leap_table.proofs.offsets.ByParts.{seconds-reached}
+use Rattle.leap_table.proofs.offsets.Offsets.{in-day-zero, offset-given, offset-came}
 use Rattle.ut1_to_utc.specs.declared.months.KnownMonth.{KnownMonth}
 use Rattle.utc_days.specs.Dates.{offsetAt0h}
 use Rattle.ut1_to_utc.specs.KnownMonths.{RightMonth}

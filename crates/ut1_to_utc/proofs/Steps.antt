@@ -14,7 +14,7 @@ use Rattle.day_number.specs.declared.DayNumber.{DayNumber}
 use Rattle.day_number.specs.Answer.{dayNumberAndFraction}
 use Rattle.day_number.specs.Ranges.{InDays}
 use Rattle.julian_laws.proofs.CalendarDays.{fields-of}
-use Rattle.lent_rows.specs.Table.{Row}
+use Rattle.leap_table.specs.rows.Table.{Row}
 use Rattle.utc_days.specs.Dates.{offsetAt0h, midnightOf}
 use Rattle.utc_days.proofs.Midnights.{midnightOfDay, valid-midnight, offset-valid}
 use Rattle.utc_days.proofs.Steps.{no-date}

@@ -8,7 +8,7 @@ use lib.Signed.{leZ}
 use lib.Ieee.{Float}
 use Rattle.refusals.specs.Outcome.{Outcome, answer, refusal}
 use Rattle.calendar.specs.Gregorian.{gregorianDate}
-use Rattle.lent_rows.specs.Table.{Row}
+use Rattle.leap_table.specs.rows.Table.{Row}
 use Rattle.utc_days.specs.Dates.{offsetAt0h}
 use Rattle.ut1_to_utc.specs.declared.months.KnownMonth.{KnownMonth}
 use Rattle.ut1_to_utc.specs.declared.months.MonthAnswer.{MonthAnswer}

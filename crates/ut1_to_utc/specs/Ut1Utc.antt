@@ -11,7 +11,7 @@ use Rattle.constants.specs.Constants.{secondsPerDay}
 use Rattle.julian.specs.declared.JulianDate.{JulianDate}
 use Rattle.julian.specs.Calendar.{julianToCalendar}
 use Rattle.julian.specs.Finite.{finiteJd, finiteArg}
-use Rattle.lent_rows.specs.Table.{Row}
+use Rattle.leap_table.specs.rows.Table.{Row}
 use Rattle.utc_days.specs.LargerPart.{changeSmaller}
 use Rattle.utc_days.specs.Dates.{offsetAt0h, offsetOfDate, midnightOf}
 use Rattle.ut1_to_utc.specs.declared.DayScan.{DayScan}

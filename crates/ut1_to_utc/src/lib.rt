@@ -5,7 +5,7 @@ ghost use Rattle.constants.specs.Constants.{mjdZeroPoint};
 ghost use Rattle.julian.specs.JulianDate.{julian, julianOutcome};
 ghost use Rattle.julian.specs.DayFraction.{fractionOutcome};
 ghost use Rattle.julian.specs.Finite as J;
-ghost use Rattle.lent_rows.specs.Lent.{rowsIn, rowsOf, tableOf};
+ghost use Rattle.leap_table.specs.rows.Lent.{rowsIn, rowsOf, tableOf};
 ghost use Rattle.scales.specs.Scales.{utcOutcome};
 ghost use Rattle.utc_days.specs.LargerPart.{changeSmaller};
 ghost use Rattle.ut1_to_utc.specs.Ut1Utc as U;
@@ -19,7 +19,7 @@ use day_number::DayAnswer;
 use julian::FractionAnswer;
 use julian::JulianAnswer;
 use julian::JulianDate;
-use lent_rows::LentRows;
+use leap_table::rows::LentRows;
 use months::KnownMonth;
 use months::MonthAnswer;
 use months::mjd_of;
@@ -224,7 +224,7 @@ pub fn ut1_to_utc_with_dut1_by_rows(ut1: UT1, dut1: f64, table: LentRows) -> Utc
     ut1_to_utc_with_dut1_by_lent(
         ut1,
         dut1,
-        lent_rows::size_of(table),
+        leap_table::rows::size_of(table),
         &table.months,
         &table.seconds,
     )
@@ -234,7 +234,7 @@ pub fn ut1_to_utc_with_dut1_by_rows(ut1: UT1, dut1: f64, table: LentRows) -> Utc
 pub fn ut1_to_utc_with_dut1(ut1: UT1, dut1: f64, table: LentRows) -> UtcAnswer
     ensures { λ r. ⌜ utcOutcome r ≡ onward (tableOf table) (λ rows. U.ut1ToUtc rows (ut1 .0) dut1) ⌝ }
 {
-    let number = lent_rows::table_refusal(table);
+    let number = leap_table::rows::table_refusal(table);
     if number != 0 {
         return UtcAnswer::Refused(number);
     }

@@ -4,11 +4,11 @@ ghost use Prim.Native.Nat.{_≤_};
 ghost use lib.IntN.{pos, natAbs, _-ℤ_};
 ghost use lib.Ieee.{binary64, ofInt};
 ghost use Rattle.calendar.specs.Gregorian.{gregorianDate};
-ghost use Rattle.lent_rows.specs.Lent.{rowsIn};
+ghost use Rattle.leap_table.specs.rows.Lent.{rowsIn};
 ghost use Rattle.utc_days.specs.Dates.{offsetAt0h, offsetOfDate};
 ghost use Rattle.ut1_to_utc.specs.KnownMonths.{RightMonth, RightMonths, monthOutcome};
 use day_number::DayAnswer;
-use tai_utc::SecondsByRule;
+use leap_table::offsets::SecondsByRule;
 use utc_days::offset_at_0h;
 
 // A month, and TAI-UTC at 0h of one of its days: from 1972 on that of all of them.

@@ -10,7 +10,7 @@ use Rattle.refusals.specs.Outcome.{answer, refusal, onward}
 use Rattle.constants.specs.Constants.{unixEpochJd}
 use Rattle.julian.specs.declared.CalendarFields.{CalendarFields}
 use Rattle.julian.specs.Calendar.{julianToCalendar}
-use Rattle.lent_rows.specs.Table.{Row}
+use Rattle.leap_table.specs.rows.Table.{Row}
 use Rattle.utc.specs.FromCalendar.{utcFromCalendar}
 use Rattle.utc.specs.UnixTime.{unixDay, secondOfUnixDay, secondWithNanos, utcNew}
 

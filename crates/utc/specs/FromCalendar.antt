@@ -10,8 +10,8 @@ use Rattle.julian.specs.declared.JulianDate.{JulianDate}
 use Rattle.julian.specs.JulianDate.{julian}
 use Rattle.julian.specs.DayFraction.{dayFraction}
 use Rattle.julian.specs.Calendar.{fromCalendar}
-use Rattle.lent_rows.specs.Table.{Row}
-use Rattle.tai_utc.specs.Leap.{leapAtEndOfDay}
+use Rattle.leap_table.specs.rows.Table.{Row}
+use Rattle.leap_table.specs.offsets.Leap.{leapAtEndOfDay}
 
 -- midnight with a fraction of its day
 unfoldable pub midnightPlus : JulianDate → Outcome Float → Outcome JulianDate

@@ -10,7 +10,7 @@ use Rattle.refusals.specs.Outcome.{Outcome, refusal, onward}
 use Rattle.constants.specs.Constants.{nanosecondsPerSecond, unixEpochJd}
 use Rattle.julian.specs.declared.JulianDate.{JulianDate}
 use Rattle.julian.specs.Calendar.{julianToCalendar}
-use Rattle.lent_rows.specs.Table.{Row}
+use Rattle.leap_table.specs.rows.Table.{Row}
 use Rattle.utc.specs.FromCalendar.{utcFromCalendar}
 
 -- the whole days in a number of seconds, downward: second -1 lies in day -1

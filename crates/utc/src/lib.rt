@@ -4,17 +4,17 @@ ghost use Prim.Native.Nat.{_<_};
 ghost use Rattle.scales.specs.Scales.{utcOutcome};
 ghost use Rattle.julian.specs.DayFraction.{fractionOutcome};
 ghost use Rattle.refusals.specs.Outcome.{onward};
-ghost use Rattle.lent_rows.specs.Lent.{rowsIn, rowsOf, tableOf};
+ghost use Rattle.leap_table.specs.rows.Lent.{rowsIn, rowsOf, tableOf};
 ghost use Rattle.utc.specs.FromCalendar.{midnightPlus, utcFromCalendar};
 ghost use Rattle.utc.specs.UnixTime.{unixDay, secondOfUnixDay, secondWithNanos, utcNew};
 use julian::CalendarAnswer;
 use julian::FractionAnswer;
 use julian::JulianAnswer;
 use julian::JulianDate;
-use lent_rows::LentRows;
+use leap_table::rows::LentRows;
 use scales::UTC;
 use scales::UtcAnswer;
-use tai_utc::SecondsByRule;
+use leap_table::offsets::SecondsByRule;
 
 // The day of a Unix time, counted from 1970-01-01: the Rust's `div_euclid`, which divides downward.
 fn unix_day(seconds: i64) -> i64
@@ -88,7 +88,7 @@ pub fn new_by_rows(seconds: i64, nanos: u32, table: LentRows) -> UtcAnswer
     new_by_lent(
         seconds,
         nanos,
-        lent_rows::size_of(table),
+        leap_table::rows::size_of(table),
         &table.months,
         &table.seconds,
     )
@@ -98,7 +98,7 @@ pub fn new_by_rows(seconds: i64, nanos: u32, table: LentRows) -> UtcAnswer
 pub fn new(seconds: i64, nanos: u32, table: LentRows) -> UtcAnswer
     ensures { λ r. ⌜ utcOutcome r ≡ onward (tableOf table) (λ rows. utcNew rows seconds nanos) ⌝ }
 {
-    let number = lent_rows::table_refusal(table);
+    let number = leap_table::rows::table_refusal(table);
     if number != 0 {
         return UtcAnswer::Refused(number);
     }
@@ -122,7 +122,7 @@ pub fn utc_from_calendar_by_lent<'a>(
 {
     match JulianDate::from_calendar(year, month, day, 0, 0, 0.0) {
         JulianAnswer::Refused(number) => UtcAnswer::Refused(number),
-        JulianAnswer::Date(midnight) => match tai_utc::leap_at_end_of_day_by_lent(
+        JulianAnswer::Date(midnight) => match leap_table::offsets::leap_at_end_of_day_by_lent(
             year,
             month as i32,
             day as i32,
@@ -158,7 +158,7 @@ pub fn utc_from_calendar_by_rows(
         hour,
         minute,
         second,
-        lent_rows::size_of(table),
+        leap_table::rows::size_of(table),
         &table.months,
         &table.seconds,
     )
@@ -177,7 +177,7 @@ pub fn utc_from_calendar(
 ) -> UtcAnswer
     ensures { λ r. ⌜ utcOutcome r ≡ onward (tableOf table) (λ rows. utcFromCalendar rows year month day hour minute second) ⌝ }
 {
-    let number = lent_rows::table_refusal(table);
+    let number = leap_table::rows::table_refusal(table);
     if number != 0 {
         return UtcAnswer::Refused(number);
     }

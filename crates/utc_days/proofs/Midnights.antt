@@ -27,10 +27,10 @@ use Rattle.julian.specs.declared.JulianDate.{JulianDate}
 use Rattle.julian.specs.JulianDate.{julian}
 use Rattle.julian_laws.proofs.CalendarDays.{not-above}
 use Rattle.julian.proofs.Midnights.{midnight-given}
-use Rattle.tai_utc.specs.declared.DayOffsets.{DayOffsets}
-use Rattle.lent_rows.specs.Table.{Row}
-use Rattle.tai_utc.proofs.Offsets.{in-day-zero, date-refused}
-use Rattle.tai_utc.proofs.Days.{day-refused}
+use Rattle.leap_table.specs.declared.offsets.DayOffsets.{DayOffsets}
+use Rattle.leap_table.specs.rows.Table.{Row}
+use Rattle.leap_table.proofs.offsets.Offsets.{in-day-zero, date-refused}
+use Rattle.leap_table.proofs.offsets.Days.{day-refused}
 use Rattle.utc_days.specs.Dates.{offsetAt0h, offsetsOf, midnightOf}
 
 -- the midnight of day n

@@ -12,10 +12,10 @@ use Rattle.day_number.specs.Answer.{dayNumberAndFraction}
 use Rattle.julian.specs.declared.CalendarFields.{CalendarFields}
 use Rattle.julian.specs.Calendar.{julianToCalendar}
 use Rattle.julian_laws.proofs.CalendarDays.{fields-of}
-use Rattle.tai_utc.specs.declared.Rule.{Rule}
-use Rattle.lent_rows.specs.Table.{Row}
-use Rattle.tai_utc.specs.Rule.{withRule, forget}
-use Rattle.tai_utc.proofs.Rules.{ruleIn}
+use Rattle.leap_table.specs.declared.offsets.Rule.{Rule}
+use Rattle.leap_table.specs.rows.Table.{Row}
+use Rattle.leap_table.specs.offsets.Rule.{withRule, forget}
+use Rattle.leap_table.proofs.offsets.Rules.{ruleIn}
 use Rattle.utc_days.specs.Dates.{offsetAt0h, offsetOfDate}
 use Rattle.utc_days.specs.DateRule.{ruleOn, ruleOfDate, passOn, offsetOfDateByRule}
 use Rattle.utc_days.proofs.Steps.{offset-no-date, offset-of-day}

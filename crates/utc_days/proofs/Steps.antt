@@ -12,7 +12,7 @@ use Rattle.day_number.specs.Answer.{dayNumberAndFraction}
 use Rattle.julian.specs.declared.JulianDate.{JulianDate}
 use Rattle.julian.specs.Calendar.{julianToCalendar}
 use Rattle.julian_laws.proofs.CalendarDays.{fields-of}
-use Rattle.lent_rows.specs.Table.{Row}
+use Rattle.leap_table.specs.rows.Table.{Row}
 use Rattle.utc_days.specs.declared.Parts.{Parts}
 use Rattle.utc_days.specs.LargerPart.{firstIsKept, keptAs, keptParts, placed, changeSmaller}
 use Rattle.utc_days.specs.Dates.{offsetOfDate, offsetAt0h}

@@ -4,9 +4,9 @@ use mathlib.Core.List.{List}
 use lib.Ieee.{Float}
 use Rattle.refusals.specs.Outcome.{Outcome, answer, onward}
 use Rattle.julian.specs.Calendar.{julianToCalendar}
-use Rattle.tai_utc.specs.declared.Rule.{Rule}
-use Rattle.lent_rows.specs.Table.{Row}
-unfoldable pub use Rattle.tai_utc.specs.Rule.{ruleOn}
+use Rattle.leap_table.specs.declared.offsets.Rule.{Rule}
+use Rattle.leap_table.specs.rows.Table.{Row}
+unfoldable pub use Rattle.leap_table.specs.offsets.Rule.{ruleOn}
 use Rattle.utc_days.specs.Dates.{offsetOfDate}
 
 -- the rule of the day of a Julian date

@@ -8,10 +8,10 @@ use Rattle.floats.specs.Whole.{nought}
 use Rattle.calendar.specs.declared.CalendarDate.{CalendarDate}
 use Rattle.julian.specs.declared.JulianDate.{JulianDate}
 use Rattle.julian.specs.Calendar.{calendarToJulian, julianToCalendar}
-use Rattle.tai_utc.specs.declared.DayOffsets.{DayOffsets}
-use Rattle.lent_rows.specs.Table.{Row}
-use Rattle.tai_utc.specs.Offset.{taiUtcOffset}
-use Rattle.tai_utc.specs.Leap.{dayOffsets}
+use Rattle.leap_table.specs.declared.offsets.DayOffsets.{DayOffsets}
+use Rattle.leap_table.specs.rows.Table.{Row}
+use Rattle.leap_table.specs.offsets.Offset.{taiUtcOffset}
+use Rattle.leap_table.specs.offsets.Leap.{dayOffsets}
 
 -- at 0h
 unfoldable pub offsetAt0h : List Row → CalendarDate → Outcome Float

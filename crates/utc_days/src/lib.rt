@@ -5,16 +5,16 @@ ghost use Rattle.refusals.specs.Outcome.{onward};
 ghost use Rattle.calendar.specs.Gregorian.{gregorianDate};
 ghost use Rattle.julian.specs.JulianDate.{julianOutcome};
 ghost use Rattle.julian.specs.DayFraction.{fractionOutcome};
-ghost use Rattle.lent_rows.specs.Lent.{rowsIn};
-ghost use Rattle.tai_utc.specs.Rule.{withRule};
-ghost use Rattle.tai_utc.specs.Answers.{secondsByRuleOutcome};
+ghost use Rattle.leap_table.specs.rows.Lent.{rowsIn};
+ghost use Rattle.leap_table.specs.offsets.Rule.{withRule};
+ghost use Rattle.leap_table.specs.offsets.Answers.{secondsByRuleOutcome};
 ghost use Rattle.utc_days.specs.LargerPart.{firstIsKept, keptParts, putBeside, placed};
 ghost use Rattle.utc_days.specs.Dates.{offsetAt0h};
 ghost use Rattle.utc_days.specs.DateRule.{ruleOn};
 use julian::FractionAnswer;
 use julian::JulianAnswer;
 use julian::JulianDate;
-use tai_utc::SecondsByRule;
+use leap_table::offsets::SecondsByRule;
 
 pub struct Parts {
     pub larger: f64,
@@ -84,5 +84,5 @@ pub fn offset_at_0h<'a>(
     ensures { λ r. ⌜ secondsByRuleOutcome r ≡ withRule (offsetAt0h (rowsIn size (now (months .entry)) (now (seconds .entry))) (gregorianDate day)) (ruleOn (rowsIn size (now (months .entry)) (now (seconds .entry))) (gregorianDate day)) ⌝ }
 {
     let t = calendar::gregorian_date(day);
-    tai_utc::offset_at_0h_by_lent(t.year, t.month as i32, t.day as i32, size, months, seconds)
+    leap_table::offsets::offset_at_0h_by_lent(t.year, t.month as i32, t.day as i32, size, months, seconds)
 }

@@ -20,10 +20,10 @@ use Rattle.julian.specs.JulianDate.{julian}
 use Rattle.julian.specs.DayFraction.{timeInDay, dayFraction}
 use Rattle.julian.specs.Calendar.{julianToCalendar}
 use Rattle.julian_laws.proofs.CalendarDays.{only-six}
-use Rattle.lent_rows.specs.Table.{Row}
-use Rattle.tai_utc.specs.Leap.{dayOffsets, leapOf, leapAtEndOfDay}
-use Rattle.tai_utc.specs.declared.DayOffsets.{DayOffsets}
-use Rattle.tai_utc.proofs.Days.{day-refusals}
+use Rattle.leap_table.specs.rows.Table.{Row}
+use Rattle.leap_table.specs.offsets.Leap.{dayOffsets, leapOf, leapAtEndOfDay}
+use Rattle.leap_table.specs.declared.offsets.DayOffsets.{DayOffsets}
+use Rattle.leap_table.proofs.offsets.Days.{day-refusals}
 use Rattle.utc.specs.FromCalendar.{midnightPlus, utcFromCalendar}
 use Rattle.utc.specs.UnixTime.{unixDay, secondOfUnixDay, secondWithNanos, utcNew}
 use Rattle.julian.proofs.Dates.{date-in-range}

@@ -15,9 +15,9 @@ use Rattle.calendar.specs.Refusals.{nextOf}
 use Rattle.calendar.specs.DayCount.{mjdNumber}
 use Rattle.calendar.proofs.NextDates.{refused-next, by, first-false}
 use Rattle.calendar.proofs.Years.{validOf, before-last}
-use Rattle.lent_rows.specs.Table.{Row, monthNumber}
-use Rattle.tai_utc.specs.Leap.{leapOf, offsetsOfDay, leapAtEndOfDay}
-use Rattle.tai_utc.proofs.Days as Days
+use Rattle.leap_table.specs.rows.Table.{Row, monthNumber}
+use Rattle.leap_table.specs.offsets.Leap.{leapOf, offsetsOfDay, leapAtEndOfDay}
+use Rattle.leap_table.proofs.offsets.Days as Days
 use Rattle.time_of_day.specs.declared.TimeOfDay.{TimeOfDay}
 use Rattle.time_of_day.specs.declared.TimeShown.{TimeShown}
 use Rattle.time_of_day.specs.declared.TimeShown.the-variants.{At, NextMidnight}

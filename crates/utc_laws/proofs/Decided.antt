@@ -13,14 +13,14 @@ use Rattle.calendar.specs.Refusals.{validDate, lastDate, nextOf}
 use Rattle.calendar.proofs.NextDates.{by, refused-next}
 use Rattle.calendar.proofs.Mjd.{mjd-refused, mjd-given}
 use Rattle.julian.specs.DayFraction.{timeInDay, dayFraction}
-use Rattle.lent_rows.specs.declared.LentRows.{LentRows}
-use Rattle.lent_rows.specs.Table.{Row}
-use Rattle.lent_rows.specs.Lent.{rowsOf, tableOf}
-use Rattle.tai_utc.specs.Offset.{inDay}
-use Rattle.tai_utc.specs.Leap.{leapAtEndOfDay}
-use Rattle.tai_utc.specs.Rule.{withRule, offsetByRule}
-use Rattle.tai_utc.proofs.Offsets as Offsets
-use Rattle.tai_utc.proofs.Days.{day-offsets-are, leap-given}
+use Rattle.leap_table.specs.declared.rows.LentRows.{LentRows}
+use Rattle.leap_table.specs.rows.Table.{Row}
+use Rattle.leap_table.specs.rows.Lent.{rowsOf, tableOf}
+use Rattle.leap_table.specs.offsets.Offset.{inDay}
+use Rattle.leap_table.specs.offsets.Leap.{leapAtEndOfDay}
+use Rattle.leap_table.specs.offsets.Rule.{withRule, offsetByRule}
+use Rattle.leap_table.proofs.offsets.Offsets as Offsets
+use Rattle.leap_table.proofs.offsets.Days.{day-offsets-are, leap-given}
 use Rattle.utc.specs.FromCalendar.{midnightPlus, utcFromCalendar}
 use Rattle.utc_laws.proofs.FromCalendars.{date-refused, leap-refused, on-date, time-given}
 use Rattle.utc_laws.specs.Ladder.{Ladder, done, refuse, Decided}

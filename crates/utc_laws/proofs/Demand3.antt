@@ -18,11 +18,11 @@ use Rattle.day_number.specs.ExactDay.{OnGrid, gridSum, GridSumInRange, exactDay
 use Rattle.day_number.specs.Ranges.{InDays}
 use Rattle.day_number.proofs.ExactDay.{exact-day}
 use Rattle.julian.specs.JulianDate.{julian}
-use Rattle.lent_rows.specs.Table.{Row, fixed}
-use Rattle.tai_utc.specs.Leap.{leapAtEndOfDay}
+use Rattle.leap_table.specs.rows.Table.{Row, fixed}
+use Rattle.leap_table.specs.offsets.Leap.{leapAtEndOfDay}
 use Rattle.leap_days.specs.Leaps as Table
-use Rattle.lent_rows.specs.declared.LentRows.{LentRows}
-use Rattle.lent_rows.specs.Lent.{tableOf}
+use Rattle.leap_table.specs.declared.rows.LentRows.{LentRows}
+use Rattle.leap_table.specs.rows.Lent.{tableOf}
 use Rattle.leap_days.proofs.Every.{every-leap}
 use Rattle.leap_days.proofs.TableLeaps.{table-leap}
 use Rattle.leap_days.proofs.Seconds.{small-not-over}

@@ -4,7 +4,7 @@ use Rattle.floats.specs.Whole.{nought}
 use Rattle.day_number.specs.ExactDay.{gridSum}
 use Rattle.day_number.proofs.Ends.{lowest, highest, largest, opposite, lowest-fits, highest-fits, largest-fits, opposite-fits, nought-fits, lowest-grid, highest-grid, largest-grid, opposite-grid, nought-grid, lowest-range, highest-range, largest-range}
 use Rattle.julian.specs.JulianDate.{julian}
-use Rattle.lent_rows.specs.Table.{fixed}
+use Rattle.leap_table.specs.rows.Table.{fixed}
 use Rattle.iso_texts.specs.IsoText.{isoText, sheet01}
 use Rattle.utc_laws.specs.Shows.{TextDemand, promise01}
 use Rattle.utc_laws.specs.OneText.{OneText}

@@ -18,8 +18,8 @@ use Rattle.julian.specs.Calendar as Julian
 use Rattle.julian.proofs.Midnights.{midnight-refused, midnight-given}
 use Rattle.julian_laws.proofs.RoundTrip.{midnight-fraction}
 use Rattle.julian_laws.proofs.Clock.{hour-refused, minute-refused}
-use Rattle.lent_rows.specs.Table.{Row}
-use Rattle.tai_utc.specs.Leap.{leapAtEndOfDay}
+use Rattle.leap_table.specs.rows.Table.{Row}
+use Rattle.leap_table.specs.offsets.Leap.{leapAtEndOfDay}
 use Rattle.utc.specs.FromCalendar.{midnightPlus, utcFromCalendar}
 
 -- ---- the cases

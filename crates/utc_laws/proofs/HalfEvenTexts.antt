@@ -15,9 +15,9 @@ use Rattle.day_number.specs.ExactDay.{OnGrid, gridSum, GridSumInRange, fraction
 use Rattle.day_number.proofs.ExactDay.{fraction-exact}
 use Rattle.julian.specs.declared.JulianDate.{JulianDate}
 use Rattle.julian.specs.JulianDate.{julian}
-use Rattle.lent_rows.specs.Table.{Row, fixed}
-use Rattle.lent_rows.specs.declared.LentRows.{LentRows}
-use Rattle.lent_rows.specs.Lent.{tableOf}
+use Rattle.leap_table.specs.rows.Table.{Row, fixed}
+use Rattle.leap_table.specs.declared.rows.LentRows.{LentRows}
+use Rattle.leap_table.specs.rows.Lent.{tableOf}
 use Rattle.time_of_day.specs.Milliseconds.{wholeLeap}
 use Rattle.time_of_day.specs.HalfEven.{evenCount}
 use Rattle.time_of_day.specs.EvenPromise.{evenParts, evenMost}

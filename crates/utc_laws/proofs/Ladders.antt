@@ -22,10 +22,10 @@ use Rattle.day_number.specs.DayNumber.{accepted, dayOf}
 use Rattle.day_number.proofs.Answer.{answered, refused}
 use Rattle.julian.specs.declared.CalendarFields.{CalendarFields}
 use Rattle.julian.specs.Calendar.{fields, julianToCalendar}
-use Rattle.lent_rows.specs.declared.LentRows.{LentRows}
-use Rattle.lent_rows.specs.Table.{Row}
-use Rattle.lent_rows.specs.Lent.{rowsOf, laterAt, StepAt, tableOf, Decision, sizes, order, step, taken}
-use Rattle.lent_rows.proofs.TableLaws.{table-decided}
+use Rattle.leap_table.specs.declared.rows.LentRows.{LentRows}
+use Rattle.leap_table.specs.rows.Table.{Row}
+use Rattle.leap_table.specs.rows.Lent.{rowsOf, laterAt, StepAt, tableOf, Decision, sizes, order, step, taken}
+use Rattle.leap_table.proofs.rows.TableLaws.{table-decided}
 use Rattle.utc_laws.specs.Ladder.{Ladder, done, refuse, FirstReason, Decided}
 use Rattle.utc_laws.specs.Ladders.{WrongSizes, RowNotLater, NotOneStep, tableFirst, dateThen, dateIn, partsThen}
 

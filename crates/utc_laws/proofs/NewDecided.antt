@@ -29,12 +29,12 @@ use Rattle.drift_days.specs.Small.{small}
 use Rattle.julian.specs.declared.CalendarFields.{CalendarFields}
 use Rattle.julian.specs.DayFraction.{timeInDay}
 use Rattle.julian.specs.Calendar.{fields, julianToCalendar}
-use Rattle.lent_rows.specs.declared.LentRows.{LentRows}
-use Rattle.lent_rows.specs.Table.{Row, monthNumber}
+use Rattle.leap_table.specs.declared.rows.LentRows.{LentRows}
+use Rattle.leap_table.specs.rows.Table.{Row, monthNumber}
 use Rattle.time_of_day.specs.ExactTime.{minus-one-f}
-use Rattle.lent_rows.specs.Lent.{rowsOf, tableOf}
-use Rattle.tai_utc.specs.Leap.{leapOf, leapAtEndOfDay}
-use Rattle.tai_utc.proofs.Days.{leap-came}
+use Rattle.leap_table.specs.rows.Lent.{rowsOf, tableOf}
+use Rattle.leap_table.specs.offsets.Leap.{leapOf, leapAtEndOfDay}
+use Rattle.leap_table.proofs.offsets.Days.{leap-came}
 use Rattle.leap_days.specs.Tables.{StepLeap, no-row, row-up, row-down}
 use Rattle.leap_days.proofs.TableLeaps.{table-leap, leap-is-step}
 use Rattle.utc.specs.FromCalendar.{utcFromCalendar}

@@ -20,7 +20,7 @@ use Rattle.julian.specs.declared.JulianDate.{JulianDate}
 use Rattle.julian.specs.declared.CalendarFields.{CalendarFields}
 use Rattle.julian.specs.Calendar.{julianToCalendar}
 use Rattle.julian_laws.proofs.CalendarDays.{only-six}
-use Rattle.lent_rows.specs.Table.{Row}
+use Rattle.leap_table.specs.rows.Table.{Row}
 use Rattle.utc_text.specs.declared.TextAnswer.the-variants.{Refused}
 use Rattle.utc_text.specs.Answer.{textOutcome, textWritten}
 use Rattle.iso_texts.specs.Sheet.{Sheet}

@@ -11,10 +11,10 @@ use borrow.Author.Tests.{leb-true, leb-false}
 use Rattle.refusals.specs.Outcome.{answer, refusal}
 use Rattle.day_number.specs.ExactDay.{GridSumInRange}
 use Rattle.julian.specs.declared.JulianDate.{JulianDate}
-use Rattle.lent_rows.specs.declared.LentRows.{LentRows}
-use Rattle.lent_rows.specs.Table.{Row, fixed}
-use Rattle.lent_rows.specs.Lent.{tableOf}
-use Rattle.tai_utc.specs.Leap.{leapAtEndOfDay}
+use Rattle.leap_table.specs.declared.rows.LentRows.{LentRows}
+use Rattle.leap_table.specs.rows.Table.{Row, fixed}
+use Rattle.leap_table.specs.rows.Lent.{tableOf}
+use Rattle.leap_table.specs.offsets.Leap.{leapAtEndOfDay}
 use Rattle.time_of_day.specs.ExactTime.{Leap}
 use Rattle.utc_text.specs.declared.TextAnswer.{TextAnswer}
 use Rattle.utc_text.specs.Answer.{textOutcome}

@@ -28,8 +28,8 @@ use Rattle.julian.specs.declared.JulianDate.{JulianDate}
 use Rattle.julian.specs.JulianDate.{julian}
 use Rattle.julian.specs.DayFraction.{timeInDay}
 use Rattle.julian.proofs.Midnights.{mjd-in-42-bits, midnight-sum}
-use Rattle.lent_rows.specs.Table.{Row}
-use Rattle.tai_utc.specs.Leap.{leapAtEndOfDay}
+use Rattle.leap_table.specs.rows.Table.{Row}
+use Rattle.leap_table.specs.offsets.Leap.{leapAtEndOfDay}
 use Rattle.utc.specs.FromCalendar.{utcFromCalendar}
 use Rattle.utc_laws.proofs.FromCalendars.{time-given}
 

@@ -13,8 +13,8 @@ use Rattle.calendar.specs.Refusals.{validDate}
 use Rattle.calendar.specs.DayCount.{mjdNumber}
 use Rattle.julian.specs.JulianDate.{julian}
 use Rattle.julian.specs.DayFraction.{secondLimit, timeInDay, dayFraction}
-use Rattle.lent_rows.specs.Table.{Row}
-use Rattle.tai_utc.specs.Leap.{leapAtEndOfDay}
+use Rattle.leap_table.specs.rows.Table.{Row}
+use Rattle.leap_table.specs.offsets.Leap.{leapAtEndOfDay}
 use Rattle.time_of_day.specs.ExactTime.{minus-one-f}
 use Rattle.utc.specs.FromCalendar.{midnightPlus, utcFromCalendar}
 use Rattle.utc_laws.proofs.FromCalendars.{on-date, time-given}

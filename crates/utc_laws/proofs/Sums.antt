@@ -15,7 +15,7 @@ use Rattle.day_number.specs.ExactDay.{GridSumInRange, exactDay, exactFraction, 
 use Rattle.day_number.specs.Ranges.{InDays}
 use Rattle.julian.specs.declared.JulianDate.{JulianDate}
 use Rattle.julian_laws.proofs.CalendarDays.{day-low, day-high, exact-date}
-use Rattle.lent_rows.specs.Table.{Row}
+use Rattle.leap_table.specs.rows.Table.{Row}
 use Rattle.iso_texts.specs.Sheet.{Sheet}
 use Rattle.iso_texts.specs.IsoText.{dayTextBy, isoTextBy}
 use Rattle.utc_laws.specs.OneText.{Division}

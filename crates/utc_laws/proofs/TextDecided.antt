@@ -18,11 +18,11 @@ use Rattle.day_number.specs.DayNumber.{dayOf}
 use Rattle.julian.specs.declared.JulianDate.{JulianDate}
 use Rattle.julian.specs.declared.CalendarFields.{CalendarFields}
 use Rattle.julian.specs.Calendar.{julianToCalendar}
-use Rattle.lent_rows.specs.declared.LentRows.{LentRows}
-use Rattle.tai_utc.specs.declared.Rule.{Rule}
-use Rattle.lent_rows.specs.Table.{Row}
-use Rattle.lent_rows.specs.Lent.{rowsOf, tableOf}
-use Rattle.tai_utc.specs.Rule.{ruleOn, withRule}
+use Rattle.leap_table.specs.declared.rows.LentRows.{LentRows}
+use Rattle.leap_table.specs.declared.offsets.Rule.{Rule}
+use Rattle.leap_table.specs.rows.Table.{Row}
+use Rattle.leap_table.specs.rows.Lent.{rowsOf, tableOf}
+use Rattle.leap_table.specs.offsets.Rule.{ruleOn, withRule}
 use Rattle.utc_text.specs.Answer.{textWritten}
 use Rattle.iso_texts.specs.declared.TextByRule.{TextByRule}
 use Rattle.iso_texts.specs.Sheet.{Sheet}

@@ -23,15 +23,15 @@ use Rattle.day_number.proofs.Ends.{lowest, exact-at-lowest}
 use Rattle.julian.specs.JulianDate.{julian}
 use Rattle.julian.specs.DayFraction.{timeInDay}
 use Rattle.julian.specs.declared.JulianDate.{JulianDate}
-use Rattle.lent_rows.specs.declared.LentRows.{LentRows}
-use Rattle.tai_utc.specs.declared.Rule.{Rule}
-use Rattle.lent_rows.specs.Table.{Row, fixed}
-use Rattle.lent_rows.specs.Lent.{rowsOf, tableOf}
-use Rattle.tai_utc.specs.Offset.{inDay}
-use Rattle.tai_utc.specs.Leap.{leapAtEndOfDay}
-use Rattle.tai_utc.specs.Rule.{offsetByRule}
-use Rattle.tai_utc.proofs.Days.{leap-given}
-use Rattle.lent_rows.proofs.NoRows.{none-lent, fixed-taken}
+use Rattle.leap_table.specs.declared.rows.LentRows.{LentRows}
+use Rattle.leap_table.specs.declared.offsets.Rule.{Rule}
+use Rattle.leap_table.specs.rows.Table.{Row, fixed}
+use Rattle.leap_table.specs.rows.Lent.{rowsOf, tableOf}
+use Rattle.leap_table.specs.offsets.Offset.{inDay}
+use Rattle.leap_table.specs.offsets.Leap.{leapAtEndOfDay}
+use Rattle.leap_table.specs.offsets.Rule.{offsetByRule}
+use Rattle.leap_table.proofs.offsets.Days.{leap-given}
+use Rattle.leap_table.proofs.rows.NoRows.{none-lent, fixed-taken}
 use Rattle.leap_days.proofs.TableCases.{unequal-sizes, january-2017, no-second}
 use Rattle.utc.specs.FromCalendar.{utcFromCalendar}
 use Rattle.utc.specs.UnixTime.{unixDay, utcNew}

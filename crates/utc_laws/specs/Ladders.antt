@@ -19,11 +19,11 @@ use Rattle.calendar.specs.declared.CalendarDate.{CalendarDate}
 use Rattle.day_number.specs.DayNumber.{accepted, dayOf}
 use Rattle.julian.specs.declared.JulianDate.{JulianDate}
 use Rattle.julian.specs.DayFraction.{timeInDay}
-use Rattle.lent_rows.specs.declared.LentRows.{LentRows}
-use Rattle.lent_rows.specs.Table.{Row}
-use Rattle.lent_rows.specs.Lent.{rowsOf, laterAt, StepAt}
-use Rattle.tai_utc.specs.Offset.{inDay}
-use Rattle.tai_utc.specs.Leap.{leapAtEndOfDay}
+use Rattle.leap_table.specs.declared.rows.LentRows.{LentRows}
+use Rattle.leap_table.specs.rows.Table.{Row}
+use Rattle.leap_table.specs.rows.Lent.{rowsOf, laterAt, StepAt}
+use Rattle.leap_table.specs.offsets.Offset.{inDay}
+use Rattle.leap_table.specs.offsets.Leap.{leapAtEndOfDay}
 use Rattle.iso_texts.specs.Sheet.{Sheet}
 use Rattle.iso_texts.specs.IsoText.{isoTextBy}
 use Rattle.utc.specs.UnixTime.{unixDay, secondOfUnixDay, secondWithNanos}

@@ -12,8 +12,8 @@ use Rattle.refusals.specs.Outcome.{answer, refusal}
 use Rattle.calendar.specs.Calendar.{dateOf}
 use Rattle.day_number.specs.ExactDay.{OnGrid, gridSum, exactDay, exactFraction}
 use Rattle.julian.specs.declared.JulianDate.{JulianDate}
-use Rattle.lent_rows.specs.Table.{Row}
-use Rattle.tai_utc.specs.Leap.{leapAtEndOfDay}
+use Rattle.leap_table.specs.rows.Table.{Row}
+use Rattle.leap_table.specs.offsets.Leap.{leapAtEndOfDay}
 use Rattle.time_of_day.specs.ExactTime.{DayLength}
 use Rattle.utc_text.specs.declared.TextAnswer.{TextAnswer}
 use Rattle.utc_text.specs.Answer.{textOutcome}

@@ -16,7 +16,7 @@ struct At {
 // The answer is whether the output took it.
 fn put_answer(text: &[u8], index: u64) -> bool {
     let mut out = [0u8; 64];
-    match readings::answer_line(text, index, lent_rows::no_rows(), &mut out) {
+    match readings::answer_line(text, index, leap_table::rows::no_rows(), &mut out) {
         TextAnswer::Refused(_) => false,
         TextAnswer::Written(n) => io::write_all(1, &out[..n]),
     }

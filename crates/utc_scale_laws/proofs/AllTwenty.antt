@@ -4,10 +4,10 @@ use mathlib.Core.List.{List}
 use Rattle.refusals.specs.Outcome.{Outcome, answer, refusal}
 use Rattle.julian.specs.declared.JulianDate.{JulianDate}
 use Rattle.julian.specs.Worth.{SmallParts}
-use Rattle.lent_rows.specs.declared.LentRows.{LentRows}
-use Rattle.lent_rows.specs.Table.{Row, fixed}
-use Rattle.lent_rows.specs.Lent.{tableOf}
-use Rattle.lent_rows.proofs.NoRows.{none-lent, fixed-taken}
+use Rattle.leap_table.specs.declared.rows.LentRows.{LentRows}
+use Rattle.leap_table.specs.rows.Table.{Row, fixed}
+use Rattle.leap_table.specs.rows.Lent.{tableOf}
+use Rattle.leap_table.proofs.rows.NoRows.{none-lent, fixed-taken}
 use Rattle.scales.specs.Conversions.{answerOf}
 use Rattle.scale_laws.specs.Ranges.{Billion, FiniteDate, FiniteParts}
 use Rattle.scale_laws.proofs.Finiteness.{finite-dates}

@@ -5,7 +5,7 @@ use lib.Ieee.{nan, inf}
 use Rattle.refusals.specs.Outcome.{refusal}
 use Rattle.floats.specs.Whole.{nought}
 use Rattle.julian.specs.JulianDate.{julian}
-use Rattle.lent_rows.specs.Table.{fixed}
+use Rattle.leap_table.specs.rows.Table.{fixed}
 use Rattle.utc_scales.specs.UtcTai.{utcToTai, taiToUtc}
 use Rattle.utc_to_ut1.specs.UtcUt1.{utcToUt1}
 use Rattle.ut1_to_utc.specs.Ut1Utc.{ut1ToUtc}

@@ -20,9 +20,9 @@ use Rattle.julian.specs.Finite.{finiteJd, finiteArg}
 use Rattle.julian.specs.Calendar.{fields, calendarToJulian, julianToCalendar}
 use Rattle.julian_laws.proofs.Divisions.{dividedDate, divided-date}
 use Rattle.julian_laws.proofs.Literals.{literalDate, literal-date-is}
-use Rattle.lent_rows.specs.Table.{Row, fixed, monthNumber, reached}
-use Rattle.tai_utc.specs.Offset.{secondsOf, startOf, rateOf, byRow, offsetBy, offsetAt, inDay, taiUtcOffset}
-use Rattle.tai_utc.specs.Leap.{dayOffsets, driftRate, leapAmount}
+use Rattle.leap_table.specs.rows.Table.{Row, fixed, monthNumber, reached}
+use Rattle.leap_table.specs.offsets.Offset.{secondsOf, startOf, rateOf, byRow, offsetBy, offsetAt, inDay, taiUtcOffset}
+use Rattle.leap_table.specs.offsets.Leap.{dayOffsets, driftRate, leapAmount}
 use Rattle.shifts.specs.SmallerPart as Shifts
 use Rattle.shifts.specs.Shifts.{plus, minus, daysOf, changed, convertedBy, finiteBoth, finiteOffset}
 use Rattle.scales.specs.Conversions.{answerOf, tai-ut1}

@@ -16,11 +16,11 @@ use Rattle.constants.specs.Constants.{secondsPerDay}
 use Rattle.day_number.specs.DayNumber.{accepted, dayOf, fractionPassed}
 use Rattle.day_number.specs.Ranges.{InDays}
 use Rattle.day_number.proofs.Accepted.{accepted-pair}
-use Rattle.tai_utc.specs.declared.DayOffsets.{DayOffsets}
-use Rattle.lent_rows.specs.declared.LentRows.{LentRows}
-use Rattle.lent_rows.specs.Table.{Row}
-use Rattle.lent_rows.specs.Lent.{tableOf}
-use Rattle.tai_utc.specs.Leap.{driftRate, leapAmount}
+use Rattle.leap_table.specs.declared.offsets.DayOffsets.{DayOffsets}
+use Rattle.leap_table.specs.declared.rows.LentRows.{LentRows}
+use Rattle.leap_table.specs.rows.Table.{Row}
+use Rattle.leap_table.specs.rows.Lent.{tableOf}
+use Rattle.leap_table.specs.offsets.Leap.{driftRate, leapAmount}
 use Rattle.utc_days.specs.Dates.{offsetOfDate, offsetAt0h}
 use Rattle.utc_scales.specs.UtcTai.{stretchDayFraction}
 use Rattle.utc_scale_laws.specs.Claims.{Holds, SixOrOne, Fits}

@@ -25,10 +25,10 @@ use Rattle.day_number.specs.Answer.{dayNumberAndFraction}
 use Rattle.day_number.specs.Ranges.{InDays}
 use Rattle.day_number.proofs.Answer.{answered, refused}
 use Rattle.day_number.proofs.Ranges.{day-range}
-use Rattle.tai_utc.specs.declared.DayOffsets.{DayOffsets}
-use Rattle.lent_rows.specs.Table.{Row}
-use Rattle.tai_utc.proofs.Offsets.{in-day-zero, offset-given}
-use Rattle.tai_utc.proofs.Days.{day-offsets-are}
+use Rattle.leap_table.specs.declared.offsets.DayOffsets.{DayOffsets}
+use Rattle.leap_table.specs.rows.Table.{Row}
+use Rattle.leap_table.proofs.offsets.Offsets.{in-day-zero, offset-given}
+use Rattle.leap_table.proofs.offsets.Days.{day-offsets-are}
 use Rattle.refusals.proofs.Onward.{went}
 use Rattle.utc_days.specs.Dates.{offsetAt0h, offsetsOf}
 

@@ -16,10 +16,10 @@ use Rattle.day_number.specs.DayNumber.{dayOf}
 use Rattle.julian.specs.declared.JulianDate.{JulianDate}
 use Rattle.julian.specs.JulianDate.{julian}
 use Rattle.julian.specs.Worth.{SmallParts}
-use Rattle.lent_rows.specs.declared.LentRows.{LentRows}
-use Rattle.lent_rows.specs.Table.{Row, fixed}
-use Rattle.lent_rows.specs.Lent.{tableOf}
-use Rattle.lent_rows.proofs.NoRows.{none-lent, fixed-taken}
+use Rattle.leap_table.specs.declared.rows.LentRows.{LentRows}
+use Rattle.leap_table.specs.rows.Table.{Row, fixed}
+use Rattle.leap_table.specs.rows.Lent.{tableOf}
+use Rattle.leap_table.proofs.rows.NoRows.{none-lent, fixed-taken}
 use Rattle.scale_laws.specs.Ranges.{Held, Billion, FiniteParts}
 use Rattle.refusals.proofs.Onward.{went}
 use Rattle.utc_days.specs.LargerPart.{keptParts}

@@ -21,11 +21,11 @@ use Rattle.day_number.specs.DayNumber.{accepted, dayOf}
 use Rattle.day_number.specs.Ranges.{InDays}
 use Rattle.day_number.proofs.JulianRange.{accepted-finite}
 use Rattle.julian.specs.declared.JulianDate.{JulianDate}
-use Rattle.tai_utc.specs.declared.DayOffsets.{DayOffsets}
-use Rattle.lent_rows.specs.declared.LentRows.{LentRows}
-use Rattle.lent_rows.specs.Table.{Row, fixed}
-use Rattle.lent_rows.specs.Lent.{tableOf}
-use Rattle.lent_rows.proofs.NoRows.{none-lent, fixed-taken}
+use Rattle.leap_table.specs.declared.offsets.DayOffsets.{DayOffsets}
+use Rattle.leap_table.specs.declared.rows.LentRows.{LentRows}
+use Rattle.leap_table.specs.rows.Table.{Row, fixed}
+use Rattle.leap_table.specs.rows.Lent.{tableOf}
+use Rattle.leap_table.proofs.rows.NoRows.{none-lent, fixed-taken}
 use Rattle.scale_laws.specs.Ranges.{Held, FiniteParts}
 use Rattle.scale_laws.proofs.Shifts.{Small, added, taken-from, zero-point-small}
 use Rattle.utc_days.specs.LargerPart.{keptParts, besideAs, putBeside, placed, changeSmaller}

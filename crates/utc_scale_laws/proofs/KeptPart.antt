@@ -8,7 +8,7 @@ use lib.Ieee.{Float}
 use Rattle.refusals.specs.Outcome.{Outcome, answer, refusal, onward}
 use Rattle.julian.specs.declared.JulianDate.{JulianDate}
 use Rattle.julian.specs.Finite.{finiteParts, finiteJd, finiteArg}
-use Rattle.lent_rows.specs.Table.{Row}
+use Rattle.leap_table.specs.rows.Table.{Row}
 use Rattle.utc_days.specs.LargerPart.{firstIsKept, keptAs, keptParts, putBeside, placed, changeSmaller}
 use Rattle.utc_scales.specs.UtcTai.{taiFraction, utcToTai, refineUtcFraction, taiToUtc}
 use Rattle.ut1_to_utc.specs.Ut1Utc.{utcFraction, ut1ToUtc}

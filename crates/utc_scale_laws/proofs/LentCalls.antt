@@ -11,12 +11,12 @@ use Rattle.refusals.proofs.Onward.{went, stopped}
 use Rattle.julian.specs.declared.JulianDate.{JulianDate}
 use Rattle.julian.specs.Finite.{finiteParts}
 use Rattle.julian.specs.Worth.{SmallParts}
-use Rattle.lent_rows.specs.declared.LentRows.{LentRows}
-use Rattle.lent_rows.specs.Table.{Row, fixed}
-use Rattle.lent_rows.specs.Lent.{rowsOf, tableOf, Decision, sizes, order, step, taken}
-use Rattle.lent_rows.proofs.TablesTaken.{table-none}
-use Rattle.lent_rows.proofs.TableLaws.{table-decided}
-use Rattle.lent_rows.proofs.NoRows.{none-lent, fixed-taken}
+use Rattle.leap_table.specs.declared.rows.LentRows.{LentRows}
+use Rattle.leap_table.specs.rows.Table.{Row, fixed}
+use Rattle.leap_table.specs.rows.Lent.{rowsOf, tableOf, Decision, sizes, order, step, taken}
+use Rattle.leap_table.proofs.rows.TablesTaken.{table-none}
+use Rattle.leap_table.proofs.rows.TableLaws.{table-decided}
+use Rattle.leap_table.proofs.rows.NoRows.{none-lent, fixed-taken}
 use Rattle.scales.specs.Conversions.{Conversion, answerOf}
 use Rattle.scale_laws.specs.Ranges.{Held, Billion, FiniteParts}
 use Rattle.scale_laws.proofs.Refuses.{refusals}

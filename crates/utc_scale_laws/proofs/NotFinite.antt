@@ -13,7 +13,7 @@ use Rattle.day_number.proofs.JulianRange.{accepted-finite}
 use Rattle.julian.specs.declared.JulianDate.{JulianDate}
 use Rattle.julian.specs.JulianDate.{julian}
 use Rattle.julian.specs.Finite.{bothFinite, finiteParts, finiteJd, finiteArg}
-use Rattle.lent_rows.specs.Table.{Row}
+use Rattle.leap_table.specs.rows.Table.{Row}
 use Rattle.refusals.proofs.Onward.{went, stopped}
 use Rattle.utc_days.specs.LargerPart.{firstIsKept, keptAs, keptParts, changeSmaller}
 use Rattle.utc_scales.specs.UtcTai.{utcToTai, refined, rounds, refineUtcFraction, taiToUtc}

@@ -25,18 +25,18 @@ use Rattle.calendar.specs.Refusals.{nextOf}
 use Rattle.calendar.specs.DayCount.{marchCount, civilCount, mjdNumber, mjdOf}
 use Rattle.calendar.proofs.Accepted.{date-accepted, short}
 use Rattle.calendar.proofs.Mjd.{mjd-given, mjd-valid, same-answer}
-use Rattle.tai_utc.specs.declared.DayOffsets.{DayOffsets}
-use Rattle.lent_rows.specs.declared.LentRows.{LentRows}
-use Rattle.lent_rows.specs.Table.{Row, fixed, starts, reached, monthNumber, none}
-use Rattle.lent_rows.specs.Lent.{tableOf}
-use Rattle.tai_utc.specs.Offset.{secondsOf, startOf, rateOf, offsetAt, taiUtcOffset, rowAt, secondsIn}
-use Rattle.tai_utc.specs.Leap.{offsets, dayOffsets}
-use Rattle.lent_rows.proofs.Rows.{every, at}
-use Rattle.tai_utc.proofs.At.{drifting}
-use Rattle.tai_utc.proofs.Offsets.{offset-came}
-use Rattle.tai_utc.proofs.Years.{before-1960, one-row, drift-rows}
-use Rattle.tai_utc.proofs.TableSeconds.{seconds-in-range, table-seconds, same-before-lent}
-use Rattle.tai_utc.proofs.Cases.{forty-two-rows}
+use Rattle.leap_table.specs.declared.offsets.DayOffsets.{DayOffsets}
+use Rattle.leap_table.specs.declared.rows.LentRows.{LentRows}
+use Rattle.leap_table.specs.rows.Table.{Row, fixed, starts, reached, monthNumber, none}
+use Rattle.leap_table.specs.rows.Lent.{tableOf}
+use Rattle.leap_table.specs.offsets.Offset.{secondsOf, startOf, rateOf, offsetAt, taiUtcOffset, rowAt, secondsIn}
+use Rattle.leap_table.specs.offsets.Leap.{offsets, dayOffsets}
+use Rattle.leap_table.proofs.rows.Rows.{every, at}
+use Rattle.leap_table.proofs.offsets.At.{drifting}
+use Rattle.leap_table.proofs.offsets.Offsets.{offset-came}
+use Rattle.leap_table.proofs.offsets.Years.{before-1960, one-row, drift-rows}
+use Rattle.leap_table.proofs.offsets.TableSeconds.{seconds-in-range, table-seconds, same-before-lent}
+use Rattle.leap_table.proofs.offsets.Cases.{forty-two-rows}
 use Rattle.refusals.proofs.Onward.{came}
 
 -- ---- the decimals of a row: at most 64 s, MJD 65536 and 2 ^ -8 s a day

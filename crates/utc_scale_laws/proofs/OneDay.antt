@@ -13,10 +13,10 @@ use Rattle.day_number.specs.ExactDay.{OnGrid}
 use Rattle.day_number.proofs.Answer.{answered}
 use Rattle.day_number.proofs.ExactDay.{alike}
 use Rattle.julian.specs.declared.JulianDate.{JulianDate}
-use Rattle.lent_rows.specs.declared.LentRows.{LentRows}
-use Rattle.lent_rows.specs.Table.{Row, fixed}
-use Rattle.lent_rows.specs.Lent.{tableOf}
-use Rattle.lent_rows.proofs.NoRows.{none-lent, fixed-taken}
+use Rattle.leap_table.specs.declared.rows.LentRows.{LentRows}
+use Rattle.leap_table.specs.rows.Table.{Row, fixed}
+use Rattle.leap_table.specs.rows.Lent.{tableOf}
+use Rattle.leap_table.proofs.rows.NoRows.{none-lent, fixed-taken}
 use Rattle.scale_laws.specs.Ranges.{Held}
 use Rattle.utc_days.specs.LargerPart.{firstIsKept, keptAs, keptParts}
 use Rattle.utc_to_ut1.specs.UtcUt1.{utcToUt1}

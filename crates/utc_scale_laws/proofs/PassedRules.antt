@@ -14,11 +14,11 @@ use Rattle.julian.specs.declared.JulianDate.{JulianDate}
 use Rattle.julian.specs.JulianDate.{julian}
 use Rattle.julian.specs.Calendar.{fields, julianToCalendar}
 use Rattle.julian_laws.proofs.Divisions.{dividedDate, divided-date}
-use Rattle.tai_utc.specs.declared.Rule.{Rule}
-use Rattle.tai_utc.specs.declared.Rule.the-variants.{Absent, Drifting, Whole}
-use Rattle.lent_rows.specs.Table.{Row, fixed, monthNumber, reached}
-use Rattle.lent_rows.specs.Lent.{tableOf}
-use Rattle.tai_utc.specs.Rule.{ruleBy, ruleOf, ruleAt, ruleOn}
+use Rattle.leap_table.specs.declared.offsets.Rule.{Rule}
+use Rattle.leap_table.specs.declared.offsets.Rule.the-variants.{Absent, Drifting, Whole}
+use Rattle.leap_table.specs.rows.Table.{Row, fixed, monthNumber, reached}
+use Rattle.leap_table.specs.rows.Lent.{tableOf}
+use Rattle.leap_table.specs.offsets.Rule.{ruleBy, ruleOf, ruleAt, ruleOn}
 use Rattle.utc_days.specs.LargerPart.{firstIsKept, keptParts}
 use Rattle.utc_days.specs.DateRule.{ruleOfDate}
 use Rattle.utc_scales.specs.ByRule.{utcToTaiByRule}

@@ -5,7 +5,7 @@ use lib.Ieee.{binary64, round, ofBits, add, sub, neg, lt, le, eq}
 use Rattle.refusals.specs.Outcome.{answer}
 use Rattle.floats.specs.Whole.{abs}
 use Rattle.julian.specs.declared.JulianDate.{JulianDate}
-use Rattle.lent_rows.specs.Table.{fixed}
+use Rattle.leap_table.specs.rows.Table.{fixed}
 use Rattle.utc_scale_laws.specs.Published.{on2006, utctai, taiutc, utcut1, ut1utc, MetToTheBit, Met}
 use Rattle.utc_scale_laws.proofs.Computed.{computed, as-computed}
 

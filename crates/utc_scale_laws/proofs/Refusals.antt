@@ -16,7 +16,7 @@ use Rattle.day_number.specs.DayNumber.{accepted, dayOf}
 use Rattle.julian.specs.declared.JulianDate.{JulianDate}
 use Rattle.julian.specs.JulianDate.{julian}
 use Rattle.julian.specs.Finite.{finiteParts, finiteJd, finiteArg}
-use Rattle.lent_rows.specs.Table.{Row}
+use Rattle.leap_table.specs.rows.Table.{Row}
 use Rattle.scales.specs.Conversions.{answerOf, tai-ut1}
 use Rattle.scale_laws.specs.Ranges.{Held}
 use Rattle.refusals.proofs.Onward.{went, stopped}

@@ -13,10 +13,10 @@ use Rattle.calendar.specs.Refusals.{validDate, nextOf}
 use Rattle.calendar.specs.DayCount.{civilCount, mjdNumber, mjdOf}
 use Rattle.julian.specs.declared.JulianDate.{JulianDate}
 use Rattle.julian.specs.JulianDate.{julian}
-use Rattle.lent_rows.specs.Table.{fixed, monthNumber, reached}
-use Rattle.lent_rows.specs.Lent.{rowsTo, lentSize, tableOf}
-use Rattle.tai_utc.specs.Offset.{secondsOf, byRow, offsetBy, offsetAt, inDay, taiUtcOffset}
-use Rattle.tai_utc.specs.Leap.{dayOffsets, leapOf, leapAtEndOfDay}
+use Rattle.leap_table.specs.rows.Table.{fixed, monthNumber, reached}
+use Rattle.leap_table.specs.rows.Lent.{rowsTo, lentSize, tableOf}
+use Rattle.leap_table.specs.offsets.Offset.{secondsOf, byRow, offsetBy, offsetAt, inDay, taiUtcOffset}
+use Rattle.leap_table.specs.offsets.Leap.{dayOffsets, leapOf, leapAtEndOfDay}
 use Rattle.utc_scale_laws.specs.Twenty.{Twenty, utc-tai, tai-utc, ut1-utc, lentAnswer}
 use Rattle.utc_scale_laws.specs.ShortTable.{shortTable, shortRows}
 use Rattle.utc_scale_laws.proofs.Computed.{computed, as-computed}

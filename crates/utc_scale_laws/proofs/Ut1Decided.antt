@@ -14,10 +14,10 @@ use Rattle.rounding.proofs.Sizes.{Size}
 use Rattle.day_number.specs.DayNumber.{accepted, dayOf}
 use Rattle.julian.specs.declared.JulianDate.{JulianDate}
 use Rattle.julian.specs.Finite.{finiteArg}
-use Rattle.lent_rows.specs.declared.LentRows.{LentRows}
-use Rattle.lent_rows.specs.Table.{Row, fixed}
-use Rattle.lent_rows.specs.Lent.{tableOf}
-use Rattle.lent_rows.proofs.NoRows.{none-lent, fixed-taken}
+use Rattle.leap_table.specs.declared.rows.LentRows.{LentRows}
+use Rattle.leap_table.specs.rows.Table.{Row, fixed}
+use Rattle.leap_table.specs.rows.Lent.{tableOf}
+use Rattle.leap_table.proofs.rows.NoRows.{none-lent, fixed-taken}
 use Rattle.scales.specs.Conversions.{answerOf, tai-ut1}
 use Rattle.scale_laws.specs.Ranges.{Held, FiniteParts}
 use Rattle.refusals.proofs.Onward.{went, stopped}

@@ -8,7 +8,7 @@ use Rattle.floats.specs.Whole.{abs}
 use Rattle.constants.specs.Constants.{decimal}
 use Rattle.julian.specs.declared.JulianDate.{JulianDate}
 use Rattle.julian.specs.JulianDate.{julian}
-use Rattle.lent_rows.specs.Table.{fixed}
+use Rattle.leap_table.specs.rows.Table.{fixed}
 use Rattle.utc_scale_laws.specs.Twenty.{Twenty, utc-tai, tai-utc, utc-ut1, ut1-utc, answerOfAny}
 
 pub record Check : Type 0 where

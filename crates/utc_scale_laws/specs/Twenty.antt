@@ -9,9 +9,9 @@ use lib.Ieee.{Float}
 use Rattle.refusals.specs.Outcome.{Outcome, onward}
 use Rattle.floats.specs.Whole.{nought}
 use Rattle.julian.specs.declared.JulianDate.{JulianDate}
-use Rattle.lent_rows.specs.declared.LentRows.{LentRows}
-use Rattle.lent_rows.specs.Table.{Row}
-use Rattle.lent_rows.specs.Lent.{tableOf}
+use Rattle.leap_table.specs.declared.rows.LentRows.{LentRows}
+use Rattle.leap_table.specs.rows.Table.{Row}
+use Rattle.leap_table.specs.rows.Lent.{tableOf}
 use Rattle.scales.specs.Conversions.{Conversion, answerOf, offsetOf}
 use Rattle.utc_scales.specs.UtcTai.{utcToTai, taiToUtc}
 use Rattle.utc_to_ut1.specs.UtcUt1.{utcToUt1}

@@ -8,8 +8,8 @@ use Rattle.refusals.proofs.Onward.{went, stopped}
 use Rattle.julian.specs.declared.CalendarFields.{CalendarFields}
 use Rattle.julian.specs.declared.JulianDate.{JulianDate}
 use Rattle.julian.specs.Calendar.{julianToCalendar}
-use Rattle.lent_rows.specs.Table.{Row}
-use Rattle.tai_utc.specs.Rule.{forget}
+use Rattle.leap_table.specs.rows.Table.{Row}
+use Rattle.leap_table.specs.offsets.Rule.{forget}
 use Rattle.utc_days.specs.LargerPart.{keptParts, changeSmaller}
 use Rattle.utc_days.specs.DateRule.{ruleOfDate, passOn}
 use Rattle.utc_days.proofs.Rules.{passed-forgets, refused-forgets}

@@ -14,10 +14,10 @@ use Rattle.day_number.specs.declared.DayNumber.{DayNumber}
 use Rattle.day_number.specs.Answer.{dayNumberAndFraction}
 use Rattle.day_number.specs.Ranges.{InDays}
 use Rattle.julian_laws.proofs.CalendarDays.{fields-of}
-use Rattle.tai_utc.specs.declared.DayOffsets.{DayOffsets}
-use Rattle.lent_rows.specs.Table.{Row}
-use Rattle.tai_utc.specs.Offset.{taiUtcOffset}
-use Rattle.tai_utc.specs.Leap.{offsets, dayOffsets}
+use Rattle.leap_table.specs.declared.offsets.DayOffsets.{DayOffsets}
+use Rattle.leap_table.specs.rows.Table.{Row}
+use Rattle.leap_table.specs.offsets.Offset.{taiUtcOffset}
+use Rattle.leap_table.specs.offsets.Leap.{offsets, dayOffsets}
 use Rattle.utc_days.specs.Dates.{offsetAt0h, offsetsOf}
 use Rattle.utc_days.proofs.Midnights.{midnightOfDay, valid-midnight, offsets-valid}
 use Rattle.utc_days.proofs.Steps.{no-date}

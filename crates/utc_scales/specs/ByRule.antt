@@ -3,8 +3,8 @@
 use mathlib.Core.List.{List}
 use Rattle.refusals.specs.Outcome.{Outcome, answer, refusal}
 use Rattle.julian.specs.declared.JulianDate.{JulianDate}
-use Rattle.tai_utc.specs.declared.Rule.{Rule}
-use Rattle.lent_rows.specs.Table.{Row}
+use Rattle.leap_table.specs.declared.offsets.Rule.{Rule}
+use Rattle.leap_table.specs.rows.Table.{Row}
 use Rattle.utc_scales.specs.declared.utc_tai.TaiByRule.{TaiByRule}
 use Rattle.utc_scales.specs.declared.utc_tai.TaiByRule.the-variants as Tai
 use Rattle.utc_days.specs.LargerPart.{keptParts}

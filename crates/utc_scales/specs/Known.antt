@@ -5,8 +5,8 @@ use mathlib.Core.List.{List}
 use lib.Ieee.{Float}
 use Rattle.refusals.specs.Outcome.{Outcome, answer, refusal}
 use Rattle.calendar.specs.Gregorian.{gregorianDate}
-use Rattle.tai_utc.specs.declared.Rule.{Rule}
-use Rattle.lent_rows.specs.Table.{Row}
+use Rattle.leap_table.specs.declared.offsets.Rule.{Rule}
+use Rattle.leap_table.specs.rows.Table.{Row}
 use Rattle.utc_scales.specs.declared.table.KnownDay.{KnownDay}
 use Rattle.utc_scales.specs.declared.table.Known.{Known}
 use Rattle.utc_scales.specs.declared.table.Known.the-variants as K

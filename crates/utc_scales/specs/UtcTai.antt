@@ -8,9 +8,9 @@ use Rattle.constants.specs.Constants.{secondsPerDay}
 use Rattle.julian.specs.declared.JulianDate.{JulianDate}
 use Rattle.julian.specs.JulianDate.{julian}
 use Rattle.julian.specs.Calendar.{julianToCalendar}
-use Rattle.tai_utc.specs.declared.DayOffsets.{DayOffsets}
-use Rattle.lent_rows.specs.Table.{Row}
-use Rattle.tai_utc.specs.Leap.{driftRate, leapAmount}
+use Rattle.leap_table.specs.declared.offsets.DayOffsets.{DayOffsets}
+use Rattle.leap_table.specs.rows.Table.{Row}
+use Rattle.leap_table.specs.offsets.Leap.{driftRate, leapAmount}
 use Rattle.utc_days.specs.LargerPart.{changeSmaller}
 use Rattle.utc_days.specs.Dates.{offsetsOf, midnightOf}
 

@@ -4,15 +4,15 @@ ghost use Prim.Native.Nat.{_≤_};
 ghost use lib.IntN.{pos, natAbs, _-ℤ_};
 ghost use lib.Ieee.{binary64, ofInt};
 ghost use Rattle.calendar.specs.Gregorian.{gregorianDate};
-ghost use Rattle.lent_rows.specs.Lent.{rowsIn};
-ghost use Rattle.tai_utc.specs.Rule.{withRule};
-ghost use Rattle.tai_utc.specs.Answers.{dayOffsetsOutcome, dayByRuleOutcome};
+ghost use Rattle.leap_table.specs.rows.Lent.{rowsIn};
+ghost use Rattle.leap_table.specs.offsets.Rule.{withRule};
+ghost use Rattle.leap_table.specs.offsets.Answers.{dayOffsetsOutcome, dayByRuleOutcome};
 ghost use Rattle.utc_days.specs.Dates.{offsetsOf};
 ghost use Rattle.utc_days.specs.DateRule.{ruleOn};
 ghost use Rattle.utc_scales.specs.Known.{RightKnown};
-use tai_utc::DayByRule;
-use tai_utc::DayOffsets;
-use tai_utc::DayOffsetsAnswer;
+use leap_table::offsets::DayByRule;
+use leap_table::offsets::DayOffsets;
+use leap_table::offsets::DayOffsetsAnswer;
 
 // The offsets of a day, looked up.
 pub(crate) struct KnownDay {
@@ -36,7 +36,7 @@ pub(crate) fn day_of<'a>(
     ensures { λ r. ⌜ dayByRuleOutcome r ≡ withRule (offsetsOf (rowsIn size (now (months .entry)) (now (seconds .entry))) (gregorianDate day)) (ruleOn (rowsIn size (now (months .entry)) (now (seconds .entry))) (gregorianDate day)) ⌝ }
 {
     let t = calendar::gregorian_date(day);
-    tai_utc::day_offsets_by_lent(t.year, t.month as i32, t.day as i32, size, months, seconds)
+    leap_table::offsets::day_offsets_by_lent(t.year, t.month as i32, t.day as i32, size, months, seconds)
 }
 
 // The offsets alone.

@@ -4,7 +4,7 @@ ghost use Rattle.refusals.specs.Outcome.{onward};
 ghost use Rattle.julian.specs.JulianDate.{julian, julianOutcome};
 ghost use Rattle.julian.specs.DayFraction.{fractionOutcome};
 ghost use Rattle.constants.specs.Constants.{mjdZeroPoint};
-ghost use Rattle.lent_rows.specs.Lent.{rowsIn, rowsOf, tableOf};
+ghost use Rattle.leap_table.specs.rows.Lent.{rowsIn, rowsOf, tableOf};
 ghost use Rattle.scales.specs.Scales.{taiOutcome, utcOutcome};
 ghost use Rattle.utc_scales.specs.ByRule.{utcToTaiByRule, taiByRuleOutcome};
 ghost use Rattle.utc_scales.specs.Known.{RightKnown, partOutcome, RightPart, ruledPartOutcome, SameDays};
@@ -20,15 +20,15 @@ use day_number::DayAnswer;
 use julian::FractionAnswer;
 use julian::JulianAnswer;
 use julian::JulianDate;
-use lent_rows::LentRows;
+use leap_table::rows::LentRows;
 use scales::TAI;
 use scales::TaiAnswer;
 use scales::UTC;
 use scales::UtcAnswer;
-use tai_utc::DayByRule;
-use tai_utc::DayOffsets;
-use tai_utc::DayOffsetsAnswer;
-use tai_utc::Rule;
+use leap_table::offsets::DayByRule;
+use leap_table::offsets::DayOffsets;
+use leap_table::offsets::DayOffsetsAnswer;
+use leap_table::offsets::Rule;
 use utc_days::kept_parts;
 use utc_days::placed;
 use utc_days::put_beside;
@@ -149,7 +149,7 @@ pub fn utc_to_tai_by_rows(utc: UTC, table: LentRows) -> TaiAnswer
 {
     match utc_to_tai_by_lent(
         utc,
-        lent_rows::size_of(table),
+        leap_table::rows::size_of(table),
         &table.months,
         &table.seconds,
     ) {
@@ -162,13 +162,13 @@ pub fn utc_to_tai_by_rows(utc: UTC, table: LentRows) -> TaiAnswer
 pub fn utc_to_tai(utc: UTC, table: LentRows) -> TaiByRule
     ensures { λ r. ⌜ taiByRuleOutcome r ≡ onward (tableOf table) (λ rows. utcToTaiByRule rows (utc .0)) ⌝ }
 {
-    let number = lent_rows::table_refusal(table);
+    let number = leap_table::rows::table_refusal(table);
     if number != 0 {
         return TaiByRule::Refused(number);
     }
     utc_to_tai_by_lent(
         utc,
-        lent_rows::size_of(table),
+        leap_table::rows::size_of(table),
         &table.months,
         &table.seconds,
     )
@@ -267,7 +267,7 @@ pub fn tai_to_utc_by_rows(tai: TAI, table: LentRows) -> UtcAnswer
 {
     tai_to_utc_by_lent(
         tai,
-        lent_rows::size_of(table),
+        leap_table::rows::size_of(table),
         &table.months,
         &table.seconds,
     )
@@ -277,7 +277,7 @@ pub fn tai_to_utc_by_rows(tai: TAI, table: LentRows) -> UtcAnswer
 pub fn tai_to_utc(tai: TAI, table: LentRows) -> UtcAnswer
     ensures { λ r. ⌜ utcOutcome r ≡ onward (tableOf table) (λ rows. U.taiToUtc rows (tai .0)) ⌝ }
 {
-    let number = lent_rows::table_refusal(table);
+    let number = leap_table::rows::table_refusal(table);
     if number != 0 {
         return UtcAnswer::Refused(number);
     }

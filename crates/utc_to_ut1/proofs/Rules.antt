@@ -9,8 +9,8 @@ use Rattle.julian.specs.declared.CalendarFields.{CalendarFields}
 use Rattle.julian.specs.declared.JulianDate.{JulianDate}
 use Rattle.julian.specs.Calendar.{julianToCalendar}
 use Rattle.julian.specs.Finite.{finiteArg}
-use Rattle.lent_rows.specs.Table.{Row}
-use Rattle.tai_utc.specs.Rule.{forget}
+use Rattle.leap_table.specs.rows.Table.{Row}
+use Rattle.leap_table.specs.offsets.Rule.{forget}
 use Rattle.utc_days.specs.Dates.{offsetOfDate}
 use Rattle.utc_days.specs.DateRule.{ruleOfDate, passOn}
 use Rattle.utc_days.proofs.Rules.{passed-forgets, refused-forgets}

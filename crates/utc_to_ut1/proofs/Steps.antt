@@ -3,7 +3,7 @@ use mathlib.Core.Path.{_≡_, refl, sym, ap, _∙_}
 use mathlib.Core.Bool.{Bool, true, false, cond}
 use mathlib.Core.List.{List}
 use Rattle.julian.specs.declared.JulianDate.{JulianDate}
-use Rattle.lent_rows.specs.Table.{Row}
+use Rattle.leap_table.specs.rows.Table.{Row}
 use Rattle.utc_days.specs.declared.Parts.{Parts}
 use Rattle.utc_days.specs.LargerPart.{firstIsKept, keptAs, keptParts}
 use Rattle.utc_days.specs.DateRule.{offsetOfDateByRule}

@@ -5,8 +5,8 @@ use mathlib.Core.List.{List}
 use lib.Ieee.{Float}
 use Rattle.refusals.specs.Outcome.{Outcome, answer, refusal}
 use Rattle.julian.specs.declared.JulianDate.{JulianDate}
-use Rattle.tai_utc.specs.declared.Rule.{Rule}
-use Rattle.lent_rows.specs.Table.{Row}
+use Rattle.leap_table.specs.declared.offsets.Rule.{Rule}
+use Rattle.leap_table.specs.rows.Table.{Row}
 use Rattle.utc_days.specs.declared.Parts.{Parts}
 use Rattle.utc_days.specs.DateRule.{ruleOfDate, passOn, offsetOfDateByRule}
 use Rattle.utc_to_ut1.specs.declared.Ut1ByRule.{Ut1ByRule}

@@ -5,7 +5,7 @@ use lib.Ieee.{Float, binary64, sub}
 use Rattle.refusals.specs.Outcome.{Outcome, onward}
 use Rattle.julian.specs.declared.JulianDate.{JulianDate}
 use Rattle.julian.specs.Finite.{finiteArg}
-use Rattle.lent_rows.specs.Table.{Row}
+use Rattle.leap_table.specs.rows.Table.{Row}
 use Rattle.scales.specs.Conversions.{answerOf, tai-ut1}
 use Rattle.utc_days.specs.Dates.{offsetOfDate}
 use Rattle.utc_scales.specs.UtcTai.{utcToTai}

@@ -1,22 +1,22 @@
 // UTC to UT1 by DUT1 = UT1 - UTC in seconds: scales/conversions/utc_ut1/mod.rs.
 ghost use mathlib.Core.Path.{_≡_};
 ghost use Rattle.refusals.specs.Outcome.{onward};
-ghost use Rattle.lent_rows.specs.Lent.{rowsIn, rowsOf, tableOf};
-ghost use Rattle.tai_utc.specs.Answers as T;
-ghost use Rattle.tai_utc.specs.Rule.{withRule};
+ghost use Rattle.leap_table.specs.rows.Lent.{rowsIn, rowsOf, tableOf};
+ghost use Rattle.leap_table.specs.offsets.Answers as T;
+ghost use Rattle.leap_table.specs.offsets.Rule.{withRule};
 ghost use Rattle.scales.specs.Scales.{ut1Outcome};
 ghost use Rattle.utc_days.specs.DateRule.{offsetOfDateByRule};
 ghost use Rattle.utc_scales.specs.Known.{SameDay};
 ghost use Rattle.utc_to_ut1.specs.UtcUt1 as U;
 ghost use Rattle.utc_to_ut1.specs.ByRule.{utcToUt1ByRule, ut1ByRuleOutcome, offsetOfParts};
 use day_number::DayAnswer;
-use lent_rows::LentRows;
+use leap_table::rows::LentRows;
 use scales::TAI;
 use scales::UT1;
 use scales::UTC;
 use scales::Ut1Answer;
-use tai_utc::Rule;
-use tai_utc::SecondsByRule;
+use leap_table::offsets::Rule;
+use leap_table::offsets::SecondsByRule;
 use utc_days::Parts;
 use utc_days::kept_parts;
 use utc_days::offset_at_0h;
@@ -110,7 +110,7 @@ pub fn utc_to_ut1_with_dut1_by_rows(utc: UTC, dut1: f64, table: LentRows) -> Ut1
     match utc_to_ut1_with_dut1_by_lent(
         utc,
         dut1,
-        lent_rows::size_of(table),
+        leap_table::rows::size_of(table),
         &table.months,
         &table.seconds,
     ) {
@@ -123,14 +123,14 @@ pub fn utc_to_ut1_with_dut1_by_rows(utc: UTC, dut1: f64, table: LentRows) -> Ut1
 pub fn utc_to_ut1_with_dut1(utc: UTC, dut1: f64, table: LentRows) -> Ut1ByRule
     ensures { λ r. ⌜ ut1ByRuleOutcome r ≡ onward (tableOf table) (λ rows. utcToUt1ByRule rows (utc .0) dut1) ⌝ }
 {
-    let number = lent_rows::table_refusal(table);
+    let number = leap_table::rows::table_refusal(table);
     if number != 0 {
         return Ut1ByRule::Refused(number);
     }
     utc_to_ut1_with_dut1_by_lent(
         utc,
         dut1,
-        lent_rows::size_of(table),
+        leap_table::rows::size_of(table),
         &table.months,
         &table.seconds,
     )

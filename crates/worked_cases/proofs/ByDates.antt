@@ -16,7 +16,7 @@ use Rattle.julian.specs.declared.JulianDate.{JulianDate}
 use Rattle.julian.specs.declared.CalendarFields.{CalendarFields}
 use Rattle.julian.specs.JulianDate.{julian}
 use Rattle.julian.specs.Calendar.{fields, julianToCalendar}
-use Rattle.lent_rows.specs.Table.{fixed}
+use Rattle.leap_table.specs.rows.Table.{fixed}
 use Rattle.utc.specs.FromCalendar.{utcFromCalendar}
 use Rattle.utc.specs.UnixTime.{unixDay, secondOfUnixDay, secondWithNanos, utcNew}
 use Rattle.iso_texts.specs.IsoText.{dayText, isoTextBy, isoText}

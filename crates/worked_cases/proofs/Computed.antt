@@ -14,9 +14,9 @@ use Rattle.julian.specs.DayFraction.{secondLimit, timeInDay, dayFraction}
 use Rattle.julian.specs.Finite.{finiteJd, finiteArg}
 use Rattle.julian.specs.Calendar.{calendarToJulian, fromCalendar}
 use Rattle.julian.specs.Calendar as Julian
-use Rattle.lent_rows.specs.Table.{fixed, monthNumber, reached}
-use Rattle.tai_utc.specs.Offset.{secondsOf, startOf, rateOf, byRow, offsetBy, offsetAt, inDay, taiUtcOffset}
-use Rattle.tai_utc.specs.Leap.{dayOffsets, leapOf, leapAtEndOfDay}
+use Rattle.leap_table.specs.rows.Table.{fixed, monthNumber, reached}
+use Rattle.leap_table.specs.offsets.Offset.{secondsOf, startOf, rateOf, byRow, offsetBy, offsetAt, inDay, taiUtcOffset}
+use Rattle.leap_table.specs.offsets.Leap.{dayOffsets, leapOf, leapAtEndOfDay}
 use Rattle.shifts.specs.SmallerPart.{firstIsLarger, partsOf, putBack, mapSmallerPart}
 use Rattle.scales.specs.Formulas.{since, tdb0, ttDays, jd1977, tcbToTdb}
 use Rattle.scales.specs.Conversions as Scales

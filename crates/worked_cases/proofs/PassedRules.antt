@@ -20,13 +20,13 @@ use Rattle.julian.specs.DayFraction.{secondLimit, timeInDay, dayFraction}
 use Rattle.julian.specs.Calendar.{calendarToJulian, fromCalendar, julianToCalendar}
 use Rattle.julian.specs.Calendar as Julian
 use Rattle.julian_laws.proofs.Divisions.{dividedDate, divided-date}
-use Rattle.tai_utc.specs.declared.Rule.{Rule}
-use Rattle.tai_utc.specs.declared.Rule.the-variants.{Absent, Drifting, Whole}
-use Rattle.lent_rows.specs.Table.{Row, fixed, monthNumber, reached}
-use Rattle.lent_rows.specs.Lent.{tableOf}
-use Rattle.tai_utc.specs.Offset.{secondsOf, startOf, rateOf, byRow, offsetBy, offsetAt, inDay, taiUtcOffset}
-use Rattle.tai_utc.specs.Leap.{dayOffsets, leapOf, leapAtEndOfDay}
-use Rattle.tai_utc.specs.Rule.{ruleBy, ruleOf, ruleAt, ruleOn, withRule}
+use Rattle.leap_table.specs.declared.offsets.Rule.{Rule}
+use Rattle.leap_table.specs.declared.offsets.Rule.the-variants.{Absent, Drifting, Whole}
+use Rattle.leap_table.specs.rows.Table.{Row, fixed, monthNumber, reached}
+use Rattle.leap_table.specs.rows.Lent.{tableOf}
+use Rattle.leap_table.specs.offsets.Offset.{secondsOf, startOf, rateOf, byRow, offsetBy, offsetAt, inDay, taiUtcOffset}
+use Rattle.leap_table.specs.offsets.Leap.{dayOffsets, leapOf, leapAtEndOfDay}
+use Rattle.leap_table.specs.offsets.Rule.{ruleBy, ruleOf, ruleAt, ruleOn, withRule}
 use Rattle.time_of_day.specs.Milliseconds as Millis
 use Rattle.time_of_day.specs.TimeShown.{timeOf, dayEnd, fromZero, shownAt, countBy, shownBy}
 use Rattle.utc_text.specs.Text.{yearText, utcText}

@@ -12,8 +12,8 @@ use Rattle.julian.specs.declared.JulianDate.{JulianDate}
 use Rattle.julian.specs.declared.CalendarFields.{CalendarFields}
 use Rattle.julian.specs.JulianDate.{julian}
 use Rattle.julian.specs.Calendar.{calendarToJulian, julianToCalendar}
-use Rattle.lent_rows.specs.Table.{fixed}
-use Rattle.tai_utc.specs.Offset.{taiUtcOffset}
+use Rattle.leap_table.specs.rows.Table.{fixed}
+use Rattle.leap_table.specs.offsets.Offset.{taiUtcOffset}
 use Rattle.scales.specs.Conversions.{Conversion}
 use Rattle.scales.specs.Conversions as Scales
 use Rattle.utc_to_ut1.specs.UtcUt1.{utcToUt1}

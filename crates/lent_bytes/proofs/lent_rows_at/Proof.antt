@@ -1,7 +1,7 @@
 -- `lent_bytes::lent_rows_at` meets its contract. Assumes nothing.
 use mathlib.Core.Path.{_≡_, ap, subst, sym, _∙_}
 use Prim.Native.Nat.{ℕ, _<_}
-use Rattle.lent_rows.specs.Lent.{least}
+use Rattle.leap_table.specs.rows.Lent.{least}
 use Rattle.lent_bytes.proofs.Reading.{same-table, reads-none, of-136, of-another}
 use borrow.Author.Needs.{needs}
 use Rattle.lent_bytes.proofs.lent_rows_at.Statement.{statement}

@@ -1,7 +1,7 @@
 -- `lent_calls::deliver_part` meets its contract. Assumes nothing.
 use native.Mathlib.Omega.{arith}
 use denote.Ref.{now}
-use Rattle.lent_rows.specs.Lent.{rowsOf}
+use Rattle.leap_table.specs.rows.Lent.{rowsOf}
 use Rattle.lent_calls.proofs.ListingParts.{no-room, count-fits, part-put}
 use Rattle.lent_calls.proofs.Tables.{text-table-refused, text-with-rows}
 use borrow.Author.Needs.{needs}

@@ -1,6 +1,6 @@
 -- `from_str` meets its contract: the table is tested, and its rows are read. Assumes nothing.
 use mathlib.Core.Path.{_∙_}
-use Rattle.lent_rows.proofs.TablesTaken.{turned-away, taken}
+use Rattle.leap_table.proofs.rows.TablesTaken.{turned-away, taken}
 use Rattle.parsing.specs.Parsed.{parsedUtcOutcome}
 use borrow.Author.Needs.{needs}
 use Rattle.parsing.proofs.from_str.Statement.{statement}

@@ -1,7 +1,7 @@
 -- `from_str_by_rows` meets its contract: by the table's two arrays. Assumes nothing.
 use mathlib.Core.Path.{_∙_}
 use denote.Ref.{now}
-use Rattle.lent_rows.proofs.ByParts.{rows-in}
+use Rattle.leap_table.proofs.rows.ByParts.{rows-in}
 use Rattle.parsing.specs.Parsed.{parsedUtc}
 use borrow.Author.Needs.{needs}
 use Rattle.parsing.proofs.from_str_by_rows.Statement.{statement}

@@ -1,9 +1,9 @@
 -- `runs::convert_run` meets its contract: the table is tested, and its rows are read. Assumes nothing.
 use mathlib.Core.Path.{_≡_, refl, sym, ap, subst, _∙_}
 use mathlib.Core.List.{List}
-use Rattle.lent_rows.specs.Table.{Row}
-use Rattle.lent_rows.specs.Lent.{rowsOf, tableOf}
-use Rattle.lent_rows.proofs.ByParts.{rows-in}
+use Rattle.leap_table.specs.rows.Table.{Row}
+use Rattle.leap_table.specs.rows.Lent.{rowsOf, tableOf}
+use Rattle.leap_table.proofs.rows.ByParts.{rows-in}
 use Rattle.runs.specs.Run.{runBy}
 use Rattle.runs.proofs.Calls.{table-refused, table-taken}
 use borrow.Author.Needs.{needs}

@@ -1,6 +1,6 @@
 -- `runs::convert_stamp` meets its contract. Assumes nothing.
 use mathlib.Core.Path.{ap, _∙_}
-use Rattle.lent_rows.specs.Lent.{rowsIn}
+use Rattle.leap_table.specs.rows.Lent.{rowsIn}
 use Rattle.scale_ways.specs.Ways.{wayOf}
 use Rattle.formula_runs.proofs.Puts.{put-same}
 use borrow.Author.Needs.{needs}

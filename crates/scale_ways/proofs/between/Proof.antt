@@ -1,6 +1,6 @@
 -- `scale_ways::between` meets its contract. Assumes nothing.
 use mathlib.Core.Path.{sym, _∙_}
-use Rattle.lent_rows.specs.Lent.{rowsIn}
+use Rattle.leap_table.specs.rows.Lent.{rowsIn}
 use Rattle.scale_ways.proofs.Steps.{between-tcg, between-tt, between-tai}
 use borrow.Author.Needs.{needs}
 use Rattle.scale_ways.proofs.between.Statement.{statement}

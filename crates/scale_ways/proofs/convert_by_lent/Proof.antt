@@ -1,6 +1,6 @@
 -- `scale_ways::convert_by_lent` meets its contract. Assumes nothing.
 use mathlib.Core.Path.{_∙_}
-use Rattle.lent_rows.specs.Lent.{rowsIn}
+use Rattle.leap_table.specs.rows.Lent.{rowsIn}
 use Rattle.scale_ways.proofs.Steps.{way-same, way-between}
 use borrow.Author.Needs.{needs}
 use Rattle.scale_ways.proofs.convert_by_lent.Statement.{statement}

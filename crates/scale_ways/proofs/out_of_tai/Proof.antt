@@ -1,6 +1,6 @@
 -- `scale_ways::out_of_tai` meets its contract. Assumes nothing.
 use mathlib.Core.Path.{_∙_}
-use Rattle.lent_rows.specs.Lent.{rowsIn}
+use Rattle.leap_table.specs.rows.Lent.{rowsIn}
 use Rattle.julian.specs.JulianDate.{julianOutcome}
 use Rattle.scale_ways.proofs.Steps.{out-utc, out-tt, out-gps, out-tcg, out-none}
 use borrow.Author.Needs.{needs}

@@ -1,8 +1,8 @@
 -- `scale_ways::utc_into_tai` meets its contract: TAI without the rule. Assumes nothing.
 use mathlib.Core.Path.{_≡_, sym, ap, _∙_}
 use Rattle.refusals.specs.Outcome.{onward}
-use Rattle.lent_rows.specs.Lent.{rowsIn}
-use Rattle.tai_utc.specs.Rule.{forget}
+use Rattle.leap_table.specs.rows.Lent.{rowsIn}
+use Rattle.leap_table.specs.offsets.Rule.{forget}
 use Rattle.julian.specs.JulianDate.{julianOutcome}
 use Rattle.utc_scales.specs.declared.utc_tai.TaiByRule.{TaiByRule}
 use Rattle.utc_scales.specs.UtcTai.{utcToTai}

@@ -7,8 +7,8 @@ use mir.Syntax.{w32}
 use mir.Val.{toZ}
 use mir.Facts.{toZ-ofZ}
 use borrow.Author.Needs.{needs}
-use Rattle.lent_rows.specs.Lent.{rowsOf}
-use Rattle.tai_utc.specs.WholeSeconds.{wholeSeconds}
+use Rattle.leap_table.specs.rows.Lent.{rowsOf}
+use Rattle.leap_table.specs.offsets.WholeSeconds.{wholeSeconds}
 use Rattle.standby.specs.Times.{lastMinute}
 use Rattle.standby.proofs.last_minute.Statement.{statement}
 use Rattle.standby.proofs.last_minute.Tie as tie

@@ -5,8 +5,8 @@ use denote.Ref.{now}
 use lib.Ieee.{ofBits, ofInt, neg, round}
 use Rattle.julian.specs.Finite as J
 use Rattle.refusals.proofs.Onward.{went, stopped}
-use Rattle.lent_rows.specs.Table.{Row}
-use Rattle.lent_rows.specs.Lent.{rowsIn}
+use Rattle.leap_table.specs.rows.Table.{Row}
+use Rattle.leap_table.specs.rows.Lent.{rowsIn}
 use Rattle.ut1_to_utc.specs.declared.months.MonthAnswer.{MonthAnswer}
 use Rattle.ut1_to_utc.specs.KnownMonths.{monthOutcome, RightMonths}
 use Rattle.ut1_to_utc.specs.Ut1Utc.{adjustDut1}

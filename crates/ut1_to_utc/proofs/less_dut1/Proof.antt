@@ -1,7 +1,7 @@
 -- `ut1_to_utc::less_dut1` meets its contract. Assumes nothing.
 use mathlib.Core.Path.{_∙_}
-use Rattle.lent_rows.specs.Table.{Row}
-use Rattle.lent_rows.specs.Lent.{rowsIn}
+use Rattle.leap_table.specs.rows.Table.{Row}
+use Rattle.leap_table.specs.rows.Lent.{rowsIn}
 use Rattle.ut1_to_utc.specs.Ut1Utc.{utcFraction}
 use Rattle.utc_days.proofs.Steps.{changes}
 use mathlib.Core.List.{List}

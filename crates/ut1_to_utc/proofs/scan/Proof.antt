@@ -3,8 +3,8 @@ use mathlib.Core.Path.{_≡_, refl, sym, ap, _∙_, subst}
 use Prim.Native.Nat.{_≤_, _-_}
 use native.Mathlib.Omega.{arith}
 use Rattle.julian.specs.Finite.{offsetOutcome}
-use Rattle.lent_rows.specs.Table.{Row}
-use Rattle.lent_rows.specs.Lent.{rowsIn}
+use Rattle.leap_table.specs.rows.Table.{Row}
+use Rattle.leap_table.specs.rows.Lent.{rowsIn}
 use Rattle.ut1_to_utc.specs.declared.DayScan.{DayScan}
 use Rattle.ut1_to_utc.specs.KnownMonths.{RightMonth, RightScan}
 use Rattle.ut1_to_utc.specs.Ut1Utc.{scanOutcome, scan}

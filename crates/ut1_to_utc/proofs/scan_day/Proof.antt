@@ -11,8 +11,8 @@ use Rattle.calendar.specs.Gregorian.{gregorianDate}
 use Rattle.day_number.specs.Answer.{dayOutcome}
 use Rattle.day_number.proofs.Ranges.{day-range, day-read}
 use Rattle.julian.specs.JulianDate.{julian}
-use Rattle.lent_rows.specs.Table.{Row}
-use Rattle.lent_rows.specs.Lent.{rowsIn}
+use Rattle.leap_table.specs.rows.Table.{Row}
+use Rattle.leap_table.specs.rows.Lent.{rowsIn}
 use Rattle.utc_days.specs.Dates.{offsetAt0h}
 use Rattle.ut1_to_utc.specs.declared.months.MonthAnswer.{MonthAnswer}
 use Rattle.ut1_to_utc.specs.KnownMonths.{monthOutcome, RightMonths, RightScan}

@@ -1,6 +1,6 @@
 -- `ut1_to_utc::ut1_to_utc_with_dut1` meets its contract: the table is tested, and its rows are read. Assumes nothing.
 use mathlib.Core.Path.{_∙_}
-use Rattle.lent_rows.proofs.TablesTaken.{turned-away, taken}
+use Rattle.leap_table.proofs.rows.TablesTaken.{turned-away, taken}
 use Rattle.scales.specs.Scales.{utcOutcome}
 use borrow.Author.Needs.{needs}
 use Rattle.ut1_to_utc.proofs.ut1_to_utc_with_dut1.Statement.{statement}

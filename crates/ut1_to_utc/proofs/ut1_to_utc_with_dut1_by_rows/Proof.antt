@@ -1,8 +1,8 @@
 -- `ut1_to_utc::ut1_to_utc_with_dut1_by_rows` meets its contract: by the table's two arrays. Assumes nothing.
 use mathlib.Core.Path.{ap, _∙_}
 use mathlib.Core.List.{List}
-use Rattle.lent_rows.specs.Table.{Row}
-use Rattle.lent_rows.proofs.ByParts.{rows-in}
+use Rattle.leap_table.specs.rows.Table.{Row}
+use Rattle.leap_table.proofs.rows.ByParts.{rows-in}
 use Rattle.ut1_to_utc.specs.Ut1Utc.{ut1ToUtc}
 use borrow.Author.Needs.{needs}
 use Rattle.ut1_to_utc.proofs.ut1_to_utc_with_dut1_by_rows.Statement.{statement}

@@ -15,8 +15,8 @@ use Rattle.constants.specs.Constants.{unixEpochJd}
 use Rattle.constants.proofs.Bits.{unix-epoch-jd}
 use Rattle.julian.specs.Calendar.{calendarOutcome, julianToCalendar}
 use Rattle.scales.specs.Scales.{utcOutcome}
-use Rattle.lent_rows.specs.Table.{Row}
-use Rattle.lent_rows.specs.Lent.{rowsIn}
+use Rattle.leap_table.specs.rows.Table.{Row}
+use Rattle.leap_table.specs.rows.Lent.{rowsIn}
 use Rattle.utc.specs.UnixTime.{unixDay, secondOfUnixDay}
 use Rattle.julian.proofs.Dates.{date-in-range}
 use Rattle.utc.proofs.UnixDays.{day-fits, day-in-float}

@@ -1,8 +1,8 @@
 -- `utc::utc_from_calendar` meets its contract: the table is tested, and its rows are read. Assumes nothing.
 use mathlib.Core.Path.{_≡_, _∙_}
 use mir.Facts.{toZ-ofZ}
-use Rattle.lent_rows.specs.Lent.{rowsOf}
-use Rattle.lent_rows.proofs.TablesTaken.{turned-away, taken}
+use Rattle.leap_table.specs.rows.Lent.{rowsOf}
+use Rattle.leap_table.proofs.rows.TablesTaken.{turned-away, taken}
 use Rattle.scales.specs.Scales.{utcOutcome}
 use Rattle.utc.specs.FromCalendar.{utcFromCalendar}
 use borrow.Author.Needs.{needs}

@@ -9,13 +9,13 @@ use Rattle.refusals.specs.Outcome.{answer, refusal, onward}
 use Rattle.floats.specs.Whole.{nought}
 use Rattle.julian.specs.JulianDate.{julianOutcome}
 use Rattle.julian.specs.Calendar.{fromCalendar}
-use Rattle.lent_rows.specs.Table.{Row}
-use Rattle.lent_rows.specs.Lent.{rowsIn}
-use Rattle.tai_utc.specs.Leap.{leapAtEndOfDay}
-use Rattle.tai_utc.specs.declared.SecondsByRule.{SecondsByRule}
-use Rattle.tai_utc.specs.Rule.{forget, leapByRule}
-use Rattle.tai_utc.specs.Answers.{secondsByRuleOutcome}
-use Rattle.tai_utc.proofs.Rules.{leap-forgets}
+use Rattle.leap_table.specs.rows.Table.{Row}
+use Rattle.leap_table.specs.rows.Lent.{rowsIn}
+use Rattle.leap_table.specs.offsets.Leap.{leapAtEndOfDay}
+use Rattle.leap_table.specs.declared.offsets.SecondsByRule.{SecondsByRule}
+use Rattle.leap_table.specs.offsets.Rule.{forget, leapByRule}
+use Rattle.leap_table.specs.offsets.Answers.{secondsByRuleOutcome}
+use Rattle.leap_table.proofs.offsets.Rules.{leap-forgets}
 use Rattle.scales.specs.Scales.{utcOutcome}
 use Rattle.utc.specs.FromCalendar.{utcFromCalendar}
 use mathlib.Core.List.{List}

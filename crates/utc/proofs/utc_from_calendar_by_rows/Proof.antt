@@ -1,7 +1,7 @@
 -- `utc::utc_from_calendar_by_rows` meets its contract: by the table's two arrays. Assumes nothing.
 use mathlib.Core.Path.{_∙_}
 use mir.Facts.{toZ-ofZ}
-use Rattle.lent_rows.proofs.ByParts.{rows-in}
+use Rattle.leap_table.proofs.rows.ByParts.{rows-in}
 use Rattle.utc.specs.FromCalendar.{utcFromCalendar}
 use borrow.Author.Needs.{needs}
 use Rattle.utc.proofs.utc_from_calendar_by_rows.Statement.{statement}

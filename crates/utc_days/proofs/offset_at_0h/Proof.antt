@@ -3,9 +3,9 @@ use mathlib.Core.Path.{ap, _∙_}
 use mir.Facts.{toZ-ofZ}
 use Rattle.floats.specs.Whole.{nought}
 use Rattle.calendar.specs.Gregorian.{gregorianDate}
-use Rattle.tai_utc.specs.Rule.{offsetByRule}
-use Rattle.lent_rows.specs.Table.{Row}
-use Rattle.lent_rows.specs.Lent.{rowsIn}
+use Rattle.leap_table.specs.offsets.Rule.{offsetByRule}
+use Rattle.leap_table.specs.rows.Table.{Row}
+use Rattle.leap_table.specs.rows.Lent.{rowsIn}
 use Rattle.utc_days.specs.Dates.{offsetAt0h}
 use Rattle.utc_days.specs.DateRule.{ruleOn}
 use Rattle.utc_days.proofs.Midnights.{month-fits, day-of-month-fits, handed}

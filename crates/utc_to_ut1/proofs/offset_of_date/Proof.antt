@@ -5,10 +5,10 @@ use Rattle.floats.proofs.Laws.{yes}
 use Rattle.calendar.specs.Gregorian.{gregorianDate}
 use Rattle.day_number.specs.Answer.{dayOutcome}
 use Rattle.day_number.proofs.Ranges.{day-range, day-read}
-use Rattle.tai_utc.specs.Answers.{secondsByRuleOutcome}
-use Rattle.tai_utc.specs.Rule.{withRule}
-use Rattle.lent_rows.specs.Table.{Row}
-use Rattle.lent_rows.specs.Lent.{rowsIn}
+use Rattle.leap_table.specs.offsets.Answers.{secondsByRuleOutcome}
+use Rattle.leap_table.specs.offsets.Rule.{withRule}
+use Rattle.leap_table.specs.rows.Table.{Row}
+use Rattle.leap_table.specs.rows.Lent.{rowsIn}
 use Rattle.utc_days.specs.Dates.{offsetAt0h}
 use Rattle.utc_days.specs.DateRule.{ruleOn}
 use Rattle.utc_days.proofs.Rules.{offset-by-rule, offset-by-rule-refused}

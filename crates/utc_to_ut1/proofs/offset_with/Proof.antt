@@ -3,9 +3,9 @@ use mathlib.Core.Bool.{true, false}
 use mathlib.Core.Path.{_∙_}
 use mathlib.Core.List.{List}
 use denote.Ref.{now}
-use Rattle.lent_rows.specs.Table.{Row}
-use Rattle.lent_rows.specs.Lent.{rowsIn}
-use Rattle.tai_utc.specs.Answers.{secondsByRuleOutcome}
+use Rattle.leap_table.specs.rows.Table.{Row}
+use Rattle.leap_table.specs.rows.Lent.{rowsIn}
+use Rattle.leap_table.specs.offsets.Answers.{secondsByRuleOutcome}
 use Rattle.utc_days.specs.DateRule.{offsetOfDateByRule}
 use Rattle.utc_to_ut1.proofs.Steps.{parts-offset}
 use Rattle.utc_days.proofs.Rules.{passed}

@@ -1,9 +1,9 @@
 -- `utc_to_ut1::utc_to_ut1_with_dut1` meets its contract: the table is tested, and its rows are read. Assumes nothing.
 use mathlib.Core.Path.{ap, _∙_}
 use mathlib.Core.List.{List}
-use Rattle.lent_rows.specs.Table.{Row}
-use Rattle.lent_rows.proofs.ByParts.{rows-in}
-use Rattle.lent_rows.proofs.TablesTaken.{turned-away, taken}
+use Rattle.leap_table.specs.rows.Table.{Row}
+use Rattle.leap_table.proofs.rows.ByParts.{rows-in}
+use Rattle.leap_table.proofs.rows.TablesTaken.{turned-away, taken}
 use Rattle.utc_to_ut1.specs.ByRule.{utcToUt1ByRule, ut1ByRuleOutcome}
 use borrow.Author.Needs.{needs}
 use Rattle.utc_to_ut1.proofs.utc_to_ut1_with_dut1.Statement.{statement}

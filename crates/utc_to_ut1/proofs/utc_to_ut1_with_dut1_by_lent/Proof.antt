@@ -4,9 +4,9 @@ use mathlib.Core.List.{List}
 use denote.Ref.{now}
 use lib.Ieee.{binary64, sub}
 use Rattle.julian.specs.Finite as J
-use Rattle.tai_utc.specs.Answers as T
-use Rattle.lent_rows.specs.Table.{Row}
-use Rattle.lent_rows.specs.Lent.{rowsIn}
+use Rattle.leap_table.specs.offsets.Answers as T
+use Rattle.leap_table.specs.rows.Table.{Row}
+use Rattle.leap_table.specs.rows.Lent.{rowsIn}
 use Rattle.scales.specs.Conversions.{answerOf, tai-ut1}
 use Rattle.refusals.proofs.Onward.{went, stopped}
 use Rattle.utc_scales.specs.declared.utc_tai.RuledPart.{RuledPart}

@@ -2,10 +2,10 @@
 use mathlib.Core.Path.{_≡_, sym, ap, _∙_}
 use mathlib.Core.List.{List}
 use Rattle.refusals.specs.Outcome.{onward}
-use Rattle.lent_rows.specs.Table.{Row}
-use Rattle.lent_rows.specs.Lent.{rowsOf}
-use Rattle.tai_utc.specs.Rule.{forget}
-use Rattle.lent_rows.proofs.ByParts.{rows-in}
+use Rattle.leap_table.specs.rows.Table.{Row}
+use Rattle.leap_table.specs.rows.Lent.{rowsOf}
+use Rattle.leap_table.specs.offsets.Rule.{forget}
+use Rattle.leap_table.proofs.rows.ByParts.{rows-in}
 use Rattle.scales.specs.Scales.{ut1Outcome}
 use Rattle.utc_to_ut1.specs.declared.Ut1ByRule.{Ut1ByRule}
 use Rattle.utc_to_ut1.specs.UtcUt1.{utcToUt1}

@@ -3,7 +3,7 @@ use mathlib.Core.Path.{ap, sym}
 use Rattle.refusals.specs.Outcome.{onward}
 use Rattle.scales.specs.declared.Ut1Answer.{Ut1Answer}
 use Rattle.scales.specs.Scales.{ut1Outcome}
-use Rattle.tai_utc.specs.Rule.{withRule}
+use Rattle.leap_table.specs.offsets.Rule.{withRule}
 use Rattle.utc_to_ut1.specs.ByRule.{ut1ByRuleOutcome}
 use borrow.Author.Needs.{needs}
 use Rattle.utc_to_ut1.proofs.with_rule.Statement.{statement}

@@ -2,8 +2,8 @@
 use mathlib.Core.Path.{_∙_, refl}
 use lib.IntN.{ℤ}
 use Rattle.calendar.proofs.Signs.{read-date}
-use Rattle.lent_rows.specs.Lent.{rowsIn}
-use Rattle.tai_utc.specs.Rule.{offsetByRule}
+use Rattle.leap_table.specs.rows.Lent.{rowsIn}
+use Rattle.leap_table.specs.offsets.Rule.{offsetByRule}
 use Rattle.rule_answers.specs.RuleFields.{offsetRuleBytes}
 use Rattle.capi.proofs.Arrays.{lent-refused, with-lent}
 use borrow.Author.Needs.{needs}

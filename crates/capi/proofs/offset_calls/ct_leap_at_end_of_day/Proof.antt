@@ -1,10 +1,10 @@
 -- `capi::offset_calls::ct_leap_at_end_of_day` meets its contract. Assumes nothing.
 use mathlib.Core.Path.{ap, _∙_, refl}
 use Rattle.calendar.proofs.Signs.{read-date}
-use Rattle.lent_rows.specs.Lent.{rowsIn}
-use Rattle.tai_utc.specs.Leap.{leapAtEndOfDay}
-use Rattle.tai_utc.specs.Rule.{forget}
-use Rattle.tai_utc.proofs.Rules.{leap-forgets}
+use Rattle.leap_table.specs.rows.Lent.{rowsIn}
+use Rattle.leap_table.specs.offsets.Leap.{leapAtEndOfDay}
+use Rattle.leap_table.specs.offsets.Rule.{forget}
+use Rattle.leap_table.proofs.offsets.Rules.{leap-forgets}
 use Rattle.c_answers.specs.Fields.{floatBytes}
 use Rattle.capi.proofs.Arrays.{lent-refused, with-lent}
 use borrow.Author.Needs.{needs}

@@ -1,9 +1,9 @@
 -- `capi::offset_calls::put_leap` meets its contract. Assumes nothing.
 use mathlib.Core.Path.{ap}
 use Rattle.refusals.specs.Outcome.{onward}
-use Rattle.tai_utc.specs.declared.SecondsByRule.{SecondsByRule}
-use Rattle.tai_utc.specs.Rule.{forget}
-use Rattle.tai_utc.specs.Answers.{secondsByRuleOutcome}
+use Rattle.leap_table.specs.declared.offsets.SecondsByRule.{SecondsByRule}
+use Rattle.leap_table.specs.offsets.Rule.{forget}
+use Rattle.leap_table.specs.offsets.Answers.{secondsByRuleOutcome}
 use Rattle.c_answers.specs.Fields.{floatBytes}
 use Rattle.c_answers.proofs.Deliveries.{delivered-answer, refused-on}
 use borrow.Author.Needs.{needs}

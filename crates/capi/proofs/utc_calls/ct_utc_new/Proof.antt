@@ -2,7 +2,7 @@
 use mathlib.Core.Path.{ap, _∙_, refl}
 use lib.IntN.{ℤ}
 use mir.Facts.{toZ-ofZ}
-use Rattle.lent_rows.specs.Lent.{rowsIn}
+use Rattle.leap_table.specs.rows.Lent.{rowsIn}
 use Rattle.utc.specs.UnixTime.{utcNew}
 use Rattle.c_answers.specs.Fields.{julianBytes}
 use Rattle.capi.proofs.Arrays.{lent-refused, with-lent}

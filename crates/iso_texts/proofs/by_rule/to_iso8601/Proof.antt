@@ -1,9 +1,9 @@
 -- `iso_texts::by_rule::to_iso8601` meets its contract: the table is tested, and its rows are read. Assumes nothing.
 use mathlib.Core.Path.{sym, ap, _∙_}
 use mathlib.Core.List.{List}
-use Rattle.lent_rows.specs.Table.{Row}
-use Rattle.lent_rows.proofs.ByParts.{rows-in}
-use Rattle.lent_rows.proofs.TablesTaken.{turned-away, taken}
+use Rattle.leap_table.specs.rows.Table.{Row}
+use Rattle.leap_table.proofs.rows.ByParts.{rows-in}
+use Rattle.leap_table.proofs.rows.TablesTaken.{turned-away, taken}
 use Rattle.iso_texts.specs.ByRule.{isoTextByRule}
 use Rattle.iso_texts.proofs.TextRules.{rule-call-refused, rule-call-as}
 use borrow.Author.Needs.{needs}

@@ -1,7 +1,7 @@
 -- `iso_texts::by_rule::with_rule` meets its contract. Assumes nothing.
 use mathlib.Core.Path.{ap, sym}
 use Rattle.refusals.specs.Outcome.{onward}
-use Rattle.tai_utc.specs.Rule.{withRule}
+use Rattle.leap_table.specs.offsets.Rule.{withRule}
 use Rattle.utc_text.specs.declared.TextAnswer.{TextAnswer}
 use Rattle.utc_text.specs.Answer.{textOutcome}
 use Rattle.iso_texts.specs.ByRule.{textByRuleOutcome}

@@ -4,11 +4,11 @@ use mathlib.Core.List.{List}
 use denote.Ref.{now}
 use mir.Syntax.{w32}
 use mir.Val.{SFits}
-use Rattle.lent_rows.specs.Table.{Row}
-use Rattle.lent_rows.specs.Lent.{rowsIn}
-use Rattle.tai_utc.specs.Rule.{withRule, leapByRule}
-use Rattle.tai_utc.specs.Answers.{secondsByRuleOutcome}
-use Rattle.tai_utc.proofs.Rules.{not-told, apart, refused-apart}
+use Rattle.leap_table.specs.rows.Table.{Row}
+use Rattle.leap_table.specs.rows.Lent.{rowsIn}
+use Rattle.leap_table.specs.offsets.Rule.{withRule, leapByRule}
+use Rattle.leap_table.specs.offsets.Answers.{secondsByRuleOutcome}
+use Rattle.leap_table.proofs.offsets.Rules.{not-told, apart, refused-apart}
 use Rattle.iso_texts.specs.IsoText.{shownTextBy}
 use Rattle.iso_texts.specs.Expanded.{expandedSheet}
 use Rattle.iso_texts.specs.ByRule.{ruleOn}

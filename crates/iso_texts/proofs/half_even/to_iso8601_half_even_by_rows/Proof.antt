@@ -2,10 +2,10 @@
 use mathlib.Core.Path.{sym, ap, _∙_}
 use mathlib.Core.List.{List}
 use Rattle.refusals.specs.Outcome.{onward}
-use Rattle.lent_rows.specs.Table.{Row}
-use Rattle.lent_rows.specs.Lent.{rowsOf}
-use Rattle.tai_utc.specs.Rule.{forget}
-use Rattle.lent_rows.proofs.ByParts.{rows-in}
+use Rattle.leap_table.specs.rows.Table.{Row}
+use Rattle.leap_table.specs.rows.Lent.{rowsOf}
+use Rattle.leap_table.specs.offsets.Rule.{forget}
+use Rattle.leap_table.proofs.rows.ByParts.{rows-in}
 use Rattle.utc_text.specs.Answer.{textOutcome}
 use Rattle.iso_texts.specs.declared.TextByRule.{TextByRule}
 use Rattle.iso_texts.specs.ByRule.{halfEvenByRule, textByRuleOutcome}

@@ -3,7 +3,7 @@ use mathlib.Core.Path.{_≡_, sym, ap, subst, _∙_}
 use mathlib.Core.List.{[]}
 use Prim.Native.Nat.{ℕ, _<_, _≤_}
 use native.Mathlib.Omega.{arith}
-use Rattle.lent_rows.specs.Lent.{least}
+use Rattle.leap_table.specs.rows.Lent.{least}
 use Rattle.lent_bytes.proofs.Reading.{read-14, read-none, read-judged}
 use borrow.Author.Needs.{needs}
 use Rattle.lent_bytes.proofs.arrays.read_table.Statement.{statement}

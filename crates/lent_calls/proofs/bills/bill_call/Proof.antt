@@ -2,7 +2,7 @@
 use mathlib.Core.Path.{ap, _∙_}
 use mathlib.Core.List.{List}
 use Rattle.refusals.specs.Outcome.{Outcome, onward}
-use Rattle.lent_rows.specs.Table.{Row}
+use Rattle.leap_table.specs.rows.Table.{Row}
 use Rattle.standby.specs.Bills.{standbyBill}
 use Rattle.lent_calls.specs.BillBytes.{billBytes}
 use Rattle.lent_calls.proofs.Tables.{table-refused, with-rows, is-taken}

@@ -6,11 +6,11 @@ use lib.IntN.{ℤ}
 use mir.Facts.{toZ-ofZ}
 use Rattle.calendar.specs.declared.CalendarDate.{CalendarDate}
 use Rattle.calendar.specs.Gregorian.{gregorianDate}
-use Rattle.lent_rows.specs.Table.{Row}
-use Rattle.lent_rows.specs.Lent.{rowsIn}
-use Rattle.tai_utc.specs.Rule.{withRule}
-use Rattle.tai_utc.specs.Answers.{secondsByRuleOutcome}
-use Rattle.tai_utc.proofs.Rules.{apart, refused-apart}
+use Rattle.leap_table.specs.rows.Table.{Row}
+use Rattle.leap_table.specs.rows.Lent.{rowsIn}
+use Rattle.leap_table.specs.offsets.Rule.{withRule}
+use Rattle.leap_table.specs.offsets.Answers.{secondsByRuleOutcome}
+use Rattle.leap_table.proofs.offsets.Rules.{apart, refused-apart}
 use Rattle.utc_days.specs.Dates.{offsetAt0h}
 use Rattle.utc_days.specs.DateRule.{ruleOn}
 use Rattle.ut1_to_utc.specs.KnownMonths.{monthOutcome, RightMonths}

@@ -10,8 +10,8 @@ use Rattle.ut1_to_utc.specs.KnownMonths.{monthOutcome, RightMonths}
 use Rattle.utc_days.proofs.Steps.{offset-no-date, offset-of-day}
 use mathlib.Core.List.{List}
 use denote.Ref.{now}
-use Rattle.lent_rows.specs.Table.{Row}
-use Rattle.lent_rows.specs.Lent.{rowsIn}
+use Rattle.leap_table.specs.rows.Table.{Row}
+use Rattle.leap_table.specs.rows.Lent.{rowsIn}
 use borrow.Author.Needs.{needs}
 use Rattle.ut1_to_utc.proofs.months.month_of_date.Statement.{statement}
 use Rattle.ut1_to_utc.proofs.months.month_of_date.Tie as tie

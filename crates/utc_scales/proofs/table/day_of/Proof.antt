@@ -2,9 +2,9 @@
 use mathlib.Core.Path.{ap, _∙_}
 use mir.Facts.{toZ-ofZ}
 use Rattle.calendar.specs.Gregorian.{gregorianDate}
-use Rattle.tai_utc.specs.Rule.{dayByRule}
-use Rattle.lent_rows.specs.Table.{Row}
-use Rattle.lent_rows.specs.Lent.{rowsIn}
+use Rattle.leap_table.specs.offsets.Rule.{dayByRule}
+use Rattle.leap_table.specs.rows.Table.{Row}
+use Rattle.leap_table.specs.rows.Lent.{rowsIn}
 use Rattle.utc_days.specs.Dates.{offsetsOf}
 use Rattle.utc_days.specs.DateRule.{ruleOn}
 use Rattle.utc_days.proofs.Midnights.{month-fits, day-of-month-fits, handed}

@@ -6,12 +6,12 @@ use lib.IntN.{ℤ}
 use mir.Facts.{toZ-ofZ}
 use Rattle.refusals.specs.Outcome.{onward}
 use Rattle.calendar.specs.Gregorian.{gregorianDate}
-use Rattle.tai_utc.specs.declared.DayByRule.{DayByRule}
-use Rattle.lent_rows.specs.Table.{Row}
-use Rattle.lent_rows.specs.Lent.{rowsIn}
-use Rattle.tai_utc.specs.Rule.{withRule, forget}
-use Rattle.tai_utc.specs.Answers.{dayOffsetsOutcome, dayByRuleOutcome}
-use Rattle.tai_utc.proofs.Rules.{forgets}
+use Rattle.leap_table.specs.declared.offsets.DayByRule.{DayByRule}
+use Rattle.leap_table.specs.rows.Table.{Row}
+use Rattle.leap_table.specs.rows.Lent.{rowsIn}
+use Rattle.leap_table.specs.offsets.Rule.{withRule, forget}
+use Rattle.leap_table.specs.offsets.Answers.{dayOffsetsOutcome, dayByRuleOutcome}
+use Rattle.leap_table.proofs.offsets.Rules.{forgets}
 use Rattle.utc_days.specs.Dates.{offsetsOf}
 use Rattle.utc_days.specs.DateRule.{ruleOn}
 use borrow.Author.Needs.{needs}

@@ -3,9 +3,9 @@ use mathlib.Core.Path.{sym, ap, subst, _∙_}
 use lib.IntN.{ℤ}
 use mir.Facts.{toZ-ofZ}
 use Rattle.calendar.specs.Gregorian.{gregorianDate}
-use Rattle.tai_utc.specs.Answers.{dayOffsetsOutcome}
-use Rattle.lent_rows.specs.Table.{Row}
-use Rattle.lent_rows.specs.Lent.{rowsIn}
+use Rattle.leap_table.specs.offsets.Answers.{dayOffsetsOutcome}
+use Rattle.leap_table.specs.rows.Table.{Row}
+use Rattle.leap_table.specs.rows.Lent.{rowsIn}
 use Rattle.utc_days.specs.Dates.{offsetsOf}
 use Rattle.utc_scales.specs.Known.{RightDay, RightKnown}
 use Rattle.utc_scales.specs.declared.table.Known.{Known}

@@ -6,8 +6,8 @@ use Rattle.utc_scales.specs.declared.utc_tai.PartAnswer.{PartAnswer}
 use mathlib.Core.List.{List}
 use denote.Ref.{now}
 use borrow.Author.Needs.{needs}
-use Rattle.lent_rows.specs.Table.{Row}
-use Rattle.lent_rows.specs.Lent.{rowsIn}
+use Rattle.leap_table.specs.rows.Table.{Row}
+use Rattle.leap_table.specs.rows.Lent.{rowsIn}
 use Rattle.utc_scales.proofs.utc_tai.refined_again.Statement.{statement}
 use Rattle.utc_scales.proofs.utc_tai.refined_again.Tie as tie
 

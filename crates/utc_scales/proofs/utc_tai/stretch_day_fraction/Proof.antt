@@ -2,7 +2,7 @@
 use mathlib.Core.Path.{refl}
 use lib.Ieee.{round, ofBits}
 use Rattle.constants.specs.Constants.{secondsPerDay}
-use Rattle.tai_utc.specs.Leap.{driftRate, leapAmount}
+use Rattle.leap_table.specs.offsets.Leap.{driftRate, leapAmount}
 use Rattle.utc_scales.specs.UtcTai.{stretchDayFraction}
 use Rattle.utc_scales.proofs.utc_tai.stretch_day_fraction.Statement.{statement}
 use Rattle.utc_scales.proofs.utc_tai.stretch_day_fraction.Tie as tie

@@ -11,10 +11,10 @@ use Rattle.calendar.specs.Gregorian.{gregorianDate}
 use Rattle.day_number.specs.Answer.{dayOutcome}
 use Rattle.day_number.proofs.Ranges.{day-range, day-read}
 use Rattle.julian.specs.JulianDate.{julian}
-use Rattle.lent_rows.specs.Table.{Row}
-use Rattle.lent_rows.specs.Lent.{rowsIn}
-use Rattle.tai_utc.specs.Rule.{withRule}
-use Rattle.tai_utc.specs.Answers.{dayByRuleOutcome}
+use Rattle.leap_table.specs.rows.Table.{Row}
+use Rattle.leap_table.specs.rows.Lent.{rowsIn}
+use Rattle.leap_table.specs.offsets.Rule.{withRule}
+use Rattle.leap_table.specs.offsets.Answers.{dayByRuleOutcome}
 use Rattle.utc_days.specs.Dates.{offsetsOf}
 use Rattle.utc_days.specs.DateRule.{ruleOn}
 use Rattle.utc_scales.specs.Known.{ruledPartOutcome, SameDays}
@@ -22,7 +22,7 @@ use Rattle.utc_scales.specs.UtcTai.{taiFromMidnight}
 use Rattle.utc_days.proofs.Midnights.{day-asked}
 use Rattle.utc_days.proofs.Steps.{offset-of-day}
 use Rattle.utc_scales.proofs.Steps.{offsets-first, tai-no-date, tai-no-offsets, tai-of-day}
-use Rattle.tai_utc.proofs.Rules.{apart, refused-apart}
+use Rattle.leap_table.proofs.offsets.Rules.{apart, refused-apart}
 use Rattle.utc_days.proofs.Rules.{rule-of-day}
 use borrow.Author.Needs.{needs}
 use Rattle.utc_scales.proofs.utc_tai.tai_fraction_by_rule.Statement.{statement}

@@ -1,6 +1,6 @@
 -- `utc_scales::utc_tai::tai_to_utc` meets its contract: the table is tested, and its rows are read. Assumes nothing.
 use mathlib.Core.Path.{_∙_}
-use Rattle.lent_rows.proofs.TablesTaken.{turned-away, taken}
+use Rattle.leap_table.proofs.rows.TablesTaken.{turned-away, taken}
 use Rattle.scales.specs.Scales.{utcOutcome}
 use borrow.Author.Needs.{needs}
 use Rattle.utc_scales.proofs.utc_tai.tai_to_utc.Statement.{statement}

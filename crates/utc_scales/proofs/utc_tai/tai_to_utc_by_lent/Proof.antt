@@ -1,8 +1,8 @@
 -- `utc_scales::utc_tai::tai_to_utc_by_lent` meets its contract. Assumes nothing.
 use mathlib.Core.Path.{sym, ap, _∙_}
 use Rattle.julian.specs.JulianDate.{julianOutcome}
-use Rattle.lent_rows.specs.Table.{Row}
-use Rattle.lent_rows.specs.Lent.{rowsIn}
+use Rattle.leap_table.specs.rows.Table.{Row}
+use Rattle.leap_table.specs.rows.Lent.{rowsIn}
 use Rattle.scales.specs.Scales.{utcOutcome}
 use Rattle.utc_scales.specs.UtcTai.{refineUtcFraction, taiToUtc}
 use Rattle.utc_days.proofs.Steps.{changes}

@@ -1,8 +1,8 @@
 -- `utc_scales::utc_tai::tai_to_utc_by_rows` meets its contract: by the table's two arrays. Assumes nothing.
 use mathlib.Core.Path.{ap, _∙_}
 use mathlib.Core.List.{List}
-use Rattle.lent_rows.specs.Table.{Row}
-use Rattle.lent_rows.proofs.ByParts.{rows-in}
+use Rattle.leap_table.specs.rows.Table.{Row}
+use Rattle.leap_table.proofs.rows.ByParts.{rows-in}
 use Rattle.utc_scales.specs.UtcTai.{taiToUtc}
 use borrow.Author.Needs.{needs}
 use Rattle.utc_scales.proofs.utc_tai.tai_to_utc_by_rows.Statement.{statement}

@@ -1,9 +1,9 @@
 -- `utc_scales::utc_tai::utc_to_tai` meets its contract: the table is tested, and its rows are read. Assumes nothing.
 use mathlib.Core.Path.{ap, _∙_}
 use mathlib.Core.List.{List}
-use Rattle.lent_rows.specs.Table.{Row}
-use Rattle.lent_rows.proofs.ByParts.{rows-in}
-use Rattle.lent_rows.proofs.TablesTaken.{turned-away, taken}
+use Rattle.leap_table.specs.rows.Table.{Row}
+use Rattle.leap_table.proofs.rows.ByParts.{rows-in}
+use Rattle.leap_table.proofs.rows.TablesTaken.{turned-away, taken}
 use Rattle.utc_scales.specs.ByRule.{utcToTaiByRule, taiByRuleOutcome}
 use borrow.Author.Needs.{needs}
 use Rattle.utc_scales.proofs.utc_tai.utc_to_tai.Statement.{statement}

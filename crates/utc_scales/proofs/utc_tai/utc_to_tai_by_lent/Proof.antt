@@ -3,8 +3,8 @@ use mathlib.Core.Path.{_≡_, sym, ap, subst, _∙_}
 use mathlib.Core.List.{List}
 use denote.Ref.{now}
 use Rattle.refusals.specs.Outcome.{answer}
-use Rattle.lent_rows.specs.Table.{Row}
-use Rattle.lent_rows.specs.Lent.{rowsIn}
+use Rattle.leap_table.specs.rows.Table.{Row}
+use Rattle.leap_table.specs.rows.Lent.{rowsIn}
 use Rattle.refusals.proofs.Onward.{went, stopped}
 use Rattle.utc_days.specs.declared.Parts.{Parts}
 use Rattle.utc_scales.specs.declared.utc_tai.RuledPart.{RuledPart}

@@ -1,0 +1,65 @@
+-- `leap_table::judging::in_bytes::bytes_refusal` meets its contract. Assumes nothing.
+use Prim.Native.Nat.{_/_, _%_}
+use native.Mathlib.Omega.{arith}
+use mathlib.Core.Path.{_≡_, refl, sym, ap, subst, _∙_}
+use mathlib.Core.Bool.{Bool, true, false}
+use lib.Dec.{eqb}
+use lib.ListN.{length}
+use borrow.Author.Tests.{eq-eqb, ne-eqb}
+use Rattle.leap_table.specs.judging.Judging.{judgedList}
+use Rattle.leap_table.specs.judging.Lists.{datesFrom, tripleIn}
+use Rattle.leap_table.proofs.judging.Judges.{how-many}
+use Rattle.leap_table.proofs.judging.Refused.{broken, no-places, by-dates, table-away, table-taken}
+use borrow.Author.Needs.{needs}
+use Rattle.leap_table.proofs.judging.in_bytes.bytes_refusal.Statement.{statement}
+use Rattle.leap_table.proofs.judging.in_bytes.bytes_refusal.Tie as tie
+
+table-refusal-requires : tie.Need-table-refusal-requires
+table-refusal-requires c κs = search needs
+
+returns : tie.Need-returns
+returns c =
+    let r = c .before in
+    let s = r .before .before .args in
+    let l = s .dates .now in
+    table-away (s .table) (eqb (length l % 12) 0) (datesFrom (tripleIn l) 0 (length l / 12)) (s .room / 8) (r .table-refusal .result) (r .table-refusal .ensures) (c .if1 .taken)
+
+returns-2 : tie.Need-returns-2
+returns-2 c =
+    let i = c .before in
+    let r = i .before in
+    let s = r .before .before .args in
+    let l = s .dates .now in
+    let d = datesFrom (tripleIn l) 0 (length l / 12) in
+    table-taken (s .table) (eqb (length l % 12) 0) d (s .room / 8) (r .table-refusal .result) (r .table-refusal .ensures) (i .if1 .left) _
+    (broken d (s .room / 8) ∙ ap (λ (b : Bool). judgedList b d (s .room / 8)) (sym (ne-eqb (length l % 12) 0 (c .if2 .taken))))
+
+returns-3 : tie.Need-returns-3
+returns-3 c =
+    let k = c .before in
+    let i = k .before in
+    let r = i .before in
+    let s = r .before .before .args in
+    let l = s .dates .now in
+    let d = datesFrom (tripleIn l) 0 (length l / 12) in
+    table-taken (s .table) (eqb (length l % 12) 0) d (s .room / 8) (r .table-refusal .result) (r .table-refusal .ensures) (i .if1 .left) _
+    (no-places d (s .room / 8) (length l / 12) (how-many (tripleIn l) (length l / 12) 0) (c .if3 .taken) ∙ ap (λ (b : Bool). judgedList b d (s .room / 8)) (sym (eq-eqb (length l % 12) 0 (k .if2 .left))))
+
+judge-all-requires : tie.Need-judge-all-requires
+judge-all-requires c κs = search needs
+
+returns-4 : tie.Need-returns-4
+returns-4 c =
+    let q = c .before in
+    let k = q .before in
+    let i = k .before in
+    let r = i .before in
+    let s = r .before .before .args in
+    let l = s .dates .now in
+    let d = datesFrom (tripleIn l) 0 (length l / 12) in
+    table-taken (s .table) (eqb (length l % 12) 0) d (s .room / 8) (r .table-refusal .result) (r .table-refusal .ensures) (i .if1 .left) _
+    (by-dates d (s .room / 8) (length l / 12) (how-many (tripleIn l) (length l / 12) 0) (q .if3 .left) (c .judge-all .result) (c .judge-all .ensures) ∙ ap (λ (b : Bool). judgedList b d (s .room / 8)) (sym (eq-eqb (length l % 12) 0 (k .if2 .left))))
+
+pub bytes-refusal-spec : {M : Type 1} → statement M
+bytes-refusal-spec =
+    tie.close (tie.spec table-refusal-requires returns returns-2 returns-3 judge-all-requires returns-4)

@@ -1,0 +1,24 @@
+-- `leap_table::offsets::fixed_rows::rate_at` meets its contract: each constant of the table is the float nearest to its decimal. Assumes nothing.
+use mathlib.Core.Path.{ap, _∙_}
+use borrow.Author.Needs.{needs}
+use lib.ListN.{take}
+use lib.Seq.{getD-take}
+use lib.Ieee.{round, ofBits}
+use Rattle.leap_table.specs.rows.Table.{fixed, none}
+use Rattle.leap_table.specs.offsets.Offset.{rateOf}
+use Rattle.leap_table.proofs.rows.Rows.{place}
+use Rattle.leap_table.proofs.offsets.fixed_rows.rate_at.Statement.{statement}
+use Rattle.leap_table.proofs.offsets.fixed_rows.rate_at.Tie as tie
+
+mul-result : tie.Need-mul-result
+mul-result c = search needs
+
+array-read-result : tie.Need-array-read-result
+array-read-result c = search needs
+
+returns : tie.Need-returns
+unfolding fixed rateOf round ofBits
+returns c = place rateOf (take 14 fixed) (c .args .i) (c .pre) ∙ ap rateOf (getD-take 14 fixed (c .args .i) none (c .pre))
+
+pub rate-at-spec : {M : Type 1} → statement M
+rate-at-spec = tie.close (tie.spec mul-result array-read-result returns)

@@ -1,0 +1,34 @@
+-- `leap_table::offsets::lent::seconds_at` meets its contract: whole seconds are their own float. Assumes nothing.
+use mathlib.Core.Path.{ap, sym, _∙_}
+use mathlib.Core.List.{[]}
+use lib.IntN.{pos}
+use lib.ListN.{getD}
+use denote.Ref.{now}
+use borrow.Author.Needs.{needs}
+use Rattle.leap_table.specs.rows.Lent.{lentTable}
+use Rattle.leap_table.specs.offsets.Offset.{wholeF}
+use Rattle.leap_table.proofs.rows.Naturals.{read-natural}
+use Rattle.leap_table.proofs.offsets.ByParts.{lent-seconds}
+use Rattle.leap_table.proofs.offsets.lent.seconds_at.Statement.{statement}
+use Rattle.leap_table.proofs.offsets.lent.seconds_at.Tie as tie
+
+mul-natural : tie.Need-mul-natural
+mul-natural c = search needs
+
+element-copy-out-natural : tie.Need-element-copy-out-natural
+element-copy-out-natural c = search needs
+
+natural-requires : tie.Need-natural-requires
+natural-requires c κs = search needs
+
+int-to-float-result : tie.Need-int-to-float-result
+int-to-float-result c = search needs
+
+returns : tie.Need-returns
+returns c =
+    let n = c .before in
+    let s = n .before .before .args in
+    ap wholeF (n .natural .ensures .0 ∙ read-natural (getD (now (s .seconds)) (s .i) (pos 0)) (record { sfits = n .before .natural-arg .given })) ∙ sym (lent-seconds (lentTable 0 0 [] (now (s .seconds))) (s .i))
+
+pub seconds-at-spec : {M : Type 1} → statement M
+seconds-at-spec = tie.close (tie.spec mul-natural element-copy-out-natural natural-requires int-to-float-result returns)

@@ -1,0 +1,74 @@
+-- `leap_table::offsets::look_up::any_rows_reached` meets its contract: the lent rows, and where none has begun the fixed ones. Assumes nothing.
+use mathlib.Core.Path.{_≡_, refl, ap, sym, _∙_}
+use mathlib.Core.List.{List, []}
+use Prim.Native.Nat.{ℕ, zero, suc, _+_, _≤_}
+use native.Mathlib.Omega.{arith}
+use denote.Ref.{now}
+use lib.IntN.{ℤ}
+use borrow.Author.Needs.{needs}
+use Rattle.leap_table.specs.rows.Table.{fixed, starts, reached}
+use Rattle.leap_table.specs.rows.Lent.{least, lentSize, lentTable, rowsIn, rowsTo}
+use Rattle.leap_table.specs.offsets.Plain.{byFound}
+use Rattle.leap_table.proofs.rows.Tables.{least-right}
+use Rattle.leap_table.proofs.rows.ByParts.{lent-size, starts-alike}
+use Rattle.leap_table.proofs.offsets.look_up.any_rows_reached.Statement.{statement}
+use Rattle.leap_table.proofs.offsets.look_up.any_rows_reached.Tie as tie
+
+-- what the first k lent rows say is what the table says, whatever its seconds
+of-table : (size : ℕ) (m s : List ℤ) (n k : ℕ) → k ≡ least size 16 → reached (starts (rowsTo (lentTable 0 0 m []) k)) n ≡ reached (starts (rowsIn size m s)) n
+of-table size m s n k e =
+    ap (λ (l : List ℕ). reached l n) (starts-alike 0 0 size size s m [] k)
+    ∙ ap (λ (j : ℕ). reached (starts (rowsTo (lentTable size size m s) j)) n) (e ∙ sym (lent-size size m s))
+
+by-none : (n k : ℕ) → k ≡ 0 → byFound n k ≡ reached (starts fixed) n
+by-none n zero e = refl
+by-none n (suc k) e = absurd (omega arith)
+
+by-some : (n k : ℕ) → (k ≡ 0 → ⊥) → byFound n k ≡ 42 + k
+by-some n zero e = absurd (e refl)
+by-some n (suc k) e = refl
+
+at-most-16-requires : tie.Need-at-most-16-requires
+at-most-16-requires c κs = search needs
+
+cast-lent-rows-reached : tie.Need-cast-lent-rows-reached
+cast-lent-rows-reached c = search needs
+
+lent-rows-reached-requires : tie.Need-lent-rows-reached-requires
+lent-rows-reached-requires c κs = search needs
+
+fixed-rows-reached-requires : tie.Need-fixed-rows-reached-requires
+fixed-rows-reached-requires c κs = search needs
+
+returns : tie.Need-returns
+returns c =
+    let f = c .before .before in
+    let s = f .before .before .args in
+    let r = c .fixed-rows-reached .ensures in
+    (λ seconds. r .0 ∙ sym (by-none (s .n) _ (c .before .if1 .taken)) ∙ f .lent-rows-reached .ensures .0 ∙ of-table (s .size) (now (s .months)) seconds (s .n) _ (f .before .at-most-16 .ensures .0), omega (arith, r .1))
+
+cast-result : tie.Need-cast-result
+cast-result c = search needs
+
+add-result : tie.Need-add-result
+add-result c = search needs
+
+returns-2 : tie.Need-returns-2
+returns-2 c =
+    let f = c .before in
+    let s = f .before .before .args in
+    let e = f .before .at-most-16 .ensures .0 in
+    (λ seconds. sym (by-some (s .n) _ (c .if1 .left)) ∙ f .lent-rows-reached .ensures .0 ∙ of-table (s .size) (now (s .months)) seconds (s .n) _ e, omega (arith, f .lent-rows-reached .ensures .1, e))
+
+pub any-rows-reached-spec : {M : Type 1} → statement M
+any-rows-reached-spec =
+    tie.close
+    (tie.spec
+    at-most-16-requires
+    cast-lent-rows-reached
+    lent-rows-reached-requires
+    fixed-rows-reached-requires
+    returns
+    cast-result
+    add-result
+    returns-2)

@@ -1,0 +1,36 @@
+-- `leap_table::offsets::look_up::table_rows_reached` meets its contract: a table that lends no rows is the fixed one. Assumes nothing.
+use mathlib.Core.Path.{_≡_, refl, ap, sym, _∙_}
+use mathlib.Core.List.{List, []}
+use Prim.Native.Nat.{ℕ, _+_, _≤_}
+use native.Mathlib.Omega.{arith}
+use denote.Ref.{now}
+use lib.IntN.{ℤ}
+use borrow.Author.Needs.{needs}
+use Rattle.leap_table.specs.rows.Table.{fixed, starts, reached}
+use Rattle.leap_table.specs.rows.Lent.{least, lentTable, rowsIn, rowsTo}
+use Rattle.leap_table.proofs.rows.ByParts.{lent-size}
+use Rattle.leap_table.proofs.offsets.look_up.table_rows_reached.Statement.{statement}
+use Rattle.leap_table.proofs.offsets.look_up.table_rows_reached.Tie as tie
+
+no-lent : (size : ℕ) (m s : List ℤ) (n : ℕ) → size ≡ 0 → reached (starts fixed) n ≡ reached (starts (rowsIn size m s)) n
+unfolding rowsTo
+no-lent size m s n e = ap (λ (k : ℕ). reached (starts (rowsTo (lentTable size size m s) k)) n) (sym (lent-size size m s ∙ ap (λ (k : ℕ). least k 16) e))
+
+fixed-rows-reached-requires : tie.Need-fixed-rows-reached-requires
+fixed-rows-reached-requires c κs = search needs
+
+returns : tie.Need-returns
+returns c =
+    let s = c .before .before .args in
+    let r = c .fixed-rows-reached .ensures in
+    (λ seconds. r .0 ∙ no-lent (s .size) (now (s .months)) seconds (s .n) (c .before .if1 .taken), omega (arith, r .1))
+
+any-rows-reached-requires : tie.Need-any-rows-reached-requires
+any-rows-reached-requires c κs = search needs
+
+returns-2 : tie.Need-returns-2
+returns-2 c = c .any-rows-reached .ensures
+
+pub table-rows-reached-spec : {M : Type 1} → statement M
+table-rows-reached-spec =
+    tie.close (tie.spec fixed-rows-reached-requires returns any-rows-reached-requires returns-2)

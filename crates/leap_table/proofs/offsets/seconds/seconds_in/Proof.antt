@@ -1,0 +1,95 @@
+-- `leap_table::offsets::seconds::seconds_in` meets its contract: the seconds are counted in the fixed rows and read in the lent ones. Assumes nothing.
+use mathlib.Core.Path.{_≡_, ap, sym, subst, _∙_}
+use mathlib.Core.List.{List}
+use Prim.Native.Nat.{ℕ, _+_, _-_, _≤_}
+use native.Mathlib.Omega.{arith}
+use lib.IntN.{pos}
+use lib.ListN.{getD}
+use borrow.Author.Needs.{needs}
+use Rattle.leap_table.specs.rows.Table.{Row, starts, reached}
+use Rattle.leap_table.specs.rows.Lent.{least, lentSize, rowsOf}
+use Rattle.leap_table.proofs.rows.Naturals.{read-natural}
+use Rattle.leap_table.proofs.rows.Tables.{at-most-16}
+use Rattle.leap_table.proofs.rows.ByParts.{rows-in}
+use Rattle.leap_table.proofs.offsets.TableYears.{whole-rows-of}
+use Rattle.leap_table.proofs.offsets.WholeSeconds.{in-fixed-row, in-lent-row}
+use Rattle.leap_table.proofs.offsets.seconds.seconds_in.Statement.{statement}
+use Rattle.leap_table.proofs.offsets.seconds.seconds_in.Tie as tie
+
+module _ (c : tie.After-table-rows-reached) where
+  rows-are : let s = c .before .before .before .before in c .table-rows-reached .result ≡ reached (starts (rowsOf (s .args .t1))) (s .args .month)
+  rows-are =
+      let z = c .before .before .before in
+      let a = z .before .args in
+      c .table-rows-reached .ensures .0 (a .t1 .seconds) ∙ ap (λ (rows : List Row). reached (starts rows) (a .month)) (rows-in (a .t1) (z .size-of .result) (z .size-of .ensures))
+
+  few : let s = c .before .before .before .before in c .table-rows-reached .result ≤ 42 + lentSize (s .args .t1)
+  unfolding lentSize
+  few =
+      let z = c .before .before .before in
+      subst (λ (n : ℕ). c .table-rows-reached .result ≤ 42 + least n 16) (z .size-of .ensures) (c .table-rows-reached .ensures .1)
+
+  enough : 15 ≤ c .table-rows-reached .result
+  enough = let s = c .before .before .before .before in omega (arith, rows-are, whole-rows-of (s .args .t1) (s .args .month) (s .pre))
+
+size-of-requires : tie.Need-size-of-requires
+size-of-requires c κs = search needs
+
+table-rows-reached-requires : tie.Need-table-rows-reached-requires
+table-rows-reached-requires c κs = search needs
+
+sub-result : tie.Need-sub-result
+sub-result c = omega (arith, enough (c .before))
+
+cast-result : tie.Need-cast-result
+cast-result c = search needs
+
+returns : tie.Need-returns
+returns c =
+    let r = c .before in
+    let s = r .before .before .before .before in
+    (in-fixed-row (s .args .t1) (s .args .month) (r .table-rows-reached .result) (rows-are r) (enough r) (c .if1 .taken), omega (arith, c .if1 .taken))
+
+sub-i : tie.Need-sub-i
+sub-i c = search needs
+
+mul-natural : tie.Need-mul-natural
+mul-natural c =
+    let r = c .before in
+    let z = r .before .before .before in
+    omega (arith, few r, at-most-16 (z .before .args .t1))
+
+element-copy-out-natural : tie.Need-element-copy-out-natural
+element-copy-out-natural c =
+    let r = c .before in
+    let z = r .before .before .before in
+    omega (arith, few r, at-most-16 (z .before .args .t1))
+
+natural-requires : tie.Need-natural-requires
+natural-requires c κs = search needs
+
+returns-2 : tie.Need-returns-2
+returns-2 c =
+    let i = c .before .before in
+    let r = i .before in
+    let s = r .before .before .before .before in (
+      c .natural .ensures .0
+          ∙ read-natural (getD (s .args .t1 .seconds) (r .table-rows-reached .result - 43) (pos 0)) (record { sfits = c .before .natural-arg .given })
+          ∙ in-lent-row (s .args .t1) (s .args .month) (r .table-rows-reached .result) (rows-are r) (enough r) (i .if1 .left) (few r),
+      c .natural .ensures .1,
+    )
+
+pub seconds-in-spec : {M : Type 1} → statement M
+seconds-in-spec =
+    tie.close
+    (tie.spec
+    size-of-requires
+    table-rows-reached-requires
+    sub-result
+    cast-result
+    returns
+    sub-i
+    mul-natural
+    element-copy-out-natural
+    natural-requires
+    returns-2)

@@ -1,0 +1,72 @@
+-- `leap_table::offsets::walk_rows::row_start` meets its contract: a row stands in the fixed table or among the lent ones, or there is none. Assumes nothing.
+use mathlib.Core.Path.{_∙_}
+use Prim.Native.Nat.{_-_}
+use native.Mathlib.Omega.{arith}
+use lib.IntN.{pos}
+use lib.ListN.{getD}
+use borrow.Author.Needs.{needs}
+use Rattle.leap_table.specs.rows.Table.{fixed}
+use Rattle.leap_table.proofs.rows.Naturals.{read-natural}
+use Rattle.leap_table.proofs.offsets.Forward.{start-fixed, start-lent, start-past}
+use Rattle.leap_table.proofs.offsets.walk_rows.row_start.Statement.{statement}
+use Rattle.leap_table.proofs.offsets.walk_rows.row_start.Tie as tie
+
+slice-aggregate-month-at : tie.Need-slice-aggregate-month-at
+slice-aggregate-month-at c = search needs
+
+month-at-requires : tie.Need-month-at-requires
+month-at-requires c κs = search needs
+
+returns : tie.Need-returns
+unfolding fixed
+returns c =
+    let f = c .before .before in
+    let s = f .before .args in
+    c .month-at .ensures ∙ start-fixed (s .t1) (s .i) (f .if1 .taken)
+
+lent-size-requires : tie.Need-lent-size-requires
+lent-size-requires c κs = search needs
+
+mul-natural : tie.Need-mul-natural
+mul-natural c = search needs
+
+element-copy-out-natural : tie.Need-element-copy-out-natural
+element-copy-out-natural c = search needs
+
+natural-requires : tie.Need-natural-requires
+natural-requires c κs = search needs
+
+cast-result : tie.Need-cast-result
+cast-result c = search needs
+
+returns-2 : tie.Need-returns-2
+returns-2 c =
+    let q = c .before .before in
+    let n = q .before in
+    let f = n .before in
+    let s = f .before .args in
+    c .natural .ensures .0
+    ∙ read-natural (getD (s .t1 .months) (s .i - 42) (pos 0)) (record { sfits = c .before .natural-arg .given })
+    ∙ start-lent (s .t1) (s .i) (f .if1 .left) (omega (arith, q .if2 .taken, n .lent-size .ensures .0))
+
+returns-3 : tie.Need-returns-3
+returns-3 c =
+    let n = c .before in
+    let f = n .before in
+    let s = f .before .args in
+    start-past (s .t1) (s .i) (f .if1 .left) (omega (arith, c .if2 .left, n .lent-size .ensures .0))
+
+pub row-start-spec : {M : Type 1} → statement M
+row-start-spec =
+    tie.close
+    (tie.spec
+    slice-aggregate-month-at
+    month-at-requires
+    returns
+    lent-size-requires
+    mul-natural
+    element-copy-out-natural
+    natural-requires
+    cast-result
+    returns-2
+    returns-3)

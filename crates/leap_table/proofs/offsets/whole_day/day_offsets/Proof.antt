@@ -1,0 +1,32 @@
+-- `leap_table::offsets::whole_day::day_offsets` meets its contract: the table is tested, and its rows are read. Assumes nothing.
+use mathlib.Core.Path.{_≡_, _∙_}
+use mir.Facts.{toZ-ofZ}
+use borrow.Author.Needs.{needs}
+use Rattle.leap_table.specs.rows.Lent.{rowsOf}
+use Rattle.leap_table.specs.offsets.Leap.{dayOffsets}
+use Rattle.leap_table.specs.offsets.Answers.{dayOffsetsOutcome}
+use Rattle.leap_table.proofs.rows.TablesTaken.{turned-away, taken}
+use Rattle.leap_table.proofs.offsets.whole_day.day_offsets.Statement.{statement}
+use Rattle.leap_table.proofs.offsets.whole_day.day_offsets.Tie as tie
+
+table-refusal-requires : tie.Need-table-refusal-requires
+table-refusal-requires c κs = search needs
+
+returns : tie.Need-returns
+unfolding dayOffsetsOutcome
+returns c = let r = c .before in turned-away (r .before .args .table) (r .table-refusal .result) (r .table-refusal .ensures) _ (c .if1 .taken)
+
+day-offsets-by-rows-requires : tie.Need-day-offsets-by-rows-requires
+day-offsets-by-rows-requires c κs = search needs
+
+returns-2 : tie.Need-returns-2
+returns-2 c =
+    let r = c .before .before in
+    let s = r .before in
+    c .day-offsets-by-rows .ensures
+    ∙ (λ i. dayOffsets (rowsOf (s .args .table)) (toZ-ofZ (s .fits .year) i) (toZ-ofZ (s .fits .month) i) (toZ-ofZ (s .fits .day) i))
+    ∙ taken (s .args .table) (r .table-refusal .result) (r .table-refusal .ensures) _ (c .before .if1 .left)
+
+pub day-offsets-spec : {M : Type 1} → statement M
+day-offsets-spec =
+    tie.close (tie.spec table-refusal-requires returns day-offsets-by-rows-requires returns-2)

@@ -1,0 +1,46 @@
+-- `leap_table::offsets::whole_day::day_offsets_by_rows` meets its contract: the offsets by the table's two arrays, without the rule. Assumes nothing.
+use mathlib.Core.Path.{_≡_, ap, sym, _∙_}
+use mir.Facts.{toZ-ofZ}
+use borrow.Author.Needs.{needs}
+use Rattle.refusals.specs.Outcome.{onward}
+use Rattle.leap_table.specs.declared.offsets.DayByRule.{DayByRule}
+use Rattle.leap_table.specs.rows.Lent.{rowsOf}
+use Rattle.leap_table.specs.offsets.Leap.{dayOffsets}
+use Rattle.leap_table.specs.offsets.Rule.{forget, dayByRule}
+use Rattle.leap_table.specs.offsets.Answers.{dayOffsetsOutcome, dayByRuleOutcome}
+use Rattle.leap_table.proofs.rows.ByParts.{rows-in}
+use Rattle.leap_table.proofs.offsets.Rules.{day-forgets}
+use Rattle.leap_table.proofs.offsets.whole_day.day_offsets_by_rows.Statement.{statement}
+use Rattle.leap_table.proofs.offsets.whole_day.day_offsets_by_rows.Tie as tie
+
+called : (v : tie.After-day-offsets-by-lent) → let s = v .before .before .before .before .before .args in forget (dayByRuleOutcome (v .day-offsets-by-lent .result)) ≡ dayOffsets (rowsOf (s .t4)) (s .year) (s .month) (s .day)
+called v =
+    let z = v .before .before .before .before in
+    let s = z .before in
+    let rows = rows-in (s .args .t4) (z .size-of .result) (z .size-of .ensures) in
+    ap forget (v .day-offsets-by-lent .ensures ∙ (λ i. dayByRule (rows i) (toZ-ofZ (s .fits .year) i) (toZ-ofZ (s .fits .month) i) (toZ-ofZ (s .fits .day) i)))
+    ∙ day-forgets (rowsOf (s .args .t4)) (s .args .year) (s .args .month) (s .args .day)
+
+size-of-requires : tie.Need-size-of-requires
+size-of-requires c κs = search needs
+
+day-offsets-by-lent-requires : tie.Need-day-offsets-by-lent-requires
+day-offsets-by-lent-requires c κs = search needs
+
+enum-known-number : tie.Need-enum-known-number
+enum-known-number c = search needs
+
+enum-known-o : tie.Need-enum-known-o
+enum-known-o c = search needs
+
+returns : tie.Need-returns
+unfolding dayOffsetsOutcome dayByRuleOutcome forget onward
+returns c = ap (λ (x : DayByRule). forget (dayByRuleOutcome x)) (sym (c .before .number .given .1)) ∙ called (c .before .before .before)
+
+returns-2 : tie.Need-returns-2
+unfolding dayOffsetsOutcome dayByRuleOutcome forget onward
+returns-2 c = ap (λ (x : DayByRule). forget (dayByRuleOutcome x)) (sym (c .before .o .given .1)) ∙ called (c .before .before .before)
+
+pub day-offsets-by-rows-spec : {M : Type 1} → statement M
+day-offsets-by-rows-spec =
+    tie.close (tie.spec size-of-requires day-offsets-by-lent-requires enum-known-number enum-known-o returns returns-2)

@@ -1,0 +1,22 @@
+-- `leap_table::offsets::whole_day::next_rows_reached` meets its contract: the same month has the same rows. Assumes nothing.
+use mathlib.Core.Path.{ap, sym, _∙_}
+use Rattle.leap_table.specs.rows.Table.{starts, reached}
+use Rattle.leap_table.specs.rows.Lent.{rowsIn}
+use denote.Ref.{now}
+use borrow.Author.Needs.{needs}
+use Rattle.leap_table.proofs.offsets.whole_day.next_rows_reached.Statement.{statement}
+use Rattle.leap_table.proofs.offsets.whole_day.next_rows_reached.Tie as tie
+
+returns : tie.Need-returns
+returns c =
+    let s = c .before in
+    (λ seconds. s .pre .0 seconds ∙ ap (reached (starts (rowsIn (s .args .size) (now (s .args .months)) seconds))) (sym (c .if1 .taken)), s .pre .1)
+
+any-rows-reached-requires : tie.Need-any-rows-reached-requires
+any-rows-reached-requires c κs = search needs
+
+returns-2 : tie.Need-returns-2
+returns-2 c = c .any-rows-reached .ensures
+
+pub next-rows-reached-spec : {M : Type 1} → statement M
+next-rows-reached-spec = tie.close (tie.spec returns any-rows-reached-requires returns-2)

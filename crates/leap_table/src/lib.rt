@@ -1,0 +1,5 @@
+// leap_table, in modules.
+pub mod judging;
+pub mod offsets;
+pub mod rows;
+pub mod walk;

@@ -1,0 +1,59 @@
+// The announced rows that a caller lends after the fixed ones of the table of TAI-UTC, and the test of such a table: document 02, item 8. They stand below the look-ups of
+// `leap_table::offsets`, so that each is proved without the other.
+ghost use mathlib.Core.Path.{_≡_};
+ghost use lib.ListN.{length};
+ghost use Rattle.refusals.specs.Outcome.{answer, onward};
+ghost use Rattle.leap_table.specs.rows.Table.{fixed};
+ghost use Rattle.leap_table.specs.rows.Lent.{tableOf};
+ghost use Rattle.leap_table.specs.rows.Answers.{rowsOutcome};
+
+mod lent;
+
+pub use lent::at_most_16;
+pub use lent::lent_refusal;
+pub use lent::natural;
+pub use lent::size_of;
+pub use lent::table_refusal;
+
+// The rows that a caller lends after the fixed ones: how many by each size, their month starts (12 × year + month - 1) and their whole seconds. Places past the size
+// are not read. A call that ends in `_by_rows` takes the rows of such a table, which is tested elsewhere; one that ends in `_by_lent` takes one size and the two arrays by
+// reference, at most 16 rows, so that nothing is copied from call to call.
+pub struct LentRows {
+    pub months_size: u32,
+    pub seconds_size: u32,
+    pub months: [i32; 16],
+    pub seconds: [i32; 16],
+}
+
+// How many rows the fixed table has.
+pub const FIXED_ROWS: u32 = 42;
+
+// How many rows a table has, or the number of the refusal.
+pub enum RowsAnswer {
+    Rows(u32),
+    Refused(u32),
+}
+
+// No lent rows: the table is the fixed one.
+pub fn no_rows() -> LentRows
+    ensures { λ r. ⌜ tableOf r ≡ answer fixed ⌝ }
+{
+    LentRows {
+        months_size: 0,
+        seconds_size: 0,
+        months: [0; 16],
+        seconds: [0; 16],
+    }
+}
+
+// How many rows a table has, the fixed ones included: 42 to 58. Refusals in order: 20 the sizes, 21 a row not later than the one before, 22 a step other than one
+// second up or down.
+pub fn check_table(table: LentRows) -> RowsAnswer
+    ensures { λ r. ⌜ rowsOutcome r ≡ onward (tableOf table) (λ rows. answer (length rows)) ⌝ }
+{
+    let number = table_refusal(table);
+    if number != 0 {
+        return RowsAnswer::Refused(number);
+    }
+    RowsAnswer::Rows(FIXED_ROWS + table.months_size)
+}

@@ -1,9 +1,0 @@
--- The outcome that each case of the answer enum stands for. Written from document 01, "Refusals by number", and document 02, item 8. Assumes nothing.
-use Prim.Native.Nat.{ℕ}
-use Rattle.refusals.specs.Outcome.{Outcome, answer, refusal}
-use Rattle.lent_rows.specs.declared.RowsAnswer.{RowsAnswer}
-use Rattle.lent_rows.specs.declared.RowsAnswer.the-variants as Rows
-
-unfoldable pub rowsOutcome : RowsAnswer → Outcome ℕ
-rowsOutcome (Rows.Rows n) = answer n
-rowsOutcome (Rows.Refused number) = refusal number
