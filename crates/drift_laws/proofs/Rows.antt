@@ -20,7 +20,7 @@ use Rattle.leap_table.specs.rows.Table.{Row, fixed, starts, reached, monthNumbe
 use Rattle.leap_table.specs.offsets.Offset.{rowAt}
 use Rattle.leap_table.proofs.rows.Rows.{at}
 use Rattle.leap_table.proofs.offsets.Years.{one-row, drift-rows}
-use Rattle.drift_days.proofs.Tests.{then, then-left, then-right}
+use Rattle.leap_days.proofs.drift.Tests.{then, then-left, then-right}
 use Rattle.leap_days.specs.Formula.{NearFormula}
 use Rattle.drift_laws.specs.Drift.{rowOn, NoStep}
 use Rattle.drift_laws.proofs.Days.{year-of}

@@ -24,9 +24,9 @@ use Rattle.leap_table.specs.declared.offsets.DayOffsets.{DayOffsets}
 use Rattle.leap_table.proofs.offsets.At.{same-three}
 use Rattle.leap_table.proofs.offsets.Years.{before-1960}
 use Rattle.time_of_day.specs.ExactTime.{leap1959}
-use Rattle.drift_days.proofs.Tests.{each}
-use Rattle.drift_days.proofs.Drift.{oneDay, dayTest, daysTest, rowsTest, monthTest}
-use Rattle.drift_days.proofs.Each.{all-months}
+use Rattle.leap_days.proofs.drift.Tests.{each}
+use Rattle.leap_days.proofs.drift.Drift.{oneDay, dayTest, daysTest, rowsTest, monthTest}
+use Rattle.leap_days.proofs.drift.Each.{all-months}
 use Rattle.leap_days.proofs.Months.{next-month-number, next-month-early}
 use Rattle.leap_days.proofs.Quick.{Step, test-is, quick-drift, quick-any}
 use Rattle.leap_days.proofs.Whole.{Both}

@@ -34,7 +34,7 @@ use Rattle.leap_table.proofs.rows.Rows.{at}
 use Rattle.leap_table.proofs.offsets.At.{drifting}
 use Rattle.leap_table.proofs.offsets.Years.{one-row, drift-rows}
 use Rattle.leap_table.proofs.offsets.Offsets.{offset-came, offset-in-day}
-use Rattle.drift_days.proofs.Tests.{then, then-left, then-right}
+use Rattle.leap_days.proofs.drift.Tests.{then, then-left, then-right}
 use Rattle.leap_days.specs.Formula.{NearFormula}
 
 -- ---- the float nearest to n / d is within 2 ^ i units of 2 ^ -90 of it, where it is below 2 ^ (54 + i) of them

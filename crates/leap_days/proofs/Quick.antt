@@ -1,4 +1,4 @@
--- The offsets and leaps that `drift_days` computes are those of the definition.
+-- The offsets and leaps that `leap_days::drift` computes are those of the definition.
 -- Assumes nothing.
 use mathlib.Core.Path.{_≡_, refl, ap, sym, subst, _∙_}
 use mathlib.Core.Bool.{Bool, true, false, not}
@@ -16,9 +16,9 @@ use Rattle.leap_table.specs.declared.offsets.DayOffsets.{DayOffsets}
 use Rattle.leap_table.proofs.rows.Rows.{drifts}
 use Rattle.leap_table.proofs.offsets.At.{drifting, steady}
 use Rattle.leap_table.proofs.offsets.Years.{one-row, drift-rows, whole-rows, most-rows}
-use Rattle.drift_days.specs.Small.{small}
-use Rattle.drift_days.proofs.Tests.{then-left, then-right, sameF, same-float}
-use Rattle.drift_days.proofs.Drift.{qby, qleap, qamount, leapTest}
+use Rattle.leap_days.specs.drift.Small.{small}
+use Rattle.leap_days.proofs.drift.Tests.{then-left, then-right, sameF, same-float}
+use Rattle.leap_days.proofs.drift.Drift.{qby, qleap, qamount, leapTest}
 
 -- ---- the leap in both orders
 leap-is : (x y z : Float) → qleap x y z ≡ leapOf (offsets x y z)

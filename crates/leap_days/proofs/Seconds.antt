@@ -32,7 +32,7 @@ use Rattle.leap_table.proofs.rows.NoRows.{none-lent, fixed-taken}
 use Rattle.leap_table.proofs.offsets.TableSeconds.{seconds-stay}
 use Rattle.leap_table.proofs.offsets.Days.{leap-came}
 use Rattle.leap_table.specs.offsets.Offset.{secondsIn, wholeF}
-use Rattle.drift_days.specs.Small.{small}
+use Rattle.leap_days.specs.drift.Small.{small}
 use Rattle.leap_days.specs.Leaps.{Day, leapSeconds, listed, isLeapSecond}
 use Rattle.leap_days.proofs.Months.{next-month-number}
 use Rattle.leap_days.proofs.TableLeaps.{no-step, one-second-more, leap-is-step}

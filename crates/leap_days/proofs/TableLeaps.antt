@@ -32,8 +32,8 @@ use Rattle.leap_table.proofs.offsets.TableYears.{whole-rows-of}
 use Rattle.leap_table.proofs.offsets.Days.{day-offsets-are, leap-given, leap-came}
 use Rattle.leap_table.proofs.offsets.TableSeconds.{seconds-in-range, table-seconds, seconds-stay, seconds-step, same-before-lent}
 use Rattle.time_of_day.specs.ExactTime.{leap1959, minus-one-f}
-use Rattle.drift_days.specs.Small.{small}
-use Rattle.drift_days.proofs.Tests.{sameF}
+use Rattle.leap_days.specs.drift.Small.{small}
+use Rattle.leap_days.proofs.drift.Tests.{sameF}
 use Rattle.leap_days.specs.Leaps.{TableLeap, within, second, first, shorter}
 use Rattle.leap_days.specs.Tables.{rowIn, StepLeap, no-row, row-up, row-down, LeapOn, before-1960, last-of-1959, drifting, from-1972}
 use Rattle.leap_days.proofs.Months.{next-month-number, next-month-early}

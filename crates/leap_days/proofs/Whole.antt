@@ -10,7 +10,7 @@ use Rattle.leap_table.specs.offsets.Leap.{offsets, leapOf, driftRate, leapAmoun
 use Rattle.leap_table.specs.declared.offsets.DayOffsets.{DayOffsets}
 use Rattle.leap_table.specs.offsets.Offset.{wholeF}
 use Rattle.time_of_day.specs.ExactTime.{minus-one-f}
-use Rattle.drift_days.proofs.Tests.{then, then-left, then-right, each, sameF, same-float}
+use Rattle.leap_days.proofs.drift.Tests.{then, then-left, then-right, each, sameF, same-float}
 
 abbrev pub Both : DayOffsets → Float → Type 0
 Both o x = (leapOf o ≡ x) × (leapAmount o ≡ x)

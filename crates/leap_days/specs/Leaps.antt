@@ -7,7 +7,7 @@ use lib.Dec.{T, eqb}
 use lib.Ieee.{Float}
 use Rattle.floats.specs.Whole.{one}
 use Rattle.time_of_day.specs.ExactTime.{leap1959, minus-one-f}
-use Rattle.drift_days.specs.Small.{small}
+use Rattle.leap_days.specs.drift.Small.{small}
 
 pub record Day : Type 0 where
   pub year : ℕ

@@ -2,3 +2,4 @@
 pub mod Leaps
 pub mod Tables
 pub mod Formula
+pub mod drift

@@ -18,7 +18,7 @@ use Rattle.leap_table.specs.rows.Lent.{lentRow}
 use Rattle.leap_table.specs.offsets.Offset.{offsetAt, secondsIn, wholeF}
 use Rattle.leap_table.specs.offsets.Leap.{leapAtEndOfDay}
 use Rattle.time_of_day.specs.ExactTime.{leap1959, minus-one-f}
-use Rattle.drift_days.specs.Small.{small}
+use Rattle.leap_days.specs.drift.Small.{small}
 
 -- the row that gives the offset in month n
 abbrev pub rowIn : List Row → ℕ → Row

@@ -25,7 +25,7 @@ use Rattle.calendar.proofs.Years.{validOf, gregorian-in-range, gregorian-refusa
 use Rattle.calendar.proofs.NextDates.{by}
 use Rattle.day_number.specs.DayNumber.{accepted, dayOf}
 use Rattle.day_number.proofs.Answer.{answered, refused}
-use Rattle.drift_days.specs.Small.{small}
+use Rattle.leap_days.specs.drift.Small.{small}
 use Rattle.julian.specs.declared.CalendarFields.{CalendarFields}
 use Rattle.julian.specs.DayFraction.{timeInDay}
 use Rattle.julian.specs.Calendar.{fields, julianToCalendar}

@@ -13,8 +13,8 @@ use Rattle.rounding.proofs.Quick.{qadd, qsub, qmul, qint}
 use Rattle.leap_table.specs.rows.Table.{Row, fixed, starts, reached, none}
 use Rattle.leap_table.specs.offsets.Offset.{secondsOf, startOf, rateOf}
 use Rattle.leap_table.specs.offsets.Leap.{twoF}
-use Rattle.drift_days.specs.Small.{small}
-use Rattle.drift_days.proofs.Tests.{then, every, sameF}
+use Rattle.leap_days.specs.drift.Small.{small}
+use Rattle.leap_days.proofs.drift.Tests.{then, every, sameF}
 
 -- the offset by a row's floats; a row of whole seconds does not drift
 unfoldable pub qby : Bool → Float → Float → Float → Float → Float → Float

@@ -4,8 +4,8 @@ use mathlib.Core.Path.{_≡_, subst}
 use Prim.Native.Nat.{ℕ, zero, suc, _+_, _*_, _/_, _%_, _<_}
 use native.Mathlib.Omega.{arith}
 use lib.Dec.{T}
-use Rattle.drift_days.proofs.Tests.{each}
-use Rattle.drift_days.proofs.Drift.{monthTest, part, from-1960, from-1962, from-1964, from-1966, from-1968, from-1970}
+use Rattle.leap_days.proofs.drift.Tests.{each}
+use Rattle.leap_days.proofs.drift.Drift.{monthTest, part, from-1960, from-1962, from-1964, from-1966, from-1968, from-1970}
 
 parts : (b : ℕ) → b < 6 → part b
 parts zero h = from-1960
