@@ -1,8 +1,8 @@
 // Whether two stamps are the same: scales as numbers and parts as bit patterns, which no C compiler or floating-point unit changes on the way.
 ghost use mathlib.Core.Path.{_≡_};
-ghost use Rattle.same_stamps.specs.Same.{stamp, same};
+ghost use Rattle.julian.specs.same_stamps.Same.{stamp, same};
 ghost use Rattle.c_answers.specs.Delivery.{truth};
-use same_stamps::Stamp;
+use julian::same_stamps::Stamp;
 
 #[no_mangle]
 pub extern "C" fn ct_same_stamp(
@@ -21,7 +21,7 @@ pub extern "C" fn ct_same_stamp(
         jd1: other1,
         jd2: other2,
     };
-    if same_stamps::same_stamp(one, two) {
+    if julian::same_stamps::same_stamp(one, two) {
         1
     } else {
         0

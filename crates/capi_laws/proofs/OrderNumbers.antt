@@ -10,8 +10,8 @@ use Rattle.refusals.specs.Outcome.{Outcome, answer, refusal, onward}
 use Rattle.rounding.specs.Value.{L}
 use Rattle.julian.specs.declared.JulianDate.{JulianDate}
 use Rattle.julian.specs.Worth.{Worth}
-use Rattle.date_order.specs.Order.{Order, comesBefore, sameSum, comesAfter, comparison, orderOf}
-use Rattle.date_order.proofs.Exactly.{exactly-ordered}
+use Rattle.julian.specs.order.Order.{Order, comesBefore, sameSum, comesAfter, comparison, orderOf}
+use Rattle.julian.proofs.order.Exactly.{exactly-ordered}
 use Rattle.capi.specs.OrderNumber.{orderNumber, numbered}
 use Rattle.capi_laws.specs.ExactSums.{ByExactSums, smaller, level, greater}
 

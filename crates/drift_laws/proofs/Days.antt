@@ -28,7 +28,7 @@ use Rattle.leap_table.proofs.offsets.Days.{day-offsets-are}
 use Rattle.leap_days.specs.Formula.{NearFormula}
 use Rattle.leap_days.proofs.Formula.{drift-formula}
 use Rattle.utc_days.specs.Dates.{offsetsOf}
-use Rattle.day_order.proofs.Once.{nought-fits, half-fits}
+use Rattle.julian.proofs.day_order.Once.{nought-fits, half-fits}
 use Rattle.tai_round_trip.proofs.DaySeconds.{date-of, next-date}
 use Rattle.drift_laws.specs.Drift.{rowOn}
 

@@ -15,9 +15,9 @@ use Rattle.rounding.proofs.Casts.{ofInt-val}
 use Rattle.rounding.proofs.Exact.{add-exact, sub-exact}
 use Rattle.calendar.specs.Gregorian.{gregorianDate}
 use Rattle.calendar.proofs.Signs.{sub-at}
-use Rattle.day_number.specs.DayNumber.{dayOf}
-use Rattle.day_number.proofs.Units.{H, H-L}
-use Rattle.day_order.proofs.Once.{again}
+use Rattle.julian.specs.day_number.DayNumber.{dayOf}
+use Rattle.julian.proofs.day_number.Units.{H, H-L}
+use Rattle.julian.proofs.day_order.Once.{again}
 use Rattle.julian.specs.declared.JulianDate.{JulianDate}
 use Rattle.julian.specs.JulianDate.{julian}
 use Rattle.julian.proofs.Midnights.{zero-point-val}

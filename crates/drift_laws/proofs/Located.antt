@@ -14,16 +14,16 @@ use Rattle.rounding.specs.Value.{Val, Rounds, InUnit, L, plusZ, minusZ}
 use Rattle.rounding.proofs.Value.{L-pos, val-move, val-scale, val-unique, abs-val, rounds-move}
 use Rattle.rounding.proofs.Own.{own, own-val}
 use Rattle.rounding.proofs.Compare.{le-says, lt-says, le-show}
-use Rattle.day_number.specs.DayNumber.{accepted, dayNumber, fractionPassed, dayOf}
-use Rattle.day_number.specs.Answer.{dayNumberAndFraction}
-use Rattle.day_number.specs.Ranges.{InDays}
-use Rattle.day_number.proofs.Units.{H, H-L, E, E-L, one-L, nought-L}
-use Rattle.day_number.proofs.JulianRange.{accepts}
-use Rattle.day_number.proofs.Answer.{answered}
-use Rattle.day_number.proofs.Ranges.{day-range, fraction-range}
-use Rattle.day_order.specs.Order.{WholeHalves}
-use Rattle.day_order.proofs.Once.{again, one-fits}
-use Rattle.day_order.proofs.Place.{Place, place}
+use Rattle.julian.specs.day_number.DayNumber.{accepted, dayNumber, fractionPassed, dayOf}
+use Rattle.julian.specs.day_number.Answer.{dayNumberAndFraction}
+use Rattle.julian.specs.day_number.Ranges.{InDays}
+use Rattle.julian.proofs.day_number.Units.{H, H-L, E, E-L, one-L, nought-L}
+use Rattle.julian.proofs.day_number.JulianRange.{accepts}
+use Rattle.julian.proofs.day_number.Answer.{answered}
+use Rattle.julian.proofs.day_number.Ranges.{day-range, fraction-range}
+use Rattle.julian.specs.day_order.Order.{WholeHalves}
+use Rattle.julian.proofs.day_order.Once.{again, one-fits}
+use Rattle.julian.proofs.day_order.Place.{Place, place}
 use Rattle.julian.specs.declared.JulianDate.{JulianDate}
 use Rattle.drift_laws.specs.Drift.{DriftDate}
 

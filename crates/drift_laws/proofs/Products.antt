@@ -10,7 +10,7 @@ use Rattle.rounding.specs.Value.{Val, L}
 use Rattle.rounding.proofs.Value.{L-pos, add-rounds}
 use Rattle.rounding.proofs.Signed.{product-le}
 use Rattle.rounding.proofs.Scaled.{Scaled, mul-near, div-near}
-use Rattle.julian_laws.proofs.UnixTime.{day-val}
+use Rattle.julian.proofs.laws.UnixTime.{day-val}
 use Rattle.drift_laws.proofs.Seconds.{dayFs, Sec, Near, near-2, Factor, size-2, w, w-is, unit-2}
 
 -- ---- x times a factor, both below about 1: dayFs z is within half of dayFs w and 22880 (L + 2 w) of R x, where R is dayFs + 10^5 r

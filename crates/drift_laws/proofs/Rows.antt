@@ -15,7 +15,7 @@ use Rattle.rounding.specs.Value.{Val, L}
 use Rattle.rounding.proofs.Value.{val-unique}
 use Rattle.calendar.specs.Calendar.{dateOf}
 use Rattle.calendar.proofs.Years.{date-of-in-calendar}
-use Rattle.day_number.proofs.Units.{H, H-L, half-L, nought-L}
+use Rattle.julian.proofs.day_number.Units.{H, H-L, half-L, nought-L}
 use Rattle.leap_table.specs.rows.Table.{Row, fixed, starts, reached, monthNumber, monthOf, none}
 use Rattle.leap_table.specs.offsets.Offset.{rowAt}
 use Rattle.leap_table.proofs.rows.Rows.{at}

@@ -12,7 +12,7 @@ use Rattle.rounding.specs.Value.{Val, Rounds, L}
 use Rattle.rounding.proofs.Value.{L-pos, val-move, val-scale, add-rounds, sub-rounds, mul-rounds, rounds-move}
 use Rattle.rounding.proofs.Near.{sum-near}
 use Rattle.rounding.proofs.Scaled.{Scaled, div-near}
-use Rattle.julian_laws.proofs.UnixTime.{day-val}
+use Rattle.julian.proofs.laws.UnixTime.{day-val}
 use Rattle.leap_table.specs.offsets.Leap.{twoF, offsets, driftRate, leapAmount}
 
 -- a day in femtoseconds

@@ -18,10 +18,10 @@ use Rattle.refusals.specs.Outcome.{Outcome, answer, refusal}
 use Rattle.julian.specs.declared.JulianDate.{JulianDate}
 use Rattle.julian.specs.JulianDate.{julian}
 use Rattle.numerals.specs.little_endian.LittleEndian.{u64At}
-use Rattle.shifts.specs.SmallerPart.{firstIsLarger}
-use Rattle.shifts.specs.Shifts.{daysOf, plus, minus, converted, convertedBy}
-use Rattle.shifts.proofs.Outcomes.{first, first-by}
-use Rattle.shifts.proofs.SmallerPart.{map-is, mapAs}
+use Rattle.julian.specs.shifts.SmallerPart.{firstIsLarger}
+use Rattle.julian.specs.shifts.Shifts.{daysOf, plus, minus, converted, convertedBy}
+use Rattle.julian.proofs.shifts.Outcomes.{first, first-by}
+use Rattle.julian.proofs.shifts.SmallerPart.{map-is, mapAs}
 use Rattle.line_up.specs.LineUp.{stampOf}
 use Rattle.line_up.proofs.Cases.{stamp-is}
 use Rattle.formula_runs.specs.Asked.{changeOf, changedStamp, offsetStamp, deadNumberOf}

@@ -6,8 +6,8 @@ use lib.Dec.{eqb}
 use lib.Ieee.{Float, sub, neg}
 use borrow.Author.Tests.{eqb-true}
 use Rattle.refusals.specs.Outcome.{onward}
-use Rattle.shifts.specs.Shifts.{plus, minus}
-use Rattle.shifts.proofs.Outcomes.{and-left, and-right}
+use Rattle.julian.specs.shifts.Shifts.{plus, minus}
+use Rattle.julian.proofs.shifts.Outcomes.{and-left, and-right}
 use Rattle.scales.specs.Formulas.{gpsDays, ttDays}
 use Rattle.scales.specs.Conversions.{answerOf}
 use Rattle.formula_runs.specs.Formula.{formulaOf, byFormula, takesOffset, lengthsRefusal, formulaRefusal}

@@ -10,7 +10,7 @@ use lib.Ieee.Scale.{finite}
 use Rattle.refusals.specs.Outcome.{Outcome, refusal}
 use Rattle.numerals.specs.little_endian.LittleEndian.{u64At}
 use Rattle.julian.specs.declared.JulianDate.{JulianDate}
-use Rattle.shifts.specs.Shifts.{plus, minus, converted, convertedBy}
+use Rattle.julian.specs.shifts.Shifts.{plus, minus, converted, convertedBy}
 use Rattle.scales.specs.Formulas.{ttToTcg, tcgToTt, tcbToTdb, tdbToTcb}
 use Rattle.line_up.specs.LineUp.{stampOf}
 use Rattle.formula_runs.specs.Run.{firstPart, secondPart, numberByte, withPart, withParts, withNumbers, refusedAmong}

@@ -17,11 +17,11 @@ use Rattle.calendar.specs.declared.CalendarDate.{CalendarDate}
 use Rattle.calendar.specs.Calendar.{dateOf}
 use Rattle.calendar.specs.Gregorian.{gregorianDate}
 use Rattle.calendar.proofs.Gregorian.{gregorian-is-date-of-day}
-use Rattle.day_number.specs.declared.DayNumber.{DayNumber}
-use Rattle.day_number.specs.Answer.{dayNumberAndFraction}
-use Rattle.day_number.specs.ExactDay.{OnGrid, GridSumInRange, gridSum, wholeDays, exactDay, exactDayNumber}
-use Rattle.day_number.proofs.ExactDay.{exact}
-use Rattle.day_number.proofs.Ends.{nought-grid, nought-fits}
+use Rattle.julian.specs.declared.day_number.DayNumber.{DayNumber}
+use Rattle.julian.specs.day_number.Answer.{dayNumberAndFraction}
+use Rattle.julian.specs.day_number.ExactDay.{OnGrid, GridSumInRange, gridSum, wholeDays, exactDay, exactDayNumber}
+use Rattle.julian.proofs.day_number.ExactDay.{exact}
+use Rattle.julian.proofs.day_number.Ends.{nought-grid, nought-fits}
 use Rattle.julian.specs.declared.JulianDate.{JulianDate}
 use Rattle.julian.specs.Calendar.{fields, julianToCalendar}
 use Rattle.gps_weeks.specs.WeekDate.{weekMidnight, partOfDay, dayIn, weekDate}

@@ -9,7 +9,7 @@ use Rattle.calendar.specs.Calendar.{lengths, daysInMonth, date, dateOf}
 use Rattle.calendar.specs.Refusals.{validDate}
 use Rattle.calendar.specs.DayCount.{MjdMeaning, civilCount, mjdNumber, mjdOf}
 use Rattle.calendar.proofs.Mjd.{mjd-meaning}
-use Rattle.day_number.specs.Answer.{dayNumberAndFraction}
+use Rattle.julian.specs.day_number.Answer.{dayNumberAndFraction}
 use Rattle.julian.specs.declared.JulianDate.{JulianDate}
 use Rattle.julian.specs.JulianDate.{julian}
 use Rattle.julian.specs.Finite.{finiteJd}

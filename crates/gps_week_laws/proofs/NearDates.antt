@@ -15,11 +15,11 @@ use Rattle.rounding.specs.Value.{Val, L, InUnit, plusZ, minusZ}
 use Rattle.rounding.proofs.Value.{val-move, L-pos}
 use Rattle.rounding.proofs.Casts.{add-pair, sub-pair}
 use Rattle.rounding.proofs.Compare.{lt-says}
-use Rattle.day_number.specs.declared.DayNumber.{DayNumber}
-use Rattle.day_number.specs.Answer.{dayNumberAndFraction}
-use Rattle.day_number.specs.NearDay.{DayNear}
-use Rattle.day_number.proofs.OffGrid.{day-near}
-use Rattle.day_number.proofs.Ranges.{fraction-range}
+use Rattle.julian.specs.declared.day_number.DayNumber.{DayNumber}
+use Rattle.julian.specs.day_number.Answer.{dayNumberAndFraction}
+use Rattle.julian.specs.day_number.NearDay.{DayNear}
+use Rattle.julian.proofs.day_number.OffGrid.{day-near}
+use Rattle.julian.proofs.day_number.Ranges.{fraction-range}
 use Rattle.julian.specs.declared.JulianDate.{JulianDate}
 use Rattle.julian.specs.Finite.{finiteParts, finiteJd}
 use Rattle.julian.specs.Worth.{Worth, SmallParts}

@@ -17,12 +17,12 @@ use Rattle.rounding.proofs.Signed.{dist, dist-le}
 use Rattle.rounding.proofs.Compare.{lt-show}
 use Rattle.rounding.proofs.Range.{power-val}
 use Rattle.rounding.proofs.Near.{Near, rounds-near}
-use Rattle.day_number.specs.declared.DayNumber.{DayNumber}
-use Rattle.day_number.specs.DayNumber.{dayOf}
-use Rattle.day_number.specs.Answer.{dayNumberAndFraction}
-use Rattle.day_number.proofs.Units.{E, E-L, H, H-L}
-use Rattle.day_number.proofs.JulianRange.{accepts}
-use Rattle.day_number.proofs.Answer.{answered}
+use Rattle.julian.specs.declared.day_number.DayNumber.{DayNumber}
+use Rattle.julian.specs.day_number.DayNumber.{dayOf}
+use Rattle.julian.specs.day_number.Answer.{dayNumberAndFraction}
+use Rattle.julian.proofs.day_number.Units.{E, E-L, H, H-L}
+use Rattle.julian.proofs.day_number.JulianRange.{accepts}
+use Rattle.julian.proofs.day_number.Answer.{answered}
 use Rattle.julian.specs.declared.JulianDate.{JulianDate}
 use Rattle.julian.specs.JulianDate.{julian}
 use Rattle.julian.specs.Finite.{finiteParts, finiteJd}

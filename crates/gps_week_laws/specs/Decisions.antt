@@ -6,7 +6,7 @@ use mathlib.Core.Bool.{true, false}
 use Prim.Native.Nat.{ℕ, _+_, _*_, _%_, _≤_, _<_}
 use lib.IntN.{pos, negsuc}
 use Rattle.refusals.specs.Outcome.{Outcome, answer, refusal}
-use Rattle.day_number.specs.DayNumber.{accepted, dayOf}
+use Rattle.julian.specs.day_number.DayNumber.{accepted, dayOf}
 use Rattle.julian.specs.declared.JulianDate.{JulianDate}
 use Rattle.julian.specs.JulianDate.{julian}
 use Rattle.julian.specs.Finite.{finiteParts}

@@ -9,7 +9,7 @@ use lib.Ieee.{Float, binary64, mul, toSigned}
 use Rattle.refusals.specs.Outcome.{Outcome, answer, refusal, onward}
 use Rattle.floats.specs.Whole.{toWhole, away}
 use Rattle.constants.specs.Constants.{decimal}
-use Rattle.day_number.specs.Answer.{dayNumberAndFraction}
+use Rattle.julian.specs.day_number.Answer.{dayNumberAndFraction}
 use Rattle.julian.specs.declared.JulianDate.{JulianDate}
 use Rattle.julian.specs.Finite.{finiteJd}
 use Rattle.time_of_day.specs.TimeShown.{fromZero}

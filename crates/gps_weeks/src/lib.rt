@@ -2,7 +2,7 @@
 ghost use mathlib.Core.Path.{_≡_};
 ghost use Prim.Native.Nat.{_≤_, _<_};
 ghost use Rattle.refusals.specs.Outcome.{onward};
-ghost use Rattle.day_number.specs.Answer.{dayNumberAndFraction};
+ghost use Rattle.julian.specs.day_number.Answer.{dayNumberAndFraction};
 ghost use Rattle.scales.specs.Scales.{gpsOutcome};
 ghost use Rattle.gps_weeks.specs.WeekDate.{weekMidnight, partOfDay, weekDate};
 ghost use Rattle.gps_weeks.specs.WeekOf.{weekOutcome, productOf, dayMillis, weekAt, weekOfDay, weekOf};
@@ -129,9 +129,9 @@ fn week_of_day(day: i64, fraction: f64) -> WeekAnswer
 fn week_of_parts(jd1: f64, jd2: f64) -> WeekAnswer
     ensures { λ r. ⌜ weekOutcome r ≡ onward (dayNumberAndFraction jd1 jd2) (λ n. weekOfDay (n .day) (dayMillis (n .fraction))) ⌝ }
 {
-    match day_number::day_number_and_fraction(jd1, jd2) {
-        day_number::DayAnswer::Refused(number) => WeekAnswer::Refused(number),
-        day_number::DayAnswer::Day(found) => week_of_day(found.day, found.fraction),
+    match julian::day_number::day_number_and_fraction(jd1, jd2) {
+        julian::day_number::DayAnswer::Refused(number) => WeekAnswer::Refused(number),
+        julian::day_number::DayAnswer::Day(found) => week_of_day(found.day, found.fraction),
     }
 }
 

@@ -11,8 +11,8 @@ use Rattle.refusals.specs.Outcome.{Outcome, answer, refusal, onward}
 use Rattle.calendar.specs.declared.CalendarDate.{CalendarDate}
 use Rattle.calendar.specs.Gregorian.{gregorianDate}
 use Rattle.calendar.proofs.Years.{DateInRange, gregorian-in-range}
-use Rattle.day_number.specs.declared.DayNumber.{DayNumber}
-use Rattle.day_number.specs.Answer.{dayNumberAndFraction}
+use Rattle.julian.specs.declared.day_number.DayNumber.{DayNumber}
+use Rattle.julian.specs.day_number.Answer.{dayNumberAndFraction}
 use Rattle.julian.specs.declared.CalendarFields.{CalendarFields}
 use Rattle.julian.specs.Calendar.{fields, julianToCalendar}
 

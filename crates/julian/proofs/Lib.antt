@@ -4,3 +4,5 @@ pub mod Seconds
 pub mod Equality
 pub mod Midnights
 pub mod Dates
+pub mod day_order
+pub mod laws

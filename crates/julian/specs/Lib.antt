@@ -9,3 +9,9 @@ pub mod Calendar
 -- The words of the theorems: no contract cites them.
 pub mod Worth
 pub mod Midnight
+pub mod day_number
+pub mod day_order
+pub mod laws
+pub mod shifts
+pub mod order
+pub mod same_stamps

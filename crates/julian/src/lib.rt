@@ -9,6 +9,10 @@ ghost use Rattle.julian.specs.Equality as E;
 ghost use Rattle.julian.specs.DayFraction as F;
 ghost use Rattle.julian.specs.Finite as N;
 ghost use Rattle.julian.specs.Calendar as C;
+pub mod day_number;
+pub mod order;
+pub mod same_stamps;
+pub mod shifts;
 
 // A Julian date: two floats whose exact sum is the date in days.
 pub struct JulianDate {
@@ -220,9 +224,9 @@ pub fn calendar_to_julian(year: i32, month: i32, day: i32) -> JulianAnswer
 pub fn julian_to_calendar(jd1: f64, jd2: f64) -> CalendarAnswer
     ensures { λ r. ⌜ C.calendarOutcome r ≡ C.julianToCalendar jd1 jd2 ⌝ }
 {
-    match day_number::day_number_and_fraction(jd1, jd2) {
-        day_number::DayAnswer::Refused(number) => CalendarAnswer::Refused(number),
-        day_number::DayAnswer::Day(found) => {
+    match crate::day_number::day_number_and_fraction(jd1, jd2) {
+        crate::day_number::DayAnswer::Refused(number) => CalendarAnswer::Refused(number),
+        crate::day_number::DayAnswer::Day(found) => {
             let date = calendar::gregorian_date(found.day);
             CalendarAnswer::Fields(CalendarFields {
                 date,

@@ -12,7 +12,7 @@ use borrow.Author.Tests.{eq-eqb, ne-eqb, lt-ltb, le-ltb, le-leb, lt-leb, eqb-tru
 use Rattle.numerals.specs.little_endian.LittleEndian.{u64At}
 use Rattle.julian.specs.declared.JulianDate.{JulianDate}
 use Rattle.julian.specs.JulianDate.{julian}
-use Rattle.date_order.specs.Places.{hasPlace, isEarlier}
+use Rattle.julian.specs.order.Places.{hasPlace, isEarlier}
 use Rattle.line_up.specs.Runs.{acceptedIn, firstOr, tested, pick, cursorAfter}
 use Rattle.line_up.specs.LineUp.{stampOf, deadAt, soonerAt, eightEach, lineRefusal}
 

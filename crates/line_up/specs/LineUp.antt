@@ -11,7 +11,7 @@ use Rattle.refusals.specs.Outcome.{Outcome, answer, refusal}
 use Rattle.numerals.specs.little_endian.LittleEndian.{fourBytes, u64At}
 use Rattle.julian.specs.declared.JulianDate.{JulianDate}
 use Rattle.julian.specs.JulianDate.{julian}
-use Rattle.date_order.specs.Places.{hasPlace, isEarlier}
+use Rattle.julian.specs.order.Places.{hasPlace, isEarlier}
 unfoldable pub use Rattle.keep_dates.specs.Stamps.{stampOf, deadAt, soonerAt}
 use Rattle.line_up.specs.declared.LineUpAnswer.the-variants as Answer
 use Rattle.line_up.specs.declared.LineUpAnswer.{LineUpAnswer}

@@ -31,7 +31,7 @@ fn tested(jd1s: &[u8], jd2s: &[u8], number: u8, i: usize) -> u8
     ensures { λ r. ⌜ r ≡ R.tested (U.deadAt (now (jd1s .entry)) (now (jd2s .entry))) number i ⌝ }
 {
     if number == 0 {
-        if !date_order::has_place(stamp_of(jd1s, jd2s, i)) {
+        if !julian::order::has_place(stamp_of(jd1s, jd2s, i)) {
             return 9;
         }
     }
@@ -59,7 +59,7 @@ fn sooner_at(jd1s: &[u8], jd2s: &[u8], i: usize, j: usize) -> bool
 {
     let a = stamp_of(jd1s, jd2s, i);
     let b = stamp_of(jd1s, jd2s, j);
-    date_order::is_earlier(a, b)
+    julian::order::is_earlier(a, b)
 }
 
 // The first accepted place from `from` up to `to`, or the length.

@@ -18,9 +18,9 @@ use Rattle.julian.specs.declared.JulianDate.{JulianDate}
 use Rattle.julian.specs.Equality.{FiniteSums}
 use Rattle.julian.specs.Worth.{Worth}
 use Rattle.numerals.specs.little_endian.LittleEndian.{u64At}
-use Rattle.date_order.specs.Places.{hasPlace, isEarlier}
-use Rattle.date_order.proofs.Exactly.{finite-error, sooner-exactly, sum-worth}
-use Rattle.date_order.proofs.Swapped.{sooner-once}
+use Rattle.julian.specs.order.Places.{hasPlace, isEarlier}
+use Rattle.julian.proofs.order.Exactly.{finite-error, sooner-exactly, sum-worth}
+use Rattle.julian.proofs.order.Swapped.{sooner-once}
 use Rattle.julian.specs.Equality.{sums}
 use Rattle.line_up.specs.Runs.{allTested, run, numbersAfter, zeros, merge, ordered, timesIn, MayFollow, Rising}
 use Rattle.line_up.specs.LineUp.{stampOf, deadAt, soonerAt, leastRoom, lineRefusal, lineWritten, putInLine, linedUp}

@@ -12,7 +12,7 @@ use Rattle.refusals.specs.Outcome.{answer}
 use Rattle.rounding.specs.Value.{L}
 use Rattle.julian.specs.Worth.{Worth}
 use Rattle.julian.specs.declared.JulianDate.{JulianDate}
-use Rattle.date_order.specs.Places.{hasPlace, isEarlier}
+use Rattle.julian.specs.order.Places.{hasPlace, isEarlier}
 use lib.Seq.{slice}
 use Rattle.keep_most.specs.Piles.{Upward, Rises}
 use Rattle.line_up.specs.Runs.{timesIn, zeros}

@@ -20,11 +20,11 @@ use Rattle.calendar.specs.Calendar.{date, next, leapSize, lengths, daysInMonth}
 use Rattle.calendar.specs.Refusals.{validDate}
 use Rattle.calendar.specs.Gregorian.{gregorianDate}
 use Rattle.calendar.proofs.Years.{validOf}
-use Rattle.day_number.specs.DayNumber.{dayOf}
-use Rattle.day_number.specs.Answer.{dayNumberAndFraction}
+use Rattle.julian.specs.day_number.DayNumber.{dayOf}
+use Rattle.julian.specs.day_number.Answer.{dayNumberAndFraction}
 use Rattle.julian.specs.JulianDate.{julian}
 use Rattle.julian.specs.Calendar.{fields, julianToCalendar}
-use Rattle.julian_laws.proofs.Divisions.{dividedDate, divided-date}
+use Rattle.julian.proofs.laws.Divisions.{dividedDate, divided-date}
 use Rattle.leap_table.specs.rows.Table.{Row}
 use Rattle.time_of_day.specs.declared.TimeShown.{TimeShown}
 use Rattle.time_of_day.specs.declared.TimeShown.the-variants.{At, NextMidnight}

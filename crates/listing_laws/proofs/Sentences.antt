@@ -14,13 +14,13 @@ use borrow.Author.Tests.{leb-true, leb-false, le-leb, le-ltb, ne-eqb}
 use Rattle.refusals.specs.Outcome.{Outcome, answer, refusal, onward}
 use Rattle.numerals.specs.little_endian.LittleEndian.{fourAt, u32At}
 use Rattle.calendar.proofs.Years.{validOf}
-use Rattle.day_number.specs.declared.DayNumber.{DayNumber}
-use Rattle.day_number.specs.Answer.{dayNumberAndFraction}
+use Rattle.julian.specs.declared.day_number.DayNumber.{DayNumber}
+use Rattle.julian.specs.day_number.Answer.{dayNumberAndFraction}
 use Rattle.julian.specs.declared.JulianDate.{JulianDate}
 use Rattle.julian.specs.declared.CalendarFields.{CalendarFields}
 use Rattle.julian.specs.JulianDate.{julian, roundedSum}
 use Rattle.julian.specs.Calendar.{fields, julianToCalendar}
-use Rattle.julian_laws.proofs.CalendarDays.{fields-of, only-six}
+use Rattle.julian.proofs.laws.CalendarDays.{fields-of, only-six}
 use Rattle.leap_table.specs.rows.Table.{Row}
 use Rattle.iso_texts.specs.Expanded.{expandedSheet, isoTextExpanded}
 use Rattle.julian.proofs.Dates.{date-in-range}

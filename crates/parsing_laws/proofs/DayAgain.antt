@@ -19,16 +19,16 @@ use Rattle.rounding.proofs.Compare.{lt-show, lt-says}
 use Rattle.rounding.proofs.Range.{power-val}
 use Rattle.rounding.proofs.About.{U, L-U}
 use Rattle.constants.specs.Constants.{mjdZeroPoint}
-use Rattle.day_number.specs.DayNumber.{accepted, dayOf}
-use Rattle.day_number.specs.Answer.{dayNumberAndFraction}
-use Rattle.day_number.specs.NearDay.{DayNear}
-use Rattle.day_number.proofs.Units.{E-L, one-L}
-use Rattle.day_number.proofs.JulianRange.{accepts}
-use Rattle.day_number.proofs.Answer.{answered}
-use Rattle.day_number.proofs.Ranges.{fraction-range}
-use Rattle.day_number.proofs.OffGrid.{day-near}
+use Rattle.julian.specs.day_number.DayNumber.{accepted, dayOf}
+use Rattle.julian.specs.day_number.Answer.{dayNumberAndFraction}
+use Rattle.julian.specs.day_number.NearDay.{DayNear}
+use Rattle.julian.proofs.day_number.Units.{E-L, one-L}
+use Rattle.julian.proofs.day_number.JulianRange.{accepts}
+use Rattle.julian.proofs.day_number.Answer.{answered}
+use Rattle.julian.proofs.day_number.Ranges.{fraction-range}
+use Rattle.julian.proofs.day_number.OffGrid.{day-near}
 use Rattle.julian.proofs.Midnights.{midnight-sum}
-use Rattle.julian_laws.proofs.Steps.{H, L-H, half-val}
+use Rattle.julian.proofs.laws.Steps.{H, L-H, half-val}
 use Rattle.parsing_laws.proofs.ClockFraction.{TimeNear}
 
 -- ---- the fraction g = x / L of a day of C milliseconds is worth K of them, within a part of a thousandth

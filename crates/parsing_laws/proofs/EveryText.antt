@@ -23,8 +23,8 @@ use Rattle.calendar.proofs.Years.{DateInRange, gregorian-in-range, validOf, fro
 use Rattle.julian.specs.declared.JulianDate.{JulianDate}
 use Rattle.julian.specs.declared.CalendarFields.{CalendarFields}
 use Rattle.julian.specs.Calendar.{julianToCalendar}
-use Rattle.julian_laws.specs.CalendarAnswers.{FieldsInRange}
-use Rattle.julian_laws.proofs.CalendarDays.{answered-in-range, not-above}
+use Rattle.julian.specs.laws.CalendarAnswers.{FieldsInRange}
+use Rattle.julian.proofs.laws.CalendarDays.{answered-in-range, not-above}
 use Rattle.leap_table.specs.declared.rows.LentRows.{LentRows}
 use Rattle.leap_table.specs.rows.Table.{Row}
 use Rattle.leap_table.specs.rows.Lent.{tableOf}

@@ -24,14 +24,14 @@ use Rattle.calendar.specs.Refusals.{validDate}
 use Rattle.calendar.specs.DayCount.{marchCount, civilCount, mjdNumber, mjdOf}
 use Rattle.calendar.proofs.Signs.{sub-at}
 use Rattle.calendar.proofs.Mjd.{mjd-given, date-of-mjd, same-answer}
-use Rattle.day_number.specs.DayNumber.{dayOf}
-use Rattle.day_number.proofs.Ends.{nought-fits}
+use Rattle.julian.specs.day_number.DayNumber.{dayOf}
+use Rattle.julian.proofs.day_number.Ends.{nought-fits}
 use Rattle.julian.specs.declared.JulianDate.{JulianDate}
 use Rattle.julian.specs.JulianDate.{julian, roundedSum}
 use Rattle.julian.specs.Calendar.{fields, atTime, fromCalendar, julianToCalendar}
 use Rattle.julian.proofs.Midnights.{midnight-given}
-use Rattle.julian_laws.proofs.RoundTrip.{midnight-fraction, round-trip-at-midnight}
-use Rattle.julian_laws.proofs.CalendarDays.{fields-of}
+use Rattle.julian.proofs.laws.RoundTrip.{midnight-fraction, round-trip-at-midnight}
+use Rattle.julian.proofs.laws.CalendarDays.{fields-of}
 use Rattle.tai_round_trip.proofs.Fraction.{fraction-fits}
 use Rattle.leap_table.specs.declared.rows.LentRows.{LentRows}
 use Rattle.leap_table.specs.rows.Table.{Row}

@@ -20,16 +20,16 @@ use Rattle.constants.specs.Constants.{unixEpochJd}
 use Rattle.calendar.specs.Calendar.{daysInMonth}
 use Rattle.calendar.specs.Refusals.{validDate}
 use Rattle.calendar.specs.DayCount.{mjdNumber, mjdOf}
-use Rattle.day_number.specs.DayNumber.{inJulianRange, accepted}
-use Rattle.day_number.specs.declared.DayNumber.{DayNumber}
-use Rattle.day_number.specs.Answer.{dayNumberAndFraction}
+use Rattle.julian.specs.day_number.DayNumber.{inJulianRange, accepted}
+use Rattle.julian.specs.declared.day_number.DayNumber.{DayNumber}
+use Rattle.julian.specs.day_number.Answer.{dayNumberAndFraction}
 use Rattle.julian.specs.declared.JulianDate.{JulianDate}
 use Rattle.julian.specs.JulianDate.{julian, roundedSum}
 use Rattle.julian.specs.DayFraction.{secondLimit, timeInDay, dayFraction}
 use Rattle.julian.specs.Finite.{finiteJd, finiteArg}
 use Rattle.julian.specs.declared.CalendarFields.{CalendarFields}
 use Rattle.julian.specs.Calendar.{julianToCalendar}
-use Rattle.julian_laws.proofs.CalendarDays.{only-six}
+use Rattle.julian.proofs.laws.CalendarDays.{only-six}
 use Rattle.leap_table.specs.rows.Table.{Row, monthNumber}
 use Rattle.leap_table.specs.offsets.Offset.{offsetAt, inDay, taiUtcOffset}
 use Rattle.utc.specs.UnixTime.{unixDay, secondOfUnixDay, secondWithNanos, utcNew}

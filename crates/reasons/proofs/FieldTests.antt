@@ -12,7 +12,7 @@ use borrow.Author.Tests.{eq-eqb, ne-eqb, le-leb, lt-leb, lt-ltb, le-ltb}
 use Rattle.refusals.specs.Outcome.{Outcome}
 use Rattle.floats.specs.Whole.{nought, one}
 use Rattle.calendar.specs.Calendar.{daysInMonth}
-use Rattle.day_number.specs.DayNumber.{inJulianRange, c-djmin, c-djmax}
+use Rattle.julian.specs.day_number.DayNumber.{inJulianRange, c-djmin, c-djmax}
 use Rattle.julian.specs.declared.FractionAnswer.{FractionAnswer}
 use Rattle.julian.specs.declared.FractionAnswer.the-variants as Answer
 use Rattle.julian.specs.DayFraction.{fractionOutcome, dayFraction, timeInDay}

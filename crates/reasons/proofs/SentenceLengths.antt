@@ -13,7 +13,7 @@ use lib.Ieee.Scale.{finite}
 use borrow.Author.Tests.{leb-true, leb-false, le-leb, eqb-true}
 use Rattle.refusals.specs.Outcome.{answer, refusal, onward}
 use Rattle.calendar.specs.Calendar.{daysInMonth}
-use Rattle.day_number.specs.DayNumber.{inJulianRange}
+use Rattle.julian.specs.day_number.DayNumber.{inJulianRange}
 use Rattle.julian.specs.JulianDate.{julian, roundedSum}
 use Rattle.julian.specs.DayFraction.{timeInDay}
 use Rattle.leap_table.specs.offsets.Offset.{inDay}

@@ -10,7 +10,7 @@ use lib.Signed.{ltZ}
 use lib.Ieee.{Float}
 use lib.Ieee.Scale.{finite}
 use Rattle.calendar.specs.Calendar.{daysInMonth}
-use Rattle.day_number.specs.DayNumber.{inJulianRange}
+use Rattle.julian.specs.day_number.DayNumber.{inJulianRange}
 use Rattle.julian.specs.JulianDate.{julian, roundedSum}
 use Rattle.julian.specs.DayFraction.{timeInDay}
 use Rattle.leap_table.specs.offsets.Offset.{inDay}

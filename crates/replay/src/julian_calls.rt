@@ -29,13 +29,13 @@ fn found_fields(a: CalendarAnswer) -> Answer {
     }
 }
 
-fn found_day(a: day_number::DayAnswer) -> Answer {
+fn found_day(a: julian::day_number::DayAnswer) -> Answer {
     match a {
-        day_number::DayAnswer::Day(found) => {
+        julian::day_number::DayAnswer::Day(found) => {
             let day = numerals::little_endian::pattern_of_i64(found.day);
             words::values(day, floats::to_bits(found.fraction), 0, 0)
         }
-        day_number::DayAnswer::Refused(number) => words::refused(number),
+        julian::day_number::DayAnswer::Refused(number) => words::refused(number),
     }
 }
 
@@ -63,7 +63,7 @@ pub(crate) fn calendar_answered(call: u64, record: &[u8; 128]) -> Answer {
     match call {
         24 => found_date(julian::calendar_to_julian(year, month, day)),
         25 => found_fields(julian::julian_to_calendar(jd1, jd2)),
-        _ => found_day(day_number::day_number_and_fraction(jd1, jd2)),
+        _ => found_day(julian::day_number::day_number_and_fraction(jd1, jd2)),
     }
 }
 

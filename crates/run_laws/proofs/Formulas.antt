@@ -17,9 +17,9 @@ use Rattle.julian.specs.declared.JulianDate.{JulianDate}
 use Rattle.julian.specs.Finite.{finiteParts}
 use Rattle.numerals.specs.little_endian.LittleEndian.{u64At}
 use Rattle.floats.specs.Whole.{nought}
-use Rattle.shifts.specs.SmallerPart.{mapSmallerPart}
-use Rattle.shifts.specs.Shifts.{daysOf, converted, convertedBy}
-use Rattle.shifts.proofs.Outcomes.{first, first-by, and-left, and-right}
+use Rattle.julian.specs.shifts.SmallerPart.{mapSmallerPart}
+use Rattle.julian.specs.shifts.Shifts.{daysOf, converted, convertedBy}
+use Rattle.julian.proofs.shifts.Outcomes.{first, first-by, and-left, and-right}
 use Rattle.scales.specs.Conversions.{Conversion, answerOf}
 use Rattle.line_up.specs.LineUp.{stampOf}
 use Rattle.formula_runs.specs.Run.{RunCall, runCall, runWritten}

@@ -17,10 +17,10 @@ use Rattle.julian.specs.JulianDate.{julian}
 use Rattle.julian.specs.Finite.{finiteParts, finiteJd}
 use Rattle.numerals.specs.little_endian.LittleEndian.{u64At}
 use Rattle.leap_table.specs.rows.Table.{Row}
-use Rattle.shifts.specs.Shifts.{plus, minus, converted}
-use Rattle.shifts.specs.SmallerPart.{firstIsLarger, mapSmallerPart}
-use Rattle.shifts.proofs.Outcomes.{first}
-use Rattle.shifts.proofs.SmallerPart.{map-is, mapAs}
+use Rattle.julian.specs.shifts.Shifts.{plus, minus, converted}
+use Rattle.julian.specs.shifts.SmallerPart.{firstIsLarger, mapSmallerPart}
+use Rattle.julian.proofs.shifts.Outcomes.{first}
+use Rattle.julian.proofs.shifts.SmallerPart.{map-is, mapAs}
 use Rattle.constants.specs.Constants.{mjdZeroPoint, tcgReferenceEpoch, tcgRateLg, tcgRateRatio}
 use Rattle.scales.specs.Formulas.{gpsDays, ttDays, since, tcgToTt, ttToTcg}
 use Rattle.scale_laws.specs.Ranges.{Held}

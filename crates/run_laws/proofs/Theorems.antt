@@ -15,7 +15,7 @@ use Rattle.julian.specs.declared.JulianDate.{JulianDate}
 use Rattle.julian.specs.Finite.{finiteParts}
 use Rattle.numerals.specs.little_endian.LittleEndian.{u64At}
 use Rattle.leap_table.specs.rows.Table.{Row}
-use Rattle.shifts.proofs.Outcomes.{and-left, and-right}
+use Rattle.julian.proofs.shifts.Outcomes.{and-left, and-right}
 use Rattle.line_up.specs.LineUp.{stampOf}
 use Rattle.scale_ways.specs.Ways.{isRunScale}
 use Rattle.formula_runs.specs.Run.{numberByte, RunCall, runCall, runWritten}

@@ -11,7 +11,7 @@ use Rattle.refusals.specs.Outcome.{Outcome, answer, refusal, onward}
 use Rattle.julian.specs.declared.JulianDate.{JulianDate}
 use Rattle.numerals.specs.little_endian.LittleEndian.{u64At}
 use Rattle.leap_table.specs.rows.Table.{Row}
-use Rattle.shifts.proofs.Outcomes.{and-left, and-right}
+use Rattle.julian.proofs.shifts.Outcomes.{and-left, and-right}
 use Rattle.scales.specs.Conversions.{answerOf, gps-tai, tt-tai}
 use Rattle.line_up.specs.LineUp.{stampOf}
 use Rattle.formula_runs.specs.Run.{RunCall, runCall, runWritten}

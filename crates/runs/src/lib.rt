@@ -18,11 +18,11 @@ use formula_runs::one_if_refused;
 use julian::JulianAnswer;
 use julian::JulianDate;
 use leap_table::rows::LentRows;
-use same_stamps::GPS;
-use same_stamps::TAI;
-use same_stamps::TCG;
-use same_stamps::TT;
-use same_stamps::are;
+use julian::same_stamps::GPS;
+use julian::same_stamps::TAI;
+use julian::same_stamps::TCG;
+use julian::same_stamps::TT;
+use julian::same_stamps::are;
 
 // Number i of a list that has it. Read from a part of eight bytes, it needs no test of the length.
 fn pattern_at(s: &[u8], i: usize) -> u64
@@ -119,19 +119,19 @@ fn convert_all<'a>(
 fn is_run_scale(n: u32) -> bool
     ensures { λ r. ⌜ r ≡ isRunScale n ⌝ }
 {
-    if n == same_stamps::UTC {
+    if n == julian::same_stamps::UTC {
         return true;
     }
-    if n == same_stamps::TAI {
+    if n == julian::same_stamps::TAI {
         return true;
     }
-    if n == same_stamps::TT {
+    if n == julian::same_stamps::TT {
         return true;
     }
-    if n == same_stamps::GPS {
+    if n == julian::same_stamps::GPS {
         return true;
     }
-    n == same_stamps::TCG
+    n == julian::same_stamps::TCG
 }
 
 // Whether the way is one formula, by which a run is quicker.

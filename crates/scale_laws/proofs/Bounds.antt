@@ -14,7 +14,7 @@ use Rattle.scale_laws.specs.Picoseconds.{Picoseconds, practicalBounds, m
 use Rattle.scale_laws.proofs.Constants.{gps-about, tt-about, mjd-about, epoch-about, jd1977-about, tt-about-2, tdb0-about, lg-val, ratio-lg-val, lb-val, ratio-lb-val}
 use Rattle.scale_laws.proofs.Formulas.{part, plus-about, minus-about, days-about, Budget, less-since, more-since, less-until}
 use Rattle.scale_laws.proofs.Dates.{Sized, value, high, low, near-of, Formula, about-sized}
-use Rattle.shifts.specs.Shifts.{plus, minus, daysOf}
+use Rattle.julian.specs.shifts.Shifts.{plus, minus, daysOf}
 
 -- ---- so many days more, or less
 turn : (c p n q m K K' : ℕ) → q * c + K + (c * p + c * (n + m) + K') ≡ m * c + K' + (c * n + c * (p + q) + K)

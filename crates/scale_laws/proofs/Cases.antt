@@ -11,13 +11,13 @@ use Rattle.constants.specs.Constants.{secondsPerDay, mjdZeroPoint, gpsToTaiOffs
 use Rattle.refusals.specs.Outcome.{answer, refusal, onward}
 use Rattle.julian.specs.declared.JulianDate.{JulianDate}
 use Rattle.julian.specs.Finite.{finiteJd, finiteArg}
-use Rattle.shifts.specs.SmallerPart.{firstIsLarger, partsOf, putBack, mapSmallerPart}
+use Rattle.julian.specs.shifts.SmallerPart.{firstIsLarger, partsOf, putBack, mapSmallerPart}
 use Rattle.scales.specs.Formulas.{since, gpsDays, ttDays, tdb0, jd1977, tcgToTt, ttToTcg, tcbToTdb, tdbToTcb}
 use Rattle.scales.specs.Conversions.{gps-tai, tt-tai, tcb-tdb, tcg-tai, tai-ut1, answerOf}
 use Rattle.scale_laws.specs.Ranges.{Practical, Modified}
 use Rattle.scale_laws.specs.Meaning.{Apart, Means, taiOverGps}
 use Rattle.scale_laws.proofs.Recorders.{one-instant, one-instant-modified}
-use Rattle.shifts.specs.Shifts.{plus, minus, daysOf, changed, converted, finiteOffset, finiteBoth, convertedBy}
+use Rattle.julian.specs.shifts.Shifts.{plus, minus, daysOf, changed, converted, finiteOffset, finiteBoth, convertedBy}
 
 abbrev at : Float → Float → JulianDate
 at a b = record { jd1 = a; jd2 = b }

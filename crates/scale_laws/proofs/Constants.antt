@@ -9,7 +9,7 @@ use Rattle.rounding.specs.Value.{Val, L}
 use Rattle.rounding.proofs.About.{U, About}
 use Rattle.constants.specs.Constants.{secondsPerDay, mjdZeroPoint, gpsToTaiOffsetSeconds, ttTaiOffset, tcgRateLg, tcbRateLb, tdbOffset1977, mjd1977Jan1, tcgReferenceEpoch, ratio, tcgRateRatio, tcbRateRatio}
 use Rattle.scales.specs.Formulas.{gpsDays, ttDays, jd1977, tdb0}
-use Rattle.shifts.specs.Shifts.{daysOf}
+use Rattle.julian.specs.shifts.Shifts.{daysOf}
 
 pub gps-about : About gpsDays (19 * L) 0 (L * 86400) 1208925819614629174706176 3032327
 unfolding gpsDays gpsToTaiOffsetSeconds daysOf secondsPerDay div round L U

@@ -17,9 +17,9 @@ use Rattle.rounding.proofs.Compare.{lt-val}
 use Rattle.rounding.proofs.About.{U, About, size-high, size-low}
 use Rattle.rounding.specs.Picoseconds.{dayPs, Within}
 use Rattle.julian.specs.declared.JulianDate.{JulianDate}
-use Rattle.shifts.specs.SmallerPart.{firstIsLarger, mapSmallerPart}
+use Rattle.julian.specs.shifts.SmallerPart.{firstIsLarger, mapSmallerPart}
 use Rattle.scale_laws.specs.Meaning.{Close}
-use Rattle.shifts.proofs.SmallerPart.{mapAs, map-is}
+use Rattle.julian.proofs.shifts.SmallerPart.{mapAs, map-is}
 
 -- x is finite, and at most S * 2 ^ -90 in size
 pub record Sized (x : Float) (S : ℕ) : Type 0 where

@@ -22,17 +22,17 @@ use Rattle.rounding.proofs.About.{U, L-U, About, about-add, about-sub}
 use Rattle.refusals.specs.Outcome.{onward}
 use Rattle.julian.specs.declared.JulianDate.{JulianDate}
 use Rattle.julian.specs.Worth.{SmallParts}
-use Rattle.shifts.specs.SmallerPart.{firstIsLarger, mapSmallerPart}
+use Rattle.julian.specs.shifts.SmallerPart.{firstIsLarger, mapSmallerPart}
 use Rattle.scales.specs.Formulas.{gpsDays, ttDays, tcgToTt, ttToTcg, tcbToTdb, tdbToTcb}
 use Rattle.scales.specs.Conversions.{Conversion, gps-tai, tai-gps, tai-tt, tt-tai, tcg-tt, tt-tcg, tcb-tdb, tdb-tcb, tai-tcg, tcg-tai, tai-ut1, ut1-tai, ut1-tt, tt-ut1, tt-tdb, tdb-tt, offsetOf, answerOf}
 use Rattle.scale_laws.specs.Ranges.{AtMost, power, Billion, FiniteDate}
 use Rattle.refusals.proofs.Onward.{went}
-use Rattle.shifts.proofs.Outcomes.{converted-is, by-is}
-use Rattle.shifts.proofs.SmallerPart.{mapAs, map-is}
+use Rattle.julian.proofs.shifts.Outcomes.{converted-is, by-is}
+use Rattle.julian.proofs.shifts.SmallerPart.{mapAs, map-is}
 use Rattle.scale_laws.proofs.Constants.{gps-about, tt-about, mjd-about, epoch-about, jd1977-about, tt-about-2, tdb0-about, lg-val, ratio-lg-val, lb-val, ratio-lb-val}
 use Rattle.scale_laws.proofs.Formulas.{part, since-about, until-about, rate-less, rate-more, plus-about, minus-about, days-about}
 use Rattle.scale_laws.proofs.Dates.{Sized, above, beneath, value, high, low, under-as, about-sized}
-use Rattle.shifts.specs.Shifts.{plus, minus, daysOf, converted, convertedBy}
+use Rattle.julian.specs.shifts.Shifts.{plus, minus, daysOf, converted, convertedBy}
 
 -- ---- what is sized is finite
 pub sized-finite : {x : Float} {S : ℕ} → Sized x S → finite x ≡ true

@@ -11,7 +11,7 @@ use Rattle.rounding.specs.Value.{Val, L}
 use Rattle.rounding.proofs.About.{U, About, about-own, about-scale, about-add, about-sub, about-mul, about-div}
 use Rattle.constants.specs.Constants.{secondsPerDay}
 use Rattle.scales.specs.Formulas.{since}
-use Rattle.shifts.specs.Shifts.{plus, minus, daysOf}
+use Rattle.julian.specs.shifts.Shifts.{plus, minus, daysOf}
 
 -- a part of at most S units, its value (p - n) / L written over L * c
 pub part : (c S : ℕ) {x : Float} {p n : ℕ} → 0 < c → p ≤ n + S * U → n ≤ p + S * U → Val x p n L → About x (p * c) (n * c) (L * c) S 0

@@ -13,7 +13,7 @@ use Rattle.rounding.proofs.Value.{val-unique}
 use Rattle.rounding.proofs.About.{U}
 use Rattle.refusals.specs.Outcome.{Outcome, answer, onward}
 use Rattle.julian.specs.declared.JulianDate.{JulianDate}
-use Rattle.shifts.specs.SmallerPart.{firstIsLarger, mapSmallerPart}
+use Rattle.julian.specs.shifts.SmallerPart.{firstIsLarger, mapSmallerPart}
 use Rattle.scales.specs.Formulas.{gpsDays, ttDays, tcgToTt, ttToTcg, tcbToTdb, tdbToTcb}
 use Rattle.scales.specs.Conversions.{Conversion, gps-tai, tai-gps, tai-tt, tt-tai, tcg-tt, tt-tcg, tcb-tdb, tdb-tcb, tai-tcg, tcg-tai, tai-ut1, ut1-tai, ut1-tt, tt-ut1, tt-tdb, tdb-tt, offsetOf, answerOf}
 use Rattle.scale_laws.specs.Ranges.{AtMost, power, Practical, Modified, HalfDay}
@@ -22,12 +22,12 @@ use Rattle.julian.specs.Worth.{Worth}
 use Rattle.rounding.specs.Picoseconds.{dayPs}
 use Rattle.scale_laws.specs.Meaning.{Close, Meaning, Means, meaning, RightTo, Right, RightModified}
 use Rattle.refusals.proofs.Onward.{went}
-use Rattle.shifts.proofs.Outcomes.{converted-is, by-is}
-use Rattle.shifts.proofs.SmallerPart.{mapAs, map-is}
+use Rattle.julian.proofs.shifts.Outcomes.{converted-is, by-is}
+use Rattle.julian.proofs.shifts.SmallerPart.{mapAs, map-is}
 use Rattle.scale_laws.proofs.Dates.{Sized, PartsWithin, above, beneath, value, high, low, under-as, Chosen, chosen, Formula, close}
 use Rattle.scale_laws.proofs.Finiteness.{sized-finite, sized-at, power-units}
 use Rattle.scale_laws.proofs.Bounds.{halfDay, modifiedDays, Step, Laws, practical-laws, modified-laws}
-use Rattle.shifts.specs.Shifts.{plus, minus, daysOf, converted, convertedBy}
+use Rattle.julian.specs.shifts.Shifts.{plus, minus, daysOf, converted, convertedBy}
 
 -- ---- a date has one value
 pub worth-unique : {d : JulianDate} {p n q m : ℕ} → Worth d p n L → Worth d q m L → p + m ≡ q + n

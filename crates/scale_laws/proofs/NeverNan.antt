@@ -10,16 +10,16 @@ use Rattle.rounding.proofs.Value.{val-finite-true}
 use Rattle.constants.specs.Constants.{secondsPerDay, tcgRateLg, tcbRateLb, tcgRateRatio, tcbRateRatio, ratio}
 use Rattle.refusals.specs.Outcome.{Outcome, answer, refusal, onward}
 use Rattle.julian.specs.declared.JulianDate.{JulianDate}
-use Rattle.shifts.specs.SmallerPart.{firstIsLarger, mapSmallerPart}
+use Rattle.julian.specs.shifts.SmallerPart.{firstIsLarger, mapSmallerPart}
 use Rattle.scales.specs.Formulas.{since, gpsDays, ttDays, tdb0, jd1977, tcgToTt, ttToTcg, tcbToTdb, tdbToTcb}
 use Rattle.scales.specs.Conversions.{Conversion, gps-tai, tai-gps, tai-tt, tt-tai, tcg-tt, tt-tcg, tcb-tdb, tdb-tcb, tai-tcg, tcg-tai, tai-ut1, ut1-tai, ut1-tt, tt-ut1, tt-tdb, tdb-tt, answerOf}
 use Rattle.scale_laws.specs.Ranges.{Held}
 use Rattle.julian.specs.Finite.{finiteParts}
 use native.Mathlib.Omega.{arith}
-use Rattle.shifts.proofs.Outcomes.{and-left, and-right, first, first-by}
-use Rattle.shifts.proofs.SmallerPart.{mapAs, map-is}
+use Rattle.julian.proofs.shifts.Outcomes.{and-left, and-right, first, first-by}
+use Rattle.julian.proofs.shifts.SmallerPart.{mapAs, map-is}
 use Rattle.scale_laws.proofs.Shifts.{Small, added, taken, taken-from, gps-small, tt-small, tdb0-small, zero-point-small, epoch-small, jd1977-small}
-use Rattle.shifts.specs.Shifts.{plus, minus, daysOf, converted, convertedBy}
+use Rattle.julian.specs.shifts.Shifts.{plus, minus, daysOf, converted, convertedBy}
 
 -- ---- the operations
 record Number (x : Float) : Type 0 where

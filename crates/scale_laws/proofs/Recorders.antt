@@ -16,7 +16,7 @@ use Rattle.rounding.proofs.Own.{own, own-val}
 use Rattle.rounding.proofs.Bound.{rounds-mono}
 use Rattle.refusals.specs.Outcome.{answer}
 use Rattle.julian.specs.declared.JulianDate.{JulianDate}
-use Rattle.shifts.specs.SmallerPart.{firstIsLarger}
+use Rattle.julian.specs.shifts.SmallerPart.{firstIsLarger}
 use Rattle.scales.specs.Formulas.{gpsDays}
 use Rattle.scales.specs.Conversions.{gps-tai, offsetOf, answerOf}
 use Rattle.scale_laws.specs.Ranges.{Held, Practical, Modified, HalfDay}
@@ -24,12 +24,12 @@ use Rattle.scale_laws.specs.Picoseconds.{boundOf}
 use Rattle.rounding.specs.Picoseconds.{dayPs}
 use Rattle.scale_laws.specs.Meaning.{Close, Apart, Means, taiOverGps, meaning}
 use Rattle.scale_laws.specs.Recorders.{NotLater}
-use Rattle.shifts.proofs.Outcomes.{and-left, and-right, converted-is}
-use Rattle.shifts.proofs.SmallerPart.{mapAs, map-is}
+use Rattle.julian.proofs.shifts.Outcomes.{and-left, and-right, converted-is}
+use Rattle.julian.proofs.shifts.SmallerPart.{mapAs, map-is}
 use Rattle.scale_laws.proofs.Constants.{gps-about}
 use Rattle.scale_laws.proofs.Meant.{Meant, worth-unique, practical, modified}
 use Rattle.julian.specs.Finite.{finiteParts}
-use Rattle.shifts.specs.Shifts.{plus}
+use Rattle.julian.specs.shifts.Shifts.{plus}
 
 -- ---- one instant
 no-offset : HalfDay (offsetOf gps-tai)

@@ -9,17 +9,17 @@ use lib.Ieee.{Float}
 use lib.Ieee.Scale.{finite}
 use Rattle.refusals.specs.Outcome.{Outcome, answer, refusal, onward}
 use Rattle.julian.specs.declared.JulianDate.{JulianDate}
-use Rattle.shifts.specs.SmallerPart.{firstIsLarger, mapSmallerPart}
+use Rattle.julian.specs.shifts.SmallerPart.{firstIsLarger, mapSmallerPart}
 use Rattle.scales.specs.Formulas.{gpsDays, ttDays, tcgToTt, ttToTcg, tcbToTdb, tdbToTcb}
 use Rattle.scales.specs.Conversions.{Conversion, gps-tai, tai-gps, tai-tt, tt-tai, tcg-tt, tt-tcg, tcb-tdb, tdb-tcb, tai-tcg, tcg-tai, tai-ut1, ut1-tai, ut1-tt, tt-ut1, tt-tdb, tdb-tt, offsetOf, answerOf}
 use Rattle.scales.specs.Refusals.{testedFinite, DecidedFinite}
 use Rattle.scale_laws.specs.Ranges.{Held}
 use Rattle.scale_laws.specs.Refusals.{Refusals}
-use Rattle.shifts.proofs.Outcomes.{and-left, and-right, first, first-by}
-use Rattle.shifts.proofs.SmallerPart.{mapAs, map-is}
+use Rattle.julian.proofs.shifts.Outcomes.{and-left, and-right, first, first-by}
+use Rattle.julian.proofs.shifts.SmallerPart.{mapAs, map-is}
 use Rattle.scale_laws.proofs.Shifts.{added, tt-small}
 use Rattle.julian.specs.Finite.{finiteParts}
-use Rattle.shifts.specs.Shifts.{plus, minus, daysOf, converted, convertedBy}
+use Rattle.julian.specs.shifts.Shifts.{plus, minus, daysOf, converted, convertedBy}
 
 -- ---- TAI + 32.184 s is finite where TAI is
 both-true : {a b : Bool} → a ≡ true → b ≡ true → (a && b) ≡ true

@@ -5,7 +5,7 @@ use mathlib.Core.Bool.{Bool}
 use lib.Dec.{T}
 use lib.Ieee.{le}
 use Rattle.julian.specs.declared.JulianDate.{JulianDate}
-use Rattle.shifts.specs.SmallerPart.{partsAs}
+use Rattle.julian.specs.shifts.SmallerPart.{partsAs}
 
 -- d is not later than d', where b says whether jd1 is the larger part of both
 pub record NotLater (b : Bool) (d d' : JulianDate) : Type 0 where

@@ -4,7 +4,7 @@ use mathlib.Core.Path.{_≡_, refl}
 use lib.Ieee.{binary64, ofBits, round, neg, add, div}
 use Rattle.constants.specs.Constants.{secondsPerDay, mjdZeroPoint, mjd1977Jan1, ttTaiOffset, tdbOffset1977}
 use Rattle.scales.specs.Formulas.{ttDays, tdb0, jd1977}
-use Rattle.shifts.specs.Shifts.{daysOf}
+use Rattle.julian.specs.shifts.Shifts.{daysOf}
 
 pub t77td : ofBits binary64 0x4142_a3c4_4000_0000 ≡ jd1977
 unfolding jd1977 mjdZeroPoint mjd1977Jan1 add round ofBits

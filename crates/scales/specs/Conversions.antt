@@ -5,7 +5,7 @@ use Rattle.floats.specs.Whole.{nought}
 use Rattle.refusals.specs.Outcome.{Outcome, onward}
 use Rattle.julian.specs.declared.JulianDate.{JulianDate}
 use Rattle.scales.specs.Formulas.{gpsDays, ttDays, tcgToTt, ttToTcg, tcbToTdb, tdbToTcb}
-use Rattle.shifts.specs.Shifts.{plus, minus, converted, convertedBy}
+use Rattle.julian.specs.shifts.Shifts.{plus, minus, converted, convertedBy}
 
 -- from the first scale to the second; the last six by an offset in seconds that the caller gives
 pub data Conversion : Type 0 where

@@ -2,7 +2,7 @@
 -- operation rounded once and nothing fused. Assumes nothing.
 use lib.Ieee.{Float, binary64, add, sub, mul}
 use Rattle.constants.specs.Constants.{mjdZeroPoint, gpsToTaiOffsetSeconds, ttTaiOffset, tcgRateLg, tcbRateLb, tdbOffset1977, mjd1977Jan1, tcgReferenceEpoch, tcgRateRatio, tcbRateRatio}
-use Rattle.shifts.specs.Shifts.{daysOf}
+use Rattle.julian.specs.shifts.Shifts.{daysOf}
 
 -- TAI - GPS, TT - TAI and TDB_0, in days
 unfoldable pub gpsDays : Float

@@ -4,7 +4,7 @@ use mathlib.Core.Bool.{Bool, true, false, _&&_}
 use Rattle.refusals.specs.Outcome.{Outcome, answer, refusal}
 use Rattle.julian.specs.declared.JulianDate.{JulianDate}
 use Rattle.julian.specs.Finite.{finiteParts}
-use Rattle.shifts.specs.SmallerPart.{mapSmallerPart}
+use Rattle.julian.specs.shifts.SmallerPart.{mapSmallerPart}
 use Rattle.scales.specs.Formulas.{tcgToTt}
 use Rattle.scales.specs.Conversions.{Conversion, gps-tai, tai-gps, tai-tt, tt-tai, tcg-tt, tt-tcg, tcb-tdb, tdb-tcb, tai-tcg, tcg-tai, tai-ut1, ut1-tai, ut1-tt, tt-ut1, tt-tdb, tdb-tt}
 

@@ -11,8 +11,8 @@ use super::gps_answer;
 use super::tai_answer;
 use constants::GPS_TO_TAI_OFFSET_SECONDS;
 use constants::SECONDS_PER_DAY_F64;
-use shifts::smaller_part::earlier;
-use shifts::smaller_part::later;
+use julian::shifts::smaller_part::earlier;
+use julian::shifts::smaller_part::later;
 
 pub fn gps_days() -> f64
     ensures { λ r. ⌜ r ≡ gpsDays ⌝ }

@@ -15,8 +15,8 @@ use super::tt_tcg::tcg_to_tt;
 use super::tt_tcg::tt_to_tcg;
 use constants::SECONDS_PER_DAY_F64;
 use constants::TT_TAI_OFFSET;
-use shifts::smaller_part::earlier;
-use shifts::smaller_part::later;
+use julian::shifts::smaller_part::earlier;
+use julian::shifts::smaller_part::later;
 
 pub fn tt_days() -> f64
     ensures { λ r. ⌜ r ≡ ttDays ⌝ }

@@ -1,6 +1,6 @@
 // TDB = TCB - L_B (TCB - T0) + TDB_0, T0 being 1977 January 1, 32.184 s after midnight.
 ghost use mathlib.Core.Path.{_≡_};
-ghost use Rattle.shifts.specs.SmallerPart.{mapSmallerPart};
+ghost use Rattle.julian.specs.shifts.SmallerPart.{mapSmallerPart};
 ghost use Rattle.scales.specs.Scales.{tcbOutcome, tdbOutcome};
 ghost use Rattle.scales.specs.Formulas.{tcbToTdb, tdbToTcb};
 ghost use Rattle.scales.specs.Conversions.{answerOf, tcb-tdb, tdb-tcb};
@@ -17,8 +17,8 @@ use constants::TDB_OFFSET_1977;
 use constants::TT_TAI_OFFSET;
 use julian::JulianAnswer;
 use julian::JulianDate;
-use shifts::smaller_part::put_back;
-use shifts::smaller_part::split;
+use julian::shifts::smaller_part::put_back;
+use julian::shifts::smaller_part::split;
 
 // T0: the day, and the 32.184 s after midnight in days.
 const T77TD: f64 = MJD_ZERO_POINT + MJD_1977_JAN_1;

@@ -1,6 +1,6 @@
 // TT = TCG - L_G (TCG - T0), T0 being 1977 January 1, 32.184 s after midnight.
 ghost use mathlib.Core.Path.{_≡_};
-ghost use Rattle.shifts.specs.SmallerPart.{mapSmallerPart};
+ghost use Rattle.julian.specs.shifts.SmallerPart.{mapSmallerPart};
 ghost use Rattle.scales.specs.Scales.{ttOutcome, tcgOutcome};
 ghost use Rattle.scales.specs.Formulas.{tcgToTt, ttToTcg};
 ghost use Rattle.scales.specs.Conversions.{answerOf, tcg-tt, tt-tcg};
@@ -14,8 +14,8 @@ use constants::TCG_RATE_RATIO;
 use constants::TCG_REFERENCE_EPOCH;
 use julian::JulianAnswer;
 use julian::JulianDate;
-use shifts::smaller_part::put_back;
-use shifts::smaller_part::split;
+use julian::shifts::smaller_part::put_back;
+use julian::shifts::smaller_part::split;
 
 pub fn tcg_to_tt_part(larger: f64, smaller: f64) -> f64
     ensures { λ r. ⌜ r ≡ tcgToTt larger smaller ⌝ }

@@ -8,8 +8,8 @@ use super::TdbAnswer;
 use super::TtAnswer;
 use super::tdb_answer;
 use super::tt_answer;
-use shifts::given_offset::earlier_by;
-use shifts::given_offset::later_by;
+use julian::shifts::given_offset::earlier_by;
+use julian::shifts::given_offset::later_by;
 
 pub fn tt_to_tdb_with_offset(tt: TT, seconds: f64) -> TdbAnswer
     ensures { λ r. ⌜ tdbOutcome r ≡ answerOf (tt-tdb seconds) (tt .0) ⌝ }

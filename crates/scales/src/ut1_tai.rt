@@ -11,8 +11,8 @@ use super::Ut1Answer;
 use super::tai_answer;
 use super::tt_answer;
 use super::ut1_answer;
-use shifts::given_offset::earlier_by;
-use shifts::given_offset::later_by;
+use julian::shifts::given_offset::earlier_by;
+use julian::shifts::given_offset::later_by;
 
 pub fn ut1_to_tai_with_offset(ut1: UT1, seconds: f64) -> TaiAnswer
     ensures { λ r. ⌜ taiOutcome r ≡ answerOf (ut1-tai seconds) (ut1 .0) ⌝ }

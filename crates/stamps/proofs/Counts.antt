@@ -11,10 +11,10 @@ use mir.Facts.{toZ-ofZ}
 use Rattle.refusals.specs.Outcome.{answer, refusal, onward}
 use Rattle.calendar.specs.Gregorian.{gregorianDate}
 use Rattle.calendar.proofs.Years.{validOf, gregorian-valid}
-use Rattle.day_number.specs.declared.DayNumber.{DayNumber}
-use Rattle.day_number.specs.declared.DayAnswer.{DayAnswer}
-use Rattle.day_number.specs.declared.DayAnswer.the-variants.{Day, Refused}
-use Rattle.day_number.specs.Answer.{dayOutcome, dayNumberAndFraction}
+use Rattle.julian.specs.declared.day_number.DayNumber.{DayNumber}
+use Rattle.julian.specs.declared.day_number.DayAnswer.{DayAnswer}
+use Rattle.julian.specs.declared.day_number.DayAnswer.the-variants.{Day, Refused}
+use Rattle.julian.specs.day_number.Answer.{dayOutcome, dayNumberAndFraction}
 use Rattle.julian.specs.declared.JulianDate.{JulianDate}
 use Rattle.julian.specs.Calendar.{fields, julianToCalendar}
 use Rattle.leap_table.specs.rows.Table.{Row}

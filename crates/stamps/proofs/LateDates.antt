@@ -21,19 +21,19 @@ use Rattle.rounding.proofs.Nearest.{rn-le}
 use Rattle.rounding.proofs.TwoSumFloat.{At, rounds-at}
 use Rattle.rounding.proofs.Compare.{le-true, le-show}
 use Rattle.floats.specs.Whole.{nearestInt, nought}
-use Rattle.day_number.specs.declared.DayAnswer.the-variants.{Day}
-use Rattle.day_number.specs.DayNumber.{c-djmin, c-djmax, inJulianRange, accepted, dayNumber, dayOf}
-use Rattle.day_number.specs.Answer.{dayOutcome}
-use Rattle.day_number.proofs.Units.{E, E-L, E-pos, H, H-L, W, L-W, min-L, nought-L}
-use Rattle.day_number.proofs.SignedUnits.{has-val}
-use Rattle.day_number.proofs.NearestInt.{sat-plus, sat-minus}
-use Rattle.day_number.proofs.JulianRange.{exact-sum, far}
-use Rattle.day_number.proofs.IntegerSum.{gather3}
-use Rattle.day_number.proofs.Pair.{AcceptedSum}
-use Rattle.day_number.proofs.Accepted.{accepted-pair}
-use Rattle.day_number.proofs.TotalDay.{sides}
-use Rattle.day_number.proofs.DayInRange.{total-is, number-is}
-use Rattle.day_number.proofs.Answer.{answered}
+use Rattle.julian.specs.declared.day_number.DayAnswer.the-variants.{Day}
+use Rattle.julian.specs.day_number.DayNumber.{c-djmin, c-djmax, inJulianRange, accepted, dayNumber, dayOf}
+use Rattle.julian.specs.day_number.Answer.{dayOutcome}
+use Rattle.julian.proofs.day_number.Units.{E, E-L, E-pos, H, H-L, W, L-W, min-L, nought-L}
+use Rattle.julian.proofs.day_number.SignedUnits.{has-val}
+use Rattle.julian.proofs.day_number.NearestInt.{sat-plus, sat-minus}
+use Rattle.julian.proofs.day_number.JulianRange.{exact-sum, far}
+use Rattle.julian.proofs.day_number.IntegerSum.{gather3}
+use Rattle.julian.proofs.day_number.Pair.{AcceptedSum}
+use Rattle.julian.proofs.day_number.Accepted.{accepted-pair}
+use Rattle.julian.proofs.day_number.TotalDay.{sides}
+use Rattle.julian.proofs.day_number.DayInRange.{total-is, number-is}
+use Rattle.julian.proofs.day_number.Answer.{answered}
 use Rattle.julian.specs.declared.JulianDate.{JulianDate}
 use Rattle.leap_table.specs.rows.Table.{Row}
 use Rattle.iso_texts.specs.Expanded.{isoTextExpanded}

@@ -8,7 +8,7 @@ ghost use lib.IntN.{negsuc};
 ghost use lib.Signed.{ltZ};
 ghost use lib.Ieee.{le};
 ghost use Rattle.floats.specs.Whole.{nought};
-ghost use Rattle.day_number.specs.DayNumber.{c-djmax};
+ghost use Rattle.julian.specs.day_number.DayNumber.{c-djmax};
 ghost use Rattle.leap_table.specs.rows.Table.{Row};
 ghost use Rattle.leap_table.specs.rows.Lent.{rowsOf, tableOf};
 ghost use Rattle.iso_texts.specs.Expanded.{isoTextExpanded};
@@ -24,7 +24,7 @@ use super::block_stamps;
 use super::place;
 use super::stamp_at;
 use super::told;
-use day_number::DayAnswer;
+use julian::day_number::DayAnswer;
 use julian::JulianDate;
 use leap_table::rows::LentRows;
 use scales::UTC;
@@ -94,7 +94,7 @@ fn one_if_refused(jd: JulianDate) -> u32
     if surely_shown(jd.jd1 + jd.jd2) {
         return 0;
     }
-    match day_number::day_number_and_fraction(jd.jd1, jd.jd2) {
+    match julian::day_number::day_number_and_fraction(jd.jd1, jd.jd2) {
         DayAnswer::Refused(_) => 1,
         DayAnswer::Day(found) => one_if_early(found.day),
     }

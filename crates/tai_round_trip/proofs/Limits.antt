@@ -11,7 +11,7 @@ use Rattle.refusals.proofs.Onward.{went}
 use Rattle.floats.specs.Whole.{nought}
 use Rattle.constants.specs.Constants.{decimal}
 use Rattle.rounding.specs.Value.{Val, L}
-use Rattle.day_number.proofs.Units.{nought-L}
+use Rattle.julian.proofs.day_number.Units.{nought-L}
 use Rattle.julian.specs.declared.JulianDate.{JulianDate}
 use Rattle.julian.specs.JulianDate.{julian}
 use Rattle.leap_table.specs.rows.Table.{fixed}

@@ -1,5 +1,5 @@
 -- UTC to TAI keeps the order of two stamps of one jd1, no gap asked, whatever their jd2, on the grid or off it, over midnights and leap seconds: the calendar keeps it
--- (day_order), and so does all that follows (Ordered). Assumes nothing.
+-- (julian::day_order), and so does all that follows (Ordered). Assumes nothing.
 use mathlib.Core.Path.{_≡_, sym, subst, subst₂}
 use Prim.Native.Nat.{ℕ, _+_, _*_, _≤_}
 use native.Mathlib.Nat.{zero-mul}
@@ -10,10 +10,10 @@ use lib.Ieee.{Float, le}
 use Rattle.refusals.specs.Outcome.{answer}
 use Rattle.rounding.specs.Value.{L, plusZ, minusZ}
 use Rattle.rounding.proofs.Value.{val-unique}
-use Rattle.day_number.specs.DayNumber.{dayOf}
-use Rattle.day_number.specs.Answer.{dayNumberAndFraction}
-use Rattle.day_order.specs.Order.{WholeHalves, NoLater}
-use Rattle.day_order.proofs.Order.{calendar-order}
+use Rattle.julian.specs.day_number.DayNumber.{dayOf}
+use Rattle.julian.specs.day_number.Answer.{dayNumberAndFraction}
+use Rattle.julian.specs.day_order.Order.{WholeHalves, NoLater}
+use Rattle.julian.proofs.day_order.Order.{calendar-order}
 use Rattle.julian.specs.declared.JulianDate.{JulianDate}
 use Rattle.leap_table.specs.rows.Table.{fixed}
 use Rattle.utc_scales.specs.UtcTai.{utcToTai}

@@ -9,7 +9,7 @@ use lib.Ieee.{Float, binary64, fits, le}
 use Rattle.floats.specs.Whole.{abs, one}
 use Rattle.rounding.specs.Value.{Val, L}
 use Rattle.rounding.proofs.Range.{size-at-most}
-use Rattle.day_number.proofs.Units.{one-L}
+use Rattle.julian.proofs.day_number.Units.{one-L}
 use Rattle.julian.specs.declared.JulianDate.{JulianDate}
 use Rattle.julian.specs.JulianDate.{julian}
 use Rattle.julian.specs.Worth.{Worth}

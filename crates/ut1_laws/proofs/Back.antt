@@ -24,12 +24,12 @@ use Rattle.rounding.proofs.Scaled.{div-near}
 use Rattle.rounding.proofs.Sizes.{whole-val}
 use Rattle.rounding.proofs.Range.{size-at-most}
 use Rattle.calendar.specs.Gregorian.{gregorianDate}
-use Rattle.day_number.specs.DayNumber.{dayOf}
-use Rattle.day_number.proofs.Units.{H-L, one-L, half-L}
+use Rattle.julian.specs.day_number.DayNumber.{dayOf}
+use Rattle.julian.proofs.day_number.Units.{H-L, one-L, half-L}
 use Rattle.julian.specs.declared.JulianDate.{JulianDate}
 use Rattle.julian.specs.JulianDate.{julian}
 use Rattle.julian.specs.Finite.{finiteArg, finiteJd}
-use Rattle.julian_laws.proofs.UnixTime.{day-val}
+use Rattle.julian.proofs.laws.UnixTime.{day-val}
 use Rattle.leap_table.specs.rows.Table.{fixed}
 use Rattle.leap_table.specs.offsets.Offset.{wholeF}
 use Rattle.leap_table.specs.offsets.Leap.{offsets}

@@ -12,8 +12,8 @@ use Rattle.constants.specs.Constants.{secondsPerDay}
 use Rattle.rounding.specs.Value.{Val, L}
 use Rattle.rounding.proofs.Value.{L-pos, val-unique}
 use Rattle.rounding.proofs.Range.{size-at-most}
-use Rattle.day_number.specs.DayNumber.{dayOf}
-use Rattle.day_number.proofs.Units.{one-L}
+use Rattle.julian.specs.day_number.DayNumber.{dayOf}
+use Rattle.julian.proofs.day_number.Units.{one-L}
 use Rattle.julian.specs.declared.JulianDate.{JulianDate}
 use Rattle.julian.specs.JulianDate.{julian}
 use Rattle.rounding.specs.Picoseconds.{dayPs}

@@ -24,19 +24,19 @@ use Rattle.rounding.proofs.Scaled.{div-near}
 use Rattle.rounding.proofs.Sizes.{whole-val}
 use Rattle.rounding.proofs.Range.{size-at-most}
 use Rattle.calendar.specs.Gregorian.{gregorianDate}
-use Rattle.day_number.specs.DayNumber.{dayOf}
-use Rattle.day_number.proofs.Units.{one-L}
+use Rattle.julian.specs.day_number.DayNumber.{dayOf}
+use Rattle.julian.proofs.day_number.Units.{one-L}
 use Rattle.julian.specs.declared.JulianDate.{JulianDate}
 use Rattle.julian.specs.JulianDate.{julian}
 use Rattle.julian.specs.Finite.{finiteArg}
-use Rattle.julian_laws.proofs.UnixTime.{day-val}
+use Rattle.julian.proofs.laws.UnixTime.{day-val}
 use Rattle.leap_table.specs.rows.Table.{fixed}
 use Rattle.leap_table.specs.offsets.Offset.{wholeF}
 use Rattle.leap_table.specs.offsets.Leap.{offsets}
-use Rattle.shifts.specs.SmallerPart.{firstIsLarger}
-use Rattle.shifts.specs.Shifts.{plus, daysOf}
-use Rattle.shifts.proofs.Outcomes.{by-is}
-use Rattle.shifts.proofs.SmallerPart.{mapAs, map-is}
+use Rattle.julian.specs.shifts.SmallerPart.{firstIsLarger}
+use Rattle.julian.specs.shifts.Shifts.{plus, daysOf}
+use Rattle.julian.proofs.shifts.Outcomes.{by-is}
+use Rattle.julian.proofs.shifts.SmallerPart.{mapAs, map-is}
 use Rattle.scales.specs.Conversions.{answerOf}
 use Rattle.rounding.specs.Picoseconds.{dayPs}
 use Rattle.utc_days.specs.Dates.{offsetAt0h, offsetOfDate}

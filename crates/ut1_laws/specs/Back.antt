@@ -6,7 +6,7 @@ use lib.IntN.{ℤ, pos, negsuc}
 use lib.Ieee.{Float, binary64, ofInt, add}
 use Rattle.refusals.specs.Outcome.{answer}
 use Rattle.rounding.specs.Value.{Val, L}
-use Rattle.day_number.specs.DayNumber.{dayOf}
+use Rattle.julian.specs.day_number.DayNumber.{dayOf}
 use Rattle.julian.specs.declared.JulianDate.{JulianDate}
 use Rattle.julian.specs.JulianDate.{julian}
 use Rattle.leap_table.specs.rows.Table.{fixed}

@@ -6,8 +6,8 @@ use lib.IntN.{pos}
 use lib.Ieee.{Float}
 use Rattle.refusals.specs.Outcome.{answer}
 use Rattle.rounding.specs.Value.{Val, L}
-use Rattle.day_number.specs.DayNumber.{dayOf}
-use Rattle.day_number.specs.Answer.{dayNumberAndFraction}
+use Rattle.julian.specs.day_number.DayNumber.{dayOf}
+use Rattle.julian.specs.day_number.Answer.{dayNumberAndFraction}
 use Rattle.julian.specs.declared.JulianDate.{JulianDate}
 use Rattle.leap_table.specs.rows.Table.{fixed}
 use Rattle.scale_laws.specs.Meaning.{Meaning, Means}

@@ -10,10 +10,10 @@ use Rattle.refusals.specs.Outcome.{answer, refusal, onward}
 use Rattle.refusals.proofs.Onward.{went, stopped}
 use Rattle.floats.specs.Whole.{abs, half}
 use Rattle.calendar.specs.Gregorian.{gregorianDate}
-use Rattle.day_number.specs.declared.DayNumber.{DayNumber}
-use Rattle.day_number.specs.Answer.{dayNumberAndFraction}
-use Rattle.day_number.specs.Ranges.{InDays}
-use Rattle.julian_laws.proofs.CalendarDays.{fields-of}
+use Rattle.julian.specs.declared.day_number.DayNumber.{DayNumber}
+use Rattle.julian.specs.day_number.Answer.{dayNumberAndFraction}
+use Rattle.julian.specs.day_number.Ranges.{InDays}
+use Rattle.julian.proofs.laws.CalendarDays.{fields-of}
 use Rattle.leap_table.specs.rows.Table.{Row}
 use Rattle.utc_days.specs.Dates.{offsetAt0h, midnightOf}
 use Rattle.utc_days.proofs.Midnights.{midnightOfDay, valid-midnight, offset-valid}

@@ -15,7 +15,7 @@ mod months;
 
 use constants::MJD_ZERO_POINT;
 use constants::SECONDS_PER_DAY_F64;
-use day_number::DayAnswer;
+use julian::day_number::DayAnswer;
 use julian::FractionAnswer;
 use julian::JulianAnswer;
 use julian::JulianDate;
@@ -94,7 +94,7 @@ fn scan_day<'a>(
     requires { ⌜ RightMonth (rowsIn size (now months) (now seconds)) before ⌝ }
     ensures { λ r. ⌜ (U.scanOutcome r ≡ U.scanDay (rowsIn size (now (months .entry)) (now (seconds .entry))) big small dut1 i (before .seconds)) × RightScan (rowsIn size (now (months .entry)) (now (seconds .entry))) r ⌝ }
 {
-    match day_number::day_number_and_fraction(big, small + i) {
+    match julian::day_number::day_number_and_fraction(big, small + i) {
         DayAnswer::Refused(number) => DayScan::Refused(number),
         DayAnswer::Day(d) => match month_with(d.day, before, size, months, seconds) {
             MonthAnswer::Refused(number) => DayScan::Refused(number),

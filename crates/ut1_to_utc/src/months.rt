@@ -7,7 +7,7 @@ ghost use Rattle.calendar.specs.Gregorian.{gregorianDate};
 ghost use Rattle.leap_table.specs.rows.Lent.{rowsIn};
 ghost use Rattle.utc_days.specs.Dates.{offsetAt0h, offsetOfDate};
 ghost use Rattle.ut1_to_utc.specs.KnownMonths.{RightMonth, RightMonths, monthOutcome};
-use day_number::DayAnswer;
+use julian::day_number::DayAnswer;
 use leap_table::offsets::SecondsByRule;
 use utc_days::offset_at_0h;
 
@@ -73,7 +73,7 @@ pub(crate) fn month_of_date<'a>(
 ) -> MonthAnswer
     ensures { λ r. ⌜ (monthOutcome r ≡ offsetOfDate (rowsIn size (now (months .entry)) (now (seconds .entry))) jd1 jd2) × RightMonths (rowsIn size (now (months .entry)) (now (seconds .entry))) r ⌝ }
 {
-    match day_number::day_number_and_fraction(jd1, jd2) {
+    match julian::day_number::day_number_and_fraction(jd1, jd2) {
         DayAnswer::Refused(number) => MonthAnswer::Refused(number),
         DayAnswer::Day(d) => month_of(d.day, size, months, seconds),
     }

@@ -21,11 +21,11 @@ use Rattle.calendar.specs.Gregorian.{gregorianDate}
 use Rattle.calendar.proofs.Accepted.{date-accepted}
 use Rattle.calendar.proofs.Years.{validOf, from-lower, gregorian-in-range, gregorian-valid, gregorian-refusal}
 use Rattle.calendar.proofs.Mjd.{mjd-refused, mjd-of-date}
-use Rattle.day_number.specs.Ranges.{InDays}
-use Rattle.day_number.proofs.Ranges.{day-read}
+use Rattle.julian.specs.day_number.Ranges.{InDays}
+use Rattle.julian.proofs.day_number.Ranges.{day-read}
 use Rattle.julian.specs.declared.JulianDate.{JulianDate}
 use Rattle.julian.specs.JulianDate.{julian}
-use Rattle.julian_laws.proofs.CalendarDays.{not-above}
+use Rattle.julian.proofs.laws.CalendarDays.{not-above}
 use Rattle.julian.proofs.Midnights.{midnight-given}
 use Rattle.leap_table.specs.declared.offsets.DayOffsets.{DayOffsets}
 use Rattle.leap_table.specs.rows.Table.{Row}

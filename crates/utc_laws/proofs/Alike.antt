@@ -10,10 +10,10 @@ use lib.ListN.{length, take, drop}
 use lib.Seq.{take-at, drop-at}
 use lib.Ieee.{Float, binary64, fits}
 use Rattle.refusals.specs.Outcome.{Outcome, answer, refusal, onward}
-use Rattle.day_number.specs.ExactDay.{OnGrid, gridSum}
+use Rattle.julian.specs.day_number.ExactDay.{OnGrid, gridSum}
 use Rattle.julian.specs.declared.CalendarFields.{CalendarFields}
 use Rattle.julian.specs.JulianDate.{julian}
-use Rattle.julian_laws.proofs.CalendarDays.{one-outcome}
+use Rattle.julian.proofs.laws.CalendarDays.{one-outcome}
 use Rattle.leap_table.specs.rows.Table.{Row}
 use Rattle.utc_text.specs.declared.TextAnswer.{TextAnswer}
 use Rattle.utc_text.specs.declared.TextAnswer.the-variants.{Written, Refused}

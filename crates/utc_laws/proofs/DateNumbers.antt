@@ -19,7 +19,7 @@ use Rattle.julian.specs.declared.CalendarFields.{CalendarFields}
 use Rattle.julian.specs.JulianDate.{julian}
 use Rattle.julian.specs.DayFraction.{timeInDay, dayFraction}
 use Rattle.julian.specs.Calendar.{julianToCalendar}
-use Rattle.julian_laws.proofs.CalendarDays.{only-six}
+use Rattle.julian.proofs.laws.CalendarDays.{only-six}
 use Rattle.leap_table.specs.rows.Table.{Row}
 use Rattle.leap_table.specs.offsets.Leap.{dayOffsets, leapOf, leapAtEndOfDay}
 use Rattle.leap_table.specs.declared.offsets.DayOffsets.{DayOffsets}

@@ -14,9 +14,9 @@ use lib.Ieee.{Float, binary64, fits}
 use Rattle.refusals.specs.Outcome.{answer, refusal}
 use Rattle.calendar.specs.declared.CalendarDate.{CalendarDate}
 use Rattle.calendar.specs.Calendar.{dateOf, next}
-use Rattle.day_number.specs.ExactDay.{OnGrid, gridSum, GridSumInRange, exactDay, exactFraction, fractionOf}
-use Rattle.day_number.specs.Ranges.{InDays}
-use Rattle.day_number.proofs.ExactDay.{exact-day}
+use Rattle.julian.specs.day_number.ExactDay.{OnGrid, gridSum, GridSumInRange, exactDay, exactFraction, fractionOf}
+use Rattle.julian.specs.day_number.Ranges.{InDays}
+use Rattle.julian.proofs.day_number.ExactDay.{exact-day}
 use Rattle.julian.specs.JulianDate.{julian}
 use Rattle.leap_table.specs.rows.Table.{Row, fixed}
 use Rattle.leap_table.specs.offsets.Leap.{leapAtEndOfDay}

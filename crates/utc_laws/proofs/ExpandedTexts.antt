@@ -14,7 +14,7 @@ use Rattle.floats.specs.Whole.{away}
 use Rattle.calendar.specs.declared.CalendarDate.{CalendarDate}
 use Rattle.calendar.specs.Calendar.{date, next, leapSize, lengths, daysInMonth}
 use Rattle.calendar.specs.Refusals.{validDate, nextOf}
-use Rattle.day_number.specs.ExactDay.{OnGrid, gridSum, GridSumInRange}
+use Rattle.julian.specs.day_number.ExactDay.{OnGrid, gridSum, GridSumInRange}
 use Rattle.julian.specs.declared.JulianDate.{JulianDate}
 use Rattle.julian.specs.JulianDate.{julian}
 use Rattle.leap_table.specs.rows.Table.{Row, fixed}

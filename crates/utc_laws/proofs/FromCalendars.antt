@@ -16,8 +16,8 @@ use Rattle.julian.specs.DayFraction.{timeInDay, dayFraction}
 use Rattle.julian.specs.Calendar.{fromCalendar}
 use Rattle.julian.specs.Calendar as Julian
 use Rattle.julian.proofs.Midnights.{midnight-refused, midnight-given}
-use Rattle.julian_laws.proofs.RoundTrip.{midnight-fraction}
-use Rattle.julian_laws.proofs.Clock.{hour-refused, minute-refused}
+use Rattle.julian.proofs.laws.RoundTrip.{midnight-fraction}
+use Rattle.julian.proofs.laws.Clock.{hour-refused, minute-refused}
 use Rattle.leap_table.specs.rows.Table.{Row}
 use Rattle.leap_table.specs.offsets.Leap.{leapAtEndOfDay}
 use Rattle.utc.specs.FromCalendar.{midnightPlus, utcFromCalendar}

@@ -11,8 +11,8 @@ use lib.ListN.{length}
 use lib.Ieee.{Float, binary64, fits}
 use lib.Ieee.Scale.{finite}
 use Rattle.refusals.specs.Outcome.{answer, refusal}
-use Rattle.day_number.specs.ExactDay.{OnGrid, gridSum, GridSumInRange, fractionOf}
-use Rattle.day_number.proofs.ExactDay.{fraction-exact}
+use Rattle.julian.specs.day_number.ExactDay.{OnGrid, gridSum, GridSumInRange, fractionOf}
+use Rattle.julian.proofs.day_number.ExactDay.{fraction-exact}
 use Rattle.julian.specs.declared.JulianDate.{JulianDate}
 use Rattle.julian.specs.JulianDate.{julian}
 use Rattle.leap_table.specs.rows.Table.{Row, fixed}

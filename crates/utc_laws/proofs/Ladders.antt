@@ -18,8 +18,8 @@ use Rattle.calendar.specs.Refusals.{validDate}
 use Rattle.calendar.specs.declared.CalendarDate.{CalendarDate}
 use Rattle.calendar.proofs.Years.{validOf, gregorian-refusal}
 use Rattle.calendar.proofs.Accepted.{date-accepted}
-use Rattle.day_number.specs.DayNumber.{accepted, dayOf}
-use Rattle.day_number.proofs.Answer.{answered, refused}
+use Rattle.julian.specs.day_number.DayNumber.{accepted, dayOf}
+use Rattle.julian.proofs.day_number.Answer.{answered, refused}
 use Rattle.julian.specs.declared.CalendarFields.{CalendarFields}
 use Rattle.julian.specs.Calendar.{fields, julianToCalendar}
 use Rattle.leap_table.specs.declared.rows.LentRows.{LentRows}

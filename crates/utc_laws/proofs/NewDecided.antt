@@ -23,8 +23,8 @@ use Rattle.calendar.specs.Calendar.{date}
 use Rattle.calendar.specs.declared.CalendarDate.{CalendarDate}
 use Rattle.calendar.proofs.Years.{validOf, gregorian-in-range, gregorian-refusal}
 use Rattle.calendar.proofs.NextDates.{by}
-use Rattle.day_number.specs.DayNumber.{accepted, dayOf}
-use Rattle.day_number.proofs.Answer.{answered, refused}
+use Rattle.julian.specs.day_number.DayNumber.{accepted, dayOf}
+use Rattle.julian.proofs.day_number.Answer.{answered, refused}
 use Rattle.leap_days.specs.drift.Small.{small}
 use Rattle.julian.specs.declared.CalendarFields.{CalendarFields}
 use Rattle.julian.specs.DayFraction.{timeInDay}

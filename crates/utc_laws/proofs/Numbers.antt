@@ -13,13 +13,13 @@ use lib.Ieee.Scale.{finite}
 use Rattle.refusals.specs.Outcome.{Outcome, answer, refusal, onward}
 use Rattle.calendar.specs.declared.CalendarDate.{CalendarDate}
 use Rattle.calendar.proofs.Years.{validOf, gregorian-refusal}
-use Rattle.day_number.specs.DayNumber.{accepted}
-use Rattle.day_number.proofs.Answer.{refused}
-use Rattle.day_number.proofs.JulianRange.{accepted-finite}
+use Rattle.julian.specs.day_number.DayNumber.{accepted}
+use Rattle.julian.proofs.day_number.Answer.{refused}
+use Rattle.julian.proofs.day_number.JulianRange.{accepted-finite}
 use Rattle.julian.specs.declared.JulianDate.{JulianDate}
 use Rattle.julian.specs.declared.CalendarFields.{CalendarFields}
 use Rattle.julian.specs.Calendar.{julianToCalendar}
-use Rattle.julian_laws.proofs.CalendarDays.{only-six}
+use Rattle.julian.proofs.laws.CalendarDays.{only-six}
 use Rattle.leap_table.specs.rows.Table.{Row}
 use Rattle.utc_text.specs.declared.TextAnswer.the-variants.{Refused}
 use Rattle.utc_text.specs.Answer.{textOutcome, textWritten}

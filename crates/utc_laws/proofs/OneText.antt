@@ -9,7 +9,7 @@ use lib.ListN.{length, drop}
 use lib.Ieee.{Float}
 use borrow.Author.Tests.{leb-true, leb-false}
 use Rattle.refusals.specs.Outcome.{answer, refusal}
-use Rattle.day_number.specs.ExactDay.{GridSumInRange}
+use Rattle.julian.specs.day_number.ExactDay.{GridSumInRange}
 use Rattle.julian.specs.declared.JulianDate.{JulianDate}
 use Rattle.leap_table.specs.declared.rows.LentRows.{LentRows}
 use Rattle.leap_table.specs.rows.Table.{Row, fixed}

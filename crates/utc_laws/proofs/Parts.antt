@@ -22,8 +22,8 @@ use Rattle.rounding.proofs.Sterbenz.{rounds-rep}
 use Rattle.rounding.proofs.Casts.{plusZ, minusZ}
 use Rattle.calendar.specs.DayCount.{mjdNumber, mjdOf}
 use Rattle.calendar.proofs.Mjd.{mjd-valid, mjd-given, same-answer}
-use Rattle.day_number.specs.MinusZero.{minusZero}
-use Rattle.day_number.proofs.MinusZero.{add-unsigned}
+use Rattle.julian.specs.day_number.MinusZero.{minusZero}
+use Rattle.julian.proofs.day_number.MinusZero.{add-unsigned}
 use Rattle.julian.specs.declared.JulianDate.{JulianDate}
 use Rattle.julian.specs.JulianDate.{julian}
 use Rattle.julian.specs.DayFraction.{timeInDay}

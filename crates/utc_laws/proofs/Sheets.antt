@@ -5,8 +5,8 @@ use lib.Dec.{lit<}
 use lib.Ieee.{Float}
 use Rattle.floats.specs.Whole.{away}
 use Rattle.calendar.specs.declared.CalendarDate.{CalendarDate}
-use Rattle.day_number.specs.ExactDay.{fractionOf}
-use Rattle.day_number.proofs.ExactDay.{fraction-exact}
+use Rattle.julian.specs.day_number.ExactDay.{fractionOf}
+use Rattle.julian.proofs.day_number.ExactDay.{fraction-exact}
 use Rattle.time_of_day.specs.declared.TimeOfDay.{TimeOfDay}
 use Rattle.time_of_day.specs.Milliseconds.{wholeLeap}
 use Rattle.time_of_day.specs.TimeShown.{countBy}

@@ -17,8 +17,8 @@ use Rattle.calendar.proofs.Days.{next-number-is-next-date}
 use Rattle.calendar.proofs.Gregorian.{gregorian-is-date-of-day}
 use Rattle.calendar.proofs.Mjd.{date-of-mjd}
 use Rattle.calendar.proofs.Years.{DateInRange, gregorian-in-range, validOf, year-before-first, from-lower, date-of-in-calendar}
-use Rattle.day_number.specs.Ranges.{InDays}
-use Rattle.julian_laws.proofs.CalendarDays.{not-above}
+use Rattle.julian.specs.day_number.Ranges.{InDays}
+use Rattle.julian.proofs.laws.CalendarDays.{not-above}
 
 pub early-refused : (n : ℤ) → ltZ (dateOf n .year) (negsuc 4798) ≡ true → validOf (dateOf n) ≡ refusal 1
 early-refused n e = sym (year-refused (dateOf n .year) (pos (dateOf n .month)) (pos (dateOf n .day)) e)

@@ -11,10 +11,10 @@ use lib.Ieee.{binary64, fits}
 use lib.Ieee.Fits.{round-fits}
 use Rattle.refusals.specs.Outcome.{Outcome}
 use Rattle.calendar.specs.Calendar.{dateOf}
-use Rattle.day_number.specs.ExactDay.{GridSumInRange, exactDay, exactFraction, fractionOf}
-use Rattle.day_number.specs.Ranges.{InDays}
+use Rattle.julian.specs.day_number.ExactDay.{GridSumInRange, exactDay, exactFraction, fractionOf}
+use Rattle.julian.specs.day_number.Ranges.{InDays}
 use Rattle.julian.specs.declared.JulianDate.{JulianDate}
-use Rattle.julian_laws.proofs.CalendarDays.{day-low, day-high, exact-date}
+use Rattle.julian.proofs.laws.CalendarDays.{day-low, day-high, exact-date}
 use Rattle.leap_table.specs.rows.Table.{Row}
 use Rattle.iso_texts.specs.Sheet.{Sheet}
 use Rattle.iso_texts.specs.IsoText.{dayTextBy, isoTextBy}

@@ -14,7 +14,7 @@ use Rattle.calendar.specs.Calendar.{date}
 use Rattle.calendar.specs.declared.CalendarDate.{CalendarDate}
 use Rattle.calendar.proofs.Years.{validOf, gregorian-in-range}
 use Rattle.calendar.proofs.NextDates.{by}
-use Rattle.day_number.specs.DayNumber.{dayOf}
+use Rattle.julian.specs.day_number.DayNumber.{dayOf}
 use Rattle.julian.specs.declared.JulianDate.{JulianDate}
 use Rattle.julian.specs.declared.CalendarFields.{CalendarFields}
 use Rattle.julian.specs.Calendar.{julianToCalendar}

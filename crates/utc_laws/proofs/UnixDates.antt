@@ -21,8 +21,8 @@ use Rattle.constants.specs.Constants.{unixEpochJd}
 use Rattle.calendar.specs.Calendar.{dateOf}
 use Rattle.calendar.specs.Gregorian.{gregorianDate}
 use Rattle.calendar.proofs.Gregorian.{gregorian-is-date-of-day}
-use Rattle.day_number.specs.DayNumber.{c-djmin, c-djmax, inJulianRange, accepted, dayOf, dayNumber}
-use Rattle.day_number.proofs.GridPairs.{grid-pair}
+use Rattle.julian.specs.day_number.DayNumber.{c-djmin, c-djmax, inJulianRange, accepted, dayOf, dayNumber}
+use Rattle.julian.proofs.day_number.GridPairs.{grid-pair}
 use Rattle.julian.proofs.Integers.{sides-mag, integer-val, integer-fits}
 use Rattle.utc.specs.UnixTime.{unixDay}
 use Rattle.utc.proofs.UnixDays.{day-size}

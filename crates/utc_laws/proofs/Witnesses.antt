@@ -16,10 +16,10 @@ use Rattle.calendar.specs.Calendar.{daysInMonth, lengths, leapSize, date, next}
 use Rattle.calendar.specs.Refusals.{validDate, nextOf}
 use Rattle.calendar.specs.Gregorian.{gregorianDate}
 use Rattle.calendar.proofs.Years.{year-before-first}
-use Rattle.day_number.specs.DayNumber.{accepted, inJulianRange, dayOf}
-use Rattle.day_number.specs.declared.DayNumber.{DayNumber}
-use Rattle.day_number.proofs.Answer.{answer-is}
-use Rattle.day_number.proofs.Ends.{lowest, exact-at-lowest}
+use Rattle.julian.specs.day_number.DayNumber.{accepted, inJulianRange, dayOf}
+use Rattle.julian.specs.declared.day_number.DayNumber.{DayNumber}
+use Rattle.julian.proofs.day_number.Answer.{answer-is}
+use Rattle.julian.proofs.day_number.Ends.{lowest, exact-at-lowest}
 use Rattle.julian.specs.JulianDate.{julian}
 use Rattle.julian.specs.DayFraction.{timeInDay}
 use Rattle.julian.specs.declared.JulianDate.{JulianDate}

@@ -3,7 +3,7 @@
 use Prim.Native.Nat.{ℕ, _*_, _^_, _<_}
 use lib.Ieee.{Float}
 use Rattle.calendar.specs.declared.CalendarDate.{CalendarDate}
-use Rattle.day_number.specs.ExactDay.{fractionOf}
+use Rattle.julian.specs.day_number.ExactDay.{fractionOf}
 use Rattle.time_of_day.specs.declared.TimeOfDay.{TimeOfDay}
 use Rattle.time_of_day.specs.Milliseconds.{wholeLeap}
 use Rattle.time_of_day.specs.ExactTime.{Leap, DayLength, TimeWithin}

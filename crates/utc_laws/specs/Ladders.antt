@@ -16,7 +16,7 @@ use Rattle.calendar.specs.Calendar.{daysInMonth, dateOf}
 use Rattle.calendar.specs.Refusals.{lastDate}
 use Rattle.calendar.specs.Gregorian.{gregorianDate}
 use Rattle.calendar.specs.declared.CalendarDate.{CalendarDate}
-use Rattle.day_number.specs.DayNumber.{accepted, dayOf}
+use Rattle.julian.specs.day_number.DayNumber.{accepted, dayOf}
 use Rattle.julian.specs.declared.JulianDate.{JulianDate}
 use Rattle.julian.specs.DayFraction.{timeInDay}
 use Rattle.leap_table.specs.declared.rows.LentRows.{LentRows}

@@ -10,7 +10,7 @@ use lib.ListN.{length, drop}
 use lib.Ieee.{Float, binary64, fits}
 use Rattle.refusals.specs.Outcome.{answer, refusal}
 use Rattle.calendar.specs.Calendar.{dateOf}
-use Rattle.day_number.specs.ExactDay.{OnGrid, gridSum, exactDay, exactFraction}
+use Rattle.julian.specs.day_number.ExactDay.{OnGrid, gridSum, exactDay, exactFraction}
 use Rattle.julian.specs.declared.JulianDate.{JulianDate}
 use Rattle.leap_table.specs.rows.Table.{Row}
 use Rattle.leap_table.specs.offsets.Leap.{leapAtEndOfDay}

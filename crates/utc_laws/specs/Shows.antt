@@ -10,7 +10,7 @@ use lib.Signed.{ltZ}
 use lib.Ieee.{Float}
 use Rattle.refusals.specs.Outcome.{Outcome, answer, refusal}
 use Rattle.calendar.specs.Calendar.{dateOf}
-use Rattle.day_number.specs.ExactDay.{exactDay, exactFraction}
+use Rattle.julian.specs.day_number.ExactDay.{exactDay, exactFraction}
 use Rattle.leap_table.specs.rows.Table.{Row}
 use Rattle.leap_table.specs.offsets.Leap.{leapAtEndOfDay}
 use Rattle.time_of_day.specs.declared.TimeOfDay.{TimeOfDay}

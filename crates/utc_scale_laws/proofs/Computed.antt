@@ -12,19 +12,19 @@ use Rattle.constants.specs.Constants.{secondsPerDay, mjdZeroPoint}
 use Rattle.calendar.specs.Calendar.{next, leapSize, lengths, daysInMonth}
 use Rattle.calendar.specs.Refusals.{validDate, nextOf}
 use Rattle.calendar.specs.DayCount.{civilCount, mjdNumber, mjdOf}
-use Rattle.day_number.specs.Answer.{dayNumberAndFraction}
+use Rattle.julian.specs.day_number.Answer.{dayNumberAndFraction}
 use Rattle.julian.specs.declared.JulianDate.{JulianDate}
 use Rattle.julian.specs.declared.CalendarFields.{CalendarFields}
 use Rattle.julian.specs.JulianDate.{julian}
 use Rattle.julian.specs.Finite.{finiteJd, finiteArg}
 use Rattle.julian.specs.Calendar.{fields, calendarToJulian, julianToCalendar}
-use Rattle.julian_laws.proofs.Divisions.{dividedDate, divided-date}
-use Rattle.julian_laws.proofs.Literals.{literalDate, literal-date-is}
+use Rattle.julian.proofs.laws.Divisions.{dividedDate, divided-date}
+use Rattle.julian.proofs.laws.Literals.{literalDate, literal-date-is}
 use Rattle.leap_table.specs.rows.Table.{Row, fixed, monthNumber, reached}
 use Rattle.leap_table.specs.offsets.Offset.{secondsOf, startOf, rateOf, byRow, offsetBy, offsetAt, inDay, taiUtcOffset}
 use Rattle.leap_table.specs.offsets.Leap.{dayOffsets, driftRate, leapAmount}
-use Rattle.shifts.specs.SmallerPart as Shifts
-use Rattle.shifts.specs.Shifts.{plus, minus, daysOf, changed, convertedBy, finiteBoth, finiteOffset}
+use Rattle.julian.specs.shifts.SmallerPart as Shifts
+use Rattle.julian.specs.shifts.Shifts.{plus, minus, daysOf, changed, convertedBy, finiteBoth, finiteOffset}
 use Rattle.scales.specs.Conversions.{answerOf, tai-ut1}
 use Rattle.utc_days.specs.LargerPart.{firstIsKept, keptParts, putBeside, placed, changeSmaller}
 use Rattle.utc_days.specs.Dates.{offsetAt0h, offsetsOf, midnightOf, offsetOfDate}

@@ -14,14 +14,14 @@ use Rattle.rounding.proofs.Range.{size-at-most}
 use Rattle.rounding.proofs.Bound.{within-more}
 use Rattle.rounding.proofs.Sizes.{Size, size-finite, size-add, size-sub, size-mul, size-div, size-more, power-size, under-size, whole-val}
 use Rattle.constants.specs.Constants.{secondsPerDay, decimal}
-use Rattle.day_number.specs.Ranges.{InDays}
+use Rattle.julian.specs.day_number.Ranges.{InDays}
 use Rattle.julian.specs.declared.JulianDate.{JulianDate}
 use Rattle.julian.specs.Worth.{SmallParts}
 use Rattle.julian.specs.Finite.{finiteJd, finiteArg}
-use Rattle.shifts.specs.SmallerPart as S
+use Rattle.julian.specs.shifts.SmallerPart as S
 use Rattle.scales.specs.Conversions.{answerOf, tai-ut1}
 use Rattle.scale_laws.specs.Ranges.{Held, Billion, FiniteParts}
-use Rattle.shifts.proofs.Outcomes.{by-is}
+use Rattle.julian.proofs.shifts.Outcomes.{by-is}
 use Rattle.utc_days.specs.LargerPart.{firstIsKept, keptAs, keptParts, besideAs, putBeside, placed, changeSmaller}
 use Rattle.ut1_to_utc.specs.Ut1Utc.{beforeStep, timePastLeap, atMostOne, afterStep, nearStep, Scanned, noStep, step, untilStep}
 use Rattle.utc_scale_laws.specs.Claims.{Holds, answers, SixOrOne, Fits}
@@ -29,7 +29,7 @@ use Rattle.utc_days.proofs.Midnights.{midnightOfDay}
 use Rattle.utc_scale_laws.proofs.Outcomes.{holds-answer, holds-onward}
 use Rattle.utc_scale_laws.proofs.OffsetSizes.{day-size, day-above, day-more-above, zero-point-size}
 use Rattle.utc_scale_laws.proofs.DaySizes.{midnight-size}
-use Rattle.shifts.specs.Shifts.{plus, daysOf}
+use Rattle.julian.specs.shifts.Shifts.{plus, daysOf}
 
 -- room for one conversion, from parts of 2 ^ k to parts of 2 ^ (k + 3), and for a round of the way back, to 2 ^ (k + 6)
 pub record Room (k : ℕ) : Type 0 where

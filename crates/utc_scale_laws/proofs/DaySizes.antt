@@ -13,9 +13,9 @@ use Rattle.floats.specs.Whole.{nought}
 use Rattle.rounding.proofs.Casts.{sub-le}
 use Rattle.rounding.proofs.Sizes.{Size, size-add, size-sub, size-mul, size-div, int-size, power-size}
 use Rattle.constants.specs.Constants.{secondsPerDay}
-use Rattle.day_number.specs.DayNumber.{accepted, dayOf, fractionPassed}
-use Rattle.day_number.specs.Ranges.{InDays}
-use Rattle.day_number.proofs.Accepted.{accepted-pair}
+use Rattle.julian.specs.day_number.DayNumber.{accepted, dayOf, fractionPassed}
+use Rattle.julian.specs.day_number.Ranges.{InDays}
+use Rattle.julian.proofs.day_number.Accepted.{accepted-pair}
 use Rattle.leap_table.specs.declared.offsets.DayOffsets.{DayOffsets}
 use Rattle.leap_table.specs.declared.rows.LentRows.{LentRows}
 use Rattle.leap_table.specs.rows.Table.{Row}

@@ -19,12 +19,12 @@ use Rattle.calendar.proofs.Accepted.{date-accepted}
 use Rattle.calendar.proofs.Years.{validOf, gregorian-in-range, gregorian-refusal, before-last}
 use Rattle.calendar.proofs.Mjd.{mjd-given}
 use Rattle.calendar.proofs.NextDates.{by}
-use Rattle.day_number.specs.DayNumber.{dayOf}
-use Rattle.day_number.specs.DayNumber as D
-use Rattle.day_number.specs.Answer.{dayNumberAndFraction}
-use Rattle.day_number.specs.Ranges.{InDays}
-use Rattle.day_number.proofs.Answer.{answered, refused}
-use Rattle.day_number.proofs.Ranges.{day-range}
+use Rattle.julian.specs.day_number.DayNumber.{dayOf}
+use Rattle.julian.specs.day_number.DayNumber as D
+use Rattle.julian.specs.day_number.Answer.{dayNumberAndFraction}
+use Rattle.julian.specs.day_number.Ranges.{InDays}
+use Rattle.julian.proofs.day_number.Answer.{answered, refused}
+use Rattle.julian.proofs.day_number.Ranges.{day-range}
 use Rattle.leap_table.specs.declared.offsets.DayOffsets.{DayOffsets}
 use Rattle.leap_table.specs.rows.Table.{Row}
 use Rattle.leap_table.proofs.offsets.Offsets.{in-day-zero, offset-given}

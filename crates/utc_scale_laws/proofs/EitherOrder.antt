@@ -7,7 +7,7 @@ use native.Mathlib.Omega.{arith}
 use lib.Dec.{ltb}
 use lib.Ieee.{Float, nan, inf, fin, Format, binary64, up, down, round, sum, add}
 use borrow.Author.Tests.{ltb-true, ltb-false}
-use Rattle.day_number.specs.DayNumber.{inJulianRange, accepted}
+use Rattle.julian.specs.day_number.DayNumber.{inJulianRange, accepted}
 use Rattle.julian.specs.declared.JulianDate.{JulianDate}
 use Rattle.utc_days.specs.LargerPart.{firstIsKept, keptAs, keptParts}
 

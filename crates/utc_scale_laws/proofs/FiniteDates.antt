@@ -12,7 +12,7 @@ use lib.Ieee.Fits.{add-fits}
 use Rattle.refusals.specs.Outcome.{Outcome, answer}
 use Rattle.floats.specs.Whole.{abs, nought, half}
 use Rattle.rounding.proofs.Sizes.{Size, size-add, size-sub, size-div, size-more}
-use Rattle.day_number.specs.DayNumber.{dayOf}
+use Rattle.julian.specs.day_number.DayNumber.{dayOf}
 use Rattle.julian.specs.declared.JulianDate.{JulianDate}
 use Rattle.julian.specs.JulianDate.{julian}
 use Rattle.julian.specs.Worth.{SmallParts}

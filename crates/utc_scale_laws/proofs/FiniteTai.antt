@@ -17,9 +17,9 @@ use Rattle.rounding.proofs.Value.{L-is, val-finite-true}
 use Rattle.rounding.proofs.Own.{own, own-val}
 use Rattle.rounding.proofs.Bound.{within-more}
 use Rattle.rounding.proofs.Sizes.{Size}
-use Rattle.day_number.specs.DayNumber.{accepted, dayOf}
-use Rattle.day_number.specs.Ranges.{InDays}
-use Rattle.day_number.proofs.JulianRange.{accepted-finite}
+use Rattle.julian.specs.day_number.DayNumber.{accepted, dayOf}
+use Rattle.julian.specs.day_number.Ranges.{InDays}
+use Rattle.julian.proofs.day_number.JulianRange.{accepted-finite}
 use Rattle.julian.specs.declared.JulianDate.{JulianDate}
 use Rattle.leap_table.specs.declared.offsets.DayOffsets.{DayOffsets}
 use Rattle.leap_table.specs.declared.rows.LentRows.{LentRows}

@@ -7,9 +7,9 @@ use lib.Dec.{T}
 use lib.Ieee.{Float}
 use lib.Ieee.Scale.{finite}
 use Rattle.refusals.specs.Outcome.{answer, refusal}
-use Rattle.day_number.specs.DayNumber.{accepted}
-use Rattle.day_number.proofs.Answer.{refused}
-use Rattle.day_number.proofs.JulianRange.{accepted-finite}
+use Rattle.julian.specs.day_number.DayNumber.{accepted}
+use Rattle.julian.proofs.day_number.Answer.{refused}
+use Rattle.julian.proofs.day_number.JulianRange.{accepted-finite}
 use Rattle.julian.specs.declared.JulianDate.{JulianDate}
 use Rattle.julian.specs.JulianDate.{julian}
 use Rattle.julian.specs.Finite.{bothFinite, finiteParts, finiteJd, finiteArg}

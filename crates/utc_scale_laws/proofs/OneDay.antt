@@ -8,10 +8,10 @@ use lib.Ieee.{Float, binary64}
 use lib.Ieee.Scale.{finite}
 use Rattle.refusals.specs.Outcome.{Outcome, answer}
 use Rattle.calendar.proofs.Mjd.{same-answer}
-use Rattle.day_number.specs.DayNumber.{inJulianRange, accepted, dayOf}
-use Rattle.day_number.specs.ExactDay.{OnGrid}
-use Rattle.day_number.proofs.Answer.{answered}
-use Rattle.day_number.proofs.ExactDay.{alike}
+use Rattle.julian.specs.day_number.DayNumber.{inJulianRange, accepted, dayOf}
+use Rattle.julian.specs.day_number.ExactDay.{OnGrid}
+use Rattle.julian.proofs.day_number.Answer.{answered}
+use Rattle.julian.proofs.day_number.ExactDay.{alike}
 use Rattle.julian.specs.declared.JulianDate.{JulianDate}
 use Rattle.leap_table.specs.declared.rows.LentRows.{LentRows}
 use Rattle.leap_table.specs.rows.Table.{Row, fixed}

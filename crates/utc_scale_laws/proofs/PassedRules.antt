@@ -9,11 +9,11 @@ use Rattle.refusals.specs.Outcome.{Outcome, answer, onward}
 use Rattle.refusals.proofs.Onward.{went}
 use Rattle.floats.specs.Whole.{abs, toWhole, nearestInt}
 use Rattle.constants.specs.Constants.{decimal}
-use Rattle.day_number.specs.Answer.{dayNumberAndFraction}
+use Rattle.julian.specs.day_number.Answer.{dayNumberAndFraction}
 use Rattle.julian.specs.declared.JulianDate.{JulianDate}
 use Rattle.julian.specs.JulianDate.{julian}
 use Rattle.julian.specs.Calendar.{fields, julianToCalendar}
-use Rattle.julian_laws.proofs.Divisions.{dividedDate, divided-date}
+use Rattle.julian.proofs.laws.Divisions.{dividedDate, divided-date}
 use Rattle.leap_table.specs.declared.offsets.Rule.{Rule}
 use Rattle.leap_table.specs.declared.offsets.Rule.the-variants.{Absent, Drifting, Whole}
 use Rattle.leap_table.specs.rows.Table.{Row, fixed, monthNumber, reached}

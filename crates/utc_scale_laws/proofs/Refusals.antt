@@ -12,7 +12,7 @@ use lib.Ieee.Fits.{add-fits}
 use lib.Ieee.Scale.{finite}
 use Rattle.refusals.specs.Outcome.{Outcome, answer, refusal, onward}
 use Rattle.floats.specs.Whole.{abs, half}
-use Rattle.day_number.specs.DayNumber.{accepted, dayOf}
+use Rattle.julian.specs.day_number.DayNumber.{accepted, dayOf}
 use Rattle.julian.specs.declared.JulianDate.{JulianDate}
 use Rattle.julian.specs.JulianDate.{julian}
 use Rattle.julian.specs.Finite.{finiteParts, finiteJd, finiteArg}
@@ -20,7 +20,7 @@ use Rattle.leap_table.specs.rows.Table.{Row}
 use Rattle.scales.specs.Conversions.{answerOf, tai-ut1}
 use Rattle.scale_laws.specs.Ranges.{Held}
 use Rattle.refusals.proofs.Onward.{went, stopped}
-use Rattle.shifts.proofs.Outcomes.{first-by}
+use Rattle.julian.proofs.shifts.Outcomes.{first-by}
 use Rattle.utc_days.specs.LargerPart.{firstIsKept, keptAs, keptParts, placed, changeSmaller}
 use Rattle.utc_days.specs.Dates.{offsetOfDate, offsetAt0h}
 use Rattle.utc_scales.specs.UtcTai.{taiFraction, utcToTai, moved, refined, rounds, refineUtcFraction, taiToUtc}
@@ -35,7 +35,7 @@ use Rattle.ut1_to_utc.proofs.Steps.{scan-no-date, scan-no-offset, scan-no-step,
 use Rattle.utc_scale_laws.proofs.Outcomes.{holds-answer, holds-refusal, holds-onward, holds-more}
 use Rattle.utc_scale_laws.proofs.Decided.{by-six, by-one, by-date}
 use Rattle.utc_scale_laws.proofs.Days.{early, dateIn, Kind, outside, before, valid, kind, offset-answered, offsets-answered}
-use Rattle.shifts.specs.Shifts.{plus}
+use Rattle.julian.specs.shifts.Shifts.{plus}
 
 -- ---- the smaller part in TAI
 module _ (rows : List Row) (x y : Float) where

@@ -11,7 +11,7 @@ use lib.Ieee.{Float, binary64, sub}
 use lib.Ieee.Scale.{finite}
 use Rattle.refusals.specs.Outcome.{answer, refusal}
 use Rattle.rounding.proofs.Sizes.{Size}
-use Rattle.day_number.specs.DayNumber.{accepted, dayOf}
+use Rattle.julian.specs.day_number.DayNumber.{accepted, dayOf}
 use Rattle.julian.specs.declared.JulianDate.{JulianDate}
 use Rattle.julian.specs.Finite.{finiteArg}
 use Rattle.leap_table.specs.declared.rows.LentRows.{LentRows}
@@ -21,7 +21,7 @@ use Rattle.leap_table.proofs.rows.NoRows.{none-lent, fixed-taken}
 use Rattle.scales.specs.Conversions.{answerOf, tai-ut1}
 use Rattle.scale_laws.specs.Ranges.{Held, FiniteParts}
 use Rattle.refusals.proofs.Onward.{went, stopped}
-use Rattle.shifts.proofs.Outcomes.{by-is}
+use Rattle.julian.proofs.shifts.Outcomes.{by-is}
 use Rattle.scale_laws.proofs.Shifts as Shifts
 use Rattle.utc_days.specs.LargerPart.{keptParts}
 use Rattle.utc_days.specs.Dates.{offsetOfDate}
@@ -38,7 +38,7 @@ use Rattle.utc_scale_laws.proofs.EitherOrder.{accepted-either}
 use Rattle.utc_scale_laws.proofs.Decided.{by-six, by-one, by-date}
 use Rattle.utc_scale_laws.proofs.DaySizes.{day-offset-size}
 use Rattle.utc_scale_laws.proofs.FiniteTai.{size-small, table-utc-to-tai-never-infinite}
-use Rattle.shifts.specs.Shifts.{plus}
+use Rattle.julian.specs.shifts.Shifts.{plus}
 
 module _ (t : LentRows) (rows : List Row) (taken : tableOf t ≡ answer rows) where
   module _ (d : JulianDate) (dut1 : Float) (h : Held d) (f : Fits dut1) (e : finite dut1 ≡ true) where

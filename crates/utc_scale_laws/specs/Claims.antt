@@ -9,8 +9,8 @@ use lib.Ieee.{Float, binary64, fits}
 use lib.Dec.{T}
 use Rattle.refusals.specs.Outcome.{Outcome, answer, refusal}
 use Rattle.calendar.specs.Gregorian.{gregorianDate}
-use Rattle.day_number.specs.DayNumber.{dayOf}
-use Rattle.day_number.specs.ExactDay.{OnGrid}
+use Rattle.julian.specs.day_number.DayNumber.{dayOf}
+use Rattle.julian.specs.day_number.ExactDay.{OnGrid}
 use Rattle.julian.specs.declared.JulianDate.{JulianDate}
 use Rattle.utc_days.specs.LargerPart.{firstIsKept, keptParts}
 

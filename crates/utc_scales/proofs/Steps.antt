@@ -10,10 +10,10 @@ use Rattle.floats.specs.Whole.{nought, half}
 use Rattle.calendar.specs.declared.CalendarDate.{CalendarDate}
 use Rattle.calendar.specs.Refusals.{nextOf}
 use Rattle.calendar.specs.Gregorian.{gregorianDate}
-use Rattle.day_number.specs.declared.DayNumber.{DayNumber}
-use Rattle.day_number.specs.Answer.{dayNumberAndFraction}
-use Rattle.day_number.specs.Ranges.{InDays}
-use Rattle.julian_laws.proofs.CalendarDays.{fields-of}
+use Rattle.julian.specs.declared.day_number.DayNumber.{DayNumber}
+use Rattle.julian.specs.day_number.Answer.{dayNumberAndFraction}
+use Rattle.julian.specs.day_number.Ranges.{InDays}
+use Rattle.julian.proofs.laws.CalendarDays.{fields-of}
 use Rattle.leap_table.specs.declared.offsets.DayOffsets.{DayOffsets}
 use Rattle.leap_table.specs.rows.Table.{Row}
 use Rattle.leap_table.specs.offsets.Offset.{taiUtcOffset}

@@ -16,7 +16,7 @@ use super::table::mjd_of;
 use super::table::offsets_with;
 use constants::MJD_ZERO_POINT;
 use constants::SECONDS_PER_DAY_F64;
-use day_number::DayAnswer;
+use julian::day_number::DayAnswer;
 use julian::FractionAnswer;
 use julian::JulianAnswer;
 use julian::JulianDate;
@@ -87,7 +87,7 @@ fn tai_fraction<'a>(
     requires { ⌜ RightKnown (rowsIn size (now months) (now seconds)) known ⌝ }
     ensures { λ r. ⌜ (partOutcome r ≡ U.taiFraction (rowsIn size (now (months .entry)) (now (seconds .entry))) big small) × RightPart (rowsIn size (now (months .entry)) (now (seconds .entry))) r ⌝ }
 {
-    match day_number::day_number_and_fraction(big, small) {
+    match julian::day_number::day_number_and_fraction(big, small) {
         DayAnswer::Refused(number) => PartAnswer::Refused(number),
         DayAnswer::Day(d) => match offsets_with(d.day, known, size, months, seconds) {
             DayOffsetsAnswer::Refused(number) => PartAnswer::Refused(number),
@@ -115,7 +115,7 @@ pub fn tai_fraction_by_rule<'a>(
 ) -> RuledPart
     ensures { λ r. ⌜ (ruledPartOutcome r ≡ U.taiFraction (rowsIn size (now (months .entry)) (now (seconds .entry))) big small) × SameDays (rowsIn size (now (months .entry)) (now (seconds .entry))) big small r ⌝ }
 {
-    match day_number::day_number_and_fraction(big, small) {
+    match julian::day_number::day_number_and_fraction(big, small) {
         DayAnswer::Refused(number) => RuledPart::Refused(number),
         DayAnswer::Day(d) => match day_of(d.day, size, months, seconds) {
             DayByRule::Refused(number) => RuledPart::Refused(number),

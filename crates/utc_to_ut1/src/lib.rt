@@ -9,7 +9,7 @@ ghost use Rattle.utc_days.specs.DateRule.{offsetOfDateByRule};
 ghost use Rattle.utc_scales.specs.Known.{SameDay};
 ghost use Rattle.utc_to_ut1.specs.UtcUt1 as U;
 ghost use Rattle.utc_to_ut1.specs.ByRule.{utcToUt1ByRule, ut1ByRuleOutcome, offsetOfParts};
-use day_number::DayAnswer;
+use julian::day_number::DayAnswer;
 use leap_table::rows::LentRows;
 use scales::TAI;
 use scales::UT1;
@@ -40,7 +40,7 @@ fn offset_of_date<'a>(
 ) -> SecondsByRule
     ensures { λ r. ⌜ T.secondsByRuleOutcome r ≡ offsetOfDateByRule (rowsIn size (now (months .entry)) (now (seconds .entry))) jd1 jd2 ⌝ }
 {
-    match day_number::day_number_and_fraction(jd1, jd2) {
+    match julian::day_number::day_number_and_fraction(jd1, jd2) {
         DayAnswer::Refused(number) => SecondsByRule::Refused(number),
         DayAnswer::Day(d) => offset_at_0h(d.day, size, months, seconds),
     }

@@ -11,7 +11,7 @@ use Rattle.refusals.specs.Outcome.{Outcome, answer, refusal, onward}
 use Rattle.constants.specs.Constants.{unixEpochJd}
 use Rattle.calendar.specs.declared.CalendarDate.{CalendarDate}
 use Rattle.calendar.specs.Gregorian.{gregorianDate}
-use Rattle.day_number.specs.Answer.{dayNumberAndFraction}
+use Rattle.julian.specs.day_number.Answer.{dayNumberAndFraction}
 use Rattle.julian.specs.declared.JulianDate.{JulianDate}
 use Rattle.julian.specs.declared.CalendarFields.{CalendarFields}
 use Rattle.julian.specs.JulianDate.{julian}
@@ -23,7 +23,7 @@ use Rattle.iso_texts.specs.IsoText.{dayText, isoTextBy, isoText}
 use Rattle.worked_cases.specs.Calls.{UtcCall, utc-from-calendar, utc-new, utc-parts, utcOf, Value, partsValue, fieldsValue, put, callOutcome}
 use Rattle.worked_cases.specs.Calls.{Call, calendar-to-julian, julian-to-calendar, get-tai-utc-offset, utc, to-iso8601}
 use Rattle.worked_cases.specs.Calls.{nearest-int, convert, utc-to-ut1, block-stamps}
-use Rattle.julian_laws.proofs.Divisions.{dividedDate, divided-date}
+use Rattle.julian.proofs.laws.Divisions.{dividedDate, divided-date}
 
 -- the definitions of `julian_to_calendar`, `UTC::new` and `to_iso8601`, with `dates` for `gregorianDate`
 abbrev pub toCalendar : (ℤ → CalendarDate) → Float → Float → Outcome CalendarFields

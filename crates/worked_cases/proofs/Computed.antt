@@ -8,7 +8,7 @@ use Rattle.numerals.specs.little_endian.LittleEndian.{fourAt, u32At}
 use Rattle.calendar.specs.Calendar.{next, leapSize, lengths, daysInMonth}
 use Rattle.calendar.specs.Refusals.{validDate, nextOf}
 use Rattle.calendar.specs.DayCount.{civilCount, mjdNumber, mjdOf}
-use Rattle.day_number.specs.Answer.{dayNumberAndFraction}
+use Rattle.julian.specs.day_number.Answer.{dayNumberAndFraction}
 use Rattle.julian.specs.JulianDate.{roundedSum}
 use Rattle.julian.specs.DayFraction.{secondLimit, timeInDay, dayFraction}
 use Rattle.julian.specs.Finite.{finiteJd, finiteArg}
@@ -17,7 +17,7 @@ use Rattle.julian.specs.Calendar as Julian
 use Rattle.leap_table.specs.rows.Table.{fixed, monthNumber, reached}
 use Rattle.leap_table.specs.offsets.Offset.{secondsOf, startOf, rateOf, byRow, offsetBy, offsetAt, inDay, taiUtcOffset}
 use Rattle.leap_table.specs.offsets.Leap.{dayOffsets, leapOf, leapAtEndOfDay}
-use Rattle.shifts.specs.SmallerPart.{firstIsLarger, partsOf, putBack, mapSmallerPart}
+use Rattle.julian.specs.shifts.SmallerPart.{firstIsLarger, partsOf, putBack, mapSmallerPart}
 use Rattle.scales.specs.Formulas.{since, tdb0, ttDays, jd1977, tcbToTdb}
 use Rattle.scales.specs.Conversions as Scales
 use Rattle.utc_to_ut1.specs.UtcUt1.{utcToUt1}
@@ -31,10 +31,10 @@ use Rattle.iso_texts.specs.IsoText.{nextMidnightTextBy, shownTextBy, dayTextBy}
 use Rattle.iso_texts.specs.TextCall.{written, bufferHolds}
 use Rattle.stamps.specs.Block.{blockOf}
 use Rattle.worked_cases.specs.Calls.{Call, Value, callOutcome}
-use Rattle.julian_laws.proofs.Divisions.{dividedDate}
+use Rattle.julian.proofs.laws.Divisions.{dividedDate}
 use Rattle.worked_cases.proofs.ByDates.{answerBy, by-division}
 use Rattle.worked_cases.proofs.Literals.{literal, literal-is}
-use Rattle.shifts.specs.Shifts.{daysOf, changed, converted}
+use Rattle.julian.specs.shifts.Shifts.{daysOf, changed, converted}
 
 unfoldable pub computed : Call → Outcome Value
 unfolding answerBy callOutcome dividedDate onward

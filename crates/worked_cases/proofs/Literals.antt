@@ -1,7 +1,7 @@
 -- An answer taken apart and put together again: the same, with its numbers worked out. Assumes nothing.
 use mathlib.Core.Path.{_≡_, refl}
 use Rattle.refusals.specs.Outcome.{Outcome, answer, refusal}
-use Rattle.julian_laws.proofs.Literals.{floating, floating-is}
+use Rattle.julian.proofs.laws.Literals.{floating, floating-is}
 use Rattle.worked_cases.specs.Calls.{Value, parts, dateFields, float, bytes, stampCount}
 
 abbrev pub literal : Outcome Value → Outcome Value

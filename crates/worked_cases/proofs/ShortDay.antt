@@ -13,13 +13,13 @@ use Rattle.calendar.specs.declared.CalendarDate.{CalendarDate}
 use Rattle.calendar.specs.Calendar.{next, leapSize, lengths, daysInMonth}
 use Rattle.calendar.specs.Refusals.{validDate, nextOf}
 use Rattle.calendar.specs.DayCount.{civilCount, mjdNumber, mjdOf}
-use Rattle.day_number.specs.Answer.{dayNumberAndFraction}
+use Rattle.julian.specs.day_number.Answer.{dayNumberAndFraction}
 use Rattle.julian.specs.declared.JulianDate.{JulianDate}
 use Rattle.julian.specs.JulianDate.{julian, roundedSum}
 use Rattle.julian.specs.DayFraction.{secondLimit, timeInDay, dayFraction}
 use Rattle.julian.specs.Calendar.{fromCalendar, calendarToJulian, julianToCalendar}
 use Rattle.julian.specs.Calendar as Julian
-use Rattle.julian_laws.proofs.Divisions.{dividedDate, divided-date}
+use Rattle.julian.proofs.laws.Divisions.{dividedDate, divided-date}
 use Rattle.leap_table.specs.rows.Table.{fixed, monthNumber, reached}
 use Rattle.leap_table.specs.rows.Lent.{tableOf}
 use Rattle.leap_table.specs.offsets.Offset.{secondsOf, byRow, offsetBy, offsetAt, inDay, taiUtcOffset}

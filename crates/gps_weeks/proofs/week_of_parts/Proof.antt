@@ -5,7 +5,7 @@ use mir.Val.{SFits}
 use mir.Facts.{toZ-ofZ}
 use borrow.Author.Needs.{needs}
 use Rattle.refusals.specs.Outcome.{answer, refusal, onward}
-use Rattle.day_number.specs.Answer.{dayOutcome, dayNumberAndFraction}
+use Rattle.julian.specs.day_number.Answer.{dayOutcome, dayNumberAndFraction}
 use Rattle.gps_weeks.specs.WeekOf.{weekOutcome}
 use Rattle.gps_weeks.proofs.week_of_parts.Statement.{statement}
 use Rattle.gps_weeks.proofs.week_of_parts.Tie as tie

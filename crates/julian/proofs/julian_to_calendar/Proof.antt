@@ -5,7 +5,7 @@ use mir.Val.{SFits}
 use mir.Facts.{toZ-ofZ}
 use borrow.Author.Needs.{needs}
 use Rattle.refusals.specs.Outcome.{answer, refusal, onward}
-use Rattle.day_number.specs.Answer.{dayOutcome, dayNumberAndFraction}
+use Rattle.julian.specs.day_number.Answer.{dayOutcome, dayNumberAndFraction}
 use Rattle.julian.specs.Calendar.{calendarOutcome, julianToCalendar}
 use Rattle.julian.proofs.julian_to_calendar.Statement.{statement}
 use Rattle.julian.proofs.julian_to_calendar.Tie as tie

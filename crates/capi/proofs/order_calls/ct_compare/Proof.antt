@@ -5,7 +5,7 @@ use lib.IntN.{pos}
 use Rattle.refusals.specs.Outcome.{Outcome, answer, refusal, onward}
 use Rattle.julian.specs.declared.JulianDate.{JulianDate}
 use Rattle.julian.specs.JulianDate.{julian}
-use Rattle.date_order.specs.Order.{Order, orderOutcome, comparison}
+use Rattle.julian.specs.order.Order.{Order, orderOutcome, comparison}
 use Rattle.c_answers.specs.Delivery.{code}
 use Rattle.c_answers.proofs.Deliveries.{code-back}
 use Rattle.capi.specs.OrderNumber.{orderNumber, numbered}

@@ -1,6 +1,6 @@
 -- `formula_runs::changes::changed_part` meets its contract. Assumes nothing.
 use borrow.Author.Tests.{eq-eqb, ne-eqb}
-use Rattle.shifts.specs.Shifts.{plus}
+use Rattle.julian.specs.shifts.Shifts.{plus}
 use Rattle.formula_runs.specs.Asked.{changeOf}
 use borrow.Author.Needs.{needs}
 use Rattle.formula_runs.proofs.changes.changed_part.Statement.{statement}

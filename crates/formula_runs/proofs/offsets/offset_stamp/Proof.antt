@@ -4,7 +4,7 @@ use mathlib.Core.Bool.{cond}
 use lib.Ieee.{Float, binary64, ofBits, neg, div}
 use borrow.Author.Tests.{not-true, not-false}
 use Rattle.constants.proofs.Bits.{seconds-per-day}
-use Rattle.shifts.specs.Shifts.{daysOf}
+use Rattle.julian.specs.shifts.Shifts.{daysOf}
 use Rattle.formula_runs.proofs.Puts.{put-refused, put-same}
 use Rattle.formula_runs.proofs.Judged.{no-nan, offset-dead, dead-small, offset-moves}
 use borrow.Author.Needs.{needs}

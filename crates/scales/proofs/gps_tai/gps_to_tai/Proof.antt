@@ -1,11 +1,11 @@
 -- `scales::gps_tai::gps_to_tai` meets its contract. Assumes nothing.
 use mathlib.Core.Path.{_∙_}
 use Rattle.scales.specs.Conversions.{answerOf}
-use Rattle.shifts.proofs.Outcomes.{moved-alike}
+use Rattle.julian.proofs.shifts.Outcomes.{moved-alike}
 use borrow.Author.Needs.{needs}
 use Rattle.scales.proofs.gps_tai.gps_to_tai.Statement.{statement}
 use Rattle.scales.proofs.gps_tai.gps_to_tai.Tie as tie
-use Rattle.shifts.specs.Shifts.{plus, converted}
+use Rattle.julian.specs.shifts.Shifts.{plus, converted}
 
 finite-jd-requires : tie.Need-finite-jd-requires
 finite-jd-requires c κs = search needs

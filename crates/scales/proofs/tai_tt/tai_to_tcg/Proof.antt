@@ -7,7 +7,7 @@ use Rattle.refusals.proofs.Onward.{went, stopped}
 use borrow.Author.Needs.{needs}
 use Rattle.scales.proofs.tai_tt.tai_to_tcg.Statement.{statement}
 use Rattle.scales.proofs.tai_tt.tai_to_tcg.Tie as tie
-use Rattle.shifts.specs.Shifts.{converted}
+use Rattle.julian.specs.shifts.Shifts.{converted}
 
 tai-to-tt-requires : tie.Need-tai-to-tt-requires
 tai-to-tt-requires c κs = search needs

@@ -7,7 +7,7 @@ use Rattle.refusals.proofs.Onward.{went, stopped}
 use borrow.Author.Needs.{needs}
 use Rattle.scales.proofs.tai_tt.tcg_to_tai.Statement.{statement}
 use Rattle.scales.proofs.tai_tt.tcg_to_tai.Tie as tie
-use Rattle.shifts.specs.Shifts.{minus, converted}
+use Rattle.julian.specs.shifts.Shifts.{minus, converted}
 
 tcg-to-tt-requires : tie.Need-tcg-to-tt-requires
 tcg-to-tt-requires c κs = search needs

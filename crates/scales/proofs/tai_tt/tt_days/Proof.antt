@@ -3,7 +3,7 @@ use Rattle.scales.specs.Formulas.{ttDays}
 use Rattle.constants.proofs.Bits.{seconds-per-day, tt-tai-offset}
 use Rattle.scales.proofs.tai_tt.tt_days.Statement.{statement}
 use Rattle.scales.proofs.tai_tt.tt_days.Tie as tie
-use Rattle.shifts.specs.Shifts.{daysOf}
+use Rattle.julian.specs.shifts.Shifts.{daysOf}
 
 returns : tie.Need-returns
 unfolding ttDays daysOf

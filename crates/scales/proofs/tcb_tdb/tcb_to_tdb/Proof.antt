@@ -9,7 +9,7 @@ use Rattle.refusals.proofs.Onward.{went, stopped}
 use borrow.Author.Needs.{needs}
 use Rattle.scales.proofs.tcb_tdb.tcb_to_tdb.Statement.{statement}
 use Rattle.scales.proofs.tcb_tdb.tcb_to_tdb.Tie as tie
-use Rattle.shifts.specs.Shifts.{changed, converted}
+use Rattle.julian.specs.shifts.Shifts.{changed, converted}
 
 finite-jd-requires : tie.Need-finite-jd-requires
 finite-jd-requires c κs = search needs

@@ -1,7 +1,7 @@
 -- `scales::tt_tcg::as_tcg` meets its contract. Assumes nothing.
 use mathlib.Core.Path.{ap, _∙_}
-use Rattle.shifts.specs.declared.smaller_part.Parts.{Parts}
-use Rattle.shifts.specs.SmallerPart.{putBack, mapSmallerPart}
+use Rattle.julian.specs.declared.shifts.smaller_part.Parts.{Parts}
+use Rattle.julian.specs.shifts.SmallerPart.{putBack, mapSmallerPart}
 use Rattle.scales.specs.Formulas.{ttToTcg}
 use borrow.Author.Needs.{needs}
 use Rattle.scales.proofs.tt_tcg.as_tcg.Statement.{statement}

@@ -9,7 +9,7 @@ use Rattle.refusals.proofs.Onward.{went, stopped}
 use borrow.Author.Needs.{needs}
 use Rattle.scales.proofs.tt_tcg.tt_to_tcg.Statement.{statement}
 use Rattle.scales.proofs.tt_tcg.tt_to_tcg.Tie as tie
-use Rattle.shifts.specs.Shifts.{changed, converted}
+use Rattle.julian.specs.shifts.Shifts.{changed, converted}
 
 finite-jd-requires : tie.Need-finite-jd-requires
 finite-jd-requires c κs = search needs

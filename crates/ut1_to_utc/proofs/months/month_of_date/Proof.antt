@@ -3,8 +3,8 @@ use mathlib.Core.Path.{sym, ap, _∙_}
 use lib.IntN.{ℤ}
 use Rattle.floats.proofs.Laws.{yes}
 use Rattle.calendar.specs.Gregorian.{gregorianDate}
-use Rattle.day_number.specs.Answer.{dayOutcome}
-use Rattle.day_number.proofs.Ranges.{day-range, day-read}
+use Rattle.julian.specs.day_number.Answer.{dayOutcome}
+use Rattle.julian.proofs.day_number.Ranges.{day-range, day-read}
 use Rattle.utc_days.specs.Dates.{offsetAt0h}
 use Rattle.ut1_to_utc.specs.KnownMonths.{monthOutcome, RightMonths}
 use Rattle.utc_days.proofs.Steps.{offset-no-date, offset-of-day}

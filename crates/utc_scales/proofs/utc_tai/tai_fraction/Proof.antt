@@ -6,8 +6,8 @@ use Rattle.refusals.specs.Outcome.{answer}
 use Rattle.floats.proofs.Laws.{yes}
 use Rattle.constants.specs.Constants.{mjdZeroPoint}
 use Rattle.calendar.specs.Gregorian.{gregorianDate}
-use Rattle.day_number.specs.Answer.{dayOutcome}
-use Rattle.day_number.proofs.Ranges.{day-range, day-read}
+use Rattle.julian.specs.day_number.Answer.{dayOutcome}
+use Rattle.julian.proofs.day_number.Ranges.{day-range, day-read}
 use Rattle.julian.specs.JulianDate.{julian}
 use Rattle.leap_table.specs.offsets.Answers.{dayOffsetsOutcome}
 use Rattle.leap_table.specs.rows.Table.{Row}

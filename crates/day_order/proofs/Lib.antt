@@ -1,5 +1,0 @@
--- The laws of `day_order`, lowest first; its theorem is `calendar-order`, in Order.
-pub mod Once
-pub mod Start
-pub mod Place
-pub mod Order

@@ -1,2 +1,0 @@
--- The definitions that the theorems of `day_order` cite.
-pub mod Order

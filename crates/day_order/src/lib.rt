@@ -1,1 +1,0 @@
-// No code: the calendar keeps the order of dates (proofs/Order.antt).

@@ -1,0 +1,2 @@
+-- The definitions that the theorems of `julian::day_order` cite.
+pub mod Order
