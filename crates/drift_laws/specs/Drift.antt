@@ -11,7 +11,7 @@ use Rattle.calendar.specs.Calendar.{dateOf}
 use Rattle.julian.specs.declared.JulianDate.{JulianDate}
 use Rattle.leap_table.specs.rows.Table.{Row, fixed, starts, reached, monthNumber}
 use Rattle.leap_table.specs.offsets.Offset.{rowAt}
-use Rattle.scale_laws.specs.Meaning.{Meaning, Means}
+use Rattle.scales.specs.laws.Meaning.{Meaning, Means}
 use Rattle.utc_scales.specs.UtcTai.{utcToTai}
 
 -- the row of a day, by its number: the last that has begun in the day's month

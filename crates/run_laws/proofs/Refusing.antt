@@ -23,7 +23,7 @@ use Rattle.julian.proofs.shifts.Outcomes.{first}
 use Rattle.julian.proofs.shifts.SmallerPart.{map-is, mapAs}
 use Rattle.constants.specs.Constants.{mjdZeroPoint, tcgReferenceEpoch, tcgRateLg, tcgRateRatio}
 use Rattle.scales.specs.Formulas.{gpsDays, ttDays, since, tcgToTt, ttToTcg}
-use Rattle.scale_laws.specs.Ranges.{Held}
+use Rattle.scales.specs.laws.Ranges.{Held}
 use Rattle.scales.specs.Conversions.{answerOf}
 use Rattle.julian.specs.declared.CalendarFields.{CalendarFields}
 use Rattle.julian.specs.Calendar.{julianToCalendar}

@@ -16,8 +16,8 @@ use Rattle.julian.specs.declared.JulianDate.{JulianDate}
 use Rattle.julian.specs.JulianDate.{julian}
 use Rattle.julian.specs.Worth.{Worth}
 use Rattle.leap_table.specs.rows.Table.{fixed}
-use Rattle.scale_laws.specs.Meaning.{Close}
-use Rattle.scale_laws.proofs.Meant.{more-close}
+use Rattle.scales.specs.laws.Meaning.{Close}
+use Rattle.scales.proofs.laws.Meant.{more-close}
 use Rattle.utc_days.specs.LargerPart.{firstIsKept, keptAs, keptParts, putBeside, placed, changeSmaller}
 use Rattle.utc_scales.specs.UtcTai.{taiFraction, refineUtcFraction, utcToTai, taiToUtc}
 use Rattle.tai_round_trip.specs.Ranges.{HalfDaySplit}

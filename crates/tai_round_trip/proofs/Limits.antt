@@ -16,8 +16,8 @@ use Rattle.julian.specs.declared.JulianDate.{JulianDate}
 use Rattle.julian.specs.JulianDate.{julian}
 use Rattle.leap_table.specs.rows.Table.{fixed}
 use Rattle.rounding.specs.Picoseconds.{dayPs}
-use Rattle.scale_laws.specs.Meaning.{Apart}
-use Rattle.scale_laws.proofs.Meant.{worth-unique}
+use Rattle.scales.specs.laws.Meaning.{Apart}
+use Rattle.scales.proofs.laws.Meant.{worth-unique}
 use Rattle.utc_scales.specs.UtcTai.{utcToTai, moved, refined, rounds, taiToUtc}
 use Rattle.utc_scale_laws.specs.Twenty.{utc-tai, tai-utc, answerOfAny}
 use Rattle.utc_scale_laws.proofs.Computed.{computed, as-computed}

@@ -8,7 +8,7 @@ use Rattle.rounding.specs.Value.{L}
 use Rattle.julian.specs.declared.JulianDate.{JulianDate}
 use Rattle.julian.specs.Worth.{Worth}
 use Rattle.rounding.specs.Picoseconds.{dayPs}
-use Rattle.scale_laws.specs.Recorders.{NotLater}
+use Rattle.scales.specs.laws.Recorders.{NotLater}
 
 -- d' is ps picoseconds or more after d; with 0, it is not before d
 pub record Follows (ps : ℕ) (d d' : JulianDate) : Type 0 where

@@ -7,7 +7,7 @@ use Rattle.floats.specs.Whole.{abs, one}
 use Rattle.rounding.specs.Value.{Val}
 use Rattle.constants.specs.Constants.{decimal}
 use Rattle.julian.specs.declared.JulianDate.{JulianDate}
-use Rattle.scale_laws.specs.Ranges.{Held}
+use Rattle.scales.specs.laws.Ranges.{Held}
 
 -- jd1 is halves / 2 days, and jd2 is at most a day either way; both are f64's, -0.0 and subnormals among them
 pub record HalfDaySplit (d : JulianDate) : Type 0 where

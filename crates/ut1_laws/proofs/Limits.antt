@@ -14,8 +14,8 @@ use Rattle.julian.specs.declared.JulianDate.{JulianDate}
 use Rattle.julian.specs.JulianDate.{julian}
 use Rattle.leap_table.specs.rows.Table.{fixed}
 use Rattle.rounding.specs.Picoseconds.{dayPs}
-use Rattle.scale_laws.specs.Meaning.{Apart}
-use Rattle.scale_laws.proofs.Meant.{worth-unique}
+use Rattle.scales.specs.laws.Meaning.{Apart}
+use Rattle.scales.proofs.laws.Meant.{worth-unique}
 use Rattle.utc_to_ut1.specs.UtcUt1.{utcToUt1}
 use Rattle.ut1_to_utc.specs.Ut1Utc.{ut1ToUtc}
 use Rattle.utc_scale_laws.specs.Twenty.{utc-ut1, ut1-utc, answerOfAny}

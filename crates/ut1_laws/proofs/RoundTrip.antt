@@ -17,8 +17,8 @@ use Rattle.julian.proofs.day_number.Units.{one-L}
 use Rattle.julian.specs.declared.JulianDate.{JulianDate}
 use Rattle.julian.specs.JulianDate.{julian}
 use Rattle.rounding.specs.Picoseconds.{dayPs}
-use Rattle.scale_laws.specs.Meaning.{Close}
-use Rattle.scale_laws.proofs.Meant.{worth-unique}
+use Rattle.scales.specs.laws.Meaning.{Close}
+use Rattle.scales.proofs.laws.Meant.{worth-unique}
 use Rattle.tai_round_trip.specs.UtcDays.{H, leapAfter, OnDay, ExactDay}
 use Rattle.tai_round_trip.specs.Ranges.{HalfDaySplit}
 use Rattle.tai_round_trip.proofs.Units.{h, L-h, h-small}

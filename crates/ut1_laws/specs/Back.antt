@@ -10,7 +10,7 @@ use Rattle.julian.specs.day_number.DayNumber.{dayOf}
 use Rattle.julian.specs.declared.JulianDate.{JulianDate}
 use Rattle.julian.specs.JulianDate.{julian}
 use Rattle.leap_table.specs.rows.Table.{fixed}
-use Rattle.scale_laws.specs.Meaning.{Apart, Means, back, laterBy}
+use Rattle.scales.specs.laws.Meaning.{Apart, Means, back, laterBy}
 use Rattle.utc_to_ut1.specs.UtcUt1.{utcToUt1}
 use Rattle.ut1_to_utc.specs.Ut1Utc.{ut1ToUtc}
 use Rattle.tai_round_trip.specs.UtcDays.{secondsOn}

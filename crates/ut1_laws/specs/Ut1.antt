@@ -10,7 +10,7 @@ use Rattle.julian.specs.day_number.DayNumber.{dayOf}
 use Rattle.julian.specs.day_number.Answer.{dayNumberAndFraction}
 use Rattle.julian.specs.declared.JulianDate.{JulianDate}
 use Rattle.leap_table.specs.rows.Table.{fixed}
-use Rattle.scale_laws.specs.Meaning.{Meaning, Means}
+use Rattle.scales.specs.laws.Meaning.{Meaning, Means}
 use Rattle.utc_to_ut1.specs.UtcUt1.{utcToUt1}
 use Rattle.tai_round_trip.specs.UtcDays.{H, leapAfter}
 

@@ -9,8 +9,8 @@ use Rattle.leap_table.specs.rows.Table.{Row, fixed}
 use Rattle.leap_table.specs.rows.Lent.{tableOf}
 use Rattle.leap_table.proofs.rows.NoRows.{none-lent, fixed-taken}
 use Rattle.scales.specs.Conversions.{answerOf}
-use Rattle.scale_laws.specs.Ranges.{Billion, FiniteDate, FiniteParts}
-use Rattle.scale_laws.proofs.Finiteness.{finite-dates}
+use Rattle.scales.specs.laws.Ranges.{Billion, FiniteDate, FiniteParts}
+use Rattle.scales.proofs.laws.Finiteness.{finite-dates}
 use Rattle.utc_scale_laws.specs.Claims.{Holds, answers, SixOrOne}
 use Rattle.utc_scale_laws.specs.Twenty.{Twenty, by-formula, utc-tai, tai-utc, utc-ut1, ut1-utc, answerOfAny, givenOffset}
 use Rattle.utc_scale_laws.proofs.FiniteDates.{table-utc-to-tai-finite, table-tai-to-utc-finite, table-utc-to-ut1-finite, table-ut1-to-utc-finite}

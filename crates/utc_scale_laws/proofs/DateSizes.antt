@@ -20,7 +20,7 @@ use Rattle.julian.specs.Worth.{SmallParts}
 use Rattle.julian.specs.Finite.{finiteJd, finiteArg}
 use Rattle.julian.specs.shifts.SmallerPart as S
 use Rattle.scales.specs.Conversions.{answerOf, tai-ut1}
-use Rattle.scale_laws.specs.Ranges.{Held, Billion, FiniteParts}
+use Rattle.scales.specs.laws.Ranges.{Held, Billion, FiniteParts}
 use Rattle.julian.proofs.shifts.Outcomes.{by-is}
 use Rattle.utc_days.specs.LargerPart.{firstIsKept, keptAs, keptParts, besideAs, putBeside, placed, changeSmaller}
 use Rattle.ut1_to_utc.specs.Ut1Utc.{beforeStep, timePastLeap, atMostOne, afterStep, nearStep, Scanned, noStep, step, untilStep}

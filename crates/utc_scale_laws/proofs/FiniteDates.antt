@@ -20,7 +20,7 @@ use Rattle.leap_table.specs.declared.rows.LentRows.{LentRows}
 use Rattle.leap_table.specs.rows.Table.{Row, fixed}
 use Rattle.leap_table.specs.rows.Lent.{tableOf}
 use Rattle.leap_table.proofs.rows.NoRows.{none-lent, fixed-taken}
-use Rattle.scale_laws.specs.Ranges.{Held, Billion, FiniteParts}
+use Rattle.scales.specs.laws.Ranges.{Held, Billion, FiniteParts}
 use Rattle.refusals.proofs.Onward.{went}
 use Rattle.utc_days.specs.LargerPart.{keptParts}
 use Rattle.utc_days.specs.Dates.{offsetAt0h, offsetsOf}

@@ -26,8 +26,8 @@ use Rattle.leap_table.specs.declared.rows.LentRows.{LentRows}
 use Rattle.leap_table.specs.rows.Table.{Row, fixed}
 use Rattle.leap_table.specs.rows.Lent.{tableOf}
 use Rattle.leap_table.proofs.rows.NoRows.{none-lent, fixed-taken}
-use Rattle.scale_laws.specs.Ranges.{Held, FiniteParts}
-use Rattle.scale_laws.proofs.Shifts.{Small, added, taken-from, zero-point-small}
+use Rattle.scales.specs.laws.Ranges.{Held, FiniteParts}
+use Rattle.scales.proofs.laws.Shifts.{Small, added, taken-from, zero-point-small}
 use Rattle.utc_days.specs.LargerPart.{keptParts, besideAs, putBeside, placed, changeSmaller}
 use Rattle.utc_days.specs.Dates.{offsetsOf}
 use Rattle.utc_scales.specs.UtcTai.{taiFromMidnight, taiFraction, utcToTai}

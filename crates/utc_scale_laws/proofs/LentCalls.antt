@@ -18,8 +18,8 @@ use Rattle.leap_table.proofs.rows.TablesTaken.{table-none}
 use Rattle.leap_table.proofs.rows.TableLaws.{table-decided}
 use Rattle.leap_table.proofs.rows.NoRows.{none-lent, fixed-taken}
 use Rattle.scales.specs.Conversions.{Conversion, answerOf}
-use Rattle.scale_laws.specs.Ranges.{Held, Billion, FiniteParts}
-use Rattle.scale_laws.proofs.Refuses.{refusals}
+use Rattle.scales.specs.laws.Ranges.{Held, Billion, FiniteParts}
+use Rattle.scales.proofs.laws.Refuses.{refusals}
 use Rattle.utc_scale_laws.specs.Claims.{Holds, Any, SixOrOne, OfTable, WithTable}
 use Rattle.utc_scale_laws.specs.Twenty.{Twenty, by-formula, utc-tai, tai-utc, utc-ut1, ut1-utc, answerOfAny, lentAnswer, readsTable, numbersOf, notFiniteNumber, givenOffset}
 use Rattle.utc_scale_laws.proofs.Outcomes.{holds-answer, holds-refusal, holds-more}

@@ -17,7 +17,7 @@ use Rattle.leap_table.specs.declared.rows.LentRows.{LentRows}
 use Rattle.leap_table.specs.rows.Table.{Row, fixed}
 use Rattle.leap_table.specs.rows.Lent.{tableOf}
 use Rattle.leap_table.proofs.rows.NoRows.{none-lent, fixed-taken}
-use Rattle.scale_laws.specs.Ranges.{Held}
+use Rattle.scales.specs.laws.Ranges.{Held}
 use Rattle.utc_days.specs.LargerPart.{firstIsKept, keptAs, keptParts}
 use Rattle.utc_to_ut1.specs.UtcUt1.{utcToUt1}
 use Rattle.utc_scale_laws.specs.Claims.{DecidedUt1, earlyDay, earlyUtc, OneDay, Fits}

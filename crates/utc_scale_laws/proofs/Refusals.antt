@@ -18,7 +18,7 @@ use Rattle.julian.specs.JulianDate.{julian}
 use Rattle.julian.specs.Finite.{finiteParts, finiteJd, finiteArg}
 use Rattle.leap_table.specs.rows.Table.{Row}
 use Rattle.scales.specs.Conversions.{answerOf, tai-ut1}
-use Rattle.scale_laws.specs.Ranges.{Held}
+use Rattle.scales.specs.laws.Ranges.{Held}
 use Rattle.refusals.proofs.Onward.{went, stopped}
 use Rattle.julian.proofs.shifts.Outcomes.{first-by}
 use Rattle.utc_days.specs.LargerPart.{firstIsKept, keptAs, keptParts, placed, changeSmaller}

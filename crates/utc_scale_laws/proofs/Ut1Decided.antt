@@ -19,10 +19,10 @@ use Rattle.leap_table.specs.rows.Table.{Row, fixed}
 use Rattle.leap_table.specs.rows.Lent.{tableOf}
 use Rattle.leap_table.proofs.rows.NoRows.{none-lent, fixed-taken}
 use Rattle.scales.specs.Conversions.{answerOf, tai-ut1}
-use Rattle.scale_laws.specs.Ranges.{Held, FiniteParts}
+use Rattle.scales.specs.laws.Ranges.{Held, FiniteParts}
 use Rattle.refusals.proofs.Onward.{went, stopped}
 use Rattle.julian.proofs.shifts.Outcomes.{by-is}
-use Rattle.scale_laws.proofs.Shifts as Shifts
+use Rattle.scales.proofs.laws.Shifts as Shifts
 use Rattle.utc_days.specs.LargerPart.{keptParts}
 use Rattle.utc_days.specs.Dates.{offsetOfDate}
 use Rattle.utc_scales.specs.UtcTai.{utcToTai}

@@ -4,7 +4,7 @@ use native.Mathlib.Omega.{arith}
 use lib.IntN.{pos}
 use mir.Syntax.{w64}
 use mir.Facts.{toZ-pos}
-use Rattle.gps_weeks.specs.FullWeek.{fullOutcome, fullWeek}
+use Rattle.scales.specs.gps_weeks.FullWeek.{fullOutcome, fullWeek}
 use Rattle.c_answers.specs.Delivery.{code}
 use Rattle.c_answers.proofs.Deliveries.{code-back}
 use borrow.Author.Needs.{needs}

@@ -1,6 +1,6 @@
 -- `capi::gps_week_calls::put_week` meets its contract. Assumes nothing.
 use mathlib.Core.Path.{ap}
-use Rattle.gps_weeks.specs.WeekOf.{weekOutcome}
+use Rattle.scales.specs.gps_weeks.WeekOf.{weekOutcome}
 use Rattle.c_answers.proofs.Deliveries.{delivered-answer, refused-on}
 use Rattle.capi.specs.WeekBytes.{weekBytes}
 use borrow.Author.Needs.{needs}
