@@ -3,9 +3,9 @@ ghost use Rattle.refusals.specs.Outcome.{onward};
 ghost use Rattle.julian.specs.JulianDate.{julian};
 ghost use Rattle.scales.specs.Scales.{utcOutcome};
 ghost use Rattle.utc_scales.specs.UtcTai.{taiToUtc};
-ghost use Rattle.ut1_to_utc.specs.Ut1Utc.{ut1ToUtc};
+ghost use Rattle.utc_scales.specs.from_ut1.Ut1Utc.{ut1ToUtc};
 ghost use Rattle.utc_scales.specs.ByRule.{utcToTaiByRule, taiByRuleOutcome};
-ghost use Rattle.utc_to_ut1.specs.ByRule.{utcToUt1ByRule, ut1ByRuleOutcome};
+ghost use Rattle.utc_scales.specs.to_ut1.ByRule.{utcToUt1ByRule, ut1ByRuleOutcome};
 ghost use Rattle.utc.specs.UnixTime.{utcNew};
 ghost use Rattle.utc.specs.FromCalendar.{utcFromCalendar};
 ghost use Rattle.lent_bytes.specs.TableBytes.{tableBytes};
@@ -22,7 +22,7 @@ use scales::UTC;
 use scales::UtcAnswer;
 use utc_scales::utc_tai;
 use utc_scales::utc_tai::TaiByRule;
-use utc_to_ut1::Ut1ByRule;
+use utc_scales::to_ut1::Ut1ByRule;
 
 fn put_utc(found: UtcAnswer, out: &mut [u8]) -> i64
     ensures { λ r. ⌜ Delivered (inBytes julianBytes (utcOutcome found)) (now (out .entry)) r (now (out .exit)) ⌝ }
@@ -164,7 +164,7 @@ pub extern "C" fn ct_utc_to_ut1_with_dut1(
     let size = lent.size;
     let date = UTC(JulianDate { jd1, jd2 });
     put_ut1_by_rule(
-        utc_to_ut1::utc_to_ut1_with_dut1_by_lent(date, dut1, size, &months, &seconds),
+        utc_scales::to_ut1::utc_to_ut1_with_dut1_by_lent(date, dut1, size, &months, &seconds),
         out,
     )
 }
@@ -189,7 +189,7 @@ pub extern "C" fn ct_ut1_to_utc_with_dut1(
     let size = lent.size;
     let date = UT1(JulianDate { jd1, jd2 });
     put_utc(
-        ut1_to_utc::ut1_to_utc_with_dut1_by_lent(date, dut1, size, &months, &seconds),
+        utc_scales::from_ut1::ut1_to_utc_with_dut1_by_lent(date, dut1, size, &months, &seconds),
         out,
     )
 }

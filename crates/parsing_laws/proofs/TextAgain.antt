@@ -32,7 +32,7 @@ use Rattle.julian.specs.Calendar.{fields, atTime, fromCalendar, julianToCalenda
 use Rattle.julian.proofs.Midnights.{midnight-given}
 use Rattle.julian.proofs.laws.RoundTrip.{midnight-fraction, round-trip-at-midnight}
 use Rattle.julian.proofs.laws.CalendarDays.{fields-of}
-use Rattle.tai_round_trip.proofs.Fraction.{fraction-fits}
+use Rattle.utc_scales.proofs.round_trip.Fraction.{fraction-fits}
 use Rattle.leap_table.specs.declared.rows.LentRows.{LentRows}
 use Rattle.leap_table.specs.rows.Table.{Row}
 use Rattle.leap_table.specs.rows.Lent.{tableOf}

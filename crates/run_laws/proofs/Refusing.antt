@@ -28,13 +28,13 @@ use Rattle.scales.specs.Conversions.{answerOf}
 use Rattle.julian.specs.declared.CalendarFields.{CalendarFields}
 use Rattle.julian.specs.Calendar.{julianToCalendar}
 use Rattle.leap_table.specs.declared.offsets.DayOffsets.{DayOffsets}
-use Rattle.utc_days.specs.LargerPart.{keptParts, besideAs, putBeside, placed, changeSmaller}
-use Rattle.utc_days.specs.Dates.{offsetsOf, midnightOf}
+use Rattle.utc_scales.specs.days.LargerPart.{keptParts, besideAs, putBeside, placed, changeSmaller}
+use Rattle.utc_scales.specs.days.Dates.{offsetsOf, midnightOf}
 use Rattle.utc_scales.specs.UtcTai.{taiFromMidnight, taiFraction, utcToTai, taiToUtc}
-use Rattle.utc_scale_laws.specs.Claims.{Holds, answers, refuses, Any, SixOrOne}
-use Rattle.utc_scale_laws.proofs.Outcomes.{holds-onward, holds-more}
-use Rattle.utc_scale_laws.proofs.Refusals.{parts-fit, utc-to-tai-refuses, tai-to-utc-refuses}
-use Rattle.utc_scale_laws.proofs.NotFinite.{utc-to-tai-not-finite, tai-to-utc-not-finite}
+use Rattle.utc_scales.specs.laws.Claims.{Holds, answers, refuses, Any, SixOrOne}
+use Rattle.utc_scales.proofs.laws.Outcomes.{holds-onward, holds-more}
+use Rattle.utc_scales.proofs.laws.Refusals.{parts-fit, utc-to-tai-refuses, tai-to-utc-refuses}
+use Rattle.utc_scales.proofs.laws.NotFinite.{utc-to-tai-not-finite, tai-to-utc-not-finite}
 use Rattle.line_up.specs.LineUp.{stampOf}
 use Rattle.floats.proofs.ExponentField.{field-not-finite}
 use Rattle.scale_ways.specs.Ways.{isRunScale, intoTai, outOfTai, between, wayOf}

@@ -22,7 +22,7 @@ use Rattle.formula_runs.specs.Run.{numberByte, RunCall, runCall, runWritten}
 use Rattle.runs.specs.Run.{stampAnswer, runRefusal, runBy, convertedRun}
 use Rattle.runs.proofs.Calls.{Fitting, fitting}
 use Rattle.formula_runs.proofs.Judged.{pattern-back}
-use Rattle.utc_scale_laws.specs.Claims.{Holds, Any}
+use Rattle.utc_scales.specs.laws.Claims.{Holds, Any}
 use Rattle.run_laws.specs.Dead.{DeadStamp, deadNumber, OneSixNine, notZeroIn}
 use Rattle.run_laws.specs.Done.{StampDone, SpareStays}
 use Rattle.run_laws.proofs.Refusing.{five, not-finite-way, dead-not-finite, same-passes, way-refusals, stamp-held}

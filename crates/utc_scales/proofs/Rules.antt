@@ -10,9 +10,9 @@ use Rattle.julian.specs.declared.JulianDate.{JulianDate}
 use Rattle.julian.specs.Calendar.{julianToCalendar}
 use Rattle.leap_table.specs.rows.Table.{Row}
 use Rattle.leap_table.specs.offsets.Rule.{forget}
-use Rattle.utc_days.specs.LargerPart.{keptParts, changeSmaller}
-use Rattle.utc_days.specs.DateRule.{ruleOfDate, passOn}
-use Rattle.utc_days.proofs.Rules.{passed-forgets, refused-forgets}
+use Rattle.utc_scales.specs.days.LargerPart.{keptParts, changeSmaller}
+use Rattle.utc_scales.specs.days.DateRule.{ruleOfDate, passOn}
+use Rattle.utc_scales.proofs.days.Rules.{passed-forgets, refused-forgets}
 use Rattle.utc_scales.specs.UtcTai.{taiFraction, utcToTai}
 use Rattle.utc_scales.specs.ByRule.{utcToTaiByRule}
 

@@ -18,9 +18,9 @@ use Rattle.leap_table.specs.declared.offsets.DayOffsets.{DayOffsets}
 use Rattle.leap_table.specs.rows.Table.{Row}
 use Rattle.leap_table.specs.offsets.Offset.{taiUtcOffset}
 use Rattle.leap_table.specs.offsets.Leap.{offsets, dayOffsets}
-use Rattle.utc_days.specs.Dates.{offsetAt0h, offsetsOf}
-use Rattle.utc_days.proofs.Midnights.{midnightOfDay, valid-midnight, offsets-valid}
-use Rattle.utc_days.proofs.Steps.{no-date}
+use Rattle.utc_scales.specs.days.Dates.{offsetAt0h, offsetsOf}
+use Rattle.utc_scales.proofs.days.Midnights.{midnightOfDay, valid-midnight, offsets-valid}
+use Rattle.utc_scales.proofs.days.Steps.{no-date}
 use Rattle.utc_scales.specs.UtcTai.{taiFromMidnight, taiFraction, refined, rounds, refineUtcFraction}
 
 -- ---- a pair of parts with no day number

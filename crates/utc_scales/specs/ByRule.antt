@@ -7,8 +7,8 @@ use Rattle.leap_table.specs.declared.offsets.Rule.{Rule}
 use Rattle.leap_table.specs.rows.Table.{Row}
 use Rattle.utc_scales.specs.declared.utc_tai.TaiByRule.{TaiByRule}
 use Rattle.utc_scales.specs.declared.utc_tai.TaiByRule.the-variants as Tai
-use Rattle.utc_days.specs.LargerPart.{keptParts}
-use Rattle.utc_days.specs.DateRule.{ruleOfDate, passOn}
+use Rattle.utc_scales.specs.days.LargerPart.{keptParts}
+use Rattle.utc_scales.specs.days.DateRule.{ruleOfDate, passOn}
 use Rattle.utc_scales.specs.UtcTai.{utcToTai}
 
 unfoldable pub utcToTaiByRule : List Row → JulianDate → Outcome (JulianDate × Rule)

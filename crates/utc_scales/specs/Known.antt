@@ -14,8 +14,8 @@ use Rattle.utc_scales.specs.declared.utc_tai.PartAnswer.{PartAnswer}
 use Rattle.utc_scales.specs.declared.utc_tai.PartAnswer.the-variants as Part
 use Rattle.utc_scales.specs.declared.utc_tai.RuledPart.{RuledPart}
 use Rattle.utc_scales.specs.declared.utc_tai.RuledPart.the-variants as Ruled
-use Rattle.utc_days.specs.Dates.{offsetsOf, offsetOfDate}
-use Rattle.utc_days.specs.DateRule.{ruleOfDate}
+use Rattle.utc_scales.specs.days.Dates.{offsetsOf, offsetOfDate}
+use Rattle.utc_scales.specs.days.DateRule.{ruleOfDate}
 
 unfoldable pub RightDay : List Row → KnownDay → Type 0
 RightDay rows k = offsetsOf rows (gregorianDate (k .day)) ≡ answer (k .offsets)

@@ -11,8 +11,8 @@ use Rattle.julian.specs.Calendar.{julianToCalendar}
 use Rattle.leap_table.specs.declared.offsets.DayOffsets.{DayOffsets}
 use Rattle.leap_table.specs.rows.Table.{Row}
 use Rattle.leap_table.specs.offsets.Leap.{driftRate, leapAmount}
-use Rattle.utc_days.specs.LargerPart.{changeSmaller}
-use Rattle.utc_days.specs.Dates.{offsetsOf, midnightOf}
+use Rattle.utc_scales.specs.days.LargerPart.{changeSmaller}
+use Rattle.utc_scales.specs.days.Dates.{offsetsOf, midnightOf}
 
 -- the fraction of a day in days of 86,400 s: the day is longer by its drift and by the leap at its end
 unfoldable pub stretchDayFraction : DayOffsets → Float → Float

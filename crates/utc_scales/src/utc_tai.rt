@@ -29,9 +29,9 @@ use leap_table::offsets::DayByRule;
 use leap_table::offsets::DayOffsets;
 use leap_table::offsets::DayOffsetsAnswer;
 use leap_table::offsets::Rule;
-use utc_days::kept_parts;
-use utc_days::placed;
-use utc_days::put_beside;
+use crate::days::kept_parts;
+use crate::days::placed;
+use crate::days::put_beside;
 
 // The smaller part of a date, and the day that was looked up for it.
 pub(crate) struct KnownPart {

@@ -45,7 +45,7 @@ utcBy dates (utc-from-calendar y m d hour minute second) = utcFromCalendar fixed
 utcBy dates (utc-new seconds nanos) = newBy dates seconds nanos
 utcBy dates (utc-parts jd1 jd2) = answer (julian jd1 jd2)
 
--- the other calls stay as they are: they need no date of a day number, or, as `utc_to_ut1` of a DUT1 that is no number, refuse before they need it
+-- the other calls stay as they are: they need no date of a day number, or, as `utc_scales::to_ut1` of a DUT1 that is no number, refuse before they need it
 unfoldable pub answerBy : (ℤ → CalendarDate) → Call → Outcome Value
 answerBy dates (calendar-to-julian y m d) = callOutcome (calendar-to-julian y m d)
 answerBy dates (julian-to-calendar jd1 jd2) = onward (toCalendar dates jd1 jd2) (λ c. fieldsValue c)

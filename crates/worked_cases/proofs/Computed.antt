@@ -20,7 +20,7 @@ use Rattle.leap_table.specs.offsets.Leap.{dayOffsets, leapOf, leapAtEndOfDay}
 use Rattle.julian.specs.shifts.SmallerPart.{firstIsLarger, partsOf, putBack, mapSmallerPart}
 use Rattle.scales.specs.Formulas.{since, tdb0, ttDays, jd1977, tcbToTdb}
 use Rattle.scales.specs.Conversions as Scales
-use Rattle.utc_to_ut1.specs.UtcUt1.{utcToUt1}
+use Rattle.utc_scales.specs.to_ut1.UtcUt1.{utcToUt1}
 use Rattle.time_of_day.specs.Milliseconds as Millis
 use Rattle.time_of_day.specs.TimeShown.{timeOf, dayEnd, fromZero, shownAt, countBy, shownBy}
 use Rattle.utc_text.specs.Text.{yearText, utcText}

@@ -33,8 +33,8 @@ use Rattle.utc_text.specs.Text.{yearText, utcText}
 use Rattle.utc.specs.FromCalendar.{midnightPlus, utcFromCalendar}
 use Rattle.iso_texts.specs.IsoText.{nextMidnightTextBy, shownTextBy, dayTextBy, dayText}
 use Rattle.iso_texts.specs.ByRule.{textByRule, isoTextByRule}
-use Rattle.utc_scale_laws.specs.ShortTable.{shortTable, shortRows}
-use Rattle.utc_scale_laws.proofs.ShortDay.{short-taken}
+use Rattle.utc_scales.specs.laws.ShortTable.{shortTable, shortRows}
+use Rattle.utc_scales.proofs.laws.ShortDay.{short-taken}
 use Rattle.worked_cases.specs.Cases.{ascii}
 use Rattle.worked_cases.proofs.ByDates.{toCalendar}
 

@@ -16,7 +16,7 @@ use Rattle.leap_table.specs.rows.Table.{fixed}
 use Rattle.leap_table.specs.offsets.Offset.{taiUtcOffset}
 use Rattle.scales.specs.Conversions.{Conversion}
 use Rattle.scales.specs.Conversions as Scales
-use Rattle.utc_to_ut1.specs.UtcUt1.{utcToUt1}
+use Rattle.utc_scales.specs.to_ut1.UtcUt1.{utcToUt1}
 use Rattle.utc.specs.FromCalendar.{utcFromCalendar}
 use Rattle.utc.specs.UnixTime.{utcNew}
 use Rattle.iso_texts.specs.IsoText.{isoText}

@@ -5,9 +5,9 @@ use Rattle.calendar.specs.Gregorian.{gregorianDate}
 use Rattle.leap_table.specs.offsets.Rule.{dayByRule}
 use Rattle.leap_table.specs.rows.Table.{Row}
 use Rattle.leap_table.specs.rows.Lent.{rowsIn}
-use Rattle.utc_days.specs.Dates.{offsetsOf}
-use Rattle.utc_days.specs.DateRule.{ruleOn}
-use Rattle.utc_days.proofs.Midnights.{month-fits, day-of-month-fits, handed}
+use Rattle.utc_scales.specs.days.Dates.{offsetsOf}
+use Rattle.utc_scales.specs.days.DateRule.{ruleOn}
+use Rattle.utc_scales.proofs.days.Midnights.{month-fits, day-of-month-fits, handed}
 use mathlib.Core.List.{List}
 use denote.Ref.{now}
 use borrow.Author.Needs.{needs}

@@ -1,7 +1,7 @@
 -- `utc_scales::table::mjd_of` meets its contract. Assumes nothing.
 use mathlib.Core.Path.{ap}
 use lib.Ieee.{binary64, ofInt}
-use Rattle.utc_days.proofs.Midnights.{less-fits, less-read, less-held}
+use Rattle.utc_scales.proofs.days.Midnights.{less-fits, less-read, less-held}
 use Rattle.utc_scales.proofs.table.mjd_of.Statement.{statement}
 use Rattle.utc_scales.proofs.table.mjd_of.Tie as tie
 

@@ -12,8 +12,8 @@ use Rattle.leap_table.specs.rows.Lent.{rowsIn}
 use Rattle.leap_table.specs.offsets.Rule.{withRule, forget}
 use Rattle.leap_table.specs.offsets.Answers.{dayOffsetsOutcome, dayByRuleOutcome}
 use Rattle.leap_table.proofs.offsets.Rules.{forgets}
-use Rattle.utc_days.specs.Dates.{offsetsOf}
-use Rattle.utc_days.specs.DateRule.{ruleOn}
+use Rattle.utc_scales.specs.days.Dates.{offsetsOf}
+use Rattle.utc_scales.specs.days.DateRule.{ruleOn}
 use borrow.Author.Needs.{needs}
 use Rattle.utc_scales.proofs.table.offsets_of.Statement.{statement}
 use Rattle.utc_scales.proofs.table.offsets_of.Tie as tie

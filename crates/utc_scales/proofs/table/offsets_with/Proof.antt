@@ -6,10 +6,10 @@ use Rattle.calendar.specs.Gregorian.{gregorianDate}
 use Rattle.leap_table.specs.offsets.Answers.{dayOffsetsOutcome}
 use Rattle.leap_table.specs.rows.Table.{Row}
 use Rattle.leap_table.specs.rows.Lent.{rowsIn}
-use Rattle.utc_days.specs.Dates.{offsetsOf}
+use Rattle.utc_scales.specs.days.Dates.{offsetsOf}
 use Rattle.utc_scales.specs.Known.{RightDay, RightKnown}
 use Rattle.utc_scales.specs.declared.table.Known.{Known}
-use Rattle.utc_days.proofs.Midnights.{same-day}
+use Rattle.utc_scales.proofs.days.Midnights.{same-day}
 use mathlib.Core.List.{List}
 use denote.Ref.{now}
 use borrow.Author.Needs.{needs}

@@ -5,10 +5,10 @@ use Rattle.leap_table.specs.rows.Table.{Row}
 use Rattle.leap_table.specs.rows.Lent.{rowsIn}
 use Rattle.refusals.proofs.Onward.{went, stopped}
 use Rattle.utc_scales.specs.Known.{partOutcome, RightPart}
-use Rattle.utc_days.specs.LargerPart.{placed}
+use Rattle.utc_scales.specs.days.LargerPart.{placed}
 use Rattle.utc_scales.specs.UtcTai.{taiFraction, utcToTai, moved, refined}
 use Rattle.utc_scales.specs.declared.utc_tai.PartAnswer.{PartAnswer}
-use Rattle.utc_days.proofs.Steps.{changes}
+use Rattle.utc_scales.proofs.days.Steps.{changes}
 use mathlib.Core.List.{List}
 use denote.Ref.{now}
 use borrow.Author.Needs.{needs}

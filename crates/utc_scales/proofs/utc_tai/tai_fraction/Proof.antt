@@ -12,10 +12,10 @@ use Rattle.julian.specs.JulianDate.{julian}
 use Rattle.leap_table.specs.offsets.Answers.{dayOffsetsOutcome}
 use Rattle.leap_table.specs.rows.Table.{Row}
 use Rattle.leap_table.specs.rows.Lent.{rowsIn}
-use Rattle.utc_days.specs.Dates.{offsetsOf}
+use Rattle.utc_scales.specs.days.Dates.{offsetsOf}
 use Rattle.utc_scales.specs.Known.{RightDay, partOutcome, RightPart}
 use Rattle.utc_scales.specs.UtcTai.{taiFromMidnight}
-use Rattle.utc_days.proofs.Midnights.{day-asked}
+use Rattle.utc_scales.proofs.days.Midnights.{day-asked}
 use Rattle.utc_scales.proofs.Steps.{tai-no-date, tai-no-offsets, tai-of-day}
 use mathlib.Core.List.{List}
 use denote.Ref.{now}

@@ -15,15 +15,15 @@ use Rattle.leap_table.specs.rows.Table.{Row}
 use Rattle.leap_table.specs.rows.Lent.{rowsIn}
 use Rattle.leap_table.specs.offsets.Rule.{withRule}
 use Rattle.leap_table.specs.offsets.Answers.{dayByRuleOutcome}
-use Rattle.utc_days.specs.Dates.{offsetsOf}
-use Rattle.utc_days.specs.DateRule.{ruleOn}
+use Rattle.utc_scales.specs.days.Dates.{offsetsOf}
+use Rattle.utc_scales.specs.days.DateRule.{ruleOn}
 use Rattle.utc_scales.specs.Known.{ruledPartOutcome, SameDays}
 use Rattle.utc_scales.specs.UtcTai.{taiFromMidnight}
-use Rattle.utc_days.proofs.Midnights.{day-asked}
-use Rattle.utc_days.proofs.Steps.{offset-of-day}
+use Rattle.utc_scales.proofs.days.Midnights.{day-asked}
+use Rattle.utc_scales.proofs.days.Steps.{offset-of-day}
 use Rattle.utc_scales.proofs.Steps.{offsets-first, tai-no-date, tai-no-offsets, tai-of-day}
 use Rattle.leap_table.proofs.offsets.Rules.{apart, refused-apart}
-use Rattle.utc_days.proofs.Rules.{rule-of-day}
+use Rattle.utc_scales.proofs.days.Rules.{rule-of-day}
 use borrow.Author.Needs.{needs}
 use Rattle.utc_scales.proofs.utc_tai.tai_fraction_by_rule.Statement.{statement}
 use Rattle.utc_scales.proofs.utc_tai.tai_fraction_by_rule.Tie as tie

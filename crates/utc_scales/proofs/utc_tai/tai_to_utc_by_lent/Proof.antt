@@ -5,7 +5,7 @@ use Rattle.leap_table.specs.rows.Table.{Row}
 use Rattle.leap_table.specs.rows.Lent.{rowsIn}
 use Rattle.scales.specs.Scales.{utcOutcome}
 use Rattle.utc_scales.specs.UtcTai.{refineUtcFraction, taiToUtc}
-use Rattle.utc_days.proofs.Steps.{changes}
+use Rattle.utc_scales.proofs.days.Steps.{changes}
 use mathlib.Core.List.{List}
 use denote.Ref.{now}
 use borrow.Author.Needs.{needs}

@@ -1,2 +1,0 @@
--- The definitions that the theorems of `drift_laws` cite.
-pub mod Drift

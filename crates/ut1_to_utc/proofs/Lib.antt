@@ -1,3 +1,0 @@
--- What several proofs of `ut1_to_utc` cite.
-pub mod Steps
-pub mod MonthOffsets

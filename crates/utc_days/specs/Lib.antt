@@ -1,4 +1,0 @@
--- What the contracts of `utc_days` cite, in the order to read it.
-pub mod LargerPart
-pub mod Dates
-pub mod DateRule

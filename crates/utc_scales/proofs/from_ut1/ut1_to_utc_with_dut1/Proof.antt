@@ -1,0 +1,28 @@
+-- `utc_scales::from_ut1::ut1_to_utc_with_dut1` meets its contract: the table is tested, and its rows are read. Assumes nothing.
+use mathlib.Core.Path.{_∙_}
+use Rattle.leap_table.proofs.rows.TablesTaken.{turned-away, taken}
+use Rattle.scales.specs.Scales.{utcOutcome}
+use borrow.Author.Needs.{needs}
+use Rattle.utc_scales.proofs.from_ut1.ut1_to_utc_with_dut1.Statement.{statement}
+use Rattle.utc_scales.proofs.from_ut1.ut1_to_utc_with_dut1.Tie as tie
+
+table-refusal-requires : tie.Need-table-refusal-requires
+table-refusal-requires c κs = search needs
+
+returns : tie.Need-returns
+unfolding utcOutcome
+returns c = let r = c .before in turned-away (r .before .args .table) (r .table-refusal .result) (r .table-refusal .ensures) _ (c .if1 .taken)
+
+ut1-to-utc-with-dut1-by-rows-requires : tie.Need-ut1-to-utc-with-dut1-by-rows-requires
+ut1-to-utc-with-dut1-by-rows-requires c κs = search needs
+
+returns-2 : tie.Need-returns-2
+returns-2 c =
+    let r = c .before .before in
+    c .ut1-to-utc-with-dut1-by-rows .ensures
+    ∙ taken (r .before .args .table) (r .table-refusal .result) (r .table-refusal .ensures) _ (c .before .if1 .left)
+
+pub ut1-to-utc-with-dut1-spec : {M : Type 1} → statement M
+ut1-to-utc-with-dut1-spec =
+    tie.close
+    (tie.spec table-refusal-requires returns ut1-to-utc-with-dut1-by-rows-requires returns-2)

@@ -1,0 +1,81 @@
+-- `utc_scales::from_ut1::ut1_to_utc_with_dut1_by_lent` meets its contract. Assumes nothing.
+use mathlib.Core.Path.{sym, ap, _∙_}
+use Rattle.julian.specs.Finite as J
+use Rattle.julian.specs.JulianDate.{julianOutcome}
+use Rattle.scales.specs.Scales.{utcOutcome}
+use Rattle.refusals.proofs.Onward.{went, stopped}
+use Rattle.utc_scales.specs.from_ut1.Ut1Utc.{ut1ToUtc}
+use borrow.Author.Needs.{needs}
+use Rattle.utc_scales.proofs.from_ut1.ut1_to_utc_with_dut1_by_lent.Statement.{statement}
+use Rattle.utc_scales.proofs.from_ut1.ut1_to_utc_with_dut1_by_lent.Tie as tie
+
+finite-arg-requires : tie.Need-finite-arg-requires
+finite-arg-requires c κs = search needs
+
+enum-known-number : tie.Need-enum-known-number
+enum-known-number c = search needs
+
+returns : tie.Need-returns
+unfolding utcOutcome julianOutcome J.offsetOutcome ut1ToUtc
+returns c = sym (stopped _ (sym (c .before .before .before .finite-arg .ensures) ∙ ap J.offsetOutcome (c .before .number .given .1)))
+
+enum-told : tie.Need-enum-told
+enum-told c = search needs
+
+finite-jd-requires : tie.Need-finite-jd-requires
+finite-jd-requires c κs = search needs
+
+enum-known-number-2 : tie.Need-enum-known-number-2
+enum-known-number-2 c = search needs
+
+enum-known-jd : tie.Need-enum-known-jd
+enum-known-jd c = search needs
+
+less-dut1-requires : tie.Need-less-dut1-requires
+less-dut1-requires c κs = search needs
+
+enum-known-number-3 : tie.Need-enum-known-number-3
+enum-known-number-3 c = search needs
+
+enum-known-utc : tie.Need-enum-known-utc
+enum-known-utc c = search needs
+
+returns-2 : tie.Need-returns-2
+unfolding utcOutcome julianOutcome J.offsetOutcome ut1ToUtc
+returns-2 c = sym (went _ (sym (c .before .before .before .before .before .before .finite-arg .ensures) ∙ ap J.offsetOutcome (c .before .before .before .before .enum-told .given .1)) ∙ stopped _ (sym (c .before .before .before .finite-jd .ensures) ∙ ap julianOutcome (c .before .number2 .given .1)))
+
+returns-3 : tie.Need-returns-3
+unfolding utcOutcome julianOutcome J.offsetOutcome ut1ToUtc
+returns-3 c =
+    let l = c .before .before .before in
+    let j = l .before .before in
+    let f = j .before .before in
+    let g = sym (f .before .before .before .finite-arg .ensures) ∙ ap J.offsetOutcome (f .before .enum-told .given .1) in
+    sym (went _ g ∙ went _ (sym (f .finite-jd .ensures) ∙ ap julianOutcome (j .jd .given .1)) ∙ sym (l .less-dut1 .ensures) ∙ ap julianOutcome (c .before .number3 .given .1))
+
+returns-4 : tie.Need-returns-4
+unfolding utcOutcome julianOutcome J.offsetOutcome ut1ToUtc
+returns-4 c =
+    let l = c .before .before .before in
+    let j = l .before .before in
+    let f = j .before .before in
+    let g = sym (f .before .before .before .finite-arg .ensures) ∙ ap J.offsetOutcome (f .before .enum-told .given .1) in
+    sym (went _ g ∙ went _ (sym (f .finite-jd .ensures) ∙ ap julianOutcome (j .jd .given .1)) ∙ sym (l .less-dut1 .ensures) ∙ ap julianOutcome (c .before .utc .given .1))
+
+pub ut1-to-utc-with-dut1-by-lent-spec : {M : Type 1} → statement M
+ut1-to-utc-with-dut1-by-lent-spec =
+    tie.close
+    (tie.spec
+    finite-arg-requires
+    enum-known-number
+    returns
+    enum-told
+    finite-jd-requires
+    enum-known-number-2
+    enum-known-jd
+    less-dut1-requires
+    enum-known-number-3
+    enum-known-utc
+    returns-2
+    returns-3
+    returns-4)

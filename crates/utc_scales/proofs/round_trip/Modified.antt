@@ -1,0 +1,115 @@
+-- UTC TO TAI OF A MODIFIED JULIAN DATE: for the split (2400000.5, MJD) it is answered, and means the exact relation to 628,704 ps, of which the last rounding is 628,643. Assumes nothing.
+use mathlib.Core.Path.{_≡_, refl, sym, subst}
+use mathlib.Core.Bool.{true, false}
+use Prim.Native.Nat.{ℕ, _+_, _*_, _^_, _≤_, _<_}
+use native.Mathlib.Nat.{zero-mul, mul-le-mul-right}
+use native.Mathlib.Omega.{arith}
+use lib.Dec.{lit≤}
+use lib.Ieee.{Float, binary64, round, add}
+use Rattle.constants.specs.Constants.{decimal}
+use Rattle.rounding.specs.Value.{Val, L}
+use Rattle.rounding.proofs.Value.{L-pos}
+use Rattle.rounding.proofs.Sizes.{whole-val}
+use Rattle.rounding.proofs.Bound.{SizeWithin}
+use Rattle.rounding.proofs.Range.{size-at-most}
+use Rattle.rounding.proofs.Compare.{le-says}
+use Rattle.rounding.proofs.Near.{NearSum, add-near}
+use Rattle.rounding.proofs.Chain.{ValClose}
+use Rattle.julian.specs.declared.JulianDate.{JulianDate}
+use Rattle.rounding.specs.Picoseconds.{dayPs}
+use Rattle.utc_scales.specs.days.LargerPart.{firstIsKept}
+use Rattle.utc_scales.specs.round_trip.Ranges.{ModifiedSplit}
+use Rattle.utc_scales.specs.round_trip.UtcDays.{H}
+use Rattle.utc_scales.specs.round_trip.Relation.{RightTai}
+use Rattle.utc_scales.proofs.round_trip.Units.{h, L-H, L-h, h-small, in-units}
+use Rattle.utc_scales.proofs.round_trip.Parts.{HalvesUp, Stamp, parts-joined}
+use Rattle.utc_scales.proofs.round_trip.Kept.{first-larger}
+use Rattle.utc_scales.proofs.round_trip.Evaluated.{SeenTo, since, day-sum, sum-high, sum-low, seen-to}
+use Rattle.utc_scales.proofs.round_trip.Meant.{on-day, utc-meant}
+
+-- ---- a sum of less than 2 ^ 17 days is off by at most 2 ^ 16 h
+days-17 : 2 ^ (53 + 1038) ≡ 131072 * L
+unfolding L
+days-17 = refl
+
+units-17 : 2 ^ 1038 ≡ 131072 * h
+unfolding h
+units-17 = refl
+
+add-coarse : {x y : Float} {p n q k : ℕ} → p + q < n + k + 131072 * L → n + k < p + q + 131072 * L → Val x p n L → Val y q k L → ValClose L (add binary64 x y) (p + q) (n + k) (65536 * h)
+add-coarse {x} {y} {p} {n} {q} {k} u l v w =
+    let s : NearSum (add binary64 x y) (p + q) (n + k) 1038 = add-near 1038 (lit≤ tt) (subst (λ (z : ℕ). p + q < n + k + z) (sym days-17) u) (subst (λ (z : ℕ). n + k < p + q + z) (sym days-17) l) v w in
+    record { p = s .p; n = s .n; val = s .val; over = half (s .p + (n + k)) (s .n + (p + q)) (2 ^ 1038) units-17 (s .over); under = half (s .n + (p + q)) (s .p + (n + k)) (2 ^ 1038) units-17 (s .under) }
+  where
+    half : (x y w : ℕ) → w ≡ 131072 * h → 2 * x ≤ 2 * y + w → x ≤ y + 65536 * h
+    half x y w e k = omega arith
+
+-- ---- the ends of the range
+first-day : Val (decimal 41318 0) (41318 * L) (0 * L) L
+unfolding round
+first-day = whole-val (record { sign = false; size = 41318; has = (refl, refl); is = refl })
+
+last-day : Val (decimal 131071 0) (131071 * L) 0 L
+unfolding round
+last-day = subst (λ (z : ℕ). Val (decimal 131071 0) (131071 * L) z L) (zero-mul L) (whole-val (record { sign = false; size = 131071; has = (refl, refl); is = refl }))
+
+-- ---- all roundings, in picoseconds
+in-all : dayPs * (5662510614 * h + 345604 * h) ≤ 628704 * (86400 * L)
+in-all = subst (λ (z : ℕ). dayPs * (5662510614 * h + 345604 * h) ≤ 628704 * (86400 * z)) (sym L-h) (go h (mul-le-mul-right h (lit≤ tt)))
+  where
+    go : (k : ℕ) → 489270777235200000000000000 * k ≤ 489271294101831606809395200 * k → dayPs * (5662510614 * k + 345604 * k) ≤ 628704 * (86400 * (9007199254740992 * k))
+    go k l = omega arith
+
+-- ---- the parts of such a date
+module _ {d : JulianDate} (s : ModifiedSplit d) where
+  u : SizeWithin (d .jd2) (131071 * L)
+  u = size-at-most (s .held .1) last-day (s .to)
+
+  from-1972 : 41318 * L + u .n ≤ u .p
+  from-1972 = plain (41318 * L) (0 * L) (u .p) (u .n) (zero-mul L) (le-says L-pos first-day (u .val) (s .from))
+    where
+      plain : (f o p n : ℕ) → o ≡ 0 → f + n ≤ p + o → f + n ≤ p
+      plain f o p n e k = omega arith
+
+  zero-point : Val (d .jd1) (4800001 * H) 0 L
+  zero-point = in-units 4800001 2 H L-H (s .first)
+
+  days : HalvesUp (d .jd1) (4800001 * H)
+  days = record { val = zero-point; k = 4800001; halves = refl; high = omega arith }
+
+  stamp : Stamp (d .jd1) (d .jd2) (4800001 * H) (u .p) (u .n)
+  stamp = record {
+    held1 = s .held .0;
+    held2 = s .held .1;
+    val1 = zero-point;
+    val2 = u .val;
+    most = omega arith;
+    over = omega (arith, u .high);
+    under = omega (arith, u .low);
+    low = omega (arith, from-1972, L-H);
+    high = omega (arith, u .high, L-H);
+  }
+
+  larger : firstIsKept d ≡ true
+  larger = first-larger zero-point (u .val) (omega (arith, u .high, L-H)) (omega (arith, u .low, L-H))
+
+  modified-seen : SeenTo (5662510614 * h) (d .jd1) (d .jd2) (4800001 * H) (u .p) (u .n)
+  modified-seen =
+      seen-to stamp days (65536 * h) (5662510614 * h) (omega arith) larger
+      (add-coarse
+      (sum-high stamp days (131072 * L) (λ a b c d. above _ _ _ _ _ _ _ d a b c))
+      (sum-low stamp days (131072 * L) (λ a b c d. below _ _ _ _ _ _ _ d a b c))
+      (since stamp days .val) (day-sum stamp days .val))
+    where
+      above : (f N x y t P M : ℕ) → x + H ≡ N → N + f + u .n ≤ 4800001 * H + u .p + H + 4 * h → 64 * P ≤ 64 * (M + f) + L → y + M ≤ t + P + h → x + y < 4800001 * H + t + 131072 * L
+      above f N x y t P M e a b c = omega (arith, u .high, h-small, L-pos)
+
+      below : (f N x y t P M : ℕ) → x + H ≡ N → 4800001 * H + u .p + H ≤ N + f + u .n + 4 * h → 64 * (M + f) ≤ 64 * P + L → t + P ≤ y + M + h → 4800001 * H + t < x + y + 131072 * L
+      below f N x y t P M e a b c = omega (arith, from-1972, h-small, L-pos)
+
+  -- ---- THE THEOREM
+  pub utc-to-tai-modified : RightTai 628704 d
+  utc-to-tai-modified =
+      let o = on-day stamp in
+      let r = utc-meant stamp modified-seen 628704 in-all (o .0) (o .1) in
+      record { n = o .0; on = record { p = _; m = _; worth = parts-joined zero-point (u .val); on = o .1 }; date = r .date; is = r .is; means = r .means }

@@ -1,0 +1,150 @@
+-- THE THREE ROUNDS of TAI to UTC: the residual of the guess falls from 37 s to 428 microseconds, 5.1 ns and 135 ps, and UTC to TAI takes the last guess to within 173 ps of the
+-- TAI that was given. Assumes nothing.
+use mathlib.Core.Path.{_≡_, _∙_}
+use Prim.Native.Nat.{ℕ, _+_, _*_, _≤_}
+use native.Mathlib.Omega.{arith}
+use lib.Dec.{T}
+use lib.Ieee.{Float, binary64, fits, le}
+use Rattle.refusals.specs.Outcome.{answer}
+use Rattle.refusals.proofs.Onward.{went}
+use Rattle.floats.specs.Whole.{abs, one}
+use Rattle.rounding.specs.Value.{Val, L}
+use Rattle.rounding.proofs.Range.{size-at-most}
+use Rattle.julian.proofs.day_number.Units.{one-L}
+use Rattle.julian.specs.JulianDate.{julian}
+use Rattle.leap_table.specs.rows.Table.{fixed}
+use Rattle.utc_scales.specs.UtcTai.{moved, refined, rounds, refineUtcFraction, taiToUtc}
+use Rattle.utc_scales.specs.round_trip.UtcDays.{H}
+use Rattle.utc_scales.proofs.round_trip.Units.{h, L-H, L-h, h-pos}
+use Rattle.utc_scales.proofs.round_trip.Parts.{FirstPart, SecondPart}
+use Rattle.utc_scales.proofs.round_trip.Steady.{taiUtcAt, either, few-seconds}
+use Rattle.utc_scales.proofs.round_trip.Kept.{first-larger, kept-changed}
+use Rattle.utc_scales.proofs.round_trip.Evaluated.{Seen, seen}
+use Rattle.utc_scales.proofs.round_trip.Residuals.{Residual, DateNear, TaiNear, start, moved-residual, day-apart, shrinks, move-size}
+use Rattle.utc_scales.proofs.round_trip.Round.{Next, next-guess}
+
+-- ---- what is seen of a guess, in the numbers of a round
+module _ {a u : Float} {A up un : ℕ} (z : Seen a u A up un) where
+  -- its date, and its TAI-UTC times 86400
+  abbrev pub dateSeen : ℕ
+  dateSeen = z .day * L + z .f
+
+  abbrev pub offsetSeen : ℕ
+  offsetSeen = taiUtcAt (z .day) (z .f)
+
+  near : DateNear h H A up un dateSeen
+  near = record { high = z .near-over; low = z .near-under }
+
+  pub tai-near : TaiNear h H A (z .tp) (z .tn) dateSeen offsetSeen
+  tai-near = record { high = z .eval-over; low = z .eval-under }
+
+-- ---- where a guess stands: its size, what is seen of it, and its residual
+pub record GuessAt (a : Float) (A bp bn R P : ℕ) (u : Float) : Type 0 where
+  pub up : ℕ
+  pub un : ℕ
+  pub val : Val u up un L
+  pub held : T (fits binary64 u)
+  pub high : 1024 * up ≤ 1024 * un + R
+  pub low : 1024 * un ≤ 1024 * up + R
+  pub seen : Seen a u A up un
+  pub residual : Residual H A bp bn (dateSeen seen) (offsetSeen seen) P
+
+module _ {a b : Float} {A bp bn : ℕ} (v : FirstPart a A) (vb : Val b bp bn L) where
+  -- the first guess is b
+  first : T (fits binary64 b) → bp ≤ bn + L → bn ≤ bp + L → GuessAt a A bp bn (1024 * L) (333266372425762304 * h) b
+  first t k l =
+      let z : Seen a b A bp bn = seen v (record { held = t; val = vb; over = wide bp bn L k; under = wide bn bp L l }) in
+      record { up = bp; un = bn; val = vb; held = t; high = plain bp bn L k; low = plain bn bp L l; seen = z; residual = start h L H A bp bn (dateSeen z) (offsetSeen z) L-h (few-seconds (z .day) (z .f) (z .seconds) (z .below) .1) (near z) }
+    where
+      wide : (p n Q : ℕ) → p ≤ n + Q → 1024 * p ≤ 1024 * n + 1027 * Q
+      wide p n Q k = omega arith
+
+      plain : (p n Q : ℕ) → p ≤ n + Q → 1024 * p ≤ 1024 * n + 1024 * Q
+      plain p n Q k = omega arith
+
+  -- a round: the bound P becomes P'
+  step : (R P R' P' : ℕ) → R + L ≤ R' → R' ≤ 1027 * L → P ≤ 333266372425762304 * h → P + 104512550422 * h ≤ 86400 * P' → {u : Float} (x : GuessAt a A bp bn R P u)
+      → GuessAt a A bp bn R' P' (moved a b u (julian a (x .seen .t)))
+  step R P R' P' r r' p p' {u} x =
+      let z = x .seen in
+      let m = move-size h L H A bp bn (z .tp) (z .tn) (dateSeen z) (offsetSeen z) P L-h p (tai-near z) (x .residual) in
+      let w : Next a b u (z .t) bp bn (z .tp) (z .tn) (x .up) (x .un) = next-guess (v .val) vb (z .val) (x .held) (x .val) (m .0) (m .1) (within (x .up) (x .un) (x .high)) (within (x .un) (x .up) (x .low)) in
+      let g = ranged (x .up) (x .un) (w .p) (w .n) (bp + z .tn) (bn + z .tp) (x .high) (m .0) (w .by .high) in
+      let l = ranged (x .un) (x .up) (w .n) (w .p) (bn + z .tp) (bp + z .tn) (x .low) (m .1) (w .by .low) in
+      let z' : Seen a (moved a b u (julian a (z .t))) A (w .p) (w .n) = seen v (record { held = w .held; val = w .val; over = full (w .p) (w .n) g; under = full (w .n) (w .p) l }) in
+      let o = moved-residual h L H A bp bn (z .tp) (z .tn) (x .up) (x .un) (w .p) (w .n) (dateSeen z) (offsetSeen z) (dateSeen z') (tai-near z) (near z) (w .by) (near z') in
+      let c = day-apart h L H A bp bn (dateSeen z) (offsetSeen z) (dateSeen z') P L-h h-pos p (x .residual) o in
+      record {
+        up = w .p;
+        un = w .n;
+        val = w .val;
+        held = w .held;
+        high = g;
+        low = l;
+        seen = z';
+        residual = shrinks h L H A bp bn (dateSeen z) (offsetSeen z) (dateSeen z') (offsetSeen z') P P' p' (x .residual) o
+            (either (z .day) (z' .day) (z .f) (z' .f) (z .seconds) (z' .seconds) (z .below) (z' .below) (c .0) (c .1));
+      }
+    where
+      within : (p n : ℕ) → 1024 * p ≤ 1024 * n + R → 1024 * p ≤ 1024 * n + 1027 * L
+      within p n k = omega (arith, r, r')
+
+      full : (p n : ℕ) → 1024 * p ≤ 1024 * n + R' → 1024 * p ≤ 1024 * n + 1027 * L
+      full p n k = omega (arith, r')
+
+      small : (Q k : ℕ) → Q ≡ 9007199254740992 * k → 4096 * k ≤ Q
+      small Q k e = omega arith
+
+      ranged : (p n p' n' i j : ℕ) → 1024 * p ≤ 1024 * n + R → 2048 * i ≤ 2048 * j + L → p' + (n + j) ≤ n' + (p + i) + 2 * h → 1024 * p' ≤ 1024 * n' + R'
+      ranged p n p' n' i j k l m = go p n p' n' i j R R' L h (small L h L-h) k l m r
+        where
+          go : (p n p' n' i j R R' Q h : ℕ) → 4096 * h ≤ Q → 1024 * p ≤ 1024 * n + R → 2048 * i ≤ 2048 * j + Q → p' + (n + j) ≤ n' + (p + i) + 2 * h → R + Q ≤ R' → 1024 * p' ≤ 1024 * n' + R'
+          go p n p' n' i j R R' Q h e k l m r = omega arith
+
+  once : {R P : ℕ} {u : Float} (x : GuessAt a A bp bn R P u) → refined fixed a b u ≡ answer (moved a b u (julian a (x .seen .t)))
+  unfolding refined
+  once x = went _ (x .seen .answered)
+
+  record Refined : Type 0 where
+    u : Float
+    is : refineUtcFraction fixed a b ≡ answer u
+    at : GuessAt a A bp bn (1027 * L) (1210167 * h) u
+
+  three-rounds : T (fits binary64 b) → bp ≤ bn + L → bn ≤ bp + L → Refined
+  unfolding refineUtcFraction rounds
+  three-rounds t k l =
+      let x0 = first t k l in
+      let x1 = step (1024 * L) (333266372425762304 * h) (1025 * L) (3857250890490 * h) (omega arith) (omega arith) (omega arith) (omega arith) x0 in
+      let x2 = step (1025 * L) (3857250890490 * h) (1026 * L) (45853744 * h) (omega arith) (omega arith) (omega arith) (omega arith) x1 in
+      let x3 = step (1026 * L) (45853744 * h) (1027 * L) (1210167 * h) (omega arith) (omega arith) (omega arith) (omega arith) x2 in
+      record { u = _; is = went (rounds fixed a b 2) (once x0) ∙ went (rounds fixed a b 1) (once x1) ∙ went (rounds fixed a b 0) (once x2); at = x3 }
+
+-- ---- TAI to UTC of (a, b) is (a, u), where u stands within 135 ps
+pub record Found (a b : Float) (A : ℕ) : Type 0 where
+  pub u : Float
+  pub bp : ℕ
+  pub bn : ℕ
+  pub given : Val b bp bn L
+  pub is : taiToUtc fixed (julian a b) ≡ answer (julian a u)
+  pub at : GuessAt a A bp bn (1027 * L) (1210167 * h) u
+
+pub found : {a b : Float} {A : ℕ} → FirstPart a A → T (fits binary64 b) → T (le (abs b) one) → Found a b A
+unfolding taiToUtc
+found {a} {b} {A} v f k =
+    let w = size-at-most f one-L k in
+    let r = three-rounds v (w .val) f (w .high) (w .low) in
+    record {
+      u = r .u;
+      bp = w .p;
+      bn = w .n;
+      given = w .val;
+      is = kept-changed (refineUtcFraction fixed) a b (r .u) (first-larger (v .val) (w .val) (under-a (w .p) (w .n) (v .low) (w .high)) (under-a (w .n) (w .p) (v .low) (w .low))) (r .is);
+      at = r .at;
+    }
+  where
+    under-a : (p n : ℕ) → 4882639 * H ≤ A → p ≤ n + L → p ≤ n + A
+    under-a p n m k = omega (arith, L-H)
+
+-- the guess is a smaller part as before
+pub part : {a u : Float} {A bp bn P : ℕ} → (x : GuessAt a A bp bn (1027 * L) P u) → SecondPart u (x .up) (x .un)
+part x = record { held = x .held; val = x .val; over = x .high; under = x .low }

@@ -1,0 +1,87 @@
+-- TAI TO UTC MEANS THE EXACT RELATION to 173 picoseconds: the exact TAI of the answer, by the relation of its exact day, lies within 173 ps of the TAI given. Assumes nothing.
+use mathlib.Core.Path.{_≡_, refl}
+use Prim.Native.Nat.{ℕ, _+_, _*_, _≤_}
+use native.Mathlib.Omega.{arith}
+use lib.Ieee.{Float}
+use Rattle.refusals.specs.Outcome.{answer}
+use Rattle.rounding.specs.Value.{Val, L}
+use Rattle.julian.specs.declared.JulianDate.{JulianDate}
+use Rattle.julian.specs.JulianDate.{julian}
+use Rattle.leap_table.specs.rows.Table.{fixed}
+use Rattle.rounding.specs.Picoseconds.{dayPs}
+use Rattle.utc_scales.specs.UtcTai.{taiToUtc}
+use Rattle.utc_scales.specs.round_trip.Ranges.{HalfDaySplit}
+use Rattle.utc_scales.specs.round_trip.UtcDays.{H, WholeSeconds, OnDay, ExactDay}
+use Rattle.utc_scales.specs.round_trip.Relation.{RightUtc}
+use Rattle.utc_scales.proofs.round_trip.Units.{h, L-h}
+use Rattle.utc_scales.proofs.round_trip.Parts.{FirstPart, stamp-of, parts-joined, parts-worth, first-part}
+use Rattle.utc_scales.proofs.round_trip.Steady.{taiUtcAt}
+use Rattle.utc_scales.proofs.round_trip.Evaluated.{Seen}
+use Rattle.utc_scales.proofs.round_trip.Meant.{on-day, OffsetsNear, near-offset, seconds}
+use Rattle.utc_scales.proofs.round_trip.Rounds.{GuessAt, found, part}
+use Rattle.utc_scales.proofs.round_trip.Exactly.{Said, means-of}
+
+-- W is the date of the guess by its exact day, x the one that the calendar finds; K and G their offsets
+to-picoseconds : (x y : ℕ) → x ≤ y + 1555771 * h → dayPs * x ≤ dayPs * y + 86400 * (173 * L)
+to-picoseconds x y k = omega (arith, L-h)
+
+over : (A bp bn W x K G : ℕ) → x ≤ W + 4 * h → G ≤ K + 4 * h → 86400 * (bp + A + H) ≤ 86400 * bn + (86400 * x + G) + 1210167 * h
+    → 86400 * (A + bp + H) ≤ 86400 * bn + 86400 * W + K + 1555771 * h
+over A bp bn W x K G k l m = omega arith
+
+under : (A bp bn W x K G : ℕ) → W ≤ x + 4 * h → K ≤ G + 4 * h → 86400 * bn + (86400 * x + G) ≤ 86400 * (bp + A + H) + 1210167 * h
+    → 86400 * bn + 86400 * W + K ≤ 86400 * (A + bp + H) + 1555771 * h
+under A bp bn W x K G k l m = omega arith
+
+-- a guess whose residual is at most 1210167 h, on its exact day
+module _ {a b u : Float} {A bp bn : ℕ} (v : FirstPart a A) (vb : Val b bp bn L) (x : GuessAt a A bp bn (1027 * L) (1210167 * h) u) (n : ℕ) (o : OnDay (A + x .up) (x .un) n) where
+  abbrev z : Seen a u A (x .up) (x .un)
+  z = x .seen
+
+  apart : (z .day * L + z .f ≤ n * L + o .f + 4 * h) × (n * L + o .f ≤ z .day * L + z .f + 4 * h)
+  apart = go (z .day * L + z .f) (n * L + o .f) (x .up) (x .un) (z .near-over) (z .near-under) (o .is)
+    where
+      go : (p q c d : ℕ) → p + d ≤ A + c + H + 4 * h → A + c + H ≤ p + d + 4 * h → q + d ≡ A + c + H → (p ≤ q + 4 * h) × (q ≤ p + 4 * h)
+      go p q c d i j k = omega arith
+
+  near : OffsetsNear (taiUtcAt (z .day) (z .f)) (taiUtcAt n (o .f))
+  near = near-offset (z .day) n (z .f) (o .f) (z .seconds) (seconds (stamp-of v (part x)) n o) (z .below) (o .below) (apart .0) (apart .1)
+
+  guess-said : Said 173 n (o .f) (julian a b)
+  guess-said = record {
+    p = A + bp;
+    m = bn;
+    worth = parts-joined (v .val) vb;
+    over = to-picoseconds _ _ (over A bp bn (n * L + o .f) (z .day * L + z .f) (taiUtcAt n (o .f)) (taiUtcAt (z .day) (z .f)) (apart .0) (near .over) (x .residual .high));
+    under = to-picoseconds _ _ (under A bp bn (n * L + o .f) (z .day * L + z .f) (taiUtcAt n (o .f)) (taiUtcAt (z .day) (z .f)) (apart .1) (near .under) (x .residual .low));
+  }
+
+-- ---- TAI to UTC of d is `date`, on the exact day n, of which d is the TAI to 173 ps
+pub record UtcFound (d : JulianDate) : Type 0 where
+  pub date : JulianDate
+  pub is : taiToUtc fixed d ≡ answer date
+  pub same : date .jd1 ≡ d .jd1
+  pub n : ℕ
+  pub on : ExactDay date n
+  pub seconds : WholeSeconds n
+  pub said : Said 173 n (on .on .f) d
+
+pub utc-found : {d : JulianDate} → HalfDaySplit d → UtcFound d
+utc-found {d} s =
+    let v = first-part s in
+    let r = found v (s .held .1) (s .second) in
+    let x = r .at in
+    let o = on-day (stamp-of v (part x)) in
+    record {
+      date = julian (d .jd1) (r .u);
+      is = r .is;
+      same = refl;
+      n = o .0;
+      on = record { p = _; m = _; worth = parts-worth v (part x); on = o .1 };
+      seconds = seconds (stamp-of v (part x)) (o .0) (o .1);
+      said = guess-said v (r .given) x (o .0) (o .1);
+    }
+
+-- ---- THE THEOREM
+pub tai-to-utc-means : {d : JulianDate} → HalfDaySplit d → RightUtc 173 d
+tai-to-utc-means s = let x = utc-found s in record { date = x .date; is = x .is; n = x .n; on = x .on; means = means-of (x .seconds) (x .on) (x .said) }

@@ -1,0 +1,227 @@
+-- UTC to UT1 from 1972 on, by a DUT1 of at most 1 s: the answer is UTC and DUT1 in exact numbers, to 87 ps. Assumes nothing.
+use mathlib.Core.Path.{_≡_, refl, sym, ap, _∙_, subst}
+use mathlib.Core.Bool.{Bool, true, cond}
+use Prim.Native.Nat.{ℕ, zero, suc, _+_, _*_, _^_, _≤_, _<_}
+use native.Mathlib.Nat.{zero-mul, mul-le-mul-right}
+use native.Mathlib.Omega.{arith}
+use lib.Dec.{T, lit≤, lit<}
+use lib.IntN.{ℤ, pos}
+use lib.Ieee.{Float, binary64, add, sub, div, fits, le}
+use lib.Ieee.Bits.{is-true}
+use lib.Ieee.Scale.{finite}
+use Rattle.refusals.specs.Outcome.{answer, refusal}
+use Rattle.refusals.proofs.Onward.{went}
+use Rattle.floats.specs.Whole.{abs, one}
+use Rattle.constants.specs.Constants.{secondsPerDay}
+use Rattle.rounding.specs.Value.{Val, L}
+use Rattle.rounding.proofs.Value.{L-pos, abs-val, val-finite-true, rounds-move, sub-rounds}
+use Rattle.rounding.proofs.Signed.{dist, dist-le}
+use Rattle.rounding.proofs.Casts.{ofInt-val}
+use Rattle.rounding.proofs.Compare.{lt-show}
+use Rattle.rounding.proofs.Chain.{ValClose}
+use Rattle.rounding.proofs.Near.{sum-near}
+use Rattle.rounding.proofs.Scaled.{div-near}
+use Rattle.rounding.proofs.Sizes.{whole-val}
+use Rattle.rounding.proofs.Range.{size-at-most}
+use Rattle.calendar.specs.Gregorian.{gregorianDate}
+use Rattle.julian.specs.day_number.DayNumber.{dayOf}
+use Rattle.julian.proofs.day_number.Units.{one-L}
+use Rattle.julian.specs.declared.JulianDate.{JulianDate}
+use Rattle.julian.specs.JulianDate.{julian}
+use Rattle.julian.specs.Finite.{finiteArg}
+use Rattle.julian.proofs.laws.UnixTime.{day-val}
+use Rattle.leap_table.specs.rows.Table.{fixed}
+use Rattle.leap_table.specs.offsets.Offset.{wholeF}
+use Rattle.leap_table.specs.offsets.Leap.{offsets}
+use Rattle.julian.specs.shifts.SmallerPart.{firstIsLarger}
+use Rattle.julian.specs.shifts.Shifts.{plus, daysOf}
+use Rattle.julian.proofs.shifts.Outcomes.{by-is}
+use Rattle.julian.proofs.shifts.SmallerPart.{mapAs, map-is}
+use Rattle.scales.specs.Conversions.{answerOf}
+use Rattle.rounding.specs.Picoseconds.{dayPs}
+use Rattle.utc_scales.specs.days.Dates.{offsetAt0h, offsetOfDate}
+use Rattle.utc_scales.specs.to_ut1.UtcUt1.{utcToUt1}
+use Rattle.utc_scales.proofs.days.Steps.{offset-of-day}
+use Rattle.utc_scales.proofs.Steps.{offsets-first}
+use Rattle.utc_scales.specs.round_trip.UtcDays.{H, secondsOn, leapAfter}
+use Rattle.utc_scales.specs.round_trip.Ranges.{HalfDaySplit}
+use Rattle.utc_scales.proofs.round_trip.Units.{h, L-H, L-h, h-small, h-pos, add-close}
+use Rattle.utc_scales.proofs.round_trip.Parts.{FirstPart, SecondPart, parts-worth, first-part, second-part}
+use Rattle.utc_scales.proofs.round_trip.DaySeconds.{day-seconds}
+use Rattle.utc_scales.proofs.round_trip.Evaluated.{Seen, seen}
+use Rattle.utc_scales.specs.ut1_laws.Ut1.{ut1Ps, RightUt1}
+
+-- ---- DUT1 less the whole seconds of TAI-UTC, and that in days
+size-64 : 2 ^ (53 + 1027) ≡ 64 * L
+unfolding L
+size-64 = refl
+
+unit-64 : 2 ^ 1027 ≡ 64 * h
+unfolding h
+unit-64 = refl
+
+pub size-q : 512 * 2 ^ (53 + 1012) ≡ L
+unfolding L
+size-q = refl
+
+pub unit-q : 512 * 2 ^ 1012 ≡ h
+unfolding h
+unit-q = refl
+
+pub seconds-val : (D : ℕ) → D ≤ 37 → Val (wholeF D) (D * L) 0 L
+seconds-val D l = subst (λ (z : ℕ). Val (wholeF D) (D * L) z L) (zero-mul L) (whole-val (ofInt-val (pos D) (omega arith) (omega arith)))
+
+-- z is (p - n) / L, and 86400 z is within 117 h of x - y - D L
+record Offset (z : Float) (x y d : ℕ) : Type 0 where
+  p : ℕ
+  n : ℕ
+  val : Val z p n L
+  over : 86400 * p + y + d ≤ 86400 * n + x + 117 * h
+  under : 86400 * n + x ≤ 86400 * p + y + d + 117 * h
+
+offset-days : {c : Float} {x y : ℕ} (D : ℕ) → D ≤ 37 → Val c x y L → x ≤ y + L → y ≤ x + L → Offset (div binary64 (sub binary64 c (wholeF D)) secondsPerDay) x y (D * L) × (finite (sub binary64 c (wholeF D)) ≡ true)
+offset-days {c} {x} {y} D hD v u l =
+    let g : D * L ≤ 37 * L = mul-le-mul-right L hD in
+    let s = sum-near 1027 (lit≤ tt) (subst (λ (i : ℕ). x < y + D * L + i) (sym size-64) (fit x y (D * L) u)) (subst (λ (i : ℕ). y + D * L < x + i) (sym size-64) (fit' x y (D * L) g l)) (rounds-move (sub-rounds binary64 L-pos v (seconds-val D hD)) (omega arith)) in
+    let o = half (s .p) (s .n) x (y + D * L) (2 ^ 1027) unit-64 (s .over) in
+    let w = half (s .n) (s .p) (y + D * L) x (2 ^ 1027) unit-64 (s .under) in
+    let q = div-near 1012 86400 (lit< tt) (lit≤ tt) (room (s .p) (s .n) x (y + D * L) (2 ^ (53 + 1012)) size-q (more x y (D * L) u) o) (room (s .n) (s .p) (y + D * L) x (2 ^ (53 + 1012)) size-q (less x y (D * L) g l) w) (s .val) day-val in
+    (record { p = q .p; n = q .n; val = q .val; over = end (q .p) (q .n) (s .p) (s .n) x y (D * L) (2 ^ 1012) unit-q (q .over) o; under = end' (q .p) (q .n) (s .p) (s .n) x y (D * L) (2 ^ 1012) unit-q (q .under) w }, val-finite-true (s .val))
+  where
+    fit : (x y d : ℕ) → x ≤ y + L → x < y + d + 64 * L
+    fit x y d u = omega (arith, L-pos)
+
+    fit' : (x y d : ℕ) → d ≤ 37 * L → y ≤ x + L → y + d < x + 64 * L
+    fit' x y d g l = omega (arith, L-pos)
+
+    more : (x y d : ℕ) → x ≤ y + L → x ≤ y + d + 38 * L
+    more x y d u = omega arith
+
+    less : (x y d : ℕ) → d ≤ 37 * L → y ≤ x + L → y + d ≤ x + 38 * L
+    less x y d g l = omega arith
+
+    half : (p n X Y w : ℕ) → w ≡ 64 * h → 2 * (p + Y) ≤ 2 * (n + X) + w → p + Y ≤ n + X + 32 * h
+    half p n X Y w e k = omega arith
+
+    room : (p n X Y w : ℕ) → 512 * w ≡ L → X ≤ Y + 38 * L → p + Y ≤ n + X + 32 * h → p < n + w * 86400
+    room p n X Y w e k o = omega (arith, h-small, h-pos)
+
+    end : (p n q m x y d w : ℕ) → 512 * w ≡ h → 2 * (86400 * p + 1 * m) ≤ 2 * (86400 * n + 1 * q) + 86400 * w → q + (y + d) ≤ m + x + 32 * h → 86400 * p + y + d ≤ 86400 * n + x + 117 * h
+    end p n q m x y d w e k o = omega arith
+
+    end' : (p n q m x y d w : ℕ) → 512 * w ≡ h → 2 * (86400 * n + 1 * q) ≤ 2 * (86400 * p + 1 * m) + 86400 * w → m + x ≤ q + (y + d) + 32 * h → 86400 * n + x ≤ 86400 * p + y + d + 117 * h
+    end' p n q m x y d w e k o = omega arith
+
+-- ---- the sums, with N = n L, d = D L, and s leap seconds
+t-high : (s d N f A up un tp tn : ℕ) → s ≤ 1 → f < L → d ≤ 37 * L → 86400 * (tp + A + H) ≤ 86400 * tn + (86400 * (N + f) + (d + s * f)) + 345622 * h → N + f + un ≤ A + up + H + 4 * h → 1024 * up ≤ 1024 * un + 1027 * L → 64 * tp ≤ 64 * tn + 65 * L
+t-high zero d N f A up un tp tn k b g e i w = omega (arith, h-small)
+t-high (suc zero) d N f A up un tp tn k b g e i w = omega (arith, h-small)
+t-high (suc (suc s)) d N f A up un tp tn k b g e i w = absurd (omega arith)
+
+t-low : (s d N f A up un tp tn : ℕ) → s ≤ 1 → 86400 * (N + f) + (d + s * f) + 86400 * tn ≤ 86400 * (tp + A + H) + 345622 * h → A + up + H ≤ N + f + un + 4 * h → 1024 * un ≤ 1024 * up + 1027 * L → 64 * tn ≤ 64 * tp + 65 * L
+t-low zero d N f A up un tp tn k e i w = omega (arith, h-small)
+t-low (suc zero) d N f A up un tp tn k e i w = omega (arith, h-small)
+t-low (suc (suc s)) d N f A up un tp tn k e i w = absurd (omega arith)
+
+over-is : (s d N f A up un tp tn qp qn rp rn x y : ℕ) → s ≤ 1 → 86400 * (tp + A + H) ≤ 86400 * tn + (86400 * (N + f) + (d + s * f)) + 345622 * h → N + f + un ≤ A + up + H + 4 * h → 86400 * qp + y + d ≤ 86400 * qn + x + 117 * h → rp + (tn + qn) ≤ rn + (tp + qp) + h
+    → 86400 * (A + rp) + (86400 + s) * un + (y + s * N) ≤ 86400 * rn + (86400 + s) * (A + up) + (x + s * H) + 777743 * h
+over-is zero d N f A up un tp tn qp qn rp rn x y k e i q r = omega arith
+over-is (suc zero) d N f A up un tp tn qp qn rp rn x y k e i q r = omega arith
+over-is (suc (suc s)) d N f A up un tp tn qp qn rp rn x y k e i q r = absurd (omega arith)
+
+under-is : (s d N f A up un tp tn qp qn rp rn x y : ℕ) → s ≤ 1 → 86400 * (N + f) + (d + s * f) + 86400 * tn ≤ 86400 * (tp + A + H) + 345622 * h → A + up + H ≤ N + f + un + 4 * h → 86400 * qn + x ≤ 86400 * qp + y + d + 117 * h → rn + (tp + qp) ≤ rp + (tn + qn) + h
+    → 86400 * rn + (86400 + s) * (A + up) + (x + s * H) ≤ 86400 * (A + rp) + (86400 + s) * un + (y + s * N) + 777743 * h
+under-is zero d N f A up un tp tn qp qn rp rn x y k e i q r = omega arith
+under-is (suc zero) d N f A up un tp tn qp qn rp rn x y k e i q r = omega arith
+under-is (suc (suc s)) d N f A up un tp tn qp qn rp rn x y k e i q r = absurd (omega arith)
+
+to-picoseconds : (x y : ℕ) → x ≤ y + 777743 * h → dayPs * x ≤ dayPs * y + ut1Ps * (86400 * L)
+to-picoseconds x y k = omega (arith, L-h)
+
+-- ---- one evaluation
+module _ {a u : Float} {A up un : ℕ} (v : FirstPart a A) (w : SecondPart u up un) (c : Float) (fc : T (fits binary64 c)) (kc : T (le (abs c) one)) where
+  o : Seen a u A up un
+  o = seen v w
+
+  dut : (p : ℕ) × (n : ℕ) × Val c p n L × (p ≤ n + L) × (n ≤ p + L)
+  dut = let z = size-at-most fc one-L kc in (z .p, z .n, z .val, z .high, z .low)
+
+  abbrev D : ℕ
+  D = secondsOn (o .day)
+
+  abbrev s : ℕ
+  s = leapAfter (o .day)
+
+  few : D ≤ 37
+  few = omega (arith, o .seconds .most)
+
+  offset-is : offsetOfDate fixed a u ≡ answer (wholeF (secondsOn (o .day)))
+  offset-is =
+      offset-of-day fixed a u (dayOf a u) (o .located) ∙ ap (λ (z : ℤ). offsetAt0h fixed (gregorianDate z)) (o .found)
+      ∙ offsets-first fixed (gregorianDate (pos (o .day))) (offsets (wholeF (secondsOn (o .day))) (wholeF (secondsOn (o .day))) (wholeF (secondsOn (suc (o .day))))) (day-seconds (o .day) (o .day-low) (omega (arith, o .day-high)))
+
+  module _ (x y : ℕ) (vc : Val c x y L) (h1 : x ≤ y + L) (h2 : y ≤ x + L) where
+    abbrev q : Float
+    q = div binary64 (sub binary64 c (wholeF (secondsOn (o .day)))) secondsPerDay
+
+    z : Offset q x y (D * L)
+    z = offset-days D few vc h1 h2 .0
+
+    d-high : D * L ≤ 37 * L
+    d-high = mul-le-mul-right L few
+
+    th : 64 * o .tp ≤ 64 * o .tn + 65 * L
+    th = t-high s (D * L) (o .day * L) (o .f) A up un (o .tp) (o .tn) (o .seconds .step) (o .below) d-high (o .eval-over) (o .near-over) (w .over)
+
+    tl : 64 * o .tn ≤ 64 * o .tp + 65 * L
+    tl = t-low s (D * L) (o .day * L) (o .f) A up un (o .tp) (o .tn) (o .seconds .step) (o .eval-under) (o .near-under) (w .under)
+
+    r : ValClose L (add binary64 (o .t) q) (o .tp + z .p) (o .tn + z .n) h
+    r = add-close (omega (arith, th, z .over, h-small, L-pos)) (omega (arith, tl, z .under, d-high, h-small, L-pos)) (o .val) (z .val)
+
+    larger : firstIsLarger (julian a (o .t)) ≡ true
+    unfolding firstIsLarger
+    larger = is-true _ (lt-show L-pos (abs-val (o .val)) (abs-val (v .val)) (go (dist (o .tp) (o .tn)) (dist-le (o .tp) (o .tn) (2 * L) (omega (arith, th)) (omega (arith, tl)))))
+      where
+        go : (e : ℕ) → e ≤ 2 * L → e + 0 < dist A 0 + 0
+        go e k = omega (arith, v .low, L-H, L-pos)
+
+    arg : finiteArg c ≡ answer c
+    unfolding finiteArg
+    arg = ap (λ (b : Bool). cond b (answer c) (refusal 10)) (val-finite-true vc)
+
+    is : utcToUt1 fixed (julian a u) c ≡ answer (julian a (add binary64 (o .t) q))
+    unfolding utcToUt1 answerOf plus daysOf
+    is =
+        went _ arg ∙ went _ (o .answered) ∙ went _ offset-is
+        ∙ by-is plus (sub binary64 c (wholeF (secondsOn (o .day)))) (julian a (o .t)) (val-finite-true (v .val)) (val-finite-true (o .val)) (offset-days D few vc h1 h2 .1)
+        ∙ ap answer (map-is (plus (daysOf (sub binary64 c (wholeF (secondsOn (o .day)))))) (julian a (o .t)) ∙ ap (mapAs (plus (daysOf (sub binary64 c (wholeF (secondsOn (o .day)))))) (julian a (o .t))) larger)
+
+    right : RightUt1 ut1Ps (julian a u) c
+    right = record {
+      x = x;
+      y = y;
+      offset = vc;
+      n = o .day;
+      found = o .located;
+      day = o .found;
+      date = julian a (add binary64 (o .t) q);
+      is = is;
+      means = record {
+        p = A + up;
+        n = un;
+        p' = A + r .p;
+        n' = r .n;
+        from = parts-worth v w;
+        to = record { p = A; n = 0; q = r .p; m = r .n; first = v .val; second = r .val; total = omega arith };
+        over = to-picoseconds _ _ (over-is s (D * L) (o .day * L) (o .f) A up un (o .tp) (o .tn) (z .p) (z .n) (r .p) (r .n) x y (o .seconds .step) (o .eval-over) (o .near-over) (z .over) (r .over));
+        under = to-picoseconds _ _ (under-is s (D * L) (o .day * L) (o .f) A up un (o .tp) (o .tn) (z .p) (z .n) (r .p) (r .n) x y (o .seconds .step) (o .eval-under) (o .near-under) (z .under) (r .under));
+      };
+    }
+
+  pub one-answer : RightUt1 ut1Ps (julian a u) c
+  one-answer = let (x, y, vc, h1, h2) = dut in right x y vc h1 h2
+
+-- ---- THE THEOREM: jd1 and jd2 in the range of request 14, and a DUT1 of at most 1 s
+pub utc-to-ut1-means : {d : JulianDate} → HalfDaySplit d → (dut1 : Float) → T (fits binary64 dut1) → T (le (abs dut1) one) → RightUt1 ut1Ps d dut1
+utc-to-ut1-means s c f k = one-answer (first-part s) (second-part s .2) c f k

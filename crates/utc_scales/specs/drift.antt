@@ -1,0 +1,2 @@
+-- The definitions that the theorems of `utc_scales::drift` cite.
+pub mod Drift

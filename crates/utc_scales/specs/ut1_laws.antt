@@ -1,0 +1,3 @@
+-- The definitions that the theorems of `utc_scales::ut1_laws` cite.
+pub mod Ut1
+pub mod Back
