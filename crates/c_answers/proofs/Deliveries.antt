@@ -12,8 +12,8 @@ use mir.Val.{Fits, SFits, toZ, ofZ}
 use mir.Facts.{toZ-ofZ, toZ-pos}
 use borrow.Author.Tests.{lt-ltb, le-leb, lt-leb}
 use Rattle.refusals.specs.Outcome.{Outcome, answer, refusal, onward}
-use Rattle.utc_text.specs.Answer.{textWritten, bufferAfter}
-use Rattle.iso_texts.specs.TextCall.{written, bufferHolds}
+use Rattle.utc.specs.text.Answer.{textWritten, bufferAfter}
+use Rattle.utc.specs.iso_texts.TextCall.{written, bufferHolds}
 use Rattle.c_answers.specs.Delivery.{code, done, inBytes, Delivered}
 
 -- ---- a refusal's code: 0 less its number

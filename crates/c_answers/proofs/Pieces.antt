@@ -9,8 +9,8 @@ use lib.IntN.{ℤ, pos}
 use borrow.Rule.Slice.PartMut.{midOf, postOf, putMid}
 use borrow.Author.Tests.{le-leb}
 use Rattle.refusals.specs.Outcome.{answer, onward}
-use Rattle.utc_text.specs.Answer.{textWritten, bufferAfter}
-use Rattle.iso_texts.specs.TextCall.{written, bufferHolds}
+use Rattle.utc.specs.text.Answer.{textWritten, bufferAfter}
+use Rattle.utc.specs.iso_texts.TextCall.{written, bufferHolds}
 use Rattle.c_answers.specs.Delivery.{code, Delivered}
 
 -- what the buffer holds after a piece that fits

@@ -7,7 +7,7 @@ use mathlib.Core.Bool.{Bool, cond}
 use lib.ListN.{length}
 use lib.IntN.{ℤ, pos, negℤ}
 use Rattle.refusals.specs.Outcome.{Outcome, answer, refusal, onward}
-use Rattle.iso_texts.specs.TextCall.{written, bufferHolds}
+use Rattle.utc.specs.iso_texts.TextCall.{written, bufferHolds}
 
 -- zero or more is the answer, below zero minus the refusal's number
 unfoldable pub code : Outcome ℕ → ℤ

@@ -8,7 +8,7 @@ use lib.Dec.{leb}
 use lib.ListN.{length}
 use lib.IntN.{ℤ}
 use Rattle.refusals.specs.Outcome.{Outcome, answer, refusal, onward}
-use Rattle.iso_texts.specs.TextCall.{bufferHolds}
+use Rattle.utc.specs.iso_texts.TextCall.{bufferHolds}
 use Rattle.c_answers.specs.Delivery.{code}
 
 -- into buffers of m and n bytes: 11 where one of the two does not fit

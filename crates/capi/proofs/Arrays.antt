@@ -13,7 +13,7 @@ use Rattle.leap_table.specs.rows.Table.{Row}
 use Rattle.leap_table.specs.rows.Lent.{unlessRefused}
 use Rattle.lent_bytes.specs.TableBytes.{tableBytes}
 use Rattle.lent_bytes.proofs.Laws.{turned-away, gone-on}
-use Rattle.iso_texts.specs.TextCall.{bufferHolds}
+use Rattle.utc.specs.iso_texts.TextCall.{bufferHolds}
 use Rattle.c_answers.specs.Delivery.{code, inBytes, Delivered}
 use Rattle.c_answers.specs.TwoBuffers.{bothFit, DeliveredTwo}
 use Rattle.c_answers.proofs.Deliveries.{code-back, refused-on, same-outcome}

@@ -19,15 +19,15 @@ use Rattle.leap_table.specs.declared.offsets.Rule.{Rule}
 use Rattle.leap_table.specs.rows.Table.{Row}
 use Rattle.leap_table.specs.offsets.Rule.{withRule, forget}
 use Rattle.leap_table.proofs.offsets.Rules.{ruleIn}
-use Rattle.utc_text.specs.Answer.{textWritten, bufferAfter}
-use Rattle.iso_texts.specs.declared.TextByRule.{TextByRule}
-use Rattle.iso_texts.specs.declared.TextByRule.the-variants.{Written, Refused}
-use Rattle.iso_texts.specs.TextCall.{bufferHolds}
-use Rattle.iso_texts.specs.ByRule.{textByRule, textByRuleOutcome, writtenByRule, TextRuleCall}
-use Rattle.iso_texts.proofs.TextRules.{iso-forgets, even-forgets, expanded-forgets}
-use Rattle.utc_laws.proofs.Lengths.{text-length}
-use Rattle.utc_laws.proofs.HalfEvenTexts.{even-text-length}
-use Rattle.utc_laws.proofs.ExpandedTexts.{expanded-text-length}
+use Rattle.utc.specs.text.Answer.{textWritten, bufferAfter}
+use Rattle.utc.specs.declared.iso_texts.TextByRule.{TextByRule}
+use Rattle.utc.specs.declared.iso_texts.TextByRule.the-variants.{Written, Refused}
+use Rattle.utc.specs.iso_texts.TextCall.{bufferHolds}
+use Rattle.utc.specs.iso_texts.ByRule.{textByRule, textByRuleOutcome, writtenByRule, TextRuleCall}
+use Rattle.utc.proofs.iso_texts.TextRules.{iso-forgets, even-forgets, expanded-forgets}
+use Rattle.utc.proofs.laws.Lengths.{text-length}
+use Rattle.utc.proofs.laws.HalfEvenTexts.{even-text-length}
+use Rattle.utc.proofs.laws.ExpandedTexts.{expanded-text-length}
 use Rattle.c_answers.specs.Delivery.{code, Delivered}
 use Rattle.rule_answers.specs.RuleFields.{ruleBytes}
 use Rattle.c_answers.specs.TwoBuffers.{bothFit, DeliveredTwo}

@@ -13,10 +13,10 @@ use mir.Val.{toZ, ofZ}
 use mir.Facts.{toZ-pos}
 use borrow.Author.Tests.{leb-true}
 use Rattle.refusals.specs.Outcome.{Outcome, answer, refusal, onward}
-use Rattle.utc_text.specs.declared.TextAnswer.{TextAnswer}
-use Rattle.utc_text.specs.declared.TextAnswer.the-variants.{Written, Refused}
-use Rattle.utc_text.specs.Answer.{textOutcome, textWritten}
-use Rattle.iso_texts.specs.TextCall.{written, TextCall}
+use Rattle.utc.specs.declared.text.TextAnswer.{TextAnswer}
+use Rattle.utc.specs.declared.text.TextAnswer.the-variants.{Written, Refused}
+use Rattle.utc.specs.text.Answer.{textOutcome, textWritten}
+use Rattle.utc.specs.iso_texts.TextCall.{written, TextCall}
 use Rattle.c_answers.specs.Delivery.{code, Delivered}
 use Rattle.c_answers.proofs.Deliveries.{code-back}
 

@@ -11,8 +11,8 @@ use mir.Val.{toZ, ofZ}
 use mir.Facts.{toZ-pos}
 use borrow.Author.Tests.{le-leb}
 use Rattle.refusals.specs.Outcome.{Outcome, answer, refusal, onward}
-use Rattle.utc_text.specs.Answer.{textWritten, bufferAfter}
-use Rattle.iso_texts.specs.TextCall.{written, bufferHolds}
+use Rattle.utc.specs.text.Answer.{textWritten, bufferAfter}
+use Rattle.utc.specs.iso_texts.TextCall.{written, bufferHolds}
 use Rattle.ticks.specs.declared.TicksAnswer.{TicksAnswer}
 use Rattle.ticks.specs.declared.TicksAnswer.the-variants.{Written, Refused}
 use Rattle.ticks.specs.Ticks.{ticksOutcome, lentAfter, TicksCall}

@@ -4,10 +4,10 @@ use Prim.Native.Nat.{ℕ}
 use mathlib.Core.List.{List}
 use Rattle.refusals.specs.Outcome.{Outcome, answer, refusal, onward}
 use Rattle.leap_table.specs.declared.offsets.Rule.{Rule}
-use Rattle.iso_texts.specs.Sheet.{Sheet}
-use Rattle.iso_texts.specs.IsoText.{sheet01}
-use Rattle.iso_texts.specs.HalfEven.{evenSheet}
-use Rattle.iso_texts.specs.Expanded.{expandedSheet}
+use Rattle.utc.specs.iso_texts.Sheet.{Sheet}
+use Rattle.utc.specs.iso_texts.IsoText.{sheet01}
+use Rattle.utc.specs.iso_texts.HalfEven.{evenSheet}
+use Rattle.utc.specs.iso_texts.Expanded.{expandedSheet}
 use Rattle.rule_answers.specs.RuleFields.{ruleBytes}
 use Rattle.capi.specs.declared.text_calls.NamedSheet.{NamedSheet}
 use Rattle.capi.specs.declared.text_calls.NamedSheet.the-variants.{Document01, HalfEven, Expanded}

@@ -4,7 +4,7 @@ ghost use Rattle.reasons.specs.declared.Values.the-variants.{NoValues, Date, Ti
 ghost use Rattle.c_answers.specs.Delivery.{Delivered};
 use c_answers::refused;
 use reasons::Values;
-use utc_text::TextAnswer;
+use utc::text::TextAnswer;
 
 fn told(number: u32, values: Values, out: &mut [u8]) -> i64
     ensures { λ r. ⌜ Delivered (sentence number values) (now (out .entry)) r (now (out .exit)) ⌝ }

@@ -5,13 +5,13 @@ ghost use Prim.Native.Nat.{ℕ};
 ghost use Rattle.refusals.specs.Outcome.{refusal, onward};
 ghost use Rattle.julian.specs.JulianDate.{julian};
 ghost use Rattle.leap_table.specs.rows.Lent.{rowsIn};
-ghost use Rattle.iso_texts.specs.ByRule.{textByRule, isoTextByRule, halfEvenByRule, expandedByRule, TextRuleCall};
+ghost use Rattle.utc.specs.iso_texts.ByRule.{textByRule, isoTextByRule, halfEvenByRule, expandedByRule, TextRuleCall};
 ghost use Rattle.lent_bytes.specs.TableBytes.{tableBytes};
 ghost use Rattle.c_answers.specs.Delivery.{code};
 ghost use Rattle.c_answers.specs.TwoBuffers.{DeliveredTwo};
 ghost use Rattle.capi.specs.TextRule.{ruled, noRoom, sheetNamed};
 use c_answers::refused;
-use iso_texts::TextByRule;
+use utc::iso_texts::TextByRule;
 use julian::JulianDate;
 use lent_bytes::arrays;
 use scales::UTC;
@@ -34,15 +34,15 @@ fn text_by<'a>(
     ensures { λ r. ⌜ TextRuleCall (textByRule (sheetNamed sheet) (rowsIn size (now (months .entry)) (now (seconds .entry))) (date .0)) (now (out .entry)) r (now (out .exit)) ⌝ }
 {
     match sheet {
-        NamedSheet::Document01 => iso_texts::to_iso8601_by_lent(date, size, months, seconds, out),
-        NamedSheet::HalfEven => iso_texts::to_iso8601_half_even_by_lent(
+        NamedSheet::Document01 => utc::iso_texts::to_iso8601_by_lent(date, size, months, seconds, out),
+        NamedSheet::HalfEven => utc::iso_texts::to_iso8601_half_even_by_lent(
             date,
             size,
             months,
             seconds,
             out,
         ),
-        NamedSheet::Expanded => iso_texts::to_iso8601_expanded_by_lent(
+        NamedSheet::Expanded => utc::iso_texts::to_iso8601_expanded_by_lent(
             date,
             size,
             months,
@@ -82,7 +82,7 @@ fn put_text<'a>(
     if rule.len() < 8 {
         return no_room_for_rule(NamedSheet::Document01, date, size, months, seconds);
     }
-    match iso_texts::to_iso8601_by_lent(date, size, months, seconds, out) {
+    match utc::iso_texts::to_iso8601_by_lent(date, size, months, seconds, out) {
         TextByRule::Refused(number) => refused(number),
         TextByRule::Written(n, told) => {
             rule_answers::put_rule(told, rule);
@@ -104,7 +104,7 @@ fn put_half_even<'a>(
     if rule.len() < 8 {
         return no_room_for_rule(NamedSheet::HalfEven, date, size, months, seconds);
     }
-    match iso_texts::to_iso8601_half_even_by_lent(date, size, months, seconds, out) {
+    match utc::iso_texts::to_iso8601_half_even_by_lent(date, size, months, seconds, out) {
         TextByRule::Refused(number) => refused(number),
         TextByRule::Written(n, told) => {
             rule_answers::put_rule(told, rule);
@@ -126,7 +126,7 @@ fn put_expanded<'a>(
     if rule.len() < 8 {
         return no_room_for_rule(NamedSheet::Expanded, date, size, months, seconds);
     }
-    match iso_texts::to_iso8601_expanded_by_lent(date, size, months, seconds, out) {
+    match utc::iso_texts::to_iso8601_expanded_by_lent(date, size, months, seconds, out) {
         TextByRule::Refused(number) => refused(number),
         TextByRule::Written(n, told) => {
             rule_answers::put_rule(told, rule);

@@ -13,8 +13,8 @@ use lib.Dec.{ltb, leb}
 use lib.IntN.{ℤ, pos, negsuc}
 use borrow.Author.Tests.{le-leb, lt-leb, leb-true, leb-false, ltb-true, ltb-false}
 use Rattle.refusals.specs.Outcome.{answer, onward}
-use Rattle.utc_text.specs.Answer.{textWritten, bufferAfter}
-use Rattle.iso_texts.specs.TextCall.{written, bufferHolds}
+use Rattle.utc.specs.text.Answer.{textWritten, bufferAfter}
+use Rattle.utc.specs.iso_texts.TextCall.{written, bufferHolds}
 use Rattle.leap_table.specs.rows.Table.{Row}
 use Rattle.stamps.specs.Block.{blockOf}
 use Rattle.stamps.specs.declared.Telling.{Telling}

@@ -10,13 +10,13 @@ use lib.IntN.{ℤ, negsuc}
 use Rattle.refusals.specs.Outcome.{Outcome, answer, refusal, onward}
 use Rattle.julian.specs.declared.JulianDate.{JulianDate}
 use Rattle.leap_table.specs.rows.Table.{Row}
-use Rattle.utc_text.specs.declared.TextAnswer.{TextAnswer}
-use Rattle.utc_text.specs.declared.TextAnswer.the-variants.{Written, Refused}
-use Rattle.utc_text.specs.Answer.{textOutcome, textWritten, bufferAfter}
-use Rattle.iso_texts.specs.Sheet.{Sheet}
-use Rattle.iso_texts.specs.IsoText.{isoTextBy}
-use Rattle.utc_laws.specs.OneText.{Division, EveryCall}
-use Rattle.iso_texts.specs.TextCall.{written, bufferHolds, TextCall}
+use Rattle.utc.specs.declared.text.TextAnswer.{TextAnswer}
+use Rattle.utc.specs.declared.text.TextAnswer.the-variants.{Written, Refused}
+use Rattle.utc.specs.text.Answer.{textOutcome, textWritten, bufferAfter}
+use Rattle.utc.specs.iso_texts.Sheet.{Sheet}
+use Rattle.utc.specs.iso_texts.IsoText.{isoTextBy}
+use Rattle.utc.specs.laws.OneText.{Division, EveryCall}
+use Rattle.utc.specs.iso_texts.TextCall.{written, bufferHolds, TextCall}
 use Rattle.c_answers.specs.Delivery.{code, Delivered}
 
 -- ---- a delivery is a text call with this answer, whose code is returned

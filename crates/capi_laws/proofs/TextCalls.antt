@@ -13,12 +13,12 @@ use Rattle.julian.specs.declared.JulianDate.{JulianDate}
 use Rattle.leap_table.specs.declared.offsets.Rule.{Rule}
 use Rattle.leap_table.specs.rows.Table.{Row}
 use Rattle.leap_table.specs.offsets.Rule.{forget}
-use Rattle.utc_text.specs.Answer.{textWritten, bufferAfter}
-use Rattle.iso_texts.specs.TextCall.{written, bufferHolds}
-use Rattle.iso_texts.specs.Sheet.{Sheet}
-use Rattle.iso_texts.specs.IsoText.{isoTextBy}
-use Rattle.iso_texts.specs.ByRule.{textByRule}
-use Rattle.iso_texts.proofs.TextRules.{text-forgets}
+use Rattle.utc.specs.text.Answer.{textWritten, bufferAfter}
+use Rattle.utc.specs.iso_texts.TextCall.{written, bufferHolds}
+use Rattle.utc.specs.iso_texts.Sheet.{Sheet}
+use Rattle.utc.specs.iso_texts.IsoText.{isoTextBy}
+use Rattle.utc.specs.iso_texts.ByRule.{textByRule}
+use Rattle.utc.proofs.iso_texts.TextRules.{text-forgets}
 use Rattle.c_answers.specs.Delivery.{code, Delivered}
 use Rattle.rule_answers.specs.RuleFields.{ruleBytes}
 use Rattle.c_answers.specs.TwoBuffers.{bothFit, DeliveredTwo}

@@ -11,8 +11,8 @@ use mir.Val.{SFits, toZ, ofZ}
 use mir.Facts.{toZ-pos}
 use borrow.Author.Tests.{le-leb, lt-leb}
 use Rattle.refusals.specs.Outcome.{answer, refusal, onward}
-use Rattle.utc_text.specs.Answer.{textWritten, bufferAfter}
-use Rattle.iso_texts.specs.TextCall.{written, bufferHolds}
+use Rattle.utc.specs.text.Answer.{textWritten, bufferAfter}
+use Rattle.utc.specs.iso_texts.TextCall.{written, bufferHolds}
 use Rattle.leap_table.specs.rows.Table.{Row}
 use Rattle.stamps.specs.declared.Telling.{Telling}
 use Rattle.stamps.specs.declared.Part.{Part}

@@ -19,10 +19,10 @@ use Rattle.time_of_day.specs.declared.TimeOfDay.{TimeOfDay}
 use Rattle.time_of_day.specs.declared.TimeShown.{TimeShown}
 use Rattle.time_of_day.specs.declared.TimeShown.the-variants.{At, NextMidnight}
 use Rattle.time_of_day.specs.TimeShown.{shownOf}
-use Rattle.utc_text.specs.Text.{last, four, seven, afterYear}
-use Rattle.utc_text.specs.Expanded.{expandedYear, expandedText}
-use Rattle.iso_texts.specs.IsoText.{midnight, nextMidnightTextBy, shownTextBy, dayTextBy, isoTextBy}
-use Rattle.iso_texts.specs.Expanded.{isoTextExpanded}
+use Rattle.utc.specs.text.Text.{last, four, seven, afterYear}
+use Rattle.utc.specs.text.Expanded.{expandedYear, expandedText}
+use Rattle.utc.specs.iso_texts.IsoText.{midnight, nextMidnightTextBy, shownTextBy, dayTextBy, isoTextBy}
+use Rattle.utc.specs.iso_texts.Expanded.{isoTextExpanded}
 use Rattle.reasons.specs.declared.Values.{Values}
 use Rattle.reasons.specs.Offending.{offending}
 use Rattle.reason_laws.specs.Printable.{Printable}

@@ -29,10 +29,10 @@ use Rattle.leap_table.specs.rows.Table.{Row}
 use Rattle.time_of_day.specs.declared.TimeShown.{TimeShown}
 use Rattle.time_of_day.specs.declared.TimeShown.the-variants.{At, NextMidnight}
 use Rattle.time_of_day.specs.TimeShown.{shownBy}
-use Rattle.utc_text.specs.Expanded.{expandedYear, expandedText}
-use Rattle.iso_texts.specs.Expanded.{expandedSheet, isoTextExpanded}
-use Rattle.iso_texts.proofs.TextCalls.{fields-given-by}
-use Rattle.utc_laws.proofs.DayTexts.{textBy, leapOn, has-text-by}
+use Rattle.utc.specs.text.Expanded.{expandedYear, expandedText}
+use Rattle.utc.specs.iso_texts.Expanded.{expandedSheet, isoTextExpanded}
+use Rattle.utc.proofs.iso_texts.TextCalls.{fields-given-by}
+use Rattle.utc.proofs.laws.DayTexts.{textBy, leapOn, has-text-by}
 use Rattle.sentences.specs.Texts.{texts, fixedText}
 use Rattle.reasons.specs.Offending.{offending, blockField}
 use Rattle.sentences.specs.Render.{namedText, render}

@@ -15,8 +15,8 @@ use Rattle.floats.specs.ExponentField.{exponentField}
 use Rattle.floats.proofs.ExponentField.{field-not-finite}
 use Rattle.calendar.proofs.NextDates.{first-false}
 use Rattle.leap_table.specs.rows.Table.{Row}
-use Rattle.utc_laws.proofs.Numbers.{not-both}
-use Rattle.utc_laws.proofs.ExpandedTexts.{expanded-not-finite}
+use Rattle.utc.proofs.laws.Numbers.{not-both}
+use Rattle.utc.proofs.laws.ExpandedTexts.{expanded-not-finite}
 use Rattle.stamps.specs.declared.Telling.{Telling}
 use Rattle.stamps.specs.declared.Telling.the-variants.{Numbers}
 use Rattle.stamps.specs.Block.{blockOf, jd1Bits, jd2Bits, stampAt}

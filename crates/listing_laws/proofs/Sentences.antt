@@ -22,11 +22,11 @@ use Rattle.julian.specs.JulianDate.{julian, roundedSum}
 use Rattle.julian.specs.Calendar.{fields, julianToCalendar}
 use Rattle.julian.proofs.laws.CalendarDays.{fields-of, only-six}
 use Rattle.leap_table.specs.rows.Table.{Row}
-use Rattle.iso_texts.specs.Expanded.{expandedSheet, isoTextExpanded}
+use Rattle.utc.specs.iso_texts.Expanded.{expandedSheet, isoTextExpanded}
 use Rattle.julian.proofs.Dates.{date-in-range}
-use Rattle.utc_laws.proofs.Numbers.{not-both, one-number, date-refusal}
-use Rattle.iso_texts.proofs.TextCalls.{fields-refused-by, fields-given-by}
-use Rattle.utc_laws.proofs.DayTexts.{text-refused-by, has-text-by}
+use Rattle.utc.proofs.laws.Numbers.{not-both, one-number, date-refusal}
+use Rattle.utc.proofs.iso_texts.TextCalls.{fields-refused-by, fields-given-by}
+use Rattle.utc.proofs.laws.DayTexts.{text-refused-by, has-text-by}
 use Rattle.sentences.specs.declared.Named.{Named}
 use Rattle.sentences.specs.declared.Named.the-variants.{Year, Sum, SecondSize, Size, WholeLength}
 use Rattle.reasons.specs.declared.Values.{Values}

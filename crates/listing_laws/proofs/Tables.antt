@@ -15,11 +15,11 @@ use Rattle.leap_table.specs.declared.rows.LentRows.{LentRows}
 use Rattle.leap_table.specs.rows.Table.{Row, fixed}
 use Rattle.leap_table.specs.rows.Lent.{tableOf}
 use Rattle.leap_table.proofs.rows.TablesTaken.{table-none}
-use Rattle.iso_texts.specs.Expanded.{expandedSheet, isoTextExpanded}
+use Rattle.utc.specs.iso_texts.Expanded.{expandedSheet, isoTextExpanded}
 use Rattle.julian.proofs.Dates.{date-in-range}
-use Rattle.iso_texts.proofs.TextCalls.{fields-refused-by, fields-given-by}
-use Rattle.utc_laws.proofs.DayTexts.{text-refused-by, has-text-by}
-use Rattle.utc_laws.proofs.Numbers.{not-both, one-number, date-refusal}
+use Rattle.utc.proofs.iso_texts.TextCalls.{fields-refused-by, fields-given-by}
+use Rattle.utc.proofs.laws.DayTexts.{text-refused-by, has-text-by}
+use Rattle.utc.proofs.laws.Numbers.{not-both, one-number, date-refusal}
 use Rattle.stamps.specs.declared.Telling.{Telling}
 use Rattle.stamps.specs.declared.Part.{Part}
 use Rattle.stamps.specs.declared.LinesAnswer.{LinesAnswer}

@@ -2,7 +2,7 @@
 use mathlib.Core.Path.{refl}
 use mathlib.Core.List.{List, [], _∷_}
 use Prim.Native.Nat.{ℕ}
-use Rattle.utc_text.specs.ReadBack.{signedNumber, readYear}
+use Rattle.utc.specs.text.ReadBack.{signedNumber, readYear}
 use Rattle.parsing_laws.specs.Shown.{YearShown}
 
 -- 1972-01-01T00:00:00.000

@@ -36,23 +36,23 @@ use Rattle.time_of_day.specs.Milliseconds.{wholeLeap}
 use Rattle.time_of_day.specs.TimeShown.{timeOf, dayEnd, shownAt, shownBy}
 use Rattle.time_of_day.specs.ExactTime.{GoodTime}
 use Rattle.time_of_day.proofs.Fields.{good-time}
-use Rattle.utc_text.specs.Text.{four, five, six, seven, afterYear, yearText, utcText}
-use Rattle.utc_text.specs.Expanded.{expandedYear, expandedText}
-use Rattle.utc_text.specs.ReadBack.{ReadsAs, Writable, readYear, readMonth, readDay, readHour, readMinute, readSecond, readMilli}
-use Rattle.iso_texts.specs.Sheet.{Sheet}
-use Rattle.iso_texts.specs.IsoText.{midnight, shownTextBy, dayTextBy, isoTextBy, isoText, sheet01}
-use Rattle.iso_texts.specs.Expanded.{expandedSheet, isoTextExpanded}
-use Rattle.iso_texts.specs.HalfEven.{evenSheet, isoTextHalfEven}
-use Rattle.utc_laws.specs.GoodSheet.{GoodSheet}
-use Rattle.utc_laws.specs.Shows.{Promise, promise01}
-use Rattle.utc_laws.specs.Promises.{expandedPromise, evenPromise}
+use Rattle.utc.specs.text.Text.{four, five, six, seven, afterYear, yearText, utcText}
+use Rattle.utc.specs.text.Expanded.{expandedYear, expandedText}
+use Rattle.utc.specs.text.ReadBack.{ReadsAs, Writable, readYear, readMonth, readDay, readHour, readMinute, readSecond, readMilli}
+use Rattle.utc.specs.iso_texts.Sheet.{Sheet}
+use Rattle.utc.specs.iso_texts.IsoText.{midnight, shownTextBy, dayTextBy, isoTextBy, isoText, sheet01}
+use Rattle.utc.specs.iso_texts.Expanded.{expandedSheet, isoTextExpanded}
+use Rattle.utc.specs.iso_texts.HalfEven.{evenSheet, isoTextHalfEven}
+use Rattle.utc.specs.laws.GoodSheet.{GoodSheet}
+use Rattle.utc.specs.laws.Shows.{Promise, promise01}
+use Rattle.utc.specs.laws.Promises.{expandedPromise, evenPromise}
 use Rattle.utc.specs.FromCalendar.{utcFromCalendar}
-use Rattle.utc_laws.proofs.DayTexts.{leapOn, has-leap}
-use Rattle.utc_laws.proofs.Sheets.{good01}
-use Rattle.utc_laws.proofs.ExpandedTexts.{expanded-good}
-use Rattle.utc_laws.proofs.HalfEvenTexts.{even-good}
-use Rattle.utc_laws.proofs.ShownDates as Dates
-use Rattle.iso_texts.proofs.TextCalls.{next-given}
+use Rattle.utc.proofs.laws.DayTexts.{leapOn, has-leap}
+use Rattle.utc.proofs.laws.Sheets.{good01}
+use Rattle.utc.proofs.laws.ExpandedTexts.{expanded-good}
+use Rattle.utc.proofs.laws.HalfEvenTexts.{even-good}
+use Rattle.utc.proofs.laws.ShownDates as Dates
+use Rattle.utc.proofs.iso_texts.TextCalls.{next-given}
 use Rattle.parsing.specs.declared.ParsedDateTime.{ParsedDateTime}
 use Rattle.parsing.specs.Parsed.{fieldsOf, parsedUtc}
 use Rattle.parsing_laws.specs.Shown.{fieldsShown, withDate, YearShown, ReadsBack, FourDigits}

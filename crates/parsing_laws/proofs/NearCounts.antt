@@ -21,10 +21,10 @@ use Rattle.time_of_day.proofs.EvenFloat.{by-float}
 use Rattle.time_of_day.proofs.EvenGrid.{only-on-grid}
 use Rattle.time_of_day.proofs.EvenExact.{even-exact}
 use Rattle.time_of_day.proofs.EvenSteps.{whole-small, count-by-float}
-use Rattle.iso_texts.specs.Sheet.{Sheet}
-use Rattle.iso_texts.specs.IsoText.{sheet01}
-use Rattle.iso_texts.specs.Expanded.{expandedSheet}
-use Rattle.iso_texts.specs.HalfEven.{evenSheet}
+use Rattle.utc.specs.iso_texts.Sheet.{Sheet}
+use Rattle.utc.specs.iso_texts.IsoText.{sheet01}
+use Rattle.utc.specs.iso_texts.Expanded.{expandedSheet}
+use Rattle.utc.specs.iso_texts.HalfEven.{evenSheet}
 
 -- within 0.501 ms, whatever fractions F / D and W / E the fraction and the day length are written as
 abbrev pub CountsNear : Sheet → Type 0

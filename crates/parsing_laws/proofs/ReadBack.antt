@@ -13,9 +13,9 @@ use Rattle.calendar.specs.Refusals.{validDate}
 use Rattle.time_of_day.specs.declared.TimeOfDay.{TimeOfDay}
 use Rattle.numerals.specs.digits.Decimal.{number, Digits}
 use Rattle.numerals.proofs.digits.Decimal.{value-append, value-split}
-use Rattle.utc_text.proofs.ReadBack.{two-is, three-is, four-is}
-use Rattle.utc_text.proofs.Form.{two-digits, three-digits, four-digits}
-use Rattle.utc_text.specs.Text.{two, three, four, five, six, seven, afterYear, yearText, utcText}
+use Rattle.utc.proofs.text.ReadBack.{two-is, three-is, four-is}
+use Rattle.utc.proofs.text.Form.{two-digits, three-digits, four-digits}
+use Rattle.utc.specs.text.Text.{two, three, four, five, six, seven, afterYear, yearText, utcText}
 use Rattle.text_scan.specs.Written.{Written}
 use Rattle.parsing.specs.Grammar.{Pieces, textOf, Reads, AllBlank, letter, some, plain}
 use Rattle.parsing.specs.Parsed.{fieldsOf, parsed}

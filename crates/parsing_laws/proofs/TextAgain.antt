@@ -43,20 +43,20 @@ use Rattle.time_of_day.specs.Milliseconds.{wholeLeap}
 use Rattle.time_of_day.specs.TimeShown.{timeOf, dayEnd, shownAt, shownBy}
 use Rattle.time_of_day.specs.ExactTime.{minus-one-f, Leap, little, second, minus-second, DayLength}
 use Rattle.time_of_day.proofs.Fields.{fields-ms}
-use Rattle.utc_text.specs.ReadBack.{readYear}
-use Rattle.iso_texts.specs.Sheet.{Sheet}
-use Rattle.utc_laws.specs.Shows.{Promise, promise01}
-use Rattle.utc_laws.specs.Promises.{expandedPromise, evenPromise}
-use Rattle.utc_laws.specs.GoodSheet.{GoodSheet}
-use Rattle.iso_texts.specs.IsoText.{shownTextBy, isoTextBy, isoText, sheet01}
-use Rattle.iso_texts.specs.Expanded.{expandedSheet, isoTextExpanded}
-use Rattle.iso_texts.specs.HalfEven.{evenSheet, isoTextHalfEven}
+use Rattle.utc.specs.text.ReadBack.{readYear}
+use Rattle.utc.specs.iso_texts.Sheet.{Sheet}
+use Rattle.utc.specs.laws.Shows.{Promise, promise01}
+use Rattle.utc.specs.laws.Promises.{expandedPromise, evenPromise}
+use Rattle.utc.specs.laws.GoodSheet.{GoodSheet}
+use Rattle.utc.specs.iso_texts.IsoText.{shownTextBy, isoTextBy, isoText, sheet01}
+use Rattle.utc.specs.iso_texts.Expanded.{expandedSheet, isoTextExpanded}
+use Rattle.utc.specs.iso_texts.HalfEven.{evenSheet, isoTextHalfEven}
 use Rattle.utc.specs.FromCalendar.{utcFromCalendar}
-use Rattle.utc_laws.proofs.FromCalendars.{time-given}
-use Rattle.iso_texts.proofs.TextCalls.{leap-given, fields-given-by}
-use Rattle.utc_laws.proofs.Sheets.{good01}
-use Rattle.utc_laws.proofs.ExpandedTexts.{expanded-good}
-use Rattle.utc_laws.proofs.HalfEvenTexts.{even-good}
+use Rattle.utc.proofs.laws.FromCalendars.{time-given}
+use Rattle.utc.proofs.iso_texts.TextCalls.{leap-given, fields-given-by}
+use Rattle.utc.proofs.laws.Sheets.{good01}
+use Rattle.utc.proofs.laws.ExpandedTexts.{expanded-good}
+use Rattle.utc.proofs.laws.HalfEvenTexts.{even-good}
 use Rattle.parsing.specs.declared.ParsedUtc.{ParsedUtc}
 use Rattle.parsing.specs.Parsed.{parsedUtc}
 use Rattle.parsing_laws.specs.Shown.{fieldsShown, withDate, YearShown, ReadsBack, FourDigits}

@@ -18,9 +18,9 @@ use Rattle.julian.specs.declared.JulianDate.{JulianDate}
 use Rattle.julian.specs.DayFraction.{timeInDay, dayFraction}
 use Rattle.leap_table.specs.rows.Table.{Row}
 use Rattle.utc.specs.FromCalendar.{midnightPlus, utcFromCalendar}
-use Rattle.utc_laws.proofs.FromCalendars.{on-date, time-given}
-use Rattle.utc_laws.proofs.DayTexts.{has-leap}
-use Rattle.utc_laws.proofs.Numbers.{not-both}
+use Rattle.utc.proofs.laws.FromCalendars.{on-date, time-given}
+use Rattle.utc.proofs.laws.DayTexts.{has-leap}
+use Rattle.utc.proofs.laws.Numbers.{not-both}
 use Rattle.parsing.specs.declared.ParsedDateTime.{ParsedDateTime}
 use Rattle.parsing.specs.declared.ParsedUtc.{ParsedUtc}
 use Rattle.text_scan.specs.Written.{Written}

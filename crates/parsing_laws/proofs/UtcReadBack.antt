@@ -26,9 +26,9 @@ use Rattle.time_of_day.specs.Milliseconds.{wholeLeap}
 use Rattle.time_of_day.specs.ExactTime.{GoodTime, minus-one-f}
 use Rattle.leap_days.specs.Tables.{StepLeap, no-row, row-up, row-down, LeapOn, before-1960, last-of-1959, drifting, from-1972}
 use Rattle.leap_days.proofs.TableLeaps.{table-leap-on}
-use Rattle.utc_text.specs.Text.{utcText}
+use Rattle.utc.specs.text.Text.{utcText}
 use Rattle.utc.specs.FromCalendar.{utcFromCalendar}
-use Rattle.utc_laws.proofs.FromCalendars.{time-given}
+use Rattle.utc.proofs.laws.FromCalendars.{time-given}
 use Rattle.parsing.specs.Parsed.{fieldsOf, dated, parsedUtc}
 use Rattle.parsing_laws.specs.Shown.{withDate}
 use Rattle.parsing_laws.proofs.ReadBack.{asWritten, reads-back}

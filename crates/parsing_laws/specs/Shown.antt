@@ -1,5 +1,5 @@
 -- What the digits of a text that we write say, as the reader is to answer it. Written from document 02, item 1: "Every UTC text that we write and whose shown year is 1972
--- to 9999 reads back as its fields"; the digits are read by `readYear` and its like (utc_text, specs/ReadBack.antt), which know nothing of this reader. Assumes nothing.
+-- to 9999 reads back as its fields"; the digits are read by `readYear` and its like (utc::text, specs/ReadBack.antt), which know nothing of this reader. Assumes nothing.
 use mathlib.Core.Path.{_≡_}
 use mathlib.Core.Bool.{false}
 use mathlib.Core.List.{List}
@@ -12,9 +12,9 @@ use Rattle.calendar.specs.declared.CalendarDate.{CalendarDate}
 use Rattle.julian.specs.declared.JulianDate.{JulianDate}
 use Rattle.leap_table.specs.rows.Table.{Row}
 use Rattle.time_of_day.specs.declared.TimeOfDay.{TimeOfDay}
-use Rattle.utc_text.specs.Text.{utcText}
-use Rattle.utc_text.specs.ReadBack.{readYear, readMonth, readDay, readHour, readMinute, readSecond, readMilli}
-use Rattle.iso_texts.specs.Sheet.{Sheet}
+use Rattle.utc.specs.text.Text.{utcText}
+use Rattle.utc.specs.text.ReadBack.{readYear, readMonth, readDay, readHour, readMinute, readSecond, readMilli}
+use Rattle.utc.specs.iso_texts.Sheet.{Sheet}
 use Rattle.utc.specs.FromCalendar.{utcFromCalendar}
 use Rattle.parsing.specs.declared.ParsedDateTime.{ParsedDateTime}
 use Rattle.parsing.specs.declared.ParsedUtc.{ParsedUtc}

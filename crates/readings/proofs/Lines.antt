@@ -16,12 +16,12 @@ use Rattle.numerals.specs.digits.Decimal.{last, digitsIn, digitsOf}
 use Rattle.numerals.proofs.digits.Decimal.{digits-few}
 use Rattle.julian.specs.declared.JulianDate.{JulianDate}
 use Rattle.leap_table.specs.rows.Table.{Row}
-use Rattle.utc_text.specs.declared.TextAnswer.{TextAnswer}
-use Rattle.utc_text.specs.declared.TextAnswer.the-variants.{Written, Refused}
-use Rattle.utc_text.specs.Answer.{textOutcome, textWritten, bufferAfter}
-use Rattle.iso_texts.specs.TextCall.{written, bufferHolds, TextCall}
-use Rattle.iso_texts.specs.Expanded.{isoTextExpanded}
-use Rattle.utc_laws.proofs.ExpandedTexts.{expanded-text-length}
+use Rattle.utc.specs.declared.text.TextAnswer.{TextAnswer}
+use Rattle.utc.specs.declared.text.TextAnswer.the-variants.{Written, Refused}
+use Rattle.utc.specs.text.Answer.{textOutcome, textWritten, bufferAfter}
+use Rattle.utc.specs.iso_texts.TextCall.{written, bufferHolds, TextCall}
+use Rattle.utc.specs.iso_texts.Expanded.{isoTextExpanded}
+use Rattle.utc.proofs.laws.ExpandedTexts.{expanded-text-length}
 use Rattle.parsing.specs.declared.ParsedUtc.{ParsedUtc}
 use Rattle.parsing.specs.declared.ParsedUtcAnswer.{ParsedUtcAnswer}
 use Rattle.parsing.specs.declared.ParsedUtcAnswer.the-variants as Utc

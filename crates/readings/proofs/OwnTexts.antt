@@ -11,7 +11,7 @@ use Rattle.julian.specs.declared.JulianDate.{JulianDate}
 use Rattle.leap_table.specs.declared.rows.LentRows.{LentRows}
 use Rattle.leap_table.specs.rows.Table.{Row}
 use Rattle.leap_table.specs.rows.Lent.{tableOf}
-use Rattle.iso_texts.specs.Expanded.{isoTextExpanded}
+use Rattle.utc.specs.iso_texts.Expanded.{isoTextExpanded}
 use Rattle.parsing.specs.declared.ParsedUtc.{ParsedUtc}
 use Rattle.parsing_laws.specs.Shown.{YearShown, ReadsBack, fieldsShown, withDate}
 use Rattle.parsing_laws.proofs.EveryText.{expanded-text-reads-back, from-str-answers}

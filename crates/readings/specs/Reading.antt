@@ -10,9 +10,9 @@ use lib.Dec.{leb}
 use Rattle.refusals.specs.Outcome.{Outcome, answer, refusal, onward}
 use Rattle.numerals.specs.digits.Decimal.{digitsOf}
 use Rattle.leap_table.specs.rows.Table.{Row}
-use Rattle.utc_text.specs.declared.TextAnswer.{TextAnswer}
-use Rattle.utc_text.specs.Answer.{textOutcome}
-use Rattle.iso_texts.specs.Expanded.{isoTextExpanded}
+use Rattle.utc.specs.declared.text.TextAnswer.{TextAnswer}
+use Rattle.utc.specs.text.Answer.{textOutcome}
+use Rattle.utc.specs.iso_texts.Expanded.{isoTextExpanded}
 use Rattle.parsing.specs.Parsed.{parsedUtc}
 use Rattle.stamps.specs.Listing.{refusedWord}
 

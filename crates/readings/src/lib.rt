@@ -2,13 +2,13 @@
 use leap_table::rows::LentRows;
 use parsing::ParsedUtcAnswer;
 use scales::UTC;
-use utc_text::TextAnswer;
+use utc::text::TextAnswer;
 ghost use Prim.Native.Nat.{_+_, _≤_};
 ghost use lib.ListN.{length};
 ghost use Rattle.numerals.specs.digits.Decimal.{digitsOf};
 ghost use Rattle.refusals.specs.Outcome.{refusal};
 ghost use Rattle.leap_table.specs.rows.Lent.{rowsOf};
-ghost use Rattle.iso_texts.specs.Expanded.{isoTextExpanded};
+ghost use Rattle.utc.specs.iso_texts.Expanded.{isoTextExpanded};
 ghost use Rattle.numerals.specs.digits.Placed.{Placed};
 ghost use Rattle.readings.specs.Reading.{reading, readingTold, readingLine, LineCall};
 
@@ -47,7 +47,7 @@ fn place_text(utc: UTC, table: LentRows, dst: &mut [u8], at: usize) -> usize
     ensures { λ r. ⌜ Placed (now (dst .entry)) at (readingTold (isoTextExpanded (rowsOf table) (utc .0))) r (now (dst .exit)) ⌝ }
     ensures { λ r. ⌜ r ≤ at + 28 ⌝ }
 {
-    match iso_texts::to_iso8601_expanded_by_rows(utc, table, &mut dst[at..]) {
+    match utc::iso_texts::to_iso8601_expanded_by_rows(utc, table, &mut dst[at..]) {
         TextAnswer::Written(n) => at + n,
         TextAnswer::Refused(number) => place_refused(number, dst, at),
     }

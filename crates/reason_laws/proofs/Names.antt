@@ -34,7 +34,7 @@ use Rattle.leap_table.specs.rows.Table.{Row, monthNumber}
 use Rattle.leap_table.specs.offsets.Offset.{offsetAt, inDay, taiUtcOffset}
 use Rattle.utc.specs.UnixTime.{unixDay, secondOfUnixDay, secondWithNanos, utcNew}
 use Rattle.utc.proofs.UnixTimes.{nanos-refused, day-refused, day-given}
-use Rattle.utc_laws.proofs.DateNumbers.{from-calendar-numbers}
+use Rattle.utc.proofs.laws.DateNumbers.{from-calendar-numbers}
 use Rattle.stamps.specs.Block.{blockOf}
 use Rattle.sentences.specs.declared.Named.{Named}
 use Rattle.sentences.specs.declared.Named.the-variants.{NoField, Year, Month, Day, Hour, Minute, Second, Sum, Fraction, Nanos, FirstPart, SecondPart, Offset, SecondSize, Size, WholeLength}

@@ -3,9 +3,9 @@ mod fields;
 
 use sentences::Named;
 use sentences::Reason;
-use utc_text::TextAnswer;
+use utc::text::TextAnswer;
 ghost use mathlib.Core.Path.{_≡_};
-ghost use Rattle.iso_texts.specs.TextCall.{TextCall};
+ghost use Rattle.utc.specs.iso_texts.TextCall.{TextCall};
 ghost use Rattle.reasons.specs.Offending.{offending};
 ghost use Rattle.reasons.specs.Sentence.{reasonOf, reasonOutcome, sentence};
 

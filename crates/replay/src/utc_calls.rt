@@ -2,7 +2,7 @@
 ghost use Prim.Native.Nat.{_≤_};
 use crate::words;
 use crate::words::Answer;
-use iso_texts::TextByRule;
+use utc::iso_texts::TextByRule;
 use scales::TAI;
 use scales::UT1;
 use scales::UTC;
@@ -54,7 +54,7 @@ fn room(record: &[u8; 128]) -> usize
 fn text(record: &[u8; 128]) -> Answer {
     let mut buffer = [0xaau8; 32];
     let n = room(record);
-    match iso_texts::to_iso8601(
+    match utc::iso_texts::to_iso8601(
         UTC(words::date_at(record, 1)),
         leap_table::rows::no_rows(),
         &mut buffer[..n],

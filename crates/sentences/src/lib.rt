@@ -3,10 +3,10 @@ mod place;
 mod texts;
 mod words;
 
-use utc_text::TextAnswer;
+use utc::text::TextAnswer;
 ghost use Prim.Native.Nat.{_≤_};
 ghost use lib.ListN.{length};
-ghost use Rattle.utc_text.specs.Answer.{TextPut};
+ghost use Rattle.utc.specs.text.Answer.{TextPut};
 ghost use Rattle.sentences.specs.Begins.{Begins};
 ghost use Rattle.sentences.specs.Render.{render};
 

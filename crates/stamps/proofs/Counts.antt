@@ -18,10 +18,10 @@ use Rattle.julian.specs.day_number.Answer.{dayOutcome, dayNumberAndFraction}
 use Rattle.julian.specs.declared.JulianDate.{JulianDate}
 use Rattle.julian.specs.Calendar.{fields, julianToCalendar}
 use Rattle.leap_table.specs.rows.Table.{Row}
-use Rattle.iso_texts.specs.Expanded.{expandedSheet, isoTextExpanded}
+use Rattle.utc.specs.iso_texts.Expanded.{expandedSheet, isoTextExpanded}
 use Rattle.julian.proofs.Dates.{date-in-range}
-use Rattle.iso_texts.proofs.TextCalls.{fields-refused-by, fields-given-by}
-use Rattle.utc_laws.proofs.DayTexts.{text-refused-by, has-text-by}
+use Rattle.utc.proofs.iso_texts.TextCalls.{fields-refused-by, fields-given-by}
+use Rattle.utc.proofs.laws.DayTexts.{text-refused-by, has-text-by}
 use Rattle.stamps.specs.Listing.{oneIfRefused}
 
 module _ (rows : List Row) (jd : JulianDate) (res : DayAnswer) (e : dayOutcome res ≡ dayNumberAndFraction (jd .jd1) (jd .jd2)) where

@@ -36,7 +36,7 @@ use Rattle.julian.proofs.day_number.DayInRange.{total-is, number-is}
 use Rattle.julian.proofs.day_number.Answer.{answered}
 use Rattle.julian.specs.declared.JulianDate.{JulianDate}
 use Rattle.leap_table.specs.rows.Table.{Row}
-use Rattle.iso_texts.specs.Expanded.{isoTextExpanded}
+use Rattle.utc.specs.iso_texts.Expanded.{isoTextExpanded}
 use Rattle.stamps.specs.Listing.{oneIfRefused}
 use Rattle.stamps.proofs.Counts.{day-given}
 

@@ -10,7 +10,7 @@ use lib.Dec.{leb, eqb}
 use borrow.Author.Tests.{leb-true}
 use Rattle.refusals.specs.Outcome.{Outcome, answer, refusal}
 use Rattle.leap_table.specs.rows.Table.{Row}
-use Rattle.iso_texts.specs.Expanded.{isoTextExpanded}
+use Rattle.utc.specs.iso_texts.Expanded.{isoTextExpanded}
 use Rattle.stamps.specs.declared.Telling.{Telling}
 use Rattle.stamps.specs.Block.{blockOf, stampAt}
 use Rattle.stamps.specs.Listing.{lineRoom, blockValues, textAt, stampLine, refusedIn, header, blockRefused}

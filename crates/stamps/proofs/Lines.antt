@@ -9,7 +9,7 @@ use borrow.Author.Tests.{eq-eqb, ne-eqb}
 use Rattle.refusals.specs.Outcome.{Outcome, answer}
 use Rattle.julian.specs.declared.JulianDate.{JulianDate}
 use Rattle.leap_table.specs.rows.Table.{Row}
-use Rattle.iso_texts.specs.Expanded.{isoTextExpanded}
+use Rattle.utc.specs.iso_texts.Expanded.{isoTextExpanded}
 use Rattle.stamps.specs.declared.Telling.{Telling}
 use Rattle.stamps.specs.declared.BlockAnswer.{BlockAnswer}
 use Rattle.stamps.specs.declared.BlockAnswer.the-variants.{Stamps, Refused}

@@ -19,8 +19,8 @@ use Rattle.julian.specs.declared.CalendarFields.{CalendarFields}
 use Rattle.julian.specs.declared.CalendarAnswer.{CalendarAnswer}
 use Rattle.julian.specs.declared.CalendarAnswer.the-variants.{Fields, Refused}
 use Rattle.julian.specs.Calendar.{calendarOutcome, julianToCalendar}
-use Rattle.utc_text.specs.declared.TextAnswer.{TextAnswer}
-use Rattle.iso_texts.specs.TextCall.{TextCall}
+use Rattle.utc.specs.declared.text.TextAnswer.{TextAnswer}
+use Rattle.utc.specs.iso_texts.TextCall.{TextCall}
 use Rattle.julian.proofs.Dates.{date-in-range, read-fields}
 use Rattle.reasons.specs.declared.Values.{Values}
 use Rattle.reasons.specs.declared.Values.the-variants.{Date, Parts, Block}

@@ -16,14 +16,14 @@ use Rattle.julian.specs.declared.JulianDate.{JulianDate}
 use Rattle.julian.specs.declared.CalendarFields.{CalendarFields}
 use Rattle.julian.specs.Calendar.{julianToCalendar}
 use Rattle.leap_table.specs.rows.Table.{Row}
-use Rattle.utc_text.specs.declared.TextAnswer.{TextAnswer}
-use Rattle.utc_text.specs.declared.TextAnswer.the-variants.{Written, Refused}
-use Rattle.utc_text.specs.Answer.{textOutcome, textWritten, bufferAfter}
-use Rattle.iso_texts.specs.Expanded.{expandedSheet, isoTextExpanded}
-use Rattle.iso_texts.specs.TextCall.{written, bufferHolds, TextCall}
+use Rattle.utc.specs.declared.text.TextAnswer.{TextAnswer}
+use Rattle.utc.specs.declared.text.TextAnswer.the-variants.{Written, Refused}
+use Rattle.utc.specs.text.Answer.{textOutcome, textWritten, bufferAfter}
+use Rattle.utc.specs.iso_texts.Expanded.{expandedSheet, isoTextExpanded}
+use Rattle.utc.specs.iso_texts.TextCall.{written, bufferHolds, TextCall}
 use Rattle.julian.proofs.Dates.{date-in-range}
-use Rattle.utc_laws.proofs.Numbers.{text-numbers-by}
-use Rattle.utc_laws.proofs.ExpandedTexts.{expanded-text-length}
+use Rattle.utc.proofs.laws.Numbers.{text-numbers-by}
+use Rattle.utc.proofs.laws.ExpandedTexts.{expanded-text-length}
 use Rattle.reasons.specs.declared.Values.{Values}
 use Rattle.reasons.specs.Widths.{OfWidth}
 use Rattle.reasons.proofs.SentenceLengths.{reason-short}

@@ -11,7 +11,7 @@ ghost use Rattle.floats.specs.Whole.{nought};
 ghost use Rattle.julian.specs.day_number.DayNumber.{c-djmax};
 ghost use Rattle.leap_table.specs.rows.Table.{Row};
 ghost use Rattle.leap_table.specs.rows.Lent.{rowsOf, tableOf};
-ghost use Rattle.iso_texts.specs.Expanded.{isoTextExpanded};
+ghost use Rattle.utc.specs.iso_texts.Expanded.{isoTextExpanded};
 ghost use Rattle.stamps.specs.Block.{blockOutcome, blockOf};
 ghost use Rattle.numerals.specs.digits.Placed.{Placed};
 ghost use Rattle.stamps.specs.Listing.{lineRoom, shown, stampLine, oneIfRefused, refusedIn, header, blockRefused};
@@ -28,7 +28,7 @@ use julian::day_number::DayAnswer;
 use julian::JulianDate;
 use leap_table::rows::LentRows;
 use scales::UTC;
-use utc_text::TextAnswer;
+use utc::text::TextAnswer;
 
 // A line is begun only where so many bytes are left. By numbers the longest line has four bytes of the index, a blank, the longest text, 27, and the line's end; by
 // sentences it has `block`, a blank, the longest sentence, 57, and the line's end.
@@ -47,7 +47,7 @@ fn place_shown(how: Telling, jd: JulianDate, table: LentRows, dst: &mut [u8], at
     ensures { λ r. ⌜ Placed (now (dst .entry)) at (shown how jd (isoTextExpanded (rowsOf table) jd)) r (now (dst .exit)) ⌝ }
     ensures { λ r. ⌜ r + 6 ≤ at + lineRoom how ⌝ }
 {
-    match iso_texts::to_iso8601_expanded_by_rows(UTC(jd), table, &mut dst[at..]) {
+    match utc::iso_texts::to_iso8601_expanded_by_rows(UTC(jd), table, &mut dst[at..]) {
         TextAnswer::Written(n) => at + n,
         TextAnswer::Refused(number) => told::place_date_refused(how, number, jd, dst, at),
     }

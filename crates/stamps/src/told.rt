@@ -14,7 +14,7 @@ use super::place;
 use julian::CalendarAnswer;
 use julian::JulianDate;
 use reasons::Values;
-use utc_text::TextAnswer;
+use utc::text::TextAnswer;
 
 // `refused` and the number.
 fn place_number(number: u32, dst: &mut [u8], at: usize) -> usize

@@ -44,7 +44,7 @@ use Rattle.leap_days.proofs.Months.{next-month-number}
 use Rattle.leap_days.proofs.TableLeaps.{no-step, one-second-more, one-second-less}
 use Rattle.time_of_day.specs.ExactTime.{minus-one-f}
 use Rattle.utc.specs.FromCalendar as From
-use Rattle.utc_laws.proofs.FromCalendars.{date-refused, leap-refused, on-date}
+use Rattle.utc.proofs.laws.FromCalendars.{date-refused, leap-refused, on-date}
 use Rattle.parsing_laws.proofs.UtcTimes.{not-negative, second-below}
 use Rattle.standby.specs.declared.UtcTime.{UtcTime}
 use Rattle.standby.specs.Times.{lastMinute, inItsDay, taiMs, instantOn, instant}

@@ -1,3 +1,4 @@
 -- The laws of UTC from Unix time.
 pub mod UnixDays
 pub mod UnixTimes
+pub mod laws

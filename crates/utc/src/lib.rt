@@ -15,6 +15,8 @@ use leap_table::rows::LentRows;
 use scales::UTC;
 use scales::UtcAnswer;
 use leap_table::offsets::SecondsByRule;
+pub mod iso_texts;
+pub mod text;
 
 // The day of a Unix time, counted from 1970-01-01: the Rust's `div_euclid`, which divides downward.
 fn unix_day(seconds: i64) -> i64

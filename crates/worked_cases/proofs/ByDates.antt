@@ -19,7 +19,7 @@ use Rattle.julian.specs.Calendar.{fields, julianToCalendar}
 use Rattle.leap_table.specs.rows.Table.{fixed}
 use Rattle.utc.specs.FromCalendar.{utcFromCalendar}
 use Rattle.utc.specs.UnixTime.{unixDay, secondOfUnixDay, secondWithNanos, utcNew}
-use Rattle.iso_texts.specs.IsoText.{dayText, isoTextBy, isoText}
+use Rattle.utc.specs.iso_texts.IsoText.{dayText, isoTextBy, isoText}
 use Rattle.worked_cases.specs.Calls.{UtcCall, utc-from-calendar, utc-new, utc-parts, utcOf, Value, partsValue, fieldsValue, put, callOutcome}
 use Rattle.worked_cases.specs.Calls.{Call, calendar-to-julian, julian-to-calendar, get-tai-utc-offset, utc, to-iso8601}
 use Rattle.worked_cases.specs.Calls.{nearest-int, convert, utc-to-ut1, block-stamps}

@@ -23,12 +23,12 @@ use Rattle.scales.specs.Conversions as Scales
 use Rattle.utc_scales.specs.to_ut1.UtcUt1.{utcToUt1}
 use Rattle.time_of_day.specs.Milliseconds as Millis
 use Rattle.time_of_day.specs.TimeShown.{timeOf, dayEnd, fromZero, shownAt, countBy, shownBy}
-use Rattle.utc_text.specs.Text.{yearText, utcText}
-use Rattle.utc_text.specs.Answer.{textWritten, bufferAfter}
+use Rattle.utc.specs.text.Text.{yearText, utcText}
+use Rattle.utc.specs.text.Answer.{textWritten, bufferAfter}
 use Rattle.utc.specs.FromCalendar.{midnightPlus, utcFromCalendar}
 use Rattle.utc.specs.UnixTime.{unixDay, secondOfUnixDay, secondWithNanos}
-use Rattle.iso_texts.specs.IsoText.{nextMidnightTextBy, shownTextBy, dayTextBy}
-use Rattle.iso_texts.specs.TextCall.{written, bufferHolds}
+use Rattle.utc.specs.iso_texts.IsoText.{nextMidnightTextBy, shownTextBy, dayTextBy}
+use Rattle.utc.specs.iso_texts.TextCall.{written, bufferHolds}
 use Rattle.stamps.specs.Block.{blockOf}
 use Rattle.worked_cases.specs.Calls.{Call, Value, callOutcome}
 use Rattle.julian.proofs.laws.Divisions.{dividedDate}

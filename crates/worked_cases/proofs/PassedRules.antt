@@ -29,10 +29,10 @@ use Rattle.leap_table.specs.offsets.Leap.{dayOffsets, leapOf, leapAtEndOfDay}
 use Rattle.leap_table.specs.offsets.Rule.{ruleBy, ruleOf, ruleAt, ruleOn, withRule}
 use Rattle.time_of_day.specs.Milliseconds as Millis
 use Rattle.time_of_day.specs.TimeShown.{timeOf, dayEnd, fromZero, shownAt, countBy, shownBy}
-use Rattle.utc_text.specs.Text.{yearText, utcText}
+use Rattle.utc.specs.text.Text.{yearText, utcText}
 use Rattle.utc.specs.FromCalendar.{midnightPlus, utcFromCalendar}
-use Rattle.iso_texts.specs.IsoText.{nextMidnightTextBy, shownTextBy, dayTextBy, dayText}
-use Rattle.iso_texts.specs.ByRule.{textByRule, isoTextByRule}
+use Rattle.utc.specs.iso_texts.IsoText.{nextMidnightTextBy, shownTextBy, dayTextBy, dayText}
+use Rattle.utc.specs.iso_texts.ByRule.{textByRule, isoTextByRule}
 use Rattle.utc_scales.specs.laws.ShortTable.{shortTable, shortRows}
 use Rattle.utc_scales.proofs.laws.ShortDay.{short-taken}
 use Rattle.worked_cases.specs.Cases.{ascii}

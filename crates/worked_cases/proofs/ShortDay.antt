@@ -26,13 +26,13 @@ use Rattle.leap_table.specs.offsets.Offset.{secondsOf, byRow, offsetBy, offsetA
 use Rattle.leap_table.specs.offsets.Leap.{dayOffsets, leapOf, leapAtEndOfDay}
 use Rattle.time_of_day.specs.Milliseconds as Millis
 use Rattle.time_of_day.specs.TimeShown.{timeOf, dayEnd, fromZero, shownAt, countBy, shownBy}
-use Rattle.utc_text.specs.Text.{yearText, utcText}
+use Rattle.utc.specs.text.Text.{yearText, utcText}
 use Rattle.utc_scales.specs.laws.ShortTable.{shortTable, shortRows}
 use Rattle.utc_scales.proofs.laws.ShortDay.{short-taken, short-leap}
 use Rattle.utc.specs.FromCalendar.{midnightPlus, utcFromCalendar}
 use Rattle.utc.specs.UnixTime.{unixDay, secondOfUnixDay, secondWithNanos, utcNew}
-use Rattle.iso_texts.specs.IsoText.{nextMidnightTextBy, shownTextBy, dayTextBy, dayText, isoTextBy, isoText}
-use Rattle.utc_laws.proofs.ShortDays.{short-day-refused, short-day-taken}
+use Rattle.utc.specs.iso_texts.IsoText.{nextMidnightTextBy, shownTextBy, dayTextBy, dayText, isoTextBy, isoText}
+use Rattle.utc.proofs.laws.ShortDays.{short-day-refused, short-day-taken}
 use Rattle.worked_cases.specs.Cases.{ascii}
 use Rattle.worked_cases.proofs.ByDates.{toCalendar}
 

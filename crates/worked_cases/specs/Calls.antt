@@ -19,8 +19,8 @@ use Rattle.scales.specs.Conversions as Scales
 use Rattle.utc_scales.specs.to_ut1.UtcUt1.{utcToUt1}
 use Rattle.utc.specs.FromCalendar.{utcFromCalendar}
 use Rattle.utc.specs.UnixTime.{utcNew}
-use Rattle.iso_texts.specs.IsoText.{isoText}
-use Rattle.iso_texts.specs.TextCall.{written, bufferHolds}
+use Rattle.utc.specs.iso_texts.IsoText.{isoText}
+use Rattle.utc.specs.iso_texts.TextCall.{written, bufferHolds}
 use Rattle.stamps.specs.Block.{blockOf}
 
 -- the calls that answer a UTC date: `utc_from_calendar` (year, month, day, hour, minute, second) and `UTC::new` (seconds, nanos); and a date given by its parts

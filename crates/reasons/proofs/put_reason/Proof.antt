@@ -1,5 +1,5 @@
 -- `put_reason` meets its contract. Assumes nothing.
-use Rattle.iso_texts.proofs.TextCalls.{call-refused, call-put}
+use Rattle.utc.proofs.iso_texts.TextCalls.{call-refused, call-put}
 use Rattle.reasons.proofs.Told.{told-refused, told-given}
 use borrow.Author.Needs.{needs}
 use Rattle.reasons.proofs.put_reason.Statement.{statement}

@@ -3,7 +3,7 @@ use native.Mathlib.Omega.{arith}
 use mathlib.Core.Path.{ap}
 use lib.ListN.{length}
 use denote.Ref.{now}
-use Rattle.utc_text.proofs.Laws.{short, put-done}
+use Rattle.utc.proofs.text.Laws.{short, put-done}
 use Rattle.sentences.specs.Render.{render}
 use borrow.Author.Needs.{needs}
 use Rattle.sentences.proofs.put_sentence.Statement.{statement}

@@ -1,6 +1,6 @@
 -- `place::size` meets its contract. Assumes nothing.
 use borrow.Author.Needs.{needs}
-use Rattle.utc_text.proofs.Sign.{wider, sub-fits, cast-less, size-less, cast-more}
+use Rattle.utc.proofs.text.Sign.{wider, sub-fits, cast-less, size-less, cast-more}
 use Rattle.sentences.proofs.place.size.Statement.{statement}
 use Rattle.sentences.proofs.place.size.Tie as tie
 

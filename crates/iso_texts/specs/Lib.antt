@@ -1,7 +1,0 @@
--- What the contracts of `iso_texts` cite, in the order to read it.
-pub mod Sheet
-pub mod IsoText
-pub mod TextCall
-pub mod Expanded
-pub mod HalfEven
-pub mod ByRule

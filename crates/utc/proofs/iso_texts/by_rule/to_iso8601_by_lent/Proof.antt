@@ -1,0 +1,54 @@
+-- `utc::iso_texts::by_rule::to_iso8601_by_lent` meets its contract: the refusal of the calendar, or the day that it answers. Assumes nothing.
+use mathlib.Core.Path.{_≡_, sym, ap, _∙_}
+use native.Mathlib.Omega.{arith}
+use Rattle.refusals.specs.Outcome.{answer}
+use Rattle.refusals.proofs.Onward.{went, stopped}
+use Rattle.julian.specs.Calendar.{calendarOutcome, julianToCalendar}
+use Rattle.utc.specs.iso_texts.ByRule.{textByRule}
+use Rattle.julian.proofs.Dates.{date-in-range}
+use Rattle.utc.proofs.iso_texts.TextRules.{rule-call-refused, rule-call-as}
+use borrow.Author.Needs.{needs}
+use Rattle.utc.proofs.iso_texts.by_rule.to_iso8601_by_lent.Statement.{statement}
+use Rattle.utc.proofs.iso_texts.by_rule.to_iso8601_by_lent.Tie as tie
+
+calendar-answered : (k : tie.After-fields) → let s = k .before .before .before .before .before in julianToCalendar (s .args .utc .0 .jd1) (s .args .utc .0 .jd2) ≡ answer (k .fields .given .0 .0)
+unfolding calendarOutcome
+calendar-answered k = sym (k .before .before .julian-to-calendar .ensures) ∙ ap calendarOutcome (k .fields .given .1)
+
+julian-to-calendar-requires : tie.Need-julian-to-calendar-requires
+julian-to-calendar-requires c κs = search needs
+
+enum-known-number : tie.Need-enum-known-number
+enum-known-number c = search needs
+
+enum-known-fields : tie.Need-enum-known-fields
+enum-known-fields c = search needs
+
+put-day-requires : tie.Need-put-day-requires
+put-day-requires c κs =
+    let k = c .before .before .before in
+    let r = date-in-range _ _ (k .fields .given .0 .0) (calendar-answered k) in
+    (omega (arith, r .month-high), omega (arith, r .day-high))
+
+returns : tie.Need-returns
+unfolding calendarOutcome textByRule
+returns c = rule-call-refused _ _ _ (stopped _ (sym (c .before .before .before .julian-to-calendar .ensures) ∙ ap calendarOutcome (c .before .number .given .1)))
+
+same-length : tie.Need-same-length
+same-length c = search needs
+
+returns-2 : tie.Need-returns-2
+unfolding textByRule
+returns-2 c = rule-call-as _ _ _ _ _ (went _ (calendar-answered (c .before .before .before .before .before .before))) (c .before .before .put-day .ensures)
+
+pub to-iso8601-by-lent-spec : {M : Type 1} → statement M
+to-iso8601-by-lent-spec =
+    tie.close
+    (tie.spec
+    julian-to-calendar-requires
+    enum-known-number
+    enum-known-fields
+    put-day-requires
+    returns
+    same-length
+    returns-2)

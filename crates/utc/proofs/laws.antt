@@ -1,0 +1,33 @@
+-- No code: what the calls of utc and the texts of utc::iso_texts mean in exact days and times. proofs/Lib.antt says which file has what.
+-- The laws of UTC from Unix time, from the calendar, and as text, in the order to read them.
+-- FromCalendars: UTC from the calendar by its cases. Parts: what the parts of an answer are worth. ShortDays: a day that ends a second early.
+pub mod FromCalendars
+pub mod Parts
+pub mod ShortDays
+-- DayTexts: which dates have a text. Numbers, DateNumbers: the numbers that a text and a date can be refused with. Lengths: of every text.
+pub mod DayTexts
+pub mod Numbers
+pub mod DateNumbers
+pub mod Lengths
+-- Demand3: DEMAND 3 of a text's day and time. ShownDates, Sums, Sheets: what it needs of dates, of divisions and of sheets. DayLengths: it speaks of every day.
+pub mod ShownDates
+pub mod Sums
+pub mod Sheets
+pub mod Demand3
+pub mod DayLengths
+-- Alike, OneText: DEMAND 3 for every division of a date and every buffer. Ends: at the ends of its ranges.
+pub mod Alike
+pub mod OneText
+pub mod Ends
+-- ExpandedTexts, HalfEvenTexts: document 02's two sheets.
+pub mod ExpandedTexts
+pub mod HalfEvenTexts
+-- Which refusals the calls give by every lent table, and exactly when. Ladders: of tables, dates and times. Decided, NewDecided, TextDecided: of each call; UnixDates,
+-- UnixClock: what a Unix time needs. Witnesses: each refusal does occur.
+pub mod Ladders
+pub mod Decided
+pub mod UnixDates
+pub mod UnixClock
+pub mod NewDecided
+pub mod TextDecided
+pub mod Witnesses

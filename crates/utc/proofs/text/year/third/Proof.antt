@@ -1,0 +1,22 @@
+-- `utc::text::year::third` meets its contract. Assumes nothing.
+use borrow.Author.Needs.{needs}
+use Rattle.utc.specs.text.Layout.{third}
+use Rattle.utc.proofs.text.year.third.Statement.{statement}
+use Rattle.utc.proofs.text.year.third.Tie as tie
+
+cast-result : tie.Need-cast-result
+cast-result c = search needs
+
+add-result : tie.Need-add-result
+add-result c = search needs
+
+returns : tie.Need-returns
+unfolding third
+returns c = simp (c .if1 .taken)
+
+returns-2 : tie.Need-returns-2
+unfolding third
+returns-2 c = simp (c .if1 .left)
+
+pub third-spec : {M : Type 1} → statement M
+third-spec = tie.close (tie.spec cast-result add-result returns returns-2)

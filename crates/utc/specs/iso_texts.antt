@@ -1,0 +1,7 @@
+-- What the contracts of `utc::iso_texts` cite, in the order to read it.
+pub mod Sheet
+pub mod IsoText
+pub mod TextCall
+pub mod Expanded
+pub mod HalfEven
+pub mod ByRule

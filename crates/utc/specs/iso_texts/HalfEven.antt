@@ -1,0 +1,23 @@
+-- The text of a UTC date with a half millisecond to the even one. Written from document 02, item 4: "a text call with that rule".
+-- Assumes nothing.
+use Prim.Native.Nat.{ℕ}
+use mathlib.Core.List.{List}
+use lib.Ieee.{Float}
+use Rattle.refusals.specs.Outcome.{Outcome}
+use Rattle.calendar.specs.declared.CalendarDate.{CalendarDate}
+use Rattle.julian.specs.declared.JulianDate.{JulianDate}
+use Rattle.leap_table.specs.rows.Table.{Row}
+use Rattle.time_of_day.specs.HalfEven.{evenCount}
+use Rattle.utc.specs.text.Text.{utcText}
+use Rattle.utc.specs.iso_texts.Sheet.{Sheet}
+use Rattle.utc.specs.iso_texts.IsoText.{dayTextBy, isoTextBy}
+
+-- a half millisecond to the even one, dates and times as document 01's sheet writes them
+abbrev pub evenSheet : Sheet
+evenSheet = record { count = evenCount; write = utcText }
+
+abbrev pub dayTextHalfEven : List Row → CalendarDate → Float → Outcome (List ℕ)
+dayTextHalfEven rows d fraction = dayTextBy evenSheet rows d fraction
+
+abbrev pub isoTextHalfEven : List Row → JulianDate → Outcome (List ℕ)
+isoTextHalfEven rows jd = isoTextBy evenSheet rows jd

@@ -1,0 +1,58 @@
+// UTC text into a lent buffer, with the rule of its day: document 01's (scales/utc/mod.rs), the one with expanded years and the one with halves to the even.
+ghost use Prim.Native.Nat.{_≤_};
+ghost use Rattle.utc.specs.iso_texts.IsoText.{nextMidnightText, shownText};
+ghost use Rattle.utc.specs.iso_texts.TextCall.{TextCall};
+
+mod by_rule;
+mod expanded;
+mod half_even;
+
+pub use by_rule::to_iso8601;
+pub use by_rule::to_iso8601_by_lent;
+pub use by_rule::to_iso8601_by_rows;
+use calendar::CalendarDate;
+use calendar::NextDay;
+pub use expanded::to_iso8601_expanded;
+pub use expanded::to_iso8601_expanded_by_lent;
+pub use expanded::to_iso8601_expanded_by_rows;
+pub use half_even::to_iso8601_half_even;
+pub use half_even::to_iso8601_half_even_by_lent;
+pub use half_even::to_iso8601_half_even_by_rows;
+use leap_table::offsets::Rule;
+use time_of_day::TimeOfDay;
+use time_of_day::TimeShown;
+use crate::text::TextAnswer;
+
+// How many bytes were written and the rule of the day, or the number of the refusal.
+pub enum TextByRule {
+    Written(usize, Rule),
+    Refused(u32),
+}
+
+pub(crate) fn put_shown(date: CalendarDate, shown: TimeShown, out: &mut [u8]) -> TextAnswer
+    requires { ⌜ (date .month ≤ 12) × (date .day ≤ 31) ⌝ }
+    ensures { λ r. ⌜ TextCall (shownText date shown) (now (out .entry)) r (now (out .exit)) ⌝ }
+{
+    match shown {
+        TimeShown::At(time) => crate::text::put_text(date, time, out),
+        TimeShown::NextMidnight => put_next_midnight(date, out),
+    }
+}
+
+fn put_next_midnight(date: CalendarDate, out: &mut [u8]) -> TextAnswer
+    requires { ⌜ (date .month ≤ 12) × (date .day ≤ 31) ⌝ }
+    ensures { λ r. ⌜ TextCall (nextMidnightText date) (now (out .entry)) r (now (out .exit)) ⌝ }
+{
+    match calendar::next_calendar_day(date.year, date.month as i32, date.day as i32) {
+        NextDay::Refused(number) => TextAnswer::Refused(number),
+        NextDay::Date(next) => {
+            let midnight = TimeOfDay {
+                hour: 0,
+                minute: 0,
+                second: 0,
+                milli: 0,
+            };
+            crate::text::put_text(next, midnight, out)
+        }
+    }
+}

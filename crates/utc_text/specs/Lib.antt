@@ -1,9 +1,0 @@
--- What the contracts of `utc_text` cite, in the order to read it: what UTC text is, where its characters stand, what a lent buffer and the answer are after the call.
-pub mod Text
-pub mod Expanded
-pub mod Layout
-pub mod Answer
--- The words of the theorems: what a text's digits say, and what form it has. No contract cites them.
-pub mod ReadBack
-pub mod WellFormed
-pub mod ExpandedForm
