@@ -15,13 +15,13 @@ use Rattle.constants.specs.Constants.{decimal}
 use Rattle.calendar.specs.Refusals.{validDate}
 use Rattle.numerals.specs.digits.Decimal.{value, number, isDigit, AllDigits}
 use Rattle.numerals.proofs.digits.Decimal.{digit-bounds, value-split, number-below}
-use Rattle.text_scan.specs.declared.Form.{Form}
+use Rattle.parsing.specs.declared.scan.Form.{Form}
 use Rattle.parsing.specs.declared.ParsedDateTime.{ParsedDateTime}
-use Rattle.text_scan.specs.Form.{byteAt, digitSays, twoSay, leading, fractionDigits, afterBlanks, rightForm, says, formOf}
+use Rattle.parsing.specs.scan.Form.{byteAt, digitSays, twoSay, leading, fractionDigits, afterBlanks, rightForm, says, formOf}
 use Rattle.parsing.specs.Parsed.{fieldsOf, timeFits, judged, parsed}
-use Rattle.text_scan.specs.Scan.{joined, keptFrom, kept, formAt, scanOf}
+use Rattle.parsing.specs.scan.Scan.{joined, keptFrom, kept, formAt, scanOf}
 use Rattle.parsing.specs.Judging.{quotient, timeIn, fieldsBy, judgedForm}
-use Rattle.text_scan.proofs.Runs.{worth-of, worth-most, kept-all-small}
+use Rattle.parsing.proofs.scan.Runs.{worth-of, worth-most, kept-all-small}
 use Rattle.parsing.proofs.Seconds.{one-division}
 
 -- ---- digits

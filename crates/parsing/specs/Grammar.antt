@@ -7,7 +7,7 @@ use mathlib.Core.Bool.{Bool, true, false}
 use lib.ListN.{length}
 use mathlib.Core.Logic.{_⊎_}
 use Rattle.numerals.specs.digits.Decimal.{number, AllDigits, Digits}
-use Rattle.text_scan.specs.Written.{Written}
+use Rattle.parsing.specs.scan.Written.{Written}
 
 -- document 02: "bytes 9 to 13 or 32"
 abbrev pub Blank : ℕ → Type 0

@@ -8,7 +8,7 @@ use lib.Ieee.{Float, binary64, ofInt, div}
 use Rattle.refusals.specs.Outcome.{Outcome, answer, refusal, onward}
 use Rattle.constants.specs.Constants.{decimal}
 use Rattle.calendar.specs.Refusals.{validDate}
-use Rattle.text_scan.specs.declared.Form.{Form}
+use Rattle.parsing.specs.declared.scan.Form.{Form}
 use Rattle.parsing.specs.declared.ParsedDateTime.{ParsedDateTime}
 
 -- the quotient of the whole number and the power of ten

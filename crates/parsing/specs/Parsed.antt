@@ -19,8 +19,8 @@ use Rattle.parsing.specs.declared.ParsedAnswer.{ParsedAnswer}
 use Rattle.parsing.specs.declared.ParsedAnswer.the-variants as Plain
 use Rattle.parsing.specs.declared.ParsedUtcAnswer.{ParsedUtcAnswer}
 use Rattle.parsing.specs.declared.ParsedUtcAnswer.the-variants as Utc
-use Rattle.text_scan.specs.Written.{Written}
-use Rattle.text_scan.specs.Form.{formOf}
+use Rattle.parsing.specs.scan.Written.{Written}
+use Rattle.parsing.specs.scan.Form.{formOf}
 
 -- document 01's answer for each enum: the fields, or a refusal number
 unfoldable pub parsedOutcome : ParsedAnswer → Outcome ParsedDateTime

@@ -5,8 +5,8 @@ use julian::JulianDate;
 use leap_table::rows::LentRows;
 use scales::UTC;
 use scales::UtcAnswer;
-use text_scan::Form;
-use text_scan::Scanned;
+use crate::scan::Form;
+use crate::scan::Scanned;
 ghost use mathlib.Core.Path.{_≡_};
 ghost use mathlib.Core.Bool.{true, false};
 ghost use Prim.Native.Nat.{_≤_};
@@ -15,6 +15,7 @@ ghost use Rattle.refusals.specs.Outcome.{onward};
 ghost use Rattle.leap_table.specs.rows.Lent.{rowsIn, rowsOf, tableOf};
 ghost use Rattle.parsing.specs.Parsed.{parsedOutcome, parsedUtcOutcome, parsed, toJulianDate, dated as dated·of, parsedUtc};
 ghost use Rattle.parsing.specs.Judging.{timeIn, quotient, judgedForm};
+pub mod scan;
 
 // The six fields of a text.
 pub struct ParsedDateTime {
@@ -111,7 +112,7 @@ fn judged(form: Form) -> ParsedAnswer
 fn parse(text: &[u8], utc: bool) -> ParsedAnswer
     ensures { λ r. ⌜ parsedOutcome r ≡ parsed utc (now (text .entry)) ⌝ }
 {
-    match text_scan::scan(text, utc) {
+    match crate::scan::scan(text, utc) {
         Scanned::Outside => ParsedAnswer::Refused(refusals::TEXT_OUTSIDE_GRAMMAR),
         Scanned::Within(form) => judged(form),
     }

@@ -4,7 +4,7 @@ use native.Mathlib.Omega.{arith}
 use mathlib.Core.Path.{_≡_, refl, sym, ap, _∙_}
 use mathlib.Core.List.{List, [], _∷_, _++_, append-assoc}
 use mathlib.Core.Bool.{Bool, true, false}
-use Rattle.text_scan.specs.Written.{Written}
+use Rattle.parsing.specs.scan.Written.{Written}
 use Rattle.parsing.specs.Grammar.{AllBlank, Zone, plain, zulu, Pieces, textOf, Reads}
 use Rattle.parsing.specs.Parsed.{timeFits, judged, parsed}
 use Rattle.parsing_laws.proofs.Ladder.{read-judged}

@@ -9,7 +9,7 @@ use lib.ListN.{length}
 use lib.Dec.{leb, eqb}
 use borrow.Author.Tests.{leb-true, eqb-true, le-leb, lt-leb, eq-eqb, ne-eqb}
 use Rattle.parsing.specs.Grammar.{Blank, AllBlank}
-use Rattle.text_scan.specs.Form.{isBlank, afterBlanks}
+use Rattle.parsing.specs.scan.Form.{isBlank, afterBlanks}
 
 -- ---- one byte
 pub blank-is : (c : ℕ) → Blank c → isBlank c ≡ true

@@ -12,7 +12,7 @@ use borrow.Author.Tests.{eqb-true, eqb-false, ne-eqb}
 use Rattle.numerals.specs.digits.Decimal.{isDigit, AllDigits}
 use Rattle.numerals.proofs.digits.Decimal.{digit-bounds, digit-within}
 use Rattle.parsing.specs.Grammar.{Blank, AllBlank, Fraction, none, some, Zone, plain, zulu}
-use Rattle.text_scan.specs.Form.{afterBlanks, byteAt, leading, fractionDigits, afterFraction, zuluFirst, endRight}
+use Rattle.parsing.specs.scan.Form.{afterBlanks, byteAt, leading, fractionDigits, afterFraction, zuluFirst, endRight}
 use Rattle.parsing.proofs.Judgement.{leading-digits}
 use Rattle.parsing_laws.proofs.Blanks.{all-skipped, none-left}
 

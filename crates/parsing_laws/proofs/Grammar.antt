@@ -9,10 +9,10 @@ use lib.ListN.{length, drop}
 use Rattle.refusals.specs.Outcome.{answer, refusal}
 use Rattle.numerals.specs.digits.Decimal.{value, number, isDigit}
 use Rattle.numerals.proofs.digits.Decimal.{value-append, digit-bounds}
-use Rattle.text_scan.specs.Written.{Written}
+use Rattle.parsing.specs.scan.Written.{Written}
 use Rattle.parsing.specs.Grammar.{Pieces, headOf, Reads}
-use Rattle.text_scan.specs.Form.{afterBlanks, byteAt, twoSay, dateRight, timeRight, fractionDigits, afterFraction, zuluFirst, endRight, rightForm, says, formOf}
-use Rattle.text_scan.proofs.Bytes.{whole-form}
+use Rattle.parsing.specs.scan.Form.{afterBlanks, byteAt, twoSay, dateRight, timeRight, fractionDigits, afterFraction, zuluFirst, endRight, rightForm, says, formOf}
+use Rattle.parsing.proofs.scan.Bytes.{whole-form}
 use Rattle.parsing_laws.proofs.Blanks.{no-blank, frontBlanks, front-blank, front-split, skipped}
 use Rattle.parsing_laws.proofs.Fractions.{Tail, tail-of, digits-of, after-of, fractionBytes, fraction-of, fraction-split, end-of, zoneBytes, afterZone, zone-of, zone-split, end-blank}
 use Rattle.parsing_laws.proofs.Heads.{Two, two-of, Four, four-of, both, apart, two-digits, four-digits, two-say, four-say, separator-is, is-separator, head, date-right, time-right, DateBytes, date-bytes, TimeBytes, time-bytes, nineteen, all-nineteen}

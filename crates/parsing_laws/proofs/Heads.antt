@@ -11,8 +11,8 @@ use borrow.Author.Tests.{ltb-true, ltb-false, eqb-true}
 use Rattle.numerals.specs.digits.Decimal.{number, isDigit, AllDigits, Digits}
 use Rattle.numerals.proofs.digits.Decimal.{digit-bounds, digit-within}
 use Rattle.parsing.specs.Grammar.{Separator, letter, space}
-use Rattle.text_scan.specs.Form.{byteAt, twoDigits, twoSay, isSeparator, dateRight, timeRight}
-use Rattle.text_scan.proofs.Runs.{worth-of}
+use Rattle.parsing.specs.scan.Form.{byteAt, twoDigits, twoSay, isSeparator, dateRight, timeRight}
+use Rattle.parsing.proofs.scan.Runs.{worth-of}
 
 -- ---- digits as bytes
 pub record Two (cs : List ℕ) : Type 0 where

@@ -14,9 +14,9 @@ use Rattle.refusals.specs.Outcome.{Outcome, answer, refusal, onward}
 use Rattle.calendar.specs.Calendar.{daysInMonth}
 use Rattle.calendar.specs.Refusals.{validDate}
 use Rattle.parsing.specs.declared.ParsedDateTime.{ParsedDateTime}
-use Rattle.text_scan.specs.Written.{Written}
+use Rattle.parsing.specs.scan.Written.{Written}
 use Rattle.parsing.specs.Grammar.{Reads}
-use Rattle.text_scan.specs.Form.{afterBlanks, rightForm, says, formOf}
+use Rattle.parsing.specs.scan.Form.{afterBlanks, rightForm, says, formOf}
 use Rattle.parsing.specs.Parsed.{fieldsOf, timeFits, judged, parsed}
 use Rattle.parsing_laws.specs.Verdict.{NoTime, hour-over, minute-over, second-over, SomeTime, Verdict, outside, too-many-digits, bad-date, bad-time, fields}
 use Rattle.parsing_laws.proofs.Grammar.{answered, a-reading, no-reading, refused-15}

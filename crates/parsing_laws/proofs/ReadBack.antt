@@ -16,7 +16,7 @@ use Rattle.numerals.proofs.digits.Decimal.{value-append, value-split}
 use Rattle.utc.proofs.text.ReadBack.{two-is, three-is, four-is}
 use Rattle.utc.proofs.text.Form.{two-digits, three-digits, four-digits}
 use Rattle.utc.specs.text.Text.{two, three, four, five, six, seven, afterYear, yearText, utcText}
-use Rattle.text_scan.specs.Written.{Written}
+use Rattle.parsing.specs.scan.Written.{Written}
 use Rattle.parsing.specs.Grammar.{Pieces, textOf, Reads, AllBlank, letter, some, plain}
 use Rattle.parsing.specs.Parsed.{fieldsOf, parsed}
 use Rattle.parsing_laws.specs.Verdict.{fields}

@@ -23,7 +23,7 @@ use Rattle.utc.proofs.laws.DayTexts.{has-leap}
 use Rattle.utc.proofs.laws.Numbers.{not-both}
 use Rattle.parsing.specs.declared.ParsedDateTime.{ParsedDateTime}
 use Rattle.parsing.specs.declared.ParsedUtc.{ParsedUtc}
-use Rattle.text_scan.specs.Written.{Written}
+use Rattle.parsing.specs.scan.Written.{Written}
 use Rattle.parsing.specs.Grammar.{Reads}
 use Rattle.parsing.specs.Parsed.{fieldsOf, parsed, dated, parsedUtc}
 use Rattle.parsing_laws.specs.Shown.{withDate}

@@ -8,7 +8,7 @@ use lib.IntN.{pos}
 use Rattle.refusals.specs.Outcome.{Outcome, answer, refusal}
 use Rattle.calendar.specs.Refusals.{validDate}
 use Rattle.parsing.specs.declared.ParsedDateTime.{ParsedDateTime}
-use Rattle.text_scan.specs.Written.{Written}
+use Rattle.parsing.specs.scan.Written.{Written}
 use Rattle.parsing.specs.Grammar.{Reads}
 use Rattle.parsing.specs.Parsed.{fieldsOf}
 

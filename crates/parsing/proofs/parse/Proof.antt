@@ -1,10 +1,10 @@
 -- `parse` meets its contract. Assumes nothing.
 use Rattle.parsing.proofs.Judgement.{parsed-is}
-use Rattle.text_scan.proofs.Bytes.{within-small}
-use Rattle.text_scan.specs.Scan.{scannedOutcome}
+use Rattle.parsing.proofs.scan.Bytes.{within-small}
+use Rattle.parsing.specs.scan.Scan.{scannedOutcome}
 use Rattle.parsing.specs.Judging.{judgedForm}
 use Rattle.parsing.specs.Parsed.{parsedOutcome}
-use Rattle.text_scan.specs.declared.Form.{Form}
+use Rattle.parsing.specs.declared.scan.Form.{Form}
 use Rattle.refusals.specs.Outcome.{Outcome, onward}
 use mathlib.Core.Path.{sym, ap, _∙_}
 use borrow.Author.Needs.{needs}

@@ -1,0 +1,3 @@
+-- The laws that the proofs of `parsing::scan` cite.
+pub mod Runs
+pub mod Bytes
