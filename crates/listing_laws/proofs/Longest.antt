@@ -33,9 +33,9 @@ use Rattle.utc.specs.text.Expanded.{expandedYear, expandedText}
 use Rattle.utc.specs.iso_texts.Expanded.{expandedSheet, isoTextExpanded}
 use Rattle.utc.proofs.iso_texts.TextCalls.{fields-given-by}
 use Rattle.utc.proofs.laws.DayTexts.{textBy, leapOn, has-text-by}
-use Rattle.sentences.specs.Texts.{texts, fixedText}
+use Rattle.reasons.specs.sentences.Texts.{texts, fixedText}
 use Rattle.reasons.specs.Offending.{offending, blockField}
-use Rattle.sentences.specs.Render.{namedText, render}
+use Rattle.reasons.specs.sentences.Render.{namedText, render}
 use Rattle.stamps.specs.declared.Telling.the-variants.{Numbers, Sentences}
 use Rattle.stamps.specs.Block.{blockOf, jd1Bits, jd2Bits, stampAt}
 use Rattle.stamps.specs.Listing.{lineRoom, told, came, textAt, shown, stampLine, blockRefused}

@@ -27,13 +27,13 @@ use Rattle.julian.proofs.Dates.{date-in-range}
 use Rattle.utc.proofs.laws.Numbers.{not-both, one-number, date-refusal}
 use Rattle.utc.proofs.iso_texts.TextCalls.{fields-refused-by, fields-given-by}
 use Rattle.utc.proofs.laws.DayTexts.{text-refused-by, has-text-by}
-use Rattle.sentences.specs.declared.Named.{Named}
-use Rattle.sentences.specs.declared.Named.the-variants.{Year, Sum, SecondSize, Size, WholeLength}
+use Rattle.reasons.specs.declared.sentences.Named.{Named}
+use Rattle.reasons.specs.declared.sentences.Named.the-variants.{Year, Sum, SecondSize, Size, WholeLength}
 use Rattle.reasons.specs.declared.Values.{Values}
 use Rattle.reasons.specs.declared.Values.the-variants.{Date, Block}
-use Rattle.sentences.specs.declared.Reason.{Reason}
+use Rattle.reasons.specs.declared.sentences.Reason.{Reason}
 use Rattle.reasons.specs.Offending.{offending, blockField}
-use Rattle.sentences.specs.Render.{render}
+use Rattle.reasons.specs.sentences.Render.{render}
 use Rattle.reasons.specs.Sentence.{reasonOf}
 use Rattle.reason_laws.proofs.Names.{year-told, sum-told, second-size-told, size-told, length-told}
 use Rattle.stamps.specs.declared.Telling.{Telling}

@@ -36,11 +36,11 @@ use Rattle.utc.specs.UnixTime.{unixDay, secondOfUnixDay, secondWithNanos, utcNe
 use Rattle.utc.proofs.UnixTimes.{nanos-refused, day-refused, day-given}
 use Rattle.utc.proofs.laws.DateNumbers.{from-calendar-numbers}
 use Rattle.stamps.specs.Block.{blockOf}
-use Rattle.sentences.specs.declared.Named.{Named}
-use Rattle.sentences.specs.declared.Named.the-variants.{NoField, Year, Month, Day, Hour, Minute, Second, Sum, Fraction, Nanos, FirstPart, SecondPart, Offset, SecondSize, Size, WholeLength}
+use Rattle.reasons.specs.declared.sentences.Named.{Named}
+use Rattle.reasons.specs.declared.sentences.Named.the-variants.{NoField, Year, Month, Day, Hour, Minute, Second, Sum, Fraction, Nanos, FirstPart, SecondPart, Offset, SecondSize, Size, WholeLength}
 use Rattle.reasons.specs.declared.Values.{Values}
 use Rattle.reasons.specs.declared.Values.the-variants.{NoValues, Date, Time, Parts, Number, Count, Block}
-use Rattle.sentences.specs.declared.Reason.{Reason}
+use Rattle.reasons.specs.declared.sentences.Reason.{Reason}
 use Rattle.reasons.specs.Offending.{offending, dateField, yearField, monthField, dayField, timeField, sumField, partField, partsField, floatField, nanosField, blockField}
 use Rattle.reasons.specs.Sentence.{reasonOf}
 use Rattle.reasons.proofs.FieldTests.{hour-wrong, minute-wrong}

@@ -12,11 +12,11 @@ use borrow.Author.Tests.{leb-true}
 use Rattle.numerals.specs.digits.Decimal.{AllDigits, digitsOf}
 use Rattle.numerals.proofs.digits.Decimal.{digits-all}
 use Rattle.numerals.specs.digits.Hexadecimal.{hexDigit, hexDigits, hex16}
-use Rattle.sentences.specs.declared.Named.{Named}
-use Rattle.sentences.specs.declared.Named.the-variants.{NoField, Year, Month, Day, Hour, Minute, Second, Sum, Fraction, Nanos, FirstPart, SecondPart, Offset, SecondSize, Size, WholeLength}
-use Rattle.sentences.specs.declared.Reason.{Reason}
-use Rattle.sentences.specs.Texts.{asciiBytes, texts, fixedText}
-use Rattle.sentences.specs.Render.{signedDigits, floatDigits, namedText, render}
+use Rattle.reasons.specs.declared.sentences.Named.{Named}
+use Rattle.reasons.specs.declared.sentences.Named.the-variants.{NoField, Year, Month, Day, Hour, Minute, Second, Sum, Fraction, Nanos, FirstPart, SecondPart, Offset, SecondSize, Size, WholeLength}
+use Rattle.reasons.specs.declared.sentences.Reason.{Reason}
+use Rattle.reasons.specs.sentences.Texts.{asciiBytes, texts, fixedText}
+use Rattle.reasons.specs.sentences.Render.{signedDigits, floatDigits, namedText, render}
 use Rattle.reason_laws.specs.Printable.{Printable}
 
 -- ---- printable

@@ -13,12 +13,12 @@ use borrow.Author.Tests.{ne-eqb}
 use Rattle.numerals.specs.digits.Decimal.{number, AllDigits, digitsOf}
 use Rattle.numerals.proofs.digits.Decimal.{number-digits, digits-all, digits-some}
 use Rattle.numerals.proofs.digits.Hexadecimal.{number-hex}
-use Rattle.sentences.proofs.Each.{EachBelow, from-each}
-use Rattle.sentences.specs.declared.Named.{Named}
-use Rattle.sentences.specs.declared.Named.the-variants.{NoField, Year, Month, Day, Hour, Minute, Second, Sum, Fraction, Nanos, FirstPart, SecondPart, Offset, SecondSize, Size, WholeLength}
-use Rattle.sentences.specs.declared.Reason.{Reason}
-use Rattle.sentences.specs.Texts.{texts, fixedText}
-use Rattle.sentences.specs.Render.{signedDigits, floatDigits, namedText, render}
+use Rattle.reasons.proofs.sentences.Each.{EachBelow, from-each}
+use Rattle.reasons.specs.declared.sentences.Named.{Named}
+use Rattle.reasons.specs.declared.sentences.Named.the-variants.{NoField, Year, Month, Day, Hour, Minute, Second, Sum, Fraction, Nanos, FirstPart, SecondPart, Offset, SecondSize, Size, WholeLength}
+use Rattle.reasons.specs.declared.sentences.Reason.{Reason}
+use Rattle.reasons.specs.sentences.Texts.{texts, fixedText}
+use Rattle.reasons.specs.sentences.Render.{signedDigits, floatDigits, namedText, render}
 use Rattle.reason_laws.specs.Reader.{startsWith, beginning, numberIn, readSigned, floatIn, fieldBy, readSentence, OfMachine}
 
 -- ---- the number

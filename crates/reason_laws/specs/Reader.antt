@@ -10,10 +10,10 @@ use lib.IntN.{ℤ, pos, negℤ}
 use lib.Ieee.{Float, binary64, ofBits, fits}
 use Rattle.numerals.specs.digits.Decimal.{number}
 use Rattle.numerals.specs.digits.Hexadecimal.{hexNumber}
-use Rattle.sentences.specs.declared.Named.{Named}
-use Rattle.sentences.specs.declared.Named.the-variants.{NoField, Year, Month, Day, Hour, Minute, Second, Sum, Fraction, Nanos, FirstPart, SecondPart, Offset, SecondSize, Size, WholeLength}
-use Rattle.sentences.specs.declared.Reason.{Reason}
-use Rattle.sentences.specs.Texts.{asciiBytes, texts, fixedText}
+use Rattle.reasons.specs.declared.sentences.Named.{Named}
+use Rattle.reasons.specs.declared.sentences.Named.the-variants.{NoField, Year, Month, Day, Hour, Minute, Second, Sum, Fraction, Nanos, FirstPart, SecondPart, Offset, SecondSize, Size, WholeLength}
+use Rattle.reasons.specs.declared.sentences.Reason.{Reason}
+use Rattle.reasons.specs.sentences.Texts.{asciiBytes, texts, fixedText}
 
 -- the second text begins with the first
 unfoldable pub startsWith : List ℕ → List ℕ → Bool

@@ -20,17 +20,17 @@ use Rattle.leap_table.specs.offsets.Offset.{inDay}
 use Rattle.numerals.specs.digits.Decimal.{digitsOf}
 use Rattle.numerals.proofs.digits.Decimal.{digits-few}
 use Rattle.numerals.proofs.digits.Hexadecimal.{hex-length}
-use Rattle.sentences.specs.declared.Named.{Named}
-use Rattle.sentences.specs.declared.Named.the-variants.{NoField, Year, Month, Day, Hour, Minute, Second, Sum, Fraction, Nanos, FirstPart, SecondPart, Offset, SecondSize, Size, WholeLength}
+use Rattle.reasons.specs.declared.sentences.Named.{Named}
+use Rattle.reasons.specs.declared.sentences.Named.the-variants.{NoField, Year, Month, Day, Hour, Minute, Second, Sum, Fraction, Nanos, FirstPart, SecondPart, Offset, SecondSize, Size, WholeLength}
 use Rattle.reasons.specs.declared.Values.{Values}
 use Rattle.reasons.specs.declared.Values.the-variants.{NoValues, Date, Time, Parts, Number, Count, Block}
-use Rattle.sentences.specs.declared.Reason.{Reason}
-use Rattle.sentences.specs.Texts.{asciiBytes, texts, fixedText}
+use Rattle.reasons.specs.declared.sentences.Reason.{Reason}
+use Rattle.reasons.specs.sentences.Texts.{asciiBytes, texts, fixedText}
 use Rattle.reasons.specs.Offending.{offending, yearField, monthField, dayField, dateField, timeField, sumField, partField, partsField, floatField, nanosField, blockField}
-use Rattle.sentences.specs.Render.{signedDigits, floatDigits, namedText, render}
+use Rattle.reasons.specs.sentences.Render.{signedDigits, floatDigits, namedText, render}
 use Rattle.reasons.specs.Sentence.{reasonOf, sentence}
 use Rattle.reasons.specs.Widths.{OfWidth}
-use Rattle.sentences.proofs.Numbers.{measured, past-28}
+use Rattle.reasons.proofs.sentences.Numbers.{measured, past-28}
 
 text-short : (k : ℕ) → length (fixedText k) ≤ 50
 text-short k = by (leb k 28) refl

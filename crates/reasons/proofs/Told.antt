@@ -3,10 +3,10 @@ use Prim.Native.Nat.{ℕ}
 use mathlib.Core.Path.{_≡_, sym, ap, _∙_}
 use Rattle.refusals.specs.Outcome.{Outcome, answer, refusal, onward}
 use Rattle.reasons.specs.declared.Values.{Values}
-use Rattle.sentences.specs.declared.Reason.{Reason}
+use Rattle.reasons.specs.declared.sentences.Reason.{Reason}
 use Rattle.reasons.specs.declared.ReasonAnswer.{ReasonAnswer}
 use Rattle.reasons.specs.declared.ReasonAnswer.the-variants.{Told, Refused}
-use Rattle.sentences.specs.Render.{render}
+use Rattle.reasons.specs.sentences.Render.{render}
 use Rattle.reasons.specs.Sentence.{reasonOf, reasonOutcome, sentence}
 
 module _ (k : ℕ) (v : Values) (r : ReasonAnswer) (e : reasonOutcome r ≡ reasonOf k v) where

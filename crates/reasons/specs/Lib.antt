@@ -2,3 +2,4 @@
 pub mod Offending
 pub mod Sentence
 pub mod Widths
+pub mod sentences

@@ -5,8 +5,8 @@ use mathlib.Core.Bool.{cond, _&&_}
 use mathlib.Core.List.{List}
 use lib.Dec.{leb}
 use Rattle.refusals.specs.Outcome.{Outcome, answer, refusal, onward}
-use Rattle.sentences.specs.declared.Reason.{Reason}
-use Rattle.sentences.specs.Render.{render}
+use Rattle.reasons.specs.declared.sentences.Reason.{Reason}
+use Rattle.reasons.specs.sentences.Render.{render}
 use Rattle.reasons.specs.declared.Values.{Values}
 use Rattle.reasons.specs.declared.ReasonAnswer.{ReasonAnswer}
 use Rattle.reasons.specs.declared.ReasonAnswer.the-variants.{Told, Refused}

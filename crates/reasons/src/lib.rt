@@ -1,8 +1,9 @@
 // A refusal's reason as an English sentence: which field is at fault, by the number and the values of its test, and the sentence of that.
+pub mod sentences;
 mod fields;
 
-use sentences::Named;
-use sentences::Reason;
+use crate::sentences::Named;
+use crate::sentences::Reason;
 use utc::text::TextAnswer;
 ghost use mathlib.Core.Path.{_≡_};
 ghost use Rattle.utc.specs.iso_texts.TextCall.{TextCall};
@@ -71,6 +72,6 @@ pub fn put_reason(number: u32, values: Values, out: &mut [u8]) -> TextAnswer
 {
     match reason_of(number, values) {
         ReasonAnswer::Refused(refused) => TextAnswer::Refused(refused),
-        ReasonAnswer::Told(reason) => sentences::put_sentence(reason, out),
+        ReasonAnswer::Told(reason) => crate::sentences::put_sentence(reason, out),
     }
 }

@@ -25,7 +25,7 @@ use Rattle.julian.proofs.Dates.{date-in-range, read-fields}
 use Rattle.reasons.specs.declared.Values.{Values}
 use Rattle.reasons.specs.declared.Values.the-variants.{Date, Parts, Block}
 use Rattle.reasons.specs.Offending.{offending}
-use Rattle.sentences.specs.Render.{render}
+use Rattle.reasons.specs.sentences.Render.{render}
 use Rattle.reasons.specs.Sentence.{sentence}
 use Rattle.reasons.specs.Widths.{OfWidth}
 use Rattle.reasons.proofs.SentenceLengths.{sentence-is}

@@ -17,7 +17,7 @@ use Rattle.utc.specs.iso_texts.Expanded.{isoTextExpanded}
 use Rattle.reasons.specs.declared.Values.{Values}
 use Rattle.reasons.specs.declared.Values.the-variants.{Date, Parts, Block}
 use Rattle.reasons.specs.Offending.{offending}
-use Rattle.sentences.specs.Render.{render}
+use Rattle.reasons.specs.sentences.Render.{render}
 use Rattle.stamps.specs.declared.Telling.{Telling}
 use Rattle.stamps.specs.declared.Telling.the-variants.{Numbers, Sentences}
 use Rattle.stamps.specs.Block.{blockOf, stampAt}

@@ -1,7 +1,7 @@
 -- `fields::day_field` meets its contract. Assumes nothing.
 use mathlib.Core.Path.{_≡_, ap, subst, _∙_}
 use mir.Facts.{toZ-ofZ}
-use Rattle.sentences.specs.declared.Named.the-variants.{Day}
+use Rattle.reasons.specs.declared.sentences.Named.the-variants.{Day}
 use mathlib.Core.Bool.{true, false}
 use Prim.Native.Nat.{ℕ, _≤_, _<_}
 use lib.IntN.{pos}

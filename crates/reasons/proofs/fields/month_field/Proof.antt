@@ -3,7 +3,7 @@ use mathlib.Core.Path.{ap, _∙_}
 use mathlib.Core.Bool.{true, false}
 use lib.IntN.{pos}
 use mir.Facts.{toZ-ofZ}
-use Rattle.sentences.specs.declared.Named.the-variants.{Month}
+use Rattle.reasons.specs.declared.sentences.Named.the-variants.{Month}
 use Rattle.calendar.proofs.Signs.{lt-left, lt-right}
 use Rattle.reasons.proofs.FieldTests.{month-low, month-high, month-passes}
 use Rattle.reasons.proofs.fields.month_field.Statement.{statement}

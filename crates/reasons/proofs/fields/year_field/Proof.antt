@@ -3,7 +3,7 @@ use mathlib.Core.Path.{ap, _∙_}
 use mathlib.Core.Bool.{true, false}
 use lib.IntN.{negsuc}
 use mir.Facts.{toZ-ofZ}
-use Rattle.sentences.specs.declared.Named.the-variants.{Year}
+use Rattle.reasons.specs.declared.sentences.Named.the-variants.{Year}
 use Rattle.calendar.proofs.Signs.{lt-left}
 use Rattle.reasons.proofs.FieldTests.{year-named, year-passes}
 use Rattle.reasons.proofs.fields.year_field.Statement.{statement}

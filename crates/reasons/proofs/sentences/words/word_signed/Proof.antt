@@ -1,0 +1,32 @@
+-- `words::word_signed` meets its contract. Assumes nothing.
+use native.Mathlib.Omega.{arith}
+use denote.Ref.{now}
+use mathlib.Core.Path.{ap}
+use mir.Facts.{toZ-ofZ}
+use Rattle.reasons.specs.sentences.Render.{signedDigits}
+use Rattle.numerals.proofs.digits.Places.{placed-as}
+use Rattle.reasons.specs.sentences.Shown.{wordText}
+use Rattle.reasons.proofs.sentences.Eights.{behind-then}
+use borrow.Author.Needs.{needs}
+use Rattle.reasons.proofs.sentences.words.word_signed.Statement.{statement}
+use Rattle.reasons.proofs.sentences.words.word_signed.Tie as tie
+
+word-requires : tie.Need-word-requires
+word-requires c κs = search needs
+
+signed-requires : tie.Need-signed-requires
+signed-requires c κs = search needs
+
+same-length : tie.Need-same-length
+same-length c = search needs
+
+returns : tie.Need-returns
+returns c =
+    let h = c .before .before in
+    let w = h .before .before .before .before in
+    let st = w .before .before .before in
+    let p = placed-as (ap signedDigits (toZ-ofZ (st .fits .n))) (h .signed .ensures .0) in
+    (behind-then (now (st .args .dst)) (wordText (st .args .w)) (st .args .at) (w .word .ensures .0) p (omega (arith, w .word .ensures .1, st .pre)), omega (arith, h .signed .ensures .1, w .word .ensures .1, st .pre))
+
+pub word-signed-spec : {M : Type 1} → statement M
+word-signed-spec = tie.close (tie.spec word-requires signed-requires same-length returns)
