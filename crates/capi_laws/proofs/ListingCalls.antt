@@ -22,13 +22,13 @@ use Rattle.stamps.specs.declared.Telling.the-variants.{Numbers, Sentences}
 use Rattle.stamps.specs.Listing.{lineRoom, listing}
 use Rattle.stamps.specs.Widths.{Wide, InWidth}
 use Rattle.stamps.specs.Parts.{linesIn, linesFrom, partLines, partText}
-use Rattle.listing_laws.specs.LineEnds.{lineEnds}
+use Rattle.stamps.specs.listing_laws.LineEnds.{lineEnds}
 use Rattle.stamps.proofs.Blocks.{few-lines}
 use Rattle.stamps.proofs.Parts.{held-few}
 use Rattle.stamps.proofs.Tellings.{bytes-width}
-use Rattle.listing_laws.proofs.Whole.{all-lines}
+use Rattle.stamps.proofs.listing_laws.Whole.{all-lines}
 use Rattle.stamps.proofs.Lengths.{part-fits, lines-add}
-use Rattle.listing_laws.proofs.LineEnds.{ends-most, part-ends, part-some}
+use Rattle.stamps.proofs.listing_laws.LineEnds.{ends-most, part-ends, part-some}
 use Rattle.lent_bytes.specs.TableBytes.{tableBytes}
 use Rattle.c_answers.specs.Delivery.{code, Delivered}
 use Rattle.lent_calls.specs.ListingPart.{listingPart}

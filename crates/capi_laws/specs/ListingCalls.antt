@@ -8,7 +8,7 @@ use lib.IntN.{pos}
 use Rattle.leap_table.specs.rows.Table.{Row}
 use Rattle.stamps.specs.declared.Telling.{Telling}
 use Rattle.stamps.specs.Listing.{lineRoom}
-use Rattle.listing_laws.specs.LineEnds.{lineEnds}
+use Rattle.stamps.specs.listing_laws.LineEnds.{lineEnds}
 use Rattle.c_answers.specs.Delivery.{Delivered}
 use Rattle.lent_calls.specs.ListingPart.{listingPart}
 

@@ -8,3 +8,5 @@ pub mod LateDates
 pub mod Lines
 pub mod Parts
 pub mod Lengths
+pub mod listing_laws
+pub mod reason_laws

@@ -3,3 +3,5 @@ pub mod Block
 pub mod Listing
 pub mod Parts
 pub mod Widths
+pub mod listing_laws
+pub mod reason_laws

@@ -17,11 +17,11 @@ use Rattle.calendar.proofs.NextDates.{first-false}
 use Rattle.leap_table.specs.rows.Table.{Row}
 use Rattle.utc.proofs.laws.Numbers.{not-both}
 use Rattle.utc.proofs.laws.ExpandedTexts.{expanded-not-finite}
 use Rattle.stamps.specs.declared.Telling.{Telling}
 use Rattle.stamps.specs.declared.Telling.the-variants.{Numbers}
 use Rattle.stamps.specs.Block.{blockOf, jd1Bits, jd2Bits, stampAt}
-use Rattle.listing_laws.specs.NotFinite.{NotFinite, isNotFinite, notFiniteIn, HasText}
+use Rattle.stamps.specs.listing_laws.NotFinite.{NotFinite, isNotFinite, notFiniteIn, HasText}
 use Rattle.stamps.specs.Listing.{numeral, refusedWord, told, textAt, shown, stampLine, stampLines, oneIfRefused, refusedIn, header, listingOf, listing}
 
 no-second : (a b : Bool) → b ≡ false → a && b ≡ false
 no-second true b e = e

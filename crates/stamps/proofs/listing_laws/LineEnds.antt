@@ -25,15 +25,15 @@ use Rattle.utc.specs.iso_texts.IsoText.{midnight, nextMidnightTextBy, shownText
 use Rattle.utc.specs.iso_texts.Expanded.{isoTextExpanded}
 use Rattle.reasons.specs.declared.Values.{Values}
 use Rattle.reasons.specs.Offending.{offending}
-use Rattle.reason_laws.specs.Printable.{Printable}
-use Rattle.reason_laws.proofs.Printed.{sentence-printable}
+use Rattle.stamps.specs.reason_laws.Printable.{Printable}
+use Rattle.stamps.proofs.reason_laws.Printed.{sentence-printable}
 use Rattle.stamps.specs.declared.Telling.{Telling}
 use Rattle.stamps.specs.declared.Telling.the-variants.{Numbers, Sentences}
 use Rattle.stamps.specs.Block.{blockOf}
 use Rattle.stamps.specs.Listing.{refusedWord, utcListingWords, blockWord, lineRoom, told, textAt, refusedValues, shown, stampLine, refusedIn, header, blockRefused}
 use Rattle.stamps.specs.Parts.{lineOf, linesIn, linesFrom, partLines, partText}
-use Rattle.listing_laws.specs.LineEnds.{lineEnds}
+use Rattle.stamps.specs.listing_laws.LineEnds.{lineEnds}
 use Rattle.stamps.proofs.Parts.{held-some}
 
 pub ends-append : (a b : List ℕ) → lineEnds (a ++ b) ≡ lineEnds a + lineEnds b
 unfolding lineEnds

@@ -35,16 +35,16 @@ use Rattle.reasons.specs.declared.sentences.Reason.{Reason}
 use Rattle.reasons.specs.Offending.{offending, blockField}
 use Rattle.reasons.specs.sentences.Render.{render}
 use Rattle.reasons.specs.Sentence.{reasonOf}
-use Rattle.reason_laws.proofs.Names.{year-told, sum-told, second-size-told, size-told, length-told}
+use Rattle.stamps.proofs.reason_laws.Names.{year-told, sum-told, second-size-told, size-told, length-told}
 use Rattle.stamps.specs.declared.Telling.{Telling}
 use Rattle.stamps.specs.declared.Telling.the-variants.{Numbers, Sentences}
 use Rattle.stamps.specs.Block.{blockOf, stampAt}
 use Rattle.stamps.specs.Listing.{numeral, lineRoom, told, came, textAt, valuesBy, refusedValues, shown, stampLine, header, blockWord, blockValues, blockRefused, listingOf, listing}
 use Rattle.stamps.specs.Parts.{lineOf}
 use Rattle.stamps.proofs.Tellings.{bytes-width}
 use Rattle.stamps.proofs.Lengths.{line-most}
-use Rattle.listing_laws.specs.NotFinite.{NotFinite}
-use Rattle.listing_laws.proofs.NotFinite.{not-finite-refused}
+use Rattle.stamps.specs.listing_laws.NotFinite.{NotFinite}
+use Rattle.stamps.proofs.listing_laws.NotFinite.{not-finite-refused}
 
 -- ---- what the two listings share
 -- the header

@@ -17,7 +17,7 @@ use Rattle.reasons.specs.declared.sentences.Named.the-variants.{NoField, Year, 
 use Rattle.reasons.specs.declared.sentences.Reason.{Reason}
 use Rattle.reasons.specs.sentences.Texts.{asciiBytes, texts, fixedText}
 use Rattle.reasons.specs.sentences.Render.{signedDigits, floatDigits, namedText, render}
-use Rattle.reason_laws.specs.Printable.{Printable}
+use Rattle.stamps.specs.reason_laws.Printable.{Printable}
 
 -- ---- printable
 pub printable-append : (a b : List ℕ) → Printable a → Printable b → Printable (a ++ b)

@@ -36,13 +36,13 @@ use Rattle.utc.proofs.laws.DayTexts.{textBy, leapOn, has-text-by}
 use Rattle.reasons.specs.sentences.Texts.{texts, fixedText}
 use Rattle.reasons.specs.Offending.{offending, blockField}
 use Rattle.reasons.specs.sentences.Render.{namedText, render}
 use Rattle.stamps.specs.declared.Telling.the-variants.{Numbers, Sentences}
 use Rattle.stamps.specs.Block.{blockOf, jd1Bits, jd2Bits, stampAt}
 use Rattle.stamps.specs.Listing.{lineRoom, told, came, textAt, shown, stampLine, blockRefused}
 use Rattle.stamps.specs.Parts.{lineOf}
 use Rattle.stamps.specs.Widths.{Wide}
 use Rattle.stamps.proofs.Lengths.{line-most}
-use Rattle.listing_laws.proofs.Numerals.{digits-whole}
+use Rattle.stamps.proofs.listing_laws.Numerals.{digits-whole}
 
 -- ---- every line, of every list of bytes and by any rows
 pub number-line-most : (rows : List Row) (s : List ℕ) (line : ℕ) → length (lineOf Numbers rows (blockOf s) s line) ≤ 33

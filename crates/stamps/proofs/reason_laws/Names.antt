@@ -44,7 +44,7 @@ use Rattle.reasons.specs.declared.sentences.Reason.{Reason}
 use Rattle.reasons.specs.Offending.{offending, dateField, yearField, monthField, dayField, timeField, sumField, partField, partsField, floatField, nanosField, blockField}
 use Rattle.reasons.specs.Sentence.{reasonOf}
 use Rattle.reasons.proofs.FieldTests.{hour-wrong, minute-wrong}
-use Rattle.reason_laws.specs.Groups.{reads}
+use Rattle.stamps.specs.reason_laws.Groups.{reads}
 
 -- number k with this field
 abbrev names : ℕ → Named → Outcome Reason

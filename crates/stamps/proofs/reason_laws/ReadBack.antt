@@ -19,7 +19,7 @@ use Rattle.reasons.specs.declared.sentences.Named.the-variants.{NoField, Year, 
 use Rattle.reasons.specs.declared.sentences.Reason.{Reason}
 use Rattle.reasons.specs.sentences.Texts.{texts, fixedText}
 use Rattle.reasons.specs.sentences.Render.{signedDigits, floatDigits, namedText, render}
-use Rattle.reason_laws.specs.Reader.{startsWith, beginning, numberIn, readSigned, floatIn, fieldBy, readSentence, OfMachine}
+use Rattle.stamps.specs.reason_laws.Reader.{startsWith, beginning, numberIn, readSigned, floatIn, fieldBy, readSentence, OfMachine}
 
 -- ---- the number
 abbrev NumberRead : ℕ → Type 0

@@ -1,1 +1,0 @@
-// Laws of the reasons in sentences; there is no code here.
