@@ -12,7 +12,7 @@ use Rattle.line_up.specs.declared.LineUpAnswer.{LineUpAnswer}
 use Rattle.line_up.specs.Runs.{allTested, run, numbersAfter, ordered}
 use Rattle.line_up.specs.LineUp.{deadAt, soonerAt, countOutcome, smaller, leastRoom, lineRefusal, lineWritten, putInLine, LinedUp, result, linedUp}
 use Rattle.line_up.proofs.Places.{after-length, ordered-length}
-use Rattle.keep_dates.specs.Asked.{Lent}
+use Rattle.line_up.specs.keep_dates.Asked.{Lent}
 use Rattle.line_up.proofs.Lines.{Rooms, rooms, run-lent, runTurned-is, runTurned-length}
 use Rattle.line_up.specs.Asked.{Mergeable, Merged, runTurned}
 use Rattle.line_up.proofs.Cases.{Fine, fine}

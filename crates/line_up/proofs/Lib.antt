@@ -1,4 +1,4 @@
--- The laws of lining up: lists, then the loops and the call. The theorems stand in line_up_laws.
+-- The laws of lining up: lists, then the loops and the call. The theorems stand in line_up::laws.
 pub mod Merges
 pub mod Zeros
 pub mod Marks
@@ -12,3 +12,4 @@ pub mod Dead
 pub mod Merging
 pub mod Lines
 pub mod Calls
+pub mod laws

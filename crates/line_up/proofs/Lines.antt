@@ -9,8 +9,8 @@ use lib.Dec.{ltb}
 use lib.ListN.{length, getD, drop}
 use lib.Seq.{drop-drop}
 use borrow.Author.Tests.{ltb-true, ltb-false}
-use Rattle.keep_most.proofs.Housing.{run-is, run-long, run-number}
-use Rattle.keep_dates.specs.Asked.{Alive, Lent}
+use Rattle.line_up.proofs.keep_most.Housing.{run-is, run-long, run-number}
+use Rattle.line_up.specs.keep_dates.Asked.{Alive, Lent}
 use Rattle.line_up.specs.Runs.{allTested, run}
 use Rattle.line_up.specs.LineUp.{deadAt, smaller, leastRoom}
 use Rattle.line_up.specs.Asked.{runTurned}

@@ -4,7 +4,7 @@ use mathlib.Core.Path.{_≡_}
 use mathlib.Core.List.{List, _++_}
 use mathlib.Core.Bool.{Bool}
 use lib.ListN.{length, drop}
-use Rattle.keep_most.specs.Piles.{runKept}
+use Rattle.line_up.specs.keep_most.Piles.{runKept}
 use Rattle.line_up.specs.Runs.{ordered}
 use Rattle.line_up.specs.LineUp.{placesBytes}
 

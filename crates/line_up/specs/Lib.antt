@@ -2,3 +2,6 @@
 pub mod Runs
 pub mod LineUp
 pub mod Asked
+pub mod keep_most
+pub mod keep_dates
+pub mod laws

@@ -7,6 +7,8 @@ ghost use Rattle.numerals.specs.little_endian.LittleEndian.{fourBytes};
 ghost use Rattle.line_up.specs.Runs as R;
 ghost use Rattle.line_up.specs.LineUp as U;
 ghost use Rattle.line_up.specs.Asked as N;
+pub mod keep_dates;
+pub mod keep_most;
 
 // How many stamps are ordered, or the number of the refusal.
 pub enum LineUpAnswer {
@@ -236,9 +238,9 @@ pub fn line_up(
     }
     let rest = first + second;
     turn_dead_away(jd1s, jd2s, numbers);
-    keep_dates::keep_most(jd1s, jd2s, numbers, 0, first, tails, ranks);
-    keep_dates::keep_most(jd1s, jd2s, numbers, first, rest, tails, ranks);
-    keep_dates::keep_most(jd1s, jd2s, numbers, rest, n, tails, ranks);
+    crate::keep_dates::keep_most(jd1s, jd2s, numbers, 0, first, tails, ranks);
+    crate::keep_dates::keep_most(jd1s, jd2s, numbers, first, rest, tails, ranks);
+    crate::keep_dates::keep_most(jd1s, jd2s, numbers, rest, n, tails, ranks);
     let many = merge(jd1s, jd2s, numbers, first, rest, out) as u32;
     LineUpAnswer::Ordered(many)
 }

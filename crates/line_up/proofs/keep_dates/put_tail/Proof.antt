@@ -1,0 +1,28 @@
+-- `line_up::keep_dates::put_tail` meets its contract. Assumes nothing.
+use native.Mathlib.Omega.{arith}
+use mathlib.Core.Path.{_≡_, refl, sym, ap, _∙_}
+use borrow.Author.Needs.{needs}
+use borrow.Author.Tests.{eq-eqb, ne-eqb}
+use Rattle.line_up.proofs.keep_dates.put_tail.Statement.{statement}
+use Rattle.line_up.proofs.keep_dates.put_tail.Tie as tie
+
+sub-put-cell : tie.Need-sub-put-cell
+sub-put-cell c = search needs
+
+put-cell-requires : tie.Need-put-cell-requires
+put-cell-requires c κs = search needs
+
+same-length : tie.Need-same-length
+same-length c = search needs
+
+returns : tie.Need-returns
+returns c =
+    let d = c .before .before .before in
+    let a = d .before .before .before .args in
+    rw (ne-eqb (a .r) 0 (λ e. omega (arith, e, c .before .before .before .before .if1 .taken))) (c .before .before .put-cell .ensures)
+
+returns-2 : tie.Need-returns-2
+returns-2 c = rw (eq-eqb (c .before .before .args .r) 0 (omega (arith, c .if1 .left)))
+
+pub put-tail-spec : {M : Type 1} → statement M
+put-tail-spec = tie.close (tie.spec sub-put-cell put-cell-requires same-length returns returns-2)

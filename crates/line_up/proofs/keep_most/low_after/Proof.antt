@@ -1,0 +1,16 @@
+-- `line_up::keep_most::low_after` meets its contract. Assumes nothing.
+use borrow.Author.Needs.{needs}
+use Rattle.line_up.proofs.keep_most.low_after.Statement.{statement}
+use Rattle.line_up.proofs.keep_most.low_after.Tie as tie
+
+returns : tie.Need-returns
+returns c = search needs
+
+add-result : tie.Need-add-result
+add-result c = search needs
+
+returns-2 : tie.Need-returns-2
+returns-2 c = rw (c .if1 .left)
+
+pub low-after-spec : {M : Type 1} → statement M
+low-after-spec = tie.close (tie.spec returns add-result returns-2)

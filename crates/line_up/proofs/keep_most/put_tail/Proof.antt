@@ -1,0 +1,28 @@
+-- `line_up::keep_most::put_tail` meets its contract. Assumes nothing.
+use native.Mathlib.Omega.{arith}
+use mathlib.Core.Path.{_≡_, refl, sym, ap, _∙_}
+use borrow.Author.Needs.{needs}
+use borrow.Author.Tests.{eq-eqb, ne-eqb}
+use Rattle.line_up.proofs.keep_most.put_tail.Statement.{statement}
+use Rattle.line_up.proofs.keep_most.put_tail.Tie as tie
+
+sub-put-at : tie.Need-sub-put-at
+sub-put-at c = search needs
+
+put-at-requires : tie.Need-put-at-requires
+put-at-requires c κs = search needs
+
+same-length : tie.Need-same-length
+same-length c = search needs
+
+returns : tie.Need-returns
+returns c =
+    let d = c .before .before .before in
+    let a = d .before .before .before .args in
+    rw (ne-eqb (a .r) 0 (λ e. omega (arith, e, c .before .before .before .before .if1 .taken))) (c .before .before .put-at .ensures)
+
+returns-2 : tie.Need-returns-2
+returns-2 c = rw (eq-eqb (c .before .before .args .r) 0 (omega (arith, c .if1 .left)))
+
+pub put-tail-spec : {M : Type 1} → statement M
+put-tail-spec = tie.close (tie.spec sub-put-at put-at-requires same-length returns returns-2)

@@ -1,6 +1,0 @@
--- The laws of the lining up: any two of a list, each place once, who is dead, who is turned away, and last the theorems.
-pub mod Pairwise
-pub mod Once
-pub mod Dead
-pub mod Judging
-pub mod Theorems
