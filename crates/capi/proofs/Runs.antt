@@ -11,12 +11,12 @@ use mir.Facts.{toZ-pos}
 use Rattle.refusals.specs.Outcome.{Outcome, answer, refusal}
 use Rattle.leap_table.specs.rows.Table.{Row}
 use Rattle.leap_table.specs.rows.Lent.{unlessRefused}
-use Rattle.formula_runs.specs.declared.RunAnswer.{RunAnswer}
-use Rattle.formula_runs.specs.declared.RunAnswer.the-variants.{Converted, Refused}
-use Rattle.formula_runs.specs.Run.{RunCall, runOutcome, runCall}
+use Rattle.runs.specs.declared.by_formula.RunAnswer.{RunAnswer}
+use Rattle.runs.specs.declared.by_formula.RunAnswer.the-variants.{Converted, Refused}
+use Rattle.runs.specs.by_formula.Run.{RunCall, runOutcome, runCall}
 use Rattle.runs.specs.Run.{runBy, convertedRun}
-use Rattle.formula_runs.specs.Formula.{formulaRun}
-use Rattle.formula_runs.proofs.Calls.{formula-count}
+use Rattle.runs.specs.by_formula.Formula.{formulaRun}
+use Rattle.runs.proofs.by_formula.Calls.{formula-count}
 use Rattle.runs.proofs.Calls.{run-count, table-refused, table-taken}
 use Rattle.lent_bytes.specs.TableBytes.{tableBytes}
 use Rattle.c_answers.specs.Delivery.{code}

@@ -4,7 +4,7 @@ use mathlib.Core.List.{List}
 use Prim.Native.Nat.{ℕ}
 use lib.IntN.{ℤ}
 use Rattle.c_answers.specs.Delivery.{code}
-use Rattle.formula_runs.specs.Run.{RunCall}
+use Rattle.runs.specs.by_formula.Run.{RunCall}
 
 -- the call returned r, and the dates and the numbers are as c says: all their bytes
 pub record RunDelivered (c : RunCall) (r : ℤ) (out1 out2 numbers : List ℕ) : Type 0 where

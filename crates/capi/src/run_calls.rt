@@ -1,10 +1,10 @@
 // A run of stamps from one scale to another: by the way through TAI, and by one formula.
-ghost use Rattle.formula_runs.specs.Formula.{formulaRun};
+ghost use Rattle.runs.specs.by_formula.Formula.{formulaRun};
 ghost use Rattle.runs.specs.Run.{convertedRun};
 ghost use Rattle.lent_bytes.specs.TableBytes.{tableBytes};
 ghost use Rattle.capi.specs.RunDelivery.{RunDelivered};
 use c_answers::refused;
-use formula_runs::RunAnswer;
+use runs::by_formula::RunAnswer;
 use lent_bytes::arrays;
 
 #[no_mangle]
@@ -58,7 +58,7 @@ pub extern "C" fn ct_formula_run(
 ) -> i64
     ensures { λ r. ⌜ RunDelivered (formulaRun from to (now (jd1 .entry)) (now (jd2 .entry)) (now (offsets .entry)) (now (out1 .entry)) (now (out2 .entry)) (now (numbers .entry))) r (now (out1 .exit)) (now (out2 .exit)) (now (numbers .exit)) ⌝ }
 {
-    match formula_runs::formula_run(from, to, jd1, jd2, offsets, out1, out2, numbers) {
+    match runs::by_formula::formula_run(from, to, jd1, jd2, offsets, out1, out2, numbers) {
         RunAnswer::Converted(n) => n as i64,
         RunAnswer::Refused(number) => refused(number),
     }

@@ -11,12 +11,12 @@ use borrow.Author.Tests.{eq-eqb, ne-eqb, le-leb, lt-leb, eqb-true, leb-true}
 use Rattle.refusals.specs.Outcome.{Outcome, answer, refusal}
 use Rattle.leap_table.specs.rows.Table.{Row}
 use Rattle.leap_table.specs.rows.Lent.{unlessRefused}
-use Rattle.formula_runs.specs.declared.RunAnswer.the-variants as Answer
-use Rattle.scale_ways.specs.Ways.{isRunScale}
-use Rattle.formula_runs.specs.Run.{runOutcome, refusedAmong, runCall, runWritten}
+use Rattle.runs.specs.declared.by_formula.RunAnswer.the-variants as Answer
+use Rattle.runs.specs.ways.Ways.{isRunScale}
+use Rattle.runs.specs.by_formula.Run.{runOutcome, refusedAmong, runCall, runWritten}
 use Rattle.runs.specs.Run.{stampAnswer, runRefusal, runBy, convertedRun}
-use Rattle.formula_runs.specs.Asked.{Roomy, RunPut}
-use Rattle.formula_runs.proofs.Puts.{at-most}
+use Rattle.runs.specs.by_formula.Asked.{Roomy, RunPut}
+use Rattle.runs.proofs.by_formula.Puts.{at-most}
 
 -- ---- the refusals, by the outcomes of the tests
 module _ (from to size1 size2 room1 room2 room : ℕ) where

@@ -14,9 +14,9 @@ use Rattle.leap_table.specs.rows.Table.{Row}
 use Rattle.julian.proofs.shifts.Outcomes.{and-left, and-right}
 use Rattle.scales.specs.Conversions.{answerOf, gps-tai, tt-tai}
 use Rattle.line_up.specs.LineUp.{stampOf}
-use Rattle.formula_runs.specs.Run.{RunCall, runCall, runWritten}
-use Rattle.formula_runs.specs.Formula.{formulaOf, byFormula, formulaAnswer, takesOffset, lengthsRefusal, formulaRefusal, formulaRun}
-use Rattle.scale_ways.specs.Ways.{isRunScale, intoTai, outOfTai, between, wayOf}
+use Rattle.runs.specs.by_formula.Run.{RunCall, runCall, runWritten}
+use Rattle.runs.specs.by_formula.Formula.{formulaOf, byFormula, formulaAnswer, takesOffset, lengthsRefusal, formulaRefusal, formulaRun}
+use Rattle.runs.specs.ways.Ways.{isRunScale, intoTai, outOfTai, between, wayOf}
 use Rattle.runs.specs.Run.{stampAnswer, runRefusal, runBy}
 use Rattle.runs.specs.Asked.{isShort}
 

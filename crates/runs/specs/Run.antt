@@ -1,5 +1,5 @@
 -- A run of stamps from one scale to another: the way of each stamp, and what is refused whole. This project's own, for the customer's nine million stamps of one recorder. What the
--- three lent slices hold is `runWritten` (`formula_runs`). Refusals by documents 01's and 02's numbers: 18 an unknown scale, 14 a broken length, 12 sizes that differ, 11 too few
+-- three lent slices hold is `runWritten` (`runs::by_formula`). Refusals by documents 01's and 02's numbers: 18 an unknown scale, 14 a broken length, 12 sizes that differ, 11 too few
 -- places. Assumes nothing.
 use Prim.Native.Nat.{ℕ, _/_, _%_}
 use mathlib.Core.Bool.{cond, _&&_}
@@ -10,8 +10,8 @@ use Rattle.refusals.specs.Outcome.{Outcome, answer, refusal}
 use Rattle.julian.specs.declared.JulianDate.{JulianDate}
 use Rattle.leap_table.specs.rows.Table.{Row}
 use Rattle.line_up.specs.LineUp.{stampOf}
-use Rattle.formula_runs.specs.Run.{RunCall, runCall, runWritten}
-use Rattle.scale_ways.specs.Ways.{isRunScale, wayOf}
+use Rattle.runs.specs.by_formula.Run.{RunCall, runCall, runWritten}
+use Rattle.runs.specs.ways.Ways.{isRunScale, wayOf}
 
 -- ---- one stamp
 

@@ -8,13 +8,13 @@ ghost use Rattle.numerals.specs.little_endian.LittleEndian.{u64At, eightBytes};
 ghost use Rattle.julian.specs.JulianDate.{julianOutcome};
 ghost use Rattle.leap_table.specs.rows.Lent.{rowsIn, tableOf};
 ghost use Rattle.line_up.specs.LineUp.{stampOf};
-ghost use Rattle.scale_ways.specs.Ways.{isRunScale};
-ghost use Rattle.formula_runs.specs.Run.{runOutcome, runCall};
-ghost use Rattle.formula_runs.specs.Asked.{Roomy, HasPlace, StampPut, RunPut};
+ghost use Rattle.runs.specs.ways.Ways.{isRunScale};
+ghost use Rattle.runs.specs.by_formula.Run.{runOutcome, runCall};
+ghost use Rattle.runs.specs.by_formula.Asked.{Roomy, HasPlace, StampPut, RunPut};
 ghost use Rattle.runs.specs.Run.{stampAnswer, runRefusal, runBy, convertedRun};
 ghost use Rattle.runs.specs.Asked.{isShort};
-use formula_runs::RunAnswer;
-use formula_runs::one_if_refused;
+use crate::by_formula::RunAnswer;
+use crate::by_formula::one_if_refused;
 use julian::JulianAnswer;
 use julian::JulianDate;
 use leap_table::rows::LentRows;
@@ -23,6 +23,8 @@ use julian::same_stamps::TAI;
 use julian::same_stamps::TCG;
 use julian::same_stamps::TT;
 use julian::same_stamps::are;
+pub mod by_formula;
+pub mod ways;
 
 // Number i of a list that has it. Read from a part of eight bytes, it needs no test of the length.
 fn pattern_at(s: &[u8], i: usize) -> u64
@@ -84,7 +86,7 @@ fn convert_stamp<'a>(
     ensures { λ r. ⌜ StampPut (stampAnswer (rowsIn size (now (months .entry)) (now (seconds .entry))) from to (now (jd1s .entry)) (now (jd2s .entry)) i) i (now (out1 .entry)) (now (out2 .entry)) r (now (out1 .exit)) (now (out2 .exit)) ⌝ }
 {
     let jd = stamp_at(jd1s, jd2s, i);
-    let found = scale_ways::convert_by_lent(from, to, jd, size, months, seconds);
+    let found = crate::ways::convert_by_lent(from, to, jd, size, months, seconds);
     put_answer(found, i, out1, out2)
 }
 
@@ -224,7 +226,7 @@ pub fn convert_run_by_lent<'a>(
     }
     if is_short(from, to) {
         let none = &jd1s[0..0];
-        return formula_runs::formula_run(from, to, jd1s, jd2s, none, out1, out2, numbers);
+        return crate::by_formula::formula_run(from, to, jd1s, jd2s, none, out1, out2, numbers);
     }
     let n = jd1s.len() / 8;
     RunAnswer::Converted(convert_all(

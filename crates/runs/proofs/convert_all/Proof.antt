@@ -4,7 +4,7 @@ use native.Mathlib.Omega.{arith}
 use borrow.Author.Needs.{needs}
 use Rattle.leap_table.specs.rows.Lent.{rowsIn}
 use Rattle.runs.specs.Run.{stampAnswer}
-use Rattle.formula_runs.proofs.Puts.{Putting, putting-starts, len1, len2, len3, few, putting-goes, putting-ends}
+use Rattle.runs.proofs.by_formula.Puts.{Putting, putting-starts, len1, len2, len3, few, putting-goes, putting-ends}
 use Rattle.runs.proofs.convert_all.Statement.{statement}
 use Rattle.runs.proofs.convert_all.Tie as tie
 

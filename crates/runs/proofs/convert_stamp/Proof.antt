@@ -1,8 +1,8 @@
 -- `runs::convert_stamp` meets its contract. Assumes nothing.
 use mathlib.Core.Path.{ap, _∙_}
 use Rattle.leap_table.specs.rows.Lent.{rowsIn}
-use Rattle.scale_ways.specs.Ways.{wayOf}
-use Rattle.formula_runs.proofs.Puts.{put-same}
+use Rattle.runs.specs.ways.Ways.{wayOf}
+use Rattle.runs.proofs.by_formula.Puts.{put-same}
 use borrow.Author.Needs.{needs}
 use Rattle.runs.proofs.convert_stamp.Statement.{statement}
 use Rattle.runs.proofs.convert_stamp.Tie as tie

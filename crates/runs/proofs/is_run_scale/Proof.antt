@@ -1,6 +1,6 @@
 -- `runs::is_run_scale` meets its contract. Assumes nothing.
 use borrow.Author.Tests.{eq-eqb, ne-eqb}
-use Rattle.scale_ways.specs.Ways.{isRunScale}
+use Rattle.runs.specs.ways.Ways.{isRunScale}
 use Rattle.runs.proofs.is_run_scale.Statement.{statement}
 use Rattle.runs.proofs.is_run_scale.Tie as tie
 

@@ -1,7 +1,7 @@
 -- `runs::put_answer` meets its contract. Assumes nothing.
 use mathlib.Core.Path.{_≡_, refl, sym, ap, subst, _∙_}
 use Rattle.julian.specs.JulianDate.{julianOutcome}
-use Rattle.formula_runs.proofs.Puts.{put-refused, put-patterns}
+use Rattle.runs.proofs.by_formula.Puts.{put-refused, put-patterns}
 use borrow.Author.Needs.{needs}
 use Rattle.runs.proofs.put_answer.Statement.{statement}
 use Rattle.runs.proofs.put_answer.Tie as tie

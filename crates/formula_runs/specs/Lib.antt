@@ -1,4 +1,0 @@
--- The definitions that the contract of `formula_runs` cites: the run, and its formula. Asked has what the functions below the call ask and keep.
-pub mod Run
-pub mod Formula
-pub mod Asked

@@ -1,7 +1,0 @@
--- The laws of a run: its ways, who is refused and by what, which bytes are whose, and last the theorems, of a run by its way and of one by a formula.
-pub mod EachWay
-pub mod Refusing
-pub mod Bytes
-pub mod Written
-pub mod Theorems
-pub mod Formulas

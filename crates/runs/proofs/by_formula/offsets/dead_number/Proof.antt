@@ -1,0 +1,46 @@
+-- `runs::by_formula::offsets::dead_number` meets its contract. Assumes nothing.
+use Prim.Native.Nat.{ℕ}
+use mathlib.Core.Path.{sym, ap, _∙_}
+use lib.Ieee.{binary64, ofBits}
+use lib.Ieee.Scale.{finite}
+use borrow.Author.Tests.{not-true, not-false}
+use Rattle.runs.specs.by_formula.Asked.{deadNumberOf}
+use borrow.Author.Needs.{needs}
+use Rattle.runs.proofs.by_formula.offsets.dead_number.Statement.{statement}
+use Rattle.runs.proofs.by_formula.offsets.dead_number.Tie as tie
+
+pattern-at-requires : tie.Need-pattern-at-requires
+pattern-at-requires c κs = search needs
+
+is-number-requires : tie.Need-is-number-requires
+is-number-requires c κs = search needs
+
+returns : tie.Need-returns
+unfolding deadNumberOf
+returns c = rw (ap (λ (b : ℕ). finite (ofBits binary64 b)) (sym (c .before .before .pattern-at .ensures)) ∙ sym (c .before .is-number .ensures) ∙ not-true _ (c .if1 .taken))
+
+pattern-at-requires-2 : tie.Need-pattern-at-requires-2
+pattern-at-requires-2 c κs = search needs
+
+is-number-requires-2 : tie.Need-is-number-requires-2
+is-number-requires-2 c κs = search needs
+
+returns-2 : tie.Need-returns-2
+unfolding deadNumberOf
+returns-2 c = rw (ap (λ (b : ℕ). finite (ofBits binary64 b)) (sym (c .before .before .before .before .before .pattern-at .ensures)) ∙ sym (c .before .before .before .before .is-number .ensures) ∙ not-false _ (c .before .before .before .if1 .left), ap (λ (b : ℕ). finite (ofBits binary64 b)) (sym (c .before .before .pattern-at2 .ensures)) ∙ sym (c .before .is-number2 .ensures) ∙ not-true _ (c .if2 .taken))
+
+returns-3 : tie.Need-returns-3
+unfolding deadNumberOf
+returns-3 c = rw (ap (λ (b : ℕ). finite (ofBits binary64 b)) (sym (c .before .before .before .before .before .pattern-at .ensures)) ∙ sym (c .before .before .before .before .is-number .ensures) ∙ not-false _ (c .before .before .before .if1 .left), ap (λ (b : ℕ). finite (ofBits binary64 b)) (sym (c .before .before .pattern-at2 .ensures)) ∙ sym (c .before .is-number2 .ensures) ∙ not-false _ (c .if2 .left))
+
+pub dead-number-spec : {M : Type 1} → statement M
+dead-number-spec =
+    tie.close
+    (tie.spec
+    pattern-at-requires
+    is-number-requires
+    returns
+    pattern-at-requires-2
+    is-number-requires-2
+    returns-2
+    returns-3)

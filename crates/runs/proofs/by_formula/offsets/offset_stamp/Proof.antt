@@ -1,0 +1,62 @@
+-- `runs::by_formula::offsets::offset_stamp` meets its contract: a dead offset is told after a dead part, and else the stamp is moved by so many days. Assumes nothing.
+use mathlib.Core.Path.{sym, ap, _∙_}
+use mathlib.Core.Bool.{cond}
+use lib.Ieee.{Float, binary64, ofBits, neg, div}
+use borrow.Author.Tests.{not-true, not-false}
+use Rattle.constants.proofs.Bits.{seconds-per-day}
+use Rattle.julian.specs.shifts.Shifts.{daysOf}
+use Rattle.runs.proofs.by_formula.Puts.{put-refused, put-same}
+use Rattle.runs.proofs.by_formula.Judged.{no-nan, offset-dead, dead-small, offset-moves}
+use borrow.Author.Needs.{needs}
+use Rattle.runs.proofs.by_formula.offsets.offset_stamp.Statement.{statement}
+use Rattle.runs.proofs.by_formula.offsets.offset_stamp.Tie as tie
+
+pattern-at-requires : tie.Need-pattern-at-requires
+pattern-at-requires c κs = search needs
+
+is-number-requires : tie.Need-is-number-requires
+is-number-requires c κs = search needs
+
+dead-number-requires : tie.Need-dead-number-requires
+dead-number-requires c κs = search needs
+
+returns : tie.Need-returns
+returns c =
+    let a = c .before .before .before .before .before .before .before .before .before .args in
+    put-refused _ _ (a .i) _ (a .out1 .now) (a .out2 .now) (offset-dead (a .earlier) (a .jd1s .now) (a .jd2s .now) (a .offsets .now) (a .i) _ (c .before .before .before .pattern-at .ensures) (sym (c .before .before .is-number .ensures) ∙ not-true _ (c .before .if1 .taken))) (c .dead-number .ensures ∙ dead-small (a .earlier) (a .jd1s .now) (a .jd2s .now) (a .offsets .now) (a .i))
+
+float-from-bits-days : tie.Need-float-from-bits-days
+float-from-bits-days c = no-nan _ (sym (c .before .is-number .ensures) ∙ not-false _ (c .if1 .left))
+
+turned-requires : tie.Need-turned-requires
+turned-requires c κs = search needs
+
+change-stamp-requires : tie.Need-change-stamp-requires
+change-stamp-requires c κs = search needs
+
+same-length : tie.Need-same-length
+same-length c = search needs
+
+same-length-2 : tie.Need-same-length-2
+same-length-2 c = search needs
+
+returns-2 : tie.Need-returns-2
+unfolding daysOf
+returns-2 c =
+    let a = c .before .before .before .before .before .before .before .before .before .before .before .before .before .before .before .before .args in
+    put-same (offset-moves (a .earlier) (a .jd1s .now) (a .jd2s .now) (a .offsets .now) (a .i) _ _ (c .before .before .before .before .before .before .before .before .before .before .pattern-at .ensures) (sym (c .before .before .before .before .before .before .before .before .before .is-number .ensures) ∙ not-false _ (c .before .before .before .before .before .before .before .before .if1 .left)) (c .before .before .before .before .before .before .before .turned .ensures ∙ ap (λ (z : Float). cond (a .earlier) (neg (div binary64 (ofBits binary64 (c .before .before .before .before .before .before .before .before .before .before .pattern-at .result)) z)) (div binary64 (ofBits binary64 (c .before .before .before .before .before .before .before .before .before .before .pattern-at .result)) z)) seconds-per-day)) (c .before .before .before .before .change-stamp .ensures)
+
+pub offset-stamp-spec : {M : Type 1} → statement M
+offset-stamp-spec =
+    tie.close
+    (tie.spec
+    pattern-at-requires
+    is-number-requires
+    dead-number-requires
+    returns
+    float-from-bits-days
+    turned-requires
+    change-stamp-requires
+    same-length
+    same-length-2
+    returns-2)

@@ -1,0 +1,24 @@
+-- `runs::ways::of_tcg` meets its contract: each case keeps what it carries. Assumes nothing.
+use mathlib.Core.Path.{sym, ap}
+use Rattle.julian.specs.JulianDate.{julianOutcome}
+use Rattle.scales.specs.Scales.{tcgOutcome}
+use borrow.Author.Needs.{needs}
+use Rattle.runs.proofs.ways.of_tcg.Statement.{statement}
+use Rattle.runs.proofs.ways.of_tcg.Tie as tie
+
+enum-known-a : tie.Need-enum-known-a
+enum-known-a c = search needs
+
+enum-known-a-2 : tie.Need-enum-known-a-2
+enum-known-a-2 c = search needs
+
+returns : tie.Need-returns
+unfolding tcgOutcome julianOutcome
+returns c = sym (ap tcgOutcome (c .before .before .a .given .1))
+
+returns-2 : tie.Need-returns-2
+unfolding tcgOutcome julianOutcome
+returns-2 c = sym (ap tcgOutcome (c .before .a2 .given .1))
+
+pub of-tcg-spec : {M : Type 1} → statement M
+of-tcg-spec = tie.close (tie.spec enum-known-a enum-known-a-2 returns returns-2)

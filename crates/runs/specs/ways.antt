@@ -1,0 +1,2 @@
+-- What the contracts of `runs::ways` cite: the way of a date from scale to scale.
+pub mod Ways

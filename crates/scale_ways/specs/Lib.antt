@@ -1,2 +1,0 @@
--- What the contracts of `scale_ways` cite: the way of a date from scale to scale.
-pub mod Ways
