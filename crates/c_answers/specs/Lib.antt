@@ -3,3 +3,5 @@ pub mod Delivery
 pub mod Fields
 pub mod WideFields
 pub mod TwoBuffers
+pub mod rules
+pub mod table

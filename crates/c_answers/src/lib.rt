@@ -1,4 +1,7 @@
 // How an answer reaches a C caller: a code, and bytes at the start of a lent buffer.
+pub mod date_parts;
+pub mod rules;
+pub mod table;
 pub mod fields;
 pub mod wide_fields;
 

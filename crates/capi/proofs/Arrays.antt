@@ -11,8 +11,8 @@ use Rattle.refusals.specs.Outcome.{Outcome, answer, refusal, onward}
 use Rattle.leap_table.specs.declared.offsets.Rule.{Rule}
 use Rattle.leap_table.specs.rows.Table.{Row}
 use Rattle.leap_table.specs.rows.Lent.{unlessRefused}
-use Rattle.lent_bytes.specs.TableBytes.{tableBytes}
-use Rattle.lent_bytes.proofs.Laws.{turned-away, gone-on}
+use Rattle.c_answers.specs.table.TableBytes.{tableBytes}
+use Rattle.c_answers.proofs.table.Laws.{turned-away, gone-on}
 use Rattle.utc.specs.iso_texts.TextCall.{bufferHolds}
 use Rattle.c_answers.specs.Delivery.{code, inBytes, Delivered}
 use Rattle.c_answers.specs.TwoBuffers.{bothFit, DeliveredTwo}

@@ -18,7 +18,7 @@ use Rattle.runs.specs.Run.{runBy, convertedRun}
 use Rattle.runs.specs.by_formula.Formula.{formulaRun}
 use Rattle.runs.proofs.by_formula.Calls.{formula-count}
 use Rattle.runs.proofs.Calls.{run-count, table-refused, table-taken}
-use Rattle.lent_bytes.specs.TableBytes.{tableBytes}
+use Rattle.c_answers.specs.table.TableBytes.{tableBytes}
 use Rattle.c_answers.specs.Delivery.{code}
 use Rattle.c_answers.proofs.Deliveries.{code-back}
 use Rattle.capi.specs.RunDelivery.{RunDelivered}

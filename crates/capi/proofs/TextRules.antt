@@ -29,7 +29,7 @@ use Rattle.utc.proofs.laws.Lengths.{text-length}
 use Rattle.utc.proofs.laws.HalfEvenTexts.{even-text-length}
 use Rattle.utc.proofs.laws.ExpandedTexts.{expanded-text-length}
 use Rattle.c_answers.specs.Delivery.{code, Delivered}
-use Rattle.rule_answers.specs.RuleFields.{ruleBytes}
+use Rattle.c_answers.specs.rules.RuleFields.{ruleBytes}
 use Rattle.c_answers.specs.TwoBuffers.{bothFit, DeliveredTwo}
 use Rattle.c_answers.proofs.Deliveries.{code-back}
 use Rattle.capi.specs.declared.text_calls.NamedSheet.{NamedSheet}

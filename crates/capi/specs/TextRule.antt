@@ -8,7 +8,7 @@ use Rattle.utc.specs.iso_texts.Sheet.{Sheet}
 use Rattle.utc.specs.iso_texts.IsoText.{sheet01}
 use Rattle.utc.specs.iso_texts.HalfEven.{evenSheet}
 use Rattle.utc.specs.iso_texts.Expanded.{expandedSheet}
-use Rattle.rule_answers.specs.RuleFields.{ruleBytes}
+use Rattle.c_answers.specs.rules.RuleFields.{ruleBytes}
 use Rattle.capi.specs.declared.text_calls.NamedSheet.{NamedSheet}
 use Rattle.capi.specs.declared.text_calls.NamedSheet.the-variants.{Document01, HalfEven, Expanded}
 

@@ -4,7 +4,7 @@ ghost use lib.ListN.{length};
 ghost use Rattle.refusals.specs.Outcome.{onward};
 ghost use Rattle.stamps.specs.declared.Telling.the-variants.{Numbers, Sentences};
 ghost use Rattle.stamps.specs.Block.{blockOf};
-ghost use Rattle.lent_bytes.specs.TableBytes.{tableBytes};
+ghost use Rattle.c_answers.specs.table.TableBytes.{tableBytes};
 ghost use Rattle.c_answers.specs.Delivery.{code, Delivered};
 ghost use Rattle.lent_calls.specs.ListingPart.{listingPart};
 use c_answers::refused;

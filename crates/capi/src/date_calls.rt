@@ -33,7 +33,7 @@ pub extern "C" fn ct_calendar_to_julian(year: i32, month: i32, day: i32, out: &m
 pub extern "C" fn ct_julian_to_calendar(jd1: f64, jd2: f64, out: &mut [u8]) -> i64
     ensures { λ r. ⌜ Delivered (inBytes calendarBytes (julianToCalendar jd1 jd2)) (now (out .entry)) r (now (out .exit)) ⌝ }
 {
-    date_parts::julian_to_calendar(jd1, jd2, out)
+    c_answers::date_parts::julian_to_calendar(jd1, jd2, out)
 }
 
 #[no_mangle]
@@ -111,5 +111,5 @@ pub extern "C" fn ct_equal(jd1: f64, jd2: f64, other1: f64, other2: f64) -> i64
 pub extern "C" fn ct_difference(jd1: f64, jd2: f64, other1: f64, other2: f64) -> f64
     ensures { λ r. ⌜ r ≡ difference (julian jd1 jd2) (julian other1 other2) ⌝ }
 {
-    date_parts::difference(jd1, jd2, other1, other2)
+    c_answers::date_parts::difference(jd1, jd2, other1, other2)
 }

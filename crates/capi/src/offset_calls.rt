@@ -5,15 +5,15 @@ ghost use Rattle.refusals.specs.Outcome.{answer, onward};
 ghost use Rattle.leap_table.specs.offsets.Rule.{forget, offsetByRule};
 ghost use Rattle.leap_table.specs.offsets.Leap.{leapAtEndOfDay};
 ghost use Rattle.leap_table.specs.offsets.Answers.{secondsByRuleOutcome};
-ghost use Rattle.lent_bytes.specs.TableBytes.{tableBytes};
+ghost use Rattle.c_answers.specs.table.TableBytes.{tableBytes};
 ghost use Rattle.c_answers.specs.Delivery.{code, inBytes, Delivered};
 ghost use Rattle.c_answers.specs.Fields.{floatBytes};
-ghost use Rattle.rule_answers.specs.RuleFields.{offsetRuleBytes};
+ghost use Rattle.c_answers.specs.rules.RuleFields.{offsetRuleBytes};
 use c_answers::fields;
 use c_answers::refused;
-use lent_bytes::arrays;
-use lent_bytes::lent_rows_at;
-use lent_bytes::table_number;
+use c_answers::table::arrays;
+use c_answers::table::lent_rows_at;
+use c_answers::table::table_number;
 use leap_table::offsets::SecondsByRule;
 
 // 42 to 58.
@@ -34,7 +34,7 @@ fn put_offset(found: SecondsByRule, out: &mut [u8]) -> i64
 {
     match found {
         SecondsByRule::Seconds(seconds, rule) => {
-            rule_answers::put_offset_by_rule(seconds, rule, out)
+            c_answers::rules::put_offset_by_rule(seconds, rule, out)
         }
         SecondsByRule::Refused(number) => refused(number),
     }

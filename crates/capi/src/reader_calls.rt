@@ -2,11 +2,11 @@
 ghost use mathlib.Core.Bool.{false};
 ghost use Rattle.refusals.specs.Outcome.{onward};
 ghost use Rattle.parsing.specs.Parsed.{parsedOutcome, parsedUtcOutcome, parsed, parsedUtc};
-ghost use Rattle.lent_bytes.specs.TableBytes.{tableBytes};
+ghost use Rattle.c_answers.specs.table.TableBytes.{tableBytes};
 ghost use Rattle.c_answers.specs.Delivery.{inBytes, Delivered};
 ghost use Rattle.reader_answers.specs.ReaderFields.{parsedBytes, parsedUtcBytes};
 use c_answers::refused;
-use lent_bytes::arrays;
+use c_answers::table::arrays;
 use parsing::ParsedAnswer;
 use parsing::ParsedUtcAnswer;
 

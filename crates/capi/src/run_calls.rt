@@ -1,11 +1,11 @@
 // A run of stamps from one scale to another: by the way through TAI, and by one formula.
 ghost use Rattle.runs.specs.by_formula.Formula.{formulaRun};
 ghost use Rattle.runs.specs.Run.{convertedRun};
-ghost use Rattle.lent_bytes.specs.TableBytes.{tableBytes};
+ghost use Rattle.c_answers.specs.table.TableBytes.{tableBytes};
 ghost use Rattle.capi.specs.RunDelivery.{RunDelivered};
 use c_answers::refused;
 use runs::by_formula::RunAnswer;
-use lent_bytes::arrays;
+use c_answers::table::arrays;
 
 #[no_mangle]
 pub extern "C" fn ct_convert_run(

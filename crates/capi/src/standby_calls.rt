@@ -1,7 +1,7 @@
 // The bill for a crew's standby.
 ghost use Rattle.refusals.specs.Outcome.{onward};
 ghost use Rattle.standby.specs.Bills.{standbyBill};
-ghost use Rattle.lent_bytes.specs.TableBytes.{tableBytes};
+ghost use Rattle.c_answers.specs.table.TableBytes.{tableBytes};
 ghost use Rattle.c_answers.specs.Delivery.{inBytes, Delivered};
 ghost use Rattle.lent_calls.specs.BillBytes.{billBytes, utcTime};
 

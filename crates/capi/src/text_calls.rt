@@ -6,14 +6,14 @@ ghost use Rattle.refusals.specs.Outcome.{refusal, onward};
 ghost use Rattle.julian.specs.JulianDate.{julian};
 ghost use Rattle.leap_table.specs.rows.Lent.{rowsIn};
 ghost use Rattle.utc.specs.iso_texts.ByRule.{textByRule, isoTextByRule, halfEvenByRule, expandedByRule, TextRuleCall};
-ghost use Rattle.lent_bytes.specs.TableBytes.{tableBytes};
+ghost use Rattle.c_answers.specs.table.TableBytes.{tableBytes};
 ghost use Rattle.c_answers.specs.Delivery.{code};
 ghost use Rattle.c_answers.specs.TwoBuffers.{DeliveredTwo};
 ghost use Rattle.capi.specs.TextRule.{ruled, noRoom, sheetNamed};
 use c_answers::refused;
 use utc::iso_texts::TextByRule;
 use julian::JulianDate;
-use lent_bytes::arrays;
+use c_answers::table::arrays;
 use scales::UTC;
 
 // Which sheet a text call writes by.
@@ -85,7 +85,7 @@ fn put_text<'a>(
     match utc::iso_texts::to_iso8601_by_lent(date, size, months, seconds, out) {
         TextByRule::Refused(number) => refused(number),
         TextByRule::Written(n, told) => {
-            rule_answers::put_rule(told, rule);
+            c_answers::rules::put_rule(told, rule);
             n as i64
         }
     }
@@ -107,7 +107,7 @@ fn put_half_even<'a>(
     match utc::iso_texts::to_iso8601_half_even_by_lent(date, size, months, seconds, out) {
         TextByRule::Refused(number) => refused(number),
         TextByRule::Written(n, told) => {
-            rule_answers::put_rule(told, rule);
+            c_answers::rules::put_rule(told, rule);
             n as i64
         }
     }
@@ -129,7 +129,7 @@ fn put_expanded<'a>(
     match utc::iso_texts::to_iso8601_expanded_by_lent(date, size, months, seconds, out) {
         TextByRule::Refused(number) => refused(number),
         TextByRule::Written(n, told) => {
-            rule_answers::put_rule(told, rule);
+            c_answers::rules::put_rule(told, rule);
             n as i64
         }
     }

@@ -8,14 +8,14 @@ ghost use Rattle.utc_scales.specs.ByRule.{utcToTaiByRule, taiByRuleOutcome};
 ghost use Rattle.utc_scales.specs.to_ut1.ByRule.{utcToUt1ByRule, ut1ByRuleOutcome};
 ghost use Rattle.utc.specs.UnixTime.{utcNew};
 ghost use Rattle.utc.specs.FromCalendar.{utcFromCalendar};
-ghost use Rattle.lent_bytes.specs.TableBytes.{tableBytes};
+ghost use Rattle.c_answers.specs.table.TableBytes.{tableBytes};
 ghost use Rattle.c_answers.specs.Delivery.{inBytes, Delivered};
 ghost use Rattle.c_answers.specs.Fields.{julianBytes};
-ghost use Rattle.rule_answers.specs.RuleFields.{julianRuleBytes};
+ghost use Rattle.c_answers.specs.rules.RuleFields.{julianRuleBytes};
 use c_answers::fields;
 use c_answers::refused;
 use julian::JulianDate;
-use lent_bytes::arrays;
+use c_answers::table::arrays;
 use scales::TAI;
 use scales::UT1;
 use scales::UTC;
@@ -92,7 +92,7 @@ fn put_tai_by_rule(found: TaiByRule, out: &mut [u8]) -> i64
     ensures { λ r. ⌜ Delivered (inBytes julianRuleBytes (taiByRuleOutcome found)) (now (out .entry)) r (now (out .exit)) ⌝ }
 {
     match found {
-        TaiByRule::Date(date, rule) => rule_answers::put_julian_by_rule(date.0, rule, out),
+        TaiByRule::Date(date, rule) => c_answers::rules::put_julian_by_rule(date.0, rule, out),
         TaiByRule::Refused(number) => refused(number),
     }
 }
@@ -139,7 +139,7 @@ fn put_ut1_by_rule(found: Ut1ByRule, out: &mut [u8]) -> i64
     ensures { λ r. ⌜ Delivered (inBytes julianRuleBytes (ut1ByRuleOutcome found)) (now (out .entry)) r (now (out .exit)) ⌝ }
 {
     match found {
-        Ut1ByRule::Date(date, rule) => rule_answers::put_julian_by_rule(date.0, rule, out),
+        Ut1ByRule::Date(date, rule) => c_answers::rules::put_julian_by_rule(date.0, rule, out),
         Ut1ByRule::Refused(number) => refused(number),
     }
 }

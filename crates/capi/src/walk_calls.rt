@@ -2,7 +2,7 @@
 ghost use lib.ListN.{length};
 ghost use Rattle.refusals.specs.Outcome.{onward};
 ghost use Rattle.leap_table.specs.walk.Lists.{walkOfBytes};
-ghost use Rattle.lent_bytes.specs.TableBytes.{tableBytes};
+ghost use Rattle.c_answers.specs.table.TableBytes.{tableBytes};
 ghost use Rattle.lent_calls.specs.WalkDelivery.{WalkDelivered};
 
 #[no_mangle]

@@ -29,7 +29,7 @@ use Rattle.stamps.proofs.Tellings.{bytes-width}
 use Rattle.stamps.proofs.listing_laws.Whole.{all-lines}
 use Rattle.stamps.proofs.Lengths.{part-fits, lines-add}
 use Rattle.stamps.proofs.listing_laws.LineEnds.{ends-most, part-ends, part-some}
-use Rattle.lent_bytes.specs.TableBytes.{tableBytes}
+use Rattle.c_answers.specs.table.TableBytes.{tableBytes}
 use Rattle.c_answers.specs.Delivery.{code, Delivered}
 use Rattle.lent_calls.specs.ListingPart.{listingPart}
 use Rattle.capi_laws.specs.ListingCalls.{Listed, begun, next}

@@ -20,7 +20,7 @@ use Rattle.utc.specs.iso_texts.IsoText.{isoTextBy}
 use Rattle.utc.specs.iso_texts.ByRule.{textByRule}
 use Rattle.utc.proofs.iso_texts.TextRules.{text-forgets}
 use Rattle.c_answers.specs.Delivery.{code, Delivered}
-use Rattle.rule_answers.specs.RuleFields.{ruleBytes}
+use Rattle.c_answers.specs.rules.RuleFields.{ruleBytes}
 use Rattle.c_answers.specs.TwoBuffers.{bothFit, DeliveredTwo}
 use Rattle.capi.specs.TextRule.{ruled}
 

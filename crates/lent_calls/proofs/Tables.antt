@@ -16,8 +16,8 @@ use Rattle.leap_table.specs.declared.rows.LentRows.{LentRows}
 use Rattle.leap_table.specs.rows.Table.{Row}
 use Rattle.leap_table.specs.rows.Lent.{rowsOf, tableOf, unlessRefused}
 use Rattle.leap_table.proofs.rows.TableLaws.{lengths}
-use Rattle.lent_bytes.specs.TableBytes.{ofLength, tableBytes}
-use Rattle.lent_bytes.proofs.Laws.{turned-away, gone-on}
+use Rattle.c_answers.specs.table.TableBytes.{ofLength, tableBytes}
+use Rattle.c_answers.proofs.table.Laws.{turned-away, gone-on}
 use Rattle.utc.specs.iso_texts.TextCall.{written, bufferHolds}
 use Rattle.c_answers.specs.Delivery.{code, inBytes, Delivered}
 use Rattle.c_answers.proofs.Deliveries.{code-back, refused-on, same-outcome}

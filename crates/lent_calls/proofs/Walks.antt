@@ -24,8 +24,8 @@ use Rattle.leap_table.specs.walk.Lists.{walkOfBytes, inEights}
 use Rattle.leap_table.specs.walk.Call.{walkOutcome, listAfter, WalkCall}
 use Rattle.leap_table.proofs.judging.Judges.{how-many}
 use Rattle.leap_table.proofs.walk.Codes.{count-most}
-use Rattle.lent_bytes.specs.TableBytes.{ofLength, tableBytes}
-use Rattle.lent_bytes.proofs.Laws.{other-length}
+use Rattle.c_answers.specs.table.TableBytes.{ofLength, tableBytes}
+use Rattle.c_answers.proofs.table.Laws.{other-length}
 use Rattle.c_answers.specs.Delivery.{code}
 use Rattle.c_answers.proofs.Deliveries.{code-back}
 use Rattle.lent_calls.specs.WalkDelivery.{WalkDelivered}

@@ -2,13 +2,13 @@
 ghost use Rattle.refusals.specs.Outcome.{onward};
 ghost use Rattle.standby.specs.Bills.{standbyBill};
 ghost use Rattle.standby.specs.Answers.{billOutcome};
-ghost use Rattle.lent_bytes.specs.TableBytes.{tableBytes};
+ghost use Rattle.c_answers.specs.table.TableBytes.{tableBytes};
 ghost use Rattle.c_answers.specs.Delivery.{inBytes, Delivered};
 ghost use Rattle.lent_calls.specs.BillBytes.{billBytes, utcTime};
 use c_answers::refused;
 use c_answers::wide_fields;
-use lent_bytes::lent_rows_at;
-use lent_bytes::table_number;
+use c_answers::table::lent_rows_at;
+use c_answers::table::table_number;
 use standby::BillAnswer;
 use standby::UtcTime;
 

@@ -9,13 +9,13 @@ ghost use Rattle.stamps.specs.declared.Telling.the-variants.{Numbers, Sentences
 ghost use Rattle.stamps.specs.Listing.{lineRoom};
 ghost use Rattle.stamps.specs.Widths.{InWidth};
 ghost use Rattle.leap_table.specs.walk.Lists.{walkOfBytes};
-ghost use Rattle.lent_bytes.specs.TableBytes.{tableBytes};
+ghost use Rattle.c_answers.specs.table.TableBytes.{tableBytes};
 ghost use Rattle.c_answers.specs.Delivery.{Delivered};
 ghost use Rattle.lent_calls.specs.ListingPart.{listingPart};
 ghost use Rattle.lent_calls.specs.WalkDelivery.{WalkDelivered};
 use c_answers::refused;
-use lent_bytes::lent_rows_at;
-use lent_bytes::table_number;
+use c_answers::table::lent_rows_at;
+use c_answers::table::table_number;
 use leap_table::walk::WalkAnswer;
 use stamps::Telling;
 

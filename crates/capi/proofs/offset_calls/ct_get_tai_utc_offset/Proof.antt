@@ -4,7 +4,7 @@ use lib.IntN.{ℤ}
 use Rattle.calendar.proofs.Signs.{read-date}
 use Rattle.leap_table.specs.rows.Lent.{rowsIn}
 use Rattle.leap_table.specs.offsets.Rule.{offsetByRule}
-use Rattle.rule_answers.specs.RuleFields.{offsetRuleBytes}
+use Rattle.c_answers.specs.rules.RuleFields.{offsetRuleBytes}
 use Rattle.capi.proofs.Arrays.{lent-refused, with-lent}
 use borrow.Author.Needs.{needs}
 use Rattle.capi.proofs.offset_calls.ct_get_tai_utc_offset.Statement.{statement}

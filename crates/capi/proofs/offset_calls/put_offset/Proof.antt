@@ -1,7 +1,7 @@
 -- `capi::offset_calls::put_offset` meets its contract. Assumes nothing.
 use mathlib.Core.Path.{ap}
 use Rattle.leap_table.specs.offsets.Answers.{secondsByRuleOutcome}
-use Rattle.rule_answers.specs.RuleFields.{offsetRuleBytes}
+use Rattle.c_answers.specs.rules.RuleFields.{offsetRuleBytes}
 use Rattle.c_answers.proofs.Deliveries.{delivered-answer, refused-on}
 use borrow.Author.Needs.{needs}
 use Rattle.capi.proofs.offset_calls.put_offset.Statement.{statement}

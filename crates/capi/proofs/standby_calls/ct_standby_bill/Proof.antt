@@ -3,7 +3,7 @@ use denote.Ref.{now}
 use mir.Facts.{toZ-ofZ}
 use Rattle.refusals.specs.Outcome.{onward}
 use Rattle.standby.specs.Bills.{standbyBill}
-use Rattle.lent_bytes.specs.TableBytes.{tableBytes}
+use Rattle.c_answers.specs.table.TableBytes.{tableBytes}
 use Rattle.c_answers.proofs.Deliveries.{same-outcome}
 use Rattle.lent_calls.specs.BillBytes.{billBytes, utcTime}
 use borrow.Author.Needs.{needs}

@@ -1,6 +1,6 @@
 -- `capi::utc_calls::ct_utc_to_ut1_with_dut1` meets its contract. Assumes nothing.
 use mathlib.Core.Path.{refl}
-use Rattle.rule_answers.specs.RuleFields.{julianRuleBytes}
+use Rattle.c_answers.specs.rules.RuleFields.{julianRuleBytes}
 use Rattle.capi.proofs.Arrays.{lent-refused, with-lent}
 use borrow.Author.Needs.{needs}
 use Rattle.capi.proofs.utc_calls.ct_utc_to_ut1_with_dut1.Statement.{statement}

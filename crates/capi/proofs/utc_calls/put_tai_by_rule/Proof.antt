@@ -1,7 +1,7 @@
 -- `capi::utc_calls::put_tai_by_rule` meets its contract. Assumes nothing.
 use mathlib.Core.Path.{ap}
 use Rattle.utc_scales.specs.ByRule.{taiByRuleOutcome}
-use Rattle.rule_answers.specs.RuleFields.{julianRuleBytes}
+use Rattle.c_answers.specs.rules.RuleFields.{julianRuleBytes}
 use Rattle.c_answers.proofs.Deliveries.{delivered-answer, refused-on}
 use borrow.Author.Needs.{needs}
 use Rattle.capi.proofs.utc_calls.put_tai_by_rule.Statement.{statement}

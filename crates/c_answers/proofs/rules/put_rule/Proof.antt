@@ -1,0 +1,35 @@
+-- `c_answers::rules::put_rule` meets its contract. Assumes nothing.
+use mathlib.Core.List.{_++_}
+use Rattle.c_answers.specs.Fields.{fourBytes}
+use Rattle.c_answers.proofs.Deliveries.{same-bytes}
+use borrow.Author.Needs.{needs}
+use Rattle.c_answers.proofs.rules.put_rule.Statement.{statement}
+use Rattle.c_answers.proofs.rules.put_rule.Tie as tie
+
+rule-number-requires : tie.Need-rule-number-requires
+rule-number-requires c κs = search needs
+
+row-pattern-requires : tie.Need-row-pattern-requires
+row-pattern-requires c κs = search needs
+
+put-two-numbers-requires : tie.Need-put-two-numbers-requires
+put-two-numbers-requires c κs = search needs
+
+same-length : tie.Need-same-length
+same-length c = search needs
+
+returns : tie.Need-returns
+returns c =
+    let p = c .before .before in
+    let b = p .before .before in
+    same-bytes (p .put-two-numbers .ok) (λ i. fourBytes (b .before .rule-number .ensures i) ++ fourBytes (b .row-pattern .ensures i)) (p .put-two-numbers .ensures)
+
+pub put-rule-spec : {M : Type 1} → statement M
+put-rule-spec =
+    tie.close
+    (tie.spec
+    rule-number-requires
+    row-pattern-requires
+    put-two-numbers-requires
+    same-length
+    returns)
