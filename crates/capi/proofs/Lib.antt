@@ -7,3 +7,4 @@ pub mod LineUps
 pub mod Texts
 pub mod Ticks
 pub mod Runs
+pub mod laws

@@ -4,7 +4,7 @@ ghost use Rattle.refusals.specs.Outcome.{onward};
 ghost use Rattle.parsing.specs.Parsed.{parsedOutcome, parsedUtcOutcome, parsed, parsedUtc};
 ghost use Rattle.c_answers.specs.table.TableBytes.{tableBytes};
 ghost use Rattle.c_answers.specs.Delivery.{inBytes, Delivered};
-ghost use Rattle.reader_answers.specs.ReaderFields.{parsedBytes, parsedUtcBytes};
+ghost use Rattle.capi.specs.reader_answers.ReaderFields.{parsedBytes, parsedUtcBytes};
 use c_answers::refused;
 use c_answers::table::arrays;
 use parsing::ParsedAnswer;
@@ -14,7 +14,7 @@ fn put_parsed(found: ParsedAnswer, out: &mut [u8]) -> i64
     ensures { λ r. ⌜ Delivered (inBytes parsedBytes (parsedOutcome found)) (now (out .entry)) r (now (out .exit)) ⌝ }
 {
     match found {
-        ParsedAnswer::Fields(fields) => reader_answers::put_parsed(fields, out),
+        ParsedAnswer::Fields(fields) => crate::reader_answers::put_parsed(fields, out),
         ParsedAnswer::Refused(number) => refused(number),
     }
 }
@@ -23,7 +23,7 @@ fn put_parsed_utc(found: ParsedUtcAnswer, out: &mut [u8]) -> i64
     ensures { λ r. ⌜ Delivered (inBytes parsedUtcBytes (parsedUtcOutcome found)) (now (out .entry)) r (now (out .exit)) ⌝ }
 {
     match found {
-        ParsedUtcAnswer::Read(read) => reader_answers::put_parsed_utc(read, out),
+        ParsedUtcAnswer::Read(read) => crate::reader_answers::put_parsed_utc(read, out),
         ParsedUtcAnswer::Refused(number) => refused(number),
     }
 }

@@ -1,7 +1,7 @@
 -- `capi::reader_calls::put_parsed_utc` meets its contract. Assumes nothing.
 use mathlib.Core.Path.{ap}
 use Rattle.parsing.specs.Parsed.{parsedUtcOutcome}
-use Rattle.reader_answers.specs.ReaderFields.{parsedUtcBytes}
+use Rattle.capi.specs.reader_answers.ReaderFields.{parsedUtcBytes}
 use Rattle.c_answers.proofs.Deliveries.{delivered-answer, refused-on}
 use borrow.Author.Needs.{needs}
 use Rattle.capi.proofs.reader_calls.put_parsed_utc.Statement.{statement}

@@ -1,0 +1,61 @@
+-- `capi::lent_calls::bills::bill_call` meets its contract: the table is taken, so the call goes on with its rows. Assumes nothing.
+use mathlib.Core.Path.{ap, _∙_}
+use mathlib.Core.List.{List}
+use Rattle.refusals.specs.Outcome.{Outcome, onward}
+use Rattle.leap_table.specs.rows.Table.{Row}
+use Rattle.standby.specs.Bills.{standbyBill}
+use Rattle.capi.specs.lent_calls.BillBytes.{billBytes}
+use Rattle.capi.proofs.lent_calls.Tables.{table-refused, with-rows, is-taken}
+use borrow.Author.Needs.{needs}
+use Rattle.capi.proofs.lent_calls.bills.bill_call.Statement.{statement}
+use Rattle.capi.proofs.lent_calls.bills.bill_call.Tie as tie
+
+lent-rows-at-requires : tie.Need-lent-rows-at-requires
+lent-rows-at-requires c κs = search needs
+
+table-number-requires : tie.Need-table-number-requires
+table-number-requires c κs = search needs
+
+refused-requires : tie.Need-refused-requires
+refused-requires c κs = search needs
+
+returns : tie.Need-returns
+returns c =
+    let n = c .before .before in
+    table-refused _ (n .before .lent-rows-at .result) (n .table-number .result) (n .table-number .ensures) (n .before .lent-rows-at .ensures) billBytes _ (c .refused .ok)
+    (c .before .if1 .taken) (c .refused .ensures)
+
+standby-bill-requires : tie.Need-standby-bill-requires
+standby-bill-requires c κs = search needs
+
+put-bill-requires : tie.Need-put-bill-requires
+put-bill-requires c κs = search needs
+
+same-length : tie.Need-same-length
+same-length c = search needs
+
+returns-2 : tie.Need-returns-2
+unfolding onward
+returns-2 c =
+    let p = c .before .before in
+    let b = p .before .before in
+    let n = b .before .before in
+    let a = n .before .before .before .before .args in
+    with-rows _ (n .before .lent-rows-at .result) (n .table-number .result) (n .table-number .ensures) (n .before .lent-rows-at .ensures) billBytes _ (p .put-bill .ok) (b .before .if1 .left)
+    (b .standby-bill .ensures
+    ∙ ap (λ (o : Outcome (List Row)). onward o (λ rows. standbyBill rows (a .start) (a .end) (a .rate) (a .first-metres) (a .second-metres)))
+    (is-taken _ (n .before .lent-rows-at .result) (n .table-number .result) (n .table-number .ensures) (n .before .lent-rows-at .ensures) (b .before .if1 .left)))
+    (p .put-bill .ensures)
+
+pub bill-call-spec : {M : Type 1} → statement M
+bill-call-spec =
+    tie.close
+    (tie.spec
+    lent-rows-at-requires
+    table-number-requires
+    refused-requires
+    returns
+    standby-bill-requires
+    put-bill-requires
+    same-length
+    returns-2)

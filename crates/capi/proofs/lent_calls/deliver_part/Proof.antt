@@ -1,0 +1,69 @@
+-- `capi::lent_calls::deliver_part` meets its contract. Assumes nothing.
+use native.Mathlib.Omega.{arith}
+use denote.Ref.{now}
+use Rattle.leap_table.specs.rows.Lent.{rowsOf}
+use Rattle.capi.proofs.lent_calls.ListingParts.{no-room, count-fits, part-put}
+use Rattle.capi.proofs.lent_calls.Tables.{text-table-refused, text-with-rows}
+use borrow.Author.Needs.{needs}
+use Rattle.capi.proofs.lent_calls.deliver_part.Statement.{statement}
+use Rattle.capi.proofs.lent_calls.deliver_part.Tie as tie
+
+lent-rows-at-requires : tie.Need-lent-rows-at-requires
+lent-rows-at-requires c κs = search needs
+
+table-number-requires : tie.Need-table-number-requires
+table-number-requires c κs = search needs
+
+refused-requires : tie.Need-refused-requires
+refused-requires c κs = search needs
+
+returns : tie.Need-returns
+returns c =
+    let n = c .before .before in
+    text-table-refused _ (n .before .lent-rows-at .result) (n .table-number .result) (n .table-number .ensures) (n .before .lent-rows-at .ensures) _ (c .refused .ok) (c .before .if1 .taken)
+    (c .refused .ensures)
+
+refused-requires-2 : tie.Need-refused-requires-2
+refused-requires-2 c κs = search needs
+
+returns-2 : tie.Need-returns-2
+returns-2 c =
+    let n = c .before .before .before in
+    let t = n .before .lent-rows-at .result in
+    let st = n .before .before .before .before .before in
+    let a = st .args in
+    text-with-rows _ t (n .table-number .result) (n .table-number .ensures) (n .before .lent-rows-at .ensures) _ (c .before .before .if1 .left)
+    (no-room (a .how) (rowsOf t) (now (a .block)) (now (a .out)) (a .line) (c .refused2 .ok) (omega (arith, c .before .if2 .taken, st .pre .0)) (c .refused2 .ensures))
+
+next-told-part-by-rows-requires : tie.Need-next-told-part-by-rows-requires
+next-told-part-by-rows-requires c κs = search needs
+
+cast-result : tie.Need-cast-result
+cast-result c = count-fits (c .before .before .before .before .before .before .before .before .before .before .before .pre .1) (c .before .before .next-told-part-by-rows .ensures)
+
+same-length : tie.Need-same-length
+same-length c = search needs
+
+returns-3 : tie.Need-returns-3
+returns-3 c =
+    let p = c .before .before in
+    let i = p .before .before in
+    let n = i .before .before in
+    let st = n .before .before .before .before .before in
+    text-with-rows _ (n .before .lent-rows-at .result) (n .table-number .result) (n .table-number .ensures) (n .before .lent-rows-at .ensures) _ (i .before .if1 .left)
+    (part-put (st .pre .1) (p .next-told-part-by-rows .ensures) (omega (arith, i .if2 .left, st .pre .0)))
+
+pub deliver-part-spec : {M : Type 1} → statement M
+deliver-part-spec =
+    tie.close
+    (tie.spec
+    lent-rows-at-requires
+    table-number-requires
+    refused-requires
+    returns
+    refused-requires-2
+    returns-2
+    next-told-part-by-rows-requires
+    cast-result
+    same-length
+    returns-3)

@@ -1,6 +1,0 @@
--- What a C caller may conclude: from the return of a call, from a text call that is lent room for the rule, from the calls by which it lists a block, and from the number
--- of an order.
-pub mod Returns
-pub mod TextCalls
-pub mod ListingCalls
-pub mod OrderNumbers
