@@ -1,8 +1,8 @@
 // How an answer reaches a C caller: a code, and bytes at the start of a lent buffer.
 pub mod date_parts;
+pub mod fields;
 pub mod rules;
 pub mod table;
-pub mod fields;
 pub mod wide_fields;
 
 ghost use mathlib.Core.Path.{_≡_};

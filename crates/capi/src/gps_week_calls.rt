@@ -10,10 +10,10 @@ ghost use Rattle.capi.specs.WeekBytes.{weekBytes};
 use super::scale_calls::put_gps;
 use c_answers::fields;
 use c_answers::refused;
-use scales::gps_weeks::FullWeekAnswer;
-use scales::gps_weeks::WeekAnswer;
 use julian::JulianDate;
 use scales::GPS;
+use scales::gps_weeks::FullWeekAnswer;
+use scales::gps_weeks::WeekAnswer;
 
 #[no_mangle]
 pub extern "C" fn ct_gps_from_week(week: u32, millis: u32, out: &mut [u8]) -> i64
@@ -35,7 +35,10 @@ fn put_week(found: WeekAnswer, out: &mut [u8]) -> i64
 pub extern "C" fn ct_gps_to_week(jd1: f64, jd2: f64, out: &mut [u8]) -> i64
     ensures { λ r. ⌜ Delivered (inBytes weekBytes (weekOf (julian jd1 jd2))) (now (out .entry)) r (now (out .exit)) ⌝ }
 {
-    put_week(scales::gps_weeks::to_week(GPS(JulianDate { jd1, jd2 })), out)
+    put_week(
+        scales::gps_weeks::to_week(GPS(JulianDate { jd1, jd2 })),
+        out,
+    )
 }
 
 #[no_mangle]

@@ -1,13 +1,13 @@
 // The port for C: numbers and byte slices only. include/celestial_time.h declares each call and says what it answers.
-pub mod lent_calls;
-pub mod reader_answers;
 pub mod block_calls;
 pub mod calendar_calls;
 pub mod date_calls;
 pub mod gps_week_calls;
+pub mod lent_calls;
 pub mod line_up_calls;
 pub mod offset_calls;
 pub mod order_calls;
+pub mod reader_answers;
 pub mod reader_calls;
 pub mod reason_calls;
 pub mod run_calls;

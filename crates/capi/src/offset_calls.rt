@@ -70,7 +70,15 @@ pub extern "C" fn ct_get_tai_utc_offset(
     }
     let size = lent.size;
     put_offset(
-        leap_table::offsets::get_tai_utc_offset_by_lent(year, month, day, fraction, size, &months, &seconds),
+        leap_table::offsets::get_tai_utc_offset_by_lent(
+            year,
+            month,
+            day,
+            fraction,
+            size,
+            &months,
+            &seconds,
+        ),
         out,
     )
 }

@@ -5,8 +5,8 @@ ghost use Rattle.julian.specs.order.Order.{comparison};
 ghost use Rattle.c_answers.specs.Delivery.{code};
 ghost use Rattle.capi.specs.OrderNumber.{numbered};
 use c_answers::refused;
-use julian::order::OrderAnswer;
 use julian::JulianDate;
+use julian::order::OrderAnswer;
 
 #[no_mangle]
 pub extern "C" fn ct_compare(jd1: f64, jd2: f64, other1: f64, other2: f64) -> i64

@@ -4,8 +4,8 @@ ghost use Rattle.runs.specs.Run.{convertedRun};
 ghost use Rattle.c_answers.specs.table.TableBytes.{tableBytes};
 ghost use Rattle.capi.specs.RunDelivery.{RunDelivered};
 use c_answers::refused;
-use runs::by_formula::RunAnswer;
 use c_answers::table::arrays;
+use runs::by_formula::RunAnswer;
 
 #[no_mangle]
 pub extern "C" fn ct_convert_run(

@@ -11,10 +11,10 @@ ghost use Rattle.c_answers.specs.Delivery.{code};
 ghost use Rattle.c_answers.specs.TwoBuffers.{DeliveredTwo};
 ghost use Rattle.capi.specs.TextRule.{ruled, noRoom, sheetNamed};
 use c_answers::refused;
-use utc::iso_texts::TextByRule;
-use julian::JulianDate;
 use c_answers::table::arrays;
+use julian::JulianDate;
 use scales::UTC;
+use utc::iso_texts::TextByRule;
 
 // Which sheet a text call writes by.
 pub(crate) enum NamedSheet {
@@ -34,7 +34,13 @@ fn text_by<'a>(
     ensures { λ r. ⌜ TextRuleCall (textByRule (sheetNamed sheet) (rowsIn size (now (months .entry)) (now (seconds .entry))) (date .0)) (now (out .entry)) r (now (out .exit)) ⌝ }
 {
     match sheet {
-        NamedSheet::Document01 => utc::iso_texts::to_iso8601_by_lent(date, size, months, seconds, out),
+        NamedSheet::Document01 => utc::iso_texts::to_iso8601_by_lent(
+            date,
+            size,
+            months,
+            seconds,
+            out,
+        ),
         NamedSheet::HalfEven => utc::iso_texts::to_iso8601_half_even_by_lent(
             date,
             size,

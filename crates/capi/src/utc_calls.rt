@@ -14,15 +14,15 @@ ghost use Rattle.c_answers.specs.Fields.{julianBytes};
 ghost use Rattle.c_answers.specs.rules.RuleFields.{julianRuleBytes};
 use c_answers::fields;
 use c_answers::refused;
-use julian::JulianDate;
 use c_answers::table::arrays;
+use julian::JulianDate;
 use scales::TAI;
 use scales::UT1;
 use scales::UTC;
 use scales::UtcAnswer;
+use utc_scales::to_ut1::Ut1ByRule;
 use utc_scales::utc_tai;
 use utc_scales::utc_tai::TaiByRule;
-use utc_scales::to_ut1::Ut1ByRule;
 
 fn put_utc(found: UtcAnswer, out: &mut [u8]) -> i64
     ensures { λ r. ⌜ Delivered (inBytes julianBytes (utcOutcome found)) (now (out .entry)) r (now (out .exit)) ⌝ }

@@ -9,6 +9,7 @@ ghost use Rattle.julian.specs.Equality as E;
 ghost use Rattle.julian.specs.DayFraction as F;
 ghost use Rattle.julian.specs.Finite as N;
 ghost use Rattle.julian.specs.Calendar as C;
+
 pub mod day_number;
 pub mod order;
 pub mod same_stamps;

@@ -11,8 +11,8 @@ ghost use Rattle.leap_table.specs.judging.Lists.{datesFrom, tripleAt, ju
 
 mod in_bytes;
 
-pub use in_bytes::bytes_refusal;
 use crate::rows::LentRows;
+pub use in_bytes::bytes_refusal;
 
 // A year, month and day, a date or not.
 pub struct Triple {

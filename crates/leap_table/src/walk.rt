@@ -22,10 +22,10 @@ ghost use lib.Dec.{T};
 
 mod in_bytes;
 
-pub use in_bytes::offsets_at_0h_bytes;
 use crate::judging::Triple;
-use crate::rows::LentRows;
 use crate::offsets::walk_rows::RowTerms;
+use crate::rows::LentRows;
+pub use in_bytes::offsets_at_0h_bytes;
 
 // The number of rows compared, or the number of the refusal.
 pub enum WalkAnswer {

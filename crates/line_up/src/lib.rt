@@ -7,6 +7,7 @@ ghost use Rattle.numerals.specs.little_endian.LittleEndian.{fourBytes};
 ghost use Rattle.line_up.specs.Runs as R;
 ghost use Rattle.line_up.specs.LineUp as U;
 ghost use Rattle.line_up.specs.Asked as N;
+
 pub mod keep_dates;
 pub mod keep_most;
 

@@ -1,12 +1,12 @@
 // ISO 8601 text into fields, and for UTC into a date: parsing/mod.rs, and `FromStr` of scales/utc/mod.rs, with a byte slice in place of a string.
+use crate::scan::Form;
+use crate::scan::Scanned;
 use calendar::DateCheck;
 use julian::JulianAnswer;
 use julian::JulianDate;
 use leap_table::rows::LentRows;
 use scales::UTC;
 use scales::UtcAnswer;
-use crate::scan::Form;
-use crate::scan::Scanned;
 ghost use mathlib.Core.Path.{_≡_};
 ghost use mathlib.Core.Bool.{true, false};
 ghost use Prim.Native.Nat.{_≤_};
@@ -15,6 +15,7 @@ ghost use Rattle.refusals.specs.Outcome.{onward};
 ghost use Rattle.leap_table.specs.rows.Lent.{rowsIn, rowsOf, tableOf};
 ghost use Rattle.parsing.specs.Parsed.{parsedOutcome, parsedUtcOutcome, parsed, toJulianDate, dated as dated·of, parsedUtc};
 ghost use Rattle.parsing.specs.Judging.{timeIn, quotient, judgedForm};
+
 pub mod scan;
 
 // The six fields of a text.

@@ -2,8 +2,8 @@
 ghost use mathlib.Core.Path.{_≡_};
 ghost use lib.Dec.{eqb};
 ghost use Rattle.reasons.specs.Offending.{onlyIf, yearField, monthField, dayField, dateField, timeField, sumField, partField, partsField, floatField, nanosField, blockField};
-use julian::FractionAnswer;
 use crate::sentences::Named;
+use julian::FractionAnswer;
 
 fn year_field(year: i32) -> Named
     ensures { λ r. ⌜ r ≡ yearField year ⌝ }

@@ -1,6 +1,6 @@
 // A refusal's reason as an English sentence: which field is at fault, by the number and the values of its test, and the sentence of that.
-pub mod sentences;
 mod fields;
+pub mod sentences;
 
 use crate::sentences::Named;
 use crate::sentences::Reason;

@@ -2,13 +2,13 @@
 ghost use Prim.Native.Nat.{_≤_};
 use crate::words;
 use crate::words::Answer;
-use utc::iso_texts::TextByRule;
 use scales::TAI;
 use scales::UT1;
 use scales::UTC;
 use scales::UtcAnswer;
-use utc_scales::utc_tai::TaiByRule;
+use utc::iso_texts::TextByRule;
 use utc_scales::to_ut1::Ut1ByRule;
+use utc_scales::utc_tai::TaiByRule;
 
 fn found_utc(a: UtcAnswer) -> Answer {
     match a {
@@ -77,7 +77,15 @@ pub(crate) fn answered(call: u64, record: &[u8; 128]) -> Answer {
         122 => text(record),
         123 => found_tai(utc_scales::utc_tai::utc_to_tai(UTC(date), leap_table::rows::no_rows())),
         124 => found_utc(utc_scales::utc_tai::tai_to_utc(TAI(date), leap_table::rows::no_rows())),
-        125 => found_ut1(utc_scales::to_ut1::utc_to_ut1_with_dut1(UTC(date), dut1, leap_table::rows::no_rows())),
-        _ => found_utc(utc_scales::from_ut1::ut1_to_utc_with_dut1(UT1(date), dut1, leap_table::rows::no_rows())),
+        125 => found_ut1(utc_scales::to_ut1::utc_to_ut1_with_dut1(
+            UTC(date),
+            dut1,
+            leap_table::rows::no_rows(),
+        )),
+        _ => found_utc(utc_scales::from_ut1::ut1_to_utc_with_dut1(
+            UT1(date),
+            dut1,
+            leap_table::rows::no_rows(),
+        )),
     }
 }

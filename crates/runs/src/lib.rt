@@ -17,12 +17,13 @@ use crate::by_formula::RunAnswer;
 use crate::by_formula::one_if_refused;
 use julian::JulianAnswer;
 use julian::JulianDate;
-use leap_table::rows::LentRows;
 use julian::same_stamps::GPS;
 use julian::same_stamps::TAI;
 use julian::same_stamps::TCG;
 use julian::same_stamps::TT;
 use julian::same_stamps::are;
+use leap_table::rows::LentRows;
+
 pub mod by_formula;
 pub mod ways;
 

@@ -7,10 +7,10 @@ ghost use Rattle.scales.specs.Scales.{gpsOutcome};
 ghost use Rattle.scales.specs.gps_weeks.WeekDate.{weekMidnight, partOfDay, weekDate};
 ghost use Rattle.scales.specs.gps_weeks.WeekOf.{weekOutcome, productOf, dayMillis, weekAt, weekOfDay, weekOf};
 ghost use Rattle.scales.specs.gps_weeks.FullWeek.{fullOutcome, byDistance, fullWeek};
-use julian::JulianAnswer;
-use julian::JulianDate;
 use crate::GPS;
 use crate::GpsAnswer;
+use julian::JulianAnswer;
+use julian::JulianDate;
 
 // A week, counted from 1980-01-06 0h GPS, and the milliseconds of it that have passed.
 pub struct WeekTime {

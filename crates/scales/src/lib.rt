@@ -6,8 +6,8 @@ ghost use Rattle.scales.specs.Scales.{taiOutcome, ut1Outcome, ttOutcome,
 use julian::JulianAnswer;
 use julian::JulianDate;
 
-pub mod gps_weeks;
 pub mod gps_tai;
+pub mod gps_weeks;
 pub mod tai_tt;
 pub mod tcb_tdb;
 pub mod tt_tcg;

@@ -10,6 +10,7 @@ ghost use Rattle.ticks.specs.judging.Refusing.{numberAt};
 ghost use Rattle.ticks.specs.Ticks.{passesOf, bytesOf, placedTicks, TicksCall};
 ghost use Rattle.ticks.specs.judging.GoodCalls.{GoodCall};
 ghost use Rattle.ticks.specs.Asked.{Sought, FoundPass, NearPass, TickBetween};
+
 pub mod judging;
 
 // The number of bytes written, or the number of the refusal.

@@ -7,6 +7,7 @@ mod by_rule;
 mod expanded;
 mod half_even;
 
+use crate::text::TextAnswer;
 pub use by_rule::to_iso8601;
 pub use by_rule::to_iso8601_by_lent;
 pub use by_rule::to_iso8601_by_rows;
@@ -21,7 +22,6 @@ pub use half_even::to_iso8601_half_even_by_rows;
 use leap_table::offsets::Rule;
 use time_of_day::TimeOfDay;
 use time_of_day::TimeShown;
-use crate::text::TextAnswer;
 
 // How many bytes were written and the rule of the day, or the number of the refusal.
 pub enum TextByRule {

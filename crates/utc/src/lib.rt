@@ -11,10 +11,11 @@ use julian::CalendarAnswer;
 use julian::FractionAnswer;
 use julian::JulianAnswer;
 use julian::JulianDate;
+use leap_table::offsets::SecondsByRule;
 use leap_table::rows::LentRows;
 use scales::UTC;
 use scales::UtcAnswer;
-use leap_table::offsets::SecondsByRule;
+
 pub mod iso_texts;
 pub mod text;
 

@@ -84,5 +84,12 @@ pub fn offset_at_0h<'a>(
     ensures { λ r. ⌜ secondsByRuleOutcome r ≡ withRule (offsetAt0h (rowsIn size (now (months .entry)) (now (seconds .entry))) (gregorianDate day)) (ruleOn (rowsIn size (now (months .entry)) (now (seconds .entry))) (gregorianDate day)) ⌝ }
 {
     let t = calendar::gregorian_date(day);
-    leap_table::offsets::offset_at_0h_by_lent(t.year, t.month as i32, t.day as i32, size, months, seconds)
+    leap_table::offsets::offset_at_0h_by_lent(
+        t.year,
+        t.month as i32,
+        t.day as i32,
+        size,
+        months,
+        seconds,
+    )
 }

@@ -13,12 +13,14 @@ ghost use Rattle.utc_scales.specs.from_ut1.KnownMonths.{RightMonth, Righ
 
 mod months;
 
+use crate::days::kept_parts;
+use crate::days::placed;
 use constants::MJD_ZERO_POINT;
 use constants::SECONDS_PER_DAY_F64;
-use julian::day_number::DayAnswer;
 use julian::FractionAnswer;
 use julian::JulianAnswer;
 use julian::JulianDate;
+use julian::day_number::DayAnswer;
 use leap_table::rows::LentRows;
 use months::KnownMonth;
 use months::MonthAnswer;
@@ -28,8 +30,6 @@ use months::month_with;
 use scales::UT1;
 use scales::UTC;
 use scales::UtcAnswer;
-use crate::days::kept_parts;
-use crate::days::placed;
 
 // What a scanned day shows: its month and TAI-UTC, with no step from the day before; or DUT1 near its step.
 enum DayScan {

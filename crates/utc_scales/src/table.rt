@@ -36,7 +36,14 @@ pub(crate) fn day_of<'a>(
     ensures { λ r. ⌜ dayByRuleOutcome r ≡ withRule (offsetsOf (rowsIn size (now (months .entry)) (now (seconds .entry))) (gregorianDate day)) (ruleOn (rowsIn size (now (months .entry)) (now (seconds .entry))) (gregorianDate day)) ⌝ }
 {
     let t = calendar::gregorian_date(day);
-    leap_table::offsets::day_offsets_by_lent(t.year, t.month as i32, t.day as i32, size, months, seconds)
+    leap_table::offsets::day_offsets_by_lent(
+        t.year,
+        t.month as i32,
+        t.day as i32,
+        size,
+        months,
+        seconds,
+    )
 }
 
 // The offsets alone.

@@ -9,20 +9,20 @@ ghost use Rattle.utc_scales.specs.days.DateRule.{offsetOfDateByRule};
 ghost use Rattle.utc_scales.specs.Known.{SameDay};
 ghost use Rattle.utc_scales.specs.to_ut1.UtcUt1 as U;
 ghost use Rattle.utc_scales.specs.to_ut1.ByRule.{utcToUt1ByRule, ut1ByRuleOutcome, offsetOfParts};
-use julian::day_number::DayAnswer;
-use leap_table::rows::LentRows;
-use scales::TAI;
-use scales::UT1;
-use scales::UTC;
-use scales::Ut1Answer;
-use leap_table::offsets::Rule;
-use leap_table::offsets::SecondsByRule;
 use crate::days::Parts;
 use crate::days::kept_parts;
 use crate::days::offset_at_0h;
 use crate::days::put_beside;
 use crate::utc_tai::RuledPart;
 use crate::utc_tai::tai_fraction_by_rule;
+use julian::day_number::DayAnswer;
+use leap_table::offsets::Rule;
+use leap_table::offsets::SecondsByRule;
+use leap_table::rows::LentRows;
+use scales::TAI;
+use scales::UT1;
+use scales::UTC;
+use scales::Ut1Answer;
 
 // A date with the rule of its offset, or the number of the refusal.
 pub enum Ut1ByRule {

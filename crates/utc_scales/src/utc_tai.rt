@@ -14,24 +14,24 @@ use super::table::KnownDay;
 use super::table::day_of;
 use super::table::mjd_of;
 use super::table::offsets_with;
+use crate::days::kept_parts;
+use crate::days::placed;
+use crate::days::put_beside;
 use constants::MJD_ZERO_POINT;
 use constants::SECONDS_PER_DAY_F64;
-use julian::day_number::DayAnswer;
 use julian::FractionAnswer;
 use julian::JulianAnswer;
 use julian::JulianDate;
+use julian::day_number::DayAnswer;
+use leap_table::offsets::DayByRule;
+use leap_table::offsets::DayOffsets;
+use leap_table::offsets::DayOffsetsAnswer;
+use leap_table::offsets::Rule;
 use leap_table::rows::LentRows;
 use scales::TAI;
 use scales::TaiAnswer;
 use scales::UTC;
 use scales::UtcAnswer;
-use leap_table::offsets::DayByRule;
-use leap_table::offsets::DayOffsets;
-use leap_table::offsets::DayOffsetsAnswer;
-use leap_table::offsets::Rule;
-use crate::days::kept_parts;
-use crate::days::placed;
-use crate::days::put_beside;
 
 // The smaller part of a date, and the day that was looked up for it.
 pub(crate) struct KnownPart {

@@ -6,20 +6,8 @@ use borrow.Author.Needs.{needs}
 use Rattle.c_answers.proofs.put.Statement.{statement}
 use Rattle.c_answers.proofs.put.Tie as tie
 
-refused-requires : tie.Need-refused-requires
-refused-requires c κs = search needs
-
 returns : tie.Need-returns
 returns c = too-short (now (c .before .before .before .before .args .all)) (now (c .before .before .before .before .args .out)) _ (c .before .if1 .taken) (code-back (c .refused .ok) ∙ c .refused .ensures)
-
-copy-requires : tie.Need-copy-requires
-copy-requires c κs = search needs
-
-cast-result : tie.Need-cast-result
-cast-result c = search needs
-
-same-length : tie.Need-same-length
-same-length c = search needs
 
 returns-2 : tie.Need-returns-2
 returns-2 c =
@@ -30,4 +18,4 @@ returns-2 c =
 
 pub put-spec : {M : Type 1} → statement M
 put-spec =
-    tie.close (tie.spec refused-requires returns copy-requires cast-result same-length returns-2)
+    tie.close (tie.spec (λ c κs. search needs) returns (λ c κs. search needs) (λ c. search needs) (λ c. search needs) returns-2)

@@ -11,63 +11,6 @@ use borrow.Author.Needs.{needs}
 use Rattle.calendar.proofs.date_of_shifted_day.Statement.{statement}
 use Rattle.calendar.proofs.date_of_shifted_day.Tie as tie
 
-mul-n : tie.Need-mul-n
-mul-n c = search needs
-
-mul-a : tie.Need-mul-a
-mul-a c = search needs
-
-add-a : tie.Need-add-a
-add-a c = search needs
-
-sub-a : tie.Need-sub-a
-sub-a c = search needs
-
-add-i : tie.Need-add-i
-add-i c = search needs
-
-mul-i : tie.Need-mul-i
-mul-i c = search needs
-
-add-b : tie.Need-add-b
-add-b c = search needs
-
-mul-b : tie.Need-mul-b
-mul-b c = search needs
-
-sub-b : tie.Need-sub-b
-sub-b c = search needs
-
-mul-k : tie.Need-mul-k
-mul-k c = search needs
-
-add-k : tie.Need-add-k
-add-k c = search needs
-
-mul-day : tie.Need-mul-day
-mul-day c = search needs
-
-sub-day : tie.Need-sub-day
-sub-day c = search needs
-
-add-over : tie.Need-add-over
-add-over c = search needs
-
-add-month : tie.Need-add-month
-add-month c = search needs
-
-mul-month : tie.Need-mul-month
-mul-month c = search needs
-
-sub-month : tie.Need-sub-month
-sub-month c = search needs
-
-mul-lowered-year : tie.Need-mul-lowered-year
-mul-lowered-year c = search needs
-
-add-lowered-year : tie.Need-add-lowered-year
-add-lowered-year c = search needs
-
 add-lowered-year-2 : tie.Need-add-lowered-year-2
 add-lowered-year-2 c = record { fits = omega (arith, year-of-shifts-fits (c .args .l) _ _ _ _ _ refl refl refl refl refl (c .pre)) }
 
@@ -86,25 +29,25 @@ pub date-of-shifted-day-spec : {M : Type 1} → statement M
 date-of-shifted-day-spec =
     tie.close
     (tie.spec
-    mul-n
-    mul-a
-    add-a
-    sub-a
-    add-i
-    mul-i
-    add-b
-    mul-b
-    sub-b
-    mul-k
-    add-k
-    mul-day
-    sub-day
-    add-over
-    add-month
-    mul-month
-    sub-month
-    mul-lowered-year
-    add-lowered-year
+    (λ c. search needs)
+    (λ c. search needs)
+    (λ c. search needs)
+    (λ c. search needs)
+    (λ c. search needs)
+    (λ c. search needs)
+    (λ c. search needs)
+    (λ c. search needs)
+    (λ c. search needs)
+    (λ c. search needs)
+    (λ c. search needs)
+    (λ c. search needs)
+    (λ c. search needs)
+    (λ c. search needs)
+    (λ c. search needs)
+    (λ c. search needs)
+    (λ c. search needs)
+    (λ c. search needs)
+    (λ c. search needs)
     add-lowered-year-2
     lowered-year-requires
     returns)

@@ -20,9 +20,6 @@ cast-month-length c =
     let s = c .before in
     to-unsigned (s .args .month) (s .fits .month) (lt-left (s .args .month) _ false (s .fits .month) (c .if1 .left))
 
-month-length-requires : tie.Need-month-length-requires
-month-length-requires c κs = search needs
-
 returns-2 : tie.Need-returns-2
 returns-2 c =
     let s = c .before .before in
@@ -31,4 +28,4 @@ returns-2 c =
     ∙ sym (month-days (s .args .year) (s .args .month) (lt-left (s .args .month) _ false (s .fits .month) (c .before .if1 .left)))
 
 pub days-in-month-spec : {M : Type 1} → statement M
-days-in-month-spec = tie.close (tie.spec returns cast-month-length month-length-requires returns-2)
+days-in-month-spec = tie.close (tie.spec returns cast-month-length (λ c κs. search needs) returns-2)

@@ -13,9 +13,6 @@ use Rattle.calendar.proofs.gregorian_date.Tie as tie
 returns : tie.Need-returns
 returns c = sym (gregorian-below (c .before .args .jd) (lt-left (c .before .args .jd) _ true (c .before .fits .jd) (c .if1 .taken)))
 
-date-of-shifted-day-requires : tie.Need-date-of-shifted-day-requires
-date-of-shifted-day-requires c κs = search needs
-
 returns-2 : tie.Need-returns-2
 unfolding dateOf
 returns-2 c =
@@ -24,12 +21,6 @@ returns-2 c =
     ∙ sym
     (gregorian-above (s .args .jd) (lt-left (s .args .jd) _ false (s .fits .jd) (c .before .before .if1 .left))
     (lt-right (pos 1000000000) (s .args .jd) true (s .fits .jd) (c .before .if2 .taken)))
-
-shifted-day-requires : tie.Need-shifted-day-requires
-shifted-day-requires c κs = search needs
-
-date-of-shifted-day-requires-2 : tie.Need-date-of-shifted-day-requires-2
-date-of-shifted-day-requires-2 c κs = search needs
 
 returns-3 : tie.Need-returns-3
 returns-3 c =
@@ -46,8 +37,8 @@ gregorian-date-spec =
     tie.close
     (tie.spec
     returns
-    date-of-shifted-day-requires
+    (λ c κs. search needs)
     returns-2
-    shifted-day-requires
-    date-of-shifted-day-requires-2
+    (λ c κs. search needs)
+    (λ c κs. search needs)
     returns-3)

@@ -14,9 +14,6 @@ use Rattle.calendar.proofs.lowered_year.Tie as tie
 diff : (c : tie.Start) → toZ w32 (c .args .y) -ℤ pos 4900 ≡ subℕ (c .args .y) 4900
 diff c = ap (λ (z : ℤ). z -ℤ pos 4900) (toZ-pos w32 {n = c .args .y} (omega (arith, c .pre)))
 
-cast-result : tie.Need-cast-result
-cast-result c = search needs
-
 sub-result : tie.Need-sub-result
 sub-result c =
     subst (λ (z : ℤ). SFits w32 z) (sym (diff c)) (record { sfits = lowered (c .args .y) 4900 (2 ^ 31) (omega (arith, c .pre)) (omega arith) })
@@ -25,4 +22,4 @@ returns : tie.Need-returns
 returns c = toZ-ofZ (sub-result c) ∙ diff c
 
 pub lowered-year-spec : {M : Type 1} → statement M
-lowered-year-spec = tie.close (tie.spec cast-result sub-result returns)
+lowered-year-spec = tie.close (tie.spec (λ c. search needs) sub-result returns)

@@ -27,15 +27,6 @@ module _ (c : tie.After-enum-told) where
   ok : Accepted (c .before .before .before .args .year) (c .before .before .before .args .month) (c .before .before .before .args .day)
   ok = date-accepted _ _ _ valid
 
-validate-calendar-date-requires : tie.Need-validate-calendar-date-requires
-validate-calendar-date-requires c κs = search needs
-
-enum-known-number : tie.Need-enum-known-number
-enum-known-number c = search needs
-
-enum-told : tie.Need-enum-told
-enum-told c = search needs
-
 raised-year-requires : tie.Need-raised-year-requires
 raised-year-requires c κs = ap (λ (z : ℤ). ltZ z (negsuc 4798)) (toZ-ofZ (c .before .before .before .fits .year)) ∙ ok c .year
 
@@ -53,9 +44,6 @@ civil-count-requires c κs =
     let d = read-back (s .args .day) (s .fits .day) in
     let b = short (leapYear (s .args .year)) (natAbs (s .args .month)) (a .m-low) (a .m-high) in
     (c .raised-year .ensures .1, c .raised-year .ensures .2, omega (arith, m, a .m-low), omega (arith, m, a .m-high), omega (arith, d, a .d-high, b))
-
-count-to-mjd-requires : tie.Need-count-to-mjd-requires
-count-to-mjd-requires c κs = search needs
 
 returns : tie.Need-returns
 unfolding mjdOutcome
@@ -83,13 +71,13 @@ pub modified-julian-day-spec : {M : Type 1} → statement M
 modified-julian-day-spec =
     tie.close
     (tie.spec
-    validate-calendar-date-requires
-    enum-known-number
-    enum-told
+    (λ c κs. search needs)
+    (λ c. search needs)
+    (λ c. search needs)
     raised-year-requires
     cast-civil-count
     cast-civil-count-2
     civil-count-requires
-    count-to-mjd-requires
+    (λ c κs. search needs)
     returns
     returns-2)

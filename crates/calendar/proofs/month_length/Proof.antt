@@ -37,9 +37,6 @@ returns-3 c =
 feb : (b t : Bool) (m v : ℕ) → b ≡ t → m ≡ 2 → v ≡ lengths t 2 → v ≡ lengths b m
 feb b t m v e f p = p ∙ ap (λ (s : Bool). lengths s 2) (sym e) ∙ ap (lengths b) (sym f)
 
-is-leap-year-requires : tie.Need-is-leap-year-requires
-is-leap-year-requires c κs = search needs
-
 -- the year's rule, as it was computed
 is-leap : (c : tie.After-is-leap-year) → leapYear (c .before .before .args .year) ≡ c .is-leap-year .result
 is-leap c = sym (c .is-leap-year .ensures ∙ ap leapYear (toZ-ofZ (c .before .before .fits .year)))
@@ -78,4 +75,4 @@ returns-6 c =
 
 pub month-length-spec : {M : Type 1} → statement M
 month-length-spec =
-    tie.close (tie.spec is-leap-year-requires returns returns-2 returns-3 returns-4 returns-5 returns-6)
+    tie.close (tie.spec (λ c κs. search needs) returns returns-2 returns-3 returns-4 returns-5 returns-6)

@@ -54,12 +54,6 @@ sum y f = ap (λ (z : ℤ). z +ℤ pos 1) (toZ-ofZ f) ∙ +ℤ-one y
 dates : (y y′ : ℤ) (m m′ d d′ : ℕ) → y ≡ y′ → m ≡ m′ → d ≡ d′ → answer (date y m d) ≡ answer (date y′ m′ d′)
 dates y y′ m m′ d d′ p q r = λ i. answer (date (p i) (q i) (r i))
 
-validate-calendar-date-requires : tie.Need-validate-calendar-date-requires
-validate-calendar-date-requires c κs = search needs
-
-enum-known-number : tie.Need-enum-known-number
-enum-known-number c = search needs
-
 returns : tie.Need-returns
 unfolding nextOutcome
 returns c =
@@ -69,20 +63,11 @@ returns c =
     (refused-next _ _ _ _
     (is-refused _ _ _ (s .fits .year) (s .fits .month) (s .fits .day) (v .validate-calendar-date .result) (v .validate-calendar-date .ensures) _ (c .before .number .given .1)))
 
-enum-told : tie.Need-enum-told
-enum-told c = search needs
-
 cast-m : tie.Need-cast-m
 cast-m c = to-unsigned _ (c .before .before .before .fits .month) (ok c .m-sign)
 
 cast-d : tie.Need-cast-d
 cast-d c = to-unsigned _ (c .before .before .before .fits .day) (ok c .d-sign)
-
-days-in-month-requires : tie.Need-days-in-month-requires
-days-in-month-requires c κs = search needs
-
-add-t10 : tie.Need-add-t10
-add-t10 c = search needs
 
 returns-2 : tie.Need-returns-2
 unfolding nextOutcome
@@ -91,9 +76,6 @@ returns-2 c =
     let s = g .before .before .before .before in
     dates _ _ _ _ _ _ (toZ-ofZ (s .fits .year)) (month-of g) (ap (λ (n : ℕ). n + 1) (day-of g))
     ∙ sym (next-day _ _ _ (valid (g .before)) (less _ _ _ _ (day-of g) (last g) (c .if1 .taken)))
-
-add-t12 : tie.Need-add-t12
-add-t12 c = search needs
 
 returns-3 : tie.Need-returns-3
 unfolding nextOutcome
@@ -132,16 +114,16 @@ pub next-calendar-day-spec : {M : Type 1} → statement M
 next-calendar-day-spec =
     tie.close
     (tie.spec
-    validate-calendar-date-requires
-    enum-known-number
+    (λ c κs. search needs)
+    (λ c. search needs)
     returns
-    enum-told
+    (λ c. search needs)
     cast-m
     cast-d
-    days-in-month-requires
-    add-t10
+    (λ c κs. search needs)
+    (λ c. search needs)
     returns-2
-    add-t12
+    (λ c. search needs)
     returns-3
     returns-4
     add-t14

@@ -30,9 +30,6 @@ returns : tie.Need-returns
 unfolding checkOutcome
 returns c = year-refused _ _ _ (lt-left _ _ true (c .before .fits .year) (c .if1 .taken))
 
-days-in-month-requires : tie.Need-days-in-month-requires
-days-in-month-requires c κs = search needs
-
 returns-2 : tie.Need-returns-2
 unfolding checkOutcome
 returns-2 c = month-refused _ _ _ (year-ok (c .before .before)) (sym (last-is (c .before)) ∙ c .if2 .taken)
@@ -69,4 +66,4 @@ returns-5 c =
 pub validate-calendar-date-spec : {M : Type 1} → statement M
 validate-calendar-date-spec =
     tie.close
-    (tie.spec returns days-in-month-requires returns-2 returns-3 cast-if4 returns-4 returns-5)
+    (tie.spec returns (λ c κs. search needs) returns-2 returns-3 cast-if4 returns-4 returns-5)

@@ -6,9 +6,9 @@ ghost use Rattle.c_answers.specs.table.TableBytes.{tableBytes};
 ghost use Rattle.c_answers.specs.Delivery.{inBytes, Delivered};
 ghost use Rattle.capi.specs.lent_calls.BillBytes.{billBytes, utcTime};
 use c_answers::refused;
-use c_answers::wide_fields;
 use c_answers::table::lent_rows_at;
 use c_answers::table::table_number;
+use c_answers::wide_fields;
 use standby::BillAnswer;
 use standby::UtcTime;
 

@@ -7,12 +7,6 @@ use Rattle.constants.specs.Constants.{secondsPerDay, nanosecondsPerSecon
 use Rattle.constants.proofs.constant.Statement.{statement}
 use Rattle.constants.proofs.constant.Tie as tie
 
-mul-result : tie.Need-mul-result
-mul-result c = search needs
-
-array-read-result : tie.Need-array-read-result
-array-read-result c = search needs
-
 returns : tie.Need-returns
 unfolding inOrder secondsPerDay nanosecondsPerSecond daysPerJulianYear mjdZeroPoint j2000Jd unixEpochJd gpsToTaiOffsetSeconds ttTaiOffset tcgRateLg tcbRateLb tdbOffset1977 mjd1977Jan1 tcgReferenceEpoch ratio tcgRateRatio tcbRateRatio ofBits round neg add sub div
 returns c = refl
@@ -22,4 +16,4 @@ unfolding inOrder div ofBits
 returns-2 c = sym (List·getD-eq-default inOrder nan (c .if1 .left))
 
 pub constant-spec : {M : Type 1} → statement M
-constant-spec = tie.close (tie.spec mul-result array-read-result returns returns-2)
+constant-spec = tie.close (tie.spec (λ c. search needs) (λ c. search needs) returns returns-2)

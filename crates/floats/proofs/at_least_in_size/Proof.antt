@@ -7,16 +7,10 @@ use Rattle.floats.proofs.Sizes.{in-size}
 use Rattle.floats.proofs.at_least_in_size.Statement.{statement}
 use Rattle.floats.proofs.at_least_in_size.Tie as tie
 
-size-of-requires : tie.Need-size-of-requires
-size-of-requires c κs = search needs
-
-size-of-requires-2 : tie.Need-size-of-requires-2
-size-of-requires-2 c κs = search needs
-
 returns : tie.Need-returns
 returns c =
     let s = c .before .before .args in
     ap (λ (v : Float). le v (c .before .size-of .result)) (c .size-of2 .ensures) ∙ ap (λ (v : Float). le (size (s .y)) v) (c .before .size-of .ensures) ∙ in-size (s .x) (s .y)
 
 pub at-least-in-size-spec : {M : Type 1} → statement M
-at-least-in-size-spec = tie.close (tie.spec size-of-requires size-of-requires-2 returns)
+at-least-in-size-spec = tie.close (tie.spec (λ c κs. search needs) (λ c κs. search needs) returns)

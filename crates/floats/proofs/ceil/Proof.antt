@@ -6,11 +6,8 @@ use Rattle.floats.proofs.Below.{turned}
 use Rattle.floats.proofs.ceil.Statement.{statement}
 use Rattle.floats.proofs.ceil.Tie as tie
 
-floor-requires : tie.Need-floor-requires
-floor-requires c κs = search needs
-
 returns : tie.Need-returns
 returns c = ap neg (c .floor .ensures) ∙ turned (c .before .args .x)
 
 pub ceil-spec : {M : Type 1} → statement M
-ceil-spec = tie.close (tie.spec floor-requires returns)
+ceil-spec = tie.close (tie.spec (λ c κs. search needs) returns)

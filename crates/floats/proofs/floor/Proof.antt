@@ -10,9 +10,6 @@ use Rattle.floats.proofs.Below.{one-off, none-off}
 use Rattle.floats.proofs.floor.Statement.{statement}
 use Rattle.floats.proofs.floor.Tie as tie
 
-trunc-requires : tie.Need-trunc-requires
-trunc-requires c κs = search needs
-
 returns : tie.Need-returns
 unfolding ofBits
 returns c =
@@ -27,4 +24,4 @@ returns-2 c =
     e ∙ none-off (s .args .x) (yes (s .good .0 .1)) (subst (λ (v : Float). T (not (lt (s .args .x) v))) e (no (c .if1 .left)))
 
 pub floor-spec : {M : Type 1} → statement M
-floor-spec = tie.close (tie.spec trunc-requires returns returns-2)
+floor-spec = tie.close (tie.spec (λ c κs. search needs) returns returns-2)

@@ -7,16 +7,10 @@ use Rattle.floats.proofs.Sizes.{larger-in-size}
 use Rattle.floats.proofs.larger_in_size.Statement.{statement}
 use Rattle.floats.proofs.larger_in_size.Tie as tie
 
-size-of-requires : tie.Need-size-of-requires
-size-of-requires c κs = search needs
-
-size-of-requires-2 : tie.Need-size-of-requires-2
-size-of-requires-2 c κs = search needs
-
 returns : tie.Need-returns
 returns c =
     let s = c .before .before .args in
     ap (λ (v : Float). lt v (c .before .size-of .result)) (c .size-of2 .ensures) ∙ ap (λ (v : Float). lt (size (s .y)) v) (c .before .size-of .ensures) ∙ larger-in-size (s .x) (s .y)
 
 pub larger-in-size-spec : {M : Type 1} → statement M
-larger-in-size-spec = tie.close (tie.spec size-of-requires size-of-requires-2 returns)
+larger-in-size-spec = tie.close (tie.spec (λ c κs. search needs) (λ c κs. search needs) returns)

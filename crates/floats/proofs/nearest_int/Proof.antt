@@ -13,15 +13,6 @@ first p q a b c h = sym (ap (λ (t : Bool). cond t a (cond q b c)) h)
 other : (p q r : Bool) (a b c : Float) → p ≡ false → q ≡ r → cond r b c ≡ cond p a (cond q b c)
 other p q r a b c h k = sym (ap (λ (t : Bool). cond t a (cond q b c)) h ∙ ap (λ (t : Bool). cond t b c) k)
 
-fabs-requires : tie.Need-fabs-requires
-fabs-requires c κs = search needs
-
-ceil-requires : tie.Need-ceil-requires
-ceil-requires c κs = search needs
-
-floor-requires : tie.Need-floor-requires
-floor-requires c κs = search needs
-
 returns : tie.Need-returns
 unfolding ofBits nearestInt
 returns c =
@@ -43,4 +34,4 @@ returns-3 c =
     c .floor .ensures ∙ other _ _ false _ _ _ (ap (λ (v : Float). lt v half) (sym (e .before .fabs .ensures)) ∙ e .if1 .left) (b .if2 .left)
 
 pub nearest-int-spec : {M : Type 1} → statement M
-nearest-int-spec = tie.close (tie.spec fabs-requires ceil-requires floor-requires returns returns-2 returns-3)
+nearest-int-spec = tie.close (tie.spec (λ c κs. search needs) (λ c κs. search needs) (λ c κs. search needs) returns returns-2 returns-3)

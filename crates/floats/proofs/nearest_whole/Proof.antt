@@ -55,12 +55,6 @@ returns-2 : tie.Need-returns-2
 unfolding ofBits neg nearestWhole toSigned
 returns-2 c = ap (λ (v : Float). record { value = v; number = toSigned 63 v }) (small-is (c .before .before .args .a) (c .before .if1 .left) (c .if4 .taken))
 
-nearest-int-requires : tie.Need-nearest-int-requires
-nearest-int-requires c κs = search needs
-
-saturating-i64-requires : tie.Need-saturating-i64-requires
-saturating-i64-requires c κs = search needs
-
 returns-3 : tie.Need-returns-3
 unfolding nearestWhole
 returns-3 c =
@@ -70,4 +64,4 @@ returns-3 c =
     ∙ ap (λ (x : Float). record { value = x; number = toSigned 63 x }) v
 
 pub nearest-whole-spec : {M : Type 1} → statement M
-nearest-whole-spec = tie.close (tie.spec truncating-f64-to-u64-requires cast-n int-to-float-t9 returns returns-2 nearest-int-requires saturating-i64-requires returns-3)
+nearest-whole-spec = tie.close (tie.spec truncating-f64-to-u64-requires cast-n int-to-float-t9 returns returns-2 (λ c κs. search needs) (λ c κs. search needs) returns-3)

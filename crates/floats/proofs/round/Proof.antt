@@ -33,21 +33,6 @@ float-from-bits-result c =
     let n = c .before .before in
     low-no-nan (x (n .before)) (held (n .before)) (number n)
 
-sub-k : tie.Need-sub-k
-sub-k c = search needs
-
-sub-result : tie.Need-sub-result
-sub-result c = search needs
-
-shl-result : tie.Need-shl-result
-shl-result c = search needs
-
-shr-result : tie.Need-shr-result
-shr-result c = search needs
-
-shl-result-2 : tie.Need-shl-result-2
-shl-result-2 c = search needs
-
 add-result : tie.Need-add-result
 add-result c =
     let n = c .before .before .before in
@@ -86,4 +71,4 @@ returns-6 c =
     mid (x (n .before)) (held (n .before)) (number n) lo hi _ (unit-half-lt _ lo hi) away away-same (taken-nearer _ lo hi (2 ^ 52 + digits (toBits binary64 (x (n .before)))))
 
 pub round-spec : {M : Type 1} → statement M
-round-spec = tie.close (tie.spec returns float-to-bits-b float-from-bits-result sub-k sub-result shl-result add-result shr-result shl-result-2 float-from-bits-result-2 returns-2 returns-3 returns-4 returns-5 returns-6)
+round-spec = tie.close (tie.spec returns float-to-bits-b float-from-bits-result (λ c. search needs) (λ c. search needs) (λ c. search needs) add-result (λ c. search needs) (λ c. search needs) float-from-bits-result-2 returns-2 returns-3 returns-4 returns-5 returns-6)

@@ -10,9 +10,6 @@ truncating-f64-to-i64-requires : tie.Need-truncating-f64-to-i64-requires
 unfolding ofBits neg
 truncating-f64-to-i64-requires c κs = (yes (c .before .if1 .taken), yes (c .if2 .taken))
 
-returns : tie.Need-returns
-returns c = search needs
-
 returns-2 : tie.Need-returns-2
 unfolding ofBits neg
 returns-2 c = over (c .before .before .args .x) (yes (c .before .if1 .taken)) (no (c .if2 .left))
@@ -26,4 +23,4 @@ unfolding ofBits neg
 returns-4 c = no-number (c .before .before .args .x) (no (c .before .if1 .left)) (no (c .if3 .left))
 
 pub saturating-i64-spec : {M : Type 1} → statement M
-saturating-i64-spec = tie.close (tie.spec truncating-f64-to-i64-requires returns returns-2 returns-3 returns-4)
+saturating-i64-spec = tie.close (tie.spec truncating-f64-to-i64-requires (λ c. search needs) returns-2 returns-3 returns-4)

@@ -52,15 +52,6 @@ float-from-bits-result c =
     let n = c .before .before in
     low-no-nan (x (n .before)) (held (n .before)) (number n)
 
-sub-k : tie.Need-sub-k
-sub-k c = search needs
-
-shr-result : tie.Need-shr-result
-shr-result c = search needs
-
-shl-result : tie.Need-shl-result
-shl-result c = search needs
-
 float-from-bits-result-2 : tie.Need-float-from-bits-result-2
 float-from-bits-result-2 c =
     let n = c .before .before in
@@ -82,4 +73,4 @@ returns-4 c =
     middle (x (n .before)) (held (n .before)) (number n) (c .if3 .left) (c .before .if2 .left)
 
 pub trunc-spec : {M : Type 1} → statement M
-trunc-spec = tie.close (tie.spec returns float-to-bits-b float-from-bits-result sub-k shr-result shl-result float-from-bits-result-2 returns-2 returns-3 returns-4)
+trunc-spec = tie.close (tie.spec returns float-to-bits-b float-from-bits-result (λ c. search needs) (λ c. search needs) (λ c. search needs) float-from-bits-result-2 returns-2 returns-3 returns-4)

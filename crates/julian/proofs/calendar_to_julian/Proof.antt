@@ -11,15 +11,6 @@ use Rattle.julian.proofs.Midnights.{mjd-fits, mjd-in-float, midnight-re
 use Rattle.julian.proofs.calendar_to_julian.Statement.{statement}
 use Rattle.julian.proofs.calendar_to_julian.Tie as tie
 
-modified-julian-day-requires : tie.Need-modified-julian-day-requires
-modified-julian-day-requires c κs = search needs
-
-enum-known-number : tie.Need-enum-known-number
-enum-known-number c = search needs
-
-enum-known-mjd : tie.Need-enum-known-mjd
-enum-known-mjd c = search needs
-
 int-to-float-new : tie.Need-int-to-float-new
 unfolding mjdOutcome
 int-to-float-new c =
@@ -29,9 +20,6 @@ int-to-float-new c =
     let e : mjdOf (s .args .year) (s .args .month) (s .args .day) ≡ answer n =
     sym (λ i. mjdOf (toZ-ofZ (s .fits .year) i) (toZ-ofZ (s .fits .month) i) (toZ-ofZ (s .fits .day) i)) ∙ sym (a .modified-julian-day .ensures) ∙ ap mjdOutcome (c .before .before .mjd .given .1) in
     rw (toZ-ofZ (mjd-fits (s .args .year) (s .args .month) (s .args .day) n (s .fits .year) e)) (mjd-in-float (s .args .year) (s .args .month) (s .args .day) n (s .fits .year) e)
-
-new-requires : tie.Need-new-requires
-new-requires c κs = search needs
 
 returns : tie.Need-returns
 unfolding julianOutcome mjdOutcome
@@ -55,10 +43,10 @@ pub calendar-to-julian-spec : {M : Type 1} → statement M
 calendar-to-julian-spec =
     tie.close
     (tie.spec
-    modified-julian-day-requires
-    enum-known-number
-    enum-known-mjd
+    (λ c κs. search needs)
+    (λ c. search needs)
+    (λ c. search needs)
     int-to-float-new
-    new-requires
+    (λ c κs. search needs)
     returns
     returns-2)

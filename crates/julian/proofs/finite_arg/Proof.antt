@@ -5,9 +5,6 @@ use Rattle.julian.specs.Finite.{offsetOutcome, finiteArg}
 use Rattle.julian.proofs.finite_arg.Statement.{statement}
 use Rattle.julian.proofs.finite_arg.Tie as tie
 
-is-finite-requires : tie.Need-is-finite-requires
-is-finite-requires c κs = search needs
-
 returns : tie.Need-returns
 unfolding offsetOutcome finiteArg
 returns c = rw (sym (c .before .is-finite .ensures) ∙ c .if1 .taken)
@@ -17,4 +14,4 @@ unfolding offsetOutcome finiteArg
 returns-2 c = rw (sym (c .before .is-finite .ensures) ∙ c .if1 .left)
 
 pub finite-arg-spec : {M : Type 1} → statement M
-finite-arg-spec = tie.close (tie.spec is-finite-requires returns returns-2)
+finite-arg-spec = tie.close (tie.spec (λ c κs. search needs) returns returns-2)

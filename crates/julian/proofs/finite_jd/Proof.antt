@@ -6,9 +6,6 @@ use Rattle.julian.specs.JulianDate.{julianOutcome}
 use Rattle.julian.proofs.finite_jd.Statement.{statement}
 use Rattle.julian.proofs.finite_jd.Tie as tie
 
-both-finite-requires : tie.Need-both-finite-requires
-both-finite-requires c κs = search needs
-
 returns : tie.Need-returns
 unfolding julianOutcome finiteJd
 returns c = rw (sym (c .before .both-finite .ensures) ∙ c .if1 .taken)
@@ -18,4 +15,4 @@ unfolding julianOutcome finiteJd
 returns-2 c = rw (sym (c .before .both-finite .ensures) ∙ c .if1 .left)
 
 pub finite-jd-spec : {M : Type 1} → statement M
-finite-jd-spec = tie.close (tie.spec both-finite-requires returns returns-2)
+finite-jd-spec = tie.close (tie.spec (λ c κs. search needs) returns returns-2)

@@ -10,18 +10,6 @@ use Rattle.julian.specs.Calendar.{calendarOutcome, julianToCalendar}
 use Rattle.julian.proofs.julian_to_calendar.Statement.{statement}
 use Rattle.julian.proofs.julian_to_calendar.Tie as tie
 
-day-number-and-fraction-requires : tie.Need-day-number-and-fraction-requires
-day-number-and-fraction-requires c κs = search needs
-
-enum-known-number : tie.Need-enum-known-number
-enum-known-number c = search needs
-
-enum-known-found : tie.Need-enum-known-found
-enum-known-found c = search needs
-
-gregorian-date-requires : tie.Need-gregorian-date-requires
-gregorian-date-requires c κs = search needs
-
 returns : tie.Need-returns
 unfolding calendarOutcome julianToCalendar dayOutcome onward
 returns c =
@@ -44,9 +32,9 @@ pub julian-to-calendar-spec : {M : Type 1} → statement M
 julian-to-calendar-spec =
     tie.close
     (tie.spec
-    day-number-and-fraction-requires
-    enum-known-number
-    enum-known-found
-    gregorian-date-requires
+    (λ c κs. search needs)
+    (λ c. search needs)
+    (λ c. search needs)
+    (λ c κs. search needs)
     returns
     returns-2)

@@ -6,9 +6,6 @@ use Rattle.julian.specs.DayFraction.{timeInDay}
 use Rattle.julian.proofs.time_in_day.Statement.{statement}
 use Rattle.julian.proofs.time_in_day.Tie as tie
 
-second-limit-requires : tie.Need-second-limit-requires
-second-limit-requires c κs = search needs
-
 returns : tie.Need-returns
 unfolding timeInDay
 returns c = rw (lt-leb (c .before .before .args .hour) 23 (c .if1 .taken))
@@ -26,4 +23,4 @@ unfolding timeInDay ofBits
 returns-4 c = rw (le-leb (c .before .before .before .before .args .hour) 23 (c .before .before .if1 .left), le-leb (c .before .before .before .before .args .minute) 59 (c .before .if2 .left), c .if3 .left)
 
 pub time-in-day-spec : {M : Type 1} → statement M
-time-in-day-spec = tie.close (tie.spec second-limit-requires returns returns-2 returns-3 returns-4)
+time-in-day-spec = tie.close (tie.spec (λ c κs. search needs) returns returns-2 returns-3 returns-4)

@@ -5,10 +5,10 @@ ghost use Rattle.julian.specs.JulianDate.{julianOutcome};
 ghost use Rattle.julian.specs.shifts.Shifts.{daysOf, plus, minus, finiteOffset, finiteBoth, convertedBy};
 use super::smaller_part::earlier;
 use super::smaller_part::later;
-use constants::SECONDS_PER_DAY_F64;
 use crate::JulianAnswer;
 use crate::JulianDate;
 use crate::OffsetAnswer;
+use constants::SECONDS_PER_DAY_F64;
 
 fn days_of(seconds: f64) -> f64
     ensures { λ r. ⌜ r ≡ daysOf seconds ⌝ }

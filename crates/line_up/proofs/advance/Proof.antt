@@ -5,12 +5,6 @@ use borrow.Author.Needs.{needs}
 use Rattle.line_up.proofs.advance.Statement.{statement}
 use Rattle.line_up.proofs.advance.Tie as tie
 
-add-next-accepted : tie.Need-add-next-accepted
-add-next-accepted c = search needs
-
-next-accepted-requires : tie.Need-next-accepted-requires
-next-accepted-requires c κs = search needs
-
 returns : tie.Need-returns
 returns c =
     let s = c .before .before .before in
@@ -24,4 +18,4 @@ returns-2 c =
     moved-stays (a .numbers .now) (a .to) (a .p) (a .x) (c .if1 .left)
 
 pub advance-spec : {M : Type 1} → statement M
-advance-spec = tie.close (tie.spec add-next-accepted next-accepted-requires returns returns-2)
+advance-spec = tie.close (tie.spec (λ c. search needs) (λ c κs. search needs) returns returns-2)

@@ -16,16 +16,10 @@ returns-2 c =
     let a = c .before .before .args in
     broken-second (a .size1) (a .size2) (a .n) (a .first) (a .second) (a .room) (c .before .if1 .left) (c .if2 .taken)
 
-eight-each-requires : tie.Need-eight-each-requires
-eight-each-requires c κs = search needs
-
 returns-3 : tie.Need-returns-3
 returns-3 c =
     let a = c .before .before .before .before .args in
     differs-first (a .size1) (a .size2) (a .n) (a .first) (a .second) (a .room) (c .before .before .before .if1 .left) (c .before .before .if2 .left) (sym (c .before .eight-each .ensures) ∙ not-true (c .before .eight-each .result) (c .if3 .taken))
-
-eight-each-requires-2 : tie.Need-eight-each-requires-2
-eight-each-requires-2 c κs = search needs
 
 returns-4 : tie.Need-returns-4
 returns-4 c =
@@ -63,9 +57,9 @@ line-refusal-spec =
     (tie.spec
     returns
     returns-2
-    eight-each-requires
+    (λ c κs. search needs)
     returns-3
-    eight-each-requires-2
+    (λ c κs. search needs)
     returns-4
     returns-5
     returns-6

@@ -19,9 +19,6 @@ returns-2 c =
     let a = s .args in
     pick-y (soonerAt (a .jd1s .now) (a .jd2s .now)) (a .n) (a .x) (a .y) (c .before .if1 .left) (c .if2 .taken)
 
-sooner-at-requires : tie.Need-sooner-at-requires
-sooner-at-requires c κs = search needs
-
 returns-3 : tie.Need-returns-3
 returns-3 c =
     let s = c .before .before .before .before .before .before in
@@ -35,4 +32,4 @@ returns-4 c =
     pick-other (soonerAt (a .jd1s .now) (a .jd2s .now)) (a .n) (a .x) (a .y) (c .before .before .before .if1 .left) (c .before .before .if2 .left) (sym (c .before .sooner-at .ensures) ∙ c .if3 .left)
 
 pub pick-spec : {M : Type 1} → statement M
-pick-spec = tie.close (tie.spec returns returns-2 sooner-at-requires returns-3 returns-4)
+pick-spec = tie.close (tie.spec returns returns-2 (λ c κs. search needs) returns-3 returns-4)

@@ -4,14 +4,8 @@ use borrow.Author.Needs.{needs}
 use Rattle.line_up.proofs.pick_of_three.Statement.{statement}
 use Rattle.line_up.proofs.pick_of_three.Tie as tie
 
-pick-requires : tie.Need-pick-requires
-pick-requires c κs = search needs
-
-pick-requires-2 : tie.Need-pick-requires-2
-pick-requires-2 c κs = search needs
-
 returns : tie.Need-returns
 returns c = c .pick2 .ensures ∙ rw (c .before .pick .ensures)
 
 pub pick-of-three-spec : {M : Type 1} → statement M
-pick-of-three-spec = tie.close (tie.spec pick-requires pick-requires-2 returns)
+pick-of-three-spec = tie.close (tie.spec (λ c κs. search needs) (λ c κs. search needs) returns)

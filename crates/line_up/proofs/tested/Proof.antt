@@ -6,12 +6,6 @@ use Rattle.line_up.proofs.Cases.{dead-is, tested-dead, tested-sound, te
 use Rattle.line_up.proofs.tested.Statement.{statement}
 use Rattle.line_up.proofs.tested.Tie as tie
 
-stamp-of-requires : tie.Need-stamp-of-requires
-stamp-of-requires c κs = search needs
-
-has-place-requires : tie.Need-has-place-requires
-has-place-requires c κs = search needs
-
 returns : tie.Need-returns
 returns c =
     let p = c .before in
@@ -34,4 +28,4 @@ returns-3 c =
     tested-refused (deadAt (a .jd1s .now) (a .jd2s .now)) (a .number) (a .i) (c .if1 .left)
 
 pub tested-spec : {M : Type 1} → statement M
-tested-spec = tie.close (tie.spec stamp-of-requires has-place-requires returns returns-2 returns-3)
+tested-spec = tie.close (tie.spec (λ c κs. search needs) (λ c κs. search needs) returns returns-2 returns-3)

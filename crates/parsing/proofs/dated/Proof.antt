@@ -13,15 +13,6 @@ use borrow.Author.Needs.{needs}
 use Rattle.parsing.proofs.dated.Statement.{statement}
 use Rattle.parsing.proofs.dated.Tie as tie
 
-utc-from-calendar-by-lent-requires : tie.Need-utc-from-calendar-by-lent-requires
-utc-from-calendar-by-lent-requires c κs = search needs
-
-enum-known-number : tie.Need-enum-known-number
-enum-known-number c = search needs
-
-enum-known-date : tie.Need-enum-known-date
-enum-known-date c = search needs
-
 returns : tie.Need-returns
 unfolding parsedUtcOutcome dated onward utcOutcome
 returns c =
@@ -41,4 +32,4 @@ returns-2 c =
 pub dated-spec : {M : Type 1} → statement M
 dated-spec =
     tie.close
-    (tie.spec utc-from-calendar-by-lent-requires enum-known-number enum-known-date returns returns-2)
+    (tie.spec (λ c κs. search needs) (λ c. search needs) (λ c. search needs) returns returns-2)

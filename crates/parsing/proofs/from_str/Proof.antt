@@ -6,15 +6,9 @@ use borrow.Author.Needs.{needs}
 use Rattle.parsing.proofs.from_str.Statement.{statement}
 use Rattle.parsing.proofs.from_str.Tie as tie
 
-table-refusal-requires : tie.Need-table-refusal-requires
-table-refusal-requires c κs = search needs
-
 returns : tie.Need-returns
 unfolding parsedUtcOutcome
 returns c = let r = c .before in turned-away (r .before .before .args .table) (r .table-refusal .result) (r .table-refusal .ensures) _ (c .if1 .taken)
-
-from-str-by-rows-requires : tie.Need-from-str-by-rows-requires
-from-str-by-rows-requires c κs = search needs
 
 returns-2 : tie.Need-returns-2
 returns-2 c =
@@ -23,4 +17,4 @@ returns-2 c =
 
 pub from-str-spec : {M : Type 1} → statement M
 from-str-spec =
-    tie.close (tie.spec table-refusal-requires returns from-str-by-rows-requires returns-2)
+    tie.close (tie.spec (λ c κs. search needs) returns (λ c κs. search needs) returns-2)

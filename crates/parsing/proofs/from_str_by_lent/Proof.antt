@@ -6,18 +6,6 @@ use borrow.Author.Needs.{needs}
 use Rattle.parsing.proofs.from_str_by_lent.Statement.{statement}
 use Rattle.parsing.proofs.from_str_by_lent.Tie as tie
 
-parse-requires : tie.Need-parse-requires
-parse-requires c κs = search needs
-
-enum-known-number : tie.Need-enum-known-number
-enum-known-number c = search needs
-
-enum-known-fields : tie.Need-enum-known-fields
-enum-known-fields c = search needs
-
-dated-requires : tie.Need-dated-requires
-dated-requires c κs = search needs
-
 returns : tie.Need-returns
 unfolding parsedUtcOutcome parsedUtc onward parsedOutcome
 returns c = rw (sym (c .before .before .before .parse .ensures) ∙ ap parsedOutcome (c .before .number .given .1))
@@ -29,4 +17,4 @@ returns-2 c = rw (sym (c .before .before .before .before .parse .ensures) ∙ ap
 pub from-str-by-lent-spec : {M : Type 1} → statement M
 from-str-by-lent-spec =
     tie.close
-    (tie.spec parse-requires enum-known-number enum-known-fields dated-requires returns returns-2)
+    (tie.spec (λ c κs. search needs) (λ c. search needs) (λ c. search needs) (λ c κs. search needs) returns returns-2)

@@ -7,12 +7,6 @@ use borrow.Author.Needs.{needs}
 use Rattle.parsing.proofs.from_str_by_rows.Statement.{statement}
 use Rattle.parsing.proofs.from_str_by_rows.Tie as tie
 
-size-of-requires : tie.Need-size-of-requires
-size-of-requires c κs = search needs
-
-from-str-by-lent-requires : tie.Need-from-str-by-lent-requires
-from-str-by-lent-requires c κs = search needs
-
 returns : tie.Need-returns
 returns c =
     let z = c .before .before .before .before in
@@ -21,4 +15,4 @@ returns c =
     c .from-str-by-lent .ensures ∙ (λ i. parsedUtc (rows i) (now (s .args .text)))
 
 pub from-str-by-rows-spec : {M : Type 1} → statement M
-from-str-by-rows-spec = tie.close (tie.spec size-of-requires from-str-by-lent-requires returns)
+from-str-by-rows-spec = tie.close (tie.spec (λ c κs. search needs) (λ c κs. search needs) returns)

@@ -17,27 +17,6 @@ returns : tie.Need-returns
 unfolding parsedOutcome
 returns c = too-many-digits (c .before .before .args .form) (c .if1 .taken)
 
-cast-validate-calendar-date : tie.Need-cast-validate-calendar-date
-cast-validate-calendar-date c = search needs
-
-cast-validate-calendar-date-2 : tie.Need-cast-validate-calendar-date-2
-cast-validate-calendar-date-2 c = search needs
-
-cast-validate-calendar-date-3 : tie.Need-cast-validate-calendar-date-3
-cast-validate-calendar-date-3 c = search needs
-
-validate-calendar-date-requires : tie.Need-validate-calendar-date-requires
-validate-calendar-date-requires c κs = search needs
-
-enum-known-number : tie.Need-enum-known-number
-enum-known-number c = search needs
-
-enum-told : tie.Need-enum-told
-enum-told c = search needs
-
-time-in-requires : tie.Need-time-in-requires
-time-in-requires c κs = search needs
-
 returns-2 : tie.Need-returns-2
 unfolding parsedOutcome checkOutcome
 returns-2 c =
@@ -47,12 +26,6 @@ returns-2 c =
     let hd : f .day < 2147483648 = omega arith in
     let read = sym (c .before .before .before .before .validate-calendar-date .ensures ∙ (λ i. validDate (toZ-pos w32 {n = f .year} hy i) (toZ-pos w32 {n = f .month} hm i) (toZ-pos w32 {n = f .day} hd i))) in
     time-refused f (c .before .before .before .before .before .before .before .before .if1 .left) (read ∙ ap checkOutcome (c .before .before .enum-told .given .1)) (sym (c .before .time-in .ensures) ∙ not-true _ (c .if2 .taken))
-
-cast-t11 : tie.Need-cast-t11
-cast-t11 c = search needs
-
-second-of-requires : tie.Need-second-of-requires
-second-of-requires c κs = search needs
 
 returns-3 : tie.Need-returns-3
 unfolding parsedOutcome checkOutcome
@@ -80,15 +53,15 @@ judged-spec =
     tie.close
     (tie.spec
     returns
-    cast-validate-calendar-date
-    cast-validate-calendar-date-2
-    cast-validate-calendar-date-3
-    validate-calendar-date-requires
-    enum-known-number
-    enum-told
-    time-in-requires
+    (λ c. search needs)
+    (λ c. search needs)
+    (λ c. search needs)
+    (λ c κs. search needs)
+    (λ c. search needs)
+    (λ c. search needs)
+    (λ c κs. search needs)
     returns-2
-    cast-t11
-    second-of-requires
+    (λ c. search needs)
+    (λ c κs. search needs)
     returns-3
     returns-4)

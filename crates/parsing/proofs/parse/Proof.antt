@@ -11,15 +11,6 @@ use borrow.Author.Needs.{needs}
 use Rattle.parsing.proofs.parse.Statement.{statement}
 use Rattle.parsing.proofs.parse.Tie as tie
 
-scan-requires : tie.Need-scan-requires
-scan-requires c κs = search needs
-
-enum-told : tie.Need-enum-told
-enum-told c = search needs
-
-enum-known-form : tie.Need-enum-known-form
-enum-known-form c = search needs
-
 judged-requires : tie.Need-judged-requires
 unfolding scannedOutcome
 judged-requires c κs = within-small (c .before .before .before .before .before .args .utc) (c .before .before .before .before .before .args .text .now) _ (sym (c .before .before .before .scan .ensures) ∙ ap scannedOutcome (c .before .form .given .1))
@@ -34,4 +25,4 @@ returns-2 c = c .judged .ensures ∙ sym (parsed-is (c .before .before .before .
 
 pub parse-spec : {M : Type 1} → statement M
 parse-spec =
-    tie.close (tie.spec scan-requires enum-told enum-known-form judged-requires returns returns-2)
+    tie.close (tie.spec (λ c κs. search needs) (λ c. search needs) (λ c. search needs) judged-requires returns returns-2)

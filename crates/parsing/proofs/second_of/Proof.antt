@@ -16,15 +16,9 @@ int-to-float-result : tie.Need-int-to-float-result
 unfolding inFloat
 int-to-float-result c = le→leb (c .before .args .whole) (2 ^ 53) (omega arith)
 
-mul-result : tie.Need-mul-result
-mul-result c = search needs
-
-array-read-result : tie.Need-array-read-result
-array-read-result c = search needs
-
 returns : tie.Need-returns
 unfolding quotient valuesFrom power round ofBits
 returns c = ap (div binary64 (ofInt binary64 (pos (c .before .args .whole)))) (value-at power 14 0 (c .before .args .places) _ (omega arith) ∙ ap power (zero-add (c .before .args .places)))
 
 pub second-of-spec : {M : Type 1} → statement M
-second-of-spec = tie.close (tie.spec int-to-float-result mul-result array-read-result returns)
+second-of-spec = tie.close (tie.spec int-to-float-result (λ c. search needs) (λ c. search needs) returns)

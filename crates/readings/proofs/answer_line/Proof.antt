@@ -13,27 +13,6 @@ use Rattle.readings.proofs.answer_line.Tie as tie
 returns : tie.Need-returns
 returns c = no-room _ _ (omega (arith, c .if1 .taken))
 
-place-number-requires : tie.Need-place-number-requires
-place-number-requires c κs = search needs
-
-slice-aggregate-place-bytes : tie.Need-slice-aggregate-place-bytes
-slice-aggregate-place-bytes c = search needs
-
-place-bytes-requires : tie.Need-place-bytes-requires
-place-bytes-requires c κs = search needs
-
-place-reading-requires : tie.Need-place-reading-requires
-place-reading-requires c κs = search needs
-
-slice-aggregate-place-bytes-2 : tie.Need-slice-aggregate-place-bytes-2
-slice-aggregate-place-bytes-2 c = search needs
-
-place-bytes-requires-2 : tie.Need-place-bytes-requires-2
-place-bytes-requires-2 c κs = search needs
-
-same-length : tie.Need-same-length
-same-length c = search needs
-
 returns-2 : tie.Need-returns-2
 unfolding readingLine
 returns-2 c =
@@ -50,11 +29,11 @@ answer-line-spec =
     tie.close
     (tie.spec
     returns
-    place-number-requires
-    slice-aggregate-place-bytes
-    place-bytes-requires
-    place-reading-requires
-    slice-aggregate-place-bytes-2
-    place-bytes-requires-2
-    same-length
+    (λ c κs. search needs)
+    (λ c. search needs)
+    (λ c κs. search needs)
+    (λ c κs. search needs)
+    (λ c. search needs)
+    (λ c κs. search needs)
+    (λ c. search needs)
     returns-2)

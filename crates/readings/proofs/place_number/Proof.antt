@@ -6,23 +6,11 @@ use borrow.Author.Needs.{needs}
 use Rattle.readings.proofs.place_number.Statement.{statement}
 use Rattle.readings.proofs.place_number.Tie as tie
 
-decimal-requires : tie.Need-decimal-requires
-decimal-requires c κs = search needs
-
-array-share-prefix-digits : tie.Need-array-share-prefix-digits
-array-share-prefix-digits c = search needs
-
-slice-aggregate-place-bytes : tie.Need-slice-aggregate-place-bytes
-slice-aggregate-place-bytes c = search needs
-
 place-bytes-requires : tie.Need-place-bytes-requires
 place-bytes-requires c κs =
     let st = c .before .before .before .before .before in
     let m = c .before .before .decimal .ensures in
     omega (arith, st .pre, number-bytes _ _ _ (omega (arith, st .good)) (m .1 .0) (m .1 .1) .1)
-
-same-length : tie.Need-same-length
-same-length c = search needs
 
 returns : tie.Need-returns
 returns c =
@@ -36,9 +24,9 @@ pub place-number-spec : {M : Type 1} → statement M
 place-number-spec =
     tie.close
     (tie.spec
-    decimal-requires
-    array-share-prefix-digits
-    slice-aggregate-place-bytes
+    (λ c κs. search needs)
+    (λ c. search needs)
+    (λ c. search needs)
     place-bytes-requires
-    same-length
+    (λ c. search needs)
     returns)

@@ -9,33 +9,12 @@ use borrow.Author.Needs.{needs}
 use Rattle.readings.proofs.place_reading.Statement.{statement}
 use Rattle.readings.proofs.place_reading.Tie as tie
 
-from-str-by-rows-requires : tie.Need-from-str-by-rows-requires
-from-str-by-rows-requires c κs = search needs
-
-enum-known-number : tie.Need-enum-known-number
-enum-known-number c = search needs
-
-place-refused-requires : tie.Need-place-refused-requires
-place-refused-requires c κs = search needs
-
-enum-known-read : tie.Need-enum-known-read
-enum-known-read c = search needs
-
-place-text-requires : tie.Need-place-text-requires
-place-text-requires c κs = search needs
-
-same-length : tie.Need-same-length
-same-length c = search needs
-
 returns : tie.Need-returns
 returns c =
     let st = c .before .before .before .before .before .before .before .before .before .before in
     let p = c .before .before .place-refused .ensures in
     let e = read-refused (rowsOf (st .args .table)) (now (st .args .text)) _ (c .before .before .before .before .before .before .before .from-str-by-rows .ensures) _ (c .before .before .before .before .before .number .given .1) in
     (placed-as (sym (ap readingTold e)) (p .0), p .1)
-
-same-length-2 : tie.Need-same-length-2
-same-length-2 c = search needs
 
 returns-2 : tie.Need-returns-2
 returns-2 c =
@@ -48,12 +27,12 @@ pub place-reading-spec : {M : Type 1} → statement M
 place-reading-spec =
     tie.close
     (tie.spec
-    from-str-by-rows-requires
-    enum-known-number
-    place-refused-requires
-    enum-known-read
-    place-text-requires
-    same-length
+    (λ c κs. search needs)
+    (λ c. search needs)
+    (λ c κs. search needs)
+    (λ c. search needs)
+    (λ c κs. search needs)
+    (λ c. search needs)
     returns
-    same-length-2
+    (λ c. search needs)
     returns-2)

@@ -6,18 +6,6 @@ use borrow.Author.Needs.{needs}
 use Rattle.readings.proofs.place_refused.Statement.{statement}
 use Rattle.readings.proofs.place_refused.Tie as tie
 
-slice-aggregate-place-bytes : tie.Need-slice-aggregate-place-bytes
-slice-aggregate-place-bytes c = search needs
-
-place-bytes-requires : tie.Need-place-bytes-requires
-place-bytes-requires c κs = search needs
-
-place-number-requires : tie.Need-place-number-requires
-place-number-requires c κs = search needs
-
-same-length : tie.Need-same-length
-same-length c = search needs
-
 returns : tie.Need-returns
 unfolding readingTold
 returns c =
@@ -30,8 +18,8 @@ pub place-refused-spec : {M : Type 1} → statement M
 place-refused-spec =
     tie.close
     (tie.spec
-    slice-aggregate-place-bytes
-    place-bytes-requires
-    place-number-requires
-    same-length
+    (λ c. search needs)
+    (λ c κs. search needs)
+    (λ c κs. search needs)
+    (λ c. search needs)
     returns)

@@ -11,35 +11,11 @@ use borrow.Author.Needs.{needs}
 use Rattle.readings.proofs.place_text.Statement.{statement}
 use Rattle.readings.proofs.place_text.Tie as tie
 
-sub-to-iso8601-expanded-by-rows : tie.Need-sub-to-iso8601-expanded-by-rows
-sub-to-iso8601-expanded-by-rows c = search needs
-
-part-to-iso8601-expanded-by-rows-start : tie.Need-part-to-iso8601-expanded-by-rows-start
-part-to-iso8601-expanded-by-rows-start c = search needs
-
-part-to-iso8601-expanded-by-rows-end : tie.Need-part-to-iso8601-expanded-by-rows-end
-part-to-iso8601-expanded-by-rows-end c = search needs
-
-to-iso8601-expanded-by-rows-requires : tie.Need-to-iso8601-expanded-by-rows-requires
-to-iso8601-expanded-by-rows-requires c κs = search needs
-
-enum-known-n : tie.Need-enum-known-n
-enum-known-n c = search needs
-
 add-result : tie.Need-add-result
 add-result c =
     let st = c .before .before .before .before .before .before .before .before in
     let w = text-written (c .before .before .before .before .before .to-iso8601-expanded-by-rows .ensures) (short (rowsOf (st .args .table)) (st .args .utc .0)) _ (c .before .n .given .1) in
     omega (arith, w .2, st .pre, st .good)
-
-enum-known-number : tie.Need-enum-known-number
-enum-known-number c = search needs
-
-place-refused-requires : tie.Need-place-refused-requires
-place-refused-requires c κs = search needs
-
-same-length : tie.Need-same-length
-same-length c = search needs
 
 returns : tie.Need-returns
 returns c =
@@ -51,9 +27,6 @@ returns c =
       },
       omega (arith, w .2),
     )
-
-same-length-2 : tie.Need-same-length-2
-same-length-2 c = search needs
 
 returns-2 : tie.Need-returns-2
 returns-2 c =
@@ -67,15 +40,15 @@ pub place-text-spec : {M : Type 1} → statement M
 place-text-spec =
     tie.close
     (tie.spec
-    sub-to-iso8601-expanded-by-rows
-    part-to-iso8601-expanded-by-rows-start
-    part-to-iso8601-expanded-by-rows-end
-    to-iso8601-expanded-by-rows-requires
-    enum-known-n
+    (λ c. search needs)
+    (λ c. search needs)
+    (λ c. search needs)
+    (λ c κs. search needs)
+    (λ c. search needs)
     add-result
-    enum-known-number
-    place-refused-requires
-    same-length
+    (λ c. search needs)
+    (λ c κs. search needs)
+    (λ c. search needs)
     returns
-    same-length-2
+    (λ c. search needs)
     returns-2)

@@ -6,45 +6,6 @@ use borrow.Author.Needs.{needs}
 use Rattle.reasons.proofs.named_field.Statement.{statement}
 use Rattle.reasons.proofs.named_field.Tie as tie
 
-enum-told : tie.Need-enum-told
-enum-told c = search needs
-
-enum-known-values : tie.Need-enum-known-values
-enum-known-values c = search needs
-
-date-field-requires : tie.Need-date-field-requires
-date-field-requires c κs = search needs
-
-enum-known-values-2 : tie.Need-enum-known-values-2
-enum-known-values-2 c = search needs
-
-time-field-requires : tie.Need-time-field-requires
-time-field-requires c κs = search needs
-
-enum-known-values-3 : tie.Need-enum-known-values-3
-enum-known-values-3 c = search needs
-
-parts-field-requires : tie.Need-parts-field-requires
-parts-field-requires c κs = search needs
-
-enum-known-values-4 : tie.Need-enum-known-values-4
-enum-known-values-4 c = search needs
-
-float-field-requires : tie.Need-float-field-requires
-float-field-requires c κs = search needs
-
-enum-known-values-5 : tie.Need-enum-known-values-5
-enum-known-values-5 c = search needs
-
-nanos-field-requires : tie.Need-nanos-field-requires
-nanos-field-requires c κs = search needs
-
-enum-known-values-6 : tie.Need-enum-known-values-6
-enum-known-values-6 c = search needs
-
-block-field-requires : tie.Need-block-field-requires
-block-field-requires c κs = search needs
-
 returns : tie.Need-returns
 unfolding offending
 returns c = rw (c .enum-told .given .1)
@@ -83,19 +44,19 @@ pub named-field-spec : {M : Type 1} → statement M
 named-field-spec =
     tie.close
     (tie.spec
-    enum-told
-    enum-known-values
-    date-field-requires
-    enum-known-values-2
-    time-field-requires
-    enum-known-values-3
-    parts-field-requires
-    enum-known-values-4
-    float-field-requires
-    enum-known-values-5
-    nanos-field-requires
-    enum-known-values-6
-    block-field-requires
+    (λ c. search needs)
+    (λ c. search needs)
+    (λ c κs. search needs)
+    (λ c. search needs)
+    (λ c κs. search needs)
+    (λ c. search needs)
+    (λ c κs. search needs)
+    (λ c. search needs)
+    (λ c κs. search needs)
+    (λ c. search needs)
+    (λ c κs. search needs)
+    (λ c. search needs)
+    (λ c κs. search needs)
     returns
     returns-2
     returns-3

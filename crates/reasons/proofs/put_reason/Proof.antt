@@ -5,25 +5,10 @@ use borrow.Author.Needs.{needs}
 use Rattle.reasons.proofs.put_reason.Statement.{statement}
 use Rattle.reasons.proofs.put_reason.Tie as tie
 
-reason-of-requires : tie.Need-reason-of-requires
-reason-of-requires c κs = search needs
-
-enum-known-refused : tie.Need-enum-known-refused
-enum-known-refused c = search needs
-
-enum-known-reason : tie.Need-enum-known-reason
-enum-known-reason c = search needs
-
-put-sentence-requires : tie.Need-put-sentence-requires
-put-sentence-requires c κs = search needs
-
 returns : tie.Need-returns
 returns c =
     let q = c .before .before .before in
     call-refused _ _ _ (told-refused _ _ _ (q .reason-of .ensures) _ (c .before .refused .given .1))
-
-same-length : tie.Need-same-length
-same-length c = search needs
 
 returns-2 : tie.Need-returns-2
 returns-2 c =
@@ -35,10 +20,10 @@ pub put-reason-spec : {M : Type 1} → statement M
 put-reason-spec =
     tie.close
     (tie.spec
-    reason-of-requires
-    enum-known-refused
-    enum-known-reason
-    put-sentence-requires
+    (λ c κs. search needs)
+    (λ c. search needs)
+    (λ c. search needs)
+    (λ c κs. search needs)
     returns
-    same-length
+    (λ c. search needs)
     returns-2)

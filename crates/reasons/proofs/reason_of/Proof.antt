@@ -15,12 +15,9 @@ returns-2 : tie.Need-returns-2
 unfolding reasonOf reasonOutcome
 returns-2 c = rw (le-leb 1 (c .before .before .args .number) (c .before .if1 .left), lt-leb (c .before .before .args .number) 28 (c .if2 .taken))
 
-named-field-requires : tie.Need-named-field-requires
-named-field-requires c κs = search needs
-
 returns-3 : tie.Need-returns-3
 unfolding reasonOf reasonOutcome
 returns-3 c = rw (le-leb 1 (c .before .before .before .args .number) (c .before .before .if1 .left), le-leb (c .before .before .before .args .number) 28 (c .before .if2 .left), c .named-field .ensures)
 
 pub reason-of-spec : {M : Type 1} → statement M
-reason-of-spec = tie.close (tie.spec returns returns-2 named-field-requires returns-3)
+reason-of-spec = tie.close (tie.spec returns returns-2 (λ c κs. search needs) returns-3)

@@ -10,29 +10,11 @@ use borrow.Author.Needs.{needs}
 use Rattle.runs.proofs.convert_run.Statement.{statement}
 use Rattle.runs.proofs.convert_run.Tie as tie
 
-table-refusal-requires : tie.Need-table-refusal-requires
-table-refusal-requires c κs = search needs
-
 returns : tie.Need-returns
 returns c =
     let a = c .before .before .before .before .before .before .before .args in
     let q = c .before in
     table-refused (tableOf (a .t5)) (rowsOf (a .t5)) (q .table-refusal .result) (q .table-refusal .ensures) (a .from) (a .to) (a .jd1s .now) (a .jd2s .now) (a .out1 .now) (a .out2 .now) (a .numbers .now) (c .if1 .taken)
-
-size-of-requires : tie.Need-size-of-requires
-size-of-requires c κs = search needs
-
-convert-run-by-lent-requires : tie.Need-convert-run-by-lent-requires
-convert-run-by-lent-requires c κs = search needs
-
-same-length : tie.Need-same-length
-same-length c = search needs
-
-same-length-2 : tie.Need-same-length-2
-same-length-2 c = search needs
-
-same-length-3 : tie.Need-same-length-3
-same-length-3 c = search needs
 
 returns-2 : tie.Need-returns-2
 returns-2 c =
@@ -47,11 +29,11 @@ pub convert-run-spec : {M : Type 1} → statement M
 convert-run-spec =
     tie.close
     (tie.spec
-    table-refusal-requires
+    (λ c κs. search needs)
     returns
-    size-of-requires
-    convert-run-by-lent-requires
-    same-length
-    same-length-2
-    same-length-3
+    (λ c κs. search needs)
+    (λ c κs. search needs)
+    (λ c. search needs)
+    (λ c. search needs)
+    (λ c. search needs)
     returns-2)

@@ -7,38 +7,11 @@ use borrow.Author.Needs.{needs}
 use Rattle.runs.proofs.convert_run_by_lent.Statement.{statement}
 use Rattle.runs.proofs.convert_run_by_lent.Tie as tie
 
-run-refusal-requires : tie.Need-run-refusal-requires
-run-refusal-requires c κs = search needs
-
 returns : tie.Need-returns
 returns c =
     let a = c .before .before .before .before .before .before .before .args in
     let q = c .before .run-refusal in
     run-refused (rowsIn (a .size) (a .months .now) (a .seconds .now)) (a .from) (a .to) (a .jd1s .now) (a .jd2s .now) (a .out1 .now) (a .out2 .now) (a .numbers .now) (q .result) (q .ensures) (c .if1 .taken)
-
-is-short-requires : tie.Need-is-short-requires
-is-short-requires c κs = search needs
-
-sub-none : tie.Need-sub-none
-sub-none c = search needs
-
-part-none-start : tie.Need-part-none-start
-part-none-start c = search needs
-
-part-none-end : tie.Need-part-none-end
-part-none-end c = search needs
-
-formula-run-requires : tie.Need-formula-run-requires
-formula-run-requires c κs = search needs
-
-same-length : tie.Need-same-length
-same-length c = search needs
-
-same-length-2 : tie.Need-same-length-2
-same-length-2 c = search needs
-
-same-length-3 : tie.Need-same-length-3
-same-length-3 c = search needs
 
 returns-2 : tie.Need-returns-2
 returns-2 c =
@@ -51,15 +24,6 @@ convert-all-requires c κs =
     let q = c .before .before .before .before .before .before .run-refusal in
     roomy (rowsIn (a .size) (a .months .now) (a .seconds .now)) (a .from) (a .to) (a .jd1s .now) (a .jd2s .now) (a .out1 .now) (a .out2 .now) (a .numbers .now) (q .result) (q .ensures) (c .before .before .before .before .before .if1 .left)
 
-same-length-4 : tie.Need-same-length-4
-same-length-4 c = search needs
-
-same-length-5 : tie.Need-same-length-5
-same-length-5 c = search needs
-
-same-length-6 : tie.Need-same-length-6
-same-length-6 c = search needs
-
 returns-3 : tie.Need-returns-3
 returns-3 c =
     let a = c .before .before .before .before .before .before .before .before .before .before .before .before .before .before .before .before .before .before .before .args in
@@ -70,19 +34,19 @@ pub convert-run-by-lent-spec : {M : Type 1} → statement M
 convert-run-by-lent-spec =
     tie.close
     (tie.spec
-    run-refusal-requires
+    (λ c κs. search needs)
     returns
-    is-short-requires
-    sub-none
-    part-none-start
-    part-none-end
-    formula-run-requires
-    same-length
-    same-length-2
-    same-length-3
+    (λ c κs. search needs)
+    (λ c. search needs)
+    (λ c. search needs)
+    (λ c. search needs)
+    (λ c κs. search needs)
+    (λ c. search needs)
+    (λ c. search needs)
+    (λ c. search needs)
     returns-2
     convert-all-requires
-    same-length-4
-    same-length-5
-    same-length-6
+    (λ c. search needs)
+    (λ c. search needs)
+    (λ c. search needs)
     returns-3)

@@ -7,21 +7,6 @@ use borrow.Author.Needs.{needs}
 use Rattle.runs.proofs.convert_stamp.Statement.{statement}
 use Rattle.runs.proofs.convert_stamp.Tie as tie
 
-stamp-at-requires : tie.Need-stamp-at-requires
-stamp-at-requires c κs = search needs
-
-convert-by-lent-requires : tie.Need-convert-by-lent-requires
-convert-by-lent-requires c κs = search needs
-
-put-answer-requires : tie.Need-put-answer-requires
-put-answer-requires c κs = search needs
-
-same-length : tie.Need-same-length
-same-length c = search needs
-
-same-length-2 : tie.Need-same-length-2
-same-length-2 c = search needs
-
 returns : tie.Need-returns
 returns c =
     let a = c .before .before .before .before .before .before .before .before .before .before .before .before .before .args in
@@ -34,9 +19,9 @@ pub convert-stamp-spec : {M : Type 1} → statement M
 convert-stamp-spec =
     tie.close
     (tie.spec
-    stamp-at-requires
-    convert-by-lent-requires
-    put-answer-requires
-    same-length
-    same-length-2
+    (λ c κs. search needs)
+    (λ c κs. search needs)
+    (λ c κs. search needs)
+    (λ c. search needs)
+    (λ c. search needs)
     returns)

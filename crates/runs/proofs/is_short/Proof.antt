@@ -5,43 +5,25 @@ use borrow.Author.Needs.{needs}
 use Rattle.runs.proofs.is_short.Statement.{statement}
 use Rattle.runs.proofs.is_short.Tie as tie
 
-are-requires : tie.Need-are-requires
-are-requires c κs = search needs
-
 returns : tie.Need-returns
 unfolding isShort
 returns c = rw (sym (c .before .are .ensures) ∙ c .if1 .taken)
-
-are-requires-2 : tie.Need-are-requires-2
-are-requires-2 c κs = search needs
 
 returns-2 : tie.Need-returns-2
 unfolding isShort
 returns-2 c = rw (sym (c .before .before .before .are .ensures) ∙ c .before .before .if1 .left, sym (c .before .are2 .ensures) ∙ c .if2 .taken)
 
-are-requires-3 : tie.Need-are-requires-3
-are-requires-3 c κs = search needs
-
 returns-3 : tie.Need-returns-3
 unfolding isShort
 returns-3 c = rw (sym (c .before .before .before .before .before .are .ensures) ∙ c .before .before .before .before .if1 .left, sym (c .before .before .before .are2 .ensures) ∙ c .before .before .if2 .left, sym (c .before .are3 .ensures) ∙ c .if3 .taken)
-
-are-requires-4 : tie.Need-are-requires-4
-are-requires-4 c κs = search needs
 
 returns-4 : tie.Need-returns-4
 unfolding isShort
 returns-4 c = rw (sym (c .before .before .before .before .before .before .before .are .ensures) ∙ c .before .before .before .before .before .before .if1 .left, sym (c .before .before .before .before .before .are2 .ensures) ∙ c .before .before .before .before .if2 .left, sym (c .before .before .before .are3 .ensures) ∙ c .before .before .if3 .left, sym (c .before .are4 .ensures) ∙ c .if4 .taken)
 
-are-requires-5 : tie.Need-are-requires-5
-are-requires-5 c κs = search needs
-
 returns-5 : tie.Need-returns-5
 unfolding isShort
 returns-5 c = rw (sym (c .before .before .before .before .before .before .before .before .before .are .ensures) ∙ c .before .before .before .before .before .before .before .before .if1 .left, sym (c .before .before .before .before .before .before .before .are2 .ensures) ∙ c .before .before .before .before .before .before .if2 .left, sym (c .before .before .before .before .before .are3 .ensures) ∙ c .before .before .before .before .if3 .left, sym (c .before .before .before .are4 .ensures) ∙ c .before .before .if4 .left, sym (c .before .are5 .ensures) ∙ c .if5 .taken)
-
-are-requires-6 : tie.Need-are-requires-6
-are-requires-6 c κs = search needs
 
 returns-6 : tie.Need-returns-6
 unfolding isShort
@@ -51,15 +33,15 @@ pub is-short-spec : {M : Type 1} → statement M
 is-short-spec =
     tie.close
     (tie.spec
-    are-requires
+    (λ c κs. search needs)
     returns
-    are-requires-2
+    (λ c κs. search needs)
     returns-2
-    are-requires-3
+    (λ c κs. search needs)
     returns-3
-    are-requires-4
+    (λ c κs. search needs)
     returns-4
-    are-requires-5
+    (λ c κs. search needs)
     returns-5
-    are-requires-6
+    (λ c κs. search needs)
     returns-6)

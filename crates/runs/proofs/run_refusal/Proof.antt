@@ -6,16 +6,10 @@ use borrow.Author.Needs.{needs}
 use Rattle.runs.proofs.run_refusal.Statement.{statement}
 use Rattle.runs.proofs.run_refusal.Tie as tie
 
-is-run-scale-requires : tie.Need-is-run-scale-requires
-is-run-scale-requires c κs = search needs
-
 returns : tie.Need-returns
 returns c =
     let a = c .before .before .args in
     unknown-from (a .from) (a .to) (a .size1) (a .size2) (a .room1) (a .room2) (a .room) (sym (c .before .is-run-scale .ensures) ∙ not-true (c .before .is-run-scale .result) (c .if1 .taken))
-
-is-run-scale-requires-2 : tie.Need-is-run-scale-requires-2
-is-run-scale-requires-2 c κs = search needs
 
 returns-2 : tie.Need-returns-2
 returns-2 c =
@@ -58,4 +52,4 @@ returns-9 c =
     none-refused (a .from) (a .to) (a .size1) (a .size2) (a .room1) (a .room2) (a .room) (sym (c .before .before .before .before .before .before .before .before .before .is-run-scale .ensures) ∙ not-false (c .before .before .before .before .before .before .before .before .before .is-run-scale .result) (c .before .before .before .before .before .before .before .before .if1 .left)) (sym (c .before .before .before .before .before .before .before .is-run-scale2 .ensures) ∙ not-false (c .before .before .before .before .before .before .before .is-run-scale2 .result) (c .before .before .before .before .before .before .if2 .left)) (c .before .before .before .before .before .if3 .left) (c .before .before .before .before .if4 .left) (c .before .before .before .if5 .left) (c .before .before .if6 .left) (c .before .if7 .left) (c .if8 .left)
 
 pub run-refusal-spec : {M : Type 1} → statement M
-run-refusal-spec = tie.close (tie.spec is-run-scale-requires returns is-run-scale-requires-2 returns-2 returns-3 returns-4 returns-5 returns-6 returns-7 returns-8 returns-9)
+run-refusal-spec = tie.close (tie.spec (λ c κs. search needs) returns (λ c κs. search needs) returns-2 returns-3 returns-4 returns-5 returns-6 returns-7 returns-8 returns-9)

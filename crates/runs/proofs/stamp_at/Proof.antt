@@ -5,21 +5,6 @@ use borrow.Author.Needs.{needs}
 use Rattle.runs.proofs.stamp_at.Statement.{statement}
 use Rattle.runs.proofs.stamp_at.Tie as tie
 
-pattern-at-requires : tie.Need-pattern-at-requires
-pattern-at-requires c κs = search needs
-
-from-bits-requires : tie.Need-from-bits-requires
-from-bits-requires c κs = search needs
-
-pattern-at-requires-2 : tie.Need-pattern-at-requires-2
-pattern-at-requires-2 c κs = search needs
-
-from-bits-requires-2 : tie.Need-from-bits-requires-2
-from-bits-requires-2 c κs = search needs
-
-new-requires : tie.Need-new-requires
-new-requires c κs = search needs
-
 returns : tie.Need-returns
 returns c =
     let s = c .before .before .before .before .before .before .before in
@@ -30,9 +15,9 @@ pub stamp-at-spec : {M : Type 1} → statement M
 stamp-at-spec =
     tie.close
     (tie.spec
-    pattern-at-requires
-    from-bits-requires
-    pattern-at-requires-2
-    from-bits-requires-2
-    new-requires
+    (λ c κs. search needs)
+    (λ c κs. search needs)
+    (λ c κs. search needs)
+    (λ c κs. search needs)
+    (λ c κs. search needs)
     returns)

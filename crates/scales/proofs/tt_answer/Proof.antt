@@ -6,12 +6,6 @@ use borrow.Author.Needs.{needs}
 use Rattle.scales.proofs.tt_answer.Statement.{statement}
 use Rattle.scales.proofs.tt_answer.Tie as tie
 
-enum-known-a : tie.Need-enum-known-a
-enum-known-a c = search needs
-
-enum-known-a-2 : tie.Need-enum-known-a-2
-enum-known-a-2 c = search needs
-
 returns : tie.Need-returns
 unfolding ttOutcome julianOutcome
 returns c = sym (ap julianOutcome (c .before .a .given .1))
@@ -21,4 +15,4 @@ unfolding ttOutcome julianOutcome
 returns-2 c = sym (ap julianOutcome (c .before .a2 .given .1))
 
 pub tt-answer-spec : {M : Type 1} → statement M
-tt-answer-spec = tie.close (tie.spec enum-known-a enum-known-a-2 returns returns-2)
+tt-answer-spec = tie.close (tie.spec (λ c. search needs) (λ c. search needs) returns returns-2)

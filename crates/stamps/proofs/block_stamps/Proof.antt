@@ -9,12 +9,6 @@ returns : tie.Need-returns
 unfolding blockOutcome
 returns c = short _ (c .if1 .taken)
 
-u32-at-requires : tie.Need-u32-at-requires
-u32-at-requires c κs = search needs
-
-u32-at-requires-2 : tie.Need-u32-at-requires-2
-u32-at-requires-2 c κs = search needs
-
 returns-2 : tie.Need-returns-2
 unfolding blockOutcome
 returns-2 c =
@@ -26,15 +20,6 @@ unfolding blockOutcome
 returns-3 c =
     let b = c .before .before in
     too-large _ _ _ (b .before .u32-at .ensures) (b .u32-at2 .ensures) (b .before .before .if1 .left) (c .before .if2 .left) (c .if3 .taken)
-
-cast-stamps : tie.Need-cast-stamps
-cast-stamps c = search needs
-
-mul-if4 : tie.Need-mul-if4
-mul-if4 c = search needs
-
-add-if4 : tie.Need-add-if4
-add-if4 c = search needs
 
 returns-4 : tie.Need-returns-4
 unfolding blockOutcome
@@ -53,12 +38,12 @@ block-stamps-spec =
     tie.close
     (tie.spec
     returns
-    u32-at-requires
-    u32-at-requires-2
+    (λ c κs. search needs)
+    (λ c κs. search needs)
     returns-2
     returns-3
-    cast-stamps
-    mul-if4
-    add-if4
+    (λ c. search needs)
+    (λ c. search needs)
+    (λ c. search needs)
     returns-4
     returns-5)

@@ -49,32 +49,8 @@ module _ (c : tie.After-in-its-day) where
       let s = c .before .before .before .before .before in
       ap (inItsDay (s .args .t)) (sym (c .before .last-minute .ensures)) ∙ sym (c .in-its-day .ensures) ∙ p
 
-cast-whole-seconds-by-rows : tie.Need-cast-whole-seconds-by-rows
-cast-whole-seconds-by-rows c = search needs
-
-whole-seconds-by-rows-requires : tie.Need-whole-seconds-by-rows-requires
-whole-seconds-by-rows-requires c κs = search needs
-
 last-minute-requires : tie.Need-last-minute-requires
 last-minute-requires c κs = (offset-is c, omega (arith, offset-few c))
-
-in-its-day-requires : tie.Need-in-its-day-requires
-in-its-day-requires c κs = search needs
-
-mul-t10 : tie.Need-mul-t10
-mul-t10 c = search needs
-
-time-seconds-requires : tie.Need-time-seconds-requires
-time-seconds-requires c κs = search needs
-
-add-t12 : tie.Need-add-t12
-add-t12 c = search needs
-
-cast-t13 : tie.Need-cast-t13
-cast-t13 c = search needs
-
-add-t14 : tie.Need-add-t14
-add-t14 c = search needs
 
 returns : tie.Need-returns
 unfolding instantOutcome taiMs
@@ -104,14 +80,14 @@ pub at-time-spec : {M : Type 1} → statement M
 at-time-spec =
     tie.close
     (tie.spec
-    cast-whole-seconds-by-rows
-    whole-seconds-by-rows-requires
+    (λ c. search needs)
+    (λ c κs. search needs)
     last-minute-requires
-    in-its-day-requires
-    mul-t10
-    time-seconds-requires
-    add-t12
-    cast-t13
-    add-t14
+    (λ c κs. search needs)
+    (λ c. search needs)
+    (λ c κs. search needs)
+    (λ c. search needs)
+    (λ c. search needs)
+    (λ c. search needs)
     returns
     returns-2)

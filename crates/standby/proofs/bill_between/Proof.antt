@@ -42,9 +42,6 @@ all-within c =
     let s = q .before .before .before in
     within (q .quarters-between .result) (s .args .rate) (s .args .first-metres) (s .args .second-metres) (sym (c .before .over-limit .ensures) ∙ c .if2 .left)
 
-is-before-requires : tie.Need-is-before-requires
-is-before-requires c κs = search needs
-
 returns : tie.Need-returns
 unfolding billOutcome
 returns c =
@@ -55,9 +52,6 @@ returns c =
 
 quarters-between-requires : tie.Need-quarters-between-requires
 quarters-between-requires c κs = let s = c .before .before in record { small-start = s .pre .0; small-end = s .pre .1; order = in-order c }
-
-over-limit-requires : tie.Need-over-limit-requires
-over-limit-requires c κs = search needs
 
 returns-2 : tie.Need-returns-2
 unfolding billOutcome
@@ -106,10 +100,10 @@ pub bill-between-spec : {M : Type 1} → statement M
 bill-between-spec =
     tie.close
     (tie.spec
-    is-before-requires
+    (λ c κs. search needs)
     returns
     quarters-between-requires
-    over-limit-requires
+    (λ c κs. search needs)
     returns-2
     add-if3
     returns-3

@@ -21,9 +21,6 @@ returns-3 c =
     let s = i .before .before in
     many-millis (s .args .t) (s .args .last) (i .if1 .left) (j .if2 .left) (c .if3 .taken)
 
-cast-result : tie.Need-cast-result
-cast-result c = search needs
-
 returns-4 : tie.Need-returns-4
 returns-4 c =
     let m = c .before in
@@ -47,4 +44,4 @@ returns-5 c =
     (h .if4 .came)
 
 pub in-its-day-spec : {M : Type 1} → statement M
-in-its-day-spec = tie.close (tie.spec returns returns-2 returns-3 cast-result returns-4 returns-5)
+in-its-day-spec = tie.close (tie.spec returns returns-2 returns-3 (λ c. search needs) returns-4 returns-5)

@@ -86,36 +86,6 @@ returns c =
     let a = c .before .before .before .args in
     record { says = early-year (rowsOf (a .table)) (a .t) (lt-left (a .t .year) (pos 1972) _ (year-fits (c .before)) (c .if1 .taken)); small = λ i p. never-at 1 i p }
 
-cast-modified-julian-day : tie.Need-cast-modified-julian-day
-cast-modified-julian-day c = search needs
-
-cast-modified-julian-day-2 : tie.Need-cast-modified-julian-day-2
-cast-modified-julian-day-2 c = search needs
-
-modified-julian-day-requires : tie.Need-modified-julian-day-requires
-modified-julian-day-requires c κs = search needs
-
-enum-known-number : tie.Need-enum-known-number
-enum-known-number c = search needs
-
-enum-known-n : tie.Need-enum-known-n
-enum-known-n c = search needs
-
-cast-next-calendar-day : tie.Need-cast-next-calendar-day
-cast-next-calendar-day c = search needs
-
-cast-next-calendar-day-2 : tie.Need-cast-next-calendar-day-2
-cast-next-calendar-day-2 c = search needs
-
-next-calendar-day-requires : tie.Need-next-calendar-day-requires
-next-calendar-day-requires c κs = search needs
-
-enum-known-number-2 : tie.Need-enum-known-number-2
-enum-known-number-2 c = search needs
-
-enum-known-next : tie.Need-enum-known-next
-enum-known-next c = search needs
-
 cast-at-time : tie.Need-cast-at-time
 cast-at-time c =
     let k = c .before .before .before .before .before .before .before in
@@ -177,16 +147,16 @@ instant-of-spec =
     tie.close
     (tie.spec
     returns
-    cast-modified-julian-day
-    cast-modified-julian-day-2
-    modified-julian-day-requires
-    enum-known-number
-    enum-known-n
-    cast-next-calendar-day
-    cast-next-calendar-day-2
-    next-calendar-day-requires
-    enum-known-number-2
-    enum-known-next
+    (λ c. search needs)
+    (λ c. search needs)
+    (λ c κs. search needs)
+    (λ c. search needs)
+    (λ c. search needs)
+    (λ c. search needs)
+    (λ c. search needs)
+    (λ c κs. search needs)
+    (λ c. search needs)
+    (λ c. search needs)
     cast-at-time
     at-time-requires
     returns-2

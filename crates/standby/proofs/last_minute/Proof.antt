@@ -13,9 +13,6 @@ use Rattle.standby.specs.Times.{lastMinute}
 use Rattle.standby.proofs.last_minute.Statement.{statement}
 use Rattle.standby.proofs.last_minute.Tie as tie
 
-cast-if2 : tie.Need-cast-if2
-cast-if2 c = search needs
-
 returns : tie.Need-returns
 unfolding lastMinute
 returns c =
@@ -32,15 +29,6 @@ returns c =
     same : (k l : ℕ) → k ≡ l → 60 ≡ 60 + k - l
     same k l e = omega arith
 
-whole-seconds-by-rows-requires : tie.Need-whole-seconds-by-rows-requires
-whole-seconds-by-rows-requires c κs = search needs
-
-add-result : tie.Need-add-result
-add-result c = search needs
-
-sub-result : tie.Need-sub-result
-sub-result c = search needs
-
 returns-2 : tie.Need-returns-2
 unfolding lastMinute
 returns-2 c =
@@ -54,4 +42,4 @@ returns-2 c =
 pub last-minute-spec : {M : Type 1} → statement M
 last-minute-spec =
     tie.close
-    (tie.spec cast-if2 returns whole-seconds-by-rows-requires add-result sub-result returns-2)
+    (tie.spec (λ c. search needs) returns (λ c κs. search needs) (λ c. search needs) (λ c. search needs) returns-2)

@@ -24,32 +24,17 @@ module _ (q rate a b : ℕ) (l : InLimits q rate a b) where
 mul-total : tie.Need-mul-total
 mul-total c = let a = c .args in record { fits = omega (arith, small-total (a .quarters) (a .rate) (a .first-metres) (a .second-metres) (c .pre)) }
 
-add-metres : tie.Need-add-metres
-add-metres c = search needs
-
 mul-to-first : tie.Need-mul-to-first
 mul-to-first c = let a = c .args in record { fits = omega (arith, small-first (a .quarters) (a .rate) (a .first-metres) (a .second-metres) (c .pre)) }
 
 mul-to-second : tie.Need-mul-to-second
 mul-to-second c = let a = c .args in record { fits = omega (arith, small-second (a .quarters) (a .rate) (a .first-metres) (a .second-metres) (c .pre)) }
 
-div-first : tie.Need-div-first
-div-first c = search needs
-
-div-second : tie.Need-div-second
-div-second c = search needs
-
 sub-left : tie.Need-sub-left
 sub-left c = let a = c .args in omega (arith, all-at-most (a .quarters) (a .rate) (a .first-metres) (a .second-metres) (c .pre))
 
 sub-left-2 : tie.Need-sub-left-2
 sub-left-2 c = let a = c .args in omega (arith, all-at-most (a .quarters) (a .rate) (a .first-metres) (a .second-metres) (c .pre))
-
-rem-if1 : tie.Need-rem-if1
-rem-if1 c = search needs
-
-rem-if1-2 : tie.Need-rem-if1-2
-rem-if1-2 c = search needs
 
 add-t16 : tie.Need-add-t16
 add-t16 c =
@@ -80,15 +65,15 @@ shared-spec =
     tie.close
     (tie.spec
     mul-total
-    add-metres
+    (λ c. search needs)
     mul-to-first
     mul-to-second
-    div-first
-    div-second
+    (λ c. search needs)
+    (λ c. search needs)
     sub-left
     sub-left-2
-    rem-if1
-    rem-if1-2
+    (λ c. search needs)
+    (λ c. search needs)
     add-t16
     add-t17
     returns

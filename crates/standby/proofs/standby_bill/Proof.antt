@@ -43,9 +43,6 @@ module _ (c : tie.After-known-told4) where
   unfolding instantOutcome
   end-at = sym (c .before .before .before .instant-of2 .ensures .says) ∙ ap instantOutcome (c .before .e .given .1)
 
-table-refusal-requires : tie.Need-table-refusal-requires
-table-refusal-requires c κs = search needs
-
 returns : tie.Need-returns
 unfolding billOutcome
 returns c = let r = c .before in turned-away (r .before .args .table) (r .table-refusal .result) (r .table-refusal .ensures) _ (c .if1 .taken)
@@ -53,23 +50,11 @@ returns c = let r = c .before in turned-away (r .before .args .table) (r .table-
 instant-of-requires : tie.Need-instant-of-requires
 instant-of-requires c κs = let r = c .before in all-rows (r .before .args .table) (r .table-refusal .result) (r .table-refusal .ensures) (c .if1 .left)
 
-enum-known-number : tie.Need-enum-known-number
-enum-known-number c = search needs
-
-enum-known-s : tie.Need-enum-known-s
-enum-known-s c = search needs
-
 instant-of-requires-2 : tie.Need-instant-of-requires-2
 instant-of-requires-2 c κs =
     let i = c .before .before .before .before in
     let r = i .before in
     all-rows (r .before .args .table) (r .table-refusal .result) (r .table-refusal .ensures) (i .if1 .left)
-
-enum-known-number-2 : tie.Need-enum-known-number-2
-enum-known-number-2 c = search needs
-
-enum-known-e : tie.Need-enum-known-e
-enum-known-e c = search needs
 
 bill-between-requires : tie.Need-bill-between-requires
 bill-between-requires c κs =
@@ -116,14 +101,14 @@ pub standby-bill-spec : {M : Type 1} → statement M
 standby-bill-spec =
     tie.close
     (tie.spec
-    table-refusal-requires
+    (λ c κs. search needs)
     returns
     instant-of-requires
-    enum-known-number
-    enum-known-s
+    (λ c. search needs)
+    (λ c. search needs)
     instant-of-requires-2
-    enum-known-number-2
-    enum-known-e
+    (λ c. search needs)
+    (λ c. search needs)
     bill-between-requires
     returns-2
     returns-3

@@ -8,17 +8,5 @@ use Rattle.ticks.proofs.along.Tie as tie
 mul-result : tie.Need-mul-result
 mul-result c = record { fits = omega (arith, product-fits (c .before .before .args .a) (c .before .before .args .c) (c .before .if1 .taken) (c .if2 .taken)) }
 
-div-result : tie.Need-div-result
-div-result c = search needs
-
-returns : tie.Need-returns
-returns c = search needs
-
-by-halves-requires : tie.Need-by-halves-requires
-by-halves-requires c κs = search needs
-
-returns-2 : tie.Need-returns-2
-returns-2 c = search needs
-
 pub along-spec : {M : Type 1} → statement M
-along-spec = tie.close (tie.spec mul-result div-result returns by-halves-requires returns-2)
+along-spec = tie.close (tie.spec mul-result (λ c. search needs) (λ c. search needs) (λ c κs. search needs) (λ c. search needs))

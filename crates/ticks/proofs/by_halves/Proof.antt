@@ -10,12 +10,6 @@ use Rattle.ticks.proofs.by_halves.Tie as tie
 mul-product : tie.Need-mul-product
 mul-product c = record { fits = omega (arith, part-small (c .args .a / 1048576) (c .args .c) (omega (arith, c)) (omega (arith, c))) }
 
-div-quotient : tie.Need-div-quotient
-div-quotient c = search needs
-
-rem-rest : tie.Need-rem-rest
-rem-rest c = search needs
-
 mul-result : tie.Need-mul-result
 mul-result c = record { fits = omega (arith, high-small (c .args .a) (c .args .c) (c .args .d) (search needs) (search needs) (search needs)) }
 
@@ -28,9 +22,6 @@ mul-result-3 c = record { fits = omega (arith, part-small (c .args .a % 1048576)
 add-result : tie.Need-add-result
 add-result c = record { fits = omega (arith, rest-small (c .args .a / 1048576 * c .args .c) (c .args .d) (search needs) (search needs), part-small (c .args .a % 1048576) (c .args .c) (omega arith) (search needs)) }
 
-div-result : tie.Need-div-result
-div-result c = search needs
-
 add-result-2 : tie.Need-add-result-2
 add-result-2 c = record { fits = omega (arith, high-small (c .args .a) (c .args .c) (c .args .d) (search needs) (search needs) (search needs)) }
 
@@ -42,12 +33,12 @@ by-halves-spec =
     tie.close
     (tie.spec
     mul-product
-    div-quotient
-    rem-rest
+    (λ c. search needs)
+    (λ c. search needs)
     mul-result
     mul-result-2
     mul-result-3
     add-result
-    div-result
+    (λ c. search needs)
     add-result-2
     returns)

@@ -7,36 +7,6 @@ use borrow.Author.Needs.{needs}
 use Rattle.ticks.proofs.millis_between.Statement.{statement}
 use Rattle.ticks.proofs.millis_between.Tie as tie
 
-number-at-requires : tie.Need-number-at-requires
-number-at-requires c κs = search needs
-
-add-number-at : tie.Need-add-number-at
-add-number-at c = search needs
-
-number-at-requires-2 : tie.Need-number-at-requires-2
-number-at-requires-2 c κs = search needs
-
-number-at-requires-3 : tie.Need-number-at-requires-3
-number-at-requires-3 c κs = search needs
-
-add-number-at-2 : tie.Need-add-number-at-2
-add-number-at-2 c = search needs
-
-number-at-requires-4 : tie.Need-number-at-requires-4
-number-at-requires-4 c κs = search needs
-
-sub-along : tie.Need-sub-along
-sub-along c = search needs
-
-sub-along-2 : tie.Need-sub-along-2
-sub-along-2 c = search needs
-
-sub-along-3 : tie.Need-sub-along-3
-sub-along-3 c = search needs
-
-along-requires : tie.Need-along-requires
-along-requires c κs = search needs
-
 add-result : tie.Need-add-result
 add-result c =
     let q = c .before in
@@ -62,15 +32,15 @@ pub millis-between-spec : {M : Type 1} → statement M
 millis-between-spec =
     tie.close
     (tie.spec
-    number-at-requires
-    add-number-at
-    number-at-requires-2
-    number-at-requires-3
-    add-number-at-2
-    number-at-requires-4
-    sub-along
-    sub-along-2
-    sub-along-3
-    along-requires
+    (λ c κs. search needs)
+    (λ c. search needs)
+    (λ c κs. search needs)
+    (λ c κs. search needs)
+    (λ c. search needs)
+    (λ c κs. search needs)
+    (λ c. search needs)
+    (λ c. search needs)
+    (λ c. search needs)
+    (λ c κs. search needs)
     add-result
     returns)

@@ -8,9 +8,6 @@ use borrow.Author.Needs.{needs}
 use Rattle.ticks.proofs.neighbour.Statement.{statement}
 use Rattle.ticks.proofs.neighbour.Tie as tie
 
-number-at-requires : tie.Need-number-at-requires
-number-at-requires c κs = search needs
-
 last-not-after-requires : tie.Need-last-not-after-requires
 last-not-after-requires c κs =
     let s = c .before .before .before in
@@ -28,9 +25,6 @@ returns c =
     let q = c .before .before in
     found-below (numberAt (s .args .passes .now)) (s .args .t) (s .args .k) (s .pre .rises) 0 (s .args .j) (c .last-not-after .result) (s .pre .near) (omega (arith, q .number-at .ensures, c .before .if1 .taken)) (c .last-not-after .ensures)
 
-sub-if2 : tie.Need-sub-if2
-sub-if2 c = search needs
-
 last-not-after-requires-2 : tie.Need-last-not-after-requires-2
 last-not-after-requires-2 c κs =
     let s = c .before .before .before .before in
@@ -41,25 +35,10 @@ returns-2 c =
     let s = c .before .before .before .before .before in
     found-last (numberAt (s .args .passes .now)) (s .args .t) (s .args .k) (s .pre .rises) (s .args .j) (c .last-not-after2 .result) (c .last-not-after2 .ensures)
 
-add-number-at : tie.Need-add-number-at
-add-number-at c = search needs
-
-number-at-requires-2 : tie.Need-number-at-requires-2
-number-at-requires-2 c κs = search needs
-
 returns-3 : tie.Need-returns-3
 returns-3 c =
     let s = c .before .before .before .before .before .before in
     last-only (numberAt (s .args .passes .now)) (s .args .t) (s .args .k) (s .pre .rises) (s .args .j) (s .pre .near) (omega (arith, c .before .before .before .before .number-at .ensures, c .before .before .before .if1 .left)) (λ w. omega (arith, c .before .number-at2 .ensures, c .if3 .taken))
-
-add-number-at-2 : tie.Need-add-number-at-2
-add-number-at-2 c = search needs
-
-number-at-requires-3 : tie.Need-number-at-requires-3
-number-at-requires-3 c κs = search needs
-
-add-result : tie.Need-add-result
-add-result c = search needs
 
 returns-4 : tie.Need-returns-4
 returns-4 c =
@@ -67,9 +46,6 @@ returns-4 c =
     let e : s .args .j + 2 ≡ s .args .j + 1 + 1 = omega arith in
     last-only (numberAt (s .args .passes .now)) (s .args .t) (s .args .k) (s .pre .rises) (s .args .j + 1) (omega (arith, c .before .before .before .before .if2 .left)) (omega (arith, c .before .before .before .number-at2 .ensures, c .before .before .if3 .left))
     (λ w. subst (λ (x : ℕ). s .args .t < numberAt (s .args .passes .now) x) e (omega (arith, c .before .number-at3 .ensures, c .if4 .taken)))
-
-add-last-not-after : tie.Need-add-last-not-after
-add-last-not-after c = search needs
 
 last-not-after-requires-3 : tie.Need-last-not-after-requires-3
 last-not-after-requires-3 c κs =
@@ -85,19 +61,19 @@ pub neighbour-spec : {M : Type 1} → statement M
 neighbour-spec =
     tie.close
     (tie.spec
-    number-at-requires
+    (λ c κs. search needs)
     last-not-after-requires
     returns
-    sub-if2
+    (λ c. search needs)
     last-not-after-requires-2
     returns-2
-    add-number-at
-    number-at-requires-2
+    (λ c. search needs)
+    (λ c κs. search needs)
     returns-3
-    add-number-at-2
-    number-at-requires-3
-    add-result
+    (λ c. search needs)
+    (λ c κs. search needs)
+    (λ c. search needs)
     returns-4
-    add-last-not-after
+    (λ c. search needs)
     last-not-after-requires-3
     returns-5)

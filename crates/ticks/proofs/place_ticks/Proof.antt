@@ -8,9 +8,6 @@ use borrow.Author.Needs.{needs}
 use Rattle.ticks.proofs.place_ticks.Statement.{statement}
 use Rattle.ticks.proofs.place_ticks.Tie as tie
 
-refused-by-requires : tie.Need-refused-by-requires
-refused-by-requires c κs = search needs
-
 returns : tie.Need-returns
 returns c =
     let a = c .before .before .before .before .before .before .args in
@@ -27,9 +24,6 @@ place-all-requires c κs =
     let z = ladder-passed (a .passes .now) (a .millis .now) (a .ticks .now) (length (a .out .now)) (sym (c .before .before .refused-by .ensures) ∙ c .before .if1 .left) in
     (all-good (a .passes .now) (a .millis .now) (a .ticks .now) (length (a .out .now)) z _ refl, omega (arith, z .fits))
 
-same-length : tie.Need-same-length
-same-length c = search needs
-
 returns-2 : tie.Need-returns-2
 returns-2 c =
     let a = c .before .before .before .before .before .before .before .before .before .before .args in
@@ -37,4 +31,4 @@ returns-2 c =
 
 pub place-ticks-spec : {M : Type 1} → statement M
 place-ticks-spec =
-    tie.close (tie.spec refused-by-requires returns sub-k place-all-requires same-length returns-2)
+    tie.close (tie.spec (λ c κs. search needs) returns sub-k place-all-requires (λ c. search needs) returns-2)

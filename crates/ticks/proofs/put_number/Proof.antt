@@ -7,24 +7,6 @@ use borrow.Author.Needs.{needs}
 use Rattle.ticks.proofs.put_number.Statement.{statement}
 use Rattle.ticks.proofs.put_number.Tie as tie
 
-add-end : tie.Need-add-end
-add-end c = search needs
-
-sub-put-u64 : tie.Need-sub-put-u64
-sub-put-u64 c = search needs
-
-part-put-u64-start : tie.Need-part-put-u64-start
-part-put-u64-start c = search needs
-
-part-put-u64-end : tie.Need-part-put-u64-end
-part-put-u64-end c = search needs
-
-put-u64-requires : tie.Need-put-u64-requires
-put-u64-requires c κs = search needs
-
-same-length : tie.Need-same-length
-same-length c = search needs
-
 returns : tie.Need-returns
 returns c =
     let s = c .before .before .before .before .before in
@@ -34,10 +16,10 @@ pub put-number-spec : {M : Type 1} → statement M
 put-number-spec =
     tie.close
     (tie.spec
-    add-end
-    sub-put-u64
-    part-put-u64-start
-    part-put-u64-end
-    put-u64-requires
-    same-length
+    (λ c. search needs)
+    (λ c. search needs)
+    (λ c. search needs)
+    (λ c. search needs)
+    (λ c κs. search needs)
+    (λ c. search needs)
     returns)

@@ -9,15 +9,6 @@ use Rattle.time_of_day.specs.Milliseconds.{millisOf, thousand-f}
 use Rattle.time_of_day.proofs.milliseconds.Statement.{statement}
 use Rattle.time_of_day.proofs.milliseconds.Tie as tie
 
-seconds-requires : tie.Need-seconds-requires
-seconds-requires c κs = search needs
-
-round-requires : tie.Need-round-requires
-round-requires c κs = search needs
-
-saturating-i64-requires : tie.Need-saturating-i64-requires
-saturating-i64-requires c κs = search needs
-
 returns : tie.Need-returns
 unfolding millisOf
 returns c =
@@ -27,4 +18,4 @@ returns c =
     ∙ ap (λ (x : Float). toSigned 63 (toWhole away (mul binary64 thousand-f x))) (c .before .before .seconds .ensures)
 
 pub milliseconds-spec : {M : Type 1} → statement M
-milliseconds-spec = tie.close (tie.spec seconds-requires round-requires saturating-i64-requires returns)
+milliseconds-spec = tie.close (tie.spec (λ c κs. search needs) (λ c κs. search needs) (λ c κs. search needs) returns)

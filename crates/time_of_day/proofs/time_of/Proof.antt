@@ -7,15 +7,6 @@ use Rattle.time_of_day.specs.TimeShown.{timeOf}
 use Rattle.time_of_day.proofs.time_of.Statement.{statement}
 use Rattle.time_of_day.proofs.time_of.Tie as tie
 
-minute-of-day-requires : tie.Need-minute-of-day-requires
-minute-of-day-requires c κs = search needs
-
-mul-rest : tie.Need-mul-rest
-mul-rest c = search needs
-
-sub-rest : tie.Need-sub-rest
-sub-rest c = search needs
-
 abbrev with-minute : ℕ → ℕ → TimeOfDay
 with-minute k m = record { hour = m / 60; minute = m % 60; second = (k - m * 60000) / 1000; milli = (k - m * 60000) % 1000 }
 
@@ -24,4 +15,4 @@ unfolding timeOf
 returns c = ap (λ (m : ℕ). with-minute (c .before .args .millis) m) (c .minute-of-day .ensures)
 
 pub time-of-spec : {M : Type 1} → statement M
-time-of-spec = tie.close (tie.spec minute-of-day-requires mul-rest sub-rest returns)
+time-of-spec = tie.close (tie.spec (λ c κs. search needs) (λ c. search needs) (λ c. search needs) returns)

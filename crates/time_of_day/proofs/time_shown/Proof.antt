@@ -14,24 +14,6 @@ use Rattle.time_of_day.proofs.ByCount.{at-time, at-end}
 use Rattle.time_of_day.proofs.time_shown.Statement.{statement}
 use Rattle.time_of_day.proofs.time_shown.Tie as tie
 
-whole-leap-requires : tie.Need-whole-leap-requires
-whole-leap-requires c κs = search needs
-
-milliseconds-requires : tie.Need-milliseconds-requires
-milliseconds-requires c κs = search needs
-
-from-zero-requires : tie.Need-from-zero-requires
-from-zero-requires c κs = search needs
-
-day-end-requires : tie.Need-day-end-requires
-day-end-requires c κs = search needs
-
-cast-time-of : tie.Need-cast-time-of
-cast-time-of c = search needs
-
-time-of-requires : tie.Need-time-of-requires
-time-of-requires c κs = search needs
-
 -- the count, by the two calls that make it
 counted : (fraction stretch : Float) (z : ℤ) (k : ℕ) → z ≡ millisOf away fraction stretch → k ≡ fromZero z → k ≡ countBy away fraction stretch
 unfolding countBy
@@ -57,11 +39,11 @@ pub time-shown-spec : {M : Type 1} → statement M
 time-shown-spec =
     tie.close
     (tie.spec
-    whole-leap-requires
-    milliseconds-requires
-    from-zero-requires
-    day-end-requires
-    cast-time-of
-    time-of-requires
+    (λ c κs. search needs)
+    (λ c κs. search needs)
+    (λ c κs. search needs)
+    (λ c κs. search needs)
+    (λ c. search needs)
+    (λ c κs. search needs)
     returns
     returns-2)

@@ -8,9 +8,6 @@ use Rattle.time_of_day.specs.Milliseconds.{wholeLeap}
 use Rattle.time_of_day.proofs.whole_leap.Statement.{statement}
 use Rattle.time_of_day.proofs.whole_leap.Tie as tie
 
-fabs-requires : tie.Need-fabs-requires
-fabs-requires c κs = search needs
-
 -- what the test saw is what the definition tests
 picks : (b : Bool) (x r : Float) → r ≡ abs x → lt half r ≡ b → cond b x nought ≡ wholeLeap x
 unfolding wholeLeap
@@ -25,4 +22,4 @@ unfolding ofBits
 returns-2 c = picks false (c .before .before .args .leap) (c .before .fabs .result) (c .before .fabs .ensures) (c .if1 .left)
 
 pub whole-leap-spec : {M : Type 1} → statement M
-whole-leap-spec = tie.close (tie.spec fabs-requires returns returns-2)
+whole-leap-spec = tie.close (tie.spec (λ c κs. search needs) returns returns-2)

@@ -8,15 +8,6 @@ use borrow.Author.Needs.{needs}
 use Rattle.utc.proofs.at_time.Statement.{statement}
 use Rattle.utc.proofs.at_time.Tie as tie
 
-enum-known-fraction : tie.Need-enum-known-fraction
-enum-known-fraction c = search needs
-
-enum-known-fraction-2 : tie.Need-enum-known-fraction-2
-enum-known-fraction-2 c = search needs
-
-new-requires : tie.Need-new-requires
-new-requires c κs = search needs
-
 returns : tie.Need-returns
 unfolding utcOutcome midnightPlus fractionOutcome onward
 returns c =
@@ -32,4 +23,4 @@ returns-2 c =
 
 pub at-time-spec : {M : Type 1} → statement M
 at-time-spec =
-    tie.close (tie.spec enum-known-fraction enum-known-fraction-2 new-requires returns returns-2)
+    tie.close (tie.spec (λ c. search needs) (λ c. search needs) (λ c κs. search needs) returns returns-2)

@@ -54,25 +54,10 @@ returns c =
     let h : 1000000000 ≤ s .args .nanos = omega arith in
     sym (nanos-refused (rows (c .before)) (s .args .unix) (s .args .nanos) (le-ltb (s .args .nanos) 1000000000 h))
 
-unix-day-requires : tie.Need-unix-day-requires
-unix-day-requires c κs = search needs
-
 int-to-float-julian-to-calendar : tie.Need-int-to-float-julian-to-calendar
 int-to-float-julian-to-calendar c =
     let s = c .before .before .before in
     subst (λ (x : ℤ). T (inFloat binary64 x)) (sym (read-day (c .before))) (day-in-float (s .args .unix) (s .fits .unix))
-
-julian-to-calendar-requires : tie.Need-julian-to-calendar-requires
-julian-to-calendar-requires c κs = search needs
-
-enum-known-number : tie.Need-enum-known-number
-enum-known-number c = search needs
-
-enum-known-fields : tie.Need-enum-known-fields
-enum-known-fields c = search needs
-
-second-of-unix-day-requires : tie.Need-second-of-unix-day-requires
-second-of-unix-day-requires c κs = search needs
 
 cast-utc-from-calendar-by-lent : tie.Need-cast-utc-from-calendar-by-lent
 cast-utc-from-calendar-by-lent c =
@@ -83,18 +68,6 @@ cast-utc-from-calendar-by-lent-2 : tie.Need-cast-utc-from-calendar-by-lent-2
 cast-utc-from-calendar-by-lent-2 c =
     let k = c .before .before .before .before .before in
     record { fits = omega (arith, date-in-range _ _ (k .fields .given .0 .0) (answered k) .day-high) }
-
-cast-utc-from-calendar-by-lent-3 : tie.Need-cast-utc-from-calendar-by-lent-3
-cast-utc-from-calendar-by-lent-3 c = search needs
-
-cast-utc-from-calendar-by-lent-4 : tie.Need-cast-utc-from-calendar-by-lent-4
-cast-utc-from-calendar-by-lent-4 c = search needs
-
-second-with-nanos-requires : tie.Need-second-with-nanos-requires
-second-with-nanos-requires c κs = search needs
-
-utc-from-calendar-by-lent-requires : tie.Need-utc-from-calendar-by-lent-requires
-utc-from-calendar-by-lent-requires c κs = search needs
 
 returns-2 : tie.Need-returns-2
 unfolding utcOutcome calendarOutcome
@@ -120,17 +93,17 @@ new-by-lent-spec =
     tie.close
     (tie.spec
     returns
-    unix-day-requires
+    (λ c κs. search needs)
     int-to-float-julian-to-calendar
-    julian-to-calendar-requires
-    enum-known-number
-    enum-known-fields
-    second-of-unix-day-requires
+    (λ c κs. search needs)
+    (λ c. search needs)
+    (λ c. search needs)
+    (λ c κs. search needs)
     cast-utc-from-calendar-by-lent
     cast-utc-from-calendar-by-lent-2
-    cast-utc-from-calendar-by-lent-3
-    cast-utc-from-calendar-by-lent-4
-    second-with-nanos-requires
-    utc-from-calendar-by-lent-requires
+    (λ c. search needs)
+    (λ c. search needs)
+    (λ c κs. search needs)
+    (λ c κs. search needs)
     returns-2
     returns-3)

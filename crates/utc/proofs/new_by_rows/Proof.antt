@@ -7,12 +7,6 @@ use borrow.Author.Needs.{needs}
 use Rattle.utc.proofs.new_by_rows.Statement.{statement}
 use Rattle.utc.proofs.new_by_rows.Tie as tie
 
-size-of-requires : tie.Need-size-of-requires
-size-of-requires c κs = search needs
-
-new-by-lent-requires : tie.Need-new-by-lent-requires
-new-by-lent-requires c κs = search needs
-
 returns : tie.Need-returns
 returns c =
     let z = c .before .before .before .before in
@@ -21,4 +15,4 @@ returns c =
     c .new-by-lent .ensures ∙ (λ i. utcNew (rows i) (toZ-ofZ (s .fits .seconds) i) (s .args .nanos))
 
 pub new-by-rows-spec : {M : Type 1} → statement M
-new-by-rows-spec = tie.close (tie.spec size-of-requires new-by-lent-requires returns)
+new-by-rows-spec = tie.close (tie.spec (λ c κs. search needs) (λ c κs. search needs) returns)

@@ -9,12 +9,6 @@ use borrow.Author.Needs.{needs}
 use Rattle.utc.proofs.second_with_nanos.Statement.{statement}
 use Rattle.utc.proofs.second_with_nanos.Tie as tie
 
-int-to-float-result : tie.Need-int-to-float-result
-int-to-float-result c = search needs
-
-int-to-float-result-2 : tie.Need-int-to-float-result-2
-int-to-float-result-2 c = search needs
-
 returns : tie.Need-returns
 unfolding secondWithNanos
 returns c =
@@ -22,4 +16,4 @@ returns c =
     ap (λ (x : Float). add binary64 (ofInt binary64 (pos (s .args .second % 60))) (div binary64 (ofInt binary64 (pos (s .args .nanos))) x)) nanoseconds-per-second
 
 pub second-with-nanos-spec : {M : Type 1} → statement M
-second-with-nanos-spec = tie.close (tie.spec int-to-float-result int-to-float-result-2 returns)
+second-with-nanos-spec = tie.close (tie.spec (λ c. search needs) (λ c. search needs) returns)

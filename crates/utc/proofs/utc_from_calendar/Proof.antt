@@ -9,15 +9,9 @@ use borrow.Author.Needs.{needs}
 use Rattle.utc.proofs.utc_from_calendar.Statement.{statement}
 use Rattle.utc.proofs.utc_from_calendar.Tie as tie
 
-table-refusal-requires : tie.Need-table-refusal-requires
-table-refusal-requires c κs = search needs
-
 returns : tie.Need-returns
 unfolding utcOutcome
 returns c = let r = c .before in turned-away (r .before .args .table) (r .table-refusal .result) (r .table-refusal .ensures) _ (c .if1 .taken)
-
-utc-from-calendar-by-rows-requires : tie.Need-utc-from-calendar-by-rows-requires
-utc-from-calendar-by-rows-requires c κs = search needs
 
 returns-2 : tie.Need-returns-2
 returns-2 c =
@@ -29,4 +23,4 @@ returns-2 c =
 
 pub utc-from-calendar-spec : {M : Type 1} → statement M
 utc-from-calendar-spec =
-    tie.close (tie.spec table-refusal-requires returns utc-from-calendar-by-rows-requires returns-2)
+    tie.close (tie.spec (λ c κs. search needs) returns (λ c κs. search needs) returns-2)

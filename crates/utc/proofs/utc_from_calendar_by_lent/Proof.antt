@@ -45,36 +45,6 @@ leap-called l =
     (ap forget (l .leap-at-end-of-day-by-lent .ensures ∙ (λ i. leapByRule (rows s) (toZ-ofZ (s .fits .year) i) (toZ-pos w32 {n = s .args .month} (omega (arith, s .fits .month .fits)) i) (toZ-pos w32 {n = s .args .day} (omega (arith, s .fits .day .fits)) i)))
     ∙ leap-forgets (rows s) (s .args .year) (pos (s .args .month)) (pos (s .args .day)))
 
-from-calendar-requires : tie.Need-from-calendar-requires
-from-calendar-requires c κs = search needs
-
-enum-known-number : tie.Need-enum-known-number
-enum-known-number c = search needs
-
-enum-known-midnight : tie.Need-enum-known-midnight
-enum-known-midnight c = search needs
-
-cast-leap-at-end-of-day-by-lent : tie.Need-cast-leap-at-end-of-day-by-lent
-cast-leap-at-end-of-day-by-lent c = search needs
-
-cast-leap-at-end-of-day-by-lent-2 : tie.Need-cast-leap-at-end-of-day-by-lent-2
-cast-leap-at-end-of-day-by-lent-2 c = search needs
-
-leap-at-end-of-day-by-lent-requires : tie.Need-leap-at-end-of-day-by-lent-requires
-leap-at-end-of-day-by-lent-requires c κs = search needs
-
-enum-known-number-2 : tie.Need-enum-known-number-2
-enum-known-number-2 c = search needs
-
-enum-known-leap : tie.Need-enum-known-leap
-enum-known-leap c = search needs
-
-day-fraction-requires : tie.Need-day-fraction-requires
-day-fraction-requires c κs = search needs
-
-at-time-requires : tie.Need-at-time-requires
-at-time-requires c κs = search needs
-
 returns : tie.Need-returns
 unfolding utcOutcome utcFromCalendar onward julianOutcome ofBits
 returns c =
@@ -101,16 +71,16 @@ pub utc-from-calendar-by-lent-spec : {M : Type 1} → statement M
 utc-from-calendar-by-lent-spec =
     tie.close
     (tie.spec
-    from-calendar-requires
-    enum-known-number
-    enum-known-midnight
-    cast-leap-at-end-of-day-by-lent
-    cast-leap-at-end-of-day-by-lent-2
-    leap-at-end-of-day-by-lent-requires
-    enum-known-number-2
-    enum-known-leap
-    day-fraction-requires
-    at-time-requires
+    (λ c κs. search needs)
+    (λ c. search needs)
+    (λ c. search needs)
+    (λ c. search needs)
+    (λ c. search needs)
+    (λ c κs. search needs)
+    (λ c. search needs)
+    (λ c. search needs)
+    (λ c κs. search needs)
+    (λ c κs. search needs)
     returns
     returns-2
     returns-3)

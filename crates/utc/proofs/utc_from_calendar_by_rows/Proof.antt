@@ -7,12 +7,6 @@ use borrow.Author.Needs.{needs}
 use Rattle.utc.proofs.utc_from_calendar_by_rows.Statement.{statement}
 use Rattle.utc.proofs.utc_from_calendar_by_rows.Tie as tie
 
-size-of-requires : tie.Need-size-of-requires
-size-of-requires c κs = search needs
-
-utc-from-calendar-by-lent-requires : tie.Need-utc-from-calendar-by-lent-requires
-utc-from-calendar-by-lent-requires c κs = search needs
-
 returns : tie.Need-returns
 returns c =
     let z = c .before .before .before .before in
@@ -21,4 +15,4 @@ returns c =
     c .utc-from-calendar-by-lent .ensures ∙ (λ i. utcFromCalendar (rows i) (toZ-ofZ (s .fits .year) i) (s .args .month) (s .args .day) (s .args .hour) (s .args .minute) (s .args .second))
 
 pub utc-from-calendar-by-rows-spec : {M : Type 1} → statement M
-utc-from-calendar-by-rows-spec = tie.close (tie.spec size-of-requires utc-from-calendar-by-lent-requires returns)
+utc-from-calendar-by-rows-spec = tie.close (tie.spec (λ c κs. search needs) (λ c κs. search needs) returns)

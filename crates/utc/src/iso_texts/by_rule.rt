@@ -10,13 +10,13 @@ ghost use Rattle.utc.specs.iso_texts.TextCall.{TextCall};
 ghost use Rattle.utc.specs.iso_texts.ByRule.{ruleOn, isoTextByRule, textByRuleOutcome, TextRuleCall};
 use super::TextByRule;
 use super::put_shown;
+use crate::text::TextAnswer;
 use calendar::CalendarDate;
 use julian::CalendarAnswer;
-use leap_table::rows::LentRows;
-use scales::UTC;
 use leap_table::offsets::Rule;
 use leap_table::offsets::SecondsByRule;
-use crate::text::TextAnswer;
+use leap_table::rows::LentRows;
+use scales::UTC;
 
 pub(crate) fn with_rule(text: TextAnswer, rule: Rule) -> TextByRule
     ensures { λ r. ⌜ textByRuleOutcome r ≡ withRule (textOutcome text) rule ⌝ }

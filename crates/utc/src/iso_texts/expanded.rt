@@ -10,15 +10,15 @@ ghost use Rattle.utc.specs.iso_texts.TextCall.{TextCall};
 ghost use Rattle.utc.specs.iso_texts.ByRule.{ruleOn, expandedByRule, TextRuleCall};
 use super::TextByRule;
 use super::by_rule::with_rule;
+use crate::text::TextAnswer;
 use calendar::CalendarDate;
 use calendar::NextDay;
 use julian::CalendarAnswer;
+use leap_table::offsets::SecondsByRule;
 use leap_table::rows::LentRows;
 use scales::UTC;
-use leap_table::offsets::SecondsByRule;
 use time_of_day::TimeOfDay;
 use time_of_day::TimeShown;
-use crate::text::TextAnswer;
 
 fn put_day<'a>(
     date: CalendarDate,

@@ -9,12 +9,12 @@ ghost use Rattle.utc.specs.iso_texts.ByRule.{ruleOn, halfEvenByRule, Tex
 use super::TextByRule;
 use super::by_rule::with_rule;
 use super::put_shown;
+use crate::text::TextAnswer;
 use calendar::CalendarDate;
 use julian::CalendarAnswer;
+use leap_table::offsets::SecondsByRule;
 use leap_table::rows::LentRows;
 use scales::UTC;
-use leap_table::offsets::SecondsByRule;
-use crate::text::TextAnswer;
 
 fn put_day<'a>(
     date: CalendarDate,

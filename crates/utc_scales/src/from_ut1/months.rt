@@ -7,9 +7,9 @@ ghost use Rattle.calendar.specs.Gregorian.{gregorianDate};
 ghost use Rattle.leap_table.specs.rows.Lent.{rowsIn};
 ghost use Rattle.utc_scales.specs.days.Dates.{offsetAt0h, offsetOfDate};
 ghost use Rattle.utc_scales.specs.from_ut1.KnownMonths.{RightMonth, RightMonths, monthOutcome};
+use crate::days::offset_at_0h;
 use julian::day_number::DayAnswer;
 use leap_table::offsets::SecondsByRule;
-use crate::days::offset_at_0h;
 
 // A month, and TAI-UTC at 0h of one of its days: from 1972 on that of all of them.
 pub(crate) struct KnownMonth {

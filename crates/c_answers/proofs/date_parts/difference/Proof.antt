@@ -5,19 +5,10 @@ use borrow.Author.Needs.{needs}
 use Rattle.c_answers.proofs.date_parts.difference.Statement.{statement}
 use Rattle.c_answers.proofs.date_parts.difference.Tie as tie
 
-new-requires : tie.Need-new-requires
-new-requires c κs = search needs
-
-new-requires-2 : tie.Need-new-requires-2
-new-requires-2 c κs = search needs
-
-sub-requires : tie.Need-sub-requires
-sub-requires c κs = search needs
-
 returns : tie.Need-returns
 returns c =
     let n = c .before in
     c .sub .ensures ∙ λ i. difference (n .before .new .ensures i) (n .new2 .ensures i)
 
 pub difference-spec : {M : Type 1} → statement M
-difference-spec = tie.close (tie.spec new-requires new-requires-2 sub-requires returns)
+difference-spec = tie.close (tie.spec (λ c κs. search needs) (λ c κs. search needs) (λ c κs. search needs) returns)

@@ -5,15 +5,6 @@ use borrow.Author.Needs.{needs}
 use Rattle.c_answers.proofs.date_parts.julian_to_calendar.Statement.{statement}
 use Rattle.c_answers.proofs.date_parts.julian_to_calendar.Tie as tie
 
-julian-to-calendar-requires : tie.Need-julian-to-calendar-requires
-julian-to-calendar-requires c κs = search needs
-
-put-calendar-requires : tie.Need-put-calendar-requires
-put-calendar-requires c κs = search needs
-
-same-length : tie.Need-same-length
-same-length c = search needs
-
 returns : tie.Need-returns
 returns c =
     let p = c .before .before in
@@ -21,4 +12,4 @@ returns c =
 
 pub julian-to-calendar-spec : {M : Type 1} → statement M
 julian-to-calendar-spec =
-    tie.close (tie.spec julian-to-calendar-requires put-calendar-requires same-length returns)
+    tie.close (tie.spec (λ c κs. search needs) (λ c κs. search needs) (λ c. search needs) returns)

@@ -7,21 +7,6 @@ use borrow.Author.Needs.{needs}
 use Rattle.c_answers.proofs.date_parts.put_calendar.Statement.{statement}
 use Rattle.c_answers.proofs.date_parts.put_calendar.Tie as tie
 
-enum-known-found : tie.Need-enum-known-found
-enum-known-found c = search needs
-
-put-calendar-requires : tie.Need-put-calendar-requires
-put-calendar-requires c κs = search needs
-
-enum-known-found-2 : tie.Need-enum-known-found-2
-enum-known-found-2 c = search needs
-
-refused-requires : tie.Need-refused-requires
-refused-requires c κs = search needs
-
-same-length : tie.Need-same-length
-same-length c = search needs
-
 returns : tie.Need-returns
 unfolding calendarOutcome
 returns c =
@@ -36,10 +21,10 @@ pub put-calendar-spec : {M : Type 1} → statement M
 put-calendar-spec =
     tie.close
     (tie.spec
-    enum-known-found
-    put-calendar-requires
-    enum-known-found-2
-    refused-requires
-    same-length
+    (λ c. search needs)
+    (λ c κs. search needs)
+    (λ c. search needs)
+    (λ c κs. search needs)
+    (λ c. search needs)
     returns
     returns-2)

@@ -8,30 +8,9 @@ use borrow.Author.Needs.{needs}
 use Rattle.c_answers.proofs.fields.put_calendar.Statement.{statement}
 use Rattle.c_answers.proofs.fields.put_calendar.Tie as tie
 
-refused-requires : tie.Need-refused-requires
-refused-requires c κs = search needs
-
 returns : tie.Need-returns
 unfolding calendarBytes dateBytes
 returns c = too-short (calendarBytes (c .before .before .before .args .shown)) (now (c .before .before .before .args .out)) _ (c .before .if1 .taken) (code-back (c .refused .ok) ∙ c .refused .ensures)
-
-put-date-requires : tie.Need-put-date-requires
-put-date-requires c κs = search needs
-
-sub-put-float : tie.Need-sub-put-float
-sub-put-float c = search needs
-
-part-put-float-start : tie.Need-part-put-float-start
-part-put-float-start c = search needs
-
-part-put-float-end : tie.Need-part-put-float-end
-part-put-float-end c = search needs
-
-put-float-requires : tie.Need-put-float-requires
-put-float-requires c κs = search needs
-
-same-length : tie.Need-same-length
-same-length c = search needs
 
 returns-2 : tie.Need-returns-2
 unfolding calendarBytes dateBytes
@@ -43,12 +22,12 @@ pub put-calendar-spec : {M : Type 1} → statement M
 put-calendar-spec =
     tie.close
     (tie.spec
-    refused-requires
+    (λ c κs. search needs)
     returns
-    put-date-requires
-    sub-put-float
-    part-put-float-start
-    part-put-float-end
-    put-float-requires
-    same-length
+    (λ c κs. search needs)
+    (λ c. search needs)
+    (λ c. search needs)
+    (λ c. search needs)
+    (λ c κs. search needs)
+    (λ c. search needs)
     returns-2)

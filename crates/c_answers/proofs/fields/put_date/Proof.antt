@@ -10,21 +10,6 @@ use borrow.Author.Needs.{needs}
 use Rattle.c_answers.proofs.fields.put_date.Statement.{statement}
 use Rattle.c_answers.proofs.fields.put_date.Tie as tie
 
-year-pattern-requires : tie.Need-year-pattern-requires
-year-pattern-requires c κs = search needs
-
-three-numbers-requires : tie.Need-three-numbers-requires
-three-numbers-requires c κs = search needs
-
-slice-aggregate-put : tie.Need-slice-aggregate-put
-slice-aggregate-put c = search needs
-
-put-requires : tie.Need-put-requires
-put-requires c κs = search needs
-
-same-length : tie.Need-same-length
-same-length c = search needs
-
 returns : tie.Need-returns
 unfolding dateBytes
 returns c =
@@ -40,9 +25,9 @@ pub put-date-spec : {M : Type 1} → statement M
 put-date-spec =
     tie.close
     (tie.spec
-    year-pattern-requires
-    three-numbers-requires
-    slice-aggregate-put
-    put-requires
-    same-length
+    (λ c κs. search needs)
+    (λ c κs. search needs)
+    (λ c. search needs)
+    (λ c κs. search needs)
+    (λ c. search needs)
     returns)

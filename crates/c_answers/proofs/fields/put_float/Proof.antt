@@ -6,21 +6,6 @@ use borrow.Author.Needs.{needs}
 use Rattle.c_answers.proofs.fields.put_float.Statement.{statement}
 use Rattle.c_answers.proofs.fields.put_float.Tie as tie
 
-to-bits-requires : tie.Need-to-bits-requires
-to-bits-requires c κs = search needs
-
-bytes-of-u64-requires : tie.Need-bytes-of-u64-requires
-bytes-of-u64-requires c κs = search needs
-
-slice-aggregate-put : tie.Need-slice-aggregate-put
-slice-aggregate-put c = search needs
-
-put-requires : tie.Need-put-requires
-put-requires c κs = search needs
-
-same-length : tie.Need-same-length
-same-length c = search needs
-
 returns : tie.Need-returns
 returns c =
     let p = c .before .before in
@@ -31,9 +16,9 @@ pub put-float-spec : {M : Type 1} → statement M
 put-float-spec =
     tie.close
     (tie.spec
-    to-bits-requires
-    bytes-of-u64-requires
-    slice-aggregate-put
-    put-requires
-    same-length
+    (λ c κs. search needs)
+    (λ c κs. search needs)
+    (λ c. search needs)
+    (λ c κs. search needs)
+    (λ c. search needs)
     returns)

@@ -8,24 +8,6 @@ use borrow.Author.Needs.{needs}
 use Rattle.c_answers.proofs.fields.put_julian.Statement.{statement}
 use Rattle.c_answers.proofs.fields.put_julian.Tie as tie
 
-to-bits-requires : tie.Need-to-bits-requires
-to-bits-requires c κs = search needs
-
-to-bits-requires-2 : tie.Need-to-bits-requires-2
-to-bits-requires-2 c κs = search needs
-
-two-patterns-requires : tie.Need-two-patterns-requires
-two-patterns-requires c κs = search needs
-
-slice-aggregate-put : tie.Need-slice-aggregate-put
-slice-aggregate-put c = search needs
-
-put-requires : tie.Need-put-requires
-put-requires c κs = search needs
-
-same-length : tie.Need-same-length
-same-length c = search needs
-
 returns : tie.Need-returns
 unfolding julianBytes
 returns c =
@@ -40,10 +22,10 @@ pub put-julian-spec : {M : Type 1} → statement M
 put-julian-spec =
     tie.close
     (tie.spec
-    to-bits-requires
-    to-bits-requires-2
-    two-patterns-requires
-    slice-aggregate-put
-    put-requires
-    same-length
+    (λ c κs. search needs)
+    (λ c κs. search needs)
+    (λ c κs. search needs)
+    (λ c. search needs)
+    (λ c κs. search needs)
+    (λ c. search needs)
     returns)

@@ -14,11 +14,8 @@ wider c = subst (SFits w64) (sym (toZ-ofZ (c .fits .year))) (sfits-widen tt (c .
 cast-pattern-of-i64 : tie.Need-cast-pattern-of-i64
 cast-pattern-of-i64 c = wider c
 
-pattern-of-i64-requires : tie.Need-pattern-of-i64-requires
-pattern-of-i64-requires c κs = search needs
-
 returns : tie.Need-returns
 returns c = c .pattern-of-i64 .ensures ∙ ap patternOf (toZ-ofZ {w = w64} (wider (c .before)) ∙ toZ-ofZ (c .before .fits .year))
 
 pub year-pattern-spec : {M : Type 1} → statement M
-year-pattern-spec = tie.close (tie.spec cast-pattern-of-i64 pattern-of-i64-requires returns)
+year-pattern-spec = tie.close (tie.spec cast-pattern-of-i64 (λ c κs. search needs) returns)

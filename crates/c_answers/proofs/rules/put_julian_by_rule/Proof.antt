@@ -9,30 +9,9 @@ use borrow.Author.Needs.{needs}
 use Rattle.c_answers.proofs.rules.put_julian_by_rule.Statement.{statement}
 use Rattle.c_answers.proofs.rules.put_julian_by_rule.Tie as tie
 
-refused-requires : tie.Need-refused-requires
-refused-requires c κs = search needs
-
 returns : tie.Need-returns
 unfolding julianRuleBytes julianBytes
 returns c = too-short (julianRuleBytes (c .before .before .before .args .date, c .before .before .before .args .rule)) (now (c .before .before .before .args .out)) _ (c .before .if1 .taken) (code-back (c .refused .ok) ∙ c .refused .ensures)
-
-put-julian-requires : tie.Need-put-julian-requires
-put-julian-requires c κs = search needs
-
-sub-put-rule : tie.Need-sub-put-rule
-sub-put-rule c = search needs
-
-part-put-rule-start : tie.Need-part-put-rule-start
-part-put-rule-start c = search needs
-
-part-put-rule-end : tie.Need-part-put-rule-end
-part-put-rule-end c = search needs
-
-put-rule-requires : tie.Need-put-rule-requires
-put-rule-requires c κs = search needs
-
-same-length : tie.Need-same-length
-same-length c = search needs
 
 returns-2 : tie.Need-returns-2
 unfolding julianRuleBytes julianBytes
@@ -44,12 +23,12 @@ pub put-julian-by-rule-spec : {M : Type 1} → statement M
 put-julian-by-rule-spec =
     tie.close
     (tie.spec
-    refused-requires
+    (λ c κs. search needs)
     returns
-    put-julian-requires
-    sub-put-rule
-    part-put-rule-start
-    part-put-rule-end
-    put-rule-requires
-    same-length
+    (λ c κs. search needs)
+    (λ c. search needs)
+    (λ c. search needs)
+    (λ c. search needs)
+    (λ c κs. search needs)
+    (λ c. search needs)
     returns-2)

@@ -6,18 +6,6 @@ use borrow.Author.Needs.{needs}
 use Rattle.c_answers.proofs.rules.put_rule.Statement.{statement}
 use Rattle.c_answers.proofs.rules.put_rule.Tie as tie
 
-rule-number-requires : tie.Need-rule-number-requires
-rule-number-requires c κs = search needs
-
-row-pattern-requires : tie.Need-row-pattern-requires
-row-pattern-requires c κs = search needs
-
-put-two-numbers-requires : tie.Need-put-two-numbers-requires
-put-two-numbers-requires c κs = search needs
-
-same-length : tie.Need-same-length
-same-length c = search needs
-
 returns : tie.Need-returns
 returns c =
     let p = c .before .before in
@@ -28,8 +16,8 @@ pub put-rule-spec : {M : Type 1} → statement M
 put-rule-spec =
     tie.close
     (tie.spec
-    rule-number-requires
-    row-pattern-requires
-    put-two-numbers-requires
-    same-length
+    (λ c κs. search needs)
+    (λ c κs. search needs)
+    (λ c κs. search needs)
+    (λ c. search needs)
     returns)

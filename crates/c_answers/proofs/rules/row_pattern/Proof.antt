@@ -5,15 +5,6 @@ use borrow.Author.Needs.{needs}
 use Rattle.c_answers.proofs.rules.row_pattern.Statement.{statement}
 use Rattle.c_answers.proofs.rules.row_pattern.Tie as tie
 
-enum-told : tie.Need-enum-told
-enum-told c = search needs
-
-enum-known-rule : tie.Need-enum-known-rule
-enum-known-rule c = search needs
-
-enum-known-rule-2 : tie.Need-enum-known-rule-2
-enum-known-rule-2 c = search needs
-
 returns : tie.Need-returns
 unfolding rowPattern
 returns c = sym (ap rowPattern (c .enum-told .given .1))
@@ -28,4 +19,4 @@ returns-3 c = sym (ap rowPattern (c .before .rule2 .given .1))
 
 pub row-pattern-spec : {M : Type 1} → statement M
 row-pattern-spec =
-    tie.close (tie.spec enum-told enum-known-rule enum-known-rule-2 returns returns-2 returns-3)
+    tie.close (tie.spec (λ c. search needs) (λ c. search needs) (λ c. search needs) returns returns-2 returns-3)

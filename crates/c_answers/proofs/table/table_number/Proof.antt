@@ -11,20 +11,14 @@ returns : tie.Need-returns
 unfolding ofLength
 returns c = rw (ne-eqb _ _ (c .if1 .taken))
 
-lend-none-requires : tie.Need-lend-none-requires
-lend-none-requires c κs = search needs
-
 returns-2 : tie.Need-returns-2
 returns-2 c =
     let n = c .before in
     refuses-none _ _ (n .before .if1 .left) (sym (n .lend-none .ensures) ∙ c .if2 .taken)
-
-table-refusal-requires : tie.Need-table-refusal-requires
-table-refusal-requires c κs = search needs
 
 returns-3 : tie.Need-returns-3
 unfolding ofLength
 returns-3 c = c .table-refusal .ensures ∙ rw (eq-eqb _ _ (c .before .before .before .if1 .left))
 
 pub table-number-spec : {M : Type 1} → statement M
-table-number-spec = tie.close (tie.spec returns lend-none-requires returns-2 table-refusal-requires returns-3)
+table-number-spec = tie.close (tie.spec returns (λ c κs. search needs) returns-2 (λ c κs. search needs) returns-3)

@@ -4,20 +4,8 @@ use borrow.Author.Needs.{needs}
 use Rattle.capi.proofs.block_calls.ct_block_stamps.Statement.{statement}
 use Rattle.capi.proofs.block_calls.ct_block_stamps.Tie as tie
 
-block-stamps-requires : tie.Need-block-stamps-requires
-block-stamps-requires c κs = search needs
-
-enum-known-n : tie.Need-enum-known-n
-enum-known-n c = search needs
-
 cast-result : tie.Need-cast-result
 cast-result c = stamps-fit _ (c .before .before .before .block-stamps .ensures) _ (c .before .n .given .1)
-
-enum-known-number : tie.Need-enum-known-number
-enum-known-number c = search needs
-
-refused-requires : tie.Need-refused-requires
-refused-requires c κs = search needs
 
 returns : tie.Need-returns
 returns c = stamps-are _ (c .before .before .before .block-stamps .ensures) _ (c .before .n .given .1)
@@ -29,10 +17,10 @@ pub ct-block-stamps-spec : {M : Type 1} → statement M
 ct-block-stamps-spec =
     tie.close
     (tie.spec
-    block-stamps-requires
-    enum-known-n
+    (λ c κs. search needs)
+    (λ c. search needs)
     cast-result
-    enum-known-number
-    refused-requires
+    (λ c. search needs)
+    (λ c κs. search needs)
     returns
     returns-2)

@@ -9,12 +9,6 @@ use borrow.Author.Needs.{needs}
 use Rattle.capi.proofs.calendar_calls.ct_days_in_month.Statement.{statement}
 use Rattle.capi.proofs.calendar_calls.ct_days_in_month.Tie as tie
 
-days-in-month-requires : tie.Need-days-in-month-requires
-days-in-month-requires c κs = search needs
-
-cast-result : tie.Need-cast-result
-cast-result c = search needs
-
 returns : tie.Need-returns
 returns c =
     let s = c .before in
@@ -22,4 +16,4 @@ returns c =
     ∙ ap pos (c .days-in-month .ensures ∙ read-two (s .args .year) (s .args .month) (s .fits .year) (s .fits .month))
 
 pub ct-days-in-month-spec : {M : Type 1} → statement M
-ct-days-in-month-spec = tie.close (tie.spec days-in-month-requires cast-result returns)
+ct-days-in-month-spec = tie.close (tie.spec (λ c κs. search needs) (λ c. search needs) returns)

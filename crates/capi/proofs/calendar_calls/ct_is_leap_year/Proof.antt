@@ -8,9 +8,6 @@ use borrow.Author.Needs.{needs}
 use Rattle.capi.proofs.calendar_calls.ct_is_leap_year.Statement.{statement}
 use Rattle.capi.proofs.calendar_calls.ct_is_leap_year.Tie as tie
 
-is-leap-year-requires : tie.Need-is-leap-year-requires
-is-leap-year-requires c κs = search needs
-
 returns : tie.Need-returns
 returns c = ap truth (sym (c .if1 .taken) ∙ c .before .is-leap-year .ensures ∙ ap (λ (y : ℤ). leapYear y) (toZ-ofZ (c .before .before .fits .year)))
 
@@ -18,4 +15,4 @@ returns-2 : tie.Need-returns-2
 returns-2 c = ap truth (sym (c .if1 .left) ∙ c .before .is-leap-year .ensures ∙ ap (λ (y : ℤ). leapYear y) (toZ-ofZ (c .before .before .fits .year)))
 
 pub ct-is-leap-year-spec : {M : Type 1} → statement M
-ct-is-leap-year-spec = tie.close (tie.spec is-leap-year-requires returns returns-2)
+ct-is-leap-year-spec = tie.close (tie.spec (λ c κs. search needs) returns returns-2)

@@ -8,15 +8,6 @@ use borrow.Author.Needs.{needs}
 use Rattle.capi.proofs.calendar_calls.ct_next_calendar_day.Statement.{statement}
 use Rattle.capi.proofs.calendar_calls.ct_next_calendar_day.Tie as tie
 
-next-calendar-day-requires : tie.Need-next-calendar-day-requires
-next-calendar-day-requires c κs = search needs
-
-put-next-requires : tie.Need-put-next-requires
-put-next-requires c κs = search needs
-
-same-length : tie.Need-same-length
-same-length c = search needs
-
 returns : tie.Need-returns
 returns c =
     let p = c .before .before in
@@ -28,4 +19,4 @@ returns c =
 
 pub ct-next-calendar-day-spec : {M : Type 1} → statement M
 ct-next-calendar-day-spec =
-    tie.close (tie.spec next-calendar-day-requires put-next-requires same-length returns)
+    tie.close (tie.spec (λ c κs. search needs) (λ c κs. search needs) (λ c. search needs) returns)

@@ -12,18 +12,6 @@ is : (c : tie.After-validate-calendar-date)
     → checkOutcome (c .validate-calendar-date .result) ≡ validDate (c .before .args .year) (c .before .args .month) (c .before .args .day)
 is c = c .validate-calendar-date .ensures ∙ read-date validDate _ _ _ (c .before .fits .year) (c .before .fits .month) (c .before .fits .day)
 
-validate-calendar-date-requires : tie.Need-validate-calendar-date-requires
-validate-calendar-date-requires c κs = search needs
-
-enum-told : tie.Need-enum-told
-enum-told c = search needs
-
-enum-known-number : tie.Need-enum-known-number
-enum-known-number c = search needs
-
-refused-requires : tie.Need-refused-requires
-refused-requires c κs = search needs
-
 returns : tie.Need-returns
 unfolding checkOutcome
 returns c = nothing-refused (sym (is (c .before .before)) ∙ ap checkOutcome (c .enum-told .given .1))
@@ -36,9 +24,9 @@ pub ct-validate-calendar-date-spec : {M : Type 1} → statement M
 ct-validate-calendar-date-spec =
     tie.close
     (tie.spec
-    validate-calendar-date-requires
-    enum-told
-    enum-known-number
-    refused-requires
+    (λ c κs. search needs)
+    (λ c. search needs)
+    (λ c. search needs)
+    (λ c κs. search needs)
     returns
     returns-2)

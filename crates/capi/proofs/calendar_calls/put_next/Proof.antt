@@ -7,21 +7,6 @@ use borrow.Author.Needs.{needs}
 use Rattle.capi.proofs.calendar_calls.put_next.Statement.{statement}
 use Rattle.capi.proofs.calendar_calls.put_next.Tie as tie
 
-enum-known-found : tie.Need-enum-known-found
-enum-known-found c = search needs
-
-put-date-requires : tie.Need-put-date-requires
-put-date-requires c κs = search needs
-
-enum-known-found-2 : tie.Need-enum-known-found-2
-enum-known-found-2 c = search needs
-
-refused-requires : tie.Need-refused-requires
-refused-requires c κs = search needs
-
-same-length : tie.Need-same-length
-same-length c = search needs
-
 returns : tie.Need-returns
 unfolding nextOutcome
 returns c =
@@ -36,10 +21,10 @@ pub put-next-spec : {M : Type 1} → statement M
 put-next-spec =
     tie.close
     (tie.spec
-    enum-known-found
-    put-date-requires
-    enum-known-found-2
-    refused-requires
-    same-length
+    (λ c. search needs)
+    (λ c κs. search needs)
+    (λ c. search needs)
+    (λ c κs. search needs)
+    (λ c. search needs)
     returns
     returns-2)

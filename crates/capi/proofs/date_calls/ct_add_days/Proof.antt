@@ -8,18 +8,6 @@ use borrow.Author.Needs.{needs}
 use Rattle.capi.proofs.date_calls.ct_add_days.Statement.{statement}
 use Rattle.capi.proofs.date_calls.ct_add_days.Tie as tie
 
-new-requires : tie.Need-new-requires
-new-requires c κs = search needs
-
-add-days-requires : tie.Need-add-days-requires
-add-days-requires c κs = search needs
-
-put-julian-requires : tie.Need-put-julian-requires
-put-julian-requires c κs = search needs
-
-same-length : tie.Need-same-length
-same-length c = search needs
-
 returns : tie.Need-returns
 returns c =
     let p = c .before .before in
@@ -31,4 +19,4 @@ returns c =
 
 pub ct-add-days-spec : {M : Type 1} → statement M
 ct-add-days-spec =
-    tie.close (tie.spec new-requires add-days-requires put-julian-requires same-length returns)
+    tie.close (tie.spec (λ c κs. search needs) (λ c κs. search needs) (λ c κs. search needs) (λ c. search needs) returns)

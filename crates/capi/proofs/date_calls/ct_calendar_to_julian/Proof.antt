@@ -8,15 +8,6 @@ use borrow.Author.Needs.{needs}
 use Rattle.capi.proofs.date_calls.ct_calendar_to_julian.Statement.{statement}
 use Rattle.capi.proofs.date_calls.ct_calendar_to_julian.Tie as tie
 
-calendar-to-julian-requires : tie.Need-calendar-to-julian-requires
-calendar-to-julian-requires c κs = search needs
-
-put-date-requires : tie.Need-put-date-requires
-put-date-requires c κs = search needs
-
-same-length : tie.Need-same-length
-same-length c = search needs
-
 returns : tie.Need-returns
 returns c =
     let p = c .before .before in
@@ -28,4 +19,4 @@ returns c =
 
 pub ct-calendar-to-julian-spec : {M : Type 1} → statement M
 ct-calendar-to-julian-spec =
-    tie.close (tie.spec calendar-to-julian-requires put-date-requires same-length returns)
+    tie.close (tie.spec (λ c κs. search needs) (λ c κs. search needs) (λ c. search needs) returns)

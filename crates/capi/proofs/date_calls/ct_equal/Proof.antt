@@ -11,15 +11,6 @@ is : (c : tie.After-eq)
     → c .eq .result ≡ equal (julian (c .before .before .before .args .jd1) (c .before .before .before .args .jd2)) (julian (c .before .before .before .args .other1) (c .before .before .before .args .other2))
 is c = let n = c .before in c .eq .ensures ∙ λ i. equal (n .before .new .ensures i) (n .new2 .ensures i)
 
-new-requires : tie.Need-new-requires
-new-requires c κs = search needs
-
-new-requires-2 : tie.Need-new-requires-2
-new-requires-2 c κs = search needs
-
-eq-requires : tie.Need-eq-requires
-eq-requires c κs = search needs
-
 returns : tie.Need-returns
 returns c = ap truth (sym (c .if1 .taken) ∙ is (c .before))
 
@@ -27,4 +18,4 @@ returns-2 : tie.Need-returns-2
 returns-2 c = ap truth (sym (c .if1 .left) ∙ is (c .before))
 
 pub ct-equal-spec : {M : Type 1} → statement M
-ct-equal-spec = tie.close (tie.spec new-requires new-requires-2 eq-requires returns returns-2)
+ct-equal-spec = tie.close (tie.spec (λ c κs. search needs) (λ c κs. search needs) (λ c κs. search needs) returns returns-2)

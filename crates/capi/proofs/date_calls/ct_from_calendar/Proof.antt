@@ -9,15 +9,6 @@ use borrow.Author.Needs.{needs}
 use Rattle.capi.proofs.date_calls.ct_from_calendar.Statement.{statement}
 use Rattle.capi.proofs.date_calls.ct_from_calendar.Tie as tie
 
-from-calendar-requires : tie.Need-from-calendar-requires
-from-calendar-requires c κs = search needs
-
-put-date-requires : tie.Need-put-date-requires
-put-date-requires c κs = search needs
-
-same-length : tie.Need-same-length
-same-length c = search needs
-
 returns : tie.Need-returns
 returns c =
     let p = c .before .before in
@@ -30,4 +21,4 @@ returns c =
 
 pub ct-from-calendar-spec : {M : Type 1} → statement M
 ct-from-calendar-spec =
-    tie.close (tie.spec from-calendar-requires put-date-requires same-length returns)
+    tie.close (tie.spec (λ c κs. search needs) (λ c κs. search needs) (λ c. search needs) returns)

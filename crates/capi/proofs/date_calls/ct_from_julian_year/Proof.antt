@@ -6,15 +6,6 @@ use borrow.Author.Needs.{needs}
 use Rattle.capi.proofs.date_calls.ct_from_julian_year.Statement.{statement}
 use Rattle.capi.proofs.date_calls.ct_from_julian_year.Tie as tie
 
-from-julian-year-requires : tie.Need-from-julian-year-requires
-from-julian-year-requires c κs = search needs
-
-put-julian-requires : tie.Need-put-julian-requires
-put-julian-requires c κs = search needs
-
-same-length : tie.Need-same-length
-same-length c = search needs
-
 returns : tie.Need-returns
 returns c =
     let p = c .before .before in
@@ -22,4 +13,4 @@ returns c =
 
 pub ct-from-julian-year-spec : {M : Type 1} → statement M
 ct-from-julian-year-spec =
-    tie.close (tie.spec from-julian-year-requires put-julian-requires same-length returns)
+    tie.close (tie.spec (λ c κs. search needs) (λ c κs. search needs) (λ c. search needs) returns)

@@ -9,15 +9,6 @@ use borrow.Author.Needs.{needs}
 use Rattle.capi.proofs.date_calls.ct_from_unix_time.Statement.{statement}
 use Rattle.capi.proofs.date_calls.ct_from_unix_time.Tie as tie
 
-from-unix-time-requires : tie.Need-from-unix-time-requires
-from-unix-time-requires c κs = search needs
-
-put-julian-requires : tie.Need-put-julian-requires
-put-julian-requires c κs = search needs
-
-same-length : tie.Need-same-length
-same-length c = search needs
-
 returns : tie.Need-returns
 returns c =
     let p = c .before .before in
@@ -29,4 +20,4 @@ returns c =
 
 pub ct-from-unix-time-spec : {M : Type 1} → statement M
 ct-from-unix-time-spec =
-    tie.close (tie.spec from-unix-time-requires put-julian-requires same-length returns)
+    tie.close (tie.spec (λ c κs. search needs) (λ c κs. search needs) (λ c. search needs) returns)

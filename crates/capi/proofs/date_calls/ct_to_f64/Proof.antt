@@ -5,14 +5,8 @@ use borrow.Author.Needs.{needs}
 use Rattle.capi.proofs.date_calls.ct_to_f64.Statement.{statement}
 use Rattle.capi.proofs.date_calls.ct_to_f64.Tie as tie
 
-new-requires : tie.Need-new-requires
-new-requires c κs = search needs
-
-to-f64-requires : tie.Need-to-f64-requires
-to-f64-requires c κs = search needs
-
 returns : tie.Need-returns
 returns c = c .to-f64 .ensures ∙ ap roundedSum (c .before .new .ensures)
 
 pub ct-to-f64-spec : {M : Type 1} → statement M
-ct-to-f64-spec = tie.close (tie.spec new-requires to-f64-requires returns)
+ct-to-f64-spec = tie.close (tie.spec (λ c κs. search needs) (λ c κs. search needs) returns)

@@ -5,14 +5,8 @@ use borrow.Author.Needs.{needs}
 use Rattle.capi.proofs.date_calls.ct_to_julian_year.Statement.{statement}
 use Rattle.capi.proofs.date_calls.ct_to_julian_year.Tie as tie
 
-new-requires : tie.Need-new-requires
-new-requires c κs = search needs
-
-to-julian-year-requires : tie.Need-to-julian-year-requires
-to-julian-year-requires c κs = search needs
-
 returns : tie.Need-returns
 returns c = c .to-julian-year .ensures ∙ ap toJulianYear (c .before .new .ensures)
 
 pub ct-to-julian-year-spec : {M : Type 1} → statement M
-ct-to-julian-year-spec = tie.close (tie.spec new-requires to-julian-year-requires returns)
+ct-to-julian-year-spec = tie.close (tie.spec (λ c κs. search needs) (λ c κs. search needs) returns)

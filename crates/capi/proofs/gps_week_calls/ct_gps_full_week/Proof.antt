@@ -11,21 +11,6 @@ use borrow.Author.Needs.{needs}
 use Rattle.capi.proofs.gps_week_calls.ct_gps_full_week.Statement.{statement}
 use Rattle.capi.proofs.gps_week_calls.ct_gps_full_week.Tie as tie
 
-full-week-requires : tie.Need-full-week-requires
-full-week-requires c κs = search needs
-
-enum-known-week : tie.Need-enum-known-week
-enum-known-week c = search needs
-
-cast-result : tie.Need-cast-result
-cast-result c = search needs
-
-enum-known-number : tie.Need-enum-known-number
-enum-known-number c = search needs
-
-refused-requires : tie.Need-refused-requires
-refused-requires c κs = search needs
-
 returns : tie.Need-returns
 unfolding fullOutcome code
 returns c =
@@ -41,10 +26,10 @@ pub ct-gps-full-week-spec : {M : Type 1} → statement M
 ct-gps-full-week-spec =
     tie.close
     (tie.spec
-    full-week-requires
-    enum-known-week
-    cast-result
-    enum-known-number
-    refused-requires
+    (λ c κs. search needs)
+    (λ c. search needs)
+    (λ c. search needs)
+    (λ c. search needs)
+    (λ c κs. search needs)
     returns
     returns-2)

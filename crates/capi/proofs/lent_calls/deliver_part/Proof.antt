@@ -8,23 +8,11 @@ use borrow.Author.Needs.{needs}
 use Rattle.capi.proofs.lent_calls.deliver_part.Statement.{statement}
 use Rattle.capi.proofs.lent_calls.deliver_part.Tie as tie
 
-lent-rows-at-requires : tie.Need-lent-rows-at-requires
-lent-rows-at-requires c κs = search needs
-
-table-number-requires : tie.Need-table-number-requires
-table-number-requires c κs = search needs
-
-refused-requires : tie.Need-refused-requires
-refused-requires c κs = search needs
-
 returns : tie.Need-returns
 returns c =
     let n = c .before .before in
     text-table-refused _ (n .before .lent-rows-at .result) (n .table-number .result) (n .table-number .ensures) (n .before .lent-rows-at .ensures) _ (c .refused .ok) (c .before .if1 .taken)
     (c .refused .ensures)
-
-refused-requires-2 : tie.Need-refused-requires-2
-refused-requires-2 c κs = search needs
 
 returns-2 : tie.Need-returns-2
 returns-2 c =
@@ -35,14 +23,8 @@ returns-2 c =
     text-with-rows _ t (n .table-number .result) (n .table-number .ensures) (n .before .lent-rows-at .ensures) _ (c .before .before .if1 .left)
     (no-room (a .how) (rowsOf t) (now (a .block)) (now (a .out)) (a .line) (c .refused2 .ok) (omega (arith, c .before .if2 .taken, st .pre .0)) (c .refused2 .ensures))
 
-next-told-part-by-rows-requires : tie.Need-next-told-part-by-rows-requires
-next-told-part-by-rows-requires c κs = search needs
-
 cast-result : tie.Need-cast-result
 cast-result c = count-fits (c .before .before .before .before .before .before .before .before .before .before .before .pre .1) (c .before .before .next-told-part-by-rows .ensures)
-
-same-length : tie.Need-same-length
-same-length c = search needs
 
 returns-3 : tie.Need-returns-3
 returns-3 c =
@@ -57,13 +39,13 @@ pub deliver-part-spec : {M : Type 1} → statement M
 deliver-part-spec =
     tie.close
     (tie.spec
-    lent-rows-at-requires
-    table-number-requires
-    refused-requires
+    (λ c κs. search needs)
+    (λ c κs. search needs)
+    (λ c κs. search needs)
     returns
-    refused-requires-2
+    (λ c κs. search needs)
     returns-2
-    next-told-part-by-rows-requires
+    (λ c κs. search needs)
     cast-result
-    same-length
+    (λ c. search needs)
     returns-3)

@@ -10,11 +10,5 @@ deliver-part-requires : tie.Need-deliver-part-requires
 unfolding lineRoom Wide
 deliver-part-requires c κs = (refl, tt)
 
-same-length : tie.Need-same-length
-same-length c = search needs
-
-returns : tie.Need-returns
-returns c = search needs
-
 pub listing-part-spec : {M : Type 1} → statement M
-listing-part-spec = tie.close (tie.spec deliver-part-requires same-length returns)
+listing-part-spec = tie.close (tie.spec deliver-part-requires (λ c. search needs) (λ c. search needs))

@@ -6,22 +6,10 @@ use borrow.Author.Needs.{needs}
 use Rattle.capi.proofs.lent_calls.offsets_at_0h.Statement.{statement}
 use Rattle.capi.proofs.lent_calls.offsets_at_0h.Tie as tie
 
-refused-requires : tie.Need-refused-requires
-refused-requires c κs = search needs
-
 returns : tie.Need-returns
 returns c =
     let s = c .before .before .before .before .before in
     walk-length-refused _ (now (s .args .dates)) (now (s .args .out)) (c .refused .ok) (c .before .if1 .taken) (c .refused .ensures)
-
-lent-rows-at-requires : tie.Need-lent-rows-at-requires
-lent-rows-at-requires c κs = search needs
-
-offsets-at-0h-bytes-requires : tie.Need-offsets-at-0h-bytes-requires
-offsets-at-0h-bytes-requires c κs = search needs
-
-enum-known-n : tie.Need-enum-known-n
-enum-known-n c = search needs
 
 cast-result : tie.Need-cast-result
 cast-result c =
@@ -31,15 +19,6 @@ cast-result c =
     let s = i .before .before .before .before in
     record { sfits = omega (arith, walk-count _ (now (s .args .dates)) (now (s .args .out)) (i .if1 .left) (n .lent-rows-at .result) (n .lent-rows-at .ensures) (q .offsets-at-0h-bytes .result) (q .offsets-at-0h-bytes .ensures) _ (c .before .n .given .1), s .good) }
 
-enum-known-number : tie.Need-enum-known-number
-enum-known-number c = search needs
-
-refused-requires-2 : tie.Need-refused-requires-2
-refused-requires-2 c κs = search needs
-
-same-length : tie.Need-same-length
-same-length c = search needs
-
 returns-2 : tie.Need-returns-2
 returns-2 c =
     let q = c .before .before .before .before .before in
@@ -47,9 +26,6 @@ returns-2 c =
     let i = n .before in
     let s = i .before .before .before .before in
     walk-compared _ (now (s .args .dates)) (now (s .args .out)) (i .if1 .left) (n .lent-rows-at .result) (n .lent-rows-at .ensures) (q .offsets-at-0h-bytes .result) (q .offsets-at-0h-bytes .ensures) _ (c .before .n .given .1) (omega (arith, walk-count _ (now (s .args .dates)) (now (s .args .out)) (i .if1 .left) (n .lent-rows-at .result) (n .lent-rows-at .ensures) (q .offsets-at-0h-bytes .result) (q .offsets-at-0h-bytes .ensures) _ (c .before .n .given .1), s .good))
-
-same-length-2 : tie.Need-same-length-2
-same-length-2 c = search needs
 
 returns-3 : tie.Need-returns-3
 returns-3 c =
@@ -63,15 +39,15 @@ pub offsets-at-0h-spec : {M : Type 1} → statement M
 offsets-at-0h-spec =
     tie.close
     (tie.spec
-    refused-requires
+    (λ c κs. search needs)
     returns
-    lent-rows-at-requires
-    offsets-at-0h-bytes-requires
-    enum-known-n
+    (λ c κs. search needs)
+    (λ c κs. search needs)
+    (λ c. search needs)
     cast-result
-    enum-known-number
-    refused-requires-2
-    same-length
+    (λ c. search needs)
+    (λ c κs. search needs)
+    (λ c. search needs)
     returns-2
-    same-length-2
+    (λ c. search needs)
     returns-3)

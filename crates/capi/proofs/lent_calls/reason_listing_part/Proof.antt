@@ -11,11 +11,5 @@ deliver-part-requires : tie.Need-deliver-part-requires
 unfolding lineRoom
 deliver-part-requires c κs = (refl, bytes-width _ _ (omega arith) (λ k. omega (arith, c .before .before .before .shared-slice-known .given k)))
 
-same-length : tie.Need-same-length
-same-length c = search needs
-
-returns : tie.Need-returns
-returns c = search needs
-
 pub reason-listing-part-spec : {M : Type 1} → statement M
-reason-listing-part-spec = tie.close (tie.spec deliver-part-requires same-length returns)
+reason-listing-part-spec = tie.close (tie.spec deliver-part-requires (λ c. search needs) (λ c. search needs))

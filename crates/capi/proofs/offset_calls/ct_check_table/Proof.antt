@@ -4,15 +4,6 @@ use borrow.Author.Needs.{needs}
 use Rattle.capi.proofs.offset_calls.ct_check_table.Statement.{statement}
 use Rattle.capi.proofs.offset_calls.ct_check_table.Tie as tie
 
-lent-rows-at-requires : tie.Need-lent-rows-at-requires
-lent-rows-at-requires c κs = search needs
-
-table-number-requires : tie.Need-table-number-requires
-table-number-requires c κs = search needs
-
-refused-requires : tie.Need-refused-requires
-refused-requires c κs = search needs
-
 returns : tie.Need-returns
 returns c =
     let n = c .before .before in
@@ -38,9 +29,9 @@ pub ct-check-table-spec : {M : Type 1} → statement M
 ct-check-table-spec =
     tie.close
     (tie.spec
-    lent-rows-at-requires
-    table-number-requires
-    refused-requires
+    (λ c κs. search needs)
+    (λ c κs. search needs)
+    (λ c κs. search needs)
     returns
     add-result
     cast-result

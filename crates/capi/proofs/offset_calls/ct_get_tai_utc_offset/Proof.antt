@@ -10,26 +10,11 @@ use borrow.Author.Needs.{needs}
 use Rattle.capi.proofs.offset_calls.ct_get_tai_utc_offset.Statement.{statement}
 use Rattle.capi.proofs.offset_calls.ct_get_tai_utc_offset.Tie as tie
 
-read-table-requires : tie.Need-read-table-requires
-read-table-requires c κs = search needs
-
-refused-requires : tie.Need-refused-requires
-refused-requires c κs = search needs
-
 returns : tie.Need-returns
 returns c =
     let n = c .before .before in
     lent-refused _ _ (n .read-table .result .number) (n .read-table .ensures .0 refl refl) offsetRuleBytes _ (c .refused .ok)
     (c .before .if1 .taken) (c .refused .ensures)
-
-get-tai-utc-offset-by-lent-requires : tie.Need-get-tai-utc-offset-by-lent-requires
-get-tai-utc-offset-by-lent-requires c κs = search needs
-
-put-offset-requires : tie.Need-put-offset-requires
-put-offset-requires c κs = search needs
-
-same-length : tie.Need-same-length
-same-length c = search needs
 
 returns-2 : tie.Need-returns-2
 returns-2 c =
@@ -45,10 +30,10 @@ pub ct-get-tai-utc-offset-spec : {M : Type 1} → statement M
 ct-get-tai-utc-offset-spec =
     tie.close
     (tie.spec
-    read-table-requires
-    refused-requires
+    (λ c κs. search needs)
+    (λ c κs. search needs)
     returns
-    get-tai-utc-offset-by-lent-requires
-    put-offset-requires
-    same-length
+    (λ c κs. search needs)
+    (λ c κs. search needs)
+    (λ c. search needs)
     returns-2)

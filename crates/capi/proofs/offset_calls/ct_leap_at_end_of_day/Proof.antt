@@ -11,26 +11,11 @@ use borrow.Author.Needs.{needs}
 use Rattle.capi.proofs.offset_calls.ct_leap_at_end_of_day.Statement.{statement}
 use Rattle.capi.proofs.offset_calls.ct_leap_at_end_of_day.Tie as tie
 
-read-table-requires : tie.Need-read-table-requires
-read-table-requires c κs = search needs
-
-refused-requires : tie.Need-refused-requires
-refused-requires c κs = search needs
-
 returns : tie.Need-returns
 returns c =
     let n = c .before .before in
     lent-refused _ _ (n .read-table .result .number) (n .read-table .ensures .0 refl refl) floatBytes _ (c .refused .ok)
     (c .before .if1 .taken) (c .refused .ensures)
-
-leap-at-end-of-day-by-lent-requires : tie.Need-leap-at-end-of-day-by-lent-requires
-leap-at-end-of-day-by-lent-requires c κs = search needs
-
-put-leap-requires : tie.Need-put-leap-requires
-put-leap-requires c κs = search needs
-
-same-length : tie.Need-same-length
-same-length c = search needs
 
 returns-2 : tie.Need-returns-2
 returns-2 c =
@@ -46,10 +31,10 @@ pub ct-leap-at-end-of-day-spec : {M : Type 1} → statement M
 ct-leap-at-end-of-day-spec =
     tie.close
     (tie.spec
-    read-table-requires
-    refused-requires
+    (λ c κs. search needs)
+    (λ c κs. search needs)
     returns
-    leap-at-end-of-day-by-lent-requires
-    put-leap-requires
-    same-length
+    (λ c κs. search needs)
+    (λ c κs. search needs)
+    (λ c. search needs)
     returns-2)

@@ -10,21 +10,6 @@ use borrow.Author.Needs.{needs}
 use Rattle.capi.proofs.offset_calls.put_leap.Statement.{statement}
 use Rattle.capi.proofs.offset_calls.put_leap.Tie as tie
 
-enum-known-found : tie.Need-enum-known-found
-enum-known-found c = search needs
-
-put-float-requires : tie.Need-put-float-requires
-put-float-requires c κs = search needs
-
-enum-known-found-2 : tie.Need-enum-known-found-2
-enum-known-found-2 c = search needs
-
-refused-requires : tie.Need-refused-requires
-refused-requires c κs = search needs
-
-same-length : tie.Need-same-length
-same-length c = search needs
-
 returns : tie.Need-returns
 unfolding secondsByRuleOutcome forget onward
 returns c =
@@ -39,10 +24,10 @@ pub put-leap-spec : {M : Type 1} → statement M
 put-leap-spec =
     tie.close
     (tie.spec
-    enum-known-found
-    put-float-requires
-    enum-known-found-2
-    refused-requires
-    same-length
+    (λ c. search needs)
+    (λ c κs. search needs)
+    (λ c. search needs)
+    (λ c κs. search needs)
+    (λ c. search needs)
     returns
     returns-2)

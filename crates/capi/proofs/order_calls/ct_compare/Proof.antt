@@ -25,30 +25,6 @@ turned-away : {o : Outcome Order} (k : ℕ) → o ≡ refusal k → code (refusa
 unfolding numbered onward
 turned-away k e = rw e
 
-new-requires : tie.Need-new-requires
-new-requires c κs = search needs
-
-new-requires-2 : tie.Need-new-requires-2
-new-requires-2 c κs = search needs
-
-compare-requires : tie.Need-compare-requires
-compare-requires c κs = search needs
-
-enum-told : tie.Need-enum-told
-enum-told c = search needs
-
-enum-told-2 : tie.Need-enum-told-2
-enum-told-2 c = search needs
-
-enum-told-3 : tie.Need-enum-told-3
-enum-told-3 c = search needs
-
-enum-known-number : tie.Need-enum-known-number
-enum-known-number c = search needs
-
-refused-requires : tie.Need-refused-requires
-refused-requires c κs = search needs
-
 returns : tie.Need-returns
 unfolding orderOutcome orderNumber
 returns c = told _ (sym (is (c .before .before)) ∙ ap orderOutcome (c .enum-told .given .1))
@@ -69,14 +45,14 @@ pub ct-compare-spec : {M : Type 1} → statement M
 ct-compare-spec =
     tie.close
     (tie.spec
-    new-requires
-    new-requires-2
-    compare-requires
-    enum-told
-    enum-told-2
-    enum-told-3
-    enum-known-number
-    refused-requires
+    (λ c κs. search needs)
+    (λ c κs. search needs)
+    (λ c κs. search needs)
+    (λ c. search needs)
+    (λ c. search needs)
+    (λ c. search needs)
+    (λ c. search needs)
+    (λ c κs. search needs)
     returns
     returns-2
     returns-3

@@ -9,30 +9,9 @@ use borrow.Author.Needs.{needs}
 use Rattle.capi.proofs.reader_answers.put_parsed_utc.Statement.{statement}
 use Rattle.capi.proofs.reader_answers.put_parsed_utc.Tie as tie
 
-refused-requires : tie.Need-refused-requires
-refused-requires c κs = search needs
-
 returns : tie.Need-returns
 unfolding parsedUtcBytes parsedBytes julianBytes
 returns c = too-short (parsedUtcBytes (c .before .before .before .args .read)) (now (c .before .before .before .args .out)) _ (c .before .if1 .taken) (code-back (c .refused .ok) ∙ c .refused .ensures)
-
-put-parsed-requires : tie.Need-put-parsed-requires
-put-parsed-requires c κs = search needs
-
-sub-put-julian : tie.Need-sub-put-julian
-sub-put-julian c = search needs
-
-part-put-julian-start : tie.Need-part-put-julian-start
-part-put-julian-start c = search needs
-
-part-put-julian-end : tie.Need-part-put-julian-end
-part-put-julian-end c = search needs
-
-put-julian-requires : tie.Need-put-julian-requires
-put-julian-requires c κs = search needs
-
-same-length : tie.Need-same-length
-same-length c = search needs
 
 returns-2 : tie.Need-returns-2
 unfolding parsedUtcBytes parsedBytes julianBytes
@@ -44,12 +23,12 @@ pub put-parsed-utc-spec : {M : Type 1} → statement M
 put-parsed-utc-spec =
     tie.close
     (tie.spec
-    refused-requires
+    (λ c κs. search needs)
     returns
-    put-parsed-requires
-    sub-put-julian
-    part-put-julian-start
-    part-put-julian-end
-    put-julian-requires
-    same-length
+    (λ c κs. search needs)
+    (λ c. search needs)
+    (λ c. search needs)
+    (λ c. search needs)
+    (λ c κs. search needs)
+    (λ c. search needs)
     returns-2)

@@ -5,15 +5,6 @@ use borrow.Author.Needs.{needs}
 use Rattle.capi.proofs.reader_calls.ct_parse_iso8601.Statement.{statement}
 use Rattle.capi.proofs.reader_calls.ct_parse_iso8601.Tie as tie
 
-parse-iso8601-requires : tie.Need-parse-iso8601-requires
-parse-iso8601-requires c κs = search needs
-
-put-parsed-requires : tie.Need-put-parsed-requires
-put-parsed-requires c κs = search needs
-
-same-length : tie.Need-same-length
-same-length c = search needs
-
 returns : tie.Need-returns
 returns c =
     let p = c .before .before in
@@ -21,4 +12,4 @@ returns c =
 
 pub ct-parse-iso8601-spec : {M : Type 1} → statement M
 ct-parse-iso8601-spec =
-    tie.close (tie.spec parse-iso8601-requires put-parsed-requires same-length returns)
+    tie.close (tie.spec (λ c κs. search needs) (λ c κs. search needs) (λ c. search needs) returns)

@@ -7,12 +7,6 @@ use borrow.Author.Needs.{needs}
 use Rattle.capi.proofs.reason_calls.ct_date_reason.Statement.{statement}
 use Rattle.capi.proofs.reason_calls.ct_date_reason.Tie as tie
 
-told-requires : tie.Need-told-requires
-told-requires c κs = search needs
-
-same-length : tie.Need-same-length
-same-length c = search needs
-
 returns : tie.Need-returns
 returns c =
     let t = c .before .before in
@@ -20,4 +14,4 @@ returns c =
     told-on (t .told .ok) (λ i. sentence (s .args .number) (Date (toZ-ofZ (s .fits .year) i) (toZ-ofZ (s .fits .month) i) (toZ-ofZ (s .fits .day) i))) (t .told .ensures)
 
 pub ct-date-reason-spec : {M : Type 1} → statement M
-ct-date-reason-spec = tie.close (tie.spec told-requires same-length returns)
+ct-date-reason-spec = tie.close (tie.spec (λ c κs. search needs) (λ c. search needs) returns)

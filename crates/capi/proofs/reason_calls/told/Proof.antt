@@ -5,33 +5,15 @@ use borrow.Author.Needs.{needs}
 use Rattle.capi.proofs.reason_calls.told.Statement.{statement}
 use Rattle.capi.proofs.reason_calls.told.Tie as tie
 
-put-reason-requires : tie.Need-put-reason-requires
-put-reason-requires c κs = search needs
-
-enum-known-n : tie.Need-enum-known-n
-enum-known-n c = search needs
-
 cast-result : tie.Need-cast-result
 cast-result c =
     let q = c .before .before .before .before .before .put-reason in
     record { sfits = omega (arith, text-count (q .ensures) _ (c .before .n .given .1), c .before .before .before .before .before .before .before .before .good) }
 
-enum-known-other : tie.Need-enum-known-other
-enum-known-other c = search needs
-
-refused-requires : tie.Need-refused-requires
-refused-requires c κs = search needs
-
-same-length : tie.Need-same-length
-same-length c = search needs
-
 returns : tie.Need-returns
 returns c =
     let q = c .before .before .before .before .before .put-reason in
     text-put (q .ensures) _ (c .before .n .given .1) (omega (arith, text-count (q .ensures) _ (c .before .n .given .1), c .before .before .before .before .before .before .before .before .good))
-
-same-length-2 : tie.Need-same-length-2
-same-length-2 c = search needs
 
 returns-2 : tie.Need-returns-2
 returns-2 c = text-refused (c .before .before .before .before .before .before .put-reason .ensures) _ (c .refused .ok) (c .before .before .other .given .1) (c .refused .ensures)
@@ -40,12 +22,12 @@ pub told-spec : {M : Type 1} → statement M
 told-spec =
     tie.close
     (tie.spec
-    put-reason-requires
-    enum-known-n
+    (λ c κs. search needs)
+    (λ c. search needs)
     cast-result
-    enum-known-other
-    refused-requires
-    same-length
+    (λ c. search needs)
+    (λ c κs. search needs)
+    (λ c. search needs)
     returns
-    same-length-2
+    (λ c. search needs)
     returns-2)

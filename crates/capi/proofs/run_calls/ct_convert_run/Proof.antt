@@ -7,23 +7,11 @@ use borrow.Author.Needs.{needs}
 use Rattle.capi.proofs.run_calls.ct_convert_run.Statement.{statement}
 use Rattle.capi.proofs.run_calls.ct_convert_run.Tie as tie
 
-read-table-requires : tie.Need-read-table-requires
-read-table-requires c κs = search needs
-
-refused-requires : tie.Need-refused-requires
-refused-requires c κs = search needs
-
 returns : tie.Need-returns
 returns c =
     let n = c .before .before in
     let s = n .before .before .before .before .before .before .before .before .before in
     run-table-refused _ _ (n .read-table .result .number) (n .read-table .ensures .0 refl refl) (s .args .from) (s .args .to) (now (s .args .jd1)) (now (s .args .jd2)) (now (s .args .out1)) (now (s .args .out2)) (now (s .args .numbers)) (c .refused .ok) (c .before .if1 .taken) (c .refused .ensures)
-
-convert-run-by-lent-requires : tie.Need-convert-run-by-lent-requires
-convert-run-by-lent-requires c κs = search needs
-
-enum-known-n : tie.Need-enum-known-n
-enum-known-n c = search needs
 
 cast-result : tie.Need-cast-result
 cast-result c =
@@ -33,21 +21,6 @@ cast-result c =
     let f = c .before .before .before .before .before .before .before .before .before in
     record { sfits = omega (arith, run-counted _ _ (n .read-table .result .number) (n .read-table .ensures .0 refl refl) (s .args .from) (s .args .to) (now (s .args .jd1)) (now (s .args .jd2)) (now (s .args .out1)) (now (s .args .out2)) (now (s .args .numbers)) (i .if1 .left) (f .convert-run-by-lent .result) (f .convert-run-by-lent .ensures) _ (c .before .n .given .1), s .good) }
 
-enum-known-number : tie.Need-enum-known-number
-enum-known-number c = search needs
-
-refused-requires-2 : tie.Need-refused-requires-2
-refused-requires-2 c κs = search needs
-
-same-length : tie.Need-same-length
-same-length c = search needs
-
-same-length-2 : tie.Need-same-length-2
-same-length-2 c = search needs
-
-same-length-3 : tie.Need-same-length-3
-same-length-3 c = search needs
-
 returns-2 : tie.Need-returns-2
 returns-2 c =
     let i = c .before .before .before .before .before .before .before .before .before .before .before .before .before .before .before in
@@ -56,15 +29,6 @@ returns-2 c =
     let f = c .before .before .before .before .before .before .before .before .before in
     run-converted _ _ (n .read-table .result .number) (n .read-table .ensures .0 refl refl) (s .args .from) (s .args .to) (now (s .args .jd1)) (now (s .args .jd2)) (now (s .args .out1)) (now (s .args .out2)) (now (s .args .numbers)) (i .if1 .left) (f .convert-run-by-lent .result) (f .convert-run-by-lent .ensures) _ (c .before .n .given .1)
     (omega (arith, run-counted _ _ (n .read-table .result .number) (n .read-table .ensures .0 refl refl) (s .args .from) (s .args .to) (now (s .args .jd1)) (now (s .args .jd2)) (now (s .args .out1)) (now (s .args .out2)) (now (s .args .numbers)) (i .if1 .left) (f .convert-run-by-lent .result) (f .convert-run-by-lent .ensures) _ (c .before .n .given .1), s .good))
-
-same-length-4 : tie.Need-same-length-4
-same-length-4 c = search needs
-
-same-length-5 : tie.Need-same-length-5
-same-length-5 c = search needs
-
-same-length-6 : tie.Need-same-length-6
-same-length-6 c = search needs
 
 returns-3 : tie.Need-returns-3
 returns-3 c =
@@ -78,19 +42,19 @@ pub ct-convert-run-spec : {M : Type 1} → statement M
 ct-convert-run-spec =
     tie.close
     (tie.spec
-    read-table-requires
-    refused-requires
+    (λ c κs. search needs)
+    (λ c κs. search needs)
     returns
-    convert-run-by-lent-requires
-    enum-known-n
+    (λ c κs. search needs)
+    (λ c. search needs)
     cast-result
-    enum-known-number
-    refused-requires-2
-    same-length
-    same-length-2
-    same-length-3
+    (λ c. search needs)
+    (λ c κs. search needs)
+    (λ c. search needs)
+    (λ c. search needs)
+    (λ c. search needs)
     returns-2
-    same-length-4
-    same-length-5
-    same-length-6
+    (λ c. search needs)
+    (λ c. search needs)
+    (λ c. search needs)
     returns-3)

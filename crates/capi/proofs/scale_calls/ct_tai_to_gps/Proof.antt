@@ -5,19 +5,10 @@ use borrow.Author.Needs.{needs}
 use Rattle.capi.proofs.scale_calls.ct_tai_to_gps.Statement.{statement}
 use Rattle.capi.proofs.scale_calls.ct_tai_to_gps.Tie as tie
 
-tai-to-gps-requires : tie.Need-tai-to-gps-requires
-tai-to-gps-requires c κs = search needs
-
-put-gps-requires : tie.Need-put-gps-requires
-put-gps-requires c κs = search needs
-
-same-length : tie.Need-same-length
-same-length c = search needs
-
 returns : tie.Need-returns
 returns c =
     let p = c .before .before in
     same-outcome julianBytes (p .put-gps .ok) (p .before .before .tai-to-gps .ensures) (p .put-gps .ensures)
 
 pub ct-tai-to-gps-spec : {M : Type 1} → statement M
-ct-tai-to-gps-spec = tie.close (tie.spec tai-to-gps-requires put-gps-requires same-length returns)
+ct-tai-to-gps-spec = tie.close (tie.spec (λ c κs. search needs) (λ c κs. search needs) (λ c. search needs) returns)

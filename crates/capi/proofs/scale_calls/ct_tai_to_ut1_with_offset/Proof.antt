@@ -5,15 +5,6 @@ use borrow.Author.Needs.{needs}
 use Rattle.capi.proofs.scale_calls.ct_tai_to_ut1_with_offset.Statement.{statement}
 use Rattle.capi.proofs.scale_calls.ct_tai_to_ut1_with_offset.Tie as tie
 
-tai-to-ut1-with-offset-requires : tie.Need-tai-to-ut1-with-offset-requires
-tai-to-ut1-with-offset-requires c κs = search needs
-
-put-ut1-requires : tie.Need-put-ut1-requires
-put-ut1-requires c κs = search needs
-
-same-length : tie.Need-same-length
-same-length c = search needs
-
 returns : tie.Need-returns
 returns c =
     let p = c .before .before in
@@ -21,4 +12,4 @@ returns c =
 
 pub ct-tai-to-ut1-with-offset-spec : {M : Type 1} → statement M
 ct-tai-to-ut1-with-offset-spec =
-    tie.close (tie.spec tai-to-ut1-with-offset-requires put-ut1-requires same-length returns)
+    tie.close (tie.spec (λ c κs. search needs) (λ c κs. search needs) (λ c. search needs) returns)

@@ -5,19 +5,10 @@ use borrow.Author.Needs.{needs}
 use Rattle.capi.proofs.scale_calls.ct_tcg_to_tt.Statement.{statement}
 use Rattle.capi.proofs.scale_calls.ct_tcg_to_tt.Tie as tie
 
-tcg-to-tt-requires : tie.Need-tcg-to-tt-requires
-tcg-to-tt-requires c κs = search needs
-
-put-tt-requires : tie.Need-put-tt-requires
-put-tt-requires c κs = search needs
-
-same-length : tie.Need-same-length
-same-length c = search needs
-
 returns : tie.Need-returns
 returns c =
     let p = c .before .before in
     same-outcome julianBytes (p .put-tt .ok) (p .before .before .tcg-to-tt .ensures) (p .put-tt .ensures)
 
 pub ct-tcg-to-tt-spec : {M : Type 1} → statement M
-ct-tcg-to-tt-spec = tie.close (tie.spec tcg-to-tt-requires put-tt-requires same-length returns)
+ct-tcg-to-tt-spec = tie.close (tie.spec (λ c κs. search needs) (λ c κs. search needs) (λ c. search needs) returns)

@@ -5,19 +5,10 @@ use borrow.Author.Needs.{needs}
 use Rattle.capi.proofs.scale_calls.ct_tdb_to_tcb.Statement.{statement}
 use Rattle.capi.proofs.scale_calls.ct_tdb_to_tcb.Tie as tie
 
-tdb-to-tcb-requires : tie.Need-tdb-to-tcb-requires
-tdb-to-tcb-requires c κs = search needs
-
-put-tcb-requires : tie.Need-put-tcb-requires
-put-tcb-requires c κs = search needs
-
-same-length : tie.Need-same-length
-same-length c = search needs
-
 returns : tie.Need-returns
 returns c =
     let p = c .before .before in
     same-outcome julianBytes (p .put-tcb .ok) (p .before .before .tdb-to-tcb .ensures) (p .put-tcb .ensures)
 
 pub ct-tdb-to-tcb-spec : {M : Type 1} → statement M
-ct-tdb-to-tcb-spec = tie.close (tie.spec tdb-to-tcb-requires put-tcb-requires same-length returns)
+ct-tdb-to-tcb-spec = tie.close (tie.spec (λ c κs. search needs) (λ c κs. search needs) (λ c. search needs) returns)

@@ -5,15 +5,6 @@ use borrow.Author.Needs.{needs}
 use Rattle.capi.proofs.scale_calls.ct_tdb_to_tt_with_offset.Statement.{statement}
 use Rattle.capi.proofs.scale_calls.ct_tdb_to_tt_with_offset.Tie as tie
 
-tdb-to-tt-with-offset-requires : tie.Need-tdb-to-tt-with-offset-requires
-tdb-to-tt-with-offset-requires c κs = search needs
-
-put-tt-requires : tie.Need-put-tt-requires
-put-tt-requires c κs = search needs
-
-same-length : tie.Need-same-length
-same-length c = search needs
-
 returns : tie.Need-returns
 returns c =
     let p = c .before .before in
@@ -21,4 +12,4 @@ returns c =
 
 pub ct-tdb-to-tt-with-offset-spec : {M : Type 1} → statement M
 ct-tdb-to-tt-with-offset-spec =
-    tie.close (tie.spec tdb-to-tt-with-offset-requires put-tt-requires same-length returns)
+    tie.close (tie.spec (λ c κs. search needs) (λ c κs. search needs) (λ c. search needs) returns)

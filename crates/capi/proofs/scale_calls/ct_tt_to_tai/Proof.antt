@@ -5,19 +5,10 @@ use borrow.Author.Needs.{needs}
 use Rattle.capi.proofs.scale_calls.ct_tt_to_tai.Statement.{statement}
 use Rattle.capi.proofs.scale_calls.ct_tt_to_tai.Tie as tie
 
-tt-to-tai-requires : tie.Need-tt-to-tai-requires
-tt-to-tai-requires c κs = search needs
-
-put-tai-requires : tie.Need-put-tai-requires
-put-tai-requires c κs = search needs
-
-same-length : tie.Need-same-length
-same-length c = search needs
-
 returns : tie.Need-returns
 returns c =
     let p = c .before .before in
     same-outcome julianBytes (p .put-tai .ok) (p .before .before .tt-to-tai .ensures) (p .put-tai .ensures)
 
 pub ct-tt-to-tai-spec : {M : Type 1} → statement M
-ct-tt-to-tai-spec = tie.close (tie.spec tt-to-tai-requires put-tai-requires same-length returns)
+ct-tt-to-tai-spec = tie.close (tie.spec (λ c κs. search needs) (λ c κs. search needs) (λ c. search needs) returns)

@@ -5,19 +5,10 @@ use borrow.Author.Needs.{needs}
 use Rattle.capi.proofs.scale_calls.ct_tt_to_tcg.Statement.{statement}
 use Rattle.capi.proofs.scale_calls.ct_tt_to_tcg.Tie as tie
 
-tt-to-tcg-requires : tie.Need-tt-to-tcg-requires
-tt-to-tcg-requires c κs = search needs
-
-put-tcg-requires : tie.Need-put-tcg-requires
-put-tcg-requires c κs = search needs
-
-same-length : tie.Need-same-length
-same-length c = search needs
-
 returns : tie.Need-returns
 returns c =
     let p = c .before .before in
     same-outcome julianBytes (p .put-tcg .ok) (p .before .before .tt-to-tcg .ensures) (p .put-tcg .ensures)
 
 pub ct-tt-to-tcg-spec : {M : Type 1} → statement M
-ct-tt-to-tcg-spec = tie.close (tie.spec tt-to-tcg-requires put-tcg-requires same-length returns)
+ct-tt-to-tcg-spec = tie.close (tie.spec (λ c κs. search needs) (λ c κs. search needs) (λ c. search needs) returns)

@@ -5,15 +5,6 @@ use borrow.Author.Needs.{needs}
 use Rattle.capi.proofs.scale_calls.ct_tt_to_tdb_with_offset.Statement.{statement}
 use Rattle.capi.proofs.scale_calls.ct_tt_to_tdb_with_offset.Tie as tie
 
-tt-to-tdb-with-offset-requires : tie.Need-tt-to-tdb-with-offset-requires
-tt-to-tdb-with-offset-requires c κs = search needs
-
-put-tdb-requires : tie.Need-put-tdb-requires
-put-tdb-requires c κs = search needs
-
-same-length : tie.Need-same-length
-same-length c = search needs
-
 returns : tie.Need-returns
 returns c =
     let p = c .before .before in
@@ -21,4 +12,4 @@ returns c =
 
 pub ct-tt-to-tdb-with-offset-spec : {M : Type 1} → statement M
 ct-tt-to-tdb-with-offset-spec =
-    tie.close (tie.spec tt-to-tdb-with-offset-requires put-tdb-requires same-length returns)
+    tie.close (tie.spec (λ c κs. search needs) (λ c κs. search needs) (λ c. search needs) returns)

@@ -5,15 +5,6 @@ use borrow.Author.Needs.{needs}
 use Rattle.capi.proofs.scale_calls.ct_tt_to_ut1_with_delta_t.Statement.{statement}
 use Rattle.capi.proofs.scale_calls.ct_tt_to_ut1_with_delta_t.Tie as tie
 
-tt-to-ut1-with-delta-t-requires : tie.Need-tt-to-ut1-with-delta-t-requires
-tt-to-ut1-with-delta-t-requires c κs = search needs
-
-put-ut1-requires : tie.Need-put-ut1-requires
-put-ut1-requires c κs = search needs
-
-same-length : tie.Need-same-length
-same-length c = search needs
-
 returns : tie.Need-returns
 returns c =
     let p = c .before .before in
@@ -21,4 +12,4 @@ returns c =
 
 pub ct-tt-to-ut1-with-delta-t-spec : {M : Type 1} → statement M
 ct-tt-to-ut1-with-delta-t-spec =
-    tie.close (tie.spec tt-to-ut1-with-delta-t-requires put-ut1-requires same-length returns)
+    tie.close (tie.spec (λ c κs. search needs) (λ c κs. search needs) (λ c. search needs) returns)

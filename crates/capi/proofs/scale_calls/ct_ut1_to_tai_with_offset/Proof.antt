@@ -5,15 +5,6 @@ use borrow.Author.Needs.{needs}
 use Rattle.capi.proofs.scale_calls.ct_ut1_to_tai_with_offset.Statement.{statement}
 use Rattle.capi.proofs.scale_calls.ct_ut1_to_tai_with_offset.Tie as tie
 
-ut1-to-tai-with-offset-requires : tie.Need-ut1-to-tai-with-offset-requires
-ut1-to-tai-with-offset-requires c κs = search needs
-
-put-tai-requires : tie.Need-put-tai-requires
-put-tai-requires c κs = search needs
-
-same-length : tie.Need-same-length
-same-length c = search needs
-
 returns : tie.Need-returns
 returns c =
     let p = c .before .before in
@@ -21,4 +12,4 @@ returns c =
 
 pub ct-ut1-to-tai-with-offset-spec : {M : Type 1} → statement M
 ct-ut1-to-tai-with-offset-spec =
-    tie.close (tie.spec ut1-to-tai-with-offset-requires put-tai-requires same-length returns)
+    tie.close (tie.spec (λ c κs. search needs) (λ c κs. search needs) (λ c. search needs) returns)

@@ -5,15 +5,6 @@ use borrow.Author.Needs.{needs}
 use Rattle.capi.proofs.scale_calls.ct_ut1_to_tt_with_delta_t.Statement.{statement}
 use Rattle.capi.proofs.scale_calls.ct_ut1_to_tt_with_delta_t.Tie as tie
 
-ut1-to-tt-with-delta-t-requires : tie.Need-ut1-to-tt-with-delta-t-requires
-ut1-to-tt-with-delta-t-requires c κs = search needs
-
-put-tt-requires : tie.Need-put-tt-requires
-put-tt-requires c κs = search needs
-
-same-length : tie.Need-same-length
-same-length c = search needs
-
 returns : tie.Need-returns
 returns c =
     let p = c .before .before in
@@ -21,4 +12,4 @@ returns c =
 
 pub ct-ut1-to-tt-with-delta-t-spec : {M : Type 1} → statement M
 ct-ut1-to-tt-with-delta-t-spec =
-    tie.close (tie.spec ut1-to-tt-with-delta-t-requires put-tt-requires same-length returns)
+    tie.close (tie.spec (λ c κs. search needs) (λ c κs. search needs) (λ c. search needs) returns)

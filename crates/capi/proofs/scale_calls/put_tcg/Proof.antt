@@ -7,21 +7,6 @@ use borrow.Author.Needs.{needs}
 use Rattle.capi.proofs.scale_calls.put_tcg.Statement.{statement}
 use Rattle.capi.proofs.scale_calls.put_tcg.Tie as tie
 
-enum-known-found : tie.Need-enum-known-found
-enum-known-found c = search needs
-
-put-julian-requires : tie.Need-put-julian-requires
-put-julian-requires c κs = search needs
-
-enum-known-found-2 : tie.Need-enum-known-found-2
-enum-known-found-2 c = search needs
-
-refused-requires : tie.Need-refused-requires
-refused-requires c κs = search needs
-
-same-length : tie.Need-same-length
-same-length c = search needs
-
 returns : tie.Need-returns
 unfolding tcgOutcome
 returns c =
@@ -36,10 +21,10 @@ pub put-tcg-spec : {M : Type 1} → statement M
 put-tcg-spec =
     tie.close
     (tie.spec
-    enum-known-found
-    put-julian-requires
-    enum-known-found-2
-    refused-requires
-    same-length
+    (λ c. search needs)
+    (λ c κs. search needs)
+    (λ c. search needs)
+    (λ c κs. search needs)
+    (λ c. search needs)
     returns
     returns-2)

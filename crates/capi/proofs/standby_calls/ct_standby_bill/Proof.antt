@@ -10,12 +10,6 @@ use borrow.Author.Needs.{needs}
 use Rattle.capi.proofs.standby_calls.ct_standby_bill.Statement.{statement}
 use Rattle.capi.proofs.standby_calls.ct_standby_bill.Tie as tie
 
-standby-bill-requires : tie.Need-standby-bill-requires
-standby-bill-requires c κs = search needs
-
-same-length : tie.Need-same-length
-same-length c = search needs
-
 returns : tie.Need-returns
 returns c =
     let p = c .before .before in
@@ -30,4 +24,4 @@ returns c =
     (p .standby-bill .ensures)
 
 pub ct-standby-bill-spec : {M : Type 1} → statement M
-ct-standby-bill-spec = tie.close (tie.spec standby-bill-requires same-length returns)
+ct-standby-bill-spec = tie.close (tie.spec (λ c κs. search needs) (λ c. search needs) returns)

@@ -5,25 +5,10 @@ use borrow.Author.Needs.{needs}
 use Rattle.capi.proofs.text_calls.ct_to_iso8601_half_even.Statement.{statement}
 use Rattle.capi.proofs.text_calls.ct_to_iso8601_half_even.Tie as tie
 
-read-table-requires : tie.Need-read-table-requires
-read-table-requires c κs = search needs
-
-refused-requires : tie.Need-refused-requires
-refused-requires c κs = search needs
-
 returns : tie.Need-returns
 returns c =
     let n = c .before .before in
     text-lent-refused _ _ (n .read-table .result .number) (n .read-table .ensures .0 refl refl) _ (c .refused .ok) (c .before .if1 .taken) (c .refused .ensures)
-
-put-half-even-requires : tie.Need-put-half-even-requires
-put-half-even-requires c κs = search needs
-
-same-length : tie.Need-same-length
-same-length c = search needs
-
-same-length-2 : tie.Need-same-length-2
-same-length-2 c = search needs
 
 returns-2 : tie.Need-returns-2
 returns-2 c =
@@ -36,10 +21,10 @@ pub ct-to-iso8601-half-even-spec : {M : Type 1} → statement M
 ct-to-iso8601-half-even-spec =
     tie.close
     (tie.spec
-    read-table-requires
-    refused-requires
+    (λ c κs. search needs)
+    (λ c κs. search needs)
     returns
-    put-half-even-requires
-    same-length
-    same-length-2
+    (λ c κs. search needs)
+    (λ c. search needs)
+    (λ c. search needs)
     returns-2)

@@ -6,44 +6,17 @@ use borrow.Author.Needs.{needs}
 use Rattle.capi.proofs.text_calls.put_half_even.Statement.{statement}
 use Rattle.capi.proofs.text_calls.put_half_even.Tie as tie
 
-no-room-for-rule-requires : tie.Need-no-room-for-rule-requires
-no-room-for-rule-requires c κs = search needs
-
 returns : tie.Need-returns
 unfolding sheetNamed
 returns c = short-rule _ _ _ (c .no-room-for-rule .ok) (c .before .if1 .taken) (c .no-room-for-rule .ensures)
-
-to-iso8601-half-even-by-lent-requires : tie.Need-to-iso8601-half-even-by-lent-requires
-to-iso8601-half-even-by-lent-requires c κs = search needs
-
-enum-known-number : tie.Need-enum-known-number
-enum-known-number c = search needs
-
-refused-requires : tie.Need-refused-requires
-refused-requires c κs = search needs
-
-enum-known-n : tie.Need-enum-known-n
-enum-known-n c = search needs
-
-put-rule-requires : tie.Need-put-rule-requires
-put-rule-requires c κs = search needs
 
 cast-result : tie.Need-cast-result
 unfolding sheetNamed
 cast-result c = count-fits _ (text-few HalfEven _ _) (c .before .before .before .before .before .before .before .before .before .to-iso8601-half-even-by-lent .ensures) (c .before .before .before .before .before .n .given .1)
 
-same-length : tie.Need-same-length
-same-length c = search needs
-
 returns-2 : tie.Need-returns-2
 unfolding sheetNamed
 returns-2 c = two-refused _ (text-few HalfEven _ _) (c .before .before .before .before .before .before .to-iso8601-half-even-by-lent .ensures) _ (c .refused .ok) (c .before .before .number .given .1) (c .refused .ensures)
-
-same-length-2 : tie.Need-same-length-2
-same-length-2 c = search needs
-
-same-length-3 : tie.Need-same-length-3
-same-length-3 c = search needs
 
 returns-3 : tie.Need-returns-3
 unfolding sheetNamed
@@ -53,16 +26,16 @@ pub put-half-even-spec : {M : Type 1} → statement M
 put-half-even-spec =
     tie.close
     (tie.spec
-    no-room-for-rule-requires
+    (λ c κs. search needs)
     returns
-    to-iso8601-half-even-by-lent-requires
-    enum-known-number
-    refused-requires
-    enum-known-n
-    put-rule-requires
+    (λ c κs. search needs)
+    (λ c. search needs)
+    (λ c κs. search needs)
+    (λ c. search needs)
+    (λ c κs. search needs)
     cast-result
-    same-length
+    (λ c. search needs)
     returns-2
-    same-length-2
-    same-length-3
+    (λ c. search needs)
+    (λ c. search needs)
     returns-3)

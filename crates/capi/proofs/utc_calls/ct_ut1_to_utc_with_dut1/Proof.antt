@@ -6,26 +6,11 @@ use borrow.Author.Needs.{needs}
 use Rattle.capi.proofs.utc_calls.ct_ut1_to_utc_with_dut1.Statement.{statement}
 use Rattle.capi.proofs.utc_calls.ct_ut1_to_utc_with_dut1.Tie as tie
 
-read-table-requires : tie.Need-read-table-requires
-read-table-requires c κs = search needs
-
-refused-requires : tie.Need-refused-requires
-refused-requires c κs = search needs
-
 returns : tie.Need-returns
 returns c =
     let n = c .before .before in
     lent-refused _ _ (n .read-table .result .number) (n .read-table .ensures .0 refl refl) julianBytes _ (c .refused .ok)
     (c .before .if1 .taken) (c .refused .ensures)
-
-ut1-to-utc-with-dut1-by-lent-requires : tie.Need-ut1-to-utc-with-dut1-by-lent-requires
-ut1-to-utc-with-dut1-by-lent-requires c κs = search needs
-
-put-utc-requires : tie.Need-put-utc-requires
-put-utc-requires c κs = search needs
-
-same-length : tie.Need-same-length
-same-length c = search needs
 
 returns-2 : tie.Need-returns-2
 returns-2 c =
@@ -40,10 +25,10 @@ pub ct-ut1-to-utc-with-dut1-spec : {M : Type 1} → statement M
 ct-ut1-to-utc-with-dut1-spec =
     tie.close
     (tie.spec
-    read-table-requires
-    refused-requires
+    (λ c κs. search needs)
+    (λ c κs. search needs)
     returns
-    ut1-to-utc-with-dut1-by-lent-requires
-    put-utc-requires
-    same-length
+    (λ c κs. search needs)
+    (λ c κs. search needs)
+    (λ c. search needs)
     returns-2)

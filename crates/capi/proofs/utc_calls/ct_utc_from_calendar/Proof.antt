@@ -10,26 +10,11 @@ use borrow.Author.Needs.{needs}
 use Rattle.capi.proofs.utc_calls.ct_utc_from_calendar.Statement.{statement}
 use Rattle.capi.proofs.utc_calls.ct_utc_from_calendar.Tie as tie
 
-read-table-requires : tie.Need-read-table-requires
-read-table-requires c κs = search needs
-
-refused-requires : tie.Need-refused-requires
-refused-requires c κs = search needs
-
 returns : tie.Need-returns
 returns c =
     let n = c .before .before in
     lent-refused _ _ (n .read-table .result .number) (n .read-table .ensures .0 refl refl) julianBytes _ (c .refused .ok)
     (c .before .if1 .taken) (c .refused .ensures)
-
-utc-from-calendar-by-lent-requires : tie.Need-utc-from-calendar-by-lent-requires
-utc-from-calendar-by-lent-requires c κs = search needs
-
-put-utc-requires : tie.Need-put-utc-requires
-put-utc-requires c κs = search needs
-
-same-length : tie.Need-same-length
-same-length c = search needs
 
 returns-2 : tie.Need-returns-2
 returns-2 c =
@@ -45,10 +30,10 @@ pub ct-utc-from-calendar-spec : {M : Type 1} → statement M
 ct-utc-from-calendar-spec =
     tie.close
     (tie.spec
-    read-table-requires
-    refused-requires
+    (λ c κs. search needs)
+    (λ c κs. search needs)
     returns
-    utc-from-calendar-by-lent-requires
-    put-utc-requires
-    same-length
+    (λ c κs. search needs)
+    (λ c κs. search needs)
+    (λ c. search needs)
     returns-2)

@@ -6,26 +6,11 @@ use borrow.Author.Needs.{needs}
 use Rattle.capi.proofs.utc_calls.ct_utc_to_tai.Statement.{statement}
 use Rattle.capi.proofs.utc_calls.ct_utc_to_tai.Tie as tie
 
-read-table-requires : tie.Need-read-table-requires
-read-table-requires c κs = search needs
-
-refused-requires : tie.Need-refused-requires
-refused-requires c κs = search needs
-
 returns : tie.Need-returns
 returns c =
     let n = c .before .before in
     lent-refused _ _ (n .read-table .result .number) (n .read-table .ensures .0 refl refl) julianRuleBytes _ (c .refused .ok)
     (c .before .if1 .taken) (c .refused .ensures)
-
-utc-to-tai-by-lent-requires : tie.Need-utc-to-tai-by-lent-requires
-utc-to-tai-by-lent-requires c κs = search needs
-
-put-tai-by-rule-requires : tie.Need-put-tai-by-rule-requires
-put-tai-by-rule-requires c κs = search needs
-
-same-length : tie.Need-same-length
-same-length c = search needs
 
 returns-2 : tie.Need-returns-2
 returns-2 c =
@@ -40,10 +25,10 @@ pub ct-utc-to-tai-spec : {M : Type 1} → statement M
 ct-utc-to-tai-spec =
     tie.close
     (tie.spec
-    read-table-requires
-    refused-requires
+    (λ c κs. search needs)
+    (λ c κs. search needs)
     returns
-    utc-to-tai-by-lent-requires
-    put-tai-by-rule-requires
-    same-length
+    (λ c κs. search needs)
+    (λ c κs. search needs)
+    (λ c. search needs)
     returns-2)

@@ -5,12 +5,9 @@ use Rattle.julian.specs.JulianDate.{addSeconds}
 use Rattle.julian.proofs.JulianDate.add_seconds.Statement.{statement}
 use Rattle.julian.proofs.JulianDate.add_seconds.Tie as tie
 
-add-days-requires : tie.Need-add-days-requires
-add-days-requires c κs = search needs
-
 returns : tie.Need-returns
 unfolding addSeconds
 returns c = cc seconds-per-day
 
 pub add-seconds-spec : {M : Type 1} → statement M
-add-seconds-spec = tie.close (tie.spec add-days-requires returns)
+add-seconds-spec = tie.close (tie.spec (λ c κs. search needs) returns)

@@ -7,15 +7,6 @@ use Rattle.julian.specs.Calendar.{atTime}
 use Rattle.julian.proofs.JulianDate.at_time.Statement.{statement}
 use Rattle.julian.proofs.JulianDate.at_time.Tie as tie
 
-enum-known-fraction : tie.Need-enum-known-fraction
-enum-known-fraction c = search needs
-
-enum-known-fraction-2 : tie.Need-enum-known-fraction-2
-enum-known-fraction-2 c = search needs
-
-new-requires : tie.Need-new-requires
-new-requires c κs = search needs
-
 returns : tie.Need-returns
 unfolding julianOutcome fractionOutcome atTime onward
 returns c = rw (c .before .fraction .given .1)
@@ -26,4 +17,4 @@ returns-2 c = rw (c .before .before .before .fraction2 .given .1, c .new .ensure
 
 pub at-time-spec : {M : Type 1} → statement M
 at-time-spec =
-    tie.close (tie.spec enum-known-fraction enum-known-fraction-2 new-requires returns returns-2)
+    tie.close (tie.spec (λ c. search needs) (λ c. search needs) (λ c κs. search needs) returns returns-2)

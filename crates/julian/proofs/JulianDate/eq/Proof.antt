@@ -6,21 +6,6 @@ use Rattle.julian.proofs.Equality.{equal-finite, equal-parts}
 use Rattle.julian.proofs.JulianDate.eq.Statement.{statement}
 use Rattle.julian.proofs.JulianDate.eq.Tie as tie
 
-exact-sum-requires : tie.Need-exact-sum-requires
-exact-sum-requires c κs = search needs
-
-exact-sum-requires-2 : tie.Need-exact-sum-requires-2
-exact-sum-requires-2 c κs = search needs
-
-both-finite-requires : tie.Need-both-finite-requires
-both-finite-requires c κs = search needs
-
-same-pair-requires : tie.Need-same-pair-requires
-same-pair-requires c κs = search needs
-
-same-pair-requires-2 : tie.Need-same-pair-requires-2
-same-pair-requires-2 c κs = search needs
-
 returns : tie.Need-returns
 unfolding sums
 returns c =
@@ -39,10 +24,10 @@ pub eq-spec : {M : Type 1} → statement M
 eq-spec =
     tie.close
     (tie.spec
-    exact-sum-requires
-    exact-sum-requires-2
-    both-finite-requires
-    same-pair-requires
-    same-pair-requires-2
+    (λ c κs. search needs)
+    (λ c κs. search needs)
+    (λ c κs. search needs)
+    (λ c κs. search needs)
+    (λ c κs. search needs)
     returns
     returns-2)

@@ -12,27 +12,6 @@ use Rattle.julian.specs.Calendar.{calendarToJulian, fromCalendar}
 use Rattle.julian.proofs.JulianDate.from_calendar.Statement.{statement}
 use Rattle.julian.proofs.JulianDate.from_calendar.Tie as tie
 
-cast-calendar-to-julian : tie.Need-cast-calendar-to-julian
-cast-calendar-to-julian c = search needs
-
-cast-calendar-to-julian-2 : tie.Need-cast-calendar-to-julian-2
-cast-calendar-to-julian-2 c = search needs
-
-calendar-to-julian-requires : tie.Need-calendar-to-julian-requires
-calendar-to-julian-requires c κs = search needs
-
-enum-known-number : tie.Need-enum-known-number
-enum-known-number c = search needs
-
-enum-known-midnight : tie.Need-enum-known-midnight
-enum-known-midnight c = search needs
-
-day-fraction-requires : tie.Need-day-fraction-requires
-day-fraction-requires c κs = search needs
-
-at-time-requires : tie.Need-at-time-requires
-at-time-requires c κs = search needs
-
 returns : tie.Need-returns
 unfolding julianOutcome fromCalendar onward
 returns c =
@@ -58,12 +37,12 @@ pub from-calendar-spec : {M : Type 1} → statement M
 from-calendar-spec =
     tie.close
     (tie.spec
-    cast-calendar-to-julian
-    cast-calendar-to-julian-2
-    calendar-to-julian-requires
-    enum-known-number
-    enum-known-midnight
-    day-fraction-requires
-    at-time-requires
+    (λ c. search needs)
+    (λ c. search needs)
+    (λ c κs. search needs)
+    (λ c. search needs)
+    (λ c. search needs)
+    (λ c κs. search needs)
+    (λ c κs. search needs)
     returns
     returns-2)

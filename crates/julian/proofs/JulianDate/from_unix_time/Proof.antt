@@ -40,12 +40,6 @@ int-to-float-rest c =
     let s = c .before .before in
     rw (left-read (s .args .seconds) (s .fits .seconds), toZ-ofZ (left-fit (s .args .seconds))) (left-in-float (s .args .seconds))
 
-int-to-float-second-of-day : tie.Need-int-to-float-second-of-day
-int-to-float-second-of-day c = search needs
-
-new-requires : tie.Need-new-requires
-new-requires c κs = search needs
-
 returns : tie.Need-returns
 unfolding fromUnixTime secondOfDay
 returns c =
@@ -68,6 +62,6 @@ from-unix-time-spec =
     int-to-float-days
     rem-rest
     int-to-float-rest
-    int-to-float-second-of-day
-    new-requires
+    (λ c. search needs)
+    (λ c κs. search needs)
     returns)

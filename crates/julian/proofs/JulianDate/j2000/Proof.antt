@@ -7,12 +7,9 @@ use Rattle.julian.proofs.JulianDate.j2000.Tie as tie
 
 -- `julian::JulianDate::j2000` meets its contract. Assumes nothing.
 
-new-requires : tie.Need-new-requires
-new-requires c κs = search needs
-
 returns : tie.Need-returns
 unfolding ofBits round j2000Jd
 returns c = c .new .ensures
 
 pub j2000-spec : {M : Type 1} → statement M
-j2000-spec = tie.close (tie.spec new-requires returns)
+j2000-spec = tie.close (tie.spec (λ c κs. search needs) returns)

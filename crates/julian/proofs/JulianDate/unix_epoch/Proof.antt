@@ -5,12 +5,9 @@ use Rattle.constants.specs.Constants.{unixEpochJd}
 use Rattle.julian.proofs.JulianDate.unix_epoch.Statement.{statement}
 use Rattle.julian.proofs.JulianDate.unix_epoch.Tie as tie
 
-new-requires : tie.Need-new-requires
-new-requires c κs = search needs
-
 returns : tie.Need-returns
 unfolding ofBits round unixEpochJd
 returns c = c .new .ensures
 
 pub unix-epoch-spec : {M : Type 1} → statement M
-unix-epoch-spec = tie.close (tie.spec new-requires returns)
+unix-epoch-spec = tie.close (tie.spec (λ c κs. search needs) returns)

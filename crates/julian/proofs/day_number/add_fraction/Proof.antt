@@ -5,12 +5,6 @@ use borrow.Author.Needs.{needs}
 use Rattle.julian.proofs.day_number.add_fraction.Statement.{statement}
 use Rattle.julian.proofs.day_number.add_fraction.Tie as tie
 
-compensation-requires : tie.Need-compensation-requires
-compensation-requires c κs = search needs
-
-add-t9 : tie.Need-add-t9
-add-t9 c = search needs
-
 returns : tie.Need-returns
 unfolding ofBits
 returns c = let s = c .before .before .before .before .args in added-day (s .carry) (s .kahan) (s .frac) (c .before .before .compensation .result) (c .before .before .compensation .ensures) (c .if1 .taken)
@@ -20,4 +14,4 @@ unfolding ofBits
 returns-2 c = let s = c .before .before .before .before .args in added-none (s .carry) (s .kahan) (s .frac) (c .before .before .compensation .result) (c .before .before .compensation .ensures) (c .if1 .left)
 
 pub add-fraction-spec : {M : Type 1} → statement M
-add-fraction-spec = tie.close (tie.spec compensation-requires add-t9 returns returns-2)
+add-fraction-spec = tie.close (tie.spec (λ c κs. search needs) (λ c. search needs) returns returns-2)

@@ -4,9 +4,6 @@ use borrow.Author.Needs.{needs}
 use Rattle.julian.proofs.day_number.compensation.Statement.{statement}
 use Rattle.julian.proofs.day_number.compensation.Tie as tie
 
-at-least-in-size-requires : tie.Need-at-least-in-size-requires
-at-least-in-size-requires c κs = search needs
-
 returns : tie.Need-returns
 returns c = let s = c .before .before .args in sum-larger (s .sum) (s .frac) (s .temp) (c .before .at-least-in-size .result) (c .before .at-least-in-size .ensures) (c .if1 .taken)
 
@@ -14,4 +11,4 @@ returns-2 : tie.Need-returns-2
 returns-2 c = let s = c .before .before .args in fraction-larger (s .sum) (s .frac) (s .temp) (c .before .at-least-in-size .result) (c .before .at-least-in-size .ensures) (c .if1 .left)
 
 pub compensation-spec : {M : Type 1} → statement M
-compensation-spec = tie.close (tie.spec at-least-in-size-requires returns returns-2)
+compensation-spec = tie.close (tie.spec (λ c κs. search needs) returns returns-2)

@@ -5,12 +5,6 @@ use borrow.Author.Needs.{needs}
 use Rattle.julian.proofs.day_number.day_by_sums.Statement.{statement}
 use Rattle.julian.proofs.day_number.day_by_sums.Tie as tie
 
-sum-fractions-requires : tie.Need-sum-fractions-requires
-sum-fractions-requires c κs = search needs
-
-normalize-fraction-requires : tie.Need-normalize-fraction-requires
-normalize-fraction-requires c κs = search needs
-
 total-day-requires : tie.Need-total-day-requires
 total-day-requires c κs =
     let n = c .before .before in
@@ -28,4 +22,4 @@ returns c =
     (k .sum-fractions .result) (k .sum-fractions .ensures) (n .normalize-fraction .result) (n .normalize-fraction .ensures) (c .total-day .result) (c .total-day .ensures)
 
 pub day-by-sums-spec : {M : Type 1} → statement M
-day-by-sums-spec = tie.close (tie.spec sum-fractions-requires normalize-fraction-requires total-day-requires returns)
+day-by-sums-spec = tie.close (tie.spec (λ c κs. search needs) (λ c κs. search needs) total-day-requires returns)

@@ -8,12 +8,6 @@ use borrow.Author.Needs.{needs}
 use Rattle.julian.proofs.day_number.day_in_range.Statement.{statement}
 use Rattle.julian.proofs.day_number.day_in_range.Tie as tie
 
-nearest-whole-requires : tie.Need-nearest-whole-requires
-nearest-whole-requires c κs = search needs
-
-nearest-whole-requires-2 : tie.Need-nearest-whole-requires-2
-nearest-whole-requires-2 c κs = search needs
-
 total-day-requires : tie.Need-total-day-requires
 unfolding ofBits neg
 total-day-requires c κs =
@@ -72,11 +66,5 @@ returns-2 c =
     let q = quick-borrowed (sub binary64 x (a .nearest-whole .result .value)) (sub binary64 y (b .nearest-whole2 .result .value)) (sub-fits binary64 x _) (sub-fits binary64 y _) (m .if1 .taken) (k .if2 .left) (j .if4 .taken) (i .if5 .taken) in
     gives x y (yes (s .good .0 .1)) (yes (s .good .1 .0 .1)) (s .pre) (a .nearest-whole .result) (b .nearest-whole2 .result) (a .nearest-whole .ensures) (b .nearest-whole2 .ensures) _ (q .summed) _ (q .normal) (c .total-day2 .result) (c .total-day2 .ensures)
 
-day-by-sums-requires : tie.Need-day-by-sums-requires
-day-by-sums-requires c κs = search needs
-
-returns-3 : tie.Need-returns-3
-returns-3 c = search needs
-
 pub day-in-range-spec : {M : Type 1} → statement M
-day-in-range-spec = tie.close (tie.spec nearest-whole-requires nearest-whole-requires-2 total-day-requires returns total-day-requires-2 returns-2 day-by-sums-requires returns-3)
+day-in-range-spec = tie.close (tie.spec (λ c κs. search needs) (λ c κs. search needs) total-day-requires returns total-day-requires-2 returns-2 (λ c κs. search needs) (λ c. search needs))

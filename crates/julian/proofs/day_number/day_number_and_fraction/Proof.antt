@@ -8,9 +8,6 @@ use borrow.Author.Needs.{needs}
 use Rattle.julian.proofs.day_number.day_number_and_fraction.Statement.{statement}
 use Rattle.julian.proofs.day_number.day_number_and_fraction.Tie as tie
 
-check-julian-range-requires : tie.Need-check-julian-range-requires
-check-julian-range-requires c κs = search needs
-
 day-in-range-requires : tie.Need-day-in-range-requires
 day-in-range-requires c κs = let s = c .before .before .args in tested (s .jd1) (s .jd2) (c .before .check-julian-range .result) true (c .before .check-julian-range .ensures) (c .if1 .taken)
 
@@ -30,4 +27,4 @@ returns-2 c =
 
 pub day-number-and-fraction-spec : {M : Type 1} → statement M
 day-number-and-fraction-spec =
-    tie.close (tie.spec check-julian-range-requires day-in-range-requires returns returns-2)
+    tie.close (tie.spec (λ c κs. search needs) day-in-range-requires returns returns-2)

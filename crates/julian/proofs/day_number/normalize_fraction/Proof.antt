@@ -5,15 +5,6 @@ use borrow.Author.Needs.{needs}
 use Rattle.julian.proofs.day_number.normalize_fraction.Statement.{statement}
 use Rattle.julian.proofs.day_number.normalize_fraction.Tie as tie
 
-borrow-day-requires : tie.Need-borrow-day-requires
-borrow-day-requires c κs = search needs
-
-carry-day-requires : tie.Need-carry-day-requires
-carry-day-requires c κs = search needs
-
-carry-day-requires-2 : tie.Need-carry-day-requires-2
-carry-day-requires-2 c κs = search needs
-
 returns : tie.Need-returns
 unfolding ofBits
 returns c = let b = c .before .before in borrowed (b .before .before .before .before .args .kahan) (b .before .if1 .taken) (b .borrow-day .result) (b .borrow-day .ensures) (c .carry-day .result) (c .carry-day .ensures)
@@ -25,4 +16,4 @@ returns-2 c = unborrowed (c .before .before .before .before .args .kahan) (c .be
 pub normalize-fraction-spec : {M : Type 1} → statement M
 normalize-fraction-spec =
     tie.close
-    (tie.spec borrow-day-requires carry-day-requires carry-day-requires-2 returns returns-2)
+    (tie.spec (λ c κs. search needs) (λ c κs. search needs) (λ c κs. search needs) returns returns-2)

@@ -7,17 +7,8 @@ use Rattle.julian.proofs.day_number.total_day.Tie as tie
 add-result : tie.Need-add-result
 add-result c = fits-1 (c .args .a) (c .args .b) (c .args .carry) (c .args .more) (c .args .borrow) (c .pre)
 
-cast-result : tie.Need-cast-result
-cast-result c = search needs
-
 add-result-2 : tie.Need-add-result-2
 add-result-2 c = fits-2 (c .args .a) (c .args .b) (c .args .carry) (c .args .more) (c .args .borrow) (c .pre)
-
-cast-result-2 : tie.Need-cast-result-2
-cast-result-2 c = search needs
-
-cast-result-3 : tie.Need-cast-result-3
-cast-result-3 c = search needs
 
 sub-result : tie.Need-sub-result
 sub-result c = fits-3 (c .args .a) (c .args .b) (c .args .carry) (c .args .more) (c .args .borrow) (c .pre)
@@ -33,10 +24,10 @@ total-day-spec =
     tie.close
     (tie.spec
     add-result
-    cast-result
+    (λ c. search needs)
     add-result-2
-    cast-result-2
-    cast-result-3
+    (λ c. search needs)
+    (λ c. search needs)
     sub-result
     add-result-3
     returns)

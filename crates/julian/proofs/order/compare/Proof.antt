@@ -7,15 +7,6 @@ use Rattle.julian.proofs.order.Tests.{first-refused, second-refused, is
 use Rattle.julian.proofs.order.compare.Statement.{statement}
 use Rattle.julian.proofs.order.compare.Tie as tie
 
-exact-sum-requires : tie.Need-exact-sum-requires
-exact-sum-requires c κs = search needs
-
-exact-sum-requires-2 : tie.Need-exact-sum-requires-2
-exact-sum-requires-2 c κs = search needs
-
-is-finite-requires : tie.Need-is-finite-requires
-is-finite-requires c κs = search needs
-
 returns : tie.Need-returns
 unfolding orderOutcome
 returns c =
@@ -23,9 +14,6 @@ returns c =
     let s = t .before in
     first-refused (s .before .args .a) (s .before .args .b) (s .exact-sum .result) (t .exact-sum2 .result) (s .exact-sum .ensures) (t .exact-sum2 .ensures)
     (sym (c .before .is-finite .ensures) ∙ not-true (c .before .is-finite .result) (c .if1 .taken))
-
-is-finite-requires-2 : tie.Need-is-finite-requires-2
-is-finite-requires-2 c κs = search needs
 
 returns-2 : tie.Need-returns-2
 unfolding orderOutcome
@@ -36,9 +24,6 @@ returns-2 c =
     second-refused (s .before .args .a) (s .before .args .b) (s .exact-sum .result) (t .exact-sum2 .result) (s .exact-sum .ensures) (t .exact-sum2 .ensures)
     (sym (f .before .is-finite .ensures) ∙ not-false (f .before .is-finite .result) (f .if1 .left))
     (sym (c .before .is-finite2 .ensures) ∙ not-true (c .before .is-finite2 .result) (c .if2 .taken))
-
-sooner-requires : tie.Need-sooner-requires
-sooner-requires c κs = search needs
 
 returns-3 : tie.Need-returns-3
 unfolding orderOutcome
@@ -51,9 +36,6 @@ returns-3 c =
     (sym (f .before .is-finite .ensures) ∙ not-false (f .before .is-finite .result) (f .if1 .left))
     (sym (g .before .is-finite2 .ensures) ∙ not-false (g .before .is-finite2 .result) (g .if2 .left))
     (sym (c .before .sooner .ensures) ∙ c .if3 .taken)
-
-sooner-requires-2 : tie.Need-sooner-requires-2
-sooner-requires-2 c κs = search needs
 
 returns-4 : tie.Need-returns-4
 unfolding orderOutcome
@@ -87,14 +69,14 @@ pub compare-spec : {M : Type 1} → statement M
 compare-spec =
     tie.close
     (tie.spec
-    exact-sum-requires
-    exact-sum-requires-2
-    is-finite-requires
+    (λ c κs. search needs)
+    (λ c κs. search needs)
+    (λ c κs. search needs)
     returns
-    is-finite-requires-2
+    (λ c κs. search needs)
     returns-2
-    sooner-requires
+    (λ c κs. search needs)
     returns-3
-    sooner-requires-2
+    (λ c κs. search needs)
     returns-4
     returns-5)

@@ -7,15 +7,9 @@ use Rattle.julian.specs.Equality.{sums}
 use Rattle.julian.proofs.order.has_place.Statement.{statement}
 use Rattle.julian.proofs.order.has_place.Tie as tie
 
-exact-sum-requires : tie.Need-exact-sum-requires
-exact-sum-requires c κs = search needs
-
-is-finite-requires : tie.Need-is-finite-requires
-is-finite-requires c κs = search needs
-
 returns : tie.Need-returns
 unfolding sums
 returns c = c .is-finite .ensures ∙ ap (λ (s : ExactSum). finite (s .error)) (c .before .exact-sum .ensures)
 
 pub has-place-spec : {M : Type 1} → statement M
-has-place-spec = tie.close (tie.spec exact-sum-requires is-finite-requires returns)
+has-place-spec = tie.close (tie.spec (λ c κs. search needs) (λ c κs. search needs) returns)

@@ -6,18 +6,9 @@ use Rattle.julian.specs.order.Places.{isEarlier}
 use Rattle.julian.proofs.order.is_earlier.Statement.{statement}
 use Rattle.julian.proofs.order.is_earlier.Tie as tie
 
-exact-sum-requires : tie.Need-exact-sum-requires
-exact-sum-requires c κs = search needs
-
-exact-sum-requires-2 : tie.Need-exact-sum-requires-2
-exact-sum-requires-2 c κs = search needs
-
-sooner-requires : tie.Need-sooner-requires
-sooner-requires c κs = search needs
-
 returns : tie.Need-returns
 unfolding sums isEarlier
 returns c = c .sooner .ensures ∙ rw (c .before .before .exact-sum .ensures, c .before .exact-sum2 .ensures)
 
 pub is-earlier-spec : {M : Type 1} → statement M
-is-earlier-spec = tie.close (tie.spec exact-sum-requires exact-sum-requires-2 sooner-requires returns)
+is-earlier-spec = tie.close (tie.spec (λ c κs. search needs) (λ c κs. search needs) (λ c κs. search needs) returns)

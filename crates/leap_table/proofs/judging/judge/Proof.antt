@@ -6,17 +6,11 @@ use borrow.Author.Needs.{needs}
 use Rattle.leap_table.proofs.judging.judge.Statement.{statement}
 use Rattle.leap_table.proofs.judging.judge.Tie as tie
 
-own-number-requires : tie.Need-own-number-requires
-own-number-requires c κs = search needs
-
 returns : tie.Need-returns
 returns c =
     let o = c .before in
     let s = o .before .args in
     judged-bad (s .before) (s .t) (o .own-number .result) (o .own-number .ensures) (c .if1 .taken)
-
-earlier-requires : tie.Need-earlier-requires
-earlier-requires c κs = search needs
 
 returns-2 : tie.Need-returns-2
 returns-2 c =
@@ -33,4 +27,4 @@ returns-3 c =
     judged-order (s .before) (s .t) (o .own-number .result) (o .own-number .ensures) (e .before .if1 .left) false (sym (c .if2 .left) ∙ e .earlier .ensures)
 
 pub judge-spec : {M : Type 1} → statement M
-judge-spec = tie.close (tie.spec own-number-requires returns earlier-requires returns-2 returns-3)
+judge-spec = tie.close (tie.spec (λ c κs. search needs) returns (λ c κs. search needs) returns-2 returns-3)

@@ -14,9 +14,6 @@ use borrow.Author.Needs.{needs}
 use Rattle.leap_table.proofs.judging.numbers_refusal.Statement.{statement}
 use Rattle.leap_table.proofs.judging.numbers_refusal.Tie as tie
 
-table-refusal-requires : tie.Need-table-refusal-requires
-table-refusal-requires c κs = search needs
-
 returns : tie.Need-returns
 returns c =
     let r = c .before in
@@ -45,9 +42,6 @@ returns-3 c =
     table-taken (s .table) (eqb (length l % 3) 0) d (s .places) (r .table-refusal .result) (r .table-refusal .ensures) (i .if1 .left) _
     (no-places d (s .places) (length l / 3) (how-many (tripleAt l) (length l / 3) 0) (c .if3 .taken) ∙ ap (λ (b : Bool). judgedList b d (s .places)) (sym (eq-eqb (length l % 3) 0 (k .if2 .left))))
 
-judge-all-requires : tie.Need-judge-all-requires
-judge-all-requires c κs = search needs
-
 returns-4 : tie.Need-returns-4
 returns-4 c =
     let q = c .before in
@@ -62,4 +56,4 @@ returns-4 c =
 
 pub numbers-refusal-spec : {M : Type 1} → statement M
 numbers-refusal-spec =
-    tie.close (tie.spec table-refusal-requires returns returns-2 returns-3 judge-all-requires returns-4)
+    tie.close (tie.spec (λ c κs. search needs) returns returns-2 returns-3 (λ c κs. search needs) returns-4)

@@ -9,20 +9,8 @@ use borrow.Author.Needs.{needs}
 use Rattle.leap_table.proofs.judging.own_number.Statement.{statement}
 use Rattle.leap_table.proofs.judging.own_number.Tie as tie
 
-in-every-month-requires : tie.Need-in-every-month-requires
-in-every-month-requires c κs = search needs
-
 returns : tie.Need-returns
 returns c = sym (c .before .in-every-month .ensures (c .if1 .taken))
-
-validate-calendar-date-requires : tie.Need-validate-calendar-date-requires
-validate-calendar-date-requires c κs = search needs
-
-enum-known-number : tie.Need-enum-known-number
-enum-known-number c = search needs
-
-enum-told : tie.Need-enum-told
-enum-told c = search needs
 
 returns-2 : tie.Need-returns-2
 returns-2 c =
@@ -46,10 +34,10 @@ pub own-number-spec : {M : Type 1} → statement M
 own-number-spec =
     tie.close
     (tie.spec
-    in-every-month-requires
+    (λ c κs. search needs)
     returns
-    validate-calendar-date-requires
-    enum-known-number
-    enum-told
+    (λ c κs. search needs)
+    (λ c. search needs)
+    (λ c. search needs)
     returns-2
     returns-3)

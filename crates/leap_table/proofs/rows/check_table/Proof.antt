@@ -14,9 +14,6 @@ use Rattle.leap_table.proofs.rows.check_table.Statement.{statement}
 use Rattle.leap_table.proofs.rows.check_table.Tie as tie
 use Rattle.leap_table.specs.rows.Table.{fixedRows}
 
-table-refusal-requires : tie.Need-table-refusal-requires
-table-refusal-requires c κs = search needs
-
 returns : tie.Need-returns
 unfolding rowsOutcome
 returns c = let r = c .before in turned-away (r .before .args .table) (r .table-refusal .result) (r .table-refusal .ensures) _ (c .if1 .taken)
@@ -40,4 +37,4 @@ returns-2 c =
     ∙ taken t (r .table-refusal .result) (r .table-refusal .ensures) (λ rows. answer (length rows)) (c .before .if1 .left)
 
 pub check-table-spec : {M : Type 1} → statement M
-check-table-spec = tie.close (tie.spec table-refusal-requires returns add-t4 returns-2)
+check-table-spec = tie.close (tie.spec (λ c κs. search needs) returns add-t4 returns-2)

@@ -7,15 +7,6 @@ use Rattle.leap_table.proofs.rows.Tables.{table-length, at-most-16}
 use Rattle.leap_table.proofs.walk.at_start.Statement.{statement}
 use Rattle.leap_table.proofs.walk.at_start.Tie as tie
 
-row-count-requires : tie.Need-row-count-requires
-row-count-requires c κs = search needs
-
-row-start-requires : tie.Need-row-start-requires
-row-start-requires c κs = search needs
-
-row-terms-requires : tie.Need-row-terms-requires
-row-terms-requires c κs = search needs
-
 returns : tie.Need-returns
 returns c =
     let s = c .before .before .before .args in
@@ -26,4 +17,4 @@ returns c =
     }
 
 pub at-start-spec : {M : Type 1} → statement M
-at-start-spec = tie.close (tie.spec row-count-requires row-start-requires row-terms-requires returns)
+at-start-spec = tie.close (tie.spec (λ c κs. search needs) (λ c κs. search needs) (λ c κs. search needs) returns)

@@ -8,11 +8,8 @@ use Rattle.leap_table.proofs.walk.next_counted.Tie as tie
 returns : tie.Need-returns
 returns c = rw (le-leb _ _ (c .if1 .taken)) (omega arith)
 
-add-result : tie.Need-add-result
-add-result c = search needs
-
 returns-2 : tie.Need-returns-2
 returns-2 c = rw (lt-leb _ _ (c .before .if1 .left))
 
 pub next-counted-spec : {M : Type 1} → statement M
-next-counted-spec = tie.close (tie.spec returns add-result returns-2)
+next-counted-spec = tie.close (tie.spec returns (λ c. search needs) returns-2)

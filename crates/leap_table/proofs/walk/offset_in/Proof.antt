@@ -18,15 +18,6 @@ use Rattle.leap_table.proofs.walk.offset_in.Tie as tie
 returns : tie.Need-returns
 returns c = stays (c .before .before .args .terms) _ _ (not-true _ (c .if1 .taken))
 
-modified-julian-day-requires : tie.Need-modified-julian-day-requires
-modified-julian-day-requires c κs = search needs
-
-enum-told : tie.Need-enum-told
-enum-told c = search needs
-
-enum-known-n : tie.Need-enum-known-n
-enum-known-n c = search needs
-
 -- where there is a day number
 module _ (c : tie.After-known-told) where
   abbrev t : Triple
@@ -70,9 +61,9 @@ offset-in-spec =
     tie.close
     (tie.spec
     returns
-    modified-julian-day-requires
-    enum-told
-    enum-known-n
+    (λ c κs. search needs)
+    (λ c. search needs)
+    (λ c. search needs)
     int-to-float-result
     returns-2
     returns-3)

@@ -16,9 +16,6 @@ use borrow.Author.Needs.{needs}
 use Rattle.leap_table.proofs.walk.offsets_at_0h.Statement.{statement}
 use Rattle.leap_table.proofs.walk.offsets_at_0h.Tie as tie
 
-numbers-refusal-requires : tie.Need-numbers-refusal-requires
-numbers-refusal-requires c κs = search needs
-
 returns : tie.Need-returns
 returns c =
     let r = c .before in
@@ -35,9 +32,6 @@ walk-all-requires c κs =
     let p = passed (s .table) (eqb (length l % 3) 0) (datesFrom (tripleAt l) 0 (length l / 3)) (length (s .out .now)) (r .numbers-refusal .result) (r .numbers-refusal .ensures) (i .if1 .left) in
     (all-good (tripleAt l) (length l / 3) (p .good), p .order, omega arith, omega (arith, p .fits, how-many (tripleAt l) (length l / 3) 0))
 
-same-length : tie.Need-same-length
-same-length c = search needs
-
 returns-2 : tie.Need-returns-2
 returns-2 c =
     let w = c .before .before in
@@ -50,4 +44,4 @@ returns-2 c =
 
 pub offsets-at-0h-spec : {M : Type 1} → statement M
 offsets-at-0h-spec =
-    tie.close (tie.spec numbers-refusal-requires returns walk-all-requires same-length returns-2)
+    tie.close (tie.spec (λ c κs. search needs) returns walk-all-requires (λ c. search needs) returns-2)

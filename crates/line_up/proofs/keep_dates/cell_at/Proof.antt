@@ -11,16 +11,10 @@ mul-u32-at c =
     let s = c .before in
     record { fits = omega (arith, length-low (s .args .tails .now), s .pre) }
 
-u32-at-requires : tie.Need-u32-at-requires
-u32-at-requires c κs = search needs
-
-cast-result : tie.Need-cast-result
-cast-result c = search needs
-
 returns : tie.Need-returns
 returns c =
     let s = c .before .before in
     c .u32-at .ensures ∙ cells-at (s .args .tails .now) (s .args .k) (s .pre)
 
 pub cell-at-spec : {M : Type 1} → statement M
-cell-at-spec = tie.close (tie.spec mul-u32-at u32-at-requires cast-result returns)
+cell-at-spec = tie.close (tie.spec mul-u32-at (λ c κs. search needs) (λ c. search needs) returns)

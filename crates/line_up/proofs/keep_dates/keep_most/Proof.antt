@@ -35,19 +35,10 @@ judge-requires c κs =
       rankRoom = cells-room (c .before .before .before .before .before .before .lay .last .1 .1 .1 .1 .1 .1 .0) (a .to) (omega (arith, c .before .before .before .before .before .before .lay .kept .1 .1 .1 .1 .1 .1 .0, s .pre .rankRoom));
     }
 
-same-length : tie.Need-same-length
-same-length c = search needs
-
-same-length-2 : tie.Need-same-length-2
-same-length-2 c = search needs
-
-same-length-3 : tie.Need-same-length-3
-same-length-3 c = search needs
-
 returns : tie.Need-returns
 returns c =
     let a = c .before .before .before .before .before .before .before .before .before .before .before .before .before .before .before .before .before .before .args in
     kept-is (soonerAt (a .jd1s .now) (a .jd2s .now)) (a .numbers .now) (cells (c .before .before .before .before .before .before .before .before .before .lay .last .1 .1 .1 .1 .1 .1 .0)) (c .before .before .judge .last .0) (a .from) (a .to) (c .before .before .before .before .before .before .before .before .before .lay .result) (c .before .before .before .before .before .before .before .before .before .lay .ensures) (c .before .before .judge .ensures)
 
 pub keep-most-spec : {M : Type 1} → statement M
-keep-most-spec = tie.close (tie.spec lay-requires judge-requires same-length same-length-2 same-length-3 returns)
+keep-most-spec = tie.close (tie.spec lay-requires judge-requires (λ c. search needs) (λ c. search needs) (λ c. search needs) returns)

@@ -16,12 +16,6 @@ returns c =
     let a = s .args in
     none-before (soonerAt (a .jd1s .now) (a .jd2s .now)) 4294967296 (cells (a .tails .now)) (a .many) (a .i) (s .pre) (c .if1 .taken)
 
-sub-cell-at : tie.Need-sub-cell-at
-sub-cell-at c = search needs
-
-cell-at-requires : tie.Need-cell-at-requires
-cell-at-requires c κs = search needs
-
 sooner-at-requires : tie.Need-sooner-at-requires
 sooner-at-requires c κs =
     let s = c .before .before .before .before .before in
@@ -29,12 +23,6 @@ sooner-at-requires c κs =
     let e : a .many ≡ 0 → ⊥ = c .before .if1 .left in
     let p = s .pre .places (a .many - 1) (omega (arith, e)) in
     record { one = omega (arith, s .pre .place); two = omega (arith, p, c .cell-at .ensures) }
-
-search-requires : tie.Need-search-requires
-search-requires c κs = search needs
-
-returns-2 : tie.Need-returns-2
-returns-2 c = search needs
 
 returns-3 : tie.Need-returns-3
 returns-3 c =
@@ -44,4 +32,4 @@ returns-3 c =
     last-before (soonerAt (a .jd1s .now) (a .jd2s .now)) 4294967296 (cells (a .tails .now)) (a .many) (a .i) (s .pre) (c .before .before .cell-at .result) (omega (arith, e)) (c .before .before .cell-at .ensures) (sym (c .before .sooner-at .ensures) ∙ c .if2 .left)
 
 pub piles-before-spec : {M : Type 1} → statement M
-piles-before-spec = tie.close (tie.spec returns sub-cell-at cell-at-requires sooner-at-requires search-requires returns-2 returns-3)
+piles-before-spec = tie.close (tie.spec returns (λ c. search needs) (λ c κs. search needs) sooner-at-requires (λ c κs. search needs) (λ c. search needs) returns-3)

@@ -17,13 +17,10 @@ put-place-requires c κs =
     let s = c .before .before in
     omega (arith, length-low (s .args .tails .now), s .pre .0)
 
-same-length : tie.Need-same-length
-same-length c = search needs
-
 returns : tie.Need-returns
 returns c =
     let s = c .before .before .before .before .before in
     ap cells (c .before .before .put-place .ensures) ∙ cells-put (s .args .tails .now) (s .args .k) (s .args .p) (s .pre .0) (s .pre .1)
 
 pub put-cell-spec : {M : Type 1} → statement M
-put-cell-spec = tie.close (tie.spec mul-put-place put-place-requires same-length returns)
+put-cell-spec = tie.close (tie.spec mul-put-place put-place-requires (λ c. search needs) returns)

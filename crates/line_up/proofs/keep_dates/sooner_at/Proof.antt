@@ -5,19 +5,10 @@ use borrow.Author.Needs.{needs}
 use Rattle.line_up.proofs.keep_dates.sooner_at.Statement.{statement}
 use Rattle.line_up.proofs.keep_dates.sooner_at.Tie as tie
 
-stamp-of-requires : tie.Need-stamp-of-requires
-stamp-of-requires c κs = search needs
-
-stamp-of-requires-2 : tie.Need-stamp-of-requires-2
-stamp-of-requires-2 c κs = search needs
-
-is-earlier-requires : tie.Need-is-earlier-requires
-is-earlier-requires c κs = search needs
-
 returns : tie.Need-returns
 returns c =
     let a = c .before .before .before .before .before .args in
     c .is-earlier .ensures ∙ sooner-is (a .jd1s .now) (a .jd2s .now) (a .i) (a .j) (c .before .before .stamp-of .result) (c .before .stamp-of2 .result) (c .before .before .stamp-of .ensures) (c .before .stamp-of2 .ensures)
 
 pub sooner-at-spec : {M : Type 1} → statement M
-sooner-at-spec = tie.close (tie.spec stamp-of-requires stamp-of-requires-2 is-earlier-requires returns)
+sooner-at-spec = tie.close (tie.spec (λ c κs. search needs) (λ c κs. search needs) (λ c κs. search needs) returns)

@@ -15,24 +15,12 @@ returns c =
     let a = s .args in
     none-before (soonerAt (a .keys .now)) (length (a .keys .now)) (a .tails .now) (a .many) (a .i) (s .pre) (c .if1 .taken)
 
-sub-tail-at : tie.Need-sub-tail-at
-sub-tail-at c = search needs
-
-tail-at-requires : tie.Need-tail-at-requires
-tail-at-requires c κs = search needs
-
 sooner-at-requires : tie.Need-sooner-at-requires
 sooner-at-requires c κs =
     let s = c .before .before .before .before in
     let a = s .args in
     let e : a .many ≡ 0 → ⊥ = c .before .if1 .left in
     (s .pre .place, rw (c .tail-at .ensures) (s .pre .places (a .many - 1) (omega (arith, e))))
-
-search-requires : tie.Need-search-requires
-search-requires c κs = search needs
-
-returns-2 : tie.Need-returns-2
-returns-2 c = search needs
 
 returns-3 : tie.Need-returns-3
 returns-3 c =
@@ -42,4 +30,4 @@ returns-3 c =
     last-before (soonerAt (a .keys .now)) (length (a .keys .now)) (a .tails .now) (a .many) (a .i) (s .pre) (c .before .before .tail-at .result) (omega (arith, e)) (c .before .before .tail-at .ensures) (sym (c .before .sooner-at .ensures) ∙ c .if2 .left)
 
 pub piles-before-spec : {M : Type 1} → statement M
-piles-before-spec = tie.close (tie.spec returns sub-tail-at tail-at-requires sooner-at-requires search-requires returns-2 returns-3)
+piles-before-spec = tie.close (tie.spec returns (λ c. search needs) (λ c κs. search needs) sooner-at-requires (λ c κs. search needs) (λ c. search needs) returns-3)

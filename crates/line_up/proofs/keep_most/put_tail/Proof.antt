@@ -6,15 +6,6 @@ use borrow.Author.Tests.{eq-eqb, ne-eqb}
 use Rattle.line_up.proofs.keep_most.put_tail.Statement.{statement}
 use Rattle.line_up.proofs.keep_most.put_tail.Tie as tie
 
-sub-put-at : tie.Need-sub-put-at
-sub-put-at c = search needs
-
-put-at-requires : tie.Need-put-at-requires
-put-at-requires c κs = search needs
-
-same-length : tie.Need-same-length
-same-length c = search needs
-
 returns : tie.Need-returns
 returns c =
     let d = c .before .before .before in
@@ -25,4 +16,4 @@ returns-2 : tie.Need-returns-2
 returns-2 c = rw (eq-eqb (c .before .before .args .r) 0 (omega (arith, c .if1 .left)))
 
 pub put-tail-spec : {M : Type 1} → statement M
-put-tail-spec = tie.close (tie.spec sub-put-at put-at-requires same-length returns returns-2)
+put-tail-spec = tie.close (tie.spec (λ c. search needs) (λ c κs. search needs) (λ c. search needs) returns returns-2)

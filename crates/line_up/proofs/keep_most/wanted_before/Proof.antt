@@ -6,9 +6,6 @@ use borrow.Author.Tests.{eq-eqb, ne-eqb}
 use Rattle.line_up.proofs.keep_most.wanted_before.Statement.{statement}
 use Rattle.line_up.proofs.keep_most.wanted_before.Tie as tie
 
-sub-result : tie.Need-sub-result
-sub-result c = search needs
-
 returns : tie.Need-returns
 returns c =
     let a = c .before .before .args in
@@ -25,4 +22,4 @@ returns-3 c =
     rw (ne-eqb (a .r) (a .wanted) (c .if1 .left))
 
 pub wanted-before-spec : {M : Type 1} → statement M
-wanted-before-spec = tie.close (tie.spec sub-result returns returns-2 returns-3)
+wanted-before-spec = tie.close (tie.spec (λ c. search needs) returns returns-2 returns-3)

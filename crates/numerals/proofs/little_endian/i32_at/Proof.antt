@@ -10,12 +10,6 @@ use borrow.Author.Needs.{needs}
 use Rattle.numerals.proofs.little_endian.i32_at.Statement.{statement}
 use Rattle.numerals.proofs.little_endian.i32_at.Tie as tie
 
-u32-at-requires : tie.Need-u32-at-requires
-u32-at-requires c κs = search needs
-
-i32-of-pattern-requires : tie.Need-i32-of-pattern-requires
-i32-of-pattern-requires c κs = search needs
-
 returns : tie.Need-returns
 returns c =
     let n = c .before .u32-at .result in
@@ -23,4 +17,4 @@ returns c =
     toZ-ofZ {w = w32} f ∙ c .i32-of-pattern .ensures ∙ ap signed32 (c .before .u32-at .ensures)
 
 pub i32-at-spec : {M : Type 1} → statement M
-i32-at-spec = tie.close (tie.spec u32-at-requires i32-of-pattern-requires returns)
+i32-at-spec = tie.close (tie.spec (λ c κs. search needs) (λ c κs. search needs) returns)

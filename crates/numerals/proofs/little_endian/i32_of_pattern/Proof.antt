@@ -5,17 +5,8 @@ use borrow.Author.Needs.{needs}
 use Rattle.numerals.proofs.little_endian.i32_of_pattern.Statement.{statement}
 use Rattle.numerals.proofs.little_endian.i32_of_pattern.Tie as tie
 
-cast-result : tie.Need-cast-result
-cast-result c = search needs
-
 returns : tie.Need-returns
 returns c = low-32 _ (c .if1 .taken)
-
-sub-result : tie.Need-sub-result
-sub-result c = search needs
-
-cast-result-2 : tie.Need-cast-result-2
-cast-result-2 c = search needs
 
 sub-result-2 : tie.Need-sub-result-2
 sub-result-2 c = fits-32 _ (c .if1 .left) (omega arith)
@@ -25,4 +16,4 @@ returns-2 c = high-32 _ (c .if1 .left) (omega arith)
 
 pub i32-of-pattern-spec : {M : Type 1} → statement M
 i32-of-pattern-spec =
-    tie.close (tie.spec cast-result returns sub-result cast-result-2 sub-result-2 returns-2)
+    tie.close (tie.spec (λ c. search needs) returns (λ c. search needs) (λ c. search needs) sub-result-2 returns-2)

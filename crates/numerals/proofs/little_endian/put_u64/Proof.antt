@@ -10,53 +10,23 @@ use Rattle.numerals.proofs.little_endian.put_u64.Tie as tie
 returns : tie.Need-returns
 returns c = too-few (now (c .before .before .args .out)) (c .before .before .args .n) (c .if1 .taken)
 
-bytes-of-u64-requires : tie.Need-bytes-of-u64-requires
-bytes-of-u64-requires c κs = search needs
-
-array-read-out : tie.Need-array-read-out
-array-read-out c = search needs
-
-slice-write-out : tie.Need-slice-write-out
-slice-write-out c = search needs
-
-array-read-out-2 : tie.Need-array-read-out-2
-array-read-out-2 c = search needs
-
 slice-write-out-2 : tie.Need-slice-write-out-2
 slice-write-out-2 c = simp length-set (omega (arith, c .before .if1 .left))
-
-array-read-out-3 : tie.Need-array-read-out-3
-array-read-out-3 c = search needs
 
 slice-write-out-3 : tie.Need-slice-write-out-3
 slice-write-out-3 c = simp length-set (omega (arith, c .before .if1 .left))
 
-array-read-out-4 : tie.Need-array-read-out-4
-array-read-out-4 c = search needs
-
 slice-write-out-4 : tie.Need-slice-write-out-4
 slice-write-out-4 c = simp length-set (omega (arith, c .before .if1 .left))
-
-array-read-out-5 : tie.Need-array-read-out-5
-array-read-out-5 c = search needs
 
 slice-write-out-5 : tie.Need-slice-write-out-5
 slice-write-out-5 c = simp length-set (omega (arith, c .before .if1 .left))
 
-array-read-out-6 : tie.Need-array-read-out-6
-array-read-out-6 c = search needs
-
 slice-write-out-6 : tie.Need-slice-write-out-6
 slice-write-out-6 c = simp length-set (omega (arith, c .before .if1 .left))
 
-array-read-out-7 : tie.Need-array-read-out-7
-array-read-out-7 c = search needs
-
 slice-write-out-7 : tie.Need-slice-write-out-7
 slice-write-out-7 c = simp length-set (omega (arith, c .before .if1 .left))
-
-array-read-out-8 : tie.Need-array-read-out-8
-array-read-out-8 c = search needs
 
 slice-write-out-8 : tie.Need-slice-write-out-8
 slice-write-out-8 c = simp length-set (omega (arith, c .before .if1 .left))
@@ -74,22 +44,22 @@ put-u64-spec =
     tie.close
     (tie.spec
     returns
-    bytes-of-u64-requires
-    array-read-out
-    slice-write-out
-    array-read-out-2
+    (λ c κs. search needs)
+    (λ c. search needs)
+    (λ c. search needs)
+    (λ c. search needs)
     slice-write-out-2
-    array-read-out-3
+    (λ c. search needs)
     slice-write-out-3
-    array-read-out-4
+    (λ c. search needs)
     slice-write-out-4
-    array-read-out-5
+    (λ c. search needs)
     slice-write-out-5
-    array-read-out-6
+    (λ c. search needs)
     slice-write-out-6
-    array-read-out-7
+    (λ c. search needs)
     slice-write-out-7
-    array-read-out-8
+    (λ c. search needs)
     slice-write-out-8
     same-length
     returns-2)

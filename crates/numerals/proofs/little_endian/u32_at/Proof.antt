@@ -9,20 +9,11 @@ use Rattle.numerals.proofs.little_endian.u32_at.Tie as tie
 returns : tie.Need-returns
 returns c = absent32 _ _ (omega arith)
 
-sub-if2 : tie.Need-sub-if2
-sub-if2 c = search needs
-
 returns-2 : tie.Need-returns-2
 returns-2 c = absent32 _ _ (omega arith)
-
-four-at-requires : tie.Need-four-at-requires
-four-at-requires c κs = search needs
-
-cast-result : tie.Need-cast-result
-cast-result c = search needs
 
 returns-3 : tie.Need-returns-3
 returns-3 c = c .four-at .ensures .0 ∙ present32 _ _ (omega arith)
 
 pub u32-at-spec : {M : Type 1} → statement M
-u32-at-spec = tie.close (tie.spec returns sub-if2 returns-2 four-at-requires cast-result returns-3)
+u32-at-spec = tie.close (tie.spec returns (λ c. search needs) returns-2 (λ c κs. search needs) (λ c. search needs) returns-3)

@@ -9,9 +9,6 @@ use borrow.Author.Needs.{needs}
 use Rattle.parsing.proofs.ParsedDateTime.to_julian_date.Statement.{statement}
 use Rattle.parsing.proofs.ParsedDateTime.to_julian_date.Tie as tie
 
-from-calendar-requires : tie.Need-from-calendar-requires
-from-calendar-requires c κs = search needs
-
 returns : tie.Need-returns
 unfolding toJulianDate
 returns c =
@@ -20,4 +17,4 @@ returns c =
     c .from-calendar .ensures ∙ (λ i. fromCalendar (toZ-ofZ {w = w32} {z = p .year} fit i) (p .month) (p .day) (p .hour) (p .minute) (p .second))
 
 pub to-julian-date-spec : {M : Type 1} → statement M
-to-julian-date-spec = tie.close (tie.spec from-calendar-requires returns)
+to-julian-date-spec = tie.close (tie.spec (λ c κs. search needs) returns)

@@ -7,14 +7,8 @@ use borrow.Author.Needs.{needs}
 use Rattle.parsing.proofs.scan.fraction.Statement.{statement}
 use Rattle.parsing.proofs.scan.fraction.Tie as tie
 
-byte-at-requires : tie.Need-byte-at-requires
-byte-at-requires c κs = search needs
-
 returns : tie.Need-returns
 returns c = fraction-none (c .before .before .before .args .second) (c .before .before .before .args .at) (c .before .before .before .args .text .now) (c .before .before .before .pre .0) (λ e. c .if1 .taken (c .before .byte-at .ensures ∙ e))
-
-add-digits-run : tie.Need-add-digits-run
-add-digits-run c = search needs
 
 digits-run-requires : tie.Need-digits-run-requires
 digits-run-requires c κs = (add-one-le (byte-inside (c .before .before .before .args .text .now) (c .before .before .before .args .at) 46 (lit< tt) (sym (c .before .byte-at .ensures) ∙ c .if1 .left)), c .before .before .before .pre .1)
@@ -28,4 +22,4 @@ returns-3 c = fraction-some (c .before .before .before .before .before .before .
 pub fraction-spec : {M : Type 1} → statement M
 fraction-spec =
     tie.close
-    (tie.spec byte-at-requires returns add-digits-run digits-run-requires returns-2 returns-3)
+    (tie.spec (λ c κs. search needs) returns (λ c. search needs) digits-run-requires returns-2 returns-3)

@@ -6,18 +6,6 @@ use borrow.Author.Needs.{needs}
 use Rattle.parsing.proofs.scan.joined.Statement.{statement}
 use Rattle.parsing.proofs.scan.joined.Tie as tie
 
-mul-result : tie.Need-mul-result
-mul-result c = search needs
-
-worth-requires : tie.Need-worth-requires
-worth-requires c κs = search needs
-
-cast-result : tie.Need-cast-result
-cast-result c = search needs
-
-add-result : tie.Need-add-result
-add-result c = search needs
-
 returns : tie.Need-returns
 returns c = rw (lt-ltb _ _ (c .before .if1 .taken)) (ap (λ (d : ℕ). 10 * c .before .before .args .whole + d) (c .worth .ensures .0))
 
@@ -26,4 +14,4 @@ returns-2 c = simp (le-ltb _ _ (c .if1 .left))
 
 pub joined-spec : {M : Type 1} → statement M
 joined-spec =
-    tie.close (tie.spec mul-result worth-requires cast-result add-result returns returns-2)
+    tie.close (tie.spec (λ c. search needs) (λ c κs. search needs) (λ c. search needs) (λ c. search needs) returns returns-2)

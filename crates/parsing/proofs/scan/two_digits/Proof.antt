@@ -6,19 +6,13 @@ use borrow.Author.Needs.{needs}
 use Rattle.parsing.proofs.scan.two_digits.Statement.{statement}
 use Rattle.parsing.proofs.scan.two_digits.Tie as tie
 
-digit-requires : tie.Need-digit-requires
-digit-requires c κs = search needs
-
 returns : tie.Need-returns
 unfolding twoDigits
 returns c = rw (sym (c .before .digit .ensures) ∙ not-true _ (c .if1 .taken))
-
-digit-requires-2 : tie.Need-digit-requires-2
-digit-requires-2 c κs = search needs
 
 returns-2 : tie.Need-returns-2
 unfolding twoDigits
 returns-2 c = rw (sym (c .before .before .digit .ensures) ∙ not-false _ (c .before .if1 .left)) (c .digit2 .ensures)
 
 pub two-digits-spec : {M : Type 1} → statement M
-two-digits-spec = tie.close (tie.spec digit-requires returns digit-requires-2 returns-2)
+two-digits-spec = tie.close (tie.spec (λ c κs. search needs) returns (λ c κs. search needs) returns-2)

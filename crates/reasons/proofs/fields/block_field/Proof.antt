@@ -16,12 +16,6 @@ returns-3 c = size-wrong _ _ _ _ (c .before .if3 .taken) (c .if4 .taken)
 returns-4 : tie.Need-returns-4
 returns-4 c = size-passes _ _ _ _ (c .before .if3 .taken) (c .if4 .left)
 
-mul-if6 : tie.Need-mul-if6
-mul-if6 c = search needs
-
-add-if6 : tie.Need-add-if6
-add-if6 c = search needs
-
 returns-5 : tie.Need-returns-5
 returns-5 c = length-wrong _ _ _ _ (c .before .if5 .taken) (c .if6 .taken)
 
@@ -34,4 +28,4 @@ returns-7 c = block-none _ _ _ _ (c .before .before .if1 .left) (c .before .if3 
 pub block-field-spec : {M : Type 1} → statement M
 block-field-spec =
     tie.close
-    (tie.spec returns returns-2 returns-3 returns-4 mul-if6 add-if6 returns-5 returns-6 returns-7)
+    (tie.spec returns returns-2 returns-3 returns-4 (λ c. search needs) (λ c. search needs) returns-5 returns-6 returns-7)

@@ -7,20 +7,11 @@ use borrow.Author.Needs.{needs}
 use Rattle.reasons.proofs.fields.date_field.Statement.{statement}
 use Rattle.reasons.proofs.fields.date_field.Tie as tie
 
-year-field-requires : tie.Need-year-field-requires
-year-field-requires c κs = search needs
-
 returns : tie.Need-returns
 returns c = let s = c .before .before in c .year-field .ensures ∙ ap yearField (toZ-ofZ (s .fits .year)) ∙ date-1 _ _ _ _ (c .before .if1 .taken)
 
-month-field-requires : tie.Need-month-field-requires
-month-field-requires c κs = search needs
-
 returns-2 : tie.Need-returns-2
 returns-2 c = let s = c .before .before .before in c .month-field .ensures ∙ ap monthField (toZ-ofZ (s .fits .month)) ∙ date-2 _ _ _ _ (c .before .if2 .taken)
-
-day-field-requires : tie.Need-day-field-requires
-day-field-requires c κs = search needs
 
 returns-3 : tie.Need-returns-3
 returns-3 c = let s = c .before .before .before .before in c .day-field .ensures ∙ (λ i. dayField (toZ-ofZ (s .fits .year) i) (toZ-ofZ (s .fits .month) i) (toZ-ofZ (s .fits .day) i)) ∙ date-3 _ _ _ _ (c .before .if3 .taken)
@@ -32,10 +23,10 @@ pub date-field-spec : {M : Type 1} → statement M
 date-field-spec =
     tie.close
     (tie.spec
-    year-field-requires
+    (λ c κs. search needs)
     returns
-    month-field-requires
+    (λ c κs. search needs)
     returns-2
-    day-field-requires
+    (λ c κs. search needs)
     returns-3
     returns-4)

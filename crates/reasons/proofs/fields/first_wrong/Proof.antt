@@ -10,15 +10,6 @@ returns c = hour-wrong _ _ _ _ (c .if1 .taken)
 returns-2 : tie.Need-returns-2
 returns-2 c = minute-wrong _ _ _ _ (c .before .if1 .left) (c .if2 .taken)
 
-day-fraction-requires : tie.Need-day-fraction-requires
-day-fraction-requires c κs = search needs
-
-enum-told : tie.Need-enum-told
-enum-told c = search needs
-
-enum-told-2 : tie.Need-enum-told-2
-enum-told-2 c = search needs
-
 returns-3 : tie.Need-returns-3
 returns-3 c = let d = c .before .before in second-wrong _ _ _ _ (d .before .before .if1 .left) (d .before .if2 .left) _ (d .day-fraction .ensures) _ (c .enum-told .given .1)
 
@@ -28,4 +19,4 @@ returns-4 c = let d = c .before .before in time-passes _ _ _ _ (d .before .befor
 pub first-wrong-spec : {M : Type 1} → statement M
 first-wrong-spec =
     tie.close
-    (tie.spec returns returns-2 day-fraction-requires enum-told enum-told-2 returns-3 returns-4)
+    (tie.spec returns returns-2 (λ c κs. search needs) (λ c. search needs) (λ c. search needs) returns-3 returns-4)

@@ -16,9 +16,6 @@ returns-2 : tie.Need-returns-2
 unfolding ofBits
 returns-2 c = ⊎-elim (λ w. fraction-high _ _ (c .before .if1 .taken) (w .0 .taken) (w .1 .left)) (λ w. fraction-low _ _ (c .before .if1 .taken) (w .left)) (c .if2 .came)
 
-is-finite-requires : tie.Need-is-finite-requires
-is-finite-requires c κs = search needs
-
 returns-3 : tie.Need-returns-3
 returns-3 c = let i = c .before in offset-bad _ _ (i .before .if4 .taken) (sym (i .is-finite .ensures) ∙ not-true _ (c .if5 .taken))
 
@@ -30,4 +27,4 @@ returns-5 c = float-none _ _ (c .before .if1 .left) (c .if4 .left)
 
 pub float-field-spec : {M : Type 1} → statement M
 float-field-spec =
-    tie.close (tie.spec returns returns-2 is-finite-requires returns-3 returns-4 returns-5)
+    tie.close (tie.spec returns returns-2 (λ c κs. search needs) returns-3 returns-4 returns-5)

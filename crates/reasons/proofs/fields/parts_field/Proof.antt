@@ -5,14 +5,8 @@ use borrow.Author.Needs.{needs}
 use Rattle.reasons.proofs.fields.parts_field.Statement.{statement}
 use Rattle.reasons.proofs.fields.parts_field.Tie as tie
 
-sum-field-requires : tie.Need-sum-field-requires
-sum-field-requires c κs = search needs
-
 returns : tie.Need-returns
 returns c = c .sum-field .ensures ∙ parts-6 _ _ _ (c .before .if1 .taken)
-
-part-field-requires : tie.Need-part-field-requires
-part-field-requires c κs = search needs
 
 returns-2 : tie.Need-returns-2
 returns-2 c = c .part-field .ensures ∙ parts-9 _ _ _ (c .before .if2 .taken)
@@ -22,4 +16,4 @@ returns-3 c = parts-none _ _ _ (c .before .if1 .left) (c .if2 .left)
 
 pub parts-field-spec : {M : Type 1} → statement M
 parts-field-spec =
-    tie.close (tie.spec sum-field-requires returns part-field-requires returns-2 returns-3)
+    tie.close (tie.spec (λ c κs. search needs) returns (λ c κs. search needs) returns-2 returns-3)

@@ -4,9 +4,6 @@ use borrow.Author.Needs.{needs}
 use Rattle.reasons.proofs.fields.time_field.Statement.{statement}
 use Rattle.reasons.proofs.fields.time_field.Tie as tie
 
-first-wrong-requires : tie.Need-first-wrong-requires
-first-wrong-requires c κs = search needs
-
 returns : tie.Need-returns
 returns c = rw (eq-eqb (c .before .before .args .number) 4 (c .before .if1 .taken)) (c .first-wrong .ensures)
 
@@ -14,4 +11,4 @@ returns-2 : tie.Need-returns-2
 returns-2 c = rw (ne-eqb (c .before .args .number) 4 (c .if1 .left))
 
 pub time-field-spec : {M : Type 1} → statement M
-time-field-spec = tie.close (tie.spec first-wrong-requires returns returns-2)
+time-field-spec = tie.close (tie.spec (λ c κs. search needs) returns returns-2)

@@ -6,15 +6,6 @@ use borrow.Author.Needs.{needs}
 use Rattle.reasons.proofs.sentences.compose.Statement.{statement}
 use Rattle.reasons.proofs.sentences.compose.Tie as tie
 
-text-requires : tie.Need-text-requires
-text-requires c κs = search needs
-
-named-requires : tie.Need-named-requires
-named-requires c κs = search needs
-
-same-length : tie.Need-same-length
-same-length c = search needs
-
 returns : tie.Need-returns
 unfolding render
 returns c =
@@ -27,7 +18,7 @@ pub compose-spec : {M : Type 1} → statement M
 compose-spec =
     tie.close
     (tie.spec
-    text-requires
-    named-requires
-    same-length
+    (λ c κs. search needs)
+    (λ c κs. search needs)
+    (λ c. search needs)
     returns)

@@ -9,20 +9,11 @@ use borrow.Author.Needs.{needs}
 use Rattle.reasons.proofs.sentences.put_sentence.Statement.{statement}
 use Rattle.reasons.proofs.sentences.put_sentence.Tie as tie
 
-slice-aggregate-compose : tie.Need-slice-aggregate-compose
-slice-aggregate-compose c = search needs
-
-compose-requires : tie.Need-compose-requires
-compose-requires c κs = search needs
-
 returns : tie.Need-returns
 returns c =
     let m = c .before .before in
     let st = m .before .before .before in
     short (render (st .args .reason)) (now (st .args .out)) (omega (arith, c .if1 .taken, m .compose .ensures .0 .ends))
-
-array-share-prefix-all : tie.Need-array-share-prefix-all
-array-share-prefix-all c = search needs
 
 slice-aggregate-copy : tie.Need-slice-aggregate-copy
 slice-aggregate-copy c =
@@ -33,9 +24,6 @@ copy-requires : tie.Need-copy-requires
 copy-requires c κs =
     let p = c .before .before .before .before .compose .ensures .0 in
     omega (arith, ap length (p .says), p .ends, c .before .before .if1 .left)
-
-same-length : tie.Need-same-length
-same-length c = search needs
 
 returns-2 : tie.Need-returns-2
 returns-2 c =
@@ -48,11 +36,11 @@ pub put-sentence-spec : {M : Type 1} → statement M
 put-sentence-spec =
     tie.close
     (tie.spec
-    slice-aggregate-compose
-    compose-requires
+    (λ c. search needs)
+    (λ c κs. search needs)
     returns
-    array-share-prefix-all
+    (λ c. search needs)
     slice-aggregate-copy
     copy-requires
-    same-length
+    (λ c. search needs)
     returns-2)

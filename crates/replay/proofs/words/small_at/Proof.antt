@@ -15,20 +15,8 @@ between : (z : ℤ) → ltZ z (negsuc 2147483647) ≡ false → ltZ (pos 2147483
 between (pos n) low high = record { sfits = omega (arith, ltb-false 2147483647 n high) }
 between (negsuc n) low high = record { sfits = omega (arith, ltb-false 2147483647 n low) }
 
-signed-at-requires : tie.Need-signed-at-requires
-signed-at-requires c κs = search needs
-
-returns : tie.Need-returns
-returns c = search needs
-
-returns-2 : tie.Need-returns-2
-returns-2 c = search needs
-
 cast-result : tie.Need-cast-result
 cast-result c = between _ (c .before .if1 .left) (c .if2 .left)
 
-returns-3 : tie.Need-returns-3
-returns-3 c = search needs
-
 pub small-at-spec : {M : Type 1} → statement M
-small-at-spec = tie.close (tie.spec signed-at-requires returns returns-2 cast-result returns-3)
+small-at-spec = tie.close (tie.spec (λ c κs. search needs) (λ c. search needs) (λ c. search needs) cast-result (λ c. search needs))

@@ -10,11 +10,5 @@ use Rattle.replay.proofs.words.year_word.Tie as tie
 cast-pattern-of-i64 : tie.Need-cast-pattern-of-i64
 cast-pattern-of-i64 c = subst (SFits w64) (sym (toZ-ofZ (c .fits .year))) (sfits-widen tt (c .fits .year))
 
-pattern-of-i64-requires : tie.Need-pattern-of-i64-requires
-pattern-of-i64-requires c κs = search needs
-
-returns : tie.Need-returns
-returns c = search needs
-
 pub year-word-spec : {M : Type 1} → statement M
-year-word-spec = tie.close (tie.spec cast-pattern-of-i64 pattern-of-i64-requires returns)
+year-word-spec = tie.close (tie.spec cast-pattern-of-i64 (λ c κs. search needs) (λ c. search needs))

@@ -20,9 +20,6 @@ returns-4 c = broken-third (c .before .before .before .before .args .kind) (c .b
 returns-5 : tie.Need-returns-5
 returns-5 c = parts-differ (c .before .before .before .before .before .args .kind) (c .before .before .before .before .before .args .size1) (c .before .before .before .before .before .args .size2) (c .before .before .before .before .before .args .size3) (c .before .before .before .before .before .args .room1) (c .before .before .before .before .before .args .room2) (c .before .before .before .before .before .args .room) (c .before .before .before .before .if1 .left) (c .before .before .before .if2 .left) (c .before .before .if3 .left) (c .before .if4 .left) (c .if5 .taken)
 
-size-due-requires : tie.Need-size-due-requires
-size-due-requires c κs = search needs
-
 returns-6 : tie.Need-returns-6
 returns-6 c = offsets-differ (c .before .before .before .before .before .before .before .args .kind) (c .before .before .before .before .before .before .before .args .size1) (c .before .before .before .before .before .before .before .args .size2) (c .before .before .before .before .before .before .before .args .size3) (c .before .before .before .before .before .before .before .args .room1) (c .before .before .before .before .before .before .before .args .room2) (c .before .before .before .before .before .before .before .args .room) (c .before .before .before .before .before .before .if1 .left) (c .before .before .before .before .before .if2 .left) (c .before .before .before .before .if3 .left) (c .before .before .before .if4 .left) (c .before .before .if5 .left) (λ q. c .if6 .taken (q ∙ sym (c .before .size-due .ensures)))
 
@@ -47,7 +44,7 @@ formula-refusal-spec =
     returns-3
     returns-4
     returns-5
-    size-due-requires
+    (λ c κs. search needs)
     returns-6
     returns-7
     returns-8

@@ -5,12 +5,6 @@ use borrow.Author.Needs.{needs}
 use Rattle.runs.proofs.by_formula.formula_run.Statement.{statement}
 use Rattle.runs.proofs.by_formula.formula_run.Tie as tie
 
-formula-of-requires : tie.Need-formula-of-requires
-formula-of-requires c κs = search needs
-
-formula-refusal-requires : tie.Need-formula-refusal-requires
-formula-refusal-requires c κs = search needs
-
 returns : tie.Need-returns
 returns c =
     let a = c .before .before .before .before .before .before .before .before .before .args in
@@ -18,24 +12,12 @@ returns c =
     let q = c .before .formula-refusal in
     run-refused (a .from) (a .to) (a .jd1s .now) (a .jd2s .now) (a .offsets .now) (a .out1 .now) (a .out2 .now) (a .numbers .now) (f .result .kind) (f .result .days) (f .ensures) (q .result) (q .ensures) (c .if1 .taken)
 
-takes-offsets-requires : tie.Need-takes-offsets-requires
-takes-offsets-requires c κs = search needs
-
 offset-all-requires : tie.Need-offset-all-requires
 offset-all-requires c κs =
     let a = c .before .before .before .before .before .before .before .before .before .before .before .before .before .before .before .args in
     let f = c .before .before .before .before .before .before .before .before .formula-of in
     let q = c .before .before .before .before .before .before .before .formula-refusal in
     (roomy (a .from) (a .to) (a .jd1s .now) (a .jd2s .now) (a .offsets .now) (a .out1 .now) (a .out2 .now) (a .numbers .now) (f .result .kind) (f .result .days) (f .ensures) (q .result) (q .ensures) (c .before .before .before .before .before .before .if1 .left), offsets-there (a .from) (a .to) (a .jd1s .now) (a .jd2s .now) (a .offsets .now) (a .out1 .now) (a .out2 .now) (a .numbers .now) (f .result .kind) (f .result .days) (f .ensures) (q .result) (q .ensures) (c .before .before .before .before .before .before .if1 .left) (sym (c .before .before .before .before .before .takes-offsets .ensures) ∙ c .before .before .before .before .if2 .taken))
-
-same-length : tie.Need-same-length
-same-length c = search needs
-
-same-length-2 : tie.Need-same-length-2
-same-length-2 c = search needs
-
-same-length-3 : tie.Need-same-length-3
-same-length-3 c = search needs
 
 returns-2 : tie.Need-returns-2
 returns-2 c =
@@ -51,15 +33,6 @@ shift-all-requires c κs =
     let q = c .before .before .before .before .before .before .before .before .formula-refusal in
     roomy (a .from) (a .to) (a .jd1s .now) (a .jd2s .now) (a .offsets .now) (a .out1 .now) (a .out2 .now) (a .numbers .now) (f .result .kind) (f .result .days) (f .ensures) (q .result) (q .ensures) (c .before .before .before .before .before .before .before .if1 .left)
 
-same-length-4 : tie.Need-same-length-4
-same-length-4 c = search needs
-
-same-length-5 : tie.Need-same-length-5
-same-length-5 c = search needs
-
-same-length-6 : tie.Need-same-length-6
-same-length-6 c = search needs
-
 returns-3 : tie.Need-returns-3
 returns-3 c =
     let a = c .before .before .before .before .before .before .before .before .before .before .before .before .before .before .before .before .before .before .before .before .before .before .before .args in
@@ -74,15 +47,6 @@ change-all-requires c κs =
     let q = c .before .before .before .before .before .before .before .before .formula-refusal in
     roomy (a .from) (a .to) (a .jd1s .now) (a .jd2s .now) (a .offsets .now) (a .out1 .now) (a .out2 .now) (a .numbers .now) (f .result .kind) (f .result .days) (f .ensures) (q .result) (q .ensures) (c .before .before .before .before .before .before .before .if1 .left)
 
-same-length-7 : tie.Need-same-length-7
-same-length-7 c = search needs
-
-same-length-8 : tie.Need-same-length-8
-same-length-8 c = search needs
-
-same-length-9 : tie.Need-same-length-9
-same-length-9 c = search needs
-
 returns-4 : tie.Need-returns-4
 returns-4 c =
     let a = c .before .before .before .before .before .before .before .before .before .before .before .before .before .before .before .before .before .before .before .before .before .before .before .args in
@@ -94,22 +58,22 @@ pub formula-run-spec : {M : Type 1} → statement M
 formula-run-spec =
     tie.close
     (tie.spec
-    formula-of-requires
-    formula-refusal-requires
+    (λ c κs. search needs)
+    (λ c κs. search needs)
     returns
-    takes-offsets-requires
+    (λ c κs. search needs)
     offset-all-requires
-    same-length
-    same-length-2
-    same-length-3
+    (λ c. search needs)
+    (λ c. search needs)
+    (λ c. search needs)
     returns-2
     shift-all-requires
-    same-length-4
-    same-length-5
-    same-length-6
+    (λ c. search needs)
+    (λ c. search needs)
+    (λ c. search needs)
     returns-3
     change-all-requires
-    same-length-7
-    same-length-8
-    same-length-9
+    (λ c. search needs)
+    (λ c. search needs)
+    (λ c. search needs)
     returns-4)

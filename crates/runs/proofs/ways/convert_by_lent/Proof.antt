@@ -6,16 +6,10 @@ use borrow.Author.Needs.{needs}
 use Rattle.runs.proofs.ways.convert_by_lent.Statement.{statement}
 use Rattle.runs.proofs.ways.convert_by_lent.Tie as tie
 
-finite-jd-requires : tie.Need-finite-jd-requires
-finite-jd-requires c κs = search needs
-
 returns : tie.Need-returns
 returns c =
     let a = c .before .before .args in
     c .finite-jd .ensures ∙ way-same (rowsIn (a .size) (a .months .now) (a .seconds .now)) (a .from) (a .to) (a .jd) (c .before .if1 .taken)
-
-between-requires : tie.Need-between-requires
-between-requires c κs = search needs
 
 returns-2 : tie.Need-returns-2
 returns-2 c =
@@ -23,4 +17,4 @@ returns-2 c =
     c .between .ensures ∙ way-between (rowsIn (a .size) (a .months .now) (a .seconds .now)) (a .from) (a .to) (a .jd) (c .before .if1 .left)
 
 pub convert-by-lent-spec : {M : Type 1} → statement M
-convert-by-lent-spec = tie.close (tie.spec finite-jd-requires returns between-requires returns-2)
+convert-by-lent-spec = tie.close (tie.spec (λ c κs. search needs) returns (λ c κs. search needs) returns-2)

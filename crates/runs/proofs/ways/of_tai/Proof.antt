@@ -6,12 +6,6 @@ use borrow.Author.Needs.{needs}
 use Rattle.runs.proofs.ways.of_tai.Statement.{statement}
 use Rattle.runs.proofs.ways.of_tai.Tie as tie
 
-enum-known-a : tie.Need-enum-known-a
-enum-known-a c = search needs
-
-enum-known-a-2 : tie.Need-enum-known-a-2
-enum-known-a-2 c = search needs
-
 returns : tie.Need-returns
 unfolding taiOutcome julianOutcome
 returns c = sym (ap taiOutcome (c .before .before .a .given .1))
@@ -21,4 +15,4 @@ unfolding taiOutcome julianOutcome
 returns-2 c = sym (ap taiOutcome (c .before .a2 .given .1))
 
 pub of-tai-spec : {M : Type 1} → statement M
-of-tai-spec = tie.close (tie.spec enum-known-a enum-known-a-2 returns returns-2)
+of-tai-spec = tie.close (tie.spec (λ c. search needs) (λ c. search needs) returns returns-2)

@@ -8,18 +8,6 @@ use borrow.Author.Needs.{needs}
 use Rattle.runs.proofs.ways.through_tai.Statement.{statement}
 use Rattle.runs.proofs.ways.through_tai.Tie as tie
 
-into-tai-requires : tie.Need-into-tai-requires
-into-tai-requires c κs = search needs
-
-enum-known-n : tie.Need-enum-known-n
-enum-known-n c = search needs
-
-enum-known-tai : tie.Need-enum-known-tai
-enum-known-tai c = search needs
-
-out-of-tai-requires : tie.Need-out-of-tai-requires
-out-of-tai-requires c κs = search needs
-
 returns : tie.Need-returns
 unfolding julianOutcome
 returns c =
@@ -33,4 +21,4 @@ returns-2 c =
     c .out-of-tai .ensures ∙ sym (went (outOfTai (rowsIn (a .size) (a .months .now) (a .seconds .now)) (a .to)) (sym (c .before .before .before .before .into-tai .ensures) ∙ ap julianOutcome (c .before .before .tai .given .1)))
 
 pub through-tai-spec : {M : Type 1} → statement M
-through-tai-spec = tie.close (tie.spec into-tai-requires enum-known-n enum-known-tai out-of-tai-requires returns returns-2)
+through-tai-spec = tie.close (tie.spec (λ c κs. search needs) (λ c. search needs) (λ c. search needs) (λ c κs. search needs) returns returns-2)

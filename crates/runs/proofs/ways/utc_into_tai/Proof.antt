@@ -17,15 +17,6 @@ called v =
     let a = v .before .args in
     ap forget (v .utc-to-tai-by-lent .ensures) ∙ utc-to-tai-forgets (rowsIn (a .size) (a .months .now) (a .seconds .now)) (a .jd)
 
-utc-to-tai-by-lent-requires : tie.Need-utc-to-tai-by-lent-requires
-utc-to-tai-by-lent-requires c κs = search needs
-
-enum-known-n : tie.Need-enum-known-n
-enum-known-n c = search needs
-
-enum-known-tai : tie.Need-enum-known-tai
-enum-known-tai c = search needs
-
 returns : tie.Need-returns
 unfolding julianOutcome taiByRuleOutcome forget onward
 returns c = ap (λ (x : TaiByRule). forget (taiByRuleOutcome x)) (sym (c .before .n .given .1)) ∙ called (c .before .before .before)
@@ -36,4 +27,4 @@ returns-2 c = ap (λ (x : TaiByRule). forget (taiByRuleOutcome x)) (sym (c .befo
 
 pub utc-into-tai-spec : {M : Type 1} → statement M
 utc-into-tai-spec =
-    tie.close (tie.spec utc-to-tai-by-lent-requires enum-known-n enum-known-tai returns returns-2)
+    tie.close (tie.spec (λ c κs. search needs) (λ c. search needs) (λ c. search needs) returns returns-2)

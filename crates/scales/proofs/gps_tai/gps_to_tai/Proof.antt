@@ -7,18 +7,6 @@ use Rattle.scales.proofs.gps_tai.gps_to_tai.Statement.{statement}
 use Rattle.scales.proofs.gps_tai.gps_to_tai.Tie as tie
 use Rattle.julian.specs.shifts.Shifts.{plus, converted}
 
-finite-jd-requires : tie.Need-finite-jd-requires
-finite-jd-requires c κs = search needs
-
-gps-days-requires : tie.Need-gps-days-requires
-gps-days-requires c κs = search needs
-
-later-requires : tie.Need-later-requires
-later-requires c κs = search needs
-
-tai-answer-requires : tie.Need-tai-answer-requires
-tai-answer-requires c κs = search needs
-
 returns : tie.Need-returns
 unfolding answerOf converted
 returns c = c .tai-answer .ensures ∙ c .before .later .ensures ∙ moved-alike plus (c .before .before .before .finite-jd .ensures) (c .before .before .gps-days .ensures)
@@ -26,4 +14,4 @@ returns c = c .tai-answer .ensures ∙ c .before .later .ensures ∙ moved-alike
 pub gps-to-tai-spec : {M : Type 1} → statement M
 gps-to-tai-spec =
     tie.close
-    (tie.spec finite-jd-requires gps-days-requires later-requires tai-answer-requires returns)
+    (tie.spec (λ c κs. search needs) (λ c κs. search needs) (λ c κs. search needs) (λ c κs. search needs) returns)

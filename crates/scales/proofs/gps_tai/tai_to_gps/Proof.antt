@@ -7,18 +7,6 @@ use Rattle.scales.proofs.gps_tai.tai_to_gps.Statement.{statement}
 use Rattle.scales.proofs.gps_tai.tai_to_gps.Tie as tie
 use Rattle.julian.specs.shifts.Shifts.{minus, converted}
 
-finite-jd-requires : tie.Need-finite-jd-requires
-finite-jd-requires c κs = search needs
-
-gps-days-requires : tie.Need-gps-days-requires
-gps-days-requires c κs = search needs
-
-earlier-requires : tie.Need-earlier-requires
-earlier-requires c κs = search needs
-
-gps-answer-requires : tie.Need-gps-answer-requires
-gps-answer-requires c κs = search needs
-
 returns : tie.Need-returns
 unfolding answerOf converted
 returns c = c .gps-answer .ensures ∙ c .before .earlier .ensures ∙ moved-alike minus (c .before .before .before .finite-jd .ensures) (c .before .before .gps-days .ensures)
@@ -26,4 +14,4 @@ returns c = c .gps-answer .ensures ∙ c .before .earlier .ensures ∙ moved-ali
 pub tai-to-gps-spec : {M : Type 1} → statement M
 tai-to-gps-spec =
     tie.close
-    (tie.spec finite-jd-requires gps-days-requires earlier-requires gps-answer-requires returns)
+    (tie.spec (λ c κs. search needs) (λ c κs. search needs) (λ c κs. search needs) (λ c κs. search needs) returns)

@@ -9,15 +9,6 @@ returns : tie.Need-returns
 unfolding fullOutcome byDistance
 returns c = rw (eq-eqb _ _ (c .if1 .taken))
 
-sub-t6 : tie.Need-sub-t6
-sub-t6 c = search needs
-
-sub-t7 : tie.Need-sub-t7
-sub-t7 c = search needs
-
-add-t8 : tie.Need-add-t8
-add-t8 c = search needs
-
 returns-2 : tie.Need-returns-2
 unfolding fullOutcome byDistance
 returns-2 c = rw (ne-eqb _ _ (c .before .if1 .left), lt-ltb _ _ (c .if2 .taken))
@@ -27,4 +18,4 @@ unfolding fullOutcome byDistance
 returns-3 c = rw (ne-eqb _ _ (c .before .if1 .left), le-ltb _ _ (c .if2 .left))
 
 pub by-distance-spec : {M : Type 1} → statement M
-by-distance-spec = tie.close (tie.spec returns sub-t6 sub-t7 add-t8 returns-2 returns-3)
+by-distance-spec = tie.close (tie.spec returns (λ c. search needs) (λ c. search needs) (λ c. search needs) returns-2 returns-3)

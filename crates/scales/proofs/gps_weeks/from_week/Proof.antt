@@ -14,24 +14,9 @@ returns-2 : tie.Need-returns-2
 unfolding gpsOutcome weekDate
 returns-2 c = rw (le-leb _ _ (c .before .if1 .left), le-ltb _ _ (c .if2 .taken))
 
-mul-midnight-of : tie.Need-mul-midnight-of
-mul-midnight-of c = search needs
-
-add-midnight-of : tie.Need-add-midnight-of
-add-midnight-of c = search needs
-
-add-midnight-of-2 : tie.Need-add-midnight-of-2
-add-midnight-of-2 c = search needs
-
-midnight-of-requires : tie.Need-midnight-of-requires
-midnight-of-requires c κs = search needs
-
-part-of-day-requires : tie.Need-part-of-day-requires
-part-of-day-requires c κs = search needs
-
 returns-3 : tie.Need-returns-3
 unfolding gpsOutcome weekDate
 returns-3 c = rw (le-leb _ _ (c .before .before .before .if1 .left), lt-ltb _ _ (c .before .before .if2 .left), c .before .midnight-of .ensures, c .part-of-day .ensures)
 
 pub from-week-spec : {M : Type 1} → statement M
-from-week-spec = tie.close (tie.spec returns returns-2 mul-midnight-of add-midnight-of add-midnight-of-2 midnight-of-requires part-of-day-requires returns-3)
+from-week-spec = tie.close (tie.spec returns returns-2 (λ c. search needs) (λ c. search needs) (λ c. search needs) (λ c κs. search needs) (λ c κs. search needs) returns-3)

@@ -18,12 +18,9 @@ returns-3 : tie.Need-returns-3
 unfolding fullOutcome fullWeek
 returns-3 c = rw (lt-leb _ _ (c .before .before .if1 .left), le-ltb _ _ (c .before .if2 .left), lt-ltb _ _ (c .if3 .taken))
 
-by-distance-requires : tie.Need-by-distance-requires
-by-distance-requires c κs = search needs
-
 returns-4 : tie.Need-returns-4
 unfolding fullWeek
 returns-4 c = c .by-distance .ensures ∙ rw (lt-leb _ _ (c .before .before .before .if1 .left), le-ltb _ _ (c .before .before .if2 .left), le-ltb _ _ (c .before .if3 .left))
 
 pub full-week-spec : {M : Type 1} → statement M
-full-week-spec = tie.close (tie.spec returns returns-2 returns-3 by-distance-requires returns-4)
+full-week-spec = tie.close (tie.spec returns returns-2 returns-3 (λ c κs. search needs) returns-4)

@@ -6,12 +6,9 @@ use Rattle.scales.proofs.gps_weeks.Parts.{midnight-is}
 use Rattle.scales.proofs.gps_weeks.midnight_of.Statement.{statement}
 use Rattle.scales.proofs.gps_weeks.midnight_of.Tie as tie
 
-int-to-float-result : tie.Need-int-to-float-result
-int-to-float-result c = search needs
-
 returns : tie.Need-returns
 unfolding ofBits
 returns c = midnight-is (c .before .args .day) (search needs) (omega arith)
 
 pub midnight-of-spec : {M : Type 1} → statement M
-midnight-of-spec = tie.close (tie.spec int-to-float-result returns)
+midnight-of-spec = tie.close (tie.spec (λ c. search needs) returns)

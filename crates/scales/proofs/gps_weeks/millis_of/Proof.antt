@@ -18,9 +18,6 @@ is : (c : tie.After-round) → fromZero (toSigned 63 (c .round .result)) ≡ day
 unfolding dayMillis productOf
 is c = ap (λ (x : Float). fromZero (toSigned 63 x)) (c .round .ensures ∙ ap (λ (x : Float). toWhole away (mul binary64 (c .before .args .fraction) x)) day-millis)
 
-round-requires : tie.Need-round-requires
-round-requires c κs = search needs
-
 truncating-f64-to-u64-requires : tie.Need-truncating-f64-to-u64-requires
 unfolding ofBits
 truncating-f64-to-u64-requires c κs = in-cast _ (c .before .if1 .taken) (c .if2 .taken)
@@ -31,12 +28,6 @@ returns c =
     let s = short-cast (c .before .before .before .round .result) (c .before .if2 .taken) (c .truncating-f64-to-u64 .result) (c .truncating-f64-to-u64 .ensures) in
     (s .0 ∙ is (c .before .before .before), s .1)
 
-saturating-i64-requires : tie.Need-saturating-i64-requires
-saturating-i64-requires c κs = search needs
-
-from-zero-requires : tie.Need-from-zero-requires
-from-zero-requires c κs = search needs
-
 returns-2 : tie.Need-returns-2
 returns-2 c =
     let s = c .before in
@@ -46,4 +37,4 @@ returns-2 c =
     )
 
 pub millis-of-spec : {M : Type 1} → statement M
-millis-of-spec = tie.close (tie.spec round-requires truncating-f64-to-u64-requires returns saturating-i64-requires from-zero-requires returns-2)
+millis-of-spec = tie.close (tie.spec (λ c κs. search needs) truncating-f64-to-u64-requires returns (λ c κs. search needs) (λ c κs. search needs) returns-2)

@@ -8,11 +8,8 @@ use Rattle.scales.proofs.gps_weeks.Parts.{day-millis, part-is}
 use Rattle.scales.proofs.gps_weeks.part_of_day.Statement.{statement}
 use Rattle.scales.proofs.gps_weeks.part_of_day.Tie as tie
 
-int-to-float-result : tie.Need-int-to-float-result
-int-to-float-result c = search needs
-
 returns : tie.Need-returns
 returns c = ap (λ (x : Float). div binary64 (ofInt binary64 (pos (c .before .args .millis))) x) day-millis ∙ part-is (c .before .args .millis) (omega arith)
 
 pub part-of-day-spec : {M : Type 1} → statement M
-part-of-day-spec = tie.close (tie.spec int-to-float-result returns)
+part-of-day-spec = tie.close (tie.spec (λ c. search needs) returns)

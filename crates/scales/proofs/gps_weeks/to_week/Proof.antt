@@ -8,18 +8,6 @@ use Rattle.scales.specs.gps_weeks.WeekOf.{weekOutcome, weekOf}
 use Rattle.scales.proofs.gps_weeks.to_week.Statement.{statement}
 use Rattle.scales.proofs.gps_weeks.to_week.Tie as tie
 
-finite-jd-requires : tie.Need-finite-jd-requires
-finite-jd-requires c κs = search needs
-
-enum-known-number : tie.Need-enum-known-number
-enum-known-number c = search needs
-
-enum-known-jd : tie.Need-enum-known-jd
-enum-known-jd c = search needs
-
-week-of-parts-requires : tie.Need-week-of-parts-requires
-week-of-parts-requires c κs = search needs
-
 returns : tie.Need-returns
 unfolding weekOutcome weekOf julianOutcome onward
 returns c =
@@ -38,9 +26,9 @@ pub to-week-spec : {M : Type 1} → statement M
 to-week-spec =
     tie.close
     (tie.spec
-    finite-jd-requires
-    enum-known-number
-    enum-known-jd
-    week-of-parts-requires
+    (λ c κs. search needs)
+    (λ c. search needs)
+    (λ c. search needs)
+    (λ c κs. search needs)
     returns
     returns-2)

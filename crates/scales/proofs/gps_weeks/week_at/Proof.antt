@@ -9,30 +9,9 @@ returns : tie.Need-returns
 unfolding weekOutcome weekAt
 returns c = rw (lt-ltb _ _ (c .if1 .taken))
 
-cast-week : tie.Need-cast-week
-cast-week c = search needs
-
-div-week : tie.Need-div-week
-div-week c = search needs
-
-cast-if2 : tie.Need-cast-if2
-cast-if2 c = search needs
-
 returns-2 : tie.Need-returns-2
 unfolding weekOutcome weekAt
 returns-2 c = rw (le-ltb _ _ (c .before .if1 .left), lt-leb _ _ (c .if2 .taken))
-
-cast-millis : tie.Need-cast-millis
-cast-millis c = search needs
-
-rem-millis : tie.Need-rem-millis
-rem-millis c = search needs
-
-cast-t7 : tie.Need-cast-t7
-cast-t7 c = search needs
-
-cast-t8 : tie.Need-cast-t8
-cast-t8 c = search needs
 
 returns-3 : tie.Need-returns-3
 unfolding weekOutcome weekAt
@@ -43,12 +22,12 @@ week-at-spec =
     tie.close
     (tie.spec
     returns
-    cast-week
-    div-week
-    cast-if2
+    (λ c. search needs)
+    (λ c. search needs)
+    (λ c. search needs)
     returns-2
-    cast-millis
-    rem-millis
-    cast-t7
-    cast-t8
+    (λ c. search needs)
+    (λ c. search needs)
+    (λ c. search needs)
+    (λ c. search needs)
     returns-3)

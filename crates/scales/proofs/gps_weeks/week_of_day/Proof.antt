@@ -41,27 +41,9 @@ returns : tie.Need-returns
 unfolding weekOutcome
 returns c = before-day-0 _ _ (subst (λ (x : ℤ). ltZ x (pos 0) ≡ true) (toZ-ofZ {w = w64} (c .before .fits .day)) (c .if1 .taken))
 
-from-zero-requires : tie.Need-from-zero-requires
-from-zero-requires c κs = search needs
-
 returns-2 : tie.Need-returns-2
 unfolding weekOutcome
 returns-2 c = past-all _ _ (c .before .from-zero .result) _ _ (toZ-ofZ {w = w64} (c .before .before .before .fits .day)) (c .before .before .if1 .left) (c .before .from-zero .ensures) refl (c .if2 .taken)
-
-cast-week-at : tie.Need-cast-week-at
-cast-week-at c = search needs
-
-mul-week-at : tie.Need-mul-week-at
-mul-week-at c = search needs
-
-millis-of-requires : tie.Need-millis-of-requires
-millis-of-requires c κs = search needs
-
-add-week-at : tie.Need-add-week-at
-add-week-at c = search needs
-
-week-at-requires : tie.Need-week-at-requires
-week-at-requires c κs = search needs
 
 returns-3 : tie.Need-returns-3
 returns-3 c =
@@ -74,11 +56,11 @@ week-of-day-spec =
     tie.close
     (tie.spec
     returns
-    from-zero-requires
+    (λ c κs. search needs)
     returns-2
-    cast-week-at
-    mul-week-at
-    millis-of-requires
-    add-week-at
-    week-at-requires
+    (λ c. search needs)
+    (λ c. search needs)
+    (λ c κs. search needs)
+    (λ c. search needs)
+    (λ c κs. search needs)
     returns-3)

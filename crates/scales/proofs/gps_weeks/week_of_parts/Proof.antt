@@ -10,18 +10,6 @@ use Rattle.scales.specs.gps_weeks.WeekOf.{weekOutcome}
 use Rattle.scales.proofs.gps_weeks.week_of_parts.Statement.{statement}
 use Rattle.scales.proofs.gps_weeks.week_of_parts.Tie as tie
 
-day-number-and-fraction-requires : tie.Need-day-number-and-fraction-requires
-day-number-and-fraction-requires c κs = search needs
-
-enum-known-number : tie.Need-enum-known-number
-enum-known-number c = search needs
-
-enum-known-found : tie.Need-enum-known-found
-enum-known-found c = search needs
-
-week-of-day-requires : tie.Need-week-of-day-requires
-week-of-day-requires c κs = search needs
-
 returns : tie.Need-returns
 unfolding weekOutcome dayOutcome onward
 returns c =
@@ -44,9 +32,9 @@ pub week-of-parts-spec : {M : Type 1} → statement M
 week-of-parts-spec =
     tie.close
     (tie.spec
-    day-number-and-fraction-requires
-    enum-known-number
-    enum-known-found
-    week-of-day-requires
+    (λ c κs. search needs)
+    (λ c. search needs)
+    (λ c. search needs)
+    (λ c κs. search needs)
     returns
     returns-2)

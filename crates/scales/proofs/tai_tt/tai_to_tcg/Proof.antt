@@ -9,18 +9,6 @@ use Rattle.scales.proofs.tai_tt.tai_to_tcg.Statement.{statement}
 use Rattle.scales.proofs.tai_tt.tai_to_tcg.Tie as tie
 use Rattle.julian.specs.shifts.Shifts.{converted}
 
-tai-to-tt-requires : tie.Need-tai-to-tt-requires
-tai-to-tt-requires c κs = search needs
-
-enum-known-tt : tie.Need-enum-known-tt
-enum-known-tt c = search needs
-
-tt-to-tcg-requires : tie.Need-tt-to-tcg-requires
-tt-to-tcg-requires c κs = search needs
-
-enum-known-n : tie.Need-enum-known-n
-enum-known-n c = search needs
-
 returns : tie.Need-returns
 unfolding answerOf ttOutcome
 returns c = c .tt-to-tcg .ensures ∙ sym (went (converted ttToTcg) (sym (c .before .before .before .before .tai-to-tt .ensures) ∙ ap ttOutcome (c .before .before .tt .given .1)))
@@ -32,4 +20,4 @@ returns-2 c = sym (stopped (converted ttToTcg) (sym (c .before .before .before .
 pub tai-to-tcg-spec : {M : Type 1} → statement M
 tai-to-tcg-spec =
     tie.close
-    (tie.spec tai-to-tt-requires enum-known-tt tt-to-tcg-requires enum-known-n returns returns-2)
+    (tie.spec (λ c κs. search needs) (λ c. search needs) (λ c κs. search needs) (λ c. search needs) returns returns-2)

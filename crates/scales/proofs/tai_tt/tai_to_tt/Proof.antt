@@ -7,18 +7,6 @@ use Rattle.scales.proofs.tai_tt.tai_to_tt.Statement.{statement}
 use Rattle.scales.proofs.tai_tt.tai_to_tt.Tie as tie
 use Rattle.julian.specs.shifts.Shifts.{plus, converted}
 
-finite-jd-requires : tie.Need-finite-jd-requires
-finite-jd-requires c κs = search needs
-
-tt-days-requires : tie.Need-tt-days-requires
-tt-days-requires c κs = search needs
-
-later-requires : tie.Need-later-requires
-later-requires c κs = search needs
-
-tt-answer-requires : tie.Need-tt-answer-requires
-tt-answer-requires c κs = search needs
-
 returns : tie.Need-returns
 unfolding answerOf converted
 returns c = c .tt-answer .ensures ∙ c .before .later .ensures ∙ moved-alike plus (c .before .before .before .finite-jd .ensures) (c .before .before .tt-days .ensures)
@@ -26,4 +14,4 @@ returns c = c .tt-answer .ensures ∙ c .before .later .ensures ∙ moved-alike 
 pub tai-to-tt-spec : {M : Type 1} → statement M
 tai-to-tt-spec =
     tie.close
-    (tie.spec finite-jd-requires tt-days-requires later-requires tt-answer-requires returns)
+    (tie.spec (λ c κs. search needs) (λ c κs. search needs) (λ c κs. search needs) (λ c κs. search needs) returns)

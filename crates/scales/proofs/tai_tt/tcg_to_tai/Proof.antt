@@ -9,18 +9,6 @@ use Rattle.scales.proofs.tai_tt.tcg_to_tai.Statement.{statement}
 use Rattle.scales.proofs.tai_tt.tcg_to_tai.Tie as tie
 use Rattle.julian.specs.shifts.Shifts.{minus, converted}
 
-tcg-to-tt-requires : tie.Need-tcg-to-tt-requires
-tcg-to-tt-requires c κs = search needs
-
-enum-known-tt : tie.Need-enum-known-tt
-enum-known-tt c = search needs
-
-tt-to-tai-requires : tie.Need-tt-to-tai-requires
-tt-to-tai-requires c κs = search needs
-
-enum-known-n : tie.Need-enum-known-n
-enum-known-n c = search needs
-
 returns : tie.Need-returns
 unfolding answerOf ttOutcome
 returns c = c .tt-to-tai .ensures ∙ sym (went (converted (minus ttDays)) (sym (c .before .before .before .before .tcg-to-tt .ensures) ∙ ap ttOutcome (c .before .before .tt .given .1)))
@@ -32,4 +20,4 @@ returns-2 c = sym (stopped (converted (minus ttDays)) (sym (c .before .before .b
 pub tcg-to-tai-spec : {M : Type 1} → statement M
 tcg-to-tai-spec =
     tie.close
-    (tie.spec tcg-to-tt-requires enum-known-tt tt-to-tai-requires enum-known-n returns returns-2)
+    (tie.spec (λ c κs. search needs) (λ c. search needs) (λ c κs. search needs) (λ c. search needs) returns returns-2)

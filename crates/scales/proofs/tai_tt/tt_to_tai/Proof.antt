@@ -7,18 +7,6 @@ use Rattle.scales.proofs.tai_tt.tt_to_tai.Statement.{statement}
 use Rattle.scales.proofs.tai_tt.tt_to_tai.Tie as tie
 use Rattle.julian.specs.shifts.Shifts.{minus, converted}
 
-finite-jd-requires : tie.Need-finite-jd-requires
-finite-jd-requires c κs = search needs
-
-tt-days-requires : tie.Need-tt-days-requires
-tt-days-requires c κs = search needs
-
-earlier-requires : tie.Need-earlier-requires
-earlier-requires c κs = search needs
-
-tai-answer-requires : tie.Need-tai-answer-requires
-tai-answer-requires c κs = search needs
-
 returns : tie.Need-returns
 unfolding answerOf converted
 returns c = c .tai-answer .ensures ∙ c .before .earlier .ensures ∙ moved-alike minus (c .before .before .before .finite-jd .ensures) (c .before .before .tt-days .ensures)
@@ -26,4 +14,4 @@ returns c = c .tai-answer .ensures ∙ c .before .earlier .ensures ∙ moved-ali
 pub tt-to-tai-spec : {M : Type 1} → statement M
 tt-to-tai-spec =
     tie.close
-    (tie.spec finite-jd-requires tt-days-requires earlier-requires tai-answer-requires returns)
+    (tie.spec (λ c κs. search needs) (λ c κs. search needs) (λ c κs. search needs) (λ c κs. search needs) returns)

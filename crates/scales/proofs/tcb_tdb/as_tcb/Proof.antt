@@ -7,19 +7,10 @@ use borrow.Author.Needs.{needs}
 use Rattle.scales.proofs.tcb_tdb.as_tcb.Statement.{statement}
 use Rattle.scales.proofs.tcb_tdb.as_tcb.Tie as tie
 
-split-requires : tie.Need-split-requires
-split-requires c κs = search needs
-
-tdb-to-tcb-part-requires : tie.Need-tdb-to-tcb-part-requires
-tdb-to-tcb-part-requires c κs = search needs
-
-put-back-requires : tie.Need-put-back-requires
-put-back-requires c κs = search needs
-
 returns : tie.Need-returns
 unfolding mapSmallerPart
 returns c = c .put-back .ensures ∙ ap (putBack (c .before .before .before .args .jd)) (c .before .tdb-to-tcb-part .ensures ∙ ap (λ (p : Parts). tdbToTcb (p .larger) (p .smaller)) (c .before .before .split .ensures))
 
 pub as-tcb-spec : {M : Type 1} → statement M
 as-tcb-spec =
-    tie.close (tie.spec split-requires tdb-to-tcb-part-requires put-back-requires returns)
+    tie.close (tie.spec (λ c κs. search needs) (λ c κs. search needs) (λ c κs. search needs) returns)

@@ -7,19 +7,10 @@ use borrow.Author.Needs.{needs}
 use Rattle.scales.proofs.tcb_tdb.as_tdb.Statement.{statement}
 use Rattle.scales.proofs.tcb_tdb.as_tdb.Tie as tie
 
-split-requires : tie.Need-split-requires
-split-requires c κs = search needs
-
-tcb-to-tdb-part-requires : tie.Need-tcb-to-tdb-part-requires
-tcb-to-tdb-part-requires c κs = search needs
-
-put-back-requires : tie.Need-put-back-requires
-put-back-requires c κs = search needs
-
 returns : tie.Need-returns
 unfolding mapSmallerPart
 returns c = c .put-back .ensures ∙ ap (putBack (c .before .before .before .args .jd)) (c .before .tcb-to-tdb-part .ensures ∙ ap (λ (p : Parts). tcbToTdb (p .larger) (p .smaller)) (c .before .before .split .ensures))
 
 pub as-tdb-spec : {M : Type 1} → statement M
 as-tdb-spec =
-    tie.close (tie.spec split-requires tcb-to-tdb-part-requires put-back-requires returns)
+    tie.close (tie.spec (λ c κs. search needs) (λ c κs. search needs) (λ c κs. search needs) returns)

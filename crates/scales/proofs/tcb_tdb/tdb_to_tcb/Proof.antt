@@ -11,18 +11,6 @@ use Rattle.scales.proofs.tcb_tdb.tdb_to_tcb.Statement.{statement}
 use Rattle.scales.proofs.tcb_tdb.tdb_to_tcb.Tie as tie
 use Rattle.julian.specs.shifts.Shifts.{changed, converted}
 
-finite-jd-requires : tie.Need-finite-jd-requires
-finite-jd-requires c κs = search needs
-
-enum-known-jd : tie.Need-enum-known-jd
-enum-known-jd c = search needs
-
-as-tcb-requires : tie.Need-as-tcb-requires
-as-tcb-requires c κs = search needs
-
-enum-known-n : tie.Need-enum-known-n
-enum-known-n c = search needs
-
 returns : tie.Need-returns
 unfolding answerOf converted changed tcbOutcome julianOutcome
 returns c = ap answer (c .as-tcb .ensures) ∙ sym (went (changed tdbToTcb) (sym (c .before .before .before .before .finite-jd .ensures) ∙ ap julianOutcome (c .before .before .jd .given .1)))
@@ -34,4 +22,4 @@ returns-2 c = sym (stopped (changed tdbToTcb) (sym (c .before .before .before .f
 pub tdb-to-tcb-spec : {M : Type 1} → statement M
 tdb-to-tcb-spec =
     tie.close
-    (tie.spec finite-jd-requires enum-known-jd as-tcb-requires enum-known-n returns returns-2)
+    (tie.spec (λ c κs. search needs) (λ c. search needs) (λ c κs. search needs) (λ c. search needs) returns returns-2)

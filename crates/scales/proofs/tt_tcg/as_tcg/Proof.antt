@@ -7,18 +7,9 @@ use borrow.Author.Needs.{needs}
 use Rattle.scales.proofs.tt_tcg.as_tcg.Statement.{statement}
 use Rattle.scales.proofs.tt_tcg.as_tcg.Tie as tie
 
-split-requires : tie.Need-split-requires
-split-requires c κs = search needs
-
-tt-to-tcg-part-requires : tie.Need-tt-to-tcg-part-requires
-tt-to-tcg-part-requires c κs = search needs
-
-put-back-requires : tie.Need-put-back-requires
-put-back-requires c κs = search needs
-
 returns : tie.Need-returns
 unfolding mapSmallerPart
 returns c = c .put-back .ensures ∙ ap (putBack (c .before .before .before .args .jd)) (c .before .tt-to-tcg-part .ensures ∙ ap (λ (p : Parts). ttToTcg (p .larger) (p .smaller)) (c .before .before .split .ensures))
 
 pub as-tcg-spec : {M : Type 1} → statement M
-as-tcg-spec = tie.close (tie.spec split-requires tt-to-tcg-part-requires put-back-requires returns)
+as-tcg-spec = tie.close (tie.spec (λ c κs. search needs) (λ c κs. search needs) (λ c κs. search needs) returns)

@@ -7,18 +7,9 @@ use borrow.Author.Needs.{needs}
 use Rattle.scales.proofs.tt_tcg.as_tt.Statement.{statement}
 use Rattle.scales.proofs.tt_tcg.as_tt.Tie as tie
 
-split-requires : tie.Need-split-requires
-split-requires c κs = search needs
-
-tcg-to-tt-part-requires : tie.Need-tcg-to-tt-part-requires
-tcg-to-tt-part-requires c κs = search needs
-
-put-back-requires : tie.Need-put-back-requires
-put-back-requires c κs = search needs
-
 returns : tie.Need-returns
 unfolding mapSmallerPart
 returns c = c .put-back .ensures ∙ ap (putBack (c .before .before .before .args .jd)) (c .before .tcg-to-tt-part .ensures ∙ ap (λ (p : Parts). tcgToTt (p .larger) (p .smaller)) (c .before .before .split .ensures))
 
 pub as-tt-spec : {M : Type 1} → statement M
-as-tt-spec = tie.close (tie.spec split-requires tcg-to-tt-part-requires put-back-requires returns)
+as-tt-spec = tie.close (tie.spec (λ c κs. search needs) (λ c κs. search needs) (λ c κs. search needs) returns)

@@ -11,18 +11,6 @@ use Rattle.scales.proofs.tt_tcg.tcg_to_tt.Statement.{statement}
 use Rattle.scales.proofs.tt_tcg.tcg_to_tt.Tie as tie
 use Rattle.julian.specs.shifts.Shifts.{changed, converted}
 
-finite-jd-requires : tie.Need-finite-jd-requires
-finite-jd-requires c κs = search needs
-
-enum-known-jd : tie.Need-enum-known-jd
-enum-known-jd c = search needs
-
-as-tt-requires : tie.Need-as-tt-requires
-as-tt-requires c κs = search needs
-
-enum-known-n : tie.Need-enum-known-n
-enum-known-n c = search needs
-
 returns : tie.Need-returns
 unfolding answerOf converted changed ttOutcome julianOutcome
 returns c = ap answer (c .as-tt .ensures) ∙ sym (went (changed tcgToTt) (sym (c .before .before .before .before .finite-jd .ensures) ∙ ap julianOutcome (c .before .before .jd .given .1)))
@@ -34,4 +22,4 @@ returns-2 c = sym (stopped (changed tcgToTt) (sym (c .before .before .before .fi
 pub tcg-to-tt-spec : {M : Type 1} → statement M
 tcg-to-tt-spec =
     tie.close
-    (tie.spec finite-jd-requires enum-known-jd as-tt-requires enum-known-n returns returns-2)
+    (tie.spec (λ c κs. search needs) (λ c. search needs) (λ c κs. search needs) (λ c. search needs) returns returns-2)

@@ -11,18 +11,6 @@ use Rattle.scales.proofs.tt_tcg.tt_to_tcg.Statement.{statement}
 use Rattle.scales.proofs.tt_tcg.tt_to_tcg.Tie as tie
 use Rattle.julian.specs.shifts.Shifts.{changed, converted}
 
-finite-jd-requires : tie.Need-finite-jd-requires
-finite-jd-requires c κs = search needs
-
-enum-known-jd : tie.Need-enum-known-jd
-enum-known-jd c = search needs
-
-as-tcg-requires : tie.Need-as-tcg-requires
-as-tcg-requires c κs = search needs
-
-enum-known-n : tie.Need-enum-known-n
-enum-known-n c = search needs
-
 returns : tie.Need-returns
 unfolding answerOf converted changed tcgOutcome julianOutcome
 returns c = ap answer (c .as-tcg .ensures) ∙ sym (went (changed ttToTcg) (sym (c .before .before .before .before .finite-jd .ensures) ∙ ap julianOutcome (c .before .before .jd .given .1)))
@@ -34,4 +22,4 @@ returns-2 c = sym (stopped (changed ttToTcg) (sym (c .before .before .before .fi
 pub tt-to-tcg-spec : {M : Type 1} → statement M
 tt-to-tcg-spec =
     tie.close
-    (tie.spec finite-jd-requires enum-known-jd as-tcg-requires enum-known-n returns returns-2)
+    (tie.spec (λ c κs. search needs) (λ c. search needs) (λ c κs. search needs) (λ c. search needs) returns returns-2)

@@ -5,15 +5,9 @@ use borrow.Author.Needs.{needs}
 use Rattle.scales.proofs.tt_tdb.tdb_to_tt_with_offset.Statement.{statement}
 use Rattle.scales.proofs.tt_tdb.tdb_to_tt_with_offset.Tie as tie
 
-earlier-by-requires : tie.Need-earlier-by-requires
-earlier-by-requires c κs = search needs
-
-tt-answer-requires : tie.Need-tt-answer-requires
-tt-answer-requires c κs = search needs
-
 returns : tie.Need-returns
 unfolding answerOf
 returns c = c .tt-answer .ensures ∙ c .before .earlier-by .ensures
 
 pub tdb-to-tt-with-offset-spec : {M : Type 1} → statement M
-tdb-to-tt-with-offset-spec = tie.close (tie.spec earlier-by-requires tt-answer-requires returns)
+tdb-to-tt-with-offset-spec = tie.close (tie.spec (λ c κs. search needs) (λ c κs. search needs) returns)

@@ -5,15 +5,9 @@ use borrow.Author.Needs.{needs}
 use Rattle.scales.proofs.tt_tdb.tt_to_tdb_with_offset.Statement.{statement}
 use Rattle.scales.proofs.tt_tdb.tt_to_tdb_with_offset.Tie as tie
 
-later-by-requires : tie.Need-later-by-requires
-later-by-requires c κs = search needs
-
-tdb-answer-requires : tie.Need-tdb-answer-requires
-tdb-answer-requires c κs = search needs
-
 returns : tie.Need-returns
 unfolding answerOf
 returns c = c .tdb-answer .ensures ∙ c .before .later-by .ensures
 
 pub tt-to-tdb-with-offset-spec : {M : Type 1} → statement M
-tt-to-tdb-with-offset-spec = tie.close (tie.spec later-by-requires tdb-answer-requires returns)
+tt-to-tdb-with-offset-spec = tie.close (tie.spec (λ c κs. search needs) (λ c κs. search needs) returns)

@@ -5,15 +5,9 @@ use borrow.Author.Needs.{needs}
 use Rattle.scales.proofs.ut1_tai.tai_to_ut1_with_offset.Statement.{statement}
 use Rattle.scales.proofs.ut1_tai.tai_to_ut1_with_offset.Tie as tie
 
-later-by-requires : tie.Need-later-by-requires
-later-by-requires c κs = search needs
-
-ut1-answer-requires : tie.Need-ut1-answer-requires
-ut1-answer-requires c κs = search needs
-
 returns : tie.Need-returns
 unfolding answerOf
 returns c = c .ut1-answer .ensures ∙ c .before .later-by .ensures
 
 pub tai-to-ut1-with-offset-spec : {M : Type 1} → statement M
-tai-to-ut1-with-offset-spec = tie.close (tie.spec later-by-requires ut1-answer-requires returns)
+tai-to-ut1-with-offset-spec = tie.close (tie.spec (λ c κs. search needs) (λ c κs. search needs) returns)

@@ -5,15 +5,9 @@ use borrow.Author.Needs.{needs}
 use Rattle.scales.proofs.ut1_tai.tt_to_ut1_with_delta_t.Statement.{statement}
 use Rattle.scales.proofs.ut1_tai.tt_to_ut1_with_delta_t.Tie as tie
 
-earlier-by-requires : tie.Need-earlier-by-requires
-earlier-by-requires c κs = search needs
-
-ut1-answer-requires : tie.Need-ut1-answer-requires
-ut1-answer-requires c κs = search needs
-
 returns : tie.Need-returns
 unfolding answerOf
 returns c = c .ut1-answer .ensures ∙ c .before .earlier-by .ensures
 
 pub tt-to-ut1-with-delta-t-spec : {M : Type 1} → statement M
-tt-to-ut1-with-delta-t-spec = tie.close (tie.spec earlier-by-requires ut1-answer-requires returns)
+tt-to-ut1-with-delta-t-spec = tie.close (tie.spec (λ c κs. search needs) (λ c κs. search needs) returns)

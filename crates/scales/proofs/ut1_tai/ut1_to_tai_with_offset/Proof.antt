@@ -5,15 +5,9 @@ use borrow.Author.Needs.{needs}
 use Rattle.scales.proofs.ut1_tai.ut1_to_tai_with_offset.Statement.{statement}
 use Rattle.scales.proofs.ut1_tai.ut1_to_tai_with_offset.Tie as tie
 
-earlier-by-requires : tie.Need-earlier-by-requires
-earlier-by-requires c κs = search needs
-
-tai-answer-requires : tie.Need-tai-answer-requires
-tai-answer-requires c κs = search needs
-
 returns : tie.Need-returns
 unfolding answerOf
 returns c = c .tai-answer .ensures ∙ c .before .earlier-by .ensures
 
 pub ut1-to-tai-with-offset-spec : {M : Type 1} → statement M
-ut1-to-tai-with-offset-spec = tie.close (tie.spec earlier-by-requires tai-answer-requires returns)
+ut1-to-tai-with-offset-spec = tie.close (tie.spec (λ c κs. search needs) (λ c κs. search needs) returns)

@@ -5,12 +5,6 @@ use borrow.Author.Needs.{needs}
 use Rattle.stamps.proofs.listing.line_room.Statement.{statement}
 use Rattle.stamps.proofs.listing.line_room.Tie as tie
 
-enum-told : tie.Need-enum-told
-enum-told c = search needs
-
-enum-told-2 : tie.Need-enum-told-2
-enum-told-2 c = search needs
-
 returns : tie.Need-returns
 unfolding lineRoom
 returns c = sym (ap lineRoom (c .enum-told .given .1))
@@ -20,4 +14,4 @@ unfolding lineRoom
 returns-2 c = sym (ap lineRoom (c .enum-told2 .given .1))
 
 pub line-room-spec : {M : Type 1} → statement M
-line-room-spec = tie.close (tie.spec enum-told enum-told-2 returns returns-2)
+line-room-spec = tie.close (tie.spec (λ c. search needs) (λ c. search needs) returns returns-2)

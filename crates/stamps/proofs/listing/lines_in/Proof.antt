@@ -7,12 +7,6 @@ use borrow.Author.Needs.{needs}
 use Rattle.stamps.proofs.listing.lines_in.Statement.{statement}
 use Rattle.stamps.proofs.listing.lines_in.Tie as tie
 
-enum-told : tie.Need-enum-told
-enum-told c = search needs
-
-enum-known-answer : tie.Need-enum-known-answer
-enum-known-answer c = search needs
-
 add-result : tie.Need-add-result
 unfolding linesIn blockOutcome
 add-result c =
@@ -28,4 +22,4 @@ unfolding linesIn blockOutcome
 returns-2 c = sym (ap (λ a. linesIn (blockOutcome a)) (c .before .answer .given .1))
 
 pub lines-in-spec : {M : Type 1} → statement M
-lines-in-spec = tie.close (tie.spec enum-told enum-known-answer add-result returns returns-2)
+lines-in-spec = tie.close (tie.spec (λ c. search needs) (λ c. search needs) add-result returns returns-2)

@@ -4,20 +4,11 @@ use borrow.Author.Needs.{needs}
 use Rattle.stamps.proofs.listing.next_told_part.Statement.{statement}
 use Rattle.stamps.proofs.listing.next_told_part.Tie as tie
 
-table-refusal-requires : tie.Need-table-refusal-requires
-table-refusal-requires c κs = search needs
-
 returns : tie.Need-returns
 returns c =
     let r = c .before in
     let a = r .before .before .before .args in
     part-refused (a .how) (a .table) (r .table-refusal .result) (r .table-refusal .ensures) _ _ _ (c .if1 .taken)
-
-next-told-part-by-rows-requires : tie.Need-next-told-part-by-rows-requires
-next-told-part-by-rows-requires c κs = search needs
-
-same-length : tie.Need-same-length
-same-length c = search needs
 
 returns-2 : tie.Need-returns-2
 returns-2 c =
@@ -29,4 +20,4 @@ returns-2 c =
 pub next-told-part-spec : {M : Type 1} → statement M
 next-told-part-spec =
     tie.close
-    (tie.spec table-refusal-requires returns next-told-part-by-rows-requires same-length returns-2)
+    (tie.spec (λ c κs. search needs) returns (λ c κs. search needs) (λ c. search needs) returns-2)

@@ -7,26 +7,11 @@ use borrow.Author.Needs.{needs}
 use Rattle.stamps.proofs.listing.one_if_refused.Statement.{statement}
 use Rattle.stamps.proofs.listing.one_if_refused.Tie as tie
 
-surely-shown-requires : tie.Need-surely-shown-requires
-surely-shown-requires c κs = search needs
-
 returns : tie.Need-returns
 returns c =
     let k = c .before .before .struct-known .given in
     let s = c .before .before .before in
     ((λ rows. late-shown rows (s .args .jd) (k .0) (k .1 .0) (late-of _ _ (sym (c .if1 .taken) ∙ c .before .surely-shown .ensures))), omega arith)
-
-day-number-and-fraction-requires : tie.Need-day-number-and-fraction-requires
-day-number-and-fraction-requires c κs = search needs
-
-enum-told : tie.Need-enum-told
-enum-told c = search needs
-
-enum-known-found : tie.Need-enum-known-found
-enum-known-found c = search needs
-
-one-if-early-requires : tie.Need-one-if-early-requires
-one-if-early-requires c κs = search needs
 
 returns-2 : tie.Need-returns-2
 returns-2 c = ((λ rows. day-refused rows (c .before .before .before .before .before .before .args .jd) _ (c .before .before .day-number-and-fraction .ensures) _ (c .enum-told .given .1)), omega arith)
@@ -41,11 +26,11 @@ pub one-if-refused-spec : {M : Type 1} → statement M
 one-if-refused-spec =
     tie.close
     (tie.spec
-    surely-shown-requires
+    (λ c κs. search needs)
     returns
-    day-number-and-fraction-requires
-    enum-told
-    enum-known-found
-    one-if-early-requires
+    (λ c κs. search needs)
+    (λ c. search needs)
+    (λ c. search needs)
+    (λ c κs. search needs)
     returns-2
     returns-3)

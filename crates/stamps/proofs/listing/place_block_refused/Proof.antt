@@ -7,25 +7,10 @@ use borrow.Author.Needs.{needs}
 use Rattle.stamps.proofs.listing.place_block_refused.Statement.{statement}
 use Rattle.stamps.proofs.listing.place_block_refused.Tie as tie
 
-slice-aggregate-bytes : tie.Need-slice-aggregate-bytes
-slice-aggregate-bytes c = search needs
-
 bytes-requires : tie.Need-bytes-requires
 bytes-requires c κs =
     let st = c .before .before .before .before in
     omega (arith, room-low (st .args .how), st .pre .2)
-
-place-block-told-requires : tie.Need-place-block-told-requires
-place-block-told-requires c κs = search needs
-
-slice-aggregate-bytes-2 : tie.Need-slice-aggregate-bytes-2
-slice-aggregate-bytes-2 c = search needs
-
-bytes-requires-2 : tie.Need-bytes-requires-2
-bytes-requires-2 c κs = search needs
-
-same-length : tie.Need-same-length
-same-length c = search needs
 
 returns : tie.Need-returns
 unfolding blockRefused
@@ -40,10 +25,10 @@ pub place-block-refused-spec : {M : Type 1} → statement M
 place-block-refused-spec =
     tie.close
     (tie.spec
-    slice-aggregate-bytes
+    (λ c. search needs)
     bytes-requires
-    place-block-told-requires
-    slice-aggregate-bytes-2
-    bytes-requires-2
-    same-length
+    (λ c κs. search needs)
+    (λ c. search needs)
+    (λ c κs. search needs)
+    (λ c. search needs)
     returns)

@@ -8,17 +8,11 @@ use Rattle.stamps.proofs.Lines.{refused-number, refused-line, stamps-fe
 use Rattle.stamps.proofs.listing.place_line.Statement.{statement}
 use Rattle.stamps.proofs.listing.place_line.Tie as tie
 
-enum-known-answer : tie.Need-enum-known-answer
-enum-known-answer c = search needs
-
 place-block-refused-requires : tie.Need-place-block-refused-requires
 place-block-refused-requires c κs =
     let st = c .before .before .before .before .before .before in
     let k = refused-number (now (st .args .block)) (st .args .line) _ (st .pre .0) _ (c .before .before .answer .given .1) in
     (k .0, k .1, st .pre .2)
-
-enum-known-answer-2 : tie.Need-enum-known-answer-2
-enum-known-answer-2 c = search needs
 
 cast-place-header : tie.Need-cast-place-header
 cast-place-header c =
@@ -35,17 +29,11 @@ place-header-requires c κs =
     let st = c .before .before .before .before .before .before .before .before in
     omega (arith, room-low (st .args .how), st .pre .2)
 
-same-length : tie.Need-same-length
-same-length c = search needs
-
 returns : tie.Need-returns
 returns c =
     let st = c .before .before .before .before .before .before .before .before .before .before .before in
     let p = c .before .before .place-header .ensures in
     (placed-as (header-line (now (st .args .block)) (st .args .line) _ (st .pre .0) _ (c .before .before .before .before .before .before .before .answer2 .given .1) _ _ _ (c .before .before .before .before .before .if1 .taken) (c .before .before .before .before .refused-stamps .ensures _)) (p .0), omega (arith, p .1, room-low (st .args .how)))
-
-sub-place-stamp-line : tie.Need-sub-place-stamp-line
-sub-place-stamp-line c = search needs
 
 place-stamp-line-requires : tie.Need-place-stamp-line-requires
 place-stamp-line-requires c κs =
@@ -54,17 +42,11 @@ place-stamp-line-requires c κs =
     let low = within (now (st .args .block)) (st .args .line) _ (st .pre .0) _ (c .before .before .before .answer2 .given .1) (st .pre .1) in
     search needs
 
-same-length-2 : tie.Need-same-length-2
-same-length-2 c = search needs
-
 returns-2 : tie.Need-returns-2
 returns-2 c =
     let st = c .before .before .before .before .before .before .before .before .before in
     let p = c .before .before .place-block-refused .ensures in
     (placed-as (refused-line (now (st .args .block)) (st .args .line) _ (st .pre .0) _ (c .before .before .before .before .before .answer .given .1) _ _) (p .0), p .1)
-
-same-length-3 : tie.Need-same-length-3
-same-length-3 c = search needs
 
 returns-3 : tie.Need-returns-3
 returns-3 c =
@@ -76,17 +58,17 @@ pub place-line-spec : {M : Type 1} → statement M
 place-line-spec =
     tie.close
     (tie.spec
-    enum-known-answer
+    (λ c. search needs)
     place-block-refused-requires
-    enum-known-answer-2
+    (λ c. search needs)
     cast-place-header
     refused-stamps-requires
     place-header-requires
-    same-length
+    (λ c. search needs)
     returns
-    sub-place-stamp-line
+    (λ c. search needs)
     place-stamp-line-requires
-    same-length-2
+    (λ c. search needs)
     returns-2
-    same-length-3
+    (λ c. search needs)
     returns-3)

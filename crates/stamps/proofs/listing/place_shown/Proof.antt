@@ -17,23 +17,11 @@ sub-to-iso8601-expanded-by-rows c = omega (arith, room-low (c .before .args .how
 part-to-iso8601-expanded-by-rows-start : tie.Need-part-to-iso8601-expanded-by-rows-start
 part-to-iso8601-expanded-by-rows-start c = omega (arith, room-low (c .before .args .how), c .before .pre)
 
-part-to-iso8601-expanded-by-rows-end : tie.Need-part-to-iso8601-expanded-by-rows-end
-part-to-iso8601-expanded-by-rows-end c = search needs
-
-to-iso8601-expanded-by-rows-requires : tie.Need-to-iso8601-expanded-by-rows-requires
-to-iso8601-expanded-by-rows-requires c κs = search needs
-
-enum-known-n : tie.Need-enum-known-n
-enum-known-n c = search needs
-
 add-result : tie.Need-add-result
 add-result c =
     let st = c .before .before .before .before .before .before .before .before in
     let w = text-written (c .before .before .before .before .before .to-iso8601-expanded-by-rows .ensures) (st .args .how) (st .args .jd) _ (c .before .n .given .1) in
     omega (arith, w .0, shown-most (st .args .how) (st .args .jd) _ (brief (rowsOf (st .args .table)) (st .args .jd)), room-high (st .args .how), st .pre, st .good)
-
-enum-known-number : tie.Need-enum-known-number
-enum-known-number c = search needs
 
 place-date-refused-requires : tie.Need-place-date-refused-requires
 place-date-refused-requires c κs =
@@ -42,9 +30,6 @@ place-date-refused-requires c κs =
     let w = text-refused (c .before .before .before .before .before .before .to-iso8601-expanded-by-rows .ensures) _ (c .before .before .number .given .1) (brief (rowsOf (st .args .table)) _) (omega (arith, room, room-low (st .args .how), st .pre)) in
     let k = date-number (rowsOf (st .args .table)) (st .args .jd) _ (w .0) in
     (k .0, k .1, search needs)
-
-same-length : tie.Need-same-length
-same-length c = search needs
 
 returns : tie.Need-returns
 returns c =
@@ -56,9 +41,6 @@ returns c =
       },
       omega (arith, w .0, shown-most (st .args .how) (st .args .jd) _ (brief (rowsOf (st .args .table)) (st .args .jd))),
     )
-
-same-length-2 : tie.Need-same-length-2
-same-length-2 c = search needs
 
 returns-2 : tie.Need-returns-2
 unfolding shown
@@ -75,13 +57,13 @@ place-shown-spec =
     (tie.spec
     sub-to-iso8601-expanded-by-rows
     part-to-iso8601-expanded-by-rows-start
-    part-to-iso8601-expanded-by-rows-end
-    to-iso8601-expanded-by-rows-requires
-    enum-known-n
+    (λ c. search needs)
+    (λ c κs. search needs)
+    (λ c. search needs)
     add-result
-    enum-known-number
+    (λ c. search needs)
     place-date-refused-requires
-    same-length
+    (λ c. search needs)
     returns
-    same-length-2
+    (λ c. search needs)
     returns-2)

@@ -6,40 +6,25 @@ use borrow.Author.Needs.{needs}
 use Rattle.stamps.proofs.listing.place_stamp_line.Statement.{statement}
 use Rattle.stamps.proofs.listing.place_stamp_line.Tie as tie
 
-cast-number : tie.Need-cast-number
-cast-number c = search needs
-
 number-requires : tie.Need-number-requires
 number-requires c κs =
     let st = c .before .before .before in
     omega (arith, room-low (st .args .how), st .pre .2)
-
-slice-aggregate-bytes : tie.Need-slice-aggregate-bytes
-slice-aggregate-bytes c = search needs
 
 bytes-requires : tie.Need-bytes-requires
 bytes-requires c κs =
     let st = c .before .before .before .before .before .before .before .before in
     omega (arith, room-low (st .args .how), st .pre .2, c .before .before .before .before .number .ensures .1)
 
-stamp-at-requires : tie.Need-stamp-at-requires
-stamp-at-requires c κs = search needs
-
 place-shown-requires : tie.Need-place-shown-requires
 place-shown-requires c κs =
     let st = c .before .before .before .before .before .before .before .before .before .before .before .before .before in
     omega (arith, st .pre .2, c .before .before .before .before .before .before .before .before .before .number .ensures .1, c .before .before .before .before .bytes .ensures .ends)
 
-slice-aggregate-bytes-2 : tie.Need-slice-aggregate-bytes-2
-slice-aggregate-bytes-2 c = search needs
-
 bytes-requires-2 : tie.Need-bytes-requires-2
 bytes-requires-2 c κs =
     let st = c .before .before .before .before .before .before .before .before .before .before .before .before .before .before .before .before .before .before in
     omega (arith, st .pre .2, c .before .before .before .before .before .before .before .before .before .before .before .before .before .before .number .ensures .1, c .before .before .before .before .before .before .before .before .before .bytes .ensures .ends, c .before .before .before .before .place-shown .ensures .1)
-
-same-length : tie.Need-same-length
-same-length c = search needs
 
 returns : tie.Need-returns
 returns c =
@@ -54,13 +39,13 @@ pub place-stamp-line-spec : {M : Type 1} → statement M
 place-stamp-line-spec =
     tie.close
     (tie.spec
-    cast-number
+    (λ c. search needs)
     number-requires
-    slice-aggregate-bytes
+    (λ c. search needs)
     bytes-requires
-    stamp-at-requires
+    (λ c κs. search needs)
     place-shown-requires
-    slice-aggregate-bytes-2
+    (λ c. search needs)
     bytes-requires-2
-    same-length
+    (λ c. search needs)
     returns)

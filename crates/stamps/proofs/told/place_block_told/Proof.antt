@@ -7,30 +7,15 @@ use borrow.Author.Needs.{needs}
 use Rattle.stamps.proofs.told.place_block_told.Statement.{statement}
 use Rattle.stamps.proofs.told.place_block_told.Tie as tie
 
-enum-told : tie.Need-enum-told
-enum-told c = search needs
-
 place-number-requires : tie.Need-place-number-requires
 place-number-requires c κs =
     let st = c .before .before .before .before .before in
     omega (arith, numbers-room (st .args .how) (c .before .enum-told .given .1), st .pre .2)
 
-enum-known-how : tie.Need-enum-known-how
-enum-known-how c = search needs
-
-u32-at-requires : tie.Need-u32-at-requires
-u32-at-requires c κs = search needs
-
-u32-at-requires-2 : tie.Need-u32-at-requires-2
-u32-at-requires-2 c κs = search needs
-
 place-sentence-requires : tie.Need-place-sentence-requires
 place-sentence-requires c κs =
     let st = c .before .before .before .before .before .before .before .before in
     (st .pre .0, st .pre .1, block-width _ _ _ (search needs) (search needs) (search needs), omega (arith, sentences-room (st .args .how) _ (c .before .before .before .before .how .given .1), st .pre .2))
-
-same-length : tie.Need-same-length
-same-length c = search needs
 
 returns : tie.Need-returns
 returns c =
@@ -38,9 +23,6 @@ returns c =
     let e = c .before .before .before .before .enum-told .given .1 in
     let p = c .before .before .place-number .ensures in
     (placed-as (numbers-told (st .args .how) e (st .args .number) _) (p .0), omega (arith, p .1, numbers-room (st .args .how) e))
-
-same-length-2 : tie.Need-same-length-2
-same-length-2 c = search needs
 
 returns-2 : tie.Need-returns-2
 returns-2 c =
@@ -54,13 +36,13 @@ pub place-block-told-spec : {M : Type 1} → statement M
 place-block-told-spec =
     tie.close
     (tie.spec
-    enum-told
+    (λ c. search needs)
     place-number-requires
-    enum-known-how
-    u32-at-requires
-    u32-at-requires-2
+    (λ c. search needs)
+    (λ c κs. search needs)
+    (λ c κs. search needs)
     place-sentence-requires
-    same-length
+    (λ c. search needs)
     returns
-    same-length-2
+    (λ c. search needs)
     returns-2)

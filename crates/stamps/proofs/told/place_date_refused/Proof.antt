@@ -9,27 +9,15 @@ use borrow.Author.Needs.{needs}
 use Rattle.stamps.proofs.told.place_date_refused.Statement.{statement}
 use Rattle.stamps.proofs.told.place_date_refused.Tie as tie
 
-enum-told : tie.Need-enum-told
-enum-told c = search needs
-
 place-number-requires : tie.Need-place-number-requires
 place-number-requires c κs =
     let st = c .before .before .before .before in
     omega (arith, numbers-room (st .args .how) (c .before .enum-told .given .1), st .pre .2)
 
-enum-told-2 : tie.Need-enum-told-2
-enum-told-2 c = search needs
-
-refused-values-requires : tie.Need-refused-values-requires
-refused-values-requires c κs = search needs
-
 place-sentence-requires : tie.Need-place-sentence-requires
 place-sentence-requires c κs =
     let st = c .before .before .before .before .before in
     (st .pre .0, st .pre .1, subst OfWidth (sym (c .before .refused-values .ensures)) (refused-wide (st .args .jd)), omega (arith, sentences-room (st .args .how) _ (c .before .before .enum-told2 .given .1), st .pre .2))
-
-same-length : tie.Need-same-length
-same-length c = search needs
 
 returns : tie.Need-returns
 returns c =
@@ -37,9 +25,6 @@ returns c =
     let e = c .before .before .before .before .enum-told .given .1 in
     let p = c .before .before .place-number .ensures in
     (placed-as (numbers-told (st .args .how) e (st .args .number) _) (p .0), omega (arith, p .1, numbers-room (st .args .how) e))
-
-same-length-2 : tie.Need-same-length-2
-same-length-2 c = search needs
 
 returns-2 : tie.Need-returns-2
 returns-2 c =
@@ -52,12 +37,12 @@ pub place-date-refused-spec : {M : Type 1} → statement M
 place-date-refused-spec =
     tie.close
     (tie.spec
-    enum-told
+    (λ c. search needs)
     place-number-requires
-    enum-told-2
-    refused-values-requires
+    (λ c. search needs)
+    (λ c κs. search needs)
     place-sentence-requires
-    same-length
+    (λ c. search needs)
     returns
-    same-length-2
+    (λ c. search needs)
     returns-2)

@@ -5,18 +5,6 @@ use borrow.Author.Needs.{needs}
 use Rattle.stamps.proofs.told.place_number.Statement.{statement}
 use Rattle.stamps.proofs.told.place_number.Tie as tie
 
-slice-aggregate-bytes : tie.Need-slice-aggregate-bytes
-slice-aggregate-bytes c = search needs
-
-bytes-requires : tie.Need-bytes-requires
-bytes-requires c κs = search needs
-
-number-requires : tie.Need-number-requires
-number-requires c κs = search needs
-
-same-length : tie.Need-same-length
-same-length c = search needs
-
 returns : tie.Need-returns
 returns c =
     let pre = c .before .before .before .before .before .before .before .before .before .before .pre in
@@ -26,4 +14,4 @@ returns c =
 
 pub place-number-spec : {M : Type 1} → statement M
 place-number-spec =
-    tie.close (tie.spec slice-aggregate-bytes bytes-requires number-requires same-length returns)
+    tie.close (tie.spec (λ c. search needs) (λ c κs. search needs) (λ c κs. search needs) (λ c. search needs) returns)

@@ -11,32 +11,11 @@ use borrow.Author.Needs.{needs}
 use Rattle.stamps.proofs.told.place_sentence.Statement.{statement}
 use Rattle.stamps.proofs.told.place_sentence.Tie as tie
 
-sub-put-reason : tie.Need-sub-put-reason
-sub-put-reason c = search needs
-
-part-put-reason-start : tie.Need-part-put-reason-start
-part-put-reason-start c = search needs
-
-part-put-reason-end : tie.Need-part-put-reason-end
-part-put-reason-end c = search needs
-
-put-reason-requires : tie.Need-put-reason-requires
-put-reason-requires c κs = search needs
-
-enum-known-n : tie.Need-enum-known-n
-enum-known-n c = search needs
-
 add-result : tie.Need-add-result
 add-result c =
     let st = c .before .before .before .before .before .before .before .before in
     let w = given-written (as-given (st .args .number) (st .args .values) (st .pre .0) (st .pre .1) (c .before .before .before .before .before .put-reason .ensures)) _ (c .before .n .given .1) in
     omega (arith, w .0, reason-short (st .args .number) (st .args .values) (st .pre .2), st .pre .3, st .good)
-
-enum-told : tie.Need-enum-told
-enum-told c = search needs
-
-same-length : tie.Need-same-length
-same-length c = search needs
 
 returns : tie.Need-returns
 returns c =
@@ -49,9 +28,6 @@ returns c =
       omega (arith, w .0, reason-short (st .args .number) (st .args .values) (st .pre .2)),
     )
 
-same-length-2 : tie.Need-same-length-2
-same-length-2 c = search needs
-
 returns-2 : tie.Need-returns-2
 returns-2 c =
     let st = c .before .before .before .before .before .before .before in
@@ -63,14 +39,14 @@ pub place-sentence-spec : {M : Type 1} → statement M
 place-sentence-spec =
     tie.close
     (tie.spec
-    sub-put-reason
-    part-put-reason-start
-    part-put-reason-end
-    put-reason-requires
-    enum-known-n
+    (λ c. search needs)
+    (λ c. search needs)
+    (λ c. search needs)
+    (λ c κs. search needs)
+    (λ c. search needs)
     add-result
-    enum-told
-    same-length
+    (λ c. search needs)
+    (λ c. search needs)
     returns
-    same-length-2
+    (λ c. search needs)
     returns-2)

@@ -7,12 +7,6 @@ use borrow.Author.Needs.{needs}
 use Rattle.ticks.proofs.judging.both_rising.Statement.{statement}
 use Rattle.ticks.proofs.judging.both_rising.Tie as tie
 
-all-rising-requires : tie.Need-all-rising-requires
-all-rising-requires c κs = search needs
-
-all-rising-requires-2 : tie.Need-all-rising-requires-2
-all-rising-requires-2 c κs = search needs
-
 returns : tie.Need-returns
 returns c = rw (← c .before .before .all-rising .ensures, c .before .if1 .taken) (c .all-rising2 .ensures)
 
@@ -20,4 +14,4 @@ returns-2 : tie.Need-returns-2
 returns-2 c = c .if1 .left ∙ rw (← c .before .all-rising .ensures, c .if1 .left)
 
 pub both-rising-spec : {M : Type 1} → statement M
-both-rising-spec = tie.close (tie.spec all-rising-requires all-rising-requires-2 returns returns-2)
+both-rising-spec = tie.close (tie.spec (λ c κs. search needs) (λ c κs. search needs) returns returns-2)

@@ -7,12 +7,6 @@ use borrow.Author.Needs.{needs}
 use Rattle.ticks.proofs.judging.both_small.Statement.{statement}
 use Rattle.ticks.proofs.judging.both_small.Tie as tie
 
-all-small-requires : tie.Need-all-small-requires
-all-small-requires c κs = search needs
-
-all-small-requires-2 : tie.Need-all-small-requires-2
-all-small-requires-2 c κs = search needs
-
 returns : tie.Need-returns
 returns c = rw (← c .before .before .all-small .ensures, c .before .if1 .taken) (c .all-small2 .ensures)
 
@@ -20,4 +14,4 @@ returns-2 : tie.Need-returns-2
 returns-2 c = c .if1 .left ∙ rw (← c .before .all-small .ensures, c .if1 .left)
 
 pub both-small-spec : {M : Type 1} → statement M
-both-small-spec = tie.close (tie.spec all-small-requires all-small-requires-2 returns returns-2)
+both-small-spec = tie.close (tie.spec (λ c κs. search needs) (λ c κs. search needs) returns returns-2)

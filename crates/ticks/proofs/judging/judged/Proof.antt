@@ -9,12 +9,6 @@ use borrow.Author.Needs.{needs}
 use Rattle.ticks.proofs.judging.judged.Statement.{statement}
 use Rattle.ticks.proofs.judging.judged.Tie as tie
 
-both-rising-requires : tie.Need-both-rising-requires
-both-rising-requires c κs = search needs
-
-both-small-requires : tie.Need-both-small-requires
-both-small-requires c κs = search needs
-
 returns : tie.Need-returns
 returns c =
     let a = c .before .before .before .before .before .before .args in
@@ -28,9 +22,6 @@ returns-2 c =
 sub-number-at : tie.Need-sub-number-at
 sub-number-at c = c .before .before .before .before .pre .0
 
-number-at-requires : tie.Need-number-at-requires
-number-at-requires c κs = search needs
-
 returns-3 : tie.Need-returns-3
 returns-3 c =
     let s = c .before .before .before .before .before .before in
@@ -38,9 +29,6 @@ returns-3 c =
 
 sub-number-at-2 : tie.Need-sub-number-at-2
 sub-number-at-2 c = c .before .before .before .before .before .before .pre .0
-
-number-at-requires-2 : tie.Need-number-at-requires-2
-number-at-requires-2 c κs = search needs
 
 returns-4 : tie.Need-returns-4
 returns-4 c =
@@ -56,14 +44,14 @@ pub judged-spec : {M : Type 1} → statement M
 judged-spec =
     tie.close
     (tie.spec
-    both-rising-requires
-    both-small-requires
+    (λ c κs. search needs)
+    (λ c κs. search needs)
     returns
     returns-2
     sub-number-at
-    number-at-requires
+    (λ c κs. search needs)
     returns-3
     sub-number-at-2
-    number-at-requires-2
+    (λ c κs. search needs)
     returns-4
     returns-5)

@@ -9,24 +9,6 @@ use borrow.Author.Needs.{needs}
 use Rattle.ticks.proofs.judging.number_at.Statement.{statement}
 use Rattle.ticks.proofs.judging.number_at.Tie as tie
 
-mul-at : tie.Need-mul-at
-mul-at c = search needs
-
-add-end : tie.Need-add-end
-add-end c = search needs
-
-sub-u64-at : tie.Need-sub-u64-at
-sub-u64-at c = search needs
-
-part-u64-at-start : tie.Need-part-u64-at-start
-part-u64-at-start c = search needs
-
-part-u64-at-end : tie.Need-part-u64-at-end
-part-u64-at-end c = search needs
-
-u64-at-requires : tie.Need-u64-at-requires
-u64-at-requires c κs = search needs
-
 returns : tie.Need-returns
 returns c =
     let s = c .before .before .before in
@@ -38,4 +20,4 @@ returns c =
 pub number-at-spec : {M : Type 1} → statement M
 number-at-spec =
     tie.close
-    (tie.spec mul-at add-end sub-u64-at part-u64-at-start part-u64-at-end u64-at-requires returns)
+    (tie.spec (λ c. search needs) (λ c. search needs) (λ c. search needs) (λ c. search needs) (λ c. search needs) (λ c κs. search needs) returns)

@@ -30,9 +30,6 @@ returns-4 c =
     let a = c .before .before .before .before .before .before .before .args in
     no-room (a .passes .now) (a .millis .now) (a .ticks .now) (a .room) (record { passes = c .before .before .before .if1 .left; millis = c .before .before .if2 .left; ticks = c .before .if3 .left }) (c .if4 .taken)
 
-well-counted-requires : tie.Need-well-counted-requires
-well-counted-requires c κs = search needs
-
 -- what the tests of the lengths have shown where the passes are counted
 wholes : (c : tie.After-well-counted) → let a = c .before .before .before .before .before .before .before .before .args in Wholes (a .passes .now) (a .millis .now) (a .ticks .now)
 wholes c = record { passes = c .before .before .before .before .if1 .left; millis = c .before .before .before .if2 .left; ticks = c .before .before .if3 .left }
@@ -71,9 +68,6 @@ number-at-requires-2 c κs =
     let u = counted-is (a .passes .now) (a .millis .now) (sym (c .before .before .before .before .well-counted .ensures) ∙ not-false _ (c .before .before .before .if5 .left)) in
     omega (arith, u .two)
 
-all-inside-requires : tie.Need-all-inside-requires
-all-inside-requires c κs = search needs
-
 returns-7 : tie.Need-returns-7
 returns-7 c =
     let a = c .before .before .before .before .before .before .before .before .before .before .before .before .before .before .before .args in
@@ -96,13 +90,13 @@ refused-by-spec =
     returns-2
     returns-3
     returns-4
-    well-counted-requires
+    (λ c κs. search needs)
     returns-5
     judged-requires
     returns-6
     number-at-requires
     sub-number-at
     number-at-requires-2
-    all-inside-requires
+    (λ c κs. search needs)
     returns-7
     returns-8)

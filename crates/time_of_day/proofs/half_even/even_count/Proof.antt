@@ -6,23 +6,11 @@ use borrow.Author.Needs.{needs}
 use Rattle.time_of_day.proofs.half_even.even_count.Statement.{statement}
 use Rattle.time_of_day.proofs.half_even.even_count.Tie as tie
 
-grid-units-requires : tie.Need-grid-units-requires
-grid-units-requires c κs = search needs
-
-in-whole-requires : tie.Need-in-whole-requires
-in-whole-requires c κs = search needs
-
-day-end-requires : tie.Need-day-end-requires
-day-end-requires c κs = search needs
-
 even-millis-requires : tie.Need-even-millis-requires
 even-millis-requires c κs =
     let t = c .before .before in
     let g = t .before in
     (omega (arith, g .grid-units .ensures, whole-small (g .before .args .fraction) (g .before .args .leap) (sym (t .in-whole .ensures) ∙ c .before .if1 .taken)), c .day-end .ensures .1)
-
-float-count-requires : tie.Need-float-count-requires
-float-count-requires c κs = search needs
 
 returns : tie.Need-returns
 returns c =
@@ -42,10 +30,10 @@ pub even-count-spec : {M : Type 1} → statement M
 even-count-spec =
     tie.close
     (tie.spec
-    grid-units-requires
-    in-whole-requires
-    day-end-requires
+    (λ c κs. search needs)
+    (λ c κs. search needs)
+    (λ c κs. search needs)
     even-millis-requires
-    float-count-requires
+    (λ c κs. search needs)
     returns
     returns-2)

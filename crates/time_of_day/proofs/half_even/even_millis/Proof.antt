@@ -16,12 +16,6 @@ mul-high c = record { fits = omega (arith, part-most (c .args .units / 67108864)
 add-high : tie.Need-add-high
 add-high c = record { fits = omega (arith, part-most (c .args .units % 67108864) (c .args .day) (omega arith), part-most (c .args .units / 67108864) (c .args .day) (omega (arith, c .pre .0)), c .pre .1) }
 
-mul-nearest-even : tie.Need-mul-nearest-even
-mul-nearest-even c = search needs
-
-add-nearest-even : tie.Need-add-nearest-even
-add-nearest-even c = search needs
-
 nearest-even-requires : tie.Need-nearest-even-requires
 nearest-even-requires c κs = omega (arith, part-most (c .args .units % 67108864) (c .args .day) (omega arith), part-most (c .args .units / 67108864) (c .args .day) (omega (arith, c .pre .0)), c .pre .1)
 
@@ -35,7 +29,7 @@ even-millis-spec =
     mul-low
     mul-high
     add-high
-    mul-nearest-even
-    add-nearest-even
+    (λ c. search needs)
+    (λ c. search needs)
     nearest-even-requires
     returns)

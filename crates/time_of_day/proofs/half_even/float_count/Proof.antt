@@ -8,21 +8,6 @@ use borrow.Author.Needs.{needs}
 use Rattle.time_of_day.proofs.half_even.float_count.Statement.{statement}
 use Rattle.time_of_day.proofs.half_even.float_count.Tie as tie
 
-twice-millis-requires : tie.Need-twice-millis-requires
-twice-millis-requires c κs = search needs
-
-saturating-i64-requires : tie.Need-saturating-i64-requires
-saturating-i64-requires c κs = search needs
-
-from-zero-requires : tie.Need-from-zero-requires
-from-zero-requires c κs = search needs
-
-worth-requires : tie.Need-worth-requires
-worth-requires c κs = search needs
-
-of-halves-requires : tie.Need-of-halves-requires
-of-halves-requires c κs = search needs
-
 returns : tie.Need-returns
 returns c =
     let z = c .before .before in
@@ -36,9 +21,9 @@ pub float-count-spec : {M : Type 1} → statement M
 float-count-spec =
     tie.close
     (tie.spec
-    twice-millis-requires
-    saturating-i64-requires
-    from-zero-requires
-    worth-requires
-    of-halves-requires
+    (λ c κs. search needs)
+    (λ c κs. search needs)
+    (λ c κs. search needs)
+    (λ c κs. search needs)
+    (λ c κs. search needs)
     returns)

@@ -8,15 +8,9 @@ use borrow.Author.Needs.{needs}
 use Rattle.time_of_day.proofs.half_even.grid_units.Statement.{statement}
 use Rattle.time_of_day.proofs.half_even.grid_units.Tie as tie
 
-saturating-i64-requires : tie.Need-saturating-i64-requires
-saturating-i64-requires c κs = search needs
-
-from-zero-requires : tie.Need-from-zero-requires
-from-zero-requires c κs = search needs
-
 returns : tie.Need-returns
 unfolding gridUnits
 returns c = c .from-zero .ensures ∙ ap fromZero (toZ-ofZ {w = w64} {z = c .before .saturating-i64 .result} (record { sfits = c .before .saturating-i64 .ok }) ∙ c .before .saturating-i64 .ensures)
 
 pub grid-units-spec : {M : Type 1} → statement M
-grid-units-spec = tie.close (tie.spec saturating-i64-requires from-zero-requires returns)
+grid-units-spec = tie.close (tie.spec (λ c κs. search needs) (λ c κs. search needs) returns)

@@ -6,12 +6,6 @@ use borrow.Author.Needs.{needs}
 use Rattle.time_of_day.proofs.half_even.in_whole.Statement.{statement}
 use Rattle.time_of_day.proofs.half_even.in_whole.Tie as tie
 
-worth-requires : tie.Need-worth-requires
-worth-requires c κs = search needs
-
-whole-seconds-requires : tie.Need-whole-seconds-requires
-whole-seconds-requires c κs = search needs
-
 returns : tie.Need-returns
 returns c =
     let w = c .before .before in
@@ -23,4 +17,4 @@ returns-2 c =
     sym (whole-test (w .before .args .fraction) (w .before .args .leap) (w .before .args .units) (w .worth .result) false (w .before .pre) (w .worth .ensures) (c .if1 .left))
 
 pub in-whole-spec : {M : Type 1} → statement M
-in-whole-spec = tie.close (tie.spec worth-requires whole-seconds-requires returns returns-2)
+in-whole-spec = tie.close (tie.spec (λ c κs. search needs) (λ c κs. search needs) returns returns-2)

@@ -5,14 +5,8 @@ use borrow.Author.Needs.{needs}
 use Rattle.time_of_day.proofs.half_even.nearest_even.Statement.{statement}
 use Rattle.time_of_day.proofs.half_even.nearest_even.Tie as tie
 
-add-result : tie.Need-add-result
-add-result c = search needs
-
 returns : tie.Need-returns
 returns c = at-half (c .before .args .whole) (c .before .args .rest) 4503599627370496 (omega (arith, c .if1 .taken))
-
-add-result-2 : tie.Need-add-result-2
-add-result-2 c = search needs
 
 returns-2 : tie.Need-returns-2
 returns-2 c = below-half (c .before .before .args .whole) (c .before .before .args .rest) 4503599627370496 (omega (arith, c .if2 .taken))
@@ -21,4 +15,4 @@ returns-3 : tie.Need-returns-3
 returns-3 c = above-half (c .before .before .args .whole) (c .before .before .args .rest) 4503599627370496 (omega (arith, c .if2 .left, c .before .if1 .left))
 
 pub nearest-even-spec : {M : Type 1} → statement M
-nearest-even-spec = tie.close (tie.spec add-result returns add-result-2 returns-2 returns-3)
+nearest-even-spec = tie.close (tie.spec (λ c. search needs) returns (λ c. search needs) returns-2 returns-3)

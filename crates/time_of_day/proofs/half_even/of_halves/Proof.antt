@@ -8,12 +8,6 @@ use Rattle.time_of_day.proofs.half_even.of_halves.Tie as tie
 returns : tie.Need-returns
 returns c = halves-even-number (c .before .args .halves) (c .before .args .all) (omega (arith, c .if1 .taken))
 
-add-result : tie.Need-add-result
-add-result c = search needs
-
-add-result-2 : tie.Need-add-result-2
-add-result-2 c = search needs
-
 returns-2 : tie.Need-returns-2
 returns-2 c = halves-all (c .before .before .args .halves) (c .before .before .args .all) (omega (arith, c .before .if1 .left)) (c .if2 .taken)
 
@@ -21,4 +15,4 @@ returns-3 : tie.Need-returns-3
 returns-3 c = halves-more (c .before .before .args .halves) (c .before .before .args .all) (omega (arith, c .before .if1 .left)) (c .if2 .left)
 
 pub of-halves-spec : {M : Type 1} → statement M
-of-halves-spec = tie.close (tie.spec returns add-result add-result-2 returns-2 returns-3)
+of-halves-spec = tie.close (tie.spec returns (λ c. search needs) (λ c. search needs) returns-2 returns-3)

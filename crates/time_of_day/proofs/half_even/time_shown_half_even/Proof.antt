@@ -6,21 +6,6 @@ use borrow.Author.Needs.{needs}
 use Rattle.time_of_day.proofs.half_even.time_shown_half_even.Statement.{statement}
 use Rattle.time_of_day.proofs.half_even.time_shown_half_even.Tie as tie
 
-whole-leap-requires : tie.Need-whole-leap-requires
-whole-leap-requires c κs = search needs
-
-even-count-requires : tie.Need-even-count-requires
-even-count-requires c κs = search needs
-
-day-end-requires : tie.Need-day-end-requires
-day-end-requires c κs = search needs
-
-cast-time-of : tie.Need-cast-time-of
-cast-time-of c = search needs
-
-time-of-requires : tie.Need-time-of-requires
-time-of-requires c κs = search needs
-
 returns : tie.Need-returns
 returns c =
     let e = c .before .before in
@@ -41,10 +26,10 @@ pub time-shown-half-even-spec : {M : Type 1} → statement M
 time-shown-half-even-spec =
     tie.close
     (tie.spec
-    whole-leap-requires
-    even-count-requires
-    day-end-requires
-    cast-time-of
-    time-of-requires
+    (λ c κs. search needs)
+    (λ c κs. search needs)
+    (λ c κs. search needs)
+    (λ c. search needs)
+    (λ c κs. search needs)
     returns
     returns-2)

@@ -7,12 +7,9 @@ use borrow.Author.Needs.{needs}
 use Rattle.time_of_day.proofs.half_even.twice_millis.Statement.{statement}
 use Rattle.time_of_day.proofs.half_even.twice_millis.Tie as tie
 
-seconds-requires : tie.Need-seconds-requires
-seconds-requires c κs = search needs
-
 returns : tie.Need-returns
 unfolding twice
 returns c = ap (λ (x : Float). mul binary64 two-f (mul binary64 thousand-f x)) (c .seconds .ensures)
 
 pub twice-millis-spec : {M : Type 1} → statement M
-twice-millis-spec = tie.close (tie.spec seconds-requires returns)
+twice-millis-spec = tie.close (tie.spec (λ c κs. search needs) returns)

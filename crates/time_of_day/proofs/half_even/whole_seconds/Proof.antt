@@ -20,12 +20,9 @@ returns : tie.Need-returns
 unfolding ofBits
 returns c = zero (c .before .args .leap) (c .if1 .taken)
 
-fabs-requires : tie.Need-fabs-requires
-fabs-requires c κs = search needs
-
 returns-2 : tie.Need-returns-2
 unfolding ofBits
 returns-2 c = other (c .before .before .args .leap) (c .fabs .result) (c .before .if1 .left) (c .fabs .ensures)
 
 pub whole-seconds-spec : {M : Type 1} → statement M
-whole-seconds-spec = tie.close (tie.spec returns fabs-requires returns-2)
+whole-seconds-spec = tie.close (tie.spec returns (λ c κs. search needs) returns-2)

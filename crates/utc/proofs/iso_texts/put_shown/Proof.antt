@@ -6,21 +6,6 @@ use borrow.Author.Needs.{needs}
 use Rattle.utc.proofs.iso_texts.put_shown.Statement.{statement}
 use Rattle.utc.proofs.iso_texts.put_shown.Tie as tie
 
-enum-known-shown : tie.Need-enum-known-shown
-enum-known-shown c = search needs
-
-put-text-requires : tie.Need-put-text-requires
-put-text-requires c κs = search needs
-
-enum-told : tie.Need-enum-told
-enum-told c = search needs
-
-put-next-midnight-requires : tie.Need-put-next-midnight-requires
-put-next-midnight-requires c κs = search needs
-
-same-length : tie.Need-same-length
-same-length c = search needs
-
 returns : tie.Need-returns
 unfolding shownTextBy
 returns c =
@@ -28,9 +13,6 @@ returns c =
     let k = p .before .before .before in
     let s = k .before .before .before in
     call-put _ _ _ _ _ (ap (shownText (s .args .date)) (k .shown .given .1)) (p .put-text .ensures)
-
-same-length-2 : tie.Need-same-length-2
-same-length-2 c = search needs
 
 returns-2 : tie.Need-returns-2
 unfolding shownTextBy
@@ -44,11 +26,11 @@ pub put-shown-spec : {M : Type 1} → statement M
 put-shown-spec =
     tie.close
     (tie.spec
-    enum-known-shown
-    put-text-requires
-    enum-told
-    put-next-midnight-requires
-    same-length
+    (λ c. search needs)
+    (λ c κs. search needs)
+    (λ c. search needs)
+    (λ c κs. search needs)
+    (λ c. search needs)
     returns
-    same-length-2
+    (λ c. search needs)
     returns-2)

@@ -8,31 +8,10 @@ use Rattle.utc.proofs.text.Laws.{short, put-done, basic-source}
 use Rattle.utc.proofs.text.put_basic.Statement.{statement}
 use Rattle.utc.proofs.text.put_basic.Tie as tie
 
-fourth-requires : tie.Need-fourth-requires
-fourth-requires c κs = search needs
-
-wide-bytes-requires : tie.Need-wide-bytes-requires
-wide-bytes-requires c κs = search needs
-
 returns : tie.Need-returns
 returns c =
     let a = c .before .before .before .before .args in
     short (four (a .year) ++ afterYear (a .date) (a .time)) (now (a .out)) (omega (arith, c .if1 .taken))
-
-sub-copy : tie.Need-sub-copy
-sub-copy c = search needs
-
-part-copy-start : tie.Need-part-copy-start
-part-copy-start c = search needs
-
-part-copy-end : tie.Need-part-copy-end
-part-copy-end c = search needs
-
-copy-requires : tie.Need-copy-requires
-copy-requires c κs = search needs
-
-same-length : tie.Need-same-length
-same-length c = search needs
 
 returns-2 : tie.Need-returns-2
 returns-2 c =
@@ -48,12 +27,12 @@ pub put-basic-spec : {M : Type 1} → statement M
 put-basic-spec =
     tie.close
     (tie.spec
-    fourth-requires
-    wide-bytes-requires
+    (λ c κs. search needs)
+    (λ c κs. search needs)
     returns
-    sub-copy
-    part-copy-start
-    part-copy-end
-    copy-requires
-    same-length
+    (λ c. search needs)
+    (λ c. search needs)
+    (λ c. search needs)
+    (λ c κs. search needs)
+    (λ c. search needs)
     returns-2)

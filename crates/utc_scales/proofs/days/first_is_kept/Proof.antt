@@ -4,12 +4,9 @@ use borrow.Author.Needs.{needs}
 use Rattle.utc_scales.proofs.days.first_is_kept.Statement.{statement}
 use Rattle.utc_scales.proofs.days.first_is_kept.Tie as tie
 
-at-least-in-size-requires : tie.Need-at-least-in-size-requires
-at-least-in-size-requires c κs = search needs
-
 returns : tie.Need-returns
 unfolding firstIsKept
 returns c = c .at-least-in-size .ensures
 
 pub first-is-kept-spec : {M : Type 1} → statement M
-first-is-kept-spec = tie.close (tie.spec at-least-in-size-requires returns)
+first-is-kept-spec = tie.close (tie.spec (λ c κs. search needs) returns)

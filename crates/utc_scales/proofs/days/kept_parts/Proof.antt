@@ -6,9 +6,6 @@ use borrow.Author.Needs.{needs}
 use Rattle.utc_scales.proofs.days.kept_parts.Statement.{statement}
 use Rattle.utc_scales.proofs.days.kept_parts.Tie as tie
 
-first-is-kept-requires : tie.Need-first-is-kept-requires
-first-is-kept-requires c κs = search needs
-
 returns : tie.Need-returns
 returns c = parts-are (c .before .before .args .jd) true (sym (c .if1 .taken) ∙ c .before .first-is-kept .ensures)
 
@@ -16,4 +13,4 @@ returns-2 : tie.Need-returns-2
 returns-2 c = parts-are (c .before .before .args .jd) false (sym (c .if1 .left) ∙ c .before .first-is-kept .ensures)
 
 pub kept-parts-spec : {M : Type 1} → statement M
-kept-parts-spec = tie.close (tie.spec first-is-kept-requires returns returns-2)
+kept-parts-spec = tie.close (tie.spec (λ c κs. search needs) returns returns-2)

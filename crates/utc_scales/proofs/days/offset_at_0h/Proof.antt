@@ -19,17 +19,11 @@ use Rattle.utc_scales.proofs.days.offset_at_0h.Tie as tie
 abbrev rows : tie.Start → List Row
 rows s = rowsIn (s .args .size) (now (s .args .months)) (now (s .args .seconds))
 
-gregorian-date-requires : tie.Need-gregorian-date-requires
-gregorian-date-requires c κs = search needs
-
 cast-offset-at-0h-by-lent : tie.Need-cast-offset-at-0h-by-lent
 cast-offset-at-0h-by-lent c = month-fits _ _ (c .before .gregorian-date .ensures ∙ ap gregorianDate (toZ-ofZ (c .before .before .fits .day)))
 
 cast-offset-at-0h-by-lent-2 : tie.Need-cast-offset-at-0h-by-lent-2
 cast-offset-at-0h-by-lent-2 c = day-of-month-fits _ _ (c .before .before .gregorian-date .ensures ∙ ap gregorianDate (toZ-ofZ (c .before .before .before .fits .day)))
-
-offset-at-0h-by-lent-requires : tie.Need-offset-at-0h-by-lent-requires
-offset-at-0h-by-lent-requires c κs = search needs
 
 returns : tie.Need-returns
 unfolding offsetAt0h ruleOn offsetByRule
@@ -39,8 +33,8 @@ pub offset-at-0h-spec : {M : Type 1} → statement M
 offset-at-0h-spec =
     tie.close
     (tie.spec
-    gregorian-date-requires
+    (λ c κs. search needs)
     cast-offset-at-0h-by-lent
     cast-offset-at-0h-by-lent-2
-    offset-at-0h-by-lent-requires
+    (λ c κs. search needs)
     returns)

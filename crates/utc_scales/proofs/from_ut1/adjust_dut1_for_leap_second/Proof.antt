@@ -18,15 +18,6 @@ use Rattle.utc_scales.proofs.from_ut1.adjust_dut1_for_leap_second.Tie a
 abbrev rows : tie.Start → List Row
 rows s = rowsIn (s .args .size) (now (s .args .months)) (now (s .args .seconds))
 
-month-of-date-requires : tie.Need-month-of-date-requires
-month-of-date-requires c κs = search needs
-
-enum-known-number : tie.Need-enum-known-number
-enum-known-number c = search needs
-
-enum-known-k : tie.Need-enum-known-k
-enum-known-k c = search needs
-
 scan-requires : tie.Need-scan-requires
 unfolding RightMonths
 scan-requires c κs = subst (λ (z : MonthAnswer). RightMonths (rows (c .before .before .before .before)) z) (c .before .k .given .1) (c .before .before .before .month-of-date .ensures .1)
@@ -43,9 +34,9 @@ pub adjust-dut1-for-leap-second-spec : {M : Type 1} → statement M
 adjust-dut1-for-leap-second-spec =
     tie.close
     (tie.spec
-    month-of-date-requires
-    enum-known-number
-    enum-known-k
+    (λ c κs. search needs)
+    (λ c. search needs)
+    (λ c. search needs)
     scan-requires
     returns
     returns-2)

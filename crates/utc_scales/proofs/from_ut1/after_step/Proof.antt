@@ -6,9 +6,6 @@ use borrow.Author.Needs.{needs}
 use Rattle.utc_scales.proofs.from_ut1.after_step.Statement.{statement}
 use Rattle.utc_scales.proofs.from_ut1.after_step.Tie as tie
 
-at-most-one-requires : tie.Need-at-most-one-requires
-at-most-one-requires c κs = search needs
-
 returns : tie.Need-returns
 unfolding afterStep ofBits
 returns c = rw (c .before .if1 .taken, c .at-most-one .ensures, seconds-per-day)
@@ -18,4 +15,4 @@ unfolding afterStep ofBits
 returns-2 c = rw (c .if1 .left)
 
 pub after-step-spec : {M : Type 1} → statement M
-after-step-spec = tie.close (tie.spec at-most-one-requires returns returns-2)
+after-step-spec = tie.close (tie.spec (λ c κs. search needs) returns returns-2)

@@ -4,19 +4,10 @@ use borrow.Author.Needs.{needs}
 use Rattle.utc_scales.proofs.from_ut1.near_step.Statement.{statement}
 use Rattle.utc_scales.proofs.from_ut1.near_step.Tie as tie
 
-before-step-requires : tie.Need-before-step-requires
-before-step-requires c κs = search needs
-
-time-past-leap-requires : tie.Need-time-past-leap-requires
-time-past-leap-requires c κs = search needs
-
-after-step-requires : tie.Need-after-step-requires
-after-step-requires c κs = search needs
-
 returns : tie.Need-returns
 unfolding nearStep
 returns c = cc
 
 pub near-step-spec : {M : Type 1} → statement M
 near-step-spec =
-    tie.close (tie.spec before-step-requires time-past-leap-requires after-step-requires returns)
+    tie.close (tie.spec (λ c κs. search needs) (λ c κs. search needs) (λ c κs. search needs) returns)

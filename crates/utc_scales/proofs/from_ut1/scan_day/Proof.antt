@@ -29,27 +29,6 @@ use Rattle.utc_scales.proofs.from_ut1.scan_day.Tie as tie
 abbrev rows : tie.Start → List Row
 rows s = rowsIn (s .args .size) (now (s .args .months)) (now (s .args .seconds))
 
-day-number-and-fraction-requires : tie.Need-day-number-and-fraction-requires
-day-number-and-fraction-requires c κs = search needs
-
-enum-known-number : tie.Need-enum-known-number
-enum-known-number c = search needs
-
-enum-known-d : tie.Need-enum-known-d
-enum-known-d c = search needs
-
-month-with-requires : tie.Need-month-with-requires
-month-with-requires c κs = search needs
-
-enum-known-number-2 : tie.Need-enum-known-number-2
-enum-known-number-2 c = search needs
-
-enum-known-k : tie.Need-enum-known-k
-enum-known-k c = search needs
-
-fabs-requires : tie.Need-fabs-requires
-fabs-requires c κs = search needs
-
 mjd-of-requires : tie.Need-mjd-of-requires
 unfolding dayOutcome
 mjd-of-requires c κs =
@@ -59,9 +38,6 @@ mjd-of-requires c κs =
     let e = sym (n .day-number-and-fraction .ensures) ∙ ap dayOutcome (d .d .given .1) in
     let r = day-range _ _ (yes (s .good .0 .1)) (add-fits binary64 (s .args .small) (s .args .i)) _ e in
     day-asked _ r
-
-near-step-requires : tie.Need-near-step-requires
-near-step-requires c κs = search needs
 
 returns : tie.Need-returns
 unfolding scanOutcome dayOutcome monthOutcome RightScan RightMonths ofBits
@@ -115,15 +91,15 @@ pub scan-day-spec : {M : Type 1} → statement M
 scan-day-spec =
     tie.close
     (tie.spec
-    day-number-and-fraction-requires
-    enum-known-number
-    enum-known-d
-    month-with-requires
-    enum-known-number-2
-    enum-known-k
-    fabs-requires
+    (λ c κs. search needs)
+    (λ c. search needs)
+    (λ c. search needs)
+    (λ c κs. search needs)
+    (λ c. search needs)
+    (λ c. search needs)
+    (λ c κs. search needs)
     mjd-of-requires
-    near-step-requires
+    (λ c κs. search needs)
     returns
     returns-2
     returns-3

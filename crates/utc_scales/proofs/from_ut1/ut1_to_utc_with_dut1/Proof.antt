@@ -6,15 +6,9 @@ use borrow.Author.Needs.{needs}
 use Rattle.utc_scales.proofs.from_ut1.ut1_to_utc_with_dut1.Statement.{statement}
 use Rattle.utc_scales.proofs.from_ut1.ut1_to_utc_with_dut1.Tie as tie
 
-table-refusal-requires : tie.Need-table-refusal-requires
-table-refusal-requires c κs = search needs
-
 returns : tie.Need-returns
 unfolding utcOutcome
 returns c = let r = c .before in turned-away (r .before .args .table) (r .table-refusal .result) (r .table-refusal .ensures) _ (c .if1 .taken)
-
-ut1-to-utc-with-dut1-by-rows-requires : tie.Need-ut1-to-utc-with-dut1-by-rows-requires
-ut1-to-utc-with-dut1-by-rows-requires c κs = search needs
 
 returns-2 : tie.Need-returns-2
 returns-2 c =
@@ -25,4 +19,4 @@ returns-2 c =
 pub ut1-to-utc-with-dut1-spec : {M : Type 1} → statement M
 ut1-to-utc-with-dut1-spec =
     tie.close
-    (tie.spec table-refusal-requires returns ut1-to-utc-with-dut1-by-rows-requires returns-2)
+    (tie.spec (λ c κs. search needs) returns (λ c κs. search needs) returns-2)

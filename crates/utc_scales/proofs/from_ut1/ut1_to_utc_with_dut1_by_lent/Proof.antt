@@ -9,36 +9,9 @@ use borrow.Author.Needs.{needs}
 use Rattle.utc_scales.proofs.from_ut1.ut1_to_utc_with_dut1_by_lent.Statement.{statement}
 use Rattle.utc_scales.proofs.from_ut1.ut1_to_utc_with_dut1_by_lent.Tie as tie
 
-finite-arg-requires : tie.Need-finite-arg-requires
-finite-arg-requires c κs = search needs
-
-enum-known-number : tie.Need-enum-known-number
-enum-known-number c = search needs
-
 returns : tie.Need-returns
 unfolding utcOutcome julianOutcome J.offsetOutcome ut1ToUtc
 returns c = sym (stopped _ (sym (c .before .before .before .finite-arg .ensures) ∙ ap J.offsetOutcome (c .before .number .given .1)))
-
-enum-told : tie.Need-enum-told
-enum-told c = search needs
-
-finite-jd-requires : tie.Need-finite-jd-requires
-finite-jd-requires c κs = search needs
-
-enum-known-number-2 : tie.Need-enum-known-number-2
-enum-known-number-2 c = search needs
-
-enum-known-jd : tie.Need-enum-known-jd
-enum-known-jd c = search needs
-
-less-dut1-requires : tie.Need-less-dut1-requires
-less-dut1-requires c κs = search needs
-
-enum-known-number-3 : tie.Need-enum-known-number-3
-enum-known-number-3 c = search needs
-
-enum-known-utc : tie.Need-enum-known-utc
-enum-known-utc c = search needs
 
 returns-2 : tie.Need-returns-2
 unfolding utcOutcome julianOutcome J.offsetOutcome ut1ToUtc
@@ -66,16 +39,16 @@ pub ut1-to-utc-with-dut1-by-lent-spec : {M : Type 1} → statement M
 ut1-to-utc-with-dut1-by-lent-spec =
     tie.close
     (tie.spec
-    finite-arg-requires
-    enum-known-number
+    (λ c κs. search needs)
+    (λ c. search needs)
     returns
-    enum-told
-    finite-jd-requires
-    enum-known-number-2
-    enum-known-jd
-    less-dut1-requires
-    enum-known-number-3
-    enum-known-utc
+    (λ c. search needs)
+    (λ c κs. search needs)
+    (λ c. search needs)
+    (λ c. search needs)
+    (λ c κs. search needs)
+    (λ c. search needs)
+    (λ c. search needs)
     returns-2
     returns-3
     returns-4)

@@ -8,12 +8,6 @@ use borrow.Author.Needs.{needs}
 use Rattle.utc_scales.proofs.from_ut1.ut1_to_utc_with_dut1_by_rows.Statement.{statement}
 use Rattle.utc_scales.proofs.from_ut1.ut1_to_utc_with_dut1_by_rows.Tie as tie
 
-size-of-requires : tie.Need-size-of-requires
-size-of-requires c κs = search needs
-
-ut1-to-utc-with-dut1-by-lent-requires : tie.Need-ut1-to-utc-with-dut1-by-lent-requires
-ut1-to-utc-with-dut1-by-lent-requires c κs = search needs
-
 returns : tie.Need-returns
 returns c =
     let z = c .before .before .before .before in
@@ -21,4 +15,4 @@ returns c =
     c .ut1-to-utc-with-dut1-by-lent .ensures ∙ ap (λ (l : List Row). ut1ToUtc l (s .args .ut1 .0) (s .args .dut1)) (rows-in (s .args .t3) (z .size-of .result) (z .size-of .ensures))
 
 pub ut1-to-utc-with-dut1-by-rows-spec : {M : Type 1} → statement M
-ut1-to-utc-with-dut1-by-rows-spec = tie.close (tie.spec size-of-requires ut1-to-utc-with-dut1-by-lent-requires returns)
+ut1-to-utc-with-dut1-by-rows-spec = tie.close (tie.spec (λ c κs. search needs) (λ c κs. search needs) returns)

@@ -10,15 +10,6 @@ use borrow.Author.Needs.{needs}
 use Rattle.utc_scales.proofs.from_ut1.utc_fraction.Statement.{statement}
 use Rattle.utc_scales.proofs.from_ut1.utc_fraction.Tie as tie
 
-adjust-dut1-for-leap-second-requires : tie.Need-adjust-dut1-for-leap-second-requires
-adjust-dut1-for-leap-second-requires c κs = search needs
-
-enum-known-number : tie.Need-enum-known-number
-enum-known-number c = search needs
-
-enum-known-x : tie.Need-enum-known-x
-enum-known-x c = search needs
-
 returns : tie.Need-returns
 unfolding fractionOutcome J.offsetOutcome utcFraction secondsPerDay round ofBits
 returns c = sym (stopped _ (sym (c .before .before .before .adjust-dut1-for-leap-second .ensures) ∙ ap J.offsetOutcome (c .before .number .given .1)))
@@ -31,8 +22,8 @@ pub utc-fraction-spec : {M : Type 1} → statement M
 utc-fraction-spec =
     tie.close
     (tie.spec
-    adjust-dut1-for-leap-second-requires
-    enum-known-number
-    enum-known-x
+    (λ c κs. search needs)
+    (λ c. search needs)
+    (λ c. search needs)
     returns
     returns-2)

@@ -18,17 +18,11 @@ use Rattle.utc_scales.proofs.table.day_of.Tie as tie
 abbrev rows : tie.Start → List Row
 rows s = rowsIn (s .args .size) (now (s .args .months)) (now (s .args .seconds))
 
-gregorian-date-requires : tie.Need-gregorian-date-requires
-gregorian-date-requires c κs = search needs
-
 cast-day-offsets-by-lent : tie.Need-cast-day-offsets-by-lent
 cast-day-offsets-by-lent c = month-fits _ _ (c .before .gregorian-date .ensures ∙ ap gregorianDate (toZ-ofZ (c .before .before .fits .day)))
 
 cast-day-offsets-by-lent-2 : tie.Need-cast-day-offsets-by-lent-2
 cast-day-offsets-by-lent-2 c = day-of-month-fits _ _ (c .before .before .gregorian-date .ensures ∙ ap gregorianDate (toZ-ofZ (c .before .before .before .fits .day)))
-
-day-offsets-by-lent-requires : tie.Need-day-offsets-by-lent-requires
-day-offsets-by-lent-requires c κs = search needs
 
 returns : tie.Need-returns
 unfolding offsetsOf ruleOn dayByRule
@@ -38,8 +32,8 @@ pub day-of-spec : {M : Type 1} → statement M
 day-of-spec =
     tie.close
     (tie.spec
-    gregorian-date-requires
+    (λ c κs. search needs)
     cast-day-offsets-by-lent
     cast-day-offsets-by-lent-2
-    day-offsets-by-lent-requires
+    (λ c κs. search needs)
     returns)

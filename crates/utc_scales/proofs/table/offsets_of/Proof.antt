@@ -28,15 +28,6 @@ called v =
     ap forget (v .day-of .ensures ∙ ap (λ (z : ℤ). withRule (offsetsOf (rows s) (gregorianDate z)) (ruleOn (rows s) (gregorianDate z))) (toZ-ofZ (s .fits .day)))
     ∙ forgets (offsetsOf (rows s) (gregorianDate (s .args .day))) _
 
-day-of-requires : tie.Need-day-of-requires
-day-of-requires c κs = search needs
-
-enum-known-number : tie.Need-enum-known-number
-enum-known-number c = search needs
-
-enum-known-o : tie.Need-enum-known-o
-enum-known-o c = search needs
-
 returns : tie.Need-returns
 unfolding dayOffsetsOutcome dayByRuleOutcome forget onward
 returns c = ap (λ (x : DayByRule). forget (dayByRuleOutcome x)) (sym (c .before .number .given .1)) ∙ called (c .before .before .before)
@@ -46,4 +37,4 @@ unfolding dayOffsetsOutcome dayByRuleOutcome forget onward
 returns-2 c = ap (λ (x : DayByRule). forget (dayByRuleOutcome x)) (sym (c .before .o .given .1)) ∙ called (c .before .before .before)
 
 pub offsets-of-spec : {M : Type 1} → statement M
-offsets-of-spec = tie.close (tie.spec day-of-requires enum-known-number enum-known-o returns returns-2)
+offsets-of-spec = tie.close (tie.spec (λ c κs. search needs) (λ c. search needs) (λ c. search needs) returns returns-2)

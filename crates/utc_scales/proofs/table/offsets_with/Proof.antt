@@ -20,18 +20,6 @@ use Rattle.utc_scales.proofs.table.offsets_with.Tie as tie
 abbrev rows : tie.Start → List Row
 rows s = rowsIn (s .args .size) (now (s .args .months)) (now (s .args .seconds))
 
-enum-told : tie.Need-enum-told
-enum-told c = search needs
-
-offsets-of-requires : tie.Need-offsets-of-requires
-offsets-of-requires c κs = search needs
-
-enum-known-known : tie.Need-enum-known-known
-enum-known-known c = search needs
-
-offsets-of-requires-2 : tie.Need-offsets-of-requires-2
-offsets-of-requires-2 c κs = search needs
-
 returns : tie.Need-returns
 returns c = c .offsets-of .ensures ∙ ap (λ (z : ℤ). offsetsOf (rows (c .before .before .before)) (gregorianDate z)) (toZ-ofZ (c .before .before .before .fits .day))
 
@@ -52,10 +40,10 @@ pub offsets-with-spec : {M : Type 1} → statement M
 offsets-with-spec =
     tie.close
     (tie.spec
-    enum-told
-    offsets-of-requires
-    enum-known-known
-    offsets-of-requires-2
+    (λ c. search needs)
+    (λ c κs. search needs)
+    (λ c. search needs)
+    (λ c κs. search needs)
     returns
     returns-2
     returns-3)

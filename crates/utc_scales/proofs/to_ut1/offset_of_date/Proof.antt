@@ -22,18 +22,6 @@ use Rattle.utc_scales.proofs.to_ut1.offset_of_date.Tie as tie
 abbrev rows : tie.Start → List Row
 rows s = rowsIn (s .args .size) (now (s .args .months)) (now (s .args .seconds))
 
-day-number-and-fraction-requires : tie.Need-day-number-and-fraction-requires
-day-number-and-fraction-requires c κs = search needs
-
-enum-known-number : tie.Need-enum-known-number
-enum-known-number c = search needs
-
-enum-known-d : tie.Need-enum-known-d
-enum-known-d c = search needs
-
-offset-at-0h-requires : tie.Need-offset-at-0h-requires
-offset-at-0h-requires c κs = search needs
-
 returns : tie.Need-returns
 unfolding secondsByRuleOutcome dayOutcome
 returns c = offset-by-rule-refused (rows (c .before .before .before .before)) _ _ _ (sym (c .before .before .before .day-number-and-fraction .ensures) ∙ ap dayOutcome (c .before .number .given .1))
@@ -54,9 +42,9 @@ pub offset-of-date-spec : {M : Type 1} → statement M
 offset-of-date-spec =
     tie.close
     (tie.spec
-    day-number-and-fraction-requires
-    enum-known-number
-    enum-known-d
-    offset-at-0h-requires
+    (λ c κs. search needs)
+    (λ c. search needs)
+    (λ c. search needs)
+    (λ c κs. search needs)
     returns
     returns-2)

@@ -17,9 +17,6 @@ use Rattle.utc_scales.proofs.to_ut1.offset_with.Tie as tie
 abbrev rows : tie.Start → List Row
 rows s = rowsIn (s .args .size) (now (s .args .months)) (now (s .args .seconds))
 
-offset-of-date-requires : tie.Need-offset-of-date-requires
-offset-of-date-requires c κs = search needs
-
 returns : tie.Need-returns
 unfolding secondsByRuleOutcome offsetOfDateByRule
 returns c = let s = c .before in passed _ _ _ _ (s .pre .offset) (s .pre .told) ∙ parts-offset (rows s) (s .args .p) true (c .if1 .taken)
@@ -28,4 +25,4 @@ returns-2 : tie.Need-returns-2
 returns-2 c = c .offset-of-date .ensures ∙ parts-offset (rows (c .before .before)) _ false (c .before .if1 .left)
 
 pub offset-with-spec : {M : Type 1} → statement M
-offset-with-spec = tie.close (tie.spec offset-of-date-requires returns returns-2)
+offset-with-spec = tie.close (tie.spec (λ c κs. search needs) returns returns-2)

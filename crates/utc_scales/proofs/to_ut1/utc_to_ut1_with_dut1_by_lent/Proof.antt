@@ -26,33 +26,9 @@ use Rattle.utc_scales.proofs.to_ut1.utc_to_ut1_with_dut1_by_lent.Tie as
 abbrev rows : tie.Start → List Row
 rows s = rowsIn (s .args .size) (now (s .args .months)) (now (s .args .seconds))
 
-finite-arg-requires : tie.Need-finite-arg-requires
-finite-arg-requires c κs = search needs
-
-enum-known-number : tie.Need-enum-known-number
-enum-known-number c = search needs
-
 returns : tie.Need-returns
 unfolding ut1ByRuleOutcome J.offsetOutcome utcToUt1 utcToUt1ByRule
 returns c = not-passed _ _ _ (stopped _ (sym (c .before .before .before .finite-arg .ensures) ∙ ap J.offsetOutcome (c .before .number .given .1)))
-
-enum-told : tie.Need-enum-told
-enum-told c = search needs
-
-kept-parts-requires : tie.Need-kept-parts-requires
-kept-parts-requires c κs = search needs
-
-tai-fraction-by-rule-requires : tie.Need-tai-fraction-by-rule-requires
-tai-fraction-by-rule-requires c κs = search needs
-
-enum-known-number-2 : tie.Need-enum-known-number-2
-enum-known-number-2 c = search needs
-
-enum-known-part : tie.Need-enum-known-part
-enum-known-part c = search needs
-
-put-beside-requires : tie.Need-put-beside-requires
-put-beside-requires c κs = search needs
 
 offset-with-requires : tie.Need-offset-with-requires
 unfolding SameDays
@@ -61,18 +37,6 @@ offset-with-requires c κs =
     let s = t .before .before .before .before .before in
     let p = t .before .kept-parts .result in
     subst (λ (r : RuledPart). SameDays (rows s) (p .larger) (p .smaller) r) (c .before .before .part .given .1) (t .tai-fraction-by-rule .ensures .1)
-
-enum-known-number-3 : tie.Need-enum-known-number-3
-enum-known-number-3 c = search needs
-
-enum-known-x : tie.Need-enum-known-x
-enum-known-x c = search needs
-
-tai-to-ut1-with-offset-requires : tie.Need-tai-to-ut1-with-offset-requires
-tai-to-ut1-with-offset-requires c κs = search needs
-
-with-rule-requires : tie.Need-with-rule-requires
-with-rule-requires c κs = search needs
 
 returns-2 : tie.Need-returns-2
 unfolding ut1ByRuleOutcome J.offsetOutcome ruledPartOutcome placed utcToTai utcToUt1 utcToUt1ByRule
@@ -114,20 +78,20 @@ pub utc-to-ut1-with-dut1-by-lent-spec : {M : Type 1} → statement M
 utc-to-ut1-with-dut1-by-lent-spec =
     tie.close
     (tie.spec
-    finite-arg-requires
-    enum-known-number
+    (λ c κs. search needs)
+    (λ c. search needs)
     returns
-    enum-told
-    kept-parts-requires
-    tai-fraction-by-rule-requires
-    enum-known-number-2
-    enum-known-part
-    put-beside-requires
+    (λ c. search needs)
+    (λ c κs. search needs)
+    (λ c κs. search needs)
+    (λ c. search needs)
+    (λ c. search needs)
+    (λ c κs. search needs)
     offset-with-requires
-    enum-known-number-3
-    enum-known-x
-    tai-to-ut1-with-offset-requires
-    with-rule-requires
+    (λ c. search needs)
+    (λ c. search needs)
+    (λ c κs. search needs)
+    (λ c κs. search needs)
     returns-2
     returns-3
     returns-4)

@@ -22,18 +22,6 @@ called v =
     ap forget (v .utc-to-ut1-with-dut1-by-lent .ensures ∙ ap (λ (l : List Row). utcToUt1ByRule l (s .args .utc .0) (s .args .dut1)) (rows-in (s .args .t3) (z .size-of .result) (z .size-of .ensures)))
     ∙ utc-to-ut1-forgets (rowsOf (s .args .t3)) (s .args .utc .0) (s .args .dut1)
 
-size-of-requires : tie.Need-size-of-requires
-size-of-requires c κs = search needs
-
-utc-to-ut1-with-dut1-by-lent-requires : tie.Need-utc-to-ut1-with-dut1-by-lent-requires
-utc-to-ut1-with-dut1-by-lent-requires c κs = search needs
-
-enum-known-number : tie.Need-enum-known-number
-enum-known-number c = search needs
-
-enum-known-ut1 : tie.Need-enum-known-ut1
-enum-known-ut1 c = search needs
-
 returns : tie.Need-returns
 unfolding ut1Outcome ut1ByRuleOutcome forget onward
 returns c = ap (λ (x : Ut1ByRule). forget (ut1ByRuleOutcome x)) (sym (c .before .number .given .1)) ∙ called (c .before .before .before)
@@ -44,4 +32,4 @@ returns-2 c = ap (λ (x : Ut1ByRule). forget (ut1ByRuleOutcome x)) (sym (c .befo
 
 pub utc-to-ut1-with-dut1-by-rows-spec : {M : Type 1} → statement M
 utc-to-ut1-with-dut1-by-rows-spec =
-    tie.close (tie.spec size-of-requires utc-to-ut1-with-dut1-by-lent-requires enum-known-number enum-known-ut1 returns returns-2)
+    tie.close (tie.spec (λ c κs. search needs) (λ c κs. search needs) (λ c. search needs) (λ c. search needs) returns returns-2)

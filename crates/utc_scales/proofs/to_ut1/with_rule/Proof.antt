@@ -9,12 +9,6 @@ use borrow.Author.Needs.{needs}
 use Rattle.utc_scales.proofs.to_ut1.with_rule.Statement.{statement}
 use Rattle.utc_scales.proofs.to_ut1.with_rule.Tie as tie
 
-enum-known-found : tie.Need-enum-known-found
-enum-known-found c = search needs
-
-enum-known-found-2 : tie.Need-enum-known-found-2
-enum-known-found-2 c = search needs
-
 returns : tie.Need-returns
 unfolding ut1ByRuleOutcome ut1Outcome withRule onward
 returns c = ap (λ (x : Ut1Answer). withRule (ut1Outcome x) (c .before .before .before .args .rule)) (sym (c .before .found .given .1))
@@ -24,4 +18,4 @@ unfolding ut1ByRuleOutcome ut1Outcome withRule onward
 returns-2 c = ap (λ (x : Ut1Answer). withRule (ut1Outcome x) (c .before .before .before .args .rule)) (sym (c .before .found2 .given .1))
 
 pub with-rule-spec : {M : Type 1} → statement M
-with-rule-spec = tie.close (tie.spec enum-known-found enum-known-found-2 returns returns-2)
+with-rule-spec = tie.close (tie.spec (λ c. search needs) (λ c. search needs) returns returns-2)

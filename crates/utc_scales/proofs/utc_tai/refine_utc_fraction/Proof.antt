@@ -22,18 +22,6 @@ refined-requires : tie.Need-refined-requires
 unfolding RightKnown
 refined-requires c κs = tt
 
-refined-again-requires : tie.Need-refined-again-requires
-refined-again-requires c κs = search needs
-
-refined-again-requires-2 : tie.Need-refined-again-requires-2
-refined-again-requires-2 c κs = search needs
-
-enum-known-number : tie.Need-enum-known-number
-enum-known-number c = search needs
-
-enum-known-k : tie.Need-enum-known-k
-enum-known-k c = search needs
-
 returns : tie.Need-returns
 unfolding partOutcome fractionOutcome
 returns c =
@@ -57,9 +45,9 @@ refine-utc-fraction-spec =
     tie.close
     (tie.spec
     refined-requires
-    refined-again-requires
-    refined-again-requires-2
-    enum-known-number
-    enum-known-k
+    (λ c κs. search needs)
+    (λ c κs. search needs)
+    (λ c. search needs)
+    (λ c. search needs)
     returns
     returns-2)

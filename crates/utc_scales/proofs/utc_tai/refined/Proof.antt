@@ -19,21 +19,6 @@ use Rattle.utc_scales.proofs.utc_tai.refined.Tie as tie
 abbrev rows : tie.Start → List Row
 rows s = rowsIn (s .args .size) (now (s .args .months)) (now (s .args .seconds))
 
-kept-parts-requires : tie.Need-kept-parts-requires
-kept-parts-requires c κs = search needs
-
-tai-fraction-requires : tie.Need-tai-fraction-requires
-tai-fraction-requires c κs = search needs
-
-enum-known-number : tie.Need-enum-known-number
-enum-known-number c = search needs
-
-enum-known-k : tie.Need-enum-known-k
-enum-known-k c = search needs
-
-put-beside-requires : tie.Need-put-beside-requires
-put-beside-requires c κs = search needs
-
 returns : tie.Need-returns
 unfolding partOutcome RightPart placed utcToTai moved refined
 returns c =
@@ -56,10 +41,10 @@ pub refined-spec : {M : Type 1} → statement M
 refined-spec =
     tie.close
     (tie.spec
-    kept-parts-requires
-    tai-fraction-requires
-    enum-known-number
-    enum-known-k
-    put-beside-requires
+    (λ c κs. search needs)
+    (λ c κs. search needs)
+    (λ c. search needs)
+    (λ c. search needs)
+    (λ c κs. search needs)
     returns
     returns-2)

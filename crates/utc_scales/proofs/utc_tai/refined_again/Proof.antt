@@ -15,12 +15,6 @@ use Rattle.utc_scales.proofs.utc_tai.refined_again.Tie as tie
 abbrev rows : tie.Start → List Row
 rows s = rowsIn (s .args .size) (now (s .args .months)) (now (s .args .seconds))
 
-enum-known-guess : tie.Need-enum-known-guess
-enum-known-guess c = search needs
-
-enum-known-guess-2 : tie.Need-enum-known-guess-2
-enum-known-guess-2 c = search needs
-
 refined-requires : tie.Need-refined-requires
 unfolding RightKnown RightPart
 refined-requires c κs =
@@ -37,4 +31,4 @@ returns-2 c = (c .refined .ensures .0 ∙ sym (went _ (ap partOutcome (c .before
 
 pub refined-again-spec : {M : Type 1} → statement M
 refined-again-spec =
-    tie.close (tie.spec enum-known-guess enum-known-guess-2 refined-requires returns returns-2)
+    tie.close (tie.spec (λ c. search needs) (λ c. search needs) refined-requires returns returns-2)

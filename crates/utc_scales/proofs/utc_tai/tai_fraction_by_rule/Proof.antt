@@ -32,24 +32,6 @@ use Rattle.utc_scales.proofs.utc_tai.tai_fraction_by_rule.Tie as tie
 abbrev rows : tie.Start → List Row
 rows s = rowsIn (s .args .size) (now (s .args .months)) (now (s .args .seconds))
 
-day-number-and-fraction-requires : tie.Need-day-number-and-fraction-requires
-day-number-and-fraction-requires c κs = search needs
-
-enum-known-number : tie.Need-enum-known-number
-enum-known-number c = search needs
-
-enum-known-d : tie.Need-enum-known-d
-enum-known-d c = search needs
-
-day-of-requires : tie.Need-day-of-requires
-day-of-requires c κs = search needs
-
-enum-known-number-2 : tie.Need-enum-known-number-2
-enum-known-number-2 c = search needs
-
-enum-known-o : tie.Need-enum-known-o
-enum-known-o c = search needs
-
 mjd-of-requires : tie.Need-mjd-of-requires
 unfolding dayOutcome
 mjd-of-requires c κs =
@@ -59,9 +41,6 @@ mjd-of-requires c κs =
     let e = sym (n .day-number-and-fraction .ensures) ∙ ap dayOutcome (d .d .given .1) in
     let r = day-range _ _ (yes (s .good .0 .1)) (yes (s .good .1 .0 .1)) _ e in
     day-asked _ r
-
-tai-from-midnight-requires : tie.Need-tai-from-midnight-requires
-tai-from-midnight-requires c κs = search needs
 
 returns : tie.Need-returns
 unfolding ruledPartOutcome SameDays dayOutcome
@@ -99,14 +78,14 @@ pub tai-fraction-by-rule-spec : {M : Type 1} → statement M
 tai-fraction-by-rule-spec =
     tie.close
     (tie.spec
-    day-number-and-fraction-requires
-    enum-known-number
-    enum-known-d
-    day-of-requires
-    enum-known-number-2
-    enum-known-o
+    (λ c κs. search needs)
+    (λ c. search needs)
+    (λ c. search needs)
+    (λ c κs. search needs)
+    (λ c. search needs)
+    (λ c. search needs)
     mjd-of-requires
-    tai-from-midnight-requires
+    (λ c κs. search needs)
     returns
     returns-2
     returns-3)

@@ -5,12 +5,9 @@ use borrow.Author.Needs.{needs}
 use Rattle.utc_scales.proofs.utc_tai.tai_from_midnight.Statement.{statement}
 use Rattle.utc_scales.proofs.utc_tai.tai_from_midnight.Tie as tie
 
-stretch-day-fraction-requires : tie.Need-stretch-day-fraction-requires
-stretch-day-fraction-requires c κs = search needs
-
 returns : tie.Need-returns
 unfolding taiFromMidnight
 returns c = cc (mjd-zero-point, seconds-per-day)
 
 pub tai-from-midnight-spec : {M : Type 1} → statement M
-tai-from-midnight-spec = tie.close (tie.spec stretch-day-fraction-requires returns)
+tai-from-midnight-spec = tie.close (tie.spec (λ c κs. search needs) returns)

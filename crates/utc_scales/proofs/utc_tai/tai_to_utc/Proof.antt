@@ -6,15 +6,9 @@ use borrow.Author.Needs.{needs}
 use Rattle.utc_scales.proofs.utc_tai.tai_to_utc.Statement.{statement}
 use Rattle.utc_scales.proofs.utc_tai.tai_to_utc.Tie as tie
 
-table-refusal-requires : tie.Need-table-refusal-requires
-table-refusal-requires c κs = search needs
-
 returns : tie.Need-returns
 unfolding utcOutcome
 returns c = let r = c .before in turned-away (r .before .args .table) (r .table-refusal .result) (r .table-refusal .ensures) _ (c .if1 .taken)
-
-tai-to-utc-by-rows-requires : tie.Need-tai-to-utc-by-rows-requires
-tai-to-utc-by-rows-requires c κs = search needs
 
 returns-2 : tie.Need-returns-2
 returns-2 c =
@@ -25,4 +19,4 @@ returns-2 c =
 pub tai-to-utc-spec : {M : Type 1} → statement M
 tai-to-utc-spec =
     tie.close
-    (tie.spec table-refusal-requires returns tai-to-utc-by-rows-requires returns-2)
+    (tie.spec (λ c κs. search needs) returns (λ c κs. search needs) returns-2)

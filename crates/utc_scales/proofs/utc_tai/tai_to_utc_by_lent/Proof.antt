@@ -16,21 +16,6 @@ use Rattle.utc_scales.proofs.utc_tai.tai_to_utc_by_lent.Tie as tie
 abbrev rows : tie.Start → List Row
 rows s = rowsIn (s .args .size) (now (s .args .months)) (now (s .args .seconds))
 
-kept-parts-requires : tie.Need-kept-parts-requires
-kept-parts-requires c κs = search needs
-
-refine-utc-fraction-requires : tie.Need-refine-utc-fraction-requires
-refine-utc-fraction-requires c κs = search needs
-
-placed-requires : tie.Need-placed-requires
-placed-requires c κs = search needs
-
-enum-known-number : tie.Need-enum-known-number
-enum-known-number c = search needs
-
-enum-known-jd : tie.Need-enum-known-jd
-enum-known-jd c = search needs
-
 returns : tie.Need-returns
 unfolding utcOutcome julianOutcome taiToUtc
 returns c = sym (ap julianOutcome (c .before .number .given .1)) ∙ (c .before .before .before .placed .ensures ∙ changes (refineUtcFraction (rows (c .before .before .before .before .before .before))) _ _ _ (c .before .before .before .before .before .kept-parts .ensures) (c .before .before .before .before .refine-utc-fraction .ensures))
@@ -43,10 +28,10 @@ pub tai-to-utc-by-lent-spec : {M : Type 1} → statement M
 tai-to-utc-by-lent-spec =
     tie.close
     (tie.spec
-    kept-parts-requires
-    refine-utc-fraction-requires
-    placed-requires
-    enum-known-number
-    enum-known-jd
+    (λ c κs. search needs)
+    (λ c κs. search needs)
+    (λ c κs. search needs)
+    (λ c. search needs)
+    (λ c. search needs)
     returns
     returns-2)

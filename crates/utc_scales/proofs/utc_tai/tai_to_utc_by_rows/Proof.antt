@@ -8,12 +8,6 @@ use borrow.Author.Needs.{needs}
 use Rattle.utc_scales.proofs.utc_tai.tai_to_utc_by_rows.Statement.{statement}
 use Rattle.utc_scales.proofs.utc_tai.tai_to_utc_by_rows.Tie as tie
 
-size-of-requires : tie.Need-size-of-requires
-size-of-requires c κs = search needs
-
-tai-to-utc-by-lent-requires : tie.Need-tai-to-utc-by-lent-requires
-tai-to-utc-by-lent-requires c κs = search needs
-
 returns : tie.Need-returns
 returns c =
     let z = c .before .before .before .before in
@@ -21,4 +15,4 @@ returns c =
     c .tai-to-utc-by-lent .ensures ∙ ap (λ (l : List Row). taiToUtc l (s .args .tai .0)) (rows-in (s .args .t2) (z .size-of .result) (z .size-of .ensures))
 
 pub tai-to-utc-by-rows-spec : {M : Type 1} → statement M
-tai-to-utc-by-rows-spec = tie.close (tie.spec size-of-requires tai-to-utc-by-lent-requires returns)
+tai-to-utc-by-rows-spec = tie.close (tie.spec (λ c κs. search needs) (λ c κs. search needs) returns)

@@ -9,18 +9,9 @@ use borrow.Author.Needs.{needs}
 use Rattle.utc_scales.proofs.utc_tai.utc_to_tai.Statement.{statement}
 use Rattle.utc_scales.proofs.utc_tai.utc_to_tai.Tie as tie
 
-table-refusal-requires : tie.Need-table-refusal-requires
-table-refusal-requires c κs = search needs
-
 returns : tie.Need-returns
 unfolding taiByRuleOutcome
 returns c = let r = c .before in turned-away (r .before .args .t2) (r .table-refusal .result) (r .table-refusal .ensures) _ (c .if1 .taken)
-
-size-of-requires : tie.Need-size-of-requires
-size-of-requires c κs = search needs
-
-utc-to-tai-by-lent-requires : tie.Need-utc-to-tai-by-lent-requires
-utc-to-tai-by-lent-requires c κs = search needs
 
 returns-2 : tie.Need-returns-2
 returns-2 c =
@@ -33,4 +24,4 @@ returns-2 c =
 
 pub utc-to-tai-spec : {M : Type 1} → statement M
 utc-to-tai-spec =
-    tie.close (tie.spec table-refusal-requires returns size-of-requires utc-to-tai-by-lent-requires returns-2)
+    tie.close (tie.spec (λ c κs. search needs) returns (λ c κs. search needs) (λ c κs. search needs) returns-2)

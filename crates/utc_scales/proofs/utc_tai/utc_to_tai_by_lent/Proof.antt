@@ -23,21 +23,6 @@ use Rattle.utc_scales.proofs.utc_tai.utc_to_tai_by_lent.Tie as tie
 abbrev rows : tie.Start → List Row
 rows s = rowsIn (s .args .size) (now (s .args .months)) (now (s .args .seconds))
 
-kept-parts-requires : tie.Need-kept-parts-requires
-kept-parts-requires c κs = search needs
-
-tai-fraction-by-rule-requires : tie.Need-tai-fraction-by-rule-requires
-tai-fraction-by-rule-requires c κs = search needs
-
-enum-known-number : tie.Need-enum-known-number
-enum-known-number c = search needs
-
-enum-known-part : tie.Need-enum-known-part
-enum-known-part c = search needs
-
-put-beside-requires : tie.Need-put-beside-requires
-put-beside-requires c κs = search needs
-
 returns : tie.Need-returns
 unfolding taiByRuleOutcome ruledPartOutcome placed utcToTai utcToTaiByRule
 returns c =
@@ -61,10 +46,10 @@ pub utc-to-tai-by-lent-spec : {M : Type 1} → statement M
 utc-to-tai-by-lent-spec =
     tie.close
     (tie.spec
-    kept-parts-requires
-    tai-fraction-by-rule-requires
-    enum-known-number
-    enum-known-part
-    put-beside-requires
+    (λ c κs. search needs)
+    (λ c κs. search needs)
+    (λ c. search needs)
+    (λ c. search needs)
+    (λ c κs. search needs)
     returns
     returns-2)

@@ -22,18 +22,6 @@ called v =
     ap forget (v .utc-to-tai-by-lent .ensures ∙ ap (λ (l : List Row). utcToTaiByRule l (s .args .utc .0)) (rows-in (s .args .t2) (z .size-of .result) (z .size-of .ensures)))
     ∙ utc-to-tai-forgets (rowsOf (s .args .t2)) (s .args .utc .0)
 
-size-of-requires : tie.Need-size-of-requires
-size-of-requires c κs = search needs
-
-utc-to-tai-by-lent-requires : tie.Need-utc-to-tai-by-lent-requires
-utc-to-tai-by-lent-requires c κs = search needs
-
-enum-known-number : tie.Need-enum-known-number
-enum-known-number c = search needs
-
-enum-known-tai : tie.Need-enum-known-tai
-enum-known-tai c = search needs
-
 returns : tie.Need-returns
 unfolding taiOutcome taiByRuleOutcome forget onward
 returns c = ap (λ (x : TaiByRule). forget (taiByRuleOutcome x)) (sym (c .before .number .given .1)) ∙ called (c .before .before .before)
@@ -44,4 +32,4 @@ returns-2 c = ap (λ (x : TaiByRule). forget (taiByRuleOutcome x)) (sym (c .befo
 
 pub utc-to-tai-by-rows-spec : {M : Type 1} → statement M
 utc-to-tai-by-rows-spec =
-    tie.close (tie.spec size-of-requires utc-to-tai-by-lent-requires enum-known-number enum-known-tai returns returns-2)
+    tie.close (tie.spec (λ c κs. search needs) (λ c κs. search needs) (λ c. search needs) (λ c. search needs) returns returns-2)

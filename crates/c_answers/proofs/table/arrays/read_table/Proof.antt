@@ -12,32 +12,11 @@ use Rattle.c_answers.proofs.table.arrays.read_table.Tie as tie
 returns : tie.Need-returns
 returns c = (λ p q. read-14 _ [] (c .if1 .taken), omega arith)
 
-u32-at-requires : tie.Need-u32-at-requires
-u32-at-requires c κs = search needs
-
-u32-at-requires-2 : tie.Need-u32-at-requires-2
-u32-at-requires-2 c κs = search needs
-
-lend-none-requires : tie.Need-lend-none-requires
-lend-none-requires c κs = search needs
-
 returns-2 : tie.Need-returns-2
 returns-2 c =
     let n = c .before in
     let m = n .before .before in
     (λ p q. read-none _ _ _ _ _ (m .u32-at .ensures) (n .before .u32-at2 .ensures) (m .before .if1 .left) (sym (n .lend-none .ensures) ∙ c .if2 .taken), omega arith)
-
-places-of-requires : tie.Need-places-of-requires
-places-of-requires c κs = search needs
-
-put-numbers-requires : tie.Need-put-numbers-requires
-put-numbers-requires c κs = search needs
-
-put-numbers-requires-2 : tie.Need-put-numbers-requires-2
-put-numbers-requires-2 c κs = search needs
-
-lent-refusal-requires : tie.Need-lent-refusal-requires
-lent-refusal-requires c κs = search needs
 
 returns-3 : tie.Need-returns-3
 returns-3 c =
@@ -53,12 +32,12 @@ read-table-spec =
     tie.close
     (tie.spec
     returns
-    u32-at-requires
-    u32-at-requires-2
-    lend-none-requires
+    (λ c κs. search needs)
+    (λ c κs. search needs)
+    (λ c κs. search needs)
     returns-2
-    places-of-requires
-    put-numbers-requires
-    put-numbers-requires-2
-    lent-refusal-requires
+    (λ c κs. search needs)
+    (λ c κs. search needs)
+    (λ c κs. search needs)
+    (λ c κs. search needs)
     returns-3)

@@ -10,29 +10,11 @@ use borrow.Author.Needs.{needs}
 use Rattle.capi.proofs.lent_calls.bills.bill_call.Statement.{statement}
 use Rattle.capi.proofs.lent_calls.bills.bill_call.Tie as tie
 
-lent-rows-at-requires : tie.Need-lent-rows-at-requires
-lent-rows-at-requires c κs = search needs
-
-table-number-requires : tie.Need-table-number-requires
-table-number-requires c κs = search needs
-
-refused-requires : tie.Need-refused-requires
-refused-requires c κs = search needs
-
 returns : tie.Need-returns
 returns c =
     let n = c .before .before in
     table-refused _ (n .before .lent-rows-at .result) (n .table-number .result) (n .table-number .ensures) (n .before .lent-rows-at .ensures) billBytes _ (c .refused .ok)
     (c .before .if1 .taken) (c .refused .ensures)
-
-standby-bill-requires : tie.Need-standby-bill-requires
-standby-bill-requires c κs = search needs
-
-put-bill-requires : tie.Need-put-bill-requires
-put-bill-requires c κs = search needs
-
-same-length : tie.Need-same-length
-same-length c = search needs
 
 returns-2 : tie.Need-returns-2
 unfolding onward
@@ -51,11 +33,11 @@ pub bill-call-spec : {M : Type 1} → statement M
 bill-call-spec =
     tie.close
     (tie.spec
-    lent-rows-at-requires
-    table-number-requires
-    refused-requires
+    (λ c κs. search needs)
+    (λ c κs. search needs)
+    (λ c κs. search needs)
     returns
-    standby-bill-requires
-    put-bill-requires
-    same-length
+    (λ c κs. search needs)
+    (λ c κs. search needs)
+    (λ c. search needs)
     returns-2)

@@ -7,21 +7,6 @@ use borrow.Author.Needs.{needs}
 use Rattle.capi.proofs.lent_calls.bills.put_bill.Statement.{statement}
 use Rattle.capi.proofs.lent_calls.bills.put_bill.Tie as tie
 
-enum-known-found : tie.Need-enum-known-found
-enum-known-found c = search needs
-
-put-three-patterns-requires : tie.Need-put-three-patterns-requires
-put-three-patterns-requires c κs = search needs
-
-enum-known-found-2 : tie.Need-enum-known-found-2
-enum-known-found-2 c = search needs
-
-refused-requires : tie.Need-refused-requires
-refused-requires c κs = search needs
-
-same-length : tie.Need-same-length
-same-length c = search needs
-
 returns : tie.Need-returns
 unfolding billOutcome billBytes
 returns c =
@@ -36,10 +21,10 @@ pub put-bill-spec : {M : Type 1} → statement M
 put-bill-spec =
     tie.close
     (tie.spec
-    enum-known-found
-    put-three-patterns-requires
-    enum-known-found-2
-    refused-requires
-    same-length
+    (λ c. search needs)
+    (λ c κs. search needs)
+    (λ c. search needs)
+    (λ c κs. search needs)
+    (λ c. search needs)
     returns
     returns-2)

@@ -10,12 +10,6 @@ use borrow.Author.Needs.{needs}
 use Rattle.capi.proofs.lent_calls.bills.standby_bill.Statement.{statement}
 use Rattle.capi.proofs.lent_calls.bills.standby_bill.Tie as tie
 
-bill-call-requires : tie.Need-bill-call-requires
-bill-call-requires c κs = search needs
-
-same-length : tie.Need-same-length
-same-length c = search needs
-
 returns : tie.Need-returns
 returns c =
     let p = c .before .before in
@@ -30,4 +24,4 @@ returns c =
     (p .bill-call .ensures)
 
 pub standby-bill-spec : {M : Type 1} → statement M
-standby-bill-spec = tie.close (tie.spec bill-call-requires same-length returns)
+standby-bill-spec = tie.close (tie.spec (λ c κs. search needs) (λ c. search needs) returns)

@@ -10,15 +10,6 @@ use Rattle.julian.proofs.shifts.given_offset.finite_offset.Statement.{s
 use Rattle.julian.proofs.shifts.given_offset.finite_offset.Tie as tie
 use Rattle.julian.specs.shifts.Shifts.{finiteOffset}
 
-finite-arg-requires : tie.Need-finite-arg-requires
-finite-arg-requires c κs = search needs
-
-enum-known-s : tie.Need-enum-known-s
-enum-known-s c = search needs
-
-enum-known-n : tie.Need-enum-known-n
-enum-known-n c = search needs
-
 returns : tie.Need-returns
 unfolding julianOutcome offsetOutcome finiteOffset
 returns c = sym (went (λ (s : Float). answer (c .before .before .before .before .args .jd)) (sym (c .before .before .before .finite-arg .ensures) ∙ ap offsetOutcome (c .before .s .given .1)))
@@ -29,4 +20,4 @@ returns-2 c = sym (stopped (λ (s : Float). answer (c .before .before .before .b
 
 pub finite-offset-spec : {M : Type 1} → statement M
 finite-offset-spec =
-    tie.close (tie.spec finite-arg-requires enum-known-s enum-known-n returns returns-2)
+    tie.close (tie.spec (λ c κs. search needs) (λ c. search needs) (λ c. search needs) returns returns-2)

@@ -7,12 +7,6 @@ use borrow.Author.Needs.{needs}
 use Rattle.julian.proofs.shifts.given_offset.first_refusal.Statement.{statement}
 use Rattle.julian.proofs.shifts.given_offset.first_refusal.Tie as tie
 
-enum-known-a : tie.Need-enum-known-a
-enum-known-a c = search needs
-
-enum-known-a-2 : tie.Need-enum-known-a-2
-enum-known-a-2 c = search needs
-
 returns : tie.Need-returns
 unfolding julianOutcome
 returns c = sym (went (λ (jd : JulianDate). julianOutcome (c .before .before .before .args .b)) (ap julianOutcome (c .before .a .given .1)))
@@ -22,4 +16,4 @@ unfolding julianOutcome
 returns-2 c = sym (stopped (λ (jd : JulianDate). julianOutcome (c .before .before .before .args .b)) (ap julianOutcome (c .before .a2 .given .1)))
 
 pub first-refusal-spec : {M : Type 1} → statement M
-first-refusal-spec = tie.close (tie.spec enum-known-a enum-known-a-2 returns returns-2)
+first-refusal-spec = tie.close (tie.spec (λ c. search needs) (λ c. search needs) returns returns-2)

@@ -6,18 +6,9 @@ use Rattle.julian.proofs.shifts.given_offset.later_by.Statement.{statem
 use Rattle.julian.proofs.shifts.given_offset.later_by.Tie as tie
 use Rattle.julian.specs.shifts.Shifts.{plus, convertedBy}
 
-finite-both-requires : tie.Need-finite-both-requires
-finite-both-requires c κs = search needs
-
-days-of-requires : tie.Need-days-of-requires
-days-of-requires c κs = search needs
-
-later-requires : tie.Need-later-requires
-later-requires c κs = search needs
-
 returns : tie.Need-returns
 unfolding convertedBy
 returns c = c .later .ensures ∙ moved-alike plus (c .before .before .finite-both .ensures) (c .before .days-of .ensures)
 
 pub later-by-spec : {M : Type 1} → statement M
-later-by-spec = tie.close (tie.spec finite-both-requires days-of-requires later-requires returns)
+later-by-spec = tie.close (tie.spec (λ c κs. search needs) (λ c κs. search needs) (λ c κs. search needs) returns)

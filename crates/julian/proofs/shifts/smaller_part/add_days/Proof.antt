@@ -8,15 +8,9 @@ use Rattle.julian.proofs.shifts.smaller_part.add_days.Statement.{statem
 use Rattle.julian.proofs.shifts.smaller_part.add_days.Tie as tie
 use Rattle.julian.specs.shifts.Shifts.{plus}
 
-split-requires : tie.Need-split-requires
-split-requires c κs = search needs
-
-put-back-requires : tie.Need-put-back-requires
-put-back-requires c κs = search needs
-
 returns : tie.Need-returns
 unfolding mapSmallerPart plus
 returns c = c .put-back .ensures ∙ ap (λ (p : Parts). putBack (c .before .before .before .args .jd) (add binary64 (p .smaller) (c .before .before .before .args .days))) (c .before .before .split .ensures)
 
 pub add-days-spec : {M : Type 1} → statement M
-add-days-spec = tie.close (tie.spec split-requires put-back-requires returns)
+add-days-spec = tie.close (tie.spec (λ c κs. search needs) (λ c κs. search needs) returns)

@@ -8,15 +8,6 @@ use Rattle.julian.proofs.shifts.smaller_part.earlier.Statement.{stateme
 use Rattle.julian.proofs.shifts.smaller_part.earlier.Tie as tie
 use Rattle.julian.specs.shifts.Shifts.{minus, changed}
 
-enum-known-a : tie.Need-enum-known-a
-enum-known-a c = search needs
-
-subtract-days-requires : tie.Need-subtract-days-requires
-subtract-days-requires c κs = search needs
-
-enum-known-a-2 : tie.Need-enum-known-a-2
-enum-known-a-2 c = search needs
-
 returns : tie.Need-returns
 unfolding julianOutcome changed
 returns c = ap answer (c .subtract-days .ensures) ∙ sym (went (changed (minus (c .before .before .before .before .args .days))) (ap julianOutcome (c .before .before .a .given .1)))
@@ -27,4 +18,4 @@ returns-2 c = sym (stopped (changed (minus (c .before .before .before .args .day
 
 pub earlier-spec : {M : Type 1} → statement M
 earlier-spec =
-    tie.close (tie.spec enum-known-a subtract-days-requires enum-known-a-2 returns returns-2)
+    tie.close (tie.spec (λ c. search needs) (λ c κs. search needs) (λ c. search needs) returns returns-2)

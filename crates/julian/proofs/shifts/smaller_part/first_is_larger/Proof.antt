@@ -4,12 +4,9 @@ use borrow.Author.Needs.{needs}
 use Rattle.julian.proofs.shifts.smaller_part.first_is_larger.Statement.{statement}
 use Rattle.julian.proofs.shifts.smaller_part.first_is_larger.Tie as tie
 
-larger-in-size-requires : tie.Need-larger-in-size-requires
-larger-in-size-requires c κs = search needs
-
 returns : tie.Need-returns
 unfolding firstIsLarger
 returns c = c .larger-in-size .ensures
 
 pub first-is-larger-spec : {M : Type 1} → statement M
-first-is-larger-spec = tie.close (tie.spec larger-in-size-requires returns)
+first-is-larger-spec = tie.close (tie.spec (λ c κs. search needs) returns)

@@ -8,15 +8,6 @@ use Rattle.julian.proofs.shifts.smaller_part.later.Statement.{statement
 use Rattle.julian.proofs.shifts.smaller_part.later.Tie as tie
 use Rattle.julian.specs.shifts.Shifts.{plus, changed}
 
-enum-known-a : tie.Need-enum-known-a
-enum-known-a c = search needs
-
-add-days-requires : tie.Need-add-days-requires
-add-days-requires c κs = search needs
-
-enum-known-a-2 : tie.Need-enum-known-a-2
-enum-known-a-2 c = search needs
-
 returns : tie.Need-returns
 unfolding julianOutcome changed
 returns c = ap answer (c .add-days .ensures) ∙ sym (went (changed (plus (c .before .before .before .before .args .days))) (ap julianOutcome (c .before .before .a .given .1)))
@@ -26,4 +17,4 @@ unfolding julianOutcome
 returns-2 c = sym (stopped (changed (plus (c .before .before .before .args .days))) (ap julianOutcome (c .before .a2 .given .1)))
 
 pub later-spec : {M : Type 1} → statement M
-later-spec = tie.close (tie.spec enum-known-a add-days-requires enum-known-a-2 returns returns-2)
+later-spec = tie.close (tie.spec (λ c. search needs) (λ c κs. search needs) (λ c. search needs) returns returns-2)

@@ -6,9 +6,6 @@ use borrow.Author.Needs.{needs}
 use Rattle.julian.proofs.shifts.smaller_part.put_back.Statement.{statement}
 use Rattle.julian.proofs.shifts.smaller_part.put_back.Tie as tie
 
-first-is-larger-requires : tie.Need-first-is-larger-requires
-first-is-larger-requires c κs = search needs
-
 returns : tie.Need-returns
 returns c = put-is (c .before .before .args .jd) (c .before .before .args .x) true (sym (c .if1 .taken) ∙ c .before .first-is-larger .ensures)
 
@@ -16,4 +13,4 @@ returns-2 : tie.Need-returns-2
 returns-2 c = put-is (c .before .before .args .jd) (c .before .before .args .x) false (sym (c .if1 .left) ∙ c .before .first-is-larger .ensures)
 
 pub put-back-spec : {M : Type 1} → statement M
-put-back-spec = tie.close (tie.spec first-is-larger-requires returns returns-2)
+put-back-spec = tie.close (tie.spec (λ c κs. search needs) returns returns-2)

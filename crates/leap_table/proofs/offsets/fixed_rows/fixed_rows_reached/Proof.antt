@@ -18,9 +18,6 @@ before-1972 : (n : ℕ) → n < 23664 → reached (drop 14 (starts fixed)) n ≡
 unfolding fixed
 before-1972 n h = late 23663 (drop 14 (starts fixed)) tt n (omega arith)
 
-slice-aggregate-rows-reached : tie.Need-slice-aggregate-rows-reached
-slice-aggregate-rows-reached c = search needs
-
 rows-reached-requires : tie.Need-rows-reached-requires
 unfolding reached
 rows-reached-requires c κs = search needs
@@ -29,9 +26,6 @@ returns : tie.Need-returns
 unfolding fixed
 returns c = (c .rows-reached .ensures, rw (c .rows-reached .ensures) (at-most _ _))
 
-slice-aggregate-rows-reached-2 : tie.Need-slice-aggregate-rows-reached-2
-slice-aggregate-rows-reached-2 c = search needs
-
 rows-reached-requires-2 : tie.Need-rows-reached-requires-2
 unfolding fixed
 rows-reached-requires-2 c κs = (omega arith, before-1988 _ (c .before .before .if1 .left))
@@ -39,9 +33,6 @@ rows-reached-requires-2 c κs = (omega arith, before-1988 _ (c .before .before .
 returns-2 : tie.Need-returns-2
 unfolding fixed
 returns-2 c = (c .rows-reached2 .ensures, rw (c .rows-reached2 .ensures) (at-most _ _))
-
-slice-aggregate-rows-reached-3 : tie.Need-slice-aggregate-rows-reached-3
-slice-aggregate-rows-reached-3 c = search needs
 
 rows-reached-requires-3 : tie.Need-rows-reached-requires-3
 unfolding fixed
@@ -55,12 +46,12 @@ pub fixed-rows-reached-spec : {M : Type 1} → statement M
 fixed-rows-reached-spec =
     tie.close
     (tie.spec
-    slice-aggregate-rows-reached
+    (λ c. search needs)
     rows-reached-requires
     returns
-    slice-aggregate-rows-reached-2
+    (λ c. search needs)
     rows-reached-requires-2
     returns-2
-    slice-aggregate-rows-reached-3
+    (λ c. search needs)
     rows-reached-requires-3
     returns-3)

@@ -10,15 +10,9 @@ use Rattle.leap_table.proofs.rows.Rows.{place}
 use Rattle.leap_table.proofs.offsets.fixed_rows.rate_at.Statement.{statement}
 use Rattle.leap_table.proofs.offsets.fixed_rows.rate_at.Tie as tie
 
-mul-result : tie.Need-mul-result
-mul-result c = search needs
-
-array-read-result : tie.Need-array-read-result
-array-read-result c = search needs
-
 returns : tie.Need-returns
 unfolding fixed rateOf round ofBits
 returns c = place rateOf (take 14 fixed) (c .args .i) (c .pre) ∙ ap rateOf (getD-take 14 fixed (c .args .i) none (c .pre))
 
 pub rate-at-spec : {M : Type 1} → statement M
-rate-at-spec = tie.close (tie.spec mul-result array-read-result returns)
+rate-at-spec = tie.close (tie.spec (λ c. search needs) (λ c. search needs) returns)

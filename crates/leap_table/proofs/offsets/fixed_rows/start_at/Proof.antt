@@ -10,15 +10,9 @@ use Rattle.leap_table.proofs.rows.Rows.{place}
 use Rattle.leap_table.proofs.offsets.fixed_rows.start_at.Statement.{statement}
 use Rattle.leap_table.proofs.offsets.fixed_rows.start_at.Tie as tie
 
-mul-result : tie.Need-mul-result
-mul-result c = search needs
-
-array-read-result : tie.Need-array-read-result
-array-read-result c = search needs
-
 returns : tie.Need-returns
 unfolding fixed startOf round ofBits
 returns c = place startOf (take 14 fixed) (c .args .i) (c .pre) ∙ ap startOf (getD-take 14 fixed (c .args .i) none (c .pre))
 
 pub start-at-spec : {M : Type 1} → statement M
-start-at-spec = tie.close (tie.spec mul-result array-read-result returns)
+start-at-spec = tie.close (tie.spec (λ c. search needs) (λ c. search needs) returns)

@@ -5,17 +5,8 @@ use Rattle.leap_table.proofs.offsets.Years.{seconds-whole}
 use Rattle.leap_table.proofs.offsets.fixed_rows.whole_seconds.Statement.{statement}
 use Rattle.leap_table.proofs.offsets.fixed_rows.whole_seconds.Tie as tie
 
-sub-seconds : tie.Need-sub-seconds
-sub-seconds c = search needs
-
-cast-seconds : tie.Need-cast-seconds
-cast-seconds c = search needs
-
-int-to-float-result : tie.Need-int-to-float-result
-int-to-float-result c = search needs
-
 returns : tie.Need-returns
 returns c = let s = c .before in sym (seconds-whole (s .args .rows) (s .pre .0) (s .pre .1))
 
 pub whole-seconds-spec : {M : Type 1} → statement M
-whole-seconds-spec = tie.close (tie.spec sub-seconds cast-seconds int-to-float-result returns)
+whole-seconds-spec = tie.close (tie.spec (λ c. search needs) (λ c. search needs) (λ c. search needs) returns)

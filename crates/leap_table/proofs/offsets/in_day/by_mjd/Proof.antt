@@ -43,15 +43,6 @@ module _ (c : tie.After-known-told2) where
   small : natAbs (c .before .n .given .0 .0) < 1000000000000
   small = mjd-small _ _ _ _ (c .before .before .before .before .fits .year) mjd
 
-modified-julian-day-requires : tie.Need-modified-julian-day-requires
-modified-julian-day-requires c κs = search needs
-
-enum-known-number : tie.Need-enum-known-number
-enum-known-number c = search needs
-
-enum-known-n : tie.Need-enum-known-n
-enum-known-n c = search needs
-
 cast-month-number : tie.Need-cast-month-number
 cast-month-number c = let s = c .before .before .before .before in to-unsigned (s .args .month) (s .fits .month) (ok c .m-sign)
 
@@ -60,9 +51,6 @@ month-number-requires c κs =
     let s = c .before .before .before .before in
     let m = read-back (s .args .month) (s .fits .month) in
     (omega (arith, m, ok c .m-low), omega (arith, m, ok c .m-high))
-
-table-rows-reached-requires : tie.Need-table-rows-reached-requires
-table-rows-reached-requires c κs = search needs
 
 int-to-float-offset-by : tie.Need-int-to-float-offset-by
 int-to-float-offset-by c = let k = c .before .before .before in float-fits (k .before .n .given .0 .0) (small k)
@@ -109,12 +97,12 @@ pub by-mjd-spec : {M : Type 1} → statement M
 by-mjd-spec =
     tie.close
     (tie.spec
-    modified-julian-day-requires
-    enum-known-number
-    enum-known-n
+    (λ c κs. search needs)
+    (λ c. search needs)
+    (λ c. search needs)
     cast-month-number
     month-number-requires
-    table-rows-reached-requires
+    (λ c κs. search needs)
     int-to-float-offset-by
     offset-by-requires
     rule-by-requires

@@ -9,18 +9,9 @@ use Rattle.leap_table.proofs.rows.TablesTaken.{turned-away, taken}
 use Rattle.leap_table.proofs.offsets.in_day.get_tai_utc_offset.Statement.{statement}
 use Rattle.leap_table.proofs.offsets.in_day.get_tai_utc_offset.Tie as tie
 
-table-refusal-requires : tie.Need-table-refusal-requires
-table-refusal-requires c κs = search needs
-
 returns : tie.Need-returns
 unfolding secondsByRuleOutcome
 returns c = let r = c .before in turned-away (r .before .args .t5) (r .table-refusal .result) (r .table-refusal .ensures) _ (c .if1 .taken)
-
-size-of-requires : tie.Need-size-of-requires
-size-of-requires c κs = search needs
-
-get-tai-utc-offset-by-lent-requires : tie.Need-get-tai-utc-offset-by-lent-requires
-get-tai-utc-offset-by-lent-requires c κs = search needs
 
 returns-2 : tie.Need-returns-2
 returns-2 c =
@@ -34,4 +25,4 @@ returns-2 c =
 
 pub get-tai-utc-offset-spec : {M : Type 1} → statement M
 get-tai-utc-offset-spec =
-    tie.close (tie.spec table-refusal-requires returns size-of-requires get-tai-utc-offset-by-lent-requires returns-2)
+    tie.close (tie.spec (λ c κs. search needs) returns (λ c κs. search needs) (λ c κs. search needs) returns-2)

@@ -27,9 +27,6 @@ returns-2 : tie.Need-returns-2
 unfolding ofBits secondsByRuleOutcome offsetByRule
 returns-2 c = not-told _ _ _ (sym (fraction-refused _ _ _ _ _ (too-high _ (c .before .if1 .left) (c .if2 .taken))))
 
-plain-day-requires : tie.Need-plain-day-requires
-plain-day-requires c κs = search needs
-
 of-plain-day-requires : tie.Need-of-plain-day-requires
 of-plain-day-requires c κs = c .before .plain-day .ensures (c .if3 .taken)
 
@@ -56,4 +53,4 @@ returns-4 c =
 pub get-tai-utc-offset-by-lent-spec : {M : Type 1} → statement M
 get-tai-utc-offset-by-lent-spec =
     tie.close
-    (tie.spec returns returns-2 plain-day-requires of-plain-day-requires returns-3 by-mjd-requires returns-4)
+    (tie.spec returns returns-2 (λ c κs. search needs) of-plain-day-requires returns-3 by-mjd-requires returns-4)

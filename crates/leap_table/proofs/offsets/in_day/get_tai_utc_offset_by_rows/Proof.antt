@@ -9,15 +9,6 @@ use Rattle.leap_table.proofs.offsets.Rules.{offset-forgets}
 use Rattle.leap_table.proofs.offsets.in_day.get_tai_utc_offset_by_rows.Statement.{statement}
 use Rattle.leap_table.proofs.offsets.in_day.get_tai_utc_offset_by_rows.Tie as tie
 
-size-of-requires : tie.Need-size-of-requires
-size-of-requires c κs = search needs
-
-get-tai-utc-offset-by-lent-requires : tie.Need-get-tai-utc-offset-by-lent-requires
-get-tai-utc-offset-by-lent-requires c κs = search needs
-
-without-rule-requires : tie.Need-without-rule-requires
-without-rule-requires c κs = search needs
-
 returns : tie.Need-returns
 returns c =
     let v = c .before in
@@ -30,4 +21,4 @@ returns c =
 
 pub get-tai-utc-offset-by-rows-spec : {M : Type 1} → statement M
 get-tai-utc-offset-by-rows-spec =
-    tie.close (tie.spec size-of-requires get-tai-utc-offset-by-lent-requires without-rule-requires returns)
+    tie.close (tie.spec (λ c κs. search needs) (λ c κs. search needs) (λ c κs. search needs) returns)

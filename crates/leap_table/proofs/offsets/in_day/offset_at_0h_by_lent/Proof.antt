@@ -25,9 +25,6 @@ at-0h : inDay nought ≡ true
 unfolding inDay le
 at-0h = refl
 
-plain-day-requires : tie.Need-plain-day-requires
-plain-day-requires c κs = search needs
-
 of-plain-day-requires : tie.Need-of-plain-day-requires
 of-plain-day-requires c κs = c .before .plain-day .ensures (c .if1 .taken)
 
@@ -54,4 +51,4 @@ returns-2 c =
 pub offset-at-0h-by-lent-spec : {M : Type 1} → statement M
 offset-at-0h-by-lent-spec =
     tie.close
-    (tie.spec plain-day-requires of-plain-day-requires returns by-mjd-requires returns-2)
+    (tie.spec (λ c κs. search needs) of-plain-day-requires returns by-mjd-requires returns-2)

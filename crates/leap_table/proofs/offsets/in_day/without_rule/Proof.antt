@@ -8,12 +8,6 @@ use borrow.Author.Needs.{needs}
 use Rattle.leap_table.proofs.offsets.in_day.without_rule.Statement.{statement}
 use Rattle.leap_table.proofs.offsets.in_day.without_rule.Tie as tie
 
-enum-known-found : tie.Need-enum-known-found
-enum-known-found c = search needs
-
-enum-known-found-2 : tie.Need-enum-known-found-2
-enum-known-found-2 c = search needs
-
 returns : tie.Need-returns
 unfolding secondsOutcome secondsByRuleOutcome forget onward
 returns c = ap (λ (x : SecondsByRule). forget (secondsByRuleOutcome x)) (sym (c .before .found .given .1))
@@ -23,4 +17,4 @@ unfolding secondsOutcome secondsByRuleOutcome forget onward
 returns-2 c = ap (λ (x : SecondsByRule). forget (secondsByRuleOutcome x)) (sym (c .before .found2 .given .1))
 
 pub without-rule-spec : {M : Type 1} → statement M
-without-rule-spec = tie.close (tie.spec enum-known-found enum-known-found-2 returns returns-2)
+without-rule-spec = tie.close (tie.spec (λ c. search needs) (λ c. search needs) returns returns-2)

@@ -12,18 +12,6 @@ use Rattle.leap_table.proofs.offsets.ByParts.{lent-seconds}
 use Rattle.leap_table.proofs.offsets.lent.seconds_at.Statement.{statement}
 use Rattle.leap_table.proofs.offsets.lent.seconds_at.Tie as tie
 
-mul-natural : tie.Need-mul-natural
-mul-natural c = search needs
-
-element-copy-out-natural : tie.Need-element-copy-out-natural
-element-copy-out-natural c = search needs
-
-natural-requires : tie.Need-natural-requires
-natural-requires c κs = search needs
-
-int-to-float-result : tie.Need-int-to-float-result
-int-to-float-result c = search needs
-
 returns : tie.Need-returns
 returns c =
     let n = c .before in
@@ -31,4 +19,4 @@ returns c =
     ap wholeF (n .natural .ensures .0 ∙ read-natural (getD (now (s .seconds)) (s .i) (pos 0)) (record { sfits = n .before .natural-arg .given })) ∙ sym (lent-seconds (lentTable 0 0 [] (now (s .seconds))) (s .i))
 
 pub seconds-at-spec : {M : Type 1} → statement M
-seconds-at-spec = tie.close (tie.spec mul-natural element-copy-out-natural natural-requires int-to-float-result returns)
+seconds-at-spec = tie.close (tie.spec (λ c. search needs) (λ c. search needs) (λ c κs. search needs) (λ c. search needs) returns)

@@ -28,30 +28,12 @@ by-some : (n k : ℕ) → (k ≡ 0 → ⊥) → byFound n k ≡ 42 + k
 by-some n zero e = absurd (e refl)
 by-some n (suc k) e = refl
 
-at-most-16-requires : tie.Need-at-most-16-requires
-at-most-16-requires c κs = search needs
-
-cast-lent-rows-reached : tie.Need-cast-lent-rows-reached
-cast-lent-rows-reached c = search needs
-
-lent-rows-reached-requires : tie.Need-lent-rows-reached-requires
-lent-rows-reached-requires c κs = search needs
-
-fixed-rows-reached-requires : tie.Need-fixed-rows-reached-requires
-fixed-rows-reached-requires c κs = search needs
-
 returns : tie.Need-returns
 returns c =
     let f = c .before .before in
     let s = f .before .before .args in
     let r = c .fixed-rows-reached .ensures in
     (λ seconds. r .0 ∙ sym (by-none (s .n) _ (c .before .if1 .taken)) ∙ f .lent-rows-reached .ensures .0 ∙ of-table (s .size) (now (s .months)) seconds (s .n) _ (f .before .at-most-16 .ensures .0), omega (arith, r .1))
-
-cast-result : tie.Need-cast-result
-cast-result c = search needs
-
-add-result : tie.Need-add-result
-add-result c = search needs
 
 returns-2 : tie.Need-returns-2
 returns-2 c =
@@ -64,11 +46,11 @@ pub any-rows-reached-spec : {M : Type 1} → statement M
 any-rows-reached-spec =
     tie.close
     (tie.spec
-    at-most-16-requires
-    cast-lent-rows-reached
-    lent-rows-reached-requires
-    fixed-rows-reached-requires
+    (λ c κs. search needs)
+    (λ c. search needs)
+    (λ c κs. search needs)
+    (λ c κs. search needs)
     returns
-    cast-result
-    add-result
+    (λ c. search needs)
+    (λ c. search needs)
     returns-2)

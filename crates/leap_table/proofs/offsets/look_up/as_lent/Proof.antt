@@ -9,9 +9,6 @@ use Rattle.leap_table.proofs.rows.ByParts.{least-low, least-high}
 use Rattle.leap_table.proofs.offsets.look_up.as_lent.Statement.{statement}
 use Rattle.leap_table.proofs.offsets.look_up.as_lent.Tie as tie
 
-cast-result : tie.Need-cast-result
-cast-result c = search needs
-
 returns : tie.Need-returns
 returns c = toZ-pos w32 {n = c .before .args .n} (omega (arith, c .if1 .taken)) ∙ ap pos (sym (least-low _ 2147483647 (c .if1 .taken)))
 
@@ -19,4 +16,4 @@ returns-2 : tie.Need-returns-2
 returns-2 c = ap pos (sym (least-high _ 2147483647 (c .if1 .left)))
 
 pub as-lent-spec : {M : Type 1} → statement M
-as-lent-spec = tie.close (tie.spec cast-result returns returns-2)
+as-lent-spec = tie.close (tie.spec (λ c. search needs) returns returns-2)

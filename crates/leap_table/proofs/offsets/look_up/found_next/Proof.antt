@@ -12,9 +12,6 @@ use Rattle.leap_table.proofs.offsets.look_up.found_next.Tie as tie
 test : (s : tie.Start) (b : Bool) → leZ (toZ w32 (ofZ w32 (s .args .lent))) (toZ w32 (ofZ w32 (s .args .month))) ≡ b → leZ (s .args .lent) (s .args .month) ≡ b
 test s b e = (λ i. leZ (sym (toZ-ofZ (s .fits .lent)) i) (sym (toZ-ofZ (s .fits .month)) i)) ∙ e
 
-add-result : tie.Need-add-result
-add-result c = search needs
-
 returns : tie.Need-returns
 returns c = rw (test (c .before) true (c .if1 .taken))
 
@@ -22,4 +19,4 @@ returns-2 : tie.Need-returns-2
 returns-2 c = rw (test (c .before) false (c .if1 .left))
 
 pub found-next-spec : {M : Type 1} → statement M
-found-next-spec = tie.close (tie.spec add-result returns returns-2)
+found-next-spec = tie.close (tie.spec (λ c. search needs) returns returns-2)

@@ -18,12 +18,9 @@ mul-result c = record { fits = omega (arith, year-small (c .before .args .year) 
 add-result : tie.Need-add-result
 add-result c = record { fits = omega (arith, year-small (c .before .args .year) (c .before .fits .year), c .before .pre) }
 
-sub-result : tie.Need-sub-result
-sub-result c = search needs
-
 returns-2 : tie.Need-returns-2
 returns-2 c = counted (c .before .args .year) (c .before .args .month) (c .before .fits .year) (c .if1 .left)
 
 pub month-number-spec : {M : Type 1} → statement M
 month-number-spec =
-    tie.close (tie.spec returns cast-result mul-result add-result sub-result returns-2)
+    tie.close (tie.spec returns cast-result mul-result add-result (λ c. search needs) returns-2)

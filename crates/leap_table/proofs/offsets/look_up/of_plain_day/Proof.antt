@@ -37,9 +37,6 @@ month-number-requires c κs =
     let m = read-back (c .args .month) (c .fits .month) in
     (omega (arith, m, ok c .m-low), omega (arith, m, ok c .m-high))
 
-table-rows-reached-requires : tie.Need-table-rows-reached-requires
-table-rows-reached-requires c κs = search needs
-
 from-1972 : (c : tie.After-month-number) → 23664 ≤ c .month-number .result
 from-1972 c = omega (arith, month-is c, c .before .pre .from-1972)
 
@@ -79,7 +76,7 @@ of-plain-day-spec =
     (tie.spec
     cast-month-number
     month-number-requires
-    table-rows-reached-requires
+    (λ c κs. search needs)
     seconds-of-row-requires
     whole-rule-requires
     returns)

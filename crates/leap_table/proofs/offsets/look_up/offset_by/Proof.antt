@@ -25,18 +25,6 @@ returns c size months h =
     let s = c .before .args in
     absent (rowsIn size months (now (s .seconds))) (s .rows) (s .mjd) (s .fraction) (c .if1 .taken)
 
-sub-i : tie.Need-sub-i
-sub-i c = search needs
-
-seconds-at-requires : tie.Need-seconds-at-requires
-seconds-at-requires c κs = search needs
-
-start-at-requires : tie.Need-start-at-requires
-start-at-requires c κs = search needs
-
-rate-at-requires : tie.Need-rate-at-requires
-rate-at-requires c κs = search needs
-
 returns-2 : tie.Need-returns-2
 returns-2 c size months h =
     let f = c .before .before .before .before in
@@ -50,9 +38,6 @@ returns-2 c size months h =
     (c .before .before .seconds-at .ensures ∙ ap secondsOf p)
     (c .before .start-at .ensures ∙ ap startOf p)
     (c .rate-at .ensures ∙ ap rateOf p)
-
-seconds-of-row-requires : tie.Need-seconds-of-row-requires
-seconds-of-row-requires c κs = search needs
 
 returns-3 : tie.Need-returns-3
 returns-3 c size months h =
@@ -69,10 +54,10 @@ offset-by-spec =
     tie.close
     (tie.spec
     returns
-    sub-i
-    seconds-at-requires
-    start-at-requires
-    rate-at-requires
+    (λ c. search needs)
+    (λ c κs. search needs)
+    (λ c κs. search needs)
+    (λ c κs. search needs)
     returns-2
-    seconds-of-row-requires
+    (λ c κs. search needs)
     returns-3)

@@ -18,12 +18,6 @@ above k h = omega arith
 returns : tie.Need-returns
 returns c size months seconds h = rule-absent (rowsIn size months seconds) (c .before .args .rows) (c .if1 .taken)
 
-sub-row : tie.Need-sub-row
-sub-row c = search needs
-
-cast-t4 : tie.Need-cast-t4
-cast-t4 c = search needs
-
 returns-2 : tie.Need-returns-2
 returns-2 c size months seconds h =
     let f = c .before in
@@ -32,9 +26,6 @@ returns-2 c size months seconds h =
     let a = above _ (f .if1 .left) in
     rule-drifts (rowsIn size months seconds) k a
     (table-drifts t (lentSize t) (k - 1) (omega (arith, a, h, lent-size size months seconds)) ∙ ap not (lt-ltb (k - 1) 14 (c .if2 .taken)))
-
-cast-t5 : tie.Need-cast-t5
-cast-t5 c = search needs
 
 returns-3 : tie.Need-returns-3
 returns-3 c size months seconds h =
@@ -46,4 +37,4 @@ returns-3 c size months seconds h =
     (table-drifts t (lentSize t) (k - 1) (omega (arith, a, h, lent-size size months seconds)) ∙ ap not (le-ltb (k - 1) 14 (c .if2 .left)))
 
 pub rule-by-spec : {M : Type 1} → statement M
-rule-by-spec = tie.close (tie.spec returns sub-row cast-t4 returns-2 cast-t5 returns-3)
+rule-by-spec = tie.close (tie.spec returns (λ c. search needs) (λ c. search needs) returns-2 (λ c. search needs) returns-3)

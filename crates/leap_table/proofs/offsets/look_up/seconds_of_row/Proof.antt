@@ -19,20 +19,11 @@ use Rattle.leap_table.proofs.offsets.look_up.seconds_of_row.Tie as tie
 place : (k : ℕ) → 42 < k → 42 + (k - 43) ≡ k - 1
 place k h = omega arith
 
-whole-seconds-requires : tie.Need-whole-seconds-requires
-whole-seconds-requires c κs = search needs
-
 returns : tie.Need-returns
 returns c size months h =
     let s = c .before .before in
     let t = lentTable size size months (now (s .args .seconds)) in
     c .whole-seconds .ensures ∙ ap secondsOf (sym (fixed-place t (lentSize t) (s .args .rows - 1) (omega arith)))
-
-sub-seconds-at : tie.Need-sub-seconds-at
-sub-seconds-at c = search needs
-
-seconds-at-requires : tie.Need-seconds-at-requires
-seconds-at-requires c κs = search needs
 
 returns-2 : tie.Need-returns-2
 returns-2 c size months h =
@@ -48,4 +39,4 @@ returns-2 c size months h =
 pub seconds-of-row-spec : {M : Type 1} → statement M
 seconds-of-row-spec =
     tie.close
-    (tie.spec whole-seconds-requires returns sub-seconds-at seconds-at-requires returns-2)
+    (tie.spec (λ c κs. search needs) returns (λ c. search needs) (λ c κs. search needs) returns-2)

@@ -16,21 +16,15 @@ no-lent : (size : ℕ) (m s : List ℤ) (n : ℕ) → size ≡ 0 → reached (st
 unfolding rowsTo
 no-lent size m s n e = ap (λ (k : ℕ). reached (starts (rowsTo (lentTable size size m s) k)) n) (sym (lent-size size m s ∙ ap (λ (k : ℕ). least k 16) e))
 
-fixed-rows-reached-requires : tie.Need-fixed-rows-reached-requires
-fixed-rows-reached-requires c κs = search needs
-
 returns : tie.Need-returns
 returns c =
     let s = c .before .before .args in
     let r = c .fixed-rows-reached .ensures in
     (λ seconds. r .0 ∙ no-lent (s .size) (now (s .months)) seconds (s .n) (c .before .if1 .taken), omega (arith, r .1))
 
-any-rows-reached-requires : tie.Need-any-rows-reached-requires
-any-rows-reached-requires c κs = search needs
-
 returns-2 : tie.Need-returns-2
 returns-2 c = c .any-rows-reached .ensures
 
 pub table-rows-reached-spec : {M : Type 1} → statement M
 table-rows-reached-spec =
-    tie.close (tie.spec fixed-rows-reached-requires returns any-rows-reached-requires returns-2)
+    tie.close (tie.spec (λ c κs. search needs) returns (λ c κs. search needs) returns-2)

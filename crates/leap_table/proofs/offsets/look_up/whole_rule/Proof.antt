@@ -12,12 +12,6 @@ use Rattle.leap_table.proofs.offsets.Rules.{rule-whole}
 use Rattle.leap_table.proofs.offsets.look_up.whole_rule.Statement.{statement}
 use Rattle.leap_table.proofs.offsets.look_up.whole_rule.Tie as tie
 
-sub-t2 : tie.Need-sub-t2
-sub-t2 c = search needs
-
-cast-t3 : tie.Need-cast-t3
-cast-t3 c = search needs
-
 returns : tie.Need-returns
 returns c size months seconds h =
     let k = c .args .rows in
@@ -27,4 +21,4 @@ returns c size months seconds h =
     (table-drifts t (lentSize t) (k - 1) (omega (arith, p, h, lent-size size months seconds)) ∙ ap not (le-ltb (k - 1) 14 (omega arith)))
 
 pub whole-rule-spec : {M : Type 1} → statement M
-whole-rule-spec = tie.close (tie.spec sub-t2 cast-t3 returns)
+whole-rule-spec = tie.close (tie.spec (λ c. search needs) (λ c. search needs) returns)

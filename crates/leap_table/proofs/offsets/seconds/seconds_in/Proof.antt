@@ -32,26 +32,14 @@ module _ (c : tie.After-table-rows-reached) where
   enough : 15 ≤ c .table-rows-reached .result
   enough = let s = c .before .before .before .before in omega (arith, rows-are, whole-rows-of (s .args .t1) (s .args .month) (s .pre))
 
-size-of-requires : tie.Need-size-of-requires
-size-of-requires c κs = search needs
-
-table-rows-reached-requires : tie.Need-table-rows-reached-requires
-table-rows-reached-requires c κs = search needs
-
 sub-result : tie.Need-sub-result
 sub-result c = omega (arith, enough (c .before))
-
-cast-result : tie.Need-cast-result
-cast-result c = search needs
 
 returns : tie.Need-returns
 returns c =
     let r = c .before in
     let s = r .before .before .before .before in
     (in-fixed-row (s .args .t1) (s .args .month) (r .table-rows-reached .result) (rows-are r) (enough r) (c .if1 .taken), omega (arith, c .if1 .taken))
-
-sub-i : tie.Need-sub-i
-sub-i c = search needs
 
 mul-natural : tie.Need-mul-natural
 mul-natural c =
@@ -64,9 +52,6 @@ element-copy-out-natural c =
     let r = c .before in
     let z = r .before .before .before in
     omega (arith, few r, at-most-16 (z .before .args .t1))
-
-natural-requires : tie.Need-natural-requires
-natural-requires c κs = search needs
 
 returns-2 : tie.Need-returns-2
 returns-2 c =
@@ -83,13 +68,13 @@ pub seconds-in-spec : {M : Type 1} → statement M
 seconds-in-spec =
     tie.close
     (tie.spec
-    size-of-requires
-    table-rows-reached-requires
+    (λ c κs. search needs)
+    (λ c κs. search needs)
     sub-result
-    cast-result
+    (λ c. search needs)
     returns
-    sub-i
+    (λ c. search needs)
     mul-natural
     element-copy-out-natural
-    natural-requires
+    (λ c κs. search needs)
     returns-2)

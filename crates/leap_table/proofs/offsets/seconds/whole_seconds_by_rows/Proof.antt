@@ -30,9 +30,6 @@ returns-2 c = let s = c .before .before in (month-below (s .args .table) (s .arg
 returns-3 : tie.Need-returns-3
 returns-3 c = let s = c .before .before .before in (month-above (s .args .table) (s .args .year) (s .args .month) (from-1972 (c .before .before)) (c .before .if2 .left) (c .if3 .taken), omega arith)
 
-month-number-requires : tie.Need-month-number-requires
-month-number-requires c κs = search needs
-
 seconds-in-requires : tie.Need-seconds-in-requires
 seconds-in-requires c κs =
     let t = c .before in
@@ -54,4 +51,4 @@ returns-4 c =
 pub whole-seconds-by-rows-spec : {M : Type 1} → statement M
 whole-seconds-by-rows-spec =
     tie.close
-    (tie.spec returns returns-2 returns-3 month-number-requires seconds-in-requires returns-4)
+    (tie.spec returns returns-2 returns-3 (λ c κs. search needs) seconds-in-requires returns-4)

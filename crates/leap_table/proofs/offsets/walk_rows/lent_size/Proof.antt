@@ -6,15 +6,9 @@ use Rattle.leap_table.specs.rows.Lent.{least, lentSize}
 use Rattle.leap_table.proofs.offsets.walk_rows.lent_size.Statement.{statement}
 use Rattle.leap_table.proofs.offsets.walk_rows.lent_size.Tie as tie
 
-size-of-requires : tie.Need-size-of-requires
-size-of-requires c κs = search needs
-
-at-most-16-requires : tie.Need-at-most-16-requires
-at-most-16-requires c κs = search needs
-
 returns : tie.Need-returns
 unfolding lentSize
 returns c = (c .at-most-16 .ensures .0 ∙ ap (λ (n : ℕ). least n 16) (c .before .size-of .ensures), c .at-most-16 .ensures .1)
 
 pub lent-size-spec : {M : Type 1} → statement M
-lent-size-spec = tie.close (tie.spec size-of-requires at-most-16-requires returns)
+lent-size-spec = tie.close (tie.spec (λ c κs. search needs) (λ c κs. search needs) returns)

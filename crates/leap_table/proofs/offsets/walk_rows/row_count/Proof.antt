@@ -7,16 +7,10 @@ use Rattle.leap_table.proofs.rows.Tables.{table-length}
 use Rattle.leap_table.proofs.offsets.walk_rows.row_count.Statement.{statement}
 use Rattle.leap_table.proofs.offsets.walk_rows.row_count.Tie as tie
 
-lent-size-requires : tie.Need-lent-size-requires
-lent-size-requires c κs = search needs
-
-add-result : tie.Need-add-result
-add-result c = search needs
-
 returns : tie.Need-returns
 returns c =
     let t = c .before .args .table in
     ap (λ (k : ℕ). 42 + k) (c .lent-size .ensures .0) ∙ sym (table-length t (lentSize t))
 
 pub row-count-spec : {M : Type 1} → statement M
-row-count-spec = tie.close (tie.spec lent-size-requires add-result returns)
+row-count-spec = tie.close (tie.spec (λ c κs. search needs) (λ c. search needs) returns)

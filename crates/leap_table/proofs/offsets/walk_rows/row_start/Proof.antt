@@ -11,33 +11,12 @@ use Rattle.leap_table.proofs.offsets.Forward.{start-fixed, start-lent, 
 use Rattle.leap_table.proofs.offsets.walk_rows.row_start.Statement.{statement}
 use Rattle.leap_table.proofs.offsets.walk_rows.row_start.Tie as tie
 
-slice-aggregate-month-at : tie.Need-slice-aggregate-month-at
-slice-aggregate-month-at c = search needs
-
-month-at-requires : tie.Need-month-at-requires
-month-at-requires c κs = search needs
-
 returns : tie.Need-returns
 unfolding fixed
 returns c =
     let f = c .before .before in
     let s = f .before .args in
     c .month-at .ensures ∙ start-fixed (s .t1) (s .i) (f .if1 .taken)
-
-lent-size-requires : tie.Need-lent-size-requires
-lent-size-requires c κs = search needs
-
-mul-natural : tie.Need-mul-natural
-mul-natural c = search needs
-
-element-copy-out-natural : tie.Need-element-copy-out-natural
-element-copy-out-natural c = search needs
-
-natural-requires : tie.Need-natural-requires
-natural-requires c κs = search needs
-
-cast-result : tie.Need-cast-result
-cast-result c = search needs
 
 returns-2 : tie.Need-returns-2
 returns-2 c =
@@ -60,13 +39,13 @@ pub row-start-spec : {M : Type 1} → statement M
 row-start-spec =
     tie.close
     (tie.spec
-    slice-aggregate-month-at
-    month-at-requires
+    (λ c. search needs)
+    (λ c κs. search needs)
     returns
-    lent-size-requires
-    mul-natural
-    element-copy-out-natural
-    natural-requires
-    cast-result
+    (λ c κs. search needs)
+    (λ c. search needs)
+    (λ c. search needs)
+    (λ c κs. search needs)
+    (λ c. search needs)
     returns-2
     returns-3)

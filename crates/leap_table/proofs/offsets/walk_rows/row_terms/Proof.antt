@@ -29,18 +29,6 @@ returns c =
     let s = c .before .args in
     λ mjd f. absent (rowsOf (s .t1)) (s .rows) mjd f (c .if1 .taken)
 
-sub-i : tie.Need-sub-i
-sub-i c = search needs
-
-seconds-at-requires : tie.Need-seconds-at-requires
-seconds-at-requires c κs = search needs
-
-start-at-requires : tie.Need-start-at-requires
-start-at-requires c κs = search needs
-
-rate-at-requires : tie.Need-rate-at-requires
-rate-at-requires c κs = search needs
-
 returns-2 : tie.Need-returns-2
 unfolding byTerms
 returns-2 c =
@@ -55,12 +43,6 @@ returns-2 c =
     (c .before .before .seconds-at .ensures ∙ ap secondsOf p)
     (c .before .start-at .ensures ∙ ap startOf p)
     (c .rate-at .ensures ∙ ap rateOf p)
-
-lent-size-requires : tie.Need-lent-size-requires
-lent-size-requires c κs = search needs
-
-add-if3 : tie.Need-add-if3
-add-if3 c = search needs
 
 returns-3 : tie.Need-returns-3
 unfolding ofBits byTerms
@@ -99,13 +81,13 @@ row-terms-spec =
     tie.close
     (tie.spec
     returns
-    sub-i
-    seconds-at-requires
-    start-at-requires
-    rate-at-requires
+    (λ c. search needs)
+    (λ c κs. search needs)
+    (λ c κs. search needs)
+    (λ c κs. search needs)
     returns-2
-    lent-size-requires
-    add-if3
+    (λ c κs. search needs)
+    (λ c. search needs)
     returns-3
     seconds-of-row-requires
     returns-4)

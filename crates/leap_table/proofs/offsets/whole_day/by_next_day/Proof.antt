@@ -64,24 +64,6 @@ next-month c =
     let f = toZ-ofZ {w = w32} {z = t .year} (record { sfits = c .before .struct-told .given .0 .1 }) in
     c .month-number2 .ensures ∙ ap (λ (y : ℤ). monthNumber y (t .month)) f
 
-modified-julian-day-requires : tie.Need-modified-julian-day-requires
-modified-julian-day-requires c κs = search needs
-
-enum-known-number : tie.Need-enum-known-number
-enum-known-number c = search needs
-
-enum-known-n : tie.Need-enum-known-n
-enum-known-n c = search needs
-
-next-calendar-day-requires : tie.Need-next-calendar-day-requires
-next-calendar-day-requires c κs = search needs
-
-enum-known-number-2 : tie.Need-enum-known-number-2
-enum-known-number-2 c = search needs
-
-enum-known-t : tie.Need-enum-known-t
-enum-known-t c = search needs
-
 cast-month-number : tie.Need-cast-month-number
 cast-month-number c = let s = c .before .before .before .before .before .before .before .before in to-unsigned (s .args .month) (s .fits .month) (ok (c .before .before .before .before) .m-sign)
 
@@ -141,12 +123,12 @@ pub by-next-day-spec : {M : Type 1} → statement M
 by-next-day-spec =
     tie.close
     (tie.spec
-    modified-julian-day-requires
-    enum-known-number
-    enum-known-n
-    next-calendar-day-requires
-    enum-known-number-2
-    enum-known-t
+    (λ c κs. search needs)
+    (λ c. search needs)
+    (λ c. search needs)
+    (λ c κs. search needs)
+    (λ c. search needs)
+    (λ c. search needs)
     cast-month-number
     month-number-requires
     month-number-requires-2

@@ -9,15 +9,9 @@ use Rattle.leap_table.proofs.rows.TablesTaken.{turned-away, taken}
 use Rattle.leap_table.proofs.offsets.whole_day.day_offsets.Statement.{statement}
 use Rattle.leap_table.proofs.offsets.whole_day.day_offsets.Tie as tie
 
-table-refusal-requires : tie.Need-table-refusal-requires
-table-refusal-requires c κs = search needs
-
 returns : tie.Need-returns
 unfolding dayOffsetsOutcome
 returns c = let r = c .before in turned-away (r .before .args .table) (r .table-refusal .result) (r .table-refusal .ensures) _ (c .if1 .taken)
-
-day-offsets-by-rows-requires : tie.Need-day-offsets-by-rows-requires
-day-offsets-by-rows-requires c κs = search needs
 
 returns-2 : tie.Need-returns-2
 returns-2 c =
@@ -29,4 +23,4 @@ returns-2 c =
 
 pub day-offsets-spec : {M : Type 1} → statement M
 day-offsets-spec =
-    tie.close (tie.spec table-refusal-requires returns day-offsets-by-rows-requires returns-2)
+    tie.close (tie.spec (λ c κs. search needs) returns (λ c κs. search needs) returns-2)

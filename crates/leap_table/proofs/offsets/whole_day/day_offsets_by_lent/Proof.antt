@@ -17,9 +17,6 @@ use Rattle.leap_table.proofs.offsets.whole_day.day_offsets_by_lent.Tie 
 abbrev rows : tie.Start → List Row
 rows s = rowsIn (s .args .size) (now (s .args .months)) (now (s .args .seconds))
 
-plain-day-requires : tie.Need-plain-day-requires
-plain-day-requires c κs = search needs
-
 of-plain-day-requires : tie.Need-of-plain-day-requires
 of-plain-day-requires c κs = c .before .plain-day .ensures (c .if1 .taken)
 
@@ -33,9 +30,6 @@ returns c =
     (plain-offsets (rows s) _ _ _ (read-plain _ _ _ (s .fits .year) (s .fits .month) (s .fits .day) (t .before .plain-day .ensures (t .if1 .taken))) _ (read-offset (rows s) _ _ (s .fits .year) (s .fits .month) _ x))
     (r ∙ read-rule (rows s) _ _ (s .fits .year) (s .fits .month))
 
-by-next-day-requires : tie.Need-by-next-day-requires
-by-next-day-requires c κs = search needs
-
 returns-2 : tie.Need-returns-2
 returns-2 c =
     let s = c .before .before .before in
@@ -44,4 +38,4 @@ returns-2 c =
 pub day-offsets-by-lent-spec : {M : Type 1} → statement M
 day-offsets-by-lent-spec =
     tie.close
-    (tie.spec plain-day-requires of-plain-day-requires returns by-next-day-requires returns-2)
+    (tie.spec (λ c κs. search needs) of-plain-day-requires returns (λ c κs. search needs) returns-2)

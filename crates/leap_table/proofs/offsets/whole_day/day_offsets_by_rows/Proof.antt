@@ -21,18 +21,6 @@ called v =
     ap forget (v .day-offsets-by-lent .ensures ∙ (λ i. dayByRule (rows i) (toZ-ofZ (s .fits .year) i) (toZ-ofZ (s .fits .month) i) (toZ-ofZ (s .fits .day) i)))
     ∙ day-forgets (rowsOf (s .args .t4)) (s .args .year) (s .args .month) (s .args .day)
 
-size-of-requires : tie.Need-size-of-requires
-size-of-requires c κs = search needs
-
-day-offsets-by-lent-requires : tie.Need-day-offsets-by-lent-requires
-day-offsets-by-lent-requires c κs = search needs
-
-enum-known-number : tie.Need-enum-known-number
-enum-known-number c = search needs
-
-enum-known-o : tie.Need-enum-known-o
-enum-known-o c = search needs
-
 returns : tie.Need-returns
 unfolding dayOffsetsOutcome dayByRuleOutcome forget onward
 returns c = ap (λ (x : DayByRule). forget (dayByRuleOutcome x)) (sym (c .before .number .given .1)) ∙ called (c .before .before .before)
@@ -43,4 +31,4 @@ returns-2 c = ap (λ (x : DayByRule). forget (dayByRuleOutcome x)) (sym (c .befo
 
 pub day-offsets-by-rows-spec : {M : Type 1} → statement M
 day-offsets-by-rows-spec =
-    tie.close (tie.spec size-of-requires day-offsets-by-lent-requires enum-known-number enum-known-o returns returns-2)
+    tie.close (tie.spec (λ c κs. search needs) (λ c κs. search needs) (λ c. search needs) (λ c. search needs) returns returns-2)

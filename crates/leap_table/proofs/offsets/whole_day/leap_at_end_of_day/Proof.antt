@@ -9,15 +9,9 @@ use Rattle.leap_table.proofs.rows.TablesTaken.{turned-away, taken}
 use Rattle.leap_table.proofs.offsets.whole_day.leap_at_end_of_day.Statement.{statement}
 use Rattle.leap_table.proofs.offsets.whole_day.leap_at_end_of_day.Tie as tie
 
-table-refusal-requires : tie.Need-table-refusal-requires
-table-refusal-requires c κs = search needs
-
 returns : tie.Need-returns
 unfolding secondsOutcome
 returns c = let r = c .before in turned-away (r .before .args .table) (r .table-refusal .result) (r .table-refusal .ensures) _ (c .if1 .taken)
-
-leap-at-end-of-day-by-rows-requires : tie.Need-leap-at-end-of-day-by-rows-requires
-leap-at-end-of-day-by-rows-requires c κs = search needs
 
 returns-2 : tie.Need-returns-2
 returns-2 c =
@@ -29,4 +23,4 @@ returns-2 c =
 
 pub leap-at-end-of-day-spec : {M : Type 1} → statement M
 leap-at-end-of-day-spec =
-    tie.close (tie.spec table-refusal-requires returns leap-at-end-of-day-by-rows-requires returns-2)
+    tie.close (tie.spec (λ c κs. search needs) returns (λ c κs. search needs) returns-2)

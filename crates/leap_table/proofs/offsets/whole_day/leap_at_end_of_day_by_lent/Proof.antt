@@ -26,9 +26,6 @@ called c =
     (λ i. onward ((c .by-next-day .ensures ∙ (λ j. dayByRule (rows s) (toZ-ofZ (s .fits .year) j) (toZ-ofZ (s .fits .month) j) (toZ-ofZ (s .fits .day) j))) i) (λ p. answer (leapOf (p .0), p .1)))
     ∙ sym (leap-by-day (rows s) (s .args .year) (s .args .month) (s .args .day))
 
-plain-day-requires : tie.Need-plain-day-requires
-plain-day-requires c κs = search needs
-
 of-plain-day-requires : tie.Need-of-plain-day-requires
 of-plain-day-requires c κs = c .before .plain-day .ensures (c .if1 .taken)
 
@@ -41,15 +38,6 @@ returns c =
     told _ _ _ _
     (plain-leap (rows s) _ _ _ (read-plain _ _ _ (s .fits .year) (s .fits .month) (s .fits .day) (t .before .plain-day .ensures (t .if1 .taken))) _ (read-offset (rows s) _ _ (s .fits .year) (s .fits .month) _ x))
     (r ∙ read-rule (rows s) _ _ (s .fits .year) (s .fits .month))
-
-by-next-day-requires : tie.Need-by-next-day-requires
-by-next-day-requires c κs = search needs
-
-enum-known-number : tie.Need-enum-known-number
-enum-known-number c = search needs
-
-enum-known-o : tie.Need-enum-known-o
-enum-known-o c = search needs
 
 returns-2 : tie.Need-returns-2
 unfolding secondsByRuleOutcome dayByRuleOutcome onward
@@ -65,11 +53,11 @@ pub leap-at-end-of-day-by-lent-spec : {M : Type 1} → statement M
 leap-at-end-of-day-by-lent-spec =
     tie.close
     (tie.spec
-    plain-day-requires
+    (λ c κs. search needs)
     of-plain-day-requires
     returns
-    by-next-day-requires
-    enum-known-number
-    enum-known-o
+    (λ c κs. search needs)
+    (λ c. search needs)
+    (λ c. search needs)
     returns-2
     returns-3)

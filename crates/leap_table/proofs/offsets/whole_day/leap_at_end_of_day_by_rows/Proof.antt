@@ -9,15 +9,6 @@ use Rattle.leap_table.proofs.offsets.Rules.{leap-forgets}
 use Rattle.leap_table.proofs.offsets.whole_day.leap_at_end_of_day_by_rows.Statement.{statement}
 use Rattle.leap_table.proofs.offsets.whole_day.leap_at_end_of_day_by_rows.Tie as tie
 
-size-of-requires : tie.Need-size-of-requires
-size-of-requires c κs = search needs
-
-leap-at-end-of-day-by-lent-requires : tie.Need-leap-at-end-of-day-by-lent-requires
-leap-at-end-of-day-by-lent-requires c κs = search needs
-
-without-rule-requires : tie.Need-without-rule-requires
-without-rule-requires c κs = search needs
-
 returns : tie.Need-returns
 returns c =
     let v = c .before in
@@ -30,4 +21,4 @@ returns c =
 
 pub leap-at-end-of-day-by-rows-spec : {M : Type 1} → statement M
 leap-at-end-of-day-by-rows-spec =
-    tie.close (tie.spec size-of-requires leap-at-end-of-day-by-lent-requires without-rule-requires returns)
+    tie.close (tie.spec (λ c κs. search needs) (λ c κs. search needs) (λ c κs. search needs) returns)

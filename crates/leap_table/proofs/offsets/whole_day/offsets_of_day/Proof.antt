@@ -24,9 +24,6 @@ rows s = rowsIn (s .args .size) (now (s .args .months)) (now (s .args .seconds))
 few : (c : tie.After-table-rows-reached) → c .table-rows-reached .result ≤ 58
 few c = few-rows (c .before .args .size) _ (c .table-rows-reached .ensures .1)
 
-table-rows-reached-requires : tie.Need-table-rows-reached-requires
-table-rows-reached-requires c κs = search needs
-
 next-rows-reached-requires : tie.Need-next-rows-reached-requires
 next-rows-reached-requires c κs = c .table-rows-reached .ensures
 
@@ -74,7 +71,7 @@ pub offsets-of-day-spec : {M : Type 1} → statement M
 offsets-of-day-spec =
     tie.close
     (tie.spec
-    table-rows-reached-requires
+    (λ c κs. search needs)
     next-rows-reached-requires
     int-to-float-midnight
     add-next-midnight

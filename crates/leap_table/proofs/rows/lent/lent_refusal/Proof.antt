@@ -34,17 +34,11 @@ returns c = sizes-differ (judged (c .before)) (c .if1 .taken)
 returns-2 : tie.Need-returns-2
 returns-2 c = sizes-large (judged (c .before .before)) (c .before .if1 .left) (c .if2 .taken)
 
-rises-requires : tie.Need-rises-requires
-rises-requires c κs = search needs
-
 returns-3 : tie.Need-returns-3
 returns-3 c =
     let two = c .before .before in
     let one = two .before in
     not-rising (judged (one .before)) (one .if1 .left) (two .if2 .left) (sym (not-true _ (c .if3 .taken)) ∙ order (c .before))
-
-steps-requires : tie.Need-steps-requires
-steps-requires c κs = search needs
 
 returns-4 : tie.Need-returns-4
 returns-4 c =
@@ -70,8 +64,8 @@ lent-refusal-spec =
     (tie.spec
     returns
     returns-2
-    rises-requires
+    (λ c κs. search needs)
     returns-3
-    steps-requires
+    (λ c κs. search needs)
     returns-4
     returns-5)

@@ -4,17 +4,11 @@ use borrow.Author.Tests.{eq-eqb, ne-eqb}
 use Rattle.leap_table.proofs.rows.lent.one_apart.Statement.{statement}
 use Rattle.leap_table.proofs.rows.lent.one_apart.Tie as tie
 
-add-if1 : tie.Need-add-if1
-add-if1 c = search needs
-
 returns : tie.Need-returns
 returns c = rw (eq-eqb _ _ (c .if1 .taken))
-
-add-result : tie.Need-add-result
-add-result c = search needs
 
 returns-2 : tie.Need-returns-2
 returns-2 c = rw (ne-eqb _ _ (c .if1 .left))
 
 pub one-apart-spec : {M : Type 1} → statement M
-one-apart-spec = tie.close (tie.spec add-if1 returns add-result returns-2)
+one-apart-spec = tie.close (tie.spec (λ c. search needs) returns (λ c. search needs) returns-2)

@@ -3,14 +3,8 @@ use borrow.Author.Needs.{needs}
 use Rattle.leap_table.proofs.rows.lent.size_of.Statement.{statement}
 use Rattle.leap_table.proofs.rows.lent.size_of.Tie as tie
 
-smaller-requires : tie.Need-smaller-requires
-smaller-requires c κs = search needs
-
-cast-result : tie.Need-cast-result
-cast-result c = search needs
-
 returns : tie.Need-returns
 returns c = c .smaller .ensures
 
 pub size-of-spec : {M : Type 1} → statement M
-size-of-spec = tie.close (tie.spec smaller-requires cast-result returns)
+size-of-spec = tie.close (tie.spec (λ c κs. search needs) (λ c. search needs) returns)

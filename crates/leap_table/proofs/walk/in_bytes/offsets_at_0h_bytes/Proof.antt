@@ -16,9 +16,6 @@ use borrow.Author.Needs.{needs}
 use Rattle.leap_table.proofs.walk.in_bytes.offsets_at_0h_bytes.Statement.{statement}
 use Rattle.leap_table.proofs.walk.in_bytes.offsets_at_0h_bytes.Tie as tie
 
-bytes-refusal-requires : tie.Need-bytes-refusal-requires
-bytes-refusal-requires c κs = search needs
-
 returns : tie.Need-returns
 returns c =
     let r = c .before in
@@ -35,9 +32,6 @@ walk-all-requires c κs =
     let p = passed (s .table) (eqb (length l % 12) 0) (datesFrom (tripleIn l) 0 (length l / 12)) (length (s .out .now) / 8) (r .bytes-refusal .result) (r .bytes-refusal .ensures) (i .if1 .left) in
     (all-good (tripleIn l) (length l / 12) (p .good), p .order, omega arith, omega (arith, p .fits, how-many (tripleIn l) (length l / 12) 0))
 
-same-length : tie.Need-same-length
-same-length c = search needs
-
 returns-2 : tie.Need-returns-2
 returns-2 c =
     let w = c .before .before in
@@ -50,4 +44,4 @@ returns-2 c =
 
 pub offsets-at-0h-bytes-spec : {M : Type 1} → statement M
 offsets-at-0h-bytes-spec =
-    tie.close (tie.spec bytes-refusal-requires returns walk-all-requires same-length returns-2)
+    tie.close (tie.spec (λ c κs. search needs) returns walk-all-requires (λ c. search needs) returns-2)

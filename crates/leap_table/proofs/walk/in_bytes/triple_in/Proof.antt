@@ -12,48 +12,6 @@ use borrow.Author.Needs.{needs}
 use Rattle.leap_table.proofs.walk.in_bytes.triple_in.Statement.{statement}
 use Rattle.leap_table.proofs.walk.in_bytes.triple_in.Tie as tie
 
-mul-at : tie.Need-mul-at
-mul-at c = search needs
-
-add-end : tie.Need-add-end
-add-end c = search needs
-
-sub-i32-at : tie.Need-sub-i32-at
-sub-i32-at c = search needs
-
-part-i32-at-start : tie.Need-part-i32-at-start
-part-i32-at-start c = search needs
-
-part-i32-at-end : tie.Need-part-i32-at-end
-part-i32-at-end c = search needs
-
-i32-at-requires : tie.Need-i32-at-requires
-i32-at-requires c κs = search needs
-
-sub-i32-at-2 : tie.Need-sub-i32-at-2
-sub-i32-at-2 c = search needs
-
-part-i32-at-start-2 : tie.Need-part-i32-at-start-2
-part-i32-at-start-2 c = search needs
-
-part-i32-at-end-2 : tie.Need-part-i32-at-end-2
-part-i32-at-end-2 c = search needs
-
-i32-at-requires-2 : tie.Need-i32-at-requires-2
-i32-at-requires-2 c κs = search needs
-
-sub-i32-at-3 : tie.Need-sub-i32-at-3
-sub-i32-at-3 c = search needs
-
-part-i32-at-start-3 : tie.Need-part-i32-at-start-3
-part-i32-at-start-3 c = search needs
-
-part-i32-at-end-3 : tie.Need-part-i32-at-end-3
-part-i32-at-end-3 c = search needs
-
-i32-at-requires-3 : tie.Need-i32-at-requires-3
-i32-at-requires-3 c κs = search needs
-
 returns : tie.Need-returns
 returns c =
     let s = c .before .before .before .before .before .before .before in
@@ -72,18 +30,18 @@ pub triple-in-spec : {M : Type 1} → statement M
 triple-in-spec =
     tie.close
     (tie.spec
-    mul-at
-    add-end
-    sub-i32-at
-    part-i32-at-start
-    part-i32-at-end
-    i32-at-requires
-    sub-i32-at-2
-    part-i32-at-start-2
-    part-i32-at-end-2
-    i32-at-requires-2
-    sub-i32-at-3
-    part-i32-at-start-3
-    part-i32-at-end-3
-    i32-at-requires-3
+    (λ c. search needs)
+    (λ c. search needs)
+    (λ c. search needs)
+    (λ c. search needs)
+    (λ c. search needs)
+    (λ c κs. search needs)
+    (λ c. search needs)
+    (λ c. search needs)
+    (λ c. search needs)
+    (λ c κs. search needs)
+    (λ c. search needs)
+    (λ c. search needs)
+    (λ c. search needs)
+    (λ c κs. search needs)
     returns)

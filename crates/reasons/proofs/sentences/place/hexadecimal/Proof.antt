@@ -7,18 +7,6 @@ use borrow.Author.Needs.{needs}
 use Rattle.reasons.proofs.sentences.place.hexadecimal.Statement.{statement}
 use Rattle.reasons.proofs.sentences.place.hexadecimal.Tie as tie
 
-sixteen-requires : tie.Need-sixteen-requires
-sixteen-requires c κs = search needs
-
-slice-aggregate-bytes : tie.Need-slice-aggregate-bytes
-slice-aggregate-bytes c = search needs
-
-bytes-requires : tie.Need-bytes-requires
-bytes-requires c κs = search needs
-
-same-length : tie.Need-same-length
-same-length c = search needs
-
 returns : tie.Need-returns
 returns c =
     let s = c .before .before .before .before .before in
@@ -28,4 +16,4 @@ returns c =
 
 pub hexadecimal-spec : {M : Type 1} → statement M
 hexadecimal-spec =
-    tie.close (tie.spec sixteen-requires slice-aggregate-bytes bytes-requires same-length returns)
+    tie.close (tie.spec (λ c κs. search needs) (λ c. search needs) (λ c κs. search needs) (λ c. search needs) returns)

@@ -14,24 +14,6 @@ use borrow.Author.Needs.{needs}
 use Rattle.reasons.proofs.sentences.place.signed.Statement.{statement}
 use Rattle.reasons.proofs.sentences.place.signed.Tie as tie
 
-size-requires : tie.Need-size-requires
-size-requires c κs = search needs
-
-cast-digits : tie.Need-cast-digits
-cast-digits c = search needs
-
-slice-aggregate-bytes : tie.Need-slice-aggregate-bytes
-slice-aggregate-bytes c = search needs
-
-bytes-requires : tie.Need-bytes-requires
-bytes-requires c κs = search needs
-
-decimal-requires : tie.Need-decimal-requires
-decimal-requires c κs = search needs
-
-same-length : tie.Need-same-length
-same-length c = search needs
-
 returns : tie.Need-returns
 returns c =
     let d = c .before .before in
@@ -41,12 +23,6 @@ returns c =
     let e = i .before .size .ensures ∙ ap natAbs (toZ-ofZ (st .fits .n)) in
     let p = then (b .bytes .ensures) (d .decimal .ensures .0) (omega (arith, d .decimal .ensures .1, b .bytes .ensures .ends, st .pre)) in
     (placed-as (ap (λ (k : ℕ). 45 ∷ digitsOf k) e ∙ signed-below (st .args .n) (lt-left (st .args .n) (pos 0) true (st .fits .n) (i .if1 .taken))) p, omega (arith, d .decimal .ensures .1, b .bytes .ensures .ends))
-
-decimal-requires-2 : tie.Need-decimal-requires-2
-decimal-requires-2 c κs = search needs
-
-same-length-2 : tie.Need-same-length-2
-same-length-2 c = search needs
 
 returns-2 : tie.Need-returns-2
 returns-2 c =
@@ -60,13 +36,13 @@ pub signed-spec : {M : Type 1} → statement M
 signed-spec =
     tie.close
     (tie.spec
-    size-requires
-    cast-digits
-    slice-aggregate-bytes
-    bytes-requires
-    decimal-requires
-    same-length
+    (λ c κs. search needs)
+    (λ c. search needs)
+    (λ c. search needs)
+    (λ c κs. search needs)
+    (λ c κs. search needs)
+    (λ c. search needs)
     returns
-    decimal-requires-2
-    same-length-2
+    (λ c κs. search needs)
+    (λ c. search needs)
     returns-2)

@@ -12,28 +12,13 @@ use borrow.Author.Needs.{needs}
 use Rattle.reasons.proofs.sentences.words.named.Statement.{statement}
 use Rattle.reasons.proofs.sentences.words.named.Tie as tie
 
-shown-requires : tie.Need-shown-requires
-shown-requires c κs = search needs
-
-enum-told : tie.Need-enum-told
-enum-told c = search needs
-
-enum-known-w : tie.Need-enum-known-w
-enum-known-w c = search needs
-
 word-signed-requires : tie.Need-word-signed-requires
 unfolding Short
 word-signed-requires c κs = (subst Short (c .before .before .w .given .1) (c .before .before .before .before .shown .ensures .1), omega (arith, c .before .before .before .before .before .before .pre))
 
-enum-known-w-2 : tie.Need-enum-known-w-2
-enum-known-w-2 c = search needs
-
 word-decimal-requires : tie.Need-word-decimal-requires
 unfolding Short
 word-decimal-requires c κs = (subst Short (c .before .before .w2 .given .1) (c .before .before .before .before .shown .ensures .1), omega (arith, c .before .before .before .before .before .before .pre))
-
-enum-known-w-3 : tie.Need-enum-known-w-3
-enum-known-w-3 c = search needs
 
 word-float-requires : tie.Need-word-float-requires
 unfolding Short
@@ -46,9 +31,6 @@ returns c =
     let st = s .before .before in
     (begins-as (now (st .args .dst)) (st .args .at) (sym (ap wordAndValue (c .enum-told .given .1)) ∙ s .shown .ensures .0) (nothing-behind _ _ (omega (arith, st .pre))), omega arith)
 
-same-length : tie.Need-same-length
-same-length c = search needs
-
 returns-2 : tie.Need-returns-2
 unfolding wordAndValue
 returns-2 c =
@@ -59,9 +41,6 @@ returns-2 c =
     let st = w .before .before .before .before in
     (begins-as (now (st .args .dst)) (st .args .at) (ap (λ (z : ℤ). wordText (v .0 .0) ++ signedDigits z) (back (v .0 .1 .0) (k .1 .0 .1)) ∙ sym (ap wordAndValue (v .1)) ∙ w .before .before .shown .ensures .0) (h .word-signed .ensures .0), h .word-signed .ensures .1)
 
-same-length-2 : tie.Need-same-length-2
-same-length-2 c = search needs
-
 returns-3 : tie.Need-returns-3
 unfolding wordAndValue
 returns-3 c =
@@ -69,9 +48,6 @@ returns-3 c =
     let w = h .before .before .before in
     let st = w .before .before .before .before in
     (begins-as (now (st .args .dst)) (st .args .at) (sym (ap wordAndValue (w .w2 .given .1)) ∙ w .before .before .shown .ensures .0) (h .word-decimal .ensures .0), h .word-decimal .ensures .1)
-
-same-length-3 : tie.Need-same-length-3
-same-length-3 c = search needs
 
 returns-4 : tie.Need-returns-4
 unfolding wordAndValue
@@ -85,18 +61,18 @@ pub named-spec : {M : Type 1} → statement M
 named-spec =
     tie.close
     (tie.spec
-    shown-requires
-    enum-told
-    enum-known-w
+    (λ c κs. search needs)
+    (λ c. search needs)
+    (λ c. search needs)
     word-signed-requires
-    enum-known-w-2
+    (λ c. search needs)
     word-decimal-requires
-    enum-known-w-3
+    (λ c. search needs)
     word-float-requires
     returns
-    same-length
+    (λ c. search needs)
     returns-2
-    same-length-2
+    (λ c. search needs)
     returns-3
-    same-length-3
+    (λ c. search needs)
     returns-4)

@@ -11,69 +11,6 @@ use borrow.Author.Needs.{needs}
 use Rattle.reasons.proofs.sentences.words.shown.Statement.{statement}
 use Rattle.reasons.proofs.sentences.words.shown.Tie as tie
 
-enum-told : tie.Need-enum-told
-enum-told c = search needs
-
-enum-known-field : tie.Need-enum-known-field
-enum-known-field c = search needs
-
-enum-known-field-2 : tie.Need-enum-known-field-2
-enum-known-field-2 c = search needs
-
-enum-known-field-3 : tie.Need-enum-known-field-3
-enum-known-field-3 c = search needs
-
-enum-known-field-4 : tie.Need-enum-known-field-4
-enum-known-field-4 c = search needs
-
-cast-t22 : tie.Need-cast-t22
-cast-t22 c = search needs
-
-enum-known-field-5 : tie.Need-enum-known-field-5
-enum-known-field-5 c = search needs
-
-cast-t24 : tie.Need-cast-t24
-cast-t24 c = search needs
-
-enum-known-field-6 : tie.Need-enum-known-field-6
-enum-known-field-6 c = search needs
-
-enum-known-field-7 : tie.Need-enum-known-field-7
-enum-known-field-7 c = search needs
-
-enum-known-field-8 : tie.Need-enum-known-field-8
-enum-known-field-8 c = search needs
-
-enum-known-field-9 : tie.Need-enum-known-field-9
-enum-known-field-9 c = search needs
-
-cast-t29 : tie.Need-cast-t29
-cast-t29 c = search needs
-
-enum-known-field-10 : tie.Need-enum-known-field-10
-enum-known-field-10 c = search needs
-
-enum-known-field-11 : tie.Need-enum-known-field-11
-enum-known-field-11 c = search needs
-
-enum-known-field-12 : tie.Need-enum-known-field-12
-enum-known-field-12 c = search needs
-
-enum-known-field-13 : tie.Need-enum-known-field-13
-enum-known-field-13 c = search needs
-
-cast-t34 : tie.Need-cast-t34
-cast-t34 c = search needs
-
-enum-known-field-14 : tie.Need-enum-known-field-14
-enum-known-field-14 c = search needs
-
-cast-t36 : tie.Need-cast-t36
-cast-t36 c = search needs
-
-enum-known-field-15 : tie.Need-enum-known-field-15
-enum-known-field-15 c = search needs
-
 returns : tie.Need-returns
 unfolding wordAndValue wordText namedText Short
 returns c = (sym (ap namedText (c .enum-told .given .1)), tt)
@@ -142,27 +79,27 @@ pub shown-spec : {M : Type 1} → statement M
 shown-spec =
     tie.close
     (tie.spec
-    enum-told
-    enum-known-field
-    enum-known-field-2
-    enum-known-field-3
-    enum-known-field-4
-    cast-t22
-    enum-known-field-5
-    cast-t24
-    enum-known-field-6
-    enum-known-field-7
-    enum-known-field-8
-    enum-known-field-9
-    cast-t29
-    enum-known-field-10
-    enum-known-field-11
-    enum-known-field-12
-    enum-known-field-13
-    cast-t34
-    enum-known-field-14
-    cast-t36
-    enum-known-field-15
+    (λ c. search needs)
+    (λ c. search needs)
+    (λ c. search needs)
+    (λ c. search needs)
+    (λ c. search needs)
+    (λ c. search needs)
+    (λ c. search needs)
+    (λ c. search needs)
+    (λ c. search needs)
+    (λ c. search needs)
+    (λ c. search needs)
+    (λ c. search needs)
+    (λ c. search needs)
+    (λ c. search needs)
+    (λ c. search needs)
+    (λ c. search needs)
+    (λ c. search needs)
+    (λ c. search needs)
+    (λ c. search needs)
+    (λ c. search needs)
+    (λ c. search needs)
     returns
     returns-2
     returns-3

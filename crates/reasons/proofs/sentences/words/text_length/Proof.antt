@@ -10,9 +10,6 @@ use Rattle.reasons.proofs.sentences.words.text_length.Tie as tie
 returns : tie.Need-returns
 returns c = (sym (ap length (past-28 (c .before .args .number) (c .if1 .taken))), omega arith)
 
-array-read-result : tie.Need-array-read-result
-array-read-result c = search needs
-
 cast-result : tie.Need-cast-result
 cast-result c = record { fits = omega (arith, measured (c .before .args .number) (c .if1 .left) .1) }
 
@@ -20,4 +17,4 @@ returns-2 : tie.Need-returns-2
 returns-2 c = measured (c .before .args .number) (c .if1 .left)
 
 pub text-length-spec : {M : Type 1} → statement M
-text-length-spec = tie.close (tie.spec returns array-read-result cast-result returns-2)
+text-length-spec = tie.close (tie.spec returns (λ c. search needs) cast-result returns-2)

@@ -13,42 +13,6 @@ use borrow.Author.Needs.{needs}
 use Rattle.reasons.proofs.sentences.words.word.Statement.{statement}
 use Rattle.reasons.proofs.sentences.words.word.Tie as tie
 
-add-middle : tie.Need-add-middle
-add-middle c = search needs
-
-add-end : tie.Need-add-end
-add-end c = search needs
-
-sub-put-u64 : tie.Need-sub-put-u64
-sub-put-u64 c = search needs
-
-part-put-u64-start : tie.Need-part-put-u64-start
-part-put-u64-start c = search needs
-
-part-put-u64-end : tie.Need-part-put-u64-end
-part-put-u64-end c = search needs
-
-put-u64-requires : tie.Need-put-u64-requires
-put-u64-requires c κs = search needs
-
-sub-put-u64-2 : tie.Need-sub-put-u64-2
-sub-put-u64-2 c = search needs
-
-part-put-u64-start-2 : tie.Need-part-put-u64-start-2
-part-put-u64-start-2 c = search needs
-
-part-put-u64-end-2 : tie.Need-part-put-u64-end-2
-part-put-u64-end-2 c = search needs
-
-put-u64-requires-2 : tie.Need-put-u64-requires-2
-put-u64-requires-2 c κs = search needs
-
-add-result : tie.Need-add-result
-add-result c = search needs
-
-same-length : tie.Need-same-length
-same-length c = search needs
-
 returns : tie.Need-returns
 unfolding wordText
 returns c =
@@ -63,16 +27,16 @@ pub word-spec : {M : Type 1} → statement M
 word-spec =
     tie.close
     (tie.spec
-    add-middle
-    add-end
-    sub-put-u64
-    part-put-u64-start
-    part-put-u64-end
-    put-u64-requires
-    sub-put-u64-2
-    part-put-u64-start-2
-    part-put-u64-end-2
-    put-u64-requires-2
-    add-result
-    same-length
+    (λ c. search needs)
+    (λ c. search needs)
+    (λ c. search needs)
+    (λ c. search needs)
+    (λ c. search needs)
+    (λ c κs. search needs)
+    (λ c. search needs)
+    (λ c. search needs)
+    (λ c. search needs)
+    (λ c κs. search needs)
+    (λ c. search needs)
+    (λ c. search needs)
     returns)

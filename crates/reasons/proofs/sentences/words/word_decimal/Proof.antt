@@ -7,15 +7,6 @@ use borrow.Author.Needs.{needs}
 use Rattle.reasons.proofs.sentences.words.word_decimal.Statement.{statement}
 use Rattle.reasons.proofs.sentences.words.word_decimal.Tie as tie
 
-word-requires : tie.Need-word-requires
-word-requires c κs = search needs
-
-decimal-requires : tie.Need-decimal-requires
-decimal-requires c κs = search needs
-
-same-length : tie.Need-same-length
-same-length c = search needs
-
 returns : tie.Need-returns
 returns c =
     let h = c .before .before in
@@ -24,4 +15,4 @@ returns c =
     (behind-then (now (st .args .dst)) (wordText (st .args .w)) (st .args .at) (w .word .ensures .0) (h .decimal .ensures .0) (omega (arith, w .word .ensures .1, st .pre)), omega (arith, h .decimal .ensures .1, w .word .ensures .1, st .pre))
 
 pub word-decimal-spec : {M : Type 1} → statement M
-word-decimal-spec = tie.close (tie.spec word-requires decimal-requires same-length returns)
+word-decimal-spec = tie.close (tie.spec (λ c κs. search needs) (λ c κs. search needs) (λ c. search needs) returns)

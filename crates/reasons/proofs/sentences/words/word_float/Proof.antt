@@ -10,18 +10,6 @@ use borrow.Author.Needs.{needs}
 use Rattle.reasons.proofs.sentences.words.word_float.Statement.{statement}
 use Rattle.reasons.proofs.sentences.words.word_float.Tie as tie
 
-word-requires : tie.Need-word-requires
-word-requires c κs = search needs
-
-to-bits-requires : tie.Need-to-bits-requires
-to-bits-requires c κs = search needs
-
-hexadecimal-requires : tie.Need-hexadecimal-requires
-hexadecimal-requires c κs = search needs
-
-same-length : tie.Need-same-length
-same-length c = search needs
-
 returns : tie.Need-returns
 returns c =
     let h = c .before .before in
@@ -33,4 +21,4 @@ returns c =
 
 pub word-float-spec : {M : Type 1} → statement M
 word-float-spec =
-    tie.close (tie.spec word-requires to-bits-requires hexadecimal-requires same-length returns)
+    tie.close (tie.spec (λ c κs. search needs) (λ c κs. search needs) (λ c κs. search needs) (λ c. search needs) returns)

@@ -11,15 +11,6 @@ use borrow.Author.Needs.{needs}
 use Rattle.reasons.proofs.sentences.words.word_signed.Statement.{statement}
 use Rattle.reasons.proofs.sentences.words.word_signed.Tie as tie
 
-word-requires : tie.Need-word-requires
-word-requires c κs = search needs
-
-signed-requires : tie.Need-signed-requires
-signed-requires c κs = search needs
-
-same-length : tie.Need-same-length
-same-length c = search needs
-
 returns : tie.Need-returns
 returns c =
     let h = c .before .before in
@@ -29,4 +20,4 @@ returns c =
     (behind-then (now (st .args .dst)) (wordText (st .args .w)) (st .args .at) (w .word .ensures .0) p (omega (arith, w .word .ensures .1, st .pre)), omega (arith, h .signed .ensures .1, w .word .ensures .1, st .pre))
 
 pub word-signed-spec : {M : Type 1} → statement M
-word-signed-spec = tie.close (tie.spec word-requires signed-requires same-length returns)
+word-signed-spec = tie.close (tie.spec (λ c κs. search needs) (λ c κs. search needs) (λ c. search needs) returns)

@@ -10,18 +10,6 @@ use borrow.Author.Needs.{needs}
 use Rattle.runs.proofs.by_formula.changes.change_stamp.Statement.{statement}
 use Rattle.runs.proofs.by_formula.changes.change_stamp.Tie as tie
 
-pattern-at-requires : tie.Need-pattern-at-requires
-pattern-at-requires c κs = search needs
-
-pattern-at-requires-2 : tie.Need-pattern-at-requires-2
-pattern-at-requires-2 c κs = search needs
-
-is-larger-requires : tie.Need-is-larger-requires
-is-larger-requires c κs = search needs
-
-is-number-requires : tie.Need-is-number-requires
-is-number-requires c κs = search needs
-
 returns : tie.Need-returns
 returns c =
     let a = c .before .before .before .before .before .before .before .before .before .before .args in
@@ -32,30 +20,6 @@ float-from-bits-x c = no-nan _ (sym (c .before .is-number .ensures) ∙ not-fals
 
 float-from-bits-y : tie.Need-float-from-bits-y
 float-from-bits-y c = no-nan _ (smaller-second (c .before .before .before .before .before .pattern-at .result) (c .before .before .before .before .pattern-at2 .result) (sym (c .before .before .before .is-larger .ensures) ∙ (c .before .before .if1 .taken)) (sym (c .before .is-number .ensures) ∙ not-false _ (c .if2 .left)))
-
-mul-put-pattern : tie.Need-mul-put-pattern
-mul-put-pattern c = search needs
-
-put-pattern-requires : tie.Need-put-pattern-requires
-put-pattern-requires c κs = search needs
-
-mul-put-pattern-2 : tie.Need-mul-put-pattern-2
-mul-put-pattern-2 c = search needs
-
-changed-part-requires : tie.Need-changed-part-requires
-changed-part-requires c κs = search needs
-
-to-bits-requires : tie.Need-to-bits-requires
-to-bits-requires c κs = search needs
-
-put-pattern-requires-2 : tie.Need-put-pattern-requires-2
-put-pattern-requires-2 c κs = search needs
-
-same-length : tie.Need-same-length
-same-length c = search needs
-
-same-length-2 : tie.Need-same-length-2
-same-length-2 c = search needs
 
 returns-2 : tie.Need-returns-2
 returns-2 c =
@@ -68,9 +32,6 @@ returns-2 c =
     (c .before .before .before .to-bits .ensures ∙ ap (toBits binary64) (c .before .before .before .before .changed-part .ensures))
     (c .before .before .before .before .before .before .before .before .put-pattern .ensures) (c .before .before .put-pattern2 .ensures)
 
-is-number-requires-2 : tie.Need-is-number-requires-2
-is-number-requires-2 c κs = search needs
-
 returns-3 : tie.Need-returns-3
 returns-3 c =
     let a = c .before .before .before .before .before .before .before .before .before .before .args in
@@ -81,30 +42,6 @@ float-from-bits-x-2 c = no-nan _ (smaller-first (c .before .before .before .befo
 
 float-from-bits-y-2 : tie.Need-float-from-bits-y-2
 float-from-bits-y-2 c = no-nan _ (sym (c .before .is-number2 .ensures) ∙ not-false _ (c .if3 .left))
-
-mul-put-pattern-3 : tie.Need-mul-put-pattern-3
-mul-put-pattern-3 c = search needs
-
-changed-part-requires-2 : tie.Need-changed-part-requires-2
-changed-part-requires-2 c κs = search needs
-
-to-bits-requires-2 : tie.Need-to-bits-requires-2
-to-bits-requires-2 c κs = search needs
-
-put-pattern-requires-3 : tie.Need-put-pattern-requires-3
-put-pattern-requires-3 c κs = search needs
-
-mul-put-pattern-4 : tie.Need-mul-put-pattern-4
-mul-put-pattern-4 c = search needs
-
-put-pattern-requires-4 : tie.Need-put-pattern-requires-4
-put-pattern-requires-4 c κs = search needs
-
-same-length-3 : tie.Need-same-length-3
-same-length-3 c = search needs
-
-same-length-4 : tie.Need-same-length-4
-same-length-4 c = search needs
 
 returns-4 : tie.Need-returns-4
 returns-4 c =
@@ -121,32 +58,32 @@ pub change-stamp-spec : {M : Type 1} → statement M
 change-stamp-spec =
     tie.close
     (tie.spec
-    pattern-at-requires
-    pattern-at-requires-2
-    is-larger-requires
-    is-number-requires
+    (λ c κs. search needs)
+    (λ c κs. search needs)
+    (λ c κs. search needs)
+    (λ c κs. search needs)
     returns
     float-from-bits-x
     float-from-bits-y
-    mul-put-pattern
-    put-pattern-requires
-    mul-put-pattern-2
-    changed-part-requires
-    to-bits-requires
-    put-pattern-requires-2
-    same-length
-    same-length-2
+    (λ c. search needs)
+    (λ c κs. search needs)
+    (λ c. search needs)
+    (λ c κs. search needs)
+    (λ c κs. search needs)
+    (λ c κs. search needs)
+    (λ c. search needs)
+    (λ c. search needs)
     returns-2
-    is-number-requires-2
+    (λ c κs. search needs)
     returns-3
     float-from-bits-x-2
     float-from-bits-y-2
-    mul-put-pattern-3
-    changed-part-requires-2
-    to-bits-requires-2
-    put-pattern-requires-3
-    mul-put-pattern-4
-    put-pattern-requires-4
-    same-length-3
-    same-length-4
+    (λ c. search needs)
+    (λ c κs. search needs)
+    (λ c κs. search needs)
+    (λ c κs. search needs)
+    (λ c. search needs)
+    (λ c κs. search needs)
+    (λ c. search needs)
+    (λ c. search needs)
     returns-4)

@@ -10,29 +10,17 @@ returns : tie.Need-returns
 unfolding changeOf plus
 returns c = rw (eq-eqb _ _ (c .if1 .taken))
 
-tt-to-tcg-part-requires : tie.Need-tt-to-tcg-part-requires
-tt-to-tcg-part-requires c κs = search needs
-
 returns-2 : tie.Need-returns-2
 unfolding changeOf
 returns-2 c = rw (ne-eqb _ _ (c .before .before .if1 .left), eq-eqb _ _ (c .before .if2 .taken)) (c .tt-to-tcg-part .ensures)
-
-tcg-to-tt-part-requires : tie.Need-tcg-to-tt-part-requires
-tcg-to-tt-part-requires c κs = search needs
 
 returns-3 : tie.Need-returns-3
 unfolding changeOf
 returns-3 c = rw (ne-eqb _ _ (c .before .before .before .if1 .left), ne-eqb _ _ (c .before .before .if2 .left), eq-eqb _ _ (c .before .if3 .taken)) (c .tcg-to-tt-part .ensures)
 
-tcb-to-tdb-part-requires : tie.Need-tcb-to-tdb-part-requires
-tcb-to-tdb-part-requires c κs = search needs
-
 returns-4 : tie.Need-returns-4
 unfolding changeOf
 returns-4 c = rw (ne-eqb _ _ (c .before .before .before .before .if1 .left), ne-eqb _ _ (c .before .before .before .if2 .left), ne-eqb _ _ (c .before .before .if3 .left), eq-eqb _ _ (c .before .if4 .taken)) (c .tcb-to-tdb-part .ensures)
-
-tdb-to-tcb-part-requires : tie.Need-tdb-to-tcb-part-requires
-tdb-to-tcb-part-requires c κs = search needs
 
 returns-5 : tie.Need-returns-5
 unfolding changeOf
@@ -43,11 +31,11 @@ changed-part-spec =
     tie.close
     (tie.spec
     returns
-    tt-to-tcg-part-requires
+    (λ c κs. search needs)
     returns-2
-    tcg-to-tt-part-requires
+    (λ c κs. search needs)
     returns-3
-    tcb-to-tdb-part-requires
+    (λ c κs. search needs)
     returns-4
-    tdb-to-tcb-part-requires
+    (λ c κs. search needs)
     returns-5)

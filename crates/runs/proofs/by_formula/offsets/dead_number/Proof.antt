@@ -9,21 +9,9 @@ use borrow.Author.Needs.{needs}
 use Rattle.runs.proofs.by_formula.offsets.dead_number.Statement.{statement}
 use Rattle.runs.proofs.by_formula.offsets.dead_number.Tie as tie
 
-pattern-at-requires : tie.Need-pattern-at-requires
-pattern-at-requires c κs = search needs
-
-is-number-requires : tie.Need-is-number-requires
-is-number-requires c κs = search needs
-
 returns : tie.Need-returns
 unfolding deadNumberOf
 returns c = rw (ap (λ (b : ℕ). finite (ofBits binary64 b)) (sym (c .before .before .pattern-at .ensures)) ∙ sym (c .before .is-number .ensures) ∙ not-true _ (c .if1 .taken))
-
-pattern-at-requires-2 : tie.Need-pattern-at-requires-2
-pattern-at-requires-2 c κs = search needs
-
-is-number-requires-2 : tie.Need-is-number-requires-2
-is-number-requires-2 c κs = search needs
 
 returns-2 : tie.Need-returns-2
 unfolding deadNumberOf
@@ -37,10 +25,10 @@ pub dead-number-spec : {M : Type 1} → statement M
 dead-number-spec =
     tie.close
     (tie.spec
-    pattern-at-requires
-    is-number-requires
+    (λ c κs. search needs)
+    (λ c κs. search needs)
     returns
-    pattern-at-requires-2
-    is-number-requires-2
+    (λ c κs. search needs)
+    (λ c κs. search needs)
     returns-2
     returns-3)

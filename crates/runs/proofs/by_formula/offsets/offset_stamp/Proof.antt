@@ -11,15 +11,6 @@ use borrow.Author.Needs.{needs}
 use Rattle.runs.proofs.by_formula.offsets.offset_stamp.Statement.{statement}
 use Rattle.runs.proofs.by_formula.offsets.offset_stamp.Tie as tie
 
-pattern-at-requires : tie.Need-pattern-at-requires
-pattern-at-requires c κs = search needs
-
-is-number-requires : tie.Need-is-number-requires
-is-number-requires c κs = search needs
-
-dead-number-requires : tie.Need-dead-number-requires
-dead-number-requires c κs = search needs
-
 returns : tie.Need-returns
 returns c =
     let a = c .before .before .before .before .before .before .before .before .before .args in
@@ -27,18 +18,6 @@ returns c =
 
 float-from-bits-days : tie.Need-float-from-bits-days
 float-from-bits-days c = no-nan _ (sym (c .before .is-number .ensures) ∙ not-false _ (c .if1 .left))
-
-turned-requires : tie.Need-turned-requires
-turned-requires c κs = search needs
-
-change-stamp-requires : tie.Need-change-stamp-requires
-change-stamp-requires c κs = search needs
-
-same-length : tie.Need-same-length
-same-length c = search needs
-
-same-length-2 : tie.Need-same-length-2
-same-length-2 c = search needs
 
 returns-2 : tie.Need-returns-2
 unfolding daysOf
@@ -50,13 +29,13 @@ pub offset-stamp-spec : {M : Type 1} → statement M
 offset-stamp-spec =
     tie.close
     (tie.spec
-    pattern-at-requires
-    is-number-requires
-    dead-number-requires
+    (λ c κs. search needs)
+    (λ c κs. search needs)
+    (λ c κs. search needs)
     returns
     float-from-bits-days
-    turned-requires
-    change-stamp-requires
-    same-length
-    same-length-2
+    (λ c κs. search needs)
+    (λ c κs. search needs)
+    (λ c. search needs)
+    (λ c. search needs)
     returns-2)

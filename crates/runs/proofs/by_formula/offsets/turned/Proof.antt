@@ -7,8 +7,5 @@ use Rattle.runs.proofs.by_formula.offsets.turned.Tie as tie
 returns : tie.Need-returns
 returns c = rw (c .if1 .taken)
 
-returns-2 : tie.Need-returns-2
-returns-2 c = search needs
-
 pub turned-spec : {M : Type 1} → statement M
-turned-spec = tie.close (tie.spec returns returns-2)
+turned-spec = tie.close (tie.spec returns (λ c. search needs))

@@ -5,38 +5,20 @@ use borrow.Author.Needs.{needs}
 use Rattle.runs.proofs.by_formula.pairs.offset_kind.Statement.{statement}
 use Rattle.runs.proofs.by_formula.pairs.offset_kind.Tie as tie
 
-are-requires : tie.Need-are-requires
-are-requires c κs = search needs
-
 returns : tie.Need-returns
 returns c = λ days. found 1 2 1 (sym (c .before .are .ensures) ∙ c .if1 .taken) refl refl (tai-to-ut1 days)
-
-are-requires-2 : tie.Need-are-requires-2
-are-requires-2 c κs = search needs
 
 returns-2 : tie.Need-returns-2
 returns-2 c = λ days. found 2 1 2 (sym (c .before .are2 .ensures) ∙ c .if2 .taken) refl refl (ut1-to-tai days)
 
-are-requires-3 : tie.Need-are-requires-3
-are-requires-3 c κs = search needs
-
 returns-3 : tie.Need-returns-3
 returns-3 c = λ days. found 2 3 1 (sym (c .before .are3 .ensures) ∙ c .if3 .taken) refl refl (ut1-to-tt days)
-
-are-requires-4 : tie.Need-are-requires-4
-are-requires-4 c κs = search needs
 
 returns-4 : tie.Need-returns-4
 returns-4 c = λ days. found 3 2 2 (sym (c .before .are4 .ensures) ∙ c .if4 .taken) refl refl (tt-to-ut1 days)
 
-are-requires-5 : tie.Need-are-requires-5
-are-requires-5 c κs = search needs
-
 returns-5 : tie.Need-returns-5
 returns-5 c = λ days. found 3 7 1 (sym (c .before .are5 .ensures) ∙ c .if5 .taken) refl refl (tt-to-tdb days)
-
-are-requires-6 : tie.Need-are-requires-6
-are-requires-6 c κs = search needs
 
 returns-6 : tie.Need-returns-6
 returns-6 c = λ days. found 7 3 2 (sym (c .before .are6 .ensures) ∙ c .if6 .taken) refl refl (tdb-to-tt days)
@@ -48,16 +30,16 @@ pub offset-kind-spec : {M : Type 1} → statement M
 offset-kind-spec =
     tie.close
     (tie.spec
-    are-requires
+    (λ c κs. search needs)
     returns
-    are-requires-2
+    (λ c κs. search needs)
     returns-2
-    are-requires-3
+    (λ c κs. search needs)
     returns-3
-    are-requires-4
+    (λ c κs. search needs)
     returns-4
-    are-requires-5
+    (λ c κs. search needs)
     returns-5
-    are-requires-6
+    (λ c κs. search needs)
     returns-6
     returns-7)

@@ -5,9 +5,6 @@ use borrow.Author.Needs.{needs}
 use Rattle.runs.proofs.by_formula.pairs.size_due.Statement.{statement}
 use Rattle.runs.proofs.by_formula.pairs.size_due.Tie as tie
 
-takes-offsets-requires : tie.Need-takes-offsets-requires
-takes-offsets-requires c κs = search needs
-
 returns : tie.Need-returns
 unfolding sizeDue
 returns c = rw (sym (c .before .takes-offsets .ensures) ∙ c .if1 .taken)
@@ -17,4 +14,4 @@ unfolding sizeDue
 returns-2 c = rw (sym (c .before .takes-offsets .ensures) ∙ c .if1 .left)
 
 pub size-due-spec : {M : Type 1} → statement M
-size-due-spec = tie.close (tie.spec takes-offsets-requires returns returns-2)
+size-due-spec = tie.close (tie.spec (λ c κs. search needs) returns returns-2)

@@ -22,30 +22,6 @@ use Rattle.utc.proofs.iso_texts.by_rule.put_day.Tie as tie
 abbrev rows : tie.Start → List Row
 rows s = rowsIn (s .args .size) (now (s .args .months)) (now (s .args .seconds))
 
-cast-leap-at-end-of-day-by-lent : tie.Need-cast-leap-at-end-of-day-by-lent
-cast-leap-at-end-of-day-by-lent c = search needs
-
-cast-leap-at-end-of-day-by-lent-2 : tie.Need-cast-leap-at-end-of-day-by-lent-2
-cast-leap-at-end-of-day-by-lent-2 c = search needs
-
-leap-at-end-of-day-by-lent-requires : tie.Need-leap-at-end-of-day-by-lent-requires
-leap-at-end-of-day-by-lent-requires c κs = search needs
-
-enum-known-number : tie.Need-enum-known-number
-enum-known-number c = search needs
-
-enum-known-leap : tie.Need-enum-known-leap
-enum-known-leap c = search needs
-
-time-shown-requires : tie.Need-time-shown-requires
-time-shown-requires c κs = search needs
-
-put-shown-requires : tie.Need-put-shown-requires
-put-shown-requires c κs = search needs
-
-with-rule-requires : tie.Need-with-rule-requires
-with-rule-requires c κs = search needs
-
 returns : tie.Need-returns
 unfolding secondsByRuleOutcome leapByRule
 returns c =
@@ -54,9 +30,6 @@ returns c =
     let f : SFits w32 (s .args .date .year) = record { sfits = v .before .struct-told .given .0 .1 } in
     let h = refused-apart _ _ _ (sym (v .leap-at-end-of-day-by-lent .ensures ∙ read-fields (leapByRule (rows s)) (s .args .date) f (s .pre .0) (s .pre .1)) ∙ ap secondsByRuleOutcome (c .before .number .given .1)) in
     rule-call-refused _ _ _ (sym (not-told _ _ _ (sym (leap-refused sheet01 (rows s) (s .args .date) (s .args .fraction) _ h))))
-
-same-length : tie.Need-same-length
-same-length c = search needs
 
 returns-2 : tie.Need-returns-2
 unfolding secondsByRuleOutcome leapByRule ruleOn
@@ -72,14 +45,14 @@ pub put-day-spec : {M : Type 1} → statement M
 put-day-spec =
     tie.close
     (tie.spec
-    cast-leap-at-end-of-day-by-lent
-    cast-leap-at-end-of-day-by-lent-2
-    leap-at-end-of-day-by-lent-requires
-    enum-known-number
-    enum-known-leap
-    time-shown-requires
-    put-shown-requires
-    with-rule-requires
+    (λ c. search needs)
+    (λ c. search needs)
+    (λ c κs. search needs)
+    (λ c. search needs)
+    (λ c. search needs)
+    (λ c κs. search needs)
+    (λ c κs. search needs)
+    (λ c κs. search needs)
     returns
-    same-length
+    (λ c. search needs)
     returns-2)

@@ -15,21 +15,6 @@ use borrow.Author.Needs.{needs}
 use Rattle.utc.proofs.iso_texts.by_rule.to_iso8601_by_rows.Statement.{statement}
 use Rattle.utc.proofs.iso_texts.by_rule.to_iso8601_by_rows.Tie as tie
 
-size-of-requires : tie.Need-size-of-requires
-size-of-requires c κs = search needs
-
-to-iso8601-by-lent-requires : tie.Need-to-iso8601-by-lent-requires
-to-iso8601-by-lent-requires c κs = search needs
-
-enum-known-number : tie.Need-enum-known-number
-enum-known-number c = search needs
-
-enum-known-n : tie.Need-enum-known-n
-enum-known-n c = search needs
-
-same-length : tie.Need-same-length
-same-length c = search needs
-
 returns : tie.Need-returns
 unfolding textOutcome textByRuleOutcome forget onward
 returns c =
@@ -38,9 +23,6 @@ returns c =
     let s = v .before .before .before .before .before .before .before in
     let e = ap (λ (l : List Row). forget (isoTextByRule l (s .args .utc .0))) (rows-in (s .args .t2) (z .size-of .result) (z .size-of .ensures)) ∙ iso-forgets (rowsOf (s .args .t2)) (s .args .utc .0) in
     call-as _ _ _ _ _ (sym e) (rule-call-forgets _ _ _ _ _ (ap (λ (x : TextByRule). forget (textByRuleOutcome x)) (sym (c .before .number .given .1))) (v .to-iso8601-by-lent .ensures))
-
-same-length-2 : tie.Need-same-length-2
-same-length-2 c = search needs
 
 returns-2 : tie.Need-returns-2
 unfolding textOutcome textByRuleOutcome forget onward
@@ -55,11 +37,11 @@ pub to-iso8601-by-rows-spec : {M : Type 1} → statement M
 to-iso8601-by-rows-spec =
     tie.close
     (tie.spec
-    size-of-requires
-    to-iso8601-by-lent-requires
-    enum-known-number
-    enum-known-n
-    same-length
+    (λ c κs. search needs)
+    (λ c κs. search needs)
+    (λ c. search needs)
+    (λ c. search needs)
+    (λ c. search needs)
     returns
-    same-length-2
+    (λ c. search needs)
     returns-2)

@@ -9,12 +9,6 @@ use borrow.Author.Needs.{needs}
 use Rattle.utc.proofs.iso_texts.by_rule.with_rule.Statement.{statement}
 use Rattle.utc.proofs.iso_texts.by_rule.with_rule.Tie as tie
 
-enum-known-text : tie.Need-enum-known-text
-enum-known-text c = search needs
-
-enum-known-text-2 : tie.Need-enum-known-text-2
-enum-known-text-2 c = search needs
-
 returns : tie.Need-returns
 unfolding textByRuleOutcome textOutcome withRule onward
 returns c = ap (λ (x : TextAnswer). withRule (textOutcome x) (c .before .before .before .args .rule)) (sym (c .before .text .given .1))
@@ -24,4 +18,4 @@ unfolding textByRuleOutcome textOutcome withRule onward
 returns-2 c = ap (λ (x : TextAnswer). withRule (textOutcome x) (c .before .before .before .args .rule)) (sym (c .before .text2 .given .1))
 
 pub with-rule-spec : {M : Type 1} → statement M
-with-rule-spec = tie.close (tie.spec enum-known-text enum-known-text-2 returns returns-2)
+with-rule-spec = tie.close (tie.spec (λ c. search needs) (λ c. search needs) returns returns-2)

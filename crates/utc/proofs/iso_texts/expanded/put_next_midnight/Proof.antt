@@ -11,24 +11,6 @@ use borrow.Author.Needs.{needs}
 use Rattle.utc.proofs.iso_texts.expanded.put_next_midnight.Statement.{statement}
 use Rattle.utc.proofs.iso_texts.expanded.put_next_midnight.Tie as tie
 
-cast-next-calendar-day : tie.Need-cast-next-calendar-day
-cast-next-calendar-day c = search needs
-
-cast-next-calendar-day-2 : tie.Need-cast-next-calendar-day-2
-cast-next-calendar-day-2 c = search needs
-
-next-calendar-day-requires : tie.Need-next-calendar-day-requires
-next-calendar-day-requires c κs = search needs
-
-enum-known-number : tie.Need-enum-known-number
-enum-known-number c = search needs
-
-enum-known-next : tie.Need-enum-known-next
-enum-known-next c = search needs
-
-put-text-expanded-requires : tie.Need-put-text-expanded-requires
-put-text-expanded-requires c κs = search needs
-
 returns : tie.Need-returns
 unfolding nextOutcome
 returns c =
@@ -36,9 +18,6 @@ returns c =
     let s = v .before .before .before .before .before in
     let f : SFits w32 (s .args .date .year) = record { sfits = v .before .struct-told .given .0 .1 } in
     call-refused _ _ _ (next-refused expandedText (s .args .date) _ (sym (read-fields nextOf (s .args .date) f (s .pre .0) (s .pre .1)) ∙ sym (v .next-calendar-day .ensures) ∙ ap nextOutcome (c .before .number .given .1)))
-
-same-length : tie.Need-same-length
-same-length c = search needs
 
 returns-2 : tie.Need-returns-2
 unfolding nextOutcome
@@ -54,12 +33,12 @@ pub put-next-midnight-spec : {M : Type 1} → statement M
 put-next-midnight-spec =
     tie.close
     (tie.spec
-    cast-next-calendar-day
-    cast-next-calendar-day-2
-    next-calendar-day-requires
-    enum-known-number
-    enum-known-next
-    put-text-expanded-requires
+    (λ c. search needs)
+    (λ c. search needs)
+    (λ c κs. search needs)
+    (λ c. search needs)
+    (λ c. search needs)
+    (λ c κs. search needs)
     returns
-    same-length
+    (λ c. search needs)
     returns-2)

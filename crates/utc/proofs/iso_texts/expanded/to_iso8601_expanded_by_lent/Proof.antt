@@ -15,15 +15,6 @@ calendar-answered : (k : tie.After-fields) → let s = k .before .before .before
 unfolding calendarOutcome
 calendar-answered k = sym (k .before .before .julian-to-calendar .ensures) ∙ ap calendarOutcome (k .fields .given .1)
 
-julian-to-calendar-requires : tie.Need-julian-to-calendar-requires
-julian-to-calendar-requires c κs = search needs
-
-enum-known-number : tie.Need-enum-known-number
-enum-known-number c = search needs
-
-enum-known-fields : tie.Need-enum-known-fields
-enum-known-fields c = search needs
-
 put-day-requires : tie.Need-put-day-requires
 put-day-requires c κs =
     let k = c .before .before .before in
@@ -34,9 +25,6 @@ returns : tie.Need-returns
 unfolding calendarOutcome textByRule
 returns c = rule-call-refused _ _ _ (stopped _ (sym (c .before .before .before .julian-to-calendar .ensures) ∙ ap calendarOutcome (c .before .number .given .1)))
 
-same-length : tie.Need-same-length
-same-length c = search needs
-
 returns-2 : tie.Need-returns-2
 unfolding textByRule
 returns-2 c = rule-call-as _ _ _ _ _ (went _ (calendar-answered (c .before .before .before .before .before .before))) (c .before .before .put-day .ensures)
@@ -45,10 +33,10 @@ pub to-iso8601-expanded-by-lent-spec : {M : Type 1} → statement M
 to-iso8601-expanded-by-lent-spec =
     tie.close
     (tie.spec
-    julian-to-calendar-requires
-    enum-known-number
-    enum-known-fields
+    (λ c κs. search needs)
+    (λ c. search needs)
+    (λ c. search needs)
     put-day-requires
     returns
-    same-length
+    (λ c. search needs)
     returns-2)

@@ -10,22 +10,10 @@ use borrow.Author.Needs.{needs}
 use Rattle.utc.proofs.iso_texts.half_even.to_iso8601_half_even.Statement.{statement}
 use Rattle.utc.proofs.iso_texts.half_even.to_iso8601_half_even.Tie as tie
 
-table-refusal-requires : tie.Need-table-refusal-requires
-table-refusal-requires c κs = search needs
-
 returns : tie.Need-returns
 returns c =
     let r = c .before in
     rule-call-refused _ _ _ (sym (turned-away (r .before .before .args .t2) (r .table-refusal .result) (r .table-refusal .ensures) _ (c .if1 .taken)))
-
-size-of-requires : tie.Need-size-of-requires
-size-of-requires c κs = search needs
-
-to-iso8601-half-even-by-lent-requires : tie.Need-to-iso8601-half-even-by-lent-requires
-to-iso8601-half-even-by-lent-requires c κs = search needs
-
-same-length : tie.Need-same-length
-same-length c = search needs
 
 returns-2 : tie.Need-returns-2
 returns-2 c =
@@ -41,9 +29,9 @@ pub to-iso8601-half-even-spec : {M : Type 1} → statement M
 to-iso8601-half-even-spec =
     tie.close
     (tie.spec
-    table-refusal-requires
+    (λ c κs. search needs)
     returns
-    size-of-requires
-    to-iso8601-half-even-by-lent-requires
-    same-length
+    (λ c κs. search needs)
+    (λ c κs. search needs)
+    (λ c. search needs)
     returns-2)

@@ -10,46 +10,10 @@ use borrow.Author.Needs.{needs}
 use Rattle.utc.proofs.text.expanded.put_signed.Statement.{statement}
 use Rattle.utc.proofs.text.expanded.put_signed.Tie as tie
 
-third-requires : tie.Need-third-requires
-third-requires c κs = search needs
-
-fourth-requires : tie.Need-fourth-requires
-fourth-requires c κs = search needs
-
-wide-bytes-requires : tie.Need-wide-bytes-requires
-wide-bytes-requires c κs = search needs
-
 returns : tie.Need-returns
 returns c =
     let a = c .before .before .before .before .before .args in
     short ((cond (a .negative) 45 43 ∷ seven (a .size)) ++ afterYear (a .date) (a .time)) (now (a .out)) (omega (arith, c .if1 .taken))
-
-sign-requires : tie.Need-sign-requires
-sign-requires c κs = search needs
-
-slice-aggregate-copy : tie.Need-slice-aggregate-copy
-slice-aggregate-copy c = search needs
-
-sub-copy : tie.Need-sub-copy
-sub-copy c = search needs
-
-part-copy-start : tie.Need-part-copy-start
-part-copy-start c = search needs
-
-part-copy-end : tie.Need-part-copy-end
-part-copy-end c = search needs
-
-copy-requires : tie.Need-copy-requires
-copy-requires c κs = search needs
-
-slice-write-out : tie.Need-slice-write-out
-slice-write-out c = search needs
-
-add-t12 : tie.Need-add-t12
-add-t12 c = search needs
-
-same-length : tie.Need-same-length
-same-length c = search needs
 
 returns-2 : tie.Need-returns-2
 returns-2 c =
@@ -64,17 +28,17 @@ pub put-signed-spec : {M : Type 1} → statement M
 put-signed-spec =
     tie.close
     (tie.spec
-    third-requires
-    fourth-requires
-    wide-bytes-requires
+    (λ c κs. search needs)
+    (λ c κs. search needs)
+    (λ c κs. search needs)
     returns
-    sign-requires
-    slice-aggregate-copy
-    sub-copy
-    part-copy-start
-    part-copy-end
-    copy-requires
-    slice-write-out
-    add-t12
-    same-length
+    (λ c κs. search needs)
+    (λ c. search needs)
+    (λ c. search needs)
+    (λ c. search needs)
+    (λ c. search needs)
+    (λ c κs. search needs)
+    (λ c. search needs)
+    (λ c. search needs)
+    (λ c. search needs)
     returns-2)

@@ -6,21 +6,6 @@ use borrow.Author.Needs.{needs}
 use Rattle.utc.proofs.text.expanded.put_text_expanded.Statement.{statement}
 use Rattle.utc.proofs.text.expanded.put_text_expanded.Tie as tie
 
-negative-requires : tie.Need-negative-requires
-negative-requires c κs = search needs
-
-size-requires : tie.Need-size-requires
-size-requires c κs = search needs
-
-is-basic-requires : tie.Need-is-basic-requires
-is-basic-requires c κs = search needs
-
-put-basic-requires : tie.Need-put-basic-requires
-put-basic-requires c κs = search needs
-
-same-length : tie.Need-same-length
-same-length c = search needs
-
 returns : tie.Need-returns
 returns c =
     let p = c .before .before in
@@ -30,12 +15,6 @@ returns c =
     of-expanded (n .before .before .before .args .date) (n .before .before .before .args .time) (n .negative .result) true (s .size .result) _ _ _
     (record { sfits = n .before .struct-told .given .0 .1 }) (n .negative .ensures) (s .size .ensures)
     (sym (i .before .is-basic .ensures) ∙ i .if1 .taken) (p .put-basic .ensures)
-
-put-signed-requires : tie.Need-put-signed-requires
-put-signed-requires c κs = search needs
-
-same-length-2 : tie.Need-same-length-2
-same-length-2 c = search needs
 
 returns-2 : tie.Need-returns-2
 returns-2 c =
@@ -51,12 +30,12 @@ pub put-text-expanded-spec : {M : Type 1} → statement M
 put-text-expanded-spec =
     tie.close
     (tie.spec
-    negative-requires
-    size-requires
-    is-basic-requires
-    put-basic-requires
-    same-length
+    (λ c κs. search needs)
+    (λ c κs. search needs)
+    (λ c κs. search needs)
+    (λ c κs. search needs)
+    (λ c. search needs)
     returns
-    put-signed-requires
-    same-length-2
+    (λ c κs. search needs)
+    (λ c. search needs)
     returns-2)

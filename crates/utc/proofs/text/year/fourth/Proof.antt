@@ -9,25 +9,13 @@ returns : tie.Need-returns
 unfolding fourth
 returns c = simp (c .before .if1 .taken, lt-ltb _ _ (c .if2 .taken))
 
-cast-result : tie.Need-cast-result
-cast-result c = search needs
-
-add-result : tie.Need-add-result
-add-result c = search needs
-
 returns-2 : tie.Need-returns-2
 unfolding fourth
 returns-2 c = simp (c .before .if1 .taken, le-ltb _ _ (c .if2 .left))
-
-cast-result-2 : tie.Need-cast-result-2
-cast-result-2 c = search needs
-
-add-result-2 : tie.Need-add-result-2
-add-result-2 c = search needs
 
 returns-3 : tie.Need-returns-3
 unfolding fourth
 returns-3 c = simp (c .if1 .left)
 
 pub fourth-spec : {M : Type 1} → statement M
-fourth-spec = tie.close (tie.spec returns cast-result add-result returns-2 cast-result-2 add-result-2 returns-3)
+fourth-spec = tie.close (tie.spec returns (λ c. search needs) (λ c. search needs) returns-2 (λ c. search needs) (λ c. search needs) returns-3)

@@ -19,8 +19,5 @@ cast-result-3 c = cast-more _ (c .before .fits .year) (c .if1 .left)
 returns : tie.Need-returns
 returns c = size-less _ (c .before .fits .year) (c .if1 .taken)
 
-returns-2 : tie.Need-returns-2
-returns-2 c = search needs
-
 pub size-spec : {M : Type 1} → statement M
-size-spec = tie.close (tie.spec cast-result sub-result cast-result-2 cast-result-3 returns returns-2)
+size-spec = tie.close (tie.spec cast-result sub-result cast-result-2 cast-result-3 returns (λ c. search needs))

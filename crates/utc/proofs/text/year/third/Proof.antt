@@ -4,12 +4,6 @@ use Rattle.utc.specs.text.Layout.{third}
 use Rattle.utc.proofs.text.year.third.Statement.{statement}
 use Rattle.utc.proofs.text.year.third.Tie as tie
 
-cast-result : tie.Need-cast-result
-cast-result c = search needs
-
-add-result : tie.Need-add-result
-add-result c = search needs
-
 returns : tie.Need-returns
 unfolding third
 returns c = simp (c .if1 .taken)
@@ -19,4 +13,4 @@ unfolding third
 returns-2 c = simp (c .if1 .left)
 
 pub third-spec : {M : Type 1} → statement M
-third-spec = tie.close (tie.spec cast-result add-result returns returns-2)
+third-spec = tie.close (tie.spec (λ c. search needs) (λ c. search needs) returns returns-2)

@@ -26,18 +26,6 @@ rows s = rowsIn (s .args .size) (now (s .args .months)) (now (s .args .seconds))
 called : (v : tie.After-offset-at-0h) → secondsByRuleOutcome (v .offset-at-0h .result) ≡ withRule (offsetAt0h (rows (v .before)) (gregorianDate (v .before .args .day))) (ruleOn (rows (v .before)) (gregorianDate (v .before .args .day)))
 called v = let s = v .before in v .offset-at-0h .ensures ∙ ap (λ (z : ℤ). withRule (offsetAt0h (rows s) (gregorianDate z)) (ruleOn (rows s) (gregorianDate z))) (toZ-ofZ (s .fits .day))
 
-offset-at-0h-requires : tie.Need-offset-at-0h-requires
-offset-at-0h-requires c κs = search needs
-
-enum-known-number : tie.Need-enum-known-number
-enum-known-number c = search needs
-
-enum-known-x : tie.Need-enum-known-x
-enum-known-x c = search needs
-
-gregorian-date-requires : tie.Need-gregorian-date-requires
-gregorian-date-requires c κs = search needs
-
 returns : tie.Need-returns
 unfolding monthOutcome RightMonths secondsByRuleOutcome
 returns c = (sym (refused-apart _ _ _ (sym (called (c .before .before .before)) ∙ ap secondsByRuleOutcome (c .before .number .given .1))), tt)
@@ -53,4 +41,4 @@ returns-2 c =
     (sym p, month-right _ _ _ (s .args .day) _ (toZ-ofZ (record { sfits = c .struct-told .given .0 .1 }) ∙ ap (λ (t : CalendarDate). t .year) g) (ap (λ (t : CalendarDate). t .month) g) p)
 
 pub month-of-spec : {M : Type 1} → statement M
-month-of-spec = tie.close (tie.spec offset-at-0h-requires enum-known-number enum-known-x gregorian-date-requires returns returns-2)
+month-of-spec = tie.close (tie.spec (λ c κs. search needs) (λ c. search needs) (λ c. search needs) (λ c κs. search needs) returns returns-2)

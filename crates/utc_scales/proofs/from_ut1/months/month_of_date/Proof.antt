@@ -20,18 +20,6 @@ use Rattle.utc_scales.proofs.from_ut1.months.month_of_date.Tie as tie
 abbrev rows : tie.Start → List Row
 rows s = rowsIn (s .args .size) (now (s .args .months)) (now (s .args .seconds))
 
-day-number-and-fraction-requires : tie.Need-day-number-and-fraction-requires
-day-number-and-fraction-requires c κs = search needs
-
-enum-known-number : tie.Need-enum-known-number
-enum-known-number c = search needs
-
-enum-known-d : tie.Need-enum-known-d
-enum-known-d c = search needs
-
-month-of-requires : tie.Need-month-of-requires
-month-of-requires c κs = search needs
-
 returns : tie.Need-returns
 unfolding monthOutcome RightMonths dayOutcome
 returns c = (sym (offset-no-date _ _ _ (sym (c .before .before .before .day-number-and-fraction .ensures) ∙ ap dayOutcome (c .before .number .given .1)) (rows (c .before .before .before .before))), tt)
@@ -47,4 +35,4 @@ returns-2 c =
     (c .month-of .ensures .0 ∙ ap (λ (z : ℤ). offsetAt0h (rows s) (gregorianDate z)) (day-read _ r) ∙ sym (offset-of-day (rows s) _ _ _ e), c .month-of .ensures .1)
 
 pub month-of-date-spec : {M : Type 1} → statement M
-month-of-date-spec = tie.close (tie.spec day-number-and-fraction-requires enum-known-number enum-known-d month-of-requires returns returns-2)
+month-of-date-spec = tie.close (tie.spec (λ c κs. search needs) (λ c. search needs) (λ c. search needs) (λ c κs. search needs) returns returns-2)

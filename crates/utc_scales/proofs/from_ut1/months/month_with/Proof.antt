@@ -20,9 +20,6 @@ use Rattle.utc_scales.proofs.from_ut1.months.month_with.Tie as tie
 abbrev rows : tie.Start → List Row
 rows s = rowsIn (s .args .size) (now (s .args .months)) (now (s .args .seconds))
 
-gregorian-date-requires : tie.Need-gregorian-date-requires
-gregorian-date-requires c κs = search needs
-
 returns : tie.Need-returns
 unfolding monthOutcome RightMonths RightMonth
 returns c =
@@ -38,13 +35,10 @@ returns c =
     let l = ap (leZ (pos 1972)) (sym y ∙ sym (toZ-ofZ (record { sfits = a .struct-told3 .given .0 .1 }))) ∙ c .if3 .taken in
     (sym (s .pre (s .args .day) (ap (λ (u : CalendarDate). u .year) (sym t) ∙ y) (ap (λ (u : CalendarDate). u .month) (sym t) ∙ f .if1 .taken) l), s .pre)
 
-month-of-requires : tie.Need-month-of-requires
-month-of-requires c κs = search needs
-
 returns-2 : tie.Need-returns-2
 returns-2 c =
     let s = c .before .before .before .before .before in
     (c .month-of .ensures .0 ∙ ap (λ (z : ℤ). offsetAt0h (rows s) (gregorianDate z)) (toZ-ofZ (s .fits .day)), c .month-of .ensures .1)
 
 pub month-with-spec : {M : Type 1} → statement M
-month-with-spec = tie.close (tie.spec gregorian-date-requires returns month-of-requires returns-2)
+month-with-spec = tie.close (tie.spec (λ c κs. search needs) returns (λ c κs. search needs) returns-2)
