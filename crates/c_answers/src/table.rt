@@ -7,9 +7,9 @@ ghost use mathlib.Core.Bool.{_&&_};
 ghost use lib.Dec.{eqb};
 ghost use lib.IntN.{pos};
 ghost use lib.ListN.{getD, length};
-ghost use Rattle.leap_table.specs.rows.Lent.{least, rowsOf, tableOf, unlessRefused};
+ghost use Rattle.leap_table.specs.rows.Announced.{least, rowsOf, tableOf, unlessRefused};
 ghost use Rattle.c_answers.specs.table.TableBytes.{signed32, signedAt, ofLength, tableBytes};
-use leap_table::rows::LentRows;
+use leap_table::rows::AnnouncedRows;
 
 // The signed number of a pattern of 32 bits in two's complement.
 pub(crate) fn i32_of_pattern(n: u32) -> i32
@@ -53,7 +53,7 @@ pub(crate) fn lend_none(first: u32, second: u32) -> bool
 }
 
 // The rows that the bytes hold, as far as their first size goes; bytes of another length than 136 are not read.
-pub fn lent_rows_at(bytes: &[u8]) -> LentRows
+pub fn announced_rows_at(bytes: &[u8]) -> AnnouncedRows
     ensures { λ r. ⌜ ofLength (length (now (bytes .entry))) (tableOf r) ≡ tableBytes (now (bytes .entry)) ⌝ }
 {
     if bytes.len() != 136 {
@@ -67,7 +67,7 @@ pub fn lent_rows_at(bytes: &[u8]) -> LentRows
     let size = places_of(months_size);
     let months = numbers_at(bytes, 8, size);
     let seconds = numbers_at(bytes, 72, size);
-    LentRows {
+    AnnouncedRows {
         months_size,
         seconds_size,
         months,
@@ -75,8 +75,8 @@ pub fn lent_rows_at(bytes: &[u8]) -> LentRows
     }
 }
 
-// The number by which a table in so many bytes is turned away, 0 if it is not: 14 the length, then those of the table.
-pub fn table_number(length: usize, rows: LentRows) -> u32
+// The number by which a table in so many bytes is refused, 0 if it is not: 14 the length, then those of the table.
+pub fn table_number(length: usize, rows: AnnouncedRows) -> u32
     ensures { λ r. ⌜ unlessRefused r (rowsOf rows) ≡ ofLength length (tableOf rows) ⌝ }
 {
     if length != 136 {

@@ -10,7 +10,7 @@ use mir.Val.{toZ, ofZ}
 use mir.Facts.{toZ-pos}
 use Rattle.refusals.specs.Outcome.{Outcome, answer, refusal}
 use Rattle.leap_table.specs.rows.Table.{Row}
-use Rattle.leap_table.specs.rows.Lent.{unlessRefused}
+use Rattle.leap_table.specs.rows.Announced.{unlessRefused}
 use Rattle.runs.specs.declared.by_formula.RunAnswer.{RunAnswer}
 use Rattle.runs.specs.declared.by_formula.RunAnswer.the-variants.{Converted, Refused}
 use Rattle.runs.specs.by_formula.Run.{RunCall, runOutcome, runCall}

@@ -32,14 +32,14 @@ use Rattle.c_answers.specs.Delivery.{code, Delivered}
 use Rattle.c_answers.specs.rules.RuleFields.{ruleBytes}
 use Rattle.c_answers.specs.TwoBuffers.{bothFit, DeliveredTwo}
 use Rattle.c_answers.proofs.Deliveries.{code-back}
-use Rattle.capi.specs.declared.text_calls.NamedSheet.{NamedSheet}
-use Rattle.capi.specs.declared.text_calls.NamedSheet.the-variants.{Document01, HalfEven, Expanded}
-use Rattle.capi.specs.TextRule.{ruled, noRoom, sheetNamed}
+use Rattle.capi.specs.declared.text_calls.NamedForm.{NamedForm}
+use Rattle.capi.specs.declared.text_calls.NamedForm.the-variants.{Document01, HalfEven, Expanded}
+use Rattle.capi.specs.TextRule.{ruled, noRoom, formNamed}
 
--- ---- the call of the sheet that is named
-pub named-call : (sheet k : NamedSheet) (rows : List Row) (jd : JulianDate) {l out : List ℕ} {r : TextByRule} → sheet ≡ k
-    → TextRuleCall (textByRule (sheetNamed k) rows jd) l r out → TextRuleCall (textByRule (sheetNamed sheet) rows jd) l r out
-named-call sheet k rows jd {l} {out} {r} e p = subst (λ (x : NamedSheet). TextRuleCall (textByRule (sheetNamed x) rows jd) l r out) (sym e) p
+-- ---- the call of the form of text that is named
+pub named-call : (textForm k : NamedForm) (rows : List Row) (jd : JulianDate) {l out : List ℕ} {r : TextByRule} → textForm ≡ k
+    → TextRuleCall (textByRule (formNamed k) rows jd) l r out → TextRuleCall (textByRule (formNamed textForm) rows jd) l r out
+named-call textForm k rows jd {l} {out} {r} e p = subst (λ (x : NamedForm). TextRuleCall (textByRule (formNamed x) rows jd) l r out) (sym e) p
 
 -- ---- the rule has no room
 nothing-told : (o : Outcome (List ℕ × Rule)) (m k : ℕ) → writtenByRule o m ≡ refusal k → refusal k ≡ noRoom o
@@ -175,8 +175,8 @@ module _ (o : Outcome (List ℕ × Rule)) (few : (t : List ℕ) → forget o ≡
       }
 
 -- a text has at most 27 bytes
-pub text-few : (sheet : NamedSheet) (rows : List Row) (jd : JulianDate) (t : List ℕ) → forget (textByRule (sheetNamed sheet) rows jd) ≡ answer t → length t ≤ 64
-unfolding sheetNamed
+pub text-few : (textForm : NamedForm) (rows : List Row) (jd : JulianDate) (t : List ℕ) → forget (textByRule (formNamed textForm) rows jd) ≡ answer t → length t ≤ 64
+unfolding formNamed
 text-few Document01 rows jd t e = omega (arith, text-length rows jd t (sym (iso-forgets rows jd) ∙ e) .1)
 text-few HalfEven rows jd t e = omega (arith, even-text-length rows jd t (sym (even-forgets rows jd) ∙ e) .1)
 text-few Expanded rows jd t e = by (expanded-text-length rows jd t (sym (expanded-forgets rows jd) ∙ e))

@@ -5,6 +5,6 @@ pub mod WeekBytes
 pub mod LineDelivery
 pub mod RunDelivery
 pub mod TextRule
-pub mod lent_calls
+pub mod table_calls
 pub mod reader_answers
 pub mod laws

@@ -6,7 +6,7 @@ ghost use Rattle.stamps.specs.declared.Telling.the-variants.{Numbers, Sentences
 ghost use Rattle.stamps.specs.Block.{blockOf};
 ghost use Rattle.c_answers.specs.table.TableBytes.{tableBytes};
 ghost use Rattle.c_answers.specs.Delivery.{code, Delivered};
-ghost use Rattle.capi.specs.lent_calls.ListingPart.{listingPart};
+ghost use Rattle.capi.specs.table_calls.ListingPart.{listingPart};
 use c_answers::refused;
 use stamps::BlockAnswer;
 
@@ -24,7 +24,7 @@ pub extern "C" fn ct_block_stamps(block: &[u8]) -> i64
 pub extern "C" fn ct_listing_part(block: &[u8], line: u32, table: &[u8], out: &mut [u8]) -> i64
     ensures { λ r. ⌜ Delivered (onward (tableBytes (now (table .entry))) (λ rows. listingPart Numbers rows (now (block .entry)) line (length (now (out .entry))))) (now (out .entry)) r (now (out .exit)) ⌝ }
 {
-    crate::lent_calls::listing_part(block, line, table, out)
+    crate::table_calls::listing_part(block, line, table, out)
 }
 
 // The second listing: refusals are told in sentences. `input_len` is how many bytes came in all, of which the block has the first.
@@ -38,5 +38,5 @@ pub extern "C" fn ct_reason_listing_part(
 ) -> i64
     ensures { λ r. ⌜ Delivered (onward (tableBytes (now (table .entry))) (λ rows. listingPart (Sentences «input_len») rows (now (block .entry)) line (length (now (out .entry))))) (now (out .entry)) r (now (out .exit)) ⌝ }
 {
-    crate::lent_calls::reason_listing_part(block, input_len, line, table, out)
+    crate::table_calls::reason_listing_part(block, input_len, line, table, out)
 }

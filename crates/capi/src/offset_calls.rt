@@ -11,8 +11,8 @@ ghost use Rattle.c_answers.specs.Fields.{floatBytes};
 ghost use Rattle.c_answers.specs.rules.RuleFields.{offsetRuleBytes};
 use c_answers::fields;
 use c_answers::refused;
+use c_answers::table::announced_rows_at;
 use c_answers::table::arrays;
-use c_answers::table::lent_rows_at;
 use c_answers::table::table_number;
 use leap_table::offsets::SecondsByRule;
 
@@ -21,7 +21,7 @@ use leap_table::offsets::SecondsByRule;
 pub extern "C" fn ct_check_table(table: &[u8]) -> i64
     ensures { λ r. ⌜ r ≡ code (onward (tableBytes (now (table .entry))) (λ rows. answer (length rows))) ⌝ }
 {
-    let rows = lent_rows_at(table);
+    let rows = announced_rows_at(table);
     let number = table_number(table.len(), rows);
     if number != 0 {
         return refused(number);

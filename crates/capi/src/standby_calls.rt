@@ -3,7 +3,7 @@ ghost use Rattle.refusals.specs.Outcome.{onward};
 ghost use Rattle.standby.specs.Bills.{standbyBill};
 ghost use Rattle.c_answers.specs.table.TableBytes.{tableBytes};
 ghost use Rattle.c_answers.specs.Delivery.{inBytes, Delivered};
-ghost use Rattle.capi.specs.lent_calls.BillBytes.{billBytes, utcTime};
+ghost use Rattle.capi.specs.table_calls.BillBytes.{billBytes, utcTime};
 
 #[no_mangle]
 pub extern "C" fn ct_standby_bill(
@@ -29,7 +29,7 @@ pub extern "C" fn ct_standby_bill(
 ) -> i64
     ensures { λ r. ⌜ Delivered (inBytes billBytes (onward (tableBytes (now (table .entry))) (λ rows. standbyBill rows (utcTime «start_year» «start_month» «start_day» «start_hour» «start_minute» «start_second» «start_millis») (utcTime «end_year» «end_month» «end_day» «end_hour» «end_minute» «end_second» «end_millis») rate «first_metres» «second_metres»))) (now (out .entry)) r (now (out .exit)) ⌝ }
 {
-    crate::lent_calls::bills::standby_bill(
+    crate::table_calls::bills::standby_bill(
         start_year,
         start_month,
         start_day,

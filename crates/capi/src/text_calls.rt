@@ -1,54 +1,54 @@
-// UTC as text by each of the three sheets, with the rule of its day in a buffer of its own. Each sheet has its own way from the table to the text: one way for a sheet by
+// UTC as text by each of the three forms of text, with the rule of its day in a buffer of its own. Each form of text has its own way from the table to the text: one way for a form of text by
 // name takes 47 to 73 instructions a call more.
 ghost use mathlib.Core.Path.{_≡_};
 ghost use Prim.Native.Nat.{ℕ};
 ghost use Rattle.refusals.specs.Outcome.{refusal, onward};
 ghost use Rattle.julian.specs.JulianDate.{julian};
-ghost use Rattle.leap_table.specs.rows.Lent.{rowsIn};
+ghost use Rattle.leap_table.specs.rows.Announced.{rowsIn};
 ghost use Rattle.utc.specs.iso_texts.ByRule.{textByRule, isoTextByRule, halfEvenByRule, expandedByRule, TextRuleCall};
 ghost use Rattle.c_answers.specs.table.TableBytes.{tableBytes};
 ghost use Rattle.c_answers.specs.Delivery.{code};
 ghost use Rattle.c_answers.specs.TwoBuffers.{DeliveredTwo};
-ghost use Rattle.capi.specs.TextRule.{ruled, noRoom, sheetNamed};
+ghost use Rattle.capi.specs.TextRule.{ruled, noRoom, formNamed};
 use c_answers::refused;
 use c_answers::table::arrays;
 use julian::JulianDate;
 use scales::UTC;
 use utc::iso_texts::TextByRule;
 
-// Which sheet a text call writes by.
-pub(crate) enum NamedSheet {
+// Which form of text a text call writes by.
+pub(crate) enum NamedForm {
     Document01,
     HalfEven,
     Expanded,
 }
 
 fn text_by<'a>(
-    sheet: NamedSheet,
+    textForm: NamedForm,
     date: UTC,
     size: usize,
     months: &'a [i32; 16],
     seconds: &'a [i32; 16],
     out: &mut [u8],
 ) -> TextByRule
-    ensures { λ r. ⌜ TextRuleCall (textByRule (sheetNamed sheet) (rowsIn size (now (months .entry)) (now (seconds .entry))) (date .0)) (now (out .entry)) r (now (out .exit)) ⌝ }
+    ensures { λ r. ⌜ TextRuleCall (textByRule (formNamed textForm) (rowsIn size (now (months .entry)) (now (seconds .entry))) (date .0)) (now (out .entry)) r (now (out .exit)) ⌝ }
 {
-    match sheet {
-        NamedSheet::Document01 => utc::iso_texts::to_iso8601_by_lent(
+    match textForm {
+        NamedForm::Document01 => utc::iso_texts::to_iso8601_by_lent(
             date,
             size,
             months,
             seconds,
             out,
         ),
-        NamedSheet::HalfEven => utc::iso_texts::to_iso8601_half_even_by_lent(
+        NamedForm::HalfEven => utc::iso_texts::to_iso8601_half_even_by_lent(
             date,
             size,
             months,
             seconds,
             out,
         ),
-        NamedSheet::Expanded => utc::iso_texts::to_iso8601_expanded_by_lent(
+        NamedForm::Expanded => utc::iso_texts::to_iso8601_expanded_by_lent(
             date,
             size,
             months,
@@ -60,16 +60,16 @@ fn text_by<'a>(
 
 // What is told where the rule has no room: the text's own refusal, and 11 after it. The text goes to a byte of its own.
 fn no_room_for_rule<'a>(
-    sheet: NamedSheet,
+    textForm: NamedForm,
     date: UTC,
     size: usize,
     months: &'a [i32; 16],
     seconds: &'a [i32; 16],
 ) -> i64
-    ensures { λ r. ⌜ r ≡ code (noRoom (textByRule (sheetNamed sheet) (rowsIn size (now (months .entry)) (now (seconds .entry))) (date .0))) ⌝ }
+    ensures { λ r. ⌜ r ≡ code (noRoom (textByRule (formNamed textForm) (rowsIn size (now (months .entry)) (now (seconds .entry))) (date .0))) ⌝ }
 {
     let mut spare = [0; 1];
-    match text_by(sheet, date, size, months, seconds, &mut spare) {
+    match text_by(textForm, date, size, months, seconds, &mut spare) {
         TextByRule::Refused(number) => refused(number),
         TextByRule::Written(_, _) => refused(refusals::TEXT_LONGER_THAN_BUFFER),
     }
@@ -86,7 +86,7 @@ fn put_text<'a>(
     ensures { λ r. ⌜ DeliveredTwo (ruled (isoTextByRule (rowsIn size (now (months .entry)) (now (seconds .entry))) (date .0))) (now (out .entry)) (now (rule .entry)) r (now (out .exit)) (now (rule .exit)) ⌝ }
 {
     if rule.len() < 8 {
-        return no_room_for_rule(NamedSheet::Document01, date, size, months, seconds);
+        return no_room_for_rule(NamedForm::Document01, date, size, months, seconds);
     }
     match utc::iso_texts::to_iso8601_by_lent(date, size, months, seconds, out) {
         TextByRule::Refused(number) => refused(number),
@@ -108,7 +108,7 @@ fn put_half_even<'a>(
     ensures { λ r. ⌜ DeliveredTwo (ruled (halfEvenByRule (rowsIn size (now (months .entry)) (now (seconds .entry))) (date .0))) (now (out .entry)) (now (rule .entry)) r (now (out .exit)) (now (rule .exit)) ⌝ }
 {
     if rule.len() < 8 {
-        return no_room_for_rule(NamedSheet::HalfEven, date, size, months, seconds);
+        return no_room_for_rule(NamedForm::HalfEven, date, size, months, seconds);
     }
     match utc::iso_texts::to_iso8601_half_even_by_lent(date, size, months, seconds, out) {
         TextByRule::Refused(number) => refused(number),
@@ -130,7 +130,7 @@ fn put_expanded<'a>(
     ensures { λ r. ⌜ DeliveredTwo (ruled (expandedByRule (rowsIn size (now (months .entry)) (now (seconds .entry))) (date .0))) (now (out .entry)) (now (rule .entry)) r (now (out .exit)) (now (rule .exit)) ⌝ }
 {
     if rule.len() < 8 {
-        return no_room_for_rule(NamedSheet::Expanded, date, size, months, seconds);
+        return no_room_for_rule(NamedForm::Expanded, date, size, months, seconds);
     }
     match utc::iso_texts::to_iso8601_expanded_by_lent(date, size, months, seconds, out) {
         TextByRule::Refused(number) => refused(number),

@@ -38,15 +38,15 @@ pub extern "C" fn ct_utc_new(seconds: i64, nanos: u32, table: &[u8], out: &mut [
     ensures { λ r. ⌜ Delivered (inBytes julianBytes (onward (tableBytes (now (table .entry))) (λ rows. utcNew rows seconds nanos))) (now (out .entry)) r (now (out .exit)) ⌝ }
 {
     let mut months = [0; 16];
-    let mut lent_seconds = [0; 16];
-    let lent = arrays::read_table(table, &mut months, &mut lent_seconds);
+    let mut announced_seconds = [0; 16];
+    let lent = arrays::read_table(table, &mut months, &mut announced_seconds);
     let number = lent.number;
     if number != 0 {
         return refused(number);
     }
     let size = lent.size;
     put_utc(
-        utc::new_by_lent(seconds, nanos, size, &months, &lent_seconds),
+        utc::new_by_lent(seconds, nanos, size, &months, &announced_seconds),
         out,
     )
 }

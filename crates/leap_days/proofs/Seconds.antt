@@ -20,15 +20,15 @@ use Rattle.calendar.proofs.Accepted.{date-accepted}
 use Rattle.calendar.proofs.NextDates.{next-is}
 use Rattle.calendar.specs.declared.CalendarDate.{CalendarDate}
 use Rattle.calendar.specs.Refusals.{nextOf}
-use Rattle.leap_table.specs.declared.rows.LentRows.{LentRows}
-use Rattle.leap_table.specs.rows.Lent.{tableOf}
+use Rattle.leap_table.specs.declared.rows.AnnouncedRows.{AnnouncedRows}
+use Rattle.leap_table.specs.rows.Announced.{tableOf}
 use Rattle.leap_table.specs.rows.Table.{Row, fixed, starts, reached, monthNumber, monthOf, none}
 use Rattle.leap_table.specs.offsets.Leap.{offsetsOfDay, leapOf, leapAtEndOfDay}
 use Rattle.leap_table.proofs.rows.Reached.{member, month-later, member-later}
 use Rattle.leap_table.proofs.rows.Rows.{every, at, fixed-rises}
 use Rattle.leap_table.proofs.offsets.Years.{whole-rows, most-rows}
 use Rattle.leap_table.proofs.offsets.Cases.{forty-two-rows}
-use Rattle.leap_table.proofs.rows.NoRows.{none-lent, fixed-taken}
+use Rattle.leap_table.proofs.rows.NoRows.{none-announced, fixed-taken}
 use Rattle.leap_table.proofs.offsets.TableSeconds.{seconds-stay}
 use Rattle.leap_table.proofs.offsets.Days.{leap-came}
 use Rattle.leap_table.specs.offsets.Offset.{secondsIn, wholeF}
@@ -163,14 +163,14 @@ module _ (n : ℕ) (h : 23664 ≤ n) (j : ℤ) where
 
   -- a day of month n; `last`: the next day is of the next month
   fixed-leap : (last : Bool) → leapOf (offsetsOfDay fixed n (cond last n (suc n)) j) ≡ cond (not last && B) one nought
-  fixed-leap true = no-step none-lent fixed fixed-taken n n h h j refl .0
+  fixed-leap true = no-step none-announced fixed fixed-taken n n h h j refl .0
   fixed-leap false = go B refl
     where
       go : (b : Bool) → member (suc n) (starts fixed) ≡ b → leapOf (offsetsOfDay fixed n (suc n) j) ≡ cond b one nought
       go true p =
           let q : reached (starts fixed) (suc n) ≡ suc (reached (starts fixed) n) = month-later (starts fixed) fixed-rises n ∙ rw p in
-          one-second-more none-lent fixed fixed-taken n (suc n) h (omega arith) j (omega (arith, q, fixed-seconds n h, fixed-seconds (suc n) (omega arith))) .0
-      go false p = no-step none-lent fixed fixed-taken n (suc n) h (omega arith) j (seconds-stay none-lent fixed fixed-taken n h p) .0
+          one-second-more none-announced fixed fixed-taken n (suc n) h (omega arith) j (omega (arith, q, fixed-seconds n h, fixed-seconds (suc n) (omega arith))) .0
+      go false p = no-step none-announced fixed fixed-taken n (suc n) h (omega arith) j (seconds-stay none-announced fixed fixed-taken n h p) .0
 
 -- ---- THE LAWS, from 1972 on
 pub leap-seconds : (y : ℕ) (m d : ℤ) (x : Float) → 1972 ≤ y → leapAtEndOfDay fixed (pos y) m d ≡ answer x → x ≡ cond (isLeapSecond y (natAbs m) (natAbs d)) one nought
@@ -209,7 +209,7 @@ step-length rows n n′ x (row-down b s p) = ap (add binary64 (wholeF 86400)) p 
     down-by : (a b : ℕ) → b ≡ a + 1 → 86399 ≡ 86400 + a - b
     down-by a b e = omega arith
 
-pub table-day-length : (t : LentRows) (rows : List Row) → tableOf t ≡ answer rows → (y m d : ℤ) (next : CalendarDate) (x : Float) → 23664 ≤ monthNumber y (natAbs m) → nextOf y m d ≡ answer next → leapAtEndOfDay rows y m d ≡ answer x
+pub table-day-length : (t : AnnouncedRows) (rows : List Row) → tableOf t ≡ answer rows → (y m d : ℤ) (next : CalendarDate) (x : Float) → 23664 ≤ monthNumber y (natAbs m) → nextOf y m d ≡ answer next → leapAtEndOfDay rows y m d ≡ answer x
     → add binary64 (wholeF 86400) x ≡ wholeF (86400 + secondsIn rows (monthNumber (next .year) (next .month)) - secondsIn rows (monthNumber y (natAbs m)))
 table-day-length t rows e y m d next x h n p = step-length rows _ _ x (leap-is-step t rows e y m d next x h n p)
 

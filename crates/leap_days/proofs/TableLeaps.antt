@@ -19,10 +19,10 @@ use Rattle.calendar.specs.Calendar.{monthLength}
 use Rattle.calendar.specs.Refusals.{nextOf}
 use Rattle.calendar.specs.DayCount.{mjdNumber}
 use Rattle.calendar.specs.declared.CalendarDate.{CalendarDate}
-use Rattle.leap_table.specs.declared.rows.LentRows.{LentRows}
+use Rattle.leap_table.specs.declared.rows.AnnouncedRows.{AnnouncedRows}
 use Rattle.leap_table.specs.declared.offsets.DayOffsets.{DayOffsets}
 use Rattle.leap_table.specs.rows.Table.{Row, fixed, starts, reached, monthNumber, monthOf, none}
-use Rattle.leap_table.specs.rows.Lent.{tableOf}
+use Rattle.leap_table.specs.rows.Announced.{tableOf}
 use Rattle.leap_table.specs.offsets.Offset.{secondsIn, wholeF}
 use Rattle.leap_table.specs.offsets.Leap.{offsets, offsetsOfDay, dayOffsets, leapOf, leapAtEndOfDay, leapAmount}
 use Rattle.leap_table.proofs.rows.Reached.{member, month-later, last-begun}
@@ -30,7 +30,7 @@ use Rattle.leap_table.proofs.rows.TablesTaken.{when-taken}
 use Rattle.leap_table.proofs.rows.TableLaws.{table-rises}
 use Rattle.leap_table.proofs.offsets.TableYears.{whole-rows-of}
 use Rattle.leap_table.proofs.offsets.Days.{day-offsets-are, leap-given, leap-came}
-use Rattle.leap_table.proofs.offsets.TableSeconds.{seconds-in-range, table-seconds, seconds-stay, seconds-step, same-before-lent}
+use Rattle.leap_table.proofs.offsets.TableSeconds.{seconds-in-range, table-seconds, seconds-stay, seconds-step, same-before-announced}
 use Rattle.time_of_day.specs.ExactTime.{leap1959, minus-one-f}
 use Rattle.leap_days.specs.drift.Small.{small}
 use Rattle.leap_days.proofs.drift.Tests.{sameF}
@@ -56,7 +56,7 @@ minus-one-not-1959 : minus-one-f ≡ leap1959 → ⊥
 unfolding ofBits
 minus-one-not-1959 e = subst (λ (z : Float). T (sameF z minus-one-f)) e tt
 
-module _ (t : LentRows) (rows : List Row) (e : tableOf t ≡ answer rows) where
+module _ (t : AnnouncedRows) (rows : List Row) (e : tableOf t ≡ answer rows) where
   abbrev K : ℕ → ℕ
   K n = secondsIn rows n
 
@@ -138,9 +138,9 @@ module _ (t : LentRows) (rows : List Row) (e : tableOf t ≡ answer rows) where
   same-day : (n n′ : ℕ) (j : ℤ) → n < 24205 → n′ < 24205 → offsetsOfDay rows n n′ j ≡ offsetsOfDay fixed n n′ j
   unfolding offsetsOfDay
   same-day n n′ j h h′ =
-      let p = same-before-lent t rows e n h (ofInt binary64 j) nought in
-      let q = same-before-lent t rows e n h (ofInt binary64 j) half in
-      let r = same-before-lent t rows e n′ h′ (ofInt binary64 (sucℤ j)) nought in
+      let p = same-before-announced t rows e n h (ofInt binary64 j) nought in
+      let q = same-before-announced t rows e n h (ofInt binary64 j) half in
+      let r = same-before-announced t rows e n′ h′ (ofInt binary64 (sucℤ j)) nought in
       (λ i. offsets (p i) (q i) (r i))
 
   -- ---- by dates

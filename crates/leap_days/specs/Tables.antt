@@ -1,4 +1,4 @@
--- What is known of every table of lent rows that is taken, and of its leaps day by day. Written from document 02, item 8, and document 01, "TAI minus UTC". Assumes nothing.
+-- What is known of every table of announced rows that is taken, and of its leaps day by day. Written from document 02, item 8, and document 01, "TAI minus UTC". Assumes nothing.
 use mathlib.Core.Path.{_≡_}
 use mathlib.Core.Bool.{not}
 use mathlib.Core.Logic.{_⊎_}
@@ -12,9 +12,9 @@ use Rattle.refusals.specs.Outcome.{answer}
 use Rattle.floats.specs.Whole.{nought, one}
 use Rattle.calendar.specs.declared.CalendarDate.{CalendarDate}
 use Rattle.calendar.specs.Refusals.{nextOf}
-use Rattle.leap_table.specs.declared.rows.LentRows.{LentRows}
+use Rattle.leap_table.specs.declared.rows.AnnouncedRows.{AnnouncedRows}
 use Rattle.leap_table.specs.rows.Table.{Row, fixed, starts, reached, monthNumber, none}
-use Rattle.leap_table.specs.rows.Lent.{lentRow}
+use Rattle.leap_table.specs.rows.Announced.{announcedRow}
 use Rattle.leap_table.specs.offsets.Offset.{offsetAt, secondsIn, wholeF}
 use Rattle.leap_table.specs.offsets.Leap.{leapAtEndOfDay}
 use Rattle.time_of_day.specs.ExactTime.{leap1959, minus-one-f}
@@ -41,14 +41,14 @@ pub data LeapOn (rows : List Row) (y m d : ℤ) (x : Float) : Type 0 where
   drifting : 23520 ≤ monthNumber y (natAbs m) → monthNumber y (natAbs m) < 23664 → T (small x) → leapAtEndOfDay fixed y m d ≡ answer x → LeapOn rows y m d x
   from-1972 : 23664 ≤ monthNumber y (natAbs m) → (next : CalendarDate) → nextOf y m d ≡ answer next → StepLeap rows (monthNumber y (natAbs m)) (monthNumber (next .year) (next .month)) x → LeapOn rows y m d x
 
--- of the rows: the 42 fixed ones and then the lent ones, at most 58, each month later than the one before and, from place 14 on, one second more or less, those of places 0 to
+-- of the rows: the 42 fixed ones and then the announced ones, at most 58, each month later than the one before and, from place 14 on, one second more or less, those of places 0 to
 -- 13 drifting and no other;
 -- of TAI-UTC: before February 2017 that of the fixed table, from 1972 on 10 to 53 whole seconds at every fraction of a day; and of the leaps
-pub record EveryTable (t : LentRows) (rows : List Row) : Type 0 where
+pub record EveryTable (t : AnnouncedRows) (rows : List Row) : Type 0 where
   pub count : length rows ≡ 42 + t .«months_size»
   pub most : length rows ≤ 58
   pub fixed-first : (i : ℕ) → i < 42 → getD rows i none ≡ getD fixed i none
-  pub lent-after : (i : ℕ) → i < t .«months_size» → getD rows (42 + i) none ≡ lentRow t i
+  pub announced-after : (i : ℕ) → i < t .«months_size» → getD rows (42 + i) none ≡ announcedRow t i
   pub rises : (i : ℕ) → suc i < length rows → getD rows i none .month < getD rows (suc i) none .month
   pub by-one-second : (i : ℕ) → 14 ≤ i → suc i < length rows → (secondsOfRow (getD rows (suc i) none) ≡ secondsOfRow (getD rows i none) + 1) ⊎ (secondsOfRow (getD rows i none) ≡ secondsOfRow (getD rows (suc i) none) + 1)
   pub drifts : (i : ℕ) → i < length rows → eqb (getD rows i none .rate) 0 ≡ not (ltb i 14)

@@ -1,4 +1,4 @@
--- The laws of the table, of the rows that are lent and of their tests.
+-- The laws of the table, of the rows that are announced and of their tests.
 pub mod Reached
 pub mod Rows
 pub mod Naturals

@@ -5,13 +5,13 @@ ghost use mathlib.Core.Bool.{true};
 ghost use Prim.Native.Nat.{_+_, _*_, _≤_};
 ghost use lib.ListN.{length};
 ghost use Rattle.refusals.specs.Outcome.{answer, onward};
-ghost use Rattle.leap_table.specs.rows.Lent.{tableOf, unlessRefused};
+ghost use Rattle.leap_table.specs.rows.Announced.{tableOf, unlessRefused};
 ghost use Rattle.leap_table.specs.judging.Judging.{earlier, validTriple, judgedNext, judgedAll};
 ghost use Rattle.leap_table.specs.judging.Lists.{datesFrom, tripleAt, judgedNumbers};
 
 mod in_bytes;
 
-use crate::rows::LentRows;
+use crate::rows::AnnouncedRows;
 pub use in_bytes::bytes_refusal;
 
 // A year, month and day, a date or not.
@@ -59,7 +59,7 @@ fn in_every_month(t: Triple) -> bool
     t.day <= 28
 }
 
-// The number by which a date is turned away by itself, 0 if it is not.
+// The number by which a date is refused by itself, 0 if it is not.
 fn own_number(t: Triple) -> u32
     ensures { λ r. ⌜ unlessRefused r tt ≡ validTriple t ⌝ }
 {
@@ -72,7 +72,7 @@ fn own_number(t: Triple) -> u32
     }
 }
 
-// The number by which a date after another is turned away, 0 if it is not: its own, then 17.
+// The number by which a date after another is refused, 0 if it is not: its own, then 17.
 fn judge(before: Triple, t: Triple) -> u32
     ensures { λ r. ⌜ unlessRefused r tt ≡ judgedNext before t ⌝ }
 {
@@ -99,7 +99,7 @@ fn triple_at(dates: &[i32], i: usize) -> Triple
     }
 }
 
-// The number by which the n dates are turned away, 0 if they are not. No valid date is earlier than the first of -4799.
+// The number by which the n dates are refused, 0 if they are not. No valid date is earlier than the first of -4799.
 fn judge_all(dates: &[i32], n: usize) -> u32
     requires { ⌜ 3 * n ≤ length (now dates) ⌝ }
     ensures { λ r. ⌜ unlessRefused r tt ≡ judgedAll (datesFrom (tripleAt (now (dates .entry))) 0 n) ⌝ }
@@ -122,9 +122,9 @@ fn judge_all(dates: &[i32], n: usize) -> u32
     0
 }
 
-// The number by which a walk with these dates, a year, a month and a day each, is turned away, 0 if it is not: 20 to 22 the table; 14 a length of `dates` that is no multiple of 3;
+// The number by which a walk with these dates, a year, a month and a day each, is refused, 0 if it is not: 20 to 22 the table; 14 a length of `dates` that is no multiple of 3;
 // 11 fewer places than dates; then date by date 1 to 3 its own, 17 earlier than the one before it.
-pub fn numbers_refusal(dates: &[i32], table: LentRows, places: usize) -> u32
+pub fn numbers_refusal(dates: &[i32], table: AnnouncedRows, places: usize) -> u32
     ensures { λ r. ⌜ unlessRefused r tt ≡ onward (tableOf table) (λ _. judgedNumbers (now (dates .entry)) places) ⌝ }
 {
     let number = crate::rows::table_refusal(table);

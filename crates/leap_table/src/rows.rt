@@ -4,21 +4,21 @@ ghost use mathlib.Core.Path.{_≡_};
 ghost use lib.ListN.{length};
 ghost use Rattle.refusals.specs.Outcome.{answer, onward};
 ghost use Rattle.leap_table.specs.rows.Table.{fixed};
-ghost use Rattle.leap_table.specs.rows.Lent.{tableOf};
+ghost use Rattle.leap_table.specs.rows.Announced.{tableOf};
 ghost use Rattle.leap_table.specs.rows.Answers.{rowsOutcome};
 
-mod lent;
+mod announced;
 
-pub use lent::at_most_16;
-pub use lent::lent_refusal;
-pub use lent::natural;
-pub use lent::size_of;
-pub use lent::table_refusal;
+pub use announced::announced_refusal;
+pub use announced::at_most_16;
+pub use announced::natural;
+pub use announced::size_of;
+pub use announced::table_refusal;
 
 // The rows that a caller lends after the fixed ones: how many by each size, their month starts (12 × year + month - 1) and their whole seconds. Places past the size
 // are not read. A call that ends in `_by_rows` takes the rows of such a table, which is tested elsewhere; one that ends in `_by_lent` takes one size and the two arrays by
 // reference, at most 16 rows, so that nothing is copied from call to call.
-pub struct LentRows {
+pub struct AnnouncedRows {
     pub months_size: u32,
     pub seconds_size: u32,
     pub months: [i32; 16],
@@ -34,11 +34,11 @@ pub enum RowsAnswer {
     Refused(u32),
 }
 
-// No lent rows: the table is the fixed one.
-pub fn no_rows() -> LentRows
+// No announced rows: the table is the fixed one.
+pub fn no_rows() -> AnnouncedRows
     ensures { λ r. ⌜ tableOf r ≡ answer fixed ⌝ }
 {
-    LentRows {
+    AnnouncedRows {
         months_size: 0,
         seconds_size: 0,
         months: [0; 16],
@@ -48,7 +48,7 @@ pub fn no_rows() -> LentRows
 
 // How many rows a table has, the fixed ones included: 42 to 58. Refusals in order: 20 the sizes, 21 a row not later than the one before, 22 a step other than one
 // second up or down.
-pub fn check_table(table: LentRows) -> RowsAnswer
+pub fn check_table(table: AnnouncedRows) -> RowsAnswer
     ensures { λ r. ⌜ rowsOutcome r ≡ onward (tableOf table) (λ rows. answer (length rows)) ⌝ }
 {
     let number = table_refusal(table);

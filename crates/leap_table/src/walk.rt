@@ -9,7 +9,7 @@ ghost use Rattle.refusals.specs.Outcome.{answer, onward};
 ghost use Rattle.floats.specs.Whole.{nought};
 ghost use Rattle.calendar.specs.DayCount.{mjdNumber};
 ghost use Rattle.leap_table.specs.rows.Table.{starts, rising};
-ghost use Rattle.leap_table.specs.rows.Lent.{rowsOf, tableOf};
+ghost use Rattle.leap_table.specs.rows.Announced.{rowsOf, tableOf};
 ghost use Rattle.leap_table.specs.offsets.Forward.{byTerms};
 ghost use Rattle.leap_table.specs.walk.Rows.{compared};
 ghost use Rattle.leap_table.specs.judging.Judging.{validTriple};
@@ -24,7 +24,7 @@ mod in_bytes;
 
 use crate::judging::Triple;
 use crate::offsets::walk_rows::RowTerms;
-use crate::rows::LentRows;
+use crate::rows::AnnouncedRows;
 pub use in_bytes::offsets_at_0h_bytes;
 
 // The number of rows compared, or the number of the refusal.
@@ -68,7 +68,7 @@ fn offset_in(terms: RowTerms, t: Triple) -> f64
 }
 
 // A walk that has not begun: before the first row.
-fn at_start(table: LentRows) -> Walk
+fn at_start(table: AnnouncedRows) -> Walk
     ensures { λ r. ⌜ AtStart (rowsOf table) r ⌝ }
 {
     Walk {
@@ -81,7 +81,7 @@ fn at_start(table: LentRows) -> Walk
 }
 
 // The walk goes on past each row that has begun in a month, and counts it.
-fn walk_to(w: Walk, table: LentRows, month: u64) -> Walk
+fn walk_to(w: Walk, table: AnnouncedRows, month: u64) -> Walk
     requires { ⌜ (Standing (rowsOf table) w) × (month < 1099511627776) × (w .compared < 9223372036854775808) ⌝ }
     ensures { λ r. ⌜ Stepped (rowsOf table) w month r ⌝ }
 {
@@ -127,7 +127,7 @@ fn triple_at(dates: &[i32], i: usize) -> Triple
 }
 
 // Walks through the table with n dates, writes their offsets, and says how many rows it compared.
-fn walk_all(dates: &[i32], n: usize, table: LentRows, out: &mut [f64]) -> u64
+fn walk_all(dates: &[i32], n: usize, table: AnnouncedRows, out: &mut [f64]) -> u64
     requires { ⌜ (GoodDates (tripleAt (now dates)) n) × (T (rising (starts (rowsOf table)))) × (3 * n ≤ length (now dates)) × (n ≤ length (now out)) ⌝ }
     ensures { λ r. ⌜ (r ≡ compared (starts (rowsOf table)) (map monthIn (datesFrom (tripleAt (now (dates .entry))) 0 n))) × (now (out .exit) ≡ map (tripleOffset (rowsOf table)) (datesFrom (tripleAt (now (dates .entry))) 0 n) ++ drop n (now (out .entry))) ⌝ }
 {
@@ -149,7 +149,7 @@ fn walk_all(dates: &[i32], n: usize, table: LentRows, out: &mut [f64]) -> u64
 
 // Writes TAI-UTC at 0h of each date, a year, a month and a day of `dates`, in their order, and answers how many rows of the table it compared. Refusals in order: 20 to 22 the
 // table; 14 a length of `dates` that is no multiple of 3; 11 fewer places than dates; then date by date 1 to 3 its own, 17 earlier than the one before it.
-pub fn offsets_at_0h(dates: &[i32], table: LentRows, out: &mut [f64]) -> WalkAnswer
+pub fn offsets_at_0h(dates: &[i32], table: AnnouncedRows, out: &mut [f64]) -> WalkAnswer
     ensures { λ r. ⌜ WalkCall asFloats (onward (tableOf table) (λ rows. walkOfNumbers rows (now (dates .entry)) (length (now (out .entry))))) (now (out .entry)) r (now (out .exit)) ⌝ }
 {
     let number = crate::judging::numbers_refusal(dates, table, out.len());

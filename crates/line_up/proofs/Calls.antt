@@ -10,7 +10,7 @@ use borrow.Author.Tests.{eq-eqb, ne-eqb}
 use Rattle.line_up.specs.declared.LineUpAnswer.the-variants as Answer
 use Rattle.line_up.specs.declared.LineUpAnswer.{LineUpAnswer}
 use Rattle.line_up.specs.Runs.{allTested, run, numbersAfter, ordered}
-use Rattle.line_up.specs.LineUp.{deadAt, soonerAt, countOutcome, smaller, leastRoom, lineRefusal, lineWritten, putInLine, LinedUp, result, linedUp}
+use Rattle.line_up.specs.LineUp.{unorderedAt, soonerAt, countOutcome, smaller, leastRoom, lineRefusal, lineWritten, putInLine, LinedUp, result, linedUp}
 use Rattle.line_up.proofs.Places.{after-length, ordered-length}
 use Rattle.line_up.specs.keep_dates.Asked.{Lent}
 use Rattle.line_up.proofs.Lines.{Rooms, rooms, run-lent, runTurned-is, runTurned-length}
@@ -39,9 +39,9 @@ module _ (js ks : List ℕ) (ns : List ℕ) (a c : ℕ) (out : List ℕ) (tl rl 
     pub counts-fit : a + c ≤ length ns
     counts-fit = omega (arith, sizes .count1, sizes .count2)
 
-    module _ (N0 : List ℕ) (e0 : N0 ≡ allTested (deadAt js ks) 0 ns) where
+    module _ (N0 : List ℕ) (e0 : N0 ≡ allTested (unorderedAt js ks) 0 ns) where
       whole-0 : length N0 ≡ length ns
-      whole-0 = ap length e0 ∙ tested-length (deadAt js ks) 0 ns
+      whole-0 = ap length e0 ∙ tested-length (unorderedAt js ks) 0 ns
 
       good : Fine (length N0) a c (leastRoom (length out) tl rl)
       good = subst (λ (n : ℕ). Fine n a c (leastRoom (length out) tl rl)) (sym whole-0) sizes

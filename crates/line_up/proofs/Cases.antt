@@ -14,7 +14,7 @@ use Rattle.julian.specs.declared.JulianDate.{JulianDate}
 use Rattle.julian.specs.JulianDate.{julian}
 use Rattle.julian.specs.order.Places.{hasPlace, isEarlier}
 use Rattle.line_up.specs.Runs.{acceptedIn, firstOr, tested, pick, cursorAfter}
-use Rattle.line_up.specs.LineUp.{stampOf, deadAt, soonerAt, eightEach, lineRefusal}
+use Rattle.line_up.specs.LineUp.{stampOf, unorderedAt, soonerAt, eightEach, lineRefusal}
 
 pub stamp-is : (js ks : List ℕ) (i a b : ℕ) (x y : Float) → a ≡ u64At js (8 * i) → b ≡ u64At ks (8 * i) → x ≡ ofBits binary64 a → y ≡ ofBits binary64 b → julian x y ≡ stampOf js ks i
 unfolding stampOf
@@ -24,20 +24,20 @@ pub sooner-is : (js ks : List ℕ) (i j : ℕ) (a b : JulianDate) → a ≡ stam
 unfolding soonerAt
 sooner-is js ks i j a b p q = rw (p, q)
 
-pub dead-is : (js ks : List ℕ) (i : ℕ) (a : JulianDate) (r : Bool) → a ≡ stampOf js ks i → r ≡ hasPlace a → not r ≡ deadAt js ks i
-unfolding deadAt
-dead-is js ks i a r p q = rw (q, p)
+pub unordered-is : (js ks : List ℕ) (i : ℕ) (a : JulianDate) (r : Bool) → a ≡ stampOf js ks i → r ≡ hasPlace a → not r ≡ unorderedAt js ks i
+unfolding unorderedAt
+unordered-is js ks i a r p q = rw (q, p)
 
-module _ (dead : ℕ → Bool) (number i : ℕ) where
-  pub tested-dead : number ≡ 0 → dead i ≡ true → 9 ≡ tested dead number i
+module _ (unordered : ℕ → Bool) (number i : ℕ) where
+  pub tested-unordered : number ≡ 0 → unordered i ≡ true → 9 ≡ tested unordered number i
   unfolding tested
-  tested-dead e f = rw (eq-eqb number 0 e, f)
+  tested-unordered e f = rw (eq-eqb number 0 e, f)
 
-  pub tested-sound : number ≡ 0 → dead i ≡ false → number ≡ tested dead number i
+  pub tested-sound : number ≡ 0 → unordered i ≡ false → number ≡ tested unordered number i
   unfolding tested
   tested-sound e f = rw (eq-eqb number 0 e, f)
 
-  pub tested-refused : (number ≡ 0 → ⊥) → number ≡ tested dead number i
+  pub tested-refused : (number ≡ 0 → ⊥) → number ≡ tested unordered number i
   unfolding tested
   tested-refused h = rw (ne-eqb number 0 h)
 

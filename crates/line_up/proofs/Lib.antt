@@ -8,7 +8,7 @@ pub mod Cursors
 pub mod Cases
 pub mod Nexts
 pub mod Testing
-pub mod Dead
+pub mod Unordered
 pub mod Merging
 pub mod Lines
 pub mod Calls

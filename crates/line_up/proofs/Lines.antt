@@ -1,4 +1,4 @@
--- A run looks at its own numbers only, so that three runs are judged one after the other in one list, and who comes to it with 0 is not dead. Assumes nothing.
+-- A run looks at its own numbers only, so that three runs are judged one after the other in one list, and who comes to it with 0 is not unordered. Assumes nothing.
 use Prim.Native.Nat.{ℕ, _+_, _-_, _*_, _/_, _<_, _≤_}
 use native.Mathlib.Omega.{arith}
 use native.Mathlib.Nat.{div-mul-le-self}
@@ -10,12 +10,12 @@ use lib.ListN.{length, getD, drop}
 use lib.Seq.{drop-drop}
 use borrow.Author.Tests.{ltb-true, ltb-false}
 use Rattle.line_up.proofs.keep_most.Housing.{run-is, run-long, run-number}
-use Rattle.line_up.specs.keep_dates.Asked.{Alive, Lent}
+use Rattle.line_up.specs.keep_dates.Asked.{AllOrdered, Lent}
 use Rattle.line_up.specs.Runs.{allTested, run}
-use Rattle.line_up.specs.LineUp.{deadAt, smaller, leastRoom}
+use Rattle.line_up.specs.LineUp.{unorderedAt, smaller, leastRoom}
 use Rattle.line_up.specs.Asked.{runTurned}
 use Rattle.line_up.proofs.Testing.{tested-length}
-use Rattle.line_up.proofs.Dead.{zero-sound}
+use Rattle.line_up.proofs.Unordered.{zero-sound}
 
 pub drop-later : (a b : ℕ) (l m : List ℕ) → a ≤ b → drop a l ≡ drop a m → drop b l ≡ drop b m
 drop-later a b l m h e =
@@ -53,14 +53,14 @@ module _ (lt : ℕ → ℕ → Bool) (ns P : List ℕ) (from to : ℕ) (ft : fro
   pub runTurned-length : length (P ++ run lt ns from to) ≡ to
   runTurned-length = run-long lt ns P from to ft tn len (P ++ drop from ns) refl
 
--- what a run is lent, where the runs before it left P and the dead are turned away
-module _ (js ks come N0 P N : List ℕ) (from to : ℕ) (lt : ℕ → ℕ → Bool) (e0 : N0 ≡ allTested (deadAt js ks) 0 come) (ft : from ≤ to) (tn : to ≤ length N0) (len : length P ≡ from) (e : N ≡ P ++ drop from N0)
+-- what a run is lent, where the runs before it left P and the unordered are left out
+module _ (js ks come N0 P N : List ℕ) (from to : ℕ) (lt : ℕ → ℕ → Bool) (e0 : N0 ≡ allTested (unorderedAt js ks) 0 come) (ft : from ≤ to) (tn : to ≤ length N0) (len : length P ≡ from) (e : N ≡ P ++ drop from N0)
     (long : length N ≡ length N0) (few : length N0 ≤ 4294967295) where
-  pub run-alive : Alive js ks N from to
+  pub run-alive : AllOrdered js ks N from to
   run-alive p h k z =
       let m : getD N0 p 0 ≡ 0 = sym (run-number lt N0 P from to ft tn len N e p 0 h) ∙ z in
-      let q : p < length come = omega (arith, ap length e0, tested-length (deadAt js ks) 0 come) in
-      zero-sound (deadAt js ks) come p q (ap (λ (l : List ℕ). getD l p 0) (sym e0) ∙ m) .1
+      let q : p < length come = omega (arith, ap length e0, tested-length (unorderedAt js ks) 0 come) in
+      zero-sound (unorderedAt js ks) come p q (ap (λ (l : List ℕ). getD l p 0) (sym e0) ∙ m) .1
 
   pub run-lent : (tails ranks : List ℕ) (out : ℕ) → Rooms (length N0) out (length tails) (length ranks) → Lent js ks N from to tails ranks
   run-lent tails ranks out r = record {

@@ -12,7 +12,7 @@ use Rattle.numerals.specs.little_endian.LittleEndian.{fourBytes, u64At}
 use Rattle.julian.specs.declared.JulianDate.{JulianDate}
 use Rattle.julian.specs.JulianDate.{julian}
 use Rattle.julian.specs.order.Places.{hasPlace, isEarlier}
-unfoldable pub use Rattle.line_up.specs.keep_dates.Stamps.{stampOf, deadAt, soonerAt}
+unfoldable pub use Rattle.line_up.specs.keep_dates.Stamps.{stampOf, unorderedAt, soonerAt}
 use Rattle.line_up.specs.declared.LineUpAnswer.the-variants as Answer
 use Rattle.line_up.specs.declared.LineUpAnswer.{LineUpAnswer}
 use Rattle.line_up.specs.Runs.{allTested, numbersAfter, ordered}
@@ -66,5 +66,5 @@ leastRoom out tails ranks = smaller out (smaller tails ranks)
 unfoldable pub linedUp : List ℕ → List ℕ → List ℕ → ℕ → ℕ → List ℕ → ℕ → ℕ → LinedUp
 linedUp js ks ns first second out tails ranks =
     cond (eqb (lineRefusal (length js) (length ks) (length ns) first second (leastRoom (length out) tails ranks)) 0)
-    (putInLine (soonerAt js ks) (allTested (deadAt js ks) 0 ns) first (first + second) out)
+    (putInLine (soonerAt js ks) (allTested (unorderedAt js ks) 0 ns) first (first + second) out)
     (record { answer = refusal (lineRefusal (length js) (length ks) (length ns) first second (leastRoom (length out) tails ranks)); numbers = ns; out = out })

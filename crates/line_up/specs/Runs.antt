@@ -9,18 +9,18 @@ use lib.ListN.{getD, length}
 use lib.Seq.{slice}
 unfoldable pub use Rattle.line_up.specs.keep_most.Piles.{zeros, mostKept}
 
--- ---- who is dead
+-- ---- who is unordered
 
--- the number of the stamp at place i: 9 if nothing refused it before and it is dead; else its own
+-- the number of the stamp at place i: 9 if nothing refused it before and it is unordered; else its own
 unfoldable pub tested : (ℕ → Bool) → ℕ → ℕ → ℕ
-tested dead number i = cond (eqb number 0 && dead i) 9 number
+tested unordered number i = cond (eqb number 0 && unordered i) 9 number
 
 -- the numbers of all stamps from place i on
 unfoldable pub allTested : (ℕ → Bool) → ℕ → List ℕ → List ℕ
-allTested dead i [] = []
-allTested dead i (n ∷ ns) = tested dead n i ∷ allTested dead (suc i) ns
+allTested unordered i [] = []
+allTested unordered i (n ∷ ns) = tested unordered n i ∷ allTested unordered (suc i) ns
 
--- ---- who is turned away
+-- ---- who is left out
 
 -- the numbers of the run from place `from` up to `to`: the most that rise keep 0
 abbrev pub run : (ℕ → ℕ → Bool) → List ℕ → ℕ → ℕ → List ℕ

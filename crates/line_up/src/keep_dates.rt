@@ -159,7 +159,7 @@ fn judge(numbers: &mut [u8], ranks: &[u8], from: usize, to: usize, many: usize)
     }
 }
 
-// Of the stamps of a run that have number 0 the most that rise keep it, and the others get 17. No stamp that has number 0 may be dead.
+// Of the stamps of a run that have number 0 the most that rise keep it, and the others get 17. No stamp that has number 0 may be unordered.
 pub fn keep_most(
     jd1s: &[u8],
     jd2s: &[u8],

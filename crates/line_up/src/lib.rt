@@ -31,7 +31,7 @@ fn stamp_of(jd1s: &[u8], jd2s: &[u8], i: usize) -> julian::JulianDate
 // The number of the stamp at place i: 9 where it comes in with 0 and has no place in the order, as a NaN has none.
 fn tested(jd1s: &[u8], jd2s: &[u8], number: u8, i: usize) -> u8
     requires { ⌜ i ≤ 4294967295 ⌝ }
-    ensures { λ r. ⌜ r ≡ R.tested (U.deadAt (now (jd1s .entry)) (now (jd2s .entry))) number i ⌝ }
+    ensures { λ r. ⌜ r ≡ R.tested (U.unorderedAt (now (jd1s .entry)) (now (jd2s .entry))) number i ⌝ }
 {
     if number == 0 {
         if !julian::order::has_place(stamp_of(jd1s, jd2s, i)) {
@@ -41,10 +41,10 @@ fn tested(jd1s: &[u8], jd2s: &[u8], number: u8, i: usize) -> u8
     number
 }
 
-// Turns away each dead stamp that nothing refused before.
-fn turn_dead_away(jd1s: &[u8], jd2s: &[u8], numbers: &mut [u8])
+// Turns away each unordered stamp that nothing refused before.
+fn refuse_unordered(jd1s: &[u8], jd2s: &[u8], numbers: &mut [u8])
     requires { ⌜ length (now numbers) ≤ 4294967295 ⌝ }
-    ensures { λ _. ⌜ now (numbers .exit) ≡ R.allTested (U.deadAt (now (jd1s .entry)) (now (jd2s .entry))) 0 (now (numbers .entry)) ⌝ }
+    ensures { λ _. ⌜ now (numbers .exit) ≡ R.allTested (U.unorderedAt (now (jd1s .entry)) (now (jd2s .entry))) 0 (now (numbers .entry)) ⌝ }
 {
     let n = numbers.len();
     let mut i = 0;
@@ -215,7 +215,7 @@ fn line_refusal(
 }
 
 // The places of the accepted stamps (number 0) in the order of their exact sums, four bytes each in `out`; ties by run and then by place. The runs stand one after the
-// other, the third is what is left. A stamp that comes in with number 0 and is dead gets number 9; of the others of a run the most that rise stay at 0, and the rest get 17.
+// other, the third is what is left. A stamp that comes in with number 0 and is unordered gets number 9; of the others of a run the most that rise stay at 0, and the rest get 17.
 // Refusals in order: 14 a length of parts that is no multiple of eight, 12 not as many parts as numbers, 14 counts past the length, 13 more stamps than a place of four
 // bytes can number, 11 fewer than four bytes for each stamp in `out` or in a work area; a refused call writes nothing.
 pub fn line_up(
@@ -238,7 +238,7 @@ pub fn line_up(
         return LineUpAnswer::Refused(number);
     }
     let rest = first + second;
-    turn_dead_away(jd1s, jd2s, numbers);
+    refuse_unordered(jd1s, jd2s, numbers);
     crate::keep_dates::keep_most(jd1s, jd2s, numbers, 0, first, tails, ranks);
     crate::keep_dates::keep_most(jd1s, jd2s, numbers, first, rest, tails, ranks);
     crate::keep_dates::keep_most(jd1s, jd2s, numbers, rest, n, tails, ranks);

@@ -4,7 +4,7 @@ use crate::scan::Scanned;
 use calendar::DateCheck;
 use julian::JulianAnswer;
 use julian::JulianDate;
-use leap_table::rows::LentRows;
+use leap_table::rows::AnnouncedRows;
 use scales::UTC;
 use scales::UtcAnswer;
 ghost use mathlib.Core.Path.{_≡_};
@@ -12,7 +12,7 @@ ghost use mathlib.Core.Bool.{true, false};
 ghost use Prim.Native.Nat.{_≤_};
 ghost use Rattle.julian.specs.JulianDate.{julianOutcome};
 ghost use Rattle.refusals.specs.Outcome.{onward};
-ghost use Rattle.leap_table.specs.rows.Lent.{rowsIn, rowsOf, tableOf};
+ghost use Rattle.leap_table.specs.rows.Announced.{rowsIn, rowsOf, tableOf};
 ghost use Rattle.parsing.specs.Parsed.{parsedOutcome, parsedUtcOutcome, parsed, toJulianDate, dated as dated·of, parsedUtc};
 ghost use Rattle.parsing.specs.Judging.{timeIn, quotient, judgedForm};
 
@@ -143,7 +143,7 @@ pub fn from_str_by_lent<'a>(
 }
 
 // The same by the rows of a table.
-pub fn from_str_by_rows(text: &[u8], table: LentRows) -> ParsedUtcAnswer
+pub fn from_str_by_rows(text: &[u8], table: AnnouncedRows) -> ParsedUtcAnswer
     ensures { λ r. ⌜ parsedUtcOutcome r ≡ parsedUtc (rowsOf table) (now (text .entry)) ⌝ }
 {
     from_str_by_lent(
@@ -156,7 +156,7 @@ pub fn from_str_by_rows(text: &[u8], table: LentRows) -> ParsedUtcAnswer
 
 // The fields of a UTC text and the date that they name. Refusals in order: 20 to 22 the table, 15 the text, 16 its fraction, 2 the month, 3 the day, 4 the time, which
 // goes by the length of the day's last minute.
-pub fn from_str(text: &[u8], table: LentRows) -> ParsedUtcAnswer
+pub fn from_str(text: &[u8], table: AnnouncedRows) -> ParsedUtcAnswer
     ensures { λ r. ⌜ parsedUtcOutcome r ≡ onward (tableOf table) (λ rows. parsedUtc rows (now (text .entry))) ⌝ }
 {
     let number = leap_table::rows::table_refusal(table);

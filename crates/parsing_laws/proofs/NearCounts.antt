@@ -1,4 +1,4 @@
--- The milliseconds that each sheet counts, of any fraction of a day and not of the grid's alone: within 0.501 ms of the exact time of day. Assumes nothing.
+-- The milliseconds that each form of text counts, of any fraction of a day and not of the grid's alone: within 0.501 ms of the exact time of day. Assumes nothing.
 use mathlib.Core.Path.{_≡_, refl, sym, subst, _∙_}
 use mathlib.Core.Bool.{Bool, true, false, cond}
 use Prim.Native.Nat.{ℕ, _+_, _*_, _^_, _≤_, _<_}
@@ -21,24 +21,24 @@ use Rattle.time_of_day.proofs.EvenFloat.{by-float}
 use Rattle.time_of_day.proofs.EvenGrid.{only-on-grid}
 use Rattle.time_of_day.proofs.EvenExact.{even-exact}
 use Rattle.time_of_day.proofs.EvenSteps.{whole-small, count-by-float}
-use Rattle.utc.specs.iso_texts.Sheet.{Sheet}
-use Rattle.utc.specs.iso_texts.IsoText.{sheet01}
-use Rattle.utc.specs.iso_texts.Expanded.{expandedSheet}
-use Rattle.utc.specs.iso_texts.HalfEven.{evenSheet}
+use Rattle.utc.specs.iso_texts.TextForm.{TextForm}
+use Rattle.utc.specs.iso_texts.IsoText.{standardForm}
+use Rattle.utc.specs.iso_texts.Expanded.{expandedForm}
+use Rattle.utc.specs.iso_texts.HalfEven.{halfEvenForm}
 
 -- within 0.501 ms, whatever fractions F / D and W / E the fraction and the day length are written as
-abbrev pub CountsNear : Sheet → Type 0
-CountsNear sheet =
-    (f x : Float) → T (fits binary64 f) → InUnit f → Leap x → (F D W E : ℕ) → 0 < E → Val f F 0 D → DayLength x W E → TimeWithin 1000 501 (sheet .count f (wholeLeap x) * E) F D W E
+abbrev pub CountsNear : TextForm → Type 0
+CountsNear textForm =
+    (f x : Float) → T (fits binary64 f) → InUnit f → Leap x → (F D W E : ℕ) → 0 < E → Val f F 0 D → DayLength x W E → TimeWithin 1000 501 (textForm .count f (wholeLeap x) * E) F D W E
 
 by-rule : (how : Bool → ℕ → ℕ → ℕ) → Nearest how → (f x : Float) → T (fits binary64 f) → InUnit f → Leap x → (F D W E : ℕ) → 0 < E → Val f F 0 D → DayLength x W E
     → TimeWithin 1000 501 (countBy how f (wholeLeap x) * E) F D W E
 by-rule how rule f x t i s F D W E G v d = close-501 (countBy how f (wholeLeap x) * E) F D W E (count-near how rule f x t i s F D W E G v d)
 
-pub near01 : CountsNear sheet01
+pub near01 : CountsNear standardForm
 near01 = by-rule away away-nearest
 
-pub near-expanded : CountsNear expandedSheet
+pub near-expanded : CountsNear expandedForm
 near-expanded = by-rule away away-nearest
 
 -- half a millisecond is within 0.501 ms
@@ -49,7 +49,7 @@ looser true s F D W E k = record { over = go (s * D) (1000 * (F * W)) (D * E) (k
     go a b d h = omega arith
 looser false s F D W E k = k
 
-pub near-even : CountsNear evenSheet
+pub near-even : CountsNear halfEvenForm
 near-even f x t i s F D W E G v d = go (inWhole f (wholeLeap x)) refl
   where
     go : (b : Bool) → inWhole f (wholeLeap x) ≡ b → TimeWithin 1000 501 (evenCount f (wholeLeap x) * E) F D W E

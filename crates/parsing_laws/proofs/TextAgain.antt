@@ -1,4 +1,4 @@
--- THE SAME TEXT AGAIN: the date that a UTC text of ours is read as, where the shown year is 1972 to 9999, has that text, by each of the three sheets and for every table
+-- THE SAME TEXT AGAIN: the date that a UTC text of ours is read as, where the shown year is 1972 to 9999, has that text, by each of the three forms of text and for every table
 -- that is taken. Assumes nothing.
 use mathlib.Core.Path.{_≡_, refl, sym, ap, _∙_, subst}
 use mathlib.Core.Bool.{Bool, true, false, cond}
@@ -33,9 +33,9 @@ use Rattle.julian.proofs.Midnights.{midnight-given}
 use Rattle.julian.proofs.laws.RoundTrip.{midnight-fraction, round-trip-at-midnight}
 use Rattle.julian.proofs.laws.CalendarDays.{fields-of}
 use Rattle.utc_scales.proofs.round_trip.Fraction.{fraction-fits}
-use Rattle.leap_table.specs.declared.rows.LentRows.{LentRows}
+use Rattle.leap_table.specs.declared.rows.AnnouncedRows.{AnnouncedRows}
 use Rattle.leap_table.specs.rows.Table.{Row}
-use Rattle.leap_table.specs.rows.Lent.{tableOf}
+use Rattle.leap_table.specs.rows.Announced.{tableOf}
 use Rattle.leap_table.specs.offsets.Leap.{leapAtEndOfDay}
 use Rattle.time_of_day.specs.declared.TimeOfDay.{TimeOfDay}
 use Rattle.time_of_day.specs.declared.TimeShown.the-variants.{At, NextMidnight}
@@ -44,17 +44,17 @@ use Rattle.time_of_day.specs.TimeShown.{timeOf, dayEnd, shownAt, shownBy}
 use Rattle.time_of_day.specs.ExactTime.{minus-one-f, Leap, little, second, minus-second, DayLength}
 use Rattle.time_of_day.proofs.Fields.{fields-ms}
 use Rattle.utc.specs.text.ReadBack.{readYear}
-use Rattle.utc.specs.iso_texts.Sheet.{Sheet}
+use Rattle.utc.specs.iso_texts.TextForm.{TextForm}
 use Rattle.utc.specs.laws.Shows.{Promise, promise01}
 use Rattle.utc.specs.laws.Promises.{expandedPromise, evenPromise}
-use Rattle.utc.specs.laws.GoodSheet.{GoodSheet}
-use Rattle.utc.specs.iso_texts.IsoText.{shownTextBy, isoTextBy, isoText, sheet01}
-use Rattle.utc.specs.iso_texts.Expanded.{expandedSheet, isoTextExpanded}
-use Rattle.utc.specs.iso_texts.HalfEven.{evenSheet, isoTextHalfEven}
+use Rattle.utc.specs.laws.GoodForm.{GoodForm}
+use Rattle.utc.specs.iso_texts.IsoText.{shownTextBy, isoTextBy, isoText, standardForm}
+use Rattle.utc.specs.iso_texts.Expanded.{expandedForm, isoTextExpanded}
+use Rattle.utc.specs.iso_texts.HalfEven.{halfEvenForm, isoTextHalfEven}
 use Rattle.utc.specs.FromCalendar.{utcFromCalendar}
 use Rattle.utc.proofs.laws.FromCalendars.{time-given}
 use Rattle.utc.proofs.iso_texts.TextCalls.{leap-given, fields-given-by}
-use Rattle.utc.proofs.laws.Sheets.{good01}
+use Rattle.utc.proofs.laws.TextForms.{good01}
 use Rattle.utc.proofs.laws.ExpandedTexts.{expanded-good}
 use Rattle.utc.proofs.laws.HalfEvenTexts.{even-good}
 use Rattle.parsing.specs.declared.ParsedUtc.{ParsedUtc}
@@ -149,7 +149,7 @@ nought-val : Val nought 0 0 L
 nought-val = record { sign = false; size = 0; has = (refl, zero-mul L); is = refl }
 
 -- ---- the text of midnight and a time
-module _ (sheet : Sheet) (counts : CountsNear sheet) (rows : List Row) (s : List ℕ) (w : WrittenFrom sheet rows s) (step : WholeStep (w .leap)) where
+module _ (textForm : TextForm) (counts : CountsNear textForm) (rows : List Row) (s : List ℕ) (w : WrittenFrom textForm rows s) (step : WholeStep (w .leap)) where
   abbrev K : ℕ
   K = w .millis
 
@@ -166,10 +166,10 @@ module _ (sheet : Sheet) (counts : CountsNear sheet) (rows : List Row) (s : List
   below = subst (λ (z : ℕ). K < z) (day .end) (w .in-day)
 
   -- a fraction that is worth the time counts to it
-  same-count : (g : Float) (x : ℕ) → T (fits binary64 g) → InUnit g → Val g x 0 L → MillisWorth x K (1000 * c) → sheet .count g (wholeLeap (w .leap)) ≡ K
+  same-count : (g : Float) (x : ℕ) → T (fits binary64 g) → InUnit g → Val g x 0 L → MillisWorth x K (1000 * c) → textForm .count g (wholeLeap (w .leap)) ≡ K
   same-count g x f i v m =
       let k = counts g (w .leap) f i (day .leap) x L c 1 (lit< tt) v (day .length) in
-      let n = sheet .count g (wholeLeap (w .leap)) in
+      let n = textForm .count g (wholeLeap (w .leap)) in
       exact n
       (lt-of-mul-lt-mul-right L (subst (λ (z : ℕ). n * L < z) (one-more K) (over (n * 1 * L) (1000 * (x * c)) (n * L) (x * (1000 * c)) (K * L) L (ap (λ (z : ℕ). z * L) (mul-one n)) (mul-left-comm x 1000 c) L-pos (k .over) (m .over))))
       (lt-of-mul-lt-mul-right L (subst (λ (z : ℕ). K * L < z) (one-more n) (under (n * 1 * L) (1000 * (x * c)) (n * L) (x * (1000 * c)) (K * L) L (ap (λ (z : ℕ). z * L) (mul-one n)) (mul-left-comm x 1000 c) L-pos (k .under) (m .under))))
@@ -187,13 +187,13 @@ module _ (sheet : Sheet) (counts : CountsNear sheet) (rows : List Row) (s : List
       exact k a b = omega arith
 
   -- so the text of the day and such a fraction is the text itself
-  same-text : (jd : JulianDate) (g : Float) (x : ℕ) → T (fits binary64 g) → InUnit g → Val g x 0 L → MillisWorth x K (1000 * c) → julianToCalendar (jd .jd1) (jd .jd2) ≡ answer (fields (w .date) g) → isoTextBy sheet rows jd ≡ answer s
+  same-text : (jd : JulianDate) (g : Float) (x : ℕ) → T (fits binary64 g) → InUnit g → Val g x 0 L → MillisWorth x K (1000 * c) → julianToCalendar (jd .jd1) (jd .jd2) ≡ answer (fields (w .date) g) → isoTextBy textForm rows jd ≡ answer s
   unfolding shownBy shownAt shownTextBy
   same-text jd g x f i v m e =
-      fields-given-by sheet rows jd (fields (w .date) g) e
-      ∙ leap-given sheet rows (w .date) g (w .leap) (w .leap-is)
-      ∙ ap (λ (k : ℕ). shownTextBy (sheet .write) (w .date) (shownAt (wholeLeap (w .leap)) k)) (same-count g x f i v m)
-      ∙ ap (λ (b : Bool). shownTextBy (sheet .write) (w .date) (cond b (At (timeOf K)) NextMidnight)) (lt-ltb K (dayEnd (wholeLeap (w .leap))) (w .in-day))
+      fields-given-by textForm rows jd (fields (w .date) g) e
+      ∙ leap-given textForm rows (w .date) g (w .leap) (w .leap-is)
+      ∙ ap (λ (k : ℕ). shownTextBy (textForm .write) (w .date) (shownAt (wholeLeap (w .leap)) k)) (same-count g x f i v m)
+      ∙ ap (λ (b : Bool). shownTextBy (textForm .write) (w .date) (cond b (At (timeOf K)) NextMidnight)) (lt-ltb K (dayEnd (wholeLeap (w .leap))) (w .in-day))
       ∙ ap answer (sym (w .text))
 
   -- ---- the date of the fields
@@ -262,7 +262,7 @@ module _ (sheet : Sheet) (counts : CountsNear sheet) (rows : List Row) (s : List
     dateOf = julian J f
 
     -- from the first millisecond on
-    later : 1 ≤ K → isoTextBy sheet rows (julian J f) ≡ answer s
+    later : 1 ≤ K → isoTextBy textForm rows (julian J f) ≡ answer s
     later h =
         let r = found N c K f (add-fits binary64 nought _) near (day .low) (day .high) few h below in
         same-text (julian J f) (dayOf J f .fraction) (r .x) (fraction-fits J f) (r .in-unit) (r .val) (r .worth)
@@ -283,39 +283,39 @@ module _ (sheet : Sheet) (counts : CountsNear sheet) (rows : List Row) (s : List
         (let r : julianToCalendar J nought ≡ answer (fields (date (pos y) (d .month) (d .day)) nought) = rw zero-point at (round-trip-at-midnight (pos y) (d .month) (d .day) (pos N) mjd (le-leb N 997599999 (omega (arith, few)))) in r)
         ∙ ap (λ (z : ℤ). answer (fields (date z (d .month) (d .day)) nought)) (sym year)
 
-    first : K ≡ 0 → isoTextBy sheet rows (julian J f) ≡ answer s
+    first : K ≡ 0 → isoTextBy textForm rows (julian J f) ≡ answer s
     first e =
         same-text (julian J f) nought 0 nought-fits nought-unit nought-val
         (record { over = omega (arith, zero-mul L, ap (λ (k : ℕ). k * L) e); under = omega (arith, zero-mul L, ap (λ (k : ℕ). k * L) e) })
         (ap (λ (z : Float). julianToCalendar J z) (nothing e) ∙ at-midnight)
 
-    again : isoTextBy sheet rows (julian J f) ≡ answer s
+    again : isoTextBy textForm rows (julian J f) ≡ answer s
     again = go (ltb 0 K) refl
       where
         none : (k : ℕ) → k ≤ 0 → k ≡ 0
         none k h = omega arith
 
-        go : (b : Bool) → ltb 0 K ≡ b → isoTextBy sheet rows (julian J f) ≡ answer s
+        go : (b : Bool) → ltb 0 K ≡ b → isoTextBy textForm rows (julian J f) ≡ answer s
         go true e = later (ltb-true 0 K e)
         go false e = first (none K (ltb-false 0 K e))
 
--- ---- THE LAW, by any good sheet
-module _ (sheet : Sheet) (p : Promise) (good : GoodSheet sheet p) (plain : FourDigits sheet) (counts : CountsNear sheet) (t : LentRows) (rows : List Row) (taken : tableOf t ≡ answer rows) where
-  pub text-again : (jd : JulianDate) → T (fits binary64 (jd .jd1)) → T (fits binary64 (jd .jd2)) → (s : List ℕ) → isoTextBy sheet rows jd ≡ answer s → YearShown s
-      → (r : ParsedUtc) → parsedUtc rows s ≡ answer r → isoTextBy sheet rows (r .date .0) ≡ answer s
-  text-again jd f1 f2 s e shown r read = ap (isoTextBy sheet rows) same ∙ again sheet counts rows s w step y year from to
+-- ---- THE LAW, in any good form
+module _ (textForm : TextForm) (p : Promise) (good : GoodForm textForm p) (plain : FourDigits textForm) (counts : CountsNear textForm) (t : AnnouncedRows) (rows : List Row) (taken : tableOf t ≡ answer rows) where
+  pub text-again : (jd : JulianDate) → T (fits binary64 (jd .jd1)) → T (fits binary64 (jd .jd2)) → (s : List ℕ) → isoTextBy textForm rows jd ≡ answer s → YearShown s
+      → (r : ParsedUtc) → parsedUtc rows s ≡ answer r → isoTextBy textForm rows (r .date .0) ≡ answer s
+  text-again jd f1 f2 s e shown r read = ap (isoTextBy textForm rows) same ∙ again textForm counts rows s w step y year from to
     where
-      w : WrittenFrom sheet rows s
-      w = written-from sheet rows jd f1 f2 s e
+      w : WrittenFrom textForm rows s
+      w = written-from textForm rows jd f1 f2 s e
 
       y-is : (y : ℕ) × (readYear s ≡ pos y) × (1972 ≤ y) × (y ≤ 9999)
-      y-is = Every.y-is sheet p good rows s shown w
+      y-is = Every.y-is textForm p good rows s shown w
 
       y : ℕ
       y = y-is .0
 
       year : w .date .year ≡ pos y
-      year = Every.year sheet p good rows s shown w
+      year = Every.year textForm p good rows s shown w
 
       from : 1972 ≤ y
       from = y-is .2
@@ -329,19 +329,19 @@ module _ (sheet : Sheet) (p : Promise) (good : GoodSheet sheet p) (plain : FourD
           (subst (λ (z : ℤ). leapAtEndOfDay rows z (pos (w .date .month)) (pos (w .date .day)) ≡ answer (w .leap)) year (w .leap-is))
 
       b : ReadsBack rows s
-      b = by-fields sheet p good rows s shown w plain t taken
+      b = by-fields textForm p good rows s shown w plain t taken
 
       as-read : answer (withDate (fieldsShown s) (b .date)) ≡ answer r
       as-read = sym (b .read) ∙ read
 
-      dated : answer (b .date) ≡ answer (dateOf sheet counts rows s w step y year from to)
-      dated = sym (b .accepted) ∙ Every.named sheet p good rows s shown w ∙ named sheet counts rows s w step y year from to
+      dated : answer (b .date) ≡ answer (dateOf textForm counts rows s w step y year from to)
+      dated = sym (b .accepted) ∙ Every.named textForm p good rows s shown w ∙ named textForm counts rows s w step y year from to
 
-      same : r .date .0 ≡ dateOf sheet counts rows s w step y year from to
+      same : r .date .0 ≡ dateOf textForm counts rows s w step y year from to
       same = sym (ap (λ (z : ParsedUtc). z .date .0) (same-answer as-read)) ∙ same-answer dated
 
--- ---- the three sheets; what is read under the table that is lent
-module _ (t : LentRows) (rows : List Row) (taken : tableOf t ≡ answer rows) (jd : JulianDate) (f1 : T (fits binary64 (jd .jd1))) (f2 : T (fits binary64 (jd .jd2))) (s : List ℕ) (shown : YearShown s)
+-- ---- the three forms of text; what is read under the table that is lent
+module _ (t : AnnouncedRows) (rows : List Row) (taken : tableOf t ≡ answer rows) (jd : JulianDate) (f1 : T (fits binary64 (jd .jd1))) (f2 : T (fits binary64 (jd .jd2))) (s : List ℕ) (shown : YearShown s)
     (r : ParsedUtc) (read : onward (tableOf t) (λ rows. parsedUtc rows s) ≡ answer r) where
   by-rows : parsedUtc rows s ≡ answer r
   unfolding onward
@@ -349,12 +349,12 @@ module _ (t : LentRows) (rows : List Row) (taken : tableOf t ≡ answer rows) (j
 
   -- document 01's
   pub iso-text-again : isoText rows jd ≡ answer s → isoText rows (r .date .0) ≡ answer s
-  iso-text-again e = text-again sheet01 promise01 good01 as-01 near01 t rows taken jd f1 f2 s e shown r by-rows
+  iso-text-again e = text-again standardForm promise01 good01 as-01 near01 t rows taken jd f1 f2 s e shown r by-rows
 
   -- request 4's
   pub half-even-text-again : isoTextHalfEven rows jd ≡ answer s → isoTextHalfEven rows (r .date .0) ≡ answer s
-  half-even-text-again e = text-again evenSheet evenPromise even-good as-01 near-even t rows taken jd f1 f2 s e shown r by-rows
+  half-even-text-again e = text-again halfEvenForm evenPromise even-good as-01 near-even t rows taken jd f1 f2 s e shown r by-rows
 
   -- request 6's
   pub expanded-text-again : isoTextExpanded rows jd ≡ answer s → isoTextExpanded rows (r .date .0) ≡ answer s
-  expanded-text-again e = text-again expandedSheet expandedPromise expanded-good expanded-as-01 near-expanded t rows taken jd f1 f2 s e shown r by-rows
+  expanded-text-again e = text-again expandedForm expandedPromise expanded-good expanded-as-01 near-expanded t rows taken jd f1 f2 s e shown r by-rows

@@ -17,9 +17,9 @@ use Rattle.calendar.specs.declared.CalendarDate.{CalendarDate}
 use Rattle.calendar.specs.Refusals.{validDate}
 use Rattle.julian.specs.declared.JulianDate.{JulianDate}
 use Rattle.julian.specs.DayFraction.{timeInDay}
-use Rattle.leap_table.specs.declared.rows.LentRows.{LentRows}
+use Rattle.leap_table.specs.declared.rows.AnnouncedRows.{AnnouncedRows}
 use Rattle.leap_table.specs.rows.Table.{Row, monthNumber}
-use Rattle.leap_table.specs.rows.Lent.{tableOf}
+use Rattle.leap_table.specs.rows.Announced.{tableOf}
 use Rattle.leap_table.specs.offsets.Leap.{leapAtEndOfDay}
 use Rattle.time_of_day.specs.declared.TimeOfDay.{TimeOfDay}
 use Rattle.time_of_day.specs.Milliseconds.{wholeLeap}
@@ -40,7 +40,7 @@ pub data WholeStep (x : Float) : Type 0 where
   longer : x ≡ one → WholeStep x
   shorter : x ≡ minus-one-f → WholeStep x
 
-pub whole-step : (t : LentRows) (rows : List Row) → tableOf t ≡ answer rows → (y m : ℕ) (d : ℤ) (x : Float) → 1972 ≤ y → 1 ≤ m → leapAtEndOfDay rows (pos y) (pos m) d ≡ answer x → WholeStep x
+pub whole-step : (t : AnnouncedRows) (rows : List Row) → tableOf t ≡ answer rows → (y m : ℕ) (d : ℤ) (x : Float) → 1972 ≤ y → 1 ≤ m → leapAtEndOfDay rows (pos y) (pos m) d ≡ answer x → WholeStep x
 unfolding monthNumber
 whole-step t rows e y m d x h k p = go (table-leap-on t rows e (pos y) (pos m) d x p)
   where
@@ -117,7 +117,7 @@ pub record Back (rows : List Row) (d : CalendarDate) (u : TimeOfDay) (y : ℕ) :
   pub accepted : utcFromCalendar rows (pos y) (d .month) (d .day) (u .hour) (u .minute) (decimal (1000 * u .second + u .milli) 3) ≡ answer date
   pub read : parsedUtc rows (utcText d u) ≡ answer (withDate (fieldsOf (asWritten y d u)) date)
 
-module _ (t : LentRows) (rows : List Row) (taken : tableOf t ≡ answer rows) (d : CalendarDate) (u : TimeOfDay) (y : ℕ) (x : Float) (year : d .year ≡ pos y)
+module _ (t : AnnouncedRows) (rows : List Row) (taken : tableOf t ≡ answer rows) (d : CalendarDate) (u : TimeOfDay) (y : ℕ) (x : Float) (year : d .year ≡ pos y)
     (from : 1972 ≤ y) (to : y ≤ 9999) (valid : validDate (d .year) (pos (d .month)) (pos (d .day)) ≡ answer tt) (some : 1 ≤ d .month) (month : d .month ≤ 12) (day : d .day ≤ 31)
     (leap : leapAtEndOfDay rows (d .year) (pos (d .month)) (pos (d .day)) ≡ answer x) (good : GoodTime u (wholeLeap x)) where
   leap-here : leapAtEndOfDay rows (pos y) (pos (d .month)) (pos (d .day)) ≡ answer x

@@ -14,7 +14,7 @@ use Rattle.leap_table.specs.rows.Table.{Row}
 use Rattle.time_of_day.specs.declared.TimeOfDay.{TimeOfDay}
 use Rattle.utc.specs.text.Text.{utcText}
 use Rattle.utc.specs.text.ReadBack.{readYear, readMonth, readDay, readHour, readMinute, readSecond, readMilli}
-use Rattle.utc.specs.iso_texts.Sheet.{Sheet}
+use Rattle.utc.specs.iso_texts.TextForm.{TextForm}
 use Rattle.utc.specs.FromCalendar.{utcFromCalendar}
 use Rattle.parsing.specs.declared.ParsedDateTime.{ParsedDateTime}
 use Rattle.parsing.specs.declared.ParsedUtc.{ParsedUtc}
@@ -46,6 +46,6 @@ pub record ReadsBack (rows : List Row) (s : List ℕ) : Type 0 where
   pub accepted : utcFromCalendar rows (readYear s) (readMonth s) (readDay s) (readHour s) (readMinute s) (decimal (1000 * readSecond s + readMilli s) 3) ≡ answer date
   pub read : parsedUtc rows s ≡ answer (withDate (fieldsShown s) date)
 
--- a sheet that writes the years of four digits as document 01's does
-abbrev pub FourDigits : Sheet → Type 0
-FourDigits sheet = (d : CalendarDate) (u : TimeOfDay) (y : ℕ) → d .year ≡ pos y → y ≤ 9999 → sheet .write d u ≡ utcText d u
+-- a form of text that writes the years of four digits as document 01's does
+abbrev pub FourDigits : TextForm → Type 0
+FourDigits textForm = (d : CalendarDate) (u : TimeOfDay) (y : ℕ) → d .year ≡ pos y → y ≤ 9999 → textForm .write d u ≡ utcText d u

@@ -8,9 +8,9 @@ use lib.Ieee.{binary64, fits}
 use Rattle.refusals.specs.Outcome.{Outcome, answer, onward}
 use Rattle.numerals.specs.digits.Decimal.{digitsOf}
 use Rattle.julian.specs.declared.JulianDate.{JulianDate}
-use Rattle.leap_table.specs.declared.rows.LentRows.{LentRows}
+use Rattle.leap_table.specs.declared.rows.AnnouncedRows.{AnnouncedRows}
 use Rattle.leap_table.specs.rows.Table.{Row}
-use Rattle.leap_table.specs.rows.Lent.{tableOf}
+use Rattle.leap_table.specs.rows.Announced.{tableOf}
 use Rattle.utc.specs.iso_texts.Expanded.{isoTextExpanded}
 use Rattle.parsing.specs.declared.ParsedUtc.{ParsedUtc}
 use Rattle.parsing_laws.specs.Shown.{YearShown, ReadsBack, fieldsShown, withDate}
@@ -18,7 +18,7 @@ use Rattle.parsing_laws.proofs.EveryText.{expanded-text-reads-back, from-str-an
 use Rattle.parsing_laws.proofs.TextAgain.{expanded-text-again}
 use Rattle.readings.specs.Reading.{reading, readingTold, readingLine}
 
-module _ (t : LentRows) (rows : List Row) (taken : tableOf t ≡ answer rows) (jd : JulianDate) (f1 : T (fits binary64 (jd .jd1))) (f2 : T (fits binary64 (jd .jd2))) (s : List ℕ)
+module _ (t : AnnouncedRows) (rows : List Row) (taken : tableOf t ≡ answer rows) (jd : JulianDate) (f1 : T (fits binary64 (jd .jd1))) (f2 : T (fits binary64 (jd .jd2))) (s : List ℕ)
     (shown : YearShown s) (written : isoTextExpanded rows jd ≡ answer s) where
   back : ReadsBack rows s
   back = expanded-text-reads-back t rows taken jd f1 f2 s shown written

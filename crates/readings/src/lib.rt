@@ -1,5 +1,5 @@
 // A text as the marker boxes send it, answered by a line: its index and the text of its date, or `refused` and the number.
-use leap_table::rows::LentRows;
+use leap_table::rows::AnnouncedRows;
 use parsing::ParsedUtcAnswer;
 use scales::UTC;
 use utc::text::TextAnswer;
@@ -7,7 +7,7 @@ ghost use Prim.Native.Nat.{_+_, _≤_};
 ghost use lib.ListN.{length};
 ghost use Rattle.numerals.specs.digits.Decimal.{digitsOf};
 ghost use Rattle.refusals.specs.Outcome.{refusal};
-ghost use Rattle.leap_table.specs.rows.Lent.{rowsOf};
+ghost use Rattle.leap_table.specs.rows.Announced.{rowsOf};
 ghost use Rattle.utc.specs.iso_texts.Expanded.{isoTextExpanded};
 ghost use Rattle.numerals.specs.digits.Placed.{Placed};
 ghost use Rattle.readings.specs.Reading.{reading, readingTold, readingLine, LineCall};
@@ -42,7 +42,7 @@ fn place_refused(number: u32, dst: &mut [u8], at: usize) -> usize
     place_number(number as u64, dst, next)
 }
 
-fn place_text(utc: UTC, table: LentRows, dst: &mut [u8], at: usize) -> usize
+fn place_text(utc: UTC, table: AnnouncedRows, dst: &mut [u8], at: usize) -> usize
     requires { ⌜ at + 28 ≤ length (now dst) ⌝ }
     ensures { λ r. ⌜ Placed (now (dst .entry)) at (readingTold (isoTextExpanded (rowsOf table) (utc .0))) r (now (dst .exit)) ⌝ }
     ensures { λ r. ⌜ r ≤ at + 28 ⌝ }
@@ -53,7 +53,7 @@ fn place_text(utc: UTC, table: LentRows, dst: &mut [u8], at: usize) -> usize
     }
 }
 
-fn place_reading(text: &[u8], table: LentRows, dst: &mut [u8], at: usize) -> usize
+fn place_reading(text: &[u8], table: AnnouncedRows, dst: &mut [u8], at: usize) -> usize
     requires { ⌜ at + 28 ≤ length (now dst) ⌝ }
     ensures { λ r. ⌜ Placed (now (dst .entry)) at (readingTold (reading (rowsOf table) (now (text .entry)))) r (now (dst .exit)) ⌝ }
     ensures { λ r. ⌜ r ≤ at + 28 ⌝ }
@@ -66,7 +66,7 @@ fn place_reading(text: &[u8], table: LentRows, dst: &mut [u8], at: usize) -> usi
 
 // The line that answers a text, at the start of the buffer, by the rows of a table that is tested elsewhere: how many bytes it has. 11 where the buffer has less than 50
 // bytes; nothing is written then.
-pub fn answer_line(text: &[u8], index: u64, table: LentRows, out: &mut [u8]) -> TextAnswer
+pub fn answer_line(text: &[u8], index: u64, table: AnnouncedRows, out: &mut [u8]) -> TextAnswer
     ensures { λ r. ⌜ LineCall (readingLine (rowsOf table) (now (text .entry)) index) (now (out .entry)) r (now (out .exit)) ⌝ }
 {
     if out.len() < LINE_ROOM {

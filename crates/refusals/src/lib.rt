@@ -38,11 +38,11 @@ pub const EARLIER_THAN_BEFORE: u32 = 17;
 pub const GPS_FIELD_OVER_LIMIT: u32 = 18;
 // Two weeks with the same ten bits are equally near the reference.
 pub const WEEK_NOT_DECIDED: u32 = 19;
-// The two sizes of a lent table differ, or are above 16.
+// The two sizes of a announced table differ, or are above 16.
 pub const TABLE_SIZES_WRONG: u32 = 20;
-// A row of a lent table is not later than the one before it.
+// A row of a announced table is not later than the one before it.
 pub const TABLE_NOT_RISING: u32 = 21;
-// A row of a lent table steps by something other than one second up or down.
+// A row of a announced table steps by something other than one second up or down.
 pub const TABLE_STEP_WRONG: u32 = 22;
 // The passes are unequal, too few or too many, or a number in them is too large.
 pub const PASSES_NOT_USABLE: u32 = 23;

@@ -10,7 +10,7 @@ use lib.ListN.{length}
 use borrow.Author.Tests.{eq-eqb, ne-eqb, le-leb, lt-leb, eqb-true, leb-true}
 use Rattle.refusals.specs.Outcome.{Outcome, answer, refusal}
 use Rattle.leap_table.specs.rows.Table.{Row}
-use Rattle.leap_table.specs.rows.Lent.{unlessRefused}
+use Rattle.leap_table.specs.rows.Announced.{unlessRefused}
 use Rattle.runs.specs.declared.by_formula.RunAnswer.the-variants as Answer
 use Rattle.runs.specs.ways.Ways.{isRunScale}
 use Rattle.runs.specs.by_formula.Run.{runOutcome, refusedAmong, runCall, runWritten}

@@ -6,7 +6,7 @@ ghost use lib.Seq.{sets};
 ghost use lib.Ieee.{binary64, toBits};
 ghost use Rattle.numerals.specs.little_endian.LittleEndian.{u64At, eightBytes};
 ghost use Rattle.julian.specs.JulianDate.{julianOutcome};
-ghost use Rattle.leap_table.specs.rows.Lent.{rowsIn, tableOf};
+ghost use Rattle.leap_table.specs.rows.Announced.{rowsIn, tableOf};
 ghost use Rattle.line_up.specs.LineUp.{stampOf};
 ghost use Rattle.runs.specs.ways.Ways.{isRunScale};
 ghost use Rattle.runs.specs.by_formula.Run.{runOutcome, runCall};
@@ -22,7 +22,7 @@ use julian::same_stamps::TAI;
 use julian::same_stamps::TCG;
 use julian::same_stamps::TT;
 use julian::same_stamps::are;
-use leap_table::rows::LentRows;
+use leap_table::rows::AnnouncedRows;
 
 pub mod by_formula;
 pub mod ways;
@@ -253,7 +253,7 @@ pub fn convert_run(
     to: u32,
     jd1s: &[u8],
     jd2s: &[u8],
-    table: LentRows,
+    table: AnnouncedRows,
     out1: &mut [u8],
     out2: &mut [u8],
     numbers: &mut [u8],

@@ -2,7 +2,7 @@
 ghost use mathlib.Core.Path.{_≡_};
 ghost use Rattle.refusals.specs.Outcome.{onward};
 ghost use Rattle.julian.specs.JulianDate.{julianOutcome};
-ghost use Rattle.leap_table.specs.rows.Lent.{rowsIn};
+ghost use Rattle.leap_table.specs.rows.Announced.{rowsIn};
 ghost use Rattle.scales.specs.Scales.{taiOutcome, ttOutcome, gpsOutcome, tcgOutcome, utcOutcome};
 ghost use Rattle.utc_scales.specs.UtcTai.{utcToTai, taiToUtc};
 ghost use Rattle.runs.specs.ways.Ways.{intoTai, outOfTai, between, wayOf};

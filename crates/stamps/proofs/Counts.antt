@@ -18,7 +18,7 @@ use Rattle.julian.specs.day_number.Answer.{dayOutcome, dayNumberAndFraction}
 use Rattle.julian.specs.declared.JulianDate.{JulianDate}
 use Rattle.julian.specs.Calendar.{fields, julianToCalendar}
 use Rattle.leap_table.specs.rows.Table.{Row}
-use Rattle.utc.specs.iso_texts.Expanded.{expandedSheet, isoTextExpanded}
+use Rattle.utc.specs.iso_texts.Expanded.{expandedForm, isoTextExpanded}
 use Rattle.julian.proofs.Dates.{date-in-range}
 use Rattle.utc.proofs.iso_texts.TextCalls.{fields-refused-by, fields-given-by}
 use Rattle.utc.proofs.laws.DayTexts.{text-refused-by, has-text-by}
@@ -29,7 +29,7 @@ module _ (rows : List Row) (jd : JulianDate) (res : DayAnswer) (e : dayOutcome r
   unfolding dayOutcome julianToCalendar onward oneIfRefused
   day-refused k is =
       let d : dayNumberAndFraction (jd .jd1) (jd .jd2) ≡ refusal k = sym e ∙ ap dayOutcome is in
-      sym (ap oneIfRefused (fields-refused-by expandedSheet rows jd k (rw d refl)))
+      sym (ap oneIfRefused (fields-refused-by expandedForm rows jd k (rw d refl)))
 
   pub day-given : (n : DayNumber) → res ≡ Day n → cond (ltZ (n .day) (negsuc 31737)) 1 0 ≡ oneIfRefused (isoTextExpanded rows jd)
   unfolding dayOutcome julianToCalendar onward oneIfRefused
@@ -39,10 +39,10 @@ module _ (rows : List Row) (jd : JulianDate) (res : DayAnswer) (e : dayOutcome r
       given = let d : dayNumberAndFraction (jd .jd1) (jd .jd2) ≡ answer n = sym e ∙ ap dayOutcome is in rw d refl
 
       by : (b : Bool) → validOf (gregorianDate (n .day)) ≡ cond b (refusal 1) (answer tt) → cond b 1 0 ≡ oneIfRefused (isoTextExpanded rows jd)
-      by true v = sym (ap oneIfRefused (fields-given-by expandedSheet rows jd _ given ∙ text-refused-by rows (gregorianDate (n .day)) expandedSheet (n .fraction) 1 v))
+      by true v = sym (ap oneIfRefused (fields-given-by expandedForm rows jd _ given ∙ text-refused-by rows (gregorianDate (n .day)) expandedForm (n .fraction) 1 v))
       by false v =
           sym
-          (ap oneIfRefused (fields-given-by expandedSheet rows jd _ given ∙ has-text-by rows (gregorianDate (n .day)) v (date-in-range (jd .jd1) (jd .jd2) _ given .year-high) expandedSheet (n .fraction)))
+          (ap oneIfRefused (fields-given-by expandedForm rows jd _ given ∙ has-text-by rows (gregorianDate (n .day)) v (date-in-range (jd .jd1) (jd .jd2) _ given .year-high) expandedForm (n .fraction)))
 
 -- a day as the machine reads it back from its bits
 pub day-test : (n : ℤ) (b : Bool) → SFits w64 n → ltZ (toZ w64 (ofZ w64 n)) (negsuc 31737) ≡ b → _≡_ {A = ℕ} (cond b 1 0) (cond (ltZ n (negsuc 31737)) 1 0)

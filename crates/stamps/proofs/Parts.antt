@@ -10,10 +10,10 @@ use lib.Seq.{length-take-le}
 use lib.Dec.{leb}
 use borrow.Author.Tests.{le-leb, lt-leb, leb-false}
 use Rattle.refusals.specs.Outcome.{Outcome, answer}
-use Rattle.leap_table.specs.declared.rows.LentRows.{LentRows}
+use Rattle.leap_table.specs.declared.rows.AnnouncedRows.{AnnouncedRows}
 use Rattle.leap_table.specs.rows.Table.{Row}
-use Rattle.leap_table.specs.rows.Lent.{rowsOf, tableOf, unlessRefused}
-use Rattle.leap_table.proofs.rows.TablesTaken.{turned-away, taken}
+use Rattle.leap_table.specs.rows.Announced.{rowsOf, tableOf, unlessRefused}
+use Rattle.leap_table.proofs.rows.TablesTaken.{not-taken, taken}
 use Rattle.stamps.specs.declared.Telling.{Telling}
 use Rattle.stamps.specs.declared.Part.{Part}
 use Rattle.stamps.specs.declared.LinesAnswer.the-variants.{Lines, Refused}
@@ -124,10 +124,10 @@ module _ {how : Telling} {rows : List Row} {s d d′ : List ℕ} {line : ℕ} {r
       (omega arith, omega arith)
 
 -- ---- the call that tests its table, by the number that the test answers
-module _ (how : Telling) (t : LentRows) (n : ℕ) (e : unlessRefused n (rowsOf t) ≡ tableOf t) (s : List ℕ) (line : ℕ) (d : List ℕ) where
+module _ (how : Telling) (t : AnnouncedRows) (n : ℕ) (e : unlessRefused n (rowsOf t) ≡ tableOf t) (s : List ℕ) (line : ℕ) (d : List ℕ) where
   pub part-refused : (n ≡ 0 → ⊥) → PartCall how (tableOf t) s line d (Refused n) d
   unfolding linesOutcome scratchHolds
-  part-refused h = record { says = turned-away t n e _ h; holds = ap (λ (o : Outcome (List ℕ)). scratchHolds o d) (turned-away t n e _ h) }
+  part-refused h = record { says = not-taken t n e _ h; holds = ap (λ (o : Outcome (List ℕ)). scratchHolds o d) (not-taken t n e _ h) }
 
   pub part-taken : n ≡ 0 → (r : Part) (d′ : List ℕ) → PartPlaced how (rowsOf t) s line d r d′ → PartCall how (tableOf t) s line d (Lines r) d′
   unfolding linesOutcome scratchHolds

@@ -19,7 +19,7 @@ use Rattle.leap_table.specs.rows.Table.{Row}
 use Rattle.utc.specs.declared.text.TextAnswer.{TextAnswer}
 use Rattle.utc.specs.declared.text.TextAnswer.the-variants.{Written, Refused}
 use Rattle.utc.specs.text.Answer.{textOutcome, textWritten, bufferAfter}
-use Rattle.utc.specs.iso_texts.Expanded.{expandedSheet, isoTextExpanded}
+use Rattle.utc.specs.iso_texts.Expanded.{expandedForm, isoTextExpanded}
 use Rattle.utc.specs.iso_texts.TextCall.{written, bufferHolds, TextCall}
 use Rattle.julian.proofs.Dates.{date-in-range}
 use Rattle.utc.proofs.laws.Numbers.{text-numbers-by}
@@ -71,7 +71,7 @@ date-wide (Sentences n) jd = refused-wide jd
 
 -- a date is refused by a number that has a sentence
 pub date-number : (rows : List Row) (jd : JulianDate) (k : ℕ) → isoTextExpanded rows jd ≡ refusal k → (1 ≤ k) × (k ≤ 28)
-date-number rows jd k e = by (text-numbers-by expandedSheet rows jd k e)
+date-number rows jd k e = by (text-numbers-by expandedForm rows jd k e)
   where
     by : (k ≡ 6) ⊎ (k ≡ 1) → (1 ≤ k) × (k ≤ 28)
     by (inl h) = (omega arith, omega arith)

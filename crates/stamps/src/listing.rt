@@ -10,7 +10,7 @@ ghost use lib.Ieee.{le};
 ghost use Rattle.floats.specs.Whole.{nought};
 ghost use Rattle.julian.specs.day_number.DayNumber.{c-djmax};
 ghost use Rattle.leap_table.specs.rows.Table.{Row};
-ghost use Rattle.leap_table.specs.rows.Lent.{rowsOf, tableOf};
+ghost use Rattle.leap_table.specs.rows.Announced.{rowsOf, tableOf};
 ghost use Rattle.utc.specs.iso_texts.Expanded.{isoTextExpanded};
 ghost use Rattle.stamps.specs.Block.{blockOutcome, blockOf};
 ghost use Rattle.numerals.specs.digits.Placed.{Placed};
@@ -26,7 +26,7 @@ use super::stamp_at;
 use super::told;
 use julian::JulianDate;
 use julian::day_number::DayAnswer;
-use leap_table::rows::LentRows;
+use leap_table::rows::AnnouncedRows;
 use scales::UTC;
 use utc::text::TextAnswer;
 
@@ -42,7 +42,13 @@ fn line_room(how: Telling) -> usize
 }
 
 // The text of a date, or its refusal.
-fn place_shown(how: Telling, jd: JulianDate, table: LentRows, dst: &mut [u8], at: usize) -> usize
+fn place_shown(
+    how: Telling,
+    jd: JulianDate,
+    table: AnnouncedRows,
+    dst: &mut [u8],
+    at: usize,
+) -> usize
     requires { ⌜ at + lineRoom how ≤ length (now dst) + 5 ⌝ }
     ensures { λ r. ⌜ Placed (now (dst .entry)) at (shown how jd (isoTextExpanded (rowsOf table) jd)) r (now (dst .exit)) ⌝ }
     ensures { λ r. ⌜ r + 6 ≤ at + lineRoom how ⌝ }
@@ -58,7 +64,7 @@ fn place_stamp_line(
     block: &[u8],
     stamps: usize,
     i: usize,
-    table: LentRows,
+    table: AnnouncedRows,
     dst: &mut [u8],
     at: usize,
 ) -> usize
@@ -142,7 +148,7 @@ fn place_line(
     block: &[u8],
     answer: BlockAnswer,
     line: usize,
-    table: LentRows,
+    table: AnnouncedRows,
     dst: &mut [u8],
     at: usize,
 ) -> usize
@@ -185,7 +191,7 @@ pub fn next_told_part_by_rows(
     how: Telling,
     block: &[u8],
     line: usize,
-    table: LentRows,
+    table: AnnouncedRows,
     scratch: &mut [u8],
 ) -> Part
     ensures { λ r. ⌜ PartPlaced how (rowsOf table) (now (block .entry)) line (now (scratch .entry)) r (now (scratch .exit)) ⌝ }
@@ -214,18 +220,23 @@ pub fn next_told_part_by_rows(
 }
 
 // The same with refusals told by their numbers.
-pub fn next_part_by_rows(block: &[u8], line: usize, table: LentRows, scratch: &mut [u8]) -> Part
+pub fn next_part_by_rows(
+    block: &[u8],
+    line: usize,
+    table: AnnouncedRows,
+    scratch: &mut [u8],
+) -> Part
     ensures { λ r. ⌜ PartPlaced Telling.Numbers (rowsOf table) (now (block .entry)) line (now (scratch .entry)) r (now (scratch .exit)) ⌝ }
 {
     next_told_part_by_rows(Telling::Numbers, block, line, table, scratch)
 }
 
-// The part by a table that is tested first: 20 to 22 where it is turned away, and nothing is written.
+// The part by a table that is tested first: 20 to 22 where it is refused, and nothing is written.
 pub fn next_told_part(
     how: Telling,
     block: &[u8],
     line: usize,
-    table: LentRows,
+    table: AnnouncedRows,
     scratch: &mut [u8],
 ) -> LinesAnswer
     ensures { λ r. ⌜ PartCall how (tableOf table) (now (block .entry)) line (now (scratch .entry)) r (now (scratch .exit)) ⌝ }
@@ -238,7 +249,7 @@ pub fn next_told_part(
 }
 
 // The same with refusals told by their numbers.
-pub fn next_part(block: &[u8], line: usize, table: LentRows, scratch: &mut [u8]) -> LinesAnswer
+pub fn next_part(block: &[u8], line: usize, table: AnnouncedRows, scratch: &mut [u8]) -> LinesAnswer
     ensures { λ r. ⌜ PartCall Telling.Numbers (tableOf table) (now (block .entry)) line (now (scratch .entry)) r (now (scratch .exit)) ⌝ }
 {
     next_told_part(Telling::Numbers, block, line, table, scratch)

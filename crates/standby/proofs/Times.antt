@@ -13,9 +13,9 @@ use Rattle.calendar.specs.declared.CalendarDate.{CalendarDate}
 use Rattle.calendar.specs.Refusals.{validDate, nextOf}
 use Rattle.calendar.specs.DayCount.{marchCount, civilCount, mjdNumber, mjdOf}
 use Rattle.calendar.proofs.Signs.{sub-at}
-use Rattle.leap_table.specs.declared.rows.LentRows.{LentRows}
+use Rattle.leap_table.specs.declared.rows.AnnouncedRows.{AnnouncedRows}
 use Rattle.leap_table.specs.rows.Table.{Row, monthNumber}
-use Rattle.leap_table.specs.rows.Lent.{tableOf}
+use Rattle.leap_table.specs.rows.Announced.{tableOf}
 use Rattle.leap_table.specs.offsets.Offset.{secondsIn}
 use Rattle.leap_table.specs.offsets.WholeSeconds.{wholeSeconds}
 use Rattle.leap_table.proofs.offsets.TableSeconds.{seconds-in-range}
@@ -77,7 +77,7 @@ a-month-here : (rows : List Row) (y : ℤ) (m : ℕ) → ltZ y (pos 1972) ≡ fa
 unfolding wholeSeconds
 a-month-here rows y m p g h = rw (p, le-ltb m 1 g, le-ltb 12 m h)
 
-pub offset-small : (t : LentRows) (rows : List Row) → tableOf t ≡ answer rows → (y : ℤ) (m : ℕ) → ltZ y (pos 1972) ≡ false → 1 ≤ m → m ≤ 12 → (10 ≤ wholeSeconds rows y m) × (wholeSeconds rows y m ≤ 53)
+pub offset-small : (t : AnnouncedRows) (rows : List Row) → tableOf t ≡ answer rows → (y : ℤ) (m : ℕ) → ltZ y (pos 1972) ≡ false → 1 ≤ m → m ≤ 12 → (10 ≤ wholeSeconds rows y m) × (wholeSeconds rows y m ≤ 53)
 offset-small t rows e y m p g h =
     subst (λ (k : ℕ). (10 ≤ k) × (k ≤ 53)) (sym (a-month-here rows y m p g h)) (seconds-in-range t rows e (monthNumber y m) (late y m p g))
 

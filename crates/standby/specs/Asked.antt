@@ -7,8 +7,8 @@ use lib.Signed.{ltZ}
 use Rattle.refusals.specs.Outcome.{Outcome, answer}
 use Rattle.calendar.specs.declared.CalendarDate.{CalendarDate}
 use Rattle.calendar.specs.Refusals.{nextOf}
-use Rattle.leap_table.specs.declared.rows.LentRows.{LentRows}
-use Rattle.leap_table.specs.rows.Lent.{rowsOf, tableOf}
+use Rattle.leap_table.specs.declared.rows.AnnouncedRows.{AnnouncedRows}
+use Rattle.leap_table.specs.rows.Announced.{rowsOf, tableOf}
 use Rattle.standby.specs.declared.UtcTime.{UtcTime}
 use Rattle.standby.specs.declared.Instant.{Instant}
 use Rattle.standby.specs.declared.InstantAnswer.{InstantAnswer}
@@ -17,7 +17,7 @@ use Rattle.standby.specs.Times.{mjdDay}
 use Rattle.standby.specs.Answers.{instantMs, instantOutcome}
 
 -- a table that is taken, and a date from 1972 on with its day and its next date
-pub record Dated (table : LentRows) (t : UtcTime) (day : ℕ) (next : CalendarDate) : Type 0 where
+pub record Dated (table : AnnouncedRows) (t : UtcTime) (day : ℕ) (next : CalendarDate) : Type 0 where
   pub taken : tableOf table ≡ answer (rowsOf table)
   pub from-1972 : ltZ (t .year) (pos 1972) ≡ false
   pub has-next : nextOf (t .year) (pos (t .month)) (pos (t .day)) ≡ answer next

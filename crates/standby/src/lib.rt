@@ -1,8 +1,8 @@
-// Crew standby by quarter hours: document 02, item 11. Whole numbers only: a UTC time is counted in exact TAI, by the lent table.
+// Crew standby by quarter hours: document 02, item 11. Whole numbers only: a UTC time is counted in exact TAI, by the announced table.
 ghost use mathlib.Core.Path.{_≡_};
 ghost use Prim.Native.Nat.{_+_, _*_, _≤_, _<_};
 ghost use Rattle.refusals.specs.Outcome.{answer, onward};
-ghost use Rattle.leap_table.specs.rows.Lent.{rowsOf, tableOf};
+ghost use Rattle.leap_table.specs.rows.Announced.{rowsOf, tableOf};
 ghost use Rattle.standby.specs.Times.{inItsDay, lastMinute, timeSeconds};
 ghost use Rattle.standby.specs.Times as T;
 ghost use Rattle.standby.specs.Bills.{overLimit, shares, billBetween, standbyBill};
@@ -12,7 +12,7 @@ ghost use Rattle.standby.specs.Asked.{Dated, InstantIs, SmallInstant, St
 use calendar::CalendarDate;
 use calendar::MjdAnswer;
 use calendar::NextDay;
-use leap_table::rows::LentRows;
+use leap_table::rows::AnnouncedRows;
 
 // The longest of each: quarters, cents a quarter, metres.
 const LIMIT: u64 = 1_000_000;
@@ -54,7 +54,7 @@ enum InstantAnswer {
 }
 
 // The seconds of the day's last minute: 60, and one more or less where the table steps with the next date. `offset` is TAI-UTC on the date.
-fn last_minute(t: UtcTime, next: CalendarDate, offset: u32, table: LentRows) -> u32
+fn last_minute(t: UtcTime, next: CalendarDate, offset: u32, table: AnnouncedRows) -> u32
     requires { ⌜ (offset ≡ T.offsetOnDate (rowsOf table) t) × (offset ≤ 60) ⌝ }
     ensures { λ r. ⌜ r ≡ lastMinute (rowsOf table) t next ⌝ }
 {
@@ -95,7 +95,7 @@ fn time_seconds(t: UtcTime) -> u64
 }
 
 // The instant of a time on Modified Julian Date `day`, whose next date is `next`. Refusal 4: the time is not in the day.
-fn at_time(t: UtcTime, day: u64, next: CalendarDate, table: LentRows) -> InstantAnswer
+fn at_time(t: UtcTime, day: u64, next: CalendarDate, table: AnnouncedRows) -> InstantAnswer
     requires { ⌜ Dated table t day next ⌝ }
     ensures { λ r. ⌜ InstantIs (T.instantOn (rowsOf table) t next) r ⌝ }
 {
@@ -112,7 +112,7 @@ fn at_time(t: UtcTime, day: u64, next: CalendarDate, table: LentRows) -> Instant
 }
 
 // The instant of a UTC time from 1972 on. Refusals in order: 1 the year, 2 the month, 3 the day, 5 no next day, 4 the time.
-fn instant_of(t: UtcTime, table: LentRows) -> InstantAnswer
+fn instant_of(t: UtcTime, table: AnnouncedRows) -> InstantAnswer
     requires { ⌜ tableOf table ≡ answer (rowsOf table) ⌝ }
     ensures { λ r. ⌜ InstantIs (T.instant (rowsOf table) t) r ⌝ }
 {
@@ -236,7 +236,7 @@ pub fn standby_bill(
     rate: u32,
     first_metres: u32,
     second_metres: u32,
-    table: LentRows,
+    table: AnnouncedRows,
 ) -> BillAnswer
     ensures { λ r. ⌜ billOutcome r ≡ onward (tableOf table) (λ rows. standbyBill rows start end rate «first_metres» «second_metres») ⌝ }
 {

@@ -9,9 +9,9 @@ use Rattle.refusals.specs.Outcome.{answer}
 use Rattle.calendar.specs.Refusals.{validDate}
 use Rattle.calendar.proofs.Accepted.{date-accepted}
 use Rattle.calendar.proofs.Mjd.{mjd-given}
-use Rattle.leap_table.specs.declared.rows.LentRows.{LentRows}
+use Rattle.leap_table.specs.declared.rows.AnnouncedRows.{AnnouncedRows}
 use Rattle.leap_table.specs.rows.Table.{Row, monthNumber}
-use Rattle.leap_table.specs.rows.Lent.{tableOf}
+use Rattle.leap_table.specs.rows.Announced.{tableOf}
 use Rattle.leap_table.specs.offsets.Offset.{inDay, taiUtcOffset, wholeF}
 use Rattle.leap_table.proofs.offsets.Offsets.{offset-given}
 use Rattle.leap_table.proofs.offsets.TableSeconds.{table-seconds}
@@ -20,7 +20,7 @@ use Rattle.standby.specs.declared.UtcTime.{UtcTime}
 use Rattle.standby.specs.Times.{offsetOnDate}
 use Rattle.standby_laws.proofs.Faults.{whole-here}
 
-pub offset-is-tai-utc : (table : LentRows) (rows : List Row) → tableOf table ≡ answer rows → (t : UtcTime) → ltZ (t .year) (pos 1972) ≡ false → validDate (t .year) (pos (t .month)) (pos (t .day)) ≡ answer tt
+pub offset-is-tai-utc : (table : AnnouncedRows) (rows : List Row) → tableOf table ≡ answer rows → (t : UtcTime) → ltZ (t .year) (pos 1972) ≡ false → validDate (t .year) (pos (t .month)) (pos (t .day)) ≡ answer tt
     → (f : Float) → inDay f ≡ true → taiUtcOffset rows (t .year) (pos (t .month)) (pos (t .day)) f ≡ answer (wholeF (offsetOnDate rows t))
 offset-is-tai-utc table rows taken t p v f h =
     let a = date-accepted (t .year) (pos (t .month)) (pos (t .day)) v in

@@ -30,9 +30,9 @@ use Rattle.calendar.proofs.NextDates.{next-is, next-in-calendar}
 use Rattle.calendar.proofs.Years.{next-keeps}
 use Rattle.julian.specs.declared.JulianDate.{JulianDate}
 use Rattle.julian.specs.DayFraction.{secondLimit, timeInDay, dayFraction}
-use Rattle.leap_table.specs.declared.rows.LentRows.{LentRows}
+use Rattle.leap_table.specs.declared.rows.AnnouncedRows.{AnnouncedRows}
 use Rattle.leap_table.specs.rows.Table.{Row, starts, monthNumber}
-use Rattle.leap_table.specs.rows.Lent.{tableOf}
+use Rattle.leap_table.specs.rows.Announced.{tableOf}
 use Rattle.leap_table.specs.offsets.Offset.{secondsIn}
 use Rattle.leap_table.specs.offsets.Leap.{leapOf, offsetsOfDay, leapAtEndOfDay}
 use Rattle.leap_table.specs.offsets.WholeSeconds.{wholeSeconds}
@@ -139,7 +139,7 @@ fifty-nine : add binary64 (decimal 60 0) minus-one-f ≡ decimal 59 0
 unfolding add round ofBits
 fifty-nine = refl
 
-module _ (table : LentRows) (rows : List Row) (taken : tableOf table ≡ answer rows) where
+module _ (table : AnnouncedRows) (rows : List Row) (taken : tableOf table ≡ answer rows) where
   abbrev K : ℕ → ℕ
   K n = secondsIn rows n
 

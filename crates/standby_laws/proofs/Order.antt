@@ -19,9 +19,9 @@ use Rattle.calendar.proofs.Accepted.{Accepted, date-accepted, short}
 use Rattle.calendar.proofs.Mjd.{mjd-given, same-answer}
 use Rattle.calendar.proofs.NextDates.{next-is, next-in-calendar, next-accepted, next-mjd}
 use Rattle.calendar.proofs.Years.{next-keeps}
-use Rattle.leap_table.specs.declared.rows.LentRows.{LentRows}
+use Rattle.leap_table.specs.declared.rows.AnnouncedRows.{AnnouncedRows}
 use Rattle.leap_table.specs.rows.Table.{Row}
-use Rattle.leap_table.specs.rows.Lent.{tableOf}
+use Rattle.leap_table.specs.rows.Announced.{tableOf}
 use Rattle.leap_table.specs.offsets.WholeSeconds.{wholeSeconds}
 use Rattle.standby.specs.declared.UtcTime.{UtcTime}
 use Rattle.standby.specs.Times.{offsetOnDate, offsetAfter, lastMinute, inItsDay, timeSeconds, mjdDay, taiMs, instant}
@@ -116,7 +116,7 @@ time-order a b la lb p q = go (eqb (a .hour) (b .hour)) refl (eqb (a .minute) (b
         sym (le-ltb (inMillis a) (inMillis b) (omega (arith, h, m, s, eqb-true (a .millis) (b .millis) pf)))
 
 -- ---- two times that are not refused
-module _ (table : LentRows) (rows : List Row) (taken : tableOf table ≡ answer rows) where
+module _ (table : AnnouncedRows) (rows : List Row) (taken : tableOf table ≡ answer rows) where
   -- what is known of one
   record Known (t : UtcTime) : Type 0 where
     from : ltZ (t .year) (pos 1972) ≡ false

@@ -21,7 +21,7 @@ minus-one-f = ofBits binary64 0xbff0_0000_0000_0000
 abbrev pub leap1959 : Float
 leap1959 = fin false 2124532591815385 (negsuc 50)
 
--- the leaps that a text is shown for: of half a second at most in size, of a second, that of 1959-12-31, and of a second less, which lent rows alone have
+-- the leaps that a text is shown for: of half a second at most in size, of a second, that of 1959-12-31, and of a second less, which announced rows alone have
 pub data Leap : Float → Type 0 where
   little : {x : Float} → lt half (abs x) ≡ false → Leap x
   second : Leap one

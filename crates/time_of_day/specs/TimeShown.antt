@@ -24,7 +24,7 @@ timeOf k = record {
 }
 
 -- The milliseconds at which the text is the next day's midnight, of the leap that counts. The Rust has no case for a leap below 0, and no fixed row
--- gives one: the third case is for lent rows, whose steps may be of -1 s (document 02, item 8).
+-- gives one: the third case is for announced rows, whose steps may be of -1 s (document 02, item 8).
 unfoldable pub dayEnd : Float → ℕ
 dayEnd leap = cond (lt nought leap) 86401000 (cond (lt leap nought) 86399000 86400000)
 

@@ -50,7 +50,7 @@ pub fn from_zero(count: i64) -> u64
     if count < 0 { 0 } else { count as u64 }
 }
 
-// The milliseconds at which the next day begins. The Rust has no case for a leap below 0, which only lent rows give.
+// The milliseconds at which the next day begins. The Rust has no case for a leap below 0, which only announced rows give.
 fn day_end(leap: f64) -> u64
     ensures { λ r. ⌜ (r ≡ dayEnd leap) × (r ≤ 86401000) ⌝ }
 {

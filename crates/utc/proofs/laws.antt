@@ -9,20 +9,20 @@ pub mod DayTexts
 pub mod Numbers
 pub mod DateNumbers
 pub mod Lengths
--- Demand3: DEMAND 3 of a text's day and time. ShownDates, Sums, Sheets: what it needs of dates, of divisions and of sheets. DayLengths: it speaks of every day.
+-- Demand3: DEMAND 3 of a text's day and time. ShownDates, Sums, TextForms: what it needs of dates, of divisions and of forms of text. DayLengths: it speaks of every day.
 pub mod ShownDates
 pub mod Sums
-pub mod Sheets
+pub mod TextForms
 pub mod Demand3
 pub mod DayLengths
 -- Alike, OneText: DEMAND 3 for every division of a date and every buffer. Ends: at the ends of its ranges.
 pub mod Alike
 pub mod OneText
 pub mod Ends
--- ExpandedTexts, HalfEvenTexts: document 02's two sheets.
+-- ExpandedTexts, HalfEvenTexts: document 02's two forms of text.
 pub mod ExpandedTexts
 pub mod HalfEvenTexts
--- Which refusals the calls give by every lent table, and exactly when. Ladders: of tables, dates and times. Decided, NewDecided, TextDecided: of each call; UnixDates,
+-- Which refusals the calls give by every announced table, and exactly when. Ladders: of tables, dates and times. Decided, NewDecided, TextDecided: of each call; UnixDates,
 -- UnixClock: what a Unix time needs. Witnesses: each refusal does occur.
 pub mod Ladders
 pub mod Decided

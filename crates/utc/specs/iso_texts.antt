@@ -1,5 +1,5 @@
 -- What the contracts of `utc::iso_texts` cite, in the order to read it.
-pub mod Sheet
+pub mod TextForm
 pub mod IsoText
 pub mod TextCall
 pub mod Expanded

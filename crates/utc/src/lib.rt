@@ -4,7 +4,7 @@ ghost use Prim.Native.Nat.{_<_};
 ghost use Rattle.scales.specs.Scales.{utcOutcome};
 ghost use Rattle.julian.specs.DayFraction.{fractionOutcome};
 ghost use Rattle.refusals.specs.Outcome.{onward};
-ghost use Rattle.leap_table.specs.rows.Lent.{rowsIn, rowsOf, tableOf};
+ghost use Rattle.leap_table.specs.rows.Announced.{rowsIn, rowsOf, tableOf};
 ghost use Rattle.utc.specs.FromCalendar.{midnightPlus, utcFromCalendar};
 ghost use Rattle.utc.specs.UnixTime.{unixDay, secondOfUnixDay, secondWithNanos, utcNew};
 use julian::CalendarAnswer;
@@ -12,7 +12,7 @@ use julian::FractionAnswer;
 use julian::JulianAnswer;
 use julian::JulianDate;
 use leap_table::offsets::SecondsByRule;
-use leap_table::rows::LentRows;
+use leap_table::rows::AnnouncedRows;
 use scales::UTC;
 use scales::UtcAnswer;
 
@@ -85,7 +85,7 @@ pub fn new_by_lent<'a>(
 }
 
 // The same by the rows of a table.
-pub fn new_by_rows(seconds: i64, nanos: u32, table: LentRows) -> UtcAnswer
+pub fn new_by_rows(seconds: i64, nanos: u32, table: AnnouncedRows) -> UtcAnswer
     ensures { λ r. ⌜ utcOutcome r ≡ utcNew (rowsOf table) seconds nanos ⌝ }
 {
     new_by_lent(
@@ -98,7 +98,7 @@ pub fn new_by_rows(seconds: i64, nanos: u32, table: LentRows) -> UtcAnswer
 }
 
 // UTC of a Unix time. Refusals in order: 20 to 22 the table, 8 the nanoseconds, 6 the day, 1 its year, then 4, which a day that ends in a step back can give.
-pub fn new(seconds: i64, nanos: u32, table: LentRows) -> UtcAnswer
+pub fn new(seconds: i64, nanos: u32, table: AnnouncedRows) -> UtcAnswer
     ensures { λ r. ⌜ utcOutcome r ≡ onward (tableOf table) (λ rows. utcNew rows seconds nanos) ⌝ }
 {
     let number = leap_table::rows::table_refusal(table);
@@ -150,7 +150,7 @@ pub fn utc_from_calendar_by_rows(
     hour: u8,
     minute: u8,
     second: f64,
-    table: LentRows,
+    table: AnnouncedRows,
 ) -> UtcAnswer
     ensures { λ r. ⌜ utcOutcome r ≡ utcFromCalendar (rowsOf table) year month day hour minute second ⌝ }
 {
@@ -176,7 +176,7 @@ pub fn utc_from_calendar(
     hour: u8,
     minute: u8,
     second: f64,
-    table: LentRows,
+    table: AnnouncedRows,
 ) -> UtcAnswer
     ensures { λ r. ⌜ utcOutcome r ≡ onward (tableOf table) (λ rows. utcFromCalendar rows year month day hour minute second) ⌝ }
 {

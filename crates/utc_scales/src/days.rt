@@ -5,7 +5,7 @@ ghost use Rattle.refusals.specs.Outcome.{onward};
 ghost use Rattle.calendar.specs.Gregorian.{gregorianDate};
 ghost use Rattle.julian.specs.JulianDate.{julianOutcome};
 ghost use Rattle.julian.specs.DayFraction.{fractionOutcome};
-ghost use Rattle.leap_table.specs.rows.Lent.{rowsIn};
+ghost use Rattle.leap_table.specs.rows.Announced.{rowsIn};
 ghost use Rattle.leap_table.specs.offsets.Rule.{withRule};
 ghost use Rattle.leap_table.specs.offsets.Answers.{secondsByRuleOutcome};
 ghost use Rattle.utc_scales.specs.days.LargerPart.{firstIsKept, keptParts, putBeside, placed};

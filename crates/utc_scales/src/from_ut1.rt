@@ -5,7 +5,7 @@ ghost use Rattle.constants.specs.Constants.{mjdZeroPoint};
 ghost use Rattle.julian.specs.JulianDate.{julian, julianOutcome};
 ghost use Rattle.julian.specs.DayFraction.{fractionOutcome};
 ghost use Rattle.julian.specs.Finite as J;
-ghost use Rattle.leap_table.specs.rows.Lent.{rowsIn, rowsOf, tableOf};
+ghost use Rattle.leap_table.specs.rows.Announced.{rowsIn, rowsOf, tableOf};
 ghost use Rattle.scales.specs.Scales.{utcOutcome};
 ghost use Rattle.utc_scales.specs.days.LargerPart.{changeSmaller};
 ghost use Rattle.utc_scales.specs.from_ut1.Ut1Utc as U;
@@ -21,7 +21,7 @@ use julian::FractionAnswer;
 use julian::JulianAnswer;
 use julian::JulianDate;
 use julian::day_number::DayAnswer;
-use leap_table::rows::LentRows;
+use leap_table::rows::AnnouncedRows;
 use months::KnownMonth;
 use months::MonthAnswer;
 use months::mjd_of;
@@ -218,7 +218,7 @@ pub fn ut1_to_utc_with_dut1_by_lent<'a>(
 }
 
 // By the rows of a table that is tested elsewhere. Refusals in order: 10, 9, then 6 or 1 for each scanned day.
-pub fn ut1_to_utc_with_dut1_by_rows(ut1: UT1, dut1: f64, table: LentRows) -> UtcAnswer
+pub fn ut1_to_utc_with_dut1_by_rows(ut1: UT1, dut1: f64, table: AnnouncedRows) -> UtcAnswer
     ensures { λ r. ⌜ utcOutcome r ≡ U.ut1ToUtc (rowsOf table) (ut1 .0) dut1 ⌝ }
 {
     ut1_to_utc_with_dut1_by_lent(
@@ -231,7 +231,7 @@ pub fn ut1_to_utc_with_dut1_by_rows(ut1: UT1, dut1: f64, table: LentRows) -> Utc
 }
 
 // Refusals in order: 20 to 22 the table, 10, 9, then 6 or 1 for each scanned day.
-pub fn ut1_to_utc_with_dut1(ut1: UT1, dut1: f64, table: LentRows) -> UtcAnswer
+pub fn ut1_to_utc_with_dut1(ut1: UT1, dut1: f64, table: AnnouncedRows) -> UtcAnswer
     ensures { λ r. ⌜ utcOutcome r ≡ onward (tableOf table) (λ rows. U.ut1ToUtc rows (ut1 .0) dut1) ⌝ }
 {
     let number = leap_table::rows::table_refusal(table);

@@ -1,7 +1,7 @@
 // UTC to UT1 by DUT1 = UT1 - UTC in seconds: scales/conversions/utc_ut1/mod.rs.
 ghost use mathlib.Core.Path.{_≡_};
 ghost use Rattle.refusals.specs.Outcome.{onward};
-ghost use Rattle.leap_table.specs.rows.Lent.{rowsIn, rowsOf, tableOf};
+ghost use Rattle.leap_table.specs.rows.Announced.{rowsIn, rowsOf, tableOf};
 ghost use Rattle.leap_table.specs.offsets.Answers as T;
 ghost use Rattle.leap_table.specs.offsets.Rule.{withRule};
 ghost use Rattle.scales.specs.Scales.{ut1Outcome};
@@ -18,7 +18,7 @@ use crate::utc_tai::tai_fraction_by_rule;
 use julian::day_number::DayAnswer;
 use leap_table::offsets::Rule;
 use leap_table::offsets::SecondsByRule;
-use leap_table::rows::LentRows;
+use leap_table::rows::AnnouncedRows;
 use scales::TAI;
 use scales::UT1;
 use scales::UTC;
@@ -104,7 +104,7 @@ pub fn utc_to_ut1_with_dut1_by_lent<'a>(
 }
 
 // By the rows of a table that is tested elsewhere, without the rule. Refusals in order: 10, 6, the date's.
-pub fn utc_to_ut1_with_dut1_by_rows(utc: UTC, dut1: f64, table: LentRows) -> Ut1Answer
+pub fn utc_to_ut1_with_dut1_by_rows(utc: UTC, dut1: f64, table: AnnouncedRows) -> Ut1Answer
     ensures { λ r. ⌜ ut1Outcome r ≡ U.utcToUt1 (rowsOf table) (utc .0) dut1 ⌝ }
 {
     match utc_to_ut1_with_dut1_by_lent(
@@ -120,7 +120,7 @@ pub fn utc_to_ut1_with_dut1_by_rows(utc: UTC, dut1: f64, table: LentRows) -> Ut1
 }
 
 // UT1 with the rule of TAI-UTC on the date. Refusals in order: 20 to 22 the table, 10, 6, the date's.
-pub fn utc_to_ut1_with_dut1(utc: UTC, dut1: f64, table: LentRows) -> Ut1ByRule
+pub fn utc_to_ut1_with_dut1(utc: UTC, dut1: f64, table: AnnouncedRows) -> Ut1ByRule
     ensures { λ r. ⌜ ut1ByRuleOutcome r ≡ onward (tableOf table) (λ rows. utcToUt1ByRule rows (utc .0) dut1) ⌝ }
 {
     let number = leap_table::rows::table_refusal(table);

@@ -4,7 +4,7 @@ ghost use Rattle.refusals.specs.Outcome.{onward};
 ghost use Rattle.julian.specs.JulianDate.{julian, julianOutcome};
 ghost use Rattle.julian.specs.DayFraction.{fractionOutcome};
 ghost use Rattle.constants.specs.Constants.{mjdZeroPoint};
-ghost use Rattle.leap_table.specs.rows.Lent.{rowsIn, rowsOf, tableOf};
+ghost use Rattle.leap_table.specs.rows.Announced.{rowsIn, rowsOf, tableOf};
 ghost use Rattle.scales.specs.Scales.{taiOutcome, utcOutcome};
 ghost use Rattle.utc_scales.specs.ByRule.{utcToTaiByRule, taiByRuleOutcome};
 ghost use Rattle.utc_scales.specs.Known.{RightKnown, partOutcome, RightPart, ruledPartOutcome, SameDays};
@@ -27,7 +27,7 @@ use leap_table::offsets::DayByRule;
 use leap_table::offsets::DayOffsets;
 use leap_table::offsets::DayOffsetsAnswer;
 use leap_table::offsets::Rule;
-use leap_table::rows::LentRows;
+use leap_table::rows::AnnouncedRows;
 use scales::TAI;
 use scales::TaiAnswer;
 use scales::UTC;
@@ -144,7 +144,7 @@ pub fn utc_to_tai_by_lent<'a>(
 }
 
 // By the rows of a table that is tested elsewhere, without the rule. Refusals in order: 6, then the date's.
-pub fn utc_to_tai_by_rows(utc: UTC, table: LentRows) -> TaiAnswer
+pub fn utc_to_tai_by_rows(utc: UTC, table: AnnouncedRows) -> TaiAnswer
     ensures { λ r. ⌜ taiOutcome r ≡ U.utcToTai (rowsOf table) (utc .0) ⌝ }
 {
     match utc_to_tai_by_lent(
@@ -159,7 +159,7 @@ pub fn utc_to_tai_by_rows(utc: UTC, table: LentRows) -> TaiAnswer
 }
 
 // TAI with the rule of TAI-UTC on the date. Refusals in order: 20 to 22 the table, 6, then the date's.
-pub fn utc_to_tai(utc: UTC, table: LentRows) -> TaiByRule
+pub fn utc_to_tai(utc: UTC, table: AnnouncedRows) -> TaiByRule
     ensures { λ r. ⌜ taiByRuleOutcome r ≡ onward (tableOf table) (λ rows. utcToTaiByRule rows (utc .0)) ⌝ }
 {
     let number = leap_table::rows::table_refusal(table);
@@ -262,7 +262,7 @@ pub fn tai_to_utc_by_lent<'a>(
 }
 
 // By the rows of a table that is tested elsewhere. Refusals in each round, in order: 6, then the date's.
-pub fn tai_to_utc_by_rows(tai: TAI, table: LentRows) -> UtcAnswer
+pub fn tai_to_utc_by_rows(tai: TAI, table: AnnouncedRows) -> UtcAnswer
     ensures { λ r. ⌜ utcOutcome r ≡ U.taiToUtc (rowsOf table) (tai .0) ⌝ }
 {
     tai_to_utc_by_lent(
@@ -274,7 +274,7 @@ pub fn tai_to_utc_by_rows(tai: TAI, table: LentRows) -> UtcAnswer
 }
 
 // Refusals in order: 20 to 22 the table; then in each round 6, then the date's.
-pub fn tai_to_utc(tai: TAI, table: LentRows) -> UtcAnswer
+pub fn tai_to_utc(tai: TAI, table: AnnouncedRows) -> UtcAnswer
     ensures { λ r. ⌜ utcOutcome r ≡ onward (tableOf table) (λ rows. U.taiToUtc rows (tai .0)) ⌝ }
 {
     let number = leap_table::rows::table_refusal(table);

@@ -1,5 +1,5 @@
 -- THE RULE THAT A TEXT PASSES ON is that of the calendar's date before any carry, by computation: 2016-12-31 23:59:60.9996 shows 2017 and tells row 40, the last float of 1971 shows
--- 1972 and tells the row 13 that drifts, 1959 tells none, and under a lent row that row is told. Assumes nothing.
+-- 1972 and tells the row 13 that drifts, 1959 tells none, and under a announced row that row is told. Assumes nothing.
 use mathlib.Core.Path.{_≡_, refl, ap, _∙_}
 use mathlib.Core.List.{List}
 use Prim.Native.Nat.{ℕ}
@@ -23,7 +23,7 @@ use Rattle.julian.proofs.laws.Divisions.{dividedDate, divided-date}
 use Rattle.leap_table.specs.declared.offsets.Rule.{Rule}
 use Rattle.leap_table.specs.declared.offsets.Rule.the-variants.{Absent, Drifting, Whole}
 use Rattle.leap_table.specs.rows.Table.{Row, fixed, monthNumber, reached}
-use Rattle.leap_table.specs.rows.Lent.{tableOf}
+use Rattle.leap_table.specs.rows.Announced.{tableOf}
 use Rattle.leap_table.specs.offsets.Offset.{secondsOf, startOf, rateOf, byRow, offsetBy, offsetAt, inDay, taiUtcOffset}
 use Rattle.leap_table.specs.offsets.Leap.{dayOffsets, leapOf, leapAtEndOfDay}
 use Rattle.leap_table.specs.offsets.Rule.{ruleBy, ruleOf, ruleAt, ruleOn, withRule}
@@ -80,14 +80,14 @@ pub before-rows : isoTextByRule fixed (julian (decimal 24367345 1) (decimal 5 1)
 unfolding computedText round ofBits
 before-rows = as-computed fixed (julian (decimal 24367345 1) (decimal 5 1)) ∙ refl
 
--- ---- by the two lent rows of `shortTable`: the last float of 2029-12-31 shows 2030 and tells row 41, 2030-01-01 row 42
-abbrev lentText : JulianDate → Outcome (List ℕ × Rule)
-lentText d = onward (tableOf shortTable) (λ rows. isoTextByRule rows d)
+-- ---- by the two announced rows of `shortTable`: the last float of 2029-12-31 shows 2030 and tells row 41, 2030-01-01 row 42
+abbrev announcedText : JulianDate → Outcome (List ℕ × Rule)
+announcedText d = onward (tableOf shortTable) (λ rows. isoTextByRule rows d)
 
-pub carried-to-lent-row : lentText (julian (decimal 24625015 1) (bits 0x3fef_ffff_ffff_ffff)) ≡ answer (ascii "2030-01-01T00:00:00.000", Whole 41)
+pub carried-to-announced-row : announcedText (julian (decimal 24625015 1) (bits 0x3fef_ffff_ffff_ffff)) ≡ answer (ascii "2030-01-01T00:00:00.000", Whole 41)
 unfolding computedText round ofBits
-carried-to-lent-row = went _ short-taken ∙ as-computed shortRows (julian (decimal 24625015 1) (bits 0x3fef_ffff_ffff_ffff)) ∙ refl
+carried-to-announced-row = went _ short-taken ∙ as-computed shortRows (julian (decimal 24625015 1) (bits 0x3fef_ffff_ffff_ffff)) ∙ refl
 
-pub in-lent-row : lentText (julian (decimal 24625025 1) (decimal 5 1)) ≡ answer (ascii "2030-01-01T12:00:00.000", Whole 42)
+pub in-announced-row : announcedText (julian (decimal 24625025 1) (decimal 5 1)) ≡ answer (ascii "2030-01-01T12:00:00.000", Whole 42)
 unfolding computedText round ofBits
-in-lent-row = went _ short-taken ∙ as-computed shortRows (julian (decimal 24625025 1) (decimal 5 1)) ∙ refl
+in-announced-row = went _ short-taken ∙ as-computed shortRows (julian (decimal 24625025 1) (decimal 5 1)) ∙ refl

@@ -21,7 +21,7 @@ use Rattle.julian.specs.Calendar.{fromCalendar, calendarToJulian, julianToCalen
 use Rattle.julian.specs.Calendar as Julian
 use Rattle.julian.proofs.laws.Divisions.{dividedDate, divided-date}
 use Rattle.leap_table.specs.rows.Table.{fixed, monthNumber, reached}
-use Rattle.leap_table.specs.rows.Lent.{tableOf}
+use Rattle.leap_table.specs.rows.Announced.{tableOf}
 use Rattle.leap_table.specs.offsets.Offset.{secondsOf, byRow, offsetBy, offsetAt, inDay, taiUtcOffset}
 use Rattle.leap_table.specs.offsets.Leap.{dayOffsets, leapOf, leapAtEndOfDay}
 use Rattle.time_of_day.specs.Milliseconds as Millis

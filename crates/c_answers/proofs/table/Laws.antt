@@ -12,7 +12,7 @@ use borrow.Author.Tests.{eq-eqb, eqb-true}
 use Rattle.refusals.specs.Outcome.{Outcome, answer, refusal, onward}
 use Rattle.numerals.specs.little_endian.LittleEndian.{fourAt, u32At}
 use Rattle.leap_table.specs.rows.Table.{Row, row, fixed}
-use Rattle.leap_table.specs.rows.Lent.{least, rowsTo, lentSize, rowsOf, tableOf, Decision, sizes, order, step, taken, unlessRefused}
+use Rattle.leap_table.specs.rows.Announced.{least, rowsTo, announcedSize, rowsOf, tableOf, Decision, sizes, order, step, taken, unlessRefused}
 use Rattle.leap_table.proofs.rows.Tables.{least-right}
 use Rattle.leap_table.proofs.rows.TableLaws.{table-decided}
 use Rattle.leap_table.proofs.rows.TablesTaken.{table-none}
@@ -21,9 +21,9 @@ use Rattle.c_answers.proofs.table.Reading.{place-of, same-table}
 
 -- ---- the number of a refusal, and a call that goes on with the rows
 module _ {B : Type 0} (rows : List Row) {o : Outcome (List Row)} (n : ℕ) (e : unlessRefused n rows ≡ o) (next : List Row → Outcome B) where
-  pub turned-away : (n ≡ 0 → ⊥) → onward o next ≡ refusal n
+  pub not-taken : (n ≡ 0 → ⊥) → onward o next ≡ refusal n
   unfolding onward
-  turned-away h = sym (go n h ∙ ap (λ (p : Outcome (List Row)). onward p next) e)
+  not-taken h = sym (go n h ∙ ap (λ (p : Outcome (List Row)). onward p next) e)
     where
       go : (k : ℕ) → (k ≡ 0 → ⊥) → refusal k ≡ onward (unlessRefused k rows) next
       go zero h = absurd (h refl)
@@ -109,19 +109,19 @@ abbrev pub rowBytes : ℕ → ℕ → ℕ → ℕ → ℕ → List ℕ
 rowBytes size a b c seconds = 1 ∷ 0 ∷ 0 ∷ 0 ∷ size ∷ 0 ∷ 0 ∷ 0 ∷ a ∷ b ∷ c ∷ c ∷ (replicate 60 0 ++ (seconds ∷ 0 ∷ 0 ∷ 0 ∷ replicate 60 0))
 
 pub one-row : tableBytes (rowBytes 1 0x04 0x5f 0 38) ≡ answer (fixed ++ (row 2027 1 380000000 0 0 ∷ []))
-unfolding tableBytes ofLength tableOf lentSize rowsTo fixed signedFrom signed32 u32At fourAt
+unfolding tableBytes ofLength tableOf announcedSize rowsTo fixed signedFrom signed32 u32At fourAt
 one-row = refl
 
 pub month-below-zero : tableBytes (rowBytes 1 0xff 0xff 0xff 38) ≡ refusal 21
-unfolding tableBytes ofLength tableOf lentSize rowsTo fixed signedFrom signed32 u32At fourAt
+unfolding tableBytes ofLength tableOf announcedSize rowsTo fixed signedFrom signed32 u32At fourAt
 month-below-zero = refl
 
 pub two-seconds : tableBytes (rowBytes 1 0x04 0x5f 0 39) ≡ refusal 22
-unfolding tableBytes ofLength tableOf lentSize rowsTo fixed signedFrom signed32 u32At fourAt
+unfolding tableBytes ofLength tableOf announcedSize rowsTo fixed signedFrom signed32 u32At fourAt
 two-seconds = refl
 
 pub unequal-sizes : tableBytes (rowBytes 2 0x04 0x5f 0 38) ≡ refusal 20
-unfolding tableBytes ofLength tableOf lentSize rowsTo fixed signedFrom signed32 u32At fourAt
+unfolding tableBytes ofLength tableOf announcedSize rowsTo fixed signedFrom signed32 u32At fourAt
 unequal-sizes = refl
 
 pub one-byte-more : tableBytes (rowBytes 2 0x04 0x5f 0 38 ++ (0 ∷ [])) ≡ refusal 14

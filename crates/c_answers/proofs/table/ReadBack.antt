@@ -11,8 +11,8 @@ use mir.Syntax.{w32}
 use mir.Val.{SFits}
 use borrow.Author.Tests.{le-leb, eq-eqb}
 use Rattle.numerals.specs.little_endian.LittleEndian.{fourAt, u32At}
-use Rattle.leap_table.specs.declared.rows.LentRows.{LentRows}
-use Rattle.leap_table.specs.rows.Lent.{tableOf}
+use Rattle.leap_table.specs.declared.rows.AnnouncedRows.{AnnouncedRows}
+use Rattle.leap_table.specs.rows.Announced.{tableOf}
 use Rattle.c_answers.specs.Fields.{fourBytes}
 use Rattle.c_answers.specs.table.TableBytes.{signed32, signedAt, signedFrom, recordIn, ofLength, tableBytes}
 use Rattle.c_answers.specs.table.RecordBytes.{pattern32, inFours, recordBytes, MachineRecord}
@@ -81,7 +81,7 @@ unfolding signedFrom
 from-length s at zero = refl
 from-length s at (suc n) = ap suc (from-length s (at + 4) n)
 
-module _ (t : LentRows) (held : MachineRecord t) where
+module _ (t : AnnouncedRows) (held : MachineRecord t) where
   abbrev ms : List ℕ
   ms = map pattern32 (t .months)
 

@@ -13,9 +13,9 @@ use borrow.Author.Count.{below-more}
 use borrow.Author.Tests.{eq-eqb, ne-eqb, eqb-true, leb-true, leb-false}
 use Rattle.refusals.specs.Outcome.{Outcome, answer}
 use Rattle.numerals.specs.little_endian.LittleEndian.{u32At}
-use Rattle.leap_table.specs.declared.rows.LentRows.{LentRows}
+use Rattle.leap_table.specs.declared.rows.AnnouncedRows.{AnnouncedRows}
 use Rattle.leap_table.specs.rows.Table.{Row, fixed}
-use Rattle.leap_table.specs.rows.Lent.{least, lentSize, rowsOf, rowsIn, lentTable, tableOf, unlessRefused, Judged}
+use Rattle.leap_table.specs.rows.Announced.{least, announcedSize, rowsOf, rowsIn, announcedTable, tableOf, unlessRefused, Judged}
 use Rattle.leap_table.proofs.rows.Tables.{least-right}
 use Rattle.leap_table.proofs.rows.TableLaws.{spare-unread}
 use Rattle.leap_table.proofs.rows.ByParts.{least-low, rows-in}
@@ -64,18 +64,18 @@ fewer m n = go (leb m n) refl (leb m 16) refl
 abbrev Reads : List ℕ → ℕ → ℕ → List ℤ → Type 0
 Reads s at n l = (i : ℕ) → i < n → getD l i (pos 0) ≡ signedAt s (at + 4 * i)
 
-pub same-table : (s : List ℕ) (t : LentRows) → t .«months_size» ≡ u32At s 0 → t .«seconds_size» ≡ u32At s 4
+pub same-table : (s : List ℕ) (t : AnnouncedRows) → t .«months_size» ≡ u32At s 0 → t .«seconds_size» ≡ u32At s 4
     → Reads s 8 (least (t .«months_size») 16) (t .months) → Reads s 72 (least (t .«months_size») 16) (t .seconds) → tableOf t ≡ tableOf (recordIn s)
-unfolding lentSize
+unfolding announcedSize
 same-table s t p q ms ss =
-    let most : lentSize t ≤ least (t .«months_size») 16 = fewer (t .«months_size») (t .«seconds_size») in
+    let most : announcedSize t ≤ least (t .«months_size») 16 = fewer (t .«months_size») (t .«seconds_size») in
     let few : least (t .«months_size») 16 ≤ 16 = least-right (t .«months_size») 16 in
     spare-unread t (recordIn s) p q (λ i h.
     let k : i < least (t .«months_size») 16 = omega arith in
     (ms i k ∙ sym (place-of s 8 16 i (omega arith)), ss i k ∙ sym (place-of s 72 16 i (omega arith))))
 
 -- ---- by the length
-pub of-136 : (s : List ℕ) (t : LentRows) → length s ≡ 136 → tableOf t ≡ tableOf (recordIn s) → ofLength (length s) (tableOf t) ≡ tableBytes s
+pub of-136 : (s : List ℕ) (t : AnnouncedRows) → length s ≡ 136 → tableOf t ≡ tableOf (recordIn s) → ofLength (length s) (tableOf t) ≡ tableBytes s
 unfolding tableBytes
 of-136 s t e p = ap (ofLength (length s)) p
 
@@ -91,12 +91,12 @@ both-none a b e = go (eqb a 0) refl e
     go true p q = (eqb-true a 0 p, eqb-true b 0 q)
     go false p q = absurd (true≢false (sym q))
 
-pub reads-none : (s : List ℕ) (t : LentRows) (a b : ℕ) → a ≡ u32At s 0 → b ≡ u32At s 4 → eqb a 0 && eqb b 0 ≡ true → tableOf t ≡ answer fixed → tableOf t ≡ tableOf (recordIn s)
+pub reads-none : (s : List ℕ) (t : AnnouncedRows) (a b : ℕ) → a ≡ u32At s 0 → b ≡ u32At s 4 → eqb a 0 && eqb b 0 ≡ true → tableOf t ≡ answer fixed → tableOf t ≡ tableOf (recordIn s)
 reads-none s t a b p q e f =
     let (x, y) = both-none a b e in
     f ∙ sym (table-none (recordIn s) (sym p ∙ x) (sym q ∙ y))
 
-pub refuses-none : (n : ℕ) (t : LentRows) → n ≡ 136 → eqb (t .«months_size») 0 && eqb (t .«seconds_size») 0 ≡ true → answer (rowsOf t) ≡ ofLength n (tableOf t)
+pub refuses-none : (n : ℕ) (t : AnnouncedRows) → n ≡ 136 → eqb (t .«months_size») 0 && eqb (t .«seconds_size») 0 ≡ true → answer (rowsOf t) ≡ ofLength n (tableOf t)
 unfolding ofLength
 refuses-none n t h e =
     let (x, y) = both-none (t .«months_size») (t .«seconds_size») e in
@@ -104,7 +104,7 @@ refuses-none n t h e =
     ap answer (none-rows t f) ∙ sym f ∙ rw (eq-eqb n 136 h)
 
 -- ---- a size and two arrays: where the table is taken, their rows are its rows
-pub by-arrays : (t : LentRows) (n : ℕ) → unlessRefused n (rowsOf t) ≡ tableOf t → unlessRefused n (rowsIn (least (t .«months_size») 16) (t .months) (t .seconds)) ≡ tableOf t
+pub by-arrays : (t : AnnouncedRows) (n : ℕ) → unlessRefused n (rowsOf t) ≡ tableOf t → unlessRefused n (rowsIn (least (t .«months_size») 16) (t .months) (t .seconds)) ≡ tableOf t
 by-arrays t (suc k) e = e
 by-arrays t zero e =
     let k = when-taken t (rowsOf t) (sym e) in
@@ -116,15 +116,15 @@ of-length-136 n o h = rw (eq-eqb n 136 h)
 
 -- by the sizes a and b that were read
 module _ (n a b a′ b′ : ℕ) (m l : List ℤ) (p : a ≡ a′) (q : b ≡ b′) (h : n ≡ 136) where
-  pub arrays-judged : (number : ℕ) → Judged number (lentTable a b m l) → unlessRefused number (rowsIn (least a′ 16) m l) ≡ ofLength n (tableOf (lentTable a′ b′ m l))
+  pub arrays-judged : (number : ℕ) → Judged number (announcedTable a b m l) → unlessRefused number (rowsIn (least a′ 16) m l) ≡ ofLength n (tableOf (announcedTable a′ b′ m l))
   arrays-judged number e =
-      by-arrays (lentTable a′ b′ m l) number (subst (λ (x : ℕ). Judged number (lentTable x b′ m l)) p (subst (λ (y : ℕ). Judged number (lentTable a y m l)) q e))
-      ∙ of-length-136 n (tableOf (lentTable a′ b′ m l)) h
+      by-arrays (announcedTable a′ b′ m l) number (subst (λ (x : ℕ). Judged number (announcedTable x b′ m l)) p (subst (λ (y : ℕ). Judged number (announcedTable a y m l)) q e))
+      ∙ of-length-136 n (tableOf (announcedTable a′ b′ m l)) h
 
 -- what was read of the bytes is their table
-pub arrays-of-bytes : (s : List ℕ) (m l : List ℤ) → ReadFrom s 8 m → ReadFrom s 72 l → ofLength (length s) (tableOf (lentTable (u32At s 0) (u32At s 4) m l)) ≡ tableBytes s
+pub arrays-of-bytes : (s : List ℕ) (m l : List ℤ) → ReadFrom s 8 m → ReadFrom s 72 l → ofLength (length s) (tableOf (announcedTable (u32At s 0) (u32At s 4) m l)) ≡ tableBytes s
 unfolding tableBytes
-arrays-of-bytes s m l p q = ap (ofLength (length s)) (same-table s (lentTable (u32At s 0) (u32At s 4) m l) refl refl p q)
+arrays-of-bytes s m l p q = ap (ofLength (length s)) (same-table s (announcedTable (u32At s 0) (u32At s 4) m l) refl refl p q)
 
 -- ---- what is read into two arrays and judged is the table of the bytes
 pub read-14 : (s : List ℕ) (rows : List Row) → (length s ≡ 136 → ⊥) → unlessRefused 14 rows ≡ tableBytes s
@@ -133,7 +133,7 @@ read-14 s rows h = rw (ne-eqb (length s) 136 h)
 
 module _ (s : List ℕ) (a b : ℕ) (m l : List ℤ) (p : a ≡ u32At s 0) (q : b ≡ u32At s 4) (h : length s ≡ 136) where
   pub read-judged : (size number : ℕ) → size ≡ least a 16 → ((i : ℕ) → i < size → getD m i (pos 0) ≡ signedAt s (8 + 4 * i)) → ((i : ℕ) → i < size → getD l i (pos 0) ≡ signedAt s (72 + 4 * i))
-      → Judged number (lentTable a b m l) → unlessRefused number (rowsIn size m l) ≡ tableBytes s
+      → Judged number (announcedTable a b m l) → unlessRefused number (rowsIn size m l) ≡ tableBytes s
   read-judged size number e ms ss j =
       let k : size ≡ sizeIn s = e ∙ ap (λ (x : ℕ). least x 16) p in
       ap (λ (x : ℕ). unlessRefused number (rowsIn x m l)) k
@@ -143,8 +143,8 @@ module _ (s : List ℕ) (a b : ℕ) (m l : List ℤ) (p : a ≡ u32At s 0) (q : 
   pub read-none : eqb a 0 && eqb b 0 ≡ true → unlessRefused 0 (rowsIn 0 m l) ≡ tableBytes s
   read-none e =
       let (x, y) = both-none a b e in
-      let f = table-none (lentTable a b m l) x y in
-      read-judged 0 0 (none-of x) (λ i g. absurd (not-suc-le-zero g)) (λ i g. absurd (not-suc-le-zero g)) (ap answer (none-rows (lentTable a b m l) f) ∙ sym f)
+      let f = table-none (announcedTable a b m l) x y in
+      read-judged 0 0 (none-of x) (λ i g. absurd (not-suc-le-zero g)) (λ i g. absurd (not-suc-le-zero g)) (ap answer (none-rows (announcedTable a b m l) f) ∙ sym f)
     where
       none-of : a ≡ 0 → 0 ≡ least a 16
       none-of x = ap (λ (k : ℕ). least k 16) (sym x)

@@ -6,7 +6,7 @@ use lib.IntN.{ℤ, pos, negsuc}
 use lib.ListN.{length, getD}
 use mir.Syntax.{w32}
 use mir.Val.{SFits}
-use Rattle.leap_table.specs.declared.rows.LentRows.{LentRows}
+use Rattle.leap_table.specs.declared.rows.AnnouncedRows.{AnnouncedRows}
 use Rattle.c_answers.specs.Fields.{fourBytes}
 
 -- the pattern of a signed number, 32 bits in two's complement: -1 is all ones
@@ -20,11 +20,11 @@ inFours [] = []
 inFours (n ∷ l) = fourBytes n ++ inFours l
 
 -- two sizes, the month starts, the seconds
-abbrev pub recordBytes : LentRows → List ℕ
+abbrev pub recordBytes : AnnouncedRows → List ℕ
 recordBytes t = inFours (t .«months_size» ∷ (t .«seconds_size» ∷ (map pattern32 (t .months) ++ map pattern32 (t .seconds))))
 
 -- a record of the machine: two arrays of 16, and every number one of 32 bits
-pub record MachineRecord (t : LentRows) : Type 0 where
+pub record MachineRecord (t : AnnouncedRows) : Type 0 where
   pub months-size : t .«months_size» < 4294967296
   pub seconds-size : t .«seconds_size» < 4294967296
   pub sixteen-months : length (t .months) ≡ 16

@@ -10,9 +10,9 @@ use lib.ListN.{length, getD}
 use Rattle.refusals.specs.Outcome.{Outcome, refusal}
 use Rattle.numerals.specs.little_endian.LittleEndian.{u32At}
 unfoldable pub use Rattle.numerals.specs.little_endian.LittleEndian.{signed32}
-use Rattle.leap_table.specs.declared.rows.LentRows.{LentRows}
+use Rattle.leap_table.specs.declared.rows.AnnouncedRows.{AnnouncedRows}
 use Rattle.leap_table.specs.rows.Table.{Row}
-use Rattle.leap_table.specs.rows.Lent.{least, tableOf}
+use Rattle.leap_table.specs.rows.Announced.{least, tableOf}
 
 -- the signed number in the four bytes from `at` on
 abbrev pub signedAt : List ℕ → ℕ → ℤ
@@ -24,7 +24,7 @@ signedFrom s at zero = []
 signedFrom s at (suc n) = signedAt s at ∷ signedFrom s (at + 4) n
 
 -- the record in the bytes
-abbrev pub recordIn : List ℕ → LentRows
+abbrev pub recordIn : List ℕ → AnnouncedRows
 recordIn s = record { «months_size» = u32At s 0; «seconds_size» = u32At s 4; months = signedFrom s 8 16; seconds = signedFrom s 72 16 }
 
 -- 14: a length other than 136

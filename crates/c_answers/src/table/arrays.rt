@@ -3,14 +3,14 @@ ghost use mathlib.Core.Path.{_≡_};
 ghost use Prim.Native.Nat.{ℕ, _+_, _*_, _<_, _≤_};
 ghost use lib.IntN.{pos};
 ghost use lib.ListN.{getD, length};
-ghost use Rattle.leap_table.specs.rows.Lent.{rowsIn, unlessRefused};
+ghost use Rattle.leap_table.specs.rows.Announced.{rowsIn, unlessRefused};
 ghost use Rattle.c_answers.specs.table.TableBytes.{signedAt, tableBytes};
 use super::i32_of_pattern;
 use super::lend_none;
 use super::places_of;
 
-// What was read: the number by which the table is turned away, 0 if it is not, and how many places of both arrays are its rows.
-pub struct Lent {
+// What was read: the number by which the table is refused, 0 if it is not, and how many places of both arrays are its rows.
+pub struct Announced {
     pub number: u32,
     pub size: usize,
 }
@@ -29,11 +29,11 @@ fn put_numbers(bytes: &[u8], at: usize, size: usize, numbers: &mut [i32; 16])
 
 // Reads a table from its bytes into two arrays, each size once, and judges it: 14 the length, then the tests of the table. Of a table of no rows nothing is read but the sizes.
 // That each array has 16 places its type says.
-pub fn read_table(bytes: &[u8], months: &mut [i32; 16], seconds: &mut [i32; 16]) -> Lent
+pub fn read_table(bytes: &[u8], months: &mut [i32; 16], seconds: &mut [i32; 16]) -> Announced
     ensures { λ r. ⌜ (length (now (months .entry)) ≡ 16 → length (now (seconds .entry)) ≡ 16 → unlessRefused (r .number) (rowsIn (r .size) (now (months .exit)) (now (seconds .exit))) ≡ tableBytes (now (bytes .entry))) × (r .size ≤ 16) ⌝ }
 {
     if bytes.len() != 136 {
-        return Lent {
+        return Announced {
             number: refusals::BLOCK_LENGTH_WRONG,
             size: 0,
         };
@@ -41,11 +41,11 @@ pub fn read_table(bytes: &[u8], months: &mut [i32; 16], seconds: &mut [i32; 16])
     let months_size = numerals::little_endian::u32_at(bytes, 0);
     let seconds_size = numerals::little_endian::u32_at(bytes, 4);
     if lend_none(months_size, seconds_size) {
-        return Lent { number: 0, size: 0 };
+        return Announced { number: 0, size: 0 };
     }
     let size = places_of(months_size);
     put_numbers(bytes, 8, size, months);
     put_numbers(bytes, 72, size, seconds);
-    let number = leap_table::rows::lent_refusal(months_size, seconds_size, months, seconds);
-    Lent { number, size }
+    let number = leap_table::rows::announced_refusal(months_size, seconds_size, months, seconds);
+    Announced { number, size }
 }

@@ -13,7 +13,7 @@ use Rattle.leap_table.specs.rows.Table.{Row}
 use Rattle.utc.specs.declared.text.TextAnswer.{TextAnswer}
 use Rattle.utc.specs.declared.text.TextAnswer.the-variants.{Written, Refused}
 use Rattle.utc.specs.text.Answer.{textOutcome, textWritten, bufferAfter}
-use Rattle.utc.specs.iso_texts.Sheet.{Sheet}
+use Rattle.utc.specs.iso_texts.TextForm.{TextForm}
 use Rattle.utc.specs.iso_texts.IsoText.{isoTextBy}
 use Rattle.utc.specs.laws.OneText.{Division, EveryCall}
 use Rattle.utc.specs.iso_texts.TextCall.{written, bufferHolds, TextCall}
@@ -29,10 +29,10 @@ text-call {o} {l} {out} {r} p = go (written o (length l)) refl
     go (refusal k) e = (Refused k, record { says = sym e; holds = p .holds }, p .returned ∙ ap code e)
 
 -- so what holds of every call for the text of a date holds of every call from C: with utc's `text-for-every-buffer`, DEMAND 3
-pub every-return : (sheet : Sheet) (rows : List Row) (sum : ℤ) (P : List ℕ → TextAnswer → List ℕ → Type 0) → EveryCall sheet rows sum P
-    → (jd : JulianDate) → Division sum jd → (l out : List ℕ) (r : ℤ) → Delivered (isoTextBy sheet rows jd) l r out
+pub every-return : (textForm : TextForm) (rows : List Row) (sum : ℤ) (P : List ℕ → TextAnswer → List ℕ → Type 0) → EveryCall textForm rows sum P
+    → (jd : JulianDate) → Division sum jd → (l out : List ℕ) (r : ℤ) → Delivered (isoTextBy textForm rows jd) l r out
     → (a : TextAnswer) × P l a out × (r ≡ code (textOutcome a))
-every-return sheet rows sum P f jd d l out r p = let (a, c, e) = text-call p in (a, f jd d l a out c, e)
+every-return textForm rows sum P f jd d l out r p = let (a, c, e) = text-call p in (a, f jd d l a out c, e)
 
 -- ---- a negative return is a refusal's number, and leaves the buffer
 pub negative-number : {o : Outcome (List ℕ)} {l out : List ℕ} {m : ℕ} → Delivered o l (negsuc m) out → written o (length l) ≡ refusal (suc m)

@@ -15,7 +15,7 @@ use Rattle.leap_table.specs.rows.Table.{Row}
 use Rattle.leap_table.specs.offsets.Rule.{forget}
 use Rattle.utc.specs.text.Answer.{textWritten, bufferAfter}
 use Rattle.utc.specs.iso_texts.TextCall.{written, bufferHolds}
-use Rattle.utc.specs.iso_texts.Sheet.{Sheet}
+use Rattle.utc.specs.iso_texts.TextForm.{TextForm}
 use Rattle.utc.specs.iso_texts.IsoText.{isoTextBy}
 use Rattle.utc.specs.iso_texts.ByRule.{textByRule}
 use Rattle.utc.proofs.iso_texts.TextRules.{text-forgets}
@@ -40,9 +40,9 @@ module _ (before second : List ℕ) (r : ℤ) (after after-second : List ℕ) (r
   text-delivered (answer t) d = fits-both (t .0) (ruleBytes (t .1)) (leb (length (t .0)) (length before)) refl (le-leb 8 (length second) room) (d .returned) (d .holds)
   text-delivered (refusal k) d = record { returned = d .returned; holds = d .holds }
 
-  -- by the rows of a table, or with what it is turned away by
-  pub iso-delivered : (sheet : Sheet) (table : Outcome (List Row)) (jd : JulianDate) → DeliveredTwo (ruled (onward table (λ rows. textByRule sheet rows jd))) before second r after after-second
-      → Delivered (onward table (λ rows. isoTextBy sheet rows jd)) before r after
+  -- by the rows of a table, or with what it is refused by
+  pub iso-delivered : (textForm : TextForm) (table : Outcome (List Row)) (jd : JulianDate) → DeliveredTwo (ruled (onward table (λ rows. textByRule textForm rows jd))) before second r after after-second
+      → Delivered (onward table (λ rows. isoTextBy textForm rows jd)) before r after
   unfolding onward forget
-  iso-delivered sheet (answer rows) jd d = subst (λ (o : Outcome (List ℕ)). Delivered o before r after) (text-forgets sheet rows jd) (text-delivered (textByRule sheet rows jd) d)
-  iso-delivered sheet (refusal k) jd d = text-delivered (refusal k) d
+  iso-delivered textForm (answer rows) jd d = subst (λ (o : Outcome (List ℕ)). Delivered o before r after) (text-forgets textForm rows jd) (text-delivered (textByRule textForm rows jd) d)
+  iso-delivered textForm (refusal k) jd d = text-delivered (refusal k) d

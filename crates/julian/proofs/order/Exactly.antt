@@ -21,7 +21,7 @@ use Rattle.julian.specs.Equality.{twoSumError, exactSum, sums, FiniteSum
 use Rattle.julian.specs.Equality as E
 use Rattle.julian.specs.Worth.{Worth, SmallParts}
 use Rattle.julian.proofs.Equality.{SumAndError, sums-of, small-sums, equal-sums}
-use Rattle.julian.specs.order.Order.{Order, comesBefore, sameSum, comesAfter, sooner, dateOrder, comparison, orderOf, notAfter, isEqual, DeadDate, first-dead, second-dead}
+use Rattle.julian.specs.order.Order.{Order, comesBefore, sameSum, comesAfter, sooner, dateOrder, comparison, orderOf, notAfter, isEqual, PartNotFinite, first-not-finite, second-not-finite}
 
 -- ---- the error is finite only where the parts and the sum are
 pub finite-error : (d : JulianDate) → T (finite (sums d .error)) → T (finite (d .jd1)) × (T (finite (d .jd2)) × T (finite (sums d .sum)))
@@ -143,15 +143,15 @@ no : (b : Bool) → b ≡ false → T b → ⊥
 no true e h = true≢false e
 no false e h = h
 
-dead-error : (d : JulianDate) → DeadDate d → T (finite (sums d .error)) → ⊥
-dead-error d (first-dead e) h = no (finite (d .jd1)) e (finite-error d h .0)
-dead-error d (second-dead e) h = no (finite (d .jd2)) e (finite-error d h .1 .0)
+not-finite-error : (d : JulianDate) → PartNotFinite d → T (finite (sums d .error)) → ⊥
+not-finite-error d (first-not-finite e) h = no (finite (d .jd1)) e (finite-error d h .0)
+not-finite-error d (second-not-finite e) h = no (finite (d .jd2)) e (finite-error d h .1 .0)
 
-pub dead-first : (d e : JulianDate) → DeadDate d → comparison d e ≡ refusal 9
-dead-first d e h = nine d e (inl (dead-error d h))
+pub not-finite-first : (d e : JulianDate) → PartNotFinite d → comparison d e ≡ refusal 9
+not-finite-first d e h = nine d e (inl (not-finite-error d h))
 
-pub dead-second : (d e : JulianDate) → DeadDate e → comparison d e ≡ refusal 9
-dead-second d e h = nine d e (inr (dead-error e h))
+pub not-finite-second : (d e : JulianDate) → PartNotFinite e → comparison d e ≡ refusal 9
+not-finite-second d e h = nine d e (inr (not-finite-error e h))
 
 -- ---- hence it is a total order of the exact sums
 -- every date whose two-sum is finite has an exact sum

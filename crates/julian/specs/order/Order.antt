@@ -58,6 +58,6 @@ notAfter sameSum = true
 notAfter comesAfter = false
 
 -- a part of the date is not finite
-pub data DeadDate (d : JulianDate) : Type 0 where
-  first-dead : finite (d .jd1) ≡ false → DeadDate d
-  second-dead : finite (d .jd2) ≡ false → DeadDate d
+pub data PartNotFinite (d : JulianDate) : Type 0 where
+  first-not-finite : finite (d .jd1) ≡ false → PartNotFinite d
+  second-not-finite : finite (d .jd2) ≡ false → PartNotFinite d

@@ -18,7 +18,7 @@ use Rattle.calendar.specs.Refusals.{validDate}
 use Rattle.calendar.proofs.Months.{months}
 use Rattle.calendar.proofs.Signs.{at-least-one}
 use Rattle.calendar.proofs.Accepted.{Accepted, date-accepted, month-days}
-use Rattle.leap_table.specs.rows.Lent.{unlessRefused}
+use Rattle.leap_table.specs.rows.Announced.{unlessRefused}
 use Rattle.leap_table.specs.declared.judging.Triple.{Triple}
 use Rattle.leap_table.specs.judging.Judging.{triple, earlier, validTriple, judgedNext, judgedAfter, judgedAll}
 use Rattle.leap_table.specs.judging.Lists.{datesFrom}

@@ -8,9 +8,9 @@ use lib.ListN.{length}
 use borrow.Author.Tests.{le-leb, lt-leb}
 use Rattle.refusals.specs.Outcome.{Outcome, answer, refusal, onward}
 use Rattle.leap_table.specs.rows.Table.{Row}
-use Rattle.leap_table.specs.rows.Lent.{rowsOf, tableOf, unlessRefused}
-use Rattle.leap_table.specs.declared.rows.LentRows.{LentRows}
-use Rattle.leap_table.proofs.rows.TablesTaken.{turned-away, taken}
+use Rattle.leap_table.specs.rows.Announced.{rowsOf, tableOf, unlessRefused}
+use Rattle.leap_table.specs.declared.rows.AnnouncedRows.{AnnouncedRows}
+use Rattle.leap_table.proofs.rows.TablesTaken.{not-taken, taken}
 use Rattle.leap_table.specs.declared.judging.Triple.{Triple}
 use Rattle.leap_table.specs.judging.Judging.{judgedAll, judgedList}
 
@@ -33,12 +33,12 @@ module _ (dates : List Triple) (places : ℕ) where
   by-dates n e h k j = j ∙ sym (ap (λ (b : Bool). cond b (judgedAll dates) (refusal 11)) (le-leb (length dates) places (omega arith)))
 
 -- ---- with the table
-module _ (t : LentRows) (b : Bool) (dates : List Triple) (places : ℕ) where
+module _ (t : AnnouncedRows) (b : Bool) (dates : List Triple) (places : ℕ) where
   abbrev next : List Row → Outcome Unit
   next rows = judgedList b dates places
 
   pub table-away : (k : ℕ) → unlessRefused k (rowsOf t) ≡ tableOf t → (k ≡ 0 → ⊥) → unlessRefused k tt ≡ onward (tableOf t) next
-  table-away k e h = refused-any k tt h ∙ turned-away t k e next h
+  table-away k e h = refused-any k tt h ∙ not-taken t k e next h
 
   pub table-taken : (k : ℕ) → unlessRefused k (rowsOf t) ≡ tableOf t → k ≡ 0 → (o : Outcome Unit) → o ≡ judgedList b dates places → o ≡ onward (tableOf t) next
   table-taken k e h o p = p ∙ taken t k e next h

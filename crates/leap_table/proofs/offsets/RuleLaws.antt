@@ -1,5 +1,5 @@
 -- What a rule says: the row that it names is the last that has begun, the offset is that row's, and in every table that is taken the rows of places 0 to 13 drift, no row has
--- begun before 1960, and a lent row is one of place 42 or later. Assumes nothing.
+-- begun before 1960, and a announced row is one of place 42 or later. Assumes nothing.
 use mathlib.Core.Path.{_≡_, refl, ap, sym, subst, _∙_}
 use mathlib.Core.Bool.{Bool, true, false, not, cond}
 use mathlib.Core.List.{List, [], _∷_}
@@ -12,15 +12,15 @@ use lib.Ieee.{Float}
 use borrow.Author.Tests.{ltb-true, ltb-false, lt-ltb, le-ltb}
 use Rattle.refusals.specs.Outcome.{answer}
 use Rattle.floats.specs.Whole.{nought}
-use Rattle.leap_table.specs.declared.rows.LentRows.{LentRows}
+use Rattle.leap_table.specs.declared.rows.AnnouncedRows.{AnnouncedRows}
 use Rattle.leap_table.specs.declared.offsets.Rule.{Rule}
 use Rattle.leap_table.specs.declared.offsets.Rule.the-variants.{Absent, Drifting, Whole}
 use Rattle.leap_table.specs.rows.Table.{Row, fixed, starts, reached, LastBegun, monthNumber, none}
-use Rattle.leap_table.specs.rows.Lent.{lentRow, rowsTo, lentSize, rowsOf, tableOf}
+use Rattle.leap_table.specs.rows.Announced.{announcedRow, rowsTo, announcedSize, rowsOf, tableOf}
 use Rattle.leap_table.specs.offsets.Offset.{byRow, offsetBy, offsetAt}
 use Rattle.leap_table.specs.offsets.Rule.{ruleBy, ruleOf, ruleAt}
 use Rattle.leap_table.proofs.rows.Reached.{last-begun, none-begun, high}
-use Rattle.leap_table.proofs.rows.Tables.{table-length, table-drifts, lent-place, starts-more, starts-length, most-of-table, no-fewer}
+use Rattle.leap_table.proofs.rows.Tables.{table-length, table-drifts, announced-place, starts-more, starts-length, most-of-table, no-fewer}
 use Rattle.leap_table.proofs.rows.TablesTaken.{when-taken}
 use Rattle.leap_table.proofs.rows.TableLaws.{table-rises}
 use Rattle.leap_table.proofs.offsets.Years.{one-row}
@@ -76,7 +76,7 @@ module _ (rows : List Row) (n : ℕ) where
   absent-offset e = by-place 0 (reached-by Absent e)
 
 -- ---- in every table
-module _ (t : LentRows) (n : ℕ) where
+module _ (t : AnnouncedRows) (n : ℕ) where
   abbrev k : ℕ
   k = reached (starts (rowsOf t)) n
 
@@ -87,7 +87,7 @@ module _ (t : LentRows) (n : ℕ) where
   unfolding ruleOf ruleBy
   by-fourteen i e =
       ap (ruleBy (rowsOf t)) e
-      ∙ ap (λ (b : Bool). cond b (Whole i) (Drifting i)) (table-drifts t (lentSize t) i (omega (arith, e, most-of-table t (lentSize t) n)))
+      ∙ ap (λ (b : Bool). cond b (Whole i) (Drifting i)) (table-drifts t (announcedSize t) i (omega (arith, e, most-of-table t (announcedSize t) n)))
       ∙ go (ltb i 14)
     where
       go : (b : Bool) → cond (not b) (Whole i) (Drifting i) ≡ cond b (Drifting i) (Whole i)
@@ -125,30 +125,30 @@ module _ (t : LentRows) (n : ℕ) where
     where
       go : (b : Bool) → ltb n 23520 ≡ b → n < 23520
       go true p = ltb-true n 23520 p
-      go false p = absurd (omega (arith, reached-by (rowsOf t) n Absent e, no-fewer t (lentSize t) n, one-row n (ltb-false n 23520 p)))
+      go false p = absurd (omega (arith, reached-by (rowsOf t) n Absent e, no-fewer t (announcedSize t) n, one-row n (ltb-false n 23520 p)))
 
-  -- a lent row has place 42 or a later one
-  pub whole-lent : (i : ℕ) → ruleOf (rowsOf t) n ≡ Whole (42 + i) → (i < lentSize t) × (getD (rowsOf t) (42 + i) none ≡ lentRow t i)
+  -- a announced row has place 42 or a later one
+  pub whole-announced : (i : ℕ) → ruleOf (rowsOf t) n ≡ Whole (42 + i) → (i < announcedSize t) × (getD (rowsOf t) (42 + i) none ≡ announcedRow t i)
   unfolding place
-  whole-lent i e =
-      let h : i < lentSize t = omega (arith, reached-by (rowsOf t) n (Whole (42 + i)) e, most-of-table t (lentSize t) n) in
-      (h, lent-place t (lentSize t) i h)
+  whole-announced i e =
+      let h : i < announcedSize t = omega (arith, reached-by (rowsOf t) n (Whole (42 + i)) e, most-of-table t (announcedSize t) n) in
+      (h, announced-place t (announcedSize t) i h)
 
 -- the first row begins in January 1960
-first-start : (t : LentRows) (j : ℕ) → getD (starts (rowsTo t j)) 0 0 ≡ 23520
+first-start : (t : AnnouncedRows) (j : ℕ) → getD (starts (rowsTo t j)) 0 0 ≡ 23520
 unfolding rowsTo fixed
 first-start t zero = refl
 first-start t (suc j) =
     ap (λ (l : List ℕ). getD l 0 0) (starts-more t j)
-    ∙ List·getD-append (starts (rowsTo t j)) (lentRow t j .month ∷ []) 0 0 (omega (arith, starts-length t j))
+    ∙ List·getD-append (starts (rowsTo t j)) (announcedRow t j .month ∷ []) 0 0 (omega (arith, starts-length t j))
     ∙ first-start t j
 
-pub before-1960-absent : (t : LentRows) (rows : List Row) → tableOf t ≡ answer rows → (n : ℕ) → n < 23520 → ruleOf rows n ≡ Absent
+pub before-1960-absent : (t : AnnouncedRows) (rows : List Row) → tableOf t ≡ answer rows → (n : ℕ) → n < 23520 → ruleOf rows n ≡ Absent
 unfolding ruleOf ruleBy
 before-1960-absent t rows e n h =
     let a = when-taken t rows e .all in
-    let p = ap (λ (l : List Row). getD (starts l) 0 0) a ∙ first-start t (lentSize t) in
-    let q = ap (λ (l : List Row). length (starts l)) a ∙ starts-length t (lentSize t) in
+    let p = ap (λ (l : List Row). getD (starts l) 0 0) a ∙ first-start t (announcedSize t) in
+    let q = ap (λ (l : List Row). length (starts l)) a ∙ starts-length t (announcedSize t) in
     ap (ruleBy rows) (none-left (reached (starts rows) n) (high (starts rows) (table-rises t rows e) 0 n (omega (arith, q)) (omega (arith, p, h))))
   where
     none-left : (k : ℕ) → k ≤ 0 → k ≡ 0

@@ -16,16 +16,16 @@ use lib.Ieee.Scale.{round-same}
 use lib.Ieee.Fits.{and-l, and-r}
 use borrow.Author.Tests.{ltb-true, ltb-false}
 use Rattle.refusals.specs.Outcome.{answer}
-use Rattle.leap_table.specs.declared.rows.LentRows.{LentRows}
+use Rattle.leap_table.specs.declared.rows.AnnouncedRows.{AnnouncedRows}
 use Rattle.leap_table.specs.rows.Table.{Row, fixed, starts, reached, rising, none}
-use Rattle.leap_table.specs.rows.Lent.{secondsAt, lentRow, rowsTo, lentSize, rowsOf, oneApart, oneSecond, bySeconds, tableOf}
+use Rattle.leap_table.specs.rows.Announced.{secondsAt, announcedRow, rowsTo, announcedSize, rowsOf, oneApart, oneSecond, bySeconds, tableOf}
 use Rattle.leap_table.specs.offsets.Offset.{secondsOf, byRow, offsetBy, offsetAt, secondsIn, wholeF}
 use Rattle.leap_table.proofs.rows.Reached.{at-most, member, month-later}
 use Rattle.leap_table.proofs.rows.Rows.{every, at}
 use Rattle.leap_table.proofs.rows.InTurn.{in-turn-at, all-hold}
-use Rattle.leap_table.proofs.rows.Tables.{table-length, fixed-place, lent-place, lent-passed, most-of-table, monthBefore, rises-more}
+use Rattle.leap_table.proofs.rows.Tables.{table-length, fixed-place, announced-place, announced-passed, most-of-table, monthBefore, rises-more}
 use Rattle.leap_table.proofs.rows.TablesTaken.{Taken, when-taken, all-count}
-use Rattle.leap_table.proofs.rows.TableLaws.{near, high-month, table-rises, lent-seconds-near}
+use Rattle.leap_table.proofs.rows.TableLaws.{near, high-month, table-rises, announced-seconds-near}
 use Rattle.leap_table.proofs.offsets.TableYears.{whole-rows-of, row-seconds-of}
 
 -- ---- the fixed rows from place 14 on are 10 to 37 whole seconds: computed
@@ -66,28 +66,28 @@ fixed-starts : length (starts fixed) ≡ 42
 unfolding fixed
 fixed-starts = refl
 
-placed : (t : LentRows) (n j : ℕ) → j ≤ 42 → (mjd f : Float) → offsetBy (rowsTo t n) j mjd f ≡ offsetBy fixed j mjd f
+placed : (t : AnnouncedRows) (n j : ℕ) → j ≤ 42 → (mjd f : Float) → offsetBy (rowsTo t n) j mjd f ≡ offsetBy fixed j mjd f
 unfolding offsetBy
 placed t n zero h mjd f = refl
 placed t n (suc j) h mjd f = ap (λ (r : Row). byRow r mjd f) (fixed-place t n j (omega arith))
 
-module _ (t : LentRows) (rows : List Row) (e : tableOf t ≡ answer rows) where
+module _ (t : AnnouncedRows) (rows : List Row) (e : tableOf t ≡ answer rows) where
   abbrev k : Taken t rows
   k = when-taken t rows e
 
   abbrev M : ℕ
   M = t .«months_size»
 
-  size-is : lentSize t ≡ M
+  size-is : announcedSize t ≡ M
   size-is = all-count t (k .one-size) (k .most)
 
   length-is : length rows ≡ 42 + M
-  length-is = ap length (k .all) ∙ table-length t (lentSize t) ∙ ap (λ (n : ℕ). 42 + n) size-is
+  length-is = ap length (k .all) ∙ table-length t (announcedSize t) ∙ ap (λ (n : ℕ). 42 + n) size-is
 
   -- ---- the rows from place 14 on
-  lent-whole : (i : ℕ) → i < M → WholeRow (lentRow t i) 10 53
-  lent-whole i h =
-      let (a, b) = lent-seconds-near t rows e i h in
+  announced-whole : (i : ℕ) → i < M → WholeRow (announcedRow t i) 10 53
+  announced-whole i h =
+      let (a, b) = announced-seconds-near t rows e i h in
       let g = k .most in
       record { units = back (secondsAt t i); at-least = omega (arith, back′ (secondsAt t i), a, h, g); at-most = omega (arith, back′ (secondsAt t i), b, h, g) }
     where
@@ -113,8 +113,8 @@ module _ (t : LentRows) (rows : List Row) (e : tableOf t ≡ answer rows) where
       go true p = subst (λ (r : Row). WholeRow r 10 53) (sym (in-rows i ∙ fixed-place t M i (ltb-true i 42 p))) (wider (fixed-whole i h (ltb-true i 42 p)))
       go false p =
           let g = ltb-false i 42 p in
-          subst (λ (r : Row). WholeRow r 10 53) (sym (in-rows i ∙ ap (λ (j : ℕ). getD (rowsTo t M) j none) (sym (place i g)) ∙ lent-place t M (i - 42) (omega (arith, l, length-is))))
-          (lent-whole (i - 42) (omega (arith, l, length-is)))
+          subst (λ (r : Row). WholeRow r 10 53) (sym (in-rows i ∙ ap (λ (j : ℕ). getD (rowsTo t M) j none) (sym (place i g)) ∙ announced-place t M (i - 42) (omega (arith, l, length-is))))
+          (announced-whole (i - 42) (omega (arith, l, length-is)))
 
   pub row-step : (i : ℕ) → 14 ≤ i → suc i < length rows → oneSecond (getD rows i none) (getD rows (suc i) none) ≡ true
   row-step i h l =
@@ -137,7 +137,7 @@ module _ (t : LentRows) (rows : List Row) (e : tableOf t ≡ answer rows) where
     low-rows = subst (λ (l : List Row). 15 ≤ reached (starts l) n) (sym (k .all)) (whole-rows-of t n h)
 
     high-rows : R ≤ length rows
-    high-rows = subst (λ (l : List Row). reached (starts l) n ≤ length l) (sym (k .all)) (omega (arith, most-of-table t (lentSize t) n, table-length t (lentSize t)))
+    high-rows = subst (λ (l : List Row). reached (starts l) n ≤ length l) (sym (k .all)) (omega (arith, most-of-table t (announcedSize t) n, table-length t (announcedSize t)))
 
     whole-here : WholeRow (getD rows (R - 1) none) 10 53
     whole-here = row-whole (R - 1) (omega (arith, low-rows)) (omega (arith, low-rows, high-rows))
@@ -168,7 +168,7 @@ module _ (t : LentRows) (rows : List Row) (e : tableOf t ≡ answer rows) where
         next j g = omega arith
 
         most-later : reached (starts rows) (suc n) ≤ length rows
-        most-later = subst (λ (l : List Row). reached (starts l) (suc n) ≤ length l) (sym (k .all)) (omega (arith, most-of-table t (lentSize t) (suc n), table-length t (lentSize t)))
+        most-later = subst (λ (l : List Row). reached (starts l) (suc n) ≤ length l) (sym (k .all)) (omega (arith, most-of-table t (announcedSize t) (suc n), table-length t (announcedSize t)))
 
   -- ---- before February 2017 the table is the fixed one
   none-begun-yet : (i : ℕ) → i ≤ M → (n : ℕ) → n < 24205 → reached (starts (rowsTo t i)) n ≡ reached (starts fixed) n
@@ -176,12 +176,12 @@ module _ (t : LentRows) (rows : List Row) (e : tableOf t ≡ answer rows) where
   none-begun-yet zero g n h = refl
   none-begun-yet (suc i) g n h =
       let s : rising (starts (rowsTo t M)) ≡ true = ap (λ (j : ℕ). rising (starts (rowsTo t j))) (sym size-is) ∙ k .in-order in
-      let (p, q) = all-hold (λ j. rising (starts (rowsTo t j))) (λ j. ltb (monthBefore t j) (lentRow t j .month)) (rises-more t) M s i g in
-      lent-passed t i n (omega (arith, high-month t i p, ltb-true (monthBefore t i) (lentRow t i .month) q)) ∙ none-begun-yet i (omega arith) n h
+      let (p, q) = all-hold (λ j. rising (starts (rowsTo t j))) (λ j. ltb (monthBefore t j) (announcedRow t j .month)) (rises-more t) M s i g in
+      announced-passed t i n (omega (arith, high-month t i p, ltb-true (monthBefore t i) (announcedRow t i .month) q)) ∙ none-begun-yet i (omega arith) n h
 
-  pub same-before-lent : (n : ℕ) → n < 24205 → (mjd f : Float) → offsetAt rows n mjd f ≡ offsetAt fixed n mjd f
+  pub same-before-announced : (n : ℕ) → n < 24205 → (mjd f : Float) → offsetAt rows n mjd f ≡ offsetAt fixed n mjd f
   unfolding offsetAt
-  same-before-lent n h mjd f =
+  same-before-announced n h mjd f =
       ap (λ (l : List Row). offsetBy l (reached (starts l) n) mjd f) (k .all ∙ ap (rowsTo t) size-is)
       ∙ ap (λ (j : ℕ). offsetBy (rowsTo t M) j mjd f) (none-begun-yet M (omega arith) n h)
       ∙ in-fixed (reached (starts fixed) n) (at-most (starts fixed) n)

@@ -1,4 +1,4 @@
--- The whole seconds of the row reached, counted in the fixed rows from 1972 on and read in the lent ones. Assumes nothing.
+-- The whole seconds of the row reached, counted in the fixed rows from 1972 on and read in the announced ones. Assumes nothing.
 use mathlib.Core.Path.{_≡_, refl, ap, sym, _∙_}
 use mathlib.Core.Bool.{Bool, true, false, cond, _||_}
 use Prim.Native.Nat.{ℕ, _+_, _-_, _*_, _/_, _≤_, _<_}
@@ -8,14 +8,14 @@ use lib.ListN.{length, getD}
 use lib.IntN.{ℤ, pos, negsuc}
 use lib.Signed.{ltZ}
 use borrow.Author.Tests.{ltb-true, ltb-false, lt-ltb, le-ltb}
-use Rattle.leap_table.specs.declared.rows.LentRows.{LentRows}
+use Rattle.leap_table.specs.declared.rows.AnnouncedRows.{AnnouncedRows}
 use Rattle.leap_table.specs.rows.Table.{Row, fixed, starts, reached, monthNumber, none}
-use Rattle.leap_table.specs.rows.Lent.{secondsAt, lentSize, rowsOf}
+use Rattle.leap_table.specs.rows.Announced.{secondsAt, announcedSize, rowsOf}
 use Rattle.leap_table.specs.offsets.Offset.{secondsIn}
 use Rattle.leap_table.specs.offsets.WholeSeconds.{wholeSeconds}
 use Rattle.leap_table.proofs.rows.Rows.{every, at}
 use Rattle.leap_table.proofs.offsets.Years.{most-rows, whole-rows}
-use Rattle.leap_table.proofs.rows.Tables.{fixed-place, lent-place}
+use Rattle.leap_table.proofs.rows.Tables.{fixed-place, announced-place}
 
 -- ---- the row of place k, from 14 to 41, has k - 4 seconds: computed
 countTest : ℕ → Row → Bool
@@ -47,7 +47,7 @@ fixed-seconds n h =
     less : (j : ℕ) → 15 ≤ j → (j - 1) - 4 ≡ j - 5
     less j g = omega arith
 
-module _ (t : LentRows) (n k : ℕ) (e : k ≡ reached (starts (rowsOf t)) n) (low : 15 ≤ k) where
+module _ (t : AnnouncedRows) (n k : ℕ) (e : k ≡ reached (starts (rowsOf t)) n) (low : 15 ≤ k) where
   here : getD (rowsOf t) (k - 1) none .units / 10000000 ≡ secondsIn (rowsOf t) n
   here = ap (λ (j : ℕ). getD (rowsOf t) (j - 1) none .units / 10000000) e
 
@@ -55,16 +55,16 @@ module _ (t : LentRows) (n k : ℕ) (e : k ≡ reached (starts (rowsOf t)) n) (l
   in-fixed-row h =
       less k low
       ∙ sym (counted (k - 1) (omega arith) (omega arith))
-      ∙ ap (λ (r : Row). r .units / 10000000) (sym (fixed-place t (lentSize t) (k - 1) (omega arith)))
+      ∙ ap (λ (r : Row). r .units / 10000000) (sym (fixed-place t (announcedSize t) (k - 1) (omega arith)))
       ∙ here
     where
       less : (j : ℕ) → 15 ≤ j → j - 5 ≡ (j - 1) - 4
       less j g = omega arith
 
-  pub in-lent-row : 42 < k → k ≤ 42 + lentSize t → secondsAt t (k - 43) ≡ secondsIn (rowsOf t) n
-  in-lent-row h l =
+  pub in-announced-row : 42 < k → k ≤ 42 + announcedSize t → secondsAt t (k - 43) ≡ secondsIn (rowsOf t) n
+  in-announced-row h l =
       back (secondsAt t (k - 43))
-      ∙ ap (λ (r : Row). r .units / 10000000) (sym (lent-place t (lentSize t) (k - 43) (omega arith)))
+      ∙ ap (λ (r : Row). r .units / 10000000) (sym (announced-place t (announcedSize t) (k - 43) (omega arith)))
       ∙ ap (λ (j : ℕ). getD (rowsOf t) j none .units / 10000000) (place k h)
       ∙ here
     where
@@ -80,7 +80,7 @@ unfolding monthNumber
 late (pos y) m p h = omega (arith, ltb-false y 1972 p)
 late (negsuc y) m p h = let z : _≡_ {A = ℕ} 0 1 = cc in absurd (omega arith)
 
-module _ (t : LentRows) (y : ℤ) (m : ℕ) where
+module _ (t : AnnouncedRows) (y : ℤ) (m : ℕ) where
   pub no-year : ltZ y (pos 1972) ≡ true → 0 ≡ wholeSeconds (rowsOf t) y m
   unfolding wholeSeconds
   no-year p = rw p

@@ -1,4 +1,4 @@
--- A number of the lent rows counted from 0, as the machine tests and reads it.
+-- A number of the announced rows counted from 0, as the machine tests and reads it.
 -- Assumes nothing.
 use mathlib.Core.Path.{_≡_, refl, ap, sym, subst, _∙_}
 use mathlib.Core.Bool.{Bool, true, false, true≢false, cond}
@@ -11,7 +11,7 @@ use mir.Syntax.{w32}
 use mir.Val.{SFits, Fits, toZ, ofZ}
 use mir.Facts.{toZ-ofZ}
 use borrow.Author.Tests.{ltb-true, leb-true, leb-false}
-use Rattle.leap_table.specs.rows.Lent.{natural, least}
+use Rattle.leap_table.specs.rows.Announced.{natural, least}
 
 least-left : (a b : ℕ) → least a b ≤ a
 least-left a b = go (leb a b) refl
@@ -49,7 +49,7 @@ module _ (z : ℤ) (f : SFits w32 z) where
     pub counted : (natAbs (toZ w32 (ofZ w32 z)) ≡ natural z) × (natAbs (toZ w32 (ofZ w32 z)) < 2147483648)
     counted = (read .1, omega (arith, read .1, small z f))
 
--- a lent month has begun in month n where it is not above n cut at the largest lent number
+-- a announced month has begun in month n where it is not above n cut at the largest announced number
 pub begun-or-not : (z : ℤ) (n : ℕ) → SFits w32 z → (leZ z (pos (least n 2147483647)) ≡ true → natural z ≤ n) × (leZ z (pos (least n 2147483647)) ≡ false → n < natural z)
 begun-or-not (negsuc k) n f = (λ e. omega arith, λ e. absurd (true≢false e))
 begun-or-not (pos k) n f = (λ e. omega (arith, leb-true k (least n 2147483647) e, least-left n 2147483647), λ e. above (leb-false k (least n 2147483647) e))

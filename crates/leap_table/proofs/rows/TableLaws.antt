@@ -1,4 +1,4 @@
--- What becomes of a lent table, decided on the numbers as they are lent; and what is known of a table that is taken: its length, its order, the size of its seconds.
+-- What becomes of a announced table, decided on the numbers as they are announced; and what is known of a table that is taken: its length, its order, the size of its seconds.
 -- Places past the size are not read.
 -- Assumes nothing.
 use mathlib.Core.Path.{_≡_, refl, ap, sym, subst, _∙_}
@@ -15,9 +15,9 @@ use lib.Signed.{ltZ}
 use lib.ListN.{length, getD}
 use borrow.Author.Tests.{ltb-true, ltb-false, le-ltb, leb-true, leb-false, eqb-true, eqb-false, lt-leb, ne-eqb}
 use Rattle.refusals.specs.Outcome.{Outcome, answer, refusal}
-use Rattle.leap_table.specs.declared.rows.LentRows.{LentRows}
+use Rattle.leap_table.specs.declared.rows.AnnouncedRows.{AnnouncedRows}
 use Rattle.leap_table.specs.rows.Table.{Row, fixed, starts, rising, fixedRows, lastMonth, mostRows}
-use Rattle.leap_table.specs.rows.Lent.{natural, secondsAt, lentRow, rowsTo, least, lentSize, rowsOf, oneApart, bySeconds, tableOf, before, laterAt, OneStep, StepAt, Decision, sizes, order, step, taken}
+use Rattle.leap_table.specs.rows.Announced.{natural, secondsAt, announcedRow, rowsTo, least, announcedSize, rowsOf, oneApart, bySeconds, tableOf, before, laterAt, OneStep, StepAt, Decision, sizes, order, step, taken}
 use Rattle.leap_table.proofs.rows.InTurn.{all-hold, first-fails}
 use Rattle.leap_table.proofs.rows.Tables.{table-length, monthBefore, rises-more, secondsBefore, steps-more}
 use Rattle.leap_table.proofs.rows.TableTests.{rises-none, steps-none}
@@ -68,12 +68,12 @@ near b n e = go (eqb n (b + 1)) refl e
     go true p q = inl (eqb-true n (b + 1) p)
     go false p q = inr (eqb-true b (n + 1) q)
 
-module _ (t : LentRows) where
+module _ (t : AnnouncedRows) where
   abbrev risesTo : ℕ → Bool
   risesTo n = rising (starts (rowsTo t n))
 
   abbrev laterTo : ℕ → Bool
-  laterTo n = ltb (monthBefore t n) (lentRow t n .month)
+  laterTo n = ltb (monthBefore t n) (announcedRow t n .month)
 
   abbrev stepsTo : ℕ → Bool
   stepsTo n = bySeconds (rowsTo t n)
@@ -86,7 +86,7 @@ module _ (t : LentRows) where
   high-month zero e = omega arith
   high-month (suc i) e =
       let (p, q) = all-hold risesTo laterTo (rises-more t) (suc i) e i (omega arith) in
-      omega (arith, high-month i p, ltb-true (monthBefore t i) (lentRow t i .month) q)
+      omega (arith, high-month i p, ltb-true (monthBefore t i) (announcedRow t i .month) q)
 
   month-read : (i : ℕ) → risesTo i ≡ true → before (pos lastMonth) (t .months) i ≡ pos (monthBefore t i)
   month-read zero e = refl
@@ -159,7 +159,7 @@ module _ (t : LentRows) where
 is-true : (b : Bool) → b ≡ true → T b
 is-true b e = subst T (sym e) tt
 
-module _ (t : LentRows) (rows : List Row) (e : tableOf t ≡ answer rows) where
+module _ (t : AnnouncedRows) (rows : List Row) (e : tableOf t ≡ answer rows) where
   abbrev k : Taken t rows
   k = when-taken t rows e
 
@@ -168,12 +168,12 @@ module _ (t : LentRows) (rows : List Row) (e : tableOf t ≡ answer rows) where
 
   pub lengths : (length rows ≡ fixedRows + t .«months_size») × (length rows ≤ mostRows)
   lengths =
-      let l = ap length (k .all) ∙ table-length t (lentSize t) ∙ ap (λ (n : ℕ). fixedRows + n) (all-count t (k .one-size) (k .most)) in
+      let l = ap length (k .all) ∙ table-length t (announcedSize t) ∙ ap (λ (n : ℕ). fixedRows + n) (all-count t (k .one-size) (k .most)) in
       (l, omega (arith, l, k .most))
 
-  -- the seconds of lent row i, counted from 0, are within i + 1 of 37
-  pub lent-seconds-near : (i : ℕ) → i < t .«months_size» → (37 ≤ secondsAt t i + suc i) × (secondsAt t i ≤ 37 + suc i)
-  lent-seconds-near i h =
+  -- the seconds of announced row i, counted from 0, are within i + 1 of 37
+  pub announced-seconds-near : (i : ℕ) → i < t .«months_size» → (37 ≤ secondsAt t i + suc i) × (secondsAt t i ≤ 37 + suc i)
+  announced-seconds-near i h =
       let s = ap (λ (n : ℕ). bySeconds (rowsTo t n)) (sym (all-count t (k .one-size) (k .most))) ∙ k .by-ones in
       near-37 t (suc i) (holds-at (t .«months_size») s (suc i) h)
     where
@@ -188,7 +188,7 @@ module _ (t : LentRows) (rows : List Row) (e : tableOf t ≡ answer rows) where
           go false p = subst (λ (n : ℕ). bySeconds (rowsTo t n) ≡ true) (same j m p g) s
 
 -- ---- places past the size are not read
-module _ (t u : LentRows) where
+module _ (t u : AnnouncedRows) where
   same-rows : (n : ℕ) → ((i : ℕ) → i < n → (getD (t .months) i (pos 0) ≡ getD (u .months) i (pos 0)) × (getD (t .seconds) i (pos 0) ≡ getD (u .seconds) i (pos 0))) → rowsTo t n ≡ rowsTo u n
   unfolding rowsTo
   same-rows zero h = refl
@@ -196,11 +196,11 @@ module _ (t u : LentRows) where
       let (p, q) = h n (omega arith) in
       (λ i. same-rows n (λ j g. h j (omega arith)) i ++ (record { month = natural (p i); units = 10000000 * natural (q i); start = 0; rate = 0 } ∷ []))
 
-  pub spare-unread : t .«months_size» ≡ u .«months_size» → t .«seconds_size» ≡ u .«seconds_size» → ((i : ℕ) → i < lentSize t → (getD (t .months) i (pos 0) ≡ getD (u .months) i (pos 0)) × (getD (t .seconds) i (pos 0) ≡ getD (u .seconds) i (pos 0))) → tableOf t ≡ tableOf u
-  unfolding tableOf lentSize
+  pub spare-unread : t .«months_size» ≡ u .«months_size» → t .«seconds_size» ≡ u .«seconds_size» → ((i : ℕ) → i < announcedSize t → (getD (t .months) i (pos 0) ≡ getD (u .months) i (pos 0)) × (getD (t .seconds) i (pos 0) ≡ getD (u .seconds) i (pos 0))) → tableOf t ≡ tableOf u
+  unfolding tableOf announcedSize
   spare-unread p q h =
-      let r : rowsOf t ≡ rowsOf u = same-rows (lentSize t) h ∙ (λ i. rowsTo u (sized i)) in
+      let r : rowsOf t ≡ rowsOf u = same-rows (announcedSize t) h ∙ (λ i. rowsTo u (sized i)) in
       (λ i. cond (eqb (p i) (q i) && leb (p i) 16) (cond (rising (starts (r i))) (cond (bySeconds (r i)) (answer (r i)) (refusal 22)) (refusal 21)) (refusal 20))
     where
-      sized : lentSize t ≡ lentSize u
+      sized : announcedSize t ≡ announcedSize u
       sized = λ i. least (least (p i) (q i)) 16

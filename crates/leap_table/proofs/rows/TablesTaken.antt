@@ -1,4 +1,4 @@
--- A table is turned away by its number or taken with all its rows: what a call that tests the table answers, and what is known of a table that is taken.
+-- A table is refused by its number or taken with all its rows: what a call that tests the table answers, and what is known of a table that is taken.
 -- Assumes nothing.
 use mathlib.Core.Path.{_≡_, refl, ap, sym, _∙_}
 use mathlib.Core.Bool.{Bool, true, false, cond, _&&_}
@@ -8,16 +8,16 @@ use native.Mathlib.Omega.{arith}
 use lib.Dec.{eqb, leb}
 use borrow.Author.Tests.{eq-eqb, ne-eqb, le-leb, lt-leb, eqb-true, leb-true}
 use Rattle.refusals.specs.Outcome.{Outcome, answer, refusal, onward}
-use Rattle.leap_table.specs.declared.rows.LentRows.{LentRows}
+use Rattle.leap_table.specs.declared.rows.AnnouncedRows.{AnnouncedRows}
 use Rattle.leap_table.specs.rows.Table.{Row, fixed, starts, rising}
-use Rattle.leap_table.specs.rows.Lent.{rowsTo, least, lentSize, rowsOf, sizesFit, bySeconds, tableOf, unlessRefused}
+use Rattle.leap_table.specs.rows.Announced.{rowsTo, least, announcedSize, rowsOf, sizesFit, bySeconds, tableOf, unlessRefused}
 use Rattle.leap_table.proofs.rows.TableTests.{rises-none, steps-none}
 
 -- ---- the number of a table's refusal, and a call that goes on with its rows
-module _ {B : Type 0} (t : LentRows) (n : ℕ) (e : unlessRefused n (rowsOf t) ≡ tableOf t) (next : List Row → Outcome B) where
-  pub turned-away : (n ≡ 0 → ⊥) → refusal n ≡ onward (tableOf t) next
+module _ {B : Type 0} (t : AnnouncedRows) (n : ℕ) (e : unlessRefused n (rowsOf t) ≡ tableOf t) (next : List Row → Outcome B) where
+  pub not-taken : (n ≡ 0 → ⊥) → refusal n ≡ onward (tableOf t) next
   unfolding onward
-  turned-away h = go n h ∙ ap (λ (o : Outcome (List Row)). onward o next) e
+  not-taken h = go n h ∙ ap (λ (o : Outcome (List Row)). onward o next) e
     where
       go : (k : ℕ) → (k ≡ 0 → ⊥) → refusal k ≡ onward (unlessRefused k (rowsOf t)) next
       go zero h = absurd (h refl)
@@ -28,7 +28,7 @@ module _ {B : Type 0} (t : LentRows) (n : ℕ) (e : unlessRefused n (rowsOf t) �
   taken h = ap (λ (k : ℕ). onward (unlessRefused k (rowsOf t)) next) (sym h) ∙ ap (λ (o : Outcome (List Row)). onward o next) e
 
 -- ---- the three tests, as the code makes them
-module _ (t : LentRows) where
+module _ (t : AnnouncedRows) where
   abbrev M : ℕ
   M = t .«months_size»
 
@@ -46,8 +46,8 @@ module _ (t : LentRows) where
   sizes-fit : M ≡ S → M ≤ 16 → sizesFit t ≡ true
   sizes-fit e h = rw (eq-eqb M S e, le-leb M 16 h)
 
-  pub all-count : M ≡ S → M ≤ 16 → lentSize t ≡ M
-  unfolding lentSize
+  pub all-count : M ≡ S → M ≤ 16 → announcedSize t ≡ M
+  unfolding announcedSize
   all-count e h = rw (le-leb M S (omega arith), le-leb M 16 h)
 
   module _ (e : M ≡ S) (h : M ≤ 16) where
@@ -66,8 +66,8 @@ module _ (t : LentRows) where
     unfolding tableOf
     all-right p q = rw (sizes-fit e h, by-size (λ l. rising (starts l)) true p, by-size bySeconds true q)
 
--- ---- with no lent rows the table is the fixed one, whatever the places hold
-pub table-none : (t : LentRows) → t .«months_size» ≡ 0 → t .«seconds_size» ≡ 0 → tableOf t ≡ answer fixed
+-- ---- with no announced rows the table is the fixed one, whatever the places hold
+pub table-none : (t : AnnouncedRows) → t .«months_size» ≡ 0 → t .«seconds_size» ≡ 0 → tableOf t ≡ answer fixed
 unfolding rowsTo
 table-none t p q =
     let e : t .«months_size» ≡ t .«seconds_size» = cc in
@@ -78,14 +78,14 @@ table-none t p q =
     ∙ ap (λ (k : ℕ). answer (rowsTo t k)) (all-count t e h ∙ p)
 
 -- ---- a table that is taken
-pub record Taken (t : LentRows) (rows : List Row) : Type 0 where
+pub record Taken (t : AnnouncedRows) (rows : List Row) : Type 0 where
   pub all : rows ≡ rowsOf t
   pub one-size : t .«months_size» ≡ t .«seconds_size»
   pub most : t .«months_size» ≤ 16
   pub in-order : rising (starts (rowsOf t)) ≡ true
   pub by-ones : bySeconds (rowsOf t) ≡ true
 
-pub when-taken : (t : LentRows) (rows : List Row) → tableOf t ≡ answer rows → Taken t rows
+pub when-taken : (t : AnnouncedRows) (rows : List Row) → tableOf t ≡ answer rows → Taken t rows
 unfolding tableOf
 when-taken t rows e = go (eqb (t .«months_size») (t .«seconds_size»)) refl (leb (t .«months_size») 16) refl (rising (starts (rowsOf t))) refl (bySeconds (rowsOf t)) refl e
   where
@@ -96,5 +96,5 @@ when-taken t rows e = go (eqb (t .«months_size») (t .«seconds_size»)) refl (
     go true p false q c r d s z = let y : _≡_ {A = ℕ} 0 1 = cc in absurd (omega arith)
     go false p b q c r d s z = let y : _≡_ {A = ℕ} 0 1 = cc in absurd (omega arith)
 
-pub none-rows : (t : LentRows) → tableOf t ≡ answer fixed → rowsOf t ≡ fixed
+pub none-rows : (t : AnnouncedRows) → tableOf t ≡ answer fixed → rowsOf t ≡ fixed
 none-rows t e = sym (when-taken t fixed e .all)

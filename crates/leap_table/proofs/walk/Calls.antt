@@ -1,4 +1,4 @@
--- The call as a whole: its refusals in their order, what is known where nothing is refused, and what the lent list holds. Assumes nothing.
+-- The call as a whole: its refusals in their order, what is known where nothing is refused, and what the announced list holds. Assumes nothing.
 use Prim.Native.Nat.{ℕ, zero, suc, _≤_}
 use native.Mathlib.Omega.{arith}
 use mathlib.Core.Path.{_≡_, refl, sym, ap, subst, _∙_}
@@ -11,8 +11,8 @@ use borrow.Author.Tests.{leb-true}
 use Rattle.refusals.specs.Outcome.{Outcome, answer, refusal, onward}
 use Rattle.refusals.proofs.Onward.{came}
 use Rattle.leap_table.specs.rows.Table.{Row, starts, rising}
-use Rattle.leap_table.specs.rows.Lent.{rowsOf, tableOf, unlessRefused}
-use Rattle.leap_table.specs.declared.rows.LentRows.{LentRows}
+use Rattle.leap_table.specs.rows.Announced.{rowsOf, tableOf, unlessRefused}
+use Rattle.leap_table.specs.declared.rows.AnnouncedRows.{AnnouncedRows}
 use Rattle.leap_table.proofs.rows.TablesTaken.{when-taken}
 use Rattle.leap_table.proofs.rows.TableLaws.{table-rises}
 use Rattle.leap_table.specs.declared.judging.Triple.{Triple}
@@ -57,14 +57,14 @@ module _ (rows : List Row) (dates : List Triple) (places : ℕ) where
   through false x e = let z : _≡_ {A = ℕ} 0 1 = cc in absurd (omega arith)
 
 -- ---- with the table
-module _ (t : LentRows) (b : Bool) (dates : List Triple) (places : ℕ) where
+module _ (t : AnnouncedRows) (b : Bool) (dates : List Triple) (places : ℕ) where
   abbrev next : List Row → Outcome Walked
   next rows = walkOf rows b dates places
 
   abbrev whole : Outcome Walked
   whole = onward (tableOf t) next
 
-  -- the number by which the list is turned away is that of the walk
+  -- the number by which the list is refused is that of the walk
   abbrev judged : Outcome Unit
   judged = onward (tableOf t) (λ _. judgedList b dates places)
 

@@ -9,8 +9,8 @@ use lib.ListN.{length, length-map}
 use Rattle.refusals.specs.Outcome.{Outcome, answer, refusal, onward}
 use Rattle.refusals.proofs.Onward.{came}
 use Rattle.leap_table.specs.rows.Table.{Row, starts}
-use Rattle.leap_table.specs.rows.Lent.{tableOf}
-use Rattle.leap_table.specs.declared.rows.LentRows.{LentRows}
+use Rattle.leap_table.specs.rows.Announced.{tableOf}
+use Rattle.leap_table.specs.declared.rows.AnnouncedRows.{AnnouncedRows}
 use Rattle.leap_table.specs.declared.judging.Triple.{Triple}
 use Rattle.leap_table.specs.walk.Rows.{compared}
 use Rattle.leap_table.specs.judging.Judging.{judgedAll}
@@ -29,7 +29,7 @@ walk-is rows true dates places w e = go (leb (length dates) places) e
         ap (λ (k : Walked). k .rowsCompared) y
     go false q = let z : _≡_ {A = ℕ} 0 1 = cc in absurd (omega arith)
 
-pub count-most : (t : LentRows) (b : Bool) (dates : List Triple) (places k : ℕ) → answer k ≡ onward (onward (tableOf t) (λ rows. walkOf rows b dates places)) (λ w. answer (w .rowsCompared)) → k ≤ length dates + 58
+pub count-most : (t : AnnouncedRows) (b : Bool) (dates : List Triple) (places k : ℕ) → answer k ≡ onward (onward (tableOf t) (λ rows. walkOf rows b dates places)) (λ w. answer (w .rowsCompared)) → k ≤ length dates + 58
 count-most t b dates places k e =
     let (w, p, q) = came (onward (tableOf t) (λ rows. walkOf rows b dates places)) (λ w. answer (w .rowsCompared)) k (sym e) in
     let (rows, p′, q′) = came (tableOf t) (λ rows. walkOf rows b dates places) w p in

@@ -12,8 +12,8 @@ use native.Mathlib.Decide.{decLt}
 use borrow.Author.Tests.{leb-true, leb-false, le-leb, lt-leb}
 use Rattle.refusals.specs.Outcome.{answer}
 use Rattle.leap_table.specs.rows.Table.{Row, fixed, starts, reached, rising}
-use Rattle.leap_table.specs.rows.Lent.{tableOf}
-use Rattle.leap_table.specs.declared.rows.LentRows.{LentRows}
+use Rattle.leap_table.specs.rows.Announced.{tableOf}
+use Rattle.leap_table.specs.declared.rows.AnnouncedRows.{AnnouncedRows}
 use Rattle.leap_table.proofs.rows.TableLaws.{lengths}
 use Rattle.leap_table.proofs.rows.Reached.{at-most, low, high, none-begun, last-begun}
 use Rattle.leap_table.specs.walk.Rows.{heldAgainst, left, compared, inTime, lastReached, withRowLeft}
@@ -42,7 +42,7 @@ fixed-length = refl
 pub most-42 : (months : List ℕ) → compared (starts fixed) months ≤ length months + 42
 most-42 months = omega (arith, compared-most (starts fixed) months, length-map fixed (λ (r : Row). r .month), fixed-length)
 
-pub most-58 : (t : LentRows) (rows : List Row) → tableOf t ≡ answer rows → (months : List ℕ) → compared (starts rows) months ≤ length months + 58
+pub most-58 : (t : AnnouncedRows) (rows : List Row) → tableOf t ≡ answer rows → (months : List ℕ) → compared (starts rows) months ≤ length months + 58
 most-58 t rows e months = omega (arith, compared-most (starts rows) months, length-map rows (λ (r : Row). r .month), lengths t rows e .1)
 
 -- no date compares no row

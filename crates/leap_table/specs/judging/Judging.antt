@@ -1,4 +1,4 @@
--- Which lists of dates are turned away, and by which number. Written from document 02, item 2: "14 for a broken triple, then 11 for fewer offset places than dates; then, date by
+-- Which lists of dates are refused, and by which number. Written from document 02, item 2: "14 for a broken triple, then 11 for fewer offset places than dates; then, date by
 -- date, a bad one by its own number, then 17 for one earlier than the one before it". Assumes nothing.
 use Prim.Native.Nat.{ℕ}
 use mathlib.Core.Bool.{Bool, true, false, cond}

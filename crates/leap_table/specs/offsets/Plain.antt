@@ -12,7 +12,7 @@ pub record Plain (y m d : ℤ) : Type 0 where
   pub same-month : nextOf y m d ≡ answer (date y (natAbs m) (natAbs d + 1))
   pub from-1972 : 23664 ≤ monthNumber y (natAbs m)
 
--- the rows reached in month n by how many lent ones are: in the fixed table where none is
+-- the rows reached in month n by how many announced ones are: in the fixed table where none is
 abbrev pub byFound : ℕ → ℕ → ℕ
 byFound n zero = reached (starts fixed) n
 byFound n (suc k) = 42 + suc k

@@ -21,7 +21,7 @@ monthOf y m = 12 * y + m - 1
 abbrev pub row : ℕ → ℕ → ℕ → ℕ → ℕ → Row
 row y m u s r = record { month = monthOf y m; units = u; start = s; rate = r }
 
--- how many rows the table has, how many it has with sixteen lent ones, and the month of its last
+-- how many rows the table has, how many it has with sixteen announced ones, and the month of its last
 abbrev pub fixedRows : ℕ
 fixedRows = 42
 

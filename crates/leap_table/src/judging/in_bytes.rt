@@ -3,11 +3,11 @@ ghost use mathlib.Core.Path.{_≡_};
 ghost use Prim.Native.Nat.{_+_, _*_, _≤_};
 ghost use lib.ListN.{length};
 ghost use Rattle.refusals.specs.Outcome.{onward};
-ghost use Rattle.leap_table.specs.rows.Lent.{tableOf, unlessRefused};
+ghost use Rattle.leap_table.specs.rows.Announced.{tableOf, unlessRefused};
 ghost use Rattle.leap_table.specs.judging.Judging.{judgedAll};
 ghost use Rattle.leap_table.specs.judging.Lists.{datesFrom, tripleIn, judgedBytes};
 use super::Triple;
-use crate::rows::LentRows;
+use crate::rows::AnnouncedRows;
 
 // Date i of a list that has it. Read from a part of twelve bytes, its numbers need no test of the length.
 fn triple_in(dates: &[u8], i: usize) -> Triple
@@ -22,7 +22,7 @@ fn triple_in(dates: &[u8], i: usize) -> Triple
     Triple { year, month, day }
 }
 
-// The number by which the n dates are turned away, 0 if they are not.
+// The number by which the n dates are refused, 0 if they are not.
 fn judge_all(dates: &[u8], n: usize) -> u32
     requires { ⌜ 12 * n ≤ length (now dates) ⌝ }
     ensures { λ r. ⌜ unlessRefused r tt ≡ judgedAll (datesFrom (tripleIn (now (dates .entry))) 0 n) ⌝ }
@@ -45,9 +45,9 @@ fn judge_all(dates: &[u8], n: usize) -> u32
     0
 }
 
-// The number by which a walk with these dates is turned away, 0 if it is not, as `numbers_refusal` gives it: 14 where the bytes of `dates` are no multiple of 12, 11 where `room` bytes
+// The number by which a walk with these dates is refused, 0 if it is not, as `numbers_refusal` gives it: 14 where the bytes of `dates` are no multiple of 12, 11 where `room` bytes
 // are fewer than eight for each date.
-pub fn bytes_refusal(dates: &[u8], table: LentRows, room: usize) -> u32
+pub fn bytes_refusal(dates: &[u8], table: AnnouncedRows, room: usize) -> u32
     ensures { λ r. ⌜ unlessRefused r tt ≡ onward (tableOf table) (λ _. judgedBytes (now (dates .entry)) room) ⌝ }
 {
     let number = crate::rows::table_refusal(table);

@@ -3,7 +3,7 @@ ghost use mathlib.Core.Path.{_≡_};
 ghost use mathlib.Core.Bool.{true};
 ghost use Rattle.floats.specs.Whole.{nought};
 ghost use Rattle.refusals.specs.Outcome.{onward};
-ghost use Rattle.leap_table.specs.rows.Lent.{rowsIn, rowsOf, tableOf};
+ghost use Rattle.leap_table.specs.rows.Announced.{rowsIn, rowsOf, tableOf};
 ghost use Rattle.leap_table.specs.offsets.Offset.{inDay, taiUtcOffset};
 ghost use Rattle.leap_table.specs.offsets.Rule.{forget, offsetByRule};
 ghost use Rattle.leap_table.specs.offsets.Answers.{secondsOutcome, secondsByRuleOutcome};
@@ -15,7 +15,7 @@ use super::look_up::offset_by;
 use super::look_up::plain_day;
 use super::look_up::rule_by;
 use super::look_up::table_rows_reached;
-use crate::rows::LentRows;
+use crate::rows::AnnouncedRows;
 use crate::rows::size_of;
 use crate::rows::table_refusal;
 
@@ -101,7 +101,7 @@ pub fn get_tai_utc_offset_by_rows(
     month: i32,
     day: i32,
     fraction: f64,
-    table: LentRows,
+    table: AnnouncedRows,
 ) -> SecondsAnswer
     ensures { λ r. ⌜ secondsOutcome r ≡ taiUtcOffset (rowsOf table) year month day fraction ⌝ }
 {
@@ -122,7 +122,7 @@ pub fn get_tai_utc_offset(
     month: i32,
     day: i32,
     fraction: f64,
-    table: LentRows,
+    table: AnnouncedRows,
 ) -> SecondsByRule
     ensures { λ r. ⌜ secondsByRuleOutcome r ≡ onward (tableOf table) (λ rows. offsetByRule rows year month day fraction) ⌝ }
 {

@@ -8,20 +8,20 @@ ghost use lib.Signed.{leZ};
 ghost use lib.Ieee.{Float};
 ghost use lib.ListN.{getD};
 ghost use Rattle.leap_table.specs.rows.Table.{starts, reached, monthNumber, none};
-ghost use Rattle.leap_table.specs.rows.Lent.{least, lentTable, rowsIn, rowsTo};
+ghost use Rattle.leap_table.specs.rows.Announced.{least, announcedTable, rowsIn, rowsTo};
 ghost use Rattle.leap_table.specs.offsets.Offset.{secondsOf, offsetAt, offsetBy};
 ghost use Rattle.leap_table.specs.offsets.Rule.{ruleAt, ruleBy};
 ghost use Rattle.leap_table.specs.offsets.Plain.{Plain, byFound};
 use super::Rule;
+use super::announced;
 use super::fixed_rows::fixed_rows_reached;
 use super::fixed_rows::rate_at;
 use super::fixed_rows::seconds_at;
 use super::fixed_rows::start_at;
 use super::fixed_rows::whole_seconds;
-use super::lent;
 
-// A month's number as a lent one is, of which none is larger.
-fn as_lent(n: u64) -> i32
+// A month's number as a announced one is, of which none is larger.
+fn as_announced(n: u64) -> i32
     ensures { λ r. ⌜ r ≡ pos (least n 2147483647) ⌝ }
 {
     if n <= 2147483647 {
@@ -31,20 +31,20 @@ fn as_lent(n: u64) -> i32
     }
 }
 
-// How many lent rows are found with that of place i, of which `found` stand before it.
-fn found_next(lent: i32, month: i32, i: u32, found: u32) -> u32
+// How many announced rows are found with that of place i, of which `found` stand before it.
+fn found_next(announced: i32, month: i32, i: u32, found: u32) -> u32
     requires { ⌜ i < 16 ⌝ }
-    ensures { λ r. ⌜ r ≡ cond (leZ lent month) (i + 1) found ⌝ }
+    ensures { λ r. ⌜ r ≡ cond (leZ announced month) (i + 1) found ⌝ }
 {
-    if lent <= month { i + 1 } else { found }
+    if announced <= month { i + 1 } else { found }
 }
 
-// How many lent rows stand up to the last that has begun, 0 where none has. The rows are taken in their order and without a jump, so that several are compared at once.
-fn lent_rows_reached(size: u32, months: &[i32; 16], n: u64) -> u32
+// How many announced rows stand up to the last that has begun, 0 where none has. The rows are taken in their order and without a jump, so that several are compared at once.
+fn announced_rows_reached(size: u32, months: &[i32; 16], n: u64) -> u32
     requires { ⌜ size ≤ 16 ⌝ }
-    ensures { λ r. ⌜ (byFound n r ≡ reached (starts (rowsTo (lentTable 0 0 (now (months .entry)) []) size)) n) × (r ≤ size) ⌝ }
+    ensures { λ r. ⌜ (byFound n r ≡ reached (starts (rowsTo (announcedTable 0 0 (now (months .entry)) []) size)) n) × (r ≤ size) ⌝ }
 {
-    let month = as_lent(n);
+    let month = as_announced(n);
     let mut found = 0;
     let mut i = 0;
     while i < size {
@@ -59,7 +59,7 @@ fn lent_rows_reached(size: u32, months: &[i32; 16], n: u64) -> u32
 pub(crate) fn any_rows_reached(size: usize, months: &[i32; 16], n: u64) -> usize
     ensures { λ r. ⌜ ((seconds : List ℤ) → r ≡ reached (starts (rowsIn size (now (months .entry)) seconds)) n) × (r ≤ 42 + least size 16) ⌝ }
 {
-    let found = lent_rows_reached(crate::rows::at_most_16(size) as u32, months, n);
+    let found = announced_rows_reached(crate::rows::at_most_16(size) as u32, months, n);
     if found == 0 {
         return fixed_rows_reached(n);
     }
@@ -84,7 +84,7 @@ pub(crate) fn seconds_of_row(seconds: &[i32; 16], rows: usize) -> f64
     if rows <= 42 {
         return whole_seconds(rows);
     }
-    lent::seconds_at(seconds, rows - 43)
+    announced::seconds_at(seconds, rows - 43)
 }
 
 // The offset by the number of rows reached.

@@ -1,17 +1,17 @@
 // TAI-UTC of a month in whole seconds, for those who count a time from 1972 on in whole numbers.
 ghost use mathlib.Core.Path.{_≡_};
 ghost use Prim.Native.Nat.{_≤_, _<_};
-ghost use Rattle.leap_table.specs.rows.Lent.{rowsOf};
+ghost use Rattle.leap_table.specs.rows.Announced.{rowsOf};
 ghost use Rattle.leap_table.specs.offsets.Offset.{secondsIn};
 ghost use Rattle.leap_table.specs.offsets.WholeSeconds.{wholeSeconds};
 use super::look_up::month_number;
 use super::look_up::table_rows_reached;
-use crate::rows::LentRows;
+use crate::rows::AnnouncedRows;
 use crate::rows::natural;
 use crate::rows::size_of;
 
 // The seconds of the row reached in a month from January 1972 on.
-fn seconds_in(t: LentRows, month: u64) -> u32
+fn seconds_in(t: AnnouncedRows, month: u64) -> u32
     requires { ⌜ 23664 ≤ month ⌝ }
     ensures { λ r. ⌜ (r ≡ secondsIn (rowsOf t) month) × (r < 2147483648) ⌝ }
 {
@@ -24,7 +24,7 @@ fn seconds_in(t: LentRows, month: u64) -> u32
 }
 
 // TAI-UTC of a month in whole seconds by the rows of a table that is tested elsewhere; 0 in the years before 1972 and for a number that is no month.
-pub fn whole_seconds_by_rows(year: i32, month: u32, table: LentRows) -> u32
+pub fn whole_seconds_by_rows(year: i32, month: u32, table: AnnouncedRows) -> u32
     ensures { λ r. ⌜ (r ≡ wholeSeconds (rowsOf table) year month) × (r < 2147483648) ⌝ }
 {
     if year < 1972 {

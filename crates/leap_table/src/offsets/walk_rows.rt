@@ -4,10 +4,10 @@ ghost use Prim.Native.Nat.{_<_, _≤_};
 ghost use lib.ListN.{getD, length};
 ghost use lib.Ieee.{Float};
 ghost use Rattle.leap_table.specs.rows.Table.{fixed, starts};
-ghost use Rattle.leap_table.specs.rows.Lent.{lentSize, rowsOf};
+ghost use Rattle.leap_table.specs.rows.Announced.{announcedSize, rowsOf};
 ghost use Rattle.leap_table.specs.offsets.Offset.{offsetBy};
 ghost use Rattle.leap_table.specs.offsets.Forward.{never, byTerms};
-use crate::rows::LentRows;
+use crate::rows::AnnouncedRows;
 
 // Later than the month of any date.
 const NEVER: u64 = 0xffff_ffff_ffff_ffff;
@@ -20,7 +20,7 @@ pub struct RowTerms {
     pub rate: f64,
 }
 
-// Month i of a list that has it. From a lent list, since a table that is read by an index is copied.
+// Month i of a list that has it. From a announced list, since a table that is read by an index is copied.
 fn month_at(months: &[u64], i: usize) -> u64
     requires { ⌜ i < length (now months) ⌝ }
     ensures { λ r. ⌜ r ≡ getD (now (months .entry)) i 0 ⌝ }
@@ -28,36 +28,36 @@ fn month_at(months: &[u64], i: usize) -> u64
     months[i]
 }
 
-// How many lent rows count.
-fn lent_size(t: LentRows) -> usize
-    ensures { λ r. ⌜ (r ≡ lentSize t) × (r ≤ 16) ⌝ }
+// How many announced rows count.
+fn announced_size(t: AnnouncedRows) -> usize
+    ensures { λ r. ⌜ (r ≡ announcedSize t) × (r ≤ 16) ⌝ }
 {
     crate::rows::at_most_16(crate::rows::size_of(t))
 }
 
 // How many rows a table has, the fixed ones included.
-pub fn row_count(table: LentRows) -> usize
+pub fn row_count(table: AnnouncedRows) -> usize
     ensures { λ r. ⌜ r ≡ length (rowsOf table) ⌝ }
 {
-    42 + lent_size(table)
+    42 + announced_size(table)
 }
 
 // The month in which row i of a table begins; past the last row, a number that is later than the month of any date.
-pub fn row_start(table: LentRows, i: usize) -> u64
+pub fn row_start(table: AnnouncedRows, i: usize) -> u64
     ensures { λ r. ⌜ r ≡ getD (starts (rowsOf table)) i never ⌝ }
 {
     if i < 42 {
         return month_at(&super::fixed_rows::MONTHS, i);
     }
     let place = i - 42;
-    if place < lent_size(table) {
+    if place < announced_size(table) {
         return crate::rows::natural(table.months[place]) as u64;
     }
     NEVER
 }
 
 // The terms of the last of so many rows of a table; 0 s where there is none.
-pub fn row_terms(table: LentRows, rows: usize) -> RowTerms
+pub fn row_terms(table: AnnouncedRows, rows: usize) -> RowTerms
     ensures { λ r. ⌜ ((mjd fraction : Float) → byTerms r mjd fraction ≡ offsetBy (rowsOf table) rows mjd fraction) ⌝ }
 {
     if rows == 0 {
@@ -77,7 +77,7 @@ pub fn row_terms(table: LentRows, rows: usize) -> RowTerms
             rate: super::fixed_rows::rate_at(i),
         };
     }
-    if 42 + lent_size(table) <= i {
+    if 42 + announced_size(table) <= i {
         return RowTerms {
             drifts: false,
             seconds: 0.0,

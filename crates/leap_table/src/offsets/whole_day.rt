@@ -5,7 +5,7 @@ ghost use Prim.Native.Nat.{_+_, _<_, _≤_};
 ghost use lib.IntN.{ℤ, natAbs};
 ghost use Rattle.refusals.specs.Outcome.{answer, onward};
 ghost use Rattle.leap_table.specs.rows.Table.{starts, reached};
-ghost use Rattle.leap_table.specs.rows.Lent.{least, rowsIn, rowsOf, tableOf};
+ghost use Rattle.leap_table.specs.rows.Announced.{least, rowsIn, rowsOf, tableOf};
 ghost use Rattle.leap_table.specs.offsets.Leap.{offsetsOfDay, dayOffsets, leapAtEndOfDay};
 ghost use Rattle.leap_table.specs.offsets.Rule.{ruleOf, dayByRule, leapByRule};
 ghost use Rattle.leap_table.specs.offsets.Answers.{secondsOutcome, secondsByRuleOutcome, dayOffsetsOutcome, dayByRuleOutcome};
@@ -22,7 +22,7 @@ use super::look_up::offset_by;
 use super::look_up::plain_day;
 use super::look_up::rule_by;
 use super::look_up::table_rows_reached;
-use crate::rows::LentRows;
+use crate::rows::AnnouncedRows;
 use crate::rows::size_of;
 use crate::rows::table_refusal;
 
@@ -113,7 +113,12 @@ pub fn day_offsets_by_lent<'a>(
 }
 
 // Refusals in order: 1 to 3 the date, then 5 no next day.
-pub fn day_offsets_by_rows(year: i32, month: i32, day: i32, table: LentRows) -> DayOffsetsAnswer
+pub fn day_offsets_by_rows(
+    year: i32,
+    month: i32,
+    day: i32,
+    table: AnnouncedRows,
+) -> DayOffsetsAnswer
     ensures { λ r. ⌜ dayOffsetsOutcome r ≡ dayOffsets (rowsOf table) year month day ⌝ }
 {
     match day_offsets_by_lent(
@@ -130,7 +135,7 @@ pub fn day_offsets_by_rows(year: i32, month: i32, day: i32, table: LentRows) -> 
 }
 
 // TAI-UTC at the start, the middle and the end of a day. Refusals in order: 20 to 22 the table, 1 to 3 the date, then 5 no next day.
-pub fn day_offsets(year: i32, month: i32, day: i32, table: LentRows) -> DayOffsetsAnswer
+pub fn day_offsets(year: i32, month: i32, day: i32, table: AnnouncedRows) -> DayOffsetsAnswer
     ensures { λ r. ⌜ dayOffsetsOutcome r ≡ onward (tableOf table) (λ rows. dayOffsets rows year month day) ⌝ }
 {
     let number = table_refusal(table);
@@ -166,7 +171,12 @@ pub fn leap_at_end_of_day_by_lent<'a>(
 }
 
 // Refusals as for its offsets.
-pub fn leap_at_end_of_day_by_rows(year: i32, month: i32, day: i32, table: LentRows) -> SecondsAnswer
+pub fn leap_at_end_of_day_by_rows(
+    year: i32,
+    month: i32,
+    day: i32,
+    table: AnnouncedRows,
+) -> SecondsAnswer
     ensures { λ r. ⌜ secondsOutcome r ≡ leapAtEndOfDay (rowsOf table) year month day ⌝ }
 {
     without_rule(leap_at_end_of_day_by_lent(
@@ -180,7 +190,7 @@ pub fn leap_at_end_of_day_by_rows(year: i32, month: i32, day: i32, table: LentRo
 }
 
 // How much longer the day is than 86,400 s and its drift: a leap second, one left out, or a step before 1972. Refusals as for its offsets.
-pub fn leap_at_end_of_day(year: i32, month: i32, day: i32, table: LentRows) -> SecondsAnswer
+pub fn leap_at_end_of_day(year: i32, month: i32, day: i32, table: AnnouncedRows) -> SecondsAnswer
     ensures { λ r. ⌜ secondsOutcome r ≡ onward (tableOf table) (λ rows. leapAtEndOfDay rows year month day) ⌝ }
 {
     let number = table_refusal(table);

@@ -9,7 +9,7 @@ ghost use lib.Ieee.{binary64, toBits};
 ghost use Rattle.refusals.specs.Outcome.{onward};
 ghost use Rattle.numerals.specs.little_endian.LittleEndian.{eightBytes};
 ghost use Rattle.leap_table.specs.rows.Table.{starts, rising};
-ghost use Rattle.leap_table.specs.rows.Lent.{rowsOf, tableOf};
+ghost use Rattle.leap_table.specs.rows.Announced.{rowsOf, tableOf};
 ghost use Rattle.leap_table.specs.walk.Rows.{compared};
 ghost use Rattle.leap_table.specs.walk.Walk.{monthIn, tripleOffset};
 ghost use Rattle.leap_table.specs.judging.Lists.{datesFrom, tripleIn};
@@ -18,7 +18,7 @@ ghost use Rattle.leap_table.specs.walk.Call.{WalkCall};
 ghost use Rattle.leap_table.specs.walk.Asked.{GoodDates};
 use super::WalkAnswer;
 use crate::judging::Triple;
-use crate::rows::LentRows;
+use crate::rows::AnnouncedRows;
 
 // Date i of a list that has it. Read from a part of twelve bytes, its numbers need no test of the length.
 fn triple_in(dates: &[u8], i: usize) -> Triple
@@ -33,7 +33,7 @@ fn triple_in(dates: &[u8], i: usize) -> Triple
     Triple { year, month, day }
 }
 
-// The eight bytes of an offset at a place of the lent list.
+// The eight bytes of an offset at a place of the announced list.
 fn put_offset(out: &mut [u8], at: usize, x: f64)
     requires { ⌜ at + 8 ≤ length (now out) ⌝ }
     ensures { λ _. ⌜ now (out .exit) ≡ sets (now (out .entry)) at (eightBytes (toBits binary64 x)) ⌝ }
@@ -43,7 +43,7 @@ fn put_offset(out: &mut [u8], at: usize, x: f64)
 }
 
 // Walks through the table with n dates, writes their offsets, and says how many rows it compared.
-fn walk_all(dates: &[u8], n: usize, table: LentRows, out: &mut [u8]) -> u64
+fn walk_all(dates: &[u8], n: usize, table: AnnouncedRows, out: &mut [u8]) -> u64
     requires { ⌜ (GoodDates (tripleIn (now dates)) n) × (T (rising (starts (rowsOf table)))) × (12 * n ≤ length (now dates)) × (8 * n ≤ length (now out)) ⌝ }
     ensures { λ r. ⌜ (r ≡ compared (starts (rowsOf table)) (map monthIn (datesFrom (tripleIn (now (dates .entry))) 0 n))) × (now (out .exit) ≡ inEights (map (tripleOffset (rowsOf table)) (datesFrom (tripleIn (now (dates .entry))) 0 n)) ++ drop (8 * n) (now (out .entry))) ⌝ }
 {
@@ -65,7 +65,7 @@ fn walk_all(dates: &[u8], n: usize, table: LentRows, out: &mut [u8]) -> u64
 }
 
 // The offsets at 0h as `offsets_at_0h` gives them, from dates and into places that are bytes. Refusals as there, 14 where the bytes of `dates` are no multiple of 12.
-pub fn offsets_at_0h_bytes(dates: &[u8], table: LentRows, out: &mut [u8]) -> WalkAnswer
+pub fn offsets_at_0h_bytes(dates: &[u8], table: AnnouncedRows, out: &mut [u8]) -> WalkAnswer
     ensures { λ r. ⌜ WalkCall inEights (onward (tableOf table) (λ rows. walkOfBytes rows (now (dates .entry)) (length (now (out .entry))))) (now (out .entry)) r (now (out .exit)) ⌝ }
 {
     let number = crate::judging::bytes_refusal(dates, table, out.len());

@@ -16,15 +16,15 @@ use Rattle.julian.specs.Worth.{Worth}
 use Rattle.julian.specs.order.Places.{hasPlace, isEarlier}
 use Rattle.julian.proofs.order.Exactly.{finite-error, sooner-exactly, sum-worth}
 use Rattle.line_up.specs.keep_most.Piles.{Order}
-use Rattle.line_up.specs.keep_dates.Stamps.{stampOf, deadAt, soonerAt}
+use Rattle.line_up.specs.keep_dates.Stamps.{stampOf, unorderedAt, soonerAt}
 
 module _ (js ks : List ℕ) where
   abbrev pub Live : ℕ → Type 0
   Live p = FiniteSums (stampOf js ks p)
 
-  -- who is not dead has a finite two-sum
-  pub live-of : (p : ℕ) → deadAt js ks p ≡ false → Live p
-  unfolding deadAt stampOf
+  -- who is not unordered has a finite two-sum
+  pub live-of : (p : ℕ) → unorderedAt js ks p ≡ false → Live p
+  unfolding unorderedAt stampOf
   live-of p e =
       let h : T (hasPlace (stampOf js ks p)) = subst T (sym (not-false (hasPlace (stampOf js ks p)) e)) tt in
       record {

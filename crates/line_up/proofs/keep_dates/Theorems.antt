@@ -11,19 +11,19 @@ use Rattle.rounding.specs.Value.{L}
 use Rattle.julian.specs.Worth.{Worth}
 use Rattle.line_up.specs.keep_most.Piles.{runKept, zeros, Rises, Upward, All, Contradicted}
 use Rattle.line_up.proofs.keep_most.OfRuns as R
-use Rattle.line_up.specs.keep_dates.Stamps.{stampOf, deadAt, soonerAt}
-use Rattle.line_up.specs.keep_dates.Asked.{Alive}
+use Rattle.line_up.specs.keep_dates.Stamps.{stampOf, unorderedAt, soonerAt}
+use Rattle.line_up.specs.keep_dates.Asked.{AllOrdered}
 use Rattle.line_up.proofs.keep_dates.Dates.{Live, live-of, lt-is, date-order}
 
--- what `soonerAt` says of two stamps that are not dead, whose exact sums are (P - N) / L and (Q - M) / L
-module _ (js ks : List ℕ) (x y P N Q M : ℕ) (a : deadAt js ks x ≡ false) (b : deadAt js ks y ≡ false) (v : Worth (stampOf js ks x) P N L) (w : Worth (stampOf js ks y) Q M L) where
+-- what `soonerAt` says of two stamps that are not unordered, whose exact sums are (P - N) / L and (Q - M) / L
+module _ (js ks : List ℕ) (x y P N Q M : ℕ) (a : unorderedAt js ks x ≡ false) (b : unorderedAt js ks y ≡ false) (v : Worth (stampOf js ks x) P N L) (w : Worth (stampOf js ks y) Q M L) where
   pub sooner-exactly : soonerAt js ks x y ≡ true → P + M < Q + N
   sooner-exactly e = ltb-true (P + M) (Q + N) (sym (lt-is js ks x y P N Q M (live-of js ks x a) (live-of js ks y b) v w) ∙ e)
 
   pub not-sooner-exactly : soonerAt js ks x y ≡ false → Q + N ≤ P + M
   not-sooner-exactly e = ltb-false (P + M) (Q + N) (sym (lt-is js ks x y P N Q M (live-of js ks x a) (live-of js ks y b) v w) ∙ e)
 
-module _ (js ks ns : List ℕ) (from to : ℕ) (low : from ≤ to) (high : to ≤ length ns) (alive : Alive js ks ns from to) where
+module _ (js ks ns : List ℕ) (from to : ℕ) (low : from ≤ to) (high : to ≤ length ns) (alive : AllOrdered js ks ns from to) where
   -- the numbers after the call, and the places that are kept
   abbrev pub after : List ℕ
   after = runKept (soonerAt js ks) ns from to

@@ -1,4 +1,4 @@
--- Who is turned away contradicts a stamp that is kept: else it could be kept too, and more would rise. Assumes nothing.
+-- Who is left out contradicts a stamp that is kept: else it could be kept too, and more would rise. Assumes nothing.
 use Prim.Native.Nat.{ℕ, zero, suc, _+_, _-_, _<_, _≤_}
 use native.Mathlib.Omega.{arith}
 use mathlib.Core.Path.{_≡_, refl, sym, ap, _∙_, subst}
@@ -8,7 +8,7 @@ use mathlib.Core.List.{List, [], _∷_, _++_}
 use lib.Dec.{eqb, ltb}
 use lib.ListN.{length, getD}
 use borrow.Author.Tests.{eqb-true, eqb-false, ltb-true, ltb-false, lt-ltb, le-ltb}
-use Rattle.line_up.specs.keep_most.Piles.{mostKept, zeros, Chosen, After, Rises, Upward, Alive, Order, Contradicted}
+use Rattle.line_up.specs.keep_most.Piles.{mostKept, zeros, Chosen, After, Rises, Upward, AllOrdered, Order, Contradicted}
 use Rattle.line_up.specs.keep_most.Piles.Chosen.{end, pass, choose}
 use Rattle.line_up.proofs.keep_most.Longest.{clash}
 use Rattle.line_up.proofs.keep_most.Theorems.{kept-chosen, kept-rises, kept-most}
@@ -84,7 +84,7 @@ module _ (lt : ℕ → ℕ → Bool) (p : ℕ) where
   either q [] o r = inr ((tt, tt), λ f g. f)
   either q (x ∷ xs) o r = either-by (ltb p x) q x xs refl (o .0) (r .0) (r .1) (either x xs (o .1) (r .1))
 
--- ---- who is turned away is none of those that are kept
+-- ---- who is left out is none of those that are kept
 
 none-by : (c : Bool) (p i m : ℕ) (xs : List ℕ) → eqb m 0 ≡ c → (p ≡ i → m ≡ 0 → ⊥) → None p xs → None p (cond c (i ∷ xs) xs)
 none-by true p i m xs e h o = ((λ d. h d (eqb-true m 0 e)), o)
@@ -110,7 +110,7 @@ unfolding zeros
 none-turned p i [] h z = tt
 none-turned p i (m ∷ ms) h z = none-turned-by (eqb p i) p i m ms refl h z (λ k y. none-turned p (suc i) ms k y)
 
-module _ (ok : ℕ → Type 0) (lt : ℕ → ℕ → Bool) (order : Order ok lt) (i : ℕ) (ns : List ℕ) (alive : Alive ok i ns) where
+module _ (ok : ℕ → Type 0) (lt : ℕ → ℕ → Bool) (order : Order ok lt) (i : ℕ) (ns : List ℕ) (alive : AllOrdered ok i ns) where
   too-long : (p : ℕ) → i ≤ p → getD ns (p - i) 1 ≡ 0 → None p (zeros i (mostKept lt i ns)) → Rises lt (put p (zeros i (mostKept lt i ns))) → ⊥
   too-long p h z o r =
       let k = kept-most ok lt order i ns alive (put p (zeros i (mostKept lt i ns))) (put-chosen (kept-chosen lt i ns) p h z o) r in
@@ -121,7 +121,7 @@ module _ (ok : ℕ → Type 0) (lt : ℕ → ℕ → Bool) (order : Order ok lt)
   decide p h z o (inl c) = c
   decide p h z o (inr r) = absurd (too-long p h z o (r .0))
 
-  -- (5) a stamp that came in with number 0 and is turned away is earlier than a kept one before it, or later than a kept one behind it
+  -- (5) a stamp that came in with number 0 and is left out is earlier than a kept one before it, or later than a kept one behind it
   pub turned-contradicted : (p : ℕ) → i ≤ p → getD ns (p - i) 1 ≡ 0 → (getD (mostKept lt i ns) (p - i) 0 ≡ 0 → ⊥) → Contradicted lt p (zeros i (mostKept lt i ns))
   turned-contradicted p h z t =
       let o = none-turned p i (mostKept lt i ns) h t in

@@ -7,7 +7,7 @@ use mathlib.Core.List.{List, [], _∷_, _++_}
 use lib.Dec.{eqb}
 use lib.ListN.{length, getD}
 use borrow.Author.Tests.{eqb-true, eq-eqb}
-use Rattle.line_up.specs.keep_most.Piles.{pilesBefore, laid, pilesAfter, rank, allLaid, ranks, Chosen, After, Rises, All, Alive, Order}
+use Rattle.line_up.specs.keep_most.Piles.{pilesBefore, laid, pilesAfter, rank, allLaid, ranks, Chosen, After, Rises, All, AllOrdered, Order}
 use Rattle.line_up.specs.keep_most.Piles.Chosen.{end, pass, choose}
 
 pub clash : {A : Type 0} (b : Bool) → b ≡ true → b ≡ false → A
@@ -95,7 +95,7 @@ module _ (ok : ℕ → Type 0) (lt : ℕ → ℕ → Bool) (order : Order ok lt)
   past-chosen i y [] oi oy os h = (h, tt)
   past-chosen i y (t ∷ ts) oi oy os h = past-chosen-by (lt i t) i y (pilesBefore lt i ts) t ts (laid lt i ts) refl oi oy (os .0) h (past-chosen i y ts oi oy (os .1) h)
 
-  pub chosen-ok : {i : ℕ} {ns xs : List ℕ} → Chosen i ns xs → Alive ok i ns → All ok xs
+  pub chosen-ok : {i : ℕ} {ns xs : List ℕ} → Chosen i ns xs → AllOrdered ok i ns → All ok xs
   chosen-ok end a = tt
   chosen-ok (pass c) a = chosen-ok c (a .1)
   chosen-ok (choose e c) a = (a .0 e, chosen-ok c (a .1))
@@ -113,7 +113,7 @@ module _ (ok : ℕ → Type 0) (lt : ℕ → ℕ → Bool) (order : Order ok lt)
   after-passed false n i q xs ts e oi ox os s = (os, s)
 
   -- xs may follow the first q piles: with them it is no longer than the piles are many
-  pub no-longer : {i : ℕ} {ns xs : List ℕ} → Chosen i ns xs → (ts : List ℕ) (q : ℕ) → Alive ok i ns → All ok ts → Rises lt xs → Starts lt q xs ts → q + length xs ≤ length (allLaid lt i ns ts)
+  pub no-longer : {i : ℕ} {ns xs : List ℕ} → Chosen i ns xs → (ts : List ℕ) (q : ℕ) → AllOrdered ok i ns → All ok ts → Rises lt xs → Starts lt q xs ts → q + length xs ≤ length (allLaid lt i ns ts)
   unfolding allLaid
   no-longer end ts q al os r s = omega arith
   no-longer {i} {ns = n ∷ ns} {xs} (pass c) ts q al os r s =

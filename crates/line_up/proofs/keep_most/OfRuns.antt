@@ -6,11 +6,11 @@ use mathlib.Core.Bool.{Bool, true, false}
 use mathlib.Core.List.{List, [], _∷_, _++_, append-assoc}
 use lib.ListN.{length, getD, take, drop, length-append, length-drop, take-append-drop}
 use lib.Seq.{slice, length-slice, length-take-le, take-at, drop-at, getD-take, getD-drop, take-take}
-use Rattle.line_up.specs.keep_most.Piles.{mostKept, runKept, zeros, Rises, Upward, All, Alive, Order, Contradicted}
+use Rattle.line_up.specs.keep_most.Piles.{mostKept, runKept, zeros, Rises, Upward, All, AllOrdered, Order, Contradicted}
 use Rattle.line_up.proofs.keep_most.Theorems.{Judged, kept-length, kept-judged, kept-rises, kept-most, kept-all, places-chosen}
 use Rattle.line_up.proofs.keep_most.Contradicted.{turned-contradicted}
 
-alive-list : (ok : ℕ → Type 0) (i : ℕ) (l : List ℕ) → ((k : ℕ) → k < length l → getD l k 0 ≡ 0 → ok (i + k)) → Alive ok i l
+alive-list : (ok : ℕ → Type 0) (i : ℕ) (l : List ℕ) → ((k : ℕ) → k < length l → getD l k 0 ≡ 0 → ok (i + k)) → AllOrdered ok i l
 alive-list ok i [] f = tt
 alive-list ok i (n ∷ ns) f =
     let z : i + 0 ≡ i = omega arith in (
@@ -68,7 +68,7 @@ module _ (lt : ℕ → ℕ → Bool) (ns : List ℕ) (from to : ℕ) (low : from
   run-rises = rw run-slice (kept-rises lt from (slice from to ns))
 
   module _ (ok : ℕ → Type 0) (order : Order ok lt) (live : (p : ℕ) → from ≤ p → p < to → getD ns p 0 ≡ 0 → ok p) where
-    pub alive : Alive ok from (slice from to ns)
+    pub alive : AllOrdered ok from (slice from to ns)
     alive = alive-list ok from (slice from to ns)
         (λ k h e. let q : from + k < to = omega (arith, slice-long) in live (from + k) (omega arith) q (sym (at-slice 0 k q) ∙ e))
 
@@ -86,7 +86,7 @@ module _ (lt : ℕ → ℕ → Bool) (ns : List ℕ) (from to : ℕ) (low : from
     pub run-most : (xs : List ℕ) → Upward from xs → All (λ (x : ℕ). (x < to) × (getD ns x 1 ≡ 0)) xs → Rises lt xs → length xs ≤ length (zeros from (slice from to (runKept lt ns from to)))
     run-most xs u a r = rw run-slice (slice-most xs u a r)
 
-    -- (3) where all stamps whose numbers were 0 rise, nothing is turned away
+    -- (3) where all stamps whose numbers were 0 rise, nothing is left out
     pub run-all : Rises lt (zeros from (slice from to ns)) → runKept lt ns from to ≡ ns
     run-all r =
         ap (λ (l : List ℕ). take from ns ++ (l ++ drop to ns)) (kept-all ok lt order from (slice from to ns) alive r)
@@ -94,7 +94,7 @@ module _ (lt : ℕ → ℕ → Bool) (ns : List ℕ) (from to : ℕ) (low : from
         ∙ ap (λ (l : List ℕ). l ++ drop to ns) (heads)
         ∙ take-append-drop to ns
 
-    -- (5) who is turned away contradicts a kept one
+    -- (5) who is left out contradicts a kept one
     pub run-contradicted : (p : ℕ) → from ≤ p → p < to → getD ns p 1 ≡ 0 → (getD (slice from to (runKept lt ns from to)) (p - from) 0 ≡ 0 → ⊥) → Contradicted lt p (zeros from (slice from to (runKept lt ns from to)))
     run-contradicted p h k z t =
         let e : from + (p - from) ≡ p = omega arith in

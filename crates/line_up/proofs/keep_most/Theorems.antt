@@ -9,7 +9,7 @@ use lib.Dec.{eqb}
 use lib.ListN.{length, getD}
 use lib.Seq.{slice, getD-take, getD-drop}
 use borrow.Author.Tests.{eqb-true, eqb-false, eq-eqb, ne-eqb}
-use Rattle.line_up.specs.keep_most.Piles.{pilesAfter, allLaid, ranks, wanted, judged, allJudged, mostKept, zeros, Chosen, After, Rises, Upward, All, Alive, Order}
+use Rattle.line_up.specs.keep_most.Piles.{pilesAfter, allLaid, ranks, wanted, judged, allJudged, mostKept, zeros, Chosen, After, Rises, Upward, All, AllOrdered, Order}
 use Rattle.line_up.specs.keep_most.Piles.Chosen.{end, pass, choose}
 use Rattle.line_up.proofs.keep_most.Longest.{clash, Starts, no-longer}
 use Rattle.line_up.proofs.keep_most.Rising.{Joined, all-joined}
@@ -162,14 +162,14 @@ none-turned i (n ∷ ns) (r ∷ rs) many e h =
     same-by (eqb n 0) (eqb r (wanted rs many)) n i (zeros (suc i) (allJudged ns rs many)) (zeros (suc i) ns) (allJudged ns rs many) ns refl
     (fewer (suc i) ns rs many) (none-turned (suc i) ns rs many (omega arith)) h
 
-module _ (ok : ℕ → Type 0) (lt : ℕ → ℕ → Bool) (order : Order ok lt) (i : ℕ) (ns : List ℕ) (alive : Alive ok i ns) where
+module _ (ok : ℕ → Type 0) (lt : ℕ → ℕ → Bool) (order : Order ok lt) (i : ℕ) (ns : List ℕ) (alive : AllOrdered ok i ns) where
   -- (2) no choice of stamps with number 0 that rises is longer
   pub kept-most : (xs : List ℕ) → Chosen i ns xs → Rises lt xs → length xs ≤ length (zeros i (mostKept lt i ns))
   kept-most xs c r =
       let h : 0 + length xs ≤ length (allLaid lt i ns []) = no-longer ok lt order c [] 0 alive tt r (starts-none lt xs) in
       omega (arith, kept-many lt i ns)
 
-  -- (3) where all of them rise none is turned away
+  -- (3) where all of them rise none is left out
   pub kept-all : Rises lt (zeros i ns) → mostKept lt i ns ≡ ns
   unfolding mostKept
   kept-all r = none-turned i ns (ranks lt i ns []) (length (allLaid lt i ns [])) (length-ranks lt i ns []) (kept-most (zeros i ns) (all-chosen i ns) r)

@@ -23,18 +23,18 @@ use Rattle.julian.proofs.order.Exactly.{finite-error, sooner-exactly, sum-worth
 use Rattle.julian.proofs.order.Swapped.{sooner-once}
 use Rattle.julian.specs.Equality.{sums}
 use Rattle.line_up.specs.Runs.{allTested, run, numbersAfter, zeros, merge, ordered, timesIn, MayFollow, Rising}
-use Rattle.line_up.specs.LineUp.{stampOf, deadAt, soonerAt, leastRoom, lineRefusal, lineWritten, putInLine, linedUp}
+use Rattle.line_up.specs.LineUp.{stampOf, unorderedAt, soonerAt, leastRoom, lineRefusal, lineWritten, putInLine, linedUp}
 use Rattle.line_up.proofs.Cases.{Fine, fine}
 use Rattle.line_up.proofs.Testing.{tested-length}
 use Rattle.line_up.proofs.Places.{place-timesIn, after-length, ordered-rises, ordered-runs, first-run, second-run, third-run}
-use Rattle.line_up.specs.keep_most.Piles.{Order, All, Alive}
+use Rattle.line_up.specs.keep_most.Piles.{Order, All, AllOrdered}
 use Rattle.line_up.proofs.keep_most.Longest.{chosen-ok}
 use Rattle.line_up.proofs.keep_most.Theorems.{kept-chosen}
 use Rattle.line_up.proofs.keep_most.OfRuns.{alive, slice-most}
 use Rattle.line_up.proofs.Marks.{run-rises}
 use Rattle.line_up.specs.laws.Claims.{Floats, by, notInLine, Each, Pairs, InOrder, Contrary, RunJudged, RightlyIn, Overtaken, LineVerdict, RunMost, OneLine, Lined}
 use Rattle.line_up.proofs.laws.Once.{any-default, two-lists}
-use Rattle.line_up.proofs.laws.Dead.{kept, nine, stays, zero-sound}
+use Rattle.line_up.proofs.laws.Unordered.{kept, nine, stays, zero-sound}
 use Rattle.line_up.proofs.laws.Judging.{judged, right}
 use Rattle.line_up.proofs.laws.Pairwise.{each-merge, rising-pairs, pairs-map, member, each-of-timesIn, one-list}
 
@@ -119,16 +119,16 @@ all-each Q (x ∷ xs) a = (a .0, all-each Q xs (a .1))
 -- ---- three runs of stamps, which end at places a, b and the length; come are their numbers before the call
 
 module _ (date : ℕ → JulianDate) (floats : (p : ℕ) → Floats (date p)) (come : List ℕ) (a b : ℕ) (ab : a ≤ b) (bc : b ≤ length come) where
-  dead : ℕ → Bool
-  dead p = not (hasPlace (date p))
+  unordered : ℕ → Bool
+  unordered p = not (hasPlace (date p))
 
-  -- the numbers once the dead are turned away
+  -- the numbers once the unordered are left out
   ns : List ℕ
-  ns = allTested dead 0 come
+  ns = allTested unordered 0 come
 
   same : length ns ≡ length come
   unfolding ns
-  same = tested-length dead 0 come
+  same = tested-length unordered 0 come
 
   bn : b ≤ length ns
   bn = omega (arith, bc, same)
@@ -158,16 +158,16 @@ module _ (date : ℕ → JulianDate) (floats : (p : ℕ) → Floats (date p)) (c
   unfolding line after
   line-rises = ordered-rises (by date) ns a b (length ns) ab bn (omega arith) (asym date floats)
 
-  not-dead : (t : Bool) → not t ≡ false → t ≡ true
-  not-dead true e = refl
-  not-dead false e = sym e
+  not-unordered : (t : Bool) → not t ≡ false → t ≡ true
+  not-unordered true e = refl
+  not-unordered false e = sym e
 
   -- every stamp that is left with 0 has a place in the order
   sound : (p : ℕ) → p < length ns → getD ns p 0 ≡ 0 → Sound date floats p
-  unfolding ns dead
-  sound p h e = sound-of date floats p (not-dead (hasPlace (date p)) (zero-sound dead come p (omega (arith, h, same)) e .1))
+  unfolding ns unordered
+  sound p h e = sound-of date floats p (not-unordered (hasPlace (date p)) (zero-sound unordered come p (omega (arith, h, same)) e .1))
 
-  run-alive : (from to : ℕ) → from ≤ to → to ≤ length ns → Alive (Sound date floats) from (slice from to ns)
+  run-alive : (from to : ℕ) → from ≤ to → to ≤ length ns → AllOrdered (Sound date floats) from (slice from to ns)
   run-alive from to h k = alive (by date) ns from to h k (Sound date floats) (sound-order date floats) (λ p u v e. sound p (omega arith) e)
 
   run-sound : (from to : ℕ) → from ≤ to → to ≤ length ns → Each (Sound date floats) (zeros from (run (by date) ns from to))
@@ -266,16 +266,16 @@ module _ (date : ℕ → JulianDate) (floats : (p : ℕ) → Floats (date p)) (c
     not-nine n p q = omega (arith, p, q)
 
     verdict : LineVerdict date come after from to i
-    unfolding ns dead
+    unfolding ns unordered
     verdict = record {
       refused = λ k.
-          let q : getD ns i 0 ≡ getD come i 0 = kept dead come i i-come k in
+          let q : getD ns i 0 ≡ getD come i 0 = kept unordered come i i-come k in
           judged-i .refused (λ z. k (sym q ∙ z)) ∙ q;
-      dead = λ e d.
-          let q : getD ns i 0 ≡ 9 = nine dead come i i-come e (ap not d) in
+      unordered = λ e d.
+          let q : getD ns i 0 ≡ 9 = nine unordered come i i-come e (ap not d) in
           judged-i .refused (not-nine (getD ns i 0) q) ∙ q;
       sound = λ e d.
-          let q : getD ns i 0 ≡ 0 = stays dead come i i-come e (ap not d) in
+          let q : getD ns i 0 ≡ 0 = stays unordered come i i-come e (ap not d) in
           turned-by q (judged-i .turned q);
       in-line = λ e o. in-run .none e (contrary e o);
     }
@@ -298,12 +298,12 @@ module _ (date : ℕ → JulianDate) (floats : (p : ℕ) → Floats (date p)) (c
       (right (by date) ns after from to ft tn r (run-pairs from to ft tn) i g h)
 
   zero-still : (to : ℕ) → to ≤ length come → (xs : List ℕ) → Each (λ (x : ℕ). (x < to) × ((getD come x 1 ≡ 0) × (hasPlace (date x) ≡ true))) xs → All (λ (x : ℕ). (x < to) × (getD ns x 1 ≡ 0)) xs
-  unfolding ns dead
+  unfolding ns unordered
   zero-still to tn [] e = tt
   zero-still to tn (x ∷ xs) e =
       let h : x < length come = omega (arith, e .0 .0, tn) in
       let z : getD come x 0 ≡ 0 = any-default come x 0 1 h ∙ e .0 .1 .0 in
-      ((e .0 .0, any-default ns x 1 0 (omega (arith, h, same)) ∙ stays dead come x h z (ap not (e .0 .1 .1))), zero-still to tn xs (e .1))
+      ((e .0 .0, any-default ns x 1 0 (omega (arith, h, same)) ∙ stays unordered come x h z (ap not (e .0 .1 .1))), zero-still to tn xs (e .1))
 
   run-most : (from to : ℕ) → (ft : from ≤ to) → (tn : to ≤ length ns) → slice from to after ≡ run (by date) ns from to → RunMost date come from to after
   run-most from to ft tn r xs u e rs =
@@ -344,7 +344,7 @@ module _ (js ks come : List ℕ) (first second : ℕ) (out : List ℕ) (tails ra
 
   -- THE LINE: every call that is not refused
   pub lined-up : lineRefusal (length js) (length ks) (length come) first second (leastRoom (length out) tails ranks) ≡ 0 → Lined js ks come first second out (linedUp js ks come first second out tails ranks)
-  unfolding linedUp putInLine lineWritten line after ns dead deadAt soonerAt
+  unfolding linedUp putInLine lineWritten line after ns unordered unorderedAt soonerAt
   lined-up z =
       let sizes = fine (length js) (length ks) (length come) first second (leastRoom (length out) tails ranks) z in
       let up : first ≤ first + second = omega arith in

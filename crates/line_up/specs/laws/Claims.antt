@@ -27,7 +27,7 @@ pub record Floats (d : JulianDate) : Type 0 where
 abbrev pub by : (ℕ → JulianDate) → ℕ → ℕ → Bool
 by date x y = isEarlier (date x) (date y)
 
--- the places of the numbers that are not 0, where the first stands at place i: who is refused or turned away
+-- the places of the numbers that are not 0, where the first stands at place i: who is refused or left out
 unfoldable pub notInLine : ℕ → List ℕ → List ℕ
 notInLine i [] = []
 notInLine i (m ∷ ms) = cond (eqb m 0) (notInLine (suc i) ms) (i ∷ notInLine (suc i) ms)
@@ -79,7 +79,7 @@ pub record Overtaken (date : ℕ → JulianDate) (ms : List ℕ) (from to i : �
 -- where an accepted one contradicts it; else 0
 pub record LineVerdict (date : ℕ → JulianDate) (ns ms : List ℕ) (from to i : ℕ) : Type 0 where
   pub refused : (getD ns i 0 ≡ 0 → ⊥) → getD ms i 0 ≡ getD ns i 0
-  pub dead : getD ns i 0 ≡ 0 → hasPlace (date i) ≡ false → getD ms i 0 ≡ 9
+  pub unordered : getD ns i 0 ≡ 0 → hasPlace (date i) ≡ false → getD ms i 0 ≡ 9
   pub sound : getD ns i 0 ≡ 0 → hasPlace (date i) ≡ true → (getD ms i 0 ≡ 0) ⊎ ((getD ms i 0 ≡ 17) × Overtaken date ms from to i)
   pub in-line : getD ms i 0 ≡ 0 → Overtaken date ms from to i → ⊥
 

@@ -2,7 +2,7 @@
 use Rattle.parsing.specs.Parsed.{parsedUtcOutcome, dated}
 use Rattle.utc.specs.FromCalendar.{utcFromCalendar}
 use Rattle.scales.specs.Scales.{utcOutcome}
-use Rattle.leap_table.specs.rows.Lent.{rowsIn}
+use Rattle.leap_table.specs.rows.Announced.{rowsIn}
 use Rattle.refusals.specs.Outcome.{onward}
 use denote.Ref.{now}
 use mir.Facts.{toZ-ofZ}

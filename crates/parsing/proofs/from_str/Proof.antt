@@ -1,6 +1,6 @@
 -- `from_str` meets its contract: the table is tested, and its rows are read. Assumes nothing.
 use mathlib.Core.Path.{_∙_}
-use Rattle.leap_table.proofs.rows.TablesTaken.{turned-away, taken}
+use Rattle.leap_table.proofs.rows.TablesTaken.{not-taken, taken}
 use Rattle.parsing.specs.Parsed.{parsedUtcOutcome}
 use borrow.Author.Needs.{needs}
 use Rattle.parsing.proofs.from_str.Statement.{statement}
@@ -8,7 +8,7 @@ use Rattle.parsing.proofs.from_str.Tie as tie
 
 returns : tie.Need-returns
 unfolding parsedUtcOutcome
-returns c = let r = c .before in turned-away (r .before .before .args .table) (r .table-refusal .result) (r .table-refusal .ensures) _ (c .if1 .taken)
+returns c = let r = c .before in not-taken (r .before .before .args .table) (r .table-refusal .result) (r .table-refusal .ensures) _ (c .if1 .taken)
 
 returns-2 : tie.Need-returns-2
 returns-2 c =

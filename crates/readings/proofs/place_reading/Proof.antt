@@ -1,7 +1,7 @@
 -- `readings::place_reading` meets its contract: a refusal of the reader, or the text of its date. Assumes nothing.
 use mathlib.Core.Path.{sym, ap}
 use denote.Ref.{now}
-use Rattle.leap_table.specs.rows.Lent.{rowsOf}
+use Rattle.leap_table.specs.rows.Announced.{rowsOf}
 use Rattle.readings.specs.Reading.{readingTold}
 use Rattle.readings.proofs.Lines.{read-refused, read-dated}
 use Rattle.numerals.proofs.digits.Places.{placed-as}

@@ -3,7 +3,7 @@ use mathlib.Core.Path.{sym, ap}
 use Prim.Native.Nat.{ℕ, _+_}
 use denote.Ref.{now}
 use native.Mathlib.Omega.{arith}
-use Rattle.leap_table.specs.rows.Lent.{rowsOf}
+use Rattle.leap_table.specs.rows.Announced.{rowsOf}
 use Rattle.numerals.proofs.digits.Places.{lent-length, part-put, part-kept, placed-as, placed-into}
 use Rattle.readings.specs.Reading.{readingTold}
 use Rattle.readings.proofs.Lines.{short, text-written, text-refused}

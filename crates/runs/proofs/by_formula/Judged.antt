@@ -24,7 +24,7 @@ use Rattle.julian.proofs.shifts.Outcomes.{first, first-by}
 use Rattle.julian.proofs.shifts.SmallerPart.{map-is, mapAs}
 use Rattle.line_up.specs.LineUp.{stampOf}
 use Rattle.line_up.proofs.Cases.{stamp-is}
-use Rattle.runs.specs.by_formula.Asked.{changeOf, changedStamp, offsetStamp, deadNumberOf}
+use Rattle.runs.specs.by_formula.Asked.{changeOf, changedStamp, offsetStamp, numberOfNotFiniteAt}
 
 -- ---- a finite number's pattern
 
@@ -80,12 +80,12 @@ module _ (f : Float → Float → Float) (js ks : List ℕ) (i a b : ℕ) (ea : 
       ap (converted f) (sym read) ∙ first f (julian (ofBits binary64 a) (ofBits binary64 b))
       ∙ ap (λ (u : JulianDate). cond (finite (ofBits binary64 a) && finite (ofBits binary64 b)) (answer u) (refusal 9)) (map-is f (julian (ofBits binary64 a) (ofBits binary64 b)))
 
-  pub dead-first : finite (ofBits binary64 a) ≡ false → changedStamp f js ks i ≡ refusal 9
-  dead-first h = rw h at judged
+  pub not-finite-first : finite (ofBits binary64 a) ≡ false → changedStamp f js ks i ≡ refusal 9
+  not-finite-first h = rw h at judged
 
   module _ (h : finite (ofBits binary64 a) ≡ true) where
-    dead-second : finite (ofBits binary64 b) ≡ false → changedStamp f js ks i ≡ refusal 9
-    dead-second k = rw (h, k) at judged
+    not-finite-second : finite (ofBits binary64 b) ≡ false → changedStamp f js ks i ≡ refusal 9
+    not-finite-second k = rw (h, k) at judged
 
     module _ (k : finite (ofBits binary64 b) ≡ true) (larger : Bool) (el : larger ≡ lt (abs (ofBits binary64 b)) (abs (ofBits binary64 a))) where
       moved : changedStamp f js ks i ≡ answer (mapAs f (julian (ofBits binary64 a) (ofBits binary64 b)) larger)
@@ -98,12 +98,12 @@ module _ (f : Float → Float → Float) (js ks : List ℕ) (i a b : ℕ) (ea : 
       pub changed-first : larger ≡ false → changedStamp f js ks i ≡ answer (julian (f (ofBits binary64 b) (ofBits binary64 a)) (ofBits binary64 b))
       changed-first e = rw e at moved
 
-  pub dead-either : finite (ofBits binary64 b) ≡ false → changedStamp f js ks i ≡ refusal 9
-  dead-either k = go (finite (ofBits binary64 a)) refl
+  pub not-finite-either : finite (ofBits binary64 b) ≡ false → changedStamp f js ks i ≡ refusal 9
+  not-finite-either k = go (finite (ofBits binary64 a)) refl
     where
       go : (t : Bool) → finite (ofBits binary64 a) ≡ t → changedStamp f js ks i ≡ refusal 9
-      go true h = dead-second h k
-      go false h = dead-first h
+      go true h = not-finite-second h k
+      go false h = not-finite-first h
 
 -- ---- a stamp with an offset of its own
 module _ (earlier : Bool) (js ks os : List ℕ) (i : ℕ) where
@@ -122,9 +122,9 @@ module _ (earlier : Bool) (js ks os : List ℕ) (i : ℕ) where
       ∙ sym (rw h at (first-by (cond earlier minus plus) s (stampOf js ks i)))
       ∙ ap (λ (n : ℕ). convertedBy (cond earlier minus plus) (ofBits binary64 n) (stampOf js ks i)) e
 
-  pub offset-dead : (c : ℕ) → c ≡ u64At os (8 * i) → finite (ofBits binary64 c) ≡ false → offsetStamp earlier js ks os i ≡ refusal (deadNumberOf js ks i)
-  unfolding deadNumberOf stampOf
-  offset-dead c e h =
+  pub offset-not-finite : (c : ℕ) → c ≡ u64At os (8 * i) → finite (ofBits binary64 c) ≡ false → offsetStamp earlier js ks os i ≡ refusal (numberOfNotFiniteAt js ks i)
+  unfolding numberOfNotFiniteAt stampOf
+  offset-not-finite c e h =
       ap (λ (n : ℕ). convertedBy (cond earlier minus plus) (ofBits binary64 n) (stampOf js ks i)) (sym e)
       ∙ (rw h at (first-by (cond earlier minus plus) (ofBits binary64 c) (stampOf js ks i)))
       ∙ go (finite (ofBits binary64 (u64At js (8 * i))) && finite (ofBits binary64 (u64At ks (8 * i))))
@@ -134,9 +134,9 @@ module _ (earlier : Bool) (js ks os : List ℕ) (i : ℕ) where
       go false = refl
 
   -- the number fits a byte
-  pub dead-small : deadNumberOf js ks i ≡ deadNumberOf js ks i % 256
-  unfolding deadNumberOf
-  dead-small = go (finite (ofBits binary64 (u64At js (8 * i))) && finite (ofBits binary64 (u64At ks (8 * i))))
+  pub not-finite-small : numberOfNotFiniteAt js ks i ≡ numberOfNotFiniteAt js ks i % 256
+  unfolding numberOfNotFiniteAt
+  not-finite-small = go (finite (ofBits binary64 (u64At js (8 * i))) && finite (ofBits binary64 (u64At ks (8 * i))))
     where
       go : (t : Bool) → _≡_ {A = ℕ} (cond t 10 9) (cond t 10 9 % 256)
       go true = refl

@@ -2,7 +2,7 @@
 use Prim.Native.Nat.{_-_}
 use native.Mathlib.Omega.{arith}
 use borrow.Author.Needs.{needs}
-use Rattle.leap_table.specs.rows.Lent.{rowsIn}
+use Rattle.leap_table.specs.rows.Announced.{rowsIn}
 use Rattle.runs.specs.Run.{stampAnswer}
 use Rattle.runs.proofs.by_formula.Puts.{Putting, putting-starts, len1, len2, len3, few, putting-goes, putting-ends}
 use Rattle.runs.proofs.convert_all.Statement.{statement}

@@ -2,7 +2,7 @@
 use mathlib.Core.Path.{_≡_, refl, sym, ap, subst, _∙_}
 use mathlib.Core.List.{List}
 use Rattle.leap_table.specs.rows.Table.{Row}
-use Rattle.leap_table.specs.rows.Lent.{rowsOf, tableOf}
+use Rattle.leap_table.specs.rows.Announced.{rowsOf, tableOf}
 use Rattle.leap_table.proofs.rows.ByParts.{rows-in}
 use Rattle.runs.specs.Run.{runBy}
 use Rattle.runs.proofs.Calls.{table-refused, table-taken}

@@ -1,6 +1,6 @@
 -- `runs::convert_run_by_lent` meets its contract. Assumes nothing.
 use mathlib.Core.Path.{refl, sym, _∙_}
-use Rattle.leap_table.specs.rows.Lent.{rowsIn}
+use Rattle.leap_table.specs.rows.Announced.{rowsIn}
 use Rattle.runs.proofs.Short.{short-run}
 use Rattle.runs.proofs.Calls.{run-refused, roomy, run-ends}
 use borrow.Author.Needs.{needs}

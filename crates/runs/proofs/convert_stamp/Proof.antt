@@ -1,6 +1,6 @@
 -- `runs::convert_stamp` meets its contract. Assumes nothing.
 use mathlib.Core.Path.{ap, _∙_}
-use Rattle.leap_table.specs.rows.Lent.{rowsIn}
+use Rattle.leap_table.specs.rows.Announced.{rowsIn}
 use Rattle.runs.specs.ways.Ways.{wayOf}
 use Rattle.runs.proofs.by_formula.Puts.{put-same}
 use borrow.Author.Needs.{needs}

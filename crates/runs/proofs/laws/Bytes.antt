@@ -15,7 +15,7 @@ use Rattle.numerals.specs.little_endian.LittleEndian.{eightBytes}
 use Rattle.julian.specs.declared.JulianDate.{JulianDate}
 use Rattle.runs.specs.by_formula.Run.{numberByte, withPart, withParts, withNumbers, refusedAmong}
 use Rattle.runs.proofs.by_formula.Puts.{parts-length, numbers-length}
-use Rattle.runs.specs.laws.Dead.{notZeroIn}
+use Rattle.runs.specs.laws.NotFiniteStamps.{notZeroIn}
 
 -- ---- bytes set one after the other from index i on
 outside : (vs l : List ℕ) (i j : ℕ) → (j < i) ⊎ (i + length vs ≤ j) → getD (sets l i vs) j 0 ≡ getD l j 0

@@ -1,4 +1,4 @@
--- WHAT A RUN BY A FORMULA MEANS, for every run of every length: which conversions it takes and with which lengths, each stamp's answer and number, the count, the dead stamps and offsets, and a refused
+-- WHAT A RUN BY A FORMULA MEANS, for every run of every length: which conversions it takes and with which lengths, each stamp's answer and number, the count, the stamps and offsets that are not finite, and a refused
 -- call. Assumes nothing.
 use Prim.Native.Nat.{ℕ, _*_, _/_, _%_, _<_, _≤_}
 use native.Mathlib.Omega.{arith}
@@ -24,10 +24,10 @@ use Rattle.scales.specs.Conversions.{Conversion, answerOf}
 use Rattle.line_up.specs.LineUp.{stampOf}
 use Rattle.runs.specs.by_formula.Run.{RunCall, runCall, runWritten}
 use Rattle.runs.specs.by_formula.Formula.{formulaOf, byFormula, formulaAnswer, takesOffset, lengthsRefusal, formulaRefusal, formulaRun}
-use Rattle.runs.specs.laws.Dead.{DeadStamp, notZeroIn}
+use Rattle.runs.specs.laws.NotFiniteStamps.{StampNotFinite, notZeroIn}
 use Rattle.runs.specs.laws.Done.{StampDone, SpareStays}
 use Rattle.runs.specs.laws.EachFormula.{EachFormula, OffsetPair, tai-ut1-pair, ut1-tai-pair, ut1-tt-pair, tt-ut1-pair, tt-tdb-pair, tdb-tt-pair, FormulaPair, gps-tai-pair, tai-gps-pair, tai-tt-pair, tt-tai-pair, tt-tcg-pair, tcg-tt-pair, tcb-tdb-pair, tdb-tcb-pair, offset-pair, FormulaRefusal, dueOf, LengthsDue}
-use Rattle.runs.proofs.laws.Refusing.{dead-not-finite}
+use Rattle.runs.proofs.laws.Refusing.{pattern-not-finite}
 use Rattle.runs.proofs.laws.Written.{stamp-written, spare-kept, count-written}
 
 -- ---- EACH PAIR of scales is one conversion of document 01
@@ -82,7 +82,7 @@ module _ (from to : ℕ) (seconds : Float) where
       (next _ _ _ c (is 7 3 (offset-pair tdb-tt-pair))
       (λ e. let z : _≡_ {A = ℕ} 0 1 = cc e in let w : ⊥ = omega arith in absurd w))))))))))))))
 
--- ---- WHY A STAMP IS REFUSED: 9 for a dead part, then 10 for a dead offset, and for nothing else
+-- ---- WHY A STAMP IS REFUSED: 9 for a not-finite part, then 10 for a not-finite offset, and for nothing else
 by-change : (f : Float → Float → Float) (seconds : Float) (d : JulianDate) (k : ℕ) → converted f d ≡ refusal k → FormulaRefusal seconds d k
 by-change f seconds d k e = go (finiteParts d) refl (sym (first f d) ∙ e)
   where
@@ -120,45 +120,45 @@ module _ (seconds : Float) (d : JulianDate) where
   why-refused _ _ tdb-tcb-pair k e = by-change _ seconds d k e
   why-refused from to (offset-pair p) k e = by-given from to p k e
 
-  -- every dead part, and every dead offset beside finite parts
-  dead-part : (f : Float → Float → Float) → finiteParts d ≡ false → converted f d ≡ refusal 9
-  dead-part f h = first f d ∙ rw h
+  -- every part that is not finite, and every offset that is not finite beside finite parts
+  not-finite-part : (f : Float → Float → Float) → finiteParts d ≡ false → converted f d ≡ refusal 9
+  not-finite-part f h = first f d ∙ rw h
 
-  dead-part-by : (f : Float → Float → Float → Float) → finiteParts d ≡ false → convertedBy f seconds d ≡ refusal 9
-  dead-part-by f h = first-by f seconds d ∙ rw h
+  not-finite-part-by : (f : Float → Float → Float → Float) → finiteParts d ≡ false → convertedBy f seconds d ≡ refusal 9
+  not-finite-part-by f h = first-by f seconds d ∙ rw h
 
-  dead-offset-by : (f : Float → Float → Float → Float) → finiteParts d ≡ true → finite seconds ≡ false → convertedBy f seconds d ≡ refusal 10
-  dead-offset-by f h k = first-by f seconds d ∙ rw (h, k)
+  not-finite-offset-by : (f : Float → Float → Float → Float) → finiteParts d ≡ true → finite seconds ≡ false → convertedBy f seconds d ≡ refusal 10
+  not-finite-offset-by f h k = first-by f seconds d ∙ rw (h, k)
 
-  pub dead-offset-refused : (from to : ℕ) → OffsetPair from to → finiteParts d ≡ true → finite seconds ≡ false → byFormula from to seconds d ≡ refusal 10
+  pub not-finite-offset-refused : (from to : ℕ) → OffsetPair from to → finiteParts d ≡ true → finite seconds ≡ false → byFormula from to seconds d ≡ refusal 10
   unfolding byFormula formulaOf onward answerOf
-  dead-offset-refused _ _ tai-ut1-pair h k = dead-offset-by _ h k
-  dead-offset-refused _ _ ut1-tai-pair h k = dead-offset-by _ h k
-  dead-offset-refused _ _ ut1-tt-pair h k = dead-offset-by _ h k
-  dead-offset-refused _ _ tt-ut1-pair h k = dead-offset-by _ h k
-  dead-offset-refused _ _ tt-tdb-pair h k = dead-offset-by _ h k
-  dead-offset-refused _ _ tdb-tt-pair h k = dead-offset-by _ h k
+  not-finite-offset-refused _ _ tai-ut1-pair h k = not-finite-offset-by _ h k
+  not-finite-offset-refused _ _ ut1-tai-pair h k = not-finite-offset-by _ h k
+  not-finite-offset-refused _ _ ut1-tt-pair h k = not-finite-offset-by _ h k
+  not-finite-offset-refused _ _ tt-ut1-pair h k = not-finite-offset-by _ h k
+  not-finite-offset-refused _ _ tt-tdb-pair h k = not-finite-offset-by _ h k
+  not-finite-offset-refused _ _ tdb-tt-pair h k = not-finite-offset-by _ h k
 
-  dead-given : (from to : ℕ) → OffsetPair from to → finiteParts d ≡ false → byFormula from to seconds d ≡ refusal 9
+  not-finite-given : (from to : ℕ) → OffsetPair from to → finiteParts d ≡ false → byFormula from to seconds d ≡ refusal 9
   unfolding byFormula formulaOf onward answerOf
-  dead-given _ _ tai-ut1-pair h = dead-part-by _ h
-  dead-given _ _ ut1-tai-pair h = dead-part-by _ h
-  dead-given _ _ ut1-tt-pair h = dead-part-by _ h
-  dead-given _ _ tt-ut1-pair h = dead-part-by _ h
-  dead-given _ _ tt-tdb-pair h = dead-part-by _ h
-  dead-given _ _ tdb-tt-pair h = dead-part-by _ h
+  not-finite-given _ _ tai-ut1-pair h = not-finite-part-by _ h
+  not-finite-given _ _ ut1-tai-pair h = not-finite-part-by _ h
+  not-finite-given _ _ ut1-tt-pair h = not-finite-part-by _ h
+  not-finite-given _ _ tt-ut1-pair h = not-finite-part-by _ h
+  not-finite-given _ _ tt-tdb-pair h = not-finite-part-by _ h
+  not-finite-given _ _ tdb-tt-pair h = not-finite-part-by _ h
 
-  pub dead-part-refused : (from to : ℕ) → FormulaPair from to → finiteParts d ≡ false → byFormula from to seconds d ≡ refusal 9
+  pub not-finite-part-refused : (from to : ℕ) → FormulaPair from to → finiteParts d ≡ false → byFormula from to seconds d ≡ refusal 9
   unfolding byFormula formulaOf onward answerOf
-  dead-part-refused _ _ gps-tai-pair h = dead-part _ h
-  dead-part-refused _ _ tai-gps-pair h = dead-part _ h
-  dead-part-refused _ _ tai-tt-pair h = dead-part _ h
-  dead-part-refused _ _ tt-tai-pair h = dead-part _ h
-  dead-part-refused _ _ tt-tcg-pair h = dead-part _ h
-  dead-part-refused _ _ tcg-tt-pair h = dead-part _ h
-  dead-part-refused _ _ tcb-tdb-pair h = dead-part _ h
-  dead-part-refused _ _ tdb-tcb-pair h = dead-part _ h
-  dead-part-refused from to (offset-pair p) h = dead-given from to p h
+  not-finite-part-refused _ _ gps-tai-pair h = not-finite-part _ h
+  not-finite-part-refused _ _ tai-gps-pair h = not-finite-part _ h
+  not-finite-part-refused _ _ tai-tt-pair h = not-finite-part _ h
+  not-finite-part-refused _ _ tt-tai-pair h = not-finite-part _ h
+  not-finite-part-refused _ _ tt-tcg-pair h = not-finite-part _ h
+  not-finite-part-refused _ _ tcg-tt-pair h = not-finite-part _ h
+  not-finite-part-refused _ _ tcb-tdb-pair h = not-finite-part _ h
+  not-finite-part-refused _ _ tdb-tcb-pair h = not-finite-part _ h
+  not-finite-part-refused from to (offset-pair p) h = not-finite-given from to p h
 
 -- ---- A REFUSED CALL writes nothing
 pub formula-refused-writes-nothing : (from to : ℕ) (js ks os out1 out2 numbers : List ℕ) (k : ℕ) → formulaRun from to js ks os out1 out2 numbers .answer ≡ refusal k
@@ -313,5 +313,5 @@ module _ (from to : ℕ) (js ks os out1 out2 numbers : List ℕ) (z : formulaRef
   formula-count-is = subst (λ (c : RunCall). c .answer ≡ answer (notZeroIn n (c .numbers))) (sym written) (count-written f n out1 out2 numbers room1 room2 (fits .bytes))
 
   -- EVERY DEAD STAMP is refused by 9
-  pub formula-dead-refused : (i : ℕ) → DeadStamp js ks i → f i ≡ refusal 9
-  formula-dead-refused i h = dead-part-refused (ofBits binary64 (u64At os (8 * i))) (stampOf js ks i) from to pair (dead-not-finite js ks i h)
+  pub formula-not-finite-refused : (i : ℕ) → StampNotFinite js ks i → f i ≡ refusal 9
+  formula-not-finite-refused i h = not-finite-part-refused (ofBits binary64 (u64At os (8 * i))) (stampOf js ks i) from to pair (pattern-not-finite js ks i h)

@@ -38,7 +38,7 @@ use Rattle.utc_scales.proofs.laws.NotFinite.{utc-to-tai-not-finite, tai-to-utc-
 use Rattle.line_up.specs.LineUp.{stampOf}
 use Rattle.floats.proofs.ExponentField.{field-not-finite}
 use Rattle.runs.specs.ways.Ways.{isRunScale, intoTai, outOfTai, between, wayOf}
-use Rattle.runs.specs.laws.Dead.{DeadStamp, deadNumber, OneSixNine}
+use Rattle.runs.specs.laws.NotFiniteStamps.{StampNotFinite, numberOfNotFinite, OneSixNine}
 use Rattle.runs.proofs.laws.EachWay.{each-way}
 
 -- ---- the five scales
@@ -76,8 +76,8 @@ module _ (rows : List Row) (d : JulianDate) (h : finiteParts d ≡ false) where
   six : utcToTai rows d ≡ refusal 6
   six = utc-to-tai-not-finite rows d h
 
-  pub not-finite-way : (from to : ℕ) → Five from → Five to → wayOf rows from to d ≡ refusal (deadNumber from to)
-  unfolding deadNumber answerOf
+  pub not-finite-way : (from to : ℕ) → Five from → Five to → wayOf rows from to d ≡ refusal (numberOfNotFinite from to)
+  unfolding numberOfNotFinite answerOf
   not-finite-way from to utc utc = each-way rows d .utc-utc ∙ same-nine
   not-finite-way from to utc tai = each-way rows d .utc-tai ∙ six
   not-finite-way from to utc tt′ = each-way rows d .utc-tt ∙ stopped _ six
@@ -104,16 +104,16 @@ module _ (rows : List Row) (d : JulianDate) (h : finiteParts d ≡ false) where
   not-finite-way from to tcg gps = each-way rows d .tcg-gps ∙ stopped _ (stopped _ (nine tcgToTt))
   not-finite-way from to tcg tcg = each-way rows d .tcg-tcg ∙ same-nine
 
--- ---- a dead stamp
+-- ---- a not-finite stamp
 either : (a b : Bool) → (a ≡ false) ⊎ (b ≡ false) → (a && b) ≡ false
 either true b (inl e) = absurd (true≢false e)
 either true b (inr e) = e
 either false b e = refl
 
-pub dead-not-finite : (js ks : List ℕ) (i : ℕ) → DeadStamp js ks i → finiteParts (stampOf js ks i) ≡ false
+pub pattern-not-finite : (js ks : List ℕ) (i : ℕ) → StampNotFinite js ks i → finiteParts (stampOf js ks i) ≡ false
 unfolding stampOf
-dead-not-finite js ks i (inl e) = either (finite (ofBits binary64 (u64At js (8 * i)))) (finite (ofBits binary64 (u64At ks (8 * i)))) (inl (field-not-finite (u64At js (8 * i)) e))
-dead-not-finite js ks i (inr e) = either (finite (ofBits binary64 (u64At js (8 * i)))) (finite (ofBits binary64 (u64At ks (8 * i)))) (inr (field-not-finite (u64At ks (8 * i)) e))
+pattern-not-finite js ks i (inl e) = either (finite (ofBits binary64 (u64At js (8 * i)))) (finite (ofBits binary64 (u64At ks (8 * i)))) (inl (field-not-finite (u64At js (8 * i)) e))
+pattern-not-finite js ks i (inr e) = either (finite (ofBits binary64 (u64At js (8 * i)))) (finite (ofBits binary64 (u64At ks (8 * i)))) (inr (field-not-finite (u64At ks (8 * i)) e))
 
 -- ---- from a scale to the same, any other stamp passes
 pub same-passes : (rows : List Row) (n : ℕ) (d : JulianDate) → finiteParts d ≡ true → wayOf rows n n d ≡ answer d

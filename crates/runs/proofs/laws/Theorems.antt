@@ -1,4 +1,4 @@
--- WHAT A RUN MEANS, for every run of every length: each stamp's answer and number, the count, the dead stamps, the same scale, and a refused call. Assumes nothing.
+-- WHAT A RUN MEANS, for every run of every length: each stamp's answer and number, the count, the stamps that are not finite, the same scale, and a refused call. Assumes nothing.
 use Prim.Native.Nat.{ℕ, _*_, _/_, _%_, _<_, _≤_, _^_}
 use native.Mathlib.Omega.{arith}
 use native.Mathlib.Nat.{div-mul-le-self}
@@ -23,9 +23,9 @@ use Rattle.runs.specs.Run.{stampAnswer, runRefusal, runBy, convertedRun}
 use Rattle.runs.proofs.Calls.{Fitting, fitting}
 use Rattle.runs.proofs.by_formula.Judged.{pattern-back}
 use Rattle.utc_scales.specs.laws.Claims.{Holds, Any}
-use Rattle.runs.specs.laws.Dead.{DeadStamp, deadNumber, OneSixNine, notZeroIn}
+use Rattle.runs.specs.laws.NotFiniteStamps.{StampNotFinite, numberOfNotFinite, OneSixNine, notZeroIn}
 use Rattle.runs.specs.laws.Done.{StampDone, SpareStays}
-use Rattle.runs.proofs.laws.Refusing.{five, not-finite-way, dead-not-finite, same-passes, way-refusals, stamp-held}
+use Rattle.runs.proofs.laws.Refusing.{five, not-finite-way, pattern-not-finite, same-passes, way-refusals, stamp-held}
 use Rattle.runs.proofs.laws.Written.{stamp-written, spare-kept, count-written}
 
 -- ---- A REFUSED CALL writes nothing
@@ -87,12 +87,12 @@ module _ (rows : List Row) (from to : ℕ) (js ks out1 out2 numbers : List ℕ) 
   count-is = subst (λ (c : RunCall). c .answer ≡ answer (notZeroIn n (c .numbers))) (sym written) (count-written f n out1 out2 numbers room1 room2 (fits .bytes))
 
   -- EVERY DEAD STAMP is refused, by 6 where the first call reads the leap table and else by 9
-  pub dead-stamp-refused : (i : ℕ) → DeadStamp js ks i → f i ≡ refusal (deadNumber from to)
-  dead-stamp-refused i h = not-finite-way rows (stampOf js ks i) (dead-not-finite js ks i h) from to (five from (fits .known-from)) (five to (fits .known-to))
+  pub not-finite-stamp-refused : (i : ℕ) → StampNotFinite js ks i → f i ≡ refusal (numberOfNotFinite from to)
+  not-finite-stamp-refused i h = not-finite-way rows (stampOf js ks i) (pattern-not-finite js ks i h) from to (five from (fits .known-from)) (five to (fits .known-to))
 
-  pub dead-stamp-numbered : (i : ℕ) → i < n → DeadStamp js ks i → getD (convertedRun (answer rows) from to js ks out1 out2 numbers .numbers) i 0 ≡ deadNumber from to
-  unfolding numberByte deadNumber
-  dead-stamp-numbered i h d = each-stamp i h .numbered ∙ ap numberByte (dead-stamp-refused i d) ∙ small (eqb from to) (eqb from 0 || (eqb from 1 && eqb to 0))
+  pub not-finite-stamp-numbered : (i : ℕ) → i < n → StampNotFinite js ks i → getD (convertedRun (answer rows) from to js ks out1 out2 numbers .numbers) i 0 ≡ numberOfNotFinite from to
+  unfolding numberByte numberOfNotFinite
+  not-finite-stamp-numbered i h d = each-stamp i h .numbered ∙ ap numberByte (not-finite-stamp-refused i d) ∙ small (eqb from to) (eqb from 0 || (eqb from 1 && eqb to 0))
     where
       small : (a b : Bool) → cond a 9 (cond b 6 9) % 256 ≡ cond a 9 (cond b 6 9)
       small true b = refl

@@ -7,7 +7,7 @@ use lib.ListN.{length}
 use Rattle.refusals.specs.Outcome.{Outcome, answer}
 use Rattle.julian.specs.declared.JulianDate.{JulianDate}
 use Rattle.runs.specs.by_formula.Run.{firstPart, secondPart, runWritten}
-use Rattle.runs.specs.laws.Dead.{notZeroIn}
+use Rattle.runs.specs.laws.NotFiniteStamps.{notZeroIn}
 use Rattle.runs.specs.laws.Done.{StampDone, SpareStays}
 use Rattle.runs.proofs.laws.Bytes.{parts-beyond, answered-at, refused-at, numbers-beyond, number-at, counted}
 

@@ -99,5 +99,5 @@ abbrev pub offsetStamp : Bool → List ℕ → List ℕ → List ℕ → ℕ →
 offsetStamp earlier js ks os i = convertedBy (cond earlier minus plus) (ofBits binary64 (u64At os (8 * i))) (stampOf js ks i)
 
 -- the number of the stamp at place i where its offset is not finite
-unfoldable pub deadNumberOf : List ℕ → List ℕ → ℕ → ℕ
-deadNumberOf js ks i = cond (finite (ofBits binary64 (u64At js (8 * i))) && finite (ofBits binary64 (u64At ks (8 * i)))) 10 9
+unfoldable pub numberOfNotFiniteAt : List ℕ → List ℕ → ℕ → ℕ
+numberOfNotFiniteAt js ks i = cond (finite (ofBits binary64 (u64At js (8 * i))) && finite (ofBits binary64 (u64At ks (8 * i)))) 10 9

@@ -41,6 +41,6 @@ between rows from to d =
     (cond (eqb from 5 && eqb to 3) (answerOf tcg-tt d)
     (onward (intoTai rows from d) (outOfTai rows to)))
 
--- the same scale is the test for dead stamps: the date itself, and 9 where a part is not finite
+-- the same scale is the test for stamps that are not finite: the date itself, and 9 where a part is not finite
 unfoldable pub wayOf : List Row → ℕ → ℕ → JulianDate → Outcome JulianDate
 wayOf rows from to d = cond (eqb from to) (finiteJd d) (between rows from to d)

@@ -4,7 +4,7 @@ ghost use Prim.Native.Nat.{_+_, _*_, _≤_};
 ghost use mathlib.Core.Bool.{cond};
 ghost use lib.Ieee.{neg};
 ghost use lib.ListN.{length};
-ghost use Rattle.runs.specs.by_formula.Asked.{HasPlace, Roomy, StampPut, RunPut, deadNumberOf, offsetStamp};
+ghost use Rattle.runs.specs.by_formula.Asked.{HasPlace, Roomy, StampPut, RunPut, numberOfNotFiniteAt, offsetStamp};
 use super::changes::change_stamp;
 use super::is_number;
 use super::one_if_refused;
@@ -12,9 +12,9 @@ use super::pairs;
 use super::pattern_at;
 
 // The number of a stamp whose offset is not finite: 9 where a part is not, and else 10.
-fn dead_number(jd1s: &[u8], jd2s: &[u8], i: usize) -> u8
+fn not_finite_number(jd1s: &[u8], jd2s: &[u8], i: usize) -> u8
     requires { ⌜ HasPlace i (now jd1s) (now jd2s) ⌝ }
-    ensures { λ r. ⌜ r ≡ deadNumberOf (now (jd1s .entry)) (now (jd2s .entry)) i ⌝ }
+    ensures { λ r. ⌜ r ≡ numberOfNotFiniteAt (now (jd1s .entry)) (now (jd2s .entry)) i ⌝ }
 {
     if !is_number(pattern_at(jd1s, i)) {
         return 9;
@@ -46,7 +46,7 @@ fn offset_stamp(
 {
     let c = pattern_at(offsets, i);
     if !is_number(c) {
-        return dead_number(jd1s, jd2s, i);
+        return not_finite_number(jd1s, jd2s, i);
     }
     let days = f64::from_bits(c) / constants::SECONDS_PER_DAY_F64;
     change_stamp(

@@ -30,7 +30,7 @@ use Rattle.time_of_day.specs.declared.TimeShown.{TimeShown}
 use Rattle.time_of_day.specs.declared.TimeShown.the-variants.{At, NextMidnight}
 use Rattle.time_of_day.specs.TimeShown.{shownBy}
 use Rattle.utc.specs.text.Expanded.{expandedYear, expandedText}
-use Rattle.utc.specs.iso_texts.Expanded.{expandedSheet, isoTextExpanded}
+use Rattle.utc.specs.iso_texts.Expanded.{expandedForm, isoTextExpanded}
 use Rattle.utc.proofs.iso_texts.TextCalls.{fields-given-by}
 use Rattle.utc.proofs.laws.DayTexts.{textBy, leapOn, has-text-by}
 use Rattle.reasons.specs.sentences.Texts.{texts, fixedText}
@@ -80,9 +80,9 @@ wide NextMidnight = refl
 
 zero-text : (rows : List Row) → (t : List ℕ) × (isoTextExpanded rows (julian nil nil) ≡ answer t) × (length t ≡ 27)
 zero-text rows =
-    let r = shownBy (expandedSheet .count) (dayOf nil nil .fraction) (leapOn rows zeroDate (zero-valid .0) (zero-valid .1)) in (
+    let r = shownBy (expandedForm .count) (dayOf nil nil .fraction) (leapOn rows zeroDate (zero-valid .0) (zero-valid .1)) in (
       textBy expandedText zeroDate r,
-      fields-given-by expandedSheet rows (julian nil nil) _ zero-calendar ∙ has-text-by rows zeroDate (zero-valid .0) (zero-valid .1) expandedSheet (dayOf nil nil .fraction),
+      fields-given-by expandedForm rows (julian nil nil) _ zero-calendar ∙ has-text-by rows zeroDate (zero-valid .0) (zero-valid .1) expandedForm (dayOf nil nil .fraction),
       wide r,
     )
 

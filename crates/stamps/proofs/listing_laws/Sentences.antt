@@ -22,7 +22,7 @@ use Rattle.julian.specs.JulianDate.{julian, roundedSum}
 use Rattle.julian.specs.Calendar.{fields, julianToCalendar}
 use Rattle.julian.proofs.laws.CalendarDays.{fields-of, only-six}
 use Rattle.leap_table.specs.rows.Table.{Row}
-use Rattle.utc.specs.iso_texts.Expanded.{expandedSheet, isoTextExpanded}
+use Rattle.utc.specs.iso_texts.Expanded.{expandedForm, isoTextExpanded}
 use Rattle.julian.proofs.Dates.{date-in-range}
 use Rattle.utc.proofs.laws.Numbers.{not-both, one-number, date-refusal}
 use Rattle.utc.proofs.iso_texts.TextCalls.{fields-refused-by, fields-given-by}
@@ -93,13 +93,13 @@ module _ (rows : List Row) (jd : JulianDate) where
             → Which jd k
         go (refusal n) p =
             let six = only-six (jd .jd1) (jd .jd2) n p in
-            inl (one-number (isoTextExpanded rows jd) k n e (fields-refused-by expandedSheet rows jd n p) ∙ six, p ∙ ap refusal six)
+            inl (one-number (isoTextExpanded rows jd) k n e (fields-refused-by expandedForm rows jd n p) ∙ six, p ∙ ap refusal six)
         go (answer c) p = by-date (date-refusal (jd .jd1) (jd .jd2) c p)
           where
             by-date : (validOf (c .date) ≡ answer tt) ⊎ (validOf (c .date) ≡ refusal 1)
                 → Which jd k
-            by-date (inl v) = absurd (not-both (isoTextExpanded rows jd) _ k (fields-given-by expandedSheet rows jd c p ∙ has-text-by rows (c .date) v (date-in-range (jd .jd1) (jd .jd2) c p .year-high) expandedSheet (c .fraction)) e)
-            by-date (inr v) = inr (one-number (isoTextExpanded rows jd) k 1 e (fields-given-by expandedSheet rows jd c p ∙ text-refused-by rows (c .date) expandedSheet (c .fraction) 1 v), (c, p, v))
+            by-date (inl v) = absurd (not-both (isoTextExpanded rows jd) _ k (fields-given-by expandedForm rows jd c p ∙ has-text-by rows (c .date) v (date-in-range (jd .jd1) (jd .jd2) c p .year-high) expandedForm (c .fraction)) e)
+            by-date (inr v) = inr (one-number (isoTextExpanded rows jd) k 1 e (fields-given-by expandedForm rows jd c p ∙ text-refused-by rows (c .date) expandedForm (c .fraction) 1 v), (c, p, v))
 
   sum-named : isoTextExpanded rows jd ≡ refusal 6 → offending 6 (refusedValues jd) ≡ Sum (roundedSum jd)
   unfolding valuesBy reasonOf

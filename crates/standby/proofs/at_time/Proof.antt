@@ -11,8 +11,8 @@ use Rattle.refusals.specs.Outcome.{answer}
 use Rattle.calendar.specs.declared.CalendarDate.{CalendarDate}
 use Rattle.calendar.proofs.Accepted.{date-accepted}
 use Rattle.calendar.proofs.NextDates.{next-is}
-use Rattle.leap_table.specs.declared.rows.LentRows.{LentRows}
-use Rattle.leap_table.specs.rows.Lent.{rowsOf}
+use Rattle.leap_table.specs.declared.rows.AnnouncedRows.{AnnouncedRows}
+use Rattle.leap_table.specs.rows.Announced.{rowsOf}
 use Rattle.leap_table.specs.offsets.WholeSeconds.{wholeSeconds}
 use Rattle.standby.specs.declared.UtcTime.{UtcTime}
 use Rattle.standby.specs.declared.Instant.{Instant}
@@ -23,7 +23,7 @@ use Rattle.standby.proofs.Times.{same-instant, never-at, few-millis, of
 use Rattle.standby.proofs.at_time.Statement.{statement}
 use Rattle.standby.proofs.at_time.Tie as tie
 
-offset-limit : (table : LentRows) (t : UtcTime) (day : ℕ) (next : CalendarDate) → Dated table t day next → offsetOnDate (rowsOf table) t ≤ 53
+offset-limit : (table : AnnouncedRows) (t : UtcTime) (day : ℕ) (next : CalendarDate) → Dated table t day next → offsetOnDate (rowsOf table) t ≤ 53
 offset-limit table t day next d =
     let a = date-accepted (t .year) (pos (t .month)) (pos (t .day)) (next-is (t .year) (pos (t .month)) (pos (t .day)) next (d .has-next) .0) in
     offset-small table (rowsOf table) (d .taken) (t .year) (t .month) (d .from-1972) (a .m-low) (a .m-high) .1

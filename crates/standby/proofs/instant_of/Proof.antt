@@ -15,7 +15,7 @@ use Rattle.calendar.specs.DayCount.{mjdNumber, mjdOf}
 use Rattle.calendar.specs.Answers.{mjdOutcome, nextOutcome}
 use Rattle.calendar.proofs.Signs.{lt-left, cast-fits}
 use Rattle.calendar.proofs.Mjd.{mjd-given, mjd-valid, same-answer}
-use Rattle.leap_table.specs.rows.Lent.{rowsOf}
+use Rattle.leap_table.specs.rows.Announced.{rowsOf}
 use Rattle.leap_table.proofs.offsets.Mjd.{mjd-small, read}
 use Rattle.standby.specs.Answers.{instantOutcome}
 use Rattle.standby.proofs.Times.{never-at, mjd-natural, early-year, no-date, no-next, on-date}

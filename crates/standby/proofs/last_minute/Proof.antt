@@ -7,7 +7,7 @@ use mir.Syntax.{w32}
 use mir.Val.{toZ}
 use mir.Facts.{toZ-ofZ}
 use borrow.Author.Needs.{needs}
-use Rattle.leap_table.specs.rows.Lent.{rowsOf}
+use Rattle.leap_table.specs.rows.Announced.{rowsOf}
 use Rattle.leap_table.specs.offsets.WholeSeconds.{wholeSeconds}
 use Rattle.standby.specs.Times.{lastMinute}
 use Rattle.standby.proofs.last_minute.Statement.{statement}

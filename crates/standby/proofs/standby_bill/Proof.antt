@@ -4,10 +4,10 @@ use mathlib.Core.List.{List}
 use Prim.Native.Nat.{ℕ}
 use borrow.Author.Needs.{needs}
 use Rattle.refusals.specs.Outcome.{answer, refusal, onward}
-use Rattle.leap_table.specs.declared.rows.LentRows.{LentRows}
+use Rattle.leap_table.specs.declared.rows.AnnouncedRows.{AnnouncedRows}
 use Rattle.leap_table.specs.rows.Table.{Row}
-use Rattle.leap_table.specs.rows.Lent.{rowsOf, tableOf, unlessRefused}
-use Rattle.leap_table.proofs.rows.TablesTaken.{turned-away, taken}
+use Rattle.leap_table.specs.rows.Announced.{rowsOf, tableOf, unlessRefused}
+use Rattle.leap_table.proofs.rows.TablesTaken.{not-taken, taken}
 use Rattle.standby.specs.declared.UtcTime.{UtcTime}
 use Rattle.standby.specs.Times.{instant}
 use Rattle.standby.specs.Bills.{billBetween, standbyBill}
@@ -15,7 +15,7 @@ use Rattle.standby.specs.Answers.{instantMs, instantOutcome, billOutcome
 use Rattle.standby.proofs.standby_bill.Statement.{statement}
 use Rattle.standby.proofs.standby_bill.Tie as tie
 
-all-rows : (t : LentRows) (n : ℕ) → unlessRefused n (rowsOf t) ≡ tableOf t → n ≡ 0 → tableOf t ≡ answer (rowsOf t)
+all-rows : (t : AnnouncedRows) (n : ℕ) → unlessRefused n (rowsOf t) ≡ tableOf t → n ≡ 0 → tableOf t ≡ answer (rowsOf t)
 all-rows t n e z = sym e ∙ ap (λ (k : ℕ). unlessRefused k (rowsOf t)) z
 
 -- ---- the ladder
@@ -45,7 +45,7 @@ module _ (c : tie.After-known-told4) where
 
 returns : tie.Need-returns
 unfolding billOutcome
-returns c = let r = c .before in turned-away (r .before .args .table) (r .table-refusal .result) (r .table-refusal .ensures) _ (c .if1 .taken)
+returns c = let r = c .before in not-taken (r .before .args .table) (r .table-refusal .result) (r .table-refusal .ensures) _ (c .if1 .taken)
 
 instant-of-requires : tie.Need-instant-of-requires
 instant-of-requires c κs = let r = c .before in all-rows (r .before .args .table) (r .table-refusal .result) (r .table-refusal .ensures) (c .if1 .left)

@@ -17,8 +17,8 @@ use Rattle.time_of_day.specs.TimeShown.{shownBy}
 use Rattle.utc.specs.declared.text.TextAnswer.{TextAnswer}
 use Rattle.utc.specs.declared.text.TextAnswer.the-variants.{Refused}
 use Rattle.utc.specs.text.Answer.{textOutcome, TextPut}
-use Rattle.utc.specs.iso_texts.Sheet.{Sheet}
-use Rattle.utc.specs.iso_texts.IsoText.{midnight, nextMidnightTextBy, shownTextBy, dayTextBy, dayText, isoTextBy, isoText, sheet01}
+use Rattle.utc.specs.iso_texts.TextForm.{TextForm}
+use Rattle.utc.specs.iso_texts.IsoText.{midnight, nextMidnightTextBy, shownTextBy, dayTextBy, dayText, isoTextBy, isoText, standardForm}
 use Rattle.utc.specs.iso_texts.TextCall.{written, bufferHolds, TextCall}
 
 pub call-refused : (o : Outcome (List ℕ)) (n : ℕ) (l : List ℕ) → o ≡ refusal n → TextCall o l (Refused n) l
@@ -42,31 +42,31 @@ module _ (write : CalendarDate → TimeOfDay → List ℕ) (d : CalendarDate) wh
   unfolding nextMidnightTextBy onward
   next-given t e = rw e
 
--- ---- by any sheet
-module _ (sheet : Sheet) (rows : List Row) where
+-- ---- in any form
+module _ (textForm : TextForm) (rows : List Row) where
   -- the day's leap
   module _ (d : CalendarDate) (f : Float) where
-    pub leap-refused : (k : ℕ) → leapAtEndOfDay rows (d .year) (pos (d .month)) (pos (d .day)) ≡ refusal k → dayTextBy sheet rows d f ≡ refusal k
+    pub leap-refused : (k : ℕ) → leapAtEndOfDay rows (d .year) (pos (d .month)) (pos (d .day)) ≡ refusal k → dayTextBy textForm rows d f ≡ refusal k
     unfolding dayTextBy onward
     leap-refused k e = rw e
 
-    pub leap-given : (x : Float) → leapAtEndOfDay rows (d .year) (pos (d .month)) (pos (d .day)) ≡ answer x → dayTextBy sheet rows d f ≡ shownTextBy (sheet .write) d (shownBy (sheet .count) f x)
+    pub leap-given : (x : Float) → leapAtEndOfDay rows (d .year) (pos (d .month)) (pos (d .day)) ≡ answer x → dayTextBy textForm rows d f ≡ shownTextBy (textForm .write) d (shownBy (textForm .count) f x)
     unfolding dayTextBy onward
     leap-given x e = rw e
 
   -- the calendar's fields
-  pub fields-refused-by : (jd : JulianDate) (k : ℕ) → julianToCalendar (jd .jd1) (jd .jd2) ≡ refusal k → isoTextBy sheet rows jd ≡ refusal k
+  pub fields-refused-by : (jd : JulianDate) (k : ℕ) → julianToCalendar (jd .jd1) (jd .jd2) ≡ refusal k → isoTextBy textForm rows jd ≡ refusal k
   unfolding isoTextBy onward
   fields-refused-by jd k e = rw e
 
-  pub fields-given-by : (jd : JulianDate) (c : CalendarFields) → julianToCalendar (jd .jd1) (jd .jd2) ≡ answer c → isoTextBy sheet rows jd ≡ dayTextBy sheet rows (c .date) (c .fraction)
+  pub fields-given-by : (jd : JulianDate) (c : CalendarFields) → julianToCalendar (jd .jd1) (jd .jd2) ≡ answer c → isoTextBy textForm rows jd ≡ dayTextBy textForm rows (c .date) (c .fraction)
   unfolding isoTextBy onward
   fields-given-by jd c e = rw e
 
 -- ---- by document 01's
 module _ (rows : List Row) (jd : JulianDate) where
   pub fields-refused : (k : ℕ) → julianToCalendar (jd .jd1) (jd .jd2) ≡ refusal k → isoText rows jd ≡ refusal k
-  fields-refused k e = fields-refused-by sheet01 rows jd k e
+  fields-refused k e = fields-refused-by standardForm rows jd k e
 
   pub fields-given : (c : CalendarFields) → julianToCalendar (jd .jd1) (jd .jd2) ≡ answer c → isoText rows jd ≡ dayText rows (c .date) (c .fraction)
-  fields-given c e = fields-given-by sheet01 rows jd c e
+  fields-given c e = fields-given-by standardForm rows jd c e

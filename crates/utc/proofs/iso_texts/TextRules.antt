@@ -15,10 +15,10 @@ use Rattle.utc.specs.declared.text.TextAnswer.{TextAnswer}
 use Rattle.utc.specs.text.Answer.{textOutcome, textWritten}
 use Rattle.utc.specs.declared.iso_texts.TextByRule.{TextByRule}
 use Rattle.utc.specs.declared.iso_texts.TextByRule.the-variants.{Refused}
-use Rattle.utc.specs.iso_texts.Sheet.{Sheet}
-use Rattle.utc.specs.iso_texts.IsoText.{sheet01, dayTextBy, isoTextBy, isoText}
-use Rattle.utc.specs.iso_texts.Expanded.{expandedSheet, isoTextExpanded}
-use Rattle.utc.specs.iso_texts.HalfEven.{evenSheet, isoTextHalfEven}
+use Rattle.utc.specs.iso_texts.TextForm.{TextForm}
+use Rattle.utc.specs.iso_texts.IsoText.{standardForm, dayTextBy, isoTextBy, isoText}
+use Rattle.utc.specs.iso_texts.Expanded.{expandedForm, isoTextExpanded}
+use Rattle.utc.specs.iso_texts.HalfEven.{halfEvenForm, isoTextHalfEven}
 use Rattle.utc.specs.iso_texts.TextCall.{written, bufferHolds, TextCall}
 use Rattle.utc.specs.iso_texts.ByRule.{ruleOn, textByRule, isoTextByRule, halfEvenByRule, expandedByRule, textByRuleOutcome, writtenByRule, TextRuleCall}
 
@@ -51,20 +51,20 @@ forget-written (refusal k) n = refl
 pub rule-call-forgets : (o : Outcome (List ℕ × Rule)) (l out : List ℕ) (r : TextByRule) (t : TextAnswer) → textOutcome t ≡ forget (textByRuleOutcome r) → TextRuleCall o l r out → TextCall (forget o) l t out
 rule-call-forgets o l out r t e p = record { says = e ∙ ap forget (p .says) ∙ forget-written o (length l); holds = p .holds }
 
-pub text-forgets : (sheet : Sheet) (rows : List Row) (jd : JulianDate) → forget (textByRule sheet rows jd) ≡ isoTextBy sheet rows jd
+pub text-forgets : (textForm : TextForm) (rows : List Row) (jd : JulianDate) → forget (textByRule textForm rows jd) ≡ isoTextBy textForm rows jd
 unfolding textByRule isoTextBy forget onward
-text-forgets sheet rows jd = go (julianToCalendar (jd .jd1) (jd .jd2))
+text-forgets textForm rows jd = go (julianToCalendar (jd .jd1) (jd .jd2))
   where
-    go : (w : Outcome CalendarFields) → forget (onward w (λ c. withRule (dayTextBy sheet rows (c .date) (c .fraction)) (ruleOn rows (c .date)))) ≡ onward w (λ c. dayTextBy sheet rows (c .date) (c .fraction))
-    go (answer c) = forgets (dayTextBy sheet rows (c .date) (c .fraction)) (ruleOn rows (c .date))
+    go : (w : Outcome CalendarFields) → forget (onward w (λ c. withRule (dayTextBy textForm rows (c .date) (c .fraction)) (ruleOn rows (c .date)))) ≡ onward w (λ c. dayTextBy textForm rows (c .date) (c .fraction))
+    go (answer c) = forgets (dayTextBy textForm rows (c .date) (c .fraction)) (ruleOn rows (c .date))
     go (refusal k) = refl
 
 -- document 01's text and the two others
 pub iso-forgets : (rows : List Row) (jd : JulianDate) → forget (isoTextByRule rows jd) ≡ isoText rows jd
-iso-forgets = text-forgets sheet01
+iso-forgets = text-forgets standardForm
 
 pub even-forgets : (rows : List Row) (jd : JulianDate) → forget (halfEvenByRule rows jd) ≡ isoTextHalfEven rows jd
-even-forgets = text-forgets evenSheet
+even-forgets = text-forgets halfEvenForm
 
 pub expanded-forgets : (rows : List Row) (jd : JulianDate) → forget (expandedByRule rows jd) ≡ isoTextExpanded rows jd
-expanded-forgets = text-forgets expandedSheet
+expanded-forgets = text-forgets expandedForm

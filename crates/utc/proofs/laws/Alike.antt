@@ -18,16 +18,16 @@ use Rattle.leap_table.specs.rows.Table.{Row}
 use Rattle.utc.specs.declared.text.TextAnswer.{TextAnswer}
 use Rattle.utc.specs.declared.text.TextAnswer.the-variants.{Written, Refused}
 use Rattle.utc.specs.text.Answer.{textOutcome, textWritten, bufferAfter}
-use Rattle.utc.specs.iso_texts.Sheet.{Sheet}
-use Rattle.utc.specs.iso_texts.IsoText.{dayTextBy, isoTextBy, isoText, sheet01}
+use Rattle.utc.specs.iso_texts.TextForm.{TextForm}
+use Rattle.utc.specs.iso_texts.IsoText.{dayTextBy, isoTextBy, isoText, standardForm}
 use Rattle.utc.specs.iso_texts.TextCall.{written, bufferHolds, TextCall, Alike}
 use Rattle.utc.specs.laws.Shows.{Promise, tooEarly, TextDemand}
 
 -- ---- one text, or one refusal, for all divisions
-pub one-text : (sheet : Sheet) (rows : List Row) (x y x' y' : Float) → T (fits binary64 x) → T (fits binary64 y) → T (fits binary64 x') → T (fits binary64 y') → (a : OnGrid x) (b : OnGrid y) (a' : OnGrid x') (b' : OnGrid y')
-    → gridSum a b ≡ gridSum a' b' → isoTextBy sheet rows (julian x y) ≡ isoTextBy sheet rows (julian x' y')
+pub one-text : (textForm : TextForm) (rows : List Row) (x y x' y' : Float) → T (fits binary64 x) → T (fits binary64 y) → T (fits binary64 x') → T (fits binary64 y') → (a : OnGrid x) (b : OnGrid y) (a' : OnGrid x') (b' : OnGrid y')
+    → gridSum a b ≡ gridSum a' b' → isoTextBy textForm rows (julian x y) ≡ isoTextBy textForm rows (julian x' y')
 unfolding isoTextBy
-one-text sheet rows x y x' y' fx fy fx' fy' a b a' b' e = ap (λ (o : Outcome CalendarFields). onward o (λ c. dayTextBy sheet rows (c .date) (c .fraction))) (one-outcome x y x' y' fx fy fx' fy' a b a' b' e)
+one-text textForm rows x y x' y' fx fy fx' fy' a b a' b' e = ap (λ (o : Outcome CalendarFields). onward o (λ c. dayTextBy textForm rows (c .date) (c .fraction))) (one-outcome x y x' y' fx fy fx' fy' a b a' b' e)
 
 -- ---- a call, by its outcome
 same-answer : (r s : TextAnswer) → textOutcome r ≡ textOutcome s → r ≡ s
@@ -106,14 +106,14 @@ module _ (p : Promise) (rows : List Row) (sum : ℤ) (o : Outcome (List ℕ)) (l
       go true = refl
       go false = refl
 
--- ---- DEMAND 3: all divisions of one date on the grid are alike in text for buffers of one length, by any sheet
-module _ (sheet : Sheet) (rows : List Row) (x y x' y' : Float) (fx : T (fits binary64 x)) (fy : T (fits binary64 y)) (fx' : T (fits binary64 x')) (fy' : T (fits binary64 y'))
+-- ---- DEMAND 3: all divisions of one date on the grid are alike in text for buffers of one length, in any form
+module _ (textForm : TextForm) (rows : List Row) (x y x' y' : Float) (fx : T (fits binary64 x)) (fy : T (fits binary64 y)) (fx' : T (fits binary64 x')) (fy' : T (fits binary64 y'))
     (a : OnGrid x) (b : OnGrid y) (a' : OnGrid x') (b' : OnGrid y') (e : gridSum a b ≡ gridSum a' b') (l out l' out' : List ℕ) (r r' : TextAnswer) (h : length l ≡ length l') where
-  pub divisions-alike-by : TextCall (isoTextBy sheet rows (julian x y)) l r out → TextCall (isoTextBy sheet rows (julian x' y')) l' r' out' → Alike l r out l' r' out'
+  pub divisions-alike-by : TextCall (isoTextBy textForm rows (julian x y)) l r out → TextCall (isoTextBy textForm rows (julian x' y')) l' r' out' → Alike l r out l' r' out'
   divisions-alike-by c c' =
-      alike (isoTextBy sheet rows (julian x y)) l out l' out' r r' h c (subst (λ (o : Outcome (List ℕ)). TextCall o l' r' out') (sym (one-text sheet rows x y x' y' fx fy fx' fy' a b a' b' e)) c')
+      alike (isoTextBy textForm rows (julian x y)) l out l' out' r r' h c (subst (λ (o : Outcome (List ℕ)). TextCall o l' r' out') (sym (one-text textForm rows x y x' y' fx fy fx' fy' a b a' b' e)) c')
 
 pub divisions-alike : (rows : List Row) (x y x' y' : Float) → T (fits binary64 x) → T (fits binary64 y) → T (fits binary64 x') → T (fits binary64 y') → (a : OnGrid x) (b : OnGrid y) (a' : OnGrid x') (b' : OnGrid y')
     → gridSum a b ≡ gridSum a' b' → (l out l' out' : List ℕ) (r r' : TextAnswer) → length l ≡ length l'
     → TextCall (isoText rows (julian x y)) l r out → TextCall (isoText rows (julian x' y')) l' r' out' → Alike l r out l' r' out'
-divisions-alike = divisions-alike-by sheet01
+divisions-alike = divisions-alike-by standardForm

@@ -23,8 +23,8 @@ use Rattle.time_of_day.specs.declared.TimeShown.{TimeShown}
 use Rattle.time_of_day.specs.declared.TimeShown.the-variants.{At, NextMidnight}
 use Rattle.time_of_day.specs.TimeShown.{shownBy, shownOf}
 use Rattle.utc.specs.text.Text.{utcText}
-use Rattle.utc.specs.iso_texts.Sheet.{Sheet}
-use Rattle.utc.specs.iso_texts.IsoText.{midnight, shownTextBy, dayTextBy, dayText, sheet01}
+use Rattle.utc.specs.iso_texts.TextForm.{TextForm}
+use Rattle.utc.specs.iso_texts.IsoText.{midnight, shownTextBy, dayTextBy, dayText, standardForm}
 use Rattle.utc.proofs.iso_texts.TextCalls.{next-given, leap-refused, leap-given}
 
 -- the text of a date that has a next one, by a way to write a date and a time; and document 01's
@@ -40,11 +40,11 @@ module _ (rows : List Row) (d : CalendarDate) where
   unfolding leapAtEndOfDay onward
   refused-early k e = rw (Days.day-offsets-are rows (d .year) (pos (d .month)) (pos (d .day)), refused-next (d .year) (pos (d .month)) (pos (d .day)) k e)
 
-  pub text-refused-by : (sheet : Sheet) (f : Float) (k : ℕ) → validOf d ≡ refusal k → dayTextBy sheet rows d f ≡ refusal k
-  text-refused-by sheet f k e = leap-refused sheet rows d f k (refused-early k e)
+  pub text-refused-by : (textForm : TextForm) (f : Float) (k : ℕ) → validOf d ≡ refusal k → dayTextBy textForm rows d f ≡ refusal k
+  text-refused-by textForm f k e = leap-refused textForm rows d f k (refused-early k e)
 
   pub text-refused : (f : Float) (k : ℕ) → validOf d ≡ refusal k → dayText rows d f ≡ refusal k
-  text-refused = text-refused-by sheet01
+  text-refused = text-refused-by standardForm
 
   module _ (v : validOf d ≡ answer tt) (h : ltZ (pos 2733194) (d .year) ≡ false) where
     pub has-next : nextOf (d .year) (pos (d .month)) (pos (d .day)) ≡ answer (next d)
@@ -61,8 +61,8 @@ module _ (rows : List Row) (d : CalendarDate) where
     shown write (At t) = refl
     shown write NextMidnight = next-given write d (next d) has-next
 
-    pub has-text-by : (sheet : Sheet) (f : Float) → dayTextBy sheet rows d f ≡ answer (textBy (sheet .write) d (shownBy (sheet .count) f leapOn))
-    has-text-by sheet f = leap-given sheet rows d f leapOn has-leap ∙ shown (sheet .write) (shownBy (sheet .count) f leapOn)
+    pub has-text-by : (textForm : TextForm) (f : Float) → dayTextBy textForm rows d f ≡ answer (textBy (textForm .write) d (shownBy (textForm .count) f leapOn))
+    has-text-by textForm f = leap-given textForm rows d f leapOn has-leap ∙ shown (textForm .write) (shownBy (textForm .count) f leapOn)
 
     pub has-text : (f : Float) → dayText rows d f ≡ answer (textOf d (shownOf away f leapOn))
-    has-text = has-text-by sheet01
+    has-text = has-text-by standardForm

@@ -1,4 +1,4 @@
--- WHICH NUMBERS, AND EXACTLY WHEN, by every lent table, one that is turned away too: the look-up, the leap, and UTC from the calendar. UTC from Unix time and the text stand in
+-- WHICH NUMBERS, AND EXACTLY WHEN, by every announced table, one that is refused too: the look-up, the leap, and UTC from the calendar. UTC from Unix time and the text stand in
 -- NewDecided and TextDecided. Assumes nothing.
 use mathlib.Core.Path.{_≡_, refl, sym, ap, subst, _∙_}
 use mathlib.Core.Bool.{Bool, true, false, true≢false}
@@ -13,9 +13,9 @@ use Rattle.calendar.specs.Refusals.{validDate, lastDate, nextOf}
 use Rattle.calendar.proofs.NextDates.{by, refused-next}
 use Rattle.calendar.proofs.Mjd.{mjd-refused, mjd-given}
 use Rattle.julian.specs.DayFraction.{timeInDay, dayFraction}
-use Rattle.leap_table.specs.declared.rows.LentRows.{LentRows}
+use Rattle.leap_table.specs.declared.rows.AnnouncedRows.{AnnouncedRows}
 use Rattle.leap_table.specs.rows.Table.{Row}
-use Rattle.leap_table.specs.rows.Lent.{rowsOf, tableOf}
+use Rattle.leap_table.specs.rows.Announced.{rowsOf, tableOf}
 use Rattle.leap_table.specs.offsets.Offset.{inDay}
 use Rattle.leap_table.specs.offsets.Leap.{leapAtEndOfDay}
 use Rattle.leap_table.specs.offsets.Rule.{withRule, offsetByRule}
@@ -27,7 +27,7 @@ use Rattle.utc.specs.laws.Ladder.{Ladder, done, refuse, Decided}
 use Rattle.utc.specs.laws.Ladders.{tableFirst, offsetLadder, leapLadder, fromCalendarLadder, TimeOutside}
 use Rattle.utc.proofs.laws.Ladders.{reaches, stops, passes, by-test, under-table, by-date}
 
-module _ (t : LentRows) where
+module _ (t : AnnouncedRows) where
   abbrev rows : List Row
   rows = rowsOf t
 

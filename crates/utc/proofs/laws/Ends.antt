@@ -5,7 +5,7 @@ use Rattle.julian.specs.day_number.ExactDay.{gridSum}
 use Rattle.julian.proofs.day_number.Ends.{lowest, highest, largest, opposite, lowest-fits, highest-fits, largest-fits, opposite-fits, nought-fits, lowest-grid, highest-grid, largest-grid, opposite-grid, nought-grid, lowest-range, highest-range, largest-range}
 use Rattle.julian.specs.JulianDate.{julian}
 use Rattle.leap_table.specs.rows.Table.{fixed}
-use Rattle.utc.specs.iso_texts.IsoText.{isoText, sheet01}
+use Rattle.utc.specs.iso_texts.IsoText.{isoText, standardForm}
 use Rattle.utc.specs.laws.Shows.{TextDemand, promise01}
 use Rattle.utc.specs.laws.OneText.{OneText}
 use Rattle.utc.proofs.laws.Demand3.{demand-3}
@@ -22,8 +22,8 @@ pub text-at-largest : TextDemand promise01 fixed (gridSum largest-grid opposite-
 text-at-largest = demand-3 largest opposite largest-fits opposite-fits largest-grid opposite-grid largest-range
 
 -- for every division of the sum and every buffer
-pub every-buffer-at-lowest : OneText sheet01 promise01 fixed (gridSum lowest-grid nought-grid)
+pub every-buffer-at-lowest : OneText standardForm promise01 fixed (gridSum lowest-grid nought-grid)
 every-buffer-at-lowest = text-for-every-buffer (gridSum lowest-grid nought-grid) lowest-range
 
-pub every-buffer-at-highest : OneText sheet01 promise01 fixed (gridSum highest-grid nought-grid)
+pub every-buffer-at-highest : OneText standardForm promise01 fixed (gridSum highest-grid nought-grid)
 every-buffer-at-highest = text-for-every-buffer (gridSum highest-grid nought-grid) highest-range

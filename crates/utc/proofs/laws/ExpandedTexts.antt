@@ -18,8 +18,8 @@ use Rattle.julian.specs.day_number.ExactDay.{OnGrid, gridSum, GridSumInRange}
 use Rattle.julian.specs.declared.JulianDate.{JulianDate}
 use Rattle.julian.specs.JulianDate.{julian}
 use Rattle.leap_table.specs.rows.Table.{Row, fixed}
-use Rattle.leap_table.specs.declared.rows.LentRows.{LentRows}
-use Rattle.leap_table.specs.rows.Lent.{tableOf}
+use Rattle.leap_table.specs.declared.rows.AnnouncedRows.{AnnouncedRows}
+use Rattle.leap_table.specs.rows.Announced.{tableOf}
 use Rattle.time_of_day.specs.declared.TimeShown.{TimeShown}
 use Rattle.time_of_day.specs.declared.TimeShown.the-variants.{At, NextMidnight}
 use Rattle.time_of_day.specs.TimeShown.{countBy, shownBy}
@@ -31,46 +31,46 @@ use Rattle.utc.proofs.text.ExpandedLaws as Text
 use Rattle.utc.specs.iso_texts.IsoText.{midnight, nextMidnightTextBy, shownTextBy, dayTextBy, isoTextBy, isoText}
 use Rattle.utc.specs.iso_texts.TextCall.{TextCall}
 use Rattle.utc.specs.laws.Shows.{TextDemand}
-use Rattle.utc.specs.laws.GoodSheet.{GoodSheet}
+use Rattle.utc.specs.laws.GoodForm.{GoodForm}
 use Rattle.utc.specs.laws.OneText.{OneText}
-use Rattle.utc.specs.iso_texts.Expanded.{expandedSheet, isoTextExpanded}
+use Rattle.utc.specs.iso_texts.Expanded.{expandedForm, isoTextExpanded}
 use Rattle.utc.specs.laws.Promises.{expandedPromise}
 use Rattle.utc.specs.laws.Beside.{Beside, refused, written}
-use Rattle.utc.proofs.laws.Sheets.{near-501}
+use Rattle.utc.proofs.laws.TextForms.{near-501}
 use Rattle.utc.proofs.laws.Demand3.{fixed-leaps, table-leaps, demand-3-by}
 use Rattle.utc.proofs.laws.OneText.{text-for-every-buffer-by}
 use Rattle.utc.proofs.laws.Numbers.{call-numbers-by, not-finite-by}
 use Rattle.utc.proofs.laws.Lengths.{every-text, every-call}
 
 -- ---- DEMAND 3
-pub expanded-good : GoodSheet expandedSheet expandedPromise
+pub expanded-good : GoodForm expandedForm expandedPromise
 expanded-good = record { near = near-501 away away-nearest; reads = Text.expanded-reads-back; form = Text.expanded-formed }
 
-pub expanded-demand-3 : (t : LentRows) (rows : List Row) → tableOf t ≡ answer rows → (x y : Float) → T (fits binary64 x) → T (fits binary64 y) → (a : OnGrid x) (b : OnGrid y) → GridSumInRange (gridSum a b)
+pub expanded-demand-3 : (t : AnnouncedRows) (rows : List Row) → tableOf t ≡ answer rows → (x y : Float) → T (fits binary64 x) → T (fits binary64 y) → (a : OnGrid x) (b : OnGrid y) → GridSumInRange (gridSum a b)
     → TextDemand expandedPromise rows (gridSum a b) (isoTextExpanded rows (julian x y))
-expanded-demand-3 t rows p = demand-3-by rows (table-leaps t rows p) expandedSheet expandedPromise expanded-good
+expanded-demand-3 t rows p = demand-3-by rows (table-leaps t rows p) expandedForm expandedPromise expanded-good
 
-pub expanded-for-every-buffer : (t : LentRows) (rows : List Row) → tableOf t ≡ answer rows → (sum : ℤ) → GridSumInRange sum → OneText expandedSheet expandedPromise rows sum
-expanded-for-every-buffer t rows p = text-for-every-buffer-by rows (table-leaps t rows p) expandedSheet expandedPromise expanded-good
+pub expanded-for-every-buffer : (t : AnnouncedRows) (rows : List Row) → tableOf t ≡ answer rows → (sum : ℤ) → GridSumInRange sum → OneText expandedForm expandedPromise rows sum
+expanded-for-every-buffer t rows p = text-for-every-buffer-by rows (table-leaps t rows p) expandedForm expandedPromise expanded-good
 
-pub expanded-for-every-buffer-fixed : (sum : ℤ) → GridSumInRange sum → OneText expandedSheet expandedPromise fixed sum
-expanded-for-every-buffer-fixed = text-for-every-buffer-by fixed fixed-leaps expandedSheet expandedPromise expanded-good
+pub expanded-for-every-buffer-fixed : (sum : ℤ) → GridSumInRange sum → OneText expandedForm expandedPromise fixed sum
+expanded-for-every-buffer-fixed = text-for-every-buffer-by fixed fixed-leaps expandedForm expandedPromise expanded-good
 
 -- ---- over all floats: 23 or 27 bytes, and the numbers 6, 1 and 11
 abbrev TwoLengths : ℕ → Type 0
 TwoLengths n = (n ≡ 23) ⊎ (n ≡ 27)
 
 pub expanded-text-length : (rows : List Row) (jd : JulianDate) (t : List ℕ) → isoTextExpanded rows jd ≡ answer t → (length t ≡ 23) ⊎ (length t ≡ 27)
-expanded-text-length = every-text expandedSheet (λ t. TwoLengths (length t)) Text.expanded-length
+expanded-text-length = every-text expandedForm (λ t. TwoLengths (length t)) Text.expanded-length
 
 pub expanded-call-length : (rows : List Row) (jd : JulianDate) (l out : List ℕ) (n : ℕ) → TextCall (isoTextExpanded rows jd) l (Written n) out → (n ≡ 23) ⊎ (n ≡ 27)
-expanded-call-length rows jd = every-call expandedSheet (λ t. TwoLengths (length t)) Text.expanded-length rows jd TwoLengths (λ t h. h)
+expanded-call-length rows jd = every-call expandedForm (λ t. TwoLengths (length t)) Text.expanded-length rows jd TwoLengths (λ t h. h)
 
 pub expanded-numbers : (rows : List Row) (jd : JulianDate) (l out : List ℕ) (k : ℕ) → TextCall (isoTextExpanded rows jd) l (Refused k) out → (k ≡ 6) ⊎ ((k ≡ 1) ⊎ (k ≡ 11))
-expanded-numbers = call-numbers-by expandedSheet
+expanded-numbers = call-numbers-by expandedForm
 
 pub expanded-not-finite : (rows : List Row) (jd : JulianDate) → finite (jd .jd1) && finite (jd .jd2) ≡ false → isoTextExpanded rows jd ≡ refusal 6
-expanded-not-finite = not-finite-by expandedSheet
+expanded-not-finite = not-finite-by expandedForm
 
 -- ---- BESIDE DOCUMENT 01'S TEXT, over all floats: one refusal, or one date and time in both
 onward-both : {A : Type 0} (o : Outcome A) (f g : A → Outcome (List ℕ)) → ((a : A) → Beside utcText expandedText (f a) (g a)) → Beside utcText expandedText (onward o f) (onward o g)

@@ -22,9 +22,9 @@ use Rattle.julian.specs.day_number.DayNumber.{accepted, dayOf}
 use Rattle.julian.proofs.day_number.Answer.{answered, refused}
 use Rattle.julian.specs.declared.CalendarFields.{CalendarFields}
 use Rattle.julian.specs.Calendar.{fields, julianToCalendar}
-use Rattle.leap_table.specs.declared.rows.LentRows.{LentRows}
+use Rattle.leap_table.specs.declared.rows.AnnouncedRows.{AnnouncedRows}
 use Rattle.leap_table.specs.rows.Table.{Row}
-use Rattle.leap_table.specs.rows.Lent.{rowsOf, laterAt, StepAt, tableOf, Decision, sizes, order, step, taken}
+use Rattle.leap_table.specs.rows.Announced.{rowsOf, laterAt, StepAt, tableOf, Decision, sizes, order, step, taken}
 use Rattle.leap_table.proofs.rows.TableLaws.{table-decided}
 use Rattle.utc.specs.laws.Ladder.{Ladder, done, refuse, FirstReason, Decided}
 use Rattle.utc.specs.laws.Ladders.{WrongSizes, RowNotLater, NotOneStep, tableFirst, dateThen, dateIn, partsThen}
@@ -44,7 +44,7 @@ refused-early y m d e = go (ltZ y (negsuc 4798)) (ltZ m (pos 1) || ltZ (pos 12) 
     go false false false h = let z : _≡_ {A = ℕ} 0 1 = cc in absurd (omega arith)
 
 -- ---- a table that is taken has none of the table's reasons
-module _ (t : LentRows) where
+module _ (t : AnnouncedRows) where
   right-sizes : t .«months_size» ≡ t .«seconds_size» → t .«months_size» ≤ 16 → WrongSizes t → ⊥
   right-sizes p q (inl f) = f p
   right-sizes p q (inr f) = omega arith
@@ -97,7 +97,7 @@ module _ {A : Type 0} {o : Outcome A} where
       other e = true≢false (sym e)
 
   -- ---- the table's three
-  module _ (t : LentRows) (l : Ladder) (turned-away : (n : ℕ) → tableOf t ≡ refusal n → o ≡ refusal n) where
+  module _ (t : AnnouncedRows) (l : Ladder) (not-taken : (n : ℕ) → tableOf t ≡ refusal n → o ≡ refusal n) where
     abbrev M : ℕ
     M = t .«months_size»
 
@@ -115,9 +115,9 @@ module _ {A : Type 0} {o : Outcome A} where
     under-table h = go (table-decided t)
       where
         go : Decision t → Decided o (tableFirst t l)
-        go (sizes f e) = stops (wrong-sizes f) (turned-away 20 e)
-        go (order p q i g f e) = passes (right-sizes t p q) (stops (i, g, f) (turned-away 21 e))
-        go (step p q r i g f e) = passes (right-sizes t p q) (passes (all-later t r) (stops (i, g, f) (turned-away 22 e)))
+        go (sizes f e) = stops (wrong-sizes f) (not-taken 20 e)
+        go (order p q i g f e) = passes (right-sizes t p q) (stops (i, g, f) (not-taken 21 e))
+        go (step p q r i g f e) = passes (right-sizes t p q) (passes (all-later t r) (stops (i, g, f) (not-taken 22 e)))
         go (taken p q r s e) = passes (right-sizes t p q) (passes (all-later t r) (passes (all-steps t s) (h e)))
 
   -- ---- a date's three
@@ -164,7 +164,7 @@ module _ {A : Type 0} {o : Outcome A} where
         go true e = passes (not-false (accepted x y) e) (by-year (dateIn x y) l (gregorian-refusal (dayOf x y .day)) (early (given e)) (h (given e)))
 
 -- ---- of a table that is taken only what comes after decides
-pub after-table : {A : Type 0} {o : Outcome A} {l : Ladder} (t : LentRows) (rows : List Row) → tableOf t ≡ answer rows → Decided o (tableFirst t l) → Decided o l
+pub after-table : {A : Type 0} {o : Outcome A} {l : Ladder} (t : AnnouncedRows) (rows : List Row) → tableOf t ≡ answer rows → Decided o (tableFirst t l) → Decided o l
 after-table {o = o} {l} t rows e d = go (table-decided t)
   where
     go : Decision t → Decided o l

@@ -1,4 +1,4 @@
--- WHICH NUMBERS `UTC::new` GIVES, AND EXACTLY WHEN, by every lent table: its day in whole numbers, and 4 only past the end of a day that ends in a step back, which is from
+-- WHICH NUMBERS `UTC::new` GIVES, AND EXACTLY WHEN, by every announced table: its day in whole numbers, and 4 only past the end of a day that ends in a step back, which is from
 -- 1972 on second 86399 of a day with the leap -1.0. Assumes nothing.
 use mathlib.Core.Path.{_≡_, refl, sym, ap, subst, _∙_}
 use mathlib.Core.Bool.{Bool, true, false, not, true≢false}
@@ -29,10 +29,10 @@ use Rattle.leap_days.specs.drift.Small.{small}
 use Rattle.julian.specs.declared.CalendarFields.{CalendarFields}
 use Rattle.julian.specs.DayFraction.{timeInDay}
 use Rattle.julian.specs.Calendar.{fields, julianToCalendar}
-use Rattle.leap_table.specs.declared.rows.LentRows.{LentRows}
+use Rattle.leap_table.specs.declared.rows.AnnouncedRows.{AnnouncedRows}
 use Rattle.leap_table.specs.rows.Table.{Row, monthNumber}
 use Rattle.time_of_day.specs.ExactTime.{minus-one-f}
-use Rattle.leap_table.specs.rows.Lent.{rowsOf, tableOf}
+use Rattle.leap_table.specs.rows.Announced.{rowsOf, tableOf}
 use Rattle.leap_table.specs.offsets.Leap.{leapOf, leapAtEndOfDay}
 use Rattle.leap_table.proofs.offsets.Days.{leap-came}
 use Rattle.leap_days.specs.Tables.{StepLeap, no-row, row-up, row-down}
@@ -51,7 +51,7 @@ use Rattle.utc.proofs.laws.UnixClock.{in-last-minute, not-in-day, steps
 use Rattle.leap_days.specs.Leaps as Leaps
 use Rattle.utc.proofs.laws.Decided.{decided-if, time-refused}
 
-module _ (t : LentRows) where
+module _ (t : AnnouncedRows) where
   abbrev rows : List Row
   rows = rowsOf t
 

@@ -11,22 +11,22 @@ use borrow.Author.Tests.{leb-true, leb-false}
 use Rattle.refusals.specs.Outcome.{answer, refusal}
 use Rattle.julian.specs.day_number.ExactDay.{GridSumInRange}
 use Rattle.julian.specs.declared.JulianDate.{JulianDate}
-use Rattle.leap_table.specs.declared.rows.LentRows.{LentRows}
+use Rattle.leap_table.specs.declared.rows.AnnouncedRows.{AnnouncedRows}
 use Rattle.leap_table.specs.rows.Table.{Row, fixed}
-use Rattle.leap_table.specs.rows.Lent.{tableOf}
+use Rattle.leap_table.specs.rows.Announced.{tableOf}
 use Rattle.leap_table.specs.offsets.Leap.{leapAtEndOfDay}
 use Rattle.time_of_day.specs.ExactTime.{Leap}
 use Rattle.utc.specs.declared.text.TextAnswer.{TextAnswer}
 use Rattle.utc.specs.text.Answer.{textOutcome}
-use Rattle.utc.specs.iso_texts.Sheet.{Sheet}
-use Rattle.utc.specs.iso_texts.IsoText.{isoTextBy, sheet01}
+use Rattle.utc.specs.iso_texts.TextForm.{TextForm}
+use Rattle.utc.specs.iso_texts.IsoText.{isoTextBy, standardForm}
 use Rattle.utc.specs.iso_texts.TextCall.{TextCall}
 use Rattle.utc.specs.laws.Shows.{Promise, promise01, tooEarly, TextDemand}
-use Rattle.utc.specs.laws.GoodSheet.{GoodSheet}
+use Rattle.utc.specs.laws.GoodForm.{GoodForm}
 use Rattle.utc.specs.laws.OneText.{Division, Put, fits-in, too-long, OneText}
 use Rattle.utc.proofs.iso_texts.TextCalls.{call-as}
 use Rattle.utc.proofs.laws.Sums.{sumText, of-sum}
-use Rattle.utc.proofs.laws.Sheets.{good01}
+use Rattle.utc.proofs.laws.TextForms.{good01}
 use Rattle.utc.proofs.laws.Demand3.{sum-demand, fixed-leaps, table-leaps}
 use Rattle.utc.proofs.laws.DayLengths.{a-length}
 use Rattle.utc.proofs.laws.Alike.{alike, exactly, buffer}
@@ -42,21 +42,21 @@ put t l out r = go (leb (length t) (length l)) refl
     go true p e q = fits-in (leb-true (length t) (length l) p) e q
     go false p e q = too-long (leb-false (length t) (length l) p) e q
 
-module _ (rows : List Row) (cases : (y m d : ℤ) (x : Float) → leapAtEndOfDay rows y m d ≡ answer x → Leap x) (sheet : Sheet) (p : Promise) (good : GoodSheet sheet p) (sum : ℤ) (range : GridSumInRange sum) where
-  demand : TextDemand p rows sum (sumText sheet rows sum)
-  demand = sum-demand rows cases sheet p good sum range
+module _ (rows : List Row) (cases : (y m d : ℤ) (x : Float) → leapAtEndOfDay rows y m d ≡ answer x → Leap x) (textForm : TextForm) (p : Promise) (good : GoodForm textForm p) (sum : ℤ) (range : GridSumInRange sum) where
+  demand : TextDemand p rows sum (sumText textForm rows sum)
+  demand = sum-demand rows cases textForm p good sum range
 
   -- a call for a division is one for the sum
-  as-sum : (jd : JulianDate) → Division sum jd → (l : List ℕ) (r : TextAnswer) (out : List ℕ) → TextCall (isoTextBy sheet rows jd) l r out → TextCall (sumText sheet rows sum) l r out
-  as-sum jd d l r out c = call-as _ _ l out r (sym (of-sum sheet rows sum range jd d)) c
+  as-sum : (jd : JulianDate) → Division sum jd → (l : List ℕ) (r : TextAnswer) (out : List ℕ) → TextCall (isoTextBy textForm rows jd) l r out → TextCall (sumText textForm rows sum) l r out
+  as-sum jd d l r out c = call-as _ _ l out r (sym (of-sum textForm rows sum range jd d)) c
 
-  pub text-for-every-buffer-by : OneText sheet p rows sum
+  pub text-for-every-buffer-by : OneText textForm p rows sum
   text-for-every-buffer-by = record {
     early = λ e jd d l r out c.
         let s = as-sum jd d l r out c in
         record {
-          says = exactly p rows sum (sumText sheet rows sum) l out r demand s ∙ case (tooEarly sum) true (refusal 1) _ e;
-          holds = buffer p rows sum (sumText sheet rows sum) l out r demand s ∙ case (tooEarly sum) true l _ e;
+          says = exactly p rows sum (sumText textForm rows sum) l out r demand s ∙ case (tooEarly sum) true (refusal 1) _ e;
+          holds = buffer p rows sum (sumText textForm rows sum) l out r demand s ∙ case (tooEarly sum) true l _ e;
         };
     shown = λ e. (
       demand .text,
@@ -69,14 +69,14 @@ module _ (rows : List Row) (cases : (y m d : ℤ) (x : Float) → leapAtEndOfDay
       λ jd d l r out c.
           let s = as-sum jd d l r out c in
           put (demand .text) l out r
-          (exactly p rows sum (sumText sheet rows sum) l out r demand s ∙ case (tooEarly sum) false (refusal 1) _ e)
-          (buffer p rows sum (sumText sheet rows sum) l out r demand s ∙ case (tooEarly sum) false l _ e),
+          (exactly p rows sum (sumText textForm rows sum) l out r demand s ∙ case (tooEarly sum) false (refusal 1) _ e)
+          (buffer p rows sum (sumText textForm rows sum) l out r demand s ∙ case (tooEarly sum) false l _ e),
     );
-    alike = λ jd d l r out c jd' d' l' r' out' c' h. alike (sumText sheet rows sum) l out l' out' r r' h (as-sum jd d l r out c) (as-sum jd' d' l' r' out' c');
+    alike = λ jd d l r out c jd' d' l' r' out' c' h. alike (sumText textForm rows sum) l out l' out' r r' h (as-sum jd d l r out c) (as-sum jd' d' l' r' out' c');
   }
 
-pub table-text-for-every-buffer : (t : LentRows) (rows : List Row) → tableOf t ≡ answer rows → (sum : ℤ) → GridSumInRange sum → OneText sheet01 promise01 rows sum
-table-text-for-every-buffer t rows p = text-for-every-buffer-by rows (table-leaps t rows p) sheet01 promise01 good01
+pub table-text-for-every-buffer : (t : AnnouncedRows) (rows : List Row) → tableOf t ≡ answer rows → (sum : ℤ) → GridSumInRange sum → OneText standardForm promise01 rows sum
+table-text-for-every-buffer t rows p = text-for-every-buffer-by rows (table-leaps t rows p) standardForm promise01 good01
 
-pub text-for-every-buffer : (sum : ℤ) → GridSumInRange sum → OneText sheet01 promise01 fixed sum
-text-for-every-buffer = text-for-every-buffer-by fixed fixed-leaps sheet01 promise01 good01
+pub text-for-every-buffer : (sum : ℤ) → GridSumInRange sum → OneText standardForm promise01 fixed sum
+text-for-every-buffer = text-for-every-buffer-by fixed fixed-leaps standardForm promise01 good01

@@ -16,7 +16,7 @@ use Rattle.julian.specs.day_number.Ranges.{InDays}
 use Rattle.julian.specs.declared.JulianDate.{JulianDate}
 use Rattle.julian.proofs.laws.CalendarDays.{day-low, day-high, exact-date}
 use Rattle.leap_table.specs.rows.Table.{Row}
-use Rattle.utc.specs.iso_texts.Sheet.{Sheet}
+use Rattle.utc.specs.iso_texts.TextForm.{TextForm}
 use Rattle.utc.specs.iso_texts.IsoText.{dayTextBy, isoTextBy}
 use Rattle.utc.specs.laws.OneText.{Division}
 use Rattle.utc.proofs.iso_texts.TextCalls.{fields-given-by}
@@ -29,10 +29,10 @@ unfolding fractionOf
 fraction-fits u = round-fits binary64 false u (2 ^ 52)
 
 -- the text of the exact day and the exact fraction
-abbrev pub sumText : Sheet → List Row → ℤ → Outcome (List ℕ)
-sumText sheet rows sum = dayTextBy sheet rows (dateOf (exactDay sum)) (fractionOf (exactFraction sum))
+abbrev pub sumText : TextForm → List Row → ℤ → Outcome (List ℕ)
+sumText textForm rows sum = dayTextBy textForm rows (dateOf (exactDay sum)) (fractionOf (exactFraction sum))
 
-pub of-sum : (sheet : Sheet) (rows : List Row) (sum : ℤ) → GridSumInRange sum → (jd : JulianDate) → Division sum jd → isoTextBy sheet rows jd ≡ sumText sheet rows sum
-of-sum sheet rows sum r jd d =
-    subst (λ (s : ℤ). isoTextBy sheet rows jd ≡ sumText sheet rows s) (d .sum-is)
-    (fields-given-by sheet rows jd _ (exact-date (jd .jd1) (jd .jd2) (d .first-float) (d .second-float) (d .first) (d .second) (subst GridSumInRange (sym (d .sum-is)) r)))
+pub of-sum : (textForm : TextForm) (rows : List Row) (sum : ℤ) → GridSumInRange sum → (jd : JulianDate) → Division sum jd → isoTextBy textForm rows jd ≡ sumText textForm rows sum
+of-sum textForm rows sum r jd d =
+    subst (λ (s : ℤ). isoTextBy textForm rows jd ≡ sumText textForm rows s) (d .sum-is)
+    (fields-given-by textForm rows jd _ (exact-date (jd .jd1) (jd .jd2) (d .first-float) (d .second-float) (d .first) (d .second) (subst GridSumInRange (sym (d .sum-is)) r)))

@@ -1,8 +1,8 @@
 -- `utc::new` meets its contract: the table is tested, and its rows are read. Assumes nothing.
 use mathlib.Core.Path.{_≡_, _∙_}
 use mir.Facts.{toZ-ofZ}
-use Rattle.leap_table.specs.rows.Lent.{rowsOf}
-use Rattle.leap_table.proofs.rows.TablesTaken.{turned-away, taken}
+use Rattle.leap_table.specs.rows.Announced.{rowsOf}
+use Rattle.leap_table.proofs.rows.TablesTaken.{not-taken, taken}
 use Rattle.scales.specs.Scales.{utcOutcome}
 use Rattle.utc.specs.UnixTime.{utcNew}
 use borrow.Author.Needs.{needs}
@@ -11,7 +11,7 @@ use Rattle.utc.proofs.new.Tie as tie
 
 returns : tie.Need-returns
 unfolding utcOutcome
-returns c = let r = c .before in turned-away (r .before .args .table) (r .table-refusal .result) (r .table-refusal .ensures) _ (c .if1 .taken)
+returns c = let r = c .before in not-taken (r .before .args .table) (r .table-refusal .result) (r .table-refusal .ensures) _ (c .if1 .taken)
 
 returns-2 : tie.Need-returns-2
 returns-2 c =

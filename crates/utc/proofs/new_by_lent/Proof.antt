@@ -16,7 +16,7 @@ use Rattle.constants.proofs.Bits.{unix-epoch-jd}
 use Rattle.julian.specs.Calendar.{calendarOutcome, julianToCalendar}
 use Rattle.scales.specs.Scales.{utcOutcome}
 use Rattle.leap_table.specs.rows.Table.{Row}
-use Rattle.leap_table.specs.rows.Lent.{rowsIn}
+use Rattle.leap_table.specs.rows.Announced.{rowsIn}
 use Rattle.utc.specs.UnixTime.{unixDay, secondOfUnixDay}
 use Rattle.julian.proofs.Dates.{date-in-range}
 use Rattle.utc.proofs.UnixDays.{day-fits, day-in-float}

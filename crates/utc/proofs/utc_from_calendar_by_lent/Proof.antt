@@ -10,7 +10,7 @@ use Rattle.floats.specs.Whole.{nought}
 use Rattle.julian.specs.JulianDate.{julianOutcome}
 use Rattle.julian.specs.Calendar.{fromCalendar}
 use Rattle.leap_table.specs.rows.Table.{Row}
-use Rattle.leap_table.specs.rows.Lent.{rowsIn}
+use Rattle.leap_table.specs.rows.Announced.{rowsIn}
 use Rattle.leap_table.specs.offsets.Leap.{leapAtEndOfDay}
 use Rattle.leap_table.specs.declared.offsets.SecondsByRule.{SecondsByRule}
 use Rattle.leap_table.specs.offsets.Rule.{forget, leapByRule}

@@ -1,4 +1,4 @@
--- The text of a UTC date with the rule of the day, by each sheet. Written from document 02, item 5: the text calls pass on the rule of the calendar's date at 0h, which is
+-- The text of a UTC date with the rule of the day, in each form. Written from document 02, item 5: the text calls pass on the rule of the calendar's date at 0h, which is
 -- the date before any carry: a text that shows the next midnight passes on the rule of the day that ends there. Assumes nothing.
 use Prim.Native.Nat.{ℕ}
 use mathlib.Core.Path.{_≡_}
@@ -15,25 +15,25 @@ unfoldable pub use Rattle.leap_table.specs.offsets.Rule.{ruleOn}
 use Rattle.utc.specs.text.Answer.{textWritten}
 use Rattle.utc.specs.declared.iso_texts.TextByRule.{TextByRule}
 use Rattle.utc.specs.declared.iso_texts.TextByRule.the-variants as Ruled
-use Rattle.utc.specs.iso_texts.Sheet.{Sheet}
-use Rattle.utc.specs.iso_texts.IsoText.{sheet01, dayTextBy}
-use Rattle.utc.specs.iso_texts.Expanded.{expandedSheet}
-use Rattle.utc.specs.iso_texts.HalfEven.{evenSheet}
+use Rattle.utc.specs.iso_texts.TextForm.{TextForm}
+use Rattle.utc.specs.iso_texts.IsoText.{standardForm, dayTextBy}
+use Rattle.utc.specs.iso_texts.Expanded.{expandedForm}
+use Rattle.utc.specs.iso_texts.HalfEven.{halfEvenForm}
 use Rattle.utc.specs.iso_texts.TextCall.{bufferHolds}
 
--- by any sheet
-unfoldable pub textByRule : Sheet → List Row → JulianDate → Outcome (List ℕ × Rule)
-textByRule sheet rows jd = onward (julianToCalendar (jd .jd1) (jd .jd2)) (λ c. withRule (dayTextBy sheet rows (c .date) (c .fraction)) (ruleOn rows (c .date)))
+-- in any form
+unfoldable pub textByRule : TextForm → List Row → JulianDate → Outcome (List ℕ × Rule)
+textByRule textForm rows jd = onward (julianToCalendar (jd .jd1) (jd .jd2)) (λ c. withRule (dayTextBy textForm rows (c .date) (c .fraction)) (ruleOn rows (c .date)))
 
 -- document 01's text, and those of document 02's items 4 and 6
 abbrev pub isoTextByRule : List Row → JulianDate → Outcome (List ℕ × Rule)
-isoTextByRule rows jd = textByRule sheet01 rows jd
+isoTextByRule rows jd = textByRule standardForm rows jd
 
 abbrev pub halfEvenByRule : List Row → JulianDate → Outcome (List ℕ × Rule)
-halfEvenByRule rows jd = textByRule evenSheet rows jd
+halfEvenByRule rows jd = textByRule halfEvenForm rows jd
 
 abbrev pub expandedByRule : List Row → JulianDate → Outcome (List ℕ × Rule)
-expandedByRule rows jd = textByRule expandedSheet rows jd
+expandedByRule rows jd = textByRule expandedForm rows jd
 
 -- ---- a call that writes it
 unfoldable pub textByRuleOutcome : TextByRule → Outcome (ℕ × Rule)

@@ -10,15 +10,15 @@ use Rattle.julian.specs.declared.JulianDate.{JulianDate}
 use Rattle.leap_table.specs.rows.Table.{Row}
 use Rattle.time_of_day.specs.TimeShown.{countBy}
 use Rattle.utc.specs.text.Expanded.{expandedText}
-use Rattle.utc.specs.iso_texts.Sheet.{Sheet}
+use Rattle.utc.specs.iso_texts.TextForm.{TextForm}
 use Rattle.utc.specs.iso_texts.IsoText.{dayTextBy, isoTextBy}
 
--- milliseconds as document 01's sheet counts them, years of four digits or of a sign and seven
-abbrev pub expandedSheet : Sheet
-expandedSheet = record { count = countBy away; write = expandedText }
+-- milliseconds as document 01's form counts them, years of four digits or of a sign and seven
+abbrev pub expandedForm : TextForm
+expandedForm = record { count = countBy away; write = expandedText }
 
 abbrev pub dayTextExpanded : List Row → CalendarDate → Float → Outcome (List ℕ)
-dayTextExpanded rows d fraction = dayTextBy expandedSheet rows d fraction
+dayTextExpanded rows d fraction = dayTextBy expandedForm rows d fraction
 
 abbrev pub isoTextExpanded : List Row → JulianDate → Outcome (List ℕ)
-isoTextExpanded rows jd = isoTextBy expandedSheet rows jd
+isoTextExpanded rows jd = isoTextBy expandedForm rows jd

@@ -17,7 +17,7 @@ use Rattle.time_of_day.specs.declared.TimeShown.{TimeShown}
 use Rattle.time_of_day.specs.declared.TimeShown.the-variants.{At, NextMidnight}
 use Rattle.time_of_day.specs.TimeShown.{countBy, shownBy}
 use Rattle.utc.specs.text.Text.{utcText}
-use Rattle.utc.specs.iso_texts.Sheet.{Sheet}
+use Rattle.utc.specs.iso_texts.TextForm.{TextForm}
 
 -- 00:00:00.000
 abbrev pub midnight : TimeOfDay
@@ -33,16 +33,16 @@ shownTextBy write d (At t) = answer (write d t)
 shownTextBy write d NextMidnight = nextMidnightTextBy write d
 
 -- a fraction of the date's day
-unfoldable pub dayTextBy : Sheet → List Row → CalendarDate → Float → Outcome (List ℕ)
-dayTextBy sheet rows d fraction =
-    onward (leapAtEndOfDay rows (d .year) (pos (d .month)) (pos (d .day))) (λ leap. shownTextBy (sheet .write) d (shownBy (sheet .count) fraction leap))
+unfoldable pub dayTextBy : TextForm → List Row → CalendarDate → Float → Outcome (List ℕ)
+dayTextBy textForm rows d fraction =
+    onward (leapAtEndOfDay rows (d .year) (pos (d .month)) (pos (d .day))) (λ leap. shownTextBy (textForm .write) d (shownBy (textForm .count) fraction leap))
 
-unfoldable pub isoTextBy : Sheet → List Row → JulianDate → Outcome (List ℕ)
-isoTextBy sheet rows jd = onward (julianToCalendar (jd .jd1) (jd .jd2)) (λ c. dayTextBy sheet rows (c .date) (c .fraction))
+unfoldable pub isoTextBy : TextForm → List Row → JulianDate → Outcome (List ℕ)
+isoTextBy textForm rows jd = onward (julianToCalendar (jd .jd1) (jd .jd2)) (λ c. dayTextBy textForm rows (c .date) (c .fraction))
 
--- document 01's sheet: halves of a millisecond away from zero, years of at least four characters
-abbrev pub sheet01 : Sheet
-sheet01 = record { count = countBy away; write = utcText }
+-- document 01's form: halves of a millisecond away from zero, years of at least four characters
+abbrev pub standardForm : TextForm
+standardForm = record { count = countBy away; write = utcText }
 
 abbrev pub nextMidnightText : CalendarDate → Outcome (List ℕ)
 nextMidnightText d = nextMidnightTextBy utcText d
@@ -51,7 +51,7 @@ abbrev pub shownText : CalendarDate → TimeShown → Outcome (List ℕ)
 shownText d r = shownTextBy utcText d r
 
 abbrev pub dayText : List Row → CalendarDate → Float → Outcome (List ℕ)
-dayText rows d fraction = dayTextBy sheet01 rows d fraction
+dayText rows d fraction = dayTextBy standardForm rows d fraction
 
 abbrev pub isoText : List Row → JulianDate → Outcome (List ℕ)
-isoText rows jd = isoTextBy sheet01 rows jd
+isoText rows jd = isoTextBy standardForm rows jd

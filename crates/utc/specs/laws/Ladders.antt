@@ -1,4 +1,4 @@
--- The orders of refusals of the calls that read TAI-UTC by a lent table. Written from document 01, "Refusals by number" (the look-up 7, date; the leap date, 5; `UTC::new` 8, 6,
+-- The orders of refusals of the calls that read TAI-UTC by a announced table. Written from document 01, "Refusals by number" (the look-up 7, date; the leap date, 5; `UTC::new` 8, 6,
 -- date, 4; `utc_from_calendar` date, 5, 4; the text 6, date, 11), and document 02, item 8: 20 for the sizes, then 21, then 22, before all of these. Assumes nothing.
 use mathlib.Core.Path.{_≡_}
 use mathlib.Core.Bool.{Bool, true, false, _||_}
@@ -19,27 +19,27 @@ use Rattle.calendar.specs.declared.CalendarDate.{CalendarDate}
 use Rattle.julian.specs.day_number.DayNumber.{accepted, dayOf}
 use Rattle.julian.specs.declared.JulianDate.{JulianDate}
 use Rattle.julian.specs.DayFraction.{timeInDay}
-use Rattle.leap_table.specs.declared.rows.LentRows.{LentRows}
+use Rattle.leap_table.specs.declared.rows.AnnouncedRows.{AnnouncedRows}
 use Rattle.leap_table.specs.rows.Table.{Row}
-use Rattle.leap_table.specs.rows.Lent.{rowsOf, laterAt, StepAt}
+use Rattle.leap_table.specs.rows.Announced.{rowsOf, laterAt, StepAt}
 use Rattle.leap_table.specs.offsets.Offset.{inDay}
 use Rattle.leap_table.specs.offsets.Leap.{leapAtEndOfDay}
-use Rattle.utc.specs.iso_texts.Sheet.{Sheet}
+use Rattle.utc.specs.iso_texts.TextForm.{TextForm}
 use Rattle.utc.specs.iso_texts.IsoText.{isoTextBy}
 use Rattle.utc.specs.UnixTime.{unixDay, secondOfUnixDay, secondWithNanos}
 use Rattle.utc.specs.laws.Ladder.{Ladder, done, refuse}
 
 -- ---- the table's reasons, on the numbers as they are lent
-abbrev pub WrongSizes : LentRows → Type 0
+abbrev pub WrongSizes : AnnouncedRows → Type 0
 WrongSizes t = (t .«months_size» ≡ t .«seconds_size» → ⊥) ⊎ (16 < t .«months_size»)
 
-abbrev pub RowNotLater : LentRows → Type 0
+abbrev pub RowNotLater : AnnouncedRows → Type 0
 RowNotLater t = (i : ℕ) × (i < t .«months_size») × (laterAt t i ≡ false)
 
-abbrev pub NotOneStep : LentRows → Type 0
+abbrev pub NotOneStep : AnnouncedRows → Type 0
 NotOneStep t = (i : ℕ) × (i < t .«months_size») × (StepAt t i → ⊥)
 
-abbrev pub tableFirst : LentRows → Ladder → Ladder
+abbrev pub tableFirst : AnnouncedRows → Ladder → Ladder
 tableFirst t later = refuse 20 (WrongSizes t) (refuse 21 (RowNotLater t) (refuse 22 (NotOneStep t) later))
 
 -- ---- a date's
@@ -69,13 +69,13 @@ pub record PastShortEnd (rows : List Row) (date : CalendarDate) (second nanos : 
   pub past : lt (secondWithNanos second nanos) (add binary64 (decimal 60 0) leap) ≡ false
 
 -- ---- the calls
-abbrev pub offsetLadder : LentRows → ℤ → ℤ → ℤ → Float → Ladder
+abbrev pub offsetLadder : AnnouncedRows → ℤ → ℤ → ℤ → Float → Ladder
 offsetLadder t y m d fraction = tableFirst t (refuse 7 (inDay fraction ≡ false) (dateThen y m d done))
 
-abbrev pub leapLadder : LentRows → ℤ → ℤ → ℤ → Ladder
+abbrev pub leapLadder : AnnouncedRows → ℤ → ℤ → ℤ → Ladder
 leapLadder t y m d = tableFirst t (dateThen y m d (refuse 5 (lastDate y (natAbs m) (natAbs d) ≡ true) done))
 
-abbrev pub fromCalendarLadder : LentRows → ℤ → ℕ → ℕ → ℕ → ℕ → Float → Ladder
+abbrev pub fromCalendarLadder : AnnouncedRows → ℤ → ℕ → ℕ → ℕ → ℕ → Float → Ladder
 fromCalendarLadder t y m d hour minute second =
     tableFirst t
     (dateThen y (pos m) (pos d)
@@ -90,7 +90,7 @@ dayOutside n = ltZ n (negsuc 2509156) || ltZ (pos 997559412) n
 abbrev pub unixDate : ℤ → CalendarDate
 unixDate n = dateOf (n +ℤ pos 2440588)
 
-abbrev pub newLadder : LentRows → ℤ → ℕ → Ladder
+abbrev pub newLadder : AnnouncedRows → ℤ → ℕ → Ladder
 newLadder t seconds nanos =
     tableFirst t
     (refuse 8 (1000000000 ≤ nanos)
@@ -98,12 +98,12 @@ newLadder t seconds nanos =
     (refuse 1 (ltZ (unixDate (unixDay seconds) .year) (negsuc 4798) ≡ true)
     (refuse 4 (PastShortEnd (rowsOf t) (unixDate (unixDay seconds)) (secondOfUnixDay seconds) nanos) done))))
 
--- the text by a sheet, and the call that writes it into so many bytes
-abbrev pub textLadder : LentRows → JulianDate → Ladder
+-- the text by a form of text, and the call that writes it into so many bytes
+abbrev pub textLadder : AnnouncedRows → JulianDate → Ladder
 textLadder t jd = tableFirst t (partsThen (jd .jd1) (jd .jd2) done)
 
-abbrev pub textCallLadder : Sheet → LentRows → JulianDate → ℕ → Ladder
-textCallLadder sheet t jd room =
+abbrev pub textCallLadder : TextForm → AnnouncedRows → JulianDate → ℕ → Ladder
+textCallLadder textForm t jd room =
     tableFirst t
     (partsThen (jd .jd1) (jd .jd2)
-    (refuse 11 ((text : List ℕ) × (isoTextBy sheet (rowsOf t) jd ≡ answer text) × (room < length text)) done))
+    (refuse 11 ((text : List ℕ) × (isoTextBy textForm (rowsOf t) jd ≡ answer text) × (room < length text)) done))

@@ -17,7 +17,7 @@ use Rattle.leap_table.specs.offsets.Leap.{leapAtEndOfDay}
 use Rattle.time_of_day.specs.ExactTime.{DayLength}
 use Rattle.utc.specs.declared.text.TextAnswer.{TextAnswer}
 use Rattle.utc.specs.text.Answer.{textOutcome}
-use Rattle.utc.specs.iso_texts.Sheet.{Sheet}
+use Rattle.utc.specs.iso_texts.TextForm.{TextForm}
 use Rattle.utc.specs.iso_texts.IsoText.{isoTextBy}
 use Rattle.utc.specs.iso_texts.TextCall.{TextCall, Alike}
 use Rattle.utc.specs.laws.Shows.{Promise, TextRight, tooEarly}
@@ -30,11 +30,11 @@ pub record Division (sum : ℤ) (jd : JulianDate) : Type 0 where
   pub second : OnGrid (jd .jd2)
   pub sum-is : gridSum first second ≡ sum
 
--- P holds of each call for the text of a division of the sum, by a sheet: of what the buffer held before, the answer, and what it
+-- P holds of each call for the text of a division of the sum, by a form of text: of what the buffer held before, the answer, and what it
 -- holds after
-abbrev pub EveryCall : Sheet → List Row → ℤ → (List ℕ → TextAnswer → List ℕ → Type 0) → Type 0
-EveryCall sheet rows sum P =
-    (jd : JulianDate) → Division sum jd → (before : List ℕ) (r : TextAnswer) (after : List ℕ) → TextCall (isoTextBy sheet rows jd) before r after → P before r after
+abbrev pub EveryCall : TextForm → List Row → ℤ → (List ℕ → TextAnswer → List ℕ → Type 0) → Type 0
+EveryCall textForm rows sum P =
+    (jd : JulianDate) → Division sum jd → (before : List ℕ) (r : TextAnswer) (after : List ℕ) → TextCall (isoTextBy textForm rows jd) before r after → P before r after
 
 -- the text t shows the exact day and the exact time of the sum, or the next day's midnight; the day's length is 86,400 s and the leap that the table gives,
 -- where it counts
@@ -56,7 +56,7 @@ pub data Put (t before : List ℕ) (r : TextAnswer) (after : List ℕ) : Type 0 
 
 -- One text, or one refusal, for all divisions of one date: 1 where the exact day's year is before -4799; else a text that is right, in every buffer that holds
 -- it; and any two calls, with buffers of one length, alike
-pub record OneText (sheet : Sheet) (p : Promise) (rows : List Row) (sum : ℤ) : Type 0 where
-  pub early : tooEarly sum ≡ true → EveryCall sheet rows sum TooEarly
-  pub shown : tooEarly sum ≡ false → (t : List ℕ) × ShowsExact p rows sum t × EveryCall sheet rows sum (Put t)
-  pub alike : EveryCall sheet rows sum (λ l r out. EveryCall sheet rows sum (λ l' r' out'. length l ≡ length l' → Alike l r out l' r' out'))
+pub record OneText (textForm : TextForm) (p : Promise) (rows : List Row) (sum : ℤ) : Type 0 where
+  pub early : tooEarly sum ≡ true → EveryCall textForm rows sum TooEarly
+  pub shown : tooEarly sum ≡ false → (t : List ℕ) × ShowsExact p rows sum t × EveryCall textForm rows sum (Put t)
+  pub alike : EveryCall textForm rows sum (λ l r out. EveryCall textForm rows sum (λ l' r' out'. length l ≡ length l' → Alike l r out l' r' out'))

@@ -1,4 +1,4 @@
--- What document 02 promises of its two sheets, beside document 01's promise in Shows. Written from items 4 and 6. Assumes nothing.
+-- What document 02 promises of its two forms of text, beside document 01's promise in Shows. Written from items 4 and 6. Assumes nothing.
 use Rattle.time_of_day.specs.EvenPromise.{evenParts, evenMost}
 use Rattle.utc.specs.text.ExpandedForm.{ExpandedForm}
 use Rattle.utc.specs.laws.Shows.{Promise, Form01}

@@ -30,7 +30,7 @@ unfoldable pub timeShown : {t : List ℕ} {n : ℤ} {leap : Float} → DayShown 
 timeShown {t} (on-day u r g) W E = readMs t * E
 timeShown (next-midnight r) W E = 1000 * W
 
--- What is promised of the texts of a sheet: a form, and that on a day with a leap the time shown is within e / c milliseconds of the exact one
+-- What is promised of the texts of a form of text: a form, and that on a day with a leap the time shown is within e / c milliseconds of the exact one
 pub record Promise : Type 1 where
   pub Form : List ℕ → Type 0
   pub c : Float → ℕ

@@ -2,7 +2,7 @@
 ghost use mathlib.Core.Path.{_≡_};
 ghost use Prim.Native.Nat.{_≤_};
 ghost use Rattle.refusals.specs.Outcome.{onward};
-ghost use Rattle.leap_table.specs.rows.Lent.{rowsIn, rowsOf, tableOf};
+ghost use Rattle.leap_table.specs.rows.Announced.{rowsIn, rowsOf, tableOf};
 ghost use Rattle.leap_table.specs.offsets.Rule.{withRule};
 ghost use Rattle.utc.specs.text.Answer.{textOutcome};
 ghost use Rattle.utc.specs.iso_texts.IsoText.{dayText, isoText};
@@ -15,7 +15,7 @@ use calendar::CalendarDate;
 use julian::CalendarAnswer;
 use leap_table::offsets::Rule;
 use leap_table::offsets::SecondsByRule;
-use leap_table::rows::LentRows;
+use leap_table::rows::AnnouncedRows;
 use scales::UTC;
 
 pub(crate) fn with_rule(text: TextAnswer, rule: Rule) -> TextByRule
@@ -76,7 +76,7 @@ pub fn to_iso8601_by_lent<'a>(
 
 // The text of a date by the rows of a table that is tested elsewhere, without the rule. Refusals in order: 6 the parts, 1 the year, 11 the buffer; a refused call writes
 // nothing.
-pub fn to_iso8601_by_rows(utc: UTC, table: LentRows, out: &mut [u8]) -> TextAnswer
+pub fn to_iso8601_by_rows(utc: UTC, table: AnnouncedRows, out: &mut [u8]) -> TextAnswer
     ensures { λ r. ⌜ TextCall (isoText (rowsOf table) (utc .0)) (now (out .entry)) r (now (out .exit)) ⌝ }
 {
     match to_iso8601_by_lent(
@@ -93,7 +93,7 @@ pub fn to_iso8601_by_rows(utc: UTC, table: LentRows, out: &mut [u8]) -> TextAnsw
 
 // The date as ISO 8601 text, rounded to the millisecond, at the start of the buffer, and the rule of its day; in a leap second the seconds are 60. Refusals in order: 20
 // to 22 the table, 6 the parts, 1 the year, 11 the buffer; a refused call writes nothing.
-pub fn to_iso8601(utc: UTC, table: LentRows, out: &mut [u8]) -> TextByRule
+pub fn to_iso8601(utc: UTC, table: AnnouncedRows, out: &mut [u8]) -> TextByRule
     ensures { λ r. ⌜ TextRuleCall (onward (tableOf table) (λ rows. isoTextByRule rows (utc .0))) (now (out .entry)) r (now (out .exit)) ⌝ }
 {
     let number = leap_table::rows::table_refusal(table);

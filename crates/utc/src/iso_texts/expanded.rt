@@ -1,7 +1,7 @@
 // UTC text with a sign and seven digits for a year that four digits do not hold: ISO 8601's expanded representation.
 ghost use Prim.Native.Nat.{_≤_};
 ghost use Rattle.refusals.specs.Outcome.{onward};
-ghost use Rattle.leap_table.specs.rows.Lent.{rowsIn, rowsOf, tableOf};
+ghost use Rattle.leap_table.specs.rows.Announced.{rowsIn, rowsOf, tableOf};
 ghost use Rattle.leap_table.specs.offsets.Rule.{withRule};
 ghost use Rattle.utc.specs.text.Expanded.{expandedText};
 ghost use Rattle.utc.specs.iso_texts.IsoText.{nextMidnightTextBy, shownTextBy};
@@ -15,7 +15,7 @@ use calendar::CalendarDate;
 use calendar::NextDay;
 use julian::CalendarAnswer;
 use leap_table::offsets::SecondsByRule;
-use leap_table::rows::LentRows;
+use leap_table::rows::AnnouncedRows;
 use scales::UTC;
 use time_of_day::TimeOfDay;
 use time_of_day::TimeShown;
@@ -69,7 +69,7 @@ pub fn to_iso8601_expanded_by_lent<'a>(
 
 // The text of a date by the rows of a table that is tested elsewhere, without the rule. Refusals in order: 6 the parts, 1 the year, 11 the buffer; a refused call writes
 // nothing.
-pub fn to_iso8601_expanded_by_rows(utc: UTC, table: LentRows, out: &mut [u8]) -> TextAnswer
+pub fn to_iso8601_expanded_by_rows(utc: UTC, table: AnnouncedRows, out: &mut [u8]) -> TextAnswer
     ensures { λ r. ⌜ TextCall (isoTextExpanded (rowsOf table) (utc .0)) (now (out .entry)) r (now (out .exit)) ⌝ }
 {
     match to_iso8601_expanded_by_lent(
@@ -86,7 +86,7 @@ pub fn to_iso8601_expanded_by_rows(utc: UTC, table: LentRows, out: &mut [u8]) ->
 
 // The date as ISO 8601 text of 23 or 27 bytes, rounded to the millisecond, at the start of the buffer, and the rule of its day. Refusals in order: 20 to 22 the table, 6
 // the parts, 1 the year, 11 the buffer; a refused call writes nothing.
-pub fn to_iso8601_expanded(utc: UTC, table: LentRows, out: &mut [u8]) -> TextByRule
+pub fn to_iso8601_expanded(utc: UTC, table: AnnouncedRows, out: &mut [u8]) -> TextByRule
     ensures { λ r. ⌜ TextRuleCall (onward (tableOf table) (λ rows. expandedByRule rows (utc .0))) (now (out .entry)) r (now (out .exit)) ⌝ }
 {
     let number = leap_table::rows::table_refusal(table);

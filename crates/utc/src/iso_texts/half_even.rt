@@ -1,7 +1,7 @@
 // UTC text with a half millisecond to the even one, in document 01's form.
 ghost use Prim.Native.Nat.{_≤_};
 ghost use Rattle.refusals.specs.Outcome.{onward};
-ghost use Rattle.leap_table.specs.rows.Lent.{rowsIn, rowsOf, tableOf};
+ghost use Rattle.leap_table.specs.rows.Announced.{rowsIn, rowsOf, tableOf};
 ghost use Rattle.leap_table.specs.offsets.Rule.{withRule};
 ghost use Rattle.utc.specs.iso_texts.HalfEven.{dayTextHalfEven, isoTextHalfEven};
 ghost use Rattle.utc.specs.iso_texts.TextCall.{TextCall};
@@ -13,7 +13,7 @@ use crate::text::TextAnswer;
 use calendar::CalendarDate;
 use julian::CalendarAnswer;
 use leap_table::offsets::SecondsByRule;
-use leap_table::rows::LentRows;
+use leap_table::rows::AnnouncedRows;
 use scales::UTC;
 
 fn put_day<'a>(
@@ -65,7 +65,7 @@ pub fn to_iso8601_half_even_by_lent<'a>(
 
 // The text of a date by the rows of a table that is tested elsewhere, without the rule. Refusals in order: 6 the parts, 1 the year, 11 the buffer; a refused call writes
 // nothing.
-pub fn to_iso8601_half_even_by_rows(utc: UTC, table: LentRows, out: &mut [u8]) -> TextAnswer
+pub fn to_iso8601_half_even_by_rows(utc: UTC, table: AnnouncedRows, out: &mut [u8]) -> TextAnswer
     ensures { λ r. ⌜ TextCall (isoTextHalfEven (rowsOf table) (utc .0)) (now (out .entry)) r (now (out .exit)) ⌝ }
 {
     match to_iso8601_half_even_by_lent(
@@ -82,7 +82,7 @@ pub fn to_iso8601_half_even_by_rows(utc: UTC, table: LentRows, out: &mut [u8]) -
 
 // The date as ISO 8601 text, a half millisecond to the even one, at the start of the buffer, and the rule of its day. Refusals in order: 20 to 22 the table, 6 the parts,
 // 1 the year, 11 the buffer; a refused call writes nothing.
-pub fn to_iso8601_half_even(utc: UTC, table: LentRows, out: &mut [u8]) -> TextByRule
+pub fn to_iso8601_half_even(utc: UTC, table: AnnouncedRows, out: &mut [u8]) -> TextByRule
     ensures { λ r. ⌜ TextRuleCall (onward (tableOf table) (λ rows. halfEvenByRule rows (utc .0))) (now (out .entry)) r (now (out .exit)) ⌝ }
 {
     let number = leap_table::rows::table_refusal(table);

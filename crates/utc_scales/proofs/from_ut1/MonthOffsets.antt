@@ -20,7 +20,7 @@ use Rattle.calendar.specs.Gregorian.{gregorianDate}
 use Rattle.calendar.proofs.Years.{validOf, gregorian-in-range, gregorian-refusal}
 use Rattle.calendar.proofs.Mjd.{mjd-given}
 use Rattle.leap_table.specs.rows.Table.{monthNumber, reached}
-use Rattle.leap_table.specs.rows.Lent.{rowsIn}
+use Rattle.leap_table.specs.rows.Announced.{rowsIn}
 use Rattle.leap_table.specs.offsets.Offset.{offsetAt}
 use Rattle.leap_table.proofs.offsets.ByParts.{seconds-reached}
 use Rattle.leap_table.proofs.offsets.Offsets.{in-day-zero, offset-given, offset-came}

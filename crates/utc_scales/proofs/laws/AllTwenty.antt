@@ -4,10 +4,10 @@ use mathlib.Core.List.{List}
 use Rattle.refusals.specs.Outcome.{Outcome, answer, refusal}
 use Rattle.julian.specs.declared.JulianDate.{JulianDate}
 use Rattle.julian.specs.Worth.{SmallParts}
-use Rattle.leap_table.specs.declared.rows.LentRows.{LentRows}
+use Rattle.leap_table.specs.declared.rows.AnnouncedRows.{AnnouncedRows}
 use Rattle.leap_table.specs.rows.Table.{Row, fixed}
-use Rattle.leap_table.specs.rows.Lent.{tableOf}
-use Rattle.leap_table.proofs.rows.NoRows.{none-lent, fixed-taken}
+use Rattle.leap_table.specs.rows.Announced.{tableOf}
+use Rattle.leap_table.proofs.rows.NoRows.{none-announced, fixed-taken}
 use Rattle.scales.specs.Conversions.{answerOf}
 use Rattle.scales.specs.laws.Ranges.{Billion, FiniteDate, FiniteParts}
 use Rattle.scales.proofs.laws.Finiteness.{finite-dates}
@@ -20,7 +20,7 @@ finite-date-holds (answer u) h = answers h
 finite-date-holds (refusal n) h = absurd h
 
 -- ---- NO NAN AND NO INFINITY, by every table that is taken
-module _ (t : LentRows) (rows : List Row) (taken : tableOf t ≡ answer rows) where
+module _ (t : AnnouncedRows) (rows : List Row) (taken : tableOf t ≡ answer rows) where
   pub table-no-nan-no-infinity : (k : Twenty) (d : JulianDate) → SmallParts d → Billion (givenOffset k) → Holds FiniteParts SixOrOne (answerOfAny rows k d)
   unfolding answerOfAny givenOffset
   table-no-nan-no-infinity (by-formula k) d h b = finite-date-holds (answerOf k d) (finite-dates k d h b)
@@ -31,4 +31,4 @@ module _ (t : LentRows) (rows : List Row) (taken : tableOf t ≡ answer rows) wh
 
 -- by the fixed one
 pub no-nan-no-infinity : (k : Twenty) (d : JulianDate) → SmallParts d → Billion (givenOffset k) → Holds FiniteParts SixOrOne (answerOfAny fixed k d)
-no-nan-no-infinity = table-no-nan-no-infinity none-lent fixed fixed-taken
+no-nan-no-infinity = table-no-nan-no-infinity none-announced fixed fixed-taken

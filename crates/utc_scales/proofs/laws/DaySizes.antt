@@ -17,9 +17,9 @@ use Rattle.julian.specs.day_number.DayNumber.{accepted, dayOf, fractionPassed}
 use Rattle.julian.specs.day_number.Ranges.{InDays}
 use Rattle.julian.proofs.day_number.Accepted.{accepted-pair}
 use Rattle.leap_table.specs.declared.offsets.DayOffsets.{DayOffsets}
-use Rattle.leap_table.specs.declared.rows.LentRows.{LentRows}
+use Rattle.leap_table.specs.declared.rows.AnnouncedRows.{AnnouncedRows}
 use Rattle.leap_table.specs.rows.Table.{Row}
-use Rattle.leap_table.specs.rows.Lent.{tableOf}
+use Rattle.leap_table.specs.rows.Announced.{tableOf}
 use Rattle.leap_table.specs.offsets.Leap.{driftRate, leapAmount}
 use Rattle.utc_scales.specs.days.Dates.{offsetOfDate, offsetAt0h}
 use Rattle.utc_scales.specs.UtcTai.{stretchDayFraction}
@@ -62,7 +62,7 @@ since-midnight-size x y f g a o z =
     size-add 36 11 37 (lit≤ tt) (lit≤ tt) (stretched-size o (dayOf x y .fraction) z (fraction-size x y f g a)) (size-div 11 (lit≤ tt) (z .at-0h) day-above)
 
 -- ---- TAI-UTC at 0h of the day of a pair of parts
-module _ (t : LentRows) (rows : List Row) (taken : tableOf t ≡ answer rows) where
+module _ (t : AnnouncedRows) (rows : List Row) (taken : tableOf t ≡ answer rows) where
   pub day-offset-size : (x y : Float) → Fits x → Fits y → Holds (λ z. Size z 11) SixOrOne (offsetOfDate rows x y)
   unfolding offsetAt0h
   day-offset-size x y f g = go (kind x y f g)

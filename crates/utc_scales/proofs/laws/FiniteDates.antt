@@ -16,10 +16,10 @@ use Rattle.julian.specs.day_number.DayNumber.{dayOf}
 use Rattle.julian.specs.declared.JulianDate.{JulianDate}
 use Rattle.julian.specs.JulianDate.{julian}
 use Rattle.julian.specs.Worth.{SmallParts}
-use Rattle.leap_table.specs.declared.rows.LentRows.{LentRows}
+use Rattle.leap_table.specs.declared.rows.AnnouncedRows.{AnnouncedRows}
 use Rattle.leap_table.specs.rows.Table.{Row, fixed}
-use Rattle.leap_table.specs.rows.Lent.{tableOf}
-use Rattle.leap_table.proofs.rows.NoRows.{none-lent, fixed-taken}
+use Rattle.leap_table.specs.rows.Announced.{tableOf}
+use Rattle.leap_table.proofs.rows.NoRows.{none-announced, fixed-taken}
 use Rattle.scales.specs.laws.Ranges.{Held, Billion, FiniteParts}
 use Rattle.refusals.proofs.Onward.{went}
 use Rattle.utc_scales.specs.days.LargerPart.{keptParts}
@@ -40,7 +40,7 @@ use Rattle.utc_scales.proofs.laws.FiniteTai.{table-utc-to-tai-never-inf
 use Rattle.utc_scales.proofs.laws.DateSizes.{Room, room52, room58, room64, Sized, parts-size, changed-size, Guess, finite-parts, small-size, held, billion-size, later-finite, offset-answers, step-size, ScanSize, until-size, date-answers}
 
 -- ---- THE THEOREMS, of every table that is taken
-module _ (t : LentRows) (rows : List Row) (taken : tableOf t ≡ answer rows) where
+module _ (t : AnnouncedRows) (rows : List Row) (taken : tableOf t ≡ answer rows) where
   tai-size : (k : ℕ) → Room k → (x y : Float) → Fits x → Fits y → Size x k → Holds (λ z. Size z (k + 3)) SixOrOne (taiFraction rows x y)
   unfolding taiFromMidnight offsetsOf
   tai-size k w x y f g s = go (kind x y f g)
@@ -143,13 +143,13 @@ module _ (t : LentRows) (rows : List Row) (taken : tableOf t ≡ answer rows) wh
 
 -- ---- of the fixed one
 pub utc-to-tai-finite : (d : JulianDate) → SmallParts d → Holds FiniteParts SixOrOne (utcToTai fixed d)
-utc-to-tai-finite = table-utc-to-tai-finite none-lent fixed fixed-taken
+utc-to-tai-finite = table-utc-to-tai-finite none-announced fixed fixed-taken
 
 pub tai-to-utc-finite : (d : JulianDate) → SmallParts d → Holds FiniteParts SixOrOne (taiToUtc fixed d)
-tai-to-utc-finite = table-tai-to-utc-finite none-lent fixed fixed-taken
+tai-to-utc-finite = table-tai-to-utc-finite none-announced fixed fixed-taken
 
 pub utc-to-ut1-finite : (d : JulianDate) (dut1 : Float) → SmallParts d → Billion dut1 → Holds FiniteParts SixOrOne (utcToUt1 fixed d dut1)
-utc-to-ut1-finite = table-utc-to-ut1-finite none-lent fixed fixed-taken
+utc-to-ut1-finite = table-utc-to-ut1-finite none-announced fixed fixed-taken
 
 pub ut1-to-utc-finite : (d : JulianDate) (dut1 : Float) → SmallParts d → Billion dut1 → Holds FiniteParts SixOrOne (ut1ToUtc fixed d dut1)
-ut1-to-utc-finite = table-ut1-to-utc-finite none-lent fixed fixed-taken
+ut1-to-utc-finite = table-ut1-to-utc-finite none-announced fixed fixed-taken

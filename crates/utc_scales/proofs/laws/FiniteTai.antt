@@ -22,10 +22,10 @@ use Rattle.julian.specs.day_number.Ranges.{InDays}
 use Rattle.julian.proofs.day_number.JulianRange.{accepted-finite}
 use Rattle.julian.specs.declared.JulianDate.{JulianDate}
 use Rattle.leap_table.specs.declared.offsets.DayOffsets.{DayOffsets}
-use Rattle.leap_table.specs.declared.rows.LentRows.{LentRows}
+use Rattle.leap_table.specs.declared.rows.AnnouncedRows.{AnnouncedRows}
 use Rattle.leap_table.specs.rows.Table.{Row, fixed}
-use Rattle.leap_table.specs.rows.Lent.{tableOf}
-use Rattle.leap_table.proofs.rows.NoRows.{none-lent, fixed-taken}
+use Rattle.leap_table.specs.rows.Announced.{tableOf}
+use Rattle.leap_table.proofs.rows.NoRows.{none-announced, fixed-taken}
 use Rattle.scales.specs.laws.Ranges.{Held, FiniteParts}
 use Rattle.scales.proofs.laws.Shifts.{Small, added, taken-from, zero-point-small}
 use Rattle.utc_scales.specs.days.LargerPart.{keptParts, besideAs, putBeside, placed, changeSmaller}
@@ -74,7 +74,7 @@ put-finite d x h = go (keptParts d .first)
     go false = (h .given, h .kept)
 
 -- ---- THE THEOREM, of every table that is taken
-module _ (t : LentRows) (rows : List Row) (taken : tableOf t ≡ answer rows) where
+module _ (t : AnnouncedRows) (rows : List Row) (taken : tableOf t ≡ answer rows) where
   tai-finite : (x y : Float) → Fits x → Fits y → Holds (Both x) SixOrOne (taiFraction rows x y)
   unfolding offsetsOf
   tai-finite x y f g = go (kind x y f g)
@@ -97,4 +97,4 @@ module _ (t : LentRows) (rows : List Row) (taken : tableOf t ≡ answer rows) wh
 
 -- of the fixed one
 pub utc-to-tai-never-infinite : (d : JulianDate) → Held d → Holds FiniteParts SixOrOne (utcToTai fixed d)
-utc-to-tai-never-infinite = table-utc-to-tai-never-infinite none-lent fixed fixed-taken
+utc-to-tai-never-infinite = table-utc-to-tai-never-infinite none-announced fixed fixed-taken

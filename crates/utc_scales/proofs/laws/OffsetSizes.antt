@@ -26,16 +26,16 @@ use Rattle.calendar.specs.DayCount.{marchCount, civilCount, mjdNumber, mjdOf}
 use Rattle.calendar.proofs.Accepted.{date-accepted, short}
 use Rattle.calendar.proofs.Mjd.{mjd-given, mjd-valid, same-answer}
 use Rattle.leap_table.specs.declared.offsets.DayOffsets.{DayOffsets}
-use Rattle.leap_table.specs.declared.rows.LentRows.{LentRows}
+use Rattle.leap_table.specs.declared.rows.AnnouncedRows.{AnnouncedRows}
 use Rattle.leap_table.specs.rows.Table.{Row, fixed, starts, reached, monthNumber, none}
-use Rattle.leap_table.specs.rows.Lent.{tableOf}
+use Rattle.leap_table.specs.rows.Announced.{tableOf}
 use Rattle.leap_table.specs.offsets.Offset.{secondsOf, startOf, rateOf, offsetAt, taiUtcOffset, rowAt, secondsIn}
 use Rattle.leap_table.specs.offsets.Leap.{offsets, dayOffsets}
 use Rattle.leap_table.proofs.rows.Rows.{every, at}
 use Rattle.leap_table.proofs.offsets.At.{drifting}
 use Rattle.leap_table.proofs.offsets.Offsets.{offset-came}
 use Rattle.leap_table.proofs.offsets.Years.{before-1960, one-row, drift-rows}
-use Rattle.leap_table.proofs.offsets.TableSeconds.{seconds-in-range, table-seconds, same-before-lent}
+use Rattle.leap_table.proofs.offsets.TableSeconds.{seconds-in-range, table-seconds, same-before-announced}
 use Rattle.leap_table.proofs.offsets.Cases.{forty-two-rows}
 use Rattle.refusals.proofs.Onward.{came}
 
@@ -163,7 +163,7 @@ pub record Offsets (o : DayOffsets) : Type 0 where
   pub at-12h : Size (o .«at_12h») 11
   pub at-24h : Size (o .«at_24h») 11
 
-module _ (t : LentRows) (rows : List Row) (taken : tableOf t ≡ answer rows) where
+module _ (t : AnnouncedRows) (rows : List Row) (taken : tableOf t ≡ answer rows) where
   month-size : (n : ℕ) (mjd f : Float) → Size f 0 → (23520 ≤ n → n < 23664 → Size mjd 16) → Size (offsetAt rows n mjd f) 11
   month-size n mjd f b s = go (leb 23664 n) refl
     where
@@ -174,7 +174,7 @@ module _ (t : LentRows) (rows : List Row) (taken : tableOf t ≡ answer rows) wh
           (int-size 11 (pos (secondsIn rows n)) (lit≤ tt) (omega (arith, seconds-in-range t rows taken n h .1)) (omega arith))
       go false e =
           let l = leb-false 23664 n e in
-          subst (λ (x : Float). Size x 11) (sym (same-before-lent t rows taken n (omega arith) mjd f)) (early-size n mjd f l b (λ h. s h l))
+          subst (λ (x : Float). Size x 11) (sym (same-before-announced t rows taken n (omega arith) mjd f)) (early-size n mjd f l b (λ h. s h l))
 
   pub offset-size : (y m d : ℤ) (f x : Float) → Size f 0 → taiUtcOffset rows y m d f ≡ answer x → Size x 11
   offset-size y m d f x b e =

@@ -13,10 +13,10 @@ use Rattle.julian.specs.day_number.ExactDay.{OnGrid}
 use Rattle.julian.proofs.day_number.Answer.{answered}
 use Rattle.julian.proofs.day_number.ExactDay.{alike}
 use Rattle.julian.specs.declared.JulianDate.{JulianDate}
-use Rattle.leap_table.specs.declared.rows.LentRows.{LentRows}
+use Rattle.leap_table.specs.declared.rows.AnnouncedRows.{AnnouncedRows}
 use Rattle.leap_table.specs.rows.Table.{Row, fixed}
-use Rattle.leap_table.specs.rows.Lent.{tableOf}
-use Rattle.leap_table.proofs.rows.NoRows.{none-lent, fixed-taken}
+use Rattle.leap_table.specs.rows.Announced.{tableOf}
+use Rattle.leap_table.proofs.rows.NoRows.{none-announced, fixed-taken}
 use Rattle.scales.specs.laws.Ranges.{Held}
 use Rattle.utc_scales.specs.days.LargerPart.{firstIsKept, keptAs, keptParts}
 use Rattle.utc_scales.specs.to_ut1.UtcUt1.{utcToUt1}
@@ -54,7 +54,7 @@ by-year o false r e g h k = k
 by-year o true false e g h k = k
 by-year o true true e g h k = subst (λ (b : Bool). DecidedUt1 true true b o) (h refl) k
 
-pub table-utc-to-ut1-decided-by-day : (t : LentRows) (rows : List Row) → tableOf t ≡ answer rows → (d : JulianDate) (dut1 : Float) → Held d → Fits dut1 → OneDay d
+pub table-utc-to-ut1-decided-by-day : (t : AnnouncedRows) (rows : List Row) → tableOf t ≡ answer rows → (d : JulianDate) (dut1 : Float) → Held d → Fits dut1 → OneDay d
     → DecidedUt1 (finite dut1) (accepted (d .jd1) (d .jd2)) (earlyDay (d .jd1) (d .jd2)) (utcToUt1 rows d dut1)
 table-utc-to-ut1-decided-by-day t rows taken d dut1 h f o =
     by-year _ (finite dut1) (accepted (d .jd1) (d .jd2)) (earlyUtc d) (earlyDay (d .jd1) (d .jd2)) (one-day d h o) (table-utc-to-ut1-decided t rows taken d dut1 h f)
@@ -62,4 +62,4 @@ table-utc-to-ut1-decided-by-day t rows taken d dut1 h f o =
 -- by the fixed table
 pub utc-to-ut1-decided-by-day : (d : JulianDate) (dut1 : Float) → Held d → Fits dut1 → OneDay d
     → DecidedUt1 (finite dut1) (accepted (d .jd1) (d .jd2)) (earlyDay (d .jd1) (d .jd2)) (utcToUt1 fixed d dut1)
-utc-to-ut1-decided-by-day = table-utc-to-ut1-decided-by-day none-lent fixed fixed-taken
+utc-to-ut1-decided-by-day = table-utc-to-ut1-decided-by-day none-announced fixed fixed-taken

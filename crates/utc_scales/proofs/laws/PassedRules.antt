@@ -1,5 +1,5 @@
 -- THE RULE THAT UTC TO TAI AND UTC TO UT1 PASS ON, by computation: in the leap second of 2016-12-31 the row of that day, on 1971-12-31 the last row that drifts, in 1959 none, and
--- under a lent row that row. Each date is said by its bits. Assumes nothing.
+-- under a announced row that row. Each date is said by its bits. Assumes nothing.
 use mathlib.Core.Path.{_≡_, refl, sym, _∙_}
 use mathlib.Core.Bool.{false}
 use mathlib.Core.List.{List}
@@ -17,7 +17,7 @@ use Rattle.julian.proofs.laws.Divisions.{dividedDate, divided-date}
 use Rattle.leap_table.specs.declared.offsets.Rule.{Rule}
 use Rattle.leap_table.specs.declared.offsets.Rule.the-variants.{Absent, Drifting, Whole}
 use Rattle.leap_table.specs.rows.Table.{Row, fixed, monthNumber, reached}
-use Rattle.leap_table.specs.rows.Lent.{tableOf}
+use Rattle.leap_table.specs.rows.Announced.{tableOf}
 use Rattle.leap_table.specs.offsets.Rule.{ruleBy, ruleOf, ruleAt, ruleOn}
 use Rattle.utc_scales.specs.days.LargerPart.{firstIsKept, keptParts}
 use Rattle.utc_scales.specs.days.DateRule.{ruleOfDate}
@@ -92,18 +92,18 @@ pub before-rows-ut1 : utcToUt1ByRule fixed in-1959 (decimal 0 0) ≡ answer (in-
 unfolding ruled computed round ofBits
 before-rows-ut1 = ut1-by-rule fixed in-1959 (decimal 0 0) in-1959 Absent (given fixed (utc-ut1 (decimal 0 0)) in-1959 in-1959 refl) refl
 
--- ---- 2030-01-01 0h under the first lent row, of 36 s
+-- ---- 2030-01-01 0h under the first announced row, of 36 s
 abbrev first-of-2030 : Float → JulianDate
 first-of-2030 x = julian (decimal 24625025 1) x
 
-pub lent-row-tai : onward (tableOf shortTable) (λ rows. utcToTaiByRule rows (first-of-2030 (decimal 0 0))) ≡ answer (first-of-2030 (bits 0x3f3b_4e81_b4e8_1b4f), Whole 42)
+pub announced-row-tai : onward (tableOf shortTable) (λ rows. utcToTaiByRule rows (first-of-2030 (decimal 0 0))) ≡ answer (first-of-2030 (bits 0x3f3b_4e81_b4e8_1b4f), Whole 42)
 unfolding ruled computed round ofBits firstIsKept keptParts
-lent-row-tai =
+announced-row-tai =
     went _ short-taken
     ∙ tai-by-rule shortRows (first-of-2030 (decimal 0 0)) _ (Whole 42) (given shortRows utc-tai (first-of-2030 (decimal 0 0)) (first-of-2030 (bits 0x3f3b_4e81_b4e8_1b4f)) refl) refl
 
-pub lent-row-ut1 : onward (tableOf shortTable) (λ rows. utcToUt1ByRule rows (first-of-2030 (decimal 0 0)) (decimal 0 0)) ≡ answer (first-of-2030 (decimal 0 0), Whole 42)
+pub announced-row-ut1 : onward (tableOf shortTable) (λ rows. utcToUt1ByRule rows (first-of-2030 (decimal 0 0)) (decimal 0 0)) ≡ answer (first-of-2030 (decimal 0 0), Whole 42)
 unfolding ruled computed round ofBits
-lent-row-ut1 =
+announced-row-ut1 =
     went _ short-taken
     ∙ ut1-by-rule shortRows (first-of-2030 (decimal 0 0)) (decimal 0 0) _ (Whole 42) (given shortRows (utc-ut1 (decimal 0 0)) (first-of-2030 (decimal 0 0)) (first-of-2030 (decimal 0 0)) refl) refl

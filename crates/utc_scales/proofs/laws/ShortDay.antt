@@ -14,16 +14,16 @@ use Rattle.calendar.specs.DayCount.{civilCount, mjdNumber, mjdOf}
 use Rattle.julian.specs.declared.JulianDate.{JulianDate}
 use Rattle.julian.specs.JulianDate.{julian}
 use Rattle.leap_table.specs.rows.Table.{fixed, monthNumber, reached}
-use Rattle.leap_table.specs.rows.Lent.{rowsTo, lentSize, tableOf}
+use Rattle.leap_table.specs.rows.Announced.{rowsTo, announcedSize, tableOf}
 use Rattle.leap_table.specs.offsets.Offset.{secondsOf, byRow, offsetBy, offsetAt, inDay, taiUtcOffset}
 use Rattle.leap_table.specs.offsets.Leap.{dayOffsets, leapOf, leapAtEndOfDay}
-use Rattle.utc_scales.specs.laws.Twenty.{Twenty, utc-tai, tai-utc, ut1-utc, lentAnswer}
+use Rattle.utc_scales.specs.laws.Twenty.{Twenty, utc-tai, tai-utc, ut1-utc, announcedAnswer}
 use Rattle.utc_scales.specs.laws.ShortTable.{shortTable, shortRows}
 use Rattle.utc_scales.proofs.laws.Computed.{computed, as-computed}
-use Rattle.utc_scales.proofs.laws.LentCalls.{by-its-rows}
+use Rattle.utc_scales.proofs.laws.AnnouncedCalls.{by-its-rows}
 
 pub short-taken : tableOf shortTable ≡ answer shortRows
-unfolding tableOf rowsTo lentSize fixed shortTable
+unfolding tableOf rowsTo announcedSize fixed shortTable
 short-taken = refl
 
 -- ---- the leaps: -1.0 at the end of 2029, 1.0 on 2035-06-30 and 0.0 the day before the first
@@ -44,7 +44,7 @@ no-leap = refl
 
 -- ---- the conversions
 abbrev Gives : Twenty → JulianDate → JulianDate → Type 0
-Gives c d x = lentAnswer shortTable c d ≡ answer x
+Gives c d x = announcedAnswer shortTable c d ≡ answer x
 
 given : (c : Twenty) (d x : JulianDate) → computed shortRows c d ≡ answer x → Gives c d x
 given c d x e = by-its-rows shortTable shortRows short-taken c d ∙ as-computed shortRows c d ∙ e

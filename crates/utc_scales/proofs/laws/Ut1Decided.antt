@@ -14,10 +14,10 @@ use Rattle.rounding.proofs.Sizes.{Size}
 use Rattle.julian.specs.day_number.DayNumber.{accepted, dayOf}
 use Rattle.julian.specs.declared.JulianDate.{JulianDate}
 use Rattle.julian.specs.Finite.{finiteArg}
-use Rattle.leap_table.specs.declared.rows.LentRows.{LentRows}
+use Rattle.leap_table.specs.declared.rows.AnnouncedRows.{AnnouncedRows}
 use Rattle.leap_table.specs.rows.Table.{Row, fixed}
-use Rattle.leap_table.specs.rows.Lent.{tableOf}
-use Rattle.leap_table.proofs.rows.NoRows.{none-lent, fixed-taken}
+use Rattle.leap_table.specs.rows.Announced.{tableOf}
+use Rattle.leap_table.proofs.rows.NoRows.{none-announced, fixed-taken}
 use Rattle.scales.specs.Conversions.{answerOf, tai-ut1}
 use Rattle.scales.specs.laws.Ranges.{Held, FiniteParts}
 use Rattle.refusals.proofs.Onward.{went, stopped}
@@ -40,7 +40,7 @@ use Rattle.utc_scales.proofs.laws.DaySizes.{day-offset-size}
 use Rattle.utc_scales.proofs.laws.FiniteTai.{size-small, table-utc-to-tai-never-infinite}
 use Rattle.julian.specs.shifts.Shifts.{plus}
 
-module _ (t : LentRows) (rows : List Row) (taken : tableOf t ≡ answer rows) where
+module _ (t : AnnouncedRows) (rows : List Row) (taken : tableOf t ≡ answer rows) where
   module _ (d : JulianDate) (dut1 : Float) (h : Held d) (f : Fits dut1) (e : finite dut1 ≡ true) where
     -- DUT1 less TAI-UTC is finite, and TAI has finite parts: TAI to UT1 refuses nothing
     later : (u : JulianDate) → FiniteParts u → (x : Float) → Size x 11 → (v : JulianDate) × (answerOf (tai-ut1 (sub binary64 dut1 x)) u ≡ answer v)
@@ -107,7 +107,7 @@ module _ (t : LentRows) (rows : List Row) (taken : tableOf t ≡ answer rows) wh
 -- ---- of the fixed table
 pub utc-to-ut1-decided : (d : JulianDate) (dut1 : Float) → Held d → Fits dut1
     → DecidedUt1 (finite dut1) (accepted (d .jd1) (d .jd2)) (earlyUtc d) (utcToUt1 fixed d dut1)
-utc-to-ut1-decided = table-utc-to-ut1-decided none-lent fixed fixed-taken
+utc-to-ut1-decided = table-utc-to-ut1-decided none-announced fixed fixed-taken
 
 pub utc-to-ut1-six-or-one : (d : JulianDate) (dut1 : Float) → Held d → Fits dut1 → finite dut1 ≡ true → Holds Any SixOrOne (utcToUt1 fixed d dut1)
-utc-to-ut1-six-or-one = table-utc-to-ut1-six-or-one none-lent fixed fixed-taken
+utc-to-ut1-six-or-one = table-utc-to-ut1-six-or-one none-announced fixed fixed-taken

@@ -9,9 +9,9 @@ use lib.Ieee.{Float}
 use Rattle.refusals.specs.Outcome.{Outcome, onward}
 use Rattle.floats.specs.Whole.{nought}
 use Rattle.julian.specs.declared.JulianDate.{JulianDate}
-use Rattle.leap_table.specs.declared.rows.LentRows.{LentRows}
+use Rattle.leap_table.specs.declared.rows.AnnouncedRows.{AnnouncedRows}
 use Rattle.leap_table.specs.rows.Table.{Row}
-use Rattle.leap_table.specs.rows.Lent.{tableOf}
+use Rattle.leap_table.specs.rows.Announced.{tableOf}
 use Rattle.scales.specs.Conversions.{Conversion, answerOf, offsetOf}
 use Rattle.utc_scales.specs.UtcTai.{utcToTai, taiToUtc}
 use Rattle.utc_scales.specs.to_ut1.UtcUt1.{utcToUt1}
@@ -32,12 +32,12 @@ answerOfAny rows (utc-ut1 dut1) d = utcToUt1 rows d dut1
 answerOfAny rows (ut1-utc dut1) d = ut1ToUtc rows d dut1
 
 -- what each answers where a table is lent: the four judge it first and hand its number on, the sixteen read none
-unfoldable pub lentAnswer : LentRows → Twenty → JulianDate → Outcome JulianDate
-lentAnswer t (by-formula k) d = answerOf k d
-lentAnswer t utc-tai d = onward (tableOf t) (λ rows. utcToTai rows d)
-lentAnswer t tai-utc d = onward (tableOf t) (λ rows. taiToUtc rows d)
-lentAnswer t (utc-ut1 dut1) d = onward (tableOf t) (λ rows. utcToUt1 rows d dut1)
-lentAnswer t (ut1-utc dut1) d = onward (tableOf t) (λ rows. ut1ToUtc rows d dut1)
+unfoldable pub announcedAnswer : AnnouncedRows → Twenty → JulianDate → Outcome JulianDate
+announcedAnswer t (by-formula k) d = answerOf k d
+announcedAnswer t utc-tai d = onward (tableOf t) (λ rows. utcToTai rows d)
+announcedAnswer t tai-utc d = onward (tableOf t) (λ rows. taiToUtc rows d)
+announcedAnswer t (utc-ut1 dut1) d = onward (tableOf t) (λ rows. utcToUt1 rows d dut1)
+announcedAnswer t (ut1-utc dut1) d = onward (tableOf t) (λ rows. ut1ToUtc rows d dut1)
 
 -- whether it reads the table
 abbrev pub readsTable : Twenty → Bool

@@ -4,7 +4,7 @@ ghost use Prim.Native.Nat.{_≤_};
 ghost use lib.IntN.{pos, natAbs, _-ℤ_};
 ghost use lib.Ieee.{binary64, ofInt};
 ghost use Rattle.calendar.specs.Gregorian.{gregorianDate};
-ghost use Rattle.leap_table.specs.rows.Lent.{rowsIn};
+ghost use Rattle.leap_table.specs.rows.Announced.{rowsIn};
 ghost use Rattle.utc_scales.specs.days.Dates.{offsetAt0h, offsetOfDate};
 ghost use Rattle.utc_scales.specs.from_ut1.KnownMonths.{RightMonth, RightMonths, monthOutcome};
 use crate::days::offset_at_0h;

@@ -2,10 +2,10 @@
 use mathlib.Core.Path.{_∙_, refl}
 use lib.IntN.{ℤ}
 use Rattle.calendar.proofs.Signs.{read-date}
-use Rattle.leap_table.specs.rows.Lent.{rowsIn}
+use Rattle.leap_table.specs.rows.Announced.{rowsIn}
 use Rattle.leap_table.specs.offsets.Rule.{offsetByRule}
 use Rattle.c_answers.specs.rules.RuleFields.{offsetRuleBytes}
-use Rattle.capi.proofs.Arrays.{lent-refused, with-lent}
+use Rattle.capi.proofs.Arrays.{lent-refused, with-announced}
 use borrow.Author.Needs.{needs}
 use Rattle.capi.proofs.offset_calls.ct_get_tai_utc_offset.Statement.{statement}
 use Rattle.capi.proofs.offset_calls.ct_get_tai_utc_offset.Tie as tie
@@ -22,7 +22,7 @@ returns-2 c =
     let b = p .before .before in
     let n = b .before .before .before .before in
     let s = n .before .before .before .before .before in
-    with-lent _ _ (n .read-table .result .number) (n .read-table .ensures .0 refl refl) offsetRuleBytes _ (p .put-offset .ok) (b .before .before .before .if1 .left)
+    with-announced _ _ (n .read-table .result .number) (n .read-table .ensures .0 refl refl) offsetRuleBytes _ (p .put-offset .ok) (b .before .before .before .if1 .left)
     (b .get-tai-utc-offset-by-lent .ensures ∙ read-date (λ (y m d : ℤ). offsetByRule (rowsIn (n .read-table .result .size) (n .read-table .last .1 .0) (n .read-table .last .1 .1 .0)) y m d (s .args .fraction)) _ _ _ (s .fits .year) (s .fits .month) (s .fits .day))
     (p .put-offset .ensures)
 

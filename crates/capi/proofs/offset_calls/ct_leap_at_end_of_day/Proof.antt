@@ -1,12 +1,12 @@
 -- `capi::offset_calls::ct_leap_at_end_of_day` meets its contract. Assumes nothing.
 use mathlib.Core.Path.{ap, _∙_, refl}
 use Rattle.calendar.proofs.Signs.{read-date}
-use Rattle.leap_table.specs.rows.Lent.{rowsIn}
+use Rattle.leap_table.specs.rows.Announced.{rowsIn}
 use Rattle.leap_table.specs.offsets.Leap.{leapAtEndOfDay}
 use Rattle.leap_table.specs.offsets.Rule.{forget}
 use Rattle.leap_table.proofs.offsets.Rules.{leap-forgets}
 use Rattle.c_answers.specs.Fields.{floatBytes}
-use Rattle.capi.proofs.Arrays.{lent-refused, with-lent}
+use Rattle.capi.proofs.Arrays.{lent-refused, with-announced}
 use borrow.Author.Needs.{needs}
 use Rattle.capi.proofs.offset_calls.ct_leap_at_end_of_day.Statement.{statement}
 use Rattle.capi.proofs.offset_calls.ct_leap_at_end_of_day.Tie as tie
@@ -23,7 +23,7 @@ returns-2 c =
     let b = p .before .before in
     let n = b .before .before .before .before in
     let s = n .before .before .before .before .before in
-    with-lent _ _ (n .read-table .result .number) (n .read-table .ensures .0 refl refl) floatBytes _ (p .put-leap .ok) (b .before .before .before .if1 .left)
+    with-announced _ _ (n .read-table .result .number) (n .read-table .ensures .0 refl refl) floatBytes _ (p .put-leap .ok) (b .before .before .before .if1 .left)
     (ap forget (b .leap-at-end-of-day-by-lent .ensures) ∙ leap-forgets (rowsIn (n .read-table .result .size) (n .read-table .last .1 .0) (n .read-table .last .1 .1 .0)) _ _ _ ∙ read-date (leapAtEndOfDay (rowsIn (n .read-table .result .size) (n .read-table .last .1 .0) (n .read-table .last .1 .1 .0))) _ _ _ (s .fits .year) (s .fits .month) (s .fits .day))
     (p .put-leap .ensures)
 

@@ -21,9 +21,9 @@ told : {o : Outcome Order} (x : Order) → o ≡ answer x → pos (orderNumber x
 unfolding code numbered onward
 told x e = rw e
 
-turned-away : {o : Outcome Order} (k : ℕ) → o ≡ refusal k → code (refusal k) ≡ code (numbered o)
+not-taken : {o : Outcome Order} (k : ℕ) → o ≡ refusal k → code (refusal k) ≡ code (numbered o)
 unfolding numbered onward
-turned-away k e = rw e
+not-taken k e = rw e
 
 returns : tie.Need-returns
 unfolding orderOutcome orderNumber
@@ -39,7 +39,7 @@ returns-3 c = told _ (sym (is (c .before .before)) ∙ ap orderOutcome (c .enum-
 
 returns-4 : tie.Need-returns-4
 unfolding orderOutcome
-returns-4 c = code-back (c .refused .ok) ∙ c .refused .ensures ∙ turned-away _ (sym (is (c .before .before .before .before)) ∙ ap orderOutcome (c .before .before .number .given .1))
+returns-4 c = code-back (c .refused .ok) ∙ c .refused .ensures ∙ not-taken _ (sym (is (c .before .before .before .before)) ∙ ap orderOutcome (c .before .before .number .given .1))
 
 pub ct-compare-spec : {M : Type 1} → statement M
 ct-compare-spec =

@@ -1,7 +1,7 @@
 -- `capi::reader_calls::ct_utc_from_iso8601` meets its contract. Assumes nothing.
 use mathlib.Core.Path.{refl}
 use Rattle.capi.specs.reader_answers.ReaderFields.{parsedUtcBytes}
-use Rattle.capi.proofs.Arrays.{lent-refused, with-lent}
+use Rattle.capi.proofs.Arrays.{lent-refused, with-announced}
 use borrow.Author.Needs.{needs}
 use Rattle.capi.proofs.reader_calls.ct_utc_from_iso8601.Statement.{statement}
 use Rattle.capi.proofs.reader_calls.ct_utc_from_iso8601.Tie as tie
@@ -17,7 +17,7 @@ returns-2 c =
     let p = c .before .before in
     let b = p .before .before in
     let n = b .before .before .before .before in
-    with-lent _ _ (n .read-table .result .number) (n .read-table .ensures .0 refl refl) parsedUtcBytes _ (p .put-parsed-utc .ok) (b .before .before .before .if1 .left)
+    with-announced _ _ (n .read-table .result .number) (n .read-table .ensures .0 refl refl) parsedUtcBytes _ (p .put-parsed-utc .ok) (b .before .before .before .if1 .left)
     (b .from-str-by-lent .ensures)
     (p .put-parsed-utc .ensures)
 

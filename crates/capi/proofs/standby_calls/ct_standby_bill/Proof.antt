@@ -5,7 +5,7 @@ use Rattle.refusals.specs.Outcome.{onward}
 use Rattle.standby.specs.Bills.{standbyBill}
 use Rattle.c_answers.specs.table.TableBytes.{tableBytes}
 use Rattle.c_answers.proofs.Deliveries.{same-outcome}
-use Rattle.capi.specs.lent_calls.BillBytes.{billBytes, utcTime}
+use Rattle.capi.specs.table_calls.BillBytes.{billBytes, utcTime}
 use borrow.Author.Needs.{needs}
 use Rattle.capi.proofs.standby_calls.ct_standby_bill.Statement.{statement}
 use Rattle.capi.proofs.standby_calls.ct_standby_bill.Tie as tie

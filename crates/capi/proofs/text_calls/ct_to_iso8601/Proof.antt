@@ -1,6 +1,6 @@
 -- `capi::text_calls::ct_to_iso8601` meets its contract. Assumes nothing.
 use mathlib.Core.Path.{refl}
-use Rattle.capi.proofs.Arrays.{text-lent-refused, text-with-lent}
+use Rattle.capi.proofs.Arrays.{text-lent-refused, text-with-announced}
 use borrow.Author.Needs.{needs}
 use Rattle.capi.proofs.text_calls.ct_to_iso8601.Statement.{statement}
 use Rattle.capi.proofs.text_calls.ct_to_iso8601.Tie as tie
@@ -15,7 +15,7 @@ returns-2 c =
     let p = c .before .before .before .before in
     let b = p .before .before .before .before .before in
     let n = b .before in
-    text-with-lent _ _ (n .read-table .result .number) (n .read-table .ensures .0 refl refl) _ (p .put-text .ok) (b .if1 .left) (p .put-text .ensures)
+    text-with-announced _ _ (n .read-table .result .number) (n .read-table .ensures .0 refl refl) _ (p .put-text .ok) (b .if1 .left) (p .put-text .ensures)
 
 pub ct-to-iso8601-spec : {M : Type 1} → statement M
 ct-to-iso8601-spec =

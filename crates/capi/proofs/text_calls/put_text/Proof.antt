@@ -1,25 +1,25 @@
 -- `capi::text_calls::put_text` meets its contract. Assumes nothing.
 use Rattle.capi.proofs.TextRules.{short-rule, count-fits, two-written, two-refused, text-few}
-use Rattle.capi.specs.declared.text_calls.NamedSheet.the-variants.{Document01}
-use Rattle.capi.specs.TextRule.{sheetNamed}
+use Rattle.capi.specs.declared.text_calls.NamedForm.the-variants.{Document01}
+use Rattle.capi.specs.TextRule.{formNamed}
 use borrow.Author.Needs.{needs}
 use Rattle.capi.proofs.text_calls.put_text.Statement.{statement}
 use Rattle.capi.proofs.text_calls.put_text.Tie as tie
 
 returns : tie.Need-returns
-unfolding sheetNamed
+unfolding formNamed
 returns c = short-rule _ _ _ (c .no-room-for-rule .ok) (c .before .if1 .taken) (c .no-room-for-rule .ensures)
 
 cast-result : tie.Need-cast-result
-unfolding sheetNamed
+unfolding formNamed
 cast-result c = count-fits _ (text-few Document01 _ _) (c .before .before .before .before .before .before .before .before .before .to-iso8601-by-lent .ensures) (c .before .before .before .before .before .n .given .1)
 
 returns-2 : tie.Need-returns-2
-unfolding sheetNamed
+unfolding formNamed
 returns-2 c = two-refused _ (text-few Document01 _ _) (c .before .before .before .before .before .before .to-iso8601-by-lent .ensures) _ (c .refused .ok) (c .before .before .number .given .1) (c .refused .ensures)
 
 returns-3 : tie.Need-returns-3
-unfolding sheetNamed
+unfolding formNamed
 returns-3 c = two-written _ (text-few Document01 _ _) (c .before .before .before .before .before .before .before .before .before .to-iso8601-by-lent .ensures) (c .before .before .before .before .before .n .given .1) (c .before .before .before .before .before .before .before .before .before .before .before .if1 .left) (c .before .before .put-rule .ensures)
 
 pub put-text-spec : {M : Type 1} → statement M

@@ -1,11 +1,11 @@
--- `capi::text_calls::text_by` meets its contract: by the sheet that is named. Assumes nothing.
+-- `capi::text_calls::text_by` meets its contract: by the form of text that is named. Assumes nothing.
 use mathlib.Core.List.{List}
 use denote.Ref.{now}
 use borrow.Author.Needs.{needs}
 use Rattle.leap_table.specs.rows.Table.{Row}
-use Rattle.leap_table.specs.rows.Lent.{rowsIn}
-use Rattle.capi.specs.declared.text_calls.NamedSheet.the-variants.{Document01, HalfEven, Expanded}
-use Rattle.capi.specs.TextRule.{sheetNamed}
+use Rattle.leap_table.specs.rows.Announced.{rowsIn}
+use Rattle.capi.specs.declared.text_calls.NamedForm.the-variants.{Document01, HalfEven, Expanded}
+use Rattle.capi.specs.TextRule.{formNamed}
 use Rattle.capi.proofs.TextRules.{named-call}
 use Rattle.capi.proofs.text_calls.text_by.Statement.{statement}
 use Rattle.capi.proofs.text_calls.text_by.Tie as tie
@@ -15,16 +15,16 @@ abbrev rows : tie.Start → List Row
 rows s = rowsIn (s .args .size) (now (s .args .months)) (now (s .args .seconds))
 
 returns : tie.Need-returns
-unfolding sheetNamed
-returns c = let s = c .before .before .before .before .before .before .before in named-call (s .args .sheet) Document01 (rows s) (s .args .date .0) (c .before .before .before .before .enum-told .given .1) (c .before .before .to-iso8601-by-lent .ensures)
+unfolding formNamed
+returns c = let s = c .before .before .before .before .before .before .before in named-call (s .args .textForm) Document01 (rows s) (s .args .date .0) (c .before .before .before .before .enum-told .given .1) (c .before .before .to-iso8601-by-lent .ensures)
 
 returns-2 : tie.Need-returns-2
-unfolding sheetNamed
-returns-2 c = let s = c .before .before .before .before .before .before .before in named-call (s .args .sheet) HalfEven (rows s) (s .args .date .0) (c .before .before .before .before .enum-told2 .given .1) (c .before .before .to-iso8601-half-even-by-lent .ensures)
+unfolding formNamed
+returns-2 c = let s = c .before .before .before .before .before .before .before in named-call (s .args .textForm) HalfEven (rows s) (s .args .date .0) (c .before .before .before .before .enum-told2 .given .1) (c .before .before .to-iso8601-half-even-by-lent .ensures)
 
 returns-3 : tie.Need-returns-3
-unfolding sheetNamed
-returns-3 c = let s = c .before .before .before .before .before .before .before in named-call (s .args .sheet) Expanded (rows s) (s .args .date .0) (c .before .before .before .before .enum-told3 .given .1) (c .before .before .to-iso8601-expanded-by-lent .ensures)
+unfolding formNamed
+returns-3 c = let s = c .before .before .before .before .before .before .before in named-call (s .args .textForm) Expanded (rows s) (s .args .date .0) (c .before .before .before .before .enum-told3 .given .1) (c .before .before .to-iso8601-expanded-by-lent .ensures)
 
 pub text-by-spec : {M : Type 1} → statement M
 text-by-spec =

@@ -1,7 +1,7 @@
 -- `capi::utc_calls::ct_ut1_to_utc_with_dut1` meets its contract. Assumes nothing.
 use mathlib.Core.Path.{refl}
 use Rattle.c_answers.specs.Fields.{julianBytes}
-use Rattle.capi.proofs.Arrays.{lent-refused, with-lent}
+use Rattle.capi.proofs.Arrays.{lent-refused, with-announced}
 use borrow.Author.Needs.{needs}
 use Rattle.capi.proofs.utc_calls.ct_ut1_to_utc_with_dut1.Statement.{statement}
 use Rattle.capi.proofs.utc_calls.ct_ut1_to_utc_with_dut1.Tie as tie
@@ -17,7 +17,7 @@ returns-2 c =
     let p = c .before .before in
     let b = p .before .before in
     let n = b .before .before .before .before in
-    with-lent _ _ (n .read-table .result .number) (n .read-table .ensures .0 refl refl) julianBytes _ (p .put-utc .ok) (b .before .before .before .if1 .left)
+    with-announced _ _ (n .read-table .result .number) (n .read-table .ensures .0 refl refl) julianBytes _ (p .put-utc .ok) (b .before .before .before .if1 .left)
     (b .ut1-to-utc-with-dut1-by-lent .ensures)
     (p .put-utc .ensures)
 

@@ -2,10 +2,10 @@
 use mathlib.Core.Path.{ap, _∙_, refl}
 use lib.IntN.{ℤ}
 use mir.Facts.{toZ-ofZ}
-use Rattle.leap_table.specs.rows.Lent.{rowsIn}
+use Rattle.leap_table.specs.rows.Announced.{rowsIn}
 use Rattle.utc.specs.FromCalendar.{utcFromCalendar}
 use Rattle.c_answers.specs.Fields.{julianBytes}
-use Rattle.capi.proofs.Arrays.{lent-refused, with-lent}
+use Rattle.capi.proofs.Arrays.{lent-refused, with-announced}
 use borrow.Author.Needs.{needs}
 use Rattle.capi.proofs.utc_calls.ct_utc_from_calendar.Statement.{statement}
 use Rattle.capi.proofs.utc_calls.ct_utc_from_calendar.Tie as tie
@@ -22,7 +22,7 @@ returns-2 c =
     let b = p .before .before in
     let n = b .before .before .before .before in
     let s = n .before .before .before .before .before in
-    with-lent _ _ (n .read-table .result .number) (n .read-table .ensures .0 refl refl) julianBytes _ (p .put-utc .ok) (b .before .before .before .if1 .left)
+    with-announced _ _ (n .read-table .result .number) (n .read-table .ensures .0 refl refl) julianBytes _ (p .put-utc .ok) (b .before .before .before .if1 .left)
     (b .utc-from-calendar-by-lent .ensures ∙ ap (λ (y : ℤ). utcFromCalendar (rowsIn (n .read-table .result .size) (n .read-table .last .1 .0) (n .read-table .last .1 .1 .0)) y (s .args .month) (s .args .day) (s .args .hour) (s .args .minute) (s .args .second)) (toZ-ofZ (s .fits .year)))
     (p .put-utc .ensures)
 

@@ -1,7 +1,7 @@
 -- `capi::utc_calls::ct_utc_to_tai` meets its contract. Assumes nothing.
 use mathlib.Core.Path.{refl}
 use Rattle.c_answers.specs.rules.RuleFields.{julianRuleBytes}
-use Rattle.capi.proofs.Arrays.{lent-refused, with-lent}
+use Rattle.capi.proofs.Arrays.{lent-refused, with-announced}
 use borrow.Author.Needs.{needs}
 use Rattle.capi.proofs.utc_calls.ct_utc_to_tai.Statement.{statement}
 use Rattle.capi.proofs.utc_calls.ct_utc_to_tai.Tie as tie
@@ -17,7 +17,7 @@ returns-2 c =
     let p = c .before .before in
     let b = p .before .before in
     let n = b .before .before .before .before in
-    with-lent _ _ (n .read-table .result .number) (n .read-table .ensures .0 refl refl) julianRuleBytes _ (p .put-tai-by-rule .ok) (b .before .before .before .if1 .left)
+    with-announced _ _ (n .read-table .result .number) (n .read-table .ensures .0 refl refl) julianRuleBytes _ (p .put-tai-by-rule .ok) (b .before .before .before .if1 .left)
     (b .utc-to-tai-by-lent .ensures)
     (p .put-tai-by-rule .ensures)
 

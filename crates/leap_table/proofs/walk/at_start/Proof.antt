@@ -2,7 +2,7 @@
 use native.Mathlib.Omega.{arith}
 use mathlib.Core.Path.{refl}
 use borrow.Author.Needs.{needs}
-use Rattle.leap_table.specs.rows.Lent.{lentSize}
+use Rattle.leap_table.specs.rows.Announced.{announcedSize}
 use Rattle.leap_table.proofs.rows.Tables.{table-length, at-most-16}
 use Rattle.leap_table.proofs.walk.at_start.Statement.{statement}
 use Rattle.leap_table.proofs.walk.at_start.Tie as tie
@@ -11,7 +11,7 @@ returns : tie.Need-returns
 returns c =
     let s = c .before .before .before .args in
     record {
-      stands = record { all = c .before .before .row-count .ensures; most = omega arith; small = omega (arith, table-length (s .table) (lentSize (s .table)), at-most-16 (s .table)); next = c .before .row-start .ensures; terms = c .row-terms .ensures };
+      stands = record { all = c .before .before .row-count .ensures; most = omega arith; small = omega (arith, table-length (s .table) (announcedSize (s .table)), at-most-16 (s .table)); next = c .before .row-start .ensures; terms = c .row-terms .ensures };
       none = refl;
       nothing = refl;
     }

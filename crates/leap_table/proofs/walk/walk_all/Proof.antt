@@ -8,7 +8,7 @@ use lib.Ieee.{Float, binary64, ofInt}
 use Rattle.refusals.specs.Outcome.{answer}
 use Rattle.floats.specs.Whole.{nought}
 use Rattle.calendar.specs.DayCount.{mjdNumber}
-use Rattle.leap_table.specs.rows.Lent.{rowsOf}
+use Rattle.leap_table.specs.rows.Announced.{rowsOf}
 use Rattle.leap_table.specs.offsets.Forward.{byTerms}
 use Rattle.leap_table.specs.declared.judging.Triple.{Triple}
 use Rattle.leap_table.specs.declared.walk.Walk.{Walk}

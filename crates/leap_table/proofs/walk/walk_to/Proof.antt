@@ -8,9 +8,9 @@ use lib.ListN.{length, getD, length-map}
 use borrow.Author.Count.{below-more}
 use borrow.Author.Needs.{needs}
 use Rattle.leap_table.specs.rows.Table.{Row, starts}
-use Rattle.leap_table.specs.rows.Lent.{rowsOf}
+use Rattle.leap_table.specs.rows.Announced.{rowsOf}
 use Rattle.leap_table.specs.offsets.Forward.{never}
-use Rattle.leap_table.specs.declared.rows.LentRows.{LentRows}
+use Rattle.leap_table.specs.declared.rows.AnnouncedRows.{AnnouncedRows}
 use Rattle.leap_table.specs.declared.walk.Walk.{Walk}
 use Rattle.leap_table.specs.walk.Asked.{Standing, Stepped}
 use Rattle.leap_table.proofs.walk.Forward.{Walking, walking-starts, walking-goes, walking-ends, walking-in}

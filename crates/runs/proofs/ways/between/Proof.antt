@@ -1,6 +1,6 @@
 -- `runs::ways::between` meets its contract. Assumes nothing.
 use mathlib.Core.Path.{sym, _∙_}
-use Rattle.leap_table.specs.rows.Lent.{rowsIn}
+use Rattle.leap_table.specs.rows.Announced.{rowsIn}
 use Rattle.runs.proofs.ways.Steps.{between-tcg, between-tt, between-tai}
 use borrow.Author.Needs.{needs}
 use Rattle.runs.proofs.ways.between.Statement.{statement}

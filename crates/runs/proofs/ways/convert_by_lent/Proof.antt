@@ -1,6 +1,6 @@
 -- `runs::ways::convert_by_lent` meets its contract. Assumes nothing.
 use mathlib.Core.Path.{_∙_}
-use Rattle.leap_table.specs.rows.Lent.{rowsIn}
+use Rattle.leap_table.specs.rows.Announced.{rowsIn}
 use Rattle.runs.proofs.ways.Steps.{way-same, way-between}
 use borrow.Author.Needs.{needs}
 use Rattle.runs.proofs.ways.convert_by_lent.Statement.{statement}

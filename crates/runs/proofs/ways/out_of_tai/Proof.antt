@@ -1,6 +1,6 @@
 -- `runs::ways::out_of_tai` meets its contract. Assumes nothing.
 use mathlib.Core.Path.{_∙_}
-use Rattle.leap_table.specs.rows.Lent.{rowsIn}
+use Rattle.leap_table.specs.rows.Announced.{rowsIn}
 use Rattle.julian.specs.JulianDate.{julianOutcome}
 use Rattle.runs.proofs.ways.Steps.{out-utc, out-tt, out-gps, out-tcg, out-none}
 use borrow.Author.Needs.{needs}

@@ -1,6 +1,6 @@
 -- `runs::ways::through_tai` meets its contract: the second step where the first answers. Assumes nothing.
 use mathlib.Core.Path.{sym, ap, _∙_}
-use Rattle.leap_table.specs.rows.Lent.{rowsIn}
+use Rattle.leap_table.specs.rows.Announced.{rowsIn}
 use Rattle.refusals.proofs.Onward.{went, stopped}
 use Rattle.julian.specs.JulianDate.{julianOutcome}
 use Rattle.runs.specs.ways.Ways.{outOfTai}

@@ -1,7 +1,7 @@
 -- `runs::ways::utc_into_tai` meets its contract: TAI without the rule. Assumes nothing.
 use mathlib.Core.Path.{_≡_, sym, ap, _∙_}
 use Rattle.refusals.specs.Outcome.{onward}
-use Rattle.leap_table.specs.rows.Lent.{rowsIn}
+use Rattle.leap_table.specs.rows.Announced.{rowsIn}
 use Rattle.leap_table.specs.offsets.Rule.{forget}
 use Rattle.julian.specs.JulianDate.{julianOutcome}
 use Rattle.utc_scales.specs.declared.utc_tai.TaiByRule.{TaiByRule}

@@ -5,7 +5,7 @@ use Prim.Native.Nat.{ℕ, _+_, _-_, _≤_, zero-le}
 use borrow.Author.Needs.{needs}
 use denote.Ref.{now}
 use native.Mathlib.Omega.{arith}
-use Rattle.leap_table.specs.rows.Lent.{rowsOf}
+use Rattle.leap_table.specs.rows.Announced.{rowsOf}
 use Rattle.stamps.specs.Parts.{linesIn, linesFrom, heldLines}
 use Rattle.numerals.specs.digits.Placed.{Placed}
 use Rattle.stamps.proofs.Blocks.{few-lines}

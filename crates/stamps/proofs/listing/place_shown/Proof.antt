@@ -1,5 +1,5 @@
 -- `listing::place_shown` meets its contract: the text stands where the call put it, and a refusal is told where nothing was written. Assumes nothing.
-use Rattle.leap_table.specs.rows.Lent.{rowsOf}
+use Rattle.leap_table.specs.rows.Announced.{rowsOf}
 use mathlib.Core.Path.{sym, ap}
 use Prim.Native.Nat.{ℕ, _+_}
 use denote.Ref.{now}

@@ -5,7 +5,7 @@ use Rattle.floats.specs.Whole.{nought}
 use Rattle.calendar.specs.Gregorian.{gregorianDate}
 use Rattle.leap_table.specs.offsets.Rule.{offsetByRule}
 use Rattle.leap_table.specs.rows.Table.{Row}
-use Rattle.leap_table.specs.rows.Lent.{rowsIn}
+use Rattle.leap_table.specs.rows.Announced.{rowsIn}
 use Rattle.utc_scales.specs.days.Dates.{offsetAt0h}
 use Rattle.utc_scales.specs.days.DateRule.{ruleOn}
 use Rattle.utc_scales.proofs.days.Midnights.{month-fits, day-of-month-fits, handed}

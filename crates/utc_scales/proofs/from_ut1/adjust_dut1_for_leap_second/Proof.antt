@@ -6,7 +6,7 @@ use lib.Ieee.{ofBits, ofInt, neg, round}
 use Rattle.julian.specs.Finite as J
 use Rattle.refusals.proofs.Onward.{went, stopped}
 use Rattle.leap_table.specs.rows.Table.{Row}
-use Rattle.leap_table.specs.rows.Lent.{rowsIn}
+use Rattle.leap_table.specs.rows.Announced.{rowsIn}
 use Rattle.utc_scales.specs.declared.from_ut1.months.MonthAnswer.{MonthAnswer}
 use Rattle.utc_scales.specs.from_ut1.KnownMonths.{monthOutcome, RightMonths}
 use Rattle.utc_scales.specs.from_ut1.Ut1Utc.{adjustDut1}

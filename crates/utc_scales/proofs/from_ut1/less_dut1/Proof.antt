@@ -1,7 +1,7 @@
 -- `utc_scales::from_ut1::less_dut1` meets its contract. Assumes nothing.
 use mathlib.Core.Path.{_∙_}
 use Rattle.leap_table.specs.rows.Table.{Row}
-use Rattle.leap_table.specs.rows.Lent.{rowsIn}
+use Rattle.leap_table.specs.rows.Announced.{rowsIn}
 use Rattle.utc_scales.specs.from_ut1.Ut1Utc.{utcFraction}
 use Rattle.utc_scales.proofs.days.Steps.{changes}
 use mathlib.Core.List.{List}

@@ -4,7 +4,7 @@ use Prim.Native.Nat.{_≤_, _-_}
 use native.Mathlib.Omega.{arith}
 use Rattle.julian.specs.Finite.{offsetOutcome}
 use Rattle.leap_table.specs.rows.Table.{Row}
-use Rattle.leap_table.specs.rows.Lent.{rowsIn}
+use Rattle.leap_table.specs.rows.Announced.{rowsIn}
 use Rattle.utc_scales.specs.declared.from_ut1.DayScan.{DayScan}
 use Rattle.utc_scales.specs.from_ut1.KnownMonths.{RightMonth, RightScan}
 use Rattle.utc_scales.specs.from_ut1.Ut1Utc.{scanOutcome, scan}

@@ -12,7 +12,7 @@ use Rattle.julian.specs.day_number.Answer.{dayOutcome}
 use Rattle.julian.proofs.day_number.Ranges.{day-range, day-read}
 use Rattle.julian.specs.JulianDate.{julian}
 use Rattle.leap_table.specs.rows.Table.{Row}
-use Rattle.leap_table.specs.rows.Lent.{rowsIn}
+use Rattle.leap_table.specs.rows.Announced.{rowsIn}
 use Rattle.utc_scales.specs.days.Dates.{offsetAt0h}
 use Rattle.utc_scales.specs.declared.from_ut1.months.MonthAnswer.{MonthAnswer}
 use Rattle.utc_scales.specs.from_ut1.KnownMonths.{monthOutcome, RightMonths, RightScan}

@@ -4,7 +4,7 @@ use mir.Facts.{toZ-ofZ}
 use Rattle.calendar.specs.Gregorian.{gregorianDate}
 use Rattle.leap_table.specs.offsets.Rule.{dayByRule}
 use Rattle.leap_table.specs.rows.Table.{Row}
-use Rattle.leap_table.specs.rows.Lent.{rowsIn}
+use Rattle.leap_table.specs.rows.Announced.{rowsIn}
 use Rattle.utc_scales.specs.days.Dates.{offsetsOf}
 use Rattle.utc_scales.specs.days.DateRule.{ruleOn}
 use Rattle.utc_scales.proofs.days.Midnights.{month-fits, day-of-month-fits, handed}

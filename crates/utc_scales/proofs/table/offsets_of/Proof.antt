@@ -8,7 +8,7 @@ use Rattle.refusals.specs.Outcome.{onward}
 use Rattle.calendar.specs.Gregorian.{gregorianDate}
 use Rattle.leap_table.specs.declared.offsets.DayByRule.{DayByRule}
 use Rattle.leap_table.specs.rows.Table.{Row}
-use Rattle.leap_table.specs.rows.Lent.{rowsIn}
+use Rattle.leap_table.specs.rows.Announced.{rowsIn}
 use Rattle.leap_table.specs.offsets.Rule.{withRule, forget}
 use Rattle.leap_table.specs.offsets.Answers.{dayOffsetsOutcome, dayByRuleOutcome}
 use Rattle.leap_table.proofs.offsets.Rules.{forgets}

@@ -8,7 +8,7 @@ use Rattle.julian.proofs.day_number.Ranges.{day-range, day-read}
 use Rattle.leap_table.specs.offsets.Answers.{secondsByRuleOutcome}
 use Rattle.leap_table.specs.offsets.Rule.{withRule}
 use Rattle.leap_table.specs.rows.Table.{Row}
-use Rattle.leap_table.specs.rows.Lent.{rowsIn}
+use Rattle.leap_table.specs.rows.Announced.{rowsIn}
 use Rattle.utc_scales.specs.days.Dates.{offsetAt0h}
 use Rattle.utc_scales.specs.days.DateRule.{ruleOn}
 use Rattle.utc_scales.proofs.days.Rules.{offset-by-rule, offset-by-rule-refused}

@@ -4,7 +4,7 @@ use mathlib.Core.Path.{_∙_}
 use mathlib.Core.List.{List}
 use denote.Ref.{now}
 use Rattle.leap_table.specs.rows.Table.{Row}
-use Rattle.leap_table.specs.rows.Lent.{rowsIn}
+use Rattle.leap_table.specs.rows.Announced.{rowsIn}
 use Rattle.leap_table.specs.offsets.Answers.{secondsByRuleOutcome}
 use Rattle.utc_scales.specs.days.DateRule.{offsetOfDateByRule}
 use Rattle.utc_scales.proofs.to_ut1.Steps.{parts-offset}

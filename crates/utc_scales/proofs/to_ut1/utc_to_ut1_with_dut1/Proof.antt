@@ -3,7 +3,7 @@ use mathlib.Core.Path.{ap, _∙_}
 use mathlib.Core.List.{List}
 use Rattle.leap_table.specs.rows.Table.{Row}
 use Rattle.leap_table.proofs.rows.ByParts.{rows-in}
-use Rattle.leap_table.proofs.rows.TablesTaken.{turned-away, taken}
+use Rattle.leap_table.proofs.rows.TablesTaken.{not-taken, taken}
 use Rattle.utc_scales.specs.to_ut1.ByRule.{utcToUt1ByRule, ut1ByRuleOutcome}
 use borrow.Author.Needs.{needs}
 use Rattle.utc_scales.proofs.to_ut1.utc_to_ut1_with_dut1.Statement.{statement}
@@ -11,7 +11,7 @@ use Rattle.utc_scales.proofs.to_ut1.utc_to_ut1_with_dut1.Tie as tie
 
 returns : tie.Need-returns
 unfolding ut1ByRuleOutcome
-returns c = let r = c .before in turned-away (r .before .args .t3) (r .table-refusal .result) (r .table-refusal .ensures) _ (c .if1 .taken)
+returns c = let r = c .before in not-taken (r .before .args .t3) (r .table-refusal .result) (r .table-refusal .ensures) _ (c .if1 .taken)
 
 returns-2 : tie.Need-returns-2
 returns-2 c =

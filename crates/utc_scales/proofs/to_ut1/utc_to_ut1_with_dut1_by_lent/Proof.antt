@@ -6,7 +6,7 @@ use lib.Ieee.{binary64, sub}
 use Rattle.julian.specs.Finite as J
 use Rattle.leap_table.specs.offsets.Answers as T
 use Rattle.leap_table.specs.rows.Table.{Row}
-use Rattle.leap_table.specs.rows.Lent.{rowsIn}
+use Rattle.leap_table.specs.rows.Announced.{rowsIn}
 use Rattle.scales.specs.Conversions.{answerOf, tai-ut1}
 use Rattle.refusals.proofs.Onward.{went, stopped}
 use Rattle.utc_scales.specs.declared.utc_tai.RuledPart.{RuledPart}

@@ -4,7 +4,7 @@ use lib.Ieee.{Float}
 use Rattle.refusals.specs.Outcome.{Outcome, onward}
 use Rattle.julian.specs.DayFraction.{fractionOutcome}
 use Rattle.leap_table.specs.rows.Table.{Row}
-use Rattle.leap_table.specs.rows.Lent.{rowsIn}
+use Rattle.leap_table.specs.rows.Announced.{rowsIn}
 use Rattle.utc_scales.specs.Known.{RightKnown, partOutcome}
 use Rattle.utc_scales.specs.UtcTai.{refined}
 use Rattle.utc_scales.proofs.Steps.{three-rounds}

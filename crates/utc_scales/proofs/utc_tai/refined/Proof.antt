@@ -2,7 +2,7 @@
 use mathlib.Core.Path.{sym, ap, subst, _∙_}
 use Rattle.refusals.specs.Outcome.{answer}
 use Rattle.leap_table.specs.rows.Table.{Row}
-use Rattle.leap_table.specs.rows.Lent.{rowsIn}
+use Rattle.leap_table.specs.rows.Announced.{rowsIn}
 use Rattle.refusals.proofs.Onward.{went, stopped}
 use Rattle.utc_scales.specs.Known.{partOutcome, RightPart}
 use Rattle.utc_scales.specs.days.LargerPart.{placed}

@@ -11,7 +11,7 @@ use Rattle.julian.proofs.day_number.Ranges.{day-range, day-read}
 use Rattle.julian.specs.JulianDate.{julian}
 use Rattle.leap_table.specs.offsets.Answers.{dayOffsetsOutcome}
 use Rattle.leap_table.specs.rows.Table.{Row}
-use Rattle.leap_table.specs.rows.Lent.{rowsIn}
+use Rattle.leap_table.specs.rows.Announced.{rowsIn}
 use Rattle.utc_scales.specs.days.Dates.{offsetsOf}
 use Rattle.utc_scales.specs.Known.{RightDay, partOutcome, RightPart}
 use Rattle.utc_scales.specs.UtcTai.{taiFromMidnight}

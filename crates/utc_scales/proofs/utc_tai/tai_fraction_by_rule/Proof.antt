@@ -12,7 +12,7 @@ use Rattle.julian.specs.day_number.Answer.{dayOutcome}
 use Rattle.julian.proofs.day_number.Ranges.{day-range, day-read}
 use Rattle.julian.specs.JulianDate.{julian}
 use Rattle.leap_table.specs.rows.Table.{Row}
-use Rattle.leap_table.specs.rows.Lent.{rowsIn}
+use Rattle.leap_table.specs.rows.Announced.{rowsIn}
 use Rattle.leap_table.specs.offsets.Rule.{withRule}
 use Rattle.leap_table.specs.offsets.Answers.{dayByRuleOutcome}
 use Rattle.utc_scales.specs.days.Dates.{offsetsOf}

@@ -2,7 +2,7 @@
 use mathlib.Core.Path.{sym, ap, _∙_}
 use Rattle.julian.specs.JulianDate.{julianOutcome}
 use Rattle.leap_table.specs.rows.Table.{Row}
-use Rattle.leap_table.specs.rows.Lent.{rowsIn}
+use Rattle.leap_table.specs.rows.Announced.{rowsIn}
 use Rattle.scales.specs.Scales.{utcOutcome}
 use Rattle.utc_scales.specs.UtcTai.{refineUtcFraction, taiToUtc}
 use Rattle.utc_scales.proofs.days.Steps.{changes}

@@ -3,7 +3,7 @@ use mathlib.Core.Path.{_≡_, sym, ap, subst, _∙_}
 use mathlib.Core.List.{[]}
 use Prim.Native.Nat.{ℕ, _<_, _≤_}
 use native.Mathlib.Omega.{arith}
-use Rattle.leap_table.specs.rows.Lent.{least}
+use Rattle.leap_table.specs.rows.Announced.{least}
 use Rattle.c_answers.proofs.table.Reading.{read-14, read-none, read-judged}
 use borrow.Author.Needs.{needs}
 use Rattle.c_answers.proofs.table.arrays.read_table.Statement.{statement}
@@ -25,7 +25,7 @@ returns-3 c =
     let z = x .before .before in
     let n = z .before .before in
     let m = n .before .before in
-    (λ p q. read-judged _ _ _ _ _ (m .u32-at .ensures) (n .before .u32-at2 .ensures) (m .before .if1 .left) _ (c .lent-refusal .result) (z .places-of .ensures .0) (x .put-numbers .ensures p) (y .put-numbers2 .ensures q) (c .lent-refusal .ensures), z .places-of .ensures .1)
+    (λ p q. read-judged _ _ _ _ _ (m .u32-at .ensures) (n .before .u32-at2 .ensures) (m .before .if1 .left) _ (c .announced-refusal .result) (z .places-of .ensures .0) (x .put-numbers .ensures p) (y .put-numbers2 .ensures q) (c .announced-refusal .ensures), z .places-of .ensures .1)
 
 pub read-table-spec : {M : Type 1} → statement M
 read-table-spec =

@@ -11,7 +11,7 @@ use Rattle.calendar.proofs.Mjd.{mjd-valid}
 use denote.Ref.{now}
 use mathlib.Core.List.{List}
 use Rattle.leap_table.specs.rows.Table.{Row, starts, reached}
-use Rattle.leap_table.specs.rows.Lent.{rowsIn}
+use Rattle.leap_table.specs.rows.Announced.{rowsIn}
 use Rattle.leap_table.specs.offsets.Offset.{taiUtcOffset}
 use Rattle.leap_table.specs.offsets.Rule.{ruleBy, ruleOf, ruleAt, offsetByRule}
 use Rattle.leap_table.specs.offsets.Answers.{secondsByRuleOutcome}

@@ -5,13 +5,13 @@ use borrow.Author.Needs.{needs}
 use Rattle.leap_table.specs.offsets.Rule.{offsetByRule}
 use Rattle.leap_table.specs.offsets.Answers.{secondsByRuleOutcome}
 use Rattle.leap_table.proofs.rows.ByParts.{rows-in}
-use Rattle.leap_table.proofs.rows.TablesTaken.{turned-away, taken}
+use Rattle.leap_table.proofs.rows.TablesTaken.{not-taken, taken}
 use Rattle.leap_table.proofs.offsets.in_day.get_tai_utc_offset.Statement.{statement}
 use Rattle.leap_table.proofs.offsets.in_day.get_tai_utc_offset.Tie as tie
 
 returns : tie.Need-returns
 unfolding secondsByRuleOutcome
-returns c = let r = c .before in turned-away (r .before .args .t5) (r .table-refusal .result) (r .table-refusal .ensures) _ (c .if1 .taken)
+returns c = let r = c .before in not-taken (r .before .args .t5) (r .table-refusal .result) (r .table-refusal .ensures) _ (c .if1 .taken)
 
 returns-2 : tie.Need-returns-2
 returns-2 c =

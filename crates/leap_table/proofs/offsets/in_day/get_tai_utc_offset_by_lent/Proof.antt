@@ -5,7 +5,7 @@ use denote.Ref.{now}
 use lib.Ieee.{ofBits}
 use mir.Facts.{toZ-ofZ}
 use Rattle.leap_table.specs.rows.Table.{Row}
-use Rattle.leap_table.specs.rows.Lent.{rowsIn}
+use Rattle.leap_table.specs.rows.Announced.{rowsIn}
 use Rattle.leap_table.specs.offsets.Rule.{offsetByRule}
 use Rattle.leap_table.specs.offsets.Answers.{secondsByRuleOutcome}
 use Rattle.leap_table.proofs.offsets.Offsets.{too-low, too-high, in-day, fraction-refused}

@@ -7,7 +7,7 @@ use lib.Ieee.{ofBits, le}
 use mir.Facts.{toZ-ofZ}
 use Rattle.floats.specs.Whole.{nought}
 use Rattle.leap_table.specs.rows.Table.{Row}
-use Rattle.leap_table.specs.rows.Lent.{rowsIn}
+use Rattle.leap_table.specs.rows.Announced.{rowsIn}
 use Rattle.leap_table.specs.offsets.Offset.{inDay}
 use Rattle.leap_table.specs.offsets.Rule.{offsetByRule}
 use Rattle.leap_table.specs.offsets.Answers.{secondsByRuleOutcome}

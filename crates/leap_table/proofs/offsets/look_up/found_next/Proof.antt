@@ -9,8 +9,8 @@ use borrow.Author.Needs.{needs}
 use Rattle.leap_table.proofs.offsets.look_up.found_next.Statement.{statement}
 use Rattle.leap_table.proofs.offsets.look_up.found_next.Tie as tie
 
-test : (s : tie.Start) (b : Bool) → leZ (toZ w32 (ofZ w32 (s .args .lent))) (toZ w32 (ofZ w32 (s .args .month))) ≡ b → leZ (s .args .lent) (s .args .month) ≡ b
-test s b e = (λ i. leZ (sym (toZ-ofZ (s .fits .lent)) i) (sym (toZ-ofZ (s .fits .month)) i)) ∙ e
+test : (s : tie.Start) (b : Bool) → leZ (toZ w32 (ofZ w32 (s .args .announced))) (toZ w32 (ofZ w32 (s .args .month))) ≡ b → leZ (s .args .announced) (s .args .month) ≡ b
+test s b e = (λ i. leZ (sym (toZ-ofZ (s .fits .announced)) i) (sym (toZ-ofZ (s .fits .month)) i)) ∙ e
 
 returns : tie.Need-returns
 returns c = rw (test (c .before) true (c .if1 .taken))

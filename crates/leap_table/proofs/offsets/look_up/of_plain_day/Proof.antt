@@ -8,7 +8,7 @@ use lib.IntN.{natAbs}
 use Rattle.calendar.proofs.Signs.{to-unsigned, read-back}
 use Rattle.calendar.proofs.Accepted.{Accepted}
 use Rattle.leap_table.specs.rows.Table.{Row, starts, reached, monthNumber}
-use Rattle.leap_table.specs.rows.Lent.{rowsIn}
+use Rattle.leap_table.specs.rows.Announced.{rowsIn}
 use Rattle.leap_table.specs.offsets.Offset.{offsetAt}
 use Rattle.leap_table.specs.offsets.Rule.{ruleBy, ruleOf, ruleAt}
 use Rattle.leap_table.proofs.offsets.Month.{read-month}

@@ -5,9 +5,9 @@ use Prim.Native.Nat.{ℕ, _-_, _<_}
 use native.Mathlib.Omega.{arith}
 use borrow.Author.Tests.{lt-ltb, le-ltb}
 use borrow.Author.Needs.{needs}
-use Rattle.leap_table.specs.rows.Lent.{lentSize, lentTable, rowsIn}
+use Rattle.leap_table.specs.rows.Announced.{announcedSize, announcedTable, rowsIn}
 use Rattle.leap_table.proofs.rows.Tables.{table-drifts}
-use Rattle.leap_table.proofs.rows.ByParts.{lent-size}
+use Rattle.leap_table.proofs.rows.ByParts.{announced-size}
 use Rattle.leap_table.proofs.offsets.Rules.{rule-absent, rule-drifts, rule-whole}
 use Rattle.leap_table.proofs.offsets.look_up.rule_by.Statement.{statement}
 use Rattle.leap_table.proofs.offsets.look_up.rule_by.Tie as tie
@@ -22,19 +22,19 @@ returns-2 : tie.Need-returns-2
 returns-2 c size months seconds h =
     let f = c .before in
     let k = f .before .args .rows in
-    let t = lentTable size size months seconds in
+    let t = announcedTable size size months seconds in
     let a = above _ (f .if1 .left) in
     rule-drifts (rowsIn size months seconds) k a
-    (table-drifts t (lentSize t) (k - 1) (omega (arith, a, h, lent-size size months seconds)) ∙ ap not (lt-ltb (k - 1) 14 (c .if2 .taken)))
+    (table-drifts t (announcedSize t) (k - 1) (omega (arith, a, h, announced-size size months seconds)) ∙ ap not (lt-ltb (k - 1) 14 (c .if2 .taken)))
 
 returns-3 : tie.Need-returns-3
 returns-3 c size months seconds h =
     let f = c .before in
     let k = f .before .args .rows in
-    let t = lentTable size size months seconds in
+    let t = announcedTable size size months seconds in
     let a = above _ (f .if1 .left) in
     rule-whole (rowsIn size months seconds) k a
-    (table-drifts t (lentSize t) (k - 1) (omega (arith, a, h, lent-size size months seconds)) ∙ ap not (le-ltb (k - 1) 14 (c .if2 .left)))
+    (table-drifts t (announcedSize t) (k - 1) (omega (arith, a, h, announced-size size months seconds)) ∙ ap not (le-ltb (k - 1) 14 (c .if2 .left)))
 
 pub rule-by-spec : {M : Type 1} → statement M
 rule-by-spec = tie.close (tie.spec returns (λ c. search needs) (λ c. search needs) returns-2 (λ c. search needs) returns-3)

@@ -7,20 +7,20 @@ use denote.Ref.{now}
 use lib.IntN.{ℤ}
 use borrow.Author.Needs.{needs}
 use Rattle.leap_table.specs.rows.Table.{fixed, starts, reached}
-use Rattle.leap_table.specs.rows.Lent.{least, lentTable, rowsIn, rowsTo}
-use Rattle.leap_table.proofs.rows.ByParts.{lent-size}
+use Rattle.leap_table.specs.rows.Announced.{least, announcedTable, rowsIn, rowsTo}
+use Rattle.leap_table.proofs.rows.ByParts.{announced-size}
 use Rattle.leap_table.proofs.offsets.look_up.table_rows_reached.Statement.{statement}
 use Rattle.leap_table.proofs.offsets.look_up.table_rows_reached.Tie as tie
 
-no-lent : (size : ℕ) (m s : List ℤ) (n : ℕ) → size ≡ 0 → reached (starts fixed) n ≡ reached (starts (rowsIn size m s)) n
+no-announced : (size : ℕ) (m s : List ℤ) (n : ℕ) → size ≡ 0 → reached (starts fixed) n ≡ reached (starts (rowsIn size m s)) n
 unfolding rowsTo
-no-lent size m s n e = ap (λ (k : ℕ). reached (starts (rowsTo (lentTable size size m s) k)) n) (sym (lent-size size m s ∙ ap (λ (k : ℕ). least k 16) e))
+no-announced size m s n e = ap (λ (k : ℕ). reached (starts (rowsTo (announcedTable size size m s) k)) n) (sym (announced-size size m s ∙ ap (λ (k : ℕ). least k 16) e))
 
 returns : tie.Need-returns
 returns c =
     let s = c .before .before .args in
     let r = c .fixed-rows-reached .ensures in
-    (λ seconds. r .0 ∙ no-lent (s .size) (now (s .months)) seconds (s .n) (c .before .if1 .taken), omega (arith, r .1))
+    (λ seconds. r .0 ∙ no-announced (s .size) (now (s .months)) seconds (s .n) (c .before .if1 .taken), omega (arith, r .1))
 
 returns-2 : tie.Need-returns-2
 returns-2 c = c .any-rows-reached .ensures

@@ -5,9 +5,9 @@ use Prim.Native.Nat.{ℕ, _-_, _≤_, _<_}
 use native.Mathlib.Omega.{arith}
 use borrow.Author.Tests.{le-ltb}
 use borrow.Author.Needs.{needs}
-use Rattle.leap_table.specs.rows.Lent.{lentSize, lentTable, rowsIn}
+use Rattle.leap_table.specs.rows.Announced.{announcedSize, announcedTable, rowsIn}
 use Rattle.leap_table.proofs.rows.Tables.{table-drifts}
-use Rattle.leap_table.proofs.rows.ByParts.{lent-size}
+use Rattle.leap_table.proofs.rows.ByParts.{announced-size}
 use Rattle.leap_table.proofs.offsets.Rules.{rule-whole}
 use Rattle.leap_table.proofs.offsets.look_up.whole_rule.Statement.{statement}
 use Rattle.leap_table.proofs.offsets.look_up.whole_rule.Tie as tie
@@ -16,9 +16,9 @@ returns : tie.Need-returns
 returns c size months seconds h =
     let k = c .args .rows in
     let p = c .pre .0 in
-    let t = lentTable size size months seconds in
+    let t = announcedTable size size months seconds in
     rule-whole (rowsIn size months seconds) k (omega arith)
-    (table-drifts t (lentSize t) (k - 1) (omega (arith, p, h, lent-size size months seconds)) ∙ ap not (le-ltb (k - 1) 14 (omega arith)))
+    (table-drifts t (announcedSize t) (k - 1) (omega (arith, p, h, announced-size size months seconds)) ∙ ap not (le-ltb (k - 1) 14 (omega arith)))
 
 pub whole-rule-spec : {M : Type 1} → statement M
 whole-rule-spec = tie.close (tie.spec (λ c. search needs) (λ c. search needs) returns)

@@ -1,4 +1,4 @@
--- `leap_table::offsets::seconds::seconds_in` meets its contract: the seconds are counted in the fixed rows and read in the lent ones. Assumes nothing.
+-- `leap_table::offsets::seconds::seconds_in` meets its contract: the seconds are counted in the fixed rows and read in the announced ones. Assumes nothing.
 use mathlib.Core.Path.{_≡_, ap, sym, subst, _∙_}
 use mathlib.Core.List.{List}
 use Prim.Native.Nat.{ℕ, _+_, _-_, _≤_}
@@ -7,12 +7,12 @@ use lib.IntN.{pos}
 use lib.ListN.{getD}
 use borrow.Author.Needs.{needs}
 use Rattle.leap_table.specs.rows.Table.{Row, starts, reached}
-use Rattle.leap_table.specs.rows.Lent.{least, lentSize, rowsOf}
+use Rattle.leap_table.specs.rows.Announced.{least, announcedSize, rowsOf}
 use Rattle.leap_table.proofs.rows.Naturals.{read-natural}
 use Rattle.leap_table.proofs.rows.Tables.{at-most-16}
 use Rattle.leap_table.proofs.rows.ByParts.{rows-in}
 use Rattle.leap_table.proofs.offsets.TableYears.{whole-rows-of}
-use Rattle.leap_table.proofs.offsets.WholeSeconds.{in-fixed-row, in-lent-row}
+use Rattle.leap_table.proofs.offsets.WholeSeconds.{in-fixed-row, in-announced-row}
 use Rattle.leap_table.proofs.offsets.seconds.seconds_in.Statement.{statement}
 use Rattle.leap_table.proofs.offsets.seconds.seconds_in.Tie as tie
 
@@ -23,8 +23,8 @@ module _ (c : tie.After-table-rows-reached) where
       let a = z .before .args in
       c .table-rows-reached .ensures .0 (a .t1 .seconds) ∙ ap (λ (rows : List Row). reached (starts rows) (a .month)) (rows-in (a .t1) (z .size-of .result) (z .size-of .ensures))
 
-  few : let s = c .before .before .before .before in c .table-rows-reached .result ≤ 42 + lentSize (s .args .t1)
-  unfolding lentSize
+  few : let s = c .before .before .before .before in c .table-rows-reached .result ≤ 42 + announcedSize (s .args .t1)
+  unfolding announcedSize
   few =
       let z = c .before .before .before in
       subst (λ (n : ℕ). c .table-rows-reached .result ≤ 42 + least n 16) (z .size-of .ensures) (c .table-rows-reached .ensures .1)
@@ -60,7 +60,7 @@ returns-2 c =
     let s = r .before .before .before .before in (
       c .natural .ensures .0
           ∙ read-natural (getD (s .args .t1 .seconds) (r .table-rows-reached .result - 43) (pos 0)) (record { sfits = c .before .natural-arg .given })
-          ∙ in-lent-row (s .args .t1) (s .args .month) (r .table-rows-reached .result) (rows-are r) (enough r) (i .if1 .left) (few r),
+          ∙ in-announced-row (s .args .t1) (s .args .month) (r .table-rows-reached .result) (rows-are r) (enough r) (i .if1 .left) (few r),
       c .natural .ensures .1,
     )
 

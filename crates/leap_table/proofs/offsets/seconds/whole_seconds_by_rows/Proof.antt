@@ -9,7 +9,7 @@ use mir.Facts.{toZ-ofZ}
 use borrow.Author.Needs.{needs}
 use Rattle.calendar.proofs.Signs.{lt-left}
 use Rattle.leap_table.specs.rows.Table.{monthNumber}
-use Rattle.leap_table.specs.rows.Lent.{rowsOf}
+use Rattle.leap_table.specs.rows.Announced.{rowsOf}
 use Rattle.leap_table.specs.offsets.Offset.{secondsIn}
 use Rattle.leap_table.proofs.offsets.WholeSeconds.{no-year, month-below, month-above, a-month, late}
 use Rattle.leap_table.proofs.offsets.seconds.whole_seconds_by_rows.Statement.{statement}

@@ -1,4 +1,4 @@
--- `leap_table::offsets::walk_rows::row_start` meets its contract: a row stands in the fixed table or among the lent ones, or there is none. Assumes nothing.
+-- `leap_table::offsets::walk_rows::row_start` meets its contract: a row stands in the fixed table or among the announced ones, or there is none. Assumes nothing.
 use mathlib.Core.Path.{_∙_}
 use Prim.Native.Nat.{_-_}
 use native.Mathlib.Omega.{arith}
@@ -7,7 +7,7 @@ use lib.ListN.{getD}
 use borrow.Author.Needs.{needs}
 use Rattle.leap_table.specs.rows.Table.{fixed}
 use Rattle.leap_table.proofs.rows.Naturals.{read-natural}
-use Rattle.leap_table.proofs.offsets.Forward.{start-fixed, start-lent, start-past}
+use Rattle.leap_table.proofs.offsets.Forward.{start-fixed, start-announced, start-past}
 use Rattle.leap_table.proofs.offsets.walk_rows.row_start.Statement.{statement}
 use Rattle.leap_table.proofs.offsets.walk_rows.row_start.Tie as tie
 
@@ -26,14 +26,14 @@ returns-2 c =
     let s = f .before .args in
     c .natural .ensures .0
     ∙ read-natural (getD (s .t1 .months) (s .i - 42) (pos 0)) (record { sfits = c .before .natural-arg .given })
-    ∙ start-lent (s .t1) (s .i) (f .if1 .left) (omega (arith, q .if2 .taken, n .lent-size .ensures .0))
+    ∙ start-announced (s .t1) (s .i) (f .if1 .left) (omega (arith, q .if2 .taken, n .announced-size .ensures .0))
 
 returns-3 : tie.Need-returns-3
 returns-3 c =
     let n = c .before in
     let f = n .before in
     let s = f .before .args in
-    start-past (s .t1) (s .i) (f .if1 .left) (omega (arith, c .if2 .left, n .lent-size .ensures .0))
+    start-past (s .t1) (s .i) (f .if1 .left) (omega (arith, c .if2 .left, n .announced-size .ensures .0))
 
 pub row-start-spec : {M : Type 1} → statement M
 row-start-spec =

@@ -10,7 +10,7 @@ use lib.Ieee.{Float, ofBits}
 use borrow.Author.Tests.{lt-ltb, le-ltb}
 use borrow.Author.Needs.{needs}
 use Rattle.leap_table.specs.rows.Table.{Row, none}
-use Rattle.leap_table.specs.rows.Lent.{least, lentSize, rowsOf}
+use Rattle.leap_table.specs.rows.Announced.{least, announcedSize, rowsOf}
 use Rattle.leap_table.specs.offsets.Offset.{secondsOf, startOf, rateOf}
 use Rattle.leap_table.specs.offsets.Forward.{byTerms}
 use Rattle.leap_table.proofs.rows.Tables.{at-most-16, fixed-place, table-drifts}
@@ -35,10 +35,10 @@ returns-2 c =
     let f = c .before .before .before .before in
     let s = f .before .args in
     let g = c .before .before .before .if2 .taken in
-    let p = sym (fixed-place (s .t1) (lentSize (s .t1)) (s .rows - 1) (omega arith)) in
+    let p = sym (fixed-place (s .t1) (announcedSize (s .t1)) (s .rows - 1) (omega arith)) in
     λ mjd x.
     row-drifts (rowsOf (s .t1)) (s .rows) mjd x (above _ (f .if1 .left))
-    (table-drifts (s .t1) (lentSize (s .t1)) (s .rows - 1) (omega arith) ∙ ap not (lt-ltb (s .rows - 1) 14 g))
+    (table-drifts (s .t1) (announcedSize (s .t1)) (s .rows - 1) (omega arith) ∙ ap not (lt-ltb (s .rows - 1) 14 g))
     _ _ _
     (c .before .before .seconds-at .ensures ∙ ap secondsOf p)
     (c .before .start-at .ensures ∙ ap startOf p)
@@ -49,12 +49,12 @@ unfolding ofBits byTerms
 returns-3 c =
     let n = c .before in
     let s = n .before .before .before .args in
-    λ mjd f. no-row (s .t1) (s .rows) mjd f (above _ (n .before .before .if1 .left)) (omega (arith, c .if3 .taken, n .lent-size .ensures .0))
+    λ mjd f. no-row (s .t1) (s .rows) mjd f (above _ (n .before .before .if1 .left)) (omega (arith, c .if3 .taken, n .announced-size .ensures .0))
 
 -- how many rows there are at the last answer, and that row i is one of them
 module _ (c : tie.After-table) where
-  few : let s = c .before .before .before .before .before .args in s .rows ≤ 42 + lentSize (s .t1)
-  few = omega (arith, c .before .if3 .left, c .before .before .lent-size .ensures .0)
+  few : let s = c .before .before .before .before .before .args in s .rows ≤ 42 + announcedSize (s .t1)
+  few = omega (arith, c .before .if3 .left, c .before .before .announced-size .ensures .0)
 
 seconds-of-row-requires : tie.Need-seconds-of-row-requires
 seconds-of-row-requires c κs =
@@ -63,7 +63,7 @@ seconds-of-row-requires c κs =
     (omega (arith, q .before .before .before .if2 .left), omega (arith, few q, at-most-16 (s .t1)))
 
 returns-4 : tie.Need-returns-4
-unfolding byTerms lentSize
+unfolding byTerms announcedSize
 returns-4 c =
     let q = c .before .before in
     let n = q .before .before in
@@ -73,7 +73,7 @@ returns-4 c =
     let e = c .seconds-of-row .ensures k (s .t1 .months) (few q) ∙ ap (λ (l : List Row). secondsOf (getD l (s .rows - 1) none)) (rows-in (s .t1) k refl) in
     λ mjd x.
     row-stays (rowsOf (s .t1)) (s .rows) mjd x (above _ (f .if1 .left))
-    (table-drifts (s .t1) (lentSize (s .t1)) (s .rows - 1) (omega (arith, q .before .if3 .left, n .lent-size .ensures .0)) ∙ ap not (le-ltb (s .rows - 1) 14 (n .before .if2 .left)))
+    (table-drifts (s .t1) (announcedSize (s .t1)) (s .rows - 1) (omega (arith, q .before .if3 .left, n .announced-size .ensures .0)) ∙ ap not (le-ltb (s .rows - 1) 14 (n .before .if2 .left)))
     _ e
 
 pub row-terms-spec : {M : Type 1} → statement M

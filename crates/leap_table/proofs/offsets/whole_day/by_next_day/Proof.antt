@@ -16,7 +16,7 @@ use Rattle.calendar.proofs.Mjd.{mjd-valid}
 use Rattle.calendar.proofs.NextDates.{next-in-calendar}
 use denote.Ref.{now}
 use Rattle.leap_table.specs.rows.Table.{Row, monthNumber}
-use Rattle.leap_table.specs.rows.Lent.{rowsIn}
+use Rattle.leap_table.specs.rows.Announced.{rowsIn}
 use Rattle.leap_table.specs.offsets.Leap.{offsetsOfDay}
 use Rattle.leap_table.specs.offsets.Rule.{ruleOf, ruleAt, dayByRule}
 use Rattle.leap_table.specs.offsets.Answers.{dayByRuleOutcome}

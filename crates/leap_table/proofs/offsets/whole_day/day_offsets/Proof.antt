@@ -2,16 +2,16 @@
 use mathlib.Core.Path.{_≡_, _∙_}
 use mir.Facts.{toZ-ofZ}
 use borrow.Author.Needs.{needs}
-use Rattle.leap_table.specs.rows.Lent.{rowsOf}
+use Rattle.leap_table.specs.rows.Announced.{rowsOf}
 use Rattle.leap_table.specs.offsets.Leap.{dayOffsets}
 use Rattle.leap_table.specs.offsets.Answers.{dayOffsetsOutcome}
-use Rattle.leap_table.proofs.rows.TablesTaken.{turned-away, taken}
+use Rattle.leap_table.proofs.rows.TablesTaken.{not-taken, taken}
 use Rattle.leap_table.proofs.offsets.whole_day.day_offsets.Statement.{statement}
 use Rattle.leap_table.proofs.offsets.whole_day.day_offsets.Tie as tie
 
 returns : tie.Need-returns
 unfolding dayOffsetsOutcome
-returns c = let r = c .before in turned-away (r .before .args .table) (r .table-refusal .result) (r .table-refusal .ensures) _ (c .if1 .taken)
+returns c = let r = c .before in not-taken (r .before .args .table) (r .table-refusal .result) (r .table-refusal .ensures) _ (c .if1 .taken)
 
 returns-2 : tie.Need-returns-2
 returns-2 c =

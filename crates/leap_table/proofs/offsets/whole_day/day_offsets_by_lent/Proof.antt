@@ -4,7 +4,7 @@ use mathlib.Core.List.{List}
 use denote.Ref.{now}
 use mir.Facts.{toZ-ofZ}
 use Rattle.leap_table.specs.rows.Table.{Row}
-use Rattle.leap_table.specs.rows.Lent.{rowsIn}
+use Rattle.leap_table.specs.rows.Announced.{rowsIn}
 use Rattle.leap_table.specs.offsets.Rule.{dayByRule}
 use Rattle.leap_table.specs.offsets.Answers.{dayByRuleOutcome}
 use Rattle.leap_table.proofs.offsets.Rules.{told}

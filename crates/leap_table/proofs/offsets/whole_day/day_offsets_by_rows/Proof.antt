@@ -4,7 +4,7 @@ use mir.Facts.{toZ-ofZ}
 use borrow.Author.Needs.{needs}
 use Rattle.refusals.specs.Outcome.{onward}
 use Rattle.leap_table.specs.declared.offsets.DayByRule.{DayByRule}
-use Rattle.leap_table.specs.rows.Lent.{rowsOf}
+use Rattle.leap_table.specs.rows.Announced.{rowsOf}
 use Rattle.leap_table.specs.offsets.Leap.{dayOffsets}
 use Rattle.leap_table.specs.offsets.Rule.{forget, dayByRule}
 use Rattle.leap_table.specs.offsets.Answers.{dayOffsetsOutcome, dayByRuleOutcome}

@@ -7,7 +7,7 @@ use mir.Facts.{toZ-ofZ}
 use Rattle.refusals.specs.Outcome.{onward, answer}
 use Rattle.leap_table.specs.declared.offsets.DayByRule.{DayByRule}
 use Rattle.leap_table.specs.rows.Table.{Row}
-use Rattle.leap_table.specs.rows.Lent.{rowsIn}
+use Rattle.leap_table.specs.rows.Announced.{rowsIn}
 use Rattle.leap_table.specs.offsets.Leap.{leapOf}
 use Rattle.leap_table.specs.offsets.Rule.{dayByRule, leapByRule}
 use Rattle.leap_table.specs.offsets.Answers.{secondsByRuleOutcome, dayByRuleOutcome}

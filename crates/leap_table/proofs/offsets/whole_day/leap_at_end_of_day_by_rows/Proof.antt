@@ -2,7 +2,7 @@
 use mathlib.Core.Path.{ap, _∙_}
 use mir.Facts.{toZ-ofZ}
 use borrow.Author.Needs.{needs}
-use Rattle.leap_table.specs.rows.Lent.{rowsOf}
+use Rattle.leap_table.specs.rows.Announced.{rowsOf}
 use Rattle.leap_table.specs.offsets.Rule.{forget, leapByRule}
 use Rattle.leap_table.proofs.rows.ByParts.{rows-in}
 use Rattle.leap_table.proofs.offsets.Rules.{leap-forgets}

@@ -1,7 +1,7 @@
 -- `leap_table::offsets::whole_day::next_rows_reached` meets its contract: the same month has the same rows. Assumes nothing.
 use mathlib.Core.Path.{ap, sym, _∙_}
 use Rattle.leap_table.specs.rows.Table.{starts, reached}
-use Rattle.leap_table.specs.rows.Lent.{rowsIn}
+use Rattle.leap_table.specs.rows.Announced.{rowsIn}
 use denote.Ref.{now}
 use borrow.Author.Needs.{needs}
 use Rattle.leap_table.proofs.offsets.whole_day.next_rows_reached.Statement.{statement}

@@ -6,7 +6,7 @@ use denote.Ref.{now}
 use lib.Ieee.{ofBits}
 use Rattle.leap_table.specs.offsets.Leap.{offsetsOfDay}
 use Rattle.leap_table.specs.rows.Table.{Row}
-use Rattle.leap_table.specs.rows.Lent.{rowsIn}
+use Rattle.leap_table.specs.rows.Announced.{rowsIn}
 use Rattle.leap_table.specs.offsets.Rule.{ruleBy, ruleOf}
 use Rattle.leap_table.specs.offsets.Answers.{dayByRuleOutcome}
 use Rattle.refusals.specs.Outcome.{answer}

@@ -4,7 +4,7 @@ use native.Mathlib.Omega.{arith}
 use mathlib.Core.Path.{_≡_, refl, sym, ap, _∙_}
 use lib.Dec.{eqb}
 use lib.ListN.{length}
-use Rattle.leap_table.specs.rows.Lent.{rowsOf}
+use Rattle.leap_table.specs.rows.Announced.{rowsOf}
 use Rattle.leap_table.specs.walk.Walk.{tripleOffset}
 use Rattle.leap_table.specs.judging.Lists.{datesFrom, tripleIn}
 use Rattle.leap_table.specs.walk.Lists.{inEights}

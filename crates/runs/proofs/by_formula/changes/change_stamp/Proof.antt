@@ -5,7 +5,7 @@ use borrow.Author.Tests.{not-true, not-false}
 use Rattle.runs.specs.by_formula.Asked.{changeOf}
 use Rattle.runs.proofs.by_formula.Puts.{put-refused, put-patterns}
 use Rattle.runs.proofs.by_formula.PatternOrder.{larger-pattern}
-use Rattle.runs.proofs.by_formula.Judged.{field-most, no-nan, pattern-back, smaller-first, smaller-second, dead-first, dead-either, changed-first, changed-second}
+use Rattle.runs.proofs.by_formula.Judged.{field-most, no-nan, pattern-back, smaller-first, smaller-second, not-finite-first, not-finite-either, changed-first, changed-second}
 use borrow.Author.Needs.{needs}
 use Rattle.runs.proofs.by_formula.changes.change_stamp.Statement.{statement}
 use Rattle.runs.proofs.by_formula.changes.change_stamp.Tie as tie
@@ -13,7 +13,7 @@ use Rattle.runs.proofs.by_formula.changes.change_stamp.Tie as tie
 returns : tie.Need-returns
 returns c =
     let a = c .before .before .before .before .before .before .before .before .before .before .args in
-    put-refused _ 9 (a .i) _ (a .out1 .now) (a .out2 .now) (dead-first (changeOf (a .kind) (a .days)) (a .jd1s .now) (a .jd2s .now) (a .i) _ _ (c .before .before .before .before .before .pattern-at .ensures) (c .before .before .before .before .pattern-at2 .ensures) (sym (c .before .is-number .ensures) ∙ not-true _ (c .if2 .taken))) refl
+    put-refused _ 9 (a .i) _ (a .out1 .now) (a .out2 .now) (not-finite-first (changeOf (a .kind) (a .days)) (a .jd1s .now) (a .jd2s .now) (a .i) _ _ (c .before .before .before .before .before .pattern-at .ensures) (c .before .before .before .before .pattern-at2 .ensures) (sym (c .before .is-number .ensures) ∙ not-true _ (c .if2 .taken))) refl
 
 float-from-bits-x : tie.Need-float-from-bits-x
 float-from-bits-x c = no-nan _ (sym (c .before .is-number .ensures) ∙ not-false _ (c .if2 .left))
@@ -35,7 +35,7 @@ returns-2 c =
 returns-3 : tie.Need-returns-3
 returns-3 c =
     let a = c .before .before .before .before .before .before .before .before .before .before .args in
-    put-refused _ 9 (a .i) _ (a .out1 .now) (a .out2 .now) (dead-either (changeOf (a .kind) (a .days)) (a .jd1s .now) (a .jd2s .now) (a .i) _ _ (c .before .before .before .before .before .pattern-at .ensures) (c .before .before .before .before .pattern-at2 .ensures) (sym (c .before .is-number2 .ensures) ∙ not-true _ (c .if3 .taken))) refl
+    put-refused _ 9 (a .i) _ (a .out1 .now) (a .out2 .now) (not-finite-either (changeOf (a .kind) (a .days)) (a .jd1s .now) (a .jd2s .now) (a .i) _ _ (c .before .before .before .before .before .pattern-at .ensures) (c .before .before .before .before .pattern-at2 .ensures) (sym (c .before .is-number2 .ensures) ∙ not-true _ (c .if3 .taken))) refl
 
 float-from-bits-x-2 : tie.Need-float-from-bits-x-2
 float-from-bits-x-2 c = no-nan _ (smaller-first (c .before .before .before .before .before .pattern-at .result) (c .before .before .before .before .pattern-at2 .result) (sym (c .before .before .before .is-larger .ensures) ∙ (c .before .before .if1 .left)) (sym (c .before .is-number2 .ensures) ∙ not-false _ (c .if3 .left)))

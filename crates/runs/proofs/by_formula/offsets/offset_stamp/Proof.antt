@@ -1,4 +1,4 @@
--- `runs::by_formula::offsets::offset_stamp` meets its contract: a dead offset is told after a dead part, and else the stamp is moved by so many days. Assumes nothing.
+-- `runs::by_formula::offsets::offset_stamp` meets its contract: a not-finite offset is told after a not-finite part, and else the stamp is moved by so many days. Assumes nothing.
 use mathlib.Core.Path.{sym, ap, _∙_}
 use mathlib.Core.Bool.{cond}
 use lib.Ieee.{Float, binary64, ofBits, neg, div}
@@ -6,7 +6,7 @@ use borrow.Author.Tests.{not-true, not-false}
 use Rattle.constants.proofs.Bits.{seconds-per-day}
 use Rattle.julian.specs.shifts.Shifts.{daysOf}
 use Rattle.runs.proofs.by_formula.Puts.{put-refused, put-same}
-use Rattle.runs.proofs.by_formula.Judged.{no-nan, offset-dead, dead-small, offset-moves}
+use Rattle.runs.proofs.by_formula.Judged.{no-nan, offset-not-finite, not-finite-small, offset-moves}
 use borrow.Author.Needs.{needs}
 use Rattle.runs.proofs.by_formula.offsets.offset_stamp.Statement.{statement}
 use Rattle.runs.proofs.by_formula.offsets.offset_stamp.Tie as tie
@@ -14,7 +14,7 @@ use Rattle.runs.proofs.by_formula.offsets.offset_stamp.Tie as tie
 returns : tie.Need-returns
 returns c =
     let a = c .before .before .before .before .before .before .before .before .before .args in
-    put-refused _ _ (a .i) _ (a .out1 .now) (a .out2 .now) (offset-dead (a .earlier) (a .jd1s .now) (a .jd2s .now) (a .offsets .now) (a .i) _ (c .before .before .before .pattern-at .ensures) (sym (c .before .before .is-number .ensures) ∙ not-true _ (c .before .if1 .taken))) (c .dead-number .ensures ∙ dead-small (a .earlier) (a .jd1s .now) (a .jd2s .now) (a .offsets .now) (a .i))
+    put-refused _ _ (a .i) _ (a .out1 .now) (a .out2 .now) (offset-not-finite (a .earlier) (a .jd1s .now) (a .jd2s .now) (a .offsets .now) (a .i) _ (c .before .before .before .pattern-at .ensures) (sym (c .before .before .is-number .ensures) ∙ not-true _ (c .before .if1 .taken))) (c .not-finite-number .ensures ∙ not-finite-small (a .earlier) (a .jd1s .now) (a .jd2s .now) (a .offsets .now) (a .i))
 
 float-from-bits-days : tie.Need-float-from-bits-days
 float-from-bits-days c = no-nan _ (sym (c .before .is-number .ensures) ∙ not-false _ (c .if1 .left))

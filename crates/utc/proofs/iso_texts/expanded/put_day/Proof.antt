@@ -5,12 +5,12 @@ use denote.Ref.{now}
 use mir.Syntax.{w32}
 use mir.Val.{SFits}
 use Rattle.leap_table.specs.rows.Table.{Row}
-use Rattle.leap_table.specs.rows.Lent.{rowsIn}
+use Rattle.leap_table.specs.rows.Announced.{rowsIn}
 use Rattle.leap_table.specs.offsets.Rule.{withRule, leapByRule}
 use Rattle.leap_table.specs.offsets.Answers.{secondsByRuleOutcome}
 use Rattle.leap_table.proofs.offsets.Rules.{not-told, apart, refused-apart}
 use Rattle.utc.specs.iso_texts.IsoText.{shownTextBy}
-use Rattle.utc.specs.iso_texts.Expanded.{expandedSheet}
+use Rattle.utc.specs.iso_texts.Expanded.{expandedForm}
 use Rattle.utc.specs.iso_texts.ByRule.{ruleOn}
 use Rattle.julian.proofs.Dates.{read-fields}
 use Rattle.utc.proofs.iso_texts.TextCalls.{leap-refused, leap-given}
@@ -30,7 +30,7 @@ returns c =
     let s = v .before .before .before .before .before in
     let f : SFits w32 (s .args .date .year) = record { sfits = v .before .struct-told .given .0 .1 } in
     let h = refused-apart _ _ _ (sym (v .leap-at-end-of-day-by-lent .ensures ∙ read-fields (leapByRule (rows s)) (s .args .date) f (s .pre .0) (s .pre .1)) ∙ ap secondsByRuleOutcome (c .before .number .given .1)) in
-    rule-call-refused _ _ _ (sym (not-told _ _ _ (sym (leap-refused expandedSheet (rows s) (s .args .date) (s .args .fraction) _ h))))
+    rule-call-refused _ _ _ (sym (not-told _ _ _ (sym (leap-refused expandedForm (rows s) (s .args .date) (s .args .fraction) _ h))))
 
 returns-2 : tie.Need-returns-2
 unfolding secondsByRuleOutcome leapByRule ruleOn
@@ -39,7 +39,7 @@ returns-2 c =
     let s = v .before .before .before .before .before in
     let f : SFits w32 (s .args .date .year) = record { sfits = v .before .struct-told .given .0 .1 } in
     let q = apart _ _ _ _ (sym (v .leap-at-end-of-day-by-lent .ensures ∙ read-fields (leapByRule (rows s)) (s .args .date) f (s .pre .0) (s .pre .1)) ∙ ap secondsByRuleOutcome (c .before .before .before .before .before .before .before .leap .given .1)) in
-    let t = leap-given expandedSheet (rows s) (s .args .date) (s .args .fraction) _ (q .0) ∙ ap (shownTextBy (expandedSheet .write) (s .args .date)) (sym (c .before .before .before .before .before .time-shown .ensures)) in
+    let t = leap-given expandedForm (rows s) (s .args .date) (s .args .fraction) _ (q .0) ∙ ap (shownTextBy (expandedForm .write) (s .args .date)) (sym (c .before .before .before .before .before .time-shown .ensures)) in
     rule-call-as _ _ _ _ _ (λ i. withRule (t i) (q .1 i)) (rule-call-with _ _ _ _ _ _ (c .with-rule .ensures) (c .before .before .before .put-shown .ensures))
 
 pub put-day-spec : {M : Type 1} → statement M

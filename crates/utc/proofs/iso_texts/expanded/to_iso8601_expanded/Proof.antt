@@ -3,7 +3,7 @@ use mathlib.Core.Path.{sym, ap, _∙_}
 use mathlib.Core.List.{List}
 use Rattle.leap_table.specs.rows.Table.{Row}
 use Rattle.leap_table.proofs.rows.ByParts.{rows-in}
-use Rattle.leap_table.proofs.rows.TablesTaken.{turned-away, taken}
+use Rattle.leap_table.proofs.rows.TablesTaken.{not-taken, taken}
 use Rattle.utc.specs.iso_texts.ByRule.{expandedByRule}
 use Rattle.utc.proofs.iso_texts.TextRules.{rule-call-refused, rule-call-as}
 use borrow.Author.Needs.{needs}
@@ -13,7 +13,7 @@ use Rattle.utc.proofs.iso_texts.expanded.to_iso8601_expanded.Tie as tie
 returns : tie.Need-returns
 returns c =
     let r = c .before in
-    rule-call-refused _ _ _ (sym (turned-away (r .before .before .args .t2) (r .table-refusal .result) (r .table-refusal .ensures) _ (c .if1 .taken)))
+    rule-call-refused _ _ _ (sym (not-taken (r .before .before .args .t2) (r .table-refusal .result) (r .table-refusal .ensures) _ (c .if1 .taken)))
 
 returns-2 : tie.Need-returns-2
 returns-2 c =

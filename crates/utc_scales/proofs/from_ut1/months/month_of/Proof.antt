@@ -7,7 +7,7 @@ use mir.Facts.{toZ-ofZ}
 use Rattle.calendar.specs.declared.CalendarDate.{CalendarDate}
 use Rattle.calendar.specs.Gregorian.{gregorianDate}
 use Rattle.leap_table.specs.rows.Table.{Row}
-use Rattle.leap_table.specs.rows.Lent.{rowsIn}
+use Rattle.leap_table.specs.rows.Announced.{rowsIn}
 use Rattle.leap_table.specs.offsets.Rule.{withRule}
 use Rattle.leap_table.specs.offsets.Answers.{secondsByRuleOutcome}
 use Rattle.leap_table.proofs.offsets.Rules.{apart, refused-apart}

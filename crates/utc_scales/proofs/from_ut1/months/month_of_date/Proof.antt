@@ -11,7 +11,7 @@ use Rattle.utc_scales.proofs.days.Steps.{offset-no-date, offset-of-day}
 use mathlib.Core.List.{List}
 use denote.Ref.{now}
 use Rattle.leap_table.specs.rows.Table.{Row}
-use Rattle.leap_table.specs.rows.Lent.{rowsIn}
+use Rattle.leap_table.specs.rows.Announced.{rowsIn}
 use borrow.Author.Needs.{needs}
 use Rattle.utc_scales.proofs.from_ut1.months.month_of_date.Statement.{statement}
 use Rattle.utc_scales.proofs.from_ut1.months.month_of_date.Tie as tie

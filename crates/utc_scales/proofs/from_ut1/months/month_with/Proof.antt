@@ -11,7 +11,7 @@ use Rattle.utc_scales.specs.from_ut1.KnownMonths.{monthOutcome, RightMon
 use mathlib.Core.List.{List}
 use denote.Ref.{now}
 use Rattle.leap_table.specs.rows.Table.{Row}
-use Rattle.leap_table.specs.rows.Lent.{rowsIn}
+use Rattle.leap_table.specs.rows.Announced.{rowsIn}
 use borrow.Author.Needs.{needs}
 use Rattle.utc_scales.proofs.from_ut1.months.month_with.Statement.{statement}
 use Rattle.utc_scales.proofs.from_ut1.months.month_with.Tie as tie
