@@ -1,8 +1,8 @@
 // Whole numbers as bytes, the lowest first.
 ghost use mathlib.Core.Path.{_≡_};
-ghost use Prim.Native.Nat.{_+_, _≤_, _<_};
+ghost use Prim.Native.Nat.{_+_, _*_, _≤_, _<_};
 ghost use lib.ListN.{length};
-ghost use Rattle.numerals.specs.little_endian.LittleEndian.{fourAt, u32At, u64At, eightBytes, withU64, patternOf, signedOf, signed32, i32At};
+ghost use Rattle.numerals.specs.little_endian.LittleEndian.{fourAt, u32At, u64At, eightBytes, withU64, withU32, withNth32, withNth64, patternOf, signedOf, signed32, i32At};
 
 fn wide(x: u8) -> u64
     ensures { λ r. ⌜ (r ≡ x) × (r < 256) ⌝ }
@@ -79,6 +79,67 @@ pub fn put_u64(out: &mut [u8], n: u64)
     out[5] = b[5];
     out[6] = b[6];
     out[7] = b[7];
+}
+
+// The four bytes of a number at the start of a lent slice; where they do not all fit, nothing is written.
+pub fn put_u32(out: &mut [u8], n: u32)
+    ensures { λ _. ⌜ now (out .exit) ≡ withU32 (now (out .entry)) n ⌝ }
+{
+    if out.len() < 4 {
+        return;
+    }
+    out[0] = (n % 256) as u8;
+    out[1] = (n / 0x100 % 256) as u8;
+    out[2] = (n / 0x1_0000 % 256) as u8;
+    out[3] = (n / 0x100_0000 % 256) as u8;
+}
+
+// Number i of a list of numbers of eight bytes; 0 where the list does not have it. Read from a part of eight bytes, it needs no further test.
+pub fn nth_u64(s: &[u8], i: usize) -> u64
+    ensures { λ r. ⌜ r ≡ u64At (now (s .entry)) (8 * i) ⌝ }
+{
+    if i >= s.len() / 8 {
+        return 0;
+    }
+    let at = 8 * i;
+    let end = at + 8;
+    u64_at(&s[at..end], 0)
+}
+
+// The same of numbers of four bytes.
+pub fn nth_u32(s: &[u8], i: usize) -> u32
+    ensures { λ r. ⌜ r ≡ u32At (now (s .entry)) (4 * i) ⌝ }
+{
+    if i >= s.len() / 4 {
+        return 0;
+    }
+    let at = 4 * i;
+    let end = at + 4;
+    u32_at(&s[at..end], 0)
+}
+
+// A number of eight bytes in place i of a list of such; where the list does not have the place, nothing is written.
+pub fn put_nth_u64(out: &mut [u8], i: usize, n: u64)
+    ensures { λ _. ⌜ now (out .exit) ≡ withNth64 (now (out .entry)) i n ⌝ }
+{
+    if i >= out.len() / 8 {
+        return;
+    }
+    let at = 8 * i;
+    let end = at + 8;
+    put_u64(&mut out[at..end], n);
+}
+
+// The same of a number of four bytes.
+pub fn put_nth_u32(out: &mut [u8], i: usize, n: u32)
+    ensures { λ _. ⌜ now (out .exit) ≡ withNth32 (now (out .entry)) i n ⌝ }
+{
+    if i >= out.len() / 4 {
+        return;
+    }
+    let at = 4 * i;
+    let end = at + 4;
+    put_u32(&mut out[at..end], n);
 }
 
 // The pattern of a signed number in two's complement.

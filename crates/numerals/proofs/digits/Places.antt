@@ -7,7 +7,7 @@ use mathlib.Core.Path.{_≡_, refl, sym, ap, _∙_, subst}
 use mathlib.Core.List.{List, [], _∷_, _++_, append-assoc, append-nil}
 use lib.ListN.{length, take, drop, set, length-drop, length-append, take-append-drop}
 use lib.Seq.{take-all, take-length, drop-length, drop-drop, take-at, drop-append-add, length-take-le, set-split}
-use Rattle.numerals.specs.digits.Placed.{pasted, Placed}
+use Rattle.numerals.specs.digits.Placed.{pasted, Placed, Placing}
 
 -- ---- a part that was lent, d[at..], and is back as ys
 module _ (d : List ℕ) (at : ℕ) (le : at ≤ length d) where
@@ -50,6 +50,14 @@ unfolding pasted
 copied src d ys n en e =
     let z : length src ≡ 0 + length src = omega arith in
     record { ends = en ∙ z; holds = e ∙ ap (λ (l : List ℕ). l ++ drop (length src) d) (take-length src) ∙ ap (λ (k : ℕ). src ++ drop k d) z }
+
+-- ---- with room, and without
+module _ {d t : List ℕ} {at : ℕ} where
+  pub all-room : {r : ℕ} {d′ : List ℕ} → at + length t ≤ length d → Placed d at t r d′ → Placing d at t r d′
+  all-room h p = record { written = λ _. p; left = λ g. let no : ⊥ = omega arith in absurd no }
+
+  pub no-room : length d < at + length t → Placing d at t at d
+  no-room h = record { written = λ g. let no : ⊥ = omega arith in absurd no; left = λ _. (refl, refl) }
 
 -- ---- two writes
 module _ {d s t d′ d″ : List ℕ} {at r r2 : ℕ} where

@@ -5,6 +5,7 @@ use mathlib.Core.List.{List, [], _∷_, _++_}
 use mathlib.Core.Bool.{cond}
 use lib.ListN.{length, getD, drop}
 use lib.Dec.{leb, ltb}
+use lib.Seq.{sets}
 use lib.IntN.{ℤ, pos, negsuc}
 
 -- the number in the four bytes from `at` on
@@ -38,6 +39,17 @@ eightBytes n =
 -- a list with the eight bytes of a number at its start; where they do not all fit, the list as it was
 unfoldable pub withU64 : List ℕ → ℕ → List ℕ
 withU64 l n = cond (leb 8 (length l)) (eightBytes n ++ drop 8 l) l
+
+-- the same of the four lowest bytes
+unfoldable pub withU32 : List ℕ → ℕ → List ℕ
+withU32 l n = cond (leb 4 (length l)) (fourBytes n ++ drop 4 l) l
+
+-- a list of numbers of eight bytes with a number in place i, and one of numbers of four; where the list does not have the place, the list as it was
+unfoldable pub withNth64 : List ℕ → ℕ → ℕ → List ℕ
+withNth64 l i n = cond (leb (8 * i + 8) (length l)) (sets l (8 * i) (eightBytes n)) l
+
+unfoldable pub withNth32 : List ℕ → ℕ → ℕ → List ℕ
+withNth32 l i n = cond (leb (4 * i + 4) (length l)) (sets l (4 * i) (fourBytes n)) l
 
 -- the pattern of a signed number, 64 bits in two's complement: -1 is all ones. `negsuc k` is -1 - k
 unfoldable pub patternOf : ℤ → ℕ
