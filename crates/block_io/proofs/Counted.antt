@@ -18,7 +18,8 @@ use Rattle.stamps.proofs.Parts.{held-few}
 pub counts : (n : ℕ) (l : List ℕ) → n ≤ length l → Counts n l
 counts n l h = (h, sym (length-take-le n l h))
 
-module _ {how : Telling} {rows : List Row} {s d d′ : List ℕ} {line : ℕ} {r : Part} (p : PartPlaced how rows s line d r d′) (h : line ≤ linesIn (blockOf s)) where
+module _ {how : Telling} {rows : List Row} {s d d′ : List ℕ} {line : ℕ} {r : Part} (p : PartPlaced how rows s line d r d′)
+    (h : line ≤ linesIn (blockOf s)) where
   next-is : r .line ≡ line + partLines how rows s line (length d)
   unfolding partOf
   next-is = ap (λ (x : Part). x .line) (p .says)

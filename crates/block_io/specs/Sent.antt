@@ -1,5 +1,5 @@
--- What a writer of a listing answers: of the lines of the block's listing, those that the output took. Written from document 01, "The program that lists a block". That the
--- bytes went out no contract can say. Assumes nothing.
+-- What a writer of a listing answers: of the lines of the block's listing, those that the output took. Written from document 01, "The program that lists a
+-- block". That the bytes went out no contract can say. Assumes nothing.
 use Prim.Native.Nat.{ℕ, _≤_}
 use mathlib.Core.Path.{_≡_}
 use mathlib.Core.Bool.{true}

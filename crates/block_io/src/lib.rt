@@ -1,5 +1,5 @@
-// A stamp block from standard input and its listing to standard output: what the listing programs share. `io::read_full` and `io::write_all` would do, but hold 4,096
-// bytes each of their own.
+// A stamp block from standard input and its listing to standard output: what the listing programs share. `io::read_full` and `io::write_all` would do, but hold
+// 4,096 bytes each of their own.
 ghost use Rattle.io.specs.Counts.{Counts};
 ghost use Rattle.block_io.specs.Sent.{SentOf};
 use stamps::Telling;

@@ -50,7 +50,8 @@ too-short t l r h e =
     record { returned = e ∙ sym (ap code w); holds = simp (lt-leb _ _ h) }
 
 -- after the copy of n bytes, all that t has
-pub copied : (t l out : List ℕ) (n : ℕ) → n ≡ length t → length t ≤ 64 → out ≡ take (length t) t ++ drop (length t) l → length t ≤ length l → Delivered (answer t) l (toZ w64 n) out
+pub copied : (t l out : List ℕ) (n : ℕ) → n ≡ length t → length t ≤ 64 → out ≡ take (length t) t ++ drop (length t) l → length t ≤ length l
+    → Delivered (answer t) l (toZ w64 n) out
 unfolding written onward textWritten bufferHolds bufferAfter code
 copied t l out n e few eo h =
     let w : written (answer t) (length l) ≡ answer (length t) = simp (le-leb _ _ h) in
@@ -70,7 +71,8 @@ pub same-bytes : {s t l out : List ℕ} {r : ℤ} → mag r < 2 ^ 63 → s ≡ t
 same-bytes {s} {t} {l} {out} {r} ok e p = back ok (subst (λ (x : List ℕ). Delivered (answer x) l r out) e p)
 
 module _ {A : Type 0} (bytes : A → List ℕ) {r : ℤ} (ok : mag r < 2 ^ 63) where
-  pub delivered-answer : {o : Outcome A} {l out : List ℕ} (a : A) → o ≡ answer a → Delivered (answer (bytes a)) l r out → Delivered (inBytes bytes o) l (toZ w64 (ofZ w64 r)) out
+  pub delivered-answer : {o : Outcome A} {l out : List ℕ} (a : A) → o ≡ answer a → Delivered (answer (bytes a)) l r out
+      → Delivered (inBytes bytes o) l (toZ w64 (ofZ w64 r)) out
   unfolding inBytes onward
   delivered-answer {o} {l} {out} a e p = back ok (subst (λ (x : Outcome A). Delivered (inBytes bytes x) l r out) (sym e) p)
 
@@ -78,7 +80,8 @@ module _ {A : Type 0} (bytes : A → List ℕ) {r : ℤ} (ok : mag r < 2 ^ 63) w
   unfolding inBytes onward written bufferHolds
   refused-on {o} {l} k e c = back ok (subst (λ (x : Outcome A). Delivered (inBytes bytes x) l r l) (sym e) (record { returned = c; holds = refl }))
 
-  pub same-outcome : {o o′ : Outcome A} {l out : List ℕ} → o ≡ o′ → Delivered (inBytes bytes o) l r out → Delivered (inBytes bytes o′) l (toZ w64 (ofZ w64 r)) out
+  pub same-outcome : {o o′ : Outcome A} {l out : List ℕ} → o ≡ o′ → Delivered (inBytes bytes o) l r out
+      → Delivered (inBytes bytes o′) l (toZ w64 (ofZ w64 r)) out
   same-outcome {o} {o′} {l} {out} e p = back ok (subst (λ (x : Outcome A). Delivered (inBytes bytes x) l r out) e p)
 
 -- ---- a call that answers nothing but that it refuses nothing

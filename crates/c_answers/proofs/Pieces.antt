@@ -43,22 +43,28 @@ module _ (s t l m part : List ℕ) (a : ℕ) (e : length s ≡ a) (first : m ≡
   none-behind = ap (λ (k : ℕ). drop k (drop a m)) count ∙ drop-length (drop a m)
 
   -- s stands at the start, and t was put behind it
-  pub behind : {r : ℤ} → a + length t ≤ length l → Delivered (answer t) (midOf a (length m - a) m) r part → putMid a (length m - a) m part ≡ (s ++ t) ++ drop (a + length t) l
+  pub behind : {r : ℤ} → a + length t ≤ length l → Delivered (answer t) (midOf a (length m - a) m) r part → putMid a (length m - a) m part ≡ (s ++ t)
+      ++ drop (a + length t) l
   behind room p =
       let fits : length t ≤ length (midOf a (length m - a) m) = omega (arith, ap length lent, length-drop a l) in
       let start : take a m ≡ s = ap (take a) first ∙ take-at s (drop a l) a e in
-      let put : part ≡ t ++ drop (a + length t) l = held fits p ∙ ap (λ (x : List ℕ). t ++ drop (length t) x) lent ∙ ap (λ (x : List ℕ). t ++ x) (drop-drop (length t) a l) in
+      let put : part ≡ t ++ drop (a + length t) l = held fits p ∙ ap (λ (x : List ℕ). t ++ drop (length t) x) lent
+      ∙ ap (λ (x : List ℕ). t ++ x) (drop-drop (length t) a l) in
       (λ i. start i ++ (put i ++ none-behind i)) ∙ ap (λ (x : List ℕ). s ++ x) (append-nil _) ∙ sym (append-assoc s t (drop (a + length t) l))
 
 -- an answer in two pieces, and in three
-pub in-two : (s t l m part : List ℕ) {r r' : ℤ} (a n : ℕ) → length s ≡ a → a + length t ≡ n → n ≤ length l → Delivered (answer s) l r m → Delivered (answer t) (midOf a (length m - a) m) r' part → Delivered (answer (s ++ t)) l (pos n) (putMid a (length m - a) m part)
+pub in-two : (s t l m part : List ℕ) {r r' : ℤ} (a n : ℕ) → length s ≡ a → a + length t ≡ n → n ≤ length l → Delivered (answer s) l r m
+    → Delivered (answer t) (midOf a (length m - a) m) r' part → Delivered (answer (s ++ t)) l (pos n) (putMid a (length m - a) m part)
 in-two s t l m part a n e all room p q =
     let first : m ≡ s ++ drop a l = held (omega (arith, e)) p ∙ ap (λ (k : ℕ). s ++ drop k l) e in
     delivered-whole n (length-append s t ∙ omega (arith, e)) room (behind s t l m part a e first (omega arith) q ∙ ap (λ (k : ℕ). (s ++ t) ++ drop k l) all)
 
-pub in-three : (s t u l m m' part part' : List ℕ) {r r' r'' : ℤ} (a b n : ℕ) → length s ≡ a → a + length t ≡ b → b + length u ≡ n → n ≤ length l → Delivered (answer s) l r m → Delivered (answer t) (midOf a (length m - a) m) r' part → m' ≡ putMid a (length m - a) m part → Delivered (answer u) (midOf b (length m' - b) m') r'' part' → Delivered (answer ((s ++ t) ++ u)) l (pos n) (putMid b (length m' - b) m' part')
+pub in-three : (s t u l m m' part part' : List ℕ) {r r' r'' : ℤ} (a b n : ℕ) → length s ≡ a → a + length t ≡ b → b + length u ≡ n → n ≤ length l
+    → Delivered (answer s) l r m → Delivered (answer t) (midOf a (length m - a) m) r' part → m' ≡ putMid a (length m - a) m part
+    → Delivered (answer u) (midOf b (length m' - b) m') r'' part' → Delivered (answer ((s ++ t) ++ u)) l (pos n) (putMid b (length m' - b) m' part')
 in-three s t u l m m' part part' a b n e ab all room p q em w =
     let first : m ≡ s ++ drop a l = held (omega (arith, e)) p ∙ ap (λ (k : ℕ). s ++ drop k l) e in
     let second : m' ≡ (s ++ t) ++ drop b l = em ∙ behind s t l m part a e first (omega arith) q ∙ ap (λ (k : ℕ). (s ++ t) ++ drop k l) ab in
     let st : length (s ++ t) ≡ b = length-append s t ∙ omega (arith, e) in
-    delivered-whole n (length-append (s ++ t) u ∙ omega (arith, st)) room (behind (s ++ t) u l m' part' b st second (omega arith) w ∙ ap (λ (k : ℕ). ((s ++ t) ++ u) ++ drop k l) all)
+    delivered-whole n (length-append (s ++ t) u ∙ omega (arith, st)) room
+    (behind (s ++ t) u l m' part' b st second (omega arith) w ∙ ap (λ (k : ℕ). ((s ++ t) ++ u) ++ drop k l) all)

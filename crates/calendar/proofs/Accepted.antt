@@ -30,8 +30,10 @@ month-days y (negsuc m) e = let z : _≡_ {A = ℕ} 0 1 = cc in absurd (omega ar
 
 pub short : (b : Bool) (m : ℕ) → 1 ≤ m → m ≤ 12 → lengths b m ≤ 31
 unfolding lengths
-short true = months (λ m. lengths true m ≤ 31) (omega arith) (omega arith) (omega arith) (omega arith) (omega arith) (omega arith) (omega arith) (omega arith) (omega arith) (omega arith) (omega arith) (omega arith)
-short false = months (λ m. lengths false m ≤ 31) (omega arith) (omega arith) (omega arith) (omega arith) (omega arith) (omega arith) (omega arith) (omega arith) (omega arith) (omega arith) (omega arith) (omega arith)
+short true = months (λ m. lengths true m ≤ 31) (omega arith) (omega arith) (omega arith) (omega arith) (omega arith) (omega arith) (omega arith) (omega arith)
+    (omega arith) (omega arith) (omega arith) (omega arith)
+short false = months (λ m. lengths false m ≤ 31) (omega arith) (omega arith) (omega arith) (omega arith) (omega arith) (omega arith) (omega arith)
+    (omega arith) (omega arith) (omega arith) (omega arith) (omega arith)
 
 pub below-one : (y m : ℤ) → ltZ m (pos 1) ≡ true → 0 ≡ daysInMonth y m
 unfolding daysInMonth lengths
@@ -42,8 +44,10 @@ below-one y (negsuc n) e = refl
 -- a number is a month exactly if it has days
 has-days : (b : Bool) (m : ℕ) → 1 ≤ m → m ≤ 12 → 1 ≤ lengths b m
 unfolding lengths
-has-days true = months (λ m. 1 ≤ lengths true m) (omega arith) (omega arith) (omega arith) (omega arith) (omega arith) (omega arith) (omega arith) (omega arith) (omega arith) (omega arith) (omega arith) (omega arith)
-has-days false = months (λ m. 1 ≤ lengths false m) (omega arith) (omega arith) (omega arith) (omega arith) (omega arith) (omega arith) (omega arith) (omega arith) (omega arith) (omega arith) (omega arith) (omega arith)
+has-days true = months (λ m. 1 ≤ lengths true m) (omega arith) (omega arith) (omega arith) (omega arith) (omega arith) (omega arith) (omega arith)
+    (omega arith) (omega arith) (omega arith) (omega arith) (omega arith)
+has-days false = months (λ m. 1 ≤ lengths false m) (omega arith) (omega arith) (omega arith) (omega arith) (omega arith) (omega arith) (omega arith)
+    (omega arith) (omega arith) (omega arith) (omega arith) (omega arith)
 
 pub no-month : (y m : ℤ) → daysInMonth y m ≡ 0 → ltZ m (pos 1) || ltZ (pos 12) m ≡ true
 unfolding daysInMonth
@@ -57,7 +61,8 @@ no-month y (pos m) e = go (ltb m 1) refl (ltb 12 m) refl
 
 a-month-number : (b : Bool) (m : ℕ) → (lengths b m ≡ 0 → ⊥) → ltZ (pos m) (pos 1) || ltZ (pos 12) (pos m) ≡ false
 unfolding lengths
-a-month-number b = numbers (λ m. (lengths b m ≡ 0 → ⊥) → ltZ (pos m) (pos 1) || ltZ (pos 12) (pos m) ≡ false) (λ e. absurd (e refl)) (λ e. refl) (λ e. refl) (λ e. refl) (λ e. refl) (λ e. refl) (λ e. refl) (λ e. refl) (λ e. refl) (λ e. refl) (λ e. refl) (λ e. refl) (λ e. refl) (λ n e. absurd (e refl))
+a-month-number b = numbers (λ m. (lengths b m ≡ 0 → ⊥) → ltZ (pos m) (pos 1) || ltZ (pos 12) (pos m) ≡ false) (λ e. absurd (e refl)) (λ e. refl) (λ e. refl)
+    (λ e. refl) (λ e. refl) (λ e. refl) (λ e. refl) (λ e. refl) (λ e. refl) (λ e. refl) (λ e. refl) (λ e. refl) (λ e. refl) (λ n e. absurd (e refl))
 
 pub a-month : (y m : ℤ) → (daysInMonth y m ≡ 0 → ⊥) → ltZ m (pos 1) || ltZ (pos 12) m ≡ false
 unfolding daysInMonth
@@ -78,11 +83,13 @@ module _ (y m d : ℤ) where
   unfolding validDate
   low-day-refused p q r = rw (p, a-month y m q, r)
 
-  pub high-day-refused : ltZ y (negsuc 4798) ≡ false → (daysInMonth y m ≡ 0 → ⊥) → ltZ d (pos 1) ≡ false → ltZ (pos (daysInMonth y m)) d ≡ true → refusal 3 ≡ validDate y m d
+  pub high-day-refused : ltZ y (negsuc 4798) ≡ false → (daysInMonth y m ≡ 0 → ⊥) → ltZ d (pos 1) ≡ false → ltZ (pos (daysInMonth y m)) d ≡ true
+      → refusal 3 ≡ validDate y m d
   unfolding validDate
   high-day-refused p q r s = rw (p, a-month y m q, r, s)
 
-  pub not-refused : ltZ y (negsuc 4798) ≡ false → (daysInMonth y m ≡ 0 → ⊥) → ltZ d (pos 1) ≡ false → ltZ (pos (daysInMonth y m)) d ≡ false → answer tt ≡ validDate y m d
+  pub not-refused : ltZ y (negsuc 4798) ≡ false → (daysInMonth y m ≡ 0 → ⊥) → ltZ d (pos 1) ≡ false → ltZ (pos (daysInMonth y m)) d ≡ false
+      → answer tt ≡ validDate y m d
   unfolding validDate
   not-refused p q r s = rw (p, a-month y m q, r, s)
 
@@ -94,7 +101,8 @@ pub up-to-last : (n k : ℕ) (d : ℤ) → ltZ d (pos 1) ≡ false → k ≡ n �
 up-to-last n k d p e h = rw (at-least-one d p .0) (le-ltb n (natAbs d) (omega arith))
 
 -- ---- a date that is not refused
-all-false : (a b c d e : Bool) → _≡_ {A = Outcome Unit} (cond a (refusal 1) (cond (b || c) (refusal 2) (cond (d || e) (refusal 3) (answer tt)))) (answer tt) → (a ≡ false) × (b ≡ false) × (c ≡ false) × (d ≡ false) × (e ≡ false)
+all-false : (a b c d e : Bool) → _≡_ {A = Outcome Unit} (cond a (refusal 1) (cond (b || c) (refusal 2) (cond (d || e) (refusal 3) (answer tt)))) (answer tt)
+    → (a ≡ false) × (b ≡ false) × (c ≡ false) × (d ≡ false) × (e ≡ false)
 all-false true b c d e h = let z : _≡_ {A = ℕ} 0 1 = cc in absurd (omega arith)
 all-false false true c d e h = let z : _≡_ {A = ℕ} 0 1 = cc in absurd (omega arith)
 all-false false false true d e h = let z : _≡_ {A = ℕ} 0 1 = cc in absurd (omega arith)
@@ -131,17 +139,25 @@ date-accepted y m d e =
     }
 
 -- ---- a date of the calendar is refused only for its year
-pub in-calendar-valid : (t : CalendarDate) → InCalendar t → ltZ (t .year) (negsuc 4798) ≡ false → validDate (t .year) (pos (t .month)) (pos (t .day)) ≡ answer tt
+pub in-calendar-valid : (t : CalendarDate) → InCalendar t → ltZ (t .year) (negsuc 4798) ≡ false
+    → validDate (t .year) (pos (t .month)) (pos (t .day)) ≡ answer tt
 unfolding validDate daysInMonth
 in-calendar-valid t g e =
-    rw (e, le-ltb (t .month) 1 (g .m-low), le-ltb 12 (t .month) (g .m-high), le-ltb (t .day) 1 (g .d-low), le-ltb (monthLength (t .year) (t .month)) (t .day) (g .d-high))
+    rw (
+      e,
+      le-ltb (t .month) 1 (g .m-low),
+      le-ltb 12 (t .month) (g .m-high),
+      le-ltb (t .day) 1 (g .d-low),
+      le-ltb (monthLength (t .year) (t .month)) (t .day) (g .d-high),
+    )
 
 -- ---- the machine hands a call its arguments read back from their bits
 pub read-two : (y m : ℤ) → SFits w32 y → SFits w32 m → daysInMonth (toZ w32 (ofZ w32 y)) (toZ w32 (ofZ w32 m)) ≡ daysInMonth y m
 read-two y m f g = λ i. daysInMonth (toZ-ofZ f i) (toZ-ofZ g i)
 
 -- what the check says, at a call
-module _ (y m d : ℤ) (f : SFits w32 y) (g : SFits w32 m) (h : SFits w32 d) (r : DateCheck) (e : checkOutcome r ≡ validDate (toZ w32 (ofZ w32 y)) (toZ w32 (ofZ w32 m)) (toZ w32 (ofZ w32 d))) where
+module _ (y m d : ℤ) (f : SFits w32 y) (g : SFits w32 m) (h : SFits w32 d) (r : DateCheck)
+    (e : checkOutcome r ≡ validDate (toZ w32 (ofZ w32 y)) (toZ w32 (ofZ w32 m)) (toZ w32 (ofZ w32 d))) where
   pub is-valid : r ≡ Check.Valid → validDate y m d ≡ answer tt
   unfolding checkOutcome
   is-valid p = sym (ap checkOutcome (sym p) ∙ e ∙ read-date validDate y m d f g h)

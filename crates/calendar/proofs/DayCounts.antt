@@ -25,7 +25,8 @@ at400 y = omega arith
 three : (y : ℕ) → 3 * ((y + 100) / 100) / 4 + y / 400 ≡ y / 100
 three y = omega arith
 
-sum : (y s q4 q100 q400 a4 a100 a400 f t m d e : ℕ) → s + a100 ≡ 365 * (y + 400) + a4 + a400 → a4 ≡ q4 + 100 → a100 ≡ q100 + 4 → a400 ≡ q400 + 1 → f ≡ 365 * y + q4 → t + q400 ≡ q100 → e + 31 ≡ s + m + d → t ≤ f → f + m - t + d + 146066 ≡ e
+sum : (y s q4 q100 q400 a4 a100 a400 f t m d e : ℕ) → s + a100 ≡ 365 * (y + 400) + a4 + a400 → a4 ≡ q4 + 100 → a100 ≡ q100 + 4 → a400 ≡ q400 + 1
+    → f ≡ 365 * y + q4 → t + q400 ≡ q100 → e + 31 ≡ s + m + d → t ≤ f → f + m - t + d + 146066 ≡ e
 sum y s q4 q100 q400 a4 a100 a400 f t m d e p1 p2 p3 p4 p5 p6 p7 p8 = omega arith
 
 t-small : (y : ℕ) → 3 * ((y + 100) / 100) / 4 ≤ 1461 * y / 4
@@ -33,7 +34,8 @@ t-small y = omega arith
 
 pub march-count : (y m d : ℕ) → 1 ≤ m → 1 ≤ d → marchCount y m d + 146066 ≡ daysBefore (y + 400) m d
 march-count y m d h k =
-    sum y (daysBeforeYear (y + 400)) (y / 4) (y / 100) (y / 400) ((y + 400) / 4) ((y + 400) / 100) ((y + 400) / 400) (1461 * y / 4) (3 * ((y + 100) / 100) / 4) (367 * m / 12) d (daysBefore (y + 400) m d)
+    sum y (daysBeforeYear (y + 400)) (y / 4) (y / 100) (y / 400) ((y + 400) / 4) ((y + 400) / 100) ((y + 400) / 400) (1461 * y / 4)
+    (3 * ((y + 100) / 100) / 4) (367 * m / 12) d (daysBefore (y + 400) m d)
     (before-year-is (y + 400)) (at4 y) (at100 y) (at400 y) (years y) (three y) (before-is (y + 400) m d h k) (t-small y)
 
 -- the date, month by month: y is the year + 4800
@@ -74,7 +76,8 @@ module _ (y d : ℕ) (h : 1 ≤ y) (l : 1 ≤ d) where
       (λ g. spring y 10 d (ok (y + 400) 10 d (omega arith) (omega arith) l g) ∙ late 12)
 
 -- the count less that of MJD 0 is k - 2578142, where day k after -5200-03-01 has the date
-pub count-of-date : (y : ℕ) (year : ℤ) (m d : ℕ) → pos y ≡ year +ℤ pos 4800 → 1 ≤ y → 1 ≤ m → m ≤ 12 → 1 ≤ d → d ≤ lengths (leapYear year) m → (subℕ (civilCount y m d) 2432076 ≡ subℕ (civilCount y m d + 146066) 2578142) × (dateAt (civilCount y m d + 146066) ≡ date year m d)
+pub count-of-date : (y : ℕ) (year : ℤ) (m d : ℕ) → pos y ≡ year +ℤ pos 4800 → 1 ≤ y → 1 ≤ m → m ≤ 12 → 1 ≤ d → d ≤ lengths (leapYear year) m
+    → (subℕ (civilCount y m d) 2432076 ≡ subℕ (civilCount y m d + 146066) 2578142) × (dateAt (civilCount y m d + 146066) ≡ date year m d)
 count-of-date y year m d e h a b l g = (
   sym (sub-shift (civilCount y m d) 2432076 146066),
   (count-right y d h l m a b (subst (λ (t : Bool). d ≤ lengths t m) (ap leapYear (sym is ∙ sym (sub-shift y 4800 400)) ∙ leap-same (y + 400)) g))

@@ -1,5 +1,5 @@
--- Document 01's sentence on day numbers: day 2451545 is 2000-01-01, each number one more is the next date, and no two numbers share a date. Every date of a day number
--- has a month 1 to 12 and a day of that month.
+-- Document 01's sentence on day numbers: day 2451545 is 2000-01-01, each number one more is the next date, and no two numbers share a date. Every date of a day
+-- number has a month 1 to 12 and a day of that month.
 -- Assumes nothing.
 use mathlib.Core.Path.{_≡_, refl, ap, sym, subst, _∙_}
 use mathlib.Core.Bool.{Bool, true, false, cond}
@@ -120,4 +120,5 @@ civil-in-calendar y d l =
 pub date-at-in-calendar : (k : ℕ) → InCalendar (dateAt k)
 date-at-in-calendar k =
     let v = march-at k .0 in
-    subst (λ (t : CalendarDate). InCalendar t) (sym (in-step k)) (civil-in-calendar (marchAt k .y) (marchAt k .d) (v .d-low) (marchAt k .m) (v .m-low) (v .m-high) (v .d-high))
+    subst (λ (t : CalendarDate). InCalendar t) (sym (in-step k))
+    (civil-in-calendar (marchAt k .y) (marchAt k .d) (v .d-low) (marchAt k .m) (v .m-low) (v .m-high) (v .d-high))

@@ -8,7 +8,8 @@ use mathlib.Core.Bool.{Bool, true, false}
 use native.Mathlib.Decide.{decLt}
 use Rattle.calendar.specs.Calendar.{leapSize}
 use Rattle.calendar.proofs.Months.{months}
-use Rattle.calendar.proofs.March.{daysBeforeYear, before-year-is, before-year-next, daysBefore, before-is, Valid, marchLength, month-length, february-length, extra}
+use Rattle.calendar.proofs.March.{daysBeforeYear, before-year-is, before-year-next, daysBefore, before-is, Valid, marchLength, month-length}
+use Rattle.calendar.proofs.March.{february-length, extra}
 
 -- the start of century n
 abbrev pub centuryStart : ℕ → ℕ
@@ -47,19 +48,22 @@ cent n = omega arith
 pub years : (i : ℕ) → 1461 * i / 4 ≡ 365 * i + i / 4
 years i = omega arith
 
-sum : (s n i q4 q100 q400 r e c f : ℕ) → s + q100 ≡ 365 * (100 * n + i + 300) + q4 + q400 → q4 ≡ 25 * n + 75 + r → q100 ≡ n + 3 → q400 ≡ e → c ≡ 36524 * n + e → f ≡ 365 * i + r → s ≡ 109572 + c + f
+sum : (s n i q4 q100 q400 r e c f : ℕ) → s + q100 ≡ 365 * (100 * n + i + 300) + q4 + q400 → q4 ≡ 25 * n + 75 + r → q100 ≡ n + 3 → q400 ≡ e → c ≡ 36524 * n + e
+    → f ≡ 365 * i + r → s ≡ 109572 + c + f
 sum s n i q4 q100 q400 r e c f p q u v w x = omega arith
 
 pub s-at : (n i : ℕ) → i ≤ 99 → daysBeforeYear (100 * n + i + 300) ≡ 109572 + centuryStart n + 1461 * i / 4
 s-at n i h =
-    sum (daysBeforeYear (100 * n + i + 300)) n i ((100 * n + i + 300) / 4) ((100 * n + i + 300) / 100) ((100 * n + i + 300) / 400) (i / 4) ((n + 3) / 4) (centuryStart n) (1461 * i / 4)
+    sum (daysBeforeYear (100 * n + i + 300)) n i ((100 * n + i + 300) / 4) ((100 * n + i + 300) / 100) ((100 * n + i + 300) / 400) (i / 4) ((n + 3) / 4)
+    (centuryStart n) (1461 * i / 4)
     (before-year-is (100 * n + i + 300)) (at4 n i) (at100 n i h) (at400 n i h) (cent n) (years i)
 
 pub month-same : (k : ℕ) → 1 ≤ k → k ≤ 12 → 2447 * k / 80 ≡ 367 * k / 12
 month-same = months (λ k. 2447 * k / 80 ≡ 367 * k / 12) refl refl refl refl refl refl refl refl refl refl refl refl
 
 -- the year's end is after the day: year i of century n, l days after -4900-03-01
-year-end : (n i : ℕ) → i ≤ 99 → daysBeforeYear (100 * n + i + 300 + 1) ≡ 109572 + centuryStart n + 1461 * (i + 1) / 4 ⊎ ((i ≡ 99) × (daysBeforeYear (100 * n + i + 300 + 1) ≡ 109572 + centuryStart (n + 1)))
+year-end : (n i : ℕ) → i ≤ 99 → daysBeforeYear (100 * n + i + 300 + 1) ≡ 109572 + centuryStart n + 1461 * (i + 1) / 4
+    ⊎ ((i ≡ 99) × (daysBeforeYear (100 * n + i + 300 + 1) ≡ 109572 + centuryStart (n + 1)))
 year-end n i h = go (decLt i 99)
   where
     same : 100 * n + i + 300 + 1 ≡ 100 * n + (i + 1) + 300
@@ -68,7 +72,8 @@ year-end n i h = go (decLt i 99)
     over : i ≡ 99 → 100 * n + i + 300 + 1 ≡ 100 * (n + 1) + 0 + 300
     over e = omega arith
 
-    go : Dec (i < 99) → daysBeforeYear (100 * n + i + 300 + 1) ≡ 109572 + centuryStart n + 1461 * (i + 1) / 4 ⊎ ((i ≡ 99) × (daysBeforeYear (100 * n + i + 300 + 1) ≡ 109572 + centuryStart (n + 1)))
+    go : Dec (i < 99) → daysBeforeYear (100 * n + i + 300 + 1) ≡ 109572 + centuryStart n + 1461 * (i + 1) / 4
+        ⊎ ((i ≡ 99) × (daysBeforeYear (100 * n + i + 300 + 1) ≡ 109572 + centuryStart (n + 1)))
     go (yes k) = inl (ap daysBeforeYear same ∙ s-at n (i + 1) (omega arith))
     go (no k) =
         let e : i ≡ 99 = omega arith in
@@ -77,7 +82,8 @@ year-end n i h = go (decLt i 99)
         plain : (c : ℕ) → 109572 + c + 1461 * 0 / 4 ≡ 109572 + c
         plain c = omega arith
 
-below : (l n i : ℕ) → i ≤ 99 → l < centuryStart (n + 1) → l - centuryStart n < 1461 * (i + 1) / 4 → centuryStart n ≤ l → l + 109572 < daysBeforeYear (100 * n + i + 300 + 1)
+below : (l n i : ℕ) → i ≤ 99 → l < centuryStart (n + 1) → l - centuryStart n < 1461 * (i + 1) / 4 → centuryStart n ≤ l
+    → l + 109572 < daysBeforeYear (100 * n + i + 300 + 1)
 below l n i h p q r = ⊎-elim (λ e. first (centuryStart n) (1461 * (i + 1) / 4) e q r) (λ e. second (centuryStart (n + 1)) (e .1) p) (year-end n i h)
   where
     first : (c f : ℕ) → daysBeforeYear (100 * n + i + 300 + 1) ≡ 109572 + c + f → l - c < f → c ≤ l → l + 109572 < daysBeforeYear (100 * n + i + 300 + 1)
@@ -94,16 +100,19 @@ k-range : (b k : ℕ) → 31 ≤ b → b ≤ 396 → 2447 * k ≤ 80 * b → 80 
 k-range b k l h p q = omega arith
 
 day-low : (b k : ℕ) → 1 ≤ k → k ≤ 12 → 2447 * k ≤ 80 * b → 2447 * k / 80 < b
-day-low b = months (λ k. 2447 * k ≤ 80 * b → 2447 * k / 80 < b) (λ p. omega arith) (λ p. omega arith) (λ p. omega arith) (λ p. omega arith) (λ p. omega arith) (λ p. omega arith) (λ p. omega arith) (λ p. omega arith) (λ p. omega arith) (λ p. omega arith) (λ p. omega arith) (λ p. omega arith)
+day-low b = months (λ k. 2447 * k ≤ 80 * b → 2447 * k / 80 < b) (λ p. omega arith) (λ p. omega arith) (λ p. omega arith) (λ p. omega arith) (λ p. omega arith)
+    (λ p. omega arith) (λ p. omega arith) (λ p. omega arith) (λ p. omega arith) (λ p. omega arith) (λ p. omega arith) (λ p. omega arith)
 
 -- the code's month, by a shift
 month-by-shift : (b k : ℕ) → 1 ≤ k → k ≤ 12 → 2447 * k ≤ 80 * b → 80 * b < 2447 * (k + 1) → (535 * b + 130) / 16384 ≡ k
 month-by-shift b = months (λ k. 2447 * k ≤ 80 * b → 80 * b < 2447 * (k + 1) → (535 * b + 130) / 16384 ≡ k)
-    (λ p q. omega arith) (λ p q. omega arith) (λ p q. omega arith) (λ p q. omega arith) (λ p q. omega arith) (λ p q. omega arith) (λ p q. omega arith) (λ p q. omega arith) (λ p q. omega arith) (λ p q. omega arith) (λ p q. omega arith) (λ p q. omega arith)
+    (λ p q. omega arith) (λ p q. omega arith) (λ p q. omega arith) (λ p q. omega arith) (λ p q. omega arith) (λ p q. omega arith) (λ p q. omega arith)
+    (λ p q. omega arith) (λ p q. omega arith) (λ p q. omega arith) (λ p q. omega arith) (λ p q. omega arith)
 
 -- and what it makes of a month
 pub month-shifts : (k : ℕ) → 1 ≤ k → k ≤ 12 → ((k + 5) / 16 ≡ k / 11) × (979 * k / 32 ≡ 2447 * k / 80)
-month-shifts = months (λ k. ((k + 5) / 16 ≡ k / 11) × (979 * k / 32 ≡ 2447 * k / 80)) (refl, refl) (refl, refl) (refl, refl) (refl, refl) (refl, refl) (refl, refl) (refl, refl) (refl, refl) (refl, refl) (refl, refl) (refl, refl) (refl, refl)
+month-shifts = months (λ k. ((k + 5) / 16 ≡ k / 11) × (979 * k / 32 ≡ 2447 * k / 80)) (refl, refl) (refl, refl) (refl, refl) (refl, refl) (refl, refl)
+    (refl, refl) (refl, refl) (refl, refl) (refl, refl) (refl, refl) (refl, refl) (refl, refl)
 
 day-high : (b k : ℕ) → 80 * b < 2447 * (k + 1) → b ≤ 2447 * (k + 1) / 80
 day-high b k p = omega arith
@@ -171,7 +180,8 @@ year-sum : (l n i o : ℕ) → n ≡ 4 * l / 146097 → l ≤ 1000068569 → i �
 year-sum l n i o e h p q = omega arith
 
 -- the divisions-give-date: l days after -4900-03-01, as the Rust divides it
-module _ (l n a i b k : ℕ) (en : n ≡ 4 * l / 146097) (ea : a ≡ l - centuryStart n) (ei : i ≡ 4000 * (a + 1) / 1461001) (eb : b ≡ a + 31 - 1461 * i / 4) (ek : k ≡ 80 * b / 2447) where
+module _ (l n a i b k : ℕ) (en : n ≡ 4 * l / 146097) (ea : a ≡ l - centuryStart n) (ei : i ≡ 4000 * (a + 1) / 1461001) (eb : b ≡ a + 31 - 1461 * i / 4)
+    (ek : k ≡ 80 * b / 2447) where
   pub c-low : centuryStart n ≤ l
   c-low = subst (λ (j : ℕ). centuryStart j ≤ l) (sym en) (cent-low l)
 

@@ -26,7 +26,8 @@ march-date-by-division y d =
 shifted : (n i o : ℕ) → 100 * n + i + o + 300 ≡ 100 * n + i + 300 + o
 shifted n i o = omega arith
 
-module _ (l n a i b k : ℕ) (en : n ≡ 4 * l / 146097) (ea : a ≡ l - centuryStart n) (ei : i ≡ 4000 * (a + 1) / 1461001) (eb : b ≡ a + 31 - 1461 * i / 4) (ek : k ≡ 80 * b / 2447) where
+module _ (l n a i b k : ℕ) (en : n ≡ 4 * l / 146097) (ea : a ≡ l - centuryStart n) (ei : i ≡ 4000 * (a + 1) / 1461001) (eb : b ≡ a + 31 - 1461 * i / 4)
+    (ek : k ≡ 80 * b / 2447) where
   v : Valid (100 * n + i + 300) k (b - 2447 * k / 80)
   v = good l n a i b k en ea ei eb ek
 
@@ -39,7 +40,8 @@ module _ (l n a i b k : ℕ) (en : n ≡ 4 * l / 146097) (ea : a ≡ l - century
       ∙ march-date-by-division (100 * n + i + 300) (b - 2447 * k / 80) k (v .m-low) (v .m-high))
 
 -- the same by the code's shifts
-module _ (l n a i b m : ℕ) (en : n ≡ 4 * l / 146097) (ea : a ≡ l - centuryStart n) (ei : i ≡ 4000 * (a + 1) / 1461001) (eb : b ≡ a + 31 - 1461 * i / 4) (em : m ≡ (535 * b + 130) / 16384) where
+module _ (l n a i b m : ℕ) (en : n ≡ 4 * l / 146097) (ea : a ≡ l - centuryStart n) (ei : i ≡ 4000 * (a + 1) / 1461001) (eb : b ≡ a + 31 - 1461 * i / 4)
+    (em : m ≡ (535 * b + 130) / 16384) where
   k : ℕ
   k = 80 * b / 2447
 

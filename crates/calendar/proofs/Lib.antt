@@ -1,5 +1,5 @@
--- The laws of the calendar, in the order in which they are proved. `Days`, `Unique`, `Years`, `Gregorian`, `Mjd` and `NextDates` state what the definitions mean;
--- the files before them count the days of a calendar that begins in March, and the others tie the code's arithmetic to the definitions.
+-- The laws of the calendar, in the order in which they are proved. `Days`, `Unique`, `Years`, `Gregorian`, `Mjd` and `NextDates` state what the definitions
+-- mean; the files before them count the days of a calendar that begins in March, and the others tie the code's arithmetic to the definitions.
 pub mod Months
 pub mod Signs
 pub mod March

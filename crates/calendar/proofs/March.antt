@@ -1,5 +1,5 @@
--- The calendar with March first, over ℕ: year y runs from March of y to February of y + 1. Its count of days is one formula, which grows by one a day, so that no two dates have one count.
--- Assumes nothing.
+-- The calendar with March first, over ℕ: year y runs from March of y to February of y + 1. Its count of days is one formula, which grows by one a day, so that
+-- no two dates have one count. Assumes nothing.
 use mathlib.Core.Path.{_≡_, refl, ap, sym, subst, _∙_}
 use mathlib.Core.Bool.{Bool, true, false, cond, not, _&&_, _||_}
 use Prim.Native.Nat.{ℕ, zero, suc, _+_, _-_, _*_, _/_, _%_, _≤_, _<_}
@@ -55,12 +55,14 @@ unfolding leapSize
 before-year-next y = go (eqb ((y + 1) % 400) 0) refl (eqb ((y + 1) % 4) 0) refl (eqb ((y + 1) % 100) 0) refl
   where
     put : (e : ℕ) → (y + 1) / 4 + (y + 1) / 400 + y / 100 ≡ y / 4 + y / 400 + (y + 1) / 100 + e → daysBeforeYear (y + 1) ≡ daysBeforeYear y + 365 + e
-    put e r = sum y (daysBeforeYear y) (daysBeforeYear (y + 1)) (y / 4) (y / 100) (y / 400) ((y + 1) / 4) ((y + 1) / 100) ((y + 1) / 400) e (before-year-is y) (before-year-is (y + 1)) r
+    put e r = sum y (daysBeforeYear y) (daysBeforeYear (y + 1)) (y / 4) (y / 100) (y / 400) ((y + 1) / 4) ((y + 1) / 100) ((y + 1) / 400) e (before-year-is y)
+        (before-year-is (y + 1)) r
 
     z400 : eqb ((y + 1) % 400) 0 ≡ true → (y + 1) % 400 ≡ 0
     z400 p = eqb-true _ _ p
 
-    go : (a : Bool) → eqb ((y + 1) % 400) 0 ≡ a → (b : Bool) → eqb ((y + 1) % 4) 0 ≡ b → (c : Bool) → eqb ((y + 1) % 100) 0 ≡ c → daysBeforeYear (y + 1) ≡ daysBeforeYear y + 365 + extra (a || (b && not c))
+    go : (a : Bool) → eqb ((y + 1) % 400) 0 ≡ a → (b : Bool) → eqb ((y + 1) % 4) 0 ≡ b → (c : Bool) → eqb ((y + 1) % 100) 0 ≡ c
+        → daysBeforeYear (y + 1) ≡ daysBeforeYear y + 365 + extra (a || (b && not c))
     go true p b q c r = put 1 (rw (up4 y (by4 _ (by100 _ (z400 p))), up100 y (by100 _ (z400 p)), up400 y (z400 p)) (omega arith))
     go false p true q true r = put 0 (rw (up4 y (eqb-true _ _ q), up100 y (eqb-true _ _ r), no400 y (eqb-false _ _ p)) (omega arith))
     go false p true q false r = put 1 (rw (up4 y (eqb-true _ _ q), no100 y (eqb-false _ _ r), no400 y (eqb-false _ _ p)) (omega arith))
@@ -97,7 +99,8 @@ pub record Valid (y m d : ℕ) : Type 0 where
 
 pub month-length : (y m : ℕ) → 1 ≤ m → m < 12 → (367 * m) / 12 + marchLength y m ≡ (367 * (m + 1)) / 12
 unfolding marchLength lengths
-month-length y m l h = months (λ k. k < 12 → (367 * k) / 12 + marchLength y k ≡ (367 * (k + 1)) / 12) (λ _. refl) (λ _. refl) (λ _. refl) (λ _. refl) (λ _. refl) (λ _. refl) (λ _. refl) (λ _. refl) (λ _. refl) (λ _. refl) (λ _. refl) (λ q. absurd (omega arith)) m l (omega arith) h
+month-length y m l h = months (λ k. k < 12 → (367 * k) / 12 + marchLength y k ≡ (367 * (k + 1)) / 12) (λ _. refl) (λ _. refl) (λ _. refl) (λ _. refl)
+    (λ _. refl) (λ _. refl) (λ _. refl) (λ _. refl) (λ _. refl) (λ _. refl) (λ _. refl) (λ q. absurd (omega arith)) m l (omega arith) h
 
 pub february-length : (y : ℕ) → marchLength y 12 ≡ 28 + extra (leapSize (y + 1))
 unfolding marchLength lengths
@@ -122,7 +125,13 @@ pub step-month : (y m : ℕ) → 1 ≤ m → m < 12 → 1 ≤ marchLength y m �
 step-month y m h l k = omega (arith, before-is y m (marchLength y m) h k, before-is y (m + 1) 1 (omega arith) (omega arith), month-length y m h l)
 
 pub step-year : (y : ℕ) → daysBefore (y + 1) 1 1 ≡ daysBefore y 12 (marchLength y 12) + 1
-step-year y = omega (arith, before-is y 12 (marchLength y 12) (omega arith) (omega (arith, february-length y)), before-is (y + 1) 1 1 (omega arith) (omega arith), february-length y, before-year-next y)
+step-year y = omega (
+  arith,
+  before-is y 12 (marchLength y 12) (omega arith) (omega (arith, february-length y)),
+  before-is (y + 1) 1 1 (omega arith) (omega arith),
+  february-length y,
+  before-year-next y,
+)
 
 -- a date lies in its year, and in its month
 in-sum : (y m d : ℕ) → Valid y m d → (367 * m) / 12 + d ≤ 395 + extra (leapSize (y + 1))
@@ -230,7 +239,9 @@ pub next-ok : (t : MarchDate) → IsValid t → IsValid (nextMarch t) × (count 
 unfolding nextMarch
 next-ok t v = go (ltb (t .d) (marchLength (t .y) (t .m))) refl (ltb (t .m) 12) refl
   where
-    go : (a : Bool) → ltb (t .d) (marchLength (t .y) (t .m)) ≡ a → (b : Bool) → ltb (t .m) 12 ≡ b → IsValid (cond a (at (t .y) (t .m) (t .d + 1)) (cond b (at (t .y) (t .m + 1) 1) (at (t .y + 1) 1 1))) × (count (cond a (at (t .y) (t .m) (t .d + 1)) (cond b (at (t .y) (t .m + 1) 1) (at (t .y + 1) 1 1))) ≡ count t + 1)
+    go : (a : Bool) → ltb (t .d) (marchLength (t .y) (t .m)) ≡ a → (b : Bool) → ltb (t .m) 12 ≡ b
+        → IsValid (cond a (at (t .y) (t .m) (t .d + 1)) (cond b (at (t .y) (t .m + 1) 1) (at (t .y + 1) 1 1)))
+        × (count (cond a (at (t .y) (t .m) (t .d + 1)) (cond b (at (t .y) (t .m + 1) 1) (at (t .y + 1) 1 1))) ≡ count t + 1)
     go true p b q = (
       record {
         m-low = v .m-low;

@@ -29,7 +29,8 @@ unfolding mjdOf onward
 mjd-given y m d e = rw e
 
 -- the number as it is computed
-pub number-is : (y m d : ℤ) (r n m′ d′ : ℕ) → pos r ≡ y +ℤ pos 4800 → n ≡ civilCount r m′ d′ → m′ ≡ natAbs m → d′ ≡ natAbs d → pos n -ℤ pos 2432076 ≡ mjdNumber y m d
+pub number-is : (y m d : ℤ) (r n m′ d′ : ℕ) → pos r ≡ y +ℤ pos 4800 → n ≡ civilCount r m′ d′ → m′ ≡ natAbs m → d′ ≡ natAbs d
+    → pos n -ℤ pos 2432076 ≡ mjdNumber y m d
 unfolding mjdNumber
 number-is y m d r n m′ d′ p q a b = ap (λ (k : ℕ). subℕ k 2432076) (q ∙ (λ i. civilCount (natAbs (p i)) (a i) (b i)))
 
@@ -89,22 +90,26 @@ same-answer e = cc
 
 -- ---- THE TWO CONVERSIONS ARE INVERSE
 -- from a date to its MJD and back, up to day 1,000,000,000
-pub date-of-mjd : (y m d n : ℤ) → mjdOf y m d ≡ answer n → ltZ (pos 1000000000) (n +ℤ pos 2400001) ≡ false → gregorianDate (n +ℤ pos 2400001) ≡ date y (natAbs m) (natAbs d)
+pub date-of-mjd : (y m d n : ℤ) → mjdOf y m d ≡ answer n → ltZ (pos 1000000000) (n +ℤ pos 2400001) ≡ false
+    → gregorianDate (n +ℤ pos 2400001) ≡ date y (natAbs m) (natAbs d)
 date-of-mjd y m d n e h =
     let z = mjd-valid y m d n e in
     let g = mjd-meaning y m d z in
     let s : g .n ≡ n = same-answer (sym (g .given) ∙ e) in
     let c : Counted (n +ℤ pos 2400001) = subst (λ (x : ℤ). Counted (x +ℤ pos 2400001)) s (g .counted-day) in
-    let t : dateOf (n +ℤ pos 2400001) ≡ date y (natAbs m) (natAbs d) = subst (λ (x : ℤ). dateOf (x +ℤ pos 2400001) ≡ date y (natAbs m) (natAbs d)) s (g .has-date) in
+    let t : dateOf (n +ℤ pos 2400001) ≡ date y (natAbs m) (natAbs d) =
+    subst (λ (x : ℤ). dateOf (x +ℤ pos 2400001) ≡ date y (natAbs m) (natAbs d)) s (g .has-date) in
     let f = sym (year-before-first (n +ℤ pos 2400001) c) ∙ ap (λ (u : CalendarDate). ltZ (u .year) (negsuc 4798)) t ∙ date-accepted y m d z .year in
     gregorian-is-date-of-day (n +ℤ pos 2400001) (from-lower (n +ℤ pos 2400001) f) h ∙ t
 
 -- from a day number to its date and back, from -68569 to 1,000,000,000, where the date's year is from -4799
-pub mjd-of-date : (n : ℤ) → ltZ n (negsuc 68568) ≡ false → ltZ (pos 1000000000) n ≡ false → ltZ (gregorianDate n .year) (negsuc 4798) ≡ false → mjdOf (gregorianDate n .year) (pos (gregorianDate n .month)) (pos (gregorianDate n .day)) ≡ answer (n -ℤ pos 2400001)
+pub mjd-of-date : (n : ℤ) → ltZ n (negsuc 68568) ≡ false → ltZ (pos 1000000000) n ≡ false → ltZ (gregorianDate n .year) (negsuc 4798) ≡ false
+    → mjdOf (gregorianDate n .year) (pos (gregorianDate n .month)) (pos (gregorianDate n .day)) ≡ answer (n -ℤ pos 2400001)
 mjd-of-date n l h y =
     let t = gregorianDate n in
     let c = counted-from n l in
     let e = gregorian-is-date-of-day n l h in
     let f : ltZ n (negsuc 31737) ≡ false = sym (year-before-first n c) ∙ ap (λ (u : CalendarDate). ltZ (u .year) (negsuc 4798)) (sym e) ∙ y in
     let g = mjd-meaning (t .year) (pos (t .month)) (pos (t .day)) (gregorian-valid n ∙ ap (λ (b : Bool). cond b (refusal 1) (answer tt)) f) in
-    g .given ∙ ap answer (sym (+ℤ-negℤ-cancel (g .n) (pos 2400001)) ∙ ap (λ (x : ℤ). x -ℤ pos 2400001) (one-number-per-date (g .n +ℤ pos 2400001) n (g .counted-day) c (g .has-date ∙ e)))
+    g .given ∙ ap answer (sym (+ℤ-negℤ-cancel (g .n) (pos 2400001))
+    ∙ ap (λ (x : ℤ). x -ℤ pos 2400001) (one-number-per-date (g .n +ℤ pos 2400001) n (g .counted-day) c (g .has-date ∙ e)))

@@ -66,7 +66,8 @@ module _ (y m d : ℤ) (ok : validDate y m d ≡ answer tt) where
   pub next-day : natAbs d < monthLength y (natAbs m) → nextOf y m d ≡ answer (date y (natAbs m) (natAbs d + 1))
   unfolding next
   next-day h =
-      by false (third-false (leZ (pos 2147483647) y) (eqb (natAbs m) 12) (eqb (natAbs d) 31) (ne-eqb (natAbs d) 31 (λ e. omega (arith, short (leapYear y) (natAbs m) (a .m-low) (a .m-high)))))
+      by false (third-false (leZ (pos 2147483647) y) (eqb (natAbs m) 12) (eqb (natAbs d) 31)
+      (ne-eqb (natAbs d) 31 (λ e. omega (arith, short (leapYear y) (natAbs m) (a .m-low) (a .m-high)))))
       ∙ rw (lt-ltb (natAbs d) (monthLength y (natAbs m)) h)
 
   pub next-month : monthLength y (natAbs m) ≤ natAbs d → natAbs m < 12 → nextOf y m d ≡ answer (date y (natAbs m + 1) 1)

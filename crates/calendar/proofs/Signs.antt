@@ -61,7 +61,8 @@ pub read-back : (z : ℤ) → SFits w32 z → natAbs (toZ w32 (ofZ w32 z)) ≡ n
 read-back z f = ap natAbs (toZ-ofZ f)
 
 -- a call is handed its three numbers so
-pub read-date : {A : Type 0} (f : ℤ → ℤ → ℤ → A) (y m d : ℤ) → SFits w32 y → SFits w32 m → SFits w32 d → f (toZ w32 (ofZ w32 y)) (toZ w32 (ofZ w32 m)) (toZ w32 (ofZ w32 d)) ≡ f y m d
+pub read-date : {A : Type 0} (f : ℤ → ℤ → ℤ → A) (y m d : ℤ) → SFits w32 y → SFits w32 m → SFits w32 d
+    → f (toZ w32 (ofZ w32 y)) (toZ w32 (ofZ w32 m)) (toZ w32 (ofZ w32 d)) ≡ f y m d
 read-date f y m d p q r = λ i. f (toZ-ofZ p i) (toZ-ofZ q i) (toZ-ofZ r i)
 
 -- ---- a signed number that is at least -(p + 1), raised by k: a natural number
@@ -115,6 +116,7 @@ lowered n k b h l = go (ltb n k) refl
 pub sub-shift : (a b k : ℕ) → subℕ (a + k) (b + k) ≡ subℕ a b
 sub-shift a b k = go (ltb a b) refl
   where
-    go : (t : Bool) → ltb a b ≡ t → cond (ltb (a + k) (b + k)) (negsuc (b + k - suc (a + k))) (pos (a + k - (b + k))) ≡ cond t (negsuc (b - suc a)) (pos (a - b))
+    go : (t : Bool) → ltb a b ≡ t → cond (ltb (a + k) (b + k)) (negsuc (b + k - suc (a + k))) (pos (a + k - (b + k))) ≡ cond t (negsuc (b - suc a))
+        (pos (a - b))
     go true e = rw (lt-ltb (a + k) (b + k) (omega (arith, ltb-true a b e))) (ap negsuc (omega arith))
     go false e = rw (le-ltb (a + k) (b + k) (omega (arith, ltb-false a b e))) (ap pos (omega arith))

@@ -1,5 +1,5 @@
--- Document 01's sentence on day numbers has one reading: dates of the calendar, one for each day number, 2000-01-01 at 2451545, each the next of the one before. Only
--- `dateOf` is so.
+-- Document 01's sentence on day numbers has one reading: dates of the calendar, one for each day number, 2000-01-01 at 2451545, each the next of the one
+-- before. Only `dateOf` is so.
 -- Assumes nothing.
 use mathlib.Core.Path.{_≡_, refl, ap, sym, subst, _∙_}
 use mathlib.Core.Bool.{Bool, true, false, cond}
@@ -24,7 +24,8 @@ steps : (t : CalendarDate) → InCalendar t → Steps t (next t)
 unfolding next
 steps t g = go (ltb (t .day) (monthLength (t .year) (t .month))) refl (ltb (t .month) 12) refl
   where
-    go : (a : Bool) → ltb (t .day) (monthLength (t .year) (t .month)) ≡ a → (b : Bool) → ltb (t .month) 12 ≡ b → Steps t (cond a (date (t .year) (t .month) (t .day + 1)) (cond b (date (t .year) (t .month + 1) 1) (date (sucℤ (t .year)) 1 1)))
+    go : (a : Bool) → ltb (t .day) (monthLength (t .year) (t .month)) ≡ a → (b : Bool) → ltb (t .month) 12 ≡ b
+        → Steps t (cond a (date (t .year) (t .month) (t .day + 1)) (cond b (date (t .year) (t .month + 1) 1) (date (sucℤ (t .year)) 1 1)))
     go true p b q = by-day refl refl refl
     go false p true q = by-month refl refl refl (omega (arith, ltb-false (t .day) (monthLength (t .year) (t .month)) p, g .d-high))
     go false p false q =

@@ -1,5 +1,5 @@
--- The years of day numbers: they never fall, so that the year is before -4799 exactly at the numbers before -31738; and every date of `gregorianDate` has its year in
--- -4900 to 2733194, its month in 1 to 12 and its day in 1 to 31.
+-- The years of day numbers: they never fall, so that the year is before -4799 exactly at the numbers before -31738; and every date of `gregorianDate` has its
+-- year in -4900 to 2733194, its month in 1 to 12 and its day in 1 to 31.
 -- Assumes nothing.
 use mathlib.Core.Path.{_≡_, refl, ap, sym, subst, _∙_}
 use mathlib.Core.Bool.{Bool, true, false, cond, true≢false, false≢true}
@@ -95,7 +95,8 @@ year-to k h = go (ltZ (dateAt k .year) (negsuc 4798)) refl
     go true e = e
     go false e =
         absurd
-        (true≢false (sym (ap (λ (t : CalendarDate). ltZ (t .year) (negsuc 4798)) last-refused) ∙ years-later (λ z. ltZ z (negsuc 4798) ≡ false) (not-before 4798) k 146402 h e))
+        (true≢false (sym (ap (λ (t : CalendarDate). ltZ (t .year) (negsuc 4798)) last-refused)
+        ∙ years-later (λ z. ltZ z (negsuc 4798) ≡ false) (not-before 4798) k 146402 h e))
 
 low-year : (k : ℕ) → 109572 ≤ k → ltZ (dateAt k .year) (negsuc 4899) ≡ false
 low-year k h = years-later (λ z. ltZ z (negsuc 4899) ≡ false) (not-before 4899) 109572 k h (ap (λ (t : CalendarDate). ltZ (t .year) (negsuc 4899)) lowest-date)
@@ -107,7 +108,8 @@ high-year k h = go (ltZ (pos 2733194) (dateAt k .year)) refl
     go false e = e
     go true e =
         absurd
-        (true≢false (sym (years-later (λ z. ltZ (pos 2733194) z ≡ true) (past 2733194) k 1000178141 h e) ∙ ap (λ (t : CalendarDate). ltZ (pos 2733194) (t .year)) highest-date))
+        (true≢false (sym (years-later (λ z. ltZ (pos 2733194) z ≡ true) (past 2733194) k 1000178141 h e)
+        ∙ ap (λ (t : CalendarDate). ltZ (pos 2733194) (t .year)) highest-date))
 
 -- ---- the count of a day number, from a bound on either side
 count-from : (n : ℤ) (p : ℕ) → suc p ≤ 178141 → ltZ n (negsuc p) ≡ false → 178141 - suc p ≤ natAbs (n +ℤ pos 178141)
@@ -142,7 +144,8 @@ each-date : (P : CalendarDate → Type 0) → P (date (negsuc 4899) 2 30) → ((
 unfolding gregorianDate dateOf
 each-date P low inside n = go (ltZ n (negsuc 68568)) refl (ltZ (pos 1000000000) n) refl
   where
-    go : (a : Bool) → ltZ n (negsuc 68568) ≡ a → (b : Bool) → ltZ (pos 1000000000) n ≡ b → P (cond a (date (negsuc 4899) 2 30) (cond b (dateAt 1000178141) (dateAt (natAbs (n +ℤ pos 178141)))))
+    go : (a : Bool) → ltZ n (negsuc 68568) ≡ a → (b : Bool) → ltZ (pos 1000000000) n ≡ b
+        → P (cond a (date (negsuc 4899) 2 30) (cond b (dateAt 1000178141) (dateAt (natAbs (n +ℤ pos 178141)))))
     go true p b q = low
     go false p true q = inside 1000178141 (omega arith) (omega arith)
     go false p false q = inside (natAbs (n +ℤ pos 178141)) (count-from n 68568 (omega arith) p) (count-to n 68568 1000000000 (omega arith) p q)
@@ -208,7 +211,8 @@ gregorian-valid n = go (ltZ n (negsuc 68568)) refl (ltZ (pos 1000000000) n) refl
     valid x c true e = sym (year-refused (dateOf x .year) (pos (dateOf x .month)) (pos (dateOf x .day)) (year-before-first x c ∙ e))
     valid x c false e = in-calendar-valid (dateOf x) (date-of-in-calendar x) (year-before-first x c ∙ e)
 
-    go : (a : Bool) → ltZ n (negsuc 68568) ≡ a → (b : Bool) → ltZ (pos 1000000000) n ≡ b → validOf (cond a (date (negsuc 4899) 2 30) (cond b (dateOf (pos 1000000000)) (dateOf n))) ≡ cond (ltZ n (negsuc 31737)) (refusal 1) (answer tt)
+    go : (a : Bool) → ltZ n (negsuc 68568) ≡ a → (b : Bool) → ltZ (pos 1000000000) n ≡ b
+        → validOf (cond a (date (negsuc 4899) 2 30) (cond b (dateOf (pos 1000000000)) (dateOf n))) ≡ cond (ltZ n (negsuc 31737)) (refusal 1) (answer tt)
     go true p b q = sym (year-refused (negsuc 4899) (pos 2) (pos 30) refl) ∙ ap (λ (t : Bool). cond t (refusal 1) (answer tt)) (sym (lower n p))
     go false p true q = valid (pos 1000000000) refl false refl ∙ ap (λ (t : Bool). cond t (refusal 1) (answer tt)) (sym (top n q))
     go false p false q = valid n (counted-from n p) (ltZ n (negsuc 31737)) refl
@@ -216,6 +220,7 @@ gregorian-valid n = go (ltZ n (negsuc 68568)) refl (ltZ (pos 1000000000) n) refl
 pub gregorian-refusal : (n : ℤ) → (validOf (gregorianDate n) ≡ answer tt) ⊎ (validOf (gregorianDate n) ≡ refusal 1)
 gregorian-refusal n = go (ltZ n (negsuc 31737)) (gregorian-valid n)
   where
-    go : (b : Bool) → validOf (gregorianDate n) ≡ cond b (refusal 1) (answer tt) → (validOf (gregorianDate n) ≡ answer tt) ⊎ (validOf (gregorianDate n) ≡ refusal 1)
+    go : (b : Bool) → validOf (gregorianDate n) ≡ cond b (refusal 1) (answer tt) → (validOf (gregorianDate n) ≡ answer tt)
+        ⊎ (validOf (gregorianDate n) ≡ refusal 1)
     go true e = inr e
     go false e = inl e

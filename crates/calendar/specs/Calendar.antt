@@ -1,5 +1,5 @@
--- The proleptic Gregorian calendar: leap years, the months' lengths, the next date, and the date of each day number. Written from ISO 8601 and from document 01,
--- "Day and fraction". Assumes nothing.
+-- The proleptic Gregorian calendar: leap years, the months' lengths, the next date, and the date of each day number. Written from ISO 8601 and from document
+-- 01, "Day and fraction". Assumes nothing.
 use Prim.Native.Nat.{ℕ, zero, suc, _+_, _%_}
 use mathlib.Core.Bool.{Bool, cond, not, _&&_, _||_, false}
 use mathlib.Core.List.{[], _∷_}
@@ -44,8 +44,9 @@ dateAt zero = date (negsuc 5199) 3 1
 dateAt (suc k) = next (dateAt k)
 
 -- The date of day number n, which is document 01's n: "Day 2451545 is 2000-01-01, and each n one more or one less is the next or the previous date." The count
--- starts at -5200-03-01, day -178141, only because all that the code computes lies after it (below that day it has no meaning). Day 2451545 is day 2629686 of that count, and it is proved that its date
--- is 2000-01-01 (`day-2451545-is-2000-01-01`) and that no other sequence of dates has that date at that number and this step (`the-calendar`).
+-- starts at -5200-03-01, day -178141, only because all that the code computes lies after it (below that day it has no meaning). Day 2451545 is day 2629686 of
+-- that count, and it is proved that its date is 2000-01-01 (`day-2451545-is-2000-01-01`) and that no other sequence of dates has that date at that number and
+-- this step (`the-calendar`).
 unfoldable pub dateOf : ℤ → CalendarDate
 dateOf n = dateAt (natAbs (n +ℤ pos 178141))
 

@@ -1,6 +1,7 @@
--- The Modified Julian Date of a date by the formula of the Rust's `calendar_to_julian` (scales/conversions/utc_tai/mod.rs). With my = (month - 14) / 12, which is -1 in
--- January and February and else 0, and iypmy = year + my, it is (1461 * (iypmy + 4800)) / 4 + (367 * (month - 2 - 12 * my)) / 12 - (3 * ((iypmy + 4900) / 100)) / 4
--- + day - 2432076. From year -4799 no dividend but month - 14 is below 0. That the value is the day of that date is proved (`mjd-meaning`). Assumes nothing.
+-- The Modified Julian Date of a date by the formula of the Rust's `calendar_to_julian` (scales/conversions/utc_tai/mod.rs). With my = (month - 14) / 12, which
+-- is -1 in January and February and else 0, and iypmy = year + my, it is (1461 * (iypmy + 4800)) / 4 + (367 * (month - 2 - 12 * my)) / 12 - (3 * ((iypmy +
+-- 4900) / 100)) / 4 + day - 2432076. From year -4799 no dividend but month - 14 is below 0. That the value is the day of that date is proved (`mjd-meaning`).
+-- Assumes nothing.
 use Prim.Native.Nat.{ℕ, _+_, _-_, _*_, _/_}
 use mathlib.Core.Bool.{cond}
 use mathlib.Core.Path.{_≡_}

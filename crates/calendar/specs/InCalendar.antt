@@ -1,4 +1,5 @@
--- Which dates are dates of the calendar, of any year. Written from ISO 8601: month 1 to 12, and a day of that month. It is a premise of `the-calendar`. Assumes nothing.
+-- Which dates are dates of the calendar, of any year. Written from ISO 8601: month 1 to 12, and a day of that month. It is a premise of `the-calendar`. Assumes
+-- nothing.
 use Prim.Native.Nat.{_≤_}
 use Rattle.calendar.specs.declared.CalendarDate.{CalendarDate}
 use Rattle.calendar.specs.Calendar.{monthLength}

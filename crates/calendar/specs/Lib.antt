@@ -1,5 +1,5 @@
--- What the calendar's contracts cite, in the order to read it: what a date and its day number are, which dates are refused, the Rust's two conversions, and the outcome
--- that each answer of the code stands for.
+-- What the calendar's contracts cite, in the order to read it: what a date and its day number are, which dates are refused, the Rust's two conversions, and the
+-- outcome that each answer of the code stands for.
 pub mod Calendar
 pub mod Refusals
 pub mod DayCount

@@ -152,9 +152,9 @@ fn lowered_year(y: u32) -> i32
     y as i32 - 4900
 }
 
-// The date l days after -4900-03-01, by the Rust's divisions. Four times the largest l is 4,000,274,276. Month and day are divided by powers of two, which are shifts:
-// for the days of a year, 31 to 396, (535 * b + 130) / 16384 is the Rust's (80 * b) / 2447, and for its months, 1 to 12, (979 * k) / 32 is (2447 * k) / 80 and
-// (k + 5) / 16 is k / 11.
+// The date l days after -4900-03-01, by the Rust's divisions. Four times the largest l is 4,000,274,276. Month and day are divided by powers of two, which are
+// shifts: for the days of a year, 31 to 396, (535 * b + 130) / 16384 is the Rust's (80 * b) / 2447, and for its months, 1 to 12, (979 * k) / 32 is (2447 * k) /
+// 80 and (k + 5) / 16 is k / 11.
 fn date_of_shifted_day(l: u32) -> CalendarDate
     requires { ⌜ l ≤ 1000068569 ⌝ }
     ensures { λ r. ⌜ r ≡ shiftedDate l ⌝ }

@@ -1,6 +1,6 @@
 -- A run is delivered, and its count fits a code. Assumes nothing.
 use Prim.Native.Nat.{ℕ, _/_, _≤_, _<_, _^_}
-use mathlib.Core.Path.{_≡_, refl, sym, ap, subst, _∙_}
+use mathlib.Core.Path.{_≡_, sym, ap, _∙_}
 use mathlib.Core.List.{List}
 use lib.IntN.{ℤ}
 use lib.ListN.{length}
@@ -8,7 +8,7 @@ use lib.Signed.{mag}
 use mir.Syntax.{w64}
 use mir.Val.{toZ, ofZ}
 use mir.Facts.{toZ-pos}
-use Rattle.refusals.specs.Outcome.{Outcome, answer, refusal}
+use Rattle.refusals.specs.Outcome.{answer, refusal}
 use Rattle.leap_table.specs.rows.Table.{Row}
 use Rattle.leap_table.specs.rows.Announced.{unlessRefused}
 use Rattle.runs.specs.declared.by_formula.RunAnswer.{RunAnswer}
@@ -24,7 +24,8 @@ use Rattle.c_answers.proofs.Deliveries.{code-back}
 use Rattle.capi.specs.RunDelivery.{RunDelivered}
 
 -- a call that ends so is delivered by its code
-ended : (c : RunCall) (res : RunAnswer) (r : ℤ) (out1 out2 numbers : List ℕ) → runCall (runOutcome res) out1 out2 numbers ≡ c → r ≡ code (runOutcome res) → RunDelivered c r out1 out2 numbers
+ended : (c : RunCall) (res : RunAnswer) (r : ℤ) (out1 out2 numbers : List ℕ) → runCall (runOutcome res) out1 out2 numbers ≡ c → r ≡ code (runOutcome res)
+    → RunDelivered c r out1 out2 numbers
 ended c res r out1 out2 numbers e h = record {
   returned = h ∙ ap (λ (x : RunCall). code (x .answer)) e;
   first = ap (λ (x : RunCall). x .out1) e;
@@ -43,7 +44,8 @@ module _ (asked : RunCall) {out1 out2 numbers : List ℕ} (res : RunAnswer) (e :
   all-refused {r} j ok i c = ended asked res (toZ w64 (ofZ w64 r)) out1 out2 numbers e (code-back ok ∙ c ∙ sym (ap (λ (x : RunAnswer). code (runOutcome x)) i))
 
 -- by a formula
-module _ (from to : ℕ) (js ks os b1 b2 b3 : List ℕ) {out1 out2 numbers : List ℕ} (res : RunAnswer) (e : runCall (runOutcome res) out1 out2 numbers ≡ formulaRun from to js ks os b1 b2 b3) where
+module _ (from to : ℕ) (js ks os b1 b2 b3 : List ℕ) {out1 out2 numbers : List ℕ} (res : RunAnswer)
+    (e : runCall (runOutcome res) out1 out2 numbers ≡ formulaRun from to js ks os b1 b2 b3) where
   pub formula-counted : (j : ℕ) → res ≡ Converted j → j ≤ length js / 8
   unfolding runOutcome
   formula-counted j i = formula-count from to js ks os b1 b2 b3 j (sym (ap runOutcome i) ∙ ap (λ (x : RunCall). x .answer) e)
@@ -55,7 +57,8 @@ module _ (s : List ℕ) (rows : List Row) (n : ℕ) (judged : unlessRefused n ro
 
   pub run-table-refused : {r : ℤ} → mag r < 2 ^ 63 → (n ≡ 0 → ⊥) → r ≡ code (refusal n) → RunDelivered asked (toZ w64 (ofZ w64 r)) b1 b2 b3
   unfolding runOutcome
-  run-table-refused {r} ok h c = ended asked (Refused n) (toZ w64 (ofZ w64 r)) b1 b2 b3 (table-refused (tableBytes s) rows n judged from to js ks b1 b2 b3 h) (code-back ok ∙ c)
+  run-table-refused {r} ok h c = ended asked (Refused n) (toZ w64 (ofZ w64 r)) b1 b2 b3 (table-refused (tableBytes s) rows n judged from to js ks b1 b2 b3 h)
+      (code-back ok ∙ c)
 
   module _ (h : n ≡ 0) {out1 out2 numbers : List ℕ} (res : RunAnswer) (e : runCall (runOutcome res) out1 out2 numbers ≡ runBy rows from to js ks b1 b2 b3) where
     goes : runCall (runOutcome res) out1 out2 numbers ≡ asked

@@ -78,7 +78,8 @@ eleven (answer t) m n h = go (leb (length (t .0)) m)
     go true = rw (lt-leb 8 n h)
     go false = refl
 
-pub short-rule : (o : Outcome (List ℕ × Rule)) (b b′ : List ℕ) {r : ℤ} → mag r < 2 ^ 63 → length b′ < 8 → r ≡ code (noRoom o) → DeliveredTwo (ruled o) b b′ (toZ w64 (ofZ w64 r)) b b′
+pub short-rule : (o : Outcome (List ℕ × Rule)) (b b′ : List ℕ) {r : ℤ} → mag r < 2 ^ 63 → length b′ < 8 → r ≡ code (noRoom o)
+    → DeliveredTwo (ruled o) b b′ (toZ w64 (ofZ w64 r)) b b′
 unfolding noRoom onward bufferHolds
 short-rule o b b′ ok h c =
     let e = eleven o (length b) (length b′) h in
@@ -129,17 +130,20 @@ both t rule m n h g = simp (le-leb (length t) m h) (go (leb 8 n) (le-leb 8 n g))
     go false e = absurd (true≢false (sym e))
 
 -- ---- or it is refused, by itself or by 11
-not-fitted : (o : Outcome (List ℕ × Rule)) (l : List ℕ) (n k : ℕ) → writtenByRule o (length l) ≡ refusal k → (bothFit (ruled o) (length l) n ≡ refusal k) × (bufferHolds (forget o) l ≡ l)
+not-fitted : (o : Outcome (List ℕ × Rule)) (l : List ℕ) (n k : ℕ) → writtenByRule o (length l) ≡ refusal k → (bothFit (ruled o) (length l) n ≡ refusal k)
+    × (bufferHolds (forget o) l ≡ l)
 unfolding writtenByRule withRule textWritten forget onward bothFit ruled bufferHolds bufferAfter
 not-fitted (refusal j) l n k e = let z : j ≡ k = cc in (ap refusal z, refl)
 not-fitted (answer t) l n k e = go (leb (length (t .0)) (length l)) refl e
   where
     go : (x : Bool) → leb (length (t .0)) (length l) ≡ x → withRule (cond x (answer (length (t .0))) (refusal 11)) (t .1) ≡ refusal k
-        → (cond {A = Outcome (List ℕ × List ℕ)} (leb (length (t .0)) (length l) && leb 8 n) (answer (t .0, ruleBytes (t .1))) (refusal 11) ≡ refusal k) × (bufferAfter (t .0) l ≡ l)
+        → (cond {A = Outcome (List ℕ × List ℕ)} (leb (length (t .0)) (length l) && leb 8 n) (answer (t .0, ruleBytes (t .1))) (refusal 11) ≡ refusal k)
+        × (bufferAfter (t .0) l ≡ l)
     go true p q = absurd (let z : _≡_ {A = ℕ} 0 1 = cc in let no : ⊥ = omega arith in no)
     go false p q = let z : _≡_ {A = ℕ} 11 k = cc in (rw p (ap refusal z), rw p)
 
-module _ (o : Outcome (List ℕ × Rule)) (few : (t : List ℕ) → forget o ≡ answer t → length t ≤ 64) {l out : List ℕ} {res : TextByRule} (p : TextRuleCall o l res out) where
+module _ (o : Outcome (List ℕ × Rule)) (few : (t : List ℕ) → forget o ≡ answer t → length t ≤ 64) {l out : List ℕ} {res : TextByRule}
+    (p : TextRuleCall o l res out) where
   module _ {n : ℕ} {rule : Rule} (is : res ≡ Written n rule) where
     fit : Fitted o (length l) n rule
     unfolding textByRuleOutcome
@@ -152,19 +156,24 @@ module _ (o : Outcome (List ℕ × Rule)) (few : (t : List ℕ) → forget o ≡
     pub count-fits : SFits w64 (pos n)
     count-fits = record { sfits = omega (arith, small) }
 
-    pub two-written : {b′ out′ : List ℕ} {r : ℤ} → 8 ≤ length b′ → Delivered (answer (ruleBytes rule)) b′ r out′ → DeliveredTwo (ruled o) l b′ (toZ w64 n) out out′
+    pub two-written : {b′ out′ : List ℕ} {r : ℤ} → 8 ≤ length b′ → Delivered (answer (ruleBytes rule)) b′ r out′
+        → DeliveredTwo (ruled o) l b′ (toZ w64 n) out out′
     unfolding onward code bufferHolds forget
     two-written {b′} {out′} room d =
         let f = fit in
         let e : bothFit (ruled o) (length l) (length b′) ≡ answer (f .text, ruleBytes rule)
-        = ap (λ (x : Outcome (List ℕ × Rule)). bothFit (ruled x) (length l) (length b′)) (f .same) ∙ both (f .text) rule (length l) (length b′) (f .within) room in
+        = ap (λ (x : Outcome (List ℕ × Rule)). bothFit (ruled x) (length l) (length b′)) (f .same)
+        ∙ both (f .text) rule (length l) (length b′) (f .within) room in
         record {
-          returned = toZ-pos w64 {n = n} (omega (arith, small)) ∙ ap pos (sym (f .count)) ∙ sym (ap (λ (x : Outcome (List ℕ × List ℕ)). code (onward x (λ q. answer (length (q .0))))) e);
-          holds = p .holds ∙ ap (λ (x : Outcome (List ℕ × Rule)). bufferHolds (forget x) l) (f .same) ∙ sym (ap (λ (x : Outcome (List ℕ × List ℕ)). bufferHolds (onward x (λ q. answer (q .0))) l) e);
+          returned = toZ-pos w64 {n = n} (omega (arith, small)) ∙ ap pos (sym (f .count))
+              ∙ sym (ap (λ (x : Outcome (List ℕ × List ℕ)). code (onward x (λ q. answer (length (q .0))))) e);
+          holds = p .holds ∙ ap (λ (x : Outcome (List ℕ × Rule)). bufferHolds (forget x) l) (f .same)
+              ∙ sym (ap (λ (x : Outcome (List ℕ × List ℕ)). bufferHolds (onward x (λ q. answer (q .0))) l) e);
           holds-second = d .holds ∙ sym (ap (λ (x : Outcome (List ℕ × List ℕ)). bufferHolds (onward x (λ q. answer (q .1))) b′) e);
         }
 
-  pub two-refused : {k : ℕ} {r : ℤ} (b′ : List ℕ) → mag r < 2 ^ 63 → res ≡ Refused k → r ≡ code (refusal k) → DeliveredTwo (ruled o) l b′ (toZ w64 (ofZ w64 r)) out b′
+  pub two-refused : {k : ℕ} {r : ℤ} (b′ : List ℕ) → mag r < 2 ^ 63 → res ≡ Refused k → r ≡ code (refusal k)
+      → DeliveredTwo (ruled o) l b′ (toZ w64 (ofZ w64 r)) out b′
   unfolding textByRuleOutcome onward bufferHolds
   two-refused {k} b′ ok is c =
       let (e, f) = not-fitted o l (length b′) k (sym (p .says) ∙ ap textByRuleOutcome is) in
@@ -175,7 +184,8 @@ module _ (o : Outcome (List ℕ × Rule)) (few : (t : List ℕ) → forget o ≡
       }
 
 -- a text has at most 27 bytes
-pub text-few : (textForm : NamedForm) (rows : List Row) (jd : JulianDate) (t : List ℕ) → forget (textByRule (formNamed textForm) rows jd) ≡ answer t → length t ≤ 64
+pub text-few : (textForm : NamedForm) (rows : List Row) (jd : JulianDate) (t : List ℕ) → forget (textByRule (formNamed textForm) rows jd) ≡ answer t
+    → length t ≤ 64
 unfolding formNamed
 text-few Document01 rows jd t e = omega (arith, text-length rows jd t (sym (iso-forgets rows jd) ∙ e) .1)
 text-few HalfEven rows jd t e = omega (arith, even-text-length rows jd t (sym (even-forgets rows jd) ∙ e) .1)

@@ -46,11 +46,13 @@ same-refusal k l out res p n i =
     let e : _≡_ {A = Outcome ℕ} (refusal n) (refusal k) = sym (ap ticksOutcome i) ∙ p .says in
     cc
 
-pub ticks-count : (o : Outcome (List ℕ)) (l out : List ℕ) (res : TicksAnswer) → ((b : List ℕ) → o ≡ answer b → length b ≤ length l) → TicksCall o l res out → (n : ℕ) → res ≡ Written n → n ≤ length l
+pub ticks-count : (o : Outcome (List ℕ)) (l out : List ℕ) (res : TicksAnswer) → ((b : List ℕ) → o ≡ answer b → length b ≤ length l) → TicksCall o l res out
+    → (n : ℕ) → res ≡ Written n → n ≤ length l
 ticks-count (answer b) l out res fits p n i = omega (arith, count-is b l out res p n i, fits b refl)
 ticks-count (refusal k) l out res fits p n i = absurd (none-written k l out res p n i)
 
-pub ticks-put : (o : Outcome (List ℕ)) (l out : List ℕ) (res : TicksAnswer) → ((b : List ℕ) → o ≡ answer b → length b ≤ length l) → TicksCall o l res out → (n : ℕ) → res ≡ Written n → n < 2 ^ 63 → Delivered o l (toZ w64 n) out
+pub ticks-put : (o : Outcome (List ℕ)) (l out : List ℕ) (res : TicksAnswer) → ((b : List ℕ) → o ≡ answer b → length b ≤ length l) → TicksCall o l res out
+    → (n : ℕ) → res ≡ Written n → n < 2 ^ 63 → Delivered o l (toZ w64 n) out
 unfolding written onward bufferHolds textWritten bufferAfter code lentAfter
 ticks-put (answer b) l out res fits p n i h =
     let w : written (answer b) (length l) ≡ answer (length b) = simp (le-leb (length b) (length l) (fits b refl)) in
@@ -60,7 +62,8 @@ ticks-put (answer b) l out res fits p n i h =
     }
 ticks-put (refusal k) l out res fits p n i h = absurd (none-written k l out res p n i)
 
-pub ticks-refused : (o : Outcome (List ℕ)) (l out : List ℕ) (res : TicksAnswer) → TicksCall o l res out → {r : ℤ} (n : ℕ) → mag r < 2 ^ 63 → res ≡ Refused n → r ≡ code (refusal n) → Delivered o l (toZ w64 (ofZ w64 r)) out
+pub ticks-refused : (o : Outcome (List ℕ)) (l out : List ℕ) (res : TicksAnswer) → TicksCall o l res out → {r : ℤ} (n : ℕ) → mag r < 2 ^ 63 → res ≡ Refused n
+    → r ≡ code (refusal n) → Delivered o l (toZ w64 (ofZ w64 r)) out
 unfolding written onward bufferHolds lentAfter
 ticks-refused (answer b) l out res p n ok i e = absurd (none-refused b l out res p n i)
 ticks-refused (refusal k) l out res p n ok i e =

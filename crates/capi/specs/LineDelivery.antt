@@ -1,4 +1,5 @@
--- What a C caller gets of a lining up: the code, and the two slices that are written. Written from include/celestial_time.h and docs/DECISIONS.md 24. Assumes nothing.
+-- What a C caller gets of a lining up: the code, and the two slices that are written. Written from include/celestial_time.h and docs/DECISIONS.md 24. Assumes
+-- nothing.
 use mathlib.Core.Path.{_≡_}
 use mathlib.Core.List.{List}
 use Prim.Native.Nat.{ℕ}

@@ -1,5 +1,5 @@
--- A text by one of the three forms of text, and its rule for two buffers. Written from document 02, item 5 (the text calls pass on the rule), and document 01, "Refusals by
--- number" (11 is judged last). Assumes nothing.
+-- A text by one of the three forms of text, and its rule for two buffers. Written from document 02, item 5 (the text calls pass on the rule), and document 01,
+-- "Refusals by number" (11 is judged last). Assumes nothing.
 use Prim.Native.Nat.{ℕ}
 use mathlib.Core.List.{List}
 use Rattle.refusals.specs.Outcome.{Outcome, answer, refusal, onward}

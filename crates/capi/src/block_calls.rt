@@ -22,7 +22,8 @@ pub extern "C" fn ct_block_stamps(block: &[u8]) -> i64
 
 #[no_mangle]
 pub extern "C" fn ct_listing_part(block: &[u8], line: u32, table: &[u8], out: &mut [u8]) -> i64
-    ensures { λ r. ⌜ Delivered (onward (tableBytes (now (table .entry))) (λ rows. listingPart Numbers rows (now (block .entry)) line (length (now (out .entry))))) (now (out .entry)) r (now (out .exit)) ⌝ }
+    ensures { λ r. ⌜ Delivered (onward (tableBytes (now (table .entry)))
+        (λ rows. listingPart Numbers rows (now (block .entry)) line (length (now (out .entry))))) (now (out .entry)) r (now (out .exit)) ⌝ }
 {
     crate::table_calls::listing_part(block, line, table, out)
 }
@@ -36,7 +37,8 @@ pub extern "C" fn ct_reason_listing_part(
     table: &[u8],
     out: &mut [u8],
 ) -> i64
-    ensures { λ r. ⌜ Delivered (onward (tableBytes (now (table .entry))) (λ rows. listingPart (Sentences «input_len») rows (now (block .entry)) line (length (now (out .entry))))) (now (out .entry)) r (now (out .exit)) ⌝ }
+    ensures { λ r. ⌜ Delivered (onward (tableBytes (now (table .entry)))
+        (λ rows. listingPart (Sentences «input_len») rows (now (block .entry)) line (length (now (out .entry))))) (now (out .entry)) r (now (out .exit)) ⌝ }
 {
     crate::table_calls::reason_listing_part(block, input_len, line, table, out)
 }

@@ -13,7 +13,8 @@ pub extern "C" fn ct_line_up(
     second_count: u64,
     out: &mut [u8],
 ) -> i64
-    ensures { λ r. ⌜ LineDelivered (linedUp (now (jd1 .entry)) (now (jd2 .entry)) (now (numbers .entry)) «first_count» «second_count» (now (out .entry))) r (now (numbers .exit)) (now (out .exit)) ⌝ }
+    ensures { λ r. ⌜ LineDelivered (linedUp (now (jd1 .entry)) (now (jd2 .entry)) (now (numbers .entry)) «first_count» «second_count» (now (out .entry))) r
+        (now (numbers .exit)) (now (out .exit)) ⌝ }
 {
     match line_up::line_up(
         jd1,

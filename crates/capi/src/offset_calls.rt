@@ -59,7 +59,8 @@ pub extern "C" fn ct_get_tai_utc_offset(
     table: &[u8],
     out: &mut [u8],
 ) -> i64
-    ensures { λ r. ⌜ Delivered (inBytes offsetRuleBytes (onward (tableBytes (now (table .entry))) (λ rows. offsetByRule rows year month day fraction))) (now (out .entry)) r (now (out .exit)) ⌝ }
+    ensures { λ r. ⌜ Delivered (inBytes offsetRuleBytes (onward (tableBytes (now (table .entry))) (λ rows. offsetByRule rows year month day fraction)))
+        (now (out .entry)) r (now (out .exit)) ⌝ }
 {
     let mut months = [0; 16];
     let mut seconds = [0; 16];
@@ -91,7 +92,8 @@ pub extern "C" fn ct_leap_at_end_of_day(
     table: &[u8],
     out: &mut [u8],
 ) -> i64
-    ensures { λ r. ⌜ Delivered (inBytes floatBytes (onward (tableBytes (now (table .entry))) (λ rows. leapAtEndOfDay rows year month day))) (now (out .entry)) r (now (out .exit)) ⌝ }
+    ensures { λ r. ⌜ Delivered (inBytes floatBytes (onward (tableBytes (now (table .entry))) (λ rows. leapAtEndOfDay rows year month day))) (now (out .entry))
+        r (now (out .exit)) ⌝ }
 {
     let mut months = [0; 16];
     let mut seconds = [0; 16];

@@ -37,7 +37,8 @@ pub extern "C" fn ct_parse_iso8601(text: &[u8], out: &mut [u8]) -> i64
 
 #[no_mangle]
 pub extern "C" fn ct_utc_from_iso8601(text: &[u8], table: &[u8], out: &mut [u8]) -> i64
-    ensures { λ r. ⌜ Delivered (inBytes parsedUtcBytes (onward (tableBytes (now (table .entry))) (λ rows. parsedUtc rows (now (text .entry))))) (now (out .entry)) r (now (out .exit)) ⌝ }
+    ensures { λ r. ⌜ Delivered (inBytes parsedUtcBytes (onward (tableBytes (now (table .entry))) (λ rows. parsedUtc rows (now (text .entry)))))
+        (now (out .entry)) r (now (out .exit)) ⌝ }
 {
     let mut months = [0; 16];
     let mut seconds = [0; 16];

@@ -18,7 +18,8 @@ pub extern "C" fn ct_convert_run(
     out2: &mut [u8],
     numbers: &mut [u8],
 ) -> i64
-    ensures { λ r. ⌜ RunDelivered (convertedRun (tableBytes (now (table .entry))) from to (now (jd1 .entry)) (now (jd2 .entry)) (now (out1 .entry)) (now (out2 .entry)) (now (numbers .entry))) r (now (out1 .exit)) (now (out2 .exit)) (now (numbers .exit)) ⌝ }
+    ensures { λ r. ⌜ RunDelivered (convertedRun (tableBytes (now (table .entry))) from to (now (jd1 .entry)) (now (jd2 .entry)) (now (out1 .entry))
+        (now (out2 .entry)) (now (numbers .entry))) r (now (out1 .exit)) (now (out2 .exit)) (now (numbers .exit)) ⌝ }
 {
     let mut months = [0; 16];
     let mut seconds = [0; 16];
@@ -56,7 +57,8 @@ pub extern "C" fn ct_formula_run(
     out2: &mut [u8],
     numbers: &mut [u8],
 ) -> i64
-    ensures { λ r. ⌜ RunDelivered (formulaRun from to (now (jd1 .entry)) (now (jd2 .entry)) (now (offsets .entry)) (now (out1 .entry)) (now (out2 .entry)) (now (numbers .entry))) r (now (out1 .exit)) (now (out2 .exit)) (now (numbers .exit)) ⌝ }
+    ensures { λ r. ⌜ RunDelivered (formulaRun from to (now (jd1 .entry)) (now (jd2 .entry)) (now (offsets .entry)) (now (out1 .entry)) (now (out2 .entry))
+        (now (numbers .entry))) r (now (out1 .exit)) (now (out2 .exit)) (now (numbers .exit)) ⌝ }
 {
     match runs::by_formula::formula_run(from, to, jd1, jd2, offsets, out1, out2, numbers) {
         RunAnswer::Converted(n) => n as i64,

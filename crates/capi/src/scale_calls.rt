@@ -1,7 +1,8 @@
 // The sixteen scale conversions that read no table: a date's two parts in, the two parts of the date in the other scale out.
 ghost use Rattle.julian.specs.JulianDate.{julian};
 ghost use Rattle.scales.specs.Scales.{taiOutcome, ut1Outcome, ttOutcome, gpsOutcome, tcgOutcome, tcbOutcome, tdbOutcome};
-ghost use Rattle.scales.specs.Conversions.{answerOf, gps-tai, tai-gps, tai-tt, tt-tai, tai-tcg, tcg-tai, tt-tcg, tcg-tt, tcb-tdb, tdb-tcb, tt-tdb, tdb-tt, ut1-tai, tai-ut1, ut1-tt, tt-ut1};
+ghost use Rattle.scales.specs.Conversions.{answerOf, gps-tai, tai-gps, tai-tt, tt-tai, tai-tcg, tcg-tai, tt-tcg, tcg-tt, tcb-tdb, tdb-tcb, tt-tdb};
+ghost use Rattle.scales.specs.Conversions.{tdb-tt, ut1-tai, tai-ut1, ut1-tt, tt-ut1};
 ghost use Rattle.c_answers.specs.Delivery.{inBytes, Delivered};
 ghost use Rattle.c_answers.specs.Fields.{julianBytes};
 use c_answers::fields;

@@ -27,7 +27,11 @@ pub extern "C" fn ct_standby_bill(
     table: &[u8],
     out: &mut [u8],
 ) -> i64
-    ensures { λ r. ⌜ Delivered (inBytes billBytes (onward (tableBytes (now (table .entry))) (λ rows. standbyBill rows (utcTime «start_year» «start_month» «start_day» «start_hour» «start_minute» «start_second» «start_millis») (utcTime «end_year» «end_month» «end_day» «end_hour» «end_minute» «end_second» «end_millis») rate «first_metres» «second_metres»))) (now (out .entry)) r (now (out .exit)) ⌝ }
+    ensures { λ r. ⌜ Delivered (inBytes billBytes
+        (onward (tableBytes (now (table .entry)))
+        (λ rows. standbyBill rows (utcTime «start_year» «start_month» «start_day» «start_hour» «start_minute» «start_second» «start_millis»)
+        (utcTime «end_year» «end_month» «end_day» «end_hour» «end_minute» «end_second» «end_millis») rate «first_metres» «second_metres»))) (now (out .entry))
+        r (now (out .exit)) ⌝ }
 {
     crate::table_calls::bills::standby_bill(
         start_year,

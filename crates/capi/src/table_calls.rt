@@ -1,5 +1,5 @@
-// Calls for C that are lent a table as bytes, as plain functions: the listing in parts, a walk through the table, and a standby bill. An archive exports the functions of its own crate
-// alone, so that crate capi passes each of them on; here an edit of one is tried without the other calls.
+// Calls for C that are lent a table as bytes, as plain functions: the listing in parts, a walk through the table, and a standby bill. An archive exports the
+// functions of its own crate alone, so that crate capi passes each of them on; here an edit of one is tried without the other calls.
 pub mod bills;
 
 ghost use mathlib.Core.Path.{_≡_};
@@ -29,7 +29,8 @@ fn deliver_part(
     out: &mut [u8],
 ) -> i64
     requires { ⌜ (room ≡ lineRoom how) × InWidth how (now block) ⌝ }
-    ensures { λ r. ⌜ Delivered (onward (tableBytes (now (table .entry))) (λ rows. listingPart how rows (now (block .entry)) line (length (now (out .entry))))) (now (out .entry)) r (now (out .exit)) ⌝ }
+    ensures { λ r. ⌜ Delivered (onward (tableBytes (now (table .entry))) (λ rows. listingPart how rows (now (block .entry)) line (length (now (out .entry)))))
+        (now (out .entry)) r (now (out .exit)) ⌝ }
 {
     let rows = announced_rows_at(table);
     let number = table_number(table.len(), rows);
@@ -45,7 +46,8 @@ fn deliver_part(
 }
 
 pub fn listing_part(block: &[u8], line: u32, table: &[u8], out: &mut [u8]) -> i64
-    ensures { λ r. ⌜ Delivered (onward (tableBytes (now (table .entry))) (λ rows. listingPart Numbers rows (now (block .entry)) line (length (now (out .entry))))) (now (out .entry)) r (now (out .exit)) ⌝ }
+    ensures { λ r. ⌜ Delivered (onward (tableBytes (now (table .entry)))
+        (λ rows. listingPart Numbers rows (now (block .entry)) line (length (now (out .entry))))) (now (out .entry)) r (now (out .exit)) ⌝ }
 {
     deliver_part(Telling::Numbers, 33, block, line, table, out)
 }
@@ -58,14 +60,16 @@ pub fn reason_listing_part(
     table: &[u8],
     out: &mut [u8],
 ) -> i64
-    ensures { λ r. ⌜ Delivered (onward (tableBytes (now (table .entry))) (λ rows. listingPart (Sentences «input_len») rows (now (block .entry)) line (length (now (out .entry))))) (now (out .entry)) r (now (out .exit)) ⌝ }
+    ensures { λ r. ⌜ Delivered (onward (tableBytes (now (table .entry)))
+        (λ rows. listingPart (Sentences «input_len») rows (now (block .entry)) line (length (now (out .entry))))) (now (out .entry)) r (now (out .exit)) ⌝ }
 {
     deliver_part(Telling::Sentences(input_len), 64, block, line, table, out)
 }
 
 // TAI-UTC at 0h of many dates in time order. The length of the table is tested here, its rows by the walk: a test of all rows is most of what they cost.
 pub fn offsets_at_0h(dates: &[u8], table: &[u8], out: &mut [u8]) -> i64
-    ensures { λ r. ⌜ WalkDelivered (onward (tableBytes (now (table .entry))) (λ rows. walkOfBytes rows (now (dates .entry)) (length (now (out .entry))))) (now (out .entry)) r (now (out .exit)) ⌝ }
+    ensures { λ r. ⌜ WalkDelivered (onward (tableBytes (now (table .entry))) (λ rows. walkOfBytes rows (now (dates .entry)) (length (now (out .entry)))))
+        (now (out .entry)) r (now (out .exit)) ⌝ }
 {
     if table.len() != 136 {
         return refused(refusals::BLOCK_LENGTH_WRONG);

@@ -1,5 +1,5 @@
-// UTC as text by each of the three forms of text, with the rule of its day in a buffer of its own. Each form of text has its own way from the table to the text: one way for a form of text by
-// name takes 47 to 73 instructions a call more.
+// UTC as text by each of the three forms of text, with the rule of its day in a buffer of its own. Each form of text has its own way from the table to the
+// text: one way for a form of text by name takes 47 to 73 instructions a call more.
 ghost use mathlib.Core.Path.{_≡_};
 ghost use Prim.Native.Nat.{ℕ};
 ghost use Rattle.refusals.specs.Outcome.{refusal, onward};
@@ -31,7 +31,8 @@ fn text_by<'a>(
     seconds: &'a [i32; 16],
     out: &mut [u8],
 ) -> TextByRule
-    ensures { λ r. ⌜ TextRuleCall (textByRule (formNamed textForm) (rowsIn size (now (months .entry)) (now (seconds .entry))) (date .0)) (now (out .entry)) r (now (out .exit)) ⌝ }
+    ensures { λ r. ⌜ TextRuleCall (textByRule (formNamed textForm) (rowsIn size (now (months .entry)) (now (seconds .entry))) (date .0)) (now (out .entry)) r
+        (now (out .exit)) ⌝ }
 {
     match textForm {
         NamedForm::Document01 => utc::iso_texts::to_iso8601_by_lent(
@@ -83,7 +84,8 @@ fn put_text<'a>(
     out: &mut [u8],
     rule: &mut [u8],
 ) -> i64
-    ensures { λ r. ⌜ DeliveredTwo (ruled (isoTextByRule (rowsIn size (now (months .entry)) (now (seconds .entry))) (date .0))) (now (out .entry)) (now (rule .entry)) r (now (out .exit)) (now (rule .exit)) ⌝ }
+    ensures { λ r. ⌜ DeliveredTwo (ruled (isoTextByRule (rowsIn size (now (months .entry)) (now (seconds .entry))) (date .0))) (now (out .entry))
+        (now (rule .entry)) r (now (out .exit)) (now (rule .exit)) ⌝ }
 {
     if rule.len() < 8 {
         return no_room_for_rule(NamedForm::Document01, date, size, months, seconds);
@@ -105,7 +107,8 @@ fn put_half_even<'a>(
     out: &mut [u8],
     rule: &mut [u8],
 ) -> i64
-    ensures { λ r. ⌜ DeliveredTwo (ruled (halfEvenByRule (rowsIn size (now (months .entry)) (now (seconds .entry))) (date .0))) (now (out .entry)) (now (rule .entry)) r (now (out .exit)) (now (rule .exit)) ⌝ }
+    ensures { λ r. ⌜ DeliveredTwo (ruled (halfEvenByRule (rowsIn size (now (months .entry)) (now (seconds .entry))) (date .0))) (now (out .entry))
+        (now (rule .entry)) r (now (out .exit)) (now (rule .exit)) ⌝ }
 {
     if rule.len() < 8 {
         return no_room_for_rule(NamedForm::HalfEven, date, size, months, seconds);
@@ -127,7 +130,8 @@ fn put_expanded<'a>(
     out: &mut [u8],
     rule: &mut [u8],
 ) -> i64
-    ensures { λ r. ⌜ DeliveredTwo (ruled (expandedByRule (rowsIn size (now (months .entry)) (now (seconds .entry))) (date .0))) (now (out .entry)) (now (rule .entry)) r (now (out .exit)) (now (rule .exit)) ⌝ }
+    ensures { λ r. ⌜ DeliveredTwo (ruled (expandedByRule (rowsIn size (now (months .entry)) (now (seconds .entry))) (date .0))) (now (out .entry))
+        (now (rule .entry)) r (now (out .exit)) (now (rule .exit)) ⌝ }
 {
     if rule.len() < 8 {
         return no_room_for_rule(NamedForm::Expanded, date, size, months, seconds);
@@ -149,7 +153,8 @@ pub extern "C" fn ct_to_iso8601(
     out: &mut [u8],
     rule: &mut [u8],
 ) -> i64
-    ensures { λ r. ⌜ DeliveredTwo (ruled (onward (tableBytes (now (table .entry))) (λ rows. isoTextByRule rows (julian jd1 jd2)))) (now (out .entry)) (now (rule .entry)) r (now (out .exit)) (now (rule .exit)) ⌝ }
+    ensures { λ r. ⌜ DeliveredTwo (ruled (onward (tableBytes (now (table .entry))) (λ rows. isoTextByRule rows (julian jd1 jd2)))) (now (out .entry))
+        (now (rule .entry)) r (now (out .exit)) (now (rule .exit)) ⌝ }
 {
     let mut months = [0; 16];
     let mut seconds = [0; 16];
@@ -171,7 +176,8 @@ pub extern "C" fn ct_to_iso8601_half_even(
     out: &mut [u8],
     rule: &mut [u8],
 ) -> i64
-    ensures { λ r. ⌜ DeliveredTwo (ruled (onward (tableBytes (now (table .entry))) (λ rows. halfEvenByRule rows (julian jd1 jd2)))) (now (out .entry)) (now (rule .entry)) r (now (out .exit)) (now (rule .exit)) ⌝ }
+    ensures { λ r. ⌜ DeliveredTwo (ruled (onward (tableBytes (now (table .entry))) (λ rows. halfEvenByRule rows (julian jd1 jd2)))) (now (out .entry))
+        (now (rule .entry)) r (now (out .exit)) (now (rule .exit)) ⌝ }
 {
     let mut months = [0; 16];
     let mut seconds = [0; 16];
@@ -193,7 +199,8 @@ pub extern "C" fn ct_to_iso8601_expanded(
     out: &mut [u8],
     rule: &mut [u8],
 ) -> i64
-    ensures { λ r. ⌜ DeliveredTwo (ruled (onward (tableBytes (now (table .entry))) (λ rows. expandedByRule rows (julian jd1 jd2)))) (now (out .entry)) (now (rule .entry)) r (now (out .exit)) (now (rule .exit)) ⌝ }
+    ensures { λ r. ⌜ DeliveredTwo (ruled (onward (tableBytes (now (table .entry))) (λ rows. expandedByRule rows (julian jd1 jd2)))) (now (out .entry))
+        (now (rule .entry)) r (now (out .exit)) (now (rule .exit)) ⌝ }
 {
     let mut months = [0; 16];
     let mut seconds = [0; 16];

@@ -12,7 +12,8 @@ pub extern "C" fn ct_place_ticks(
     ticks: &[u8],
     out: &mut [u8],
 ) -> i64
-    ensures { λ r. ⌜ Delivered (placedTicks (now («pass_ticks» .entry)) (now («pass_millis» .entry)) (now (ticks .entry)) (length (now (out .entry)))) (now (out .entry)) r (now (out .exit)) ⌝ }
+    ensures { λ r. ⌜ Delivered (placedTicks (now («pass_ticks» .entry)) (now («pass_millis» .entry)) (now (ticks .entry)) (length (now (out .entry))))
+        (now (out .entry)) r (now (out .exit)) ⌝ }
 {
     match ticks::place_ticks(pass_ticks, pass_millis, ticks, out) {
         TicksAnswer::Written(n) => n as i64,

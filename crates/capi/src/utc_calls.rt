@@ -35,7 +35,8 @@ fn put_utc(found: UtcAnswer, out: &mut [u8]) -> i64
 
 #[no_mangle]
 pub extern "C" fn ct_utc_new(seconds: i64, nanos: u32, table: &[u8], out: &mut [u8]) -> i64
-    ensures { λ r. ⌜ Delivered (inBytes julianBytes (onward (tableBytes (now (table .entry))) (λ rows. utcNew rows seconds nanos))) (now (out .entry)) r (now (out .exit)) ⌝ }
+    ensures { λ r. ⌜ Delivered (inBytes julianBytes (onward (tableBytes (now (table .entry))) (λ rows. utcNew rows seconds nanos))) (now (out .entry)) r
+        (now (out .exit)) ⌝ }
 {
     let mut months = [0; 16];
     let mut announced_seconds = [0; 16];
@@ -62,7 +63,8 @@ pub extern "C" fn ct_utc_from_calendar(
     table: &[u8],
     out: &mut [u8],
 ) -> i64
-    ensures { λ r. ⌜ Delivered (inBytes julianBytes (onward (tableBytes (now (table .entry))) (λ rows. utcFromCalendar rows year month day hour minute second))) (now (out .entry)) r (now (out .exit)) ⌝ }
+    ensures { λ r. ⌜ Delivered (inBytes julianBytes
+        (onward (tableBytes (now (table .entry))) (λ rows. utcFromCalendar rows year month day hour minute second))) (now (out .entry)) r (now (out .exit)) ⌝ }
 {
     let mut months = [0; 16];
     let mut seconds = [0; 16];
@@ -99,7 +101,8 @@ fn put_tai_by_rule(found: TaiByRule, out: &mut [u8]) -> i64
 
 #[no_mangle]
 pub extern "C" fn ct_utc_to_tai(jd1: f64, jd2: f64, table: &[u8], out: &mut [u8]) -> i64
-    ensures { λ r. ⌜ Delivered (inBytes julianRuleBytes (onward (tableBytes (now (table .entry))) (λ rows. utcToTaiByRule rows (julian jd1 jd2)))) (now (out .entry)) r (now (out .exit)) ⌝ }
+    ensures { λ r. ⌜ Delivered (inBytes julianRuleBytes (onward (tableBytes (now (table .entry))) (λ rows. utcToTaiByRule rows (julian jd1 jd2))))
+        (now (out .entry)) r (now (out .exit)) ⌝ }
 {
     let mut months = [0; 16];
     let mut seconds = [0; 16];
@@ -118,7 +121,8 @@ pub extern "C" fn ct_utc_to_tai(jd1: f64, jd2: f64, table: &[u8], out: &mut [u8]
 
 #[no_mangle]
 pub extern "C" fn ct_tai_to_utc(jd1: f64, jd2: f64, table: &[u8], out: &mut [u8]) -> i64
-    ensures { λ r. ⌜ Delivered (inBytes julianBytes (onward (tableBytes (now (table .entry))) (λ rows. taiToUtc rows (julian jd1 jd2)))) (now (out .entry)) r (now (out .exit)) ⌝ }
+    ensures { λ r. ⌜ Delivered (inBytes julianBytes (onward (tableBytes (now (table .entry))) (λ rows. taiToUtc rows (julian jd1 jd2)))) (now (out .entry)) r
+        (now (out .exit)) ⌝ }
 {
     let mut months = [0; 16];
     let mut seconds = [0; 16];
@@ -152,7 +156,8 @@ pub extern "C" fn ct_utc_to_ut1_with_dut1(
     table: &[u8],
     out: &mut [u8],
 ) -> i64
-    ensures { λ r. ⌜ Delivered (inBytes julianRuleBytes (onward (tableBytes (now (table .entry))) (λ rows. utcToUt1ByRule rows (julian jd1 jd2) dut1))) (now (out .entry)) r (now (out .exit)) ⌝ }
+    ensures { λ r. ⌜ Delivered (inBytes julianRuleBytes (onward (tableBytes (now (table .entry))) (λ rows. utcToUt1ByRule rows (julian jd1 jd2) dut1)))
+        (now (out .entry)) r (now (out .exit)) ⌝ }
 {
     let mut months = [0; 16];
     let mut seconds = [0; 16];
@@ -177,7 +182,8 @@ pub extern "C" fn ct_ut1_to_utc_with_dut1(
     table: &[u8],
     out: &mut [u8],
 ) -> i64
-    ensures { λ r. ⌜ Delivered (inBytes julianBytes (onward (tableBytes (now (table .entry))) (λ rows. ut1ToUtc rows (julian jd1 jd2) dut1))) (now (out .entry)) r (now (out .exit)) ⌝ }
+    ensures { λ r. ⌜ Delivered (inBytes julianBytes (onward (tableBytes (now (table .entry))) (λ rows. ut1ToUtc rows (julian jd1 jd2) dut1)))
+        (now (out .entry)) r (now (out .exit)) ⌝ }
 {
     let mut months = [0; 16];
     let mut seconds = [0; 16];

@@ -1,7 +1,9 @@
 -- The bits of each constant: a constant of the code reaches a proof as its bit pattern, and these laws put the definition in its place.
 use mathlib.Core.Path.{_≡_, refl}
 use lib.Ieee.{binary64, ofBits, round, neg, add, sub, div}
-use Rattle.constants.specs.Constants.{secondsPerDay, nanosecondsPerSecond, daysPerJulianYear, mjdZeroPoint, j2000Jd, unixEpochJd, gpsToTaiOffsetSeconds, ttTaiOffset, tcgRateLg, tcbRateLb, tdbOffset1977, mjd1977Jan1, tcgReferenceEpoch, tcgRateRatio, tcbRateRatio, ratio}
+use Rattle.constants.specs.Constants.{secondsPerDay, nanosecondsPerSecond, daysPerJulianYear, mjdZeroPoint, j2000Jd, unixEpochJd}
+use Rattle.constants.specs.Constants.{gpsToTaiOffsetSeconds, ttTaiOffset, tcgRateLg, tcbRateLb, tdbOffset1977, mjd1977Jan1, tcgReferenceEpoch}
+use Rattle.constants.specs.Constants.{tcgRateRatio, tcbRateRatio, ratio}
 
 pub seconds-per-day : ofBits binary64 0x40f5_1800_0000_0000 ≡ secondsPerDay
 unfolding secondsPerDay round ofBits

@@ -2,7 +2,8 @@
 use mathlib.Core.Path.{_≡_, refl, sym, ap, _∙_, subst}
 use mathlib.Core.Bool.{Bool, true, false, not, cond, true≢false, false≢true}
 use Prim.Native.Nat.{ℕ, zero, suc, _+_, _*_, _/_, _%_, _^_, _≤_, _<_}
-use native.Mathlib.Nat.{zero-lt-suc, mul-one, mul-right-comm, mul-pos, div-add-mod', mod-lt, div-mul-le-self, div-eq-of-lt-le, lt-of-lt-of-le, lt-irrefl, lt-of-mul-lt-mul-right, le-of-mul-le-mul-right, add-mul, one-mul}
+use native.Mathlib.Nat.{zero-lt-suc, mul-one, mul-right-comm, mul-pos, div-add-mod', mod-lt, div-mul-le-self, div-eq-of-lt-le, lt-of-lt-of-le}
+use native.Mathlib.Nat.{lt-irrefl, lt-of-mul-lt-mul-right, le-of-mul-le-mul-right, add-mul, one-mul}
 use native.Mathlib.Omega.{arith}
 use lib.IntN.{ℤ, pos}
 use lib.Dec.{T, ltb, ltb→lt, nltb→le}
@@ -71,7 +72,8 @@ above-no m e (fin true a b) h t = true≢false (h .0)
 above-no m e (fin false a b) h t =
     let n = m * up e in
     let d = down e in
-    let l : n < n / d * d = lt-of-mul-lt-mul-right (down b) (subst (λ (z : ℕ). n * down b < z) (scaled (n / d) n d (a * up b) (down b) (h .1)) (ltb→lt (n * down b) (a * up b * d) t)) in
+    let l : n < n / d * d = lt-of-mul-lt-mul-right (down b)
+    (subst (λ (z : ℕ). n * down b < z) (scaled (n / d) n d (a * up b) (down b) (h .1)) (ltb→lt (n * down b) (a * up b * d) t)) in
     lt-irrefl n (lt-of-lt-of-le l (div-mul-le-self n d))
 
 -- -k - 1
@@ -80,7 +82,8 @@ unfolding sub add sum neg
 minus k nan h = absurd h
 minus k (inf s) h = absurd h
 minus k (fin false a b) h = absurd (false≢true (h .0))
-minus k (fin true a b) h = round-same binary64 true (a * up b * 1 + 1 * down b) (down b * 1) (k + 1) 1 (mul-pos (down-pos b) (zero-lt-suc 0)) (zero-lt-suc 0) (go (a * up b) (down b) (h .1))
+minus k (fin true a b) h = round-same binary64 true (a * up b * 1 + 1 * down b) (down b * 1) (k + 1) 1 (mul-pos (down-pos b) (zero-lt-suc 0)) (zero-lt-suc 0)
+    (go (a * up b) (down b) (h .1))
   where
     go : (n d : ℕ) → n * 1 ≡ k * d → (n * 1 + 1 * d) * 1 ≡ (k + 1) * (d * 1)
     go n d p = mul-one (n * 1 + 1 * d) ∙ ap (λ (z : ℕ). z + 1 * d) p ∙ sym (add-mul k 1 d) ∙ ap (λ (z : ℕ). (k + 1) * z) (sym (mul-one d))
@@ -94,7 +97,8 @@ one-off (fin false m e) f t = absurd (above-no m e (toWhole cut (fin false m e))
 one-off (fin true m e) f t =
     let k = m * up e / down e in
     let v = cut-exact true m e f in
-    minus k (toWhole cut (fin true m e)) v ∙ ap (λ (z : ℕ). round binary64 true z 1) (one-up (m * up e) (down e) k (down-pos e) refl (below-yes m e k (toWhole cut (fin true m e)) v t))
+    minus k (toWhole cut (fin true m e)) v
+    ∙ ap (λ (z : ℕ). round binary64 true z 1) (one-up (m * up e) (down e) k (down-pos e) refl (below-yes m e k (toWhole cut (fin true m e)) v t))
 
 pub none-off : (x : Float) → T (fits binary64 x) → T (not (lt x (toWhole cut x))) → toWhole cut x ≡ toWhole downward x
 unfolding toWhole
@@ -103,7 +107,8 @@ none-off (inf s) f t = refl
 none-off (fin false m e) f t = refl
 none-off (fin true m e) f t =
     let k = m * up e / down e in
-    ap (λ (z : ℕ). round binary64 true z 1) (none-up (m * up e) (down e) k (down-pos e) refl (below-no m e k (toWhole cut (fin true m e)) (cut-exact true m e f) t))
+    ap (λ (z : ℕ). round binary64 true z 1)
+    (none-up (m * up e) (down e) k (down-pos e) refl (below-no m e k (toWhole cut (fin true m e)) (cut-exact true m e f) t))
 
 -- ---- -floor(-x)
 neg-odd : (d : ℕ) (s : Bool) (q k l : ℕ) → neg (odd d (not s) q k l) ≡ odd d s q k l

@@ -15,7 +15,8 @@ floor-minus-zero : toWhole downward (fin true 0 (pos 0)) ≡ fin true 0 (pos 0)
 unfolding toWhole
 floor-minus-zero = refl
 
-minus-quarter : (toWhole cut (fin true 1 (negsuc 1)) ≡ fin true 0 (pos 0)) × (toWhole upward (fin true 1 (negsuc 1)) ≡ fin true 0 (pos 0)) × (toWhole away (fin true 1 (negsuc 1)) ≡ fin true 0 (pos 0)) × (toWhole downward (fin true 1 (negsuc 1)) ≡ fin true 1 (pos 0))
+minus-quarter : (toWhole cut (fin true 1 (negsuc 1)) ≡ fin true 0 (pos 0)) × (toWhole upward (fin true 1 (negsuc 1)) ≡ fin true 0 (pos 0))
+    × (toWhole away (fin true 1 (negsuc 1)) ≡ fin true 0 (pos 0)) × (toWhole downward (fin true 1 (negsuc 1)) ≡ fin true 1 (pos 0))
 unfolding toWhole
 minus-quarter = (refl, refl, refl, refl)
 
@@ -37,12 +38,14 @@ unfolding toWhole ofBits
 round-under-half = refl
 
 -- ---- the ends of the format: the largest negative float, the negative one nearest to zero, an infinity, a NaN
-floor-ends : (toWhole downward (ofBits binary64 0xffef_ffff_ffff_ffff) ≡ ofBits binary64 0xffef_ffff_ffff_ffff) × (toWhole downward (ofBits binary64 0x8000_0000_0000_0001) ≡ fin true 1 (pos 0)) × (toWhole downward (inf true) ≡ inf true) × (toWhole downward nan ≡ nan)
+floor-ends : (toWhole downward (ofBits binary64 0xffef_ffff_ffff_ffff) ≡ ofBits binary64 0xffef_ffff_ffff_ffff)
+    × (toWhole downward (ofBits binary64 0x8000_0000_0000_0001) ≡ fin true 1 (pos 0)) × (toWhole downward (inf true) ≡ inf true) × (toWhole downward nan ≡ nan)
 unfolding toWhole ofBits
 floor-ends = (refl, refl, refl, refl)
 
 -- ---- nearest_int: 0.5 to 1, -0.5 to -1, -0.25 to 0.0, and 2 ^ 52 + 1 to 2 ^ 52 + 2
-nearest-halves : (nearestInt (fin false 1 (negsuc 0)) ≡ fin false 1 (pos 0)) × (nearestInt (fin true 1 (negsuc 0)) ≡ fin true 1 (pos 0)) × (nearestInt (fin true 1 (negsuc 1)) ≡ fin false 0 (pos 0))
+nearest-halves : (nearestInt (fin false 1 (negsuc 0)) ≡ fin false 1 (pos 0)) × (nearestInt (fin true 1 (negsuc 0)) ≡ fin true 1 (pos 0))
+    × (nearestInt (fin true 1 (negsuc 1)) ≡ fin false 0 (pos 0))
 unfolding nearestInt lt add sub
 nearest-halves = (refl, refl, refl)
 
@@ -51,7 +54,9 @@ unfolding nearestInt lt add
 nearest-from-two-52 = refl
 
 -- ---- the cast to an i64: 2 ^ 63, -2 ^ 63, the next float below it, a NaN, and toward zero
-cast-ends : (toSigned 63 (fin false 1 (pos 63)) ≡ pos 9223372036854775807) × (toSigned 63 (fin true 1 (pos 63)) ≡ negsuc 9223372036854775807) × (toSigned 63 (ofBits binary64 0xc3e0_0000_0000_0001) ≡ negsuc 9223372036854775807) × (toSigned 63 (inf false) ≡ pos 9223372036854775807) × (toSigned 63 nan ≡ pos 0)
+cast-ends : (toSigned 63 (fin false 1 (pos 63)) ≡ pos 9223372036854775807) × (toSigned 63 (fin true 1 (pos 63)) ≡ negsuc 9223372036854775807)
+    × (toSigned 63 (ofBits binary64 0xc3e0_0000_0000_0001) ≡ negsuc 9223372036854775807) × (toSigned 63 (inf false) ≡ pos 9223372036854775807)
+    × (toSigned 63 nan ≡ pos 0)
 unfolding toSigned ofBits
 cast-ends = (refl, refl, refl, refl, refl)
 

@@ -30,11 +30,14 @@ unfolding le lt eq toSigned
 over nan a b = absurd a
 over (inf true) a b = absurd a
 over (inf false) a b = refl
-over (fin true m e) a b = absurd (T-not (ltb 0 (m * up e * 1 + 2 ^ 63 * down e)) b (lt→ltb 0 (m * up e * 1 + 2 ^ 63 * down e) (go (m * up e) (down e) (down-pos e))))
+over (fin true m e) a b = absurd
+    (T-not (ltb 0 (m * up e * 1 + 2 ^ 63 * down e)) b (lt→ltb 0 (m * up e * 1 + 2 ^ 63 * down e) (go (m * up e) (down e) (down-pos e))))
   where
     go : (n d : ℕ) → 0 < d → 0 < n * 1 + 9223372036854775808 * d
     go n d k = omega arith
-over (fin false m e) a b = ap pos (go (m * up e / down e) (le-div-iff-mul-le (down-pos e) .1 (subst (λ (k : ℕ). 2 ^ 63 * down e ≤ k) (mul-one (m * up e)) (nltb→le (m * up e * 1) (2 ^ 63 * down e) b))))
+over (fin false m e) a b = ap pos
+    (go (m * up e / down e) (le-div-iff-mul-le (down-pos e) .1
+    (subst (λ (k : ℕ). 2 ^ 63 * down e ≤ k) (mul-one (m * up e)) (nltb→le (m * up e * 1) (2 ^ 63 * down e) b))))
   where
     go : (k : ℕ) → 9223372036854775808 ≤ k → 9223372036854775807 ≡ min k 9223372036854775807
     go k h = omega arith
@@ -51,7 +54,9 @@ under (fin false m e) a b = absurd (go (m * up e) (down e) (ltb→lt (m * up e *
     go n d k = omega arith
 under (fin true m e) a b =
     ap (λ (k : ℕ). negℤ (pos k))
-    (go (m * up e / down e) (le-div-iff-mul-le (down-pos e) .1 (subst (λ (k : ℕ). 2 ^ 63 * down e ≤ k) (mul-one (m * up e)) (nltb→le (m * up e * 1) (2 ^ 63 * down e) (neither (ltb (m * up e * 1) (2 ^ 63 * down e)) (eq lo (fin true m e)) a)))))
+    (go (m * up e / down e) (le-div-iff-mul-le (down-pos e) .1
+    (subst (λ (k : ℕ). 2 ^ 63 * down e ≤ k) (mul-one (m * up e))
+    (nltb→le (m * up e * 1) (2 ^ 63 * down e) (neither (ltb (m * up e * 1) (2 ^ 63 * down e)) (eq lo (fin true m e)) a)))))
   where
     go : (k : ℕ) → 9223372036854775808 ≤ k → 9223372036854775808 ≡ min k 9223372036854775808
     go k h = omega arith
@@ -62,12 +67,15 @@ unfolding le lt eq toSigned
 no-number nan a b = refl
 no-number (inf true) a b = absurd b
 no-number (inf false) a b = absurd a
-no-number (fin false m e) a b = absurd (T-not (le lo (fin false m e)) a (or-l (ltb 0 (2 ^ 63 * down e + m * up e * 1)) (eq lo (fin false m e)) (lt→ltb 0 (2 ^ 63 * down e + m * up e * 1) (go (m * up e) (down e) (down-pos e)))))
+no-number (fin false m e) a b =
+    absurd (T-not (le lo (fin false m e)) a
+    (or-l (ltb 0 (2 ^ 63 * down e + m * up e * 1)) (eq lo (fin false m e)) (lt→ltb 0 (2 ^ 63 * down e + m * up e * 1) (go (m * up e) (down e) (down-pos e)))))
   where
     go : (n d : ℕ) → 0 < d → 0 < 9223372036854775808 * d + n * 1
     go n d k = omega arith
 no-number (fin true m e) a b =
-    absurd (go (m * up e) (down e) (down-pos e) (nltb→le 0 (m * up e * 1 + 0 * down e) b) (nltb→le (m * up e * 1) (2 ^ 63 * down e) (neither (ltb (m * up e * 1) (2 ^ 63 * down e)) (eq lo (fin true m e)) a)))
+    absurd (go (m * up e) (down e) (down-pos e) (nltb→le 0 (m * up e * 1 + 0 * down e) b)
+    (nltb→le (m * up e * 1) (2 ^ 63 * down e) (neither (ltb (m * up e * 1) (2 ^ 63 * down e)) (eq lo (fin true m e)) a)))
   where
     go : (n d : ℕ) → 0 < d → n * 1 + 0 * d ≤ 0 → 9223372036854775808 * d ≤ n * 1 → ⊥
     go n d k a b = omega arith

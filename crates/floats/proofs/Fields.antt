@@ -1,9 +1,12 @@
--- A bit pattern by its fields, and the value of a pattern that has its last k digits cut off after a number below 2 ^ k was added: the carry may run into the exponent's field.
+-- A bit pattern by its fields, and the value of a pattern that has its last k digits cut off after a number below 2 ^ k was added: the carry may run into the
+-- exponent's field.
 use mathlib.Core.Path.{_≡_, refl, sym, ap, _∙_, subst}
 use mathlib.Core.Logic.{_⊎_, inl, inr}
 use mathlib.Core.Bool.{Bool, true, false, not, cond}
 use Prim.Native.Nat.{ℕ, suc, _+_, _-_, _*_, _/_, _%_, _^_, _≤_, _<_}
-use native.Mathlib.Nat.{le-trans, le-of-eq, lt-of-lt-of-le, eq-or-lt-of-le, mul-one, one-mul, mul-assoc, mul-right-comm, add-mul, suc-mul, add-assoc, add-zero, mod-lt, div-add-mod', mul-add-div-right, eq-of-mul-eq-mul-right, le-div-iff-mul-le, le-of-suc-le-suc, div-lt-iff-lt-mul, mul-le-mul-right, pow-succ'}
+use native.Mathlib.Nat.{le-trans, le-of-eq, lt-of-lt-of-le, eq-or-lt-of-le, mul-one, one-mul, mul-assoc, mul-right-comm, add-mul, suc-mul, add-assoc}
+use native.Mathlib.Nat.{add-zero, mod-lt, div-add-mod', mul-add-div-right, eq-of-mul-eq-mul-right, le-div-iff-mul-le, le-of-suc-le-suc}
+use native.Mathlib.Nat.{div-lt-iff-lt-mul, mul-le-mul-right, pow-succ'}
 use native.Mathlib.Omega.{arith}
 use lib.Dec.{T, leb, eqb, leb→le, le→leb, eqb→eq}
 use lib.Arith.{digits-div, digits-mod}
@@ -80,7 +83,8 @@ same-test false false p q = refl
 
 -- ---- a pattern by its upper bits h and its digits t
 sign-high : (b : ℕ) → sign b ≡ leb 2048 (b / 2 ^ 52)
-sign-high b = same-test (sign b) (leb 2048 (b / 2 ^ 52)) (λ t. le→leb 2048 (b / 2 ^ 52) (le-div-iff-mul-le (pow-pos 52) .1 (leb→le (2 ^ 63) b t))) (λ t. le→leb (2 ^ 63) b (le-div-iff-mul-le (pow-pos 52) .0 (leb→le 2048 (b / 2 ^ 52) t)))
+sign-high b = same-test (sign b) (leb 2048 (b / 2 ^ 52)) (λ t. le→leb 2048 (b / 2 ^ 52) (le-div-iff-mul-le (pow-pos 52) .1 (leb→le (2 ^ 63) b t)))
+    (λ t. le→leb (2 ^ 63) b (le-div-iff-mul-le (pow-pos 52) .0 (leb→le 2048 (b / 2 ^ 52) t)))
 
 pattern : (h t : ℕ) → t < 2 ^ 52 → ofBits binary64 (h * 2 ^ 52 + t) ≡ ofFields binary64 (leb 2048 h) (h % 2048) t
 pattern h t H =
@@ -111,12 +115,18 @@ carried h j u e J U = go (eq-or-lt-of-le U)
         subst (λ (v : Float). HasValue v (leb 2048 h) ((2 ^ 52 + u) * 2 ^ j) (2 ^ 1074))
         (sym (pattern h u l ∙ ap (λ (z : ℕ). ofFields binary64 (leb 2048 h) z u) e)) (normal (leb 2048 h) j u (fine j J .0))
     go (inl p) =
-        let up-one : h * 2 ^ 52 + u ≡ (h + 1) * 2 ^ 52 + 0 = ap (λ (z : ℕ). h * 2 ^ 52 + z) p ∙ sym (add-zero ((h + 1) * 2 ^ 52) ∙ add-mul h 1 (2 ^ 52) ∙ ap (λ (z : ℕ). h * 2 ^ 52 + z) (one-mul (2 ^ 52))) in
-        let same : leb 2048 (h + 1) ≡ leb 2048 h = same-test (leb 2048 (h + 1)) (leb 2048 h) (λ t. le→leb 2048 h (over h j e J (leb→le 2048 (h + 1) t))) (λ t. le→leb 2048 (h + 1) (more h (leb→le 2048 h t))) in
-        let is = ap (ofBits binary64) up-one ∙ pattern (h + 1) 0 (pow-pos 52) ∙ ap (λ (z : Bool). ofFields binary64 z ((h + 1) % 2048) 0) same ∙ ap (λ (z : ℕ). ofFields binary64 (leb 2048 h) z 0) (next h j e J) in
-        let twice : 2 ^ 52 * 2 ^ suc j ≡ (2 ^ 52 + u) * 2 ^ j = ap (λ (z : ℕ). 2 ^ 52 * z) (pow-succ' 2 j) ∙ sym (mul-assoc (2 ^ 52) 2 (2 ^ j)) ∙ ap (λ (z : ℕ). (2 ^ 52 + z) * 2 ^ j) (sym p) in
+        let up-one : h * 2 ^ 52 + u ≡ (h + 1) * 2 ^ 52 + 0 = ap (λ (z : ℕ). h * 2 ^ 52 + z) p
+        ∙ sym (add-zero ((h + 1) * 2 ^ 52) ∙ add-mul h 1 (2 ^ 52) ∙ ap (λ (z : ℕ). h * 2 ^ 52 + z) (one-mul (2 ^ 52))) in
+        let same : leb 2048 (h + 1) ≡ leb 2048 h =
+        same-test (leb 2048 (h + 1)) (leb 2048 h) (λ t. le→leb 2048 h (over h j e J (leb→le 2048 (h + 1) t)))
+        (λ t. le→leb 2048 (h + 1) (more h (leb→le 2048 h t))) in
+        let is = ap (ofBits binary64) up-one ∙ pattern (h + 1) 0 (pow-pos 52) ∙ ap (λ (z : Bool). ofFields binary64 z ((h + 1) % 2048) 0) same
+        ∙ ap (λ (z : ℕ). ofFields binary64 (leb 2048 h) z 0) (next h j e J) in
+        let twice : 2 ^ 52 * 2 ^ suc j ≡ (2 ^ 52 + u) * 2 ^ j = ap (λ (z : ℕ). 2 ^ 52 * z) (pow-succ' 2 j) ∙ sym (mul-assoc (2 ^ 52) 2 (2 ^ j))
+        ∙ ap (λ (z : ℕ). (2 ^ 52 + z) * 2 ^ j) (sym p) in
         subst (λ (v : Float). HasValue v (leb 2048 h) ((2 ^ 52 + u) * 2 ^ j) (2 ^ 1074)) (sym is)
-        (subst (λ (z : ℕ). HasValue (ofFields binary64 (leb 2048 h) (suc (suc j)) 0) (leb 2048 h) z (2 ^ 1074)) twice (normal (leb 2048 h) (suc j) 0 (fine j J .1)))
+        (subst (λ (z : ℕ). HasValue (ofFields binary64 (leb 2048 h) (suc (suc j)) 0) (leb 2048 h) z (2 ^ 1074)) twice
+        (normal (leb 2048 h) (suc j) 0 (fine j J .1)))
 
 -- ---- the last k digits cut off, for a k up to 52
 module _ (k : ℕ) (K : k ≤ 52) where
@@ -139,7 +149,9 @@ module _ (k : ℕ) (K : k ≤ 52) where
   at-most : (t a : ℕ) → t < 2 ^ 52 → a < 2 ^ k → (t + a) / 2 ^ k * 2 ^ k ≤ 2 ^ 52
   at-most t a H A =
       let n = 2 ^ (52 - k) in
-      let q : (t + a) / 2 ^ k < suc n = div-lt-iff-lt-mul (pow-pos k) .1 (lt-of-lt-of-le (go t a (2 ^ k) H A) (le-of-eq (ap (λ (z : ℕ). z + 2 ^ k) (sym splits) ∙ sym (suc-mul n (2 ^ k))))) in
+      let q : (t + a) / 2 ^ k < suc n =
+      div-lt-iff-lt-mul (pow-pos k) .1
+      (lt-of-lt-of-le (go t a (2 ^ k) H A) (le-of-eq (ap (λ (z : ℕ). z + 2 ^ k) (sym splits) ∙ sym (suc-mul n (2 ^ k))))) in
       le-trans (mul-le-mul-right (2 ^ k) (le-of-suc-le-suc q)) (le-of-eq splits)
     where
       go : (t a p : ℕ) → t < 4503599627370496 → a < p → t + a < 4503599627370496 + p
@@ -160,7 +172,8 @@ module _ (k : ℕ) (K : k ≤ 52) where
     high = sym (field b 11 52) ∙ E
 
     parts : (b + a) / 2 ^ k * 2 ^ k ≡ b / 2 ^ 52 * 2 ^ 52 + u
-    parts = ap (λ (z : ℕ). z / 2 ^ k * 2 ^ k) (ap (λ (z : ℕ). z + a) (sym (div-add-mod' b (2 ^ 52))) ∙ add-assoc (b / 2 ^ 52 * 2 ^ 52) (digits b) a) ∙ cut-low (b / 2 ^ 52) (digits b + a)
+    parts = ap (λ (z : ℕ). z / 2 ^ k * 2 ^ k) (ap (λ (z : ℕ). z + a) (sym (div-add-mod' b (2 ^ 52))) ∙ add-assoc (b / 2 ^ 52 * 2 ^ 52) (digits b) a)
+        ∙ cut-low (b / 2 ^ 52) (digits b + a)
 
     whole : (2 ^ 52 + u) * 2 ^ j ≡ (q + a) / 2 ^ k * 2 ^ 1074
     whole =
@@ -183,4 +196,6 @@ module _ (k : ℕ) (K : k ≤ 52) where
         go q a p h l = omega arith
 
     pub rounded : r ≡ round binary64 (sign b) ((q + a) / 2 ^ k) 1
-    rounded = whole-unique binary64 r (round binary64 (sign b) ((q + a) / 2 ^ k) 1) (sign b) ((q + a) / 2 ^ k) (ofBits-fits binary64 ((b + a) / 2 ^ k * 2 ^ k)) (round-fits binary64 (sign b) ((q + a) / 2 ^ k) 1) value (round-whole binary64 (sign b) ((q + a) / 2 ^ k) most)
+    rounded = whole-unique binary64 r (round binary64 (sign b) ((q + a) / 2 ^ k) 1) (sign b) ((q + a) / 2 ^ k)
+        (ofBits-fits binary64 ((b + a) / 2 ^ k * 2 ^ k)) (round-fits binary64 (sign b) ((q + a) / 2 ^ k) 1) value
+        (round-whole binary64 (sign b) ((q + a) / 2 ^ k) most)

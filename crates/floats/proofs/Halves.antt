@@ -53,7 +53,8 @@ module _ (x : Float) (F : T (fits binary64 x)) (N : T (not (isNan x))) where
   e = bitAnd (b / 2 ^ 52) 2047
 
   half : 1022 ≤ e → e < 1023 → toWhole away x ≡ round binary64 (sign b) 1 1
-  half lo hi = ap (toWhole away) (is x F N ∙ ap (λ (z : ℕ). ofFields binary64 (sign b) z (digits b)) (sym (expo-is b) ∙ go e lo hi)) ∙ half-fields (sign b) (digits b) (digits-lt b)
+  half lo hi = ap (toWhole away) (is x F N ∙ ap (λ (z : ℕ). ofFields binary64 (sign b) z (digits b)) (sym (expo-is b) ∙ go e lo hi))
+      ∙ half-fields (sign b) (digits b) (digits-lt b)
     where
       go : (e : ℕ) → 1022 ≤ e → e < 1023 → e ≡ 1022
       go e a b = omega arith
@@ -88,4 +89,5 @@ module _ (e : ℕ) (lo : 1023 ≤ e) (hi : e < 1075) where
   twice = ap (λ (z : ℕ). 2 ^ z) (sym (facts .2)) ∙ pow-succ' 2 (k - 1) ∙ ap (λ (z : ℕ). 2 * z) (sym unit-half-is)
 
   pub taken-nearer : (q : ℕ) (s : Bool) → (q + unit-half) / 2 ^ k ≡ away s q (2 ^ k)
-  taken-nearer q s = sym (ap (λ (z : ℕ). z / (2 * 2 ^ k)) (ap (λ (z : ℕ). 2 * q + z) twice ∙ sym (mul-add 2 q unit-half)) ∙ mul-div-mul-left (q + unit-half) (2 ^ k) (zero-lt-suc 1))
+  taken-nearer q s = sym (ap (λ (z : ℕ). z / (2 * 2 ^ k)) (ap (λ (z : ℕ). 2 * q + z) twice ∙ sym (mul-add 2 q unit-half))
+      ∙ mul-div-mul-left (q + unit-half) (2 ^ k) (zero-lt-suc 1))

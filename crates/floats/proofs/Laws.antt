@@ -1,8 +1,10 @@
--- The result of a rounding is the whole number itself: `exact`, over every finite float and each of the four roundings; and what the callers of `floats` cite beside it.
+-- The result of a rounding is the whole number itself: `exact`, over every finite float and each of the four roundings; and what the callers of `floats` cite
+-- beside it.
 use mathlib.Core.Path.{_≡_, refl, sym, ap, _∙_, subst}
 use mathlib.Core.Bool.{Bool, true, false, not, _&&_, true≢false}
 use Prim.Native.Nat.{ℕ, zero, suc, _+_, _-_, _*_, _/_, _%_, _^_, _≤_, _<_}
-use native.Mathlib.Nat.{le-of-lt, le-trans, le-of-eq, zero-lt-suc, mul-one, mul-assoc, mul-right-comm, mul-comm, mul-left-comm, mul-mul-mul-comm, add-mul, div-one, div-lt-iff-lt-mul, mul-pos, le-of-suc-le-suc, add-zero, le-of-mul-le-mul-right, mul-le-mul-right}
+use native.Mathlib.Nat.{le-of-lt, le-trans, le-of-eq, zero-lt-suc, mul-one, mul-assoc, mul-right-comm, mul-comm, mul-left-comm, mul-mul-mul-comm}
+use native.Mathlib.Nat.{add-mul, div-one, div-lt-iff-lt-mul, mul-pos, le-of-suc-le-suc, add-zero, le-of-mul-le-mul-right, mul-le-mul-right}
 use native.Mathlib.Omega.{arith}
 use lib.IntN.{ℤ, pos, negsuc}
 use lib.Dec.{T, leb, ltb, eqb, ltb→lt, lit<}
@@ -41,7 +43,8 @@ in-format s (suc m) e t =
     let D = ltb (suc m * up e) (2 ^ 1024 * down e) in
     (ltb→lt (suc m) (2 ^ 53) (and-r A B (and-l (A && B) C (and-l (A && B && C) D t))), ltb→lt (suc m * up e) (2 ^ 1024 * down e) (and-r (A && B && C) D t))
 
--- ---- three properties of a rounding: it leaves a whole number as it is, it takes a size below 2 ^ 53 to one up to 2 ^ 53, and equal fractions go to the same number
+-- ---- three properties of a rounding: it leaves a whole number as it is, it takes a size below 2 ^ 53 to one up to 2 ^ 53, and equal fractions go to the same
+-- number
 abbrev pub LeavesWhole : (Bool → ℕ → ℕ → ℕ) → Type 0
 LeavesWhole how = (s : Bool) (n : ℕ) → how s n 1 ≡ n
 
@@ -104,7 +107,8 @@ pub at : (how : Bool → ℕ → ℕ → ℕ) → ByValue how → (x : Float) (s
 unfolding toWhole
 at how same nan s a c v C = absurd v
 at how same (inf t) s a c v C = absurd v
-at how same (fin t m e) s a c v C = ap (λ (z : Bool). round binary64 z (how z (m * up e) (down e)) 1) (v .0) ∙ ap (λ (k : ℕ). round binary64 s k 1) (same s (m * up e) (down e) a c (down-pos e) C (v .1))
+at how same (fin t m e) s a c v C = ap (λ (z : Bool). round binary64 z (how z (m * up e) (down e)) 1) (v .0)
+    ∙ ap (λ (k : ℕ). round binary64 s k 1) (same s (m * up e) (down e) a c (down-pos e) C (v .1))
 
 pub nan-stays : (how : Bool → ℕ → ℕ → ℕ) (x : Float) → x ≡ nan → x ≡ toWhole how x
 unfolding toWhole
@@ -135,7 +139,8 @@ module _ (how : Bool → ℕ → ℕ → ℕ) (one : LeavesWhole how) where
   large (fin t m (pos k)) f s a c v C h = whole-stays t m k f
   large (fin t m (negsuc k)) f s a c v C h =
       absurd (go m k (in-format t m (negsuc k) f .0) (pow-pos k)
-      (le-of-mul-le-mul-right (le-trans (le-of-eq (mul-right-comm (2 ^ 52) (2 ^ suc k) c)) (le-trans (mul-le-mul-right (2 ^ suc k) h) (le-of-eq (sym (v .1))))) C))
+      (le-of-mul-le-mul-right (le-trans (le-of-eq (mul-right-comm (2 ^ 52) (2 ^ suc k) c))
+      (le-trans (mul-le-mul-right (2 ^ suc k) h) (le-of-eq (sym (v .1))))) C))
     where
       go : (m k : ℕ) → m < 9007199254740992 → 0 < 2 ^ k → 4503599627370496 * 2 ^ suc k ≤ m * 1 → ⊥
       go m k h p l = omega arith
@@ -143,8 +148,10 @@ module _ (how : Bool → ℕ → ℕ → ℕ) (one : LeavesWhole how) where
   -- the result is the whole number itself, and not only the float nearest to it
   pub exact : StaysBelow how → (s : Bool) (m : ℕ) (e : ℤ) → T (fits binary64 (fin s m e)) → HasValue (toWhole how (fin s m e)) s (how s (m * up e) (down e)) 1
   unfolding toWhole
-  exact most s m (pos a) f = subst (λ (v : Float). HasValue v s (how s (m * 2 ^ a) 1) 1) (whole-stays s m a f) (refl, sym (ap (λ (k : ℕ). k * 1) (one s (m * 2 ^ a))))
-  exact most s m (negsuc a) f = round-whole binary64 s (how s (m * 1) (2 ^ suc a)) (most s (m * 1) (2 ^ suc a) (pow-pos (suc a)) (go m (2 ^ suc a) (in-format s m (negsuc a) f .0) (pow-pos (suc a))))
+  exact most s m (pos a) f = subst (λ (v : Float). HasValue v s (how s (m * 2 ^ a) 1) 1) (whole-stays s m a f)
+      (refl, sym (ap (λ (k : ℕ). k * 1) (one s (m * 2 ^ a))))
+  exact most s m (negsuc a) f = round-whole binary64 s (how s (m * 1) (2 ^ suc a))
+      (most s (m * 1) (2 ^ suc a) (pow-pos (suc a)) (go m (2 ^ suc a) (in-format s m (negsuc a) f .0) (pow-pos (suc a))))
     where
       go : (m p : ℕ) → m < 9007199254740992 → 0 < p → m * 1 < 9007199254740992 * p
       go m p h k = omega arith

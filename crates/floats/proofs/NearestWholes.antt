@@ -51,7 +51,10 @@ large-size nan h = absurd (false≢true h)
 large-size (inf true) h = absurd (false≢true h)
 large-size (inf false) h = (refl, refl)
 large-size (fin true m e) h = absurd (false≢true (sym (below-half (1 * 1 * down e) (mul-pos (lit< tt) (down-pos e)) (m * up e * 2)) ∙ h))
-large-size (fin false m e) h = (le-ltb (m * up e * 2) (1 * 1 * down e) (at-least (1 * 1 * down e) (m * up e * 2) h), le-ltb (m * up e * 1) (0 * down e) (zero-le (down e) (m * up e * 1)))
+large-size (fin false m e) h = (
+  le-ltb (m * up e * 2) (1 * 1 * down e) (at-least (1 * 1 * down e) (m * up e * 2) h),
+  le-ltb (m * up e * 1) (0 * down e) (zero-le (down e) (m * up e * 1)),
+)
   where
     zero-le : (d x : ℕ) → 0 * d ≤ x
     zero-le d x = omega arith
@@ -69,7 +72,9 @@ unfolding toSigned
 value-cast nan k h l = absurd h
 value-cast (inf s) k h l = absurd h
 value-cast (fin true m e) k h l = absurd (true≢false (h .0))
-value-cast (fin false m e) k h l = ap (λ (z : ℕ). pos (min z 9223372036854775807)) (ap (λ (z : ℕ). z / down e) (sym (mul-one (m * up e)) ∙ h .1) ∙ mul-div-cancel k (down-pos e)) ∙ ap pos (least k l)
+value-cast (fin false m e) k h l =
+    ap (λ (z : ℕ). pos (min z 9223372036854775807)) (ap (λ (z : ℕ). z / down e) (sym (mul-one (m * up e)) ∙ h .1) ∙ mul-div-cancel k (down-pos e))
+    ∙ ap pos (least k l)
   where
     least : (k : ℕ) → k < 4503599627370496 → min k 9223372036854775807 ≡ k
     least k l = omega arith
@@ -81,8 +86,10 @@ in-cast nan l h = absurd (false≢true l)
 in-cast (inf true) l h = absurd (false≢true l)
 in-cast (inf false) l h = absurd (false≢true h)
 in-cast (fin true m e) l h = absurd (false≢true (sym (below-half (1 * 1 * down e) (mul-pos (lit< tt) (down-pos e)) (m * up e * 1)) ∙ l))
-in-cast (fin false m e) l h =
-    (lt→ltb 0 (1 * down e + m * up e * 1) (some (down e) (m * up e) (down-pos e)), lt→ltb (m * up e * 1) (2 ^ 64 * down e) (more (m * up e) (down e) (ltb→lt (m * up e * 1) (2 ^ 52 * down e) (subst T (sym h) tt))))
+in-cast (fin false m e) l h = (
+  lt→ltb 0 (1 * down e + m * up e * 1) (some (down e) (m * up e) (down-pos e)),
+  lt→ltb (m * up e * 1) (2 ^ 64 * down e) (more (m * up e) (down e) (ltb→lt (m * up e * 1) (2 ^ 52 * down e) (subst T (sym h) tt))),
+)
   where
     some : (d x : ℕ) → 0 < d → 0 < 1 * d + x * 1
     some d x h = omega arith
@@ -102,7 +109,9 @@ digits (inf true) f l h k e = absurd (false≢true l)
 digits (inf false) f l h k e = absurd (false≢true h)
 digits (fin true m i) f l h k e = absurd (false≢true (sym (below-half (1 * 1 * down i) (mul-pos (lit< tt) (down-pos i)) (m * up i * 1)) ∙ l))
 digits (fin false m i) f l h k e =
-    let q : m * up i / down i < 2 ^ 52 = div-lt-iff-lt-mul (down-pos i) .1 (subst (λ (z : ℕ). z < 2 ^ 52 * down i) (mul-one (m * up i)) (ltb→lt (m * up i * 1) (2 ^ 52 * down i) (subst T (sym h) tt))) in
+    let q : m * up i / down i < 2 ^ 52 =
+    div-lt-iff-lt-mul (down-pos i) .1
+    (subst (λ (z : ℕ). z < 2 ^ 52 * down i) (mul-one (m * up i)) (ltb→lt (m * up i * 1) (2 ^ 52 * down i) (subst T (sym h) tt))) in
     let is : k ≡ m * up i / down i = least k (m * up i / down i) e q in
     record {
       below = subst (λ (z : ℕ). z < 2 ^ 52) (sym is) q;
@@ -119,7 +128,10 @@ unfolding le lt eq abs neg nearestInt
 small-is nan h l = absurd (false≢true l)
 small-is (inf true) h l = absurd (false≢true l)
 small-is (inf false) h l = absurd (true≢false h)
-small-is (fin true m e) h l = sym (ap (λ (b : Bool). cond b nought (cond (lt (fin true m e) nought) (toWhole upward (sub binary64 (fin true m e) half)) (toWhole downward (add binary64 (fin true m e) half)))) l)
+small-is (fin true m e) h l = sym
+    (ap (λ (b : Bool). cond b nought
+    (cond (lt (fin true m e) nought) (toWhole upward (sub binary64 (fin true m e) half)) (toWhole downward (add binary64 (fin true m e) half)))) l)
 small-is (fin false m e) h l =
-    sym (ap (λ (b : Bool). cond b nought (cond (lt (fin false m e) nought) (toWhole upward (sub binary64 (fin false m e) half)) (toWhole downward (add binary64 (fin false m e) half))))
+    sym (ap (λ (b : Bool). cond b nought
+    (cond (lt (fin false m e) nought) (toWhole upward (sub binary64 (fin false m e) half)) (toWhole downward (add binary64 (fin false m e) half))))
     (under (1 * 1 * down e) (m * up e * 2) h))

@@ -17,7 +17,8 @@ use Rattle.floats.proofs.Laws.{LeavesWhole, ByValue, at, large}
 use Rattle.floats.proofs.Fields.{sign, expo, digits, digits-lt, ofBits-is, expo-is, lead, normal, subnormal, no-nan, value, rounded}
 
 -- ---- from 2 ^ 52 on: a whole number or an infinity
-high-fields : (how : Bool → ℕ → ℕ → ℕ) → LeavesWhole how → (s : Bool) (e t : ℕ) → 1075 ≤ e → T (not (isNan (ofFields binary64 s e t))) → T (fits binary64 (ofFields binary64 s e t)) → ofFields binary64 s e t ≡ toWhole how (ofFields binary64 s e t)
+high-fields : (how : Bool → ℕ → ℕ → ℕ) → LeavesWhole how → (s : Bool) (e t : ℕ) → 1075 ≤ e → T (not (isNan (ofFields binary64 s e t)))
+    → T (fits binary64 (ofFields binary64 s e t)) → ofFields binary64 s e t ≡ toWhole how (ofFields binary64 s e t)
 unfolding ofFields isNan toWhole
 high-fields how one s zero t lo n f = absurd (none lo)
   where
@@ -25,9 +26,11 @@ high-fields how one s zero t lo n f = absurd (none lo)
     none h = omega arith
 high-fields how one s (suc j) t lo n f =
     go (eqb (suc j) 2047) (eqb t 0) (odd 53 s (2 ^ 52 + t) j 1074)
-    (λ g. large how one (odd 53 s (2 ^ 52 + t) j 1074) g s ((2 ^ 52 + t) * 2 ^ j) (2 ^ 1074) (odd-sign 53 s (2 ^ 52 + t) j 1074) (pow-pos 1074) (mul-le-mul (le-add-right (2 ^ 52) t) (pow-mono (le-of-suc-le-suc lo)))) n f
+    (λ g. large how one (odd 53 s (2 ^ 52 + t) j 1074) g s ((2 ^ 52 + t) * 2 ^ j) (2 ^ 1074) (odd-sign 53 s (2 ^ 52 + t) j 1074) (pow-pos 1074)
+    (mul-le-mul (le-add-right (2 ^ 52) t) (pow-mono (le-of-suc-le-suc lo)))) n f
   where
-    go : (a z : Bool) (w : Float) → (T (fits binary64 w) → w ≡ toWhole how w) → T (not (isNan (cond a (cond z (inf s) nan) w))) → T (fits binary64 (cond a (cond z (inf s) nan) w)) → cond a (cond z (inf s) nan) w ≡ toWhole how (cond a (cond z (inf s) nan) w)
+    go : (a z : Bool) (w : Float) → (T (fits binary64 w) → w ≡ toWhole how w) → T (not (isNan (cond a (cond z (inf s) nan) w)))
+        → T (fits binary64 (cond a (cond z (inf s) nan) w)) → cond a (cond z (inf s) nan) w ≡ toWhole how (cond a (cond z (inf s) nan) w)
     go true true w k n f = refl
     go true false w k n f = absurd n
     go false z w k n f = k f
@@ -81,14 +84,17 @@ module _ (x : Float) (F : T (fits binary64 x)) (N : T (not (isNan x))) where
       (high-fields how one (sign b) (expo b) (digits b) (subst (λ (z : ℕ). 1075 ≤ z) (expo-is b) h)) N F
 
   -- where the rounding takes every size below 2 ^ (52 + p) units to 0
-  pub low : (how : Bool → ℕ → ℕ → ℕ) → ByValue how → (p : ℕ) → p ≤ 1022 → ((s : Bool) (a : ℕ) → a < 2 ^ (52 + p) → how s a (2 ^ 1074) ≡ 0) → e < suc p → ofBits binary64 (bitAnd b (2 ^ 63)) ≡ toWhole how x
+  pub low : (how : Bool → ℕ → ℕ → ℕ) → ByValue how → (p : ℕ) → p ≤ 1022 → ((s : Bool) (a : ℕ) → a < 2 ^ (52 + p) → how s a (2 ^ 1074) ≡ 0) → e < suc p
+      → ofBits binary64 (bitAnd b (2 ^ 63)) ≡ toWhole how x
   low how same p P none h =
       let v = small-fields (sign b) (expo b) (digits b) p (digits-lt b) (subst (λ (z : ℕ). z < suc p) (expo-is b) h) P in
       sign-bit b b-lt
-      ∙ sym (ap (toWhole how) is ∙ at how same (ofFields binary64 (sign b) (expo b) (digits b)) (sign b) (v .0) (2 ^ 1074) (v .1) (pow-pos 1074) ∙ ap (λ (z : ℕ). round binary64 (sign b) z 1) (none (sign b) (v .0) (v .2)))
+      ∙ sym (ap (toWhole how) is ∙ at how same (ofFields binary64 (sign b) (expo b) (digits b)) (sign b) (v .0) (2 ^ 1074) (v .1) (pow-pos 1074)
+      ∙ ap (λ (z : ℕ). round binary64 (sign b) z 1) (none (sign b) (v .0) (v .2)))
 
   pub low-no-nan : T (not (nanBits binary64 (bitAnd b (2 ^ 63))))
-  low-no-nan = subst (λ (z : Bool). T (not z)) (sym (nanBits-is binary64 (bitAnd b (2 ^ 63)))) (subst (λ (v : Float). T (not (isNan v))) (sym (sign-bit b b-lt ∙ zero-is (sign b))) (unfold isNan in tt))
+  low-no-nan = subst (λ (z : Bool). T (not z)) (sym (nanBits-is binary64 (bitAnd b (2 ^ 63))))
+      (subst (λ (v : Float). T (not (isNan v))) (sym (sign-bit b b-lt ∙ zero-is (sign b))) (unfold isNan in tt))
 
   -- between: the code adds an a below 2 ^ k and cuts k digits off
   module _ (lo : 1023 ≤ e) (hi : e < 1075) (a : ℕ) (A : a < 2 ^ (1075 - e)) where
@@ -123,12 +129,15 @@ module _ (x : Float) (F : T (fits binary64 x)) (N : T (not (isNan x))) where
     units : q * 2 ^ 1074 ≡ q * 2 ^ j * 2 ^ k
     units = sym (mul-assoc q (2 ^ j) (2 ^ k) ∙ ap (λ (z : ℕ). q * z) (mul-comm (2 ^ j) (2 ^ k) ∙ sym (pow-add 2 k j) ∙ ap (λ (z : ℕ). 2 ^ z) (facts .1)))
 
-    pub mid : (how : Bool → ℕ → ℕ → ℕ) → ByValue how → ((s : Bool) → (q + a) / 2 ^ k ≡ how s q (2 ^ k)) → ofBits binary64 ((b + a) / 2 ^ k * 2 ^ k % 2 ^ 64) ≡ toWhole how x
+    pub mid : (how : Bool → ℕ → ℕ → ℕ) → ByValue how → ((s : Bool) → (q + a) / 2 ^ k ≡ how s q (2 ^ k))
+        → ofBits binary64 ((b + a) / 2 ^ k * 2 ^ k % 2 ^ 64) ≡ toWhole how x
     mid how same taken =
         ap (ofBits binary64) kept
         ∙ rounded k (facts .0) b j a (facts .1) (facts .2) expo-suc A
         ∙ ap (λ (z : ℕ). round binary64 (sign b) z 1) (taken (sign b) ∙ same (sign b) q (2 ^ k) (q * 2 ^ j) (2 ^ 1074) (pow-pos k) (pow-pos 1074) units)
-        ∙ sym (ap (toWhole how) (is ∙ ap (λ (z : ℕ). ofFields binary64 (sign b) z (digits b)) expo-suc) ∙ at how same (ofFields binary64 (sign b) (suc j) (digits b)) (sign b) (q * 2 ^ j) (2 ^ 1074) (normal (sign b) j (digits b) (facts .4)) (pow-pos 1074))
+        ∙ sym (ap (toWhole how) (is ∙ ap (λ (z : ℕ). ofFields binary64 (sign b) z (digits b)) expo-suc)
+        ∙ at how same (ofFields binary64 (sign b) (suc j) (digits b)) (sign b) (q * 2 ^ j) (2 ^ 1074) (normal (sign b) j (digits b) (facts .4))
+        (pow-pos 1074))
 
     pub mid-no-nan : T (not (nanBits binary64 ((b + a) / 2 ^ k * 2 ^ k % 2 ^ 64)))
     mid-no-nan =

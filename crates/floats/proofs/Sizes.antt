@@ -77,7 +77,8 @@ size-is nan = same
 size-is (inf true) = same
 size-is (inf false) = same
 size-is (fin true m e) = same
-size-is (fin false zero e) = subst (λ (b : Bool). Sized (cond b (fin false 0 e) (fin true 0 e)) (fin false 0 e)) (sym (ap (ltb 0) (both (up e) (down e)))) (zeros e)
+size-is (fin false zero e) = subst (λ (b : Bool). Sized (cond b (fin false 0 e) (fin true 0 e)) (fin false 0 e)) (sym (ap (ltb 0) (both (up e) (down e))))
+    (zeros e)
   where
     both : (a b : ℕ) → 0 * a * b + 0 * a * b ≡ 0
     both a b = omega arith

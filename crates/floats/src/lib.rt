@@ -125,7 +125,8 @@ pub fn nearest_int(a: f64) -> f64
     }
 }
 
-// The Rust's nearest_int with its `as i64`. A part of a date is mostly between -0.5 and 2^52: there the number comes from the digits at once, and the float from it.
+// The Rust's nearest_int with its `as i64`. A part of a date is mostly between -0.5 and 2^52: there the number comes from the digits at once, and the float
+// from it.
 pub fn nearest_whole(a: f64) -> NearestWhole
     ensures { λ r. ⌜ r ≡ nearestWhole a ⌝ }
 {

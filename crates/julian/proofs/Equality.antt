@@ -23,13 +23,15 @@ use Rattle.julian.specs.Worth.{Worth, SmallParts}
 
 -- ---- the two cases of the test, for sums that are handed in
 
-pub equal-finite : (d e : JulianDate) (s t : ExactSum) → s ≡ sums d → t ≡ sums e → bothFinite (s .sum) (t .sum) ≡ true → samePair (s .sum) (s .error) (t .sum) (t .error) ≡ equal d e
+pub equal-finite : (d e : JulianDate) (s t : ExactSum) → s ≡ sums d → t ≡ sums e → bothFinite (s .sum) (t .sum) ≡ true
+    → samePair (s .sum) (s .error) (t .sum) (t .error) ≡ equal d e
 unfolding equal
 equal-finite d e s t p q h =
     let k : bothFinite (sums d .sum) (sums e .sum) ≡ true = rw (p, q) at h in
     rw (p, q, k)
 
-pub equal-parts : (d e : JulianDate) (s t : ExactSum) → s ≡ sums d → t ≡ sums e → bothFinite (s .sum) (t .sum) ≡ false → samePair (d .jd1) (d .jd2) (e .jd1) (e .jd2) ≡ equal d e
+pub equal-parts : (d e : JulianDate) (s t : ExactSum) → s ≡ sums d → t ≡ sums e → bothFinite (s .sum) (t .sum) ≡ false
+    → samePair (d .jd1) (d .jd2) (e .jd1) (e .jd2) ≡ equal d e
 unfolding equal
 equal-parts d e s t p q h =
     let k : bothFinite (sums d .sum) (sums e .sum) ≡ false = rw (p, q) at h in
@@ -43,7 +45,8 @@ zero-stays {z} {P} {N} {p} {n} e r v =
     let u : p + N ≡ P + n = val-unique v (subst (Val z P N) (sym L-is) w) in
     omega arith
 
-same-rounded : {z y : Float} {P N Q M p n q m : ℕ} → Rounds binary64 z P N L → Rounds binary64 y Q M L → P + M ≡ Q + N → Val z p n L → Val y q m L → p + m ≡ q + n
+same-rounded : {z y : Float} {P N Q M p n q m : ℕ} → Rounds binary64 z P N L → Rounds binary64 y Q M L → P + M ≡ Q + N → Val z p n L → Val y q m L
+    → p + m ≡ q + n
 same-rounded {z} {y} {P} {N} {Q} {M} {p} {n} {q} {m} r s e v w = go (r .sign) (s .sign) (r .is) (s .is) (r .eq) (s .eq)
   where
     alike : (a : Bool) → r .size ≡ s .size → z ≡ round binary64 a (r .size) L → y ≡ round binary64 a (s .size) L → p + m ≡ q + n
@@ -92,7 +95,8 @@ pub record SumAndError (d : JulianDate) (P N : ℕ) : Type 0 where
 pub sums-of : {d : JulianDate} {P N : ℕ} → FiniteSums d → Worth d P N L → SumAndError d P N
 unfolding sums exactSum twoSumError
 sums-of {d} {P} {N} s w =
-    let x = two-sum-finite (d .jd1) (d .jd2) (w .p) (w .n) (w .q) (w .m) (w .first) (w .second) (val-rep (s .first-float) (w .first)) (val-rep (s .second-float) (w .second)) (s .sum) (s .error) in
+    let x = two-sum-finite (d .jd1) (d .jd2) (w .p) (w .n) (w .q) (w .m) (w .first) (w .second) (val-rep (s .first-float) (w .first))
+    (val-rep (s .second-float) (w .second)) (s .sum) (s .error) in
     record {
       sp = x .sp;
       sn = x .sn;
@@ -107,7 +111,8 @@ sums-of {d} {P} {N} s w =
 -- ---- the theorem
 
 -- the sums and the errors are equal exactly if the exact sums are
-pairs : (sp sn ep en tp tn fp fn P N Q M : ℕ) → sp + ep + N ≡ sn + en + P → tp + fp + M ≡ tn + fn + Q → (P + M ≡ Q + N → sp + tn ≡ tp + sn) → eqb (sp + tn) (tp + sn) && eqb (ep + fn) (fp + en) ≡ eqb (P + M) (Q + N)
+pairs : (sp sn ep en tp tn fp fn P N Q M : ℕ) → sp + ep + N ≡ sn + en + P → tp + fp + M ≡ tn + fn + Q → (P + M ≡ Q + N → sp + tn ≡ tp + sn)
+    → eqb (sp + tn) (tp + sn) && eqb (ep + fn) (fp + en) ≡ eqb (P + M) (Q + N)
 pairs sp sn ep en tp tn fp fn P N Q M h k r = same-test (eqb (sp + tn) (tp + sn) && eqb (ep + fn) (fp + en)) (eqb (P + M) (Q + N)) to from
   where
     split : (a b : Bool) → T (a && b) → T a × T b
@@ -136,7 +141,8 @@ equal-sums d e P N Q M s t v w =
     let x = sums-of s v in
     let y = sums-of t w in
     rw (val-finite-true (x .sum), val-finite-true (y .sum), eq-val L-pos (x .sum) (y .sum), eq-val L-pos (x .error) (y .error))
-    (pairs (x .sp) (x .sn) (x .ep) (x .en) (y .sp) (y .sn) (y .ep) (y .en) P N Q M (x .total) (y .total) (λ r. same-rounded (x .rounded) (y .rounded) r (x .sum) (y .sum)))
+    (pairs (x .sp) (x .sn) (x .ep) (x .en) (y .sp) (y .sn) (y .ep) (y .en) P N Q M (x .total) (y .total)
+    (λ r. same-rounded (x .rounded) (y .rounded) r (x .sum) (y .sum)))
 
 -- document 01: "Two with parts under 2^52 in size are equal exactly if their exact sums are"
 pub equal-exactly : (d e : JulianDate) (P N Q M : ℕ) → SmallParts d → SmallParts e → Worth d P N L → Worth e Q M L → equal d e ≡ eqb (P + M) (Q + N)

@@ -63,7 +63,8 @@ mjd-in-42-bits y m d n f e =
     let h : natAbs (y +ℤ pos 4800) ≤ 2147488447 = subst (λ (z : ℤ). natAbs z ≤ 2147488447) (sym (r .is)) (r .high) in
     let k : natAbs d ≤ 31 = le-trans (a .d-high) (short (leapYear y) (natAbs m) (a .m-low) (a .m-high)) in
     let c : civilCount (natAbs (y +ℤ pos 4800)) (natAbs m) (natAbs d) ≤ 2 ^ 41 = count-small (natAbs (y +ℤ pos 4800)) (natAbs m) (natAbs d) h (a .m-high) k in
-    subst (λ (z : ℤ). mag z < 2 ^ 42) (sym (w .is)) (lowered (civilCount (natAbs (y +ℤ pos 4800)) (natAbs m) (natAbs d)) 2432076 (2 ^ 42) (omega arith) (lit< tt))
+    subst (λ (z : ℤ). mag z < 2 ^ 42) (sym (w .is))
+    (lowered (civilCount (natAbs (y +ℤ pos 4800)) (natAbs m) (natAbs d)) 2432076 (2 ^ 42) (omega arith) (lit< tt))
 
 -- ---- so the cast to a float loses nothing
 
@@ -106,7 +107,16 @@ midnight-of y m d f v =
         mjd = k .given;
         given = midnight-given y m d (k .n) (k .given);
         second = w;
-        exactly = record { p = 4800001; n = 0; q = plusZ (k .n) * 2; m = minusZ (k .n) * 2; first = zero-point-val; second = val-scale 2 w; total = omega arith };
+        exactly = record {
+          p = 4800001;
+          n = 0;
+          q = plusZ (k .n) * 2;
+          m = minusZ (k .n) * 2;
+          first = zero-point-val;
+          second = val-scale 2 w;
+          total =
+              omega arith;
+        };
         sum = midnight-sum (k .n) h;
         has-date = k .has-date;
       },

@@ -1,4 +1,5 @@
--- The whole days in a number of seconds, and the seconds that are left: what the machine's division gives, and that an `f64` holds each exactly. Assumes nothing.
+-- The whole days in a number of seconds, and the seconds that are left: what the machine's division gives, and that an `f64` holds each exactly. Assumes
+-- nothing.
 use mathlib.Core.Path.{_≡_, refl}
 use Prim.Native.Nat.{ℕ, zero, suc, _/_, _%_, _^_, _<_}
 use native.Mathlib.Omega.{arith}

@@ -1,10 +1,12 @@
 -- What `day_number_and_fraction` answers, in the order in which a reader needs it. specs/ExactDay has what demand 3 is written in: `OnGrid x`, the part x is a
--- multiple of 2 ^ -52 day under 2 ^ 52 days in size; `InJulianRange sum`, the exact sum is from -68569.5 to 10 ^ 9; `exactDay` and `exactFraction`.
--- To follow the proof of `exact`: a pair passes the range test (JulianRange); each part falls into a whole number and a rest (NearestInt, Parts); the two rests add up
--- exactly (SplitOnGrid); the whole numbers add up without a wrap (IntegerSum); together they are the exact day and fraction (GridPairs), and there is only one (ExactDay).
+-- multiple of 2 ^ -52 day under 2 ^ 52 days in size; `InJulianRange sum`, the exact sum is from -68569.5 to 10 ^ 9; `exactDay` and `exactFraction`. To follow
+-- the proof of `exact`: a pair passes the range test (JulianRange); each part falls into a whole number and a rest (NearestInt, Parts); the two rests add up
+-- exactly (SplitOnGrid); the whole numbers add up without a wrap (IntegerSum); together they are the exact day and fraction (GridPairs), and there is only one
+-- (ExactDay).
 
 -- The theorems.
--- ExactDay: DEMAND 3, the exact day and the exact fraction on the grid (exact), and on a grid of up to 2 ^ 62 days (exact-to-2-62); all divisions of one sum are alike.
+-- ExactDay: DEMAND 3, the exact day and the exact fraction on the grid (exact), and on a grid of up to 2 ^ 62 days (exact-to-2-62); all divisions of one sum
+-- are alike.
 pub mod ExactDay
 -- Ends: the ends of the ranges that these theorems speak of are met.
 pub mod Ends

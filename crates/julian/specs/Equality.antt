@@ -1,5 +1,5 @@
--- When two Julian dates are equal: the Rust's test (julian/mod.rs), by Knuth's two-sum. For parts under 2^52 in size it is that of the exact sums (document 01, "Julian
--- date"), which is proved (`equal-exactly`). Assumes nothing.
+-- When two Julian dates are equal: the Rust's test (julian/mod.rs), by Knuth's two-sum. For parts under 2^52 in size it is that of the exact sums (document 01,
+-- "Julian date"), which is proved (`equal-exactly`). Assumes nothing.
 use mathlib.Core.Bool.{Bool, cond, _&&_}
 use lib.Dec.{T}
 use lib.Ieee.{Float, binary64, fits, add, sub, eq}

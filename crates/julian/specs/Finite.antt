@@ -1,5 +1,5 @@
--- What the scale conversions ask of a date and of an offset before they compute. Written from document 01, "Refusals by number" (9 and 10), and the Rust's julian/mod.rs.
--- Assumes nothing.
+-- What the scale conversions ask of a date and of an offset before they compute. Written from document 01, "Refusals by number" (9 and 10), and the Rust's
+-- julian/mod.rs. Assumes nothing.
 use mathlib.Core.Bool.{Bool, cond, _&&_}
 use lib.Ieee.{Float}
 use lib.Ieee.Scale.{finite}

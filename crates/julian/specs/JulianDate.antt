@@ -1,5 +1,5 @@
--- A Julian date as two floats, and its sums and differences in the Rust's order of operations. Written from document 01, "Julian date", and the Rust's julian/mod.rs.
--- Assumes nothing.
+-- A Julian date as two floats, and its sums and differences in the Rust's order of operations. Written from document 01, "Julian date", and the Rust's
+-- julian/mod.rs. Assumes nothing.
 use lib.Ieee.{Float, binary64, add, sub, div}
 use Rattle.refusals.specs.Outcome.{Outcome, answer, refusal}
 use Rattle.floats.specs.Whole.{toWhole, cut}

@@ -8,4 +8,5 @@ unfoldable pub toJulianYear : JulianDate → Float
 toJulianYear d = add binary64 (decimal 2000 0) (div binary64 (add binary64 (sub binary64 (d .jd1) j2000Jd) (d .jd2)) daysPerJulianYear)
 
 unfoldable pub fromJulianYear : Float → JulianDate
-fromJulianYear year = julian mjdZeroPoint (add binary64 (sub binary64 j2000Jd mjdZeroPoint) (mul binary64 (sub binary64 year (decimal 2000 0)) daysPerJulianYear))
+fromJulianYear year = julian mjdZeroPoint
+    (add binary64 (sub binary64 j2000Jd mjdZeroPoint) (mul binary64 (sub binary64 year (decimal 2000 0)) daysPerJulianYear))

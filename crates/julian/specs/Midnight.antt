@@ -1,4 +1,5 @@
--- What the Julian date of a calendar date is worth: the midnight that begins its day. Written from document 01, "Julian date" and "Calendar date". Assumes nothing.
+-- What the Julian date of a calendar date is worth: the midnight that begins its day. Written from document 01, "Julian date" and "Calendar date". Assumes
+-- nothing.
 use Prim.Native.Nat.{_+_, _*_}
 use mathlib.Core.Path.{_≡_}
 use lib.IntN.{ℤ, pos, natAbs, _+ℤ_}
@@ -12,8 +13,8 @@ use Rattle.julian.specs.JulianDate.{julian, roundedSum}
 use Rattle.julian.specs.Worth.{Worth}
 use Rattle.julian.specs.Calendar.{calendarToJulian}
 
--- n is the Modified Julian Date of the date; the second part is worth exactly n, both parts and their rounded sum exactly n + 2400000.5 days; and the day with the
--- number n + 2400001, which begins there, has the date
+-- n is the Modified Julian Date of the date; the second part is worth exactly n, both parts and their rounded sum exactly n + 2400000.5 days; and the day with
+-- the number n + 2400001, which begins there, has the date
 pub record MidnightOf (y m d n : ℤ) : Type 0 where
   pub mjd : mjdOf y m d ≡ answer n
   pub given : calendarToJulian y m d ≡ answer (julian mjdZeroPoint (ofInt binary64 n))

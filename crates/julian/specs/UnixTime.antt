@@ -1,5 +1,5 @@
--- The Julian date of a Unix time: whole days from 1970 in jd1, the time that is left in jd2. Written from the Rust's julian/mod.rs and from document 01, "Julian date".
--- Assumes nothing.
+-- The Julian date of a Unix time: whole days from 1970 in jd1, the time that is left in jd2. Written from the Rust's julian/mod.rs and from document 01,
+-- "Julian date". Assumes nothing.
 use Prim.Native.Nat.{ℕ, suc, _/_, _%_}
 use lib.IntN.{ℤ, pos, negsuc, negℤ}
 use lib.Ieee.{Float, binary64, ofInt, add, div}
@@ -21,4 +21,5 @@ unfoldable pub secondOfDay : ℤ → ℕ → Float
 secondOfDay seconds nanos = add binary64 (ofInt binary64 (secondsLeft seconds)) (div binary64 (ofInt binary64 (pos nanos)) nanosecondsPerSecond)
 
 unfoldable pub fromUnixTime : ℤ → ℕ → JulianDate
-fromUnixTime seconds nanos = julian (add binary64 unixEpochJd (ofInt binary64 (daysTowardZero seconds))) (div binary64 (secondOfDay seconds nanos) secondsPerDay)
+fromUnixTime seconds nanos = julian (add binary64 unixEpochJd (ofInt binary64 (daysTowardZero seconds)))
+    (div binary64 (secondOfDay seconds nanos) secondsPerDay)

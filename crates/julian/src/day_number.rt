@@ -221,8 +221,8 @@ fn day_by_sums(
     }
 }
 
-// The day and the fraction of a date whose rounded sum is in the range. Where jd1 is a midnight above 0, as mostly, its fraction takes the sum's 0.5 away: what is left is
-// jd2's fraction, of which a sum with 0.0 loses nothing, and with a day borrowed no more than its one rounding.
+// The day and the fraction of a date whose rounded sum is in the range. Where jd1 is a midnight above 0, as mostly, its fraction takes the sum's 0.5 away: what
+// is left is jd2's fraction, of which a sum with 0.0 loses nothing, and with a day borrowed no more than its one rounding.
 fn day_in_range(jd1: f64, jd2: f64) -> DayNumber
     requires { ⌜ S.accepted jd1 jd2 ≡ true ⌝ }
     ensures { λ r. ⌜ r ≡ S.dayOf jd1 jd2 ⌝ }

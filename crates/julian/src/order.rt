@@ -24,7 +24,8 @@ fn sooner(s: crate::ExactSum, t: crate::ExactSum) -> bool
     s.error < t.error
 }
 
-// The order of the exact sums, however each date is divided. 9 where a part is not finite, or so large that the two-sum overflows: then the error is not finite.
+// The order of the exact sums, however each date is divided. 9 where a part is not finite, or so large that the two-sum overflows: then the error is not
+// finite.
 pub fn compare(a: crate::JulianDate, b: crate::JulianDate) -> OrderAnswer
     ensures { λ r. ⌜ O.orderOutcome r ≡ O.comparison a b ⌝ }
 {

@@ -1,5 +1,5 @@
--- EVERY LEAP BEFORE 1972, by the fixed table: 0.0 before 1960, that of 1959-12-31 on that day alone, and at most 0.5 s in size in the years of drift; the same in both
--- orders of rounding. Assumes nothing.
+-- EVERY LEAP BEFORE 1972, by the fixed table: 0.0 before 1960, that of 1959-12-31 on that day alone, and at most 0.5 s in size in the years of drift; the same
+-- in both orders of rounding. Assumes nothing.
 use mathlib.Core.Path.{_≡_, refl, ap, sym, subst, _∙_}
 use mathlib.Core.Bool.{Bool, true, false, cond}
 use mathlib.Core.List.{List}
@@ -45,11 +45,13 @@ as-rows i t = t
 module _ (n y m : ℕ) (e : n ≡ monthOf y m) (l : 23520 ≤ n) (h : n < 23664) (a : 1 ≤ m) (b : m ≤ 12) where
   month-at : T (rowsTest (rowOf n) (rowOf (suc n)) y m)
   month-at =
-      move (23520 + (n - 23520)) n (23521 + (n - 23520)) (suc n) (1960 + (n - 23520) / 12) y ((n - 23520) % 12 + 1) m (omega arith) (omega arith) (omega arith) (omega arith)
+      move (23520 + (n - 23520)) n (23521 + (n - 23520)) (suc n) (1960 + (n - 23520) / 12) y ((n - 23520) % 12 + 1) m (omega arith) (omega arith)
+      (omega arith) (omega arith)
       (as-rows (n - 23520) (all-months (n - 23520) (omega arith)))
 
   abbrev Test : Bool → ℤ → Bool
-  Test t j = dayTest t (secondsOf (rowOf n)) (startOf (rowOf n)) (rateOf (rowOf n)) (eqb (rowOf (suc n) .rate) 0) (secondsOf (rowOf (suc n))) (startOf (rowOf (suc n))) (rateOf (rowOf (suc n))) j
+  Test t j = dayTest t (secondsOf (rowOf n)) (startOf (rowOf n)) (rateOf (rowOf n)) (eqb (rowOf (suc n) .rate) 0) (secondsOf (rowOf (suc n)))
+      (startOf (rowOf (suc n))) (rateOf (rowOf (suc n))) j
 
   at-day : (d : ℕ) → d < 31 → T (Test (ltb (suc d) (lengths (leapSize y) m)) (mjdNumber (pos y) (pos m) (pos (suc d))))
   unfolding rowsTest daysTest
@@ -60,7 +62,8 @@ module _ (n y m : ℕ) (e : n ≡ monthOf y m) (l : 23520 ≤ n) (h : n < 23664)
   real true j t =
       subst Step (same-three _ _ _ _ _ _ (quick-drift n j nought l h) (quick-drift n j half l h) (quick-drift n (sucℤ j) nought l h)) (test-is _ _ _ t)
   real false j t =
-      subst Step (same-three _ _ _ _ _ _ (quick-drift n j nought l h) (quick-drift n j half l h) (quick-any (suc n) (sucℤ j) nought (omega arith))) (test-is _ _ _ t)
+      subst Step (same-three _ _ _ _ _ _ (quick-drift n j nought l h) (quick-drift n j half l h) (quick-any (suc n) (sucℤ j) nought (omega arith)))
+      (test-is _ _ _ t)
 
   drift-day : (d : ℕ) → d < 31 → Step (offsetsOfDay fixed n (cond (ltb (suc d) (lengths (leapSize y) m)) n (suc n)) (mjdNumber (pos y) (pos m) (pos (suc d))))
   drift-day d g = real (ltb (suc d) (lengths (leapSize y) m)) (mjdNumber (pos y) (pos m) (pos (suc d))) (at-day d g)
@@ -73,7 +76,9 @@ none = (refl, refl)
 before : (n n′ : ℕ) (j : ℤ) → n < 23520 → n′ < 23520 → Both (offsetsOfDay fixed n n′ j) nought
 unfolding offsetsOfDay
 before n n′ j h h′ =
-    subst (λ (o : DayOffsets). Both o nought) (sym (same-three _ _ _ _ _ _ (before-1960 n (ofInt binary64 j) nought h) (before-1960 n (ofInt binary64 j) half h) (before-1960 n′ (ofInt binary64 (sucℤ j)) nought h′))) none
+    subst (λ (o : DayOffsets). Both o nought)
+    (sym (same-three _ _ _ _ _ _ (before-1960 n (ofInt binary64 j) nought h) (before-1960 n (ofInt binary64 j) half h)
+    (before-1960 n′ (ofInt binary64 (sucℤ j)) nought h′))) none
 
 pub last-of-1959 : Both (offsetsOfDay fixed 23519 23520 (mjdNumber (pos 1959) (pos 12) (pos 31))) leap1959
 unfolding leapOf leapAmount driftRate offsetsOfDay offsetAt offsetBy byRow secondsOf startOf rateOf mjdNumber civilCount fixed reached round add sub mul ofInt
@@ -125,7 +130,9 @@ module _ (y : ℕ) (m d : ℤ) (a : Accepted (pos y) m d) where
           (sym
           (ap (λ (b : Bool). offsetsOfDay fixed N (cond b N (suc N)) (mjdNumber (pos y) m d)) f
           ∙ ap (λ (k : ℕ). offsetsOfDay fixed k (suc k) (mjdNumber (pos y) m d)) e
-          ∙ ap (offsetsOfDay fixed 23519 23520) (sym (mjd-same (pos y) m d 12 31 q (omega (arith, a .d-high, ltb-false D L f, thirty-one p q))) ∙ ap (λ (k : ℕ). mjdNumber (pos k) (pos 12) (pos 31)) p)))
+          ∙ ap (offsetsOfDay fixed 23519 23520)
+          (sym (mjd-same (pos y) m d 12 31 q (omega (arith, a .d-high, ltb-false D L f, thirty-one p q)))
+          ∙ ap (λ (k : ℕ). mjdNumber (pos k) (pos 12) (pos 31)) p)))
           last-of-1959
 
   drifting : 23520 ≤ N → N < 23664 → Step O
@@ -146,7 +153,8 @@ module _ (y : ℕ) (m d : ℤ) (a : Accepted (pos y) m d) where
     where
       go : (q : Bool) → ltb N 23520 ≡ q → (r : Bool) → ltb (cond (ltb D L) N (suc N)) 23520 ≡ r → Early (pos y) m d O
       go false f r g = by-drift (ltb-false N 23520 f) (drifting (ltb-false N 23520 f) h)
-      go true f true g = no-row-yet (ltb-true N 23520 f) (before N (cond (ltb D L) N (suc N)) (mjdNumber (pos y) m d) (ltb-true N 23520 f) (ltb-true (cond (ltb D L) N (suc N)) 23520 g))
+      go true f true g = no-row-yet (ltb-true N 23520 f)
+          (before N (cond (ltb D L) N (suc N)) (mjdNumber (pos y) m d) (ltb-true N 23520 f) (ltb-true (cond (ltb D L) N (suc N)) 23520 g))
       go true f false g = let t = turn (ltb D L) N (ltb-true N 23520 f) (ltb-false (cond (ltb D L) N (suc N)) 23520 g) in at-1959 (t .1) (t .0)
 
 -- ---- by dates
@@ -160,4 +168,5 @@ early-date (pos y) m d s h l =
     (early-day y m d (date-accepted (pos y) m d (next-is (pos y) m d s h .0)) l)
 early-date (negsuc y) m d s h l =
     no-row-yet (omega arith)
-    (subst (λ (k : ℕ). Both (offsetsOfDay fixed 0 k (mjdNumber (negsuc y) m d)) nought) (sym (next-month-early y m d s h)) (before 0 0 (mjdNumber (negsuc y) m d) (omega arith) (omega arith)))
+    (subst (λ (k : ℕ). Both (offsetsOfDay fixed 0 k (mjdNumber (negsuc y) m d)) nought) (sym (next-month-early y m d s h))
+    (before 0 0 (mjdNumber (negsuc y) m d) (omega arith) (omega arith)))

@@ -1,5 +1,5 @@
--- EVERY LEAP by the fixed table: at the end of any day it is at most 0.5 s in size, or exactly 1.0, or that of 1959-12-31; and it is the same in both orders of rounding.
--- Assumes nothing.
+-- EVERY LEAP by the fixed table: at the end of any day it is at most 0.5 s in size, or exactly 1.0, or that of 1959-12-31; and it is the same in both orders of
+-- rounding. Assumes nothing.
 use mathlib.Core.Path.{_≡_, refl, ap, _∙_}
 use lib.IntN.{ℤ, pos, natAbs}
 use lib.Ieee.{Float}

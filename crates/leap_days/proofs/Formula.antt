@@ -4,7 +4,8 @@ use mathlib.Core.Path.{_≡_, refl, ap, sym, subst, _∙_}
 use mathlib.Core.Bool.{Bool, true, false, cond}
 use Prim.Native.Nat.{ℕ, _+_, _-_, _*_, _^_, _≤_, _<_}
 use native.Mathlib.Omega.{arith}
-use native.Mathlib.Nat.{le-trans, le-of-eq, le-of-lt, mul-pos, le-of-mul-le-mul-right, mul-le-mul-right, mul-lt-mul-of-pos-right, mul-comm, mul-assoc, mul-left-comm, mul-right-comm, one-mul, zero-mul, add-zero, zero-add, add-mul}
+use native.Mathlib.Nat.{le-trans, le-of-eq, le-of-lt, mul-pos, le-of-mul-le-mul-right, mul-le-mul-right, mul-lt-mul-of-pos-right, mul-comm, mul-assoc}
+use native.Mathlib.Nat.{mul-left-comm, mul-right-comm, one-mul, zero-mul, add-zero, zero-add, add-mul}
 use lib.Pow.{pow-pos}
 use lib.Dec.{T, leb, ltb, leb→le, ltb→lt}
 use lib.ListN.{getD, take}
@@ -68,12 +69,14 @@ about-decimal i n d M pd hi h k =
 
     size : n * L ≤ 0 * L + M * (U * d)
     size =
-        let g : n * L ≤ M * (U * d) = le-trans (le-of-eq in-units) (le-trans (mul-le-mul-right U k) (le-of-eq (mul-assoc M d U ∙ ap (λ (x : ℕ). M * x) (mul-comm d U)))) in
+        let g : n * L ≤ M * (U * d) = le-trans (le-of-eq in-units)
+        (le-trans (mul-le-mul-right U k) (le-of-eq (mul-assoc M d U ∙ ap (λ (x : ℕ). M * x) (mul-comm d U)))) in
         omega (arith, g)
 
     halved : (a b : ℕ) → 2 * a ≤ 2 * b + d * 2 ^ (985 + i) → a ≤ b + 2 ^ i * (U * d)
     halved a b g =
-        let e : d * 2 ^ (985 + i) ≡ 2 * (2 ^ i * (U * d)) = ap (λ (x : ℕ). d * x) (unit i) ∙ mul-left-comm d 2 (2 ^ i * U) ∙ ap (λ (x : ℕ). 2 * x) (mul-comm d (2 ^ i * U) ∙ mul-assoc (2 ^ i) U d) in
+        let e : d * 2 ^ (985 + i) ≡ 2 * (2 ^ i * (U * d)) = ap (λ (x : ℕ). d * x) (unit i) ∙ mul-left-comm d 2 (2 ^ i * U)
+        ∙ ap (λ (x : ℕ). 2 * x) (mul-comm d (2 ^ i * U) ∙ mul-assoc (2 ^ i) U d) in
         omega (arith, g, e)
 
 -- ---- the fraction f = (q - m) / L
@@ -194,9 +197,11 @@ module _ (r : Row) (t : T (rowTest r)) (j : ℕ) (hj : j < 65536) (f : Float) (g
 
   since-start : About (sub binary64 (add binary64 (ofInt binary64 (pos j)) f) (startOf r)) (j * L + g .q + 0 * L) (0 * L + g .m + r .start * L) L M2 e2
   unfolding startOf
-  since-start = about-sub 54 (omega arith) (ltb→lt (2 ^ 106 + 2 ^ 90 + 2 ^ 106 + (2 ^ 52 + 0 + 2 ^ 53 + 2 ^ 52)) (2 ^ (54 + 54)) tt) moment (whole-days (r .start) small-start)
+  since-start = about-sub 54 (omega arith) (ltb→lt (2 ^ 106 + 2 ^ 90 + 2 ^ 106 + (2 ^ 52 + 0 + 2 ^ 53 + 2 ^ 52)) (2 ^ (54 + 54)) tt) moment
+      (whole-days (r .start) small-start)
 
-  drift : About (mul binary64 (sub binary64 (add binary64 (ofInt binary64 (pos j)) f) (startOf r)) (rateOf r)) ((j * L + g .q + 0 * L) * r .rate) ((0 * L + g .m + r .start * L) * r .rate) (L * C) (2 ^ 99) (2 ^ 48)
+  drift : About (mul binary64 (sub binary64 (add binary64 (ofInt binary64 (pos j)) f) (startOf r)) (rateOf r)) ((j * L + g .q + 0 * L) * r .rate)
+      ((0 * L + g .m + r .start * L) * r .rate) (L * C) (2 ^ 99) (2 ^ 48)
   unfolding rateTest
   drift =
       let y = rateOf r in
@@ -219,7 +224,8 @@ module _ (r : Row) (t : T (rowTest r)) (j : ℕ) (hj : j < 65536) (f : Float) (g
   seconds : About (secondsOf r) (r .units * (1000 * L)) (0 * (1000 * L)) (L * C) (2 ^ 93) (2 ^ 39)
   unfolding secondsOf
   seconds =
-      subst (λ (d : ℕ). About (round binary64 false (r .units) 10000000) (r .units * (1000 * L)) (0 * (1000 * L)) d (2 ^ 93) (2 ^ 39)) (sym (mul-assoc 10000000 1000 L) ∙ mul-comm 10000000000 L)
+      subst (λ (d : ℕ). About (round binary64 false (r .units) 10000000) (r .units * (1000 * L)) (0 * (1000 * L)) d (2 ^ 93) (2 ^ 39))
+      (sym (mul-assoc 10000000 1000 L) ∙ mul-comm 10000000000 L)
       (about-scale (1000 * L) (mul-pos (omega arith) L-pos) (about-decimal 39 (r .units) 10000000 (2 ^ 93) (omega arith) (omega arith) below (le-of-lt below)))
     where
       below : r .units * 2 ^ 90 < 2 ^ (54 + 39) * 10000000
@@ -228,7 +234,8 @@ module _ (r : Row) (t : T (rowTest r)) (j : ℕ) (hj : j < 65536) (f : Float) (g
   abbrev X : Float
   X = add binary64 (secondsOf r) (mul binary64 (sub binary64 (add binary64 (ofInt binary64 (pos j)) f) (startOf r)) (rateOf r))
 
-  whole : About X (r .units * (1000 * L) + (j * L + g .q + 0 * L) * r .rate) (0 * (1000 * L) + (0 * L + g .m + r .start * L) * r .rate) (L * C) (2 ^ 93 + 2 ^ 99) (2 ^ 39 + 2 ^ 48 + 2 ^ 46)
+  whole : About X (r .units * (1000 * L) + (j * L + g .q + 0 * L) * r .rate) (0 * (1000 * L) + (0 * L + g .m + r .start * L) * r .rate) (L * C)
+      (2 ^ 93 + 2 ^ 99) (2 ^ 39 + 2 ^ 48 + 2 ^ 46)
   whole = about-add 46 (omega arith) (ltb→lt (2 ^ 93 + 2 ^ 99 + (2 ^ 39 + 2 ^ 48)) (2 ^ (54 + 46)) tt) seconds drift
 
 -- ---- what it says: with f = (q - m) / L and x = (p - n) / L, the difference of x and the formula times 10^10 L is at most 10^-12 times 10^10 L
@@ -243,18 +250,22 @@ picosecond a b A B h = go (a * C + A) (b * C + B) (E4 * U * C) (C * L) cancelled
     side k N = sym (add-mul (k * C) N L ∙ ap (λ (z : ℕ). z + N * L) (mul-assoc k C L ∙ ap (λ (z : ℕ). k * z) (mul-comm C L)))
 
     error : E4 * (U * (L * C)) ≡ E4 * U * C * L
-    error = ap (λ (z : ℕ). E4 * (U * z)) (mul-comm L C) ∙ ap (λ (z : ℕ). E4 * z) (sym (mul-assoc U C L)) ∙ sym (mul-assoc E4 (U * C) L) ∙ ap (λ (z : ℕ). z * L) (sym (mul-assoc E4 U C))
+    error = ap (λ (z : ℕ). E4 * (U * z)) (mul-comm L C) ∙ ap (λ (z : ℕ). E4 * z) (sym (mul-assoc U C L)) ∙ sym (mul-assoc E4 (U * C) L)
+        ∙ ap (λ (z : ℕ). z * L) (sym (mul-assoc E4 U C))
 
     cancelled : a * C + A ≤ b * C + B + E4 * U * C
     cancelled =
         le-of-mul-le-mul-right {k = L}
-        (le-trans (le-of-eq (sym (side a A))) (le-trans h (le-of-eq (ap (λ (z : ℕ). z + E4 * (U * (L * C))) (side b B) ∙ ap (λ (z : ℕ). (b * C + B) * L + z) error ∙ sym (add-mul (b * C + B) (E4 * U * C) L)))))
+        (le-trans (le-of-eq (sym (side a A)))
+        (le-trans h (le-of-eq (ap (λ (z : ℕ). z + E4 * (U * (L * C))) (side b B) ∙ ap (λ (z : ℕ). (b * C + B) * L + z) error
+        ∙ sym (add-mul (b * C + B) (E4 * U * C) L)))))
         L-pos
 
     room-left : 10 ^ 12 * (E4 * U * C) ≤ C * L
     room-left =
         le-trans (le-of-eq (ap (λ (z : ℕ). 10 ^ 12 * z) (mul-assoc E4 U C) ∙ sym (mul-assoc (10 ^ 12) E4 (U * C))))
-        (le-trans (mul-le-mul-right (U * C) (leb→le (10 ^ 12 * E4) (2 ^ 90) tt)) (le-of-eq (sym (mul-assoc (2 ^ 90) U C) ∙ ap (λ (z : ℕ). z * C) (sym L-U) ∙ mul-comm L C)))
+        (le-trans (mul-le-mul-right (U * C) (leb→le (10 ^ 12 * E4) (2 ^ 90) tt))
+        (le-of-eq (sym (mul-assoc (2 ^ 90) U C) ∙ ap (λ (z : ℕ). z * C) (sym L-U) ∙ mul-comm L C)))
 
     go : (x y z v : ℕ) → x ≤ y + z → 10 ^ 12 * z ≤ v → 10 ^ 12 * x ≤ 10 ^ 12 * y + v
     go x y z v k l = omega arith
@@ -262,11 +273,13 @@ picosecond a b A B h = go (a * C + A) (b * C + B) (E4 * U * C) (C * L) cancelled
 moved : (p n N N′ P P′ : ℕ) → N ≡ N′ → P ≡ P′ → 10 ^ 12 * (p * C + N) ≤ 10 ^ 12 * (n * C + P) + C * L → 10 ^ 12 * (p * C + N′) ≤ 10 ^ 12 * (n * C + P′) + C * L
 moved p n N N′ P P′ e g h = omega arith
 
-near-formula : (r : Row) → T (rowTest r) → (j : ℕ) → j < 65536 → (f : Float) → Fraction f → NearFormula r j f (add binary64 (secondsOf r) (mul binary64 (sub binary64 (add binary64 (ofInt binary64 (pos j)) f) (startOf r)) (rateOf r)))
+near-formula : (r : Row) → T (rowTest r) → (j : ℕ) → j < 65536 → (f : Float) → Fraction f
+    → NearFormula r j f (add binary64 (secondsOf r) (mul binary64 (sub binary64 (add binary64 (ofInt binary64 (pos j)) f) (startOf r)) (rateOf r)))
 near-formula r t j h f g = go (whole r t j h f g)
   where
     above : r .units * (1000 * L) + (j * L + g .q + 0 * L) * r .rate ≡ r .units * (1000 * L) + (j * L + g .q) * r .rate
-    above = ap (λ (z : ℕ). r .units * (1000 * L) + (j * L + g .q + z) * r .rate) (zero-mul L) ∙ ap (λ (z : ℕ). r .units * (1000 * L) + z * r .rate) (add-zero (j * L + g .q))
+    above = ap (λ (z : ℕ). r .units * (1000 * L) + (j * L + g .q + z) * r .rate) (zero-mul L)
+        ∙ ap (λ (z : ℕ). r .units * (1000 * L) + z * r .rate) (add-zero (j * L + g .q))
 
     below : 0 * (1000 * L) + (0 * L + g .m + r .start * L) * r .rate ≡ (g .m + r .start * L) * r .rate
     below =
@@ -275,7 +288,8 @@ near-formula r t j h f g = go (whole r t j h f g)
         ∙ ap (λ (z : ℕ). (z + g .m + r .start * L) * r .rate) (zero-mul L)
         ∙ ap (λ (z : ℕ). (z + r .start * L) * r .rate) (zero-add (g .m))
 
-    go : {x : Float} → About x (r .units * (1000 * L) + (j * L + g .q + 0 * L) * r .rate) (0 * (1000 * L) + (0 * L + g .m + r .start * L) * r .rate) (L * C) (2 ^ 93 + 2 ^ 99) (2 ^ 39 + 2 ^ 48 + 2 ^ 46) → NearFormula r j f x
+    go : {x : Float} → About x (r .units * (1000 * L) + (j * L + g .q + 0 * L) * r .rate) (0 * (1000 * L) + (0 * L + g .m + r .start * L) * r .rate) (L * C)
+        (2 ^ 93 + 2 ^ 99) (2 ^ 39 + 2 ^ 48 + 2 ^ 46) → NearFormula r j f x
     go a =
         record {
           q = g .q;
@@ -296,7 +310,8 @@ civil-range : (y m d : ℕ) → 6760 ≤ y → y ≤ 6771 → m ≤ 12 → d ≤
 unfolding civilCount
 civil-range y m d l h k g = go (leb m 2) refl
   where
-    go : (b : Bool) → leb m 2 ≡ b → (2432076 ≤ cond b (marchCount (y - 1) (m + 10) d) (marchCount y (m - 2) d)) × (cond b (marchCount (y - 1) (m + 10) d) (marchCount y (m - 2) d) < 2497612)
+    go : (b : Bool) → leb m 2 ≡ b → (2432076 ≤ cond b (marchCount (y - 1) (m + 10) d) (marchCount y (m - 2) d))
+        × (cond b (marchCount (y - 1) (m + 10) d) (marchCount y (m - 2) d) < 2497612)
     go true e = march-range (y - 1) (m + 10) d (omega arith) (omega arith) (omega (arith, leb-true m 2 e)) g
     go false e = march-range y (m - 2) d (omega arith) h (omega arith) g
 
@@ -304,10 +319,12 @@ mjd-range : (y : ℕ) (m d : ℤ) → 1960 ≤ y → y ≤ 1971 → Accepted (po
 unfolding mjdNumber
 mjd-range y m d l h a =
     let c = civilCount (y + 4800) (natAbs m) (natAbs d) in
-    let r = civil-range (y + 4800) (natAbs m) (natAbs d) (omega arith) (omega arith) (a .m-high) (omega (arith, a .d-high, short (leapYear (pos y)) (natAbs m) (a .m-low) (a .m-high))) in
+    let r = civil-range (y + 4800) (natAbs m) (natAbs d) (omega arith) (omega arith) (a .m-high)
+    (omega (arith, a .d-high, short (leapYear (pos y)) (natAbs m) (a .m-low) (a .m-high))) in
     (c - 2432076, sub-at c 2432076 (r .0), omega (arith, r .0, r .1))
 
-pub drift-formula : (y : ℕ) (m d : ℤ) (f x : Float) → 1960 ≤ y → y ≤ 1971 → T (fits binary64 f) → taiUtcOffset fixed (pos y) m d f ≡ answer x → (j : ℕ) × (mjdOf (pos y) m d ≡ answer (pos j)) × NearFormula (rowAt (reached (starts fixed) (monthOf y (natAbs m)))) j f x
+pub drift-formula : (y : ℕ) (m d : ℤ) (f x : Float) → 1960 ≤ y → y ≤ 1971 → T (fits binary64 f) → taiUtcOffset fixed (pos y) m d f ≡ answer x → (j : ℕ)
+    × (mjdOf (pos y) m d ≡ answer (pos j)) × NearFormula (rowAt (reached (starts fixed) (monthOf y (natAbs m)))) j f x
 unfolding monthNumber offsetAt
 drift-formula y m d f x l h g e =
     let (n, p, q) = offset-came fixed (pos y) m d f x e in

@@ -18,7 +18,8 @@ use Rattle.leap_table.specs.rows.Table.{monthNumber, monthOf}
 unfoldable number : CalendarDate → ℕ
 number t = monthNumber (t .year) (t .month)
 
-later : (a b : Bool) (y m d : ℕ) → 1 ≤ m → (b ≡ true → m < 12) → (b ≡ false → m ≡ 12) → number (cond a (date (pos y) m d) (cond b (date (pos y) (m + 1) 1) (date (pos (suc y)) 1 1))) ≡ cond a (monthOf y m) (suc (monthOf y m))
+later : (a b : Bool) (y m d : ℕ) → 1 ≤ m → (b ≡ true → m < 12) → (b ≡ false → m ≡ 12)
+    → number (cond a (date (pos y) m d) (cond b (date (pos y) (m + 1) 1) (date (pos (suc y)) 1 1))) ≡ cond a (monthOf y m) (suc (monthOf y m))
 unfolding number monthNumber
 later true b y m d l p q = refl
 later false true y m d l p q = omega arith
@@ -37,12 +38,14 @@ early false false (suc y) m d = refl
 twelve : (m : ℕ) → m ≤ 12 → ltb m 12 ≡ false → m ≡ 12
 twelve m h e = omega (arith, ltb-false m 12 e)
 
-pub next-month-number : (y : ℕ) (m d : ℤ) (t : CalendarDate) → nextOf (pos y) m d ≡ answer t → monthNumber (t .year) (t .month) ≡ cond (ltb (natAbs d) (monthLength (pos y) (natAbs m))) (monthOf y (natAbs m)) (suc (monthOf y (natAbs m)))
+pub next-month-number : (y : ℕ) (m d : ℤ) (t : CalendarDate) → nextOf (pos y) m d ≡ answer t
+    → monthNumber (t .year) (t .month) ≡ cond (ltb (natAbs d) (monthLength (pos y) (natAbs m))) (monthOf y (natAbs m)) (suc (monthOf y (natAbs m)))
 unfolding next number
 next-month-number y m d t h =
     let z = next-is (pos y) m d t h in
     let a = date-accepted (pos y) m d (z .0) in
-    ap number (z .1) ∙ later (ltb (natAbs d) (monthLength (pos y) (natAbs m))) (ltb (natAbs m) 12) y (natAbs m) (natAbs d + 1) (a .m-low) (ltb-true (natAbs m) 12) (twelve (natAbs m) (a .m-high))
+    ap number (z .1) ∙ later (ltb (natAbs d) (monthLength (pos y) (natAbs m))) (ltb (natAbs m) 12) y (natAbs m) (natAbs d + 1) (a .m-low)
+    (ltb-true (natAbs m) 12) (twelve (natAbs m) (a .m-high))
 
 -- up to the first day of year 0 it is 0
 pub next-month-early : (y : ℕ) (m d : ℤ) (t : CalendarDate) → nextOf (negsuc y) m d ≡ answer t → monthNumber (t .year) (t .month) ≡ 0

@@ -45,7 +45,8 @@ test-is x y z t = (
 )
 
 -- ---- the offset, in a month with a row
-drift-is : (s st r : Float) (j : ℤ) (f : Float) → qby false s st r (qint j) f ≡ add binary64 s (mul binary64 (sub binary64 (add binary64 (ofInt binary64 j) f) st) r)
+drift-is : (s st r : Float) (j : ℤ) (f : Float)
+    → qby false s st r (qint j) f ≡ add binary64 s (mul binary64 (sub binary64 (add binary64 (ofInt binary64 j) f) st) r)
 unfolding qby
 drift-is s st r j f =
     add-is s (qmul (qsub (qadd (qint j) f) st) r)
@@ -67,7 +68,8 @@ module _ (n : ℕ) (j : ℤ) (f : Float) (l : 23520 ≤ n) where
       ∙ drifting K (ofInt binary64 j) f (one-row n l) (omega (arith, one-row n l, drift-rows n h)) (secondsOf R) (startOf R) (rateOf R) refl refl refl
 
   flag : (b : Bool) → ltb n 23664 ≡ b → eqb (R .rate) 0 ≡ not b
-  flag true e = drifts (K - 1) (omega (arith, most-rows n, one-row n l)) ∙ ap not (lt-ltb (K - 1) 14 (omega (arith, one-row n l, drift-rows n (ltb-true n 23664 e))))
+  flag true e = drifts (K - 1) (omega (arith, most-rows n, one-row n l))
+      ∙ ap not (lt-ltb (K - 1) 14 (omega (arith, one-row n l, drift-rows n (ltb-true n 23664 e))))
   flag false e = drifts (K - 1) (omega (arith, most-rows n, one-row n l)) ∙ ap not (le-ltb (K - 1) 14 (omega (arith, whole-rows n (ltb-false n 23664 e))))
 
   any : (b : Bool) → ltb n 23664 ≡ b → qby (not b) (secondsOf R) (startOf R) (rateOf R) (qint j) f ≡ offsetAt fixed n (ofInt binary64 j) f

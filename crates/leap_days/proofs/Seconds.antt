@@ -91,7 +91,9 @@ module _ (y m d : ℕ) (l : 1 ≤ m) (h : m ≤ 12) where
       high = leb→le (t .month) 12 (and-r (leb 1 (t .month)) (leb (t .month) 12) r)
 
       day : t .day ≡ lengths (leapSize (t .year)) (t .month)
-      day = eqb-true (t .day) (lengths (leapSize (t .year)) (t .month)) (is-true (eqb (t .day) (lengths (leapSize (t .year)) (t .month))) (and-r (leb 1 (t .month) && leb (t .month) 12) (eqb (t .day) (lengths (leapSize (t .year)) (t .month))) k))
+      day = eqb-true (t .day) (lengths (leapSize (t .year)) (t .month))
+          (is-true (eqb (t .day) (lengths (leapSize (t .year)) (t .month)))
+          (and-r (leb 1 (t .month) && leb (t .month) 12) (eqb (t .day) (lengths (leapSize (t .year)) (t .month))) k))
 
       other : (12 * y + m ≡ monthAfter t → ⊥) → false ≡ E && eqb (12 * y + m) (monthAfter t)
       other n = sym (ap (λ (b : Bool). E && b) (ne-eqb (12 * y + m) (monthAfter t) n) ∙ with-false E)
@@ -169,11 +171,13 @@ module _ (n : ℕ) (h : 23664 ≤ n) (j : ℤ) where
       go : (b : Bool) → member (suc n) (starts fixed) ≡ b → leapOf (offsetsOfDay fixed n (suc n) j) ≡ cond b one nought
       go true p =
           let q : reached (starts fixed) (suc n) ≡ suc (reached (starts fixed) n) = month-later (starts fixed) fixed-rises n ∙ rw p in
-          one-second-more none-announced fixed fixed-taken n (suc n) h (omega arith) j (omega (arith, q, fixed-seconds n h, fixed-seconds (suc n) (omega arith))) .0
+          one-second-more none-announced fixed fixed-taken n (suc n) h (omega arith) j
+          (omega (arith, q, fixed-seconds n h, fixed-seconds (suc n) (omega arith))) .0
       go false p = no-step none-announced fixed fixed-taken n (suc n) h (omega arith) j (seconds-stay none-announced fixed fixed-taken n h p) .0
 
 -- ---- THE LAWS, from 1972 on
-pub leap-seconds : (y : ℕ) (m d : ℤ) (x : Float) → 1972 ≤ y → leapAtEndOfDay fixed (pos y) m d ≡ answer x → x ≡ cond (isLeapSecond y (natAbs m) (natAbs d)) one nought
+pub leap-seconds : (y : ℕ) (m d : ℤ) (x : Float) → 1972 ≤ y → leapAtEndOfDay fixed (pos y) m d ≡ answer x
+    → x ≡ cond (isLeapSecond y (natAbs m) (natAbs d)) one nought
 unfolding monthNumber
 leap-seconds y m d x h e =
     let (t, p, q) = leap-came fixed (pos y) m d x e in
@@ -190,13 +194,16 @@ lengths-are true = refl
 lengths-are false = refl
 
 -- the day's length in seconds
-pub day-length : (y : ℕ) (m d : ℤ) (x : Float) → 1972 ≤ y → leapAtEndOfDay fixed (pos y) m d ≡ answer x → add binary64 (wholeF 86400) x ≡ wholeF (cond (isLeapSecond y (natAbs m) (natAbs d)) 86401 86400)
+pub day-length : (y : ℕ) (m d : ℤ) (x : Float) → 1972 ≤ y → leapAtEndOfDay fixed (pos y) m d ≡ answer x
+    → add binary64 (wholeF 86400) x ≡ wholeF (cond (isLeapSecond y (natAbs m) (natAbs d)) 86401 86400)
 day-length y m d x h e = ap (add binary64 (wholeF 86400)) (leap-seconds y m d x h e) ∙ lengths-are (isLeapSecond y (natAbs m) (natAbs d))
 
 -- the same of every table that is taken: 86,400 s and the step
-step-length : (rows : List Row) (n n′ : ℕ) (x : Float) → StepLeap rows n n′ x → add binary64 (wholeF 86400) x ≡ wholeF (86400 + secondsIn rows n′ - secondsIn rows n)
+step-length : (rows : List Row) (n n′ : ℕ) (x : Float) → StepLeap rows n n′ x
+    → add binary64 (wholeF 86400) x ≡ wholeF (86400 + secondsIn rows n′ - secondsIn rows n)
 unfolding add round ofInt ofBits
-step-length rows n n′ x (no-row r p) = ap (add binary64 (wholeF 86400)) p ∙ ap wholeF (level (secondsIn rows n′) (secondsIn rows n) (ap (λ (w : Row). w .units / 10000000) r))
+step-length rows n n′ x (no-row r p) = ap (add binary64 (wholeF 86400)) p
+    ∙ ap wholeF (level (secondsIn rows n′) (secondsIn rows n) (ap (λ (w : Row). w .units / 10000000) r))
   where
     level : (a b : ℕ) → a ≡ b → 86400 ≡ 86400 + a - b
     level a b e = omega arith
@@ -209,7 +216,8 @@ step-length rows n n′ x (row-down b s p) = ap (add binary64 (wholeF 86400)) p 
     down-by : (a b : ℕ) → b ≡ a + 1 → 86399 ≡ 86400 + a - b
     down-by a b e = omega arith
 
-pub table-day-length : (t : AnnouncedRows) (rows : List Row) → tableOf t ≡ answer rows → (y m d : ℤ) (next : CalendarDate) (x : Float) → 23664 ≤ monthNumber y (natAbs m) → nextOf y m d ≡ answer next → leapAtEndOfDay rows y m d ≡ answer x
+pub table-day-length : (t : AnnouncedRows) (rows : List Row) → tableOf t ≡ answer rows → (y m d : ℤ) (next : CalendarDate) (x : Float)
+    → 23664 ≤ monthNumber y (natAbs m) → nextOf y m d ≡ answer next → leapAtEndOfDay rows y m d ≡ answer x
     → add binary64 (wholeF 86400) x ≡ wholeF (86400 + secondsIn rows (monthNumber (next .year) (next .month)) - secondsIn rows (monthNumber y (natAbs m)))
 table-day-length t rows e y m d next x h n p = step-length rows _ _ x (leap-is-step t rows e y m d next x h n p)
 

@@ -1,4 +1,5 @@
--- LENT TABLES, by computation: each refusal at its edge, in its order, and tables at both ends of what is taken, with 58 rows, up to 53 s and down to 21 s. Assumes nothing.
+-- LENT TABLES, by computation: each refusal at its edge, in its order, and tables at both ends of what is taken, with 58 rows, up to 53 s and down to 21 s.
+-- Assumes nothing.
 use mathlib.Core.Path.{_≡_, refl}
 use mathlib.Core.List.{List, [], _∷_, _++_}
 use Prim.Native.Nat.{ℕ, zero, suc, _-_, _*_}

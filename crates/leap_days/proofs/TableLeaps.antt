@@ -1,6 +1,5 @@
--- EVERY LEAP OF EVERY TABLE that is taken, by its date: 0.0 before 1960, that of 1959-12-31, the fixed table's in the years of drift, and from 1972 on exactly the step of
--- the row that begins on the next day, 1.0 or -1.0, or 0.0 where none begins. It is the same in both orders of rounding.
--- Assumes nothing.
+-- EVERY LEAP OF EVERY TABLE that is taken, by its date: 0.0 before 1960, that of 1959-12-31, the fixed table's in the years of drift, and from 1972 on exactly
+-- the step of the row that begins on the next day, 1.0 or -1.0, or 0.0 where none begins. It is the same in both orders of rounding. Assumes nothing.
 use mathlib.Core.Path.{_≡_, refl, ap, sym, subst, _∙_}
 use mathlib.Core.Bool.{Bool, true, false, cond}
 use mathlib.Core.Logic.{_⊎_, inl, inr}
@@ -165,18 +164,21 @@ module _ (t : AnnouncedRows) (rows : List Row) (e : tableOf t ≡ answer rows) w
           let l = ltb-true (monthOf y (natAbs m)) 23664 g in
           let q =
           same-day (monthOf y (natAbs m)) (monthNumber (s .year) (s .month)) (mjdNumber (pos y) m d) (omega (arith, l))
-          (subst (λ (k : ℕ). k < 24205) (sym (next-month-number y m d s p)) (soon (ltb (natAbs d) (monthLength (pos y) (natAbs m))) (monthOf y (natAbs m)) l)) in
+          (subst (λ (k : ℕ). k < 24205) (sym (next-month-number y m d s p))
+          (soon (ltb (natAbs d) (monthLength (pos y) (natAbs m))) (monthOf y (natAbs m)) l)) in
           early l q (subst (Early (pos y) m d) (sym q) (early-date (pos y) m d s p l))
       go false g =
           let l = ltb-false (monthOf y (natAbs m)) 23664 g in
-          late l (subst (λ (k : ℕ). Late (monthOf y (natAbs m)) k (offsetsOfDay rows (monthOf y (natAbs m)) k (mjdNumber (pos y) m d))) (sym (next-month-number y m d s p))
+          late l (subst (λ (k : ℕ). Late (monthOf y (natAbs m)) k (offsetsOfDay rows (monthOf y (natAbs m)) k (mjdNumber (pos y) m d)))
+          (sym (next-month-number y m d s p))
           (whole-day (monthOf y (natAbs m)) l (mjdNumber (pos y) m d) (ltb (natAbs d) (monthLength (pos y) (natAbs m)))))
 
   came-by : (y m d : ℤ) (o : DayOffsets) → dayOffsets rows y m d ≡ answer o → (s : CalendarDate) × (nextOf y m d ≡ answer s) × (o ≡ offsetsBy rows y m d s)
   unfolding onward
   came-by y m d o p = go (nextOf y m d) refl (sym (day-offsets-are rows y m d) ∙ p)
     where
-      go : (w : Outcome CalendarDate) → nextOf y m d ≡ w → onward w (λ s. answer (offsetsBy rows y m d s)) ≡ answer o → (s : CalendarDate) × (nextOf y m d ≡ answer s) × (o ≡ offsetsBy rows y m d s)
+      go : (w : Outcome CalendarDate) → nextOf y m d ≡ w → onward w (λ s. answer (offsetsBy rows y m d s)) ≡ answer o → (s : CalendarDate)
+          × (nextOf y m d ≡ answer s) × (o ≡ offsetsBy rows y m d s)
       go (answer s) p q = (s, p, cc)
       go (refusal k) p q = let z : _≡_ {A = ℕ} 0 1 = cc in absurd (omega arith)
 
@@ -188,10 +190,12 @@ module _ (t : AnnouncedRows) (rows : List Row) (e : tableOf t ≡ answer rows) w
       go s q r (late l w) = from-1972 l s q (subst (StepLeap rows (monthNumber y (natAbs m)) (monthNumber (s .year) (s .month))) (sym r) (w .0))
       go s q r (early l f (no-row-yet b w)) = before-1960 b (r ∙ w .0)
       go s q r (early l f (first-row a b c w)) = last-of-1959 a b c (r ∙ w .0)
-      go s q r (early l f (by-drift b w)) = drifting b l (subst (λ (z : Float). T (small z)) (sym r) (w .0)) (leap-given fixed y m d s q ∙ ap answer (sym (r ∙ ap leapOf f)))
+      go s q r (early l f (by-drift b w)) =
+          drifting b l (subst (λ (z : Float). T (small z)) (sym r) (w .0)) (leap-given fixed y m d s q ∙ ap answer (sym (r ∙ ap leapOf f)))
 
   -- from 1972 on, by the month of the day and of the next
-  pub leap-is-step : (y m d : ℤ) (next : CalendarDate) (x : Float) → 23664 ≤ monthNumber y (natAbs m) → nextOf y m d ≡ answer next → leapAtEndOfDay rows y m d ≡ answer x → StepLeap rows (monthNumber y (natAbs m)) (monthNumber (next .year) (next .month)) x
+  pub leap-is-step : (y m d : ℤ) (next : CalendarDate) (x : Float) → 23664 ≤ monthNumber y (natAbs m) → nextOf y m d ≡ answer next
+      → leapAtEndOfDay rows y m d ≡ answer x → StepLeap rows (monthNumber y (natAbs m)) (monthNumber (next .year) (next .month)) x
   unfolding monthNumber
   leap-is-step y m d next x h n p = go (table-leap-on y m d x p)
     where
@@ -202,7 +206,8 @@ module _ (t : AnnouncedRows) (rows : List Row) (e : tableOf t ≡ answer rows) w
           not-1959 : monthNumber y (natAbs m) ≡ 23519 → ⊥
           not-1959 k = omega arith
       go (drifting a b s q) = absurd (omega arith)
-      go (from-1972 a s q w) = let k : s ≡ next = cc in subst (λ (u : CalendarDate). StepLeap rows (monthNumber y (natAbs m)) (monthNumber (u .year) (u .month)) x) k w
+      go (from-1972 a s q w) = let k : s ≡ next =
+          cc in subst (λ (u : CalendarDate). StepLeap rows (monthNumber y (natAbs m)) (monthNumber (u .year) (u .month)) x) k w
 
   -- its size
   step-size : {n n′ : ℕ} {x : Float} → StepLeap rows n n′ x → TableLeap x

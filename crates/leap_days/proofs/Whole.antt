@@ -1,5 +1,5 @@
--- The leap of a day whose offsets are whole seconds: exactly 0.0 where they stay, 1.0 where they are one more at its end, and -1.0 where they are one less; in both orders.
--- Assumes nothing.
+-- The leap of a day whose offsets are whole seconds: exactly 0.0 where they stay, 1.0 where they are one more at its end, and -1.0 where they are one less; in
+-- both orders. Assumes nothing.
 use mathlib.Core.Path.{_≡_}
 use mathlib.Core.Bool.{Bool}
 use Prim.Native.Nat.{ℕ, suc, _<_}
@@ -22,7 +22,8 @@ stayTest k = then (sameF (leapOf (offsets (wholeF k) (wholeF k) (wholeF k))) nou
 
 stepTest : ℕ → Bool
 unfolding leapOf leapAmount driftRate round add sub mul ofInt
-stepTest k = then (sameF (leapOf (offsets (wholeF k) (wholeF k) (wholeF (suc k)))) one) (sameF (leapAmount (offsets (wholeF k) (wholeF k) (wholeF (suc k)))) one)
+stepTest k = then (sameF (leapOf (offsets (wholeF k) (wholeF k) (wholeF (suc k)))) one)
+    (sameF (leapAmount (offsets (wholeF k) (wholeF k) (wholeF (suc k)))) one)
 
 both : (o : DayOffsets) (x : Float) → T (then (sameF (leapOf o) x) (sameF (leapAmount o) x)) → Both o x
 both o x t = (
@@ -40,7 +41,8 @@ step-up k h = both (offsets (wholeF k) (wholeF k) (wholeF (suc k))) one (each st
 
 downTest : ℕ → Bool
 unfolding leapOf leapAmount driftRate round add sub mul ofInt ofBits
-downTest k = then (sameF (leapOf (offsets (wholeF (suc k)) (wholeF (suc k)) (wholeF k))) minus-one-f) (sameF (leapAmount (offsets (wholeF (suc k)) (wholeF (suc k)) (wholeF k))) minus-one-f)
+downTest k = then (sameF (leapOf (offsets (wholeF (suc k)) (wholeF (suc k)) (wholeF k))) minus-one-f)
+    (sameF (leapAmount (offsets (wholeF (suc k)) (wholeF (suc k)) (wholeF k))) minus-one-f)
 
 pub step-down : (k : ℕ) → k < 64 → Both (offsets (wholeF (suc k)) (wholeF (suc k)) (wholeF k)) minus-one-f
 unfolding downTest

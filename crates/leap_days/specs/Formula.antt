@@ -1,5 +1,5 @@
--- How near a float is to the exact formula of a row that drifts. Written from the IERS table: TAI-UTC is units times 10^-7 s, and more by rate times 10^-10 s for each
--- day since the row's start. Assumes nothing.
+-- How near a float is to the exact formula of a row that drifts. Written from the IERS table: TAI-UTC is units times 10^-7 s, and more by rate times 10^-10 s
+-- for each day since the row's start. Assumes nothing.
 use Prim.Native.Nat.{ℕ, _+_, _*_, _^_, _≤_}
 use lib.Ieee.{Float}
 use Rattle.rounding.specs.Value.{Val, L}

@@ -1,4 +1,5 @@
--- What is known of every table of announced rows that is taken, and of its leaps day by day. Written from document 02, item 8, and document 01, "TAI minus UTC". Assumes nothing.
+-- What is known of every table of announced rows that is taken, and of its leaps day by day. Written from document 02, item 8, and document 01, "TAI minus
+-- UTC". Assumes nothing.
 use mathlib.Core.Path.{_≡_}
 use mathlib.Core.Bool.{not}
 use mathlib.Core.Logic.{_⊎_}
@@ -28,7 +29,8 @@ rowIn rows n = getD rows (reached (starts rows) n - 1) none
 abbrev pub secondsOfRow : Row → ℕ
 secondsOfRow r = r .units / 10000000
 
--- the leap of a day of month n whose next day is of month n′, from 1972 on: 0.0 where one row gives both offsets, and else the step of the row that begins on the next day
+-- the leap of a day of month n whose next day is of month n′, from 1972 on: 0.0 where one row gives both offsets, and else the step of the row that begins on
+-- the next day
 pub data StepLeap (rows : List Row) (n n′ : ℕ) (x : Float) : Type 0 where
   no-row : rowIn rows n′ ≡ rowIn rows n → x ≡ nought → StepLeap rows n n′ x
   row-up : rowIn rows n′ .month ≡ n′ → secondsIn rows n′ ≡ secondsIn rows n + 1 → x ≡ one → StepLeap rows n n′ x
@@ -39,10 +41,11 @@ pub data LeapOn (rows : List Row) (y m d : ℤ) (x : Float) : Type 0 where
   before-1960 : monthNumber y (natAbs m) < 23520 → x ≡ nought → LeapOn rows y m d x
   last-of-1959 : y ≡ pos 1959 → natAbs m ≡ 12 → natAbs d ≡ 31 → x ≡ leap1959 → LeapOn rows y m d x
   drifting : 23520 ≤ monthNumber y (natAbs m) → monthNumber y (natAbs m) < 23664 → T (small x) → leapAtEndOfDay fixed y m d ≡ answer x → LeapOn rows y m d x
-  from-1972 : 23664 ≤ monthNumber y (natAbs m) → (next : CalendarDate) → nextOf y m d ≡ answer next → StepLeap rows (monthNumber y (natAbs m)) (monthNumber (next .year) (next .month)) x → LeapOn rows y m d x
+  from-1972 : 23664 ≤ monthNumber y (natAbs m) → (next : CalendarDate) → nextOf y m d ≡ answer next
+      → StepLeap rows (monthNumber y (natAbs m)) (monthNumber (next .year) (next .month)) x → LeapOn rows y m d x
 
--- of the rows: the 42 fixed ones and then the announced ones, at most 58, each month later than the one before and, from place 14 on, one second more or less, those of places 0 to
--- 13 drifting and no other;
+-- of the rows: the 42 fixed ones and then the announced ones, at most 58, each month later than the one before and, from place 14 on, one second more or less,
+-- those of places 0 to 13 drifting and no other;
 -- of TAI-UTC: before February 2017 that of the fixed table, from 1972 on 10 to 53 whole seconds at every fraction of a day; and of the leaps
 pub record EveryTable (t : AnnouncedRows) (rows : List Row) : Type 0 where
   pub count : length rows ≡ 42 + t .«months_size»
@@ -50,7 +53,8 @@ pub record EveryTable (t : AnnouncedRows) (rows : List Row) : Type 0 where
   pub fixed-first : (i : ℕ) → i < 42 → getD rows i none ≡ getD fixed i none
   pub announced-after : (i : ℕ) → i < t .«months_size» → getD rows (42 + i) none ≡ announcedRow t i
   pub rises : (i : ℕ) → suc i < length rows → getD rows i none .month < getD rows (suc i) none .month
-  pub by-one-second : (i : ℕ) → 14 ≤ i → suc i < length rows → (secondsOfRow (getD rows (suc i) none) ≡ secondsOfRow (getD rows i none) + 1) ⊎ (secondsOfRow (getD rows i none) ≡ secondsOfRow (getD rows (suc i) none) + 1)
+  pub by-one-second : (i : ℕ) → 14 ≤ i → suc i < length rows → (secondsOfRow (getD rows (suc i) none) ≡ secondsOfRow (getD rows i none) + 1)
+      ⊎ (secondsOfRow (getD rows i none) ≡ secondsOfRow (getD rows (suc i) none) + 1)
   pub drifts : (i : ℕ) → i < length rows → eqb (getD rows i none .rate) 0 ≡ not (ltb i 14)
   pub same-to-2017 : (n : ℕ) → n < 24205 → (mjd f : Float) → offsetAt rows n mjd f ≡ offsetAt fixed n mjd f
   pub whole : (n : ℕ) → 23664 ≤ n → (mjd f : Float) → offsetAt rows n mjd f ≡ wholeF (secondsIn rows n)

@@ -1,5 +1,5 @@
-// Which lists of dates a walk through the leap table turns away, and by which number: document 02, item 2. They stand below the walk of `leap_table::walk`, so that each is
-// proved without the other.
+// Which lists of dates a walk through the leap table turns away, and by which number: document 02, item 2. They stand below the walk of `leap_table::walk`, so
+// that each is proved without the other.
 ghost use mathlib.Core.Path.{_≡_};
 ghost use mathlib.Core.Bool.{true};
 ghost use Prim.Native.Nat.{_+_, _*_, _≤_};
@@ -122,8 +122,8 @@ fn judge_all(dates: &[i32], n: usize) -> u32
     0
 }
 
-// The number by which a walk with these dates, a year, a month and a day each, is refused, 0 if it is not: 20 to 22 the table; 14 a length of `dates` that is no multiple of 3;
-// 11 fewer places than dates; then date by date 1 to 3 its own, 17 earlier than the one before it.
+// The number by which a walk with these dates, a year, a month and a day each, is refused, 0 if it is not: 20 to 22 the table; 14 a length of `dates` that is
+// no multiple of 3; 11 fewer places than dates; then date by date 1 to 3 its own, 17 earlier than the one before it.
 pub fn numbers_refusal(dates: &[i32], table: AnnouncedRows, places: usize) -> u32
     ensures { λ r. ⌜ unlessRefused r tt ≡ onward (tableOf table) (λ _. judgedNumbers (now (dates .entry)) places) ⌝ }
 {

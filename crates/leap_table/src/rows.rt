@@ -1,5 +1,5 @@
-// The announced rows that a caller lends after the fixed ones of the table of TAI-UTC, and the test of such a table: document 02, item 8. They stand below the look-ups of
-// `leap_table::offsets`, so that each is proved without the other.
+// The announced rows that a caller lends after the fixed ones of the table of TAI-UTC, and the test of such a table: document 02, item 8. They stand below the
+// look-ups of `leap_table::offsets`, so that each is proved without the other.
 ghost use mathlib.Core.Path.{_≡_};
 ghost use lib.ListN.{length};
 ghost use Rattle.refusals.specs.Outcome.{answer, onward};
@@ -15,9 +15,9 @@ pub use announced::natural;
 pub use announced::size_of;
 pub use announced::table_refusal;
 
-// The rows that a caller lends after the fixed ones: how many by each size, their month starts (12 × year + month - 1) and their whole seconds. Places past the size
-// are not read. A call that ends in `_by_rows` takes the rows of such a table, which is tested elsewhere; one that ends in `_by_lent` takes one size and the two arrays by
-// reference, at most 16 rows, so that nothing is copied from call to call.
+// The rows that a caller lends after the fixed ones: how many by each size, their month starts (12 × year + month - 1) and their whole seconds. Places past the
+// size are not read. A call that ends in `_by_rows` takes the rows of such a table, which is tested elsewhere; one that ends in `_by_lent` takes one size and
+// the two arrays by reference, at most 16 rows, so that nothing is copied from call to call.
 pub struct AnnouncedRows {
     pub months_size: u32,
     pub seconds_size: u32,
@@ -46,8 +46,8 @@ pub fn no_rows() -> AnnouncedRows
     }
 }
 
-// How many rows a table has, the fixed ones included: 42 to 58. Refusals in order: 20 the sizes, 21 a row not later than the one before, 22 a step other than one
-// second up or down.
+// How many rows a table has, the fixed ones included: 42 to 58. Refusals in order: 20 the sizes, 21 a row not later than the one before, 22 a step other than
+// one second up or down.
 pub fn check_table(table: AnnouncedRows) -> RowsAnswer
     ensures { λ r. ⌜ rowsOutcome r ≡ onward (tableOf table) (λ rows. answer (length rows)) ⌝ }
 {

@@ -1,4 +1,5 @@
-// TAI-UTC at 0h of many dates in time order, in one walk through the leap table: document 02, item 2. All dates are judged, by `leap_table::judging`, before one offset is written.
+// TAI-UTC at 0h of many dates in time order, in one walk through the leap table: document 02, item 2. All dates are judged, by `leap_table::judging`, before
+// one offset is written.
 ghost use mathlib.Core.Path.{_≡_};
 ghost use mathlib.Core.List.{_++_, map};
 ghost use Prim.Native.Nat.{_+_, _*_, _<_, _≤_};
@@ -129,7 +130,8 @@ fn triple_at(dates: &[i32], i: usize) -> Triple
 // Walks through the table with n dates, writes their offsets, and says how many rows it compared.
 fn walk_all(dates: &[i32], n: usize, table: AnnouncedRows, out: &mut [f64]) -> u64
     requires { ⌜ (GoodDates (tripleAt (now dates)) n) × (T (rising (starts (rowsOf table)))) × (3 * n ≤ length (now dates)) × (n ≤ length (now out)) ⌝ }
-    ensures { λ r. ⌜ (r ≡ compared (starts (rowsOf table)) (map monthIn (datesFrom (tripleAt (now (dates .entry))) 0 n))) × (now (out .exit) ≡ map (tripleOffset (rowsOf table)) (datesFrom (tripleAt (now (dates .entry))) 0 n) ++ drop n (now (out .entry))) ⌝ }
+    ensures { λ r. ⌜ (r ≡ compared (starts (rowsOf table)) (map monthIn (datesFrom (tripleAt (now (dates .entry))) 0 n)))
+        × (now (out .exit) ≡ map (tripleOffset (rowsOf table)) (datesFrom (tripleAt (now (dates .entry))) 0 n) ++ drop n (now (out .entry))) ⌝ }
 {
     let mut w = at_start(table);
     let mut i = 0;
@@ -147,10 +149,12 @@ fn walk_all(dates: &[i32], n: usize, table: AnnouncedRows, out: &mut [f64]) -> u
     w.compared
 }
 
-// Writes TAI-UTC at 0h of each date, a year, a month and a day of `dates`, in their order, and answers how many rows of the table it compared. Refusals in order: 20 to 22 the
-// table; 14 a length of `dates` that is no multiple of 3; 11 fewer places than dates; then date by date 1 to 3 its own, 17 earlier than the one before it.
+// Writes TAI-UTC at 0h of each date, a year, a month and a day of `dates`, in their order, and answers how many rows of the table it compared. Refusals in
+// order: 20 to 22 the table; 14 a length of `dates` that is no multiple of 3; 11 fewer places than dates; then date by date 1 to 3 its own, 17 earlier than the
+// one before it.
 pub fn offsets_at_0h(dates: &[i32], table: AnnouncedRows, out: &mut [f64]) -> WalkAnswer
-    ensures { λ r. ⌜ WalkCall asFloats (onward (tableOf table) (λ rows. walkOfNumbers rows (now (dates .entry)) (length (now (out .entry))))) (now (out .entry)) r (now (out .exit)) ⌝ }
+    ensures { λ r. ⌜ WalkCall asFloats (onward (tableOf table) (λ rows. walkOfNumbers rows (now (dates .entry)) (length (now (out .entry)))))
+        (now (out .entry)) r (now (out .exit)) ⌝ }
 {
     let number = crate::judging::numbers_refusal(dates, table, out.len());
     if number != 0 {

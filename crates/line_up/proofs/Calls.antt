@@ -1,16 +1,13 @@
 -- The whole call: what each of its parts needs, and that together they do what `linedUp` says. Assumes nothing.
-use Prim.Native.Nat.{ℕ, zero, suc, _+_, _-_, _*_, _/_, _<_, _≤_}
+use Prim.Native.Nat.{ℕ, _+_, _-_, _≤_}
 use native.Mathlib.Omega.{arith}
 use mathlib.Core.Path.{_≡_, refl, sym, ap, _∙_, subst}
-use mathlib.Core.Bool.{Bool, true, false, cond}
-use mathlib.Core.List.{List, [], _∷_, _++_, append-assoc, append-nil}
-use lib.Dec.{eqb, leb}
-use lib.ListN.{length, getD, take, drop, length-append, length-drop, drop-of-length-le}
+use mathlib.Core.List.{List, [], _++_, append-assoc, append-nil}
+use lib.ListN.{length, drop, length-append, length-drop, drop-of-length-le}
 use borrow.Author.Tests.{eq-eqb, ne-eqb}
 use Rattle.line_up.specs.declared.LineUpAnswer.the-variants as Answer
-use Rattle.line_up.specs.declared.LineUpAnswer.{LineUpAnswer}
 use Rattle.line_up.specs.Runs.{allTested, run, numbersAfter, ordered}
-use Rattle.line_up.specs.LineUp.{unorderedAt, soonerAt, countOutcome, smaller, leastRoom, lineRefusal, lineWritten, putInLine, LinedUp, result, linedUp}
+use Rattle.line_up.specs.LineUp.{unorderedAt, soonerAt, countOutcome, smaller, leastRoom, lineRefusal, lineWritten, putInLine, result, linedUp}
 use Rattle.line_up.proofs.Places.{after-length, ordered-length}
 use Rattle.line_up.specs.keep_dates.Asked.{Lent}
 use Rattle.line_up.proofs.Lines.{Rooms, rooms, run-lent, runTurned-is, runTurned-length}
@@ -19,12 +16,14 @@ use Rattle.line_up.proofs.Cases.{Fine, fine}
 use Rattle.line_up.proofs.Testing.{tested-length}
 
 -- the refusal by the least of the three rooms
-pub refusal-is : (size1 size2 n a c out tails ranks work room number : ℕ) → work ≡ smaller tails ranks → room ≡ smaller out work → number ≡ lineRefusal size1 size2 n a c room → number ≡ lineRefusal size1 size2 n a c (leastRoom out tails ranks)
+pub refusal-is : (size1 size2 n a c out tails ranks work room number : ℕ) → work ≡ smaller tails ranks → room ≡ smaller out work
+    → number ≡ lineRefusal size1 size2 n a c room → number ≡ lineRefusal size1 size2 n a c (leastRoom out tails ranks)
 refusal-is size1 size2 n a c out tails ranks work room number ew er en = en ∙ ap (lineRefusal size1 size2 n a c) (er ∙ ap (smaller out) ew)
 
 -- ---- the call
 
-module _ (js ks : List ℕ) (ns : List ℕ) (a c : ℕ) (out : List ℕ) (tl rl : ℕ) (number : ℕ) (en : number ≡ lineRefusal (length js) (length ks) (length ns) a c (leastRoom (length out) tl rl)) where
+module _ (js ks : List ℕ) (ns : List ℕ) (a c : ℕ) (out : List ℕ) (tl rl : ℕ) (number : ℕ)
+    (en : number ≡ lineRefusal (length js) (length ks) (length ns) a c (leastRoom (length out) tl rl)) where
   pub line-refused : (number ≡ 0 → ⊥) → result (Answer.Refused number) ns out ≡ linedUp js ks ns a c out tl rl
   unfolding linedUp countOutcome
   line-refused h = rw (← en, ne-eqb number 0 h)
@@ -57,7 +56,8 @@ module _ (js ks : List ℕ) (ns : List ℕ) (a c : ℕ) (out : List ℕ) (tl rl 
       kept-areas T R et er = record { outRoom = areas .outRoom; tailRoom = omega (arith, areas .tailRoom); rankRoom = omega (arith, areas .rankRoom) }
 
       pub range-1 : (T R : List ℕ) → length T ≡ tl → length R ≡ rl → Lent js ks N0 0 a T R
-      range-1 T R et er = run-lent js ks ns N0 [] N0 0 a (soonerAt js ks) e0 (omega arith) (good .count1) refl refl refl (good .small) T R (length out) (kept-areas T R et er)
+      range-1 T R et er = run-lent js ks ns N0 [] N0 0 a (soonerAt js ks) e0 (omega arith) (good .count1) refl refl refl (good .small) T R (length out)
+          (kept-areas T R et er)
 
       module _ (N1 : List ℕ) (e1 : N1 ≡ runTurned (soonerAt js ks) N0 0 a) where
         P1 : List ℕ
@@ -75,7 +75,8 @@ module _ (js ks : List ℕ) (ns : List ℕ) (a c : ℕ) (out : List ℕ) (tl rl 
         whole-1 = ap length is-1 ∙ length-append P1 (drop a N0) ∙ rw (length-1, length-drop a N0) (omega (arith, good .count1))
 
         pub range-2 : (T R : List ℕ) → length T ≡ tl → length R ≡ rl → Lent js ks N1 a (a + c) T R
-        range-2 T R et er = run-lent js ks ns N0 P1 N1 a (a + c) (soonerAt js ks) e0 (omega arith) sum-fits length-1 is-1 whole-1 (good .small) T R (length out) (kept-areas T R et er)
+        range-2 T R et er = run-lent js ks ns N0 P1 N1 a (a + c) (soonerAt js ks) e0 (omega arith) sum-fits length-1 is-1 whole-1 (good .small) T R
+            (length out) (kept-areas T R et er)
 
         module _ (N2 : List ℕ) (e2 : N2 ≡ runTurned (soonerAt js ks) N1 a (a + c)) where
           P2 : List ℕ
@@ -93,7 +94,8 @@ module _ (js ks : List ℕ) (ns : List ℕ) (a c : ℕ) (out : List ℕ) (tl rl 
           whole-2 = ap length is-2 ∙ length-append P2 (drop (a + c) N0) ∙ rw (length-2, length-drop (a + c) N0) (omega (arith, sum-fits))
 
           pub range-3 : (T R : List ℕ) → length T ≡ tl → length R ≡ rl → Lent js ks N2 (a + c) (length ns) T R
-          range-3 T R et er = run-lent js ks ns N0 P2 N2 (a + c) (length ns) (soonerAt js ks) e0 (omega (arith, sum-fits, whole-0)) (omega (arith, whole-0)) length-2 is-2 whole-2 (good .small) T R (length out) (kept-areas T R et er)
+          range-3 T R et er = run-lent js ks ns N0 P2 N2 (a + c) (length ns) (soonerAt js ks) e0 (omega (arith, sum-fits, whole-0)) (omega (arith, whole-0))
+              length-2 is-2 whole-2 (good .small) T R (length out) (kept-areas T R et er)
 
           module _ (N3 : List ℕ) (e3 : N3 ≡ runTurned (soonerAt js ks) N2 (a + c) (length ns)) where
             is-3 : N3 ≡ numbersAfter (soonerAt js ks) N0 a (a + c) (length N0)
@@ -101,7 +103,8 @@ module _ (js ks : List ℕ) (ns : List ℕ) (a c : ℕ) (out : List ℕ) (tl rl 
             is-3 =
                 let r3 = run (soonerAt js ks) N0 (a + c) (length N0) in
                 let d : drop (length N0) N0 ≡ [] = drop-of-length-le N0 {i = length N0} (omega arith) in
-                e3 ∙ ap (runTurned (soonerAt js ks) N2 (a + c)) (sym whole-0) ∙ runTurned-is (soonerAt js ks) N0 P2 (a + c) (length N0) sum-fits (omega arith) length-2 N2 is-2
+                e3 ∙ ap (runTurned (soonerAt js ks) N2 (a + c)) (sym whole-0)
+                ∙ runTurned-is (soonerAt js ks) N0 P2 (a + c) (length N0) sum-fits (omega arith) length-2 N2 is-2
                 ∙ ap (λ (l : List ℕ). (P2 ++ r3) ++ l) d
                 ∙ append-nil (P2 ++ r3)
                 ∙ append-assoc (run (soonerAt js ks) N0 0 a) (run (soonerAt js ks) N0 a (a + c)) r3
@@ -122,7 +125,8 @@ module _ (js ks : List ℕ) (ns : List ℕ) (a c : ℕ) (out : List ℕ) (tl rl 
                 let l : a + c ≤ length N3 = omega (arith, sum-fits, whole-3) in
                 omega (arith, m .many, ordered-length (soonerAt js ks) N3 a (a + c) (omega arith) l, good .small, whole-3)
 
-            pub line-ends : (out' : List ℕ) (r : ℕ) → Merged (soonerAt js ks) N3 a (a + c) out out' r → result (Answer.Ordered r) N3 out' ≡ linedUp js ks ns a c out tl rl
+            pub line-ends : (out' : List ℕ) (r : ℕ) → Merged (soonerAt js ks) N3 a (a + c) out out' r
+                → result (Answer.Ordered r) N3 out' ≡ linedUp js ks ns a c out tl rl
             unfolding linedUp putInLine lineWritten countOutcome
             line-ends out' r m =
                 rw (← en, eq-eqb number 0 z, ← e0)

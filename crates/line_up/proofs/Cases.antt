@@ -1,14 +1,14 @@
 -- The cases of the small functions. Assumes nothing.
-use Prim.Native.Nat.{ℕ, zero, suc, _+_, _-_, _*_, _/_, _%_, _<_, _≤_}
+use Prim.Native.Nat.{ℕ, suc, _+_, _-_, _*_, _/_, _%_, _<_, _≤_}
 use native.Mathlib.Omega.{arith}
 use native.Mathlib.Numerals.{add-one}
-use mathlib.Core.Path.{_≡_, refl, sym, ap, _∙_, subst}
+use mathlib.Core.Path.{_≡_, refl, ap, _∙_}
 use mathlib.Core.Bool.{Bool, true, false, cond, not, _&&_}
-use mathlib.Core.List.{List, [], _∷_}
-use lib.Dec.{eqb, ltb, leb}
-use lib.ListN.{length, getD, set}
+use mathlib.Core.List.{List, []}
+use lib.Dec.{eqb, leb}
+use lib.ListN.{length, set}
 use lib.Ieee.{Float, ofBits, binary64}
-use borrow.Author.Tests.{eq-eqb, ne-eqb, lt-ltb, le-ltb, le-leb, lt-leb, eqb-true, leb-true}
+use borrow.Author.Tests.{eq-eqb, ne-eqb, lt-ltb, le-ltb, le-leb, lt-leb, leb-true}
 use Rattle.numerals.specs.little_endian.LittleEndian.{u64At}
 use Rattle.julian.specs.declared.JulianDate.{JulianDate}
 use Rattle.julian.specs.JulianDate.{julian}
@@ -16,7 +16,8 @@ use Rattle.julian.specs.order.Places.{hasPlace, isEarlier}
 use Rattle.line_up.specs.Runs.{acceptedIn, firstOr, tested, pick, cursorAfter}
 use Rattle.line_up.specs.LineUp.{stampOf, unorderedAt, soonerAt, eightEach, lineRefusal}
 
-pub stamp-is : (js ks : List ℕ) (i a b : ℕ) (x y : Float) → a ≡ u64At js (8 * i) → b ≡ u64At ks (8 * i) → x ≡ ofBits binary64 a → y ≡ ofBits binary64 b → julian x y ≡ stampOf js ks i
+pub stamp-is : (js ks : List ℕ) (i a b : ℕ) (x y : Float) → a ≡ u64At js (8 * i) → b ≡ u64At ks (8 * i) → x ≡ ofBits binary64 a → y ≡ ofBits binary64 b
+    → julian x y ≡ stampOf js ks i
 unfolding stampOf
 stamp-is js ks i a b x y p q r s = rw (r, s, p, q)
 
@@ -67,7 +68,8 @@ module _ (ms : List ℕ) (to p x : ℕ) where
   unfolding cursorAfter
   moved-stays h = rw (ne-eqb p x h)
 
-pub put-is : (l : List ℕ) (at a b c d : ℕ) → set (set (set (set l at a) (at + 1) b) (at + 2) c) (at + 3) d ≡ set (set (set (set l at a) (suc at) b) (suc (suc at)) c) (suc (suc (suc at))) d
+pub put-is : (l : List ℕ) (at a b c d : ℕ)
+    → set (set (set (set l at a) (at + 1) b) (at + 2) c) (at + 3) d ≡ set (set (set (set l at a) (suc at) b) (suc (suc at)) c) (suc (suc (suc at))) d
 put-is l at a b c d =
     let e : at + 1 ≡ suc at = omega arith in
     let f : at + 2 ≡ suc (suc at) = omega arith in
@@ -109,11 +111,29 @@ module _ (size1 size2 n first second room : ℕ) where
 
         pub too-few-places : n ≤ 4294967295 → room / 4 < n → 11 ≡ lineRefusal size1 size2 n first second room
         unfolding lineRefusal
-        too-few-places g h = rw (eq-eqb (size1 % 8) 0 a, eq-eqb (size2 % 8) 0 b, c, d, le-leb first n e, le-leb second (n - first) f, le-leb n 4294967295 g, lt-leb n (room / 4) h)
+        too-few-places g h = rw (
+          eq-eqb (size1 % 8) 0 a,
+          eq-eqb (size2 % 8) 0 b,
+          c,
+          d,
+          le-leb first n e,
+          le-leb second (n - first) f,
+          le-leb n 4294967295 g,
+          lt-leb n (room / 4) h,
+        )
 
         pub not-refused : n ≤ 4294967295 → n ≤ room / 4 → 0 ≡ lineRefusal size1 size2 n first second room
         unfolding lineRefusal
-        not-refused g h = rw (eq-eqb (size1 % 8) 0 a, eq-eqb (size2 % 8) 0 b, c, d, le-leb first n e, le-leb second (n - first) f, le-leb n 4294967295 g, le-leb n (room / 4) h)
+        not-refused g h = rw (
+          eq-eqb (size1 % 8) 0 a,
+          eq-eqb (size2 % 8) 0 b,
+          c,
+          d,
+          le-leb first n e,
+          le-leb second (n - first) f,
+          le-leb n 4294967295 g,
+          le-leb n (room / 4) h,
+        )
 
 -- ---- what no refusal says
 
@@ -144,5 +164,6 @@ module _ (size1 size2 n first second room : ℕ) where
   pub fine : lineRefusal size1 size2 n first second room ≡ 0 → Fine n first second room
   unfolding lineRefusal
   fine z =
-      fine-by (eqb (size1 % 8) 0) (eqb (size2 % 8) 0) (eightEach size1 n) (eightEach size2 n) (leb first n) (leb second (n - first)) (leb n 4294967295) (leb n (room / 4))
+      fine-by (eqb (size1 % 8) 0) (eqb (size2 % 8) 0) (eightEach size1 n) (eightEach size2 n) (leb first n) (leb second (n - first)) (leb n 4294967295)
+      (leb n (room / 4))
       refl refl refl refl z

@@ -3,12 +3,11 @@ use Prim.Native.Nat.{ℕ, zero, suc, _+_, _-_, _<_, _≤_}
 use native.Mathlib.Omega.{arith}
 use mathlib.Core.Path.{_≡_, refl, sym, ap, _∙_, subst}
 use mathlib.Core.Bool.{Bool, true, false, cond}
-use mathlib.Core.Logic.{_⊎_, inl, inr}
-use mathlib.Core.List.{List, [], _∷_, _++_}
+use mathlib.Core.List.{List, [], _∷_}
 use lib.Dec.{eqb, ltb}
-use lib.ListN.{length, getD, take, drop, drop-of-length-le}
+use lib.ListN.{length, getD, take, drop-of-length-le}
 use lib.Seq.{slice, slice-cons, length-slice, length-take-le}
-use borrow.Author.Tests.{eq-eqb, ne-eqb, eqb-true, eqb-false, ltb-true, ltb-false, lt-ltb, le-ltb}
+use borrow.Author.Tests.{eqb-true, eqb-false, ltb-true, ltb-false}
 use Rattle.line_up.specs.Runs.{zeros, acceptedIn, merge, merged, firstOr, pick, cursorAfter}
 use Rattle.line_up.proofs.Merges.{Under, From, under-merge, under-more}
 use Rattle.line_up.proofs.Zeros.{zeros-from, zeros-under, from-less}
@@ -28,12 +27,14 @@ module _ (ms : List ℕ) (to : ℕ) (tn : to ≤ length ms) where
   first-none : (i : ℕ) → to ≤ i → acceptedIn ms (firstOr (length ms) (acceptedIn ms i to)) to ≡ acceptedIn ms i to
   first-none i h = rw (acceptedIn-none i h) (acceptedIn-none (length ms) tn)
 
-  first-choose : (t : Bool) (i : ℕ) → acceptedIn ms i to ≡ cond t (i ∷ acceptedIn ms (suc i) to) (acceptedIn ms (suc i) to) → acceptedIn ms (firstOr (length ms) (acceptedIn ms (suc i) to)) to ≡ acceptedIn ms (suc i) to
+  first-choose : (t : Bool) (i : ℕ) → acceptedIn ms i to ≡ cond t (i ∷ acceptedIn ms (suc i) to) (acceptedIn ms (suc i) to)
+      → acceptedIn ms (firstOr (length ms) (acceptedIn ms (suc i) to)) to ≡ acceptedIn ms (suc i) to
       → acceptedIn ms (firstOr (length ms) (acceptedIn ms i to)) to ≡ acceptedIn ms i to
   first-choose true i e h = ap (λ (l : List ℕ). acceptedIn ms (firstOr (length ms) l) to) e
   first-choose false i e h = ap (λ (l : List ℕ). acceptedIn ms (firstOr (length ms) l) to) e ∙ h ∙ sym e
 
-  first-test : (t : Bool) (i : ℕ) → ltb i to ≡ t → acceptedIn ms (firstOr (length ms) (acceptedIn ms (suc i) to)) to ≡ acceptedIn ms (suc i) to → acceptedIn ms (firstOr (length ms) (acceptedIn ms i to)) to ≡ acceptedIn ms i to
+  first-test : (t : Bool) (i : ℕ) → ltb i to ≡ t → acceptedIn ms (firstOr (length ms) (acceptedIn ms (suc i) to)) to ≡ acceptedIn ms (suc i) to
+      → acceptedIn ms (firstOr (length ms) (acceptedIn ms i to)) to ≡ acceptedIn ms i to
   first-test true i p h = first-choose (eqb (getD ms i 0) 0) i (acceptedIn-cons i (ltb-true i to p)) h
   first-test false i p h = first-none i (ltb-false i to p)
 
@@ -53,11 +54,13 @@ module _ (ms : List ℕ) (to : ℕ) (tn : to ≤ length ms) where
   pub cursor-first : (i : ℕ) → Cursor (firstOr (length ms) (acceptedIn ms i to))
   cursor-first i = sym (ap (firstOr (length ms)) (from-start i))
 
-  cursor-choose : (t : Bool) (x : ℕ) → Cursor x → x < length ms → acceptedIn ms x to ≡ cond t (x ∷ acceptedIn ms (suc x) to) (acceptedIn ms (suc x) to) → acceptedIn ms x to ≡ x ∷ acceptedIn ms (suc x) to
+  cursor-choose : (t : Bool) (x : ℕ) → Cursor x → x < length ms → acceptedIn ms x to ≡ cond t (x ∷ acceptedIn ms (suc x) to) (acceptedIn ms (suc x) to)
+      → acceptedIn ms x to ≡ x ∷ acceptedIn ms (suc x) to
   cursor-choose true x c h e = e
   cursor-choose false x c h e =
       let q : x ≡ firstOr (length ms) (acceptedIn ms (suc x) to) = c ∙ ap (firstOr (length ms)) e in
-      let k : suc x ≤ firstOr (length ms) (acceptedIn ms (suc x) to) = from-first (λ _ _. true) (length ms) (suc x) (acceptedIn ms (suc x) to) (zeros-from (suc x) (slice (suc x) to ms)) (omega arith) in
+      let k : suc x ≤ firstOr (length ms) (acceptedIn ms (suc x) to) =
+      from-first (λ _ _. true) (length ms) (suc x) (acceptedIn ms (suc x) to) (zeros-from (suc x) (slice (suc x) to ms)) (omega arith) in
       let z : ⊥ = omega arith in
       absurd z
 
@@ -94,7 +97,8 @@ module _ (ms : List ℕ) (to : ℕ) (tn : to ≤ length ms) where
       record {
         list = rw (k, e, from-start (suc p)) (ap (λ (z : ℕ). acceptedIn ms (suc z) to) (sym q));
         cursor = rw e (cursor-first (suc p));
-        low = rw e (first-low lo (acceptedIn ms (suc p) to) (omega arith) (from-less (omega arith) (acceptedIn ms (suc p) to) (zeros-from (suc p) (slice (suc p) to ms))));
+        low = rw e (first-low lo (acceptedIn ms (suc p) to) (omega arith)
+            (from-less (omega arith) (acceptedIn ms (suc p) to) (zeros-from (suc p) (slice (suc p) to ms))));
       }
   move-by false lo p x e c h l =
       record {
@@ -123,18 +127,23 @@ module _ (lt : ℕ → ℕ → Bool) (ms : List ℕ) (first second : ℕ) (fs : 
   nn = omega arith
 
   -- the place that goes next
-  pub next-is : (x y z : ℕ) → Cursors ms first second x y z → firstOr (length ms) (merged lt ms x first y second z (length ms)) ≡ pick lt (length ms) (pick lt (length ms) x y) z
+  pub next-is : (x y z : ℕ) → Cursors ms first second x y z
+      → firstOr (length ms) (merged lt ms x first y second z (length ms)) ≡ pick lt (length ms) (pick lt (length ms) x y) z
   next-is x y z c =
       let ux = under-more fn (acceptedIn ms x first) (acceptedIn-under ms first fn x) in
       let uy = under-more sn (acceptedIn ms y second) (acceptedIn-under ms second sn y) in
       let uz = acceptedIn-under ms (length ms) nn z in
-      first-merge lt (length ms) (merge lt (acceptedIn ms x first) (acceptedIn ms y second)) (acceptedIn ms z (length ms)) (under-merge lt (length ms) (acceptedIn ms x first) (acceptedIn ms y second) ux uy) uz
-      ∙ ap (λ (q : ℕ). pick lt (length ms) q (firstOr (length ms) (acceptedIn ms z (length ms)))) (first-merge lt (length ms) (acceptedIn ms x first) (acceptedIn ms y second) ux uy)
-      ∙ ap (λ (q : ℕ). pick lt (length ms) (pick lt (length ms) q (firstOr (length ms) (acceptedIn ms y second))) (firstOr (length ms) (acceptedIn ms z (length ms)))) (sym (c .one))
+      first-merge lt (length ms) (merge lt (acceptedIn ms x first) (acceptedIn ms y second)) (acceptedIn ms z (length ms))
+      (under-merge lt (length ms) (acceptedIn ms x first) (acceptedIn ms y second) ux uy) uz
+      ∙ ap (λ (q : ℕ). pick lt (length ms) q (firstOr (length ms) (acceptedIn ms z (length ms))))
+      (first-merge lt (length ms) (acceptedIn ms x first) (acceptedIn ms y second) ux uy)
+      ∙ ap (λ (q : ℕ). pick lt (length ms) (pick lt (length ms) q (firstOr (length ms) (acceptedIn ms y second)))
+      (firstOr (length ms) (acceptedIn ms z (length ms)))) (sym (c .one))
       ∙ ap (λ (q : ℕ). pick lt (length ms) (pick lt (length ms) x q) (firstOr (length ms) (acceptedIn ms z (length ms)))) (sym (c .two))
       ∙ ap (λ (q : ℕ). pick lt (length ms) (pick lt (length ms) x y) q) (sym (c .three))
 
-  module _ (x y z p : ℕ) (c : Cursors ms first second x y z) (pn : p < length ms) (e : p ≡ firstOr (length ms) (merged lt ms x first y second z (length ms))) where
+  module _ (x y z p : ℕ) (c : Cursors ms first second x y z) (pn : p < length ms)
+      (e : p ≡ firstOr (length ms) (merged lt ms x first y second z (length ms))) where
     mx : Moved ms first fn 0 p x
     mx = move ms first fn 0 p x (c .one) pn (omega arith)
 
@@ -147,10 +156,12 @@ module _ (lt : ℕ → ℕ → Bool) (ms : List ℕ) (first second : ℕ) (fs : 
     pub cursors-cursorAfter : Cursors ms first second (cursorAfter ms first p x) (cursorAfter ms second p y) (cursorAfter ms (length ms) p z)
     cursors-cursorAfter = record { one = mx .cursor; two = my .cursor; three = mz .cursor; two-low = my .low; three-low = mz .low }
 
-    pub merged-cursorAfter : merged lt ms x first y second z (length ms) ≡ p ∷ merged lt ms (cursorAfter ms first p x) first (cursorAfter ms second p y) second (cursorAfter ms (length ms) p z) (length ms)
+    pub merged-cursorAfter : merged lt ms x first y second z (length ms) ≡ p ∷ merged lt ms (cursorAfter ms first p x) first (cursorAfter ms second p y)
+        second (cursorAfter ms (length ms) p z) (length ms)
     merged-cursorAfter =
         let ux = acceptedIn-under ms first fn x in
-        three-step lt (length ms) first second p (acceptedIn ms x first) (acceptedIn ms y second) (acceptedIn ms z (length ms)) fs ux (under-more fs (acceptedIn ms x first) ux)
+        three-step lt (length ms) first second p (acceptedIn ms x first) (acceptedIn ms y second) (acceptedIn ms z (length ms)) fs ux
+        (under-more fs (acceptedIn ms x first) ux)
         (from-less (c .two-low) (acceptedIn ms y second) (zeros-from y (slice y second ms))) (acceptedIn-under ms second sn y)
         (from-less (c .three-low) (acceptedIn ms z (length ms)) (zeros-from z (slice z (length ms) ms))) pn e
         ∙ rw (mx .list, my .list, mz .list)

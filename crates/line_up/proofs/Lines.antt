@@ -1,4 +1,5 @@
--- A run looks at its own numbers only, so that three runs are judged one after the other in one list, and who comes to it with 0 is not unordered. Assumes nothing.
+-- A run looks at its own numbers only, so that three runs are judged one after the other in one list, and who comes to it with 0 is not unordered. Assumes
+-- nothing.
 use Prim.Native.Nat.{ℕ, _+_, _-_, _*_, _/_, _<_, _≤_}
 use native.Mathlib.Omega.{arith}
 use native.Mathlib.Nat.{div-mul-le-self}
@@ -54,7 +55,8 @@ module _ (lt : ℕ → ℕ → Bool) (ns P : List ℕ) (from to : ℕ) (ft : fro
   runTurned-length = run-long lt ns P from to ft tn len (P ++ drop from ns) refl
 
 -- what a run is lent, where the runs before it left P and the unordered are left out
-module _ (js ks come N0 P N : List ℕ) (from to : ℕ) (lt : ℕ → ℕ → Bool) (e0 : N0 ≡ allTested (unorderedAt js ks) 0 come) (ft : from ≤ to) (tn : to ≤ length N0) (len : length P ≡ from) (e : N ≡ P ++ drop from N0)
+module _ (js ks come N0 P N : List ℕ) (from to : ℕ) (lt : ℕ → ℕ → Bool) (e0 : N0 ≡ allTested (unorderedAt js ks) 0 come) (ft : from ≤ to)
+    (tn : to ≤ length N0) (len : length P ≡ from) (e : N ≡ P ++ drop from N0)
     (long : length N ≡ length N0) (few : length N0 ≤ 4294967295) where
   pub run-alive : AllOrdered js ks N from to
   run-alive p h k z =

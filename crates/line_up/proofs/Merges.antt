@@ -1,26 +1,28 @@
 -- The merge: it loses and doubles no place, and it rises. Assumes nothing.
-use Prim.Native.Nat.{ℕ, zero, suc, _+_, _-_, _<_, _≤_}
+use Prim.Native.Nat.{ℕ, suc, _+_, _-_, _<_, _≤_}
 use native.Mathlib.Omega.{arith}
 use mathlib.Core.Path.{_≡_, refl, sym, ap, _∙_, subst}
 use mathlib.Core.Bool.{Bool, true, false, cond}
-use mathlib.Core.List.{List, [], _∷_, _++_}
-use lib.Dec.{eqb}
+use mathlib.Core.List.{List, [], _∷_}
 use lib.ListN.{length}
 use Rattle.line_up.specs.Runs.{into, merge, once, timesIn, MayFollow, After, Rising}
 
 -- ---- counts
 
 module _ (lt : ℕ → ℕ → Bool) (i : ℕ) where
-  timesIn-pick : (b : Bool) (x y r s : ℕ) (xs ys : List ℕ) → timesIn i xs ≡ r → timesIn i ys ≡ s → once i y + r ≡ once i x + s → timesIn i (cond b (y ∷ xs) (x ∷ ys)) ≡ once i x + s
+  timesIn-pick : (b : Bool) (x y r s : ℕ) (xs ys : List ℕ) → timesIn i xs ≡ r → timesIn i ys ≡ s → once i y + r ≡ once i x + s
+      → timesIn i (cond b (y ∷ xs) (x ∷ ys)) ≡ once i x + s
   unfolding timesIn
   timesIn-pick true x y r s xs ys h k e = omega arith
   timesIn-pick false x y r s xs ys h k e = omega arith
 
-  timesIn-into : (x c : ℕ) (rest : List ℕ → List ℕ) → ((ys : List ℕ) → timesIn i (rest ys) ≡ c + timesIn i ys) → (ys : List ℕ) → timesIn i (into lt x rest ys) ≡ once i x + (c + timesIn i ys)
+  timesIn-into : (x c : ℕ) (rest : List ℕ → List ℕ) → ((ys : List ℕ) → timesIn i (rest ys) ≡ c + timesIn i ys) → (ys : List ℕ)
+      → timesIn i (into lt x rest ys) ≡ once i x + (c + timesIn i ys)
   unfolding into timesIn
   timesIn-into x c rest h [] = omega (arith, h [])
   timesIn-into x c rest h (y ∷ ys) =
-      timesIn-pick (lt y x) x y (once i x + (c + timesIn i ys)) (c + (once i y + timesIn i ys)) (into lt x rest ys) (rest (y ∷ ys)) (timesIn-into x c rest h ys) (h (y ∷ ys)) (omega arith)
+      timesIn-pick (lt y x) x y (once i x + (c + timesIn i ys)) (c + (once i y + timesIn i ys)) (into lt x rest ys) (rest (y ∷ ys))
+      (timesIn-into x c rest h ys) (h (y ∷ ys)) (omega arith)
 
   pub timesIn-merge : (xs ys : List ℕ) → timesIn i (merge lt xs ys) ≡ timesIn i xs + timesIn i ys
   unfolding merge timesIn
@@ -34,7 +36,8 @@ module _ (lt : ℕ → ℕ → Bool) where
   length-pick true x y r xs ys h k = ap suc h
   length-pick false x y r xs ys h k = ap suc k
 
-  length-into : (x c : ℕ) (rest : List ℕ → List ℕ) → ((ys : List ℕ) → length (rest ys) ≡ c + length ys) → (ys : List ℕ) → length (into lt x rest ys) ≡ suc (c + length ys)
+  length-into : (x c : ℕ) (rest : List ℕ → List ℕ) → ((ys : List ℕ) → length (rest ys) ≡ c + length ys) → (ys : List ℕ)
+      → length (into lt x rest ys) ≡ suc (c + length ys)
   unfolding into
   length-into x c rest h [] = ap suc (h [])
   length-into x c rest h (y ∷ ys) =
@@ -64,7 +67,8 @@ module _ (lt : ℕ → ℕ → Bool) (b : ℕ) where
   under-pick true x y xs ys h k u v = (k, u)
   under-pick false x y xs ys h k u v = (h, v)
 
-  under-into : (x : ℕ) (rest : List ℕ → List ℕ) → x < b → ((ys : List ℕ) → Under b ys → Under b (rest ys)) → (ys : List ℕ) → Under b ys → Under b (into lt x rest ys)
+  under-into : (x : ℕ) (rest : List ℕ → List ℕ) → x < b → ((ys : List ℕ) → Under b ys → Under b (rest ys)) → (ys : List ℕ) → Under b ys
+      → Under b (into lt x rest ys)
   unfolding into
   under-into x rest h r [] u = (h, r [] tt)
   under-into x rest h r (y ∷ ys) u = under-pick (lt y x) x y (into lt x rest ys) (rest (y ∷ ys)) h (u .0) (under-into x rest h r ys (u .1)) (r (y ∷ ys) u)
@@ -102,11 +106,13 @@ module _ (lt : ℕ → ℕ → Bool) (anti : (x y : ℕ) → lt x y ≡ true →
       is-true false = ⊥
 
   module _ (b : ℕ) where
-    rising-pick : (t : Bool) (x y : ℕ) (xs ys : List ℕ) → lt y x ≡ t → (lt y x ≡ true → After lt y xs) → (lt y x ≡ false → After lt x ys) → Rising lt xs → Rising lt ys → Rising lt (cond t (y ∷ xs) (x ∷ ys))
+    rising-pick : (t : Bool) (x y : ℕ) (xs ys : List ℕ) → lt y x ≡ t → (lt y x ≡ true → After lt y xs) → (lt y x ≡ false → After lt x ys) → Rising lt xs
+        → Rising lt ys → Rising lt (cond t (y ∷ xs) (x ∷ ys))
     rising-pick true x y xs ys p f g r s = (f p, r)
     rising-pick false x y xs ys p f g r s = (g p, s)
 
-    rising-into : (x : ℕ) (rest : List ℕ → List ℕ) → x < b → ((ys : List ℕ) → From b ys → Rising lt ys → Rising lt (rest ys)) → ((ys : List ℕ) → After lt x ys → After lt x (rest ys))
+    rising-into : (x : ℕ) (rest : List ℕ → List ℕ) → x < b → ((ys : List ℕ) → From b ys → Rising lt ys → Rising lt (rest ys))
+        → ((ys : List ℕ) → After lt x ys → After lt x (rest ys))
         → (ys : List ℕ) → From b ys → Rising lt ys → Rising lt (into lt x rest ys)
     unfolding into
     rising-into x rest h r a [] f s = (a [] tt, r [] tt tt)

@@ -1,12 +1,12 @@
 -- The loop that merges, with the places as bytes. Assumes nothing.
-use Prim.Native.Nat.{ℕ, zero, suc, _+_, _-_, _*_, _<_, _≤_}
+use Prim.Native.Nat.{ℕ, _+_, _-_, _*_, _<_, _≤_}
 use native.Mathlib.Omega.{arith}
-use mathlib.Core.Path.{_≡_, refl, sym, ap, _∙_, subst}
-use mathlib.Core.Bool.{Bool, true, false, cond}
+use mathlib.Core.Path.{_≡_, refl, sym, ap, _∙_}
+use mathlib.Core.Bool.{Bool}
 use mathlib.Core.List.{List, [], _∷_, _++_, append-assoc, append-nil}
 use lib.ListN.{length, take, drop, length-append, take-append-drop}
 use lib.Seq.{slice, sets, sets-eq, length-sets, length-take-le, take-at, drop-at}
-use Rattle.line_up.specs.Runs.{zeros, acceptedIn, merge, merged, ordered, firstOr, pick, cursorAfter}
+use Rattle.line_up.specs.Runs.{acceptedIn, merge, merged, ordered, firstOr, pick, cursorAfter}
 use Rattle.line_up.proofs.Merges.{Under, under-merge, under-more}
 use Rattle.line_up.proofs.Zeros.{zeros-from}
 use Rattle.line_up.proofs.Places.{ordered-length}
@@ -46,10 +46,12 @@ module _ (lt : ℕ → ℕ → Bool) (ns : List ℕ) (first second : ℕ) (fs : 
   n-n : length ns ≤ length ns
   n-n = omega arith
 
-  placed : (x y z p : ℕ) → Cursors ns first second x y z → p ≡ pick lt (length ns) (pick lt (length ns) x y) z → p ≡ firstOr (length ns) (merged lt ns x first y second z (length ns))
+  placed : (x y z p : ℕ) → Cursors ns first second x y z → p ≡ pick lt (length ns) (pick lt (length ns) x y) z
+      → p ≡ firstOr (length ns) (merged lt ns x first y second z (length ns))
   placed x y z p c e = e ∙ sym (next-is lt ns first second fs sn x y z c)
 
-  pub merging-starts : (x y z p : ℕ) → x ≡ firstOr (length ns) (acceptedIn ns 0 first) → y ≡ firstOr (length ns) (acceptedIn ns first second) → z ≡ firstOr (length ns) (acceptedIn ns second (length ns))
+  pub merging-starts : (x y z p : ℕ) → x ≡ firstOr (length ns) (acceptedIn ns 0 first) → y ≡ firstOr (length ns) (acceptedIn ns first second)
+      → z ≡ firstOr (length ns) (acceptedIn ns second (length ns))
       → p ≡ pick lt (length ns) (pick lt (length ns) x y) z → Merging lt ns first second out₀ out₀ x y z p 0
   unfolding ordered
   merging-starts x y z p ex ey ez ep =
@@ -62,7 +64,8 @@ module _ (lt : ℕ → ℕ → Bool) (ns : List ℕ) (first second : ℕ) (fs : 
       } in
       let a : acceptedIn ns x first ≡ acceptedIn ns 0 first = ap (λ (i : ℕ). acceptedIn ns i first) ex ∙ from-start ns first f-n 0 in
       let b : acceptedIn ns y second ≡ acceptedIn ns first second = ap (λ (i : ℕ). acceptedIn ns i second) ey ∙ from-start ns second sn first in
-      let d : acceptedIn ns z (length ns) ≡ acceptedIn ns second (length ns) = ap (λ (i : ℕ). acceptedIn ns i (length ns)) ez ∙ from-start ns (length ns) n-n second in
+      let d : acceptedIn ns z (length ns) ≡ acceptedIn ns second (length ns) = ap (λ (i : ℕ). acceptedIn ns i (length ns)) ez
+      ∙ from-start ns (length ns) n-n second in
       let w : merged lt ns x first y second z (length ns) ≡ ordered lt ns first second (length ns) =
       ap (λ (l : List ℕ). merge lt (merge lt l (acceptedIn ns y second)) (acceptedIn ns z (length ns))) a
       ∙ ap (λ (l : List ℕ). merge lt (merge lt (acceptedIn ns 0 first) l) (acceptedIn ns z (length ns))) b
@@ -92,14 +95,16 @@ module _ (lt : ℕ → ℕ → Bool) (ns : List ℕ) (first second : ℕ) (fs : 
       pub room-yet : 4 * k + 4 ≤ length out
       room-yet = omega (arith, few-yet, room, m .len)
 
-      pub merging-goes : (out' : List ℕ) (x' y' z' p' : ℕ) → out' ≡ sets out (4 * k) (fourBytes p) → x' ≡ cursorAfter ns first p x → y' ≡ cursorAfter ns second p y → z' ≡ cursorAfter ns (length ns) p z
+      pub merging-goes : (out' : List ℕ) (x' y' z' p' : ℕ) → out' ≡ sets out (4 * k) (fourBytes p) → x' ≡ cursorAfter ns first p x
+          → y' ≡ cursorAfter ns second p y → z' ≡ cursorAfter ns (length ns) p z
           → p' ≡ pick lt (length ns) (pick lt (length ns) x' y') z' → Merging lt ns first second out₀ out' x' y' z' p' (k + 1)
       unfolding next-rests placesBytes
       merging-goes out' x' y' z' p' eo ex ey ez ep =
           let c : Cursors ns first second x' y' z' = rw (ex, ey, ez) (cursors-cursorAfter lt ns first second fs sn x y z p (m .cursors) pn (m .place)) in
           let r : merged lt ns x' first y' second z' (length ns) ≡ next-rests = rw (ex, ey, ez) in
           let q : 4 * (k + 1) ≡ 4 * k + 4 = omega arith in
-          let t : take (4 * (k + 1)) out' ≡ take (4 * k) out ++ fourBytes p = ap (λ (j : ℕ). take j out') q ∙ ap (take (4 * k + 4)) eo ∙ put-take out (4 * k) p room-yet in
+          let t : take (4 * (k + 1)) out' ≡ take (4 * k) out ++ fourBytes p = ap (λ (j : ℕ). take j out') q ∙ ap (take (4 * k + 4)) eo
+          ∙ put-take out (4 * k) p room-yet in
           let d : drop (4 * (k + 1)) out' ≡ drop (4 * k + 4) out = ap (λ (j : ℕ). drop j out') q ∙ ap (drop (4 * k + 4)) eo ∙ put-drop out (4 * k) p room-yet in
           record {
             len = ap length eo ∙ length-sets out (4 * k) (fourBytes p) ∙ m .len;
@@ -124,7 +129,8 @@ module _ (lt : ℕ → ℕ → Bool) (ns : List ℕ) (first second : ℕ) (fs : 
         let ux = under-more f-n (acceptedIn ns x first) (acceptedIn-under ns first f-n x) in
         let uy = under-more sn (acceptedIn ns y second) (acceptedIn-under ns second sn y) in
         let uz = acceptedIn-under ns (length ns) n-n z in
-        let u = under-merge lt (length ns) (merge lt (acceptedIn ns x first) (acceptedIn ns y second)) (acceptedIn ns z (length ns)) (under-merge lt (length ns) (acceptedIn ns x first) (acceptedIn ns y second) ux uy) uz in
+        let u = under-merge lt (length ns) (merge lt (acceptedIn ns x first) (acceptedIn ns y second)) (acceptedIn ns z (length ns))
+        (under-merge lt (length ns) (acceptedIn ns x first) (acceptedIn ns y second) ux uy) uz in
         let l : merged lt ns x first y second z (length ns) ≡ [] = nothing-left (merged lt ns x first y second z (length ns)) u (omega (arith, h, m .place)) in
         let w : take (4 * k) out ≡ placesBytes (ordered lt ns first second (length ns)) =
         sym (append-nil (take (4 * k) out)) ∙ ap (λ (r : List ℕ). take (4 * k) out ++ placesBytes r) (sym l) ∙ m .whole in

@@ -1,20 +1,21 @@
 -- The ordered places: every accepted place stands there exactly once, and they rise. Assumes nothing.
-use Prim.Native.Nat.{ℕ, zero, suc, _+_, _-_, _<_, _≤_}
+use Prim.Native.Nat.{ℕ, _+_, _-_, _≤_}
 use native.Mathlib.Omega.{arith}
-use mathlib.Core.Path.{_≡_, refl, sym, ap, _∙_, subst}
-use mathlib.Core.Bool.{Bool, true, false, cond, _&&_, _||_}
-use mathlib.Core.List.{List, [], _∷_, _++_, append-assoc}
+use mathlib.Core.Path.{_≡_, sym, ap, _∙_}
+use mathlib.Core.Bool.{Bool, true, false, cond}
+use mathlib.Core.List.{List, [], _++_, append-assoc}
 use lib.Dec.{eqb}
-use lib.ListN.{length, getD, take, drop, length-append, List·getD-eq-default}
-use lib.Seq.{slice, length-slice, take-length, take-all, take-at, drop-at, drop-append-add, take-append-add}
-use Rattle.line_up.specs.Runs.{run, numbersAfter, zeros, acceptedIn, merge, merged, ordered, timesIn, Rising}
-use Rattle.line_up.proofs.Merges.{Under, From, under-more, under-merge, timesIn-merge, length-merge, rising-merge}
+use lib.ListN.{length, getD, take, drop, length-append}
+use lib.Seq.{slice, length-slice, take-length, take-all, take-at, drop-at}
+use Rattle.line_up.specs.Runs.{run, numbersAfter, zeros, acceptedIn, merge, ordered, timesIn, Rising}
+use Rattle.line_up.proofs.Merges.{under-merge, timesIn-merge, length-merge, rising-merge}
 use Rattle.line_up.proofs.Zeros.{zeros-from, zeros-under, length-zeros, timesIn-zeros, timesIn-append, zeros-append, slice-split}
 use Rattle.line_up.proofs.Marks.{length-run, run-rises}
 
 -- ---- every place once
 
-acceptedIn-split : (p f t u : ℕ) (ms : List ℕ) → f ≤ t → t ≤ u → u ≤ length ms → timesIn p (acceptedIn ms f u) ≡ timesIn p (acceptedIn ms f t) + timesIn p (acceptedIn ms t u)
+acceptedIn-split : (p f t u : ℕ) (ms : List ℕ) → f ≤ t → t ≤ u → u ≤ length ms
+    → timesIn p (acceptedIn ms f u) ≡ timesIn p (acceptedIn ms f t) + timesIn p (acceptedIn ms t u)
 acceptedIn-split p f t u ms h k m =
     let e : f + length (slice f t ms) ≡ t = rw (length-slice f t ms (omega arith)) (omega arith) in
     ap (λ (l : List ℕ). timesIn p (zeros f l)) (slice-split f t u ms h k m)
@@ -65,7 +66,8 @@ module _ (lt : ℕ → ℕ → Bool) (ns : List ℕ) (a b n : ℕ) (ab : a ≤ b
 
   pub after-length : length (numbersAfter lt ns a b n) ≡ n
   unfolding numbersAfter
-  after-length = rw (length-append (run lt ns 0 a) (run lt ns a b ++ run lt ns b n), length-append (run lt ns a b) (run lt ns b n), long-1, long-2, long-3) (omega arith)
+  after-length = rw (length-append (run lt ns 0 a) (run lt ns a b ++ run lt ns b n), length-append (run lt ns a b) (run lt ns b n), long-1, long-2, long-3)
+      (omega arith)
 
   pub first-run : slice 0 a (numbersAfter lt ns a b n) ≡ run lt ns 0 a
   unfolding numbersAfter
@@ -89,7 +91,8 @@ module _ (lt : ℕ → ℕ → Bool) (ns : List ℕ) (a b n : ℕ) (ab : a ≤ b
       ∙ drop-at (run lt ns 0 a ++ run lt ns a b) (run lt ns b n) b two-length
 
   -- the order is the merge of the three runs' accepted places
-  pub ordered-runs : ordered lt (numbersAfter lt ns a b n) a b n ≡ merge lt (merge lt (zeros 0 (run lt ns 0 a)) (zeros a (run lt ns a b))) (zeros b (run lt ns b n))
+  pub ordered-runs : ordered lt (numbersAfter lt ns a b n) a b n ≡ merge lt (merge lt (zeros 0 (run lt ns 0 a)) (zeros a (run lt ns a b)))
+      (zeros b (run lt ns b n))
   unfolding ordered
   ordered-runs = rw (first-run, second-run, third-run)
 

@@ -1,11 +1,11 @@
 -- One step of the merge of three lists: its first place leaves the list that it stands in. Assumes nothing.
-use Prim.Native.Nat.{ℕ, zero, suc, _+_, _-_, _<_, _≤_}
+use Prim.Native.Nat.{ℕ, _-_, _<_, _≤_}
 use native.Mathlib.Omega.{arith}
-use mathlib.Core.Path.{_≡_, refl, sym, ap, _∙_, subst}
+use mathlib.Core.Path.{_≡_, refl, sym, ap, _∙_}
 use mathlib.Core.Bool.{Bool, true, false, cond}
 use mathlib.Core.Logic.{_⊎_, inl, inr}
-use mathlib.Core.List.{List, [], _∷_, _++_}
-use lib.Dec.{eqb, ltb}
+use mathlib.Core.List.{List, [], _∷_}
+use lib.Dec.{eqb}
 use borrow.Author.Tests.{eq-eqb, ne-eqb, eqb-true, eqb-false, lt-ltb, le-ltb}
 use Rattle.line_up.specs.Runs.{into, merge, firstOr, pick}
 use Rattle.line_up.proofs.Merges.{Under, From, under-merge}
@@ -35,7 +35,8 @@ module _ (lt : ℕ → ℕ → Bool) (n : ℕ) where
   step-pick false b p x y xs ys h k e =
       rw (eq-eqb p x e, ne-eqb p y (λ q. omega (arith, e, q, h, k))) (ap (λ (z : ℕ). z ∷ merge lt xs (y ∷ ys)) (sym e))
 
-  merge-step : (b p : ℕ) (xs ys : List ℕ) → Under b xs → From b ys → p < n → p ≡ firstOr n (merge lt xs ys) → merge lt xs ys ≡ p ∷ merge lt (adv p xs) (adv p ys)
+  merge-step : (b p : ℕ) (xs ys : List ℕ) → Under b xs → From b ys → p < n → p ≡ firstOr n (merge lt xs ys)
+      → merge lt xs ys ≡ p ∷ merge lt (adv p xs) (adv p ys)
   unfolding merge into
   merge-step b p [] [] u f h e = let z : ⊥ = omega arith in absurd z
   merge-step b p [] (y ∷ ys) u f h e = rw (eq-eqb p y e) (ap (λ (z : ℕ). z ∷ ys) (sym e))
@@ -57,7 +58,8 @@ module _ (lt : ℕ → ℕ → Bool) (n : ℕ) where
     own : p ≡ firstOr n (merge lt X Y) → adv p (merge lt X Y) ≡ merge lt (adv p X) (adv p Y)
     own q = ap (adv p) (merge-step a p X Y ux fy pn q) ∙ rw (eq-eqb p p refl)
 
-    late : (p ≡ firstOr n (merge lt X Y) → ⊥) → (firstOr n (merge lt (merge lt X Y) Z) ≡ firstOr n (merge lt X Y)) ⊎ (firstOr n (merge lt (merge lt X Y) Z) ≡ firstOr n Z) → b ≤ p
+    late : (p ≡ firstOr n (merge lt X Y) → ⊥) → (firstOr n (merge lt (merge lt X Y) Z) ≡ firstOr n (merge lt X Y))
+        ⊎ (firstOr n (merge lt (merge lt X Y) Z) ≡ firstOr n Z) → b ≤ p
     late q (inl r) = absurd (q (e ∙ r))
     late q (inr r) =
         let k : p ≡ firstOr n Z = e ∙ r in

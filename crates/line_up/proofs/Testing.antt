@@ -2,9 +2,9 @@
 use Prim.Native.Nat.{ℕ, zero, suc, _+_, _-_, _<_, _≤_}
 use native.Mathlib.Omega.{arith}
 use native.Mathlib.Numerals.{add-one}
-use mathlib.Core.Path.{_≡_, refl, sym, ap, _∙_, subst}
+use mathlib.Core.Path.{_≡_, refl, sym, ap, _∙_}
 use mathlib.Core.Bool.{Bool}
-use mathlib.Core.List.{List, [], _∷_, _++_, append-assoc, append-nil}
+use mathlib.Core.List.{List, [], _∷_, _++_, append-assoc}
 use lib.ListN.{length, getD, take, drop, set, length-set, drop-of-length-le, take-append-drop}
 use lib.Seq.{take-suc-set, drop-set-lt, drop-drop, getD-drop}
 use Rattle.line_up.specs.Runs.{tested, allTested}
@@ -36,7 +36,8 @@ module _ (unordered : ℕ → Bool) (ns : List ℕ) where
     same-number : getD now i 0 ≡ getD ns i 0
     same-number =
         let k : i + 0 ≡ i = omega arith in
-        ap (λ (j : ℕ). getD now j 0) (sym k) ∙ sym (getD-drop i now 0 0) ∙ ap (λ (l : List ℕ). getD l 0 0) (t .rest) ∙ getD-drop i ns 0 0 ∙ ap (λ (j : ℕ). getD ns j 0) k
+        ap (λ (j : ℕ). getD now j 0) (sym k) ∙ sym (getD-drop i now 0 0) ∙ ap (λ (l : List ℕ). getD l 0 0) (t .rest) ∙ getD-drop i ns 0 0
+        ∙ ap (λ (j : ℕ). getD ns j 0) k
 
     next-tested : allTested unordered i (drop i ns) ≡ m ∷ allTested unordered (suc i) (drop (suc i) ns)
     unfolding allTested

@@ -1,15 +1,15 @@
 -- The places of the numbers that are 0. Assumes nothing.
 use Prim.Native.Nat.{ℕ, zero, suc, _+_, _-_, _<_, _≤_}
 use native.Mathlib.Omega.{arith}
-use mathlib.Core.Path.{_≡_, refl, sym, ap, _∙_, subst}
+use mathlib.Core.Path.{_≡_, refl, sym, ap, _∙_}
 use mathlib.Core.Bool.{Bool, true, false, cond}
-use mathlib.Core.List.{List, [], _∷_, _++_, append-nil}
+use mathlib.Core.List.{List, [], _∷_, _++_}
 use lib.Dec.{eqb}
-use lib.ListN.{length, getD, take, drop, length-append, length-take, length-drop, take-append-drop}
-use lib.Seq.{slice, take-take, drop-append-le, length-take-le, take-length}
+use lib.ListN.{length, getD, take, drop, take-append-drop}
+use lib.Seq.{slice, take-take, drop-append-le, length-take-le}
 use borrow.Author.Tests.{eq-eqb, ne-eqb}
-use Rattle.line_up.specs.Runs.{zeros, once, timesIn}
-use Rattle.line_up.proofs.Merges.{Under, From, under-more}
+use Rattle.line_up.specs.Runs.{zeros, timesIn}
+use Rattle.line_up.proofs.Merges.{Under, From}
 
 -- ---- their bounds
 
@@ -65,7 +65,9 @@ timesIn-past false i p xs h = refl
 pub timesIn-zeros : (i j : ℕ) (ms : List ℕ) → timesIn (i + j) (zeros i ms) ≡ cond (eqb (getD ms j 1) 0) 1 0
 unfolding zeros timesIn
 timesIn-zeros i j [] = refl
-timesIn-zeros i zero (m ∷ ms) = timesIn-here (eqb m 0) i (i + zero) (zeros (suc i) ms) (omega arith) (timesIn-below (i + zero) (suc i) (zeros (suc i) ms) (omega arith) (zeros-from (suc i) ms))
+timesIn-zeros i zero (m ∷ ms) =
+    timesIn-here (eqb m 0) i (i + zero) (zeros (suc i) ms) (omega arith)
+    (timesIn-below (i + zero) (suc i) (zeros (suc i) ms) (omega arith) (zeros-from (suc i) ms))
 timesIn-zeros i (suc j) (m ∷ ms) =
     timesIn-past (eqb m 0) i (i + suc j) (zeros (suc i) ms) (omega arith)
     ∙ ap (λ (p : ℕ). timesIn p (zeros (suc i) ms)) (let e : i + suc j ≡ suc i + j = omega arith in e)
@@ -85,7 +87,8 @@ append-choose false i xs ys zs e = e
 pub zeros-append : (i j : ℕ) (xs ys : List ℕ) → i + length xs ≡ j → zeros i (xs ++ ys) ≡ zeros i xs ++ zeros j ys
 unfolding zeros
 zeros-append i j [] ys h = ap (λ (k : ℕ). zeros k ys) (let e : i ≡ j = omega arith in e)
-zeros-append i j (x ∷ xs) ys h = append-choose (eqb x 0) i (zeros (suc i) (xs ++ ys)) (zeros (suc i) xs) (zeros j ys) (zeros-append (suc i) j xs ys (omega arith))
+zeros-append i j (x ∷ xs) ys h =
+    append-choose (eqb x 0) i (zeros (suc i) (xs ++ ys)) (zeros (suc i) xs) (zeros j ys) (zeros-append (suc i) j xs ys (omega arith))
 
 pub slice-split : (f t u : ℕ) (l : List ℕ) → f ≤ t → t ≤ u → u ≤ length l → slice f u l ≡ slice f t l ++ slice t u l
 slice-split f t u l h k m =

@@ -1,5 +1,5 @@
 -- What the functions of the lining up ask and ensure. Assumes nothing.
-use Prim.Native.Nat.{ℕ, _≤_, _<_, _*_, _+_}
+use Prim.Native.Nat.{ℕ, _≤_, _*_, _+_}
 use mathlib.Core.Path.{_≡_}
 use mathlib.Core.List.{List, _++_}
 use mathlib.Core.Bool.{Bool}

@@ -1,11 +1,11 @@
 -- Runs of stamps as lists of places: which stamps of a run are accepted, and how the accepted places of three runs are merged. `lt x y` says that the stamp at
 -- place x is earlier than that at y. Assumes nothing.
-use Prim.Native.Nat.{ℕ, zero, suc, _+_, _<_}
+use Prim.Native.Nat.{ℕ, suc, _+_, _<_}
 use mathlib.Core.Path.{_≡_}
-use mathlib.Core.Bool.{Bool, true, false, cond, _&&_, _||_}
+use mathlib.Core.Bool.{Bool, false, cond, _&&_}
 use mathlib.Core.List.{List, [], _∷_, _++_}
 use lib.Dec.{eqb, ltb}
-use lib.ListN.{getD, length}
+use lib.ListN.{length}
 use lib.Seq.{slice}
 unfoldable pub use Rattle.line_up.specs.keep_most.Piles.{zeros, mostKept}
 

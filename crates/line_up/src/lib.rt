@@ -141,7 +141,8 @@ fn merge(
     out: &mut [u8],
 ) -> usize
     requires { ⌜ N.Mergeable (now numbers) first second (now out) ⌝ }
-    ensures { λ r. ⌜ N.Merged (U.soonerAt (now (jd1s .entry)) (now (jd2s .entry))) (now (numbers .entry)) first second (now (out .entry)) (now (out .exit)) r ⌝ }
+    ensures { λ r. ⌜ N.Merged (U.soonerAt (now (jd1s .entry)) (now (jd2s .entry))) (now (numbers .entry)) first second (now (out .entry)) (now (out .exit)) r
+        ⌝ }
 {
     let n = numbers.len();
     let mut x = next_accepted(numbers, 0, first);
@@ -214,10 +215,11 @@ fn line_refusal(
     0
 }
 
-// The places of the accepted stamps (number 0) in the order of their exact sums, four bytes each in `out`; ties by run and then by place. The runs stand one after the
-// other, the third is what is left. A stamp that comes in with number 0 and is unordered gets number 9; of the others of a run the most that rise stay at 0, and the rest get 17.
-// Refusals in order: 14 a length of parts that is no multiple of eight, 12 not as many parts as numbers, 14 counts past the length, 13 more stamps than a place of four
-// bytes can number, 11 fewer than four bytes for each stamp in `out` or in a work area; a refused call writes nothing.
+// The places of the accepted stamps (number 0) in the order of their exact sums, four bytes each in `out`; ties by run and then by place. The runs stand one
+// after the other, the third is what is left. A stamp that comes in with number 0 and is unordered gets number 9; of the others of a run the most that rise
+// stay at 0, and the rest get 17. Refusals in order: 14 a length of parts that is no multiple of eight, 12 not as many parts as numbers, 14 counts past the
+// length, 13 more stamps than a place of four bytes can number, 11 fewer than four bytes for each stamp in `out` or in a work area; a refused call writes
+// nothing.
 pub fn line_up(
     jd1s: &[u8],
     jd2s: &[u8],
@@ -228,7 +230,8 @@ pub fn line_up(
     tails: &mut [u8],
     ranks: &mut [u8],
 ) -> LineUpAnswer
-    ensures { λ r. ⌜ U.result r (now (numbers .exit)) (now (out .exit)) ≡ U.linedUp (now (jd1s .entry)) (now (jd2s .entry)) (now (numbers .entry)) first second (now (out .entry)) (length (now (tails .entry))) (length (now (ranks .entry))) ⌝ }
+    ensures { λ r. ⌜ U.result r (now (numbers .exit)) (now (out .exit)) ≡ U.linedUp (now (jd1s .entry)) (now (jd2s .entry)) (now (numbers .entry)) first
+        second (now (out .entry)) (length (now (tails .entry))) (length (now (ranks .entry))) ⌝ }
 {
     let n = numbers.len();
     let work = smaller(tails.len(), ranks.len());

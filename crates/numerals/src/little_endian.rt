@@ -2,7 +2,8 @@
 ghost use mathlib.Core.Path.{_≡_};
 ghost use Prim.Native.Nat.{_+_, _*_, _≤_, _<_};
 ghost use lib.ListN.{length};
-ghost use Rattle.numerals.specs.little_endian.LittleEndian.{fourAt, u32At, u64At, eightBytes, withU64, withU32, withNth32, withNth64, patternOf, signedOf, signed32, i32At};
+ghost use Rattle.numerals.specs.little_endian.LittleEndian.{fourAt, u32At, u64At, eightBytes, withU64, withU32, withNth32, withNth64, patternOf};
+ghost use Rattle.numerals.specs.little_endian.LittleEndian.{signedOf, signed32, i32At};
 
 fn wide(x: u8) -> u64
     ensures { λ r. ⌜ (r ≡ x) × (r < 256) ⌝ }

@@ -47,16 +47,19 @@ unfolding keptFrom leading
 kept-whole w place [] h = refl
 kept-whole w place (c ∷ cs) h = either (isDigit c) refl (kept-whole (10 * w + (c - 48)) (place + 1) cs) h
   where
-    either : (b : Bool) → isDigit c ≡ b → (place + 1 + length (leading cs) ≤ 13 → keptFrom (10 * w + (c - 48)) (place + 1) cs ≡ value (10 * w + (c - 48)) (leading cs))
+    either : (b : Bool) → isDigit c ≡ b
+        → (place + 1 + length (leading cs) ≤ 13 → keptFrom (10 * w + (c - 48)) (place + 1) cs ≡ value (10 * w + (c - 48)) (leading cs))
         → place + length (cond b (c ∷ leading cs) []) ≤ 13 → cond b (keptFrom (joined w c place) (place + 1) cs) w ≡ value w (cond b (c ∷ leading cs) [])
-    either true e back k = ap (λ (v : ℕ). keptFrom v (place + 1) cs) (ap (λ (x : Bool). cond x (10 * w + digitSays c) w) (lt-ltb place 13 (omega arith)) ∙ ap (λ (d : ℕ). 10 * w + d) (worth-of c e)) ∙ back (omega arith)
+    either true e back k = ap (λ (v : ℕ). keptFrom v (place + 1) cs)
+        (ap (λ (x : Bool). cond x (10 * w + digitSays c) w) (lt-ltb place 13 (omega arith)) ∙ ap (λ (d : ℕ). 10 * w + d) (worth-of c e)) ∙ back (omega arith)
     either false e back k = refl
 
 kept-fraction : (second : ℕ) (s : List ℕ) → length (fractionDigits s) ≤ 13 → kept second s ≡ value second (fractionDigits s)
 unfolding kept fractionDigits
 kept-fraction second s h = either (eqb (byteAt s 0) 46) h
   where
-    either : (b : Bool) → length (cond b (leading (drop 1 s)) []) ≤ 13 → cond b (keptFrom second 0 (drop 1 s)) second ≡ value second (cond b (leading (drop 1 s)) [])
+    either : (b : Bool) → length (cond b (leading (drop 1 s)) []) ≤ 13
+        → cond b (keptFrom second 0 (drop 1 s)) second ≡ value second (cond b (leading (drop 1 s)) [])
     either true k = kept-whole second 0 (drop 1 s) (omega arith)
     either false k = refl
 
@@ -102,7 +105,8 @@ module _ (f : Form) where
     unfolding judgedForm onward
     time-refused e t = rw (le-leb (f .places) 13 few, e, t)
 
-    pub fields-given : (p : ParsedDateTime) → validDate (pos (f .year)) (pos (f .month)) (pos (f .day)) ≡ answer tt → timeIn f ≡ true → p ≡ fieldsBy f → answer p ≡ judgedForm f
+    pub fields-given : (p : ParsedDateTime) → validDate (pos (f .year)) (pos (f .month)) (pos (f .day)) ≡ answer tt → timeIn f ≡ true → p ≡ fieldsBy f
+        → answer p ≡ judgedForm f
     unfolding judgedForm onward
     fields-given p e t i = rw (le-leb (f .places) 13 few, e, t) (ap answer i)
 
@@ -129,7 +133,8 @@ module _ (utc : Bool) (s : List ℕ) where
   unfolding says formAt
   same-fields h = rw (same-second h)
 
-  one-answer : length ds ≤ 13 → cond (timeFits (says utc s)) (answer (fieldsOf (says utc s))) (refusal 4) ≡ cond (timeIn (formAt s)) (answer (fieldsBy (formAt s))) (refusal 4)
+  one-answer : length ds ≤ 13 → cond (timeFits (says utc s)) (answer (fieldsOf (says utc s))) (refusal 4) ≡ cond (timeIn (formAt s))
+      (answer (fieldsBy (formAt s))) (refusal 4)
   one-answer h =
       ap (λ (b : Bool). cond b (answer (fieldsOf (says utc s))) (refusal 4)) same-time
       ∙ ap (λ (p : ParsedDateTime). cond (timeIn (formAt s)) (answer p) (refusal 4)) (same-fields h)
@@ -149,6 +154,7 @@ pub parsed-is : (utc : Bool) (t : List ℕ) → parsed utc t ≡ onward (scanOf 
 unfolding parsed formOf scanOf onward
 parsed-is utc t = either (rightForm utc (afterBlanks t))
   where
-    either : (b : Bool) → onward (cond b (answer (says utc (afterBlanks t))) (refusal 15)) judged ≡ onward (cond b (answer (formAt (afterBlanks t))) (refusal 15)) judgedForm
+    either : (b : Bool) → onward (cond b (answer (says utc (afterBlanks t))) (refusal 15)) judged ≡ onward
+        (cond b (answer (formAt (afterBlanks t))) (refusal 15)) judgedForm
     either true = judged-alike utc (afterBlanks t)
     either false = refl

@@ -1,5 +1,5 @@
--- The second of a text: a whole number below 2 ^ 53 and a power of ten up to 10 ^ 13 are floats, so that their quotient, rounded once, is the float nearest to the
--- decimal. Assumes nothing.
+-- The second of a text: a whole number below 2 ^ 53 and a power of ten up to 10 ^ 13 are floats, so that their quotient, rounded once, is the float nearest to
+-- the decimal. Assumes nothing.
 use Prim.Native.Nat.{ℕ, zero, suc, _+_, _*_, _^_, _<_, _≤_}
 use native.Mathlib.Omega.{arith}
 use native.Mathlib.Nat.{add-zero, zero-add, one-mul, le-trans, pow-le-pow-right}
@@ -45,11 +45,14 @@ power-val : (places : ℕ) → places ≤ 13 → Val (decimal (10 ^ places) 0) (
 unfolding ofInt
 power-val places h = ofInt-val (pos (10 ^ places)) (le-trans (pow-le-pow-right {n = 10} (omega arith) h) (lit≤ tt)) (omega arith)
 
-some : (whole places : ℕ) → 0 < whole → Rounds binary64 (quotient whole places) (whole * 1) (0 * 1) (1 * 10 ^ places) → quotient whole places ≡ decimal whole places
+some : (whole places : ℕ) → 0 < whole → Rounds binary64 (quotient whole places) (whole * 1) (0 * 1) (1 * 10 ^ places)
+    → quotient whole places ≡ decimal whole places
 some whole places h r = go (r .sign) (r .size) (r .eq) (r .is)
   where
-    go : (s : Bool) (a : ℕ) → quotient whole places ≡ round binary64 s a (1 * 10 ^ places) → Signed s a (whole * 1) (0 * 1) → quotient whole places ≡ decimal whole places
-    go false a e i = e ∙ ap (λ (n : ℕ). round binary64 false n (1 * 10 ^ places)) (let g : a ≡ whole = omega arith in g) ∙ ap (round binary64 false whole) (one-mul (10 ^ places))
+    go : (s : Bool) (a : ℕ) → quotient whole places ≡ round binary64 s a (1 * 10 ^ places) → Signed s a (whole * 1) (0 * 1)
+        → quotient whole places ≡ decimal whole places
+    go false a e i = e ∙ ap (λ (n : ℕ). round binary64 false n (1 * 10 ^ places)) (let g : a ≡ whole = omega arith in g)
+        ∙ ap (round binary64 false whole) (one-mul (10 ^ places))
     go true a e i = absurd (let z : ⊥ = omega arith in z)
 
 pub one-division : (whole places : ℕ) → whole ≤ 1000000000000000 → places ≤ 13 → quotient whole places ≡ decimal whole places
@@ -57,4 +60,5 @@ unfolding quotient
 one-division zero places w h = none places h
 one-division (suc n) places w h =
     some (suc n) places (omega arith)
-    (div-rounds binary64 (lit< tt) (lit< tt) (pow-le-pow-right {n = 10} (omega arith) {i = 0} {j = places} (omega arith)) (ofInt-val (pos (suc n)) (omega arith) (omega arith)) (power-val places h))
+    (div-rounds binary64 (lit< tt) (lit< tt) (pow-le-pow-right {n = 10} (omega arith) {i = 0} {j = places} (omega arith))
+    (ofInt-val (pos (suc n)) (omega arith) (omega arith)) (power-val places h))

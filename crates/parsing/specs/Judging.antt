@@ -1,5 +1,5 @@
--- What is judged of a scanned text behind its form: its fraction, its date and its time. Written from document 02, item 1: "15, then 16, then the date's number, then 4". No
--- public contract cites it. Assumes nothing.
+-- What is judged of a scanned text behind its form: its fraction, its date and its time. Written from document 02, item 1: "15, then 16, then the date's
+-- number, then 4". No public contract cites it. Assumes nothing.
 use Prim.Native.Nat.{ℕ, _^_}
 use mathlib.Core.Bool.{Bool, cond, _&&_}
 use lib.Dec.{leb}

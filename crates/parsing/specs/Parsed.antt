@@ -57,7 +57,8 @@ toJulianDate p = fromCalendar (p .year) (p .month) (p .day) (p .hour) (p .minute
 -- the UTC date of some fields, in a table of rows, beside them
 unfoldable pub dated : List Row → ParsedDateTime → Outcome ParsedUtc
 dated rows p =
-    onward (utcFromCalendar rows (p .year) (p .month) (p .day) (p .hour) (p .minute) (p .second)) (λ jd. answer (record { fields = p; date = record { 0 = jd } }))
+    onward (utcFromCalendar rows (p .year) (p .month) (p .day) (p .hour) (p .minute) (p .second))
+    (λ jd. answer (record { fields = p; date = record { 0 = jd } }))
 
 -- a text of UTC names what `utc_from_calendar` accepts
 unfoldable pub parsedUtc : List Row → List ℕ → Outcome ParsedUtc

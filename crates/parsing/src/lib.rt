@@ -126,8 +126,8 @@ pub fn parse_iso8601(text: &[u8]) -> ParsedAnswer
     parse(text, false)
 }
 
-// The fields of a UTC text and the date that they name, by rows that are tested elsewhere. Refusals in order: 15 the text, 16 its fraction, 2 the month, 3 the day, 4 the
-// time, which goes by the length of the day's last minute.
+// The fields of a UTC text and the date that they name, by rows that are tested elsewhere. Refusals in order: 15 the text, 16 its fraction, 2 the month, 3 the
+// day, 4 the time, which goes by the length of the day's last minute.
 pub fn from_str_by_lent<'a>(
     text: &[u8],
     size: usize,
@@ -154,8 +154,8 @@ pub fn from_str_by_rows(text: &[u8], table: AnnouncedRows) -> ParsedUtcAnswer
     )
 }
 
-// The fields of a UTC text and the date that they name. Refusals in order: 20 to 22 the table, 15 the text, 16 its fraction, 2 the month, 3 the day, 4 the time, which
-// goes by the length of the day's last minute.
+// The fields of a UTC text and the date that they name. Refusals in order: 20 to 22 the table, 15 the text, 16 its fraction, 2 the month, 3 the day, 4 the
+// time, which goes by the length of the day's last minute.
 pub fn from_str(text: &[u8], table: AnnouncedRows) -> ParsedUtcAnswer
     ensures { λ r. ⌜ parsedUtcOutcome r ≡ onward (tableOf table) (λ rows. parsedUtc rows (now (text .entry))) ⌝ }
 {

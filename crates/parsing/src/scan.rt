@@ -217,7 +217,9 @@ fn fraction(text: &[u8], at: usize, second: u8) -> Run
 // The index behind a Z, which only a UTC text may have.
 fn zone_end(text: &[u8], at: usize, utc: bool) -> usize
     requires { ⌜ at ≤ length (now text) ⌝ }
-    ensures { λ r. ⌜ (r ≤ length (now (text .entry))) × (drop r (now (text .entry)) ≡ cond (zuluFirst utc (drop at (now (text .entry)))) (drop 1 (drop at (now (text .entry)))) (drop at (now (text .entry)))) ⌝ }
+    ensures { λ r. ⌜ (r ≤ length (now (text .entry)))
+        × (drop r (now (text .entry)) ≡ cond (zuluFirst utc (drop at (now (text .entry)))) (drop 1 (drop at (now (text .entry))))
+        (drop at (now (text .entry)))) ⌝ }
 {
     if !utc {
         return at;

@@ -114,7 +114,9 @@ module _ (t : List ℕ) (w : Written) (r : Reads true t w) (none : w .zulu ≡ f
 
   is-bare : textOf q ≡ textOf bare
   unfolding bare
-  is-bare = λ i. q .before ++ (q .year ++ (45 ∷ (q .month ++ (45 ∷ (q .day ++ (q .separator ∷ (q .hour ++ (58 ∷ (q .minute ++ (58 ∷ (q .second ++ (q .fraction ++ (no-zone (r .zone) none i ++ ends i)))))))))))))
+  is-bare = λ i. q .before ++ (q .year
+      ++ (45 ∷ (q .month ++ (45 ∷ (q .day
+      ++ (q .separator ∷ (q .hour ++ (58 ∷ (q .minute ++ (58 ∷ (q .second ++ (q .fraction ++ (no-zone (r .zone) none i ++ ends i)))))))))))))
 
   joined-z : textOf bare ++ (90 ∷ []) ≡ textOf marked
   unfolding bare marked

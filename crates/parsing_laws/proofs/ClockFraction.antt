@@ -1,5 +1,5 @@
--- The fraction of a day that `utc_from_calendar` has for a time to the millisecond: within 2^-50 day of the milliseconds over those of the day, on days of 86,399 to
--- 86,401 s. Assumes nothing.
+-- The fraction of a day that `utc_from_calendar` has for a time to the millisecond: within 2^-50 day of the milliseconds over those of the day, on days of
+-- 86,399 to 86,401 s. Assumes nothing.
 use mathlib.Core.Path.{_≡_, refl, ap, _∙_}
 use mathlib.Core.Bool.{false}
 use Prim.Native.Nat.{ℕ, _+_, _*_, _^_, _≤_, _<_}
@@ -74,7 +74,17 @@ second n h =
     halved a b t u e g = omega arith
 
 zero : (D : ℕ) → 0 < D → About nought 0 0 D 0 0
-zero D h = record { p = 0 * L; n = 0 * L; val = whole-val (record { sign = false; size = 0; has = (refl, refl); is = refl }); over = omega arith; under = omega arith; high = omega arith; low = omega arith; some = h }
+zero D h = record {
+  p = 0 * L;
+  n = 0 * L;
+  val = whole-val (record { sign = false; size = 0; has = (refl, refl); is = refl });
+  over = omega arith;
+  under =
+      omega arith;
+  high = omega arith;
+  low = omega arith;
+  some = h;
+}
 
 -- ---- over the length of the day, c seconds
 -- the milliseconds K of the day, over 1000 c of them, and how the float (p - n) / L is off
@@ -87,10 +97,12 @@ pub record TimeNear (z : Float) (K c : ℕ) : Type 0 where
 
 -- the fraction of hour, minute and n milliseconds, over a float of the day's seconds
 abbrev pub fractionAt : ℕ → ℕ → ℕ → Float → Float
-fractionAt hour minute n day = add binary64 nought (div binary64 (add binary64 (mul binary64 (decimal 60 0) (ofInt binary64 (pos (60 * hour + minute)))) (decimal n 3)) day)
+fractionAt hour minute n day = add binary64 nought
+    (div binary64 (add binary64 (mul binary64 (decimal 60 0) (ofInt binary64 (pos (60 * hour + minute)))) (decimal n 3)) day)
 
 module _ (hour minute n c : ℕ) (day : Float) (h : hour ≤ 23) (m : minute ≤ 59) (s : n < 61000) (v : Val day c 0 1) (low : 86399 ≤ c) where
-  about : About (fractionAt hour minute n day) (0 + (60 * (60 * hour + minute) * 1000 + n) * 1) (0 + (0 * (60 * hour + minute) * 1000 + 0) * 1) (1000 * c) (0 + 2 ^ 91) (0 + 2 ^ 39 + 2 ^ 38)
+  about : About (fractionAt hour minute n day) (0 + (60 * (60 * hour + minute) * 1000 + n) * 1) (0 + (0 * (60 * hour + minute) * 1000 + 0) * 1) (1000 * c)
+      (0 + 2 ^ 91) (0 + 2 ^ 39 + 2 ^ 38)
   about =
       let sum = about-add 53 (lit≤ tt) (lit< tt) (minutes (60 * hour + minute) (omega arith)) (second n s) in
       let over = about-div 37 c (2 ^ 91) (2 ^ 39) (lit≤ tt) (omega arith) (omega arith) (omega arith) (omega arith) v sum in
@@ -103,8 +115,10 @@ module _ (hour minute n c : ℕ) (day : Float) (h : hour ≤ 23) (m : minute ≤
         p = a .p;
         n = a .n;
         val = a .val;
-        over = go (a .p * (1000 * c)) (a .n * (1000 * c)) _ _ (U * (1000 * c)) (ap (λ (z : ℕ). z * L) plus) (ap (λ (z : ℕ). z * L) minus ∙ zero-mul L) (a .over);
-        under = back (a .p * (1000 * c)) (a .n * (1000 * c)) _ _ (U * (1000 * c)) (ap (λ (z : ℕ). z * L) plus) (ap (λ (z : ℕ). z * L) minus ∙ zero-mul L) (a .under);
+        over = go (a .p * (1000 * c)) (a .n * (1000 * c)) _ _ (U * (1000 * c)) (ap (λ (z : ℕ). z * L) plus) (ap (λ (z : ℕ). z * L) minus ∙ zero-mul L)
+            (a .over);
+        under = back (a .p * (1000 * c)) (a .n * (1000 * c)) _ _ (U * (1000 * c)) (ap (λ (z : ℕ). z * L) plus) (ap (λ (z : ℕ). z * L) minus ∙ zero-mul L)
+            (a .under);
       }
     where
       plus : 0 + (60 * (60 * hour + minute) * 1000 + n) * 1 ≡ 3600000 * hour + 60000 * minute + n

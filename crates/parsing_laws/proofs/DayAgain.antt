@@ -1,9 +1,10 @@
--- The day and the fraction that `julian_to_calendar` finds in midnight and a time to the millisecond: the same day, and a fraction whose milliseconds are those of the time
--- within a part of a thousandth. By whole numbers alone, and then of the floats. Assumes nothing.
+-- The day and the fraction that `julian_to_calendar` finds in midnight and a time to the millisecond: the same day, and a fraction whose milliseconds are those
+-- of the time within a part of a thousandth. By whole numbers alone, and then of the floats. Assumes nothing.
 use mathlib.Core.Path.{_≡_, refl, sym, ap, _∙_, subst}
 use mathlib.Core.Bool.{Bool, true, false}
 use Prim.Native.Nat.{ℕ, suc, _+_, _-_, _*_, _^_, _≤_, _<_}
-use native.Mathlib.Nat.{le-trans, le-of-eq, mul-comm, mul-assoc, add-mul, mul-le-mul-right, mul-le-mul-left, zero-mul, one-mul, le-of-lt, le-of-mul-le-mul-right}
+use native.Mathlib.Nat.{le-trans, le-of-eq, mul-comm, mul-assoc, add-mul, mul-le-mul-right, mul-le-mul-left, zero-mul, one-mul, le-of-lt}
+use native.Mathlib.Nat.{le-of-mul-le-mul-right}
 use native.Mathlib.Omega.{arith}
 use lib.Dec.{T, ltb}
 use lib.IntN.{ℤ, pos, negsuc, _+ℤ_, _-ℤ_}
@@ -37,7 +38,8 @@ pub record MillisWorth (x K C : ℕ) : Type 0 where
   pub under : 1024 * (K * L) ≤ 1024 * (x * C) + L
 
 -- by atoms, each a product: d L C and N L C the days found and meant, x C the fraction found, p C and q C the fraction of the date; v is 2 ^ -51 day
-module _ (dLC NLC xC pC qC KL LC v l : ℕ) (over : dLC + xC + qC ≤ pC + NLC + v) (under : pC + NLC ≤ dLC + xC + qC + v) (near : pC ≤ qC + KL + 2 * v) (near′ : qC + KL ≤ pC + 2 * v)
+module _ (dLC NLC xC pC qC KL LC v l : ℕ) (over : dLC + xC + qC ≤ pC + NLC + v) (under : pC + NLC ≤ dLC + xC + qC + v) (near : pC ≤ qC + KL + 2 * v)
+    (near′ : qC + KL ≤ pC + 2 * v)
     (small : 1048576 * v ≤ l) (some : 0 < l) where
   not-later : NLC + LC ≤ dLC → KL + l ≤ LC → ⊥
   not-later h k = omega arith
@@ -69,10 +71,12 @@ under-52 {x} {p} {n} B f v k l b = record { held = f; small = lt-show L-pos (abs
     less d c q r = omega arith
 
 -- a day below 0 is too far from midnight
-not-before : (M x r s a p q l h : ℕ) → r + q ≡ s + (a + p) → x < l → l ≡ 2 * h → 0 < l → 4800001 * h ≤ a → q ≤ p + 2 * l → 2 ^ 51 * (r + M) + 2 ^ 50 * l ≤ 2 ^ 51 * (0 * l + x + s) + l → ⊥
+not-before : (M x r s a p q l h : ℕ) → r + q ≡ s + (a + p) → x < l → l ≡ 2 * h → 0 < l → 4800001 * h ≤ a → q ≤ p + 2 * l
+    → 2 ^ 51 * (r + M) + 2 ^ 50 * l ≤ 2 ^ 51 * (0 * l + x + s) + l → ⊥
 not-before M x r s a p q l h g b i y z w c = omega arith
 
-module _ (N c K : ℕ) (f : Float) (held : T (fits binary64 f)) (t : TimeNear f K c) (low : 86399 ≤ c) (high : c ≤ 86401) (few : N ≤ 4000000) (first : 1 ≤ K) (last : K < 1000 * c) where
+module _ (N c K : ℕ) (f : Float) (held : T (fits binary64 f)) (t : TimeNear f K c) (low : 86399 ≤ c) (high : c ≤ 86401) (few : N ≤ 4000000) (first : 1 ≤ K)
+    (last : K < 1000 * c) where
   abbrev J : Float
   J = add binary64 mjdZeroPoint (ofInt binary64 (pos N))
 
@@ -99,7 +103,8 @@ module _ (N c K : ℕ) (f : Float) (held : T (fits binary64 f)) (t : TimeNear f 
 
   -- midnight and half a day are whole days
   A-day : A + H ≡ (2400001 + N) * L
-  A-day = ap (λ (z : ℕ). A + z) (sym (one-mul H)) ∙ sym (add-mul (4800001 + N * 2) 1 H) ∙ ap (λ (z : ℕ). z * H) (twice N) ∙ mul-assoc (2400001 + N) 2 H ∙ ap (λ (z : ℕ). (2400001 + N) * z) (sym L-H)
+  A-day = ap (λ (z : ℕ). A + z) (sym (one-mul H)) ∙ sym (add-mul (4800001 + N * 2) 1 H) ∙ ap (λ (z : ℕ). z * H) (twice N) ∙ mul-assoc (2400001 + N) 2 H
+      ∙ ap (λ (z : ℕ). (2400001 + N) * z) (sym L-H)
     where
       twice : (n : ℕ) → 4800001 + n * 2 + 1 ≡ (2400001 + n) * 2
       twice n = omega arith
@@ -112,7 +117,8 @@ module _ (N c K : ℕ) (f : Float) (held : T (fits binary64 f)) (t : TimeNear f 
   LC-v = ap (λ (z : ℕ). z * C) L-U ∙ mul-assoc (2 ^ 90) U C ∙ mul-assoc (2 ^ 51) (2 ^ 39) (U * C)
 
   v-small : 1048576 * v ≤ L
-  v-small = le-trans (mul-le-mul-left 1048576 (mul-le-mul-left (2 ^ 39) (le-trans (mul-le-mul-left U (omega arith)) (le-of-eq (mul-comm U 86401000))))) (le-trans (go U) (le-of-eq (sym L-U)))
+  v-small = le-trans (mul-le-mul-left 1048576 (mul-le-mul-left (2 ^ 39) (le-trans (mul-le-mul-left U (omega arith)) (le-of-eq (mul-comm U 86401000)))))
+      (le-trans (go U) (le-of-eq (sym L-U)))
     where
       go : (u : ℕ) → 1048576 * (2 ^ 39 * (86401000 * u)) ≤ 2 ^ 90 * u
       go u = omega arith
@@ -121,7 +127,8 @@ module _ (N c K : ℕ) (f : Float) (held : T (fits binary64 f)) (t : TimeNear f 
   KL-low = le-trans (le-of-eq (sym (one-mul L))) (mul-le-mul-right L first)
 
   KL-high : K * L + L ≤ L * C
-  KL-high = le-trans (le-of-eq (ap (λ (z : ℕ). K * L + z) (sym (one-mul L)) ∙ sym (add-mul K 1 L))) (le-trans (mul-le-mul-right L (omega arith)) (le-of-eq (mul-comm C L)))
+  KL-high = le-trans (le-of-eq (ap (λ (z : ℕ). K * L + z) (sym (one-mul L)) ∙ sym (add-mul K 1 L)))
+      (le-trans (mul-le-mul-right L (omega arith)) (le-of-eq (mul-comm C L)))
 
   near-over : p * C ≤ q * C + K * L + 2 * v
   near-over = le-trans (t .over) (le-of-eq (ap (λ (z : ℕ). q * C + K * L + z) (mul-assoc 2 (2 ^ 39) (U * C))))
@@ -134,13 +141,17 @@ module _ (N c K : ℕ) (f : Float) (held : T (fits binary64 f)) (t : TimeNear f 
 
   -- the fraction of the date is at most two days in size
   p-size : p ≤ q + 2 * L
-  p-size = le-of-mul-le-mul-right {k = C} (le-trans (go (p * C) (q * C) (K * L) v L (L * C) near-over KL-high v-small) (le-of-eq (sym (add-mul q (2 * L) C ∙ ap (λ (z : ℕ). q * C + z) (mul-assoc 2 L C))))) C-pos
+  p-size = le-of-mul-le-mul-right {k = C}
+      (le-trans (go (p * C) (q * C) (K * L) v L (L * C) near-over KL-high v-small)
+      (le-of-eq (sym (add-mul q (2 * L) C ∙ ap (λ (z : ℕ). q * C + z) (mul-assoc 2 L C))))) C-pos
     where
       go : (a b k w l m : ℕ) → a ≤ b + k + 2 * w → k + l ≤ m → 1048576 * w ≤ l → a ≤ b + 2 * m
       go a b k w l m g h i = omega arith
 
   q-size : q ≤ p + 2 * L
-  q-size = le-of-mul-le-mul-right {k = C} (le-trans (go (p * C) (q * C) (K * L) v L (L * C) near-under KL-high v-small) (le-of-eq (sym (add-mul p (2 * L) C ∙ ap (λ (z : ℕ). p * C + z) (mul-assoc 2 L C))))) C-pos
+  q-size = le-of-mul-le-mul-right {k = C}
+      (le-trans (go (p * C) (q * C) (K * L) v L (L * C) near-under KL-high v-small)
+      (le-of-eq (sym (add-mul p (2 * L) C ∙ ap (λ (z : ℕ). p * C + z) (mul-assoc 2 L C))))) C-pos
     where
       go : (a b k w l m : ℕ) → b + k ≤ a + 2 * w → k + l ≤ m → 1048576 * w ≤ l → b ≤ a + 2 * m
       go a b k w l m g h i = omega arith
@@ -178,29 +189,36 @@ module _ (N c K : ℕ) (f : Float) (held : T (fits binary64 f)) (t : TimeNear f 
   inside x w = omega (arith, lt-says L-pos w one-L (unit .high))
 
   -- ---- the day found
-  module _ (d x : ℕ) (below : x < L) (over : d * L + x + q ≤ p + (2400001 + N) * L + 2 ^ 39 * U) (under : p + (2400001 + N) * L ≤ d * L + x + q + 2 ^ 39 * U) where
+  module _ (d x : ℕ) (below : x < L) (over : d * L + x + q ≤ p + (2400001 + N) * L + 2 ^ 39 * U)
+      (under : p + (2400001 + N) * L ≤ d * L + x + q + 2 ^ 39 * U) where
     over-C : d * L * C + x * C + q * C ≤ p * C + (2400001 + N) * L * C + v
-    over-C = le-trans (le-of-eq (sym (three (d * L) x q))) (le-trans (mul-le-mul-right C over) (le-of-eq (three p ((2400001 + N) * L) (2 ^ 39 * U) ∙ ap (λ (z : ℕ). p * C + (2400001 + N) * L * C + z) (mul-assoc (2 ^ 39) U C))))
+    over-C = le-trans (le-of-eq (sym (three (d * L) x q)))
+        (le-trans (mul-le-mul-right C over)
+        (le-of-eq (three p ((2400001 + N) * L) (2 ^ 39 * U) ∙ ap (λ (z : ℕ). p * C + (2400001 + N) * L * C + z) (mul-assoc (2 ^ 39) U C))))
       where
         three : (a b c : ℕ) → (a + b + c) * C ≡ a * C + b * C + c * C
         three a b c = add-mul (a + b) c C ∙ ap (λ (z : ℕ). z + c * C) (add-mul a b C)
 
     under-C : p * C + (2400001 + N) * L * C ≤ d * L * C + x * C + q * C + v
-    under-C = le-trans (le-of-eq (sym (add-mul p ((2400001 + N) * L) C))) (le-trans (mul-le-mul-right C under) (le-of-eq (add-mul (d * L + x + q) (2 ^ 39 * U) C ∙ (λ i. three (d * L) x q i + mul-assoc (2 ^ 39) U C i))))
+    under-C = le-trans (le-of-eq (sym (add-mul p ((2400001 + N) * L) C)))
+        (le-trans (mul-le-mul-right C under) (le-of-eq (add-mul (d * L + x + q) (2 ^ 39 * U) C ∙ (λ i. three (d * L) x q i + mul-assoc (2 ^ 39) U C i))))
       where
         three : (a b c : ℕ) → (a + b + c) * C ≡ a * C + b * C + c * C
         three a b c = add-mul (a + b) c C ∙ ap (λ (z : ℕ). z + c * C) (add-mul a b C)
 
     -- a whole day more is L C more
     day-more : (a b : ℕ) → a + 1 ≤ b → a * L * C + L * C ≤ b * L * C
-    day-more a b h = le-trans (le-of-eq (ap (λ (z : ℕ). a * L * C + z * C) (sym (one-mul L)) ∙ sym (add-mul (a * L) (1 * L) C) ∙ ap (λ (z : ℕ). z * C) (sym (add-mul a 1 L)))) (mul-le-mul-right C (mul-le-mul-right L h))
+    day-more a b h = le-trans (le-of-eq
+        (ap (λ (z : ℕ). a * L * C + z * C) (sym (one-mul L)) ∙ sym (add-mul (a * L) (1 * L) C) ∙ ap (λ (z : ℕ). z * C) (sym (add-mul a 1 L))))
+        (mul-le-mul-right C (mul-le-mul-right L h))
 
     d-is : d ≡ 2400001 + N
     d-is = go (ltb d (2400001 + N)) refl (ltb (2400001 + N) d) refl
       where
         go : (a : Bool) → ltb d (2400001 + N) ≡ a → (b : Bool) → ltb (2400001 + N) d ≡ b → d ≡ 2400001 + N
         go true e b g =
-            absurd (not-earlier (d * L * C) ((2400001 + N) * L * C) (x * C) (p * C) (q * C) (K * L) (L * C) v L over-C under-C near-over near-under v-small L-pos
+            absurd (not-earlier (d * L * C) ((2400001 + N) * L * C) (x * C) (p * C) (q * C) (K * L) (L * C) v L over-C under-C near-over near-under v-small
+            L-pos
             (day-more d (2400001 + N) (omega (arith, ltb-true d (2400001 + N) e))) (mul-le-mul-right C (le-of-lt below)) KL-low)
         go false e true g =
             absurd (not-later (d * L * C) ((2400001 + N) * L * C) (x * C) (p * C) (q * C) (K * L) (L * C) v L over-C under-C near-over near-under v-small L-pos
@@ -212,17 +230,21 @@ module _ (N c K : ℕ) (f : Float) (held : T (fits binary64 f)) (t : TimeNear f 
         let e = ap (λ (z : ℕ). z * L * C) d-is in
         record {
           over = same-over (d * L * C) ((2400001 + N) * L * C) (x * C) (p * C) (q * C) (K * L) (L * C) v L over-C under-C near-over near-under v-small L-pos e;
-          under = same-under (d * L * C) ((2400001 + N) * L * C) (x * C) (p * C) (q * C) (K * L) (L * C) v L over-C under-C near-over near-under v-small L-pos e;
+          under = same-under (d * L * C) ((2400001 + N) * L * C) (x * C) (p * C) (q * C) (K * L) (L * C) v L over-C under-C near-over near-under v-small L-pos
+              e;
         }
 
   pub found : Found N c K J f
   found = go (dayOf J f .day) refl near
     where
       go : (z : ℤ) → dayOf J f .day ≡ z → DayNear (pos A +ℤ j) z (dayOf J f .fraction) → Found N c K J f
-      go (negsuc m) e k = absurd (not-before (suc m * L) (k .units) (plusZ (pos A +ℤ j)) (minusZ (pos A +ℤ j)) A p q L H sum-is (inside (k .units) (k .val)) L-H L-pos A-least q-size (k .under))
+      go (negsuc m) e k = absurd (not-before (suc m * L) (k .units) (plusZ (pos A +ℤ j)) (minusZ (pos A +ℤ j)) A p q L H sum-is (inside (k .units) (k .val))
+          L-H L-pos A-least q-size (k .under))
       go (pos d) e k =
-          let o = over (d * L) (k .units) (plusZ (pos A +ℤ j)) (minusZ (pos A +ℤ j)) ((2400001 + N) * L) (2 ^ 39 * U) A L H sum-is A-day L-H (L-U ∙ mul-assoc (2 ^ 51) (2 ^ 39) U) (k .over) in
-          let u = back (d * L) (k .units) (plusZ (pos A +ℤ j)) (minusZ (pos A +ℤ j)) ((2400001 + N) * L) (2 ^ 39 * U) A L H sum-is A-day L-H (L-U ∙ mul-assoc (2 ^ 51) (2 ^ 39) U) (k .under) in
+          let o = over (d * L) (k .units) (plusZ (pos A +ℤ j)) (minusZ (pos A +ℤ j)) ((2400001 + N) * L) (2 ^ 39 * U) A L H sum-is A-day L-H
+          (L-U ∙ mul-assoc (2 ^ 51) (2 ^ 39) U) (k .over) in
+          let u = back (d * L) (k .units) (plusZ (pos A +ℤ j)) (minusZ (pos A +ℤ j)) ((2400001 + N) * L) (2 ^ 39 * U) A L H sum-is A-day L-H
+          (L-U ∙ mul-assoc (2 ^ 51) (2 ^ 39) U) (k .under) in
           record {
             x = k .units;
             given = answered J f takes;
@@ -232,8 +254,10 @@ module _ (N c K : ℕ) (f : Float) (held : T (fits binary64 f)) (t : TimeNear f 
             worth = worth-it d (k .units) (inside (k .units) (k .val)) o u;
           }
         where
-          over : (D x r s M w a l h : ℕ) → r + q ≡ s + (a + p) → a + h ≡ M → l ≡ 2 * h → l ≡ 2 ^ 51 * w → 2 ^ 51 * (D + x + s) ≤ 2 ^ 51 * (r + 0 * l) + 2 ^ 50 * l + l → D + x + q ≤ p + M + w
+          over : (D x r s M w a l h : ℕ) → r + q ≡ s + (a + p) → a + h ≡ M → l ≡ 2 * h → l ≡ 2 ^ 51 * w
+              → 2 ^ 51 * (D + x + s) ≤ 2 ^ 51 * (r + 0 * l) + 2 ^ 50 * l + l → D + x + q ≤ p + M + w
           over D x r s M w a l h g m i y c = omega arith
 
-          back : (D x r s M w a l h : ℕ) → r + q ≡ s + (a + p) → a + h ≡ M → l ≡ 2 * h → l ≡ 2 ^ 51 * w → 2 ^ 51 * (r + 0 * l) + 2 ^ 50 * l ≤ 2 ^ 51 * (D + x + s) + l → p + M ≤ D + x + q + w
+          back : (D x r s M w a l h : ℕ) → r + q ≡ s + (a + p) → a + h ≡ M → l ≡ 2 * h → l ≡ 2 ^ 51 * w
+              → 2 ^ 51 * (r + 0 * l) + 2 ^ 50 * l ≤ 2 ^ 51 * (D + x + s) + l → p + M ≤ D + x + q + w
           back D x r s M w a l h g m i y c = omega arith

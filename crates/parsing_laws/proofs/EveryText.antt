@@ -1,5 +1,5 @@
--- EVERY UTC TEXT THAT WE WRITE, of whatever two floats, and whose shown year is 1972 to 9999, is read as the fields that it shows, with their date: in any form whose
--- years of four digits are document 01's, for every table that is taken. Assumes nothing.
+-- EVERY UTC TEXT THAT WE WRITE, of whatever two floats, and whose shown year is 1972 to 9999, is read as the fields that it shows, with their date: in any form
+-- whose years of four digits are document 01's, for every table that is taken. Assumes nothing.
 use Prim.Native.Nat.{ℕ, _+_, _*_, _≤_, _<_}
 use native.Mathlib.Omega.{arith}
 use mathlib.Core.Path.{_≡_, refl, sym, ap, _∙_, subst}
@@ -109,7 +109,8 @@ module _ (textForm : TextForm) (rows : List Row) (jd : JulianDate) (f1 : T (fits
         go : (b : Bool) → ltZ (r .day) (negsuc 31737) ≡ b → ltZ (r .day) (negsuc 31737) ≡ false
         go false e = e
         go true e =
-            let k : refusal 1 ≡ answer tt = sym (gregorian-valid (r .day) ∙ ap (λ (b : Bool). cond b (refusal 1) (answer tt)) e) ∙ ap validOf (sym (r .date)) ∙ valid in
+            let k : refusal 1 ≡ answer tt = sym (gregorian-valid (r .day) ∙ ap (λ (b : Bool). cond b (refusal 1) (answer tt)) e) ∙ ap validOf (sym (r .date))
+            ∙ valid in
             let z : _≡_ {A = ℕ} 0 1 = cc in
             absurd (omega arith)
 
@@ -119,7 +120,8 @@ module _ (textForm : TextForm) (rows : List Row) (jd : JulianDate) (f1 : T (fits
     next-range : DateInRange (has-next .0)
     next-range =
         subst DateInRange (sym (next-is (c .date .year) (pos (c .date .month)) (pos (c .date .day)) (has-next .0) (has-next .1) .1 ∙ ap next is-date-of))
-        (Dates.next-in-range (r .day) (subst (λ (d : CalendarDate). ltZ (d .year) (negsuc 4798) ≡ false) is-date-of (date-accepted (c .date .year) (pos (c .date .month)) (pos (c .date .day)) valid .year)) (r .in-days))
+        (Dates.next-in-range (r .day) (subst (λ (d : CalendarDate). ltZ (d .year) (negsuc 4798) ≡ false) is-date-of
+        (date-accepted (c .date .year) (pos (c .date .month)) (pos (c .date .day)) valid .year)) (r .in-days))
 
     next-valid : validOf (has-next .0) ≡ answer tt
     next-valid = next-accepted (c .date .year) (pos (c .date .month)) (pos (c .date .day)) (has-next .0) (has-next .1)
@@ -149,7 +151,8 @@ module _ (textForm : TextForm) (rows : List Row) (jd : JulianDate) (f1 : T (fits
     unfolding shownAt
     of-count k = go (ltb k (dayEnd (wholeLeap x))) refl
       where
-        go : (b : Bool) → ltb k (dayEnd (wholeLeap x)) ≡ b → shownTextBy (textForm .write) (c .date) (cond b (At (timeOf k)) NextMidnight) ≡ answer s → WrittenFrom textForm rows s
+        go : (b : Bool) → ltb k (dayEnd (wholeLeap x)) ≡ b → shownTextBy (textForm .write) (c .date) (cond b (At (timeOf k)) NextMidnight) ≡ answer s
+            → WrittenFrom textForm rows s
         go true h e = on-day k (ltb-true _ _ h) e
         go false h e = next-day e
 
@@ -157,12 +160,14 @@ module _ (textForm : TextForm) (rows : List Row) (jd : JulianDate) (f1 : T (fits
   unfolding isoTextBy dayTextBy onward shownBy
   written-from = from-fields (julianToCalendar (jd .jd1) (jd .jd2)) refl
     where
-      from-leap : (c : CalendarFields) → julianToCalendar (jd .jd1) (jd .jd2) ≡ answer c → (o : Outcome Float) → leapAtEndOfDay rows (c .date .year) (pos (c .date .month)) (pos (c .date .day)) ≡ o
+      from-leap : (c : CalendarFields) → julianToCalendar (jd .jd1) (jd .jd2) ≡ answer c → (o : Outcome Float)
+          → leapAtEndOfDay rows (c .date .year) (pos (c .date .month)) (pos (c .date .day)) ≡ o
           → onward o (λ leap. shownTextBy (textForm .write) (c .date) (shownBy (textForm .count) (c .fraction) leap)) ≡ answer s → WrittenFrom textForm rows s
       from-leap c g (answer x) h e = of-count c g x h (textForm .count (c .fraction) (wholeLeap x)) e
       from-leap c g (refusal k) h e = let z : _≡_ {A = ℕ} 0 1 = cc in absurd (omega arith)
 
-      from-fields : (o : Outcome CalendarFields) → julianToCalendar (jd .jd1) (jd .jd2) ≡ o → onward o (λ c. dayTextBy textForm rows (c .date) (c .fraction)) ≡ answer s → WrittenFrom textForm rows s
+      from-fields : (o : Outcome CalendarFields) → julianToCalendar (jd .jd1) (jd .jd2) ≡ o
+          → onward o (λ c. dayTextBy textForm rows (c .date) (c .fraction)) ≡ answer s → WrittenFrom textForm rows s
       from-fields (answer c) h e = from-leap c h (leapAtEndOfDay rows (c .date .year) (pos (c .date .month)) (pos (c .date .day))) refl e
       from-fields (refusal k) h e = let z : _≡_ {A = ℕ} 0 1 = cc in absurd (omega arith)
 
@@ -186,7 +191,8 @@ as-number : (z : ℤ) → ltZ z (pos 1972) ≡ false → ltZ (pos 9999) z ≡ fa
 as-number (pos n) h k = (n, refl, ltb-false n 1972 h, ltb-false 9999 n k)
 as-number (negsuc n) h k = absurd (true≢false h)
 
-module _ (textForm : TextForm) (p : Promise) (good : GoodForm textForm p) (rows : List Row) (s : List ℕ) (shown : YearShown s) (w : WrittenFrom textForm rows s) where
+module _ (textForm : TextForm) (p : Promise) (good : GoodForm textForm p) (rows : List Row) (s : List ℕ) (shown : YearShown s)
+    (w : WrittenFrom textForm rows s) where
   abbrev pub u : TimeOfDay
   u = timeOf (w .millis)
 
@@ -204,25 +210,38 @@ module _ (textForm : TextForm) (p : Promise) (good : GoodForm textForm p) (rows 
 
   pub named : utcFromCalendar rows (readYear s) (readMonth s) (readDay s) (readHour s) (readMinute s) (decimal (1000 * readSecond s + readMilli s) 3)
       ≡ utcFromCalendar rows (pos y) (w .date .month) (w .date .day) (u .hour) (u .minute) (decimal (1000 * u .second + u .milli) 3)
-  named = λ i. utcFromCalendar rows (y-is .1 i) (says .month i) (says .day i) (says .hour i) (says .minute i) (decimal (1000 * says .second i + says .milli i) 3)
+  named = λ i. utcFromCalendar rows (y-is .1 i) (says .month i) (says .day i) (says .hour i) (says .minute i)
+      (decimal (1000 * says .second i + says .milli i) 3)
 
   same-fields : fieldsShown s ≡ fieldsOf (asWritten y (w .date) u)
   unfolding asWritten
-  same-fields = λ i. record { year = y-is .1 i; month = says .month i; day = says .day i; hour = says .hour i; minute = says .minute i; second = decimal (1000 * says .second i + says .milli i) 3 }
+  same-fields = λ i. record {
+    year = y-is .1 i;
+    month = says .month i;
+    day = says .day i;
+    hour = says .hour i;
+    minute = says .minute i;
+    second =
+        decimal (1000 * says .second i + says .milli i) 3;
+  }
 
   module _ (plain : FourDigits textForm) (t : AnnouncedRows) (taken : tableOf t ≡ answer rows) where
     back : Back rows (w .date) u y
-    back = utc-reads-back t rows taken (w .date) u y (w .leap) year (y-is .2) (y-is .3) (w .valid) (w .range .month-low) (w .range .month-high) (w .range .day-high) (w .leap-is) (good-fields w)
+    back = utc-reads-back t rows taken (w .date) u y (w .leap) year (y-is .2) (y-is .3) (w .valid) (w .range .month-low) (w .range .month-high)
+        (w .range .day-high) (w .leap-is) (good-fields w)
 
     pub by-fields : ReadsBack rows s
     by-fields = record {
       date = back .date;
       accepted = named ∙ back .accepted;
-      read = ap (parsedUtc rows) (w .text ∙ plain (w .date) u y year (y-is .3)) ∙ back .read ∙ sym (ap (λ (f : ParsedDateTime). answer (withDate f (back .date))) same-fields);
+      read = ap (parsedUtc rows) (w .text ∙ plain (w .date) u y year (y-is .3)) ∙ back .read
+          ∙ sym (ap (λ (f : ParsedDateTime). answer (withDate f (back .date))) same-fields);
     }
 
-module _ (textForm : TextForm) (p : Promise) (good : GoodForm textForm p) (plain : FourDigits textForm) (t : AnnouncedRows) (rows : List Row) (taken : tableOf t ≡ answer rows) where
-  pub text-reads-back : (jd : JulianDate) → T (fits binary64 (jd .jd1)) → T (fits binary64 (jd .jd2)) → (s : List ℕ) → isoTextBy textForm rows jd ≡ answer s → YearShown s → ReadsBack rows s
+module _ (textForm : TextForm) (p : Promise) (good : GoodForm textForm p) (plain : FourDigits textForm) (t : AnnouncedRows) (rows : List Row)
+    (taken : tableOf t ≡ answer rows) where
+  pub text-reads-back : (jd : JulianDate) → T (fits binary64 (jd .jd1)) → T (fits binary64 (jd .jd2)) → (s : List ℕ) → isoTextBy textForm rows jd ≡ answer s
+      → YearShown s → ReadsBack rows s
   text-reads-back jd f1 f2 s e shown = by-fields textForm p good rows s shown (written-from textForm rows jd f1 f2 s e) plain t taken
 
 -- ---- the three forms of text
@@ -234,9 +253,12 @@ unfolding expandedText utcText expandedYear yearText
 expanded-as-01 d u y e h =
     ap (λ (z : ℤ). expandedYear z ++ afterYear d u) e
     ∙ ap (λ (b : Bool). cond b (four y) (43 ∷ seven y) ++ afterYear d u) (lt-ltb y 10000 (omega arith))
-    ∙ sym (ap (λ (z : ℤ). yearText z ++ afterYear d u) e ∙ ap (λ (b : Bool). cond b (four y) (cond (ltb y 100000) (five y) (cond (ltb y 1000000) (six y) (seven y))) ++ afterYear d u) (lt-ltb y 10000 (omega arith)))
+    ∙ sym (ap (λ (z : ℤ). yearText z ++ afterYear d u) e
+    ∙ ap (λ (b : Bool). cond b (four y) (cond (ltb y 100000) (five y) (cond (ltb y 1000000) (six y) (seven y))) ++ afterYear d u)
+    (lt-ltb y 10000 (omega arith)))
 
-module _ (t : AnnouncedRows) (rows : List Row) (taken : tableOf t ≡ answer rows) (jd : JulianDate) (f1 : T (fits binary64 (jd .jd1))) (f2 : T (fits binary64 (jd .jd2))) (s : List ℕ) (shown : YearShown s) where
+module _ (t : AnnouncedRows) (rows : List Row) (taken : tableOf t ≡ answer rows) (jd : JulianDate) (f1 : T (fits binary64 (jd .jd1)))
+    (f2 : T (fits binary64 (jd .jd2))) (s : List ℕ) (shown : YearShown s) where
   -- document 01's
   pub iso-text-reads-back : isoText rows jd ≡ answer s → ReadsBack rows s
   iso-text-reads-back e = text-reads-back standardForm promise01 good01 as-01 t rows taken jd f1 f2 s e shown

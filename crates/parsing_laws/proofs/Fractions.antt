@@ -41,7 +41,8 @@ unfolding leading
 leading-split [] = refl
 leading-split (c ∷ cs) = either (isDigit c) (leading-split cs)
   where
-    either : (b : Bool) → cs ≡ leading cs ++ drop (length (leading cs)) cs → c ∷ cs ≡ cond b (c ∷ leading cs) [] ++ drop (length (cond b (c ∷ leading cs) [])) (c ∷ cs)
+    either : (b : Bool) → cs ≡ leading cs ++ drop (length (leading cs)) cs → c ∷ cs ≡ cond b (c ∷ leading cs) []
+        ++ drop (length (cond b (c ∷ leading cs) [])) (c ∷ cs)
     either true h = ap (λ (l : List ℕ). c ∷ l) h
     either false h = refl
 
@@ -116,7 +117,8 @@ fraction-split s = either (eqb (length (fractionDigits s)) 0) refl
     either false e =
         let p = pointed s (eqb-false _ _ e) in
         let m : 1 + length (leading (p .0)) ≡ suc (length (leading (p .0))) = omega arith in
-        let k : 46 ∷ p .0 ≡ 46 ∷ (leading (p .0) ++ drop (1 + length (leading (p .0))) (46 ∷ p .0)) = rw m (ap (λ (l : List ℕ). 46 ∷ l) (leading-split (p .0))) in
+        let k : 46 ∷ p .0 ≡ 46 ∷ (leading (p .0) ++ drop (1 + length (leading (p .0))) (46 ∷ p .0)) =
+        rw m (ap (λ (l : List ℕ). 46 ∷ l) (leading-split (p .0))) in
         p .1 ∙ k ∙ sym (λ i. 46 ∷ (p .2 i ++ drop (1 + length (p .2 i)) (p .1 i)))
 
 -- ---- the zone and the end
@@ -129,7 +131,8 @@ no-zulu utc (c ∷ cs) h = ap (λ (b : Bool). utc && b) (of-blank c (h .0)) ∙ 
     of-blank c (inl k) = ne-eqb c 90 (λ e. omega (arith, k .1))
     of-blank c (inr e) = ne-eqb c 90 (λ k. omega arith)
 
-pub end-of : (utc : Bool) {z : List ℕ} {b : Bool} (after : List ℕ) → Zone utc z b → AllBlank after → (endRight utc (z ++ after) ≡ true) × (zuluFirst utc (z ++ after) ≡ b)
+pub end-of : (utc : Bool) {z : List ℕ} {b : Bool} (after : List ℕ) → Zone utc z b → AllBlank after → (endRight utc (z ++ after) ≡ true)
+    × (zuluFirst utc (z ++ after) ≡ b)
 unfolding endRight
 end-of utc after plain h =
     let n : zuluFirst utc after ≡ false = no-zulu utc after h in

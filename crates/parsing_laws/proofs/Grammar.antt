@@ -1,5 +1,5 @@
--- The scan of the definition is the grammar, both ways: it answers w exactly where the text reads as w, and 15 exactly where it reads as nothing; so a text has one
--- reading. Assumes nothing.
+-- The scan of the definition is the grammar, both ways: it answers w exactly where the text reads as w, and 15 exactly where it reads as nothing; so a text has
+-- one reading. Assumes nothing.
 use Prim.Native.Nat.{ℕ, _+_}
 use native.Mathlib.Omega.{arith}
 use mathlib.Core.Path.{_≡_, refl, sym, ap, _∙_, subst}
@@ -11,11 +11,15 @@ use Rattle.numerals.specs.digits.Decimal.{value, number, isDigit}
 use Rattle.numerals.proofs.digits.Decimal.{value-append, digit-bounds}
 use Rattle.parsing.specs.scan.Written.{Written}
 use Rattle.parsing.specs.Grammar.{Pieces, headOf, Reads}
-use Rattle.parsing.specs.scan.Form.{afterBlanks, byteAt, twoSay, dateRight, timeRight, fractionDigits, afterFraction, zuluFirst, endRight, rightForm, says, formOf}
+use Rattle.parsing.specs.scan.Form.{afterBlanks, byteAt, twoSay, dateRight, timeRight, fractionDigits, afterFraction, zuluFirst, endRight, rightForm}
+use Rattle.parsing.specs.scan.Form.{says, formOf}
 use Rattle.parsing.proofs.scan.Bytes.{whole-form}
 use Rattle.parsing_laws.proofs.Blanks.{no-blank, frontBlanks, front-blank, front-split, skipped}
-use Rattle.parsing_laws.proofs.Fractions.{Tail, tail-of, digits-of, after-of, fractionBytes, fraction-of, fraction-split, end-of, zoneBytes, afterZone, zone-of, zone-split, end-blank}
-use Rattle.parsing_laws.proofs.Heads.{Two, two-of, Four, four-of, both, apart, two-digits, four-digits, two-say, four-say, separator-is, is-separator, head, date-right, time-right, DateBytes, date-bytes, TimeBytes, time-bytes, nineteen, all-nineteen}
+use Rattle.parsing_laws.proofs.Fractions.{Tail, tail-of, digits-of, after-of, fractionBytes, fraction-of, fraction-split, end-of, zoneBytes}
+use Rattle.parsing_laws.proofs.Fractions.{afterZone, zone-of, zone-split, end-blank}
+use Rattle.parsing_laws.proofs.Heads.{Two, two-of, Four, four-of, both, apart, two-digits, four-digits, two-say, four-say, separator-is}
+use Rattle.parsing_laws.proofs.Heads.{is-separator, head, date-right, time-right, DateBytes, date-bytes, TimeBytes, time-bytes, nineteen}
+use Rattle.parsing_laws.proofs.Heads.{all-nineteen}
 
 -- ---- a text that reads as w is answered so
 -- a digit in front is no blank
@@ -69,8 +73,10 @@ module _ {utc : Bool} {t : List ℕ} {w : Written} (r : Reads utc t w) where
   right : rightForm utc whole ≡ true
   right =
       whole-form utc whole
-      (date-right (y .a) (y .b) (y .c) (y .d) (m .a) (m .b) (d .a) (d .b) (p .separator) (h .a) (h .b) (n .a) (n .b) (s .a) (s .b) rest (y .first) (y .second) (both _ _ (m .a-digit) (m .b-digit)) (both _ _ (d .a-digit) (d .b-digit)))
-      (time-right (y .a) (y .b) (y .c) (y .d) (m .a) (m .b) (d .a) (d .b) (p .separator) (h .a) (h .b) (n .a) (n .b) (s .a) (s .b) rest (separator-is _ (r .separator)) (both _ _ (h .a-digit) (h .b-digit)) (both _ _ (n .a-digit) (n .b-digit)) (both _ _ (s .a-digit) (s .b-digit)))
+      (date-right (y .a) (y .b) (y .c) (y .d) (m .a) (m .b) (d .a) (d .b) (p .separator) (h .a) (h .b) (n .a) (n .b) (s .a) (s .b) rest (y .first) (y .second)
+      (both _ _ (m .a-digit) (m .b-digit)) (both _ _ (d .a-digit) (d .b-digit)))
+      (time-right (y .a) (y .b) (y .c) (y .d) (m .a) (m .b) (d .a) (d .b) (p .separator) (h .a) (h .b) (n .a) (n .b) (s .a) (s .b) rest
+      (separator-is _ (r .separator)) (both _ _ (h .a-digit) (h .b-digit)) (both _ _ (n .a-digit) (n .b-digit)) (both _ _ (s .a-digit) (s .b-digit)))
       (ap (endRight utc) (after-of tail (r .fraction) tail-right) ∙ end-of utc (p .after) (r .zone) (r .after) .0)
 
   two-number : (cs : List ℕ) (x : Two cs) → twoSay (x .a) (x .b) ≡ number cs
@@ -94,7 +100,8 @@ module _ {utc : Bool} {t : List ℕ} {w : Written} (r : Reads utc t w) where
 
   pub answered : formOf utc t ≡ answer w
   unfolding formOf
-  answered = ap (λ (x : List ℕ). cond (rightForm utc x) (answer (says utc x)) (refusal 15)) behind-blanks ∙ ap (λ (b : Bool). cond b (answer (says utc whole)) (refusal 15)) right ∙ ap answer said
+  answered = ap (λ (x : List ℕ). cond (rightForm utc x) (answer (says utc x)) (refusal 15)) behind-blanks
+      ∙ ap (λ (b : Bool). cond b (answer (says utc whole)) (refusal 15)) right ∙ ap answer said
 
 -- so a text has one reading
 pub one-reading : (utc : Bool) (t : List ℕ) (w v : Written) → Reads utc t w → Reads utc t v → w ≡ v
@@ -142,7 +149,8 @@ module _ (utc : Bool) (t : List ℕ) (right : rightForm utc (afterBlanks t) ≡ 
   unfolding found
   joined =
       all-nineteen u (nineteen u tb)
-      ∙ (λ i. byteAt u 0 ∷ byteAt u 1 ∷ byteAt u 2 ∷ byteAt u 3 ∷ db .after-year i ∷ byteAt u 5 ∷ byteAt u 6 ∷ db .after-month i ∷ byteAt u 8 ∷ byteAt u 9 ∷ byteAt u 10
+      ∙ (λ i. byteAt u 0 ∷ byteAt u 1 ∷ byteAt u 2 ∷ byteAt u 3 ∷ db .after-year i ∷ byteAt u 5 ∷ byteAt u 6 ∷ db .after-month i ∷ byteAt u 8 ∷ byteAt u 9 ∷
+      byteAt u 10
       ∷ byteAt u 11 ∷ byteAt u 12 ∷ tb .after-hour i ∷ byteAt u 14 ∷ byteAt u 15 ∷ tb .after-minute i ∷ byteAt u 17 ∷ byteAt u 18 ∷ behind i)
 
   reading : Reads utc t (says utc u)
@@ -166,7 +174,8 @@ module _ (utc : Bool) (t : List ℕ) (right : rightForm utc (afterBlanks t) ≡ 
     day-is = two-say _ _ (db .day);
     hour-is = two-say _ _ (tb .hour);
     minute-is = two-say _ _ (tb .minute);
-    whole-is = ap (λ (v : ℕ). value v (fractionDigits (drop 19 u))) (two-say _ _ (tb .second)) ∙ sym (value-append 0 (byteAt u 17 ∷ byteAt u 18 ∷ []) (fractionDigits (drop 19 u)));
+    whole-is = ap (λ (v : ℕ). value v (fractionDigits (drop 19 u))) (two-say _ _ (tb .second))
+        ∙ sym (value-append 0 (byteAt u 17 ∷ byteAt u 18 ∷ []) (fractionDigits (drop 19 u)));
     places-is = refl;
   }
 

@@ -26,7 +26,14 @@ pub two-of : (cs : List ℕ) → Digits 2 cs → Two cs
 unfolding AllDigits
 two-of [] k = absurd (let z : ⊥ = omega (arith, k .many) in z)
 two-of (a ∷ []) k = absurd (let z : ⊥ = omega (arith, k .many) in z)
-two-of (a ∷ b ∷ []) k = record { a = a; b = b; is = refl; a-digit = digit-within a (k .all .0) (k .all .1); b-digit = digit-within b (k .all .2 .0) (k .all .2 .1) }
+two-of (a ∷ b ∷ []) k = record {
+  a = a;
+  b = b;
+  is = refl;
+  a-digit = digit-within a (k .all .0) (k .all .1);
+  b-digit =
+      digit-within b (k .all .2 .0) (k .all .2 .1);
+}
 two-of (a ∷ b ∷ c ∷ cs) k = absurd (let z : ⊥ = omega (arith, k .many) in z)
 
 pub record Four (cs : List ℕ) : Type 0 where
@@ -168,5 +175,32 @@ nineteen s k = either (ltb 18 (length s)) refl
         let z : byteAt s 18 ≡ 0 = List·getD-eq-default s 0 (ltb-false 18 (length s) e) in
         absurd (let y : ⊥ = omega (arith, d .0) in y)
 
-pub all-nineteen : (s : List ℕ) → 19 ≤ length s → s ≡ byteAt s 0 ∷ byteAt s 1 ∷ byteAt s 2 ∷ byteAt s 3 ∷ byteAt s 4 ∷ byteAt s 5 ∷ byteAt s 6 ∷ byteAt s 7 ∷ byteAt s 8 ∷ byteAt s 9 ∷ byteAt s 10 ∷ byteAt s 11 ∷ byteAt s 12 ∷ byteAt s 13 ∷ byteAt s 14 ∷ byteAt s 15 ∷ byteAt s 16 ∷ byteAt s 17 ∷ byteAt s 18 ∷ drop 19 s
-all-nineteen s h = drop-cons s 0 0 (omega arith) ∙ ap (λ (l : List ℕ). byteAt s 0 ∷ l) (drop-cons s 1 0 (omega arith) ∙ ap (λ (l : List ℕ). byteAt s 1 ∷ l) (drop-cons s 2 0 (omega arith) ∙ ap (λ (l : List ℕ). byteAt s 2 ∷ l) (drop-cons s 3 0 (omega arith) ∙ ap (λ (l : List ℕ). byteAt s 3 ∷ l) (drop-cons s 4 0 (omega arith) ∙ ap (λ (l : List ℕ). byteAt s 4 ∷ l) (drop-cons s 5 0 (omega arith) ∙ ap (λ (l : List ℕ). byteAt s 5 ∷ l) (drop-cons s 6 0 (omega arith) ∙ ap (λ (l : List ℕ). byteAt s 6 ∷ l) (drop-cons s 7 0 (omega arith) ∙ ap (λ (l : List ℕ). byteAt s 7 ∷ l) (drop-cons s 8 0 (omega arith) ∙ ap (λ (l : List ℕ). byteAt s 8 ∷ l) (drop-cons s 9 0 (omega arith) ∙ ap (λ (l : List ℕ). byteAt s 9 ∷ l) (drop-cons s 10 0 (omega arith) ∙ ap (λ (l : List ℕ). byteAt s 10 ∷ l) (drop-cons s 11 0 (omega arith) ∙ ap (λ (l : List ℕ). byteAt s 11 ∷ l) (drop-cons s 12 0 (omega arith) ∙ ap (λ (l : List ℕ). byteAt s 12 ∷ l) (drop-cons s 13 0 (omega arith) ∙ ap (λ (l : List ℕ). byteAt s 13 ∷ l) (drop-cons s 14 0 (omega arith) ∙ ap (λ (l : List ℕ). byteAt s 14 ∷ l) (drop-cons s 15 0 (omega arith) ∙ ap (λ (l : List ℕ). byteAt s 15 ∷ l) (drop-cons s 16 0 (omega arith) ∙ ap (λ (l : List ℕ). byteAt s 16 ∷ l) (drop-cons s 17 0 (omega arith) ∙ ap (λ (l : List ℕ). byteAt s 17 ∷ l) (drop-cons s 18 0 (omega arith)))))))))))))))))))
+pub all-nineteen : (s : List ℕ) → 19 ≤ length s
+    → s ≡ byteAt s 0 ∷ byteAt s 1 ∷ byteAt s 2 ∷ byteAt s 3 ∷ byteAt s 4 ∷ byteAt s 5 ∷ byteAt s 6 ∷ byteAt s 7 ∷ byteAt s 8 ∷ byteAt s 9 ∷ byteAt s 10 ∷
+    byteAt s 11 ∷ byteAt s 12 ∷ byteAt s 13 ∷ byteAt s 14 ∷ byteAt s 15 ∷ byteAt s 16 ∷ byteAt s 17 ∷ byteAt s 18 ∷ drop 19 s
+all-nineteen s h = drop-cons s 0 0 (omega arith)
+    ∙ ap (λ (l : List ℕ). byteAt s 0 ∷ l)
+    (drop-cons s 1 0 (omega arith) ∙ ap (λ (l : List ℕ). byteAt s 1 ∷ l)
+    (drop-cons s 2 0 (omega arith) ∙ ap (λ (l : List ℕ). byteAt s 2 ∷ l)
+    (drop-cons s 3 0 (omega arith) ∙ ap (λ (l : List ℕ). byteAt s 3 ∷ l)
+    (drop-cons s 4 0 (omega arith) ∙ ap (λ (l : List ℕ). byteAt s 4 ∷ l)
+    (drop-cons s 5 0 (omega arith) ∙ ap (λ (l : List ℕ). byteAt s 5 ∷ l)
+    (drop-cons s 6 0 (omega arith) ∙ ap (λ (l : List ℕ). byteAt s 6 ∷ l)
+    (drop-cons s 7 0 (omega arith) ∙ ap (λ (l : List ℕ). byteAt s 7 ∷ l)
+    (drop-cons s 8 0 (omega arith) ∙ ap (λ (l : List ℕ). byteAt s 8 ∷ l)
+    (drop-cons s 9 0 (omega arith) ∙ ap (λ (l : List ℕ). byteAt s 9 ∷ l)
+    (drop-cons s 10 0 (omega arith)
+    ∙ ap (λ (l : List ℕ). byteAt s 10 ∷ l)
+    (drop-cons s 11 0 (omega arith)
+    ∙ ap (λ (l : List ℕ). byteAt s 11 ∷ l)
+    (drop-cons s 12 0 (omega arith)
+    ∙ ap (λ (l : List ℕ). byteAt s 12 ∷ l)
+    (drop-cons s 13 0 (omega arith)
+    ∙ ap (λ (l : List ℕ). byteAt s 13 ∷ l)
+    (drop-cons s 14 0 (omega arith)
+    ∙ ap (λ (l : List ℕ). byteAt s 14 ∷ l)
+    (drop-cons s 15 0 (omega arith)
+    ∙ ap (λ (l : List ℕ). byteAt s 15 ∷ l)
+    (drop-cons s 16 0 (omega arith)
+    ∙ ap (λ (l : List ℕ). byteAt s 16 ∷ l)
+    (drop-cons s 17 0 (omega arith) ∙ ap (λ (l : List ℕ). byteAt s 17 ∷ l) (drop-cons s 18 0 (omega arith)))))))))))))))))))

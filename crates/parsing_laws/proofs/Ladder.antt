@@ -18,7 +18,8 @@ use Rattle.parsing.specs.scan.Written.{Written}
 use Rattle.parsing.specs.Grammar.{Reads}
 use Rattle.parsing.specs.scan.Form.{afterBlanks, rightForm, says, formOf}
 use Rattle.parsing.specs.Parsed.{fieldsOf, timeFits, judged, parsed}
-use Rattle.parsing_laws.specs.Verdict.{NoTime, hour-over, minute-over, second-over, SomeTime, Verdict, outside, too-many-digits, bad-date, bad-time, fields}
+use Rattle.parsing_laws.specs.Verdict.{NoTime, hour-over, minute-over, second-over, SomeTime, Verdict, outside, too-many-digits, bad-date}
+use Rattle.parsing_laws.specs.Verdict.{bad-time, fields}
 use Rattle.parsing_laws.proofs.Grammar.{answered, a-reading, no-reading, refused-15}
 
 -- ---- the time
@@ -76,17 +77,20 @@ deserved utc t _ (fields w r h e s) = read-judged utc t w r ∙ (rw (le-leb (w .
 
 -- ---- the answer is a case of the verdict
 module _ (utc : Bool) (t : List ℕ) (w : Written) (r : Reads utc t w) where
-  by-time : (h : w .places ≤ 13) (e : validDate (pos (w .year)) (pos (w .month)) (pos (w .day)) ≡ answer tt) (b : Bool) → timeFits w ≡ b → Verdict utc t (cond b (answer (fieldsOf w)) (refusal 4))
+  by-time : (h : w .places ≤ 13) (e : validDate (pos (w .year)) (pos (w .month)) (pos (w .day)) ≡ answer tt) (b : Bool) → timeFits w ≡ b
+      → Verdict utc t (cond b (answer (fieldsOf w)) (refusal 4))
   by-time h e true k = fields w r h e (time-some w k)
   by-time h e false k = bad-time w r h e (time-none w k)
 
-  by-date : (h : w .places ≤ 13) (o : Outcome Unit) → validDate (pos (w .year)) (pos (w .month)) (pos (w .day)) ≡ o → Verdict utc t (onward o (λ _. cond (timeFits w) (answer (fieldsOf w)) (refusal 4)))
+  by-date : (h : w .places ≤ 13) (o : Outcome Unit) → validDate (pos (w .year)) (pos (w .month)) (pos (w .day)) ≡ o
+      → Verdict utc t (onward o (λ _. cond (timeFits w) (answer (fieldsOf w)) (refusal 4)))
   unfolding onward
   by-date h (answer tt) e = by-time h e (timeFits w) refl
   by-date h (refusal k) e = bad-date w k r h e
 
   by-places : (b : Bool) → leb (w .places) 13 ≡ b
-      → Verdict utc t (cond b (onward (validDate (pos (w .year)) (pos (w .month)) (pos (w .day))) (λ _. cond (timeFits w) (answer (fieldsOf w)) (refusal 4))) (refusal 16))
+      → Verdict utc t (cond b (onward (validDate (pos (w .year)) (pos (w .month)) (pos (w .day))) (λ _. cond (timeFits w) (answer (fieldsOf w)) (refusal 4)))
+      (refusal 16))
   by-places true k = by-date (leb-true _ _ k) (validDate (pos (w .year)) (pos (w .month)) (pos (w .day))) refl
   by-places false k = too-many-digits w r (leb-false _ _ k)
 

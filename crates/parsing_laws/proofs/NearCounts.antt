@@ -1,4 +1,5 @@
--- The milliseconds that each form of text counts, of any fraction of a day and not of the grid's alone: within 0.501 ms of the exact time of day. Assumes nothing.
+-- The milliseconds that each form of text counts, of any fraction of a day and not of the grid's alone: within 0.501 ms of the exact time of day. Assumes
+-- nothing.
 use mathlib.Core.Path.{_≡_, refl, sym, subst, _∙_}
 use mathlib.Core.Bool.{Bool, true, false, cond}
 use Prim.Native.Nat.{ℕ, _+_, _*_, _^_, _≤_, _<_}
@@ -29,9 +30,11 @@ use Rattle.utc.specs.iso_texts.HalfEven.{halfEvenForm}
 -- within 0.501 ms, whatever fractions F / D and W / E the fraction and the day length are written as
 abbrev pub CountsNear : TextForm → Type 0
 CountsNear textForm =
-    (f x : Float) → T (fits binary64 f) → InUnit f → Leap x → (F D W E : ℕ) → 0 < E → Val f F 0 D → DayLength x W E → TimeWithin 1000 501 (textForm .count f (wholeLeap x) * E) F D W E
+    (f x : Float) → T (fits binary64 f) → InUnit f → Leap x → (F D W E : ℕ) → 0 < E → Val f F 0 D → DayLength x W E
+    → TimeWithin 1000 501 (textForm .count f (wholeLeap x) * E) F D W E
 
-by-rule : (how : Bool → ℕ → ℕ → ℕ) → Nearest how → (f x : Float) → T (fits binary64 f) → InUnit f → Leap x → (F D W E : ℕ) → 0 < E → Val f F 0 D → DayLength x W E
+by-rule : (how : Bool → ℕ → ℕ → ℕ) → Nearest how → (f x : Float) → T (fits binary64 f) → InUnit f → Leap x → (F D W E : ℕ) → 0 < E → Val f F 0 D
+    → DayLength x W E
     → TimeWithin 1000 501 (countBy how f (wholeLeap x) * E) F D W E
 by-rule how rule f x t i s F D W E G v d = close-501 (countBy how f (wholeLeap x) * E) F D W E (count-near how rule f x t i s F D W E G v d)
 
@@ -56,7 +59,9 @@ near-even f x t i s F D W E G v d = go (inWhole f (wholeLeap x)) refl
     go true e =
         let u = only-on-grid f t i (wholeLeap x) e in
         close-move 1000 501 (evenCount f (wholeLeap x) * E) F D (gridUnits f) (2 ^ 52) W E (lit< tt) (cross u v)
-        (looser (dayIsWhole (wholeLeap x)) (evenCount f (wholeLeap x) * E) (gridUnits f) (2 ^ 52) W E (even-exact f (gridUnits f) t u (whole-small f (wholeLeap x) e) x s W E G d))
+        (looser (dayIsWhole (wholeLeap x)) (evenCount f (wholeLeap x) * E) (gridUnits f) (2 ^ 52) W E
+        (even-exact f (gridUnits f) t u (whole-small f (wholeLeap x) e) x s W E G d))
     go false e =
-        subst (λ (k : ℕ). TimeWithin 1000 501 (k * E) F D W E) (sym (by-float f (wholeLeap x) (in-units f t i) (within-one x s)) ∙ count-by-float f (wholeLeap x) e)
+        subst (λ (k : ℕ). TimeWithin 1000 501 (k * E) F D W E)
+        (sym (by-float f (wholeLeap x) (in-units f t i) (within-one x s)) ∙ count-by-float f (wholeLeap x) e)
         (by-rule even even-nearest f x t i s F D W E G v d)

@@ -34,7 +34,16 @@ number-five s m h k =
 
 -- the fields as what was written: no Z, and three places
 unfoldable pub asWritten : ℕ → CalendarDate → TimeOfDay → Written
-asWritten y d u = record { year = y; month = d .month; day = d .day; hour = u .hour; minute = u .minute; whole = 1000 * u .second + u .milli; places = 3; zulu = false }
+asWritten y d u = record {
+  year = y;
+  month = d .month;
+  day = d .day;
+  hour = u .hour;
+  minute = u .minute;
+  whole = 1000 * u .second + u .milli;
+  places = 3;
+  zulu = false;
+}
 
 -- ---- the text in the grammar
 module _ (d : CalendarDate) (u : TimeOfDay) (y : ℕ) (year : d .year ≡ pos y) (few : y ≤ 9999) (month : d .month ≤ 99) (day : d .day ≤ 99) (hour : u .hour ≤ 99)
@@ -57,7 +66,8 @@ module _ (d : CalendarDate) (u : TimeOfDay) (y : ℕ) (year : d .year ≡ pos y)
 
   year-text : yearText (d .year) ≡ four y
   unfolding yearText
-  year-text = ap yearText year ∙ ap (λ (b : Bool). cond b (four y) (cond (ltb y 100000) (five y) (cond (ltb y 1000000) (six y) (seven y)))) (lt-ltb y 10000 (omega arith))
+  year-text = ap yearText year ∙ ap (λ (b : Bool). cond b (four y) (cond (ltb y 100000) (five y) (cond (ltb y 1000000) (six y) (seven y))))
+      (lt-ltb y 10000 (omega arith))
 
   spelled : utcText d u ≡ textOf pieces
   unfolding utcText pieces
@@ -89,8 +99,10 @@ module _ (d : CalendarDate) (u : TimeOfDay) (y : ℕ) (year : d .year ≡ pos y)
   }
 
 -- ---- and what is answered: the six fields, by either call
-pub reads-back : (utc : Bool) (d : CalendarDate) (u : TimeOfDay) (y : ℕ) → d .year ≡ pos y → y ≤ 9999 → validDate (d .year) (pos (d .month)) (pos (d .day)) ≡ answer tt
-    → d .month ≤ 12 → d .day ≤ 31 → u .hour ≤ 23 → u .minute ≤ 59 → u .second ≤ 60 → u .milli ≤ 999 → parsed utc (utcText d u) ≡ answer (fieldsOf (asWritten y d u))
+pub reads-back : (utc : Bool) (d : CalendarDate) (u : TimeOfDay) (y : ℕ) → d .year ≡ pos y → y ≤ 9999
+    → validDate (d .year) (pos (d .month)) (pos (d .day)) ≡ answer tt
+    → d .month ≤ 12 → d .day ≤ 31 → u .hour ≤ 23 → u .minute ≤ 59 → u .second ≤ 60 → u .milli ≤ 999
+    → parsed utc (utcText d u) ≡ answer (fieldsOf (asWritten y d u))
 unfolding asWritten
 reads-back utc d u y e few v m n h i s k =
     deserved utc (utcText d u) (answer (fieldsOf (asWritten y d u)))

@@ -1,5 +1,5 @@
--- THE SAME TEXT AGAIN: the date that a UTC text of ours is read as, where the shown year is 1972 to 9999, has that text, by each of the three forms of text and for every table
--- that is taken. Assumes nothing.
+-- THE SAME TEXT AGAIN: the date that a UTC text of ours is read as, where the shown year is 1972 to 9999, has that text, by each of the three forms of text and
+-- for every table that is taken. Assumes nothing.
 use mathlib.Core.Path.{_≡_, refl, sym, ap, _∙_, subst}
 use mathlib.Core.Bool.{Bool, true, false, cond}
 use mathlib.Core.List.{List}
@@ -130,7 +130,8 @@ civil-between : (y m d : ℕ) → 6772 ≤ y → y ≤ 14799 → m ≤ 12 → d 
 unfolding civilCount
 civil-between y m d a b c e = go (leb m 2)
   where
-    go : (t : Bool) → (2432076 ≤ cond t (marchCount (y - 1) (m + 10) d) (marchCount y (m - 2) d)) × (cond t (marchCount (y - 1) (m + 10) d) (marchCount y (m - 2) d) ≤ 6432076)
+    go : (t : Bool) → (2432076 ≤ cond t (marchCount (y - 1) (m + 10) d) (marchCount y (m - 2) d))
+        × (cond t (marchCount (y - 1) (m + 10) d) (marchCount y (m - 2) d) ≤ 6432076)
     go true = march-between (y - 1) (m + 10) d (omega arith) (omega arith) (omega arith) e
     go false = march-between y (m - 2) d (omega arith) b (omega arith) e
 
@@ -149,7 +150,8 @@ nought-val : Val nought 0 0 L
 nought-val = record { sign = false; size = 0; has = (refl, zero-mul L); is = refl }
 
 -- ---- the text of midnight and a time
-module _ (textForm : TextForm) (counts : CountsNear textForm) (rows : List Row) (s : List ℕ) (w : WrittenFrom textForm rows s) (step : WholeStep (w .leap)) where
+module _ (textForm : TextForm) (counts : CountsNear textForm) (rows : List Row) (s : List ℕ) (w : WrittenFrom textForm rows s)
+    (step : WholeStep (w .leap)) where
   abbrev K : ℕ
   K = w .millis
 
@@ -171,8 +173,12 @@ module _ (textForm : TextForm) (counts : CountsNear textForm) (rows : List Row) 
       let k = counts g (w .leap) f i (day .leap) x L c 1 (lit< tt) v (day .length) in
       let n = textForm .count g (wholeLeap (w .leap)) in
       exact n
-      (lt-of-mul-lt-mul-right L (subst (λ (z : ℕ). n * L < z) (one-more K) (over (n * 1 * L) (1000 * (x * c)) (n * L) (x * (1000 * c)) (K * L) L (ap (λ (z : ℕ). z * L) (mul-one n)) (mul-left-comm x 1000 c) L-pos (k .over) (m .over))))
-      (lt-of-mul-lt-mul-right L (subst (λ (z : ℕ). K * L < z) (one-more n) (under (n * 1 * L) (1000 * (x * c)) (n * L) (x * (1000 * c)) (K * L) L (ap (λ (z : ℕ). z * L) (mul-one n)) (mul-left-comm x 1000 c) L-pos (k .under) (m .under))))
+      (lt-of-mul-lt-mul-right L (subst (λ (z : ℕ). n * L < z) (one-more K)
+      (over (n * 1 * L) (1000 * (x * c)) (n * L) (x * (1000 * c)) (K * L) L (ap (λ (z : ℕ). z * L) (mul-one n)) (mul-left-comm x 1000 c) L-pos (k .over)
+      (m .over))))
+      (lt-of-mul-lt-mul-right L (subst (λ (z : ℕ). K * L < z) (one-more n)
+      (under (n * 1 * L) (1000 * (x * c)) (n * L) (x * (1000 * c)) (K * L) L (ap (λ (z : ℕ). z * L) (mul-one n)) (mul-left-comm x 1000 c) L-pos (k .under)
+      (m .under))))
     where
       one-more : (n : ℕ) → n * L + L ≡ (n + 1) * L
       one-more n = sym (add-mul n 1 L ∙ ap (λ (z : ℕ). n * L + z) (one-mul L))
@@ -187,7 +193,8 @@ module _ (textForm : TextForm) (counts : CountsNear textForm) (rows : List Row) 
       exact k a b = omega arith
 
   -- so the text of the day and such a fraction is the text itself
-  same-text : (jd : JulianDate) (g : Float) (x : ℕ) → T (fits binary64 g) → InUnit g → Val g x 0 L → MillisWorth x K (1000 * c) → julianToCalendar (jd .jd1) (jd .jd2) ≡ answer (fields (w .date) g) → isoTextBy textForm rows jd ≡ answer s
+  same-text : (jd : JulianDate) (g : Float) (x : ℕ) → T (fits binary64 g) → InUnit g → Val g x 0 L → MillisWorth x K (1000 * c)
+      → julianToCalendar (jd .jd1) (jd .jd2) ≡ answer (fields (w .date) g) → isoTextBy textForm rows jd ≡ answer s
   unfolding shownBy shownAt shownTextBy
   same-text jd g x f i v m e =
       fields-given-by textForm rows jd (fields (w .date) g) e
@@ -220,11 +227,13 @@ module _ (textForm : TextForm) (counts : CountsNear textForm) (rows : List Row) 
     unfolding N
     mjd = mjd-given (pos y) (pos (d .month)) (pos (d .day)) valid ∙ ap answer (number .1)
 
-    named : utcFromCalendar rows (pos y) (d .month) (d .day) (u .hour) (u .minute) (decimal n 3) ≡ answer (julian (add binary64 mjdZeroPoint (ofInt binary64 (pos N))) f)
+    named : utcFromCalendar rows (pos y) (d .month) (d .day) (u .hour) (u .minute) (decimal n 3) ≡ answer
+        (julian (add binary64 mjdZeroPoint (ofInt binary64 (pos N))) f)
     unfolding N
     named =
         time-given rows (pos y) (d .month) (d .day) (u .hour) (u .minute) (decimal n 3) valid (w .leap)
-        (subst (λ (z : ℤ). leapAtEndOfDay rows z (pos (d .month)) (pos (d .day)) ≡ answer (w .leap)) year (w .leap-is)) (good-in-day u (w .leap) step (good-fields w))
+        (subst (λ (z : ℤ). leapAtEndOfDay rows z (pos (d .month)) (pos (d .day)) ≡ answer (w .leap)) year (w .leap-is))
+        (good-in-day u (w .leap) step (good-fields w))
         ∙ ap (λ (z : ℤ). answer (julian (add binary64 mjdZeroPoint (ofInt binary64 z)) f)) (number .1)
 
     n-small : n < 61000
@@ -245,7 +254,8 @@ module _ (textForm : TextForm) (counts : CountsNear textForm) (rows : List Row) 
 
     same-date : gregorianDate (pos (2400001 + N)) ≡ d
     same-date =
-        ap (λ (k : ℕ). gregorianDate (pos k)) (turn N) ∙ date-of-mjd (pos y) (pos (d .month)) (pos (d .day)) (pos N) mjd not-past ∙ ap (λ (z : ℤ). date z (d .month) (d .day)) (sym year)
+        ap (λ (k : ℕ). gregorianDate (pos k)) (turn N) ∙ date-of-mjd (pos y) (pos (d .month)) (pos (d .day)) (pos N) mjd not-past
+        ∙ ap (λ (z : ℤ). date z (d .month) (d .day)) (sym year)
       where
         turn : (n : ℕ) → 2400001 + n ≡ n + 2400001
         turn n = omega arith
@@ -271,7 +281,8 @@ module _ (textForm : TextForm) (counts : CountsNear textForm) (rows : List Row) 
     -- and at midnight, whose fraction is 0.0
     nothing : K ≡ 0 → f ≡ nought
     unfolding timeOf
-    nothing e = ap (λ (k : ℕ). fractionAt (timeOf k .hour) (timeOf k .minute) (1000 * timeOf k .second + timeOf k .milli) (add binary64 secondsPerDay (w .leap))) e ∙ day .at-zero
+    nothing e = ap (λ (k : ℕ). fractionAt (timeOf k .hour) (timeOf k .minute) (1000 * timeOf k .second + timeOf k .milli)
+        (add binary64 secondsPerDay (w .leap))) e ∙ day .at-zero
 
     zero-point : fromCalendar (pos y) (d .month) (d .day) 0 0 nought ≡ answer (julian J nought)
     unfolding fromCalendar atTime roundedSum onward
@@ -280,7 +291,8 @@ module _ (textForm : TextForm) (counts : CountsNear textForm) (rows : List Row) 
     at-midnight : julianToCalendar J nought ≡ answer (fields d nought)
     unfolding onward
     at-midnight =
-        (let r : julianToCalendar J nought ≡ answer (fields (date (pos y) (d .month) (d .day)) nought) = rw zero-point at (round-trip-at-midnight (pos y) (d .month) (d .day) (pos N) mjd (le-leb N 997599999 (omega (arith, few)))) in r)
+        (let r : julianToCalendar J nought ≡ answer (fields (date (pos y) (d .month) (d .day)) nought) =
+        rw zero-point at (round-trip-at-midnight (pos y) (d .month) (d .day) (pos N) mjd (le-leb N 997599999 (omega (arith, few)))) in r)
         ∙ ap (λ (z : ℤ). answer (fields (date z (d .month) (d .day)) nought)) (sym year)
 
     first : K ≡ 0 → isoTextBy textForm rows (julian J f) ≡ answer s
@@ -300,8 +312,10 @@ module _ (textForm : TextForm) (counts : CountsNear textForm) (rows : List Row) 
         go false e = first (none K (ltb-false 0 K e))
 
 -- ---- THE LAW, in any good form
-module _ (textForm : TextForm) (p : Promise) (good : GoodForm textForm p) (plain : FourDigits textForm) (counts : CountsNear textForm) (t : AnnouncedRows) (rows : List Row) (taken : tableOf t ≡ answer rows) where
-  pub text-again : (jd : JulianDate) → T (fits binary64 (jd .jd1)) → T (fits binary64 (jd .jd2)) → (s : List ℕ) → isoTextBy textForm rows jd ≡ answer s → YearShown s
+module _ (textForm : TextForm) (p : Promise) (good : GoodForm textForm p) (plain : FourDigits textForm) (counts : CountsNear textForm) (t : AnnouncedRows)
+    (rows : List Row) (taken : tableOf t ≡ answer rows) where
+  pub text-again : (jd : JulianDate) → T (fits binary64 (jd .jd1)) → T (fits binary64 (jd .jd2)) → (s : List ℕ) → isoTextBy textForm rows jd ≡ answer s
+      → YearShown s
       → (r : ParsedUtc) → parsedUtc rows s ≡ answer r → isoTextBy textForm rows (r .date .0) ≡ answer s
   text-again jd f1 f2 s e shown r read = ap (isoTextBy textForm rows) same ∙ again textForm counts rows s w step y year from to
     where
@@ -341,7 +355,8 @@ module _ (textForm : TextForm) (p : Promise) (good : GoodForm textForm p) (plain
       same = sym (ap (λ (z : ParsedUtc). z .date .0) (same-answer as-read)) ∙ same-answer dated
 
 -- ---- the three forms of text; what is read under the table that is lent
-module _ (t : AnnouncedRows) (rows : List Row) (taken : tableOf t ≡ answer rows) (jd : JulianDate) (f1 : T (fits binary64 (jd .jd1))) (f2 : T (fits binary64 (jd .jd2))) (s : List ℕ) (shown : YearShown s)
+module _ (t : AnnouncedRows) (rows : List Row) (taken : tableOf t ≡ answer rows) (jd : JulianDate) (f1 : T (fits binary64 (jd .jd1)))
+    (f2 : T (fits binary64 (jd .jd2))) (s : List ℕ) (shown : YearShown s)
     (r : ParsedUtc) (read : onward (tableOf t) (λ rows. parsedUtc rows s) ≡ answer r) where
   by-rows : parsedUtc rows s ≡ answer r
   unfolding onward

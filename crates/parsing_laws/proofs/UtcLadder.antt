@@ -1,5 +1,5 @@
--- Each UTC text is answered as its reading deserves under the table, and as nothing else: the verdict is the answer, both ways, and only 15, 16, 2, 3 and 4 are refusals.
--- Assumes nothing.
+-- Each UTC text is answered as its reading deserves under the table, and as nothing else: the verdict is the answer, both ways, and only 15, 16, 2, 3 and 4 are
+-- refusals. Assumes nothing.
 use Prim.Native.Nat.{ℕ, _^_, _<_}
 use native.Mathlib.Omega.{arith}
 use mathlib.Core.Path.{_≡_, refl, sym, ap, _∙_, subst}
@@ -32,21 +32,25 @@ use Rattle.parsing_laws.specs.UtcVerdict.{LeapOfDate, UtcVerdict, no-fie
 use Rattle.parsing_laws.proofs.Ladder.{deserved, verdict, ReaderNumber, four, only-numbers}
 
 -- fields that are answered have a valid date
-answered-date : (t : List ℕ) (o : Outcome ParsedDateTime) (p : ParsedDateTime) → Verdict true t o → o ≡ answer p → validDate (p .year) (pos (p .month)) (pos (p .day)) ≡ answer tt
+answered-date : (t : List ℕ) (o : Outcome ParsedDateTime) (p : ParsedDateTime) → Verdict true t o → o ≡ answer p
+    → validDate (p .year) (pos (p .month)) (pos (p .day)) ≡ answer tt
 answered-date t _ p (outside n) e = absurd (not-both (answer p) p 15 refl (sym e))
 answered-date t _ p (too-many-digits w r h) e = absurd (not-both (answer p) p 16 refl (sym e))
 answered-date t _ p (bad-date w k r h d) e = absurd (not-both (answer p) p k refl (sym e))
 answered-date t _ p (bad-time w r h d n) e = absurd (not-both (answer p) p 4 refl (sym e))
-answered-date t _ p (fields w r h d s) e = let i : fieldsOf w ≡ p = cc in subst (λ (q : ParsedDateTime). validDate (q .year) (pos (q .month)) (pos (q .day)) ≡ answer tt) i d
+answered-date t _ p (fields w r h d s) e = let i : fieldsOf w ≡ p =
+    cc in subst (λ (q : ParsedDateTime). validDate (q .year) (pos (q .month)) (pos (q .day)) ≡ answer tt) i d
 
 -- ---- fields by their time
-module _ (rows : List Row) (p : ParsedDateTime) (v : validDate (p .year) (pos (p .month)) (pos (p .day)) ≡ answer tt) (x : Float) (leap : LeapOfDate rows p x) where
+module _ (rows : List Row) (p : ParsedDateTime) (v : validDate (p .year) (pos (p .month)) (pos (p .day)) ≡ answer tt) (x : Float)
+    (leap : LeapOfDate rows p x) where
   -- a time that the day does not have is 4
   late : timeInDay (p .hour) (p .minute) (p .second) x ≡ false → dated rows p ≡ refusal 4
   unfolding dated midnightPlus dayFraction onward
   late h = rw (on-date rows (p .year) (p .month) (p .day) (p .hour) (p .minute) (p .second) v x leap, h)
 
-date-beside : (rows : List Row) (p : ParsedDateTime) (jd : JulianDate) → utcFromCalendar rows (p .year) (p .month) (p .day) (p .hour) (p .minute) (p .second) ≡ answer jd
+date-beside : (rows : List Row) (p : ParsedDateTime) (jd : JulianDate)
+    → utcFromCalendar rows (p .year) (p .month) (p .day) (p .hour) (p .minute) (p .second) ≡ answer jd
     → dated rows p ≡ answer (withDate p jd)
 unfolding dated onward
 date-beside rows p jd e = rw e
@@ -55,19 +59,24 @@ date-beside rows p jd e = rw e
 pub utc-deserved : (rows : List Row) (t : List ℕ) (o : Outcome ParsedUtc) → UtcVerdict rows t o → parsedUtc rows t ≡ o
 unfolding parsedUtc onward
 utc-deserved rows t _ (no-fields k w) = ap (λ (o : Outcome ParsedDateTime). onward o (dated rows)) (deserved true t (refusal k) w)
-utc-deserved rows t _ (not-in-day p x w l h) = ap (λ (o : Outcome ParsedDateTime). onward o (dated rows)) (deserved true t (answer p) w) ∙ late rows p (answered-date t (answer p) p w refl) x l h
-utc-deserved rows t _ (dated-so p x jd w l h e) = ap (λ (o : Outcome ParsedDateTime). onward o (dated rows)) (deserved true t (answer p) w) ∙ date-beside rows p jd e
+utc-deserved rows t _ (not-in-day p x w l h) = ap (λ (o : Outcome ParsedDateTime). onward o (dated rows)) (deserved true t (answer p) w)
+    ∙ late rows p (answered-date t (answer p) p w refl) x l h
+utc-deserved rows t _ (dated-so p x jd w l h e) = ap (λ (o : Outcome ParsedDateTime). onward o (dated rows)) (deserved true t (answer p) w)
+    ∙ date-beside rows p jd e
 
 -- ---- the answer is a case of the verdict
 -- a year of four digits has a next day
 year-four : (t : List ℕ) (w : Written) → Reads true t w → ltZ (pos 2733194) (pos (w .year)) ≡ false
 year-four t w r =
-    let b : number (r .pieces .year) < 10 ^ 4 = subst (λ (n : ℕ). number (r .pieces .year) < 10 ^ n) (r .year .many) (number-below (r .pieces .year) (r .year .all)) in
+    let b : number (r .pieces .year) < 10 ^ 4 =
+    subst (λ (n : ℕ). number (r .pieces .year) < 10 ^ n) (r .year .many) (number-below (r .pieces .year) (r .year .all)) in
     let i : w .year ≡ number (r .pieces .year) = r .year-is in
     le-ltb 2733194 (w .year) (omega arith)
 
-module _ (rows : List Row) (t : List ℕ) (w : Written) (r : Reads true t w) (v : validDate (pos (w .year)) (pos (w .month)) (pos (w .day)) ≡ answer tt) (said : Verdict true t (answer (fieldsOf w))) where
-  by-time : (x : Float) → LeapOfDate rows (fieldsOf w) x → (b : Bool) → timeInDay (w .hour) (w .minute) (fieldsOf w .second) x ≡ b → UtcVerdict rows t (dated rows (fieldsOf w))
+module _ (rows : List Row) (t : List ℕ) (w : Written) (r : Reads true t w) (v : validDate (pos (w .year)) (pos (w .month)) (pos (w .day)) ≡ answer tt)
+    (said : Verdict true t (answer (fieldsOf w))) where
+  by-time : (x : Float) → LeapOfDate rows (fieldsOf w) x → (b : Bool) → timeInDay (w .hour) (w .minute) (fieldsOf w .second) x ≡ b
+      → UtcVerdict rows t (dated rows (fieldsOf w))
   by-time x l true h =
       let e = time-given rows (pos (w .year)) (w .month) (w .day) (w .hour) (w .minute) (fieldsOf w .second) v x l h in
       subst (UtcVerdict rows t) (sym (date-beside rows (fieldsOf w) _ e)) (dated-so (fieldsOf w) x _ said l h e)

@@ -1,5 +1,5 @@
--- A UTC text that we write, of a day from 1972 to 9999, is read back as its fields and the date that they name: for every table that is taken, so on days of 86,400,
--- 86,401 and 86,399 s. Assumes nothing.
+-- A UTC text that we write, of a day from 1972 to 9999, is read back as its fields and the date that they name: for every table that is taken, so on days of
+-- 86,400, 86,401 and 86,399 s. Assumes nothing.
 use Prim.Native.Nat.{ℕ, _+_, _*_, _≤_}
 use native.Mathlib.Omega.{arith}
 use mathlib.Core.Path.{_≡_, refl, sym, subst}
@@ -40,7 +40,8 @@ pub data WholeStep (x : Float) : Type 0 where
   longer : x ≡ one → WholeStep x
   shorter : x ≡ minus-one-f → WholeStep x
 
-pub whole-step : (t : AnnouncedRows) (rows : List Row) → tableOf t ≡ answer rows → (y m : ℕ) (d : ℤ) (x : Float) → 1972 ≤ y → 1 ≤ m → leapAtEndOfDay rows (pos y) (pos m) d ≡ answer x → WholeStep x
+pub whole-step : (t : AnnouncedRows) (rows : List Row) → tableOf t ≡ answer rows → (y m : ℕ) (d : ℤ) (x : Float) → 1972 ≤ y → 1 ≤ m
+    → leapAtEndOfDay rows (pos y) (pos m) d ≡ answer x → WholeStep x
 unfolding monthNumber
 whole-step t rows e y m d x h k p = go (table-leap-on t rows e (pos y) (pos m) d x p)
   where
@@ -104,7 +105,8 @@ module _ (u : TimeOfDay) where
       (inl (below-60 x (subst (λ (z : Float). T (lt nought (wholeLeap z)) → ⊥) (sym e) none-sixty) good)))
   good-in-day x (longer e) good =
       subst (λ (z : Float). timeInDay (u .hour) (u .minute) secondF z ≡ true) (sym e)
-      (time-in-day (u .hour) (u .minute) (u .second) (u .milli) true (good .hour) (good .minute) (good .milli) (last-second (subst (λ (z : Float). GoodTime u (wholeLeap z)) e good)))
+      (time-in-day (u .hour) (u .minute) (u .second) (u .milli) true (good .hour) (good .minute) (good .milli)
+      (last-second (subst (λ (z : Float). GoodTime u (wholeLeap z)) e good)))
   good-in-day x (shorter e) good =
       subst (λ (z : Float). timeInDay (u .hour) (u .minute) secondF z ≡ true) (sym e)
       (time-in-short-day (u .hour) (u .minute) (u .second) (u .milli) (good .hour) (good .minute) (good .milli)
@@ -118,7 +120,8 @@ pub record Back (rows : List Row) (d : CalendarDate) (u : TimeOfDay) (y : ℕ) :
   pub read : parsedUtc rows (utcText d u) ≡ answer (withDate (fieldsOf (asWritten y d u)) date)
 
 module _ (t : AnnouncedRows) (rows : List Row) (taken : tableOf t ≡ answer rows) (d : CalendarDate) (u : TimeOfDay) (y : ℕ) (x : Float) (year : d .year ≡ pos y)
-    (from : 1972 ≤ y) (to : y ≤ 9999) (valid : validDate (d .year) (pos (d .month)) (pos (d .day)) ≡ answer tt) (some : 1 ≤ d .month) (month : d .month ≤ 12) (day : d .day ≤ 31)
+    (from : 1972 ≤ y) (to : y ≤ 9999) (valid : validDate (d .year) (pos (d .month)) (pos (d .day)) ≡ answer tt) (some : 1 ≤ d .month) (month : d .month ≤ 12)
+    (day : d .day ≤ 31)
     (leap : leapAtEndOfDay rows (d .year) (pos (d .month)) (pos (d .day)) ≡ answer x) (good : GoodTime u (wholeLeap x)) where
   leap-here : leapAtEndOfDay rows (pos y) (pos (d .month)) (pos (d .day)) ≡ answer x
   leap-here = subst (λ (z : ℤ). leapAtEndOfDay rows z (pos (d .month)) (pos (d .day)) ≡ answer x) year leap

@@ -47,7 +47,8 @@ wide-back nu u P e h = omega arith
 
 pub second-near : (n : ℕ) → n < 61000 → Near (decimal n 3) n 0 1000 1027
 second-near n h =
-    rounds-near 1027 {z = decimal n 3} {P = n} {N = 0} {D = 1000} (lit< tt) (lit≤ tt) (wide (n * L) L (2 ^ 1080) sixty-four L-pos (mul-le-mul-right L (le-of-lt h)))
+    rounds-near 1027 {z = decimal n 3} {P = n} {N = 0} {D = 1000} (lit< tt) (lit≤ tt)
+    (wide (n * L) L (2 ^ 1080) sixty-four L-pos (mul-le-mul-right L (le-of-lt h)))
     (wide-back (n * L) L (2 ^ 1080) sixty-four L-pos)
     (record { sign = false; size = n; eq = refl; is = add-zero n })
 
@@ -65,10 +66,12 @@ pub second-below : (n b : ℕ) → n < 1000 * b → b ≤ 61 → lt (decimal n 3
 second-below n b h k =
     let e = second-near n (omega arith) in
     lt-val L-pos (e .val) (whole-val b k)
-    ∙ lt-ltb _ _ (under (e .p) (e .n) (n * L) (b * L) L (1000 * 2 ^ 1027) (suc n * L) (e .over) small-step (one-more n) (subst (λ (x : ℕ). suc n * L ≤ x) (mul-assoc 1000 b L) (mul-le-mul-right L h)))
+    ∙ lt-ltb _ _ (under (e .p) (e .n) (n * L) (b * L) L (1000 * 2 ^ 1027) (suc n * L) (e .over) small-step (one-more n)
+    (subst (λ (x : ℕ). suc n * L ≤ x) (mul-assoc 1000 b L) (mul-le-mul-right L h)))
 
 -- ---- a time of a day whose leap is one second or none
-limit-over : (x : Float) (last leap : Bool) → lt x (decimal 60 0) ≡ true → lt x (decimal 61 0) ≡ true → lt x (cond last (add binary64 (decimal 60 0) (cond leap one nought)) (decimal 60 0)) ≡ true
+limit-over : (x : Float) (last leap : Bool) → lt x (decimal 60 0) ≡ true → lt x (decimal 61 0) ≡ true
+    → lt x (cond last (add binary64 (decimal 60 0) (cond leap one nought)) (decimal 60 0)) ≡ true
 unfolding add round
 limit-over x false leap e f = e
 limit-over x true false e f = e
@@ -78,12 +81,14 @@ last-second : (x : Float) → lt x (decimal 61 0) ≡ true → lt x (add binary6
 unfolding add round
 last-second x e = e
 
-pub time-in-day : (hour minute s ms : ℕ) (leap : Bool) → hour ≤ 23 → minute ≤ 59 → ms ≤ 999 → (s ≤ 59) ⊎ ((s ≡ 60) × (hour ≡ 23) × (minute ≡ 59) × (leap ≡ true))
+pub time-in-day : (hour minute s ms : ℕ) (leap : Bool) → hour ≤ 23 → minute ≤ 59 → ms ≤ 999 → (s ≤ 59)
+    ⊎ ((s ≡ 60) × (hour ≡ 23) × (minute ≡ 59) × (leap ≡ true))
     → timeInDay hour minute (decimal (1000 * s + ms) 3) (cond leap one nought) ≡ true
 unfolding timeInDay secondLimit
 time-in-day hour minute s ms leap h m k (inl l) =
     rw (le-leb hour 23 h, le-leb minute 59 m, not-negative (1000 * s + ms))
-    (limit-over (decimal (1000 * s + ms) 3) (eqb hour 23 && eqb minute 59) leap (second-below (1000 * s + ms) 60 (omega arith) (lit≤ tt)) (second-below (1000 * s + ms) 61 (omega arith) (lit≤ tt)))
+    (limit-over (decimal (1000 * s + ms) 3) (eqb hour 23 && eqb minute 59) leap (second-below (1000 * s + ms) 60 (omega arith) (lit≤ tt))
+    (second-below (1000 * s + ms) 61 (omega arith) (lit≤ tt)))
 time-in-day hour minute s ms leap h m k (inr g) =
     let n : 1000 * s + ms < 1000 * 61 = omega (arith, g .0) in
     rw (le-leb hour 23 h, le-leb minute 59 m, not-negative (1000 * s + ms), eq-eqb hour 23 (g .1), eq-eqb minute 59 (g .2), g .3)

@@ -1,5 +1,6 @@
--- What the digits of a text that we write say, as the reader is to answer it. Written from document 02, item 1: "Every UTC text that we write and whose shown year is 1972
--- to 9999 reads back as its fields"; the digits are read by `readYear` and its like (utc::text, specs/ReadBack.antt), which know nothing of this reader. Assumes nothing.
+-- What the digits of a text that we write say, as the reader is to answer it. Written from document 02, item 1: "Every UTC text that we write and whose shown
+-- year is 1972 to 9999 reads back as its fields"; the digits are read by `readYear` and its like (utc::text, specs/ReadBack.antt), which know nothing of this
+-- reader. Assumes nothing.
 use mathlib.Core.Path.{_≡_}
 use mathlib.Core.Bool.{false}
 use mathlib.Core.List.{List}
@@ -43,7 +44,8 @@ pub record YearShown (s : List ℕ) : Type 0 where
 -- in a table of rows the text s is read as the fields that it shows, with the date that `utc_from_calendar` has for them
 pub record ReadsBack (rows : List Row) (s : List ℕ) : Type 0 where
   pub date : JulianDate
-  pub accepted : utcFromCalendar rows (readYear s) (readMonth s) (readDay s) (readHour s) (readMinute s) (decimal (1000 * readSecond s + readMilli s) 3) ≡ answer date
+  pub accepted : utcFromCalendar rows (readYear s) (readMonth s) (readDay s) (readHour s) (readMinute s) (decimal (1000 * readSecond s + readMilli s) 3) ≡
+      answer date
   pub read : parsedUtc rows s ≡ answer (withDate (fieldsShown s) date)
 
 -- a form of text that writes the years of four digits as document 01's does

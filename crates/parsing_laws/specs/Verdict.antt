@@ -27,6 +27,9 @@ pub record SomeTime (w : Written) : Type 0 where
 pub data Verdict (utc : Bool) (t : List ℕ) : Outcome ParsedDateTime → Type 0 where
   outside : ((w : Written) → Reads utc t w → ⊥) → Verdict utc t (refusal 15)
   too-many-digits : (w : Written) → Reads utc t w → 13 < w .places → Verdict utc t (refusal 16)
-  bad-date : (w : Written) (k : ℕ) → Reads utc t w → w .places ≤ 13 → validDate (pos (w .year)) (pos (w .month)) (pos (w .day)) ≡ refusal k → Verdict utc t (refusal k)
-  bad-time : (w : Written) → Reads utc t w → w .places ≤ 13 → validDate (pos (w .year)) (pos (w .month)) (pos (w .day)) ≡ answer tt → NoTime w → Verdict utc t (refusal 4)
-  fields : (w : Written) → Reads utc t w → w .places ≤ 13 → validDate (pos (w .year)) (pos (w .month)) (pos (w .day)) ≡ answer tt → SomeTime w → Verdict utc t (answer (fieldsOf w))
+  bad-date : (w : Written) (k : ℕ) → Reads utc t w → w .places ≤ 13 → validDate (pos (w .year)) (pos (w .month)) (pos (w .day)) ≡ refusal k
+      → Verdict utc t (refusal k)
+  bad-time : (w : Written) → Reads utc t w → w .places ≤ 13 → validDate (pos (w .year)) (pos (w .month)) (pos (w .day)) ≡ answer tt → NoTime w
+      → Verdict utc t (refusal 4)
+  fields : (w : Written) → Reads utc t w → w .places ≤ 13 → validDate (pos (w .year)) (pos (w .month)) (pos (w .day)) ≡ answer tt → SomeTime w
+      → Verdict utc t (answer (fieldsOf w))

@@ -43,7 +43,8 @@ grows (suc k) = subst (λ (z : ℕ). suc k < z) (sym (pow-suc 10 k)) (let g = gr
 -- one digit, or those of a tenth and one more
 fewest : (k m n : ℕ) → k ≤ m → n < 10 ^ suc k → (0 < k → 10 ^ k ≤ n) → digits 10 (suc k) n ≡ digitsIn (suc m) n
 unfolding digitsIn
-fewest zero m n h a b = ap (λ (c : ℕ). c ∷ []) (glyph-last n) ∙ sym (ap (λ (t : Bool). cond t (last n ∷ []) (digitsIn m (n / 10) ++ (last n ∷ []))) (lt-ltb n 10 (omega arith)))
+fewest zero m n h a b = ap (λ (c : ℕ). c ∷ []) (glyph-last n)
+    ∙ sym (ap (λ (t : Bool). cond t (last n ∷ []) (digitsIn m (n / 10) ++ (last n ∷ []))) (lt-ltb n 10 (omega arith)))
 fewest (suc k) zero n h a b = absurd (omega arith)
 fewest (suc k) (suc m) n h a b =
     let least : 10 ^ k * 10 ≤ n = subst (λ (z : ℕ). z ≤ n) (pow-suc 10 k) (b (omega arith)) in
@@ -93,7 +94,8 @@ short rows jd t e = of (expanded-text-length rows jd t e)
     of (inl h) = omega arith
     of (inr h) = omega arith
 
-written-by : (t p : List ℕ) (n : ℕ) (b : Bool) → cond b (answer (length t)) (refusal 11) ≡ answer n → (n ≡ length t) × (cond b (t ++ drop (length t) p) p ≡ t ++ drop (length t) p)
+written-by : (t p : List ℕ) (n : ℕ) (b : Bool) → cond b (answer (length t)) (refusal 11) ≡ answer n → (n ≡ length t)
+    × (cond b (t ++ drop (length t) p) p ≡ t ++ drop (length t) p)
 written-by t p n true e = (cc, refl)
 written-by t p n false e = let z : _≡_ {A = ℕ} 0 1 = cc in absurd (omega arith)
 
@@ -109,7 +111,8 @@ refused-by t p k h e =
     let g : _≡_ {A = Outcome ℕ} (answer (length t)) (refusal k) = simp (le-leb _ _ h) at e in
     let z : _≡_ {A = ℕ} 0 1 = cc in omega arith
 
-told-refused : (o : Outcome (List ℕ)) (p : List ℕ) (k : ℕ) → Short o → 27 ≤ length p → written o (length p) ≡ refusal k → (o ≡ refusal k) × (bufferHolds o p ≡ p)
+told-refused : (o : Outcome (List ℕ)) (p : List ℕ) (k : ℕ) → Short o → 27 ≤ length p → written o (length p) ≡ refusal k → (o ≡ refusal k)
+    × (bufferHolds o p ≡ p)
 unfolding written bufferHolds onward
 told-refused (answer t) p k s h e = let m = s t refl in absurd (refused-by t p k (omega arith) e)
 told-refused (refusal j) p k s h e = let same : j ≡ k = cc in (ap refusal same, refl)
@@ -136,7 +139,11 @@ module _ (rows : List Row) (s : List ℕ) (a : ParsedUtcAnswer) (is : parsedUtcO
 -- ---- the whole line
 pub no-room : (line before : List ℕ) → length before < 50 → LineCall line before (Refused 11) before
 unfolding textOutcome
-no-room line before h = record { says = sym (ap (λ (b : Bool). cond b (answer (length line)) (refusal 11)) (lt-leb 50 (length before) h)); holds = sym (ap (λ (b : Bool). cond b (line ++ drop (length line) before) before) (lt-leb 50 (length before) h)) }
+no-room line before h = record {
+  says = sym (ap (λ (b : Bool). cond b (answer (length line)) (refusal 11)) (lt-leb 50 (length before) h));
+  holds =
+      sym (ap (λ (b : Bool). cond b (line ++ drop (length line) before) before) (lt-leb 50 (length before) h));
+}
 
 at-start : (line before : List ℕ) → pasted before 0 line ≡ line ++ drop (length line) before
 unfolding pasted
@@ -150,9 +157,11 @@ line-put line before n after h p = record {
 }
 
 -- what was written is within the buffer
-pub line-within : {line before after : List ℕ} {r : TextAnswer} → LineCall line before r after → (n : ℕ) → r ≡ Written n → (n ≤ length after) × (n ≡ length (take n after))
+pub line-within : {line before after : List ℕ} {r : TextAnswer} → LineCall line before r after → (n : ℕ) → r ≡ Written n → (n ≤ length after)
+    × (n ≡ length (take n after))
 unfolding textOutcome
-line-within {line} {before} {after} c n is = let h = go (leb 50 (length before)) (sym (ap textOutcome is) ∙ c .says) (c .holds) in (h, sym (length-take-le n after h))
+line-within {line} {before} {after} c n is = let h =
+    go (leb 50 (length before)) (sym (ap textOutcome is) ∙ c .says) (c .holds) in (h, sym (length-take-le n after h))
   where
     go : (b : Bool) → answer n ≡ cond b (answer (length line)) (refusal 11) → after ≡ cond b (line ++ drop (length line) before) before → n ≤ length after
     go true e h = let m : n ≡ length line = cc in subst (λ (l : List ℕ). n ≤ length l) (sym h) (simp length-append (omega arith))

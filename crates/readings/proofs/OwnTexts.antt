@@ -1,5 +1,5 @@
--- A text of the text call with expanded years, and so of the listing, is answered by itself: where the shown year is 1972 to 9999, and for every table that is taken.
--- Assumes nothing.
+-- A text of the text call with expanded years, and so of the listing, is answered by itself: where the shown year is 1972 to 9999, and for every table that is
+-- taken. Assumes nothing.
 use mathlib.Core.Path.{_≡_, ap, _∙_}
 use mathlib.Core.List.{List, [], _∷_, _++_}
 use Prim.Native.Nat.{ℕ}
@@ -18,7 +18,8 @@ use Rattle.parsing_laws.proofs.EveryText.{expanded-text-reads-back, from-str-an
 use Rattle.parsing_laws.proofs.TextAgain.{expanded-text-again}
 use Rattle.readings.specs.Reading.{reading, readingTold, readingLine}
 
-module _ (t : AnnouncedRows) (rows : List Row) (taken : tableOf t ≡ answer rows) (jd : JulianDate) (f1 : T (fits binary64 (jd .jd1))) (f2 : T (fits binary64 (jd .jd2))) (s : List ℕ)
+module _ (t : AnnouncedRows) (rows : List Row) (taken : tableOf t ≡ answer rows) (jd : JulianDate) (f1 : T (fits binary64 (jd .jd1)))
+    (f2 : T (fits binary64 (jd .jd2))) (s : List ℕ)
     (shown : YearShown s) (written : isoTextExpanded rows jd ≡ answer s) where
   back : ReadsBack rows s
   back = expanded-text-reads-back t rows taken jd f1 f2 s shown written

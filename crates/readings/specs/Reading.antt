@@ -1,6 +1,6 @@
--- The line by which the program utc_reading answers a text: its index, a blank, and the text of the date that it is read as, or `refused` and the number. Written from
--- document 02, item 1 ("The boxes at the line send text"), in the form of document 01's listing; the text has expanded years, as the listing's from item 6 on.
--- Assumes nothing.
+-- The line by which the program utc_reading answers a text: its index, a blank, and the text of the date that it is read as, or `refused` and the number.
+-- Written from document 02, item 1 ("The boxes at the line send text"), in the form of document 01's listing; the text has expanded years, as the listing's
+-- from item 6 on. Assumes nothing.
 use Prim.Native.Nat.{ℕ}
 use mathlib.Core.Path.{_≡_}
 use mathlib.Core.List.{List, [], _∷_, _++_}
@@ -29,8 +29,8 @@ readingTold (refusal k) = refusedWord ++ digitsOf k
 unfoldable pub readingLine : List Row → List ℕ → ℕ → List ℕ
 readingLine rows s index = ((digitsOf index ++ (32 ∷ [])) ++ readingTold (reading rows s)) ++ (10 ∷ [])
 
--- r answers the line's length, and the buffer, which held `before`, holds the line at its start and then what stood there; in a buffer of less than 50 bytes, which the
--- longest line may need, r is 11 and the buffer is as it was
+-- r answers the line's length, and the buffer, which held `before`, holds the line at its start and then what stood there; in a buffer of less than 50 bytes,
+-- which the longest line may need, r is 11 and the buffer is as it was
 pub record LineCall (line before : List ℕ) (r : TextAnswer) (after : List ℕ) : Type 0 where
   pub says : textOutcome r ≡ cond (leb 50 (length before)) (answer (length line)) (refusal 11)
   pub holds : after ≡ cond (leb 50 (length before)) (line ++ drop (length line) before) before

@@ -12,8 +12,8 @@ ghost use Rattle.utc.specs.iso_texts.Expanded.{isoTextExpanded};
 ghost use Rattle.numerals.specs.digits.Placed.{Placed};
 ghost use Rattle.readings.specs.Reading.{reading, readingTold, readingLine, LineCall};
 
-// So many bytes hold every line: an index of 64 bits has at most 20 digits, and so has a refusal's number for all that is proved of it; `refused` with its blank has 8, the
-// text of a date at most 27, and a blank and the line's end are left.
+// So many bytes hold every line: an index of 64 bits has at most 20 digits, and so has a refusal's number for all that is proved of it; `refused` with its
+// blank has 8, the text of a date at most 27, and a blank and the line's end are left.
 const LINE_ROOM: usize = 50;
 
 fn place_bytes(src: &[u8], dst: &mut [u8], at: usize) -> usize
@@ -64,8 +64,8 @@ fn place_reading(text: &[u8], table: AnnouncedRows, dst: &mut [u8], at: usize) -
     }
 }
 
-// The line that answers a text, at the start of the buffer, by the rows of a table that is tested elsewhere: how many bytes it has. 11 where the buffer has less than 50
-// bytes; nothing is written then.
+// The line that answers a text, at the start of the buffer, by the rows of a table that is tested elsewhere: how many bytes it has. 11 where the buffer has
+// less than 50 bytes; nothing is written then.
 pub fn answer_line(text: &[u8], index: u64, table: AnnouncedRows, out: &mut [u8]) -> TextAnswer
     ensures { λ r. ⌜ LineCall (readingLine (rowsOf table) (now (text .entry)) index) (now (out .entry)) r (now (out .exit)) ⌝ }
 {

@@ -1,5 +1,6 @@
-// Lists the stamp block that is read from standard input, with refusals told in sentences: the second listing program. Proved here: the program is safe, and ends where its
-// input does. That the parts are the listing is a theorem (stamps::listing_laws); that they go out in order is tested by what the program prints.
+// Lists the stamp block that is read from standard input, with refusals told in sentences: the second listing program. Proved here: the program is safe, and
+// ends where its input does. That the parts are the listing is a theorem (stamps::listing_laws); that they go out in order is tested by what the program
+// prints.
 ghost use mathlib.Core.Path.{_≡_};
 ghost use lib.ListN.{length};
 use stamps::Telling;
@@ -50,8 +51,8 @@ fn read_some(came: u64) -> Rest {
     }
 }
 
-// Reads to the input's end, and answers how many bytes came. A proved loop has to end, and nothing says that an input does: so the turns are counted, from a number that no
-// run uses up.
+// Reads to the input's end, and answers how many bytes came. A proved loop has to end, and nothing says that an input does: so the turns are counted, from a
+// number that no run uses up.
 fn read_rest(start: u64) -> u64 {
     let mut rest = Rest {
         more: true,
@@ -74,7 +75,8 @@ fn whole_length(kept: usize) -> u64 {
     came
 }
 
-// The program lends no rows. Where the output takes no more, the program says so and ends: what it wrote until then has its last line cut short, or ends with a whole line.
+// The program lends no rows. Where the output takes no more, the program says so and ends: what it wrote until then has its last line cut short, or ends with a
+// whole line.
 fn main() {
     let mut space = block_space();
     let kept = block_io::read_block(&mut space);

@@ -3,13 +3,11 @@ use Prim.Native.Nat.{ℕ, _+_, _*_, _≤_, _<_}
 use native.Mathlib.Omega.{arith}
 use mathlib.Core.Path.{_≡_, refl, ap}
 use mathlib.Core.Bool.{Bool, true, false, cond, not}
-use lib.Dec.{eqb, leb, ltb}
 use lib.IntN.{ℤ, pos, negsuc}
 use lib.Signed.{ltZ}
 use lib.Ieee.{Float, le, add, binary64}
 use lib.Ieee.Scale.{finite}
 use borrow.Author.Tests.{eq-eqb, ne-eqb, le-leb, lt-leb, lt-ltb, le-ltb}
-use Rattle.refusals.specs.Outcome.{Outcome}
 use Rattle.floats.specs.Whole.{nought, one}
 use Rattle.calendar.specs.Calendar.{daysInMonth}
 use Rattle.julian.specs.day_number.DayNumber.{inJulianRange, c-djmin, c-djmax}
@@ -18,8 +16,10 @@ use Rattle.julian.specs.declared.FractionAnswer.the-variants as Answer
 use Rattle.julian.specs.DayFraction.{fractionOutcome, dayFraction, timeInDay}
 use Rattle.julian.specs.JulianDate.{roundedSum}
 use Rattle.leap_table.specs.offsets.Offset.{inDay}
-use Rattle.reasons.specs.declared.sentences.Named.the-variants.{NoField, Year, Month, Day, Hour, Minute, Second, Sum, Fraction, Nanos, FirstPart, SecondPart, Offset, SecondSize, Size, WholeLength}
-use Rattle.reasons.specs.Offending.{yearField, monthField, dayField, dateField, timeField, sumField, partField, partsField, floatField, nanosField, blockField}
+use Rattle.reasons.specs.declared.sentences.Named.the-variants.{NoField, Year, Month, Day, Hour, Minute, Second, Sum, Fraction, Nanos, FirstPart}
+use Rattle.reasons.specs.declared.sentences.Named.the-variants.{SecondPart, Offset, SecondSize, Size, WholeLength}
+use Rattle.reasons.specs.Offending.{yearField, monthField, dayField, dateField, timeField, sumField, partField, partsField, floatField}
+use Rattle.reasons.specs.Offending.{nanosField, blockField}
 
 -- ---- a date
 module _ (y : ℤ) where

@@ -21,12 +21,14 @@ use Rattle.numerals.specs.digits.Decimal.{digitsOf}
 use Rattle.numerals.proofs.digits.Decimal.{digits-few}
 use Rattle.numerals.proofs.digits.Hexadecimal.{hex-length}
 use Rattle.reasons.specs.declared.sentences.Named.{Named}
-use Rattle.reasons.specs.declared.sentences.Named.the-variants.{NoField, Year, Month, Day, Hour, Minute, Second, Sum, Fraction, Nanos, FirstPart, SecondPart, Offset, SecondSize, Size, WholeLength}
+use Rattle.reasons.specs.declared.sentences.Named.the-variants.{NoField, Year, Month, Day, Hour, Minute, Second, Sum, Fraction, Nanos, FirstPart}
+use Rattle.reasons.specs.declared.sentences.Named.the-variants.{SecondPart, Offset, SecondSize, Size, WholeLength}
 use Rattle.reasons.specs.declared.Values.{Values}
 use Rattle.reasons.specs.declared.Values.the-variants.{NoValues, Date, Time, Parts, Number, Count, Block}
 use Rattle.reasons.specs.declared.sentences.Reason.{Reason}
 use Rattle.reasons.specs.sentences.Texts.{asciiBytes, texts, fixedText}
-use Rattle.reasons.specs.Offending.{offending, yearField, monthField, dayField, dateField, timeField, sumField, partField, partsField, floatField, nanosField, blockField}
+use Rattle.reasons.specs.Offending.{offending, yearField, monthField, dayField, dateField, timeField, sumField, partField, partsField, floatField}
+use Rattle.reasons.specs.Offending.{nanosField, blockField}
 use Rattle.reasons.specs.sentences.Render.{signedDigits, floatDigits, namedText, render}
 use Rattle.reasons.specs.Sentence.{reasonOf, sentence}
 use Rattle.reasons.specs.Widths.{OfWidth}
@@ -79,11 +81,13 @@ module _ (k : ℕ) where
 
   month-in : (m : ℤ) → natAbs m ≤ 2147483648 → In57 2 (monthField m)
   unfolding monthField namedText fixedText texts
-  month-in m h = wrong-in 2 (ltZ m (pos 1) || ltZ (pos 12) m) (Month m) (all-in (fixedText 2) (asciiBytes ": month ") (signedDigits m) 11 refl (signed-short m h))
+  month-in m h = wrong-in 2 (ltZ m (pos 1) || ltZ (pos 12) m) (Month m)
+      (all-in (fixedText 2) (asciiBytes ": month ") (signedDigits m) 11 refl (signed-short m h))
 
   day-in : (y m d : ℤ) → natAbs d ≤ 2147483648 → In57 3 (dayField y m d)
   unfolding dayField namedText fixedText texts
-  day-in y m d h = wrong-in 3 (ltZ d (pos 1) || ltZ (pos (daysInMonth y m)) d) (Day d) (all-in (fixedText 3) (asciiBytes ": day ") (signedDigits d) 11 refl (signed-short d h))
+  day-in y m d h = wrong-in 3 (ltZ d (pos 1) || ltZ (pos (daysInMonth y m)) d) (Day d)
+      (all-in (fixedText 3) (asciiBytes ": day ") (signedDigits d) 11 refl (signed-short d h))
 
   date-in : (y m d : ℤ) → natAbs y ≤ 2147483648 → natAbs m ≤ 2147483648 → natAbs d ≤ 2147483648 → In57 k (dateField k y m d)
   unfolding dateField
@@ -128,7 +132,8 @@ module _ (k : ℕ) where
 
   float-in : (x : Float) → In57 k (floatField k x)
   unfolding floatField
-  float-in x = or-next k 7 (eqb k 7) _ _ refl (fraction-in x (not (inDay x))) (or-next k 10 (eqb k 10) _ NoField refl (offset-in x (not (finite x))) (none-in k))
+  float-in x = or-next k 7 (eqb k 7) _ _ refl (fraction-in x (not (inDay x)))
+      (or-next k 10 (eqb k 10) _ NoField refl (offset-in x (not (finite x))) (none-in k))
 
   nanos-in : (n : ℕ) → n < 4294967296 → In57 8 (nanosField n)
   unfolding nanosField namedText fixedText texts
@@ -150,13 +155,15 @@ module _ (k : ℕ) where
   unfolding blockField
   block-in n size second p q r =
       or-next k 12 (eqb k 12) _ _ refl (second-size-in second r (not (eqb size second)))
-      (or-next k 13 (eqb k 13) _ _ refl (size-in size q (not (leb size 4000))) (or-next k 14 (eqb k 14) _ NoField refl (length-in n p (not (eqb n (8 + 16 * size)))) (none-in k)))
+      (or-next k 13 (eqb k 13) _ _ refl (size-in size q (not (leb size 4000)))
+      (or-next k 14 (eqb k 14) _ NoField refl (length-in n p (not (eqb n (8 + 16 * size)))) (none-in k)))
 
   every-in : (v : Values) → OfWidth v → In57 k (offending k v)
   unfolding offending OfWidth
   every-in NoValues h = none-in k
   every-in (Date y m d) h = date-in y m d (h .0) (h .1) (h .2)
-  every-in (Time hour minute second leap) h = or-next k 4 (eqb k 4) (timeField hour minute second leap) NoField refl (time-in hour minute second leap (h .0) (h .1)) (none-in k)
+  every-in (Time hour minute second leap) h =
+      or-next k 4 (eqb k 4) (timeField hour minute second leap) NoField refl (time-in hour minute second leap (h .0) (h .1)) (none-in k)
   every-in (Parts a b) h = parts-in a b
   every-in (Number x) h = float-in x
   every-in (Count n) h = or-next k 8 (eqb k 8) (nanosField n) NoField refl (nanos-in n h) (none-in k)
@@ -177,6 +184,7 @@ pub sentence-short : (k : ℕ) (v : Values) → OfWidth v → (t : List ℕ) →
 unfolding sentence reasonOf render onward
 sentence-short k v h t e = go (leb 1 k && leb k 28) e
   where
-    go : (b : Bool) → onward (cond b (answer (record { number = k; named = offending k v })) (refusal 18)) (λ (r : Reason). answer (render r)) ≡ answer t → length t ≤ 57
+    go : (b : Bool) → onward (cond b (answer (record { number = k; named = offending k v })) (refusal 18)) (λ (r : Reason). answer (render r)) ≡ answer t
+        → length t ≤ 57
     go true q = let z : fixedText k ++ namedText (offending k v) ≡ t = cc in subst (λ (l : List ℕ). length l ≤ 57) z (every-in k v h)
     go false q = let z : _≡_ {A = ℕ} 0 1 = cc in absurd (omega (arith, z))

@@ -1,7 +1,7 @@
--- Which field a refusal's number names, of the values that document 01's test of that number reads. Written from document 02, item 13 ("It names the offending field
--- where there is one: 1 to 3 the wrong one, 4 the first wrong one, 6 the rounded sum, 7 the fraction, 8 the nanos, 9 the first bad part, 10 the offset, 12 the second
--- size, 13 the size, 14 the whole length; other numbers, and values that pass, name none"), and document 01's "Refusals by number". Each number goes by its own test
--- alone (docs/DECISIONS.md 69). That the tests are those of the calls that refuse is proved (stamps::reason_laws). Assumes nothing.
+-- Which field a refusal's number names, of the values that document 01's test of that number reads. Written from document 02, item 13 ("It names the offending
+-- field where there is one: 1 to 3 the wrong one, 4 the first wrong one, 6 the rounded sum, 7 the fraction, 8 the nanos, 9 the first bad part, 10 the offset,
+-- 12 the second size, 13 the size, 14 the whole length; other numbers, and values that pass, name none"), and document 01's "Refusals by number". Each number
+-- goes by its own test alone (docs/DECISIONS.md 69). That the tests are those of the calls that refuse is proved (stamps::reason_laws). Assumes nothing.
 use Prim.Native.Nat.{ℕ, _+_, _*_}
 use mathlib.Core.Bool.{Bool, cond, not, _||_}
 use lib.Dec.{eqb, ltb, leb}
@@ -15,7 +15,8 @@ use Rattle.julian.specs.JulianDate.{julian, roundedSum}
 use Rattle.julian.specs.DayFraction.{timeInDay}
 use Rattle.leap_table.specs.offsets.Offset.{inDay}
 use Rattle.reasons.specs.declared.sentences.Named.{Named}
-use Rattle.reasons.specs.declared.sentences.Named.the-variants.{NoField, Year, Month, Day, Hour, Minute, Second, Sum, Fraction, Nanos, FirstPart, SecondPart, Offset, SecondSize, Size, WholeLength}
+use Rattle.reasons.specs.declared.sentences.Named.the-variants.{NoField, Year, Month, Day, Hour, Minute, Second, Sum, Fraction, Nanos, FirstPart}
+use Rattle.reasons.specs.declared.sentences.Named.the-variants.{SecondPart, Offset, SecondSize, Size, WholeLength}
 use Rattle.reasons.specs.declared.Values.{Values}
 use Rattle.reasons.specs.declared.Values.the-variants.{NoValues, Date, Time, Parts, Number, Count, Block}
 

@@ -1,5 +1,5 @@
--- The sentence of a refusal's number with the values of its test. Written from document 02, item 13 ("the sentence call takes its number (one not 1 to 28 is 18) and the
--- values 01's test reads"). Assumes nothing.
+-- The sentence of a refusal's number with the values of its test. Written from document 02, item 13 ("the sentence call takes its number (one not 1 to 28 is
+-- 18) and the values 01's test reads"). Assumes nothing.
 use Prim.Native.Nat.{ℕ}
 use mathlib.Core.Bool.{cond, _&&_}
 use mathlib.Core.List.{List}

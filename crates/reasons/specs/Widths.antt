@@ -1,4 +1,5 @@
--- Values that the calls' types hold: 32 bits with a sign for a date, 8 bits for hour and minute, 32 and 64 for counts. Every value of the code is one. Assumes nothing.
+-- Values that the calls' types hold: 32 bits with a sign for a date, 8 bits for hour and minute, 32 and 64 for counts. Every value of the code is one. Assumes
+-- nothing.
 use Prim.Native.Nat.{_<_, _≤_}
 use lib.IntN.{natAbs}
 use Rattle.reasons.specs.declared.Values.{Values}

@@ -1,7 +1,8 @@
 // The tests of each number: which field is at fault.
 ghost use mathlib.Core.Path.{_≡_};
 ghost use lib.Dec.{eqb};
-ghost use Rattle.reasons.specs.Offending.{onlyIf, yearField, monthField, dayField, dateField, timeField, sumField, partField, partsField, floatField, nanosField, blockField};
+ghost use Rattle.reasons.specs.Offending.{onlyIf, yearField, monthField, dayField, dateField, timeField, sumField, partField, partsField};
+ghost use Rattle.reasons.specs.Offending.{floatField, nanosField, blockField};
 use crate::sentences::Named;
 use julian::FractionAnswer;
 

@@ -1,5 +1,5 @@
--- Rounding keeps the order and stays within bounds. A larger fraction is never rounded to a smaller float; a fraction between two floats is rounded to one between
--- them; and one of at most B units in size, for a B that the format holds, to a finite float of at most B. For any denominator. Assumes nothing.
+-- Rounding keeps the order and stays within bounds. A larger fraction is never rounded to a smaller float; a fraction between two floats is rounded to one
+-- between them; and one of at most B units in size, for a B that the format holds, to a finite float of at most B. For any denominator. Assumes nothing.
 use mathlib.Core.Path.{_≡_, refl, sym, ap, _∙_, subst, subst₂}
 use mathlib.Core.Logic.{inl, inr}
 use Prim.Native.Nat.{ℕ, zero, suc, _+_, _*_, _^_, _≤_, _<_}
@@ -44,7 +44,8 @@ unfolding L
 round-ge a D B r E h = le-trans (le-of-eq (r .is)) (grid-ge binary64 a D (r .q) (r .j) E (r .small) (subst (λ (x : ℕ). x * D ≤ a * 2 ^ 1074) (r .is) h))
 
 -- |P - N| / D ≤ B / L gives |z| ≤ B / L
-pub rounds-within : {z : Float} {P N D B : ℕ} → 0 < D → Rep B → B < 2 ^ 2098 → P * L ≤ N * L + B * D → N * L ≤ P * L + B * D → Rounds binary64 z P N D → SizeWithin z B
+pub rounds-within : {z : Float} {P N D B : ℕ} → 0 < D → Rep B → B < 2 ^ 2098 → P * L ≤ N * L + B * D → N * L ≤ P * L + B * D → Rounds binary64 z P N D
+    → SizeWithin z B
 rounds-within {z} {P} {N} {D} {B} E rep b u l r =
     let g = round-le (r .size) D B rep E (signed-le (r .sign) (r .size * L) (P * L) (N * L) (B * D) (signed-scale (r .sign) (r .size) P N L (r .is)) u l)
     in within-of (r .sign) z (grid binary64 (r .size) D) B (rounds-has r (lt-of-le-of-lt g b)) g
@@ -97,7 +98,8 @@ module _ (k a b c d D : ℕ) (E : 0 < D) (lo : Rep (dist a b)) (hi : Rep (dist c
 small-turn : (a b : ℕ) → dist a b < 2 ^ 2098 → dist b a < 2 ^ 2098
 small-turn a b h = lt-of-le-of-lt (le-of-eq (dist-flip b a)) h
 
-between-of : (s : Bool) (z : Float) (k P N D a b c d : ℕ) → 0 < D → Rep (dist a b) → Rep (dist c d) → dist a b < 2 ^ 2098 → dist c d < 2 ^ 2098 → Signed s k P N → a * D + N * L ≤ P * L + b * D → P * L + d * D ≤ c * D + N * L
+between-of : (s : Bool) (z : Float) (k P N D a b c d : ℕ) → 0 < D → Rep (dist a b) → Rep (dist c d) → dist a b < 2 ^ 2098 → dist c d < 2 ^ 2098
+    → Signed s k P N → a * D + N * L ≤ P * L + b * D → P * L + d * D ≤ c * D + N * L
     → (grid binary64 k D < 2 ^ 2098 → HasValue z s (grid binary64 k D) L) → Enclosed z a b c d
 between-of false z k P N D a b c d E ra rc sa sc i h l has =
     let e : k * L + N * L ≡ P * L = signed-scale false k P N L i in
@@ -106,7 +108,14 @@ between-of false z k P N D a b c d E ra rc sa sc i h l has =
     let v = has (lt-of-le-of-lt (size-high k a b c d D E ra rc h' l') sc) in
     let x = above k a b c d D E ra rc h' l' in
     let y = under k a b c d D E ra rc h' l' in
-    record { p = grid binary64 k D; n = 0; val = record { sign = false; size = grid binary64 k D; has = v; is = omega arith }; low = omega arith; high = omega arith }
+    record {
+      p = grid binary64 k D;
+      n = 0;
+      val = record { sign = false; size = grid binary64 k D; has = v; is = omega arith };
+      low = omega arith;
+      high =
+          omega arith;
+    }
 between-of true z k P N D a b c d E ra rc sa sc i h l has =
     let e : k * L + P * L ≡ N * L = signed-scale true k P N L i in
     let h' : d * D ≤ k * L + c * D = omega arith in
@@ -114,12 +123,21 @@ between-of true z k P N D a b c d E ra rc sa sc i h l has =
     let v = has (lt-of-le-of-lt (size-high k d c b a D E (rep-flip c d rc) (rep-flip a b ra) h' l') (small-turn a b sa)) in
     let x = above k d c b a D E (rep-flip c d rc) (rep-flip a b ra) h' l' in
     let y = under k d c b a D E (rep-flip c d rc) (rep-flip a b ra) h' l' in
-    record { p = 0; n = grid binary64 k D; val = record { sign = true; size = grid binary64 k D; has = v; is = omega arith }; low = omega arith; high = omega arith }
+    record {
+      p = 0;
+      n = grid binary64 k D;
+      val = record { sign = true; size = grid binary64 k D; has = v; is = omega arith };
+      low = omega arith;
+      high =
+          omega arith;
+    }
 
 -- lo ≤ (P - N) / D ≤ hi, for two floats, gives lo ≤ z ≤ hi
-pub rounds-between : {z lo hi : Float} {P N D a b c d : ℕ} → 0 < D → T (fits binary64 lo) → T (fits binary64 hi) → Val lo a b L → Val hi c d L → a * D + N * L ≤ P * L + b * D → P * L + d * D ≤ c * D + N * L
+pub rounds-between : {z lo hi : Float} {P N D a b c d : ℕ} → 0 < D → T (fits binary64 lo) → T (fits binary64 hi) → Val lo a b L → Val hi c d L
+    → a * D + N * L ≤ P * L + b * D → P * L + d * D ≤ c * D + N * L
     → Rounds binary64 z P N D → Enclosed z a b c d
-rounds-between {z} {P = P} {N} {D} {a} {b} {c} {d} E fl fh vl vh h l r = between-of (r .sign) z (r .size) P N D a b c d E (val-rep fl vl) (val-rep fh vh) (val-small fl vl) (val-small fh vh) (r .is) h l (rounds-has r)
+rounds-between {z} {P = P} {N} {D} {a} {b} {c} {d} E fl fh vl vh h l r =
+    between-of (r .sign) z (r .size) P N D a b c d E (val-rep fl vl) (val-rep fh vh) (val-small fl vl) (val-small fh vh) (r .is) h l (rounds-has r)
 
 -- ---- the order is kept
 odd-neg : (d q k l : ℕ) → odd d true q k l ≡ neg (odd d false q k l)
@@ -252,8 +270,10 @@ zeros-le f a D b E F G e g = subst₂ (λ (x y : Float). T (le x y)) (sym (at fa
     at s a D F e = round-same f s a D 0 1 F (lit< tt) (ap (λ (z : ℕ). z * 1) e ∙ sym (zero-mul D))
 
 -- (P - N) / D ≤ (Q - M) / E gives z ≤ w, infinities included
-pub rounds-mono : {f : Format} {z w : Float} {P N D Q M E : ℕ} → 0 < D → 0 < E → P * E + M * D ≤ Q * D + N * E → Rounds f z P N D → Rounds f w Q M E → T (le z w)
-rounds-mono {f} {z} {w} {P} {N} {D} {Q} {M} {E} F G h r k = subst₂ (λ (x y : Float). T (le x y)) (sym (r .eq)) (sym (k .eq)) (go (r .sign) (k .sign) (r .size) (k .size) (r .is) (k .is))
+pub rounds-mono : {f : Format} {z w : Float} {P N D Q M E : ℕ} → 0 < D → 0 < E → P * E + M * D ≤ Q * D + N * E → Rounds f z P N D → Rounds f w Q M E
+    → T (le z w)
+rounds-mono {f} {z} {w} {P} {N} {D} {Q} {M} {E} F G h r k =
+    subst₂ (λ (x y : Float). T (le x y)) (sym (r .eq)) (sym (k .eq)) (go (r .sign) (k .sign) (r .size) (k .size) (r .is) (k .is))
   where
     go : (s t : Bool) (a b : ℕ) → Signed s a P N → Signed t b Q M → T (le (round f s a D) (round f t b E))
     go false false a b i j =
@@ -263,10 +283,12 @@ rounds-mono {f} {z} {w} {P} {N} {D} {Q} {M} {E} F G h r k = subst₂ (λ (x y : 
     go true true a b i j =
         let x : a * E + P * E ≡ N * E = signed-scale true a P N E i in
         let y : b * D + Q * D ≡ M * D = signed-scale true b Q M D j in
-        subst₂ (λ (x y : Float). T (le x y)) (sym (round-neg f a D)) (sym (round-neg f b E)) (le-neg (round f false b E) (round f false a D) (round-mono f b E a D G F (omega arith)))
+        subst₂ (λ (x y : Float). T (le x y)) (sym (round-neg f a D)) (sym (round-neg f b E))
+        (le-neg (round f false b E) (round f false a D) (round-mono f b E a D G F (omega arith)))
     go true false a b i j = sides-le (round f true a D) (round f false b E) (round-side f true a D) (round-side f false b E)
     go false true a b i j =
         let x : a * E + N * E ≡ P * E = signed-scale false a P N E i in
         let y : b * D + Q * D ≡ M * D = signed-scale true b Q M D j in
         let u : a * E ≡ 0 = omega arith in
-        let v : b * D ≡ 0 = omega arith in zeros-le f a D b E F G (eq-of-mul-eq-mul-right E G a 0 (u ∙ sym (zero-mul E))) (eq-of-mul-eq-mul-right D F b 0 (v ∙ sym (zero-mul D)))
+        let v : b * D ≡ 0 = omega arith in zeros-le f a D b E F G (eq-of-mul-eq-mul-right E G a 0 (u ∙ sym (zero-mul E)))
+        (eq-of-mul-eq-mul-right D F b 0 (v ∙ sym (zero-mul D)))

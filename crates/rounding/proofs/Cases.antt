@@ -65,7 +65,8 @@ unfolding fits one-float
 one-fits = tt
 
 third-between : Enclosed (div binary64 one-float three-float) 0 0 L 0
-third-between = rounds-between (lit< tt) zero-fits one-fits zero-val one-val (omega arith) (omega arith) (div-rounds binary64 (lit< tt) (lit< tt) (lit< tt) one-whole three-whole)
+third-between = rounds-between (lit< tt) zero-fits one-fits zero-val one-val (omega arith) (omega arith)
+    (div-rounds binary64 (lit< tt) (lit< tt) (lit< tt) one-whole three-whole)
 
 -- ---- 3 + 0.1 is rounded, and two-sum's error is what it lost
 three-under : Under52 three-float

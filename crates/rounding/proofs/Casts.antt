@@ -81,7 +81,8 @@ trunc-val h {x} {p} {n} {D} E u l v = trunc-has h x (v .sign) (v .size) D p n E 
 subN-pair : (a b : ℕ) → plusZ (subℕ a b) + b ≡ minusZ (subℕ a b) + a
 subN-pair a b = go (ltb a b) (ltb→lt a b) (nltb→le a b)
   where
-    go : (u : Bool) → (T u → a < b) → (T (not u) → b ≤ a) → plusZ (cond u (negsuc (b - suc a)) (pos (a - b))) + b ≡ minusZ (cond u (negsuc (b - suc a)) (pos (a - b))) + a
+    go : (u : Bool) → (T u → a < b) → (T (not u) → b ≤ a)
+        → plusZ (cond u (negsuc (b - suc a)) (pos (a - b))) + b ≡ minusZ (cond u (negsuc (b - suc a)) (pos (a - b))) + a
     go true h k = let l : a < b = h tt in omega arith
     go false h k = let l : b ≤ a = k tt in omega arith
 

@@ -1,5 +1,5 @@
--- A comparison of two floats is that of their values: of (p - n) / D and (q - m) / D it is the comparison of p + m and q + n. The laws from a test that was taken
--- (≡ true), or was not (≡ false), to the order of natural numbers and back. Assumes nothing.
+-- A comparison of two floats is that of their values: of (p - n) / D and (q - m) / D it is the comparison of p + m and q + n. The laws from a test that was
+-- taken (≡ true), or was not (≡ false), to the order of natural numbers and back. Assumes nothing.
 use mathlib.Core.Path.{_≡_, sym, ap, _∙_, subst}
 use Prim.Native.Nat.{ℕ, _+_, _*_, _≤_, _<_}
 use native.Mathlib.Nat.{le-of-eq, le-of-lt, le-antisymm, zero-mul, mul-pos}
@@ -69,13 +69,18 @@ module _ (a b c A B D p n q m : ℕ) (C : 0 < c) (E : 0 < D) (e : a * D ≡ A * 
       (λ u. let h : A ≡ B = same (eqb→eq a b (and-l (eqb a b) true u)) in eq→eqb {a = p + m} {b = q + n} (omega arith))
       (λ u. let h : p + m ≡ q + n = eqb→eq (p + m) (q + n) u in and-i (eqb a b) true (eq→eqb {a = a} {b = b} (same' (omega arith))) tt)
   level-is false true i j = same-test (eqb a b && eqb a 0) (eqb (p + m) (q + n))
-      (λ u. let h : A ≡ B = same (eqb→eq a b (and-l (eqb a b) (eqb a 0) u)) in let k : A ≡ 0 = zero' (eqb→eq a 0 (and-r (eqb a b) (eqb a 0) u)) in eq→eqb {a = p + m} {b = q + n} (omega arith))
-      (λ u. let h : p + m ≡ q + n = eqb→eq (p + m) (q + n) u in and-i (eqb a b) (eqb a 0) (eq→eqb {a = a} {b = b} (same' (omega arith))) (eq→eqb {a = a} {b = 0} (nought (omega arith))))
+      (λ u. let h : A ≡ B = same (eqb→eq a b (and-l (eqb a b) (eqb a 0) u)) in let k : A ≡ 0 =
+      zero' (eqb→eq a 0 (and-r (eqb a b) (eqb a 0) u)) in eq→eqb {a = p + m} {b = q + n} (omega arith))
+      (λ u. let h : p + m ≡ q + n = eqb→eq (p + m) (q + n) u in and-i (eqb a b) (eqb a 0) (eq→eqb {a = a} {b = b} (same' (omega arith)))
+      (eq→eqb {a = a} {b = 0} (nought (omega arith))))
   level-is true false i j = same-test (eqb a b && eqb a 0) (eqb (p + m) (q + n))
-      (λ u. let h : A ≡ B = same (eqb→eq a b (and-l (eqb a b) (eqb a 0) u)) in let k : A ≡ 0 = zero' (eqb→eq a 0 (and-r (eqb a b) (eqb a 0) u)) in eq→eqb {a = p + m} {b = q + n} (omega arith))
-      (λ u. let h : p + m ≡ q + n = eqb→eq (p + m) (q + n) u in and-i (eqb a b) (eqb a 0) (eq→eqb {a = a} {b = b} (same' (omega arith))) (eq→eqb {a = a} {b = 0} (nought (omega arith))))
+      (λ u. let h : A ≡ B = same (eqb→eq a b (and-l (eqb a b) (eqb a 0) u)) in let k : A ≡ 0 =
+      zero' (eqb→eq a 0 (and-r (eqb a b) (eqb a 0) u)) in eq→eqb {a = p + m} {b = q + n} (omega arith))
+      (λ u. let h : p + m ≡ q + n = eqb→eq (p + m) (q + n) u in and-i (eqb a b) (eqb a 0) (eq→eqb {a = a} {b = b} (same' (omega arith)))
+      (eq→eqb {a = a} {b = 0} (nought (omega arith))))
 
-lt-has : (x y : Float) (s t : Bool) (A B D p n q m : ℕ) → 0 < D → HasValue x s A D → HasValue y t B D → Signed s A p n → Signed t B q m → lt x y ≡ ltb (p + m) (q + n)
+lt-has : (x y : Float) (s t : Bool) (A B D p n q m : ℕ) → 0 < D → HasValue x s A D → HasValue y t B D → Signed s A p n → Signed t B q m
+    → lt x y ≡ ltb (p + m) (q + n)
 unfolding lt
 lt-has nan y s t A B D p n q m E h k i j = absurd h
 lt-has (inf u) y s t A B D p n q m E h k i j = absurd h
@@ -86,7 +91,8 @@ lt-has (fin u a e) (fin v b d) s t A B D p n q m E h k i j =
     (cross-l (a * up e) (down e) (down d) A D (h .1)) (cross-r (b * up d) (down e) (down d) B D (k .1)) u v
     (subst (λ (z : Bool). Signed z A p n) (sym (h .0)) i) (subst (λ (z : Bool). Signed z B q m) (sym (k .0)) j)
 
-eq-has : (x y : Float) (s t : Bool) (A B D p n q m : ℕ) → 0 < D → HasValue x s A D → HasValue y t B D → Signed s A p n → Signed t B q m → eq x y ≡ eqb (p + m) (q + n)
+eq-has : (x y : Float) (s t : Bool) (A B D p n q m : ℕ) → 0 < D → HasValue x s A D → HasValue y t B D → Signed s A p n → Signed t B q m
+    → eq x y ≡ eqb (p + m) (q + n)
 unfolding eq
 eq-has nan y s t A B D p n q m E h k i j = absurd h
 eq-has (inf u) y s t A B D p n q m E h k i j = absurd h
@@ -105,7 +111,8 @@ pub eq-val : {x y : Float} {p n q m D : ℕ} → 0 < D → Val x p n D → Val y
 eq-val {x} {y} {p} {n} {q} {m} {D} E v w = eq-has x y (v .sign) (w .sign) (v .size) (w .size) D p n q m E (v .has) (w .has) (v .is) (w .is)
 
 or-is : (a b : ℕ) → (ltb a b || eqb a b) ≡ leb a b
-or-is a b = same-test (ltb a b || eqb a b) (leb a b) (λ u. le→leb a b (split (ltb a b) (eqb a b) (ltb→lt a b) (eqb→eq a b) u)) (λ u. join (ltb a b) (nltb→le a b) (leb→le a b u))
+or-is a b = same-test (ltb a b || eqb a b) (leb a b) (λ u. le→leb a b (split (ltb a b) (eqb a b) (ltb→lt a b) (eqb→eq a b) u))
+    (λ u. join (ltb a b) (nltb→le a b) (leb→le a b u))
   where
     split : (x y : Bool) → (T x → a < b) → (T y → a ≡ b) → T (x || y) → a ≤ b
     split true y h k u = le-of-lt (h tt)
@@ -117,7 +124,8 @@ or-is a b = same-test (ltb a b || eqb a b) (leb a b) (λ u. le→leb a b (split 
 
 pub le-val : {x y : Float} {p n q m D : ℕ} → 0 < D → Val x p n D → Val y q m D → le x y ≡ leb (p + m) (q + n)
 unfolding le
-le-val {x} {y} {p} {n} {q} {m} E v w = ap (λ (b : Bool). b || eq x y) (lt-val E v w) ∙ ap (λ (b : Bool). ltb (p + m) (q + n) || b) (eq-val E v w) ∙ or-is (p + m) (q + n)
+le-val {x} {y} {p} {n} {q} {m} E v w = ap (λ (b : Bool). b || eq x y) (lt-val E v w) ∙ ap (λ (b : Bool). ltb (p + m) (q + n) || b) (eq-val E v w)
+    ∙ or-is (p + m) (q + n)
 
 module _ {x y : Float} {p n q m D : ℕ} (E : 0 < D) (v : Val x p n D) (w : Val y q m D) where
   -- ---- what a test says of the values

@@ -34,7 +34,8 @@ exact-has s c i k h g l = go (eq-or-lt-of-le l)
     below = omega arith
 
     go : (c ≡ 2 ^ 53) ⊎ (c < 2 ^ 53) → HasValue (round binary64 s (c * 2 ^ i) (2 ^ k)) s (c * 2 ^ i) (2 ^ k)
-    go (inr u) = round-exact binary64 s (c * 2 ^ i) (2 ^ k) c (i + (1074 - k)) (pow-pos k) u (lt-of-lt-of-le (shl-lt 53 (i + (1074 - k)) u) (pow-mono up-to)) (power c i k h)
+    go (inr u) = round-exact binary64 s (c * 2 ^ i) (2 ^ k) c (i + (1074 - k)) (pow-pos k) u (lt-of-lt-of-le (shl-lt 53 (i + (1074 - k)) u) (pow-mono up-to))
+        (power c i k h)
     go (inl e) =
         round-exact binary64 s (c * 2 ^ i) (2 ^ k) 1 (53 + i + (1074 - k)) (pow-pos k) (lit< tt)
         (lt-of-le-of-lt (le-of-eq (one-mul (2 ^ (53 + i + (1074 - k))))) (pow-lt below))
@@ -48,15 +49,18 @@ rounds-exact k {z} {p} {n} h u l r =
       size = r .size;
       has =
           subst (λ (x : Float). HasValue x (r .sign) (r .size) (2 ^ k)) (sym (r .eq))
-          (subst (λ (x : ℕ). HasValue (round binary64 (r .sign) x (2 ^ k)) (r .sign) x (2 ^ k)) (mul-one (r .size)) (exact-has (r .sign) (r .size) 0 k h (lit≤ tt) (signed-le (r .sign) (r .size) p n (2 ^ 53) (r .is) u l)));
+          (subst (λ (x : ℕ). HasValue (round binary64 (r .sign) x (2 ^ k)) (r .sign) x (2 ^ k)) (mul-one (r .size))
+          (exact-has (r .sign) (r .size) 0 k h (lit≤ tt) (signed-le (r .sign) (r .size) p n (2 ^ 53) (r .is) u l)));
       is = r .is;
     }
 
 -- ---- a multiple of 2 ^ i units: |p - n| ≤ 2 ^ 53 counts the multiples
 -- (p - n) / 2 ^ k + (q - m) / 2 ^ k
-pub add-exact : (k : ℕ) {x y : Float} {p n q m : ℕ} → k ≤ 1074 → p + q ≤ n + m + 2 ^ 53 → n + m ≤ p + q + 2 ^ 53 → Val x p n (2 ^ k) → Val y q m (2 ^ k) → Val (add binary64 x y) (p + q) (n + m) (2 ^ k)
+pub add-exact : (k : ℕ) {x y : Float} {p n q m : ℕ} → k ≤ 1074 → p + q ≤ n + m + 2 ^ 53 → n + m ≤ p + q + 2 ^ 53 → Val x p n (2 ^ k) → Val y q m (2 ^ k)
+    → Val (add binary64 x y) (p + q) (n + m) (2 ^ k)
 add-exact k h u l v w = rounds-exact k h u l (add-rounds binary64 (pow-pos k) v w)
 
 -- (p - n) / 2 ^ k - (q - m) / 2 ^ k
-pub sub-exact : (k : ℕ) {x y : Float} {p n q m : ℕ} → k ≤ 1074 → p + m ≤ n + q + 2 ^ 53 → n + q ≤ p + m + 2 ^ 53 → Val x p n (2 ^ k) → Val y q m (2 ^ k) → Val (sub binary64 x y) (p + m) (n + q) (2 ^ k)
+pub sub-exact : (k : ℕ) {x y : Float} {p n q m : ℕ} → k ≤ 1074 → p + m ≤ n + q + 2 ^ 53 → n + q ≤ p + m + 2 ^ 53 → Val x p n (2 ^ k) → Val y q m (2 ^ k)
+    → Val (sub binary64 x y) (p + m) (n + q) (2 ^ k)
 sub-exact k h u l v w = rounds-exact k h u l (sub-rounds binary64 (pow-pos k) v w)

@@ -1,6 +1,6 @@
--- The laws of f64 rounding over scaled whole numbers, in the order in which a reader needs them. specs/Value has what they are written in: `Val x p n d`, the float
--- x is finite and worth (p - n) / d; `Rounds f z p n d`, the float z is (p - n) / d rounded once; and L = 2 ^ 1074, so that 1 / L is the unit of f64.
--- To use them: turn each float into a `Val`, an operation into a `Rounds`, and that into what is wanted (exact, within bounds, near).
+-- The laws of f64 rounding over scaled whole numbers, in the order in which a reader needs them. specs/Value has what they are written in: `Val x p n d`, the
+-- float x is finite and worth (p - n) / d; `Rounds f z p n d`, the float z is (p - n) / d rounded once; and L = 2 ^ 1074, so that 1 / L is the unit of f64. To
+-- use them: turn each float into a `Val`, an operation into a `Rounds`, and that into what is wanted (exact, within bounds, near).
 
 -- Value: the value of a finite float, by any pair and over any denominator, and what each of add, sub, mul and div rounds; -x and |x| are exact.
 pub mod Value

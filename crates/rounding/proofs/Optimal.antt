@@ -3,7 +3,8 @@
 use mathlib.Core.Path.{_≡_, sym, ap, _∙_, subst}
 use mathlib.Core.Logic.{inl, inr}
 use Prim.Native.Nat.{ℕ, _+_, _-_, _*_, _/_, _^_, _≤_, _<_}
-use native.Mathlib.Nat.{le-trans, le-of-eq, le-of-lt, lt-of-lt-of-le, lt-of-le-of-lt, not-le-of-lt, eq-zero-or-pos, eq-or-lt-of-le, one-mul, div-one, mul-le-mul-right, add-mul, lt-of-mul-lt-mul-right}
+use native.Mathlib.Nat.{le-trans, le-of-eq, le-of-lt, lt-of-lt-of-le, lt-of-le-of-lt, not-le-of-lt, eq-zero-or-pos, eq-or-lt-of-le, one-mul, div-one}
+use native.Mathlib.Nat.{mul-le-mul-right, add-mul, lt-of-mul-lt-mul-right}
 use native.Mathlib.Omega.{arith}
 use mathlib.Core.Bool.{Bool, true, false, not}
 use lib.Dec.{T, leb, leb→le, nleb→lt, lit<}
@@ -24,7 +25,8 @@ step a = kept 53 a 1 * 2 ^ digitsDropped a
 
 -- off by at most a half of the last digit kept
 pub step-near : (a : ℕ) → Half (step a) a (2 ^ digitsDropped a)
-step-near a = subst (λ (u : ℕ). Half (closest a (1 * 2 ^ digitsDropped a) * u) a u) (one-mul (2 ^ digitsDropped a)) (closest-near a (1 * 2 ^ digitsDropped a) (subst (λ (u : ℕ). 0 < u) (sym (one-mul (2 ^ digitsDropped a))) (pow-pos (digitsDropped a))))
+step-near a = subst (λ (u : ℕ). Half (closest a (1 * 2 ^ digitsDropped a) * u) a u) (one-mul (2 ^ digitsDropped a))
+    (closest-near a (1 * 2 ^ digitsDropped a) (subst (λ (u : ℕ). 0 < u) (sym (one-mul (2 ^ digitsDropped a))) (pow-pos (digitsDropped a))))
 
 -- what the format holds is rounded to itself
 pub step-fix : (y : ℕ) → Rep y → step y ≡ y
@@ -46,7 +48,8 @@ multiple k y r h = go (leb k (r .j)) (leb→le k (r .j)) (nleb→lt k (r .j))
     go false f g = absurd (not-le-of-lt (low (g tt)) h)
 
 gap : (K d u : ℕ) → K * u < d * u → K * u + u ≤ d * u
-gap K d u h = le-trans (le-of-eq (ap (λ (x : ℕ). K * u + x) (sym (one-mul u)) ∙ sym (add-mul K 1 u))) (mul-le-mul-right u (more K d (lt-of-mul-lt-mul-right u h)))
+gap K d u h = le-trans (le-of-eq (ap (λ (x : ℕ). K * u + x) (sym (one-mul u)) ∙ sym (add-mul K 1 u)))
+    (mul-le-mul-right u (more K d (lt-of-mul-lt-mul-right u h)))
   where
     more : (x y : ℕ) → x < y → x + 1 ≤ y
     more x y l = omega arith
@@ -75,7 +78,11 @@ opt-over a y r h l = elim (eq-zero-or-pos (digitsDropped a)) [ inl e ↦ none (s
     some : 0 < digitsDropped a → 2 * a ≤ step a + y
     some k =
         let m = multiple (digitsDropped a) y r (le-trans (reaches a k) h) in
-        elim (eq-or-lt-of-le (le-trans l h)) [ inl e ↦ same (step a) e l h | inr g ↦ apart (step a) (2 ^ digitsDropped a) (step-near a .1) (le-trans (gap (kept 53 a 1) (m .0) (2 ^ digitsDropped a) (lt-of-lt-of-le g (le-of-eq (m .1)))) (le-of-eq (sym (m .1)))) ]
+        elim (eq-or-lt-of-le (le-trans l h)) [
+          | inl e ↦ same (step a) e l h
+          | inr g ↦ apart (step a) (2 ^ digitsDropped a) (step-near a .1)
+              (le-trans (gap (kept 53 a 1) (m .0) (2 ^ digitsDropped a) (lt-of-lt-of-le g (le-of-eq (m .1)))) (le-of-eq (sym (m .1))))
+        ]
       where
         same : (g : ℕ) → g ≡ y → g ≤ a → a ≤ y → 2 * a ≤ g + y
         same g e x z = omega arith
@@ -84,13 +91,21 @@ opt-over a y r h l = elim (eq-zero-or-pos (digitsDropped a)) [ inl e ↦ none (s
         apart g u x z = omega arith
 
 opt-under : (a y : ℕ) → Rep y → y ≤ a → a ≤ step a → step a + y ≤ 2 * a
-opt-under a y r h l = elim (eq-zero-or-pos (digitsDropped a)) [ inl e ↦ none (step a) (step-same a e) | inr k ↦ some k (leb (2 ^ (52 + digitsDropped a)) y) (leb→le (2 ^ (52 + digitsDropped a)) y) (nleb→lt (2 ^ (52 + digitsDropped a)) y) ]
+opt-under a y r h l = elim (eq-zero-or-pos (digitsDropped a)) [
+  | inl e ↦ none (step a) (step-same a e)
+  | inr k ↦ some k (leb (2 ^ (52 + digitsDropped a)) y) (leb→le (2 ^ (52 + digitsDropped a)) y)
+      (nleb→lt (2 ^ (52 + digitsDropped a)) y)
+]
   where
     none : (g : ℕ) → g ≡ a → g + y ≤ 2 * a
     none g e = omega arith
 
     below : (z d : ℕ) → z ≡ d * 2 ^ digitsDropped a → z ≤ a → step a + z ≤ 2 * a
-    below z d e b = elim (eq-or-lt-of-le (le-trans b l)) [ inl q ↦ same (step a) q | inr q ↦ apart (step a) (2 ^ digitsDropped a) (step-near a .0) (le-trans (le-of-eq (ap (λ (x : ℕ). x + 2 ^ digitsDropped a) e)) (gap d (kept 53 a 1) (2 ^ digitsDropped a) (lt-of-le-of-lt (le-of-eq (sym e)) q))) ]
+    below z d e b = elim (eq-or-lt-of-le (le-trans b l)) [
+      | inl q ↦ same (step a) q
+      | inr q ↦ apart (step a) (2 ^ digitsDropped a) (step-near a .0)
+          (le-trans (le-of-eq (ap (λ (x : ℕ). x + 2 ^ digitsDropped a) e)) (gap d (kept 53 a 1) (2 ^ digitsDropped a) (lt-of-le-of-lt (le-of-eq (sym e)) q)))
+    ]
       where
         same : (g : ℕ) → z ≡ g → g + z ≤ 2 * a
         same g q = omega arith
@@ -100,7 +115,8 @@ opt-under a y r h l = elim (eq-zero-or-pos (digitsDropped a)) [ inl e ↦ none (
 
     some : 0 < digitsDropped a → (b : Bool) → (T b → 2 ^ (52 + digitsDropped a) ≤ y) → (T (not b) → y < 2 ^ (52 + digitsDropped a)) → step a + y ≤ 2 * a
     some k true f g = let m = multiple (digitsDropped a) y r (f tt) in below y (m .0) (m .1) h
-    some k false f g = far (step a) (2 ^ (52 + digitsDropped a)) (below (2 ^ (52 + digitsDropped a)) (2 ^ 52) (pow-add 2 52 (digitsDropped a)) (reaches a k)) (g tt)
+    some k false f g = far (step a) (2 ^ (52 + digitsDropped a)) (below (2 ^ (52 + digitsDropped a)) (2 ^ 52) (pow-add 2 52 (digitsDropped a)) (reaches a k))
+        (g tt)
       where
         far : (s z : ℕ) → s + z ≤ 2 * a → y < z → s + y ≤ 2 * a
         far s z x w = omega arith
@@ -109,7 +125,8 @@ opt-under a y r h l = elim (eq-zero-or-pos (digitsDropped a)) [ inl e ↦ none (
 pub step-optimal : (a y : ℕ) → Rep y → (step a - a) + (a - step a) ≤ (y - a) + (a - y)
 step-optimal a y r = go (leb a y) (leb→le a y) (nleb→lt a y) (leb a (step a)) (leb→le a (step a)) (nleb→lt a (step a))
   where
-    go : (b : Bool) → (T b → a ≤ y) → (T (not b) → y < a) → (c : Bool) → (T c → a ≤ step a) → (T (not c) → step a < a) → (step a - a) + (a - step a) ≤ (y - a) + (a - y)
+    go : (b : Bool) → (T b → a ≤ y) → (T (not b) → y < a) → (c : Bool) → (T c → a ≤ step a) → (T (not c) → step a < a)
+        → (step a - a) + (a - step a) ≤ (y - a) + (a - y)
     go true f g true f' g' = fin (step a) (f tt) (f' tt) (le-trans (step-le a y (f tt)) (le-of-eq (step-fix y r)))
       where
         fin : (s : ℕ) → a ≤ y → a ≤ s → s ≤ y → (s - a) + (a - s) ≤ (y - a) + (a - y)

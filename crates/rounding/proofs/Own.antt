@@ -2,7 +2,8 @@
 -- value; `val-rep` and `val-small` say the same of a value that is at hand. Assumes nothing.
 use mathlib.Core.Path.{_≡_, refl, sym, ap, _∙_, subst}
 use Prim.Native.Nat.{ℕ, zero, suc, _+_, _-_, _*_, _%_, _^_, _≤_, _<_}
-use native.Mathlib.Nat.{lt-of-not-le, not-le-of-lt, le-of-suc-le-suc, mul-assoc, mul-one, zero-mul, lt-of-le-of-lt, lt-of-lt-of-le, le-of-eq, mul-right-comm, mul-pos, mul-lt-mul-of-pos-right, lt-of-mul-lt-mul-right}
+use native.Mathlib.Nat.{lt-of-not-le, not-le-of-lt, le-of-suc-le-suc, mul-assoc, mul-one, zero-mul, lt-of-le-of-lt, lt-of-lt-of-le, le-of-eq}
+use native.Mathlib.Nat.{mul-right-comm, mul-pos, mul-lt-mul-of-pos-right, lt-of-mul-lt-mul-right}
 use native.Mathlib.Omega.{arith}
 use mathlib.Core.Bool.{Bool, _&&_}
 use lib.IntN.{ℤ, pos, negsuc}
@@ -52,10 +53,18 @@ pow-back : (a b : ℕ) → 2 ^ a ≤ 2 ^ b → a ≤ b
 pow-back a b h = le-of-suc-le-suc (lt-of-not-le (λ (g : suc b ≤ a). not-le-of-lt (pow-lt g) h))
 
 has-pos : (s : Bool) (m k : ℕ) → HasValue (fin s m (pos k)) s (m * 2 ^ place (pos k)) L
-has-pos s m k = (refl, ap (λ (x : ℕ). m * 2 ^ k * x) L-is ∙ mul-assoc m (2 ^ k) (2 ^ 1074) ∙ ap (λ (x : ℕ). m * x) (sym (pow-add 2 k 1074)) ∙ sym (mul-one (m * 2 ^ (k + 1074))))
+has-pos s m k = (
+  refl,
+  ap (λ (x : ℕ). m * 2 ^ k * x) L-is ∙ mul-assoc m (2 ^ k) (2 ^ 1074) ∙ ap (λ (x : ℕ). m * x) (sym (pow-add 2 k 1074))
+      ∙ sym (mul-one (m * 2 ^ (k + 1074))),
+)
 
 has-neg : (s : Bool) (m k : ℕ) → suc k ≤ 1074 → HasValue (fin s m (negsuc k)) s (m * 2 ^ place (negsuc k)) L
-has-neg s m k h = (refl, ap (λ (x : ℕ). x * L) (mul-one m) ∙ ap (λ (x : ℕ). m * x) (L-is ∙ ap (λ (x : ℕ). 2 ^ x) (parts h) ∙ pow-add 2 (1074 - suc k) (suc k)) ∙ sym (mul-assoc m (2 ^ (1074 - suc k)) (2 ^ suc k)))
+has-neg s m k h = (
+  refl,
+  ap (λ (x : ℕ). x * L) (mul-one m) ∙ ap (λ (x : ℕ). m * x) (L-is ∙ ap (λ (x : ℕ). 2 ^ x) (parts h) ∙ pow-add 2 (1074 - suc k) (suc k))
+      ∙ sym (mul-assoc m (2 ^ (1074 - suc k)) (2 ^ suc k)),
+)
   where
     parts : suc k ≤ 1074 → 1074 ≡ 1074 - suc k + suc k
     parts l = omega arith
@@ -69,13 +78,15 @@ module _ (m : ℕ) (e : ℤ) (f : T (eqb (suc m % 2) 1 && ltb (suc m) (2 ^ 53) &
   three = and-l (eqb (suc m % 2) 1 && ltb (suc m) (2 ^ 53) && leb (down e) (2 ^ 1074)) (ltb (suc m * up e) (2 ^ 1024 * down e)) f
 
   few : suc m < 2 ^ 53
-  few = ltb→lt (suc m) (2 ^ 53) (and-r (eqb (suc m % 2) 1) (ltb (suc m) (2 ^ 53)) (and-l (eqb (suc m % 2) 1 && ltb (suc m) (2 ^ 53)) (leb (down e) (2 ^ 1074)) three))
+  few = ltb→lt (suc m) (2 ^ 53) (and-r (eqb (suc m % 2) 1) (ltb (suc m) (2 ^ 53))
+      (and-l (eqb (suc m % 2) 1 && ltb (suc m) (2 ^ 53)) (leb (down e) (2 ^ 1074)) three))
 
   deep : down e ≤ 2 ^ 1074
   deep = leb→le (down e) (2 ^ 1074) (and-r (eqb (suc m % 2) 1 && ltb (suc m) (2 ^ 53)) (leb (down e) (2 ^ 1074)) three)
 
   high : suc m * up e < 2 ^ 1024 * down e
-  high = ltb→lt (suc m * up e) (2 ^ 1024 * down e) (and-r (eqb (suc m % 2) 1 && ltb (suc m) (2 ^ 53) && leb (down e) (2 ^ 1074)) (ltb (suc m * up e) (2 ^ 1024 * down e)) f)
+  high = ltb→lt (suc m * up e) (2 ^ 1024 * down e)
+      (and-r (eqb (suc m % 2) 1 && ltb (suc m) (2 ^ 53) && leb (down e) (2 ^ 1074)) (ltb (suc m * up e) (2 ^ 1024 * down e)) f)
 
 -- a finite float that fits has its value, in units
 pub own : (x : Float) → T (fits binary64 x) → T (finite x) → Own x
@@ -83,7 +94,14 @@ unfolding fits
 own nan f t = absurd t
 own (inf s) f t = absurd t
 own (fin s zero e) f t = record { sign = s; size = 0 * 2 ^ 0; has = has-zero s e; rep = record { q = 0; j = 0; is = refl; small = pow-pos 53 } }
-own (fin s (suc m) (pos k)) f t = record { sign = s; size = suc m * 2 ^ place (pos k); has = has-pos s (suc m) k; rep = record { q = suc m; j = place (pos k); is = refl; small = few m (pos k) f } }
+own (fin s (suc m) (pos k)) f t =
+    record {
+      sign = s;
+      size = suc m * 2 ^ place (pos k);
+      has = has-pos s (suc m) k;
+      rep =
+          record { q = suc m; j = place (pos k); is = refl; small = few m (pos k) f };
+    }
 own (fin s (suc m) (negsuc k)) f t = record {
   sign = s;
   size = suc m * 2 ^ place (negsuc k);
@@ -108,13 +126,15 @@ top-is = refl
 
 below-top : (a c d : ℕ) → 0 < d → c < 2 ^ 1024 * d → c * L ≡ a * d → a < 2 ^ 2098
 below-top a c d D h e =
-    lt-of-lt-of-le (lt-of-mul-lt-mul-right d (lt-of-le-of-lt (le-of-eq (sym e)) (lt-of-lt-of-le (mul-lt-mul-of-pos-right h L-pos) (le-of-eq (mul-right-comm (2 ^ 1024) d L))))) (le-of-eq top-is)
+    lt-of-lt-of-le (lt-of-mul-lt-mul-right d
+    (lt-of-le-of-lt (le-of-eq (sym e)) (lt-of-lt-of-le (mul-lt-mul-of-pos-right h L-pos) (le-of-eq (mul-right-comm (2 ^ 1024) d L))))) (le-of-eq top-is)
 
 pub has-small : (x : Float) (s : Bool) (a : ℕ) → T (fits binary64 x) → HasValue x s a L → a < 2 ^ 2098
 unfolding fits
 has-small nan s a f h = absurd h
 has-small (inf t) s a f h = absurd h
-has-small (fin t zero e) s a f h = below-top a (0 * up e) (down e) (down-pos e) (lt-of-le-of-lt (le-of-eq (zero-mul (up e))) (mul-pos (pow-pos 1024) (down-pos e))) (h .1)
+has-small (fin t zero e) s a f h =
+    below-top a (0 * up e) (down e) (down-pos e) (lt-of-le-of-lt (le-of-eq (zero-mul (up e))) (mul-pos (pow-pos 1024) (down-pos e))) (h .1)
 has-small (fin t (suc m) e) s a f h = below-top a (suc m * up e) (down e) (down-pos e) (high m e f) (h .1)
 
 -- |p - n| is below 2 ^ 2098 units: a finite f64 is below 2 ^ 1024

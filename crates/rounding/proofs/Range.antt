@@ -1,5 +1,5 @@
--- From a test on a float to bounds on its value: -2 ^ k < x < 2 ^ k (`between`), |x| ≤ c and |x| < c for a float c (`size-at-most`, `below`). Each shows that x is
--- finite, so that no NaN and no infinity passes. Assumes nothing.
+-- From a test on a float to bounds on its value: -2 ^ k < x < 2 ^ k (`between`), |x| ≤ c and |x| < c for a float c (`size-at-most`, `below`). Each shows that x
+-- is finite, so that no NaN and no infinity passes. Assumes nothing.
 use mathlib.Core.Path.{_≡_, refl}
 use Prim.Native.Nat.{ℕ, _+_, _*_, _^_, _≤_, _<_}
 use native.Mathlib.Nat.{mul-one, one-mul}

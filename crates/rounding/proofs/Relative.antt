@@ -29,16 +29,23 @@ pub grid-step : (a : ℕ) → grid binary64 a L ≡ step a
 grid-step a =
     ap (λ (k : ℕ). closest (a * 2 ^ 1074) (L * 2 ^ k) * 2 ^ k) (drop-same a)
     ∙ ap (λ (x : ℕ). x * 2 ^ digitsDropped a)
-    (closest-same (a * 2 ^ 1074) (L * 2 ^ digitsDropped a) a (1 * 2 ^ digitsDropped a) (mul-pos L-pos (pow-pos (digitsDropped a))) (mul-pos (lit< tt) (pow-pos (digitsDropped a)))
+    (closest-same (a * 2 ^ 1074) (L * 2 ^ digitsDropped a) a (1 * 2 ^ digitsDropped a) (mul-pos L-pos (pow-pos (digitsDropped a)))
+    (mul-pos (lit< tt) (pow-pos (digitsDropped a)))
     (sym (mul-assoc (a * 2 ^ 1074) 1 (2 ^ digitsDropped a)) ∙ ap (λ (x : ℕ). x * 2 ^ digitsDropped a) (cross a) ∙ mul-assoc a L (2 ^ digitsDropped a)))
 
 -- a whole number of units, rounded, is `step` units
 pub step-has : (s : Bool) (a : ℕ) → step a < 2 ^ 2098 → HasValue (round binary64 s a L) s (step a) L
-step-has s a h = subst (λ (x : ℕ). HasValue (round binary64 s a L) s x L) (grid-step a) (subst (λ (x : ℕ). HasValue (round binary64 s a L) s (grid binary64 a L) x) (sym L-is) (round-has binary64 s a L (lt-of-le-of-lt (le-of-eq (grid-step a)) h)))
+step-has s a h = subst (λ (x : ℕ). HasValue (round binary64 s a L) s x L) (grid-step a)
+    (subst (λ (x : ℕ). HasValue (round binary64 s a L) s (grid binary64 a L) x) (sym L-is)
+    (round-has binary64 s a L (lt-of-le-of-lt (le-of-eq (grid-step a)) h)))
 
 -- |step a - a| ≤ 2 ^ -53 * a
 pub step-relative : (a : ℕ) → (2 ^ 53 * step a ≤ 2 ^ 53 * a + a) × (2 ^ 53 * a ≤ 2 ^ 53 * step a + a)
-step-relative a = elim (eq-zero-or-pos (digitsDropped a)) [ inl e ↦ none (step a) (step-same a e) | inr k ↦ some (step a) (2 ^ digitsDropped a) (step-near a) (le-trans (le-of-eq (sym (pow-add 2 52 (digitsDropped a)))) (reaches a k)) ]
+step-relative a = elim (eq-zero-or-pos (digitsDropped a)) [
+  | inl e ↦ none (step a) (step-same a e)
+  | inr k ↦ some (step a) (2 ^ digitsDropped a) (step-near a)
+      (le-trans (le-of-eq (sym (pow-add 2 52 (digitsDropped a)))) (reaches a k))
+]
   where
     none : (g : ℕ) → g ≡ a → (2 ^ 53 * g ≤ 2 ^ 53 * a + a) × (2 ^ 53 * a ≤ 2 ^ 53 * g + a)
     none g e = omega arith

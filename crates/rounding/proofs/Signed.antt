@@ -1,5 +1,5 @@
--- A size with a sign as a difference p - n of natural numbers: `Signed s a p n`, and the size |p - n| of a pair. `omega` splits each `-` into cases and takes no
--- more than six, so these laws take |p - n| away before it is called. Assumes nothing.
+-- A size with a sign as a difference p - n of natural numbers: `Signed s a p n`, and the size |p - n| of a pair. `omega` splits each `-` into cases and takes
+-- no more than six, so these laws take |p - n| away before it is called. Assumes nothing.
 use mathlib.Core.Path.{_≡_, sym, ap, _∙_}
 use Prim.Native.Nat.{ℕ, _+_, _-_, _*_, _≤_, _<_}
 use native.Mathlib.Nat.{le-trans, le-of-eq, le-of-lt, le-refl, mul-le-mul, mul-add, add-mul, add-zero}

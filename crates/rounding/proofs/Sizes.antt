@@ -3,7 +3,8 @@
 use mathlib.Core.Path.{_≡_, refl, ap, sym, subst, _∙_}
 use mathlib.Core.Bool.{true, false}
 use Prim.Native.Nat.{ℕ, _+_, _*_, _^_, _≤_, _<_}
-use native.Mathlib.Nat.{le-trans, le-of-eq, mul-le-mul-right, mul-le-mul, le-refl, add-mul, mul-assoc, mul-comm, mul-left-comm, mul-pos, one-mul, zero-mul, lt-of-le-of-lt}
+use native.Mathlib.Nat.{le-trans, le-of-eq, mul-le-mul-right, mul-le-mul, le-refl, add-mul, mul-assoc, mul-comm, mul-left-comm, mul-pos, one-mul}
+use native.Mathlib.Nat.{zero-mul, lt-of-le-of-lt}
 use lib.Pow.{pow-add}
 use native.Mathlib.Omega.{arith}
 use lib.Dec.{T, lit<}
@@ -119,7 +120,9 @@ over a b = omega arith
 -- n / d, rounded, where n / d ≤ 2 ^ k
 pub decimal-size : (k n d : ℕ) → 0 < d → 2 ^ k ≤ 2 ^ 1000 → n ≤ 2 ^ k * d → Size (round binary64 false n d) k
 decimal-size k n d e b h =
-    rounds-within {N = 0} e (power-rep k) (power-small k b) (le-trans (mul-le-mul-right L h) (le-trans (le-of-eq (turn (2 ^ k) d L)) (over (0 * L) (2 ^ k * L * d)))) (le-trans (le-of-eq (zero-mul L)) (none (n * L + 2 ^ k * L * d)))
+    rounds-within {N = 0} e (power-rep k) (power-small k b)
+    (le-trans (mul-le-mul-right L h) (le-trans (le-of-eq (turn (2 ^ k) d L)) (over (0 * L) (2 ^ k * L * d))))
+    (le-trans (le-of-eq (zero-mul L)) (none (n * L + 2 ^ k * L * d)))
     (record { sign = false; size = n; eq = refl; is = omega arith })
 
 -- 2 ^ k itself

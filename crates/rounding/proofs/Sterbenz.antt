@@ -22,7 +22,13 @@ rep-has s a r h =
 
 -- |P - N| units are what the format holds, so that (P - N) / L is rounded to itself
 pub rounds-rep : {z : Float} {P N : ℕ} (r : Rounds binary64 z P N L) → Rep (r .size) → r .size < 2 ^ 2098 → Val z P N L
-rounds-rep {z} r k h = record { sign = r .sign; size = r .size; has = subst (λ (x : Float). HasValue x (r .sign) (r .size) L) (sym (r .eq)) (rep-has (r .sign) (r .size) k h); is = r .is }
+rounds-rep {z} r k h = record {
+  sign = r .sign;
+  size = r .size;
+  has =
+      subst (λ (x : Float). HasValue x (r .sign) (r .size) L) (sym (r .eq)) (rep-has (r .sign) (r .size) k h);
+  is = r .is;
+}
 
 -- ---- the difference of two values that are close
 -- x - y units, for x at most twice y
@@ -33,7 +39,12 @@ rep-diff x y r s h = go (leb (r .j) (s .j)) (leb→le (r .j) (s .j)) (nleb→lt 
     go true f g =
         let Y = s .q * 2 ^ (s .j - r .j) in
         let e : y ≡ Y * 2 ^ r .j = s .is ∙ lift (s .q) (r .j) (s .j) (f tt) in
-        record { q = r .q - Y; j = r .j; is = ap (λ (z : ℕ). z - y) (r .is) ∙ ap (λ (z : ℕ). r .q * 2 ^ r .j - z) e ∙ sym (sub-mul (r .q) Y (2 ^ r .j)); small = less (r .q) Y (r .small) }
+        record {
+          q = r .q - Y;
+          j = r .j;
+          is = ap (λ (z : ℕ). z - y) (r .is) ∙ ap (λ (z : ℕ). r .q * 2 ^ r .j - z) e ∙ sym (sub-mul (r .q) Y (2 ^ r .j));
+          small = less (r .q) Y (r .small);
+        }
       where
         less : (q Y : ℕ) → q < 2 ^ 53 → q - Y < 2 ^ 53
         less q Y l = omega arith
@@ -41,7 +52,8 @@ rep-diff x y r s h = go (leb (r .j) (s .j)) (leb→le (r .j) (s .j)) (nleb→lt 
         let X = r .q * 2 ^ (r .j - s .j) in
         let e : x ≡ X * 2 ^ s .j = r .is ∙ lift (r .q) (s .j) (r .j) (weak (s .j) (r .j) (g tt)) in
         let d : x - y ≡ (X - s .q) * 2 ^ s .j = ap (λ (z : ℕ). z - y) e ∙ ap (λ (z : ℕ). X * 2 ^ s .j - z) (s .is) ∙ sym (sub-mul X (s .q) (2 ^ s .j)) in
-        let l : X - s .q ≤ s .q = le-of-mul-le-mul-right {k = 2 ^ s .j} (le-trans (le-of-eq (sym d)) (le-trans (half x y h) (le-of-eq (s .is)))) (pow-pos (s .j)) in
+        let l : X - s .q ≤ s .q = le-of-mul-le-mul-right {k = 2 ^ s .j} (le-trans (le-of-eq (sym d)) (le-trans (half x y h) (le-of-eq (s .is))))
+        (pow-pos (s .j)) in
         record { q = X - s .q; j = s .j; is = d; small = lt-of-le-of-lt l (s .small) }
       where
         weak : (i j : ℕ) → i < j → i ≤ j

@@ -1,5 +1,5 @@
--- Knuth's two-sum over pairs of natural numbers, in units of 2 ^ -1074: with |b| ≤ |a| the rounded sum less a is a value (`dekker`), and two-sum's sum and error add
--- up to the parts (`two-sum`). TwoSumFloat and Compensated say it of floats. Assumes nothing.
+-- Knuth's two-sum over pairs of natural numbers, in units of 2 ^ -1074: with |b| ≤ |a| the rounded sum less a is a value (`dekker`), and two-sum's sum and
+-- error add up to the parts (`two-sum`). TwoSumFloat and Compensated say it of floats. Assumes nothing.
 use mathlib.Core.Path.{_≡_, refl, sym, ap, _∙_, subst}
 use mathlib.Core.Logic.{_⊎_, inl, inr}
 use Prim.Native.Nat.{ℕ, zero, suc, _+_, _*_, _^_, _≤_, _<_}
@@ -18,7 +18,13 @@ use Rattle.rounding.proofs.Nearest.{RN, rn-rep, rn-exact, error-size, r
 
 -- ---- Dekker
 rep-double : (x : ℕ) → Rep x → Rep (2 * x)
-rep-double x r = record { q = r .q; j = 1 + r .j; is = ap (λ (z : ℕ). 2 * z) (r .is) ∙ two (r .q) (2 ^ r .j) ∙ ap (λ (z : ℕ). r .q * z) (sym (pow-add 2 1 (r .j))); small = r .small }
+rep-double x r = record {
+  q = r .q;
+  j = 1 + r .j;
+  is = ap (λ (z : ℕ). 2 * z) (r .is) ∙ two (r .q) (2 ^ r .j)
+      ∙ ap (λ (z : ℕ). r .q * z) (sym (pow-add 2 1 (r .j)));
+  small = r .small;
+}
   where
     two : (q t : ℕ) → 2 * (q * t) ≡ q * (2 * t)
     two q t = mul-left-comm 2 q t
@@ -29,17 +35,23 @@ halves x r = go (r .j) refl
   where
     go : (j : ℕ) → r .j ≡ j → (x < 2 ^ 53) ⊎ ((h : ℕ) × (x ≡ 2 * h) × Rep h)
     go zero e = inl (lt-of-le-of-lt (le-of-eq (r .is ∙ ap (λ (z : ℕ). r .q * 2 ^ z) e ∙ mul-one (r .q))) (r .small))
-    go (suc j) e = inr (r .q * 2 ^ j, r .is ∙ ap (λ (z : ℕ). r .q * 2 ^ z) e ∙ ap (λ (z : ℕ). r .q * z) (pow-succ' 2 j) ∙ mul-left-comm (r .q) 2 (2 ^ j), record { q = r .q; j = j; is = refl; small = r .small })
+    go (suc j) e = inr (
+      r .q * 2 ^ j,
+      r .is ∙ ap (λ (z : ℕ). r .q * 2 ^ z) e ∙ ap (λ (z : ℕ). r .q * z) (pow-succ' 2 j) ∙ mul-left-comm (r .q) 2 (2 ^ j),
+      record { q = r .q; j = j; is = refl; small = r .small },
+    )
 
 rep-small : (x : ℕ) → x < 2 ^ 53 → Rep x
 rep-small x h = record { q = x; j = 0; is = sym (mul-one x); small = h }
 
-module _ (ap' an bp bn sp sn : ℕ) (ra : Rep (dist ap' an)) (rb : Rep (dist bp bn)) (r : RN (ap' + bp) (an + bn) sp sn) (A B : ℕ) (eA : A ≡ dist ap' an) (eB : B ≡ dist bp bn) (small : B ≤ A) (a0 : A + an ≡ ap') where
+module _ (ap' an bp bn sp sn : ℕ) (ra : Rep (dist ap' an)) (rb : Rep (dist bp bn)) (r : RN (ap' + bp) (an + bn) sp sn) (A B : ℕ) (eA : A ≡ dist ap' an)
+    (eB : B ≡ dist bp bn) (small : B ≤ A) (a0 : A + an ≡ ap') where
   -- both signs alike
   alike : B + bn ≡ bp → Rep (dist (sp + an) (sn + ap'))
   alike b0 =
       let g : ap' + sn ≤ sp + an = rn-ge ap' an ra r (omega arith) in
-      let two : Rep (dist (ap' + ap') (an + an)) = subst Rep (sym (dist-shift (ap' + ap') (an + an) (2 * A) 0 (omega arith) ∙ dist-zero (2 * A))) (rep-double A (subst Rep (sym eA) ra)) in
+      let two : Rep (dist (ap' + ap') (an + an)) =
+      subst Rep (sym (dist-shift (ap' + ap') (an + an) (2 * A) 0 (omega arith) ∙ dist-zero (2 * A))) (rep-double A (subst Rep (sym eA) ra)) in
       let l : sp + (an + an) ≤ ap' + ap' + sn = rn-le (ap' + ap') (an + an) two r (omega arith) in
       sum-rep sp sn an ap' (rn-rep r) (rep-flip ap' an ra)
       (dist-le (sp + an) (sn + ap') (dist sp sn) (one (dist sp sn) (dist-up sp sn .0)) (two' (dist sp sn) g))
@@ -85,7 +97,8 @@ module _ (ap' an bp bn sp sn : ℕ) (ra : Rep (dist ap' an)) (rb : Rep (dist bp 
           plus d h = omega arith
 
       far : A < 2 * B + 1 → Rep (dist (sp + an) (sn + ap'))
-      far h = exact (sum-rep ap' an bp bn ra rb (le-trans (le1 (dist (ap' + bp) (an + bn)) size-is) (le-of-eq eA)) (le-trans (le2 (dist (ap' + bp) (an + bn)) size-is) (le-of-eq eB)))
+      far h = exact (sum-rep ap' an bp bn ra rb (le-trans (le1 (dist (ap' + bp) (an + bn)) size-is) (le-of-eq eA))
+          (le-trans (le2 (dist (ap' + bp) (an + bn)) size-is) (le-of-eq eB)))
         where
           le1 : (d : ℕ) → d + B ≡ A → d ≤ A
           le1 d e = omega arith
@@ -109,7 +122,8 @@ module _ (ap' an bp bn sp sn : ℕ) (ra : Rep (dist ap' an)) (rb : Rep (dist bp 
           no x e l = omega (arith, s0)
 
       go : (b : Bool) → (T b → A ≤ 2 * S) → (T (not b) → 2 * S < A) → Rep (dist (sp + an) (sn + ap'))
-      go true f g = sum-rep sp sn an ap' (rn-rep r) (rep-flip ap' an ra) (dist-le (sp + an) (sn + ap') S (up S under) (one S s0 (f tt))) (dist-le (sp + an) (sn + ap') (dist an ap') (up (dist an ap') under) (two (dist an ap') (dist-up an ap' .1)))
+      go true f g = sum-rep sp sn an ap' (rn-rep r) (rep-flip ap' an ra) (dist-le (sp + an) (sn + ap') S (up S under) (one S s0 (f tt)))
+          (dist-le (sp + an) (sn + ap') (dist an ap') (up (dist an ap') under) (two (dist an ap') (dist-up an ap' .1)))
         where
           up : (K : ℕ) → sp + an ≤ ap' + sn → sp + an ≤ sn + ap' + K
           up K h = omega arith
@@ -128,7 +142,8 @@ module _ (ap' an bp bn sp sn : ℕ) (ra : Rep (dist ap' an)) (rb : Rep (dist bp 
               pick true f g = inr (let h : y ≤ x = f tt in omega arith)
               pick false f g = inl (g tt)
 
-dekker-up : (ap' an bp bn sp sn : ℕ) → Rep (dist ap' an) → Rep (dist bp bn) → RN (ap' + bp) (an + bn) sp sn → dist bp bn ≤ dist ap' an → an ≤ ap' → Rep (dist (sp + an) (sn + ap'))
+dekker-up : (ap' an bp bn sp sn : ℕ) → Rep (dist ap' an) → Rep (dist bp bn) → RN (ap' + bp) (an + bn) sp sn → dist bp bn ≤ dist ap' an → an ≤ ap'
+    → Rep (dist (sp + an) (sn + ap'))
 dekker-up ap' an bp bn sp sn ra rb r h l = go (leb bn bp) (leb→le bn bp) (nleb→lt bn bp)
   where
     go : (b : Bool) → (T b → bn ≤ bp) → (T (not b) → bp < bn) → Rep (dist (sp + an) (sn + ap'))
@@ -136,22 +151,27 @@ dekker-up ap' an bp bn sp sn ra rb r h l = go (leb bn bp) (leb→le bn bp) (nleb
     go false f g = unlike ap' an bp bn sp sn ra rb r (dist ap' an) (dist bp bn) refl refl h (dist-hi ap' an l) (dist-lo bp bn (le-of-lt (g tt)))
 
 -- |b| ≤ |a|: the rounded sum less a is a value
-pub dekker : (ap' an bp bn sp sn : ℕ) → Rep (dist ap' an) → Rep (dist bp bn) → RN (ap' + bp) (an + bn) sp sn → dist bp bn ≤ dist ap' an → Rep (dist (sp + an) (sn + ap'))
+pub dekker : (ap' an bp bn sp sn : ℕ) → Rep (dist ap' an) → Rep (dist bp bn) → RN (ap' + bp) (an + bn) sp sn → dist bp bn ≤ dist ap' an
+    → Rep (dist (sp + an) (sn + ap'))
 dekker ap' an bp bn sp sn ra rb r h = go (leb an ap') (leb→le an ap') (nleb→lt an ap')
   where
     go : (b : Bool) → (T b → an ≤ ap') → (T (not b) → ap' < an) → Rep (dist (sp + an) (sn + ap'))
     go true f g = dekker-up ap' an bp bn sp sn ra rb r h (f tt)
     go false f g =
         rep-flip (sn + ap') (sp + an)
-        (dekker-up an ap' bn bp sn sp (rep-flip ap' an ra) (rep-flip bp bn rb) (rn-neg r) (le-trans (le-of-eq (dist-flip bn bp)) (le-trans h (le-of-eq (dist-flip ap' an)))) (le-of-lt (g tt)))
+        (dekker-up an ap' bn bp sn sp (rep-flip ap' an ra) (rep-flip bp bn rb) (rn-neg r)
+        (le-trans (le-of-eq (dist-flip bn bp)) (le-trans h (le-of-eq (dist-flip ap' an)))) (le-of-lt (g tt)))
 
 -- the size of what is rounded: no less than a value that is no more
 rn-size : {P N p n : ℕ} (x : ℕ) → Rep x → RN P N p n → x ≤ dist P N → x ≤ dist p n
 rn-size {P} {N} {p} {n} x f r h =
-    le-trans (le-of-eq (sym (step-fix x f))) (le-trans (step-le x (r .size) (le-trans h (le-of-eq (signed-dist (r .sign) (r .size) P N (r .is))))) (le-of-eq (sym (signed-dist (r .sign) (step (r .size)) p n (r .to)))))
+    le-trans (le-of-eq (sym (step-fix x f)))
+    (le-trans (step-le x (r .size) (le-trans h (le-of-eq (signed-dist (r .sign) (r .size) P N (r .is)))))
+    (le-of-eq (sym (signed-dist (r .sign) (step (r .size)) p n (r .to)))))
 
 -- ---- two-sum
-module _ (ap' an bp bn sp sn vp vn wp wn cp cn dp dn ep en : ℕ) (ra : Rep (dist ap' an)) (rb : Rep (dist bp bn)) (rs : RN (ap' + bp) (an + bn) sp sn) (rv : RN (sp + an) (sn + ap') vp vn)
+module _ (ap' an bp bn sp sn vp vn wp wn cp cn dp dn ep en : ℕ) (ra : Rep (dist ap' an)) (rb : Rep (dist bp bn)) (rs : RN (ap' + bp) (an + bn) sp sn)
+    (rv : RN (sp + an) (sn + ap') vp vn)
     (rw' : RN (sp + vn) (sn + vp) wp wn) (rc : RN (ap' + wn) (an + wp) cp cn) (rd : RN (bp + vn) (bn + vp) dp dn) (re : RN (cp + dp) (cn + dn) ep en) where
   error : Rep (dist (ap' + bp + sn) (an + bn + sp))
   error = error-rep ap' an bp bn sp sn ra rb rs
@@ -162,19 +182,24 @@ module _ (ap' an bp bn sp sn vp vn wp wn cp cn dp dn ep en : ℕ) (ra : Rep (dis
       let e1 : sp + an + vn ≡ vp + (sn + ap') = rn-exact f rv in
       let e2 : sp + vn + wn ≡ wp + (sn + vp) = rn-exact (subst Rep (sym (dist-shift (sp + vn) (sn + vp) ap' an (omega arith))) ra) rw' in
       let e3 : ap' + wn + cn ≡ cp + (an + wp) = rn-exact (subst Rep (sym (dist-shift (ap' + wn) (an + wp) 0 0 (omega arith))) rep-zero) rc in
-      let e4 : bp + vn + dn ≡ dp + (bn + vp) = rn-exact (subst Rep (sym (dist-shift (bp + vn) (bn + vp) (ap' + bp + sn) (an + bn + sp) (omega arith))) error) rd in
-      let e5 : cp + dp + en ≡ ep + (cn + dn) = rn-exact (subst Rep (sym (dist-shift (cp + dp) (cn + dn) (ap' + bp + sn) (an + bn + sp) (omega arith))) error) re in
+      let e4 : bp + vn + dn ≡ dp + (bn + vp) =
+      rn-exact (subst Rep (sym (dist-shift (bp + vn) (bn + vp) (ap' + bp + sn) (an + bn + sp) (omega arith))) error) rd in
+      let e5 : cp + dp + en ≡ ep + (cn + dn) =
+      rn-exact (subst Rep (sym (dist-shift (cp + dp) (cn + dn) (ap' + bp + sn) (an + bn + sp) (omega arith))) error) re in
       omega arith
 
   -- |a| ≤ |s|, |a| ≤ |b|
   from-large : dist ap' an ≤ dist sp sn → dist ap' an ≤ dist bp bn → sp + ep + (an + bn) ≡ sn + en + (ap' + bp)
   from-large h k =
       let e2 : sp + vn + wn ≡ wp + (sn + vp) =
-      rn-exact (subst Rep (sym (dist-shift (sp + vn) (sn + vp) (vn + sp) (vp + sn) (omega arith))) (rep-flip (vp + sn) (vn + sp) (dekker sp sn an ap' vp vn (rn-rep rs) (rep-flip ap' an ra) rv (le-trans (le-of-eq (dist-flip an ap')) h)))) rw' in
+      rn-exact (subst Rep (sym (dist-shift (sp + vn) (sn + vp) (vn + sp) (vp + sn) (omega arith)))
+      (rep-flip (vp + sn) (vn + sp) (dekker sp sn an ap' vp vn (rn-rep rs) (rep-flip ap' an ra) rv (le-trans (le-of-eq (dist-flip an ap')) h)))) rw' in
       let e3 : ap' + wn + cn ≡ cp + (an + wp) =
-      rn-exact (subst Rep (sym (dist-shift (ap' + wn) (an + wp) (sn + ap' + vp) (sp + an + vn) (omega arith))) (rep-flip (sp + an + vn) (sn + ap' + vp) (error-rep sp sn an ap' vp vn (rn-rep rs) (rep-flip ap' an ra) rv))) rc in
+      rn-exact (subst Rep (sym (dist-shift (ap' + wn) (an + wp) (sn + ap' + vp) (sp + an + vn) (omega arith)))
+      (rep-flip (sp + an + vn) (sn + ap' + vp) (error-rep sp sn an ap' vp vn (rn-rep rs) (rep-flip ap' an ra) rv))) rc in
       let e4 : bp + vn + dn ≡ dp + (bn + vp) = rn-exact (sum-rep bp bn vn vp rb (rep-flip vp vn (rn-rep rv)) (near .0) (near .1)) rd in
-      let e5 : cp + dp + en ≡ ep + (cn + dn) = rn-exact (subst Rep (sym (dist-shift (cp + dp) (cn + dn) (ap' + bp + sn) (an + bn + sp) (omega arith))) error) re in
+      let e5 : cp + dp + en ≡ ep + (cn + dn) =
+      rn-exact (subst Rep (sym (dist-shift (cp + dp) (cn + dn) (ap' + bp + sn) (an + bn + sp) (omega arith))) error) re in
       omega arith
     where
       D : ℕ
@@ -182,18 +207,22 @@ module _ (ap' an bp bn sp sn vp vn wp wn cp cn dp dn ep en : ℕ) (ra : Rep (dis
 
       -- the error of s - a is no more than that of s, since b is a value
       first : dist (sp + an + vn) (sn + ap' + vp) ≤ D
-      first = le-trans (rn-opt bp bn rb rv) (le-of-eq (dist-shift (sp + an + bn) (sn + ap' + bp) (an + bn + sp) (ap' + bp + sn) (omega arith) ∙ dist-flip (an + bn + sp) (ap' + bp + sn)))
+      first = le-trans (rn-opt bp bn rb rv)
+          (le-of-eq (dist-shift (sp + an + bn) (sn + ap' + bp) (an + bn + sp) (ap' + bp + sn) (omega arith) ∙ dist-flip (an + bn + sp) (ap' + bp + sn)))
 
       -- and that is at most 2 ^ -53 of |a + b|
       second : 2 ^ 53 * D ≤ dist (ap' + bp) (an + bn)
-      second = le-trans (le-of-eq (ap (λ (z : ℕ). 2 ^ 53 * z) (error-size (rs .sign) (rs .size) (step (rs .size)) (ap' + bp) (an + bn) sp sn (rs .is) (rs .to))))
-          (le-trans (part (rs .size) (step (rs .size)) (step-relative (rs .size) .0) (step-relative (rs .size) .1)) (le-of-eq (sym (signed-dist (rs .sign) (rs .size) (ap' + bp) (an + bn) (rs .is)))))
+      second = le-trans (le-of-eq (ap (λ (z : ℕ). 2 ^ 53 * z)
+          (error-size (rs .sign) (rs .size) (step (rs .size)) (ap' + bp) (an + bn) sp sn (rs .is) (rs .to))))
+          (le-trans (part (rs .size) (step (rs .size)) (step-relative (rs .size) .0) (step-relative (rs .size) .1))
+          (le-of-eq (sym (signed-dist (rs .sign) (rs .size) (ap' + bp) (an + bn) (rs .is)))))
         where
           part : (a g : ℕ) → 2 ^ 53 * g ≤ 2 ^ 53 * a + a → 2 ^ 53 * a ≤ 2 ^ 53 * g + a → 2 ^ 53 * dist g a ≤ a
           part a g x y = omega arith
 
       third : dist (ap' + bp) (an + bn) ≤ dist ap' an + dist bp bn
-      third = dist-le (ap' + bp) (an + bn) (dist ap' an + dist bp bn) (plus ap' an bp bn (dist ap' an) (dist bp bn) (dist-up ap' an .0) (dist-up bp bn .0)) (plus an ap' bn bp (dist ap' an) (dist bp bn) (dist-up ap' an .1) (dist-up bp bn .1))
+      third = dist-le (ap' + bp) (an + bn) (dist ap' an + dist bp bn) (plus ap' an bp bn (dist ap' an) (dist bp bn) (dist-up ap' an .0) (dist-up bp bn .0))
+          (plus an ap' bn bp (dist ap' an) (dist bp bn) (dist-up ap' an .1) (dist-up bp bn .1))
         where
           plus : (p n q m x y : ℕ) → p ≤ n + x → q ≤ m + y → p + q ≤ n + m + (x + y)
           plus p n q m x y u v = omega arith
@@ -210,7 +239,9 @@ module _ (ap' an bp bn sp sn vp vn wp wn cp cn dp dn ep en : ℕ) (ra : Rep (dis
           two x y l u v = omega arith
 
       fifth : dist bp bn ≤ dist vn vp + dist (bp + vn) (bn + vp)
-      fifth = dist-le bp bn (dist vn vp + dist (bp + vn) (bn + vp)) (one (dist vn vp) (dist (bp + vn) (bn + vp)) (dist-up vn vp .1) (dist-up (bp + vn) (bn + vp) .0)) (two (dist vn vp) (dist (bp + vn) (bn + vp)) (dist-up vn vp .0) (dist-up (bp + vn) (bn + vp) .1))
+      fifth = dist-le bp bn (dist vn vp + dist (bp + vn) (bn + vp))
+          (one (dist vn vp) (dist (bp + vn) (bn + vp)) (dist-up vn vp .1) (dist-up (bp + vn) (bn + vp) .0))
+          (two (dist vn vp) (dist (bp + vn) (bn + vp)) (dist-up vn vp .0) (dist-up (bp + vn) (bn + vp) .1))
         where
           one : (x y : ℕ) → vp ≤ vn + x → bp + vn ≤ bn + vp + y → bp ≤ bn + (x + y)
           one x y u v = omega arith
@@ -226,19 +257,24 @@ module _ (ap' an bp bn sp sn vp vn wp wn cp cn dp dn ep en : ℕ) (ra : Rep (dis
 
   -- s + e = a + b
   pub two-sum : sp + ep + (an + bn) ≡ sn + en + (ap' + bp)
-  two-sum = go (leb (dist bp bn) (dist ap' an)) (leb→le (dist bp bn) (dist ap' an)) (nleb→lt (dist bp bn) (dist ap' an)) (leb (dist ap' an) (dist sp sn)) (leb→le (dist ap' an) (dist sp sn)) (nleb→lt (dist ap' an) (dist sp sn))
+  two-sum = go (leb (dist bp bn) (dist ap' an)) (leb→le (dist bp bn) (dist ap' an)) (nleb→lt (dist bp bn) (dist ap' an)) (leb (dist ap' an) (dist sp sn))
+      (leb→le (dist ap' an) (dist sp sn)) (nleb→lt (dist ap' an) (dist sp sn))
     where
-      go : (b : Bool) → (T b → dist bp bn ≤ dist ap' an) → (T (not b) → dist ap' an < dist bp bn) → (c : Bool) → (T c → dist ap' an ≤ dist sp sn) → (T (not c) → dist sp sn < dist ap' an) → sp + ep + (an + bn) ≡ sn + en + (ap' + bp)
+      go : (b : Bool) → (T b → dist bp bn ≤ dist ap' an) → (T (not b) → dist ap' an < dist bp bn) → (c : Bool) → (T c → dist ap' an ≤ dist sp sn)
+          → (T (not c) → dist sp sn < dist ap' an) → sp + ep + (an + bn) ≡ sn + en + (ap' + bp)
       go true f g c f' g' = from-exact (dekker ap' an bp bn sp sn ra rb rs (f tt))
       go false f g true f' g' = from-large (f' tt) (le-of-lt (g tt))
-      go false f g false f' g' = elim (under (leb (dist (ap' + bp) (an + bn)) (dist ap' an)) (leb→le (dist (ap' + bp) (an + bn)) (dist ap' an)) (nleb→lt (dist (ap' + bp) (an + bn)) (dist ap' an))) [
-        | inl l ↦
-            let e : ap' + bp + sn ≡ sp + (an + bn) = rn-exact (sum-rep ap' an bp bn ra rb l (le-trans l (le-of-lt (g tt)))) rs in
-            from-exact (subst Rep (sym (dist-shift (sp + an) (sn + ap') bp bn (turn e))) rb)
-        | inr l ↦ absurd (not-le-of-lt (g' tt) (rn-size (dist ap' an) ra rs (le-of-lt l)))
-      ]
+      go false f g false f' g' = elim
+          (under (leb (dist (ap' + bp) (an + bn)) (dist ap' an)) (leb→le (dist (ap' + bp) (an + bn)) (dist ap' an))
+          (nleb→lt (dist (ap' + bp) (an + bn)) (dist ap' an))) [
+            | inl l ↦
+                let e : ap' + bp + sn ≡ sp + (an + bn) = rn-exact (sum-rep ap' an bp bn ra rb l (le-trans l (le-of-lt (g tt)))) rs in
+                from-exact (subst Rep (sym (dist-shift (sp + an) (sn + ap') bp bn (turn e))) rb)
+            | inr l ↦ absurd (not-le-of-lt (g' tt) (rn-size (dist ap' an) ra rs (le-of-lt l)))
+          ]
         where
-          under : (b : Bool) → (T b → dist (ap' + bp) (an + bn) ≤ dist ap' an) → (T (not b) → dist ap' an < dist (ap' + bp) (an + bn)) → (dist (ap' + bp) (an + bn) ≤ dist ap' an) ⊎ (dist ap' an < dist (ap' + bp) (an + bn))
+          under : (b : Bool) → (T b → dist (ap' + bp) (an + bn) ≤ dist ap' an) → (T (not b) → dist ap' an < dist (ap' + bp) (an + bn))
+              → (dist (ap' + bp) (an + bn) ≤ dist ap' an) ⊎ (dist ap' an < dist (ap' + bp) (an + bn))
           under true x y = inl (x tt)
           under false x y = inr (y tt)
 

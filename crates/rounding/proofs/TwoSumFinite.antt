@@ -1,15 +1,16 @@
--- Knuth's two-sum of any two finite f64 whose sum and error come out finite: nothing in between has overflowed, and sum + error is a + b exactly. Assumes nothing.
-use mathlib.Core.Path.{_≡_, sym, subst}
+-- Knuth's two-sum of any two finite f64 whose sum and error come out finite: nothing in between has overflowed, and sum + error is a + b exactly. Assumes
+-- nothing.
+use mathlib.Core.Path.{sym, subst}
 use Prim.Native.Nat.{ℕ, _+_, _*_, _^_, _<_}
 use native.Mathlib.Omega.{arith}
 use native.Mathlib.Nat.{lt-of-le-of-lt, le-of-eq}
 use mathlib.Core.Bool.{Bool, true, false, cond, Bool·beq}
 use lib.Dec.{T, ltb, ltb→lt}
-use lib.Ieee.{Float, nan, inf, fin, binary64, round, units, odd, prec, low, up, down, neg, add, sub}
+use lib.Ieee.{Float, nan, inf, fin, binary64, round, units, odd, neg, add, sub}
 use lib.Ieee.Exact.{HasValue}
 use lib.Ieee.Fits.{round-is}
 use lib.Ieee.Order.{drop, kept}
-use lib.Ieee.Scale.{grid, overflow, finite}
+use lib.Ieee.Scale.{overflow, finite}
 use Rattle.rounding.specs.Value.{Signed, Val, Rounds, L}
 use Rattle.rounding.proofs.Value.{add-rounds, sub-rounds, L-pos}
 use Rattle.rounding.proofs.Own.{Rep}
@@ -68,12 +69,25 @@ record RoundedTo (z : Float) (P N : ℕ) : Type 0 where
 rounded-to : {z : Float} {P N : ℕ} → T (finite z) → Rounds binary64 z P N L → RoundedTo z P N
 rounded-to {z} {P} {N} f r =
     go (r .sign)
-    (subst (λ (x : Float). HasValue x (r .sign) (step (r .size)) L) (sym (r .eq)) (step-has (r .sign) (r .size) (finite-step (r .sign) (r .size) (subst (λ (x : Float). T (finite x)) (r .eq) f))))
+    (subst (λ (x : Float). HasValue x (r .sign) (step (r .size)) L) (sym (r .eq))
+    (step-has (r .sign) (r .size) (finite-step (r .sign) (r .size) (subst (λ (x : Float). T (finite x)) (r .eq) f))))
     (r .is)
   where
     go : (s : Bool) → HasValue z s (step (r .size)) L → Signed s (r .size) P N → RoundedTo z P N
-    go false h i = record { p = step (r .size); n = 0; val = record { sign = false; size = step (r .size); has = h; is = omega arith }; rn = record { sign = false; size = r .size; is = i; to = omega arith } }
-    go true h i = record { p = 0; n = step (r .size); val = record { sign = true; size = step (r .size); has = h; is = omega arith }; rn = record { sign = true; size = r .size; is = i; to = omega arith } }
+    go false h i = record {
+      p = step (r .size);
+      n = 0;
+      val = record { sign = false; size = step (r .size); has = h; is = omega arith };
+      rn =
+          record { sign = false; size = r .size; is = i; to = omega arith };
+    }
+    go true h i = record {
+      p = 0;
+      n = step (r .size);
+      val = record { sign = true; size = step (r .size); has = h; is = omega arith };
+      rn =
+          record { sign = true; size = r .size; is = i; to = omega arith };
+    }
 
 -- ---- the law
 pub two-sum-finite : (a b : Float) (p n q m : ℕ) → Val a p n L → Val b q m L → Rep (dist p n) → Rep (dist q m)
@@ -97,5 +111,6 @@ two-sum-finite a b p n q m va vb ra rb fs fe =
       en = xe .n;
       sum = xs .val;
       err = xe .val;
-      total = two-sum p n q m (xs .p) (xs .n) (xv .p) (xv .n) (xw .p) (xw .n) (xc .p) (xc .n) (xd .p) (xd .n) (xe .p) (xe .n) ra rb (xs .rn) (xv .rn) (xw .rn) (xc .rn) (xd .rn) (xe .rn);
+      total = two-sum p n q m (xs .p) (xs .n) (xv .p) (xv .n) (xw .p) (xw .n) (xc .p) (xc .n) (xd .p) (xd .n) (xe .p) (xe .n) ra rb (xs .rn) (xv .rn) (xw .rn)
+          (xc .rn) (xd .rn) (xe .rn);
     }

@@ -20,7 +20,9 @@ bits-of nan s a c h v = absurd v
 bits-of (inf t) s a c h v = absurd v
 bits-of (fin t m e) s a c h v =
     ap (λ (b : Bool). bits b (m * up e * 2 ^ 1074 / down e)) (v .0)
-    ∙ ap (bits s) (div-same (m * up e * 2 ^ 1074) (down e) (a * 2 ^ 1074) c (down-pos e) h (mul-right-comm (m * up e) (2 ^ 1074) c ∙ ap (λ (z : ℕ). z * 2 ^ 1074) (v .1) ∙ mul-right-comm a (down e) (2 ^ 1074)))
+    ∙ ap (bits s) (div-same (m * up e * 2 ^ 1074) (down e) (a * 2 ^ 1074) c (down-pos e) h
+    (mul-right-comm (m * up e) (2 ^ 1074) c ∙ ap (λ (z : ℕ). z * 2 ^ 1074) (v .1) ∙ mul-right-comm a (down e) (2 ^ 1074)))
 
 pub float-unique : (x y : Float) (s : Bool) (a c : ℕ) → 0 < c → T (fits binary64 x) → T (fits binary64 y) → HasValue x s a c → HasValue y s a c → x ≡ y
-float-unique x y s a c h fx fy v w = sym (ofBits-toBits binary64 x fx) ∙ ap (ofBits binary64) (bits-of x s a c h v ∙ sym (bits-of y s a c h w)) ∙ ofBits-toBits binary64 y fy
+float-unique x y s a c h fx fy v w = sym (ofBits-toBits binary64 x fx) ∙ ap (ofBits binary64) (bits-of x s a c h v ∙ sym (bits-of y s a c h w))
+    ∙ ofBits-toBits binary64 y fy

@@ -1,5 +1,6 @@
 -- The value of a float, and for each operation the exact result that it rounds. The operations work on the values as fractions are worked with: a sum over one
--- denominator, a product and a quotient over the product of two. Nothing is said here of how far a rounding goes: see Exact, Bound, Near and Relative. Assumes nothing.
+-- denominator, a product and a quotient over the product of two. Nothing is said here of how far a rounding goes: see Exact, Bound, Near and Relative. Assumes
+-- nothing.
 use mathlib.Core.Path.{_≡_, refl, sym, ap, _∙_, subst}
 use Prim.Native.Nat.{ℕ, _+_, _-_, _*_, _^_, _≤_, _<_}
 use native.Mathlib.Nat.{le-of-lt, mul-assoc, mul-right-comm, mul-pos, lt-irrefl, eq-of-mul-eq-mul-right, zero-mul, add-zero}
@@ -42,19 +43,26 @@ has-scale (fin u m e) s a d c h = (h .0, sym (mul-assoc (m * up e) d c) ∙ ap (
 
 -- (p - n) / d = (p * c - n * c) / (d * c)
 pub val-scale : {x : Float} {p n d : ℕ} (c : ℕ) → Val x p n d → Val x (p * c) (n * c) (d * c)
-val-scale {x} {p} {n} {d} c v = record { sign = v .sign; size = v .size * c; has = has-scale x (v .sign) (v .size) d c (v .has); is = signed-scale (v .sign) (v .size) p n c (v .is) }
+val-scale {x} {p} {n} {d} c v =
+    record { sign = v .sign; size = v .size * c; has = has-scale x (v .sign) (v .size) d c (v .has); is = signed-scale (v .sign) (v .size) p n c (v .is) }
 
 pub has-unscale : (x : Float) (s : Bool) (a d c : ℕ) → 0 < c → HasValue x s (a * c) (d * c) → HasValue x s a d
 has-unscale nan s a d c h v = v
 has-unscale (inf t) s a d c h v = v
-has-unscale (fin t m e) s a d c h v = (v .0, eq-of-mul-eq-mul-right c h (m * up e * d) (a * down e) (mul-assoc (m * up e) d c ∙ v .1 ∙ mul-right-comm a c (down e)))
+has-unscale (fin t m e) s a d c h v =
+    (v .0, eq-of-mul-eq-mul-right c h (m * up e * d) (a * down e) (mul-assoc (m * up e) d c ∙ v .1 ∙ mul-right-comm a c (down e)))
 
 -- the same backwards, of a value that is not below zero
 pub val-unscale : {x : Float} (a d c : ℕ) → 0 < c → Val x (a * c) 0 (d * c) → Val x a 0 d
 val-unscale {x} a d c h v = go (v .sign) (v .size) (v .has) (v .is)
   where
     go : (s : Bool) (A : ℕ) → HasValue x s A (d * c) → Signed s A (a * c) 0 → Val x a 0 d
-    go false A k i = record { sign = false; size = a; has = has-unscale x false a d c h (subst (λ (z : ℕ). HasValue x false z (d * c)) (plain A (a * c) i) k); is = omega arith }
+    go false A k i = record {
+      sign = false;
+      size = a;
+      has = has-unscale x false a d c h (subst (λ (z : ℕ). HasValue x false z (d * c)) (plain A (a * c) i) k);
+      is = omega arith;
+    }
       where
         plain : (x y : ℕ) → x + 0 ≡ y → x ≡ y
         plain x y e = omega arith
@@ -125,7 +133,13 @@ neg-has (inf u) s a d h = h
 neg-has (fin u m e) s a d h = (ap not (h .0), h .1)
 
 pub neg-val : {x : Float} {p n d : ℕ} → Val x p n d → Val (neg x) n p d
-neg-val {x} {p} {n} {d} v = record { sign = not (v .sign); size = v .size; has = neg-has x (v .sign) (v .size) d (v .has); is = signed-not (v .sign) (v .size) p n (v .is) }
+neg-val {x} {p} {n} {d} v = record {
+  sign = not (v .sign);
+  size = v .size;
+  has = neg-has x (v .sign) (v .size) d (v .has);
+  is =
+      signed-not (v .sign) (v .size) p n (v .is);
+}
 
 pub abs-has : (x : Float) (s : Bool) (a d : ℕ) → HasValue x s a d → HasValue (abs x) false a d
 unfolding abs
@@ -175,7 +189,8 @@ add-has f nan y s t A B D p n q m E h k i j = absurd h
 add-has f (inf u) y s t A B D p n q m E h k i j = absurd h
 add-has f (fin u a e) nan s t A B D p n q m E h k i j = absurd k
 add-has f (fin u a e) (inf v) s t A B D p n q m E h k i j = absurd k
-add-has f (fin u a e) (fin v b d) s t A B D p n q m E h k i j = sum-rounds f u v (a * up e * down d) (b * up d * down e) (down e * down d) A B D p n q m (mul-pos (down-pos e) (down-pos d)) E
+add-has f (fin u a e) (fin v b d) s t A B D p n q m E h k i j =
+    sum-rounds f u v (a * up e * down d) (b * up d * down e) (down e * down d) A B D p n q m (mul-pos (down-pos e) (down-pos d)) E
     (cross-l (a * up e) (down e) (down d) A D (h .1)) (cross-r (b * up d) (down e) (down d) B D (k .1))
     (subst (λ (z : Bool). Signed z A p n) (sym (h .0)) i) (subst (λ (z : Bool). Signed z B q m) (sym (k .0)) j)
 
@@ -199,11 +214,13 @@ mul-has f (fin u a e) (fin v b d) s t A B D E p n q m F G h k i j =
     record {
       sign = unlike u v;
       size = A * B;
-      eq = round-same f (unlike u v) (a * up e * (b * up d)) (down e * down d) (A * B) (D * E) (mul-pos (down-pos e) (down-pos d)) (mul-pos F G) (times (a * up e) (b * up d) (down e) (down d) A B D E (h .1) (k .1));
+      eq = round-same f (unlike u v) (a * up e * (b * up d)) (down e * down d) (A * B) (D * E) (mul-pos (down-pos e) (down-pos d)) (mul-pos F G)
+          (times (a * up e) (b * up d) (down e) (down d) A B D E (h .1) (k .1));
       is = signed-times u v A B p n q m (subst (λ (z : Bool). Signed z A p n) (sym (h .0)) i) (subst (λ (z : Bool). Signed z B q m) (sym (k .0)) j);
     }
 
-pub mul-rounds : (f : Format) {x y : Float} {p n q m D E : ℕ} → 0 < D → 0 < E → Val x p n D → Val y q m E → Rounds f (mul f x y) (p * q + n * m) (p * m + n * q) (D * E)
+pub mul-rounds : (f : Format) {x y : Float} {p n q m D E : ℕ} → 0 < D → 0 < E → Val x p n D → Val y q m E
+    → Rounds f (mul f x y) (p * q + n * m) (p * m + n * q) (D * E)
 mul-rounds f {x} {y} {p} {n} {q} {m} {D} {E} F G v w = mul-has f x y (v .sign) (w .sign) (v .size) (w .size) D E p n q m F G (v .has) (w .has) (v .is) (w .is)
 
 -- ---- a quotient by B / E above zero is (p - n) * E / (D * B), rounded; by -B / E below zero it is (n - p) * E / (D * B)
@@ -214,7 +231,8 @@ unlike-side false false a p n h = h
 unlike-side true true a p n h = h
 unlike-side false true a p n h = h
 
-div-has : (f : Format) (v : Bool) (x y : Float) (s : Bool) (A B D E p n : ℕ) → 0 < D → 0 < E → 0 < B → HasValue x s A D → HasValue y v B E → Signed s A p n → Rounds f (div f x y) (cond v (n * E) (p * E)) (cond v (p * E) (n * E)) (D * B)
+div-has : (f : Format) (v : Bool) (x y : Float) (s : Bool) (A B D E p n : ℕ) → 0 < D → 0 < E → 0 < B → HasValue x s A D → HasValue y v B E → Signed s A p n
+    → Rounds f (div f x y) (cond v (n * E) (p * E)) (cond v (p * E) (n * E)) (D * B)
 unfolding div
 div-has f v nan y s A B D E p n F G H h k i = absurd h
 div-has f v (inf u) y s A B D E p n F G H h k i = absurd h
@@ -226,7 +244,8 @@ div-has f v (fin u a e) (fin w b d) s A B D E p n F G H h k i = go (eqb b 0) (eq
     some = first-pos b (up d) (first-pos (b * up d) E (subst (λ (z : ℕ). 0 < z) (sym (k .1)) (mul-pos H (down-pos d))))
 
     go : (z : Bool) → (T z → b ≡ 0)
-        → Rounds f (cond z (cond (eqb a 0) nan (inf (unlike u w))) (round f (unlike u w) (a * up e * down d) (b * up d * down e))) (cond v (n * E) (p * E)) (cond v (p * E) (n * E)) (D * B)
+        → Rounds f (cond z (cond (eqb a 0) nan (inf (unlike u w))) (round f (unlike u w) (a * up e * down d) (b * up d * down e))) (cond v (n * E) (p * E))
+        (cond v (p * E) (n * E)) (D * B)
     go true g = absurd (lt-irrefl 0 (subst (λ (z : ℕ). 0 < z) (g tt) some))
     go false g = record {
       sign = unlike u w;
@@ -245,4 +264,5 @@ sided true y true a B E h k i = subst (λ (z : ℕ). HasValue y true z E) (sym (
 sided true y false a B E h k i = let w : ⊥ = omega arith in absurd w
 
 pub div-rounds : (f : Format) {x y : Float} {p n B D E : ℕ} → 0 < D → 0 < E → 0 < B → Val x p n D → Val y B 0 E → Rounds f (div f x y) (p * E) (n * E) (D * B)
-div-rounds f {x} {y} {p} {n} {B} {D} {E} F G H v w = div-has f false x y (v .sign) (v .size) B D E p n F G H (v .has) (sided false y (w .sign) (w .size) B E H (w .has) (w .is)) (v .is)
+div-rounds f {x} {y} {p} {n} {B} {D} {E} F G H v w =
+    div-has f false x y (v .sign) (v .size) B D E p n F G H (v .has) (sided false y (w .sign) (w .size) B E H (w .has) (w .is)) (v .is)

@@ -57,11 +57,29 @@ module _ (from to size1 size2 room1 room2 room : ℕ) where
               module _ (g : size1 ≤ room2) where
                 pub few-numbers : room < size1 / 8 → 11 ≡ runRefusal from to size1 size2 room1 room2 room
                 unfolding runRefusal
-                few-numbers h = rw (a, b, eq-eqb (size1 % 8) 0 c, eq-eqb (size2 % 8) 0 d, eq-eqb size1 size2 e, le-leb size1 room1 f, le-leb size1 room2 g, lt-leb (size1 / 8) room h)
+                few-numbers h = rw (
+                  a,
+                  b,
+                  eq-eqb (size1 % 8) 0 c,
+                  eq-eqb (size2 % 8) 0 d,
+                  eq-eqb size1 size2 e,
+                  le-leb size1 room1 f,
+                  le-leb size1 room2 g,
+                  lt-leb (size1 / 8) room h,
+                )
 
                 pub none-refused : size1 / 8 ≤ room → 0 ≡ runRefusal from to size1 size2 room1 room2 room
                 unfolding runRefusal
-                none-refused h = rw (a, b, eq-eqb (size1 % 8) 0 c, eq-eqb (size2 % 8) 0 d, eq-eqb size1 size2 e, le-leb size1 room1 f, le-leb size1 room2 g, le-leb (size1 / 8) room h)
+                none-refused h = rw (
+                  a,
+                  b,
+                  eq-eqb (size1 % 8) 0 c,
+                  eq-eqb (size2 % 8) 0 d,
+                  eq-eqb size1 size2 e,
+                  le-leb size1 room1 f,
+                  le-leb size1 room2 g,
+                  le-leb (size1 / 8) room h,
+                )
 
 -- ---- what no refusal says
 pub record Fitting (from to size1 size2 room1 room2 room : ℕ) : Type 0 where
@@ -75,7 +93,8 @@ pub record Fitting (from to size1 size2 room1 room2 room : ℕ) : Type 0 where
   pub bytes : size1 / 8 ≤ room
 
 module _ (from to size1 size2 room1 room2 room : ℕ) where
-  fitting-by : (b0 b1 b2 b3 b4 b5 b6 b7 : Bool) → isRunScale from ≡ b0 → isRunScale to ≡ b1 → eqb (size1 % 8) 0 ≡ b2 → eqb (size2 % 8) 0 ≡ b3 → eqb size1 size2 ≡ b4 → leb size1 room1 ≡ b5 → leb size1 room2 ≡ b6 → leb (size1 / 8) room ≡ b7
+  fitting-by : (b0 b1 b2 b3 b4 b5 b6 b7 : Bool) → isRunScale from ≡ b0 → isRunScale to ≡ b1 → eqb (size1 % 8) 0 ≡ b2 → eqb (size2 % 8) 0 ≡ b3
+      → eqb size1 size2 ≡ b4 → leb size1 room1 ≡ b5 → leb size1 room2 ≡ b6 → leb (size1 / 8) room ≡ b7
       → _≡_ {A = ℕ} (cond (b0 && b1) (cond (b2 && b3) (cond b4 (cond (b5 && (b6 && b7)) 0 11) 12) 14) 18) 0 → Fitting from to size1 size2 room1 room2 room
   fitting-by true true true true true true true true p0 p1 p2 p3 p4 p5 p6 p7 z = record {
     known-from = p0;
@@ -99,11 +118,13 @@ module _ (from to size1 size2 room1 room2 room : ℕ) where
   pub fitting : runRefusal from to size1 size2 room1 room2 room ≡ 0 → Fitting from to size1 size2 room1 room2 room
   unfolding runRefusal
   fitting z =
-      fitting-by (isRunScale from) (isRunScale to) (eqb (size1 % 8) 0) (eqb (size2 % 8) 0) (eqb size1 size2) (leb size1 room1) (leb size1 room2) (leb (size1 / 8) room)
+      fitting-by (isRunScale from) (isRunScale to) (eqb (size1 % 8) 0) (eqb (size2 % 8) 0) (eqb size1 size2) (leb size1 room1) (leb size1 room2)
+      (leb (size1 / 8) room)
       refl refl refl refl refl refl refl refl z
 
 -- ---- the call
-module _ (rows : List Row) (from to : ℕ) (js ks out1 out2 numbers : List ℕ) (number : ℕ) (en : number ≡ runRefusal from to (length js) (length ks) (length out1) (length out2) (length numbers)) where
+module _ (rows : List Row) (from to : ℕ) (js ks out1 out2 numbers : List ℕ) (number : ℕ)
+    (en : number ≡ runRefusal from to (length js) (length ks) (length out1) (length out2) (length numbers)) where
   pub run-refused : (number ≡ 0 → ⊥) → runCall (runOutcome (Answer.Refused number)) out1 out2 numbers ≡ runBy rows from to js ks out1 out2 numbers
   unfolding runBy runOutcome
   run-refused h = rw (← en, ne-eqb number 0 h)
@@ -129,14 +150,16 @@ module _ (rows : List Row) (from to : ℕ) (js ks out1 out2 numbers : List ℕ) 
     run-ends r out1' out2' numbers' p = rw (← en, eq-eqb number 0 z, p .count, p .first, p .second, p .third)
 
 -- ---- at most all stamps are refused
-pub run-count : (rows : List Row) (from to : ℕ) (js ks out1 out2 numbers : List ℕ) (k : ℕ) → answer k ≡ runBy rows from to js ks out1 out2 numbers .answer → k ≤ length js / 8
+pub run-count : (rows : List Row) (from to : ℕ) (js ks out1 out2 numbers : List ℕ) (k : ℕ) → answer k ≡ runBy rows from to js ks out1 out2 numbers .answer
+    → k ≤ length js / 8
 unfolding runBy runWritten
 run-count rows from to js ks out1 out2 numbers k e = go (eqb number 0) e
   where
     number : ℕ
     number = runRefusal from to (length js) (length ks) (length out1) (length out2) (length numbers)
 
-    go : (b : Bool) → answer k ≡ cond b (runWritten (stampAnswer rows from to js ks) (length js / 8) out1 out2 numbers) (runCall (refusal number) out1 out2 numbers) .answer → k ≤ length js / 8
+    go : (b : Bool) → answer k ≡ cond b (runWritten (stampAnswer rows from to js ks) (length js / 8) out1 out2 numbers)
+        (runCall (refusal number) out1 out2 numbers) .answer → k ≤ length js / 8
     go true q =
         let same : k ≡ refusedAmong (stampAnswer rows from to js ks) (length js / 8) = cc q in
         omega (arith, same, at-most (stampAnswer rows from to js ks) (length js / 8))

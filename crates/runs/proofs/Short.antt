@@ -1,6 +1,6 @@
 -- Two scales whose way is one formula: a run by the formula is the run by the way. Assumes nothing.
 use Prim.Native.Nat.{ℕ, _*_, _/_, _%_}
-use mathlib.Core.Path.{_≡_, refl, sym, ap, subst, _∙_}
+use mathlib.Core.Path.{_≡_, refl, sym, ap, _∙_}
 use mathlib.Core.Bool.{Bool, true, false, cond, _&&_, _||_, true≢false}
 use mathlib.Core.List.{List, []}
 use lib.Dec.{eqb, leb}
@@ -14,7 +14,7 @@ use Rattle.leap_table.specs.rows.Table.{Row}
 use Rattle.julian.proofs.shifts.Outcomes.{and-left, and-right}
 use Rattle.scales.specs.Conversions.{answerOf, gps-tai, tt-tai}
 use Rattle.line_up.specs.LineUp.{stampOf}
-use Rattle.runs.specs.by_formula.Run.{RunCall, runCall, runWritten}
+use Rattle.runs.specs.by_formula.Run.{runCall, runWritten}
 use Rattle.runs.specs.by_formula.Formula.{formulaOf, byFormula, formulaAnswer, takesOffset, lengthsRefusal, formulaRefusal, formulaRun}
 use Rattle.runs.specs.ways.Ways.{isRunScale, intoTai, outOfTai, between, wayOf}
 use Rattle.runs.specs.Run.{stampAnswer, runRefusal, runBy}
@@ -32,7 +32,8 @@ pub data Short : ℕ → ℕ → Type 0 where
 pub short : (from to : ℕ) → isShort from to ≡ true → Short from to
 unfolding isShort
 short from to h =
-    go (eqb from 4 && eqb to 1) (eqb from 1 && eqb to 4) (eqb from 1 && eqb to 3) (eqb from 3 && eqb to 1) (eqb from 3 && eqb to 5) (eqb from 5 && eqb to 3) refl refl refl refl refl refl h
+    go (eqb from 4 && eqb to 1) (eqb from 1 && eqb to 4) (eqb from 1 && eqb to 3) (eqb from 3 && eqb to 1) (eqb from 3 && eqb to 5) (eqb from 5 && eqb to 3)
+    refl refl refl refl refl refl h
   where
     is : (a b : ℕ) → Short a b → (eqb from a && eqb to b) ≡ true → Short from to
     is a b s e =
@@ -40,7 +41,8 @@ short from to h =
         let g : to ≡ b = eqb-true to b (and-right (eqb from a) (eqb to b) e) in
         rw (f, g) s
 
-    go : (c1 c2 c3 c4 c5 c6 : Bool) → (eqb from 4 && eqb to 1) ≡ c1 → (eqb from 1 && eqb to 4) ≡ c2 → (eqb from 1 && eqb to 3) ≡ c3 → (eqb from 3 && eqb to 1) ≡ c4 → (eqb from 3 && eqb to 5) ≡ c5 → (eqb from 5 && eqb to 3) ≡ c6
+    go : (c1 c2 c3 c4 c5 c6 : Bool) → (eqb from 4 && eqb to 1) ≡ c1 → (eqb from 1 && eqb to 4) ≡ c2 → (eqb from 1 && eqb to 3) ≡ c3
+        → (eqb from 3 && eqb to 1) ≡ c4 → (eqb from 3 && eqb to 5) ≡ c5 → (eqb from 5 && eqb to 3) ≡ c6
         → (c1 || (c2 || (c3 || (c4 || (c5 || c6))))) ≡ true → Short from to
     go true c2 c3 c4 c5 c6 e1 e2 e3 e4 e5 e6 z = is 4 1 gps-to-tai e1
     go false true c3 c4 c5 c6 e1 e2 e3 e4 e5 e6 z = is 1 4 tai-to-gps e2
@@ -71,14 +73,16 @@ no-offsets : (b c : Bool) (size1 size2 room1 room2 room : ℕ)
     (cond (b && c) (cond (eqb size1 size2) (cond (leb size1 room1 && (leb size1 room2 && leb (size1 / 8) room)) 0 11) 12) 14)
 no-offsets b c size1 size2 room1 room2 room = go b c (eqb size1 size2)
   where
-    go : (b c d : Bool) → _≡_ {A = ℕ} (cond (b && (c && true)) (cond (d && true) (cond (leb size1 room1 && (leb size1 room2 && leb (size1 / 8) room)) 0 11) 12) 14)
+    go : (b c d : Bool) → _≡_ {A = ℕ}
+        (cond (b && (c && true)) (cond (d && true) (cond (leb size1 room1 && (leb size1 room2 && leb (size1 / 8) room)) 0 11) 12) 14)
         (cond (b && c) (cond d (cond (leb size1 room1 && (leb size1 room2 && leb (size1 / 8) room)) 0 11) 12) 14)
     go true true true = refl
     go true true false = refl
     go true false d = refl
     go false c d = refl
 
-pub short-refusal : (from to : ℕ) → Short from to → (size1 size2 room1 room2 room : ℕ) → formulaRefusal from to size1 size2 0 room1 room2 room ≡ runRefusal from to size1 size2 room1 room2 room
+pub short-refusal : (from to : ℕ) → Short from to → (size1 size2 room1 room2 room : ℕ)
+    → formulaRefusal from to size1 size2 0 room1 room2 room ≡ runRefusal from to size1 size2 room1 room2 room
 unfolding formulaRefusal formulaOf lengthsRefusal takesOffset runRefusal isRunScale
 short-refusal _ _ gps-to-tai size1 size2 room1 room2 room = no-offsets (eqb (size1 % 8) 0) (eqb (size2 % 8) 0) size1 size2 room1 room2 room
 short-refusal _ _ tai-to-gps size1 size2 room1 room2 room = no-offsets (eqb (size1 % 8) 0) (eqb (size2 % 8) 0) size1 size2 room1 room2 room
@@ -88,11 +92,15 @@ short-refusal _ _ tt-to-tcg size1 size2 room1 room2 room = no-offsets (eqb (size
 short-refusal _ _ tcg-to-tt size1 size2 room1 room2 room = no-offsets (eqb (size1 % 8) 0) (eqb (size2 % 8) 0) size1 size2 room1 room2 room
 
 -- ---- the run
-pub short-run : (rows : List Row) (from to : ℕ) → isShort from to ≡ true → (js ks os out1 out2 numbers : List ℕ) → length os ≡ 0 → formulaRun from to js ks os out1 out2 numbers ≡ runBy rows from to js ks out1 out2 numbers
+pub short-run : (rows : List Row) (from to : ℕ) → isShort from to ≡ true → (js ks os out1 out2 numbers : List ℕ) → length os ≡ 0
+    → formulaRun from to js ks os out1 out2 numbers ≡ runBy rows from to js ks out1 out2 numbers
 unfolding formulaRun runBy
 short-run rows from to h js ks os out1 out2 numbers none =
     let s : Short from to = short from to h in
-    let number : formulaRefusal from to (length js) (length ks) (length os) (length out1) (length out2) (length numbers) ≡ runRefusal from to (length js) (length ks) (length out1) (length out2) (length numbers)
-    = ap (λ (n : ℕ). formulaRefusal from to (length js) (length ks) n (length out1) (length out2) (length numbers)) none ∙ short-refusal from to s (length js) (length ks) (length out1) (length out2) (length numbers) in
-    let answers : formulaAnswer from to js ks os ≡ stampAnswer rows from to js ks = λ k i. short-way from to s rows (ofBits binary64 (u64At os (8 * i))) (stampOf js ks i) k in
+    let number : formulaRefusal from to (length js) (length ks) (length os) (length out1) (length out2) (length numbers) ≡ runRefusal from to (length js)
+    (length ks) (length out1) (length out2) (length numbers)
+    = ap (λ (n : ℕ). formulaRefusal from to (length js) (length ks) n (length out1) (length out2) (length numbers)) none
+    ∙ short-refusal from to s (length js) (length ks) (length out1) (length out2) (length numbers) in
+    let answers : formulaAnswer from to js ks os ≡ stampAnswer rows from to js ks =
+    λ k i. short-way from to s rows (ofBits binary64 (u64At os (8 * i))) (stampOf js ks i) k in
     λ k. cond (eqb (number k) 0) (runWritten (answers k) (length js / 8) out1 out2 numbers) (runCall (refusal (number k)) out1 out2 numbers)

@@ -6,4 +6,5 @@ use lib.Dec.{eqb}
 -- the pairs of scales whose way is one formula: GPS and TAI, TT and TAI, TT and TCG, both ways
 unfoldable pub isShort : ℕ → ℕ → Bool
 isShort from to =
-    (eqb from 4 && eqb to 1) || ((eqb from 1 && eqb to 4) || ((eqb from 1 && eqb to 3) || ((eqb from 3 && eqb to 1) || ((eqb from 3 && eqb to 5) || (eqb from 5 && eqb to 3)))))
+    (eqb from 4 && eqb to 1) || ((eqb from 1 && eqb to 4) ||
+    ((eqb from 1 && eqb to 3) || ((eqb from 3 && eqb to 1) || ((eqb from 3 && eqb to 5) || (eqb from 5 && eqb to 3)))))

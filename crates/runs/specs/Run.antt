@@ -1,6 +1,6 @@
--- A run of stamps from one scale to another: the way of each stamp, and what is refused whole. This project's own, for the customer's nine million stamps of one recorder. What the
--- three lent slices hold is `runWritten` (`runs::by_formula`). Refusals by documents 01's and 02's numbers: 18 an unknown scale, 14 a broken length, 12 sizes that differ, 11 too few
--- places. Assumes nothing.
+-- A run of stamps from one scale to another: the way of each stamp, and what is refused whole. This project's own, for the customer's nine million stamps of
+-- one recorder. What the three lent slices hold is `runWritten` (`runs::by_formula`). Refusals by documents 01's and 02's numbers: 18 an unknown scale, 14 a
+-- broken length, 12 sizes that differ, 11 too few places. Assumes nothing.
 use Prim.Native.Nat.{ℕ, _/_, _%_}
 use mathlib.Core.Bool.{cond, _&&_}
 use mathlib.Core.List.{List}

@@ -1,5 +1,5 @@
-// A run of stamps by one of the conversions that are a formula of the stamp's two parts, in one call: no table is read. The parts of the stamps, the offsets and the parts
-// of the dates are bytes, eight each, the lowest first.
+// A run of stamps by one of the conversions that are a formula of the stamp's two parts, in one call: no table is read. The parts of the stamps, the offsets
+// and the parts of the dates are bytes, eight each, the lowest first.
 mod changes;
 mod offsets;
 mod pairs;
@@ -97,11 +97,11 @@ fn formula_refusal(
     0
 }
 
-// The dates in scale `to` of a run of stamps in scale `from`: GPS and TAI, TT and TAI, TT and TCG, TCB and TDB, each way; and TAI and UT1, UT1 and TT, TT and TDB by an
-// offset in seconds for each stamp, which is that of the second scale less the first: `offsets` has one for each stamp then, and else no byte. The parts of stamp i go into
-// the places i of `out1` and `out2`, its number into `numbers`, 0 or that of its refusal, and the number of refused stamps is the answer. A refused stamp's places stay.
-// Refusals of the whole run in order, before a byte is written: 18 two scales that are no such pair, 14 a length of parts or offsets that is no multiple of eight, 12 another
-// number of second parts than of first, or of offsets than is due, 11 too few places.
+// The dates in scale `to` of a run of stamps in scale `from`: GPS and TAI, TT and TAI, TT and TCG, TCB and TDB, each way; and TAI and UT1, UT1 and TT, TT and
+// TDB by an offset in seconds for each stamp, which is that of the second scale less the first: `offsets` has one for each stamp then, and else no byte. The
+// parts of stamp i go into the places i of `out1` and `out2`, its number into `numbers`, 0 or that of its refusal, and the number of refused stamps is the
+// answer. A refused stamp's places stay. Refusals of the whole run in order, before a byte is written: 18 two scales that are no such pair, 14 a length of
+// parts or offsets that is no multiple of eight, 12 another number of second parts than of first, or of offsets than is due, 11 too few places.
 pub fn formula_run(
     from: u32,
     to: u32,
@@ -112,7 +112,8 @@ pub fn formula_run(
     out2: &mut [u8],
     numbers: &mut [u8],
 ) -> RunAnswer
-    ensures { λ r. ⌜ runCall (runOutcome r) (now (out1 .exit)) (now (out2 .exit)) (now (numbers .exit)) ≡ formulaRun from to (now (jd1s .entry)) (now (jd2s .entry)) (now (offsets .entry)) (now (out1 .entry)) (now (out2 .entry)) (now (numbers .entry)) ⌝ }
+    ensures { λ r. ⌜ runCall (runOutcome r) (now (out1 .exit)) (now (out2 .exit)) (now (numbers .exit)) ≡ formulaRun from to (now (jd1s .entry))
+        (now (jd2s .entry)) (now (offsets .entry)) (now (out1 .entry)) (now (out2 .entry)) (now (numbers .entry)) ⌝ }
 {
     let found = pairs::formula_of(from, to);
     let number = formula_refusal(

@@ -84,7 +84,8 @@ fn convert_stamp<'a>(
     out2: &mut [u8],
 ) -> u8
     requires { ⌜ (HasPlace i (now jd1s) (now jd2s)) × (HasPlace i (now out1) (now out2)) ⌝ }
-    ensures { λ r. ⌜ StampPut (stampAnswer (rowsIn size (now (months .entry)) (now (seconds .entry))) from to (now (jd1s .entry)) (now (jd2s .entry)) i) i (now (out1 .entry)) (now (out2 .entry)) r (now (out1 .exit)) (now (out2 .exit)) ⌝ }
+    ensures { λ r. ⌜ StampPut (stampAnswer (rowsIn size (now (months .entry)) (now (seconds .entry))) from to (now (jd1s .entry)) (now (jd2s .entry)) i) i
+        (now (out1 .entry)) (now (out2 .entry)) r (now (out1 .exit)) (now (out2 .exit)) ⌝ }
 {
     let jd = stamp_at(jd1s, jd2s, i);
     let found = crate::ways::convert_by_lent(from, to, jd, size, months, seconds);
@@ -106,7 +107,8 @@ fn convert_all<'a>(
     numbers: &mut [u8],
 ) -> usize
     requires { ⌜ Roomy n (now jd1s) (now jd2s) (now out1) (now out2) (now numbers) ⌝ }
-    ensures { λ r. ⌜ RunPut (stampAnswer (rowsIn size (now (months .entry)) (now (seconds .entry))) from to (now (jd1s .entry)) (now (jd2s .entry))) n (now (out1 .entry)) (now (out2 .entry)) (now (numbers .entry)) r (now (out1 .exit)) (now (out2 .exit)) (now (numbers .exit)) ⌝ }
+    ensures { λ r. ⌜ RunPut (stampAnswer (rowsIn size (now (months .entry)) (now (seconds .entry))) from to (now (jd1s .entry)) (now (jd2s .entry))) n
+        (now (out1 .entry)) (now (out2 .entry)) (now (numbers .entry)) r (now (out1 .exit)) (now (out2 .exit)) (now (numbers .exit)) ⌝ }
 {
     let mut refused = 0;
     let mut i = 0;
@@ -211,7 +213,9 @@ pub fn convert_run_by_lent<'a>(
     out2: &mut [u8],
     numbers: &mut [u8],
 ) -> RunAnswer
-    ensures { λ r. ⌜ runCall (runOutcome r) (now (out1 .exit)) (now (out2 .exit)) (now (numbers .exit)) ≡ runBy (rowsIn size (now (months .entry)) (now (seconds .entry))) from to (now (jd1s .entry)) (now (jd2s .entry)) (now (out1 .entry)) (now (out2 .entry)) (now (numbers .entry)) ⌝ }
+    ensures { λ r. ⌜ runCall (runOutcome r) (now (out1 .exit)) (now (out2 .exit)) (now (numbers .exit)) ≡ runBy
+        (rowsIn size (now (months .entry)) (now (seconds .entry))) from to (now (jd1s .entry)) (now (jd2s .entry)) (now (out1 .entry)) (now (out2 .entry))
+        (now (numbers .entry)) ⌝ }
 {
     let number = run_refusal(
         from,
@@ -245,9 +249,10 @@ pub fn convert_run_by_lent<'a>(
     ))
 }
 
-// The dates in scale `to` of a run of stamps in scale `from`: the parts of stamp i in the places i of `out1` and `out2`, its number in `numbers`, 0 or that of its refusal, and
-// the number of refused stamps as the answer. A refused stamp's places stay. Refusals of the whole run in order, before a byte is written: 20 to 22 the table, 18 a scale
-// that is not UTC, TAI, TT, GPS or TCG, 14 a length of parts that is no multiple of eight, 12 another number of second parts than of first, 11 too few places.
+// The dates in scale `to` of a run of stamps in scale `from`: the parts of stamp i in the places i of `out1` and `out2`, its number in `numbers`, 0 or that of
+// its refusal, and the number of refused stamps as the answer. A refused stamp's places stay. Refusals of the whole run in order, before a byte is written: 20
+// to 22 the table, 18 a scale that is not UTC, TAI, TT, GPS or TCG, 14 a length of parts that is no multiple of eight, 12 another number of second parts than
+// of first, 11 too few places.
 pub fn convert_run(
     from: u32,
     to: u32,
@@ -258,7 +263,8 @@ pub fn convert_run(
     out2: &mut [u8],
     numbers: &mut [u8],
 ) -> RunAnswer
-    ensures { λ r. ⌜ runCall (runOutcome r) (now (out1 .exit)) (now (out2 .exit)) (now (numbers .exit)) ≡ convertedRun (tableOf table) from to (now (jd1s .entry)) (now (jd2s .entry)) (now (out1 .entry)) (now (out2 .entry)) (now (numbers .entry)) ⌝ }
+    ensures { λ r. ⌜ runCall (runOutcome r) (now (out1 .exit)) (now (out2 .exit)) (now (numbers .exit)) ≡ convertedRun (tableOf table) from to
+        (now (jd1s .entry)) (now (jd2s .entry)) (now (out1 .entry)) (now (out2 .entry)) (now (numbers .entry)) ⌝ }
 {
     let number = leap_table::rows::table_refusal(table);
     if number != 0 {

@@ -1,4 +1,5 @@
-// The way of a date from one scale to another: the single calls, through TAI. A scale is its number. The rows of a table are a size and two arrays that are lent on.
+// The way of a date from one scale to another: the single calls, through TAI. A scale is its number. The rows of a table are a size and two arrays that are
+// lent on.
 ghost use mathlib.Core.Path.{_≡_};
 ghost use Rattle.refusals.specs.Outcome.{onward};
 ghost use Rattle.julian.specs.JulianDate.{julianOutcome};
@@ -160,7 +161,8 @@ fn through_tai<'a>(
     months: &'a [i32; 16],
     seconds: &'a [i32; 16],
 ) -> JulianAnswer
-    ensures { λ r. ⌜ julianOutcome r ≡ onward (intoTai (rowsIn size (now (months .entry)) (now (seconds .entry))) from jd) (outOfTai (rowsIn size (now (months .entry)) (now (seconds .entry))) to) ⌝ }
+    ensures { λ r. ⌜ julianOutcome r ≡ onward (intoTai (rowsIn size (now (months .entry)) (now (seconds .entry))) from jd)
+        (outOfTai (rowsIn size (now (months .entry)) (now (seconds .entry))) to) ⌝ }
 {
     match into_tai(from, jd, size, months, seconds) {
         JulianAnswer::Refused(n) => JulianAnswer::Refused(n),

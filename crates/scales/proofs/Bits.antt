@@ -1,5 +1,5 @@
--- The bits of the constants that src/tcb_tdb.rt computes: a constant of the code reaches a proof as its bit pattern, and these laws put the definition in its place.
--- Assumes nothing.
+-- The bits of the constants that src/tcb_tdb.rt computes: a constant of the code reaches a proof as its bit pattern, and these laws put the definition in its
+-- place. Assumes nothing.
 use mathlib.Core.Path.{_≡_, refl}
 use lib.Ieee.{binary64, ofBits, round, neg, add, div}
 use Rattle.constants.specs.Constants.{secondsPerDay, mjdZeroPoint, mjd1977Jan1, ttTaiOffset, tdbOffset1977}

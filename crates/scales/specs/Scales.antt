@@ -1,5 +1,5 @@
--- Which outcome each case of a scale's answer is: the parts of its date, or the refusal's number. Written from document 01, "Scale dates" and "Refusals by number".
--- Assumes nothing.
+-- Which outcome each case of a scale's answer is: the parts of its date, or the refusal's number. Written from document 01, "Scale dates" and "Refusals by
+-- number". Assumes nothing.
 use Rattle.refusals.specs.Outcome.{Outcome, answer, refusal}
 use Rattle.julian.specs.declared.JulianDate.{JulianDate}
 use Rattle.scales.specs.declared.UtcAnswer.{UtcAnswer}

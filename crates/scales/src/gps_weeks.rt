@@ -160,8 +160,8 @@ fn by_distance(reference: u32, back: u32) -> FullWeekAnswer
     }
 }
 
-// The week with those ten lowest bits that lies nearest the reference and is not below 0. Refusals in order: 18 for ten bits above 1,023 or a reference above 99,000;
-// 19 where two weeks are equally near.
+// The week with those ten lowest bits that lies nearest the reference and is not below 0. Refusals in order: 18 for ten bits above 1,023 or a reference above
+// 99,000; 19 where two weeks are equally near.
 pub fn full_week(bits: u32, reference: u32) -> FullWeekAnswer
     ensures { λ r. ⌜ fullOutcome r ≡ fullWeek bits reference ⌝ }
 {

@@ -50,7 +50,8 @@ pub block-accepted : (s : List ℕ) (n : ℕ) → answer n ≡ blockOf s → (n 
 unfolding blockOf
 block-accepted s n e = accepted-by s n (ltb (length s) 8) (eqb (u32At s 0) (u32At s 4)) (leb (u32At s 0) 4000) (eqb (length s) (8 + 16 * u32At s 0)) refl refl e
 
-number-by : (n k : ℕ) (a b c d : Bool) → refusal k ≡ cond a (refusal 14) (cond b (cond c (cond d (answer n) (refusal 14)) (refusal 13)) (refusal 12)) → (1 ≤ k) × (k ≤ 28)
+number-by : (n k : ℕ) (a b c d : Bool) → refusal k ≡ cond a (refusal 14) (cond b (cond c (cond d (answer n) (refusal 14)) (refusal 13)) (refusal 12))
+    → (1 ≤ k) × (k ≤ 28)
 number-by n k true b c d e = let m : k ≡ 14 = cc in (omega arith, omega arith)
 number-by n k false false c d e = let m : k ≡ 12 = cc in (omega arith, omega arith)
 number-by n k false true false d e = let m : k ≡ 13 = cc in (omega arith, omega arith)

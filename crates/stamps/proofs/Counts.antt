@@ -39,10 +39,12 @@ module _ (rows : List Row) (jd : JulianDate) (res : DayAnswer) (e : dayOutcome r
       given = let d : dayNumberAndFraction (jd .jd1) (jd .jd2) ≡ answer n = sym e ∙ ap dayOutcome is in rw d refl
 
       by : (b : Bool) → validOf (gregorianDate (n .day)) ≡ cond b (refusal 1) (answer tt) → cond b 1 0 ≡ oneIfRefused (isoTextExpanded rows jd)
-      by true v = sym (ap oneIfRefused (fields-given-by expandedForm rows jd _ given ∙ text-refused-by rows (gregorianDate (n .day)) expandedForm (n .fraction) 1 v))
+      by true v = sym (ap oneIfRefused
+          (fields-given-by expandedForm rows jd _ given ∙ text-refused-by rows (gregorianDate (n .day)) expandedForm (n .fraction) 1 v))
       by false v =
           sym
-          (ap oneIfRefused (fields-given-by expandedForm rows jd _ given ∙ has-text-by rows (gregorianDate (n .day)) v (date-in-range (jd .jd1) (jd .jd2) _ given .year-high) expandedForm (n .fraction)))
+          (ap oneIfRefused (fields-given-by expandedForm rows jd _ given
+          ∙ has-text-by rows (gregorianDate (n .day)) v (date-in-range (jd .jd1) (jd .jd2) _ given .year-high) expandedForm (n .fraction)))
 
 -- a day as the machine reads it back from its bits
 pub day-test : (n : ℤ) (b : Bool) → SFits w64 n → ltZ (toZ w64 (ofZ w64 n)) (negsuc 31737) ≡ b → _≡_ {A = ℕ} (cond b 1 0) (cond (ltZ n (negsuc 31737)) 1 0)

@@ -42,7 +42,8 @@ module _ (how : Telling) (rows : List Row) where
 
   stamp-most : (s : List ℕ) (n i : ℕ) → length (stampLine how rows s n i) ≤ lineRoom how
   unfolding stampLine textAt
-  stamp-most s n i = simp length-append (omega (arith, digits-most 4 i, shown-most how (stampAt s n i) (isoTextExpanded rows (stampAt s n i)) (brief rows (stampAt s n i))))
+  stamp-most s n i = simp length-append
+      (omega (arith, digits-most 4 i, shown-most how (stampAt s n i) (isoTextExpanded rows (stampAt s n i)) (brief rows (stampAt s n i))))
 
   pub line-most : (o : Outcome ℕ) (s : List ℕ) (line : ℕ) → InWidth how s → length (lineOf how rows o s line) ≤ lineRoom how
   unfolding lineOf
@@ -61,10 +62,12 @@ module _ (how : Telling) (rows : List Row) where
   -- 4,001 lines at most, of 64 bytes
   pub part-most : (s : List ℕ) (line room : ℕ) → InWidth how s → length (partText how rows s line room) ≤ 256064
   unfolding partText partLines
-  part-most s line room w = omega (arith, lines-most s line (partLines how rows s line room) w, held-few how rows s line room (linesIn (blockOf s) - line), few-lines s)
+  part-most s line room w = omega
+      (arith, lines-most s line (partLines how rows s line room) w, held-few how rows s line room (linesIn (blockOf s) - line), few-lines s)
 
   -- the lines that are held go into the room
-  first : (s : List ℕ) (line k : ℕ) → length (linesFrom how rows s line (1 + k)) ≡ length (lineOf how rows (blockOf s) s line) + length (linesFrom how rows s (line + 1) k)
+  first : (s : List ℕ) (line k : ℕ)
+      → length (linesFrom how rows s line (1 + k)) ≡ length (lineOf how rows (blockOf s) s line) + length (linesFrom how rows s (line + 1) k)
   unfolding linesFrom
   first s line k =
       let z : line + 0 ≡ line = omega arith in

@@ -22,7 +22,8 @@ use Rattle.numerals.proofs.digits.Places.{then, placed-as}
 
 module _ {d d1 d2 d3 d4 : List ℕ} {at r1 r2 r3 r4 : ℕ} where
   pub stamp-put : (how : Telling) (rows : List Row) (s : List ℕ) (n i : ℕ) (jd : JulianDate) → jd ≡ stampAt s n i
-      → Placed d at (numeral i) r1 d1 → Placed d1 r1 (32 ∷ []) r2 d2 → Placed d2 r2 (shown how jd (isoTextExpanded rows jd)) r3 d3 → Placed d3 r3 (10 ∷ []) r4 d4 → r4 ≤ length d
+      → Placed d at (numeral i) r1 d1 → Placed d1 r1 (32 ∷ []) r2 d2 → Placed d2 r2 (shown how jd (isoTextExpanded rows jd)) r3 d3
+      → Placed d3 r3 (10 ∷ []) r4 d4 → r4 ≤ length d
       → Placed d at (stampLine how rows s n i) r4 d4
   unfolding stampLine textAt
   stamp-put how rows s n i jd e p1 p2 p3 p4 le =
@@ -31,12 +32,14 @@ module _ {d d1 d2 d3 d4 : List ℕ} {at r1 r2 r3 r4 : ℕ} where
       then (then (then p1 p2 (omega arith)) (placed-as (ap (λ (j : JulianDate). shown how j (isoTextExpanded rows j)) e) p3) (omega arith)) p4 le
 
 -- one stamp more is counted
-pub refused-more : (rows : List Row) (s : List ℕ) (n k m : ℕ) (jd : JulianDate) (one : ℕ) → m ≡ refusedIn rows s n k → jd ≡ stampAt s n k → one ≡ oneIfRefused (isoTextExpanded rows jd) → m + one ≡ refusedIn rows s n (k + 1)
+pub refused-more : (rows : List Row) (s : List ℕ) (n k m : ℕ) (jd : JulianDate) (one : ℕ) → m ≡ refusedIn rows s n k → jd ≡ stampAt s n k
+    → one ≡ oneIfRefused (isoTextExpanded rows jd) → m + one ≡ refusedIn rows s n (k + 1)
 unfolding refusedIn textAt
 refused-more rows s n k m jd one em ej eo = rw add-one (cc)
 
 -- one line more is written
-pub lines-more : {d d1 d2 : List ℕ} {at r : ℕ} (how : Telling) (rows : List Row) (s : List ℕ) (line k : ℕ) → Placed d 0 (linesFrom how rows s line k) at d1 → Placed d1 at (lineOf how rows (blockOf s) s (line + k)) r d2 → r ≤ length d
+pub lines-more : {d d1 d2 : List ℕ} {at r : ℕ} (how : Telling) (rows : List Row) (s : List ℕ) (line k : ℕ) → Placed d 0 (linesFrom how rows s line k) at d1
+    → Placed d1 at (lineOf how rows (blockOf s) s (line + k)) r d2 → r ≤ length d
     → Placed d 0 (linesFrom how rows s line (k + 1)) r d2
 unfolding linesFrom
 lines-more how rows s line k p q le = rw add-one (then p q le)

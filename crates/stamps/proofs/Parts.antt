@@ -29,7 +29,8 @@ module _ (how : Telling) (rows : List Row) (s : List ℕ) where
   held-full line room zero h = refl
   held-full line room (suc left) h = simp (lt-leb _ _ h)
 
-  held-one : (line room left : ℕ) → lineRoom how ≤ room → heldLines how rows s line room (suc left) ≡ 1 + heldLines how rows s (line + 1) (room - length (lineOf how rows (blockOf s) s line)) left
+  held-one : (line room left : ℕ) → lineRoom how ≤ room
+      → heldLines how rows s line room (suc left) ≡ 1 + heldLines how rows s (line + 1) (room - length (lineOf how rows (blockOf s) s line)) left
   unfolding heldLines
   held-one line room left h = simp (le-leb _ _ h)
 
@@ -38,7 +39,8 @@ module _ (how : Telling) (rows : List Row) (s : List ℕ) where
   held-few line room zero = omega arith
   held-few line room (suc left) = by (leb (lineRoom how) room) refl (held-few (line + 1) (room - length (lineOf how rows (blockOf s) s line)) left)
     where
-      by : (b : Bool) → leb (lineRoom how) room ≡ b → heldLines how rows s (line + 1) (room - length (lineOf how rows (blockOf s) s line)) left ≤ left → heldLines how rows s line room (suc left) ≤ suc left
+      by : (b : Bool) → leb (lineRoom how) room ≡ b → heldLines how rows s (line + 1) (room - length (lineOf how rows (blockOf s) s line)) left ≤ left
+          → heldLines how rows s line room (suc left) ≤ suc left
       by true e h = rw e (omega arith)
       by false e h = rw e (omega arith)
 
@@ -67,18 +69,21 @@ module _ (how : Telling) (rows : List Row) (s : List ℕ) where
     pub ends-all : left ≤ k → heldLines how rows s line whole left ≡ k
     ends-all h = let z = held-few (line + k) (whole - at) (left - k) in omega arith
 
-    pub goes-on : (r : ℕ) → k < left → lineRoom how ≤ whole - at → r ≡ at + length (lineOf how rows (blockOf s) s (line + k)) → heldLines how rows s line whole left ≡ (k + 1) + heldLines how rows s (line + (k + 1)) (whole - r) (left - (k + 1))
+    pub goes-on : (r : ℕ) → k < left → lineRoom how ≤ whole - at → r ≡ at + length (lineOf how rows (blockOf s) s (line + k))
+        → heldLines how rows s line whole left ≡ (k + 1) + heldLines how rows s (line + (k + 1)) (whole - r) (left - (k + 1))
     goes-on r h room e =
         let l : left - k ≡ suc (left - (k + 1)) = omega arith in
         let one = held-one (line + k) (whole - at) (left - (k + 1)) room in
         let m : whole - at - length (lineOf how rows (blockOf s) s (line + k)) ≡ whole - r = omega arith in
         so-far
         ∙ ap (λ (x : ℕ). k + heldLines how rows s (line + k) (whole - at) x) l
-        ∙ ap (λ (x : ℕ). k + x) (one ∙ ap (λ (x : ℕ). 1 + heldLines how rows s (line + k + 1) x (left - (k + 1))) m ∙ ap (λ (x : ℕ). 1 + heldLines how rows s x (whole - r) (left - (k + 1))) (add-assoc line k 1))
+        ∙ ap (λ (x : ℕ). k + x) (one ∙ ap (λ (x : ℕ). 1 + heldLines how rows s (line + k + 1) x (left - (k + 1))) m
+        ∙ ap (λ (x : ℕ). 1 + heldLines how rows s x (whole - r) (left - (k + 1))) (add-assoc line k 1))
         ∙ sym (add-assoc k 1 (heldLines how rows s (line + (k + 1)) (whole - r) (left - (k + 1))))
 
   -- the answer
-  module _ (line : ℕ) (d d′ : List ℕ) (left k at : ℕ) (el : left ≡ linesIn (blockOf s) - line) (held : heldLines how rows s line (length d) left ≡ k) (p : Placed d 0 (linesFrom how rows s line k) at d′) where
+  module _ (line : ℕ) (d d′ : List ℕ) (left k at : ℕ) (el : left ≡ linesIn (blockOf s) - line) (held : heldLines how rows s line (length d) left ≡ k)
+      (p : Placed d 0 (linesFrom how rows s line k) at d′) where
     count : partLines how rows s line (length d) ≡ k
     unfolding partLines
     count = ap (heldLines how rows s line (length d)) (sym el) ∙ held
@@ -118,7 +123,8 @@ module _ {how : Telling} {rows : List Row} {s d d′ : List ℕ} {line : ℕ} {r
   unfolding partOf partLines
   part-brings-on room e =
       let n : r .line ≡ line + heldLines how rows s line (length d) (linesIn (blockOf s) - line) = ap (λ (x : Part). x .line) (p .says) in
-      let b = leb-false (linesIn (blockOf s)) (line + heldLines how rows s line (length d) (linesIn (blockOf s) - line)) (sym (ap (λ (x : Part). x .done) (p .says)) ∙ e) in
+      let b = leb-false (linesIn (blockOf s)) (line + heldLines how rows s line (length d) (linesIn (blockOf s) - line))
+      (sym (ap (λ (x : Part). x .done) (p .says)) ∙ e) in
       let some = held-some how rows s line (length d) (linesIn (blockOf s) - line) room (omega arith) in
       let few = few-lines s in
       (omega arith, omega arith)

@@ -33,7 +33,8 @@ pub one-digit : {d d1 : List ℕ} {at r : ℕ} (n k : ℕ) → n < 10 → Placed
 unfolding digitsIn
 one-digit n k h p = (rw (lt-ltb n 10 h) p, omega (arith, p .ends))
 
-pub more-digits : {d d1 d2 : List ℕ} {at r r2 : ℕ} (n k : ℕ) → 10 ≤ n → at + suc k ≤ length d → Placed d at (digitsIn k (n / 10)) r d1 → Placed d1 r (last n ∷ []) r2 d2
+pub more-digits : {d d1 d2 : List ℕ} {at r r2 : ℕ} (n k : ℕ) → 10 ≤ n → at + suc k ≤ length d → Placed d at (digitsIn k (n / 10)) r d1
+    → Placed d1 r (last n ∷ []) r2 d2
     → Placed d at (digitsIn (suc k) n) r2 d2 × (r2 ≤ at + suc k)
 unfolding digitsIn
 more-digits n k h room p q =

@@ -1,5 +1,5 @@
--- The text of a stamp has at most 27 bytes, so where there is room for them the text call refuses only what the conversion refuses; and what is shown how jd of a stamp, or
--- told of a refusal, leaves of a line's room the bytes before and after it. Assumes nothing.
+-- The text of a stamp has at most 27 bytes, so where there is room for them the text call refuses only what the conversion refuses; and what is shown how jd of
+-- a stamp, or told of a refusal, leaves of a line's room the bytes before and after it. Assumes nothing.
 use Prim.Native.Nat.{ℕ, _+_, _≤_}
 use native.Mathlib.Omega.{arith}
 use mathlib.Core.Path.{_≡_, refl, sym, ap, _∙_}
@@ -118,7 +118,8 @@ told-refused (answer t) p k b h e = let m = b t refl in absurd (refused-by t p k
 told-refused (refusal j) p k b h e = let same : j ≡ k = cc in (ap refusal same, refl)
 
 module _ {o : Outcome (List ℕ)} {p ys : List ℕ} {res : TextAnswer} (call : TextCall o p res ys) where
-  pub text-written : (how : Telling) (jd : JulianDate) (n : ℕ) → res ≡ Written n → (n ≡ length (shown how jd o)) × (ys ≡ shown how jd o ++ drop (length (shown how jd o)) p)
+  pub text-written : (how : Telling) (jd : JulianDate) (n : ℕ) → res ≡ Written n → (n ≡ length (shown how jd o))
+      × (ys ≡ shown how jd o ++ drop (length (shown how jd o)) p)
   unfolding textOutcome
   text-written how jd n e = let w = told-written how jd o p n (sym (call .says) ∙ ap textOutcome e) in (w .0, call .holds ∙ w .1)
 

@@ -1,5 +1,5 @@
--- The listing by line numbers, and the part of it that a scratch holds. Written from document 01, "The program that lists a block" ("It writes through a 4,096-byte
--- scratch"), for a scratch of any length, and document 02, item 8, for a table that may be refused. Assumes nothing.
+-- The listing by line numbers, and the part of it that a scratch holds. Written from document 01, "The program that lists a block" ("It writes through a
+-- 4,096-byte scratch"), for a scratch of any length, and document 02, item 8, for a table that may be refused. Assumes nothing.
 use Prim.Native.Nat.{ℕ, zero, suc, _+_, _-_}
 use mathlib.Core.Path.{_≡_}
 use mathlib.Core.List.{List, [], _++_}
@@ -32,7 +32,8 @@ linesFrom how rows s line (suc k) = linesFrom how rows s line k ++ lineOf how ro
 -- how many of the `left` lines from `line` on go into `room` bytes, where a line is begun only if the room of a line is left
 unfoldable pub heldLines : Telling → List Row → List ℕ → ℕ → ℕ → ℕ → ℕ
 heldLines how rows s line room zero = 0
-heldLines how rows s line room (suc left) = cond (leb (lineRoom how) room) (1 + heldLines how rows s (line + 1) (room - length (lineOf how rows (blockOf s) s line)) left) 0
+heldLines how rows s line room (suc left) =
+    cond (leb (lineRoom how) room) (1 + heldLines how rows s (line + 1) (room - length (lineOf how rows (blockOf s) s line)) left) 0
 
 -- the number of lines in the part from `line` on, and its bytes
 unfoldable pub partLines : Telling → List Row → List ℕ → ℕ → ℕ → ℕ

@@ -18,7 +18,8 @@ pub enum BlockAnswer {
     Refused(u32),
 }
 
-// How a listing tells a refusal: by its number, or by its sentence; of a refused block the sentence may name how many bytes came in all, of which the block has the first.
+// How a listing tells a refusal: by its number, or by its sentence; of a refused block the sentence may name how many bytes came in all, of which the block has
+// the first.
 pub enum Telling {
     Numbers,
     Sentences(u64),

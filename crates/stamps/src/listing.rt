@@ -30,8 +30,8 @@ use leap_table::rows::AnnouncedRows;
 use scales::UTC;
 use utc::text::TextAnswer;
 
-// A line is begun only where so many bytes are left. By numbers the longest line has four bytes of the index, a blank, the longest text, 27, and the line's end; by
-// sentences it has `block`, a blank, the longest sentence, 57, and the line's end.
+// A line is begun only where so many bytes are left. By numbers the longest line has four bytes of the index, a blank, the longest text, 27, and the line's
+// end; by sentences it has `block`, a blank, the longest sentence, 57, and the line's end.
 fn line_room(how: Telling) -> usize
     ensures { λ r. ⌜ r ≡ lineRoom how ⌝ }
 {
@@ -92,8 +92,8 @@ fn surely_shown(sum: f64) -> bool
     sum >= 0.0 && sum <= 1e9
 }
 
-// 1 where a date has no text, else 0, by whatever rows. Of the text's conversion the day number is made at most: what comes after it refuses only the days before
-// the first.
+// 1 where a date has no text, else 0, by whatever rows. Of the text's conversion the day number is made at most: what comes after it refuses only the days
+// before the first.
 fn one_if_refused(jd: JulianDate) -> u32
     ensures { λ r. ⌜ ((rows : List Row) → r ≡ oneIfRefused (isoTextExpanded rows jd)) × (r ≤ 1) ⌝ }
 {
@@ -184,9 +184,9 @@ fn less(a: usize, b: usize) -> usize
     if b < a { a - b } else { 0 }
 }
 
-// The next part of the listing, from line `line` on, by the rows of a table that is tested elsewhere: as many whole lines as the scratch surely holds, at its start.
-// A scratch of 33 bytes or more holds one, and where sentences are told one of 64. Into a shorter one nothing is written, and the answer names the same line with `done`
-// false: a caller that asks again with it never comes to an end.
+// The next part of the listing, from line `line` on, by the rows of a table that is tested elsewhere: as many whole lines as the scratch surely holds, at its
+// start. A scratch of 33 bytes or more holds one, and where sentences are told one of 64. Into a shorter one nothing is written, and the answer names the same
+// line with `done` false: a caller that asks again with it never comes to an end.
 pub fn next_told_part_by_rows(
     how: Telling,
     block: &[u8],

@@ -56,7 +56,8 @@ module _ (q rate a b : ℕ) where
   unfolding overLimit
   within e = go (ltb 1000000 q) refl (ltb 1000000 rate) refl (ltb 1000000 a) refl (ltb 1000000 b) refl e
     where
-      go : (s : Bool) → ltb 1000000 q ≡ s → (t : Bool) → ltb 1000000 rate ≡ t → (u : Bool) → ltb 1000000 a ≡ u → (v : Bool) → ltb 1000000 b ≡ v → s || (t || (u || v)) ≡ false → (q ≤ 1000000) × (rate ≤ 1000000) × (a ≤ 1000000) × (b ≤ 1000000)
+      go : (s : Bool) → ltb 1000000 q ≡ s → (t : Bool) → ltb 1000000 rate ≡ t → (u : Bool) → ltb 1000000 a ≡ u → (v : Bool) → ltb 1000000 b ≡ v
+          → s || (t || (u || v)) ≡ false → (q ≤ 1000000) × (rate ≤ 1000000) × (a ≤ 1000000) × (b ≤ 1000000)
       go false p false r false s false t e = (ltb-false 1000000 q p, ltb-false 1000000 rate r, ltb-false 1000000 a s, ltb-false 1000000 b t)
       go true p t r u s v t′ e = absurd (true≢false e)
       go false p true r u s v t′ e = absurd (true≢false e)

@@ -43,10 +43,12 @@ module _ (total a b : ℕ) (h : 0 < a + b) where
       omega (arith, r)
 
   -- ---- by the order of the remainders
-  pub to-second : (q : ℕ) → remainder total a m < remainder total b m → bill q (shareDown total a m) (shareDown total b m + centLeft total a b) ≡ shares q total a b
+  pub to-second : (q : ℕ) → remainder total a m < remainder total b m
+      → bill q (shareDown total a m) (shareDown total b m + centLeft total a b) ≡ shares q total a b
   unfolding shares
   to-second q g = rw (lt-ltb (remainder total a m) (remainder total b m) g)
 
-  pub to-first : (q : ℕ) → remainder total b m ≤ remainder total a m → bill q (shareDown total a m + centLeft total a b) (shareDown total b m) ≡ shares q total a b
+  pub to-first : (q : ℕ) → remainder total b m ≤ remainder total a m
+      → bill q (shareDown total a m + centLeft total a b) (shareDown total b m) ≡ shares q total a b
   unfolding shares
   to-first q g = rw (le-ltb (remainder total a m) (remainder total b m) g)

@@ -4,7 +4,7 @@ use mathlib.Core.Bool.{Bool, true, false, true≢false, cond, _&&_}
 use mathlib.Core.List.{List}
 use Prim.Native.Nat.{ℕ, _+_, _-_, _≤_, _<_}
 use native.Mathlib.Omega.{arith}
-use lib.Dec.{eqb, leb, ltb}
+use lib.Dec.{leb, ltb}
 use lib.IntN.{ℤ, pos, negsuc, natAbs}
 use lib.Signed.{ltZ}
 use borrow.Author.Tests.{lt-leb, le-leb, eq-eqb, ne-eqb, leb-true, ltb-false, le-ltb}
@@ -77,7 +77,8 @@ a-month-here : (rows : List Row) (y : ℤ) (m : ℕ) → ltZ y (pos 1972) ≡ fa
 unfolding wholeSeconds
 a-month-here rows y m p g h = rw (p, le-ltb m 1 g, le-ltb 12 m h)
 
-pub offset-small : (t : AnnouncedRows) (rows : List Row) → tableOf t ≡ answer rows → (y : ℤ) (m : ℕ) → ltZ y (pos 1972) ≡ false → 1 ≤ m → m ≤ 12 → (10 ≤ wholeSeconds rows y m) × (wholeSeconds rows y m ≤ 53)
+pub offset-small : (t : AnnouncedRows) (rows : List Row) → tableOf t ≡ answer rows → (y : ℤ) (m : ℕ) → ltZ y (pos 1972) ≡ false → 1 ≤ m → m ≤ 12
+    → (10 ≤ wholeSeconds rows y m) × (wholeSeconds rows y m ≤ 53)
 offset-small t rows e y m p g h =
     subst (λ (k : ℕ). (10 ≤ k) × (k ≤ 53)) (sym (a-month-here rows y m p g h)) (seconds-in-range t rows e (monthNumber y m) (late y m p g))
 

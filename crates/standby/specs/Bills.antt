@@ -1,6 +1,6 @@
--- The bill for a crew's standby. Written from document 02, item 11: each started 900 s, at most 1,000,000 quarters, a rate of at most 1,000,000 cents, at most 1,000,000
--- metres each; "both shares are rounded down, and a cent left over goes to the larger remainder, a tie to the first"; "Turned away after those: 26 for an end before the
--- start; 27 for a number over its limit; 28 for both lengths 0". Assumes nothing.
+-- The bill for a crew's standby. Written from document 02, item 11: each started 900 s, at most 1,000,000 quarters, a rate of at most 1,000,000 cents, at most
+-- 1,000,000 metres each; "both shares are rounded down, and a cent left over goes to the larger remainder, a tie to the first"; "Turned away after those: 26
+-- for an end before the start; 27 for a number over its limit; 28 for both lengths 0". Assumes nothing.
 use Prim.Native.Nat.{ℕ, _+_, _-_, _*_, _/_, _%_}
 use mathlib.Core.Bool.{Bool, cond, _||_}
 use mathlib.Core.List.{List}

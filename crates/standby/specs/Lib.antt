@@ -1,5 +1,5 @@
--- What the contract of `standby_bill` cites, in the order to read it: which UTC times are refused and what their exact TAI is, the bill with its refusals, and the outcome
--- that each answer of the code stands for.
+-- What the contract of `standby_bill` cites, in the order to read it: which UTC times are refused and what their exact TAI is, the bill with its refusals, and
+-- the outcome that each answer of the code stands for.
 pub mod Times
 pub mod Bills
 pub mod Answers

@@ -1,6 +1,6 @@
--- UTC times to the millisecond from 1972 on: which are refused, and their exact TAI. Written from document 02, item 11: "A date or time fault has `utc_from_calendar`'s
--- number, a millisecond over 999 is 4 .. years before 1972 are number 1"; document 01's order is year, month, day, no next day, time. All by whole numbers: from 1972 on
--- TAI-UTC is whole seconds. Assumes nothing.
+-- UTC times to the millisecond from 1972 on: which are refused, and their exact TAI. Written from document 02, item 11: "A date or time fault has
+-- `utc_from_calendar`'s number, a millisecond over 999 is 4 .. years before 1972 are number 1"; document 01's order is year, month, day, no next day, time. All
+-- by whole numbers: from 1972 on TAI-UTC is whole seconds. Assumes nothing.
 use Prim.Native.Nat.{ℕ, _+_, _-_, _*_}
 use mathlib.Core.Bool.{Bool, cond, _&&_}
 use mathlib.Core.List.{List}

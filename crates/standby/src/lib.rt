@@ -228,8 +228,8 @@ fn bill_between(
     ))
 }
 
-// The bill for a crew's standby between two UTC times: each started 900 s at `rate` cents, shared between two owners by their metres of line. Refusals in order: 20 to 22
-// the table; 1, 2, 3, 5, 4 the start, then the end; 26 the end before the start; 27 a number over its limit; 28 both lengths 0.
+// The bill for a crew's standby between two UTC times: each started 900 s at `rate` cents, shared between two owners by their metres of line. Refusals in
+// order: 20 to 22 the table; 1, 2, 3, 5, 4 the start, then the end; 26 the end before the start; 27 a number over its limit; 28 both lengths 0.
 pub fn standby_bill(
     start: UtcTime,
     end: UtcTime,

@@ -14,9 +14,9 @@ use Rattle.calendar.specs.Calendar.{date, dateAt, next, leapYear, monthLength}
 use Rattle.calendar.specs.Refusals.{validDate}
 use Rattle.calendar.specs.DayCount.{mjdNumber}
 use Rattle.calendar.specs.InCalendar.{InCalendar}
-use Rattle.calendar.proofs.Accepted.{date-accepted, short}
+use Rattle.calendar.proofs.Accepted.{short}
 use Rattle.calendar.proofs.Days.{after, date-at-in-calendar}
-use Rattle.calendar.proofs.Years.{next-keeps, years-later}
+use Rattle.calendar.proofs.Years.{years-later}
 use Rattle.calendar.proofs.Mjd.{day-of-date}
 use Rattle.standby.proofs.Times.{mjd-natural}
 use Rattle.standby_laws.specs.Fields.{lessBy}
@@ -46,7 +46,8 @@ next-rises t c p = go (ltb (t .day) (monthLength (t .year) (t .month))) (ltb (t 
     few : t .day ≤ 31
     few = omega (arith, c .d-high, short (leapYear (t .year)) (t .month) (c .m-low) (c .m-high))
 
-    go : (a b : Bool) → ltb (t .month) 12 ≡ b → keyOf t < keyOf (cond a (date (t .year) (t .month) (t .day + 1)) (cond b (date (t .year) (t .month + 1) 1) (date (sucℤ (t .year)) 1 1)))
+    go : (a b : Bool) → ltb (t .month) 12 ≡ b
+        → keyOf t < keyOf (cond a (date (t .year) (t .month) (t .day + 1)) (cond b (date (t .year) (t .month + 1) 1) (date (sucℤ (t .year)) 1 1)))
     go true b e = omega arith
     go false true e = omega (arith, few)
     go false false e = omega (arith, few, one-year (t .year) p, c .m-high)
@@ -88,7 +89,8 @@ module _ (y : ℤ) (m d : ℕ) (p : From y) (v : validDate y (pos m) (pos d) ≡
       let k = day-of-date y (pos m) (pos d) v in
       ap dateAt (sym (unsub (k .0) 2578142 (mjd y m d) (sym (k .1) ∙ mjd-natural y (pos m) (pos d) p))) ∙ k .2
 
-module _ (y : ℤ) (m d : ℕ) (p : From y) (v : validDate y (pos m) (pos d) ≡ answer tt) (y′ : ℤ) (m′ d′ : ℕ) (p′ : From y′) (v′ : validDate y′ (pos m′) (pos d′) ≡ answer tt) where
+module _ (y : ℤ) (m d : ℕ) (p : From y) (v : validDate y (pos m) (pos d) ≡ answer tt) (y′ : ℤ) (m′ d′ : ℕ) (p′ : From y′)
+    (v′ : validDate y′ (pos m′) (pos d′) ≡ answer tt) where
   pub earlier-day : mjd y m d < mjd y′ m′ d′ → key (natAbs y) m d < key (natAbs y′) m′ d′
   earlier-day h =
       let a = day-is y m d p v in
@@ -105,7 +107,8 @@ module _ (y m d y′ m′ d′ : ℕ) (r r′ : List ℕ) (hm : m ≤ 12) (hd : 
   pub date-less : key y m d < key y′ m′ d′ → lessBy (y ∷ m ∷ d ∷ r) (y′ ∷ m′ ∷ d′ ∷ r′) ≡ true
   date-less h = go (eqb y y′) refl (eqb m m′) refl (eqb d d′) refl
     where
-      go : (a : Bool) → eqb y y′ ≡ a → (b : Bool) → eqb m m′ ≡ b → (c : Bool) → eqb d d′ ≡ c → cond a (cond b (cond c (lessBy r r′) (ltb d d′)) (ltb m m′)) (ltb y y′) ≡ true
+      go : (a : Bool) → eqb y y′ ≡ a → (b : Bool) → eqb m m′ ≡ b → (c : Bool) → eqb d d′ ≡ c
+          → cond a (cond b (cond c (lessBy r r′) (ltb d d′)) (ltb m m′)) (ltb y y′) ≡ true
       go false e b f c g = lt-ltb y y′ (smaller y y′ (eqb-false y y′ e) (omega arith))
       go true e false f c g = lt-ltb m m′ (smaller m m′ (eqb-false m m′ f) (omega (arith, eqb-true y y′ e)))
       go true e true f false g = lt-ltb d d′ (omega (arith, eqb-true y y′ e, eqb-true m m′ f))
@@ -114,7 +117,8 @@ module _ (y m d y′ m′ d′ : ℕ) (r r′ : List ℕ) (hm : m ≤ 12) (hd : 
   pub date-more : key y′ m′ d′ < key y m d → lessBy (y ∷ m ∷ d ∷ r) (y′ ∷ m′ ∷ d′ ∷ r′) ≡ false
   date-more h = go (eqb y y′) refl (eqb m m′) refl (eqb d d′) refl
     where
-      go : (a : Bool) → eqb y y′ ≡ a → (b : Bool) → eqb m m′ ≡ b → (c : Bool) → eqb d d′ ≡ c → cond a (cond b (cond c (lessBy r r′) (ltb d d′)) (ltb m m′)) (ltb y y′) ≡ false
+      go : (a : Bool) → eqb y y′ ≡ a → (b : Bool) → eqb m m′ ≡ b → (c : Bool) → eqb d d′ ≡ c
+          → cond a (cond b (cond c (lessBy r r′) (ltb d d′)) (ltb m m′)) (ltb y y′) ≡ false
       go false e b f c g = le-ltb y y′ (omega arith)
       go true e false f c g = le-ltb m m′ (omega (arith, eqb-true y y′ e))
       go true e true f false g = le-ltb d d′ (omega (arith, eqb-true y y′ e, eqb-true m m′ f))

@@ -1,7 +1,7 @@
 -- EACH REFUSAL exactly where it is due: of a bill 26, 27 and 28, of a time 1, the calendar's and 4; and equal times cost nothing. Assumes nothing.
 use mathlib.Core.Path.{_≡_, refl, ap, sym, _∙_}
 use mathlib.Core.Bool.{Bool, true, false, true≢false, _||_}
-use mathlib.Core.Logic.{_⊎_, inl, inr}
+use mathlib.Core.Logic.{inl, inr}
 use mathlib.Core.List.{List}
 use Prim.Native.Nat.{ℕ, zero, suc, _+_, _-_, _*_, _≤_, _<_}
 use native.Mathlib.Omega.{arith}
@@ -10,13 +10,13 @@ use lib.Dec.{ltb, eqb}
 use lib.IntN.{pos}
 use lib.Signed.{ltZ}
 use borrow.Author.Tests.{ltb-true, ltb-false, eqb-true, eqb-false}
-use Rattle.refusals.specs.Outcome.{Outcome, answer, refusal, onward}
+use Rattle.refusals.specs.Outcome.{Outcome, answer, refusal}
 use Rattle.calendar.specs.declared.CalendarDate.{CalendarDate}
 use Rattle.calendar.specs.Refusals.{nextOf}
 use Rattle.leap_table.specs.rows.Table.{Row}
 use Rattle.standby.specs.declared.UtcTime.{UtcTime}
-use Rattle.standby.specs.Times.{inItsDay, lastMinute, instant}
-use Rattle.standby.specs.Bills.{quarters, quartersBetween, overLimit, bill, shares, billBetween, standbyBill}
+use Rattle.standby.specs.Times.{inItsDay, lastMinute}
+use Rattle.standby.specs.Bills.{quarters, quartersBetween, overLimit, bill, shares, billBetween}
 use Rattle.standby.proofs.Ladder as L
 use Rattle.standby.proofs.Numbers.{within}
 use Rattle.standby.proofs.Times as T
@@ -37,7 +37,8 @@ which : (e rate a b : ℕ) → overLimit (quarters e) rate a b ≡ true → Over
 unfolding overLimit
 which e rate a b p = go (ltb 1000000 (quarters e)) refl (ltb 1000000 rate) refl (ltb 1000000 a) refl (ltb 1000000 b) refl p
   where
-    go : (s : Bool) → ltb 1000000 (quarters e) ≡ s → (t : Bool) → ltb 1000000 rate ≡ t → (u : Bool) → ltb 1000000 a ≡ u → (v : Bool) → ltb 1000000 b ≡ v → s || (t || (u || v)) ≡ true → Over e rate a b
+    go : (s : Bool) → ltb 1000000 (quarters e) ≡ s → (t : Bool) → ltb 1000000 rate ≡ t → (u : Bool) → ltb 1000000 a ≡ u → (v : Bool) → ltb 1000000 b ≡ v
+        → s || (t || (u || v)) ≡ true → Over e rate a b
     go true x t y u z v w p = inl (many e (ltb-true 1000000 (quarters e) x))
     go false x true y u z v w p = inr (inl (ltb-true 1000000 rate y))
     go false x false y true z v w p = inr (inr (inl (ltb-true 1000000 a z)))
@@ -59,7 +60,8 @@ bill-decided s e rate a b = go (ltb e s) refl (overLimit (quartersBetween s e) r
     go : (t : Bool) → ltb e s ≡ t → (u : Bool) → overLimit (quartersBetween s e) rate a b ≡ u → (v : Bool) → eqb (a + b) 0 ≡ v → BillDecision s e rate a b
     go true p u q v r = backward (ltb-true e s p) (sym (L.backward s e rate a b (ltb-true e s p)))
     go false p true q v r = over (ltb-false e s p) (which (e - s) rate a b q) (sym (L.over s e rate a b (ltb-false e s p) q))
-    go false p false q true r = no-line (ltb-false e s p) (none-over (e - s) rate a b q) (eqb-true (a + b) 0 r) (sym (L.no-line s e rate a b (ltb-false e s p) q (eqb-true (a + b) 0 r)))
+    go false p false q true r = no-line (ltb-false e s p) (none-over (e - s) rate a b q) (eqb-true (a + b) 0 r)
+        (sym (L.no-line s e rate a b (ltb-false e s p) q (eqb-true (a + b) 0 r)))
     go false p false q false r =
         billed (ltb-false e s p) (none-over (e - s) rate a b q) (positive (a + b) (eqb-false (a + b) 0 r))
         (sym (L.billed s e rate a b (ltb-false e s p) q (eqb-false (a + b) 0 r)))
@@ -94,4 +96,5 @@ equal-times s rate a b h k l m = go (bill-decided s s rate a b)
     go (over p (inr (inr (inl x))) e) = absurd (omega (arith, x))
     go (over p (inr (inr (inr x))) e) = absurd (omega (arith, x))
     go (no-line p w z e) = absurd (omega (arith, z))
-    go (billed p w z e) = e ∙ ap (λ (q : ℕ). answer (shares q (q * rate) a b)) (no-time-no-quarter s) ∙ ap (λ (q : ℕ). answer (shares 0 q a b)) (zero-mul rate) ∙ ap answer (nothing-shared 0 a b)
+    go (billed p w z e) = e ∙ ap (λ (q : ℕ). answer (shares q (q * rate) a b)) (no-time-no-quarter s)
+        ∙ ap (λ (q : ℕ). answer (shares 0 q a b)) (zero-mul rate) ∙ ap answer (nothing-shared 0 a b)

@@ -1,4 +1,5 @@
--- THE OFFSET of a time's exact TAI is TAI-UTC of its date: the whole number whose float `get_tai_utc_offset` gives, at every fraction of the day. Assumes nothing.
+-- THE OFFSET of a time's exact TAI is TAI-UTC of its date: the whole number whose float `get_tai_utc_offset` gives, at every fraction of the day. Assumes
+-- nothing.
 use mathlib.Core.Path.{_≡_, ap, sym, _∙_}
 use mathlib.Core.Bool.{true, false}
 use mathlib.Core.List.{List}
@@ -20,7 +21,8 @@ use Rattle.standby.specs.declared.UtcTime.{UtcTime}
 use Rattle.standby.specs.Times.{offsetOnDate}
 use Rattle.standby_laws.proofs.Faults.{whole-here}
 
-pub offset-is-tai-utc : (table : AnnouncedRows) (rows : List Row) → tableOf table ≡ answer rows → (t : UtcTime) → ltZ (t .year) (pos 1972) ≡ false → validDate (t .year) (pos (t .month)) (pos (t .day)) ≡ answer tt
+pub offset-is-tai-utc : (table : AnnouncedRows) (rows : List Row) → tableOf table ≡ answer rows → (t : UtcTime) → ltZ (t .year) (pos 1972) ≡ false
+    → validDate (t .year) (pos (t .month)) (pos (t .day)) ≡ answer tt
     → (f : Float) → inDay f ≡ true → taiUtcOffset rows (t .year) (pos (t .month)) (pos (t .day)) f ≡ answer (wholeF (offsetOnDate rows t))
 offset-is-tai-utc table rows taken t p v f h =
     let a = date-accepted (t .year) (pos (t .month)) (pos (t .day)) v in

@@ -1,5 +1,5 @@
--- FAULTS ARE utc_from_calendar's: for years from 1972 on and up to 999 ms, a time is refused exactly where `utc_from_calendar` refuses it, with the same number, under
--- every table that is taken. Assumes nothing.
+-- FAULTS ARE utc_from_calendar's: for years from 1972 on and up to 999 ms, a time is refused exactly where `utc_from_calendar` refuses it, with the same
+-- number, under every table that is taken. Assumes nothing.
 use mathlib.Core.Path.{_≡_, refl, ap, sym, subst, _∙_}
 use mathlib.Core.Bool.{Bool, true, false, true≢false, cond, _&&_}
 use mathlib.Core.Logic.{_⊎_, inl, inr}
@@ -58,7 +58,8 @@ holds false t = absurd t
 
 close : (n : ℕ) → n < 256000 → Near (decimal n 3) n 0 1000 1030
 close n h =
-    rounds-near 1030 {z = decimal n 3} {P = n} {N = 0} {D = 1000} (lit< tt) (lit≤ tt) (wide512 (n * L) L (2 ^ 1083) (rw L-is) L-pos (mul-le-mul-right L (le-of-lt h)))
+    rounds-near 1030 {z = decimal n 3} {P = n} {N = 0} {D = 1000} (lit< tt) (lit≤ tt)
+    (wide512 (n * L) L (2 ^ 1083) (rw L-is) L-pos (mul-le-mul-right L (le-of-lt h)))
     (wide-back (n * L) L (2 ^ 1083) (rw L-is) L-pos)
     (record { sign = false; size = n; eq = refl; is = add-zero n })
   where
@@ -86,7 +87,8 @@ second-test s ms b h k l = go (ltb s b) refl
     go false e = second-reached (1000 * s + ms) b (omega (arith, ltb-false s b e)) l (omega arith)
 
 -- ---- the limit of the last minute
-limit-is : (c : Bool) (x : Float) (last : ℕ) → add binary64 (decimal 60 0) x ≡ decimal last 0 → cond c (add binary64 (decimal 60 0) x) (decimal 60 0) ≡ decimal (cond c last 60) 0
+limit-is : (c : Bool) (x : Float) (last : ℕ) → add binary64 (decimal 60 0) x ≡ decimal last 0
+    → cond c (add binary64 (decimal 60 0) x) (decimal 60 0) ≡ decimal (cond c last 60) 0
 limit-is true x last e = e
 limit-is false x last e = refl
 
@@ -99,7 +101,12 @@ same-test : (t : UtcTime) (x : Float) (last : ℕ) → t .millis ≤ 999 → t .
 unfolding timeInDay secondLimit inItsDay
 same-test t x last h k l e =
     let c = eqb (t .hour) 23 && eqb (t .minute) 59 in
-    rw (not-negative (1000 * t .second + t .millis), le-leb (t .millis) 999 h, limit-is c x last e, second-test (t .second) (t .millis) (cond c last 60) h k (limit-small c last l))
+    rw (
+      not-negative (1000 * t .second + t .millis),
+      le-leb (t .millis) 999 h,
+      limit-is c x last e,
+      second-test (t .second) (t .millis) (cond c last 60) h k (limit-small c last l),
+    )
 
 -- ---- a date that is refused has no next
 date-first : (y m d : ℤ) (i : ℕ) → validDate y m d ≡ refusal i → nextOf y m d ≡ refusal i
@@ -113,7 +120,8 @@ same-number e = cc
 abbrev toVerdict : Bool → Outcome Unit
 toVerdict b = cond b (answer tt) (refusal 4)
 
-time-verdict : (midnight : JulianDate) (hour minute : ℕ) (s x : Float) → faultOf (From.midnightPlus midnight (dayFraction hour minute s x)) ≡ toVerdict (timeInDay hour minute s x)
+time-verdict : (midnight : JulianDate) (hour minute : ℕ) (s x : Float)
+    → faultOf (From.midnightPlus midnight (dayFraction hour minute s x)) ≡ toVerdict (timeInDay hour minute s x)
 unfolding onward From.midnightPlus dayFraction
 time-verdict midnight hour minute s x = go (timeInDay hour minute s x) refl
   where
@@ -155,7 +163,8 @@ module _ (table : AnnouncedRows) (rows : List Row) (taken : tableOf table ≡ an
       go true e = by (seconds-step table rows taken n h e)
       go false e = stays (seconds-stay table rows taken n h e)
 
-  minute-ends : (n n′ : ℕ) (h : 23664 ≤ n) (h′ : 23664 ≤ n′) (j : ℤ) → Step (K n) (K n′) → add binary64 (decimal 60 0) (leapOf (offsetsOfDay rows n n′ j)) ≡ decimal (60 + K n′ - K n) 0
+  minute-ends : (n n′ : ℕ) (h : 23664 ≤ n) (h′ : 23664 ≤ n′) (j : ℤ) → Step (K n) (K n′)
+      → add binary64 (decimal 60 0) (leapOf (offsetsOfDay rows n n′ j)) ≡ decimal (60 + K n′ - K n) 0
   minute-ends n n′ h h′ j (stays e) =
       ap (add binary64 (decimal 60 0)) (no-step table rows taken n n′ h h′ j e .0) ∙ sixty ∙ ap (λ (k : ℕ). decimal k 0) (same (K n) (K n′) e)
     where
@@ -185,7 +194,8 @@ module _ (table : AnnouncedRows) (rows : List Row) (taken : tableOf table ≡ an
   year-later (pos n) e = le-ltb (suc n) 1972 (omega (arith, ltb-false n 1972 e))
   year-later (negsuc n) e = absurd (true≢false e)
 
-  month-after : (y : ℤ) (m d : ℤ) (s : CalendarDate) → ltZ y (pos 1972) ≡ false → nextOf y m d ≡ answer s → (b : Bool) × (monthNumber (s .year) (s .month) ≡ cond b (monthNumber y (natAbs m)) (suc (monthNumber y (natAbs m))))
+  month-after : (y : ℤ) (m d : ℤ) (s : CalendarDate) → ltZ y (pos 1972) ≡ false → nextOf y m d ≡ answer s → (b : Bool)
+      × (monthNumber (s .year) (s .month) ≡ cond b (monthNumber y (natAbs m)) (suc (monthNumber y (natAbs m))))
   unfolding monthNumber
   month-after (pos y) m d s p e = (ltb (natAbs d) (monthLength (pos y) (natAbs m)), next-month-number y m d s e)
   month-after (negsuc y) m d s p e = absurd (true≢false p)
@@ -243,7 +253,8 @@ module _ (table : AnnouncedRows) (rows : List Row) (taken : tableOf table ≡ an
 
       by-calendar : faultOf (asCalendar rows t) ≡ toVerdict (inItsDay t (lastMinute rows t s))
       by-calendar =
-          ap faultOf (on-date rows y m d (t .hour) (t .minute) second (next-is y (pos m) (pos d) s e .0) (leapOf (offsetsOfDay rows n n′ (mjdNumber y (pos m) (pos d)))) (leap-given rows y (pos m) (pos d) s e))
+          ap faultOf (on-date rows y m d (t .hour) (t .minute) second (next-is y (pos m) (pos d) s e .0)
+          (leapOf (offsetsOfDay rows n n′ (mjdNumber y (pos m) (pos d)))) (leap-given rows y (pos m) (pos d) s e))
           ∙ time-verdict _ (t .hour) (t .minute) second (leapOf (offsetsOfDay rows n n′ (mjdNumber y (pos m) (pos d))))
           ∙ ap toVerdict time-same
 

@@ -1,9 +1,9 @@
 -- ONE STATEMENT of the whole bill: the start's fault, else the end's, else the bill from the one exact TAI to the other, both by one table. Assumes nothing.
 use Prim.Native.Nat.{ℕ}
-use mathlib.Core.Path.{_≡_, refl}
+use mathlib.Core.Path.{_≡_}
 use mathlib.Core.Logic.{_⊎_, inl, inr}
 use mathlib.Core.List.{List}
-use Rattle.refusals.specs.Outcome.{Outcome, answer, refusal, onward}
+use Rattle.refusals.specs.Outcome.{answer, refusal, onward}
 use Rattle.leap_table.specs.rows.Table.{Row}
 use Rattle.standby.specs.declared.UtcTime.{UtcTime}
 use Rattle.standby.specs.Times.{taiMs, instant}
@@ -20,7 +20,8 @@ taken-or-not rows t (no-time h next n i e) = inr (4, e)
 taken-or-not rows t (given h next n i e) = inl e
 
 module _ (rows : List Row) (start end : UtcTime) (rate a b : ℕ) where
-  by-times : (instant rows start ≡ answer (taiMs rows start)) ⊎ ((k : ℕ) × (instant rows start ≡ refusal k)) → (instant rows end ≡ answer (taiMs rows end)) ⊎ ((k : ℕ) × (instant rows end ≡ refusal k))
+  by-times : (instant rows start ≡ answer (taiMs rows start)) ⊎ ((k : ℕ) × (instant rows start ≡ refusal k)) → (instant rows end ≡ answer (taiMs rows end))
+      ⊎ ((k : ℕ) × (instant rows end ≡ refusal k))
       → BillMeaning rows start end rate a b (standbyBill rows start end rate a b)
   unfolding standbyBill onward
   by-times (inr (k, e)) t = faulty-start k e (rw e)

@@ -1,20 +1,18 @@
--- 26 IS OF INSTANTS: for times that are not refused the order of the exact TAI is that of the seven fields, leap seconds and those left out among them, so the end is before
--- the start exactly where its fields are. Assumes nothing.
+-- 26 IS OF INSTANTS: for times that are not refused the order of the exact TAI is that of the seven fields, leap seconds and those left out among them, so the
+-- end is before the start exactly where its fields are. Assumes nothing.
 use mathlib.Core.Path.{_≡_, refl, ap, sym, subst, _∙_}
 use mathlib.Core.Bool.{Bool, true, false, true≢false, cond, _&&_}
-use mathlib.Core.Logic.{_⊎_, inl, inr}
 use mathlib.Core.List.{List, [], _∷_}
-use Prim.Native.Nat.{ℕ, zero, suc, _+_, _-_, _*_, _≤_, _<_}
+use Prim.Native.Nat.{ℕ, suc, _+_, _-_, _*_, _≤_, _<_}
 use native.Mathlib.Omega.{arith}
 use lib.Dec.{ltb, leb, eqb}
-use lib.IntN.{ℤ, pos, natAbs, sucℤ}
+use lib.IntN.{pos, natAbs, sucℤ}
 use lib.Signed.{ltZ}
 use borrow.Author.Tests.{ltb-true, ltb-false, lt-ltb, le-ltb, leb-true, eqb-true, eqb-false}
 use Rattle.refusals.specs.Outcome.{answer, refusal}
 use Rattle.calendar.specs.declared.CalendarDate.{CalendarDate}
 use Rattle.calendar.specs.Calendar.{date, leapYear}
 use Rattle.calendar.specs.Refusals.{validDate, nextOf}
-use Rattle.calendar.specs.DayCount.{mjdNumber, mjdOf}
 use Rattle.calendar.proofs.Accepted.{Accepted, date-accepted, short}
 use Rattle.calendar.proofs.Mjd.{mjd-given, same-answer}
 use Rattle.calendar.proofs.NextDates.{next-is, next-in-calendar, next-accepted, next-mjd}
@@ -44,7 +42,8 @@ in-day : (t : UtcTime) (last : ℕ) → inItsDay t last ≡ true → InDay t las
 unfolding inItsDay
 in-day t last e = go (leb (t .hour) 23) refl (leb (t .minute) 59) refl (leb (t .millis) 999) refl (eqb (t .hour) 23) refl (eqb (t .minute) 59) refl e
   where
-    go : (a : Bool) → leb (t .hour) 23 ≡ a → (b : Bool) → leb (t .minute) 59 ≡ b → (c : Bool) → leb (t .millis) 999 ≡ c → (f : Bool) → eqb (t .hour) 23 ≡ f → (g : Bool) → eqb (t .minute) 59 ≡ g
+    go : (a : Bool) → leb (t .hour) 23 ≡ a → (b : Bool) → leb (t .minute) 59 ≡ b → (c : Bool) → leb (t .millis) 999 ≡ c → (f : Bool) → eqb (t .hour) 23 ≡ f
+        → (g : Bool) → eqb (t .minute) 59 ≡ g
         → (a && b) && (c && ltb (t .second) (cond (f && g) last 60)) ≡ true → InDay t last
     go true pa true pb true pc true pf true pg q =
         let h = eqb-true (t .hour) 23 pf in
@@ -62,12 +61,28 @@ in-day t last e = go (leb (t .hour) 23) refl (leb (t .minute) 59) refl (leb (t .
         let h = leb-true (t .hour) 23 pa in
         let n = smaller (t .minute) 59 (eqb-false (t .minute) 59 pg) (leb-true (t .minute) 59 pb) in
         let s = ltb-true (t .second) 60 q in
-        record { hours = h; minutes = omega (arith, n); milliseconds = leb-true (t .millis) 999 pc; by-hour = λ l. omega (arith, s); by-minute = λ l. omega (arith, s); ends = omega (arith, h, n, s) }
+        record {
+          hours = h;
+          minutes = omega (arith, n);
+          milliseconds = leb-true (t .millis) 999 pc;
+          by-hour = λ l. omega (arith, s);
+          by-minute =
+              λ l. omega (arith, s);
+          ends = omega (arith, h, n, s);
+        }
     go true pa true pb true pc false pf g pg q =
         let h = smaller (t .hour) 23 (eqb-false (t .hour) 23 pf) (leb-true (t .hour) 23 pa) in
         let n = leb-true (t .minute) 59 pb in
         let s = ltb-true (t .second) 60 q in
-        record { hours = omega (arith, h); minutes = n; milliseconds = leb-true (t .millis) 999 pc; by-hour = λ l. omega (arith, s); by-minute = λ l. omega (arith, s); ends = omega (arith, h, n, s) }
+        record {
+          hours = omega (arith, h);
+          minutes = n;
+          milliseconds = leb-true (t .millis) 999 pc;
+          by-hour = λ l. omega (arith, s);
+          by-minute =
+              λ l. omega (arith, s);
+          ends = omega (arith, h, n, s);
+        }
     go true pa true pb false pc f pf g pg q = absurd (true≢false (sym q))
     go true pa false pb c pc f pf g pg q = absurd (true≢false (sym q))
     go false pa b pb c pc f pf g pg q = absurd (true≢false (sym q))
@@ -80,7 +95,8 @@ abbrev clock : UtcTime → List ℕ
 clock t = t .hour ∷ t .minute ∷ t .second ∷ t .millis ∷ []
 
 time-order : (a b : UtcTime) (la lb : ℕ) → InDay a la → InDay b lb → lessBy (clock a) (clock b) ≡ ltb (inMillis a) (inMillis b)
-time-order a b la lb p q = go (eqb (a .hour) (b .hour)) refl (eqb (a .minute) (b .minute)) refl (eqb (a .second) (b .second)) refl (eqb (a .millis) (b .millis)) refl
+time-order a b la lb p q = go (eqb (a .hour) (b .hour)) refl (eqb (a .minute) (b .minute)) refl (eqb (a .second) (b .second)) refl
+    (eqb (a .millis) (b .millis)) refl
   where
     test : (x y : ℕ) → (x ≡ y → ⊥) → (x < y → inMillis a < inMillis b) → (y < x → inMillis b ≤ inMillis a) → ltb x y ≡ ltb (inMillis a) (inMillis b)
     test x y n less more = pick (ltb x y) refl
@@ -89,8 +105,10 @@ time-order a b la lb p q = go (eqb (a .hour) (b .hour)) refl (eqb (a .minute) (b
         pick true e = sym (lt-ltb (inMillis a) (inMillis b) (less (ltb-true x y e)))
         pick false e = sym (le-ltb (inMillis a) (inMillis b) (more (smaller y x (λ z. n (sym z)) (ltb-false x y e))))
 
-    go : (c : Bool) → eqb (a .hour) (b .hour) ≡ c → (d : Bool) → eqb (a .minute) (b .minute) ≡ d → (e : Bool) → eqb (a .second) (b .second) ≡ e → (f : Bool) → eqb (a .millis) (b .millis) ≡ f
-        → cond c (cond d (cond e (cond f false (ltb (a .millis) (b .millis))) (ltb (a .second) (b .second))) (ltb (a .minute) (b .minute))) (ltb (a .hour) (b .hour)) ≡ ltb (inMillis a) (inMillis b)
+    go : (c : Bool) → eqb (a .hour) (b .hour) ≡ c → (d : Bool) → eqb (a .minute) (b .minute) ≡ d → (e : Bool) → eqb (a .second) (b .second) ≡ e → (f : Bool)
+        → eqb (a .millis) (b .millis) ≡ f
+        → cond c (cond d (cond e (cond f false (ltb (a .millis) (b .millis))) (ltb (a .second) (b .second))) (ltb (a .minute) (b .minute)))
+        (ltb (a .hour) (b .hour)) ≡ ltb (inMillis a) (inMillis b)
     go false ph d pm e ps f pf =
         test (a .hour) (b .hour) (eqb-false (a .hour) (b .hour) ph)
         (λ l. omega (arith, l, p .by-hour (omega (arith, l, q .hours)), p .minutes, p .milliseconds))
@@ -103,7 +121,8 @@ time-order a b la lb p q = go (eqb (a .hour) (b .hour)) refl (eqb (a .minute) (b
     go true ph true pm false ps f pf =
         let h = eqb-true (a .hour) (b .hour) ph in
         let m = eqb-true (a .minute) (b .minute) pm in
-        test (a .second) (b .second) (eqb-false (a .second) (b .second) ps) (λ l. omega (arith, h, m, l, p .milliseconds)) (λ l. omega (arith, h, m, l, q .milliseconds))
+        test (a .second) (b .second) (eqb-false (a .second) (b .second) ps) (λ l. omega (arith, h, m, l, p .milliseconds))
+        (λ l. omega (arith, h, m, l, q .milliseconds))
     go true ph true pm true ps false pf =
         let h = eqb-true (a .hour) (b .hour) ph in
         let m = eqb-true (a .minute) (b .minute) pm in
@@ -186,13 +205,29 @@ module _ (table : AnnouncedRows) (rows : List Row) (taken : tableOf table ≡ an
       where
         next-day : mjdDay a + 1 ≡ mjdDay b → offsetAfter rows (p .after) ≡ offsetOnDate rows b
         next-day e =
-            let s = same-date (p .after .year) (p .after .month) (p .after .day) (from-after a p) (valid-after a p) (b .year) (b .month) (b .day) (q .from) (valid b q) (day-after a p ∙ e) in
+            let s = same-date (p .after .year) (p .after .month) (p .after .day) (from-after a p) (valid-after a p) (b .year) (b .month) (b .day) (q .from)
+            (valid b q) (day-after a p ∙ e) in
             ap (λ (x : CalendarDate). wholeSeconds rows (x .year) (x .month)) s
 
-        go : (t : Bool) → eqb (mjdDay a + 1) (mjdDay b) ≡ t → 1000 * (86400 * mjdDay a + timeSeconds a + offsetOnDate rows a) + a .millis < 1000 * (86400 * mjdDay b + timeSeconds b + offsetOnDate rows b) + b .millis
-        go true e = omega (arith, eqb-true (mjdDay a + 1) (mjdDay b) e, next-day (eqb-true (mjdDay a + 1) (mjdDay b) e), before-midnight a p, p .time .milliseconds)
+        go : (t : Bool) → eqb (mjdDay a + 1) (mjdDay b) ≡ t
+            → 1000 * (86400 * mjdDay a + timeSeconds a + offsetOnDate rows a) + a .millis < 1000 * (86400 * mjdDay b + timeSeconds b + offsetOnDate rows b) +
+            b .millis
+        go true e = omega (
+          arith,
+          eqb-true (mjdDay a + 1) (mjdDay b) e,
+          next-day (eqb-true (mjdDay a + 1) (mjdDay b) e),
+          before-midnight a p,
+          p .time .milliseconds,
+        )
         go false e =
-            omega (arith, smaller (mjdDay a + 1) (mjdDay b) (eqb-false (mjdDay a + 1) (mjdDay b) e) (omega arith), before-midnight a p, p .time .milliseconds, after-range a p .1, offset-range b q .0)
+            omega (
+              arith,
+              smaller (mjdDay a + 1) (mjdDay b) (eqb-false (mjdDay a + 1) (mjdDay b) e) (omega arith),
+              before-midnight a p,
+              p .time .milliseconds,
+              after-range a p .1,
+              offset-range b q .0,
+            )
 
   module _ (a b : UtcTime) (p : Known a) (q : Known b) where
     keys : mjdDay a < mjdDay b → key (natAbs (a .year)) (a .month) (a .day) < key (natAbs (b .year)) (b .month) (b .day)
@@ -224,11 +259,13 @@ module _ (table : AnnouncedRows) (rows : List Row) (taken : tableOf table ≡ an
       go : (t : Bool) → ltb (mjdDay a) (mjdDay b) ≡ t → (u : Bool) → ltb (mjdDay b) (mjdDay a) ≡ u → Order a b
       go true e u f =
           let h = ltb-true (mjdDay a) (mjdDay b) e in
-          date-less (natAbs (a .year)) (a .month) (a .day) (natAbs (b .year)) (b .month) (b .day) (clock a) (clock b) (date-ok a p .m-high) (few-days a p) (date-ok b q .m-high) (few-days b q) (keys a b p q h)
+          date-less (natAbs (a .year)) (a .month) (a .day) (natAbs (b .year)) (b .month) (b .day) (clock a) (clock b) (date-ok a p .m-high) (few-days a p)
+          (date-ok b q .m-high) (few-days b q) (keys a b p q h)
           ∙ sym (lt-ltb (taiMs rows a) (taiMs rows b) (days-apart a b p q h))
       go false e true f =
           let h = ltb-true (mjdDay b) (mjdDay a) f in
-          date-more (natAbs (a .year)) (a .month) (a .day) (natAbs (b .year)) (b .month) (b .day) (clock a) (clock b) (date-ok a p .m-high) (few-days a p) (date-ok b q .m-high) (few-days b q) (keys b a q p h)
+          date-more (natAbs (a .year)) (a .month) (a .day) (natAbs (b .year)) (b .month) (b .day) (clock a) (clock b) (date-ok a p .m-high) (few-days a p)
+          (date-ok b q .m-high) (few-days b q) (keys b a q p h)
           ∙ sym (le-ltb (taiMs rows a) (taiMs rows b) (omega (arith, days-apart b a q p h)))
       go false e false f = on-one-day a b p q (omega (arith, ltb-false (mjdDay a) (mjdDay b) e, ltb-false (mjdDay b) (mjdDay a) f))
 

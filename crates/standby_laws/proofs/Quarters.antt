@@ -1,6 +1,6 @@
 -- THE QUARTERS: the least number of 900 s that holds the time, and never fewer for a later end. Assumes nothing.
 use mathlib.Core.Path.{_≡_}
-use Prim.Native.Nat.{ℕ, _+_, _-_, _*_, _≤_, _<_}
+use Prim.Native.Nat.{ℕ, _+_, _-_, _*_, _≤_}
 use native.Mathlib.Omega.{arith}
 use Rattle.standby.specs.Bills.{quarters, quartersBetween}
 

@@ -1,8 +1,8 @@
--- THE SHARES add up, each lies within a cent of its exact part, the cent that is left over goes to the larger remainder and a tie to the first; lengths exchanged
--- exchange the shares, except at a tie. Assumes nothing.
+-- THE SHARES add up, each lies within a cent of its exact part, the cent that is left over goes to the larger remainder and a tie to the first; lengths
+-- exchanged exchange the shares, except at a tie. Assumes nothing.
 use mathlib.Core.Path.{_≡_, refl, ap, sym, subst, _∙_}
 use mathlib.Core.Bool.{Bool, true, false}
-use Prim.Native.Nat.{ℕ, zero, suc, _+_, _-_, _*_, _/_, _%_, _≤_, _<_}
+use Prim.Native.Nat.{ℕ, zero, suc, _+_, _-_, _*_, _≤_, _<_}
 use native.Mathlib.Omega.{arith}
 use native.Mathlib.Nat.{add-mul, one-mul, zero-mul, add-zero, add-comm, div-add-mod', mod-lt, zero-div, zero-mod}
 use lib.Dec.{ltb}
@@ -24,7 +24,8 @@ near-up : (total a m : ℕ) → 0 < m → 0 < remainder total a m → WithinACen
 near-up total a m h r =
     let e = div-add-mod' (total * a) m in
     let l = mod-lt (total * a) h in
-    let s : (shareDown total a m + 1) * m ≡ shareDown total a m * m + m = add-mul (shareDown total a m) 1 m ∙ ap (λ (x : ℕ). shareDown total a m * m + x) (one-mul m) in
+    let s : (shareDown total a m + 1) * m ≡ shareDown total a m * m + m = add-mul (shareDown total a m) 1 m
+    ∙ ap (λ (x : ℕ). shareDown total a m * m + x) (one-mul m) in
     record { over = omega (arith, e, l, s, r); under = omega (arith, e, l, s) }
 
 module _ (q total a b : ℕ) (h : 0 < a + b) where

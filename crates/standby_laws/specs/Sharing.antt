@@ -1,5 +1,5 @@
--- What is asked of the two shares of a bill. Written from document 02, item 11: "The shares add up to quarters × rate, and each is within one cent of its exact part", "a
--- cent left over goes to the larger remainder, a tie to the first". Assumes nothing.
+-- What is asked of the two shares of a bill. Written from document 02, item 11: "The shares add up to quarters × rate, and each is within one cent of its exact
+-- part", "a cent left over goes to the larger remainder, a tie to the first". Assumes nothing.
 use Prim.Native.Nat.{ℕ, _+_, _*_, _≤_, _<_}
 use mathlib.Core.Path.{_≡_}
 use Rattle.standby.specs.declared.Bill.{Bill}
@@ -18,6 +18,9 @@ pub record Shared (q total a b : ℕ) (r : Bill) : Type 0 where
 
 -- where the cent went
 pub data Cent (total a b : ℕ) (r : Bill) : Type 0 where
-  none : shareDown total a (a + b) + shareDown total b (a + b) ≡ total → r .first ≡ shareDown total a (a + b) → r .second ≡ shareDown total b (a + b) → Cent total a b r
-  to-first : shareDown total a (a + b) + shareDown total b (a + b) + 1 ≡ total → remainder total b (a + b) ≤ remainder total a (a + b) → r .first ≡ shareDown total a (a + b) + 1 → r .second ≡ shareDown total b (a + b) → Cent total a b r
-  to-second : shareDown total a (a + b) + shareDown total b (a + b) + 1 ≡ total → remainder total a (a + b) < remainder total b (a + b) → r .first ≡ shareDown total a (a + b) → r .second ≡ shareDown total b (a + b) + 1 → Cent total a b r
+  none : shareDown total a (a + b) + shareDown total b (a + b) ≡ total → r .first ≡ shareDown total a (a + b) → r .second ≡ shareDown total b (a + b)
+      → Cent total a b r
+  to-first : shareDown total a (a + b) + shareDown total b (a + b) + 1 ≡ total → remainder total b (a + b) ≤ remainder total a (a + b)
+      → r .first ≡ shareDown total a (a + b) + 1 → r .second ≡ shareDown total b (a + b) → Cent total a b r
+  to-second : shareDown total a (a + b) + shareDown total b (a + b) + 1 ≡ total → remainder total a (a + b) < remainder total b (a + b)
+      → r .first ≡ shareDown total a (a + b) → r .second ≡ shareDown total b (a + b) + 1 → Cent total a b r

@@ -1,7 +1,7 @@
 -- The line between two passes as the code computes it: it does not pass the second pass's millisecond. Assumes nothing.
-use Prim.Native.Nat.{ℕ, _+_, _-_, _*_, _/_, _<_, _≤_}
+use Prim.Native.Nat.{ℕ, _+_, _-_, _*_, _/_, _≤_}
 use native.Mathlib.Omega.{arith}
-use mathlib.Core.Path.{_≡_, refl, sym, ap, _∙_}
+use mathlib.Core.Path.{_≡_, ap}
 use Rattle.ticks.specs.Line.{lineAt}
 use Rattle.ticks.proofs.Halves.{quotient-small}
 

@@ -1,10 +1,10 @@
 -- Numbers written one after the other into a lent list, and the list after the last. Assumes nothing.
-use Prim.Native.Nat.{ℕ, zero, suc, _+_, _-_, _*_, _<_, _≤_}
+use Prim.Native.Nat.{ℕ, _+_, _-_, _*_, _<_, _≤_}
 use native.Mathlib.Omega.{arith}
 use native.Mathlib.Numerals.{add-one}
-use mathlib.Core.Path.{_≡_, refl, sym, ap, subst, _∙_}
-use mathlib.Core.List.{List, [], _∷_, _++_}
-use lib.ListN.{length, take, drop, set, getD, length-append, take-append-drop}
+use mathlib.Core.Path.{_≡_, refl, sym, ap, _∙_}
+use mathlib.Core.List.{List, [], _++_}
+use lib.ListN.{length, take, drop, length-append, take-append-drop}
 use lib.Seq.{sets, sets-eq, length-sets, length-take-le, take-at, drop-at, drop-drop}
 use Rattle.numerals.specs.little_endian.LittleEndian.{eightBytes}
 use Rattle.ticks.specs.Ticks.{bytesOf}
@@ -37,7 +37,8 @@ module _ (f : ℕ → ℕ) (k : ℕ) (out₀ : List ℕ) where
   unfolding bytesOf
   placing-starts = record { len = refl; near = omega arith; done = refl; rest = refl }
 
-  pub placing-goes : (out out' : List ℕ) (i j j' m n : ℕ) → Placing f k out₀ out i j → i < n → 8 * n ≤ length out₀ → j' ≤ k → m ≡ f i → out' ≡ sets out (8 * i) (eightBytes m) → Placing f k out₀ out' (i + 1) j'
+  pub placing-goes : (out out' : List ℕ) (i j j' m n : ℕ) → Placing f k out₀ out i j → i < n → 8 * n ≤ length out₀ → j' ≤ k → m ≡ f i
+      → out' ≡ sets out (8 * i) (eightBytes m) → Placing f k out₀ out' (i + 1) j'
   unfolding bytesOf
   placing-goes out out' i j j' m n p h room near em eo =
       let q : 8 * (i + 1) ≡ 8 * i + 8 = omega arith in
@@ -51,7 +52,8 @@ module _ (f : ℕ → ℕ) (k : ℕ) (out₀ : List ℕ) where
             ∙ ap (λ (x : ℕ). bytesOf f i ++ eightBytes x) em
             ∙ ap (bytesOf f) (sym (add-one i));
         rest =
-            ap (λ (x : ℕ). drop x out') q ∙ ap (drop (8 * i + 8)) eo ∙ put-drop out (8 * i) m w ∙ later out out₀ (8 * i) (p .rest) ∙ ap (λ (x : ℕ). drop x out₀) (sym q);
+            ap (λ (x : ℕ). drop x out') q ∙ ap (drop (8 * i + 8)) eo ∙ put-drop out (8 * i) m w ∙ later out out₀ (8 * i) (p .rest)
+            ∙ ap (λ (x : ℕ). drop x out₀) (sym q);
       }
 
   pub placing-ends : (out : List ℕ) (i j n : ℕ) → Placing f k out₀ out i j → i ≡ n → out ≡ bytesOf f n ++ drop (8 * n) out₀

@@ -2,9 +2,8 @@
 use Prim.Native.Nat.{ℕ, zero, suc, _+_, _-_, _/_, _<_, _≤_}
 use native.Mathlib.Omega.{arith}
 use native.Mathlib.Nat.{le-refl}
-use native.Mathlib.Numerals.{add-one}
 use native.Mathlib.Decide.{decLt}
-use mathlib.Core.Path.{_≡_, refl, sym, ap, subst, _∙_}
+use mathlib.Core.Path.{_≡_, refl, sym, subst}
 use mathlib.Core.Bool.{Bool, true, false, cond}
 use lib.Dec.{leb}
 use borrow.Author.Tests.{leb-true, leb-false}
@@ -91,7 +90,8 @@ module _ (tick : ℕ → ℕ) (t : ℕ) where
   last-next zero h = absurd (omega arith)
   last-next (suc k) h = go (leb (tick (suc k)) t) refl (last-next k) h
     where
-      go : (b : Bool) → leb (tick (suc k)) t ≡ b → (lastNotAfter tick t k < k → t < tick (lastNotAfter tick t k + 1)) → cond b (suc k) (lastNotAfter tick t k) < suc k → t < tick (cond b (suc k) (lastNotAfter tick t k) + 1)
+      go : (b : Bool) → leb (tick (suc k)) t ≡ b → (lastNotAfter tick t k < k → t < tick (lastNotAfter tick t k + 1))
+          → cond b (suc k) (lastNotAfter tick t k) < suc k → t < tick (cond b (suc k) (lastNotAfter tick t k) + 1)
       go true e hyp h = absurd (omega arith)
       go false e hyp h = pick (decLt (lastNotAfter tick t k) k)
         where
@@ -107,7 +107,8 @@ module _ (tick : ℕ → ℕ) (t : ℕ) where
   last-only zero r j h a n = omega arith
   last-only (suc k) r j h a n = go (leb (tick (suc k)) t) refl (last-only k (λ i w. r i (omega arith)) j) (decLt j (suc k))
     where
-      go : (b : Bool) → leb (tick (suc k)) t ≡ b → (j ≤ k → tick j ≤ t → (j < k → t < tick (j + 1)) → j ≡ lastNotAfter tick t k) → Dec (j < suc k) → j ≡ cond b (suc k) (lastNotAfter tick t k)
+      go : (b : Bool) → leb (tick (suc k)) t ≡ b → (j ≤ k → tick j ≤ t → (j < k → t < tick (j + 1)) → j ≡ lastNotAfter tick t k) → Dec (j < suc k)
+          → j ≡ cond b (suc k) (lastNotAfter tick t k)
       go true e hyp (yes w) = absurd (omega (arith, leb-true (tick (suc k)) t e, n w, rises-to tick (suc k) r (j + 1) (suc k) (omega arith) (omega arith)))
       go true e hyp (no w) = omega arith
       go false e hyp (yes w) = hyp (omega arith) a (λ z. n (omega arith))

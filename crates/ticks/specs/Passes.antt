@@ -20,8 +20,8 @@ lastNotAfter tick t (suc k) = cond (leb (tick (suc k)) t) (suc k) (lastNotAfter 
 abbrev pub millisBetween : Passes → ℕ → ℕ → ℕ
 millisBetween p j t = lineAt (p .tick j) (p .milli j) (p .tick (j + 1)) (p .milli (j + 1)) t
 
--- The millisecond of tick t: on the line from the last pass, of all but the very last, that is not after it, to the next. Any other two neighbours that hold the tick give
--- the same (`on-line`).
+-- The millisecond of tick t: on the line from the last pass, of all but the very last, that is not after it, to the next. Any other two neighbours that hold
+-- the tick give the same (`on-line`).
 unfoldable pub millisAt : Passes → ℕ → ℕ
 millisAt p t = millisBetween p (lastNotAfter (p .tick) t (p .size - 2)) t
 

@@ -1,5 +1,5 @@
--- Lists of ticks and milliseconds as bytes, eight for a number, the lowest first, and what the lent list holds after the call. Written from document 02, item 10, and
--- item 2: "spare places of a lent list stay, here and later". Which lists are refused says ticks::judging. Assumes nothing.
+-- Lists of ticks and milliseconds as bytes, eight for a number, the lowest first, and what the lent list holds after the call. Written from document 02, item
+-- 10, and item 2: "spare places of a lent list stay, here and later". Which lists are refused says ticks::judging. Assumes nothing.
 use Prim.Native.Nat.{ℕ, zero, suc}
 use mathlib.Core.Path.{_≡_}
 use mathlib.Core.Bool.{cond}

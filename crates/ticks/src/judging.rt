@@ -100,7 +100,8 @@ fn both_rising(passes: &[u8], millis: &[u8], n: usize) -> bool
     all_rising(passes, n) && all_rising(millis, n)
 }
 
-// The number of the refusal for n passes by their numbers, or 0. Of numbers that rise the last is the largest, so that only passes which do not rise are looked at twice.
+// The number of the refusal for n passes by their numbers, or 0. Of numbers that rise the last is the largest, so that only passes which do not rise are looked
+// at twice.
 fn judged(passes: &[u8], millis: &[u8], n: usize) -> u32
     requires { ⌜ (1 ≤ n) × (n ≤ 2000) × (8 * n ≤ length (now passes)) × (8 * n ≤ length (now millis)) ⌝ }
     ensures { λ r. ⌜ r ≡ judgedBy n (numberAt (now (passes .entry))) (numberAt (now (millis .entry))) ⌝ }

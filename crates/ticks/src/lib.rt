@@ -116,7 +116,8 @@ fn put_number(out: &mut [u8], at: usize, n: u64)
 // Places n ticks between k + 2 passes.
 fn place_all(passes: &[u8], millis: &[u8], k: usize, ticks: &[u8], n: usize, out: &mut [u8])
     requires { ⌜ (GoodCall (now passes) (now millis) k n (now ticks)) × (8 * n ≤ length (now out)) ⌝ }
-    ensures { λ _. ⌜ now (out .exit) ≡ bytesOf (λ i. millisAt (passesOf (now (passes .entry)) (now (millis .entry))) (numberAt (now (ticks .entry)) i)) n ++ drop (8 * n) (now (out .entry)) ⌝ }
+    ensures { λ _. ⌜ now (out .exit) ≡ bytesOf (λ i. millisAt (passesOf (now (passes .entry)) (now (millis .entry))) (numberAt (now (ticks .entry)) i)) n
+        ++ drop (8 * n) (now (out .entry)) ⌝ }
 {
     let mut j = 0;
     let mut i = 0;
@@ -129,10 +130,11 @@ fn place_all(passes: &[u8], millis: &[u8], k: usize, ticks: &[u8], n: usize, out
     }
 }
 
-// Gives each tick its TAI millisecond, rounded down. Refusals in order: 14 a length that is no multiple of 8; 11 fewer places than ticks; 23 unequal, too few or too many
-// passes or too large a number in them; 24 passes not strictly rising in both; 25 a tick outside them.
+// Gives each tick its TAI millisecond, rounded down. Refusals in order: 14 a length that is no multiple of 8; 11 fewer places than ticks; 23 unequal, too few
+// or too many passes or too large a number in them; 24 passes not strictly rising in both; 25 a tick outside them.
 pub fn place_ticks(passes: &[u8], millis: &[u8], ticks: &[u8], out: &mut [u8]) -> TicksAnswer
-    ensures { λ r. ⌜ TicksCall (placedTicks (now (passes .entry)) (now (millis .entry)) (now (ticks .entry)) (length (now (out .entry)))) (now (out .entry)) r (now (out .exit)) ⌝ }
+    ensures { λ r. ⌜ TicksCall (placedTicks (now (passes .entry)) (now (millis .entry)) (now (ticks .entry)) (length (now (out .entry)))) (now (out .entry)) r
+        (now (out .exit)) ⌝ }
 {
     let number = crate::judging::refused_by(passes, millis, ticks, out.len());
     if number != 0 {

@@ -10,7 +10,8 @@ use Rattle.time_of_day.specs.declared.TimeShown.the-variants.{At, NextMi
 use Rattle.time_of_day.specs.Milliseconds.{wholeLeap}
 use Rattle.time_of_day.specs.TimeShown.{timeOf, dayEnd, shownAt, shownBy}
 
-module _ (count : Float → Float → ℕ) (fraction leap stretch : Float) (k d : ℕ) (el : stretch ≡ wholeLeap leap) (ek : k ≡ count fraction stretch) (ed : d ≡ dayEnd stretch) where
+module _ (count : Float → Float → ℕ) (fraction leap stretch : Float) (k d : ℕ) (el : stretch ≡ wholeLeap leap) (ek : k ≡ count fraction stretch)
+    (ed : d ≡ dayEnd stretch) where
   is : shownAt stretch k ≡ shownBy count fraction leap
   unfolding shownBy
   is = ap (shownAt stretch) ek ∙ ap (λ (l : Float). shownAt l (count fraction l)) el

@@ -14,7 +14,8 @@ use Rattle.rounding.proofs.Value.{mul-rounds, rounds-move, L-pos}
 use Rattle.rounding.proofs.Near.{NearSum, add-near}
 use Rattle.rounding.proofs.Scaled.{Scaled, scaled-near, div-near}
 use Rattle.time_of_day.specs.Milliseconds.{fractionSeconds, thousand-f, day-f}
-use Rattle.time_of_day.proofs.ChainNumbers.{in-one, size-one, in-two, size-two, in-three, in-three', size-three, size-three', in-four, size-four, in-five, gather, gather', finish, finish'}
+use Rattle.time_of_day.proofs.ChainNumbers.{in-one, size-one, in-two, size-two, in-three, in-three', size-three, size-three', in-four, size-four}
+use Rattle.time_of_day.proofs.ChainNumbers.{in-five, gather, gather', finish, finish'}
 
 -- shut, as L is: `omega` takes it for an unknown
 unfoldable pub U : ℕ
@@ -63,11 +64,14 @@ thousand-val = record { sign = false; size = 1000; has = (refl, refl); is = refl
 -- a whole constant, on the left, times a value
 module _ (j : ℕ) {x y : Float} {P N B : ℕ} where
   times-near : j ≤ 2044 → P * B < N * B + 2 ^ (53 + j) * 1 → N * B < P * B + 2 ^ (53 + j) * 1 → Val y B 0 1 → Val x P N L → Scaled (mul binary64 y x) P N B 1 j
-  times-near b u l w v = scaled-near j (lit< tt) b u l (rounds-move (subst (λ (d : ℕ). Rounds binary64 (mul binary64 y x) (B * P + 0 * N) (B * N + 0 * P) d) (mul-comm 1 L) (mul-rounds binary64 (lit< tt) L-pos w v)) (omega arith))
+  times-near b u l w v = scaled-near j (lit< tt) b u l
+      (rounds-move (subst (λ (d : ℕ). Rounds binary64 (mul binary64 y x) (B * P + 0 * N) (B * N + 0 * P) d) (mul-comm 1 L)
+      (mul-rounds binary64 (lit< tt) L-pos w v)) (omega arith))
 
 -- a fraction F / L times (B - C) / E
 module _ (j : ℕ) {x y : Float} {F B C E : ℕ} where
-  signed-near : j ≤ 2044 → 0 < E → F * B < F * C + 2 ^ (53 + j) * E → F * C < F * B + 2 ^ (53 + j) * E → Val x F 0 L → Val y B C E → Scaled (mul binary64 x y) (F * B) (F * C) 1 E j
+  signed-near : j ≤ 2044 → 0 < E → F * B < F * C + 2 ^ (53 + j) * E → F * C < F * B + 2 ^ (53 + j) * E → Val x F 0 L → Val y B C E
+      → Scaled (mul binary64 x y) (F * B) (F * C) 1 E j
   signed-near b G u l v w = scaled-near j G b
       (subst₂ (λ (s t : ℕ). s < t + 2 ^ (53 + j) * E) (sym (mul-one (F * B))) (sym (mul-one (F * C))) u)
       (subst₂ (λ (s t : ℕ). s < t + 2 ^ (53 + j) * E) (sym (mul-one (F * C))) (sym (mul-one (F * B))) l)
@@ -120,7 +124,8 @@ module _ (F B C E : ℕ) (f l : Float) (vf : Val f F 0 L) (vl : Val l B C E) (G 
   t1 = size-one (F * C) (F * B) E L U (x1 .n) (x1 .p) (2 ^ 1022) G u22 fc (x1 .under)
 
   x2 : Scaled (div binary64 (mul binary64 f l) day-f) (x1 .p) (x1 .n) 1 86400 1022
-  x2 = div-near 1022 86400 (lit< tt) (lit≤ tt) (in-two (x1 .p) (x1 .n) L U (2 ^ 1075) l75 L-pos u-le s1) (in-two (x1 .n) (x1 .p) L U (2 ^ 1075) l75 L-pos u-le t1) (x1 .val) day-val
+  x2 = div-near 1022 86400 (lit< tt) (lit≤ tt) (in-two (x1 .p) (x1 .n) L U (2 ^ 1075) l75 L-pos u-le s1)
+      (in-two (x1 .n) (x1 .p) L U (2 ^ 1075) l75 L-pos u-le t1) (x1 .val) day-val
 
   s2 : 86400 * x2 .p ≤ 86400 * x2 .n + L + 86401 * U
   s2 = size-two (x1 .p) (x1 .n) L U (x2 .p) (x2 .n) (2 ^ 1022) u22 s1 (x2 .over)
@@ -129,7 +134,8 @@ module _ (F B C E : ℕ) (f l : Float) (vf : Val f F 0 L) (vl : Val l B C E) (G 
   t2 = size-two (x1 .n) (x1 .p) L U (x2 .n) (x2 .p) (2 ^ 1022) u22 t1 (x2 .under)
 
   x3 : NearSum (add binary64 f (div binary64 (mul binary64 f l) day-f)) (F + x2 .p) (0 + x2 .n) 1022
-  x3 = add-near 1022 (lit≤ tt) (in-three F (x2 .p) (x2 .n) L U (2 ^ 1075) l75 hf u-small s2) (in-three' F (x2 .p) (x2 .n) L U (2 ^ 1075) l75 hf u-small t2) vf (x2 .val)
+  x3 = add-near 1022 (lit≤ tt) (in-three F (x2 .p) (x2 .n) L U (2 ^ 1075) l75 hf u-small s2) (in-three' F (x2 .p) (x2 .n) L U (2 ^ 1075) l75 hf u-small t2) vf
+      (x2 .val)
 
   s3 : 86400 * x3 .p ≤ 86400 * x3 .n + 86401 * L + 172801 * U
   s3 = size-three F (x2 .p) (x2 .n) (x3 .p) (x3 .n) L U (2 ^ 1022) u22 hf s2 (x3 .over)
@@ -139,7 +145,8 @@ module _ (F B C E : ℕ) (f l : Float) (vf : Val f F 0 L) (vl : Val l B C E) (G 
 
   x4 : Scaled (fractionSeconds f l) (x3 .p) (x3 .n) 86400 1 1038
   unfolding fractionSeconds
-  x4 = times-near 1038 (lit≤ tt) (in-four (x3 .p) (x3 .n) L U (2 ^ 1091) l91 L-pos u-small s3) (in-four (x3 .n) (x3 .p) L U (2 ^ 1091) l91 L-pos u-small t3) day-val (x3 .val)
+  x4 = times-near 1038 (lit≤ tt) (in-four (x3 .p) (x3 .n) L U (2 ^ 1091) l91 L-pos u-small s3) (in-four (x3 .n) (x3 .p) L U (2 ^ 1091) l91 L-pos u-small t3)
+      day-val (x3 .val)
 
   s4 : x4 .p ≤ x4 .n + 86401 * L + 238337 * U
   s4 = size-four (x3 .p) (x3 .n) (x4 .p) (x4 .n) L U (2 ^ 1038) u38 s3 (x4 .over)
@@ -148,7 +155,8 @@ module _ (F B C E : ℕ) (f l : Float) (vf : Val f F 0 L) (vl : Val l B C E) (G 
   t4 = size-four (x3 .n) (x3 .p) (x4 .n) (x4 .p) L U (2 ^ 1038) u38 t3 (x4 .under)
 
   x5 : Scaled (mul binary64 thousand-f (fractionSeconds f l)) (x4 .p) (x4 .n) 1000 1 1048
-  x5 = times-near 1048 (lit≤ tt) (in-five (x4 .p) (x4 .n) L U (2 ^ 1101) l101 L-pos u-small s4) (in-five (x4 .n) (x4 .p) L U (2 ^ 1101) l101 L-pos u-small t4) thousand-val (x4 .val)
+  x5 = times-near 1048 (lit≤ tt) (in-five (x4 .p) (x4 .n) L U (2 ^ 1101) l101 L-pos u-small s4) (in-five (x4 .n) (x4 .p) L U (2 ^ 1101) l101 L-pos u-small t4)
+      thousand-val (x4 .val)
 
   pub chained : Chained (mul binary64 thousand-f (fractionSeconds f l)) F B C E
   chained = record {
@@ -156,7 +164,9 @@ module _ (F B C E : ℕ) (f l : Float) (vf : Val f F 0 L) (vl : Val l B C E) (G 
     n = x5 .n;
     val = x5 .val;
     over = finish F (F * B) (F * C) E (x1 .p) (x1 .n) (x5 .p) (x5 .n) U (2 ^ 1022) u22 (x1 .over)
-        (gather F (x1 .p) (x1 .n) (x2 .p) (x2 .n) (x3 .p) (x3 .n) (x4 .p) (x4 .n) (x5 .p) (x5 .n) U (2 ^ 1022) (2 ^ 1038) (2 ^ 1048) u22 u38 u48 (x2 .over) (x3 .over) (x4 .over) (x5 .over));
+        (gather F (x1 .p) (x1 .n) (x2 .p) (x2 .n) (x3 .p) (x3 .n) (x4 .p) (x4 .n) (x5 .p) (x5 .n) U (2 ^ 1022) (2 ^ 1038) (2 ^ 1048) u22 u38 u48 (x2 .over)
+        (x3 .over) (x4 .over) (x5 .over));
     under = finish' F (F * B) (F * C) E (x1 .p) (x1 .n) (x5 .p) (x5 .n) U (2 ^ 1022) u22 (x1 .under)
-        (gather' F (x1 .p) (x1 .n) (x2 .p) (x2 .n) (x3 .p) (x3 .n) (x4 .p) (x4 .n) (x5 .p) (x5 .n) U (2 ^ 1022) (2 ^ 1038) (2 ^ 1048) u22 u38 u48 (x2 .under) (x3 .under) (x4 .under) (x5 .under));
+        (gather' F (x1 .p) (x1 .n) (x2 .p) (x2 .n) (x3 .p) (x3 .n) (x4 .p) (x4 .n) (x5 .p) (x5 .n) U (2 ^ 1022) (2 ^ 1038) (2 ^ 1048) u22 u38 u48 (x2 .under)
+        (x3 .under) (x4 .under) (x5 .under));
   }

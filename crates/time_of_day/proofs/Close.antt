@@ -15,21 +15,28 @@ close-move c e s F D G C W E h q k = record {
     left = mul-assoc c (s * D) C ∙ ap (λ (z : ℕ). c * z) (mul-right-comm s D C) ∙ sym (mul-assoc c (s * C) D)
 
     part : c * (1000 * (G * W)) * D ≡ c * (1000 * (F * W)) * C
-    part = mul-assoc c (1000 * (G * W)) D ∙ ap (λ (z : ℕ). c * z) (mul-assoc 1000 (G * W) D ∙ ap (λ (z : ℕ). 1000 * z) (mul-right-comm G W D ∙ ap (λ (z : ℕ). z * W) q ∙ mul-right-comm F C W) ∙ sym (mul-assoc 1000 (F * W) C)) ∙ sym (mul-assoc c (1000 * (F * W)) C)
+    part = mul-assoc c (1000 * (G * W)) D
+        ∙ ap (λ (z : ℕ). c * z) (mul-assoc 1000 (G * W) D ∙ ap (λ (z : ℕ). 1000 * z) (mul-right-comm G W D ∙ ap (λ (z : ℕ). z * W) q ∙ mul-right-comm F C W)
+        ∙ sym (mul-assoc 1000 (F * W) C)) ∙ sym (mul-assoc c (1000 * (F * W)) C)
 
     err : e * (C * E) * D ≡ e * (D * E) * C
-    err = mul-assoc e (C * E) D ∙ ap (λ (z : ℕ). e * z) (mul-right-comm C E D ∙ ap (λ (z : ℕ). z * E) (mul-comm C D) ∙ mul-right-comm D C E) ∙ sym (mul-assoc e (D * E) C)
+    err = mul-assoc e (C * E) D ∙ ap (λ (z : ℕ). e * z) (mul-right-comm C E D ∙ ap (λ (z : ℕ). z * E) (mul-comm C D) ∙ mul-right-comm D C E)
+        ∙ sym (mul-assoc e (D * E) C)
 
     right : (c * (1000 * (G * W)) + e * (C * E)) * D ≡ (c * (1000 * (F * W)) + e * (D * E)) * C
-    right = add-mul (c * (1000 * (G * W))) (e * (C * E)) D ∙ ap (λ (z : ℕ). z + e * (C * E) * D) part ∙ ap (λ (z : ℕ). c * (1000 * (F * W)) * C + z) err ∙ sym (add-mul (c * (1000 * (F * W))) (e * (D * E)) C)
+    right = add-mul (c * (1000 * (G * W))) (e * (C * E)) D ∙ ap (λ (z : ℕ). z + e * (C * E) * D) part ∙ ap (λ (z : ℕ). c * (1000 * (F * W)) * C + z) err
+        ∙ sym (add-mul (c * (1000 * (F * W))) (e * (D * E)) C)
 
     both : (c * (s * C) + e * (C * E)) * D ≡ (c * (s * D) + e * (D * E)) * C
-    both = add-mul (c * (s * C)) (e * (C * E)) D ∙ ap (λ (z : ℕ). z + e * (C * E) * D) (sym left) ∙ ap (λ (z : ℕ). c * (s * D) * C + z) err ∙ sym (add-mul (c * (s * D)) (e * (D * E)) C)
+    both = add-mul (c * (s * C)) (e * (C * E)) D ∙ ap (λ (z : ℕ). z + e * (C * E) * D) (sym left) ∙ ap (λ (z : ℕ). c * (s * D) * C + z) err
+        ∙ sym (add-mul (c * (s * D)) (e * (D * E)) C)
 
 pub close-end : (c e s F D W E : ℕ) → F ≤ D → 1000 * W ≤ s → TimeWithin c e s F D W E → TimeWithin c e (1000 * W) F D W E
 close-end c e s F D W E h g k = record {
   over = le-trans (mul-le-mul-left c (mul-le-mul-right D g)) (k .over);
-  under = le-trans (mul-le-mul-left c (le-trans (mul-le-mul-left 1000 (mul-le-mul-right W h)) (le-of-eq (ap (λ (z : ℕ). 1000 * z) (mul-comm D W) ∙ sym (mul-assoc 1000 W D))))) (some (c * (1000 * W * D)) (e * (D * E)));
+  under = le-trans (mul-le-mul-left c
+      (le-trans (mul-le-mul-left 1000 (mul-le-mul-right W h)) (le-of-eq (ap (λ (z : ℕ). 1000 * z) (mul-comm D W) ∙ sym (mul-assoc 1000 W D)))))
+      (some (c * (1000 * W * D)) (e * (D * E)));
 }
   where
     some : (a b : ℕ) → a ≤ a + b

@@ -2,7 +2,8 @@
 use mathlib.Core.Path.{_≡_, refl, sym, ap, _∙_, subst}
 use mathlib.Core.Logic.{_⊎_, inl, inr}
 use Prim.Native.Nat.{ℕ, _+_, _*_, _≤_, _<_}
-use native.Mathlib.Nat.{le-trans, le-of-eq, le-of-lt, lt-of-le-of-lt, lt-of-lt-of-le, mul-comm, mul-assoc, mul-left-comm, mul-add, add-mul, mul-pos, mul-le-mul-left, le-of-mul-le-mul-right, lt-of-mul-lt-mul-right, zero-mul}
+use native.Mathlib.Nat.{le-trans, le-of-eq, le-of-lt, lt-of-le-of-lt, lt-of-lt-of-le, mul-comm, mul-assoc, mul-left-comm, mul-add, add-mul, mul-pos}
+use native.Mathlib.Nat.{mul-le-mul-left, le-of-mul-le-mul-right, lt-of-mul-lt-mul-right, zero-mul}
 use native.Mathlib.Omega.{arith}
 use mathlib.Core.Bool.{Bool}
 use lib.IntN.{ℤ, pos, negsuc}
@@ -32,7 +33,8 @@ no-minus : (z : ℤ) (p n : ℕ) → IsWhole z p n → n ≤ p + 305445864 * U �
 no-minus z p n w h = go (one-side z)
   where
     go : (plusZ z ≡ 0) ⊎ (minusZ z ≡ 0) → minusZ z ≡ 0
-    go (inl e) = lt-one (minusZ z) (lt-of-mul-lt-mul-right L (not-below p n U L (minusZ z * L) (plusZ z * L) L-is-U U-pos h (ap (λ (x : ℕ). x * L) e ∙ zero-mul L) (w .under)))
+    go (inl e) = lt-one (minusZ z) (lt-of-mul-lt-mul-right L
+        (not-below p n U L (minusZ z * L) (plusZ z * L) L-is-U U-pos h (ap (λ (x : ℕ). x * L) e ∙ zero-mul L) (w .under)))
     go (inr e) = e
 
 -- ---- the chain's result, rounded
@@ -58,9 +60,13 @@ module _ (F B C E p n k : ℕ) (G : 0 < E) (hf : F < L) (hb : B ≤ C + E) (hc :
   E-pos = mul-pos G U-pos
 
   pub high-51 : p < n + 2251799813685248 * L
-  high-51 = lt-of-mul-lt-mul-right E (lt-of-lt-of-le (lt-of-le-of-lt (le-of-eq (mul-comm p E)) (go (E * p) (E * n) (E * F) (F * B) (F * C) (E * U) (E * L) over ef fb E-small E-pos)) (le-of-eq (sym (add-mul n (2251799813685248 * L) E ∙ ap (λ (z : ℕ). z + 2251799813685248 * L * E) (mul-comm n E) ∙ ap (λ (z : ℕ). E * n + z) (mul-assoc 2251799813685248 L E ∙ ap (λ (z : ℕ). 2251799813685248 * z) (mul-comm L E))))))
+  high-51 = lt-of-mul-lt-mul-right E
+      (lt-of-lt-of-le (lt-of-le-of-lt (le-of-eq (mul-comm p E)) (go (E * p) (E * n) (E * F) (F * B) (F * C) (E * U) (E * L) over ef fb E-small E-pos))
+      (le-of-eq (sym (add-mul n (2251799813685248 * L) E ∙ ap (λ (z : ℕ). z + 2251799813685248 * L * E) (mul-comm n E)
+      ∙ ap (λ (z : ℕ). E * n + z) (mul-assoc 2251799813685248 L E ∙ ap (λ (z : ℕ). 2251799813685248 * z) (mul-comm L E))))))
     where
-      go : (p n f b c u l : ℕ) → p + 1000 * c ≤ n + 86400000 * f + 1000 * b + 305445864 * u → f ≤ l → b ≤ c + l → 1000000000 * u ≤ l → 0 < u → p < n + 2251799813685248 * l
+      go : (p n f b c u l : ℕ) → p + 1000 * c ≤ n + 86400000 * f + 1000 * b + 305445864 * u → f ≤ l → b ≤ c + l → 1000000000 * u ≤ l → 0 < u
+          → p < n + 2251799813685248 * l
       go p n f b c u l a d h e g = omega arith
 
   pub high : p < n + 4503599627370496 * L
@@ -70,7 +76,11 @@ module _ (F B C E p n k : ℕ) (G : 0 < E) (hf : F < L) (hb : B ≤ C + E) (hc :
       go p n l h = omega arith
 
   pub low : n ≤ p + 305445864 * U
-  low = le-of-mul-le-mul-right {k = E} (le-trans (le-of-eq (mul-comm n E)) (le-trans (go (E * p) (E * n) (E * F) (F * B) (F * C) (E * U) under fc) (le-of-eq (sym (add-mul p (305445864 * U) E ∙ ap (λ (z : ℕ). z + 305445864 * U * E) (mul-comm p E) ∙ ap (λ (z : ℕ). E * p + z) (mul-assoc 305445864 U E ∙ ap (λ (z : ℕ). 305445864 * z) (mul-comm U E))))))) G
+  low = le-of-mul-le-mul-right {k = E}
+      (le-trans (le-of-eq (mul-comm n E))
+      (le-trans (go (E * p) (E * n) (E * F) (F * B) (F * C) (E * U) under fc)
+      (le-of-eq (sym (add-mul p (305445864 * U) E ∙ ap (λ (z : ℕ). z + 305445864 * U * E) (mul-comm p E)
+      ∙ ap (λ (z : ℕ). E * p + z) (mul-assoc 305445864 U E ∙ ap (λ (z : ℕ). 305445864 * z) (mul-comm U E))))))) G
     where
       go : (p n f b c u : ℕ) → n + 86400000 * f + 1000 * b ≤ p + 1000 * c + 305445864 * u → c ≤ b + f → n ≤ p + 305445864 * u
       go p n f b c u a d = omega arith
@@ -96,13 +106,18 @@ module _ (F B C E p n k : ℕ) (G : 0 < E) (hf : F < L) (hb : B ≤ C + E) (hc :
 
     -- E times the rounding
     t-over : 2 * (E * (k * L)) + 2 * (E * n) ≤ 2 * (E * p) + E * L
-    t-over = le-trans (le-of-eq (sym (term k n))) (le-trans (mul-le-mul-left E w-over) (le-of-eq (mul-add E (2 * (0 * L + p)) L ∙ ap (λ (z : ℕ). z + E * L) (mul-left-comm E 2 (0 * L + p) ∙ ap (λ (z : ℕ). 2 * (E * z)) (nought p)))))
+    t-over = le-trans (le-of-eq (sym (term k n)))
+        (le-trans (mul-le-mul-left E w-over)
+        (le-of-eq (mul-add E (2 * (0 * L + p)) L ∙ ap (λ (z : ℕ). z + E * L) (mul-left-comm E 2 (0 * L + p) ∙ ap (λ (z : ℕ). 2 * (E * z)) (nought p)))))
 
     t-under : 2 * (E * p) ≤ 2 * (E * (k * L)) + 2 * (E * n) + E * L
-    t-under = le-trans (le-of-eq (sym (mul-left-comm E 2 (0 * L + p) ∙ ap (λ (z : ℕ). 2 * (E * z)) (nought p)))) (le-trans (mul-le-mul-left E w-under) (le-of-eq (mul-add E (2 * (k * L + n)) L ∙ ap (λ (z : ℕ). z + E * L) (term k n))))
+    t-under = le-trans (le-of-eq (sym (mul-left-comm E 2 (0 * L + p) ∙ ap (λ (z : ℕ). 2 * (E * z)) (nought p))))
+        (le-trans (mul-le-mul-left E w-under) (le-of-eq (mul-add E (2 * (k * L + n)) L ∙ ap (λ (z : ℕ). z + E * L) (term k n))))
 
     exact-is : 1000 * (F * W) + 1000 * (F * C) ≡ 86400000 * (E * F) + 1000 * (F * B)
-    exact-is = go (F * W) (F * C) (E * F) (F * B) (sym (mul-add F W C) ∙ ap (λ (z : ℕ). F * z) long ∙ mul-add F (86400 * E) B ∙ ap (λ (z : ℕ). z + F * B) (mul-left-comm F 86400 E ∙ ap (λ (z : ℕ). 86400 * z) (mul-comm F E)))
+    exact-is = go (F * W) (F * C) (E * F) (F * B)
+        (sym (mul-add F W C) ∙ ap (λ (z : ℕ). F * z) long ∙ mul-add F (86400 * E) B
+        ∙ ap (λ (z : ℕ). z + F * B) (mul-left-comm F 86400 E ∙ ap (λ (z : ℕ). 86400 * z) (mul-comm F E)))
       where
         go : (w c f b : ℕ) → w + c ≡ 86400 * f + b → 1000 * w + 1000 * c ≡ 86400000 * f + 1000 * b
         go w c f b e = omega arith
@@ -112,15 +127,19 @@ module _ (F B C E p n k : ℕ) (G : 0 < E) (hf : F < L) (hb : B ≤ C + E) (hc :
 
     pub close : TimeWithin 16777216 8388609 (k * E) F L W E
     close = record {
-      over = go (k * E * L) (1000 * (F * W)) (L * E) (E * (k * L)) (E * n) (E * p) (E * F) (F * B) (F * C) (E * U) (E * L) shift exact-is (mul-comm L E) t-over over E-L;
-      under = go' (k * E * L) (1000 * (F * W)) (L * E) (E * (k * L)) (E * n) (E * p) (E * F) (F * B) (F * C) (E * U) (E * L) shift exact-is (mul-comm L E) t-under under E-L;
+      over = go (k * E * L) (1000 * (F * W)) (L * E) (E * (k * L)) (E * n) (E * p) (E * F) (F * B) (F * C) (E * U) (E * L) shift exact-is (mul-comm L E)
+          t-over over E-L;
+      under = go' (k * E * L) (1000 * (F * W)) (L * E) (E * (k * L)) (E * n) (E * p) (E * F) (F * B) (F * C) (E * U) (E * L) shift exact-is (mul-comm L E)
+          t-under under E-L;
     }
       where
-        go : (a x d a' n p f b c u l : ℕ) → a ≡ a' → x + 1000 * c ≡ 86400000 * f + 1000 * b → d ≡ l → 2 * a' + 2 * n ≤ 2 * p + l → p + 1000 * c ≤ n + 86400000 * f + 1000 * b + 305445864 * u → l ≡ 9007199254740992 * u
+        go : (a x d a' n p f b c u l : ℕ) → a ≡ a' → x + 1000 * c ≡ 86400000 * f + 1000 * b → d ≡ l → 2 * a' + 2 * n ≤ 2 * p + l
+            → p + 1000 * c ≤ n + 86400000 * f + 1000 * b + 305445864 * u → l ≡ 9007199254740992 * u
             → 16777216 * a ≤ 16777216 * x + 8388609 * d
         go a x d a' n p f b c u l e g h i j m = omega arith
 
-        go' : (a x d a' n p f b c u l : ℕ) → a ≡ a' → x + 1000 * c ≡ 86400000 * f + 1000 * b → d ≡ l → 2 * p ≤ 2 * a' + 2 * n + l → n + 86400000 * f + 1000 * b ≤ p + 1000 * c + 305445864 * u → l ≡ 9007199254740992 * u
+        go' : (a x d a' n p f b c u l : ℕ) → a ≡ a' → x + 1000 * c ≡ 86400000 * f + 1000 * b → d ≡ l → 2 * p ≤ 2 * a' + 2 * n + l
+            → n + 86400000 * f + 1000 * b ≤ p + 1000 * c + 305445864 * u → l ≡ 9007199254740992 * u
             → 16777216 * x ≤ 16777216 * a + 8388609 * d
         go' a x d a' n p f b c u l e g h i j m = omega arith
 
@@ -137,7 +156,8 @@ module _ (how : Bool → ℕ → ℕ → ℕ) (rule : Nearest how) (f l : Float)
 
     w : IsWhole (millisOf how f l) (c .p) (c .n)
     unfolding millisOf
-    w = rounded how rule (c .val) (high (u .F) B C E (c .p) (c .n) 0 G (u .most) (at-most G v h) (at-least G v h) (c .over) (c .under)) (low' (u .F) B C E (c .p) (c .n) 0 G (u .most) (at-most G v h) (at-least G v h) (c .over) (c .under))
+    w = rounded how rule (c .val) (high (u .F) B C E (c .p) (c .n) 0 G (u .most) (at-most G v h) (at-least G v h) (c .over) (c .under))
+        (low' (u .F) B C E (c .p) (c .n) 0 G (u .most) (at-most G v h) (at-least G v h) (c .over) (c .under))
 
     none : minusZ (millisOf how f l) ≡ 0
     none = no-minus (millisOf how f l) (c .p) (c .n) w (low (u .F) B C E (c .p) (c .n) 0 G (u .most) (at-most G v h) (at-least G v h) (c .over) (c .under))
@@ -154,7 +174,12 @@ module _ (how : Bool → ℕ → ℕ → ℕ) (rule : Nearest how) (f l : Float)
   pub counted : CountedTo how f l u
   counted =
       let a = as-fraction l h in
-      record { k = plusZ (millisOf how f l); is = pos-of (millisOf how f l) (none (a .B) (a .C) (a .E) (a .some) (a .val)); close = λ B C E W G v long. close-at B C E G v W long }
+      record {
+        k = plusZ (millisOf how f l);
+        is = pos-of (millisOf how f l) (none (a .B) (a .C) (a .E) (a .some) (a .val));
+        close =
+            λ B C E W G v long. close-at B C E G v W long;
+      }
 
 -- ---- the product itself is below 2 ^ 51 in size
 pub product-between : (f l : Float) (u : AsUnits f) → WithinOne l → Between (mul binary64 thousand-f (fractionSeconds f l)) 51

@@ -1,5 +1,5 @@
--- A half millisecond to the even one, in exact numbers: on the grid and on days of whole seconds the count is a nearest whole number of milliseconds, so that the time
--- shown is within 0.5 ms; on 1959-12-31 it is within 0.501 ms. Assumes nothing.
+-- A half millisecond to the even one, in exact numbers: on the grid and on days of whole seconds the count is a nearest whole number of milliseconds, so that
+-- the time shown is within 0.5 ms; on 1959-12-31 it is within 0.501 ms. Assumes nothing.
 use mathlib.Core.Path.{_≡_, refl, sym, ap, _∙_, subst}
 use mathlib.Core.Bool.{Bool, true, false, cond}
 use Prim.Native.Nat.{ℕ, _+_, _*_, _/_, _%_, _^_, _≤_, _<_}
@@ -10,7 +10,7 @@ use lib.IntN.{pos}
 use lib.Ieee.{Float, binary64, ofBits, ofInt, round, mul, lt, eq, fits}
 use lib.Ieee.Exact.{HasValue}
 use borrow.Author.Tests.{eq-eqb, lt-ltb}
-use Rattle.floats.specs.Whole.{abs, nought, half, one}
+use Rattle.floats.specs.Whole.{abs, nought, one}
 use Rattle.rounding.specs.Value.{Val, Rounds}
 use Rattle.rounding.proofs.Value.{mul-rounds, rounds-move, val-unscale, val-unique}
 use Rattle.rounding.proofs.Exact.{exact-has}
@@ -74,14 +74,18 @@ module _ (f : Float) (F : ℕ) (v : Val f F 0 4503599627370496) (h : F < 4503599
 
   -- a tie is even
   pub tie-is-even : (l : Float) → dayIsWhole l ≡ true → 2 * (F * dayEnd l % 4503599627370496) ≡ 4503599627370496 → evenCount f l % 2 ≡ 0
-  tie-is-even l t e = ap (λ (z : ℕ). z % 2) (in-whole-numbers l t) ∙ tie-even (F * dayEnd l / 4503599627370496) (F * dayEnd l % 4503599627370496) 4503599627370496 e
+  tie-is-even l t e = ap (λ (z : ℕ). z % 2) (in-whole-numbers l t)
+      ∙ tie-even (F * dayEnd l / 4503599627370496) (F * dayEnd l % 4503599627370496) 4503599627370496 e
 
 -- ---- a nearest whole number of F * M / 2 ^ 52, times E, is within 1 / 2 of the exact time of a day of M ms
-near-whole : (F M W E k : ℕ) → M * E ≡ 1000 * W → (2 * (k * 4503599627370496) ≤ 2 * (F * M) + 4503599627370496) × (2 * (F * M) ≤ 2 * (k * 4503599627370496) + 4503599627370496)
+near-whole : (F M W E k : ℕ) → M * E ≡ 1000 * W → (2 * (k * 4503599627370496) ≤ 2 * (F * M) + 4503599627370496)
+    × (2 * (F * M) ≤ 2 * (k * 4503599627370496) + 4503599627370496)
     → TimeWithin 2 1 (k * E) F (2 ^ 52) W E
 near-whole F M W E k e near = record {
-  over = go (k * E * 4503599627370496) (1000 * (F * W)) (4503599627370496 * E) _ _ _ left right (add-mul (2 * (F * M)) 4503599627370496 E) (mul-le-mul-right E (near .0));
-  under = go (1000 * (F * W)) (k * E * 4503599627370496) (4503599627370496 * E) _ _ _ right left (add-mul (2 * (k * 4503599627370496)) 4503599627370496 E) (mul-le-mul-right E (near .1));
+  over = go (k * E * 4503599627370496) (1000 * (F * W)) (4503599627370496 * E) _ _ _ left right (add-mul (2 * (F * M)) 4503599627370496 E)
+      (mul-le-mul-right E (near .0));
+  under = go (1000 * (F * W)) (k * E * 4503599627370496) (4503599627370496 * E) _ _ _ right left (add-mul (2 * (k * 4503599627370496)) 4503599627370496 E)
+      (mul-le-mul-right E (near .1));
 }
   where
     left : 2 * (k * 4503599627370496) * E ≡ 2 * (k * E * 4503599627370496)
@@ -139,19 +143,22 @@ lasts : (W E p n q m : ℕ) (M : ℕ) → W + n ≡ 86400 * E + p → p + m ≡ 
 lasts W E p n q m M e f g = omega arith
 
 module _ (f : Float) (F : ℕ) (t : T (fits binary64 f)) (v : Val f F 0 4503599627370496) (h : F < 4503599627370496) where
-  by-whole : (x l : Float) (W E : ℕ) → wholeLeap x ≡ l → dayIsWhole l ≡ true → dayEnd l * E ≡ 1000 * W → TimeWithin (evenParts x) (evenMost x) (evenCount f (wholeLeap x) * E) F (2 ^ 52) W E
+  by-whole : (x l : Float) (W E : ℕ) → wholeLeap x ≡ l → dayIsWhole l ≡ true → dayEnd l * E ≡ 1000 * W
+      → TimeWithin (evenParts x) (evenMost x) (evenCount f (wholeLeap x) * E) F (2 ^ 52) W E
   by-whole x l W E el w e =
       subst (λ (b : Bool). TimeWithin (cond b 2 1000) (cond b 1 501) (evenCount f (wholeLeap x) * E) F (2 ^ 52) W E) (sym (ap dayIsWhole el ∙ w))
       (subst (λ (k : ℕ). TimeWithin 2 1 (k * E) F (2 ^ 52) W E) (sym (ap (evenCount f) el ∙ in-whole-numbers f F v h l w))
       (near-whole F (dayEnd l) W E (even false (F * dayEnd l) 4503599627370496) e (even-nearest .near false (F * dayEnd l) 4503599627370496 (lit< tt))))
 
   -- the leap of a day, and its value in two ways
-  long : (x l : Float) (W E q m M : ℕ) → wholeLeap x ≡ l → Val l q m E → DayLength x W E → dayEnd l ≡ M → M * E + 1000 * m ≡ 86400000 * E + 1000 * q → dayEnd l * E ≡ 1000 * W
+  long : (x l : Float) (W E q m M : ℕ) → wholeLeap x ≡ l → Val l q m E → DayLength x W E → dayEnd l ≡ M → M * E + 1000 * m ≡ 86400000 * E + 1000 * q
+      → dayEnd l * E ≡ 1000 * W
   long x l W E q m M el w d em g =
       ap (λ (k : ℕ). k * E) em ∙ lasts W E (d .p) (d .n) q m M (d .is) (val-unique (subst (λ (z : Float). Val z (d .p) (d .n) E) el (d .leap-is)) w) g
 
   -- EVEN EXACT: within 1 / 2 ms on every day of whole seconds, within 0.501 ms on 1959-12-31
-  pub even-exact : (x : Float) → Leap x → (W E : ℕ) → 0 < E → DayLength x W E → TimeWithin (evenParts x) (evenMost x) (evenCount f (wholeLeap x) * E) F (2 ^ 52) W E
+  pub even-exact : (x : Float) → Leap x → (W E : ℕ) → 0 < E → DayLength x W E
+      → TimeWithin (evenParts x) (evenMost x) (evenCount f (wholeLeap x) * E) F (2 ^ 52) W E
   unfolding wholeLeap
   even-exact x (little e) W E G d =
       let el : wholeLeap x ≡ nought = ap (λ (b : Bool). cond b x nought) e in
@@ -161,13 +168,17 @@ module _ (f : Float) (F : ℕ) (t : T (fits binary64 f)) (v : Val f F 0 45035996
       go : (E : ℕ) → 86401000 * E + 1000 * 0 ≡ 86400000 * E + 1000 * E
       go E = omega arith
   even-exact x minus-second W E G d =
-      by-whole minus-one-f minus-one-f W E counts-minus-one whole-minus-1 (long minus-one-f minus-one-f W E 0 E 86399000 counts-minus-one (minus-one-val E) d end-minus-1 (go E))
+      by-whole minus-one-f minus-one-f W E counts-minus-one whole-minus-1
+      (long minus-one-f minus-one-f W E 0 E 86399000 counts-minus-one (minus-one-val E) d end-minus-1 (go E))
     where
       go : (E : ℕ) → 86399000 * E + 1000 * E ≡ 86400000 * E + 1000 * 0
       go E = omega arith
   even-exact x first W E G d =
       let u = fraction-of f F 4503599627370496 (lit< tt) v h in
-      let count : evenCount f (wholeLeap leap1959) ≡ countBy even f (wholeLeap leap1959) = sym (count-by-float f (wholeLeap leap1959) (decided f F v h (wholeLeap leap1959) ∙ ap dayIsWhole counts-1959 ∙ not-1959)) ∙ by-float f (wholeLeap leap1959) (in-units f t u) (within-one leap1959 first) in
-      subst (λ (b : Bool). TimeWithin (cond b 2 1000) (cond b 1 501) (evenCount f (wholeLeap leap1959) * E) F (2 ^ 52) W E) (sym (ap dayIsWhole counts-1959 ∙ not-1959))
+      let count : evenCount f (wholeLeap leap1959) ≡ countBy even f (wholeLeap leap1959) =
+      sym (count-by-float f (wholeLeap leap1959) (decided f F v h (wholeLeap leap1959) ∙ ap dayIsWhole counts-1959 ∙ not-1959))
+      ∙ by-float f (wholeLeap leap1959) (in-units f t u) (within-one leap1959 first) in
+      subst (λ (b : Bool). TimeWithin (cond b 2 1000) (cond b 1 501) (evenCount f (wholeLeap leap1959) * E) F (2 ^ 52) W E)
+      (sym (ap dayIsWhole counts-1959 ∙ not-1959))
       (subst (λ (k : ℕ). TimeWithin 1000 501 (k * E) F (2 ^ 52) W E) (sym count)
       (close-501 (countBy even f (wholeLeap leap1959) * E) F (2 ^ 52) W E (count-near even even-nearest f leap1959 t u first F 4503599627370496 W E G v d)))

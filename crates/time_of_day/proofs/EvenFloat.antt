@@ -1,5 +1,5 @@
--- Off the grid a half goes to the even millisecond of the exact value of the float that document 01's call rounds: what the code finds from twice that float is the
--- float rounded to a whole number by the rule `even`. Assumes nothing.
+-- Off the grid a half goes to the even millisecond of the exact value of the float that document 01's call rounds: what the code finds from twice that float is
+-- the float rounded to a whole number by the rule `even`. Assumes nothing.
 use mathlib.Core.Path.{_≡_, refl, sym, ap, _∙_, subst}
 use mathlib.Core.Logic.{_⊎_, inl, inr}
 use mathlib.Core.Bool.{Bool, true, false, cond}
@@ -86,7 +86,8 @@ double-small g h = lt-of-lt-of-le (go g L h) most
 double-val : {x : Float} (p n : ℕ) (o : Own x) → o .size < 2251799813685248 * L → Signed (o .sign) (o .size) p n → Val (mul binary64 two-f x) (2 * p) (2 * n) L
 double-val {x} p n o h i =
     let v : Val x p n L = record { sign = o .sign; size = o .size; has = o .has; is = i } in
-    let r = rounds-move (subst (λ (d : ℕ). Rounds binary64 (mul binary64 two-f x) (2 * p + 0 * n) (2 * n + 0 * p) d) (one-mul L) (mul-rounds binary64 (lit< tt) L-pos two-val v)) (plain p n) in
+    let r = rounds-move (subst (λ (d : ℕ). Rounds binary64 (mul binary64 two-f x) (2 * p + 0 * n) (2 * n + 0 * p) d) (one-mul L)
+    (mul-rounds binary64 (lit< tt) L-pos two-val v)) (plain p n) in
     let e : r .size ≡ 2 * o .size = size-of (o .sign) (r .sign) (o .size) (r .size) i (r .is) in
     rounds-rep r (subst Rep (sym e) (double-rep (o .size) (o .rep))) (subst (λ (k : ℕ). k < 2 ^ 2098) (sym e) (double-small (o .size) h))
   where
@@ -132,7 +133,9 @@ module _ (x : Float) (g : ℕ) (h : g < 2251799813685248 * L) (has : HasValue x 
   worth-is : worth j z ≡ eqb (j * L + 2 * 0) (2 * g + 0 * L)
   unfolding worth
   worth-is =
-      let w : Val (ofInt binary64 (pos j)) (j * L) (0 * L) L = subst (λ (d : ℕ). Val (ofInt binary64 (pos j)) (j * L) (0 * L) d) (one-mul L) (val-scale L (ofInt-val (pos j) (omega (arith, small)) (omega arith))) in
+      let w : Val (ofInt binary64 (pos j)) (j * L) (0 * L) L =
+      subst (λ (d : ℕ). Val (ofInt binary64 (pos j)) (j * L) (0 * L) d) (one-mul L)
+      (val-scale L (ofInt-val (pos j) (omega (arith, small)) (omega arith))) in
       ap (λ (b : Bool). cond b (eq (ofInt binary64 (pos j)) z) false) (lt-ltb j 4503599627370496 small) ∙ eq-val L-pos w v
 
   abbrev q : ℕ
@@ -174,7 +177,8 @@ module _ (x : Float) (g : ℕ) (h : g < 2251799813685248 * L) (has : HasValue x 
   halves-are (above s) =
       let e : j ≡ 2 * q + 1 = first (2 * q + 1) (omega (arith, more-q, whole)) (omega (arith, more-q, whole, rest)) in
       let f : j * L ≡ 2 * (q * L) + L = ap (λ (k : ℕ). k * L) e ∙ more-q in
-      sym (halves-more j (worth j z) (omega arith) (worth-is ∙ ne-eqb (j * L + 2 * 0) (2 * g + 0 * L) (λ i. omega (arith, whole)))) ∙ up-q e ∙ above-half q r L s
+      sym (halves-more j (worth j z) (omega arith) (worth-is ∙ ne-eqb (j * L + 2 * 0) (2 * g + 0 * L) (λ i. omega (arith, whole)))) ∙ up-q e
+      ∙ above-half q r L s
     where
       up-q : j ≡ 2 * q + 1 → j / 2 + 1 ≡ q + 1
       up-q e = omega arith
@@ -213,13 +217,15 @@ none-below g t (up-cut a b c) = from-plus t ∙ go (lt-of-mul-lt-mul-right L (le
 none-below g t (down-cut a b c) = from-plus t ∙ a
 
 either : (x : Float) (s : Bool) (g : ℕ) → g < 2251799813685248 * L → HasValue x s g L → Rep g
-    → ofHalves (fromZero (toSigned 63 (mul binary64 two-f x))) (worth (fromZero (toSigned 63 (mul binary64 two-f x))) (mul binary64 two-f x)) ≡ fromZero (toSigned 63 (toWhole even x))
+    → ofHalves (fromZero (toSigned 63 (mul binary64 two-f x))) (worth (fromZero (toSigned 63 (mul binary64 two-f x))) (mul binary64 two-f x)) ≡ fromZero
+    (toSigned 63 (toWhole even x))
 either x false g h has rep =
     halves-are x g h has (double-val g 0 (record { sign = false; size = g; has = has; rep = rep }) h (omega arith)) (side (g % L) L) ∙ sym (rounded x g h has)
 either x true g h has rep =
     let v = double-val 0 g (record { sign = true; size = g; has = has; rep = rep }) h (omega arith) in
     let e : fromZero (toSigned 63 (mul binary64 two-f x)) ≡ 0 = none-below g _ (trunc-val 63 L-pos (lt-of-lt-of-le L-pos (go g L)) (wide g L h) v) in
-    (λ i. ofHalves (e i) (worth (e i) (mul binary64 two-f x))) ∙ sym (halves-even-number 0 (worth 0 (mul binary64 two-f x)) refl) ∙ sym (rounded-below x g h has)
+    (λ i. ofHalves (e i) (worth (e i) (mul binary64 two-f x))) ∙ sym (halves-even-number 0 (worth 0 (mul binary64 two-f x)) refl)
+    ∙ sym (rounded-below x g h has)
   where
     go : (g l : ℕ) → l ≤ 2 * g + 9223372036854775808 * l
     go g l = omega arith
@@ -235,4 +241,5 @@ by-float f l u h =
     let b = product-between f l u h in
     let o = own x (mul-fits binary64 thousand-f (fractionSeconds f l)) (val-finite (b .val)) in
     let s : b .val .size ≡ o .size = has-unique x (b .val .sign) (o .sign) (b .val .size) (o .size) L (b .val .has) (o .has) in
-    either x (o .sign) (o .size) (subst (λ (k : ℕ). k < 2251799813685248 * L) s (signed-lt (b .val .sign) (b .val .size) (b .p) (b .n) (2251799813685248 * L) (b .val .is) (b .high) (b .low))) (o .has) (o .rep)
+    either x (o .sign) (o .size) (subst (λ (k : ℕ). k < 2251799813685248 * L) s
+    (signed-lt (b .val .sign) (b .val .size) (b .p) (b .n) (2251799813685248 * L) (b .val .is) (b .high) (b .low))) (o .has) (o .rep)

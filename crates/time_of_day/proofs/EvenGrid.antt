@@ -37,7 +37,8 @@ module _ (f : Float) (t : T (fits binary64 f)) (i : InUnit f) where
 
   -- the product with 2 ^ 52 is exact, on the grid or off it
   product : Val (mul binary64 f two52-f) (u .F * 4503599627370496) 0 L
-  product = rounds-rep r (subst Rep (sym is-size) (scaled-rep (u .F) rep)) (subst (λ (k : ℕ). k < 2 ^ 2098) (sym is-size) (lt-of-lt-of-le (go (u .F) L (u .most)) most))
+  product = rounds-rep r (subst Rep (sym is-size) (scaled-rep (u .F) rep))
+      (subst (λ (k : ℕ). k < 2 ^ 2098) (sym is-size) (lt-of-lt-of-le (go (u .F) L (u .most)) most))
     where
       plain : (F : ℕ) → F * 4503599627370496 + 0 * 0 + 0 ≡ F * 4503599627370496 + (F * 0 + 0 * 4503599627370496)
       plain F = omega arith
@@ -46,7 +47,8 @@ module _ (f : Float) (t : T (fits binary64 f)) (i : InUnit f) where
       go F l h = omega arith
 
       r : Rounds binary64 (mul binary64 f two52-f) (u .F * 4503599627370496) 0 L
-      r = rounds-move (subst (λ (d : ℕ). Rounds binary64 (mul binary64 f two52-f) (u .F * 4503599627370496 + 0 * 0) (u .F * 0 + 0 * 4503599627370496) d) (mul-one L) (mul-rounds binary64 L-pos (lit< tt) (u .val) two52-val)) (plain (u .F))
+      r = rounds-move (subst (λ (d : ℕ). Rounds binary64 (mul binary64 f two52-f) (u .F * 4503599627370496 + 0 * 0) (u .F * 0 + 0 * 4503599627370496) d)
+          (mul-one L) (mul-rounds binary64 L-pos (lit< tt) (u .val) two52-val)) (plain (u .F))
 
       is-size : r .size ≡ u .F * 4503599627370496
       is-size = size-is (r .sign) (r .size) (u .F * 4503599627370496) (r .is)
@@ -54,7 +56,8 @@ module _ (f : Float) (t : T (fits binary64 f)) (i : InUnit f) where
       rep : Rep (u .F)
       rep =
           let o = own f t (val-finite (u .val)) in
-          subst Rep (has-unique f (o .sign) (u .val .sign) (o .size) (u .val .size) L (o .has) (u .val .has) ∙ size-is (u .val .sign) (u .val .size) (u .F) (u .val .is)) (o .rep)
+          subst Rep (has-unique f (o .sign) (u .val .sign) (o .size) (u .val .size) L (o .has) (u .val .has)
+          ∙ size-is (u .val .sign) (u .val .size) (u .F) (u .val .is)) (o .rep)
 
   on-grid : (n : ℕ) → worth n (mul binary64 f two52-f) ≡ true → Val f n 0 4503599627370496
   unfolding worth
@@ -62,13 +65,15 @@ module _ (f : Float) (t : T (fits binary64 f)) (i : InUnit f) where
     where
       known : n < 4503599627370496 → eq (ofInt binary64 (pos n)) (mul binary64 f two52-f) ≡ true → n * L + 0 ≡ u .F * 4503599627370496 + 0 * L
       known h e =
-          let w : Val (ofInt binary64 (pos n)) (n * L) (0 * L) L = subst (λ (d : ℕ). Val (ofInt binary64 (pos n)) (n * L) (0 * L) d) (one-mul L) (val-scale L (ofInt-val (pos n) (omega arith) (omega arith))) in
+          let w : Val (ofInt binary64 (pos n)) (n * L) (0 * L) L =
+          subst (λ (d : ℕ). Val (ofInt binary64 (pos n)) (n * L) (0 * L) d) (one-mul L) (val-scale L (ofInt-val (pos n) (omega arith) (omega arith))) in
           eqb-true _ _ (sym (eq-val L-pos w product) ∙ e)
 
       moved : n * L + 0 ≡ u .F * 4503599627370496 + 0 * L → Val f n 0 4503599627370496
       moved e =
           val-unscale n 4503599627370496 L L-pos
-          (subst₂ (λ (a d : ℕ). Val f a 0 d) (plain (n * L) (u .F * 4503599627370496) (0 * L) (zero-mul L) e) (mul-comm L 4503599627370496) (val-scale 4503599627370496 (u .val)))
+          (subst₂ (λ (a d : ℕ). Val f a 0 d) (plain (n * L) (u .F * 4503599627370496) (0 * L) (zero-mul L) e) (mul-comm L 4503599627370496)
+          (val-scale 4503599627370496 (u .val)))
         where
           plain : (a b z : ℕ) → z ≡ 0 → a + 0 ≡ b + z → b ≡ a
           plain a b z p q = omega arith

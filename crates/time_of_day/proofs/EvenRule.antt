@@ -83,7 +83,9 @@ same-even : (n d m c : ℕ) → 0 < d → 0 < c → n * c ≡ m * d → even fal
 same-even n d m c h k e =
     let q : n / d ≡ m / c = div-same n d m c h k e in
     ap (λ (z : ℕ). nearestEven z (n % d) d) q
-    ∙ same-rest (m / c) (n % d) d (m % c) c h k (rests (m / c) n d m c (n % d) (m % c) (ap (λ (z : ℕ). z * d + n % d) (sym q) ∙ div-add-mod' n d) (div-add-mod' m c) e) (side (n % d) d) (side (m % c) c)
+    ∙ same-rest (m / c) (n % d) d (m % c) c h k
+    (rests (m / c) n d m c (n % d) (m % c) (ap (λ (z : ℕ). z * d + n % d) (sym q) ∙ div-add-mod' n d) (div-add-mod' m c) e) (side (n % d) d)
+    (side (m % c) c)
 
 pub even-nearest : Nearest even
 even-nearest = record { near = λ s n d h. near-even n d h; same = λ s n d m c h k e. same-even n d m c h k e }

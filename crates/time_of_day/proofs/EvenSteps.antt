@@ -9,11 +9,13 @@ use lib.IntN.{ℤ, pos}
 use borrow.Author.Tests.{eq-eqb, ne-eqb, lt-ltb, le-ltb, ltb-true}
 use lib.Dec.{ltb}
 use Rattle.time_of_day.specs.TimeShown.{fromZero, dayEnd}
-use Rattle.time_of_day.specs.HalfEven.{two52-f, nearestEven, even, gridUnits, worth, dayIsWhole, twice, halfMillis, ofHalves, floatCount, inWhole, evenCount}
+use Rattle.time_of_day.specs.HalfEven.{two52-f, nearestEven, even, gridUnits, worth, dayIsWhole, twice, halfMillis, ofHalves, floatCount, inWhole}
+use Rattle.time_of_day.specs.HalfEven.{evenCount}
 
 -- ---- the product in two parts
 pub in-parts : (u y : ℕ) → u * y ≡ 67108864 * (u / 67108864 * y) + u % 67108864 * y
-in-parts u y = ap (λ (z : ℕ). z * y) (sym (div-add-mod' u 67108864)) ∙ add-mul (u / 67108864 * 67108864) (u % 67108864) y ∙ ap (λ (z : ℕ). z + u % 67108864 * y) (ap (λ (z : ℕ). z * y) (mul-comm (u / 67108864) 67108864) ∙ mul-assoc 67108864 (u / 67108864) y)
+in-parts u y = ap (λ (z : ℕ). z * y) (sym (div-add-mod' u 67108864)) ∙ add-mul (u / 67108864 * 67108864) (u % 67108864) y
+    ∙ ap (λ (z : ℕ). z + u % 67108864 * y) (ap (λ (z : ℕ). z * y) (mul-comm (u / 67108864) 67108864) ∙ mul-assoc 67108864 (u / 67108864) y)
 
 quotient : (n a b : ℕ) → n ≡ 67108864 * a + b → n / 4503599627370496 ≡ (a + b / 67108864) / 67108864
 quotient n a b e = omega arith
@@ -28,7 +30,8 @@ module _ (u y : ℕ) where
   abbrev high : ℕ
   high = u / 67108864 * y
 
-  pub halves-even : nearestEven ((high + low / 67108864) / 67108864) ((high + low / 67108864) % 67108864 * 67108864 + low % 67108864) 4503599627370496 ≡ even false (u * y) 4503599627370496
+  pub halves-even : nearestEven ((high + low / 67108864) / 67108864) ((high + low / 67108864) % 67108864 * 67108864 + low % 67108864) 4503599627370496 ≡ even
+      false (u * y) 4503599627370496
   halves-even = sym (λ i. nearestEven (quotient (u * y) high low (in-parts u y) i) (remainder (u * y) high low (in-parts u y) i) 4503599627370496)
 
 -- a part is at most 2 ^ 26 - 1 times the day
@@ -86,7 +89,8 @@ module _ (f l : Float) where
 
   pub count-in-whole : (u d : ℕ) → u ≡ gridUnits f → d ≡ dayEnd l → inWhole f l ≡ true → even false (u * d) 4503599627370496 ≡ evenCount f l
   unfolding evenCount
-  count-in-whole u d eu ed t = (λ i. even false (eu i * ed i) 4503599627370496) ∙ sym (ap (λ (b : Bool). cond b (even false (gridUnits f * dayEnd l) 4503599627370496) (floatCount f l)) t)
+  count-in-whole u d eu ed t = (λ i. even false (eu i * ed i) 4503599627370496)
+      ∙ sym (ap (λ (b : Bool). cond b (even false (gridUnits f * dayEnd l) 4503599627370496) (floatCount f l)) t)
 
   pub count-by-float : inWhole f l ≡ false → floatCount f l ≡ evenCount f l
   unfolding evenCount

@@ -38,7 +38,8 @@ one-way nan a b = a
 one-way (inf true) a b = a
 one-way (inf false) a b = b
 one-way (fin s m e) a b =
-    let v : Val (fin s m e) (plus-of s (m * up e)) (minus-of s (m * up e)) (down e) = record { sign = s; size = m * up e; has = (refl, refl); is = signed-of s (m * up e) } in
+    let v : Val (fin s m e) (plus-of s (m * up e)) (minus-of s (m * up e)) (down e) =
+    record { sign = s; size = m * up e; has = (refl, refl); is = signed-of s (m * up e) } in
     let x = lt-says (down-pos e) (zero-val (down e)) v a in
     let y = lt-says (down-pos e) v (zero-val (down e)) b in
     omega arith

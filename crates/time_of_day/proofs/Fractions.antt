@@ -109,7 +109,8 @@ cross-has (inf u) s t a b D E h k = absurd h
 cross-has (fin u m e) s t a b D E h k = le-antisymm (cancel (le-of-eq same)) (cancel (le-of-eq (sym same)))
   where
     same : a * E * down e ≡ b * D * down e
-    same = mul-right-comm a E (down e) ∙ ap (λ (z : ℕ). z * E) (sym (h .1)) ∙ mul-right-comm (m * up e) D E ∙ ap (λ (z : ℕ). z * D) (k .1) ∙ mul-right-comm b (down e) D
+    same = mul-right-comm a E (down e) ∙ ap (λ (z : ℕ). z * E) (sym (h .1)) ∙ mul-right-comm (m * up e) D E ∙ ap (λ (z : ℕ). z * D) (k .1)
+        ∙ mul-right-comm b (down e) D
 
     cancel : {x y : ℕ} → x * down e ≤ y * down e → x ≤ y
     cancel g = le-of-mul-le-mul-right g (down-pos e)
@@ -120,4 +121,5 @@ size-is true a p h = omega arith
 
 pub cross : {x : Float} {F G D E : ℕ} → Val x F 0 D → Val x G 0 E → F * E ≡ G * D
 cross {x} {F} {G} {D} {E} v w =
-    ap (λ (z : ℕ). z * E) (sym (size-is (v .sign) (v .size) F (v .is))) ∙ cross-has x (v .sign) (w .sign) (v .size) (w .size) D E (v .has) (w .has) ∙ ap (λ (z : ℕ). z * D) (size-is (w .sign) (w .size) G (w .is))
+    ap (λ (z : ℕ). z * E) (sym (size-is (v .sign) (v .size) F (v .is))) ∙ cross-has x (v .sign) (w .sign) (v .size) (w .size) D E (v .has) (w .has)
+    ∙ ap (λ (z : ℕ). z * D) (size-is (w .sign) (w .size) G (w .is))

@@ -26,13 +26,15 @@ pub record IsWhole (z : ℤ) (p n : ℕ) : Type 0 where
 
 near-div : (g d : ℕ) → 0 < d → (2 * (nearer g d * d) ≤ 2 * g + d) × (2 * g ≤ 2 * (nearer g d * d) + d)
 near-div g d h =
-    go (nearer g d * (2 * d)) ((2 * g + d) % (2 * d)) (nearer g d * d) (div-add-mod' (2 * g + d) (2 * d)) (mod-lt (2 * g + d) (mul-pos (lit< tt) h)) (mul-left-comm (nearer g d) 2 d)
+    go (nearer g d * (2 * d)) ((2 * g + d) % (2 * d)) (nearer g d * d) (div-add-mod' (2 * g + d) (2 * d)) (mod-lt (2 * g + d) (mul-pos (lit< tt) h))
+    (mul-left-comm (nearer g d) 2 d)
   where
     go : (a r k : ℕ) → a + r ≡ 2 * g + d → r < 2 * d → a ≡ 2 * k → (2 * k ≤ 2 * g + d) × (2 * g ≤ 2 * k + d)
     go a r k e l f = omega arith
 
 nearer-same : (n d g c : ℕ) → 0 < d → 0 < c → n * c ≡ g * d → nearer n d ≡ nearer g c
-nearer-same n d g c h k e = div-same (2 * n + d) (2 * d) (2 * g + c) (2 * c) (mul-pos (lit< tt) h) (mul-pos (lit< tt) k) (left n d c ∙ ap (λ (x : ℕ). 2 * (2 * x + d * c)) e ∙ ap (λ (x : ℕ). 2 * (2 * (g * d) + x)) (mul-comm d c) ∙ sym (left g c d))
+nearer-same n d g c h k e = div-same (2 * n + d) (2 * d) (2 * g + c) (2 * c) (mul-pos (lit< tt) h) (mul-pos (lit< tt) k)
+    (left n d c ∙ ap (λ (x : ℕ). 2 * (2 * x + d * c)) e ∙ ap (λ (x : ℕ). 2 * (2 * (g * d) + x)) (mul-comm d c) ∙ sym (left g c d))
   where
     left : (n d c : ℕ) → (2 * n + d) * (2 * c) ≡ 2 * (2 * (n * c) + d * c)
     left n d c = mul-left-comm (2 * n + d) 2 c ∙ ap (λ (x : ℕ). 2 * x) (add-mul (2 * n) d c ∙ ap (λ (x : ℕ). x + d * c) (mul-assoc 2 n c))

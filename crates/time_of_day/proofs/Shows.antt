@@ -47,7 +47,11 @@ longest x W E G minus-second d = go (d .p) (d .n) (d .is) (le-says G (d .leap-is
 module _ (c e F D k : ℕ) (x : Float) (s : Leap x) (h : F ≤ D) (near : (W E : ℕ) → 0 < E → DayLength x W E → TimeWithin c e (k * E) F D W E) where
   at-time : k < dayEnd (wholeLeap x) → ShownWithin c e F D x (At (timeOf k))
   unfolding Good shownMs
-  at-time t = record { good = good-time k (wholeLeap x) t; near = λ W E G d. subst (λ (z : ℕ). TimeWithin c e (z * E) F D W E) (sym (fields-ms k)) (near W E G d) }
+  at-time t = record {
+    good = good-time k (wholeLeap x) t;
+    near =
+        λ W E G d. subst (λ (z : ℕ). TimeWithin c e (z * E) F D W E) (sym (fields-ms k)) (near W E G d);
+  }
 
   at-end : dayEnd (wholeLeap x) ≤ k → ShownWithin c e F D x NextMidnight
   unfolding Good shownMs
@@ -76,7 +80,8 @@ module _ (how : Bool → ℕ → ℕ → ℕ) (rule : Nearest how) (f x : Float)
   pub count-near : (F D W E : ℕ) → 0 < E → Val f F 0 D → DayLength x W E → TimeWithin 16777216 8388609 (countBy how f (wholeLeap x) * E) F D W E
   unfolding countBy fromZero
   count-near F D W E G v d =
-      subst (λ (z : ℤ). TimeWithin 16777216 8388609 (fromZero z * E) F D W E) (sym (counts .is)) (moved (counts .k * E) F D W E v (counts .close (d .p) (d .n) E W G (d .leap-is) (d .is)))
+      subst (λ (z : ℤ). TimeWithin 16777216 8388609 (fromZero z * E) F D W E) (sym (counts .is))
+      (moved (counts .k * E) F D W E v (counts .close (d .p) (d .n) E W G (d .leap-is) (d .is)))
 
   shown : ShownWithin 16777216 8388609 (u .F) L x (shownOf how f x)
   unfolding shownBy

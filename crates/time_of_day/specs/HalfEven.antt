@@ -1,5 +1,5 @@
--- Milliseconds with a half to the even one. Written from document 02, item 4: decided on whole numbers for a fraction that is a multiple of 2 ^ -52, on days of whole
--- seconds; else by the exact value of the float that document 01's call rounds. Assumes nothing.
+-- Milliseconds with a half to the even one. Written from document 02, item 4: decided on whole numbers for a fraction that is a multiple of 2 ^ -52, on days of
+-- whole seconds; else by the exact value of the float that document 01's call rounds. Assumes nothing.
 use Prim.Native.Nat.{ℕ, _+_, _*_, _/_, _%_}
 use mathlib.Core.Bool.{Bool, true, false, cond}
 use lib.IntN.{pos}

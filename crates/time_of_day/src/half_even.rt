@@ -4,7 +4,8 @@ ghost use mathlib.Core.Path.{_≡_};
 ghost use Prim.Native.Nat.{_*_, _≤_, _<_};
 ghost use mathlib.Core.Bool.{false};
 ghost use Rattle.time_of_day.specs.TimeShown.{shownBy};
-ghost use Rattle.time_of_day.specs.HalfEven.{nearestEven, even, gridUnits, worth as worth·of, dayIsWhole, twice, ofHalves, floatCount, inWhole, evenCount};
+ghost use Rattle.time_of_day.specs.HalfEven.{nearestEven, even, gridUnits, worth as worth·of, dayIsWhole, twice, ofHalves, floatCount, inWhole};
+ghost use Rattle.time_of_day.specs.HalfEven.{evenCount};
 
 const TWO_52: f64 = 4503599627370496.0;
 

@@ -19,11 +19,16 @@ module _ (rows : List Row) (seconds : ℤ) (nanos : ℕ) where
   unfolding utcNew
   nanos-refused e = rw e
 
-  pub day-refused : ltb nanos 1000000000 ≡ true → (k : ℕ) → julianToCalendar unixEpochJd (ofInt binary64 (unixDay seconds)) ≡ refusal k → utcNew rows seconds nanos ≡ refusal k
+  pub day-refused : ltb nanos 1000000000 ≡ true → (k : ℕ) → julianToCalendar unixEpochJd (ofInt binary64 (unixDay seconds)) ≡ refusal k
+      → utcNew rows seconds nanos ≡ refusal k
   unfolding utcNew onward
   day-refused e k p = rw (e, p)
 
-  pub day-given : ltb nanos 1000000000 ≡ true → (c : CalendarFields) → julianToCalendar unixEpochJd (ofInt binary64 (unixDay seconds)) ≡ answer c → (y : ℤ) (s : ℕ) (x : Float)
-      → y ≡ c .date .year → s ≡ secondOfUnixDay seconds → x ≡ secondWithNanos s nanos → utcFromCalendar rows y (c .date .month) (c .date .day) (s / 3600) (s % 3600 / 60) x ≡ utcNew rows seconds nanos
+  pub day-given : ltb nanos 1000000000 ≡ true → (c : CalendarFields) → julianToCalendar unixEpochJd (ofInt binary64 (unixDay seconds)) ≡ answer c
+      → (y : ℤ) (s : ℕ) (x : Float)
+      → y ≡ c .date .year → s ≡ secondOfUnixDay seconds → x ≡ secondWithNanos s nanos
+      → utcFromCalendar rows y (c .date .month) (c .date .day) (s / 3600) (s % 3600 / 60) x ≡ utcNew rows seconds nanos
   unfolding utcNew onward
-  day-given e c p y s x ey es ex = rw (e, p) (λ i. utcFromCalendar rows (ey i) (c .date .month) (c .date .day) (es i / 3600) (es i % 3600 / 60) ((ex ∙ ap (λ (k : ℕ). secondWithNanos k nanos) es) i))
+  day-given e c p y s x ey es ex =
+      rw (e, p) (λ i. utcFromCalendar rows (ey i) (c .date .month) (c .date .day) (es i / 3600) (es i % 3600 / 60)
+      ((ex ∙ ap (λ (k : ℕ). secondWithNanos k nanos) es) i))

@@ -9,7 +9,8 @@ pub mod DayTexts
 pub mod Numbers
 pub mod DateNumbers
 pub mod Lengths
--- Demand3: DEMAND 3 of a text's day and time. ShownDates, Sums, TextForms: what it needs of dates, of divisions and of forms of text. DayLengths: it speaks of every day.
+-- Demand3: DEMAND 3 of a text's day and time. ShownDates, Sums, TextForms: what it needs of dates, of divisions and of forms of text. DayLengths: it speaks of
+-- every day.
 pub mod ShownDates
 pub mod Sums
 pub mod TextForms
@@ -22,8 +23,8 @@ pub mod Ends
 -- ExpandedTexts, HalfEvenTexts: document 02's two forms of text.
 pub mod ExpandedTexts
 pub mod HalfEvenTexts
--- Which refusals the calls give by every announced table, and exactly when. Ladders: of tables, dates and times. Decided, NewDecided, TextDecided: of each call; UnixDates,
--- UnixClock: what a Unix time needs. Witnesses: each refusal does occur.
+-- Which refusals the calls give by every announced table, and exactly when. Ladders: of tables, dates and times. Decided, NewDecided, TextDecided: of each
+-- call; UnixDates, UnixClock: what a Unix time needs. Witnesses: each refusal does occur.
 pub mod Ladders
 pub mod Decided
 pub mod UnixDates

@@ -1,4 +1,5 @@
--- What the contracts of `utc::text` cite, in the order to read it: what UTC text is, where its characters stand, what a lent buffer and the answer are after the call.
+-- What the contracts of `utc::text` cite, in the order to read it: what UTC text is, where its characters stand, what a lent buffer and the answer are after
+-- the call.
 pub mod Text
 pub mod Expanded
 pub mod Layout

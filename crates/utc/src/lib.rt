@@ -167,8 +167,8 @@ pub fn utc_from_calendar_by_rows(
     )
 }
 
-// UTC of a date and a time of its day. Refusals in order: 20 to 22 the table, 1 to 3 the date, 5 no next day, 4 the time; in the day's last minute the second is
-// below 60 + leap.
+// UTC of a date and a time of its day. Refusals in order: 20 to 22 the table, 1 to 3 the date, 5 no next day, 4 the time; in the day's last minute the second
+// is below 60 + leap.
 pub fn utc_from_calendar(
     year: i32,
     month: u8,

@@ -1,5 +1,5 @@
-// Lists the stamp block that is read from standard input, with refusals told by number. Proved here: the program is safe and ends. That the parts are the listing is a theorem
-// (stamps::listing_laws); that they go out in order is tested by what the program prints.
+// Lists the stamp block that is read from standard input, with refusals told by number. Proved here: the program is safe and ends. That the parts are the
+// listing is a theorem (stamps::listing_laws); that they go out in order is tested by what the program prints.
 ghost use mathlib.Core.Path.{_≡_};
 ghost use lib.ListN.{length};
 use stamps::Telling;
@@ -31,7 +31,8 @@ fn tell_unwritten() {
     libc::write(2, b"utc_listing: the listing can't be written\n");
 }
 
-// The program lends no rows. Where the output takes no more, the program says so and ends: what it wrote until then has its last line cut short, or ends with a whole line.
+// The program lends no rows. Where the output takes no more, the program says so and ends: what it wrote until then has its last line cut short, or ends with a
+// whole line.
 fn main() {
     let mut space = block_space();
     let kept = block_io::read_block(&mut space);

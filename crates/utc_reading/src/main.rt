@@ -1,6 +1,6 @@
-// Reads UTC texts from standard input, one a line, and answers each by a line: its index and the text of its date, or `refused` and the number. A line ends with byte 10,
-// which is no part of the text; a last line without one counts where it has a byte. The program lends no rows. Proved here: the program is safe, and ends where its input
-// does; what answers a text is proved of `readings::answer_line`; that the lines go out in order is tested by what the program prints.
+// Reads UTC texts from standard input, one a line, and answers each by a line: its index and the text of its date, or `refused` and the number. A line ends
+// with byte 10, which is no part of the text; a last line without one counts where it has a byte. The program lends no rows. Proved here: the program is safe,
+// and ends where its input does; what answers a text is proved of `readings::answer_line`; that the lines go out in order is tested by what the program prints.
 use utc::text::TextAnswer;
 
 // Where the reading stands.

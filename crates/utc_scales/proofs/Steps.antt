@@ -34,12 +34,14 @@ module _ (rows : List Row) (x y : Float) (d : DayNumber) (e : dayNumberAndFracti
   unfolding taiFraction
   tai-no-offsets n p = went _ (fields-of x y d e) ∙ stopped _ p
 
-  pub tai-of-day : InDays (d .day) → (o : DayOffsets) → offsetsOf rows (gregorianDate (d .day)) ≡ answer o → taiFraction rows x y ≡ answer (taiFromMidnight x (midnightOfDay (d .day)) o (d .fraction))
+  pub tai-of-day : InDays (d .day) → (o : DayOffsets) → offsetsOf rows (gregorianDate (d .day)) ≡ answer o
+      → taiFraction rows x y ≡ answer (taiFromMidnight x (midnightOfDay (d .day)) o (d .fraction))
   unfolding taiFraction
   tai-of-day r o p = went _ (fields-of x y d e) ∙ went _ p ∙ went _ (valid-midnight (d .day) r (offsets-valid rows (d .day) o p))
 
 -- ---- three rounds
-pub three-rounds : (rows : List Row) (big small : Float) → onward (onward (refined rows big small small) (refined rows big small)) (refined rows big small) ≡ refineUtcFraction rows big small
+pub three-rounds : (rows : List Row) (big small : Float)
+    → onward (onward (refined rows big small small) (refined rows big small)) (refined rows big small) ≡ refineUtcFraction rows big small
 unfolding refineUtcFraction rounds onward
 three-rounds rows big small = go (refined rows big small small)
   where

@@ -1,5 +1,5 @@
--- UTC to TAI with the rule of the offset that it reads. Written from document 02, item 5: it passes on the rule of the calendar's date at 0h, that of the date of its
--- larger and smaller part. Assumes nothing.
+-- UTC to TAI with the rule of the offset that it reads. Written from document 02, item 5: it passes on the rule of the calendar's date at 0h, that of the date
+-- of its larger and smaller part. Assumes nothing.
 use mathlib.Core.List.{List}
 use Rattle.refusals.specs.Outcome.{Outcome, answer, refusal}
 use Rattle.julian.specs.declared.JulianDate.{JulianDate}

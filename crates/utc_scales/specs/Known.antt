@@ -1,5 +1,6 @@
--- A day whose offsets have been looked up is known rightly: the offsets are those of the table's rows. What the code of TAI to UTC carries from round to round, and that of
--- UTC to UT1 from TAI on, so that they look a day up once. This project's own: the Rust looks the day up anew. Of the public functions only `tai_fraction_by_rule`, which UTC to UT1 goes on from, cites it. Assumes nothing.
+-- A day whose offsets have been looked up is known rightly: the offsets are those of the table's rows. What the code of TAI to UTC carries from round to round,
+-- and that of UTC to UT1 from TAI on, so that they look a day up once. This project's own: the Rust looks the day up anew. Of the public functions only
+-- `tai_fraction_by_rule`, which UTC to UT1 goes on from, cites it. Assumes nothing.
 use mathlib.Core.Path.{_≡_}
 use mathlib.Core.List.{List}
 use lib.Ieee.{Float}

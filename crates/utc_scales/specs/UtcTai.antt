@@ -1,5 +1,5 @@
--- UTC to TAI and back. Written from the Rust's scales/conversions/utc_tai/mod.rs, whose bits it fixes: each operation is rounded once, in its order. Document 01,
--- "Scale dates": TAI to UTC does exactly three rounds. Assumes nothing.
+-- UTC to TAI and back. Written from the Rust's scales/conversions/utc_tai/mod.rs, whose bits it fixes: each operation is rounded once, in its order. Document
+-- 01, "Scale dates": TAI to UTC does exactly three rounds. Assumes nothing.
 use Prim.Native.Nat.{ℕ, zero, suc}
 use mathlib.Core.List.{List}
 use lib.Ieee.{Float, binary64, add, sub, mul, div}

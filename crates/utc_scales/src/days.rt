@@ -1,5 +1,5 @@
-// What the conversions of UTC that read the table share: the larger part of a date, which they keep, the smaller one, which they change, and TAI-UTC at 0h of a day. On
-// equal sizes jd2 is changed.
+// What the conversions of UTC that read the table share: the larger part of a date, which they keep, the smaller one, which they change, and TAI-UTC at 0h of a
+// day. On equal sizes jd2 is changed.
 ghost use mathlib.Core.Path.{_≡_};
 ghost use Rattle.refusals.specs.Outcome.{onward};
 ghost use Rattle.calendar.specs.Gregorian.{gregorianDate};
@@ -81,7 +81,8 @@ pub fn offset_at_0h<'a>(
     months: &'a [i32; 16],
     seconds: &'a [i32; 16],
 ) -> SecondsByRule
-    ensures { λ r. ⌜ secondsByRuleOutcome r ≡ withRule (offsetAt0h (rowsIn size (now (months .entry)) (now (seconds .entry))) (gregorianDate day)) (ruleOn (rowsIn size (now (months .entry)) (now (seconds .entry))) (gregorianDate day)) ⌝ }
+    ensures { λ r. ⌜ secondsByRuleOutcome r ≡ withRule (offsetAt0h (rowsIn size (now (months .entry)) (now (seconds .entry))) (gregorianDate day))
+        (ruleOn (rowsIn size (now (months .entry)) (now (seconds .entry))) (gregorianDate day)) ⌝ }
 {
     let t = calendar::gregorian_date(day);
     leap_table::offsets::offset_at_0h_by_lent(

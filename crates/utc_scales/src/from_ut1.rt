@@ -92,7 +92,8 @@ fn scan_day<'a>(
     seconds: &'a [i32; 16],
 ) -> DayScan
     requires { ⌜ RightMonth (rowsIn size (now months) (now seconds)) before ⌝ }
-    ensures { λ r. ⌜ (U.scanOutcome r ≡ U.scanDay (rowsIn size (now (months .entry)) (now (seconds .entry))) big small dut1 i (before .seconds)) × RightScan (rowsIn size (now (months .entry)) (now (seconds .entry))) r ⌝ }
+    ensures { λ r. ⌜ (U.scanOutcome r ≡ U.scanDay (rowsIn size (now (months .entry)) (now (seconds .entry))) big small dut1 i (before .seconds))
+        × RightScan (rowsIn size (now (months .entry)) (now (seconds .entry))) r ⌝ }
 {
     match julian::day_number::day_number_and_fraction(big, small + i) {
         DayAnswer::Refused(number) => DayScan::Refused(number),

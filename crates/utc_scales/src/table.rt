@@ -33,7 +33,8 @@ pub(crate) fn day_of<'a>(
     months: &'a [i32; 16],
     seconds: &'a [i32; 16],
 ) -> DayByRule
-    ensures { λ r. ⌜ dayByRuleOutcome r ≡ withRule (offsetsOf (rowsIn size (now (months .entry)) (now (seconds .entry))) (gregorianDate day)) (ruleOn (rowsIn size (now (months .entry)) (now (seconds .entry))) (gregorianDate day)) ⌝ }
+    ensures { λ r. ⌜ dayByRuleOutcome r ≡ withRule (offsetsOf (rowsIn size (now (months .entry)) (now (seconds .entry))) (gregorianDate day))
+        (ruleOn (rowsIn size (now (months .entry)) (now (seconds .entry))) (gregorianDate day)) ⌝ }
 {
     let t = calendar::gregorian_date(day);
     leap_table::offsets::day_offsets_by_lent(

@@ -85,7 +85,8 @@ fn tai_fraction<'a>(
     seconds: &'a [i32; 16],
 ) -> PartAnswer
     requires { ⌜ RightKnown (rowsIn size (now months) (now seconds)) known ⌝ }
-    ensures { λ r. ⌜ (partOutcome r ≡ U.taiFraction (rowsIn size (now (months .entry)) (now (seconds .entry))) big small) × RightPart (rowsIn size (now (months .entry)) (now (seconds .entry))) r ⌝ }
+    ensures { λ r. ⌜ (partOutcome r ≡ U.taiFraction (rowsIn size (now (months .entry)) (now (seconds .entry))) big small)
+        × RightPart (rowsIn size (now (months .entry)) (now (seconds .entry))) r ⌝ }
 {
     match julian::day_number::day_number_and_fraction(big, small) {
         DayAnswer::Refused(number) => PartAnswer::Refused(number),
@@ -113,7 +114,8 @@ pub fn tai_fraction_by_rule<'a>(
     months: &'a [i32; 16],
     seconds: &'a [i32; 16],
 ) -> RuledPart
-    ensures { λ r. ⌜ (ruledPartOutcome r ≡ U.taiFraction (rowsIn size (now (months .entry)) (now (seconds .entry))) big small) × SameDays (rowsIn size (now (months .entry)) (now (seconds .entry))) big small r ⌝ }
+    ensures { λ r. ⌜ (ruledPartOutcome r ≡ U.taiFraction (rowsIn size (now (months .entry)) (now (seconds .entry))) big small)
+        × SameDays (rowsIn size (now (months .entry)) (now (seconds .entry))) big small r ⌝ }
 {
     match julian::day_number::day_number_and_fraction(big, small) {
         DayAnswer::Refused(number) => RuledPart::Refused(number),
@@ -185,7 +187,8 @@ fn refined<'a>(
     seconds: &'a [i32; 16],
 ) -> PartAnswer
     requires { ⌜ RightKnown (rowsIn size (now months) (now seconds)) known ⌝ }
-    ensures { λ r. ⌜ (partOutcome r ≡ U.refined (rowsIn size (now (months .entry)) (now (seconds .entry))) big small guess) × RightPart (rowsIn size (now (months .entry)) (now (seconds .entry))) r ⌝ }
+    ensures { λ r. ⌜ (partOutcome r ≡ U.refined (rowsIn size (now (months .entry)) (now (seconds .entry))) big small guess)
+        × RightPart (rowsIn size (now (months .entry)) (now (seconds .entry))) r ⌝ }
 {
     let p = kept_parts(JulianDate {
         jd1: big,
@@ -213,7 +216,8 @@ fn refined_again<'a>(
     seconds: &'a [i32; 16],
 ) -> PartAnswer
     requires { ⌜ RightPart (rowsIn size (now months) (now seconds)) guess ⌝ }
-    ensures { λ r. ⌜ (partOutcome r ≡ onward (partOutcome guess) (U.refined (rowsIn size (now (months .entry)) (now (seconds .entry))) big small)) × RightPart (rowsIn size (now (months .entry)) (now (seconds .entry))) r ⌝ }
+    ensures { λ r. ⌜ (partOutcome r ≡ onward (partOutcome guess) (U.refined (rowsIn size (now (months .entry)) (now (seconds .entry))) big small))
+        × RightPart (rowsIn size (now (months .entry)) (now (seconds .entry))) r ⌝ }
 {
     match guess {
         PartAnswer::Refused(number) => PartAnswer::Refused(number),

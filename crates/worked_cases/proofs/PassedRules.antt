@@ -1,6 +1,6 @@
--- THE RULE THAT A TEXT PASSES ON is that of the calendar's date before any carry, by computation: 2016-12-31 23:59:60.9996 shows 2017 and tells row 40, the last float of 1971 shows
--- 1972 and tells the row 13 that drifts, 1959 tells none, and under a announced row that row is told. Assumes nothing.
-use mathlib.Core.Path.{_≡_, refl, ap, _∙_}
+-- THE RULE THAT A TEXT PASSES ON is that of the calendar's date before any carry, by computation: 2016-12-31 23:59:60.9996 shows 2017 and tells row 40, the
+-- last float of 1971 shows 1972 and tells the row 13 that drifts, 1959 tells none, and under a announced row that row is told. Assumes nothing.
+use mathlib.Core.Path.{_≡_, refl, _∙_}
 use mathlib.Core.List.{List}
 use Prim.Native.Nat.{ℕ}
 use lib.IntN.{ℤ, pos}
@@ -47,8 +47,10 @@ textOn dates rows d = onward (toCalendar dates (d .jd1) (d .jd2)) (λ c. withRul
 
 unfoldable computedText : List Row → JulianDate → Outcome (List ℕ × Rule)
 unfolding dayNumberAndFraction dividedDate onward withRule ruleOn ruleAt ruleOf ruleBy
-    validDate nextOf next daysInMonth leapSize lengths mjdOf mjdNumber civilCount leapAtEndOfDay leapOf dayOffsets taiUtcOffset inDay offsetAt offsetBy byRow secondsOf startOf rateOf fixed monthNumber reached
-    shownBy countBy shownAt fromZero timeOf dayEnd Millis.wholeLeap Millis.millisOf Millis.fractionSeconds dayTextBy shownTextBy nextMidnightTextBy utcText yearText secondsPerDay
+    validDate nextOf next daysInMonth leapSize lengths mjdOf mjdNumber civilCount leapAtEndOfDay leapOf dayOffsets taiUtcOffset inDay offsetAt offsetBy byRow
+    secondsOf startOf rateOf fixed monthNumber reached
+    shownBy countBy shownAt fromZero timeOf dayEnd Millis.wholeLeap Millis.millisOf Millis.fractionSeconds dayTextBy shownTextBy nextMidnightTextBy utcText
+    yearText secondsPerDay
     abs toWhole nearestInt round ofBits ofInt add sub mul div neg lt le eq toSigned
 computedText rows d = textOn dividedDate rows d
 
@@ -62,11 +64,13 @@ second-60-9996 = julian (decimal 24577535 1) (bits 0x3fef_ffff_fd83_b746)
 
 from-fields : utcFromCalendar fixed (pos 2016) 12 31 23 59 (decimal 609996 4) ≡ answer second-60-9996
 unfolding utcFromCalendar midnightPlus dayFraction timeInDay secondLimit calendarToJulian fromCalendar Julian.atTime roundedSum mjdZeroPoint onward
-    validDate nextOf next daysInMonth leapSize lengths mjdOf mjdNumber civilCount leapAtEndOfDay leapOf dayOffsets taiUtcOffset inDay offsetAt offsetBy byRow secondsOf startOf rateOf fixed monthNumber reached secondsPerDay
+    validDate nextOf next daysInMonth leapSize lengths mjdOf mjdNumber civilCount leapAtEndOfDay leapOf dayOffsets taiUtcOffset inDay offsetAt offsetBy byRow
+    secondsOf startOf rateOf fixed monthNumber reached secondsPerDay
     round ofBits ofInt add sub mul div neg lt le eq
 from-fields = refl
 
-pub carried-from-2016 : onward (utcFromCalendar fixed (pos 2016) 12 31 23 59 (decimal 609996 4)) (λ d. isoTextByRule fixed d) ≡ answer (ascii "2017-01-01T00:00:00.000", Whole 40)
+pub carried-from-2016 : onward (utcFromCalendar fixed (pos 2016) 12 31 23 59 (decimal 609996 4)) (λ d. isoTextByRule fixed d) ≡ answer
+    (ascii "2017-01-01T00:00:00.000", Whole 40)
 unfolding computedText round ofBits
 carried-from-2016 = went _ from-fields ∙ as-computed fixed second-60-9996 ∙ refl
 

@@ -1,5 +1,5 @@
--- THE LAST MINUTE OF A DAY THAT ENDS A SECOND EARLY, by computation: 2029-12-31 by the table of `ShortTable`. 23:59:59.0 and the Unix second of it are refused with 4, the
--- float below passes, and the text ends at 86,399,000 ms. From document 02, item 8. Assumes nothing.
+-- THE LAST MINUTE OF A DAY THAT ENDS A SECOND EARLY, by computation: 2029-12-31 by the table of `ShortTable`. 23:59:59.0 and the Unix second of it are refused
+-- with 4, the float below passes, and the text ends at 86,399,000 ms. From document 02, item 8. Assumes nothing.
 use mathlib.Core.Path.{_≡_, refl, _∙_}
 use mathlib.Core.List.{List}
 use Prim.Native.Nat.{ℕ}
@@ -64,7 +64,8 @@ half-past-58 = went _ short-taken ∙ short-day-taken shortRows (pos 2029) 12 31
 -- ---- `UTC::new` of the day's 86,400th second, which it does not have
 pub unix-second-refused : onward (tableOf shortTable) (λ rows. utcNew rows (pos 1893455999) 0) ≡ refusal 4
 unfolding utcNew julianToCalendar dayNumberAndFraction dividedDate onward unixEpochJd nanosecondsPerSecond unixDay secondOfUnixDay secondWithNanos
-    calendarToJulian fromCalendar Julian.atTime utcFromCalendar midnightPlus dayFraction timeInDay secondLimit validDate nextOf next daysInMonth leapSize lengths mjdOf mjdNumber civilCount leapAtEndOfDay leapOf dayOffsets taiUtcOffset inDay offsetAt offsetBy byRow secondsOf
+    calendarToJulian fromCalendar Julian.atTime utcFromCalendar midnightPlus dayFraction timeInDay secondLimit validDate nextOf next daysInMonth leapSize
+    lengths mjdOf mjdNumber civilCount leapAtEndOfDay leapOf dayOffsets taiUtcOffset inDay offsetAt offsetBy byRow secondsOf
     fixed monthNumber reached abs toWhole nearestInt roundedSum round ofBits ofInt add sub mul div neg lt le eq toSigned
 unix-second-refused = went _ short-taken ∙ (λ i. at-second (λ n. divided-date n i))
   where
@@ -87,14 +88,18 @@ as-divided fraction = went _ short-taken ∙ (λ i. textOn (λ n. divided-date n
 -- at 23:59:58.5, and at the last float below 1.0: the text goes on to the next midnight from 86,398.9995 s on
 pub text-58-5 : text (bits 0x3fef_fff3_dd12_7aef) ≡ answer (ascii "2029-12-31T23:59:58.500")
 unfolding dayNumberAndFraction dividedDate onward
-    validDate nextOf next daysInMonth leapSize lengths mjdOf mjdNumber civilCount leapAtEndOfDay leapOf dayOffsets taiUtcOffset inDay offsetAt offsetBy byRow secondsOf fixed monthNumber reached
-    shownBy countBy shownAt fromZero timeOf dayEnd Millis.wholeLeap Millis.millisOf Millis.fractionSeconds dayTextBy shownTextBy nextMidnightTextBy utcText yearText secondsPerDay
+    validDate nextOf next daysInMonth leapSize lengths mjdOf mjdNumber civilCount leapAtEndOfDay leapOf dayOffsets taiUtcOffset inDay offsetAt offsetBy byRow
+    secondsOf fixed monthNumber reached
+    shownBy countBy shownAt fromZero timeOf dayEnd Millis.wholeLeap Millis.millisOf Millis.fractionSeconds dayTextBy shownTextBy nextMidnightTextBy utcText
+    yearText secondsPerDay
     abs toWhole nearestInt round ofBits ofInt add sub mul div neg lt le eq toSigned
 text-58-5 = as-divided (bits 0x3fef_fff3_dd12_7aef) ∙ refl
 
 pub text-at-end : text (bits 0x3fef_ffff_ffff_ffff) ≡ answer (ascii "2030-01-01T00:00:00.000")
 unfolding dayNumberAndFraction dividedDate onward
-    validDate nextOf next daysInMonth leapSize lengths mjdOf mjdNumber civilCount leapAtEndOfDay leapOf dayOffsets taiUtcOffset inDay offsetAt offsetBy byRow secondsOf fixed monthNumber reached
-    shownBy countBy shownAt fromZero timeOf dayEnd Millis.wholeLeap Millis.millisOf Millis.fractionSeconds dayTextBy shownTextBy nextMidnightTextBy utcText yearText secondsPerDay
+    validDate nextOf next daysInMonth leapSize lengths mjdOf mjdNumber civilCount leapAtEndOfDay leapOf dayOffsets taiUtcOffset inDay offsetAt offsetBy byRow
+    secondsOf fixed monthNumber reached
+    shownBy countBy shownAt fromZero timeOf dayEnd Millis.wholeLeap Millis.millisOf Millis.fractionSeconds dayTextBy shownTextBy nextMidnightTextBy utcText
+    yearText secondsPerDay
     abs toWhole nearestInt round ofBits ofInt add sub mul div neg lt le eq toSigned
 text-at-end = as-divided (bits 0x3fef_ffff_ffff_ffff) ∙ refl

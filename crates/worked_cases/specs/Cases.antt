@@ -61,7 +61,8 @@ starred =
     -- 7: the lowest sum
     (case (julian-to-calendar (neg (decimal 685695 1)) (decimal 0 0)) (answer (dateFields (yearBelow0 4900) 3 1 (decimal 0 0)))) ∷
     -- 8: 2^-52 below it, which passes since the sum rounds (docs/DIFFERENCES.md); the fraction is 1 - 2^-52
-    (case (julian-to-calendar (neg (decimal 685695 1)) (neg (ratioOf 1 (2 ^ 52)))) (answer (dateFields (yearBelow0 4900) 2 30 (ratioOf (2 ^ 52 - 1) (2 ^ 52))))) ∷
+    (case (julian-to-calendar (neg (decimal 685695 1)) (neg (ratioOf 1 (2 ^ 52))))
+    (answer (dateFields (yearBelow0 4900) 2 30 (ratioOf (2 ^ 52 - 1) (2 ^ 52))))) ∷
     -- 9 to 12: offsets at 0h
     (case (get-tai-utc-offset (pos 1959) (pos 12) (pos 31) (decimal 0 0)) (answer (float (decimal 0 0)))) ∷
     (case (get-tai-utc-offset (pos 1972) (pos 1) (pos 1) (decimal 0 0)) (answer (float (decimal 100 1)))) ∷

@@ -1,5 +1,5 @@
--- `block_io::write_listing` meets its contract: a part that is not the last brings it on by a line at least. The measure is the number of lines that can be left. Assumes
--- nothing.
+-- `block_io::write_listing` meets its contract: a part that is not the last brings it on by a line at least. The measure is the number of lines that can be
+-- left. Assumes nothing.
 use Prim.Native.Nat.{ℕ, _-_, _≤_, zero-le}
 use mathlib.Core.Path.{_≡_}
 use lib.ListN.{length}
@@ -42,7 +42,11 @@ write-text-requires : tie.Need-write-text-requires Inv-loop μ-loop
 write-text-requires c κs = search needs
 
 returns : tie.Need-returns Inv-loop μ-loop
-returns c = record { within = c .before .before .before .before .before .before .loop .inv .0; whole = λ e. (let z : _≡_ {A = ℕ} 0 1 = cc in absurd (omega arith)) }
+returns c = record {
+  within = c .before .before .before .before .before .before .loop .inv .0;
+  whole =
+      λ e. (let z : _≡_ {A = ℕ} 0 1 = cc in absurd (omega arith));
+}
 
 returns-2 : tie.Need-returns-2 Inv-loop μ-loop
 returns-2 c =
@@ -52,26 +56,23 @@ returns-2 c =
 
 loop-less : tie.Need-loop-less Inv-loop μ-loop
 loop-less c =
-    let on = part-brings-on (c .before .before .before .before .before .next-told-part-by-rows .ensures) (omega (arith, room-high (c .before .before .before .before .before .before .before .before .before .before .args .how), c .before .before .before .before .before .before .before .loop .inv .1)) (c .if2 .left) in
+    let on = part-brings-on (c .before .before .before .before .before .next-told-part-by-rows .ensures)
+    (omega (
+      arith,
+      room-high (c .before .before .before .before .before .before .before .before .before .before .args .how),
+      c .before .before .before .before .before .before .before .loop .inv .1,
+    )) (c .if2 .left) in
     omega (arith, on .0, on .1)
 
 loop-again : tie.Need-loop-again Inv-loop μ-loop
-loop-again c = (next-within (c .before .before .before .before .before .next-told-part-by-rows .ensures) (c .before .before .before .before .before .before .before .loop .inv .0), search needs)
+loop-again c = (
+  next-within (c .before .before .before .before .before .next-told-part-by-rows .ensures)
+      (c .before .before .before .before .before .before .before .loop .inv .0),
+  search needs,
+)
 
 pub write-listing-spec : {M : Type 1} → statement M
 write-listing-spec =
     tie.close
-    (tie.spec
-    Inv-loop
-    μ-loop
-    no-rows-requires
-    loop-holds
-    slice-aggregate-next-told-part-by-rows
-    next-told-part-by-rows-requires
-    array-share-prefix-scratch
-    slice-aggregate-write-text
-    write-text-requires
-    returns
-    returns-2
-    loop-less
-    loop-again)
+    (tie.spec Inv-loop μ-loop no-rows-requires loop-holds slice-aggregate-next-told-part-by-rows next-told-part-by-rows-requires
+    array-share-prefix-scratch slice-aggregate-write-text write-text-requires returns returns-2 loop-less loop-again)

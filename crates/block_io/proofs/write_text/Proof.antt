@@ -55,17 +55,5 @@ returns-2 c = counts _ _ (search needs)
 pub write-text-spec : {M : Type 1} → statement M
 write-text-spec =
     tie.close
-    (tie.spec
-    Inv-loop
-    μ-loop
-    loop-holds
-    sub-rest
-    part-rest-start
-    part-rest-end
-    write-requires
-    count-requires
-    add-done
-    loop-less
-    loop-again
-    returns
+    (tie.spec Inv-loop μ-loop loop-holds sub-rest part-rest-start part-rest-end write-requires count-requires add-done loop-less loop-again returns
     returns-2)

@@ -7,7 +7,8 @@ use Rattle.c_answers.proofs.put.Statement.{statement}
 use Rattle.c_answers.proofs.put.Tie as tie
 
 returns : tie.Need-returns
-returns c = too-short (now (c .before .before .before .before .args .all)) (now (c .before .before .before .before .args .out)) _ (c .before .if1 .taken) (code-back (c .refused .ok) ∙ c .refused .ensures)
+returns c = too-short (now (c .before .before .before .before .args .all)) (now (c .before .before .before .before .args .out)) _ (c .before .if1 .taken)
+    (code-back (c .refused .ok) ∙ c .refused .ensures)
 
 returns-2 : tie.Need-returns-2
 returns-2 c =

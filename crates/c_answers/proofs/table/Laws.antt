@@ -1,18 +1,17 @@
 -- A table in bytes: what becomes of it, which bytes count, and the table of no rows; and a call that goes on with its rows. Assumes nothing.
-use Prim.Native.Nat.{ℕ, zero, suc, _+_, _*_, _≤_, _<_}
+use Prim.Native.Nat.{ℕ, zero, suc, _+_, _*_, _<_}
 use native.Mathlib.Omega.{arith}
 use mathlib.Core.Path.{_≡_, refl, sym, ap, _∙_}
 use mathlib.Core.Bool.{Bool, true, false, cond}
 use mathlib.Core.Logic.{_⊎_, inl, inr}
 use mathlib.Core.List.{List, [], _∷_, _++_}
 use lib.Dec.{eqb, leb}
-use lib.IntN.{pos}
 use lib.ListN.{length, getD, replicate}
 use borrow.Author.Tests.{eq-eqb, eqb-true}
 use Rattle.refusals.specs.Outcome.{Outcome, answer, refusal, onward}
 use Rattle.numerals.specs.little_endian.LittleEndian.{fourAt, u32At}
 use Rattle.leap_table.specs.rows.Table.{Row, row, fixed}
-use Rattle.leap_table.specs.rows.Announced.{least, rowsTo, announcedSize, rowsOf, tableOf, Decision, sizes, order, step, taken, unlessRefused}
+use Rattle.leap_table.specs.rows.Announced.{least, rowsTo, announcedSize, tableOf, Decision, sizes, order, step, taken, unlessRefused}
 use Rattle.leap_table.proofs.rows.Tables.{least-right}
 use Rattle.leap_table.proofs.rows.TableLaws.{table-decided}
 use Rattle.leap_table.proofs.rows.TablesTaken.{table-none}
@@ -57,7 +56,8 @@ other-length s h = go (eqb (length s) 136) refl
     go true p = absurd (h (eqb-true (length s) 136 p))
     go false p = rw p
 
--- ---- WHICH BYTES COUNT: the two sizes, and of both arrays as many places as the first size says, 16 at the most; what stands behind them is neither read nor judged
+-- ---- WHICH BYTES COUNT: the two sizes, and of both arrays as many places as the first size says, 16 at the most; what stands behind them is neither read nor
+-- judged
 module _ (s s′ : List ℕ) (same-length : length s ≡ length s′) where
   same-number : (at : ℕ) → ((i : ℕ) → i < 4 → getD s (at + i) 0 ≡ getD s′ (at + i) 0) → u32At s at ≡ u32At s′ at
   unfolding u32At fourAt
@@ -72,7 +72,8 @@ module _ (s s′ : List ℕ) (same-length : length s ≡ length s′) where
       none a = omega arith
 
   pub spare-bytes : ((i : ℕ) → i < 8 → getD s i 0 ≡ getD s′ i 0)
-      → ((i : ℕ) → i < 4 * least (u32At s 0) 16 → (getD s (8 + i) 0 ≡ getD s′ (8 + i) 0) × (getD s (72 + i) 0 ≡ getD s′ (72 + i) 0)) → tableBytes s ≡ tableBytes s′
+      → ((i : ℕ) → i < 4 * least (u32At s 0) 16 → (getD s (8 + i) 0 ≡ getD s′ (8 + i) 0) × (getD s (72 + i) 0 ≡ getD s′ (72 + i) 0))
+      → tableBytes s ≡ tableBytes s′
   unfolding tableBytes
   spare-bytes h g = λ i. ofLength (same-length i) (same i)
     where
@@ -83,7 +84,8 @@ module _ (s s′ : List ℕ) (same-length : length s ≡ length s′) where
       placed at i j = omega arith
 
       read : (at i : ℕ) → ((j : ℕ) → j < 4 → getD s (at + (4 * i + j)) 0 ≡ getD s′ (at + (4 * i + j)) 0) → signedAt s (at + 4 * i) ≡ signedAt s′ (at + 4 * i)
-      read at i k = ap signed32 (same-number (at + 4 * i) (λ j l. ap (λ (n : ℕ). getD s n 0) (placed at i j) ∙ k j l ∙ ap (λ (n : ℕ). getD s′ n 0) (sym (placed at i j))))
+      read at i k = ap signed32 (same-number (at + 4 * i)
+          (λ j l. ap (λ (n : ℕ). getD s n 0) (placed at i j) ∙ k j l ∙ ap (λ (n : ℕ). getD s′ n 0) (sym (placed at i j))))
 
       same : tableOf (recordIn s) ≡ tableOf (recordIn s′)
       same = same-table s′ (recordIn s)

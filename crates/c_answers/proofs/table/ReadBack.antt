@@ -1,5 +1,5 @@
 -- What is written is read back: a record from its 136 bytes. Assumes nothing.
-use Prim.Native.Nat.{ℕ, zero, suc, _+_, _-_, _*_, _/_, _%_, _≤_, _<_}
+use Prim.Native.Nat.{ℕ, zero, suc, _+_, _-_, _*_, _/_, _%_, _<_}
 use native.Mathlib.Omega.{arith}
 use native.Mathlib.Nat.{not-suc-le-zero, div-div-eq-div-mul}
 use mathlib.Core.Path.{_≡_, refl, sym, ap, subst, _∙_}
@@ -122,7 +122,8 @@ module _ (t : AnnouncedRows) (held : MachineRecord t) where
   months-back : signedFrom (recordBytes t) 8 16 ≡ t .months
   months-back = ext-getD (pos 0) _ _ (from-length (recordBytes t) 8 16 ∙ sym (held .sixteen-months)) (λ i h.
       let k : i < 16 = omega (arith, from-length (recordBytes t) 8 16) in
-      place-of (recordBytes t) 8 16 i k ∙ read-number (suc (suc i)) (8 + 4 * i) (getD (t .months) i (pos 0)) (held .months-fit i) (place i) (omega arith) (month-pattern i k))
+      place-of (recordBytes t) 8 16 i k
+      ∙ read-number (suc (suc i)) (8 + 4 * i) (getD (t .months) i (pos 0)) (held .months-fit i) (place i) (omega arith) (month-pattern i k))
     where
       place : (i : ℕ) → 8 + 4 * i ≡ 4 * suc (suc i)
       place i = omega arith
@@ -130,7 +131,8 @@ module _ (t : AnnouncedRows) (held : MachineRecord t) where
   seconds-back : signedFrom (recordBytes t) 72 16 ≡ t .seconds
   seconds-back = ext-getD (pos 0) _ _ (from-length (recordBytes t) 72 16 ∙ sym (held .sixteen-seconds)) (λ i h.
       let k : i < 16 = omega (arith, from-length (recordBytes t) 72 16) in
-      place-of (recordBytes t) 72 16 i k ∙ read-number (suc (suc (16 + i))) (72 + 4 * i) (getD (t .seconds) i (pos 0)) (held .seconds-fit i) (place i) (omega arith) (second-pattern i k))
+      place-of (recordBytes t) 72 16 i k
+      ∙ read-number (suc (suc (16 + i))) (72 + 4 * i) (getD (t .seconds) i (pos 0)) (held .seconds-fit i) (place i) (omega arith) (second-pattern i k))
     where
       place : (i : ℕ) → 72 + 4 * i ≡ 4 * suc (suc (16 + i))
       place i = omega arith

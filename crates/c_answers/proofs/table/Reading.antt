@@ -36,11 +36,13 @@ place-of s at (suc n) (suc i) h = place-of s (at + 4) n i (omega arith) ∙ ap (
     later a j = omega arith
 
 -- one place more is read
-pub one-more-read : (s : List ℕ) (at i : ℕ) (l : List ℤ) (z : ℤ) → length l ≡ 16 → i < 16 → z ≡ signedAt s (at + 4 * i) → ((k : ℕ) → k < i → getD l k (pos 0) ≡ signedAt s (at + 4 * k))
+pub one-more-read : (s : List ℕ) (at i : ℕ) (l : List ℤ) (z : ℤ) → length l ≡ 16 → i < 16 → z ≡ signedAt s (at + 4 * i)
+    → ((k : ℕ) → k < i → getD l k (pos 0) ≡ signedAt s (at + 4 * k))
     → (length (set l i z) ≡ 16) × ((k : ℕ) → k < i + 1 → getD (set l i z) k (pos 0) ≡ signedAt s (at + 4 * k))
 one-more-read s at i l z n h e all = (
   length-set l i z ∙ n,
-  below-more (λ k. getD (set l i z) k (pos 0) ≡ signedAt s (at + 4 * k)) i (λ k g. getD-set-other l i k z (pos 0) (λ (p : k ≡ i). omega arith) ∙ all k g) (getD-set-same l i z (pos 0) (omega arith) ∙ e),
+  below-more (λ k. getD (set l i z) k (pos 0) ≡ signedAt s (at + 4 * k)) i (λ k g. getD-set-other l i k z (pos 0) (λ (p : k ≡ i). omega arith) ∙ all k g)
+      (getD-set-same l i z (pos 0) (omega arith) ∙ e),
 )
 
 -- ---- a record that has the sizes of the bytes and their numbers as far as the first size goes has their table
@@ -91,12 +93,14 @@ both-none a b e = go (eqb a 0) refl e
     go true p q = (eqb-true a 0 p, eqb-true b 0 q)
     go false p q = absurd (true≢false (sym q))
 
-pub reads-none : (s : List ℕ) (t : AnnouncedRows) (a b : ℕ) → a ≡ u32At s 0 → b ≡ u32At s 4 → eqb a 0 && eqb b 0 ≡ true → tableOf t ≡ answer fixed → tableOf t ≡ tableOf (recordIn s)
+pub reads-none : (s : List ℕ) (t : AnnouncedRows) (a b : ℕ) → a ≡ u32At s 0 → b ≡ u32At s 4 → eqb a 0 && eqb b 0 ≡ true → tableOf t ≡ answer fixed
+    → tableOf t ≡ tableOf (recordIn s)
 reads-none s t a b p q e f =
     let (x, y) = both-none a b e in
     f ∙ sym (table-none (recordIn s) (sym p ∙ x) (sym q ∙ y))
 
-pub refuses-none : (n : ℕ) (t : AnnouncedRows) → n ≡ 136 → eqb (t .«months_size») 0 && eqb (t .«seconds_size») 0 ≡ true → answer (rowsOf t) ≡ ofLength n (tableOf t)
+pub refuses-none : (n : ℕ) (t : AnnouncedRows) → n ≡ 136 → eqb (t .«months_size») 0 && eqb (t .«seconds_size») 0 ≡ true
+    → answer (rowsOf t) ≡ ofLength n (tableOf t)
 unfolding ofLength
 refuses-none n t h e =
     let (x, y) = both-none (t .«months_size») (t .«seconds_size») e in
@@ -104,11 +108,13 @@ refuses-none n t h e =
     ap answer (none-rows t f) ∙ sym f ∙ rw (eq-eqb n 136 h)
 
 -- ---- a size and two arrays: where the table is taken, their rows are its rows
-pub by-arrays : (t : AnnouncedRows) (n : ℕ) → unlessRefused n (rowsOf t) ≡ tableOf t → unlessRefused n (rowsIn (least (t .«months_size») 16) (t .months) (t .seconds)) ≡ tableOf t
+pub by-arrays : (t : AnnouncedRows) (n : ℕ) → unlessRefused n (rowsOf t) ≡ tableOf t
+    → unlessRefused n (rowsIn (least (t .«months_size») 16) (t .months) (t .seconds)) ≡ tableOf t
 by-arrays t (suc k) e = e
 by-arrays t zero e =
     let k = when-taken t (rowsOf t) (sym e) in
-    ap answer (rows-in t (least (t .«months_size») 16) (least-low (t .«months_size») 16 (k .most) ∙ sym (least-low (t .«months_size») (t .«seconds_size») (omega (arith, k .one-size))))) ∙ e
+    ap answer (rows-in t (least (t .«months_size») 16)
+    (least-low (t .«months_size») 16 (k .most) ∙ sym (least-low (t .«months_size») (t .«seconds_size») (omega (arith, k .one-size))))) ∙ e
 
 of-length-136 : (n : ℕ) (o : Outcome (List Row)) → n ≡ 136 → o ≡ ofLength n o
 unfolding ofLength
@@ -116,13 +122,16 @@ of-length-136 n o h = rw (eq-eqb n 136 h)
 
 -- by the sizes a and b that were read
 module _ (n a b a′ b′ : ℕ) (m l : List ℤ) (p : a ≡ a′) (q : b ≡ b′) (h : n ≡ 136) where
-  pub arrays-judged : (number : ℕ) → Judged number (announcedTable a b m l) → unlessRefused number (rowsIn (least a′ 16) m l) ≡ ofLength n (tableOf (announcedTable a′ b′ m l))
+  pub arrays-judged : (number : ℕ) → Judged number (announcedTable a b m l)
+      → unlessRefused number (rowsIn (least a′ 16) m l) ≡ ofLength n (tableOf (announcedTable a′ b′ m l))
   arrays-judged number e =
-      by-arrays (announcedTable a′ b′ m l) number (subst (λ (x : ℕ). Judged number (announcedTable x b′ m l)) p (subst (λ (y : ℕ). Judged number (announcedTable a y m l)) q e))
+      by-arrays (announcedTable a′ b′ m l) number
+      (subst (λ (x : ℕ). Judged number (announcedTable x b′ m l)) p (subst (λ (y : ℕ). Judged number (announcedTable a y m l)) q e))
       ∙ of-length-136 n (tableOf (announcedTable a′ b′ m l)) h
 
 -- what was read of the bytes is their table
-pub arrays-of-bytes : (s : List ℕ) (m l : List ℤ) → ReadFrom s 8 m → ReadFrom s 72 l → ofLength (length s) (tableOf (announcedTable (u32At s 0) (u32At s 4) m l)) ≡ tableBytes s
+pub arrays-of-bytes : (s : List ℕ) (m l : List ℤ) → ReadFrom s 8 m → ReadFrom s 72 l
+    → ofLength (length s) (tableOf (announcedTable (u32At s 0) (u32At s 4) m l)) ≡ tableBytes s
 unfolding tableBytes
 arrays-of-bytes s m l p q = ap (ofLength (length s)) (same-table s (announcedTable (u32At s 0) (u32At s 4) m l) refl refl p q)
 
@@ -132,7 +141,8 @@ unfolding tableBytes ofLength
 read-14 s rows h = rw (ne-eqb (length s) 136 h)
 
 module _ (s : List ℕ) (a b : ℕ) (m l : List ℤ) (p : a ≡ u32At s 0) (q : b ≡ u32At s 4) (h : length s ≡ 136) where
-  pub read-judged : (size number : ℕ) → size ≡ least a 16 → ((i : ℕ) → i < size → getD m i (pos 0) ≡ signedAt s (8 + 4 * i)) → ((i : ℕ) → i < size → getD l i (pos 0) ≡ signedAt s (72 + 4 * i))
+  pub read-judged : (size number : ℕ) → size ≡ least a 16 → ((i : ℕ) → i < size → getD m i (pos 0) ≡ signedAt s (8 + 4 * i))
+      → ((i : ℕ) → i < size → getD l i (pos 0) ≡ signedAt s (72 + 4 * i))
       → Judged number (announcedTable a b m l) → unlessRefused number (rowsIn size m l) ≡ tableBytes s
   read-judged size number e ms ss j =
       let k : size ≡ sizeIn s = e ∙ ap (λ (x : ℕ). least x 16) p in
@@ -144,7 +154,8 @@ module _ (s : List ℕ) (a b : ℕ) (m l : List ℤ) (p : a ≡ u32At s 0) (q : 
   read-none e =
       let (x, y) = both-none a b e in
       let f = table-none (announcedTable a b m l) x y in
-      read-judged 0 0 (none-of x) (λ i g. absurd (not-suc-le-zero g)) (λ i g. absurd (not-suc-le-zero g)) (ap answer (none-rows (announcedTable a b m l) f) ∙ sym f)
+      read-judged 0 0 (none-of x) (λ i g. absurd (not-suc-le-zero g)) (λ i g. absurd (not-suc-le-zero g))
+      (ap answer (none-rows (announcedTable a b m l) f) ∙ sym f)
     where
       none-of : a ≡ 0 → 0 ≡ least a 16
       none-of x = ap (λ (k : ℕ). least k 16) (sym x)

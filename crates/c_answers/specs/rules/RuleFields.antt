@@ -1,5 +1,5 @@
--- The rule of an offset as 8 bytes, little-endian: its kind and its row, 4 bytes each. Written from document 02, item 5: absent, drifting or whole, with the row counted
--- from 0; the numbers 0, 1 and 2 and the row -1 of an absent one are the header's. Assumes nothing.
+-- The rule of an offset as 8 bytes, little-endian: its kind and its row, 4 bytes each. Written from document 02, item 5: absent, drifting or whole, with the
+-- row counted from 0; the numbers 0, 1 and 2 and the row -1 of an absent one are the header's. Assumes nothing.
 use Prim.Native.Nat.{ℕ}
 use mathlib.Core.List.{List, _++_}
 use lib.Ieee.{Float}

@@ -1,5 +1,5 @@
--- The table that a C caller lends as bytes. Written from document 02, item 8: "From C it is these 136 bytes, little-endian; any other length is 14, before 20": two
--- sizes of 4 bytes, 16 month starts and 16 seconds of 4 bytes each, in two's complement. Assumes nothing.
+-- The table that a C caller lends as bytes. Written from document 02, item 8: "From C it is these 136 bytes, little-endian; any other length is 14, before 20":
+-- two sizes of 4 bytes, 16 month starts and 16 seconds of 4 bytes each, in two's complement. Assumes nothing.
 use Prim.Native.Nat.{ℕ, zero, suc, _+_, _*_, _<_}
 use mathlib.Core.Path.{_≡_}
 use mathlib.Core.Bool.{cond}

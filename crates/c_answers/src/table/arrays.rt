@@ -18,7 +18,8 @@ pub struct Announced {
 // Writes the first `size` numbers from `at` on; the places past them stay.
 fn put_numbers(bytes: &[u8], at: usize, size: usize, numbers: &mut [i32; 16])
     requires { ⌜ (at < 100) × (size ≤ 16) ⌝ }
-    ensures { λ _. ⌜ (length (now (numbers .entry)) ≡ 16 → (i : ℕ) → i < size → getD (now (numbers .exit)) i (pos 0) ≡ signedAt (now (bytes .entry)) (at + 4 * i)) ⌝ }
+    ensures { λ _. ⌜ (length (now (numbers .entry)) ≡ 16 → (i : ℕ) → i < size
+        → getD (now (numbers .exit)) i (pos 0) ≡ signedAt (now (bytes .entry)) (at + 4 * i)) ⌝ }
 {
     let mut i = 0;
     while i < size {
@@ -27,10 +28,11 @@ fn put_numbers(bytes: &[u8], at: usize, size: usize, numbers: &mut [i32; 16])
     }
 }
 
-// Reads a table from its bytes into two arrays, each size once, and judges it: 14 the length, then the tests of the table. Of a table of no rows nothing is read but the sizes.
-// That each array has 16 places its type says.
+// Reads a table from its bytes into two arrays, each size once, and judges it: 14 the length, then the tests of the table. Of a table of no rows nothing is
+// read but the sizes. That each array has 16 places its type says.
 pub fn read_table(bytes: &[u8], months: &mut [i32; 16], seconds: &mut [i32; 16]) -> Announced
-    ensures { λ r. ⌜ (length (now (months .entry)) ≡ 16 → length (now (seconds .entry)) ≡ 16 → unlessRefused (r .number) (rowsIn (r .size) (now (months .exit)) (now (seconds .exit))) ≡ tableBytes (now (bytes .entry))) × (r .size ≤ 16) ⌝ }
+    ensures { λ r. ⌜ (length (now (months .entry)) ≡ 16 → length (now (seconds .entry)) ≡ 16
+        → unlessRefused (r .number) (rowsIn (r .size) (now (months .exit)) (now (seconds .exit))) ≡ tableBytes (now (bytes .entry))) × (r .size ≤ 16) ⌝ }
 {
     if bytes.len() != 136 {
         return Announced {

@@ -16,11 +16,4 @@ returns-2 c = (rw (lt-leb (c .before .before .args .month) 2 (c .before .if1 .le
 pub civil-count-spec : {M : Type 1} → statement M
 civil-count-spec =
     tie.close
-    (tie.spec
-    (λ c. search needs)
-    (λ c. search needs)
-    (λ c κs. search needs)
-    (λ c. search needs)
-    (λ c κs. search needs)
-    returns
-    returns-2)
+    (tie.spec (λ c. search needs) (λ c. search needs) (λ c κs. search needs) (λ c. search needs) (λ c κs. search needs) returns returns-2)

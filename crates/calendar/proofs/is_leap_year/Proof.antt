@@ -14,9 +14,6 @@ use Rattle.calendar.proofs.Signs.{quot-fits, rem-zero}
 use Rattle.calendar.proofs.is_leap_year.Statement.{statement}
 use Rattle.calendar.proofs.is_leap_year.Tie as tie
 
-rem-if1 : tie.Need-rem-if1
-rem-if1 c = (omega arith, quot-fits (c .args .year) 4 (c .fits .year))
-
 rem-if2 : tie.Need-rem-if2
 rem-if2 c = (omega arith, quot-fits (c .before .args .year) 100 (c .before .fits .year))
 
@@ -73,4 +70,4 @@ returns-3 : tie.Need-returns-3
 returns-3 c = not-four (c .before .args .year) (c .before .fits .year) (ne-eqb _ 0 (c .if1 .left))
 
 pub is-leap-year-spec : {M : Type 1} → statement M
-is-leap-year-spec = tie.close (tie.spec rem-if1 rem-if2 rem-result returns returns-2 returns-3)
+is-leap-year-spec = tie.close (tie.spec (λ c. (omega arith, quot-fits (c .args .year) 4 (c .fits .year))) rem-if2 rem-result returns returns-2 returns-3)

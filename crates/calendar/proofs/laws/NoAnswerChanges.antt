@@ -1,19 +1,19 @@
--- The Rust's signed expression and `gregorianDate`, which `gregorian_date` computes in unsigned 32-bit numbers, say the same date for every day number that a caller hands
--- over. At -68570, where the shifted number is -1, both say -4900-02-30. Assumes nothing.
+-- The Rust's signed expression and `gregorianDate`, which `gregorian_date` computes in unsigned 32-bit numbers, say the same date for every day number that a
+-- caller hands over. At -68570, where the shifted number is -1, both say -4900-02-30. Assumes nothing.
 use mathlib.Core.Path.{_≡_, refl, ap, sym, _∙_}
 use mathlib.Core.Bool.{Bool, true, false, cond, true≢false}
-use Prim.Native.Nat.{ℕ, zero, suc, _+_, _-_, _*_, _/_, _≤_, _<_}
+use Prim.Native.Nat.{ℕ, zero, suc, _+_, _-_, _*_, _/_, _≤_}
 use native.Mathlib.Omega.{arith}
 use lib.Dec.{ltb}
 use lib.IntN.{ℤ, pos, negsuc, negℤ, subℕ, _+ℤ_, _-ℤ_, _*ℤ_, +ℤ-assoc}
-use lib.Signed.{ltZ, quotZ}
+use lib.Signed.{ltZ}
 use borrow.Author.Tests.{ltb-true, ltb-false}
 use Rattle.calendar.specs.declared.CalendarDate.{CalendarDate}
 use Rattle.calendar.specs.Calendar.{date, dateAt}
 use Rattle.calendar.specs.Gregorian.{gregorianDate}
-use Rattle.calendar.proofs.Signs.{Raised, raised, sub-at, sub-shift}
+use Rattle.calendar.proofs.Signs.{raised, sub-at, sub-shift}
 use Rattle.calendar.proofs.Divisions.{centuryStart, c-low, f-low, good}
-use Rattle.calendar.proofs.Gregorian.{divisions-give-date, shifted-day-is, gregorian-is-date-of-day, gregorian-below}
+use Rattle.calendar.proofs.Gregorian.{divisions-give-date, shifted-day-is, gregorian-is-date-of-day}
 use Rattle.calendar.specs.laws.RustDate.{RustTriple, fromDayOfYear, fromDayOfCentury, fromShifted, rustDate}
 
 -- ---- differences of natural numbers
@@ -55,7 +55,8 @@ abbrev pub asTriple : CalendarDate → RustTriple
 asTriple t = record { year = t .year; month = pos (t .month); day = pos (t .day) }
 
 -- ---- the Rust's lines on a shifted number that is not below 0
-module _ (l n a i b k : ℕ) (en : n ≡ 4 * l / 146097) (ea : a ≡ l - centuryStart n) (ei : i ≡ 4000 * (a + 1) / 1461001) (eb : b ≡ a + 31 - 1461 * i / 4) (ek : k ≡ 80 * b / 2447) where
+module _ (l n a i b k : ℕ) (en : n ≡ 4 * l / 146097) (ea : a ≡ l - centuryStart n) (ei : i ≡ 4000 * (a + 1) / 1461001) (eb : b ≡ a + 31 - 1461 * i / 4)
+    (ek : k ≡ 80 * b / 2447) where
   by-century : fromShifted (pos l) ≡ fromDayOfCentury (pos n) (pos a)
   unfolding fromShifted
   by-century =

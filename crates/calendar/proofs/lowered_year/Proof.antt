@@ -18,8 +18,5 @@ sub-result : tie.Need-sub-result
 sub-result c =
     subst (λ (z : ℤ). SFits w32 z) (sym (diff c)) (record { sfits = lowered (c .args .y) 4900 (2 ^ 31) (omega (arith, c .pre)) (omega arith) })
 
-returns : tie.Need-returns
-returns c = toZ-ofZ (sub-result c) ∙ diff c
-
 pub lowered-year-spec : {M : Type 1} → statement M
-lowered-year-spec = tie.close (tie.spec (λ c. search needs) sub-result returns)
+lowered-year-spec = tie.close (tie.spec (λ c. search needs) sub-result (λ c. toZ-ofZ (sub-result c) ∙ diff c))

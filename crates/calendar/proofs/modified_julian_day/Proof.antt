@@ -22,7 +22,8 @@ module _ (c : tie.After-enum-told) where
   valid =
       let v = c .before .before in
       let s = v .before in
-      is-valid _ _ _ (s .fits .year) (s .fits .month) (s .fits .day) (v .validate-calendar-date .result) (v .validate-calendar-date .ensures) (c .enum-told .given .1)
+      is-valid _ _ _ (s .fits .year) (s .fits .month) (s .fits .day) (v .validate-calendar-date .result) (v .validate-calendar-date .ensures)
+      (c .enum-told .given .1)
 
   ok : Accepted (c .before .before .before .args .year) (c .before .before .before .args .month) (c .before .before .before .args .day)
   ok = date-accepted _ _ _ valid
@@ -52,7 +53,8 @@ returns c =
     let s = v .before in
     sym
     (mjd-refused _ _ _ _
-    (is-refused _ _ _ (s .fits .year) (s .fits .month) (s .fits .day) (v .validate-calendar-date .result) (v .validate-calendar-date .ensures) _ (c .before .number .given .1)))
+    (is-refused _ _ _ (s .fits .year) (s .fits .month) (s .fits .day) (v .validate-calendar-date .result) (v .validate-calendar-date .ensures) _
+    (c .before .number .given .1)))
 
 returns-2 : tie.Need-returns-2
 unfolding mjdOutcome
@@ -70,14 +72,5 @@ returns-2 c =
 pub modified-julian-day-spec : {M : Type 1} → statement M
 modified-julian-day-spec =
     tie.close
-    (tie.spec
-    (λ c κs. search needs)
-    (λ c. search needs)
-    (λ c. search needs)
-    raised-year-requires
-    cast-civil-count
-    cast-civil-count-2
-    civil-count-requires
-    (λ c κs. search needs)
-    returns
-    returns-2)
+    (tie.spec (λ c κs. search needs) (λ c. search needs) (λ c. search needs) raised-year-requires cast-civil-count cast-civil-count-2
+    civil-count-requires (λ c κs. search needs) returns returns-2)

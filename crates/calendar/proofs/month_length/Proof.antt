@@ -20,7 +20,8 @@ unfolding lengths
 returns c =
     let b = leapYear (c .before .args .year) in
     let m = c .before .args .month in
-    ⊎-elim (at b m 1 31 refl) (⊎-elim (at b m 3 31 refl) (⊎-elim (at b m 5 31 refl) (⊎-elim (at b m 7 31 refl) (⊎-elim (at b m 10 31 refl) (at b m 12 31 refl)))))
+    ⊎-elim (at b m 1 31 refl) (⊎-elim (at b m 3 31 refl)
+    (⊎-elim (at b m 5 31 refl) (⊎-elim (at b m 7 31 refl) (⊎-elim (at b m 10 31 refl) (at b m 12 31 refl)))))
     (c .match .keys1)
 
 returns-2 : tie.Need-returns-2
@@ -49,10 +50,12 @@ returns-5 : tie.Need-returns-5
 unfolding lengths
 returns-5 c = feb _ false _ 28 (is-leap (c .before) ∙ c .if1 .left) (c .before .before .match .keys4) refl
 
-none : (t : Bool) (m : ℕ) → (OneOf (1 ∷ 3 ∷ 5 ∷ 7 ∷ 10 ∷ 12 ∷ []) m → ⊥) → (OneOf (8 ∷ []) m → ⊥) → (OneOf (4 ∷ 6 ∷ 9 ∷ 11 ∷ []) m → ⊥) → (OneOf (2 ∷ []) m → ⊥) → 0 ≡ lengths t m
+none : (t : Bool) (m : ℕ) → (OneOf (1 ∷ 3 ∷ 5 ∷ 7 ∷ 10 ∷ 12 ∷ []) m → ⊥) → (OneOf (8 ∷ []) m → ⊥) → (OneOf (4 ∷ 6 ∷ 9 ∷ 11 ∷ []) m → ⊥)
+    → (OneOf (2 ∷ []) m → ⊥) → 0 ≡ lengths t m
 unfolding lengths
 none t =
-    numbers (λ m. (OneOf (1 ∷ 3 ∷ 5 ∷ 7 ∷ 10 ∷ 12 ∷ []) m → ⊥) → (OneOf (8 ∷ []) m → ⊥) → (OneOf (4 ∷ 6 ∷ 9 ∷ 11 ∷ []) m → ⊥) → (OneOf (2 ∷ []) m → ⊥) → 0 ≡ lengths t m)
+    numbers (λ m. (OneOf (1 ∷ 3 ∷ 5 ∷ 7 ∷ 10 ∷ 12 ∷ []) m → ⊥) → (OneOf (8 ∷ []) m → ⊥) → (OneOf (4 ∷ 6 ∷ 9 ∷ 11 ∷ []) m → ⊥) → (OneOf (2 ∷ []) m → ⊥)
+    → 0 ≡ lengths t m)
     (λ a b c e. refl)
     (λ a b c e. absurd (a (inl refl)))
     (λ a b c e. absurd (e refl))

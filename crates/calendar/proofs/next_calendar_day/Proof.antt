@@ -24,7 +24,8 @@ module _ (c : tie.After-enum-told) where
   valid =
       let v = c .before .before in
       let s = v .before in
-      is-valid _ _ _ (s .fits .year) (s .fits .month) (s .fits .day) (v .validate-calendar-date .result) (v .validate-calendar-date .ensures) (c .enum-told .given .1)
+      is-valid _ _ _ (s .fits .year) (s .fits .month) (s .fits .day) (v .validate-calendar-date .result) (v .validate-calendar-date .ensures)
+      (c .enum-told .given .1)
 
   ok : Accepted (c .before .before .before .args .year) (c .before .before .before .args .month) (c .before .before .before .args .day)
   ok = date-accepted _ _ _ valid
@@ -61,7 +62,8 @@ returns c =
     let s = v .before in
     sym
     (refused-next _ _ _ _
-    (is-refused _ _ _ (s .fits .year) (s .fits .month) (s .fits .day) (v .validate-calendar-date .result) (v .validate-calendar-date .ensures) _ (c .before .number .given .1)))
+    (is-refused _ _ _ (s .fits .year) (s .fits .month) (s .fits .day) (v .validate-calendar-date .result) (v .validate-calendar-date .ensures) _
+    (c .before .number .given .1)))
 
 cast-m : tie.Need-cast-m
 cast-m c = to-unsigned _ (c .before .before .before .fits .month) (ok c .m-sign)
@@ -113,18 +115,5 @@ returns-5 c =
 pub next-calendar-day-spec : {M : Type 1} → statement M
 next-calendar-day-spec =
     tie.close
-    (tie.spec
-    (λ c κs. search needs)
-    (λ c. search needs)
-    returns
-    (λ c. search needs)
-    cast-m
-    cast-d
-    (λ c κs. search needs)
-    (λ c. search needs)
-    returns-2
-    (λ c. search needs)
-    returns-3
-    returns-4
-    add-t14
-    returns-5)
+    (tie.spec (λ c κs. search needs) (λ c. search needs) returns (λ c. search needs) cast-m cast-d (λ c κs. search needs) (λ c. search needs)
+    returns-2 (λ c. search needs) returns-3 returns-4 add-t14 returns-5)

@@ -1,5 +1,5 @@
--- The Rust's `gregorian_date` (scales/conversions/utc_tai/calendar.rs) line by line: signed numbers, and divisions that drop the fraction toward zero. For the day numbers
--- that its callers hand it no number here passes 2^33, so that its 64 bits never wrap and its casts to 32 bits lose nothing. Assumes nothing.
+-- The Rust's `gregorian_date` (scales/conversions/utc_tai/calendar.rs) line by line: signed numbers, and divisions that drop the fraction toward zero. For the
+-- day numbers that its callers hand it no number here passes 2^33, so that its 64 bits never wrap and its casts to 32 bits lose nothing. Assumes nothing.
 use lib.IntN.{ℤ, pos, _+ℤ_, _-ℤ_, _*ℤ_}
 use lib.Signed.{quotZ}
 

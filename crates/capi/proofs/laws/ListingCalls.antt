@@ -1,6 +1,6 @@
--- A C caller that lists a block by counting line ends is never refused, makes at most 4,001 calls that return bytes, and has then written
--- the block's listing by the table's rows, whatever they are; by either way of telling, where `InWidth` asks nothing of numbers, and of sentences what every block of
--- bytes has (`bytes-width`). 11 is returned exactly where the buffer has not the room of a line. Assumes nothing.
+-- A C caller that lists a block by counting line ends is never refused, makes at most 4,001 calls that return bytes, and has then written the block's listing
+-- by the table's rows, whatever they are; by either way of telling, where `InWidth` asks nothing of numbers, and of sentences what every block of bytes has
+-- (`bytes-width`). 11 is returned exactly where the buffer has not the room of a line. Assumes nothing.
 use Prim.Native.Nat.{ℕ, zero, suc, _+_, _-_, _<_, _≤_}
 use native.Mathlib.Omega.{arith}
 use native.Mathlib.Nat.{zero-add}
@@ -51,7 +51,8 @@ module _ (how : Telling) (rows : List Row) (s : List ℕ) (line : ℕ) (w : InWi
       ap (take (length (partText how rows s line (length before)))) e ∙ take-at (partText how rows s line (length before)) _ _ refl
 
 -- ---- 11 is returned exactly where the buffer has not a line's room, and leaves it, as far as the table is taken, which is tested first
-module _ (how : Telling) (table s : List ℕ) (rows : List Row) (line : ℕ) (w : InWidth how s) {before after : List ℕ} {r : ℤ} (taken : tableBytes table ≡ answer rows)
+module _ (how : Telling) (table s : List ℕ) (rows : List Row) (line : ℕ) (w : InWidth how s) {before after : List ℕ} {r : ℤ}
+    (taken : tableBytes table ≡ answer rows)
     (d : Delivered (onward (tableBytes table) (λ rows. listingPart how rows s line (length before))) before r after) where
   by-rows : Delivered (listingPart how rows s line (length before)) before r after
   unfolding onward
@@ -76,7 +77,8 @@ unfolding lineRoom Wide
 listing-room table s rows line taken d = (too-short Numbers table s rows line tt taken d, only-short Numbers table s rows line tt taken d)
 
 -- and 64 where sentences are told, of every block of bytes and however many of 64 bits came
-pub told-room : (n : ℕ) → n < 18446744073709551616 → (table s : List ℕ) → ((k : ℕ) → getD s k 0 < 256) → (rows : List Row) (line : ℕ) {before after : List ℕ} {r : ℤ}
+pub told-room : (n : ℕ) → n < 18446744073709551616 → (table s : List ℕ) → ((k : ℕ) → getD s k 0 < 256)
+    → (rows : List Row) (line : ℕ) {before after : List ℕ} {r : ℤ}
     → tableBytes table ≡ answer rows → Delivered (onward (tableBytes table) (λ rows. listingPart (Sentences n) rows s line (length before))) before r after
     → (length before < 64 → (r ≡ negsuc 10) × (after ≡ before)) × (r ≡ negsuc 10 → length before < 64)
 unfolding lineRoom
@@ -104,7 +106,8 @@ record Before (how : Telling) (rows : List Row) (s : List ℕ) (calls line : ℕ
   within : line ≤ linesIn (blockOf s)
   few : calls ≤ line
 
-so-far : {how : Telling} {rows : List Row} {s text : List ℕ} {calls line : ℕ} → InWidth how s → Listed how rows s calls line text → Before how rows s calls line text
+so-far : {how : Telling} {rows : List Row} {s text : List ℕ} {calls line : ℕ} → InWidth how s → Listed how rows s calls line text
+    → Before how rows s calls line text
 unfolding linesFrom partText
 so-far w begun = record { wrote = refl; within = omega arith; few = omega arith }
 so-far {how} {rows} {s} w (next {calls} {line} {n} {text} {before} {after} l enough some d) =
@@ -117,7 +120,8 @@ so-far {how} {rows} {s} w (next {calls} {line} {n} {text} {before} {after} l eno
     let left = lines-left how rows s line room in
     record {
       wrote = ap (λ (t : List ℕ). t ++ take n after) (b .wrote)
-          ∙ ap (λ (t : List ℕ). linesFrom how rows s 0 line ++ t) (read ∙ ap (λ (i : ℕ). linesFrom how rows s i (partLines how rows s line room)) (sym (zero-add line)))
+          ∙ ap (λ (t : List ℕ). linesFrom how rows s 0 line ++ t)
+          (read ∙ ap (λ (i : ℕ). linesFrom how rows s i (partLines how rows s line room)) (sym (zero-add line)))
           ∙ lines-add how rows s 0 line (partLines how rows s line room)
           ∙ ap (λ (k : ℕ). linesFrom how rows s 0 (line + k)) (sym ends);
       within = omega (arith, b .within);
@@ -126,11 +130,13 @@ so-far {how} {rows} {s} w (next {calls} {line} {n} {text} {before} {after} l eno
 
 -- ---- what the caller learns
 -- its loop ends: every call that returns bytes brings it on by a line at least, to line 4,001 at most, which 32 bits hold
-pub listed-few : {how : Telling} {rows : List Row} {s text : List ℕ} {calls line : ℕ} → InWidth how s → Listed how rows s calls line text → (calls ≤ line) × (line ≤ 4001)
+pub listed-few : {how : Telling} {rows : List Row} {s text : List ℕ} {calls line : ℕ} → InWidth how s → Listed how rows s calls line text → (calls ≤ line)
+    × (line ≤ 4001)
 listed-few {how} {rows} {s} w l = let b = so-far w l in (b .few, omega (arith, b .within, few-lines s))
 
 -- and where a call returns 0, what it has written is the whole listing
-pub listed-whole : {how : Telling} {rows : List Row} {s text before after : List ℕ} {calls line : ℕ} → InWidth how s → Listed how rows s calls line text → lineRoom how ≤ length before
+pub listed-whole : {how : Telling} {rows : List Row} {s text before after : List ℕ} {calls line : ℕ} → InWidth how s → Listed how rows s calls line text
+    → lineRoom how ≤ length before
     → Delivered (listingPart how rows s line (length before)) before (pos 0) after → text ≡ listing how rows s
 listed-whole {how} {rows} {s} {text} {before} {after} {calls} {line} w l enough d =
     let b = so-far w l in

@@ -1,7 +1,7 @@
 -- THE NUMBER of `ct_compare` says how the exact sums of the two dates stand. Assumes nothing.
 use mathlib.Core.Path.{_≡_, refl, sym, ap, _∙_, subst}
 use mathlib.Core.Bool.{Bool, true, false, cond}
-use Prim.Native.Nat.{ℕ, _+_, _<_}
+use Prim.Native.Nat.{ℕ, _+_}
 use native.Mathlib.Omega.{arith}
 use lib.Dec.{T, ltb}
 use lib.Ieee.{binary64, fits}
@@ -25,7 +25,8 @@ number-of P N Q M = go (ltb (P + M) (Q + N)) (ltb (Q + N) (P + M)) refl refl
     go false true e f = greater (ltb-true (Q + N) (P + M) f)
     go false false e f = level (omega (arith, ltb-false (P + M) (Q + N) e, ltb-false (Q + N) (P + M) f))
 
-module _ (d e : JulianDate) (f1 : T (fits binary64 (d .jd1))) (f2 : T (fits binary64 (d .jd2))) (g1 : T (fits binary64 (e .jd1))) (g2 : T (fits binary64 (e .jd2))) where
+module _ (d e : JulianDate) (f1 : T (fits binary64 (d .jd1))) (f2 : T (fits binary64 (d .jd2))) (g1 : T (fits binary64 (e .jd1)))
+    (g2 : T (fits binary64 (e .jd2))) where
   pub order-number : (n : ℕ) → numbered (comparison d e) ≡ answer n → (P N Q M : ℕ) → Worth d P N L → Worth e Q M L → ByExactSums P N Q M n
   unfolding numbered onward
   order-number n is P N Q M v w = go (comparison d e) refl is

@@ -1,4 +1,5 @@
--- What a C caller gets is what the call below gives: demand 3 of UTC text holds of the three text calls, and a negative return leaves the buffer. Assumes nothing.
+-- What a C caller gets is what the call below gives: demand 3 of UTC text holds of the three text calls, and a negative return leaves the buffer. Assumes
+-- nothing.
 use Prim.Native.Nat.{ℕ, zero, suc}
 use native.Mathlib.Omega.{arith}
 use mathlib.Core.Path.{_≡_, refl, sym, ap, _∙_}

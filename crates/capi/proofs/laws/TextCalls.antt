@@ -1,5 +1,5 @@
--- A text call from C with a rule's 8 bytes of room delivers its sheet's text into its first buffer, as if it had no second one: so what is proved of that text holds of it.
--- Assumes nothing.
+-- A text call from C with a rule's 8 bytes of room delivers its sheet's text into its first buffer, as if it had no second one: so what is proved of that text
+-- holds of it. Assumes nothing.
 use Prim.Native.Nat.{ℕ, _≤_}
 use mathlib.Core.Path.{_≡_, refl, _∙_, subst}
 use mathlib.Core.Bool.{Bool, true, false, cond, _&&_}
@@ -30,19 +30,23 @@ both t u = (t, u)
 module _ (before second : List ℕ) (r : ℤ) (after after-second : List ℕ) (room : 8 ≤ length second) where
   fits-both : (t u : List ℕ) (b : Bool) → leb (length t) (length before) ≡ b → leb (length u) (length second) ≡ true
       → r ≡ code (onward (cond (b && leb (length u) (length second)) (answer (both t u)) (refusal 11)) (λ p. answer (length (p .0))))
-      → after ≡ bufferHolds (onward (cond (b && leb (length u) (length second)) (answer (both t u)) (refusal 11)) (λ p. answer (p .0))) before → Delivered (answer t) before r after
+      → after ≡ bufferHolds (onward (cond (b && leb (length u) (length second)) (answer (both t u)) (refusal 11)) (λ p. answer (p .0))) before
+      → Delivered (answer t) before r after
   unfolding written onward bufferHolds textWritten bufferAfter
   fits-both t u true e f p q = record { returned = p ∙ rw (e, f); holds = q ∙ rw f }
   fits-both t u false e f p q = record { returned = p ∙ rw e; holds = q ∙ rw e }
 
   pub text-delivered : (o : Outcome (List ℕ × Rule)) → DeliveredTwo (ruled o) before second r after after-second → Delivered (forget o) before r after
   unfolding ruled forget onward bothFit written bufferHolds
-  text-delivered (answer t) d = fits-both (t .0) (ruleBytes (t .1)) (leb (length (t .0)) (length before)) refl (le-leb 8 (length second) room) (d .returned) (d .holds)
+  text-delivered (answer t) d = fits-both (t .0) (ruleBytes (t .1)) (leb (length (t .0)) (length before)) refl (le-leb 8 (length second) room) (d .returned)
+      (d .holds)
   text-delivered (refusal k) d = record { returned = d .returned; holds = d .holds }
 
   -- by the rows of a table, or with what it is refused by
-  pub iso-delivered : (textForm : TextForm) (table : Outcome (List Row)) (jd : JulianDate) → DeliveredTwo (ruled (onward table (λ rows. textByRule textForm rows jd))) before second r after after-second
+  pub iso-delivered : (textForm : TextForm) (table : Outcome (List Row)) (jd : JulianDate)
+      → DeliveredTwo (ruled (onward table (λ rows. textByRule textForm rows jd))) before second r after after-second
       → Delivered (onward table (λ rows. isoTextBy textForm rows jd)) before r after
   unfolding onward forget
-  iso-delivered textForm (answer rows) jd d = subst (λ (o : Outcome (List ℕ)). Delivered o before r after) (text-forgets textForm rows jd) (text-delivered (textByRule textForm rows jd) d)
+  iso-delivered textForm (answer rows) jd d =
+      subst (λ (o : Outcome (List ℕ)). Delivered o before r after) (text-forgets textForm rows jd) (text-delivered (textByRule textForm rows jd) d)
   iso-delivered textForm (refusal k) jd d = text-delivered (refusal k) d

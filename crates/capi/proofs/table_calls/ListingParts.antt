@@ -24,7 +24,8 @@ use Rattle.c_answers.specs.Delivery.{code, Delivered}
 use Rattle.capi.specs.table_calls.ListingPart.{listingPart}
 use Rattle.c_answers.proofs.Deliveries.{code-back}
 
-pub no-room : (how : Telling) (rows : List Row) (s l : List ℕ) (line : ℕ) {r : ℤ} → mag r < 2 ^ 63 → length l < lineRoom how → r ≡ code (refusal 11) → Delivered (listingPart how rows s line (length l)) l (toZ w64 (ofZ w64 r)) l
+pub no-room : (how : Telling) (rows : List Row) (s l : List ℕ) (line : ℕ) {r : ℤ} → mag r < 2 ^ 63 → length l < lineRoom how → r ≡ code (refusal 11)
+    → Delivered (listingPart how rows s line (length l)) l (toZ w64 (ofZ w64 r)) l
 unfolding listingPart written onward bufferHolds
 no-room how rows s l line {r} ok h e =
     let w : written (listingPart how rows s line (length l)) (length l) ≡ refusal 11 = simp (lt-leb _ _ h) in
@@ -42,7 +43,8 @@ module _ {how : Telling} {rows : List Row} {s l out : List ℕ} {line : ℕ} {r 
   unfolding listingPart written onward bufferHolds textWritten bufferAfter code
   part-put room =
       let fits = part-fits how rows s line (length l) w in
-      let e : written (listingPart how rows s line (length l)) (length l) ≡ answer (length (partText how rows s line (length l))) = simp (le-leb _ _ room, le-leb _ _ fits) in
+      let e : written (listingPart how rows s line (length l)) (length l) ≡ answer (length (partText how rows s line (length l))) =
+      simp (le-leb _ _ room, le-leb _ _ fits) in
       record {
         returned = toZ-pos w64 {n = r .written} (omega (arith, is, part-most how rows s line (length l) w)) ∙ ap pos is ∙ sym (ap code e);
         holds = p .holds ∙ simp (le-leb _ _ room, le-leb _ _ fits);

@@ -23,18 +23,21 @@ use Rattle.c_answers.specs.Delivery.{code, inBytes, Delivered}
 use Rattle.c_answers.proofs.Deliveries.{code-back, refused-on, same-outcome}
 
 -- the rows t and the number n that the code finds in the bytes s
-module _ (s : List ℕ) (t : AnnouncedRows) (n : ℕ) (e : unlessRefused n (rowsOf t) ≡ ofLength (length s) (tableOf t)) (f : ofLength (length s) (tableOf t) ≡ tableBytes s) where
+module _ (s : List ℕ) (t : AnnouncedRows) (n : ℕ) (e : unlessRefused n (rowsOf t) ≡ ofLength (length s) (tableOf t))
+    (f : ofLength (length s) (tableOf t) ≡ tableBytes s) where
   -- ---- an answer in bytes
   module _ {A : Type 0} (bytes : A → List ℕ) (next : List Row → Outcome A) {r : ℤ} (ok : mag r < 2 ^ 63) where
     pub table-refused : {l : List ℕ} → (n ≡ 0 → ⊥) → r ≡ code (refusal n) → Delivered (inBytes bytes (onward (tableBytes s) next)) l (toZ w64 (ofZ w64 r)) l
     table-refused h c = refused-on bytes ok n (not-taken (rowsOf t) n (e ∙ f) next h) c
 
-    pub with-rows : {o : Outcome A} {l out : List ℕ} → n ≡ 0 → o ≡ next (rowsOf t) → Delivered (inBytes bytes o) l r out → Delivered (inBytes bytes (onward (tableBytes s) next)) l (toZ w64 (ofZ w64 r)) out
+    pub with-rows : {o : Outcome A} {l out : List ℕ} → n ≡ 0 → o ≡ next (rowsOf t) → Delivered (inBytes bytes o) l r out
+        → Delivered (inBytes bytes (onward (tableBytes s) next)) l (toZ w64 (ofZ w64 r)) out
     with-rows h p d = same-outcome bytes ok (p ∙ gone-on (rowsOf t) n (e ∙ f) next h) d
 
   -- ---- a text
   module _ (next : List Row → Outcome (List ℕ)) where
-    pub text-table-refused : {r : ℤ} {l : List ℕ} → mag r < 2 ^ 63 → (n ≡ 0 → ⊥) → r ≡ code (refusal n) → Delivered (onward (tableBytes s) next) l (toZ w64 (ofZ w64 r)) l
+    pub text-table-refused : {r : ℤ} {l : List ℕ} → mag r < 2 ^ 63 → (n ≡ 0 → ⊥) → r ≡ code (refusal n)
+        → Delivered (onward (tableBytes s) next) l (toZ w64 (ofZ w64 r)) l
     unfolding onward written bufferHolds
     text-table-refused {r} {l} ok h c =
         subst (λ (o : Outcome (List ℕ)). Delivered o l (toZ w64 (ofZ w64 r)) l) (sym (not-taken (rowsOf t) n (e ∙ f) next h))
@@ -44,7 +47,8 @@ module _ (s : List ℕ) (t : AnnouncedRows) (n : ℕ) (e : unlessRefused n (rows
     text-with-rows {r} {l} {out} h d = subst (λ (o : Outcome (List ℕ)). Delivered o l r out) (gone-on (rowsOf t) n (e ∙ f) next h) d
 
   -- ---- how many rows there are
-  pub count-refused : {r : ℤ} → mag r < 2 ^ 63 → (n ≡ 0 → ⊥) → r ≡ code (refusal n) → toZ w64 (ofZ w64 r) ≡ code (onward (tableBytes s) (λ rows. answer (length rows)))
+  pub count-refused : {r : ℤ} → mag r < 2 ^ 63 → (n ≡ 0 → ⊥) → r ≡ code (refusal n)
+      → toZ w64 (ofZ w64 r) ≡ code (onward (tableBytes s) (λ rows. answer (length rows)))
   count-refused ok h c = code-back ok ∙ c ∙ sym (ap code (not-taken (rowsOf t) n (e ∙ f) (λ rows. answer (length rows)) h))
 
   pub is-taken : n ≡ 0 → tableOf t ≡ answer (rowsOf t)

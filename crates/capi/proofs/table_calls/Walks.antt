@@ -6,7 +6,7 @@ use mathlib.Core.Bool.{Bool, cond}
 use mathlib.Core.List.{List}
 use lib.Dec.{eqb}
 use lib.ListN.{length}
-use lib.IntN.{ℤ, pos}
+use lib.IntN.{ℤ}
 use lib.Signed.{mag}
 use borrow.Author.Tests.{eq-eqb}
 use mir.Syntax.{w64}
@@ -35,14 +35,16 @@ module _ (s : List ℕ) (dates l : List ℕ) where
   abbrev next : List Row → Outcome Walked
   next rows = walkOfBytes rows dates (length l)
 
-  pub walk-length-refused : {r : ℤ} → mag r < 2 ^ 63 → (length s ≡ 136 → ⊥) → r ≡ code (refusal 14) → WalkDelivered (onward (tableBytes s) next) l (toZ w64 (ofZ w64 r)) l
+  pub walk-length-refused : {r : ℤ} → mag r < 2 ^ 63 → (length s ≡ 136 → ⊥) → r ≡ code (refusal 14)
+      → WalkDelivered (onward (tableBytes s) next) l (toZ w64 (ofZ w64 r)) l
   unfolding onward listAfter
   walk-length-refused {r} ok h c =
       subst (λ (o : Outcome (List Row)). WalkDelivered (onward o next) l (toZ w64 (ofZ w64 r)) l) (sym (other-length s h))
       (record { returned = code-back ok ∙ c; holds = refl })
 
   -- the rows t that the code finds in them
-  module _ (h : length s ≡ 136) (t : AnnouncedRows) (f : ofLength (length s) (tableOf t) ≡ tableBytes s) {out : List ℕ} (res : WalkAnswer) (p : WalkCall inEights (onward (tableOf t) next) l res out) where
+  module _ (h : length s ≡ 136) (t : AnnouncedRows) (f : ofLength (length s) (tableOf t) ≡ tableBytes s) {out : List ℕ} (res : WalkAnswer)
+      (p : WalkCall inEights (onward (tableOf t) next) l res out) where
     table-in : tableOf t ≡ tableBytes s
     unfolding ofLength
     table-in = ap (λ (b : Bool). cond b (tableOf t) (refusal 14)) (sym (eq-eqb (length s) 136 h)) ∙ f
@@ -56,12 +58,17 @@ module _ (s : List ℕ) (dates l : List ℕ) where
     unfolding walkOutcome
     walk-count k i =
         let q : answer k ≡ onward (onward (tableOf t) next) (λ w. answer (w .rowsCompared)) = sym (ap walkOutcome i) ∙ p .says in
-        omega (arith, count-most t (eqb (length dates % 12) 0) (datesFrom (tripleIn dates) 0 (length dates / 12)) (length l / 8) k q, how-many (tripleIn dates) (length dates / 12) 0)
+        omega (
+          arith,
+          count-most t (eqb (length dates % 12) 0) (datesFrom (tripleIn dates) 0 (length dates / 12)) (length l / 8) k q,
+          how-many (tripleIn dates) (length dates / 12) 0,
+        )
 
     pub walk-compared : (k : ℕ) → res ≡ Compared k → k < 2 ^ 63 → WalkDelivered (onward (tableBytes s) next) l (toZ w64 k) out
     unfolding walkOutcome code
     walk-compared k i b = delivered (toZ w64 k) (toZ-pos w64 {n = k} b ∙ sym (ap (λ (x : WalkAnswer). code (walkOutcome x)) i))
 
-    pub walk-refused : {r : ℤ} (k : ℕ) → mag r < 2 ^ 63 → res ≡ Refused k → r ≡ code (refusal k) → WalkDelivered (onward (tableBytes s) next) l (toZ w64 (ofZ w64 r)) out
+    pub walk-refused : {r : ℤ} (k : ℕ) → mag r < 2 ^ 63 → res ≡ Refused k → r ≡ code (refusal k)
+        → WalkDelivered (onward (tableBytes s) next) l (toZ w64 (ofZ w64 r)) out
     unfolding walkOutcome
     walk-refused {r} k ok i c = delivered (toZ w64 (ofZ w64 r)) (code-back ok ∙ c ∙ sym (ap (λ (x : WalkAnswer). code (walkOutcome x)) i))

@@ -1,5 +1,5 @@
--- The number that stands for an order, against the exact sums of two dates, (P - N) / L and (Q - M) / L: 0 where the first is smaller, 1 where they are one number, 2
--- where the first is greater. Written from include/celestial_time.h. Assumes nothing.
+-- The number that stands for an order, against the exact sums of two dates, (P - N) / L and (Q - M) / L: 0 where the first is smaller, 1 where they are one
+-- number, 2 where the first is greater. Written from include/celestial_time.h. Assumes nothing.
 use mathlib.Core.Path.{_≡_}
 use Prim.Native.Nat.{ℕ, _+_, _<_}
 

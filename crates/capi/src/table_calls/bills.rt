@@ -36,7 +36,9 @@ fn bill_call(
     table: &[u8],
     out: &mut [u8],
 ) -> i64
-    ensures { λ r. ⌜ Delivered (inBytes billBytes (onward (tableBytes (now (table .entry))) (λ rows. standbyBill rows start end rate «first_metres» «second_metres»))) (now (out .entry)) r (now (out .exit)) ⌝ }
+    ensures { λ r. ⌜ Delivered (inBytes billBytes
+        (onward (tableBytes (now (table .entry))) (λ rows. standbyBill rows start end rate «first_metres» «second_metres»))) (now (out .entry)) r
+        (now (out .exit)) ⌝ }
 {
     let rows = announced_rows_at(table);
     let number = table_number(table.len(), rows);
@@ -70,7 +72,11 @@ pub fn standby_bill(
     table: &[u8],
     out: &mut [u8],
 ) -> i64
-    ensures { λ r. ⌜ Delivered (inBytes billBytes (onward (tableBytes (now (table .entry))) (λ rows. standbyBill rows (utcTime «start_year» «start_month» «start_day» «start_hour» «start_minute» «start_second» «start_millis») (utcTime «end_year» «end_month» «end_day» «end_hour» «end_minute» «end_second» «end_millis») rate «first_metres» «second_metres»))) (now (out .entry)) r (now (out .exit)) ⌝ }
+    ensures { λ r. ⌜ Delivered (inBytes billBytes
+        (onward (tableBytes (now (table .entry)))
+        (λ rows. standbyBill rows (utcTime «start_year» «start_month» «start_day» «start_hour» «start_minute» «start_second» «start_millis»)
+        (utcTime «end_year» «end_month» «end_day» «end_hour» «end_minute» «end_second» «end_millis») rate «first_metres» «second_metres»))) (now (out .entry))
+        r (now (out .exit)) ⌝ }
 {
     let start = UtcTime {
         year: start_year,

@@ -10,7 +10,8 @@ use Rattle.floats.proofs.at_least_in_size.Tie as tie
 returns : tie.Need-returns
 returns c =
     let s = c .before .before .args in
-    ap (λ (v : Float). le v (c .before .size-of .result)) (c .size-of2 .ensures) ∙ ap (λ (v : Float). le (size (s .y)) v) (c .before .size-of .ensures) ∙ in-size (s .x) (s .y)
+    ap (λ (v : Float). le v (c .before .size-of .result)) (c .size-of2 .ensures) ∙ ap (λ (v : Float). le (size (s .y)) v) (c .before .size-of .ensures)
+    ∙ in-size (s .x) (s .y)
 
 pub at-least-in-size-spec : {M : Type 1} → statement M
 at-least-in-size-spec = tie.close (tie.spec (λ c κs. search needs) (λ c κs. search needs) returns)

@@ -6,8 +6,5 @@ use Rattle.floats.proofs.Below.{turned}
 use Rattle.floats.proofs.ceil.Statement.{statement}
 use Rattle.floats.proofs.ceil.Tie as tie
 
-returns : tie.Need-returns
-returns c = ap neg (c .floor .ensures) ∙ turned (c .before .args .x)
-
 pub ceil-spec : {M : Type 1} → statement M
-ceil-spec = tie.close (tie.spec (λ c κs. search needs) returns)
+ceil-spec = tie.close (tie.spec (λ c κs. search needs) (λ c. ap neg (c .floor .ensures) ∙ turned (c .before .args .x)))

@@ -34,7 +34,8 @@ abs-top false z s v w h = h
 abs-fields : (s : Bool) (e t : ℕ) → ofFields binary64 false e t ≡ abs (ofFields binary64 s e t)
 unfolding ofFields
 abs-fields s zero t = abs-odd 53 s t 0 1074
-abs-fields s (suc e) t = abs-top (eqb (suc e) 2047) (eqb t 0) s (odd 53 false (2 ^ 52 + t) e 1074) (odd 53 s (2 ^ 52 + t) e 1074) (abs-odd 53 s (2 ^ 52 + t) e 1074)
+abs-fields s (suc e) t = abs-top (eqb (suc e) 2047) (eqb t 0) s (odd 53 false (2 ^ 52 + t) e 1074) (odd 53 s (2 ^ 52 + t) e 1074)
+    (abs-odd 53 s (2 ^ 52 + t) e 1074)
 
 cleared : (b : ℕ) → ofBits binary64 (bitAnd b (2 ^ 63 - 1)) ≡ abs (ofBits binary64 b)
 cleared b =
@@ -59,17 +60,12 @@ abs-no-nan (fin s m e) h = tt
 returns : tie.Need-returns
 returns c = nan-stays (c .before .args .x) (differs-from-itself (c .before .args .x) (yes (c .if1 .taken)))
 
-float-to-bits-result : tie.Need-float-to-bits-result
-float-to-bits-result c = equals-itself (c .before .args .x) (c .if1 .left)
-
 float-from-bits-result : tie.Need-float-from-bits-result
 float-from-bits-result c =
     let x = c .before .args .x in
     subst (λ (z : Bool). T (not z)) (sym (nanBits-is binary64 (bitAnd (toBits binary64 x) (2 ^ 63 - 1))))
     (subst (λ (v : Float). T (not (isNan v))) (sym (is x (yes (c .before .good .0 .1)))) (abs-no-nan x (equals-itself x (c .if1 .left))))
 
-returns-2 : tie.Need-returns-2
-returns-2 c = is (c .before .args .x) (yes (c .before .good .0 .1))
-
 pub fabs-spec : {M : Type 1} → statement M
-fabs-spec = tie.close (tie.spec returns float-to-bits-result float-from-bits-result returns-2)
+fabs-spec = tie.close (tie.spec returns (λ c. equals-itself (c .before .args .x) (c .if1 .left)) float-from-bits-result
+    (λ c. is (c .before .args .x) (yes (c .before .good .0 .1))))

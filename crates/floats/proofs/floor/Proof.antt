@@ -15,7 +15,8 @@ unfolding ofBits
 returns c =
     let s = c .before .before in
     let e = c .before .trunc .ensures in
-    ap (λ (v : Float). sub binary64 v (fin false 1 (pos 0))) e ∙ one-off (s .args .x) (yes (s .good .0 .1)) (subst (λ (v : Float). T (lt (s .args .x) v)) e (yes (c .if1 .taken)))
+    ap (λ (v : Float). sub binary64 v (fin false 1 (pos 0))) e
+    ∙ one-off (s .args .x) (yes (s .good .0 .1)) (subst (λ (v : Float). T (lt (s .args .x) v)) e (yes (c .if1 .taken)))
 
 returns-2 : tie.Need-returns-2
 returns-2 c =

@@ -9,8 +9,5 @@ returns : tie.Need-returns
 unfolding div ofBits
 returns c = nan-pattern _ (c .if1 .taken)
 
-float-from-bits-result : tie.Need-float-from-bits-result
-float-from-bits-result c = no-nan-pattern _ (c .if1 .left)
-
 pub from-bits-spec : {M : Type 1} → statement M
-from-bits-spec = tie.close (tie.spec returns float-from-bits-result (λ c. search needs))
+from-bits-spec = tie.close (tie.spec returns (λ c. no-nan-pattern _ (c .if1 .left)) (λ c. search needs))

@@ -10,7 +10,8 @@ use Rattle.floats.proofs.larger_in_size.Tie as tie
 returns : tie.Need-returns
 returns c =
     let s = c .before .before .args in
-    ap (λ (v : Float). lt v (c .before .size-of .result)) (c .size-of2 .ensures) ∙ ap (λ (v : Float). lt (size (s .y)) v) (c .before .size-of .ensures) ∙ larger-in-size (s .x) (s .y)
+    ap (λ (v : Float). lt v (c .before .size-of .result)) (c .size-of2 .ensures) ∙ ap (λ (v : Float). lt (size (s .y)) v) (c .before .size-of .ensures)
+    ∙ larger-in-size (s .x) (s .y)
 
 pub larger-in-size-spec : {M : Type 1} → statement M
 larger-in-size-spec = tie.close (tie.spec (λ c κs. search needs) (λ c κs. search needs) returns)

@@ -17,7 +17,8 @@ returns : tie.Need-returns
 unfolding ofBits nearestInt
 returns c =
     let a = c .before .before .args .a in
-    first (lt (abs a) half) (lt a nought) nought (toWhole upward (sub binary64 a half)) (toWhole downward (add binary64 a half)) (ap (λ (v : Float). lt v half) (sym (c .before .fabs .ensures)) ∙ c .if1 .taken)
+    first (lt (abs a) half) (lt a nought) nought (toWhole upward (sub binary64 a half)) (toWhole downward (add binary64 a half))
+    (ap (λ (v : Float). lt v half) (sym (c .before .fabs .ensures)) ∙ c .if1 .taken)
 
 returns-2 : tie.Need-returns-2
 unfolding ofBits nearestInt

@@ -25,7 +25,8 @@ truncating-f64-to-u64-requires c κs = in-cast _ (c .before .if2 .taken) (c .if3
 -- the digits of a + 0.5
 found : (c : tie.After-truncating-f64-to-u64) → Digits (add binary64 (c .before .before .before .before .args .a) half) (c .truncating-f64-to-u64 .result)
 unfolding ofBits
-found c = let s = c .before .before .before .before .args in digits _ (add-fits binary64 (s .a) half) (c .before .before .if2 .taken) (c .before .if3 .taken) _ (c .truncating-f64-to-u64 .ensures)
+found c = let s = c .before .before .before .before .args in digits _ (add-fits binary64 (s .a) half) (c .before .before .if2 .taken) (c .before .if3 .taken)
+    _ (c .truncating-f64-to-u64 .ensures)
 
 held : (k : ℕ) → k < 2 ^ 52 → k < 2 ^ 63
 held k h = lt-of-lt-of-le h (lit≤ tt)
@@ -38,7 +39,8 @@ read c = toZ-pos w64 (c .truncating-f64-to-u64 .result) (held (c .truncating-f64
 
 int-to-float-t9 : tie.Need-int-to-float-t9
 unfolding inFloat
-int-to-float-t9 c = let d = c .before in subst (λ (z : ℤ). T (inFloat binary64 z)) (sym (read d)) (le→leb (d .truncating-f64-to-u64 .result) (2 ^ 53) (le-of-lt (lt-of-lt-of-le (found d .below) (lit≤ tt))))
+int-to-float-t9 c = let d = c .before in subst (λ (z : ℤ). T (inFloat binary64 z)) (sym (read d))
+    (le→leb (d .truncating-f64-to-u64 .result) (2 ^ 53) (le-of-lt (lt-of-lt-of-le (found d .below) (lit≤ tt))))
 
 returns : tie.Need-returns
 unfolding ofBits nearestWhole
@@ -60,8 +62,11 @@ unfolding nearestWhole
 returns-3 c =
     let v = c .before .nearest-int .ensures in
     ap (λ (z : ℤ). record { value = c .before .nearest-int .result; number = z })
-    (toZ-ofZ w64 (c .saturating-i64 .result) (record { sfits = subst (λ (z : ℤ). mag z < 2 ^ 63) (sym (c .saturating-i64 .ensures)) (toSigned-in 63 (c .before .nearest-int .result)) }) ∙ c .saturating-i64 .ensures)
+    (toZ-ofZ w64 (c .saturating-i64 .result)
+    (record { sfits = subst (λ (z : ℤ). mag z < 2 ^ 63) (sym (c .saturating-i64 .ensures)) (toSigned-in 63 (c .before .nearest-int .result)) })
+    ∙ c .saturating-i64 .ensures)
     ∙ ap (λ (x : Float). record { value = x; number = toSigned 63 x }) v
 
 pub nearest-whole-spec : {M : Type 1} → statement M
-nearest-whole-spec = tie.close (tie.spec truncating-f64-to-u64-requires cast-n int-to-float-t9 returns returns-2 (λ c κs. search needs) (λ c κs. search needs) returns-3)
+nearest-whole-spec = tie.close (tie.spec truncating-f64-to-u64-requires cast-n int-to-float-t9 returns returns-2 (λ c κs. search needs) (λ c κs. search needs)
+    returns-3)

@@ -25,9 +25,6 @@ number c = equals-itself (x (c .before)) (c .if1 .left)
 returns : tie.Need-returns
 returns c = nan-stays away (x (c .before)) (differs-from-itself (x (c .before)) (yes (c .if1 .taken)))
 
-float-to-bits-b : tie.Need-float-to-bits-b
-float-to-bits-b c = number c
-
 float-from-bits-result : tie.Need-float-from-bits-result
 float-from-bits-result c =
     let n = c .before .before in
@@ -36,12 +33,16 @@ float-from-bits-result c =
 add-result : tie.Need-add-result
 add-result c =
     let n = c .before .before .before in
-    record { fits = sum-lt (x (n .before)) (held (n .before)) (number n) (c .if4 .left) (c .before .before .if2 .left) _ (unit-half-lt _ (c .if4 .left) (c .before .before .if2 .left)) }
+    record {
+      fits = sum-lt (x (n .before)) (held (n .before)) (number n) (c .if4 .left) (c .before .before .if2 .left) _
+          (unit-half-lt _ (c .if4 .left) (c .before .before .if2 .left));
+    }
 
 float-from-bits-result-2 : tie.Need-float-from-bits-result-2
 float-from-bits-result-2 c =
     let n = c .before .before .before in
-    mid-no-nan (x (n .before)) (held (n .before)) (number n) (c .if4 .left) (c .before .before .if2 .left) _ (unit-half-lt _ (c .if4 .left) (c .before .before .if2 .left))
+    mid-no-nan (x (n .before)) (held (n .before)) (number n) (c .if4 .left) (c .before .before .if2 .left) _
+    (unit-half-lt _ (c .if4 .left) (c .before .before .if2 .left))
 
 returns-2 : tie.Need-returns-2
 returns-2 c =
@@ -68,7 +69,9 @@ returns-6 c =
     let n = c .before .before .before in
     let lo = c .if4 .left in
     let hi = c .before .before .if2 .left in
-    mid (x (n .before)) (held (n .before)) (number n) lo hi _ (unit-half-lt _ lo hi) away away-same (taken-nearer _ lo hi (2 ^ 52 + digits (toBits binary64 (x (n .before)))))
+    mid (x (n .before)) (held (n .before)) (number n) lo hi _ (unit-half-lt _ lo hi) away away-same
+    (taken-nearer _ lo hi (2 ^ 52 + digits (toBits binary64 (x (n .before)))))
 
 pub round-spec : {M : Type 1} → statement M
-round-spec = tie.close (tie.spec returns float-to-bits-b float-from-bits-result (λ c. search needs) (λ c. search needs) (λ c. search needs) add-result (λ c. search needs) (λ c. search needs) float-from-bits-result-2 returns-2 returns-3 returns-4 returns-5 returns-6)
+round-spec = tie.close (tie.spec returns (λ c. number c) float-from-bits-result (λ c. search needs) (λ c. search needs) (λ c. search needs) add-result
+    (λ c. search needs) (λ c. search needs) float-from-bits-result-2 returns-2 returns-3 returns-4 returns-5 returns-6)

@@ -9,8 +9,5 @@ use Rattle.floats.proofs.to_bits.Tie as tie
 returns : tie.Need-returns
 returns c = nan-bits (c .before .args .x) (differs-from-itself (c .before .args .x) (yes (c .if1 .taken)))
 
-float-to-bits-result : tie.Need-float-to-bits-result
-float-to-bits-result c = equals-itself (c .before .args .x) (c .if1 .left)
-
 pub to-bits-spec : {M : Type 1} → statement M
-to-bits-spec = tie.close (tie.spec returns float-to-bits-result (λ c. search needs))
+to-bits-spec = tie.close (tie.spec returns (λ c. equals-itself (c .before .args .x) (c .if1 .left)) (λ c. search needs))

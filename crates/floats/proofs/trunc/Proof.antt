@@ -17,7 +17,8 @@ use Rattle.floats.proofs.trunc.Statement.{statement}
 use Rattle.floats.proofs.trunc.Tie as tie
 
 -- nothing is added: b + 0 is b
-module _ (x : Float) (F : T (fits binary64 x)) (N : T (not (isNan x))) (lo : 1023 ≤ bitAnd (toBits binary64 x / 2 ^ 52) 2047) (hi : bitAnd (toBits binary64 x / 2 ^ 52) 2047 < 1075) where
+module _ (x : Float) (F : T (fits binary64 x)) (N : T (not (isNan x))) (lo : 1023 ≤ bitAnd (toBits binary64 x / 2 ^ 52) 2047)
+    (hi : bitAnd (toBits binary64 x / 2 ^ 52) 2047 < 1075) where
   abbrev b : ℕ
   b = toBits binary64 x
 
@@ -43,9 +44,6 @@ number c = equals-itself (x (c .before)) (c .if1 .left)
 
 returns : tie.Need-returns
 returns c = nan-stays cut (x (c .before)) (differs-from-itself (x (c .before)) (yes (c .if1 .taken)))
-
-float-to-bits-b : tie.Need-float-to-bits-b
-float-to-bits-b c = number c
 
 float-from-bits-result : tie.Need-float-from-bits-result
 float-from-bits-result c =
@@ -73,4 +71,5 @@ returns-4 c =
     middle (x (n .before)) (held (n .before)) (number n) (c .if3 .left) (c .before .if2 .left)
 
 pub trunc-spec : {M : Type 1} → statement M
-trunc-spec = tie.close (tie.spec returns float-to-bits-b float-from-bits-result (λ c. search needs) (λ c. search needs) (λ c. search needs) float-from-bits-result-2 returns-2 returns-3 returns-4)
+trunc-spec = tie.close (tie.spec returns (λ c. number c) float-from-bits-result (λ c. search needs) (λ c. search needs) (λ c. search needs)
+    float-from-bits-result-2 returns-2 returns-3 returns-4)

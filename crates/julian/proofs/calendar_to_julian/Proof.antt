@@ -18,8 +18,10 @@ int-to-float-new c =
     let s = a .before in
     let n = c .before .before .mjd .given .0 .0 in
     let e : mjdOf (s .args .year) (s .args .month) (s .args .day) ≡ answer n =
-    sym (λ i. mjdOf (toZ-ofZ (s .fits .year) i) (toZ-ofZ (s .fits .month) i) (toZ-ofZ (s .fits .day) i)) ∙ sym (a .modified-julian-day .ensures) ∙ ap mjdOutcome (c .before .before .mjd .given .1) in
-    rw (toZ-ofZ (mjd-fits (s .args .year) (s .args .month) (s .args .day) n (s .fits .year) e)) (mjd-in-float (s .args .year) (s .args .month) (s .args .day) n (s .fits .year) e)
+    sym (λ i. mjdOf (toZ-ofZ (s .fits .year) i) (toZ-ofZ (s .fits .month) i) (toZ-ofZ (s .fits .day) i)) ∙ sym (a .modified-julian-day .ensures)
+    ∙ ap mjdOutcome (c .before .before .mjd .given .1) in
+    rw (toZ-ofZ (mjd-fits (s .args .year) (s .args .month) (s .args .day) n (s .fits .year) e))
+    (mjd-in-float (s .args .year) (s .args .month) (s .args .day) n (s .fits .year) e)
 
 returns : tie.Need-returns
 unfolding julianOutcome mjdOutcome
@@ -27,7 +29,8 @@ returns c =
     let a = c .before .before .before in
     let s = a .before in
     sym (midnight-refused (s .args .year) (s .args .month) (s .args .day) (c .before .number .given .0 .0)
-    (sym (λ i. mjdOf (toZ-ofZ (s .fits .year) i) (toZ-ofZ (s .fits .month) i) (toZ-ofZ (s .fits .day) i)) ∙ sym (a .modified-julian-day .ensures) ∙ ap mjdOutcome (c .before .number .given .1)))
+    (sym (λ i. mjdOf (toZ-ofZ (s .fits .year) i) (toZ-ofZ (s .fits .month) i) (toZ-ofZ (s .fits .day) i)) ∙ sym (a .modified-julian-day .ensures)
+    ∙ ap mjdOutcome (c .before .number .given .1)))
 
 returns-2 : tie.Need-returns-2
 unfolding julianOutcome mjdOutcome
@@ -36,17 +39,15 @@ returns-2 c =
     let s = a .before in
     let n = c .before .before .before .mjd .given .0 .0 in
     let e : mjdOf (s .args .year) (s .args .month) (s .args .day) ≡ answer n =
-    sym (λ i. mjdOf (toZ-ofZ (s .fits .year) i) (toZ-ofZ (s .fits .month) i) (toZ-ofZ (s .fits .day) i)) ∙ sym (a .modified-julian-day .ensures) ∙ ap mjdOutcome (c .before .before .before .mjd .given .1) in
-    cc (mjd-zero-point, toZ-ofZ (mjd-fits (s .args .year) (s .args .month) (s .args .day) n (s .fits .year) e), midnight-given (s .args .year) (s .args .month) (s .args .day) n e)
+    sym (λ i. mjdOf (toZ-ofZ (s .fits .year) i) (toZ-ofZ (s .fits .month) i) (toZ-ofZ (s .fits .day) i)) ∙ sym (a .modified-julian-day .ensures)
+    ∙ ap mjdOutcome (c .before .before .before .mjd .given .1) in
+    cc (
+      mjd-zero-point,
+      toZ-ofZ (mjd-fits (s .args .year) (s .args .month) (s .args .day) n (s .fits .year) e),
+      midnight-given (s .args .year) (s .args .month) (s .args .day) n e,
+    )
 
 pub calendar-to-julian-spec : {M : Type 1} → statement M
 calendar-to-julian-spec =
     tie.close
-    (tie.spec
-    (λ c κs. search needs)
-    (λ c. search needs)
-    (λ c. search needs)
-    int-to-float-new
-    (λ c κs. search needs)
-    returns
-    returns-2)
+    (tie.spec (λ c κs. search needs) (λ c. search needs) (λ c. search needs) int-to-float-new (λ c κs. search needs) returns returns-2)

@@ -19,10 +19,4 @@ returns-2 c = rw (sym (c .before .before .time-in-day .ensures) ∙ not-false (c
 pub day-fraction-spec : {M : Type 1} → statement M
 day-fraction-spec =
     tie.close
-    (tie.spec
-    (λ c κs. search needs)
-    returns
-    (λ c. search needs)
-    (λ c. search needs)
-    (λ c. search needs)
-    returns-2)
+    (tie.spec (λ c κs. search needs) returns (λ c. search needs) (λ c. search needs) (λ c. search needs) returns-2)

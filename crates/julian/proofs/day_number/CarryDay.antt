@@ -45,7 +45,8 @@ four-W = refl
 
 pub less-one : (z : Float) (p n : ℕ) → Val z p n L → n ≤ p → p < n + 13510798882111488 * W → lt (sub binary64 z one) c-minus-eps-4 ≡ false → ⊥
 less-one z p n v h k test =
-    let t = sub-near 1022 (lit≤ tt) (subst (λ (x : ℕ). p + 0 < n + L + x) (sym two-L) (omega (arith, L-W))) (subst (λ (x : ℕ). n + L < p + 0 + x) (sym two-L) (omega (arith, L-W))) v one-L in
+    let t = sub-near 1022 (lit≤ tt) (subst (λ (x : ℕ). p + 0 < n + L + x) (sym two-L) (omega (arith, L-W)))
+    (subst (λ (x : ℕ). n + L < p + 0 + x) (sym two-L) (omega (arith, L-W))) v one-L in
     let e : 0 + t .n ≤ t .p + W = lt-false L-pos (t .val) minus-eps-4-L test in
     let o : 2 * (t .p + (n + L)) ≤ 2 * (t .n + (p + 0)) + 4 * W = subst (λ (x : ℕ). 2 * (t .p + (n + L)) ≤ 2 * (t .n + (p + 0)) + x) four-W (t .over) in
     fin (t .p) (t .n) o e
@@ -112,7 +113,8 @@ end : (f : Float) (d : ℕ) → Val f d G G → G ≤ d → (r : Carried) → r 
 unfolding carryEnd
 end f d v h r e = subst (λ (r : Carried). Ended d r) (sym e) (go (lt c-minus-eps-2 f) refl (lt nought f) refl)
   where
-    go : (a : Bool) → lt c-minus-eps-2 f ≡ a → (b : Bool) → lt nought f ≡ b → Ended d (cond a (record { carry = 1; fraction = cond b f nought }) (record { carry = 0; fraction = f }))
+    go : (a : Bool) → lt c-minus-eps-2 f ≡ a → (b : Bool) → lt nought f ≡ b
+        → Ended d (cond a (record { carry = 1; fraction = cond b f nought }) (record { carry = 0; fraction = f }))
     go true x true y = record { carry = refl; val = v }
     go true x false y = let w : d + 0 ≤ 0 + G = lt-false (pow-pos 53) nought-G v y in record { carry = refl; val = val-move nought-G (omega arith) }
     go false x b y = let w : d + 1 ≤ 0 + G = lt-false (pow-pos 53) minus-eps-2-G v x in let z : ⊥ = omega arith in absurd z
@@ -126,7 +128,8 @@ grid-case s z d d' v w h1 h2 h3 h4 r e = go (lt (sub binary64 z one) c-minus-eps
     t = sub-exact 53 (lit≤ tt) (omega arith) (omega arith) v one-G
 
     go : (u : Bool) → lt (sub binary64 z one) c-minus-eps-4 ≡ u
-        → r ≡ cond u (record { carry = 0; fraction = z }) (carryEnd (add binary64 (sub binary64 s one) (add binary64 (sub binary64 z s) (sub binary64 (sub binary64 s (sub binary64 s one)) one))))
+        → r ≡ cond u (record { carry = 0; fraction = z })
+        (carryEnd (add binary64 (sub binary64 s one) (add binary64 (sub binary64 z s) (sub binary64 (sub binary64 s (sub binary64 s one)) one))))
         → ((d < G) × (r ≡ record { carry = 0; fraction = z })) ⊎ ((G ≤ d) × Ended d r)
     go true test q = let y : (d + 0) * 2 + 1 < 0 + (0 + G) * 2 = lt-true (pow-pos 54) (val-scale 2 t) minus-eps-4 test in inl (omega arith, q)
     go false test q =
@@ -134,7 +137,8 @@ grid-case s z d d' v w h1 h2 h3 h4 r e = go (lt (sub binary64 z one) c-minus-eps
         let b : G ≤ d = omega arith in
         let s4 : Val (sub binary64 s one) (d' + 0) (0 + G) G = sub-exact 53 (lit≤ tt) (omega arith) (omega arith) w one-G in
         let x1 : Val (sub binary64 s (sub binary64 s one)) G 0 G = val-move (sub-exact 53 (lit≤ tt) (omega arith) (omega arith) w s4) (omega arith) in
-        let x2 : Val (sub binary64 (sub binary64 s (sub binary64 s one)) one) 0 0 G = val-move (sub-exact 53 (lit≤ tt) (omega arith) (omega arith) x1 one-G) (omega arith) in
+        let x2 : Val (sub binary64 (sub binary64 s (sub binary64 s one)) one) 0 0 G =
+        val-move (sub-exact 53 (lit≤ tt) (omega arith) (omega arith) x1 one-G) (omega arith) in
         let k : Val (sub binary64 z s) (d + 0) (0 + d') G = sub-exact 53 (lit≤ tt) (omega arith) (omega arith) v w in
         let f = add-exact 53 (lit≤ tt) (omega arith) (omega arith) s4 (add-exact 53 (lit≤ tt) (omega arith) (omega arith) k x2) in
         inr (b, end _ d (val-move f (omega arith)) b r q)
@@ -160,8 +164,10 @@ high-case s z p n a b fs fz v w h1 h2 h3 h4 = go (to-grid z p n fz v (omega arit
         W2 : 0 < 2 * W
         W2 = omega (arith, W-pos)
 
-        fin : ((d < G) × (carryDay (kahanOf s z) z ≡ record { carry = 0; fraction = z })) ⊎ ((G ≤ d) × Ended d (carryDay (kahanOf s z) z)) → Settled (carryDay (kahanOf s z) z) z p n
-        fin (inl (l, q)) = subst (λ (r : Carried). Settled r z p n) (sym q) (kept z p n v (omega arith) (let m : d * (2 * W) < G * (2 * W) = mul-lt-mul-of-pos-right l W2 in omega (arith, L-W)))
+        fin : ((d < G) × (carryDay (kahanOf s z) z ≡ record { carry = 0; fraction = z })) ⊎ ((G ≤ d) × Ended d (carryDay (kahanOf s z) z))
+            → Settled (carryDay (kahanOf s z) z) z p n
+        fin (inl (l, q)) = subst (λ (r : Carried). Settled r z p n) (sym q)
+            (kept z p n v (omega arith) (let m : d * (2 * W) < G * (2 * W) = mul-lt-mul-of-pos-right l W2 in omega (arith, L-W)))
         fin (inr (l, q)) = record {
           up = 1;
           few = omega arith;
@@ -174,7 +180,8 @@ high-case s z p n a b fs fz v w h1 h2 h3 h4 = go (to-grid z p n fz v (omega arit
 -- ---- a fraction z that is 0 or more, and near the sum s that it was made of
 pub settled : (s z : Float) (p n a b : ℕ) → T (fits binary64 s) → T (fits binary64 z) → Val z p n L → Val s a b L → n ≤ p
     → p < n + L + 2048 * W → p + b ≤ n + a + 2048 * W → n + a ≤ p + b + 2048 * W → Settled (carryDay (kahanOf s z) z) z p n
-settled s z p n a b fs fz v w h1 h2 h3 h4 = go (leb (n + 13510798882111488 * W) p) (leb→le (n + 13510798882111488 * W) p) (nleb→lt (n + 13510798882111488 * W) p)
+settled s z p n a b fs fz v w h1 h2 h3 h4 =
+    go (leb (n + 13510798882111488 * W) p) (leb→le (n + 13510798882111488 * W) p) (nleb→lt (n + 13510798882111488 * W) p)
   where
     go : (u : Bool) → (T u → n + 13510798882111488 * W ≤ p) → (T (not u) → p < n + 13510798882111488 * W) → Settled (carryDay (kahanOf s z) z) z p n
     go true f g = high-case s z p n a b fs fz v w (f tt) h2 h3 h4

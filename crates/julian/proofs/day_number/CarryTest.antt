@@ -1,4 +1,5 @@
--- Which fractions carry: those of 1.0 or more, as no float lies less than 2 ^ -53 below 1.0 (document 01's "less than 2 ^ -54 below 1.0, or above"). Assumes nothing.
+-- Which fractions carry: those of 1.0 or more, as no float lies less than 2 ^ -53 below 1.0 (document 01's "less than 2 ^ -54 below 1.0, or above"). Assumes
+-- nothing.
 use mathlib.Core.Path.{_≡_, refl, sym, _∙_}
 use mathlib.Core.Bool.{Bool, true, false, not}
 use Prim.Native.Nat.{ℕ, _+_, _*_, _≤_, _<_}
@@ -26,7 +27,9 @@ carry-test z p n f v h k = go (leb (n + 13510798882111488 * W) p) (leb→le (n +
         let b : d < 2 * G = cancel d (2 * G) (omega (arith, L-W)) in
         let t : Val (sub binary64 z one) (d + 0) (0 + G) G = sub-exact 53 (lit≤ tt) (omega arith) (omega arith) x one-G in
         lt-val (pow-pos 54) (val-scale 2 t) minus-eps-4
-        ∙ same-test (ltb ((d + 0) * 2 + 1) (0 + (0 + G) * 2)) (ltb (d + 0) (G + 0)) (λ u. lt→ltb (d + 0) (G + 0) (down d (ltb→lt ((d + 0) * 2 + 1) (0 + (0 + G) * 2) u))) (λ u. lt→ltb ((d + 0) * 2 + 1) (0 + (0 + G) * 2) (up d (ltb→lt (d + 0) (G + 0) u)))
+        ∙ same-test (ltb ((d + 0) * 2 + 1) (0 + (0 + G) * 2)) (ltb (d + 0) (G + 0))
+        (λ u. lt→ltb (d + 0) (G + 0) (down d (ltb→lt ((d + 0) * 2 + 1) (0 + (0 + G) * 2) u)))
+        (λ u. lt→ltb ((d + 0) * 2 + 1) (0 + (0 + G) * 2) (up d (ltb→lt (d + 0) (G + 0) u)))
         ∙ sym (lt-val (pow-pos 53) x one-G)
       where
         down : (d : ℕ) → (d + 0) * 2 + 1 < 0 + (0 + G) * 2 → d + 0 < G + 0

@@ -17,7 +17,8 @@ abbrev pub is : ℤ → ℕ → Outcome DayNumber
 is z f = answer (record { day = z; fraction = ofBits binary64 f })
 
 -- (2451545.0, 0.0), (2451544.75, 0.25) and (0.0, 2451545.0) are noon of day 2451545, 2000-01-01
-pub noon : (at 0x4142b42c80000000 0 ≡ is (pos 2451545) 0x3fe0000000000000) × (at 0x4142b42c60000000 0x3fd0000000000000 ≡ is (pos 2451545) 0x3fe0000000000000) × (at 0 0x4142b42c80000000 ≡ is (pos 2451545) 0x3fe0000000000000)
+pub noon : (at 0x4142b42c80000000 0 ≡ is (pos 2451545) 0x3fe0000000000000) × (at 0x4142b42c60000000 0x3fd0000000000000 ≡ is (pos 2451545) 0x3fe0000000000000)
+    × (at 0 0x4142b42c80000000 ≡ is (pos 2451545) 0x3fe0000000000000)
 unfolding dayNumberAndFraction ofBits lt add sub div neg
 noon = (refl, refl, refl)
 
@@ -27,7 +28,8 @@ unfolding dayNumberAndFraction ofBits lt add sub div neg
 first-day = (refl, refl)
 
 -- with -2 ^ -54 the exact fraction is 1 - 2 ^ -54, which no float is: it rounds to 1.0 and carries; with -2 ^ -53 it is the largest float below 1.0, and stays
-pub carries : (at 0xc0f0bd9800000000 0xbc90000000000000 ≡ is (negsuc 68568) 0) × (at 0xc0f0bd9800000000 0xbca0000000000000 ≡ is (negsuc 68569) 0x3fefffffffffffff)
+pub carries : (at 0xc0f0bd9800000000 0xbc90000000000000 ≡ is (negsuc 68568) 0)
+    × (at 0xc0f0bd9800000000 0xbca0000000000000 ≡ is (negsuc 68569) 0x3fefffffffffffff)
 unfolding dayNumberAndFraction ofBits lt add sub div neg
 carries = (refl, refl)
 

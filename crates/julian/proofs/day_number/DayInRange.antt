@@ -22,10 +22,14 @@ use Rattle.julian.proofs.day_number.Accepted.{accepted-pair}
 use Rattle.julian.proofs.day_number.TotalDay.{R, read-a, read-b, s4}
 
 -- ---- the day number as a sum of plain counts
-pub total-is : (a b : Float) (up more down : ℕ) → Int (total a b up more down) (plusZ (toSigned 63 a) + plusZ (toSigned 63 b) + up + (more + 0)) (minusZ (toSigned 63 a) + minusZ (toSigned 63 b) + 0 + (0 + down))
-total-is a b up more down = int-add (int-add (int-add (int-own (toSigned 63 a)) (int-own (toSigned 63 b))) (int-own (pos up))) (int-sub (int-own (pos more)) (int-own (pos down)))
+pub total-is : (a b : Float) (up more down : ℕ)
+    → Int (total a b up more down) (plusZ (toSigned 63 a) + plusZ (toSigned 63 b) + up + (more + 0))
+    (minusZ (toSigned 63 a) + minusZ (toSigned 63 b) + 0 + (0 + down))
+total-is a b up more down = int-add (int-add (int-add (int-own (toSigned 63 a)) (int-own (toSigned 63 b))) (int-own (pos up)))
+    (int-sub (int-own (pos more)) (int-own (pos down)))
 
-pub number-is : (x y : Float) (up more down : ℕ) → sumFractions (rest x) (rest y) .carry ≡ up → joinedFractions (rest x) (rest y) .carry ≡ more → joinedFractions (rest x) (rest y) .borrow ≡ down → dayNumber x y ≡ total (nearestInt x) (nearestInt y) up more down
+pub number-is : (x y : Float) (up more down : ℕ) → sumFractions (rest x) (rest y) .carry ≡ up → joinedFractions (rest x) (rest y) .carry ≡ more
+    → joinedFractions (rest x) (rest y) .borrow ≡ down → dayNumber x y ≡ total (nearestInt x) (nearestInt y) up more down
 unfolding dayNumber
 number-is x y up more down e f g =
     ap (λ (z : ℕ). total (nearestInt x) (nearestInt y) z (joinedFractions (rest x) (rest y) .carry) (joinedFractions (rest x) (rest y) .borrow)) e
@@ -33,11 +37,13 @@ number-is x y up more down e f g =
     ∙ ap (λ (z : ℕ). total (nearestInt x) (nearestInt y) up more z) g
 
 -- ---- the code
-module _ (x y : Float) (fx : T (fits binary64 x)) (fy : T (fits binary64 y)) (acc : accepted x y ≡ true) (a b : NearestWhole) (ea : a ≡ nearestWhole x) (eb : b ≡ nearestWhole y)
+module _ (x y : Float) (fx : T (fits binary64 x)) (fy : T (fits binary64 y)) (acc : accepted x y ≡ true) (a b : NearestWhole) (ea : a ≡ nearestWhole x)
+    (eb : b ≡ nearestWhole y)
     (k : Summed) (ek : k ≡ sumFractions (sub binary64 x (a .value)) (sub binary64 y (b .value))) (f : Normalized) (ef : f ≡ normalizeFraction (k .kahan)) where
   ek' : k ≡ sumFractions (rest x) (rest y)
   unfolding rest nearestWhole
-  ek' = ek ∙ ap (λ (z : NearestWhole). sumFractions (sub binary64 x (z .value)) (sub binary64 y (b .value))) ea ∙ ap (λ (z : NearestWhole). sumFractions (rest x) (sub binary64 y (z .value))) eb
+  ek' = ek ∙ ap (λ (z : NearestWhole). sumFractions (sub binary64 x (z .value)) (sub binary64 y (b .value))) ea
+      ∙ ap (λ (z : NearestWhole). sumFractions (rest x) (sub binary64 y (z .value))) eb
 
   ef' : f ≡ joinedFractions (rest x) (rest y)
   unfolding joinedFractions
@@ -76,8 +82,11 @@ module _ (x y : Float) (fx : T (fits binary64 x)) (fy : T (fits binary64 y)) (ac
 
   number : (d : ℤ) → d ≡ R (a .number) +ℤ R (b .number) +ℤ pos (k .carry) +ℤ (pos (f .carry) -ℤ pos (f .borrow)) → R d ≡ dayNumber x y
   number d e =
-      ap R (e ∙ ap (λ (z : ℤ). z +ℤ R (b .number) +ℤ pos (k .carry) +ℤ (pos (f .carry) -ℤ pos (f .borrow))) ei' ∙ ap (λ (z : ℤ). toSigned 63 (nearestInt x) +ℤ z +ℤ pos (k .carry) +ℤ (pos (f .carry) -ℤ pos (f .borrow))) ej'
-      ∙ ap (λ (z : ℕ). total (nearestInt x) (nearestInt y) z (f .carry) (f .borrow)) eu' ∙ ap (λ (z : ℕ). total (nearestInt x) (nearestInt y) (o .up) z (f .borrow)) em' ∙ ap (λ (z : ℕ). total (nearestInt x) (nearestInt y) (o .up) (o .more) z) ed')
+      ap R (e ∙ ap (λ (z : ℤ). z +ℤ R (b .number) +ℤ pos (k .carry) +ℤ (pos (f .carry) -ℤ pos (f .borrow))) ei'
+      ∙ ap (λ (z : ℤ). toSigned 63 (nearestInt x) +ℤ z +ℤ pos (k .carry) +ℤ (pos (f .carry) -ℤ pos (f .borrow))) ej'
+      ∙ ap (λ (z : ℕ). total (nearestInt x) (nearestInt y) z (f .carry) (f .borrow)) eu'
+      ∙ ap (λ (z : ℕ). total (nearestInt x) (nearestInt y) (o .up) z (f .borrow)) em'
+      ∙ ap (λ (z : ℕ). total (nearestInt x) (nearestInt y) (o .up) (o .more) z) ed')
       ∙ toZ-ofZ w64 _ (s4 (toSigned 63 (nearestInt x)) (toSigned 63 (nearestInt y)) (o .up) (o .more) (o .down) h)
       ∙ sym (number-is x y (o .up) (o .more) (o .down) (o .carry) (o .again) (o .borrow))
 
@@ -85,6 +94,7 @@ module _ (x y : Float) (fx : T (fits binary64 x)) (fy : T (fits binary64 y)) (ac
   unfolding fractionPassed
   part = ap (λ (z : Normalized). z .fraction) ef'
 
-  pub gives : (d : ℤ) → d ≡ R (a .number) +ℤ R (b .number) +ℤ pos (k .carry) +ℤ (pos (f .carry) -ℤ pos (f .borrow)) → _≡_ {A = DayNumber} (record { day = R d; fraction = f .fraction }) (dayOf x y)
+  pub gives : (d : ℤ) → d ≡ R (a .number) +ℤ R (b .number) +ℤ pos (k .carry) +ℤ (pos (f .carry) -ℤ pos (f .borrow))
+      → _≡_ {A = DayNumber} (record { day = R d; fraction = f .fraction }) (dayOf x y)
   unfolding dayOf
   gives d e = ap (λ (z : ℤ). record { day = z; fraction = f .fraction }) (number d e) ∙ ap (λ (z : Float). record { day = dayNumber x y; fraction = z }) part

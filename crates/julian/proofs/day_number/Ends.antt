@@ -1,5 +1,6 @@
--- The ranges of demand 3 are met at their ends: two dates at the ends of the range of sums, -68569.5 and 10 ^ 9, one with the largest part of the grid, and one with the
--- largest parts of the wide grid. Each is a closed theorem: a narrower grid or a narrower range of sums would leave it without a proof. Assumes nothing.
+-- The ranges of demand 3 are met at their ends: two dates at the ends of the range of sums, -68569.5 and 10 ^ 9, one with the largest part of the grid, and one
+-- with the largest parts of the wide grid. Each is a closed theorem: a narrower grid or a narrower range of sums would leave it without a proof. Assumes
+-- nothing.
 use mathlib.Core.Path.{_≡_, refl}
 use mathlib.Core.Bool.{true, false}
 use Prim.Native.Nat.{_-_, _*_, _^_}
@@ -52,16 +53,40 @@ nought-fits = tt
 -- ---- each is on the grid
 
 unfoldable pub lowest-grid : OnGrid lowest
-lowest-grid = record { units = negsuc (137139 * 2 ^ 51 - 1); val = record { sign = true; size = 137139 * 2 ^ 51; has = (refl, refl); is = refl }; high = lit< tt; low = lit< tt }
+lowest-grid = record {
+  units = negsuc (137139 * 2 ^ 51 - 1);
+  val = record { sign = true; size = 137139 * 2 ^ 51; has = (refl, refl); is = refl };
+  high =
+      lit< tt;
+  low = lit< tt;
+}
 
 unfoldable pub highest-grid : OnGrid highest
-highest-grid = record { units = pos (1000000000 * 2 ^ 52); val = record { sign = false; size = 1000000000 * 2 ^ 52; has = (refl, refl); is = refl }; high = lit< tt; low = lit< tt }
+highest-grid = record {
+  units = pos (1000000000 * 2 ^ 52);
+  val = record { sign = false; size = 1000000000 * 2 ^ 52; has = (refl, refl); is = refl };
+  high =
+      lit< tt;
+  low = lit< tt;
+}
 
 unfoldable pub largest-grid : OnGrid largest
-largest-grid = record { units = pos (9007199254740991 * 2 ^ 51); val = record { sign = false; size = 9007199254740991 * 2 ^ 51; has = (refl, refl); is = refl }; high = lit< tt; low = lit< tt }
+largest-grid = record {
+  units = pos (9007199254740991 * 2 ^ 51);
+  val =
+      record { sign = false; size = 9007199254740991 * 2 ^ 51; has = (refl, refl); is = refl };
+  high = lit< tt;
+  low = lit< tt;
+}
 
 unfoldable pub opposite-grid : OnGrid opposite
-opposite-grid = record { units = negsuc (4503599627370495 * 2 ^ 52 - 1); val = record { sign = true; size = 4503599627370495 * 2 ^ 52; has = (refl, refl); is = refl }; high = lit< tt; low = lit< tt }
+opposite-grid = record {
+  units = negsuc (4503599627370495 * 2 ^ 52 - 1);
+  val =
+      record { sign = true; size = 4503599627370495 * 2 ^ 52; has = (refl, refl); is = refl };
+  high = lit< tt;
+  low = lit< tt;
+}
 
 unfoldable pub nought-grid : OnGrid nought
 nought-grid = record { units = pos 0; val = record { sign = false; size = 0; has = (refl, refl); is = refl }; high = lit< tt; low = lit< tt }
@@ -103,10 +128,20 @@ abbrev pub wide-end-below : Float
 wide-end-below = fin true 1 (pos 62)
 
 wide-end-grid : OnWideGrid wide-end
-wide-end-grid = record { units = pos (2 ^ 62 * 2 ^ 52); val = record { sign = false; size = 2 ^ 62 * 2 ^ 52; has = (refl, refl); is = refl }; high = lit≤ tt; low = lit≤ tt }
+wide-end-grid = record {
+  units = pos (2 ^ 62 * 2 ^ 52);
+  val = record { sign = false; size = 2 ^ 62 * 2 ^ 52; has = (refl, refl); is = refl };
+  high = lit≤ tt;
+  low = lit≤ tt;
+}
 
 wide-end-below-grid : OnWideGrid wide-end-below
-wide-end-below-grid = record { units = negsuc (2 ^ 62 * 2 ^ 52 - 1); val = record { sign = true; size = 2 ^ 62 * 2 ^ 52; has = (refl, refl); is = refl }; high = lit≤ tt; low = lit≤ tt }
+wide-end-below-grid = record {
+  units = negsuc (2 ^ 62 * 2 ^ 52 - 1);
+  val = record { sign = true; size = 2 ^ 62 * 2 ^ 52; has = (refl, refl); is = refl };
+  high = lit≤ tt;
+  low = lit≤ tt;
+}
 
 pub exact-at-wide-end : dayNumberAndFraction wide-end wide-end-below ≡ answer (record { day = pos 0; fraction = half })
 unfolding wide-end-grid wide-end-below-grid wholeDays unitsLeft fractionOf round fits

@@ -18,7 +18,8 @@ use Rattle.refusals.specs.Outcome.{answer}
 use Rattle.julian.specs.declared.day_number.DayNumber.{DayNumber}
 use Rattle.julian.specs.day_number.DayNumber.{inJulianRange, accepted, dayNumber, fractionPassed, dayOf}
 use Rattle.julian.specs.day_number.Answer.{dayNumberAndFraction}
-use Rattle.julian.specs.day_number.ExactDay.{OnGrid, OnWideGrid, gridSum, GridSumInRange, wholeDays, unitsLeft, exactDay, exactFraction, exactDayNumber, fractionOf, DayAt}
+use Rattle.julian.specs.day_number.ExactDay.{OnGrid, OnWideGrid, gridSum, GridSumInRange, wholeDays, unitsLeft, exactDay, exactFraction}
+use Rattle.julian.specs.day_number.ExactDay.{exactDayNumber, fractionOf, DayAt}
 use Rattle.julian.specs.day_number.MinusZero.{minusZero}
 use Rattle.julian.proofs.day_number.Answer.{answered, refused}
 use Rattle.julian.proofs.day_number.GridPairs.{Exactly, grid-pair, grid-accepted}
@@ -59,7 +60,8 @@ only {sum} {day} {units} a =
 -- ---- the float of a fraction is exact
 fraction-has : (u : ℕ) → u < 2 ^ 52 → HasValue (fractionOf u) false u (2 ^ 52)
 unfolding fractionOf
-fraction-has u h = subst (λ (x : ℕ). HasValue (round binary64 false x (2 ^ 52)) false x (2 ^ 52)) (mul-one u) (exact-has false u 0 52 (lit≤ tt) (lit≤ tt) (omega arith))
+fraction-has u h = subst (λ (x : ℕ). HasValue (round binary64 false x (2 ^ 52)) false x (2 ^ 52)) (mul-one u)
+    (exact-has false u 0 52 (lit≤ tt) (lit≤ tt) (omega arith))
 
 pub fraction-exact : (u : ℕ) → u < 2 ^ 52 → Val (fractionOf u) u 0 (2 ^ 52)
 fraction-exact u h = record { sign = false; size = u; has = fraction-has u h; is = add-zero u }
@@ -71,32 +73,41 @@ plus-has f true a u z v i = let p : 0 < a = some-size f a (2 ^ 52) (pow-pos 52) 
 
 fraction-is : (f : Float) (u : ℕ) → u < 2 ^ 52 → Unsigned f → Val f u 0 (2 ^ 52) → f ≡ fractionOf u
 unfolding fractionOf
-fraction-is f u h k v = float-unique f (fractionOf u) false u (2 ^ 52) (pow-pos 52) (k .fit) (round-fits binary64 false u (2 ^ 52)) (plus-has f (v .sign) (v .size) u (k .sign) (v .has) (v .is)) (fraction-has u h)
+fraction-is f u h k v = float-unique f (fractionOf u) false u (2 ^ 52) (pow-pos 52) (k .fit) (round-fits binary64 false u (2 ^ 52))
+    (plus-has f (v .sign) (v .size) u (k .sign) (v .has) (v .is)) (fraction-has u h)
 
 -- ---- an accepted pair on the wide grid, and so on the grid
-day-is : (x y : Float) → T (fits binary64 x) → T (fits binary64 y) → (a : OnWideGrid x) (b : OnWideGrid y) → accepted x y ≡ true → dayOf x y ≡ exactDayNumber (a .units +ℤ b .units)
+day-is : (x y : Float) → T (fits binary64 x) → T (fits binary64 y) → (a : OnWideGrid x) (b : OnWideGrid y) → accepted x y ≡ true
+    → dayOf x y ≡ exactDayNumber (a .units +ℤ b .units)
 unfolding dayOf
-day-is x y fx fy a b e = go (grid-pair x y fx fy e (plusZ (a .units)) (minusZ (a .units)) (plusZ (b .units)) (minusZ (b .units)) (a .val) (b .val) (omega (arith, a .high)) (omega (arith, a .low)) (omega (arith, b .high)) (omega (arith, b .low)))
+day-is x y fx fy a b e = go (grid-pair x y fx fy e (plusZ (a .units)) (minusZ (a .units)) (plusZ (b .units)) (minusZ (b .units)) (a .val) (b .val)
+    (omega (arith, a .high)) (omega (arith, a .low)) (omega (arith, b .high)) (omega (arith, b .low)))
   where
-    go : Exactly (plusZ (a .units)) (minusZ (a .units)) (plusZ (b .units)) (minusZ (b .units)) (dayNumber x y) (fractionPassed x y) → _≡_ {A = DayNumber} (record { day = dayNumber x y; fraction = fractionPassed x y }) (exactDayNumber (a .units +ℤ b .units))
+    go : Exactly (plusZ (a .units)) (minusZ (a .units)) (plusZ (b .units)) (minusZ (b .units)) (dayNumber x y) (fractionPassed x y)
+        → _≡_ {A = DayNumber} (record { day = dayNumber x y; fraction = fractionPassed x y }) (exactDayNumber (a .units +ℤ b .units))
     go k =
-        let d : DayAt (a .units +ℤ b .units) (dayNumber x y) (k .units) = record { below = k .below; total = omega (arith, k .total, add-pair (a .units) (b .units)) } in
+        let d : DayAt (a .units +ℤ b .units) (dayNumber x y) (k .units) =
+        record { below = k .below; total = omega (arith, k .total, add-pair (a .units) (b .units)) } in
         let o = only d in
         ap (λ (z : ℤ). record { day = z; fraction = fractionPassed x y }) (o .0)
-        ∙ ap (λ (z : Float). record { day = exactDay (a .units +ℤ b .units); fraction = z }) (fraction-is (fractionPassed x y) (k .units) (k .below) (fraction-unsigned x y) (k .val) ∙ ap fractionOf (o .1))
+        ∙ ap (λ (z : Float). record { day = exactDay (a .units +ℤ b .units); fraction = z })
+        (fraction-is (fractionPassed x y) (k .units) (k .below) (fraction-unsigned x y) (k .val) ∙ ap fractionOf (o .1))
 
 wide : {x : Float} → OnGrid x → OnWideGrid x
 wide a = record { units = a .units; val = a .val; high = omega (arith, a .high); low = omega (arith, a .low) }
 
 -- two parts on the wide grid, up to 2 ^ 62 days in size, whose exact sum is from -68569.5 to 10 ^ 9, are answered with the exact day and the exact fraction
-pub exact-to-2-62 : (x y : Float) → T (fits binary64 x) → T (fits binary64 y) → (a : OnWideGrid x) (b : OnWideGrid y) → GridSumInRange (a .units +ℤ b .units) → dayNumberAndFraction x y ≡ answer (exactDayNumber (a .units +ℤ b .units))
+pub exact-to-2-62 : (x y : Float) → T (fits binary64 x) → T (fits binary64 y) → (a : OnWideGrid x) (b : OnWideGrid y) → GridSumInRange (a .units +ℤ b .units)
+    → dayNumberAndFraction x y ≡ answer (exactDayNumber (a .units +ℤ b .units))
 exact-to-2-62 x y fx fy a b r =
     let s = add-pair (a .units) (b .units) in
-    let e = grid-accepted x y (plusZ (a .units)) (minusZ (a .units)) (plusZ (b .units)) (minusZ (b .units)) (a .val) (b .val) (omega (arith, r .low, s)) (omega (arith, r .high, s)) in
+    let e = grid-accepted x y (plusZ (a .units)) (minusZ (a .units)) (plusZ (b .units)) (minusZ (b .units)) (a .val) (b .val) (omega (arith, r .low, s))
+    (omega (arith, r .high, s)) in
     answered x y e ∙ ap answer (day-is x y fx fy a b e)
 
 -- the same on document 01's grid
-pub exact : (x y : Float) → T (fits binary64 x) → T (fits binary64 y) → (a : OnGrid x) (b : OnGrid y) → GridSumInRange (gridSum a b) → dayNumberAndFraction x y ≡ answer (exactDayNumber (gridSum a b))
+pub exact : (x y : Float) → T (fits binary64 x) → T (fits binary64 y) → (a : OnGrid x) (b : OnGrid y) → GridSumInRange (gridSum a b)
+    → dayNumberAndFraction x y ≡ answer (exactDayNumber (gridSum a b))
 unfolding wide
 exact x y fx fy a b r = exact-to-2-62 x y fx fy (wide a) (wide b) r
 
@@ -134,7 +145,8 @@ sum-test : {x y : Float} (a : OnGrid x) (b : OnGrid y) → Rounds binary64 (add 
 sum-test a b = rounds-move (add-rounds binary64 (pow-pos 52) (a .val) (b .val)) (omega (arith, add-pair (a .units) (b .units)))
 
 -- two divisions of one exact sum on the grid have one outcome, to the bit
-pub alike : (x y x' y' : Float) → T (fits binary64 x) → T (fits binary64 y) → T (fits binary64 x') → T (fits binary64 y') → (a : OnGrid x) (b : OnGrid y) (a' : OnGrid x') (b' : OnGrid y')
+pub alike : (x y x' y' : Float) → T (fits binary64 x) → T (fits binary64 y) → T (fits binary64 x') → T (fits binary64 y')
+    → (a : OnGrid x) (b : OnGrid y) (a' : OnGrid x') (b' : OnGrid y')
     → gridSum a b ≡ gridSum a' b' → dayNumberAndFraction x y ≡ dayNumberAndFraction x' y'
 unfolding accepted wide
 alike x y x' y' fx fy fx' fy' a b a' b' e = go (accepted x y) refl (accepted x' y') refl
@@ -143,7 +155,8 @@ alike x y x' y' fx fy fx' fy' a b a' b' e = go (accepted x y) refl (accepted x' 
     test = same-test (sum-test a b) (subst (λ (s : ℤ). Rounds binary64 (add binary64 x' y') (plusZ s) (minusZ s) (2 ^ 52)) (sym e) (sum-test a' b'))
 
     go : (u : Bool) → accepted x y ≡ u → (v : Bool) → accepted x' y' ≡ v → dayNumberAndFraction x y ≡ dayNumberAndFraction x' y'
-    go true p true q = answered x y p ∙ ap answer (day-is x y fx fy (wide a) (wide b) p ∙ ap exactDayNumber e ∙ sym (day-is x' y' fx' fy' (wide a') (wide b') q)) ∙ sym (answered x' y' q)
+    go true p true q = answered x y p
+        ∙ ap answer (day-is x y fx fy (wide a) (wide b) p ∙ ap exactDayNumber e ∙ sym (day-is x' y' fx' fy' (wide a') (wide b') q)) ∙ sym (answered x' y' q)
     go false p false q = refused x y p ∙ sym (refused x' y' q)
     go true p false q = absurd (true≢false (sym p ∙ test ∙ q))
     go false p true q = absurd (true≢false (sym q ∙ sym test ∙ p))

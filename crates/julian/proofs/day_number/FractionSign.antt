@@ -9,7 +9,9 @@ use Rattle.julian.specs.declared.day_number.Kahan.{Kahan}
 use Rattle.julian.specs.declared.day_number.Summed.{Summed}
 use Rattle.julian.specs.declared.day_number.Carried.{Carried}
 use Rattle.julian.specs.declared.day_number.Normalized.{Normalized}
-use Rattle.julian.specs.day_number.DayNumber.{c-minus-eps-4, c-minus-eps-2, compensation, kahanStart, kahanOf, addFraction, sumFractions, borrowSum, borrowFraction, borrowDay, carryDay, carryEnd, besideBorrowed, normalizeFraction, joinedFractions, rest, fractionPassed, dayOf}
+use Rattle.julian.specs.day_number.DayNumber.{c-minus-eps-4, c-minus-eps-2, compensation, kahanStart, kahanOf, addFraction, sumFractions}
+use Rattle.julian.specs.day_number.DayNumber.{borrowSum, borrowFraction, borrowDay, carryDay, carryEnd, besideBorrowed, normalizeFraction}
+use Rattle.julian.specs.day_number.DayNumber.{joinedFractions, rest, fractionPassed, dayOf}
 use Rattle.julian.specs.declared.day_number.DayNumber.{DayNumber}
 use Rattle.julian.specs.day_number.Answer.{dayNumberAndFraction}
 use Rattle.julian.specs.day_number.MinusZero.{minusZero}
@@ -46,13 +48,19 @@ add-step c κ f ff k = go (le one temp)
     fixed : Float
     fixed = add binary64 (κ .correction) (compensation (κ .sum) f temp)
 
-    go : (b : Bool) → Started (cond {A = Summed} b (record { carry = c + 1; kahan = record { sum = sub binary64 temp one; correction = fixed } }) (record { carry = c; kahan = record { sum = temp; correction = fixed } }) .kahan)
-    go true = record { sum = sub-unsigned one one-fits (add-unsigned f ff (k .sum)); correction = add-fits binary64 (κ .correction) (compensation (κ .sum) f temp) }
+    go : (b : Bool) → Started (cond {A = Summed} b (record { carry = c + 1; kahan = record { sum = sub binary64 temp one; correction = fixed } })
+        (record { carry = c; kahan = record { sum = temp; correction = fixed } }) .kahan)
+    go true = record {
+      sum = sub-unsigned one one-fits (add-unsigned f ff (k .sum));
+      correction =
+          add-fits binary64 (κ .correction) (compensation (κ .sum) f temp);
+    }
     go false = record { sum = add-unsigned f ff (k .sum); correction = add-fits binary64 (κ .correction) (compensation (κ .sum) f temp) }
 
 both : (f g : Float) → T (fits binary64 f) → T (fits binary64 g) → Started (sumFractions f g .kahan)
 unfolding sumFractions
-both f g ff fg = add-step (addFraction 0 kahanStart f .carry) (addFraction 0 kahanStart f .kahan) g fg (add-step 0 kahanStart f ff (record { sum = half-unsigned; correction = nought-unsigned .fit }))
+both f g ff fg = add-step (addFraction 0 kahanStart f .carry) (addFraction 0 kahanStart f .kahan) g fg
+    (add-step 0 kahanStart f ff (record { sum = half-unsigned; correction = nought-unsigned .fit }))
 
 carry-step : (κ : Kahan) (z : Float) → Unsigned z → Started κ → Unsigned (carryDay κ z .fraction)
 unfolding carryDay carryEnd
@@ -62,9 +70,11 @@ carry-step κ z u k = go (lt (sub binary64 z one) c-minus-eps-4) (lt c-minus-eps
     left = add binary64 (sub binary64 (κ .sum) one) (add binary64 (κ .correction) (sub binary64 (sub binary64 (κ .sum) (sub binary64 (κ .sum) one)) one))
 
     some : Unsigned left
-    some = add-unsigned _ (add-fits binary64 (κ .correction) (sub binary64 (sub binary64 (κ .sum) (sub binary64 (κ .sum) one)) one)) (sub-unsigned one one-fits (k .sum))
+    some = add-unsigned _ (add-fits binary64 (κ .correction) (sub binary64 (sub binary64 (κ .sum) (sub binary64 (κ .sum) one)) one))
+        (sub-unsigned one one-fits (k .sum))
 
-    go : (a b c : Bool) → Unsigned (cond {A = Carried} a (record { carry = 0; fraction = z }) (cond b (record { carry = 1; fraction = cond c left nought }) (record { carry = 0; fraction = left })) .fraction)
+    go : (a b c : Bool) → Unsigned (cond {A = Carried} a (record { carry = 0; fraction = z })
+        (cond b (record { carry = 1; fraction = cond c left nought }) (record { carry = 0; fraction = left })) .fraction)
     go true b c = u
     go false true true = some
     go false true false = nought-unsigned
@@ -92,7 +102,8 @@ normal-step κ k = go (lt z nought)
     borrowed : Unsigned w
     borrowed = add-unsigned _ (add-fits binary64 rest' (add binary64 (sub binary64 one (borrowSum s)) s)) more
 
-    go : (b : Bool) → Unsigned (cond {A = Normalized} b (besideBorrowed 1 (carryDay (kahanOf (borrowSum s) w) w)) (besideBorrowed 0 (carryDay (kahanOf s z) z)) .fraction)
+    go : (b : Bool) → Unsigned (cond {A = Normalized} b (besideBorrowed 1 (carryDay (kahanOf (borrowSum s) w) w))
+        (besideBorrowed 0 (carryDay (kahanOf s z) z)) .fraction)
     go true = carry-step (kahanOf (borrowSum s) w) w borrowed (record { sum = more; correction = sub-fits binary64 w (borrowSum s) })
     go false = carry-step (kahanOf s z) z (add-unsigned (κ .correction) (k .correction) (k .sum)) (record { sum = k .sum; correction = sub-fits binary64 z s })
 

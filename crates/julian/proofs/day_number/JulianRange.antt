@@ -1,5 +1,5 @@
--- The range test: it passes only where both parts are finite and their exact sum is from -68569.5 - 1/8 to 1e9 + 1/8, and always where that sum is from -68569.5
--- to 1e9. Assumes nothing.
+-- The range test: it passes only where both parts are finite and their exact sum is from -68569.5 - 1/8 to 1e9 + 1/8, and always where that sum is from
+-- -68569.5 to 1e9. Assumes nothing.
 use mathlib.Core.Path.{_≡_, refl, sym, ap, _∙_, subst}
 use mathlib.Core.Bool.{Bool, true, false, not, cond, _&&_, Bool·beq}
 use Prim.Native.Nat.{ℕ, suc, _+_, _*_, _^_, _≤_, _<_}
@@ -50,12 +50,14 @@ units-under : (s : Bool) (q k : ℕ) → T (finite (units binary64 s q k)) → q
 unfolding units
 units-under s q k = go (ltb (q * 2 ^ k) (overflow binary64)) (ltb→lt (q * 2 ^ k) (overflow binary64))
   where
-    go : (b : Bool) → (T b → q * 2 ^ k < overflow binary64) → T (finite (cond b (odd (suc (prec binary64)) s q k (low binary64)) (inf s))) → q * 2 ^ k < overflow binary64
+    go : (b : Bool) → (T b → q * 2 ^ k < overflow binary64) → T (finite (cond b (odd (suc (prec binary64)) s q k (low binary64)) (inf s)))
+        → q * 2 ^ k < overflow binary64
     go true h t = h tt
     go false h t = absurd t
 
 pub round-under : (s : Bool) (a : ℕ) → T (finite (round binary64 s a L)) → step a < 2 ^ 2098
-round-under s a t = lt-of-le-of-lt (le-of-eq (sym (grid-step a))) (units-under s (kept 53 (a * 2 ^ 1074) L) (drop 53 (a * 2 ^ 1074) L) (subst (λ (z : Float). T (finite z)) (round-is binary64 s a L) t))
+round-under s a t = lt-of-le-of-lt (le-of-eq (sym (grid-step a)))
+    (units-under s (kept 53 (a * 2 ^ 1074) L) (drop 53 (a * 2 ^ 1074) L) (subst (λ (z : Float). T (finite z)) (round-is binary64 s a L) t))
 
 -- ---- a finite sum, rounded
 record Sum (z : Float) (P N : ℕ) : Type 0 where
@@ -68,7 +70,8 @@ sum-of : {z : Float} {P N : ℕ} → T (finite z) → Rounds binary64 z P N L �
 sum-of {z} {P} {N} t r =
     let s = r .sign in
     let a = r .size in
-    let h : HasValue z s (step a) L = subst (λ (v : Float). HasValue v s (step a) L) (sym (r .eq)) (step-has s a (round-under s a (subst (λ (v : Float). T (finite v)) (r .eq) t))) in
+    let h : HasValue z s (step a) L =
+    subst (λ (v : Float). HasValue v s (step a) L) (sym (r .eq)) (step-has s a (round-under s a (subst (λ (v : Float). T (finite v)) (r .eq) t))) in
     record {
       p = plus-of s (step a);
       n = minus-of s (step a);
@@ -92,7 +95,8 @@ pub record SumInRange (P N : ℕ) : Type 0 where
   pub high : P < N + 8000000001 * E
   pub low : N < P + 548557 * E
 
-module _ (x y : Float) (p n q m : ℕ) (vx : Val x p n L) (vy : Val y q m L) (lo : T (le c-djmin (add binary64 x y))) (hi : T (le (add binary64 x y) c-djmax)) where
+module _ (x y : Float) (p n q m : ℕ) (vx : Val x p n L) (vy : Val y q m L) (lo : T (le c-djmin (add binary64 x y)))
+    (hi : T (le (add binary64 x y) c-djmax)) where
   s : Sum (add binary64 x y) (p + q) (n + m)
   s = sum-of (in-range (add binary64 x y) lo hi) (add-rounds binary64 L-pos vx vy)
 
@@ -101,11 +105,13 @@ module _ (x y : Float) (p n q m : ℕ) (vx : Val x p n L) (vy : Val y q m L) (lo
       let u : s .p + 0 ≤ 8000000000 * E + s .n = le-true L-pos (s .val) max-L (is-true (le (add binary64 x y) c-djmax) hi) in
       let l : 0 + s .n ≤ s .p + 548556 * E = le-true L-pos min-L (s .val) (is-true (le c-djmin (add binary64 x y)) lo) in
       record {
-        high = top (leb (8000000001 * E + (n + m)) (p + q)) (leb→le (8000000001 * E + (n + m)) (p + q)) (nleb→lt (8000000001 * E + (n + m)) (p + q)) (s .p) (s .n) (s .rn) u;
+        high = top (leb (8000000001 * E + (n + m)) (p + q)) (leb→le (8000000001 * E + (n + m)) (p + q)) (nleb→lt (8000000001 * E + (n + m)) (p + q)) (s .p)
+            (s .n) (s .rn) u;
         low = bottom (leb (p + q + 548557 * E) (n + m)) (leb→le (p + q + 548557 * E) (n + m)) (nleb→lt (p + q + 548557 * E) (n + m)) (s .p) (s .n) (s .rn) l;
       }
     where
-      top : (b : Bool) → (T b → 8000000001 * E + (n + m) ≤ p + q) → (T (not b) → p + q < 8000000001 * E + (n + m)) → (a c : ℕ) → RN (p + q) (n + m) a c → a + 0 ≤ 8000000000 * E + c → p + q < n + m + 8000000001 * E
+      top : (b : Bool) → (T b → 8000000001 * E + (n + m) ≤ p + q) → (T (not b) → p + q < 8000000001 * E + (n + m)) → (a c : ℕ) → RN (p + q) (n + m) a c
+          → a + 0 ≤ 8000000000 * E + c → p + q < n + m + 8000000001 * E
       top true f g a c r u =
           let w : 8000000001 * E + c ≤ a + 0 = rn-ge (8000000001 * E) 0 (eighths-up 8000000001 (lit< tt)) r (plain (f tt)) in
           let z : ⊥ = omega (arith, E-pos) in absurd z
@@ -114,7 +120,8 @@ module _ (x y : Float) (p n q m : ℕ) (vx : Val x p n L) (vy : Val y q m L) (lo
           plain h = omega arith
       top false f g a c r u = omega (arith, g tt)
 
-      bottom : (b : Bool) → (T b → p + q + 548557 * E ≤ n + m) → (T (not b) → n + m < p + q + 548557 * E) → (a c : ℕ) → RN (p + q) (n + m) a c → 0 + c ≤ a + 548556 * E → n + m < p + q + 548557 * E
+      bottom : (b : Bool) → (T b → p + q + 548557 * E ≤ n + m) → (T (not b) → n + m < p + q + 548557 * E) → (a c : ℕ) → RN (p + q) (n + m) a c
+          → 0 + c ≤ a + 548556 * E → n + m < p + q + 548557 * E
       bottom true f g a c r u =
           let w : a + 548557 * E ≤ 0 + c = rn-le 0 (548557 * E) (eighths-down 548557 (lit< tt)) r (plain (f tt)) in
           let z : ⊥ = omega (arith, E-pos) in absurd z
@@ -149,4 +156,5 @@ module _ (x y : Float) (p n q m : ℕ) (vx : Val x p n L) (vy : Val y q m L) (h1
   accepts =
       let u : rounded .p + 0 ≤ 8000000000 * E + rounded .n = rn-le (8000000000 * E) 0 (eighths-up 8000000000 (lit< tt)) (rounded .rn) (omega arith) in
       let l : 0 + rounded .n ≤ rounded .p + 548556 * E = rn-ge 0 (548556 * E) (eighths-down 548556 (lit< tt)) (rounded .rn) (omega arith) in
-      ap (λ (b : Bool). b && le (add binary64 x y) c-djmax) (is-true (le c-djmin (add binary64 x y)) (le-show L-pos min-L (rounded .val) l)) ∙ is-true (le (add binary64 x y) c-djmax) (le-show L-pos (rounded .val) max-L u)
+      ap (λ (b : Bool). b && le (add binary64 x y) c-djmax) (is-true (le c-djmin (add binary64 x y)) (le-show L-pos min-L (rounded .val) l))
+      ∙ is-true (le (add binary64 x y) c-djmax) (le-show L-pos (rounded .val) max-L u)

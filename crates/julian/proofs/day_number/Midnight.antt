@@ -1,5 +1,5 @@
--- Where the first fraction is -0.5, that of a midnight, the compensated sum of the fractions is the second fraction alone, and nothing is lost that a correction would
--- find. Assumes nothing.
+-- Where the first fraction is -0.5, that of a midnight, the compensated sum of the fractions is the second fraction alone, and nothing is lost that a
+-- correction would find. Assumes nothing.
 use mathlib.Core.Path.{_≡_, refl, sym, ap, _∙_, subst}
 use mathlib.Core.Bool.{Bool, true, false, cond, true≢false}
 use Prim.Native.Nat.{ℕ, _+_, _*_, _^_, _≤_, _<_}
@@ -27,7 +27,8 @@ use Rattle.rounding.proofs.Compensated.{compensated, compensated-either}
 use Rattle.julian.specs.declared.day_number.Kahan.{Kahan}
 use Rattle.julian.specs.declared.day_number.Summed.{Summed}
 use Rattle.julian.specs.declared.day_number.Normalized.{Normalized}
-use Rattle.julian.specs.day_number.DayNumber.{compensation, addFraction, sumFractions, kahanOf, borrowFraction, borrowDay, normalizeFraction, c-minus-eps-4}
+use Rattle.julian.specs.day_number.DayNumber.{compensation, addFraction, sumFractions, kahanOf, borrowFraction, borrowDay, normalizeFraction}
+use Rattle.julian.specs.day_number.DayNumber.{c-minus-eps-4}
 use Rattle.julian.proofs.day_number.Units.{one-L, nought-L, H-pos}
 use Rattle.julian.specs.day_number.MinusZero.{minusZero}
 use Rattle.julian.proofs.day_number.SignedUnits.{has-val}
@@ -93,11 +94,13 @@ is-minus-half (inf s) t e = absurd (true≢false (sym e))
 is-minus-half (fin s m d) t e = let o = own (fin s m d) t tt in go (o .sign) (o .size) (o .has)
   where
     level : (a : Bool) (c : ℕ) → HasValue (fin s m d) a c L → plus-of a c + H ≡ 0 + minus-of a c
-    level a c h = eqb→eq (plus-of a c + H) (0 + minus-of a c) (subst T (eq-val L-pos (has-val (fin s m d) a c L h) (has-val minus-half true H L minus-half-has)) (yes e))
+    level a c h = eqb→eq (plus-of a c + H) (0 + minus-of a c)
+        (subst T (eq-val L-pos (has-val (fin s m d) a c L h) (has-val minus-half true H L minus-half-has)) (yes e))
 
     go : (a : Bool) (c : ℕ) → HasValue (fin s m d) a c L → fin s m d ≡ minus-half
     go false c h = let z : ⊥ = omega (arith, level false c h, H-pos) in absurd z
-    go true c h = float-unique (fin s m d) minus-half true H L L-pos t minus-half-fits (subst (λ (z : ℕ). HasValue (fin s m d) true z L) (size (level true c h)) h) minus-half-has
+    go true c h = float-unique (fin s m d) minus-half true H L L-pos t minus-half-fits
+        (subst (λ (z : ℕ). HasValue (fin s m d) true z L) (size (level true c h)) h) minus-half-has
       where
         size : 0 + H ≡ 0 + c → c ≡ H
         size e = omega arith
@@ -168,14 +171,16 @@ module _ (g : Float) (fg : T (fits binary64 g)) (fin-g : T (finite g)) where
 
   exactly : Q < M + L → M < Q + L → Exact t lost (0 + Q) (0 + M)
   unfolding compensation
-  exactly h l = compensated-either (nought-unsigned .fit) fg nought-L vg (dist-le 0 0 L (omega arith) (omega arith)) (dist-le Q M L (omega arith) (omega arith)) far (add-rounds binary64 L-pos nought-L vg)
+  exactly h l = compensated-either (nought-unsigned .fit) fg nought-L vg (dist-le 0 0 L (omega arith) (omega arith))
+      (dist-le Q M L (omega arith) (omega arith)) far (add-rounds binary64 L-pos nought-L vg)
 
   no-correction : Q < M + L → M < Q + L → add binary64 nought lost ≡ nought
   no-correction h l =
       let x = exactly h l in
       let u = val-unique (x .sum) vt in
       same-value (add binary64 nought lost) nought (0 + x .ep) (0 + x .en) 0 0 (add-unsigned lost lost-fits nought-unsigned) nought-unsigned
-      (held (nought-unsigned .fit) nought-L (none-left (x .sp) (x .sn) (x .ep) (x .en) u (x .total)) (add-rounds binary64 L-pos nought-L (x .err))) nought-L (none-over (x .sp) (x .sn) (x .ep) (x .en) u (x .total))
+      (held (nought-unsigned .fit) nought-L (none-left (x .sp) (x .sn) (x .ep) (x .en) u (x .total)) (add-rounds binary64 L-pos nought-L (x .err))) nought-L
+      (none-over (x .sp) (x .sn) (x .ep) (x .en) u (x .total))
     where
       none-left : (a b c d : ℕ) → a + M ≡ Q + b → a + c + (0 + M) ≡ b + d + (0 + Q) → 0 + (0 + d) ≡ 0 + (0 + c)
       none-left a b c d u v = omega arith
@@ -201,7 +206,8 @@ module _ (g : Float) (fg : T (fits binary64 g)) (fin-g : T (finite g)) where
 
   -- ---- no day borrowed
   z-is : add binary64 t nought ≡ t
-  z-is = same-value (add binary64 t nought) t (Q + 0) (M + 0) Q M (add-unsigned nought (nought-unsigned .fit) ut) ut (held (ut .fit) vt (one-way Q M) (add-rounds binary64 L-pos vt nought-L)) vt (other Q M)
+  z-is = same-value (add binary64 t nought) t (Q + 0) (M + 0) Q M (add-unsigned nought (nought-unsigned .fit) ut) ut
+      (held (ut .fit) vt (one-way Q M) (add-rounds binary64 L-pos vt nought-L)) vt (other Q M)
     where
       one-way : (a b : ℕ) → a + (b + 0) ≡ b + (a + 0)
       one-way a b = omega arith
@@ -210,9 +216,12 @@ module _ (g : Float) (fg : T (fits binary64 g)) (fin-g : T (finite g)) where
       other a b = omega arith
 
   whole : Q < M + L → le nought t ≡ true → _≡_ {A = Normalized} (record { carry = 0; borrow = 0; fraction = t }) (normalizeFraction (alone .kahan))
-  whole h e = unborrowed (alone .kahan) (ap (λ (w : Float). lt w nought) z-is ∙ not-below (lt t nought) (λ d. lt-true L-pos vt nought-L d) (le-true L-pos nought-L vt e)) (record { carry = 0; fraction = t })
+  whole h e = unborrowed (alone .kahan)
+      (ap (λ (w : Float). lt w nought) z-is ∙ not-below (lt t nought) (λ d. lt-true L-pos vt nought-L d) (le-true L-pos nought-L vt e))
+      (record { carry = 0; fraction = t })
       (ap (λ (w : Float). record { carry = 0; fraction = w }) (sym z-is) ∙ carry-none (kahanOf t (add binary64 t nought)) (add binary64 t nought)
-      (ap (λ (w : Float). lt (sub binary64 w one) c-minus-eps-4) z-is ∙ carry-test t Q M (ut .fit) vt (low (le-true L-pos nought-L vt e)) (omega arith) ∙ is-true (lt t one) (lt-show L-pos vt one-L (omega arith))))
+      (ap (λ (w : Float). lt (sub binary64 w one) c-minus-eps-4) z-is ∙ carry-test t Q M (ut .fit) vt (low (le-true L-pos nought-L vt e)) (omega arith)
+      ∙ is-true (lt t one) (lt-show L-pos vt one-L (omega arith))))
     where
       not-below : (b : Bool) → (b ≡ true → Q + 0 < 0 + M) → 0 + M ≤ Q + 0 → b ≡ false
       not-below false k l = refl
@@ -236,7 +245,8 @@ module _ (g : Float) (fg : T (fits binary64 g)) (fin-g : T (finite g)) where
   miss = add binary64 (sub binary64 one s) t
 
   found : M < Q + L → Q < M → Exact s miss (L + Q) (0 + M)
-  found l h = compensated one-fits (ut .fit) one-L vt (subst (λ (d : ℕ). dist Q M ≤ d) (sym whole-day) (dist-le Q M L (omega arith) (omega arith))) (subst (λ (d : ℕ). d ≤ L) (sym whole-day) (omega arith)) far s-rounds
+  found l h = compensated one-fits (ut .fit) one-L vt (subst (λ (d : ℕ). dist Q M ≤ d) (sym whole-day) (dist-le Q M L (omega arith) (omega arith)))
+      (subst (λ (d : ℕ). d ≤ L) (sym whole-day) (omega arith)) far s-rounds
     where
       whole-day : dist L 0 ≡ L
       whole-day = signed-dist false L L 0 (add-zero L)
@@ -246,9 +256,12 @@ module _ (g : Float) (fg : T (fits binary64 g)) (fin-g : T (finite g)) where
   fraction-is l h =
       let x = found l h in
       let z : Val (add binary64 t nought) Q M L = subst (λ (w : Float). Val w Q M L) (sym z-is) vt in
-      let c : Val (sub binary64 (add binary64 t nought) t) (Q + M) (M + Q) L = held (nought-unsigned .fit) nought-L (omega arith) (sub-rounds binary64 L-pos z vt) in
-      let d : Val (add binary64 (sub binary64 (add binary64 t nought) t) miss) (Q + M + x .ep) (M + Q + x .en) L = held (add-fits binary64 (sub binary64 one s) t) (x .err) (turn (x .ep) (x .en)) (add-rounds binary64 L-pos c (x .err)) in
-      same-rounds (borrowFraction t (sub binary64 (add binary64 t nought) t)) s (x .sp + (Q + M + x .ep)) (x .sn + (M + Q + x .en)) (L + Q) (0 + M) (more (x .sp) (x .sn) (x .ep) (x .en) (x .total)) (all (x .sp) (x .sn) (x .ep) (x .en) (x .total))
+      let c : Val (sub binary64 (add binary64 t nought) t) (Q + M) (M + Q) L =
+      held (nought-unsigned .fit) nought-L (omega arith) (sub-rounds binary64 L-pos z vt) in
+      let d : Val (add binary64 (sub binary64 (add binary64 t nought) t) miss) (Q + M + x .ep) (M + Q + x .en) L =
+      held (add-fits binary64 (sub binary64 one s) t) (x .err) (turn (x .ep) (x .en)) (add-rounds binary64 L-pos c (x .err)) in
+      same-rounds (borrowFraction t (sub binary64 (add binary64 t nought) t)) s (x .sp + (Q + M + x .ep)) (x .sn + (M + Q + x .en)) (L + Q) (0 + M)
+      (more (x .sp) (x .sn) (x .ep) (x .en) (x .total)) (all (x .sp) (x .sn) (x .ep) (x .en) (x .total))
       (add-rounds binary64 L-pos (x .sum) d) s-rounds
     where
       turn : (a b : ℕ) → a + (M + Q + b) ≡ b + (Q + M + a)
@@ -267,9 +280,12 @@ module _ (g : Float) (fg : T (fits binary64 g)) (fin-g : T (finite g)) where
       let f = fraction-is l h in
       let n = le-says L-pos nought-L (x .sum) (rounds-mono L-pos L-pos (times 0 0 (L + Q) (0 + M) (omega arith)) nought-rounds s-rounds) in
       let b = borrowDay (kahanOf t (add binary64 t nought)) in
-      borrowed (alone .kahan) (ap (λ (w : Float). lt w nought) z-is ∙ is-true (lt t nought) (lt-show L-pos vt nought-L (omega arith))) b refl (record { carry = 0; fraction = s })
+      borrowed (alone .kahan) (ap (λ (w : Float). lt w nought) z-is ∙ is-true (lt t nought) (lt-show L-pos vt nought-L (omega arith))) b refl
+      (record { carry = 0; fraction = s })
       (ap (λ (w : Float). record { carry = 0; fraction = w }) (sym f) ∙ carry-none (b .kahan) (b .fraction)
-      (ap (λ (w : Float). lt (sub binary64 w one) c-minus-eps-4) f ∙ carry-test s (x .sp) (x .sn) (add-fits binary64 t one) (x .sum) (low (x .sp) (x .sn) n) (high (x .sp) (x .sn) (lt-true L-pos (x .sum) one-L e)) ∙ e))
+      (ap (λ (w : Float). lt (sub binary64 w one) c-minus-eps-4) f
+      ∙ carry-test s (x .sp) (x .sn) (add-fits binary64 t one) (x .sum) (low (x .sp) (x .sn) n) (high (x .sp) (x .sn) (lt-true L-pos (x .sum) one-L e))
+      ∙ e))
     where
       low : (a b : ℕ) → 0 + b ≤ a + 0 → b ≤ a
       low a b k = omega arith
@@ -302,7 +318,8 @@ finite-under (fin s m d) e h = tt
 -- the sum and what it comes to, where the fractions are f and g
 pub record Quick (f g z : Float) (down : ℕ) : Type 0 where
   pub summed : _≡_ {A = Summed} (record { carry = 0; kahan = record { sum = add binary64 nought g; correction = nought } }) (sumFractions f g)
-  pub normal : _≡_ {A = Normalized} (record { carry = 0; borrow = down; fraction = z }) (normalizeFraction (record { sum = add binary64 nought g; correction = nought }))
+  pub normal : _≡_ {A = Normalized} (record { carry = 0; borrow = down; fraction = z })
+      (normalizeFraction (record { sum = add binary64 nought g; correction = nought }))
 
 module _ (f g : Float) (ff : T (fits binary64 f)) (fg : T (fits binary64 g)) (e : eq f minus-half ≡ true) where
   pub quick : le nought (add binary64 nought g) ≡ true → lt (add binary64 nought g) one ≡ true → Quick f g (add binary64 nought g) 0
@@ -315,7 +332,8 @@ module _ (f g : Float) (ff : T (fits binary64 f)) (fg : T (fits binary64 g)) (e 
         normal = whole g fg i (omega arith) a;
       }
 
-  pub quick-borrowed : le nought (add binary64 nought g) ≡ false → lt minus-one (add binary64 nought g) ≡ true → lt (add binary64 (add binary64 nought g) one) one ≡ true → Quick f g (add binary64 (add binary64 nought g) one) 1
+  pub quick-borrowed : le nought (add binary64 nought g) ≡ false → lt minus-one (add binary64 nought g) ≡ true
+      → lt (add binary64 (add binary64 nought g) one) one ≡ true → Quick f g (add binary64 (add binary64 nought g) one) 1
   quick-borrowed a b c =
       let i = finite-under g a b in
       let l = le-false L-pos nought-L (vt g fg i) a in

@@ -79,11 +79,13 @@ some-size nan a c h z v = absurd v
 some-size (inf t) a c h z v = absurd v
 some-size (fin false m e) a c h z v = absurd (true≢false (sym (v .0)))
 some-size (fin true zero e) a c h z v = absurd (true≢false z)
-some-size (fin true (suc m) e) zero c h z v = absurd (lt-irrefl 0 (subst (λ (x : ℕ). 0 < x) (v .1 ∙ zero-mul (down e)) (mul-pos (mul-pos (zero-lt-suc m) (up-pos e)) h)))
+some-size (fin true (suc m) e) zero c h z v =
+    absurd (lt-irrefl 0 (subst (λ (x : ℕ). 0 < x) (v .1 ∙ zero-mul (down e)) (mul-pos (mul-pos (zero-lt-suc m) (up-pos e)) h)))
 some-size (fin true (suc m) e) (suc a) c h z v = zero-lt-suc a
 
 -- a sum of a / c and b / c with the signs s and t, which are X and Y units, that comes to 0
-sum-sign : (s t : Bool) (a b c X Y : ℕ) → a * L ≡ X * c → b * L ≡ Y * c → plus-of s X + plus-of t Y ≡ minus-of s X + minus-of t Y → (s ≡ true → 0 < X) → minusZero (sum binary64 s a t b c) ≡ false
+sum-sign : (s t : Bool) (a b c X Y : ℕ) → a * L ≡ X * c → b * L ≡ Y * c → plus-of s X + plus-of t Y ≡ minus-of s X + minus-of t Y → (s ≡ true → 0 < X)
+    → minusZero (sum binary64 s a t b c) ≡ false
 unfolding sum
 sum-sign false false a b c X Y u v e p = round-plus (a + b) c
 sum-sign true true a b c X Y u v e p = let w : 0 < X = p refl in let z : ⊥ = omega arith in absurd z
@@ -126,11 +128,13 @@ add-keeps (fin s m e) nan fx fy h = refl
 add-keeps (fin s m e) (inf t) fx fy h = refl
 add-keeps (fin s m e) (fin t n d) fx fy h = go (minusZero (add binary64 (fin s m e) (fin t n d))) refl
   where
-    at : (X Y : ℕ) → HasValue (fin s m e) s X L → HasValue (fin t n d) t Y L → minusZero (add binary64 (fin s m e) (fin t n d)) ≡ true → minusZero (add binary64 (fin s m e) (fin t n d)) ≡ false
+    at : (X Y : ℕ) → HasValue (fin s m e) s X L → HasValue (fin t n d) t Y L → minusZero (add binary64 (fin s m e) (fin t n d)) ≡ true
+        → minusZero (add binary64 (fin s m e) (fin t n d)) ≡ false
     at X Y v w q =
         let r = add-rounds binary64 L-pos (has-val (fin s m e) s X L v) (has-val (fin t n d) t Y L w) in
         let z : r .size ≡ 0 = round-zero (r .sign) (r .size) (ap minusZero (sym (r .eq)) ∙ q)
-        in sum-sign s t (m * up e * down d) (n * up d * down e) (down e * down d) X Y (cross-l (m * up e) (down e) (down d) X L (v .1)) (cross-r (n * up d) (down e) (down d) Y L (w .1))
+        in sum-sign s t (m * up e * down d) (n * up d * down e) (down e * down d) X Y (cross-l (m * up e) (down e) (down d) X L (v .1))
+        (cross-r (n * up d) (down e) (down d) Y L (w .1))
         (level (r .sign) (r .size) (plus-of s X + plus-of t Y) (minus-of s X + minus-of t Y) z (r .is)) (some s h v)
       where
         level : (b : Bool) (k P N : ℕ) → k ≡ 0 → Signed b k P N → P ≡ N

@@ -37,13 +37,16 @@ floor-has : (z : Float) (T' : ℕ) → T (fits binary64 z) → HasValue z false 
 floor-has nan k f v = absurd v
 floor-has (inf t) k f v = absurd v
 floor-has (fin true m e) k f v = absurd (true≢false (v .0))
-floor-has (fin false m e) k f v = subst (λ (z : ℕ). HasValue (toWhole downward (fin false m e)) false z 1) (div-same (m * up e) (down e) k L (down-pos e) L-pos (v .1)) (downward-exact false m e f)
+floor-has (fin false m e) k f v =
+    subst (λ (z : ℕ). HasValue (toWhole downward (fin false m e)) false z 1) (div-same (m * up e) (down e) k L (down-pos e) L-pos (v .1))
+    (downward-exact false m e f)
 
 ceil-has : (z : Float) (T' : ℕ) → T (fits binary64 z) → HasValue z true T' L → HasValue (toWhole upward z) true (T' / L) 1
 ceil-has nan k f v = absurd v
 ceil-has (inf t) k f v = absurd v
 ceil-has (fin false m e) k f v = absurd (true≢false (sym (v .0)))
-ceil-has (fin true m e) k f v = subst (λ (z : ℕ). HasValue (toWhole upward (fin true m e)) true z 1) (div-same (m * up e) (down e) k L (down-pos e) L-pos (v .1)) (upward-exact true m e f)
+ceil-has (fin true m e) k f v =
+    subst (λ (z : ℕ). HasValue (toWhole upward (fin true m e)) true z 1) (div-same (m * up e) (down e) k L (down-pos e) L-pos (v .1)) (upward-exact true m e f)
 
 -- a sum of one sign, rounded
 plus-round : {z : Float} (t : ℕ) → 0 < t → Rounds binary64 z t 0 L → z ≡ round binary64 false t L
@@ -94,9 +97,11 @@ sat-has nan s A h = absurd h
 sat-has (inf t) s A h = absurd h
 sat-has (fin t m e) s A h =
     let q : m * up e / down e ≡ A = div-same (m * up e) (down e) A 1 (down-pos e) (lit< tt) (h .1) ∙ div-one A in
-    subst (λ (b : Bool). (plusZ (toSigned 63 (fin t m e)) ≡ sat-plus b A) × (minusZ (toSigned 63 (fin t m e)) ≡ sat-minus b A)) (h .0) (go t (m * up e / down e) q)
+    subst (λ (b : Bool). (plusZ (toSigned 63 (fin t m e)) ≡ sat-plus b A) × (minusZ (toSigned 63 (fin t m e)) ≡ sat-minus b A)) (h .0)
+    (go t (m * up e / down e) q)
   where
-    go : (b : Bool) (k : ℕ) → k ≡ A → (plusZ (cond b (negℤ (pos (min k (2 ^ 63)))) (pos (min k (2 ^ 63 - 1)))) ≡ sat-plus b A) × (minusZ (cond b (negℤ (pos (min k (2 ^ 63)))) (pos (min k (2 ^ 63 - 1)))) ≡ sat-minus b A)
+    go : (b : Bool) (k : ℕ) → k ≡ A → (plusZ (cond b (negℤ (pos (min k (2 ^ 63)))) (pos (min k (2 ^ 63 - 1)))) ≡ sat-plus b A)
+        × (minusZ (cond b (negℤ (pos (min k (2 ^ 63)))) (pos (min k (2 ^ 63 - 1)))) ≡ sat-minus b A)
     go true k q = (neg-sides (min k 9223372036854775808) .0, neg-sides (min k 9223372036854775808) .1 ∙ ap (λ (z : ℕ). min z 9223372036854775808) q)
     go false k q = (ap (λ (z : ℕ). min z 9223372036854775807) q, refl)
 
@@ -112,7 +117,13 @@ whole-of-has v s X A n h = record { val = has-val v s A 1 h; numbers = n; plus =
 
 whole-nought : (s : Bool) (X : ℕ) → Rep X → X < H → Whole nought s X 0
 whole-nought false X r h = whole-of-has nought false X 0 (small-numbers X r h) (refl, refl)
-whole-nought true X r h = record { val = record { sign = false; size = 0; has = (refl, refl); is = refl }; numbers = small-numbers X r h; plus = sat-has nought false 0 (refl, refl) .0; minus = sat-has nought false 0 (refl, refl) .1 }
+whole-nought true X r h = record {
+  val = record { sign = false; size = 0; has = (refl, refl); is = refl };
+  numbers = small-numbers X r h;
+  plus =
+      sat-has nought false 0 (refl, refl) .0;
+  minus = sat-has nought false 0 (refl, refl) .1;
+}
 
 some-step : (z : Float) (s : Bool) (X : ℕ) (r : Rep X) → H ≤ X → X < 2 ^ 2098 → z ≡ round binary64 s (X + H) L → HasValue z s (step (X + H)) L
 some-step z s X r h b e = subst (λ (v : Float). HasValue v s (step (X + H)) L) (sym e) (step-has s (X + H) (room X r h b))
@@ -157,7 +168,8 @@ whole x s X f v = go s v (lt (abs x) half) refl (lt x nought) refl
         let q = plus-round (X + H) (omega (arith, H-pos)) (add-rounds binary64 L-pos vx half-val) in (
           found X,
           whole-of-has (toWhole downward (add binary64 x half)) false X (found X) (numbers X r h)
-              (floor-has (add binary64 x half) (step (X + H)) (add-fits binary64 x half) (some-step (add binary64 x half) false X r h (has-small x false X f v) q)),
+              (floor-has (add binary64 x half) (step (X + H)) (add-fits binary64 x half)
+              (some-step (add binary64 x half) false X r h (has-small x false X f v) q)),
         )
     go true v false e true d =
         let h : H ≤ X = big (size false e) in
@@ -165,7 +177,8 @@ whole x s X f v = go s v (lt (abs x) half) refl (lt x nought) refl
         let q = minus-round (X + H) (omega (arith, H-pos)) (sub-rounds binary64 L-pos vx half-val) in (
           found X,
           whole-of-has (toWhole upward (sub binary64 x half)) true X (found X) (numbers X r h)
-              (ceil-has (sub binary64 x half) (step (X + H)) (sub-fits binary64 x half) (some-step (sub binary64 x half) true X r h (has-small x true X f v) q)),
+              (ceil-has (sub binary64 x half) (step (X + H)) (sub-fits binary64 x half)
+              (some-step (sub binary64 x half) true X r h (has-small x true X f v) q)),
         )
     go true v false e false d =
         let h : H ≤ X = big (size false e) in

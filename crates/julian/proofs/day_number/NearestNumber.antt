@@ -2,7 +2,8 @@
 use mathlib.Core.Path.{_≡_, refl, sym, ap, _∙_, subst}
 use mathlib.Core.Bool.{Bool, true, false, not}
 use Prim.Native.Nat.{ℕ, zero, suc, _+_, _-_, _*_, _/_, _^_, _≤_, _<_}
-use native.Mathlib.Nat.{add-mul, one-mul, zero-mul, le-trans, le-of-eq, lt-of-le-of-lt, div-lt-iff-lt-mul, le-div-iff-mul-le, div-mul-le-self, div-add-mod', mod-lt, mul-le-mul-right, lt-of-mul-lt-mul-right}
+use native.Mathlib.Nat.{add-mul, one-mul, zero-mul, le-trans, le-of-eq, lt-of-le-of-lt, div-lt-iff-lt-mul, le-div-iff-mul-le, div-mul-le-self}
+use native.Mathlib.Nat.{div-add-mod', mod-lt, mul-le-mul-right, lt-of-mul-lt-mul-right}
 use native.Mathlib.Omega.{arith}
 use lib.Dec.{T, leb, leb→le, nleb→lt, lit<}
 use lib.Pow.{pow-mono}
@@ -56,7 +57,8 @@ top X r b = go (leb (2 ^ 2097) X) (leb→le (2 ^ 2097) X) (nleb→lt (2 ^ 2097) 
         let m = multiple 2045 X r (f tt) in
         let d : m .0 < 2 ^ 53 = lt-of-mul-lt-mul-right (2 ^ 2045) (lt-of-le-of-lt (le-of-eq (sym (m .1))) b) in
         let e : (m .0 + 1) * 2 ^ 2045 ≤ 2 ^ 53 * 2 ^ 2045 = mul-le-mul-right (2 ^ 2045) (next (m .0) d) in
-        fin (2 ^ 2045) (2 ^ 1073) (2 ^ 2098) (m .0 * 2 ^ 2045) (m .1) (lit< tt) (le-trans (le-of-eq (sym (add-mul (m .0) 1 (2 ^ 2045) ∙ ap (λ (z : ℕ). m .0 * 2 ^ 2045 + z) (one-mul (2 ^ 2045))))) e)
+        fin (2 ^ 2045) (2 ^ 1073) (2 ^ 2098) (m .0 * 2 ^ 2045) (m .1) (lit< tt)
+        (le-trans (le-of-eq (sym (add-mul (m .0) 1 (2 ^ 2045) ∙ ap (λ (z : ℕ). m .0 * 2 ^ 2045 + z) (one-mul (2 ^ 2045))))) e)
       where
         next : (x : ℕ) → x < 2 ^ 53 → x + 1 ≤ 2 ^ 53
         next x h = omega arith
@@ -128,7 +130,8 @@ module _ (X : ℕ) (r : Rep X) (h : H ≤ X) where
           let n = (X + H) / L in
           let a : n * L ≤ X + H = div-mul-le-self (X + H) L in
           let b : n < 2 ^ 53 = div-lt-iff-lt-mul L-pos .1 (g tt) in
-          let c : n * L ≤ (found X) * L = mul-le-mul-right L (reached n (le-trans (le-of-eq (sym (step-fix (n * L) (rep-whole n b)))) (step-le (n * L) (X + H) a))) in
+          let c : n * L ≤ (found X) * L =
+          mul-le-mul-right L (reached n (le-trans (le-of-eq (sym (step-fix (n * L) (rep-whole n b)))) (step-le (n * L) (X + H) a))) in
           omega (arith, div-add-mod' (X + H) L, mod-lt (X + H) L-pos, H-L)
 
   near-high : X < 2 ^ 50 * L → 8 * ((found X) * L) ≤ 8 * X + 5 * L

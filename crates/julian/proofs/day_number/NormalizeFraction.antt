@@ -37,7 +37,8 @@ pub record Normal (D h : ℕ) (κ : Kahan) (A B : ℕ) : Type 0 where
   pub test : Bool
   pub tested : lt (add binary64 (κ .sum) (κ .correction)) nought ≡ test
   pub borrow-is : borrow ≡ cond test 1 0
-  pub fraction-is : fraction ≡ cond test (borrowFraction (κ .sum) (sub binary64 (add binary64 (κ .sum) (κ .correction)) (κ .sum))) (add binary64 (κ .sum) (κ .correction))
+  pub fraction-is : fraction ≡ cond test (borrowFraction (κ .sum) (sub binary64 (add binary64 (κ .sum) (κ .correction)) (κ .sum)))
+      (add binary64 (κ .sum) (κ .correction))
 
 module _ (D h : ℕ) (adds : Adds D h) (dpos : 0 < D) (one-val : Val one D 0 D) (nought-val : Val nought 0 0 D) (hs : 1024 * h ≤ D) (κ : Kahan) (A B : ℕ)
     (fs : T (fits binary64 (κ .sum))) (a : ValClose D (κ .sum) A B (4 * h)) (h1 : A < B + D + 3 * h) (h2 : B + 60 * h ≤ A + D) where
@@ -48,13 +49,18 @@ module _ (D h : ℕ) (adds : Adds D h) (dpos : 0 < D) (one-val : Val one D 0 D) 
   z = add binary64 (κ .sum) (κ .correction)
 
   normal-of : (u : Bool) → ValClose D z A B (17 * h) → lt z nought ≡ u
-      → normalizeFraction κ ≡ cond u (besideBorrowed 1 (carryDay (kahanOf (borrowSum s) (borrowFraction s (sub binary64 z s))) (borrowFraction s (sub binary64 z s)))) (besideBorrowed 0 (carryDay (kahanOf s z) z)) → Normal D h κ A B
+      → normalizeFraction κ ≡ cond u (besideBorrowed 1
+      (carryDay (kahanOf (borrowSum s) (borrowFraction s (sub binary64 z s))) (borrowFraction s (sub binary64 z s))))
+      (besideBorrowed 0 (carryDay (kahanOf s z) z)) → Normal D h κ A B
   normal-of true v test e =
       let w : v .p + 0 < 0 + v .n = lt-true dpos (v .val) nought-val test in
       let x : A < B + 17 * h = omega (arith, v .under, w) in
       let c : ValClose D (sub binary64 z s) 0 0 (22 * h) = close-move (close-sub D h adds v a (omega arith) (omega arith)) (omega arith) (omega arith) in
-      let s3 : ValClose D (borrowSum s) (A + D) B (5 * h) = close-move (close-add D h adds a (exactly one-val) (omega arith) (omega arith)) (omega arith) (omega arith) in
-      let d : ValClose D (add binary64 (sub binary64 one (borrowSum s)) s) 0 0 (11 * h) = close-move (close-add D h adds (close-sub D h adds (exactly one-val) s3 (omega arith) (omega arith)) a (omega arith) (omega arith)) (omega arith) (omega arith) in
+      let s3 : ValClose D (borrowSum s) (A + D) B (5 * h) =
+      close-move (close-add D h adds a (exactly one-val) (omega arith) (omega arith)) (omega arith) (omega arith) in
+      let d : ValClose D (add binary64 (sub binary64 one (borrowSum s)) s) 0 0 (11 * h) =
+      close-move (close-add D h adds (close-sub D h adds (exactly one-val) s3 (omega arith) (omega arith)) a (omega arith) (omega arith)) (omega arith)
+      (omega arith) in
       let g : ValClose D (borrowFraction s (sub binary64 z s)) (A + D) B (40 * h) =
       close-move (close-add D h adds s3 (close-add D h adds c d (omega arith) (omega arith)) (omega arith) (omega arith)) (omega arith) (omega arith) in
       record {
@@ -63,7 +69,17 @@ module _ (D h : ℕ) (adds : Adds D h) (dpos : 0 < D) (one-val : Val one D 0 D) 
         sum = borrowSum s;
         fraction = borrowFraction s (sub binary64 z s);
         is = e;
-        ready = record { p = g .p; n = g .n; val = g .val; over = omega (arith, g .over); under = omega (arith, g .under); sum = close-move s3 (omega arith) (omega arith); low = omega (arith, g .under); high = omega (arith, g .over) };
+        ready = record {
+          p = g .p;
+          n = g .n;
+          val = g .val;
+          over = omega (arith, g .over);
+          under = omega (arith, g .under);
+          sum =
+              close-move s3 (omega arith) (omega arith);
+          low = omega (arith, g .under);
+          high = omega (arith, g .over);
+        };
         sum-fits = add-fits binary64 s one;
         fraction-fits = add-fits binary64 (borrowSum s) (add binary64 (sub binary64 z s) (add binary64 (sub binary64 one (borrowSum s)) s));
         test = true;
@@ -79,7 +95,17 @@ module _ (D h : ℕ) (adds : Adds D h) (dpos : 0 < D) (one-val : Val one D 0 D) 
         sum = s;
         fraction = z;
         is = e;
-        ready = record { p = v .p; n = v .n; val = v .val; over = omega (arith, v .over); under = omega (arith, v .under); sum = close-move a (omega arith) (omega arith); low = omega arith; high = omega (arith, v .over) };
+        ready = record {
+          p = v .p;
+          n = v .n;
+          val = v .val;
+          over = omega (arith, v .over);
+          under = omega (arith, v .under);
+          sum =
+              close-move a (omega arith) (omega arith);
+          low = omega arith;
+          high = omega (arith, v .over);
+        };
         sum-fits = fs;
         fraction-fits = add-fits binary64 s (κ .correction);
         test = false;

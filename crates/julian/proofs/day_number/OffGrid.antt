@@ -58,33 +58,44 @@ module _ (x y : Float) (fx : T (fits binary64 x)) (fy : T (fits binary64 y)) (e 
           let sa = few-whole (k .X) (k .A) (k .wx .numbers) (size-le (k .s) (k .X) p n (2 ^ 62 * L) ex h1 h2) in
           let sb = few-whole (k .Y) (k .B) (k .wy .numbers) (size-le (k .t) (k .Y) q m (2 ^ 62 * L) ey h3 h4) in
           let d = total (nearestInt x) (nearestInt y) (o .up) (o .more) (o .down) in
-          let f = ints (plusZ d) (minusZ d) (plus-of (k .s) (k .A)) (minus-of (k .s) (k .A)) (plus-of (k .t) (k .B)) (minus-of (k .t) (k .B)) _ _ _ _ (o .up) (o .more) (o .down)
-          (plain-plus (k .s) (k .A) _ sa (k .wx .plus)) (plain-minus (k .s) (k .A) _ sa (k .wx .minus)) (plain-plus (k .t) (k .B) _ sb (k .wy .plus)) (plain-minus (k .t) (k .B) _ sb (k .wy .minus))
+          let f = ints (plusZ d) (minusZ d) (plus-of (k .s) (k .A)) (minus-of (k .s) (k .A)) (plus-of (k .t) (k .B)) (minus-of (k .t) (k .B)) _ _ _ _ (o .up)
+          (o .more) (o .down)
+          (plain-plus (k .s) (k .A) _ sa (k .wx .plus)) (plain-minus (k .s) (k .A) _ sa (k .wx .minus)) (plain-plus (k .t) (k .B) _ sb (k .wy .plus))
+          (plain-minus (k .t) (k .B) _ sb (k .wy .minus))
           (total-is (nearestInt x) (nearestInt y) (o .up) (o .more) (o .down) .is) in
-          subst (λ (z : ℤ). NearPair p n q m z (joinedFractions (rest x) (rest y) .fraction)) (sym (number-is x y (o .up) (o .more) (o .down) (o .carry) (o .again) (o .borrow)))
+          subst (λ (z : ℤ). NearPair p n q m z (joinedFractions (rest x) (rest y) .fraction))
+          (sym (number-is x y (o .up) (o .more) (o .down) (o .carry) (o .again) (o .borrow)))
           (record {
             units = o .units;
             val = o .val;
-            over = fin (o .units) (plus-of (k .s) (k .X)) (minus-of (k .s) (k .X)) (plus-of (k .t) (k .Y)) (minus-of (k .t) (k .Y)) (plus-of (k .s) (k .A) * L) (minus-of (k .s) (k .A) * L) (plus-of (k .t) (k .B) * L) (minus-of (k .t) (k .B) * L) (o .up * L) (o .more * L) (o .down * L) (plusZ d * L) (minusZ d * L) ex ey f (k .over);
-            under = fin' (o .units) (plus-of (k .s) (k .X)) (minus-of (k .s) (k .X)) (plus-of (k .t) (k .Y)) (minus-of (k .t) (k .Y)) (plus-of (k .s) (k .A) * L) (minus-of (k .s) (k .A) * L) (plus-of (k .t) (k .B) * L) (minus-of (k .t) (k .B) * L) (o .up * L) (o .more * L) (o .down * L) (plusZ d * L) (minusZ d * L) ex ey f (k .under);
+            over = fin (o .units) (plus-of (k .s) (k .X)) (minus-of (k .s) (k .X)) (plus-of (k .t) (k .Y)) (minus-of (k .t) (k .Y))
+                (plus-of (k .s) (k .A) * L) (minus-of (k .s) (k .A) * L) (plus-of (k .t) (k .B) * L) (minus-of (k .t) (k .B) * L) (o .up * L) (o .more * L)
+                (o .down * L) (plusZ d * L) (minusZ d * L) ex ey f (k .over);
+            under = fin' (o .units) (plus-of (k .s) (k .X)) (minus-of (k .s) (k .X)) (plus-of (k .t) (k .Y)) (minus-of (k .t) (k .Y))
+                (plus-of (k .s) (k .A) * L) (minus-of (k .s) (k .A) * L) (plus-of (k .t) (k .B) * L) (minus-of (k .t) (k .B) * L) (o .up * L) (o .more * L)
+                (o .down * L) (plusZ d * L) (minusZ d * L) ex ey f (k .under);
           })
         where
-          ints : (g h i l j o i' l' j' o' up more down : ℕ) → i' ≡ i → l' ≡ l → j' ≡ j → o' ≡ o → g + (l' + o' + 0 + (0 + down)) ≡ h + (i' + j' + up + (more + 0))
+          ints : (g h i l j o i' l' j' o' up more down : ℕ) → i' ≡ i → l' ≡ l → j' ≡ j → o' ≡ o
+              → g + (l' + o' + 0 + (0 + down)) ≡ h + (i' + j' + up + (more + 0))
               → g * L + (l * L + o * L + down * L) ≡ h * L + (i * L + j * L + up * L + more * L)
           ints g h i l j o i' l' j' o' up more down e1 e2 e3 e4 e5 =
               let z : g + (l + o + down) ≡ h + (i + j + up + more) = omega arith in
               simp add-mul at (times-L g (l + o + down) h (i + j + up + more) L z)
 
           fin : (u P N Q M i l j o up more down g h : ℕ) → P + n ≡ p + N → Q + m ≡ q + M → g + (l + o + down) ≡ h + (i + j + up + more)
-              → u + (N + i + (M + j) + up) + more ≤ H + (P + l) + (Q + o) + down + 8 * W → 2 ^ 53 * (u + (n + m) + g) ≤ 2 ^ 53 * (p + q + h) + 2 ^ 52 * L + 4 * L
+              → u + (N + i + (M + j) + up) + more ≤ H + (P + l) + (Q + o) + down + 8 * W
+              → 2 ^ 53 * (u + (n + m) + g) ≤ 2 ^ 53 * (p + q + h) + 2 ^ 52 * L + 4 * L
           fin u P N Q M i l j o up more down g h e1 e2 e3 k = omega (arith, H-L, L-W)
 
           fin' : (u P N Q M i l j o up more down g h : ℕ) → P + n ≡ p + N → Q + m ≡ q + M → g + (l + o + down) ≡ h + (i + j + up + more)
-              → H + (P + l) + (Q + o) + down ≤ u + (N + i + (M + j) + up) + more + 8 * W → 2 ^ 53 * (p + q + h) + 2 ^ 52 * L ≤ 2 ^ 53 * (u + (n + m) + g) + 4 * L
+              → H + (P + l) + (Q + o) + down ≤ u + (N + i + (M + j) + up) + more + 8 * W
+              → 2 ^ 53 * (p + q + h) + 2 ^ 52 * L ≤ 2 ^ 53 * (u + (n + m) + g) + 4 * L
           fin' u P N Q M i l j o up more down g h e1 e2 e3 k = omega (arith, H-L, L-W)
 
 -- the day and the fraction of every answered pair of parts under 2 ^ 52
-pub day-near : (x y : Float) → Under52 x → Under52 y → (i j : ℤ) → Val x (plusZ i) (minusZ i) L → Val y (plusZ j) (minusZ j) L → (d : DayNumber) → dayNumberAndFraction x y ≡ answer d → DayNear (i +ℤ j) (d .day) (d .fraction)
+pub day-near : (x y : Float) → Under52 x → Under52 y → (i j : ℤ) → Val x (plusZ i) (minusZ i) L → Val y (plusZ j) (minusZ j) L → (d : DayNumber)
+    → dayNumberAndFraction x y ≡ answer d → DayNear (i +ℤ j) (d .day) (d .fraction)
 unfolding dayOf
 day-near x y a b i j v w d e =
     let g = answer-is x y d e in
@@ -96,15 +107,19 @@ day-near x y a b i j v w d e =
     (record {
       units = k .units;
       val = k .val;
-      over = over' (plusZ i) (minusZ i) (plusZ j) (minusZ j) (plusZ (i +ℤ j)) (minusZ (i +ℤ j)) (k .units) (plusZ (dayNumber x y) * L) (minusZ (dayNumber x y) * L) s (k .over);
-      under = under' (plusZ i) (minusZ i) (plusZ j) (minusZ j) (plusZ (i +ℤ j)) (minusZ (i +ℤ j)) (k .units) (plusZ (dayNumber x y) * L) (minusZ (dayNumber x y) * L) s (k .under);
+      over = over' (plusZ i) (minusZ i) (plusZ j) (minusZ j) (plusZ (i +ℤ j)) (minusZ (i +ℤ j)) (k .units) (plusZ (dayNumber x y) * L)
+          (minusZ (dayNumber x y) * L) s (k .over);
+      under = under' (plusZ i) (minusZ i) (plusZ j) (minusZ j) (plusZ (i +ℤ j)) (minusZ (i +ℤ j)) (k .units) (plusZ (dayNumber x y) * L)
+          (minusZ (dayNumber x y) * L) s (k .under);
     })
   where
     bounds : (z : Float) → Under52 z → (p n : ℕ) → Val z p n L → (p ≤ n + 2 ^ 62 * L) × (n ≤ p + 2 ^ 62 * L)
     bounds z u p n v = let s = under-size z 52 (u .held) (u .small) in let e = val-unique v (s .val) in (omega (arith, s .high), omega (arith, s .low))
 
-    over' : (p n q m P N u i j : ℕ) → P + (n + m) ≡ N + (p + q) → 2 ^ 53 * (u + (n + m) + i) ≤ 2 ^ 53 * (p + q + j) + 2 ^ 52 * L + 4 * L → 2 ^ 51 * (i + u + N) ≤ 2 ^ 51 * (P + j) + 2 ^ 50 * L + L
+    over' : (p n q m P N u i j : ℕ) → P + (n + m) ≡ N + (p + q) → 2 ^ 53 * (u + (n + m) + i) ≤ 2 ^ 53 * (p + q + j) + 2 ^ 52 * L + 4 * L
+        → 2 ^ 51 * (i + u + N) ≤ 2 ^ 51 * (P + j) + 2 ^ 50 * L + L
     over' p n q m P N u i j e h = omega arith
 
-    under' : (p n q m P N u i j : ℕ) → P + (n + m) ≡ N + (p + q) → 2 ^ 53 * (p + q + j) + 2 ^ 52 * L ≤ 2 ^ 53 * (u + (n + m) + i) + 4 * L → 2 ^ 51 * (P + j) + 2 ^ 50 * L ≤ 2 ^ 51 * (i + u + N) + L
+    under' : (p n q m P N u i j : ℕ) → P + (n + m) ≡ N + (p + q) → 2 ^ 53 * (p + q + j) + 2 ^ 52 * L ≤ 2 ^ 53 * (u + (n + m) + i) + 4 * L
+        → 2 ^ 51 * (P + j) + 2 ^ 50 * L ≤ 2 ^ 51 * (i + u + N) + L
     under' p n q m P N u i j e h = omega arith

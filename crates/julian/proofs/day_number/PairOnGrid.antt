@@ -41,9 +41,33 @@ sizes false false P Q A B a b r =
     let x : 8 * (A * S) ≤ 8 * P + 5 * S = a .tight (omega (arith, r .high)) in
     let y : 8 * (B * S) ≤ 8 * Q + 5 * S = b .tight (omega (arith, r .high)) in
     record { f1 = omega (arith, a .high); f2 = omega (arith, a .low); g1 = omega (arith, b .high); g2 = omega (arith, b .low); fg = omega arith }
-sizes true true P Q A B a b r = record { f1 = omega (arith, a .low); f2 = omega (arith, a .high); g1 = omega (arith, b .low); g2 = omega (arith, b .high); fg = omega (arith, a .low, b .low) }
-sizes false true P Q A B a b r = record { f1 = omega (arith, a .high); f2 = omega (arith, a .low); g1 = omega (arith, b .low); g2 = omega (arith, b .high); fg = omega (arith, a .high, b .low) }
-sizes true false P Q A B a b r = record { f1 = omega (arith, a .low); f2 = omega (arith, a .high); g1 = omega (arith, b .high); g2 = omega (arith, b .low); fg = omega (arith, a .low, b .high) }
+sizes true true P Q A B a b r =
+    record {
+      f1 = omega (arith, a .low);
+      f2 = omega (arith, a .high);
+      g1 = omega (arith, b .low);
+      g2 = omega (arith, b .high);
+      fg =
+          omega (arith, a .low, b .low);
+    }
+sizes false true P Q A B a b r =
+    record {
+      f1 = omega (arith, a .high);
+      f2 = omega (arith, a .low);
+      g1 = omega (arith, b .low);
+      g2 = omega (arith, b .high);
+      fg =
+          omega (arith, a .high, b .low);
+    }
+sizes true false P Q A B a b r =
+    record {
+      f1 = omega (arith, a .low);
+      f2 = omega (arith, a .high);
+      g1 = omega (arith, b .high);
+      g2 = omega (arith, b .low);
+      fg =
+          omega (arith, a .low, b .high);
+    }
 
 -- the same in the smaller units
 times-C : (a b : ℕ) → a ≤ b + 0 → a * C ≤ b * C
@@ -55,7 +79,8 @@ times-C a b h = mul-le-mul-right C (plain a b h)
 slack : (a b e : ℕ) → a ≤ b → a ≤ b + e
 slack a b e h = omega arith
 
-left-C : (u n i m j up more : ℕ) → (u + (n + i * S + (m + j * S) + up * S) + more * S) * C ≡ u * C + (n * C + i * (S * C) + (m * C + j * (S * C)) + up * (S * C)) + more * (S * C)
+left-C : (u n i m j up more : ℕ)
+    → (u + (n + i * S + (m + j * S) + up * S) + more * S) * C ≡ u * C + (n * C + i * (S * C) + (m * C + j * (S * C)) + up * (S * C)) + more * (S * C)
 left-C u n i m j up more = simp (add-mul, mul-assoc)
 
 right-C : (p k q l down : ℕ) → (2 ^ 51 + (p + k * S) + (q + l * S) + down * S) * C ≡ 2 ^ 51 * C + (p * C + k * (S * C)) + (q * C + l * (S * C)) + down * (S * C)
@@ -70,28 +95,43 @@ sideM false P = refl
 sideM true P = refl
 
 scaled : (s t : Bool) (P Q A B up more down u e : ℕ)
-    → u + (minus-of s P + plus-of s A * S + (minus-of t Q + plus-of t B * S) + up * S) + more * S ≤ 2 ^ 51 + (plus-of s P + minus-of s A * S) + (plus-of t Q + minus-of t B * S) + down * S + 0
-    → 2 ^ 51 + (plus-of s P + minus-of s A * S) + (plus-of t Q + minus-of t B * S) + down * S ≤ u + (minus-of s P + plus-of s A * S + (minus-of t Q + plus-of t B * S) + up * S) + more * S + 0
-    → (u * C + (minus-of s (P * C) + plus-of s A * L + (minus-of t (Q * C) + plus-of t B * L) + up * L) + more * L ≤ H + (plus-of s (P * C) + minus-of s A * L) + (plus-of t (Q * C) + minus-of t B * L) + down * L + e)
-    × (H + (plus-of s (P * C) + minus-of s A * L) + (plus-of t (Q * C) + minus-of t B * L) + down * L ≤ u * C + (minus-of s (P * C) + plus-of s A * L + (minus-of t (Q * C) + plus-of t B * L) + up * L) + more * L + e)
+    → u + (minus-of s P + plus-of s A * S + (minus-of t Q + plus-of t B * S) + up * S) + more * S ≤ 2 ^ 51 + (plus-of s P + minus-of s A * S) +
+    (plus-of t Q + minus-of t B * S) + down * S + 0
+    → 2 ^ 51 + (plus-of s P + minus-of s A * S) + (plus-of t Q + minus-of t B * S) + down * S ≤ u +
+    (minus-of s P + plus-of s A * S + (minus-of t Q + plus-of t B * S) + up * S) + more * S + 0
+    → (u * C + (minus-of s (P * C) + plus-of s A * L + (minus-of t (Q * C) + plus-of t B * L) + up * L) + more * L ≤ H +
+    (plus-of s (P * C) + minus-of s A * L) + (plus-of t (Q * C) + minus-of t B * L) + down * L + e)
+    × (H + (plus-of s (P * C) + minus-of s A * L) + (plus-of t (Q * C) + minus-of t B * L) + down * L ≤ u * C +
+    (minus-of s (P * C) + plus-of s A * L + (minus-of t (Q * C) + plus-of t B * L) + up * L) + more * L + e)
 unfolding L H
 scaled s t P Q A B up more down u e h k =
-    let x = left-C u (minus-of s P) (plus-of s A) (minus-of t Q) (plus-of t B) up more ∙ ap (λ (z : ℕ). u * C + (z + plus-of s A * L + (minus-of t Q * C + plus-of t B * L) + up * L) + more * L) (sideM s P) ∙ ap (λ (z : ℕ). u * C + (minus-of s (P * C) + plus-of s A * L + (z + plus-of t B * L) + up * L) + more * L) (sideM t Q) in
-    let y = right-C (plus-of s P) (minus-of s A) (plus-of t Q) (minus-of t B) down ∙ ap (λ (z : ℕ). H + (z + minus-of s A * L) + (plus-of t Q * C + minus-of t B * L) + down * L) (sideP s P) ∙ ap (λ (z : ℕ). H + (plus-of s (P * C) + minus-of s A * L) + (z + minus-of t B * L) + down * L) (sideP t Q) in
-    (slack _ _ e (le-trans (le-of-eq (sym x)) (le-trans (times-C _ _ h) (le-of-eq y))), slack _ _ e (le-trans (le-of-eq (sym y)) (le-trans (times-C _ _ k) (le-of-eq x))))
+    let x = left-C u (minus-of s P) (plus-of s A) (minus-of t Q) (plus-of t B) up more
+    ∙ ap (λ (z : ℕ). u * C + (z + plus-of s A * L + (minus-of t Q * C + plus-of t B * L) + up * L) + more * L) (sideM s P)
+    ∙ ap (λ (z : ℕ). u * C + (minus-of s (P * C) + plus-of s A * L + (z + plus-of t B * L) + up * L) + more * L) (sideM t Q) in
+    let y = right-C (plus-of s P) (minus-of s A) (plus-of t Q) (minus-of t B) down
+    ∙ ap (λ (z : ℕ). H + (z + minus-of s A * L) + (plus-of t Q * C + minus-of t B * L) + down * L) (sideP s P)
+    ∙ ap (λ (z : ℕ). H + (plus-of s (P * C) + minus-of s A * L) + (z + minus-of t B * L) + down * L) (sideP t Q) in (
+      slack _ _ e (le-trans (le-of-eq (sym x)) (le-trans (times-C _ _ h) (le-of-eq y))),
+      slack _ _ e (le-trans (le-of-eq (sym y)) (le-trans (times-C _ _ k) (le-of-eq x))),
+    )
 
-module _ (x y : Float) (s t : Bool) (X Y P Q A B : ℕ) (vx : HasValue x s P S) (vy : HasValue y t Q S) (wx : Whole (nearestInt x) s X A) (wy : Whole (nearestInt y) t Y B)
-    (ex : X ≡ P * C) (ey : Y ≡ Q * C) (a : GridNumbers P A) (b : GridNumbers Q B) (r : GridRange (plus-of s P + plus-of t Q) (minus-of s P + minus-of t Q)) where
-  pub grid-split : Split S 0 (sumFractions (rest x) (rest y)) (joinedFractions (rest x) (rest y)) (2 ^ 51 + (plus-of s P + minus-of s A * S) + (plus-of t Q + minus-of t B * S)) (minus-of s P + plus-of s A * S + (minus-of t Q + plus-of t B * S))
+module _ (x y : Float) (s t : Bool) (X Y P Q A B : ℕ) (vx : HasValue x s P S) (vy : HasValue y t Q S) (wx : Whole (nearestInt x) s X A)
+    (wy : Whole (nearestInt y) t Y B)
+    (ex : X ≡ P * C) (ey : Y ≡ Q * C) (a : GridNumbers P A) (b : GridNumbers Q B)
+    (r : GridRange (plus-of s P + plus-of t Q) (minus-of s P + minus-of t Q)) where
+  pub grid-split : Split S 0 (sumFractions (rest x) (rest y)) (joinedFractions (rest x) (rest y))
+      (2 ^ 51 + (plus-of s P + minus-of s A * S) + (plus-of t Q + minus-of t B * S)) (minus-of s P + plus-of s A * S + (minus-of t Q + plus-of t B * S))
   grid-split =
       let z = sizes s t P Q A B a b r in
-      split-grid (rest x) (rest y) (plus-of s P + minus-of s A * S) (minus-of s P + plus-of s A * S) (plus-of t Q + minus-of t B * S) (minus-of t Q + plus-of t B * S)
+      split-grid (rest x) (rest y) (plus-of s P + minus-of s A * S) (minus-of s P + plus-of s A * S) (plus-of t Q + minus-of t B * S)
+      (minus-of t Q + plus-of t B * S)
       (left-grid x s X P A vx wx a) (left-grid y t Y Q B vy wy b) (z .f1) (z .f2) (z .g1) (z .g2) (z .fg)
 
   grid-bounded : Bounded (plus-of s A + plus-of t B + grid-split .up + grid-split .more) (minus-of s A + minus-of t B + grid-split .down)
   grid-bounded =
       let k = grid-split in
-      bounded S (2 ^ 51) (2 ^ 49) 0 (plus-of s P) (minus-of s P) (plus-of t Q) (minus-of t Q) (plus-of s A) (minus-of s A) (plus-of t B) (minus-of t B) (k .up) (k .more) (k .down) (k .units) refl refl (lit< tt) (lit≤ tt) (k .below) (k .over) (k .under) (r .high) (r .low)
+      bounded S (2 ^ 51) (2 ^ 49) 0 (plus-of s P) (minus-of s P) (plus-of t Q) (minus-of t Q) (plus-of s A) (minus-of s A) (plus-of t B) (minus-of t B)
+      (k .up) (k .more) (k .down) (k .units) refl refl (lit< tt) (lit≤ tt) (k .below) (k .over) (k .under) (r .high) (r .low)
 
   pub grid : AcceptedSum x y
   unfolding L
@@ -107,7 +147,8 @@ module _ (x y : Float) (s t : Bool) (X Y P Q A B : ℕ) (vx : HasValue x s P S) 
         down = k .down;
         least = k .least;
         borrow = k .borrow;
-        ints = sums (toSigned 63 (nearestInt x)) (toSigned 63 (nearestInt y)) s t A B (k .up) (k .more) (k .down) (wx .plus) (wx .minus) (wy .plus) (wy .minus) (k .few) (k .one) (k .least) grid-bounded;
+        ints = sums (toSigned 63 (nearestInt x)) (toSigned 63 (nearestInt y)) s t A B (k .up) (k .more) (k .down) (wx .plus) (wx .minus) (wy .plus)
+            (wy .minus) (k .few) (k .one) (k .least) grid-bounded;
         units = k .units * C;
         val = val-scale C (k .val);
         below = mul-lt-mul-of-pos-right (k .below) (pow-pos 1022);
@@ -150,5 +191,8 @@ side-minus false true P Q = sym (add-mul 0 Q C)
 side-minus true false P Q = sym (add-mul P 0 C)
 side-minus true true P Q = sym (add-mul P Q C)
 
-pub grid-range : (s t : Bool) (P Q : ℕ) → SumInRange (plus-of s (P * C) + plus-of t (Q * C)) (minus-of s (P * C) + minus-of t (Q * C)) → GridRange (plus-of s P + plus-of t Q) (minus-of s P + minus-of t Q)
-grid-range s t P Q r = wide (plus-of s P + plus-of t Q) (minus-of s P + minus-of t Q) (subst (λ (z : ℕ). SumInRange z ((minus-of s P + minus-of t Q) * C)) (side-plus s t P Q) (subst (λ (z : ℕ). SumInRange (plus-of s (P * C) + plus-of t (Q * C)) z) (side-minus s t P Q) r))
+pub grid-range : (s t : Bool) (P Q : ℕ) → SumInRange (plus-of s (P * C) + plus-of t (Q * C)) (minus-of s (P * C) + minus-of t (Q * C))
+    → GridRange (plus-of s P + plus-of t Q) (minus-of s P + minus-of t Q)
+grid-range s t P Q r = wide (plus-of s P + plus-of t Q) (minus-of s P + minus-of t Q)
+    (subst (λ (z : ℕ). SumInRange z ((minus-of s P + minus-of t Q) * C)) (side-plus s t P Q)
+    (subst (λ (z : ℕ). SumInRange (plus-of s (P * C) + plus-of t (Q * C)) z) (side-minus s t P Q) r))

@@ -54,16 +54,21 @@ twice-far c X Y h k l = lt-of-le-of-lt (big c X Y h k l) more
     more : 2 ^ 51 * L + L < 2 ^ 2098
     more = far2
 
-pub left-off : (x : Float) (s : Bool) (X A : ℕ) → HasValue x s X L → Whole (nearestInt x) s X A → X < 2 ^ 50 * L → Val (rest x) (plus-of s X + minus-of s A * L) (minus-of s X + plus-of s A * L) L
+pub left-off : (x : Float) (s : Bool) (X A : ℕ) → HasValue x s X L → Whole (nearestInt x) s X A → X < 2 ^ 50 * L
+    → Val (rest x) (plus-of s X + minus-of s A * L) (minus-of s X + plus-of s A * L) L
 unfolding rest
 left-off x s X A v w h =
     let r = sub-rounds binary64 L-pos (has-val x s X L v) (whole-val L w) in
     let e = scale-side s A L in
-    let q = rep-of s (r .sign) (r .size) X (A * L) (subst (λ (z : ℕ). Signed (r .sign) (r .size) (plus-of s X + z) (minus-of s X + plus-of s (A * L))) (e .1) (subst (λ (z : ℕ). Signed (r .sign) (r .size) (plus-of s X + minus-of s A * L) (minus-of s X + z)) (e .0) (r .is))) (w .numbers .less h) (w .numbers .more h) in
+    let q = rep-of s (r .sign) (r .size) X (A * L)
+    (subst (λ (z : ℕ). Signed (r .sign) (r .size) (plus-of s X + z) (minus-of s X + plus-of s (A * L))) (e .1)
+    (subst (λ (z : ℕ). Signed (r .sign) (r .size) (plus-of s X + minus-of s A * L) (minus-of s X + z)) (e .0) (r .is))) (w .numbers .less h)
+    (w .numbers .more h) in
     rounds-rep r (q .0) (twice-far (r .size) X (A * L) (q .1) h (w .numbers .high))
 
 -- what is left is at most 5/8 in size
-pub off-size : (s : Bool) (X A : ℕ) → Numbers X A → X < 2 ^ 50 * L → (8 * (minus-of s X + plus-of s A * L) ≤ 8 * (plus-of s X + minus-of s A * L) + 5 * L) × (8 * (plus-of s X + minus-of s A * L) ≤ 8 * (minus-of s X + plus-of s A * L) + 5 * L)
+pub off-size : (s : Bool) (X A : ℕ) → Numbers X A → X < 2 ^ 50 * L → (8 * (minus-of s X + plus-of s A * L) ≤ 8 * (plus-of s X + minus-of s A * L) + 5 * L)
+    × (8 * (plus-of s X + minus-of s A * L) ≤ 8 * (minus-of s X + plus-of s A * L) + 5 * L)
 off-size false X A w h = (omega (arith, w .tight h, zero-mul L), omega (arith, w .low, H-L, zero-mul L))
 off-size true X A w h = (omega (arith, w .low, H-L, zero-mul L), omega (arith, w .tight h, zero-mul L))
 
@@ -90,7 +95,8 @@ grid-numbers Y A w =
     lift : Y < 2 ^ 50 * S → Y * C < 2 ^ 50 * 2 ^ 1074
     lift h = mul-lt-mul-of-pos-right h (pow-pos 1022)
 
-pub left-grid : (x : Float) (s : Bool) (X Y A : ℕ) → HasValue x s Y S → Whole (nearestInt x) s X A → GridNumbers Y A → Val (rest x) (plus-of s Y + minus-of s A * S) (minus-of s Y + plus-of s A * S) S
+pub left-grid : (x : Float) (s : Bool) (X Y A : ℕ) → HasValue x s Y S → Whole (nearestInt x) s X A → GridNumbers Y A
+    → Val (rest x) (plus-of s Y + minus-of s A * S) (minus-of s Y + plus-of s A * S) S
 unfolding rest
 left-grid x false X Y A v w g = sub-exact 52 (lit≤ tt) (omega (arith, g .low)) (omega (arith, g .high)) (has-val x false Y S v) (whole-val S w)
 left-grid x true X Y A v w g = sub-exact 52 (lit≤ tt) (omega (arith, g .high)) (omega (arith, g .low)) (has-val x true Y S v) (whole-val S w)

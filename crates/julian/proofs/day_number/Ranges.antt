@@ -29,7 +29,8 @@ day-of-range x y fx fy e =
     let o = accepted-pair x y fx fy e in
     let i = o .ints in
     let s = sides 1000000000 68570 (total-is (nearestInt x) (nearestInt y) (o .up) (o .more) (o .down)) (omega (arith, i .high)) (omega (arith, i .low)) in
-    subst InDays (sym (number-is x y (o .up) (o .more) (o .down) (o .carry) (o .again) (o .borrow))) (record { top = omega (arith, s .0); bottom = omega (arith, s .1) })
+    subst InDays (sym (number-is x y (o .up) (o .more) (o .down) (o .carry) (o .again) (o .borrow)))
+    (record { top = omega (arith, s .0); bottom = omega (arith, s .1) })
 
 fraction-of-range : (x y : Float) → T (fits binary64 x) → T (fits binary64 y) → accepted x y ≡ true → InUnit (fractionPassed x y)
 unfolding fractionPassed

@@ -30,7 +30,8 @@ pub record Split (D e : ℕ) (k : Summed) (r : Normalized) (A B : ℕ) : Type 0 
   pub under : A + down * D ≤ units + (B + up * D) + more * D + e
 
 -- the sum is a float of the format
-fit : (u : Bool) (a b : Summed) → T (fits binary64 (a .kahan .sum)) → T (fits binary64 (b .kahan .sum)) → T (fits binary64 (cond {A = Summed} u a b .kahan .sum))
+fit : (u : Bool) (a b : Summed) → T (fits binary64 (a .kahan .sum)) → T (fits binary64 (b .kahan .sum))
+    → T (fits binary64 (cond {A = Summed} u a b .kahan .sum))
 fit true a b h k = h
 fit false a b h k = k
 

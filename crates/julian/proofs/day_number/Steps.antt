@@ -9,7 +9,8 @@ use Rattle.julian.specs.declared.day_number.Kahan.{Kahan}
 use Rattle.julian.specs.declared.day_number.Summed.{Summed}
 use Rattle.julian.specs.declared.day_number.Borrowed.{Borrowed}
 use Rattle.julian.specs.declared.day_number.Carried.{Carried}
-use Rattle.julian.specs.day_number.DayNumber.{c-minus-eps-4, c-minus-eps-2, c-djmin, c-djmax, inJulianRange, compensation, kahanStart, addFraction, sumFractions, carryDay, besideBorrowed, kahanOf, borrowDay, normalizeFraction}
+use Rattle.julian.specs.day_number.DayNumber.{c-minus-eps-4, c-minus-eps-2, c-djmin, c-djmax, inJulianRange, compensation, kahanStart}
+use Rattle.julian.specs.day_number.DayNumber.{addFraction, sumFractions, carryDay, besideBorrowed, kahanOf, borrowDay, normalizeFraction}
 
 pub pick : {A : Type 0} (b : Bool) (x y : A) → b ≡ true → x ≡ cond b x y
 pick b x y e = sym (ap (λ (u : Bool). cond u x y) e)
@@ -39,14 +40,23 @@ module _ (s f t : Float) (r : Bool) (er : r ≡ le (abs f) (abs s)) where
 -- ---- add_fraction
 module _ (c : ℕ) (κ : Kahan) (f l : Float) (el : l ≡ compensation (κ .sum) f (add binary64 (κ .sum) f)) where
   pub added-day : le one (add binary64 (κ .sum) f) ≡ true
-      → _≡_ {A = Summed} (record { carry = c + 1; kahan = record { sum = sub binary64 (add binary64 (κ .sum) f) one; correction = add binary64 (κ .correction) l } }) (addFraction c κ f)
+      → _≡_ {A = Summed} (record {
+        carry = c + 1;
+        kahan =
+            record { sum = sub binary64 (add binary64 (κ .sum) f) one; correction = add binary64 (κ .correction) l };
+      }) (addFraction c κ f)
   unfolding addFraction
   added-day e =
-      ap (λ (z : Float). record { carry = c + 1; kahan = record { sum = sub binary64 (add binary64 (κ .sum) f) one; correction = add binary64 (κ .correction) z } }) el
+      ap (λ (z : Float). record {
+        carry = c + 1;
+        kahan =
+            record { sum = sub binary64 (add binary64 (κ .sum) f) one; correction = add binary64 (κ .correction) z };
+      }) el
       ∙ pick (le one (add binary64 (κ .sum) f)) _ _ e
 
   pub added-none : le one (add binary64 (κ .sum) f) ≡ false
-      → _≡_ {A = Summed} (record { carry = c; kahan = record { sum = add binary64 (κ .sum) f; correction = add binary64 (κ .correction) l } }) (addFraction c κ f)
+      → _≡_ {A = Summed} (record { carry = c; kahan = record { sum = add binary64 (κ .sum) f; correction = add binary64 (κ .correction) l } })
+      (addFraction c κ f)
   unfolding addFraction
   added-none e =
       ap (λ (z : Float). record { carry = c; kahan = record { sum = add binary64 (κ .sum) f; correction = add binary64 (κ .correction) z } }) el
@@ -74,17 +84,22 @@ module _ (κ : Kahan) (z : Float) where
   unfolding carryDay
   carry-none e = pick (lt (sub binary64 z one) c-minus-eps-4) _ _ e
 
-  pub carry-over : lt (sub binary64 z one) c-minus-eps-4 ≡ false → lt c-minus-eps-2 left ≡ true → lt nought left ≡ true → _≡_ {A = Carried} (record { carry = 1; fraction = left }) (carryDay κ z)
+  pub carry-over : lt (sub binary64 z one) c-minus-eps-4 ≡ false → lt c-minus-eps-2 left ≡ true → lt nought left ≡ true
+      → _≡_ {A = Carried} (record { carry = 1; fraction = left }) (carryDay κ z)
   unfolding carryDay
   carry-over e f g =
-      ap (λ (w : Float). record { carry = 1; fraction = w }) (pick (lt nought left) left nought g) ∙ pick (lt c-minus-eps-2 left) _ _ f ∙ skip (lt (sub binary64 z one) c-minus-eps-4) _ _ e
+      ap (λ (w : Float). record { carry = 1; fraction = w }) (pick (lt nought left) left nought g) ∙ pick (lt c-minus-eps-2 left) _ _ f
+      ∙ skip (lt (sub binary64 z one) c-minus-eps-4) _ _ e
 
-  pub carry-zero : lt (sub binary64 z one) c-minus-eps-4 ≡ false → lt c-minus-eps-2 left ≡ true → lt nought left ≡ false → _≡_ {A = Carried} (record { carry = 1; fraction = nought }) (carryDay κ z)
+  pub carry-zero : lt (sub binary64 z one) c-minus-eps-4 ≡ false → lt c-minus-eps-2 left ≡ true → lt nought left ≡ false
+      → _≡_ {A = Carried} (record { carry = 1; fraction = nought }) (carryDay κ z)
   unfolding carryDay
   carry-zero e f g =
-      ap (λ (w : Float). record { carry = 1; fraction = w }) (skip (lt nought left) left nought g) ∙ pick (lt c-minus-eps-2 left) _ _ f ∙ skip (lt (sub binary64 z one) c-minus-eps-4) _ _ e
+      ap (λ (w : Float). record { carry = 1; fraction = w }) (skip (lt nought left) left nought g) ∙ pick (lt c-minus-eps-2 left) _ _ f
+      ∙ skip (lt (sub binary64 z one) c-minus-eps-4) _ _ e
 
-  pub carry-under : lt (sub binary64 z one) c-minus-eps-4 ≡ false → lt c-minus-eps-2 left ≡ false → _≡_ {A = Carried} (record { carry = 0; fraction = left }) (carryDay κ z)
+  pub carry-under : lt (sub binary64 z one) c-minus-eps-4 ≡ false → lt c-minus-eps-2 left ≡ false
+      → _≡_ {A = Carried} (record { carry = 0; fraction = left }) (carryDay κ z)
   unfolding carryDay
   carry-under e f = skip (lt c-minus-eps-2 left) _ _ f ∙ skip (lt (sub binary64 z one) c-minus-eps-4) _ _ e
 
@@ -93,10 +108,12 @@ module _ (κ : Kahan) where
   abbrev pub fraction : Float
   fraction = add binary64 (κ .sum) (κ .correction)
 
-  pub borrowed : lt fraction nought ≡ true → (b : Borrowed) → b ≡ borrowDay (kahanOf (κ .sum) fraction) → (r : Carried) → r ≡ carryDay (b .kahan) (b .fraction) → besideBorrowed (b .borrow) r ≡ normalizeFraction κ
+  pub borrowed : lt fraction nought ≡ true → (b : Borrowed) → b ≡ borrowDay (kahanOf (κ .sum) fraction) → (r : Carried)
+      → r ≡ carryDay (b .kahan) (b .fraction) → besideBorrowed (b .borrow) r ≡ normalizeFraction κ
   unfolding normalizeFraction
   borrowed e b eb r er =
-      ap (besideBorrowed (b .borrow)) er ∙ ap (λ (w : Borrowed). besideBorrowed (w .borrow) (carryDay (w .kahan) (w .fraction))) eb ∙ pick (lt fraction nought) _ _ e
+      ap (besideBorrowed (b .borrow)) er ∙ ap (λ (w : Borrowed). besideBorrowed (w .borrow) (carryDay (w .kahan) (w .fraction))) eb
+      ∙ pick (lt fraction nought) _ _ e
 
   pub unborrowed : lt fraction nought ≡ false → (r : Carried) → r ≡ carryDay (kahanOf (κ .sum) fraction) fraction → besideBorrowed 0 r ≡ normalizeFraction κ
   unfolding normalizeFraction

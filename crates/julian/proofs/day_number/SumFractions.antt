@@ -1,5 +1,5 @@
--- The sum of the two fractions from 1/2, in units of 1 / D, where each sum is off by h units at most: the days carried, and where the sum and its correction then
--- lie. Assumes nothing.
+-- The sum of the two fractions from 1/2, in units of 1 / D, where each sum is off by h units at most: the days carried, and where the sum and its correction
+-- then lie. Assumes nothing.
 use mathlib.Core.Path.{_≡_, refl, sym, ap, _∙_}
 use mathlib.Core.Bool.{Bool, true, false, cond}
 use Prim.Native.Nat.{ℕ, zero, suc, _+_, _*_, _≤_, _<_}
@@ -32,11 +32,15 @@ module _ (D h : ℕ) (adds : Adds D h) (dpos : 0 < D) (one-val : Val one D 0 D) 
   lost s f t A B Q M e a v c he h1 h2 h3 h4 = go (le (abs f) (abs s))
     where
       go : (b : Bool) → ValClose D (cond b (add binary64 (sub binary64 s t) f) (add binary64 (sub binary64 f t) s)) 0 0 (2 * e + 3 * h)
-      go true = close-move (close-add D h adds (close-sub D h adds a c (omega arith) (omega arith)) (exactly v) (omega arith) (omega arith)) (omega arith) (omega arith)
-      go false = close-move (close-add D h adds (close-sub D h adds (exactly v) c (omega arith) (omega arith)) a (omega arith) (omega arith)) (omega arith) (omega arith)
+      go true = close-move (close-add D h adds (close-sub D h adds a c (omega arith) (omega arith)) (exactly v) (omega arith) (omega arith)) (omega arith)
+          (omega arith)
+      go false = close-move (close-add D h adds (close-sub D h adds (exactly v) c (omega arith) (omega arith)) a (omega arith) (omega arith)) (omega arith)
+          (omega arith)
 
-  settle : (u : Bool) (x y : Float) (c A B e ek : ℕ) → le one x ≡ u → ValClose D x A B (e + h) → ValClose D y 0 0 (ek + 2 * e + 4 * h) → e ≤ 2 * h → A + 8 * h < B + 2 * D + 8 * h → B ≤ A + 2 * D
-      → Stage D h (cond u (record { carry = c + 1; kahan = record { sum = sub binary64 x one; correction = y } }) (record { carry = c; kahan = record { sum = x; correction = y } })) c A B e ek
+  settle : (u : Bool) (x y : Float) (c A B e ek : ℕ) → le one x ≡ u → ValClose D x A B (e + h) → ValClose D y 0 0 (ek + 2 * e + 4 * h) → e ≤ 2 * h
+      → A + 8 * h < B + 2 * D + 8 * h → B ≤ A + 2 * D
+      → Stage D h (cond u (record { carry = c + 1; kahan = record { sum = sub binary64 x one; correction = y } })
+      (record { carry = c; kahan = record { sum = x; correction = y } })) c A B e ek
   settle true x y c A B e ek test t r he h1 h2 =
       let w : D + t .n ≤ t .p + 0 = le-true dpos one-val (t .val) test in
       let z : B + D ≤ A + (e + h) = omega (arith, t .over, w) in
@@ -70,10 +74,12 @@ module _ (D h : ℕ) (adds : Adds D h) (dpos : 0 < D) (one-val : Val one D 0 D) 
   unfolding addFraction
   stage c κ f A B Q M e ek a b v he hk h1 h2 h3 h4 =
       let s = κ .sum in
-      let t : ValClose D (add binary64 s f) (A + Q) (B + M) (e + h) = close-move (close-add D h adds a (exactly v) (omega arith) (omega arith)) refl (omega arith) in
+      let t : ValClose D (add binary64 s f) (A + Q) (B + M) (e + h) =
+      close-move (close-add D h adds a (exactly v) (omega arith) (omega arith)) refl (omega arith) in
       let l = lost s f (add binary64 s f) A B Q M e a v t he h1 h2 (omega arith) h4 in
       let r = close-add D h adds b l (omega arith) (omega arith) in
-      settle (le one (add binary64 s f)) (add binary64 s f) (add binary64 (κ .correction) (compensation s f (add binary64 s f))) c (A + Q) (B + M) e ek refl t (close-move r refl (omega arith)) he (omega arith) (omega arith)
+      settle (le one (add binary64 s f)) (add binary64 s f) (add binary64 (κ .correction) (compensation s f (add binary64 s f))) c (A + Q) (B + M) e ek refl t
+      (close-move r refl (omega arith)) he (omega arith) (omega arith)
 
 -- both fractions: `up` days are carried
 pub record Both (D h : ℕ) (k : Summed) (A B : ℕ) : Type 0 where
@@ -85,18 +91,21 @@ pub record Both (D h : ℕ) (k : Summed) (A B : ℕ) : Type 0 where
   pub high : A < B + up * D + D + 3 * h
   pub low : B + up * D + 60 * h ≤ A + D
 
-module _ (D H h : ℕ) (adds : Adds D h) (dpos : 0 < D) (two : D ≡ 2 * H) (one-val : Val one D 0 D) (half-val : Val half H 0 D) (nought-val : Val nought 0 0 D) (hs : 1024 * h ≤ D)
+module _ (D H h : ℕ) (adds : Adds D h) (dpos : 0 < D) (two : D ≡ 2 * H) (one-val : Val one D 0 D) (half-val : Val half H 0 D) (nought-val : Val nought 0 0 D)
+    (hs : 1024 * h ≤ D)
     (f g : Float) (P N Q M : ℕ) (vf : Val f P N D) (vg : Val g Q M D)
     (f1 : N ≤ P + D) (f2 : P + 64 * h ≤ N + D) (g1 : M + 64 * h ≤ Q + D) (g2 : Q + 64 * h ≤ M + D) (fg : 2 * (N + M) + 128 * h ≤ 2 * (P + Q) + 3 * D) where
   pub first : Stage D h (addFraction 0 kahanStart f) 0 (H + P) (0 + N) 0 0
-  first = stage D h adds dpos one-val (omega arith) 0 kahanStart f H 0 P N 0 0 (exactly half-val) (exactly nought-val) vf (omega arith) (omega arith) (omega arith) (omega arith) (omega arith) (omega arith)
+  first = stage D h adds dpos one-val (omega arith) 0 kahanStart f H 0 P N 0 0 (exactly half-val) (exactly nought-val) vf (omega arith) (omega arith)
+      (omega arith) (omega arith) (omega arith) (omega arith)
 
   pub both : Both D h (sumFractions f g) (H + P + Q) (N + M)
   unfolding sumFractions
   both =
       let a = first in
       let k = addFraction 0 kahanStart f in
-      let b = stage D h adds dpos one-val (omega arith) (k .carry) (k .kahan) g (H + P) (0 + N + a .up * D) Q M (0 + 2 * h) (0 + 2 * 0 + 4 * h) (a .sum) (a .correction) vg
+      let b = stage D h adds dpos one-val (omega arith) (k .carry) (k .kahan) g (H + P) (0 + N + a .up * D) Q M (0 + 2 * h) (0 + 2 * 0 + 4 * h) (a .sum)
+      (a .correction) vg
       (omega arith) (omega arith) (upper (a .up * D) (a .high)) (lower (a .up) (a .few) (a .reach)) (omega arith) (omega arith) in
       record {
         up = a .up + b .up;
@@ -124,7 +133,8 @@ module _ (D H h : ℕ) (adds : Adds D h) (dpos : 0 < D) (two : D ≡ 2 * H) (one
       below : (u v : ℕ) → H + P + Q < 0 + N + u * D + M + v * D + D + (0 + 2 * h + h) → H + P + Q < N + M + (u + v) * D + D + 3 * h
       below u v l = simp add-mul (omega arith)
 
-      above : (u v : ℕ) → u ≤ 1 → v ≤ 1 → (1 ≤ u → 0 + N + u * D ≤ H + P + (0 + h)) → (1 ≤ v → 0 + N + u * D + M + v * D ≤ H + P + Q + (0 + 2 * h + h)) → N + M + (u + v) * D + 60 * h ≤ H + P + Q + D
+      above : (u v : ℕ) → u ≤ 1 → v ≤ 1 → (1 ≤ u → 0 + N + u * D ≤ H + P + (0 + h)) → (1 ≤ v → 0 + N + u * D + M + v * D ≤ H + P + Q + (0 + 2 * h + h))
+          → N + M + (u + v) * D + 60 * h ≤ H + P + Q + D
       above u (suc v) l m r q = let z : 0 + N + u * D + M + suc v * D ≤ H + P + Q + (0 + 2 * h + h) = q (omega arith) in simp add-mul (omega arith)
       above zero zero l m r q = omega arith
       above (suc u) zero l m r q = let z : 0 + N + suc u * D ≤ H + P + (0 + h) = r (omega arith) in simp add-mul (omega arith)

@@ -58,7 +58,8 @@ module _ (a b : ℤ) (u m d : ℕ) (h : Sums a b u m d) where
       ∙ ap (λ (z : ℤ). a +ℤ b +ℤ pos u +ℤ R z) e3 ∙ ap (λ (z : ℤ). a +ℤ b +ℤ pos u +ℤ z) (toZ-ofZ w64 (pos m -ℤ pos d) s3)
 
   pub s4 : SFits w64 (a +ℤ b +ℤ pos u +ℤ (pos m -ℤ pos d))
-  s4 = within (int-add (int-add (int-add (int-own a) (int-own b)) (int-own (pos u))) (int-sub (int-own (pos m)) (int-own (pos d)))) (omega (arith, h .high)) (omega (arith, h .low))
+  s4 = within (int-add (int-add (int-add (int-own a) (int-own b)) (int-own (pos u))) (int-sub (int-own (pos m)) (int-own (pos d)))) (omega (arith, h .high))
+      (omega (arith, h .low))
 
   pub fits-1 : SFits w64 (R a +ℤ R b)
   fits-1 = subst (SFits w64) (sym e1) s1

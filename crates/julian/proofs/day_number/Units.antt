@@ -1,5 +1,5 @@
--- The units that the proofs count in, and the constants of the code in them. In units of 2 ^ -1074 day, 1.0 is L; in units of 2 ^ -53 it is G, and of 2 ^ -52, the
--- grid's, it is S. Assumes nothing.
+-- The units that the proofs count in, and the constants of the code in them. In units of 2 ^ -1074 day, 1.0 is L; in units of 2 ^ -53 it is G, and of 2 ^ -52,
+-- the grid's, it is S. Assumes nothing.
 use mathlib.Core.Path.{_≡_, refl}
 use mathlib.Core.Bool.{true, false}
 use Prim.Native.Nat.{ℕ, _*_, _^_, _≤_, _<_}

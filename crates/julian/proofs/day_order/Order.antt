@@ -1,5 +1,5 @@
--- The calendar keeps the order: of two dates with one first part, a whole number of half days, and second parts of at most a day, the one with the larger second part has no earlier day and
--- fraction, to the last bit. Assumes nothing.
+-- The calendar keeps the order: of two dates with one first part, a whole number of half days, and second parts of at most a day, the one with the larger
+-- second part has no earlier day and fraction, to the last bit. Assumes nothing.
 use mathlib.Core.Path.{_≡_, sym, ap, _∙_, subst, subst₂}
 use mathlib.Core.Bool.{Bool, true, false, not}
 use Prim.Native.Nat.{ℕ, _+_, _*_, _≤_, _<_}
@@ -73,7 +73,8 @@ module _ {a b b' : Float} {p n p' n' : ℕ} (x : Place a b p n) (y : Place a b' 
   -- one whole number: the rounding keeps the order
   same : x .tp + y .tn ≡ y .tp + x .tn → InTurn
   same e =
-      let m : T (le (x .z) (y .z)) = rounds-mono L-pos L-pos (scaled _ _ _ _ (sums (x .tp * L) (y .tp * L) (x .tn * L) (y .tn * L) q)) (x .rounds) (y .rounds) in
+      let m : T (le (x .z) (y .z)) = rounds-mono L-pos L-pos (scaled _ _ _ _ (sums (x .tp * L) (y .tp * L) (x .tn * L) (y .tn * L) q)) (x .rounds)
+      (y .rounds) in
       last (x .zp) (x .zn) (y .zp) (y .zn) (x .tp * L) (y .tp * L) (x .tn * L) (y .tn * L) q (le-says L-pos (x .z-val) (y .z-val) m)
     where
       q : x .tp * L + y .tn * L ≡ y .tp * L + x .tn * L
@@ -96,7 +97,8 @@ module _ {a b b' : Float} {p n p' n' : ℕ} (x : Place a b p n) (y : Place a b' 
 
   -- a whole number between the two
   earlier : x .tp + y .tn < y .tp + x .tn → InTurn
-  earlier l = last (x .zp) (x .zn) (y .zp) (y .zn) (x .tp * L) (y .tp * L) (x .tn * L) (y .tn * L) (subst₂ (λ (i j : ℕ). i + L ≤ j) (add-mul (x .tp) (y .tn) L) (add-mul (y .tp) (x .tn) L) (by-one _ _ l)) (u .high) (v .low)
+  earlier l = last (x .zp) (x .zn) (y .zp) (y .zn) (x .tp * L) (y .tp * L) (x .tn * L) (y .tn * L)
+      (subst₂ (λ (i j : ℕ). i + L ≤ j) (add-mul (x .tp) (y .tn) L) (add-mul (y .tp) (x .tn) L) (by-one _ _ l)) (u .high) (v .low)
     where
       last : (zp zn zp' zn' i i' j j' : ℕ) → i + j' + L ≤ i' + j → zp ≤ zn + L → zn' ≤ zp' → zp + i + (zn' + j') ≤ zp' + i' + (zn + j)
       last zp zn zp' zn' i i' j j' e l m = omega arith
@@ -105,7 +107,9 @@ module _ {a b b' : Float} {p n p' n' : ℕ} (x : Place a b p n) (y : Place a b' 
   later : y .tp + x .tn < x .tp + y .tn → InTurn
   later l =
       let q = subst₂ (λ (i j : ℕ). i + L ≤ j) (add-mul (y .tp) (x .tn) L) (add-mul (x .tp) (y .tn) L) (by-one _ _ l) in
-      last (x .zp) (x .zn) (y .zp) (y .zn) (x .tp * L) (y .tp * L) (x .tn * L) (y .tn * L) (x .low) (y .high) (u .none (none (x .tp * L) (y .tp * L) (x .tn * L) (y .tn * L) q (y .high))) (v .whole (whole (x .tp * L) (y .tp * L) (x .tn * L) (y .tn * L) q (x .low)))
+      last (x .zp) (x .zn) (y .zp) (y .zn) (x .tp * L) (y .tp * L) (x .tn * L) (y .tn * L) (x .low) (y .high)
+      (u .none (none (x .tp * L) (y .tp * L) (x .tn * L) (y .tn * L) q (y .high)))
+      (v .whole (whole (x .tp * L) (y .tp * L) (x .tn * L) (y .tn * L) q (x .low)))
     where
       none : (i i' j j' : ℕ) → i' + j + L ≤ i + j' → p' + H + j' ≤ n' + i' + L → p + H + j ≤ n + i
       none i i' j j' q k = omega arith
@@ -122,7 +126,8 @@ module _ {a b b' : Float} {p n p' n' : ℕ} (x : Place a b p n) (y : Place a b' 
       equal : (i j : ℕ) → i ≤ j → j ≤ i → i ≡ j
       equal i j k l = omega arith
 
-      go : (c : Bool) → (T c → x .tp + y .tn ≤ y .tp + x .tn) → (T (not c) → y .tp + x .tn < x .tp + y .tn) → (e : Bool) → (T e → y .tp + x .tn ≤ x .tp + y .tn) → (T (not e) → x .tp + y .tn < y .tp + x .tn) → InTurn
+      go : (c : Bool) → (T c → x .tp + y .tn ≤ y .tp + x .tn) → (T (not c) → y .tp + x .tn < x .tp + y .tn) → (e : Bool)
+          → (T e → y .tp + x .tn ≤ x .tp + y .tn) → (T (not e) → x .tp + y .tn < y .tp + x .tn) → InTurn
       go true f g true k l = same (equal _ _ (f tt) (k tt))
       go true f g false k l = earlier (l tt)
       go false f g e k l = later (g tt)
@@ -134,7 +139,8 @@ module _ {a b b' : Float} {p n p' n' : ℕ} (x : Place a b p n) (y : Place a b' 
       go d e d' e' w w' A B A' B' q r l = omega arith
 
 -- ---- THE THEOREM
-pub calendar-order : (a b b' : Float) → WholeHalves a → T (fits binary64 b) → T (fits binary64 b') → T (le (abs b) one) → T (le (abs b') one) → T (le b b') → (d d' : DayNumber) → dayNumberAndFraction a b ≡ answer d → dayNumberAndFraction a b' ≡ answer d' → NoLater d d'
+pub calendar-order : (a b b' : Float) → WholeHalves a → T (fits binary64 b) → T (fits binary64 b') → T (le (abs b) one) → T (le (abs b') one) → T (le b b')
+    → (d d' : DayNumber) → dayNumberAndFraction a b ≡ answer d → dayNumberAndFraction a b' ≡ answer d' → NoLater d d'
 unfolding dayOf
 calendar-order a b b' w fb fb' sb sb' l d d' e e' =
     let g = answer-is a b d e in

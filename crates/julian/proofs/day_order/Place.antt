@@ -1,5 +1,5 @@
--- The day and the fraction of a date whose first part is a whole number of half days and whose second is at most a day: T + RN (G - T), with G the exact sum plus one half, and T a whole number.
--- Assumes nothing.
+-- The day and the fraction of a date whose first part is a whole number of half days and whose second is at most a day: T + RN (G - T), with G the exact sum
+-- plus one half, and T a whole number. Assumes nothing.
 use mathlib.Core.Path.{_≡_, refl, sym, ap, _∙_, subst}
 use mathlib.Core.Logic.{_⊎_, inl, inr}
 use mathlib.Core.Bool.{Bool, true, false, not, cond}
@@ -59,8 +59,10 @@ three u v P N e k l = go (leb u v) (leb→le u v) (nleb→lt u v) (leb v u) (leb
     go true f g false h i = let q : v * H ≡ u * H + H = times v u (omega (arith, i tt)) in inr (inr (omega arith))
 
 -- the whole number A beside k half days, i - j of them
-first-left : (P N i j x y : ℕ) → P + (j + 2 * y) * H ≡ N + (i + 2 * x) * H → 8 * N ≤ 8 * P + 5 * L → 8 * P ≤ 8 * N + 5 * L → (P ≡ N) ⊎ ((P ≡ N + H) ⊎ (N ≡ P + H))
-first-left P N i j x y e k l = three (i + 2 * x) (j + 2 * y) P N e (less (i + 2 * x) (j + 2 * y) (by (i + 2 * x) (j + 2 * y) P N e k)) (less (j + 2 * y) (i + 2 * x) (by (j + 2 * y) (i + 2 * x) N P (sym e) l))
+first-left : (P N i j x y : ℕ) → P + (j + 2 * y) * H ≡ N + (i + 2 * x) * H → 8 * N ≤ 8 * P + 5 * L → 8 * P ≤ 8 * N + 5 * L → (P ≡ N)
+    ⊎ ((P ≡ N + H) ⊎ (N ≡ P + H))
+first-left P N i j x y e k l = three (i + 2 * x) (j + 2 * y) P N e (less (i + 2 * x) (j + 2 * y) (by (i + 2 * x) (j + 2 * y) P N e k))
+    (less (j + 2 * y) (i + 2 * x) (by (j + 2 * y) (i + 2 * x) N P (sym e) l))
   where
     less : (u v : ℕ) → v < u + 2 → v ≤ u + 1
     less u v h = omega arith
@@ -69,14 +71,16 @@ first-left P N i j x y e k l = three (i + 2 * x) (j + 2 * y) P N e (less (i + 2 
     by u v P N e k = lt-of-mul-lt-mul-right H (simp add-mul (omega (arith, H-L, H-pos)))
 
 first-of : (a : Float) (w : WholeHalves a) (s : Bool) (X A : ℕ) → HasValue a s X L → Whole (nearestInt a) s X A → X < 2 ^ 50 * L
-    → (plus-of s X + minus-of s A * L ≡ minus-of s X + plus-of s A * L) ⊎ ((plus-of s X + minus-of s A * L ≡ minus-of s X + plus-of s A * L + H) ⊎ (minus-of s X + plus-of s A * L ≡ plus-of s X + minus-of s A * L + H))
+    → (plus-of s X + minus-of s A * L ≡ minus-of s X + plus-of s A * L)
+    ⊎ ((plus-of s X + minus-of s A * L ≡ minus-of s X + plus-of s A * L + H) ⊎ (minus-of s X + plus-of s A * L ≡ plus-of s X + minus-of s A * L + H))
 first-of a w s X A v k h =
     let i = plusZ (w .halves) in
     let j = minusZ (w .halves) in
     let u : Val a (i * H) (j * H) L = subst (λ (d : ℕ). Val a (i * H) (j * H) d) (sym H-L) (val-scale H (w .val)) in
     let e = val-unique (has-val a s X L v) u in
     let z = off-size s X A (k .numbers) h in
-    first-left (plus-of s X + minus-of s A * L) (minus-of s X + plus-of s A * L) i j (minus-of s A) (plus-of s A) (shift (plus-of s X) (minus-of s X) i j (minus-of s A) (plus-of s A) e) (z .0) (z .1)
+    first-left (plus-of s X + minus-of s A * L) (minus-of s X + plus-of s A * L) i j (minus-of s A) (plus-of s A)
+    (shift (plus-of s X) (minus-of s X) i j (minus-of s A) (plus-of s A) e) (z .0) (z .1)
   where
     twice : (x : ℕ) → x * L ≡ 2 * (x * H)
     twice x = ap (λ (l : ℕ). x * l) H-L ∙ sym (mul-assoc x 2 H) ∙ ap (λ (l : ℕ). l * H) (mul-comm x 2) ∙ mul-assoc 2 x H
@@ -113,7 +117,8 @@ second-of b t Y B v k h = go (lt (abs b) half) refl _ (k .val)
         one-of B (omega arith) (k .numbers .high) (k .numbers .tight (omega (arith, L-pos)))
 
 -- what is left of it is at most a half in size
-second-size : (t : Bool) (Y B : ℕ) → Numbers Y B → B * L ≤ Y + H → (minus-of t Y + plus-of t B * L ≤ plus-of t Y + minus-of t B * L + H) × (plus-of t Y + minus-of t B * L ≤ minus-of t Y + plus-of t B * L + H)
+second-size : (t : Bool) (Y B : ℕ) → Numbers Y B → B * L ≤ Y + H → (minus-of t Y + plus-of t B * L ≤ plus-of t Y + minus-of t B * L + H)
+    × (plus-of t Y + minus-of t B * L ≤ minus-of t Y + plus-of t B * L + H)
 second-size false Y B k h = (omega (arith, zero-mul L), omega (arith, k .low, zero-mul L))
 second-size true Y B k h = (omega (arith, k .low, zero-mul L), omega (arith, zero-mul L))
 
@@ -137,16 +142,21 @@ first-size true false X Y h r = under X Y 548557 h (omega (arith, r .low)) (lit�
 first-size true true X Y h r = under X Y 548557 h (omega (arith, r .low)) (lit≤ tt)
 
 -- ---- the day and the fraction
-module _ (a b : Float) (w : WholeHalves a) (fb : T (fits binary64 b)) (sb : T (le (abs b) one)) (acc : accepted a b ≡ true) (p n q m : ℕ) (va : Val a p n L) (vb : Val b q m L) where
-  days : (d : ℤ) (up more down pA mA pB mB : ℕ) → plusZ d + (mA + mB + 0 + (0 + down)) ≡ minusZ d + (pA + pB + up + (more + 0)) → plusZ d * L + (mA + mB + down) * L ≡ minusZ d * L + ((pA + pB + up) * L + more * L)
+module _ (a b : Float) (w : WholeHalves a) (fb : T (fits binary64 b)) (sb : T (le (abs b) one)) (acc : accepted a b ≡ true) (p n q m : ℕ) (va : Val a p n L)
+    (vb : Val b q m L) where
+  days : (d : ℤ) (up more down pA mA pB mB : ℕ) → plusZ d + (mA + mB + 0 + (0 + down)) ≡ minusZ d + (pA + pB + up + (more + 0))
+      → plusZ d * L + (mA + mB + down) * L ≡ minusZ d * L + ((pA + pB + up) * L + more * L)
   days d up more down pA mA pB mB e =
-      sym (add-mul (plusZ d) (mA + mB + down) L) ∙ ap (λ (z : ℕ). z * L) (plain (plusZ d) (minusZ d) e) ∙ add-mul (minusZ d) (pA + pB + up + more) L ∙ ap (λ (z : ℕ). minusZ d * L + z) (add-mul (pA + pB + up) more L)
+      sym (add-mul (plusZ d) (mA + mB + down) L) ∙ ap (λ (z : ℕ). z * L) (plain (plusZ d) (minusZ d) e) ∙ add-mul (minusZ d) (pA + pB + up + more) L
+      ∙ ap (λ (z : ℕ). minusZ d * L + z) (add-mul (pA + pB + up) more L)
     where
       plain : (g h : ℕ) → g + (mA + mB + 0 + (0 + down)) ≡ h + (pA + pB + up + (more + 0)) → g + (mA + mB + down) ≡ h + (pA + pB + up + more)
       plain g h e = omega arith
 
-  from : (s t : Bool) (X Y A B u : ℕ) → HasValue a s X L → HasValue b t Y L → Whole (nearestInt a) s X A → Whole (nearestInt b) t Y B → X < 2 ^ 50 * L → Y ≤ L → Val (joinedFractions (rest a) (rest b) .fraction) u 0 L
-      → Rounded (rest b) (rest a) (H + (plus-of s X + minus-of s A * L) + (plus-of t Y + minus-of t B * L)) (minus-of s X + plus-of s A * L + (minus-of t Y + plus-of t B * L)) → Place a b (p + q) (n + m)
+  from : (s t : Bool) (X Y A B u : ℕ) → HasValue a s X L → HasValue b t Y L → Whole (nearestInt a) s X A → Whole (nearestInt b) t Y B → X < 2 ^ 50 * L → Y ≤ L
+      → Val (joinedFractions (rest a) (rest b) .fraction) u 0 L
+      → Rounded (rest b) (rest a) (H + (plus-of s X + minus-of s A * L) + (plus-of t Y + minus-of t B * L))
+      (minus-of s X + plus-of s A * L + (minus-of t Y + plus-of t B * L)) → Place a b (p + q) (n + m)
   unfolding dayNumber fractionPassed
   from s t X Y A B u hx hy wx wy kx ky vu o =
       let up = sumFractions (rest a) (rest b) .carry in
@@ -156,7 +166,8 @@ module _ (a b : Float) (w : WholeHalves a) (fb : T (fits binary64 b)) (sb : T (l
       let eb = val-unique (has-val b t Y L hy) vb in
       let fa = few-of X A (wx .numbers .high) kx in
       let fb = few-of Y B (wy .numbers .high) (omega (arith, L-pos)) in
-      let i = sums (plus-of s A) (minus-of s A) (plus-of t B) (minus-of t B) _ _ _ _ (plain-plus s A _ fa (wx .plus)) (plain-minus s A _ fa (wx .minus)) (plain-plus t B _ fb (wy .plus)) (plain-minus t B _ fb (wy .minus)) _ _ up more down (total-is (nearestInt a) (nearestInt b) up more down .is) in
+      let i = sums (plus-of s A) (minus-of s A) (plus-of t B) (minus-of t B) _ _ _ _ (plain-plus s A _ fa (wx .plus)) (plain-minus s A _ fa (wx .minus))
+      (plain-plus t B _ fb (wy .plus)) (plain-minus t B _ fb (wy .minus)) _ _ up more down (total-is (nearestInt a) (nearestInt b) up more down .is) in
       let d = days (total (nearestInt a) (nearestInt b) up more down) up more down (plus-of s A) (minus-of s A) (plus-of t B) (minus-of t B) i in
       let e1 = add-mul (minus-of s A + minus-of t B) down L ∙ ap (λ (z : ℕ). z + down * L) (add-mul (minus-of s A) (minus-of t B) L) in
       let e2 = add-mul (plus-of s A + plus-of t B) up L ∙ ap (λ (z : ℕ). z + up * L) (add-mul (plus-of s A) (plus-of t B) L) in
@@ -165,9 +176,13 @@ module _ (a b : Float) (w : WholeHalves a) (fb : T (fits binary64 b)) (sb : T (l
         tn = minus-of s A + minus-of t B + down;
         units = u;
         z = o .z;
-        rounds = rounds-move (o .rounds) (both (plus-of s X) (minus-of s X) (plus-of t Y) (minus-of t Y) (plus-of s A * L) (minus-of s A * L) (plus-of t B * L) (minus-of t B * L) _ _ (down * L) (up * L) ea eb e1 e2);
-        low = low-of (plus-of s X) (minus-of s X) (plus-of t Y) (minus-of t Y) (plus-of s A * L) (minus-of s A * L) (plus-of t B * L) (minus-of t B * L) _ _ (down * L) (up * L) ea eb e1 e2 (o .low);
-        high = high-of (plus-of s X) (minus-of s X) (plus-of t Y) (minus-of t Y) (plus-of s A * L) (minus-of s A * L) (plus-of t B * L) (minus-of t B * L) _ _ (down * L) (up * L) ea eb e1 e2 (o .high);
+        rounds = rounds-move (o .rounds)
+            (both (plus-of s X) (minus-of s X) (plus-of t Y) (minus-of t Y) (plus-of s A * L) (minus-of s A * L) (plus-of t B * L) (minus-of t B * L) _ _
+            (down * L) (up * L) ea eb e1 e2);
+        low = low-of (plus-of s X) (minus-of s X) (plus-of t Y) (minus-of t Y) (plus-of s A * L) (minus-of s A * L) (plus-of t B * L) (minus-of t B * L) _ _
+            (down * L) (up * L) ea eb e1 e2 (o .low);
+        high = high-of (plus-of s X) (minus-of s X) (plus-of t Y) (minus-of t Y) (plus-of s A * L) (minus-of s A * L) (plus-of t B * L) (minus-of t B * L) _ _
+            (down * L) (up * L) ea eb e1 e2 (o .high);
         zp = o .p;
         zn = o .n;
         z-val = o .val;
@@ -175,16 +190,20 @@ module _ (a b : Float) (w : WholeHalves a) (fb : T (fits binary64 b)) (sb : T (l
         sum = sum-of _ _ _ _ (more * L) (o .p) (o .n) d (val-unique vu (o .left));
       }
     where
-      sums : (pA mA pB mB pA' mA' pB' mB' : ℕ) → pA' ≡ pA → mA' ≡ mA → pB' ≡ pB → mB' ≡ mB → (g h up more down : ℕ) → g + (mA' + mB' + 0 + (0 + down)) ≡ h + (pA' + pB' + up + (more + 0)) → g + (mA + mB + 0 + (0 + down)) ≡ h + (pA + pB + up + (more + 0))
+      sums : (pA mA pB mB pA' mA' pB' mB' : ℕ) → pA' ≡ pA → mA' ≡ mA → pB' ≡ pB → mB' ≡ mB → (g h up more down : ℕ)
+          → g + (mA' + mB' + 0 + (0 + down)) ≡ h + (pA' + pB' + up + (more + 0)) → g + (mA + mB + 0 + (0 + down)) ≡ h + (pA + pB + up + (more + 0))
       sums pA mA pB mB pA' mA' pB' mB' e1 e2 e3 e4 g h up more down e = omega arith
 
-      both : (P N Q M x x' y y' f g k l : ℕ) → P + n ≡ p + N → Q + m ≡ q + M → f ≡ x' + y' + k → g ≡ x + y + l → H + (P + x') + (Q + y') + k + (n + m + g) ≡ p + q + H + f + (N + x + (M + y) + l)
+      both : (P N Q M x x' y y' f g k l : ℕ) → P + n ≡ p + N → Q + m ≡ q + M → f ≡ x' + y' + k → g ≡ x + y + l
+          → H + (P + x') + (Q + y') + k + (n + m + g) ≡ p + q + H + f + (N + x + (M + y) + l)
       both P N Q M x x' y y' f g k l e1 e2 e3 e4 = omega arith
 
-      low-of : (P N Q M x x' y y' f g k l : ℕ) → P + n ≡ p + N → Q + m ≡ q + M → f ≡ x' + y' + k → g ≡ x + y + l → N + x + (M + y) + l ≤ H + (P + x') + (Q + y') + k → n + m + g ≤ p + q + H + f
+      low-of : (P N Q M x x' y y' f g k l : ℕ) → P + n ≡ p + N → Q + m ≡ q + M → f ≡ x' + y' + k → g ≡ x + y + l
+          → N + x + (M + y) + l ≤ H + (P + x') + (Q + y') + k → n + m + g ≤ p + q + H + f
       low-of P N Q M x x' y y' f g k l e1 e2 e3 e4 h = omega arith
 
-      high-of : (P N Q M x x' y y' f g k l : ℕ) → P + n ≡ p + N → Q + m ≡ q + M → f ≡ x' + y' + k → g ≡ x + y + l → H + (P + x') + (Q + y') + k ≤ N + x + (M + y) + l + L → p + q + H + f ≤ n + m + g + L
+      high-of : (P N Q M x x' y y' f g k l : ℕ) → P + n ≡ p + N → Q + m ≡ q + M → f ≡ x' + y' + k → g ≡ x + y + l
+          → H + (P + x') + (Q + y') + k ≤ N + x + (M + y) + l + L → p + q + H + f ≤ n + m + g + L
       high-of P N Q M x x' y y' f g k l e1 e2 e3 e4 h = omega arith
 
       sum-of : (g h f k j x y : ℕ) → g + f ≡ h + (k + j) → u + (y + j) ≡ x + 0 → g + u + (y + f) ≡ h + (x + k)
@@ -201,7 +220,8 @@ module _ (a b : Float) (w : WholeHalves a) (fb : T (fits binary64 b)) (sb : T (l
           let kx = first-size (k .s) (k .t) (k .X) (k .Y) ky r in
           let g = second-size (k .t) (k .Y) (k .B) (k .wy .numbers) (second-of b (k .t) (k .Y) (k .B) (k .vy) (k .wy) ky) in
           from (k .s) (k .t) (k .X) (k .Y) (k .A) (k .B) (o .units) (k .vx) (k .vy) (k .wx) (k .wy) kx ky (o .val)
-          (rounded (rest b) _ _ (rest-fits b) (left-off b (k .t) (k .Y) (k .B) (k .vy) (k .wy) (wide (k .Y) ky)) (g .0) (g .1) (rest a) _ _ (rest-fits a) (left-off a (k .s) (k .X) (k .A) (k .vx) (k .wx) kx) (first-of a w (k .s) (k .X) (k .A) (k .vx) (k .wx) kx))
+          (rounded (rest b) _ _ (rest-fits b) (left-off b (k .t) (k .Y) (k .B) (k .vy) (k .wy) (wide (k .Y) ky)) (g .0) (g .1) (rest a) _ _ (rest-fits a)
+          (left-off a (k .s) (k .X) (k .A) (k .vx) (k .wx) kx) (first-of a w (k .s) (k .X) (k .A) (k .vx) (k .wx) kx))
         where
           small : (Y : ℕ) → Y + 0 ≤ L + 0 → Y ≤ L
           small Y h = omega arith

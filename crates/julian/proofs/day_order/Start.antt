@@ -1,5 +1,5 @@
--- What the two parts leave beside their whole numbers: a first part of whole half days leaves 0 or a half, so that the sum starts exactly at 0 or at a half, and a second part of at most a day leaves
--- at most a half. Assumes nothing.
+-- What the two parts leave beside their whole numbers: a first part of whole half days leaves 0 or a half, so that the sum starts exactly at 0 or at a half,
+-- and a second part of at most a day leaves at most a half. Assumes nothing.
 use mathlib.Core.Path.{_≡_, refl, subst}
 use mathlib.Core.Logic.{_⊎_, inl, inr}
 use mathlib.Core.Bool.{Bool, true, false}
@@ -21,7 +21,18 @@ use Rattle.julian.proofs.day_order.Once.{Once, nought-fits, half-fits, 
 
 -- the same value by another pair
 pub once-move : {u m d : ℕ} {f : Float} {A B A' B' : ℕ} → Once u m d f A B → A + B' ≡ A' + B → Once u m d f A' B'
-once-move {u} {m} {d} {f} {A} {B} {A'} {B'} k e = record { z = k .z; p = k .p; n = k .n; rounds = rounds-move (k .rounds) (omega arith); val = k .val; left = k .left; low = omega (arith, k .low); high = omega (arith, k .high) }
+once-move {u} {m} {d} {f} {A} {B} {A'} {B'} k e =
+    record {
+      z = k .z;
+      p = k .p;
+      n = k .n;
+      rounds = rounds-move (k .rounds) (omega arith);
+      val = k .val;
+      left = k .left;
+      low = omega (arith, k .low);
+      high =
+          omega (arith, k .high);
+    }
 
 -- ---- the floats 0, -0, 1/2 and -1/2
 abbrev minus-nought : Float
@@ -95,9 +106,15 @@ module _ (g : Float) (Q M : ℕ) (fg : T (fits binary64 g)) (vg : Val g Q M L) (
       sized s a k e h = subst (λ (z : ℕ). HasValue f s z L) e h
 
       go : (s : Bool) (a : ℕ) → HasValue f s a L → Signed s a P N → (P ≡ N) ⊎ ((P ≡ N + H) ⊎ (N ≡ P + H)) → Rounded g f (H + P + Q) (N + M)
-      go false a h i (inl e) = by (0 * L + (H + Q)) M (float-unique f nought false 0 L L-pos ff nought-fits (sized false a 0 (omega arith) h) nought-has) (at-half nought (from-zero-of g)) (omega (arith, zero-mul L))
-      go true a h i (inl e) = by (0 * L + (H + Q)) M (float-unique f minus-nought true 0 L L-pos ff minus-nought-fits (sized true a 0 (omega arith) h) minus-nought-has) (at-half minus-nought (from-minus-zero g)) (omega (arith, zero-mul L))
-      go false a h i (inr (inl e)) = by (1 * L + Q) M (float-unique f half false H L L-pos ff half-fits (sized false a H (omega arith) h) half-has) (at-nought 1 half (from-plus-half g)) (omega (arith, one-mul L, H-L))
+      go false a h i (inl e) = by (0 * L + (H + Q)) M (float-unique f nought false 0 L L-pos ff nought-fits (sized false a 0 (omega arith) h) nought-has)
+          (at-half nought (from-zero-of g)) (omega (arith, zero-mul L))
+      go true a h i (inl e) = by (0 * L + (H + Q)) M
+          (float-unique f minus-nought true 0 L L-pos ff minus-nought-fits (sized true a 0 (omega arith) h) minus-nought-has)
+          (at-half minus-nought (from-minus-zero g)) (omega (arith, zero-mul L))
+      go false a h i (inr (inl e)) = by (1 * L + Q) M (float-unique f half false H L L-pos ff half-fits (sized false a H (omega arith) h) half-has)
+          (at-nought 1 half (from-plus-half g)) (omega (arith, one-mul L, H-L))
       go true a h i (inr (inl e)) = let w : ⊥ = omega (arith, H-pos) in absurd w
-      go true a h i (inr (inr e)) = by (0 * L + Q) M (float-unique f minus-half true H L L-pos ff minus-half-fits (sized true a H (omega arith) h) minus-half-has) (at-nought 0 minus-half (from-minus-half g)) (omega (arith, zero-mul L))
+      go true a h i (inr (inr e)) = by (0 * L + Q) M
+          (float-unique f minus-half true H L L-pos ff minus-half-fits (sized true a H (omega arith) h) minus-half-has)
+          (at-nought 0 minus-half (from-minus-half g)) (omega (arith, zero-mul L))
       go false a h i (inr (inr e)) = let w : ⊥ = omega (arith, H-pos) in absurd w

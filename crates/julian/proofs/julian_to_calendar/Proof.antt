@@ -31,10 +31,4 @@ returns-2 c =
 pub julian-to-calendar-spec : {M : Type 1} → statement M
 julian-to-calendar-spec =
     tie.close
-    (tie.spec
-    (λ c κs. search needs)
-    (λ c. search needs)
-    (λ c. search needs)
-    (λ c κs. search needs)
-    returns
-    returns-2)
+    (tie.spec (λ c κs. search needs) (λ c. search needs) (λ c. search needs) (λ c κs. search needs) returns returns-2)

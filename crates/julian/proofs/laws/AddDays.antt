@@ -1,5 +1,5 @@
--- `add_days` is exact where nothing has to be rounded: on dates whose first part is in whole or half days, with a second part and days on the grid of 2^-52 day.
--- Assumes nothing.
+-- `add_days` is exact where nothing has to be rounded: on dates whose first part is in whole or half days, with a second part and days on the grid of 2^-52
+-- day. Assumes nothing.
 use mathlib.Core.Path.{_≡_, refl, sym, subst}
 use Prim.Native.Nat.{ℕ, _+_, _*_, _/_, _%_, _^_, _≤_, _<_}
 use native.Mathlib.Omega.{arith}
@@ -54,14 +54,35 @@ cut-to K {x} {p} {n} {D} most some h k v = go x (v .sign) (v .size) (v .has) (v 
         lower : (x r a : ℕ) → x + r ≡ a → x ≤ a
         lower x r a e = omega arith
 
-        signed : (s : Bool) (c cD r a : ℕ) → HasValue (round binary64 s c 1) s c 1 → cD ≡ c * D → cD + r ≡ a → r < D → c ≤ K → Signed s a p n → CutTo (round binary64 s c 1) p n D K
-        signed false c cD r a w g e l b i = record { tp = c; tn = 0; val = record { sign = false; size = c; has = w; is = omega arith }; over = omega arith; under = omega arith; high = omega arith; low = omega arith }
-        signed true c cD r a w g e l b i = record { tp = 0; tn = c; val = record { sign = true; size = c; has = w; is = omega arith }; over = omega arith; under = omega arith; high = omega arith; low = omega arith }
+        signed : (s : Bool) (c cD r a : ℕ) → HasValue (round binary64 s c 1) s c 1 → cD ≡ c * D → cD + r ≡ a → r < D → c ≤ K → Signed s a p n
+            → CutTo (round binary64 s c 1) p n D K
+        signed false c cD r a w g e l b i =
+            record {
+              tp = c;
+              tn = 0;
+              val = record { sign = false; size = c; has = w; is = omega arith };
+              over = omega arith;
+              under = omega arith;
+              high =
+                  omega arith;
+              low = omega arith;
+            }
+        signed true c cD r a w g e l b i =
+            record {
+              tp = 0;
+              tn = c;
+              val = record { sign = true; size = c; has = w; is = omega arith };
+              over = omega arith;
+              under = omega arith;
+              high =
+                  omega arith;
+              low = omega arith;
+            }
 
 -- ---- the sum
 
--- THE SUM IS EXACT: jd1 in half days, at most 2^51 days in size; jd2 on the grid, at most a day; the days on the grid, at most 2^50. So are whole days added to a
--- midnight or a noon. Every step of the code is then exact, and the answer is worth the date and the days together
+-- THE SUM IS EXACT: jd1 in half days, at most 2^51 days in size; jd2 on the grid, at most a day; the days on the grid, at most 2^50. So are whole days added to
+-- a midnight or a noon. Every step of the code is then exact, and the answer is worth the date and the days together
 module _ (d : JulianDate) (days : Float) (p n q m a b : ℕ) (v1 : Val (d .jd1) p n 2) (h1 : p ≤ n + 2 ^ 52) (l1 : n ≤ p + 2 ^ 52)
     (v2 : Val (d .jd2) q m (2 ^ 52)) (h2 : q ≤ m + 2 ^ 52) (l2 : m ≤ q + 2 ^ 52)
     (v3 : Val days a b (2 ^ 52)) (h3 : a ≤ b + 2 ^ 50 * 2 ^ 52) (l3 : b ≤ a + 2 ^ 50 * 2 ^ 52) where

@@ -1,5 +1,5 @@
--- What `julian_to_calendar` answers: on the grid the date of the exact day and the exact fraction, the same for every division of one date; off it within 2^-51 day;
--- and no refusal but 6. Assumes nothing.
+-- What `julian_to_calendar` answers: on the grid the date of the exact day and the exact fraction, the same for every division of one date; off it within 2^-51
+-- day; and no refusal but 6. Assumes nothing.
 use mathlib.Core.Path.{_≡_, refl, sym, ap, _∙_, subst}
 use Prim.Native.Nat.{ℕ, _+_, _≤_}
 use native.Mathlib.Omega.{arith}
@@ -37,7 +37,8 @@ use Rattle.julian.specs.laws.CalendarAnswers.{FieldsInRange, DateOfDay, 
 
 -- ---- the fields of an answered day, and back
 
-pub fields-of : (x y : Float) (d : DayNumber) → dayNumberAndFraction x y ≡ answer d → julianToCalendar x y ≡ answer (fields (gregorianDate (d .day)) (d .fraction))
+pub fields-of : (x y : Float) (d : DayNumber) → dayNumberAndFraction x y ≡ answer d
+    → julianToCalendar x y ≡ answer (fields (gregorianDate (d .day)) (d .fraction))
 unfolding julianToCalendar onward
 fields-of x y d e = rw e
 
@@ -51,7 +52,8 @@ day-of : (x y : Float) (f : CalendarFields) → julianToCalendar x y ≡ answer 
 unfolding julianToCalendar onward
 day-of x y f e = go (dayNumberAndFraction x y) refl e
   where
-    go : (o : Outcome DayNumber) → dayNumberAndFraction x y ≡ o → onward o (λ n. answer (fields (gregorianDate (n .day)) (n .fraction))) ≡ answer f → DayOf x y f
+    go : (o : Outcome DayNumber) → dayNumberAndFraction x y ≡ o → onward o (λ n. answer (fields (gregorianDate (n .day)) (n .fraction))) ≡ answer f
+        → DayOf x y f
     go (answer d) h k =
         let s : fields (gregorianDate (d .day)) (d .fraction) ≡ f = cc in
         record { day = d; given = h; date = sym (ap (λ (z : CalendarFields). z .date) s); fraction = sym (ap (λ (z : CalendarFields). z .fraction) s) }
@@ -105,20 +107,29 @@ pub exact-date : (x y : Float) → T (fits binary64 x) → T (fits binary64 y) �
 exact-date x y fx fy a b r =
     let s = gridSum a b in
     fields-of x y (exactDayNumber s) (exact x y fx fy a b r)
-    ∙ ap (λ (t : CalendarDate). answer (fields t (fractionOf (exactFraction s)))) (gregorian-is-date-of-day (exactDay s) (not-below (exactDay s) (day-low s r)) (not-above (exactDay s) (day-high s r)))
+    ∙ ap (λ (t : CalendarDate). answer (fields t (fractionOf (exactFraction s))))
+    (gregorian-is-date-of-day (exactDay s) (not-below (exactDay s) (day-low s r)) (not-above (exactDay s) (day-high s r)))
 
 -- all divisions of one date on the grid have one outcome, bit for bit, also where it is refused
-pub one-outcome : (x y x' y' : Float) → T (fits binary64 x) → T (fits binary64 y) → T (fits binary64 x') → T (fits binary64 y') → (a : OnGrid x) (b : OnGrid y) (a' : OnGrid x') (b' : OnGrid y')
+pub one-outcome : (x y x' y' : Float) → T (fits binary64 x) → T (fits binary64 y) → T (fits binary64 x') → T (fits binary64 y')
+    → (a : OnGrid x) (b : OnGrid y) (a' : OnGrid x') (b' : OnGrid y')
     → gridSum a b ≡ gridSum a' b' → julianToCalendar x y ≡ julianToCalendar x' y'
 unfolding julianToCalendar
-one-outcome x y x' y' fx fy fx' fy' a b a' b' e = ap (λ (o : Outcome DayNumber). onward o (λ n. answer (fields (gregorianDate (n .day)) (n .fraction)))) (alike x y x' y' fx fy fx' fy' a b a' b' e)
+one-outcome x y x' y' fx fy fx' fy' a b a' b' e =
+    ap (λ (o : Outcome DayNumber). onward o (λ n. answer (fields (gregorianDate (n .day)) (n .fraction)))) (alike x y x' y' fx fy fx' fy' a b a' b' e)
 
 -- ---- every answer, and how near it is off the grid
 
 pub answered-in-range : (x y : Float) → T (fits binary64 x) → T (fits binary64 y) → (f : CalendarFields) → julianToCalendar x y ≡ answer f → FieldsInRange f
 answered-in-range x y fx fy f e =
     let d = day-of x y f e in
-    record { day = d .day .day; in-days = day-range x y fx fy (d .day) (d .given); date = d .date; fraction = subst InUnit (sym (d .fraction)) (fraction-range x y fx fy (d .day) (d .given)) }
+    record {
+      day = d .day .day;
+      in-days = day-range x y fx fy (d .day) (d .given);
+      date = d .date;
+      fraction =
+          subst InUnit (sym (d .fraction)) (fraction-range x y fx fy (d .day) (d .given));
+    }
 
 lowest-named : DateOfDay (gregorianDate (negsuc 68569)) (negsuc 68569)
 unfolding gregorianDate
@@ -140,12 +151,14 @@ named z r = go (ltZ z (negsuc 68568)) refl
         lowest (pos n) r e = let k : _≡_ {A = Bool} false true = e in let w : _≡_ {A = ℕ} 0 1 = cc in absurd (omega arith)
         lowest (negsuc n) r e = ap negsuc (omega (arith, ltb-true 68568 n e, r .bottom))
 
-pub near-date : (x y : Float) → Under52 x → Under52 y → (i j : ℤ) → Val x (plusZ i) (minusZ i) L → Val y (plusZ j) (minusZ j) L → (f : CalendarFields) → julianToCalendar x y ≡ answer f → NearDate (i +ℤ j) f
+pub near-date : (x y : Float) → Under52 x → Under52 y → (i j : ℤ) → Val x (plusZ i) (minusZ i) L → Val y (plusZ j) (minusZ j) L → (f : CalendarFields)
+    → julianToCalendar x y ≡ answer f → NearDate (i +ℤ j) f
 near-date x y a b i j v w f e =
     let d = day-of x y f e in
     record {
       day = d .day .day;
-      date = subst (λ (t : CalendarDate). DateOfDay t (d .day .day)) (sym (d .date)) (named (d .day .day) (day-range x y (a .held) (b .held) (d .day) (d .given)));
+      date = subst (λ (t : CalendarDate). DateOfDay t (d .day .day)) (sym (d .date))
+          (named (d .day .day) (day-range x y (a .held) (b .held) (d .day) (d .given)));
       near = subst (DayNear (i +ℤ j) (d .day .day)) (sym (d .fraction)) (day-near x y a b i j v w (d .day) (d .given));
     }
 
@@ -160,7 +173,16 @@ day-plus-fraction d s f e =
     let w = val-move (b .val) (same (b .p) (b .n) (plusZ j) (minusZ j) (sub-pair (pos (b .p)) (pos (b .n)))) in
     record {
       sum = i +ℤ j;
-      worth = record { p = plusZ i; n = minusZ i; q = plusZ j; m = minusZ j; first = v; second = w; total = total (plusZ i) (minusZ i) (plusZ j) (minusZ j) (plusZ (i +ℤ j)) (minusZ (i +ℤ j)) (add-pair i j) };
+      worth = record {
+        p = plusZ i;
+        n = minusZ i;
+        q = plusZ j;
+        m = minusZ j;
+        first = v;
+        second = w;
+        total =
+            total (plusZ i) (minusZ i) (plusZ j) (minusZ j) (plusZ (i +ℤ j)) (minusZ (i +ℤ j)) (add-pair i j);
+      };
       near = near-date (d .jd1) (d .jd2) (s .first) (s .second) i j v w f e;
     }
   where

@@ -21,7 +21,8 @@ use Rattle.julian.specs.Calendar.{calendarToJulian, atTime, fromCalendar
 -- ---- refusals of `from_calendar`, which knows no leap second: 60.0; and the date before the time
 
 pub no-leap-second : fromCalendar (pos 2015) 12 31 23 59 (decimal 60 0) ≡ refusal 4
-unfolding fromCalendar atTime calendarToJulian onward mjdOf mjdNumber civilCount validDate daysInMonth leapSize lengths dayFraction timeInDay secondLimit add lt le eq round
+unfolding fromCalendar atTime calendarToJulian onward mjdOf mjdNumber civilCount validDate daysInMonth leapSize lengths dayFraction timeInDay secondLimit add
+    lt le eq round
 no-leap-second = refl
 
 pub date-first : fromCalendar (pos 1900) 2 29 24 0 (decimal 0 0) ≡ refusal 3
@@ -67,12 +68,14 @@ pub minus-zero-kept : addDays (julian minus-zero minus-zero) (neg (decimal 3 1))
 unfolding addDays uncarried
 minus-zero-kept = simp (three-tenths, cut-to-zero, less-zero, more-zero, zeros)
 
--- ---- equality where the parts are not under 2^52: two dates whose two-sum overflows are unequal to themselves (for a NaN, and for sums that are not finite, see NotFinite)
+-- ---- equality where the parts are not under 2^52: two dates whose two-sum overflows are unequal to themselves (for a NaN, and for sums that are not finite,
+-- see NotFinite)
 
 abbrev pub large : ℕ → ℕ → Float
 large n k = round binary64 false (n * 10 ^ k) 1
 
-pub overflow-unequal : equal (julian (large 29937604643020797 276) (neg (large 17976931348623157 292))) (julian (large 29937604643020797 276) (neg (large 17976931348623157 292))) ≡ false
+pub overflow-unequal : equal (julian (large 29937604643020797 276) (neg (large 17976931348623157 292)))
+    (julian (large 29937604643020797 276) (neg (large 17976931348623157 292))) ≡ false
 unfolding equal sums exactSum twoSumError round neg add sub eq
 overflow-unequal = refl
 
@@ -119,7 +122,8 @@ j1900-of-year = refl
 -- ---- 18:45 on 2000-01-01 is 0.78125 of the day, and 45:18 is no time: hour and minute in their order
 
 pub quarter-to-seven : fromCalendar (pos 2000) 1 1 18 45 (decimal 0 0) ≡ answer (julian (decimal 24515445 1) (decimal 78125 5))
-unfolding fromCalendar atTime calendarToJulian roundedSum mjdZeroPoint secondsPerDay onward mjdOf mjdNumber civilCount validDate daysInMonth leapSize lengths dayFraction timeInDay secondLimit ofInt add mul div lt le eq round
+unfolding fromCalendar atTime calendarToJulian roundedSum mjdZeroPoint secondsPerDay onward mjdOf mjdNumber civilCount validDate daysInMonth leapSize lengths
+    dayFraction timeInDay secondLimit ofInt add mul div lt le eq round
 quarter-to-seven = refl
 
 -- ---- the difference is no order: 0.0 for dates that are not equal, as 2^23 + 2^-31 rounds to 2^23
@@ -134,6 +138,7 @@ far-before = fin true 1 (pos 23)
 abbrev pub just-before : Float
 just-before = fin true 1 (negsuc 30)
 
-pub difference-is-no-order : (difference (julian far far-before) (julian just-before (decimal 0 0)) ≡ decimal 0 0) × (equal (julian far far-before) (julian just-before (decimal 0 0)) ≡ false)
+pub difference-is-no-order : (difference (julian far far-before) (julian just-before (decimal 0 0)) ≡ decimal 0 0)
+    × (equal (julian far far-before) (julian just-before (decimal 0 0)) ≡ false)
 unfolding difference equal sums exactSum twoSumError round neg add sub eq
 difference-is-no-order = (refl, refl)

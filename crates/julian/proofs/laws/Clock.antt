@@ -43,12 +43,14 @@ hour-refused hour minute second leap h = rw (lt-leb hour 23 h)
 
 pub minute-refused : (hour minute : ℕ) (second leap : Float) → 60 ≤ minute → dayFraction hour minute second leap ≡ refusal 4
 unfolding dayFraction timeInDay
-minute-refused hour minute second leap h = rw (no-minute (leb hour 23) (leb minute 59) (le nought second && lt second (secondLimit hour minute leap)) (lt-leb minute 59 h))
+minute-refused hour minute second leap h =
+    rw (no-minute (leb hour 23) (leb minute 59) (le nought second && lt second (secondLimit hour minute leap)) (lt-leb minute 59 h))
 
 -- ---- by the cases of the date
 
 module _ (y : ℤ) (m d hour minute : ℕ) (second : Float) where
-  pub on-date : (n : ℤ) → mjdOf y (pos m) (pos d) ≡ answer n → fromCalendar y m d hour minute second ≡ atTime (julian mjdZeroPoint (ofInt binary64 n)) (dayFraction hour minute second nought)
+  pub on-date : (n : ℤ) → mjdOf y (pos m) (pos d) ≡ answer n
+      → fromCalendar y m d hour minute second ≡ atTime (julian mjdZeroPoint (ofInt binary64 n)) (dayFraction hour minute second nought)
   unfolding fromCalendar onward
   on-date n e = rw (midnight-given y (pos m) (pos d) n e)
 
@@ -81,7 +83,8 @@ in-day hour minute second e = go (leb hour 23) refl (leb minute 59) refl (le nou
     test : (b : Bool) → b ≡ true → T b
     test b e = rw e tt
 
-    go : (a : Bool) → leb hour 23 ≡ a → (b : Bool) → leb minute 59 ≡ b → (c : Bool) → le nought second ≡ c → (f : Bool) → lt second (secondLimit hour minute nought) ≡ f → (a && b) && (c && f) ≡ true → InDay hour minute second
+    go : (a : Bool) → leb hour 23 ≡ a → (b : Bool) → leb minute 59 ≡ b → (c : Bool) → le nought second ≡ c → (f : Bool)
+        → lt second (secondLimit hour minute nought) ≡ f → (a && b) && (c && f) ≡ true → InDay hour minute second
     go true p true q true r true s e = record {
       hours = leb-true hour 23 p;
       minutes = leb-true minute 59 q;
@@ -139,7 +142,8 @@ sixty = record { sign = false; size = 60; has = (refl, refl); is = refl }
 
 -- 60 times the minutes, exactly
 minutes-val : (k : ℕ) → k ≤ 1439 → Val (mul binary64 (decimal 60 0) (ofInt binary64 (pos k))) (60 * k) 0 1
-minutes-val k h = val-move (rounds-exact 0 (lit≤ tt) (omega arith) (omega arith) (mul-rounds binary64 (lit< tt) (lit< tt) sixty (ofInt-val (pos k) (omega arith) (omega arith)))) (omega arith)
+minutes-val k h = val-move (rounds-exact 0 (lit≤ tt) (omega arith) (omega arith)
+    (mul-rounds binary64 (lit< tt) (lit< tt) sixty (ofInt-val (pos k) (omega arith) (omega arith)))) (omega arith)
 
 -- K days in units of 2 ^ -90
 units : (K x : ℕ) → x ≤ K * L → x ≤ 0 + K * 2 ^ 90 * U
@@ -149,13 +153,16 @@ units K x h = le-trans h (le-of-eq (ap (λ (z : ℕ). K * z) L-U ∙ sym (mul-as
     go z = omega arith
 
 module _ (hour minute : ℕ) (s : Float) (h : hour ≤ 23) (k : minute ≤ 59) (w : Second s) where
-  time-near : Within 17 (div binary64 (add binary64 (mul binary64 (decimal 60 0) (ofInt binary64 (pos (60 * hour + minute)))) s) (add binary64 secondsPerDay nought)) ((3600 * hour + 60 * minute) * L + w .x) 0 (L * 86400)
+  time-near : Within 17 (div binary64 (add binary64 (mul binary64 (decimal 60 0) (ofInt binary64 (pos (60 * hour + minute)))) s)
+      (add binary64 secondsPerDay nought)) ((3600 * hour + 60 * minute) * L + w .x) 0 (L * 86400)
   time-near =
-      let m = about-own (86340 * 2 ^ 90) {p = 60 * (60 * hour + minute) * L} {n = 0 * L} (units-of) (none _ L) (whole-val (minutes-val (60 * hour + minute) (omega arith))) in
+      let m = about-own (86340 * 2 ^ 90) {p = 60 * (60 * hour + minute) * L} {n = 0 * L} (units-of) (none _ L)
+      (whole-val (minutes-val (60 * hour + minute) (omega arith))) in
       let t = about-own (60 * 2 ^ 90) (units 60 (w .x) (w .high)) (omega arith) (w .val) in
       let a = about-add 53 (lit≤ tt) (lit< tt) m t in
       let b = about-div 37 86400 (2 ^ 90) 241688944847 (lit≤ tt) (lit< tt) (lit≤ tt) (lit< tt) (lit≤ tt) day-val a in
-      subst₂ (λ (P N : ℕ). Within 17 (div binary64 (add binary64 (mul binary64 (decimal 60 0) (ofInt binary64 (pos (60 * hour + minute)))) s) (add binary64 secondsPerDay nought)) P N (L * 86400)) up (down L) (about-within 17 (lit≤ tt) b)
+      subst₂ (λ (P N : ℕ). Within 17 (div binary64 (add binary64 (mul binary64 (decimal 60 0) (ofInt binary64 (pos (60 * hour + minute)))) s)
+      (add binary64 secondsPerDay nought)) P N (L * 86400)) up (down L) (about-within 17 (lit≤ tt) b)
     where
       units-of : 60 * (60 * hour + minute) * L ≤ 0 * L + 86340 * 2 ^ 90 * U
       units-of = le-trans (units 86340 (60 * (60 * hour + minute) * L) (mul-le-mul-right L (omega arith))) (le-of-eq (none-of (86340 * 2 ^ 90 * U) L))
@@ -178,20 +185,35 @@ module _ (hour minute : ℕ) (s : Float) (h : hour ≤ 23) (k : minute ≤ 59) (
 -- ---- the date
 
 -- THE CLOCK TIME: an answered date is exactly the midnight of the calendar date in jd1, and within 17 picoseconds of the time in jd2
-pub at-clock : (y : ℤ) (m d hour minute : ℕ) (second : Float) → SFits w32 y → T (fits binary64 second) → (date : JulianDate) → fromCalendar y m d hour minute second ≡ answer date → AtClock 17 y m d hour minute second date
+pub at-clock : (y : ℤ) (m d hour minute : ℕ) (second : Float) → SFits w32 y → T (fits binary64 second) → (date : JulianDate)
+    → fromCalendar y m d hour minute second ≡ answer date → AtClock 17 y m d hour minute second date
 unfolding fromCalendar atTime dayFraction roundedSum onward
 at-clock y m d hour minute second fy fs date e = go (mjdOf y (pos m) (pos d)) refl
   where
     timed : (n : ℤ) → mjdOf y (pos m) (pos d) ≡ answer n → (b : Bool) → timeInDay hour minute second nought ≡ b → AtClock 17 y m d hour minute second date
-    timed n p false q = let r : fromCalendar y m d hour minute second ≡ refusal 4 = on-date y m d hour minute second n p ∙ rw q in let z : _≡_ {A = ℕ} 0 1 = cc in absurd (omega arith)
+    timed n p false q = let r : fromCalendar y m d hour minute second ≡ refusal 4 = on-date y m d hour minute second n p ∙ rw q in let z : _≡_ {A = ℕ} 0 1 =
+        cc in absurd (omega arith)
     timed n p true q =
         let i = in-day hour minute second q in
         let w = second-of second fs (i .low) (i .high) in
-        let s : answer date ≡ answer (julian (add binary64 mjdZeroPoint (ofInt binary64 n)) (div binary64 (add binary64 (mul binary64 (decimal 60 0) (ofInt binary64 (pos (60 * hour + minute)))) second) (add binary64 secondsPerDay nought))) = sym e ∙ on-date y m d hour minute second n p ∙ rw q in
-        let same : julian (add binary64 mjdZeroPoint (ofInt binary64 n)) (div binary64 (add binary64 (mul binary64 (decimal 60 0) (ofInt binary64 (pos (60 * hour + minute)))) second) (add binary64 secondsPerDay nought)) ≡ date = cc in
+        let s : answer date ≡ answer (julian (add binary64 mjdZeroPoint (ofInt binary64 n))
+        (div binary64 (add binary64 (mul binary64 (decimal 60 0) (ofInt binary64 (pos (60 * hour + minute)))) second)
+        (add binary64 secondsPerDay nought))) = sym e ∙ on-date y m d hour minute second n p ∙ rw q in
+        let same : julian (add binary64 mjdZeroPoint (ofInt binary64 n))
+        (div binary64 (add binary64 (mul binary64 (decimal 60 0) (ofInt binary64 (pos (60 * hour + minute)))) second) (add binary64 secondsPerDay nought))
+        ≡ date = cc in
         subst (AtClock 17 y m d hour minute second) same
-        (record { n = n; mjd = p; midnight = midnight-sum n (mjd-in-42-bits y (pos m) (pos d) n fy p); x = w .x; seconds = w .val; time = time-near hour minute second (i .hours) (i .minutes) w })
+        (record {
+          n = n;
+          mjd = p;
+          midnight = midnight-sum n (mjd-in-42-bits y (pos m) (pos d) n fy p);
+          x = w .x;
+          seconds = w .val;
+          time =
+              time-near hour minute second (i .hours) (i .minutes) w;
+        })
 
     go : (o : Outcome ℤ) → mjdOf y (pos m) (pos d) ≡ o → AtClock 17 y m d hour minute second date
     go (answer n) p = timed n p (timeInDay hour minute second nought) refl
-    go (refusal k) p = let r : fromCalendar y m d hour minute second ≡ refusal k = rw (midnight-refused y (pos m) (pos d) k p) in let z : _≡_ {A = ℕ} 0 1 = cc in absurd (omega arith)
+    go (refusal k) p = let r : fromCalendar y m d hour minute second ≡ refusal k = rw (midnight-refused y (pos m) (pos d) k p) in let z : _≡_ {A = ℕ} 0 1 =
+        cc in absurd (omega arith)

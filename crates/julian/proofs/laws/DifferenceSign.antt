@@ -1,5 +1,5 @@
--- The sign of a difference: that of two dates with parts under 2^52 is not above 0.0 where the first is not later, and not below 0.0 where it is not earlier. So a difference
--- that is not 0.0 has the sign of the exact one; 0.0 says nothing (`difference-is-no-order`). Assumes nothing.
+-- The sign of a difference: that of two dates with parts under 2^52 is not above 0.0 where the first is not later, and not below 0.0 where it is not earlier.
+-- So a difference that is not 0.0 has the sign of the exact one; 0.0 says nothing (`difference-is-no-order`). Assumes nothing.
 use mathlib.Core.Path.{_≡_, refl, sym, ap, _∙_}
 use mathlib.Core.Bool.{Bool, true, false, not}
 use Prim.Native.Nat.{ℕ, _+_, _*_, _≤_}
@@ -34,7 +34,13 @@ turned false a D = sym (round-neg binary64 a D)
 turned true a D = ap neg (round-neg binary64 a D) ∙ neg-neg (round binary64 false a D)
 
 rounds-neg : {z : Float} {P N D : ℕ} → Rounds binary64 z P N D → Rounds binary64 (neg z) N P D
-rounds-neg {z} {P} {N} {D} r = record { sign = not (r .sign); size = r .size; eq = ap neg (r .eq) ∙ turned (r .sign) (r .size) D; is = signed-not (r .sign) (r .size) P N (r .is) }
+rounds-neg {z} {P} {N} {D} r = record {
+  sign = not (r .sign);
+  size = r .size;
+  eq = ap neg (r .eq) ∙ turned (r .sign) (r .size) D;
+  is =
+      signed-not (r .sign) (r .size) P N (r .is);
+}
 
 nought-rounds : Rounds binary64 nought 0 0 L
 unfolding round L
@@ -86,10 +92,12 @@ module _ (d e : JulianDate) (P N Q M : ℕ) (s : SmallParts d) (t : SmallParts e
   pub not-later-not-above : P + M ≤ Q + N → T (le (difference d e) nought)
   unfolding difference
   not-later-not-above h =
-      not-above (part-less (s .first) (t .first)) (part-less (s .second) (t .second)) (sub-rounds binary64 L-pos (v .first) (w .first)) (sub-rounds binary64 L-pos (v .second) (w .second)) (omega (arith, v .total, w .total))
+      not-above (part-less (s .first) (t .first)) (part-less (s .second) (t .second)) (sub-rounds binary64 L-pos (v .first) (w .first))
+      (sub-rounds binary64 L-pos (v .second) (w .second)) (omega (arith, v .total, w .total))
 
   -- d is not earlier than e
   pub not-earlier-not-below : Q + N ≤ P + M → T (le nought (difference d e))
   unfolding difference
   not-earlier-not-below h =
-      not-below (part-less (s .first) (t .first)) (part-less (s .second) (t .second)) (sub-rounds binary64 L-pos (v .first) (w .first)) (sub-rounds binary64 L-pos (v .second) (w .second)) (omega (arith, v .total, w .total))
+      not-below (part-less (s .first) (t .first)) (part-less (s .second) (t .second)) (sub-rounds binary64 L-pos (v .first) (w .first))
+      (sub-rounds binary64 L-pos (v .second) (w .second)) (omega (arith, v .total, w .total))

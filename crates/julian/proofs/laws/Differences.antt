@@ -1,5 +1,5 @@
--- The difference of two dates against the exact one: within 161 microseconds for dates of some thousand years, within 39 picoseconds for first parts in whole or half days
--- that are at most a day apart. Assumes nothing.
+-- The difference of two dates against the exact one: within 161 microseconds for dates of some thousand years, within 39 picoseconds for first parts in whole
+-- or half days that are at most a day apart. Assumes nothing.
 use mathlib.Core.Path.{_≡_, sym, subst₂}
 use Prim.Native.Nat.{ℕ, _+_, _*_, _^_, _≤_, _<_}
 use native.Mathlib.Nat.{add-mul, mul-le-mul-right}
@@ -16,7 +16,8 @@ use Rattle.julian.specs.laws.Distances.{UpTo, HalfDays, DifferenceNear}
 use Rattle.julian.proofs.laws.Steps.{E, L-E, H, L-H, half-val, step-add, step-sub, within-of, worth-of}
 
 -- the three steps, for first parts whose difference is in hand
-joined : (p n q m p2 n2 q2 m2 x y z w s t r r1 r2 r3 : ℕ) → x + (n + q) ≤ y + (p + m) + r1 → z + (n2 + q2) ≤ w + (p2 + m2) + r2 → s + (y + w) ≤ t + (x + z) + r3 → r1 + r2 + r3 ≤ r
+joined : (p n q m p2 n2 q2 m2 x y z w s t r r1 r2 r3 : ℕ) → x + (n + q) ≤ y + (p + m) + r1 → z + (n2 + q2) ≤ w + (p2 + m2) + r2
+    → s + (y + w) ≤ t + (x + z) + r3 → r1 + r2 + r3 ≤ r
     → s + (n + n2 + (q + q2)) ≤ t + (p + p2 + (m + m2)) + r
 joined p n q m p2 n2 q2 m2 x y z w s t r r1 r2 r3 a b c h = omega arith
 
@@ -26,7 +27,8 @@ unfolding difference
 difference-near d e a b c f =
     let x = step-sub 24 (lit≤ tt) (omega (arith, a .high, c .low, L-pos)) (omega (arith, a .low, c .high, L-pos)) (a .val) (c .val) in
     let y = step-sub 2 (lit≤ tt) (omega (arith, b .high, f .low, L-pos)) (omega (arith, b .low, f .high, L-pos)) (b .val) (f .val) in
-    let z = step-add 24 (lit≤ tt) (omega (arith, a .high, c .low, b .high, f .low, x .over, y .over, L-pos, L-E)) (omega (arith, a .low, c .high, b .low, f .high, x .under, y .under, L-pos, L-E)) (x .val) (y .val) in
+    let z = step-add 24 (lit≤ tt) (omega (arith, a .high, c .low, b .high, f .low, x .over, y .over, L-pos, L-E))
+    (omega (arith, a .low, c .high, b .low, f .high, x .under, y .under, L-pos, L-E)) (x .val) (y .val) in
     record {
       p = a .p + b .p;
       n = a .n + b .n;
@@ -38,8 +40,10 @@ difference-near d e a b c f =
         p = z .p;
         n = z .n;
         val = z .val;
-        over = joined (a .p) (a .n) (c .p) (c .n) (b .p) (b .n) (f .p) (f .n) (x .p) (x .n) (y .p) (y .n) (z .p) (z .n) (33554436 * E) (2 ^ 24 * E) (2 ^ 2 * E) (2 ^ 24 * E) (x .over) (y .over) (z .over) (omega arith);
-        under = joined (a .n) (a .p) (c .n) (c .p) (b .n) (b .p) (f .n) (f .p) (x .n) (x .p) (y .n) (y .p) (z .n) (z .p) (33554436 * E) (2 ^ 24 * E) (2 ^ 2 * E) (2 ^ 24 * E) (x .under) (y .under) (z .under) (omega arith);
+        over = joined (a .p) (a .n) (c .p) (c .n) (b .p) (b .n) (f .p) (f .n) (x .p) (x .n) (y .p) (y .n) (z .p) (z .n) (33554436 * E) (2 ^ 24 * E)
+            (2 ^ 2 * E) (2 ^ 24 * E) (x .over) (y .over) (z .over) (omega arith);
+        under = joined (a .n) (a .p) (c .n) (c .p) (b .n) (b .p) (f .n) (f .p) (x .n) (x .p) (y .n) (y .p) (z .n) (z .p) (33554436 * E) (2 ^ 24 * E)
+            (2 ^ 2 * E) (2 ^ 24 * E) (x .under) (y .under) (z .under) (omega arith);
       });
     }
   where
@@ -48,7 +52,8 @@ difference-near d e a b c f =
 
 -- ---- first parts in half days
 
-module _ (d e : JulianDate) (a : HalfDays (2 ^ 50) (d .jd1)) (b : UpTo 1 (d .jd2)) (c : HalfDays (2 ^ 50) (e .jd1)) (f : UpTo 1 (e .jd2)) (later : a .p + c .n ≤ a .n + c .p + 2) (earlier : a .n + c .p ≤ a .p + c .n + 2) where
+module _ (d e : JulianDate) (a : HalfDays (2 ^ 50) (d .jd1)) (b : UpTo 1 (d .jd2)) (c : HalfDays (2 ^ 50) (e .jd1)) (f : UpTo 1 (e .jd2))
+    (later : a .p + c .n ≤ a .n + c .p + 2) (earlier : a .n + c .p ≤ a .p + c .n + 2) where
   -- their difference is exact
   firsts : Val (sub binary64 (d .jd1) (e .jd1)) (a .p * H + c .n * H) (a .n * H + c .p * H) L
   firsts =
@@ -71,8 +76,10 @@ module _ (d e : JulianDate) (a : HalfDays (2 ^ 50) (d .jd1)) (b : UpTo 1 (d .jd2
       let y = step-sub 2 (lit≤ tt) (omega (arith, b .high, f .low, L-pos)) (omega (arith, b .low, f .high, L-pos)) (b .val) (f .val) in
       let g = apart (a .p) (a .n) (c .p) (c .n) later in
       let k = apart (a .n) (a .p) (c .n) (c .p) earlier in
-      let z = step-add 2 (lit≤ tt) (total-of (a .p * H) (c .n * H) (a .n * H) (c .p * H) (y .p) (y .n) (b .p) (b .n) (f .p) (f .n) L E L-E L-pos g (b .high) (f .low) (y .over))
-      (total-of (a .n * H) (c .p * H) (a .p * H) (c .n * H) (y .n) (y .p) (b .n) (b .p) (f .n) (f .p) L E L-E L-pos k (b .low) (f .high) (y .under)) firsts (y .val) in
+      let z = step-add 2 (lit≤ tt) (total-of (a .p * H) (c .n * H) (a .n * H) (c .p * H) (y .p) (y .n) (b .p) (b .n) (f .p) (f .n) L E L-E L-pos g (b .high)
+      (f .low) (y .over))
+      (total-of (a .n * H) (c .p * H) (a .p * H) (c .n * H) (y .n) (y .p) (b .n) (b .p) (f .n) (f .p) L E L-E L-pos k (b .low) (f .high) (y .under)) firsts
+      (y .val) in
       record {
         p = a .p * H + b .p;
         n = a .n * H + b .n;
@@ -92,8 +99,10 @@ module _ (d e : JulianDate) (a : HalfDays (2 ^ 50) (d .jd1)) (b : UpTo 1 (d .jd2
       bound : (e l : ℕ) → l ≡ 18014398509481984 * e → dayPs * (8 * e) ≤ 39 * l
       bound e l h = omega arith
 
-      total-of : (x x' u u' z w p n q m l e : ℕ) → l ≡ 18014398509481984 * e → 0 < l → x + x' ≤ u + u' + l → p ≤ n + 1 * l → m ≤ q + 1 * l → z + (n + q) ≤ w + (p + m) + 2 ^ 2 * e → x + x' + z < u + u' + w + 2 ^ 2 * l
+      total-of : (x x' u u' z w p n q m l e : ℕ) → l ≡ 18014398509481984 * e → 0 < l → x + x' ≤ u + u' + l → p ≤ n + 1 * l → m ≤ q + 1 * l
+          → z + (n + q) ≤ w + (p + m) + 2 ^ 2 * e → x + x' + z < u + u' + w + 2 ^ 2 * l
       total-of x x' u u' z w p n q m l e h o i j k r = omega arith
 
-      sums : (p n q m p2 n2 q2 m2 z w s t e : ℕ) → z + (n2 + q2) ≤ w + (p2 + m2) + 2 ^ 2 * e → s + (n + q + w) ≤ t + (p + m + z) + 2 ^ 2 * e → s + (n + n2 + (q + q2)) ≤ t + (p + p2 + (m + m2)) + 8 * e
+      sums : (p n q m p2 n2 q2 m2 z w s t e : ℕ) → z + (n2 + q2) ≤ w + (p2 + m2) + 2 ^ 2 * e → s + (n + q + w) ≤ t + (p + m + z) + 2 ^ 2 * e
+          → s + (n + n2 + (q + q2)) ≤ t + (p + p2 + (m + m2)) + 8 * e
       sums p n q m p2 n2 q2 m2 z w s t e a b = omega arith

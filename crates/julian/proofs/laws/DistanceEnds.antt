@@ -1,5 +1,5 @@
--- The ranges of the distances are met at their ends: each theorem at a date, a year or a number of seconds of the largest size that it speaks of. Closed theorems: a narrower
--- range would leave them without a proof. Assumes nothing.
+-- The ranges of the distances are met at their ends: each theorem at a date, a year or a number of seconds of the largest size that it speaks of. Closed
+-- theorems: a narrower range would leave them without a proof. Assumes nothing.
 use mathlib.Core.Path.{refl}
 use mathlib.Core.Bool.{false}
 use Prim.Native.Nat.{ℕ, _*_, _^_}
@@ -64,20 +64,24 @@ pub date-of-year-20000 : DateOfYear 138000000 (decimal 20000 0) (fromJulianYear 
 date-of-year-20000 = year-date-near (decimal 20000 0) year-20000
 
 pub difference-at-the-end : DifferenceNear 161000000 (julian (decimal 8000000 0) (decimal 1 0)) (julian (decimal 8000000 0) (decimal 1 0))
-difference-at-the-end = difference-near (julian (decimal 8000000 0) (decimal 1 0)) (julian (decimal 8000000 0) (decimal 1 0)) many-years one-day many-years one-day
+difference-at-the-end = difference-near (julian (decimal 8000000 0) (decimal 1 0)) (julian (decimal 8000000 0) (decimal 1 0)) many-years one-day many-years
+    one-day
 
 pub short-at-the-end : DifferenceNear 39 (julian far-midnight (decimal 1 0)) (julian far-midnight (decimal 1 0))
 unfolding half-days
-short-at-the-end = difference-short (julian far-midnight (decimal 1 0)) (julian far-midnight (decimal 1 0)) half-days one-day half-days one-day (lit≤ tt) (lit≤ tt)
+short-at-the-end = difference-short (julian far-midnight (decimal 1 0)) (julian far-midnight (decimal 1 0)) half-days one-day half-days one-day (lit≤ tt)
+    (lit≤ tt)
 
 pub days-at-the-end : LaterBy 29 (2 ^ 49 * L) (0 * L) 1 (julian far-midnight (decimal 1 0)) (addDays (julian far-midnight (decimal 1 0)) far-days)
 unfolding far whole-up-to
 days-at-the-end = add-days-near (julian far-midnight (decimal 1 0)) far-days half-days one-day far
 
-pub seconds-at-the-end : LaterBy 39 (86400 * L) (0 * L) 86400 (julian far-midnight (decimal 1 0)) (addSeconds (julian far-midnight (decimal 1 0)) (decimal 86400 0))
+pub seconds-at-the-end : LaterBy 39 (86400 * L) (0 * L) 86400 (julian far-midnight (decimal 1 0))
+    (addSeconds (julian far-midnight (decimal 1 0)) (decimal 86400 0))
 unfolding day-of-seconds whole-up-to
 seconds-at-the-end = add-seconds-near (julian far-midnight (decimal 1 0)) (decimal 86400 0) half-days one-day day-of-seconds
 
-pub billion-at-the-end : LaterBy 78610 (1000000000 * L) (0 * L) 86400 (julian far-midnight (decimal 1 0)) (addSeconds (julian far-midnight (decimal 1 0)) (decimal 1000000000 0))
+pub billion-at-the-end : LaterBy 78610 (1000000000 * L) (0 * L) 86400 (julian far-midnight (decimal 1 0))
+    (addSeconds (julian far-midnight (decimal 1 0)) (decimal 1000000000 0))
 unfolding billion whole-up-to
 billion-at-the-end = add-many-seconds-near (julian far-midnight (decimal 1 0)) (decimal 1000000000 0) half-days one-day billion

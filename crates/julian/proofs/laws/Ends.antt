@@ -7,7 +7,9 @@ use Rattle.refusals.specs.Outcome.{answer}
 use Rattle.floats.specs.Whole.{nought, half}
 use Rattle.calendar.specs.Calendar.{dateOf}
 use Rattle.julian.specs.day_number.ExactDay.{wholeDays, unitsLeft, fractionOf}
-use Rattle.julian.proofs.day_number.Ends.{lowest, highest, largest, opposite, lowest-fits, highest-fits, largest-fits, opposite-fits, nought-fits, lowest-grid, highest-grid, largest-grid, opposite-grid, nought-grid, lowest-range, highest-range, largest-range}
+use Rattle.julian.proofs.day_number.Ends.{lowest, highest, largest, opposite, lowest-fits, highest-fits, largest-fits, opposite-fits}
+use Rattle.julian.proofs.day_number.Ends.{nought-fits, lowest-grid, highest-grid, largest-grid, opposite-grid, nought-grid, lowest-range}
+use Rattle.julian.proofs.day_number.Ends.{highest-range, largest-range}
 use Rattle.julian.specs.Calendar.{fields, julianToCalendar}
 use Rattle.julian.proofs.laws.CalendarDays.{exact-date}
 

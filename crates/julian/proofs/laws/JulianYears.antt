@@ -34,12 +34,14 @@ year-val = record { sign = false; size = 1461; has = (refl, refl); is = refl }
 -- ---- the year of a date
 
 to-year : (p n q m p1 n1 p2 n2 p3 n3 a b l e : ℕ) → l ≡ 18014398509481984 * e
-    → p1 + (n + 2451545 * l) ≤ n1 + (p + 0 * l) + 2 ^ 24 * e → p2 + (n1 + m) ≤ n2 + (p1 + q) + 2 ^ 25 * e → 1461 * p3 + 4 * n2 ≤ 1461 * n3 + 4 * p2 + 1461 * (2 ^ 16 * e) → a + (0 * l + n3) ≤ b + (2000 * l + p3) + 2 ^ 16 * e
+    → p1 + (n + 2451545 * l) ≤ n1 + (p + 0 * l) + 2 ^ 24 * e → p2 + (n1 + m) ≤ n2 + (p1 + q) + 2 ^ 25 * e
+    → 1461 * p3 + 4 * n2 ≤ 1461 * n3 + 4 * p2 + 1461 * (2 ^ 16 * e) → a + (0 * l + n3) ≤ b + (2000 * l + p3) + 2 ^ 16 * e
     → 10 ^ 12 * (1461 * a + 4 * (n + m + 2451545 * l)) ≤ 10 ^ 12 * (1461 * (b + 2000 * l) + 4 * (p + q)) + 15 * (1461 * l)
 to-year p n q m p1 n1 p2 n2 p3 n3 a b l e h x1 x2 x3 x4 = omega arith
 
 to-year-low : (p n q m p1 n1 p2 n2 p3 n3 a b l e : ℕ) → l ≡ 18014398509481984 * e
-    → n1 + (p + 0 * l) ≤ p1 + (n + 2451545 * l) + 2 ^ 24 * e → n2 + (p1 + q) ≤ p2 + (n1 + m) + 2 ^ 25 * e → 1461 * n3 + 4 * p2 ≤ 1461 * p3 + 4 * n2 + 1461 * (2 ^ 16 * e) → b + (2000 * l + p3) ≤ a + (0 * l + n3) + 2 ^ 16 * e
+    → n1 + (p + 0 * l) ≤ p1 + (n + 2451545 * l) + 2 ^ 24 * e → n2 + (p1 + q) ≤ p2 + (n1 + m) + 2 ^ 25 * e
+    → 1461 * n3 + 4 * p2 ≤ 1461 * p3 + 4 * n2 + 1461 * (2 ^ 16 * e) → b + (2000 * l + p3) ≤ a + (0 * l + n3) + 2 ^ 16 * e
     → 10 ^ 12 * (1461 * (b + 2000 * l) + 4 * (p + q)) ≤ 10 ^ 12 * (1461 * a + 4 * (n + m + 2451545 * l)) + 15 * (1461 * l)
 to-year-low p n q m p1 n1 p2 n2 p3 n3 a b l e h x1 x2 x3 x4 = omega arith
 
@@ -48,9 +50,12 @@ pub julian-year-near : (d : JulianDate) → UpTo 8000000 (d .jd1) → UpTo 80000
 unfolding toJulianYear
 julian-year-near d s t =
     let x1 = step-sub 24 (lit≤ tt) (omega (arith, s .high, L-pos)) (omega (arith, s .low, L-pos)) (s .val) j2000-val in
-    let x2 = step-add 25 (lit≤ tt) (omega (arith, s .high, t .high, x1 .over, L-pos, L-E)) (omega (arith, s .low, t .low, x1 .under, L-pos, L-E)) (x1 .val) (t .val) in
-    let x3 = step-div 16 {B = 4} {C = 1461} (lit< tt) (lit< tt) (lit≤ tt) (omega (arith, s .high, t .high, x1 .over, x2 .over, L-pos, L-E)) (omega (arith, s .low, t .low, x1 .under, x2 .under, L-pos, L-E)) (x2 .val) year-val in
-    let x4 = step-add 16 (lit≤ tt) (omega (arith, s .high, t .high, x1 .over, x2 .over, x3 .over, L-pos, L-E)) (omega (arith, s .low, t .low, x1 .under, x2 .under, x3 .under, L-pos, L-E)) year-2000-val (x3 .val) in
+    let x2 = step-add 25 (lit≤ tt) (omega (arith, s .high, t .high, x1 .over, L-pos, L-E)) (omega (arith, s .low, t .low, x1 .under, L-pos, L-E)) (x1 .val)
+    (t .val) in
+    let x3 = step-div 16 {B = 4} {C = 1461} (lit< tt) (lit< tt) (lit≤ tt) (omega (arith, s .high, t .high, x1 .over, x2 .over, L-pos, L-E))
+    (omega (arith, s .low, t .low, x1 .under, x2 .under, L-pos, L-E)) (x2 .val) year-val in
+    let x4 = step-add 16 (lit≤ tt) (omega (arith, s .high, t .high, x1 .over, x2 .over, x3 .over, L-pos, L-E))
+    (omega (arith, s .low, t .low, x1 .under, x2 .under, x3 .under, L-pos, L-E)) year-2000-val (x3 .val) in
     record {
       p = s .p + t .p;
       n = s .n + t .n;
@@ -58,8 +63,10 @@ julian-year-near d s t =
       b = x4 .n;
       worth = worth-of (s .val) (t .val);
       val = x4 .val;
-      over = to-year (s .p) (s .n) (t .p) (t .n) (x1 .p) (x1 .n) (x2 .p) (x2 .n) (x3 .p) (x3 .n) (x4 .p) (x4 .n) L E L-E (x1 .over) (x2 .over) (x3 .over) (x4 .over);
-      under = to-year-low (s .p) (s .n) (t .p) (t .n) (x1 .p) (x1 .n) (x2 .p) (x2 .n) (x3 .p) (x3 .n) (x4 .p) (x4 .n) L E L-E (x1 .under) (x2 .under) (x3 .under) (x4 .under);
+      over = to-year (s .p) (s .n) (t .p) (t .n) (x1 .p) (x1 .n) (x2 .p) (x2 .n) (x3 .p) (x3 .n) (x4 .p) (x4 .n) L E L-E (x1 .over) (x2 .over) (x3 .over)
+          (x4 .over);
+      under = to-year-low (s .p) (s .n) (t .p) (t .n) (x1 .p) (x1 .n) (x2 .p) (x2 .n) (x3 .p) (x3 .n) (x4 .p) (x4 .n) L E L-E (x1 .under) (x2 .under)
+          (x3 .under) (x4 .under);
     }
 
 -- ---- the date of a year
@@ -70,11 +77,13 @@ unfolding j2000Jd mjdZeroPoint sub neg add round
 j2000-mjd-val = record { sign = false; size = 103089; has = (refl, refl); is = refl }
 
 -- in units, with h for half a day, and then in picoseconds
-from-year : (p n p1 n1 p2 n2 p3 n3 l h e : ℕ) → l ≡ 2 * h → p1 + (n + 2000 * l) ≤ n1 + (p + 0 * l) + 2 ^ 15 * e → 4 * p2 + 1461 * n1 ≤ 4 * n2 + 1461 * p1 + 4 * (2 ^ 23 * e) → p3 + (0 * h + n2) ≤ n3 + (103089 * h + p2) + 2 ^ 23 * e
+from-year : (p n p1 n1 p2 n2 p3 n3 l h e : ℕ) → l ≡ 2 * h → p1 + (n + 2000 * l) ≤ n1 + (p + 0 * l) + 2 ^ 15 * e
+    → 4 * p2 + 1461 * n1 ≤ 4 * n2 + 1461 * p1 + 4 * (2 ^ 23 * e) → p3 + (0 * h + n2) ≤ n3 + (103089 * h + p2) + 2 ^ 23 * e
     → 4 * (4800001 * h + p3) + 1461 * (n + 2000 * l) ≤ 4 * (0 * h + n3 + 2451545 * l) + 1461 * p + 114982912 * e
 from-year p n p1 n1 p2 n2 p3 n3 l h e k x1 x2 x3 = omega arith
 
-from-year-low : (p n p1 n1 p2 n2 p3 n3 l h e : ℕ) → l ≡ 2 * h → n1 + (p + 0 * l) ≤ p1 + (n + 2000 * l) + 2 ^ 15 * e → 4 * n2 + 1461 * p1 ≤ 4 * p2 + 1461 * n1 + 4 * (2 ^ 23 * e) → n3 + (103089 * h + p2) ≤ p3 + (0 * h + n2) + 2 ^ 23 * e
+from-year-low : (p n p1 n1 p2 n2 p3 n3 l h e : ℕ) → l ≡ 2 * h → n1 + (p + 0 * l) ≤ p1 + (n + 2000 * l) + 2 ^ 15 * e
+    → 4 * n2 + 1461 * p1 ≤ 4 * p2 + 1461 * n1 + 4 * (2 ^ 23 * e) → n3 + (103089 * h + p2) ≤ p3 + (0 * h + n2) + 2 ^ 23 * e
     → 4 * (0 * h + n3 + 2451545 * l) + 1461 * p ≤ 4 * (4800001 * h + p3) + 1461 * (n + 2000 * l) + 114982912 * e
 from-year-low p n p1 n1 p2 n2 p3 n3 l h e k x1 x2 x3 = omega arith
 
@@ -87,7 +96,8 @@ unfolding fromJulianYear
 year-date-near year s =
     let x1 = step-sub 15 (lit≤ tt) (omega (arith, s .high, L-pos)) (omega (arith, s .low, L-pos)) (s .val) year-2000-val in
     let x2 = step-mul 23 (lit< tt) (lit≤ tt) (omega (arith, s .high, x1 .over, L-pos, L-E)) (omega (arith, s .low, x1 .under, L-pos, L-E)) (x1 .val) year-val in
-    let x3 = step-add 23 (lit≤ tt) (omega (arith, s .high, x1 .over, x2 .over, L-pos, L-E)) (omega (arith, s .low, x1 .under, x2 .under, L-pos, L-E)) (half-val j2000-mjd-val) (x2 .val) in
+    let x3 = step-add 23 (lit≤ tt) (omega (arith, s .high, x1 .over, x2 .over, L-pos, L-E)) (omega (arith, s .low, x1 .under, x2 .under, L-pos, L-E))
+    (half-val j2000-mjd-val) (x2 .val) in
     record {
       p = 4800001 * H + x3 .p;
       n = 0 * H + x3 .n;
@@ -96,5 +106,6 @@ year-date-near year s =
       worth = worth-of (half-val zero-point-val) (x3 .val);
       val = s .val;
       over = in-picoseconds _ _ L E L-E (from-year (s .p) (s .n) (x1 .p) (x1 .n) (x2 .p) (x2 .n) (x3 .p) (x3 .n) L H E L-H (x1 .over) (x2 .over) (x3 .over));
-      under = in-picoseconds _ _ L E L-E (from-year-low (s .p) (s .n) (x1 .p) (x1 .n) (x2 .p) (x2 .n) (x3 .p) (x3 .n) L H E L-H (x1 .under) (x2 .under) (x3 .under));
+      under = in-picoseconds _ _ L E L-E
+          (from-year-low (s .p) (s .n) (x1 .p) (x1 .n) (x2 .p) (x2 .n) (x3 .p) (x3 .n) L H E L-H (x1 .under) (x2 .under) (x3 .under));
     }

@@ -1,5 +1,5 @@
--- A number, a float and a Julian date taken apart and put together again: the same, and a check has then worked the numbers out, so that it compares them and not how they
--- came about. Assumes nothing.
+-- A number, a float and a Julian date taken apart and put together again: the same, and a check has then worked the numbers out, so that it compares them and
+-- not how they came about. Assumes nothing.
 use mathlib.Core.Path.{_≡_, refl, ap}
 use Prim.Native.Nat.{ℕ, zero, suc}
 use lib.IntN.{ℤ, pos, negsuc}

@@ -1,5 +1,6 @@
--- What is not finite. Equality of two dates where a sum of parts is not finite: both parts are compared, and a date with a NaN equals none, whichever part of whichever
--- date it is. And where a NaN is made though none was given: an infinite number of days or seconds added, and the difference of equal infinities. Assumes nothing.
+-- What is not finite. Equality of two dates where a sum of parts is not finite: both parts are compared, and a date with a NaN equals none, whichever part of
+-- whichever date it is. And where a NaN is made though none was given: an infinite number of days or seconds added, and the difference of equal infinities.
+-- Assumes nothing.
 use mathlib.Core.Path.{_≡_, refl, _∙_}
 use mathlib.Core.Bool.{Bool, true, false, _&&_}
 use mathlib.Core.Logic.{_⊎_, inl, inr}
@@ -17,7 +18,8 @@ no-second true = refl
 no-second false = refl
 
 -- BOTH PARTS ARE COMPARED where a sum is not finite
-pub equal-not-finite : (d e : JulianDate) → (finite (roundedSum d) ≡ false) ⊎ (finite (roundedSum e) ≡ false) → equal d e ≡ (eq (d .jd1) (e .jd1) && eq (d .jd2) (e .jd2))
+pub equal-not-finite : (d e : JulianDate) → (finite (roundedSum d) ≡ false) ⊎ (finite (roundedSum e) ≡ false)
+    → equal d e ≡ (eq (d .jd1) (e .jd1) && eq (d .jd2) (e .jd2))
 unfolding equal sums exactSum roundedSum
 equal-not-finite d e (inl h) = rw h
 equal-not-finite d e (inr h) = rw (h, no-second (finite (add binary64 (d .jd1) (d .jd2))))
@@ -95,6 +97,7 @@ unfolding sub neg add
 equal-infinities true = refl
 equal-infinities false = refl
 
-pub difference-of-infinities : (s : Bool) (x y : Float) → (difference (julian (inf s) x) (julian (inf s) y) ≡ nan) × (difference (julian x (inf s)) (julian y (inf s)) ≡ nan)
+pub difference-of-infinities : (s : Bool) (x y : Float) → (difference (julian (inf s) x) (julian (inf s) y) ≡ nan)
+    × (difference (julian x (inf s)) (julian y (inf s)) ≡ nan)
 unfolding difference
 difference-of-infinities s x y = (rw (equal-infinities, sum-first), rw (equal-infinities, sum-second))

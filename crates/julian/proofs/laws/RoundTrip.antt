@@ -1,4 +1,5 @@
--- A date to its Julian date and back: every valid date whose midnight is at most Julian date 10^9 comes back the same, with the fraction exactly +0.0. Assumes nothing.
+-- A date to its Julian date and back: every valid date whose midnight is at most Julian date 10^9 comes back the same, with the fraction exactly +0.0. Assumes
+-- nothing.
 use mathlib.Core.Path.{_≡_, refl, sym, ap, _∙_, subst}
 use Prim.Native.Nat.{ℕ, _+_, _*_, _^_, _≤_, _<_}
 use native.Mathlib.Omega.{arith}
@@ -61,7 +62,8 @@ in-range n sum high low e = go (one-side sum)
     go (inl h) = record { low = omega arith; high = omega arith }
     go (inr h) = record { low = omega arith; high = omega arith }
 
-module _ (x y : Float) (fx : T (fits binary64 x)) (fy : T (fits binary64 y)) (a : OnGrid x) (b : OnGrid y) (n : ℤ) (high : plusZ n ≤ 997599999) (low : minusZ n ≤ 2432076) (e : Midnight n (gridSum a b)) where
+module _ (x y : Float) (fx : T (fits binary64 x)) (fy : T (fits binary64 y)) (a : OnGrid x) (b : OnGrid y) (n : ℤ) (high : plusZ n ≤ 997599999)
+    (low : minusZ n ≤ 2432076) (e : Midnight n (gridSum a b)) where
   back : julianToCalendar x y ≡ answer (fields (gregorianDate (n +ℤ pos 2400001)) nought)
   unfolding fractionOf round
   back =

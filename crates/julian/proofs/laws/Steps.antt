@@ -1,4 +1,5 @@
--- One rounded operation on values in units of 1 / L: a result below 2 ^ i days in size is off by at most 2 ^ i * E units, where E units are 2 ^ -54 day. Assumes nothing.
+-- One rounded operation on values in units of 1 / L: a result below 2 ^ i days in size is off by at most 2 ^ i * E units, where E units are 2 ^ -54 day.
+-- Assumes nothing.
 use mathlib.Core.Path.{_≡_, refl, sym, ap, _∙_, subst}
 use Prim.Native.Nat.{ℕ, _+_, _*_, _^_, _≤_, _<_}
 use native.Mathlib.Nat.{mul-comm, mul-assoc, mul-left-comm, add-mul, mul-le-mul-right}
@@ -50,10 +51,12 @@ near-sum i {z} {P} {N} k = record {
   under = halved i (k .n + P) (k .p + N) (2 ^ (1021 + i)) (half-unit i) (k .under);
 }
 
-pub step-add : (i : ℕ) {x y : Float} {p n q m : ℕ} → 1021 + i ≤ 2044 → p + q < n + m + 2 ^ i * L → n + m < p + q + 2 ^ i * L → Val x p n L → Val y q m L → ValClose L (add binary64 x y) (p + q) (n + m) (2 ^ i * E)
+pub step-add : (i : ℕ) {x y : Float} {p n q m : ℕ} → 1021 + i ≤ 2044 → p + q < n + m + 2 ^ i * L → n + m < p + q + 2 ^ i * L → Val x p n L → Val y q m L
+    → ValClose L (add binary64 x y) (p + q) (n + m) (2 ^ i * E)
 step-add i {x} {y} {p} {n} {q} {m} I h k v w = near-sum i (add-near (1021 + i) I (wide i (p + q) (n + m) h) (wide i (n + m) (p + q) k) v w)
 
-pub step-sub : (i : ℕ) {x y : Float} {p n q m : ℕ} → 1021 + i ≤ 2044 → p + m < n + q + 2 ^ i * L → n + q < p + m + 2 ^ i * L → Val x p n L → Val y q m L → ValClose L (sub binary64 x y) (p + m) (n + q) (2 ^ i * E)
+pub step-sub : (i : ℕ) {x y : Float} {p n q m : ℕ} → 1021 + i ≤ 2044 → p + m < n + q + 2 ^ i * L → n + q < p + m + 2 ^ i * L → Val x p n L → Val y q m L
+    → ValClose L (sub binary64 x y) (p + m) (n + q) (2 ^ i * E)
 step-sub i {x} {y} {p} {n} {q} {m} I h k v w = near-sum i (sub-near (1021 + i) I (wide i (p + m) (n + q) h) (wide i (n + q) (p + m) k) v w)
 
 -- ---- a product by B / C and a quotient by C / B, in C-ths of a unit
@@ -78,11 +81,14 @@ times-of i {z} {P} {N} {B} {C} k = record { p = k .p; n = k .n; val = k .val; ov
         last : (x y s t : ℕ) → s ≡ 2 * t → 2 * x ≤ 2 * y + s → x ≤ y + t
         last x y s t e h = omega arith
 
-pub step-mul : (i : ℕ) {x y : Float} {P N B C : ℕ} → 0 < C → 1021 + i ≤ 2044 → P * B < N * B + 2 ^ i * L * C → N * B < P * B + 2 ^ i * L * C → Val x P N L → Val y B 0 C → Times (mul binary64 x y) P N B C (2 ^ i * E)
+pub step-mul : (i : ℕ) {x y : Float} {P N B C : ℕ} → 0 < C → 1021 + i ≤ 2044 → P * B < N * B + 2 ^ i * L * C → N * B < P * B + 2 ^ i * L * C → Val x P N L
+    → Val y B 0 C → Times (mul binary64 x y) P N B C (2 ^ i * E)
 step-mul i {x} {y} {P} {N} {B} {C} G I h k v w = times-of i (mul-near (1021 + i) G I (wide-times i (P * B) (N * B) C h) (wide-times i (N * B) (P * B) C k) v w)
 
-pub step-div : (i : ℕ) {x y : Float} {P N B C : ℕ} → 0 < B → 0 < C → 1021 + i ≤ 2044 → P * B < N * B + 2 ^ i * L * C → N * B < P * B + 2 ^ i * L * C → Val x P N L → Val y C 0 B → Times (div binary64 x y) P N B C (2 ^ i * E)
-step-div i {x} {y} {P} {N} {B} {C} F G I h k v w = times-of i (scaled-near (1021 + i) G I (wide-times i (P * B) (N * B) C h) (wide-times i (N * B) (P * B) C k) (div-rounds binary64 L-pos F G v w))
+pub step-div : (i : ℕ) {x y : Float} {P N B C : ℕ} → 0 < B → 0 < C → 1021 + i ≤ 2044 → P * B < N * B + 2 ^ i * L * C → N * B < P * B + 2 ^ i * L * C
+    → Val x P N L → Val y C 0 B → Times (div binary64 x y) P N B C (2 ^ i * E)
+step-div i {x} {y} {P} {N} {B} {C} F G I h k v w =
+    times-of i (scaled-near (1021 + i) G I (wide-times i (P * B) (N * B) C h) (wide-times i (N * B) (P * B) C k) (div-rounds binary64 L-pos F G v w))
 
 -- ---- a value in half days, in units
 
@@ -116,7 +122,9 @@ within-of ps {z} {P} {N} {r} h c = record { p = c .p; n = c .n; val = c .val; ov
         scaled x y s t e f k =
             let g : x * L ≤ (y + r) * L = mul-le-mul-right L k in
             let i : 86400000000000000 * r * L ≤ ps * L * L = mul-le-mul-right L h in
-            last (x * L) (y * L) ((y + r) * L) (r * L) s t (86400000000000000 * r * L) (ps * L * L) (ps * (L * L)) e f g (add-mul y r L) (mul-assoc 86400000000000000 r L) (mul-assoc ps L L) i
+            last (x * L) (y * L) ((y + r) * L) (r * L) s t (86400000000000000 * r * L) (ps * L * L) (ps * (L * L)) e f g (add-mul y r L)
+            (mul-assoc 86400000000000000 r L) (mul-assoc ps L L) i
           where
-            last : (x y z r s t u v w : ℕ) → s ≡ x → t ≡ y → x ≤ z → z ≡ y + r → u ≡ 86400000000000000 * r → v ≡ w → u ≤ v → 86400000000000000 * s ≤ 86400000000000000 * t + w
+            last : (x y z r s t u v w : ℕ) → s ≡ x → t ≡ y → x ≤ z → z ≡ y + r → u ≡ 86400000000000000 * r → v ≡ w → u ≤ v
+                → 86400000000000000 * s ≤ 86400000000000000 * t + w
             last x y z r s t u v w a b c d e f g = omega arith

@@ -1,10 +1,10 @@
--- Cases of the order, each computed from the definitions: dates that the sign of a difference puts in no order, one date divided in two ways, dates 10^-20 day apart,
--- and dates that are refused. Assumes nothing.
+-- Cases of the order, each computed from the definitions: dates that the sign of a difference puts in no order, one date divided in two ways, dates 10^-20 day
+-- apart, and dates that are refused. Assumes nothing.
 use mathlib.Core.Path.{_≡_, refl}
 use mathlib.Core.Bool.{true, false}
 use Prim.Native.Nat.{_-_, _^_}
 use lib.IntN.{pos}
-use lib.Ieee.{Float, nan, fin, binary64, round, add, sub, neg, lt, eq}
+use lib.Ieee.{Float, nan, fin, round, add, sub, neg, lt, eq}
 use Rattle.refusals.specs.Outcome.{answer, refusal}
 use Rattle.floats.specs.Whole.{nought}
 use Rattle.constants.specs.Constants.{decimal}

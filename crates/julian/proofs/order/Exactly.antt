@@ -1,15 +1,15 @@
 -- Every answer of the order of dates is the order of the exact sums, so that it is total and transitive and agrees with equality. Assumes nothing.
-use mathlib.Core.Path.{_≡_, refl, sym, ap, _∙_, subst}
+use mathlib.Core.Path.{_≡_, refl, sym, ap, _∙_}
 use Prim.Native.Nat.{ℕ, _+_, _*_, _≤_, _<_}
 use native.Mathlib.Nat.{add-mul, mul-le-mul-right}
 use native.Mathlib.Omega.{arith}
 use mathlib.Core.Bool.{Bool, true, false, cond, _&&_, true≢false}
 use mathlib.Core.Logic.{_⊎_, inl, inr}
 use lib.Dec.{T, eqb, ltb}
-use lib.Ieee.{Float, binary64, fits, add, sub, lt}
+use lib.Ieee.{binary64, fits, add, sub}
 use lib.Ieee.Scale.{finite}
 use borrow.Author.Tests.{lt-ltb, le-ltb, ltb-true, ltb-false, eq-eqb, ne-eqb}
-use Rattle.refusals.specs.Outcome.{Outcome, answer, refusal}
+use Rattle.refusals.specs.Outcome.{answer, refusal}
 use Rattle.rounding.specs.Value.{L}
 use Rattle.rounding.proofs.Value.{L-pos}
 use Rattle.rounding.proofs.Own.{own, own-val}
@@ -21,7 +21,8 @@ use Rattle.julian.specs.Equality.{twoSumError, exactSum, sums, FiniteSum
 use Rattle.julian.specs.Equality as E
 use Rattle.julian.specs.Worth.{Worth, SmallParts}
 use Rattle.julian.proofs.Equality.{SumAndError, sums-of, small-sums, equal-sums}
-use Rattle.julian.specs.order.Order.{Order, comesBefore, sameSum, comesAfter, sooner, dateOrder, comparison, orderOf, notAfter, isEqual, PartNotFinite, first-not-finite, second-not-finite}
+use Rattle.julian.specs.order.Order.{Order, comesBefore, sameSum, comesAfter, sooner, dateOrder, comparison, orderOf, notAfter, isEqual}
+use Rattle.julian.specs.order.Order.{PartNotFinite, first-not-finite, second-not-finite}
 
 -- ---- the error is finite only where the parts and the sum are
 pub finite-error : (d : JulianDate) → T (finite (sums d .error)) → T (finite (d .jd1)) × (T (finite (d .jd2)) × T (finite (sums d .sum)))
@@ -43,7 +44,8 @@ sums-rise {d} {e} {P} {N} {Q} {M} x y h =
 
 module _ (sp sn ep en tp tn fp fn P N Q M : ℕ) (h : sp + ep + N ≡ sn + en + P) (k : tp + fp + M ≡ tn + fn + Q)
     (up : P + M ≤ Q + N → sp + tn ≤ tp + sn) (down : Q + N ≤ P + M → tp + sn ≤ sp + tn) where
-  by-sums : (a b : Bool) → ltb (sp + tn) (tp + sn) ≡ a → ltb (tp + sn) (sp + tn) ≡ b → (c : Bool) → ltb (P + M) (Q + N) ≡ c → cond a true (cond b false (ltb (ep + fn) (fp + en))) ≡ c
+  by-sums : (a b : Bool) → ltb (sp + tn) (tp + sn) ≡ a → ltb (tp + sn) (sp + tn) ≡ b → (c : Bool) → ltb (P + M) (Q + N) ≡ c
+      → cond a true (cond b false (ltb (ep + fn) (fp + en))) ≡ c
   by-sums true b p q true r = refl
   by-sums true b p q false r =
       let i : sp + tn < tp + sn = ltb-true (sp + tn) (tp + sn) p in
@@ -68,7 +70,8 @@ module _ (sp sn ep en tp tn fp fn P N Q M : ℕ) (h : sp + ep + N ≡ sn + en + 
       let j : Q + N ≤ P + M = ltb-false (P + M) (Q + N) r in
       le-ltb (ep + fn) (fp + en) (omega arith)
 
-pub sooner-exactly : (d e : JulianDate) (P N Q M : ℕ) → FiniteSums d → FiniteSums e → Worth d P N L → Worth e Q M L → sooner (sums d) (sums e) ≡ ltb (P + M) (Q + N)
+pub sooner-exactly : (d e : JulianDate) (P N Q M : ℕ) → FiniteSums d → FiniteSums e → Worth d P N L → Worth e Q M L
+    → sooner (sums d) (sums e) ≡ ltb (P + M) (Q + N)
 unfolding sooner
 sooner-exactly d e P N Q M s t v w =
     let x = sums-of s v in
@@ -88,7 +91,8 @@ both-true true true o u h = (tt, (tt, (let z : u ≡ o = cc in z)))
 both-true true false o u h = let z : _≡_ {A = ℕ} 0 1 = cc in let w : ⊥ = omega arith in absurd w
 both-true false b o u h = let z : _≡_ {A = ℕ} 0 1 = cc in let w : ⊥ = omega arith in absurd w
 
-module _ (d e : JulianDate) (f1 : T (fits binary64 (d .jd1))) (f2 : T (fits binary64 (d .jd2))) (g1 : T (fits binary64 (e .jd1))) (g2 : T (fits binary64 (e .jd2)))
+module _ (d e : JulianDate) (f1 : T (fits binary64 (d .jd1))) (f2 : T (fits binary64 (d .jd2))) (g1 : T (fits binary64 (e .jd1)))
+    (g2 : T (fits binary64 (e .jd2)))
     (o : Order) (is : comparison d e ≡ answer o) where
   told : T (finite (sums d .error)) × (T (finite (sums e .error)) × (dateOrder d e ≡ o))
   unfolding comparison
@@ -183,7 +187,8 @@ unfolding orderOf
 le-not-after a b h = to-numbers a b (ltb a b) (ltb b a) refl refl h
 
 -- of three dates, if the first is not after the second and that not after the third, the first is not after the third
-pub order-transitive : (d e f : JulianDate) → FiniteSums d → FiniteSums e → FiniteSums f → notAfter (dateOrder d e) ≡ true → notAfter (dateOrder e f) ≡ true → notAfter (dateOrder d f) ≡ true
+pub order-transitive : (d e f : JulianDate) → FiniteSums d → FiniteSums e → FiniteSums f → notAfter (dateOrder d e) ≡ true → notAfter (dateOrder e f) ≡ true
+    → notAfter (dateOrder d f) ≡ true
 order-transitive d e f s t u h k =
     let v = sum-worth d s in
     let w = sum-worth e t in

@@ -1,6 +1,6 @@
 -- The order of two dates is that of the other way round, exchanged, whatever their parts are. Assumes nothing.
-use mathlib.Core.Path.{_≡_, refl, sym, ap, _∙_, subst}
-use Prim.Native.Nat.{ℕ, _+_, _*_, _<_, _≤_}
+use mathlib.Core.Path.{_≡_, refl, sym}
+use Prim.Native.Nat.{ℕ, _*_, _<_}
 use native.Mathlib.Omega.{arith}
 use mathlib.Core.Bool.{Bool, true, false, not, cond, _&&_, true≢false}
 use lib.Dec.{ltb}
@@ -9,7 +9,7 @@ use borrow.Author.Tests.{le-ltb, ltb-true}
 use Rattle.julian.specs.declared.JulianDate.{JulianDate}
 use Rattle.julian.specs.declared.ExactSum.{ExactSum}
 use Rattle.julian.specs.Equality.{sums}
-use Rattle.julian.specs.order.Order.{Order, comesBefore, sameSum, comesAfter, sooner, dateOrder, swapped}
+use Rattle.julian.specs.order.Order.{comesBefore, sameSum, comesAfter, sooner, dateOrder, swapped}
 
 ltb-once : (a b : ℕ) → ltb a b ≡ true → ltb b a ≡ false
 ltb-once a b p = let h : a < b = ltb-true a b p in le-ltb b a (omega arith)
@@ -51,7 +51,8 @@ by-tests false false c d f g p = g p
 
 pub sooner-once : (s t : ExactSum) → sooner s t ≡ true → sooner t s ≡ false
 unfolding sooner
-sooner-once s t p = by-tests (lt (s .sum) (t .sum)) (lt (t .sum) (s .sum)) (lt (s .error) (t .error)) (lt (t .error) (s .error)) (lt-once (s .sum) (t .sum)) (lt-once (s .error) (t .error)) p
+sooner-once s t p = by-tests (lt (s .sum) (t .sum)) (lt (t .sum) (s .sum)) (lt (s .error) (t .error)) (lt (t .error) (s .error)) (lt-once (s .sum) (t .sum))
+    (lt-once (s .error) (t .error)) p
 
 swap-by : (a b : Bool) → (a ≡ true → b ≡ false) → cond b comesBefore (cond a comesAfter sameSum) ≡ swapped (cond a comesBefore (cond b comesAfter sameSum))
 unfolding swapped

@@ -1,12 +1,11 @@
--- How the same stamp stands to document 01's equality. Finite stamps that are the same are equal, but where the sum is finite and two-sum's error is a NaN; that
--- takes an overflow on the way, so none is left for parts of at most 2 ^ 1021 in size. Assumes nothing.
+-- How the same stamp stands to document 01's equality. Finite stamps that are the same are equal, but where the sum is finite and two-sum's error is a NaN;
+-- that takes an overflow on the way, so none is left for parts of at most 2 ^ 1021 in size. Assumes nothing.
 use mathlib.Core.Path.{_≡_, refl, sym, ap, _∙_}
-use mathlib.Core.Bool.{Bool, true, false, not, cond, _&&_}
-use Prim.Native.Nat.{ℕ, _*_}
+use mathlib.Core.Bool.{true, false, not, cond, _&&_}
+use Prim.Native.Nat.{_*_}
 use borrow.Author.Tests.{eq-eqb}
-use lib.Ieee.{Float, nan, inf, fin, binary64, up, down, isNan, eq}
+use lib.Ieee.{Float, nan, inf, fin, up, down, isNan, eq}
 use lib.Ieee.Scale.{finite}
-use Rattle.rounding.specs.Value.{Under52}
 use Rattle.julian.specs.declared.JulianDate.{JulianDate}
 use Rattle.julian.specs.Finite.{bothFinite, finiteParts}
 use Rattle.julian.specs.Equality.{twoSumError, exactSum, sums, samePair, equal}
@@ -57,11 +56,13 @@ no-error d n = rw (n .sum, finite-no-nan (sums d .error) (n .error))
 
 -- ---- the same stamp and document 01's equality
 -- finite and the same, they are unequal exactly where the sum is finite and the error a NaN
-pub same-equal : (a b : Stamp) → same a b ≡ true → finiteParts (julianOf a) ≡ true → equal (julianOf a) (julianOf b) ≡ not (finite (sums (julianOf a) .sum) && isNan (sums (julianOf a) .error))
+pub same-equal : (a b : Stamp) → same a b ≡ true → finiteParts (julianOf a) ≡ true
+    → equal (julianOf a) (julianOf b) ≡ not (finite (sums (julianOf a) .sum) && isNan (sums (julianOf a) .error))
 same-equal a b e h = ap (λ (s : Stamp). equal (julianOf a) (julianOf s)) (sym (same-is a b e)) ∙ equal-itself (julianOf a) h
 
 -- document 02: "Equal by this test and finite implies equal by 01's wherever 01's two-sum doesn't overflow"
-pub same-implies-equal : (a b : Stamp) → same a b ≡ true → finiteParts (julianOf a) ≡ true → NoOverflow (julianOf a .jd1) (julianOf a .jd2) → equal (julianOf a) (julianOf b) ≡ true
+pub same-implies-equal : (a b : Stamp) → same a b ≡ true → finiteParts (julianOf a) ≡ true → NoOverflow (julianOf a .jd1) (julianOf a .jd2)
+    → equal (julianOf a) (julianOf b) ≡ true
 same-implies-equal a b e h n = same-equal a b e h ∙ ap not (no-error (julianOf a) n)
 
 -- so wherever both parts are at most 2 ^ 1021 in size
@@ -70,4 +71,5 @@ same-equal-1021 a b e x y = same-implies-equal a b e (both (julianOf a) (at-most
 
 -- and under 2 ^ 52, document 01's range
 pub same-equal-under : (a b : Stamp) → same a b ≡ true → SmallParts (julianOf a) → equal (julianOf a) (julianOf b) ≡ true
-same-equal-under a b e s = same-implies-equal a b e (both (julianOf a) (under-finite (s .first)) (under-finite (s .second))) (no-overflow-under (s .first) (s .second))
+same-equal-under a b e s = same-implies-equal a b e (both (julianOf a) (under-finite (s .first)) (under-finite (s .second)))
+    (no-overflow-under (s .first) (s .second))

@@ -1,5 +1,5 @@
--- "The two-sum does not overflow" is one thing in both words that the project has for it: document 02's, every one of its six results is finite (`NoOverflow`), and
--- `julian`'s, its sum and its error are (`FiniteSums`). Assumes nothing.
+-- "The two-sum does not overflow" is one thing in both words that the project has for it: document 02's, every one of its six results is finite (`NoOverflow`),
+-- and `julian`'s, its sum and its error are (`FiniteSums`). Assumes nothing.
 use mathlib.Core.Path.{_≡_, refl}
 use mathlib.Core.Bool.{Bool, true, false}
 use lib.Dec.{T}

@@ -40,5 +40,6 @@ pub same-onward : (a b c : Stamp) → same a b ≡ true → same b c ≡ true �
 same-onward a b c e f = is-same a c (same-is a b e ∙ same-is b c f)
 
 -- a pattern of 64 bits that is no NaN's is one float's alone, -0.0 and 0.0 being two: such patterns that differ are different floats
-pub patterns-apart : (m n : ℕ) → m < 2 ^ 64 → n < 2 ^ 64 → T (not (isNan (ofBits binary64 m))) → T (not (isNan (ofBits binary64 n))) → ofBits binary64 m ≡ ofBits binary64 n → m ≡ n
+pub patterns-apart : (m n : ℕ) → m < 2 ^ 64 → n < 2 ^ 64 → T (not (isNan (ofBits binary64 m))) → T (not (isNan (ofBits binary64 n)))
+    → ofBits binary64 m ≡ ofBits binary64 n → m ≡ n
 patterns-apart m n h k u v e = sym (toBits-ofBits binary64 m h u) ∙ ap (toBits binary64) e ∙ toBits-ofBits binary64 n k v

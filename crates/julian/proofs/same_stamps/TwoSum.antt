@@ -15,7 +15,8 @@ use Rattle.rounding.proofs.Value.{val-finite-true}
 use Rattle.julian.specs.same_stamps.TwoSum.{NoOverflow, AtMost1021}
 
 -- |a| and |b| are at most M units, and twice that and some roundings stay below what a rounding may be off by 2 ^ j / 2 for
-module _ (a b : Float) (p n q m M j : ℕ) (va : Val a p n L) (vb : Val b q m L) (h1 : p ≤ n + M) (h2 : n ≤ p + M) (h3 : q ≤ m + M) (h4 : m ≤ q + M) (most : j ≤ 2044) (room : 2 * M + 8 * 2 ^ j < 2 ^ (53 + j)) where
+module _ (a b : Float) (p n q m M j : ℕ) (va : Val a p n L) (vb : Val b q m L) (h1 : p ≤ n + M) (h2 : n ≤ p + M) (h3 : q ≤ m + M) (h4 : m ≤ q + M)
+    (most : j ≤ 2044) (room : 2 * M + 8 * 2 ^ j < 2 ^ (53 + j)) where
   sum : NearSum (add binary64 a b) (p + q) (n + m) j
   sum = add-near j most (omega arith) (omega arith) va vb
 
@@ -44,7 +45,8 @@ module _ (a b : Float) (p n q m M j : ℕ) (va : Val a p n L) (vb : Val b q m L)
   second-low : lost-second .n ≤ lost-second .p + 2 * 2 ^ j
   second-low = omega (arith, sum .over, second .over, lost-second .under)
 
-  error : NearSum (add binary64 (sub binary64 a (sub binary64 (add binary64 a b) (sub binary64 (add binary64 a b) a))) (sub binary64 b (sub binary64 (add binary64 a b) a))) (lost-first .p + lost-second .p) (lost-first .n + lost-second .n) j
+  error : NearSum (add binary64 (sub binary64 a (sub binary64 (add binary64 a b) (sub binary64 (add binary64 a b) a)))
+      (sub binary64 b (sub binary64 (add binary64 a b) a))) (lost-first .p + lost-second .p) (lost-first .n + lost-second .n) j
   error = add-near j most (omega (arith, first-high, second-high)) (omega (arith, first-low, second-low)) (lost-first .val) (lost-second .val)
 
   finite-throughout : NoOverflow a b

@@ -12,7 +12,8 @@ returns c = rw (eq-eqb (c .before .before .args .hour) 23 (c .before .if1 .taken
 
 returns-2 : tie.Need-returns-2
 unfolding secondLimit ofBits round
-returns-2 c = ⊎-elim (λ w. rw (eq-eqb (c .before .args .hour) 23 (w .0 .taken), w .1 .left)) (λ w. rw (ne-eqb (c .before .args .hour) 23 (w .left))) (c .if1 .came)
+returns-2 c = ⊎-elim (λ w. rw (eq-eqb (c .before .args .hour) 23 (w .0 .taken), w .1 .left)) (λ w. rw (ne-eqb (c .before .args .hour) 23 (w .left)))
+    (c .if1 .came)
 
 pub second-limit-spec : {M : Type 1} → statement M
 second-limit-spec = tie.close (tie.spec returns returns-2)

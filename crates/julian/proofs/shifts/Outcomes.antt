@@ -10,11 +10,13 @@ use Rattle.julian.specs.shifts.SmallerPart.{mapSmallerPart}
 use Rattle.julian.specs.shifts.Shifts.{daysOf, changed, converted, finiteOffset, finiteBoth, convertedBy}
 
 -- a date moved by so many days
-pub moved-alike : (f : Float → Float → Float → Float) {o o' : Outcome JulianDate} {x x' : Float} → o ≡ o' → x ≡ x' → onward o (changed (f x)) ≡ onward o' (changed (f x'))
+pub moved-alike : (f : Float → Float → Float → Float) {o o' : Outcome JulianDate} {x x' : Float} → o ≡ o' → x ≡ x'
+    → onward o (changed (f x)) ≡ onward o' (changed (f x'))
 moved-alike f e h = cc
 
 -- the date that is tested is the date that goes on
-pub both : (s : Float) (d : JulianDate) {o o' : Outcome JulianDate} → o ≡ finiteJd d → o' ≡ finiteOffset s d → onward o (λ (e : JulianDate). o') ≡ onward (finiteJd d) (finiteOffset s)
+pub both : (s : Float) (d : JulianDate) {o o' : Outcome JulianDate} → o ≡ finiteJd d → o' ≡ finiteOffset s d
+    → onward o (λ (e : JulianDate). o') ≡ onward (finiteJd d) (finiteOffset s)
 unfolding onward finiteJd
 both s d {o} {o'} e h = ap (λ (z : Outcome JulianDate). onward z (λ (e : JulianDate). o')) e ∙ go (finite (d .jd1) && finite (d .jd2))
   where
@@ -31,11 +33,13 @@ first f d = go (finite (d .jd1) && finite (d .jd2))
     go true = refl
     go false = refl
 
-pub first-by : (f : Float → Float → Float → Float) (s : Float) (d : JulianDate) → convertedBy f s d ≡ cond (finiteParts d) (cond (finite s) (answer (mapSmallerPart (f (daysOf s)) d)) (refusal 10)) (refusal 9)
+pub first-by : (f : Float → Float → Float → Float) (s : Float) (d : JulianDate)
+    → convertedBy f s d ≡ cond (finiteParts d) (cond (finite s) (answer (mapSmallerPart (f (daysOf s)) d)) (refusal 10)) (refusal 9)
 unfolding convertedBy finiteBoth finiteOffset finiteJd finiteArg onward changed
 first-by f s d = go (finite (d .jd1) && finite (d .jd2)) (finite s)
   where
-    go : (b c : Bool) → onward (onward (cond b (answer d) (refusal 9)) (λ (e : JulianDate). onward (cond c (answer s) (refusal 10)) (λ (t : Float). answer e))) (changed (f (daysOf s)))
+    go : (b c : Bool) → onward (onward (cond b (answer d) (refusal 9))
+        (λ (e : JulianDate). onward (cond c (answer s) (refusal 10)) (λ (t : Float). answer e))) (changed (f (daysOf s)))
         ≡ cond b (cond c (answer (mapSmallerPart (f (daysOf s)) d)) (refusal 10)) (refusal 9)
     go true true = refl
     go true false = refl
@@ -45,7 +49,8 @@ first-by f s d = go (finite (d .jd1) && finite (d .jd2)) (finite s)
 pub converted-is : (f : Float → Float → Float) (d : JulianDate) → finite (d .jd1) ≡ true → finite (d .jd2) ≡ true → converted f d ≡ answer (mapSmallerPart f d)
 converted-is f d h k = first f d ∙ rw (h, k)
 
-pub by-is : (f : Float → Float → Float → Float) (s : Float) (d : JulianDate) → finite (d .jd1) ≡ true → finite (d .jd2) ≡ true → finite s ≡ true → convertedBy f s d ≡ answer (mapSmallerPart (f (daysOf s)) d)
+pub by-is : (f : Float → Float → Float → Float) (s : Float) (d : JulianDate) → finite (d .jd1) ≡ true → finite (d .jd2) ≡ true → finite s ≡ true
+    → convertedBy f s d ≡ answer (mapSmallerPart (f (daysOf s)) d)
 by-is f s d h k l = first-by f s d ∙ rw (h, k, l)
 
 -- both of two tests

@@ -93,7 +93,8 @@ unfolding lt borrowDay carryDay add sub
 normalizeFraction kahan =
     let fraction = add binary64 (kahan .sum) (kahan .correction) in
     let more = borrowDay (kahanOf (kahan .sum) fraction) in
-    cond (lt fraction nought) (besideBorrowed (more .borrow) (carryDay (more .kahan) (more .fraction))) (besideBorrowed 0 (carryDay (kahanOf (kahan .sum) fraction) fraction))
+    cond (lt fraction nought) (besideBorrowed (more .borrow) (carryDay (more .kahan) (more .fraction)))
+    (besideBorrowed 0 (carryDay (kahanOf (kahan .sum) fraction) fraction))
 
 -- a part less its whole number
 unfoldable pub rest : Float → Float
@@ -111,7 +112,8 @@ joinedFractions f g = normalizeFraction (sumFractions f g .kahan)
 
 unfoldable pub dayNumber : Float → Float → ℤ
 unfolding toSigned nearestInt sumFractions joinedFractions rest
-dayNumber jd1 jd2 = total (nearestInt jd1) (nearestInt jd2) (sumFractions (rest jd1) (rest jd2) .carry) (joinedFractions (rest jd1) (rest jd2) .carry) (joinedFractions (rest jd1) (rest jd2) .borrow)
+dayNumber jd1 jd2 = total (nearestInt jd1) (nearestInt jd2) (sumFractions (rest jd1) (rest jd2) .carry) (joinedFractions (rest jd1) (rest jd2) .carry)
+    (joinedFractions (rest jd1) (rest jd2) .borrow)
 
 unfoldable pub fractionPassed : Float → Float → Float
 unfolding joinedFractions rest

@@ -1,5 +1,5 @@
--- The exact day and the exact fraction of a two-part Julian date, from its parts alone. Written from document 01, "Day and fraction". On the grid every part, sum and
--- fraction is a whole number of 2 ^ -52 day, and here each is counted in that unit. Assumes nothing.
+-- The exact day and the exact fraction of a two-part Julian date, from its parts alone. Written from document 01, "Day and fraction". On the grid every part,
+-- sum and fraction is a whole number of 2 ^ -52 day, and here each is counted in that unit. Assumes nothing.
 use mathlib.Core.Path.{_≡_}
 use mathlib.Core.Bool.{false}
 use Prim.Native.Nat.{ℕ, _+_, _-_, _*_, _/_, _%_, _^_, _≤_, _<_}

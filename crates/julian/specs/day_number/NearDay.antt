@@ -1,5 +1,5 @@
--- How near the day and the fraction are to the exact ones off the grid. Written from document 01, "Day and fraction", and its off-grid bound over scaled whole numbers.
--- Every finite float is a whole number of 2 ^ -1074, of which L are 1.0, and here parts and sums are counted in that unit. Assumes nothing.
+-- How near the day and the fraction are to the exact ones off the grid. Written from document 01, "Day and fraction", and its off-grid bound over scaled whole
+-- numbers. Every finite float is a whole number of 2 ^ -1074, of which L are 1.0, and here parts and sums are counted in that unit. Assumes nothing.
 use Prim.Native.Nat.{ℕ, _+_, _*_, _^_, _≤_}
 use lib.IntN.{ℤ}
 use lib.Ieee.{Float}

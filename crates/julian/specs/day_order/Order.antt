@@ -1,5 +1,5 @@
--- When one day and fraction is no later than another, and which first parts are whole numbers of half days, as the date of a midnight or of a noon is. Written from document 01, "Day and
--- fraction", over scaled whole numbers: every finite float is a whole number of 2 ^ -1074, of which L are 1.0. Assumes nothing.
+-- When one day and fraction is no later than another, and which first parts are whole numbers of half days, as the date of a midnight or of a noon is. Written
+-- from document 01, "Day and fraction", over scaled whole numbers: every finite float is a whole number of 2 ^ -1074, of which L are 1.0. Assumes nothing.
 use Prim.Native.Nat.{ℕ, _+_, _*_, _≤_}
 use lib.Dec.{T}
 use lib.IntN.{ℤ}

@@ -1,7 +1,7 @@
 -- What holds of every answer of `julian_to_calendar`: its range, and how near it is to the exact date. Written from document 01, "Calendar date" and "Day and
 -- fraction", and document 02's request 14. Assumes nothing.
 use mathlib.Core.Path.{_≡_}
-use Prim.Native.Nat.{ℕ, _≤_}
+use Prim.Native.Nat.{_≤_}
 use lib.IntN.{ℤ, negsuc}
 use Rattle.calendar.specs.declared.CalendarDate.{CalendarDate}
 use Rattle.calendar.specs.Calendar.{date, dateOf}

@@ -1,6 +1,6 @@
--- What the calls of `julian` mean in exact numbers, and to what distance: a clock time of a date, days and seconds added, a difference, and the Julian year. Written from
--- document 01, "Julian date", "Calendar date" and "Refusals by number"; 365.25 is said as 1461 / 4, 86,400 and J2000.0 by their digits, apart from the code's
--- constants, so that a wrong digit of either is noticed. The bounds are this project's own. Assumes nothing.
+-- What the calls of `julian` mean in exact numbers, and to what distance: a clock time of a date, days and seconds added, a difference, and the Julian year.
+-- Written from document 01, "Julian date", "Calendar date" and "Refusals by number"; 365.25 is said as 1461 / 4, 86,400 and J2000.0 by their digits, apart from
+-- the code's constants, so that a wrong digit of either is noticed. The bounds are this project's own. Assumes nothing.
 use Prim.Native.Nat.{ℕ, _+_, _*_, _^_, _≤_}
 use mathlib.Core.Path.{_≡_}
 use lib.IntN.{ℤ, pos}
@@ -29,8 +29,8 @@ pub record HalfDays (K : ℕ) (x : Float) : Type 0 where
   pub high : p ≤ n + K * 2
   pub low : n ≤ p + K * 2
 
--- the date is that of the calendar date y-m-d at the clock time: jd1 is exactly its midnight, n + 2400000.5 days for the Modified Julian Date n; jd2 is within ps
--- picoseconds of (3600 * hour + 60 * minute + second) / 86400 days, the second taken at its exact value, x / L
+-- the date is that of the calendar date y-m-d at the clock time: jd1 is exactly its midnight, n + 2400000.5 days for the Modified Julian Date n; jd2 is within
+-- ps picoseconds of (3600 * hour + 60 * minute + second) / 86400 days, the second taken at its exact value, x / L
 pub record AtClock (ps : ℕ) (y : ℤ) (m d hour minute : ℕ) (second : Float) (date : JulianDate) : Type 0 where
   pub n : ℤ
   pub mjd : mjdOf y (pos m) (pos d) ≡ answer n

@@ -1,10 +1,10 @@
--- The order of two Julian dates by Knuth's two-sum: the rounded sums, then what their rounding lost. This project's own: the Rust has no order of dates, and the sign of
--- a difference is none. It is the order of the exact sums, which is proved (`exactly-ordered`). Assumes nothing.
+-- The order of two Julian dates by Knuth's two-sum: the rounded sums, then what their rounding lost. This project's own: the Rust has no order of dates, and
+-- the sign of a difference is none. It is the order of the exact sums, which is proved (`exactly-ordered`). Assumes nothing.
 use mathlib.Core.Path.{_≡_}
 use Prim.Native.Nat.{ℕ}
 use lib.Dec.{ltb}
 use mathlib.Core.Bool.{Bool, true, false, cond, _&&_}
-use lib.Ieee.{Float, lt}
+use lib.Ieee.{lt}
 use lib.Ieee.Scale.{finite}
 use Rattle.refusals.specs.Outcome.{Outcome, answer, refusal}
 use Rattle.julian.specs.declared.JulianDate.{JulianDate}

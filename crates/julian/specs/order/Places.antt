@@ -1,5 +1,5 @@
--- What a list of dates in order asks of two of them, apart from the three answers of `comparison`: whether a date has a place in the order, and whether one comes before
--- another. This project's own, as the order is. Assumes nothing.
+-- What a list of dates in order asks of two of them, apart from the three answers of `comparison`: whether a date has a place in the order, and whether one
+-- comes before another. This project's own, as the order is. Assumes nothing.
 use mathlib.Core.Bool.{Bool}
 use lib.Ieee.Scale.{finite}
 use Rattle.julian.specs.declared.JulianDate.{JulianDate}

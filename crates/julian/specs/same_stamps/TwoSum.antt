@@ -1,5 +1,5 @@
--- That none of the six operations of two-sum overflows. Written from document 02, item 9 ("wherever 01's two-sum doesn't overflow"), and the operations of `exactSum` in
--- `julian`, one by one. Assumes nothing.
+-- That none of the six operations of two-sum overflows. Written from document 02, item 9 ("wherever 01's two-sum doesn't overflow"), and the operations of
+-- `exactSum` in `julian`, one by one. Assumes nothing.
 use mathlib.Core.Path.{_≡_}
 use mathlib.Core.Bool.{true, false}
 use lib.Dec.{T}
@@ -15,7 +15,8 @@ pub record NoOverflow (a b : Float) : Type 0 where
   pub first : finite (sub binary64 (add binary64 a b) (sub binary64 (add binary64 a b) a)) ≡ true
   pub lost-first : finite (sub binary64 a (sub binary64 (add binary64 a b) (sub binary64 (add binary64 a b) a))) ≡ true
   pub lost-second : finite (sub binary64 b (sub binary64 (add binary64 a b) a)) ≡ true
-  pub error : finite (add binary64 (sub binary64 a (sub binary64 (add binary64 a b) (sub binary64 (add binary64 a b) a))) (sub binary64 b (sub binary64 (add binary64 a b) a))) ≡ true
+  pub error : finite (add binary64 (sub binary64 a (sub binary64 (add binary64 a b) (sub binary64 (add binary64 a b) a)))
+      (sub binary64 b (sub binary64 (add binary64 a b) a))) ≡ true
 
 -- |x| ≤ 2 ^ 1021
 pub record AtMost1021 (x : Float) : Type 0 where

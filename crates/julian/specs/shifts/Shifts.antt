@@ -1,5 +1,5 @@
--- A date so many days later or earlier, and what is refused first. Written from the Rust's files of scales/conversions, each operation rounded once, and from document 01,
--- "Scale dates" and the order of refusals (9 before 10). Assumes nothing.
+-- A date so many days later or earlier, and what is refused first. Written from the Rust's files of scales/conversions, each operation rounded once, and from
+-- document 01, "Scale dates" and the order of refusals (9 before 10). Assumes nothing.
 use lib.Ieee.{Float, binary64, add, sub, div}
 use Rattle.refusals.specs.Outcome.{Outcome, answer, onward}
 use Rattle.constants.specs.Constants.{secondsPerDay}

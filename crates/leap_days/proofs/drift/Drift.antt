@@ -59,7 +59,8 @@ rowsTest r r′ y m = daysTest (secondsOf r) (startOf r) (rateOf r) (eqb (r′ .
 -- month i of 1960 to 1971
 unfoldable pub monthTest : ℕ → Bool
 unfolding rowsTest fixed reached
-monthTest i = rowsTest (getD fixed (reached (starts fixed) (23520 + i) - 1) none) (getD fixed (reached (starts fixed) (23521 + i) - 1) none) (1960 + i / 12) (i % 12 + 1)
+monthTest i = rowsTest (getD fixed (reached (starts fixed) (23520 + i) - 1) none) (getD fixed (reached (starts fixed) (23521 + i) - 1) none) (1960 + i / 12)
+    (i % 12 + 1)
 
 -- in parts, each within the prover's limit of steps
 abbrev pub part : ℕ → Type 0

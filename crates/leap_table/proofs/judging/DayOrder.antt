@@ -5,7 +5,7 @@ use native.Mathlib.Decide.{decLt}
 use mathlib.Core.Path.{_≡_, refl, sym, ap, subst, _∙_}
 use mathlib.Core.Bool.{Bool, true, false, true≢false, cond}
 use lib.Dec.{ltb}
-use lib.IntN.{ℤ, pos, negsuc, natAbs, subℕ, sucℤ, _+ℤ_, _-ℤ_}
+use lib.IntN.{ℤ, pos, negsuc, natAbs, sucℤ, _+ℤ_, _-ℤ_}
 use lib.Signed.{ltZ}
 use borrow.Author.Tests.{ltb-true, ltb-false, lt-ltb, le-ltb}
 use Rattle.refusals.specs.Outcome.{answer}
@@ -19,7 +19,7 @@ use Rattle.calendar.proofs.Years.{years-later, not-before}
 use Rattle.calendar.proofs.Signs.{sub-at}
 use Rattle.calendar.proofs.Mjd.{day-of-date}
 use Rattle.leap_table.specs.declared.judging.Triple.{Triple}
-use Rattle.leap_table.specs.judging.Judging.{byFirst, earlier, validTriple}
+use Rattle.leap_table.specs.judging.Judging.{earlier, validTriple}
 
 -- ---- a year from -4799 on, counted from there
 abbrev From : ℤ → Type 0
@@ -53,7 +53,8 @@ years (negsuc a) (pos b) p q = sym (lt-ltb (since (negsuc a)) (b + 4799) (omega 
 years (negsuc a) (negsuc b) p q =
     let h = ltb-false 4798 a p in
     let k = ltb-false 4798 b q in
-    same-test b a (since (negsuc a)) (since (negsuc b)) (λ l. omega (arith, l, h, k, since-neg a h, since-neg b k)) (λ l. omega (arith, l, h, k, since-neg a h, since-neg b k))
+    same-test b a (since (negsuc a)) (since (negsuc b)) (λ l. omega (arith, l, h, k, since-neg a h, since-neg b k))
+    (λ l. omega (arith, l, h, k, since-neg a h, since-neg b k))
 
 sizes : (m n : ℤ) → ltZ m (pos 1) ≡ false → ltZ n (pos 1) ≡ false → ltZ m n ≡ ltb (natAbs m) (natAbs n)
 sizes (pos a) (pos b) p q = refl
@@ -74,7 +75,8 @@ next-rises t c p = go (ltb (t .day) (monthLength (t .year) (t .month))) (ltb (t 
     few : t .day ≤ 31
     few = omega (arith, c .d-high, short (leapYear (t .year)) (t .month) (c .m-low) (c .m-high))
 
-    go : (a b : Bool) → placeOf t < placeOf (cond a (date (t .year) (t .month) (t .day + 1)) (cond b (date (t .year) (t .month + 1) 1) (date (sucℤ (t .year)) 1 1)))
+    go : (a b : Bool) → placeOf t < placeOf
+        (cond a (date (t .year) (t .month) (t .day + 1)) (cond b (date (t .year) (t .month + 1) 1) (date (sucℤ (t .year)) 1 1)))
     go true b = omega arith
     go false true = omega (arith, few)
     go false false = omega (arith, few, one-year (t .year) p, c .m-high)
@@ -149,7 +151,8 @@ module _ (a b : Triple) (p : validTriple a ≡ answer tt) (q : validTriple b ≡
       let (k, f, t) = day-of-date (b .year) (b .month) (b .day) q in
       by-fields
       ∙ sym (λ i. ltb (placeOf (s i)) (placeOf (t i)))
-      ∙ sym (days j k (subst (λ (x : CalendarDate). From (x .year)) (sym s) (good-a .year)) (subst (λ (x : CalendarDate). From (x .year)) (sym t) (good-b .year)))
+      ∙ sym (days j k (subst (λ (x : CalendarDate). From (x .year)) (sym s) (good-a .year))
+      (subst (λ (x : CalendarDate). From (x .year)) (sym t) (good-b .year)))
       ∙ sym (less-by 2578141 j k)
       ∙ sym (λ i. ltZ (e i) (f i))
     where

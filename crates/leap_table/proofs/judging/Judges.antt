@@ -2,7 +2,7 @@
 use Prim.Native.Nat.{ℕ, zero, suc, _+_, _-_, _≤_, _<_}
 use native.Mathlib.Omega.{arith}
 use native.Mathlib.Numerals.{add-one}
-use mathlib.Core.Path.{_≡_, refl, sym, ap, subst, _∙_}
+use mathlib.Core.Path.{_≡_, refl, sym, ap, _∙_}
 use mathlib.Core.Bool.{Bool, true, false, cond, _||_}
 use mathlib.Core.List.{List, [], _∷_}
 use lib.IntN.{ℤ, pos, negsuc, natAbs}
@@ -13,11 +13,11 @@ use mir.Val.{SFits, toZ, ofZ}
 use mir.Facts.{toZ-ofZ}
 use borrow.Author.Tests.{ltb-false, le-ltb, leb-true}
 use Rattle.refusals.specs.Outcome.{Outcome, answer, refusal, onward}
-use Rattle.calendar.specs.Calendar.{leapYear, lengths, monthLength, daysInMonth}
+use Rattle.calendar.specs.Calendar.{leapYear, lengths, daysInMonth}
 use Rattle.calendar.specs.Refusals.{validDate}
 use Rattle.calendar.proofs.Months.{months}
 use Rattle.calendar.proofs.Signs.{at-least-one}
-use Rattle.calendar.proofs.Accepted.{Accepted, date-accepted, month-days}
+use Rattle.calendar.proofs.Accepted.{date-accepted, month-days}
 use Rattle.leap_table.specs.rows.Announced.{unlessRefused}
 use Rattle.leap_table.specs.declared.judging.Triple.{Triple}
 use Rattle.leap_table.specs.judging.Judging.{triple, earlier, validTriple, judgedNext, judgedAfter, judgedAll}
@@ -55,8 +55,10 @@ module _ (a b : Triple) where
 -- ---- a day that every month has
 twenty-eight : (b : Bool) (m : ℕ) → 1 ≤ m → m ≤ 12 → 28 ≤ lengths b m
 unfolding lengths
-twenty-eight true = months (λ m. 28 ≤ lengths true m) (omega arith) (omega arith) (omega arith) (omega arith) (omega arith) (omega arith) (omega arith) (omega arith) (omega arith) (omega arith) (omega arith) (omega arith)
-twenty-eight false = months (λ m. 28 ≤ lengths false m) (omega arith) (omega arith) (omega arith) (omega arith) (omega arith) (omega arith) (omega arith) (omega arith) (omega arith) (omega arith) (omega arith) (omega arith)
+twenty-eight true = months (λ m. 28 ≤ lengths true m) (omega arith) (omega arith) (omega arith) (omega arith) (omega arith) (omega arith) (omega arith)
+    (omega arith) (omega arith) (omega arith) (omega arith) (omega arith)
+twenty-eight false = months (λ m. 28 ≤ lengths false m) (omega arith) (omega arith) (omega arith) (omega arith) (omega arith) (omega arith) (omega arith)
+    (omega arith) (omega arith) (omega arith) (omega arith) (omega arith)
 
 month-at-most : (m : ℤ) → ltZ m (pos 1) ≡ false → ltZ (pos 12) m ≡ false → natAbs m ≤ 12
 month-at-most (pos n) p q = ltb-false 12 n q
@@ -66,15 +68,18 @@ day-at-most : (d : ℤ) (k : ℕ) → ltZ d (pos 1) ≡ false → leZ d (pos 28)
 day-at-most (pos n) k p q h = le-ltb k n (omega (arith, leb-true n 28 q))
 day-at-most (negsuc n) k p q h = refl
 
-pub every-month : (t : Triple) → ltZ (t .year) (negsuc 4798) ≡ false → ltZ (t .month) (pos 1) ≡ false → ltZ (pos 12) (t .month) ≡ false → ltZ (t .day) (pos 1) ≡ false → leZ (t .day) (pos 28) ≡ true → validTriple t ≡ answer tt
+pub every-month : (t : Triple) → ltZ (t .year) (negsuc 4798) ≡ false → ltZ (t .month) (pos 1) ≡ false → ltZ (pos 12) (t .month) ≡ false
+    → ltZ (t .day) (pos 1) ≡ false → leZ (t .day) (pos 28) ≡ true → validTriple t ≡ answer tt
 unfolding validDate
 every-month t p q r s u =
     let m = natAbs (t .month) in
-    let h : 28 ≤ daysInMonth (t .year) (t .month) = rw (month-days (t .year) (t .month) q) (twenty-eight (leapYear (t .year)) m (at-least-one (t .month) q .1) (month-at-most (t .month) q r)) in
+    let h : 28 ≤ daysInMonth (t .year) (t .month) =
+    rw (month-days (t .year) (t .month) q) (twenty-eight (leapYear (t .year)) m (at-least-one (t .month) q .1) (month-at-most (t .month) q r)) in
     rw (p, q, r, s, day-at-most (t .day) (daysInMonth (t .year) (t .month)) s u h)
 
 -- ---- a date's own number is not 0
-is-number : (a b c : Bool) (k : ℕ) → _≡_ {A = Outcome Unit} (cond a (refusal 1) (cond b (refusal 2) (cond c (refusal 3) (answer tt)))) (refusal k) → _≡_ {A = Outcome Unit} (unlessRefused k tt) (refusal k)
+is-number : (a b c : Bool) (k : ℕ) → _≡_ {A = Outcome Unit} (cond a (refusal 1) (cond b (refusal 2) (cond c (refusal 3) (answer tt)))) (refusal k)
+    → _≡_ {A = Outcome Unit} (unlessRefused k tt) (refusal k)
 is-number true b c zero e = let z : _≡_ {A = ℕ} 0 1 = cc in absurd (omega arith)
 is-number false true c zero e = let z : _≡_ {A = ℕ} 0 2 = cc in absurd (omega arith)
 is-number false false true zero e = let z : _≡_ {A = ℕ} 0 3 = cc in absurd (omega arith)
@@ -92,7 +97,8 @@ module _ (before t : Triple) where
   judged-bad zero e h = absurd (h refl)
   judged-bad (suc k) e h = ap (λ (o : Outcome Unit). onward o (λ _. cond (earlier t before) (refusal 17) (answer tt))) e
 
-  pub judged-order : (k : ℕ) → unlessRefused k tt ≡ validTriple t → k ≡ 0 → (b : Bool) → b ≡ earlier t before → cond b (refusal 17) (answer tt) ≡ judgedNext before t
+  pub judged-order : (k : ℕ) → unlessRefused k tt ≡ validTriple t → k ≡ 0 → (b : Bool) → b ≡ earlier t before
+      → cond b (refusal 17) (answer tt) ≡ judgedNext before t
   unfolding judgedNext onward
   judged-order k e h b p =
       ap (λ (x : Bool). cond x (refusal 17) (answer tt)) p
@@ -149,23 +155,28 @@ module _ (f : ℕ → Triple) (n i : ℕ) where
       ap (datesFrom f i) e
 
   module _ (before : Triple) where
-    after-next : i < n → judgedAfter before (datesFrom f i (n - i)) ≡ onward (judgedNext before (f i)) (λ _. judgedAfter (f i) (datesFrom f (i + 1) (n - (i + 1))))
+    after-next : i < n → judgedAfter before (datesFrom f i (n - i)) ≡ onward (judgedNext before (f i))
+        (λ _. judgedAfter (f i) (datesFrom f (i + 1) (n - (i + 1))))
     unfolding judgedAfter
     after-next h = ap (judgedAfter before) (next-date h)
 
-    pub judging-stops : (t : Triple) (k : ℕ) → i < n → t ≡ f i → unlessRefused k tt ≡ judgedNext before t → (k ≡ 0 → ⊥) → unlessRefused k tt ≡ judgedAfter before (datesFrom f i (n - i))
+    pub judging-stops : (t : Triple) (k : ℕ) → i < n → t ≡ f i → unlessRefused k tt ≡ judgedNext before t → (k ≡ 0 → ⊥)
+        → unlessRefused k tt ≡ judgedAfter before (datesFrom f i (n - i))
     unfolding onward
     judging-stops t k h e p z = go k z (p ∙ ap (judgedNext before) e) ∙ sym (after-next h)
       where
-        go : (j : ℕ) → (j ≡ 0 → ⊥) → unlessRefused j tt ≡ judgedNext before (f i) → unlessRefused j tt ≡ onward (judgedNext before (f i)) (λ _. judgedAfter (f i) (datesFrom f (i + 1) (n - (i + 1))))
+        go : (j : ℕ) → (j ≡ 0 → ⊥) → unlessRefused j tt ≡ judgedNext before (f i)
+            → unlessRefused j tt ≡ onward (judgedNext before (f i)) (λ _. judgedAfter (f i) (datesFrom f (i + 1) (n - (i + 1))))
         go zero w q = absurd (w refl)
         go (suc j) w q = ap (λ (o : Outcome Unit). onward o (λ _. judgedAfter (f i) (datesFrom f (i + 1) (n - (i + 1))))) q
 
-    pub judging-goes : (t : Triple) (k : ℕ) → i < n → t ≡ f i → unlessRefused k tt ≡ judgedNext before t → k ≡ 0 → judgedAfter before (datesFrom f i (n - i)) ≡ judgedAfter t (datesFrom f (i + 1) (n - (i + 1)))
+    pub judging-goes : (t : Triple) (k : ℕ) → i < n → t ≡ f i → unlessRefused k tt ≡ judgedNext before t → k ≡ 0
+        → judgedAfter before (datesFrom f i (n - i)) ≡ judgedAfter t (datesFrom f (i + 1) (n - (i + 1)))
     unfolding onward
     judging-goes t k h e p z =
         after-next h
-        ∙ ap (λ (o : Outcome Unit). onward o (λ _. judgedAfter (f i) (datesFrom f (i + 1) (n - (i + 1))))) (sym (ap (λ (x : ℕ). unlessRefused x tt) (sym z) ∙ p ∙ ap (judgedNext before) e))
+        ∙ ap (λ (o : Outcome Unit). onward o (λ _. judgedAfter (f i) (datesFrom f (i + 1) (n - (i + 1)))))
+        (sym (ap (λ (x : ℕ). unlessRefused x tt) (sym z) ∙ p ∙ ap (judgedNext before) e))
         ∙ ap (λ (x : Triple). judgedAfter x (datesFrom f (i + 1) (n - (i + 1)))) (sym e)
 
     pub judging-starts : judgedAll (datesFrom f 0 n) ≡ judgedAfter firstDate (datesFrom f 0 (n - 0))

@@ -18,7 +18,14 @@ module _ (s : List ℕ) (at : ℕ) where
       let a1 : at + (j + 1) ≡ at + j + 1 = omega arith in
       let a2 : at + (j + 2) ≡ at + j + 2 = omega arith in
       let a3 : at + (j + 3) ≡ at + j + 3 = omega arith in
-      omega (arith, byte j (omega arith), byte (j + 1) (omega arith) ∙ ap (λ (x : ℕ). getD s x 0) a1, byte (j + 2) (omega arith) ∙ ap (λ (x : ℕ). getD s x 0) a2, byte (j + 3) (omega arith) ∙ ap (λ (x : ℕ). getD s x 0) a3)
+      omega (
+        arith,
+        byte j (omega arith),
+        byte (j + 1) (omega arith) ∙ ap (λ (x : ℕ). getD s x 0) a1,
+        byte (j + 2) (omega arith)
+            ∙ ap (λ (x : ℕ). getD s x 0) a2,
+        byte (j + 3) (omega arith) ∙ ap (λ (x : ℕ). getD s x 0) a3,
+      )
 
   pub in-twelve : (k j : ℕ) → k ≡ 12 → at + 12 ≤ length s → j + 4 ≤ 12 → i32At (take k (drop at s)) j ≡ i32At s (at + j)
   unfolding u32At

@@ -46,7 +46,8 @@ module _ (rows : List Row) (k : ℕ) (mjd f : Float) where
   unfolding byRow
   by-rate p t e = sym (ap (λ (b : Bool). cond b (secondsOf r) (drift r mjd f)) e) ∙ sym (by-place p)
 
-  pub row-drifts : 0 < k → eqb (r .rate) 0 ≡ false → (a b c : Float) → a ≡ secondsOf r → b ≡ startOf r → c ≡ rateOf r → add binary64 a (mul binary64 (sub binary64 (add binary64 mjd f) b) c) ≡ offsetBy rows k mjd f
+  pub row-drifts : 0 < k → eqb (r .rate) 0 ≡ false → (a b c : Float) → a ≡ secondsOf r → b ≡ startOf r → c ≡ rateOf r
+      → add binary64 a (mul binary64 (sub binary64 (add binary64 mjd f) b) c) ≡ offsetBy rows k mjd f
   row-drifts p h a b c ea eb ec = (λ i. add binary64 (ea i) (mul binary64 (sub binary64 (add binary64 mjd f) (eb i)) (ec i))) ∙ by-rate p false h
 
   pub row-stays : 0 < k → eqb (r .rate) 0 ≡ true → (a : Float) → a ≡ secondsOf r → a ≡ offsetBy rows k mjd f
@@ -54,14 +55,16 @@ module _ (rows : List Row) (k : ℕ) (mjd f : Float) where
 
 -- in the fixed table
 module _ (k : ℕ) (mjd f : Float) where
-  pub drifting : 0 < k → k - 1 < 14 → (a b c : Float) → a ≡ secondsOf (rowAt k) → b ≡ startOf (rowAt k) → c ≡ rateOf (rowAt k) → add binary64 a (mul binary64 (sub binary64 (add binary64 mjd f) b) c) ≡ offsetBy fixed k mjd f
+  pub drifting : 0 < k → k - 1 < 14 → (a b c : Float) → a ≡ secondsOf (rowAt k) → b ≡ startOf (rowAt k) → c ≡ rateOf (rowAt k)
+      → add binary64 a (mul binary64 (sub binary64 (add binary64 mjd f) b) c) ≡ offsetBy fixed k mjd f
   drifting p h = row-drifts fixed k mjd f p (drifts (k - 1) (omega arith) ∙ ap not (lt-ltb (k - 1) 14 h))
 
   pub steady : 0 < k → 14 ≤ k - 1 → k - 1 < 42 → (a : Float) → a ≡ secondsOf (rowAt k) → a ≡ offsetBy fixed k mjd f
   steady p h l = row-stays fixed k mjd f p (drifts (k - 1) l ∙ ap not (le-ltb (k - 1) 14 h))
 
 -- by the month
-pub at-month : (rows : List Row) (k n : ℕ) (z z′ : ℤ) (f : Float) → k ≡ reached (starts rows) n → z ≡ z′ → offsetBy rows k (ofInt binary64 z) f ≡ offsetAt rows n (ofInt binary64 z′) f
+pub at-month : (rows : List Row) (k n : ℕ) (z z′ : ℤ) (f : Float) → k ≡ reached (starts rows) n → z ≡ z′
+    → offsetBy rows k (ofInt binary64 z) f ≡ offsetAt rows n (ofInt binary64 z′) f
 unfolding offsetAt
 at-month rows k n z z′ f p q = λ i. offsetBy rows (p i) (ofInt binary64 (q i)) f
 

@@ -1,5 +1,5 @@
--- The seconds of announced rows, and tables by their parts, as code has them that is announced the two arrays: the seconds depend on the announced seconds alone, and from 1972 on TAI-UTC is those of
--- the row reached. Assumes nothing.
+-- The seconds of announced rows, and tables by their parts, as code has them that is announced the two arrays: the seconds depend on the announced seconds
+-- alone, and from 1972 on TAI-UTC is those of the row reached. Assumes nothing.
 use mathlib.Core.Path.{_≡_, refl, ap, _∙_}
 use mathlib.Core.Bool.{false}
 use mathlib.Core.List.{List}
@@ -23,7 +23,8 @@ announced-seconds t k = round-same binary64 false (10000000 * secondsAt t k) (10
     go : (s : ℕ) → 10000000 * s * 1 ≡ s * 10 ^ 7
     go s = omega arith
 
-pub seconds-alike : (a b c d : ℕ) (l m s : List ℤ) (k : ℕ) → secondsOf (announcedRow (announcedTable a b m s) k) ≡ secondsOf (announcedRow (announcedTable c d l s) k)
+pub seconds-alike : (a b c d : ℕ) (l m s : List ℤ) (k : ℕ)
+    → secondsOf (announcedRow (announcedTable a b m s) k) ≡ secondsOf (announcedRow (announcedTable c d l s) k)
 unfolding secondsOf
 seconds-alike a b c d l m s k = refl
 

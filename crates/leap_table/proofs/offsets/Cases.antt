@@ -16,11 +16,13 @@ use Rattle.leap_table.specs.offsets.Leap.{dayOffsets, leapAtEndOfDay}
 
 -- -0.0 and 1.0 are fractions of the day
 pub at-minus-zero : taiUtcOffset fixed (pos 2017) (pos 1) (pos 1) (fin true 0 (pos 0)) ≡ answer (fin false 37 (pos 0))
-unfolding taiUtcOffset onward mjdOf mjdNumber civilCount validDate daysInMonth lengths leapSize offsetAt offsetBy byRow secondsOf round inDay le fixed monthNumber reached
+unfolding taiUtcOffset onward mjdOf mjdNumber civilCount validDate daysInMonth lengths leapSize offsetAt offsetBy byRow secondsOf round inDay le fixed
+    monthNumber reached
 at-minus-zero = refl
 
 pub at-one : taiUtcOffset fixed (pos 2016) (pos 12) (pos 31) one ≡ answer (fin false 9 (pos 2))
-unfolding taiUtcOffset onward mjdOf mjdNumber civilCount validDate daysInMonth lengths leapSize offsetAt offsetBy byRow secondsOf round inDay le fixed monthNumber reached
+unfolding taiUtcOffset onward mjdOf mjdNumber civilCount validDate daysInMonth lengths leapSize offsetAt offsetBy byRow secondsOf round inDay le fixed
+    monthNumber reached
 at-one = refl
 
 -- 2.0 on 2017-13-01 is refused with 7: the fraction comes before the date. So is a NaN
@@ -38,7 +40,8 @@ no-month-13 = refl
 
 -- no next day
 pub no-leap : leapAtEndOfDay fixed (pos 2147483647) (pos 12) (pos 31) ≡ refusal 5
-unfolding leapAtEndOfDay dayOffsets nextOf taiUtcOffset onward mjdOf mjdNumber civilCount validDate daysInMonth lengths leapSize offsetAt offsetBy byRow secondsOf round inDay le fixed monthNumber reached
+unfolding leapAtEndOfDay dayOffsets nextOf taiUtcOffset onward mjdOf mjdNumber civilCount validDate daysInMonth lengths leapSize offsetAt offsetBy byRow
+    secondsOf round inDay le fixed monthNumber reached
 no-leap = refl
 
 -- 42 rows

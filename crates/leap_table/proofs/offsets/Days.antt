@@ -1,5 +1,5 @@
--- The offsets of a day: refused exactly where there is no next date, with the same number, and else those of the day's month, of the next date's month, and of the
--- two Modified Julian Dates n and n + 1. Assumes nothing.
+-- The offsets of a day: refused exactly where there is no next date, with the same number, and else those of the day's month, of the next date's month, and of
+-- the two Modified Julian Dates n and n + 1. Assumes nothing.
 use mathlib.Core.Path.{_≡_, refl, ap, sym, _∙_}
 use mathlib.Core.Bool.{Bool, true, false, cond}
 use mathlib.Core.Logic.{_⊎_, inl, inr}
@@ -31,7 +31,8 @@ module _ (rows : List Row) (y m d : ℤ) where
     unfolding dayOffsets onward
     no-next-day k p = rw (offset-given rows y m d nought in-day-zero n e, offset-given rows y m d half in-day-half n e, p)
 
-    pub day-given : (t : CalendarDate) → nextOf y m d ≡ answer t → dayOffsets rows y m d ≡ answer (offsetsOfDay rows (monthNumber y (natAbs m)) (monthNumber (t .year) (t .month)) n)
+    pub day-given : (t : CalendarDate) → nextOf y m d ≡ answer t
+        → dayOffsets rows y m d ≡ answer (offsetsOfDay rows (monthNumber y (natAbs m)) (monthNumber (t .year) (t .month)) n)
     unfolding dayOffsets offsetsOfDay onward
     day-given t p =
         rw (
@@ -43,12 +44,16 @@ module _ (rows : List Row) (y m d : ℤ) where
 
 -- ---- REFUSED exactly where there is no next date, with the next date's number: the date's own, 1 to 3, or 5
 module _ (rows : List Row) (y m d : ℤ) where
-  pub day-offsets-are : dayOffsets rows y m d ≡ onward (nextOf y m d) (λ t. answer (offsetsOfDay rows (monthNumber y (natAbs m)) (monthNumber (t .year) (t .month)) (mjdNumber y m d)))
+  pub day-offsets-are : dayOffsets rows y m d ≡ onward (nextOf y m d)
+      (λ t. answer (offsetsOfDay rows (monthNumber y (natAbs m)) (monthNumber (t .year) (t .month)) (mjdNumber y m d)))
   unfolding onward
   day-offsets-are = go (validDate y m d) refl (nextOf y m d) refl
     where
-      go : (v : Outcome Unit) → validDate y m d ≡ v → (w : Outcome CalendarDate) → nextOf y m d ≡ w → dayOffsets rows y m d ≡ onward w (λ t. answer (offsetsOfDay rows (monthNumber y (natAbs m)) (monthNumber (t .year) (t .month)) (mjdNumber y m d)))
-      go (refusal k) p w q = day-refused rows y m d k (mjd-refused y m d k p) ∙ ap (λ (o : Outcome CalendarDate). onward o (λ t. answer (offsetsOfDay rows (monthNumber y (natAbs m)) (monthNumber (t .year) (t .month)) (mjdNumber y m d)))) (sym (refused-next y m d k p) ∙ q)
+      go : (v : Outcome Unit) → validDate y m d ≡ v → (w : Outcome CalendarDate) → nextOf y m d ≡ w
+          → dayOffsets rows y m d ≡ onward w (λ t. answer (offsetsOfDay rows (monthNumber y (natAbs m)) (monthNumber (t .year) (t .month)) (mjdNumber y m d)))
+      go (refusal k) p w q = day-refused rows y m d k (mjd-refused y m d k p)
+          ∙ ap (λ (o : Outcome CalendarDate). onward o
+          (λ t. answer (offsetsOfDay rows (monthNumber y (natAbs m)) (monthNumber (t .year) (t .month)) (mjdNumber y m d)))) (sym (refused-next y m d k p) ∙ q)
       go (answer x) p (refusal k) q = no-next-day rows y m d (mjdNumber y m d) (mjd-given y m d p) k q
       go (answer x) p (answer t) q = day-given rows y m d (mjdNumber y m d) (mjd-given y m d p) t q
 
@@ -56,20 +61,28 @@ module _ (rows : List Row) (y m d : ℤ) where
   unfolding nextOf onward
   day-refusals k e = go (validDate y m d) refl (lastDate y (natAbs m) (natAbs d)) (next (date y (natAbs m) (natAbs d))) (sym day-offsets-are ∙ e)
     where
-      go : (v : Outcome Unit) → validDate y m d ≡ v → (b : Bool) (u : CalendarDate) → onward (onward v (λ _. cond b (refusal 5) (answer u))) (λ t. answer (offsetsOfDay rows (monthNumber y (natAbs m)) (monthNumber (t .year) (t .month)) (mjdNumber y m d))) ≡ refusal k → (validDate y m d ≡ refusal k) ⊎ ((validDate y m d ≡ answer tt) × (k ≡ 5))
+      go : (v : Outcome Unit) → validDate y m d ≡ v → (b : Bool) (u : CalendarDate)
+          → onward (onward v (λ _. cond b (refusal 5) (answer u)))
+          (λ t. answer (offsetsOfDay rows (monthNumber y (natAbs m)) (monthNumber (t .year) (t .month)) (mjdNumber y m d))) ≡ refusal k
+          → (validDate y m d ≡ refusal k) ⊎ ((validDate y m d ≡ answer tt) × (k ≡ 5))
       go (refusal j) p b u q = inl (p ∙ cc)
       go (answer x) p true u q = inr (p, cc)
       go (answer x) p false u q = let z : _≡_ {A = ℕ} 0 1 = cc in absurd (omega arith)
 
   -- the leap of a day that has a next one, and a leap that is given comes from such a day
-  pub leap-given : (t : CalendarDate) → nextOf y m d ≡ answer t → leapAtEndOfDay rows y m d ≡ answer (leapOf (offsetsOfDay rows (monthNumber y (natAbs m)) (monthNumber (t .year) (t .month)) (mjdNumber y m d)))
+  pub leap-given : (t : CalendarDate) → nextOf y m d ≡ answer t
+      → leapAtEndOfDay rows y m d ≡ answer (leapOf (offsetsOfDay rows (monthNumber y (natAbs m)) (monthNumber (t .year) (t .month)) (mjdNumber y m d)))
   unfolding leapAtEndOfDay onward
   leap-given t p = rw (day-offsets-are, p)
 
-  pub leap-came : (x : Float) → leapAtEndOfDay rows y m d ≡ answer x → (t : CalendarDate) × (nextOf y m d ≡ answer t) × (x ≡ leapOf (offsetsOfDay rows (monthNumber y (natAbs m)) (monthNumber (t .year) (t .month)) (mjdNumber y m d)))
+  pub leap-came : (x : Float) → leapAtEndOfDay rows y m d ≡ answer x → (t : CalendarDate) × (nextOf y m d ≡ answer t)
+      × (x ≡ leapOf (offsetsOfDay rows (monthNumber y (natAbs m)) (monthNumber (t .year) (t .month)) (mjdNumber y m d)))
   unfolding leapAtEndOfDay onward
   leap-came x e = go (nextOf y m d) refl (sym (ap (λ (o : Outcome DayOffsets). onward o (λ p. answer (leapOf p))) day-offsets-are) ∙ e)
     where
-      go : (w : Outcome CalendarDate) → nextOf y m d ≡ w → onward (onward w (λ t. answer (offsetsOfDay rows (monthNumber y (natAbs m)) (monthNumber (t .year) (t .month)) (mjdNumber y m d)))) (λ o. answer (leapOf o)) ≡ answer x → (t : CalendarDate) × (nextOf y m d ≡ answer t) × (x ≡ leapOf (offsetsOfDay rows (monthNumber y (natAbs m)) (monthNumber (t .year) (t .month)) (mjdNumber y m d)))
+      go : (w : Outcome CalendarDate) → nextOf y m d ≡ w
+          → onward (onward w (λ t. answer (offsetsOfDay rows (monthNumber y (natAbs m)) (monthNumber (t .year) (t .month)) (mjdNumber y m d))))
+          (λ o. answer (leapOf o)) ≡ answer x → (t : CalendarDate) × (nextOf y m d ≡ answer t)
+          × (x ≡ leapOf (offsetsOfDay rows (monthNumber y (natAbs m)) (monthNumber (t .year) (t .month)) (mjdNumber y m d)))
       go (answer t) p q = (t, p, cc)
       go (refusal k) p q = let z : _≡_ {A = ℕ} 0 1 = cc in absurd (omega arith)

@@ -1,5 +1,5 @@
--- The Modified Julian Date of a date with a 32-bit year is below 10^12 in size, so that its float is exact and the next day's does not overflow; and what the calls
--- of the calendar answer. Assumes nothing.
+-- The Modified Julian Date of a date with a 32-bit year is below 10^12 in size, so that its float is exact and the next day's does not overflow; and what the
+-- calls of the calendar answer. Assumes nothing.
 use mathlib.Core.Path.{_≡_, refl, ap, sym, subst, _∙_}
 use mathlib.Core.Bool.{Bool, true, false, cond}
 use Prim.Native.Nat.{ℕ, zero, suc, _+_, _-_, _^_, _≤_, _<_}

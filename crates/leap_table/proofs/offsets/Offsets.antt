@@ -48,18 +48,21 @@ module _ (rows : List Row) (y m d : ℤ) (f : Float) where
   unfolding taiUtcOffset onward
   date-refused e k p = rw (e, p)
 
-  pub offset-given : inDay f ≡ true → (n : ℤ) → mjdOf y m d ≡ answer n → taiUtcOffset rows y m d f ≡ answer (offsetAt rows (monthNumber y (natAbs m)) (ofInt binary64 n) f)
+  pub offset-given : inDay f ≡ true → (n : ℤ) → mjdOf y m d ≡ answer n
+      → taiUtcOffset rows y m d f ≡ answer (offsetAt rows (monthNumber y (natAbs m)) (ofInt binary64 n) f)
   unfolding taiUtcOffset onward
   offset-given e n p = rw (e, p)
 
 -- ---- an offset that is given comes from a date that is not refused
-came : (b : Bool) (o : Outcome ℤ) (g : ℤ → Float) (x : Float) → cond b (onward o (λ n. answer (g n))) (refusal 7) ≡ answer x → (n : ℤ) × (o ≡ answer n) × (x ≡ g n)
+came : (b : Bool) (o : Outcome ℤ) (g : ℤ → Float) (x : Float) → cond b (onward o (λ n. answer (g n))) (refusal 7) ≡ answer x → (n : ℤ) × (o ≡ answer n)
+    × (x ≡ g n)
 unfolding onward
 came true (answer n) g x e = (n, refl, cc)
 came true (refusal k) g x e = let z : _≡_ {A = ℕ} 0 1 = cc in absurd (omega arith)
 came false o g x e = let z : _≡_ {A = ℕ} 0 1 = cc in absurd (omega arith)
 
-pub offset-came : (rows : List Row) (y m d : ℤ) (f x : Float) → taiUtcOffset rows y m d f ≡ answer x → (n : ℤ) × (mjdOf y m d ≡ answer n) × (x ≡ offsetAt rows (monthNumber y (natAbs m)) (ofInt binary64 n) f)
+pub offset-came : (rows : List Row) (y m d : ℤ) (f x : Float) → taiUtcOffset rows y m d f ≡ answer x → (n : ℤ) × (mjdOf y m d ≡ answer n)
+    × (x ≡ offsetAt rows (monthNumber y (natAbs m)) (ofInt binary64 n) f)
 unfolding taiUtcOffset
 offset-came rows y m d f x e = came (inDay f) (mjdOf y m d) (λ n. offsetAt rows (monthNumber y (natAbs m)) (ofInt binary64 n) f) x e
 

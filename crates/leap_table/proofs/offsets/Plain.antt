@@ -1,5 +1,5 @@
--- The dates from 1972 on up to the 27th of a month: the next date is in the same month, and one number of whole seconds is TAI-UTC at the start, the middle and the
--- end of the day, and at every fraction of it.
+-- The dates from 1972 on up to the 27th of a month: the next date is in the same month, and one number of whole seconds is TAI-UTC at the start, the middle and
+-- the end of the day, and at every fraction of it.
 -- Assumes nothing.
 use mathlib.Core.Path.{_≡_, refl, ap, sym, _∙_}
 use mathlib.Core.Bool.{Bool, true, false}
@@ -34,18 +34,23 @@ use Rattle.leap_table.proofs.offsets.Days.{day-given}
 -- ---- the tests of the code
 long : (b : Bool) (m : ℕ) → 1 ≤ m → m ≤ 12 → 28 ≤ lengths b m
 unfolding lengths
-long true = months (λ m. 28 ≤ lengths true m) (omega arith) (omega arith) (omega arith) (omega arith) (omega arith) (omega arith) (omega arith) (omega arith) (omega arith) (omega arith) (omega arith) (omega arith)
-long false = months (λ m. 28 ≤ lengths false m) (omega arith) (omega arith) (omega arith) (omega arith) (omega arith) (omega arith) (omega arith) (omega arith) (omega arith) (omega arith) (omega arith) (omega arith)
+long true = months (λ m. 28 ≤ lengths true m) (omega arith) (omega arith) (omega arith) (omega arith) (omega arith) (omega arith) (omega arith) (omega arith)
+    (omega arith) (omega arith) (omega arith) (omega arith)
+long false = months (λ m. 28 ≤ lengths false m) (omega arith) (omega arith) (omega arith) (omega arith) (omega arith) (omega arith) (omega arith)
+    (omega arith) (omega arith) (omega arith) (omega arith) (omega arith)
 
 up-to-27 : (y m d : ℕ) → 1972 ≤ y → 1 ≤ m → m ≤ 12 → 1 ≤ d → d ≤ 27 → Plain (pos y) (pos m) (pos d)
 unfolding monthNumber
 up-to-27 y m d p a b c e =
     let h = long (leapYear (pos y)) m a b in
-    let v : validDate (pos y) (pos m) (pos d) ≡ answer tt = in-calendar-valid (date (pos y) m d) (record { m-low = a; m-high = b; d-low = c; d-high = omega arith }) refl in
+    let v : validDate (pos y) (pos m) (pos d) ≡ answer tt =
+    in-calendar-valid (date (pos y) m d) (record { m-low = a; m-high = b; d-low = c; d-high = omega arith }) refl in
     record { same-month = next-day (pos y) (pos m) (pos d) v (omega arith); from-1972 = omega arith }
 
-pub plain : (y m d : ℤ) (first last : ℕ) → ltZ y (pos first) ≡ false → ltZ m (pos 1) ≡ false → ltZ (pos 12) m ≡ false → ltZ d (pos 1) ≡ false → leZ d (pos last) ≡ true → 1972 ≤ first → last ≤ 27 → Plain y m d
-plain (pos y) (pos m) (pos d) first last p a b c e g h = up-to-27 y m d (omega (arith, ltb-false y first p)) (ltb-false m 1 a) (ltb-false 12 m b) (ltb-false d 1 c) (omega (arith, leb-true d last e))
+pub plain : (y m d : ℤ) (first last : ℕ) → ltZ y (pos first) ≡ false → ltZ m (pos 1) ≡ false → ltZ (pos 12) m ≡ false → ltZ d (pos 1) ≡ false
+    → leZ d (pos last) ≡ true → 1972 ≤ first → last ≤ 27 → Plain y m d
+plain (pos y) (pos m) (pos d) first last p a b c e g h =
+    up-to-27 y m d (omega (arith, ltb-false y first p)) (ltb-false m 1 a) (ltb-false 12 m b) (ltb-false d 1 c) (omega (arith, leb-true d last e))
 plain (pos y) (pos m) (negsuc d) first last p a b c e g h = let z : _≡_ {A = ℕ} 0 1 = cc in absurd (omega arith)
 plain (pos y) (negsuc m) d first last p a b c e g h = let z : _≡_ {A = ℕ} 0 1 = cc in absurd (omega arith)
 plain (negsuc y) m d first last p a b c e g h = let z : _≡_ {A = ℕ} 0 1 = cc in absurd (omega arith)
@@ -65,7 +70,8 @@ pub read-plain : (y m d : ℤ) → SFits w32 y → SFits w32 m → SFits w32 d �
 read-plain y m d f g h p = rw (toZ-ofZ f, toZ-ofZ g, toZ-ofZ h) at p
 
 -- and told of these again
-pub read-offset : (rows : List Row) (y m : ℤ) → SFits w32 y → SFits w32 m → (s : Float) → ((mjd f : Float) → s ≡ offsetAt rows (monthNumber (toZ w32 (ofZ w32 y)) (natAbs (toZ w32 (ofZ w32 m)))) mjd f)
+pub read-offset : (rows : List Row) (y m : ℤ) → SFits w32 y → SFits w32 m → (s : Float)
+    → ((mjd f : Float) → s ≡ offsetAt rows (monthNumber (toZ w32 (ofZ w32 y)) (natAbs (toZ w32 (ofZ w32 m)))) mjd f)
     → (mjd f : Float) → s ≡ offsetAt rows (monthNumber y (natAbs m)) mjd f
 read-offset rows y m f g s e = rw (toZ-ofZ f, toZ-ofZ g) at e
 
@@ -80,7 +86,8 @@ module _ (rows : List Row) (y m d : ℤ) (p : Plain y m d) (s : Float) (e : (mjd
   pub plain-offsets : answer (offsets s s s) ≡ dayOffsets rows y m d
   unfolding offsetsOfDay
   plain-offsets =
-      (λ i. answer (offsets (e (ofInt binary64 (mjdNumber y m d)) nought i) (e (ofInt binary64 (mjdNumber y m d)) half i) (e (ofInt binary64 (sucℤ (mjdNumber y m d))) nought i)))
+      (λ i. answer (offsets (e (ofInt binary64 (mjdNumber y m d)) nought i) (e (ofInt binary64 (mjdNumber y m d)) half i)
+      (e (ofInt binary64 (sucℤ (mjdNumber y m d))) nought i)))
       ∙ sym (day-given rows y m d _ (mjd-given y m d (valid y m d p)) _ (p .same-month))
 
   pub plain-leap : answer (sub binary64 s (sub binary64 (mul binary64 twoF s) s)) ≡ leapAtEndOfDay rows y m d

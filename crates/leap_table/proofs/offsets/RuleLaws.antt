@@ -1,6 +1,6 @@
--- What a rule says: the row that it names is the last that has begun, the offset is that row's, and in every table that is taken the rows of places 0 to 13 drift, no row has
--- begun before 1960, and a announced row is one of place 42 or later. Assumes nothing.
-use mathlib.Core.Path.{_≡_, refl, ap, sym, subst, _∙_}
+-- What a rule says: the row that it names is the last that has begun, the offset is that row's, and in every table that is taken the rows of places 0 to 13
+-- drift, no row has begun before 1960, and a announced row is one of place 42 or later. Assumes nothing.
+use mathlib.Core.Path.{_≡_, refl, ap, sym, _∙_}
 use mathlib.Core.Bool.{Bool, true, false, not, cond}
 use mathlib.Core.List.{List, [], _∷_}
 use Prim.Native.Nat.{ℕ, zero, suc, _+_, _≤_, _<_}
@@ -20,7 +20,7 @@ use Rattle.leap_table.specs.rows.Announced.{announcedRow, rowsTo, announ
 use Rattle.leap_table.specs.offsets.Offset.{byRow, offsetBy, offsetAt}
 use Rattle.leap_table.specs.offsets.Rule.{ruleBy, ruleOf, ruleAt}
 use Rattle.leap_table.proofs.rows.Reached.{last-begun, none-begun, high}
-use Rattle.leap_table.proofs.rows.Tables.{table-length, table-drifts, announced-place, starts-more, starts-length, most-of-table, no-fewer}
+use Rattle.leap_table.proofs.rows.Tables.{table-drifts, announced-place, starts-more, starts-length, most-of-table, no-fewer}
 use Rattle.leap_table.proofs.rows.TablesTaken.{when-taken}
 use Rattle.leap_table.proofs.rows.TableLaws.{table-rises}
 use Rattle.leap_table.proofs.offsets.Years.{one-row}
@@ -155,6 +155,8 @@ before-1960-absent t rows e n h =
     none-left k g = omega arith
 
 -- ---- the first and the last row of each kind in the fixed table, and the months beside them
-pub rule-cases : (ruleAt fixed (pos 1959) (pos 12) ≡ Absent) × (ruleAt fixed (pos 1960) (pos 1) ≡ Drifting 0) × (ruleAt fixed (pos 1971) (pos 12) ≡ Drifting 13) × (ruleAt fixed (pos 1972) (pos 1) ≡ Whole 14) × (ruleAt fixed (pos 2016) (pos 12) ≡ Whole 40) × (ruleAt fixed (pos 2017) (pos 1) ≡ Whole 41)
+pub rule-cases : (ruleAt fixed (pos 1959) (pos 12) ≡ Absent) × (ruleAt fixed (pos 1960) (pos 1) ≡ Drifting 0)
+    × (ruleAt fixed (pos 1971) (pos 12) ≡ Drifting 13) × (ruleAt fixed (pos 1972) (pos 1) ≡ Whole 14) × (ruleAt fixed (pos 2016) (pos 12) ≡ Whole 40)
+    × (ruleAt fixed (pos 2017) (pos 1) ≡ Whole 41)
 unfolding ruleAt ruleOf ruleBy monthNumber reached fixed
 rule-cases = (refl, refl, refl, refl, refl, refl)

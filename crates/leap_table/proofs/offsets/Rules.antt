@@ -10,7 +10,6 @@ use lib.ListN.{getD}
 use lib.IntN.{ℤ}
 use lib.Ieee.{Float}
 use Rattle.refusals.specs.Outcome.{Outcome, answer, refusal, onward}
-use Rattle.leap_table.specs.declared.offsets.DayOffsets.{DayOffsets}
 use Rattle.leap_table.specs.declared.offsets.Rule.{Rule}
 use Rattle.leap_table.specs.declared.offsets.Rule.the-variants.{Absent, Drifting, Whole}
 use Rattle.leap_table.specs.rows.Table.{Row, none}
@@ -66,7 +65,8 @@ module _ {A : Type 0} (o : Outcome A) (r : Rule) where
   refused-apart k e = sym (forgets o r) ∙ ap forget e
 
 -- ---- a leap by the offsets of its day
-through : {A B : Type 0} (f : A → B) (o : Outcome A) (r : Rule) → withRule (onward o (λ a. answer (f a))) r ≡ onward (withRule o r) (λ p. answer (f (p .0), p .1))
+through : {A B : Type 0} (f : A → B) (o : Outcome A) (r : Rule)
+    → withRule (onward o (λ a. answer (f a))) r ≡ onward (withRule o r) (λ p. answer (f (p .0), p .1))
 unfolding withRule onward
 through f (answer a) r = refl
 through f (refusal k) r = refl

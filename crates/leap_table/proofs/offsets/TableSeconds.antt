@@ -1,9 +1,9 @@
--- A table that is taken, by months: before February 2017 it is the fixed table, from 1972 on TAI-UTC is 10 to 53 whole seconds at every fraction of a day, and from one
--- month to the next it stays or steps by one second, the latter where a row begins.
+-- A table that is taken, by months: before February 2017 it is the fixed table, from 1972 on TAI-UTC is 10 to 53 whole seconds at every fraction of a day, and
+-- from one month to the next it stays or steps by one second, the latter where a row begins.
 -- Assumes nothing.
 use mathlib.Core.Path.{_≡_, refl, ap, sym, subst, _∙_}
-use mathlib.Core.Bool.{Bool, true, false, cond, _&&_, _||_}
-use mathlib.Core.Logic.{_⊎_, inl, inr}
+use mathlib.Core.Bool.{Bool, true, false, _&&_, _||_}
+use mathlib.Core.Logic.{_⊎_}
 use mathlib.Core.List.{List}
 use Prim.Native.Nat.{ℕ, zero, suc, _+_, _-_, _*_, _^_, _/_, _≤_, _<_}
 use native.Mathlib.Omega.{arith}
@@ -18,7 +18,7 @@ use borrow.Author.Tests.{ltb-true, ltb-false}
 use Rattle.refusals.specs.Outcome.{answer}
 use Rattle.leap_table.specs.declared.rows.AnnouncedRows.{AnnouncedRows}
 use Rattle.leap_table.specs.rows.Table.{Row, fixed, starts, reached, rising, none}
-use Rattle.leap_table.specs.rows.Announced.{secondsAt, announcedRow, rowsTo, announcedSize, rowsOf, oneApart, oneSecond, bySeconds, tableOf}
+use Rattle.leap_table.specs.rows.Announced.{secondsAt, announcedRow, rowsTo, announcedSize, oneApart, oneSecond, bySeconds, tableOf}
 use Rattle.leap_table.specs.offsets.Offset.{secondsOf, byRow, offsetBy, offsetAt, secondsIn, wholeF}
 use Rattle.leap_table.proofs.rows.Reached.{at-most, member, month-later}
 use Rattle.leap_table.proofs.rows.Rows.{every, at}
@@ -50,7 +50,9 @@ fixed-whole : (k : ℕ) → 14 ≤ k → k < 42 → WholeRow (getD fixed k none)
 unfolding wholeTest
 fixed-whole k h l = go (ltb k 14) refl (at wholeTest fixed tested k (omega (arith, fixed-length)))
   where
-    go : (b : Bool) → ltb k 14 ≡ b → T (b || (eqb (getD fixed k none .units) (10000000 * (getD fixed k none .units / 10000000)) && (leb 10 (getD fixed k none .units / 10000000) && leb (getD fixed k none .units / 10000000) 37))) → WholeRow (getD fixed k none) 10 37
+    go : (b : Bool) → ltb k 14 ≡ b → T
+        (b || (eqb (getD fixed k none .units) (10000000 * (getD fixed k none .units / 10000000)) &&
+        (leb 10 (getD fixed k none .units / 10000000) && leb (getD fixed k none .units / 10000000) 37))) → WholeRow (getD fixed k none) 10 37
     go true e t = absurd (omega (arith, ltb-true k 14 e))
     go false e t =
         let s = getD fixed k none .units / 10000000 in
@@ -113,7 +115,8 @@ module _ (t : AnnouncedRows) (rows : List Row) (e : tableOf t ≡ answer rows) w
       go true p = subst (λ (r : Row). WholeRow r 10 53) (sym (in-rows i ∙ fixed-place t M i (ltb-true i 42 p))) (wider (fixed-whole i h (ltb-true i 42 p)))
       go false p =
           let g = ltb-false i 42 p in
-          subst (λ (r : Row). WholeRow r 10 53) (sym (in-rows i ∙ ap (λ (j : ℕ). getD (rowsTo t M) j none) (sym (place i g)) ∙ announced-place t M (i - 42) (omega (arith, l, length-is))))
+          subst (λ (r : Row). WholeRow r 10 53)
+          (sym (in-rows i ∙ ap (λ (j : ℕ). getD (rowsTo t M) j none) (sym (place i g)) ∙ announced-place t M (i - 42) (omega (arith, l, length-is))))
           (announced-whole (i - 42) (omega (arith, l, length-is)))
 
   pub row-step : (i : ℕ) → 14 ≤ i → suc i < length rows → oneSecond (getD rows i none) (getD rows (suc i) none) ≡ true
@@ -122,7 +125,8 @@ module _ (t : AnnouncedRows) (rows : List Row) (e : tableOf t ≡ answer rows) w
       let w = in-turn-at oneSecond none (drop 14 rows) s (i - 14) (simp length-drop (omega arith)) in
       subst (λ (j : ℕ). oneSecond (getD rows j none) (getD rows (suc j) none) ≡ true) (back i h)
       (ap (λ (r : Row). oneSecond r (getD rows (suc (14 + (i - 14))) none)) (sym (getD-drop 14 rows (i - 14) none))
-      ∙ ap (oneSecond (getD (drop 14 rows) (i - 14) none)) (ap (λ (j : ℕ). getD rows j none) (sym (add-suc 14 (i - 14))) ∙ sym (getD-drop 14 rows (suc (i - 14)) none))
+      ∙ ap (oneSecond (getD (drop 14 rows) (i - 14) none))
+      (ap (λ (j : ℕ). getD rows j none) (sym (add-suc 14 (i - 14))) ∙ sym (getD-drop 14 rows (suc (i - 14)) none))
       ∙ w)
     where
       back : (j : ℕ) → 14 ≤ j → 14 + (j - 14) ≡ j
@@ -137,7 +141,8 @@ module _ (t : AnnouncedRows) (rows : List Row) (e : tableOf t ≡ answer rows) w
     low-rows = subst (λ (l : List Row). 15 ≤ reached (starts l) n) (sym (k .all)) (whole-rows-of t n h)
 
     high-rows : R ≤ length rows
-    high-rows = subst (λ (l : List Row). reached (starts l) n ≤ length l) (sym (k .all)) (omega (arith, most-of-table t (announcedSize t) n, table-length t (announcedSize t)))
+    high-rows = subst (λ (l : List Row). reached (starts l) n ≤ length l) (sym (k .all))
+        (omega (arith, most-of-table t (announcedSize t) n, table-length t (announcedSize t)))
 
     whole-here : WholeRow (getD rows (R - 1) none) 10 53
     whole-here = row-whole (R - 1) (omega (arith, low-rows)) (omega (arith, low-rows, high-rows))
@@ -168,7 +173,8 @@ module _ (t : AnnouncedRows) (rows : List Row) (e : tableOf t ≡ answer rows) w
         next j g = omega arith
 
         most-later : reached (starts rows) (suc n) ≤ length rows
-        most-later = subst (λ (l : List Row). reached (starts l) (suc n) ≤ length l) (sym (k .all)) (omega (arith, most-of-table t (announcedSize t) (suc n), table-length t (announcedSize t)))
+        most-later = subst (λ (l : List Row). reached (starts l) (suc n) ≤ length l) (sym (k .all))
+            (omega (arith, most-of-table t (announcedSize t) (suc n), table-length t (announcedSize t)))
 
   -- ---- before February 2017 the table is the fixed one
   none-begun-yet : (i : ℕ) → i ≤ M → (n : ℕ) → n < 24205 → reached (starts (rowsTo t i)) n ≡ reached (starts fixed) n

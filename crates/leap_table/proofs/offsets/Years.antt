@@ -110,7 +110,8 @@ zero-before-1960 y m d f x e p =
     r ∙ before-1960 (monthNumber y (natAbs m)) (ofInt binary64 n) f (early y (natAbs m) e (date-accepted y m d (mjd-valid y m d n q) .m-high))
 
 -- from 1972 on: the number of rows reached less 5, at every fraction
-pub whole-from-1972 : (y : ℕ) (m d : ℤ) (f x : Float) → 1972 ≤ y → taiUtcOffset fixed (pos y) m d f ≡ answer x → x ≡ ofInt binary64 (pos (reached (starts fixed) (monthOf y (natAbs m)) - 5))
+pub whole-from-1972 : (y : ℕ) (m d : ℤ) (f x : Float) → 1972 ≤ y → taiUtcOffset fixed (pos y) m d f ≡ answer x
+    → x ≡ ofInt binary64 (pos (reached (starts fixed) (monthOf y (natAbs m)) - 5))
 unfolding monthNumber
 whole-from-1972 y m d f x h p =
     let (n, q, r) = offset-came fixed (pos y) m d f x p in

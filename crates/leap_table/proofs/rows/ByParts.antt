@@ -1,5 +1,5 @@
--- Tables by their parts, as code has them that is announced the two arrays: the rows are those of the table by value, their months depend on the announced months alone, and their
--- steps on the announced seconds alone. Assumes nothing.
+-- Tables by their parts, as code has them that is announced the two arrays: the rows are those of the table by value, their months depend on the announced
+-- months alone, and their steps on the announced seconds alone. Assumes nothing.
 use mathlib.Core.Path.{_≡_, refl, ap, sym, _∙_}
 use mathlib.Core.Bool.{Bool, true, false, cond, _&&_}
 use mathlib.Core.List.{List, [], _∷_, _++_}

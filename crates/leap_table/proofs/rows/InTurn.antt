@@ -39,7 +39,8 @@ one-more to d (a ∷ (e ∷ l)) b h =
     ap (λ (t : Bool). to a e && t) (one-more to d (e ∷ l) b (omega arith))
     ∙ and-assoc (to a e) (inTurn to (e ∷ l)) (to (lastOf e l) b)
 
-pub in-turn-at : {A : Type 0} (to : A → A → Bool) (d : A) (l : List A) → inTurn to l ≡ true → (i : ℕ) → suc i < length l → to (getD l i d) (getD l (suc i) d) ≡ true
+pub in-turn-at : {A : Type 0} (to : A → A → Bool) (d : A) (l : List A) → inTurn to l ≡ true → (i : ℕ) → suc i < length l
+    → to (getD l i d) (getD l (suc i) d) ≡ true
 in-turn-at to d [] e i h = absurd (not-suc-le-zero h)
 in-turn-at to d (a ∷ []) e i h = absurd (not-suc-le-zero (le-of-suc-le-suc h))
 in-turn-at to d (a ∷ (b ∷ l)) e zero h = both-hold (to a b) (inTurn to (b ∷ l)) e .0
@@ -87,7 +88,8 @@ module _ (f g : ℕ → Bool) (step : (n : ℕ) → f (suc n) ≡ f n && g n) wh
   first-fails z zero e = absurd (true≢false (sym z ∙ e))
   first-fails z (suc n) e = go (f n) refl (g n) refl (sym (step n) ∙ e) (λ p. first-fails z n p)
     where
-      go : (a : Bool) → f n ≡ a → (b : Bool) → g n ≡ b → f n && g n ≡ false → (f n ≡ false → (i : ℕ) × (i < n) × (f i ≡ true) × (g i ≡ false)) → (i : ℕ) × (i < suc n) × (f i ≡ true) × (g i ≡ false)
+      go : (a : Bool) → f n ≡ a → (b : Bool) → g n ≡ b → f n && g n ≡ false → (f n ≡ false → (i : ℕ) × (i < n) × (f i ≡ true) × (g i ≡ false)) → (i : ℕ)
+          × (i < suc n) × (f i ≡ true) × (g i ≡ false)
       go false p b q r more = let (i, l, x, y) = more p in (i, omega (arith, l), x, y)
       go true p false q r more = (n, omega arith, p, q)
       go true p true q r more = absurd (true≢false (sym (rw (p, q)) ∙ r))

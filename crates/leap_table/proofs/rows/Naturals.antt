@@ -1,6 +1,6 @@
 -- A number of the announced rows counted from 0, as the machine tests and reads it.
 -- Assumes nothing.
-use mathlib.Core.Path.{_≡_, refl, ap, sym, subst, _∙_}
+use mathlib.Core.Path.{_≡_, refl, ap, sym, _∙_}
 use mathlib.Core.Bool.{Bool, true, false, true≢false, cond}
 use Prim.Native.Nat.{ℕ, _≤_, _<_}
 use native.Mathlib.Omega.{arith}
@@ -50,7 +50,8 @@ module _ (z : ℤ) (f : SFits w32 z) where
     counted = (read .1, omega (arith, read .1, small z f))
 
 -- a announced month has begun in month n where it is not above n cut at the largest announced number
-pub begun-or-not : (z : ℤ) (n : ℕ) → SFits w32 z → (leZ z (pos (least n 2147483647)) ≡ true → natural z ≤ n) × (leZ z (pos (least n 2147483647)) ≡ false → n < natural z)
+pub begun-or-not : (z : ℤ) (n : ℕ) → SFits w32 z → (leZ z (pos (least n 2147483647)) ≡ true → natural z ≤ n)
+    × (leZ z (pos (least n 2147483647)) ≡ false → n < natural z)
 begun-or-not (negsuc k) n f = (λ e. omega arith, λ e. absurd (true≢false e))
 begun-or-not (pos k) n f = (λ e. omega (arith, leb-true k (least n 2147483647) e, least-left n 2147483647), λ e. above (leb-false k (least n 2147483647) e))
   where

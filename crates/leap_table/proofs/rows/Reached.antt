@@ -1,5 +1,5 @@
--- The look-up in any list of months: what it finds from the end, that it is the last month that has begun, and how it grows from month to month in a list that rises.
--- Assumes nothing.
+-- The look-up in any list of months: what it finds from the end, that it is the last month that has begun, and how it grows from month to month in a list that
+-- rises. Assumes nothing.
 use mathlib.Core.Path.{_≡_, refl, ap, sym, subst, _∙_}
 use mathlib.Core.Bool.{Bool, true, false, cond, _||_}
 use mathlib.Core.List.{List, [], _∷_, _++_}
@@ -116,11 +116,13 @@ unfolding reached
 month-later [] t n = refl
 month-later (a ∷ l) t n = go (leb a n) refl (eqb (suc n) a) refl (month-later l (tail-rises a l t) n)
   where
-    go : (b : Bool) → leb a n ≡ b → (c : Bool) → eqb (suc n) a ≡ c → reached l (suc n) ≡ cond (member (suc n) l) (suc (reached l n)) (reached l n) → reached (a ∷ l) (suc n) ≡ cond (c || member (suc n) l) (suc (reached (a ∷ l) n)) (reached (a ∷ l) n)
+    go : (b : Bool) → leb a n ≡ b → (c : Bool) → eqb (suc n) a ≡ c → reached l (suc n) ≡ cond (member (suc n) l) (suc (reached l n)) (reached l n)
+        → reached (a ∷ l) (suc n) ≡ cond (c || member (suc n) l) (suc (reached (a ∷ l) n)) (reached (a ∷ l) n)
     go true e true f i = absurd (omega (arith, leb-true a n e, eqb-true (suc n) a f))
     go true e false f i =
         let h = leb-true a n e in
-        begun a (suc n) l (omega arith) ∙ ap suc i ∙ push (member (suc n) l) (reached l n) ∙ ap (λ (k : ℕ). cond (member (suc n) l) (suc k) k) (sym (begun a n l h))
+        begun a (suc n) l (omega arith) ∙ ap suc i ∙ push (member (suc n) l) (reached l n)
+        ∙ ap (λ (k : ℕ). cond (member (suc n) l) (suc k) k) (sym (begun a n l h))
       where
         push : (b : Bool) (k : ℕ) → suc (cond b (suc k) k) ≡ cond b (suc (suc k)) (suc k)
         push true k = refl
@@ -175,7 +177,8 @@ unfolding reached
 none-begun [] n e j h = absurd (not-suc-le-zero h)
 none-begun (a ∷ l) n e j h = go (reached l n) refl (leb a n) refl e j h (λ p i g. none-begun l n p i g)
   where
-    go : (k : ℕ) → reached l n ≡ k → (b : Bool) → leb a n ≡ b → onTop k b ≡ 0 → (i : ℕ) → i < length (a ∷ l) → (reached l n ≡ 0 → (i : ℕ) → i < length l → n < getD l i 0) → n < getD (a ∷ l) i 0
+    go : (k : ℕ) → reached l n ≡ k → (b : Bool) → leb a n ≡ b → onTop k b ≡ 0 → (i : ℕ) → i < length (a ∷ l)
+        → (reached l n ≡ 0 → (i : ℕ) → i < length l → n < getD l i 0) → n < getD (a ∷ l) i 0
     go (suc k) p b q z i g more = absurd (omega arith)
     go zero p true q z i g more = absurd (omega arith)
     go zero p false q z zero g more = leb-false a n q

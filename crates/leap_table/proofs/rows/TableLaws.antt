@@ -1,23 +1,24 @@
--- What becomes of a announced table, decided on the numbers as they are announced; and what is known of a table that is taken: its length, its order, the size of its seconds.
--- Places past the size are not read.
+-- What becomes of a announced table, decided on the numbers as they are announced; and what is known of a table that is taken: its length, its order, the size
+-- of its seconds. Places past the size are not read.
 -- Assumes nothing.
 use mathlib.Core.Path.{_≡_, refl, ap, sym, subst, _∙_}
 use mathlib.Core.Bool.{Bool, true, false, true≢false, cond, _&&_, _||_}
 use mathlib.Core.Logic.{_⊎_, inl, inr}
 use mathlib.Core.List.{List, [], _∷_, _++_}
-use Prim.Native.Nat.{ℕ, zero, suc, _+_, _-_, _*_, _/_, _≤_, _<_}
+use Prim.Native.Nat.{ℕ, zero, suc, _+_, _-_, _*_, _≤_, _<_}
 use native.Mathlib.Omega.{arith}
 use native.Mathlib.Nat.{not-suc-le-zero}
 use native.Mathlib.Numerals.{add-one}
 use lib.Dec.{T, eqb, ltb, leb}
-use lib.IntN.{ℤ, pos, negsuc, sucℤ}
+use lib.IntN.{ℤ, pos, negsuc}
 use lib.Signed.{ltZ}
 use lib.ListN.{length, getD}
-use borrow.Author.Tests.{ltb-true, ltb-false, le-ltb, leb-true, leb-false, eqb-true, eqb-false, lt-leb, ne-eqb}
-use Rattle.refusals.specs.Outcome.{Outcome, answer, refusal}
+use borrow.Author.Tests.{ltb-true, ltb-false, le-ltb, leb-true, leb-false, eqb-true, eqb-false, ne-eqb}
+use Rattle.refusals.specs.Outcome.{answer, refusal}
 use Rattle.leap_table.specs.declared.rows.AnnouncedRows.{AnnouncedRows}
-use Rattle.leap_table.specs.rows.Table.{Row, fixed, starts, rising, fixedRows, lastMonth, mostRows}
-use Rattle.leap_table.specs.rows.Announced.{natural, secondsAt, announcedRow, rowsTo, least, announcedSize, rowsOf, oneApart, bySeconds, tableOf, before, laterAt, OneStep, StepAt, Decision, sizes, order, step, taken}
+use Rattle.leap_table.specs.rows.Table.{Row, starts, rising, fixedRows, lastMonth, mostRows}
+use Rattle.leap_table.specs.rows.Announced.{natural, secondsAt, announcedRow, rowsTo, least, announcedSize, rowsOf, oneApart, bySeconds, tableOf}
+use Rattle.leap_table.specs.rows.Announced.{before, laterAt, OneStep, StepAt, Decision, sizes, order, step, taken}
 use Rattle.leap_table.proofs.rows.InTurn.{all-hold, first-fails}
 use Rattle.leap_table.proofs.rows.Tables.{table-length, monthBefore, rises-more, secondsBefore, steps-more}
 use Rattle.leap_table.proofs.rows.TableTests.{rises-none, steps-none}
@@ -103,7 +104,8 @@ module _ (t : AnnouncedRows) where
       let (a, b) = near-37 i p in
       go (near (secondsBefore t i) (secondsAt t i) q) a b
     where
-      go : (secondsAt t i ≡ secondsBefore t i + 1) ⊎ (secondsBefore t i ≡ secondsAt t i + 1) → 37 ≤ secondsBefore t i + i → secondsBefore t i ≤ 37 + i → (37 ≤ secondsAt t i + suc i) × (secondsAt t i ≤ 37 + suc i)
+      go : (secondsAt t i ≡ secondsBefore t i + 1) ⊎ (secondsBefore t i ≡ secondsAt t i + 1) → 37 ≤ secondsBefore t i + i → secondsBefore t i ≤ 37 + i
+          → (37 ≤ secondsAt t i + suc i) × (secondsAt t i ≤ 37 + suc i)
       go (inl e) a b = (omega arith, omega arith)
       go (inr e) a b = (omega arith, omega arith)
 
@@ -119,10 +121,12 @@ module _ (t : AnnouncedRows) where
         go (suc j) g = is-positive (getD (t .seconds) j (pos 0)) (omega arith)
 
     step-read : stepTo i ≡ true → StepAt t i
-    step-read q = subst (λ (z : ℤ). OneStep z (getD (t .seconds) i (pos 0))) (sym seconds-read) (signed-step (secondsBefore t i) (getD (t .seconds) i (pos 0)) large q)
+    step-read q = subst (λ (z : ℤ). OneStep z (getD (t .seconds) i (pos 0))) (sym seconds-read)
+        (signed-step (secondsBefore t i) (getD (t .seconds) i (pos 0)) large q)
 
     no-step-read : stepTo i ≡ false → StepAt t i → ⊥
-    no-step-read q s = signed-no-step (secondsBefore t i) (getD (t .seconds) i (pos 0)) large q (subst (λ (z : ℤ). OneStep z (getD (t .seconds) i (pos 0))) seconds-read s)
+    no-step-read q s = signed-no-step (secondsBefore t i) (getD (t .seconds) i (pos 0)) large q
+        (subst (λ (z : ℤ). OneStep z (getD (t .seconds) i (pos 0))) seconds-read s)
 
   -- ---- WHAT BECOMES OF A TABLE, and why: the four cases exclude each other
   abbrev M : ℕ
@@ -189,18 +193,22 @@ module _ (t : AnnouncedRows) (rows : List Row) (e : tableOf t ≡ answer rows) w
 
 -- ---- places past the size are not read
 module _ (t u : AnnouncedRows) where
-  same-rows : (n : ℕ) → ((i : ℕ) → i < n → (getD (t .months) i (pos 0) ≡ getD (u .months) i (pos 0)) × (getD (t .seconds) i (pos 0) ≡ getD (u .seconds) i (pos 0))) → rowsTo t n ≡ rowsTo u n
+  same-rows : (n : ℕ) → ((i : ℕ) → i < n → (getD (t .months) i (pos 0) ≡ getD (u .months) i (pos 0))
+      × (getD (t .seconds) i (pos 0) ≡ getD (u .seconds) i (pos 0))) → rowsTo t n ≡ rowsTo u n
   unfolding rowsTo
   same-rows zero h = refl
   same-rows (suc n) h =
       let (p, q) = h n (omega arith) in
       (λ i. same-rows n (λ j g. h j (omega arith)) i ++ (record { month = natural (p i); units = 10000000 * natural (q i); start = 0; rate = 0 } ∷ []))
 
-  pub spare-unread : t .«months_size» ≡ u .«months_size» → t .«seconds_size» ≡ u .«seconds_size» → ((i : ℕ) → i < announcedSize t → (getD (t .months) i (pos 0) ≡ getD (u .months) i (pos 0)) × (getD (t .seconds) i (pos 0) ≡ getD (u .seconds) i (pos 0))) → tableOf t ≡ tableOf u
+  pub spare-unread : t .«months_size» ≡ u .«months_size» → t .«seconds_size» ≡ u .«seconds_size»
+      → ((i : ℕ) → i < announcedSize t → (getD (t .months) i (pos 0) ≡ getD (u .months) i (pos 0))
+      × (getD (t .seconds) i (pos 0) ≡ getD (u .seconds) i (pos 0))) → tableOf t ≡ tableOf u
   unfolding tableOf announcedSize
   spare-unread p q h =
       let r : rowsOf t ≡ rowsOf u = same-rows (announcedSize t) h ∙ (λ i. rowsTo u (sized i)) in
-      (λ i. cond (eqb (p i) (q i) && leb (p i) 16) (cond (rising (starts (r i))) (cond (bySeconds (r i)) (answer (r i)) (refusal 22)) (refusal 21)) (refusal 20))
+      (λ i. cond (eqb (p i) (q i) && leb (p i) 16) (cond (rising (starts (r i))) (cond (bySeconds (r i)) (answer (r i)) (refusal 22)) (refusal 21))
+      (refusal 20))
     where
       sized : announcedSize t ≡ announcedSize u
       sized = λ i. least (least (p i) (q i)) 16

@@ -29,9 +29,11 @@ module _ (t : AnnouncedRows) where
   rises-none = is-true _ fixed-rises
 
   pub not-later : (i size : ℕ) → i < size → announcedRow t i .month ≤ monthBefore t i → false ≡ risesTo size
-  not-later i size h g = sym (stays-false risesTo (λ n. ltb (monthBefore t n) (announcedRow t n .month)) (rises-more t) size (suc i) h (fails-at risesTo (λ n. ltb (monthBefore t n) (announcedRow t n .month)) (rises-more t) i (le-ltb _ _ g)))
+  not-later i size h g = sym (stays-false risesTo (λ n. ltb (monthBefore t n) (announcedRow t n .month)) (rises-more t) size (suc i) h
+      (fails-at risesTo (λ n. ltb (monthBefore t n) (announcedRow t n .month)) (rises-more t) i (le-ltb _ _ g)))
 
-  pub later : (i : ℕ) → risesTo i ≡ true → monthBefore t i < announcedRow t i .month → (announcedRow t i .month ≡ monthBefore t (i + 1)) × (risesTo (i + 1) ≡ true)
+  pub later : (i : ℕ) → risesTo i ≡ true → monthBefore t i < announcedRow t i .month → (announcedRow t i .month ≡ monthBefore t (i + 1))
+      × (risesTo (i + 1) ≡ true)
   later i e g =
       rw (add-one i)
       (refl, holds-next risesTo (λ n. ltb (monthBefore t n) (announcedRow t n .month)) (rises-more t) i e (lt-ltb _ _ g))
@@ -41,9 +43,11 @@ module _ (t : AnnouncedRows) where
   steps-none = refl
 
   pub wrong-step : (i size : ℕ) → i < size → oneApart (secondsBefore t i) (secondsAt t i) ≡ false → false ≡ stepsTo size
-  wrong-step i size h g = sym (stays-false stepsTo (λ n. oneApart (secondsBefore t n) (secondsAt t n)) (steps-more t) size (suc i) h (fails-at stepsTo (λ n. oneApart (secondsBefore t n) (secondsAt t n)) (steps-more t) i g))
+  wrong-step i size h g = sym (stays-false stepsTo (λ n. oneApart (secondsBefore t n) (secondsAt t n)) (steps-more t) size (suc i) h
+      (fails-at stepsTo (λ n. oneApart (secondsBefore t n) (secondsAt t n)) (steps-more t) i g))
 
-  pub right-step : (i : ℕ) → stepsTo i ≡ true → oneApart (secondsBefore t i) (secondsAt t i) ≡ true → (secondsAt t i ≡ secondsBefore t (i + 1)) × (stepsTo (i + 1) ≡ true)
+  pub right-step : (i : ℕ) → stepsTo i ≡ true → oneApart (secondsBefore t i) (secondsAt t i) ≡ true → (secondsAt t i ≡ secondsBefore t (i + 1))
+      × (stepsTo (i + 1) ≡ true)
   right-step i e g =
       rw (add-one i)
       (refl, holds-next stepsTo (λ n. oneApart (secondsBefore t n) (secondsAt t n)) (steps-more t) i e g)

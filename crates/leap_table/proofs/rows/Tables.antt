@@ -1,8 +1,8 @@
 -- The rows of a table with announced ones: how many, which row stands at which place, which of them drift, and the look-up from the end.
 -- Assumes nothing.
-use mathlib.Core.Path.{_≡_, refl, ap, sym, subst, _∙_}
+use mathlib.Core.Path.{_≡_, refl, ap, sym, _∙_}
 use mathlib.Core.Bool.{Bool, true, false, not, cond, _&&_}
-use mathlib.Core.List.{List, [], _∷_, _++_, map, map-append}
+use mathlib.Core.List.{List, [], _∷_, _++_, map-append}
 use Prim.Native.Nat.{ℕ, zero, suc, _+_, _-_, _*_, _/_, _≤_, _<_}
 use native.Mathlib.Omega.{arith}
 use native.Mathlib.Nat.{not-suc-le-zero, add-suc, le-refl}
@@ -12,7 +12,7 @@ use lib.Seq.{getD-at, drop-append-le}
 use borrow.Author.Tests.{ltb-true, ltb-false, le-ltb, leb-true, leb-false}
 use Rattle.leap_table.specs.declared.rows.AnnouncedRows.{AnnouncedRows}
 use Rattle.leap_table.specs.rows.Table.{Row, fixed, none, starts, reached, inTurn, rising, fixedRows, lastMonth}
-use Rattle.leap_table.specs.rows.Announced.{secondsAt, announcedRow, rowsTo, least, announcedSize, rowsOf, oneApart, oneSecond, bySeconds}
+use Rattle.leap_table.specs.rows.Announced.{secondsAt, announcedRow, rowsTo, least, announcedSize, oneApart, oneSecond, bySeconds}
 use Rattle.leap_table.proofs.rows.Reached.{at-most, last-has-begun, last-has-not}
 use Rattle.leap_table.proofs.rows.Rows.{drifts}
 use Rattle.leap_table.proofs.rows.InTurn.{lastOf, last-of-more, one-more}
@@ -63,9 +63,12 @@ module _ (t : AnnouncedRows) where
       same : (a b : ℕ) → ltb a b ≡ false → a < suc b → a ≡ b
       same a b e g = omega (arith, ltb-false a b e)
 
-      go : (b : Bool) → ltb k n ≡ b → (k < n → getD (rowsTo t n) (fixedRows + k) none ≡ announcedRow t k) → getD (rowsTo t n ++ (announcedRow t n ∷ [])) (fixedRows + k) none ≡ announcedRow t k
-      go true e more = List·getD-append (rowsTo t n) (announcedRow t n ∷ []) none (fixedRows + k) (omega (arith, table-length n, ltb-true k n e)) ∙ more (ltb-true k n e)
-      go false e more = getD-at (rowsTo t n) (announcedRow t n) [] none (fixedRows + k) (table-length n ∙ ap (λ (j : ℕ). fixedRows + j) (sym (same k n e h))) ∙ ap (announcedRow t) (sym (same k n e h))
+      go : (b : Bool) → ltb k n ≡ b → (k < n → getD (rowsTo t n) (fixedRows + k) none ≡ announcedRow t k)
+          → getD (rowsTo t n ++ (announcedRow t n ∷ [])) (fixedRows + k) none ≡ announcedRow t k
+      go true e more = List·getD-append (rowsTo t n) (announcedRow t n ∷ []) none (fixedRows + k) (omega (arith, table-length n, ltb-true k n e))
+          ∙ more (ltb-true k n e)
+      go false e more = getD-at (rowsTo t n) (announcedRow t n) [] none (fixedRows + k) (table-length n ∙ ap (λ (j : ℕ). fixedRows + j) (sym (same k n e h)))
+          ∙ ap (announcedRow t) (sym (same k n e h))
 
   -- the rows of places 0 to 13 drift, and no other
   pub table-drifts : (n k : ℕ) → k < fixedRows + n → eqb (getD (rowsTo t n) k none .rate) 0 ≡ not (ltb k 14)
@@ -108,7 +111,8 @@ module _ (t : AnnouncedRows) where
   no-fewer zero n = le-refl _
   no-fewer (suc k) n = go (leb (announcedRow t k .month) n) refl (no-fewer k n)
     where
-      go : (b : Bool) → leb (announcedRow t k .month) n ≡ b → reached (starts fixed) n ≤ reached (starts (rowsTo t k)) n → reached (starts fixed) n ≤ reached (starts (rowsTo t (suc k))) n
+      go : (b : Bool) → leb (announcedRow t k .month) n ≡ b → reached (starts fixed) n ≤ reached (starts (rowsTo t k)) n
+          → reached (starts fixed) n ≤ reached (starts (rowsTo t (suc k))) n
       go true e h = omega (arith, announced-found k n (leb-true (announcedRow t k .month) n e), at-most (starts fixed) n, starts-length 0)
       go false e h = omega (arith, announced-passed k n (leb-false (announcedRow t k .month) n e))
 

@@ -10,7 +10,7 @@ use borrow.Author.Tests.{eq-eqb, ne-eqb, le-leb, lt-leb, eqb-true, leb-true}
 use Rattle.refusals.specs.Outcome.{Outcome, answer, refusal, onward}
 use Rattle.leap_table.specs.declared.rows.AnnouncedRows.{AnnouncedRows}
 use Rattle.leap_table.specs.rows.Table.{Row, fixed, starts, rising}
-use Rattle.leap_table.specs.rows.Announced.{rowsTo, least, announcedSize, rowsOf, sizesFit, bySeconds, tableOf, unlessRefused}
+use Rattle.leap_table.specs.rows.Announced.{rowsTo, announcedSize, rowsOf, sizesFit, bySeconds, tableOf, unlessRefused}
 use Rattle.leap_table.proofs.rows.TableTests.{rises-none, steps-none}
 
 -- ---- the number of a table's refusal, and a call that goes on with its rows
@@ -87,9 +87,12 @@ pub record Taken (t : AnnouncedRows) (rows : List Row) : Type 0 where
 
 pub when-taken : (t : AnnouncedRows) (rows : List Row) → tableOf t ≡ answer rows → Taken t rows
 unfolding tableOf
-when-taken t rows e = go (eqb (t .«months_size») (t .«seconds_size»)) refl (leb (t .«months_size») 16) refl (rising (starts (rowsOf t))) refl (bySeconds (rowsOf t)) refl e
+when-taken t rows e = go (eqb (t .«months_size») (t .«seconds_size»)) refl (leb (t .«months_size») 16) refl (rising (starts (rowsOf t))) refl
+    (bySeconds (rowsOf t)) refl e
   where
-    go : (a : Bool) → eqb (t .«months_size») (t .«seconds_size») ≡ a → (b : Bool) → leb (t .«months_size») 16 ≡ b → (c : Bool) → rising (starts (rowsOf t)) ≡ c → (d : Bool) → bySeconds (rowsOf t) ≡ d → cond (a && b) (cond c (cond d (answer (rowsOf t)) (refusal 22)) (refusal 21)) (refusal 20) ≡ answer rows → Taken t rows
+    go : (a : Bool) → eqb (t .«months_size») (t .«seconds_size») ≡ a → (b : Bool) → leb (t .«months_size») 16 ≡ b → (c : Bool)
+        → rising (starts (rowsOf t)) ≡ c → (d : Bool) → bySeconds (rowsOf t) ≡ d
+        → cond (a && b) (cond c (cond d (answer (rowsOf t)) (refusal 22)) (refusal 21)) (refusal 20) ≡ answer rows → Taken t rows
     go true p true q true r true s z = record { all = cc; one-size = eqb-true _ _ p; most = leb-true _ _ q; in-order = r; by-ones = s }
     go true p true q true r false s z = let y : _≡_ {A = ℕ} 0 1 = cc in absurd (omega arith)
     go true p true q false r d s z = let y : _≡_ {A = ℕ} 0 1 = cc in absurd (omega arith)

@@ -38,7 +38,8 @@ module _ (rows : List Row) (dates : List Triple) (places : ℕ) where
   unfolding walkOf judgedList onward
   judged-first true = go (leb (length dates) places)
     where
-      go : (c : Bool) → onward (cond c (judgedAll dates) (refusal 11)) (λ _. answer (walked rows dates)) ≡ cond c (onward (judgedAll dates) (λ _. answer (walked rows dates))) (refusal 11)
+      go : (c : Bool) → onward (cond c (judgedAll dates) (refusal 11)) (λ _. answer (walked rows dates)) ≡ cond c
+          (onward (judgedAll dates) (λ _. answer (walked rows dates))) (refusal 11)
       go true = refl
       go false = refl
   judged-first false = refl
@@ -73,7 +74,8 @@ module _ (t : AnnouncedRows) (b : Bool) (dates : List Triple) (places : ℕ) whe
   judged-walk k e = by-number k (walked (rowsOf t) dates) ∙ ap (λ (o : Outcome Unit). onward o (λ _. answer (walked (rowsOf t) dates))) e ∙ go (tableOf t) refl
     where
       go : (o : Outcome (List Row)) → tableOf t ≡ o → onward (onward o (λ _. judgedList b dates places)) (λ _. answer (walked (rowsOf t) dates)) ≡ onward o next
-      go (answer rows) p = ap (λ (l : List Row). onward (judgedList b dates places) (λ _. answer (walked l dates))) (sym (when-taken t rows p .all)) ∙ judged-first rows dates places b
+      go (answer rows) p = ap (λ (l : List Row). onward (judgedList b dates places) (λ _. answer (walked l dates))) (sym (when-taken t rows p .all))
+          ∙ judged-first rows dates places b
       go (refusal j) p = refl
 
   pub record Passed : Type 0 where
@@ -97,7 +99,8 @@ module _ (t : AnnouncedRows) (b : Bool) (dates : List Triple) (places : ℕ) whe
     refused-call k e h = rw (sym (judged-walk k e) ∙ refused-any k (walked (rowsOf t) dates) h) (record { says = refl; holds = refl })
 
     pub walked-call : (k : ℕ) → unlessRefused k tt ≡ judged → k ≡ 0 → (c : ℕ) (after : List A) (room : ℕ)
-        → c ≡ compared (starts (rowsOf t)) (map monthIn dates) → after ≡ write (map (tripleOffset (rowsOf t)) dates) ++ drop room before → length (write (map (tripleOffset (rowsOf t)) dates)) ≡ room → WalkCall write whole before (Compared c) after
+        → c ≡ compared (starts (rowsOf t)) (map monthIn dates) → after ≡ write (map (tripleOffset (rowsOf t)) dates) ++ drop room before
+        → length (write (map (tripleOffset (rowsOf t)) dates)) ≡ room → WalkCall write whole before (Compared c) after
     unfolding walkOutcome onward listAfter
     walked-call k e h c after room p q r =
         rw (sym (judged-walk k e) ∙ answered-any k (walked (rowsOf t) dates) h)

@@ -1,15 +1,15 @@
--- How many rows a walk compares: at most the dates plus the rows of the table, so the dates plus 42 in the fixed table and plus 58 in every table that is taken; and the
--- count in closed form. Assumes nothing.
+-- How many rows a walk compares: at most the dates plus the rows of the table, so the dates plus 42 in the fixed table and plus 58 in every table that is
+-- taken; and the count in closed form. Assumes nothing.
 use Prim.Native.Nat.{ℕ, zero, suc, _+_, _-_, _≤_, _<_}
 use native.Mathlib.Omega.{arith}
-use mathlib.Core.Path.{_≡_, refl, sym, ap, subst, _∙_}
+use mathlib.Core.Path.{_≡_, refl, ap, _∙_}
 use mathlib.Core.Bool.{Bool, true, false, cond}
-use mathlib.Core.List.{List, [], _∷_, map}
+use mathlib.Core.List.{List, [], _∷_}
 use lib.Dec.{T, leb, leb→le}
 use lib.ListN.{length, length-map, drop, getD}
 use lib.Ieee.Fits.{and-l, and-r}
 use native.Mathlib.Decide.{decLt}
-use borrow.Author.Tests.{leb-true, leb-false, le-leb, lt-leb}
+use borrow.Author.Tests.{lt-leb}
 use Rattle.refusals.specs.Outcome.{answer}
 use Rattle.leap_table.specs.rows.Table.{Row, fixed, starts, reached, rising}
 use Rattle.leap_table.specs.rows.Announced.{tableOf}
@@ -25,7 +25,8 @@ unfolding heldAgainst left
 held-most [] n = omega arith
 held-most (a ∷ l) n = go (leb a n) (held-most l n)
   where
-    go : (b : Bool) → heldAgainst l n + length (left l n) ≤ suc (length l) → cond b (suc (heldAgainst l n)) 1 + length (cond b (left l n) (a ∷ l)) ≤ suc (suc (length l))
+    go : (b : Bool) → heldAgainst l n + length (left l n) ≤ suc (length l)
+        → cond b (suc (heldAgainst l n)) 1 + length (cond b (left l n) (a ∷ l)) ≤ suc (suc (length l))
     go true h = omega arith
     go false h = omega arith
 
@@ -79,7 +80,8 @@ module _ (l : List ℕ) (r : T (rising l)) where
   no-fewer m n zero a h g = omega arith
   no-fewer m n (suc k) a h g = low l k m (omega arith) (omega (arith, g k (omega arith)))
 
-  closed-from : (months : List ℕ) (k n : ℕ) → k ≤ length l → ((j : ℕ) → j < k → getD l j 0 ≤ n) → T (inTime n months) → k + compared (drop k l) months ≡ lastReached l k months + withRowLeft l months
+  closed-from : (months : List ℕ) (k n : ℕ) → k ≤ length l → ((j : ℕ) → j < k → getD l j 0 ≤ n) → T (inTime n months)
+      → k + compared (drop k l) months ≡ lastReached l k months + withRowLeft l months
   unfolding compared lastReached withRowLeft inTime
   closed-from [] k n h g t = refl
   closed-from (m ∷ months) k n h g t =
@@ -89,10 +91,12 @@ module _ (l : List ℕ) (r : T (rising l)) where
       let e : k + (reached l m - k) ≡ reached l m = omega arith in
       let b = between l m (reached l m - k) k (omega (arith, e, at-most l m)) (λ j x y. passed-begun m j (omega (arith, e))) in
       let z = halts l m (reached l m) (next-not m) in
-      let held-is : heldAgainst (drop k l) m ≡ reached l m - k + cond (leb (length l) (reached l m)) 0 1 = b .0 ∙ ap (λ (x : ℕ). reached l m - k + heldAgainst (drop x l) m) e ∙ ap (λ (x : ℕ). reached l m - k + x) (z .1) in
+      let held-is : heldAgainst (drop k l) m ≡ reached l m - k + cond (leb (length l) (reached l m)) 0 1 = b .0
+      ∙ ap (λ (x : ℕ). reached l m - k + heldAgainst (drop x l) m) e ∙ ap (λ (x : ℕ). reached l m - k + x) (z .1) in
       let left-is : left (drop k l) m ≡ drop (reached l m) l = b .1 ∙ ap (λ (x : ℕ). left (drop x l) m) e ∙ z .0 in
       ap (λ (x : ℕ). k + x) (λ i. held-is i + compared (left-is i) months)
-      ∙ sums k (reached l m) (cond (leb (length l) (reached l m)) 0 1) (compared (drop (reached l m) l) months) (lastReached l (reached l m) months) (withRowLeft l months) f more
+      ∙ sums k (reached l m) (cond (leb (length l) (reached l m)) 0 1) (compared (drop (reached l m) l) months) (lastReached l (reached l m) months)
+      (withRowLeft l months) f more
     where
       sums : (k q one x y z : ℕ) → k ≤ q → q + x ≡ y + z → k + (q - k + one + x) ≡ y + (one + z)
       sums k q one x y z h e = omega arith

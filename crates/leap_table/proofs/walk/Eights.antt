@@ -1,9 +1,9 @@
 -- Offsets written as bytes, eight places each. Assumes nothing.
-use Prim.Native.Nat.{ℕ, suc, _+_, _-_, _*_, _≤_, _<_}
+use Prim.Native.Nat.{ℕ, _+_, _-_, _*_, _≤_, _<_}
 use native.Mathlib.Omega.{arith}
-use mathlib.Core.Path.{_≡_, refl, sym, ap, _∙_}
+use mathlib.Core.Path.{_≡_, refl, _∙_}
 use mathlib.Core.List.{List, [], _∷_, _++_, append-assoc, map}
-use lib.ListN.{length, take, drop, set, getD}
+use lib.ListN.{length, take, drop}
 use lib.Seq.{sets, sets-eq}
 use lib.Ieee.{Float, binary64, toBits}
 use Rattle.numerals.specs.little_endian.LittleEndian.{eightBytes}
@@ -39,7 +39,8 @@ module _ (off : Triple → Float) (f : ℕ → Triple) (n : ℕ) (before : List 
   pub eights-start : Putting wholeE (restE 0) before before (8 * 0)
   eights-start = writing-starts inEights put 8 place refl next-place nil cons (λ x. refl) off f n before
 
-  pub eights-go : (i : ℕ) (now now′ : List ℕ) (x : Float) → i < n → Putting wholeE (restE i) before now (8 * i) → x ≡ off (f i) → now′ ≡ sets now (8 * i) (put x) → 8 * i + 8 ≤ length now → Putting wholeE (restE (i + 1)) before now′ (8 * (i + 1))
+  pub eights-go : (i : ℕ) (now now′ : List ℕ) (x : Float) → i < n → Putting wholeE (restE i) before now (8 * i) → x ≡ off (f i)
+      → now′ ≡ sets now (8 * i) (put x) → 8 * i + 8 ≤ length now → Putting wholeE (restE (i + 1)) before now′ (8 * (i + 1))
   eights-go i now now′ x h p e o l =
       writing-goes inEights put 8 place refl next-place nil cons (λ x. refl) off f n before i now now′ x h p e
       (o ∙ sets-eq (put x) now (8 * i) l ∙ append-assoc (take (8 * i) now) (put x) (drop (8 * i + 8) now)) l

@@ -1,17 +1,16 @@
--- The rows that a walk passes are those that the definition holds its months against, and in a table that rises the last row passed is the one that the look-up finds.
--- Assumes nothing.
+-- The rows that a walk passes are those that the definition holds its months against, and in a table that rises the last row passed is the one that the look-up
+-- finds. Assumes nothing.
 use Prim.Native.Nat.{ℕ, zero, suc, _+_, _-_, _≤_, _<_}
 use native.Mathlib.Omega.{arith}
-use native.Mathlib.Numerals.{add-one}
 use native.Mathlib.Decide.{decLt}
 use mathlib.Core.Path.{_≡_, refl, sym, ap, subst, _∙_}
-use mathlib.Core.Bool.{Bool, true, false, cond}
+use mathlib.Core.Bool.{true, false, cond}
 use mathlib.Core.List.{List, [], _∷_}
-use lib.Dec.{T, eqb, leb}
+use lib.Dec.{T, leb}
 use lib.ListN.{length, getD, drop, List·getD-eq-default, length-map}
-use lib.Seq.{drop-cons, drop-length}
+use lib.Seq.{drop-cons}
 use lib.Ieee.{Float, binary64, add, sub, mul}
-use borrow.Author.Tests.{le-leb, lt-leb, eq-eqb, ne-eqb}
+use borrow.Author.Tests.{le-leb, lt-leb}
 use Rattle.leap_table.specs.rows.Table.{Row, starts, reached, rising}
 use Rattle.leap_table.specs.offsets.Forward.{never, byTerms}
 use Rattle.leap_table.specs.declared.offsets.walk_rows.RowTerms.{RowTerms}
@@ -27,7 +26,8 @@ module _ (t : RowTerms) (mjd f : Float) where
   unfolding byTerms
   stays e = rw e
 
-  pub goes : t .drifts ≡ true → (x y : Float) → x ≡ mjd → y ≡ f → add binary64 (t .seconds) (mul binary64 (sub binary64 (add binary64 x y) (t .start)) (t .rate)) ≡ byTerms t mjd f
+  pub goes : t .drifts ≡ true → (x y : Float) → x ≡ mjd → y ≡ f
+      → add binary64 (t .seconds) (mul binary64 (sub binary64 (add binary64 x y) (t .start)) (t .rate)) ≡ byTerms t mjd f
   unfolding byTerms
   goes e x y p q = rw (e, p, q)
 
@@ -60,7 +60,8 @@ module _ (l : List ℕ) where
 
   module _ (n : ℕ) where
     -- a row that has begun is passed, and counts
-    pub passes : (k : ℕ) → k < length l → getD l k 0 ≤ n → (heldAgainst (drop k l) n ≡ suc (heldAgainst (drop (suc k) l) n)) × (left (drop k l) n ≡ left (drop (suc k) l) n)
+    pub passes : (k : ℕ) → k < length l → getD l k 0 ≤ n → (heldAgainst (drop k l) n ≡ suc (heldAgainst (drop (suc k) l) n))
+        × (left (drop k l) n ≡ left (drop (suc k) l) n)
     unfolding heldAgainst left
     passes k h g =
         let e = drop-cons l k 0 h in
@@ -87,7 +88,8 @@ module _ (l : List ℕ) where
     stops k g = halts k (λ w. omega (arith, there k 0 never w))
 
     -- from place k to place k + d
-    pub between : (d k : ℕ) → k + d ≤ length l → ((j : ℕ) → k ≤ j → j < k + d → getD l j 0 ≤ n) → (heldAgainst (drop k l) n ≡ d + heldAgainst (drop (k + d) l) n) × (left (drop k l) n ≡ left (drop (k + d) l) n)
+    pub between : (d k : ℕ) → k + d ≤ length l → ((j : ℕ) → k ≤ j → j < k + d → getD l j 0 ≤ n)
+        → (heldAgainst (drop k l) n ≡ d + heldAgainst (drop (k + d) l) n) × (left (drop k l) n ≡ left (drop (k + d) l) n)
     between zero k h g =
         let e : k ≡ k + 0 = omega arith in
         (ap (λ (x : ℕ). heldAgainst (drop x l) n) e ∙ zero-more (heldAgainst (drop (k + 0) l) n), ap (λ (x : ℕ). left (drop x l) n) e)
@@ -97,8 +99,11 @@ module _ (l : List ℕ) where
     between (suc d) k h g =
         let p = passes k (omega arith) (g k (omega arith) (omega arith)) in
         let q = between d (suc k) (omega arith) (λ j a b. g j (omega arith) (omega arith)) in
-        let e : suc k + d ≡ k + suc d = omega arith in
-        (p .0 ∙ ap suc (q .0 ∙ ap (λ (x : ℕ). d + heldAgainst (drop x l) n) e) ∙ suc-more d (heldAgainst (drop (k + suc d) l) n), p .1 ∙ q .1 ∙ ap (λ (x : ℕ). left (drop x l) n) e)
+        let e : suc k + d ≡ k + suc d = omega arith in (
+          p .0 ∙ ap suc (q .0 ∙ ap (λ (x : ℕ). d + heldAgainst (drop x l) n) e) ∙ suc-more d (heldAgainst (drop (k + suc d) l) n),
+          p .1 ∙ q .1
+              ∙ ap (λ (x : ℕ). left (drop x l) n) e,
+        )
       where
         suc-more : (a b : ℕ) → suc (a + b) ≡ suc a + b
         suc-more a b = omega arith
@@ -129,7 +134,8 @@ module _ (rows : List Row) (month : ℕ) where
   as-many : length (starts rows) ≡ length rows
   as-many = length-map rows (λ (r : Row). r .month)
 
-  pub walking-starts : (w : Walk) → Standing rows w → w .compared < 0x8000_0000_0000_0000 → Walking rows month (w .reached) (w .compared) (w .reached) (w .next) (w .compared)
+  pub walking-starts : (w : Walk) → Standing rows w → w .compared < 0x8000_0000_0000_0000
+      → Walking rows month (w .reached) (w .compared) (w .reached) (w .next) (w .compared)
   walking-starts w s h =
       record {
         most = s .most;
@@ -161,9 +167,12 @@ module _ (rows : List Row) (month : ℕ) where
         at j a b (yes x) = w .begun j a x
         at j a b (no x) =
             let e : k ≡ j = omega arith in
-            subst (λ (i : ℕ). getD (starts rows) i 0 ≤ month) e (omega (arith, there (starts rows) k 0 never (omega (arith, walking-in g, as-many)), w .is-next))
+            subst (λ (i : ℕ). getD (starts rows) i 0 ≤ month) e
+            (omega (arith, there (starts rows) k 0 never (omega (arith, walking-in g, as-many)), w .is-next))
 
-  pub walking-ends : (w : Walk) (n k next c : ℕ) → n ≡ length rows → Walking rows month (w .reached) (w .compared) k next c → month < next → (t : RowTerms) → ((mjd f : Float) → byTerms t mjd f ≡ offsetBy rows k mjd f) → Stepped rows w month (record { rows = n; reached = k; next = next; terms = t; compared = c })
+  pub walking-ends : (w : Walk) (n k next c : ℕ) → n ≡ length rows → Walking rows month (w .reached) (w .compared) k next c → month < next → (t : RowTerms)
+      → ((mjd f : Float) → byTerms t mjd f ≡ offsetBy rows k mjd f)
+      → Stepped rows w month (record { rows = n; reached = k; next = next; terms = t; compared = c })
   walking-ends w n k next c z a h t e =
       record {
         stands = record { all = z; most = a .most; small = a .small; next = a .is-next; terms = e };

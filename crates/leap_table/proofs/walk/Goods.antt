@@ -3,18 +3,18 @@ use Prim.Native.Nat.{ℕ, zero, suc, _+_, _-_, _*_, _≤_, _<_}
 use native.Mathlib.Omega.{arith}
 use native.Mathlib.Nat.{le-refl}
 use native.Mathlib.Decide.{decLt}
-use mathlib.Core.Path.{_≡_, refl, sym, ap, subst, _∙_}
+use mathlib.Core.Path.{_≡_, refl, sym, subst, _∙_}
 use mathlib.Core.Bool.{Bool, true, false, cond}
-use mathlib.Core.List.{List, [], _∷_}
+use mathlib.Core.List.{[]}
 use lib.IntN.{ℤ, pos, negsuc, natAbs}
 use lib.Signed.{ltZ}
 use borrow.Author.Tests.{ltb-false, le-ltb}
-use Rattle.refusals.specs.Outcome.{Outcome, answer, refusal, onward}
+use Rattle.refusals.specs.Outcome.{Outcome, answer, refusal}
 use Rattle.refusals.proofs.Onward.{came}
-use Rattle.calendar.proofs.Accepted.{Accepted, date-accepted}
-use Rattle.leap_table.specs.rows.Table.{monthNumber, monthOf}
+use Rattle.calendar.proofs.Accepted.{date-accepted}
+use Rattle.leap_table.specs.rows.Table.{monthNumber}
 use Rattle.leap_table.specs.declared.judging.Triple.{Triple}
-use Rattle.leap_table.specs.judging.Judging.{byFirst, earlier, validTriple, judgedNext, judgedAfter, judgedAll}
+use Rattle.leap_table.specs.judging.Judging.{earlier, validTriple, judgedNext, judgedAfter, judgedAll}
 use Rattle.leap_table.specs.walk.Walk.{monthIn}
 use Rattle.leap_table.specs.judging.Lists.{datesFrom}
 use Rattle.leap_table.specs.walk.Asked.{GoodDates}
@@ -106,5 +106,6 @@ module _ (f : ℕ → Triple) where
       let r = from n 0 firstDate (sym (first-of-all (datesFrom f 0 n)) ∙ e) in
       record {
         good = λ i h. r .good i (omega arith) (omega arith);
-        rise = λ i h. in-order (f (suc i)) (f i) (r .good (suc i) (omega arith) (omega arith)) (r .good i (omega arith) (omega arith)) (r .order i (omega arith) (omega arith));
+        rise = λ i h. in-order (f (suc i)) (f i) (r .good (suc i) (omega arith) (omega arith)) (r .good i (omega arith) (omega arith))
+            (r .order i (omega arith) (omega arith));
       }

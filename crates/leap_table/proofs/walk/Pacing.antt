@@ -1,5 +1,5 @@
 -- The walk from date to date: where it stands, what it has counted, and the offset of each date. Assumes nothing.
-use Prim.Native.Nat.{ℕ, zero, suc, _+_, _-_, _≤_, _<_}
+use Prim.Native.Nat.{ℕ, _+_, _-_, _≤_, _<_}
 use native.Mathlib.Omega.{arith}
 use native.Mathlib.Numerals.{add-one}
 use native.Mathlib.Decide.{decLt}
@@ -8,7 +8,7 @@ use mathlib.Core.Bool.{Bool, true, false, cond}
 use mathlib.Core.List.{List, [], _∷_, map}
 use lib.Dec.{T, leb}
 use lib.ListN.{length, getD, drop, length-map}
-use lib.Ieee.{Float, binary64, ofInt}
+use lib.Ieee.{binary64, ofInt}
 use Rattle.floats.specs.Whole.{nought}
 use Rattle.calendar.specs.DayCount.{mjdNumber}
 use Rattle.leap_table.specs.rows.Table.{Row, starts, reached, rising}
@@ -28,7 +28,8 @@ pub record Pacing (rows : List Row) (f : ℕ → Triple) (n i : ℕ) (w : Walk) 
   pub within : i ≤ n
   pub stands : Standing rows w
   pub begun : i < n → (j : ℕ) → j < w .reached → getD (starts rows) j 0 ≤ monthIn (f i)
-  pub count : w .compared + compared (drop (w .reached) (starts rows)) (map monthIn (datesFrom f i (n - i))) ≡ compared (starts rows) (map monthIn (datesFrom f 0 n))
+  pub count : w .compared + compared (drop (w .reached) (starts rows)) (map monthIn (datesFrom f i (n - i))) ≡ compared (starts rows)
+      (map monthIn (datesFrom f 0 n))
   pub few : w .compared ≤ w .reached + i
 
 -- with so many rows compared
@@ -56,7 +57,8 @@ module _ (rows : List Row) (f : ℕ → Triple) (n : ℕ) where
         within = omega arith;
         stands = a .stands;
         begun = λ h j g. absurd (omega (arith, a .none));
-        count = (λ x. a .nothing x + compared (drop (a .none x) l) (rest 0)) ∙ none-more (compared l (rest 0)) ∙ ap (λ (d : List Triple). compared l (map monthIn d)) (sym (all-dates f n 0));
+        count = (λ x. a .nothing x + compared (drop (a .none x) l) (rest 0)) ∙ none-more (compared l (rest 0))
+            ∙ ap (λ (d : List Triple). compared l (map monthIn d)) (sym (all-dates f n 0));
         few = omega (arith, a .nothing);
       }
     where
@@ -97,7 +99,8 @@ module _ (rows : List Row) (f : ℕ → Triple) (n : ℕ) where
         there : w .reached + d ≡ v .reached
         there = omega (arith, s .forward)
 
-        b : (heldAgainst (drop (w .reached) l) m ≡ d + heldAgainst (drop (w .reached + d) l) m) × (left (drop (w .reached) l) m ≡ left (drop (w .reached + d) l) m)
+        b : (heldAgainst (drop (w .reached) l) m ≡ d + heldAgainst (drop (w .reached + d) l) m)
+            × (left (drop (w .reached) l) m ≡ left (drop (w .reached + d) l) m)
         b = between l m d (w .reached) (omega (arith, there, s .stands .most, many)) (λ j x y. s .begun j x (omega (arith, there, y)))
 
         z : (left (drop (v .reached) l) m ≡ drop (v .reached) l) × (heldAgainst (drop (v .reached) l) m ≡ cond (leb (length l) (v .reached)) 0 1)
@@ -145,7 +148,8 @@ module _ (rows : List Row) (f : ℕ → Triple) (n : ℕ) where
 
   pub pacing-ends : (i : ℕ) (w : Walk) → Pacing rows f n i w → n ≤ i → w .compared ≡ compared l (map monthIn (datesFrom f 0 n))
   unfolding compared
-  pacing-ends i w p h = nothing-more (w .compared) ∙ ap (λ (d : List Triple). w .compared + compared (drop (w .reached) l) (map monthIn d)) (sym (no-date f n i h)) ∙ p .count
+  pacing-ends i w p h = nothing-more (w .compared)
+      ∙ ap (λ (d : List Triple). w .compared + compared (drop (w .reached) l) (map monthIn d)) (sym (no-date f n i h)) ∙ p .count
     where
       nothing-more : (x : ℕ) → x ≡ x + 0
       nothing-more x = omega arith

@@ -17,7 +17,8 @@ abbrev date : ℕ → ℕ → ℕ → Triple
 date y m d = triple (pos y) (pos m) (pos d)
 
 -- the last day without a row, the first row's first day, and both sides of the last row's start: 42 rows are reached, and three of the dates leave one
-pub four-dates : onward (walkOf fixed true (date 1959 12 31 ∷ date 1960 1 1 ∷ date 2016 12 31 ∷ date 2017 1 1 ∷ []) 4) (λ w. answer (w .rowsCompared)) ≡ answer 45
+pub four-dates : onward (walkOf fixed true (date 1959 12 31 ∷ date 1960 1 1 ∷ date 2016 12 31 ∷ date 2017 1 1 ∷ []) 4) (λ w. answer (w .rowsCompared)) ≡
+    answer 45
 unfolding walkOf judgedAll judgedAfter judgedNext earlier onward validDate daysInMonth lengths leapSize compared heldAgainst left fixed monthNumber
 four-dates = refl
 
@@ -39,7 +40,8 @@ pub none-and-earlier : walkOf fixed true (date 2016 12 31 ∷ date 1999 2 29 ∷
 unfolding walkOf judgedAll judgedAfter judgedNext earlier onward validDate daysInMonth lengths leapSize
 none-and-earlier = refl
 
--- equal dates pass, and the second compares no row more; a broken triple is 14 before the places are counted; 17 of an earlier date comes before a later date's own number
+-- equal dates pass, and the second compares no row more; a broken triple is 14 before the places are counted; 17 of an earlier date comes before a later date's
+-- own number
 pub equal-pass : onward (walkOf fixed true (date 2017 1 1 ∷ date 2017 1 1 ∷ []) 2) (λ w. answer (w .rowsCompared)) ≡ answer 42
 unfolding walkOf judgedAll judgedAfter judgedNext earlier onward validDate daysInMonth lengths leapSize compared heldAgainst left fixed monthNumber
 equal-pass = refl

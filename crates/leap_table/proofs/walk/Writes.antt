@@ -21,19 +21,24 @@ module _ {A : Type 0} (all before : List A) where
   pub putting-starts : Putting all all before before 0
   putting-starts = record { long = refl; done = refl; kept = refl }
 
-  pub putting-goes : (rest rest′ now now′ vs : List A) (at : ℕ) → Putting all rest before now at → rest ≡ vs ++ rest′ → now′ ≡ take at now ++ (vs ++ drop (at + length vs) now) → at + length vs ≤ length now → Putting all rest′ before now′ (at + length vs)
+  pub putting-goes : (rest rest′ now now′ vs : List A) (at : ℕ) → Putting all rest before now at → rest ≡ vs ++ rest′ → now′ ≡ take at now
+      ++ (vs ++ drop (at + length vs) now) → at + length vs ≤ length now → Putting all rest′ before now′ (at + length vs)
   putting-goes rest rest′ now now′ vs at p e o h =
       let q : now′ ≡ (take at now ++ vs) ++ drop (at + length vs) now = o ∙ sym (append-assoc (take at now) vs (drop (at + length vs) now)) in
-      let n : length (take at now ++ vs) ≡ at + length vs = length-append (take at now) vs ∙ ap (λ (k : ℕ). k + length vs) (length-take-le at now (omega arith)) in
-      let d : drop (at + length vs) now′ ≡ drop (at + length vs) now = ap (drop (at + length vs)) q ∙ drop-at (take at now ++ vs) (drop (at + length vs) now) (at + length vs) n in
+      let n : length (take at now ++ vs) ≡ at + length vs = length-append (take at now) vs
+      ∙ ap (λ (k : ℕ). k + length vs) (length-take-le at now (omega arith)) in
+      let d : drop (at + length vs) now′ ≡ drop (at + length vs) now = ap (drop (at + length vs)) q
+      ∙ drop-at (take at now ++ vs) (drop (at + length vs) now) (at + length vs) n in
       record {
         long = whole now′ q n;
-        done = p .done ∙ ap (λ (r : List A). take at now ++ r) e ∙ sym (append-assoc (take at now) vs rest′) ∙ ap (λ (t : List A). t ++ rest′) (sym (ap (take (at + length vs)) q ∙ take-at (take at now ++ vs) (drop (at + length vs) now) (at + length vs) n));
+        done = p .done ∙ ap (λ (r : List A). take at now ++ r) e ∙ sym (append-assoc (take at now) vs rest′)
+            ∙ ap (λ (t : List A). t ++ rest′) (sym (ap (take (at + length vs)) q ∙ take-at (take at now ++ vs) (drop (at + length vs) now) (at + length vs) n));
         kept = d ∙ sym (drop-drop (length vs) at now) ∙ ap (drop (length vs)) (p .kept) ∙ drop-drop (length vs) at before;
       }
     where
       whole : (x : List A) → x ≡ (take at now ++ vs) ++ drop (at + length vs) now → length (take at now ++ vs) ≡ at + length vs → length x ≡ length before
-      whole x q n = ap length q ∙ length-append (take at now ++ vs) (drop (at + length vs) now) ∙ ap (λ (k : ℕ). k + length (drop (at + length vs) now)) n ∙ back (length-drop (at + length vs) now) ∙ p .long
+      whole x q n = ap length q ∙ length-append (take at now ++ vs) (drop (at + length vs) now) ∙ ap (λ (k : ℕ). k + length (drop (at + length vs) now)) n
+          ∙ back (length-drop (at + length vs) now) ∙ p .long
         where
           back : length (drop (at + length vs) now) ≡ length now - (at + length vs) → at + length vs + length (drop (at + length vs) now) ≡ length now
           back z = omega arith
@@ -60,12 +65,14 @@ module _ {A : Type 0} (write : List Float → List A) (put : Float → List A) (
       subst (λ (k : ℕ). Putting whole (rest 0) before before k) (sym none)
       (subst (λ (d : List Triple). Putting whole (write (map off d) ++ drop (at n) before) before before 0) (all-dates f n 0) (putting-starts whole before))
 
-  pub writing-goes : (i : ℕ) (now now′ : List A) (x : Float) → i < n → Putting whole (rest i) before now (at i) → x ≡ off (f i) → now′ ≡ take (at i) now ++ (put x ++ drop (at i + size) now) → at i + size ≤ length now → Putting whole (rest (i + 1)) before now′ (at (i + 1))
+  pub writing-goes : (i : ℕ) (now now′ : List A) (x : Float) → i < n → Putting whole (rest i) before now (at i) → x ≡ off (f i) → now′ ≡ take (at i) now
+      ++ (put x ++ drop (at i + size) now) → at i + size ≤ length now → Putting whole (rest (i + 1)) before now′ (at (i + 1))
   writing-goes i now now′ x h p e o l =
       subst (λ (k : ℕ). Putting whole (rest (i + 1)) before now′ k) (ap (λ (k : ℕ). at i + k) (each x) ∙ sym (more i))
       (putting-goes whole before (rest i) (rest (i + 1)) now now′ (put x) (at i) p
       (ap (λ (d : List Triple). write (map off d) ++ drop (at n) before) (next-date f n i h)
-      ∙ ap (λ (y : List A). y ++ drop (at n) before) (ap (λ (y : Float). write (y ∷ map off (datesFrom f (i + 1) (n - (i + 1))))) (sym e) ∙ cons x (map off (datesFrom f (i + 1) (n - (i + 1)))))
+      ∙ ap (λ (y : List A). y ++ drop (at n) before)
+      (ap (λ (y : Float). write (y ∷ map off (datesFrom f (i + 1) (n - (i + 1))))) (sym e) ∙ cons x (map off (datesFrom f (i + 1) (n - (i + 1)))))
       ∙ append-assoc (put x) (write (map off (datesFrom f (i + 1) (n - (i + 1))))) (drop (at n) before))
       (o ∙ ap (λ (k : ℕ). take (at i) now ++ (put x ++ drop (at i + k) now)) (sym (each x)))
       (omega (arith, each x)))
@@ -75,7 +82,8 @@ module _ {A : Type 0} (write : List Float → List A) (put : Float → List A) (
       let e : n ≡ i = omega arith in
       putting-ends whole before now (at i)
       (subst (λ (r : List A). Putting whole r before now (at i))
-      (ap (λ (d : List Triple). write (map off d) ++ drop (at n) before) (no-date f n i g) ∙ ap (λ (y : List A). y ++ drop (at n) before) nil ∙ ap (λ (k : ℕ). drop (at k) before) e) p)
+      (ap (λ (d : List Triple). write (map off d) ++ drop (at n) before) (no-date f n i g) ∙ ap (λ (y : List A). y ++ drop (at n) before) nil
+      ∙ ap (λ (k : ℕ). drop (at k) before) e) p)
 
   pub written-length : (k i : ℕ) → length (write (map off (datesFrom f i k))) ≡ size * k
   unfolding datesFrom

@@ -1,5 +1,5 @@
--- Which lists of dates are refused, and by which number. Written from document 02, item 2: "14 for a broken triple, then 11 for fewer offset places than dates; then, date by
--- date, a bad one by its own number, then 17 for one earlier than the one before it". Assumes nothing.
+-- Which lists of dates are refused, and by which number. Written from document 02, item 2: "14 for a broken triple, then 11 for fewer offset places than dates;
+-- then, date by date, a bad one by its own number, then 17 for one earlier than the one before it". Assumes nothing.
 use Prim.Native.Nat.{ℕ}
 use mathlib.Core.Bool.{Bool, true, false, cond}
 use mathlib.Core.List.{List, [], _∷_}

@@ -1,5 +1,5 @@
--- Dates as signed 32-bit numbers, three a date, and as bytes, twelve a date in two's complement, the lowest first. Written from document 02, item 2 ("a slice of signed 32-bit
--- numbers, year, month, day triples"); the bytes are the layout for C. Assumes nothing.
+-- Dates as signed 32-bit numbers, three a date, and as bytes, twelve a date in two's complement, the lowest first. Written from document 02, item 2 ("a slice
+-- of signed 32-bit numbers, year, month, day triples"); the bytes are the layout for C. Assumes nothing.
 use Prim.Native.Nat.{ℕ, zero, suc, _+_, _*_, _/_, _%_}
 use mathlib.Core.List.{List, [], _∷_}
 use lib.Dec.{eqb}

@@ -1,5 +1,5 @@
--- What a walk forward through the table reads of it: the start of each row, and the terms that a row's offsets are made of. Written from document 02, item 2 ("walking
--- the table forward"), and from the look-up by one row, `byRow`, whose float expression this is. Assumes nothing.
+-- What a walk forward through the table reads of it: the start of each row, and the terms that a row's offsets are made of. Written from document 02, item 2
+-- ("walking the table forward"), and from the look-up by one row, `byRow`, whose float expression this is. Assumes nothing.
 use Prim.Native.Nat.{ℕ}
 use mathlib.Core.Bool.{cond}
 use lib.Ieee.{Float, binary64, add, sub, mul}

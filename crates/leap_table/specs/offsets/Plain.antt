@@ -1,5 +1,5 @@
--- A date whose offsets need neither its Modified Julian Date nor its next date: the next date is in the same month, and the month is January 1972 or later, where
--- no row drifts. Written for the code's own short way; no contract of a public function cites it. Assumes nothing.
+-- A date whose offsets need neither its Modified Julian Date nor its next date: the next date is in the same month, and the month is January 1972 or later,
+-- where no row drifts. Written for the code's own short way; no contract of a public function cites it. Assumes nothing.
 use mathlib.Core.Path.{_≡_}
 use Prim.Native.Nat.{ℕ, zero, suc, _+_, _≤_}
 use lib.IntN.{ℤ, natAbs}

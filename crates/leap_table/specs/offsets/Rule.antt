@@ -1,5 +1,5 @@
--- The rule of an offset: the row of the table that it was read from, and whether that row drifts or holds whole seconds. Written from document 02, item 5: no row, a row
--- that drifts or a row of whole seconds, with the row's number counted from 0. Assumes nothing.
+-- The rule of an offset: the row of the table that it was read from, and whether that row drifts or holds whole seconds. Written from document 02, item 5: no
+-- row, a row that drifts or a row of whole seconds, with the row's number counted from 0. Assumes nothing.
 use Prim.Native.Nat.{ℕ, zero, suc}
 use mathlib.Core.Bool.{cond}
 use mathlib.Core.List.{List}

@@ -1,7 +1,7 @@
--- TAI-UTC of a month in whole seconds, for those who count a time from 1972 on in whole numbers: from January 1972 on no row drifts, and it is the number whose float
--- `taiUtcOffset` gives (`table-seconds`). Assumes nothing.
+-- TAI-UTC of a month in whole seconds, for those who count a time from 1972 on in whole numbers: from January 1972 on no row drifts, and it is the number whose
+-- float `taiUtcOffset` gives (`table-seconds`). Assumes nothing.
 use Prim.Native.Nat.{ℕ}
-use mathlib.Core.Bool.{Bool, cond, _||_}
+use mathlib.Core.Bool.{cond, _||_}
 use mathlib.Core.List.{List}
 use lib.Dec.{ltb}
 use lib.IntN.{ℤ, pos}

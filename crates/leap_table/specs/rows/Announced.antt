@@ -1,6 +1,6 @@
--- The table with the announced rows that a caller lends after the fixed ones. Written from document 02, item 8: two sizes, month starts (12 × year + month - 1) and
--- whole seconds, unread past the size. 20 for sizes unequal or above 16, then 21 for a row not later than the one before, then 22 for a step other than one second
--- up or down, each over all rows before the next; the first announced row stands after the fixed row of 2017. Assumes nothing.
+-- The table with the announced rows that a caller lends after the fixed ones. Written from document 02, item 8: two sizes, month starts (12 × year + month - 1)
+-- and whole seconds, unread past the size. 20 for sizes unequal or above 16, then 21 for a row not later than the one before, then 22 for a step other than one
+-- second up or down, each over all rows before the next; the first announced row stands after the fixed row of 2017. Assumes nothing.
 use mathlib.Core.Path.{_≡_}
 use mathlib.Core.Logic.{_⊎_}
 use Prim.Native.Nat.{ℕ, zero, suc, _+_, _*_, _/_, _≤_, _<_}
@@ -91,9 +91,12 @@ StepAt t i = OneStep (before (pos 37) (t .seconds) i) (getD (t .seconds) i (pos 
 -- what becomes of a table, and why
 pub data Decision (t : AnnouncedRows) : Type 0 where
   sizes : (t .«months_size» ≡ t .«seconds_size» → 16 < t .«months_size») → tableOf t ≡ refusal 20 → Decision t
-  order : t .«months_size» ≡ t .«seconds_size» → t .«months_size» ≤ 16 → (i : ℕ) → i < t .«months_size» → laterAt t i ≡ false → tableOf t ≡ refusal 21 → Decision t
-  step : t .«months_size» ≡ t .«seconds_size» → t .«months_size» ≤ 16 → ((i : ℕ) → i < t .«months_size» → laterAt t i ≡ true) → (i : ℕ) → i < t .«months_size» → (StepAt t i → ⊥) → tableOf t ≡ refusal 22 → Decision t
-  taken : t .«months_size» ≡ t .«seconds_size» → t .«months_size» ≤ 16 → ((i : ℕ) → i < t .«months_size» → laterAt t i ≡ true) → ((i : ℕ) → i < t .«months_size» → StepAt t i) → tableOf t ≡ answer (rowsOf t) → Decision t
+  order : t .«months_size» ≡ t .«seconds_size» → t .«months_size» ≤ 16 → (i : ℕ) → i < t .«months_size» → laterAt t i ≡ false → tableOf t ≡ refusal 21
+      → Decision t
+  step : t .«months_size» ≡ t .«seconds_size» → t .«months_size» ≤ 16 → ((i : ℕ) → i < t .«months_size» → laterAt t i ≡ true) → (i : ℕ) → i < t .«months_size»
+      → (StepAt t i → ⊥) → tableOf t ≡ refusal 22 → Decision t
+  taken : t .«months_size» ≡ t .«seconds_size» → t .«months_size» ≤ 16 → ((i : ℕ) → i < t .«months_size» → laterAt t i ≡ true)
+      → ((i : ℕ) → i < t .«months_size» → StepAt t i) → tableOf t ≡ answer (rowsOf t) → Decision t
 
 -- 0 for what is not refused
 abbrev pub unlessRefused : {A : Type 0} → ℕ → A → Outcome A

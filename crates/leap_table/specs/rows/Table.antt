@@ -1,5 +1,5 @@
--- TAI-UTC as a table of decimals, and the last row whose month has begun. Written from the IERS table of TAI-UTC from 1961 on (Bulletin C from 1972); the row of
--- 1960 is SOFA's (dat.c). Assumes nothing.
+-- TAI-UTC as a table of decimals, and the last row whose month has begun. Written from the IERS table of TAI-UTC from 1961 on (Bulletin C from 1972); the row
+-- of 1960 is SOFA's (dat.c). Assumes nothing.
 use Prim.Native.Nat.{ℕ, zero, suc, _+_, _-_, _*_, _≤_, _<_}
 use mathlib.Core.Bool.{Bool, true, false, _&&_}
 use mathlib.Core.List.{List, [], _∷_, map}
@@ -7,8 +7,8 @@ use lib.Dec.{leb, ltb}
 use lib.IntN.{ℤ, pos, negsuc}
 use lib.ListN.{length, getD}
 
--- From the start of month `month` on, TAI-UTC is `units` times 10^-7 s; and where `rate` is not 0, more by `rate` times 10^-10 s for each day since the Modified
--- Julian Date `start`. Months are numbered from January of year 0.
+-- From the start of month `month` on, TAI-UTC is `units` times 10^-7 s; and where `rate` is not 0, more by `rate` times 10^-10 s for each day since the
+-- Modified Julian Date `start`. Months are numbered from January of year 0.
 pub record Row : Type 0 where
   pub month : ℕ
   pub units : ℕ
@@ -91,8 +91,8 @@ monthNumber (negsuc y) m = 0
 abbrev pub starts : List Row → List ℕ
 starts rows = map (λ (r : Row). r .month) rows
 
--- How many rows stand up to the last whose month has begun; 0 where none has begun. `reached` works from the end: what the later rows say, with one row on top of
--- them. No order of the rows is assumed.
+-- How many rows stand up to the last whose month has begun; 0 where none has begun. `reached` works from the end: what the later rows say, with one row on top
+-- of them. No order of the rows is assumed.
 abbrev pub onTop : ℕ → Bool → ℕ
 onTop (suc k) b = suc (suc k)
 onTop zero true = 1

@@ -1,5 +1,5 @@
--- What a call answers and what its announced list holds. Written from document 02, item 2: "Besides the offsets, the result carries the number of rows compared", "spare places of a
--- announced list stay", and document 01, "Refusals by number": a refused call changes nothing. Assumes nothing.
+-- What a call answers and what its announced list holds. Written from document 02, item 2: "Besides the offsets, the result carries the number of rows
+-- compared", "spare places of a announced list stay", and document 01, "Refusals by number": a refused call changes nothing. Assumes nothing.
 use Prim.Native.Nat.{ℕ}
 use mathlib.Core.Path.{_≡_}
 use mathlib.Core.List.{List, _++_}

@@ -1,4 +1,5 @@
--- The walk over dates as numbers and as bytes; offsets as bytes, eight each, the lowest first. Written from document 02, item 2; the bytes are the layout for C. Assumes nothing.
+-- The walk over dates as numbers and as bytes; offsets as bytes, eight each, the lowest first. Written from document 02, item 2; the bytes are the layout for
+-- C. Assumes nothing.
 use Prim.Native.Nat.{ℕ, _/_, _%_}
 use mathlib.Core.List.{List, [], _∷_, _++_}
 use lib.Dec.{eqb}

@@ -1,5 +1,5 @@
--- The offsets of dates at 0h in one walk through the table, and the number of rows compared. Written from document 02, item 2: "Turned away: 14 for a broken triple, then 11
--- for fewer offset places than dates; then, date by date, a bad one by its own number, then 17". Assumes nothing.
+-- The offsets of dates at 0h in one walk through the table, and the number of rows compared. Written from document 02, item 2: "Turned away: 14 for a broken
+-- triple, then 11 for fewer offset places than dates; then, date by date, a bad one by its own number, then 17". Assumes nothing.
 use Prim.Native.Nat.{ℕ}
 use mathlib.Core.Bool.{Bool, cond}
 use mathlib.Core.List.{List, map}

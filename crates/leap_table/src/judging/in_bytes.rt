@@ -45,8 +45,8 @@ fn judge_all(dates: &[u8], n: usize) -> u32
     0
 }
 
-// The number by which a walk with these dates is refused, 0 if it is not, as `numbers_refusal` gives it: 14 where the bytes of `dates` are no multiple of 12, 11 where `room` bytes
-// are fewer than eight for each date.
+// The number by which a walk with these dates is refused, 0 if it is not, as `numbers_refusal` gives it: 14 where the bytes of `dates` are no multiple of 12,
+// 11 where `room` bytes are fewer than eight for each date.
 pub fn bytes_refusal(dates: &[u8], table: AnnouncedRows, room: usize) -> u32
     ensures { λ r. ⌜ unlessRefused r tt ≡ onward (tableOf table) (λ _. judgedBytes (now (dates .entry)) room) ⌝ }
 {

@@ -103,7 +103,8 @@ const RATES: [f64; 14] = [
     0.0025920,
 ];
 
-// How many rows of a list of months stand up to the last that has begun, where none from place `end` on has begun. From the end: a date of today takes one step.
+// How many rows of a list of months stand up to the last that has begun, where none from place `end` on has begun. From the end: a date of today takes one
+// step.
 fn rows_reached(months: &[u64], end: usize, n: u64) -> usize
     requires { ⌜ (end ≤ length (now months)) × (reached (drop end (now months)) n ≡ 0) ⌝ }
     ensures { λ r. ⌜ r ≡ reached (now (months .entry)) n ⌝ }
@@ -153,8 +154,8 @@ pub(crate) fn rate_at(i: usize) -> f64
     RATES[i]
 }
 
-// The seconds of the last of 15 or more rows: 10 in the row of 1972, whose place is 14, and one more in each later row, so that they are the number of rows less 5.
-// They are counted and not read from a table, since the compiled code copies a table whenever it is read by an index.
+// The seconds of the last of 15 or more rows: 10 in the row of 1972, whose place is 14, and one more in each later row, so that they are the number of rows
+// less 5. They are counted and not read from a table, since the compiled code copies a table whenever it is read by an index.
 pub(crate) fn whole_seconds(rows: usize) -> f64
     requires { ⌜ (15 ≤ rows) × (rows ≤ 42) ⌝ }
     ensures { λ r. ⌜ r ≡ secondsOf (getD fixed (rows - 1) none) ⌝ }

@@ -39,7 +39,8 @@ fn found_next(announced: i32, month: i32, i: u32, found: u32) -> u32
     if announced <= month { i + 1 } else { found }
 }
 
-// How many announced rows stand up to the last that has begun, 0 where none has. The rows are taken in their order and without a jump, so that several are compared at once.
+// How many announced rows stand up to the last that has begun, 0 where none has. The rows are taken in their order and without a jump, so that several are
+// compared at once.
 fn announced_rows_reached(size: u32, months: &[i32; 16], n: u64) -> u32
     requires { ⌜ size ≤ 16 ⌝ }
     ensures { λ r. ⌜ (byFound n r ≡ reached (starts (rowsTo (announcedTable 0 0 (now (months .entry)) []) size)) n) × (r ≤ size) ⌝ }
@@ -79,7 +80,8 @@ pub(crate) fn table_rows_reached(size: usize, months: &[i32; 16], n: u64) -> usi
 // The seconds of the last of 15 or more rows of a table. The months of the rows do not matter.
 pub(crate) fn seconds_of_row(seconds: &[i32; 16], rows: usize) -> f64
     requires { ⌜ (15 ≤ rows) × (rows ≤ 58) ⌝ }
-    ensures { λ r. ⌜ ((size : ℕ) (months : List ℤ) → rows ≤ 42 + least size 16 → r ≡ secondsOf (getD (rowsIn size months (now (seconds .entry))) (rows - 1) none)) ⌝ }
+    ensures { λ r. ⌜ ((size : ℕ) (months : List ℤ) → rows ≤ 42 + least size 16
+        → r ≡ secondsOf (getD (rowsIn size months (now (seconds .entry))) (rows - 1) none)) ⌝ }
 {
     if rows <= 42 {
         return whole_seconds(rows);
@@ -171,7 +173,9 @@ pub(crate) fn of_plain_day<'a>(
     seconds: &'a [i32; 16],
 ) -> PlainDay
     requires { ⌜ Plain year month day ⌝ }
-    ensures { λ r. ⌜ ((mjd fraction : Float) → r .seconds ≡ offsetAt (rowsIn size (now (months .entry)) (now (seconds .entry))) (monthNumber year (natAbs month)) mjd fraction) × (r .rule ≡ ruleAt (rowsIn size (now (months .entry)) (now (seconds .entry))) year month) ⌝ }
+    ensures { λ r. ⌜ ((mjd fraction : Float)
+        → r .seconds ≡ offsetAt (rowsIn size (now (months .entry)) (now (seconds .entry))) (monthNumber year (natAbs month)) mjd fraction)
+        × (r .rule ≡ ruleAt (rowsIn size (now (months .entry)) (now (seconds .entry))) year month) ⌝ }
 {
     let rows = table_rows_reached(size, months, month_number(year, month as u32));
     PlainDay {

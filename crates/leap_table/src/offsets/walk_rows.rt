@@ -12,7 +12,8 @@ use crate::rows::AnnouncedRows;
 // Later than the month of any date.
 const NEVER: u64 = 0xffff_ffff_ffff_ffff;
 
-// What the offsets of a row are made of: where it drifts, its seconds, the Modified Julian Date from which it drifts and its seconds a day; else its seconds alone.
+// What the offsets of a row are made of: where it drifts, its seconds, the Modified Julian Date from which it drifts and its seconds a day; else its seconds
+// alone.
 pub struct RowTerms {
     pub drifts: bool,
     pub seconds: f64,

@@ -47,7 +47,10 @@ fn offsets_of_day<'a>(
     mjd: i64,
 ) -> DayByRule
     requires { ⌜ natAbs mjd < 1000000000000 ⌝ }
-    ensures { λ r. ⌜ dayByRuleOutcome r ≡ answer (offsetsOfDay (rowsIn size (now (months .entry)) (now (seconds .entry))) month next mjd, ruleOf (rowsIn size (now (months .entry)) (now (seconds .entry))) month) ⌝ }
+    ensures { λ r. ⌜ dayByRuleOutcome r ≡ answer (
+      offsetsOfDay (rowsIn size (now (months .entry)) (now (seconds .entry))) month next mjd,
+      ruleOf (rowsIn size (now (months .entry)) (now (seconds .entry))) month,
+    ) ⌝ }
 {
     let rows = table_rows_reached(size, months, month);
     let next_rows = next_rows_reached(size, months, rows, month, next);

@@ -45,7 +45,9 @@ fn put_offset(out: &mut [u8], at: usize, x: f64)
 // Walks through the table with n dates, writes their offsets, and says how many rows it compared.
 fn walk_all(dates: &[u8], n: usize, table: AnnouncedRows, out: &mut [u8]) -> u64
     requires { ⌜ (GoodDates (tripleIn (now dates)) n) × (T (rising (starts (rowsOf table)))) × (12 * n ≤ length (now dates)) × (8 * n ≤ length (now out)) ⌝ }
-    ensures { λ r. ⌜ (r ≡ compared (starts (rowsOf table)) (map monthIn (datesFrom (tripleIn (now (dates .entry))) 0 n))) × (now (out .exit) ≡ inEights (map (tripleOffset (rowsOf table)) (datesFrom (tripleIn (now (dates .entry))) 0 n)) ++ drop (8 * n) (now (out .entry))) ⌝ }
+    ensures { λ r. ⌜ (r ≡ compared (starts (rowsOf table)) (map monthIn (datesFrom (tripleIn (now (dates .entry))) 0 n)))
+        × (now (out .exit) ≡ inEights (map (tripleOffset (rowsOf table)) (datesFrom (tripleIn (now (dates .entry))) 0 n)) ++ drop (8 * n) (now (out .entry)))
+        ⌝ }
 {
     let mut w = super::at_start(table);
     let mut i = 0;
@@ -64,9 +66,11 @@ fn walk_all(dates: &[u8], n: usize, table: AnnouncedRows, out: &mut [u8]) -> u64
     w.compared
 }
 
-// The offsets at 0h as `offsets_at_0h` gives them, from dates and into places that are bytes. Refusals as there, 14 where the bytes of `dates` are no multiple of 12.
+// The offsets at 0h as `offsets_at_0h` gives them, from dates and into places that are bytes. Refusals as there, 14 where the bytes of `dates` are no multiple
+// of 12.
 pub fn offsets_at_0h_bytes(dates: &[u8], table: AnnouncedRows, out: &mut [u8]) -> WalkAnswer
-    ensures { λ r. ⌜ WalkCall inEights (onward (tableOf table) (λ rows. walkOfBytes rows (now (dates .entry)) (length (now (out .entry))))) (now (out .entry)) r (now (out .exit)) ⌝ }
+    ensures { λ r. ⌜ WalkCall inEights (onward (tableOf table) (λ rows. walkOfBytes rows (now (dates .entry)) (length (now (out .entry))))) (now (out .entry))
+        r (now (out .exit)) ⌝ }
 {
     let number = crate::judging::bytes_refusal(dates, table, out.len());
     if number != 0 {

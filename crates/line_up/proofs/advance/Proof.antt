@@ -1,5 +1,4 @@
 -- `line_up::advance` meets its contract. Assumes nothing.
-use mathlib.Core.Path.{_≡_, refl, sym, ap, _∙_}
 use Rattle.line_up.proofs.Cases.{moved-next, moved-stays}
 use borrow.Author.Needs.{needs}
 use Rattle.line_up.proofs.advance.Statement.{statement}

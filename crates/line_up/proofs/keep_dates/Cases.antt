@@ -1,7 +1,7 @@
 -- What the small functions return. Assumes nothing.
 use Prim.Native.Nat.{ℕ, suc, _+_, _*_}
 use native.Mathlib.Omega.{arith}
-use mathlib.Core.Path.{_≡_, refl, sym, ap, _∙_}
+use mathlib.Core.Path.{_≡_}
 use mathlib.Core.List.{List}
 use lib.ListN.{set}
 use lib.Ieee.{Float, ofBits, binary64}
@@ -11,7 +11,8 @@ use Rattle.julian.specs.JulianDate.{julian}
 use Rattle.julian.specs.order.Places.{isEarlier}
 use Rattle.line_up.specs.keep_dates.Stamps.{stampOf, soonerAt}
 
-pub stamp-is : (js ks : List ℕ) (i a b : ℕ) (x y : Float) → a ≡ u64At js (8 * i) → b ≡ u64At ks (8 * i) → x ≡ ofBits binary64 a → y ≡ ofBits binary64 b → julian x y ≡ stampOf js ks i
+pub stamp-is : (js ks : List ℕ) (i a b : ℕ) (x y : Float) → a ≡ u64At js (8 * i) → b ≡ u64At ks (8 * i) → x ≡ ofBits binary64 a → y ≡ ofBits binary64 b
+    → julian x y ≡ stampOf js ks i
 unfolding stampOf
 stamp-is js ks i a b x y p q r s = rw (r, s, p, q)
 
@@ -19,7 +20,8 @@ pub sooner-is : (js ks : List ℕ) (i j : ℕ) (a b : JulianDate) → a ≡ stam
 unfolding soonerAt
 sooner-is js ks i j a b p q = rw (p, q)
 
-pub put-is : (l : List ℕ) (at a b c d : ℕ) → set (set (set (set l at a) (at + 1) b) (at + 2) c) (at + 3) d ≡ set (set (set (set l at a) (suc at) b) (suc (suc at)) c) (suc (suc (suc at))) d
+pub put-is : (l : List ℕ) (at a b c d : ℕ)
+    → set (set (set (set l at a) (at + 1) b) (at + 2) c) (at + 3) d ≡ set (set (set (set l at a) (suc at) b) (suc (suc at)) c) (suc (suc (suc at))) d
 put-is l at a b c d =
     let e : at + 1 ≡ suc at = omega arith in
     let f : at + 2 ≡ suc (suc at) = omega arith in

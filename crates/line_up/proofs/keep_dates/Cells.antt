@@ -93,4 +93,5 @@ cells-put (a ∷ []) k p h l = let w : ⊥ = omega arith in absurd w
 cells-put (a ∷ b ∷ []) k p h l = let w : ⊥ = omega arith in absurd w
 cells-put (a ∷ b ∷ c ∷ []) k p h l = let w : ⊥ = omega arith in absurd w
 cells-put (a ∷ b ∷ c ∷ d ∷ bs) zero p h l = ap (λ (q : ℕ). q ∷ cells bs) (four-bytes p (omega arith))
-cells-put (a ∷ b ∷ c ∷ d ∷ bs) (suc k) p h l = ap cells (sets-four a b c d bs k (fourBytes p)) ∙ ap (λ (q : List ℕ). (a + 256 * b + 65536 * c + 16777216 * d) ∷ q) (cells-put bs k p (omega arith) l)
+cells-put (a ∷ b ∷ c ∷ d ∷ bs) (suc k) p h l = ap cells (sets-four a b c d bs k (fourBytes p))
+    ∙ ap (λ (q : List ℕ). (a + 256 * b + 65536 * c + 16777216 * d) ∷ q) (cells-put bs k p (omega arith) l)

@@ -1,8 +1,8 @@
 -- The stamps that are alive are in order. Assumes nothing.
-use Prim.Native.Nat.{ℕ, _+_, _*_, _<_, _≤_}
+use Prim.Native.Nat.{ℕ, _+_, _*_}
 use native.Mathlib.Omega.{arith}
-use mathlib.Core.Path.{_≡_, refl, sym, ap, _∙_, subst}
-use mathlib.Core.Bool.{Bool, true, false, not}
+use mathlib.Core.Path.{_≡_, sym, _∙_, subst}
+use mathlib.Core.Bool.{false}
 use mathlib.Core.List.{List}
 use lib.Dec.{T, ltb}
 use lib.Ieee.{binary64}
@@ -10,7 +10,6 @@ use lib.Ieee.Bits.{ofBits-fits}
 use borrow.Author.Tests.{ltb-true, ltb-false, lt-ltb, le-ltb, not-false}
 use Rattle.rounding.specs.Value.{L}
 use Rattle.numerals.specs.little_endian.LittleEndian.{u64At}
-use Rattle.julian.specs.declared.JulianDate.{JulianDate}
 use Rattle.julian.specs.Equality.{FiniteSums}
 use Rattle.julian.specs.Worth.{Worth}
 use Rattle.julian.specs.order.Places.{hasPlace, isEarlier}

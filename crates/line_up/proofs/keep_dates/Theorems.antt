@@ -1,7 +1,7 @@
--- What is true of every run whose stamps with number 0 have a place in the order: the kept ones rise by their exact sums, no others that rise are more, and who is turned
--- away contradicts a kept one. Assumes nothing.
+-- What is true of every run whose stamps with number 0 have a place in the order: the kept ones rise by their exact sums, no others that rise are more, and who
+-- is turned away contradicts a kept one. Assumes nothing.
 use Prim.Native.Nat.{ℕ, _+_, _-_, _<_, _≤_}
-use mathlib.Core.Path.{_≡_, refl, sym, ap, _∙_}
+use mathlib.Core.Path.{_≡_, sym, _∙_}
 use mathlib.Core.Bool.{true, false}
 use mathlib.Core.List.{List}
 use lib.ListN.{length, getD}
@@ -16,7 +16,8 @@ use Rattle.line_up.specs.keep_dates.Asked.{AllOrdered}
 use Rattle.line_up.proofs.keep_dates.Dates.{Live, live-of, lt-is, date-order}
 
 -- what `soonerAt` says of two stamps that are not unordered, whose exact sums are (P - N) / L and (Q - M) / L
-module _ (js ks : List ℕ) (x y P N Q M : ℕ) (a : unorderedAt js ks x ≡ false) (b : unorderedAt js ks y ≡ false) (v : Worth (stampOf js ks x) P N L) (w : Worth (stampOf js ks y) Q M L) where
+module _ (js ks : List ℕ) (x y P N Q M : ℕ) (a : unorderedAt js ks x ≡ false) (b : unorderedAt js ks y ≡ false) (v : Worth (stampOf js ks x) P N L)
+    (w : Worth (stampOf js ks y) Q M L) where
   pub sooner-exactly : soonerAt js ks x y ≡ true → P + M < Q + N
   sooner-exactly e = ltb-true (P + M) (Q + N) (sym (lt-is js ks x y P N Q M (live-of js ks x a) (live-of js ks y b) v w) ∙ e)
 
@@ -47,5 +48,6 @@ module _ (js ks ns : List ℕ) (from to : ℕ) (low : from ≤ to) (high : to �
   dates-all r = R.run-all (soonerAt js ks) ns from to low high (Live js ks) (date-order js ks) live r
 
   -- (5)
-  pub dates-contradicted : (p : ℕ) → from ≤ p → p < to → getD ns p 1 ≡ 0 → (getD (slice from to after) (p - from) 0 ≡ 0 → ⊥) → Contradicted (soonerAt js ks) p kept
+  pub dates-contradicted : (p : ℕ) → from ≤ p → p < to → getD ns p 1 ≡ 0 → (getD (slice from to after) (p - from) 0 ≡ 0 → ⊥)
+      → Contradicted (soonerAt js ks) p kept
   dates-contradicted p h k z t = R.run-contradicted (soonerAt js ks) ns from to low high (Live js ks) (date-order js ks) live p h k z t

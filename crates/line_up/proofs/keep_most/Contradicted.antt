@@ -1,16 +1,15 @@
 -- Who is left out contradicts a stamp that is kept: else it could be kept too, and more would rise. Assumes nothing.
-use Prim.Native.Nat.{ℕ, zero, suc, _+_, _-_, _<_, _≤_}
+use Prim.Native.Nat.{ℕ, suc, _-_, _<_, _≤_}
 use native.Mathlib.Omega.{arith}
 use mathlib.Core.Path.{_≡_, refl, sym, ap, _∙_, subst}
 use mathlib.Core.Bool.{Bool, true, false, cond}
 use mathlib.Core.Logic.{_⊎_, inl, inr}
-use mathlib.Core.List.{List, [], _∷_, _++_}
+use mathlib.Core.List.{List, [], _∷_}
 use lib.Dec.{eqb, ltb}
 use lib.ListN.{length, getD}
 use borrow.Author.Tests.{eqb-true, eqb-false, ltb-true, ltb-false, lt-ltb, le-ltb}
 use Rattle.line_up.specs.keep_most.Piles.{mostKept, zeros, Chosen, After, Rises, Upward, AllOrdered, Order, Contradicted}
 use Rattle.line_up.specs.keep_most.Piles.Chosen.{end, pass, choose}
-use Rattle.line_up.proofs.keep_most.Longest.{clash}
 use Rattle.line_up.proofs.keep_most.Theorems.{kept-chosen, kept-rises, kept-most}
 
 -- place p among places that go up
@@ -42,7 +41,8 @@ put-first : (p : ℕ) (xs : List ℕ) → Upward (suc p) xs → put p xs ≡ p �
 put-first p [] u = refl
 put-first p (x ∷ xs) u = rw (lt-ltb p x (omega (arith, u .0)))
 
-put-pass-by : (c : Bool) (i n p : ℕ) (ns xs : List ℕ) → eqb p i ≡ c → i ≤ p → getD (n ∷ ns) (p - i) 1 ≡ 0 → Chosen (suc i) ns xs → (suc i ≤ p → getD ns (p - suc i) 1 ≡ 0 → Chosen (suc i) ns (put p xs)) → Chosen i (n ∷ ns) (put p xs)
+put-pass-by : (c : Bool) (i n p : ℕ) (ns xs : List ℕ) → eqb p i ≡ c → i ≤ p → getD (n ∷ ns) (p - i) 1 ≡ 0 → Chosen (suc i) ns xs
+    → (suc i ≤ p → getD ns (p - suc i) 1 ≡ 0 → Chosen (suc i) ns (put p xs)) → Chosen i (n ∷ ns) (put p xs)
 put-pass-by true i n p ns xs e h z c f =
     let d : p ≡ i = eqb-true p i e in
     let k : p - i ≡ 0 = omega arith in
@@ -65,22 +65,27 @@ put-chosen {i} {ns = n ∷ ns} {xs = x ∷ xs} (choose e c) p h z o =
 -- ---- it rises, or something contradicts it
 
 module _ (lt : ℕ → ℕ → Bool) (p : ℕ) where
-  later-by : (b : Bool) (q x : ℕ) (xs : List ℕ) → lt x p ≡ b → p < x → After lt x xs → Rises lt xs → Contradicted lt p (x ∷ xs) ⊎ (Rises lt (p ∷ x ∷ xs) × (lt p q ≡ false → lt x q ≡ false → lt p q ≡ false))
+  later-by : (b : Bool) (q x : ℕ) (xs : List ℕ) → lt x p ≡ b → p < x → After lt x xs → Rises lt xs → Contradicted lt p (x ∷ xs)
+      ⊎ (Rises lt (p ∷ x ∷ xs) × (lt p q ≡ false → lt x q ≡ false → lt p q ≡ false))
   later-by true q x xs e h a r = inl (inl (inr (h, e)))
   later-by false q x xs e h a r = inr ((e, (a, r)), λ f g. f)
 
-  behind : (b : Bool) (q x : ℕ) (xs : List ℕ) → lt p x ≡ b → (p ≡ x → ⊥) → x ≤ p → After lt x xs → Contradicted lt p xs ⊎ (Rises lt (put p xs) × (lt p x ≡ false → After lt x xs → After lt x (put p xs)))
+  behind : (b : Bool) (q x : ℕ) (xs : List ℕ) → lt p x ≡ b → (p ≡ x → ⊥) → x ≤ p → After lt x xs → Contradicted lt p xs
+      ⊎ (Rises lt (put p xs) × (lt p x ≡ false → After lt x xs → After lt x (put p xs)))
       → Contradicted lt p (x ∷ xs) ⊎ (Rises lt (x ∷ put p xs) × (lt p q ≡ false → lt x q ≡ false → lt x q ≡ false))
   behind true q x xs e d h a t = inl (inl (inl (omega (arith, d), e)))
   behind false q x xs e d h a (inl t) = inl (inr t)
   behind false q x xs e d h a (inr t) = inr ((t .1 e a, t .0), λ f g. g)
 
-  either-by : (c : Bool) (q x : ℕ) (xs : List ℕ) → ltb p x ≡ c → (p ≡ x → ⊥) → After lt x xs → Rises lt xs → Contradicted lt p xs ⊎ (Rises lt (put p xs) × (lt p x ≡ false → After lt x xs → After lt x (put p xs)))
-      → Contradicted lt p (x ∷ xs) ⊎ (Rises lt (cond c (p ∷ x ∷ xs) (x ∷ put p xs)) × (lt p q ≡ false → lt x q ≡ false → After lt q (cond c (p ∷ x ∷ xs) (x ∷ put p xs))))
+  either-by : (c : Bool) (q x : ℕ) (xs : List ℕ) → ltb p x ≡ c → (p ≡ x → ⊥) → After lt x xs → Rises lt xs → Contradicted lt p xs
+      ⊎ (Rises lt (put p xs) × (lt p x ≡ false → After lt x xs → After lt x (put p xs)))
+      → Contradicted lt p (x ∷ xs) ⊎ (Rises lt (cond c (p ∷ x ∷ xs) (x ∷ put p xs))
+      × (lt p q ≡ false → lt x q ≡ false → After lt q (cond c (p ∷ x ∷ xs) (x ∷ put p xs))))
   either-by true q x xs e d a r t = later-by (lt x p) q x xs refl (ltb-true p x e) a r
   either-by false q x xs e d a r t = behind (lt p x) q x xs refl d (ltb-false p x e) a t
 
-  either : (q : ℕ) (xs : List ℕ) → None p xs → Rises lt xs → Contradicted lt p xs ⊎ (Rises lt (put p xs) × (lt p q ≡ false → After lt q xs → After lt q (put p xs)))
+  either : (q : ℕ) (xs : List ℕ) → None p xs → Rises lt xs → Contradicted lt p xs
+      ⊎ (Rises lt (put p xs) × (lt p q ≡ false → After lt q xs → After lt q (put p xs)))
   either q [] o r = inr ((tt, tt), λ f g. f)
   either q (x ∷ xs) o r = either-by (ltb p x) q x xs refl (o .0) (r .0) (r .1) (either x xs (o .1) (r .1))
 
@@ -95,7 +100,8 @@ unfolding zeros
 none-low p i [] h = tt
 none-low p i (m ∷ ms) h = none-by (eqb m 0) p i m (zeros (suc i) ms) refl (λ d e. omega (arith, d, h)) (none-low p (suc i) ms (omega arith))
 
-none-turned-by : (c : Bool) (p i m : ℕ) (ms : List ℕ) → eqb p i ≡ c → i ≤ p → (getD (m ∷ ms) (p - i) 0 ≡ 0 → ⊥) → (suc i ≤ p → (getD ms (p - suc i) 0 ≡ 0 → ⊥) → None p (zeros (suc i) ms)) → None p (cond (eqb m 0) (i ∷ zeros (suc i) ms) (zeros (suc i) ms))
+none-turned-by : (c : Bool) (p i m : ℕ) (ms : List ℕ) → eqb p i ≡ c → i ≤ p → (getD (m ∷ ms) (p - i) 0 ≡ 0 → ⊥)
+    → (suc i ≤ p → (getD ms (p - suc i) 0 ≡ 0 → ⊥) → None p (zeros (suc i) ms)) → None p (cond (eqb m 0) (i ∷ zeros (suc i) ms) (zeros (suc i) ms))
 none-turned-by true p i m ms e h z f =
     let d : p ≡ i = eqb-true p i e in
     let k : p - i ≡ 0 = omega arith in
@@ -116,13 +122,16 @@ module _ (ok : ℕ → Type 0) (lt : ℕ → ℕ → Bool) (order : Order ok lt)
       let k = kept-most ok lt order i ns alive (put p (zeros i (mostKept lt i ns))) (put-chosen (kept-chosen lt i ns) p h z o) r in
       omega (arith, k, put-longer p (zeros i (mostKept lt i ns)))
 
-  decide : (p : ℕ) → i ≤ p → getD ns (p - i) 1 ≡ 0 → None p (zeros i (mostKept lt i ns)) → Contradicted lt p (zeros i (mostKept lt i ns)) ⊎ (Rises lt (put p (zeros i (mostKept lt i ns))) × (lt p p ≡ false → After lt p (zeros i (mostKept lt i ns)) → After lt p (put p (zeros i (mostKept lt i ns)))))
+  decide : (p : ℕ) → i ≤ p → getD ns (p - i) 1 ≡ 0 → None p (zeros i (mostKept lt i ns)) → Contradicted lt p (zeros i (mostKept lt i ns))
+      ⊎ (Rises lt (put p (zeros i (mostKept lt i ns)))
+      × (lt p p ≡ false → After lt p (zeros i (mostKept lt i ns)) → After lt p (put p (zeros i (mostKept lt i ns)))))
       → Contradicted lt p (zeros i (mostKept lt i ns))
   decide p h z o (inl c) = c
   decide p h z o (inr r) = absurd (too-long p h z o (r .0))
 
   -- (5) a stamp that came in with number 0 and is left out is earlier than a kept one before it, or later than a kept one behind it
-  pub turned-contradicted : (p : ℕ) → i ≤ p → getD ns (p - i) 1 ≡ 0 → (getD (mostKept lt i ns) (p - i) 0 ≡ 0 → ⊥) → Contradicted lt p (zeros i (mostKept lt i ns))
+  pub turned-contradicted : (p : ℕ) → i ≤ p → getD ns (p - i) 1 ≡ 0 → (getD (mostKept lt i ns) (p - i) 0 ≡ 0 → ⊥)
+      → Contradicted lt p (zeros i (mostKept lt i ns))
   turned-contradicted p h z t =
       let o = none-turned p i (mostKept lt i ns) h t in
       decide p h z o (either lt p p (zeros i (mostKept lt i ns)) o (kept-rises lt i ns))

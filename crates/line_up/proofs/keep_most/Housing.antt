@@ -1,7 +1,8 @@
--- What a lining up asks of its runs: that the kept places go up, that they rise as neighbours, and that runs of one list can be judged one after the other. Assumes nothing.
+-- What a lining up asks of its runs: that the kept places go up, that they rise as neighbours, and that runs of one list can be judged one after the other.
+-- Assumes nothing.
 use Prim.Native.Nat.{ℕ, zero, suc, _+_, _-_, _<_, _≤_}
 use native.Mathlib.Omega.{arith}
-use mathlib.Core.Path.{_≡_, refl, sym, ap, _∙_}
+use mathlib.Core.Path.{_≡_, sym, ap, _∙_}
 use mathlib.Core.Bool.{Bool, true, false, cond}
 use mathlib.Core.List.{List, [], _∷_, _++_, append-assoc}
 use lib.Dec.{eqb}
@@ -25,7 +26,8 @@ unfolding zeros
 zeros-up i [] = tt
 zeros-up i (m ∷ ms) = zeros-up-by (eqb m 0) i (zeros (suc i) ms) (zeros-up (suc i) ms)
 
--- of neighbours the second is not earlier and stands behind: `line_up`'s `MayFollow` follows, whose second part asks the place only where the first is not earlier either
+-- of neighbours the second is not earlier and stands behind: `line_up`'s `MayFollow` follows, whose second part asks the place only where the first is not
+-- earlier either
 pub record Follows (lt : ℕ → ℕ → Bool) (x y : ℕ) : Type 0 where
   pub late : lt y x ≡ false
   pub behind : x < y
@@ -58,7 +60,8 @@ slice-take (suc f) (suc t) [] = sym (take-nil (suc t - suc f))
 slice-take (suc f) (suc t) (x ∷ xs) = let e : t - f ≡ suc t - suc f = omega arith in slice-take f t xs ∙ ap (λ (q : ℕ). take q (drop f xs)) e
 
 -- P are the numbers of the runs before, and N is what is left of ns behind them
-module _ (lt : ℕ → ℕ → Bool) (ns P : List ℕ) (from to : ℕ) (ft : from ≤ to) (tn : to ≤ length ns) (len : length P ≡ from) (N : List ℕ) (e : N ≡ P ++ drop from ns) where
+module _ (lt : ℕ → ℕ → Bool) (ns P : List ℕ) (from to : ℕ) (ft : from ≤ to) (tn : to ≤ length ns) (len : length P ≡ from) (N : List ℕ)
+    (e : N ≡ P ++ drop from ns) where
   drop-same : (j : ℕ) → from ≤ j → drop j N ≡ drop j ns
   drop-same j h =
       let k : j ≡ from + (j - from) = omega arith in
@@ -69,7 +72,8 @@ module _ (lt : ℕ → ℕ → Bool) (ns P : List ℕ) (from to : ℕ) (ft : fro
   pub run-number : (p d : ℕ) → from ≤ p → getD N p d ≡ getD ns p d
   run-number p d h =
       let z : p + 0 ≡ p = omega arith in
-      ap (λ (q : ℕ). getD N q d) (sym z) ∙ sym (getD-drop p N 0 d) ∙ ap (λ (l : List ℕ). getD l 0 d) (drop-same p h) ∙ getD-drop p ns 0 d ∙ ap (λ (q : ℕ). getD ns q d) z
+      ap (λ (q : ℕ). getD N q d) (sym z) ∙ sym (getD-drop p N 0 d) ∙ ap (λ (l : List ℕ). getD l 0 d) (drop-same p h) ∙ getD-drop p ns 0 d
+      ∙ ap (λ (q : ℕ). getD ns q d) z
 
   slice-same : slice from to N ≡ slice from to ns
   slice-same = slice-take from to N ∙ ap (take (to - from)) (drop-same from (omega arith)) ∙ sym (slice-take from to ns)

@@ -1,8 +1,7 @@
 -- The loop that keeps one stamp of each pile, from the back. Assumes nothing.
-use Prim.Native.Nat.{ℕ, zero, suc, _+_, _-_, _<_, _≤_}
+use Prim.Native.Nat.{ℕ, suc, _+_, _-_, _<_, _≤_}
 use native.Mathlib.Omega.{arith}
 use mathlib.Core.Path.{_≡_, refl, sym, ap, _∙_, subst}
-use mathlib.Core.Bool.{Bool, true, false, cond}
 use mathlib.Core.List.{List, [], _∷_, _++_}
 use lib.ListN.{length, getD, take, drop, set, length-set, take-append-drop}
 use lib.Seq.{slice, slice-empty, slice-cons, getD-take, getD-set-same, take-set-le, take-take, drop-cons, drop-set-lt}
@@ -34,12 +33,14 @@ module _ (ns rs : List ℕ) (from to many : ℕ) (a : Judgeable ns rs from to) w
     same-number : getD now i 0 ≡ getD ns i 0
     same-number = sym (getD-take (suc i) now i 0 (omega arith)) ∙ ap (λ (l : List ℕ). getD l i 0) (j .rest) ∙ getD-take (suc i) ns i 0 (omega arith)
 
-    goes-done : (r m : ℕ) → r ≡ getD rs i 0 → m ≡ judged (getD now i 0) r w → m ∷ drop (suc i) now ≡ allJudged (slice i to ns) (slice i to rs) many ++ drop to ns
+    goes-done : (r m : ℕ) → r ≡ getD rs i 0 → m ≡ judged (getD now i 0) r w → m ∷ drop (suc i) now ≡ allJudged (slice i to ns) (slice i to rs) many
+        ++ drop to ns
     unfolding allJudged
     goes-done r m er em =
         let n : slice i to ns ≡ getD ns i 0 ∷ slice (suc i) to ns = slice-cons i to ns 0 (omega (arith, j .high)) (a .high) in
         let s : slice i to rs ≡ getD rs i 0 ∷ slice (suc i) to rs = slice-cons i to rs 0 (omega (arith, j .high)) (a .rankRoom) in
-        let e : m ≡ judged (getD ns i 0) (getD rs i 0) (wanted (slice (suc i) to rs) many) = em ∙ ap (λ (x : ℕ). judged x r w) same-number ∙ ap (λ (x : ℕ). judged (getD ns i 0) x w) er ∙ ap (λ (x : ℕ). judged (getD ns i 0) (getD rs i 0) x) (j .want) in
+        let e : m ≡ judged (getD ns i 0) (getD rs i 0) (wanted (slice (suc i) to rs) many) = em ∙ ap (λ (x : ℕ). judged x r w) same-number
+        ∙ ap (λ (x : ℕ). judged (getD ns i 0) x w) er ∙ ap (λ (x : ℕ). judged (getD ns i 0) (getD rs i 0) x) (j .want) in
         rw (n, s, ← e) (ap (λ (l : List ℕ). m ∷ l) (j .done))
 
     goes-want : (r w' : ℕ) → r ≡ getD rs i 0 → w' ≡ wantedBefore r w → w' ≡ wanted (slice i to rs) many
@@ -57,12 +58,15 @@ module _ (ns rs : List ℕ) (from to many : ℕ) (a : Judgeable ns rs from to) w
           low = h;
           high = omega (arith, j .high);
           want = goes-want r w' er ew;
-          rest = take-set-le i now i m (omega arith) ∙ sym (take-take i (suc i) now (omega arith)) ∙ ap (take i) (j .rest) ∙ take-take i (suc i) ns (omega arith);
-          done = drop-cons (set now i m) i 0 k' ∙ ap (λ (x : ℕ). x ∷ drop (suc i) (set now i m)) (getD-set-same now i m 0 k) ∙ ap (λ (l : List ℕ). m ∷ l) (drop-set-lt (suc i) now i m (omega arith)) ∙ goes-done r m er em;
+          rest = take-set-le i now i m (omega arith) ∙ sym (take-take i (suc i) now (omega arith)) ∙ ap (take i) (j .rest)
+              ∙ take-take i (suc i) ns (omega arith);
+          done = drop-cons (set now i m) i 0 k' ∙ ap (λ (x : ℕ). x ∷ drop (suc i) (set now i m)) (getD-set-same now i m 0 k)
+              ∙ ap (λ (l : List ℕ). m ∷ l) (drop-set-lt (suc i) now i m (omega arith)) ∙ goes-done r m er em;
         }
 
   -- with the code's i - 1
-  pub judging-next : (now : List ℕ) (w i : ℕ) → Judging ns rs from to many now w i → from < i → (r m w' : ℕ) → r ≡ getD rs (i - 1) 0 → m ≡ judged (getD now (i - 1) 0) r w → w' ≡ wantedBefore r w → Judging ns rs from to many (set now (i - 1) m) w' (i - 1)
+  pub judging-next : (now : List ℕ) (w i : ℕ) → Judging ns rs from to many now w i → from < i → (r m w' : ℕ) → r ≡ getD rs (i - 1) 0
+      → m ≡ judged (getD now (i - 1) 0) r w → w' ≡ wantedBefore r w → Judging ns rs from to many (set now (i - 1) m) w' (i - 1)
   judging-next now w i j h r m w' er em ew =
       let e : i ≡ suc (i - 1) = omega arith in
       judging-goes now w (i - 1) (subst (λ (x : ℕ). Judging ns rs from to many now w x) e j) (omega arith) r m w' er em ew

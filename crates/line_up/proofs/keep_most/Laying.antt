@@ -8,7 +8,7 @@ use mathlib.Core.List.{List, [], _∷_, _++_, append-assoc, append-nil}
 use lib.Dec.{eqb, ltb}
 use lib.ListN.{length, getD, take, drop, set, length-set}
 use lib.Seq.{slice, slice-empty, slice-cons, length-take-le, getD-take, take-set-lt, take-suc-set, drop-append-le}
-use borrow.Author.Tests.{eqb-true, eqb-false, eq-eqb, ne-eqb, lt-ltb, le-ltb, ltb-true, ltb-false}
+use borrow.Author.Tests.{eqb-true, ne-eqb, le-ltb, ltb-true, ltb-false}
 use Rattle.line_up.specs.keep_most.Piles.{pilesBefore, laid, pilesAfter, rank, allLaid, ranks, After, Rises, All, Order}
 use Rattle.line_up.specs.keep_most.Asked.{Searchable, tailPut, Layable, Laid}
 use Rattle.line_up.proofs.keep_most.Longest.{clash, laid-ok, not-before}
@@ -20,7 +20,8 @@ all-at ok (t ∷ ts) zero a h = a .0
 all-at ok (t ∷ ts) (suc q) a h = all-at ok ts q (a .1) (omega arith)
 
 module _ (lt : ℕ → ℕ → Bool) (i : ℕ) where
-  laid-set-by : (c : Bool) (t p : ℕ) (ts us : List ℕ) → (p < length ts → us ≡ set ts p i) → cond c 0 (suc p) < suc (length ts) → cond c (i ∷ ts) (t ∷ us) ≡ set (t ∷ ts) (cond c 0 (suc p)) i
+  laid-set-by : (c : Bool) (t p : ℕ) (ts us : List ℕ) → (p < length ts → us ≡ set ts p i) → cond c 0 (suc p) < suc (length ts)
+      → cond c (i ∷ ts) (t ∷ us) ≡ set (t ∷ ts) (cond c 0 (suc p)) i
   laid-set-by true t p ts us f h = refl
   laid-set-by false t p ts us f h = ap (λ (l : List ℕ). t ∷ l) (f (omega arith))
 
@@ -29,7 +30,8 @@ module _ (lt : ℕ → ℕ → Bool) (i : ℕ) where
   laid-set [] h = let w : ⊥ = omega arith in absurd w
   laid-set (t ∷ ts) h = laid-set-by (lt i t) t (pilesBefore lt i ts) ts (laid lt i ts) (laid-set ts) h
 
-  laid-end-by : (c : Bool) (t p : ℕ) (ts us : List ℕ) → (p ≡ length ts → us ≡ ts ++ (i ∷ [])) → cond c 0 (suc p) ≡ suc (length ts) → cond c (i ∷ ts) (t ∷ us) ≡ t ∷ (ts ++ (i ∷ []))
+  laid-end-by : (c : Bool) (t p : ℕ) (ts us : List ℕ) → (p ≡ length ts → us ≡ ts ++ (i ∷ [])) → cond c 0 (suc p) ≡ suc (length ts)
+      → cond c (i ∷ ts) (t ∷ us) ≡ t ∷ (ts ++ (i ∷ []))
   laid-end-by true t p ts us f h = let w : ⊥ = omega arith in absurd w
   laid-end-by false t p ts us f h = ap (λ (l : List ℕ). t ∷ l) (f (omega arith))
 
@@ -49,11 +51,13 @@ module _ (lt : ℕ → ℕ → Bool) (i : ℕ) where
         let k : length (take many tails) ≡ many = length-take-le many tails (omega arith) in
         take-suc-set tails p i (omega arith) ∙ ap (λ (q : ℕ). take q tails ++ (i ∷ [])) h ∙ sym (laid-end (take many tails) (omega arith))
 
-    put-by : (c : Bool) (p : ℕ) → p ≡ pilesBefore lt i (take many tails) → p ≤ many → ltb many (suc p) ≡ c → take (cond c (suc p) many) (set tails p i) ≡ laid lt i (take many tails)
+    put-by : (c : Bool) (p : ℕ) → p ≡ pilesBefore lt i (take many tails) → p ≤ many → ltb many (suc p) ≡ c
+        → take (cond c (suc p) many) (set tails p i) ≡ laid lt i (take many tails)
     put-by true p e l h = put-new p e (omega (arith, ltb-true many (suc p) h))
     put-by false p e l h = put-old p e (omega (arith, ltb-false many (suc p) h))
 
-    put-pile : (p : ℕ) → p ≡ pilesBefore lt i (take many tails) → take (cond (ltb many (suc p)) (suc p) many) (tailPut tails (suc p) i) ≡ laid lt i (take many tails)
+    put-pile : (p : ℕ) → p ≡ pilesBefore lt i (take many tails)
+        → take (cond (ltb many (suc p)) (suc p) many) (tailPut tails (suc p) i) ≡ laid lt i (take many tails)
     put-pile p e =
         let k : length (take many tails) ≡ many = length-take-le many tails (omega arith) in
         let l : pilesBefore lt i (take many tails) ≤ length (take many tails) = before-low lt i (take many tails) in
@@ -61,12 +65,15 @@ module _ (lt : ℕ → ℕ → Bool) (i : ℕ) where
         let m : suc p - 1 ≡ p = omega arith in
         rw (z, m) (put-by (ltb many (suc p)) p e (omega arith) refl)
 
-    put-rank-by : (c : Bool) → take (cond (ltb many (cond c (suc (pilesBefore lt i (take many tails))) 0)) (cond c (suc (pilesBefore lt i (take many tails))) 0) many) (tailPut tails (cond c (suc (pilesBefore lt i (take many tails))) 0) i) ≡ cond c (laid lt i (take many tails)) (take many tails)
+    put-rank-by : (c : Bool) → take
+        (cond (ltb many (cond c (suc (pilesBefore lt i (take many tails))) 0)) (cond c (suc (pilesBefore lt i (take many tails))) 0) many)
+        (tailPut tails (cond c (suc (pilesBefore lt i (take many tails))) 0) i) ≡ cond c (laid lt i (take many tails)) (take many tails)
     put-rank-by true = put-pile (pilesBefore lt i (take many tails)) refl
     put-rank-by false = rw (le-ltb many 0 (omega arith))
 
     -- what the code does with the tails is what is done with the piles
-    pub put-rank : (n r many' : ℕ) (tails' : List ℕ) → r ≡ rank lt n i (take many tails) → tails' ≡ tailPut tails r i → many' ≡ cond (ltb many r) r many → take many' tails' ≡ pilesAfter lt n i (take many tails)
+    pub put-rank : (n r many' : ℕ) (tails' : List ℕ) → r ≡ rank lt n i (take many tails) → tails' ≡ tailPut tails r i → many' ≡ cond (ltb many r) r many
+        → take many' tails' ≡ pilesAfter lt n i (take many tails)
     put-rank n r many' tails' e et em = rw (em, et, e) (put-rank-by (eqb n 0))
 
     rank-low-by : (c : Bool) (p : ℕ) → p ≤ many → cond c (suc p) 0 ≤ many + 1
@@ -74,7 +81,8 @@ module _ (lt : ℕ → ℕ → Bool) (i : ℕ) where
     rank-low-by false p h = omega arith
 
     pub rank-low : (n : ℕ) → rank lt n i (take many tails) ≤ many + 1
-    rank-low n = rank-low-by (eqb n 0) (pilesBefore lt i (take many tails)) (omega (arith, before-low lt i (take many tails), length-take-le many tails (omega arith)))
+    rank-low n = rank-low-by (eqb n 0) (pilesBefore lt i (take many tails))
+        (omega (arith, before-low lt i (take many tails), length-take-le many tails (omega arith)))
 
 module _ (ok : ℕ → Type 0) (lt : ℕ → ℕ → Bool) (order : Order ok lt) where
   after-laid-by : (c : Bool) (i x t : ℕ) (ts us : List ℕ) → lt i x ≡ false → lt t x ≡ false → After lt x (cond c (i ∷ ts) (t ∷ us))
@@ -90,7 +98,8 @@ module _ (ok : ℕ → Type 0) (lt : ℕ → ℕ → Bool) (order : Order ok lt)
   after-earlier i t [] oi ot os e a = tt
   after-earlier i t (y ∷ ys) oi ot os e a = not-before ok lt order (lt y i) y i t (os .0) oi ot e a refl
 
-  rises-laid-by : (c : Bool) (i t : ℕ) (ts us : List ℕ) → lt i t ≡ c → ok i → ok t → All ok ts → After lt t ts → Rises lt ts → (lt i t ≡ false → After lt t us) → Rises lt us → Rises lt (cond c (i ∷ ts) (t ∷ us))
+  rises-laid-by : (c : Bool) (i t : ℕ) (ts us : List ℕ) → lt i t ≡ c → ok i → ok t → All ok ts → After lt t ts → Rises lt ts
+      → (lt i t ≡ false → After lt t us) → Rises lt us → Rises lt (cond c (i ∷ ts) (t ∷ us))
   rises-laid-by true i t ts us e oi ot os a r b s = (after-earlier i t ts oi ot os e a, r)
   rises-laid-by false i t ts us e oi ot os a r b s = (b e, s)
 
@@ -98,9 +107,11 @@ module _ (ok : ℕ → Type 0) (lt : ℕ → ℕ → Bool) (order : Order ok lt)
   pub rises-laid : (i : ℕ) (ts : List ℕ) → ok i → All ok ts → Rises lt ts → Rises lt (laid lt i ts)
   unfolding laid
   rises-laid i [] oi os r = (tt, tt)
-  rises-laid i (t ∷ ts) oi os r = rises-laid-by (lt i t) i t ts (laid lt i ts) refl oi (os .0) (os .1) (r .0) (r .1) (λ e. after-laid i t ts e (r .0)) (rises-laid i ts oi (os .1) (r .1))
+  rises-laid i (t ∷ ts) oi os r =
+      rises-laid-by (lt i t) i t ts (laid lt i ts) refl oi (os .0) (os .1) (r .0) (r .1) (λ e. after-laid i t ts e (r .0)) (rises-laid i ts oi (os .1) (r .1))
 
-  first-false : (c : Bool) (i t q p : ℕ) (ts : List ℕ) → lt i t ≡ c → ok i → ok t → All ok ts → After lt t ts → q < length ts → q < p → p ≡ pilesBefore lt i ts → suc q < cond c 0 (suc p)
+  first-false : (c : Bool) (i t q p : ℕ) (ts : List ℕ) → lt i t ≡ c → ok i → ok t → All ok ts → After lt t ts → q < length ts → q < p
+      → p ≡ pilesBefore lt i ts → suc q < cond c 0 (suc p)
   first-false true i t q p [] e oi ot os a l h f = let w : ⊥ = omega arith in absurd w
   first-false true i t q p (y ∷ ys) e oi ot os a l h f =
       let k : lt i y ≡ false = before-late lt i (y ∷ ys) 0 (omega arith) in
@@ -133,7 +144,8 @@ pub record Laying (ok : ℕ → Type 0) (lt : ℕ → ℕ → Bool) (ns : List �
   pub wholePiles : allLaid lt i (slice i to ns) (take many tails) ≡ allLaid lt from (slice from to ns) []
   pub wholeRanks : slice from i rs ++ ranks lt i (slice i to ns) (take many tails) ≡ ranks lt from (slice from to ns) []
 
-module _ (ok : ℕ → Type 0) (lt : ℕ → ℕ → Bool) (order : Order ok lt) (n : ℕ) (ns : List ℕ) (from to : ℕ) (tails₀ rs₀ : List ℕ) (a : Layable n ns from to tails₀ rs₀)
+module _ (ok : ℕ → Type 0) (lt : ℕ → ℕ → Bool) (order : Order ok lt) (n : ℕ) (ns : List ℕ) (from to : ℕ) (tails₀ rs₀ : List ℕ)
+    (a : Layable n ns from to tails₀ rs₀)
     (live : (p : ℕ) → from ≤ p → p < to → getD ns p 0 ≡ 0 → ok p) where
   pub laying-starts : Laying ok lt ns from to tails₀ rs₀ tails₀ rs₀ 0 from
   laying-starts = record {
@@ -160,8 +172,11 @@ module _ (ok : ℕ → Type 0) (lt : ℕ → ℕ → Bool) (order : Order ok lt)
     laying-searchable e = record {
       room = omega (arith, many-room);
       place = omega (arith, a .keyed);
-      places = λ q k. let w : getD tails q 0 < to = subst (λ (x : ℕ). x < to) (getD-take many tails q 0 k) (all-at (λ (t : ℕ). t < to) (take many tails) q (l .places) (omega (arith, many-length))) in omega (arith, a .keyed);
-      split = λ q k f. late-within ok lt order i (take many tails) q (live i (l .low) h e) (l .alive) (l .rises) (omega (arith, many-length)) (ap (λ (x : ℕ). lt i x) (getD-take many tails q 0 k) ∙ f);
+      places = λ q k. let w : getD tails q 0 < to =
+          subst (λ (x : ℕ). x < to) (getD-take many tails q 0 k)
+          (all-at (λ (t : ℕ). t < to) (take many tails) q (l .places) (omega (arith, many-length))) in omega (arith, a .keyed);
+      split = λ q k f. late-within ok lt order i (take many tails) q (live i (l .low) h e) (l .alive) (l .rises) (omega (arith, many-length))
+          (ap (λ (x : ℕ). lt i x) (getD-take many tails q 0 k) ∙ f);
     }
 
     pub laying-rank : rank lt (getD ns i 0) i (take many tails) ≤ many + 1
@@ -192,7 +207,8 @@ module _ (ok : ℕ → Type 0) (lt : ℕ → ℕ → Bool) (order : Order ok lt)
         let m : from ≤ length (take i rs) = omega (arith, length-take-le i rs (omega arith), l .low) in
         ap (drop from) (take-suc-set rs i r k) ∙ drop-append-le from (take i rs) (r ∷ []) m
 
-    step-ranks : slice from (suc i) (set rs i (rank lt (getD ns i 0) i (take many tails))) ++ ranks lt (suc i) (slice (suc i) to ns) (pilesAfter lt (getD ns i 0) i (take many tails)) ≡ ranks lt from (slice from to ns) []
+    step-ranks : slice from (suc i) (set rs i (rank lt (getD ns i 0) i (take many tails)))
+        ++ ranks lt (suc i) (slice (suc i) to ns) (pilesAfter lt (getD ns i 0) i (take many tails)) ≡ ranks lt from (slice from to ns) []
     unfolding ranks
     step-ranks =
         let r = rank lt (getD ns i 0) i (take many tails) in
@@ -210,7 +226,8 @@ module _ (ok : ℕ → Type 0) (lt : ℕ → ℕ → Bool) (order : Order ok lt)
     length-put true k x = refl
     length-put false k x = length-set tails k x
 
-    pub laying-goes : (r many' : ℕ) (tails' rs' : List ℕ) → r ≡ rank lt (getD ns i 0) i (take many tails) → tails' ≡ tailPut tails r i → rs' ≡ set rs i r → many' ≡ cond (ltb many r) r many
+    pub laying-goes : (r many' : ℕ) (tails' rs' : List ℕ) → r ≡ rank lt (getD ns i 0) i (take many tails) → tails' ≡ tailPut tails r i → rs' ≡ set rs i r
+        → many' ≡ cond (ltb many r) r many
         → Laying ok lt ns from to tails₀ rs₀ tails' rs' many' (i + 1)
     laying-goes r many' tails' rs' e et er em =
         let t : take many' tails' ≡ pilesAfter lt (getD ns i 0) i (take many tails) = put-rank lt i tails many many-room (getD ns i 0) r many' tails' e et em in
@@ -238,5 +255,6 @@ module _ (ok : ℕ → Type 0) (lt : ℕ → ℕ → Bool) (order : Order ok lt)
       let p : take many tails ≡ allLaid lt from (slice from to ns) [] = sym (ap (λ (s : List ℕ). allLaid lt i s (take many tails)) z) ∙ l .wholePiles in
       record {
         count = sym k ∙ ap length p;
-        piles = sym (append-nil (slice from to rs)) ∙ sym (ap (λ (j : ℕ). slice from j rs ++ []) e) ∙ sym (ap (λ (s : List ℕ). slice from i rs ++ ranks lt i s (take many tails)) z) ∙ l .wholeRanks;
+        piles = sym (append-nil (slice from to rs)) ∙ sym (ap (λ (j : ℕ). slice from j rs ++ []) e)
+            ∙ sym (ap (λ (s : List ℕ). slice from i rs ++ ranks lt i s (take many tails)) z) ∙ l .wholeRanks;
       }

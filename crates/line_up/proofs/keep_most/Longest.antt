@@ -1,13 +1,13 @@
 -- No choice of stamps that rises is longer than the number of the piles. Assumes nothing.
-use Prim.Native.Nat.{ℕ, zero, suc, _+_, _-_, _<_, _≤_}
+use Prim.Native.Nat.{ℕ, zero, suc, _+_, _-_, _≤_}
 use native.Mathlib.Omega.{arith}
-use mathlib.Core.Path.{_≡_, refl, sym, ap, _∙_, subst}
+use mathlib.Core.Path.{_≡_, refl, sym, ap, _∙_}
 use mathlib.Core.Bool.{Bool, true, false, cond}
-use mathlib.Core.List.{List, [], _∷_, _++_}
+use mathlib.Core.List.{List, [], _∷_}
 use lib.Dec.{eqb}
-use lib.ListN.{length, getD}
+use lib.ListN.{length}
 use borrow.Author.Tests.{eqb-true, eq-eqb}
-use Rattle.line_up.specs.keep_most.Piles.{pilesBefore, laid, pilesAfter, rank, allLaid, ranks, Chosen, After, Rises, All, AllOrdered, Order}
+use Rattle.line_up.specs.keep_most.Piles.{pilesBefore, laid, pilesAfter, allLaid, Chosen, After, Rises, All, AllOrdered, Order}
 use Rattle.line_up.specs.keep_most.Piles.Chosen.{end, pass, choose}
 
 pub clash : {A : Type 0} (b : Bool) → b ≡ true → b ≡ false → A
@@ -74,7 +74,8 @@ module _ (ok : ℕ → Type 0) (lt : ℕ → ℕ → Bool) (order : Order ok lt)
   not-before true x i t ox oi ot a b e = clash (lt x t) (order .less x i t ox oi ot e a) b
   not-before false x i t ox oi ot a b e = refl
 
-  past-laid-by : (c : Bool) (i x q t : ℕ) (ts us : List ℕ) → lt i t ≡ c → ok i → ok x → ok t → lt x t ≡ false → Past lt x q ts → Past lt x q us → Past lt x (suc q) (cond c (i ∷ ts) (t ∷ us))
+  past-laid-by : (c : Bool) (i x q t : ℕ) (ts us : List ℕ) → lt i t ≡ c → ok i → ok x → ok t → lt x t ≡ false → Past lt x q ts → Past lt x q us
+      → Past lt x (suc q) (cond c (i ∷ ts) (t ∷ us))
   past-laid-by true i x q t ts us e oi ox ot h p r = (not-before (lt x i) x i t ox oi ot e h refl, p)
   past-laid-by false i x q t ts us e oi ox ot h p r = (h, r)
 
@@ -83,9 +84,11 @@ module _ (ok : ℕ → Type 0) (lt : ℕ → ℕ → Bool) (order : Order ok lt)
   unfolding laid
   past-laid i x zero ts oi ox os p = tt
   past-laid i x (suc q) [] oi ox os p = absurd p
-  past-laid i x (suc q) (t ∷ ts) oi ox os p = past-laid-by (lt i t) i x q t ts (laid lt i ts) refl oi ox (os .0) (p .0) (p .1) (past-laid i x q ts oi ox (os .1) (p .1))
+  past-laid i x (suc q) (t ∷ ts) oi ox os p =
+      past-laid-by (lt i t) i x q t ts (laid lt i ts) refl oi ox (os .0) (p .0) (p .1) (past-laid i x q ts oi ox (os .1) (p .1))
 
-  past-chosen-by : (c : Bool) (i y p t : ℕ) (ts us : List ℕ) → lt i t ≡ c → ok i → ok y → ok t → lt y i ≡ false → Past lt y (suc p) us → Past lt y (suc (cond c 0 (suc p))) (cond c (i ∷ ts) (t ∷ us))
+  past-chosen-by : (c : Bool) (i y p t : ℕ) (ts us : List ℕ) → lt i t ≡ c → ok i → ok y → ok t → lt y i ≡ false → Past lt y (suc p) us
+      → Past lt y (suc (cond c 0 (suc p))) (cond c (i ∷ ts) (t ∷ us))
   past-chosen-by true i y p t ts us e oi oy ot h r = (h, tt)
   past-chosen-by false i y p t ts us e oi oy ot h r = (order .notLess t i y ot oi oy e h, r)
 
@@ -93,7 +96,8 @@ module _ (ok : ℕ → Type 0) (lt : ℕ → ℕ → Bool) (order : Order ok lt)
   past-chosen : (i y : ℕ) (ts : List ℕ) → ok i → ok y → All ok ts → lt y i ≡ false → Past lt y (suc (pilesBefore lt i ts)) (laid lt i ts)
   unfolding laid pilesBefore
   past-chosen i y [] oi oy os h = (h, tt)
-  past-chosen i y (t ∷ ts) oi oy os h = past-chosen-by (lt i t) i y (pilesBefore lt i ts) t ts (laid lt i ts) refl oi oy (os .0) h (past-chosen i y ts oi oy (os .1) h)
+  past-chosen i y (t ∷ ts) oi oy os h =
+      past-chosen-by (lt i t) i y (pilesBefore lt i ts) t ts (laid lt i ts) refl oi oy (os .0) h (past-chosen i y ts oi oy (os .1) h)
 
   pub chosen-ok : {i : ℕ} {ns xs : List ℕ} → Chosen i ns xs → AllOrdered ok i ns → All ok xs
   chosen-ok end a = tt
@@ -108,12 +112,14 @@ module _ (ok : ℕ → Type 0) (lt : ℕ → ℕ → Bool) (order : Order ok lt)
   starts-chosen i [] ts oi ox os a = rank-within lt i ts
   starts-chosen i (y ∷ ys) ts oi ox os a = past-chosen i y ts oi (ox .0) os a
 
-  after-passed : (c : Bool) (n i q : ℕ) (xs ts : List ℕ) → eqb n 0 ≡ c → (n ≡ 0 → ok i) → All ok xs → All ok ts → Starts lt q xs ts → (All ok (cond c (laid lt i ts) ts)) × Starts lt q xs (cond c (laid lt i ts) ts)
+  after-passed : (c : Bool) (n i q : ℕ) (xs ts : List ℕ) → eqb n 0 ≡ c → (n ≡ 0 → ok i) → All ok xs → All ok ts → Starts lt q xs ts
+      → (All ok (cond c (laid lt i ts) ts)) × Starts lt q xs (cond c (laid lt i ts) ts)
   after-passed true n i q xs ts e oi ox os s = let o = oi (eqb-true n 0 e) in (laid-ok ok lt i ts o os, starts-passed i q xs ts o ox os s)
   after-passed false n i q xs ts e oi ox os s = (os, s)
 
   -- xs may follow the first q piles: with them it is no longer than the piles are many
-  pub no-longer : {i : ℕ} {ns xs : List ℕ} → Chosen i ns xs → (ts : List ℕ) (q : ℕ) → AllOrdered ok i ns → All ok ts → Rises lt xs → Starts lt q xs ts → q + length xs ≤ length (allLaid lt i ns ts)
+  pub no-longer : {i : ℕ} {ns xs : List ℕ} → Chosen i ns xs → (ts : List ℕ) (q : ℕ) → AllOrdered ok i ns → All ok ts → Rises lt xs → Starts lt q xs ts
+      → q + length xs ≤ length (allLaid lt i ns ts)
   unfolding allLaid
   no-longer end ts q al os r s = omega arith
   no-longer {i} {ns = n ∷ ns} {xs} (pass c) ts q al os r s =
@@ -122,6 +128,8 @@ module _ (ok : ℕ → Type 0) (lt : ℕ → ℕ → Bool) (order : Order ok lt)
   no-longer {i} {ns = n ∷ ns} {xs = x ∷ xs} (choose e c) ts q al os r s =
       let o = al .0 e in
       let z : eqb n 0 ≡ true = eq-eqb n 0 e in
-      let h : suc (pilesBefore lt i ts) + length xs ≤ length (allLaid lt (suc i) ns (laid lt i ts)) = no-longer c (laid lt i ts) (suc (pilesBefore lt i ts)) (al .1) (laid-ok ok lt i ts o os) (r .1) (starts-chosen i xs ts o (chosen-ok c (al .1)) os (r .0)) in
+      let h : suc (pilesBefore lt i ts) + length xs ≤ length (allLaid lt (suc i) ns (laid lt i ts)) =
+      no-longer c (laid lt i ts) (suc (pilesBefore lt i ts)) (al .1) (laid-ok ok lt i ts o os) (r .1)
+      (starts-chosen i xs ts o (chosen-ok c (al .1)) os (r .0)) in
       let k : q ≤ pilesBefore lt i ts = past-before lt i q ts s in
       rw z (omega arith)

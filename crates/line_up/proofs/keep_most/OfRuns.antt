@@ -1,8 +1,8 @@
 -- The theorems of a run from place `from` up to `to`, as the contract of the code speaks of it. Assumes nothing.
-use Prim.Native.Nat.{ℕ, zero, suc, _+_, _-_, _<_, _≤_}
+use Prim.Native.Nat.{ℕ, suc, _+_, _-_, _<_, _≤_}
 use native.Mathlib.Omega.{arith}
-use mathlib.Core.Path.{_≡_, refl, sym, ap, _∙_, subst}
-use mathlib.Core.Bool.{Bool, true, false}
+use mathlib.Core.Path.{_≡_, sym, ap, _∙_, subst}
+use mathlib.Core.Bool.{Bool}
 use mathlib.Core.List.{List, [], _∷_, _++_, append-assoc}
 use lib.ListN.{length, getD, take, drop, length-append, length-drop, take-append-drop}
 use lib.Seq.{slice, length-slice, length-take-le, take-at, drop-at, getD-take, getD-drop, take-take}
@@ -72,7 +72,8 @@ module _ (lt : ℕ → ℕ → Bool) (ns : List ℕ) (from to : ℕ) (low : from
     alive = alive-list ok from (slice from to ns)
         (λ k h e. let q : from + k < to = omega (arith, slice-long) in live (from + k) (omega arith) q (sym (at-slice 0 k q) ∙ e))
 
-    in-slice : (i : ℕ) (xs : List ℕ) → from ≤ i → Upward i xs → All (λ (x : ℕ). (x < to) × (getD ns x 1 ≡ 0)) xs → All (λ (x : ℕ). getD (slice from to ns) (x - from) 1 ≡ 0) xs
+    in-slice : (i : ℕ) (xs : List ℕ) → from ≤ i → Upward i xs → All (λ (x : ℕ). (x < to) × (getD ns x 1 ≡ 0)) xs
+        → All (λ (x : ℕ). getD (slice from to ns) (x - from) 1 ≡ 0) xs
     in-slice i [] h u a = tt
     in-slice i (x ∷ xs) h u a =
         let e : from + (x - from) ≡ x = omega (arith, u .0) in
@@ -80,10 +81,13 @@ module _ (lt : ℕ → ℕ → Bool) (ns : List ℕ) (from to : ℕ) (low : from
         (at-slice 1 (x - from) k ∙ ap (λ (q : ℕ). getD ns q 1) e ∙ a .0 .1, in-slice (suc x) xs (omega (arith, u .0)) (u .1) (a .1))
 
     -- (2) no places of the run, one after the other, whose numbers were 0 and whose stamps rise, are more
-    pub slice-most : (xs : List ℕ) → Upward from xs → All (λ (x : ℕ). (x < to) × (getD ns x 1 ≡ 0)) xs → Rises lt xs → length xs ≤ length (zeros from (mostKept lt from (slice from to ns)))
-    slice-most xs u a r = kept-most ok lt order from (slice from to ns) alive xs (places-chosen from (slice from to ns) xs u (in-slice from xs (omega arith) u a)) r
+    pub slice-most : (xs : List ℕ) → Upward from xs → All (λ (x : ℕ). (x < to) × (getD ns x 1 ≡ 0)) xs → Rises lt xs
+        → length xs ≤ length (zeros from (mostKept lt from (slice from to ns)))
+    slice-most xs u a r = kept-most ok lt order from (slice from to ns) alive xs
+        (places-chosen from (slice from to ns) xs u (in-slice from xs (omega arith) u a)) r
 
-    pub run-most : (xs : List ℕ) → Upward from xs → All (λ (x : ℕ). (x < to) × (getD ns x 1 ≡ 0)) xs → Rises lt xs → length xs ≤ length (zeros from (slice from to (runKept lt ns from to)))
+    pub run-most : (xs : List ℕ) → Upward from xs → All (λ (x : ℕ). (x < to) × (getD ns x 1 ≡ 0)) xs → Rises lt xs
+        → length xs ≤ length (zeros from (slice from to (runKept lt ns from to)))
     run-most xs u a r = rw run-slice (slice-most xs u a r)
 
     -- (3) where all stamps whose numbers were 0 rise, nothing is left out
@@ -95,8 +99,10 @@ module _ (lt : ℕ → ℕ → Bool) (ns : List ℕ) (from to : ℕ) (low : from
         ∙ take-append-drop to ns
 
     -- (5) who is left out contradicts a kept one
-    pub run-contradicted : (p : ℕ) → from ≤ p → p < to → getD ns p 1 ≡ 0 → (getD (slice from to (runKept lt ns from to)) (p - from) 0 ≡ 0 → ⊥) → Contradicted lt p (zeros from (slice from to (runKept lt ns from to)))
+    pub run-contradicted : (p : ℕ) → from ≤ p → p < to → getD ns p 1 ≡ 0 → (getD (slice from to (runKept lt ns from to)) (p - from) 0 ≡ 0 → ⊥)
+        → Contradicted lt p (zeros from (slice from to (runKept lt ns from to)))
     run-contradicted p h k z t =
         let e : from + (p - from) ≡ p = omega arith in
         let q : from + (p - from) < to = omega arith in
-        rw run-slice (turned-contradicted ok lt order from (slice from to ns) alive p h (at-slice 1 (p - from) q ∙ ap (λ (j : ℕ). getD ns j 1) e ∙ z) (λ y. t (ap (λ (l : List ℕ). getD l (p - from) 0) run-slice ∙ y)))
+        rw run-slice (turned-contradicted ok lt order from (slice from to ns) alive p h (at-slice 1 (p - from) q ∙ ap (λ (j : ℕ). getD ns j 1) e ∙ z)
+        (λ y. t (ap (λ (l : List ℕ). getD l (p - from) 0) run-slice ∙ y)))

@@ -3,12 +3,11 @@ use Prim.Native.Nat.{ℕ, zero, suc, _+_, _-_, _<_, _≤_}
 use native.Mathlib.Omega.{arith}
 use mathlib.Core.Path.{_≡_, refl, sym, ap, _∙_, subst}
 use mathlib.Core.Bool.{Bool, true, false, cond}
-use mathlib.Core.List.{List, [], _∷_, _++_}
+use mathlib.Core.List.{List, [], _∷_}
 use lib.Dec.{eqb}
 use lib.ListN.{length, getD}
-use borrow.Author.Tests.{eqb-true, eqb-false, eq-eqb}
-use Rattle.line_up.specs.keep_most.Piles.{pilesBefore, laid, pilesAfter, rank, allLaid, ranks, wantedBefore, wanted, judged, allJudged, mostKept, zeros, After, Rises}
-use Rattle.line_up.proofs.keep_most.Longest.{clash}
+use borrow.Author.Tests.{eqb-true, eqb-false}
+use Rattle.line_up.specs.keep_most.Piles.{pilesBefore, laid, pilesAfter, allLaid, ranks, wantedBefore, wanted, allJudged, zeros, After, Rises}
 
 -- the places zs that are kept, after piles ts: one of each of the `many` piles but the first w, and they may follow the last stamp of pile w
 pub record Joined (lt : ℕ → ℕ → Bool) (ts : List ℕ) (many w : ℕ) (zs : List ℕ) : Type 0 where
@@ -27,7 +26,8 @@ module _ (lt : ℕ → ℕ → Bool) where
   before-low i [] = omega arith
   before-low i (t ∷ ts) = before-low-by (lt i t) (pilesBefore lt i ts) (length ts) (before-low i ts)
 
-  before-late-by : (c : Bool) (i t p q : ℕ) (ts : List ℕ) → lt i t ≡ c → (q < p → lt i (getD ts q 0) ≡ false) → suc q < cond c 0 (suc p) → lt i (getD ts q 0) ≡ false
+  before-late-by : (c : Bool) (i t p q : ℕ) (ts : List ℕ) → lt i t ≡ c → (q < p → lt i (getD ts q 0) ≡ false) → suc q < cond c 0 (suc p)
+      → lt i (getD ts q 0) ≡ false
   before-late-by true i t p q ts e f h = let w : ⊥ = omega arith in absurd w
   before-late-by false i t p q ts e f h = f (omega arith)
 
@@ -56,7 +56,8 @@ module _ (lt : ℕ → ℕ → Bool) where
   laid-first-by true i t p ts us h = absurd (h refl)
   laid-first-by false i t p ts us h = refl
 
-  laid-other-by : (c : Bool) (i t p q : ℕ) (ts us : List ℕ) → ((q ≡ p → ⊥) → getD us q 0 ≡ getD ts q 0) → (suc q ≡ cond c 0 (suc p) → ⊥) → getD (cond c (i ∷ ts) (t ∷ us)) (suc q) 0 ≡ getD ts q 0
+  laid-other-by : (c : Bool) (i t p q : ℕ) (ts us : List ℕ) → ((q ≡ p → ⊥) → getD us q 0 ≡ getD ts q 0) → (suc q ≡ cond c 0 (suc p) → ⊥)
+      → getD (cond c (i ∷ ts) (t ∷ us)) (suc q) 0 ≡ getD ts q 0
   laid-other-by true i t p q ts us f h = refl
   laid-other-by false i t p q ts us f h = f (λ e. h (ap suc e))
 
@@ -68,7 +69,8 @@ module _ (lt : ℕ → ℕ → Bool) where
   laid-other i (t ∷ ts) zero h = laid-first-by (lt i t) i t (pilesBefore lt i ts) ts (laid lt i ts) h
   laid-other i (t ∷ ts) (suc q) h = laid-other-by (lt i t) i t (pilesBefore lt i ts) q ts (laid lt i ts) (laid-other i ts q) h
 
-  laid-low-by : (c : Bool) (i t p w : ℕ) (ts us : List ℕ) → (w ≤ length us → (w ≡ suc p → ⊥) → w ≤ length ts) → suc w ≤ length (cond c (i ∷ ts) (t ∷ us)) → (suc w ≡ suc (cond c 0 (suc p)) → ⊥) → suc w ≤ suc (length ts)
+  laid-low-by : (c : Bool) (i t p w : ℕ) (ts us : List ℕ) → (w ≤ length us → (w ≡ suc p → ⊥) → w ≤ length ts) → suc w ≤ length (cond c (i ∷ ts) (t ∷ us))
+      → (suc w ≡ suc (cond c 0 (suc p)) → ⊥) → suc w ≤ suc (length ts)
   laid-low-by true i t p w ts us f h d = omega arith
   laid-low-by false i t p w ts us f h d = let k : w ≤ length ts = f (omega arith) (λ e. d (ap suc e)) in omega arith
 
@@ -105,18 +107,22 @@ module _ (lt : ℕ → ℕ → Bool) where
         rw g (kept-after (pilesBefore lt i ts) refl (subst (λ (v : ℕ). Joined lt (laid lt i ts) many v zs) (sym f) j))
     laid-by false w e j = turned-after w (λ f. eqb-false (suc (pilesBefore lt i ts)) w e (sym f)) j
 
-    refused-by : (c : Bool) (n w : ℕ) → eqb n 0 ≡ false → eqb 0 w ≡ c → Joined lt ts many w zs → Joined lt ts many (cond c (0 - 1) w) (cond (eqb n 0) (i ∷ zs) zs)
+    refused-by : (c : Bool) (n w : ℕ) → eqb n 0 ≡ false → eqb 0 w ≡ c → Joined lt ts many w zs
+        → Joined lt ts many (cond c (0 - 1) w) (cond (eqb n 0) (i ∷ zs) zs)
     refused-by true n w e f j = let g : w ≡ 0 = sym (eqb-true 0 w f) in rw e (subst (λ (v : ℕ). Joined lt ts many v zs) g j)
     refused-by false n w e f j = rw e j
 
     step-by : (c : Bool) (n w : ℕ) → eqb n 0 ≡ c → Joined lt (cond c (laid lt i ts) ts) many w zs
-        → Joined lt ts many (wantedBefore (cond c (suc (pilesBefore lt i ts)) 0) w) (cond (eqb (cond c (cond (eqb (cond c (suc (pilesBefore lt i ts)) 0) w) 0 17) n) 0) (i ∷ zs) zs)
+        → Joined lt ts many (wantedBefore (cond c (suc (pilesBefore lt i ts)) 0) w)
+        (cond (eqb (cond c (cond (eqb (cond c (suc (pilesBefore lt i ts)) 0) w) 0 17) n) 0) (i ∷ zs) zs)
     step-by true n w e j = laid-by (eqb (suc (pilesBefore lt i ts)) w) w refl j
     step-by false n w e j = refused-by (eqb 0 w) n w e refl j
 
-  pub all-joined : (i : ℕ) (ns ts : List ℕ) (many : ℕ) → many ≡ length (allLaid lt i ns ts) → Joined lt ts many (wanted (ranks lt i ns ts) many) (zeros i (allJudged ns (ranks lt i ns ts) many))
+  pub all-joined : (i : ℕ) (ns ts : List ℕ) (many : ℕ) → many ≡ length (allLaid lt i ns ts)
+      → Joined lt ts many (wanted (ranks lt i ns ts) many) (zeros i (allJudged ns (ranks lt i ns ts) many))
   unfolding allLaid wanted ranks zeros allJudged
   all-joined i [] ts many e = record { low = omega arith; whole = omega arith; rises = tt; joins = λ p d. tt }
   all-joined i (n ∷ ns) ts many e =
-      step-by many i ts (zeros (suc i) (allJudged ns (ranks lt (suc i) ns (pilesAfter lt n i ts)) many)) (eqb n 0) n (wanted (ranks lt (suc i) ns (pilesAfter lt n i ts)) many) refl
+      step-by many i ts (zeros (suc i) (allJudged ns (ranks lt (suc i) ns (pilesAfter lt n i ts)) many)) (eqb n 0) n
+      (wanted (ranks lt (suc i) ns (pilesAfter lt n i ts)) many) refl
       (all-joined (suc i) ns (pilesAfter lt n i ts) many e)

@@ -3,16 +3,15 @@ use Prim.Native.Nat.{ℕ, zero, suc, _+_, _-_, _<_, _≤_}
 use native.Mathlib.Omega.{arith}
 use mathlib.Core.Path.{_≡_, refl, sym, ap, _∙_, subst}
 use mathlib.Core.Bool.{Bool, true, false, cond}
-use mathlib.Core.List.{List, [], _∷_, _++_}
+use mathlib.Core.List.{List, [], _∷_}
 use mathlib.Core.Logic.{_⊎_, inl, inr}
 use lib.Dec.{eqb}
 use lib.ListN.{length, getD}
-use lib.Seq.{slice, getD-take, getD-drop}
-use borrow.Author.Tests.{eqb-true, eqb-false, eq-eqb, ne-eqb}
-use Rattle.line_up.specs.keep_most.Piles.{pilesAfter, allLaid, ranks, wanted, judged, allJudged, mostKept, zeros, Chosen, After, Rises, Upward, All, AllOrdered, Order}
+use borrow.Author.Tests.{eqb-true, eqb-false}
+use Rattle.line_up.specs.keep_most.Piles.{pilesAfter, allLaid, ranks, wanted, allJudged, mostKept, zeros, Chosen, Rises, Upward, All, AllOrdered, Order}
 use Rattle.line_up.specs.keep_most.Piles.Chosen.{end, pass, choose}
-use Rattle.line_up.proofs.keep_most.Longest.{clash, Starts, no-longer}
-use Rattle.line_up.proofs.keep_most.Rising.{Joined, all-joined}
+use Rattle.line_up.proofs.keep_most.Longest.{Starts, no-longer}
+use Rattle.line_up.proofs.keep_most.Rising.{all-joined}
 
 -- ---- the numbers: refused ones stay, the others are 0 or 17
 
@@ -69,7 +68,8 @@ unfolding allJudged zeros
 judged-chosen i [] [] many e = end
 judged-chosen i (n ∷ ns) [] many e = let w : ⊥ = omega arith in absurd w
 judged-chosen i [] (r ∷ rs) many e = let w : ⊥ = omega arith in absurd w
-judged-chosen i (n ∷ ns) (r ∷ rs) many e = chosen-by (eqb n 0) (eqb r (wanted rs many)) i n ns (zeros (suc i) (allJudged ns rs many)) refl (judged-chosen (suc i) ns rs many (omega arith))
+judged-chosen i (n ∷ ns) (r ∷ rs) many e =
+    chosen-by (eqb n 0) (eqb r (wanted rs many)) i n ns (zeros (suc i) (allJudged ns rs many)) refl (judged-chosen (suc i) ns rs many (omega arith))
 
 all-chosen-by : (c : Bool) (i n : ℕ) (ns xs : List ℕ) → eqb n 0 ≡ c → Chosen (suc i) ns xs → Chosen i (n ∷ ns) (cond c (i ∷ xs) xs)
 all-chosen-by true i n ns xs e c = choose (eqb-true n 0 e) c
@@ -106,7 +106,8 @@ starts-none lt (x ∷ xs) = tt
 
 -- places one after the other whose numbers are 0 are a choice
 
-shift : (n i : ℕ) (ns : List ℕ) (j : ℕ) (xs : List ℕ) → suc i ≤ j → Upward j xs → All (λ (x : ℕ). getD (n ∷ ns) (x - i) 1 ≡ 0) xs → All (λ (x : ℕ). getD ns (x - suc i) 1 ≡ 0) xs
+shift : (n i : ℕ) (ns : List ℕ) (j : ℕ) (xs : List ℕ) → suc i ≤ j → Upward j xs → All (λ (x : ℕ). getD (n ∷ ns) (x - i) 1 ≡ 0) xs
+    → All (λ (x : ℕ). getD ns (x - suc i) 1 ≡ 0) xs
 shift n i ns j [] h u a = tt
 shift n i ns j (x ∷ xs) h u a =
     let k : x - i ≡ suc (x - suc i) = omega (arith, u .0) in
@@ -118,7 +119,8 @@ places-by true n i ns x xs e u a f =
     let d : x ≡ i = eqb-true x i e in
     let z : x - i ≡ 0 = omega arith in
     let v : Upward (suc i) xs = subst (λ (q : ℕ). Upward (suc q) xs) d (u .1) in
-    subst (λ (q : ℕ). Chosen i (n ∷ ns) (q ∷ xs)) (sym d) (choose (sym (ap (λ (q : ℕ). getD (n ∷ ns) q 1) z) ∙ a .0) (f xs v (shift n i ns (suc i) xs (omega arith) v (a .1))))
+    subst (λ (q : ℕ). Chosen i (n ∷ ns) (q ∷ xs)) (sym d)
+    (choose (sym (ap (λ (q : ℕ). getD (n ∷ ns) q 1) z) ∙ a .0) (f xs v (shift n i ns (suc i) xs (omega arith) v (a .1))))
 places-by false n i ns x xs e u a f =
     let d : x ≡ i → ⊥ = eqb-false x i e in
     let v : Upward (suc i) (x ∷ xs) = (omega (arith, d, u .0), u .1) in
@@ -132,7 +134,8 @@ places-chosen i (n ∷ ns) (x ∷ xs) u a = places-by (eqb x i) n i ns x xs refl
 
 -- who turns none away leaves the numbers
 
-fewer-by : (c d : Bool) (n i : ℕ) (xs ys : List ℕ) → eqb n 0 ≡ c → length xs ≤ length ys → length (cond (eqb (cond c (cond d 0 17) n) 0) (i ∷ xs) xs) ≤ length (cond c (i ∷ ys) ys)
+fewer-by : (c d : Bool) (n i : ℕ) (xs ys : List ℕ) → eqb n 0 ≡ c → length xs ≤ length ys
+    → length (cond (eqb (cond c (cond d 0 17) n) 0) (i ∷ xs) xs) ≤ length (cond c (i ∷ ys) ys)
 fewer-by true true n i xs ys e h = omega arith
 fewer-by true false n i xs ys e h = omega arith
 fewer-by false d n i xs ys e h = rw e h
@@ -142,7 +145,8 @@ unfolding zeros allJudged
 fewer i [] [] many = omega arith
 fewer i [] (r ∷ rs) many = omega arith
 fewer i (n ∷ ns) [] many = omega arith
-fewer i (n ∷ ns) (r ∷ rs) many = fewer-by (eqb n 0) (eqb r (wanted rs many)) n i (zeros (suc i) (allJudged ns rs many)) (zeros (suc i) ns) refl (fewer (suc i) ns rs many)
+fewer i (n ∷ ns) (r ∷ rs) many =
+    fewer-by (eqb n 0) (eqb r (wanted rs many)) n i (zeros (suc i) (allJudged ns rs many)) (zeros (suc i) ns) refl (fewer (suc i) ns rs many)
 
 same-by : (c d : Bool) (n i : ℕ) (xs ys ms ns : List ℕ) → eqb n 0 ≡ c → length xs ≤ length ys → (length ys ≤ length xs → ms ≡ ns)
     → length (cond c (i ∷ ys) ys) ≤ length (cond (eqb (cond c (cond d 0 17) n) 0) (i ∷ xs) xs) → cond c (cond d 0 17) n ∷ ms ≡ n ∷ ns
@@ -153,7 +157,8 @@ same-by true true n i xs ys ms ns e h f k =
 same-by true false n i xs ys ms ns e h f k = let w : ⊥ = omega arith in absurd w
 same-by false d n i xs ys ms ns e h f k = ap (λ (l : List ℕ). n ∷ l) (f (rw e at k))
 
-none-turned : (i : ℕ) (ns rs : List ℕ) (many : ℕ) → length rs ≡ length ns → length (zeros i ns) ≤ length (zeros i (allJudged ns rs many)) → allJudged ns rs many ≡ ns
+none-turned : (i : ℕ) (ns rs : List ℕ) (many : ℕ) → length rs ≡ length ns → length (zeros i ns) ≤ length (zeros i (allJudged ns rs many))
+    → allJudged ns rs many ≡ ns
 unfolding zeros allJudged
 none-turned i [] [] many e h = refl
 none-turned i (n ∷ ns) [] many e h = let w : ⊥ = omega arith in absurd w

@@ -8,7 +8,7 @@ use mathlib.Core.List.{List, [], _∷_}
 use lib.Dec.{eqb}
 use lib.ListN.{length, getD}
 use lib.Seq.{slice, length-slice, getD-drop, getD-take}
-use borrow.Author.Tests.{eq-eqb, eqb-true, eqb-false}
+use borrow.Author.Tests.{eq-eqb, eqb-true}
 use Rattle.line_up.specs.keep_most.Piles.{Order, AllOrdered, Contradicted}
 use Rattle.line_up.proofs.keep_most.Theorems.{Judged, kept-judged}
 use Rattle.line_up.proofs.keep_most.Contradicted.{turned-contradicted}
@@ -66,10 +66,17 @@ module _ (lt : ℕ → ℕ → Bool) (p : ℕ) where
         against = subst (λ (q : ℕ). ((q < p) × (lt p q ≡ true)) ⊎ ((p < q) × (lt q p ≡ true))) e (f .against);
       }
 
-  found-by : (c : Bool) (m i : ℕ) (ms : List ℕ) → eqb m 0 ≡ c → (Contradicted lt p (zeros (suc i) ms) → Found lt ms (suc i) p) → Contradicted lt p (cond c (i ∷ zeros (suc i) ms) (zeros (suc i) ms)) → Found lt (m ∷ ms) i p
+  found-by : (c : Bool) (m i : ℕ) (ms : List ℕ) → eqb m 0 ≡ c → (Contradicted lt p (zeros (suc i) ms) → Found lt ms (suc i) p)
+      → Contradicted lt p (cond c (i ∷ zeros (suc i) ms) (zeros (suc i) ms)) → Found lt (m ∷ ms) i p
   found-by true m i ms e f (inl h) =
       let d : i ≡ i + 0 = omega arith in
-      record { index = 0; high = omega arith; in-line = eqb-true m 0 e; against = subst (λ (q : ℕ). ((q < p) × (lt p q ≡ true)) ⊎ ((p < q) × (lt q p ≡ true))) d h }
+      record {
+        index = 0;
+        high = omega arith;
+        in-line = eqb-true m 0 e;
+        against =
+            subst (λ (q : ℕ). ((q < p) × (lt p q ≡ true)) ⊎ ((p < q) × (lt q p ≡ true))) d h;
+      }
   found-by true m i ms e f (inr h) = found-more m i ms (f h)
   found-by false m i ms e f h = found-more m i ms (f h)
 
@@ -117,10 +124,12 @@ module _ (lt : ℕ → ℕ → Bool) (ns ms : List ℕ) (from to : ℕ) (ft : fr
       ruling : Judged (getD (slice from to ns) (i - from) 0) (getD (run lt ns from to) (i - from) 0)
       ruling = kept-judged lt from (slice from to ns) (i - from) (omega (arith, length-slice from to ns tn))
 
-      turned-by : getD ns i 0 ≡ 0 → (getD (run lt ns from to) (i - from) 0 ≡ 0) ⊎ (getD (run lt ns from to) (i - from) 0 ≡ 17) → (getD ms i 0 ≡ 0) ⊎ ((getD ms i 0 ≡ 17) × Contrary lt ms from to i)
+      turned-by : getD ns i 0 ≡ 0 → (getD (run lt ns from to) (i - from) 0 ≡ 0) ⊎ (getD (run lt ns from to) (i - from) 0 ≡ 17) → (getD ms i 0 ≡ 0)
+          ⊎ ((getD ms i 0 ≡ 17) × Contrary lt ms from to i)
       turned-by e (inl q) = inl (sym now-is ∙ q)
       turned-by e (inr q) =
-          let z : getD (slice from to ns) (i - from) 1 ≡ 0 = any-default (slice from to ns) (i - from) 1 0 (omega (arith, length-slice from to ns tn)) ∙ was-is 0 ∙ e in
+          let z : getD (slice from to ns) (i - from) 1 ≡ 0 = any-default (slice from to ns) (i - from) 1 0 (omega (arith, length-slice from to ns tn))
+          ∙ was-is 0 ∙ e in
           let no : getD (run lt ns from to) (i - from) 0 ≡ 0 → ⊥ = λ y. omega (arith, y, q) in
           inr (sym now-is ∙ q, contrary-of i (found lt i from (run lt ns from to) (turned-contradicted ok lt order from (slice from to ns) alive i h z no)))
 
@@ -132,14 +141,16 @@ module _ (lt : ℕ → ℕ → Bool) (ns ms : List ℕ) (from to : ℕ) (ft : fr
 
   no-two : (x y : ℕ) → from ≤ x → x < y → y < to → Pairs (MayFollow lt) (zeros from (run lt ns from to)) → getD ms x 0 ≡ 0 → getD ms y 0 ≡ 0 → lt y x ≡ true → ⊥
   no-two x y h m k ps ex ey t =
-      let f = two-places (MayFollow lt) (run lt ns from to) from (x - from) (y - from) (omega arith) (zero-at x h (omega arith) ex) (zero-at y (omega arith) k ey) ps in
+      let f = two-places (MayFollow lt) (run lt ns from to) from (x - from) (y - from) (omega arith) (zero-at x h (omega arith) ex)
+      (zero-at y (omega arith) k ey) ps in
       let d : from + (x - from) ≡ x = omega arith in
       let g : from + (y - from) ≡ y = omega arith in
       let q : lt y x ≡ false = ap (λ (z : ℕ). lt z x) (sym g) ∙ ap (lt (from + (y - from))) (sym d) ∙ f .late in
       let z : _≡_ {A = ℕ} 0 1 = ap (λ (c : Bool). cond c 0 1) (sym t ∙ q) in
       omega arith
 
-  none-by : (i : ℕ) → from ≤ i → i < to → Pairs (MayFollow lt) (zeros from (run lt ns from to)) → getD ms i 0 ≡ 0 → (q : ℕ) → from ≤ q → q < to → getD ms q 0 ≡ 0 → ((q < i) × (lt i q ≡ true)) ⊎ ((i < q) × (lt q i ≡ true)) → ⊥
+  none-by : (i : ℕ) → from ≤ i → i < to → Pairs (MayFollow lt) (zeros from (run lt ns from to)) → getD ms i 0 ≡ 0 → (q : ℕ) → from ≤ q → q < to
+      → getD ms q 0 ≡ 0 → ((q < i) × (lt i q ≡ true)) ⊎ ((i < q) × (lt q i ≡ true)) → ⊥
   none-by i h k ps e q a b z (inl t) = no-two q i a (t .0) k ps z e (t .1)
   none-by i h k ps e q a b z (inr t) = no-two i q h (t .0) b ps e z (t .1)
 

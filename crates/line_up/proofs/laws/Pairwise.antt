@@ -1,11 +1,10 @@
 -- From neighbours to any two of a list, and that one list only has the counts and the order. Assumes nothing.
-use Prim.Native.Nat.{ℕ, zero, suc, _+_, _-_, _<_, _≤_}
+use Prim.Native.Nat.{ℕ, _+_, _-_, _<_}
 use native.Mathlib.Omega.{arith}
-use mathlib.Core.Path.{_≡_, refl, sym, ap, _∙_, subst}
-use mathlib.Core.Bool.{Bool, true, false, cond, _&&_, _||_}
+use mathlib.Core.Path.{_≡_, refl, sym, ap, subst}
+use mathlib.Core.Bool.{Bool, true, false, cond}
 use mathlib.Core.List.{List, [], _∷_}
 use lib.Dec.{eqb}
-use lib.ListN.{getD}
 use borrow.Author.Tests.{eq-eqb, ne-eqb, eqb-true, eqb-false}
 use Rattle.line_up.specs.Runs.{into, merge, once, timesIn, MayFollow, After, Rising}
 use Rattle.line_up.specs.laws.Claims.{Each, Pairs}
@@ -17,7 +16,8 @@ module _ (lt : ℕ → ℕ → Bool) (Good : ℕ → Type 0) where
   each-pick true x y xs ys g h e f = (h, e)
   each-pick false x y xs ys g h e f = (g, f)
 
-  each-into : (x : ℕ) (rest : List ℕ → List ℕ) → Good x → ((ys : List ℕ) → Each Good ys → Each Good (rest ys)) → (ys : List ℕ) → Each Good ys → Each Good (into lt x rest ys)
+  each-into : (x : ℕ) (rest : List ℕ → List ℕ) → Good x → ((ys : List ℕ) → Each Good ys → Each Good (rest ys)) → (ys : List ℕ) → Each Good ys
+      → Each Good (into lt x rest ys)
   unfolding into
   each-into x rest g r [] e = (g, r [] tt)
   each-into x rest g r (y ∷ ys) e = each-pick (lt y x) x y (into lt x rest ys) (rest (y ∷ ys)) g (e .0) (each-into x rest g r ys (e .1)) (r (y ∷ ys) e)
@@ -50,7 +50,8 @@ pub each-map : (P Q R : ℕ → Type 0) → ((y : ℕ) → P y → Q y → R y) 
 each-map P Q R f [] e g = tt
 each-map P Q R f (x ∷ xs) e g = (f x (e .0) (g .0), each-map P Q R f xs (e .1) (g .1))
 
-pub pairs-map : (Good : ℕ → Type 0) (R S : ℕ → ℕ → Type 0) → ((x y : ℕ) → Good x → Good y → R x y → S x y) → (xs : List ℕ) → Each Good xs → Pairs R xs → Pairs S xs
+pub pairs-map : (Good : ℕ → Type 0) (R S : ℕ → ℕ → Type 0) → ((x y : ℕ) → Good x → Good y → R x y → S x y) → (xs : List ℕ) → Each Good xs → Pairs R xs
+    → Pairs S xs
 pairs-map Good R S f [] e p = tt
 pairs-map Good R S f (x ∷ xs) e p = (each-map Good (R x) (S x) (λ y g r. f x y (e .0) g r) xs (e .1) (p .0), pairs-map Good R S f xs (e .1) (p .1))
 
@@ -95,7 +96,8 @@ module _ (lt : ℕ → ℕ → Bool) where
       let k : once p x ≡ once p y = ap (once p) e in
       omega (arith, h, k)
 
-  same-head : (t : Bool) (x y : ℕ) (xs ys : List ℕ) → eqb x y ≡ t → Pairs (MayFollow lt) (x ∷ xs) → Pairs (MayFollow lt) (y ∷ ys) → ((p : ℕ) → timesIn p (x ∷ xs) ≡ timesIn p (y ∷ ys)) → x ≡ y
+  same-head : (t : Bool) (x y : ℕ) (xs ys : List ℕ) → eqb x y ≡ t → Pairs (MayFollow lt) (x ∷ xs) → Pairs (MayFollow lt) (y ∷ ys)
+      → ((p : ℕ) → timesIn p (x ∷ xs) ≡ timesIn p (y ∷ ys)) → x ≡ y
   same-head true x y xs ys e a b h = eqb-true x y e
   same-head false x y xs ys e a b h =
       let n : x ≡ y → ⊥ = eqb-false x y e in

@@ -1,13 +1,13 @@
--- What is true of every lining up that is not refused: each place stands exactly once or has its number, the order is that of the exact sums, and no other list has both.
--- Assumes nothing.
-use Prim.Native.Nat.{ℕ, zero, suc, _+_, _-_, _*_, _<_, _≤_}
+-- What is true of every lining up that is not refused: each place stands exactly once or has its number, the order is that of the exact sums, and no other list
+-- has both. Assumes nothing.
+use Prim.Native.Nat.{ℕ, suc, _+_, _-_, _*_, _<_, _≤_}
 use native.Mathlib.Omega.{arith}
 use mathlib.Core.Path.{_≡_, refl, sym, ap, _∙_, subst}
 use mathlib.Core.Bool.{Bool, true, false, not, cond}
 use mathlib.Core.Logic.{_⊎_, inl, inr}
-use mathlib.Core.List.{List, [], _∷_, _++_}
+use mathlib.Core.List.{List, [], _∷_}
 use lib.Dec.{T, eqb, ltb}
-use lib.ListN.{length, getD, drop}
+use lib.ListN.{length, getD}
 use lib.Seq.{slice}
 use lib.Ieee.{binary64}
 use lib.Ieee.Bits.{ofBits-fits}
@@ -24,7 +24,7 @@ use Rattle.julian.proofs.order.Swapped.{sooner-once}
 use Rattle.julian.specs.Equality.{sums}
 use Rattle.line_up.specs.Runs.{allTested, run, numbersAfter, zeros, merge, ordered, timesIn, MayFollow, Rising}
 use Rattle.line_up.specs.LineUp.{stampOf, unorderedAt, soonerAt, leastRoom, lineRefusal, lineWritten, putInLine, linedUp}
-use Rattle.line_up.proofs.Cases.{Fine, fine}
+use Rattle.line_up.proofs.Cases.{fine}
 use Rattle.line_up.proofs.Testing.{tested-length}
 use Rattle.line_up.proofs.Places.{place-timesIn, after-length, ordered-rises, ordered-runs, first-run, second-run, third-run}
 use Rattle.line_up.specs.keep_most.Piles.{Order, All, AllOrdered}
@@ -32,7 +32,8 @@ use Rattle.line_up.proofs.keep_most.Longest.{chosen-ok}
 use Rattle.line_up.proofs.keep_most.Theorems.{kept-chosen}
 use Rattle.line_up.proofs.keep_most.OfRuns.{alive, slice-most}
 use Rattle.line_up.proofs.Marks.{run-rises}
-use Rattle.line_up.specs.laws.Claims.{Floats, by, notInLine, Each, Pairs, InOrder, Contrary, RunJudged, RightlyIn, Overtaken, LineVerdict, RunMost, OneLine, Lined}
+use Rattle.line_up.specs.laws.Claims.{Floats, by, notInLine, Each, Pairs, InOrder, Contrary, RunJudged, RightlyIn, Overtaken, LineVerdict}
+use Rattle.line_up.specs.laws.Claims.{RunMost, OneLine, Lined}
 use Rattle.line_up.proofs.laws.Once.{any-default, two-lists}
 use Rattle.line_up.proofs.laws.Unordered.{kept, nine, stays, zero-sound}
 use Rattle.line_up.proofs.laws.Judging.{judged, right}
@@ -70,7 +71,8 @@ module _ (date : ℕ → JulianDate) (floats : (p : ℕ) → Floats (date p)) wh
       let v = sum-worth (date x) s in
       let w = sum-worth (date y) t in
       record {
-        late = lt-is y x (w .0) (w .1) (v .0) (v .1) t s (w .2) (v .2) ∙ le-ltb (w .0 + v .1) (v .0 + w .1) (f .rises (v .0) (v .1) (w .0) (w .1) (v .2) (w .2));
+        late = lt-is y x (w .0) (w .1) (v .0) (v .1) t s (w .2) (v .2)
+            ∙ le-ltb (w .0 + v .1) (v .0 + w .1) (f .rises (v .0) (v .1) (w .0) (w .1) (v .2) (w .2));
         tied = λ p.
             let h = ltb-false (v .0 + w .1) (w .0 + v .1) (sym (lt-is x y (v .0) (v .1) (w .0) (w .1) s t (v .2) (w .2)) ∙ p) in
             f .tied (v .0) (v .1) (w .0) (w .1) (v .2) (w .2) (omega (arith, h, f .rises (v .0) (v .1) (w .0) (w .1) (v .2) (w .2)));
@@ -179,13 +181,16 @@ module _ (date : ℕ → JulianDate) (floats : (p : ℕ) → Floats (date p)) (c
   unfolding line after
   line-sound =
       subst (Each (Sound date floats)) (sym (ordered-runs (by date) ns a b (length ns) ab bn (omega arith)))
-      (each-merge (by date) (Sound date floats) (merge (by date) (zeros 0 (run (by date) ns 0 a)) (zeros a (run (by date) ns a b))) (zeros b (run (by date) ns b (length ns)))
-      (each-merge (by date) (Sound date floats) (zeros 0 (run (by date) ns 0 a)) (zeros a (run (by date) ns a b)) (run-sound 0 a (omega arith) (omega (arith, bn))) (run-sound a b ab bn))
+      (each-merge (by date) (Sound date floats) (merge (by date) (zeros 0 (run (by date) ns 0 a)) (zeros a (run (by date) ns a b)))
+      (zeros b (run (by date) ns b (length ns)))
+      (each-merge (by date) (Sound date floats) (zeros 0 (run (by date) ns 0 a)) (zeros a (run (by date) ns a b))
+      (run-sound 0 a (omega arith) (omega (arith, bn))) (run-sound a b ab bn))
       (run-sound b (length ns) bn (omega arith)))
 
   run-pairs : (from to : ℕ) → from ≤ to → to ≤ length ns → Pairs (MayFollow (by date)) (zeros from (run (by date) ns from to))
   run-pairs from to h k =
-      rising-pairs (by date) (Sound date floats) (follows-trans date floats) (zeros from (run (by date) ns from to)) (run-sound from to h k) (run-rises (by date) ns from to)
+      rising-pairs (by date) (Sound date floats) (follows-trans date floats) (zeros from (run (by date) ns from to)) (run-sound from to h k)
+      (run-rises (by date) ns from to)
 
   line-pairs : Pairs (MayFollow (by date)) line
   line-pairs = rising-pairs (by date) (Sound date floats) (follows-trans date floats) line line-sound line-rises
@@ -198,7 +203,8 @@ module _ (date : ℕ → JulianDate) (floats : (p : ℕ) → Floats (date p)) (c
   line-only : (ys : List ℕ) → ((p : ℕ) → timesIn p ys ≡ cond (eqb (getD after p 1) 0) 1 0) → Pairs (InOrder date) ys → ys ≡ line
   line-only ys h e =
       let alike : (p : ℕ) → timesIn p ys ≡ timesIn p line = λ p. h p ∙ sym (line-timesIn p) in
-      let g : Each (Sound date floats) ys = each-of-timesIn (Sound date floats) ys (λ p k. member (Sound date floats) p line line-sound (subst (λ (q : ℕ). 0 < q) (alike p) k)) in
+      let g : Each (Sound date floats) ys =
+      each-of-timesIn (Sound date floats) ys (λ p k. member (Sound date floats) p line line-sound (subst (λ (q : ℕ). 0 < q) (alike p) k)) in
       one-list (by date) ys line (pairs-map (Sound date floats) (InOrder date) (MayFollow (by date)) (of-exactly date floats) ys g e) line-pairs alike
 
   -- ---- why a stamp has its number
@@ -211,7 +217,8 @@ module _ (date : ℕ → JulianDate) (floats : (p : ℕ) → Floats (date p)) (c
       was true q = eqb-true (getD ns i 0) 0 q
       was false q = let z : getD ns i 0 ≡ 0 = sym (k (eqb-false (getD ns i 0) 0 q)) ∙ e in z
 
-  module _ (from to i : ℕ) (h : i < length ns) (tn : to ≤ length ns) (each : (j : ℕ) → from ≤ j → j < to → RunJudged (by date) ns after from to j) (fi : from ≤ i) (it : i < to)
+  module _ (from to i : ℕ) (h : i < length ns) (tn : to ≤ length ns) (each : (j : ℕ) → from ≤ j → j < to → RunJudged (by date) ns after from to j)
+      (fi : from ≤ i) (it : i < to)
       (in-run : RightlyIn (by date) after from to i) where
     judged-i : RunJudged (by date) ns after from to i
     judged-i = each i fi it
@@ -220,22 +227,32 @@ module _ (date : ℕ → JulianDate) (floats : (p : ℕ) → Floats (date p)) (c
     sound-at q l m e = accepted-sound q (omega arith) (each q l m .refused) e
 
     exact-by : (q : ℕ) → Sound date floats i → Sound date floats q → ((q < i) × (by date i q ≡ true)) ⊎ ((i < q) × (by date q i ≡ true))
-        → ((q < i) × ((P N Q M : ℕ) → Worth (date i) P N L → Worth (date q) Q M L → P + M < Q + N)) ⊎ ((i < q) × ((P N Q M : ℕ) → Worth (date i) P N L → Worth (date q) Q M L → Q + N < P + M))
+        → ((q < i) × ((P N Q M : ℕ) → Worth (date i) P N L → Worth (date q) Q M L → P + M < Q + N))
+        ⊎ ((i < q) × ((P N Q M : ℕ) → Worth (date i) P N L → Worth (date q) Q M L → Q + N < P + M))
     exact-by q s t (inl r) = inl (r .0, λ P N Q M v w. ltb-true (P + M) (Q + N) (sym (lt-is date floats i q P N Q M s t v w) ∙ r .1))
     exact-by q s t (inr r) = inr (r .0, λ P N Q M v w. ltb-true (Q + N) (P + M) (sym (lt-is date floats q i Q M P N t s w v) ∙ r .1))
 
     by-exact : (q : ℕ) → Sound date floats i → Sound date floats q
-        → ((q < i) × ((P N Q M : ℕ) → Worth (date i) P N L → Worth (date q) Q M L → P + M < Q + N)) ⊎ ((i < q) × ((P N Q M : ℕ) → Worth (date i) P N L → Worth (date q) Q M L → Q + N < P + M))
+        → ((q < i) × ((P N Q M : ℕ) → Worth (date i) P N L → Worth (date q) Q M L → P + M < Q + N))
+        ⊎ ((i < q) × ((P N Q M : ℕ) → Worth (date i) P N L → Worth (date q) Q M L → Q + N < P + M))
         → ((q < i) × (by date i q ≡ true)) ⊎ ((i < q) × (by date q i ≡ true))
     unfolding Sound
     by-exact q s t (inl r) =
         let v = sum-worth (date i) s in
         let w = sum-worth (date q) t in
-        inl (r .0, lt-is date floats i q (v .0) (v .1) (w .0) (w .1) s t (v .2) (w .2) ∙ lt-ltb (v .0 + w .1) (w .0 + v .1) (r .1 (v .0) (v .1) (w .0) (w .1) (v .2) (w .2)))
+        inl (
+          r .0,
+          lt-is date floats i q (v .0) (v .1) (w .0) (w .1) s t (v .2) (w .2)
+              ∙ lt-ltb (v .0 + w .1) (w .0 + v .1) (r .1 (v .0) (v .1) (w .0) (w .1) (v .2) (w .2)),
+        )
     by-exact q s t (inr r) =
         let v = sum-worth (date i) s in
         let w = sum-worth (date q) t in
-        inr (r .0, lt-is date floats q i (w .0) (w .1) (v .0) (v .1) t s (w .2) (v .2) ∙ lt-ltb (w .0 + v .1) (v .0 + w .1) (r .1 (v .0) (v .1) (w .0) (w .1) (v .2) (w .2)))
+        inr (
+          r .0,
+          lt-is date floats q i (w .0) (w .1) (v .0) (v .1) t s (w .2) (v .2)
+              ∙ lt-ltb (w .0 + v .1) (v .0 + w .1) (r .1 (v .0) (v .1) (w .0) (w .1) (v .2) (w .2)),
+        )
 
     overtaken : getD ns i 0 ≡ 0 → Contrary (by date) after from to i → Overtaken date after from to i
     overtaken e l = record {
@@ -255,7 +272,8 @@ module _ (date : ℕ → JulianDate) (floats : (p : ℕ) → Floats (date p)) (c
       against = by-exact (o .place) (sound-at i fi it e) (sound-at (o .place) (o .low) (o .high) (o .in-line)) (o .against);
     }
 
-    turned-by : getD ns i 0 ≡ 0 → (getD after i 0 ≡ 0) ⊎ ((getD after i 0 ≡ 17) × Contrary (by date) after from to i) → (getD after i 0 ≡ 0) ⊎ ((getD after i 0 ≡ 17) × Overtaken date after from to i)
+    turned-by : getD ns i 0 ≡ 0 → (getD after i 0 ≡ 0) ⊎ ((getD after i 0 ≡ 17) × Contrary (by date) after from to i) → (getD after i 0 ≡ 0)
+        ⊎ ((getD after i 0 ≡ 17) × Overtaken date after from to i)
     turned-by e (inl q) = inl q
     turned-by e (inr q) = inr (q .0, overtaken e (q .1))
 
@@ -292,12 +310,15 @@ module _ (date : ℕ → JulianDate) (floats : (p : ℕ) → Floats (date p)) (c
   unfolding after
   slice-3 = third-run (by date) ns a b (length ns) ab bn (omega arith)
 
-  run-verdict : (from to : ℕ) → (ft : from ≤ to) → (tn : to ≤ length ns) → slice from to after ≡ run (by date) ns from to → (i : ℕ) → from ≤ i → i < to → LineVerdict date come after from to i
+  run-verdict : (from to : ℕ) → (ft : from ≤ to) → (tn : to ≤ length ns) → slice from to after ≡ run (by date) ns from to → (i : ℕ) → from ≤ i → i < to
+      → LineVerdict date come after from to i
   run-verdict from to ft tn r i g h =
-      verdict from to i (omega (arith, h, tn)) tn (λ j f k. judged (by date) ns after from to ft tn r (Sound date floats) (sound-order date floats) (run-alive from to ft tn) j f k) g h
+      verdict from to i (omega (arith, h, tn)) tn
+      (λ j f k. judged (by date) ns after from to ft tn r (Sound date floats) (sound-order date floats) (run-alive from to ft tn) j f k) g h
       (right (by date) ns after from to ft tn r (run-pairs from to ft tn) i g h)
 
-  zero-still : (to : ℕ) → to ≤ length come → (xs : List ℕ) → Each (λ (x : ℕ). (x < to) × ((getD come x 1 ≡ 0) × (hasPlace (date x) ≡ true))) xs → All (λ (x : ℕ). (x < to) × (getD ns x 1 ≡ 0)) xs
+  zero-still : (to : ℕ) → to ≤ length come → (xs : List ℕ) → Each (λ (x : ℕ). (x < to) × ((getD come x 1 ≡ 0) × (hasPlace (date x) ≡ true))) xs
+      → All (λ (x : ℕ). (x < to) × (getD ns x 1 ≡ 0)) xs
   unfolding ns unordered
   zero-still to tn [] e = tt
   zero-still to tn (x ∷ xs) e =
@@ -307,7 +328,8 @@ module _ (date : ℕ → JulianDate) (floats : (p : ℕ) → Floats (date p)) (c
 
   run-most : (from to : ℕ) → (ft : from ≤ to) → (tn : to ≤ length ns) → slice from to after ≡ run (by date) ns from to → RunMost date come from to after
   run-most from to ft tn r xs u e rs =
-      rw r (slice-most (by date) ns from to ft tn (Sound date floats) (sound-order date floats) (λ p g k z. sound p (omega (arith, k, tn)) z) xs u (zero-still to (omega (arith, tn, same)) xs e) rs)
+      rw r (slice-most (by date) ns from to ft tn (Sound date floats) (sound-order date floats) (λ p g k z. sound p (omega (arith, k, tn)) z) xs u
+      (zero-still to (omega (arith, tn, same)) xs e) rs)
 
   one-line : OneLine date come a b line after
   one-line =
@@ -343,7 +365,8 @@ module _ (js ks come : List ℕ) (first second : ℕ) (out : List ℕ) (tails ra
   refused-line n e = rw (e, ne-eqb (suc n) 0 (λ q. let z : ⊥ = omega (arith, q) in z))
 
   -- THE LINE: every call that is not refused
-  pub lined-up : lineRefusal (length js) (length ks) (length come) first second (leastRoom (length out) tails ranks) ≡ 0 → Lined js ks come first second out (linedUp js ks come first second out tails ranks)
+  pub lined-up : lineRefusal (length js) (length ks) (length come) first second (leastRoom (length out) tails ranks) ≡ 0
+      → Lined js ks come first second out (linedUp js ks come first second out tails ranks)
   unfolding linedUp putInLine lineWritten line after ns unordered unorderedAt soonerAt
   lined-up z =
       let sizes = fine (length js) (length ks) (length come) first second (leastRoom (length out) tails ranks) z in

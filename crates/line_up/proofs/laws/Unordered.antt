@@ -1,19 +1,21 @@
 -- Who comes in with 0 and has no place in the order gets 9, and the others keep their number. Assumes nothing.
-use Prim.Native.Nat.{ℕ, zero, suc, _+_, _<_, _≤_}
+use Prim.Native.Nat.{ℕ, zero, suc, _+_, _<_}
 use native.Mathlib.Omega.{arith}
-use mathlib.Core.Path.{_≡_, refl, sym, ap, _∙_, subst}
-use mathlib.Core.Bool.{Bool, true, false, cond, not, _&&_}
+use mathlib.Core.Path.{_≡_, refl, sym, ap, _∙_}
+use mathlib.Core.Bool.{Bool, true, false, cond, _&&_}
 use mathlib.Core.List.{List, [], _∷_}
 use lib.Dec.{eqb}
 use lib.ListN.{length, getD}
 use borrow.Author.Tests.{eq-eqb, ne-eqb, eqb-true, eqb-false}
 use Rattle.line_up.specs.Runs.{tested, allTested}
 
-pub tested-at : (unordered : ℕ → Bool) (i : ℕ) (ns : List ℕ) (p : ℕ) → p < length ns → getD (allTested unordered i ns) p 0 ≡ tested unordered (getD ns p 0) (i + p)
+pub tested-at : (unordered : ℕ → Bool) (i : ℕ) (ns : List ℕ) (p : ℕ) → p < length ns
+    → getD (allTested unordered i ns) p 0 ≡ tested unordered (getD ns p 0) (i + p)
 unfolding allTested
 tested-at unordered i [] p h = let z : ⊥ = omega arith in absurd z
 tested-at unordered i (n ∷ ns) zero h = let e : i ≡ i + 0 = omega arith in ap (tested unordered n) e
-tested-at unordered i (n ∷ ns) (suc p) h = let e : suc i + p ≡ i + suc p = omega arith in tested-at unordered (suc i) ns p (omega arith) ∙ ap (tested unordered (getD ns p 0)) e
+tested-at unordered i (n ∷ ns) (suc p) h = let e : suc i + p ≡ i + suc p = omega arith in tested-at unordered (suc i) ns p (omega arith)
+    ∙ ap (tested unordered (getD ns p 0)) e
 
 module _ (unordered : ℕ → Bool) (ns : List ℕ) (p : ℕ) (h : p < length ns) where
   here : getD (allTested unordered 0 ns) p 0 ≡ tested unordered (getD ns p 0) p

@@ -35,7 +35,10 @@ loop-holds : tie.Need-loop-holds Inv-loop μ-loop
 loop-holds c =
     let s = c .before .before .before .before .before .before .before .before in
     let a = s .args in
-    merging-starts (soonerAt (a .jd1s .now) (a .jd2s .now)) (a .numbers .now) (a .first) (a .second) (s .pre .low) (s .pre .high) (a .out .now) (c .before .before .before .next-accepted .result) (c .before .before .next-accepted2 .result) (c .before .next-accepted3 .result) (c .pick-of-three .result) (c .before .before .before .next-accepted .ensures) (c .before .before .next-accepted2 .ensures) (c .before .next-accepted3 .ensures) (c .pick-of-three .ensures)
+    merging-starts (soonerAt (a .jd1s .now) (a .jd2s .now)) (a .numbers .now) (a .first) (a .second) (s .pre .low) (s .pre .high) (a .out .now)
+    (c .before .before .before .next-accepted .result) (c .before .before .next-accepted2 .result) (c .before .next-accepted3 .result)
+    (c .pick-of-three .result) (c .before .before .before .next-accepted .ensures) (c .before .before .next-accepted2 .ensures)
+    (c .before .next-accepted3 .ensures) (c .pick-of-three .ensures)
 
 mul-put-place : tie.Need-mul-put-place Inv-loop μ-loop
 mul-put-place c =
@@ -43,7 +46,8 @@ mul-put-place c =
     let l = i .before in
     let s = l .before .before .before .before .before .before .before .before .before in
     let a = s .args in
-    let f = few-yet (soonerAt (a .jd1s .now) (a .jd2s .now)) (a .numbers .now) (a .first) (a .second) (s .pre .low) (s .pre .high) (a .out .now) (l .loop .out) (l .loop .x) (l .loop .y) (l .loop .z) (l .loop .p) (l .loop .k) (l .loop .inv) (s .pre .room) (i .loop-test .taken) in
+    let f = few-yet (soonerAt (a .jd1s .now) (a .jd2s .now)) (a .numbers .now) (a .first) (a .second) (s .pre .low) (s .pre .high) (a .out .now)
+    (l .loop .out) (l .loop .x) (l .loop .y) (l .loop .z) (l .loop .p) (l .loop .k) (l .loop .inv) (s .pre .room) (i .loop-test .taken) in
     record { fits = omega (arith, s .pre .small, f) }
 
 put-place-requires : tie.Need-put-place-requires Inv-loop μ-loop
@@ -52,7 +56,8 @@ put-place-requires c κs =
     let l = i .before in
     let s = l .before .before .before .before .before .before .before .before .before in
     let a = s .args in
-    room-yet (soonerAt (a .jd1s .now) (a .jd2s .now)) (a .numbers .now) (a .first) (a .second) (s .pre .low) (s .pre .high) (a .out .now) (l .loop .out) (l .loop .x) (l .loop .y) (l .loop .z) (l .loop .p) (l .loop .k) (l .loop .inv) (s .pre .room) (i .loop-test .taken)
+    room-yet (soonerAt (a .jd1s .now) (a .jd2s .now)) (a .numbers .now) (a .first) (a .second) (s .pre .low) (s .pre .high) (a .out .now) (l .loop .out)
+    (l .loop .x) (l .loop .y) (l .loop .z) (l .loop .p) (l .loop .k) (l .loop .inv) (s .pre .room) (i .loop-test .taken)
 
 add-k : tie.Need-add-k Inv-loop μ-loop
 add-k c =
@@ -60,7 +65,8 @@ add-k c =
     let l = i .before in
     let s = l .before .before .before .before .before .before .before .before .before in
     let a = s .args in
-    let f = few-yet (soonerAt (a .jd1s .now) (a .jd2s .now)) (a .numbers .now) (a .first) (a .second) (s .pre .low) (s .pre .high) (a .out .now) (l .loop .out) (l .loop .x) (l .loop .y) (l .loop .z) (l .loop .p) (l .loop .k) (l .loop .inv) (s .pre .room) (i .loop-test .taken) in
+    let f = few-yet (soonerAt (a .jd1s .now) (a .jd2s .now)) (a .numbers .now) (a .first) (a .second) (s .pre .low) (s .pre .high) (a .out .now)
+    (l .loop .out) (l .loop .x) (l .loop .y) (l .loop .z) (l .loop .p) (l .loop .k) (l .loop .inv) (s .pre .room) (i .loop-test .taken) in
     record { fits = omega (arith, s .pre .small, f) }
 
 advance-requires : tie.Need-advance-requires Inv-loop μ-loop
@@ -101,7 +107,8 @@ loop-less c =
     let l = i .before in
     let s = l .before .before .before .before .before .before .before .before .before in
     let a = s .args in
-    let f = few-yet (soonerAt (a .jd1s .now) (a .jd2s .now)) (a .numbers .now) (a .first) (a .second) (s .pre .low) (s .pre .high) (a .out .now) (l .loop .out) (l .loop .x) (l .loop .y) (l .loop .z) (l .loop .p) (l .loop .k) (l .loop .inv) (s .pre .room) (i .loop-test .taken) in
+    let f = few-yet (soonerAt (a .jd1s .now) (a .jd2s .now)) (a .numbers .now) (a .first) (a .second) (s .pre .low) (s .pre .high) (a .out .now)
+    (l .loop .out) (l .loop .x) (l .loop .y) (l .loop .z) (l .loop .p) (l .loop .k) (l .loop .inv) (s .pre .room) (i .loop-test .taken) in
     omega (arith, f)
 
 loop-again : tie.Need-loop-again Inv-loop μ-loop
@@ -111,7 +118,11 @@ loop-again c =
     let s = l .before .before .before .before .before .before .before .before .before in
     let a = s .args in
     let w = c .before .before .before .before .before .before in
-    merging-goes (soonerAt (a .jd1s .now) (a .jd2s .now)) (a .numbers .now) (a .first) (a .second) (s .pre .low) (s .pre .high) (a .out .now) (l .loop .out) (l .loop .x) (l .loop .y) (l .loop .z) (l .loop .p) (l .loop .k) (l .loop .inv) (s .pre .room) (i .loop-test .taken) (w .put-place .last .0) (c .before .before .before .advance .result) (c .before .before .advance2 .result) (c .before .advance3 .result) (c .pick-of-three2 .result) (w .put-place .ensures) (c .before .before .before .advance .ensures) (c .before .before .advance2 .ensures) (c .before .advance3 .ensures) (c .pick-of-three2 .ensures)
+    merging-goes (soonerAt (a .jd1s .now) (a .jd2s .now)) (a .numbers .now) (a .first) (a .second) (s .pre .low) (s .pre .high) (a .out .now) (l .loop .out)
+    (l .loop .x) (l .loop .y) (l .loop .z) (l .loop .p) (l .loop .k) (l .loop .inv) (s .pre .room) (i .loop-test .taken) (w .put-place .last .0)
+    (c .before .before .before .advance .result) (c .before .before .advance2 .result) (c .before .advance3 .result) (c .pick-of-three2 .result)
+    (w .put-place .ensures) (c .before .before .before .advance .ensures) (c .before .before .advance2 .ensures) (c .before .advance3 .ensures)
+    (c .pick-of-three2 .ensures)
 
 same-length : tie.Need-same-length Inv-loop μ-loop
 same-length c = c .before .loop .inv .len
@@ -121,27 +132,11 @@ returns c =
     let l = c .before in
     let s = l .before .before .before .before .before .before .before .before .before in
     let a = s .args in
-    merging-ends (soonerAt (a .jd1s .now) (a .jd2s .now)) (a .numbers .now) (a .first) (a .second) (s .pre .low) (s .pre .high) (a .out .now) (l .loop .out) (l .loop .x) (l .loop .y) (l .loop .z) (l .loop .p) (l .loop .k) (l .loop .inv) (c .loop-test .left)
+    merging-ends (soonerAt (a .jd1s .now) (a .jd2s .now)) (a .numbers .now) (a .first) (a .second) (s .pre .low) (s .pre .high) (a .out .now) (l .loop .out)
+    (l .loop .x) (l .loop .y) (l .loop .z) (l .loop .p) (l .loop .k) (l .loop .inv) (c .loop-test .left)
 
 pub merge-spec : {M : Type 1} → statement M
 merge-spec =
     tie.close
-    (tie.spec
-    Inv-loop
-    μ-loop
-    next-accepted-requires
-    next-accepted-requires-2
-    next-accepted-requires-3
-    pick-of-three-requires
-    loop-holds
-    mul-put-place
-    put-place-requires
-    add-k
-    advance-requires
-    advance-requires-2
-    advance-requires-3
-    pick-of-three-requires-2
-    loop-less
-    loop-again
-    same-length
-    returns)
+    (tie.spec Inv-loop μ-loop next-accepted-requires next-accepted-requires-2 next-accepted-requires-3 pick-of-three-requires loop-holds mul-put-place
+    put-place-requires add-k advance-requires advance-requires-2 advance-requires-3 pick-of-three-requires-2 loop-less loop-again same-length returns)

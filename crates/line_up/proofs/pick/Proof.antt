@@ -1,7 +1,6 @@
 -- `line_up::pick` meets its contract. Assumes nothing.
-use mathlib.Core.Path.{_≡_, refl, sym, ap, _∙_}
+use mathlib.Core.Path.{sym, _∙_}
 use Rattle.line_up.specs.LineUp.{soonerAt}
-use lib.ListN.{length}
 use Rattle.line_up.proofs.Cases.{pick-x, pick-y, pick-earlier, pick-other}
 use borrow.Author.Needs.{needs}
 use Rattle.line_up.proofs.pick.Statement.{statement}
@@ -23,13 +22,15 @@ returns-3 : tie.Need-returns-3
 returns-3 c =
     let s = c .before .before .before .before .before .before in
     let a = s .args in
-    pick-earlier (soonerAt (a .jd1s .now) (a .jd2s .now)) (a .n) (a .x) (a .y) (c .before .before .before .if1 .left) (c .before .before .if2 .left) (sym (c .before .sooner-at .ensures) ∙ c .if3 .taken)
+    pick-earlier (soonerAt (a .jd1s .now) (a .jd2s .now)) (a .n) (a .x) (a .y) (c .before .before .before .if1 .left) (c .before .before .if2 .left)
+    (sym (c .before .sooner-at .ensures) ∙ c .if3 .taken)
 
 returns-4 : tie.Need-returns-4
 returns-4 c =
     let s = c .before .before .before .before .before .before in
     let a = s .args in
-    pick-other (soonerAt (a .jd1s .now) (a .jd2s .now)) (a .n) (a .x) (a .y) (c .before .before .before .if1 .left) (c .before .before .if2 .left) (sym (c .before .sooner-at .ensures) ∙ c .if3 .left)
+    pick-other (soonerAt (a .jd1s .now) (a .jd2s .now)) (a .n) (a .x) (a .y) (c .before .before .before .if1 .left) (c .before .before .if2 .left)
+    (sym (c .before .sooner-at .ensures) ∙ c .if3 .left)
 
 pub pick-spec : {M : Type 1} → statement M
 pick-spec = tie.close (tie.spec returns returns-2 (λ c κs. search needs) returns-3 returns-4)

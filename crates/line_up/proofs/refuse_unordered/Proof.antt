@@ -1,8 +1,6 @@
 -- `line_up::refuse_unordered` meets its contract. Assumes nothing.
-use mathlib.Core.Path.{_≡_, refl, sym, ap, _∙_}
 use Prim.Native.Nat.{_-_}
 use native.Mathlib.Omega.{arith}
-use lib.ListN.{length, length-set}
 use Rattle.line_up.specs.LineUp.{unorderedAt}
 use Rattle.line_up.proofs.Testing.{Testing, testing-starts, testing-goes, testing-ends}
 use Rattle.line_up.proofs.refuse_unordered.Statement.{statement}
@@ -51,7 +49,8 @@ loop-again c =
     let i = c .before .before in
     let l = i .before in
     let a = l .before .before .before .before .args in
-    testing-goes (unorderedAt (a .jd1s .now) (a .jd2s .now)) (a .numbers .now) (l .loop .numbers) (l .loop .i) (c .tested .result) (l .loop .inv) (i .loop-test .taken) (c .tested .ensures)
+    testing-goes (unorderedAt (a .jd1s .now) (a .jd2s .now)) (a .numbers .now) (l .loop .numbers) (l .loop .i) (c .tested .result) (l .loop .inv)
+    (i .loop-test .taken) (c .tested .ensures)
 
 same-length : tie.Need-same-length Inv-loop μ-loop
 same-length c =
@@ -66,15 +65,4 @@ returns c =
 pub refuse-unordered-spec : {M : Type 1} → statement M
 refuse-unordered-spec =
     tie.close
-    (tie.spec
-    Inv-loop
-    μ-loop
-    loop-holds
-    slice-read-tested
-    tested-requires
-    slice-write-numbers
-    add-i
-    loop-less
-    loop-again
-    same-length
-    returns)
+    (tie.spec Inv-loop μ-loop loop-holds slice-read-tested tested-requires slice-write-numbers add-i loop-less loop-again same-length returns)

@@ -12,7 +12,8 @@ returns c =
     let s = p .before in
     let a = s .before .before .before .before .args in
     tested-unordered (unorderedAt (a .jd1s .now) (a .jd2s .now)) (a .number) (a .i) (s .before .if1 .taken)
-    (sym (unordered-is (a .jd1s .now) (a .jd2s .now) (a .i) (s .stamp-of .result) (p .has-place .result) (s .stamp-of .ensures) (p .has-place .ensures)) ∙ c .if2 .taken)
+    (sym (unordered-is (a .jd1s .now) (a .jd2s .now) (a .i) (s .stamp-of .result) (p .has-place .result) (s .stamp-of .ensures) (p .has-place .ensures))
+    ∙ c .if2 .taken)
 
 returns-2 : tie.Need-returns-2
 returns-2 c =
@@ -20,7 +21,8 @@ returns-2 c =
     let s = p .before in
     let a = s .before .before .before .before .args in
     tested-sound (unorderedAt (a .jd1s .now) (a .jd2s .now)) (a .number) (a .i) (s .before .if1 .taken)
-    (sym (unordered-is (a .jd1s .now) (a .jd2s .now) (a .i) (s .stamp-of .result) (p .has-place .result) (s .stamp-of .ensures) (p .has-place .ensures)) ∙ c .if2 .left)
+    (sym (unordered-is (a .jd1s .now) (a .jd2s .now) (a .i) (s .stamp-of .result) (p .has-place .result) (s .stamp-of .ensures) (p .has-place .ensures))
+    ∙ c .if2 .left)
 
 returns-3 : tie.Need-returns-3
 returns-3 c =

@@ -1,14 +1,15 @@
 -- What the functions below `keep_most` ask and ensure. Assumes nothing.
-use Prim.Native.Nat.{ℕ, suc, _+_, _-_, _<_, _≤_}
+use Prim.Native.Nat.{ℕ, _+_, _-_, _<_, _≤_}
 use mathlib.Core.Path.{_≡_}
-use mathlib.Core.Bool.{Bool, true, false, cond}
-use mathlib.Core.List.{List, [], _∷_, _++_}
-use lib.Dec.{eqb, ltb}
+use mathlib.Core.Bool.{Bool, false, cond}
+use mathlib.Core.List.{List, [], _++_}
+use lib.Dec.{eqb}
 use lib.ListN.{length, getD, take, drop, set}
 use lib.Seq.{slice}
-use Rattle.line_up.specs.keep_most.Piles.{pilesBefore, laid, allLaid, ranks, allJudged}
+use Rattle.line_up.specs.keep_most.Piles.{pilesBefore, allLaid, ranks, allJudged}
 
--- the pile of the stamp at place i can be searched among the first `many` tails: they are places below n, and a tail that is not later than i has none later before it
+-- the pile of the stamp at place i can be searched among the first `many` tails: they are places below n, and a tail that is not later than i has none later
+-- before it
 pub record Searchable (lt : ℕ → ℕ → Bool) (n : ℕ) (tails : List ℕ) (many i : ℕ) : Type 0 where
   pub room : many ≤ length tails
   pub place : i < n

@@ -1,9 +1,9 @@
 -- What the theorems of the lining up say of the ordered places and of the numbers that a call leaves. The words are this project's own; exact sums are those of
 -- julian/specs/Worth. Assumes nothing.
-use Prim.Native.Nat.{ℕ, zero, suc, _+_, _*_, _<_, _≤_}
+use Prim.Native.Nat.{ℕ, suc, _+_, _*_, _<_, _≤_}
 use mathlib.Core.Path.{_≡_}
 use mathlib.Core.Bool.{Bool, true, false, cond}
-use mathlib.Core.Logic.{_⊎_, inl, inr}
+use mathlib.Core.Logic.{_⊎_}
 use mathlib.Core.List.{List, [], _∷_, _++_}
 use lib.Dec.{T, eqb, ltb}
 use lib.ListN.{length, getD, drop}
@@ -46,8 +46,8 @@ pub record InOrder (date : ℕ → JulianDate) (x y : ℕ) : Type 0 where
   pub rises : (P N Q M : ℕ) → Worth (date x) P N L → Worth (date y) Q M L → P + M ≤ Q + N
   pub tied : (P N Q M : ℕ) → Worth (date x) P N L → Worth (date y) Q M L → P + M ≡ Q + N → x < y
 
--- an accepted stamp of the run from place `from` up to `to` that contradicts the stamp at i: it stands before i and is later, or behind i and is earlier; ms are the numbers
--- after the call
+-- an accepted stamp of the run from place `from` up to `to` that contradicts the stamp at i: it stands before i and is later, or behind i and is earlier; ms
+-- are the numbers after the call
 pub record Contrary (lt : ℕ → ℕ → Bool) (ms : List ℕ) (from to i : ℕ) : Type 0 where
   pub place : ℕ
   pub low : from ≤ place
@@ -75,17 +75,19 @@ pub record Overtaken (date : ℕ → JulianDate) (ms : List ℕ) (from to i : �
   pub against : ((place < i) × ((P N Q M : ℕ) → Worth (date i) P N L → Worth (date place) Q M L → P + M < Q + N))
       ⊎ ((i < place) × ((P N Q M : ℕ) → Worth (date i) P N L → Worth (date place) Q M L → Q + N < P + M))
 
--- why the stamp at place i of the run from `from` up to `to` has its number after the call: its own where it was refused before; 9 where it has no place in the order; 17
--- where an accepted one contradicts it; else 0
+-- why the stamp at place i of the run from `from` up to `to` has its number after the call: its own where it was refused before; 9 where it has no place in the
+-- order; 17 where an accepted one contradicts it; else 0
 pub record LineVerdict (date : ℕ → JulianDate) (ns ms : List ℕ) (from to i : ℕ) : Type 0 where
   pub refused : (getD ns i 0 ≡ 0 → ⊥) → getD ms i 0 ≡ getD ns i 0
   pub unordered : getD ns i 0 ≡ 0 → hasPlace (date i) ≡ false → getD ms i 0 ≡ 9
   pub sound : getD ns i 0 ≡ 0 → hasPlace (date i) ≡ true → (getD ms i 0 ≡ 0) ⊎ ((getD ms i 0 ≡ 17) × Overtaken date ms from to i)
   pub in-line : getD ms i 0 ≡ 0 → Overtaken date ms from to i → ⊥
 
--- of the run from `from` up to `to` no more stamps that came in with 0 and have a place in the order rise than are accepted: xs are their places, one after the other
+-- of the run from `from` up to `to` no more stamps that came in with 0 and have a place in the order rise than are accepted: xs are their places, one after the
+-- other
 abbrev pub RunMost : (ℕ → JulianDate) → List ℕ → ℕ → ℕ → List ℕ → Type 0
-RunMost date ns from to ms = (xs : List ℕ) → Upward from xs → Each (λ (x : ℕ). (x < to) × ((getD ns x 1 ≡ 0) × (hasPlace (date x) ≡ true))) xs → Rises (by date) xs
+RunMost date ns from to ms = (xs : List ℕ) → Upward from xs → Each (λ (x : ℕ). (x < to) × ((getD ns x 1 ≡ 0) × (hasPlace (date x) ≡ true))) xs
+    → Rises (by date) xs
     → length xs ≤ length (zeros from (slice from to ms))
 
 -- the places p, and the numbers ms after the call, of three runs of stamps that end at places a, b and the length

@@ -60,18 +60,5 @@ loop-again c =
 pub list-spec : {M : Type 1} → statement M
 list-spec =
     tie.close
-    (tie.spec
-    Inv-loop
-    μ-loop
-    buffer-requires
-    no-rows-requires
-    loop-holds
-    slice-aggregate-next-part-by-rows
-    next-part-by-rows-requires
-    array-share-prefix-scratch
-    slice-aggregate-write-all
-    write-all-requires
-    returns
-    returns-2
-    loop-less
-    loop-again)
+    (tie.spec Inv-loop μ-loop buffer-requires no-rows-requires loop-holds slice-aggregate-next-part-by-rows next-part-by-rows-requires
+    array-share-prefix-scratch slice-aggregate-write-all write-all-requires returns returns-2 loop-less loop-again)

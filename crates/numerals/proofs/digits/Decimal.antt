@@ -50,7 +50,8 @@ unfolding AllDigits
 number-below [] h = omega arith
 number-below (c ∷ cs) h =
     let k : c ≤ 57 = h .1 in
-    rw (pow-suc 10 (length cs)) (below (c - 48) (10 ^ length cs) (number cs) (number (c ∷ cs)) (omega arith) (value-split (0 + (c - 48)) cs) (number-below cs (h .2)))
+    rw (pow-suc 10 (length cs)) (below (c - 48) (10 ^ length cs) (number cs) (number (c ∷ cs)) (omega arith) (value-split (0 + (c - 48)) cs)
+    (number-below cs (h .2)))
 
 -- ---- writing
 -- one digit more

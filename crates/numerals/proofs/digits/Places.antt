@@ -23,10 +23,12 @@ module _ (d : List ℕ) (at : ℕ) (le : at ≤ length d) where
   pub lent-length : length (take (length d - at) (drop at d)) ≡ length d - at
   lent-length = ap length lent ∙ length-drop at d
 
-  pub part-put : (t ys : List ℕ) → ys ≡ t ++ drop (length t) (take (length d - at) (drop at d)) → take at d ++ (ys ++ drop (length d - at) (drop at d)) ≡ pasted d at t
+  pub part-put : (t ys : List ℕ) → ys ≡ t ++ drop (length t) (take (length d - at) (drop at d)) → take at d
+      ++ (ys ++ drop (length d - at) (drop at d)) ≡ pasted d at t
   unfolding pasted
   part-put t ys e =
-      let y : ys ≡ t ++ drop (at + length t) d = e ∙ ap (λ (l : List ℕ). t ++ drop (length t) l) lent ∙ ap (λ (l : List ℕ). t ++ l) (drop-drop (length t) at d) in
+      let y : ys ≡ t ++ drop (at + length t) d = e ∙ ap (λ (l : List ℕ). t ++ drop (length t) l) lent
+      ∙ ap (λ (l : List ℕ). t ++ l) (drop-drop (length t) at d) in
       ap (λ (l : List ℕ). take at d ++ (ys ++ l)) none-after ∙ ap (λ (l : List ℕ). take at d ++ l) (append-nil ys ∙ y)
 
   pub part-kept : (ys : List ℕ) → ys ≡ take (length d - at) (drop at d) → take at d ++ (ys ++ drop (length d - at) (drop at d)) ≡ d

@@ -27,9 +27,12 @@ next-place n k m e = split (n / k) ∙ ap (λ (z : ℕ). n / k % 256 + 256 * z) 
 
 pub read-written : (n : ℕ) → n < 18446744073709551616 → u64At (eightBytes n) 0 ≡ n
 unfolding u64At fourAt
-read-written n h = sum8 n (n / 0x100) (n / 0x1_0000) (n / 0x100_0000) (n / 0x1_0000_0000) (n / 0x100_0000_0000) (n / 0x1_0000_0000_0000) (n / 0x100_0000_0000_0000)
-    (n % 256) (n / 0x100 % 256) (n / 0x1_0000 % 256) (n / 0x100_0000 % 256) (n / 0x1_0000_0000 % 256) (n / 0x100_0000_0000 % 256) (n / 0x1_0000_0000_0000 % 256) (n / 0x100_0000_0000_0000 % 256)
-    (split n) (next-place n 0x100 0x1_0000 refl) (next-place n 0x1_0000 0x100_0000 refl) (next-place n 0x100_0000 0x1_0000_0000 refl) (next-place n 0x1_0000_0000 0x100_0000_0000 refl)
+read-written n h = sum8 n (n / 0x100) (n / 0x1_0000) (n / 0x100_0000) (n / 0x1_0000_0000) (n / 0x100_0000_0000) (n / 0x1_0000_0000_0000)
+    (n / 0x100_0000_0000_0000)
+    (n % 256) (n / 0x100 % 256) (n / 0x1_0000 % 256) (n / 0x100_0000 % 256) (n / 0x1_0000_0000 % 256) (n / 0x100_0000_0000 % 256)
+    (n / 0x1_0000_0000_0000 % 256) (n / 0x100_0000_0000_0000 % 256)
+    (split n) (next-place n 0x100 0x1_0000 refl) (next-place n 0x1_0000 0x100_0000 refl) (next-place n 0x100_0000 0x1_0000_0000 refl)
+    (next-place n 0x1_0000_0000 0x100_0000_0000 refl)
     (next-place n 0x100_0000_0000 0x1_0000_0000_0000 refl) (next-place n 0x1_0000_0000_0000 0x100_0000_0000_0000 refl) (last-byte n h)
 
 pub signed-back : (z : ℤ) → SFits w64 z → signedOf (patternOf z) ≡ z

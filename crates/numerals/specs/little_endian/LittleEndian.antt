@@ -1,5 +1,5 @@
--- Whole numbers as bytes, the lowest first: the layout of the stamp block's numbers and of the numbers that the C interface hands out. Written from document 01,
--- "Stamp block". Assumes nothing.
+-- Whole numbers as bytes, the lowest first: the layout of the stamp block's numbers and of the numbers that the C interface hands out. Written from document
+-- 01, "Stamp block". Assumes nothing.
 use Prim.Native.Nat.{ℕ, _+_, _-_, _*_, _/_, _%_}
 use mathlib.Core.List.{List, [], _∷_, _++_}
 use mathlib.Core.Bool.{cond}

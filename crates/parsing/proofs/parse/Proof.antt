@@ -13,15 +13,20 @@ use Rattle.parsing.proofs.parse.Tie as tie
 
 judged-requires : tie.Need-judged-requires
 unfolding scannedOutcome
-judged-requires c κs = within-small (c .before .before .before .before .before .args .utc) (c .before .before .before .before .before .args .text .now) _ (sym (c .before .before .before .scan .ensures) ∙ ap scannedOutcome (c .before .form .given .1))
+judged-requires c κs = within-small (c .before .before .before .before .before .args .utc) (c .before .before .before .before .before .args .text .now) _
+    (sym (c .before .before .before .scan .ensures) ∙ ap scannedOutcome (c .before .form .given .1))
 
 returns : tie.Need-returns
 unfolding parsedOutcome scannedOutcome onward
-returns c = sym (parsed-is (c .before .before .before .before .args .utc) (c .before .before .before .before .args .text .now) ∙ ap (λ (o : Outcome Form). onward o judgedForm) (sym (c .before .before .scan .ensures) ∙ ap scannedOutcome (c .enum-told .given .1)))
+returns c = sym (parsed-is (c .before .before .before .before .args .utc) (c .before .before .before .before .args .text .now)
+    ∙ ap (λ (o : Outcome Form). onward o judgedForm) (sym (c .before .before .scan .ensures) ∙ ap scannedOutcome (c .enum-told .given .1)))
 
 returns-2 : tie.Need-returns-2
 unfolding scannedOutcome onward
-returns-2 c = c .judged .ensures ∙ sym (parsed-is (c .before .before .before .before .before .before .args .utc) (c .before .before .before .before .before .before .args .text .now) ∙ ap (λ (o : Outcome Form). onward o judgedForm) (sym (c .before .before .before .before .scan .ensures) ∙ ap scannedOutcome (c .before .before .form .given .1)))
+returns-2 c = c .judged .ensures
+    ∙ sym (parsed-is (c .before .before .before .before .before .before .args .utc) (c .before .before .before .before .before .before .args .text .now)
+    ∙ ap (λ (o : Outcome Form). onward o judgedForm)
+    (sym (c .before .before .before .before .scan .ensures) ∙ ap scannedOutcome (c .before .before .form .given .1)))
 
 pub parse-spec : {M : Type 1} → statement M
 parse-spec =

@@ -13,7 +13,8 @@ use Rattle.refusals.specs.Outcome.{answer, refusal}
 use Rattle.numerals.specs.digits.Decimal.{isDigit}
 use Rattle.parsing.specs.declared.scan.Form.{Form}
 use Rattle.parsing.specs.declared.scan.Run.{Run}
-use Rattle.parsing.specs.scan.Form.{byteAt, twoDigits, twoSay, isSeparator, fractionDigits, dateRight, timeRight, afterBlanks, afterFraction, endRight, rightForm}
+use Rattle.parsing.specs.scan.Form.{byteAt, twoDigits, twoSay, isSeparator, fractionDigits, dateRight, timeRight, afterBlanks, afterFraction}
+use Rattle.parsing.specs.scan.Form.{endRight, rightForm}
 use Rattle.parsing.specs.scan.Scan.{kept, FractionRun, formWith, formBy, formAt, scanOf}
 use Rattle.parsing.proofs.scan.Runs.{worth-most, kept-all-small}
 
@@ -71,12 +72,15 @@ module _ (t : List ℕ) (at : ℕ) where
   both k j = λ i. twoSay (byte k i) (byte j i)
 
   pub form-made : (whole places a b m d h n s : ℕ) → a ≡ twoSay (getD t at 0) (getD t (at + 1) 0) → b ≡ twoSay (getD t (at + 2) 0) (getD t (at + 3) 0)
-      → m ≡ twoSay (getD t (at + 5) 0) (getD t (at + 6) 0) → d ≡ twoSay (getD t (at + 8) 0) (getD t (at + 9) 0) → h ≡ twoSay (getD t (at + 11) 0) (getD t (at + 12) 0)
+      → m ≡ twoSay (getD t (at + 5) 0) (getD t (at + 6) 0) → d ≡ twoSay (getD t (at + 8) 0) (getD t (at + 9) 0)
+      → h ≡ twoSay (getD t (at + 11) 0) (getD t (at + 12) 0)
       → n ≡ twoSay (getD t (at + 14) 0) (getD t (at + 15) 0) → s ≡ twoSay (getD t (at + 17) 0) (getD t (at + 18) 0)
       → formWith (100 * a + b) m d h n s whole places ≡ formBy (drop at t) whole places
   form-made whole places a b m d h n s ea eb em ed eh en es =
-      let first : a ≡ twoSay (byteAt (drop at t) 0) (byteAt (drop at t) 1) = ea ∙ ap (λ (k : ℕ). twoSay (getD t k 0) (getD t (at + 1) 0)) (sym (add-zero at)) ∙ both 0 1 in
-      λ i. formWith (100 * first i + (eb ∙ both 2 3) i) ((em ∙ both 5 6) i) ((ed ∙ both 8 9) i) ((eh ∙ both 11 12) i) ((en ∙ both 14 15) i) ((es ∙ both 17 18) i) whole places
+      let first : a ≡ twoSay (byteAt (drop at t) 0) (byteAt (drop at t) 1) = ea ∙ ap (λ (k : ℕ). twoSay (getD t k 0) (getD t (at + 1) 0)) (sym (add-zero at))
+      ∙ both 0 1 in
+      λ i. formWith (100 * first i + (eb ∙ both 2 3) i) ((em ∙ both 5 6) i) ((ed ∙ both 8 9) i) ((eh ∙ both 11 12) i) ((en ∙ both 14 15) i)
+      ((es ∙ both 17 18) i) whole places
 
 -- the fields, with the fraction's run
 pub form-is : (t : List ℕ) (at second : ℕ) (r : Run) (f : Form) → second ≡ twoSay (getD t (at + 17) 0) (getD t (at + 18) 0) → FractionRun second (at + 19) t r
@@ -102,7 +106,9 @@ within-small utc t f e = either (rightForm utc (afterBlanks t)) e
     two-most a b = omega (arith, worth-most a, worth-most b)
 
     either : (b : Bool) → cond b (answer (formAt s)) (refusal 15) ≡ answer f → f .whole ≤ 1000000000000000
-    either true g = let i : formAt s ≡ f = cc in subst (λ (x : Form). x .whole ≤ 1000000000000000) i (kept-all-small (twoSay (byteAt s 17) (byteAt s 18)) (drop 19 s) (two-most (byteAt s 17) (byteAt s 18)))
+    either true g = let i : formAt s ≡ f =
+        cc in subst (λ (x : Form). x .whole ≤ 1000000000000000) i
+        (kept-all-small (twoSay (byteAt s 17) (byteAt s 18)) (drop 19 s) (two-most (byteAt s 17) (byteAt s 18)))
     either false g = absurd (let z : _≡_ {A = ℕ} 0 1 = cc in let y : ⊥ = omega arith in y)
 
 -- ---- the end: no byte is left behind index b exactly where b is the length

@@ -1,5 +1,5 @@
 -- Blanks and digits in front of what is left of a text, one byte at a time, and the number that the digits of a fraction make. Assumes nothing.
-use Prim.Native.Nat.{ℕ, zero, suc, _+_, _-_, _*_, _^_, _<_, _≤_}
+use Prim.Native.Nat.{ℕ, suc, _+_, _-_, _*_, _^_, _<_, _≤_}
 use native.Mathlib.Omega.{arith}
 use native.Mathlib.Nat.{add-zero, sub-self, pow-suc, pow-le-pow-right}
 use native.Mathlib.Numerals.{add-one}
@@ -125,7 +125,8 @@ unfolding keptFrom
 kept-small w place [] k = k .all
 kept-small w place (c ∷ cs) k = either (isDigit c) (kept-small (joined w c place) (place + 1) cs (small-more w c place k))
   where
-    either : (b : Bool) → keptFrom (joined w c place) (place + 1) cs ≤ 1000000000000000 → cond b (keptFrom (joined w c place) (place + 1) cs) w ≤ 1000000000000000
+    either : (b : Bool) → keptFrom (joined w c place) (place + 1) cs ≤ 1000000000000000
+        → cond b (keptFrom (joined w c place) (place + 1) cs) w ≤ 1000000000000000
     either true h = h
     either false h = k .all
 
@@ -146,7 +147,8 @@ pub run-start : (second at : ℕ) (t : List ℕ) → RunsOn second at t second a
 run-start second at t = record { kept = ap (λ (n : ℕ). keptFrom second n (drop at t)) (sub-self at); many = omega arith }
 
 module _ (second at : ℕ) (t : List ℕ) (whole i : ℕ) (from : at ≤ i) where
-  pub run-on : (next : ℕ) → i < length t → isDigit (getD t i 0) ≡ true → next ≡ joined whole (getD t i 0) (i - at) → RunsOn second at t whole i → RunsOn second at t next (i + 1)
+  pub run-on : (next : ℕ) → i < length t → isDigit (getD t i 0) ≡ true → next ≡ joined whole (getD t i 0) (i - at) → RunsOn second at t whole i
+      → RunsOn second at t next (i + 1)
   run-on next h d e r =
       let n : i + 1 - at ≡ i - at + 1 = omega arith in
       record {
@@ -154,7 +156,8 @@ module _ (second at : ℕ) (t : List ℕ) (whole i : ℕ) (from : at ≤ i) wher
         many = omega (arith, leading-more t i h d, r .many);
       }
 
-  pub run-stops : i < length t → isDigit (getD t i 0) ≡ false → RunsOn second at t whole i → DigitsRun second at t (record { whole = whole; places = i - at; end = i })
+  pub run-stops : i < length t → isDigit (getD t i 0) ≡ false → RunsOn second at t whole i
+      → DigitsRun second at t (record { whole = whole; places = i - at; end = i })
   run-stops h d r = record {
     whole = sym (kept-stop t i h whole (i - at) d) ∙ r .kept;
     places = omega (arith, leading-stop t i h d, r .many);
@@ -195,7 +198,8 @@ module _ (utc : Bool) (at : ℕ) (t : List ℕ) where
   pub zone-zulu : utc ≡ true → getD t at 0 ≡ 90 → drop (at + 1) t ≡ cond (zuluFirst utc (drop at t)) (drop 1 (drop at t)) (drop at t)
   zone-zulu u z =
       let e : eqb (byteAt (drop at t) 0) 90 ≡ true = ap (λ (c : ℕ). eqb c 90) (first-byte t at) ∙ eq-eqb _ _ z in
-      sym (ap (λ (b : Bool). cond (utc && b) (drop 1 (drop at t)) (drop at t)) e ∙ ap (λ (b : Bool). cond (b && true) (drop 1 (drop at t)) (drop at t)) u ∙ drop-drop 1 at t)
+      sym (ap (λ (b : Bool). cond (utc && b) (drop 1 (drop at t)) (drop at t)) e ∙ ap (λ (b : Bool). cond (b && true) (drop 1 (drop at t)) (drop at t)) u
+      ∙ drop-drop 1 at t)
 
 -- ---- a fraction
 kept-none : (w place : ℕ) (s : List ℕ) → length (leading s) ≡ 0 → keptFrom w place s ≡ w
@@ -228,7 +232,8 @@ module _ (second : ℕ) (at : ℕ) (t : List ℕ) where
     unfolding kept
     kept-is = rw point (ap (keptFrom second 0) (drop-drop 1 at t))
 
-    pub fraction-empty : (r : Run) → at ≤ length t → DigitsRun second (at + 1) t r → r .places ≡ 0 → FractionRun second at t (record { whole = second; places = 0; end = at })
+    pub fraction-empty : (r : Run) → at ≤ length t → DigitsRun second (at + 1) t r → r .places ≡ 0
+        → FractionRun second at t (record { whole = second; places = 0; end = at })
     unfolding afterFraction
     fraction-empty r h d z =
         let n : length (leading (drop (at + 1) t)) ≡ 0 = sym (d .places) ∙ z in

@@ -18,7 +18,8 @@ int-to-float-result c = le→leb (c .before .args .whole) (2 ^ 53) (omega arith)
 
 returns : tie.Need-returns
 unfolding quotient valuesFrom power round ofBits
-returns c = ap (div binary64 (ofInt binary64 (pos (c .before .args .whole)))) (value-at power 14 0 (c .before .args .places) _ (omega arith) ∙ ap power (zero-add (c .before .args .places)))
+returns c = ap (div binary64 (ofInt binary64 (pos (c .before .args .whole))))
+    (value-at power 14 0 (c .before .args .places) _ (omega arith) ∙ ap power (zero-add (c .before .args .places)))
 
 pub second-of-spec : {M : Type 1} → statement M
 second-of-spec = tie.close (tie.spec int-to-float-result (λ c. search needs) (λ c. search needs) returns)

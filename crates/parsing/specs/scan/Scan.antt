@@ -1,5 +1,6 @@
--- What one scan finds in a text: the fields of Form, and of a fraction the number of digits and the value of the first 13, which are all that count. Written from document 02,
--- item 1, by way of Form. The contract of `scan` cites it; those of the reader cite Form, to which the reader's proofs tie it. Assumes nothing.
+-- What one scan finds in a text: the fields of Form, and of a fraction the number of digits and the value of the first 13, which are all that count. Written
+-- from document 02, item 1, by way of Form. The contract of `scan` cites it; those of the reader cite Form, to which the reader's proofs tie it. Assumes
+-- nothing.
 use Prim.Native.Nat.{ℕ, _+_, _*_, _≤_}
 use mathlib.Core.Path.{_≡_}
 use mathlib.Core.List.{List, [], _∷_}

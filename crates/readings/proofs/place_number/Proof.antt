@@ -23,10 +23,4 @@ returns c =
 pub place-number-spec : {M : Type 1} → statement M
 place-number-spec =
     tie.close
-    (tie.spec
-    (λ c κs. search needs)
-    (λ c. search needs)
-    (λ c. search needs)
-    place-bytes-requires
-    (λ c. search needs)
-    returns)
+    (tie.spec (λ c κs. search needs) (λ c. search needs) (λ c. search needs) place-bytes-requires (λ c. search needs) returns)

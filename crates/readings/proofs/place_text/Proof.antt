@@ -14,13 +14,15 @@ use Rattle.readings.proofs.place_text.Tie as tie
 add-result : tie.Need-add-result
 add-result c =
     let st = c .before .before .before .before .before .before .before .before in
-    let w = text-written (c .before .before .before .before .before .to-iso8601-expanded-by-rows .ensures) (short (rowsOf (st .args .table)) (st .args .utc .0)) _ (c .before .n .given .1) in
+    let w = text-written (c .before .before .before .before .before .to-iso8601-expanded-by-rows .ensures)
+    (short (rowsOf (st .args .table)) (st .args .utc .0)) _ (c .before .n .given .1) in
     omega (arith, w .2, st .pre, st .good)
 
 returns : tie.Need-returns
 returns c =
     let st = c .before .before .before .before .before .before .before .before in
-    let w = text-written (c .before .before .before .before .before .to-iso8601-expanded-by-rows .ensures) (short (rowsOf (st .args .table)) (st .args .utc .0)) _ (c .before .n .given .1) in (
+    let w = text-written (c .before .before .before .before .before .to-iso8601-expanded-by-rows .ensures)
+    (short (rowsOf (st .args .table)) (st .args .utc .0)) _ (c .before .n .given .1) in (
       record {
         ends = ap (λ (k : ℕ). st .args .at + k) (w .0);
         holds = part-put (now (st .args .dst)) (st .args .at) (omega (arith, st .pre)) _ _ (w .1);
@@ -32,23 +34,13 @@ returns-2 : tie.Need-returns-2
 returns-2 c =
     let st = c .before .before .before .before .before .before .before .before .before .before .before .before in
     let room = lent-length (now (st .args .dst)) (st .args .at) (omega (arith, st .pre)) in
-    let w = text-refused (c .before .before .before .before .before .before .before .before .before .to-iso8601-expanded-by-rows .ensures) (short (rowsOf (st .args .table)) (st .args .utc .0)) _ (c .before .before .before .before .before .number .given .1) (omega (arith, room, st .pre)) in
+    let w = text-refused (c .before .before .before .before .before .before .before .before .before .to-iso8601-expanded-by-rows .ensures)
+    (short (rowsOf (st .args .table)) (st .args .utc .0)) _ (c .before .before .before .before .before .number .given .1) (omega (arith, room, st .pre)) in
     let p = c .before .before .place-refused .ensures in
     (placed-as (sym (ap readingTold (w .0))) (placed-into (part-kept (now (st .args .dst)) (st .args .at) (omega (arith, st .pre)) _ (w .1)) (p .0)), p .1)
 
 pub place-text-spec : {M : Type 1} → statement M
 place-text-spec =
     tie.close
-    (tie.spec
-    (λ c. search needs)
-    (λ c. search needs)
-    (λ c. search needs)
-    (λ c κs. search needs)
-    (λ c. search needs)
-    add-result
-    (λ c. search needs)
-    (λ c κs. search needs)
-    (λ c. search needs)
-    returns
-    (λ c. search needs)
-    returns-2)
+    (tie.spec (λ c. search needs) (λ c. search needs) (λ c. search needs) (λ c κs. search needs) (λ c. search needs) add-result (λ c. search needs)
+    (λ c κs. search needs) (λ c. search needs) returns (λ c. search needs) returns-2)

@@ -1,7 +1,5 @@
 -- `reason_of` meets its contract. Assumes nothing.
-use mathlib.Core.Path.{_≡_, refl}
 use borrow.Author.Tests.{le-leb, lt-leb}
-use native.Mathlib.Omega.{arith}
 use Rattle.reasons.specs.Sentence.{reasonOf, reasonOutcome}
 use borrow.Author.Needs.{needs}
 use Rattle.reasons.proofs.reason_of.Statement.{statement}
@@ -17,7 +15,11 @@ returns-2 c = rw (le-leb 1 (c .before .before .args .number) (c .before .if1 .le
 
 returns-3 : tie.Need-returns-3
 unfolding reasonOf reasonOutcome
-returns-3 c = rw (le-leb 1 (c .before .before .before .args .number) (c .before .before .if1 .left), le-leb (c .before .before .before .args .number) 28 (c .before .if2 .left), c .named-field .ensures)
+returns-3 c = rw (
+  le-leb 1 (c .before .before .before .args .number) (c .before .before .if1 .left),
+  le-leb (c .before .before .before .args .number) 28 (c .before .if2 .left),
+  c .named-field .ensures,
+)
 
 pub reason-of-spec : {M : Type 1} → statement M
 reason-of-spec = tie.close (tie.spec returns returns-2 (λ c κs. search needs) returns-3)

@@ -37,7 +37,8 @@ module _ {ns first now : List ℕ} {k : ℕ} (w : InFront ns k first now) (seven
       let l : length now ≡ length first = w .long in
       let fits : 8 * k + 8 ≤ length now = omega arith in
       let b : List ℕ = eightBytes (getD ns k 0) in
-      let long : length (take (8 * k) now ++ b) ≡ 8 * (k + 1) = length-append (take (8 * k) now) b ∙ ap (λ (n : ℕ). n + 8) (length-take-le (8 * k) now (omega arith)) ∙ omega arith in
+      let long : length (take (8 * k) now ++ b) ≡ 8 * (k + 1) = length-append (take (8 * k) now) b
+      ∙ ap (λ (n : ℕ). n + 8) (length-take-le (8 * k) now (omega arith)) ∙ omega arith in
       record {
         within = omega arith;
         long = ap length e ∙ length-sets now (8 * k) b ∙ l;
@@ -75,7 +76,8 @@ begins-then {s} {t} {d} {after} {m} {r} a b le =
     }
 
 -- the same where the first text stands behind others
-pub behind-then : (d s : List ℕ) (at : ℕ) {t d′ after : List ℕ} {m r : ℕ} → Begins (take at d ++ s) m d′ → Placed d′ m t r after → m ≤ length d′ → Begins (take at d ++ (s ++ t)) r after
+pub behind-then : (d s : List ℕ) (at : ℕ) {t d′ after : List ℕ} {m r : ℕ} → Begins (take at d ++ s) m d′ → Placed d′ m t r after → m ≤ length d′
+    → Begins (take at d ++ (s ++ t)) r after
 behind-then d s at {t} {d′} {after} {m} {r} a b le = subst (λ (l : List ℕ). Begins l r after) (append-assoc (take at d) s t) (begins-then a b le)
 
 pub nothing-behind : (d : List ℕ) (at : ℕ) → at ≤ length d → Begins (take at d ++ []) at d

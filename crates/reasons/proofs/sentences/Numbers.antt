@@ -60,7 +60,8 @@ module _ {n rest i : ℕ} {all : List ℕ} (w : Behind n rest i all) where
       let few : length (digitsOf n) ≤ 20 = digits-few 19 n (omega arith) in
       let some : 1 ≤ length (digitsOf rest) = digits-some rest in
       let l : length (digitsOf n) ≡ length (digitsOf rest) + (20 - i) =
-      ap length (w .says) ∙ length-append (digitsOf rest) (drop i all) ∙ ap (λ (k : ℕ). length (digitsOf rest) + k) (length-drop i all ∙ ap (λ (k : ℕ). k - i) (w .long)) in
+      ap length (w .says) ∙ length-append (digitsOf rest) (drop i all)
+      ∙ ap (λ (k : ℕ). length (digitsOf rest) + k) (length-drop i all ∙ ap (λ (k : ℕ). k - i) (w .long)) in
       let b : i ≤ 20 = w .within in
       omega arith
 
@@ -97,7 +98,13 @@ module _ {n rest i : ℕ} {all : List ℕ} (w : Behind n rest i all) where
         ∙ all-written m
 
     pub few-digits : rest < 10 → length (digitsOf n) ≤ 20
-    few-digits m = omega (arith, ap length (sym (all-written m)), length-drop (i - 1) (set all (i - 1) (last rest)), length-set all (i - 1) (last rest), w .long)
+    few-digits m = omega (
+      arith,
+      ap length (sym (all-written m)),
+      length-drop (i - 1) (set all (i - 1) (last rest)),
+      length-set all (i - 1) (last rest),
+      w .long,
+    )
 
 -- two digits at a time
 pub two-written : {n rest i : ℕ} {all : List ℕ} → Behind n rest i all → 1 ≤ i → 1 ≤ i - 1 → 100 ≤ rest
@@ -127,7 +134,9 @@ signed-from (negsuc n) e = let z : _≡_ {A = ℕ} 0 1 = cc in absurd (omega (ar
 not-last : (k n : ℕ) → n < suc k → (n ≡ k → ⊥) → n < k
 not-last k n h d = omega arith
 
-pub text-none : (n : ℕ) → (n ≡ 1 → ⊥) → (n ≡ 2 → ⊥) → (n ≡ 3 → ⊥) → (n ≡ 4 → ⊥) → (n ≡ 5 → ⊥) → (n ≡ 6 → ⊥) → (n ≡ 7 → ⊥) → (n ≡ 8 → ⊥) → (n ≡ 9 → ⊥) → (n ≡ 10 → ⊥) → (n ≡ 11 → ⊥) → (n ≡ 12 → ⊥) → (n ≡ 13 → ⊥) → (n ≡ 14 → ⊥) → (n ≡ 15 → ⊥) → (n ≡ 16 → ⊥) → (n ≡ 17 → ⊥) → (n ≡ 18 → ⊥) → (n ≡ 19 → ⊥) → (n ≡ 20 → ⊥) → (n ≡ 21 → ⊥) → (n ≡ 22 → ⊥) → (n ≡ 23 → ⊥) → (n ≡ 24 → ⊥) → (n ≡ 25 → ⊥) → (n ≡ 26 → ⊥) → (n ≡ 27 → ⊥) → (n ≡ 28 → ⊥) → fixedText n ≡ []
+pub text-none : (n : ℕ) → (n ≡ 1 → ⊥) → (n ≡ 2 → ⊥) → (n ≡ 3 → ⊥) → (n ≡ 4 → ⊥) → (n ≡ 5 → ⊥) → (n ≡ 6 → ⊥) → (n ≡ 7 → ⊥) → (n ≡ 8 → ⊥) → (n ≡ 9 → ⊥)
+    → (n ≡ 10 → ⊥) → (n ≡ 11 → ⊥) → (n ≡ 12 → ⊥) → (n ≡ 13 → ⊥) → (n ≡ 14 → ⊥) → (n ≡ 15 → ⊥) → (n ≡ 16 → ⊥) → (n ≡ 17 → ⊥) → (n ≡ 18 → ⊥) → (n ≡ 19 → ⊥)
+    → (n ≡ 20 → ⊥) → (n ≡ 21 → ⊥) → (n ≡ 22 → ⊥) → (n ≡ 23 → ⊥) → (n ≡ 24 → ⊥) → (n ≡ 25 → ⊥) → (n ≡ 26 → ⊥) → (n ≡ 27 → ⊥) → (n ≡ 28 → ⊥) → fixedText n ≡ []
 unfolding fixedText texts
 text-none n h1 h2 h3 h4 h5 h6 h7 h8 h9 h10 h11 h12 h13 h14 h15 h16 h17 h18 h19 h20 h21 h22 h23 h24 h25 h26 h27 h28 = either (ltb n 29) refl
   where
@@ -135,7 +144,16 @@ text-none n h1 h2 h3 h4 h5 h6 h7 h8 h9 h10 h11 h12 h13 h14 h15 h16 h17 h18 h19 h
     first h = let e : n ≡ 0 = omega arith in rw e
 
     either : (b : Bool) → ltb n 29 ≡ b → fixedText n ≡ []
-    either true e = first (not-last 1 n (not-last 2 n (not-last 3 n (not-last 4 n (not-last 5 n (not-last 6 n (not-last 7 n (not-last 8 n (not-last 9 n (not-last 10 n (not-last 11 n (not-last 12 n (not-last 13 n (not-last 14 n (not-last 15 n (not-last 16 n (not-last 17 n (not-last 18 n (not-last 19 n (not-last 20 n (not-last 21 n (not-last 22 n (not-last 23 n (not-last 24 n (not-last 25 n (not-last 26 n (not-last 27 n (not-last 28 n (ltb-true n 29 e) h28) h27) h26) h25) h24) h23) h22) h21) h20) h19) h18) h17) h16) h15) h14) h13) h12) h11) h10) h9) h8) h7) h6) h5) h4) h3) h2) h1)
+    either true e = first (not-last 1 n
+        (not-last 2 n (not-last 3 n (not-last 4 n
+        (not-last 5 n (not-last 6 n (not-last 7 n
+        (not-last 8 n (not-last 9 n (not-last 10 n
+        (not-last 11 n (not-last 12 n (not-last 13 n
+        (not-last 14 n (not-last 15 n (not-last 16 n
+        (not-last 17 n (not-last 18 n (not-last 19 n
+        (not-last 20 n (not-last 21 n (not-last 22 n
+        (not-last 23 n (not-last 24 n (not-last 25 n (not-last 26 n (not-last 27 n (not-last 28 n (ltb-true n 29 e) h28) h27) h26) h25) h24) h23) h22) h21)
+        h20) h19) h18) h17) h16) h15) h14) h13) h12) h11) h10) h9) h8) h7) h6) h5) h4) h3) h2) h1)
     either false e = List·getD-eq-default texts [] (ltb-false n 29 e)
 
 pub past-28 : (n : ℕ) → 28 < n → fixedText n ≡ []
@@ -151,7 +169,85 @@ Measured k = (getD textLengths k 0 ≡ length (fixedText k)) × (getD textLength
 
 each-measured : EachBelow Measured 29
 unfolding fixedText texts
-each-measured = (((((((((((((((((((((((((((((tt, (refl, leb-true 0 50 refl)), (refl, leb-true 36 50 refl)), (refl, leb-true 20 50 refl)), (refl, leb-true 23 50 refl)), (refl, leb-true 22 50 refl)), (refl, leb-true 20 50 refl)), (refl, leb-true 28 50 refl)), (refl, leb-true 22 50 refl)), (refl, leb-true 32 50 refl)), (refl, leb-true 30 50 refl)), (refl, leb-true 20 50 refl)), (refl, leb-true 32 50 refl)), (refl, leb-true 20 50 refl)), (refl, leb-true 25 50 refl)), (refl, leb-true 28 50 refl)), (refl, leb-true 28 50 refl)), (refl, leb-true 46 50 refl)), (refl, leb-true 34 50 refl)), (refl, leb-true 38 50 refl)), (refl, leb-true 45 50 refl)), (refl, leb-true 34 50 refl)), (refl, leb-true 45 50 refl)), (refl, leb-true 37 50 refl)), (refl, leb-true 50 50 refl)), (refl, leb-true 44 50 refl)), (refl, leb-true 26 50 refl)), (refl, leb-true 38 50 refl)), (refl, leb-true 36 50 refl)), (refl, leb-true 26 50 refl))
+each-measured = (
+  (
+    (
+      (
+        (
+          (
+            (
+              (
+                (
+                  (
+                    (
+                      (
+                        (
+                          (
+                            (
+                              (
+                                (
+                                  (
+                                    (
+                                      (
+                                        (
+                                          (
+                                            (
+                                              (
+                                                (
+                                                  (
+                                                    (((tt, (refl, leb-true 0 50 refl)), (refl, leb-true 36 50 refl)), (refl, leb-true 20 50 refl)),
+                                                    (refl, leb-true 23 50 refl),
+                                                  ),
+                                                  (refl, leb-true 22 50 refl),
+                                                ),
+                                                (refl, leb-true 20 50 refl),
+                                              ),
+                                              (refl, leb-true 28 50 refl),
+                                            ),
+                                            (refl, leb-true 22 50 refl),
+                                          ),
+                                          (refl, leb-true 32 50 refl),
+                                        ),
+                                        (refl, leb-true 30 50 refl),
+                                      ),
+                                      (refl, leb-true 20 50 refl),
+                                    ),
+                                    (refl, leb-true 32 50 refl),
+                                  ),
+                                  (refl, leb-true 20 50 refl),
+                                ),
+                                (refl, leb-true 25 50 refl),
+                              ),
+                              (refl, leb-true 28 50 refl),
+                            ),
+                            (refl, leb-true 28 50 refl),
+                          ),
+                          (refl, leb-true 46 50 refl),
+                        ),
+                        (refl, leb-true 34 50 refl),
+                      ),
+                      (refl, leb-true 38 50 refl),
+                    ),
+                    (refl, leb-true 45 50 refl),
+                  ),
+                  (refl, leb-true 34 50 refl),
+                ),
+                (refl, leb-true 45 50 refl),
+              ),
+              (refl, leb-true 37 50 refl),
+            ),
+            (refl, leb-true 50 50 refl),
+          ),
+          (refl, leb-true 44 50 refl),
+        ),
+        (refl, leb-true 26 50 refl),
+      ),
+      (refl, leb-true 38 50 refl),
+    ),
+    (refl, leb-true 36 50 refl),
+  ),
+  (refl, leb-true 26 50 refl),
+)
 
 pub measured : (k : ℕ) → k ≤ 28 → (getD textLengths k 0 ≡ length (fixedText k)) × (getD textLengths k 0 ≤ 50)
 measured k h = from-each Measured 29 each-measured k (omega arith)

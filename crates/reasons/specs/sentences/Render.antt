@@ -1,5 +1,5 @@
--- The sentence of a reason. Written from document 02, item 13: a fixed text for each number and, where a field is named, the field's word and its value; "floats are
--- shown as 16 hexadecimal digits of their bits, any NaN as 7ff8000000000000". Assumes nothing.
+-- The sentence of a reason. Written from document 02, item 13: a fixed text for each number and, where a field is named, the field's word and its value;
+-- "floats are shown as 16 hexadecimal digits of their bits, any NaN as 7ff8000000000000". Assumes nothing.
 use Prim.Native.Nat.{ℕ, suc}
 use mathlib.Core.List.{List, [], _∷_, _++_}
 use lib.IntN.{ℤ, pos, negsuc}
@@ -7,7 +7,8 @@ use lib.Ieee.{Float, binary64, toBits}
 use Rattle.numerals.specs.digits.Decimal.{digitsOf}
 use Rattle.numerals.specs.digits.Hexadecimal.{hex16}
 use Rattle.reasons.specs.declared.sentences.Named.{Named}
-use Rattle.reasons.specs.declared.sentences.Named.the-variants.{NoField, Year, Month, Day, Hour, Minute, Second, Sum, Fraction, Nanos, FirstPart, SecondPart, Offset, SecondSize, Size, WholeLength}
+use Rattle.reasons.specs.declared.sentences.Named.the-variants.{NoField, Year, Month, Day, Hour, Minute, Second, Sum, Fraction, Nanos, FirstPart}
+use Rattle.reasons.specs.declared.sentences.Named.the-variants.{SecondPart, Offset, SecondSize, Size, WholeLength}
 use Rattle.reasons.specs.declared.sentences.Reason.{Reason}
 use Rattle.reasons.specs.sentences.Texts.{asciiBytes, fixedText}
 

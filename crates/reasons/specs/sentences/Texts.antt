@@ -1,6 +1,6 @@
--- The fixed texts of the sentences, as lists of bytes. Written from document 02, item 13 ("Compose an English sentence for each refusal from fixed parts"), and the
--- refusals' own words in document 01's table and document 02. No text begins another, and no word of a field begins another, so that a sentence says its number and
--- its field in plain English (`read-back` in stamps::reason_laws). Assumes nothing.
+-- The fixed texts of the sentences, as lists of bytes. Written from document 02, item 13 ("Compose an English sentence for each refusal from fixed parts"), and
+-- the refusals' own words in document 01's table and document 02. No text begins another, and no word of a field begins another, so that a sentence says its
+-- number and its field in plain English (`read-back` in stamps::reason_laws). Assumes nothing.
 use Prim.Native.Nat.{ℕ, _-_}
 use Prim.Native.Char.{code}
 use Prim.Native.String.{String}

@@ -1,5 +1,5 @@
-// The texts by number and the fields' words, with blanks behind them, as numbers of eight bytes, the first byte the lowest: of a `match` the compiled code carries 7 numbers
-// at a third of the cost of 50 bytes. The proof of `eights` and `shown` holds each to its words in specs/.
+// The texts by number and the fields' words, with blanks behind them, as numbers of eight bytes, the first byte the lowest: of a `match` the compiled code
+// carries 7 numbers at a third of the cost of 50 bytes. The proof of `eights` and `shown` holds each to its words in specs/.
 use crate::sentences::Word;
 
 // year is before -4799, in a bill 1972

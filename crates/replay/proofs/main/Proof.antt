@@ -52,19 +52,5 @@ returns c = search needs
 pub main-spec : {M : Type 1} → statement M
 main-spec =
     tie.close
-    (tie.spec
-    Inv-loop
-    μ-loop
-    loop-holds
-    slice-aggregate-read-full
-    read-full-requires
-    agrees-requires
-    counted-requires
-    add-counter
-    loop-less
-    loop-again
-    slice-aggregate-say
-    say-requires
-    slice-aggregate-say-2
-    say-requires-2
-    returns)
+    (tie.spec Inv-loop μ-loop loop-holds slice-aggregate-read-full read-full-requires agrees-requires counted-requires add-counter loop-less
+    loop-again slice-aggregate-say say-requires slice-aggregate-say-2 say-requires-2 returns)

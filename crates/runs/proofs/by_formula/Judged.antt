@@ -45,13 +45,15 @@ number-pattern b = go (ltb (b % 0x8000_0000_0000_0000) 0x7ff0_0000_0000_0000) re
 
 -- of two patterns the larger decides for both: where it is a finite number's, so is the other
 module _ (a b : ℕ) where
-  pub smaller-second : ltb (b % 0x8000_0000_0000_0000) (a % 0x8000_0000_0000_0000) ≡ true → finite (ofBits binary64 a) ≡ true → finite (ofBits binary64 b) ≡ true
+  pub smaller-second : ltb (b % 0x8000_0000_0000_0000) (a % 0x8000_0000_0000_0000) ≡ true → finite (ofBits binary64 a) ≡ true
+      → finite (ofBits binary64 b) ≡ true
   smaller-second l h =
       let p : b % 0x8000_0000_0000_0000 < a % 0x8000_0000_0000_0000 = ltb-true (b % 0x8000_0000_0000_0000) (a % 0x8000_0000_0000_0000) l in
       let q : a % 0x8000_0000_0000_0000 < 0x7ff0_0000_0000_0000 = ltb-true (a % 0x8000_0000_0000_0000) 0x7ff0_0000_0000_0000 (number-pattern a ∙ h) in
       sym (number-pattern b) ∙ lt-ltb (b % 0x8000_0000_0000_0000) 0x7ff0_0000_0000_0000 (omega arith)
 
-  pub smaller-first : ltb (b % 0x8000_0000_0000_0000) (a % 0x8000_0000_0000_0000) ≡ false → finite (ofBits binary64 b) ≡ true → finite (ofBits binary64 a) ≡ true
+  pub smaller-first : ltb (b % 0x8000_0000_0000_0000) (a % 0x8000_0000_0000_0000) ≡ false → finite (ofBits binary64 b) ≡ true
+      → finite (ofBits binary64 a) ≡ true
   smaller-first l h =
       let p : a % 0x8000_0000_0000_0000 ≤ b % 0x8000_0000_0000_0000 = ltb-false (b % 0x8000_0000_0000_0000) (a % 0x8000_0000_0000_0000) l in
       let q : b % 0x8000_0000_0000_0000 < 0x7ff0_0000_0000_0000 = ltb-true (b % 0x8000_0000_0000_0000) 0x7ff0_0000_0000_0000 (number-pattern b ∙ h) in
@@ -75,10 +77,12 @@ module _ (f : Float → Float → Float) (js ks : List ℕ) (i a b : ℕ) (ea : 
   read : julian (ofBits binary64 a) (ofBits binary64 b) ≡ stampOf js ks i
   read = stamp-is js ks i a b (ofBits binary64 a) (ofBits binary64 b) ea eb refl refl
 
-  judged : changedStamp f js ks i ≡ cond (finite (ofBits binary64 a) && finite (ofBits binary64 b)) (answer (mapAs f (julian (ofBits binary64 a) (ofBits binary64 b)) (firstIsLarger (julian (ofBits binary64 a) (ofBits binary64 b))))) (refusal 9)
+  judged : changedStamp f js ks i ≡ cond (finite (ofBits binary64 a) && finite (ofBits binary64 b))
+      (answer (mapAs f (julian (ofBits binary64 a) (ofBits binary64 b)) (firstIsLarger (julian (ofBits binary64 a) (ofBits binary64 b))))) (refusal 9)
   judged =
       ap (converted f) (sym read) ∙ first f (julian (ofBits binary64 a) (ofBits binary64 b))
-      ∙ ap (λ (u : JulianDate). cond (finite (ofBits binary64 a) && finite (ofBits binary64 b)) (answer u) (refusal 9)) (map-is f (julian (ofBits binary64 a) (ofBits binary64 b)))
+      ∙ ap (λ (u : JulianDate). cond (finite (ofBits binary64 a) && finite (ofBits binary64 b)) (answer u) (refusal 9))
+      (map-is f (julian (ofBits binary64 a) (ofBits binary64 b)))
 
   pub not-finite-first : finite (ofBits binary64 a) ≡ false → changedStamp f js ks i ≡ refusal 9
   not-finite-first h = rw h at judged
@@ -112,7 +116,8 @@ module _ (earlier : Bool) (js ks os : List ℕ) (i : ℕ) where
   turned-is true days = refl
   turned-is false days = refl
 
-  pub offset-moves : (c : ℕ) (days : Float) → c ≡ u64At os (8 * i) → finite (ofBits binary64 c) ≡ true → days ≡ cond earlier (neg (daysOf (ofBits binary64 c))) (daysOf (ofBits binary64 c))
+  pub offset-moves : (c : ℕ) (days : Float) → c ≡ u64At os (8 * i) → finite (ofBits binary64 c) ≡ true
+      → days ≡ cond earlier (neg (daysOf (ofBits binary64 c))) (daysOf (ofBits binary64 c))
       → changedStamp (changeOf 3 days) js ks i ≡ offsetStamp earlier js ks os i
   offset-moves c days e h q =
       let s = ofBits binary64 c in
@@ -122,7 +127,8 @@ module _ (earlier : Bool) (js ks os : List ℕ) (i : ℕ) where
       ∙ sym (rw h at (first-by (cond earlier minus plus) s (stampOf js ks i)))
       ∙ ap (λ (n : ℕ). convertedBy (cond earlier minus plus) (ofBits binary64 n) (stampOf js ks i)) e
 
-  pub offset-not-finite : (c : ℕ) → c ≡ u64At os (8 * i) → finite (ofBits binary64 c) ≡ false → offsetStamp earlier js ks os i ≡ refusal (numberOfNotFiniteAt js ks i)
+  pub offset-not-finite : (c : ℕ) → c ≡ u64At os (8 * i) → finite (ofBits binary64 c) ≡ false
+      → offsetStamp earlier js ks os i ≡ refusal (numberOfNotFiniteAt js ks i)
   unfolding numberOfNotFiniteAt stampOf
   offset-not-finite c e h =
       ap (λ (n : ℕ). convertedBy (cond earlier minus plus) (ofBits binary64 n) (stampOf js ks i)) (sym e)

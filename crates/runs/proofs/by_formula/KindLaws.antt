@@ -1,7 +1,7 @@
 -- The kind of a formula is that of the way between its two scales. Assumes nothing.
 use Prim.Native.Nat.{ℕ}
-use mathlib.Core.Path.{_≡_, refl, sym, subst, _∙_}
-use mathlib.Core.Bool.{Bool, true, false, cond, _&&_, _||_, true≢false}
+use mathlib.Core.Path.{_≡_, refl}
+use mathlib.Core.Bool.{Bool, true, false, _&&_, _||_, true≢false}
 use lib.Dec.{eqb}
 use lib.Ieee.{Float, sub, neg}
 use borrow.Author.Tests.{eqb-true}
@@ -72,7 +72,8 @@ module _ (days : Float) where
   tdb-to-tt = record { answers = λ s d. refl; refuses = λ a b c d e f. refl }
 
 -- ---- two scales of which a test said which they are
-pub found : {from to : ℕ} (a b kind : ℕ) {r : ℕ} {days x : Float} → (eqb from a && eqb to b) ≡ true → r ≡ kind → x ≡ days → IsFormula a b kind days → IsFormula from to r x
+pub found : {from to : ℕ} (a b kind : ℕ) {r : ℕ} {days x : Float} → (eqb from a && eqb to b) ≡ true → r ≡ kind → x ≡ days → IsFormula a b kind days
+    → IsFormula from to r x
 found {from} {to} a b kind h e q is =
     let f : from ≡ a = eqb-true from a (and-left (eqb from a) (eqb to b) h) in
     let g : to ≡ b = eqb-true to b (and-right (eqb from a) (eqb to b) h) in
@@ -80,13 +81,16 @@ found {from} {to} a b kind h e q is =
 
 -- ---- no pair at all
 module _ (from to : ℕ) (days : Float) (h : needsNone from to ≡ false) where
-  pub no-formula : (eqb from 1 && eqb to 2) ≡ false → (eqb from 2 && eqb to 1) ≡ false → (eqb from 2 && eqb to 3) ≡ false → (eqb from 3 && eqb to 2) ≡ false → (eqb from 3 && eqb to 7) ≡ false → (eqb from 7 && eqb to 3) ≡ false
+  pub no-formula : (eqb from 1 && eqb to 2) ≡ false → (eqb from 2 && eqb to 1) ≡ false → (eqb from 2 && eqb to 3) ≡ false → (eqb from 3 && eqb to 2) ≡ false
+      → (eqb from 3 && eqb to 7) ≡ false → (eqb from 7 && eqb to 3) ≡ false
       → IsFormula from to 0 days
   unfolding formulaOf byFormula lengthsRefusal formulaRefusal answerOfKind kindRefusal onward needsNone
   no-formula p q r s t u =
-      go (eqb from 4 && eqb to 1) (eqb from 1 && eqb to 4) (eqb from 1 && eqb to 3) (eqb from 3 && eqb to 1) (eqb from 3 && eqb to 5) (eqb from 5 && eqb to 3) (eqb from 6 && eqb to 7) (eqb from 7 && eqb to 6) refl refl refl refl refl refl refl refl h
+      go (eqb from 4 && eqb to 1) (eqb from 1 && eqb to 4) (eqb from 1 && eqb to 3) (eqb from 3 && eqb to 1) (eqb from 3 && eqb to 5) (eqb from 5 && eqb to 3)
+      (eqb from 6 && eqb to 7) (eqb from 7 && eqb to 6) refl refl refl refl refl refl refl refl h
     where
-      go : (c1 c2 c3 c4 c5 c6 c7 c8 : Bool) → (eqb from 4 && eqb to 1) ≡ c1 → (eqb from 1 && eqb to 4) ≡ c2 → (eqb from 1 && eqb to 3) ≡ c3 → (eqb from 3 && eqb to 1) ≡ c4
+      go : (c1 c2 c3 c4 c5 c6 c7 c8 : Bool) → (eqb from 4 && eqb to 1) ≡ c1 → (eqb from 1 && eqb to 4) ≡ c2 → (eqb from 1 && eqb to 3) ≡ c3
+          → (eqb from 3 && eqb to 1) ≡ c4
           → (eqb from 3 && eqb to 5) ≡ c5 → (eqb from 5 && eqb to 3) ≡ c6 → (eqb from 6 && eqb to 7) ≡ c7 → (eqb from 7 && eqb to 6) ≡ c8
           → (c1 || (c2 || (c3 || (c4 || (c5 || (c6 || (c7 || c8))))))) ≡ false → IsFormula from to 0 days
       go false false false false false false false false e1 e2 e3 e4 e5 e6 e7 e8 z = record {

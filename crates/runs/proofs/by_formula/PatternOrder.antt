@@ -1,7 +1,7 @@
 -- Of two finite numbers the larger in size is the one with the larger pattern, without the sign's bit. Assumes nothing.
-use Prim.Native.Nat.{ℕ, zero, suc, _+_, _*_, _/_, _%_, _^_, _<_, _≤_}
+use Prim.Native.Nat.{ℕ, zero, suc, _+_, _*_, _%_, _^_, _<_, _≤_}
 use native.Mathlib.Omega.{arith}
-use native.Mathlib.Nat.{mod-lt, add-mul, suc-mul, mul-le-mul-right, pow-succ'}
+use native.Mathlib.Nat.{add-mul, suc-mul, mul-le-mul-right, pow-succ'}
 use mathlib.Core.Path.{_≡_, refl, sym, ap, subst, _∙_}
 use mathlib.Core.Bool.{Bool, true, false, not}
 use lib.Dec.{eqb, ltb}
@@ -109,7 +109,8 @@ module _ (a b : ℕ) (ma : expo a ≤ 2047) (mb : expo b ≤ 2047) (ha : finite 
   by-value =
       let e : worth (expo b) (digits b) + 0 ≡ worth (expo b) (digits b) = omega arith in
       let f : worth (expo a) (digits a) + 0 ≡ worth (expo a) (digits a) = omega arith in
-      lt-val (pow-pos 1074) (size-value (ofBits binary64 b) (sign b) _ (2 ^ 1074) (value b (not-ones b mb hb))) (size-value (ofBits binary64 a) (sign a) _ (2 ^ 1074) (value a (not-ones a ma ha)))
+      lt-val (pow-pos 1074) (size-value (ofBits binary64 b) (sign b) _ (2 ^ 1074) (value b (not-ones b mb hb)))
+      (size-value (ofBits binary64 a) (sign a) _ (2 ^ 1074) (value a (not-ones a ma ha)))
       ∙ (λ k. ltb (e k) (f k))
 
   pub larger-pattern : ltb (b % 0x8000_0000_0000_0000) (a % 0x8000_0000_0000_0000) ≡ lt (abs (ofBits binary64 b)) (abs (ofBits binary64 a))

@@ -41,18 +41,24 @@ pub put-answered : (o : Outcome JulianDate) (d : JulianDate) (i : ℕ) (out1 out
 unfolding numberByte withPart
 put-answered o d i out1 out2 out1' out2' e f g = rw e (record { number = refl; first = f; second = g })
 
-pub put-same : {o o' : Outcome JulianDate} {i r : ℕ} {out1 out2 out1' out2' : List ℕ} → o ≡ o' → StampPut o i out1 out2 r out1' out2' → StampPut o' i out1 out2 r out1' out2'
-put-same {i = i} {r = r} {out1 = out1} {out2 = out2} {out1' = out1'} {out2' = out2'} e s = subst (λ (x : Outcome JulianDate). StampPut x i out1 out2 r out1' out2') e s
+pub put-same : {o o' : Outcome JulianDate} {i r : ℕ} {out1 out2 out1' out2' : List ℕ} → o ≡ o' → StampPut o i out1 out2 r out1' out2'
+    → StampPut o' i out1 out2 r out1' out2'
+put-same {i = i} {r = r} {out1 = out1} {out2 = out2} {out1' = out1'} {out2' = out2'} e s =
+    subst (λ (x : Outcome JulianDate). StampPut x i out1 out2 r out1' out2') e s
 
 -- the same with the patterns that are put
-pub put-patterns : (o : Outcome JulianDate) (d : JulianDate) (i : ℕ) (out1 out2 out1' out2' : List ℕ) (a b : ℕ) → o ≡ answer d → a ≡ toBits binary64 (d .jd1) → b ≡ toBits binary64 (d .jd2)
+pub put-patterns : (o : Outcome JulianDate) (d : JulianDate) (i : ℕ) (out1 out2 out1' out2' : List ℕ) (a b : ℕ) → o ≡ answer d → a ≡ toBits binary64 (d .jd1)
+    → b ≡ toBits binary64 (d .jd2)
     → out1' ≡ sets out1 (8 * i) (eightBytes a) → out2' ≡ sets out2 (8 * i) (eightBytes b)
     → StampPut o i out1 out2 0 out1' out2'
-put-patterns o d i out1 out2 out1' out2' a b e p q f g = put-answered o d i out1 out2 out1' out2' e (f ∙ ap (λ (n : ℕ). sets out1 (8 * i) (eightBytes n)) p) (g ∙ ap (λ (n : ℕ). sets out2 (8 * i) (eightBytes n)) q)
+put-patterns o d i out1 out2 out1' out2' a b e p q f g =
+    put-answered o d i out1 out2 out1' out2' e (f ∙ ap (λ (n : ℕ). sets out1 (8 * i) (eightBytes n)) p) (g ∙ ap (λ (n : ℕ). sets out2 (8 * i) (eightBytes n)) q)
 
 -- ---- a run
-pub run-same : {f g : ℕ → Outcome JulianDate} {n r : ℕ} {out1 out2 numbers out1' out2' numbers' : List ℕ} → ((i : ℕ) → f i ≡ g i) → RunPut f n out1 out2 numbers r out1' out2' numbers' → RunPut g n out1 out2 numbers r out1' out2' numbers'
-run-same {n = n} {r = r} {out1 = out1} {out2 = out2} {numbers = numbers} {out1' = out1'} {out2' = out2'} {numbers' = numbers'} e p = subst (λ (h : ℕ → Outcome JulianDate). RunPut h n out1 out2 numbers r out1' out2' numbers') (λ k i. e i k) p
+pub run-same : {f g : ℕ → Outcome JulianDate} {n r : ℕ} {out1 out2 numbers out1' out2' numbers' : List ℕ} → ((i : ℕ) → f i ≡ g i)
+    → RunPut f n out1 out2 numbers r out1' out2' numbers' → RunPut g n out1 out2 numbers r out1' out2' numbers'
+run-same {n = n} {r = r} {out1 = out1} {out2 = out2} {numbers = numbers} {out1' = out1'} {out2' = out2'} {numbers' = numbers'} e p =
+    subst (λ (h : ℕ → Outcome JulianDate). RunPut h n out1 out2 numbers r out1' out2' numbers') (λ k i. e i k) p
 
 one-at-most : (b : Bool) → cond b 0 1 ≤ 1
 one-at-most true = omega arith

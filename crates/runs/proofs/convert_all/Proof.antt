@@ -18,7 +18,8 @@ abbrev μ-loop : tie.MeasureT-loop
 loop-holds : tie.Need-loop-holds Inv-loop μ-loop
 loop-holds c =
     let a = c .before .before .before .before .before .args in
-    putting-starts (stampAnswer (rowsIn (a .size) (a .months .now) (a .seconds .now)) (a .from) (a .to) (a .jd1s .now) (a .jd2s .now)) (a .n) (a .out1 .now) (a .out2 .now) (a .numbers .now)
+    putting-starts (stampAnswer (rowsIn (a .size) (a .months .now) (a .seconds .now)) (a .from) (a .to) (a .jd1s .now) (a .jd2s .now)) (a .n) (a .out1 .now)
+    (a .out2 .now) (a .numbers .now)
 
 convert-stamp-requires : tie.Need-convert-stamp-requires Inv-loop μ-loop
 convert-stamp-requires c κs =
@@ -26,15 +27,39 @@ convert-stamp-requires c κs =
     let s = c .before .before .before .before .before .before .before .before .before in
     let a = s .args in
     let h = c .before .before .loop-test .taken in
-    let p = s .pre in
-    ((omega (arith, h, p .first), omega (arith, h, p .second)), (omega (arith, h, p .places1, len1 (stampAnswer (rowsIn (a .size) (a .months .now) (a .seconds .now)) (a .from) (a .to) (a .jd1s .now) (a .jd2s .now)) (a .n) (a .out1 .now) (a .out2 .now) (a .numbers .now) (l .loop .out1) (l .loop .out2) (l .loop .numbers) (l .loop .refused) (l .loop .i) (l .loop .inv)), omega (arith, h, p .places2, len2 (stampAnswer (rowsIn (a .size) (a .months .now) (a .seconds .now)) (a .from) (a .to) (a .jd1s .now) (a .jd2s .now)) (a .n) (a .out1 .now) (a .out2 .now) (a .numbers .now) (l .loop .out1) (l .loop .out2) (l .loop .numbers) (l .loop .refused) (l .loop .i) (l .loop .inv))))
+    let p = s .pre in (
+      (omega (arith, h, p .first), omega (arith, h, p .second)),
+      (
+        omega (
+          arith,
+          h,
+          p .places1,
+          len1 (stampAnswer (rowsIn (a .size) (a .months .now) (a .seconds .now)) (a .from) (a .to) (a .jd1s .now) (a .jd2s .now))
+              (a .n) (a .out1 .now) (a .out2 .now) (a .numbers .now) (l .loop .out1) (l .loop .out2) (l .loop .numbers) (l .loop .refused) (l .loop .i)
+              (l .loop .inv),
+        ),
+        omega (
+          arith,
+          h,
+          p .places2,
+          len2 (stampAnswer (rowsIn (a .size) (a .months .now) (a .seconds .now)) (a .from) (a .to) (a .jd1s .now) (a .jd2s .now)) (a .n) (a .out1 .now)
+              (a .out2 .now) (a .numbers .now) (l .loop .out1) (l .loop .out2) (l .loop .numbers) (l .loop .refused) (l .loop .i) (l .loop .inv),
+        ),
+      ),
+    )
 
 slice-write-numbers : tie.Need-slice-write-numbers Inv-loop μ-loop
 slice-write-numbers c =
     let l = c .before .before .before .before .before .before .before .before in
     let s = c .before .before .before .before .before .before .before .before .before .before .before .before .before .before in
     let a = s .args in
-    omega (arith, c .before .before .before .before .before .before .before .loop-test .taken, s .pre .bytes, len3 (stampAnswer (rowsIn (a .size) (a .months .now) (a .seconds .now)) (a .from) (a .to) (a .jd1s .now) (a .jd2s .now)) (a .n) (a .out1 .now) (a .out2 .now) (a .numbers .now) (l .loop .out1) (l .loop .out2) (l .loop .numbers) (l .loop .refused) (l .loop .i) (l .loop .inv))
+    omega (
+      arith,
+      c .before .before .before .before .before .before .before .loop-test .taken,
+      s .pre .bytes,
+      len3 (stampAnswer (rowsIn (a .size) (a .months .now) (a .seconds .now)) (a .from) (a .to) (a .jd1s .now) (a .jd2s .now)) (a .n) (a .out1 .now)
+          (a .out2 .now) (a .numbers .now) (l .loop .out1) (l .loop .out2) (l .loop .numbers) (l .loop .refused) (l .loop .i) (l .loop .inv),
+    )
 
 one-if-refused-requires : tie.Need-one-if-refused-requires Inv-loop μ-loop
 one-if-refused-requires c κs = search needs
@@ -44,7 +69,16 @@ add-refused c =
     let l = c .before .before .before .before .before .before .before .before .before in
     let s = c .before .before .before .before .before .before .before .before .before .before .before .before .before .before .before in
     let a = s .args in
-    record { fits = omega (arith, c .before .before .before .before .before .before .before .before .loop-test .taken, few (stampAnswer (rowsIn (a .size) (a .months .now) (a .seconds .now)) (a .from) (a .to) (a .jd1s .now) (a .jd2s .now)) (a .n) (a .out1 .now) (a .out2 .now) (a .numbers .now) (l .loop .out1) (l .loop .out2) (l .loop .numbers) (l .loop .refused) (l .loop .i) (l .loop .inv), s .pre .first, c .one-if-refused .ensures .1) }
+    record {
+      fits = omega (
+        arith,
+        c .before .before .before .before .before .before .before .before .loop-test .taken,
+        few (stampAnswer (rowsIn (a .size) (a .months .now) (a .seconds .now)) (a .from) (a .to) (a .jd1s .now) (a .jd2s .now)) (a .n) (a .out1 .now)
+            (a .out2 .now) (a .numbers .now) (l .loop .out1) (l .loop .out2) (l .loop .numbers) (l .loop .refused) (l .loop .i) (l .loop .inv),
+        s .pre .first,
+        c .one-if-refused .ensures .1,
+      );
+    }
 
 add-i : tie.Need-add-i Inv-loop μ-loop
 add-i c =
@@ -59,51 +93,46 @@ loop-again c =
     let l = c .before .before .before .before .before .before .before .before .before in
     let s = c .before .before .before .before .before .before .before .before .before .before .before .before .before .before .before in
     let a = s .args in
-    putting-goes (stampAnswer (rowsIn (a .size) (a .months .now) (a .seconds .now)) (a .from) (a .to) (a .jd1s .now) (a .jd2s .now)) (a .n) (a .out1 .now) (a .out2 .now) (a .numbers .now) (l .loop .out1) (l .loop .out2) (l .loop .numbers) (l .loop .refused) (l .loop .i) (l .loop .inv) _ _ _ _ (c .before .before .before .before .before .before .before .before .loop-test .taken) (c .before .before .before .before .before .convert-stamp .ensures) (c .one-if-refused .ensures .0)
+    putting-goes (stampAnswer (rowsIn (a .size) (a .months .now) (a .seconds .now)) (a .from) (a .to) (a .jd1s .now) (a .jd2s .now)) (a .n) (a .out1 .now)
+    (a .out2 .now) (a .numbers .now) (l .loop .out1) (l .loop .out2) (l .loop .numbers) (l .loop .refused) (l .loop .i) (l .loop .inv) _ _ _ _
+    (c .before .before .before .before .before .before .before .before .loop-test .taken)
+    (c .before .before .before .before .before .convert-stamp .ensures) (c .one-if-refused .ensures .0)
 
 same-length : tie.Need-same-length Inv-loop μ-loop
 same-length c =
     let l = c .before in
     let s = c .before .before .before .before .before .before .before in
     let a = s .args in
-    len1 (stampAnswer (rowsIn (a .size) (a .months .now) (a .seconds .now)) (a .from) (a .to) (a .jd1s .now) (a .jd2s .now)) (a .n) (a .out1 .now) (a .out2 .now) (a .numbers .now) (l .loop .out1) (l .loop .out2) (l .loop .numbers) (l .loop .refused) (l .loop .i) (l .loop .inv)
+    len1 (stampAnswer (rowsIn (a .size) (a .months .now) (a .seconds .now)) (a .from) (a .to) (a .jd1s .now) (a .jd2s .now)) (a .n) (a .out1 .now)
+    (a .out2 .now) (a .numbers .now) (l .loop .out1) (l .loop .out2) (l .loop .numbers) (l .loop .refused) (l .loop .i) (l .loop .inv)
 
 same-length-2 : tie.Need-same-length-2 Inv-loop μ-loop
 same-length-2 c =
     let l = c .before in
     let s = c .before .before .before .before .before .before .before in
     let a = s .args in
-    len2 (stampAnswer (rowsIn (a .size) (a .months .now) (a .seconds .now)) (a .from) (a .to) (a .jd1s .now) (a .jd2s .now)) (a .n) (a .out1 .now) (a .out2 .now) (a .numbers .now) (l .loop .out1) (l .loop .out2) (l .loop .numbers) (l .loop .refused) (l .loop .i) (l .loop .inv)
+    len2 (stampAnswer (rowsIn (a .size) (a .months .now) (a .seconds .now)) (a .from) (a .to) (a .jd1s .now) (a .jd2s .now)) (a .n) (a .out1 .now)
+    (a .out2 .now) (a .numbers .now) (l .loop .out1) (l .loop .out2) (l .loop .numbers) (l .loop .refused) (l .loop .i) (l .loop .inv)
 
 same-length-3 : tie.Need-same-length-3 Inv-loop μ-loop
 same-length-3 c =
     let l = c .before in
     let s = c .before .before .before .before .before .before .before in
     let a = s .args in
-    len3 (stampAnswer (rowsIn (a .size) (a .months .now) (a .seconds .now)) (a .from) (a .to) (a .jd1s .now) (a .jd2s .now)) (a .n) (a .out1 .now) (a .out2 .now) (a .numbers .now) (l .loop .out1) (l .loop .out2) (l .loop .numbers) (l .loop .refused) (l .loop .i) (l .loop .inv)
+    len3 (stampAnswer (rowsIn (a .size) (a .months .now) (a .seconds .now)) (a .from) (a .to) (a .jd1s .now) (a .jd2s .now)) (a .n) (a .out1 .now)
+    (a .out2 .now) (a .numbers .now) (l .loop .out1) (l .loop .out2) (l .loop .numbers) (l .loop .refused) (l .loop .i) (l .loop .inv)
 
 returns : tie.Need-returns Inv-loop μ-loop
 returns c =
     let l = c .before in
     let s = c .before .before .before .before .before .before .before in
     let a = s .args in
-    putting-ends (stampAnswer (rowsIn (a .size) (a .months .now) (a .seconds .now)) (a .from) (a .to) (a .jd1s .now) (a .jd2s .now)) (a .n) (a .out1 .now) (a .out2 .now) (a .numbers .now) (l .loop .out1) (l .loop .out2) (l .loop .numbers) (l .loop .refused) (l .loop .i) (l .loop .inv) (omega (arith, c .loop-test .left))
+    putting-ends (stampAnswer (rowsIn (a .size) (a .months .now) (a .seconds .now)) (a .from) (a .to) (a .jd1s .now) (a .jd2s .now)) (a .n) (a .out1 .now)
+    (a .out2 .now) (a .numbers .now) (l .loop .out1) (l .loop .out2) (l .loop .numbers) (l .loop .refused) (l .loop .i) (l .loop .inv)
+    (omega (arith, c .loop-test .left))
 
 pub convert-all-spec : {M : Type 1} → statement M
 convert-all-spec =
     tie.close
-    (tie.spec
-    Inv-loop
-    μ-loop
-    loop-holds
-    convert-stamp-requires
-    slice-write-numbers
-    one-if-refused-requires
-    add-refused
-    add-i
-    loop-less
-    loop-again
-    same-length
-    same-length-2
-    same-length-3
-    returns)
+    (tie.spec Inv-loop μ-loop loop-holds convert-stamp-requires slice-write-numbers one-if-refused-requires add-refused add-i loop-less loop-again
+    same-length same-length-2 same-length-3 returns)

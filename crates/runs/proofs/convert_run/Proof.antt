@@ -1,5 +1,5 @@
 -- `runs::convert_run` meets its contract: the table is tested, and its rows are read. Assumes nothing.
-use mathlib.Core.Path.{_≡_, refl, sym, ap, subst, _∙_}
+use mathlib.Core.Path.{ap, _∙_}
 use mathlib.Core.List.{List}
 use Rattle.leap_table.specs.rows.Table.{Row}
 use Rattle.leap_table.specs.rows.Announced.{rowsOf, tableOf}
@@ -14,26 +14,24 @@ returns : tie.Need-returns
 returns c =
     let a = c .before .before .before .before .before .before .before .args in
     let q = c .before in
-    table-refused (tableOf (a .t5)) (rowsOf (a .t5)) (q .table-refusal .result) (q .table-refusal .ensures) (a .from) (a .to) (a .jd1s .now) (a .jd2s .now) (a .out1 .now) (a .out2 .now) (a .numbers .now) (c .if1 .taken)
+    table-refused (tableOf (a .t5)) (rowsOf (a .t5)) (q .table-refusal .result) (q .table-refusal .ensures) (a .from) (a .to) (a .jd1s .now) (a .jd2s .now)
+    (a .out1 .now) (a .out2 .now) (a .numbers .now) (c .if1 .taken)
 
 returns-2 : tie.Need-returns-2
 returns-2 c =
-    let a = c .before .before .before .before .before .before .before .before .before .before .before .before .before .before .before .before .before .before .before .before .before .args in
+    let a = c .before .before .before .before .before .before .before .before .before .before .before .before .before .before .before .before .before .before
+    .before .before .before .args in
     let q = c .before .before .before .before .before .before .before .before .before .before .before .before .before .before .before in
     let z = c .before .before .before .before .before .before .before .before .before .before .before .before .before in
     c .before .before .before .before .before .before .convert-run-by-lent .ensures
-    ∙ ap (λ (l : List Row). runBy l (a .from) (a .to) (a .jd1s .now) (a .jd2s .now) (a .out1 .now) (a .out2 .now) (a .numbers .now)) (rows-in (a .t5) (z .size-of .result) (z .size-of .ensures))
-    ∙ table-taken (tableOf (a .t5)) (rowsOf (a .t5)) (q .table-refusal .result) (q .table-refusal .ensures) (a .from) (a .to) (a .jd1s .now) (a .jd2s .now) (a .out1 .now) (a .out2 .now) (a .numbers .now) (c .before .before .before .before .before .before .before .before .before .before .before .before .before .before .if1 .left)
+    ∙ ap (λ (l : List Row). runBy l (a .from) (a .to) (a .jd1s .now) (a .jd2s .now) (a .out1 .now) (a .out2 .now) (a .numbers .now))
+    (rows-in (a .t5) (z .size-of .result) (z .size-of .ensures))
+    ∙ table-taken (tableOf (a .t5)) (rowsOf (a .t5)) (q .table-refusal .result) (q .table-refusal .ensures) (a .from) (a .to) (a .jd1s .now) (a .jd2s .now)
+    (a .out1 .now) (a .out2 .now) (a .numbers .now)
+    (c .before .before .before .before .before .before .before .before .before .before .before .before .before .before .if1 .left)
 
 pub convert-run-spec : {M : Type 1} → statement M
 convert-run-spec =
     tie.close
-    (tie.spec
-    (λ c κs. search needs)
-    returns
-    (λ c κs. search needs)
-    (λ c κs. search needs)
-    (λ c. search needs)
-    (λ c. search needs)
-    (λ c. search needs)
+    (tie.spec (λ c κs. search needs) returns (λ c κs. search needs) (λ c κs. search needs) (λ c. search needs) (λ c. search needs) (λ c. search needs)
     returns-2)

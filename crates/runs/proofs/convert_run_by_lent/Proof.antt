@@ -11,42 +11,39 @@ returns : tie.Need-returns
 returns c =
     let a = c .before .before .before .before .before .before .before .args in
     let q = c .before .run-refusal in
-    run-refused (rowsIn (a .size) (a .months .now) (a .seconds .now)) (a .from) (a .to) (a .jd1s .now) (a .jd2s .now) (a .out1 .now) (a .out2 .now) (a .numbers .now) (q .result) (q .ensures) (c .if1 .taken)
+    run-refused (rowsIn (a .size) (a .months .now) (a .seconds .now)) (a .from) (a .to) (a .jd1s .now) (a .jd2s .now) (a .out1 .now) (a .out2 .now)
+    (a .numbers .now) (q .result) (q .ensures) (c .if1 .taken)
 
 returns-2 : tie.Need-returns-2
 returns-2 c =
-    let a = c .before .before .before .before .before .before .before .before .before .before .before .before .before .before .before .before .before .before .before .before .args in
-    c .before .before .before .before .before .before .formula-run .ensures ∙ short-run (rowsIn (a .size) (a .months .now) (a .seconds .now)) (a .from) (a .to) (sym (c .before .before .before .before .before .before .before .before .before .before .before .before .is-short .ensures) ∙ c .before .before .before .before .before .before .before .before .before .before .before .if2 .taken) (a .jd1s .now) (a .jd2s .now) _ (a .out1 .now) (a .out2 .now) (a .numbers .now) refl
+    let a = c .before .before .before .before .before .before .before .before .before .before .before .before .before .before .before .before .before .before
+    .before .before .args in
+    c .before .before .before .before .before .before .formula-run .ensures
+    ∙ short-run (rowsIn (a .size) (a .months .now) (a .seconds .now)) (a .from) (a .to)
+    (sym (c .before .before .before .before .before .before .before .before .before .before .before .before .is-short .ensures)
+    ∙ c .before .before .before .before .before .before .before .before .before .before .before .if2 .taken) (a .jd1s .now) (a .jd2s .now) _
+    (a .out1 .now) (a .out2 .now) (a .numbers .now) refl
 
 convert-all-requires : tie.Need-convert-all-requires
 convert-all-requires c κs =
     let a = c .before .before .before .before .before .before .before .before .before .before .before .before .args in
     let q = c .before .before .before .before .before .before .run-refusal in
-    roomy (rowsIn (a .size) (a .months .now) (a .seconds .now)) (a .from) (a .to) (a .jd1s .now) (a .jd2s .now) (a .out1 .now) (a .out2 .now) (a .numbers .now) (q .result) (q .ensures) (c .before .before .before .before .before .if1 .left)
+    roomy (rowsIn (a .size) (a .months .now) (a .seconds .now)) (a .from) (a .to) (a .jd1s .now) (a .jd2s .now) (a .out1 .now) (a .out2 .now)
+    (a .numbers .now) (q .result) (q .ensures) (c .before .before .before .before .before .if1 .left)
 
 returns-3 : tie.Need-returns-3
 returns-3 c =
-    let a = c .before .before .before .before .before .before .before .before .before .before .before .before .before .before .before .before .before .before .before .args in
+    let a = c .before .before .before .before .before .before .before .before .before .before .before .before .before .before .before .before .before .before
+    .before .args in
     let q = c .before .before .before .before .before .before .before .before .before .before .before .before .before .run-refusal in
-    run-ends (rowsIn (a .size) (a .months .now) (a .seconds .now)) (a .from) (a .to) (a .jd1s .now) (a .jd2s .now) (a .out1 .now) (a .out2 .now) (a .numbers .now) (q .result) (q .ensures) (c .before .before .before .before .before .before .before .before .before .before .before .before .if1 .left) _ _ _ _ (c .before .before .before .before .before .before .convert-all .ensures)
+    run-ends (rowsIn (a .size) (a .months .now) (a .seconds .now)) (a .from) (a .to) (a .jd1s .now) (a .jd2s .now) (a .out1 .now) (a .out2 .now)
+    (a .numbers .now) (q .result) (q .ensures)
+    (c .before .before .before .before .before .before .before .before .before .before .before .before .if1 .left) _ _ _ _
+    (c .before .before .before .before .before .before .convert-all .ensures)
 
 pub convert-run-by-lent-spec : {M : Type 1} → statement M
 convert-run-by-lent-spec =
     tie.close
-    (tie.spec
-    (λ c κs. search needs)
-    returns
-    (λ c κs. search needs)
-    (λ c. search needs)
-    (λ c. search needs)
-    (λ c. search needs)
-    (λ c κs. search needs)
-    (λ c. search needs)
-    (λ c. search needs)
-    (λ c. search needs)
-    returns-2
-    convert-all-requires
-    (λ c. search needs)
-    (λ c. search needs)
-    (λ c. search needs)
-    returns-3)
+    (tie.spec (λ c κs. search needs) returns (λ c κs. search needs) (λ c. search needs) (λ c. search needs) (λ c. search needs) (λ c κs. search needs)
+    (λ c. search needs) (λ c. search needs) (λ c. search needs) returns-2 convert-all-requires (λ c. search needs) (λ c. search needs)
+    (λ c. search needs) returns-3)

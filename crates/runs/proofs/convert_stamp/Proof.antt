@@ -12,16 +12,11 @@ returns c =
     let a = c .before .before .before .before .before .before .before .before .before .before .before .before .before .args in
     let k = c .before .before .before .before .before .before .before in
     put-same
-    (k .convert-by-lent .ensures ∙ ap (wayOf (rowsIn (a .size) (a .months .now) (a .seconds .now)) (a .from) (a .to)) (c .before .before .before .before .before .before .before .before .stamp-at .ensures))
+    (k .convert-by-lent .ensures ∙ ap (wayOf (rowsIn (a .size) (a .months .now) (a .seconds .now)) (a .from) (a .to))
+    (c .before .before .before .before .before .before .before .before .stamp-at .ensures))
     (c .before .before .before .before .put-answer .ensures)
 
 pub convert-stamp-spec : {M : Type 1} → statement M
 convert-stamp-spec =
     tie.close
-    (tie.spec
-    (λ c κs. search needs)
-    (λ c κs. search needs)
-    (λ c κs. search needs)
-    (λ c. search needs)
-    (λ c. search needs)
-    returns)
+    (tie.spec (λ c κs. search needs) (λ c κs. search needs) (λ c κs. search needs) (λ c. search needs) (λ c. search needs) returns)

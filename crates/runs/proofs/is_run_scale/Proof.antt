@@ -26,13 +26,23 @@ returns-4 : tie.Need-returns-4
 unfolding isRunScale
 returns-4 c =
     let n = c .before .before .before .before .args .n in
-    rw (ne-eqb n 0 (c .before .before .before .if1 .left), ne-eqb n 1 (c .before .before .if2 .left), ne-eqb n 3 (c .before .if3 .left), eq-eqb n 4 (c .if4 .taken))
+    rw (
+      ne-eqb n 0 (c .before .before .before .if1 .left),
+      ne-eqb n 1 (c .before .before .if2 .left),
+      ne-eqb n 3 (c .before .if3 .left),
+      eq-eqb n 4 (c .if4 .taken),
+    )
 
 returns-5 : tie.Need-returns-5
 unfolding isRunScale
 returns-5 c =
     let n = c .before .before .before .before .args .n in
-    rw (ne-eqb n 0 (c .before .before .before .if1 .left), ne-eqb n 1 (c .before .before .if2 .left), ne-eqb n 3 (c .before .if3 .left), ne-eqb n 4 (c .if4 .left))
+    rw (
+      ne-eqb n 0 (c .before .before .before .if1 .left),
+      ne-eqb n 1 (c .before .before .if2 .left),
+      ne-eqb n 3 (c .before .if3 .left),
+      ne-eqb n 4 (c .if4 .left),
+    )
 
 pub is-run-scale-spec : {M : Type 1} → statement M
 is-run-scale-spec = tie.close (tie.spec returns returns-2 returns-3 returns-4 returns-5)

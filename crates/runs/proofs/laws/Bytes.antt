@@ -2,9 +2,9 @@
 use Prim.Native.Nat.{ℕ, zero, suc, _+_, _*_, _<_, _≤_}
 use native.Mathlib.Omega.{arith}
 use native.Mathlib.Nat.{eq-or-lt-of-le}
-use mathlib.Core.Path.{_≡_, refl, sym, ap, subst, _∙_}
+use mathlib.Core.Path.{_≡_, refl, sym, ap, _∙_}
 use mathlib.Core.Logic.{_⊎_, inl, inr}
-use mathlib.Core.Bool.{Bool, true, false, cond}
+use mathlib.Core.Bool.{cond}
 use mathlib.Core.List.{List, [], _∷_}
 use lib.Dec.{eqb}
 use lib.ListN.{length, getD, set, length-set}
@@ -63,7 +63,8 @@ module _ (part : JulianDate → Float) where
         rw (q, g) (inside (eightBytes (toBits binary64 (part d))) (withParts part f n l) (8 * n) k h b)
     answered-step n i k d (inr m) b room e before = part-outside (f n) n (withParts part f n l) (8 * i + k) (inl (omega arith)) ∙ before m
 
-    pub answered-at : (n i k : ℕ) (d : JulianDate) → i < n → k < 8 → 8 * n ≤ length l → f i ≡ answer d → getD (withParts part f n l) (8 * i + k) 0 ≡ getD (eightBytes (toBits binary64 (part d))) k 0
+    pub answered-at : (n i k : ℕ) (d : JulianDate) → i < n → k < 8 → 8 * n ≤ length l → f i ≡ answer d
+        → getD (withParts part f n l) (8 * i + k) 0 ≡ getD (eightBytes (toBits binary64 (part d))) k 0
     unfolding withParts
     answered-at zero i k d h b room e = let w : ⊥ = omega arith in absurd w
     answered-at (suc n) i k d h b room e = answered-step n i k d (eq-or-lt-of-le (omega arith)) b room e (λ m. answered-at n i k d m b (omega arith) e)
@@ -87,9 +88,11 @@ module _ (f : ℕ → Outcome JulianDate) (l : List ℕ) where
   pub numbers-beyond : (n j : ℕ) → n ≤ j → getD (withNumbers f n l) j 0 ≡ getD l j 0
   unfolding withNumbers
   numbers-beyond zero j h = refl
-  numbers-beyond (suc n) j h = getD-set-other (withNumbers f n l) n j (numberByte (f n)) 0 (λ e. let w : ⊥ = omega arith in w) ∙ numbers-beyond n j (omega arith)
+  numbers-beyond (suc n) j h = getD-set-other (withNumbers f n l) n j (numberByte (f n)) 0 (λ e. let w : ⊥ = omega arith in w)
+      ∙ numbers-beyond n j (omega arith)
 
-  number-step : (n i : ℕ) → (i ≡ n) ⊎ (i < n) → suc n ≤ length l → (i < n → getD (withNumbers f n l) i 0 ≡ numberByte (f i)) → getD (set (withNumbers f n l) n (numberByte (f n))) i 0 ≡ numberByte (f i)
+  number-step : (n i : ℕ) → (i ≡ n) ⊎ (i < n) → suc n ≤ length l → (i < n → getD (withNumbers f n l) i 0 ≡ numberByte (f i))
+      → getD (set (withNumbers f n l) n (numberByte (f n))) i 0 ≡ numberByte (f i)
   number-step n i (inl q) room before = rw q (getD-set-same (withNumbers f n l) n (numberByte (f n)) 0 (omega (arith, numbers-length f n l)))
   number-step n i (inr m) room before = getD-set-other (withNumbers f n l) n i (numberByte (f n)) 0 (λ e. let w : ⊥ = omega arith in w) ∙ before m
 

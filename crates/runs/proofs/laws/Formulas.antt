@@ -1,10 +1,10 @@
--- WHAT A RUN BY A FORMULA MEANS, for every run of every length: which conversions it takes and with which lengths, each stamp's answer and number, the count, the stamps and offsets that are not finite, and a refused
--- call. Assumes nothing.
+-- WHAT A RUN BY A FORMULA MEANS, for every run of every length: which conversions it takes and with which lengths, each stamp's answer and number, the count,
+-- the stamps and offsets that are not finite, and a refused call. Assumes nothing.
 use Prim.Native.Nat.{ℕ, _*_, _/_, _%_, _<_, _≤_}
 use native.Mathlib.Omega.{arith}
 use native.Mathlib.Nat.{div-mul-le-self}
 use mathlib.Core.Path.{_≡_, refl, sym, ap, subst, _∙_}
-use mathlib.Core.Logic.{_⊎_, inl, inr}
+use mathlib.Core.Logic.{inl, inr}
 use mathlib.Core.Bool.{Bool, true, false, cond, _&&_}
 use mathlib.Core.List.{List}
 use lib.Dec.{eqb, leb}
@@ -26,7 +26,9 @@ use Rattle.runs.specs.by_formula.Run.{RunCall, runCall, runWritten}
 use Rattle.runs.specs.by_formula.Formula.{formulaOf, byFormula, formulaAnswer, takesOffset, lengthsRefusal, formulaRefusal, formulaRun}
 use Rattle.runs.specs.laws.NotFiniteStamps.{StampNotFinite, notZeroIn}
 use Rattle.runs.specs.laws.Done.{StampDone, SpareStays}
-use Rattle.runs.specs.laws.EachFormula.{EachFormula, OffsetPair, tai-ut1-pair, ut1-tai-pair, ut1-tt-pair, tt-ut1-pair, tt-tdb-pair, tdb-tt-pair, FormulaPair, gps-tai-pair, tai-gps-pair, tai-tt-pair, tt-tai-pair, tt-tcg-pair, tcg-tt-pair, tcb-tdb-pair, tdb-tcb-pair, offset-pair, FormulaRefusal, dueOf, LengthsDue}
+use Rattle.runs.specs.laws.EachFormula.{EachFormula, OffsetPair, tai-ut1-pair, ut1-tai-pair, ut1-tt-pair, tt-ut1-pair, tt-tdb-pair, tdb-tt-pair}
+use Rattle.runs.specs.laws.EachFormula.{FormulaPair, gps-tai-pair, tai-gps-pair, tai-tt-pair, tt-tai-pair, tt-tcg-pair, tcg-tt-pair, tcb-tdb-pair}
+use Rattle.runs.specs.laws.EachFormula.{tdb-tcb-pair, offset-pair, FormulaRefusal, dueOf, LengthsDue}
 use Rattle.runs.proofs.laws.Refusing.{pattern-not-finite}
 use Rattle.runs.proofs.laws.Written.{stamp-written, spare-kept, count-written}
 
@@ -59,7 +61,8 @@ module _ (from to : ℕ) (seconds : Float) where
       rw (f, g) p
 
   -- one step down the list
-  next : (b : Bool) (x : Conversion) (rest : Outcome Conversion) (c : Conversion) → (b ≡ true → FormulaPair from to) → (rest ≡ answer c → FormulaPair from to) → cond b (answer x) rest ≡ answer c → FormulaPair from to
+  next : (b : Bool) (x : Conversion) (rest : Outcome Conversion) (c : Conversion) → (b ≡ true → FormulaPair from to) → (rest ≡ answer c → FormulaPair from to)
+      → cond b (answer x) rest ≡ answer c → FormulaPair from to
   next true x rest c here later e = here refl
   next false x rest c here later e = later e
 
@@ -93,7 +96,8 @@ by-change f seconds d k e = go (finiteParts d) refl (sym (first f d) ∙ e)
 by-offset : (f : Float → Float → Float → Float) (seconds : Float) (d : JulianDate) (k : ℕ) → convertedBy f seconds d ≡ refusal k → FormulaRefusal seconds d k
 by-offset f seconds d k e = go (finiteParts d) (finite seconds) refl refl (sym (first-by f seconds d) ∙ e)
   where
-    go : (b c : Bool) → finiteParts d ≡ b → finite seconds ≡ c → cond b (cond c (answer (mapSmallerPart (f (daysOf seconds)) d)) (refusal 10)) (refusal 9) ≡ refusal k → FormulaRefusal seconds d k
+    go : (b c : Bool) → finiteParts d ≡ b → finite seconds ≡ c
+        → cond b (cond c (answer (mapSmallerPart (f (daysOf seconds)) d)) (refusal 10)) (refusal 9) ≡ refusal k → FormulaRefusal seconds d k
     go true true p s q = let z : _≡_ {A = ℕ} 0 1 = cc q in let w : ⊥ = omega arith in absurd w
     go true false p s q = inr ((p, s), cc q)
     go false c p s q = inl (p, cc q)
@@ -161,7 +165,8 @@ module _ (seconds : Float) (d : JulianDate) where
   not-finite-part-refused from to (offset-pair p) h = not-finite-given from to p h
 
 -- ---- A REFUSED CALL writes nothing
-pub formula-refused-writes-nothing : (from to : ℕ) (js ks os out1 out2 numbers : List ℕ) (k : ℕ) → formulaRun from to js ks os out1 out2 numbers .answer ≡ refusal k
+pub formula-refused-writes-nothing : (from to : ℕ) (js ks os out1 out2 numbers : List ℕ) (k : ℕ)
+    → formulaRun from to js ks os out1 out2 numbers .answer ≡ refusal k
     → formulaRun from to js ks os out1 out2 numbers ≡ runCall (refusal k) out1 out2 numbers
 unfolding formulaRun runWritten
 formula-refused-writes-nothing from to js ks os out1 out2 numbers k e = go (eqb number 0) e
@@ -169,8 +174,10 @@ formula-refused-writes-nothing from to js ks os out1 out2 numbers k e = go (eqb 
     number : ℕ
     number = formulaRefusal from to (length js) (length ks) (length os) (length out1) (length out2) (length numbers)
 
-    go : (b : Bool) → cond b (runWritten (formulaAnswer from to js ks os) (length js / 8) out1 out2 numbers) (runCall (refusal number) out1 out2 numbers) .answer ≡ refusal k
-        → cond b (runWritten (formulaAnswer from to js ks os) (length js / 8) out1 out2 numbers) (runCall (refusal number) out1 out2 numbers) ≡ runCall (refusal k) out1 out2 numbers
+    go : (b : Bool) → cond b (runWritten (formulaAnswer from to js ks os) (length js / 8) out1 out2 numbers) (runCall (refusal number) out1 out2 numbers)
+        .answer ≡ refusal k
+        → cond b (runWritten (formulaAnswer from to js ks os) (length js / 8) out1 out2 numbers) (runCall (refusal number) out1 out2 numbers) ≡ runCall
+        (refusal k) out1 out2 numbers
     go true q = let z : _≡_ {A = ℕ} 0 1 = cc q in let w : ⊥ = omega arith in absurd w
     go false q = ap (λ (x : Outcome ℕ). runCall x out1 out2 numbers) q
 
@@ -208,12 +215,15 @@ other-scales-18 from to seconds k =
     (eighteen-next (eqb from 7 && eqb to 3) _ _ k
     (λ e. cc e))))))))))))))
 
--- ---- THE LENGTHS with which a call is answered: exactly those that are due, of the offsets as many as of the first parts for the pairs that take some, and else none
+-- ---- THE LENGTHS with which a call is answered: exactly those that are due, of the offsets as many as of the first parts for the pairs that take some, and
+-- else none
 module _ (size1 size2 size3 room1 room2 room : ℕ) where
   abbrev judged : ℕ → ℕ
-  judged due = cond (eqb (size1 % 8) 0 && (eqb (size2 % 8) 0 && eqb (size3 % 8) 0)) (cond (eqb size1 size2 && eqb size3 due) (cond (leb size1 room1 && (leb size1 room2 && leb (size1 / 8) room)) 0 11) 12) 14
+  judged due = cond (eqb (size1 % 8) 0 && (eqb (size2 % 8) 0 && eqb (size3 % 8) 0))
+      (cond (eqb size1 size2 && eqb size3 due) (cond (leb size1 room1 && (leb size1 room2 && leb (size1 / 8) room)) 0 11) 12) 14
 
-  lengths-by : (due : ℕ) (b0 b1 b2 b3 b4 b5 b6 b7 : Bool) → eqb (size1 % 8) 0 ≡ b0 → eqb (size2 % 8) 0 ≡ b1 → eqb (size3 % 8) 0 ≡ b2 → eqb size1 size2 ≡ b3 → eqb size3 due ≡ b4 → leb size1 room1 ≡ b5 → leb size1 room2 ≡ b6 → leb (size1 / 8) room ≡ b7
+  lengths-by : (due : ℕ) (b0 b1 b2 b3 b4 b5 b6 b7 : Bool) → eqb (size1 % 8) 0 ≡ b0 → eqb (size2 % 8) 0 ≡ b1 → eqb (size3 % 8) 0 ≡ b2 → eqb size1 size2 ≡ b3
+      → eqb size3 due ≡ b4 → leb size1 room1 ≡ b5 → leb size1 room2 ≡ b6 → leb (size1 / 8) room ≡ b7
       → _≡_ {A = ℕ} (cond (b0 && (b1 && b2)) (cond (b3 && b4) (cond (b5 && (b6 && b7)) 0 11) 12) 14) 0 → LengthsDue size1 size2 size3 due room1 room2 room
   lengths-by due true true true true true true true true p0 p1 p2 p3 p4 p5 p6 p7 z = record {
     whole1 = eqb-true (size1 % 8) 0 p0;
@@ -235,10 +245,20 @@ module _ (size1 size2 size3 room1 room2 room : ℕ) where
   lengths-by due false b1 b2 b3 b4 b5 b6 b7 p0 p1 p2 p3 p4 p5 p6 p7 z = let w : ⊥ = omega arith in absurd w
 
   lengths : (due : ℕ) → judged due ≡ 0 → LengthsDue size1 size2 size3 due room1 room2 room
-  lengths due z = lengths-by due (eqb (size1 % 8) 0) (eqb (size2 % 8) 0) (eqb (size3 % 8) 0) (eqb size1 size2) (eqb size3 due) (leb size1 room1) (leb size1 room2) (leb (size1 / 8) room) refl refl refl refl refl refl refl refl z
+  lengths due z = lengths-by due (eqb (size1 % 8) 0) (eqb (size2 % 8) 0) (eqb (size3 % 8) 0) (eqb size1 size2) (eqb size3 due) (leb size1 room1)
+      (leb size1 room2) (leb (size1 / 8) room) refl refl refl refl refl refl refl refl z
 
   lengths-pass : (due : ℕ) → LengthsDue size1 size2 size3 due room1 room2 room → judged due ≡ 0
-  lengths-pass due l = rw (eq-eqb (size1 % 8) 0 (l .whole1), eq-eqb (size2 % 8) 0 (l .whole2), eq-eqb (size3 % 8) 0 (l .whole3), eq-eqb size1 size2 (l .parts), eq-eqb size3 due (l .offsets), le-leb size1 room1 (l .places1), le-leb size1 room2 (l .places2), le-leb (size1 / 8) room (l .bytes))
+  lengths-pass due l = rw (
+    eq-eqb (size1 % 8) 0 (l .whole1),
+    eq-eqb (size2 % 8) 0 (l .whole2),
+    eq-eqb (size3 % 8) 0 (l .whole3),
+    eq-eqb size1 size2 (l .parts),
+    eq-eqb size3 due (l .offsets),
+    le-leb size1 room1 (l .places1),
+    le-leb size1 room2 (l .places2),
+    le-leb (size1 / 8) room (l .bytes),
+  )
 
   judged-given : (from to : ℕ) → OffsetPair from to → formulaRefusal from to size1 size2 size3 room1 room2 room ≡ judged size1
   unfolding formulaRefusal formulaOf lengthsRefusal takesOffset
@@ -261,20 +281,24 @@ module _ (size1 size2 size3 room1 room2 room : ℕ) where
   judged-pair _ _ tdb-tcb-pair = refl
   judged-pair from to (offset-pair p) = judged-given from to p
 
-  pub answered-lengths : (from to : ℕ) (p : FormulaPair from to) → formulaRefusal from to size1 size2 size3 room1 room2 room ≡ 0 → LengthsDue size1 size2 size3 (dueOf p size1) room1 room2 room
+  pub answered-lengths : (from to : ℕ) (p : FormulaPair from to) → formulaRefusal from to size1 size2 size3 room1 room2 room ≡ 0
+      → LengthsDue size1 size2 size3 (dueOf p size1) room1 room2 room
   answered-lengths from to p z = lengths (dueOf p size1) (sym (judged-pair from to p) ∙ z)
 
-  pub lengths-answered : (from to : ℕ) (p : FormulaPair from to) → LengthsDue size1 size2 size3 (dueOf p size1) room1 room2 room → formulaRefusal from to size1 size2 size3 room1 room2 room ≡ 0
+  pub lengths-answered : (from to : ℕ) (p : FormulaPair from to) → LengthsDue size1 size2 size3 (dueOf p size1) room1 room2 room
+      → formulaRefusal from to size1 size2 size3 room1 room2 room ≡ 0
   lengths-answered from to p l = judged-pair from to p ∙ lengths-pass (dueOf p size1) l
 
   -- a call that is answered is of a pair
-  answered-pair : (from to : ℕ) (o : Outcome Conversion) → formulaOf from to nought ≡ o → lengthsRefusal o size1 size2 size3 room1 room2 room ≡ 0 → FormulaPair from to
+  answered-pair : (from to : ℕ) (o : Outcome Conversion) → formulaOf from to nought ≡ o → lengthsRefusal o size1 size2 size3 room1 room2 room ≡ 0
+      → FormulaPair from to
   unfolding lengthsRefusal
   answered-pair from to (answer c) e z = no-other-pair from to nought c e
   answered-pair from to (refusal k) e z = let h : k ≡ 18 = other-scales-18 from to nought k e in let w : ⊥ = omega arith in absurd w
 
 -- ---- a call that is not refused
-module _ (from to : ℕ) (js ks os out1 out2 numbers : List ℕ) (z : formulaRefusal from to (length js) (length ks) (length os) (length out1) (length out2) (length numbers) ≡ 0) where
+module _ (from to : ℕ) (js ks os out1 out2 numbers : List ℕ)
+    (z : formulaRefusal from to (length js) (length ks) (length os) (length out1) (length out2) (length numbers) ≡ 0) where
   abbrev f : ℕ → Outcome JulianDate
   f = formulaAnswer from to js ks os
 
@@ -310,7 +334,8 @@ module _ (from to : ℕ) (js ks os out1 out2 numbers : List ℕ) (z : formulaRef
 
   -- THE COUNT is of the numbers that are not 0
   pub formula-count-is : formulaRun from to js ks os out1 out2 numbers .answer ≡ answer (notZeroIn n (formulaRun from to js ks os out1 out2 numbers .numbers))
-  formula-count-is = subst (λ (c : RunCall). c .answer ≡ answer (notZeroIn n (c .numbers))) (sym written) (count-written f n out1 out2 numbers room1 room2 (fits .bytes))
+  formula-count-is = subst (λ (c : RunCall). c .answer ≡ answer (notZeroIn n (c .numbers))) (sym written)
+      (count-written f n out1 out2 numbers room1 room2 (fits .bytes))
 
   -- EVERY DEAD STAMP is refused by 9
   pub formula-not-finite-refused : (i : ℕ) → StampNotFinite js ks i → f i ≡ refusal 9

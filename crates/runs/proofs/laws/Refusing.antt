@@ -2,7 +2,7 @@
 use Prim.Native.Nat.{ℕ, _*_}
 use mathlib.Core.Path.{_≡_, refl, sym, ap, subst, _∙_}
 use mathlib.Core.Logic.{_⊎_, inl, inr}
-use mathlib.Core.Bool.{Bool, true, false, not, cond, _&&_, _||_, true≢false}
+use mathlib.Core.Bool.{Bool, true, false, cond, _&&_, _||_, true≢false}
 use mathlib.Core.List.{List}
 use lib.Dec.{T, eqb}
 use lib.Ieee.{Float, binary64, mul, fits, ofBits}
@@ -13,7 +13,6 @@ use borrow.Author.Tests.{eqb-true, eq-eqb}
 use Rattle.refusals.specs.Outcome.{Outcome, answer, refusal, onward}
 use Rattle.refusals.proofs.Onward.{stopped, came}
 use Rattle.julian.specs.declared.JulianDate.{JulianDate}
-use Rattle.julian.specs.JulianDate.{julian}
 use Rattle.julian.specs.Finite.{finiteParts, finiteJd}
 use Rattle.numerals.specs.little_endian.LittleEndian.{u64At}
 use Rattle.leap_table.specs.rows.Table.{Row}
@@ -112,8 +111,10 @@ either false b e = refl
 
 pub pattern-not-finite : (js ks : List ℕ) (i : ℕ) → StampNotFinite js ks i → finiteParts (stampOf js ks i) ≡ false
 unfolding stampOf
-pattern-not-finite js ks i (inl e) = either (finite (ofBits binary64 (u64At js (8 * i)))) (finite (ofBits binary64 (u64At ks (8 * i)))) (inl (field-not-finite (u64At js (8 * i)) e))
-pattern-not-finite js ks i (inr e) = either (finite (ofBits binary64 (u64At js (8 * i)))) (finite (ofBits binary64 (u64At ks (8 * i)))) (inr (field-not-finite (u64At ks (8 * i)) e))
+pattern-not-finite js ks i (inl e) =
+    either (finite (ofBits binary64 (u64At js (8 * i)))) (finite (ofBits binary64 (u64At ks (8 * i)))) (inl (field-not-finite (u64At js (8 * i)) e))
+pattern-not-finite js ks i (inr e) =
+    either (finite (ofBits binary64 (u64At js (8 * i)))) (finite (ofBits binary64 (u64At ks (8 * i)))) (inr (field-not-finite (u64At ks (8 * i)) e))
 
 -- ---- from a scale to the same, any other stamp passes
 pub same-passes : (rows : List Row) (n : ℕ) (d : JulianDate) → finiteParts d ≡ true → wayOf rows n n d ≡ answer d
@@ -163,15 +164,19 @@ module _ (rows : List Row) where
   unfolding taiFraction taiFromMidnight
   fraction-held x y z e = by-date (came (julianToCalendar x y) _ z e)
     where
-      by-midnight : (c : CalendarFields) (o : DayOffsets) → (m : JulianDate) × (midnightOf (c .date) ≡ answer m) × (answer (taiFromMidnight x m o (c .fraction)) ≡ answer z) → T (fits binary64 z)
+      by-midnight : (c : CalendarFields) (o : DayOffsets) → (m : JulianDate) × (midnightOf (c .date) ≡ answer m)
+          × (answer (taiFromMidnight x m o (c .fraction)) ≡ answer z) → T (fits binary64 z)
       by-midnight c o (m, p, q) =
           let r : taiFromMidnight x m o (c .fraction) ≡ z = cc q in
           subst (λ (v : Float). T (fits binary64 v)) r (add-fits binary64 _ _)
 
-      by-offsets : (c : CalendarFields) → (o : DayOffsets) × (offsetsOf rows (c .date) ≡ answer o) × (onward (midnightOf (c .date)) (λ m. answer (taiFromMidnight x m o (c .fraction))) ≡ answer z) → T (fits binary64 z)
+      by-offsets : (c : CalendarFields) → (o : DayOffsets) × (offsetsOf rows (c .date) ≡ answer o)
+          × (onward (midnightOf (c .date)) (λ m. answer (taiFromMidnight x m o (c .fraction))) ≡ answer z) → T (fits binary64 z)
       by-offsets c (o, p, q) = by-midnight c o (came (midnightOf (c .date)) _ z q)
 
-      by-date : (c : CalendarFields) × (julianToCalendar x y ≡ answer c) × (onward (offsetsOf rows (c .date)) (λ o. onward (midnightOf (c .date)) (λ m. answer (taiFromMidnight x m o (c .fraction)))) ≡ answer z) → T (fits binary64 z)
+      by-date : (c : CalendarFields) × (julianToCalendar x y ≡ answer c)
+          × (onward (offsetsOf rows (c .date)) (λ o. onward (midnightOf (c .date)) (λ m. answer (taiFromMidnight x m o (c .fraction)))) ≡ answer z)
+          → T (fits binary64 z)
       by-date (c, p, q) = by-offsets c (came (offsetsOf rows (c .date)) _ z q)
 
   beside-held : (d : JulianDate) → Held d → (z : Float) → T (fits binary64 z) → Held (putBeside (keptParts d) z)
@@ -229,7 +234,9 @@ module _ (rows : List Row) where
       judged true = answers tt
       judged false = refuses (inr (inr refl))
 
-      same : (p q r : Bool) → Holds Any OneSixNine (cond p (cond (finiteParts d) (answer d) (refusal 9)) (cond q (converted ttToTcg d) (cond r (converted tcgToTt d) (onward (intoTai rows from d) (outOfTai rows to)))))
+      same : (p q r : Bool) → Holds Any OneSixNine
+          (cond p (cond (finiteParts d) (answer d) (refusal 9))
+          (cond q (converted ttToTcg d) (cond r (converted tcgToTt d) (onward (intoTai rows from d) (outOfTai rows to)))))
       same true q r = judged (finiteParts d)
       same false true r = any (to-tcg d g)
       same false false true = any (to-tt d g)

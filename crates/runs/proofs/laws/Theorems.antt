@@ -1,4 +1,5 @@
--- WHAT A RUN MEANS, for every run of every length: each stamp's answer and number, the count, the stamps that are not finite, the same scale, and a refused call. Assumes nothing.
+-- WHAT A RUN MEANS, for every run of every length: each stamp's answer and number, the count, the stamps that are not finite, the same scale, and a refused
+-- call. Assumes nothing.
 use Prim.Native.Nat.{ℕ, _*_, _/_, _%_, _<_, _≤_, _^_}
 use native.Mathlib.Omega.{arith}
 use native.Mathlib.Nat.{div-mul-le-self}
@@ -29,7 +30,8 @@ use Rattle.runs.proofs.laws.Refusing.{five, not-finite-way, pattern-not
 use Rattle.runs.proofs.laws.Written.{stamp-written, spare-kept, count-written}
 
 -- ---- A REFUSED CALL writes nothing
-pub refused-writes-nothing : (o : Outcome (List Row)) (from to : ℕ) (js ks out1 out2 numbers : List ℕ) (k : ℕ) → convertedRun o from to js ks out1 out2 numbers .answer ≡ refusal k
+pub refused-writes-nothing : (o : Outcome (List Row)) (from to : ℕ) (js ks out1 out2 numbers : List ℕ) (k : ℕ)
+    → convertedRun o from to js ks out1 out2 numbers .answer ≡ refusal k
     → convertedRun o from to js ks out1 out2 numbers ≡ runCall (refusal k) out1 out2 numbers
 unfolding convertedRun runBy runWritten
 refused-writes-nothing (refusal m) from to js ks out1 out2 numbers k e = ap (λ (x : Outcome ℕ). runCall x out1 out2 numbers) e
@@ -38,8 +40,10 @@ refused-writes-nothing (answer rows) from to js ks out1 out2 numbers k e = go (e
     number : ℕ
     number = runRefusal from to (length js) (length ks) (length out1) (length out2) (length numbers)
 
-    go : (b : Bool) → cond b (runWritten (stampAnswer rows from to js ks) (length js / 8) out1 out2 numbers) (runCall (refusal number) out1 out2 numbers) .answer ≡ refusal k
-        → cond b (runWritten (stampAnswer rows from to js ks) (length js / 8) out1 out2 numbers) (runCall (refusal number) out1 out2 numbers) ≡ runCall (refusal k) out1 out2 numbers
+    go : (b : Bool) → cond b (runWritten (stampAnswer rows from to js ks) (length js / 8) out1 out2 numbers) (runCall (refusal number) out1 out2 numbers)
+        .answer ≡ refusal k
+        → cond b (runWritten (stampAnswer rows from to js ks) (length js / 8) out1 out2 numbers) (runCall (refusal number) out1 out2 numbers) ≡ runCall
+        (refusal k) out1 out2 numbers
     go true q = let z : _≡_ {A = ℕ} 0 1 = cc q in let w : ⊥ = omega arith in absurd w
     go false q = ap (λ (x : Outcome ℕ). runCall x out1 out2 numbers) q
 
@@ -47,12 +51,14 @@ refused-writes-nothing (answer rows) from to js ks out1 out2 numbers k e = go (e
 pub refusals-in-order :
     (runRefusal 2 0 7 0 0 0 0 ≡ 18) × (runRefusal 0 6 7 0 0 0 0 ≡ 18) × (runRefusal 7 7 8 8 8 8 1 ≡ 18)
     × (runRefusal 1 0 7 0 0 0 0 ≡ 14) × (runRefusal 1 0 8 15 0 0 0 ≡ 14) × (runRefusal 1 0 8 0 0 0 0 ≡ 12) × (runRefusal 1 0 8 16 0 0 0 ≡ 12)
-    × (runRefusal 1 0 8 8 7 8 1 ≡ 11) × (runRefusal 1 0 8 8 8 7 1 ≡ 11) × (runRefusal 1 0 8 8 8 8 0 ≡ 11) × (runRefusal 1 0 8 8 8 8 1 ≡ 0) × (runRefusal 3 5 0 0 0 0 0 ≡ 0)
+    × (runRefusal 1 0 8 8 7 8 1 ≡ 11) × (runRefusal 1 0 8 8 8 7 1 ≡ 11) × (runRefusal 1 0 8 8 8 8 0 ≡ 11) × (runRefusal 1 0 8 8 8 8 1 ≡ 0)
+    × (runRefusal 3 5 0 0 0 0 0 ≡ 0)
 unfolding runRefusal isRunScale
 refusals-in-order = (refl, refl, refl, refl, refl, refl, refl, refl, refl, refl, refl, refl)
 
 -- ---- a call that is not refused
-module _ (rows : List Row) (from to : ℕ) (js ks out1 out2 numbers : List ℕ) (z : runRefusal from to (length js) (length ks) (length out1) (length out2) (length numbers) ≡ 0) where
+module _ (rows : List Row) (from to : ℕ) (js ks out1 out2 numbers : List ℕ)
+    (z : runRefusal from to (length js) (length ks) (length out1) (length out2) (length numbers) ≡ 0) where
   abbrev f : ℕ → Outcome JulianDate
   f = stampAnswer rows from to js ks
 
@@ -83,16 +89,21 @@ module _ (rows : List Row) (from to : ℕ) (js ks out1 out2 numbers : List ℕ) 
   spare-stays = subst (SpareStays n out1 out2 numbers) (sym written) (spare-kept f n out1 out2 numbers room1 room2 (fits .bytes))
 
   -- THE COUNT is of the numbers that are not 0
-  pub count-is : convertedRun (answer rows) from to js ks out1 out2 numbers .answer ≡ answer (notZeroIn n (convertedRun (answer rows) from to js ks out1 out2 numbers .numbers))
-  count-is = subst (λ (c : RunCall). c .answer ≡ answer (notZeroIn n (c .numbers))) (sym written) (count-written f n out1 out2 numbers room1 room2 (fits .bytes))
+  pub count-is : convertedRun (answer rows) from to js ks out1 out2 numbers .answer ≡ answer
+      (notZeroIn n (convertedRun (answer rows) from to js ks out1 out2 numbers .numbers))
+  count-is = subst (λ (c : RunCall). c .answer ≡ answer (notZeroIn n (c .numbers))) (sym written)
+      (count-written f n out1 out2 numbers room1 room2 (fits .bytes))
 
   -- EVERY DEAD STAMP is refused, by 6 where the first call reads the leap table and else by 9
   pub not-finite-stamp-refused : (i : ℕ) → StampNotFinite js ks i → f i ≡ refusal (numberOfNotFinite from to)
-  not-finite-stamp-refused i h = not-finite-way rows (stampOf js ks i) (pattern-not-finite js ks i h) from to (five from (fits .known-from)) (five to (fits .known-to))
+  not-finite-stamp-refused i h = not-finite-way rows (stampOf js ks i) (pattern-not-finite js ks i h) from to (five from (fits .known-from))
+      (five to (fits .known-to))
 
-  pub not-finite-stamp-numbered : (i : ℕ) → i < n → StampNotFinite js ks i → getD (convertedRun (answer rows) from to js ks out1 out2 numbers .numbers) i 0 ≡ numberOfNotFinite from to
+  pub not-finite-stamp-numbered : (i : ℕ) → i < n → StampNotFinite js ks i
+      → getD (convertedRun (answer rows) from to js ks out1 out2 numbers .numbers) i 0 ≡ numberOfNotFinite from to
   unfolding numberByte numberOfNotFinite
-  not-finite-stamp-numbered i h d = each-stamp i h .numbered ∙ ap numberByte (not-finite-stamp-refused i d) ∙ small (eqb from to) (eqb from 0 || (eqb from 1 && eqb to 0))
+  not-finite-stamp-numbered i h d = each-stamp i h .numbered ∙ ap numberByte (not-finite-stamp-refused i d)
+      ∙ small (eqb from to) (eqb from 0 || (eqb from 1 && eqb to 0))
     where
       small : (a b : Bool) → cond a 9 (cond b 6 9) % 256 ≡ cond a 9 (cond b 6 9)
       small true b = refl
@@ -100,11 +111,13 @@ module _ (rows : List Row) (from to : ℕ) (js ks out1 out2 numbers : List ℕ) 
       small false false = refl
 
 -- ---- THE NUMBERS of refused stamps are 1, 6 and 9, and no other
-pub stamp-refusals : (rows : List Row) (from to : ℕ) → isRunScale from ≡ true → isRunScale to ≡ true → (js ks : List ℕ) (i : ℕ) → Holds Any OneSixNine (stampAnswer rows from to js ks i)
+pub stamp-refusals : (rows : List Row) (from to : ℕ) → isRunScale from ≡ true → isRunScale to ≡ true → (js ks : List ℕ) (i : ℕ)
+    → Holds Any OneSixNine (stampAnswer rows from to js ks i)
 stamp-refusals rows from to a b js ks i = way-refusals rows from to a b (stampOf js ks i) (stamp-held js ks i)
 
 -- ---- FROM A SCALE TO THE SAME a stamp passes with its bits
-pub same-scale-passes : (rows : List Row) (n : ℕ) (js ks : List ℕ) (i : ℕ) → finiteParts (stampOf js ks i) ≡ true → stampAnswer rows n n js ks i ≡ answer (stampOf js ks i)
+pub same-scale-passes : (rows : List Row) (n : ℕ) (js ks : List ℕ) (i : ℕ) → finiteParts (stampOf js ks i) ≡ true
+    → stampAnswer rows n n js ks i ≡ answer (stampOf js ks i)
 same-scale-passes rows n js ks i h = same-passes rows n (stampOf js ks i) h
 
 pub same-scale-bits : (js ks : List ℕ) (i : ℕ) → u64At js (8 * i) < 2 ^ 64 → u64At ks (8 * i) < 2 ^ 64 → finiteParts (stampOf js ks i) ≡ true

@@ -11,7 +11,8 @@ use Rattle.runs.specs.laws.NotFiniteStamps.{notZeroIn}
 use Rattle.runs.specs.laws.Done.{StampDone, SpareStays}
 use Rattle.runs.proofs.laws.Bytes.{parts-beyond, answered-at, refused-at, numbers-beyond, number-at, counted}
 
-module _ (f : ℕ → Outcome JulianDate) (n : ℕ) (out1 out2 numbers : List ℕ) (room1 : 8 * n ≤ length out1) (room2 : 8 * n ≤ length out2) (room : n ≤ length numbers) where
+module _ (f : ℕ → Outcome JulianDate) (n : ℕ) (out1 out2 numbers : List ℕ) (room1 : 8 * n ≤ length out1) (room2 : 8 * n ≤ length out2)
+    (room : n ≤ length numbers) where
   pub stamp-written : (i : ℕ) → i < n → StampDone (f i) i out1 out2 (runWritten f n out1 out2 numbers)
   unfolding runWritten
   stamp-written i h = record {

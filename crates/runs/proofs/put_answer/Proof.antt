@@ -1,5 +1,5 @@
 -- `runs::put_answer` meets its contract. Assumes nothing.
-use mathlib.Core.Path.{_≡_, refl, sym, ap, subst, _∙_}
+use mathlib.Core.Path.{refl, ap}
 use Rattle.julian.specs.JulianDate.{julianOutcome}
 use Rattle.runs.proofs.by_formula.Puts.{put-refused, put-patterns}
 use borrow.Author.Needs.{needs}
@@ -16,22 +16,13 @@ returns-2 : tie.Need-returns-2
 unfolding julianOutcome
 returns-2 c =
     let a = c .before .before .before .before .before .before .before .before .before .before .before .before .before .before .before .args in
-    put-patterns (julianOutcome (a .found)) _ (a .i) (a .out1 .now) (a .out2 .now) _ _ _ _ (ap julianOutcome (c .before .before .before .before .before .before .before .before .before .before .before .found2 .given .1)) (c .before .before .before .before .before .before .before .before .to-bits .ensures) (c .before .before .before .to-bits2 .ensures) (c .before .before .before .before .before .before .before .put-pattern .ensures) (c .before .before .put-pattern2 .ensures)
+    put-patterns (julianOutcome (a .found)) _ (a .i) (a .out1 .now) (a .out2 .now) _ _ _ _
+    (ap julianOutcome (c .before .before .before .before .before .before .before .before .before .before .before .found2 .given .1))
+    (c .before .before .before .before .before .before .before .before .to-bits .ensures) (c .before .before .before .to-bits2 .ensures)
+    (c .before .before .before .before .before .before .before .put-pattern .ensures) (c .before .before .put-pattern2 .ensures)
 
 pub put-answer-spec : {M : Type 1} → statement M
 put-answer-spec =
     tie.close
-    (tie.spec
-    (λ c. search needs)
-    (λ c. search needs)
-    (λ c. search needs)
-    (λ c. search needs)
-    (λ c κs. search needs)
-    (λ c κs. search needs)
-    (λ c. search needs)
-    (λ c κs. search needs)
-    (λ c κs. search needs)
-    returns
-    (λ c. search needs)
-    (λ c. search needs)
-    returns-2)
+    (tie.spec (λ c. search needs) (λ c. search needs) (λ c. search needs) (λ c. search needs) (λ c κs. search needs) (λ c κs. search needs)
+    (λ c. search needs) (λ c κs. search needs) (λ c κs. search needs) returns (λ c. search needs) (λ c. search needs) returns-2)

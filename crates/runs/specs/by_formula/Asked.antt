@@ -76,7 +76,8 @@ kindRefusal kind size1 size2 size3 room1 room2 room =
 -- the kind is that of the way between the two scales
 pub record IsFormula (from to kind : ℕ) (days : Float) : Type 0 where
   pub answers : (seconds : Float) (d : JulianDate) → answerOfKind kind days seconds d ≡ byFormula from to seconds d
-  pub refuses : (size1 size2 size3 room1 room2 room : ℕ) → kindRefusal kind size1 size2 size3 room1 room2 room ≡ formulaRefusal from to size1 size2 size3 room1 room2 room
+  pub refuses : (size1 size2 size3 room1 room2 room : ℕ)
+      → kindRefusal kind size1 size2 size3 room1 room2 room ≡ formulaRefusal from to size1 size2 size3 room1 room2 room
 
 -- the same where no days are needed
 abbrev pub IsOffsetKind : ℕ → ℕ → ℕ → Type 0

@@ -1,6 +1,6 @@
--- A run by a formula: which of document 01's conversions leads from one scale to another in one step and reads no table, and what the call answers. The conversions are those of
--- `scales`; a scale is its number in include/celestial_time.h: TAI 1, UT1 2, TT 3, GPS 4, TCG 5, TCB 6, TDB 7. Refusals by documents 01's and 02's numbers: 18 two scales without
--- such a conversion, 14 a broken length, 12 sizes that differ, 11 too few places. Assumes nothing.
+-- A run by a formula: which of document 01's conversions leads from one scale to another in one step and reads no table, and what the call answers. The
+-- conversions are those of `scales`; a scale is its number in include/celestial_time.h: TAI 1, UT1 2, TT 3, GPS 4, TCG 5, TCB 6, TDB 7. Refusals by documents
+-- 01's and 02's numbers: 18 two scales without such a conversion, 14 a broken length, 12 sizes that differ, 11 too few places. Assumes nothing.
 use Prim.Native.Nat.{ℕ, _*_, _/_, _%_}
 use mathlib.Core.Bool.{Bool, true, false, cond, _&&_}
 use mathlib.Core.List.{List}
@@ -11,7 +11,8 @@ use Rattle.refusals.specs.Outcome.{Outcome, answer, refusal, onward}
 use Rattle.floats.specs.Whole.{nought}
 use Rattle.numerals.specs.little_endian.LittleEndian.{u64At}
 use Rattle.julian.specs.declared.JulianDate.{JulianDate}
-use Rattle.scales.specs.Conversions.{Conversion, answerOf, gps-tai, tai-gps, tai-tt, tt-tai, tcg-tt, tt-tcg, tcb-tdb, tdb-tcb, tai-tcg, tcg-tai, tai-ut1, ut1-tai, ut1-tt, tt-ut1, tt-tdb, tdb-tt}
+use Rattle.scales.specs.Conversions.{Conversion, answerOf, gps-tai, tai-gps, tai-tt, tt-tai, tcg-tt, tt-tcg, tcb-tdb, tdb-tcb, tai-tcg, tcg-tai}
+use Rattle.scales.specs.Conversions.{tai-ut1, ut1-tai, ut1-tt, tt-ut1, tt-tdb, tdb-tt}
 use Rattle.line_up.specs.LineUp.{stampOf}
 use Rattle.runs.specs.by_formula.Run.{RunCall, runCall, runWritten}
 

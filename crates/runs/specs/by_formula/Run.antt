@@ -1,5 +1,5 @@
--- A run of stamps with their answers: what is answered and what the three lent slices hold. This project's own, for the customer's nine million stamps of one recorder.
--- Assumes nothing.
+-- A run of stamps with their answers: what is answered and what the three lent slices hold. This project's own, for the customer's nine million stamps of one
+-- recorder. Assumes nothing.
 use Prim.Native.Nat.{ℕ, zero, suc, _+_, _*_, _%_}
 use mathlib.Core.Bool.{cond}
 use mathlib.Core.List.{List}

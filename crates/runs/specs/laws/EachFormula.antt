@@ -1,4 +1,5 @@
--- The conversions of a run by a formula, written out one by one, why a stamp is refused, and with which lengths a call is answered. From include/celestial_time.h. Assumes nothing.
+-- The conversions of a run by a formula, written out one by one, why a stamp is refused, and with which lengths a call is answered. From
+-- include/celestial_time.h. Assumes nothing.
 use Prim.Native.Nat.{ℕ, _/_, _%_, _≤_}
 use mathlib.Core.Path.{_≡_}
 use mathlib.Core.Logic.{_⊎_}
@@ -7,7 +8,8 @@ use lib.Ieee.{Float}
 use lib.Ieee.Scale.{finite}
 use Rattle.julian.specs.declared.JulianDate.{JulianDate}
 use Rattle.julian.specs.Finite.{finiteParts}
-use Rattle.scales.specs.Conversions.{answerOf, gps-tai, tai-gps, tai-tt, tt-tai, tcg-tt, tt-tcg, tcb-tdb, tdb-tcb, tai-ut1, ut1-tai, ut1-tt, tt-ut1, tt-tdb, tdb-tt}
+use Rattle.scales.specs.Conversions.{answerOf, gps-tai, tai-gps, tai-tt, tt-tai, tcg-tt, tt-tcg, tcb-tdb, tdb-tcb, tai-ut1, ut1-tai, ut1-tt, tt-ut1}
+use Rattle.scales.specs.Conversions.{tt-tdb, tdb-tt}
 use Rattle.runs.specs.by_formula.Formula.{byFormula}
 
 -- TAI 1, UT1 2, TT 3, GPS 4, TCG 5, TCB 6, TDB 7

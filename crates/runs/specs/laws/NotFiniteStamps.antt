@@ -1,5 +1,6 @@
--- A not-finite stamp of a run: one with a part whose exponent field is all ones, an infinity or a NaN of any sign and payload (IEEE 754); the numbers that a stamp can get, and how
--- many are not 0. Written from the customer's first demand: every scale conversion refuses a part that is not finite, by number. Assumes nothing.
+-- A not-finite stamp of a run: one with a part whose exponent field is all ones, an infinity or a NaN of any sign and payload (IEEE 754); the numbers that a
+-- stamp can get, and how many are not 0. Written from the customer's first demand: every scale conversion refuses a part that is not finite, by number. Assumes
+-- nothing.
 use Prim.Native.Nat.{ℕ, zero, suc, _+_, _*_}
 use mathlib.Core.Path.{_≡_}
 use mathlib.Core.Logic.{_⊎_}

@@ -1,6 +1,6 @@
--- The way of a stamp from one scale to another: the single calls, one after the other, through TAI. This project's own: each step is a call of the port, and a call that
--- goes from the one scale to the other is taken itself (TT to TCG and back). A scale is its number in include/celestial_time.h: UTC 0, TAI 1, TT 3, GPS 4, TCG 5.
--- Assumes nothing.
+-- The way of a stamp from one scale to another: the single calls, one after the other, through TAI. This project's own: each step is a call of the port, and a
+-- call that goes from the one scale to the other is taken itself (TT to TCG and back). A scale is its number in include/celestial_time.h: UTC 0, TAI 1, TT 3,
+-- GPS 4, TCG 5. Assumes nothing.
 use Prim.Native.Nat.{ℕ}
 use mathlib.Core.Bool.{Bool, cond, _&&_, _||_}
 use mathlib.Core.List.{List}

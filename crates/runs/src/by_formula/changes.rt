@@ -13,8 +13,8 @@ use scales::tcb_tdb::tdb_to_tcb_part;
 use scales::tt_tcg::tcg_to_tt_part;
 use scales::tt_tcg::tt_to_tcg_part;
 
-// Whether of two patterns the first is the larger without the sign's bit. Of two finite numbers it is then the larger in size; and where the larger is a finite number's the
-// other is, too.
+// Whether of two patterns the first is the larger without the sign's bit. Of two finite numbers it is then the larger in size; and where the larger is a finite
+// number's the other is, too.
 fn is_larger(a: u64, b: u64) -> bool
     ensures { λ r. ⌜ r ≡ ltb (b % 0x8000_0000_0000_0000) (a % 0x8000_0000_0000_0000) ⌝ }
 {
@@ -51,7 +51,8 @@ pub(crate) fn change_stamp(
     out2: &mut [u8],
 ) -> u8
     requires { ⌜ (HasPlace i (now jd1s) (now jd2s)) × (HasPlace i (now out1) (now out2)) ⌝ }
-    ensures { λ r. ⌜ StampPut (changedStamp (changeOf kind days) (now (jd1s .entry)) (now (jd2s .entry)) i) i (now (out1 .entry)) (now (out2 .entry)) r (now (out1 .exit)) (now (out2 .exit)) ⌝ }
+    ensures { λ r. ⌜ StampPut (changedStamp (changeOf kind days) (now (jd1s .entry)) (now (jd2s .entry)) i) i (now (out1 .entry)) (now (out2 .entry)) r
+        (now (out1 .exit)) (now (out2 .exit)) ⌝ }
 {
     let a = pattern_at(jd1s, i);
     let b = pattern_at(jd2s, i);
@@ -86,7 +87,8 @@ pub(crate) fn shift_all(
     numbers: &mut [u8],
 ) -> usize
     requires { ⌜ Roomy n (now jd1s) (now jd2s) (now out1) (now out2) (now numbers) ⌝ }
-    ensures { λ r. ⌜ RunPut (changedStamp (changeOf 3 days) (now (jd1s .entry)) (now (jd2s .entry))) n (now (out1 .entry)) (now (out2 .entry)) (now (numbers .entry)) r (now (out1 .exit)) (now (out2 .exit)) (now (numbers .exit)) ⌝ }
+    ensures { λ r. ⌜ RunPut (changedStamp (changeOf 3 days) (now (jd1s .entry)) (now (jd2s .entry))) n (now (out1 .entry)) (now (out2 .entry))
+        (now (numbers .entry)) r (now (out1 .exit)) (now (out2 .exit)) (now (numbers .exit)) ⌝ }
 {
     let mut refused = 0;
     let mut i = 0;
@@ -111,7 +113,8 @@ pub(crate) fn change_all(
     numbers: &mut [u8],
 ) -> usize
     requires { ⌜ Roomy n (now jd1s) (now jd2s) (now out1) (now out2) (now numbers) ⌝ }
-    ensures { λ r. ⌜ RunPut (changedStamp (changeOf kind days) (now (jd1s .entry)) (now (jd2s .entry))) n (now (out1 .entry)) (now (out2 .entry)) (now (numbers .entry)) r (now (out1 .exit)) (now (out2 .exit)) (now (numbers .exit)) ⌝ }
+    ensures { λ r. ⌜ RunPut (changedStamp (changeOf kind days) (now (jd1s .entry)) (now (jd2s .entry))) n (now (out1 .entry)) (now (out2 .entry))
+        (now (numbers .entry)) r (now (out1 .exit)) (now (out2 .exit)) (now (numbers .exit)) ⌝ }
 {
     let mut refused = 0;
     let mut i = 0;

@@ -42,7 +42,8 @@ fn offset_stamp(
     out2: &mut [u8],
 ) -> u8
     requires { ⌜ (HasPlace i (now jd1s) (now jd2s)) × ((8 * i + 8 ≤ length (now offsets)) × (HasPlace i (now out1) (now out2))) ⌝ }
-    ensures { λ r. ⌜ StampPut (offsetStamp earlier (now (jd1s .entry)) (now (jd2s .entry)) (now (offsets .entry)) i) i (now (out1 .entry)) (now (out2 .entry)) r (now (out1 .exit)) (now (out2 .exit)) ⌝ }
+    ensures { λ r. ⌜ StampPut (offsetStamp earlier (now (jd1s .entry)) (now (jd2s .entry)) (now (offsets .entry)) i) i (now (out1 .entry)) (now (out2 .entry))
+        r (now (out1 .exit)) (now (out2 .exit)) ⌝ }
 {
     let c = pattern_at(offsets, i);
     if !is_number(c) {
@@ -72,7 +73,8 @@ pub(crate) fn offset_all(
     numbers: &mut [u8],
 ) -> usize
     requires { ⌜ (Roomy n (now jd1s) (now jd2s) (now out1) (now out2) (now numbers)) × (8 * n ≤ length (now offsets)) ⌝ }
-    ensures { λ r. ⌜ RunPut (offsetStamp earlier (now (jd1s .entry)) (now (jd2s .entry)) (now (offsets .entry))) n (now (out1 .entry)) (now (out2 .entry)) (now (numbers .entry)) r (now (out1 .exit)) (now (out2 .exit)) (now (numbers .exit)) ⌝ }
+    ensures { λ r. ⌜ RunPut (offsetStamp earlier (now (jd1s .entry)) (now (jd2s .entry)) (now (offsets .entry))) n (now (out1 .entry)) (now (out2 .entry))
+        (now (numbers .entry)) r (now (out1 .exit)) (now (out2 .exit)) (now (numbers .exit)) ⌝ }
 {
     let mut refused = 0;
     let mut i = 0;

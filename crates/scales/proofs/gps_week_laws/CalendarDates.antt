@@ -2,16 +2,14 @@
 use mathlib.Core.Path.{_≡_, refl, sym, ap, _∙_, subst}
 use Prim.Native.Nat.{ℕ, zero, suc, _+_, _-_, _*_, _/_, _%_, _^_, _≤_, _<_}
 use native.Mathlib.Omega.{arith}
-use native.Mathlib.Nat.{mul-comm}
-use mathlib.Core.Bool.{true, false}
+use mathlib.Core.Bool.{false}
 use lib.Dec.{lit≤, lit<}
-use lib.IntN.{ℤ, pos, negsuc, _+ℤ_}
+use lib.IntN.{ℤ, pos, _+ℤ_}
 use lib.Ieee.{Float, binary64, round}
 use lib.Ieee.Fits.{round-fits}
 use borrow.Author.Tests.{le-ltb}
-use Rattle.refusals.specs.Outcome.{Outcome, answer, onward}
+use Rattle.refusals.specs.Outcome.{answer, onward}
 use Rattle.floats.specs.Whole.{nought}
-use Rattle.rounding.specs.Value.{Val, plusZ, minusZ}
 use Rattle.rounding.proofs.Value.{val-move, val-scale}
 use Rattle.calendar.specs.declared.CalendarDate.{CalendarDate}
 use Rattle.calendar.specs.Calendar.{dateOf}
@@ -19,7 +17,7 @@ use Rattle.calendar.specs.Gregorian.{gregorianDate}
 use Rattle.calendar.proofs.Gregorian.{gregorian-is-date-of-day}
 use Rattle.julian.specs.declared.day_number.DayNumber.{DayNumber}
 use Rattle.julian.specs.day_number.Answer.{dayNumberAndFraction}
-use Rattle.julian.specs.day_number.ExactDay.{OnGrid, GridSumInRange, gridSum, wholeDays, exactDay, exactDayNumber}
+use Rattle.julian.specs.day_number.ExactDay.{OnGrid, wholeDays, exactDay, exactDayNumber}
 use Rattle.julian.proofs.day_number.ExactDay.{exact}
 use Rattle.julian.proofs.day_number.Ends.{nought-grid, nought-fits}
 use Rattle.julian.specs.declared.JulianDate.{JulianDate}
@@ -47,7 +45,8 @@ midnight-grid n h k =
 module _ (n : ℕ) (h : 0 < n) (k : n ≤ 3144252) where
   at-midnight : dayNumberAndFraction (weekMidnight n) nought ≡ answer (exactDayNumber (pos ((2 * n - 1) * 2 ^ 51) +ℤ pos 0))
   unfolding midnight-grid nought-grid weekMidnight
-  at-midnight = exact (weekMidnight n) nought (round-fits binary64 false (2 * n - 1) 2) nought-fits (midnight-grid n h k) nought-grid (record { low = lit≤ tt; high = omega arith })
+  at-midnight = exact (weekMidnight n) nought (round-fits binary64 false (2 * n - 1) 2) nought-fits (midnight-grid n h k) nought-grid
+      (record { low = lit≤ tt; high = omega arith })
 
   day-there : exactDay (pos ((2 * n - 1) * 2 ^ 51) +ℤ pos 0) ≡ pos n
   unfolding wholeDays
@@ -68,7 +67,8 @@ module _ (n r : ℕ) (early : 2444245 ≤ n) (late : n ≤ 3144252) (short : r <
       go : (s : ℕ) → r ≡ s → number .day ≡ pos n
       go zero e =
           let s = pos ((2 * n - 1) * 2 ^ 51) +ℤ pos 0 in
-          let q : answer number ≡ answer (exactDayNumber s) = sym (R.given n r early late short) ∙ ap (λ (x : Float). dayNumberAndFraction (weekMidnight n) x) (ap partOfDay e ∙ no-part) ∙ at-midnight n (omega arith) late in
+          let q : answer number ≡ answer (exactDayNumber s) = sym (R.given n r early late short)
+          ∙ ap (λ (x : Float). dayNumberAndFraction (weekMidnight n) x) (ap partOfDay e ∙ no-part) ∙ at-midnight n (omega arith) late in
           let w : number ≡ exactDayNumber s = cc in
           ap (λ (x : DayNumber). x .day) w ∙ day-there n (omega arith) late
       go (suc s) e =

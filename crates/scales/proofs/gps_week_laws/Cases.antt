@@ -2,15 +2,14 @@
 use mathlib.Core.Path.{_≡_, refl, sym, ap, _∙_}
 use Prim.Native.Nat.{ℕ, _+_, _*_}
 use lib.IntN.{ℤ, pos, natAbs, _+ℤ_}
-use lib.Ieee.{Float, binary64, ofBits, round, lt, le, eq, add, sub, mul, div, neg, inf, toSigned}
+use lib.Ieee.{binary64, ofBits, round, lt, add, sub, mul, div, neg, toSigned}
 use Rattle.refusals.specs.Outcome.{Outcome, answer, refusal, onward}
 use Rattle.floats.specs.Whole.{toWhole}
 use Rattle.calendar.specs.Calendar.{lengths, daysInMonth, date, dateOf}
 use Rattle.calendar.specs.Refusals.{validDate}
-use Rattle.calendar.specs.DayCount.{MjdMeaning, civilCount, mjdNumber, mjdOf}
+use Rattle.calendar.specs.DayCount.{civilCount, mjdNumber, mjdOf}
 use Rattle.calendar.proofs.Mjd.{mjd-meaning}
 use Rattle.julian.specs.day_number.Answer.{dayNumberAndFraction}
-use Rattle.julian.specs.declared.JulianDate.{JulianDate}
 use Rattle.julian.specs.JulianDate.{julian}
 use Rattle.julian.specs.Finite.{finiteJd}
 use Rattle.time_of_day.specs.TimeShown.{fromZero}
@@ -21,7 +20,8 @@ use Rattle.scales.specs.gps_weeks.WeekOf.{weekTime, productOf, dayMillis
 -- ---- the dates on which weeks begin
 
 has-date : (y m d n : ℤ) → (v : validDate y m d ≡ answer tt) → mjdOf y m d ≡ answer n → dateOf (n +ℤ pos 2400001) ≡ date y (natAbs m) (natAbs d)
-has-date y m d n v e = let g = mjd-meaning y m d v in let k : answer n ≡ answer (g .n) = sym e ∙ g .given in let j : n ≡ g .n = cc in ap (λ (x : ℤ). dateOf (x +ℤ pos 2400001)) j ∙ g .has-date
+has-date y m d n v e = let g = mjd-meaning y m d v in let k : answer n ≡ answer (g .n) = sym e ∙ g .given in let j : n ≡ g .n =
+    cc in ap (λ (x : ℤ). dateOf (x +ℤ pos 2400001)) j ∙ g .has-date
 
 pub first-day-is-1980-01-06 : dateOf (pos firstDay) ≡ date (pos 1980) 1 6
 unfolding mjdOf mjdNumber civilCount validDate onward daysInMonth lengths
@@ -59,12 +59,14 @@ unfolding weekOf finiteJd onward weekOfDay weekAt dayMillis productOf fromZero t
 up-from-a-half = refl
 
 -- (2444244.5, -0.5 ms): its day is 1980-01-05, and the rounded count is the first of week 0; 2^-27 day, 0.64 ms, before it the date is before the first week
-pub into-the-first-week : (at 0x4142_a5ea_4000_0000 0xbe38_daea_1d7f_4cf7 ≡ answer (weekTime 0 0)) × (at 0x4142_a5ea_4000_0000 0xbe40_0000_0000_0000 ≡ refusal 18)
+pub into-the-first-week : (at 0x4142_a5ea_4000_0000 0xbe38_daea_1d7f_4cf7 ≡ answer (weekTime 0 0))
+    × (at 0x4142_a5ea_4000_0000 0xbe40_0000_0000_0000 ≡ refusal 18)
 unfolding weekOf finiteJd onward weekOfDay weekAt dayMillis productOf fromZero toWhole toSigned mul round dayNumberAndFraction ofBits lt add sub div neg
 into-the-first-week = (refl, refl)
 
 -- (3144251.5, -0.5 ms): half a millisecond before the end of week 100,000 is past the last week; 0.64 ms before it is the week's last millisecond
-pub out-of-the-last-week : (at 0x4147_fd1d_c000_0000 0xbe38_daea_1d7f_4cf7 ≡ refusal 18) × (at 0x4147_fd1d_c000_0000 0xbe40_0000_0000_0000 ≡ answer (weekTime 100000 604799999))
+pub out-of-the-last-week : (at 0x4147_fd1d_c000_0000 0xbe38_daea_1d7f_4cf7 ≡ refusal 18)
+    × (at 0x4147_fd1d_c000_0000 0xbe40_0000_0000_0000 ≡ answer (weekTime 100000 604799999))
 unfolding weekOf finiteJd onward weekOfDay weekAt dayMillis productOf fromZero toWhole toSigned mul round dayNumberAndFraction ofBits lt add sub div neg
 out-of-the-last-week = (refl, refl)
 

@@ -1,15 +1,14 @@
 -- The milliseconds of a fraction of a day: from 0 to 86,400,000, and within 1/2 + 2^-27 of the exact ones. Assumes nothing.
-use mathlib.Core.Path.{_≡_, refl, sym, ap, _∙_, subst}
+use mathlib.Core.Path.{_≡_, refl}
 use Prim.Native.Nat.{ℕ, suc, _+_, _*_, _^_, _≤_, _<_}
 use native.Mathlib.Nat.{lt-of-mul-lt-mul-right, mul-le-mul-right}
 use native.Mathlib.Omega.{arith}
-use lib.Dec.{T, lit≤, lit<}
+use lib.Dec.{lit≤, lit<}
 use lib.IntN.{ℤ, pos, negsuc}
-use lib.Ieee.{Float, binary64, fits, toSigned}
+use lib.Ieee.{Float, toSigned}
 use Rattle.floats.specs.Whole.{toWhole, away}
-use Rattle.rounding.specs.Value.{Val, L, InUnit}
+use Rattle.rounding.specs.Value.{Val, L}
 use Rattle.rounding.proofs.Value.{L-pos}
-use Rattle.rounding.proofs.Casts.{plusZ, minusZ}
 use Rattle.rounding.proofs.Scaled.{Scaled, mul-near}
 use Rattle.time_of_day.specs.TimeShown.{fromZero}
 use Rattle.time_of_day.proofs.Rounded.{IsWhole, away-nearest, rounded}

@@ -4,14 +4,11 @@ use Prim.Native.Nat.{ℕ, suc, _+_, _-_, _*_, _/_, _%_, _^_, _≤_, _<_}
 use native.Mathlib.Nat.{add-mul, mul-assoc, mul-comm, mul-le-mul-right}
 use native.Mathlib.Omega.{arith}
 use mathlib.Core.Bool.{Bool, true, false, cond}
-use lib.Dec.{T, ltb, leb}
+use lib.Dec.{ltb, leb}
 use lib.IntN.{ℤ, pos, negsuc, _+ℤ_, _-ℤ_}
-use lib.Ieee.{Float, binary64, fits}
-use lib.Ieee.Scale.{finite}
 use borrow.Author.Tests.{ltb-false, leb-true}
 use Rattle.refusals.specs.Outcome.{Outcome, answer, refusal, onward}
-use Rattle.floats.specs.Whole.{one}
-use Rattle.rounding.specs.Value.{Val, L, InUnit, plusZ, minusZ}
+use Rattle.rounding.specs.Value.{L, plusZ, minusZ}
 use Rattle.rounding.proofs.Value.{val-move, L-pos}
 use Rattle.rounding.proofs.Casts.{add-pair, sub-pair}
 use Rattle.rounding.proofs.Compare.{lt-says}
@@ -27,7 +24,7 @@ use Rattle.time_of_day.proofs.Fractions.{one-val}
 use Rattle.scales.specs.declared.gps_weeks.WeekTime.{WeekTime}
 use Rattle.scales.specs.gps_weeks.WeekOf.{weekTime, dayMillis, weekAt, weekOfDay, weekOf}
 use Rattle.scales.specs.gps_week_laws.NearDate.{millisSince, OfCount, NearWeek}
-use Rattle.scales.proofs.gps_week_laws.Count.{CountNear, millis-near}
+use Rattle.scales.proofs.gps_week_laws.Count.{millis-near}
 
 -- ---- what an answered week comes from
 
@@ -38,7 +35,8 @@ of-count count t e = go (ltb count 211182768000000) (leb ((count - 2111827680000
     s : ℕ
     s = count - 211182768000000
 
-    go : (x y : Bool) → ltb count 211182768000000 ≡ x → leb (s / 604800000) 100000 ≡ y → cond x (refusal 18) (cond y (answer (weekTime (s / 604800000) (s % 604800000))) (refusal 18)) ≡ answer t → OfCount count t
+    go : (x y : Bool) → ltb count 211182768000000 ≡ x → leb (s / 604800000) 100000 ≡ y
+        → cond x (refusal 18) (cond y (answer (weekTime (s / 604800000) (s % 604800000))) (refusal 18)) ≡ answer t → OfCount count t
     go true y f g h = let z : _≡_ {A = ℕ} 0 1 = cc in absurd (omega arith)
     go false false f g h = let z : _≡_ {A = ℕ} 0 1 = cc in absurd (omega arith)
     go false true f g h =
@@ -69,7 +67,9 @@ of-day d t e = go (finiteParts d) (dayNumberAndFraction (d .jd1) (d .jd2)) refl 
     days : Outcome DayNumber → Outcome WeekTime
     days o = onward o (λ n. weekOfDay (n .day) (dayMillis (n .fraction)))
 
-    go : (b : Bool) (o : Outcome DayNumber) → dayNumberAndFraction (d .jd1) (d .jd2) ≡ o → onward (cond b (answer d) (refusal 9)) (λ e. onward (dayNumberAndFraction (e .jd1) (e .jd2)) (λ n. weekOfDay (n .day) (dayMillis (n .fraction)))) ≡ answer t → OfDay d t
+    go : (b : Bool) (o : Outcome DayNumber) → dayNumberAndFraction (d .jd1) (d .jd2) ≡ o
+        → onward (cond b (answer d) (refusal 9)) (λ e. onward (dayNumberAndFraction (e .jd1) (e .jd2)) (λ n. weekOfDay (n .day) (dayMillis (n .fraction)))) ≡
+        answer t → OfDay d t
     go false o f h = let z : _≡_ {A = ℕ} 0 1 = cc in absurd (omega arith)
     go true (refusal n) f h = let k : refusal n ≡ answer t = sym (ap days f) ∙ h in let z : _≡_ {A = ℕ} 0 1 = cc in absurd (omega arith)
     go true (answer n) f h =
@@ -85,10 +85,12 @@ pub record DaysNear (P N k m : ℕ) : Type 0 where
   pub under : 20000000 * (86400000 * P + 43200000 * L) ≤ 20000000 * (86400000 * (k * L) + m * L + 86400000 * N) + 10000001 * L
 
 -- 2^-51 day is at most 1 / 25000000 ms, and 2^-27 ms at most 1 / 100000000
-day-over : (K u R S l : ℕ) → 2 ^ 51 * (K + u + R) ≤ 2 ^ 51 * S + 2 ^ 50 * l + l → 25000000 * (86400000 * (K + u + R)) ≤ 25000000 * (86400000 * S + 43200000 * l) + l
+day-over : (K u R S l : ℕ) → 2 ^ 51 * (K + u + R) ≤ 2 ^ 51 * S + 2 ^ 50 * l + l
+    → 25000000 * (86400000 * (K + u + R)) ≤ 25000000 * (86400000 * S + 43200000 * l) + l
 day-over K u R S l h = omega arith
 
-day-under : (K u R S l : ℕ) → 2 ^ 51 * S + 2 ^ 50 * l ≤ 2 ^ 51 * (K + u + R) + l → 25000000 * (86400000 * S + 43200000 * l) ≤ 25000000 * (86400000 * (K + u + R)) + l
+day-under : (K u R S l : ℕ) → 2 ^ 51 * S + 2 ^ 50 * l ≤ 2 ^ 51 * (K + u + R) + l
+    → 25000000 * (86400000 * S + 43200000 * l) ≤ 25000000 * (86400000 * (K + u + R)) + l
 day-under K u R S l h = omega arith
 
 count-over : (M f l : ℕ) → 2 ^ 27 * M ≤ 2 ^ 27 * f + 2 ^ 26 * l + l → 100000000 * M ≤ 100000000 * f + 50000001 * l
@@ -106,7 +108,8 @@ module _ (P N S R u K M l : ℕ) (sum : S + N ≡ P + R) where
       → 20000000 * (86400000 * P + 43200000 * l) ≤ 20000000 * (86400000 * K + M + 86400000 * N) + 10000001 * l
   under a b = omega arith
 
-module _ (d : JulianDate) (P N : ℕ) (s : SmallParts d) (w : Worth d P N L) (number : DayNumber) (given : dayNumberAndFraction (d .jd1) (d .jd2) ≡ answer number) where
+module _ (d : JulianDate) (P N : ℕ) (s : SmallParts d) (w : Worth d P N L) (number : DayNumber)
+    (given : dayNumberAndFraction (d .jd1) (d .jd2) ≡ answer number) where
   abbrev i : ℤ
   i = pos (w .p) -ℤ pos (w .n)
 
@@ -114,7 +117,8 @@ module _ (d : JulianDate) (P N : ℕ) (s : SmallParts d) (w : Worth d P N L) (nu
   j = pos (w .q) -ℤ pos (w .m)
 
   near : DayNear (i +ℤ j) (number .day) (number .fraction)
-  near = day-near (d .jd1) (d .jd2) (s .first) (s .second) i j (val-move (w .first) (omega (arith, sub-pair (pos (w .p)) (pos (w .n))))) (val-move (w .second) (omega (arith, sub-pair (pos (w .q)) (pos (w .m))))) number given
+  near = day-near (d .jd1) (d .jd2) (s .first) (s .second) i j (val-move (w .first) (omega (arith, sub-pair (pos (w .p)) (pos (w .n)))))
+      (val-move (w .second) (omega (arith, sub-pair (pos (w .q)) (pos (w .m))))) number given
 
   is-sum : plusZ (i +ℤ j) + N ≡ P + minusZ (i +ℤ j)
   is-sum = omega (arith, add-pair i j, sub-pair (pos (w .p)) (pos (w .n)), sub-pair (pos (w .q)) (pos (w .m)), w .total)
@@ -132,11 +136,15 @@ module _ (d : JulianDate) (P N : ℕ) (s : SmallParts d) (w : Worth d P N L) (nu
   pub sum-near : (n : ℕ) → number .day ≡ pos n → DaysNear P N n (dayMillis (number .fraction))
   sum-near n e =
       let c = millis-near (number .fraction) (near .units) (near .val) below-one in
-      let o = subst (λ (z : ℤ). 2 ^ 51 * (plusZ z * L + near .units + minusZ (i +ℤ j)) ≤ 2 ^ 51 * (plusZ (i +ℤ j) + minusZ z * L) + 2 ^ 50 * L + L) e (near .over) in
-      let v = subst (λ (z : ℤ). 2 ^ 51 * (plusZ (i +ℤ j) + minusZ z * L) + 2 ^ 50 * L ≤ 2 ^ 51 * (plusZ z * L + near .units + minusZ (i +ℤ j)) + L) e (near .under) in
+      let o = subst (λ (z : ℤ). 2 ^ 51 * (plusZ z * L + near .units + minusZ (i +ℤ j)) ≤ 2 ^ 51 * (plusZ (i +ℤ j) + minusZ z * L) + 2 ^ 50 * L + L) e
+      (near .over) in
+      let v = subst (λ (z : ℤ). 2 ^ 51 * (plusZ (i +ℤ j) + minusZ z * L) + 2 ^ 50 * L ≤ 2 ^ 51 * (plusZ z * L + near .units + minusZ (i +ℤ j)) + L) e
+      (near .under) in
       record {
-        over = above P N (plusZ (i +ℤ j)) (minusZ (i +ℤ j)) (near .units) (n * L) (dayMillis (number .fraction) * L) L is-sum (day-over (n * L) (near .units) _ _ L (plain _ _ _ _ o)) (count-over (dayMillis (number .fraction) * L) (86400000 * near .units) L (c .over));
-        under = under P N (plusZ (i +ℤ j)) (minusZ (i +ℤ j)) (near .units) (n * L) (dayMillis (number .fraction) * L) L is-sum (day-under (n * L) (near .units) _ _ L (plain' _ _ _ _ v)) (count-under (dayMillis (number .fraction) * L) (86400000 * near .units) L (c .under));
+        over = above P N (plusZ (i +ℤ j)) (minusZ (i +ℤ j)) (near .units) (n * L) (dayMillis (number .fraction) * L) L is-sum
+            (day-over (n * L) (near .units) _ _ L (plain _ _ _ _ o)) (count-over (dayMillis (number .fraction) * L) (86400000 * near .units) L (c .over));
+        under = under P N (plusZ (i +ℤ j)) (minusZ (i +ℤ j)) (near .units) (n * L) (dayMillis (number .fraction) * L) L is-sum
+            (day-under (n * L) (near .units) _ _ L (plain' _ _ _ _ v)) (count-under (dayMillis (number .fraction) * L) (86400000 * near .units) L (c .under));
       }
     where
       plain : (a S l r : ℕ) → 2 ^ 51 * a ≤ 2 ^ 51 * (S + 0 * L) + l + r → 2 ^ 51 * a ≤ 2 ^ 51 * S + l + r
@@ -149,7 +157,8 @@ module _ (d : JulianDate) (P N : ℕ) (s : SmallParts d) (w : Worth d P N L) (nu
   pub from-day-0 : N + L ≤ P → (z : ℤ) → number .day ≡ z → (n : ℕ) × (number .day ≡ pos n)
   from-day-0 h (pos n) e = (n, e)
   from-day-0 h (negsuc a) e =
-      let v = subst (λ (z : ℤ). 2 ^ 51 * (plusZ (i +ℤ j) + minusZ z * L) + 2 ^ 50 * L ≤ 2 ^ 51 * (plusZ z * L + near .units + minusZ (i +ℤ j)) + L) e (near .under) in
+      let v = subst (λ (z : ℤ). 2 ^ 51 * (plusZ (i +ℤ j) + minusZ z * L) + 2 ^ 50 * L ≤ 2 ^ 51 * (plusZ z * L + near .units + minusZ (i +ℤ j)) + L) e
+      (near .under) in
       absurd (no (plusZ (i +ℤ j)) (minusZ (i +ℤ j)) (suc a * L) is-sum (mul-le-mul-right L (some a)) v)
     where
       some : (a : ℕ) → 1 ≤ suc a

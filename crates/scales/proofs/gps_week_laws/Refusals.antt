@@ -1,5 +1,5 @@
 -- Which refusals the two ways give, and exactly when: 18 alone for a week; 9, then 6, then 18 for a date. Assumes nothing.
-use mathlib.Core.Path.{_≡_, refl, sym, ap, _∙_}
+use mathlib.Core.Path.{_≡_, refl}
 use mathlib.Core.Logic.{_⊎_, inl, inr}
 use Prim.Native.Nat.{ℕ, _+_, _-_, _*_, _/_, _%_, _≤_, _<_}
 use native.Mathlib.Omega.{arith}
@@ -26,7 +26,8 @@ pub from-week-decided : (week ms : ℕ) → FromWeek week ms (weekDate week ms)
 unfolding weekDate
 from-week-decided week ms = go (leb week 100000) (ltb ms 604800000) refl refl
   where
-    go : (x y : Bool) → leb week 100000 ≡ x → ltb ms 604800000 ≡ y → FromWeek week ms (cond (x && y) (answer (julian (weekMidnight (dayIn week ms)) (partOfDay (ms % 86400000)))) (refusal 18))
+    go : (x y : Bool) → leb week 100000 ≡ x → ltb ms 604800000 ≡ y
+        → FromWeek week ms (cond (x && y) (answer (julian (weekMidnight (dayIn week ms)) (partOfDay (ms % 86400000)))) (refusal 18))
     go true true f g = dated (leb-true week 100000 f) (ltb-true ms 604800000 g)
     go true false f g = over (inr (ltb-false ms 604800000 g))
     go false y f g = over (inl (leb-false week 100000 f))
@@ -40,7 +41,8 @@ count-decided count = go (ltb count 211182768000000) (leb ((count - 211182768000
     s : ℕ
     s = count - 211182768000000
 
-    go : (x y : Bool) → ltb count 211182768000000 ≡ x → leb (s / 604800000) 100000 ≡ y → AtCount count (cond x (refusal 18) (cond y (answer (weekTime (s / 604800000) (s % 604800000))) (refusal 18)))
+    go : (x y : Bool) → ltb count 211182768000000 ≡ x → leb (s / 604800000) 100000 ≡ y
+        → AtCount count (cond x (refusal 18) (cond y (answer (weekTime (s / 604800000) (s % 604800000))) (refusal 18)))
     go true y f g = outside (inl (ltb-true count 211182768000000 f))
     go false true f g =
         let b : 211182768000000 ≤ count = ltb-false count 211182768000000 f in
@@ -60,7 +62,8 @@ to-week-decided d = go (finiteParts d) (accepted (d .jd1) (d .jd2)) refl refl
     on-day (negsuc n) e f a = before-day-0 n f a e
 
     go : (x y : Bool) → finiteParts d ≡ x → accepted (d .jd1) (d .jd2) ≡ y
-        → ToWeek d (onward (cond x (answer d) (refusal 9)) (λ e. onward (dayNumberAndFraction (e .jd1) (e .jd2)) (λ n. weekOfDay (n .day) (dayMillis (n .fraction)))))
+        → ToWeek d (onward (cond x (answer d) (refusal 9))
+        (λ e. onward (dayNumberAndFraction (e .jd1) (e .jd2)) (λ n. weekOfDay (n .day) (dayMillis (n .fraction)))))
     go false y f a = not-finite f
     go true false f a = rw (refused (d .jd1) (d .jd2) a) (no-day f a)
     go true true f a = rw (answered (d .jd1) (d .jd2) a) (on-day (number .day) refl f a)

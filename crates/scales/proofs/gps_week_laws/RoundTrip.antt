@@ -1,16 +1,15 @@
 -- A week and its milliseconds turned into a date and back are the same pair. Assumes nothing.
 use mathlib.Core.Path.{_≡_, refl, sym, ap, _∙_, subst}
-use Prim.Native.Nat.{ℕ, suc, _+_, _-_, _*_, _/_, _%_, _^_, _≤_, _<_}
+use Prim.Native.Nat.{ℕ, _+_, _-_, _*_, _/_, _%_, _^_, _≤_, _<_}
 use native.Mathlib.Nat.{add-mul, add-zero, one-mul, mul-assoc, mul-comm, mul-left-comm, mul-le-mul-right, mul-lt-mul-of-pos-right, lt-of-mul-lt-mul-right}
 use native.Mathlib.Omega.{arith}
 use mathlib.Core.Bool.{Bool, true, false, cond, _&&_}
 use lib.Dec.{T, ltb, leb, lit≤, lit<}
-use lib.IntN.{ℤ, pos, negsuc}
-use lib.Ieee.{Float, binary64, round, fin, fits, lt}
+use lib.IntN.{pos}
+use lib.Ieee.{Float, binary64, fits}
 use lib.Ieee.Fits.{round-fits}
 use borrow.Author.Tests.{ltb-true, leb-true, le-ltb, le-leb}
-use Rattle.refusals.specs.Outcome.{Outcome, answer, refusal, onward}
-use Rattle.floats.specs.Whole.{abs}
+use Rattle.refusals.specs.Outcome.{answer, refusal, onward}
 use Rattle.rounding.specs.Value.{Val, L, Under52}
 use Rattle.rounding.proofs.Value.{val-move, val-scale, val-finite-true, abs-val, L-pos}
 use Rattle.rounding.proofs.Signed.{dist, dist-le}
@@ -20,14 +19,13 @@ use Rattle.rounding.proofs.Near.{Near, rounds-near}
 use Rattle.julian.specs.declared.day_number.DayNumber.{DayNumber}
 use Rattle.julian.specs.day_number.DayNumber.{dayOf}
 use Rattle.julian.specs.day_number.Answer.{dayNumberAndFraction}
-use Rattle.julian.proofs.day_number.Units.{E, E-L, H, H-L}
+use Rattle.julian.proofs.day_number.Units.{E-L, H, H-L}
 use Rattle.julian.proofs.day_number.JulianRange.{accepts}
 use Rattle.julian.proofs.day_number.Answer.{answered}
 use Rattle.julian.specs.declared.JulianDate.{JulianDate}
 use Rattle.julian.specs.JulianDate.{julian}
-use Rattle.julian.specs.Finite.{finiteParts, finiteJd}
+use Rattle.julian.specs.Finite.{finiteJd}
 use Rattle.julian.specs.Worth.{Worth, SmallParts}
-use Rattle.scales.specs.declared.gps_weeks.WeekTime.{WeekTime}
 use Rattle.scales.specs.gps_weeks.WeekDate.{weekMidnight, partOfDay, dayIn, weekDate}
 use Rattle.scales.specs.gps_weeks.WeekOf.{weekTime, dayMillis, weekAt, weekOfDay, weekOf}
 use Rattle.scales.proofs.gps_weeks.Parts.{midnight-val}
@@ -52,7 +50,11 @@ unfolding L
 top = refl
 
 under52 : {x : Float} {p n : ℕ} → T (fits binary64 x) → Val x p n L → p ≤ n + 4503599627370495 * L → n ≤ p + 4503599627370495 * L → Under52 x
-under52 {x} {p} {n} f v u l = record { held = f; small = lt-show L-pos (abs-val v) (power-val 52 L) (plain (dist p n) (dist-le p n (4503599627370495 * L) u l)) }
+under52 {x} {p} {n} f v u l = record {
+  held = f;
+  small =
+      lt-show L-pos (abs-val v) (power-val 52 L) (plain (dist p n) (dist-le p n (4503599627370495 * L) u l));
+}
   where
     plain : (d : ℕ) → d ≤ 4503599627370495 * L → d + 0 < 2 ^ 52 * L + 0
     plain d h = omega (arith, L-pos)
@@ -65,7 +67,8 @@ module _ (r : ℕ) (short : r < 86400000) where
   -- a day's part is within 2 ^ -54 of r / 86400000
   pub part-near : Near (partOfDay r) r 0 86400000 1021
   unfolding partOfDay
-  part-near = rounds-near 1021 (lit< tt) (lit≤ tt) (subst (λ (x : ℕ). r * L < 0 * L + x * 86400000) (sym top) (less (r * L) L few)) (subst (λ (x : ℕ). 0 * L < r * L + x * 86400000) (sym top) (more (r * L) L L-pos)) (record { sign = false; size = r; eq = refl; is = add-zero r })
+  part-near = rounds-near 1021 (lit< tt) (lit≤ tt) (subst (λ (x : ℕ). r * L < 0 * L + x * 86400000) (sym top) (less (r * L) L few))
+      (subst (λ (x : ℕ). 0 * L < r * L + x * 86400000) (sym top) (more (r * L) L L-pos)) (record { sign = false; size = r; eq = refl; is = add-zero r })
     where
       less : (a l : ℕ) → a < 86400000 * l → a < 0 * l + l * 86400000
       less a l h = omega arith
@@ -137,7 +140,8 @@ module _ (n r : ℕ) (early : 2444245 ≤ n) (late : n ≤ 3144252) (short : r <
 
   pub given : dayNumberAndFraction (weekMidnight n) (partOfDay r) ≡ answer number
   unfolding number
-  given = answered (weekMidnight n) (partOfDay r) (accepts (weekMidnight n) (partOfDay r) (n * L) H q m first second (omega (arith, high, q-high, E-L, g-le)) (omega (arith, low, q-low, H-L, E-L, g-le)))
+  given = answered (weekMidnight n) (partOfDay r)
+      (accepts (weekMidnight n) (partOfDay r) (n * L) H q m first second (omega (arith, high, q-high, E-L, g-le)) (omega (arith, low, q-low, H-L, E-L, g-le)))
 
   pub day : (k : ℕ) × (number .day ≡ pos k)
   day = N.from-day-0 d (n * L + q) (H + m) small worth number given (omega (arith, low, q-low, H-L, g-le)) (number .day) refl
@@ -159,16 +163,20 @@ module _ (n r : ℕ) (early : 2444245 ≤ n) (late : n ≤ 3144252) (short : r <
   -- the count is that of the day and its milliseconds
   pub count : 86400000 * day .0 + dayMillis (number .fraction) ≡ 86400000 * n + r
   count = both (86400000 * day .0 + dayMillis (number .fraction)) (86400000 * n + r)
-      (lt-of-mul-lt-mul-right L (above (day .0 * L) (dayMillis (number .fraction) * L) _ _ (spread (day .0) (dayMillis (number .fraction))) (wider n r) (near .over)))
-      (lt-of-mul-lt-mul-right L (under (day .0 * L) (dayMillis (number .fraction) * L) _ _ (wider (day .0) (dayMillis (number .fraction))) (spread n r) (near .under)))
+      (lt-of-mul-lt-mul-right L (above (day .0 * L) (dayMillis (number .fraction) * L) _ _ (spread (day .0) (dayMillis (number .fraction))) (wider n r)
+      (near .over)))
+      (lt-of-mul-lt-mul-right L (under (day .0 * L) (dayMillis (number .fraction) * L) _ _ (wider (day .0) (dayMillis (number .fraction))) (spread n r)
+      (near .under)))
     where
       wider : (k x : ℕ) → (86400000 * k + x + 1) * L ≡ 86400000 * (k * L) + x * L + L
       wider k x = add-mul (86400000 * k + x) 1 L ∙ ap (λ (y : ℕ). y + 1 * L) (spread k x) ∙ ap (λ (y : ℕ). 86400000 * (k * L) + x * L + y) (one-mul L)
 
-      above : (K M a b : ℕ) → a ≡ 86400000 * K + M → b ≡ 86400000 * (n * L) + r * L + L → 20000000 * (86400000 * K + M + 86400000 * (H + m)) ≤ 20000000 * (86400000 * (n * L + q) + 43200000 * L) + 10000001 * L → a < b
+      above : (K M a b : ℕ) → a ≡ 86400000 * K + M → b ≡ 86400000 * (n * L) + r * L + L
+          → 20000000 * (86400000 * K + M + 86400000 * (H + m)) ≤ 20000000 * (86400000 * (n * L + q) + 43200000 * L) + 10000001 * L → a < b
       above K M a b e f h = omega (arith, q-over, H-L, L-pos)
 
-      under : (K M a b : ℕ) → b ≡ 86400000 * K + M + L → a ≡ 86400000 * (n * L) + r * L → 20000000 * (86400000 * (n * L + q) + 43200000 * L) ≤ 20000000 * (86400000 * K + M + 86400000 * (H + m)) + 10000001 * L → a < b
+      under : (K M a b : ℕ) → b ≡ 86400000 * K + M + L → a ≡ 86400000 * (n * L) + r * L
+          → 20000000 * (86400000 * (n * L + q) + 43200000 * L) ≤ 20000000 * (86400000 * K + M + 86400000 * (H + m)) + 10000001 * L → a < b
       under K M a b e f h = omega (arith, q-under, H-L, L-pos)
 
       both : (a b : ℕ) → a < b + 1 → b < a + 1 → a ≡ b
@@ -186,7 +194,8 @@ module _ (n r : ℕ) (early : 2444245 ≤ n) (late : n ≤ 3144252) (short : r <
 
 -- ---- the theorem
 
-week-of-count : (week ms : ℕ) → week ≤ 100000 → ms < 604800000 → weekAt (86400000 * (2444245 + 7 * week + ms / 86400000) + ms % 86400000) ≡ answer (weekTime week ms)
+week-of-count : (week ms : ℕ) → week ≤ 100000 → ms < 604800000
+    → weekAt (86400000 * (2444245 + 7 * week + ms / 86400000) + ms % 86400000) ≡ answer (weekTime week ms)
 unfolding weekAt
 week-of-count week ms h k = go (86400000 * (2444245 + 7 * week + ms / 86400000) + ms % 86400000) (omega arith)
   where
@@ -205,7 +214,8 @@ pub in-weeks : (week ms : ℕ) (d : JulianDate) → weekDate week ms ≡ answer 
 unfolding weekDate
 in-weeks week ms d e = go (leb week 100000) (ltb ms 604800000) refl refl e
   where
-    go : (x y : Bool) → leb week 100000 ≡ x → ltb ms 604800000 ≡ y → cond (x && y) (answer (julian (weekMidnight (dayIn week ms)) (partOfDay (ms % 86400000)))) (refusal 18) ≡ answer d → InWeeks week ms d
+    go : (x y : Bool) → leb week 100000 ≡ x → ltb ms 604800000 ≡ y
+        → cond (x && y) (answer (julian (weekMidnight (dayIn week ms)) (partOfDay (ms % 86400000)))) (refusal 18) ≡ answer d → InWeeks week ms d
     go true true f g h = record { week-most = leb-true week 100000 f; below = ltb-true ms 604800000 g; is = sym (cc) }
     go true false f g h = let z : _≡_ {A = ℕ} 0 1 = cc in absurd (omega arith)
     go false y f g h = let z : _≡_ {A = ℕ} 0 1 = cc in absurd (omega arith)

@@ -1,7 +1,7 @@
 -- The whole week: answered exactly where one week is nearest, 19 exactly at a tie. Assumes nothing.
 use mathlib.Core.Path.{_≡_, refl, sym, ap, subst, _∙_}
 use mathlib.Core.Logic.{_⊎_, inl, inr}
-use Prim.Native.Nat.{ℕ, _+_, _-_, _*_, _/_, _%_, _≤_, _<_}
+use Prim.Native.Nat.{ℕ, _+_, _-_, _%_, _≤_, _<_}
 use native.Mathlib.Omega.{arith}
 use mathlib.Core.Bool.{Bool, true, false, cond, _||_}
 use lib.Dec.{ltb, leb, eqb}
@@ -62,7 +62,16 @@ module _ (bits r b : ℕ) (has : b % 1024 ≡ bits) where
       far v e (inr l) = past v (steps (b + 1024) v (next-has ∙ sym e) l)
 
   both-near : r ≡ b + 512 → Tie bits r
-  both-near h = record { v = b; w = b + 1024; two = omega arith; has-v = has; has-w = next-has; level = omega arith; none-nearer = λ u e. near u e (ltb u b) (ltb b u) refl refl }
+  both-near h = record {
+    v = b;
+    w = b + 1024;
+    two = omega arith;
+    has-v = has;
+    has-w = next-has;
+    level = omega arith;
+    none-nearer =
+        λ u e. near u e (ltb u b) (ltb b u) refl refl;
+  }
     where
       under : (u : ℕ) → u + 1024 ≤ b → apart b r ≤ apart u r
       under u l = omega arith
@@ -111,7 +120,8 @@ module _ (bits reference : ℕ) (small : bits < 1024) (most : reference ≤ 9900
         b : ℕ
         b = (reference - bits) % 1024
 
-        go : (x y : Bool) → eqb b 512 ≡ x → ltb b 512 ≡ y → Found bits reference (cond x (refusal 19) (cond y (answer (reference - b)) (answer (reference - b + 1024))))
+        go : (x y : Bool) → eqb b 512 ≡ x → ltb b 512 ≡ y
+            → Found bits reference (cond x (refusal 19) (cond y (answer (reference - b)) (answer (reference - b + 1024))))
         go true y e f = level small most (two-alike (eqb-true b 512 e))
         go false true e f = one (reference - b) small most (nearest-before (ltb-true b 512 f)) (omega arith)
         go false false e f =
@@ -178,8 +188,12 @@ nearest-only-if bits reference w s m n = go (fullWeek bits reference) (full-week
     go _ (level _ _ t) = absurd (no-tie w n t)
     go _ (over h) = absurd (h s m)
 
-pub tie-exactly : (bits reference : ℕ) → (fullWeek bits reference ≡ refusal 19 → Tie bits reference) × (bits < 1024 → reference ≤ 99000 → Tie bits reference → fullWeek bits reference ≡ refusal 19)
-tie-exactly bits reference = (λ e. to (fullWeek bits reference) (full-week-found bits reference) e, λ s m t. from (fullWeek bits reference) (full-week-found bits reference) s m t)
+pub tie-exactly : (bits reference : ℕ) → (fullWeek bits reference ≡ refusal 19 → Tie bits reference)
+    × (bits < 1024 → reference ≤ 99000 → Tie bits reference → fullWeek bits reference ≡ refusal 19)
+tie-exactly bits reference = (
+  λ e. to (fullWeek bits reference) (full-week-found bits reference) e,
+  λ s m t. from (fullWeek bits reference) (full-week-found bits reference) s m t,
+)
   where
     to : (o : Outcome ℕ) → Found bits reference o → o ≡ refusal 19 → Tie bits reference
     to _ (one v s m n l) h = let z : _≡_ {A = ℕ} 0 1 = cc in absurd (omega arith)
@@ -191,8 +205,12 @@ tie-exactly bits reference = (λ e. to (fullWeek bits reference) (full-week-foun
     from _ (level _ _ _) s m t = refl
     from _ (over h) s m t = absurd (h s m)
 
-pub over-exactly : (bits reference : ℕ) → (fullWeek bits reference ≡ refusal 18 → bits < 1024 → reference ≤ 99000 → ⊥) × ((1024 ≤ bits) ⊎ (99000 < reference) → fullWeek bits reference ≡ refusal 18)
-over-exactly bits reference = (λ e. to (fullWeek bits reference) (full-week-found bits reference) e, λ h. from (fullWeek bits reference) (full-week-found bits reference) h)
+pub over-exactly : (bits reference : ℕ) → (fullWeek bits reference ≡ refusal 18 → bits < 1024 → reference ≤ 99000 → ⊥)
+    × ((1024 ≤ bits) ⊎ (99000 < reference) → fullWeek bits reference ≡ refusal 18)
+over-exactly bits reference = (
+  λ e. to (fullWeek bits reference) (full-week-found bits reference) e,
+  λ h. from (fullWeek bits reference) (full-week-found bits reference) h,
+)
   where
     to : (o : Outcome ℕ) → Found bits reference o → o ≡ refusal 18 → bits < 1024 → reference ≤ 99000 → ⊥
     to _ (one v s m n l) h = let z : _≡_ {A = ℕ} 0 1 = cc in λ _ _. omega arith
@@ -216,11 +234,13 @@ full-week-numbers bits reference n e = go (fullWeek bits reference) (full-week-f
     go _ (over k) h = inl (cc)
 
 -- near the start, where the next week below would be below 0
-pub first-weeks : (fullWeek 1023 0 ≡ answer 1023) × (fullWeek 512 0 ≡ answer 512) × (fullWeek 0 512 ≡ refusal 19) × (fullWeek 0 513 ≡ answer 1024) × (fullWeek 0 511 ≡ answer 0)
+pub first-weeks : (fullWeek 1023 0 ≡ answer 1023) × (fullWeek 512 0 ≡ answer 512) × (fullWeek 0 512 ≡ refusal 19) × (fullWeek 0 513 ≡ answer 1024)
+    × (fullWeek 0 511 ≡ answer 0)
 unfolding fullWeek byDistance
 first-weeks = (refl, refl, refl, refl, refl)
 
 -- the ends of the ranges, and the largest answer
-pub last-weeks : (fullWeek 183 99000 ≡ answer 99511) × (fullWeek 184 99000 ≡ refusal 19) × (fullWeek 185 99000 ≡ answer 98489) × (fullWeek 1023 99001 ≡ refusal 18) × (fullWeek 1024 99000 ≡ refusal 18)
+pub last-weeks : (fullWeek 183 99000 ≡ answer 99511) × (fullWeek 184 99000 ≡ refusal 19) × (fullWeek 185 99000 ≡ answer 98489)
+    × (fullWeek 1023 99001 ≡ refusal 18) × (fullWeek 1024 99000 ≡ refusal 18)
 unfolding fullWeek byDistance
 last-weeks = (refl, refl, refl, refl, refl)

@@ -6,15 +6,15 @@ use native.Mathlib.Omega.{arith}
 use mathlib.Core.Bool.{Bool, true, false, true≢false}
 use lib.Dec.{lit≤, lit<}
 use lib.IntN.{ℤ, pos, negsuc, negℤ}
-use lib.Ieee.{Float, nan, inf, fin, binary64, up, down, round, ofInt, ofBits, sub, div, mul, lt, toUnsigned, toSigned}
+use lib.Ieee.{Float, nan, inf, fin, binary64, up, down, round, ofInt, ofBits, sub, div, lt, toUnsigned, toSigned}
 use lib.Ieee.Fits.{down-pos}
 use mir.Syntax.{w64}
 use mir.Val.{SFits}
 use borrow.Author.Tests.{ltb-true}
 use Rattle.floats.specs.Whole.{half}
 use Rattle.constants.specs.Constants.{decimal}
-use Rattle.rounding.specs.Value.{Signed, Val, Rounds, L}
-use Rattle.rounding.proofs.Value.{val-move, val-scale, sub-rounds, div-rounds, L-pos}
+use Rattle.rounding.specs.Value.{Signed, Val, Rounds}
+use Rattle.rounding.proofs.Value.{val-scale, sub-rounds, div-rounds}
 use Rattle.rounding.proofs.Casts.{ofInt-val}
 use Rattle.rounding.proofs.Exact.{rounds-exact}
 use Rattle.time_of_day.specs.TimeShown.{fromZero}
@@ -52,7 +52,8 @@ midnight-val n h k = rounds-exact 1 (lit≤ tt) (omega arith) (omega arith) (rec
 pub part-is : (ms : ℕ) → ms ≤ 2 ^ 53 → div binary64 (ofInt binary64 (pos ms)) (decimal 86400000 0) ≡ partOfDay ms
 unfolding partOfDay div round ofInt
 part-is zero h = refl
-part-is (suc n) h = positive (suc n) (div-rounds binary64 (lit< tt) (lit< tt) (lit< tt) (ofInt-val (pos (suc n)) h (lit≤ tt)) day-millis-val) (omega arith) (omega arith)
+part-is (suc n) h = positive (suc n) (div-rounds binary64 (lit< tt) (lit< tt) (lit< tt) (ofInt-val (pos (suc n)) h (lit≤ tt)) day-millis-val) (omega arith)
+    (omega arith)
 
 -- ---- a count of 64 bits, and one from 1 to 2 ^ 52 by one cast
 pub from-zero-most : (z : ℤ) → SFits w64 z → fromZero z ≤ 9223372036854775807
@@ -72,7 +73,8 @@ short-cast (inf true) h k e = (e, omega arith)
 short-cast (inf false) h k e = absurd (true≢false (sym h))
 short-cast (fin true m i) h k e = (e ∙ from-negative (min (m * up i / down i) (2 ^ 63)), omega arith)
 short-cast (fin false m i) h k e =
-    let q : m * up i / down i < 2 ^ 52 = div-lt-iff-lt-mul (down-pos i) .1 (subst (λ (z : ℕ). z < 2 ^ 52 * down i) (mul-one (m * up i)) (ltb-true (m * up i * 1) (2 ^ 52 * down i) h)) in
+    let q : m * up i / down i < 2 ^ 52 =
+    div-lt-iff-lt-mul (down-pos i) .1 (subst (λ (z : ℕ). z < 2 ^ 52 * down i) (mul-one (m * up i)) (ltb-true (m * up i * 1) (2 ^ 52 * down i) h)) in
     least (m * up i / down i) k e q
   where
     least : (q k : ℕ) → k ≡ min q 18446744073709551615 → q < 2 ^ 52 → (k ≡ min q 9223372036854775807) × (k ≤ 9223372036854775807)

@@ -1,4 +1,5 @@
--- Closed cases of the table of conversions, by computation: a tie, either part the larger, each refusal, and two pairs of stamps of one instant. Assumes nothing.
+-- Closed cases of the table of conversions, by computation: a tie, either part the larger, each refusal, and two pairs of stamps of one instant. Assumes
+-- nothing.
 use mathlib.Core.Path.{_≡_, refl}
 use mathlib.Core.Bool.{true, false}
 use Prim.Native.Nat.{ℕ, _+_, _*_, _^_}
@@ -7,7 +8,8 @@ use lib.Dec.{lit≤}
 use lib.Ieee.{Float, inf, nan, binary64, ofBits, round, add, sub, mul, div, neg, fits, lt, le, eq}
 use Rattle.floats.specs.Whole.{abs}
 use Rattle.rounding.specs.Value.{L}
-use Rattle.constants.specs.Constants.{secondsPerDay, mjdZeroPoint, gpsToTaiOffsetSeconds, ttTaiOffset, tcgRateLg, tcbRateLb, tdbOffset1977, mjd1977Jan1, tcgReferenceEpoch, ratio, tcgRateRatio, tcbRateRatio}
+use Rattle.constants.specs.Constants.{secondsPerDay, mjdZeroPoint, gpsToTaiOffsetSeconds, ttTaiOffset, tcgRateLg, tcbRateLb, tdbOffset1977, mjd1977Jan1}
+use Rattle.constants.specs.Constants.{tcgReferenceEpoch, ratio, tcgRateRatio, tcbRateRatio}
 use Rattle.refusals.specs.Outcome.{answer, refusal, onward}
 use Rattle.julian.specs.declared.JulianDate.{JulianDate}
 use Rattle.julian.specs.Finite.{finiteJd, finiteArg}
@@ -27,42 +29,59 @@ bits n = ofBits binary64 n
 
 -- GPS to TAI at J2000.0
 noon : answerOf gps-tai (at (bits 0x4142_b42c_8000_0000) (bits 0x0000_0000_0000_0000)) ≡ answer (at (bits 0x4142_b42c_8000_0000) (bits 0x3f2c_d2de_3ef5_0061))
-unfolding answerOf converted convertedBy finiteBoth finiteOffset finiteJd finiteArg onward changed mapSmallerPart partsOf putBack firstIsLarger plus minus since daysOf gpsDays ttDays tdb0 jd1977 tcgToTt ttToTcg tcbToTdb tdbToTcb secondsPerDay gpsToTaiOffsetSeconds ttTaiOffset mjdZeroPoint mjd1977Jan1 tcgReferenceEpoch tcgRateLg tcbRateLb tcgRateRatio tcbRateRatio ratio tdbOffset1977 abs lt ofBits round add sub mul div neg
+unfolding answerOf converted convertedBy finiteBoth finiteOffset finiteJd finiteArg onward changed mapSmallerPart partsOf putBack firstIsLarger plus minus
+    since daysOf gpsDays ttDays tdb0 jd1977 tcgToTt ttToTcg tcbToTdb tdbToTcb secondsPerDay gpsToTaiOffsetSeconds ttTaiOffset mjdZeroPoint mjd1977Jan1
+    tcgReferenceEpoch tcgRateLg tcbRateLb tcgRateRatio tcbRateRatio ratio tdbOffset1977 abs lt ofBits round add sub mul div neg
 noon = refl
 
 -- on equal sizes jd1 changes
 tie : answerOf gps-tai (at (bits 0x3ff0_0000_0000_0000) (bits 0xbff0_0000_0000_0000)) ≡ answer (at (bits 0x3ff0_00e6_96f1_f7a8) (bits 0xbff0_0000_0000_0000))
-unfolding answerOf converted convertedBy finiteBoth finiteOffset finiteJd finiteArg onward changed mapSmallerPart partsOf putBack firstIsLarger plus minus since daysOf gpsDays ttDays tdb0 jd1977 tcgToTt ttToTcg tcbToTdb tdbToTcb secondsPerDay gpsToTaiOffsetSeconds ttTaiOffset mjdZeroPoint mjd1977Jan1 tcgReferenceEpoch tcgRateLg tcbRateLb tcgRateRatio tcbRateRatio ratio tdbOffset1977 abs lt ofBits round add sub mul div neg
+unfolding answerOf converted convertedBy finiteBoth finiteOffset finiteJd finiteArg onward changed mapSmallerPart partsOf putBack firstIsLarger plus minus
+    since daysOf gpsDays ttDays tdb0 jd1977 tcgToTt ttToTcg tcbToTdb tdbToTcb secondsPerDay gpsToTaiOffsetSeconds ttTaiOffset mjdZeroPoint mjd1977Jan1
+    tcgReferenceEpoch tcgRateLg tcbRateLb tcgRateRatio tcbRateRatio ratio tdbOffset1977 abs lt ofBits round add sub mul div neg
 tie = refl
 
 -- jd2 is the larger part
-second-larger : answerOf tt-tai (at (bits 0x3fd0_0000_0000_0000) (bits 0x4142_b42c_8000_0000)) ≡ answer (at (bits 0x3fcf_f3cb_3e57_53a4) (bits 0x4142_b42c_8000_0000))
-unfolding answerOf converted convertedBy finiteBoth finiteOffset finiteJd finiteArg onward changed mapSmallerPart partsOf putBack firstIsLarger plus minus since daysOf gpsDays ttDays tdb0 jd1977 tcgToTt ttToTcg tcbToTdb tdbToTcb secondsPerDay gpsToTaiOffsetSeconds ttTaiOffset mjdZeroPoint mjd1977Jan1 tcgReferenceEpoch tcgRateLg tcbRateLb tcgRateRatio tcbRateRatio ratio tdbOffset1977 abs lt ofBits round add sub mul div neg
+second-larger : answerOf tt-tai (at (bits 0x3fd0_0000_0000_0000) (bits 0x4142_b42c_8000_0000)) ≡ answer
+    (at (bits 0x3fcf_f3cb_3e57_53a4) (bits 0x4142_b42c_8000_0000))
+unfolding answerOf converted convertedBy finiteBoth finiteOffset finiteJd finiteArg onward changed mapSmallerPart partsOf putBack firstIsLarger plus minus
+    since daysOf gpsDays ttDays tdb0 jd1977 tcgToTt ttToTcg tcbToTdb tdbToTcb secondsPerDay gpsToTaiOffsetSeconds ttTaiOffset mjdZeroPoint mjd1977Jan1
+    tcgReferenceEpoch tcgRateLg tcbRateLb tcgRateRatio tcbRateRatio ratio tdbOffset1977 abs lt ofBits round add sub mul div neg
 second-larger = refl
 
 -- document 01's case of 9: a part is an infinity
 infinite : answerOf gps-tai (at (inf false) (bits 0)) ≡ refusal 9
-unfolding answerOf converted convertedBy finiteBoth finiteOffset finiteJd finiteArg onward changed mapSmallerPart partsOf putBack firstIsLarger plus minus since daysOf gpsDays ttDays tdb0 jd1977 tcgToTt ttToTcg tcbToTdb tdbToTcb secondsPerDay gpsToTaiOffsetSeconds ttTaiOffset mjdZeroPoint mjd1977Jan1 tcgReferenceEpoch tcgRateLg tcbRateLb tcgRateRatio tcbRateRatio ratio tdbOffset1977 abs lt ofBits round add sub mul div neg
+unfolding answerOf converted convertedBy finiteBoth finiteOffset finiteJd finiteArg onward changed mapSmallerPart partsOf putBack firstIsLarger plus minus
+    since daysOf gpsDays ttDays tdb0 jd1977 tcgToTt ttToTcg tcbToTdb tdbToTcb secondsPerDay gpsToTaiOffsetSeconds ttTaiOffset mjdZeroPoint mjd1977Jan1
+    tcgReferenceEpoch tcgRateLg tcbRateLb tcgRateRatio tcbRateRatio ratio tdbOffset1977 abs lt ofBits round add sub mul div neg
 infinite = refl
 
 -- a part and the offset are not finite: 9 before 10
 nine-first : answerOf (tai-ut1 nan) (at (inf false) (bits 0)) ≡ refusal 9
-unfolding answerOf converted convertedBy finiteBoth finiteOffset finiteJd finiteArg onward changed mapSmallerPart partsOf putBack firstIsLarger plus minus since daysOf gpsDays ttDays tdb0 jd1977 tcgToTt ttToTcg tcbToTdb tdbToTcb secondsPerDay gpsToTaiOffsetSeconds ttTaiOffset mjdZeroPoint mjd1977Jan1 tcgReferenceEpoch tcgRateLg tcbRateLb tcgRateRatio tcbRateRatio ratio tdbOffset1977 abs lt ofBits round add sub mul div neg
+unfolding answerOf converted convertedBy finiteBoth finiteOffset finiteJd finiteArg onward changed mapSmallerPart partsOf putBack firstIsLarger plus minus
+    since daysOf gpsDays ttDays tdb0 jd1977 tcgToTt ttToTcg tcbToTdb tdbToTcb secondsPerDay gpsToTaiOffsetSeconds ttTaiOffset mjdZeroPoint mjd1977Jan1
+    tcgReferenceEpoch tcgRateLg tcbRateLb tcgRateRatio tcbRateRatio ratio tdbOffset1977 abs lt ofBits round add sub mul div neg
 nine-first = refl
 
 -- the offset is not finite
 ten : answerOf (tai-ut1 nan) (at (bits 0x3ff0_0000_0000_0000) (bits 0)) ≡ refusal 10
-unfolding answerOf converted convertedBy finiteBoth finiteOffset finiteJd finiteArg onward changed mapSmallerPart partsOf putBack firstIsLarger plus minus since daysOf gpsDays ttDays tdb0 jd1977 tcgToTt ttToTcg tcbToTdb tdbToTcb secondsPerDay gpsToTaiOffsetSeconds ttTaiOffset mjdZeroPoint mjd1977Jan1 tcgReferenceEpoch tcgRateLg tcbRateLb tcgRateRatio tcbRateRatio ratio tdbOffset1977 abs lt ofBits round add sub mul div neg
+unfolding answerOf converted convertedBy finiteBoth finiteOffset finiteJd finiteArg onward changed mapSmallerPart partsOf putBack firstIsLarger plus minus
+    since daysOf gpsDays ttDays tdb0 jd1977 tcgToTt ttToTcg tcbToTdb tdbToTcb secondsPerDay gpsToTaiOffsetSeconds ttTaiOffset mjdZeroPoint mjd1977Jan1
+    tcgReferenceEpoch tcgRateLg tcbRateLb tcgRateRatio tcbRateRatio ratio tdbOffset1977 abs lt ofBits round add sub mul div neg
 ten = refl
 
 -- finite TCG parts whose TT date in between is not finite: 9
 between : answerOf tcg-tai (at (bits 0x7fee_42d1_3077_3b76) (bits 0x7fee_42d1_3077_3b76)) ≡ refusal 9
-unfolding answerOf converted convertedBy finiteBoth finiteOffset finiteJd finiteArg onward changed mapSmallerPart partsOf putBack firstIsLarger plus minus since daysOf gpsDays ttDays tdb0 jd1977 tcgToTt ttToTcg tcbToTdb tdbToTcb secondsPerDay gpsToTaiOffsetSeconds ttTaiOffset mjdZeroPoint mjd1977Jan1 tcgReferenceEpoch tcgRateLg tcbRateLb tcgRateRatio tcbRateRatio ratio tdbOffset1977 abs lt ofBits round add sub mul div neg
+unfolding answerOf converted convertedBy finiteBoth finiteOffset finiteJd finiteArg onward changed mapSmallerPart partsOf putBack firstIsLarger plus minus
+    since daysOf gpsDays ttDays tdb0 jd1977 tcgToTt ttToTcg tcbToTdb tdbToTcb secondsPerDay gpsToTaiOffsetSeconds ttTaiOffset mjdZeroPoint mjd1977Jan1
+    tcgReferenceEpoch tcgRateLg tcbRateLb tcgRateRatio tcbRateRatio ratio tdbOffset1977 abs lt ofBits round add sub mul div neg
 between = refl
 
 -- huge finite TCB parts give an infinity
 overflow : answerOf tcb-tdb (at (bits 0x7fee_42d1_3077_3b76) (bits 0x7fee_42d1_3077_3b76)) ≡ answer (at (inf true) (bits 0x7fee_42d1_3077_3b76))
-unfolding answerOf converted convertedBy finiteBoth finiteOffset finiteJd finiteArg onward changed mapSmallerPart partsOf putBack firstIsLarger plus minus since daysOf gpsDays ttDays tdb0 jd1977 tcgToTt ttToTcg tcbToTdb tdbToTcb secondsPerDay gpsToTaiOffsetSeconds ttTaiOffset mjdZeroPoint mjd1977Jan1 tcgReferenceEpoch tcgRateLg tcbRateLb tcgRateRatio tcbRateRatio ratio tdbOffset1977 abs lt ofBits round add sub mul div neg
+unfolding answerOf converted convertedBy finiteBoth finiteOffset finiteJd finiteArg onward changed mapSmallerPart partsOf putBack firstIsLarger plus minus
+    since daysOf gpsDays ttDays tdb0 jd1977 tcgToTt ttToTcg tcbToTdb tdbToTcb secondsPerDay gpsToTaiOffsetSeconds ttTaiOffset mjdZeroPoint mjd1977Jan1
+    tcgReferenceEpoch tcgRateLg tcbRateLb tcgRateRatio tcbRateRatio ratio tdbOffset1977 abs lt ofBits round add sub mul div neg
 overflow = refl
 
 -- ---- one instant by two recorders: the premises of the theorems on recorders are met
@@ -80,8 +99,26 @@ noon-stamps = record {
   n = 0;
   p' = 2451545 * 2 ^ 1074 + 8113151328714849 * 2 ^ 1009;
   n' = 0;
-  from = record { p = 2451545 * 2 ^ 1074; n = 0; q = 0; m = 0; first = record { sign = false; size = 2451545 * 2 ^ 1074; has = (refl, refl); is = refl }; second = record { sign = false; size = 0; has = (refl, refl); is = refl }; total = refl };
-  to = record { p = 2451545 * 2 ^ 1074; n = 0; q = 8113151328714849 * 2 ^ 1009; m = 0; first = record { sign = false; size = 2451545 * 2 ^ 1074; has = (refl, refl); is = refl }; second = record { sign = false; size = 8113151328714849 * 2 ^ 1009; has = (refl, refl); is = refl }; total = refl };
+  from = record {
+    p = 2451545 * 2 ^ 1074;
+    n = 0;
+    q = 0;
+    m = 0;
+    first = record { sign = false; size = 2451545 * 2 ^ 1074; has = (refl, refl); is = refl };
+    second = record { sign = false; size = 0; has = (refl, refl); is = refl };
+    total = refl;
+  };
+  to = record {
+    p = 2451545 * 2 ^ 1074;
+    n = 0;
+    q = 8113151328714849 * 2 ^ 1009;
+    m = 0;
+    first =
+        record { sign = false; size = 2451545 * 2 ^ 1074; has = (refl, refl); is = refl };
+    second =
+        record { sign = false; size = 8113151328714849 * 2 ^ 1009; has = (refl, refl); is = refl };
+    total = refl;
+  };
   over = lit≤ tt;
   under = lit≤ tt;
 }
@@ -107,8 +144,28 @@ midnight-stamps = record {
   n = 0;
   p' = 4800001 * 2 ^ 1073 + 1771038361996153 * 2 ^ 1039;
   n' = 0;
-  from = record { p = 4800001 * 2 ^ 1073; n = 0; q = 51544 * 2 ^ 1074; m = 0; first = record { sign = false; size = 4800001 * 2 ^ 1073; has = (refl, refl); is = refl }; second = record { sign = false; size = 51544 * 2 ^ 1074; has = (refl, refl); is = refl }; total = refl };
-  to = record { p = 4800001 * 2 ^ 1073; n = 0; q = 1771038361996153 * 2 ^ 1039; m = 0; first = record { sign = false; size = 4800001 * 2 ^ 1073; has = (refl, refl); is = refl }; second = record { sign = false; size = 1771038361996153 * 2 ^ 1039; has = (refl, refl); is = refl }; total = refl };
+  from = record {
+    p = 4800001 * 2 ^ 1073;
+    n = 0;
+    q = 51544 * 2 ^ 1074;
+    m = 0;
+    first =
+        record { sign = false; size = 4800001 * 2 ^ 1073; has = (refl, refl); is = refl };
+    second =
+        record { sign = false; size = 51544 * 2 ^ 1074; has = (refl, refl); is = refl };
+    total = refl;
+  };
+  to = record {
+    p = 4800001 * 2 ^ 1073;
+    n = 0;
+    q = 1771038361996153 * 2 ^ 1039;
+    m = 0;
+    first =
+        record { sign = false; size = 4800001 * 2 ^ 1073; has = (refl, refl); is = refl };
+    second =
+        record { sign = false; size = 1771038361996153 * 2 ^ 1039; has = (refl, refl); is = refl };
+    total = refl;
+  };
   over = lit≤ tt;
   under = lit≤ tt;
 }

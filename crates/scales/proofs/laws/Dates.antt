@@ -71,7 +71,8 @@ module _ {x y : Float} {S S' : ℕ} (z : Sized x S) (w : Sized y S') where
   smaller h = let l : z .size + 0 < w .size + 0 = ltb→lt (z .size + 0) (w .size + 0) (subst T (sym (sym order ∙ h)) tt) in omega arith
 
   pub no-smaller : lt (abs x) (abs y) ≡ false → w .size ≤ z .size
-  no-smaller h = let l : w .size + 0 ≤ z .size + 0 = nltb→le (z .size + 0) (w .size + 0) (subst (λ (b : Bool). T (not b)) (sym (sym order ∙ h)) tt) in omega arith
+  no-smaller h = let l : w .size + 0 ≤ z .size + 0 =
+      nltb→le (z .size + 0) (w .size + 0) (subst (λ (b : Bool). T (not b)) (sym (sym order ∙ h)) tt) in omega arith
 
 pub under-as : {x : Float} {S : ℕ} (S' : ℕ) (z : Sized x S) → z .size ≤ S' * U → Sized x S'
 under-as S' z h = record { sign = z .sign; size = z .size; has = z .has; most = h }
@@ -79,7 +80,13 @@ under-as S' z h = record { sign = z .sign; size = z .size; has = z .has; most = 
 pub about-sized : (T' : ℕ) {x : Float} {P N D M e : ℕ} → M + e ≤ T' → About x P N D M e → Sized x T'
 about-sized T' {x} {P} {N} {D} {M} {e} h a =
     let v = a .val in
-    record { sign = v .sign; size = v .size; has = v .has; most = le-trans (signed-le (v .sign) (v .size) (a .p) (a .n) ((M + e) * U) (v .is) (size-high a) (size-low a)) (mul-le-mul-right U h) }
+    record {
+      sign = v .sign;
+      size = v .size;
+      has = v .has;
+      most =
+          le-trans (signed-le (v .sign) (v .size) (a .p) (a .n) ((M + e) * U) (v .is) (size-high a) (size-low a)) (mul-le-mul-right U h);
+    }
 
 -- ---- the larger part is at most S, the smaller at most s
 unfoldable pub Chosen : ℕ → ℕ → JulianDate → Type 0
@@ -107,7 +114,8 @@ pub record Near (ps a c B B' p n q m : ℕ) (r : Float) : Type 0 where
   pub under : dayPs * (c * (n + v) + a * (p + q) + B) ≤ dayPs * (c * (p + u) + a * (n + m) + B') + ps * (c * L)
 
 -- The larger part stays: so c * (larger + smaller) moves by P - N, which is a * (larger + smaller) + B - B' less c * larger.
-whole-le : (ps c u v P N X Y : ℕ) → dayPs * (u * (L * c) + N * L) ≤ dayPs * (v * (L * c) + P * L) + ps * (L * (L * c)) → P + X ≡ N + Y → dayPs * (c * u + X) ≤ dayPs * (c * v + Y) + ps * (c * L)
+whole-le : (ps c u v P N X Y : ℕ) → dayPs * (u * (L * c) + N * L) ≤ dayPs * (v * (L * c) + P * L) + ps * (L * (L * c)) → P + X ≡ N + Y
+    → dayPs * (c * u + X) ≤ dayPs * (c * v + Y) + ps * (c * L)
 whole-le ps c u v P N X Y h e =
     go (c * u) (c * v) P N X Y (ps * (c * L))
     (le-of-mul-le-mul-right {k = L} (le-trans (le-of-eq (left u N)) (le-trans h (le-of-eq (sym right)))) L-pos) e
@@ -124,17 +132,21 @@ whole-le ps c u v P N X Y h e =
     right : (dayPs * (c * v + P) + ps * (c * L)) * L ≡ dayPs * (v * (L * c) + P * L) + ps * (L * (L * c))
     right =
         add-mul (dayPs * (c * v + P)) (ps * (c * L)) L ∙ ap (λ (z : ℕ). z + ps * (c * L) * L) (left v P)
-        ∙ ap (λ (z : ℕ). dayPs * (v * (L * c) + P * L) + z) (mul-assoc ps (c * L) L ∙ ap (λ (z : ℕ). ps * z) (mul-comm (c * L) L ∙ ap (λ (z : ℕ). L * z) (mul-comm c L)))
+        ∙ ap (λ (z : ℕ). dayPs * (v * (L * c) + P * L) + z)
+        (mul-assoc ps (c * L) L ∙ ap (λ (z : ℕ). ps * z) (mul-comm (c * L) L ∙ ap (λ (z : ℕ). L * z) (mul-comm c L)))
 
-pub near-of : (ps a c B B' p n q m : ℕ) {r : Float} {P N D : ℕ} → D ≡ L * c → P + (c * p + a * (n + m) + B') ≡ N + (c * n + a * (p + q) + B) → Within ps r P N D → Near ps a c B B' p n q m r
+pub near-of : (ps a c B B' p n q m : ℕ) {r : Float} {P N D : ℕ} → D ≡ L * c → P + (c * p + a * (n + m) + B') ≡ N + (c * n + a * (p + q) + B)
+    → Within ps r P N D → Near ps a c B B' p n q m r
 near-of ps a c B B' p n q m {r} {P} {N} {D} d e w = record {
   u = w .p;
   v = w .n;
   val = w .val;
   over = subst₂ (λ (s t : ℕ). dayPs * s ≤ dayPs * t + ps * (c * L)) (turn c (w .p) p (a * (n + m)) B') (turn c (w .n) n (a * (p + q)) B)
-      (whole-le ps c (w .p) (w .n) P N (c * p + a * (n + m) + B') (c * n + a * (p + q) + B) (subst (λ (z : ℕ). dayPs * (w .p * z + N * L) ≤ dayPs * (w .n * z + P * L) + ps * (L * z)) d (w .over)) e);
+      (whole-le ps c (w .p) (w .n) P N (c * p + a * (n + m) + B') (c * n + a * (p + q) + B)
+      (subst (λ (z : ℕ). dayPs * (w .p * z + N * L) ≤ dayPs * (w .n * z + P * L) + ps * (L * z)) d (w .over)) e);
   under = subst₂ (λ (s t : ℕ). dayPs * s ≤ dayPs * t + ps * (c * L)) (turn c (w .n) n (a * (p + q)) B) (turn c (w .p) p (a * (n + m)) B')
-      (whole-le ps c (w .n) (w .p) N P (c * n + a * (p + q) + B) (c * p + a * (n + m) + B') (subst (λ (z : ℕ). dayPs * (w .n * z + P * L) ≤ dayPs * (w .p * z + N * L) + ps * (L * z)) d (w .under)) (sym e));
+      (whole-le ps c (w .n) (w .p) N P (c * n + a * (p + q) + B) (c * p + a * (n + m) + B')
+      (subst (λ (z : ℕ). dayPs * (w .n * z + P * L) ≤ dayPs * (w .p * z + N * L) + ps * (L * z)) d (w .under)) (sym e));
 }
   where
     turn : (c u p x y : ℕ) → c * u + (c * p + x + y) ≡ c * (p + u) + x + y
@@ -143,7 +155,8 @@ near-of ps a c B B' p n q m {r} {P} {N} {D} d e w = record {
 -- ---- one law for every formula
 unfoldable pub Formula : (ps S s a c B B' : ℕ) → (Float → Float → Float) → Type 0
 Formula ps S s a c B B' f =
-    (big small : Float) (p n q m : ℕ) → p ≤ n + S * U → n ≤ p + S * U → q ≤ m + s * U → m ≤ q + s * U → Val big p n L → Val small q m L → Near ps a c B B' p n q m (f big small)
+    (big small : Float) (p n q m : ℕ) → p ≤ n + S * U → n ≤ p + S * U → q ≤ m + s * U → m ≤ q + s * U → Val big p n L → Val small q m L
+    → Near ps a c B B' p n q m (f big small)
 
 module _ (ps S s a c B B' : ℕ) (f : Float → Float → Float) (law : Formula ps S s a c B B' f) where
   at : {x y : Float} (z : Sized x S) (w : Sized y s) → Near ps a c B B' (above z) (beneath z) (above w) (beneath w) (f x y)
@@ -176,7 +189,16 @@ module _ (ps S s a c B B' : ℕ) (f : Float → Float → Float) (law : Formula 
             n = beneath z + beneath w;
             p' = above z + k .u;
             n' = beneath z + k .v;
-            from = record { p = above w; n = beneath w; q = above z; m = beneath z; first = value w; second = value z; total = turn (above w) (above z) (beneath w) (beneath z) };
+            from = record {
+              p = above w;
+              n = beneath w;
+              q = above z;
+              m = beneath z;
+              first = value w;
+              second = value z;
+              total =
+                  turn (above w) (above z) (beneath w) (beneath z);
+            };
             to = record { p = k .u; n = k .v; q = above z; m = beneath z; first = k .val; second = value z; total = turn (k .u) (above z) (k .v) (beneath z) };
             over = k .over;
             under = k .under;

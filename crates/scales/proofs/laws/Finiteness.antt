@@ -1,6 +1,6 @@
--- Demand 1 of the sixteen conversions, as one theorem: a date whose parts are under 2 ^ 52 in size, with an offset of at most 10 ^ 9 seconds, has an answer, both parts of it
--- finite. `tests/scale_numbers` makes the numbers of the four rates: the places of the roundings (the bit length of what is rounded, less 54), the size of the correction and its
--- error, the last two the least that the laws of `About` allow, in units of 2 ^ -90. Assumes nothing.
+-- Demand 1 of the sixteen conversions, as one theorem: a date whose parts are under 2 ^ 52 in size, with an offset of at most 10 ^ 9 seconds, has an answer,
+-- both parts of it finite. `tests/scale_numbers` makes the numbers of the four rates: the places of the roundings (the bit length of what is rounded, less 54),
+-- the size of the correction and its error, the last two the least that the laws of `About` allow, in units of 2 ^ -90. Assumes nothing.
 use mathlib.Core.Path.{_≡_, refl, sym, ap, _∙_, subst}
 use Prim.Native.Nat.{ℕ, _+_, _*_, _^_, _≤_}
 use native.Mathlib.Nat.{le-trans, mul-assoc, mul-le-mul-right, add-zero}
@@ -24,12 +24,14 @@ use Rattle.julian.specs.declared.JulianDate.{JulianDate}
 use Rattle.julian.specs.Worth.{SmallParts}
 use Rattle.julian.specs.shifts.SmallerPart.{firstIsLarger, mapSmallerPart}
 use Rattle.scales.specs.Formulas.{gpsDays, ttDays, tcgToTt, ttToTcg, tcbToTdb, tdbToTcb}
-use Rattle.scales.specs.Conversions.{Conversion, gps-tai, tai-gps, tai-tt, tt-tai, tcg-tt, tt-tcg, tcb-tdb, tdb-tcb, tai-tcg, tcg-tai, tai-ut1, ut1-tai, ut1-tt, tt-ut1, tt-tdb, tdb-tt, offsetOf, answerOf}
+use Rattle.scales.specs.Conversions.{Conversion, gps-tai, tai-gps, tai-tt, tt-tai, tcg-tt, tt-tcg, tcb-tdb, tdb-tcb, tai-tcg, tcg-tai, tai-ut1}
+use Rattle.scales.specs.Conversions.{ut1-tai, ut1-tt, tt-ut1, tt-tdb, tdb-tt, offsetOf, answerOf}
 use Rattle.scales.specs.laws.Ranges.{AtMost, power, Billion, FiniteDate}
 use Rattle.refusals.proofs.Onward.{went}
 use Rattle.julian.proofs.shifts.Outcomes.{converted-is, by-is}
 use Rattle.julian.proofs.shifts.SmallerPart.{mapAs, map-is}
-use Rattle.scales.proofs.laws.Constants.{gps-about, tt-about, mjd-about, epoch-about, jd1977-about, tt-about-2, tdb0-about, lg-val, ratio-lg-val, lb-val, ratio-lb-val}
+use Rattle.scales.proofs.laws.Constants.{gps-about, tt-about, mjd-about, epoch-about, jd1977-about, tt-about-2, tdb0-about, lg-val, ratio-lg-val}
+use Rattle.scales.proofs.laws.Constants.{lb-val, ratio-lb-val}
 use Rattle.scales.proofs.laws.Formulas.{part, since-about, until-about, rate-less, rate-more, plus-about, minus-about, days-about}
 use Rattle.scales.proofs.laws.Dates.{Sized, above, beneath, value, high, low, under-as, about-sized}
 use Rattle.julian.specs.shifts.Shifts.{plus, minus, daysOf, converted, convertedBy}
@@ -46,53 +48,73 @@ Bounded S T' f = (big small : Float) → Sized big S → Sized small S → Sized
 
 gps-plus-far : Bounded (2 ^ 143) (2 ^ 144) (plus gpsDays)
 unfolding Bounded
-gps-plus-far big small z w = about-sized (2 ^ 144) (lit≤ tt) (plus-about 100 86400 (2 ^ 143) big (lit< tt) (lit≤ tt) (lit< tt) (high w) (low w) (value w) gps-about)
+gps-plus-far big small z w = about-sized (2 ^ 144) (lit≤ tt)
+    (plus-about 100 86400 (2 ^ 143) big (lit< tt) (lit≤ tt) (lit< tt) (high w) (low w) (value w) gps-about)
 
 tt-plus-far : Bounded (2 ^ 143) (2 ^ 144) (plus ttDays)
 unfolding Bounded
-tt-plus-far big small z w = about-sized (2 ^ 144) (lit≤ tt) (plus-about 100 86400000 (2 ^ 143) big (lit< tt) (lit≤ tt) (lit< tt) (high w) (low w) (value w) tt-about)
+tt-plus-far big small z w = about-sized (2 ^ 144) (lit≤ tt)
+    (plus-about 100 86400000 (2 ^ 143) big (lit< tt) (lit≤ tt) (lit< tt) (high w) (low w) (value w) tt-about)
 
 gps-minus-far : Bounded (2 ^ 143) (2 ^ 144) (minus gpsDays)
 unfolding Bounded
-gps-minus-far big small z w = about-sized (2 ^ 144) (lit≤ tt) (minus-about 100 86400 (2 ^ 143) big (lit< tt) (lit≤ tt) (lit< tt) (high w) (low w) (value w) gps-about)
+gps-minus-far big small z w = about-sized (2 ^ 144) (lit≤ tt)
+    (minus-about 100 86400 (2 ^ 143) big (lit< tt) (lit≤ tt) (lit< tt) (high w) (low w) (value w) gps-about)
 
 tt-minus-far : Bounded (2 ^ 143) (2 ^ 144) (minus ttDays)
 unfolding Bounded
-tt-minus-far big small z w = about-sized (2 ^ 144) (lit≤ tt) (minus-about 100 86400000 (2 ^ 143) big (lit< tt) (lit≤ tt) (lit< tt) (high w) (low w) (value w) tt-about)
+tt-minus-far big small z w = about-sized (2 ^ 144) (lit≤ tt)
+    (minus-about 100 86400000 (2 ^ 143) big (lit< tt) (lit≤ tt) (lit< tt) (high w) (low w) (value w) tt-about)
 
 -- the first step of a conversion through TT
 tt-plus-first : Bounded (2 ^ 142) (2 ^ 143) (plus ttDays)
 unfolding Bounded
-tt-plus-first big small z w = about-sized (2 ^ 143) (lit≤ tt) (plus-about 100 86400000 (2 ^ 142) big (lit< tt) (lit≤ tt) (lit< tt) (high w) (low w) (value w) tt-about)
+tt-plus-first big small z w = about-sized (2 ^ 143) (lit≤ tt)
+    (plus-about 100 86400000 (2 ^ 142) big (lit< tt) (lit≤ tt) (lit< tt) (high w) (low w) (value w) tt-about)
 
 tcg-tt-first : Bounded (2 ^ 142) (2 ^ 143) tcgToTt
 unfolding Bounded tcgToTt
-tcg-tt-first big small z w = about-sized (2 ^ 143) (lit≤ tt) (rate-less 59 89 6969290134 6740283829902479 10000000000000000000 (2 ^ 83) 314786517965340672 7771018176756206835028886368896228 2338265827361613893 (lit≤ tt) (lit≤ tt) (lit< tt) (lit< tt) (lit≤ tt) (lit≤ tt) (lit≤ tt) (lit< tt) (lit≤ tt) (lit< tt) lg-val
-    (since-about 89 89 90 (lit≤ tt) (lit≤ tt) (lit≤ tt) (lit< tt) (lit< tt) (lit< tt) (part 10000000 (2 ^ 142) (lit< tt) (high z) (low z) (value z)) (part 10000000 (2 ^ 142) (lit< tt) (high w) (low w) (value w)) mjd-about epoch-about)
+tcg-tt-first big small z w = about-sized (2 ^ 143) (lit≤ tt)
+    (rate-less 59 89 6969290134 6740283829902479 10000000000000000000 (2 ^ 83) 314786517965340672 7771018176756206835028886368896228 2338265827361613893
+    (lit≤ tt) (lit≤ tt) (lit< tt) (lit< tt) (lit≤ tt) (lit≤ tt) (lit≤ tt) (lit< tt) (lit≤ tt) (lit< tt) lg-val
+    (since-about 89 89 90 (lit≤ tt) (lit≤ tt) (lit≤ tt) (lit< tt) (lit< tt) (lit< tt) (part 10000000 (2 ^ 142) (lit< tt) (high z) (low z) (value z))
+    (part 10000000 (2 ^ 142) (lit< tt) (high w) (low w) (value w)) mjd-about epoch-about)
     (part 10000000 (2 ^ 142) (lit< tt) (high w) (low w) (value w)))
 
 tcg-tt-far : Bounded (2 ^ 143) (2 ^ 144) tcgToTt
 unfolding Bounded tcgToTt
-tcg-tt-far big small z w = about-sized (2 ^ 144) (lit≤ tt) (rate-less 60 90 6969290134 6740283829902479 10000000000000000000 (2 ^ 83) 314786517965340672 15542036351404573992887734717204816 4676531654712327088 (lit≤ tt) (lit≤ tt) (lit< tt) (lit< tt) (lit≤ tt) (lit≤ tt) (lit≤ tt) (lit< tt) (lit≤ tt) (lit< tt) lg-val
-    (since-about 90 90 91 (lit≤ tt) (lit≤ tt) (lit≤ tt) (lit< tt) (lit< tt) (lit< tt) (part 10000000 (2 ^ 143) (lit< tt) (high z) (low z) (value z)) (part 10000000 (2 ^ 143) (lit< tt) (high w) (low w) (value w)) mjd-about epoch-about)
+tcg-tt-far big small z w = about-sized (2 ^ 144) (lit≤ tt)
+    (rate-less 60 90 6969290134 6740283829902479 10000000000000000000 (2 ^ 83) 314786517965340672 15542036351404573992887734717204816 4676531654712327088
+    (lit≤ tt) (lit≤ tt) (lit< tt) (lit< tt) (lit≤ tt) (lit≤ tt) (lit≤ tt) (lit< tt) (lit≤ tt) (lit< tt) lg-val
+    (since-about 90 90 91 (lit≤ tt) (lit≤ tt) (lit≤ tt) (lit< tt) (lit< tt) (lit< tt) (part 10000000 (2 ^ 143) (lit< tt) (high z) (low z) (value z))
+    (part 10000000 (2 ^ 143) (lit< tt) (high w) (low w) (value w)) mjd-about epoch-about)
     (part 10000000 (2 ^ 143) (lit< tt) (high w) (low w) (value w)))
 
 tt-tcg-far : Bounded (2 ^ 143) (2 ^ 144) ttToTcg
 unfolding Bounded ttToTcg
-tt-tcg-far big small z w = about-sized (2 ^ 144) (lit≤ tt) (rate-more 60 90 6969290134 3370141917299989 9999999993030709866 (2 ^ 82) 1971811916238678862 15542036362236270061047983428546945 5513284573188805345 (lit≤ tt) (lit≤ tt) (lit< tt) (lit< tt) (lit≤ tt) (lit≤ tt) (lit≤ tt) (lit< tt) (lit≤ tt) (lit< tt) ratio-lg-val
-    (since-about 90 90 91 (lit≤ tt) (lit≤ tt) (lit≤ tt) (lit< tt) (lit< tt) (lit< tt) (part 10000000 (2 ^ 143) (lit< tt) (high z) (low z) (value z)) (part 10000000 (2 ^ 143) (lit< tt) (high w) (low w) (value w)) mjd-about epoch-about)
+tt-tcg-far big small z w = about-sized (2 ^ 144) (lit≤ tt)
+    (rate-more 60 90 6969290134 3370141917299989 9999999993030709866 (2 ^ 82) 1971811916238678862 15542036362236270061047983428546945 5513284573188805345
+    (lit≤ tt) (lit≤ tt) (lit< tt) (lit< tt) (lit≤ tt) (lit≤ tt) (lit≤ tt) (lit< tt) (lit≤ tt) (lit< tt) ratio-lg-val
+    (since-about 90 90 91 (lit≤ tt) (lit≤ tt) (lit≤ tt) (lit< tt) (lit< tt) (lit< tt) (part 10000000 (2 ^ 143) (lit< tt) (high z) (low z) (value z))
+    (part 10000000 (2 ^ 143) (lit< tt) (high w) (low w) (value w)) mjd-about epoch-about)
     (part 10000000 (2 ^ 143) (lit< tt) (high w) (low w) (value w)))
 
 tcb-tdb-far : Bounded (2 ^ 143) (2 ^ 144) tcbToTdb
 unfolding Bounded tcbToTdb
-tcb-tdb-far big small z w = about-sized (2 ^ 144) (lit≤ tt) (rate-less 65 90 1550519768 1171539613348803 100000000000000000 (2 ^ 76) 7664284282519552 345777462761423116341403085772131780 136292482757761003118 (lit≤ tt) (lit≤ tt) (lit< tt) (lit< tt) (lit≤ tt) (lit≤ tt) (lit≤ tt) (lit< tt) (lit≤ tt) (lit< tt) lb-val
-    (since-about 90 90 91 (lit≤ tt) (lit≤ tt) (lit≤ tt) (lit< tt) (lit< tt) (lit< tt) (part 864000000000 (2 ^ 143) (lit< tt) (high z) (low z) (value z)) (part 864000000000 (2 ^ 143) (lit< tt) (high w) (low w) (value w)) jd1977-about tt-about-2)
+tcb-tdb-far big small z w = about-sized (2 ^ 144) (lit≤ tt)
+    (rate-less 65 90 1550519768 1171539613348803 100000000000000000 (2 ^ 76) 7664284282519552 345777462761423116341403085772131780 136292482757761003118
+    (lit≤ tt) (lit≤ tt) (lit< tt) (lit< tt) (lit≤ tt) (lit≤ tt) (lit≤ tt) (lit< tt) (lit≤ tt) (lit< tt) lb-val
+    (since-about 90 90 91 (lit≤ tt) (lit≤ tt) (lit≤ tt) (lit< tt) (lit< tt) (lit< tt) (part 864000000000 (2 ^ 143) (lit< tt) (high z) (low z) (value z))
+    (part 864000000000 (2 ^ 143) (lit< tt) (high w) (low w) (value w)) jd1977-about tt-about-2)
     (about-add 90 (lit≤ tt) (lit< tt) (part 864000000000 (2 ^ 143) (lit< tt) (high w) (low w) (value w)) tdb0-about))
 
 tdb-tcb-far : Bounded (2 ^ 143) (2 ^ 144) tdbToTcb
 unfolding Bounded tdbToTcb
-tdb-tcb-far big small z w = about-sized (2 ^ 144) (lit≤ tt) (rate-less 65 90 1550519768 2343079263027513 99999998449480232 (2 ^ 77) 13538130662120 345777468122771112874867718166824692 132885993515863365225 (lit≤ tt) (lit≤ tt) (lit< tt) (lit< tt) (lit≤ tt) (lit≤ tt) (lit≤ tt) (lit< tt) (lit≤ tt) (lit< tt) ratio-lb-val
-    (until-about 90 90 91 (lit≤ tt) (lit≤ tt) (lit≤ tt) (lit< tt) (lit< tt) (lit< tt) (part 864000000000 (2 ^ 143) (lit< tt) (high z) (low z) (value z)) (about-sub 90 (lit≤ tt) (lit< tt) (part 864000000000 (2 ^ 143) (lit< tt) (high w) (low w) (value w)) tdb0-about) jd1977-about tt-about-2)
+tdb-tcb-far big small z w = about-sized (2 ^ 144) (lit≤ tt)
+    (rate-less 65 90 1550519768 2343079263027513 99999998449480232 (2 ^ 77) 13538130662120 345777468122771112874867718166824692 132885993515863365225
+    (lit≤ tt) (lit≤ tt) (lit< tt) (lit< tt) (lit≤ tt) (lit≤ tt) (lit≤ tt) (lit< tt) (lit≤ tt) (lit< tt) ratio-lb-val
+    (until-about 90 90 91 (lit≤ tt) (lit≤ tt) (lit≤ tt) (lit< tt) (lit< tt) (lit< tt) (part 864000000000 (2 ^ 143) (lit< tt) (high z) (low z) (value z))
+    (about-sub 90 (lit≤ tt) (lit< tt) (part 864000000000 (2 ^ 143) (lit< tt) (high w) (low w) (value w)) tdb0-about) jd1977-about tt-about-2)
     (about-sub 90 (lit≤ tt) (lit< tt) (part 864000000000 (2 ^ 143) (lit< tt) (high w) (low w) (value w)) tdb0-about))
 
 module _ {seconds : Float} (o : Sized seconds 1237940039285380274899124224000000000) where
@@ -101,11 +123,13 @@ module _ {seconds : Float} (o : Sized seconds 1237940039285380274899124224000000
 
   offset-plus-far : Bounded (2 ^ 143) (2 ^ 144) (plus (daysOf seconds))
   unfolding Bounded
-  offset-plus-far big small z w = about-sized (2 ^ 144) (lit≤ tt) (plus-about 100 86400 (2 ^ 143) big (lit< tt) (lit≤ tt) (lit< tt) (high w) (low w) (value w) days-far)
+  offset-plus-far big small z w =
+      about-sized (2 ^ 144) (lit≤ tt) (plus-about 100 86400 (2 ^ 143) big (lit< tt) (lit≤ tt) (lit< tt) (high w) (low w) (value w) days-far)
 
   offset-minus-far : Bounded (2 ^ 143) (2 ^ 144) (minus (daysOf seconds))
   unfolding Bounded
-  offset-minus-far big small z w = about-sized (2 ^ 144) (lit≤ tt) (minus-about 100 86400 (2 ^ 143) big (lit< tt) (lit≤ tt) (lit< tt) (high w) (low w) (value w) days-far)
+  offset-minus-far big small z w =
+      about-sized (2 ^ 144) (lit≤ tt) (minus-about 100 86400 (2 ^ 143) big (lit< tt) (lit≤ tt) (lit< tt) (high w) (low w) (value w) days-far)
 
 -- ---- the dates
 
@@ -168,10 +192,12 @@ module _ (S T' : ℕ) (f : Float → Float → Float) (d : JulianDate) (l : S �
       let k = changed-sized S T' f d l b z w in
       let k2 = changed-sized T' R g (mapSmallerPart f d) r c (k .0) (k .1) in
       subst FiniteDate
-      (sym (went (converted g) (converted-is f d (sized-finite z) (sized-finite w)) ∙ converted-is g (mapSmallerPart f d) (sized-finite (k .0)) (sized-finite (k .1))))
+      (sym (went (converted g) (converted-is f d (sized-finite z) (sized-finite w))
+      ∙ converted-is g (mapSmallerPart f d) (sized-finite (k .0)) (sized-finite (k .1))))
       (sized-finite (k2 .0), sized-finite (k2 .1))
 
-ends-by : (S T' : ℕ) (f : Float → Float → Float → Float) (s : Float) (d : JulianDate) → finite s ≡ true → S ≤ T' → Bounded S T' (f (daysOf s)) → Sized (d .jd1) S → Sized (d .jd2) S → FiniteDate (convertedBy f s d)
+ends-by : (S T' : ℕ) (f : Float → Float → Float → Float) (s : Float) (d : JulianDate) → finite s ≡ true → S ≤ T' → Bounded S T' (f (daysOf s))
+    → Sized (d .jd1) S → Sized (d .jd2) S → FiniteDate (convertedBy f s d)
 ends-by S T' f s d h l b z w =
     let k = changed-sized S T' (f (daysOf s)) d l b z w in
     subst FiniteDate (sym (by-is f s d (sized-finite z) (sized-finite w) h)) (sized-finite (k .0), sized-finite (k .1))
@@ -187,7 +213,8 @@ finite-dates k d u = go k
     far f b = ends (2 ^ 143) (2 ^ 144) f d (lit≤ tt) b (wide (under-sized (d .jd1) (u .first))) (wide (under-sized (d .jd2) (u .second)))
 
     by : (f : Float → Float → Float → Float) (s : Float) → Billion s → Bounded (2 ^ 143) (2 ^ 144) (f (daysOf s)) → FiniteDate (convertedBy f s d)
-    by f s o b = ends-by (2 ^ 143) (2 ^ 144) f s d (sized-finite (billion-sized s o)) (lit≤ tt) b (wide (under-sized (d .jd1) (u .first))) (wide (under-sized (d .jd2) (u .second)))
+    by f s o b = ends-by (2 ^ 143) (2 ^ 144) f s d (sized-finite (billion-sized s o)) (lit≤ tt) b (wide (under-sized (d .jd1) (u .first)))
+        (wide (under-sized (d .jd2) (u .second)))
 
     through : (f g : Float → Float → Float) → Bounded (2 ^ 142) (2 ^ 143) f → Bounded (2 ^ 143) (2 ^ 144) g → FiniteDate (onward (converted f d) (converted g))
     through f g b c = ends-then (2 ^ 142) (2 ^ 143) f d (lit≤ tt) b (under-sized (d .jd1) (u .first)) (under-sized (d .jd2) (u .second)) (2 ^ 144) g (lit≤ tt) c

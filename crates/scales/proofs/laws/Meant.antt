@@ -1,5 +1,5 @@
--- All sixteen conversions mean what SOFA's formulas say, to so many picoseconds: one part of the date at most 2 ^ 23 days in size, the other at most 1 day (`practical`) or at
--- most 2 ^ 17 - 1 days (`modified`), and the offset at most half a day. Assumes nothing.
+-- All sixteen conversions mean what SOFA's formulas say, to so many picoseconds: one part of the date at most 2 ^ 23 days in size, the other at most 1 day
+-- (`practical`) or at most 2 ^ 17 - 1 days (`modified`), and the offset at most half a day. Assumes nothing.
 use mathlib.Core.Path.{_≡_, refl, sym, ap, _∙_, subst}
 use Prim.Native.Nat.{ℕ, _+_, _*_, _^_, _≤_}
 use native.Mathlib.Nat.{le-trans, mul-assoc, mul-comm, mul-left-comm, mul-add, add-mul, mul-le-mul-left, mul-le-mul-right}
@@ -15,7 +15,8 @@ use Rattle.refusals.specs.Outcome.{Outcome, answer, onward}
 use Rattle.julian.specs.declared.JulianDate.{JulianDate}
 use Rattle.julian.specs.shifts.SmallerPart.{firstIsLarger, mapSmallerPart}
 use Rattle.scales.specs.Formulas.{gpsDays, ttDays, tcgToTt, ttToTcg, tcbToTdb, tdbToTcb}
-use Rattle.scales.specs.Conversions.{Conversion, gps-tai, tai-gps, tai-tt, tt-tai, tcg-tt, tt-tcg, tcb-tdb, tdb-tcb, tai-tcg, tcg-tai, tai-ut1, ut1-tai, ut1-tt, tt-ut1, tt-tdb, tdb-tt, offsetOf, answerOf}
+use Rattle.scales.specs.Conversions.{Conversion, gps-tai, tai-gps, tai-tt, tt-tai, tcg-tt, tt-tcg, tcb-tdb, tdb-tcb, tai-tcg, tcg-tai, tai-ut1}
+use Rattle.scales.specs.Conversions.{ut1-tai, ut1-tt, tt-ut1, tt-tdb, tdb-tt, offsetOf, answerOf}
 use Rattle.scales.specs.laws.Ranges.{AtMost, power, Practical, Modified, HalfDay}
 use Rattle.scales.specs.laws.Picoseconds.{Picoseconds, boundOf, practicalBounds, modifiedBounds}
 use Rattle.julian.specs.Worth.{Worth}
@@ -39,10 +40,12 @@ worth-unique {d} {p} {n} {q} {m} v w =
 
 -- ---- one after the other
 chain-le : (s1 s2 s a c a2 c2 B B' B2 B2' X Y X' Y' P N P2 N2 : ℕ) → a2 * s1 + s2 * c2 ≤ s * c2 → X + Y' ≡ X' + Y
-    → dayPs * (c * X + a * N + B') ≤ dayPs * (c * Y + a * P + B) + s1 * (c * L) → dayPs * (c2 * P2 + a2 * Y' + B2') ≤ dayPs * (c2 * N2 + a2 * X' + B2) + s2 * (c2 * L)
+    → dayPs * (c * X + a * N + B') ≤ dayPs * (c * Y + a * P + B) + s1 * (c * L)
+    → dayPs * (c2 * P2 + a2 * Y' + B2') ≤ dayPs * (c2 * N2 + a2 * X' + B2) + s2 * (c2 * L)
     → dayPs * (c * c2 * P2 + a * a2 * N + (a2 * B' + c * B2')) ≤ dayPs * (c * c2 * N2 + a * a2 * P + (a2 * B + c * B2)) + s * (c * c2 * L)
 chain-le s1 s2 s a c a2 c2 B B' B2 B2' X Y X' Y' P N P2 N2 r e h k =
-    go (a2 * (c * X)) (a2 * (c * Y)) (c * (a2 * X')) (c * (a2 * Y')) (a * a2 * N) (a * a2 * P) (c * c2 * P2) (c * c2 * N2) (a2 * B') (a2 * B) (c * B2') (c * B2) (a2 * (s1 * (c * L))) (c * (s2 * (c2 * L))) (s * (c * c2 * L))
+    go (a2 * (c * X)) (a2 * (c * Y)) (c * (a2 * X')) (c * (a2 * Y')) (a * a2 * N) (a * a2 * P) (c * c2 * P2) (c * c2 * N2) (a2 * B') (a2 * B) (c * B2')
+    (c * B2) (a2 * (s1 * (c * L))) (c * (s2 * (c2 * L))) (s * (c * c2 * L))
     first second move room
   where
     first : dayPs * (a2 * (c * X) + a * a2 * N + a2 * B') ≤ dayPs * (a2 * (c * Y) + a * a2 * P + a2 * B) + a2 * (s1 * (c * L))
@@ -55,14 +58,17 @@ chain-le s1 s2 s a c a2 c2 B B' B2 B2' X Y X' Y' P N P2 N2 r e h k =
     move = simp (mul-left-comm c a2, mul-add) (simp mul-add at (ap (λ (z : ℕ). a2 * (c * z)) e))
 
     room : a2 * (s1 * (c * L)) + c * (s2 * (c2 * L)) ≤ s * (c * c2 * L)
-    room = simp (mul-add, add-mul, mul-assoc, mul-comm, mul-left-comm) (simp (mul-add, add-mul, mul-assoc, mul-comm, mul-left-comm) at (mul-le-mul-right (c * L) r))
+    room = simp (mul-add, add-mul, mul-assoc, mul-comm, mul-left-comm)
+        (simp (mul-add, add-mul, mul-assoc, mul-comm, mul-left-comm) at (mul-le-mul-right (c * L) r))
 
-    go : (x y x' y' n p p2 n2 b' b d' d t1 t2 t : ℕ) → dayPs * (x + n + b') ≤ dayPs * (y + p + b) + t1 → dayPs * (p2 + y' + d') ≤ dayPs * (n2 + x' + d) + t2 → x + y' ≡ x' + y → t1 + t2 ≤ t
+    go : (x y x' y' n p p2 n2 b' b d' d t1 t2 t : ℕ) → dayPs * (x + n + b') ≤ dayPs * (y + p + b) + t1 → dayPs * (p2 + y' + d') ≤ dayPs * (n2 + x' + d) + t2
+        → x + y' ≡ x' + y → t1 + t2 ≤ t
         → dayPs * (p2 + n + (b' + d')) ≤ dayPs * (n2 + p + (b + d)) + t
     go x y x' y' n p p2 n2 b' b d' d t1 t2 t f g u v = omega arith
 
 -- ---- Close after Close
-pub close-close : (s1 s2 s : ℕ) {a c a2 c2 B B' B2 B2' : ℕ} {d d1 d2 : JulianDate} → a2 * s1 + s2 * c2 ≤ s * c2 → Close s1 a c B B' d d1 → Close s2 a2 c2 B2 B2' d1 d2
+pub close-close : (s1 s2 s : ℕ) {a c a2 c2 B B' B2 B2' : ℕ} {d d1 d2 : JulianDate} → a2 * s1 + s2 * c2 ≤ s * c2 → Close s1 a c B B' d d1
+    → Close s2 a2 c2 B2 B2' d1 d2
     → Close s (a * a2) (c * c2) (a2 * B + c * B2) (a2 * B' + c * B2') d d2
 close-close s1 s2 s {a} {c} {a2} {c2} {B} {B'} {B2} {B2'} r x y =
     let e = worth-unique (x .to) (y .from) in
@@ -74,7 +80,8 @@ close-close s1 s2 s {a} {c} {a2} {c2} {B} {B'} {B2} {B2'} r x y =
       from = x .from;
       to = y .to;
       over = chain-le s1 s2 s a c a2 c2 B B' B2 B2' (x .p') (x .n') (y .p) (y .n) (x .p) (x .n) (y .p') (y .n') r e (x .over) (y .over);
-      under = chain-le s1 s2 s a c a2 c2 B' B B2' B2 (x .n') (x .p') (y .n) (y .p) (x .n) (x .p) (y .n') (y .p') r (turn (x .p') (x .n') (y .p) (y .n) e) (x .under) (y .under);
+      under = chain-le s1 s2 s a c a2 c2 B' B B2' B2 (x .n') (x .p') (y .n) (y .p) (x .n) (x .p) (y .n') (y .p') r (turn (x .p') (x .n') (y .p) (y .n) e)
+          (x .under) (y .under);
     }
   where
     turn : (p n p' n' : ℕ) → p + n' ≡ p' + n → n + p' ≡ n' + p
@@ -108,14 +115,16 @@ parts-finite : {S s : ℕ} {d : JulianDate} → PartsWithin S s d → (finite (d
 parts-finite (inl z) = (sized-finite (z .0), sized-finite (z .1))
 parts-finite (inr z) = (sized-finite (z .0), sized-finite (z .1))
 
-module _ (S t : ℕ) (order : t ≤ S) (ps a c K K' : ℕ) (f : Float → Float → Float) (d : JulianDate) (law : Formula ps S t a c K K' f) (r : PartsWithin S t d) where
+module _ (S t : ℕ) (order : t ≤ S) (ps a c K K' : ℕ) (f : Float → Float → Float) (d : JulianDate) (law : Formula ps S t a c K K' f)
+    (r : PartsWithin S t d) where
   met : Close ps a c K K' d (mapSmallerPart f d)
   met = close ps S t a c K K' f law d order r
 
   meant : Meant ps (record { num = a; den = c; more = K; less = K' }) (converted f d) d
   meant = let h = parts-finite r in record { date = mapSmallerPart f d; is = converted-is f d (h .0) (h .1); means = met }
 
-  meant-then : (s2 s a2 c2 K2 K2' : ℕ) (g : Float → Float → Float) → a2 * ps + s2 * c2 ≤ s * c2 → Formula s2 S t a2 c2 K2 K2' g → PartsWithin S t (mapSmallerPart f d)
+  meant-then : (s2 s a2 c2 K2 K2' : ℕ) (g : Float → Float → Float) → a2 * ps + s2 * c2 ≤ s * c2 → Formula s2 S t a2 c2 K2 K2' g
+      → PartsWithin S t (mapSmallerPart f d)
       → Meant s (record { num = a * a2; den = c * c2; more = a2 * K + c * K2; less = a2 * K' + c * K2' }) (onward (converted f d) (converted g)) d
   meant-then s2 s a2 c2 K2 K2' g b law2 r2 =
       let h = parts-finite r in
@@ -126,13 +135,15 @@ module _ (S t : ℕ) (order : t ≤ S) (ps a c K K' : ℕ) (f : Float → Float 
         means = close-close ps s2 s b met (close s2 S t a2 c2 K2 K2' g law2 (mapSmallerPart f d) order r2);
       }
 
-meant-by : (S t : ℕ) → t ≤ S → (ps K K' : ℕ) (f : Float → Float → Float → Float) (s : Float) (d : JulianDate) → finite s ≡ true → Formula ps S t 86400 86400 K K' (f (daysOf s)) → PartsWithin S t d
+meant-by : (S t : ℕ) → t ≤ S → (ps K K' : ℕ) (f : Float → Float → Float → Float) (s : Float) (d : JulianDate) → finite s ≡ true
+    → Formula ps S t 86400 86400 K K' (f (daysOf s)) → PartsWithin S t d
     → Meant ps (record { num = 86400; den = 86400; more = K; less = K' }) (convertedBy f s d) d
 meant-by S t order ps K K' f s d l law r =
     let h = parts-finite r in
     record { date = mapSmallerPart (f (daysOf s)) d; is = by-is f s d (h .0) (h .1) l; means = met S t order ps 86400 86400 K K' (f (daysOf s)) d law r }
 
-pub sixteen : (b : Picoseconds) (S s t : ℕ) → Laws b S s t → (k : Conversion) (d : JulianDate) → PartsWithin S s d → (o : Sized (offsetOf k) halfDay) → Meant (boundOf b k) (meaning k (above o) (beneath o)) (answerOf k d) d
+pub sixteen : (b : Picoseconds) (S s t : ℕ) → Laws b S s t → (k : Conversion) (d : JulianDate) → PartsWithin S s d → (o : Sized (offsetOf k) halfDay)
+    → Meant (boundOf b k) (meaning k (above o) (beneath o)) (answerOf k d) d
 unfolding meaning boundOf answerOf offsetOf
 sixteen b S s t B k d r = go k
   where
@@ -180,7 +191,8 @@ modified-day = record { sign = false; size = modifiedDays * 2 ^ 984; has = (refl
 large : (x : Float) → AtMost (power 23) x → Sized x (2 ^ 113)
 large x h = sized-at (power 23) (2 ^ 113) (power-units 23) x h
 
-over-floats : (b : Picoseconds) (s t : ℕ) → Laws b (2 ^ 113) s t → (k : Conversion) (d : JulianDate) → PartsWithin (2 ^ 113) s d → HalfDay (offsetOf k) → RightTo b k d
+over-floats : (b : Picoseconds) (s t : ℕ) → Laws b (2 ^ 113) s t → (k : Conversion) (d : JulianDate) → PartsWithin (2 ^ 113) s d → HalfDay (offsetOf k)
+    → RightTo b k d
 over-floats b s t B k d r h =
     let o = sized-at (round binary64 false 43200 1) halfDay half-day (offsetOf k) h in
     let m = sixteen b (2 ^ 113) s t B k d r o in

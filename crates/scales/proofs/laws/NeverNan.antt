@@ -1,4 +1,5 @@
--- A date whose parts are finite f64's is never answered by a NaN, whatever their size; at the ends of the range a part of the answer may be an infinity. Assumes nothing.
+-- A date whose parts are finite f64's is never answered by a NaN, whatever their size; at the ends of the range a part of the answer may be an infinity.
+-- Assumes nothing.
 use mathlib.Core.Path.{_≡_, refl, sym, ap, _∙_, subst}
 use mathlib.Core.Bool.{Bool, true, false, cond, not, _&&_, Bool·beq, true≢false}
 use Prim.Native.Nat.{ℕ, zero, suc, _+_, _-_, _*_, _^_}
@@ -12,7 +13,8 @@ use Rattle.refusals.specs.Outcome.{Outcome, answer, refusal, onward}
 use Rattle.julian.specs.declared.JulianDate.{JulianDate}
 use Rattle.julian.specs.shifts.SmallerPart.{firstIsLarger, mapSmallerPart}
 use Rattle.scales.specs.Formulas.{since, gpsDays, ttDays, tdb0, jd1977, tcgToTt, ttToTcg, tcbToTdb, tdbToTcb}
-use Rattle.scales.specs.Conversions.{Conversion, gps-tai, tai-gps, tai-tt, tt-tai, tcg-tt, tt-tcg, tcb-tdb, tdb-tcb, tai-tcg, tcg-tai, tai-ut1, ut1-tai, ut1-tt, tt-ut1, tt-tdb, tdb-tt, answerOf}
+use Rattle.scales.specs.Conversions.{Conversion, gps-tai, tai-gps, tai-tt, tt-tai, tcg-tt, tt-tcg, tcb-tdb, tdb-tcb, tai-tcg, tcg-tai, tai-ut1}
+use Rattle.scales.specs.Conversions.{ut1-tai, ut1-tt, tt-ut1, tt-tdb, tdb-tt, answerOf}
 use Rattle.scales.specs.laws.Ranges.{Held}
 use Rattle.julian.specs.Finite.{finiteParts}
 use native.Mathlib.Omega.{arith}
@@ -62,7 +64,8 @@ finite-number (fin s m e) h = record { is = refl }
 
 sum-number : (s : Bool) (a : ℕ) (t : Bool) (b c : ℕ) → Number (sum binary64 s a t b c)
 unfolding sum
-sum-number s a t b c = pick (Bool·beq s t) (round-number binary64 s (a + b) c) (pick (ltb a b) (round-number binary64 t (b - a) c) (round-number binary64 (s && ltb b a) (a - b) c))
+sum-number s a t b c = pick (Bool·beq s t) (round-number binary64 s (a + b) c)
+    (pick (ltb a b) (round-number binary64 t (b - a) c) (round-number binary64 (s && ltb b a) (a - b) c))
 
 add-number : (x y : Float) → finite x ≡ true → Number y → Number (add binary64 x y)
 unfolding add
@@ -102,7 +105,8 @@ div-number x nan h k = absurd (true≢false (sym k))
 div-number x (inf t) h k = absurd (true≢false (sym k))
 div-number nan (fin t n d) h k = absurd (true≢false (sym h))
 div-number (inf s) (fin t n d) h k = absurd (true≢false (sym h))
-div-number (fin s m e) (fin t n d) h k = other (eqb n 0) (cond (eqb m 0) nan (inf (unlike s t))) k (round-number binary64 (unlike s t) (m * up e * down d) (n * up d * down e))
+div-number (fin s m e) (fin t n d) h k =
+    other (eqb n 0) (cond (eqb m 0) nan (inf (unlike s t))) k (round-number binary64 (unlike s t) (m * up e * down d) (n * up d * down e))
 
 -- ---- the formulas
 small-number : {k : Float} → Small k → Number k
@@ -124,7 +128,8 @@ days-number : (s : Float) → finite s ≡ true → Number (daysOf s)
 unfolding daysOf secondsPerDay round
 days-number s h = div-number s (round binary64 false 86400 1) h refl
 
-since-number : {a b : Float} → Small a → Small b → (big small : Float) → T (fits binary64 big) → finite big ≡ true → finite small ≡ true → Number (since a b big small)
+since-number : {a b : Float} → Small a → Small b → (big small : Float) → T (fits binary64 big) → finite big ≡ true → finite small ≡ true
+    → Number (since a b big small)
 unfolding since
 since-number {a} {b} u v big small f hb hs = add-number (sub binary64 big a) (sub binary64 small b) (taken u big f hb) (sub-number small b hs (small-number v))
 
@@ -150,18 +155,22 @@ tcg-tt-fine big small fb fs hb hs = sub-number small _ hs (mul-number _ tcgRateL
 
 tt-tcg-fine : Fine ttToTcg
 unfolding Fine ttToTcg
-tt-tcg-fine big small fb fs hb hs = add-number small _ hs (mul-number _ tcgRateRatio (since-number zero-point-small epoch-small big small fb hb hs) ratio-lg-some)
+tt-tcg-fine big small fb fs hb hs =
+    add-number small _ hs (mul-number _ tcgRateRatio (since-number zero-point-small epoch-small big small fb hb hs) ratio-lg-some)
 
 tcb-tdb-fine : Fine tcbToTdb
 unfolding Fine tcbToTdb
-tcb-tdb-fine big small fb fs hb hs = sub-number (add binary64 small tdb0) _ (added tdb0-small small fs hs) (mul-number _ tcbRateLb (since-number jd1977-small tt-small big small fb hb hs) lb-some)
+tcb-tdb-fine big small fb fs hb hs =
+    sub-number (add binary64 small tdb0) _ (added tdb0-small small fs hs)
+    (mul-number _ tcbRateLb (since-number jd1977-small tt-small big small fb hb hs) lb-some)
 
 tdb-tcb-fine : Fine tdbToTcb
 unfolding Fine tdbToTcb
 tdb-tcb-fine big small fb fs hb hs =
     let x = sub binary64 small tdb0 in
     let h : finite x ≡ true = taken tdb0-small small fs hs in
-    sub-number x _ h (mul-number _ tcbRateRatio (sub-number (sub binary64 jd1977 big) _ (taken-from jd1977-small big fb hb) (sub-number x ttDays h (small-number tt-small))) ratio-lb-some)
+    sub-number x _ h (mul-number _ tcbRateRatio
+    (sub-number (sub binary64 jd1977 big) _ (taken-from jd1977-small big fb hb) (sub-number x ttDays h (small-number tt-small))) ratio-lb-some)
 
 -- ---- the dates
 NumberDate : JulianDate → Type 0
@@ -201,7 +210,8 @@ module _ (u : JulianDate) where
       go true k e = subst NumberDate (cc) (k refl)
       go false k e = absurd (no-answer e)
 
-  then-plain : (f g : Float → Float → Float) → ((x y : Float) → T (fits binary64 (f x y))) → Fine g → (d : JulianDate) → Held d → onward (converted f d) (converted g) ≡ answer u → NumberDate u
+  then-plain : (f g : Float → Float → Float) → ((x y : Float) → T (fits binary64 (f x y))) → Fine g → (d : JulianDate) → Held d
+      → onward (converted f d) (converted g) ≡ answer u → NumberDate u
   unfolding onward
   then-plain f g n m d w e = go (finiteParts d) (ap (λ (o : Outcome JulianDate). onward o (converted g)) (sym (first f d)) ∙ e)
     where
@@ -209,10 +219,12 @@ module _ (u : JulianDate) where
       go true e = plain g m (mapSmallerPart f d) (changed-held f n d w) e
       go false e = absurd (no-answer e)
 
-  given : (f : Float → Float → Float → Float) → ((k : Float) → Number k → Fine (f k)) → (s : Float) (d : JulianDate) → Held d → convertedBy f s d ≡ answer u → NumberDate u
+  given : (f : Float → Float → Float → Float) → ((k : Float) → Number k → Fine (f k)) → (s : Float) (d : JulianDate) → Held d → convertedBy f s d ≡ answer u
+      → NumberDate u
   given f n s d g e = go (finiteParts d) (finite s) (λ h k. changed-number d g h (f (daysOf s)) (n (daysOf s) (days-number s k))) (sym (first-by f s d) ∙ e)
     where
-      go : (b c : Bool) → (b ≡ true → c ≡ true → NumberDate (mapSmallerPart (f (daysOf s)) d)) → cond b (cond c (answer (mapSmallerPart (f (daysOf s)) d)) (refusal 10)) (refusal 9) ≡ answer u → NumberDate u
+      go : (b c : Bool) → (b ≡ true → c ≡ true → NumberDate (mapSmallerPart (f (daysOf s)) d))
+          → cond b (cond c (answer (mapSmallerPart (f (daysOf s)) d)) (refusal 10)) (refusal 9) ≡ answer u → NumberDate u
       go true true k e = subst NumberDate (cc) (k refl refl)
       go true false k e = absurd (no-answer e)
       go false c k e = absurd (no-answer e)

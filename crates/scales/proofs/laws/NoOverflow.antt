@@ -1,4 +1,5 @@
--- A finite f64 stays finite when a number of at most 2 ^ 969 in size is added to it or taken from it: the largest f64 is 2 ^ 971 below the next power of 2. Assumes nothing.
+-- A finite f64 stays finite when a number of at most 2 ^ 969 in size is added to it or taken from it: the largest f64 is 2 ^ 971 below the next power of 2.
+-- Assumes nothing.
 use mathlib.Core.Path.{_≡_, refl, sym, subst}
 use Prim.Native.Nat.{ℕ, _+_, _-_, _*_, _^_, _≤_, _<_}
 use native.Mathlib.Nat.{le-trans, le-of-eq, lt-of-lt-of-le, lt-of-le-of-lt, lt-of-mul-lt-mul-right, mul-le-mul-right}
@@ -67,13 +68,16 @@ module _ {x y : Float} {p n q m : ℕ} (f : T (fits binary64 x)) (v : Val x p n 
   top = rep-largest (dist p n) (val-rep f v) (val-small f v)
 
   pub add-stays : finite (add binary64 x y) ≡ true
-  add-stays = stays (near p n q m (dist p n) largest (dist-up p n .0) top hq) (near n p m q (dist p n) largest (dist-up p n .1) top hm) (add-rounds binary64 L-pos v w)
+  add-stays = stays (near p n q m (dist p n) largest (dist-up p n .0) top hq) (near n p m q (dist p n) largest (dist-up p n .1) top hm)
+      (add-rounds binary64 L-pos v w)
 
   pub sub-stays : finite (sub binary64 x y) ≡ true
-  sub-stays = stays (near p n m q (dist p n) largest (dist-up p n .0) top hm) (near n p q m (dist p n) largest (dist-up p n .1) top hq) (sub-rounds binary64 L-pos v w)
+  sub-stays = stays (near p n m q (dist p n) largest (dist-up p n .0) top hm) (near n p q m (dist p n) largest (dist-up p n .1) top hq)
+      (sub-rounds binary64 L-pos v w)
 
   pub from-stays : finite (sub binary64 y x) ≡ true
-  from-stays = stays (turn q m n p (near n p q m (dist p n) largest (dist-up p n .1) top hq)) (turn m q p n (near p n m q (dist p n) largest (dist-up p n .0) top hm)) (sub-rounds binary64 L-pos w v)
+  from-stays = stays (turn q m n p (near n p q m (dist p n) largest (dist-up p n .1) top hq))
+      (turn m q p n (near p n m q (dist p n) largest (dist-up p n .0) top hm)) (sub-rounds binary64 L-pos w v)
     where
       turn : (a b c d : ℕ) → c + a ≤ d + b + (largest + 2 ^ 2043) → a + c ≤ b + d + (largest + 2 ^ 2043)
       turn a b c d h = go a b c d (largest + 2 ^ 2043) h

@@ -1,5 +1,5 @@
--- What the customer's recorders need of GPS to TAI: one instant that the GPS recorder and the TAI recorder stamp to e ps comes out within 10 + e ps (0.63 microseconds and e ps
--- where the smaller part is a modified Julian date), and the order of stamps that share their larger part is kept. Assumes nothing.
+-- What the customer's recorders need of GPS to TAI: one instant that the GPS recorder and the TAI recorder stamp to e ps comes out within 10 + e ps (0.63
+-- microseconds and e ps where the smaller part is a modified Julian date), and the order of stamps that share their larger part is kept. Assumes nothing.
 use mathlib.Core.Path.{_≡_, sym, ap, _∙_, subst}
 use Prim.Native.Nat.{ℕ, _+_, _*_, _≤_}
 use native.Mathlib.Nat.{mul-le-mul-right, mul-left-comm, one-mul, mul-add, add-mul}
@@ -48,8 +48,10 @@ one-relation {num} {more} {less} c e v w =
       n' = w .n';
       from = v .to;
       to = w .to;
-      over = high (num * v .p) (num * v .n) (num * w .p) (num * w .n) (v .p') (v .n') (w .p') (w .n') more less (c * L) (e * L) (seconds c) (seconds e) bound s (v .under) (w .over);
-      under = low (num * v .p) (num * v .n) (num * w .p) (num * w .n) (v .p') (v .n') (w .p') (w .n') more less (c * L) (e * L) (seconds c) (seconds e) bound s (v .over) (w .under);
+      over = high (num * v .p) (num * v .n) (num * w .p) (num * w .n) (v .p') (v .n') (w .p') (w .n') more less (c * L) (e * L) (seconds c) (seconds e) bound
+          s (v .under) (w .over);
+      under = low (num * v .p) (num * v .n) (num * w .p) (num * w .n) (v .p') (v .n') (w .p') (w .n') more less (c * L) (e * L) (seconds c) (seconds e) bound
+          s (v .over) (w .under);
     }
   where
     seconds : (k : ℕ) → k * (86400 * L) ≡ 86400 * (k * L)
@@ -58,11 +60,13 @@ one-relation {num} {more} {less} c e v w =
     bound : (c + e) * (1 * L) ≡ c * L + e * L
     bound = ap (λ (z : ℕ). (c + e) * z) (one-mul L) ∙ add-mul c e L
 
-    high : (p n a b p' n' a' b' M S x y : ℕ) {x' y' z : ℕ} → x' ≡ 86400 * x → y' ≡ 86400 * y → z ≡ x + y → p + b ≡ a + n → dayPs * (86400 * n' + p + M) ≤ dayPs * (86400 * p' + n + S) + y'
+    high : (p n a b p' n' a' b' M S x y : ℕ) {x' y' z : ℕ} → x' ≡ 86400 * x → y' ≡ 86400 * y → z ≡ x + y → p + b ≡ a + n
+        → dayPs * (86400 * n' + p + M) ≤ dayPs * (86400 * p' + n + S) + y'
         → dayPs * (86400 * a' + b + S) ≤ dayPs * (86400 * b' + a + M) + x' → dayPs * (1 * a' + 1 * n' + 0) ≤ dayPs * (1 * b' + 1 * p' + 0) + z
     high p n a b p' n' a' b' M S x y e f g o h k = omega arith
 
-    low : (p n a b p' n' a' b' M S x y : ℕ) {x' y' z : ℕ} → x' ≡ 86400 * x → y' ≡ 86400 * y → z ≡ x + y → p + b ≡ a + n → dayPs * (86400 * p' + n + S) ≤ dayPs * (86400 * n' + p + M) + y'
+    low : (p n a b p' n' a' b' M S x y : ℕ) {x' y' z : ℕ} → x' ≡ 86400 * x → y' ≡ 86400 * y → z ≡ x + y → p + b ≡ a + n
+        → dayPs * (86400 * p' + n + S) ≤ dayPs * (86400 * n' + p + M) + y'
         → dayPs * (86400 * b' + a + M) ≤ dayPs * (86400 * a' + b + S) + x' → dayPs * (1 * b' + 1 * p' + 0) ≤ dayPs * (1 * a' + 1 * n' + 0) + z
     low p n a b p' n' a' b' M S x y e f g o h k = omega arith
 
@@ -80,11 +84,13 @@ pub one-instant : (e : ℕ) (d t : JulianDate) → Practical d → Means e taiOv
 one-instant e d t r v = let m = gps-means d r in (m .date, m .is, one-relation 10 e v (m .means))
 
 -- the same where the smaller part is a modified Julian date: 0.63 microseconds and e ps
-pub one-instant-modified : (e : ℕ) (d t : JulianDate) → Modified d → Means e taiOverGps d t → (u : JulianDate) × (answerOf gps-tai d ≡ answer u) × Apart (628643 + e) t u
+pub one-instant-modified : (e : ℕ) (d t : JulianDate) → Modified d → Means e taiOverGps d t → (u : JulianDate) × (answerOf gps-tai d ≡ answer u)
+    × Apart (628643 + e) t u
 one-instant-modified e d t r v = let m = gps-means-modified d r in (m .date, m .is, one-relation 628643 e v (m .means))
 
 -- ---- the order
-adds-in-order : (x y k : Float) → T (fits binary64 x) → T (fits binary64 y) → finite x ≡ true → finite y ≡ true → {q m : ℕ} → Val k q m L → T (le x y) → T (le (add binary64 x k) (add binary64 y k))
+adds-in-order : (x y k : Float) → T (fits binary64 x) → T (fits binary64 y) → finite x ≡ true → finite y ≡ true → {q m : ℕ} → Val k q m L → T (le x y)
+    → T (le (add binary64 x k) (add binary64 y k))
 adds-in-order x y k f g hx hy {q} {m} w l =
     let o = own-val x (own x f (subst T (sym hx) tt)) in
     let o' = own-val y (own y g (subst T (sym hy) tt)) in
@@ -94,7 +100,8 @@ adds-in-order x y k f g hx hy {q} {m} w l =
     wide p n p' n' h = let s : (p + n') * L ≤ (p' + n) * L = mul-le-mul-right L h in simp add-mul (omega (arith, simp add-mul at s))
 
 -- two stamps whose larger part is the same and stands in the same place, the first not later: nor is its answer
-pub order-kept : (b : Bool) (d d' : JulianDate) → Held d → Held d' → finiteParts d ≡ true → finiteParts d' ≡ true → firstIsLarger d ≡ b → firstIsLarger d' ≡ b → NotLater b d d'
+pub order-kept : (b : Bool) (d d' : JulianDate) → Held d → Held d' → finiteParts d ≡ true → finiteParts d' ≡ true → firstIsLarger d ≡ b → firstIsLarger d' ≡ b
+    → NotLater b d d'
     → (u : JulianDate) × (u' : JulianDate) × (answerOf gps-tai d ≡ answer u) × (answerOf gps-tai d' ≡ answer u') × NotLater b u u'
 unfolding answerOf plus
 order-kept b d d' f f' h h' e e' l =
@@ -110,5 +117,13 @@ order-kept b d d' f f' h h' e e' l =
     is d h b e = converted-is (plus gpsDays) d (one d h) (two d h) ∙ ap answer (map-is (plus gpsDays) d ∙ ap (mapAs (plus gpsDays) d) e)
 
     go : (b : Bool) → NotLater b d d' → NotLater b (mapAs (plus gpsDays) d b) (mapAs (plus gpsDays) d' b)
-    go true l = record { larger = l .larger; smaller = adds-in-order (d .jd2) (d' .jd2) gpsDays (f .1) (f' .1) (two d h) (two d' h') (gps-about .val) (l .smaller) }
-    go false l = record { larger = l .larger; smaller = adds-in-order (d .jd1) (d' .jd1) gpsDays (f .0) (f' .0) (one d h) (one d' h') (gps-about .val) (l .smaller) }
+    go true l = record {
+      larger = l .larger;
+      smaller =
+          adds-in-order (d .jd2) (d' .jd2) gpsDays (f .1) (f' .1) (two d h) (two d' h') (gps-about .val) (l .smaller);
+    }
+    go false l = record {
+      larger = l .larger;
+      smaller =
+          adds-in-order (d .jd1) (d' .jd1) gpsDays (f .0) (f' .0) (one d h) (one d' h') (gps-about .val) (l .smaller);
+    }

@@ -1,5 +1,5 @@
--- Which refusals occur, and exactly when: 9 where a part of the date is not finite, or on the way from TCG to TAI a part of the TT date in between; 10 where these are
--- finite and the offset is not; a date otherwise. Assumes nothing.
+-- Which refusals occur, and exactly when: 9 where a part of the date is not finite, or on the way from TCG to TAI a part of the TT date in between; 10 where
+-- these are finite and the offset is not; a date otherwise. Assumes nothing.
 use mathlib.Core.Path.{_≡_, refl, sym, ap, _∙_, subst}
 use mathlib.Core.Bool.{Bool, true, false, cond, _&&_}
 use mathlib.Core.Logic.{_⊎_, inl, inr}
@@ -11,7 +11,8 @@ use Rattle.refusals.specs.Outcome.{Outcome, answer, refusal, onward}
 use Rattle.julian.specs.declared.JulianDate.{JulianDate}
 use Rattle.julian.specs.shifts.SmallerPart.{firstIsLarger, mapSmallerPart}
 use Rattle.scales.specs.Formulas.{gpsDays, ttDays, tcgToTt, ttToTcg, tcbToTdb, tdbToTcb}
-use Rattle.scales.specs.Conversions.{Conversion, gps-tai, tai-gps, tai-tt, tt-tai, tcg-tt, tt-tcg, tcb-tdb, tdb-tcb, tai-tcg, tcg-tai, tai-ut1, ut1-tai, ut1-tt, tt-ut1, tt-tdb, tdb-tt, offsetOf, answerOf}
+use Rattle.scales.specs.Conversions.{Conversion, gps-tai, tai-gps, tai-tt, tt-tai, tcg-tt, tt-tcg, tcb-tdb, tdb-tcb, tai-tcg, tcg-tai, tai-ut1}
+use Rattle.scales.specs.Conversions.{ut1-tai, ut1-tt, tt-ut1, tt-tdb, tdb-tt, offsetOf, answerOf}
 use Rattle.scales.specs.Refusals.{testedFinite, DecidedFinite}
 use Rattle.scales.specs.laws.Ranges.{Held}
 use Rattle.scales.specs.laws.Refusals.{Refusals}
@@ -61,12 +62,15 @@ unfolding onward
 after g e true = plain g e
 after g e false = refl
 
-through : (f g : Float → Float → Float) (d : JulianDate) → DecidedFinite (finiteParts d && finiteParts (mapSmallerPart f d)) true (onward (converted f d) (converted g))
-through f g d = subst (λ (o : Outcome JulianDate). DecidedFinite (finiteParts d && finiteParts (mapSmallerPart f d)) true (onward o (converted g))) (sym (first f d)) (after g (mapSmallerPart f d) (finiteParts d))
+through : (f g : Float → Float → Float) (d : JulianDate)
+    → DecidedFinite (finiteParts d && finiteParts (mapSmallerPart f d)) true (onward (converted f d) (converted g))
+through f g d = subst (λ (o : Outcome JulianDate). DecidedFinite (finiteParts d && finiteParts (mapSmallerPart f d)) true (onward o (converted g)))
+    (sym (first f d)) (after g (mapSmallerPart f d) (finiteParts d))
 
 -- TT in between is finite
 through-tt : (d : JulianDate) → Held d → DecidedFinite (finiteParts d) true (onward (converted (plus ttDays) d) (converted ttToTcg))
-through-tt d f = subst (λ (b : Bool). DecidedFinite b true (onward (converted (plus ttDays) d) (converted ttToTcg))) (go (finiteParts d) (tt-between d f)) (through (plus ttDays) ttToTcg d)
+through-tt d f = subst (λ (b : Bool). DecidedFinite b true (onward (converted (plus ttDays) d) (converted ttToTcg))) (go (finiteParts d) (tt-between d f))
+    (through (plus ttDays) ttToTcg d)
   where
     go : (b : Bool) → (b ≡ true → finiteParts (mapSmallerPart (plus ttDays) d) ≡ true) → (b && finiteParts (mapSmallerPart (plus ttDays) d)) ≡ b
     go true h = h refl

@@ -23,7 +23,15 @@ pub record Small (x : Float) : Type 0 where
 
 small-of : {x : Float} {P N D M e : ℕ} → (M + e) * 2 ^ 984 ≤ 2 ^ 2043 → About x P N D M e → Small x
 unfolding U
-small-of {x} {P} {N} {D} {M} {e} h a = record { p = a .p; n = a .n; val = a .val; high = go (a .p) (a .n) ((M + e) * 2 ^ 984) (2 ^ 2043) (size-high a) h; low = go (a .n) (a .p) ((M + e) * 2 ^ 984) (2 ^ 2043) (size-low a) h }
+small-of {x} {P} {N} {D} {M} {e} h a =
+    record {
+      p = a .p;
+      n = a .n;
+      val = a .val;
+      high = go (a .p) (a .n) ((M + e) * 2 ^ 984) (2 ^ 2043) (size-high a) h;
+      low =
+          go (a .n) (a .p) ((M + e) * 2 ^ 984) (2 ^ 2043) (size-low a) h;
+    }
   where
     go : (p n X K : ℕ) → p ≤ n + X → X ≤ K → p ≤ n + K
     go p n X K h k = omega arith

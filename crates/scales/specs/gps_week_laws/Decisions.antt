@@ -1,5 +1,5 @@
--- When the two ways of a GPS week answer, and when they refuse with which number: 18 alone for a week; 9, then 6, then 18 for a date. Written from document 02, item 7.
--- Assumes nothing.
+-- When the two ways of a GPS week answer, and when they refuse with which number: 18 alone for a week; 9, then 6, then 18 for a date. Written from document 02,
+-- item 7. Assumes nothing.
 use mathlib.Core.Path.{_≡_}
 use mathlib.Core.Logic.{_⊎_}
 use mathlib.Core.Bool.{true, false}
@@ -24,8 +24,8 @@ pub data AtCount (count : ℕ) : Outcome WeekTime → Type 0 where
   within : (t : WeekTime) → 211182768000000 ≤ count → count < 271663372800000 → t .week ≤ 100000 → t .millis < 604800000 → AtCount count (answer t)
   outside : (count < 211182768000000) ⊎ (271663372800000 ≤ count) → AtCount count (refusal 18)
 
--- 9 exactly where a part is not finite, else 6 exactly where the rounded sum is out of document 01's range, else 18 exactly where the rounded count is before the first
--- week or past the last; a day below 0 is before the first
+-- 9 exactly where a part is not finite, else 6 exactly where the rounded sum is out of document 01's range, else 18 exactly where the rounded count is before
+-- the first week or past the last; a day below 0 is before the first
 pub data ToWeek (d : JulianDate) : Outcome WeekTime → Type 0 where
   not-finite : finiteParts d ≡ false → ToWeek d (refusal 9)
   no-day : finiteParts d ≡ true → accepted (d .jd1) (d .jd2) ≡ false → ToWeek d (refusal 6)

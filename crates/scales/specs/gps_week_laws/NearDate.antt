@@ -1,5 +1,5 @@
--- How near a week and its milliseconds are to the exact date. Written from IS-GPS-200's count: week w and ms milliseconds are 604,800,000 w + ms milliseconds after
--- Julian date 2444244.5 GPS. Assumes nothing.
+-- How near a week and its milliseconds are to the exact date. Written from IS-GPS-200's count: week w and ms milliseconds are 604,800,000 w + ms milliseconds
+-- after Julian date 2444244.5 GPS. Assumes nothing.
 use mathlib.Core.Path.{_≡_}
 use Prim.Native.Nat.{ℕ, _+_, _*_, _≤_, _<_}
 use Rattle.rounding.specs.Value.{L}

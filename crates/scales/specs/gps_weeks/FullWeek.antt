@@ -1,5 +1,5 @@
--- The whole week of its ten lowest bits, which is all that the old message of IS-GPS-200 sends. Written from document 02, item 7: "The result is the week with those ten
--- bits that lies nearest the reference and is not below 0", 19 "where two weeks not below 0 are equally near". Assumes nothing.
+-- The whole week of its ten lowest bits, which is all that the old message of IS-GPS-200 sends. Written from document 02, item 7: "The result is the week with
+-- those ten bits that lies nearest the reference and is not below 0", 19 "where two weeks not below 0 are equally near". Assumes nothing.
 use mathlib.Core.Path.{_≡_}
 use Prim.Native.Nat.{ℕ, _+_, _-_, _%_, _≤_, _<_}
 use mathlib.Core.Bool.{cond, _||_}

@@ -1,5 +1,5 @@
--- The GPS date of a week and its milliseconds. Written from IS-GPS-200 (weeks of 604,800 s are counted from 1980-01-06 0h GPS) and document 02, item 7: "The date's
--- jd1 is its day's midnight, jd2 the day's milliseconds / 86,400,000, rounded once". Assumes nothing.
+-- The GPS date of a week and its milliseconds. Written from IS-GPS-200 (weeks of 604,800 s are counted from 1980-01-06 0h GPS) and document 02, item 7: "The
+-- date's jd1 is its day's midnight, jd2 the day's milliseconds / 86,400,000, rounded once". Assumes nothing.
 use Prim.Native.Nat.{ℕ, _+_, _-_, _*_, _/_, _%_}
 use mathlib.Core.Bool.{Bool, false, cond, _&&_}
 use lib.Dec.{leb, ltb}

@@ -1,6 +1,6 @@
--- The week of a GPS date, and its milliseconds. Written from document 02, item 7: "The way back takes document 01's day and fraction, multiplies the fraction by
--- 86,400,000 as floats and rounds that product halves up, carrying into the next day", 9 and then 6 as in document 01, 18 for "a rounded date before the first week or
--- past the last". Assumes nothing.
+-- The week of a GPS date, and its milliseconds. Written from document 02, item 7: "The way back takes document 01's day and fraction, multiplies the fraction
+-- by 86,400,000 as floats and rounds that product halves up, carrying into the next day", 9 and then 6 as in document 01, 18 for "a rounded date before the
+-- first week or past the last". Assumes nothing.
 use Prim.Native.Nat.{ℕ, _+_, _-_, _*_, _/_, _%_}
 use mathlib.Core.Bool.{cond}
 use lib.Dec.{ltb, leb}

@@ -7,7 +7,8 @@ use Rattle.rounding.specs.Picoseconds.{dayPs}
 use Rattle.refusals.specs.Outcome.{answer}
 use Rattle.julian.specs.declared.JulianDate.{JulianDate}
 use Rattle.julian.specs.Worth.{Worth}
-use Rattle.scales.specs.Conversions.{Conversion, gps-tai, tai-gps, tai-tt, tt-tai, tcg-tt, tt-tcg, tcb-tdb, tdb-tcb, tai-tcg, tcg-tai, tai-ut1, ut1-tai, ut1-tt, tt-ut1, tt-tdb, tdb-tt, offsetOf, answerOf}
+use Rattle.scales.specs.Conversions.{Conversion, gps-tai, tai-gps, tai-tt, tt-tai, tcg-tt, tt-tcg, tcb-tdb, tdb-tcb, tai-tcg, tcg-tai, tai-ut1}
+use Rattle.scales.specs.Conversions.{ut1-tai, ut1-tt, tt-ut1, tt-tdb, tdb-tt, offsetOf, answerOf}
 use Rattle.scales.specs.laws.Picoseconds.{Picoseconds, boundOf, practicalBounds, modifiedBounds}
 
 -- d' is within ps picoseconds of (num * d + (more - less) / L) / den, the dates taken at their exact values, (p - n) / L and (p' - n') / L days
@@ -36,8 +37,8 @@ pub record Meaning : Type 0 where
 abbrev pub Means : ℕ → Meaning → JulianDate → JulianDate → Type 0
 Means ps w d d' = Close ps (w .num) (w .den) (w .more) (w .less) d d'
 
--- SOFA's decimals, said apart from the code's constants, so that a wrong digit of either is noticed: LG = 6.969290134e-10 over 10 ^ 19, LB = 1.550519768e-8 over 10 ^ 17, T0 = 2443144.5003725 days over 10 ^ 7,
--- TDB0 = -6.55e-5 s over 10 ^ 7
+-- SOFA's decimals, said apart from the code's constants, so that a wrong digit of either is noticed: LG = 6.969290134e-10 over 10 ^ 19, LB = 1.550519768e-8
+-- over 10 ^ 17, T0 = 2443144.5003725 days over 10 ^ 7, TDB0 = -6.55e-5 s over 10 ^ 7
 abbrev pub LG : ℕ
 LG = 6969290134
 

@@ -1,7 +1,8 @@
 -- By how many picoseconds the exact value of an answer may miss what it means, on the two ranges of dates (`Practical` and `Modified`). The bounds are this
 -- project's own: those that the roundings of the formulas add up to. Assumes nothing.
 use Prim.Native.Nat.{ℕ}
-use Rattle.scales.specs.Conversions.{Conversion, gps-tai, tai-gps, tai-tt, tt-tai, tcg-tt, tt-tcg, tcb-tdb, tdb-tcb, tai-tcg, tcg-tai, tai-ut1, ut1-tai, ut1-tt, tt-ut1, tt-tdb, tdb-tt}
+use Rattle.scales.specs.Conversions.{Conversion, gps-tai, tai-gps, tai-tt, tt-tai, tcg-tt, tt-tcg, tcb-tdb, tdb-tcb, tai-tcg, tcg-tai, tai-ut1}
+use Rattle.scales.specs.Conversions.{ut1-tai, ut1-tt, tt-ut1, tt-tdb, tdb-tt}
 
 -- by a fixed offset; between TCG and TT; the two of TCB and TDB; the two through TT; by a given offset
 pub record Picoseconds : Type 0 where

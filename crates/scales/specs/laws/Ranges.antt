@@ -33,8 +33,8 @@ Billion s = AtMost (decimal 1000000000 0) s
 abbrev pub Practical : JulianDate → Type 0
 Practical d = (AtMost (power 23) (d .jd1) × AtMost (power 0) (d .jd2)) ⊎ (AtMost (power 0) (d .jd1) × AtMost (power 23) (d .jd2))
 
--- one part is at most 2 ^ 23 days in size and the other at most 2 ^ 17 - 1 days: the split of document 01's stamps at 2400000.5, to MJD 131071 in the year 2217.
--- At 2 ^ 17 days a unit in the last place is twice as long, so that day is left out.
+-- one part is at most 2 ^ 23 days in size and the other at most 2 ^ 17 - 1 days: the split of document 01's stamps at 2400000.5, to MJD 131071 in the year
+-- 2217. At 2 ^ 17 days a unit in the last place is twice as long, so that day is left out.
 abbrev pub Modified : JulianDate → Type 0
 Modified d = (AtMost (power 23) (d .jd1) × AtMost (decimal 131071 0) (d .jd2)) ⊎ (AtMost (decimal 131071 0) (d .jd1) × AtMost (power 23) (d .jd2))
 

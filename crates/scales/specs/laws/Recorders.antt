@@ -1,5 +1,6 @@
--- What the recorders' stamps must keep: the order of two stamps that have the same larger part in the same place. That a stamp t by TAI and a stamp d by GPS are of one instant to e
--- picoseconds is `Means e taiOverGps d t` (Meaning): to e, because no two dates in floats are exactly 19 s apart. Written from document 01, "Scale dates". Assumes nothing.
+-- What the recorders' stamps must keep: the order of two stamps that have the same larger part in the same place. That a stamp t by TAI and a stamp d by GPS
+-- are of one instant to e picoseconds is `Means e taiOverGps d t` (Meaning): to e, because no two dates in floats are exactly 19 s apart. Written from document
+-- 01, "Scale dates". Assumes nothing.
 use mathlib.Core.Path.{_≡_}
 use mathlib.Core.Bool.{Bool}
 use lib.Dec.{T}

@@ -1,4 +1,5 @@
--- Which refusals a conversion gives. Written from document 01, "Refusals by number": 9 for a date that is not finite, 10 for an offset that is not. Assumes nothing.
+-- Which refusals a conversion gives. Written from document 01, "Refusals by number": 9 for a date that is not finite, 10 for an offset that is not. Assumes
+-- nothing.
 use Prim.Native.Nat.{ℕ}
 use mathlib.Core.Path.{_≡_}
 use mathlib.Core.Bool.{true, false}

@@ -25,25 +25,18 @@ returns-4 : tie.Need-returns-4
 unfolding blockOutcome
 returns-4 c =
     let b = c .before .before .before in
-    length-wrong _ _ _ (b .before .u32-at .ensures) (b .u32-at2 .ensures) (b .before .before .if1 .left) (c .before .before .if2 .left) (c .before .if3 .left) (c .if4 .taken)
+    length-wrong _ _ _ (b .before .u32-at .ensures) (b .u32-at2 .ensures) (b .before .before .if1 .left) (c .before .before .if2 .left) (c .before .if3 .left)
+    (c .if4 .taken)
 
 returns-5 : tie.Need-returns-5
 unfolding blockOutcome
 returns-5 c =
     let b = c .before .before .before in
-    all-there _ _ _ (b .before .u32-at .ensures) (b .u32-at2 .ensures) (b .before .before .if1 .left) (c .before .before .if2 .left) (c .before .if3 .left) (c .if4 .left)
+    all-there _ _ _ (b .before .u32-at .ensures) (b .u32-at2 .ensures) (b .before .before .if1 .left) (c .before .before .if2 .left) (c .before .if3 .left)
+    (c .if4 .left)
 
 pub block-stamps-spec : {M : Type 1} → statement M
 block-stamps-spec =
     tie.close
-    (tie.spec
-    returns
-    (λ c κs. search needs)
-    (λ c κs. search needs)
-    returns-2
-    returns-3
-    (λ c. search needs)
-    (λ c. search needs)
-    (λ c. search needs)
-    returns-4
-    returns-5)
+    (tie.spec returns (λ c κs. search needs) (λ c κs. search needs) returns-2 returns-3 (λ c. search needs) (λ c. search needs) (λ c. search needs)
+    returns-4 returns-5)

@@ -30,7 +30,8 @@ use Rattle.stamps.proofs.reason_laws.Printed.{sentence-printable}
 use Rattle.stamps.specs.declared.Telling.{Telling}
 use Rattle.stamps.specs.declared.Telling.the-variants.{Numbers, Sentences}
 use Rattle.stamps.specs.Block.{blockOf}
-use Rattle.stamps.specs.Listing.{refusedWord, utcListingWords, blockWord, lineRoom, told, textAt, refusedValues, shown, stampLine, refusedIn, header, blockRefused}
+use Rattle.stamps.specs.Listing.{refusedWord, utcListingWords, blockWord, lineRoom, told, textAt, refusedValues, shown, stampLine, refusedIn}
+use Rattle.stamps.specs.Listing.{header, blockRefused}
 use Rattle.stamps.specs.Parts.{lineOf, linesIn, linesFrom, partLines, partText}
 use Rattle.stamps.specs.listing_laws.LineEnds.{lineEnds}
 use Rattle.stamps.proofs.Parts.{held-some}
@@ -99,7 +100,8 @@ told-none Numbers k v = simp (digits-none 4)
 told-none (Sentences n) k v = printable-none _ (sentence-printable (record { number = k; named = offending k v }))
 
 module _ (how : Telling) (jd : JulianDate) where
-  shown-onward : {A : Type 0} (o : Outcome A) (f : A → Outcome (List ℕ)) → ((a : A) → lineEnds (shown how jd (f a)) ≡ 0) → lineEnds (shown how jd (onward o f)) ≡ 0
+  shown-onward : {A : Type 0} (o : Outcome A) (f : A → Outcome (List ℕ)) → ((a : A) → lineEnds (shown how jd (f a)) ≡ 0)
+      → lineEnds (shown how jd (onward o f)) ≡ 0
   unfolding onward shown
   shown-onward (answer a) f h = h a
   shown-onward (refusal k) f h = told-none how k (refusedValues jd)
@@ -161,6 +163,7 @@ unfolding partText
 part-ends how rows s line room = lines-ends how rows s line (partLines how rows s line room)
 
 -- where a line is left, the room of a line holds one
-pub part-some : (how : Telling) (rows : List Row) (s : List ℕ) (line room : ℕ) → line < linesIn (blockOf s) → lineRoom how ≤ room → 1 ≤ partLines how rows s line room
+pub part-some : (how : Telling) (rows : List Row) (s : List ℕ) (line room : ℕ) → line < linesIn (blockOf s) → lineRoom how ≤ room
+    → 1 ≤ partLines how rows s line room
 unfolding partLines
 part-some how rows s line room h enough = held-some how rows s line room (linesIn (blockOf s) - line) enough (omega arith)

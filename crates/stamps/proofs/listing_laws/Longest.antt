@@ -1,6 +1,6 @@
--- A line has at most 33 bytes where numbers are told, and there is one of 33: a block of 1,001 stamps of two zeros is taken, and the line of its last stamp has four
--- digits, a blank, a text of 27 bytes of the year -4713 and the line's end. Where sentences are told a line has at most 64 (`told-line-most` in Sentences), and there is
--- one of 64: an input whose length has 20 digits is refused by 14, and names its length. Assumes nothing.
+-- A line has at most 33 bytes where numbers are told, and there is one of 33: a block of 1,001 stamps of two zeros is taken, and the line of its last stamp has
+-- four digits, a blank, a text of 27 bytes of the year -4713 and the line's end. Where sentences are told a line has at most 64 (`told-line-most` in
+-- Sentences), and there is one of 64: an input whose length has 20 digits is refused by 14, and names its length. Assumes nothing.
 use Prim.Native.Nat.{ℕ, zero, suc, _<_, _≤_}
 use native.Mathlib.Omega.{arith}
 use mathlib.Core.Path.{_≡_, refl, ap, _∙_}
@@ -67,7 +67,8 @@ by-division = refl
 zero-calendar : julianToCalendar nil nil ≡ answer (fields zeroDate (dayOf nil nil .fraction))
 unfolding julianToCalendar onward
 zero-calendar =
-    rw (zero-day .0) (ap (λ (d : CalendarDate). answer (fields d (dayOf nil nil .fraction))) (ap gregorianDate (zero-day .1) ∙ divided-date (pos 0) ∙ by-division))
+    rw (zero-day .0) (ap (λ (d : CalendarDate). answer (fields d (dayOf nil nil .fraction)))
+    (ap gregorianDate (zero-day .1) ∙ divided-date (pos 0) ∙ by-division))
 
 zero-valid : (validOf zeroDate ≡ answer tt) × (ltZ (pos 2733194) (zeroDate .year) ≡ false)
 unfolding validDate daysInMonth leapSize lengths onward
@@ -82,7 +83,8 @@ zero-text : (rows : List Row) → (t : List ℕ) × (isoTextExpanded rows (julia
 zero-text rows =
     let r = shownBy (expandedForm .count) (dayOf nil nil .fraction) (leapOn rows zeroDate (zero-valid .0) (zero-valid .1)) in (
       textBy expandedText zeroDate r,
-      fields-given-by expandedForm rows (julian nil nil) _ zero-calendar ∙ has-text-by rows zeroDate (zero-valid .0) (zero-valid .1) expandedForm (dayOf nil nil .fraction),
+      fields-given-by expandedForm rows (julian nil nil) _ zero-calendar
+          ∙ has-text-by rows zeroDate (zero-valid .0) (zero-valid .1) expandedForm (dayOf nil nil .fraction),
       wide r,
     )
 
@@ -138,7 +140,8 @@ module _ (z : List ℕ) (many : length z ≡ 64001) where
   unfolding lineOf blockRefused told came render offending blockField namedText fixedText texts digitsIn u32At fourAt
   line-64 rows = rw (many, ← digits-whole 19 twentyDigits (lit< tt)) refl
 
-pub longest-told : (rows : List Row) → (s : List ℕ) × (n : ℕ) × (n < 18446744073709551616) × (blockOf s ≡ refusal 14) × (length (lineOf (Sentences n) rows (blockOf s) s 0) ≡ 64)
+pub longest-told : (rows : List Row) → (s : List ℕ) × (n : ℕ) × (n < 18446744073709551616) × (blockOf s ≡ refusal 14)
+    × (length (lineOf (Sentences n) rows (blockOf s) s 0) ≡ 64)
 longest-told rows =
     let z = noughts 64001 in
     let m = length-replicate {A = ℕ} 64001 0 in

@@ -1,12 +1,12 @@
--- A stamp of a block that is not finite is refused with 6 and counted: every NaN, of either sign and of any payload, and both infinities, in jd1 or in jd2. Assumes nothing.
+-- A stamp of a block that is not finite is refused with 6 and counted: every NaN, of either sign and of any payload, and both infinities, in jd1 or in jd2.
+-- Assumes nothing.
 use mathlib.Core.Path.{_≡_, refl, sym, ap, _∙_}
 use mathlib.Core.Logic.{_⊎_, inl, inr}
-use mathlib.Core.Bool.{Bool, true, false, not, cond, _&&_, _||_}
+use mathlib.Core.Bool.{Bool, true, false, cond, _&&_, _||_}
 use mathlib.Core.List.{List, [], _∷_, _++_}
 use Prim.Native.Nat.{ℕ, zero, suc, _+_, _≤_, _<_}
 use native.Mathlib.Omega.{arith}
 use lib.Dec.{eqb}
-use lib.Pow.{field}
 use lib.Ieee.Scale.{finite}
 use borrow.Author.Tests.{eqb-true, eq-eqb}
 use Rattle.refusals.specs.Outcome.{Outcome, answer, refusal}
@@ -41,7 +41,8 @@ unfolding digitsIn
 six = refl
 
 -- `i refused 6`
-pub not-finite-line : (rows : List Row) (s : List ℕ) (n i : ℕ) → NotFinite s n i → stampLine Numbers rows s n i ≡ ((numeral i ++ (32 ∷ [])) ++ (refusedWord ++ (54 ∷ []))) ++ (10 ∷ [])
+pub not-finite-line : (rows : List Row) (s : List ℕ) (n i : ℕ) → NotFinite s n i
+    → stampLine Numbers rows s n i ≡ ((numeral i ++ (32 ∷ [])) ++ (refusedWord ++ (54 ∷ []))) ++ (10 ∷ [])
 unfolding stampLine shown told
 not-finite-line rows s n i d =
     ap (λ (o : Outcome (List ℕ)). ((numeral i ++ (32 ∷ [])) ++ shown Numbers (stampAt s n i) o) ++ (10 ∷ [])) (not-finite-refused rows s n i d)
@@ -89,12 +90,15 @@ one-each rows s n i (inr h) = by (isNotFinite s n i) refl
     by true e = absurd (not-both (textAt rows s n i) (h .text) 6 (h .is) (not-finite-refused rows s n i (tested-not-finite s n i e)))
     by false e = ap oneIfRefused (h .is)
 
-pub only-not-finite : (rows : List Row) (s : List ℕ) (n k : ℕ) → ((i : ℕ) → i < k → NotFinite s n i ⊎ HasText rows s n i) → refusedIn rows s n k ≡ notFiniteIn s n k
+pub only-not-finite : (rows : List Row) (s : List ℕ) (n k : ℕ) → ((i : ℕ) → i < k → NotFinite s n i ⊎ HasText rows s n i)
+    → refusedIn rows s n k ≡ notFiniteIn s n k
 unfolding notFiniteIn refusedIn
 only-not-finite rows s n zero f = refl
-only-not-finite rows s n (suc k) f = let before = only-not-finite rows s n k (λ i h. f i (omega arith)) in let one = one-each rows s n k (f k (omega arith)) in omega arith
+only-not-finite rows s n (suc k) f = let before = only-not-finite rows s n k (λ i h. f i (omega arith)) in let one =
+    one-each rows s n k (f k (omega arith)) in omega arith
 
 pub not-finite-header : (how : Telling) (rows : List Row) (s : List ℕ) (n : ℕ) → blockOf s ≡ answer n → ((i : ℕ) → i < n → NotFinite s n i ⊎ HasText rows s n i)
     → listing how rows s ≡ header n (notFiniteIn s n n) ++ stampLines how rows s n n
 unfolding listing listingOf
-not-finite-header how rows s n e f = ap (λ (o : Outcome ℕ). listingOf how rows o s) e ∙ ap (λ (k : ℕ). header n k ++ stampLines how rows s n n) (only-not-finite rows s n n f)
+not-finite-header how rows s n e f = ap (λ (o : Outcome ℕ). listingOf how rows o s) e
+    ∙ ap (λ (k : ℕ). header n k ++ stampLines how rows s n n) (only-not-finite rows s n n f)

@@ -27,7 +27,8 @@ enough zero zero n h g = refl
 enough zero (suc b) n h g = either zero (suc b) n (λ k. absurd (let z : ⊥ = omega arith in z)) (ltb n 10) refl
 enough (suc a) zero n h g = either (suc a) zero n (λ k. absurd (let z : ⊥ = omega arith in z)) (ltb n 10) refl
 enough (suc a) (suc b) n h g =
-    either (suc a) (suc b) n (λ k. enough a b (n / 10) (tenth n (10 ^ suc a) (rw (pow-suc 10 (suc a)) at h)) (tenth n (10 ^ suc b) (rw (pow-suc 10 (suc b)) at g))) (ltb n 10) refl
+    either (suc a) (suc b) n (λ k. enough a b (n / 10) (tenth n (10 ^ suc a) (rw (pow-suc 10 (suc a)) at h))
+    (tenth n (10 ^ suc b) (rw (pow-suc 10 (suc b)) at g))) (ltb n 10) refl
 
 below-power : (n : ℕ) → n < 10 ^ suc n
 below-power zero = omega arith

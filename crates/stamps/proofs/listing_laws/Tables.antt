@@ -1,5 +1,5 @@
--- A listing by a announced table: which stamps are refused, and so the header, is the same by all rows; a call with a taken table gives the part by its rows, one with no
--- announced rows the part by the fixed table. Assumes nothing.
+-- A listing by a announced table: which stamps are refused, and so the header, is the same by all rows; a call with a taken table gives the part by its rows,
+-- one with no announced rows the part by the fixed table. Assumes nothing.
 use Prim.Native.Nat.{ℕ, zero, suc}
 use native.Mathlib.Omega.{arith}
 use mathlib.Core.Path.{_≡_, refl, ap, _∙_}
@@ -34,15 +34,19 @@ module _ (a b : List Row) where
   text-refused-alike jd k e = go (julianToCalendar (jd .jd1) (jd .jd2)) refl
     where
       go : (o : Outcome CalendarFields) → julianToCalendar (jd .jd1) (jd .jd2) ≡ o → isoTextExpanded b jd ≡ refusal k
-      go (refusal n) p = fields-refused-by expandedForm b jd n p ∙ ap refusal (one-number (isoTextExpanded a jd) n k (fields-refused-by expandedForm a jd n p) e)
+      go (refusal n) p = fields-refused-by expandedForm b jd n p
+          ∙ ap refusal (one-number (isoTextExpanded a jd) n k (fields-refused-by expandedForm a jd n p) e)
       go (answer c) p = by-date (date-refusal (jd .jd1) (jd .jd2) c p)
         where
           by-date : (validOf (c .date) ≡ answer tt) ⊎ (validOf (c .date) ≡ refusal 1) → isoTextExpanded b jd ≡ refusal k
-          by-date (inl v) = absurd (not-both (isoTextExpanded a jd) _ k (fields-given-by expandedForm a jd c p ∙ has-text-by a (c .date) v (date-in-range (jd .jd1) (jd .jd2) c p .year-high) expandedForm (c .fraction)) e)
+          by-date (inl v) = absurd (not-both (isoTextExpanded a jd) _ k
+              (fields-given-by expandedForm a jd c p
+              ∙ has-text-by a (c .date) v (date-in-range (jd .jd1) (jd .jd2) c p .year-high) expandedForm (c .fraction)) e)
           by-date (inr v) =
               fields-given-by expandedForm b jd c p
               ∙ text-refused-by b (c .date) expandedForm (c .fraction) 1 v
-              ∙ ap refusal (one-number (isoTextExpanded a jd) 1 k (fields-given-by expandedForm a jd c p ∙ text-refused-by a (c .date) expandedForm (c .fraction) 1 v) e)
+              ∙ ap refusal (one-number (isoTextExpanded a jd) 1 k
+              (fields-given-by expandedForm a jd c p ∙ text-refused-by a (c .date) expandedForm (c .fraction) 1 v) e)
 
   pub refused-alike : (s : List ℕ) (n i k : ℕ) → textAt a s n i ≡ refusal k → textAt b s n i ≡ refusal k
   unfolding textAt
@@ -79,13 +83,23 @@ unfolding stampLine
 refused-lines-alike how a b s n i k e = rw (e, refused-alike a b s n i k e)
 
 -- ---- a call: what it does with a table that is taken, and with one that is refused
-module _ {how : Telling} {table : Outcome (List Row)} {s before after : List ℕ} {line : ℕ} {r : LinesAnswer} (c : PartCall how table s line before r after) where
+module _ {how : Telling} {table : Outcome (List Row)} {s before after : List ℕ} {line : ℕ} {r : LinesAnswer}
+    (c : PartCall how table s line before r after) where
   pub part-of-taken : (rows : List Row) → table ≡ answer rows → (p : Part) × (r ≡ Lines p) × PartPlaced how rows s line before p after
   unfolding linesOutcome scratchHolds onward
   part-of-taken rows e = go r (c .says ∙ ap (λ (o : Outcome (List Row)). onward o (λ rows. answer (partOf how rows s line (length before)))) e)
     where
-      go : (x : LinesAnswer) → linesOutcome x ≡ answer (partOf how rows s line (length before)) → (p : Part) × (x ≡ Lines p) × PartPlaced how rows s line before p after
-      go (Lines p) q = (p, refl, record { says = cc; holds = c .holds ∙ ap (λ (o : Outcome (List Row)). scratchHolds (onward o (λ rows. answer (partText how rows s line (length before)))) before) e })
+      go : (x : LinesAnswer) → linesOutcome x ≡ answer (partOf how rows s line (length before)) → (p : Part) × (x ≡ Lines p)
+          × PartPlaced how rows s line before p after
+      go (Lines p) q = (
+        p,
+        refl,
+        record {
+          says = cc;
+          holds = c .holds
+              ∙ ap (λ (o : Outcome (List Row)). scratchHolds (onward o (λ rows. answer (partText how rows s line (length before)))) before) e;
+        },
+      )
       go (Refused k) q = let z : _≡_ {A = ℕ} 0 1 = cc in absurd (omega arith)
 
   pub part-of-refused : (k : ℕ) → table ≡ refusal k → (r ≡ Refused k) × (after ≡ before)
@@ -100,6 +114,7 @@ module _ {how : Telling} {table : Outcome (List Row)} {s before after : List ℕ
       go (Refused j) q = let same : j ≡ k = cc in ap Refused same
 
 -- with no announced rows, whatever the places hold, every byte is that of the fixed table
-pub part-without-rows : (t : AnnouncedRows) → t .«months_size» ≡ 0 → t .«seconds_size» ≡ 0 → {how : Telling} {s before after : List ℕ} {line : ℕ} {r : LinesAnswer}
+pub part-without-rows : (t : AnnouncedRows) → t .«months_size» ≡ 0 → t .«seconds_size» ≡ 0
+    → {how : Telling} {s before after : List ℕ} {line : ℕ} {r : LinesAnswer}
     → PartCall how (tableOf t) s line before r after → (p : Part) × (r ≡ Lines p) × PartPlaced how fixed s line before p after
 part-without-rows t m z c = part-of-taken c fixed (table-none t m z)

@@ -1,5 +1,5 @@
--- The parts, one after the other, are the whole listing, for every block, every table of rows and every scratch of at least a line's room, 33 bytes, and 64 where
--- sentences are told: what a program writes that asks for parts until one is the last. Assumes nothing.
+-- The parts, one after the other, are the whole listing, for every block, every table of rows and every scratch of at least a line's room, 33 bytes, and 64
+-- where sentences are told: what a program writes that asks for parts until one is the last. Assumes nothing.
 use Prim.Native.Nat.{ℕ, zero, suc, _+_, _-_, _<_, _≤_, zero-le}
 use native.Mathlib.Omega.{arith}
 use native.Mathlib.Numerals.{add-one}
@@ -56,7 +56,8 @@ module _ (how : Telling) (rows : List Row) (s : List ℕ) where
     parts-are zero = refl
     parts-are (suc k) =
         ap (λ (l : List ℕ). l ++ partText how rows s (lineAfter how rows s room k) room) (parts-are k)
-        ∙ ap (λ (i : ℕ). linesFrom how rows s 0 (lineAfter how rows s room k) ++ linesFrom how rows s i (partLines how rows s (lineAfter how rows s room k) room)) (sym (zero-add (lineAfter how rows s room k)))
+        ∙ ap (λ (i : ℕ). linesFrom how rows s 0 (lineAfter how rows s room k)
+        ++ linesFrom how rows s i (partLines how rows s (lineAfter how rows s room k) room)) (sym (zero-add (lineAfter how rows s room k)))
         ∙ lines-add how rows s 0 (lineAfter how rows s room k) (partLines how rows s (lineAfter how rows s room k) room)
 
     within : (k : ℕ) → lineAfter how rows s room k ≤ linesIn (blockOf s)
@@ -98,7 +99,8 @@ module _ (how : Telling) (rows : List Row) (s : List ℕ) where
 
 -- ---- two scratches write the same: any two that hold a line, after as many parts as there are lines
 module _ (how : Telling) (rows : List Row) (s : List ℕ) (a b : ℕ) where
-  pub parts-alike : lineRoom how ≤ a → lineRoom how ≤ b → (j k : ℕ) → linesIn (blockOf s) ≤ j → linesIn (blockOf s) ≤ k → partsJoined how rows s a j ≡ partsJoined how rows s b k
+  pub parts-alike : lineRoom how ≤ a → lineRoom how ≤ b → (j k : ℕ) → linesIn (blockOf s) ≤ j → linesIn (blockOf s) ≤ k
+      → partsJoined how rows s a j ≡ partsJoined how rows s b k
   parts-alike ha hb j k hj hk = whole how rows s a ha j hj ∙ sym (whole how rows s b hb k hk)
 
   -- and any two at all, each up to the part that says it is the last
@@ -107,13 +109,16 @@ module _ (how : Telling) (rows : List Row) (s : List ℕ) (a b : ℕ) where
   last-alike j k ej ek = whole-at-last how rows s a j ej ∙ sym (whole-at-last how rows s b k ek)
 
 -- document 02's item 12: what a program writes through 64 bytes is what it wrote through 4,096, with the fixed table and of every block, refused ones included
-pub sixty-four : (how : Telling) (s : List ℕ) (j k : ℕ) → partOf how fixed s (lineAfter how fixed s 64 j) 64 .done ≡ true → partOf how fixed s (lineAfter how fixed s 4096 k) 4096 .done ≡ true
+pub sixty-four : (how : Telling) (s : List ℕ) (j k : ℕ) → partOf how fixed s (lineAfter how fixed s 64 j) 64 .done ≡ true
+    → partOf how fixed s (lineAfter how fixed s 4096 k) 4096 .done ≡ true
     → partsJoined how fixed s 64 (suc j) ≡ partsJoined how fixed s 4096 (suc k)
 sixty-four how s = last-alike how fixed s 64 4096
 
 -- the last part comes: after as many parts as there are lines, or sooner
-pub comes-to-last : (how : Telling) (rows : List Row) (s : List ℕ) (room : ℕ) → lineRoom how ≤ room → partOf how rows s (lineAfter how rows s room (linesIn (blockOf s))) room .done ≡ true
+pub comes-to-last : (how : Telling) (rows : List Row) (s : List ℕ) (room : ℕ) → lineRoom how ≤ room
+    → partOf how rows s (lineAfter how rows s room (linesIn (blockOf s))) room .done ≡ true
 unfolding partOf
 comes-to-last how rows s room enough =
     let far = reached how rows s room enough (linesIn (blockOf s)) (linesIn (blockOf s)) (le-refl _) (le-refl _) in
-    le-leb (linesIn (blockOf s)) (lineAfter how rows s room (linesIn (blockOf s)) + partLines how rows s (lineAfter how rows s room (linesIn (blockOf s))) room) (omega arith)
+    le-leb (linesIn (blockOf s)) (lineAfter how rows s room (linesIn (blockOf s)) + partLines how rows s (lineAfter how rows s room (linesIn (blockOf s)))
+    room) (omega arith)

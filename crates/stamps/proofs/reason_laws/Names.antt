@@ -1,5 +1,6 @@
--- A refusal names its field: where a call of document 01 refuses by a number, the reason of that number with the call's values names the field that the call's test found
--- wrong; and values that the test passes name none, nor does a number whose test reads other values. Each law is of the landed definition of the call. Assumes nothing.
+-- A refusal names its field: where a call of document 01 refuses by a number, the reason of that number with the call's values names the field that the call's
+-- test found wrong; and values that the test passes name none, nor does a number whose test reads other values. Each law is of the landed definition of the
+-- call. Assumes nothing.
 use Prim.Native.Nat.{ℕ, _+_, _*_, _/_, _%_, _≤_, _<_}
 use native.Mathlib.Omega.{arith}
 use mathlib.Core.Path.{_≡_, refl, sym, ap, _∙_}
@@ -37,11 +38,13 @@ use Rattle.utc.proofs.UnixTimes.{nanos-refused, day-refused, day-given}
 use Rattle.utc.proofs.laws.DateNumbers.{from-calendar-numbers}
 use Rattle.stamps.specs.Block.{blockOf}
 use Rattle.reasons.specs.declared.sentences.Named.{Named}
-use Rattle.reasons.specs.declared.sentences.Named.the-variants.{NoField, Year, Month, Day, Hour, Minute, Second, Sum, Fraction, Nanos, FirstPart, SecondPart, Offset, SecondSize, Size, WholeLength}
+use Rattle.reasons.specs.declared.sentences.Named.the-variants.{NoField, Year, Month, Day, Hour, Minute, Second, Sum, Fraction, Nanos, FirstPart}
+use Rattle.reasons.specs.declared.sentences.Named.the-variants.{SecondPart, Offset, SecondSize, Size, WholeLength}
 use Rattle.reasons.specs.declared.Values.{Values}
 use Rattle.reasons.specs.declared.Values.the-variants.{NoValues, Date, Time, Parts, Number, Count, Block}
 use Rattle.reasons.specs.declared.sentences.Reason.{Reason}
-use Rattle.reasons.specs.Offending.{offending, dateField, yearField, monthField, dayField, timeField, sumField, partField, partsField, floatField, nanosField, blockField}
+use Rattle.reasons.specs.Offending.{offending, dateField, yearField, monthField, dayField, timeField, sumField, partField, partsField, floatField}
+use Rattle.reasons.specs.Offending.{nanosField, blockField}
 use Rattle.reasons.specs.Sentence.{reasonOf}
 use Rattle.reasons.proofs.FieldTests.{hour-wrong, minute-wrong}
 use Rattle.stamps.specs.reason_laws.Groups.{reads}
@@ -144,14 +147,16 @@ module _ (hour minute : ℕ) (second leap : Float) where
   unfolding reasonOf offending
   minute-told h m = ap (names 4) (sym (minute-wrong hour minute second leap h m))
 
-  pub second-told : dayFraction hour minute second leap ≡ refusal 4 → hour ≤ 23 → minute ≤ 59 → reasonOf 4 (Time hour minute second leap) ≡ names 4 (Second second)
+  pub second-told : dayFraction hour minute second leap ≡ refusal 4 → hour ≤ 23 → minute ≤ 59
+      → reasonOf 4 (Time hour minute second leap) ≡ names 4 (Second second)
   unfolding reasonOf offending dayFraction timeField
   second-told e h m = rw (le-leb hour 23 h, le-leb minute 59 m, tested _ 4 (timeInDay hour minute second leap) e)
 
   -- a time that is taken names none
   pub time-passes : (x : Float) → dayFraction hour minute second leap ≡ answer x → timeField hour minute second leap ≡ NoField
   unfolding dayFraction timeField timeInDay
-  time-passes x e = go (leb hour 23) (leb minute 59) (le nought second && lt second (secondLimit hour minute leap)) (passed _ x 4 (timeInDay hour minute second leap) e)
+  time-passes x e = go (leb hour 23) (leb minute 59) (le nought second && lt second (secondLimit hour minute leap))
+      (passed _ x 4 (timeInDay hour minute second leap) e)
     where
       go : (a b c : Bool) → (a && b) && c ≡ true → cond a (cond b (cond (not ((a && b) && c)) (Second second) NoField) (Minute minute)) (Hour hour) ≡ NoField
       go true true true t = refl
@@ -185,7 +190,8 @@ module _ (rows : List Row) (y m d : ℤ) (x : Float) where
     where
       not-seven : onward (mjdOf y m d) (λ n. answer (offsetAt rows (monthNumber y (natAbs m)) (ofInt binary64 n) x)) ≡ refusal 7 → ⊥
       not-seven q =
-          let h : 7 ≤ 3 = after-date {A = Unit} {B = ℤ} {C = Float} (λ u. mjdNumber y m d) (λ n. offsetAt rows (monthNumber y (natAbs m)) (ofInt binary64 n) x) (early y) (no-month m) (no-day y m d) tt 7 q in
+          let h : 7 ≤ 3 = after-date {A = Unit} {B = ℤ} {C = Float} (λ u. mjdNumber y m d)
+          (λ n. offsetAt rows (monthNumber y (natAbs m)) (ofInt binary64 n) x) (early y) (no-month m) (no-day y m d) tt 7 q in
           omega (arith, h)
 
       outside : (b : Bool) → inDay x ≡ b → inDay x ≡ false
@@ -299,14 +305,16 @@ by-size n false true true false e = absurd (omega (arith, other e))
 by-size n false true false d e = refl
 by-size n false false c d e = absurd (omega (arith, other e))
 
-by-length : (n : ℕ) (a b c d : Bool) → cond a (refusal 14) (cond b (cond c (cond d (answer n) (refusal 14)) (refusal 13)) (refusal 12)) ≡ refusal 14 → (a ≡ true) ⊎ (d ≡ false)
+by-length : (n : ℕ) (a b c d : Bool) → cond a (refusal 14) (cond b (cond c (cond d (answer n) (refusal 14)) (refusal 13)) (refusal 12)) ≡ refusal 14
+    → (a ≡ true) ⊎ (d ≡ false)
 by-length n true b c d e = inl refl
 by-length n false true true true e = absurd (no-answer e)
 by-length n false true true false e = inr refl
 by-length n false true false d e = absurd (omega (arith, other e))
 by-length n false false c d e = absurd (omega (arith, other e))
 
-by-none-of : (n x : ℕ) (a b c d : Bool) → cond a (refusal 14) (cond b (cond c (cond d (answer n) (refusal 14)) (refusal 13)) (refusal 12)) ≡ answer x → (b ≡ true) × (c ≡ true) × (d ≡ true)
+by-none-of : (n x : ℕ) (a b c d : Bool) → cond a (refusal 14) (cond b (cond c (cond d (answer n) (refusal 14)) (refusal 13)) (refusal 12)) ≡ answer x
+    → (b ≡ true) × (c ≡ true) × (d ≡ true)
 by-none-of n x true b c d e = absurd (no-refusal e)
 by-none-of n x false true true true e = (refl, refl, refl)
 by-none-of n x false true true false e = absurd (no-refusal e)
@@ -324,7 +332,8 @@ module _ (s : List ℕ) where
 
   pub length-told : blockOf s ≡ refusal 14 → reasonOf 14 (Block (length s) (u32At s 0) (u32At s 4)) ≡ names 14 (WholeLength (length s))
   unfolding reasonOf offending blockField blockOf
-  length-told e = rw (wrong (by-length (u32At s 0) (ltb (length s) 8) (eqb (u32At s 0) (u32At s 4)) (leb (u32At s 0) 4000) (eqb (length s) (8 + 16 * u32At s 0)) e))
+  length-told e = rw (wrong (by-length (u32At s 0) (ltb (length s) 8) (eqb (u32At s 0) (u32At s 4)) (leb (u32At s 0) 4000)
+      (eqb (length s) (8 + 16 * u32At s 0)) e))
     where
       wrong : (ltb (length s) 8 ≡ true) ⊎ (eqb (length s) (8 + 16 * u32At s 0) ≡ false) → eqb (length s) (8 + 16 * u32At s 0) ≡ false
       wrong (inl h) = ne-eqb (length s) (8 + 16 * u32At s 0) (λ q. omega (arith, ltb-true (length s) 8 h))

@@ -13,7 +13,8 @@ use Rattle.numerals.specs.digits.Decimal.{AllDigits, digitsOf}
 use Rattle.numerals.proofs.digits.Decimal.{digits-all}
 use Rattle.numerals.specs.digits.Hexadecimal.{hexDigit, hexDigits, hex16}
 use Rattle.reasons.specs.declared.sentences.Named.{Named}
-use Rattle.reasons.specs.declared.sentences.Named.the-variants.{NoField, Year, Month, Day, Hour, Minute, Second, Sum, Fraction, Nanos, FirstPart, SecondPart, Offset, SecondSize, Size, WholeLength}
+use Rattle.reasons.specs.declared.sentences.Named.the-variants.{NoField, Year, Month, Day, Hour, Minute, Second, Sum, Fraction, Nanos, FirstPart}
+use Rattle.reasons.specs.declared.sentences.Named.the-variants.{SecondPart, Offset, SecondSize, Size, WholeLength}
 use Rattle.reasons.specs.declared.sentences.Reason.{Reason}
 use Rattle.reasons.specs.sentences.Texts.{asciiBytes, texts, fixedText}
 use Rattle.reasons.specs.sentences.Render.{signedDigits, floatDigits, namedText, render}

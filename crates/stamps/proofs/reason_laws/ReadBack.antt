@@ -1,5 +1,5 @@
 -- The reader gives every reason back from its sentence. So two sentences are the same only if number, field and value are the same. Assumes nothing.
-use Prim.Native.Nat.{ℕ, zero, suc, _+_, _≤_}
+use Prim.Native.Nat.{ℕ, suc, _+_, _≤_}
 use native.Mathlib.Omega.{arith}
 use mathlib.Core.Path.{_≡_, refl, sym, ap, _∙_}
 use mathlib.Core.List.{List, [], _∷_, _++_}
@@ -15,7 +15,8 @@ use Rattle.numerals.proofs.digits.Decimal.{number-digits, digits-all, digits-so
 use Rattle.numerals.proofs.digits.Hexadecimal.{number-hex}
 use Rattle.reasons.proofs.sentences.Each.{EachBelow, from-each}
 use Rattle.reasons.specs.declared.sentences.Named.{Named}
-use Rattle.reasons.specs.declared.sentences.Named.the-variants.{NoField, Year, Month, Day, Hour, Minute, Second, Sum, Fraction, Nanos, FirstPart, SecondPart, Offset, SecondSize, Size, WholeLength}
+use Rattle.reasons.specs.declared.sentences.Named.the-variants.{NoField, Year, Month, Day, Hour, Minute, Second, Sum, Fraction, Nanos, FirstPart}
+use Rattle.reasons.specs.declared.sentences.Named.the-variants.{SecondPart, Offset, SecondSize, Size, WholeLength}
 use Rattle.reasons.specs.declared.sentences.Reason.{Reason}
 use Rattle.reasons.specs.sentences.Texts.{texts, fixedText}
 use Rattle.reasons.specs.sentences.Render.{signedDigits, floatDigits, namedText, render}
@@ -30,7 +31,70 @@ no-zero l t = absurd (omega arith)
 
 numbers-read : EachBelow NumberRead 29
 unfolding numberIn beginning startsWith fixedText texts
-numbers-read = (((((((((((((((((((((((((((((tt, no-zero), λ l t. refl), λ l t. refl), λ l t. refl), λ l t. refl), λ l t. refl), λ l t. refl), λ l t. refl), λ l t. refl), λ l t. refl), λ l t. refl), λ l t. refl), λ l t. refl), λ l t. refl), λ l t. refl), λ l t. refl), λ l t. refl), λ l t. refl), λ l t. refl), λ l t. refl), λ l t. refl), λ l t. refl), λ l t. refl), λ l t. refl), λ l t. refl), λ l t. refl), λ l t. refl), λ l t. refl), λ l t. refl)
+numbers-read = (
+  (
+    (
+      (
+        (
+          (
+            (
+              (
+                (
+                  (
+                    (
+                      (
+                        (
+                          (
+                            (
+                              (
+                                (
+                                  (
+                                    (
+                                      (
+                                        (
+                                          ((((((((tt, no-zero), λ l t. refl), λ l t. refl), λ l t. refl), λ l t. refl), λ l t. refl), λ l t. refl), λ l t. refl),
+                                          λ l t. refl,
+                                        ),
+                                        λ l t. refl,
+                                      ),
+                                      λ l t. refl,
+                                    ),
+                                    λ l t. refl,
+                                  ),
+                                  λ l t. refl,
+                                ),
+                                λ l t. refl,
+                              ),
+                              λ l t. refl,
+                            ),
+                            λ l t. refl,
+                          ),
+                          λ l t. refl,
+                        ),
+                        λ l t. refl,
+                      ),
+                      λ l t. refl,
+                    ),
+                    λ l t. refl,
+                  ),
+                  λ l t. refl,
+                ),
+                λ l t. refl,
+              ),
+              λ l t. refl,
+            ),
+            λ l t. refl,
+          ),
+          λ l t. refl,
+        ),
+        λ l t. refl,
+      ),
+      λ l t. refl,
+    ),
+    λ l t. refl,
+  ),
+  λ l t. refl,
+)
 
 pub number-read : (k : ℕ) → 1 ≤ k → k ≤ 28 → (t : List ℕ) → numberIn (fixedText k ++ t) ≡ k
 number-read k l h t = from-each NumberRead 29 numbers-read k (omega arith) l t
@@ -88,5 +152,6 @@ module _ (r : Reason) (l : 1 ≤ r .number) (h : r .number ≤ 28) (m : OfMachin
           ∙ named-read (r .named) m
 
 -- two sentences are the same only if number, field and value are the same; a NaN has one value
-pub same-sentence : (r s : Reason) → 1 ≤ r .number → r .number ≤ 28 → OfMachine (r .named) → 1 ≤ s .number → s .number ≤ 28 → OfMachine (s .named) → render r ≡ render s → r ≡ s
+pub same-sentence : (r s : Reason) → 1 ≤ r .number → r .number ≤ 28 → OfMachine (r .named) → 1 ≤ s .number → s .number ≤ 28 → OfMachine (s .named)
+    → render r ≡ render s → r ≡ s
 same-sentence r s l h m l′ h′ m′ e = sym (read-back r l h m) ∙ ap readSentence e ∙ read-back s l′ h′ m′

@@ -1,5 +1,6 @@
--- A stamp that is not finite: a date of a block with a part that is a NaN or an infinity, and how many a block has. Written from document 01, "Stamp block", and IEEE 754: a binary64
--- pattern whose exponent field is all ones is an infinity where its fraction is 0, and else a NaN, of either sign and of any payload. Assumes nothing.
+-- A stamp that is not finite: a date of a block with a part that is a NaN or an infinity, and how many a block has. Written from document 01, "Stamp block",
+-- and IEEE 754: a binary64 pattern whose exponent field is all ones is an infinity where its fraction is 0, and else a NaN, of either sign and of any payload.
+-- Assumes nothing.
 use Prim.Native.Nat.{ℕ, zero, suc, _+_}
 use mathlib.Core.Path.{_≡_}
 use mathlib.Core.Logic.{_⊎_}

@@ -1,6 +1,6 @@
--- A reader of sentences: the number whose text begins the sentence, and the field whose word comes next, with its value. It is written apart from the sentences'
--- writer, from the texts and words alone; that it gives every reason back shows that two sentences are the same only if number, field and value are (document 02,
--- item 13). Assumes nothing.
+-- A reader of sentences: the number whose text begins the sentence, and the field whose word comes next, with its value. It is written apart from the
+-- sentences' writer, from the texts and words alone; that it gives every reason back shows that two sentences are the same only if number, field and value are
+-- (document 02, item 13). Assumes nothing.
 use Prim.Native.Nat.{ℕ, suc}
 use mathlib.Core.Bool.{Bool, true, false, cond, _&&_}
 use mathlib.Core.List.{List, [], _∷_}
@@ -11,7 +11,8 @@ use lib.Ieee.{Float, binary64, ofBits, fits}
 use Rattle.numerals.specs.digits.Decimal.{number}
 use Rattle.numerals.specs.digits.Hexadecimal.{hexNumber}
 use Rattle.reasons.specs.declared.sentences.Named.{Named}
-use Rattle.reasons.specs.declared.sentences.Named.the-variants.{NoField, Year, Month, Day, Hour, Minute, Second, Sum, Fraction, Nanos, FirstPart, SecondPart, Offset, SecondSize, Size, WholeLength}
+use Rattle.reasons.specs.declared.sentences.Named.the-variants.{NoField, Year, Month, Day, Hour, Minute, Second, Sum, Fraction, Nanos, FirstPart}
+use Rattle.reasons.specs.declared.sentences.Named.the-variants.{SecondPart, Offset, SecondSize, Size, WholeLength}
 use Rattle.reasons.specs.declared.sentences.Reason.{Reason}
 use Rattle.reasons.specs.sentences.Texts.{asciiBytes, texts, fixedText}
 

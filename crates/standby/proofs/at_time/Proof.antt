@@ -34,7 +34,8 @@ module _ (c : tie.After-whole-seconds-by-rows) where
   offset-is =
       let s = c .before .before .before in
       c .whole-seconds-by-rows .ensures .0
-      ∙ ap (λ (y : ℤ). wholeSeconds (rowsOf (s .args .table)) y (s .args .t .month)) (toZ-ofZ {w = w32} (record { sfits = c .before .struct-told .given .0 .1 }))
+      ∙ ap (λ (y : ℤ). wholeSeconds (rowsOf (s .args .table)) y (s .args .t .month))
+      (toZ-ofZ {w = w32} (record { sfits = c .before .struct-told .given .0 .1 }))
 
   offset-few : c .whole-seconds-by-rows .result ≤ 53
   offset-few =
@@ -44,13 +45,11 @@ module _ (c : tie.After-whole-seconds-by-rows) where
 
 -- the test of the time
 module _ (c : tie.After-in-its-day) where
-  tested : (v : Bool) → c .in-its-day .result ≡ v → let s = c .before .before .before .before .before in inItsDay (s .args .t) (lastMinute (rowsOf (s .args .table)) (s .args .t) (s .args .next)) ≡ v
+  tested : (v : Bool) → c .in-its-day .result ≡ v → let s =
+      c .before .before .before .before .before in inItsDay (s .args .t) (lastMinute (rowsOf (s .args .table)) (s .args .t) (s .args .next)) ≡ v
   tested v p =
       let s = c .before .before .before .before .before in
       ap (inItsDay (s .args .t)) (sym (c .before .last-minute .ensures)) ∙ sym (c .in-its-day .ensures) ∙ p
-
-last-minute-requires : tie.Need-last-minute-requires
-last-minute-requires c κs = (offset-is c, omega (arith, offset-few c))
 
 returns : tie.Need-returns
 unfolding instantOutcome taiMs
@@ -66,7 +65,11 @@ returns c =
           (λ j. answer (1000 * (86400 * (s .pre .day-is j) + (c .time-seconds .ensures .0 j) + (offset-is o j)) + a .t .millis))
           ∙ time-fits (rowsOf (a .table)) (a .t) (a .next) e;
       small = λ x p. subst (λ (y : Instant). SmallInstant y) (same-instant p)
-          (record { few-seconds = omega (arith, s .pre .few-days, c .time-seconds .ensures .1, offset-few o); few-millis = few-millis (a .t) (lastMinute (rowsOf (a .table)) (a .t) (a .next)) e });
+          (record {
+            few-seconds = omega (arith, s .pre .few-days, c .time-seconds .ensures .1, offset-few o);
+            few-millis =
+                few-millis (a .t) (lastMinute (rowsOf (a .table)) (a .t) (a .next)) e;
+          });
     }
 
 returns-2 : tie.Need-returns-2
@@ -79,15 +82,5 @@ returns-2 c =
 pub at-time-spec : {M : Type 1} → statement M
 at-time-spec =
     tie.close
-    (tie.spec
-    (λ c. search needs)
-    (λ c κs. search needs)
-    last-minute-requires
-    (λ c κs. search needs)
-    (λ c. search needs)
-    (λ c κs. search needs)
-    (λ c. search needs)
-    (λ c. search needs)
-    (λ c. search needs)
-    returns
-    returns-2)
+    (tie.spec (λ c. search needs) (λ c κs. search needs) (λ c κs. (offset-is c, omega (arith, offset-few c))) (λ c κs. search needs)
+    (λ c. search needs) (λ c κs. search needs) (λ c. search needs) (λ c. search needs) (λ c. search needs) returns returns-2)

@@ -27,7 +27,8 @@ module _ (c : tie.After-over-limit) where
   s₁ = c .before .before .before .before
 
   limits : (v : Bool) → c .over-limit .result ≡ v
-      → overLimit (quartersBetween (instantMs (s₁ .args .start)) (instantMs (s₁ .args .end))) (s₁ .args .rate) (s₁ .args .first-metres) (s₁ .args .second-metres) ≡ v
+      → overLimit (quartersBetween (instantMs (s₁ .args .start)) (instantMs (s₁ .args .end))) (s₁ .args .rate) (s₁ .args .first-metres)
+      (s₁ .args .second-metres) ≡ v
   limits v p =
       ap (λ (q : ℕ). overLimit q (s₁ .args .rate) (s₁ .args .first-metres) (s₁ .args .second-metres)) (sym (c .before .quarters-between .ensures))
       ∙ sym (c .over-limit .ensures)
@@ -71,7 +72,8 @@ returns-3 c =
     let l = n .before in
     let e = l .before .before in
     let a = e .before .before .args in
-    no-line (instantMs (a .start)) (instantMs (a .end)) (a .rate) (a .first-metres) (a .second-metres) (in-order e) (limits l false (n .if2 .left)) (c .if3 .taken)
+    no-line (instantMs (a .start)) (instantMs (a .end)) (a .rate) (a .first-metres) (a .second-metres) (in-order e) (limits l false (n .if2 .left))
+    (c .if3 .taken)
 
 shared-requires : tie.Need-shared-requires
 shared-requires c κs =
@@ -94,18 +96,10 @@ returns-4 c =
     ap answer
     (c .shared .ensures
     ∙ ap (λ (k : ℕ). shares k (k * a .rate) (a .first-metres) (a .second-metres)) (q .quarters-between .ensures))
-    ∙ billed (instantMs (a .start)) (instantMs (a .end)) (a .rate) (a .first-metres) (a .second-metres) (in-order e) (limits l false (n .if2 .left)) (t .if3 .left)
+    ∙ billed (instantMs (a .start)) (instantMs (a .end)) (a .rate) (a .first-metres) (a .second-metres) (in-order e) (limits l false (n .if2 .left))
+    (t .if3 .left)
 
 pub bill-between-spec : {M : Type 1} → statement M
 bill-between-spec =
     tie.close
-    (tie.spec
-    (λ c κs. search needs)
-    returns
-    quarters-between-requires
-    (λ c κs. search needs)
-    returns-2
-    add-if3
-    returns-3
-    shared-requires
-    returns-4)
+    (tie.spec (λ c κs. search needs) returns quarters-between-requires (λ c κs. search needs) returns-2 add-if3 returns-3 shared-requires returns-4)

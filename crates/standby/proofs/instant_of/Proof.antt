@@ -23,7 +23,8 @@ use Rattle.standby.proofs.instant_of.Statement.{statement}
 use Rattle.standby.proofs.instant_of.Tie as tie
 
 -- a call of the calendar is handed the fields so
-read-fields : {A : Type 0} (f : ℤ → ℤ → ℤ → A) (y : ℤ) (m d : ℕ) → SFits w32 y → m < 256 → d < 256 → f (toZ w32 (ofZ w32 y)) (toZ w32 m) (toZ w32 d) ≡ f y (pos m) (pos d)
+read-fields : {A : Type 0} (f : ℤ → ℤ → ℤ → A) (y : ℤ) (m d : ℕ) → SFits w32 y → m < 256 → d < 256
+    → f (toZ w32 (ofZ w32 y)) (toZ w32 m) (toZ w32 d) ≡ f y (pos m) (pos d)
 read-fields f y m d p q r = λ i. f (toZ-ofZ p i) (toZ-pos w32 {n = m} (omega arith) i) (toZ-pos w32 {n = d} (omega arith) i)
 
 -- ---- the year
@@ -41,7 +42,8 @@ module _ (v : tie.After-modified-julian-day) where
   said : mjdOutcome (v .modified-julian-day .result) ≡ mjdOf (start .args .t .year) (pos (start .args .t .month)) (pos (start .args .t .day))
   said =
       let a = start .args .t in
-      v .modified-julian-day .ensures ∙ read-fields mjdOf (a .year) (a .month) (a .day) (year-fits (v .before .before .before .before .before)) (omega arith) (omega arith)
+      v .modified-julian-day .ensures
+      ∙ read-fields mjdOf (a .year) (a .month) (a .day) (year-fits (v .before .before .before .before .before)) (omega arith) (omega arith)
 
 module _ (k : tie.After-known-told2) where
   abbrev begin : tie.Start
@@ -67,7 +69,8 @@ module _ (k : tie.After-known-told2) where
   n-natural =
       n-read
       ∙ n-is
-      ∙ mjd-natural (begin .args .t .year) (pos (begin .args .t .month)) (pos (begin .args .t .day)) (from-1972 (k .before .before .before .before .before .before .before))
+      ∙ mjd-natural (begin .args .t .year) (pos (begin .args .t .month)) (pos (begin .args .t .day))
+      (from-1972 (k .before .before .before .before .before .before .before))
       ∙ ap (λ (z : ℤ). pos (natAbs z)) (sym n-is)
 
 -- ---- the next date
@@ -78,13 +81,18 @@ module _ (w : tie.After-next-calendar-day) where
   told : nextOutcome (w .next-calendar-day .result) ≡ nextOf (begin day .args .t .year) (pos (begin day .args .t .month)) (pos (begin day .args .t .day))
   told =
       let a = begin day .args .t in
-      w .next-calendar-day .ensures ∙ read-fields nextOf (a .year) (a .month) (a .day) (year-fits (day .before .before .before .before .before .before .before .before)) (omega arith) (omega arith)
+      w .next-calendar-day .ensures ∙ read-fields nextOf (a .year) (a .month) (a .day)
+      (year-fits (day .before .before .before .before .before .before .before .before)) (omega arith) (omega arith)
 
 returns : tie.Need-returns
 unfolding instantOutcome
 returns c =
     let a = c .before .before .before .args in
-    record { says = early-year (rowsOf (a .table)) (a .t) (lt-left (a .t .year) (pos 1972) _ (year-fits (c .before)) (c .if1 .taken)); small = λ i p. never-at 1 i p }
+    record {
+      says = early-year (rowsOf (a .table)) (a .t) (lt-left (a .t .year) (pos 1972) _ (year-fits (c .before)) (c .if1 .taken));
+      small =
+          λ i p. never-at 1 i p;
+    }
 
 cast-at-time : tie.Need-cast-at-time
 cast-at-time c =
@@ -110,7 +118,8 @@ returns-2 c =
     let v = c .before .before .before in
     let a = start v .args in
     record {
-      says = no-date (rowsOf (a .table)) (a .t) (from-1972 (v .before .before .before .before)) (c .before .number .given .0 .0) (sym (said v) ∙ ap mjdOutcome (c .before .number .given .1));
+      says = no-date (rowsOf (a .table)) (a .t) (from-1972 (v .before .before .before .before)) (c .before .number .given .0 .0)
+          (sym (said v) ∙ ap mjdOutcome (c .before .number .given .1));
       small = λ i p. never-at (c .before .number .given .0 .0) i p;
     }
 
@@ -145,20 +154,5 @@ returns-4 c =
 pub instant-of-spec : {M : Type 1} → statement M
 instant-of-spec =
     tie.close
-    (tie.spec
-    returns
-    (λ c. search needs)
-    (λ c. search needs)
-    (λ c κs. search needs)
-    (λ c. search needs)
-    (λ c. search needs)
-    (λ c. search needs)
-    (λ c. search needs)
-    (λ c κs. search needs)
-    (λ c. search needs)
-    (λ c. search needs)
-    cast-at-time
-    at-time-requires
-    returns-2
-    returns-3
-    returns-4)
+    (tie.spec returns (λ c. search needs) (λ c. search needs) (λ c κs. search needs) (λ c. search needs) (λ c. search needs) (λ c. search needs)
+    (λ c. search needs) (λ c κs. search needs) (λ c. search needs) (λ c. search needs) cast-at-time at-time-requires returns-2 returns-3 returns-4)

@@ -24,7 +24,8 @@ returns c =
     ∙ ap (toZ w32) (i .if1 .taken)
     ∙ toZ-ofZ {w = w32} (record { sfits = i .before .struct-told2 .given .0 .1 }) in
     let q : a .next .month ≡ a .t .month = c .if2 .taken in
-    same (wholeSeconds (rowsOf (a .table)) (a .next .year) (a .next .month)) (wholeSeconds (rowsOf (a .table)) (a .t .year) (a .t .month)) (λ j. wholeSeconds (rowsOf (a .table)) (p j) (q j))
+    same (wholeSeconds (rowsOf (a .table)) (a .next .year) (a .next .month)) (wholeSeconds (rowsOf (a .table)) (a .t .year) (a .t .month))
+    (λ j. wholeSeconds (rowsOf (a .table)) (p j) (q j))
   where
     same : (k l : ℕ) → k ≡ l → 60 ≡ 60 + k - l
     same k l e = omega arith
@@ -36,7 +37,8 @@ returns-2 c =
     let s = l .before .before .before .before .before .before in
     let a = s .args in
     let k : c .whole-seconds-by-rows .result ≡ wholeSeconds (rowsOf (a .table)) (a .next .year) (a .next .month) =
-    c .whole-seconds-by-rows .ensures .0 ∙ ap (λ (y : ℤ). wholeSeconds (rowsOf (a .table)) y (a .next .month)) (toZ-ofZ {w = w32} (record { sfits = l .struct-told3 .given .0 .1 })) in
+    c .whole-seconds-by-rows .ensures .0
+    ∙ ap (λ (y : ℤ). wholeSeconds (rowsOf (a .table)) y (a .next .month)) (toZ-ofZ {w = w32} (record { sfits = l .struct-told3 .given .0 .1 })) in
     λ j. 60 + k j - s .pre .0 j
 
 pub last-minute-spec : {M : Type 1} → statement M

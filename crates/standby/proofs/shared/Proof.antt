@@ -40,13 +40,25 @@ add-t16 : tie.Need-add-t16
 add-t16 c =
     let s = c .before in
     let a = s .args in
-    record { fits = omega (arith, all-at-most (a .quarters) (a .rate) (a .first-metres) (a .second-metres) (s .pre), small-total (a .quarters) (a .rate) (a .first-metres) (a .second-metres) (s .pre)) }
+    record {
+      fits = omega (
+        arith,
+        all-at-most (a .quarters) (a .rate) (a .first-metres) (a .second-metres) (s .pre),
+        small-total (a .quarters) (a .rate) (a .first-metres) (a .second-metres) (s .pre),
+      );
+    }
 
 add-t17 : tie.Need-add-t17
 add-t17 c =
     let s = c .before in
     let a = s .args in
-    record { fits = omega (arith, all-at-most (a .quarters) (a .rate) (a .first-metres) (a .second-metres) (s .pre), small-total (a .quarters) (a .rate) (a .first-metres) (a .second-metres) (s .pre)) }
+    record {
+      fits = omega (
+        arith,
+        all-at-most (a .quarters) (a .rate) (a .first-metres) (a .second-metres) (s .pre),
+        small-total (a .quarters) (a .rate) (a .first-metres) (a .second-metres) (s .pre),
+      );
+    }
 
 returns : tie.Need-returns
 returns c =
@@ -63,18 +75,5 @@ returns-2 c =
 pub shared-spec : {M : Type 1} → statement M
 shared-spec =
     tie.close
-    (tie.spec
-    mul-total
-    (λ c. search needs)
-    mul-to-first
-    mul-to-second
-    (λ c. search needs)
-    (λ c. search needs)
-    sub-left
-    sub-left-2
-    (λ c. search needs)
-    (λ c. search needs)
-    add-t16
-    add-t17
-    returns
-    returns-2)
+    (tie.spec mul-total (λ c. search needs) mul-to-first mul-to-second (λ c. search needs) (λ c. search needs) sub-left sub-left-2 (λ c. search needs)
+    (λ c. search needs) add-t16 add-t17 returns returns-2)

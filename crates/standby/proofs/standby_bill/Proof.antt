@@ -34,12 +34,14 @@ module _ (rows : List Row) (s e : UtcTime) (rate a b : ℕ) where
 
 -- the start, and the end
 module _ (c : tie.After-known-told2) where
-  start-at : let a = c .before .before .before .before .before .before .args in instant (rowsOf (a .table)) (a .start) ≡ answer (instantMs (c .before .s .given .0 .0))
+  start-at : let a = c .before .before .before .before .before .before .args in instant (rowsOf (a .table)) (a .start) ≡ answer
+      (instantMs (c .before .s .given .0 .0))
   unfolding instantOutcome
   start-at = sym (c .before .before .before .instant-of .ensures .says) ∙ ap instantOutcome (c .before .s .given .1)
 
 module _ (c : tie.After-known-told4) where
-  end-at : let a = c .before .before .before .before .before .before .before .before .before .before .args in instant (rowsOf (a .table)) (a .end) ≡ answer (instantMs (c .before .e .given .0 .0))
+  end-at : let a = c .before .before .before .before .before .before .before .before .before .before .args in instant (rowsOf (a .table)) (a .end) ≡ answer
+      (instantMs (c .before .e .given .0 .0))
   unfolding instantOutcome
   end-at = sym (c .before .before .before .instant-of2 .ensures .says) ∙ ap instantOutcome (c .before .e .given .1)
 
@@ -71,7 +73,8 @@ returns-2 c =
     let a = r .before .args in
     let p = sym (v .instant-of .ensures .says) ∙ ap instantOutcome (c .before .number .given .1) in
     start-refused (rowsOf (a .table)) (a .start) (a .end) (a .rate) (a .first-metres) (a .second-metres) (c .before .number .given .0 .0) p
-    ∙ taken (a .table) (r .table-refusal .result) (r .table-refusal .ensures) (λ rows. standbyBill rows (a .start) (a .end) (a .rate) (a .first-metres) (a .second-metres)) (i .if1 .left)
+    ∙ taken (a .table) (r .table-refusal .result) (r .table-refusal .ensures)
+    (λ rows. standbyBill rows (a .start) (a .end) (a .rate) (a .first-metres) (a .second-metres)) (i .if1 .left)
 
 returns-3 : tie.Need-returns-3
 unfolding billOutcome instantOutcome
@@ -82,8 +85,10 @@ returns-3 c =
     let r = i .before in
     let a = r .before .args in
     let q = sym (w .instant-of2 .ensures .says) ∙ ap instantOutcome (c .before .number2 .given .1) in
-    end-refused (rowsOf (a .table)) (a .start) (a .end) (a .rate) (a .first-metres) (a .second-metres) (instantMs (k .before .s .given .0 .0)) (c .before .number2 .given .0 .0) (start-at k) q
-    ∙ taken (a .table) (r .table-refusal .result) (r .table-refusal .ensures) (λ rows. standbyBill rows (a .start) (a .end) (a .rate) (a .first-metres) (a .second-metres)) (i .if1 .left)
+    end-refused (rowsOf (a .table)) (a .start) (a .end) (a .rate) (a .first-metres) (a .second-metres) (instantMs (k .before .s .given .0 .0))
+    (c .before .number2 .given .0 .0) (start-at k) q
+    ∙ taken (a .table) (r .table-refusal .result) (r .table-refusal .ensures)
+    (λ rows. standbyBill rows (a .start) (a .end) (a .rate) (a .first-metres) (a .second-metres)) (i .if1 .left)
 
 returns-4 : tie.Need-returns-4
 returns-4 c =
@@ -94,22 +99,13 @@ returns-4 c =
     let r = i .before in
     let a = r .before .args in
     c .bill-between .ensures
-    ∙ both-given (rowsOf (a .table)) (a .start) (a .end) (a .rate) (a .first-metres) (a .second-metres) (instantMs (k .before .s .given .0 .0)) (instantMs (d .before .e .given .0 .0)) (start-at k) (end-at d)
-    ∙ taken (a .table) (r .table-refusal .result) (r .table-refusal .ensures) (λ rows. standbyBill rows (a .start) (a .end) (a .rate) (a .first-metres) (a .second-metres)) (i .if1 .left)
+    ∙ both-given (rowsOf (a .table)) (a .start) (a .end) (a .rate) (a .first-metres) (a .second-metres) (instantMs (k .before .s .given .0 .0))
+    (instantMs (d .before .e .given .0 .0)) (start-at k) (end-at d)
+    ∙ taken (a .table) (r .table-refusal .result) (r .table-refusal .ensures)
+    (λ rows. standbyBill rows (a .start) (a .end) (a .rate) (a .first-metres) (a .second-metres)) (i .if1 .left)
 
 pub standby-bill-spec : {M : Type 1} → statement M
 standby-bill-spec =
     tie.close
-    (tie.spec
-    (λ c κs. search needs)
-    returns
-    instant-of-requires
-    (λ c. search needs)
-    (λ c. search needs)
-    instant-of-requires-2
-    (λ c. search needs)
-    (λ c. search needs)
-    bill-between-requires
-    returns-2
-    returns-3
-    returns-4)
+    (tie.spec (λ c κs. search needs) returns instant-of-requires (λ c. search needs) (λ c. search needs) instant-of-requires-2 (λ c. search needs)
+    (λ c. search needs) bill-between-requires returns-2 returns-3 returns-4)

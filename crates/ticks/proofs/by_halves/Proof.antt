@@ -20,7 +20,13 @@ mul-result-3 : tie.Need-mul-result-3
 mul-result-3 c = record { fits = omega (arith, part-small (c .args .a % 1048576) (c .args .c) (omega arith) (search needs)) }
 
 add-result : tie.Need-add-result
-add-result c = record { fits = omega (arith, rest-small (c .args .a / 1048576 * c .args .c) (c .args .d) (search needs) (search needs), part-small (c .args .a % 1048576) (c .args .c) (omega arith) (search needs)) }
+add-result c = record {
+  fits = omega (
+    arith,
+    rest-small (c .args .a / 1048576 * c .args .c) (c .args .d) (search needs) (search needs),
+    part-small (c .args .a % 1048576) (c .args .c) (omega arith) (search needs),
+  );
+}
 
 add-result-2 : tie.Need-add-result-2
 add-result-2 c = record { fits = omega (arith, high-small (c .args .a) (c .args .c) (c .args .d) (search needs) (search needs) (search needs)) }
@@ -31,14 +37,5 @@ returns c = sym (halves (c .args .a) (c .args .c) (c .args .d) (search needs))
 pub by-halves-spec : {M : Type 1} → statement M
 by-halves-spec =
     tie.close
-    (tie.spec
-    mul-product
-    (λ c. search needs)
-    (λ c. search needs)
-    mul-result
-    mul-result-2
-    mul-result-3
-    add-result
-    (λ c. search needs)
-    add-result-2
+    (tie.spec mul-product (λ c. search needs) (λ c. search needs) mul-result mul-result-2 mul-result-3 add-result (λ c. search needs) add-result-2
     returns)

@@ -2,7 +2,7 @@
 use Prim.Native.Nat.{ℕ, zero, suc, _+_, _-_, _<_, _≤_}
 use native.Mathlib.Omega.{arith}
 use native.Mathlib.Nat.{le-refl}
-use mathlib.Core.Path.{_≡_, refl, sym, ap, subst, _∙_}
+use mathlib.Core.Path.{_≡_, refl, subst}
 use mathlib.Core.Bool.{Bool, true, false, cond, _&&_}
 use borrow.Author.Tests.{ltb-true}
 use Rattle.ticks.specs.judging.Numbers.{allSmall, allRising, RisesTo}
@@ -31,7 +31,8 @@ small-by-last : (n : ℕ) (f : ℕ → ℕ) → allRising n f ≡ true → f (n 
 small-by-last n f e h = small-all n f (λ i k. omega (arith, rises-to f (n - 1) (rises-of n f e) i (n - 1) (omega arith) (omega arith)))
 
 module _ (n : ℕ) (tick milli : ℕ → ℕ) where
-  pub by-tests : (a b : Bool) → allSmall n tick && allSmall n milli ≡ a → allRising n tick && allRising n milli ≡ b → cond a (cond b 0 24) 23 ≡ judgedBy n tick milli
+  pub by-tests : (a b : Bool) → allSmall n tick && allSmall n milli ≡ a → allRising n tick && allRising n milli ≡ b
+      → cond a (cond b 0 24) 23 ≡ judgedBy n tick milli
   unfolding judgedBy
   by-tests a b p q = rw (p, q)
 
@@ -41,9 +42,11 @@ module _ (n : ℕ) (tick milli : ℕ → ℕ) where
     last-tick-large h = rw (small-not n tick (n - 1) (omega arith) h)
 
     pub last-milli-large : 0x100_0000_0000 ≤ milli (n - 1) → 23 ≡ judgedBy n tick milli
-    last-milli-large h = by-tests false (allRising n tick && allRising n milli) (and-false (allSmall n tick) (allSmall n milli) (small-not n milli (n - 1) (omega arith) h)) refl
+    last-milli-large h = by-tests false (allRising n tick && allRising n milli)
+        (and-false (allSmall n tick) (allSmall n milli) (small-not n milli (n - 1) (omega arith) h)) refl
 
-    pub nothing-wrong : allRising n tick && allRising n milli ≡ true → tick (n - 1) < 0x100_0000_0000 → milli (n - 1) < 0x100_0000_0000 → 0 ≡ judgedBy n tick milli
+    pub nothing-wrong : allRising n tick && allRising n milli ≡ true → tick (n - 1) < 0x100_0000_0000 → milli (n - 1) < 0x100_0000_0000
+        → 0 ≡ judgedBy n tick milli
     nothing-wrong e h k =
         let r = both (allRising n tick) (allRising n milli) e in
         by-tests true true (rw (small-by-last n tick (r .0) h) (small-by-last n milli (r .1) k)) e

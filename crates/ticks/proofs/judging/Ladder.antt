@@ -1,7 +1,7 @@
 -- The refusals one by one, in their order, and what is known where nothing is refused. Assumes nothing.
-use Prim.Native.Nat.{ℕ, zero, suc, _+_, _-_, _*_, _/_, _%_, _<_, _≤_}
+use Prim.Native.Nat.{ℕ, _+_, _-_, _/_, _%_, _<_, _≤_}
 use native.Mathlib.Omega.{arith}
-use mathlib.Core.Path.{_≡_, refl, sym, ap, subst, _∙_}
+use mathlib.Core.Path.{_≡_, refl, sym, subst, _∙_}
 use mathlib.Core.Bool.{Bool, true, false, cond, _&&_}
 use mathlib.Core.List.{List}
 use lib.ListN.{length}
@@ -101,23 +101,30 @@ module _ (ps ms ts : List ℕ) (room : ℕ) where
       module _ (c : wellCounted ps ms ≡ true) (k : ℕ) (e : k ≡ judgedBy (numbersIn ps) (numberAt ps) (numberAt ms)) where
         pub by-passes : (k ≡ 0 → ⊥) → k ≡ refusedBy ps ms ts room
         unfolding usable bothRising judgedBy
-        by-passes z = go (allSmall (numbersIn ps) (numberAt ps) && allSmall (numbersIn ps) (numberAt ms)) (allRising (numbersIn ps) (numberAt ps) && allRising (numbersIn ps) (numberAt ms)) refl refl e
+        by-passes z = go (allSmall (numbersIn ps) (numberAt ps) && allSmall (numbersIn ps) (numberAt ms))
+            (allRising (numbersIn ps) (numberAt ps) && allRising (numbersIn ps) (numberAt ms)) refl refl e
           where
-            go : (a b : Bool) → allSmall (numbersIn ps) (numberAt ps) && allSmall (numbersIn ps) (numberAt ms) ≡ a → allRising (numbersIn ps) (numberAt ps) && allRising (numbersIn ps) (numberAt ms) ≡ b → k ≡ cond a (cond b 0 24) 23 → k ≡ refusedBy ps ms ts room
+            go : (a b : Bool) → allSmall (numbersIn ps) (numberAt ps) && allSmall (numbersIn ps) (numberAt ms) ≡ a
+                → allRising (numbersIn ps) (numberAt ps) && allRising (numbersIn ps) (numberAt ms) ≡ b → k ≡ cond a (cond b 0 24) 23
+                → k ≡ refusedBy ps ms ts room
             go true true p q h = absurd (z h)
             go true false p q h = h ∙ not-rising (rw c p) q
             go false b p q h = h ∙ not-usable (rw c p)
 
         pub passes-right : k ≡ 0 → (usable ps ms ≡ true) × (bothRising ps ms ≡ true)
         unfolding usable bothRising judgedBy
-        passes-right z = go (allSmall (numbersIn ps) (numberAt ps) && allSmall (numbersIn ps) (numberAt ms)) (allRising (numbersIn ps) (numberAt ps) && allRising (numbersIn ps) (numberAt ms)) refl refl e
+        passes-right z = go (allSmall (numbersIn ps) (numberAt ps) && allSmall (numbersIn ps) (numberAt ms))
+            (allRising (numbersIn ps) (numberAt ps) && allRising (numbersIn ps) (numberAt ms)) refl refl e
           where
-            go : (a b : Bool) → allSmall (numbersIn ps) (numberAt ps) && allSmall (numbersIn ps) (numberAt ms) ≡ a → allRising (numbersIn ps) (numberAt ps) && allRising (numbersIn ps) (numberAt ms) ≡ b → k ≡ cond a (cond b 0 24) 23 → (usable ps ms ≡ true) × (bothRising ps ms ≡ true)
+            go : (a b : Bool) → allSmall (numbersIn ps) (numberAt ps) && allSmall (numbersIn ps) (numberAt ms) ≡ a
+                → allRising (numbersIn ps) (numberAt ps) && allRising (numbersIn ps) (numberAt ms) ≡ b → k ≡ cond a (cond b 0 24) 23 → (usable ps ms ≡ true)
+                × (bothRising ps ms ≡ true)
             go true true p q h = (rw c p, q)
             go true false p q h = absurd (omega arith)
             go false b p q h = absurd (omega arith)
 
-pub inside-is : (ps ts : List ℕ) (first last : ℕ) (b : Bool) → first ≡ numberAt ps 0 → last ≡ numberAt ps (numbersIn ps - 1) → b ≡ inside first last (numbersIn ts) (numberAt ts) → allInside ps ts ≡ b
+pub inside-is : (ps ts : List ℕ) (first last : ℕ) (b : Bool) → first ≡ numberAt ps 0 → last ≡ numberAt ps (numbersIn ps - 1)
+    → b ≡ inside first last (numbersIn ts) (numberAt ts) → allInside ps ts ≡ b
 unfolding allInside
 inside-is ps ts first last b e f h = sym (h ∙ (λ i. inside (e i) (f i) (numbersIn ts) (numberAt ts)))
 
@@ -131,13 +138,16 @@ pub record NothingRefused (ps ms ts : List ℕ) (room : ℕ) : Type 0 where
 
 pub ladder-passed : (ps ms ts : List ℕ) (room : ℕ) → refusedBy ps ms ts room ≡ 0 → NothingRefused ps ms ts room
 unfolding refusedBy
-ladder-passed ps ms ts room = go (wholeNumbers ps && (wholeNumbers ms && wholeNumbers ts)) (leb (numbersIn ts) (room / 8)) (usable ps ms) (bothRising ps ms) (allInside ps ts) refl refl refl refl refl
+ladder-passed ps ms ts room = go (wholeNumbers ps && (wholeNumbers ms && wholeNumbers ts)) (leb (numbersIn ts) (room / 8)) (usable ps ms) (bothRising ps ms)
+    (allInside ps ts) refl refl refl refl refl
   where
-    go : (a b c d e : Bool) → (wholeNumbers ps && (wholeNumbers ms && wholeNumbers ts)) ≡ a → leb (numbersIn ts) (room / 8) ≡ b → usable ps ms ≡ c → bothRising ps ms ≡ d → allInside ps ts ≡ e
+    go : (a b c d e : Bool) → (wholeNumbers ps && (wholeNumbers ms && wholeNumbers ts)) ≡ a → leb (numbersIn ts) (room / 8) ≡ b → usable ps ms ≡ c
+        → bothRising ps ms ≡ d → allInside ps ts ≡ e
         → _≡_ {A = ℕ} (cond a (cond b (cond c (cond d (cond e 0 25) 24) 23) 11) 14) 0 → NothingRefused ps ms ts room
     go true true true true true p q r s t h =
         record {
-          ticks-whole = eqb-true (length ts % 8) 0 (both (wholeNumbers ms) (wholeNumbers ts) (both (wholeNumbers ps) (wholeNumbers ms && wholeNumbers ts) p .1) .1);
+          ticks-whole = eqb-true (length ts % 8) 0
+              (both (wholeNumbers ms) (wholeNumbers ts) (both (wholeNumbers ps) (wholeNumbers ms && wholeNumbers ts) p .1) .1);
           fits = leb-true (numbersIn ts) (room / 8) q;
           good = r;
           rise = s;
@@ -163,7 +173,8 @@ module _ (ps ms ts : List ℕ) (room : ℕ) (a : NothingRefused ps ms ts room) w
   ticks-at : (i : ℕ) → i < numbersIn ts → (numberAt ps 0 ≤ numberAt ts i) × (numberAt ts i ≤ numberAt ps (numbersIn ps - 1))
   unfolding allInside inside
   ticks-at i h =
-      let x = both (leb (numberAt ps 0) (numberAt ts i)) (leb (numberAt ts i) (numberAt ps (numbersIn ps - 1))) (every-at (held (numberAt ps 0) (numberAt ps (numbersIn ps - 1)) (numberAt ts)) (numbersIn ts) (a .within) i h) in
+      let x = both (leb (numberAt ps 0) (numberAt ts i)) (leb (numberAt ts i) (numberAt ps (numbersIn ps - 1)))
+      (every-at (held (numberAt ps 0) (numberAt ps (numbersIn ps - 1)) (numberAt ts)) (numbersIn ts) (a .within) i h) in
       (leb-true (numberAt ps 0) (numberAt ts i) (x .0), leb-true (numberAt ts i) (numberAt ps (numbersIn ps - 1)) (x .1))
 
   pub all-good : (k : ℕ) → k ≡ numbersIn ps - 2 → GoodCall ps ms k (numbersIn ts) ts

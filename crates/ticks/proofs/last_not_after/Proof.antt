@@ -1,7 +1,7 @@
 -- `ticks::last_not_after` meets its contract: the passes left hold the one that is sought. Assumes nothing.
 use Prim.Native.Nat.{ℕ, _/_}
 use native.Mathlib.Omega.{arith}
-use mathlib.Core.Path.{_≡_, sym, subst}
+use mathlib.Core.Path.{sym, subst}
 use mathlib.Core.Logic.{⊎-elim}
 use Rattle.ticks.specs.judging.Refusing.{numberAt}
 use Rattle.ticks.proofs.Search.{Seeking, seek-starts, seek-up, seek-down, seek-ends}
@@ -40,8 +40,12 @@ loop-again c =
     let l = q .before .before in
     let a = l .before .before .args in
     ⊎-elim
-    (λ w. subst (λ (x : ℕ). Seeking (numberAt (a .passes .now)) (a .low) (a .high) (a .t) x (l .loop .left / 2)) (sym (w .1)) (seek-up (numberAt (a .passes .now)) (a .low) (a .high) (a .t) (l .loop .from) (l .loop .left) (l .loop .inv) (q .before .loop-test .taken) (q .number-at .result) (q .number-at .ensures) (w .0 .taken)))
-    (λ w. subst (λ (x : ℕ). Seeking (numberAt (a .passes .now)) (a .low) (a .high) (a .t) x (l .loop .left / 2)) (sym (w .1)) (seek-down (numberAt (a .passes .now)) (a .low) (a .high) (a .t) (l .loop .from) (l .loop .left) (l .loop .inv) (q .before .loop-test .taken) (q .number-at .result) (q .number-at .ensures) (l .before .before .pre .rises) (w .0 .left)))
+    (λ w. subst (λ (x : ℕ). Seeking (numberAt (a .passes .now)) (a .low) (a .high) (a .t) x (l .loop .left / 2)) (sym (w .1))
+    (seek-up (numberAt (a .passes .now)) (a .low) (a .high) (a .t) (l .loop .from) (l .loop .left) (l .loop .inv) (q .before .loop-test .taken)
+    (q .number-at .result) (q .number-at .ensures) (w .0 .taken)))
+    (λ w. subst (λ (x : ℕ). Seeking (numberAt (a .passes .now)) (a .low) (a .high) (a .t) x (l .loop .left / 2)) (sym (w .1))
+    (seek-down (numberAt (a .passes .now)) (a .low) (a .high) (a .t) (l .loop .from) (l .loop .left) (l .loop .inv) (q .before .loop-test .taken)
+    (q .number-at .result) (q .number-at .ensures) (l .before .before .pre .rises) (w .0 .left)))
     (c .if1 .came)
 
 returns : tie.Need-returns Inv-loop μ-loop
@@ -53,14 +57,4 @@ returns c =
 pub last-not-after-spec : {M : Type 1} → statement M
 last-not-after-spec =
     tie.close
-    (tie.spec
-    Inv-loop
-    μ-loop
-    sub-left
-    loop-holds
-    add-middle
-    add-middle-2
-    number-at-requires
-    loop-less
-    loop-again
-    returns)
+    (tie.spec Inv-loop μ-loop sub-left loop-holds add-middle add-middle-2 number-at-requires loop-less loop-again returns)

@@ -1,4 +1,5 @@
--- Cases that pin a rule each, computed from the definitions: rounded down, the last pass, a product over 64 bits, and the order of the refusals. Assumes nothing.
+-- Cases that pin a rule each, computed from the definitions: rounded down, the last pass, a product over 64 bits, and the order of the refusals. Assumes
+-- nothing.
 use mathlib.Core.Path.{_≡_, refl}
 use Prim.Native.Nat.{ℕ}
 use mathlib.Core.List.{List, [], _++_}
@@ -14,7 +15,8 @@ abbrev pub twoNumbers : ℕ → ℕ → List ℕ
 twoNumbers a b = eightBytes a ++ eightBytes b
 
 -- 9.99 ms, rounded down; and the last pass
-pub rounded-down : (placedTicks (twoNumbers 0 1000) (twoNumbers 0 10) (eightBytes 999) 8 ≡ answer (eightBytes 9)) × (placedTicks (twoNumbers 0 1000) (twoNumbers 0 10) (eightBytes 1000) 8 ≡ answer (eightBytes 10))
+pub rounded-down : (placedTicks (twoNumbers 0 1000) (twoNumbers 0 10) (eightBytes 999) 8 ≡ answer (eightBytes 9))
+    × (placedTicks (twoNumbers 0 1000) (twoNumbers 0 10) (eightBytes 1000) 8 ≡ answer (eightBytes 10))
 unfolding placedTicks refusedBy wellCounted usable bothRising allInside holdsBelow allSmall allRising inside lastNotAfter millisAt lineAt bytesOf fourAt u64At
 rounded-down = (refl, refl)
 
@@ -23,7 +25,10 @@ pub wide-product : placedTicks (twoNumbers 0 1099511627775) (twoNumbers 0 109951
 unfolding placedTicks refusedBy wellCounted usable bothRising allInside holdsBelow allSmall allRising inside lastNotAfter millisAt lineAt bytesOf fourAt u64At
 wide-product = refl
 
--- passes at the ticks 2^40 and 0 are 23, though they do not rise; of no ticks the passes are judged all the same; a tick of 2^40 is 25; 11 comes before the passes
-pub refused-in-order : (placedTicks (twoNumbers 1099511627776 0) (twoNumbers 0 10) [] 0 ≡ refusal 23) × (placedTicks (twoNumbers 5 5) (twoNumbers 0 10) [] 0 ≡ refusal 24) × (placedTicks (twoNumbers 0 1000) (twoNumbers 0 10) (eightBytes 1099511627776) 8 ≡ refusal 25) × (placedTicks [] [] (eightBytes 1) 7 ≡ refusal 11)
+-- passes at the ticks 2^40 and 0 are 23, though they do not rise; of no ticks the passes are judged all the same; a tick of 2^40 is 25; 11 comes before the
+-- passes
+pub refused-in-order : (placedTicks (twoNumbers 1099511627776 0) (twoNumbers 0 10) [] 0 ≡ refusal 23)
+    × (placedTicks (twoNumbers 5 5) (twoNumbers 0 10) [] 0 ≡ refusal 24)
+    × (placedTicks (twoNumbers 0 1000) (twoNumbers 0 10) (eightBytes 1099511627776) 8 ≡ refusal 25) × (placedTicks [] [] (eightBytes 1) 7 ≡ refusal 11)
 unfolding placedTicks refusedBy wellCounted usable bothRising allInside holdsBelow allSmall allRising inside lastNotAfter millisAt lineAt bytesOf fourAt u64At
 refused-in-order = (refl, refl, refl, refl)

@@ -1,27 +1,26 @@
 -- Each refusal exactly where its reason holds and none before it: the tests of ticks are the reasons, said of the numbers one by one. Assumes nothing.
-use Prim.Native.Nat.{ℕ, _+_, _-_, _*_, _/_, _%_, _<_, _≤_}
+use Prim.Native.Nat.{ℕ, _-_, _*_, _/_, _%_, _<_}
 use native.Mathlib.Omega.{arith}
 use native.Mathlib.Decide.{decLt}
-use mathlib.Core.Path.{_≡_, refl, sym, ap, subst, _∙_}
+use mathlib.Core.Path.{_≡_, refl, sym, ap, _∙_}
 use mathlib.Core.Bool.{Bool, true, false, cond, _&&_, true≢false}
 use mathlib.Core.Logic.{_↔_}
 use mathlib.Core.List.{List}
 use lib.ListN.{length}
-use lib.Dec.{eqb, leb, ltb}
+use lib.Dec.{leb}
 use borrow.Author.Tests.{eqb-true, leb-true, eq-eqb, ne-eqb, le-leb}
 use Rattle.refusals.specs.Outcome.{Outcome, answer, refusal, onward}
 use Rattle.ticks.specs.declared.TicksAnswer.{TicksAnswer}
 use Rattle.ticks.specs.declared.TicksAnswer.the-variants.{Written, Refused}
-use Rattle.ticks.specs.judging.Numbers.{allSmall, allRising, inside}
+use Rattle.ticks.specs.judging.Numbers.{allRising, inside}
 use Rattle.ticks.specs.Passes.{millisAt}
 use Rattle.ticks.specs.judging.Refusing.{numberAt, numbersIn, wholeNumbers, wellCounted, usable, bothRising, allInside, refusedBy}
 use Rattle.ticks.specs.Ticks.{passesOf, bytesOf, placedTicks, ticksOutcome, TicksCall}
 use Rattle.ticks.proofs.judging.Every.{both, every-at}
 use Rattle.ticks.proofs.judging.Checks.{held, small-all, small-each, rising-all, inside-all}
 use Rattle.ticks.proofs.judging.ByLast.{rises-of}
-use Rattle.ticks.proofs.judging.Ladder.{Usable, usable-is, NothingRefused, ladder-passed}
+use Rattle.ticks.proofs.judging.Ladder.{usable-is, ladder-passed}
 use Rattle.ticks.proofs.Calls.{length-bytes}
-use Rattle.ticks.specs.laws.Sound.{Inside}
 use Rattle.ticks.specs.laws.Reasons.{WholeLists, HasPlaces, UsablePasses, RisingPasses, TicksInside, ExactlyWhen}
 
 -- ---- each test is its reason
@@ -55,7 +54,12 @@ module _ (ps ms ts : List ℕ) where
 
       fro : UsablePasses ps ms → usable ps ms ≡ true
       fro u =
-          rw (eq-eqb (numbersIn ps) (numbersIn ms) (u .equal), le-leb 2 (numbersIn ps) (u .two), le-leb (numbersIn ps) 2000 (u .most), small-all (numbersIn ps) (numberAt ps) (u .ticks-small))
+          rw (
+            eq-eqb (numbersIn ps) (numbersIn ms) (u .equal),
+            le-leb 2 (numbersIn ps) (u .two),
+            le-leb (numbersIn ps) 2000 (u .most),
+            small-all (numbersIn ps) (numberAt ps) (u .ticks-small),
+          )
           (small-all (numbersIn ps) (numberAt ms) (u .millis-small))
 
   rising-test : (bothRising ps ms ≡ true) ↔ RisingPasses ps ms
@@ -79,7 +83,8 @@ module _ (ps ms ts : List ℕ) where
     where
       to : allInside ps ts ≡ true → TicksInside ps ms ts
       to e i h =
-          let x = both (leb (numberAt ps 0) (numberAt ts i)) _ (every-at (held (numberAt ps 0) (numberAt ps (numbersIn ps - 1)) (numberAt ts)) (numbersIn ts) e i h) in
+          let x = both (leb (numberAt ps 0) (numberAt ts i)) _
+          (every-at (held (numberAt ps 0) (numberAt ps (numbersIn ps - 1)) (numberAt ts)) (numbersIn ts) e i h) in
           record { low = leb-true (numberAt ps 0) (numberAt ts i) (x .0); high = leb-true (numberAt ts i) (numberAt ps (numbersIn ps - 1)) (x .1) }
 
       fro : TicksInside ps ms ts → allInside ps ts ≡ true
@@ -103,7 +108,8 @@ other k n h x = (λ e. absurd (h e), λ y. absurd (x y))
 not-so : {X : Type 0} → (false ≡ true) ↔ X → X → ⊥
 not-so i x = true≢false (sym (i .1 x))
 
-steps : {A B C D E : Type 0} (a b c d e : Bool) → (a ≡ true) ↔ A → (b ≡ true) ↔ B → (c ≡ true) ↔ C → (d ≡ true) ↔ D → (e ≡ true) ↔ E → Steps A B C D E (by-tests a b c d e)
+steps : {A B C D E : Type 0} (a b c d e : Bool) → (a ≡ true) ↔ A → (b ≡ true) ↔ B → (c ≡ true) ↔ C → (d ≡ true) ↔ D → (e ≡ true) ↔ E
+    → Steps A B C D E (by-tests a b c d e)
 steps false b c d e i j k l m =
     record {
       at-14 = (λ _. not-so i, λ _. refl);
@@ -194,13 +200,15 @@ module _ (ps ms ts before after : List ℕ) (r : TicksAnswer) (call : TicksCall 
     where
       to : Dec (0 < k) → r ≡ Refused n → k ≡ n
       to (yes z) e = let w : _≡_ {A = Outcome ℕ} (refusal k) (refusal n) = sym (is-refused (λ y. omega arith)) ∙ ap ticksOutcome e in cc
-      to (no z) e = let w : answer (length bytes) ≡ refusal n = sym (is-written (omega arith)) ∙ ap ticksOutcome e in let y : _≡_ {A = ℕ} 0 1 = cc in absurd (omega arith)
+      to (no z) e = let w : answer (length bytes) ≡ refusal n = sym (is-written (omega arith)) ∙ ap ticksOutcome e in let y : _≡_ {A = ℕ} 0 1 =
+          cc in absurd (omega arith)
 
       fro : k ≡ n → r ≡ Refused n
       fro e = refused-out r n (is-refused (λ z. nz (sym e ∙ z)) ∙ ap refusal e)
 
   pub as-many : k ≡ 0 → length bytes ≡ length ts
-  as-many z = length-bytes (λ i. millisAt (passesOf ps ms) (numberAt ts i)) (numbersIn ts) ∙ eights (length ts) (ladder-passed ps ms ts (length before) z .ticks-whole)
+  as-many z = length-bytes (λ i. millisAt (passesOf ps ms) (numberAt ts i)) (numbersIn ts)
+      ∙ eights (length ts) (ladder-passed ps ms ts (length before) z .ticks-whole)
     where
       eights : (m : ℕ) → m % 8 ≡ 0 → 8 * (m / 8) ≡ m
       eights m h = omega arith
@@ -210,12 +218,14 @@ module _ (ps ms ts before after : List ℕ) (r : TicksAnswer) (call : TicksCall 
   answered = (to (decLt 0 k), λ z. written-out r (length ts) (is-written z ∙ ap answer (as-many z)))
     where
       to : Dec (0 < k) → r ≡ Written (length ts) → k ≡ 0
-      to (yes z) e = let w : refusal k ≡ answer (length ts) = sym (is-refused (λ y. omega arith)) ∙ ap ticksOutcome e in let y : _≡_ {A = ℕ} 0 1 = cc in absurd (omega arith)
+      to (yes z) e = let w : refusal k ≡ answer (length ts) = sym (is-refused (λ y. omega arith)) ∙ ap ticksOutcome e in let y : _≡_ {A = ℕ} 0 1 =
+          cc in absurd (omega arith)
       to (no z) e = omega arith
 
   all-steps : Steps (WholeLists ps ms ts) (HasPlaces ts (length before)) (UsablePasses ps ms) (RisingPasses ps ms) (TicksInside ps ms ts) k
   unfolding refusedBy
-  all-steps = steps (wholeNumbers ps && (wholeNumbers ms && wholeNumbers ts)) (leb (numbersIn ts) (length before / 8)) (usable ps ms) (bothRising ps ms) (allInside ps ts)
+  all-steps = steps (wholeNumbers ps && (wholeNumbers ms && wholeNumbers ts)) (leb (numbersIn ts) (length before / 8)) (usable ps ms) (bothRising ps ms)
+      (allInside ps ts)
       (whole-test ps ms ts)
       (leb-true (numbersIn ts) (length before / 8), le-leb (numbersIn ts) (length before / 8))
       (usable-test ps ms ts)

@@ -1,4 +1,5 @@
--- What the millisecond of a tick is: the same by any neighbours, exact at a pass, never earlier for a later tick, less than 1 ms below the exact line. Assumes nothing.
+-- What the millisecond of a tick is: the same by any neighbours, exact at a pass, never earlier for a later tick, less than 1 ms below the exact line. Assumes
+-- nothing.
 use Prim.Native.Nat.{ℕ, zero, suc, _+_, _-_, _*_, _/_, _%_, _<_, _≤_}
 use native.Mathlib.Omega.{arith}
 use native.Mathlib.Nat.{le-div-iff-mul-le, div-mul-le-self, le-refl, add-mul, zero-mul, zero-div, mul-div-cancel-left, mul-le-mul-right, div-add-mod', mod-lt}
@@ -31,7 +32,10 @@ module _ (t0 m0 t1 m1 : ℕ) where
 
   pub line-rises : (t t' : ℕ) → t0 < t1 → t ≤ t' → lineAt t0 m0 t1 m1 t ≤ lineAt t0 m0 t1 m1 t'
   unfolding lineAt
-  line-rises t t' k h = omega (arith, quotient-up ((t - t0) * (m1 - m0)) ((t' - t0) * (m1 - m0)) (t1 - t0) (omega arith) (mul-le-mul-right (m1 - m0) (omega arith)))
+  line-rises t t' k h = omega (
+    arith,
+    quotient-up ((t - t0) * (m1 - m0)) ((t' - t0) * (m1 - m0)) (t1 - t0) (omega arith) (mul-le-mul-right (m1 - m0) (omega arith)),
+  )
 
   pub from-start : (t : ℕ) → m0 ≤ lineAt t0 m0 t1 m1 t
   unfolding lineAt
@@ -66,9 +70,12 @@ module _ (p : Passes) (s : Sound p) where
       at-the-pass : t ≡ p .tick (o .j + 1) → o .j < p .size - 2 → millisBetween p (o .j) t ≡ millisAt p t
       at-the-pass e h =
           ap (millisBetween p (o .j)) e
-          ∙ line-at-end (p .tick (o .j)) (p .milli (o .j)) (p .tick (o .j + 1)) (p .milli (o .j + 1)) (s .ticks-rise (o .j) (o .next)) (omega (arith, s .millis-rise (o .j) (o .next)))
-          ∙ sym (ap (millisBetween p (o .j + 1)) e ∙ line-at-start (p .tick (o .j + 1)) (p .milli (o .j + 1)) (p .tick (o .j + 1 + 1)) (p .milli (o .j + 1 + 1)))
-          ∙ same-line t (o .j + 1) (last-only (p .tick) t (p .size - 2) ticks-to-k (o .j + 1) (omega arith) (omega (arith, e)) (λ w. omega (arith, e, s .ticks-rise (o .j + 1) (omega arith))))
+          ∙ line-at-end (p .tick (o .j)) (p .milli (o .j)) (p .tick (o .j + 1)) (p .milli (o .j + 1)) (s .ticks-rise (o .j) (o .next))
+          (omega (arith, s .millis-rise (o .j) (o .next)))
+          ∙ sym (ap (millisBetween p (o .j + 1)) e
+          ∙ line-at-start (p .tick (o .j + 1)) (p .milli (o .j + 1)) (p .tick (o .j + 1 + 1)) (p .milli (o .j + 1 + 1)))
+          ∙ same-line t (o .j + 1) (last-only (p .tick) t (p .size - 2) ticks-to-k (o .j + 1) (omega arith) (omega (arith, e))
+          (λ w. omega (arith, e, s .ticks-rise (o .j + 1) (omega arith))))
 
       go : Dec (t < p .tick (o .j + 1)) → Dec (o .j < p .size - 2) → millisBetween p (o .j) t ≡ millisAt p t
       go (yes w) d = by-last (λ _. w)
@@ -99,7 +106,14 @@ module _ (p : Passes) (s : Sound p) where
   at-a-pass zero h =
       sym
       (on-line (p .tick 0) (p .milli 0)
-      (record { j = 0; next = omega (arith, s .two); from = le-refl _; to = omega (arith, s .ticks-rise 0 (omega (arith, s .two))); is = sym (line-at-start (p .tick 0) (p .milli 0) (p .tick (0 + 1)) (p .milli (0 + 1))) }))
+      (record {
+        j = 0;
+        next = omega (arith, s .two);
+        from = le-refl _;
+        to = omega (arith, s .ticks-rise 0 (omega (arith, s .two)));
+        is =
+            sym (line-at-start (p .tick 0) (p .milli 0) (p .tick (0 + 1)) (p .milli (0 + 1)));
+      }))
   at-a-pass (suc j) h =
       let e : j + 1 ≡ suc j = omega arith in
       let n : j + 1 < p .size = omega arith in
@@ -107,7 +121,14 @@ module _ (p : Passes) (s : Sound p) where
       subst (λ (x : ℕ). millisAt p (p .tick x) ≡ p .milli x) e
       (sym
       (on-line (p .tick (j + 1)) (p .milli (j + 1))
-      (record { j = j; next = n; from = omega (arith, r); to = le-refl _; is = sym (line-at-end (p .tick j) (p .milli j) (p .tick (j + 1)) (p .milli (j + 1)) r (omega (arith, s .millis-rise j n))) })))
+      (record {
+        j = j;
+        next = n;
+        from = omega (arith, r);
+        to = le-refl _;
+        is =
+            sym (line-at-end (p .tick j) (p .milli j) (p .tick (j + 1)) (p .milli (j + 1)) r (omega (arith, s .millis-rise j n)));
+      })))
 
   -- a later tick never has an earlier time
   pub never-earlier : (t t' : ℕ) → Inside p t → Inside p t' → t ≤ t' → millisAt p t ≤ millisAt p t'
@@ -123,7 +144,12 @@ module _ (p : Passes) (s : Sound p) where
           tick-up x y a b = rises-to (p .tick) (p .size - 1) ticks x y a (omega arith)
 
           below : millisAt p t ≤ p .milli (o .j + 1)
-          below = omega (arith, o .is, to-end (p .tick (o .j)) (p .milli (o .j)) (p .tick (o .j + 1)) (p .milli (o .j + 1)) t (o .to) (omega (arith, s .millis-rise (o .j) (o .next))))
+          below = omega (
+            arith,
+            o .is,
+            to-end (p .tick (o .j)) (p .milli (o .j)) (p .tick (o .j + 1)) (p .milli (o .j + 1)) t (o .to)
+                (omega (arith, s .millis-rise (o .j) (o .next))),
+          )
 
           above : p .milli (o' .j) ≤ millisAt p t'
           above = omega (arith, o' .is, from-start (p .tick (o' .j)) (p .milli (o' .j)) (p .tick (o' .j + 1)) (p .milli (o' .j + 1)) t')
@@ -136,7 +162,14 @@ module _ (p : Passes) (s : Sound p) where
               subst (λ (x : ℕ). millisAt p t ≤ millisAt p x) q (le-refl _)
           by (no w) (no d) =
               let e : o .j ≡ o' .j = omega arith in
-              omega (arith, o .is, o' .is, line-rises (p .tick (o .j)) (p .milli (o .j)) (p .tick (o .j + 1)) (p .milli (o .j + 1)) t t' (s .ticks-rise (o .j) (o .next)) h, ap (λ (x : ℕ). millisBetween p x t') e)
+              omega (
+                arith,
+                o .is,
+                o' .is,
+                line-rises (p .tick (o .j)) (p .milli (o .j)) (p .tick (o .j + 1)) (p .milli (o .j + 1)) t t'
+                    (s .ticks-rise (o .j) (o .next)) h,
+                ap (λ (x : ℕ). millisBetween p x t') e,
+              )
 
   -- less than 1 ms below the exact line, between the neighbours' milliseconds, below 2^40
   pub just-below : (t : ℕ) → Inside p t → JustBelow p t (millisAt p t)
@@ -152,8 +185,15 @@ module _ (p : Passes) (s : Sound p) where
 
       go : OnSomeLine p t (millisAt p t) → JustBelow p t (millisAt p t)
       go o =
-          let w = floor (p .milli (o .j)) (lineRise p (o .j) t) (ticksBetween p (o .j)) (millisAt p t) (omega (arith, s .ticks-rise (o .j) (o .next))) (o .is) in
-          let m : millisAt p t ≤ p .milli (o .j + 1) = omega (arith, o .is, to-end (p .tick (o .j)) (p .milli (o .j)) (p .tick (o .j + 1)) (p .milli (o .j + 1)) t (o .to) (omega (arith, s .millis-rise (o .j) (o .next)))) in
+          let w = floor (p .milli (o .j)) (lineRise p (o .j) t) (ticksBetween p (o .j)) (millisAt p t) (omega (arith, s .ticks-rise (o .j) (o .next)))
+          (o .is) in
+          let m : millisAt p t ≤ p .milli (o .j + 1) =
+          omega (
+            arith,
+            o .is,
+            to-end (p .tick (o .j)) (p .milli (o .j)) (p .tick (o .j + 1)) (p .milli (o .j + 1)) t (o .to)
+                (omega (arith, s .millis-rise (o .j) (o .next))),
+          ) in
           record {
             j = o .j;
             next = o .next;

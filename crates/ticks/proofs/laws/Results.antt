@@ -1,9 +1,9 @@
 -- A number is read back from where it was written in the lent list. Assumes nothing.
-use Prim.Native.Nat.{ℕ, zero, suc, _+_, _-_, _*_, _<_, _≤_}
+use Prim.Native.Nat.{ℕ, zero, suc, _+_, _-_, _*_, _<_}
 use native.Mathlib.Omega.{arith}
 use native.Mathlib.Decide.{decLt}
 use mathlib.Core.Path.{_≡_, refl, sym, ap, subst, _∙_}
-use mathlib.Core.List.{List, [], _∷_, _++_, append-assoc}
+use mathlib.Core.List.{List, [], _++_, append-assoc}
 use lib.ListN.{length, take, drop, length-append}
 use lib.Seq.{take-at, drop-at}
 use Rattle.numerals.specs.little_endian.LittleEndian.{u64At, eightBytes}
@@ -17,9 +17,11 @@ eight-there : (f : ℕ → ℕ) (n : ℕ) (rest : List ℕ) (i : ℕ) → i < n 
 unfolding bytesOf
 eight-there f zero rest i h = absurd (omega arith)
 eight-there f (suc n) rest i h =
-    ap (λ (l : List ℕ). take 8 (drop (8 * i) l)) (append-assoc (bytesOf f n) (eightBytes (f n)) rest) ∙ go (eight-there f n (eightBytes (f n) ++ rest) i) (decLt i n)
+    ap (λ (l : List ℕ). take 8 (drop (8 * i) l)) (append-assoc (bytesOf f n) (eightBytes (f n)) rest)
+    ∙ go (eight-there f n (eightBytes (f n) ++ rest) i) (decLt i n)
   where
-    go : (i < n → take 8 (drop (8 * i) (bytesOf f n ++ (eightBytes (f n) ++ rest))) ≡ eightBytes (f i)) → Dec (i < n) → take 8 (drop (8 * i) (bytesOf f n ++ (eightBytes (f n) ++ rest))) ≡ eightBytes (f i)
+    go : (i < n → take 8 (drop (8 * i) (bytesOf f n ++ (eightBytes (f n) ++ rest))) ≡ eightBytes (f i)) → Dec (i < n)
+        → take 8 (drop (8 * i) (bytesOf f n ++ (eightBytes (f n) ++ rest))) ≡ eightBytes (f i)
     go hyp (yes k) = hyp k
     go hyp (no k) =
         let e : n ≡ i = omega arith in

@@ -1,6 +1,6 @@
 -- `ticks::millis_between` meets its contract. Assumes nothing.
 use native.Mathlib.Omega.{arith}
-use mathlib.Core.Path.{_≡_, _∙_}
+use mathlib.Core.Path.{_∙_}
 use Rattle.ticks.specs.Line.{lineAt}
 use Rattle.ticks.proofs.Lines.{line-is, line-under}
 use borrow.Author.Needs.{needs}
@@ -15,7 +15,15 @@ add-result c =
     let n3 = q .before .number-at3 in
     let n4 = q .number-at4 in
     let s = q .before .before .before .before .before .before in
-    record { fits = omega (arith, line-under (n1 .result) (n2 .result) (n3 .result) (n4 .result) (s .args .t) (c .along .result) (c .along .ensures) (omega (arith, s .pre .to, n2 .ensures)) (omega (arith, s .pre .millis-rise, n3 .ensures, n4 .ensures)), s .pre .millis-small, n4 .ensures) }
+    record {
+      fits = omega (
+        arith,
+        line-under (n1 .result) (n2 .result) (n3 .result) (n4 .result) (s .args .t) (c .along .result) (c .along .ensures)
+            (omega (arith, s .pre .to, n2 .ensures)) (omega (arith, s .pre .millis-rise, n3 .ensures, n4 .ensures)),
+        s .pre .millis-small,
+        n4 .ensures,
+      );
+    }
 
 returns : tie.Need-returns
 returns c =
@@ -31,16 +39,5 @@ returns c =
 pub millis-between-spec : {M : Type 1} → statement M
 millis-between-spec =
     tie.close
-    (tie.spec
-    (λ c κs. search needs)
-    (λ c. search needs)
-    (λ c κs. search needs)
-    (λ c κs. search needs)
-    (λ c. search needs)
-    (λ c κs. search needs)
-    (λ c. search needs)
-    (λ c. search needs)
-    (λ c. search needs)
-    (λ c κs. search needs)
-    add-result
-    returns)
+    (tie.spec (λ c κs. search needs) (λ c. search needs) (λ c κs. search needs) (λ c κs. search needs) (λ c. search needs) (λ c κs. search needs)
+    (λ c. search needs) (λ c. search needs) (λ c. search needs) (λ c κs. search needs) add-result returns)

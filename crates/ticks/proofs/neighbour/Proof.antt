@@ -23,34 +23,54 @@ returns : tie.Need-returns
 returns c =
     let s = c .before .before .before .before in
     let q = c .before .before in
-    found-below (numberAt (s .args .passes .now)) (s .args .t) (s .args .k) (s .pre .rises) 0 (s .args .j) (c .last-not-after .result) (s .pre .near) (omega (arith, q .number-at .ensures, c .before .if1 .taken)) (c .last-not-after .ensures)
+    found-below (numberAt (s .args .passes .now)) (s .args .t) (s .args .k) (s .pre .rises) 0 (s .args .j) (c .last-not-after .result) (s .pre .near)
+    (omega (arith, q .number-at .ensures, c .before .if1 .taken)) (c .last-not-after .ensures)
 
 last-not-after-requires-2 : tie.Need-last-not-after-requires-2
 last-not-after-requires-2 c κs =
     let s = c .before .before .before .before in
-    record { rises = s .pre .rises; order = s .pre .near; few = s .pre .few; there = s .pre .there; from = omega (arith, c .before .before .number-at .ensures, c .before .if1 .left) }
+    record {
+      rises = s .pre .rises;
+      order = s .pre .near;
+      few = s .pre .few;
+      there = s .pre .there;
+      from =
+          omega (arith, c .before .before .number-at .ensures, c .before .if1 .left);
+    }
 
 returns-2 : tie.Need-returns-2
 returns-2 c =
     let s = c .before .before .before .before .before in
-    found-last (numberAt (s .args .passes .now)) (s .args .t) (s .args .k) (s .pre .rises) (s .args .j) (c .last-not-after2 .result) (c .last-not-after2 .ensures)
+    found-last (numberAt (s .args .passes .now)) (s .args .t) (s .args .k) (s .pre .rises) (s .args .j) (c .last-not-after2 .result)
+    (c .last-not-after2 .ensures)
 
 returns-3 : tie.Need-returns-3
 returns-3 c =
     let s = c .before .before .before .before .before .before in
-    last-only (numberAt (s .args .passes .now)) (s .args .t) (s .args .k) (s .pre .rises) (s .args .j) (s .pre .near) (omega (arith, c .before .before .before .before .number-at .ensures, c .before .before .before .if1 .left)) (λ w. omega (arith, c .before .number-at2 .ensures, c .if3 .taken))
+    last-only (numberAt (s .args .passes .now)) (s .args .t) (s .args .k) (s .pre .rises) (s .args .j) (s .pre .near)
+    (omega (arith, c .before .before .before .before .number-at .ensures, c .before .before .before .if1 .left))
+    (λ w. omega (arith, c .before .number-at2 .ensures, c .if3 .taken))
 
 returns-4 : tie.Need-returns-4
 returns-4 c =
     let s = c .before .before .before .before .before .before .before .before in
     let e : s .args .j + 2 ≡ s .args .j + 1 + 1 = omega arith in
-    last-only (numberAt (s .args .passes .now)) (s .args .t) (s .args .k) (s .pre .rises) (s .args .j + 1) (omega (arith, c .before .before .before .before .if2 .left)) (omega (arith, c .before .before .before .number-at2 .ensures, c .before .before .if3 .left))
+    last-only (numberAt (s .args .passes .now)) (s .args .t) (s .args .k) (s .pre .rises) (s .args .j + 1)
+    (omega (arith, c .before .before .before .before .if2 .left))
+    (omega (arith, c .before .before .before .number-at2 .ensures, c .before .before .if3 .left))
     (λ w. subst (λ (x : ℕ). s .args .t < numberAt (s .args .passes .now) x) e (omega (arith, c .before .number-at3 .ensures, c .if4 .taken)))
 
 last-not-after-requires-3 : tie.Need-last-not-after-requires-3
 last-not-after-requires-3 c κs =
     let s = c .before .before .before .before .before .before .before .before in
-    record { rises = s .pre .rises; order = omega (arith, c .before .before .before .before .if2 .left); few = s .pre .few; there = s .pre .there; from = omega (arith, c .before .number-at3 .ensures, c .if4 .left) }
+    record {
+      rises = s .pre .rises;
+      order = omega (arith, c .before .before .before .before .if2 .left);
+      few = s .pre .few;
+      there = s .pre .there;
+      from =
+          omega (arith, c .before .number-at3 .ensures, c .if4 .left);
+    }
 
 returns-5 : tie.Need-returns-5
 returns-5 c =
@@ -60,20 +80,6 @@ returns-5 c =
 pub neighbour-spec : {M : Type 1} → statement M
 neighbour-spec =
     tie.close
-    (tie.spec
-    (λ c κs. search needs)
-    last-not-after-requires
-    returns
-    (λ c. search needs)
-    last-not-after-requires-2
-    returns-2
-    (λ c. search needs)
-    (λ c κs. search needs)
-    returns-3
-    (λ c. search needs)
-    (λ c κs. search needs)
-    (λ c. search needs)
-    returns-4
-    (λ c. search needs)
-    last-not-after-requires-3
-    returns-5)
+    (tie.spec (λ c κs. search needs) last-not-after-requires returns (λ c. search needs) last-not-after-requires-2 returns-2 (λ c. search needs)
+    (λ c κs. search needs) returns-3 (λ c. search needs) (λ c κs. search needs) (λ c. search needs) returns-4 (λ c. search needs)
+    last-not-after-requires-3 returns-5)

@@ -1,7 +1,7 @@
 -- `ticks::place_all` meets its contract: the milliseconds of the ticks passed are written, and the rest is as it was. Assumes nothing.
-use Prim.Native.Nat.{ℕ, _+_, _-_, _*_, _≤_}
+use Prim.Native.Nat.{ℕ, _-_, _≤_}
 use native.Mathlib.Omega.{arith}
-use mathlib.Core.Path.{_≡_, ap, subst, sym, _∙_}
+use mathlib.Core.Path.{ap, subst, sym, _∙_}
 use Rattle.ticks.specs.Passes.{millisAt, lastNotAfter, millisBetween}
 use Rattle.ticks.specs.judging.Refusing.{numberAt}
 use Rattle.ticks.specs.Ticks.{passesOf}
@@ -31,7 +31,9 @@ neighbour-requires c κs =
     let l = c .before .before in
     let s = c .before .before .before .before .before .before .before in
     let a = s .args in
-    subst (λ (t : ℕ). NearPass (a .passes .now) (a .k) (l .loop .j) t) (sym (c .number-at .ensures)) (near (a .passes .now) (a .millis .now) (a .k) (a .n) (a .ticks .now) (s .pre .0) (l .loop .i) (c .before .loop-test .taken) (l .loop .j) (l .loop .inv .1 .near))
+    subst (λ (t : ℕ). NearPass (a .passes .now) (a .k) (l .loop .j) t) (sym (c .number-at .ensures))
+    (near (a .passes .now) (a .millis .now) (a .k) (a .n) (a .ticks .now) (s .pre .0) (l .loop .i) (c .before .loop-test .taken) (l .loop .j)
+    (l .loop .inv .1 .near))
 
 millis-between-requires : tie.Need-millis-between-requires Inv-loop μ-loop
 millis-between-requires c κs =
@@ -39,10 +41,19 @@ millis-between-requires c κs =
     let s = c .before .before .before .before .before .before .before .before in
     let a = s .args in
     let q = c .before in
-    subst (λ (t : ℕ). TickBetween (a .passes .now) (a .millis .now) (c .neighbour .result) t) (sym (q .number-at .ensures)) (holds (a .passes .now) (a .millis .now) (a .k) (a .n) (a .ticks .now) (s .pre .0) (l .loop .i) (c .before .before .loop-test .taken) (c .neighbour .result) (c .neighbour .ensures ∙ ap (λ (t : ℕ). lastNotAfter (numberAt (a .passes .now)) t (a .k)) (q .number-at .ensures)))
+    subst (λ (t : ℕ). TickBetween (a .passes .now) (a .millis .now) (c .neighbour .result) t) (sym (q .number-at .ensures))
+    (holds (a .passes .now) (a .millis .now) (a .k) (a .n) (a .ticks .now) (s .pre .0) (l .loop .i) (c .before .before .loop-test .taken)
+    (c .neighbour .result) (c .neighbour .ensures ∙ ap (λ (t : ℕ). lastNotAfter (numberAt (a .passes .now)) t (a .k)) (q .number-at .ensures)))
 
 mul-put-number : tie.Need-mul-put-number Inv-loop μ-loop
-mul-put-number c = record { fits = omega (arith, c .before .before .before .before .loop-test .taken, c .before .before .before .before .before .before .before .before .before .before .pre .0 .there) }
+mul-put-number c = record {
+  fits =
+      omega (
+        arith,
+        c .before .before .before .before .loop-test .taken,
+        c .before .before .before .before .before .before .before .before .before .before .pre .0 .there,
+      );
+}
 
 put-number-requires : tie.Need-put-number-requires Inv-loop μ-loop
 put-number-requires c κs =
@@ -52,7 +63,13 @@ put-number-requires c κs =
     omega (arith, l .loop .inv .1 .len, c .before .before .before .before .loop-test .taken, s .pre .1)
 
 add-i : tie.Need-add-i Inv-loop μ-loop
-add-i c = record { fits = omega (arith, c .before .before .before .before .before .before .before .loop-test .taken, c .before .before .before .before .before .before .before .before .before .before .before .before .before .pre .0 .there) }
+add-i c = record {
+  fits = omega (
+    arith,
+    c .before .before .before .before .before .before .before .loop-test .taken,
+    c .before .before .before .before .before .before .before .before .before .before .before .before .before .pre .0 .there,
+  );
+}
 
 loop-less : tie.Need-loop-less Inv-loop μ-loop
 loop-less c = omega (arith, c .before .before .before .before .before .before .before .loop-test .taken)
@@ -65,11 +82,15 @@ loop-again c =
     let a = s .args in
     let h = t .before .loop-test .taken in
     let j = c .before .before .before .before .before .neighbour .result in
-    let e = c .before .before .before .before .before .neighbour .ensures ∙ ap (λ (x : ℕ). lastNotAfter (numberAt (a .passes .now)) x (a .k)) (t .number-at .ensures) in (
+    let e = c .before .before .before .before .before .neighbour .ensures
+    ∙ ap (λ (x : ℕ). lastNotAfter (numberAt (a .passes .now)) x (a .k)) (t .number-at .ensures) in (
       omega (arith, h),
-      placing-goes (λ x. millisAt (passesOf (a .passes .now) (a .millis .now)) (numberAt (a .ticks .now) x)) (a .k) (a .out .now) (l .loop .out) _ (l .loop .i) (l .loop .j) j (c .before .before .before .before .millis-between .result) (a .n) (l .loop .inv .1) h (s .pre .1)
+      placing-goes (λ x. millisAt (passesOf (a .passes .now) (a .millis .now)) (numberAt (a .ticks .now) x)) (a .k) (a .out .now) (l .loop .out) _
+          (l .loop .i) (l .loop .j) j (c .before .before .before .before .millis-between .result) (a .n) (l .loop .inv .1) h (s .pre .1)
           (still-near (a .passes .now) (a .millis .now) (a .k) (a .n) (a .ticks .now) (s .pre .0) (l .loop .i) h j e)
-          (c .before .before .before .before .millis-between .ensures ∙ ap (millisBetween (passesOf (a .passes .now) (a .millis .now)) j) (t .number-at .ensures) ∙ millis-is (a .passes .now) (a .millis .now) (a .k) (a .n) (a .ticks .now) (s .pre .0) (l .loop .i) h j e)
+          (c .before .before .before .before .millis-between .ensures
+          ∙ ap (millisBetween (passesOf (a .passes .now) (a .millis .now)) j) (t .number-at .ensures)
+          ∙ millis-is (a .passes .now) (a .millis .now) (a .k) (a .n) (a .ticks .now) (s .pre .0) (l .loop .i) h j e)
           (c .before .before .put-number .ensures),
     )
 
@@ -81,22 +102,11 @@ returns c =
     let l = c .before in
     let s = c .before .before .before .before .before .before in
     let a = s .args in
-    placing-ends (λ x. millisAt (passesOf (a .passes .now) (a .millis .now)) (numberAt (a .ticks .now) x)) (a .k) (a .out .now) (l .loop .out) (l .loop .i) (l .loop .j) (a .n) (l .loop .inv .1) (omega (arith, l .loop .inv .0, c .loop-test .left))
+    placing-ends (λ x. millisAt (passesOf (a .passes .now) (a .millis .now)) (numberAt (a .ticks .now) x)) (a .k) (a .out .now) (l .loop .out) (l .loop .i)
+    (l .loop .j) (a .n) (l .loop .inv .1) (omega (arith, l .loop .inv .0, c .loop-test .left))
 
 pub place-all-spec : {M : Type 1} → statement M
 place-all-spec =
     tie.close
-    (tie.spec
-    Inv-loop
-    μ-loop
-    loop-holds
-    number-at-requires
-    neighbour-requires
-    millis-between-requires
-    mul-put-number
-    put-number-requires
-    add-i
-    loop-less
-    loop-again
-    same-length
-    returns)
+    (tie.spec Inv-loop μ-loop loop-holds number-at-requires neighbour-requires millis-between-requires mul-put-number put-number-requires add-i
+    loop-less loop-again same-length returns)

@@ -11,23 +11,30 @@ use Rattle.ticks.proofs.place_ticks.Tie as tie
 returns : tie.Need-returns
 returns c =
     let a = c .before .before .before .before .before .before .args in
-    refused-call (a .passes .now) (a .millis .now) (a .ticks .now) (a .out .now) (c .before .refused-by .result) (c .before .refused-by .ensures) (c .if1 .taken)
+    refused-call (a .passes .now) (a .millis .now) (a .ticks .now) (a .out .now) (c .before .refused-by .result) (c .before .refused-by .ensures)
+    (c .if1 .taken)
 
 sub-k : tie.Need-sub-k
 sub-k c =
     let a = c .before .before .before .before .before .before .args in
-    omega (arith, passes-two (a .passes .now) (a .millis .now) (a .ticks .now) (length (a .out .now)) (ladder-passed (a .passes .now) (a .millis .now) (a .ticks .now) (length (a .out .now)) (sym (c .before .refused-by .ensures) ∙ c .if1 .left)))
+    omega (
+      arith,
+      passes-two (a .passes .now) (a .millis .now) (a .ticks .now) (length (a .out .now))
+          (ladder-passed (a .passes .now) (a .millis .now) (a .ticks .now) (length (a .out .now)) (sym (c .before .refused-by .ensures) ∙ c .if1 .left)),
+    )
 
 place-all-requires : tie.Need-place-all-requires
 place-all-requires c κs =
     let a = c .before .before .before .before .before .before .before .args in
-    let z = ladder-passed (a .passes .now) (a .millis .now) (a .ticks .now) (length (a .out .now)) (sym (c .before .before .refused-by .ensures) ∙ c .before .if1 .left) in
+    let z = ladder-passed (a .passes .now) (a .millis .now) (a .ticks .now) (length (a .out .now))
+    (sym (c .before .before .refused-by .ensures) ∙ c .before .if1 .left) in
     (all-good (a .passes .now) (a .millis .now) (a .ticks .now) (length (a .out .now)) z _ refl, omega (arith, z .fits))
 
 returns-2 : tie.Need-returns-2
 returns-2 c =
     let a = c .before .before .before .before .before .before .before .before .before .before .args in
-    written-call (a .passes .now) (a .millis .now) (a .ticks .now) (a .out .now) _ (c .before .before .before .before .before .refused-by .result) (c .before .before .before .before .before .refused-by .ensures) (c .before .before .before .before .if1 .left) (c .before .before .place-all .ensures)
+    written-call (a .passes .now) (a .millis .now) (a .ticks .now) (a .out .now) _ (c .before .before .before .before .before .refused-by .result)
+    (c .before .before .before .before .before .refused-by .ensures) (c .before .before .before .before .if1 .left) (c .before .before .place-all .ensures)
 
 pub place-ticks-spec : {M : Type 1} → statement M
 place-ticks-spec =

@@ -1,6 +1,6 @@
--- Which lists of passes and ticks are refused; lists are bytes, eight for a number, the lowest first. Written from document 02, item 10: "Turned away whole, in this
--- order: 11 .. 23 .. 24 .. 25", 2 to 2,000 passes, numbers below 2^40. A length that is no multiple of 8 has no number there; it is 14, before all others, as a broken
--- triple of item 2. Assumes nothing.
+-- Which lists of passes and ticks are refused; lists are bytes, eight for a number, the lowest first. Written from document 02, item 10: "Turned away whole, in
+-- this order: 11 .. 23 .. 24 .. 25", 2 to 2,000 passes, numbers below 2^40. A length that is no multiple of 8 has no number there; it is 14, before all others,
+-- as a broken triple of item 2. Assumes nothing.
 use Prim.Native.Nat.{ℕ, _-_, _*_, _/_, _%_}
 use mathlib.Core.Bool.{Bool, cond, _&&_}
 use mathlib.Core.List.{List}

@@ -1,6 +1,6 @@
--- What is asked of a call's lists, step by step in the order of the refusals, said of their numbers one by one and apart from the tests of ticks; and what a call that
--- answers has written. Written from document 02, item 10: "11 for fewer result places than ticks; 23 for unequal, too few or too many passes or too large a number in them;
--- 24 for passes not strictly rising in both; 25 for a tick outside them". Assumes nothing.
+-- What is asked of a call's lists, step by step in the order of the refusals, said of their numbers one by one and apart from the tests of ticks; and what a
+-- call that answers has written. Written from document 02, item 10: "11 for fewer result places than ticks; 23 for unequal, too few or too many passes or too
+-- large a number in them; 24 for passes not strictly rising in both; 25 for a tick outside them". Assumes nothing.
 use Prim.Native.Nat.{ℕ, _+_, _-_, _*_, _/_, _%_, _≤_, _<_}
 use mathlib.Core.Path.{_≡_}
 use mathlib.Core.Logic.{_↔_}
@@ -49,12 +49,13 @@ pub record ExactlyWhen (ps ms ts : List ℕ) (room : ℕ) (r : TicksAnswer) : Ty
   pub is-25 : (r ≡ Refused 25) ↔ (WholeLists ps ms ts × HasPlaces ts room × UsablePasses ps ms × RisingPasses ps ms × (TicksInside ps ms ts → ⊥))
   pub is-answer : (r ≡ Written (length ts)) ↔ (WholeLists ps ms ts × HasPlaces ts room × UsablePasses ps ms × RisingPasses ps ms × TicksInside ps ms ts)
 
--- The results in the lent list, which held `before`: each is on the line of any two neighbours that hold its tick, rounded down; at a pass it is the pass's millisecond; a
--- later tick's is never earlier; each is less than 1 ms below the exact line; and the bytes behind them stay.
+-- The results in the lent list, which held `before`: each is on the line of any two neighbours that hold its tick, rounded down; at a pass it is the pass's
+-- millisecond; a later tick's is never earlier; each is less than 1 ms below the exact line; and the bytes behind them stay.
 pub record PlacedRight (ps ms ts before after : List ℕ) : Type 0 where
   pub as-long : length after ≡ length before
   pub spare : drop (8 * numbersIn ts) after ≡ drop (8 * numbersIn ts) before
-  pub on-any-line : (i j : ℕ) → i < numbersIn ts → j + 1 < numbersIn ps → numberAt ps j ≤ numberAt ts i → numberAt ts i ≤ numberAt ps (j + 1) → numberAt after i ≡ millisBetween (passesOf ps ms) j (numberAt ts i)
+  pub on-any-line : (i j : ℕ) → i < numbersIn ts → j + 1 < numbersIn ps → numberAt ps j ≤ numberAt ts i → numberAt ts i ≤ numberAt ps (j + 1)
+      → numberAt after i ≡ millisBetween (passesOf ps ms) j (numberAt ts i)
   pub at-passes : (i j : ℕ) → i < numbersIn ts → j < numbersIn ps → numberAt ts i ≡ numberAt ps j → numberAt after i ≡ numberAt ms j
   pub in-order : (i i' : ℕ) → i < numbersIn ts → i' < numbersIn ts → numberAt ts i ≤ numberAt ts i' → numberAt after i ≤ numberAt after i'
   pub near-line : (i : ℕ) → i < numbersIn ts → JustBelow (passesOf ps ms) (numberAt ts i) (numberAt after i)

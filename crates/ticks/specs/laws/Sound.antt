@@ -16,8 +16,9 @@ pub record Inside (p : Passes) (t : ℕ) : Type 0 where
   pub low : p .tick 0 ≤ t
   pub high : t ≤ p .tick (p .size - 1)
 
--- The passes j and j + 1 hold tick t, and r is at most the exact line there and less than 1 ms below it. With d ticks between the passes, the line is at
--- (milli j * d + (t - tick j) * (milli (j + 1) - milli j)) / d, a fraction: r * d is at most the dividend and (r + 1) * d above it. And r lies between their milliseconds.
+-- The passes j and j + 1 hold tick t, and r is at most the exact line there and less than 1 ms below it. With d ticks between the passes, the line is at (milli
+-- j * d + (t - tick j) * (milli (j + 1) - milli j)) / d, a fraction: r * d is at most the dividend and (r + 1) * d above it. And r lies between their
+-- milliseconds.
 abbrev pub lineRise : Passes → ℕ → ℕ → ℕ
 lineRise p j t = (t - p .tick j) * (p .milli (j + 1) - p .milli j)
 

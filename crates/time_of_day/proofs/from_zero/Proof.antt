@@ -37,14 +37,8 @@ module _ (z : ℤ) (f : SFits w64 z) (t : ltZ (toZ w64 (ofZ w64 z)) (pos 0) ≡ 
   same : natAbs (toZ w64 (ofZ w64 z)) ≡ fromZero z
   same = ap natAbs back ∙ facts .2
 
-cast-result : tie.Need-cast-result
-cast-result c = casts _ (c .before .fits .count) (c .if1 .left)
-
 returns : tie.Need-returns
 returns c = below _ (subst (λ (x : ℤ). ltZ x (pos 0) ≡ true) (toZ-ofZ {w = w64} (c .before .fits .count)) (c .if1 .taken))
 
-returns-2 : tie.Need-returns-2
-returns-2 c = same _ (c .before .fits .count) (c .if1 .left)
-
 pub from-zero-spec : {M : Type 1} → statement M
-from-zero-spec = tie.close (tie.spec cast-result returns returns-2)
+from-zero-spec = tie.close (tie.spec (λ c. casts _ (c .before .fits .count) (c .if1 .left)) returns (λ c. same _ (c .before .fits .count) (c .if1 .left)))

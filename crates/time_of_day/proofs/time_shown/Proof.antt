@@ -23,27 +23,26 @@ returns : tie.Need-returns
 returns c =
     let e = c .before .before in
     let w = e .before .before .before in
-    at-time (countBy away) (w .before .args .fraction) (w .before .args .leap) (w .whole-leap .result) (e .before .from-zero .result) (e .day-end .result) (w .whole-leap .ensures)
-    (counted _ _ (e .before .before .milliseconds .result) _ (e .before .before .milliseconds .ensures) (e .before .from-zero .ensures ∙ ap fromZero (toZ-ofZ {w = w64} {z = e .before .before .milliseconds .result} (record { sfits = e .before .before .milliseconds .ok }))))
+    at-time (countBy away) (w .before .args .fraction) (w .before .args .leap) (w .whole-leap .result) (e .before .from-zero .result) (e .day-end .result)
+    (w .whole-leap .ensures)
+    (counted _ _ (e .before .before .milliseconds .result) _ (e .before .before .milliseconds .ensures)
+    (e .before .from-zero .ensures ∙ ap fromZero
+    (toZ-ofZ {w = w64} {z = e .before .before .milliseconds .result} (record { sfits = e .before .before .milliseconds .ok }))))
     (e .day-end .ensures .0) (c .time-of .result) (c .time-of .ensures) (c .before .if1 .taken)
 
 returns-2 : tie.Need-returns-2
 returns-2 c =
     let e = c .before in
     let w = e .before .before .before in
-    at-end (countBy away) (w .before .args .fraction) (w .before .args .leap) (w .whole-leap .result) (e .before .from-zero .result) (e .day-end .result) (w .whole-leap .ensures)
-    (counted _ _ (e .before .before .milliseconds .result) _ (e .before .before .milliseconds .ensures) (e .before .from-zero .ensures ∙ ap fromZero (toZ-ofZ {w = w64} {z = e .before .before .milliseconds .result} (record { sfits = e .before .before .milliseconds .ok }))))
+    at-end (countBy away) (w .before .args .fraction) (w .before .args .leap) (w .whole-leap .result) (e .before .from-zero .result) (e .day-end .result)
+    (w .whole-leap .ensures)
+    (counted _ _ (e .before .before .milliseconds .result) _ (e .before .before .milliseconds .ensures)
+    (e .before .from-zero .ensures ∙ ap fromZero
+    (toZ-ofZ {w = w64} {z = e .before .before .milliseconds .result} (record { sfits = e .before .before .milliseconds .ok }))))
     (e .day-end .ensures .0) (omega (arith, c .if1 .left))
 
 pub time-shown-spec : {M : Type 1} → statement M
 time-shown-spec =
     tie.close
-    (tie.spec
-    (λ c κs. search needs)
-    (λ c κs. search needs)
-    (λ c κs. search needs)
-    (λ c κs. search needs)
-    (λ c. search needs)
-    (λ c κs. search needs)
-    returns
-    returns-2)
+    (tie.spec (λ c κs. search needs) (λ c κs. search needs) (λ c κs. search needs) (λ c κs. search needs) (λ c. search needs) (λ c κs. search needs)
+    returns returns-2)

@@ -50,7 +50,8 @@ module _ (textForm : TextForm) (rows : List Row) where
     unfolding dayTextBy onward
     leap-refused k e = rw e
 
-    pub leap-given : (x : Float) → leapAtEndOfDay rows (d .year) (pos (d .month)) (pos (d .day)) ≡ answer x → dayTextBy textForm rows d f ≡ shownTextBy (textForm .write) d (shownBy (textForm .count) f x)
+    pub leap-given : (x : Float) → leapAtEndOfDay rows (d .year) (pos (d .month)) (pos (d .day)) ≡ answer x
+        → dayTextBy textForm rows d f ≡ shownTextBy (textForm .write) d (shownBy (textForm .count) f x)
     unfolding dayTextBy onward
     leap-given x e = rw e
 
@@ -59,7 +60,8 @@ module _ (textForm : TextForm) (rows : List Row) where
   unfolding isoTextBy onward
   fields-refused-by jd k e = rw e
 
-  pub fields-given-by : (jd : JulianDate) (c : CalendarFields) → julianToCalendar (jd .jd1) (jd .jd2) ≡ answer c → isoTextBy textForm rows jd ≡ dayTextBy textForm rows (c .date) (c .fraction)
+  pub fields-given-by : (jd : JulianDate) (c : CalendarFields) → julianToCalendar (jd .jd1) (jd .jd2) ≡ answer c
+      → isoTextBy textForm rows jd ≡ dayTextBy textForm rows (c .date) (c .fraction)
   unfolding isoTextBy onward
   fields-given-by jd c e = rw e
 

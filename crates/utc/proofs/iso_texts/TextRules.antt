@@ -1,4 +1,5 @@
--- The text calls that tell a rule: a refusal is handed on and writes nothing, a text gets its rule, and without the rule the call is the one of before. Assumes nothing.
+-- The text calls that tell a rule: a refusal is handed on and writes nothing, a text gets its rule, and without the rule the call is the one of before. Assumes
+-- nothing.
 use mathlib.Core.Path.{_≡_, refl, sym, ap, subst, _∙_}
 use Prim.Native.Nat.{ℕ}
 use mathlib.Core.List.{List}
@@ -35,7 +36,8 @@ unfolding written writtenByRule withRule onward
 with-written (answer t) rule n = refl
 with-written (refusal k) rule n = refl
 
-pub rule-call-with : (o : Outcome (List ℕ)) (rule : Rule) (l out : List ℕ) (t : TextAnswer) (r : TextByRule) → textByRuleOutcome r ≡ withRule (textOutcome t) rule → TextCall o l t out → TextRuleCall (withRule o rule) l r out
+pub rule-call-with : (o : Outcome (List ℕ)) (rule : Rule) (l out : List ℕ) (t : TextAnswer) (r : TextByRule)
+    → textByRuleOutcome r ≡ withRule (textOutcome t) rule → TextCall o l t out → TextRuleCall (withRule o rule) l r out
 rule-call-with o rule l out t r e p =
     record {
       says = e ∙ ap (λ (x : Outcome ℕ). withRule x rule) (p .says) ∙ with-written o rule (length l);
@@ -48,14 +50,17 @@ unfolding written writtenByRule forget onward
 forget-written (answer t) n = forgets (textWritten (t .0) n) (t .1)
 forget-written (refusal k) n = refl
 
-pub rule-call-forgets : (o : Outcome (List ℕ × Rule)) (l out : List ℕ) (r : TextByRule) (t : TextAnswer) → textOutcome t ≡ forget (textByRuleOutcome r) → TextRuleCall o l r out → TextCall (forget o) l t out
+pub rule-call-forgets : (o : Outcome (List ℕ × Rule)) (l out : List ℕ) (r : TextByRule) (t : TextAnswer) → textOutcome t ≡ forget (textByRuleOutcome r)
+    → TextRuleCall o l r out → TextCall (forget o) l t out
 rule-call-forgets o l out r t e p = record { says = e ∙ ap forget (p .says) ∙ forget-written o (length l); holds = p .holds }
 
 pub text-forgets : (textForm : TextForm) (rows : List Row) (jd : JulianDate) → forget (textByRule textForm rows jd) ≡ isoTextBy textForm rows jd
 unfolding textByRule isoTextBy forget onward
 text-forgets textForm rows jd = go (julianToCalendar (jd .jd1) (jd .jd2))
   where
-    go : (w : Outcome CalendarFields) → forget (onward w (λ c. withRule (dayTextBy textForm rows (c .date) (c .fraction)) (ruleOn rows (c .date)))) ≡ onward w (λ c. dayTextBy textForm rows (c .date) (c .fraction))
+    go : (w : Outcome CalendarFields)
+        → forget (onward w (λ c. withRule (dayTextBy textForm rows (c .date) (c .fraction)) (ruleOn rows (c .date)))) ≡ onward w
+        (λ c. dayTextBy textForm rows (c .date) (c .fraction))
     go (answer c) = forgets (dayTextBy textForm rows (c .date) (c .fraction)) (ruleOn rows (c .date))
     go (refusal k) = refl
 

@@ -24,10 +24,12 @@ use Rattle.utc.specs.iso_texts.TextCall.{written, bufferHolds, TextCall,
 use Rattle.utc.specs.laws.Shows.{Promise, tooEarly, TextDemand}
 
 -- ---- one text, or one refusal, for all divisions
-pub one-text : (textForm : TextForm) (rows : List Row) (x y x' y' : Float) → T (fits binary64 x) → T (fits binary64 y) → T (fits binary64 x') → T (fits binary64 y') → (a : OnGrid x) (b : OnGrid y) (a' : OnGrid x') (b' : OnGrid y')
+pub one-text : (textForm : TextForm) (rows : List Row) (x y x' y' : Float) → T (fits binary64 x) → T (fits binary64 y) → T (fits binary64 x')
+    → T (fits binary64 y') → (a : OnGrid x) (b : OnGrid y) (a' : OnGrid x') (b' : OnGrid y')
     → gridSum a b ≡ gridSum a' b' → isoTextBy textForm rows (julian x y) ≡ isoTextBy textForm rows (julian x' y')
 unfolding isoTextBy
-one-text textForm rows x y x' y' fx fy fx' fy' a b a' b' e = ap (λ (o : Outcome CalendarFields). onward o (λ c. dayTextBy textForm rows (c .date) (c .fraction))) (one-outcome x y x' y' fx fy fx' fy' a b a' b' e)
+one-text textForm rows x y x' y' fx fy fx' fy' a b a' b' e =
+    ap (λ (o : Outcome CalendarFields). onward o (λ c. dayTextBy textForm rows (c .date) (c .fraction))) (one-outcome x y x' y' fx fy fx' fy' a b a' b' e)
 
 -- ---- a call, by its outcome
 same-answer : (r s : TextAnswer) → textOutcome r ≡ textOutcome s → r ≡ s
@@ -43,11 +45,13 @@ module _ (o : Outcome (List ℕ)) (l out : List ℕ) (n : ℕ) (c : TextCall o l
   unfolding textOutcome written bufferHolds textWritten bufferAfter onward
   text-put = go o refl (c .says) (c .holds)
     where
-      fits-in : (t : List ℕ) (b : Bool) → o ≡ answer t → answer n ≡ cond b (answer (length t)) (refusal 11) → out ≡ cond b (t ++ drop (length t) l) l → (s : List ℕ) × (o ≡ answer s) × (n ≡ length s) × (out ≡ s ++ drop (length s) l)
+      fits-in : (t : List ℕ) (b : Bool) → o ≡ answer t → answer n ≡ cond b (answer (length t)) (refusal 11) → out ≡ cond b (t ++ drop (length t) l) l
+          → (s : List ℕ) × (o ≡ answer s) × (n ≡ length s) × (out ≡ s ++ drop (length s) l)
       fits-in t true p e q = (t, p, (let k : n ≡ length t = cc in k), q)
       fits-in t false p e q = let z : _≡_ {A = ℕ} 0 1 = cc in absurd (omega arith)
 
-      go : (x : Outcome (List ℕ)) → o ≡ x → answer n ≡ onward x (λ t. textWritten t (length l)) → out ≡ bufferHolds x l → (s : List ℕ) × (o ≡ answer s) × (n ≡ length s) × (out ≡ s ++ drop (length s) l)
+      go : (x : Outcome (List ℕ)) → o ≡ x → answer n ≡ onward x (λ t. textWritten t (length l)) → out ≡ bufferHolds x l → (s : List ℕ) × (o ≡ answer s)
+          × (n ≡ length s) × (out ≡ s ++ drop (length s) l)
       go (answer t) p e q = fits-in t (leb (length t) (length l)) p e q
       go (refusal k) p e q = let z : _≡_ {A = ℕ} 0 1 = cc in absurd (omega arith)
 
@@ -65,11 +69,14 @@ nothing-written o l out k c = go o (c .says) (c .holds)
     go (refusal j) e q = q
 
 -- ---- two calls for one text, with buffers of one length
-pub alike : (o : Outcome (List ℕ)) (l out l' out' : List ℕ) (r r' : TextAnswer) → length l ≡ length l' → TextCall o l r out → TextCall o l' r' out' → Alike l r out l' r' out'
+pub alike : (o : Outcome (List ℕ)) (l out l' out' : List ℕ) (r r' : TextAnswer) → length l ≡ length l' → TextCall o l r out → TextCall o l' r' out'
+    → Alike l r out l' r' out'
 alike o l out l' out' r r' e c c' = record {
   answers = one;
-  bytes = λ n p. let (t, a, b, d) = text-put o l out n (subst (λ (s : TextAnswer). TextCall o l s out) p c) in let (t', a', b', d') = text-put o l' out' n (other (Written n) p) in starts t t' n (drop (length t) l) (drop (length t') l') (same t t' a a') b d d';
-  rest = λ n p. let (t, a, b, d) = text-put o l out n (subst (λ (s : TextAnswer). TextCall o l s out) p c) in let (t', a', b', d') = text-put o l' out' n (other (Written n) p) in (ends t l out n b d, ends t' l' out' n b' d');
+  bytes = λ n p. let (t, a, b, d) = text-put o l out n (subst (λ (s : TextAnswer). TextCall o l s out) p c) in let (t', a', b', d') =
+      text-put o l' out' n (other (Written n) p) in starts t t' n (drop (length t) l) (drop (length t') l') (same t t' a a') b d d';
+  rest = λ n p. let (t, a, b, d) = text-put o l out n (subst (λ (s : TextAnswer). TextCall o l s out) p c) in let (t', a', b', d') =
+      text-put o l' out' n (other (Written n) p) in (ends t l out n b d, ends t' l' out' n b' d');
   refused = λ k p. (nothing-written o l out k (subst (λ (s : TextAnswer). TextCall o l s out) p c), nothing-written o l' out' k (other (Refused k) p));
 }
   where
@@ -89,12 +96,14 @@ alike o l out l' out' r r' e c c' = record {
     ends t x y n b d = ap (drop n) d ∙ drop-at t (drop (length t) x) n (sym b) ∙ ap (λ (k : ℕ). drop k x) (sym b)
 
 -- ---- THE REFUSALS of a call, exactly: 1 where the year is before -4799, else 11 where the text is longer than the buffer, else none
-module _ (p : Promise) (rows : List Row) (sum : ℤ) (o : Outcome (List ℕ)) (l out : List ℕ) (r : TextAnswer) (d : TextDemand p rows sum o) (c : TextCall o l r out) where
+module _ (p : Promise) (rows : List Row) (sum : ℤ) (o : Outcome (List ℕ)) (l out : List ℕ) (r : TextAnswer) (d : TextDemand p rows sum o)
+    (c : TextCall o l r out) where
   pub exactly : textOutcome r ≡ cond (tooEarly sum) (refusal 1) (cond (leb (length (d .text)) (length l)) (answer (length (d .text))) (refusal 11))
   unfolding written textWritten onward
   exactly = c .says ∙ ap (λ (x : Outcome (List ℕ)). onward x (λ t. textWritten t (length l))) (d .is) ∙ go (tooEarly sum)
     where
-      go : (b : Bool) → onward (cond b (refusal 1) (answer (d .text))) (λ t. textWritten t (length l)) ≡ cond b (refusal 1) (cond (leb (length (d .text)) (length l)) (answer (length (d .text))) (refusal 11))
+      go : (b : Bool) → onward (cond b (refusal 1) (answer (d .text))) (λ t. textWritten t (length l)) ≡ cond b (refusal 1)
+          (cond (leb (length (d .text)) (length l)) (answer (length (d .text))) (refusal 11))
       go true = refl
       go false = refl
 
@@ -102,18 +111,24 @@ module _ (p : Promise) (rows : List Row) (sum : ℤ) (o : Outcome (List ℕ)) (l
   unfolding bufferHolds bufferAfter
   buffer = c .holds ∙ ap (λ (x : Outcome (List ℕ)). bufferHolds x l) (d .is) ∙ go (tooEarly sum)
     where
-      go : (b : Bool) → bufferHolds (cond b (refusal 1) (answer (d .text))) l ≡ cond b l (cond (leb (length (d .text)) (length l)) (d .text ++ drop (length (d .text)) l) l)
+      go : (b : Bool) → bufferHolds (cond b (refusal 1) (answer (d .text))) l ≡ cond b l
+          (cond (leb (length (d .text)) (length l)) (d .text ++ drop (length (d .text)) l) l)
       go true = refl
       go false = refl
 
 -- ---- DEMAND 3: all divisions of one date on the grid are alike in text for buffers of one length, in any form
-module _ (textForm : TextForm) (rows : List Row) (x y x' y' : Float) (fx : T (fits binary64 x)) (fy : T (fits binary64 y)) (fx' : T (fits binary64 x')) (fy' : T (fits binary64 y'))
-    (a : OnGrid x) (b : OnGrid y) (a' : OnGrid x') (b' : OnGrid y') (e : gridSum a b ≡ gridSum a' b') (l out l' out' : List ℕ) (r r' : TextAnswer) (h : length l ≡ length l') where
-  pub divisions-alike-by : TextCall (isoTextBy textForm rows (julian x y)) l r out → TextCall (isoTextBy textForm rows (julian x' y')) l' r' out' → Alike l r out l' r' out'
+module _ (textForm : TextForm) (rows : List Row) (x y x' y' : Float) (fx : T (fits binary64 x)) (fy : T (fits binary64 y)) (fx' : T (fits binary64 x'))
+    (fy' : T (fits binary64 y'))
+    (a : OnGrid x) (b : OnGrid y) (a' : OnGrid x') (b' : OnGrid y') (e : gridSum a b ≡ gridSum a' b') (l out l' out' : List ℕ) (r r' : TextAnswer)
+    (h : length l ≡ length l') where
+  pub divisions-alike-by : TextCall (isoTextBy textForm rows (julian x y)) l r out → TextCall (isoTextBy textForm rows (julian x' y')) l' r' out'
+      → Alike l r out l' r' out'
   divisions-alike-by c c' =
-      alike (isoTextBy textForm rows (julian x y)) l out l' out' r r' h c (subst (λ (o : Outcome (List ℕ)). TextCall o l' r' out') (sym (one-text textForm rows x y x' y' fx fy fx' fy' a b a' b' e)) c')
+      alike (isoTextBy textForm rows (julian x y)) l out l' out' r r' h c
+      (subst (λ (o : Outcome (List ℕ)). TextCall o l' r' out') (sym (one-text textForm rows x y x' y' fx fy fx' fy' a b a' b' e)) c')
 
-pub divisions-alike : (rows : List Row) (x y x' y' : Float) → T (fits binary64 x) → T (fits binary64 y) → T (fits binary64 x') → T (fits binary64 y') → (a : OnGrid x) (b : OnGrid y) (a' : OnGrid x') (b' : OnGrid y')
+pub divisions-alike : (rows : List Row) (x y x' y' : Float) → T (fits binary64 x) → T (fits binary64 y) → T (fits binary64 x') → T (fits binary64 y')
+    → (a : OnGrid x) (b : OnGrid y) (a' : OnGrid x') (b' : OnGrid y')
     → gridSum a b ≡ gridSum a' b' → (l out l' out' : List ℕ) (r r' : TextAnswer) → length l ≡ length l'
     → TextCall (isoText rows (julian x y)) l r out → TextCall (isoText rows (julian x' y')) l' r' out' → Alike l r out l' r' out'
 divisions-alike = divisions-alike-by standardForm

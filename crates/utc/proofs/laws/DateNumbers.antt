@@ -60,11 +60,14 @@ new-numbers rows seconds nanos k e = go (ltb nanos 1000000000) refl
     go false p = inl (one-number _ k 8 e (nanos-refused rows seconds nanos p))
     go true p = inr (by-day (julianToCalendar unixEpochJd u) refl)
       where
-        by-date : (c : CalendarFields) → julianToCalendar unixEpochJd u ≡ answer c → (validOf (c .date) ≡ answer tt) ⊎ (validOf (c .date) ≡ refusal 1) → (k ≡ 6) ⊎ ((k ≡ 1) ⊎ (k ≡ 4))
+        by-date : (c : CalendarFields) → julianToCalendar unixEpochJd u ≡ answer c → (validOf (c .date) ≡ answer tt) ⊎ (validOf (c .date) ≡ refusal 1)
+            → (k ≡ 6) ⊎ ((k ≡ 1) ⊎ (k ≡ 4))
         by-date c q (inl v) =
-            inr (inr (time-numbers rows (c .date) (s / 3600) (s % 3600 / 60) (secondWithNanos s nanos) k v (date-in-range unixEpochJd u c q .year-high) (day-given rows seconds nanos p c q (c .date .year) s (secondWithNanos s nanos) refl refl refl ∙ e)))
+            inr (inr (time-numbers rows (c .date) (s / 3600) (s % 3600 / 60) (secondWithNanos s nanos) k v (date-in-range unixEpochJd u c q .year-high)
+            (day-given rows seconds nanos p c q (c .date .year) s (secondWithNanos s nanos) refl refl refl ∙ e)))
         by-date c q (inr v) =
-            inr (inl (one-number _ k 1 e (sym (day-given rows seconds nanos p c q (c .date .year) s (secondWithNanos s nanos) refl refl refl) ∙ date-refused rows (c .date .year) (c .date .month) (c .date .day) (s / 3600) (s % 3600 / 60) (secondWithNanos s nanos) 1 v)))
+            inr (inl (one-number _ k 1 e (sym (day-given rows seconds nanos p c q (c .date .year) s (secondWithNanos s nanos) refl refl refl)
+            ∙ date-refused rows (c .date .year) (c .date .month) (c .date .day) (s / 3600) (s % 3600 / 60) (secondWithNanos s nanos) 1 v)))
 
         by-day : (o : Outcome CalendarFields) → julianToCalendar unixEpochJd u ≡ o → (k ≡ 6) ⊎ ((k ≡ 1) ⊎ (k ≡ 4))
         by-day (refusal n) q = inl (one-number _ k n e (day-refused rows seconds nanos p n q) ∙ only-six unixEpochJd u n q)
@@ -75,7 +78,8 @@ date-numbers : (y m d : ℤ) (k : ℕ) → validDate y m d ≡ refusal k → (k 
 unfolding validDate
 date-numbers y m d k = go (ltZ y (negsuc 4798)) (ltZ m (pos 1) || ltZ (pos 12) m) (ltZ d (pos 1) || ltZ (pos (daysInMonth y m)) d)
   where
-    go : (a b c : Bool) → _≡_ {A = Outcome Unit} (cond a (refusal 1) (cond b (refusal 2) (cond c (refusal 3) (answer tt)))) (refusal k) → (k ≡ 1) ⊎ ((k ≡ 2) ⊎ (k ≡ 3))
+    go : (a b c : Bool) → _≡_ {A = Outcome Unit} (cond a (refusal 1) (cond b (refusal 2) (cond c (refusal 3) (answer tt)))) (refusal k) → (k ≡ 1)
+        ⊎ ((k ≡ 2) ⊎ (k ≡ 3))
     go true b c e = inl (cc)
     go false true c e = inr (inl (cc))
     go false false true e = inr (inr (cc))
@@ -103,4 +107,5 @@ from-calendar-numbers rows y m d hour minute second k e = go (validDate y (pos m
 
     go : (o : Outcome Unit) → validDate y (pos m) (pos d) ≡ o → ((k ≡ 1) ⊎ ((k ≡ 2) ⊎ (k ≡ 3))) ⊎ ((k ≡ 5) ⊎ (k ≡ 4))
     go (answer u) p = inr (by-leap p (leapAtEndOfDay rows y (pos m) (pos d)) refl)
-    go (refusal n) p = inl (subst (λ (j : ℕ). (j ≡ 1) ⊎ ((j ≡ 2) ⊎ (j ≡ 3))) (one-number _ n k (date-refused rows y m d hour minute second n p) e) (date-numbers y (pos m) (pos d) n p))
+    go (refusal n) p = inl (subst (λ (j : ℕ). (j ≡ 1) ⊎ ((j ≡ 2) ⊎ (j ≡ 3))) (one-number _ n k (date-refused rows y m d hour minute second n p) e)
+        (date-numbers y (pos m) (pos d) n p))

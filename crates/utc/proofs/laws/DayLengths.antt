@@ -1,5 +1,5 @@
--- The four lengths of a day, so that the nearness of demand 3 speaks of every day: 86,400 s where leap is at most 0.5 in size, 86,401 s where it is 1.0, 86,399 s
--- where it is -1.0, and 86,400 s plus the float 0.9434819999999999 on 1959-12-31. Assumes nothing.
+-- The four lengths of a day, so that the nearness of demand 3 speaks of every day: 86,400 s where leap is at most 0.5 in size, 86,401 s where it is 1.0, 86,399
+-- s where it is -1.0, and 86,400 s plus the float 0.9434819999999999 on 1959-12-31. Assumes nothing.
 use mathlib.Core.Path.{_≡_, refl, sym, ap, subst}
 use mathlib.Core.Bool.{Bool, true, false, cond}
 use Prim.Native.Nat.{ℕ, _+_, _*_, _^_, _<_}

@@ -48,10 +48,12 @@ module _ (rows : List Row) (d : CalendarDate) where
 
   module _ (v : validOf d ≡ answer tt) (h : ltZ (pos 2733194) (d .year) ≡ false) where
     pub has-next : nextOf (d .year) (pos (d .month)) (pos (d .day)) ≡ answer (next d)
-    has-next = by (d .year) (pos (d .month)) (pos (d .day)) v false (first-false (leZ (pos 2147483647) (d .year)) (eqb (d .month) 12 && eqb (d .day) 31) (before-last (d .year) h))
+    has-next = by (d .year) (pos (d .month)) (pos (d .day)) v false
+        (first-false (leZ (pos 2147483647) (d .year)) (eqb (d .month) 12 && eqb (d .day) 31) (before-last (d .year) h))
 
     abbrev pub leapOn : Float
-    leapOn = leapOf (offsetsOfDay rows (monthNumber (d .year) (d .month)) (monthNumber (next d .year) (next d .month)) (mjdNumber (d .year) (pos (d .month)) (pos (d .day))))
+    leapOn = leapOf (offsetsOfDay rows (monthNumber (d .year) (d .month)) (monthNumber (next d .year) (next d .month))
+        (mjdNumber (d .year) (pos (d .month)) (pos (d .day))))
 
     pub has-leap : leapAtEndOfDay rows (d .year) (pos (d .month)) (pos (d .day)) ≡ answer leapOn
     has-leap = Days.leap-given rows (d .year) (pos (d .month)) (pos (d .day)) (next d) has-next

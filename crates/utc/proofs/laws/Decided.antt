@@ -1,5 +1,5 @@
--- WHICH NUMBERS, AND EXACTLY WHEN, by every announced table, one that is refused too: the look-up, the leap, and UTC from the calendar. UTC from Unix time and the text stand in
--- NewDecided and TextDecided. Assumes nothing.
+-- WHICH NUMBERS, AND EXACTLY WHEN, by every announced table, one that is refused too: the look-up, the leap, and UTC from the calendar. UTC from Unix time and
+-- the text stand in NewDecided and TextDecided. Assumes nothing.
 use mathlib.Core.Path.{_≡_, refl, sym, ap, subst, _∙_}
 use mathlib.Core.Bool.{Bool, true, false, true≢false}
 use mathlib.Core.List.{List}
@@ -35,7 +35,8 @@ module _ (t : AnnouncedRows) where
   byTable call = onward (tableOf t) call
 
   -- the table's numbers come first, whatever the call
-  pub decided-if : {A : Type 0} (call : List Row → Outcome A) (l : Ladder) → (tableOf t ≡ answer rows → Decided (call rows) l) → Decided (byTable call) (tableFirst t l)
+  pub decided-if : {A : Type 0} (call : List Row → Outcome A) (l : Ladder) → (tableOf t ≡ answer rows → Decided (call rows) l)
+      → Decided (byTable call) (tableFirst t l)
   decided-if call l d = under-table t l (λ n e. stopped call e) (λ e. subst (λ o. Decided o l) (sym (went call e)) (d e))
 
   pub decided-by : {A : Type 0} (call : List Row → Outcome A) (l : Ladder) → Decided (call rows) l → Decided (byTable call) (tableFirst t l)
@@ -73,10 +74,12 @@ module _ (t : AnnouncedRows) where
     pub leap-decided : Decided (byTable (λ rows. leapAtEndOfDay rows y m d)) (leapLadder t y m d)
     leap-decided = decided-by (λ rows. leapAtEndOfDay rows y m d) _ (by-date y m d _
         (λ k e. leap-as-next k (refused-next y m d k e))
-        (λ v. by-test (lastDate y (natAbs m) (natAbs d)) true (λ e. leap-as-next 5 (no-next-day v e)) (λ n. reaches _ (leap-given rows y m d _ (next-day v n)))))
+        (λ v. by-test (lastDate y (natAbs m) (natAbs d)) true (λ e. leap-as-next 5 (no-next-day v e))
+        (λ n. reaches _ (leap-given rows y m d _ (next-day v n)))))
 
   -- ---- A TIME of a date that has a next one: 4 where it is not in the day
-  module _ (y : ℤ) (m d hour minute : ℕ) (second : Float) (v : validDate y (pos m) (pos d) ≡ answer tt) (x : Float) (e : leapAtEndOfDay rows y (pos m) (pos d) ≡ answer x) where
+  module _ (y : ℤ) (m d hour minute : ℕ) (second : Float) (v : validDate y (pos m) (pos d) ≡ answer tt) (x : Float)
+      (e : leapAtEndOfDay rows y (pos m) (pos d) ≡ answer x) where
     pub time-refused : timeInDay hour minute second x ≡ false → utcFromCalendar rows y m d hour minute second ≡ refusal 4
     unfolding midnightPlus dayFraction onward
     time-refused h = on-date rows y m d hour minute second v x e ∙ rw h
@@ -87,12 +90,15 @@ module _ (t : AnnouncedRows) where
         one-leap : (z : Float) → leapAtEndOfDay rows y (pos m) (pos d) ≡ answer z → x ≡ z
         one-leap z p = cc
 
-        go : (b : Bool) → timeInDay hour minute second x ≡ b → Decided (utcFromCalendar rows y m d hour minute second) (refuse 4 (TimeOutside rows y (pos m) (pos d) hour minute second) done)
+        go : (b : Bool) → timeInDay hour minute second x ≡ b
+            → Decided (utcFromCalendar rows y m d hour minute second) (refuse 4 (TimeOutside rows y (pos m) (pos d) hour minute second) done)
         go false h = stops (x, e, h) (time-refused h)
-        go true h = passes (λ f. true≢false (sym h ∙ ap (timeInDay hour minute second) (one-leap (f .0) (f .1)) ∙ f .2)) (reaches _ (time-given rows y m d hour minute second v x e h))
+        go true h = passes (λ f. true≢false (sym h ∙ ap (timeInDay hour minute second) (one-leap (f .0) (f .1)) ∙ f .2))
+            (reaches _ (time-given rows y m d hour minute second v x e h))
 
   -- ---- UTC FROM THE CALENDAR: 1, 2, 3 by the date, 5 on the last date, 4 by the time
-  pub from-calendar-decided : (y : ℤ) (m d hour minute : ℕ) (second : Float) → Decided (byTable (λ rows. utcFromCalendar rows y m d hour minute second)) (fromCalendarLadder t y m d hour minute second)
+  pub from-calendar-decided : (y : ℤ) (m d hour minute : ℕ) (second : Float)
+      → Decided (byTable (λ rows. utcFromCalendar rows y m d hour minute second)) (fromCalendarLadder t y m d hour minute second)
   from-calendar-decided y m d hour minute second = decided-by (λ rows. utcFromCalendar rows y m d hour minute second) _ (by-date y (pos m) (pos d) _
       (λ k e. date-refused rows y m d hour minute second k e)
       (λ v. by-test (lastDate y m d) true

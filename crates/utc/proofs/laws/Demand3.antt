@@ -58,16 +58,37 @@ pub fixed-leaps : (y m d : ℤ) (x : Float) → leapAtEndOfDay fixed y m d ≡ a
 fixed-leaps y m d x e = case-of x (every-leap y m d x e)
 
 -- ---- what is shown, read back from the text's own digits
-module _ (textForm : TextForm) (p : Promise) (good : GoodForm textForm p) (n : ℤ) (low : ltZ (dateOf n .year) (negsuc 4798) ≡ false) (i : InDays n) (F : ℕ) (x : Float) where
+module _ (textForm : TextForm) (p : Promise) (good : GoodForm textForm p) (n : ℤ) (low : ltZ (dateOf n .year) (negsuc 4798) ≡ false) (i : InDays n) (F : ℕ)
+    (x : Float) where
   writable : (u : TimeOfDay) → GoodTime u (wholeLeap x) → Writable (dateOf n) u
   writable u g =
       let r = in-range n low i in
-      record { year-low = r .year-low; year-high = r .year-high; month = r .month-high; day = r .day-high; hour = g .hour; minute = g .minute; second = g .second; milli = g .milli }
+      record {
+        year-low = r .year-low;
+        year-high = r .year-high;
+        month = r .month-high;
+        day = r .day-high;
+        hour = g .hour;
+        minute = g .minute;
+        second =
+            g .second;
+        milli = g .milli;
+      }
 
   writable-next : Writable (next (dateOf n)) midnight
   writable-next =
       let r = next-in-range n low i in
-      record { year-low = r .year-low; year-high = r .year-high; month = r .month-high; day = r .day-high; hour = omega arith; minute = omega arith; second = omega arith; milli = omega arith }
+      record {
+        year-low = r .year-low;
+        year-high = r .year-high;
+        month = r .month-high;
+        day = r .day-high;
+        hour = omega arith;
+        minute = omega arith;
+        second =
+            omega arith;
+        milli = omega arith;
+      }
 
   pub right : (r : TimeShown) → ShownWithin (p .c x) (p .e x) F (2 ^ 52) x r → TextRight p (textBy (textForm .write) (dateOf n) r) n F x
   unfolding Good shownMs timeShown
@@ -81,12 +102,14 @@ module _ (textForm : TextForm) (p : Promise) (good : GoodForm textForm p) (n : �
       }
   right NextMidnight s = record {
     form = good .form (next (dateOf n)) midnight writable-next;
-    day = next-midnight (subst (λ (d : CalendarDate). ReadsAs (textForm .write (next (dateOf n)) midnight) d midnight) (sym (next-is n low i)) (good .reads (next (dateOf n)) midnight writable-next));
+    day = next-midnight (subst (λ (d : CalendarDate). ReadsAs (textForm .write (next (dateOf n)) midnight) d midnight) (sym (next-is n low i))
+        (good .reads (next (dateOf n)) midnight writable-next));
     near = λ W E h d. s .near W E h d;
   }
 
 -- ---- DEMAND 3, in any good form
-module _ (rows : List Row) (cases : (y m d : ℤ) (x : Float) → leapAtEndOfDay rows y m d ≡ answer x → Leap x) (textForm : TextForm) (p : Promise) (good : GoodForm textForm p) where
+module _ (rows : List Row) (cases : (y m d : ℤ) (x : Float) → leapAtEndOfDay rows y m d ≡ answer x → Leap x) (textForm : TextForm) (p : Promise)
+    (good : GoodForm textForm p) where
   -- the count is near, and so is what it shows
   shown : (F : ℕ) → F < 2 ^ 52 → (x : Float) → Leap x → ShownWithin (p .c x) (p .e x) F (2 ^ 52) x (shownBy (textForm .count) (fractionOf F) x)
   unfolding shownBy
@@ -132,14 +155,18 @@ module _ (rows : List Row) (cases : (y m d : ℤ) (x : Float) → leapAtEndOfDay
             right = λ q. right textForm p good n e i F leap (shownBy (textForm .count) f leap) (shown F below leap (cases _ _ _ leap given));
           }
 
-  pub demand-3-by : (x y : Float) → T (fits binary64 x) → T (fits binary64 y) → (a : OnGrid x) (b : OnGrid y) → GridSumInRange (gridSum a b) → TextDemand p rows (gridSum a b) (isoTextBy textForm rows (julian x y))
+  pub demand-3-by : (x y : Float) → T (fits binary64 x) → T (fits binary64 y) → (a : OnGrid x) (b : OnGrid y) → GridSumInRange (gridSum a b)
+      → TextDemand p rows (gridSum a b) (isoTextBy textForm rows (julian x y))
   demand-3-by x y fx fy a b r =
-      subst (TextDemand p rows (gridSum a b)) (sym (of-sum textForm rows (gridSum a b) r (julian x y) (record { first-float = fx; second-float = fy; first = a; second = b; sum-is = refl })))
+      subst (TextDemand p rows (gridSum a b))
+      (sym (of-sum textForm rows (gridSum a b) r (julian x y) (record { first-float = fx; second-float = fy; first = a; second = b; sum-is = refl })))
       (sum-demand (gridSum a b) r)
 
 -- ---- DEMAND 3 of document 01's form: for every table that is taken, and for the fixed one
-pub table-demand-3 : (t : AnnouncedRows) (rows : List Row) → tableOf t ≡ answer rows → (x y : Float) → T (fits binary64 x) → T (fits binary64 y) → (a : OnGrid x) (b : OnGrid y) → GridSumInRange (gridSum a b) → TextDemand promise01 rows (gridSum a b) (isoText rows (julian x y))
+pub table-demand-3 : (t : AnnouncedRows) (rows : List Row) → tableOf t ≡ answer rows → (x y : Float) → T (fits binary64 x) → T (fits binary64 y)
+    → (a : OnGrid x) (b : OnGrid y) → GridSumInRange (gridSum a b) → TextDemand promise01 rows (gridSum a b) (isoText rows (julian x y))
 table-demand-3 t rows p = demand-3-by rows (table-leaps t rows p) standardForm promise01 good01
 
-pub demand-3 : (x y : Float) → T (fits binary64 x) → T (fits binary64 y) → (a : OnGrid x) (b : OnGrid y) → GridSumInRange (gridSum a b) → TextDemand promise01 fixed (gridSum a b) (isoText fixed (julian x y))
+pub demand-3 : (x y : Float) → T (fits binary64 x) → T (fits binary64 y) → (a : OnGrid x) (b : OnGrid y) → GridSumInRange (gridSum a b)
+    → TextDemand promise01 fixed (gridSum a b) (isoText fixed (julian x y))
 demand-3 = demand-3-by fixed fixed-leaps standardForm promise01 good01

@@ -46,11 +46,13 @@ use Rattle.utc.proofs.laws.Lengths.{every-text, every-call}
 pub expanded-good : GoodForm expandedForm expandedPromise
 expanded-good = record { near = near-501 away away-nearest; reads = Text.expanded-reads-back; form = Text.expanded-formed }
 
-pub expanded-demand-3 : (t : AnnouncedRows) (rows : List Row) → tableOf t ≡ answer rows → (x y : Float) → T (fits binary64 x) → T (fits binary64 y) → (a : OnGrid x) (b : OnGrid y) → GridSumInRange (gridSum a b)
+pub expanded-demand-3 : (t : AnnouncedRows) (rows : List Row) → tableOf t ≡ answer rows → (x y : Float) → T (fits binary64 x) → T (fits binary64 y)
+    → (a : OnGrid x) (b : OnGrid y) → GridSumInRange (gridSum a b)
     → TextDemand expandedPromise rows (gridSum a b) (isoTextExpanded rows (julian x y))
 expanded-demand-3 t rows p = demand-3-by rows (table-leaps t rows p) expandedForm expandedPromise expanded-good
 
-pub expanded-for-every-buffer : (t : AnnouncedRows) (rows : List Row) → tableOf t ≡ answer rows → (sum : ℤ) → GridSumInRange sum → OneText expandedForm expandedPromise rows sum
+pub expanded-for-every-buffer : (t : AnnouncedRows) (rows : List Row) → tableOf t ≡ answer rows → (sum : ℤ) → GridSumInRange sum
+    → OneText expandedForm expandedPromise rows sum
 expanded-for-every-buffer t rows p = text-for-every-buffer-by rows (table-leaps t rows p) expandedForm expandedPromise expanded-good
 
 pub expanded-for-every-buffer-fixed : (sum : ℤ) → GridSumInRange sum → OneText expandedForm expandedPromise fixed sum
@@ -63,17 +65,20 @@ TwoLengths n = (n ≡ 23) ⊎ (n ≡ 27)
 pub expanded-text-length : (rows : List Row) (jd : JulianDate) (t : List ℕ) → isoTextExpanded rows jd ≡ answer t → (length t ≡ 23) ⊎ (length t ≡ 27)
 expanded-text-length = every-text expandedForm (λ t. TwoLengths (length t)) Text.expanded-length
 
-pub expanded-call-length : (rows : List Row) (jd : JulianDate) (l out : List ℕ) (n : ℕ) → TextCall (isoTextExpanded rows jd) l (Written n) out → (n ≡ 23) ⊎ (n ≡ 27)
+pub expanded-call-length : (rows : List Row) (jd : JulianDate) (l out : List ℕ) (n : ℕ) → TextCall (isoTextExpanded rows jd) l (Written n) out → (n ≡ 23)
+    ⊎ (n ≡ 27)
 expanded-call-length rows jd = every-call expandedForm (λ t. TwoLengths (length t)) Text.expanded-length rows jd TwoLengths (λ t h. h)
 
-pub expanded-numbers : (rows : List Row) (jd : JulianDate) (l out : List ℕ) (k : ℕ) → TextCall (isoTextExpanded rows jd) l (Refused k) out → (k ≡ 6) ⊎ ((k ≡ 1) ⊎ (k ≡ 11))
+pub expanded-numbers : (rows : List Row) (jd : JulianDate) (l out : List ℕ) (k : ℕ) → TextCall (isoTextExpanded rows jd) l (Refused k) out → (k ≡ 6)
+    ⊎ ((k ≡ 1) ⊎ (k ≡ 11))
 expanded-numbers = call-numbers-by expandedForm
 
 pub expanded-not-finite : (rows : List Row) (jd : JulianDate) → finite (jd .jd1) && finite (jd .jd2) ≡ false → isoTextExpanded rows jd ≡ refusal 6
 expanded-not-finite = not-finite-by expandedForm
 
 -- ---- BESIDE DOCUMENT 01'S TEXT, over all floats: one refusal, or one date and time in both
-onward-both : {A : Type 0} (o : Outcome A) (f g : A → Outcome (List ℕ)) → ((a : A) → Beside utcText expandedText (f a) (g a)) → Beside utcText expandedText (onward o f) (onward o g)
+onward-both : {A : Type 0} (o : Outcome A) (f g : A → Outcome (List ℕ)) → ((a : A) → Beside utcText expandedText (f a) (g a))
+    → Beside utcText expandedText (onward o f) (onward o g)
 unfolding onward
 onward-both (answer a) f g h = h a
 onward-both (refusal k) f g h = refused k refl refl

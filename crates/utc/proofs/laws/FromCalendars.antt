@@ -28,17 +28,20 @@ module _ (rows : List Row) (y : ℤ) (m d hour minute : ℕ) (second : Float) wh
   unfolding utcFromCalendar fromCalendar onward
   date-refused k e = rw (midnight-refused y (pos m) (pos d) k (mjd-refused y (pos m) (pos d) k e))
 
-  at-midnight : validDate y (pos m) (pos d) ≡ answer tt → fromCalendar y m d 0 0 nought ≡ answer (julian (add binary64 mjdZeroPoint (ofInt binary64 (mjdNumber y (pos m) (pos d)))) nought)
+  at-midnight : validDate y (pos m) (pos d) ≡ answer tt
+      → fromCalendar y m d 0 0 nought ≡ answer (julian (add binary64 mjdZeroPoint (ofInt binary64 (mjdNumber y (pos m) (pos d)))) nought)
   unfolding fromCalendar Julian.atTime roundedSum onward
   at-midnight v = rw (midnight-given y (pos m) (pos d) (mjdNumber y (pos m) (pos d)) (mjd-given y (pos m) (pos d) v), midnight-fraction)
 
-  pub leap-refused : validDate y (pos m) (pos d) ≡ answer tt → (k : ℕ) → leapAtEndOfDay rows y (pos m) (pos d) ≡ refusal k → utcFromCalendar rows y m d hour minute second ≡ refusal k
+  pub leap-refused : validDate y (pos m) (pos d) ≡ answer tt → (k : ℕ) → leapAtEndOfDay rows y (pos m) (pos d) ≡ refusal k
+      → utcFromCalendar rows y m d hour minute second ≡ refusal k
   unfolding utcFromCalendar onward
   leap-refused v k e = rw (at-midnight v, e)
 
   -- MIDNIGHT in jd1: 2400000.5 plus the Modified Julian Date, rounded once; the fraction of the day in jd2
   pub on-date : validDate y (pos m) (pos d) ≡ answer tt → (x : Float) → leapAtEndOfDay rows y (pos m) (pos d) ≡ answer x
-      → utcFromCalendar rows y m d hour minute second ≡ midnightPlus (julian (add binary64 mjdZeroPoint (ofInt binary64 (mjdNumber y (pos m) (pos d)))) nought) (dayFraction hour minute second x)
+      → utcFromCalendar rows y m d hour minute second ≡ midnightPlus
+      (julian (add binary64 mjdZeroPoint (ofInt binary64 (mjdNumber y (pos m) (pos d)))) nought) (dayFraction hour minute second x)
   unfolding utcFromCalendar onward
   on-date v x e = rw (at-midnight v, e)
 
@@ -46,7 +49,9 @@ module _ (rows : List Row) (y : ℤ) (m d hour minute : ℕ) (second : Float) wh
     -- the seconds of the day over its length, 86,400 s plus leap
     pub time-given : timeInDay hour minute second x ≡ true
         → utcFromCalendar rows y m d hour minute second
-        ≡ answer (julian (add binary64 mjdZeroPoint (ofInt binary64 (mjdNumber y (pos m) (pos d)))) (add binary64 nought (div binary64 (add binary64 (mul binary64 (decimal 60 0) (ofInt binary64 (pos (60 * hour + minute)))) second) (add binary64 secondsPerDay x))))
+        ≡ answer (julian (add binary64 mjdZeroPoint (ofInt binary64 (mjdNumber y (pos m) (pos d))))
+        (add binary64 nought (div binary64 (add binary64 (mul binary64 (decimal 60 0) (ofInt binary64 (pos (60 * hour + minute)))) second)
+        (add binary64 secondsPerDay x))))
     unfolding midnightPlus dayFraction onward
     time-given h = on-date v x e ∙ rw h
 

@@ -1,5 +1,5 @@
--- UTC text with a half millisecond to the even one: demand 3 for every table that is taken, with 0.5 ms on days of whole seconds; its lengths and refusals, which are
--- those of document 01's text. Assumes nothing.
+-- UTC text with a half millisecond to the even one: demand 3 for every table that is taken, with 0.5 ms on days of whole seconds; its lengths and refusals,
+-- which are those of document 01's text. Assumes nothing.
 use mathlib.Core.Path.{_≡_}
 use mathlib.Core.Bool.{false, _&&_}
 use mathlib.Core.Logic.{_⊎_}
@@ -40,17 +40,20 @@ use Rattle.utc.proofs.laws.Numbers.{call-numbers-by, not-finite-by, ref
 use Rattle.utc.proofs.laws.Lengths.{Length01, every-text, every-call}
 
 -- ---- DEMAND 3
-near : (F : ℕ) → F < 2 ^ 52 → (x : Float) → Leap x → (W E : ℕ) → 0 < E → DayLength x W E → TimeWithin (evenParts x) (evenMost x) (evenCount (fractionOf F) (wholeLeap x) * E) F (2 ^ 52) W E
+near : (F : ℕ) → F < 2 ^ 52 → (x : Float) → Leap x → (W E : ℕ) → 0 < E → DayLength x W E
+    → TimeWithin (evenParts x) (evenMost x) (evenCount (fractionOf F) (wholeLeap x) * E) F (2 ^ 52) W E
 near F h = even-exact (fractionOf F) F (fraction-fits F) (fraction-exact F h) h
 
 pub even-good : GoodForm halfEvenForm evenPromise
 even-good = record { near = near; reads = Read.reads-back; form = form01 }
 
-pub even-demand-3 : (t : AnnouncedRows) (rows : List Row) → tableOf t ≡ answer rows → (x y : Float) → T (fits binary64 x) → T (fits binary64 y) → (a : OnGrid x) (b : OnGrid y) → GridSumInRange (gridSum a b)
+pub even-demand-3 : (t : AnnouncedRows) (rows : List Row) → tableOf t ≡ answer rows → (x y : Float) → T (fits binary64 x) → T (fits binary64 y)
+    → (a : OnGrid x) (b : OnGrid y) → GridSumInRange (gridSum a b)
     → TextDemand evenPromise rows (gridSum a b) (isoTextHalfEven rows (julian x y))
 even-demand-3 t rows p = demand-3-by rows (table-leaps t rows p) halfEvenForm evenPromise even-good
 
-pub even-for-every-buffer : (t : AnnouncedRows) (rows : List Row) → tableOf t ≡ answer rows → (sum : ℤ) → GridSumInRange sum → OneText halfEvenForm evenPromise rows sum
+pub even-for-every-buffer : (t : AnnouncedRows) (rows : List Row) → tableOf t ≡ answer rows → (sum : ℤ) → GridSumInRange sum
+    → OneText halfEvenForm evenPromise rows sum
 even-for-every-buffer t rows p = text-for-every-buffer-by rows (table-leaps t rows p) halfEvenForm evenPromise even-good
 
 pub even-for-every-buffer-fixed : (sum : ℤ) → GridSumInRange sum → OneText halfEvenForm evenPromise fixed sum
@@ -63,7 +66,8 @@ even-text-length = every-text halfEvenForm (λ t. Length01 (length t)) Read.writ
 pub even-call-length : (rows : List Row) (jd : JulianDate) (l out : List ℕ) (n : ℕ) → TextCall (isoTextHalfEven rows jd) l (Written n) out → (23 ≤ n) × (n ≤ 26)
 even-call-length rows jd = every-call halfEvenForm (λ t. Length01 (length t)) Read.written-length rows jd Length01 (λ t h. h)
 
-pub even-numbers : (rows : List Row) (jd : JulianDate) (l out : List ℕ) (k : ℕ) → TextCall (isoTextHalfEven rows jd) l (Refused k) out → (k ≡ 6) ⊎ ((k ≡ 1) ⊎ (k ≡ 11))
+pub even-numbers : (rows : List Row) (jd : JulianDate) (l out : List ℕ) (k : ℕ) → TextCall (isoTextHalfEven rows jd) l (Refused k) out → (k ≡ 6)
+    ⊎ ((k ≡ 1) ⊎ (k ≡ 11))
 even-numbers = call-numbers-by halfEvenForm
 
 pub even-not-finite : (rows : List Row) (jd : JulianDate) → finite (jd .jd1) && finite (jd .jd2) ≡ false → isoTextHalfEven rows jd ≡ refusal 6

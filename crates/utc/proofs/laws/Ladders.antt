@@ -1,5 +1,5 @@
--- Going up an order of refusals, test by test: the first reason that there is stops, and with none the call answers; the table's three tests, a date's three, and those of two
--- parts. Assumes nothing.
+-- Going up an order of refusals, test by test: the first reason that there is stops, and with none the call answers; the table's three tests, a date's three,
+-- and those of two parts. Assumes nothing.
 use mathlib.Core.Path.{_≡_, refl, sym, ap, _∙_}
 use mathlib.Core.Bool.{Bool, true, false, cond, _||_, true≢false}
 use mathlib.Core.Logic.{_⊎_, inl, inr}
@@ -80,7 +80,13 @@ module _ {A : Type 0} {o : Outcome A} where
 
     -- back: past a reason that there is not
     pub past : (C → ⊥) → Decided o (refuse n C l) → Decided o l
-    past c d = record { refuses = λ k f. d .refuses k (inr (c, f)); only = λ k r. back k (d .only k r); answers = λ u. d .answers (c, u); no-reason = λ a f. d .no-reason a f .1 }
+    past c d = record {
+      refuses = λ k f. d .refuses k (inr (c, f));
+      only = λ k r. back k (d .only k r);
+      answers = λ u. d .answers (c, u);
+      no-reason =
+          λ a f. d .no-reason a f .1;
+    }
       where
         back : (k : ℕ) → FirstReason k (refuse n C l) → FirstReason k l
         back k (inl f) = absurd (c (f .0))
@@ -132,14 +138,16 @@ module _ {A : Type 0} {o : Outcome A} where
         no : _≡_ {A = Bool} false true → ⊥
         no e = true≢false (sym e)
 
-        go : (a b c : Bool) → v ≡ cond a (refusal 1) (cond b (refusal 2) (cond c (refusal 3) (answer tt))) → Decided o (refuse 1 (a ≡ true) (refuse 2 (b ≡ true) (refuse 3 (c ≡ true) l)))
+        go : (a b c : Bool) → v ≡ cond a (refusal 1) (cond b (refusal 2) (cond c (refusal 3) (answer tt)))
+            → Decided o (refuse 1 (a ≡ true) (refuse 2 (b ≡ true) (refuse 3 (c ≡ true) l)))
         go true b c e = stops refl (date-refused 1 e)
         go false true c e = passes no (stops refl (date-refused 2 e))
         go false false true e = passes no (passes no (stops refl (date-refused 3 e)))
         go false false false e = passes no (passes no (passes no (h e)))
 
   -- ---- the year's, of a date whose month and day are good
-  pub by-year : (t : CalendarDate) (l : Ladder) → (validOf t ≡ answer tt) ⊎ (validOf t ≡ refusal 1) → (validOf t ≡ refusal 1 → o ≡ refusal 1) → (validOf t ≡ answer tt → Decided o l) → Decided o (refuse 1 (ltZ (t .year) (negsuc 4798) ≡ true) l)
+  pub by-year : (t : CalendarDate) (l : Ladder) → (validOf t ≡ answer tt) ⊎ (validOf t ≡ refusal 1) → (validOf t ≡ refusal 1 → o ≡ refusal 1)
+      → (validOf t ≡ answer tt → Decided o l) → Decided o (refuse 1 (ltZ (t .year) (negsuc 4798) ≡ true) l)
   by-year t l (inl v) early h = passes (λ e. true≢false (sym e ∙ date-accepted (t .year) (pos (t .month)) (pos (t .day)) v .year)) (h v)
   by-year t l (inr v) early h = stops (refused-early (t .year) (pos (t .month)) (pos (t .day)) v) (early v)
 
@@ -152,7 +160,8 @@ module _ {A : Type 0} {o : Outcome A} where
     unfolding julianToCalendar
     given e = went _ (answered x y e)
 
-    pub by-parts : (julianToCalendar x y ≡ answer c → validOf (dateIn x y) ≡ refusal 1 → o ≡ refusal 1) → (julianToCalendar x y ≡ answer c → validOf (dateIn x y) ≡ answer tt → Decided o l) → Decided o (partsThen x y l)
+    pub by-parts : (julianToCalendar x y ≡ answer c → validOf (dateIn x y) ≡ refusal 1 → o ≡ refusal 1)
+        → (julianToCalendar x y ≡ answer c → validOf (dateIn x y) ≡ answer tt → Decided o l) → Decided o (partsThen x y l)
     unfolding julianToCalendar
     by-parts early h = go (accepted x y) refl
       where
@@ -164,7 +173,8 @@ module _ {A : Type 0} {o : Outcome A} where
         go true e = passes (not-false (accepted x y) e) (by-year (dateIn x y) l (gregorian-refusal (dayOf x y .day)) (early (given e)) (h (given e)))
 
 -- ---- of a table that is taken only what comes after decides
-pub after-table : {A : Type 0} {o : Outcome A} {l : Ladder} (t : AnnouncedRows) (rows : List Row) → tableOf t ≡ answer rows → Decided o (tableFirst t l) → Decided o l
+pub after-table : {A : Type 0} {o : Outcome A} {l : Ladder} (t : AnnouncedRows) (rows : List Row) → tableOf t ≡ answer rows → Decided o (tableFirst t l)
+    → Decided o l
 after-table {o = o} {l} t rows e d = go (table-decided t)
   where
     go : Decision t → Decided o l

@@ -1,5 +1,5 @@
--- What holds of every date and time that a form of text writes holds of every text, over all floats and any table of rows: so document 01's texts have 23 to 26 bytes.
--- Assumes nothing.
+-- What holds of every date and time that a form of text writes holds of every text, over all floats and any table of rows: so document 01's texts have 23 to 26
+-- bytes. Assumes nothing.
 use mathlib.Core.Path.{_≡_, refl, sym, _∙_, subst}
 use mathlib.Core.Logic.{_⊎_, inl, inr}
 use mathlib.Core.List.{List}
@@ -28,7 +28,8 @@ use Rattle.utc.proofs.laws.DayTexts.{textBy, text-refused-by, leapOn, h
 use Rattle.utc.proofs.laws.Numbers.{not-both, date-refusal}
 use Rattle.utc.proofs.laws.Alike.{text-put}
 
-module _ (textForm : TextForm) (P : List ℕ → Type 0) (each : (d : CalendarDate) (u : TimeOfDay) → P (textForm .write d u)) (rows : List Row) (jd : JulianDate) where
+module _ (textForm : TextForm) (P : List ℕ → Type 0) (each : (d : CalendarDate) (u : TimeOfDay) → P (textForm .write d u)) (rows : List Row)
+    (jd : JulianDate) where
   shown : (d : CalendarDate) (r : TimeShown) → P (textBy (textForm .write) d r)
   shown d (At u) = each d u
   shown d NextMidnight = each (next d) midnight
@@ -47,11 +48,14 @@ module _ (textForm : TextForm) (P : List ℕ → Type 0) (each : (d : CalendarDa
           by-date (inl v) =
               let h = date-in-range (jd .jd1) (jd .jd2) c p .year-high in
               let r = shownBy (textForm .count) (c .fraction) (leapOn rows (c .date) v h) in
-              subst P (same (textBy (textForm .write) (c .date) r) (fields-given-by textForm rows jd c p ∙ has-text-by rows (c .date) v h textForm (c .fraction))) (shown (c .date) r)
-          by-date (inr v) = absurd (not-both (isoTextBy textForm rows jd) t 1 e (fields-given-by textForm rows jd c p ∙ text-refused-by rows (c .date) textForm (c .fraction) 1 v))
+              subst P (same (textBy (textForm .write) (c .date) r)
+              (fields-given-by textForm rows jd c p ∙ has-text-by rows (c .date) v h textForm (c .fraction))) (shown (c .date) r)
+          by-date (inr v) = absurd (not-both (isoTextBy textForm rows jd) t 1 e
+              (fields-given-by textForm rows jd c p ∙ text-refused-by rows (c .date) textForm (c .fraction) 1 v))
 
   -- and what holds of its length holds of what a call says that it wrote
-  pub every-call : (Q : ℕ → Type 0) → ((t : List ℕ) → P t → Q (length t)) → (l out : List ℕ) (n : ℕ) → TextCall (isoTextBy textForm rows jd) l (Written n) out → Q n
+  pub every-call : (Q : ℕ → Type 0) → ((t : List ℕ) → P t → Q (length t)) → (l out : List ℕ) (n : ℕ) → TextCall (isoTextBy textForm rows jd) l (Written n) out
+      → Q n
   every-call Q f l out n c =
       let (t, p, q, s) = text-put (isoTextBy textForm rows jd) l out n c in
       subst Q (sym q) (f t (every-text t p))

@@ -1,5 +1,5 @@
--- WHICH NUMBERS `UTC::new` GIVES, AND EXACTLY WHEN, by every announced table: its day in whole numbers, and 4 only past the end of a day that ends in a step back, which is from
--- 1972 on second 86399 of a day with the leap -1.0. Assumes nothing.
+-- WHICH NUMBERS `UTC::new` GIVES, AND EXACTLY WHEN, by every announced table: its day in whole numbers, and 4 only past the end of a day that ends in a step
+-- back, which is from 1972 on second 86399 of a day with the leap -1.0. Assumes nothing.
 use mathlib.Core.Path.{_≡_, refl, sym, ap, subst, _∙_}
 use mathlib.Core.Bool.{Bool, true, false, not, true≢false}
 use mathlib.Core.Logic.{_⊎_}
@@ -22,7 +22,6 @@ use Rattle.constants.specs.Constants.{decimal, unixEpochJd}
 use Rattle.calendar.specs.Calendar.{date}
 use Rattle.calendar.specs.declared.CalendarDate.{CalendarDate}
 use Rattle.calendar.proofs.Years.{validOf, gregorian-in-range, gregorian-refusal}
-use Rattle.calendar.proofs.NextDates.{by}
 use Rattle.julian.specs.day_number.DayNumber.{accepted, dayOf}
 use Rattle.julian.proofs.day_number.Answer.{answered, refused}
 use Rattle.leap_days.specs.drift.Small.{small}
@@ -110,19 +109,29 @@ module _ (t : AnnouncedRows) where
           reason : timeInDay (s / 3600) (s % 3600 / 60) (secondWithNanos s nanos) x ≡ false → PastShortEnd rows on s nanos
           reason h =
               let (m, p) = not-in-day s nanos (seconds-most seconds) small-nanos x h in
-              record { leap = x; leap-is = e; step-back = steps-back s nanos (seconds-most seconds) small-nanos x (leap-fits k _ _ _ x e) (leap-finite k _ _ _ x e) p; last-minute = m; past = p }
+              record {
+                leap = x;
+                leap-is = e;
+                step-back =
+                    steps-back s nanos (seconds-most seconds) small-nanos x (leap-fits k _ _ _ x e) (leap-finite k _ _ _ x e) p;
+                last-minute = m;
+                past = p;
+              }
 
           no-reason : timeInDay (s / 3600) (s % 3600 / 60) (secondWithNanos s nanos) x ≡ true → PastShortEnd rows on s nanos → ⊥
           no-reason h r =
               let z : x ≡ r .leap = same (r .leap) (r .leap-is) in
-              true≢false (sym h ∙ in-last-minute s nanos (seconds-most seconds) small-nanos (r .last-minute) x ∙ ap (λ (w : Float). lt (secondWithNanos s nanos) (add binary64 (decimal 60 0) w)) z ∙ r .past)
+              true≢false (sym h ∙ in-last-minute s nanos (seconds-most seconds) small-nanos (r .last-minute) x
+              ∙ ap (λ (w : Float). lt (secondWithNanos s nanos) (add binary64 (decimal 60 0) w)) z ∙ r .past)
             where
               same : (w : Float) → leapAtEndOfDay rows (on .year) (pos (on .month)) (pos (on .day)) ≡ answer w → x ≡ w
               same w q = cc
 
-          go : (b : Bool) → timeInDay (s / 3600) (s % 3600 / 60) (secondWithNanos s nanos) x ≡ b → Decided (utcFromCalendar rows (on .year) (on .month) (on .day) (s / 3600) (s % 3600 / 60) (secondWithNanos s nanos)) past-end
+          go : (b : Bool) → timeInDay (s / 3600) (s % 3600 / 60) (secondWithNanos s nanos) x ≡ b
+              → Decided (utcFromCalendar rows (on .year) (on .month) (on .day) (s / 3600) (s % 3600 / 60) (secondWithNanos s nanos)) past-end
           go false h = stops (reason h) (time-refused t (on .year) (on .month) (on .day) (s / 3600) (s % 3600 / 60) (secondWithNanos s nanos) v x e h)
-          go true h = passes (no-reason h) (reaches _ (time-given rows (on .year) (on .month) (on .day) (s / 3600) (s % 3600 / 60) (secondWithNanos s nanos) v x e h))
+          go true h = passes (no-reason h)
+              (reaches _ (time-given rows (on .year) (on .month) (on .day) (s / 3600) (s % 3600 / 60) (secondWithNanos s nanos) v x e h))
 
       -- on a day that has a date
       module _ (o : dayOutside n ≡ false) where
@@ -157,11 +166,14 @@ module _ (t : AnnouncedRows) where
     pub new-decided : Decided (byTable (λ rows. utcNew rows seconds nanos)) (newLadder t seconds nanos)
     new-decided = decided-if t (λ rows. utcNew rows seconds nanos) _ (λ k. go k (ltb nanos 1000000000) refl)
       where
-        by-day : tableOf t ≡ answer rows → ltb nanos 1000000000 ≡ true → (b : Bool) → dayOutside n ≡ b → Decided (utcNew rows seconds nanos) (refuse 6 (dayOutside n ≡ true) (refuse 1 (ltZ (on .year) (negsuc 4798) ≡ true) past-end))
+        by-day : tableOf t ≡ answer rows → ltb nanos 1000000000 ≡ true → (b : Bool) → dayOutside n ≡ b
+            → Decided (utcNew rows seconds nanos) (refuse 6 (dayOutside n ≡ true) (refuse 1 (ltZ (on .year) (negsuc 4798) ≡ true) past-end))
         by-day k e true o = stops o (day-refused rows seconds nanos e 6 (no-date o))
         by-day k e false o = passes (λ p. true≢false (sym p ∙ o)) (on-a-date e o k)
 
-        go : tableOf t ≡ answer rows → (b : Bool) → ltb nanos 1000000000 ≡ b → Decided (utcNew rows seconds nanos) (refuse 8 (1000000000 ≤ nanos) (refuse 6 (dayOutside n ≡ true) (refuse 1 (ltZ (on .year) (negsuc 4798) ≡ true) past-end)))
+        go : tableOf t ≡ answer rows → (b : Bool) → ltb nanos 1000000000 ≡ b
+            → Decided (utcNew rows seconds nanos)
+            (refuse 8 (1000000000 ≤ nanos) (refuse 6 (dayOutside n ≡ true) (refuse 1 (ltZ (on .year) (negsuc 4798) ≡ true) past-end)))
         go k false e = stops (ltb-false nanos 1000000000 e) (nanos-refused rows seconds nanos e)
         go k true e = passes (λ h. omega (arith, ltb-true nanos 1000000000 e)) (by-day k e (dayOutside n) refl)
 
@@ -178,14 +190,23 @@ module _ (t : AnnouncedRows) where
         by-step (row-down p r e) q = e
 
         minus-one : (x : Float) → leapAtEndOfDay rows (on .year) (pos (on .month)) (pos (on .day)) ≡ answer x → lt x nought ≡ true → x ≡ minus-one-f
-        minus-one x e q = let c = leap-came rows (on .year) (pos (on .month)) (pos (on .day)) x e in by-step (leap-is-step t rows k (on .year) (pos (on .month)) (pos (on .day)) (c .0) x h (c .1) e) q
+        minus-one x e q = let c = leap-came rows (on .year) (pos (on .month)) (pos (on .day)) x e in by-step
+            (leap-is-step t rows k (on .year) (pos (on .month)) (pos (on .day)) (c .0) x h (c .1) e) q
 
         there : PastShortEnd rows on s nanos → (s ≡ 86399) × (leapAtEndOfDay rows (on .year) (pos (on .month)) (pos (on .day)) ≡ answer minus-one-f)
         there r =
             let e = minus-one (r .leap) (r .leap-is) (r .step-back) in (
-              only-last-second s nanos (seconds-most seconds) below (r .last-minute) (sym (ap (λ (z : Float). lt (secondWithNanos s nanos) (add binary64 (decimal 60 0) z)) e) ∙ r .past),
+              only-last-second s nanos (seconds-most seconds) below (r .last-minute)
+                  (sym (ap (λ (z : Float). lt (secondWithNanos s nanos) (add binary64 (decimal 60 0) z)) e) ∙ r .past),
               r .leap-is ∙ ap answer e,
             )
 
         back : (s ≡ 86399) × (leapAtEndOfDay rows (on .year) (pos (on .month)) (pos (on .day)) ≡ answer minus-one-f) → PastShortEnd rows on s nanos
-        back (p, e) = record { leap = minus-one-f; leap-is = e; step-back = refl; last-minute = omega arith; past = last-second-past s nanos (seconds-most seconds) below p }
+        back (p, e) = record {
+          leap = minus-one-f;
+          leap-is = e;
+          step-back = refl;
+          last-minute = omega arith;
+          past =
+              last-second-past s nanos (seconds-most seconds) below p;
+        }

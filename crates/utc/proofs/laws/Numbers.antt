@@ -38,7 +38,8 @@ one-number o m n p q = cc
 
 -- the refusal of the date that an answer has
 pub date-refusal : (x y : Float) (c : CalendarFields) → julianToCalendar x y ≡ answer c → (validOf (c .date) ≡ answer tt) ⊎ (validOf (c .date) ≡ refusal 1)
-date-refusal x y c e = let (n, p) = day-of x y c e in subst (λ (d : CalendarDate). (validOf d ≡ answer tt) ⊎ (validOf d ≡ refusal 1)) (sym p) (gregorian-refusal n)
+date-refusal x y c e = let (n, p) =
+    day-of x y c e in subst (λ (d : CalendarDate). (validOf d ≡ answer tt) ⊎ (validOf d ≡ refusal 1)) (sym p) (gregorian-refusal n)
 
 -- THE NUMBERS of a text in any form, before the buffer is looked at
 pub text-numbers-by : (textForm : TextForm) (rows : List Row) (jd : JulianDate) (k : ℕ) → isoTextBy textForm rows jd ≡ refusal k → (k ≡ 6) ⊎ (k ≡ 1)
@@ -49,11 +50,14 @@ text-numbers-by textForm rows jd k e = go (julianToCalendar (jd .jd1) (jd .jd2))
     go (answer c) p = by-date (date-refusal (jd .jd1) (jd .jd2) c p)
       where
         by-date : (validOf (c .date) ≡ answer tt) ⊎ (validOf (c .date) ≡ refusal 1) → (k ≡ 6) ⊎ (k ≡ 1)
-        by-date (inl v) = absurd (not-both (isoTextBy textForm rows jd) _ k (fields-given-by textForm rows jd c p ∙ has-text-by rows (c .date) v (date-in-range (jd .jd1) (jd .jd2) c p .year-high) textForm (c .fraction)) e)
-        by-date (inr v) = inr (one-number (isoTextBy textForm rows jd) k 1 e (fields-given-by textForm rows jd c p ∙ text-refused-by rows (c .date) textForm (c .fraction) 1 v))
+        by-date (inl v) = absurd (not-both (isoTextBy textForm rows jd) _ k
+            (fields-given-by textForm rows jd c p ∙ has-text-by rows (c .date) v (date-in-range (jd .jd1) (jd .jd2) c p .year-high) textForm (c .fraction)) e)
+        by-date (inr v) = inr (one-number (isoTextBy textForm rows jd) k 1 e
+            (fields-given-by textForm rows jd c p ∙ text-refused-by rows (c .date) textForm (c .fraction) 1 v))
 
 -- and of a call
-pub call-numbers-by : (textForm : TextForm) (rows : List Row) (jd : JulianDate) (l out : List ℕ) (k : ℕ) → TextCall (isoTextBy textForm rows jd) l (Refused k) out → (k ≡ 6) ⊎ ((k ≡ 1) ⊎ (k ≡ 11))
+pub call-numbers-by : (textForm : TextForm) (rows : List Row) (jd : JulianDate) (l out : List ℕ) (k : ℕ)
+    → TextCall (isoTextBy textForm rows jd) l (Refused k) out → (k ≡ 6) ⊎ ((k ≡ 1) ⊎ (k ≡ 11))
 unfolding textOutcome written textWritten onward
 call-numbers-by textForm rows jd l out k c = go (isoTextBy textForm rows jd) refl (c .says)
   where
@@ -70,7 +74,8 @@ call-numbers-by textForm rows jd l out k c = go (isoTextBy textForm rows jd) ref
     go (refusal n) p e = let q : n ≡ k = cc in first (text-numbers-by textForm rows jd k (subst (λ (j : ℕ). isoTextBy textForm rows jd ≡ refusal j) q p))
 
 -- ---- DEMAND 1: a part that is not finite is refused with 6
-pub not-finite-by : (textForm : TextForm) (rows : List Row) (jd : JulianDate) → finite (jd .jd1) && finite (jd .jd2) ≡ false → isoTextBy textForm rows jd ≡ refusal 6
+pub not-finite-by : (textForm : TextForm) (rows : List Row) (jd : JulianDate) → finite (jd .jd1) && finite (jd .jd2) ≡ false
+    → isoTextBy textForm rows jd ≡ refusal 6
 unfolding julianToCalendar onward
 not-finite-by textForm rows jd e = go (accepted (jd .jd1) (jd .jd2)) refl
   where
@@ -84,7 +89,8 @@ not-finite-by textForm rows jd e = go (accepted (jd .jd1) (jd .jd2)) refl
     go false h = fields-refused-by textForm rows jd 6 (rw (refused (jd .jd1) (jd .jd2) h))
 
 -- ---- every form of text refuses alike
-pub refused-alike : (textForm other : TextForm) (rows : List Row) (jd : JulianDate) (k : ℕ) → isoTextBy textForm rows jd ≡ refusal k → isoTextBy other rows jd ≡ refusal k
+pub refused-alike : (textForm other : TextForm) (rows : List Row) (jd : JulianDate) (k : ℕ) → isoTextBy textForm rows jd ≡ refusal k
+    → isoTextBy other rows jd ≡ refusal k
 refused-alike textForm other rows jd k e = go (julianToCalendar (jd .jd1) (jd .jd2)) refl
   where
     both : (n : ℕ) → isoTextBy textForm rows jd ≡ refusal n → isoTextBy other rows jd ≡ refusal n → isoTextBy other rows jd ≡ refusal k
@@ -96,8 +102,11 @@ refused-alike textForm other rows jd k e = go (julianToCalendar (jd .jd1) (jd .j
       where
         by-date : (validOf (c .date) ≡ answer tt) ⊎ (validOf (c .date) ≡ refusal 1) → isoTextBy other rows jd ≡ refusal k
         by-date (inl v) =
-            absurd (not-both (isoTextBy textForm rows jd) _ k (fields-given-by textForm rows jd c p ∙ has-text-by rows (c .date) v (date-in-range (jd .jd1) (jd .jd2) c p .year-high) textForm (c .fraction)) e)
-        by-date (inr v) = both 1 (fields-given-by textForm rows jd c p ∙ text-refused-by rows (c .date) textForm (c .fraction) 1 v) (fields-given-by other rows jd c p ∙ text-refused-by rows (c .date) other (c .fraction) 1 v)
+            absurd (not-both (isoTextBy textForm rows jd) _ k
+            (fields-given-by textForm rows jd c p
+            ∙ has-text-by rows (c .date) v (date-in-range (jd .jd1) (jd .jd2) c p .year-high) textForm (c .fraction)) e)
+        by-date (inr v) = both 1 (fields-given-by textForm rows jd c p ∙ text-refused-by rows (c .date) textForm (c .fraction) 1 v)
+            (fields-given-by other rows jd c p ∙ text-refused-by rows (c .date) other (c .fraction) 1 v)
 
 -- ---- of document 01's
 pub text-numbers : (rows : List Row) (jd : JulianDate) (k : ℕ) → isoText rows jd ≡ refusal k → (k ≡ 6) ⊎ (k ≡ 1)

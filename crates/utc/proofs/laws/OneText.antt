@@ -35,19 +35,23 @@ use Rattle.utc.proofs.laws.Alike.{alike, exactly, buffer}
 case : {A : Type 0} (b c : Bool) (x y : A) → b ≡ c → cond b x y ≡ cond c x y
 case b c x y e = ap (λ (d : Bool). cond d x y) e
 
-put : (t l out : List ℕ) (r : TextAnswer) → textOutcome r ≡ cond (leb (length t) (length l)) (answer (length t)) (refusal 11) → out ≡ cond (leb (length t) (length l)) (t ++ drop (length t) l) l → Put t l r out
+put : (t l out : List ℕ) (r : TextAnswer) → textOutcome r ≡ cond (leb (length t) (length l)) (answer (length t)) (refusal 11)
+    → out ≡ cond (leb (length t) (length l)) (t ++ drop (length t) l) l → Put t l r out
 put t l out r = go (leb (length t) (length l)) refl
   where
-    go : (b : Bool) → leb (length t) (length l) ≡ b → textOutcome r ≡ cond b (answer (length t)) (refusal 11) → out ≡ cond b (t ++ drop (length t) l) l → Put t l r out
+    go : (b : Bool) → leb (length t) (length l) ≡ b → textOutcome r ≡ cond b (answer (length t)) (refusal 11) → out ≡ cond b (t ++ drop (length t) l) l
+        → Put t l r out
     go true p e q = fits-in (leb-true (length t) (length l) p) e q
     go false p e q = too-long (leb-false (length t) (length l) p) e q
 
-module _ (rows : List Row) (cases : (y m d : ℤ) (x : Float) → leapAtEndOfDay rows y m d ≡ answer x → Leap x) (textForm : TextForm) (p : Promise) (good : GoodForm textForm p) (sum : ℤ) (range : GridSumInRange sum) where
+module _ (rows : List Row) (cases : (y m d : ℤ) (x : Float) → leapAtEndOfDay rows y m d ≡ answer x → Leap x) (textForm : TextForm) (p : Promise)
+    (good : GoodForm textForm p) (sum : ℤ) (range : GridSumInRange sum) where
   demand : TextDemand p rows sum (sumText textForm rows sum)
   demand = sum-demand rows cases textForm p good sum range
 
   -- a call for a division is one for the sum
-  as-sum : (jd : JulianDate) → Division sum jd → (l : List ℕ) (r : TextAnswer) (out : List ℕ) → TextCall (isoTextBy textForm rows jd) l r out → TextCall (sumText textForm rows sum) l r out
+  as-sum : (jd : JulianDate) → Division sum jd → (l : List ℕ) (r : TextAnswer) (out : List ℕ) → TextCall (isoTextBy textForm rows jd) l r out
+      → TextCall (sumText textForm rows sum) l r out
   as-sum jd d l r out c = call-as _ _ l out r (sym (of-sum textForm rows sum range jd d)) c
 
   pub text-for-every-buffer-by : OneText textForm p rows sum
@@ -72,10 +76,12 @@ module _ (rows : List Row) (cases : (y m d : ℤ) (x : Float) → leapAtEndOfDay
           (exactly p rows sum (sumText textForm rows sum) l out r demand s ∙ case (tooEarly sum) false (refusal 1) _ e)
           (buffer p rows sum (sumText textForm rows sum) l out r demand s ∙ case (tooEarly sum) false l _ e),
     );
-    alike = λ jd d l r out c jd' d' l' r' out' c' h. alike (sumText textForm rows sum) l out l' out' r r' h (as-sum jd d l r out c) (as-sum jd' d' l' r' out' c');
+    alike = λ jd d l r out c jd' d' l' r' out' c' h. alike (sumText textForm rows sum) l out l' out' r r' h (as-sum jd d l r out c)
+        (as-sum jd' d' l' r' out' c');
   }
 
-pub table-text-for-every-buffer : (t : AnnouncedRows) (rows : List Row) → tableOf t ≡ answer rows → (sum : ℤ) → GridSumInRange sum → OneText standardForm promise01 rows sum
+pub table-text-for-every-buffer : (t : AnnouncedRows) (rows : List Row) → tableOf t ≡ answer rows → (sum : ℤ) → GridSumInRange sum
+    → OneText standardForm promise01 rows sum
 table-text-for-every-buffer t rows p = text-for-every-buffer-by rows (table-leaps t rows p) standardForm promise01 good01
 
 pub text-for-every-buffer : (sum : ℤ) → GridSumInRange sum → OneText standardForm promise01 fixed sum

@@ -55,7 +55,8 @@ not-minus-zero f t = add-unsigned f t (record { fit = tt; sign = refl }) .sign
 
 -- ---- the parts
 abbrev quotient : ℕ → ℕ → Float → Float → Float
-quotient hour minute second leap = div binary64 (add binary64 (mul binary64 (decimal 60 0) (ofInt binary64 (pos (60 * hour + minute)))) second) (add binary64 secondsPerDay leap)
+quotient hour minute second leap =
+    div binary64 (add binary64 (mul binary64 (decimal 60 0) (ofInt binary64 (pos (60 * hour + minute)))) second) (add binary64 secondsPerDay leap)
 
 -- j is midnight of Modified Julian Date n, exactly, and the part q of its day
 pub record MidnightAnd (n : ℤ) (q : Float) (j : JulianDate) : Type 0 where
@@ -64,14 +65,18 @@ pub record MidnightAnd (n : ℤ) (q : Float) (j : JulianDate) : Type 0 where
   pub not-minus : minusZero (j .jd2) ≡ false
 
 -- THE MEANING of UTC from the calendar: midnight of the date, and the seconds of the day over its length, 86,400 s plus leap, rounded once
-pub meaning : (rows : List Row) (y : ℤ) (m d hour minute : ℕ) (second : Float) (n : ℤ) (leap : Float) → SFits w32 y → mjdOf y (pos m) (pos d) ≡ answer n → leapAtEndOfDay rows y (pos m) (pos d) ≡ answer leap
-    → timeInDay hour minute second leap ≡ true → (j : JulianDate) × (utcFromCalendar rows y m d hour minute second ≡ answer j) × MidnightAnd n (quotient hour minute second leap) j
+pub meaning : (rows : List Row) (y : ℤ) (m d hour minute : ℕ) (second : Float) (n : ℤ) (leap : Float) → SFits w32 y → mjdOf y (pos m) (pos d) ≡ answer n
+    → leapAtEndOfDay rows y (pos m) (pos d) ≡ answer leap
+    → timeInDay hour minute second leap ≡ true → (j : JulianDate) × (utcFromCalendar rows y m d hour minute second ≡ answer j)
+    × MidnightAnd n (quotient hour minute second leap) j
 meaning rows y m d hour minute second n leap f e l h =
     let v = mjd-valid y (pos m) (pos d) n e in
     let q = quotient hour minute second leap in
     let is : mjdNumber y (pos m) (pos d) ≡ n = same-answer (sym (mjd-given y (pos m) (pos d) v) ∙ e) in
-    let t = div-fits binary64 (add binary64 (mul binary64 (decimal 60 0) (ofInt binary64 (pos (60 * hour + minute)))) second) (add binary64 secondsPerDay leap) in (
+    let t = div-fits binary64 (add binary64 (mul binary64 (decimal 60 0) (ofInt binary64 (pos (60 * hour + minute)))) second)
+    (add binary64 secondsPerDay leap) in (
       julian (add binary64 mjdZeroPoint (ofInt binary64 n)) (add binary64 nought q),
-      time-given rows y m d hour minute second v leap l h ∙ ap (λ (k : ℤ). answer (julian (add binary64 mjdZeroPoint (ofInt binary64 k)) (add binary64 nought q))) is,
+      time-given rows y m d hour minute second v leap l h
+          ∙ ap (λ (k : ℤ). answer (julian (add binary64 mjdZeroPoint (ofInt binary64 k)) (add binary64 nought q))) is,
       record { first = midnight-sum n (mjd-in-42-bits y (pos m) (pos d) n f e); second = λ p m. quotient-kept t; not-minus = not-minus-zero q t },
     )

@@ -1,7 +1,7 @@
 -- A day that ends a second early: in its last minute UTC from the calendar takes the seconds from 0.0 to below 59.0, and refuses the others with 4.
 -- Assumes nothing.
 use mathlib.Core.Path.{_≡_, refl, _∙_}
-use mathlib.Core.Bool.{true, false, cond, _&&_}
+use mathlib.Core.Bool.{true, false, _&&_}
 use mathlib.Core.List.{List}
 use Prim.Native.Nat.{ℕ, _+_, _*_}
 use lib.IntN.{ℤ, pos}
@@ -27,12 +27,15 @@ pub last-minute : (second : Float) → timeInDay 23 59 second minus-one-f ≡ le
 unfolding timeInDay
 last-minute second = rw limit
 
-module _ (rows : List Row) (y : ℤ) (m d : ℕ) (v : validDate y (pos m) (pos d) ≡ answer tt) (e : leapAtEndOfDay rows y (pos m) (pos d) ≡ answer minus-one-f) (second : Float) where
+module _ (rows : List Row) (y : ℤ) (m d : ℕ) (v : validDate y (pos m) (pos d) ≡ answer tt) (e : leapAtEndOfDay rows y (pos m) (pos d) ≡ answer minus-one-f)
+    (second : Float) where
   pub short-day-refused : le nought second && lt second (decimal 59 0) ≡ false → utcFromCalendar rows y m d 23 59 second ≡ refusal 4
   unfolding midnightPlus dayFraction onward
   short-day-refused h = on-date rows y m d 23 59 second v minus-one-f e ∙ rw (last-minute second ∙ h)
 
   pub short-day-taken : le nought second && lt second (decimal 59 0) ≡ true
       → utcFromCalendar rows y m d 23 59 second
-      ≡ answer (julian (add binary64 mjdZeroPoint (ofInt binary64 (mjdNumber y (pos m) (pos d)))) (add binary64 nought (div binary64 (add binary64 (mul binary64 (decimal 60 0) (ofInt binary64 (pos (60 * 23 + 59)))) second) (add binary64 secondsPerDay minus-one-f))))
+      ≡ answer (julian (add binary64 mjdZeroPoint (ofInt binary64 (mjdNumber y (pos m) (pos d))))
+      (add binary64 nought (div binary64 (add binary64 (mul binary64 (decimal 60 0) (ofInt binary64 (pos (60 * 23 + 59)))) second)
+      (add binary64 secondsPerDay minus-one-f))))
   short-day-taken h = time-given rows y m d 23 59 second v minus-one-f e (last-minute second ∙ h)

@@ -32,7 +32,9 @@ fraction-fits u = round-fits binary64 false u (2 ^ 52)
 abbrev pub sumText : TextForm → List Row → ℤ → Outcome (List ℕ)
 sumText textForm rows sum = dayTextBy textForm rows (dateOf (exactDay sum)) (fractionOf (exactFraction sum))
 
-pub of-sum : (textForm : TextForm) (rows : List Row) (sum : ℤ) → GridSumInRange sum → (jd : JulianDate) → Division sum jd → isoTextBy textForm rows jd ≡ sumText textForm rows sum
+pub of-sum : (textForm : TextForm) (rows : List Row) (sum : ℤ) → GridSumInRange sum → (jd : JulianDate) → Division sum jd
+    → isoTextBy textForm rows jd ≡ sumText textForm rows sum
 of-sum textForm rows sum r jd d =
     subst (λ (s : ℤ). isoTextBy textForm rows jd ≡ sumText textForm rows s) (d .sum-is)
-    (fields-given-by textForm rows jd _ (exact-date (jd .jd1) (jd .jd2) (d .first-float) (d .second-float) (d .first) (d .second) (subst GridSumInRange (sym (d .sum-is)) r)))
+    (fields-given-by textForm rows jd _
+    (exact-date (jd .jd1) (jd .jd2) (d .first-float) (d .second-float) (d .first) (d .second) (subst GridSumInRange (sym (d .sum-is)) r)))

@@ -13,7 +13,6 @@ use Rattle.refusals.proofs.Onward.{went, stopped}
 use Rattle.calendar.specs.Calendar.{date}
 use Rattle.calendar.specs.declared.CalendarDate.{CalendarDate}
 use Rattle.calendar.proofs.Years.{validOf, gregorian-in-range}
-use Rattle.calendar.proofs.NextDates.{by}
 use Rattle.julian.specs.day_number.DayNumber.{dayOf}
 use Rattle.julian.specs.declared.JulianDate.{JulianDate}
 use Rattle.julian.specs.declared.CalendarFields.{CalendarFields}
@@ -52,7 +51,8 @@ module _ (t : AnnouncedRows) where
     abbrev F : CalendarFields
     F = record { date = D; fraction = dayOf (jd .jd1) (jd .jd2) .fraction }
 
-    has-text : julianToCalendar (jd .jd1) (jd .jd2) ≡ answer F → (v : validOf D ≡ answer tt) → (text : List ℕ) × (dayTextBy textForm rows D (F .fraction) ≡ answer text)
+    has-text : julianToCalendar (jd .jd1) (jd .jd2) ≡ answer F → (v : validOf D ≡ answer tt) → (text : List ℕ)
+        × (dayTextBy textForm rows D (F .fraction) ≡ answer text)
     has-text p v = (_, has-text-by rows D v (gregorian-in-range (dayOf (jd .jd1) (jd .jd2) .day) .year-high) textForm (F .fraction))
 
     no-text : (k : ℕ) → validOf D ≡ refusal k → dayTextBy textForm rows D (F .fraction) ≡ refusal k
@@ -70,7 +70,8 @@ module _ (t : AnnouncedRows) where
       abbrev TooLong : Type 0
       TooLong = (text : List ℕ) × (isoTextBy textForm rows jd ≡ answer text) × (room < length text)
 
-      by-room : (text : List ℕ) (rule : Rule) → isoTextBy textForm rows jd ≡ answer text → Decided (withRule (textWritten text room) rule) (refuse 11 TooLong done)
+      by-room : (text : List ℕ) (rule : Rule) → isoTextBy textForm rows jd ≡ answer text
+          → Decided (withRule (textWritten text room) rule) (refuse 11 TooLong done)
       unfolding withRule textWritten onward
       by-room text rule p = go (leb (length text) room) refl
         where
@@ -88,9 +89,11 @@ module _ (t : AnnouncedRows) where
       unfolding textByRule writtenByRule withRule
       written-decided = under-table t _
           (λ n e. stopped _ (stopped _ e))
-          (λ e. subst (λ o. Decided (writtenByRule o room) (partsThen (jd .jd1) (jd .jd2) (refuse 11 TooLong done))) (sym (went (λ rows. textByRule textForm rows jd) e)) by-rows)
+          (λ e. subst (λ o. Decided (writtenByRule o room) (partsThen (jd .jd1) (jd .jd2) (refuse 11 TooLong done)))
+          (sym (went (λ rows. textByRule textForm rows jd) e)) by-rows)
         where
-          with-text : (text : List ℕ) → dayTextBy textForm rows D (F .fraction) ≡ answer text → julianToCalendar (jd .jd1) (jd .jd2) ≡ answer F → writtenByRule (textByRule textForm rows jd) room ≡ withRule (textWritten text room) (ruleOn rows D)
+          with-text : (text : List ℕ) → dayTextBy textForm rows D (F .fraction) ≡ answer text → julianToCalendar (jd .jd1) (jd .jd2) ≡ answer F
+              → writtenByRule (textByRule textForm rows jd) room ≡ withRule (textWritten text room) (ruleOn rows D)
           with-text text q p = went _ (went _ p ∙ went _ q)
 
           by-rows : Decided (writtenByRule (textByRule textForm rows jd) room) (partsThen (jd .jd1) (jd .jd2) (refuse 11 TooLong done))
@@ -98,18 +101,23 @@ module _ (t : AnnouncedRows) where
               (λ p. stopped _ (stopped _ p))
               (λ p v. stopped _ (went _ p ∙ stopped _ (no-text 1 v)))
               (λ p v. let (text, q) = has-text p v in
-              subst (λ o. Decided o (refuse 11 TooLong done)) (sym (with-text text q p)) (by-room text (ruleOn rows D) (fields-given-by textForm rows jd F p ∙ q)))
+              subst (λ o. Decided o (refuse 11 TooLong done)) (sym (with-text text q p))
+              (by-room text (ruleOn rows D) (fields-given-by textForm rows jd F p ∙ q)))
 
-    pub text-call-decided : (l out : List ℕ) (r : TextByRule) → TextRuleCall (byTable (λ rows. textByRule textForm rows jd)) l r out → Decided (textByRuleOutcome r) (textCallLadder textForm t jd (length l))
+    pub text-call-decided : (l out : List ℕ) (r : TextByRule) → TextRuleCall (byTable (λ rows. textByRule textForm rows jd)) l r out
+        → Decided (textByRuleOutcome r) (textCallLadder textForm t jd (length l))
     text-call-decided l out r c = subst (λ o. Decided o (textCallLadder textForm t jd (length l))) (sym (c .says)) (written-decided (length l))
 
   -- ---- its three calls: `to_iso8601`, `to_iso8601_half_even` and `to_iso8601_expanded`
   module _ (jd : JulianDate) (l out : List ℕ) (r : TextByRule) where
-    pub iso-decided : TextRuleCall (byTable (λ rows. textByRule standardForm rows jd)) l r out → Decided (textByRuleOutcome r) (textCallLadder standardForm t jd (length l))
+    pub iso-decided : TextRuleCall (byTable (λ rows. textByRule standardForm rows jd)) l r out
+        → Decided (textByRuleOutcome r) (textCallLadder standardForm t jd (length l))
     iso-decided = text-call-decided standardForm jd l out r
 
-    pub half-even-decided : TextRuleCall (byTable (λ rows. textByRule halfEvenForm rows jd)) l r out → Decided (textByRuleOutcome r) (textCallLadder halfEvenForm t jd (length l))
+    pub half-even-decided : TextRuleCall (byTable (λ rows. textByRule halfEvenForm rows jd)) l r out
+        → Decided (textByRuleOutcome r) (textCallLadder halfEvenForm t jd (length l))
     half-even-decided = text-call-decided halfEvenForm jd l out r
 
-    pub expanded-decided : TextRuleCall (byTable (λ rows. textByRule expandedForm rows jd)) l r out → Decided (textByRuleOutcome r) (textCallLadder expandedForm t jd (length l))
+    pub expanded-decided : TextRuleCall (byTable (λ rows. textByRule expandedForm rows jd)) l r out
+        → Decided (textByRuleOutcome r) (textCallLadder expandedForm t jd (length l))
     expanded-decided = text-call-decided expandedForm jd l out r

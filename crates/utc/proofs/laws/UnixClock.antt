@@ -1,7 +1,7 @@
--- The time of a Unix second on its day: hour, minute and second are always good, and the second is below 60; so a time is outside its day only in the last minute of a day that
--- ends in a step back, from 60 s plus the leap on; with a leap of -1.0 s that is second 86399. Assumes nothing.
-use mathlib.Core.Path.{_≡_, refl, sym, ap, _∙_, subst, subst₂}
-use mathlib.Core.Bool.{Bool, true, false, cond, true≢false}
+-- The time of a Unix second on its day: hour, minute and second are always good, and the second is below 60; so a time is outside its day only in the last
+-- minute of a day that ends in a step back, from 60 s plus the leap on; with a leap of -1.0 s that is second 86399. Assumes nothing.
+use mathlib.Core.Path.{_≡_, refl, sym, ap, _∙_, subst₂}
+use mathlib.Core.Bool.{Bool, true, false, true≢false}
 use Prim.Native.Nat.{ℕ, _+_, _*_, _/_, _%_, _≤_, _<_}
 use native.Mathlib.Nat.{add-mul, mul-le-mul-right}
 use native.Mathlib.Omega.{arith}
@@ -38,7 +38,8 @@ between-finite (inf false) (inf s) f h k = absurd f
 between-finite (inf false) (fin s m e) f h k = absurd k
 between-finite (fin s m e) c f h k = tt
 
-below-by : (x y z : Float) → T (fits binary64 x) → T (fits binary64 y) → T (fits binary64 z) → T (finite x) → T (finite y) → T (finite z) → T (lt x y) → T (le y z) → T (lt x z)
+below-by : (x y z : Float) → T (fits binary64 x) → T (fits binary64 y) → T (fits binary64 z) → T (finite x) → T (finite y) → T (finite z) → T (lt x y)
+    → T (le y z) → T (lt x z)
 below-by x y z f g h a b c p q =
     let v = own-val x (own x f a) in
     let w = own-val y (own y g b) in
@@ -48,7 +49,8 @@ below-by x y z f g h a b c p q =
     chain : (p n q m r o : ℕ) → p + m < q + n → q + o ≤ r + m → p + o < r + n
     chain p n q m r o h k = omega arith
 
-below-any : (x y z : Float) → T (fits binary64 x) → T (fits binary64 y) → T (fits binary64 z) → T (finite x) → T (finite y) → T (lt x y) → T (le y z) → T (lt x z)
+below-any : (x y z : Float) → T (fits binary64 x) → T (fits binary64 y) → T (fits binary64 z) → T (finite x) → T (finite y) → T (lt x y) → T (le y z)
+    → T (lt x z)
 unfolding le lt eq
 below-any nan y z f g h a b p q = absurd a
 below-any (inf s) y z f g h a b p q = absurd a
@@ -59,7 +61,8 @@ below-any (fin s m e) (fin t n d) (inf true) f g h a b p q = absurd q
 below-any (fin s m e) (fin t n d) (inf false) f g h a b p q = tt
 below-any (fin s m e) (fin t n d) (fin u o c) f g h a b p q = below-by (fin s m e) (fin t n d) (fin u o c) f g h a b tt p q
 
-first-below : (x y z : Float) → T (fits binary64 x) → T (fits binary64 y) → T (fits binary64 z) → T (finite x) → T (finite y) → T (finite z) → T (le x y) → T (lt y z) → T (lt x z)
+first-below : (x y z : Float) → T (fits binary64 x) → T (fits binary64 y) → T (fits binary64 z) → T (finite x) → T (finite y) → T (finite z) → T (le x y)
+    → T (lt y z) → T (lt x z)
 first-below x y z f g h a b c p q =
     let v = own-val x (own x f a) in
     let w = own-val y (own y g b) in
@@ -178,7 +181,8 @@ module _ (k nanos : ℕ) (hk : k ≤ 59) (hn : nanos ≤ 999999999) where
   up-to K hK h =
       let v = own-val q (own q (div-fits binary64 _ _) q-finite) in
       let w = own-val most (own most (div-fits binary64 _ _) most-finite) in
-      rounds-mono L-pos L-pos (high _ _ _ _ (le-says L-pos v w (part-high nanos hn))) (add-rounds binary64 L-pos (whole k hk) v) (add-rounds binary64 L-pos (whole K hK) w)
+      rounds-mono L-pos L-pos (high _ _ _ _ (le-says L-pos v w (part-high nanos hn))) (add-rounds binary64 L-pos (whole k hk) v)
+      (add-rounds binary64 L-pos (whole K hK) w)
     where
       joined : (p n P N : ℕ) → k * L ≤ K * L → p + N ≤ P + n → (k * L + p) + (0 * L + N) ≤ (K * L + P) + (0 * L + n)
       joined p n P N g h = omega arith
@@ -195,17 +199,20 @@ module _ (k nanos : ℕ) (hk : k ≤ 59) (hn : nanos ≤ 999999999) where
   sum-finite = between-finite (sum k nanos) last last-finite sum-low sum-high
 
   below-60 : T (lt (sum k nanos) (decimal 60 0))
-  below-60 = first-below (sum k nanos) last (decimal 60 0) (add-fits binary64 _ _) (add-fits binary64 _ _) sixty-fits sum-finite last-finite sixty-finite sum-high last-below
+  below-60 = first-below (sum k nanos) last (decimal 60 0) (add-fits binary64 _ _) (add-fits binary64 _ _) sixty-fits sum-finite last-finite sixty-finite
+      sum-high last-below
 
   below-59 : k ≤ 58 → T (lt (sum k nanos) (decimal 59 0))
   below-59 h =
-      first-below (sum k nanos) (sum 58 999999999) (decimal 59 0) (add-fits binary64 _ _) (add-fits binary64 _ _) fifty-nine-fits sum-finite second-last-finite fifty-nine-finite (up-to 58 (omega arith) h) second-last-below
+      first-below (sum k nanos) (sum 58 999999999) (decimal 59 0) (add-fits binary64 _ _) (add-fits binary64 _ _) fifty-nine-fits sum-finite
+      second-last-finite fifty-nine-finite (up-to 58 (omega arith) h) second-last-below
 
   from-59 : k ≡ 59 → lt (sum k nanos) (decimal 59 0) ≡ false
   from-59 e =
       let v = own-val q (own q (div-fits binary64 _ _) q-finite) in
       not-below (sum k nanos) (decimal 59 0) (add-fits binary64 _ _) fifty-nine-fits sum-finite fifty-nine-finite
-      (rounds-mono (lit< tt) L-pos (low _ _ (ap (λ (j : ℕ). j * L) e) (le-says L-pos nought-val v (part-low nanos hn))) fifty-nine-rounds (add-rounds binary64 L-pos (whole k hk) v))
+      (rounds-mono (lit< tt) L-pos (low _ _ (ap (λ (j : ℕ). j * L) e) (le-says L-pos nought-val v (part-low nanos hn))) fifty-nine-rounds
+      (add-rounds binary64 L-pos (whole k hk) v))
     where
       low : (p n : ℕ) → k * L ≡ 59 * L → 0 * L + n ≤ p + 0 * L → 59 * L + (0 * L + n) * 1 ≤ (k * L + p) * 1 + 0 * L
       low p n g h = omega arith
@@ -213,7 +220,8 @@ module _ (k nanos : ℕ) (hk : k ≤ 59) (hn : nanos ≤ 999999999) where
   -- below 60 s and a leap that is not below 0
   below-more : (x : Float) → T (fits binary64 x) → T (finite x) → lt x nought ≡ false → T (lt (sum k nanos) (add binary64 (decimal 60 0) x))
   unfolding round
-  below-more x f g e = below-any (sum k nanos) (decimal 60 0) (add binary64 (decimal 60 0) x) (add-fits binary64 _ _) sixty-fits (add-fits binary64 _ _) sum-finite sixty-finite below-60 up-from
+  below-more x f g e = below-any (sum k nanos) (decimal 60 0) (add binary64 (decimal 60 0) x) (add-fits binary64 _ _) sixty-fits (add-fits binary64 _ _)
+      sum-finite sixty-finite below-60 up-from
     where
       sixty-rounds : Rounds binary64 (decimal 60 0) 60 0 1
       sixty-rounds = record { sign = false; size = 60; eq = refl; is = refl }
@@ -285,7 +293,8 @@ module _ (s nanos : ℕ) (hs : s < 86400) (hn : nanos < 1000000000) where
       go : (b : Bool) → eqb (s % 60) 59 ≡ b → s ≡ 86399
       go true p = omega (arith, eqb-true (s % 60) 59 p)
       go false p =
-          absurd (true≢false (sym (is-true _ (below-59 (s % 60) nanos (omega arith) (omega arith) (fewer (s % 60) (omega arith) (eqb-false (s % 60) 59 p)))) ∙ sym (ap (lt (secondWithNanos s nanos)) fifty-nine) ∙ e))
+          absurd (true≢false (sym (is-true _ (below-59 (s % 60) nanos (omega arith) (omega arith) (fewer (s % 60) (omega arith) (eqb-false (s % 60) 59 p))))
+          ∙ sym (ap (lt (secondWithNanos s nanos)) fifty-nine) ∙ e))
         where
           fewer : (k : ℕ) → k ≤ 59 → (k ≡ 59 → ⊥) → k ≤ 58
           fewer k g n = go-by (leb k 58) refl

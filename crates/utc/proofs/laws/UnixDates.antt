@@ -1,5 +1,5 @@
--- The calendar's date of a Unix day, in whole numbers: the sum of its parts is exact, so that 6 and 1 go by the count of days alone, and the date is that of day n + 2440588.
--- Assumes nothing.
+-- The calendar's date of a Unix day, in whole numbers: the sum of its parts is exact, so that 6 and 1 go by the count of days alone, and the date is that of
+-- day n + 2440588. Assumes nothing.
 use mathlib.Core.Path.{_≡_, refl, ap, _∙_}
 use mathlib.Core.Bool.{Bool, true, false, not, _&&_, _||_}
 use Prim.Native.Nat.{ℕ, suc, _+_, _*_, _^_, _≤_, _<_}
@@ -7,7 +7,7 @@ use native.Mathlib.Omega.{arith}
 use lib.Dec.{T, leb, ltb, lit≤, lit<}
 use lib.IntN.{ℤ, pos, negsuc, _+ℤ_}
 use lib.Signed.{ltZ}
-use lib.Ieee.{Float, binary64, fits, round, ofBits, ofInt, add, le}
+use lib.Ieee.{Float, binary64, fits, round, ofBits, ofInt, add}
 use lib.Ieee.Fits.{round-fits}
 use borrow.Author.Tests.{ltb-true, ltb-false, le-leb, lt-leb, le-ltb}
 use mir.Syntax.{w64}
@@ -95,16 +95,22 @@ module _ (seconds : ℤ) (f : SFits w64 seconds) where
 
   -- the day
   module _ (e : accepted unixEpochJd u ≡ true) where
-    balance : (a b c d units : ℕ) → units < 2 ^ 52 → 4881175 * 2 ^ 51 + a * 2 ^ 52 + 2 ^ 51 + b * 2 ^ 52 ≡ 0 * 2 ^ 51 + c * 2 ^ 52 + d * 2 ^ 52 + units → a + 2440588 + b ≡ c + d
+    balance : (a b c d units : ℕ) → units < 2 ^ 52 → 4881175 * 2 ^ 51 + a * 2 ^ 52 + 2 ^ 51 + b * 2 ^ 52 ≡ 0 * 2 ^ 51 + c * 2 ^ 52 + d * 2 ^ 52 + units
+        → a + 2440588 + b ≡ c + d
     balance a b c d units h k = omega arith
 
     pub unix-day-is : dayOf unixEpochJd u .day ≡ n +ℤ pos 2440588
     unfolding dayOf
     unix-day-is =
         let s = small-day in
-        let p = grid-pair unixEpochJd u epoch-fits (integer-fits n) e (4881175 * 2 ^ 51) (0 * 2 ^ 51) (plusZ n * 2 ^ 52) (minusZ n * 2 ^ 52) (val-scale (2 ^ 51) epoch-val) (val-scale (2 ^ 52) u-val) (omega arith) (omega arith) (omega arith) (omega arith) in
+        let p = grid-pair unixEpochJd u epoch-fits (integer-fits n) e (4881175 * 2 ^ 51) (0 * 2 ^ 51) (plusZ n * 2 ^ 52) (minusZ n * 2 ^ 52)
+        (val-scale (2 ^ 51) epoch-val) (val-scale (2 ^ 52) u-val) (omega arith) (omega arith) (omega arith) (omega arith) in
         same-integer (dayNumber unixEpochJd u) (n +ℤ pos 2440588)
-        (omega (arith, balance (plusZ n) (minusZ (dayNumber unixEpochJd u)) (minusZ n) (plusZ (dayNumber unixEpochJd u)) (p .units) (p .below) (p .total), add-pair n (pos 2440588)))
+        (omega (
+          arith,
+          balance (plusZ n) (minusZ (dayNumber unixEpochJd u)) (minusZ n) (plusZ (dayNumber unixEpochJd u)) (p .units) (p .below) (p .total),
+          add-pair n (pos 2440588),
+        ))
 
     -- and its date
     low-day : (z : ℤ) (a b : ℕ) → plusZ z + (b + 0) ≡ minusZ z + (a + 2440588) → b ≤ 2509157 → ltZ z (negsuc 68568) ≡ false
@@ -126,4 +132,6 @@ module _ (seconds : ℤ) (f : SFits w64 seconds) where
     pub unix-date-is : dayOutside n ≡ false → gregorianDate (dayOf unixEpochJd u .day) ≡ dateOf (n +ℤ pos 2440588)
     unix-date-is o =
         let r = from-first n o in
-        ap gregorianDate unix-day-is ∙ gregorian-is-date-of-day (n +ℤ pos 2440588) (low-day (n +ℤ pos 2440588) (plusZ n) (minusZ n) (add-pair n (pos 2440588)) (r .0)) (high-day (n +ℤ pos 2440588) (plusZ n) (minusZ n) (add-pair n (pos 2440588)) (r .1))
+        ap gregorianDate unix-day-is ∙ gregorian-is-date-of-day (n +ℤ pos 2440588)
+        (low-day (n +ℤ pos 2440588) (plusZ n) (minusZ n) (add-pair n (pos 2440588)) (r .0))
+        (high-day (n +ℤ pos 2440588) (plusZ n) (minusZ n) (add-pair n (pos 2440588)) (r .1))

@@ -1,5 +1,5 @@
--- Each number does occur: the table's three whatever is called, and the others with no announced rows. 4 of `UTC::new` and 11 of the text are computed cases of worked_cases.
--- Assumes nothing.
+-- Each number does occur: the table's three whatever is called, and the others with no announced rows. 4 of `UTC::new` and 11 of the text are computed cases of
+-- worked_cases. Assumes nothing.
 use mathlib.Core.Path.{_≡_, refl, sym, ap, _∙_}
 use mathlib.Core.Bool.{Bool, true, false, true≢false}
 use mathlib.Core.Logic.{inl, inr}
@@ -45,7 +45,8 @@ use Rattle.utc.proofs.laws.NewDecided.{new-decided}
 use Rattle.utc.proofs.laws.TextDecided.{text-decided}
 
 -- ---- 20, 21 and 22, whatever is called
-pub table-numbers-occur : {A : Type 0} (call : List Row → Outcome A) → ((t : AnnouncedRows) × (onward (tableOf t) call ≡ refusal 20)) × ((t : AnnouncedRows) × (onward (tableOf t) call ≡ refusal 21)) × ((t : AnnouncedRows) × (onward (tableOf t) call ≡ refusal 22))
+pub table-numbers-occur : {A : Type 0} (call : List Row → Outcome A) → ((t : AnnouncedRows) × (onward (tableOf t) call ≡ refusal 20))
+    × ((t : AnnouncedRows) × (onward (tableOf t) call ≡ refusal 21)) × ((t : AnnouncedRows) × (onward (tableOf t) call ≡ refusal 22))
 table-numbers-occur call = ((_, stopped call unequal-sizes), (_, stopped call january-2017), (_, stopped call no-second))
 
 -- ---- the others, with no announced rows
@@ -62,7 +63,8 @@ no e = true≢false (sym e)
 abbrev offset : ℤ → ℤ → ℤ → Float → Outcome (Float × Rule)
 offset y m d f = plain (λ rows. offsetByRule rows y m d f)
 
-pub offset-numbers-occur : (offset (pos 2000) (pos 13) (pos 1) nan ≡ refusal 7) × (offset (negsuc 4799) (pos 12) (pos 31) nought ≡ refusal 1) × (offset (pos 2000) (pos 13) (pos 1) nought ≡ refusal 2) × (offset (pos 1900) (pos 2) (pos 29) nought ≡ refusal 3)
+pub offset-numbers-occur : (offset (pos 2000) (pos 13) (pos 1) nan ≡ refusal 7) × (offset (negsuc 4799) (pos 12) (pos 31) nought ≡ refusal 1)
+    × (offset (pos 2000) (pos 13) (pos 1) nought ≡ refusal 2) × (offset (pos 1900) (pos 2) (pos 29) nought ≡ refusal 3)
 unfolding inDay le lt eq daysInMonth lengths leapSize
 offset-numbers-occur =
     let f = offset-decided none-announced in (
@@ -75,7 +77,8 @@ offset-numbers-occur =
 abbrev leap : ℤ → ℤ → ℤ → Outcome Float
 leap y m d = plain (λ rows. leapAtEndOfDay rows y m d)
 
-pub leap-numbers-occur : (leap (negsuc 4799) (pos 12) (pos 31) ≡ refusal 1) × (leap (pos 2000) (pos 13) (pos 1) ≡ refusal 2) × (leap (pos 1900) (pos 2) (pos 29) ≡ refusal 3) × (leap (pos 2147483647) (pos 12) (pos 31) ≡ refusal 5)
+pub leap-numbers-occur : (leap (negsuc 4799) (pos 12) (pos 31) ≡ refusal 1) × (leap (pos 2000) (pos 13) (pos 1) ≡ refusal 2)
+    × (leap (pos 1900) (pos 2) (pos 29) ≡ refusal 3) × (leap (pos 2147483647) (pos 12) (pos 31) ≡ refusal 5)
 unfolding daysInMonth lengths leapSize
 leap-numbers-occur =
     let f = leap-decided none-announced in (
@@ -93,7 +96,8 @@ unfolding nextOf next validDate daysInMonth lengths leapSize onward
 leap-on-2000 = (_, leap-given (rowsOf none-announced) (pos 2000) (pos 1) (pos 1) (date (pos 2000) 1 2) refl)
 
 -- 4 at hour 24 of 2000-01-01
-pub from-calendar-numbers-occur : (fromCalendar (negsuc 4799) 12 31 0 ≡ refusal 1) × (fromCalendar (pos 2000) 13 1 0 ≡ refusal 2) × (fromCalendar (pos 1900) 2 29 0 ≡ refusal 3) × (fromCalendar (pos 2147483647) 12 31 0 ≡ refusal 5) × (fromCalendar (pos 2000) 1 1 24 ≡ refusal 4)
+pub from-calendar-numbers-occur : (fromCalendar (negsuc 4799) 12 31 0 ≡ refusal 1) × (fromCalendar (pos 2000) 13 1 0 ≡ refusal 2)
+    × (fromCalendar (pos 1900) 2 29 0 ≡ refusal 3) × (fromCalendar (pos 2147483647) 12 31 0 ≡ refusal 5) × (fromCalendar (pos 2000) 1 1 24 ≡ refusal 4)
 unfolding daysInMonth lengths leapSize timeInDay
 from-calendar-numbers-occur =
     let f = from-calendar-decided none-announced in (
@@ -119,7 +123,8 @@ unfolding unixDay
 new-numbers-occur = (
   decided (new-decided none-announced (pos 0) 1000000000 (record { sfits = omega arith })) .refuses 8 (inl (omega arith, refl)),
   decided (new-decided none-announced after-last 0 (record { sfits = omega arith })) .refuses 6 (inr (few, inl (refl, refl))),
-  decided (new-decided none-announced too-early 0 (record { sfits = omega arith })) .refuses 1 (inr (few, inr (no, inl (year-before-first (negsuc 31738) refl, refl)))),
+  decided (new-decided none-announced too-early 0 (record { sfits = omega arith })) .refuses 1
+      (inr (few, inr (no, inl (year-before-first (negsuc 31738) refl, refl)))),
 )
   where
     few : 1000000000 ≤ 0 → ⊥
@@ -138,7 +143,8 @@ lowest-inside e = true≢false (sym (answer-is lowest nought _ exact-at-lowest .
 
 lowest-early : ltZ (gregorianDate (dayOf lowest nought .day) .year) (negsuc 4798) ≡ true
 unfolding gregorianDate
-lowest-early = ap (λ (d : DayNumber). ltZ (gregorianDate (d .day) .year) (negsuc 4798)) (answer-is lowest nought _ exact-at-lowest .1) ∙ year-before-first (negsuc 68568) refl
+lowest-early = ap (λ (d : DayNumber). ltZ (gregorianDate (d .day) .year) (negsuc 4798)) (answer-is lowest nought _ exact-at-lowest .1)
+    ∙ year-before-first (negsuc 68568) refl
 
 pub text-numbers-occur : (textForm : TextForm) → (text textForm nan nought ≡ refusal 6) × (text textForm lowest nought ≡ refusal 1)
 text-numbers-occur textForm = (

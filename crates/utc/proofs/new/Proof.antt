@@ -1,5 +1,5 @@
 -- `utc::new` meets its contract: the table is tested, and its rows are read. Assumes nothing.
-use mathlib.Core.Path.{_≡_, _∙_}
+use mathlib.Core.Path.{_∙_}
 use mir.Facts.{toZ-ofZ}
 use Rattle.leap_table.specs.rows.Announced.{rowsOf}
 use Rattle.leap_table.proofs.rows.TablesTaken.{not-taken, taken}

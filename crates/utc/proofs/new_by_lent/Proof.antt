@@ -40,10 +40,12 @@ read-day u =
     let s = u .before .before in
     ap (λ (x : ℤ). toZ w64 (ofZ w64 x)) (u .unix-day .ensures ∙ ap unixDay (toZ-ofZ (s .fits .unix))) ∙ toZ-ofZ (day-fits (s .args .unix) (s .fits .unix))
 
-called : (v : tie.After-julian-to-calendar) → calendarOutcome (v .julian-to-calendar .result) ≡ julianToCalendar unixEpochJd (ofInt binary64 (unixDay (v .before .before .before .before .args .unix)))
+called : (v : tie.After-julian-to-calendar)
+    → calendarOutcome (v .julian-to-calendar .result) ≡ julianToCalendar unixEpochJd (ofInt binary64 (unixDay (v .before .before .before .before .args .unix)))
 called v = v .julian-to-calendar .ensures ∙ (λ i. julianToCalendar (unix-epoch-jd i) (ofInt binary64 (read-day (v .before .before) i)))
 
-answered : (k : tie.After-fields) → julianToCalendar unixEpochJd (ofInt binary64 (unixDay (k .before .before .before .before .before .before .args .unix))) ≡ answer (k .fields .given .0 .0)
+answered : (k : tie.After-fields)
+    → julianToCalendar unixEpochJd (ofInt binary64 (unixDay (k .before .before .before .before .before .before .args .unix))) ≡ answer (k .fields .given .0 .0)
 unfolding calendarOutcome
 answered k = sym (called (k .before .before)) ∙ ap calendarOutcome (k .fields .given .1)
 
@@ -74,7 +76,8 @@ unfolding utcOutcome calendarOutcome
 returns-2 c =
     let v = c .before .before .before in
     let s = v .before .before .before .before in
-    sym (day-refused (rows (c .before .before .before .before .before .before .before)) (s .args .unix) (s .args .nanos) (few (v .before .before .before)) _ (sym (called v) ∙ ap calendarOutcome (c .before .number .given .1)))
+    sym (day-refused (rows (c .before .before .before .before .before .before .before)) (s .args .unix) (s .args .nanos) (few (v .before .before .before)) _
+    (sym (called v) ∙ ap calendarOutcome (c .before .number .given .1)))
 
 returns-3 : tie.Need-returns-3
 returns-3 c =
@@ -85,25 +88,14 @@ returns-3 c =
     let s = v .before .before .before .before in
     let f = k .fields .given .0 .0 in
     c .utc-from-calendar-by-lent .ensures
-    ∙ day-given (rows (c .before .before .before .before .before .before .before .before .before .before .before .before .before .before)) (s .args .unix) (s .args .nanos) (few (v .before .before .before)) f (answered k) _ (d .second-of-unix-day .result) (n .second-with-nanos .result)
-    (toZ-ofZ {w = w32} {z = f .date .year} (record { sfits = c .before .struct-told .given .0 .1 })) (d .second-of-unix-day .ensures .0 ∙ ap secondOfUnixDay (toZ-ofZ (s .fits .unix))) (n .second-with-nanos .ensures)
+    ∙ day-given (rows (c .before .before .before .before .before .before .before .before .before .before .before .before .before .before)) (s .args .unix)
+    (s .args .nanos) (few (v .before .before .before)) f (answered k) _ (d .second-of-unix-day .result) (n .second-with-nanos .result)
+    (toZ-ofZ {w = w32} {z = f .date .year} (record { sfits = c .before .struct-told .given .0 .1 }))
+    (d .second-of-unix-day .ensures .0 ∙ ap secondOfUnixDay (toZ-ofZ (s .fits .unix))) (n .second-with-nanos .ensures)
 
 pub new-by-lent-spec : {M : Type 1} → statement M
 new-by-lent-spec =
     tie.close
-    (tie.spec
-    returns
-    (λ c κs. search needs)
-    int-to-float-julian-to-calendar
-    (λ c κs. search needs)
-    (λ c. search needs)
-    (λ c. search needs)
-    (λ c κs. search needs)
-    cast-utc-from-calendar-by-lent
-    cast-utc-from-calendar-by-lent-2
-    (λ c. search needs)
-    (λ c. search needs)
-    (λ c κs. search needs)
-    (λ c κs. search needs)
-    returns-2
-    returns-3)
+    (tie.spec returns (λ c κs. search needs) int-to-float-julian-to-calendar (λ c κs. search needs) (λ c. search needs) (λ c. search needs)
+    (λ c κs. search needs) cast-utc-from-calendar-by-lent cast-utc-from-calendar-by-lent-2 (λ c. search needs) (λ c. search needs)
+    (λ c κs. search needs) (λ c κs. search needs) returns-2 returns-3)

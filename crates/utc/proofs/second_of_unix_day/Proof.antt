@@ -13,26 +13,26 @@ use Rattle.utc.proofs.UnixDays.{divides, read-left, seconds-most, from-
 use Rattle.utc.proofs.second_of_unix_day.Statement.{statement}
 use Rattle.utc.proofs.second_of_unix_day.Tie as tie
 
-sum-is : (c : tie.Then1) → toZ w64 (ofZ w64 (remZ (toZ w64 (ofZ w64 (c .before .args .seconds))) (pos 86400))) +ℤ pos 86400 ≡ pos (secondOfUnixDay (c .before .args .seconds))
+sum-is : (c : tie.Then1) → toZ w64 (ofZ w64 (remZ (toZ w64 (ofZ w64 (c .before .args .seconds))) (pos 86400))) +ℤ pos 86400 ≡ pos
+    (secondOfUnixDay (c .before .args .seconds))
 sum-is c =
     let s = c .before in
     let e = read-left (s .args .seconds) (s .fits .seconds) in
     ap (λ (x : ℤ). x +ℤ pos 86400) e ∙ from-midnight-before (s .args .seconds) (ap (λ (x : ℤ). ltZ x (pos 0)) (sym e) ∙ c .if1 .taken)
 
-read-sum : (c : tie.Then1) → toZ w64 (ofZ w64 (toZ w64 (ofZ w64 (remZ (toZ w64 (ofZ w64 (c .before .args .seconds))) (pos 86400))) +ℤ pos 86400)) ≡ pos (secondOfUnixDay (c .before .args .seconds))
+read-sum : (c : tie.Then1) → toZ w64 (ofZ w64 (toZ w64 (ofZ w64 (remZ (toZ w64 (ofZ w64 (c .before .args .seconds))) (pos 86400))) +ℤ pos 86400)) ≡ pos
+    (secondOfUnixDay (c .before .args .seconds))
 read-sum c =
     let s = c .before in
     let f : SFits w64 (pos (secondOfUnixDay (s .args .seconds))) = record { sfits = omega (arith, seconds-most (s .args .seconds)) } in
     ap (λ (x : ℤ). toZ w64 (ofZ w64 x)) (sum-is c) ∙ toZ-ofZ f
 
-read-rest : (c : tie.Else1) → toZ w64 (ofZ w64 (remZ (toZ w64 (ofZ w64 (c .before .args .seconds))) (pos 86400))) ≡ pos (secondOfUnixDay (c .before .args .seconds))
+read-rest : (c : tie.Else1) → toZ w64 (ofZ w64 (remZ (toZ w64 (ofZ w64 (c .before .args .seconds))) (pos 86400))) ≡ pos
+    (secondOfUnixDay (c .before .args .seconds))
 read-rest c =
     let s = c .before in
     let e = read-left (s .args .seconds) (s .fits .seconds) in
     e ∙ from-midnight (s .args .seconds) (ap (λ (x : ℤ). ltZ x (pos 0)) (sym e) ∙ c .if1 .left)
-
-rem-rest : tie.Need-rem-rest
-rem-rest c = divides (c .args .seconds) (c .fits .seconds)
 
 add-result : tie.Need-add-result
 add-result c =
@@ -63,4 +63,4 @@ returns-2 c =
 
 pub second-of-unix-day-spec : {M : Type 1} → statement M
 second-of-unix-day-spec =
-    tie.close (tie.spec rem-rest add-result cast-result cast-result-2 returns returns-2)
+    tie.close (tie.spec (λ c. divides (c .args .seconds) (c .fits .seconds)) add-result cast-result cast-result-2 returns returns-2)

@@ -13,7 +13,8 @@ returns : tie.Need-returns
 unfolding secondWithNanos
 returns c =
     let s = c .before .before in
-    ap (λ (x : Float). add binary64 (ofInt binary64 (pos (s .args .second % 60))) (div binary64 (ofInt binary64 (pos (s .args .nanos))) x)) nanoseconds-per-second
+    ap (λ (x : Float). add binary64 (ofInt binary64 (pos (s .args .second % 60))) (div binary64 (ofInt binary64 (pos (s .args .nanos))) x))
+    nanoseconds-per-second
 
 pub second-with-nanos-spec : {M : Type 1} → statement M
 second-with-nanos-spec = tie.close (tie.spec (λ c. search needs) (λ c. search needs) returns)

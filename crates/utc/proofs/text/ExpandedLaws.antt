@@ -31,13 +31,15 @@ use Rattle.utc.proofs.text.ReadBack.{four-is, seven-is, no-sign, with-s
 use Rattle.utc.proofs.text.Form.{four-digits, seven-digits, rest-formed}
 
 -- four digits, or the sign and seven
-pub expanded-is : (y : ℤ) (b : Bool) → basicYear (not (nonNeg y)) (natAbs y) ≡ b → cond b (four (natAbs y)) (cond (not (nonNeg y)) 45 43 ∷ seven (natAbs y)) ≡ expandedYear y
+pub expanded-is : (y : ℤ) (b : Bool) → basicYear (not (nonNeg y)) (natAbs y) ≡ b
+    → cond b (four (natAbs y)) (cond (not (nonNeg y)) 45 43 ∷ seven (natAbs y)) ≡ expandedYear y
 unfolding expandedYear basicYear
 expanded-is (pos n) b e = ap (λ (c : Bool). cond c (four n) (43 ∷ seven n)) (sym e)
 expanded-is (negsuc n) b e = ap (λ (c : Bool). cond c (four (suc n)) (45 ∷ seven (suc n))) (sym e)
 
 -- ---- the bytes that the code copies behind the sign
-pub seven-source : (y : ℕ) (d : CalendarDate) (u : TimeOfDay) (all : List ℕ) (c2 c3 : ℕ) → c2 ≡ third false y → c3 ≡ fourth false y → all ≡ wide c2 c3 y ++ afterYear d u → all ≡ seven y ++ afterYear d u
+pub seven-source : (y : ℕ) (d : CalendarDate) (u : TimeOfDay) (all : List ℕ) (c2 c3 : ℕ) → c2 ≡ third false y → c3 ≡ fourth false y → all ≡ wide c2 c3 y
+    ++ afterYear d u → all ≡ seven y ++ afterYear d u
 unfolding third fourth
 seven-source y d u all c2 c3 e2 e3 e = e ∙ (λ i. wide (e2 i) (e3 i) y ++ afterYear d u)
 
@@ -50,7 +52,8 @@ sign-done t (x ∷ m) ys s n h en ey =
     let fits : length (s ∷ t) ≤ length (x ∷ m) = omega arith in
     let same : 1 + n ≡ length (s ∷ t) = omega arith in
     let one : length (x ∷ m) - 1 ≡ length m = omega arith in
-    let tail : ys ≡ t ++ drop (length t) m = ey ∙ ap (λ (k : ℕ). take (length t) t ++ drop (length t) (take k m)) one ∙ (λ i. take-length t i ++ drop (length t) (take-all (length m) m (le-refl (length m)) i)) in
+    let tail : ys ≡ t ++ drop (length t) m = ey ∙ ap (λ (k : ℕ). take (length t) t ++ drop (length t) (take k m)) one
+    ∙ (λ i. take-length t i ++ drop (length t) (take-all (length m) m (le-refl (length m)) i)) in
     let end : drop (length (x ∷ m) - 1) m ≡ [] = ap (λ (k : ℕ). drop k m) one ∙ drop-length m in
     let after : ys ++ drop (length (x ∷ m) - 1) m ≡ t ++ drop (length t) m = ap (λ (z : List ℕ). ys ++ z) end ∙ append-nil ys ∙ tail in
     record {
@@ -58,16 +61,20 @@ sign-done t (x ∷ m) ys s n h en ey =
       holds = ap (λ (z : List ℕ). s ∷ z) after ∙ simp (le-leb _ _ fits);
     }
 
-pub signed-put : (neg : Bool) (y : ℕ) (d : CalendarDate) (u : TimeOfDay) (l all ys : List ℕ) (s n : ℕ) → s ≡ cond neg 45 43 → all ≡ seven y ++ afterYear d u → 27 ≤ length l → n ≡ length all
+pub signed-put : (neg : Bool) (y : ℕ) (d : CalendarDate) (u : TimeOfDay) (l all ys : List ℕ) (s n : ℕ) → s ≡ cond neg 45 43 → all ≡ seven y ++ afterYear d u
+    → 27 ≤ length l → n ≡ length all
     → ys ≡ take (length all) all ++ drop (length all) (take (length l - 1) (drop 1 l))
     → TextPut ((cond neg 45 43 ∷ seven y) ++ afterYear d u) l (Written (1 + n)) (set (take 1 l ++ (ys ++ drop (length l - 1) (drop 1 l))) 0 s)
 signed-put neg y d u l all ys s n es ea h en ey =
     let many : length all ≡ 26 = ap length ea in
-    subst (λ (t : List ℕ). TextPut t l (Written (1 + n)) (set (take 1 l ++ (ys ++ drop (length l - 1) (drop 1 l))) 0 s)) (λ i. es i ∷ ea i) (sign-done all l ys s n (omega arith) en ey)
+    subst (λ (t : List ℕ). TextPut t l (Written (1 + n)) (set (take 1 l ++ (ys ++ drop (length l - 1) (drop 1 l))) 0 s)) (λ i. es i ∷ ea i)
+    (sign-done all l ys s n (omega arith) en ey)
 
 -- by a date and a time
-pub of-expanded : (d : CalendarDate) (u : TimeOfDay) (neg b : Bool) (n : ℕ) (l out : List ℕ) (r : TextAnswer) → SFits w32 (d .year) → neg ≡ not (nonNeg (toZ w32 (ofZ w32 (d .year))))
-    → n ≡ natAbs (toZ w32 (ofZ w32 (d .year))) → basicYear neg n ≡ b → TextPut (cond b (four n) (cond neg 45 43 ∷ seven n) ++ afterYear d u) l r out → TextPut (expandedText d u) l r out
+pub of-expanded : (d : CalendarDate) (u : TimeOfDay) (neg b : Bool) (n : ℕ) (l out : List ℕ) (r : TextAnswer) → SFits w32 (d .year)
+    → neg ≡ not (nonNeg (toZ w32 (ofZ w32 (d .year))))
+    → n ≡ natAbs (toZ w32 (ofZ w32 (d .year))) → basicYear neg n ≡ b → TextPut (cond b (four n) (cond neg 45 43 ∷ seven n) ++ afterYear d u) l r out
+    → TextPut (expandedText d u) l r out
 unfolding expandedText
 of-expanded d u neg b n l out r fit en es eb p =
     let e : toZ w32 (ofZ w32 (d .year)) ≡ d .year = toZ-ofZ fit in
@@ -102,7 +109,8 @@ pub expanded-length : (d : CalendarDate) (u : TimeOfDay) → (length (expandedTe
 unfolding expandedText expandedYear
 expanded-length d u = go (d .year)
   where
-    either : (n : ℕ) (b : Bool) → (length (cond b (four n) (43 ∷ seven n) ++ afterYear d u) ≡ 23) ⊎ (length (cond b (four n) (43 ∷ seven n) ++ afterYear d u) ≡ 27)
+    either : (n : ℕ) (b : Bool) → (length (cond b (four n) (43 ∷ seven n) ++ afterYear d u) ≡ 23)
+        ⊎ (length (cond b (four n) (43 ∷ seven n) ++ afterYear d u) ≡ 27)
     either n true = inl refl
     either n false = inr refl
 
@@ -142,7 +150,8 @@ expanded-same d u n e h = ap (λ (y : List ℕ). y ++ afterYear d u) (ap expande
     same = rw (lt-ltb n 10000 (omega arith))
 
 -- and of any year the same bytes behind it
-pub expanded-rest : (d : CalendarDate) (u : TimeOfDay) → (expandedText d u ≡ expandedYear (d .year) ++ afterYear d u) × (utcText d u ≡ yearText (d .year) ++ afterYear d u)
+pub expanded-rest : (d : CalendarDate) (u : TimeOfDay) → (expandedText d u ≡ expandedYear (d .year) ++ afterYear d u)
+    × (utcText d u ≡ yearText (d .year) ++ afterYear d u)
 unfolding expandedText utcText
 expanded-rest d u = (refl, refl)
 

@@ -73,7 +73,8 @@ unfolding textOutcome textWritten bufferAfter
 short t l h = record { says = simp (lt-leb _ _ h); holds = simp (lt-leb _ _ h) }
 
 -- after the copy of src, which is the text
-pub put-done : (src t l out : List ℕ) (r : ℕ) → src ≡ t → r ≡ length src → out ≡ take (length src) src ++ drop (length src) l → length t ≤ length l → TextPut t l (Written r) out
+pub put-done : (src t l out : List ℕ) (r : ℕ) → src ≡ t → r ≡ length src → out ≡ take (length src) src ++ drop (length src) l → length t ≤ length l
+    → TextPut t l (Written r) out
 unfolding textOutcome textWritten bufferAfter
 put-done src t l out r e er eo h = record {
   says = ap answer (er ∙ ap length e) ∙ simp (le-leb _ _ h);
@@ -81,7 +82,8 @@ put-done src t l out r e er eo h = record {
 }
 
 -- by a date and a time
-pub of-date : (d : CalendarDate) (u : TimeOfDay) (neg : Bool) (n : ℕ) (y l out : List ℕ) (r : TextAnswer) → SFits w32 (d .year) → neg ≡ not (nonNeg (toZ w32 (ofZ w32 (d .year))))
+pub of-date : (d : CalendarDate) (u : TimeOfDay) (neg : Bool) (n : ℕ) (y l out : List ℕ) (r : TextAnswer) → SFits w32 (d .year)
+    → neg ≡ not (nonNeg (toZ w32 (ofZ w32 (d .year))))
     → n ≡ natAbs (toZ w32 (ofZ w32 (d .year))) → y ≡ signed neg n → TextPut (y ++ afterYear d u) l r out → TextPut (utcText d u) l r out
 unfolding utcText
 of-date d u neg n y l out r fit en es ey p =

@@ -15,7 +15,8 @@ use Rattle.calendar.specs.declared.CalendarDate.{CalendarDate}
 use Rattle.time_of_day.specs.declared.TimeOfDay.{TimeOfDay}
 use Rattle.time_of_day.specs.ExactTime.{timeMs}
 use Rattle.utc.specs.text.Text.{last, two, three, four, five, six, seven, afterYear, yearText, utcText}
-use Rattle.utc.specs.text.ReadBack.{value, number, signedNumber, fromEnd, readYear, readMonth, readDay, readHour, readMinute, readSecond, readMilli, readMs, ReadsAs, Writable}
+use Rattle.utc.specs.text.ReadBack.{value, number, signedNumber, fromEnd, readYear, readMonth, readDay, readHour, readMinute, readSecond}
+use Rattle.utc.specs.text.ReadBack.{readMilli, readMs, ReadsAs, Writable}
 use Rattle.utc.specs.text.Layout.{skipped}
 use Rattle.utc.proofs.text.Laws.{year-is, wide-length}
 
@@ -85,12 +86,14 @@ before n h false p = with-sign n (four (suc n)) (four-is (suc n) h)
 
 pub year-read : (y : ℤ) → ltZ y (negsuc 4899) ≡ false → ltZ (pos 2733194) y ≡ false → signedNumber (yearText y) ≡ y
 unfolding yearText
-year-read (pos n) l h = let k : n ≤ 2733194 = ltb-false 2733194 n h in after n (omega arith) (ltb n 10000) (ltb n 100000) (ltb n 1000000) (ltb→lt n 10000) (ltb→lt n 100000) (ltb→lt n 1000000)
+year-read (pos n) l h = let k : n ≤ 2733194 =
+    ltb-false 2733194 n h in after n (omega arith) (ltb n 10000) (ltb n 100000) (ltb n 1000000) (ltb→lt n 10000) (ltb→lt n 100000) (ltb→lt n 1000000)
 year-read (negsuc n) l h = let k : n ≤ 4899 = ltb-false 4899 n l in before n (omega arith) (ltb (suc n) 1000) (ltb→lt (suc n) 1000)
 
 -- ---- the places, counted from the end, whatever the year's width
 pub part-of : (y t : List ℕ) (k n : ℕ) → k ≤ 19 → length t ≡ 19 → fromEnd k n (y ++ t) ≡ take n (drop (19 - k) t)
-part-of y t k n h e = ap (take n) (ap (λ (m : ℕ). drop m (y ++ t)) (ap (λ (m : ℕ). m - k) (length-append y t) ∙ places (length y) (length t) e) ∙ drop-append-add y t (19 - k))
+part-of y t k n h e = ap (take n)
+    (ap (λ (m : ℕ). drop m (y ++ t)) (ap (λ (m : ℕ). m - k) (length-append y t) ∙ places (length y) (length t) e) ∙ drop-append-add y t (19 - k))
   where
     places : (a b : ℕ) → b ≡ 19 → a + b - k ≡ a + (19 - k)
     places a b g = omega arith

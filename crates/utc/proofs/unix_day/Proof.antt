@@ -16,12 +16,6 @@ one-less c =
     ap (λ (x : ℤ). x -ℤ pos 1) (read-days (s .args .seconds) (s .fits .seconds))
     ∙ day-before (s .args .seconds) (ap (λ (x : ℤ). ltZ x (pos 0)) (sym (read-left (s .args .seconds) (s .fits .seconds))) ∙ c .if1 .taken)
 
-div-day : tie.Need-div-day
-div-day c = divides (c .args .seconds) (c .fits .seconds)
-
-rem-if1 : tie.Need-rem-if1
-rem-if1 c = divides (c .args .seconds) (c .fits .seconds)
-
 sub-result : tie.Need-sub-result
 sub-result c =
     let s = c .before in
@@ -35,7 +29,9 @@ returns c =
 returns-2 : tie.Need-returns-2
 returns-2 c =
     let s = c .before in
-    read-days (s .args .seconds) (s .fits .seconds) ∙ same-day (s .args .seconds) (ap (λ (x : ℤ). ltZ x (pos 0)) (sym (read-left (s .args .seconds) (s .fits .seconds))) ∙ c .if1 .left)
+    read-days (s .args .seconds) (s .fits .seconds)
+    ∙ same-day (s .args .seconds) (ap (λ (x : ℤ). ltZ x (pos 0)) (sym (read-left (s .args .seconds) (s .fits .seconds))) ∙ c .if1 .left)
 
 pub unix-day-spec : {M : Type 1} → statement M
-unix-day-spec = tie.close (tie.spec div-day rem-if1 sub-result returns returns-2)
+unix-day-spec = tie.close (tie.spec (λ c. divides (c .args .seconds) (c .fits .seconds)) (λ c. divides (c .args .seconds) (c .fits .seconds)) sub-result
+    returns returns-2)

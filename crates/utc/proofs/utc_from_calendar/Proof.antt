@@ -1,5 +1,5 @@
 -- `utc::utc_from_calendar` meets its contract: the table is tested, and its rows are read. Assumes nothing.
-use mathlib.Core.Path.{_≡_, _∙_}
+use mathlib.Core.Path.{_∙_}
 use mir.Facts.{toZ-ofZ}
 use Rattle.leap_table.specs.rows.Announced.{rowsOf}
 use Rattle.leap_table.proofs.rows.TablesTaken.{not-taken, taken}
@@ -18,7 +18,8 @@ returns-2 c =
     let r = c .before .before in
     let s = r .before in
     c .utc-from-calendar-by-rows .ensures
-    ∙ (λ i. utcFromCalendar (rowsOf (s .args .table)) (toZ-ofZ (s .fits .year) i) (s .args .month) (s .args .day) (s .args .hour) (s .args .minute) (s .args .second))
+    ∙ (λ i. utcFromCalendar (rowsOf (s .args .table)) (toZ-ofZ (s .fits .year) i) (s .args .month) (s .args .day) (s .args .hour) (s .args .minute)
+    (s .args .second))
     ∙ taken (s .args .table) (r .table-refusal .result) (r .table-refusal .ensures) _ (c .before .if1 .left)
 
 pub utc-from-calendar-spec : {M : Type 1} → statement M

@@ -29,20 +29,27 @@ abbrev rows : tie.Start → List Row
 rows s = rowsIn (s .args .size) (now (s .args .months)) (now (s .args .seconds))
 
 -- the date's midnight
-midnight-given : (k : tie.After-midnight) → fromCalendar (k .before .before .before .args .year) (k .before .before .before .args .month) (k .before .before .before .args .day) 0 0 nought ≡ answer (k .midnight .given .0 .0)
+midnight-given : (k : tie.After-midnight)
+    → fromCalendar (k .before .before .before .args .year) (k .before .before .before .args .month) (k .before .before .before .args .day) 0 0 nought ≡ answer
+    (k .midnight .given .0 .0)
 unfolding julianOutcome ofBits
 midnight-given k =
     let v = k .before .before in
     let s = v .before in
-    sym (λ i. fromCalendar (toZ-ofZ (s .fits .year) i) (s .args .month) (s .args .day) 0 0 nought) ∙ sym (v .from-calendar .ensures) ∙ ap julianOutcome (k .midnight .given .1)
+    sym (λ i. fromCalendar (toZ-ofZ (s .fits .year) i) (s .args .month) (s .args .day) 0 0 nought) ∙ sym (v .from-calendar .ensures)
+    ∙ ap julianOutcome (k .midnight .given .1)
 
 -- the call for the day's leap
 leap-called : (l : tie.After-leap-at-end-of-day-by-lent)
-    → leapAtEndOfDay (rows (l .before .before .before .before .before)) (l .before .before .before .before .before .args .year) (pos (l .before .before .before .before .before .args .month)) (pos (l .before .before .before .before .before .args .day)) ≡ forget (secondsByRuleOutcome (l .leap-at-end-of-day-by-lent .result))
+    → leapAtEndOfDay (rows (l .before .before .before .before .before)) (l .before .before .before .before .before .args .year)
+    (pos (l .before .before .before .before .before .args .month)) (pos (l .before .before .before .before .before .args .day)) ≡ forget
+    (secondsByRuleOutcome (l .leap-at-end-of-day-by-lent .result))
 leap-called l =
     let s = l .before .before .before .before .before in
     sym
-    (ap forget (l .leap-at-end-of-day-by-lent .ensures ∙ (λ i. leapByRule (rows s) (toZ-ofZ (s .fits .year) i) (toZ-pos w32 {n = s .args .month} (omega (arith, s .fits .month .fits)) i) (toZ-pos w32 {n = s .args .day} (omega (arith, s .fits .day .fits)) i)))
+    (ap forget (l .leap-at-end-of-day-by-lent .ensures
+    ∙ (λ i. leapByRule (rows s) (toZ-ofZ (s .fits .year) i) (toZ-pos w32 {n = s .args .month} (omega (arith, s .fits .month .fits)) i)
+    (toZ-pos w32 {n = s .args .day} (omega (arith, s .fits .day .fits)) i)))
     ∙ leap-forgets (rows s) (s .args .year) (pos (s .args .month)) (pos (s .args .day)))
 
 returns : tie.Need-returns
@@ -51,7 +58,8 @@ returns c =
     let v = c .before .before .before in
     let s = v .before in
     let e : fromCalendar (s .args .year) (s .args .month) (s .args .day) 0 0 nought ≡ refusal (c .before .number .given .0 .0) =
-    sym (λ i. fromCalendar (toZ-ofZ (s .fits .year) i) (s .args .month) (s .args .day) 0 0 nought) ∙ sym (v .from-calendar .ensures) ∙ ap julianOutcome (c .before .number .given .1) in
+    sym (λ i. fromCalendar (toZ-ofZ (s .fits .year) i) (s .args .month) (s .args .day) 0 0 nought) ∙ sym (v .from-calendar .ensures)
+    ∙ ap julianOutcome (c .before .number .given .1) in
     rw e
 
 returns-2 : tie.Need-returns-2
@@ -65,22 +73,14 @@ unfolding utcFromCalendar onward utcOutcome forget secondsByRuleOutcome
 returns-3 c =
     let k = c .before .before .before in
     let l = k .before .before in
-    rw (midnight-given (l .before .before), leap-called l ∙ ap (λ (x : SecondsByRule). forget (secondsByRuleOutcome x)) (k .leap .given .1), ← c .before .day-fraction .ensures) (c .at-time .ensures)
+    rw (
+      midnight-given (l .before .before),
+      leap-called l ∙ ap (λ (x : SecondsByRule). forget (secondsByRuleOutcome x)) (k .leap .given .1),
+      ← c .before .day-fraction .ensures,
+    ) (c .at-time .ensures)
 
 pub utc-from-calendar-by-lent-spec : {M : Type 1} → statement M
 utc-from-calendar-by-lent-spec =
     tie.close
-    (tie.spec
-    (λ c κs. search needs)
-    (λ c. search needs)
-    (λ c. search needs)
-    (λ c. search needs)
-    (λ c. search needs)
-    (λ c κs. search needs)
-    (λ c. search needs)
-    (λ c. search needs)
-    (λ c κs. search needs)
-    (λ c κs. search needs)
-    returns
-    returns-2
-    returns-3)
+    (tie.spec (λ c κs. search needs) (λ c. search needs) (λ c. search needs) (λ c. search needs) (λ c. search needs) (λ c κs. search needs)
+    (λ c. search needs) (λ c. search needs) (λ c κs. search needs) (λ c κs. search needs) returns returns-2 returns-3)

@@ -1,11 +1,10 @@
--- The text of a UTC date with the rule of the day, in each form. Written from document 02, item 5: the text calls pass on the rule of the calendar's date at 0h, which is
--- the date before any carry: a text that shows the next midnight passes on the rule of the day that ends there. Assumes nothing.
+-- The text of a UTC date with the rule of the day, in each form. Written from document 02, item 5: the text calls pass on the rule of the calendar's date at
+-- 0h, which is the date before any carry: a text that shows the next midnight passes on the rule of the day that ends there. Assumes nothing.
 use Prim.Native.Nat.{ℕ}
 use mathlib.Core.Path.{_≡_}
 use mathlib.Core.List.{List}
 use lib.ListN.{length}
 use Rattle.refusals.specs.Outcome.{Outcome, answer, refusal, onward}
-use Rattle.calendar.specs.declared.CalendarDate.{CalendarDate}
 use Rattle.julian.specs.declared.JulianDate.{JulianDate}
 use Rattle.julian.specs.Calendar.{julianToCalendar}
 use Rattle.leap_table.specs.declared.offsets.Rule.{Rule}
@@ -23,7 +22,8 @@ use Rattle.utc.specs.iso_texts.TextCall.{bufferHolds}
 
 -- in any form
 unfoldable pub textByRule : TextForm → List Row → JulianDate → Outcome (List ℕ × Rule)
-textByRule textForm rows jd = onward (julianToCalendar (jd .jd1) (jd .jd2)) (λ c. withRule (dayTextBy textForm rows (c .date) (c .fraction)) (ruleOn rows (c .date)))
+textByRule textForm rows jd = onward (julianToCalendar (jd .jd1) (jd .jd2))
+    (λ c. withRule (dayTextBy textForm rows (c .date) (c .fraction)) (ruleOn rows (c .date)))
 
 -- document 01's text, and those of document 02's items 4 and 6
 abbrev pub isoTextByRule : List Row → JulianDate → Outcome (List ℕ × Rule)

@@ -1,5 +1,5 @@
--- What demand 3 needs of a form of text: its count is near the exact time of day, and what it writes reads back and has the promised form. Written from demand 3 and
--- document 01, "UTC text". Assumes nothing.
+-- What demand 3 needs of a form of text: its count is near the exact time of day, and what it writes reads back and has the promised form. Written from demand
+-- 3 and document 01, "UTC text". Assumes nothing.
 use Prim.Native.Nat.{ℕ, _*_, _^_, _<_}
 use lib.Ieee.{Float}
 use Rattle.calendar.specs.declared.CalendarDate.{CalendarDate}

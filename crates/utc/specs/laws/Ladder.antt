@@ -1,5 +1,5 @@
--- An order of refusals, each with the reason for it, and what it is for a call to refuse by that order and in no other way. Written from document 01, "Refusals by number":
--- a call tests in an order, and gives the number of the first test that fails. Assumes nothing.
+-- An order of refusals, each with the reason for it, and what it is for a call to refuse by that order and in no other way. Written from document 01, "Refusals
+-- by number": a call tests in an order, and gives the number of the first test that fails. Assumes nothing.
 use mathlib.Core.Path.{_≡_}
 use mathlib.Core.Logic.{_⊎_}
 use Prim.Native.Nat.{ℕ}

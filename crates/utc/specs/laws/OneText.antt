@@ -34,7 +34,8 @@ pub record Division (sum : ℤ) (jd : JulianDate) : Type 0 where
 -- holds after
 abbrev pub EveryCall : TextForm → List Row → ℤ → (List ℕ → TextAnswer → List ℕ → Type 0) → Type 0
 EveryCall textForm rows sum P =
-    (jd : JulianDate) → Division sum jd → (before : List ℕ) (r : TextAnswer) (after : List ℕ) → TextCall (isoTextBy textForm rows jd) before r after → P before r after
+    (jd : JulianDate) → Division sum jd → (before : List ℕ) (r : TextAnswer) (after : List ℕ) → TextCall (isoTextBy textForm rows jd) before r after
+    → P before r after
 
 -- the text t shows the exact day and the exact time of the sum, or the next day's midnight; the day's length is 86,400 s and the leap that the table gives,
 -- where it counts

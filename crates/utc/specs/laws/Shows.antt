@@ -36,8 +36,8 @@ pub record Promise : Type 1 where
   pub c : Float → ℕ
   pub e : Float → ℕ
 
--- t has the promised form; it shows day n, and a time as near to F / 2 ^ 52 of the day as is promised, however the day's length is written as a fraction W / E of
--- seconds
+-- t has the promised form; it shows day n, and a time as near to F / 2 ^ 52 of the day as is promised, however the day's length is written as a fraction W / E
+-- of seconds
 pub record TextRight (p : Promise) (t : List ℕ) (n : ℤ) (F : ℕ) (leap : Float) : Type 0 where
   pub form : p .Form t
   pub day : DayShown t n leap
@@ -64,5 +64,6 @@ pub record TextDemand (p : Promise) (rows : List Row) (sum : ℤ) (o : Outcome (
   pub text : List ℕ
   pub is : o ≡ cond (tooEarly sum) (refusal 1) (answer text)
   pub leap : Float
-  pub leap-is : tooEarly sum ≡ false → leapAtEndOfDay rows (dateOf (exactDay sum) .year) (pos (dateOf (exactDay sum) .month)) (pos (dateOf (exactDay sum) .day)) ≡ answer leap
+  pub leap-is : tooEarly sum ≡ false
+      → leapAtEndOfDay rows (dateOf (exactDay sum) .year) (pos (dateOf (exactDay sum) .month)) (pos (dateOf (exactDay sum) .day)) ≡ answer leap
   pub right : tooEarly sum ≡ false → TextRight p text (exactDay sum) (exactFraction sum) leap

@@ -37,7 +37,9 @@ yearText (negsuc n) = 45 ∷ cond (ltb (suc n) 1000) (three (suc n)) (four (suc 
 -- -MM-DDThh:mm:ss.mmm
 abbrev pub afterYear : CalendarDate → TimeOfDay → List ℕ
 afterYear d t =
-    (45 ∷ []) ++ (two (d .month) ++ ((45 ∷ []) ++ (two (d .day) ++ ((84 ∷ []) ++ (two (t .hour) ++ ((58 ∷ []) ++ (two (t .minute) ++ ((58 ∷ []) ++ (two (t .second) ++ ((46 ∷ []) ++ three (t .milli)))))))))))
+    (45 ∷ []) ++ (two (d .month) ++
+    ((45 ∷ []) ++ (two (d .day) ++ ((84 ∷ [])
+    ++ (two (t .hour) ++ ((58 ∷ []) ++ (two (t .minute) ++ ((58 ∷ []) ++ (two (t .second) ++ ((46 ∷ []) ++ three (t .milli)))))))))))
 
 -- the text of a date and a time of day
 unfoldable pub utcText : CalendarDate → TimeOfDay → List ℕ

@@ -36,7 +36,8 @@ fn put_day<'a>(
     out: &mut [u8],
 ) -> TextByRule
     requires { ⌜ (date .month ≤ 12) × (date .day ≤ 31) ⌝ }
-    ensures { λ r. ⌜ TextRuleCall (withRule (dayText (rowsIn size (now (months .entry)) (now (seconds .entry))) date fraction) (ruleOn (rowsIn size (now (months .entry)) (now (seconds .entry))) date)) (now (out .entry)) r (now (out .exit)) ⌝ }
+    ensures { λ r. ⌜ TextRuleCall (withRule (dayText (rowsIn size (now (months .entry)) (now (seconds .entry))) date fraction)
+        (ruleOn (rowsIn size (now (months .entry)) (now (seconds .entry))) date)) (now (out .entry)) r (now (out .exit)) ⌝ }
 {
     match leap_table::offsets::leap_at_end_of_day_by_lent(
         date.year,
@@ -74,8 +75,8 @@ pub fn to_iso8601_by_lent<'a>(
     }
 }
 
-// The text of a date by the rows of a table that is tested elsewhere, without the rule. Refusals in order: 6 the parts, 1 the year, 11 the buffer; a refused call writes
-// nothing.
+// The text of a date by the rows of a table that is tested elsewhere, without the rule. Refusals in order: 6 the parts, 1 the year, 11 the buffer; a refused
+// call writes nothing.
 pub fn to_iso8601_by_rows(utc: UTC, table: AnnouncedRows, out: &mut [u8]) -> TextAnswer
     ensures { λ r. ⌜ TextCall (isoText (rowsOf table) (utc .0)) (now (out .entry)) r (now (out .exit)) ⌝ }
 {
@@ -91,8 +92,8 @@ pub fn to_iso8601_by_rows(utc: UTC, table: AnnouncedRows, out: &mut [u8]) -> Tex
     }
 }
 
-// The date as ISO 8601 text, rounded to the millisecond, at the start of the buffer, and the rule of its day; in a leap second the seconds are 60. Refusals in order: 20
-// to 22 the table, 6 the parts, 1 the year, 11 the buffer; a refused call writes nothing.
+// The date as ISO 8601 text, rounded to the millisecond, at the start of the buffer, and the rule of its day; in a leap second the seconds are 60. Refusals in
+// order: 20 to 22 the table, 6 the parts, 1 the year, 11 the buffer; a refused call writes nothing.
 pub fn to_iso8601(utc: UTC, table: AnnouncedRows, out: &mut [u8]) -> TextByRule
     ensures { λ r. ⌜ TextRuleCall (onward (tableOf table) (λ rows. isoTextByRule rows (utc .0))) (now (out .entry)) r (now (out .exit)) ⌝ }
 {

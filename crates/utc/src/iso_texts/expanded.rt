@@ -29,7 +29,8 @@ fn put_day<'a>(
     out: &mut [u8],
 ) -> TextByRule
     requires { ⌜ (date .month ≤ 12) × (date .day ≤ 31) ⌝ }
-    ensures { λ r. ⌜ TextRuleCall (withRule (dayTextExpanded (rowsIn size (now (months .entry)) (now (seconds .entry))) date fraction) (ruleOn (rowsIn size (now (months .entry)) (now (seconds .entry))) date)) (now (out .entry)) r (now (out .exit)) ⌝ }
+    ensures { λ r. ⌜ TextRuleCall (withRule (dayTextExpanded (rowsIn size (now (months .entry)) (now (seconds .entry))) date fraction)
+        (ruleOn (rowsIn size (now (months .entry)) (now (seconds .entry))) date)) (now (out .entry)) r (now (out .exit)) ⌝ }
 {
     match leap_table::offsets::leap_at_end_of_day_by_lent(
         date.year,
@@ -55,7 +56,8 @@ pub fn to_iso8601_expanded_by_lent<'a>(
     seconds: &'a [i32; 16],
     out: &mut [u8],
 ) -> TextByRule
-    ensures { λ r. ⌜ TextRuleCall (expandedByRule (rowsIn size (now (months .entry)) (now (seconds .entry))) (utc .0)) (now (out .entry)) r (now (out .exit)) ⌝ }
+    ensures { λ r. ⌜ TextRuleCall (expandedByRule (rowsIn size (now (months .entry)) (now (seconds .entry))) (utc .0)) (now (out .entry)) r (now (out .exit))
+        ⌝ }
 {
     let jd = utc.0;
     match julian::julian_to_calendar(jd.jd1, jd.jd2) {
@@ -67,8 +69,8 @@ pub fn to_iso8601_expanded_by_lent<'a>(
     }
 }
 
-// The text of a date by the rows of a table that is tested elsewhere, without the rule. Refusals in order: 6 the parts, 1 the year, 11 the buffer; a refused call writes
-// nothing.
+// The text of a date by the rows of a table that is tested elsewhere, without the rule. Refusals in order: 6 the parts, 1 the year, 11 the buffer; a refused
+// call writes nothing.
 pub fn to_iso8601_expanded_by_rows(utc: UTC, table: AnnouncedRows, out: &mut [u8]) -> TextAnswer
     ensures { λ r. ⌜ TextCall (isoTextExpanded (rowsOf table) (utc .0)) (now (out .entry)) r (now (out .exit)) ⌝ }
 {
@@ -84,8 +86,8 @@ pub fn to_iso8601_expanded_by_rows(utc: UTC, table: AnnouncedRows, out: &mut [u8
     }
 }
 
-// The date as ISO 8601 text of 23 or 27 bytes, rounded to the millisecond, at the start of the buffer, and the rule of its day. Refusals in order: 20 to 22 the table, 6
-// the parts, 1 the year, 11 the buffer; a refused call writes nothing.
+// The date as ISO 8601 text of 23 or 27 bytes, rounded to the millisecond, at the start of the buffer, and the rule of its day. Refusals in order: 20 to 22 the
+// table, 6 the parts, 1 the year, 11 the buffer; a refused call writes nothing.
 pub fn to_iso8601_expanded(utc: UTC, table: AnnouncedRows, out: &mut [u8]) -> TextByRule
     ensures { λ r. ⌜ TextRuleCall (onward (tableOf table) (λ rows. expandedByRule rows (utc .0))) (now (out .entry)) r (now (out .exit)) ⌝ }
 {

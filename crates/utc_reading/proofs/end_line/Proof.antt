@@ -6,16 +6,8 @@ use borrow.Author.Needs.{needs}
 use Rattle.utc_reading.proofs.end_line.Statement.{statement}
 use Rattle.utc_reading.proofs.end_line.Tie as tie
 
-slice-aggregate-put-answer-2 : tie.Need-slice-aggregate-put-answer-2
-slice-aggregate-put-answer-2 c = sym (length-take-le _ _ (omega (arith, c .before .if1 .left)))
-
 pub end-line-spec : {M : Type 1} → statement M
 end-line-spec =
     tie.close
-    (tie.spec
-    (λ c. search needs)
-    (λ c κs. search needs)
-    (λ c. search needs)
-    slice-aggregate-put-answer-2
-    (λ c κs. search needs)
-    (λ c. search needs))
+    (tie.spec (λ c. search needs) (λ c κs. search needs) (λ c. search needs) (λ c. sym (length-take-le _ _ (omega (arith, c .before .if1 .left))))
+    (λ c κs. search needs) (λ c. search needs))

@@ -41,15 +41,5 @@ returns-2 c = search needs
 pub main-spec : {M : Type 1} → statement M
 main-spec =
     tie.close
-    (tie.spec
-    Inv-loop
-    μ-loop
-    buffer-requires
-    loop-holds
-    slice-aggregate-read-some
-    read-some-requires
-    sub-turns
-    loop-less
-    loop-again
-    returns
+    (tie.spec Inv-loop μ-loop buffer-requires loop-holds slice-aggregate-read-some read-some-requires sub-turns loop-less loop-again returns
     returns-2)

@@ -13,14 +13,5 @@ slice-aggregate-write-all c = line-within (c .before .before .before .before .be
 pub put-answer-spec : {M : Type 1} → statement M
 put-answer-spec =
     tie.close
-    (tie.spec
-    (λ c κs. search needs)
-    (λ c. search needs)
-    (λ c κs. search needs)
-    (λ c. search needs)
-    (λ c. search needs)
-    array-share-prefix-out
-    slice-aggregate-write-all
-    (λ c κs. search needs)
-    (λ c. search needs)
-    (λ c. search needs))
+    (tie.spec (λ c κs. search needs) (λ c. search needs) (λ c κs. search needs) (λ c. search needs) (λ c. search needs) array-share-prefix-out
+    slice-aggregate-write-all (λ c κs. search needs) (λ c. search needs) (λ c. search needs))

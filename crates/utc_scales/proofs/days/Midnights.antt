@@ -95,9 +95,11 @@ module _ (n : ℤ) (t : CalendarDate) (e : t ≡ gregorianDate n) where
   day-of-month-fits = subst (λ (u : CalendarDate). SFits w32 (pos (u .day))) (sym e) (record { sfits = omega (arith, gregorian-in-range n .day-high) })
 
   pub handed : {A : Type 0} (f : ℤ → ℤ → ℤ → A) → SFits w32 (t .year)
-      → f (toZ w32 (ofZ w32 (t .year))) (toZ w32 (t .month)) (toZ w32 (t .day)) ≡ f (gregorianDate n .year) (pos (gregorianDate n .month)) (pos (gregorianDate n .day))
+      → f (toZ w32 (ofZ w32 (t .year))) (toZ w32 (t .month)) (toZ w32 (t .day)) ≡ f (gregorianDate n .year) (pos (gregorianDate n .month))
+      (pos (gregorianDate n .day))
   handed f y =
-      (λ i. f (toZ-ofZ y i) (toZ-pos w32 {n = t .month} (omega (arith, month-fits .sfits)) i) (toZ-pos w32 {n = t .day} (omega (arith, day-of-month-fits .sfits)) i))
+      (λ i. f (toZ-ofZ y i) (toZ-pos w32 {n = t .month} (omega (arith, month-fits .sfits)) i)
+      (toZ-pos w32 {n = t .day} (omega (arith, day-of-month-fits .sfits)) i))
       ∙ ap (λ (u : CalendarDate). f (u .year) (pos (u .month)) (pos (u .day))) e
 
 -- ---- THE MIDNIGHT of a day with a valid date
@@ -117,11 +119,13 @@ valid-midnight n r v =
 module _ (rows : List Row) (n : ℤ) where
   pub offset-early : validOf (gregorianDate n) ≡ refusal 1 → offsetAt0h rows (gregorianDate n) ≡ refusal 1
   unfolding offsetAt0h
-  offset-early v = let t = gregorianDate n in date-refused rows (t .year) (pos (t .month)) (pos (t .day)) nought in-day-zero 1 (mjd-refused (t .year) (pos (t .month)) (pos (t .day)) 1 v)
+  offset-early v = let t = gregorianDate n in date-refused rows (t .year) (pos (t .month)) (pos (t .day)) nought in-day-zero 1
+      (mjd-refused (t .year) (pos (t .month)) (pos (t .day)) 1 v)
 
   pub offsets-early : validOf (gregorianDate n) ≡ refusal 1 → offsetsOf rows (gregorianDate n) ≡ refusal 1
   unfolding offsetsOf
-  offsets-early v = let t = gregorianDate n in day-refused rows (t .year) (pos (t .month)) (pos (t .day)) 1 (mjd-refused (t .year) (pos (t .month)) (pos (t .day)) 1 v)
+  offsets-early v = let t = gregorianDate n in day-refused rows (t .year) (pos (t .month)) (pos (t .day)) 1
+      (mjd-refused (t .year) (pos (t .month)) (pos (t .day)) 1 v)
 
   pub offset-valid : (x : Float) → offsetAt0h rows (gregorianDate n) ≡ answer x → validOf (gregorianDate n) ≡ answer tt
   offset-valid x e = go (gregorian-refusal n)

@@ -63,7 +63,8 @@ module _ (rows : List Row) (x y : Float) where
   unfolding ruleOfDate
   rule-of-day d e = went _ (fields-of x y d e)
 
-  pub offset-by-rule : (d : DayNumber) → dayNumberAndFraction x y ≡ answer d → withRule (offsetAt0h rows (gregorianDate (d .day))) (ruleOn rows (gregorianDate (d .day))) ≡ offsetOfDateByRule rows x y
+  pub offset-by-rule : (d : DayNumber) → dayNumberAndFraction x y ≡ answer d
+      → withRule (offsetAt0h rows (gregorianDate (d .day))) (ruleOn rows (gregorianDate (d .day))) ≡ offsetOfDateByRule rows x y
   unfolding offsetOfDateByRule
   offset-by-rule d e =
       ap (λ (o : Outcome Float). withRule o (ruleOn rows (gregorianDate (d .day)))) (sym (offset-of-day rows x y d e))
@@ -86,6 +87,7 @@ module _ (rows : List Row) (x y : Float) where
   unfolding forget
   offset-refused k e = sym offset-forgets ∙ stopped _ e
 
-  pub offset-answered : (a : Float) (s : Rule) → offsetOfDateByRule rows x y ≡ answer (a, s) → (offsetOfDate rows x y ≡ answer a) × (ruleOfDate rows x y ≡ answer s)
+  pub offset-answered : (a : Float) (s : Rule) → offsetOfDateByRule rows x y ≡ answer (a, s) → (offsetOfDate rows x y ≡ answer a)
+      × (ruleOfDate rows x y ≡ answer s)
   unfolding offsetOfDateByRule
   offset-answered a s e = taken-apart (offsetOfDate rows x y) (ruleOfDate rows x y) a s e

@@ -22,7 +22,8 @@ pub parts-are : (d : JulianDate) (b : Bool) → b ≡ firstIsKept d → keptAs d
 unfolding keptParts
 parts-are d b e = ap (keptAs d) e
 
-pub changes : (f : Float → Float → Outcome Float) (d : JulianDate) (p : Parts) (o : Outcome Float) → p ≡ keptParts d → o ≡ f (p .larger) (p .smaller) → onward o (placed p) ≡ changeSmaller f d
+pub changes : (f : Float → Float → Outcome Float) (d : JulianDate) (p : Parts) (o : Outcome Float) → p ≡ keptParts d → o ≡ f (p .larger) (p .smaller)
+    → onward o (placed p) ≡ changeSmaller f d
 unfolding changeSmaller
 changes f d p o e h = ap (λ (x : Outcome Float). onward x (placed p)) h ∙ ap (λ (q : Parts). onward (f (q .larger) (q .smaller)) (placed q)) e
 
@@ -37,6 +38,7 @@ module _ (x y : Float) (n : ℕ) (e : dayNumberAndFraction x y ≡ refusal n) wh
   offset-no-date rows = stopped _ no-date
 
 -- ---- a pair with one
-pub offset-of-day : (rows : List Row) (x y : Float) (d : DayNumber) → dayNumberAndFraction x y ≡ answer d → offsetOfDate rows x y ≡ offsetAt0h rows (gregorianDate (d .day))
+pub offset-of-day : (rows : List Row) (x y : Float) (d : DayNumber) → dayNumberAndFraction x y ≡ answer d
+    → offsetOfDate rows x y ≡ offsetAt0h rows (gregorianDate (d .day))
 unfolding offsetOfDate
 offset-of-day rows x y d e = went _ (fields-of x y d e)

@@ -23,7 +23,11 @@ use Rattle.utc_scales.proofs.round_trip.DaySeconds.{date-of}
 use Rattle.utc_scales.proofs.drift.Drift.{utc-to-tai-on-line}
 
 pub same-row : (n : ℕ) → rowOn (suc n) ≡ rowOn n → NoStep n
-same-row n e = record { same = subst (λ (r : Row). r .units * 1000 + (n - 2400000) * r .rate + rowOn n .start * rowOn n .rate ≡ rowOn n .units * 1000 + (n - 2400000) * rowOn n .rate + r .start * r .rate) (sym e) refl }
+same-row n e = record {
+  same = subst
+      (λ (r : Row). r .units * 1000 + (n - 2400000) * r .rate + rowOn n .start * rowOn n .rate ≡ rowOn n .units * 1000 + (n - 2400000) * rowOn n .rate + r
+      .start * r .rate) (sym e) refl;
+}
 
 -- ---- the row of a date
 by-date : (n : ℕ) (t : CalendarDate) → dateOf (pos n) ≡ t → rowOn n ≡ rowAt (reached (starts fixed) (monthNumber (t .year) (t .month)))
@@ -54,7 +58,11 @@ row-next = by-date 2437666 (date (pos 1962) 1 1) date-next
 
 -- two rows, and no step between them
 pub last-of-1961 : NoStep 2437665
-last-of-1961 = record { same = subst₂ (λ (r s : Row). s .units * 1000 + 37665 * s .rate + r .start * r .rate ≡ r .units * 1000 + 37665 * r .rate + s .start * s .rate) (sym row-first) (sym row-next) refl }
+last-of-1961 = record {
+  same = subst₂
+      (λ (r s : Row). s .units * 1000 + 37665 * s .rate + r .start * r .rate ≡ r .units * 1000 + 37665 * r .rate + s .start * s .rate) (sym row-first)
+      (sym row-next) refl;
+}
 
 -- its 6h UTC: 2437664.5 and 0.25
 abbrev six : JulianDate

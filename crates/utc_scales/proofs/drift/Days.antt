@@ -1,4 +1,5 @@
--- The dates of the days 1961-01-01 to 1971-12-31 by their numbers: the year, the next date, and the three offsets of TAI-UTC, each near its row's formula. Assumes nothing.
+-- The dates of the days 1961-01-01 to 1971-12-31 by their numbers: the year, the next date, and the three offsets of TAI-UTC, each near its row's formula.
+-- Assumes nothing.
 use mathlib.Core.Path.{_≡_, refl, sym, ap, _∙_, subst}
 use mathlib.Core.Bool.{Bool, true, false}
 use Prim.Native.Nat.{ℕ, suc, _+_, _-_, _≤_}
@@ -60,13 +61,17 @@ since q (negsuc n) e = let z : true ≡ false = e in cc
 reached-on : (q i n : ℕ) → i ≤ n → ltZ (dateOf (pos i) .year) (pos q) ≡ false → ltZ (dateOf (pos n) .year) (pos q) ≡ false
 reached-on q i n g e =
     subst (λ (t : CalendarDate). ltZ (t .year) (pos q) ≡ false) (sym (at-count n))
-    (years-later (λ z. ltZ z (pos q) ≡ false) (since q) (i + 178141) (n + 178141) (omega arith) (subst (λ (t : CalendarDate). ltZ (t .year) (pos q) ≡ false) (at-count i) e))
+    (years-later (λ z. ltZ z (pos q) ≡ false) (since q) (i + 178141) (n + 178141) (omega arith)
+    (subst (λ (t : CalendarDate). ltZ (t .year) (pos q) ≡ false) (at-count i) e))
 
 pub year-of : (n : ℕ) → 2437301 ≤ n → n ≤ 2441317 → (y : ℕ) × (dateOf (pos n) .year ≡ pos y) × (1961 ≤ y) × (y ≤ 1971)
-year-of n l h = go (dateOf (pos n) .year) refl (reached-on 1961 2437301 n l (subst (λ (t : CalendarDate). ltZ (t .year) (pos 1961) ≡ false) (sym first-date) refl))
+year-of n l h = go (dateOf (pos n) .year) refl
+    (reached-on 1961 2437301 n l (subst (λ (t : CalendarDate). ltZ (t .year) (pos 1961) ≡ false) (sym first-date) refl))
   where
     not-yet : ltZ (dateOf (pos n) .year) (pos 1972) ≡ false → ⊥
-    not-yet e = let z : _≡_ {A = Bool} true false = subst (λ (t : CalendarDate). ltZ (t .year) (pos 1972) ≡ false) last-date (reached-on 1972 n 2441317 h e) in let w : _≡_ {A = ℕ} 0 1 = cc in absurd (omega arith)
+    not-yet e = let z : _≡_ {A = Bool} true false =
+        subst (λ (t : CalendarDate). ltZ (t .year) (pos 1972) ≡ false) last-date (reached-on 1972 n 2441317 h e) in let w : _≡_ {A = ℕ} 0 1 =
+        cc in absurd (omega arith)
 
     below : (y : ℕ) → (ltb y 1972 ≡ false → ⊥) → y ≤ 1971
     below y k = side (ltb y 1972) refl
@@ -76,11 +81,18 @@ year-of n l h = go (dateOf (pos n) .year) refl (reached-on 1961 2437301 n l (sub
         side false e = absurd (k e)
 
     go : (z : ℤ) → dateOf (pos n) .year ≡ z → ltZ (dateOf (pos n) .year) (pos 1961) ≡ false → (y : ℕ) × (dateOf (pos n) .year ≡ pos y) × (1961 ≤ y) × (y ≤ 1971)
-    go (pos y) e k = (y, e, ltb-false y 1961 (subst (λ (z : ℤ). ltZ z (pos 1961) ≡ false) e k), below y (λ f. not-yet (subst (λ (z : ℤ). ltZ z (pos 1972) ≡ false) (sym e) f)))
-    go (negsuc y) e k = let z : _≡_ {A = Bool} true false = subst (λ (z : ℤ). ltZ z (pos 1961) ≡ false) e k in let w : _≡_ {A = ℕ} 0 1 = cc in absurd (omega arith)
+    go (pos y) e k = (
+      y,
+      e,
+      ltb-false y 1961 (subst (λ (z : ℤ). ltZ z (pos 1961) ≡ false) e k),
+      below y (λ f. not-yet (subst (λ (z : ℤ). ltZ z (pos 1972) ≡ false) (sym e) f)),
+    )
+    go (negsuc y) e k = let z : _≡_ {A = Bool} true false = subst (λ (z : ℤ). ltZ z (pos 1961) ≡ false) e k in let w : _≡_ {A = ℕ} 0 1 =
+        cc in absurd (omega arith)
 
 -- ---- the formula of a day's row, at 0h and at 12h
-formula-at : (n : ℕ) → 2437301 ≤ n → n ≤ 2441317 → (f x : Float) → T (fits binary64 f) → taiUtcOffset fixed (dateOf (pos n) .year) (pos (dateOf (pos n) .month)) (pos (dateOf (pos n) .day)) f ≡ answer x → NearFormula (rowOn n) (n - 2400001) f x
+formula-at : (n : ℕ) → 2437301 ≤ n → n ≤ 2441317 → (f x : Float) → T (fits binary64 f)
+    → taiUtcOffset fixed (dateOf (pos n) .year) (pos (dateOf (pos n) .month)) (pos (dateOf (pos n) .day)) f ≡ answer x → NearFormula (rowOn n) (n - 2400001) f x
 unfolding rowOn monthNumber
 formula-at n l h f x g e = go (year-of n l h)
   where
@@ -88,17 +100,22 @@ formula-at n l h f x g e = go (year-of n l h)
     mjd y p =
         subst (λ (z : ℤ). mjdOf z (pos (dateOf (pos n) .month)) (pos (dateOf (pos n) .day)) ≡ answer (pos (n - 2400001))) p
         (subst (λ (x : CalendarDate). mjdOf (x .year) (pos (x .month)) (pos (x .day)) ≡ answer (pos (n - 2400001))) (date-of n (omega arith))
-        (mjd-of-date (pos n) refl (le-ltb 1000000000 n (omega arith)) (subst (λ (x : CalendarDate). ltZ (x .year) (negsuc 4798) ≡ false) (sym (date-of n (omega arith))) (subst (λ (z : ℤ). ltZ z (negsuc 4798) ≡ false) (sym p) refl))
+        (mjd-of-date (pos n) refl (le-ltb 1000000000 n (omega arith))
+        (subst (λ (x : CalendarDate). ltZ (x .year) (negsuc 4798) ≡ false) (sym (date-of n (omega arith)))
+        (subst (λ (z : ℤ). ltZ z (negsuc 4798) ≡ false) (sym p) refl))
         ∙ ap answer (sub-at n 2400001 (omega arith))))
 
     same-nat : (i j : ℕ) → _≡_ {A = ℤ} (pos i) (pos j) → i ≡ j
     same-nat i j e = cc
 
-    go : (y : ℕ) × (dateOf (pos n) .year ≡ pos y) × (1961 ≤ y) × (y ≤ 1971) → NearFormula (rowAt (reached (starts fixed) (monthNumber (dateOf (pos n) .year) (dateOf (pos n) .month)))) (n - 2400001) f x
+    go : (y : ℕ) × (dateOf (pos n) .year ≡ pos y) × (1961 ≤ y) × (y ≤ 1971)
+        → NearFormula (rowAt (reached (starts fixed) (monthNumber (dateOf (pos n) .year) (dateOf (pos n) .month)))) (n - 2400001) f x
     go (y, p, a, b) =
-        let (j, s, r) = drift-formula y (pos (dateOf (pos n) .month)) (pos (dateOf (pos n) .day)) f x (omega arith) b g (subst (λ (z : ℤ). taiUtcOffset fixed z (pos (dateOf (pos n) .month)) (pos (dateOf (pos n) .day)) f ≡ answer x) p e) in
+        let (j, s, r) = drift-formula y (pos (dateOf (pos n) .month)) (pos (dateOf (pos n) .day)) f x (omega arith) b g
+        (subst (λ (z : ℤ). taiUtcOffset fixed z (pos (dateOf (pos n) .month)) (pos (dateOf (pos n) .day)) f ≡ answer x) p e) in
         subst (λ (z : ℤ). NearFormula (rowAt (reached (starts fixed) (monthNumber z (dateOf (pos n) .month)))) (n - 2400001) f x) (sym p)
-        (subst (λ (i : ℕ). NearFormula (rowAt (reached (starts fixed) (monthOf y (dateOf (pos n) .month)))) i f x) (same-nat j (n - 2400001) (same-answer (sym s ∙ mjd y p))) r)
+        (subst (λ (i : ℕ). NearFormula (rowAt (reached (starts fixed) (monthOf y (dateOf (pos n) .month)))) i f x)
+        (same-nat j (n - 2400001) (same-answer (sym s ∙ mjd y p))) r)
 
 -- ---- the three offsets of a day
 pub record Offsets (n : ℕ) : Type 0 where
@@ -118,7 +135,8 @@ module _ (n : ℕ) (l : 2437301 ≤ n) (h : n ≤ 2441316) where
   valid = subst (λ (x : CalendarDate). validOf x ≡ answer tt) (date-of n (omega arith)) (gregorian-valid (pos n))
 
   not-last : lastDate (t .year) (t .month) (t .day) ≡ false
-  not-last = first-false _ _ (before-last (t .year) (subst (λ (x : CalendarDate). ltZ (pos 2733194) (x .year) ≡ false) (date-of n (omega arith)) (gregorian-in-range (pos n) .year-high)))
+  not-last = first-false _ _ (before-last (t .year)
+      (subst (λ (x : CalendarDate). ltZ (pos 2733194) (x .year) ≡ false) (date-of n (omega arith)) (gregorian-in-range (pos n) .year-high)))
 
   next-answered : nextOf (t .year) (pos (t .month)) (pos (t .day)) ≡ answer (dateOf (pos (suc n)))
   next-answered = by (t .year) (pos (t .month)) (pos (t .day)) valid false not-last ∙ ap answer (sym (next-date n))
@@ -145,5 +163,6 @@ module _ (n : ℕ) (l : 2437301 ≤ n) (h : n ≤ 2441316) where
             is = ap (λ (x : CalendarDate). offsetsOf fixed x) (date-of n (omega arith)) ∙ e ∙ ap answer k;
             at-0h = formula-at n l (omega arith) nought a nought-fits p;
             at-12h = formula-at n l (omega arith) half b half-fits r;
-            at-24h = formula-at (suc n) (omega arith) (omega arith) nought c nought-fits (subst (λ (x : CalendarDate). taiUtcOffset fixed (x .year) (pos (x .month)) (pos (x .day)) nought ≡ answer c) m i);
+            at-24h = formula-at (suc n) (omega arith) (omega arith) nought c nought-fits
+                (subst (λ (x : CalendarDate). taiUtcOffset fixed (x .year) (pos (x .month)) (pos (x .day)) nought ≡ answer c) m i);
           }

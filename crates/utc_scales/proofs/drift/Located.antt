@@ -64,7 +64,8 @@ module _ (n : ℕ) {d : JulianDate} (k : DriftDate n d) where
   first = subst₂ (λ (m q : ℕ). Val a ((2 * n - 1) * H) m q) (zero-mul H) (sym H-L) (val-scale H (k .midnight))
 
   noon : (2 * n - 1) * H + H ≡ n * L
-  noon = ap (λ (x : ℕ). (2 * n - 1) * H + x) (sym (one-mul H)) ∙ sym (add-mul (2 * n - 1) 1 H) ∙ ap (λ (x : ℕ). x * H) (back n (omega (arith, k .low))) ∙ mul-assoc n 2 H ∙ ap (λ (x : ℕ). n * x) (sym H-L)
+  noon = ap (λ (x : ℕ). (2 * n - 1) * H + x) (sym (one-mul H)) ∙ sym (add-mul (2 * n - 1) 1 H) ∙ ap (λ (x : ℕ). x * H) (back n (omega (arith, k .low)))
+      ∙ mul-assoc n 2 H ∙ ap (λ (x : ℕ). n * x) (sym H-L)
     where
       back : (n : ℕ) → 1 ≤ n → 2 * n - 1 + 1 ≡ n * 2
       back n g = omega arith
@@ -89,13 +90,17 @@ module _ (n : ℕ) {d : JulianDate} (k : DriftDate n d) where
     found = place a b halves (k .second-held) small taken _ _ _ _ first v
 
     -- what was rounded is held exactly
-    exactly : (tp tn zp zn : ℕ) (z : Float) → Rounds binary64 z ((2 * n - 1) * H + f + H + tn * L) (0 + 0 + tp * L) L → Val z zp zn L → 0 + 0 + tp * L ≤ (2 * n - 1) * H + f + H + tn * L → (2 * n - 1) * H + f + H + tn * L ≤ 0 + 0 + tp * L + L
+    exactly : (tp tn zp zn : ℕ) (z : Float) → Rounds binary64 z ((2 * n - 1) * H + f + H + tn * L) (0 + 0 + tp * L) L → Val z zp zn L
+        → 0 + 0 + tp * L ≤ (2 * n - 1) * H + f + H + tn * L → (2 * n - 1) * H + f + H + tn * L ≤ 0 + 0 + tp * L + L
         → zp + tp * L ≡ zn + (n * L + f + tn * L)
     exactly tp tn zp zn z r w low high =
         which (leb (n + tn) tp) (leb→le (n + tn) tp) (nleb→lt (n + tn) tp)
       where
         most : tp < suc (n + tn)
-        most = lt-of-mul-lt-mul-right L (subst (λ (x : ℕ). tp * L < x) (sym (ap (λ (x : ℕ). x * L) (one-more (n + tn)) ∙ add-mul 1 (n + tn) L ∙ ap (λ (x : ℕ). x + (n + tn) * L) (one-mul L) ∙ ap (λ (x : ℕ). L + x) (add-mul n tn L))) (go (tp * L) (tn * L) (n * L) ((2 * n - 1) * H) noon low))
+        most = lt-of-mul-lt-mul-right L
+            (subst (λ (x : ℕ). tp * L < x) (sym
+            (ap (λ (x : ℕ). x * L) (one-more (n + tn)) ∙ add-mul 1 (n + tn) L ∙ ap (λ (x : ℕ). x + (n + tn) * L) (one-mul L)
+            ∙ ap (λ (x : ℕ). L + x) (add-mul n tn L))) (go (tp * L) (tn * L) (n * L) ((2 * n - 1) * H) noon low))
           where
             one-more : (x : ℕ) → suc x ≡ 1 + x
             one-more x = omega arith
@@ -116,8 +121,11 @@ module _ (n : ℕ) {d : JulianDate} (k : DriftDate n d) where
 
         before : tp < n + tn → zp + tp * L ≡ zn + (n * L + f + tn * L)
         before g =
-            let q : tp * L + L ≤ n * L + tn * L = subst₂ (λ (x y : ℕ). x ≤ y) (add-mul tp 1 L ∙ ap (λ (x : ℕ). tp * L + x) (one-mul L)) (add-mul n tn L) (mul-le-mul-right L (next tp (n + tn) g)) in
-            go (n * L) (tn * L) (tp * L) ((2 * n - 1) * H) q noon high (val-unique w (again one-fits one-L (rounds-move r (shift ((2 * n - 1) * H) (n * L) (tn * L) (tp * L) noon q high))))
+            let q : tp * L + L ≤ n * L + tn * L =
+            subst₂ (λ (x y : ℕ). x ≤ y) (add-mul tp 1 L ∙ ap (λ (x : ℕ). tp * L + x) (one-mul L)) (add-mul n tn L)
+            (mul-le-mul-right L (next tp (n + tn) g)) in
+            go (n * L) (tn * L) (tp * L) ((2 * n - 1) * H) q noon high
+            (val-unique w (again one-fits one-L (rounds-move r (shift ((2 * n - 1) * H) (n * L) (tn * L) (tp * L) noon q high))))
           where
             next : (x y : ℕ) → x < y → x + 1 ≤ y
             next x y g = omega arith
@@ -136,7 +144,8 @@ module _ (n : ℕ) {d : JulianDate} (k : DriftDate n d) where
         which false g h = before (h tt)
 
     sum : plusZ (dayNumber a b) * L + found .units ≡ minusZ (dayNumber a b) * L + (n * L + f)
-    sum = go _ _ _ _ _ _ _ (found .sum) (exactly (found .tp) (found .tn) (found .zp) (found .zn) (found .z) (found .rounds) (found .z-val) (found .low) (found .high))
+    sum = go _ _ _ _ _ _ _ (found .sum)
+        (exactly (found .tp) (found .tn) (found .zp) (found .zn) (found .z) (found .rounds) (found .z-val) (found .low) (found .high))
       where
         go : (d e u zn tn zp tp : ℕ) → d + u + (zn + tn) ≡ e + (zp + tp) → zp + tp ≡ zn + (n * L + f + tn) → d + u ≡ e + (n * L + f)
         go d e u zn tn zp tp p q = omega arith
@@ -144,7 +153,8 @@ module _ (n : ℕ) {d : JulianDate} (k : DriftDate n d) where
     pub located-at : Located a b n
     unfolding dayOf
     located-at =
-        let below = plain (found .units) (lt-says L-pos (found .val) one-L (fraction-range a b (k .first-held) (k .second-held) (dayOf a b) (answered a b taken) .high)) in
+        let below = plain (found .units)
+        (lt-says L-pos (found .val) one-L (fraction-range a b (k .first-held) (k .second-held) (dayOf a b) (answered a b taken) .high)) in
         let r = only (dayNumber a b) (found .units) below sum in
         record {
           f = f;
@@ -160,14 +170,18 @@ module _ (n : ℕ) {d : JulianDate} (k : DriftDate n d) where
         plain u h = omega arith
 
         only : (z : ℤ) (u : ℕ) → u < L → plusZ z * L + u ≡ minusZ z * L + (n * L + f) → (z ≡ pos n) × (u ≡ f)
-        only (negsuc m) u h e = let x : suc m * L ≡ L + m * L = ap (λ (x : ℕ). x * L) (one-more m) ∙ add-mul 1 m L ∙ ap (λ (x : ℕ). x + m * L) (one-mul L) in absurd (no (suc m * L) (m * L) (n * L) (0 * L) (zero-mul L) x e)
+        only (negsuc m) u h e = let x : suc m * L ≡ L + m * L = ap (λ (x : ℕ). x * L) (one-more m) ∙ add-mul 1 m L
+            ∙ ap (λ (x : ℕ). x + m * L) (one-mul L) in absurd (no (suc m * L) (m * L) (n * L) (0 * L) (zero-mul L) x e)
           where
             one-more : (x : ℕ) → suc x ≡ 1 + x
             one-more x = omega arith
 
             no : (s m y o : ℕ) → o ≡ 0 → s ≡ L + m → o + u ≡ s + (y + f) → ⊥
             no s m y o z e g = omega arith
-        only (pos i) u h e = let q : i ≡ n = equal i n (less i n u f l (plain' (i * L) (n * L) (0 * L) (zero-mul L) e)) (less n i f u h (sym (plain' (i * L) (n * L) (0 * L) (zero-mul L) e))) in (ap pos q, last (i * L) (n * L) (0 * L) (zero-mul L) (ap (λ (x : ℕ). x * L) q) e)
+        only (pos i) u h e = let q : i ≡ n =
+            equal i n (less i n u f l (plain' (i * L) (n * L) (0 * L) (zero-mul L) e))
+            (less n i f u h (sym (plain' (i * L) (n * L) (0 * L) (zero-mul L)
+            e))) in (ap pos q, last (i * L) (n * L) (0 * L) (zero-mul L) (ap (λ (x : ℕ). x * L) q) e)
           where
             plain' : (x y o : ℕ) → o ≡ 0 → x + u ≡ o + (y + f) → x + u ≡ y + f
             plain' x y o z e = omega arith
@@ -179,7 +193,9 @@ module _ (n : ℕ) {d : JulianDate} (k : DriftDate n d) where
             last x y o z q e = omega arith
 
             less : (i j u f : ℕ) → f < L → i * L + u ≡ j * L + f → i ≤ j
-            less i j u f h e = back i j (lt-of-mul-lt-mul-right L (subst (λ (x : ℕ). i * L < x) (sym (ap (λ (x : ℕ). x * L) (more j) ∙ add-mul 1 j L ∙ ap (λ (x : ℕ). x + j * L) (one-mul L))) (under (i * L) (j * L) e)))
+            less i j u f h e = back i j (lt-of-mul-lt-mul-right L
+                (subst (λ (x : ℕ). i * L < x) (sym (ap (λ (x : ℕ). x * L) (more j) ∙ add-mul 1 j L ∙ ap (λ (x : ℕ). x + j * L) (one-mul L)))
+                (under (i * L) (j * L) e)))
               where
                 more : (x : ℕ) → suc x ≡ 1 + x
                 more x = omega arith

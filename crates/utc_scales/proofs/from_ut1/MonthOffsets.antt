@@ -19,7 +19,7 @@ use Rattle.calendar.specs.Refusals.{validDate}
 use Rattle.calendar.specs.Gregorian.{gregorianDate}
 use Rattle.calendar.proofs.Years.{validOf, gregorian-in-range, gregorian-refusal}
 use Rattle.calendar.proofs.Mjd.{mjd-given}
-use Rattle.leap_table.specs.rows.Table.{monthNumber, reached}
+use Rattle.leap_table.specs.rows.Table.{monthNumber}
 use Rattle.leap_table.specs.rows.Announced.{rowsIn}
 use Rattle.leap_table.specs.offsets.Offset.{offsetAt}
 use Rattle.leap_table.proofs.offsets.ByParts.{seconds-reached}
@@ -39,7 +39,9 @@ not-early (negsuc y) e = let z : _≡_ {A = ℕ} 0 1 = cc in absurd (omega arith
 
 not-one : (y m d : ℤ) → ltZ y (negsuc 4798) ≡ false → validDate y m d ≡ refusal 1 → ⊥
 unfolding validDate
-not-one y m d e v = go (ltZ m (pos 1) || ltZ (pos 12) m) (ltZ d (pos 1) || ltZ (pos (daysInMonth y m)) d) (sym (ap (λ (b : Bool). cond b (refusal 1) (cond (ltZ m (pos 1) || ltZ (pos 12) m) (refusal 2) (cond (ltZ d (pos 1) || ltZ (pos (daysInMonth y m)) d) (refusal 3) (answer tt)))) e) ∙ v)
+not-one y m d e v = go (ltZ m (pos 1) || ltZ (pos 12) m) (ltZ d (pos 1) || ltZ (pos (daysInMonth y m)) d)
+    (sym (ap (λ (b : Bool). cond b (refusal 1)
+    (cond (ltZ m (pos 1) || ltZ (pos 12) m) (refusal 2) (cond (ltZ d (pos 1) || ltZ (pos (daysInMonth y m)) d) (refusal 3) (answer tt)))) e) ∙ v)
   where
     go : (b c : Bool) → _≡_ {A = Outcome Unit} (cond b (refusal 2) (cond c (refusal 3) (answer tt))) (refusal 1) → ⊥
     go true c v = let z : _≡_ {A = ℕ} 2 1 = cc in absurd (omega arith)
@@ -63,7 +65,8 @@ module _ (size : ℕ) (m s : List ℤ) where
   same-offset : (n : ℕ) → 23664 ≤ n → (x y : Float) → offsetAt (rowsIn size m s) n x nought ≡ offsetAt (rowsIn size m s) n y nought
   same-offset n h x y = sym (seconds-reached size m s n _ h refl _ refl x nought) ∙ seconds-reached size m s n _ h refl _ refl y nought
 
-  pub month-right : (a : ℤ) (k : KnownMonth) → k .year ≡ gregorianDate a .year → k .month ≡ gregorianDate a .month → offsetAt0h (rowsIn size m s) (gregorianDate a) ≡ answer (k .seconds) → RightMonth (rowsIn size m s) k
+  pub month-right : (a : ℤ) (k : KnownMonth) → k .year ≡ gregorianDate a .year → k .month ≡ gregorianDate a .month
+      → offsetAt0h (rowsIn size m s) (gregorianDate a) ≡ answer (k .seconds) → RightMonth (rowsIn size m s) k
   unfolding RightMonth offsetAt0h
   month-right a k ey em e n fy fm l =
       let t = gregorianDate n in
@@ -71,6 +74,7 @@ module _ (size : ℕ) (m s : List ℤ) where
       let lt : leZ (pos 1972) (t .year) ≡ true = ap (leZ (pos 1972)) fy ∙ l in
       let same : monthNumber (t .year) (t .month) ≡ monthNumber (u .year) (u .month) = (λ i. monthNumber ((fy ∙ ey) i) ((fm ∙ em) i)) in
       let (z, p, q) = offset-came (rowsIn size m s) (u .year) (pos (u .month)) (pos (u .day)) nought (k .seconds) e in
-      offset-given (rowsIn size m s) (t .year) (pos (t .month)) (pos (t .day)) nought in-day-zero _ (mjd-given (t .year) (pos (t .month)) (pos (t .day)) (valid-late n lt))
+      offset-given (rowsIn size m s) (t .year) (pos (t .month)) (pos (t .day)) nought in-day-zero _
+      (mjd-given (t .year) (pos (t .month)) (pos (t .day)) (valid-late n lt))
       ∙ ap answer (same-offset (monthNumber (t .year) (t .month)) (late (t .year) (t .month) lt (gregorian-in-range n .month-low)) _ (ofInt binary64 z)
       ∙ ap (λ (w : ℕ). offsetAt (rowsIn size m s) w (ofInt binary64 z) nought) same ∙ sym q)

@@ -20,7 +20,8 @@ use Rattle.utc_scales.proofs.days.Midnights.{midnightOfDay, valid-midni
 use Rattle.utc_scales.proofs.days.Steps.{no-date}
 use Rattle.utc_scales.specs.from_ut1.Ut1Utc.{nearStep, noStep, step, scanDay, untilStep, scan}
 
-pub scan-no-date : (rows : List Row) (big small dut1 i before : Float) (n : ℕ) → dayNumberAndFraction big (add binary64 small i) ≡ refusal n → scanDay rows big small dut1 i before ≡ refusal n
+pub scan-no-date : (rows : List Row) (big small dut1 i before : Float) (n : ℕ) → dayNumberAndFraction big (add binary64 small i) ≡ refusal n
+    → scanDay rows big small dut1 i before ≡ refusal n
 unfolding scanDay
 scan-no-date rows big small dut1 i before n e = stopped _ (no-date big (add binary64 small i) n e)
 
@@ -31,14 +32,16 @@ module _ (rows : List Row) (big small dut1 i before : Float) (d : DayNumber) (e 
 
   module _ (x : Float) (p : offsetAt0h rows (gregorianDate (d .day)) ≡ answer x) where
     at-day : (b : Bool) → lt (abs (sub binary64 x before)) half ≡ b
-        → scanDay rows big small dut1 i before ≡ cond b (answer (noStep x)) (onward (midnightOf (gregorianDate (d .day))) (λ z. answer (step (nearStep big small dut1 (sub binary64 x before) z))))
+        → scanDay rows big small dut1 i before ≡ cond b (answer (noStep x))
+        (onward (midnightOf (gregorianDate (d .day))) (λ z. answer (step (nearStep big small dut1 (sub binary64 x before) z))))
     unfolding scanDay
     at-day b h = went _ (fields-of big (add binary64 small i) d e) ∙ went _ p ∙ rw h
 
     pub scan-no-step : lt (abs (sub binary64 x before)) half ≡ true → scanDay rows big small dut1 i before ≡ answer (noStep x)
     scan-no-step h = at-day true h
 
-    pub scan-step : InDays (d .day) → lt (abs (sub binary64 x before)) half ≡ false → scanDay rows big small dut1 i before ≡ answer (step (nearStep big small dut1 (sub binary64 x before) (midnightOfDay (d .day))))
+    pub scan-step : InDays (d .day) → lt (abs (sub binary64 x before)) half ≡ false
+        → scanDay rows big small dut1 i before ≡ answer (step (nearStep big small dut1 (sub binary64 x before) (midnightOfDay (d .day))))
     scan-step r h = at-day false h ∙ went _ (valid-midnight (d .day) r (offset-valid rows (d .day) x p))
 
 -- ---- the scan, of which 4 - i days are left at day i
@@ -49,11 +52,13 @@ module _ (rows : List Row) (big small dut1 : Float) (i : ℕ) (before : Float) (
   left : scan rows big small dut1 (4 - i) i before ≡ scan rows big small dut1 (suc (4 - (i + 1))) i before
   left = ap (λ (k : ℕ). scan rows big small dut1 k i before) (one-more i h)
 
-  pub scan-on : (x : Float) → scanDay rows big small dut1 (ofInt binary64 (pos i)) before ≡ answer (noStep x) → scan rows big small dut1 (4 - i) i before ≡ scan rows big small dut1 (4 - (i + 1)) (i + 1) x
+  pub scan-on : (x : Float) → scanDay rows big small dut1 (ofInt binary64 (pos i)) before ≡ answer (noStep x)
+      → scan rows big small dut1 (4 - i) i before ≡ scan rows big small dut1 (4 - (i + 1)) (i + 1) x
   unfolding scan untilStep
   scan-on x e = left ∙ went _ e
 
-  pub scan-ends : (x : Float) → scanDay rows big small dut1 (ofInt binary64 (pos i)) before ≡ answer (step x) → scan rows big small dut1 (4 - i) i before ≡ answer x
+  pub scan-ends : (x : Float) → scanDay rows big small dut1 (ofInt binary64 (pos i)) before ≡ answer (step x)
+      → scan rows big small dut1 (4 - i) i before ≡ answer x
   unfolding scan untilStep
   scan-ends x e = left ∙ went _ e
 

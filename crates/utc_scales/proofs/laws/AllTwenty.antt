@@ -1,4 +1,5 @@
--- All twenty conversions, by every table that is taken: for parts under 2 ^ 52 in size and offsets at most 10 ^ 9 s the answer is a date with finite parts, or a refusal by 6 or 1. Assumes nothing.
+-- All twenty conversions, by every table that is taken: for parts under 2 ^ 52 in size and offsets at most 10 ^ 9 s the answer is a date with finite parts, or
+-- a refusal by 6 or 1. Assumes nothing.
 use mathlib.Core.Path.{_≡_}
 use mathlib.Core.List.{List}
 use Rattle.refusals.specs.Outcome.{Outcome, answer, refusal}

@@ -1,5 +1,5 @@
--- THE TWENTY CONVERSIONS WHERE A TABLE IS LENT: a table that is refused gives its number whatever the date, and one that is taken the answer and the refusals of its
--- rows, those of document 01 and no others. With no announced rows every answer stays. Assumes nothing.
+-- THE TWENTY CONVERSIONS WHERE A TABLE IS LENT: a table that is refused gives its number whatever the date, and one that is taken the answer and the refusals
+-- of its rows, those of document 01 and no others. With no announced rows every answer stays. Assumes nothing.
 use mathlib.Core.Path.{_≡_, refl, sym, subst, _∙_}
 use mathlib.Core.Bool.{Bool, true, false, true≢false}
 use mathlib.Core.Logic.{inl, inr}
@@ -21,7 +21,8 @@ use Rattle.scales.specs.Conversions.{Conversion, answerOf}
 use Rattle.scales.specs.laws.Ranges.{Held, Billion, FiniteParts}
 use Rattle.scales.proofs.laws.Refuses.{refusals}
 use Rattle.utc_scales.specs.laws.Claims.{Holds, Any, SixOrOne, OfTable, WithTable}
-use Rattle.utc_scales.specs.laws.Twenty.{Twenty, by-formula, utc-tai, tai-utc, utc-ut1, ut1-utc, answerOfAny, announcedAnswer, readsTable, numbersOf, notFiniteNumber, givenOffset}
+use Rattle.utc_scales.specs.laws.Twenty.{Twenty, by-formula, utc-tai, tai-utc, utc-ut1, ut1-utc, answerOfAny, announcedAnswer, readsTable}
+use Rattle.utc_scales.specs.laws.Twenty.{numbersOf, notFiniteNumber, givenOffset}
 use Rattle.utc_scales.proofs.laws.Outcomes.{holds-answer, holds-refusal, holds-more}
 use Rattle.utc_scales.proofs.laws.Refusals.{utc-to-tai-refuses, tai-to-utc-refuses, utc-to-ut1-refuses, ut1-to-utc-refuses}
 use Rattle.utc_scales.proofs.laws.NotFinite.{utc-to-tai-not-finite, tai-to-utc-not-finite, utc-to-ut1-not-finite, ut1-to-utc-not-finite}
@@ -43,7 +44,8 @@ rows-refuse rows tai-utc d h = tai-to-utc-refuses rows d h
 rows-refuse rows (utc-ut1 dut1) d h = utc-to-ut1-refuses rows d dut1 h
 rows-refuse rows (ut1-utc dut1) d h = ut1-to-utc-refuses rows d dut1 h
 
-pub rows-not-finite : (rows : List Row) (k : Twenty) (d : JulianDate) → readsTable k ≡ true → finite (givenOffset k) ≡ true → finiteParts d ≡ false → answerOfAny rows k d ≡ refusal (notFiniteNumber k)
+pub rows-not-finite : (rows : List Row) (k : Twenty) (d : JulianDate) → readsTable k ≡ true → finite (givenOffset k) ≡ true → finiteParts d ≡ false
+    → answerOfAny rows k d ≡ refusal (notFiniteNumber k)
 unfolding answerOfAny givenOffset
 rows-not-finite rows (by-formula k) d r f h = absurd (true≢false (sym r))
 rows-not-finite rows utc-tai d r f h = utc-to-tai-not-finite rows d h
@@ -70,16 +72,19 @@ module _ (t : AnnouncedRows) where
   by-its-rows rows e (utc-ut1 dut1) d = went _ e
   by-its-rows rows e (ut1-utc dut1) d = went _ e
 
-  pub announced-not-finite : (rows : List Row) → tableOf t ≡ answer rows → (k : Twenty) (d : JulianDate) → readsTable k ≡ true → finite (givenOffset k) ≡ true → finiteParts d ≡ false → announcedAnswer t k d ≡ refusal (notFiniteNumber k)
+  pub announced-not-finite : (rows : List Row) → tableOf t ≡ answer rows → (k : Twenty) (d : JulianDate) → readsTable k ≡ true → finite (givenOffset k) ≡ true
+      → finiteParts d ≡ false → announcedAnswer t k d ≡ refusal (notFiniteNumber k)
   announced-not-finite rows e k d r f h = by-its-rows rows e k d ∙ rows-not-finite rows k d r f h
 
   -- ---- THE NUMBERS: those of document 01, and 20, 21 and 22 where the call reads a table
   under : {A : JulianDate → Type 0} {R : ℕ → Type 0} (k : Twenty) (d : JulianDate)
-      → ((u : AnnouncedRows) (rows : List Row) → tableOf u ≡ answer rows → Holds A R (answerOfAny rows k d)) → Holds A (WithTable (readsTable k) R) (announcedAnswer t k d)
+      → ((u : AnnouncedRows) (rows : List Row) → tableOf u ≡ answer rows → Holds A R (answerOfAny rows k d))
+      → Holds A (WithTable (readsTable k) R) (announcedAnswer t k d)
   unfolding announcedAnswer answerOfAny
   under {A} {R} k d h = go (table-decided t)
     where
-      away : (k : Twenty) → ((u : AnnouncedRows) (rows : List Row) → tableOf u ≡ answer rows → Holds A R (answerOfAny rows k d)) → (n : ℕ) → OfTable n → tableOf t ≡ refusal n → Holds A (WithTable (readsTable k) R) (announcedAnswer t k d)
+      away : (k : Twenty) → ((u : AnnouncedRows) (rows : List Row) → tableOf u ≡ answer rows → Holds A R (answerOfAny rows k d)) → (n : ℕ) → OfTable n
+          → tableOf t ≡ refusal n → Holds A (WithTable (readsTable k) R) (announcedAnswer t k d)
       away (by-formula k) h n o e = h none-announced fixed fixed-taken
       away utc-tai h n o e = holds-refusal n (table-first utc-tai d n refl e) (inl o)
       away tai-utc h n o e = holds-refusal n (table-first tai-utc d n refl e) (inl o)
@@ -95,15 +100,18 @@ module _ (t : AnnouncedRows) where
       go (order _ _ _ _ _ e) = away k h 21 (inr (inl refl)) e
       go (step _ _ _ _ _ _ e) = away k h 22 (inr (inr refl)) e
       go (taken _ _ _ _ e) =
-          subst (λ (o : Outcome JulianDate). Holds A (WithTable (readsTable k) R) o) (sym (by-its-rows (rowsOf t) e k d)) (holds-more (λ x a. a) (wider (readsTable k)) (h t (rowsOf t) e))
+          subst (λ (o : Outcome JulianDate). Holds A (WithTable (readsTable k) R) o) (sym (by-its-rows (rowsOf t) e k d))
+          (holds-more (λ x a. a) (wider (readsTable k)) (h t (rowsOf t) e))
 
   pub announced-refuses : (k : Twenty) (d : JulianDate) → Held d → Holds Any (WithTable (readsTable k) (numbersOf k)) (announcedAnswer t k d)
   announced-refuses k d h = under k d (λ u rows e. rows-refuse rows k d h)
 
   -- ---- DEMAND 1: no NaN and no infinity, whatever is lent
-  pub announced-no-nan-no-infinity : (k : Twenty) (d : JulianDate) → SmallParts d → Billion (givenOffset k) → Holds FiniteParts (WithTable (readsTable k) SixOrOne) (announcedAnswer t k d)
+  pub announced-no-nan-no-infinity : (k : Twenty) (d : JulianDate) → SmallParts d → Billion (givenOffset k)
+      → Holds FiniteParts (WithTable (readsTable k) SixOrOne) (announcedAnswer t k d)
   announced-no-nan-no-infinity k d h b = under k d (λ u rows e. table-no-nan-no-infinity u rows e k d h b)
 
 -- ---- with no announced rows every answer stays
-pub announced-none : (t : AnnouncedRows) → t .«months_size» ≡ 0 → t .«seconds_size» ≡ 0 → (k : Twenty) (d : JulianDate) → announcedAnswer t k d ≡ answerOfAny fixed k d
+pub announced-none : (t : AnnouncedRows) → t .«months_size» ≡ 0 → t .«seconds_size» ≡ 0 → (k : Twenty) (d : JulianDate)
+    → announcedAnswer t k d ≡ answerOfAny fixed k d
 announced-none t p q = by-its-rows t fixed (table-none t p q)

@@ -9,7 +9,8 @@ use Rattle.leap_table.specs.rows.Table.{fixed}
 use Rattle.utc_scales.specs.UtcTai.{utcToTai, taiToUtc}
 use Rattle.utc_scales.specs.to_ut1.UtcUt1.{utcToUt1}
 use Rattle.utc_scales.specs.from_ut1.Ut1Utc.{ut1ToUtc}
-use Rattle.utc_scales.proofs.laws.NotFinite.{utc-to-tai-not-finite, tai-to-utc-not-finite, utc-to-ut1-no-offset, ut1-to-utc-no-offset, utc-to-ut1-not-finite, ut1-to-utc-not-finite}
+use Rattle.utc_scales.proofs.laws.NotFinite.{utc-to-tai-not-finite, tai-to-utc-not-finite, utc-to-ut1-no-offset, ut1-to-utc-no-offset}
+use Rattle.utc_scales.proofs.laws.NotFinite.{utc-to-ut1-not-finite, ut1-to-utc-not-finite}
 
 utc-nan : utcToTai fixed (julian nan nought) ≡ refusal 6
 utc-nan = utc-to-tai-not-finite fixed (julian nan nought) refl

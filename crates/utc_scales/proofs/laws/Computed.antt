@@ -1,5 +1,5 @@
--- The four conversions that read the table, in a form that a check computes: the date of a day number by the Rust's divisions, where the calendar's definition counts day by
--- day. The same answers. Assumes nothing.
+-- The four conversions that read the table, in a form that a check computes: the date of a day number by the Rust's divisions, where the calendar's definition
+-- counts day by day. The same answers. Assumes nothing.
 use mathlib.Core.Path.{_≡_, refl, sym, _∙_}
 use mathlib.Core.Bool.{cond}
 use mathlib.Core.List.{List}
@@ -29,7 +29,8 @@ use Rattle.scales.specs.Conversions.{answerOf, tai-ut1}
 use Rattle.utc_scales.specs.days.LargerPart.{firstIsKept, keptParts, putBeside, placed, changeSmaller}
 use Rattle.utc_scales.specs.days.Dates.{offsetAt0h, offsetsOf, midnightOf, offsetOfDate}
 use Rattle.utc_scales.specs.UtcTai.{stretchDayFraction, taiFromMidnight, taiFraction, utcToTai, moved, refined, rounds, refineUtcFraction, taiToUtc}
-use Rattle.utc_scales.specs.from_ut1.Ut1Utc.{Scanned, noStep, step, beforeStep, timePastLeap, atMostOne, afterStep, nearStep, scanDay, untilStep, scan, adjustDut1, utcFraction, ut1ToUtc}
+use Rattle.utc_scales.specs.from_ut1.Ut1Utc.{Scanned, noStep, step, beforeStep, timePastLeap, atMostOne, afterStep, nearStep, scanDay, untilStep}
+use Rattle.utc_scales.specs.from_ut1.Ut1Utc.{scan, adjustDut1, utcFraction, ut1ToUtc}
 use Rattle.utc_scales.specs.to_ut1.UtcUt1.{utcToUt1}
 use Rattle.utc_scales.specs.laws.Twenty.{Twenty, by-formula, utc-tai, tai-utc, utc-ut1, ut1-utc, answerOfAny}
 
@@ -58,7 +59,8 @@ module _ (rows : List Row) where
 
   unfoldable roundsBy : Calendar → Float → Float → ℕ → Float → Outcome Float
   roundsBy cal big small zero guess = answer guess
-  roundsBy cal big small (suc k) guess = onward (onward (utcToTaiBy cal (julian big guess)) (λ tai. answer (moved big small guess tai))) (roundsBy cal big small k)
+  roundsBy cal big small (suc k) guess =
+      onward (onward (utcToTaiBy cal (julian big guess)) (λ tai. answer (moved big small guess tai))) (roundsBy cal big small k)
 
   unfoldable offsetIn : Calendar → Float → Float → Outcome Float
   offsetIn cal jd1 jd2 = onward (cal jd1 jd2) (λ c. offsetAt0h rows (c .date))
@@ -72,11 +74,13 @@ module _ (rows : List Row) where
 
   unfoldable scanBy : Calendar → Float → Float → Float → ℕ → ℕ → Float → Outcome Float
   scanBy cal big small dut1 zero i before = answer dut1
-  scanBy cal big small dut1 (suc k) i before = onward (scanDayBy cal big small dut1 (ofInt binary64 (pos i)) before) (untilStep (scanBy cal big small dut1 k (i + 1)))
+  scanBy cal big small dut1 (suc k) i before =
+      onward (scanDayBy cal big small dut1 (ofInt binary64 (pos i)) before) (untilStep (scanBy cal big small dut1 k (i + 1)))
 
   unfoldable utcBy : Calendar → Float → Float → Float → Outcome Float
   utcBy cal dut1 big small =
-      onward (onward (offsetIn cal big (add binary64 small (ofInt binary64 (negsuc 0)))) (scanBy cal big small dut1 4 0)) (λ x. answer (sub binary64 small (div binary64 x secondsPerDay)))
+      onward (onward (offsetIn cal big (add binary64 small (ofInt binary64 (negsuc 0)))) (scanBy cal big small dut1 4 0))
+      (λ x. answer (sub binary64 small (div binary64 x secondsPerDay)))
 
   unfoldable answerBy : Calendar → Twenty → JulianDate → Outcome JulianDate
   answerBy cal (by-formula k) d = answerOf k d
@@ -91,7 +95,8 @@ module _ (rows : List Row) where
 
   -- by the calendar's own function they are the calls' answers
   by-calendar : (c : Twenty) (d : JulianDate) → answerOfAny rows c d ≡ answerBy julianToCalendar c d
-  unfolding answerOfAny answerBy utcToTaiBy taiBy roundsBy offsetIn scanDayBy scanBy utcBy utcToTai taiFraction taiToUtc refineUtcFraction rounds refined utcToUt1 offsetOfDate ut1ToUtc utcFraction adjustDut1 scan scanDay
+  unfolding answerOfAny answerBy utcToTaiBy taiBy roundsBy offsetIn scanDayBy scanBy utcBy utcToTai taiFraction taiToUtc refineUtcFraction rounds refined
+      utcToUt1 offsetOfDate ut1ToUtc utcFraction adjustDut1 scan scanDay
   by-calendar (by-formula k) d = refl
   by-calendar utc-tai d = refl
   by-calendar tai-utc d = refl
@@ -101,9 +106,12 @@ module _ (rows : List Row) where
   -- ---- as a check computes them
   unfoldable pub computed : Twenty → JulianDate → Outcome JulianDate
   unfolding answerBy byDivision utcToTaiBy taiBy roundsBy offsetIn scanDayBy scanBy utcBy dividedDate dayNumberAndFraction onward
-      fixed monthNumber reached secondsOf startOf rateOf byRow offsetBy offsetAt inDay taiUtcOffset dayOffsets driftRate leapAmount mjdOf mjdNumber civilCount validDate nextOf next daysInMonth leapSize lengths
-      offsetAt0h offsetsOf midnightOf calendarToJulian firstIsKept keptParts putBeside placed changeSmaller stretchDayFraction taiFromMidnight moved beforeStep timePastLeap atMostOne afterStep nearStep untilStep
-      finiteJd finiteArg answerOf convertedBy finiteBoth finiteOffset changed Shifts.firstIsLarger Shifts.partsOf Shifts.putBack Shifts.mapSmallerPart plus minus daysOf secondsPerDay mjdZeroPoint
+      fixed monthNumber reached secondsOf startOf rateOf byRow offsetBy offsetAt inDay taiUtcOffset dayOffsets driftRate leapAmount mjdOf mjdNumber civilCount
+      validDate nextOf next daysInMonth leapSize lengths
+      offsetAt0h offsetsOf midnightOf calendarToJulian firstIsKept keptParts putBeside placed changeSmaller stretchDayFraction taiFromMidnight moved
+      beforeStep timePastLeap atMostOne afterStep nearStep untilStep
+      finiteJd finiteArg answerOf convertedBy finiteBoth finiteOffset changed Shifts.firstIsLarger Shifts.partsOf Shifts.putBack Shifts.mapSmallerPart plus
+      minus daysOf secondsPerDay mjdZeroPoint
       abs round ofBits ofInt add sub mul div neg lt le eq
   computed c d = literalDate (answerBy byDivision c d)
 

@@ -1,5 +1,5 @@
--- Dates of moderate size and what is computed of them with no table: parts that are at most a power of two, the seconds that are added, and UT1 to UTC near a step.
--- Assumes nothing.
+-- Dates of moderate size and what is computed of them with no table: parts that are at most a power of two, the seconds that are added, and UT1 to UTC near a
+-- step. Assumes nothing.
 use mathlib.Core.Path.{_≡_, refl, ap}
 use mathlib.Core.Bool.{Bool, true, false, cond}
 use Prim.Native.Nat.{ℕ, _+_, _*_, _^_, _≤_}
@@ -49,13 +49,61 @@ pub record Room (k : ℕ) : Type 0 where
   pub top6 : 2 ^ (k + 6) ≤ 2 ^ 1000
 
 pub room52 : Room 52
-room52 = record { least = lit≤ tt; a = lit≤ tt; b = lit≤ tt; c = lit≤ tt; wide = lit≤ tt; d = lit≤ tt; e = lit≤ tt; f = lit≤ tt; top1 = lit≤ tt; top2 = lit≤ tt; top3 = lit≤ tt; top4 = lit≤ tt; top5 = lit≤ tt; top6 = lit≤ tt }
+room52 = record {
+  least = lit≤ tt;
+  a = lit≤ tt;
+  b = lit≤ tt;
+  c = lit≤ tt;
+  wide = lit≤ tt;
+  d = lit≤ tt;
+  e = lit≤ tt;
+  f = lit≤ tt;
+  top1 = lit≤ tt;
+  top2 =
+      lit≤ tt;
+  top3 = lit≤ tt;
+  top4 = lit≤ tt;
+  top5 = lit≤ tt;
+  top6 = lit≤ tt;
+}
 
 pub room58 : Room 58
-room58 = record { least = lit≤ tt; a = lit≤ tt; b = lit≤ tt; c = lit≤ tt; wide = lit≤ tt; d = lit≤ tt; e = lit≤ tt; f = lit≤ tt; top1 = lit≤ tt; top2 = lit≤ tt; top3 = lit≤ tt; top4 = lit≤ tt; top5 = lit≤ tt; top6 = lit≤ tt }
+room58 = record {
+  least = lit≤ tt;
+  a = lit≤ tt;
+  b = lit≤ tt;
+  c = lit≤ tt;
+  wide = lit≤ tt;
+  d = lit≤ tt;
+  e = lit≤ tt;
+  f = lit≤ tt;
+  top1 = lit≤ tt;
+  top2 =
+      lit≤ tt;
+  top3 = lit≤ tt;
+  top4 = lit≤ tt;
+  top5 = lit≤ tt;
+  top6 = lit≤ tt;
+}
 
 pub room64 : Room 64
-room64 = record { least = lit≤ tt; a = lit≤ tt; b = lit≤ tt; c = lit≤ tt; wide = lit≤ tt; d = lit≤ tt; e = lit≤ tt; f = lit≤ tt; top1 = lit≤ tt; top2 = lit≤ tt; top3 = lit≤ tt; top4 = lit≤ tt; top5 = lit≤ tt; top6 = lit≤ tt }
+room64 = record {
+  least = lit≤ tt;
+  a = lit≤ tt;
+  b = lit≤ tt;
+  c = lit≤ tt;
+  wide = lit≤ tt;
+  d = lit≤ tt;
+  e = lit≤ tt;
+  f = lit≤ tt;
+  top1 = lit≤ tt;
+  top2 =
+      lit≤ tt;
+  top3 = lit≤ tt;
+  top4 = lit≤ tt;
+  top5 = lit≤ tt;
+  top6 = lit≤ tt;
+}
 
 -- a date whose parts are at most 2 ^ k
 pub record Sized (k : ℕ) (d : JulianDate) : Type 0 where
@@ -78,7 +126,8 @@ put-size k d x s w = go (keptParts d .first)
     go true = record { first = s; second = w }
     go false = record { first = w; second = s }
 
-pub changed-size : (k : ℕ) {R : ℕ → Type 0} (f : Float → Float → Outcome Float) (d : JulianDate) → Size (keptParts d .larger) k → Holds (λ z. Size z k) R (f (keptParts d .larger) (keptParts d .smaller)) → Holds (Sized k) R (changeSmaller f d)
+pub changed-size : (k : ℕ) {R : ℕ → Type 0} (f : Float → Float → Outcome Float) (d : JulianDate) → Size (keptParts d .larger) k
+    → Holds (λ z. Size z k) R (f (keptParts d .larger) (keptParts d .smaller)) → Holds (Sized k) R (changeSmaller f d)
 unfolding changeSmaller placed
 changed-size k f d s h = holds-onward _ h (λ x w. answers (put-size k d x s w))
 
@@ -91,7 +140,11 @@ pub finite-parts : (k : ℕ) (d : JulianDate) → Sized k d → FiniteParts d
 finite-parts k d s = (size-finite (d .jd1) (2 ^ k * L) (s .first), size-finite (d .jd2) (2 ^ k * L) (s .second))
 
 pub small-size : (d : JulianDate) → SmallParts d → Sized 52 d
-small-size d h = record { first = under-size (d .jd1) 52 (h .first .held) (h .first .small); second = under-size (d .jd2) 52 (h .second .held) (h .second .small) }
+small-size d h = record {
+  first = under-size (d .jd1) 52 (h .first .held) (h .first .small);
+  second =
+      under-size (d .jd2) 52 (h .second .held) (h .second .small);
+}
 
 pub held : (d : JulianDate) → SmallParts d → Held d
 held d h = (h .first .held, h .second .held)
@@ -153,7 +206,8 @@ module _ (big small dut1 : Float) (sb : Size big 52) (ss : Size small 52) (sd : 
       either-size (lt nought (timePastLeap big small (midnightOfDay n) (beforeStep delta dut1))) 84
       (size-add 31 83 84 (lit≤ tt) (lit≤ tt) d
       (size-mul 12 71 (lit≤ tt) s
-      (either-size (lt (div binary64 (mul binary64 (timePastLeap big small (midnightOfDay n) (beforeStep delta dut1)) secondsPerDay) (add binary64 secondsPerDay delta)) one) 71
+      (either-size (lt (div binary64 (mul binary64 (timePastLeap big small (midnightOfDay n) (beforeStep delta dut1)) secondsPerDay)
+      (add binary64 secondsPerDay delta)) one) 71
       (size-div 71 (lit≤ tt) (size-mul 54 17 (lit≤ tt) (past-size n r _ d) day-size) (day-more-above s)) (size-more 0 71 (lit≤ tt) (power-size 0)))))
       (size-more 31 84 (lit≤ tt) d)
 
@@ -162,7 +216,8 @@ abbrev pub ScanSize : Scanned → Type 0
 ScanSize (noStep x) = Size x 11
 ScanSize (step x) = Size x 84
 
-pub until-size : (next : Float → Outcome Float) → ((x : Float) → Size x 11 → Holds (λ z. Size z 84) SixOrOne (next x)) → (s : Scanned) → ScanSize s → Holds (λ z. Size z 84) SixOrOne (untilStep next s)
+pub until-size : (next : Float → Outcome Float) → ((x : Float) → Size x 11 → Holds (λ z. Size z 84) SixOrOne (next x)) → (s : Scanned) → ScanSize s
+    → Holds (λ z. Size z 84) SixOrOne (untilStep next s)
 unfolding untilStep
 until-size next h (noStep x) s = h x s
 until-size next h (step x) s = answers s

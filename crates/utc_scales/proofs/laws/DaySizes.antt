@@ -1,4 +1,5 @@
--- The sizes of what a day hands to UTC to TAI and to UTC to UT1, by every table that is taken: its midnight, the fraction of it, stretched, and TAI-UTC. Assumes nothing.
+-- The sizes of what a day hands to UTC to TAI and to UTC to UT1, by every table that is taken: its midnight, the fraction of it, stretched, and TAI-UTC.
+-- Assumes nothing.
 use mathlib.Core.Path.{_≡_, refl, _∙_}
 use mathlib.Core.Bool.{true}
 use mathlib.Core.Logic.{inl, inr}
@@ -73,4 +74,5 @@ module _ (t : AnnouncedRows) (rows : List Row) (taken : tableOf t ≡ answer row
       go (valid a e b v r) =
           let s = dateIn x y in
           let o = offset-answered rows (dayOf x y .day) v in
-          holds-answer (o .0) (offset-of-day rows x y (dayOf x y) e ∙ o .1) (offset-size t rows taken (s .year) (pos (s .month)) (pos (s .day)) nought (o .0) (zero-size 0) (o .1))
+          holds-answer (o .0) (offset-of-day rows x y (dayOf x y) e ∙ o .1)
+          (offset-size t rows taken (s .year) (pos (s .month)) (pos (s .day)) nought (o .0) (zero-size 0) (o .1))

@@ -1,4 +1,5 @@
--- The three kinds of a pair of parts: no day, a day whose year is before -4799, and a day with a valid date, whose offsets are answered for any rows. Assumes nothing.
+-- The three kinds of a pair of parts: no day, a day whose year is before -4799, and a day with a valid date, whose offsets are answered for any rows. Assumes
+-- nothing.
 use mathlib.Core.Path.{_≡_, refl, _∙_}
 use mathlib.Core.Bool.{Bool, true, false, cond, _||_}
 use mathlib.Core.List.{List}
@@ -42,7 +43,8 @@ dateIn x y = gregorianDate (dayOf x y .day)
 pub data Kind (x y : Float) : Type 0 where
   outside : D.accepted x y ≡ false → dayNumberAndFraction x y ≡ refusal 6 → Kind x y
   before : D.accepted x y ≡ true → dayNumberAndFraction x y ≡ answer (dayOf x y) → early (dateIn x y) ≡ true → validOf (dateIn x y) ≡ refusal 1 → Kind x y
-  valid : D.accepted x y ≡ true → dayNumberAndFraction x y ≡ answer (dayOf x y) → early (dateIn x y) ≡ false → validOf (dateIn x y) ≡ answer tt → InDays (dayOf x y .day) → Kind x y
+  valid : D.accepted x y ≡ true → dayNumberAndFraction x y ≡ answer (dayOf x y) → early (dateIn x y) ≡ false → validOf (dateIn x y) ≡ answer tt
+      → InDays (dayOf x y .day) → Kind x y
 
 differ : {X : Type 0} (m n : ℕ) → (m ≡ n → ⊥) → _≡_ {A = Outcome X} (refusal m) (refusal n) → ⊥
 differ m n h e = h (cc)
@@ -62,7 +64,8 @@ pub kind : (x y : Float) → T (fits binary64 x) → T (fits binary64 y) → Kin
 kind x y f g = go (D.accepted x y) refl
   where
     split : D.accepted x y ≡ true → (validOf (dateIn x y) ≡ answer tt) ⊎ (validOf (dateIn x y) ≡ refusal 1) → Kind x y
-    split e (inl v) = let t = dateIn x y in valid e (answered x y e) (date-accepted (t .year) (pos (t .month)) (pos (t .day)) v .year) v (day-range x y f g (dayOf x y) (answered x y e))
+    split e (inl v) = let t = dateIn x y in valid e (answered x y e) (date-accepted (t .year) (pos (t .month)) (pos (t .day)) v .year) v
+        (day-range x y f g (dayOf x y) (answered x y e))
     split e (inr v) = let t = dateIn x y in before e (answered x y e) (refused-early (t .year) (pos (t .month)) (pos (t .day)) v) v
 
     go : (b : Bool) → D.accepted x y ≡ b → Kind x y
@@ -79,10 +82,15 @@ module _ (rows : List Row) (n : ℤ) (v : validOf (gregorianDate n) ≡ answer t
 
   pub offset-answered : (x : Float) × (offsetAt0h rows t ≡ answer x)
   unfolding offsetAt0h
-  offset-answered = (_, offset-given rows (t .year) (pos (t .month)) (pos (t .day)) nought in-day-zero _ (mjd-given (t .year) (pos (t .month)) (pos (t .day)) v))
+  offset-answered = (
+    _,
+    offset-given rows (t .year) (pos (t .month)) (pos (t .day)) nought in-day-zero _
+        (mjd-given (t .year) (pos (t .month)) (pos (t .day)) v),
+  )
 
   next-answered : nextOf (t .year) (pos (t .month)) (pos (t .day)) ≡ answer (next (date (t .year) (t .month) (t .day)))
-  next-answered = by (t .year) (pos (t .month)) (pos (t .day)) v false (not-last (t .year) (t .month) (t .day) (before-last (t .year) (gregorian-in-range n .year-high)))
+  next-answered = by (t .year) (pos (t .month)) (pos (t .day)) v false
+      (not-last (t .year) (t .month) (t .day) (before-last (t .year) (gregorian-in-range n .year-high)))
 
   pub offsets-answered : (o : DayOffsets) × (offsetsOf rows t ≡ answer o)
   unfolding offsetsOf

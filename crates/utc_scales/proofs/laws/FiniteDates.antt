@@ -1,5 +1,5 @@
--- FINITE DATES, by every table that is taken: where the parts are below 2 ^ 52 in size, and DUT1 at most 10 ^ 9 s, each of the four conversions gives a date of finite
--- parts, or is refused with 6 or 1. The sizes are kept as powers of two. Assumes nothing.
+-- FINITE DATES, by every table that is taken: where the parts are below 2 ^ 52 in size, and DUT1 at most 10 ^ 9 s, each of the four conversions gives a date of
+-- finite parts, or is refused with 6 or 1. The sizes are kept as powers of two. Assumes nothing.
 use mathlib.Core.Path.{_≡_, refl, sym, subst, _∙_}
 use mathlib.Core.Bool.{Bool, true, false}
 use mathlib.Core.Logic.{inl, inr}
@@ -37,7 +37,8 @@ use Rattle.utc_scales.proofs.laws.Refusals.{parts-fit}
 use Rattle.utc_scales.proofs.laws.OffsetSizes.{offset-size, offsets-size, zero-size, day-above, zero-point-size}
 use Rattle.utc_scales.proofs.laws.DaySizes.{midnight-size, since-midnight-size, day-offset-size}
 use Rattle.utc_scales.proofs.laws.FiniteTai.{table-utc-to-tai-never-infinite}
-use Rattle.utc_scales.proofs.laws.DateSizes.{Room, room52, room58, room64, Sized, parts-size, changed-size, Guess, finite-parts, small-size, held, billion-size, later-finite, offset-answers, step-size, ScanSize, until-size, date-answers}
+use Rattle.utc_scales.proofs.laws.DateSizes.{Room, room52, room58, room64, Sized, parts-size, changed-size, Guess, finite-parts, small-size}
+use Rattle.utc_scales.proofs.laws.DateSizes.{held, billion-size, later-finite, offset-answers, step-size, ScanSize, until-size, date-answers}
 
 -- ---- THE THEOREMS, of every table that is taken
 module _ (t : AnnouncedRows) (rows : List Row) (taken : tableOf t ≡ answer rows) where
@@ -62,7 +63,8 @@ module _ (t : AnnouncedRows) (rows : List Row) (taken : tableOf t ≡ answer row
   utc-size k w d h s =
       let p = parts-fit d h in
       let q = parts-size k d s in
-      changed-size (k + 3) (taiFraction rows) d (size-more k (k + 3) (w .wide) (q .0)) (tai-size k w (keptParts d .larger) (keptParts d .smaller) (p .0) (p .1) (q .0))
+      changed-size (k + 3) (taiFraction rows) d (size-more k (k + 3) (w .wide) (q .0))
+      (tai-size k w (keptParts d .larger) (keptParts d .smaller) (p .0) (p .1) (q .0))
 
   module _ (big small : Float) (fb : Fits big) where
     round-size : (k : ℕ) → Room k → Size big k → Size small k → (guess : Float) → Guess k guess → Holds (Guess (k + 6)) SixOrOne (refined rows big small guess)
@@ -93,7 +95,8 @@ module _ (t : AnnouncedRows) (rows : List Row) (taken : tableOf t ≡ answer row
       let p = parts-fit d (held d h) in
       let q = parts-size 52 d (small-size d h) in
       holds-more (finite-parts 70) (λ n r. r)
-      (changed-size 70 (refineUtcFraction rows) d (size-more 52 70 (lit≤ tt) (q .0)) (rounds-size (keptParts d .larger) (keptParts d .smaller) (p .0) (record { fits = p .1; size = q .1 }) (q .0)))
+      (changed-size 70 (refineUtcFraction rows) d (size-more 52 70 (lit≤ tt) (q .0))
+      (rounds-size (keptParts d .larger) (keptParts d .smaller) (p .0) (record { fits = p .1; size = q .1 }) (q .0)))
 
   pub table-utc-to-ut1-finite : (d : JulianDate) (dut1 : Float) → SmallParts d → Billion dut1 → Holds FiniteParts SixOrOne (utcToUt1 rows d dut1)
   unfolding utcToUt1
@@ -101,7 +104,8 @@ module _ (t : AnnouncedRows) (rows : List Row) (taken : tableOf t ≡ answer row
       let s = billion-size dut1 b in
       subst (λ (o : Outcome JulianDate). Holds FiniteParts SixOrOne o) (sym (went _ (offset-answers dut1 30 s)))
       (holds-onward _ (utc-size 52 room52 d (held d h) (small-size d h)) (λ u z.
-      holds-onward _ (day-offset-size t rows taken (d .jd1) (d .jd2) (h .first .held) (h .second .held)) (λ x w. later-finite u _ z (size-sub 30 11 31 (lit≤ tt) (lit≤ tt) s w))))
+      holds-onward _ (day-offset-size t rows taken (d .jd1) (d .jd2) (h .first .held) (h .second .held))
+      (λ x w. later-finite u _ z (size-sub 30 11 31 (lit≤ tt) (lit≤ tt) s w))))
 
   module _ (big small dut1 : Float) (fb : Fits big) (sb : Size big 52) (ss : Size small 52) (sd : Size dut1 30) where
     scan-day-size : (i earlier : Float) → Size earlier 11 → Holds ScanSize SixOrOne (scanDay rows big small dut1 i earlier)
@@ -113,11 +117,15 @@ module _ (t : AnnouncedRows) (rows : List Row) (taken : tableOf t ≡ answer row
         go (before a e b v) = holds-refusal 1 (scan-no-offset rows big small dut1 i earlier _ e 1 (offset-early rows _ v)) (inr refl)
         go (valid a e b v r) = let o = offset-answered rows _ v in compare (o .0) (o .1) (lt (abs (sub binary64 (o .0) earlier)) half) refl
           where
-            compare : (x : Float) → offsetAt0h rows (dateIn big (add binary64 small i)) ≡ answer x → (s : Bool) → lt (abs (sub binary64 x earlier)) half ≡ s → Holds ScanSize SixOrOne (scanDay rows big small dut1 i earlier)
-            compare x p true h = let s = dateIn big (add binary64 small i) in holds-answer (noStep x) (scan-no-step rows big small dut1 i earlier _ e x p h) (offset-size t rows taken (s .year) (pos (s .month)) (pos (s .day)) nought x (zero-size 0) p)
+            compare : (x : Float) → offsetAt0h rows (dateIn big (add binary64 small i)) ≡ answer x → (s : Bool) → lt (abs (sub binary64 x earlier)) half ≡ s
+                → Holds ScanSize SixOrOne (scanDay rows big small dut1 i earlier)
+            compare x p true h = let s = dateIn big (add binary64 small i) in holds-answer (noStep x) (scan-no-step rows big small dut1 i earlier _ e x p h)
+                (offset-size t rows taken (s .year) (pos (s .month)) (pos (s .day)) nought x (zero-size 0) p)
             compare x p false h =
                 let s = dateIn big (add binary64 small i) in
-                holds-answer _ (scan-step rows big small dut1 i earlier _ e x p r h) (step-size big small dut1 sb ss sd _ _ (size-sub 11 11 12 (lit≤ tt) (lit≤ tt) (offset-size t rows taken (s .year) (pos (s .month)) (pos (s .day)) nought x (zero-size 0) p) z) r)
+                holds-answer _ (scan-step rows big small dut1 i earlier _ e x p r h)
+                (step-size big small dut1 sb ss sd _ _
+                (size-sub 11 11 12 (lit≤ tt) (lit≤ tt) (offset-size t rows taken (s .year) (pos (s .month)) (pos (s .day)) nought x (zero-size 0) p) z) r)
 
     scan-size : (k i : ℕ) (earlier : Float) → Size earlier 11 → Holds (λ z. Size z 84) SixOrOne (scan rows big small dut1 k i earlier)
     unfolding scan
@@ -127,7 +135,8 @@ module _ (t : AnnouncedRows) (rows : List Row) (taken : tableOf t ≡ answer row
     utc-part-size : Holds (λ z. Size z 85) SixOrOne (utcFraction rows dut1 big small)
     unfolding utcFraction adjustDut1
     utc-part-size =
-        holds-onward _ (holds-onward _ (day-offset-size t rows taken big (add binary64 small (ofInt binary64 (negsuc 0))) fb (add-fits binary64 small _)) (λ x w. scan-size 4 0 x w))
+        holds-onward _ (holds-onward _ (day-offset-size t rows taken big (add binary64 small (ofInt binary64 (negsuc 0))) fb (add-fits binary64 small _))
+        (λ x w. scan-size 4 0 x w))
         (λ x w. answers (size-sub 52 84 85 (lit≤ tt) (lit≤ tt) ss (size-div 84 (lit≤ tt) w day-above)))
 
   pub table-ut1-to-utc-finite : (d : JulianDate) (dut1 : Float) → SmallParts d → Billion dut1 → Holds FiniteParts SixOrOne (ut1ToUtc rows d dut1)
@@ -139,7 +148,8 @@ module _ (t : AnnouncedRows) (rows : List Row) (taken : tableOf t ≡ answer row
       let w = billion-size dut1 b in
       subst (λ (o : Outcome JulianDate). Holds FiniteParts SixOrOne o) (sym (went _ (offset-answers dut1 30 w) ∙ went _ (date-answers d s)))
       (holds-more (finite-parts 85) (λ n r. r)
-      (changed-size 85 (utcFraction rows dut1) d (size-more 52 85 (lit≤ tt) (q .0)) (utc-part-size (keptParts d .larger) (keptParts d .smaller) dut1 (p .0) (q .0) (q .1) w)))
+      (changed-size 85 (utcFraction rows dut1) d (size-more 52 85 (lit≤ tt) (q .0))
+      (utc-part-size (keptParts d .larger) (keptParts d .smaller) dut1 (p .0) (q .0) (q .1) w)))
 
 -- ---- of the fixed one
 pub utc-to-tai-finite : (d : JulianDate) → SmallParts d → Holds FiniteParts SixOrOne (utcToTai fixed d)

@@ -1,5 +1,5 @@
--- UTC TO TAI IS FINITE, by every table that is taken and for all floats: where it gives a date, both parts are finite. The larger part stays, and the numbers that are
--- added to it are far below 2 ^ 969 in size, so that a finite part stays finite. Assumes nothing.
+-- UTC TO TAI IS FINITE, by every table that is taken and for all floats: where it gives a date, both parts are finite. The larger part stays, and the numbers
+-- that are added to it are far below 2 ^ 969 in size, so that a finite part stays finite. Assumes nothing.
 use mathlib.Core.Path.{_≡_, refl, sym, subst}
 use mathlib.Core.Bool.{Bool, true, false}
 use mathlib.Core.Logic.{inl, inr}

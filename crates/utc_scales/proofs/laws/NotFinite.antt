@@ -1,5 +1,5 @@
--- WHAT IS NOT FINITE IS REFUSED, for any rows: a part that is not finite by 6 in UTC to TAI, TAI to UTC and UTC to UT1 and by 9 in UT1 to UTC, and a DUT1 that is
--- not finite by 10. Assumes nothing.
+-- WHAT IS NOT FINITE IS REFUSED, for any rows: a part that is not finite by 6 in UTC to TAI, TAI to UTC and UTC to UT1 and by 9 in UT1 to UTC, and a DUT1 that
+-- is not finite by 10. Assumes nothing.
 use mathlib.Core.Path.{_≡_, refl, ap, _∙_, subst}
 use mathlib.Core.Bool.{Bool, true, false, cond, _&&_}
 use mathlib.Core.List.{List}
@@ -50,11 +50,14 @@ parts-not d e = go (firstIsKept d)
 
 pub utc-to-tai-not-finite : (rows : List Row) (d : JulianDate) → finiteParts d ≡ false → utcToTai rows d ≡ refusal 6
 unfolding utcToTai changeSmaller
-utc-to-tai-not-finite rows d e = let p = keptParts d in stopped _ (tai-no-date (p .larger) (p .smaller) 6 (refused (p .larger) (p .smaller) (not-accepted (p .larger) (p .smaller) (parts-not d e))) rows)
+utc-to-tai-not-finite rows d e = let p =
+    keptParts d in stopped _ (tai-no-date (p .larger) (p .smaller) 6
+    (refused (p .larger) (p .smaller) (not-accepted (p .larger) (p .smaller) (parts-not d e))) rows)
 
 pub tai-to-utc-not-finite : (rows : List Row) (d : JulianDate) → finiteParts d ≡ false → taiToUtc rows d ≡ refusal 6
 unfolding taiToUtc changeSmaller refineUtcFraction rounds refined
-tai-to-utc-not-finite rows d e = let p = keptParts d in stopped _ (stopped _ (stopped _ (utc-to-tai-not-finite rows (julian (p .larger) (p .smaller)) (parts-not d e))))
+tai-to-utc-not-finite rows d e = let p =
+    keptParts d in stopped _ (stopped _ (stopped _ (utc-to-tai-not-finite rows (julian (p .larger) (p .smaller)) (parts-not d e))))
 
 -- ---- DUT1
 offset-finite : (x : Float) (b : Bool) → finite x ≡ b → finiteArg x ≡ cond b (answer x) (refusal 10)

@@ -1,4 +1,5 @@
--- TAI-UTC by every table that is taken is at most 2 ^ 11 s in size at every date, so that what the conversions compute of it is of moderate size. Assumes nothing.
+-- TAI-UTC by every table that is taken is at most 2 ^ 11 s in size at every date, so that what the conversions compute of it is of moderate size. Assumes
+-- nothing.
 use mathlib.Core.Path.{_≡_, refl, ap, sym, subst, _∙_}
 use mathlib.Core.Bool.{Bool, true, false, cond, _&&_}
 use mathlib.Core.List.{List}
@@ -100,7 +101,8 @@ unfolding round
 half-size = decimal-size 0 1 2 (lit< tt) (lit≤ tt) (lit≤ tt)
 
 -- ---- the offset of a month, where its midnights are at most 65536 in the months that drift
-drift-size : (r : Row) → Slow r → (mjd f : Float) → Size mjd 16 → Size f 0 → Size (add binary64 (secondsOf r) (mul binary64 (sub binary64 (add binary64 mjd f) (startOf r)) (rateOf r))) 11
+drift-size : (r : Row) → Slow r → (mjd f : Float) → Size mjd 16 → Size f 0
+    → Size (add binary64 (secondsOf r) (mul binary64 (sub binary64 (add binary64 mjd f) (startOf r)) (rateOf r))) 11
 unfolding secondsOf startOf rateOf
 drift-size r s mjd f a b =
     size-add 6 10 11 (lit≤ tt) (lit≤ tt) (decimal-size 6 (r .units) 10000000 (lit< tt) (lit≤ tt) (s .units))
@@ -130,14 +132,16 @@ civil-mid : (y m d : ℕ) → 6760 ≤ y → y ≤ 6771 → m ≤ 12 → d ≤ 3
 unfolding civilCount
 civil-mid y m d a b c e = go (leb m 2) refl
   where
-    go : (t : Bool) → leb m 2 ≡ t → (cond t (marchCount (y - 1) (m + 10) d) (marchCount y (m - 2) d) ≤ 2473600) × (2466000 ≤ cond t (marchCount (y - 1) (m + 10) d) (marchCount y (m - 2) d))
+    go : (t : Bool) → leb m 2 ≡ t → (cond t (marchCount (y - 1) (m + 10) d) (marchCount y (m - 2) d) ≤ 2473600)
+        × (2466000 ≤ cond t (marchCount (y - 1) (m + 10) d) (marchCount y (m - 2) d))
     go true p = let l = leb-true m 2 p in march-mid (y - 1) (m + 10) d (omega arith) (omega arith) (omega arith) e
     go false p = march-mid y (m - 2) d (omega arith) b (omega arith) e
 
 less-mid : (n : ℕ) → n ≤ 2473600 → 2466000 ≤ n → (plusZ (subℕ n 2432076) ≤ 65536) × (minusZ (subℕ n 2432076) ≤ 65536)
 less-mid n h k = go (ltb n 2432076)
   where
-    go : (t : Bool) → (plusZ (cond t (negsuc (2432076 - suc n)) (pos (n - 2432076))) ≤ 65536) × (minusZ (cond t (negsuc (2432076 - suc n)) (pos (n - 2432076))) ≤ 65536)
+    go : (t : Bool) → (plusZ (cond t (negsuc (2432076 - suc n)) (pos (n - 2432076))) ≤ 65536)
+        × (minusZ (cond t (negsuc (2432076 - suc n)) (pos (n - 2432076))) ≤ 65536)
     go true = (omega arith, omega arith)
     go false = (omega arith, omega arith)
 
@@ -214,7 +218,8 @@ zero-point-size = decimal-size 22 24000005 10 (lit< tt) (lit≤ tt) (lit≤ tt)
 
 -- a day with a step is at least 1 s long
 pub day-more-above : {x : Float} → Size x 12 → Above (add binary64 secondsPerDay x)
-day-more-above {x} v = go (add-near 1038 (lit≤ tt) (subst (λ (b : ℕ). 86400 * L + v .p < 0 + v .n + b) (sym top) (omega (arith, v .high, L-pos))) (subst (λ (b : ℕ). 0 + v .n < 86400 * L + v .p + b) (sym top) (omega (arith, v .low, L-pos))) day-val (v .val))
+day-more-above {x} v = go (add-near 1038 (lit≤ tt) (subst (λ (b : ℕ). 86400 * L + v .p < 0 + v .n + b) (sym top) (omega (arith, v .high, L-pos)))
+    (subst (λ (b : ℕ). 0 + v .n < 86400 * L + v .p + b) (sym top) (omega (arith, v .low, L-pos))) day-val (v .val))
   where
     top : 2 ^ (53 + 1038) ≡ 131072 * L
     top = sym (ap (λ (z : ℕ). 131072 * z) L-is)

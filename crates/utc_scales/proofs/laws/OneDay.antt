@@ -54,10 +54,12 @@ by-year o false r e g h k = k
 by-year o true false e g h k = k
 by-year o true true e g h k = subst (λ (b : Bool). DecidedUt1 true true b o) (h refl) k
 
-pub table-utc-to-ut1-decided-by-day : (t : AnnouncedRows) (rows : List Row) → tableOf t ≡ answer rows → (d : JulianDate) (dut1 : Float) → Held d → Fits dut1 → OneDay d
+pub table-utc-to-ut1-decided-by-day : (t : AnnouncedRows) (rows : List Row) → tableOf t ≡ answer rows → (d : JulianDate) (dut1 : Float) → Held d → Fits dut1
+    → OneDay d
     → DecidedUt1 (finite dut1) (accepted (d .jd1) (d .jd2)) (earlyDay (d .jd1) (d .jd2)) (utcToUt1 rows d dut1)
 table-utc-to-ut1-decided-by-day t rows taken d dut1 h f o =
-    by-year _ (finite dut1) (accepted (d .jd1) (d .jd2)) (earlyUtc d) (earlyDay (d .jd1) (d .jd2)) (one-day d h o) (table-utc-to-ut1-decided t rows taken d dut1 h f)
+    by-year _ (finite dut1) (accepted (d .jd1) (d .jd2)) (earlyUtc d) (earlyDay (d .jd1) (d .jd2)) (one-day d h o)
+    (table-utc-to-ut1-decided t rows taken d dut1 h f)
 
 -- by the fixed table
 pub utc-to-ut1-decided-by-day : (d : JulianDate) (dut1 : Float) → Held d → Fits dut1 → OneDay d

@@ -11,7 +11,8 @@ holds-answer {X} {A} {R} x e h = subst (λ (o : Outcome X). Holds A R o) (sym e)
 pub holds-refusal : {X : Type 0} {A : X → Type 0} {R : ℕ → Type 0} {o : Outcome X} (n : ℕ) → o ≡ refusal n → R n → Holds A R o
 holds-refusal {X} {A} {R} n e h = subst (λ (o : Outcome X). Holds A R o) (sym e) (refuses h)
 
-pub holds-onward : {X Y : Type 0} {A : X → Type 0} {B : Y → Type 0} {R : ℕ → Type 0} {o : Outcome X} (k : X → Outcome Y) → Holds A R o → ((x : X) → A x → Holds B R (k x)) → Holds B R (onward o k)
+pub holds-onward : {X Y : Type 0} {A : X → Type 0} {B : Y → Type 0} {R : ℕ → Type 0} {o : Outcome X} (k : X → Outcome Y) → Holds A R o
+    → ((x : X) → A x → Holds B R (k x)) → Holds B R (onward o k)
 unfolding onward
 holds-onward k (answers h) g = g _ h
 holds-onward k (refuses h) g = refuses h

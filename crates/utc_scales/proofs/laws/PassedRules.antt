@@ -1,5 +1,5 @@
--- THE RULE THAT UTC TO TAI AND UTC TO UT1 PASS ON, by computation: in the leap second of 2016-12-31 the row of that day, on 1971-12-31 the last row that drifts, in 1959 none, and
--- under a announced row that row. Each date is said by its bits. Assumes nothing.
+-- THE RULE THAT UTC TO TAI AND UTC TO UT1 PASS ON, by computation: in the leap second of 2016-12-31 the row of that day, on 1971-12-31 the last row that
+-- drifts, in 1959 none, and under a announced row that row. Each date is said by its bits. Assumes nothing.
 use mathlib.Core.Path.{_≡_, refl, sym, _∙_}
 use mathlib.Core.Bool.{false}
 use mathlib.Core.List.{List}
@@ -35,19 +35,23 @@ bits n = ofBits binary64 n
 
 -- ---- the rule of the day of two parts, its date by the Rust's divisions
 unfoldable ruled : List Row → Float → Float → Outcome Rule
-unfolding dayNumberAndFraction dividedDate onward ruleOn ruleAt ruleOf ruleBy fixed monthNumber reached abs toWhole nearestInt round ofBits ofInt add sub div neg lt le eq toSigned
+unfolding dayNumberAndFraction dividedDate onward ruleOn ruleAt ruleOf ruleBy fixed monthNumber reached abs toWhole nearestInt round ofBits ofInt add sub div
+    neg lt le eq toSigned
 ruled rows x y = onward (onward (dayNumberAndFraction x y) (λ n. answer (fields (dividedDate (n .day)) (n .fraction)))) (λ c. answer (ruleOn rows (c .date)))
 
 as-ruled : (rows : List Row) (x y : Float) → ruleOfDate rows x y ≡ ruled rows x y
 unfolding ruled ruleOfDate julianToCalendar
-as-ruled rows x y = (λ i. onward (onward (dayNumberAndFraction x y) (λ n. answer (fields (divided-date (n .day) i) (n .fraction)))) (λ c. answer (ruleOn rows (c .date))))
+as-ruled rows x y = (λ i. onward (onward (dayNumberAndFraction x y) (λ n. answer (fields (divided-date (n .day) i) (n .fraction))))
+    (λ c. answer (ruleOn rows (c .date))))
 
 -- ---- the two conversions with it
-tai-by-rule : (rows : List Row) (d x : JulianDate) (r : Rule) → answerOfAny rows utc-tai d ≡ answer x → ruled rows (keptParts d .larger) (keptParts d .smaller) ≡ answer r → utcToTaiByRule rows d ≡ answer (x, r)
+tai-by-rule : (rows : List Row) (d x : JulianDate) (r : Rule) → answerOfAny rows utc-tai d ≡ answer x
+    → ruled rows (keptParts d .larger) (keptParts d .smaller) ≡ answer r → utcToTaiByRule rows d ≡ answer (x, r)
 unfolding utcToTaiByRule answerOfAny
 tai-by-rule rows d x r e p = sym (passed _ _ x r e (as-ruled rows (keptParts d .larger) (keptParts d .smaller) ∙ p))
 
-ut1-by-rule : (rows : List Row) (d : JulianDate) (dut1 : Float) (x : JulianDate) (r : Rule) → answerOfAny rows (utc-ut1 dut1) d ≡ answer x → ruled rows (d .jd1) (d .jd2) ≡ answer r → utcToUt1ByRule rows d dut1 ≡ answer (x, r)
+ut1-by-rule : (rows : List Row) (d : JulianDate) (dut1 : Float) (x : JulianDate) (r : Rule) → answerOfAny rows (utc-ut1 dut1) d ≡ answer x
+    → ruled rows (d .jd1) (d .jd2) ≡ answer r → utcToUt1ByRule rows d dut1 ≡ answer (x, r)
 unfolding utcToUt1ByRule answerOfAny
 ut1-by-rule rows d dut1 x r e p = sym (passed _ _ x r e (as-ruled rows (d .jd1) (d .jd2) ∙ p))
 
@@ -72,11 +76,13 @@ leap-second-ut1 =
     (given fixed (utc-ut1 (neg (decimal 4082 4))) (last-of-2016 second-60) (last-of-2016 (bits 0x3fef_fff6_1788_92f2)) refl) refl
 
 -- ---- in the years of drift: noon of 1971-12-31, and 6h of 1966-06-15
-pub step-day-tai : utcToTaiByRule fixed (julian (decimal 24413165 1) (decimal 5 1)) ≡ answer (julian (decimal 24413165 1) (bits 0x3fe0_00f1_62fd_d4fe), Drifting 13)
+pub step-day-tai : utcToTaiByRule fixed (julian (decimal 24413165 1) (decimal 5 1)) ≡ answer
+    (julian (decimal 24413165 1) (bits 0x3fe0_00f1_62fd_d4fe), Drifting 13)
 unfolding ruled round ofBits firstIsKept keptParts
 step-day-tai = tai-by-rule fixed (julian (decimal 24413165 1) (decimal 5 1)) _ (Drifting 13) step-noon refl
 
-pub drift-day-ut1 : utcToUt1ByRule fixed (julian (decimal 24392915 1) (decimal 25 2)) (decimal 1 1) ≡ answer (julian (decimal 24392915 1) (bits 0x3fd0_0004_e2cf_4f58), Drifting 12)
+pub drift-day-ut1 : utcToUt1ByRule fixed (julian (decimal 24392915 1) (decimal 25 2)) (decimal 1 1) ≡ answer
+    (julian (decimal 24392915 1) (bits 0x3fd0_0004_e2cf_4f58), Drifting 12)
 unfolding ruled round ofBits
 drift-day-ut1 = ut1-by-rule fixed (julian (decimal 24392915 1) (decimal 25 2)) (decimal 1 1) _ (Drifting 12) drift-ut1 refl
 
@@ -96,14 +102,18 @@ before-rows-ut1 = ut1-by-rule fixed in-1959 (decimal 0 0) in-1959 Absent (given 
 abbrev first-of-2030 : Float → JulianDate
 first-of-2030 x = julian (decimal 24625025 1) x
 
-pub announced-row-tai : onward (tableOf shortTable) (λ rows. utcToTaiByRule rows (first-of-2030 (decimal 0 0))) ≡ answer (first-of-2030 (bits 0x3f3b_4e81_b4e8_1b4f), Whole 42)
+pub announced-row-tai : onward (tableOf shortTable) (λ rows. utcToTaiByRule rows (first-of-2030 (decimal 0 0))) ≡ answer
+    (first-of-2030 (bits 0x3f3b_4e81_b4e8_1b4f), Whole 42)
 unfolding ruled computed round ofBits firstIsKept keptParts
 announced-row-tai =
     went _ short-taken
-    ∙ tai-by-rule shortRows (first-of-2030 (decimal 0 0)) _ (Whole 42) (given shortRows utc-tai (first-of-2030 (decimal 0 0)) (first-of-2030 (bits 0x3f3b_4e81_b4e8_1b4f)) refl) refl
+    ∙ tai-by-rule shortRows (first-of-2030 (decimal 0 0)) _ (Whole 42)
+    (given shortRows utc-tai (first-of-2030 (decimal 0 0)) (first-of-2030 (bits 0x3f3b_4e81_b4e8_1b4f)) refl) refl
 
-pub announced-row-ut1 : onward (tableOf shortTable) (λ rows. utcToUt1ByRule rows (first-of-2030 (decimal 0 0)) (decimal 0 0)) ≡ answer (first-of-2030 (decimal 0 0), Whole 42)
+pub announced-row-ut1 : onward (tableOf shortTable) (λ rows. utcToUt1ByRule rows (first-of-2030 (decimal 0 0)) (decimal 0 0)) ≡ answer
+    (first-of-2030 (decimal 0 0), Whole 42)
 unfolding ruled computed round ofBits
 announced-row-ut1 =
     went _ short-taken
-    ∙ ut1-by-rule shortRows (first-of-2030 (decimal 0 0)) (decimal 0 0) _ (Whole 42) (given shortRows (utc-ut1 (decimal 0 0)) (first-of-2030 (decimal 0 0)) (first-of-2030 (decimal 0 0)) refl) refl
+    ∙ ut1-by-rule shortRows (first-of-2030 (decimal 0 0)) (decimal 0 0) _ (Whole 42)
+    (given shortRows (utc-ut1 (decimal 0 0)) (first-of-2030 (decimal 0 0)) (first-of-2030 (decimal 0 0)) refl) refl

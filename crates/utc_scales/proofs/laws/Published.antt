@@ -1,5 +1,5 @@
--- SOFA'S PUBLISHED CHECK VALUES of UTC to TAI, TAI to UTC, UTC to UT1 and UT1 to UTC are met: three to the bit, and TAI to UTC one unit in the last place, 1.1e-16, from
--- the published value, where SOFA's test allows 1e-12. Assumes nothing.
+-- SOFA'S PUBLISHED CHECK VALUES of UTC to TAI, TAI to UTC, UTC to UT1 and UT1 to UTC are met: three to the bit, and TAI to UTC one unit in the last place,
+-- 1.1e-16, from the published value, where SOFA's test allows 1e-12. Assumes nothing.
 use mathlib.Core.Path.{_≡_, refl, _∙_}
 use lib.Ieee.{binary64, round, ofBits, add, sub, neg, lt, le, eq}
 use Rattle.refusals.specs.Outcome.{answer}

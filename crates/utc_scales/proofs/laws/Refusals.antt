@@ -1,5 +1,5 @@
--- WHICH REFUSALS OCCUR, for any rows and all floats: 2, 3 and 5 never do. UTC to TAI is 6 exactly where the rounded sum is not in the range, 1 exactly where it is and
--- the year is before -4799, and else a date; TAI to UTC has no other refusal; UTC to UT1 and UT1 to UTC have 10 and 9 besides. Assumes nothing.
+-- WHICH REFUSALS OCCUR, for any rows and all floats: 2, 3 and 5 never do. UTC to TAI is 6 exactly where the rounded sum is not in the range, 1 exactly where it
+-- is and the year is before -4799, and else a date; TAI to UTC has no other refusal; UTC to UT1 and UT1 to UTC have 10 and 9 besides. Assumes nothing.
 use mathlib.Core.Path.{_≡_, refl, sym, _∙_, subst}
 use mathlib.Core.Bool.{Bool, true, false, cond}
 use mathlib.Core.List.{List}
@@ -123,7 +123,8 @@ module _ (rows : List Row) (big small dut1 : Float) (f : Fits big) where
       go (before a e b v) = holds-refusal 1 (scan-no-offset rows big small dut1 i earlier _ e 1 (offset-early rows _ v)) (inr refl)
       go (valid a e b v r) = let o = offset-answered rows _ v in at (o .0) (o .1) (lt (abs (sub binary64 (o .0) earlier)) half) refl
         where
-          at : (x : Float) → offsetAt0h rows (dateIn big (add binary64 small i)) ≡ answer x → (s : Bool) → lt (abs (sub binary64 x earlier)) half ≡ s → Holds Any SixOrOne (scanDay rows big small dut1 i earlier)
+          at : (x : Float) → offsetAt0h rows (dateIn big (add binary64 small i)) ≡ answer x → (s : Bool) → lt (abs (sub binary64 x earlier)) half ≡ s
+              → Holds Any SixOrOne (scanDay rows big small dut1 i earlier)
           at x p true h = holds-answer _ (scan-no-step rows big small dut1 i earlier _ e x p h) tt
           at x p false h = holds-answer _ (scan-step rows big small dut1 i earlier _ e x p r h) tt
 
@@ -139,7 +140,9 @@ module _ (rows : List Row) (big small dut1 : Float) (f : Fits big) where
 
   fraction-refuses : Holds Any SixOrOne (utcFraction rows dut1 big small)
   unfolding utcFraction adjustDut1
-  fraction-refuses = holds-onward _ (holds-onward _ (offset-refuses rows big (add binary64 small (ofInt binary64 (negsuc 0))) f (add-fits binary64 small _)) (λ x _. scan-refuses 4 0 x)) (λ x _. answers tt)
+  fraction-refuses = holds-onward _
+      (holds-onward _ (offset-refuses rows big (add binary64 small (ofInt binary64 (negsuc 0))) f (add-fits binary64 small _)) (λ x _. scan-refuses 4 0 x))
+      (λ x _. answers tt)
 
 wider : (n : ℕ) → SixOrOne n → TenNineSixOrOne n
 wider n h = inr (inr h)
@@ -170,7 +173,8 @@ ut1-to-utc-refuses rows d dut1 h =
 -- ---- UTC to UT1
 later-refuses : (d : JulianDate) (seconds : Float) → Holds Any TenNineSixOrOne (answerOf (tai-ut1 seconds) d)
 unfolding answerOf
-later-refuses d seconds = subst (λ (o : Outcome JulianDate). Holds Any TenNineSixOrOne o) (sym (first-by plus seconds d)) (go (finiteParts d) (finite seconds) _)
+later-refuses d seconds = subst (λ (o : Outcome JulianDate). Holds Any TenNineSixOrOne o) (sym (first-by plus seconds d))
+    (go (finiteParts d) (finite seconds) _)
   where
     go : (a b : Bool) (u : JulianDate) → Holds Any TenNineSixOrOne (cond a (cond b (answer u) (refusal 10)) (refusal 9))
     go true true u = answers tt

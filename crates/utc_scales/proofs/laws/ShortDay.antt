@@ -1,5 +1,5 @@
--- A DAY THAT ENDS A SECOND EARLY, by computation: 2029-12-31 by the table of `ShortTable`, of 86,399 s. Its leap, UTC to TAI and back, and UT1 to UTC before, on and
--- after the day. Each answer is said by its bits. Assumes nothing.
+-- A DAY THAT ENDS A SECOND EARLY, by computation: 2029-12-31 by the table of `ShortTable`, of 86,399 s. Its leap, UTC to TAI and back, and UT1 to UTC before,
+-- on and after the day. Each answer is said by its bits. Assumes nothing.
 use mathlib.Core.Path.{_≡_, refl, _∙_}
 use mathlib.Core.Bool.{false}
 use Prim.Native.Nat.{ℕ}
@@ -31,15 +31,18 @@ abbrev bits : ℕ → Float
 bits n = ofBits binary64 n
 
 pub short-leap : leapAtEndOfDay shortRows (pos 2029) (pos 12) (pos 31) ≡ answer (bits 0xbff0_0000_0000_0000)
-unfolding leapAtEndOfDay leapOf dayOffsets nextOf next taiUtcOffset onward mjdOf mjdNumber civilCount validDate daysInMonth lengths leapSize offsetAt offsetBy byRow secondsOf round ofBits ofInt add sub mul inDay le fixed monthNumber reached
+unfolding leapAtEndOfDay leapOf dayOffsets nextOf next taiUtcOffset onward mjdOf mjdNumber civilCount validDate daysInMonth lengths leapSize offsetAt offsetBy
+    byRow secondsOf round ofBits ofInt add sub mul inDay le fixed monthNumber reached
 short-leap = refl
 
 pub long-leap : leapAtEndOfDay shortRows (pos 2035) (pos 6) (pos 30) ≡ answer one
-unfolding leapAtEndOfDay leapOf dayOffsets nextOf next taiUtcOffset onward mjdOf mjdNumber civilCount validDate daysInMonth lengths leapSize offsetAt offsetBy byRow secondsOf round ofBits ofInt add sub mul inDay le fixed monthNumber reached
+unfolding leapAtEndOfDay leapOf dayOffsets nextOf next taiUtcOffset onward mjdOf mjdNumber civilCount validDate daysInMonth lengths leapSize offsetAt offsetBy
+    byRow secondsOf round ofBits ofInt add sub mul inDay le fixed monthNumber reached
 long-leap = refl
 
 pub no-leap : leapAtEndOfDay shortRows (pos 2029) (pos 12) (pos 30) ≡ answer nought
-unfolding leapAtEndOfDay leapOf dayOffsets nextOf next taiUtcOffset onward mjdOf mjdNumber civilCount validDate daysInMonth lengths leapSize offsetAt offsetBy byRow secondsOf round ofBits ofInt add sub mul inDay le fixed monthNumber reached
+unfolding leapAtEndOfDay leapOf dayOffsets nextOf next taiUtcOffset onward mjdOf mjdNumber civilCount validDate daysInMonth lengths leapSize offsetAt offsetBy
+    byRow secondsOf round ofBits ofInt add sub mul inDay le fixed monthNumber reached
 no-leap = refl
 
 -- ---- the conversions

@@ -1,6 +1,6 @@
--- UTC TO UT1 DECIDED, by every table that is taken and for all floats: 10 exactly where DUT1 is not finite; else 6 exactly where the rounded sum of the parts is not in the
--- range; else 1 exactly where the year is before -4799, for the day of the larger part first or for that of jd1 first; else a date. So it is never refused
--- with 9, nor with 10 for a finite DUT1. Assumes nothing.
+-- UTC TO UT1 DECIDED, by every table that is taken and for all floats: 10 exactly where DUT1 is not finite; else 6 exactly where the rounded sum of the parts
+-- is not in the range; else 1 exactly where the year is before -4799, for the day of the larger part first or for that of jd1 first; else a date. So it is
+-- never refused with 9, nor with 10 for a finite DUT1. Assumes nothing.
 use mathlib.Core.Path.{_≡_, refl, sym, _∙_}
 use mathlib.Core.Bool.{Bool, true, false, _||_, true≢false}
 use mathlib.Core.Logic.{inl, inr}
@@ -63,7 +63,8 @@ module _ (t : AnnouncedRows) (rows : List Row) (taken : tableOf t ≡ answer row
         → (v : JulianDate) × (utcToUt1 rows d dut1 ≡ answer v)
     unfolding utcToUt1
     given u q x o =
-        let w = later u (holds-at u q (table-utc-to-tai-never-infinite t rows taken d h)) x (holds-at x o (day-offset-size t rows taken (d .jd1) (d .jd2) (h .0) (h .1))) in
+        let w = later u (holds-at u q (table-utc-to-tai-never-infinite t rows taken d h)) x
+        (holds-at x o (day-offset-size t rows taken (d .jd1) (d .jd2) (h .0) (h .1))) in
         (w .0, went _ started ∙ went _ q ∙ went _ o ∙ w .1)
 
     -- by TAI, and by TAI-UTC of the day of jd1 and jd2

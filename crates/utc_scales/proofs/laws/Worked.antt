@@ -1,5 +1,5 @@
--- WORKED CASES of the four conversions that read the table, by computation: which part changes on equal sizes, a day with a leap second, and UT1 to UTC before, on and after
--- such a day. Each answer is said by its bits. Assumes nothing.
+-- WORKED CASES of the four conversions that read the table, by computation: which part changes on equal sizes, a day with a leap second, and UT1 to UTC before,
+-- on and after such a day. Each answer is said by its bits. Assumes nothing.
 use mathlib.Core.Path.{_≡_, refl, _∙_}
 use mathlib.Core.Bool.{false}
 use Prim.Native.Nat.{ℕ}

@@ -112,7 +112,8 @@ module _ (n : ℕ) (g : 2441318 ≤ n) (k : n < 1000000000) where
   rows-next : (b : Bool) × (reached (starts fixed) (monthOn (suc n)) ≡ cond b (suc (reached (starts fixed) (monthOn n))) (reached (starts fixed) (monthOn n)))
   rows-next = go (month-next .0) (month-next .1)
     where
-      go : (b : Bool) → monthOn (suc n) ≡ cond b (monthOn n) (suc (monthOn n)) → (c : Bool) × (reached (starts fixed) (monthOn (suc n)) ≡ cond c (suc (reached (starts fixed) (monthOn n))) (reached (starts fixed) (monthOn n)))
+      go : (b : Bool) → monthOn (suc n) ≡ cond b (monthOn n) (suc (monthOn n)) → (c : Bool)
+          × (reached (starts fixed) (monthOn (suc n)) ≡ cond c (suc (reached (starts fixed) (monthOn n))) (reached (starts fixed) (monthOn n)))
       go true e = (false, ap (reached (starts fixed)) e)
       go false e = (member (suc (monthOn n)) (starts fixed), ap (reached (starts fixed)) e ∙ month-later (starts fixed) fixed-rises (monthOn n))
 
@@ -128,7 +129,8 @@ module _ (n : ℕ) (g : 2441318 ≤ n) (k : n < 1000000000) where
   unfolding leapAfter
   seconds-on-day = go (rows-next .0) (rows-next .1)
     where
-      go : (c : Bool) → reached (starts fixed) (monthOn (suc n)) ≡ cond c (suc (reached (starts fixed) (monthOn n))) (reached (starts fixed) (monthOn n)) → WholeSeconds n
+      go : (c : Bool) → reached (starts fixed) (monthOn (suc n)) ≡ cond c (suc (reached (starts fixed) (monthOn n))) (reached (starts fixed) (monthOn n))
+          → WholeSeconds n
       go true e =
           let a = whole-rows (monthOn n) (month-1972 n g) in
           let b = most-rows (monthOn (suc n)) in

@@ -11,12 +11,26 @@ use Rattle.utc_scales.specs.round_trip.Ranges.{HalfDaySplit, ModifiedSpl
 -- 1972-01-02 0h
 pub first-end : HalfDaySplit (julian (decimal 24413195 1) (neg (decimal 1 0)))
 unfolding round neg fits le lt eq abs
-first-end = record { held = (tt, tt); halves = 4882639; first = record { sign = false; size = 4882639; has = (refl, refl); is = refl }; low = omega arith; high = omega arith; second = tt }
+first-end = record {
+  held = (tt, tt);
+  halves = 4882639;
+  first = record { sign = false; size = 4882639; has = (refl, refl); is = refl };
+  low = omega arith;
+  high = omega arith;
+  second = tt;
+}
 
 -- 8977-06-09 0h
 pub last-end : HalfDaySplit (julian (decimal 50000005 1) (decimal 1 0))
 unfolding round fits le lt eq abs
-last-end = record { held = (tt, tt); halves = 10000001; first = record { sign = false; size = 10000001; has = (refl, refl); is = refl }; low = omega arith; high = omega arith; second = tt }
+last-end = record {
+  held = (tt, tt);
+  halves = 10000001;
+  first = record { sign = false; size = 10000001; has = (refl, refl); is = refl };
+  low = omega arith;
+  high = omega arith;
+  second = tt;
+}
 
 -- 2017-01-01 0h
 pub modified-day : ModifiedSplit (julian (decimal 24000005 1) (decimal 57754 0))

@@ -1,4 +1,5 @@
--- ONE EVALUATION OF UTC TO TAI: it is answered, keeps jd1, and its jd2 is within 345622 h / 86400 of the exact relation on the day that the calendar gives. Assumes nothing.
+-- ONE EVALUATION OF UTC TO TAI: it is answered, keeps jd1, and its jd2 is within 345622 h / 86400 of the exact relation on the day that the calendar gives.
+-- Assumes nothing.
 use mathlib.Core.Bool.{true}
 use mathlib.Core.Path.{_≡_, sym, ap, _∙_, subst}
 use Prim.Native.Nat.{ℕ, suc, _+_, _*_, _≤_, _<_}
@@ -36,8 +37,8 @@ use Rattle.utc_scales.proofs.round_trip.Kept.{first-larger, kept-change
 use Rattle.utc_scales.proofs.round_trip.Located.{Located, located}
 use Rattle.utc_scales.proofs.round_trip.Sums.{first-high, first-low, more, less, second-high, second-low, total-over, total-under}
 
--- ---- what is seen of UTC (a, u): it is (a, t) in TAI. By the calendar it is f / L of the day numbered `day`, within 4 h of a + u + 1/2; and t is within E / 86400 of
--- day + f + (D + s f) / 86400 - a - 1/2, the exact relation, where D and s are TAI-UTC on that day and the leap second at its end
+-- ---- what is seen of UTC (a, u): it is (a, t) in TAI. By the calendar it is f / L of the day numbered `day`, within 4 h of a + u + 1/2; and t is within E /
+-- 86400 of day + f + (D + s f) / 86400 - a - 1/2, the exact relation, where D and s are TAI-UTC on that day and the leap second at its end
 pub record SeenTo (E : ℕ) (a u : Float) (A up un : ℕ) : Type 0 where
   pub t : Float
   pub tp : ℕ
@@ -66,7 +67,8 @@ Seen a u A up un = SeenTo (345622 * h) a u A up un
 abbrev pub tai : Float → ℕ → Float → Float
 tai a n x =
     add binary64 (add binary64 (sub binary64 mjdZeroPoint a) (ofInt binary64 (pos n -ℤ pos 2400001)))
-    (add binary64 (stretchDayFraction (offsets (wholeF (secondsOn n)) (wholeF (secondsOn n)) (wholeF (secondsOn (suc n)))) x) (div binary64 (wholeF (secondsOn n)) secondsPerDay))
+    (add binary64 (stretchDayFraction (offsets (wholeF (secondsOn n)) (wholeF (secondsOn n)) (wholeF (secondsOn (suc n)))) x)
+    (div binary64 (wholeF (secondsOn n)) secondsPerDay))
 
 module _ {a u : Float} {A up un : ℕ} (z : Stamp a u A up un) (y : HalvesUp a A) where
   abbrev pub k : Located a u A up un
@@ -81,7 +83,8 @@ module _ {a u : Float} {A up un : ℕ} (z : Stamp a u A up un) (y : HalvesUp a A
   pub given-at : taiFraction fixed a u ≡ answer (tai a (k .n) (dayOf a u .fraction))
   unfolding taiFromMidnight
   given-at =
-      tai-of-day fixed a u (dayOf a u) (k .given) (k .in-days) o (ap (λ (z : ℤ). offsetsOf fixed (gregorianDate z)) (k .day) ∙ day-seconds (k .n) (k .low) (omega (arith, k .high)))
+      tai-of-day fixed a u (dayOf a u) (k .given) (k .in-days) o
+      (ap (λ (z : ℤ). offsetsOf fixed (gregorianDate z)) (k .day) ∙ day-seconds (k .n) (k .low) (omega (arith, k .high)))
       ∙ ap (λ (z : ℤ). answer (taiFromMidnight a (midnightOfDay z) o (dayOf a u .fraction))) (k .day)
 
   -- each step of it: the fraction stretched, TAI-UTC in days, the days to midnight, their sums
@@ -101,7 +104,8 @@ module _ {a u : Float} {A up un : ℕ} (z : Stamp a u A up un) (y : HalvesUp a A
   few = omega (arith, seconds .most)
 
   pub stretched : Stretched (stretchDayFraction o (dayOf a u .fraction)) s f
-  stretched = let w = day-factor D s (secondsOn (suc n)) few (seconds .step) (seconds .next) in subst (λ (y : Float). Stretched y s f) (sym (w .is (dayOf a u .fraction))) (w .factor .near (dayOf a u .fraction) f (k .val) (k .below))
+  stretched = let w = day-factor D s (secondsOn (suc n)) few (seconds .step) (seconds .next) in subst (λ (y : Float). Stretched y s f)
+      (sym (w .is (dayOf a u .fraction))) (w .factor .near (dayOf a u .fraction) f (k .val) (k .below))
 
   pub offset-days : Quotient (div binary64 (wholeF D) secondsPerDay) D
   offset-days = in-days D few
@@ -112,21 +116,27 @@ module _ {a u : Float} {A up un : ℕ} (z : Stamp a u A up un) (y : HalvesUp a A
   abbrev Sum : {B : Type 0} → ((g : s * f ≤ f) → D * L ≤ 37 * L → B) → B
   Sum law = law (share s f (seconds .step) (k .below) .0) (mul-le-mul-right L few)
 
-  pub day-sum : ValClose L (add binary64 (stretchDayFraction o (dayOf a u .fraction)) (div binary64 (wholeF D) secondsPerDay)) (stretched .p + offset-days .p) (stretched .n + offset-days .n) h
+  pub day-sum : ValClose L (add binary64 (stretchDayFraction o (dayOf a u .fraction)) (div binary64 (wholeF D) secondsPerDay)) (stretched .p + offset-days .p)
+      (stretched .n + offset-days .n) h
   day-sum =
       add-close
-      (Sum (λ g d. first-high f (s * f) (D * L) (stretched .p) (stretched .n) (offset-days .p) (offset-days .n) (k .below) g d (stretched .over) (stretched .under) (offset-days .over) (offset-days .under)))
-      (Sum (λ g d. first-low f (s * f) (D * L) (stretched .p) (stretched .n) (offset-days .p) (offset-days .n) (k .below) g d (stretched .over) (stretched .under) (offset-days .over) (offset-days .under)))
+      (Sum (λ g d. first-high f (s * f) (D * L) (stretched .p) (stretched .n) (offset-days .p) (offset-days .n) (k .below) g d (stretched .over)
+      (stretched .under) (offset-days .over) (offset-days .under)))
+      (Sum (λ g d. first-low f (s * f) (D * L) (stretched .p) (stretched .n) (offset-days .p) (offset-days .n) (k .below) g d (stretched .over)
+      (stretched .under) (offset-days .over) (offset-days .under)))
       (stretched .val) (offset-days .val)
 
   pub longer : 64 * (stretched .p + offset-days .p) ≤ 64 * (stretched .n + offset-days .n + f) + L
-  longer = Sum (λ g d. more f (s * f) (D * L) (stretched .p) (stretched .n) (offset-days .p) (offset-days .n) (k .below) g d (stretched .over) (stretched .under) (offset-days .over) (offset-days .under))
+  longer = Sum (λ g d. more f (s * f) (D * L) (stretched .p) (stretched .n) (offset-days .p) (offset-days .n) (k .below) g d (stretched .over)
+      (stretched .under) (offset-days .over) (offset-days .under))
 
   pub shorter : 64 * (stretched .n + offset-days .n + f) ≤ 64 * (stretched .p + offset-days .p) + L
-  shorter = Sum (λ g d. less f (s * f) (D * L) (stretched .p) (stretched .n) (offset-days .p) (offset-days .n) (k .below) g d (stretched .over) (stretched .under) (offset-days .over) (offset-days .under))
+  shorter = Sum (λ g d. less f (s * f) (D * L) (stretched .p) (stretched .n) (offset-days .p) (offset-days .n) (k .below) g d (stretched .over)
+      (stretched .under) (offset-days .over) (offset-days .under))
 
   -- the last sum, rounded by at most q
-  pub seen-to : (q E : ℕ) → 200214 * h + 86400 * q ≤ E → firstIsKept (julian a u) ≡ true → ValClose L (tai a n (dayOf a u .fraction)) (since .x + day-sum .p) (A + day-sum .n) q → SeenTo E a u A up un
+  pub seen-to : (q E : ℕ) → 200214 * h + 86400 * q ≤ E → firstIsKept (julian a u) ≡ true
+      → ValClose L (tai a n (dayOf a u .fraction)) (since .x + day-sum .p) (A + day-sum .n) q → SeenTo E a u A up un
   unfolding utcToTai
   seen-to q E room larger r = record {
     t = tai a n (dayOf a u .fraction);
@@ -145,14 +155,20 @@ module _ {a u : Float} {A up un : ℕ} (z : Stamp a u A up un) (y : HalvesUp a A
     seconds = seconds;
     near-over = k .near-over;
     near-under = k .near-under;
-    eval-over = total-over f (s * f) (D * L) (stretched .p) (stretched .n) (offset-days .p) (offset-days .n) (n * L) A (since .x) (day-sum .p) (day-sum .n) (r .p) (r .n) q E (since .is) room (stretched .over) (offset-days .over) (day-sum .over) (r .over);
-    eval-under = total-under f (s * f) (D * L) (stretched .p) (stretched .n) (offset-days .p) (offset-days .n) (n * L) A (since .x) (day-sum .p) (day-sum .n) (r .p) (r .n) q E (since .is) room (stretched .under) (offset-days .under) (day-sum .under) (r .under);
+    eval-over = total-over f (s * f) (D * L) (stretched .p) (stretched .n) (offset-days .p) (offset-days .n) (n * L) A (since .x) (day-sum .p) (day-sum .n)
+        (r .p) (r .n) q E (since .is) room (stretched .over) (offset-days .over) (day-sum .over) (r .over);
+    eval-under = total-under f (s * f) (D * L) (stretched .p) (stretched .n) (offset-days .p) (offset-days .n) (n * L) A (since .x) (day-sum .p) (day-sum .n)
+        (r .p) (r .n) q E (since .is) room (stretched .under) (offset-days .under) (day-sum .under) (r .under);
   }
 
-  pub sum-high : (W : ℕ) → (n * L + f + un ≤ A + up + H + 4 * h → 64 * (stretched .p + offset-days .p) ≤ 64 * (stretched .n + offset-days .n + f) + L → day-sum .p + (stretched .n + offset-days .n) ≤ day-sum .n + (stretched .p + offset-days .p) + h → since .x + H ≡ n * L → since .x + day-sum .p < A + day-sum .n + W) → since .x + day-sum .p < A + day-sum .n + W
+  pub sum-high : (W : ℕ) → (n * L + f + un ≤ A + up + H + 4 * h → 64 * (stretched .p + offset-days .p) ≤ 64 * (stretched .n + offset-days .n + f) + L
+      → day-sum .p + (stretched .n + offset-days .n) ≤ day-sum .n + (stretched .p + offset-days .p) + h → since .x + H ≡ n * L
+      → since .x + day-sum .p < A + day-sum .n + W) → since .x + day-sum .p < A + day-sum .n + W
   sum-high W go = go (k .near-over) longer (day-sum .over) (since .is)
 
-  pub sum-low : (W : ℕ) → (A + up + H ≤ n * L + f + un + 4 * h → 64 * (stretched .n + offset-days .n + f) ≤ 64 * (stretched .p + offset-days .p) + L → day-sum .n + (stretched .p + offset-days .p) ≤ day-sum .p + (stretched .n + offset-days .n) + h → since .x + H ≡ n * L → A + day-sum .n < since .x + day-sum .p + W) → A + day-sum .n < since .x + day-sum .p + W
+  pub sum-low : (W : ℕ) → (A + up + H ≤ n * L + f + un + 4 * h → 64 * (stretched .n + offset-days .n + f) ≤ 64 * (stretched .p + offset-days .p) + L
+      → day-sum .n + (stretched .p + offset-days .p) ≤ day-sum .p + (stretched .n + offset-days .n) + h → since .x + H ≡ n * L
+      → A + day-sum .n < since .x + day-sum .p + W) → A + day-sum .n < since .x + day-sum .p + W
   sum-low W go = go (k .near-under) shorter (day-sum .under) (since .is)
 
 -- ---- THE THEOREM, for a smaller part of about a day

@@ -1,5 +1,5 @@
--- The exact relation of a day without its products: with V = n L + f the date and G = taiUtcAt n f its TAI-UTC, TAI is V + G / 86400 - 1/2; and it rises with the date.
--- Assumes nothing.
+-- The exact relation of a day without its products: with V = n L + f the date and G = taiUtcAt n f its TAI-UTC, TAI is V + G / 86400 - 1/2; and it rises with
+-- the date. Assumes nothing.
 use mathlib.Core.Path.{_≡_}
 use mathlib.Core.Logic.{_⊎_, inl, inr}
 use Prim.Native.Nat.{ℕ, zero, suc, _+_, _*_, _≤_, _<_}
@@ -39,15 +39,19 @@ said {ps} {n} {u} {t} b x w =
       p = w .p';
       m = w .n';
       worth = w .to;
-      over = high ((86400 + leapAfter n) * w .p) ((86400 + leapAfter n) * w .n) (secondsOn n * L + leapAfter n * H) (leapAfter n * (n * L)) (w .p') (w .n') (n * L + o .f) (taiUtcAt n (o .f)) (ps * L) (mul-left-comm ps 86400 L) e (w .over);
-      under = low ((86400 + leapAfter n) * w .p) ((86400 + leapAfter n) * w .n) (secondsOn n * L + leapAfter n * H) (leapAfter n * (n * L)) (w .p') (w .n') (n * L + o .f) (taiUtcAt n (o .f)) (ps * L) (mul-left-comm ps 86400 L) e (w .under);
+      over = high ((86400 + leapAfter n) * w .p) ((86400 + leapAfter n) * w .n) (secondsOn n * L + leapAfter n * H) (leapAfter n * (n * L)) (w .p') (w .n')
+          (n * L + o .f) (taiUtcAt n (o .f)) (ps * L) (mul-left-comm ps 86400 L) e (w .over);
+      under = low ((86400 + leapAfter n) * w .p) ((86400 + leapAfter n) * w .n) (secondsOn n * L + leapAfter n * H) (leapAfter n * (n * L)) (w .p') (w .n')
+          (n * L + o .f) (taiUtcAt n (o .f)) (ps * L) (mul-left-comm ps 86400 L) e (w .under);
     }
   where
-    high : (P N M S p m W G x : ℕ) {y : ℕ} → y ≡ 86400 * x → P + M + 86400 * H ≡ 86400 * W + G + (N + S) → dayPs * (86400 * p + N + S) ≤ dayPs * (86400 * m + P + M) + y
+    high : (P N M S p m W G x : ℕ) {y : ℕ} → y ≡ 86400 * x → P + M + 86400 * H ≡ 86400 * W + G + (N + S)
+        → dayPs * (86400 * p + N + S) ≤ dayPs * (86400 * m + P + M) + y
         → dayPs * (86400 * (p + H)) ≤ dayPs * (86400 * m + 86400 * W + G) + 86400 * x
     high P N M S p m W G x e g k = omega arith
 
-    low : (P N M S p m W G x : ℕ) {y : ℕ} → y ≡ 86400 * x → P + M + 86400 * H ≡ 86400 * W + G + (N + S) → dayPs * (86400 * m + P + M) ≤ dayPs * (86400 * p + N + S) + y
+    low : (P N M S p m W G x : ℕ) {y : ℕ} → y ≡ 86400 * x → P + M + 86400 * H ≡ 86400 * W + G + (N + S)
+        → dayPs * (86400 * m + P + M) ≤ dayPs * (86400 * p + N + S) + y
         → dayPs * (86400 * m + 86400 * W + G) ≤ dayPs * (86400 * (p + H)) + 86400 * x
     low P N M S p m W G x e g k = omega arith
 
@@ -62,15 +66,19 @@ means-of {ps} {n} {u} {t} b x w =
       n' = w .m;
       from = x .worth;
       to = w .worth;
-      over = high ((86400 + leapAfter n) * x .p) ((86400 + leapAfter n) * x .m) (secondsOn n * L + leapAfter n * H) (leapAfter n * (n * L)) (w .p) (w .m) (n * L + x .on .f) (taiUtcAt n (x .on .f)) (ps * L) (mul-left-comm ps 86400 L) e (w .over);
-      under = low ((86400 + leapAfter n) * x .p) ((86400 + leapAfter n) * x .m) (secondsOn n * L + leapAfter n * H) (leapAfter n * (n * L)) (w .p) (w .m) (n * L + x .on .f) (taiUtcAt n (x .on .f)) (ps * L) (mul-left-comm ps 86400 L) e (w .under);
+      over = high ((86400 + leapAfter n) * x .p) ((86400 + leapAfter n) * x .m) (secondsOn n * L + leapAfter n * H) (leapAfter n * (n * L)) (w .p) (w .m)
+          (n * L + x .on .f) (taiUtcAt n (x .on .f)) (ps * L) (mul-left-comm ps 86400 L) e (w .over);
+      under = low ((86400 + leapAfter n) * x .p) ((86400 + leapAfter n) * x .m) (secondsOn n * L + leapAfter n * H) (leapAfter n * (n * L)) (w .p) (w .m)
+          (n * L + x .on .f) (taiUtcAt n (x .on .f)) (ps * L) (mul-left-comm ps 86400 L) e (w .under);
     }
   where
-    high : (P N M S p m W G x : ℕ) {y : ℕ} → y ≡ 86400 * x → P + M + 86400 * H ≡ 86400 * W + G + (N + S) → dayPs * (86400 * (p + H)) ≤ dayPs * (86400 * m + 86400 * W + G) + 86400 * x
+    high : (P N M S p m W G x : ℕ) {y : ℕ} → y ≡ 86400 * x → P + M + 86400 * H ≡ 86400 * W + G + (N + S)
+        → dayPs * (86400 * (p + H)) ≤ dayPs * (86400 * m + 86400 * W + G) + 86400 * x
         → dayPs * (86400 * p + N + S) ≤ dayPs * (86400 * m + P + M) + y
     high P N M S p m W G x e g k = omega arith
 
-    low : (P N M S p m W G x : ℕ) {y : ℕ} → y ≡ 86400 * x → P + M + 86400 * H ≡ 86400 * W + G + (N + S) → dayPs * (86400 * m + 86400 * W + G) ≤ dayPs * (86400 * (p + H)) + 86400 * x
+    low : (P N M S p m W G x : ℕ) {y : ℕ} → y ≡ 86400 * x → P + M + 86400 * H ≡ 86400 * W + G + (N + S)
+        → dayPs * (86400 * m + 86400 * W + G) ≤ dayPs * (86400 * (p + H)) + 86400 * x
         → dayPs * (86400 * m + P + M) ≤ dayPs * (86400 * p + N + S) + y
     low P N M S p m W G x e g k = omega arith
 

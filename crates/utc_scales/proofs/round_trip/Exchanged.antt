@@ -1,4 +1,5 @@
--- THE PARTS EXCHANGED: the theorems hold of the same dates with jd2 for jd1 and jd1 for jd2, since the larger part comes first wherever it stands. Assumes nothing.
+-- THE PARTS EXCHANGED: the theorems hold of the same dates with jd2 for jd1 and jd1 for jd2, since the larger part comes first wherever it stands. Assumes
+-- nothing.
 use mathlib.Core.Path.{_≡_, sym, ap, _∙_}
 use mathlib.Core.Bool.{Bool, true, false}
 use Prim.Native.Nat.{ℕ, _+_, _*_, _≤_, _<_}
@@ -38,25 +39,38 @@ exchanged d = julian (d .jd2) (d .jd1)
 
 -- ---- the value is the same
 worth-exchanged : {d : JulianDate} {P N : ℕ} → Worth d P N L → Worth (exchanged d) P N L
-worth-exchanged {P = P} {N} w = record { p = w .q; n = w .m; q = w .p; m = w .n; first = w .second; second = w .first; total = go (w .p) (w .n) (w .q) (w .m) (w .total) }
+worth-exchanged {P = P} {N} w =
+    record { p = w .q; n = w .m; q = w .p; m = w .n; first = w .second; second = w .first; total = go (w .p) (w .n) (w .q) (w .m) (w .total) }
   where
     go : (p n q m : ℕ) → p + q + N ≡ P + (n + m) → q + p + N ≡ P + (m + n)
     go p n q m e = omega arith
 
 close-exchanged : {ps num den more less : ℕ} {d d' : JulianDate} → Close ps num den more less d d' → Close ps num den more less (exchanged d) (exchanged d')
-close-exchanged c = record { p = c .p; n = c .n; p' = c .p'; n' = c .n'; from = worth-exchanged (c .from); to = worth-exchanged (c .to); over = c .over; under = c .under }
+close-exchanged c = record {
+  p = c .p;
+  n = c .n;
+  p' = c .p';
+  n' = c .n';
+  from = worth-exchanged (c .from);
+  to = worth-exchanged (c .to);
+  over = c .over;
+  under = c .under;
+}
 
 day-exchanged : {d : JulianDate} {n : ℕ} → ExactDay d n → ExactDay (exchanged d) n
 day-exchanged x = record { p = x .p; m = x .m; worth = worth-exchanged (x .worth); on = x .on }
 
 -- ---- a change of the smaller part, jd2, and the same change where it is jd1
-changed-exchanged : (f : Float → Float → Outcome Float) (d y : JulianDate) → firstIsKept d ≡ true → firstIsKept (exchanged d) ≡ false → changeSmaller f d ≡ answer y → changeSmaller f (exchanged d) ≡ answer (exchanged y)
+changed-exchanged : (f : Float → Float → Outcome Float) (d y : JulianDate) → firstIsKept d ≡ true → firstIsKept (exchanged d) ≡ false
+    → changeSmaller f d ≡ answer y → changeSmaller f (exchanged d) ≡ answer (exchanged y)
 unfolding changeSmaller keptParts placed putBeside
 changed-exchanged f d y e g h =
-    let k : onward (f (d .jd1) (d .jd2)) (placed (keptAs d true)) ≡ answer y = ap (λ (b : Bool). onward (f (keptAs d (b) .larger) (keptAs d (b) .smaller)) (placed (keptAs d (b)))) (sym e) ∙ h in
+    let k : onward (f (d .jd1) (d .jd2)) (placed (keptAs d true)) ≡ answer y =
+    ap (λ (b : Bool). onward (f (keptAs d (b) .larger) (keptAs d (b) .smaller)) (placed (keptAs d (b)))) (sym e) ∙ h in
     let (x, p, q) = came (f (d .jd1) (d .jd2)) (placed (keptAs d true)) y k in
     let s : julian (d .jd1) x ≡ y = cc in
-    ap (λ (b : Bool). onward (f (keptAs (exchanged d) b .larger) (keptAs (exchanged d) b .smaller)) (placed (keptAs (exchanged d) b))) g ∙ went (placed (keptAs (exchanged d) false)) p ∙ ap (λ (z : JulianDate). answer (exchanged z)) s
+    ap (λ (b : Bool). onward (f (keptAs (exchanged d) b .larger) (keptAs (exchanged d) b .smaller)) (placed (keptAs (exchanged d) b))) g
+    ∙ went (placed (keptAs (exchanged d) false)) p ∙ ap (λ (z : JulianDate). answer (exchanged z)) s
 
 -- ---- jd1 is the larger part of a date, and of the guesses of TAI to UTC
 module _ {a u : Float} {A up un : ℕ} (v : FirstPart a A) (w : SecondPart u up un) where
@@ -65,7 +79,9 @@ module _ {a u : Float} {A up un : ℕ} (v : FirstPart a A) (w : SecondPart u up 
 
   is-second : firstIsKept (julian u a) ≡ false
   unfolding firstIsKept
-  is-second = le-val L-pos (abs-val (v .val)) (abs-val (w .val)) ∙ lt-leb (dist A 0 + 0) (dist up un + 0) (go (dist up un) (dist A 0) (dist-le up un (2 * L) (omega (arith, w .over)) (omega (arith, w .under))) (dist-zero A))
+  is-second = le-val L-pos (abs-val (v .val)) (abs-val (w .val))
+      ∙ lt-leb (dist A 0 + 0) (dist up un + 0)
+      (go (dist up un) (dist A 0) (dist-le up un (2 * L) (omega (arith, w .over)) (omega (arith, w .under))) (dist-zero A))
     where
       go : (d e : ℕ) → d ≤ 2 * L → e ≡ A → d + 0 < e + 0
       go d e l q = omega (arith, v .low, L-H, L-pos)
@@ -80,10 +96,26 @@ unfolding taiToUtc
 tai-answer {d} {y} s e = let w = second-part s .2 in changed-exchanged (refineUtcFraction fixed) d y (is-first (first-part s) w) (is-second (first-part s) w) e
 
 pub utc-to-tai-exchanged : {d : JulianDate} → HalfDaySplit d → RightTai 77 (exchanged d)
-utc-to-tai-exchanged s = let r = utc-to-tai-means s in record { n = r .n; on = day-exchanged (r .on); date = exchanged (r .date); is = utc-answer s (r .is); means = close-exchanged (r .means) }
+utc-to-tai-exchanged s = let r =
+    utc-to-tai-means s in record {
+      n = r .n;
+      on = day-exchanged (r .on);
+      date = exchanged (r .date);
+      is = utc-answer s (r .is);
+      means =
+          close-exchanged (r .means);
+    }
 
 pub tai-to-utc-exchanged : {d : JulianDate} → HalfDaySplit d → RightUtc 173 (exchanged d)
-tai-to-utc-exchanged s = let r = tai-to-utc-means s in record { date = exchanged (r .date); is = tai-answer s (r .is); n = r .n; on = day-exchanged (r .on); means = close-exchanged (r .means) }
+tai-to-utc-exchanged s = let r =
+    tai-to-utc-means s in record {
+      date = exchanged (r .date);
+      is = tai-answer s (r .is);
+      n = r .n;
+      on = day-exchanged (r .on);
+      means =
+          close-exchanged (r .means);
+    }
 
 pub there-and-back-exchanged : {d : JulianDate} → HalfDaySplit d → ThereAndBack 1000 (exchanged d)
 unfolding utcToTai

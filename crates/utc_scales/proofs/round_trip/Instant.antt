@@ -1,5 +1,5 @@
--- A worked case of one instant: 2017-01-01 0h UTC, which is 37 s later by TAI and 18 s later by GPS, stamped by three recorders in floats. It is one instant to 2 ps, and
--- the TAI dates agree to 12, 79 and 89 ps. Assumes nothing.
+-- A worked case of one instant: 2017-01-01 0h UTC, which is 37 s later by TAI and 18 s later by GPS, stamped by three recorders in floats. It is one instant to
+-- 2 ps, and the TAI dates agree to 12, 79 and 89 ps. Assumes nothing.
 use mathlib.Core.Path.{_≡_, refl, sym, _∙_, subst₂}
 use mathlib.Core.Bool.{false}
 use mathlib.Core.Logic.{inl}
@@ -90,7 +90,14 @@ on = record { p = 4915509 * H + 0; m = 0; worth = worth nought-L; on = record { 
 
 in-split : HalfDaySplit u
 unfolding fits le lt eq abs
-in-split = record { held = (tt, tt); halves = 4915509; first = record { sign = false; size = 4915509; has = (refl, refl); is = refl }; low = omega arith; high = omega arith; second = tt }
+in-split = record {
+  held = (tt, tt);
+  halves = 4915509;
+  first = record { sign = false; size = 4915509; has = (refl, refl); is = refl };
+  low = omega arith;
+  high = omega arith;
+  second = tt;
+}
 
 -- ---- in numbers: x is y + s seconds, to 2 q
 picoseconds : (x y : ℕ) → x ≤ y + 100000 * q → dayPs * x ≤ dayPs * y + 1 * (86400 * L)

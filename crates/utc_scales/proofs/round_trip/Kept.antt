@@ -22,7 +22,8 @@ first-larger {a} {b} {A} {bp} {bn} va vb k l = le-val L-pos (abs-val vb) (abs-va
     go : (A p n : ℕ) → p ≤ n + A → n ≤ p + A → (p - n) + (n - p) + 0 ≤ (A - 0) + (0 - A) + 0
     go A p n k l = omega arith
 
-pub kept-changed : (f : Float → Float → Outcome Float) (a b x : Float) → firstIsKept (julian a b) ≡ true → f a b ≡ answer x → changeSmaller f (julian a b) ≡ answer (julian a x)
+pub kept-changed : (f : Float → Float → Outcome Float) (a b x : Float) → firstIsKept (julian a b) ≡ true → f a b ≡ answer x
+    → changeSmaller f (julian a b) ≡ answer (julian a x)
 unfolding changeSmaller keptParts placed putBeside
 kept-changed f a b x e k =
     (ap (λ (c : Bool). onward (f (keptAs (julian a b) c .larger) (keptAs (julian a b) c .smaller)) (placed (keptAs (julian a b) c))) e)

@@ -1,5 +1,5 @@
--- WHAT CANNOT BE CLAIMED, by computed cases: TAI to UTC and back misses by 29.976 ps at one date, so that no bound of 29 ps holds; after two rounds it would miss by 4.97 ns; and TAI to
--- UTC does not keep the order of TAI stamps one unit in the last place apart. Assumes nothing.
+-- WHAT CANNOT BE CLAIMED, by computed cases: TAI to UTC and back misses by 29.976 ps at one date, so that no bound of 29 ps holds; after two rounds it would
+-- miss by 4.97 ns; and TAI to UTC does not keep the order of TAI stamps one unit in the last place apart. Assumes nothing.
 use mathlib.Core.Path.{_≡_, refl, ap, _∙_, subst}
 use mathlib.Core.Bool.{false}
 use Prim.Native.Nat.{ℕ, _+_, _*_, _^_, _≤_, _<_}
@@ -84,9 +84,11 @@ no-29-ps r =
     let e : r .u ≡ after-leap 0xbc90_0800_0000_0000 = same (r .there) worst-there in
     let f : r .t ≡ after-leap 0x3f31_7228_3394_3000 = same (subst (λ (u : JulianDate). utcToTai fixed u ≡ answer (r .t)) e (r .back)) worst-back in
     let c : Apart 29 worst (after-leap 0x3f31_7228_3394_3000) = subst (λ (t : JulianDate). Apart 29 worst t) f (r .apart) in
-    go (c .p) (c .n) (c .p') (c .n') (4892495 * H) (worth-unique (c .from) (parts-joined midnight-val given-val)) (worth-unique (c .to) (parts-joined midnight-val back-val)) (c .under)
+    go (c .p) (c .n) (c .p') (c .n') (4892495 * H) (worth-unique (c .from) (parts-joined midnight-val given-val))
+    (worth-unique (c .to) (parts-joined midnight-val back-val)) (c .under)
   where
-    go : (p n p' n' A : ℕ) → p + 0 ≡ A + 19181998412873 * q + n → p' + 0 ≡ A + 19181998412848 * q + n' → dayPs * (1 * n' + 1 * p + 0) ≤ dayPs * (1 * p' + 1 * n + 0) + 29 * (1 * L) → ⊥
+    go : (p n p' n' A : ℕ) → p + 0 ≡ A + 19181998412873 * q + n → p' + 0 ≡ A + 19181998412848 * q + n'
+        → dayPs * (1 * n' + 1 * p + 0) ≤ dayPs * (1 * p' + 1 * n + 0) + 29 * (1 * L) → ⊥
     go p n p' n' A e f k = omega (arith, L-q, q-pos)
 
 -- ---- 0h TAI of 2017-01-01, 37 s before the end of a leap second: after two rounds the guess is 4.97 ns off
@@ -122,7 +124,8 @@ third-tai = bits 0x3d30_3000_0000_0000
 
 pub two-rounds : rounds fixed (decimal 24577545 1) nought 2 nought ≡ answer guess2
 unfolding rounds refined
-two-rounds = went (rounds fixed (decimal 24577545 1) nought 1) (went _ first-tai ∙ ap answer first-moved) ∙ went (rounds fixed (decimal 24577545 1) nought 0) (went _ second-tai ∙ ap answer second-moved)
+two-rounds = went (rounds fixed (decimal 24577545 1) nought 1) (went _ first-tai ∙ ap answer first-moved)
+    ∙ went (rounds fixed (decimal 24577545 1) nought 0) (went _ second-tai ∙ ap answer second-moved)
 
 pub two-rounds-back : utcToTai fixed (new-year guess2) ≡ answer (new-year third-tai)
 unfolding computed round ofBits
@@ -137,7 +140,8 @@ unfolding ofBits
 third-val = in-units 4144 (2 ^ 56) q L-q (record { sign = false; size = 4144; has = (refl, refl); is = refl })
 
 pub two-rounds-miss : Apart 4960 (new-year nought) (new-year third-tai) → ⊥
-two-rounds-miss c = go (c .p) (c .n) (c .p') (c .n') (4915509 * H) (worth-unique (c .from) (parts-joined new-year-val nought-L)) (worth-unique (c .to) (parts-joined new-year-val third-val)) (c .over)
+two-rounds-miss c = go (c .p) (c .n) (c .p') (c .n') (4915509 * H) (worth-unique (c .from) (parts-joined new-year-val nought-L))
+    (worth-unique (c .to) (parts-joined new-year-val third-val)) (c .over)
   where
     go : (p n p' n' A : ℕ) → p + 0 ≡ A + 0 + n → p' + 0 ≡ A + 4144 * q + n' → dayPs * (1 * p' + 1 * n + 0) ≤ dayPs * (1 * n' + 1 * p + 0) + 4960 * (1 * L) → ⊥
     go p n p' n' A e f k = omega (arith, L-q, q-pos)
@@ -147,7 +151,8 @@ abbrev early : ℕ → JulianDate
 early n = julian (decimal 24427790 1) (bits n)
 
 abbrev turned-round : ℕ → ℕ → ℕ → ℕ → Type 0
-turned-round b b' u u' = T (lt (bits b) (bits b')) × (taiToUtc fixed (early b) ≡ answer (early u)) × (taiToUtc fixed (early b') ≡ answer (early u')) × T (lt (bits u') (bits u))
+turned-round b b' u u' = T (lt (bits b) (bits b')) × (taiToUtc fixed (early b) ≡ answer (early u)) × (taiToUtc fixed (early b') ≡ answer (early u'))
+    × T (lt (bits u') (bits u))
 
 earlier : taiToUtc fixed (early 0xbfdf_fd27_d27d_27d6) ≡ answer (early 0xbfe0_0000_0000_0000)
 unfolding computed round ofBits

@@ -1,4 +1,5 @@
--- UTC TO TAI MEANS THE EXACT RELATION to 77 picoseconds, from 1972 to 8977, where jd1 is a whole number of half days and jd2 is at most a day in size. Assumes nothing.
+-- UTC TO TAI MEANS THE EXACT RELATION to 77 picoseconds, from 1972 to 8977, where jd1 is a whole number of half days and jd2 is at most a day in size. Assumes
+-- nothing.
 use mathlib.Core.Path.{_≡_}
 use mathlib.Core.Logic.{_⊎_, inl, inr}
 use Prim.Native.Nat.{ℕ, zero, suc, _+_, _-_, _*_, _/_, _%_, _≤_, _<_}
@@ -37,7 +38,8 @@ pub record OffsetsNear (G K : ℕ) : Type 0 where
   pub over : G ≤ K + 4 * h
   pub under : K ≤ G + 4 * h
 
-pub near-offset : (n m f e : ℕ) → WholeSeconds n → WholeSeconds m → f < L → e < L → n * L + f ≤ m * L + e + 4 * h → m * L + e ≤ n * L + f + 4 * h → OffsetsNear (taiUtcAt n f) (taiUtcAt m e)
+pub near-offset : (n m f e : ℕ) → WholeSeconds n → WholeSeconds m → f < L → e < L → n * L + f ≤ m * L + e + 4 * h → m * L + e ≤ n * L + f + 4 * h
+    → OffsetsNear (taiUtcAt n f) (taiUtcAt m e)
 near-offset n m f e t r b c k l = go (either n m f e t r b c (day-less (m * L + e) (n * L + f) l) (day-less (n * L + f) (m * L + e) k))
   where
     day-less : (x y : ℕ) → x ≤ y + 4 * h → x < y + L
@@ -46,7 +48,8 @@ near-offset n m f e t r b c k l = go (either n m f e t r b c (day-less (m * L + 
     end : {x y G K : ℕ} → Rises x G y K → y ≤ x + 4 * h → (G ≤ K + 4 * h) × (K ≤ G + 4 * h)
     end q g = omega arith
 
-    go : Rises (n * L + f) (taiUtcAt n f) (m * L + e) (taiUtcAt m e) ⊎ Rises (m * L + e) (taiUtcAt m e) (n * L + f) (taiUtcAt n f) → OffsetsNear (taiUtcAt n f) (taiUtcAt m e)
+    go : Rises (n * L + f) (taiUtcAt n f) (m * L + e) (taiUtcAt m e) ⊎ Rises (m * L + e) (taiUtcAt m e) (n * L + f) (taiUtcAt n f)
+        → OffsetsNear (taiUtcAt n f) (taiUtcAt m e)
     go (inl q) = let x = end q l in record { over = x .0; under = x .1 }
     go (inr q) = let x = end q k in record { over = x .1; under = x .0 }
 
@@ -85,7 +88,8 @@ module _ {a u : Float} {A up un : ℕ} (z : Stamp a u A up un) (n : ℕ) (o : On
   seconds = seconds-on-day n low (omega (arith, high))
 
 -- ---- an evaluation that is off by at most E / 86400, on the exact day: its answer means the relation to ps picoseconds
-module _ {a u : Float} {A up un E : ℕ} (z : Stamp a u A up un) (x : SeenTo E a u A up un) (ps : ℕ) (room : dayPs * (E + 345604 * h) ≤ ps * (86400 * L)) (n : ℕ) (o : OnDay (A + up) un n) where
+module _ {a u : Float} {A up un E : ℕ} (z : Stamp a u A up un) (x : SeenTo E a u A up un) (ps : ℕ) (room : dayPs * (E + 345604 * h) ≤ ps * (86400 * L))
+    (n : ℕ) (o : OnDay (A + up) un n) where
   apart : (x .day * L + x .f ≤ n * L + o .f + 4 * h) × (n * L + o .f ≤ x .day * L + x .f + 4 * h)
   apart = go (x .day * L + x .f) (n * L + o .f) (x .near-over) (x .near-under) (o .is)
     where
@@ -98,13 +102,15 @@ module _ {a u : Float} {A up un E : ℕ} (z : Stamp a u A up un) (x : SeenTo E a
   eval-over : 86400 * (x .tp + A + H) ≤ 86400 * x .tn + (86400 * (n * L + o .f) + taiUtcAt n (o .f)) + (E + 345604 * h)
   eval-over = go (x .day * L + x .f) (n * L + o .f) (taiUtcAt (x .day) (x .f)) (taiUtcAt n (o .f)) (x .eval-over) (apart .0) (near .over)
     where
-      go : (p q G K : ℕ) → 86400 * (x .tp + A + H) ≤ 86400 * x .tn + (86400 * p + G) + E → p ≤ q + 4 * h → G ≤ K + 4 * h → 86400 * (x .tp + A + H) ≤ 86400 * x .tn + (86400 * q + K) + (E + 345604 * h)
+      go : (p q G K : ℕ) → 86400 * (x .tp + A + H) ≤ 86400 * x .tn + (86400 * p + G) + E → p ≤ q + 4 * h → G ≤ K + 4 * h
+          → 86400 * (x .tp + A + H) ≤ 86400 * x .tn + (86400 * q + K) + (E + 345604 * h)
       go p q G K i j k = omega arith
 
   eval-under : 86400 * (n * L + o .f) + taiUtcAt n (o .f) + 86400 * x .tn ≤ 86400 * (x .tp + A + H) + (E + 345604 * h)
   eval-under = go (x .day * L + x .f) (n * L + o .f) (taiUtcAt (x .day) (x .f)) (taiUtcAt n (o .f)) (x .eval-under) (apart .1) (near .under)
     where
-      go : (p q G K : ℕ) → 86400 * p + G + 86400 * x .tn ≤ 86400 * (x .tp + A + H) + E → q ≤ p + 4 * h → K ≤ G + 4 * h → 86400 * q + K + 86400 * x .tn ≤ 86400 * (x .tp + A + H) + (E + 345604 * h)
+      go : (p q G K : ℕ) → 86400 * p + G + 86400 * x .tn ≤ 86400 * (x .tp + A + H) + E → q ≤ p + 4 * h → K ≤ G + 4 * h
+          → 86400 * q + K + 86400 * x .tn ≤ 86400 * (x .tp + A + H) + (E + 345604 * h)
       go p q G K i j k = omega arith
 
   pub utc-meant : Meant ps (taiOverUtc n) (utcToTai fixed (julian a u)) (julian a u)
@@ -118,14 +124,17 @@ module _ {a u : Float} {A up un E : ℕ} (z : Stamp a u A up un) (x : SeenTo E a
       n' = x .tn;
       from = parts-joined (z .val1) (z .val2);
       to = parts-joined (z .val1) (x .val);
-      over = to-picoseconds _ _ (E + 345604 * h) (ps * (86400 * L)) room (over-is (leapAfter n) (secondsOn n * L) (n * L) (o .f) A up un (x .tp) (x .tn) (E + 345604 * h) (seconds z n o .step) (o .is) eval-over);
-      under = to-picoseconds _ _ (E + 345604 * h) (ps * (86400 * L)) room (under-is (leapAfter n) (secondsOn n * L) (n * L) (o .f) A up un (x .tp) (x .tn) (E + 345604 * h) (seconds z n o .step) (o .is) eval-under);
+      over = to-picoseconds _ _ (E + 345604 * h) (ps * (86400 * L)) room
+          (over-is (leapAfter n) (secondsOn n * L) (n * L) (o .f) A up un (x .tp) (x .tn) (E + 345604 * h) (seconds z n o .step) (o .is) eval-over);
+      under = to-picoseconds _ _ (E + 345604 * h) (ps * (86400 * L)) room
+          (under-is (leapAfter n) (secondsOn n * L) (n * L) (o .f) A up un (x .tp) (x .tn) (E + 345604 * h) (seconds z n o .step) (o .is) eval-under);
     };
   }
 
 -- ---- the exact day of a date, and that there is one only
 pub stamp-day : {d : JulianDate} → HalfDaySplit d → (n : ℕ) × ExactDay d n
-stamp-day s = let w = second-part s in let o = on-day (stamp-of (first-part s) (w .2)) in (o .0, record { p = _; m = _; worth = parts-worth (first-part s) (w .2); on = o .1 })
+stamp-day s = let w = second-part s in let o =
+    on-day (stamp-of (first-part s) (w .2)) in (o .0, record { p = _; m = _; worth = parts-worth (first-part s) (w .2); on = o .1 })
 
 -- the day by another pair for the date's value
 unfoldable pub day-of : {d : JulianDate} {n p m : ℕ} → ExactDay d n → Worth d p m L → OnDay p m n
@@ -153,7 +162,9 @@ day-seconds-of {n = n} s x = let w = second-part s in seconds (stamp-of (first-p
 -- ---- THE THEOREM
 -- on the exact day of the date
 pub utc-means-on : {d : JulianDate} {n : ℕ} → HalfDaySplit d → ExactDay d n → Meant 77 (taiOverUtc n) (utcToTai fixed d) d
-utc-means-on {n = n} s x = let w = second-part s in utc-meant (stamp-of (first-part s) (w .2)) (seen (first-part s) (w .2)) 77 (omega (arith, L-h)) n (day-of x (parts-worth (first-part s) (w .2)))
+utc-means-on {n = n} s x = let w =
+    second-part s in utc-meant (stamp-of (first-part s) (w .2)) (seen (first-part s) (w .2)) 77 (omega (arith, L-h)) n
+    (day-of x (parts-worth (first-part s) (w .2)))
 
 pub utc-to-tai-means : {d : JulianDate} → HalfDaySplit d → RightTai 77 d
 utc-to-tai-means s = let x = stamp-day s in let r = utc-means-on s (x .1) in record { n = x .0; on = x .1; date = r .date; is = r .is; means = r .means }

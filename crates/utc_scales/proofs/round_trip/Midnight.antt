@@ -49,7 +49,8 @@ module _ {a : Float} {A : ℕ} (f : HalvesUp a A) where
 
     total : (n : ℕ) → 1 ≤ n → (2 * n - 1) * H + H ≡ n * L
     total n g =
-        ap (λ (x : ℕ). (2 * n - 1) * H + x) (sym (one-mul H)) ∙ sym (add-mul (2 * n - 1) 1 H) ∙ ap (λ (x : ℕ). x * H) (back n g) ∙ mul-assoc n 2 H ∙ ap (λ (x : ℕ). n * x) (sym L-H)
+        ap (λ (x : ℕ). (2 * n - 1) * H + x) (sym (one-mul H)) ∙ sym (add-mul (2 * n - 1) 1 H) ∙ ap (λ (x : ℕ). x * H) (back n g) ∙ mul-assoc n 2 H
+        ∙ ap (λ (x : ℕ). n * x) (sym L-H)
       where
         back : (n : ℕ) → 1 ≤ n → 2 * n - 1 + 1 ≡ n * 2
         back n g = omega arith
@@ -59,6 +60,7 @@ module _ {a : Float} {A : ℕ} (f : HalvesUp a A) where
       x = (2 * n - 1) * H;
       val =
           subst (λ (y : ℕ). Val (add binary64 (sub binary64 mjdZeroPoint a) (ofInt binary64 z)) ((2 * n - 1) * H) y L) (sym (f .halves))
-          (subst (λ (d : ℕ). Val (add binary64 (sub binary64 mjdZeroPoint a) (ofInt binary64 z)) ((2 * n - 1) * H) (f .k * H) d) (sym L-H) (val-scale H halves-since));
+          (subst (λ (d : ℕ). Val (add binary64 (sub binary64 mjdZeroPoint a) (ofInt binary64 z)) ((2 * n - 1) * H) (f .k * H) d) (sym L-H)
+          (val-scale H halves-since));
       is = total n (omega arith);
     }

@@ -1,4 +1,5 @@
--- UTC TO TAI OF A MODIFIED JULIAN DATE: for the split (2400000.5, MJD) it is answered, and means the exact relation to 628,704 ps, of which the last rounding is 628,643. Assumes nothing.
+-- UTC TO TAI OF A MODIFIED JULIAN DATE: for the split (2400000.5, MJD) it is answered, and means the exact relation to 628,704 ps, of which the last rounding
+-- is 628,643. Assumes nothing.
 use mathlib.Core.Path.{_≡_, refl, sym, subst}
 use mathlib.Core.Bool.{true, false}
 use Prim.Native.Nat.{ℕ, _+_, _*_, _^_, _≤_, _<_}
@@ -36,10 +37,19 @@ units-17 : 2 ^ 1038 ≡ 131072 * h
 unfolding h
 units-17 = refl
 
-add-coarse : {x y : Float} {p n q k : ℕ} → p + q < n + k + 131072 * L → n + k < p + q + 131072 * L → Val x p n L → Val y q k L → ValClose L (add binary64 x y) (p + q) (n + k) (65536 * h)
+add-coarse : {x y : Float} {p n q k : ℕ} → p + q < n + k + 131072 * L → n + k < p + q + 131072 * L → Val x p n L → Val y q k L
+    → ValClose L (add binary64 x y) (p + q) (n + k) (65536 * h)
 add-coarse {x} {y} {p} {n} {q} {k} u l v w =
-    let s : NearSum (add binary64 x y) (p + q) (n + k) 1038 = add-near 1038 (lit≤ tt) (subst (λ (z : ℕ). p + q < n + k + z) (sym days-17) u) (subst (λ (z : ℕ). n + k < p + q + z) (sym days-17) l) v w in
-    record { p = s .p; n = s .n; val = s .val; over = half (s .p + (n + k)) (s .n + (p + q)) (2 ^ 1038) units-17 (s .over); under = half (s .n + (p + q)) (s .p + (n + k)) (2 ^ 1038) units-17 (s .under) }
+    let s : NearSum (add binary64 x y) (p + q) (n + k) 1038 =
+    add-near 1038 (lit≤ tt) (subst (λ (z : ℕ). p + q < n + k + z) (sym days-17) u) (subst (λ (z : ℕ). n + k < p + q + z) (sym days-17) l) v w in
+    record {
+      p = s .p;
+      n = s .n;
+      val = s .val;
+      over = half (s .p + (n + k)) (s .n + (p + q)) (2 ^ 1038) units-17 (s .over);
+      under =
+          half (s .n + (p + q)) (s .p + (n + k)) (2 ^ 1038) units-17 (s .under);
+    }
   where
     half : (x y w : ℕ) → w ≡ 131072 * h → 2 * x ≤ 2 * y + w → x ≤ y + 65536 * h
     half x y w e k = omega arith
@@ -51,13 +61,15 @@ first-day = whole-val (record { sign = false; size = 41318; has = (refl, refl); 
 
 last-day : Val (decimal 131071 0) (131071 * L) 0 L
 unfolding round
-last-day = subst (λ (z : ℕ). Val (decimal 131071 0) (131071 * L) z L) (zero-mul L) (whole-val (record { sign = false; size = 131071; has = (refl, refl); is = refl }))
+last-day = subst (λ (z : ℕ). Val (decimal 131071 0) (131071 * L) z L) (zero-mul L)
+    (whole-val (record { sign = false; size = 131071; has = (refl, refl); is = refl }))
 
 -- ---- all roundings, in picoseconds
 in-all : dayPs * (5662510614 * h + 345604 * h) ≤ 628704 * (86400 * L)
 in-all = subst (λ (z : ℕ). dayPs * (5662510614 * h + 345604 * h) ≤ 628704 * (86400 * z)) (sym L-h) (go h (mul-le-mul-right h (lit≤ tt)))
   where
-    go : (k : ℕ) → 489270777235200000000000000 * k ≤ 489271294101831606809395200 * k → dayPs * (5662510614 * k + 345604 * k) ≤ 628704 * (86400 * (9007199254740992 * k))
+    go : (k : ℕ) → 489270777235200000000000000 * k ≤ 489271294101831606809395200 * k
+        → dayPs * (5662510614 * k + 345604 * k) ≤ 628704 * (86400 * (9007199254740992 * k))
     go k l = omega arith
 
 -- ---- the parts of such a date
@@ -101,10 +113,12 @@ module _ {d : JulianDate} (s : ModifiedSplit d) where
       (sum-low stamp days (131072 * L) (λ a b c d. below _ _ _ _ _ _ _ d a b c))
       (since stamp days .val) (day-sum stamp days .val))
     where
-      above : (f N x y t P M : ℕ) → x + H ≡ N → N + f + u .n ≤ 4800001 * H + u .p + H + 4 * h → 64 * P ≤ 64 * (M + f) + L → y + M ≤ t + P + h → x + y < 4800001 * H + t + 131072 * L
+      above : (f N x y t P M : ℕ) → x + H ≡ N → N + f + u .n ≤ 4800001 * H + u .p + H + 4 * h → 64 * P ≤ 64 * (M + f) + L → y + M ≤ t + P + h
+          → x + y < 4800001 * H + t + 131072 * L
       above f N x y t P M e a b c = omega (arith, u .high, h-small, L-pos)
 
-      below : (f N x y t P M : ℕ) → x + H ≡ N → 4800001 * H + u .p + H ≤ N + f + u .n + 4 * h → 64 * (M + f) ≤ 64 * P + L → t + P ≤ y + M + h → 4800001 * H + t < x + y + 131072 * L
+      below : (f N x y t P M : ℕ) → x + H ≡ N → 4800001 * H + u .p + H ≤ N + f + u .n + 4 * h → 64 * (M + f) ≤ 64 * P + L → t + P ≤ y + M + h
+          → 4800001 * H + t < x + y + 131072 * L
       below f N x y t P M e a b c = omega (arith, from-1972, h-small, L-pos)
 
   -- ---- THE THEOREM

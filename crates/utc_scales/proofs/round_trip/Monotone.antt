@@ -1,5 +1,5 @@
--- UTC to TAI after the calendar, in order: of two fractions of one day the later has the later TAI, and the last of a day comes before the first of the next, leap seconds
--- included; no gap is asked. Each float operation keeps the order, and at midnight the floats of each TAI-UTC are compared. Assumes nothing.
+-- UTC to TAI after the calendar, in order: of two fractions of one day the later has the later TAI, and the last of a day comes before the first of the next,
+-- leap seconds included; no gap is asked. Each float operation keeps the order, and at midnight the floats of each TAI-UTC are compared. Assumes nothing.
 use mathlib.Core.Path.{_≡_, refl, sym, ap, _∙_, subst, subst₂}
 use mathlib.Core.Bool.{Bool, false}
 use Prim.Native.Nat.{ℕ, zero, suc, _+_, _*_, _^_, _≤_, _<_}
@@ -51,8 +51,10 @@ times-order {x} {y} {c} {f} {g} {B} {E} e vc vx vy k =
 one-order : {x y : Float} {p n q m : ℕ} → Val x p n L → Val y q m L → p + m ≤ q + n → T (le (mul binary64 x one) (mul binary64 y one))
 one-order {x} {y} {p} {n} {q} {m} vx vy k = rounds-mono L-pos L-pos (scaled p n q m k) (times-one vx) (times-one vy)
 
-add-order : {x y z w : Float} {p n q m a b c d : ℕ} → Val x p n L → Val z a b L → Val y q m L → Val w c d L → p + a + (m + d) ≤ q + c + (n + b) → T (le (add binary64 x z) (add binary64 y w))
-add-order {p = p} {n} {q} {m} {a} {b} {c} {d} vx vz vy vw k = rounds-mono L-pos L-pos (scaled (p + a) (n + b) (q + c) (m + d) k) (add-rounds binary64 L-pos vx vz) (add-rounds binary64 L-pos vy vw)
+add-order : {x y z w : Float} {p n q m a b c d : ℕ} → Val x p n L → Val z a b L → Val y q m L → Val w c d L → p + a + (m + d) ≤ q + c + (n + b)
+    → T (le (add binary64 x z) (add binary64 y w))
+add-order {p = p} {n} {q} {m} {a} {b} {c} {d} vx vz vy vw k =
+    rounds-mono L-pos L-pos (scaled (p + a) (n + b) (q + c) (m + d) k) (add-rounds binary64 L-pos vx vz) (add-rounds binary64 L-pos vy vw)
 
 -- ---- the stretched fraction with TAI-UTC in days
 abbrev inDays : ℕ → Float
@@ -68,10 +70,12 @@ module _ {c : Float} {s : ℕ} (z : Factor c s) (D : ℕ) (few : D ≤ 37) where
       let q = in-days D few in
       let g = share s f (z .few) l .0 in
       let d = mul-le-mul-right L few in
-      let i = add-close (first-high f (s * f) (D * L) (p .p) (p .n) (q .p) (q .n) l g d (p .over) (p .under) (q .over) (q .under)) (first-low f (s * f) (D * L) (p .p) (p .n) (q .p) (q .n) l g d (p .over) (p .under) (q .over) (q .under)) (p .val) (q .val) in
+      let i = add-close (first-high f (s * f) (D * L) (p .p) (p .n) (q .p) (q .n) l g d (p .over) (p .under) (q .over) (q .under))
+      (first-low f (s * f) (D * L) (p .p) (p .n) (q .p) (q .n) l g d (p .over) (p .under) (q .over) (q .under)) (p .val) (q .val) in
       (i .p, i .n, i .val, room (i .p) (i .n) f (s * f) (D * L) (p .p) (p .n) (q .p) (q .n) l g d (p .over) (q .over) (i .over))
     where
-      room : (y w f g d p n q m : ℕ) → f < L → g ≤ f → d ≤ 37 * L → 86400 * p ≤ 86400 * n + (86400 * f + g) + 113792 * h → 86400 * q ≤ 86400 * m + d + 22 * h → y + (n + m) ≤ w + (p + q) + h → y < w + 2 * L
+      room : (y w f g d p n q m : ℕ) → f < L → g ≤ f → d ≤ 37 * L → 86400 * p ≤ 86400 * n + (86400 * f + g) + 113792 * h → 86400 * q ≤ 86400 * m + d + 22 * h
+          → y + (n + m) ≤ w + (p + q) + h → y < w + 2 * L
       room y w f g d p n q m a b e i j k = omega (arith, L-h, h-pos)
 
   after-order : {x y : Float} {f g : ℕ} → Val x f 0 L → Val y g 0 L → f ≤ g → g < L → T (le (withOffset c D x) (withOffset c D y))
@@ -166,11 +170,13 @@ record DayLaw (D E : ℕ) : Type 0 where
   end : T (le (sub binary64 (withOffset (stretch .c) D last) one) (inDays E))
 
 day-law : (D s E : ℕ) → D ≤ 37 → s ≤ 1 → D + s ≡ E → DayLaw D E
-day-law D zero E l k e = subst (DayLaw D) (plain D E e) (record { s = 0; stretch = plain-day-factor D (omega arith); start = plain-start D (omega arith); end = plain-end D (omega arith) })
+day-law D zero E l k e = subst (DayLaw D) (plain D E e)
+    (record { s = 0; stretch = plain-day-factor D (omega arith); start = plain-start D (omega arith); end = plain-end D (omega arith) })
   where
     plain : (D E : ℕ) → D + 0 ≡ E → D ≡ E
     plain D E e = omega arith
-day-law D (suc zero) E l k e = subst (DayLaw D) (longer D E e) (record { s = 1; stretch = longer-day-factor D (omega arith); start = longer-start D (omega arith); end = longer-end D (omega arith) })
+day-law D (suc zero) E l k e = subst (DayLaw D) (longer D E e)
+    (record { s = 1; stretch = longer-day-factor D (omega arith); start = longer-start D (omega arith); end = longer-end D (omega arith) })
   where
     longer : (D E : ℕ) → D + 1 ≡ E → suc D ≡ E
     longer D E e = omega arith
@@ -203,7 +209,8 @@ module _ {a : Float} {A : ℕ} (v : FirstPart a A) (n : ℕ) (low : 2441318 ≤ 
       let p = after-val (d .stretch .factor) (secondsOn n) few vx (less f g k l) in
       let q = after-val (d .stretch .factor) (secondsOn n) few vy l in
       let o = le-says L-pos (p .2) (q .2) (after-order (d .stretch .factor) (secondsOn n) few vx vy k l) in
-      subst₂ (λ (z w : Float). T (le z w)) (sym (tai-is a n d x)) (sym (tai-is a n d y)) (add-order (m .val) (p .2) (m .val) (q .2) (both (m .x) A (p .0) (p .1) (q .0) (q .1) o))
+      subst₂ (λ (z w : Float). T (le z w)) (sym (tai-is a n d x)) (sym (tai-is a n d y))
+      (add-order (m .val) (p .2) (m .val) (q .2) (both (m .x) A (p .0) (p .1) (q .0) (q .1) o))
     where
       less : (f g : ℕ) → f ≤ g → g < L → f < L
       less f g k l = omega arith
@@ -212,7 +219,8 @@ module _ {a : Float} {A : ℕ} (v : FirstPart a A) (n : ℕ) (low : 2441318 ≤ 
       both x A p n q m k = omega arith
 
   -- ---- OVER ONE MIDNIGHT
-  pub next-day : (high : suc n ≤ 5000002) {x y : Float} {f g : ℕ} → T (fits binary64 x) → Val x f 0 L → Val y g 0 L → f < L → g < L → T (le (tai a n x) (tai a (suc n) y))
+  pub next-day : (high : suc n ≤ 5000002) {x y : Float} {f g : ℕ} → T (fits binary64 x) → Val x f 0 L → Val y g 0 L → f < L → g < L
+      → T (le (tai a n x) (tai a (suc n) y))
   next-day high {x} {y} {f} {g} t vx vy l l' =
       let D = secondsOn n in
       let E = secondsOn (suc n) in
@@ -228,16 +236,19 @@ module _ {a : Float} {A : ℕ} (v : FirstPart a A) (n : ℕ) (low : 2441318 ≤ 
       let i = after-val (e .stretch .factor) E few' nought-L L-pos in
       let c = in-days E few' in
       let o1 = le-says L-pos (p .2) (z .2) (after-order (d .stretch .factor) D few vx last-val (at-last x f t vx l) last-below) in
-      let o2 = midnight (withOffset (d .stretch .c) D last) (z .0) (z .1) (c .p) (c .n) (add-fits binary64 _ _) (z .2) (z .3) (c .val) (d .end) (some (E * L) (c .p) (c .n) (mul-le-mul-right L (day-whole (suc n) (omega arith) high .least)) (c .under)) in
+      let o2 = midnight (withOffset (d .stretch .c) D last) (z .0) (z .1) (c .p) (c .n) (add-fits binary64 _ _) (z .2) (z .3) (c .val) (d .end)
+      (some (E * L) (c .p) (c .n) (mul-le-mul-right L (day-whole (suc n) (omega arith) high .least)) (c .under)) in
       let o3 = le-says L-pos (c .val) (i .2) (e .start) in
       let o4 = le-says L-pos (i .2) (q .2) (after-order (e .stretch .factor) E few' nought-L vy (omega arith) l') in
       subst₂ (λ (z w : Float). T (le z w)) (sym (tai-is a n d x)) (sym (tai-is a (suc n) e y))
-      (add-order (m .val) (p .2) (m' .val) (q .2) (total (m .x) (m' .x) (n * L) (p .0) (p .1) (z .0) (z .1) (c .p) (c .n) (i .0) (i .1) (q .0) (q .1) (m .is) (m' .is ∙ next-midnight n) o1 o2 o3 o4))
+      (add-order (m .val) (p .2) (m' .val) (q .2)
+      (total (m .x) (m' .x) (n * L) (p .0) (p .1) (z .0) (z .1) (c .p) (c .n) (i .0) (i .1) (q .0) (q .1) (m .is) (m' .is ∙ next-midnight n) o1 o2 o3 o4))
     where
       some : (d p n : ℕ) → 10 * L ≤ d → d + 86400 * n ≤ 86400 * p + 22 * h → n ≤ p
       some d p n k j = omega (arith, L-h)
 
-      midnight : (w : Float) (p n c b : ℕ) → T (fits binary64 w) → Val w p n L → p < n + 2 * L → {k : Float} → Val k c b L → T (le (sub binary64 w one) k) → b ≤ c → p + b ≤ c + n + L
+      midnight : (w : Float) (p n c b : ℕ) → T (fits binary64 w) → Val w p n L → p < n + 2 * L → {k : Float} → Val k c b L → T (le (sub binary64 w one) k)
+          → b ≤ c → p + b ≤ c + n + L
       midnight w p n c b t vw k vc j s = go (decLe (n + L) p)
         where
           go : Dec (n + L ≤ p) → p + b ≤ c + n + L
@@ -247,5 +258,6 @@ module _ {a : Float} {A : ℕ} (v : FirstPart a A) (n : ℕ) (low : 2441318 ≤ 
               end q = omega arith
           go (no r) = omega arith
 
-      total : (x x' N p n z w c b i j q m : ℕ) → x + H ≡ N → x' + H ≡ L + N → p + w ≤ z + n → z + b ≤ c + w + L → c + j ≤ i + b → i + m ≤ q + j → x + p + (A + m) ≤ x' + q + (A + n)
+      total : (x x' N p n z w c b i j q m : ℕ) → x + H ≡ N → x' + H ≡ L + N → p + w ≤ z + n → z + b ≤ c + w + L → c + j ≤ i + b → i + m ≤ q + j
+          → x + p + (A + m) ≤ x' + q + (A + n)
       total x x' N p n z w c b i j q m e f g h k l = omega arith

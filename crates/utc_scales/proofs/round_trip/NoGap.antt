@@ -1,5 +1,5 @@
--- UTC to TAI keeps the order of two stamps of one jd1, no gap asked, whatever their jd2, on the grid or off it, over midnights and leap seconds: the calendar keeps it
--- (julian::day_order), and so does all that follows (Ordered). Assumes nothing.
+-- UTC to TAI keeps the order of two stamps of one jd1, no gap asked, whatever their jd2, on the grid or off it, over midnights and leap seconds: the calendar
+-- keeps it (julian::day_order), and so does all that follows (Ordered). Assumes nothing.
 use mathlib.Core.Path.{_≡_, sym, subst, subst₂}
 use Prim.Native.Nat.{ℕ, _+_, _*_, _≤_}
 use native.Mathlib.Nat.{zero-mul}
@@ -27,7 +27,8 @@ module _ {d d' : JulianDate} (i : HalfDaySplit d) (i' : HalfDaySplit d') (same :
 
   calendar : T (le (d .jd2) (d' .jd2)) → NoLater (dayOf (d .jd1) (d .jd2)) (dayOf (d' .jd1) (d' .jd2))
   calendar l =
-      calendar-order (d .jd1) (d .jd2) (d' .jd2) first (i .held .1) (i' .held .1) (i .second) (i' .second) l (dayOf (d .jd1) (d .jd2)) (dayOf (d' .jd1) (d' .jd2))
+      calendar-order (d .jd1) (d .jd2) (d' .jd2) first (i .held .1) (i' .held .1) (i .second) (i' .second) l (dayOf (d .jd1) (d .jd2))
+      (dayOf (d' .jd1) (d' .jd2))
       (z i i' same .given) (subst (λ (a : Float). dayNumberAndFraction a (d' .jd2) ≡ answer (dayOf (d' .jd1) (d' .jd2))) (sym same) (z' i i' same .given))
 
   -- THE THEOREM: jd1 in the range of request 14, and jd2 ≤ jd2', each at most 1 in size
@@ -35,8 +36,10 @@ module _ {d d' : JulianDate} (i : HalfDaySplit d) (i' : HalfDaySplit d') (same :
   utc-order-no-gap l =
       let k = calendar l in
       utc-order-by-days i i' same
-      (units (z i i' same .n * L) (z' i i' same .n * L) (k .units) (k .units') (z i i' same .f) (z' i i' same .f) (val-unique (z i i' same .val) (k .val)) (val-unique (z' i i' same .val) (k .val'))
-      (days (dayOf (d .jd1) (d .jd2) .day) (dayOf (d' .jd1) (d' .jd2) .day) (z i i' same .n) (z' i i' same .n) (k .units) (k .units') (z i i' same .day) (z' i i' same .day) (k .order)))
+      (units (z i i' same .n * L) (z' i i' same .n * L) (k .units) (k .units') (z i i' same .f) (z' i i' same .f) (val-unique (z i i' same .val) (k .val))
+      (val-unique (z' i i' same .val) (k .val'))
+      (days (dayOf (d .jd1) (d .jd2) .day) (dayOf (d' .jd1) (d' .jd2) .day) (z i i' same .n) (z' i i' same .n) (k .units) (k .units') (z i i' same .day)
+      (z' i i' same .day) (k .order)))
     where
       units : (N M u u' f f' : ℕ) → f + 0 ≡ u + 0 → f' + 0 ≡ u' + 0 → N + u ≤ M + u' → N + f ≤ M + f'
       units N M u u' f f' e e' h = omega arith

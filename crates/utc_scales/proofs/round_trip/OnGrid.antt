@@ -10,5 +10,6 @@ use Rattle.utc_scales.specs.round_trip.Ranges.{HalfDaySplit}
 use Rattle.utc_scales.specs.round_trip.Order.{PartsInOrder}
 use Rattle.utc_scales.proofs.round_trip.NoGap.{utc-order-no-gap}
 
-pub utc-order-on-grid : {d d' : JulianDate} → HalfDaySplit d → HalfDaySplit d' → d .jd1 ≡ d' .jd1 → OnGrid (d .jd2) → OnGrid (d' .jd2) → T (le (d .jd2) (d' .jd2)) → PartsInOrder (utcToTai fixed) d d'
+pub utc-order-on-grid : {d d' : JulianDate} → HalfDaySplit d → HalfDaySplit d' → d .jd1 ≡ d' .jd1 → OnGrid (d .jd2) → OnGrid (d' .jd2)
+    → T (le (d .jd2) (d' .jd2)) → PartsInOrder (utcToTai fixed) d d'
 utc-order-on-grid i i' same y y' l = utc-order-no-gap i i' same l

@@ -1,5 +1,5 @@
--- THE ORDER OF STAMPS, leap seconds included: two UTC stamps 154 ps or more apart keep their order in TAI, and two TAI stamps 346 ps or more apart keep theirs in UTC.
--- Assumes nothing.
+-- THE ORDER OF STAMPS, leap seconds included: two UTC stamps 154 ps or more apart keep their order in TAI, and two TAI stamps 346 ps or more apart keep theirs
+-- in UTC. Assumes nothing.
 use mathlib.Core.Path.{_≡_, sym, subst, _∙_}
 use mathlib.Core.Bool.{true}
 use mathlib.Core.Logic.{_⊎_, inl, inr}
@@ -35,10 +35,13 @@ in-parts {x} {y} e l =
     let w = l .to in
     record {
       larger = e;
-      smaller = le-show L-pos (v .second) (w .second) (go (v .p) (v .n) (v .q) (v .m) (w .p) (w .n) (w .q) (w .m) (l .p) (l .n) (l .p') (l .n') (0 * L) (val-unique (subst (λ (z : Float). Val z (v .p) (v .n) L) e (v .first)) (w .first)) (v .total) (w .total) (l .gap));
+      smaller = le-show L-pos (v .second) (w .second)
+          (go (v .p) (v .n) (v .q) (v .m) (w .p) (w .n) (w .q) (w .m) (l .p) (l .n) (l .p') (l .n') (0 * L)
+          (val-unique (subst (λ (z : Float). Val z (v .p) (v .n) L) e (v .first)) (w .first)) (v .total) (w .total) (l .gap));
     }
   where
-    go : (p n q m p' n' q' m' P N P' N' z : ℕ) → p + n' ≡ p' + n → p + q + N ≡ P + (n + m) → p' + q' + N' ≡ P' + (n' + m') → dayPs * (P + N') + z ≤ dayPs * (P' + N) → q + m' ≤ q' + m
+    go : (p n q m p' n' q' m' P N P' N' z : ℕ) → p + n' ≡ p' + n → p + q + N ≡ P + (n + m) → p' + q' + N' ≡ P' + (n' + m')
+        → dayPs * (P + N') + z ≤ dayPs * (P' + N) → q + m' ≤ q' + m
     go p n q m p' n' q' m' P N P' N' z a b c k = omega arith
 
 -- ---- the exact relation between two stamps: W and W' the dates by UTC, G and G' their TAI-UTC, (p - m) and (p' - m') their TAI
@@ -66,13 +69,24 @@ far n m f e t r b c k = relation-rises n m f e t r b c k
 module _ {d d' : JulianDate} {n m : ℕ} (x : ExactDay d n) (y : ExactDay d' m) where
   dates-later : {ps : ℕ} → Follows ps d d' → dayPs * (n * L + x .on .f) + ps * L ≤ dayPs * (m * L + y .on .f)
   dates-later {ps} l =
-      go (l .p) (l .n) (l .p') (l .n') (x .p) (x .m) (y .p) (y .m) (n * L + x .on .f) (m * L + y .on .f) (ps * L) (worth-unique (l .from) (x .worth)) (worth-unique (l .to) (y .worth)) (x .on .is) (y .on .is) (l .gap)
+      go (l .p) (l .n) (l .p') (l .n') (x .p) (x .m) (y .p) (y .m) (n * L + x .on .f) (m * L + y .on .f) (ps * L) (worth-unique (l .from) (x .worth))
+      (worth-unique (l .to) (y .worth)) (x .on .is) (y .on .is) (l .gap)
     where
-      go : (P N Q M p k q j W W' z : ℕ) → P + k ≡ p + N → Q + j ≡ q + M → W + k ≡ p + H → W' + j ≡ q + H → dayPs * (P + M) + z ≤ dayPs * (Q + N) → dayPs * W + z ≤ dayPs * W'
+      go : (P N Q M p k q j W W' z : ℕ) → P + k ≡ p + N → Q + j ≡ q + M → W + k ≡ p + H → W' + j ≡ q + H → dayPs * (P + M) + z ≤ dayPs * (Q + N)
+          → dayPs * W + z ≤ dayPs * W'
       go P N Q M p k q j W W' z e f g i l = omega arith
 
   stamps-later : n * L + x .on .f ≤ m * L + y .on .f → Follows 0 d d'
-  stamps-later k = record { p = x .p; n = x .m; p' = y .p; n' = y .m; from = x .worth; to = y .worth; gap = go (x .p) (x .m) (y .p) (y .m) (n * L + x .on .f) (m * L + y .on .f) (0 * L) (zero-mul L) (x .on .is) (y .on .is) k }
+  stamps-later k = record {
+    p = x .p;
+    n = x .m;
+    p' = y .p;
+    n' = y .m;
+    from = x .worth;
+    to = y .worth;
+    gap =
+        go (x .p) (x .m) (y .p) (y .m) (n * L + x .on .f) (m * L + y .on .f) (0 * L) (zero-mul L) (x .on .is) (y .on .is) k;
+  }
     where
       go : (p k q j W W' z : ℕ) → z ≡ 0 → W + k ≡ p + H → W' + j ≡ q + H → W ≤ W' → dayPs * (p + j) + z ≤ dayPs * (q + k)
       go p k q j W W' z e f g l = omega arith
@@ -120,15 +134,24 @@ pub tai-order : {d d' : JulianDate} → HalfDaySplit d → HalfDaySplit d' → F
 tai-order {d} {d'} i i' l =
     let x = utc-found i in
     let y = utc-found i' in
-    record { x = x .date; y = y .date; first = x .is; second = y .is; in-order = stamps-later (x .on) (y .on) (go x y (decLe (x .n * L + x .on .on .f) (y .n * L + y .on .on .f))) }
+    record {
+      x = x .date;
+      y = y .date;
+      first = x .is;
+      second = y .is;
+      in-order =
+          stamps-later (x .on) (y .on) (go x y (decLe (x .n * L + x .on .on .f) (y .n * L + y .on .on .f)));
+    }
   where
     go : (x : UtcFound d) (y : UtcFound d') → Dec (x .n * L + x .on .on .f ≤ y .n * L + y .on .on .f) → x .n * L + x .on .on .f ≤ y .n * L + y .on .on .f
     go x y (yes j) = j
     go x y (no j) =
         let s = x .said in
         let s' = y .said in
-        absurd (to-utc (s .p) (s .m) (s' .p) (s' .m) (x .n * L + x .on .on .f) (y .n * L + y .on .on .f) (taiUtcAt (x .n) (x .on .on .f)) (taiUtcAt (y .n) (y .on .on .f)) (less _ _ j)
-        (far (y .n) (x .n) (y .on .on .f) (x .on .on .f) (y .seconds) (x .seconds) (y .on .on .below) (x .on .on .below) (weak _ _ (less _ _ j))) (s .under) (s' .over)
+        absurd (to-utc (s .p) (s .m) (s' .p) (s' .m) (x .n * L + x .on .on .f) (y .n * L + y .on .on .f) (taiUtcAt (x .n) (x .on .on .f))
+        (taiUtcAt (y .n) (y .on .on .f)) (less _ _ j)
+        (far (y .n) (x .n) (y .on .on .f) (x .on .on .f) (y .seconds) (x .seconds) (y .on .on .below) (x .on .on .below) (weak _ _ (less _ _ j))) (s .under)
+        (s' .over)
         (move (l .p) (l .n) (l .p') (l .n') (s .p) (s .m) (s' .p) (s' .m) (worth-unique (l .from) (s .worth)) (worth-unique (l .to) (s' .worth)) (l .gap)))
       where
         less : (x y : ℕ) → (x ≤ y → ⊥) → y < x
@@ -137,21 +160,31 @@ tai-order {d} {d'} i i' l =
         weak : (x y : ℕ) → x < y → x ≤ y
         weak x y q = omega arith
 
-        move : (P N Q M p m p' m' : ℕ) → P + m ≡ p + N → Q + m' ≡ p' + M → dayPs * (P + M) + 346 * L ≤ dayPs * (Q + N) → dayPs * (p + m') + 346 * L ≤ dayPs * (p' + m)
+        move : (P N Q M p m p' m' : ℕ) → P + m ≡ p + N → Q + m' ≡ p' + M → dayPs * (P + M) + 346 * L ≤ dayPs * (Q + N)
+            → dayPs * (p + m') + 346 * L ≤ dayPs * (p' + m)
         move P N Q M p m p' m' e f k = omega arith
 
 -- ---- the same larger part: the smaller parts are in order, as floats
-in-parts-too : {f : JulianDate → Outcome JulianDate} {d d' x y : JulianDate} → f d ≡ answer x → f d' ≡ answer y → x .jd1 ≡ y .jd1 → OrderKept f d d' → PartsInOrder f d d'
+in-parts-too : {f : JulianDate → Outcome JulianDate} {d d' x y : JulianDate} → f d ≡ answer x → f d' ≡ answer y → x .jd1 ≡ y .jd1 → OrderKept f d d'
+    → PartsInOrder f d d'
 in-parts-too {f} {d} {d'} {x} {y} p q e o =
     let a : o .x ≡ x = same (f d) (o .x) x (o .first) p in
     let b : o .y ≡ y = same (f d') (o .y) y (o .second) q in
-    record { x = x; y = y; first = p; second = q; in-order = in-parts e (subst (λ (z : JulianDate). Follows 0 x z) b (subst (λ (z : JulianDate). Follows 0 z (o .y)) a (o .in-order))) }
+    record {
+      x = x;
+      y = y;
+      first = p;
+      second = q;
+      in-order =
+          in-parts e (subst (λ (z : JulianDate). Follows 0 x z) b (subst (λ (z : JulianDate). Follows 0 z (o .y)) a (o .in-order)));
+    }
   where
     same : (o : Outcome JulianDate) (x y : JulianDate) → o ≡ answer x → o ≡ answer y → x ≡ y
     same o x y p q = cc
 
 pub utc-order-same : {d d' : JulianDate} → HalfDaySplit d → HalfDaySplit d' → d .jd1 ≡ d' .jd1 → Follows 154 d d' → PartsInOrder (utcToTai fixed) d d'
-utc-order-same i i' e l = in-parts-too (seen (first-part i) (second-part i .2) .answered) (seen (first-part i') (second-part i' .2) .answered) e (utc-order i i' l)
+utc-order-same i i' e l = in-parts-too (seen (first-part i) (second-part i .2) .answered) (seen (first-part i') (second-part i' .2) .answered) e
+    (utc-order i i' l)
 
 pub tai-order-same : {d d' : JulianDate} → HalfDaySplit d → HalfDaySplit d' → d .jd1 ≡ d' .jd1 → Follows 346 d d' → PartsInOrder (taiToUtc fixed) d d'
 tai-order-same i i' e l = let x = utc-found i in let y = utc-found i' in in-parts-too (x .is) (y .is) (x .same ∙ e ∙ sym (y .same)) (tai-order i i' l)

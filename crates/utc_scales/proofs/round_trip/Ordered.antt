@@ -1,5 +1,5 @@
--- UTC to TAI keeps the order of two stamps of one jd1, no gap asked, where the calendar keeps it: where their days and fractions are in order, so are their answers.
--- Assumes nothing.
+-- UTC to TAI keeps the order of two stamps of one jd1, no gap asked, where the calendar keeps it: where their days and fractions are in order, so are their
+-- answers. Assumes nothing.
 use mathlib.Core.Path.{_≡_, sym, subst}
 use mathlib.Core.Logic.{_⊎_, inl, inr}
 use Prim.Native.Nat.{ℕ, suc, _+_, _*_, _≤_, _<_}
@@ -69,13 +69,16 @@ module _ {d d' : JulianDate} (i : HalfDaySplit d) (i' : HalfDaySplit d') (same :
     n' = second-part i' .1;
     from = parts-worth (first-part i) (second-part i .2);
     to = parts-worth (first-part i') (second-part i' .2);
-    gap = go (i .halves * H) (i' .halves * H) (second-part i .0) (second-part i .1) (second-part i' .0) (second-part i' .1) (z .n * L) (z' .n * L) (z .f) (z' .f) one-first (z .near-under) (z' .near-over) (z .below) (subst (λ (x : ℕ). x ≤ z' .n * L) (add-mul 2 (z .n) L) (mul-le-mul-right L (two (z .n) (z' .n) l)));
+    gap = go (i .halves * H) (i' .halves * H) (second-part i .0) (second-part i .1) (second-part i' .0) (second-part i' .1) (z .n * L) (z' .n * L) (z .f)
+        (z' .f) one-first (z .near-under) (z' .near-over) (z .below)
+        (subst (λ (x : ℕ). x ≤ z' .n * L) (add-mul 2 (z .n) L) (mul-le-mul-right L (two (z .n) (z' .n) l)));
   }
     where
       two : (n m : ℕ) → suc n < m → 2 + n ≤ m
       two n m l = omega arith
 
-      go : (A A' p n p' n' N M g g' : ℕ) → A ≡ A' → A + p + H ≤ N + g + n + 4 * h → M + g' + n' ≤ A' + p' + H + 4 * h → g < L → 2 * L + N ≤ M → dayPs * (A + p + n') + 154 * L ≤ dayPs * (A' + p' + n)
+      go : (A A' p n p' n' N M g g' : ℕ) → A ≡ A' → A + p + H ≤ N + g + n + 4 * h → M + g' + n' ≤ A' + p' + H + 4 * h → g < L → 2 * L + N ≤ M
+          → dayPs * (A + p + n') + 154 * L ≤ dayPs * (A' + p' + n)
       go A A' p n p' n' N M g g' e i j l m = gap-of (A + p + n') (A' + p' + n) L h h-small (omega arith)
 
   -- the second answer's float with the first one's larger part
@@ -86,7 +89,8 @@ module _ {d d' : JulianDate} (i : HalfDaySplit d) (i' : HalfDaySplit d') (same :
   by-first l = floats (subst (λ (a : Float). T (le one-tai (tai a (z' .n) (dayOf (d' .jd1) (d' .jd2) .fraction)))) same l)
 
   pub utc-order-by-days : z .n * L + z .f ≤ z' .n * L + z' .f → PartsInOrder (utcToTai fixed) d d'
-  utc-order-by-days o = days (eq-or-lt-of-le (first (z .n) (z' .n) (lt-of-mul-lt-mul-right L (low (z .n * L) (z' .n * L) (z .f) (z' .f) (next-midnight (z' .n)) (z' .below) o))))
+  utc-order-by-days o = days (eq-or-lt-of-le
+      (first (z .n) (z' .n) (lt-of-mul-lt-mul-right L (low (z .n * L) (z' .n * L) (z .f) (z' .f) (next-midnight (z' .n)) (z' .below) o))))
     where
       first : (n m : ℕ) → n < suc m → n ≤ m
       first n m l = omega arith
@@ -95,13 +99,16 @@ module _ {d d' : JulianDate} (i : HalfDaySplit d) (i' : HalfDaySplit d') (same :
       low N M g g' e l k = omega arith
 
       later : (suc (z .n) ≡ z' .n) ⊎ (suc (z .n) < z' .n) → PartsInOrder (utcToTai fixed) d d'
-      later (inl e) = by-first (subst (λ (m : ℕ). T (le one-tai (same-first m))) e (next-day (first-part i) (z .n) (z .low) (subst (λ (m : ℕ). m ≤ 5000002) (sym e) (z' .high)) (fraction-fits (d .jd1) (d .jd2)) (z .val) (z' .val) (z .below) (z' .below)))
+      later (inl e) = by-first (subst (λ (m : ℕ). T (le one-tai (same-first m))) e
+          (next-day (first-part i) (z .n) (z .low) (subst (λ (m : ℕ). m ≤ 5000002) (sym e) (z' .high)) (fraction-fits (d .jd1) (d .jd2)) (z .val) (z' .val)
+          (z .below) (z' .below)))
       later (inr l) = utc-order-same i i' same (far-apart l)
 
       days : (z .n ≡ z' .n) ⊎ (z .n < z' .n) → PartsInOrder (utcToTai fixed) d d'
       days (inl e) =
           by-first (subst (λ (m : ℕ). T (le one-tai (same-first m))) e
-          (same-day (first-part i) (z .n) (z .low) (z .high) (z .val) (z' .val) (cancel (z .n * L) (z .f) (z' .f) (subst (λ (m : ℕ). z .n * L + z .f ≤ m * L + z' .f) (sym e) o)) (z' .below)))
+          (same-day (first-part i) (z .n) (z .low) (z .high) (z .val) (z' .val)
+          (cancel (z .n * L) (z .f) (z' .f) (subst (λ (m : ℕ). z .n * L + z .f ≤ m * L + z' .f) (sym e) o)) (z' .below)))
         where
           cancel : (N g g' : ℕ) → N + g ≤ N + g' → g ≤ g'
           cancel N g g' k = omega arith

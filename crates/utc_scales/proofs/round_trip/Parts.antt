@@ -1,5 +1,5 @@
--- The two parts of a date as scaled whole numbers: jd1 a whole number of half days, and jd2 of at most 1027/1024 day in size, as the guesses of TAI to UTC are too.
--- Assumes nothing.
+-- The two parts of a date as scaled whole numbers: jd1 a whole number of half days, and jd2 of at most 1027/1024 day in size, as the guesses of TAI to UTC are
+-- too. Assumes nothing.
 use mathlib.Core.Path.{_≡_, refl}
 use Prim.Native.Nat.{ℕ, _+_, _*_, _≤_}
 use native.Mathlib.Nat.{mul-le-mul-right}
@@ -44,7 +44,8 @@ pub record SecondPart (u : Float) (up un : ℕ) : Type 0 where
   pub under : 1024 * un ≤ 1024 * up + 1027 * L
 
 pub smaller-part : (b : Float) → T (fits binary64 b) → T (le (abs b) one) → (p : ℕ) × (n : ℕ) × SecondPart b p n
-smaller-part b t k = let w = size-at-most t one-L k in (w .p, w .n, record { held = t; val = w .val; over = wide (w .p) (w .n) L (w .high); under = wide (w .n) (w .p) L (w .low) })
+smaller-part b t k = let w = size-at-most t one-L
+    k in (w .p, w .n, record { held = t; val = w .val; over = wide (w .p) (w .n) L (w .high); under = wide (w .n) (w .p) L (w .low) })
   where
     wide : (p n Q : ℕ) → p ≤ n + Q → 1024 * p ≤ 1024 * n + 1027 * Q
     wide p n Q k = omega arith

@@ -1,4 +1,5 @@
--- ONE INSTANT ON THREE RECORDERS: a stamp g by GPS, t by TAI and u by UTC of one instant to e ps come out in TAI pairwise within 10 + e, 77 + e and 87 + e ps. Assumes nothing.
+-- ONE INSTANT ON THREE RECORDERS: a stamp g by GPS, t by TAI and u by UTC of one instant to e ps come out in TAI pairwise within 10 + e, 77 + e and 87 + e ps.
+-- Assumes nothing.
 use mathlib.Core.Path.{_≡_, refl, sym, ap, _∙_}
 use Prim.Native.Nat.{ℕ, _+_, _*_, _%_, _/_, _≤_}
 use native.Mathlib.Nat.{mul-add, add-mul, mul-left-comm, mul-assoc, one-mul, zero-mul, div-add-mod'}
@@ -33,9 +34,11 @@ by-both n e v x y =
       n' = y .n';
       from = x .to;
       to = y .to;
-      over = high (k * v .p) (k * v .n) (k * y .p) (k * y .n) (v .p') (v .n') (x .p) (x .n) (x .p') (x .n') (y .p') (y .n') (secondsOn n * L + leapAfter n * H) (leapAfter n * (n * L)) (e * L)
+      over = high (k * v .p) (k * v .n) (k * y .p) (k * y .n) (v .p') (v .n') (x .p) (x .n) (x .p') (x .n') (y .p') (y .n')
+          (secondsOn n * L + leapAfter n * H) (leapAfter n * (n * L)) (e * L)
           (out k (v .p)) (out k (v .n)) (mul-left-comm e 7464960000 L) bound s (worth-unique (v .to) (x .from)) (v .under) (x .under) (y .over);
-      under = low (k * v .p) (k * v .n) (k * y .p) (k * y .n) (v .p') (v .n') (x .p) (x .n) (x .p') (x .n') (y .p') (y .n') (secondsOn n * L + leapAfter n * H) (leapAfter n * (n * L)) (e * L)
+      under = low (k * v .p) (k * v .n) (k * y .p) (k * y .n) (v .p') (v .n') (x .p) (x .n) (x .p') (x .n') (y .p') (y .n')
+          (secondsOn n * L + leapAfter n * H) (leapAfter n * (n * L)) (e * L)
           (out k (v .p)) (out k (v .n)) (mul-left-comm e 7464960000 L) bound s (worth-unique (v .to) (x .from)) (v .over) (x .over) (y .under);
     }
   where
@@ -45,13 +48,15 @@ by-both n e v x y =
     bound : (87 + e) * (1 * L) ≡ 87 * L + e * L
     bound = ap (λ (z : ℕ). (87 + e) * z) (one-mul L) ∙ add-mul 87 e L
 
-    high : (p n q m g g' h h' x x' y y' M S c : ℕ) {P N c' z : ℕ} → P ≡ 86400 * p → N ≡ 86400 * n → c' ≡ 7464960000 * c → z ≡ 87 * L + c → p + m ≡ q + n → g + h' ≡ h + g'
+    high : (p n q m g g' h h' x x' y y' M S c : ℕ) {P N c' z : ℕ} → P ≡ 86400 * p → N ≡ 86400 * n → c' ≡ 7464960000 * c → z ≡ 87 * L + c → p + m ≡ q + n
+        → g + h' ≡ h + g'
         → dayPs * (7464960000 * g' + P + (86400 * M + 86400 * 0)) ≤ dayPs * (7464960000 * g + N + (86400 * S + 86400 * (19 * L))) + c'
         → dayPs * (86400 * x' + 86400 * h + 19 * L) ≤ dayPs * (86400 * x + 86400 * h' + 0) + 10 * (86400 * L)
         → dayPs * (86400 * y + m + S) ≤ dayPs * (86400 * y' + q + M) + 77 * (86400 * L) → dayPs * (1 * y + 1 * x' + 0) ≤ dayPs * (1 * y' + 1 * x + 0) + z
     high p n q m g g' h h' x x' y y' M S c a b d f i j k l o = omega arith
 
-    low : (p n q m g g' h h' x x' y y' M S c : ℕ) {P N c' z : ℕ} → P ≡ 86400 * p → N ≡ 86400 * n → c' ≡ 7464960000 * c → z ≡ 87 * L + c → p + m ≡ q + n → g + h' ≡ h + g'
+    low : (p n q m g g' h h' x x' y y' M S c : ℕ) {P N c' z : ℕ} → P ≡ 86400 * p → N ≡ 86400 * n → c' ≡ 7464960000 * c → z ≡ 87 * L + c → p + m ≡ q + n
+        → g + h' ≡ h + g'
         → dayPs * (7464960000 * g + N + (86400 * S + 86400 * (19 * L))) ≤ dayPs * (7464960000 * g' + P + (86400 * M + 86400 * 0)) + c'
         → dayPs * (86400 * x + 86400 * h' + 0) ≤ dayPs * (86400 * x' + 86400 * h + 19 * L) + 10 * (86400 * L)
         → dayPs * (86400 * y' + q + M) ≤ dayPs * (86400 * y + m + S) + 77 * (86400 * L) → dayPs * (1 * y' + 1 * x + 0) ≤ dayPs * (1 * y + 1 * x' + 0) + z
@@ -80,7 +85,8 @@ gps-and-utc e g {n = n} r s o m =
     let y = utc-means-on s o in
     (x .date, y .date, x .is, y .is, by-both n e m (x .means) (y .means))
 
-pub tai-and-utc : (e : ℕ) (t : JulianDate) {u : JulianDate} {n : ℕ} → HalfDaySplit u → ExactDay u n → Means e (taiOverUtc n) u t → (y : JulianDate) × (utcToTai fixed u ≡ answer y) × Apart (77 + e) t y
+pub tai-and-utc : (e : ℕ) (t : JulianDate) {u : JulianDate} {n : ℕ} → HalfDaySplit u → ExactDay u n → Means e (taiOverUtc n) u t → (y : JulianDate)
+    × (utcToTai fixed u ≡ answer y) × Apart (77 + e) t y
 tai-and-utc e t s o m = let y = utc-means-on s o in (y .date, y .is, one-relation 77 e m (y .means))
 
 -- ---- one instant by its TAI stamp: g and u to e ps of t are of one instant to 2 e ps
@@ -99,8 +105,10 @@ by-tai n e o v w = record {
         n' = v .n;
         from = w .from;
         to = v .from;
-        over = high (k * w .p) (k * w .n) (w .p') (w .n') (v .p') (v .n') (v .p) (v .n) (secondsOn n * L + leapAfter n * H) (leapAfter n * (n * L)) (e * L) (out k (w .p)) (out k (w .n)) (mul-left-comm e 86400 L) both (worth-unique (w .to) (v .to)) (w .over) (v .under);
-        under = low (k * w .p) (k * w .n) (w .p') (w .n') (v .p') (v .n') (v .p) (v .n) (secondsOn n * L + leapAfter n * H) (leapAfter n * (n * L)) (e * L) (out k (w .p)) (out k (w .n)) (mul-left-comm e 86400 L) both (worth-unique (w .to) (v .to)) (w .under) (v .over);
+        over = high (k * w .p) (k * w .n) (w .p') (w .n') (v .p') (v .n') (v .p) (v .n) (secondsOn n * L + leapAfter n * H) (leapAfter n * (n * L)) (e * L)
+            (out k (w .p)) (out k (w .n)) (mul-left-comm e 86400 L) both (worth-unique (w .to) (v .to)) (w .over) (v .under);
+        under = low (k * w .p) (k * w .n) (w .p') (w .n') (v .p') (v .n') (v .p) (v .n) (secondsOn n * L + leapAfter n * H) (leapAfter n * (n * L)) (e * L)
+            (out k (w .p)) (out k (w .n)) (mul-left-comm e 86400 L) both (worth-unique (w .to) (v .to)) (w .under) (v .over);
       };
 }
   where
@@ -113,13 +121,16 @@ by-tai n e o v w = record {
     twice : (e : ℕ) → e ≤ e + e
     twice e = omega arith
 
-    high : (p n t t' r r' g g' M S c : ℕ) {P N c' z : ℕ} → P ≡ 86400 * p → N ≡ 86400 * n → c' ≡ 86400 * c → z ≡ 7464960000 * c + 7464960000 * c → t + r' ≡ r + t'
-        → dayPs * (86400 * t + n + S) ≤ dayPs * (86400 * t' + p + M) + c' → dayPs * (86400 * r' + 86400 * g + 19 * L) ≤ dayPs * (86400 * r + 86400 * g' + 0) + c'
+    high : (p n t t' r r' g g' M S c : ℕ) {P N c' z : ℕ} → P ≡ 86400 * p → N ≡ 86400 * n → c' ≡ 86400 * c → z ≡ 7464960000 * c + 7464960000 * c
+        → t + r' ≡ r + t'
+        → dayPs * (86400 * t + n + S) ≤ dayPs * (86400 * t' + p + M) + c'
+        → dayPs * (86400 * r' + 86400 * g + 19 * L) ≤ dayPs * (86400 * r + 86400 * g' + 0) + c'
         → dayPs * (7464960000 * g + N + (86400 * S + 86400 * (19 * L))) ≤ dayPs * (7464960000 * g' + P + (86400 * M + 86400 * 0)) + z
     high p n t t' r r' g g' M S c a b d f i j k = omega arith
 
     low : (p n t t' r r' g g' M S c : ℕ) {P N c' z : ℕ} → P ≡ 86400 * p → N ≡ 86400 * n → c' ≡ 86400 * c → z ≡ 7464960000 * c + 7464960000 * c → t + r' ≡ r + t'
-        → dayPs * (86400 * t' + p + M) ≤ dayPs * (86400 * t + n + S) + c' → dayPs * (86400 * r + 86400 * g' + 0) ≤ dayPs * (86400 * r' + 86400 * g + 19 * L) + c'
+        → dayPs * (86400 * t' + p + M) ≤ dayPs * (86400 * t + n + S) + c'
+        → dayPs * (86400 * r + 86400 * g' + 0) ≤ dayPs * (86400 * r' + 86400 * g + 19 * L) + c'
         → dayPs * (7464960000 * g' + P + (86400 * M + 86400 * 0)) ≤ dayPs * (7464960000 * g + N + (86400 * S + 86400 * (19 * L))) + z
     low p n t t' r r' g g' M S c a b d f i j k = omega arith
 

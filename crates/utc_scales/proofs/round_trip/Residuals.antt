@@ -1,6 +1,6 @@
--- The numbers of a round of TAI to UTC. Counted in units of which Q are a day, H half a day and h 2 ^ -53 day: b = bp - bn and t = tp - tn the smaller parts in TAI,
--- u = up - un the guess of the one in UTC, A the larger part, v the date of the guess from midnight to midnight and g its TAI-UTC times 86400, as one evaluation of UTC to TAI
--- gives them. The residual of the guess is 86400 * (b + A + H) - (86400 * v + g). Assumes nothing.
+-- The numbers of a round of TAI to UTC. Counted in units of which Q are a day, H half a day and h 2 ^ -53 day: b = bp - bn and t = tp - tn the smaller parts in
+-- TAI, u = up - un the guess of the one in UTC, A the larger part, v the date of the guess from midnight to midnight and g its TAI-UTC times 86400, as one
+-- evaluation of UTC to TAI gives them. The residual of the guess is 86400 * (b + A + H) - (86400 * v + g). Assumes nothing.
 use mathlib.Core.Path.{_≡_}
 use mathlib.Core.Logic.{_⊎_, inl, inr}
 use Prim.Native.Nat.{ℕ, _+_, _*_, _≤_, _<_}
@@ -33,14 +33,17 @@ module _ (h Q H A bp bn : ℕ) where
   start v g e k n = record { high = omega (arith, n .high, n .low); low = omega (arith, n .high, n .low) }
 
   -- the moved guess against the TAI-UTC of the guess before
-  pub moved-residual : (tp tn up un up' un' v g v' : ℕ) → TaiNear h H A tp tn v g → DateNear h H A up un v → GuessMoved h bp bn tp tn up un up' un' → DateNear h H A up' un' v' → Residual H A bp bn v' g (1209622 * h)
+  pub moved-residual : (tp tn up un up' un' v g v' : ℕ) → TaiNear h H A tp tn v g → DateNear h H A up un v → GuessMoved h bp bn tp tn up un up' un'
+      → DateNear h H A up' un' v' → Residual H A bp bn v' g (1209622 * h)
   moved-residual tp tn up un up' un' v g v' e n m n' = record { high = omega arith; low = omega arith }
 
   -- the two guesses are less than a day apart
-  pub day-apart : (v g v' P : ℕ) → Q ≡ 9007199254740992 * h → 0 < h → P ≤ 333266372425762304 * h → Residual H A bp bn v g P → Residual H A bp bn v' g (1209622 * h) → (v' < v + Q) × (v < v' + Q)
+  pub day-apart : (v g v' P : ℕ) → Q ≡ 9007199254740992 * h → 0 < h → P ≤ 333266372425762304 * h → Residual H A bp bn v g P
+      → Residual H A bp bn v' g (1209622 * h) → (v' < v + Q) × (v < v' + Q)
   day-apart v g v' P e z k o o' = within (P + 1209622 * h) (small P Q e z k) (gap v g v' P o o' .0) (gap v g v' P o o' .1)
     where
-      gap : (v g v' P : ℕ) → Residual H A bp bn v g P → Residual H A bp bn v' g (1209622 * h) → (86400 * v' ≤ 86400 * v + (P + 1209622 * h)) × (86400 * v ≤ 86400 * v' + (P + 1209622 * h))
+      gap : (v g v' P : ℕ) → Residual H A bp bn v g P → Residual H A bp bn v' g (1209622 * h) → (86400 * v' ≤ 86400 * v + (P + 1209622 * h))
+          × (86400 * v ≤ 86400 * v' + (P + 1209622 * h))
       gap v g v' P o o' = omega arith
 
       small : (P Q : ℕ) → Q ≡ 9007199254740992 * h → 0 < h → P ≤ 333266372425762304 * h → P + 1209622 * h < 86400 * Q
@@ -50,14 +53,17 @@ module _ (h Q H A bp bn : ℕ) where
       within X k a b = omega arith
 
   -- the residual of the moved guess is 86400 times less, but for the rounding
-  pub shrinks : (v g v' g' P P' : ℕ) → P + 104512550422 * h ≤ 86400 * P' → Residual H A bp bn v g P → Residual H A bp bn v' g (1209622 * h) → Rises v g v' g' ⊎ Rises v' g' v g → Residual H A bp bn v' g' P'
+  pub shrinks : (v g v' g' P P' : ℕ) → P + 104512550422 * h ≤ 86400 * P' → Residual H A bp bn v g P → Residual H A bp bn v' g (1209622 * h) → Rises v g v' g'
+      ⊎ Rises v' g' v g → Residual H A bp bn v' g' P'
   shrinks v g v' g' P P' k o o' (inl r) = record { high = omega arith; low = omega arith }
   shrinks v g v' g' P P' k o o' (inr r) = record { high = omega arith; low = omega arith }
 
   -- how far the guess is moved
-  pub move-size : (tp tn v g P : ℕ) → Q ≡ 9007199254740992 * h → P ≤ 333266372425762304 * h → TaiNear h H A tp tn v g → Residual H A bp bn v g P → (2048 * (bp + tn) ≤ 2048 * (bn + tp) + Q) × (2048 * (bn + tp) ≤ 2048 * (bp + tn) + Q)
+  pub move-size : (tp tn v g P : ℕ) → Q ≡ 9007199254740992 * h → P ≤ 333266372425762304 * h → TaiNear h H A tp tn v g → Residual H A bp bn v g P
+      → (2048 * (bp + tn) ≤ 2048 * (bn + tp) + Q) × (2048 * (bn + tp) ≤ 2048 * (bp + tn) + Q)
   move-size tp tn v g P e k i o = omega arith
 
   -- what comes back
-  pub end : (tp tn v g : ℕ) → TaiNear h H A tp tn v g → Residual H A bp bn v g (1210167 * h) → (86400 * (tp + bn) ≤ 86400 * (tn + bp) + 1555789 * h) × (86400 * (tn + bp) ≤ 86400 * (tp + bn) + 1555789 * h)
+  pub end : (tp tn v g : ℕ) → TaiNear h H A tp tn v g → Residual H A bp bn v g (1210167 * h) → (86400 * (tp + bn) ≤ 86400 * (tn + bp) + 1555789 * h)
+      × (86400 * (tn + bp) ≤ 86400 * (tp + bn) + 1555789 * h)
   end tp tn v g i o = omega arith

@@ -1,5 +1,5 @@
--- One round on floats: of the guess u, the given part b and the part t that UTC to TAI gives for the guess, the next guess is u + b - t, rounded twice, each time by at
--- most 2 ^ -53 day; the larger part takes no part in it. Assumes nothing.
+-- One round on floats: of the guess u, the given part b and the part t that UTC to TAI gives for the guess, the next guess is u + b - t, rounded twice, each
+-- time by at most 2 ^ -53 day; the larger part takes no part in it. Assumes nothing.
 use mathlib.Core.Path.{_≡_}
 use Prim.Native.Nat.{ℕ, _+_, _*_, _^_, _≤_, _<_}
 use native.Mathlib.Omega.{arith}
@@ -49,15 +49,28 @@ pub next-guess : {a b u t : Float} {A bp bn tp tn up un : ℕ} → Val a A 0 L �
     → Next a b u t bp bn tp tn up un
 unfolding moved
 next-guess {a} {b} {u} {t} {A} {bp} {bn} {tp} {tn} {up} {un} va vb vt fu vu k l r r' =
-    let d : ValClose L (sub binary64 b t) (bp + tn) (bn + tp) (0 + 0 + h) = close-sub L h adds (exactly vb) (exactly vt) (room L (bp + tn) (bn + tp) L-pos k) (room L (bn + tp) (bp + tn) L-pos l) in
+    let d : ValClose L (sub binary64 b t) (bp + tn) (bn + tp) (0 + 0 + h) =
+    close-sub L h adds (exactly vb) (exactly vt) (room L (bp + tn) (bn + tp) L-pos k) (room L (bn + tp) (bp + tn) L-pos l) in
     let w : Val (add binary64 u (sub binary64 a a)) up un L = kept fu vu (none va) in
     let c = close-add L h adds (exactly w) d (wide L h L-h h-pos up un (bp + tn) (bn + tp) k r) (wide L h L-h h-pos un up (bn + tp) (bp + tn) l r') in
-    record { p = c .p; n = c .n; val = c .val; held = add-fits binary64 _ _; by = record { high = two (c .p + (un + (bn + tp))) (c .n + (up + (bp + tn))) (c .over); low = two (c .n + (up + (bp + tn))) (c .p + (un + (bn + tp))) (c .under) } }
+    record {
+      p = c .p;
+      n = c .n;
+      val = c .val;
+      held = add-fits binary64 _ _;
+      by =
+          record {
+            high = two (c .p + (un + (bn + tp))) (c .n + (up + (bp + tn))) (c .over);
+            low =
+                two (c .n + (up + (bp + tn))) (c .p + (un + (bn + tp))) (c .under);
+          };
+    }
   where
     room : (Q x y : ℕ) → 0 < Q → 2048 * x ≤ 2048 * y + Q → x + (0 + 0) < y + 2 * Q
     room Q x y p k = omega arith
 
-    wide : (Q h : ℕ) → Q ≡ 9007199254740992 * h → 0 < h → (up un x y : ℕ) → 2048 * x ≤ 2048 * y + Q → 1024 * up ≤ 1024 * un + 1027 * Q → up + x + (0 + (0 + 0 + h)) < un + y + 2 * Q
+    wide : (Q h : ℕ) → Q ≡ 9007199254740992 * h → 0 < h → (up un x y : ℕ) → 2048 * x ≤ 2048 * y + Q → 1024 * up ≤ 1024 * un + 1027 * Q
+        → up + x + (0 + (0 + 0 + h)) < un + y + 2 * Q
     wide Q h e p up un x y k l = omega arith
 
     two : (x y : ℕ) → x ≤ y + (0 + (0 + 0 + h) + h) → x ≤ y + 2 * h

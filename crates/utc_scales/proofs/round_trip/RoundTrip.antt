@@ -1,5 +1,5 @@
--- TAI TO UTC AND BACK, document 02's request 14: for every date whose jd1 is a multiple of 0.5 from 2441319.5 to 5000000.5 and whose jd2 is at most 1 in size, both calls answer, and what comes
--- back is within 173 picoseconds of what was given, and so within a nanosecond. Assumes nothing.
+-- TAI TO UTC AND BACK, document 02's request 14: for every date whose jd1 is a multiple of 0.5 from 2441319.5 to 5000000.5 and whose jd2 is at most 1 in size,
+-- both calls answer, and what comes back is within 173 picoseconds of what was given, and so within a nanosecond. Assumes nothing.
 use mathlib.Core.Path.{_≡_}
 use Prim.Native.Nat.{ℕ, _+_, _*_, _≤_}
 use native.Mathlib.Omega.{arith}
@@ -28,7 +28,8 @@ under : (A bp bn rp rn Q h : ℕ) → Q ≡ 9007199254740992 * h → 86400 * (rn
 under A bp bn rp rn Q h e k = omega arith
 
 -- r is what comes back for b
-back-apart : {a b r : Float} {A bp bn rp rn : ℕ} → Val a A 0 L → Val b bp bn L → Val r rp rn L → (86400 * (rp + bn) ≤ 86400 * (rn + bp) + 1555789 * h) × (86400 * (rn + bp) ≤ 86400 * (rp + bn) + 1555789 * h)
+back-apart : {a b r : Float} {A bp bn rp rn : ℕ} → Val a A 0 L → Val b bp bn L → Val r rp rn L → (86400 * (rp + bn) ≤ 86400 * (rn + bp) + 1555789 * h)
+    × (86400 * (rn + bp) ≤ 86400 * (rp + bn) + 1555789 * h)
     → Apart 173 (julian a b) (julian a r)
 back-apart {a} {b} {r} {A} {bp} {bn} {rp} {rn} va vb vr k = record {
   p = A + bp;
@@ -47,7 +48,8 @@ back-within s =
     let v = first-part s in
     let w = found v (s .held .1) (s .second) in
     let z = w .at .seen in
-    back-apart (v .val) (w .given) (z .val) (end h L H (s .halves * H) (w .bp) (w .bn) (z .tp) (z .tn) (dateSeen z) (offsetSeen z) (tai-near z) (w .at .residual))
+    back-apart (v .val) (w .given) (z .val)
+    (end h L H (s .halves * H) (w .bp) (w .bn) (z .tp) (z .tn) (dateSeen z) (offsetSeen z) (tai-near z) (w .at .residual))
 
 pub there-and-back-173 : {d : JulianDate} → HalfDaySplit d → ThereAndBack 173 d
 there-and-back-173 {d} s =

@@ -1,5 +1,5 @@
--- THE THREE ROUNDS of TAI to UTC: the residual of the guess falls from 37 s to 428 microseconds, 5.1 ns and 135 ps, and UTC to TAI takes the last guess to within 173 ps of the
--- TAI that was given. Assumes nothing.
+-- THE THREE ROUNDS of TAI to UTC: the residual of the guess falls from 37 s to 428 microseconds, 5.1 ns and 135 ps, and UTC to TAI takes the last guess to
+-- within 173 ps of the TAI that was given. Assumes nothing.
 use mathlib.Core.Path.{_≡_, _∙_}
 use Prim.Native.Nat.{ℕ, _+_, _*_, _≤_}
 use native.Mathlib.Omega.{arith}
@@ -54,7 +54,17 @@ module _ {a b : Float} {A bp bn : ℕ} (v : FirstPart a A) (vb : Val b bp bn L) 
   first : T (fits binary64 b) → bp ≤ bn + L → bn ≤ bp + L → GuessAt a A bp bn (1024 * L) (333266372425762304 * h) b
   first t k l =
       let z : Seen a b A bp bn = seen v (record { held = t; val = vb; over = wide bp bn L k; under = wide bn bp L l }) in
-      record { up = bp; un = bn; val = vb; held = t; high = plain bp bn L k; low = plain bn bp L l; seen = z; residual = start h L H A bp bn (dateSeen z) (offsetSeen z) L-h (few-seconds (z .day) (z .f) (z .seconds) (z .below) .1) (near z) }
+      record {
+        up = bp;
+        un = bn;
+        val = vb;
+        held = t;
+        high = plain bp bn L k;
+        low = plain bn bp L l;
+        seen = z;
+        residual =
+            start h L H A bp bn (dateSeen z) (offsetSeen z) L-h (few-seconds (z .day) (z .f) (z .seconds) (z .below) .1) (near z);
+      }
     where
       wide : (p n Q : ℕ) → p ≤ n + Q → 1024 * p ≤ 1024 * n + 1027 * Q
       wide p n Q k = omega arith
@@ -63,16 +73,20 @@ module _ {a b : Float} {A bp bn : ℕ} (v : FirstPart a A) (vb : Val b bp bn L) 
       plain p n Q k = omega arith
 
   -- a round: the bound P becomes P'
-  step : (R P R' P' : ℕ) → R + L ≤ R' → R' ≤ 1027 * L → P ≤ 333266372425762304 * h → P + 104512550422 * h ≤ 86400 * P' → {u : Float} (x : GuessAt a A bp bn R P u)
+  step : (R P R' P' : ℕ) → R + L ≤ R' → R' ≤ 1027 * L → P ≤ 333266372425762304 * h → P + 104512550422 * h ≤ 86400 * P'
+      → {u : Float} (x : GuessAt a A bp bn R P u)
       → GuessAt a A bp bn R' P' (moved a b u (julian a (x .seen .t)))
   step R P R' P' r r' p p' {u} x =
       let z = x .seen in
       let m = move-size h L H A bp bn (z .tp) (z .tn) (dateSeen z) (offsetSeen z) P L-h p (tai-near z) (x .residual) in
-      let w : Next a b u (z .t) bp bn (z .tp) (z .tn) (x .up) (x .un) = next-guess (v .val) vb (z .val) (x .held) (x .val) (m .0) (m .1) (within (x .up) (x .un) (x .high)) (within (x .un) (x .up) (x .low)) in
+      let w : Next a b u (z .t) bp bn (z .tp) (z .tn) (x .up) (x .un) =
+      next-guess (v .val) vb (z .val) (x .held) (x .val) (m .0) (m .1) (within (x .up) (x .un) (x .high)) (within (x .un) (x .up) (x .low)) in
       let g = ranged (x .up) (x .un) (w .p) (w .n) (bp + z .tn) (bn + z .tp) (x .high) (m .0) (w .by .high) in
       let l = ranged (x .un) (x .up) (w .n) (w .p) (bn + z .tp) (bp + z .tn) (x .low) (m .1) (w .by .low) in
-      let z' : Seen a (moved a b u (julian a (z .t))) A (w .p) (w .n) = seen v (record { held = w .held; val = w .val; over = full (w .p) (w .n) g; under = full (w .n) (w .p) l }) in
-      let o = moved-residual h L H A bp bn (z .tp) (z .tn) (x .up) (x .un) (w .p) (w .n) (dateSeen z) (offsetSeen z) (dateSeen z') (tai-near z) (near z) (w .by) (near z') in
+      let z' : Seen a (moved a b u (julian a (z .t))) A (w .p) (w .n) =
+      seen v (record { held = w .held; val = w .val; over = full (w .p) (w .n) g; under = full (w .n) (w .p) l }) in
+      let o = moved-residual h L H A bp bn (z .tp) (z .tn) (x .up) (x .un) (w .p) (w .n) (dateSeen z) (offsetSeen z) (dateSeen z') (tai-near z) (near z)
+      (w .by) (near z') in
       let c = day-apart h L H A bp bn (dateSeen z) (offsetSeen z) (dateSeen z') P L-h h-pos p (x .residual) o in
       record {
         up = w .p;
@@ -98,7 +112,8 @@ module _ {a b : Float} {A bp bn : ℕ} (v : FirstPart a A) (vb : Val b bp bn L) 
       ranged : (p n p' n' i j : ℕ) → 1024 * p ≤ 1024 * n + R → 2048 * i ≤ 2048 * j + L → p' + (n + j) ≤ n' + (p + i) + 2 * h → 1024 * p' ≤ 1024 * n' + R'
       ranged p n p' n' i j k l m = go p n p' n' i j R R' L h (small L h L-h) k l m r
         where
-          go : (p n p' n' i j R R' Q h : ℕ) → 4096 * h ≤ Q → 1024 * p ≤ 1024 * n + R → 2048 * i ≤ 2048 * j + Q → p' + (n + j) ≤ n' + (p + i) + 2 * h → R + Q ≤ R' → 1024 * p' ≤ 1024 * n' + R'
+          go : (p n p' n' i j R R' Q h : ℕ) → 4096 * h ≤ Q → 1024 * p ≤ 1024 * n + R → 2048 * i ≤ 2048 * j + Q → p' + (n + j) ≤ n' + (p + i) + 2 * h
+              → R + Q ≤ R' → 1024 * p' ≤ 1024 * n' + R'
           go p n p' n' i j R R' Q h e k l m r = omega arith
 
   once : {R P : ℕ} {u : Float} (x : GuessAt a A bp bn R P u) → refined fixed a b u ≡ answer (moved a b u (julian a (x .seen .t)))
@@ -138,7 +153,8 @@ found {a} {b} {A} v f k =
       bp = w .p;
       bn = w .n;
       given = w .val;
-      is = kept-changed (refineUtcFraction fixed) a b (r .u) (first-larger (v .val) (w .val) (under-a (w .p) (w .n) (v .low) (w .high)) (under-a (w .n) (w .p) (v .low) (w .low))) (r .is);
+      is = kept-changed (refineUtcFraction fixed) a b (r .u)
+          (first-larger (v .val) (w .val) (under-a (w .p) (w .n) (v .low) (w .high)) (under-a (w .n) (w .p) (v .low) (w .low))) (r .is);
       at = r .at;
     }
   where

@@ -1,5 +1,5 @@
--- The exact relation is continuous and rises slowly: of two instants less than a day apart TAI-UTC is later never less, and at most 1/86400 of the time between them more.
--- A leap second is spread over its day, so that midnight is no jump. Assumes nothing.
+-- The exact relation is continuous and rises slowly: of two instants less than a day apart TAI-UTC is later never less, and at most 1/86400 of the time between
+-- them more. A leap second is spread over its day, so that midnight is no jump. Assumes nothing.
 use mathlib.Core.Path.{_≡_, sym, ap, _∙_, subst}
 use mathlib.Core.Logic.{_⊎_, inl, inr}
 use Prim.Native.Nat.{ℕ, zero, suc, _+_, _*_, _≤_, _<_}
@@ -36,7 +36,8 @@ next-day zero (suc (suc r)) d N f e k l b = absurd (omega arith)
 next-day (suc zero) (suc (suc r)) d N f e k l b = absurd (omega arith)
 
 -- ---- V = n L + f, at most V' = m L + e, which is less than a day later
-pub steady : (n m f e : ℕ) → WholeSeconds n → WholeSeconds m → f < L → e < L → n * L + f ≤ m * L + e → m * L + e < n * L + f + L → Rises (n * L + f) (taiUtcAt n f) (m * L + e) (taiUtcAt m e)
+pub steady : (n m f e : ℕ) → WholeSeconds n → WholeSeconds m → f < L → e < L → n * L + f ≤ m * L + e → m * L + e < n * L + f + L
+    → Rises (n * L + f) (taiUtcAt n f) (m * L + e) (taiUtcAt m e)
 steady n m f e t r b c l k =
     let before : n * L < suc m * L = low (n * L) (m * L) l (next-midnight m) in
     let after : m * L < suc (suc n) * L = high (n * L) (m * L) k (next-midnight n) (next-midnight (suc n)) in
@@ -62,7 +63,8 @@ steady n m f e t r b c l k =
     go (inr q) =
         subst (λ (x : ℕ). Rises (n * L + f) (taiUtcAt n f) (x * L + e) (taiUtcAt x e)) (sym q)
         (subst (λ (z : ℕ). Rises (n * L + f) (taiUtcAt n f) (z + e) (secondsOn (suc n) * L + leapAfter (suc n) * e)) (sym (next-midnight n))
-        (subst (λ (z : ℕ). Rises (n * L + f) (taiUtcAt n f) (L + n * L + e) (z + leapAfter (suc n) * e)) (sym (add-mul (secondsOn n) (leapAfter n) L) ∙ ap (λ (z : ℕ). z * L) (t .next))
+        (subst (λ (z : ℕ). Rises (n * L + f) (taiUtcAt n f) (L + n * L + e) (z + leapAfter (suc n) * e))
+        (sym (add-mul (secondsOn n) (leapAfter n) L) ∙ ap (λ (z : ℕ). z * L) (t .next))
         (next-day (leapAfter n) (leapAfter (suc n)) (secondsOn n * L) (n * L) f e (t .step) (subst (λ (x : ℕ). leapAfter x ≤ 1) q (r .step)) b)))
 
 -- in either order
@@ -86,7 +88,8 @@ share (suc (suc s)) f k b = absurd (omega arith)
 
 pub few-seconds : (n f : ℕ) → WholeSeconds n → f < L → (10 * L ≤ taiUtcAt n f) × (taiUtcAt n f ≤ 37 * L)
 few-seconds n f t b =
-    go (secondsOn n * L) (leapAfter n * L) (leapAfter n * f) (mul-le-mul-right L (t .least)) (subst (λ (z : ℕ). z ≤ 37 * L) (add-mul (secondsOn n) (leapAfter n) L) (mul-le-mul-right L (t .most))) (share (leapAfter n) f (t .step) b .1)
+    go (secondsOn n * L) (leapAfter n * L) (leapAfter n * f) (mul-le-mul-right L (t .least))
+    (subst (λ (z : ℕ). z ≤ 37 * L) (add-mul (secondsOn n) (leapAfter n) L) (mul-le-mul-right L (t .most))) (share (leapAfter n) f (t .step) b .1)
   where
     go : (d s g : ℕ) → 10 * L ≤ d → d + s ≤ 37 * L → g ≤ s → (10 * L ≤ d + g) × (d + g ≤ 37 * L)
     go d s g k l m = omega arith

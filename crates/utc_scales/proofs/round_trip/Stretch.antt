@@ -50,7 +50,8 @@ unfolding driftTest driftRate
 no-drift k x l = same-float (driftRate (offsets (wholeF k) (wholeF k) nought)) nought (each driftTest 64 k l tt)
 
 abbrev factors : Float → Float → Float → Float
-factors f leap drift = mul binary64 (mul binary64 f (div binary64 (add binary64 secondsPerDay leap) secondsPerDay)) (div binary64 (add binary64 secondsPerDay drift) secondsPerDay)
+factors f leap drift = mul binary64 (mul binary64 f (div binary64 (add binary64 secondsPerDay leap) secondsPerDay))
+    (div binary64 (add binary64 secondsPerDay drift) secondsPerDay)
 
 pub plain-stretch : (k : ℕ) (f : Float) → k < 64 → stretchDayFraction (offsets (wholeF k) (wholeF k) (wholeF k)) f ≡ mul binary64 (mul binary64 f one) one
 unfolding stretchDayFraction
@@ -119,12 +120,21 @@ plain-factor = record { few = omega arith; B = 2 ^ 52; below = lit< tt; val = on
     near : (x : Float) (f : ℕ) → Val x f 0 L → f < L → Stretched (mul binary64 (mul binary64 x one) one) 0 f
     near x f v l =
         let k = times {B = 2 ^ 52} (lit< tt) one-S v l in
-        record { p = k .p; n = k .n; val = one-times-val (mul-fits binary64 _ _) (k .val); over = high (k .p) (k .n) (2 ^ 1022) two-h (k .over); under = low (k .p) (k .n) (2 ^ 1022) two-h (k .under) }
+        record {
+          p = k .p;
+          n = k .n;
+          val = one-times-val (mul-fits binary64 _ _) (k .val);
+          over = high (k .p) (k .n) (2 ^ 1022) two-h (k .over);
+          under =
+              low (k .p) (k .n) (2 ^ 1022) two-h (k .under);
+        }
       where
-        high : (p n w : ℕ) → w ≡ 2 * h → 2 * (2 ^ 52 * p + 2 ^ 52 * 0) ≤ 2 * (2 ^ 52 * n + 2 ^ 52 * f) + 2 ^ 52 * w → 86400 * p ≤ 86400 * n + (86400 * f + 0 * f) + 113792 * h
+        high : (p n w : ℕ) → w ≡ 2 * h → 2 * (2 ^ 52 * p + 2 ^ 52 * 0) ≤ 2 * (2 ^ 52 * n + 2 ^ 52 * f) + 2 ^ 52 * w
+            → 86400 * p ≤ 86400 * n + (86400 * f + 0 * f) + 113792 * h
         high p n w e k = omega arith
 
-        low : (p n w : ℕ) → w ≡ 2 * h → 2 * (2 ^ 52 * n + 2 ^ 52 * f) ≤ 2 * (2 ^ 52 * p + 2 ^ 52 * 0) + 2 ^ 52 * w → 86400 * f + 0 * f + 86400 * n ≤ 86400 * p + 113792 * h
+        low : (p n w : ℕ) → w ≡ 2 * h → 2 * (2 ^ 52 * n + 2 ^ 52 * f) ≤ 2 * (2 ^ 52 * p + 2 ^ 52 * 0) + 2 ^ 52 * w
+            → 86400 * f + 0 * f + 86400 * n ≤ 86400 * p + 113792 * h
         low p n w e k = omega arith
 
 pub longer-factor : Factor K 1
@@ -133,12 +143,21 @@ longer-factor = record { few = omega arith; B = 4503651752366183; below = lit< t
     near : (x : Float) (f : ℕ) → Val x f 0 L → f < L → Stretched (mul binary64 (mul binary64 x K) one) 1 f
     near x f v l =
         let k = times {B = 4503651752366183} (lit< tt) K-val v l in
-        record { p = k .p; n = k .n; val = one-times-val (mul-fits binary64 _ _) (k .val); over = high (k .p) (k .n) (2 ^ 1022) two-h (k .over); under = low (k .p) (k .n) (2 ^ 1022) two-h (k .under) }
+        record {
+          p = k .p;
+          n = k .n;
+          val = one-times-val (mul-fits binary64 _ _) (k .val);
+          over = high (k .p) (k .n) (2 ^ 1022) two-h (k .over);
+          under =
+              low (k .p) (k .n) (2 ^ 1022) two-h (k .under);
+        }
       where
-        high : (p n w : ℕ) → w ≡ 2 * h → 2 * (2 ^ 52 * p + 4503651752366183 * 0) ≤ 2 * (2 ^ 52 * n + 4503651752366183 * f) + 2 ^ 52 * w → 86400 * p ≤ 86400 * n + (86400 * f + 1 * f) + 113792 * h
+        high : (p n w : ℕ) → w ≡ 2 * h → 2 * (2 ^ 52 * p + 4503651752366183 * 0) ≤ 2 * (2 ^ 52 * n + 4503651752366183 * f) + 2 ^ 52 * w
+            → 86400 * p ≤ 86400 * n + (86400 * f + 1 * f) + 113792 * h
         high p n w e k = omega arith
 
-        low : (p n w : ℕ) → w ≡ 2 * h → 2 * (2 ^ 52 * n + 4503651752366183 * f) ≤ 2 * (2 ^ 52 * p + 4503651752366183 * 0) + 2 ^ 52 * w → 86400 * f + 1 * f + 86400 * n ≤ 86400 * p + 113792 * h
+        low : (p n w : ℕ) → w ≡ 2 * h → 2 * (2 ^ 52 * n + 4503651752366183 * f) ≤ 2 * (2 ^ 52 * p + 4503651752366183 * 0) + 2 ^ 52 * w
+            → 86400 * f + 1 * f + 86400 * n ≤ 86400 * p + 113792 * h
         low p n w e k = omega (arith, L-h)
 
 -- ---- the factor of a day that begins with D seconds and ends with E, which are s more
@@ -184,7 +203,8 @@ h-w = refl
 
 pub in-days : (D : ℕ) → D ≤ 37 → Quotient (div binary64 (wholeF D) secondsPerDay) D
 in-days D l =
-    go (div-near 1010 86400 (lit< tt) (lit≤ tt) (room (D * L) (2 ^ (53 + 1010)) L-b (mul-le-mul-right L l)) (room' (D * L) (2 ^ (53 + 1010)) L-b) (seconds-val D l) day-val)
+    go (div-near 1010 86400 (lit< tt) (lit≤ tt) (room (D * L) (2 ^ (53 + 1010)) L-b (mul-le-mul-right L l)) (room' (D * L) (2 ^ (53 + 1010)) L-b)
+    (seconds-val D l) day-val)
   where
     room : (d b : ℕ) → L ≡ 2048 * b → d ≤ 37 * L → d < 0 + b * 86400
     room d b e k = omega (arith, L-pos)

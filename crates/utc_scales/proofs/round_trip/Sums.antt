@@ -1,5 +1,5 @@
--- The arithmetic of one evaluation, over natural numbers: f is the fraction, g the leap second's share of it and d TAI-UTC, both times 86400; p - n is f stretched,
--- c - e is d in days, s - t their rounded sum, x - A the days from jd1 to the midnight N, and y - z the rounded answer. Assumes nothing.
+-- The arithmetic of one evaluation, over natural numbers: f is the fraction, g the leap second's share of it and d TAI-UTC, both times 86400; p - n is f
+-- stretched, c - e is d in days, s - t their rounded sum, x - A the days from jd1 to the midnight N, and y - z the rounded answer. Assumes nothing.
 use mathlib.Core.Path.{_≡_}
 use Prim.Native.Nat.{ℕ, _+_, _*_, _≤_, _<_}
 use native.Mathlib.Omega.{arith}
@@ -33,10 +33,12 @@ module _ (f N A up un x s t P M : ℕ) (is : x + H ≡ N) where
 
 -- the last sum is rounded by at most q
 module _ (f g d p n c e N A x s t y z q E : ℕ) (is : x + H ≡ N) (room : 200214 * h + 86400 * q ≤ E) where
-  pub total-over : 86400 * p ≤ 86400 * n + (86400 * f + g) + 113792 * h → 86400 * c ≤ 86400 * e + d + 22 * h → s + (n + e) ≤ t + (p + c) + h → y + (A + t) ≤ z + (x + s) + q
+  pub total-over : 86400 * p ≤ 86400 * n + (86400 * f + g) + 113792 * h → 86400 * c ≤ 86400 * e + d + 22 * h → s + (n + e) ≤ t + (p + c) + h
+      → y + (A + t) ≤ z + (x + s) + q
       → 86400 * (y + A + H) ≤ 86400 * z + (86400 * (N + f) + (d + g)) + E
   total-over a b k l = omega arith
 
-  pub total-under : 86400 * f + g + 86400 * n ≤ 86400 * p + 113792 * h → d + 86400 * e ≤ 86400 * c + 22 * h → t + (p + c) ≤ s + (n + e) + h → z + (x + s) ≤ y + (A + t) + q
+  pub total-under : 86400 * f + g + 86400 * n ≤ 86400 * p + 113792 * h → d + 86400 * e ≤ 86400 * c + 22 * h → t + (p + c) ≤ s + (n + e) + h
+      → z + (x + s) ≤ y + (A + t) + q
       → 86400 * (N + f) + (d + g) + 86400 * z ≤ 86400 * (y + A + H) + E
   total-under a b k l = omega arith

@@ -56,11 +56,20 @@ in-units {x} m d k e v = subst₂ (λ (n d : ℕ). Val x (m * k) n d) (zero-mul 
 -- a sum of less than two days
 pub adds : Adds L h
 adds x y p n q m k l v w =
-    let s : NearSum (add binary64 x y) (p + q) (n + m) 1022 = add-near 1022 (lit≤ tt) (subst (λ (z : ℕ). p + q < n + m + z) (sym two-L) k) (subst (λ (z : ℕ). n + m < p + q + z) (sym two-L) l) v w in
-    record { p = s .p; n = s .n; val = s .val; over = half (s .p + (n + m)) (s .n + (p + q)) (2 ^ 1022) two-h (s .over); under = half (s .n + (p + q)) (s .p + (n + m)) (2 ^ 1022) two-h (s .under) }
+    let s : NearSum (add binary64 x y) (p + q) (n + m) 1022 =
+    add-near 1022 (lit≤ tt) (subst (λ (z : ℕ). p + q < n + m + z) (sym two-L) k) (subst (λ (z : ℕ). n + m < p + q + z) (sym two-L) l) v w in
+    record {
+      p = s .p;
+      n = s .n;
+      val = s .val;
+      over = half (s .p + (n + m)) (s .n + (p + q)) (2 ^ 1022) two-h (s .over);
+      under =
+          half (s .n + (p + q)) (s .p + (n + m)) (2 ^ 1022) two-h (s .under);
+    }
   where
     half : (x y w : ℕ) → w ≡ 2 * h → 2 * x ≤ 2 * y + w → x ≤ y + h
     half x y w e k = omega arith
 
-pub add-close : {x y : Float} {p n q m : ℕ} → p + q < n + m + 2 * L → n + m < p + q + 2 * L → Val x p n L → Val y q m L → ValClose L (add binary64 x y) (p + q) (n + m) h
+pub add-close : {x y : Float} {p n q m : ℕ} → p + q < n + m + 2 * L → n + m < p + q + 2 * L → Val x p n L → Val y q m L
+    → ValClose L (add binary64 x y) (p + q) (n + m) h
 add-close {x} {y} {p} {n} {q} {m} k l v w = adds x y p n q m k l v w

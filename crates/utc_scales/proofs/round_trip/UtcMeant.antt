@@ -1,4 +1,5 @@
--- TAI TO UTC MEANS THE EXACT RELATION to 173 picoseconds: the exact TAI of the answer, by the relation of its exact day, lies within 173 ps of the TAI given. Assumes nothing.
+-- TAI TO UTC MEANS THE EXACT RELATION to 173 picoseconds: the exact TAI of the answer, by the relation of its exact day, lies within 173 ps of the TAI given.
+-- Assumes nothing.
 use mathlib.Core.Path.{_≡_, refl}
 use Prim.Native.Nat.{ℕ, _+_, _*_, _≤_}
 use native.Mathlib.Omega.{arith}
@@ -34,7 +35,8 @@ under : (A bp bn W x K G : ℕ) → W ≤ x + 4 * h → K ≤ G + 4 * h → 8640
 under A bp bn W x K G k l m = omega arith
 
 -- a guess whose residual is at most 1210167 h, on its exact day
-module _ {a b u : Float} {A bp bn : ℕ} (v : FirstPart a A) (vb : Val b bp bn L) (x : GuessAt a A bp bn (1027 * L) (1210167 * h) u) (n : ℕ) (o : OnDay (A + x .up) (x .un) n) where
+module _ {a b u : Float} {A bp bn : ℕ} (v : FirstPart a A) (vb : Val b bp bn L) (x : GuessAt a A bp bn (1027 * L) (1210167 * h) u) (n : ℕ)
+    (o : OnDay (A + x .up) (x .un) n) where
   abbrev z : Seen a u A (x .up) (x .un)
   z = x .seen
 
@@ -52,8 +54,10 @@ module _ {a b u : Float} {A bp bn : ℕ} (v : FirstPart a A) (vb : Val b bp bn L
     p = A + bp;
     m = bn;
     worth = parts-joined (v .val) vb;
-    over = to-picoseconds _ _ (over A bp bn (n * L + o .f) (z .day * L + z .f) (taiUtcAt n (o .f)) (taiUtcAt (z .day) (z .f)) (apart .0) (near .over) (x .residual .high));
-    under = to-picoseconds _ _ (under A bp bn (n * L + o .f) (z .day * L + z .f) (taiUtcAt n (o .f)) (taiUtcAt (z .day) (z .f)) (apart .1) (near .under) (x .residual .low));
+    over = to-picoseconds _ _ (over A bp bn (n * L + o .f) (z .day * L + z .f) (taiUtcAt n (o .f)) (taiUtcAt (z .day) (z .f)) (apart .0) (near .over)
+        (x .residual .high));
+    under = to-picoseconds _ _ (under A bp bn (n * L + o .f) (z .day * L + z .f) (taiUtcAt n (o .f)) (taiUtcAt (z .day) (z .f)) (apart .1) (near .under)
+        (x .residual .low));
   }
 
 -- ---- TAI to UTC of d is `date`, on the exact day n, of which d is the TAI to 173 ps

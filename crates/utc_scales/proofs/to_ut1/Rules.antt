@@ -20,7 +20,8 @@ use Rattle.utc_scales.specs.to_ut1.ByRule.{utcToUt1ByRule}
 
 module _ (rows : List Row) (d : JulianDate) where
   -- refused after two others, it is refused
-  late : {A B C D : Type 0} (o : Outcome A) (p : Outcome B) (q : Outcome C) (f : B → C → Outcome D) (k : ℕ) → q ≡ refusal k → (j : ℕ) × (onward o (λ _. onward p (λ b. onward q (f b))) ≡ refusal j)
+  late : {A B C D : Type 0} (o : Outcome A) (p : Outcome B) (q : Outcome C) (f : B → C → Outcome D) (k : ℕ) → q ≡ refusal k → (j : ℕ)
+      × (onward o (λ _. onward p (λ b. onward q (f b))) ≡ refusal j)
   unfolding onward
   late (refusal j) p q f k e = (j, refl)
   late (answer a) (refusal j) q f k e = (j, refl)
@@ -30,7 +31,8 @@ module _ (rows : List Row) (d : JulianDate) where
   unfolding utcToUt1ByRule ruleOfDate utcToUt1 offsetOfDate
   utc-to-ut1-forgets dut1 = go (julianToCalendar (d .jd1) (d .jd2)) refl
     where
-      go : (w : Outcome CalendarFields) → julianToCalendar (d .jd1) (d .jd2) ≡ w → forget (passOn (utcToUt1 rows d dut1) (ruleOfDate rows (d .jd1) (d .jd2))) ≡ utcToUt1 rows d dut1
+      go : (w : Outcome CalendarFields) → julianToCalendar (d .jd1) (d .jd2) ≡ w
+          → forget (passOn (utcToUt1 rows d dut1) (ruleOfDate rows (d .jd1) (d .jd2))) ≡ utcToUt1 rows d dut1
       go (answer c) e = passed-forgets _ _ _ (went _ e)
       go (refusal k) e =
           let (j, h) = late (finiteArg dut1) (utcToTai rows d) (offsetOfDate rows (d .jd1) (d .jd2)) _ k (stopped _ e) in

@@ -9,9 +9,11 @@ use Rattle.utc_scales.specs.days.LargerPart.{firstIsKept, keptAs, keptPa
 use Rattle.utc_scales.specs.days.DateRule.{offsetOfDateByRule}
 use Rattle.utc_scales.specs.to_ut1.ByRule.{offsetOfParts}
 
-pub parts-offset : (rows : List Row) (p : Parts) (b : Bool) → p .first ≡ b → cond b (offsetOfDateByRule rows (p .larger) (p .smaller)) (offsetOfDateByRule rows (p .smaller) (p .larger)) ≡ offsetOfParts rows p
+pub parts-offset : (rows : List Row) (p : Parts) (b : Bool) → p .first ≡ b
+    → cond b (offsetOfDateByRule rows (p .larger) (p .smaller)) (offsetOfDateByRule rows (p .smaller) (p .larger)) ≡ offsetOfParts rows p
 unfolding offsetOfParts
-parts-offset rows p b e = ap (λ (c : Bool). cond c (offsetOfDateByRule rows (p .larger) (p .smaller)) (offsetOfDateByRule rows (p .smaller) (p .larger))) (sym e)
+parts-offset rows p b e = ap (λ (c : Bool). cond c (offsetOfDateByRule rows (p .larger) (p .smaller)) (offsetOfDateByRule rows (p .smaller) (p .larger)))
+    (sym e)
 
 pub date-offset : (rows : List Row) (d : JulianDate) (p : Parts) → p ≡ keptParts d → offsetOfParts rows p ≡ offsetOfDateByRule rows (d .jd1) (d .jd2)
 unfolding keptParts offsetOfParts

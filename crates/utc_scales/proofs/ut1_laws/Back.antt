@@ -149,14 +149,17 @@ module _ {a u : Float} {A up un : ℕ} (v : FirstPart a A) (w : SecondPart u up 
     offset-is : offsetAt0h fixed (gregorianDate (dayOf a there .day)) ≡ answer (wholeF D)
     offset-is =
         ap (λ (z : ℤ). offsetAt0h fixed (gregorianDate z)) (f .day)
-        ∙ offsets-first fixed (gregorianDate (pos (f .n))) (offsets (wholeF (secondsOn (f .n))) (wholeF (secondsOn (f .n))) (wholeF (secondsOn (suc (f .n))))) (day-seconds (f .n) (f .from) f-high)
+        ∙ offsets-first fixed (gregorianDate (pos (f .n))) (offsets (wholeF (secondsOn (f .n))) (wholeF (secondsOn (f .n))) (wholeF (secondsOn (suc (f .n)))))
+        (day-seconds (f .n) (f .from) f-high)
         ∙ ap (λ (s : ℕ). answer (wholeF s)) (f .seconds)
 
 -- ---- no step from a day to the next, where both have D seconds
 level : (D : ℕ) → D ≤ 37 → lt (abs (sub binary64 (wholeF D) (wholeF D))) half ≡ true
 level D g =
-    let s = sum-near 0 (lit≤ tt) (some (D * L) (2 ^ (53 + 0)) (lit< tt)) (some' (D * L) (2 ^ (53 + 0)) (lit< tt)) (sub-rounds binary64 L-pos (seconds-val D g) (seconds-val D g)) in
-    is-true _ (lt-show L-pos (abs-val (s .val)) half-L (less (dist (s .p) (s .n)) (dist-le (s .p) (s .n) 0 (none (s .p) (s .n) (D * L) (s .over)) (none' (s .n) (s .p) (D * L) (s .under)))))
+    let s = sum-near 0 (lit≤ tt) (some (D * L) (2 ^ (53 + 0)) (lit< tt)) (some' (D * L) (2 ^ (53 + 0)) (lit< tt))
+    (sub-rounds binary64 L-pos (seconds-val D g) (seconds-val D g)) in
+    is-true _ (lt-show L-pos (abs-val (s .val)) half-L
+    (less (dist (s .p) (s .n)) (dist-le (s .p) (s .n) 0 (none (s .p) (s .n) (D * L) (s .over)) (none' (s .n) (s .p) (D * L) (s .under)))))
   where
     some : (d z : ℕ) → 0 < z → d + 0 < 0 + d + z
     some d z k = omega arith
@@ -182,11 +185,20 @@ pub record Less (z : Float) (up un x y : ℕ) : Type 0 where
   pub over : 86400 * (p + un) + x ≤ 86400 * (n + up) + y + 86485 * h
   pub under : 86400 * (n + up) + y ≤ 86400 * (p + un) + x + 86485 * h
 
-pub less-dut1 : {u c : Float} {up un x y : ℕ} → SecondPart u up un → Val c x y L → x ≤ y + L → y ≤ x + L → Less (sub binary64 u (div binary64 c secondsPerDay)) up un x y
+pub less-dut1 : {u c : Float} {up un x y : ℕ} → SecondPart u up un → Val c x y L → x ≤ y + L → y ≤ x + L
+    → Less (sub binary64 u (div binary64 c secondsPerDay)) up un x y
 less-dut1 {u} {c} {up} {un} {x} {y} w vc hx hy =
     let q = div-near 1012 86400 (lit< tt) (lit≤ tt) (room x y (2 ^ (53 + 1012)) size-q hx) (room y x (2 ^ (53 + 1012)) size-q hy) vc day-val in
-    let r = close-sub L h adds (exactly (w .val)) (exactly (q .val)) (high (q .p) (q .n) (2 ^ 1012) unit-q (q .under)) (low (q .p) (q .n) (2 ^ 1012) unit-q (q .over)) in
-    record { p = r .p; n = r .n; val = r .val; over = end (r .p) (r .n) up un (q .p) (q .n) x y (2 ^ 1012) unit-q (r .over) (q .under); under = end (r .n) (r .p) un up (q .n) (q .p) y x (2 ^ 1012) unit-q (r .under) (q .over) }
+    let r = close-sub L h adds (exactly (w .val)) (exactly (q .val)) (high (q .p) (q .n) (2 ^ 1012) unit-q (q .under))
+    (low (q .p) (q .n) (2 ^ 1012) unit-q (q .over)) in
+    record {
+      p = r .p;
+      n = r .n;
+      val = r .val;
+      over = end (r .p) (r .n) up un (q .p) (q .n) x y (2 ^ 1012) unit-q (r .over) (q .under);
+      under =
+          end (r .n) (r .p) un up (q .n) (q .p) y x (2 ^ 1012) unit-q (r .under) (q .over);
+    }
   where
     room : (x y z : ℕ) → 512 * z ≡ L → x ≤ y + L → x < y + z * 86400
     room x y z e k = omega (arith, L-pos)
@@ -197,7 +209,8 @@ less-dut1 {u} {c} {up} {un} {x} {y} w vc hx hy =
     low : (p n z : ℕ) → 512 * z ≡ h → 2 * (86400 * p + 1 * y) ≤ 2 * (86400 * n + 1 * x) + 86400 * z → un + p + (0 + 0) < up + n + 2 * L
     low p n z e k = omega (arith, w .under, hx, h-small, L-pos)
 
-    end : (p n up un qp qn x y z : ℕ) → 512 * z ≡ h → p + (un + qp) ≤ n + (up + qn) + (0 + 0 + h) → 2 * (86400 * qn + 1 * x) ≤ 2 * (86400 * qp + 1 * y) + 86400 * z → 86400 * (p + un) + x ≤ 86400 * (n + up) + y + 86485 * h
+    end : (p n up un qp qn x y z : ℕ) → 512 * z ≡ h → p + (un + qp) ≤ n + (up + qn) + (0 + 0 + h)
+        → 2 * (86400 * qn + 1 * x) ≤ 2 * (86400 * qp + 1 * y) + 86400 * z → 86400 * (p + un) + x ≤ 86400 * (n + up) + y + 86485 * h
     end p n up un qp qn x y z e r k = omega arith
 
 to-picoseconds : (x y : ℕ) → x ≤ y + 86485 * h → dayPs * x ≤ dayPs * y + utcPs * (86400 * L)
@@ -212,11 +225,13 @@ module _ {a u : Float} {A up un : ℕ} (v : FirstPart a A) (w : SecondPart u up 
   most = few v w (negsuc 0) (lit≤ tt) (lit≤ tt) (s .before)
 
   before-is : offsetOfDate fixed a (add binary64 u (ofInt binary64 (negsuc 0))) ≡ answer (wholeF D)
-  before-is = offset-of-day fixed a _ (dayOf a (add binary64 u (ofInt binary64 (negsuc 0)))) (spot v w (negsuc 0) (lit≤ tt) (lit≤ tt) .given) ∙ offset-is v w (negsuc 0) (lit≤ tt) (lit≤ tt) (s .before)
+  before-is = offset-of-day fixed a _ (dayOf a (add binary64 u (ofInt binary64 (negsuc 0)))) (spot v w (negsuc 0) (lit≤ tt) (lit≤ tt) .given)
+      ∙ offset-is v w (negsuc 0) (lit≤ tt) (lit≤ tt) (s .before)
 
   day-is : (i : ℕ) → i ≤ 3 → FoundWith D (julian a u) (pos i) → scanDay fixed a u c (ofInt binary64 (pos i)) (wholeF D) ≡ answer (noStep (wholeF D))
   day-is i g f =
-      scan-no-step fixed a u c (ofInt binary64 (pos i)) (wholeF D) (dayOf a (add binary64 u (ofInt binary64 (pos i)))) (spot v w (pos i) g (lit≤ tt) .given) (wholeF D) (offset-is v w (pos i) g (lit≤ tt) f) (level D most)
+      scan-no-step fixed a u c (ofInt binary64 (pos i)) (wholeF D) (dayOf a (add binary64 u (ofInt binary64 (pos i)))) (spot v w (pos i) g (lit≤ tt) .given)
+      (wholeF D) (offset-is v w (pos i) g (lit≤ tt) f) (level D most)
 
   dut1-stays : adjustDut1 fixed a u c ≡ answer c
   unfolding adjustDut1
@@ -270,7 +285,8 @@ module _ {a u : Float} {A up un : ℕ} (v : FirstPart a A) (w : SecondPart u up 
         }
 
 -- ---- THE THEOREM by the days that the calendar finds: jd1 and jd2 in the range of request 14, and a DUT1 of at most 1 s
-pub ut1-to-utc-by-days : {d : JulianDate} → HalfDaySplit d → NoStepFound d → (dut1 : Float) → T (fits binary64 dut1) → T (le (abs dut1) one) → RightUtcOfUt1 utcPs d dut1
+pub ut1-to-utc-by-days : {d : JulianDate} → HalfDaySplit d → NoStepFound d → (dut1 : Float) → T (fits binary64 dut1) → T (le (abs dut1) one)
+    → RightUtcOfUt1 utcPs d dut1
 ut1-to-utc-by-days s o c f l = let z = size-at-most f one-L l in right (first-part s) (second-part s .2) o c (z .p) (z .n) (z .val) (z .high) (z .low)
 
 -- ---- TAI-UTC does not fall from a day to a later one
@@ -304,18 +320,22 @@ module _ {a u : Float} {A up un : ℕ} (v : FirstPart a A) (w : SecondPart u up 
     below =
         lt-of-mul-lt-mul-right L
         (subst (λ (t : ℕ). z .n * L < t) (sym (add-mul n 5 L))
-        (go (z .n * L) (z .f) (n * L) (o .f) (moved v w i ip im .p) (moved v w i ip im .n) (plusZ i * L) (minusZ i * L) (ahead v w i ip im) (o .below) (o .is) (moved v w i ip im .over) (z .near-over)))
+        (go (z .n * L) (z .f) (n * L) (o .f) (moved v w i ip im .p) (moved v w i ip im .n) (plusZ i * L) (minusZ i * L) (ahead v w i ip im) (o .below) (o .is)
+        (moved v w i ip im .over) (z .near-over)))
       where
-        go : (M f N e p m q r : ℕ) → q ≤ 3 * L → e < L → N + e + un ≡ A + up + H → p + (un + r) ≤ m + (up + q) + 4 * h → M + f + m ≤ A + p + H + 4 * h → M < N + 5 * L
+        go : (M f N e p m q r : ℕ) → q ≤ 3 * L → e < L → N + e + un ≡ A + up + H → p + (un + r) ≤ m + (up + q) + 4 * h → M + f + m ≤ A + p + H + 4 * h
+            → M < N + 5 * L
         go M f N e p m q r b c d g l = omega (arith, h-small, L-pos)
 
     above : n < z .n + 3
     above =
         lt-of-mul-lt-mul-right L
         (subst (λ (t : ℕ). n * L < t) (sym (add-mul (z .n) 3 L))
-        (go (z .n * L) (z .f) (n * L) (o .f) (moved v w i ip im .p) (moved v w i ip im .n) (plusZ i * L) (minusZ i * L) (behind v w i ip im) (z .below) (o .is) (moved v w i ip im .under) (z .near-under)))
+        (go (z .n * L) (z .f) (n * L) (o .f) (moved v w i ip im .p) (moved v w i ip im .n) (plusZ i * L) (minusZ i * L) (behind v w i ip im) (z .below)
+        (o .is) (moved v w i ip im .under) (z .near-under)))
       where
-        go : (M f N e p m q r : ℕ) → r ≤ 1 * L → f < L → N + e + un ≡ A + up + H → m + (up + q) ≤ p + (un + r) + 4 * h → A + p + H ≤ M + f + m + 4 * h → N < M + 3 * L
+        go : (M f N e p m q r : ℕ) → r ≤ 1 * L → f < L → N + e + un ≡ A + up + H → m + (up + q) ≤ p + (un + r) + 4 * h → A + p + H ≤ M + f + m + 4 * h
+            → N < M + 3 * L
         go M f N e p m q r b c d g l = omega (arith, h-small, L-pos)
 
     found : FoundWith (secondsOn (n - 2)) (julian a u) i
@@ -339,7 +359,8 @@ module _ {a u : Float} {A up un : ℕ} (v : FirstPart a A) (w : SecondPart u up 
   }
 
 -- ---- THE THEOREM: on an exact day n with no leap second near
-pub ut1-to-utc-means : {d : JulianDate} {n : ℕ} → HalfDaySplit d → ExactDay d n → NoLeapNear n → (dut1 : Float) → T (fits binary64 dut1) → T (le (abs dut1) one) → RightUtcOfUt1 utcPs d dut1
+pub ut1-to-utc-means : {d : JulianDate} {n : ℕ} → HalfDaySplit d → ExactDay d n → NoLeapNear n → (dut1 : Float) → T (fits binary64 dut1)
+    → T (le (abs dut1) one) → RightUtcOfUt1 utcPs d dut1
 ut1-to-utc-means {n = n} s x o c f l =
     let v = first-part s in
     let w = second-part s .2 in

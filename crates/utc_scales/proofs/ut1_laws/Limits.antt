@@ -1,5 +1,5 @@
--- WHAT CANNOT BE CLAIMED, by a computed case: near a leap second UT1 to UTC takes a positive DUT1 for the one after it. At (2457751.5, 0.25), 2016-12-29 at 6h, three days before 2017-01-01, a DUT1 of
--- 0.5 s comes back 1 s later. So `NoLeapNear` is not to be dropped. Assumes nothing.
+-- WHAT CANNOT BE CLAIMED, by a computed case: near a leap second UT1 to UTC takes a positive DUT1 for the one after it. At (2457751.5, 0.25), 2016-12-29 at 6h,
+-- three days before 2017-01-01, a DUT1 of 0.5 s comes back 1 s later. So `NoLeapNear` is not to be dropped. Assumes nothing.
 use mathlib.Core.Path.{_≡_, refl, _∙_, subst}
 use mathlib.Core.Bool.{false}
 use Prim.Native.Nat.{ℕ, _+_, _*_, _^_, _≤_, _<_}
@@ -77,8 +77,11 @@ pub one-second-off : Ut1ThereAndBack 999999999990 (stamp 0x3fd0_0000_0000_0000) 
 one-second-off r =
     let e : r .u ≡ stamp 0x3fd0_0018_45c8_a0ce = same (r .there) there in
     let f : r .t ≡ stamp 0x3fd0_0030_8b91_419c = same (subst (λ (u : JulianDate). utcToUt1 fixed u half ≡ answer (r .t)) e (r .back)) again in
-    let c : Apart 999999999990 (stamp 0x3fd0_0000_0000_0000) (stamp 0x3fd0_0030_8b91_419c) = subst (λ (t : JulianDate). Apart 999999999990 (stamp 0x3fd0_0000_0000_0000) t) f (r .apart) in
-    go (c .p) (c .n) (c .p') (c .n') (4915503 * H) (worth-unique (c .from) (parts-joined midnight-val given-val)) (worth-unique (c .to) (parts-joined midnight-val again-val)) (c .over)
+    let c : Apart 999999999990 (stamp 0x3fd0_0000_0000_0000) (stamp 0x3fd0_0030_8b91_419c) =
+    subst (λ (t : JulianDate). Apart 999999999990 (stamp 0x3fd0_0000_0000_0000) t) f (r .apart) in
+    go (c .p) (c .n) (c .p') (c .n') (4915503 * H) (worth-unique (c .from) (parts-joined midnight-val given-val))
+    (worth-unique (c .to) (parts-joined midnight-val again-val)) (c .over)
   where
-    go : (p n p' n' A : ℕ) → p + 0 ≡ A + 4503599627370496 * q + n → p' + 0 ≡ A + 4503808127353244 * q + n' → dayPs * (1 * p' + 1 * n + 0) ≤ dayPs * (1 * n' + 1 * p + 0) + 999999999990 * (1 * L) → ⊥
+    go : (p n p' n' A : ℕ) → p + 0 ≡ A + 4503599627370496 * q + n → p' + 0 ≡ A + 4503808127353244 * q + n'
+        → dayPs * (1 * p' + 1 * n + 0) ≤ dayPs * (1 * n' + 1 * p + 0) + 999999999990 * (1 * L) → ⊥
     go p n p' n' A e f k = omega (arith, L-q, q-pos)

@@ -34,7 +34,8 @@ wide : (p n : ℕ) → p ≤ n + L → 1024 * p ≤ 1024 * n + 1027 * L
 wide p n k = omega arith
 
 -- UTC, of about a day and a DUT1
-utc-part : (u c : Float) {up un x y : ℕ} → up ≤ un + L → un ≤ up + L → x ≤ y + L → y ≤ x + L → (r : Less (sub binary64 u (div binary64 c secondsPerDay)) up un x y) → SecondPart (sub binary64 u (div binary64 c secondsPerDay)) (r .p) (r .n)
+utc-part : (u c : Float) {up un x y : ℕ} → up ≤ un + L → un ≤ up + L → x ≤ y + L → y ≤ x + L
+    → (r : Less (sub binary64 u (div binary64 c secondsPerDay)) up un x y) → SecondPart (sub binary64 u (div binary64 c secondsPerDay)) (r .p) (r .n)
 utc-part u c {up} {un} {x} {y} hu lu hx hy r = record {
   held = sub-fits binary64 _ _;
   val = r .val;
@@ -46,16 +47,19 @@ utc-part u c {up} {un} {x} {y} hu lu hx hy r = record {
     size p n up un x y k l e = omega (arith, h-small)
 
 -- with no leap second at the end of its day UTC to UT1 adds DUT1
-added : {ps : ℕ} {d d' : JulianDate} (m x y n : ℕ) → leapAfter n ≡ 0 → Close ps (86400 + leapAfter n) 86400 (x + leapAfter n * H) (y + leapAfter n * m) d d' → Close ps 86400 86400 (x + 0 * H) (y + 0 * m) d d'
+added : {ps : ℕ} {d d' : JulianDate} (m x y n : ℕ) → leapAfter n ≡ 0 → Close ps (86400 + leapAfter n) 86400 (x + leapAfter n * H) (y + leapAfter n * m) d d'
+    → Close ps 86400 86400 (x + 0 * H) (y + 0 * m) d d'
 added {ps} {d} {d'} m x y n e c = subst (λ (s : ℕ). Close ps (86400 + s) 86400 (x + s * H) (y + s * m) d d') e c
 
 -- ---- the sums: X and Y are DUT1, as x and y are
 sums : (A p q P Q p' n' up un x y X Y N : ℕ) → P + q ≡ A + p + Q → x + Y ≡ X + y → 86400 * (p + un) + x ≤ 86400 * (q + up) + y + 86485 * h
-    → 86400 * (1 * p' + 1 * un + 0) + (86400 * n' + 86400 * P + (X + 0 * H)) ≤ 86400 * (1 * n' + 1 * (A + up) + 0) + (86400 * p' + 86400 * Q + (Y + 0 * N)) + 86485 * h
+    → 86400 * (1 * p' + 1 * un + 0) + (86400 * n' + 86400 * P + (X + 0 * H)) ≤ 86400 * (1 * n' + 1 * (A + up) + 0) + (86400 * p' + 86400 * Q + (Y + 0 * N)) +
+    86485 * h
 sums A p q P Q p' n' up un x y X Y N e g k = omega arith
 
 sums' : (A p q P Q p' n' up un x y X Y N : ℕ) → P + q ≡ A + p + Q → x + Y ≡ X + y → 86400 * (q + up) + y ≤ 86400 * (p + un) + x + 86485 * h
-    → 86400 * (1 * n' + 1 * (A + up) + 0) + (86400 * p' + 86400 * Q + (Y + 0 * N)) ≤ 86400 * (1 * p' + 1 * un + 0) + (86400 * n' + 86400 * P + (X + 0 * H)) + 86485 * h
+    → 86400 * (1 * n' + 1 * (A + up) + 0) + (86400 * p' + 86400 * Q + (Y + 0 * N)) ≤ 86400 * (1 * p' + 1 * un + 0) + (86400 * n' + 86400 * P + (X + 0 * H)) +
+    86485 * h
 sums' A p q P Q p' n' up un x y X Y N e g k = omega arith
 
 ten : dayPs * (86485 * h) ≤ 10 * (86400 * L)
@@ -71,7 +75,8 @@ in-all X Z G K c k = go (dayPs * X) (dayPs * Z) (dayPs * G) (dayPs * K) (dayPs *
     go : (x z g k e : ℕ) → x ≤ z + 87 * (86400 * L) → e ≤ 10 * (86400 * L) → 86400 * g + z ≤ 86400 * k + x + e → g ≤ k + 97 * (1 * L)
     go x z g k e a b c = omega arith
 
-module _ {a u : Float} {A up un : ℕ} (v : FirstPart a A) (hold : T (fits binary64 u)) (val : Val u up un L) (hu : up ≤ un + L) (lu : un ≤ up + L) (n : ℕ) (o : OnDay (A + up) un n) (s : NoLeapNear n) (c : Float) (fc : T (fits binary64 c)) (kc : T (le (abs c) one))
+module _ {a u : Float} {A up un : ℕ} (v : FirstPart a A) (hold : T (fits binary64 u)) (val : Val u up un L) (hu : up ≤ un + L) (lu : un ≤ up + L) (n : ℕ)
+    (o : OnDay (A + up) un n) (s : NoLeapNear n) (c : Float) (fc : T (fits binary64 c)) (kc : T (le (abs c) one))
     (x y : ℕ) (vc : Val c x y L) (hx : x ≤ y + L) (hy : y ≤ x + L) where
   w : SecondPart u up un
   w = record { held = hold; val = val; over = wide up un hu; under = wide un up lu }
@@ -89,15 +94,20 @@ module _ {a u : Float} {A up un : ℕ} (v : FirstPart a A) (hold : T (fits binar
   answered = one-answer v w' c fc kc
 
   below : z .n < n + 2
-  below = lt-of-mul-lt-mul-right L (subst (λ (t : ℕ). z .n * L < t) (sym (add-mul n 2 L)) (go (z .n * L) (z .f) (n * L) (o .f) (r .p) (r .n) (o .below) (o .is) (r .over) (z .near-over)))
+  below = lt-of-mul-lt-mul-right L
+      (subst (λ (t : ℕ). z .n * L < t) (sym (add-mul n 2 L)) (go (z .n * L) (z .f) (n * L) (o .f) (r .p) (r .n) (o .below) (o .is) (r .over) (z .near-over)))
     where
-      go : (M f N e p m : ℕ) → e < L → N + e + un ≡ A + up + H → 86400 * (p + un) + x ≤ 86400 * (m + up) + y + 86485 * h → M + f + m ≤ A + p + H + 4 * h → M < N + 2 * L
+      go : (M f N e p m : ℕ) → e < L → N + e + un ≡ A + up + H → 86400 * (p + un) + x ≤ 86400 * (m + up) + y + 86485 * h → M + f + m ≤ A + p + H + 4 * h
+          → M < N + 2 * L
       go M f N e p m b c d l = omega (arith, hy, h-small, L-pos)
 
   above : n < z .n + 2
-  above = lt-of-mul-lt-mul-right L (subst (λ (t : ℕ). n * L < t) (sym (add-mul (z .n) 2 L)) (go (z .n * L) (z .f) (n * L) (o .f) (r .p) (r .n) (z .below) (o .is) (r .under) (z .near-under)))
+  above = lt-of-mul-lt-mul-right L
+      (subst (λ (t : ℕ). n * L < t) (sym (add-mul (z .n) 2 L))
+      (go (z .n * L) (z .f) (n * L) (o .f) (r .p) (r .n) (z .below) (o .is) (r .under) (z .near-under)))
     where
-      go : (M f N e p m : ℕ) → f < L → N + e + un ≡ A + up + H → 86400 * (m + up) + y ≤ 86400 * (p + un) + x + 86485 * h → A + p + H ≤ M + f + m + 4 * h → N < M + 2 * L
+      go : (M f N e p m : ℕ) → f < L → N + e + un ≡ A + up + H → 86400 * (m + up) + y ≤ 86400 * (p + un) + x + 86485 * h → A + p + H ≤ M + f + m + 4 * h
+          → N < M + 2 * L
       go M f N e p m b c d l = omega (arith, hx, h-small, L-pos)
 
   same-day : z .n ≡ answered .n
@@ -135,13 +145,18 @@ module _ {a u : Float} {A up un : ℕ} (v : FirstPart a A) (hold : T (fits binar
           n' = m .n';
           from = parts-joined (v .val) val;
           to = m .to;
-          over = in-all _ _ _ _ (m .over) (sums A (r .p) (r .n) (m .p) (m .n) (m .p') (m .n') up un x y (answered .x) (answered .y) (answered .n * L) (worth-unique (m .from) (parts-worth v w')) (val-unique vc (answered .offset)) (r .over));
-          under = in-all _ _ _ _ (m .under) (sums' A (r .p) (r .n) (m .p) (m .n) (m .p') (m .n') up un x y (answered .x) (answered .y) (answered .n * L) (worth-unique (m .from) (parts-worth v w')) (val-unique vc (answered .offset)) (r .under));
+          over = in-all _ _ _ _ (m .over)
+              (sums A (r .p) (r .n) (m .p) (m .n) (m .p') (m .n') up un x y (answered .x) (answered .y) (answered .n * L)
+              (worth-unique (m .from) (parts-worth v w')) (val-unique vc (answered .offset)) (r .over));
+          under = in-all _ _ _ _ (m .under)
+              (sums' A (r .p) (r .n) (m .p) (m .n) (m .p') (m .n') up un x y (answered .x) (answered .y) (answered .n * L)
+              (worth-unique (m .from) (parts-worth v w')) (val-unique vc (answered .offset)) (r .under));
         };
       }
 
 -- ---- THE THEOREM
-pub ut1-there-and-back : {d : JulianDate} {n : ℕ} → HalfDaySplit d → ExactDay d n → NoLeapNear n → (dut1 : Float) → T (fits binary64 dut1) → T (le (abs dut1) one) → Ut1ThereAndBack 97 d dut1
+pub ut1-there-and-back : {d : JulianDate} {n : ℕ} → HalfDaySplit d → ExactDay d n → NoLeapNear n → (dut1 : Float) → T (fits binary64 dut1)
+    → T (le (abs dut1) one) → Ut1ThereAndBack 97 d dut1
 ut1-there-and-back {n = n} s x o c f l =
     let v = first-part s in
     let b = size-at-most (s .held .1) one-L (s .second) in

@@ -79,14 +79,27 @@ record Offset (z : Float) (x y d : ℕ) : Type 0 where
   over : 86400 * p + y + d ≤ 86400 * n + x + 117 * h
   under : 86400 * n + x ≤ 86400 * p + y + d + 117 * h
 
-offset-days : {c : Float} {x y : ℕ} (D : ℕ) → D ≤ 37 → Val c x y L → x ≤ y + L → y ≤ x + L → Offset (div binary64 (sub binary64 c (wholeF D)) secondsPerDay) x y (D * L) × (finite (sub binary64 c (wholeF D)) ≡ true)
+offset-days : {c : Float} {x y : ℕ} (D : ℕ) → D ≤ 37 → Val c x y L → x ≤ y + L → y ≤ x + L
+    → Offset (div binary64 (sub binary64 c (wholeF D)) secondsPerDay) x y (D * L) × (finite (sub binary64 c (wholeF D)) ≡ true)
 offset-days {c} {x} {y} D hD v u l =
     let g : D * L ≤ 37 * L = mul-le-mul-right L hD in
-    let s = sum-near 1027 (lit≤ tt) (subst (λ (i : ℕ). x < y + D * L + i) (sym size-64) (fit x y (D * L) u)) (subst (λ (i : ℕ). y + D * L < x + i) (sym size-64) (fit' x y (D * L) g l)) (rounds-move (sub-rounds binary64 L-pos v (seconds-val D hD)) (omega arith)) in
+    let s = sum-near 1027 (lit≤ tt) (subst (λ (i : ℕ). x < y + D * L + i) (sym size-64) (fit x y (D * L) u))
+    (subst (λ (i : ℕ). y + D * L < x + i) (sym size-64) (fit' x y (D * L) g l))
+    (rounds-move (sub-rounds binary64 L-pos v (seconds-val D hD)) (omega arith)) in
     let o = half (s .p) (s .n) x (y + D * L) (2 ^ 1027) unit-64 (s .over) in
     let w = half (s .n) (s .p) (y + D * L) x (2 ^ 1027) unit-64 (s .under) in
-    let q = div-near 1012 86400 (lit< tt) (lit≤ tt) (room (s .p) (s .n) x (y + D * L) (2 ^ (53 + 1012)) size-q (more x y (D * L) u) o) (room (s .n) (s .p) (y + D * L) x (2 ^ (53 + 1012)) size-q (less x y (D * L) g l) w) (s .val) day-val in
-    (record { p = q .p; n = q .n; val = q .val; over = end (q .p) (q .n) (s .p) (s .n) x y (D * L) (2 ^ 1012) unit-q (q .over) o; under = end' (q .p) (q .n) (s .p) (s .n) x y (D * L) (2 ^ 1012) unit-q (q .under) w }, val-finite-true (s .val))
+    let q = div-near 1012 86400 (lit< tt) (lit≤ tt) (room (s .p) (s .n) x (y + D * L) (2 ^ (53 + 1012)) size-q (more x y (D * L) u) o)
+    (room (s .n) (s .p) (y + D * L) x (2 ^ (53 + 1012)) size-q (less x y (D * L) g l) w) (s .val) day-val in (
+      record {
+        p = q .p;
+        n = q .n;
+        val = q .val;
+        over = end (q .p) (q .n) (s .p) (s .n) x y (D * L) (2 ^ 1012) unit-q (q .over) o;
+        under =
+            end' (q .p) (q .n) (s .p) (s .n) x y (D * L) (2 ^ 1012) unit-q (q .under) w;
+      },
+      val-finite-true (s .val),
+    )
   where
     fit : (x y d : ℕ) → x ≤ y + L → x < y + d + 64 * L
     fit x y d u = omega (arith, L-pos)
@@ -106,30 +119,36 @@ offset-days {c} {x} {y} D hD v u l =
     room : (p n X Y w : ℕ) → 512 * w ≡ L → X ≤ Y + 38 * L → p + Y ≤ n + X + 32 * h → p < n + w * 86400
     room p n X Y w e k o = omega (arith, h-small, h-pos)
 
-    end : (p n q m x y d w : ℕ) → 512 * w ≡ h → 2 * (86400 * p + 1 * m) ≤ 2 * (86400 * n + 1 * q) + 86400 * w → q + (y + d) ≤ m + x + 32 * h → 86400 * p + y + d ≤ 86400 * n + x + 117 * h
+    end : (p n q m x y d w : ℕ) → 512 * w ≡ h → 2 * (86400 * p + 1 * m) ≤ 2 * (86400 * n + 1 * q) + 86400 * w → q + (y + d) ≤ m + x + 32 * h
+        → 86400 * p + y + d ≤ 86400 * n + x + 117 * h
     end p n q m x y d w e k o = omega arith
 
-    end' : (p n q m x y d w : ℕ) → 512 * w ≡ h → 2 * (86400 * n + 1 * q) ≤ 2 * (86400 * p + 1 * m) + 86400 * w → m + x ≤ q + (y + d) + 32 * h → 86400 * n + x ≤ 86400 * p + y + d + 117 * h
+    end' : (p n q m x y d w : ℕ) → 512 * w ≡ h → 2 * (86400 * n + 1 * q) ≤ 2 * (86400 * p + 1 * m) + 86400 * w → m + x ≤ q + (y + d) + 32 * h
+        → 86400 * n + x ≤ 86400 * p + y + d + 117 * h
     end' p n q m x y d w e k o = omega arith
 
 -- ---- the sums, with N = n L, d = D L, and s leap seconds
-t-high : (s d N f A up un tp tn : ℕ) → s ≤ 1 → f < L → d ≤ 37 * L → 86400 * (tp + A + H) ≤ 86400 * tn + (86400 * (N + f) + (d + s * f)) + 345622 * h → N + f + un ≤ A + up + H + 4 * h → 1024 * up ≤ 1024 * un + 1027 * L → 64 * tp ≤ 64 * tn + 65 * L
+t-high : (s d N f A up un tp tn : ℕ) → s ≤ 1 → f < L → d ≤ 37 * L → 86400 * (tp + A + H) ≤ 86400 * tn + (86400 * (N + f) + (d + s * f)) + 345622 * h
+    → N + f + un ≤ A + up + H + 4 * h → 1024 * up ≤ 1024 * un + 1027 * L → 64 * tp ≤ 64 * tn + 65 * L
 t-high zero d N f A up un tp tn k b g e i w = omega (arith, h-small)
 t-high (suc zero) d N f A up un tp tn k b g e i w = omega (arith, h-small)
 t-high (suc (suc s)) d N f A up un tp tn k b g e i w = absurd (omega arith)
 
-t-low : (s d N f A up un tp tn : ℕ) → s ≤ 1 → 86400 * (N + f) + (d + s * f) + 86400 * tn ≤ 86400 * (tp + A + H) + 345622 * h → A + up + H ≤ N + f + un + 4 * h → 1024 * un ≤ 1024 * up + 1027 * L → 64 * tn ≤ 64 * tp + 65 * L
+t-low : (s d N f A up un tp tn : ℕ) → s ≤ 1 → 86400 * (N + f) + (d + s * f) + 86400 * tn ≤ 86400 * (tp + A + H) + 345622 * h → A + up + H ≤ N + f + un + 4 * h
+    → 1024 * un ≤ 1024 * up + 1027 * L → 64 * tn ≤ 64 * tp + 65 * L
 t-low zero d N f A up un tp tn k e i w = omega (arith, h-small)
 t-low (suc zero) d N f A up un tp tn k e i w = omega (arith, h-small)
 t-low (suc (suc s)) d N f A up un tp tn k e i w = absurd (omega arith)
 
-over-is : (s d N f A up un tp tn qp qn rp rn x y : ℕ) → s ≤ 1 → 86400 * (tp + A + H) ≤ 86400 * tn + (86400 * (N + f) + (d + s * f)) + 345622 * h → N + f + un ≤ A + up + H + 4 * h → 86400 * qp + y + d ≤ 86400 * qn + x + 117 * h → rp + (tn + qn) ≤ rn + (tp + qp) + h
+over-is : (s d N f A up un tp tn qp qn rp rn x y : ℕ) → s ≤ 1 → 86400 * (tp + A + H) ≤ 86400 * tn + (86400 * (N + f) + (d + s * f)) + 345622 * h
+    → N + f + un ≤ A + up + H + 4 * h → 86400 * qp + y + d ≤ 86400 * qn + x + 117 * h → rp + (tn + qn) ≤ rn + (tp + qp) + h
     → 86400 * (A + rp) + (86400 + s) * un + (y + s * N) ≤ 86400 * rn + (86400 + s) * (A + up) + (x + s * H) + 777743 * h
 over-is zero d N f A up un tp tn qp qn rp rn x y k e i q r = omega arith
 over-is (suc zero) d N f A up un tp tn qp qn rp rn x y k e i q r = omega arith
 over-is (suc (suc s)) d N f A up un tp tn qp qn rp rn x y k e i q r = absurd (omega arith)
 
-under-is : (s d N f A up un tp tn qp qn rp rn x y : ℕ) → s ≤ 1 → 86400 * (N + f) + (d + s * f) + 86400 * tn ≤ 86400 * (tp + A + H) + 345622 * h → A + up + H ≤ N + f + un + 4 * h → 86400 * qn + x ≤ 86400 * qp + y + d + 117 * h → rn + (tp + qp) ≤ rp + (tn + qn) + h
+under-is : (s d N f A up un tp tn qp qn rp rn x y : ℕ) → s ≤ 1 → 86400 * (N + f) + (d + s * f) + 86400 * tn ≤ 86400 * (tp + A + H) + 345622 * h
+    → A + up + H ≤ N + f + un + 4 * h → 86400 * qn + x ≤ 86400 * qp + y + d + 117 * h → rn + (tp + qp) ≤ rp + (tn + qn) + h
     → 86400 * rn + (86400 + s) * (A + up) + (x + s * H) ≤ 86400 * (A + rp) + (86400 + s) * un + (y + s * N) + 777743 * h
 under-is zero d N f A up un tp tn qp qn rp rn x y k e i q r = omega arith
 under-is (suc zero) d N f A up un tp tn qp qn rp rn x y k e i q r = omega arith
@@ -158,7 +177,9 @@ module _ {a u : Float} {A up un : ℕ} (v : FirstPart a A) (w : SecondPart u up 
   offset-is : offsetOfDate fixed a u ≡ answer (wholeF (secondsOn (o .day)))
   offset-is =
       offset-of-day fixed a u (dayOf a u) (o .located) ∙ ap (λ (z : ℤ). offsetAt0h fixed (gregorianDate z)) (o .found)
-      ∙ offsets-first fixed (gregorianDate (pos (o .day))) (offsets (wholeF (secondsOn (o .day))) (wholeF (secondsOn (o .day))) (wholeF (secondsOn (suc (o .day))))) (day-seconds (o .day) (o .day-low) (omega (arith, o .day-high)))
+      ∙ offsets-first fixed (gregorianDate (pos (o .day)))
+      (offsets (wholeF (secondsOn (o .day))) (wholeF (secondsOn (o .day))) (wholeF (secondsOn (suc (o .day)))))
+      (day-seconds (o .day) (o .day-low) (omega (arith, o .day-high)))
 
   module _ (x y : ℕ) (vc : Val c x y L) (h1 : x ≤ y + L) (h2 : y ≤ x + L) where
     abbrev q : Float
@@ -181,7 +202,8 @@ module _ {a u : Float} {A up un : ℕ} (v : FirstPart a A) (w : SecondPart u up 
 
     larger : firstIsLarger (julian a (o .t)) ≡ true
     unfolding firstIsLarger
-    larger = is-true _ (lt-show L-pos (abs-val (o .val)) (abs-val (v .val)) (go (dist (o .tp) (o .tn)) (dist-le (o .tp) (o .tn) (2 * L) (omega (arith, th)) (omega (arith, tl)))))
+    larger = is-true _ (lt-show L-pos (abs-val (o .val)) (abs-val (v .val))
+        (go (dist (o .tp) (o .tn)) (dist-le (o .tp) (o .tn) (2 * L) (omega (arith, th)) (omega (arith, tl)))))
       where
         go : (e : ℕ) → e ≤ 2 * L → e + 0 < dist A 0 + 0
         go e k = omega (arith, v .low, L-H, L-pos)
@@ -194,8 +216,10 @@ module _ {a u : Float} {A up un : ℕ} (v : FirstPart a A) (w : SecondPart u up 
     unfolding utcToUt1 answerOf plus daysOf
     is =
         went _ arg ∙ went _ (o .answered) ∙ went _ offset-is
-        ∙ by-is plus (sub binary64 c (wholeF (secondsOn (o .day)))) (julian a (o .t)) (val-finite-true (v .val)) (val-finite-true (o .val)) (offset-days D few vc h1 h2 .1)
-        ∙ ap answer (map-is (plus (daysOf (sub binary64 c (wholeF (secondsOn (o .day)))))) (julian a (o .t)) ∙ ap (mapAs (plus (daysOf (sub binary64 c (wholeF (secondsOn (o .day)))))) (julian a (o .t))) larger)
+        ∙ by-is plus (sub binary64 c (wholeF (secondsOn (o .day)))) (julian a (o .t)) (val-finite-true (v .val)) (val-finite-true (o .val))
+        (offset-days D few vc h1 h2 .1)
+        ∙ ap answer (map-is (plus (daysOf (sub binary64 c (wholeF (secondsOn (o .day)))))) (julian a (o .t))
+        ∙ ap (mapAs (plus (daysOf (sub binary64 c (wholeF (secondsOn (o .day)))))) (julian a (o .t))) larger)
 
     right : RightUt1 ut1Ps (julian a u) c
     right = record {
@@ -214,8 +238,10 @@ module _ {a u : Float} {A up un : ℕ} (v : FirstPart a A) (w : SecondPart u up 
         n' = r .n;
         from = parts-worth v w;
         to = record { p = A; n = 0; q = r .p; m = r .n; first = v .val; second = r .val; total = omega arith };
-        over = to-picoseconds _ _ (over-is s (D * L) (o .day * L) (o .f) A up un (o .tp) (o .tn) (z .p) (z .n) (r .p) (r .n) x y (o .seconds .step) (o .eval-over) (o .near-over) (z .over) (r .over));
-        under = to-picoseconds _ _ (under-is s (D * L) (o .day * L) (o .f) A up un (o .tp) (o .tn) (z .p) (z .n) (r .p) (r .n) x y (o .seconds .step) (o .eval-under) (o .near-under) (z .under) (r .under));
+        over = to-picoseconds _ _ (over-is s (D * L) (o .day * L) (o .f) A up un (o .tp) (o .tn) (z .p) (z .n) (r .p) (r .n) x y (o .seconds .step)
+            (o .eval-over) (o .near-over) (z .over) (r .over));
+        under = to-picoseconds _ _ (under-is s (D * L) (o .day * L) (o .f) A up un (o .tp) (o .tn) (z .p) (z .n) (r .p) (r .n) x y (o .seconds .step)
+            (o .eval-under) (o .near-under) (z .under) (r .under));
       };
     }
 

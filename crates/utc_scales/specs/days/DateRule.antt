@@ -1,5 +1,5 @@
--- The rule of TAI-UTC on the day of a Julian date, passed on with an answer. Written from document 02, item 5: a call passes on the rule of the calendar's date at 0h.
--- Assumes nothing.
+-- The rule of TAI-UTC on the day of a Julian date, passed on with an answer. Written from document 02, item 5: a call passes on the rule of the calendar's date
+-- at 0h. Assumes nothing.
 use mathlib.Core.List.{List}
 use lib.Ieee.{Float}
 use Rattle.refusals.specs.Outcome.{Outcome, answer, onward}

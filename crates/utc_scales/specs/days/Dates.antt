@@ -1,5 +1,5 @@
--- TAI-UTC and the midnight of a calendar date, and TAI-UTC of a Julian date's day. Written from the Rust's scales/conversions/utc_tai/mod.rs and utc_ut1/mod.rs, which
--- hand the year, month and day on as three signed numbers. Assumes nothing.
+-- TAI-UTC and the midnight of a calendar date, and TAI-UTC of a Julian date's day. Written from the Rust's scales/conversions/utc_tai/mod.rs and
+-- utc_ut1/mod.rs, which hand the year, month and day on as three signed numbers. Assumes nothing.
 use mathlib.Core.List.{List}
 use lib.IntN.{pos}
 use lib.Ieee.{Float}

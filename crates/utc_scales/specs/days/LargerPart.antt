@@ -1,5 +1,5 @@
--- The larger part of a Julian date, which a conversion keeps, and the smaller one, which it changes. Written from document 01, "Scale dates": UTC to TAI and back,
--- and UT1 to UTC, change jd2 on equal sizes. Assumes nothing.
+-- The larger part of a Julian date, which a conversion keeps, and the smaller one, which it changes. Written from document 01, "Scale dates": UTC to TAI and
+-- back, and UT1 to UTC, change jd2 on equal sizes. Assumes nothing.
 use mathlib.Core.Bool.{Bool, true, false}
 use lib.Ieee.{Float, le}
 use Rattle.refusals.specs.Outcome.{Outcome, answer, onward}

@@ -1,5 +1,6 @@
--- UTC and TAI in the years 1961 to 1971, in which TAI-UTC grew by a fixed rate a day and now and then stepped. Written from the IERS table of TAI-UTC: on a day of a row, TAI-UTC is the row's
--- seconds, and its rate times the days since the Modified Julian Date of its start. Here the decimals are whole numbers of 10^-10 s. Assumes nothing.
+-- UTC and TAI in the years 1961 to 1971, in which TAI-UTC grew by a fixed rate a day and now and then stepped. Written from the IERS table of TAI-UTC: on a day
+-- of a row, TAI-UTC is the row's seconds, and its rate times the days since the Modified Julian Date of its start. Here the decimals are whole numbers of
+-- 10^-10 s. Assumes nothing.
 use mathlib.Core.Path.{_≡_}
 use Prim.Native.Nat.{ℕ, suc, _+_, _-_, _*_, _≤_}
 use lib.IntN.{pos}

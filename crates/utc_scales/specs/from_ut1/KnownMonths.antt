@@ -1,5 +1,5 @@
--- A month whose offset has been looked up is known rightly: from 1972 on it is that at 0h of each of its days. What the code of UT1 to UTC carries from day to day, so that it
--- looks a month up once. This project's own: the Rust looks each day up anew. No contract of a public function cites it. Assumes nothing.
+-- A month whose offset has been looked up is known rightly: from 1972 on it is that at 0h of each of its days. What the code of UT1 to UTC carries from day to
+-- day, so that it looks a month up once. This project's own: the Rust looks each day up anew. No contract of a public function cites it. Assumes nothing.
 use mathlib.Core.Path.{_≡_}
 use mathlib.Core.Bool.{true}
 use mathlib.Core.List.{List}
@@ -18,7 +18,8 @@ use Rattle.utc_scales.specs.declared.from_ut1.DayScan.the-variants as Sc
 
 unfoldable pub RightMonth : List Row → KnownMonth → Type 0
 RightMonth rows k =
-    (n : ℤ) → gregorianDate n .year ≡ k .year → gregorianDate n .month ≡ k .month → leZ (pos 1972) (k .year) ≡ true → offsetAt0h rows (gregorianDate n) ≡ answer (k .seconds)
+    (n : ℤ) → gregorianDate n .year ≡ k .year → gregorianDate n .month ≡ k .month → leZ (pos 1972) (k .year) ≡ true
+    → offsetAt0h rows (gregorianDate n) ≡ answer (k .seconds)
 
 unfoldable pub monthOutcome : MonthAnswer → Outcome Float
 monthOutcome (M.Month k) = answer (k .seconds)

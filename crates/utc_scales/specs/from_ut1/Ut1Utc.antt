@@ -1,5 +1,6 @@
--- UT1 to UTC by DUT1 = UT1 - UTC in seconds. Written from the Rust's scales/conversions/utc_ut1/mod.rs, whose bits it fixes: each operation is rounded once, in its order.
--- Document 01, "Refusals by number": 10, 9, then 6 or 1 for each day scanned from -1 to +3 until a step of at least 0.5 s from one scanned day to the next. Assumes nothing.
+-- UT1 to UTC by DUT1 = UT1 - UTC in seconds. Written from the Rust's scales/conversions/utc_ut1/mod.rs, whose bits it fixes: each operation is rounded once, in
+-- its order. Document 01, "Refusals by number": 10, 9, then 6 or 1 for each day scanned from -1 to +3 until a step of at least 0.5 s from one scanned day to
+-- the next. Assumes nothing.
 use Prim.Native.Nat.{ℕ, zero, suc, _+_}
 use mathlib.Core.Bool.{cond}
 use mathlib.Core.List.{List}
@@ -69,7 +70,8 @@ untilStep next (step dut1) = answer dut1
 -- so many days from day i on; with no step DUT1 stays
 unfoldable pub scan : List Row → Float → Float → Float → ℕ → ℕ → Float → Outcome Float
 scan rows big small dut1 zero i before = answer dut1
-scan rows big small dut1 (suc k) i before = onward (scanDay rows big small dut1 (ofInt binary64 (pos i)) before) (untilStep (scan rows big small dut1 k (i + 1)))
+scan rows big small dut1 (suc k) i before =
+    onward (scanDay rows big small dut1 (ofInt binary64 (pos i)) before) (untilStep (scan rows big small dut1 k (i + 1)))
 
 -- day -1 is only looked up; the four days from 0 to 3 are each compared with the one before
 unfoldable pub adjustDut1 : List Row → Float → Float → Float → Outcome Float

@@ -1,4 +1,5 @@
--- What the theorems say of an outcome: which refusals can occur, and which dates. Written from document 01, "Refusals by number" and "Scale dates". Assumes nothing.
+-- What the theorems say of an outcome: which refusals can occur, and which dates. Written from document 01, "Refusals by number" and "Scale dates". Assumes
+-- nothing.
 use Prim.Native.Nat.{ℕ}
 use mathlib.Core.Path.{_≡_}
 use mathlib.Core.Bool.{Bool, true, false, _||_}

@@ -1,5 +1,5 @@
--- SOFA's published check values of the four conversions that read the table, and what it is to meet them. Written from SOFA's t_sofa_c.c: iauUtctai, iauTaiutc, iauUtcut1 and
--- iauUt1utc, with its inputs, its values and its tolerances, 1e-6 for the first part and 1e-12 for the second. Assumes nothing.
+-- SOFA's published check values of the four conversions that read the table, and what it is to meet them. Written from SOFA's t_sofa_c.c: iauUtctai, iauTaiutc,
+-- iauUtcut1 and iauUt1utc, with its inputs, its values and its tolerances, 1e-6 for the first part and 1e-12 for the second. Assumes nothing.
 use mathlib.Core.Path.{_≡_}
 use lib.Dec.{T}
 use lib.Ieee.{Float, binary64, sub, le}

@@ -1,5 +1,5 @@
--- The order of stamps at their exact values, and what it is for a conversion to keep it. Written from document 01, "Scale dates": recorders' stamps are lined up
--- afterwards. Assumes nothing.
+-- The order of stamps at their exact values, and what it is for a conversion to keep it. Written from document 01, "Scale dates": recorders' stamps are lined
+-- up afterwards. Assumes nothing.
 use mathlib.Core.Path.{_≡_}
 use mathlib.Core.Bool.{true}
 use Prim.Native.Nat.{ℕ, _+_, _*_, _≤_}

@@ -1,5 +1,5 @@
--- What the customer's three recorders need: when a stamp by GPS, one by TAI and one by UTC are of one instant, and what it is for their TAI dates to agree. Written from
--- document 01, "Scale dates". Assumes nothing.
+-- What the customer's three recorders need: when a stamp by GPS, one by TAI and one by UTC are of one instant, and what it is for their TAI dates to agree.
+-- Written from document 01, "Scale dates". Assumes nothing.
 use mathlib.Core.Path.{_≡_}
 use Prim.Native.Nat.{ℕ, _+_}
 use Rattle.refusals.specs.Outcome.{answer}
@@ -11,7 +11,8 @@ use Rattle.utc_scales.specs.UtcTai.{utcToTai}
 use Rattle.utc_scales.specs.round_trip.UtcDays.{ExactDay}
 use Rattle.utc_scales.specs.round_trip.Relation.{taiOverUtc, gpsOverUtc}
 
--- g by GPS, t by TAI and u by UTC stamp one instant, each two of them to e picoseconds: t = g + 19 s, and t and g are what the exact relation of u's exact day gives
+-- g by GPS, t by TAI and u by UTC stamp one instant, each two of them to e picoseconds: t = g + 19 s, and t and g are what the exact relation of u's exact day
+-- gives
 pub record OneInstant (e : ℕ) (g t u : JulianDate) : Type 0 where
   pub n : ℕ
   pub on : ExactDay u n

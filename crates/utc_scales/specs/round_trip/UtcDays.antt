@@ -1,6 +1,6 @@
--- Days of UTC from 1972 on: which day a date lies on, TAI-UTC at its 0h, and the leap second at its end. Written from document 01, "Day and fraction" and "TAI-UTC": day
--- n begins half a day before the Julian date n, and the table's rows from 1972 on are whole seconds. Days are counted in units of 2 ^ -1074 day, of which L are a
--- day, so that every float is a whole number of them. Assumes nothing.
+-- Days of UTC from 1972 on: which day a date lies on, TAI-UTC at its 0h, and the leap second at its end. Written from document 01, "Day and fraction" and
+-- "TAI-UTC": day n begins half a day before the Julian date n, and the table's rows from 1972 on are whole seconds. Days are counted in units of 2 ^ -1074 day,
+-- of which L are a day, so that every float is a whole number of them. Assumes nothing.
 use mathlib.Core.Path.{_≡_}
 use Prim.Native.Nat.{ℕ, suc, _+_, _-_, _*_, _≤_, _<_}
 use lib.IntN.{pos}

@@ -1,5 +1,5 @@
--- UTC to UT1 with the rule of the offset that it reads. Written from document 02, item 5: it passes on the rule of the calendar's date at 0h, that of (jd1, jd2), where its
--- offset is read. Assumes nothing.
+-- UTC to UT1 with the rule of the offset that it reads. Written from document 02, item 5: it passes on the rule of the calendar's date at 0h, that of (jd1,
+-- jd2), where its offset is read. Assumes nothing.
 use mathlib.Core.Bool.{cond}
 use mathlib.Core.List.{List}
 use lib.Ieee.{Float}

@@ -1,5 +1,5 @@
--- UTC to UT1 by DUT1 = UT1 - UTC in seconds. Written from the Rust's scales/conversions/utc_ut1/mod.rs, whose bits it fixes: each operation is rounded once, in its order.
--- Document 01, "Refusals by number": 10, 6, date. Assumes nothing.
+-- UTC to UT1 by DUT1 = UT1 - UTC in seconds. Written from the Rust's scales/conversions/utc_ut1/mod.rs, whose bits it fixes: each operation is rounded once, in
+-- its order. Document 01, "Refusals by number": 10, 6, date. Assumes nothing.
 use mathlib.Core.List.{List}
 use lib.Ieee.{Float, binary64, sub}
 use Rattle.refusals.specs.Outcome.{Outcome, onward}

@@ -1,5 +1,5 @@
--- UT1 to UTC from 1972 on, on days with no leap second near. Written from document 01, "Scale dates" and "Refusals by number", and SOFA's Time Scale and Calendar Tools: UTC is UT1 less DUT1,
--- and TAI-UTC is looked up on five days, from the day before the date to three days after it. Assumes nothing.
+-- UT1 to UTC from 1972 on, on days with no leap second near. Written from document 01, "Scale dates" and "Refusals by number", and SOFA's Time Scale and
+-- Calendar Tools: UTC is UT1 less DUT1, and TAI-UTC is looked up on five days, from the day before the date to three days after it. Assumes nothing.
 use mathlib.Core.Path.{_≡_}
 use Prim.Native.Nat.{ℕ, _+_, _-_, _≤_}
 use lib.IntN.{ℤ, pos, negsuc}
@@ -31,8 +31,8 @@ pub record NoStepFound (d : JulianDate) : Type 0 where
   pub third : FoundWith D d (pos 2)
   pub fourth : FoundWith D d (pos 3)
 
--- from 1972-01-03 on, and TAI-UTC is the same from 0h of two days before day n to 0h of four days after it: a day more than is looked up at each end, since the calendar may find the next day, or the
--- day before, for a date within picoseconds of midnight
+-- from 1972-01-03 on, and TAI-UTC is the same from 0h of two days before day n to 0h of four days after it: a day more than is looked up at each end, since the
+-- calendar may find the next day, or the day before, for a date within picoseconds of midnight
 pub record NoLeapNear (n : ℕ) : Type 0 where
   pub from : 2441320 ≤ n
   pub same : secondsOn (n - 2) ≡ secondsOn (n + 4)

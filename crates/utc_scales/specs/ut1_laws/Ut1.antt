@@ -1,5 +1,6 @@
--- UTC and UT1 from 1972 on. Written from document 01, "Scale dates", and SOFA's Time Scale and Calendar Tools: UT1 is UTC and DUT1, and DUT1 grows by the leap second at its midnight, so that on
--- a day of 86,401 s, which UTC spreads over one day, UT1 runs ahead of UTC and DUT1 by the part of the leap second that has passed. Assumes nothing.
+-- UTC and UT1 from 1972 on. Written from document 01, "Scale dates", and SOFA's Time Scale and Calendar Tools: UT1 is UTC and DUT1, and DUT1 grows by the leap
+-- second at its midnight, so that on a day of 86,401 s, which UTC spreads over one day, UT1 runs ahead of UTC and DUT1 by the part of the leap second that has
+-- passed. Assumes nothing.
 use mathlib.Core.Path.{_≡_}
 use Prim.Native.Nat.{ℕ, _+_, _*_}
 use lib.IntN.{pos}
@@ -22,8 +23,8 @@ ut1OverUtc n x y = record { num = 86400 + leapAfter n; den = 86400; more = x + l
 abbrev pub ut1Ps : ℕ
 ut1Ps = 87
 
--- UTC to UT1 answers, and the answer is the UT1 of d by this DUT1, on the day n that the calendar finds for d. In the last picoseconds of a day the calendar may find the next, and where
--- a leap second lies between the two this matters: DUT1 is another there, by 1 s.
+-- UTC to UT1 answers, and the answer is the UT1 of d by this DUT1, on the day n that the calendar finds for d. In the last picoseconds of a day the calendar
+-- may find the next, and where a leap second lies between the two this matters: DUT1 is another there, by 1 s.
 pub record RightUt1 (ps : ℕ) (d : JulianDate) (dut1 : Float) : Type 0 where
   pub x : ℕ
   pub y : ℕ

@@ -26,7 +26,8 @@ pub(crate) enum MonthAnswer {
 
 // TAI-UTC at 0h of the date of a day number, with the month of the day.
 fn month_of<'a>(day: i64, size: usize, months: &'a [i32; 16], seconds: &'a [i32; 16]) -> MonthAnswer
-    ensures { λ r. ⌜ (monthOutcome r ≡ offsetAt0h (rowsIn size (now (months .entry)) (now (seconds .entry))) (gregorianDate day)) × RightMonths (rowsIn size (now (months .entry)) (now (seconds .entry))) r ⌝ }
+    ensures { λ r. ⌜ (monthOutcome r ≡ offsetAt0h (rowsIn size (now (months .entry)) (now (seconds .entry))) (gregorianDate day))
+        × RightMonths (rowsIn size (now (months .entry)) (now (seconds .entry))) r ⌝ }
 {
     match offset_at_0h(day, size, months, seconds) {
         SecondsByRule::Refused(number) => MonthAnswer::Refused(number),
@@ -50,7 +51,8 @@ pub(crate) fn month_with<'a>(
     seconds: &'a [i32; 16],
 ) -> MonthAnswer
     requires { ⌜ RightMonth (rowsIn size (now months) (now seconds)) known ⌝ }
-    ensures { λ r. ⌜ (monthOutcome r ≡ offsetAt0h (rowsIn size (now (months .entry)) (now (seconds .entry))) (gregorianDate day)) × RightMonths (rowsIn size (now (months .entry)) (now (seconds .entry))) r ⌝ }
+    ensures { λ r. ⌜ (monthOutcome r ≡ offsetAt0h (rowsIn size (now (months .entry)) (now (seconds .entry))) (gregorianDate day))
+        × RightMonths (rowsIn size (now (months .entry)) (now (seconds .entry))) r ⌝ }
 {
     let t = calendar::gregorian_date(day);
     if t.month == known.month {
@@ -71,7 +73,8 @@ pub(crate) fn month_of_date<'a>(
     months: &'a [i32; 16],
     seconds: &'a [i32; 16],
 ) -> MonthAnswer
-    ensures { λ r. ⌜ (monthOutcome r ≡ offsetOfDate (rowsIn size (now (months .entry)) (now (seconds .entry))) jd1 jd2) × RightMonths (rowsIn size (now (months .entry)) (now (seconds .entry))) r ⌝ }
+    ensures { λ r. ⌜ (monthOutcome r ≡ offsetOfDate (rowsIn size (now (months .entry)) (now (seconds .entry))) jd1 jd2)
+        × RightMonths (rowsIn size (now (months .entry)) (now (seconds .entry))) r ⌝ }
 {
     match julian::day_number::day_number_and_fraction(jd1, jd2) {
         DayAnswer::Refused(number) => MonthAnswer::Refused(number),

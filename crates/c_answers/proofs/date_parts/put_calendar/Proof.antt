@@ -20,11 +20,4 @@ returns-2 c = refused-on calendarBytes (c .refused .ok) _ (ap calendarOutcome (c
 pub put-calendar-spec : {M : Type 1} → statement M
 put-calendar-spec =
     tie.close
-    (tie.spec
-    (λ c. search needs)
-    (λ c κs. search needs)
-    (λ c. search needs)
-    (λ c κs. search needs)
-    (λ c. search needs)
-    returns
-    returns-2)
+    (tie.spec (λ c. search needs) (λ c κs. search needs) (λ c. search needs) (λ c κs. search needs) (λ c. search needs) returns returns-2)

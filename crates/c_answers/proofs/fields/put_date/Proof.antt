@@ -18,16 +18,11 @@ returns c =
     let y = t .before in
     let a = y .before .before .before .args in
     same-bytes (p .put .ok)
-    (t .three-numbers .ensures ∙ ap (λ (n : ℕ). fourBytes n ++ (fourBytes (a .date .month) ++ fourBytes (a .date .day))) (y .year-pattern .ensures ∙ ap patternOf (toZ-ofZ (record { sfits = y .before .struct-told .given .0 .1 }))))
+    (t .three-numbers .ensures ∙ ap (λ (n : ℕ). fourBytes n ++ (fourBytes (a .date .month) ++ fourBytes (a .date .day)))
+    (y .year-pattern .ensures ∙ ap patternOf (toZ-ofZ (record { sfits = y .before .struct-told .given .0 .1 }))))
     (p .put .ensures)
 
 pub put-date-spec : {M : Type 1} → statement M
 put-date-spec =
     tie.close
-    (tie.spec
-    (λ c κs. search needs)
-    (λ c κs. search needs)
-    (λ c. search needs)
-    (λ c κs. search needs)
-    (λ c. search needs)
-    returns)
+    (tie.spec (λ c κs. search needs) (λ c κs. search needs) (λ c. search needs) (λ c κs. search needs) (λ c. search needs) returns)

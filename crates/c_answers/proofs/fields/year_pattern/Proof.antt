@@ -11,11 +11,8 @@ use Rattle.c_answers.proofs.fields.year_pattern.Tie as tie
 wider : (c : tie.Start) → SFits w64 (toZ w32 (ofZ w32 (c .args .year)))
 wider c = subst (SFits w64) (sym (toZ-ofZ (c .fits .year))) (sfits-widen tt (c .fits .year))
 
-cast-pattern-of-i64 : tie.Need-cast-pattern-of-i64
-cast-pattern-of-i64 c = wider c
-
 returns : tie.Need-returns
 returns c = c .pattern-of-i64 .ensures ∙ ap patternOf (toZ-ofZ {w = w64} (wider (c .before)) ∙ toZ-ofZ (c .before .fits .year))
 
 pub year-pattern-spec : {M : Type 1} → statement M
-year-pattern-spec = tie.close (tie.spec cast-pattern-of-i64 (λ c κs. search needs) returns)
+year-pattern-spec = tie.close (tie.spec (λ c. wider c) (λ c κs. search needs) returns)

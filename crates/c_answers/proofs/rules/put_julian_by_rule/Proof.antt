@@ -11,24 +11,19 @@ use Rattle.c_answers.proofs.rules.put_julian_by_rule.Tie as tie
 
 returns : tie.Need-returns
 unfolding julianRuleBytes julianBytes
-returns c = too-short (julianRuleBytes (c .before .before .before .args .date, c .before .before .before .args .rule)) (now (c .before .before .before .args .out)) _ (c .before .if1 .taken) (code-back (c .refused .ok) ∙ c .refused .ensures)
+returns c = too-short (julianRuleBytes (c .before .before .before .args .date, c .before .before .before .args .rule))
+    (now (c .before .before .before .args .out)) _ (c .before .if1 .taken) (code-back (c .refused .ok) ∙ c .refused .ensures)
 
 returns-2 : tie.Need-returns-2
 unfolding julianRuleBytes julianBytes
 returns-2 c =
     let a = c .before .before .before .before .before .before .before .before .before .before .args in
-    in-two (julianBytes (a .date)) (ruleBytes (a .rule)) (now (a .out)) _ _ 16 24 refl refl (c .before .before .before .before .before .before .before .before .if1 .left) (c .before .before .before .before .before .before .put-julian .ensures) (c .before .before .put-rule .ensures)
+    in-two (julianBytes (a .date)) (ruleBytes (a .rule)) (now (a .out)) _ _ 16 24 refl refl
+    (c .before .before .before .before .before .before .before .before .if1 .left)
+    (c .before .before .before .before .before .before .put-julian .ensures) (c .before .before .put-rule .ensures)
 
 pub put-julian-by-rule-spec : {M : Type 1} → statement M
 put-julian-by-rule-spec =
     tie.close
-    (tie.spec
-    (λ c κs. search needs)
-    returns
-    (λ c κs. search needs)
-    (λ c. search needs)
-    (λ c. search needs)
-    (λ c. search needs)
-    (λ c κs. search needs)
-    (λ c. search needs)
-    returns-2)
+    (tie.spec (λ c κs. search needs) returns (λ c κs. search needs) (λ c. search needs) (λ c. search needs) (λ c. search needs) (λ c κs. search needs)
+    (λ c. search needs) returns-2)

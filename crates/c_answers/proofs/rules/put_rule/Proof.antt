@@ -10,14 +10,10 @@ returns : tie.Need-returns
 returns c =
     let p = c .before .before in
     let b = p .before .before in
-    same-bytes (p .put-two-numbers .ok) (λ i. fourBytes (b .before .rule-number .ensures i) ++ fourBytes (b .row-pattern .ensures i)) (p .put-two-numbers .ensures)
+    same-bytes (p .put-two-numbers .ok) (λ i. fourBytes (b .before .rule-number .ensures i) ++ fourBytes (b .row-pattern .ensures i))
+    (p .put-two-numbers .ensures)
 
 pub put-rule-spec : {M : Type 1} → statement M
 put-rule-spec =
     tie.close
-    (tie.spec
-    (λ c κs. search needs)
-    (λ c κs. search needs)
-    (λ c κs. search needs)
-    (λ c. search needs)
-    returns)
+    (tie.spec (λ c κs. search needs) (λ c κs. search needs) (λ c κs. search needs) (λ c. search needs) returns)

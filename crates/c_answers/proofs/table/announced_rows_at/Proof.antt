@@ -1,14 +1,11 @@
 -- `c_answers::table::announced_rows_at` meets its contract. Assumes nothing.
-use mathlib.Core.Path.{_≡_, ap, subst, sym, _∙_}
+use mathlib.Core.Path.{_≡_, subst, sym, _∙_}
 use Prim.Native.Nat.{ℕ, _<_}
 use Rattle.leap_table.specs.rows.Announced.{least}
 use Rattle.c_answers.proofs.table.Reading.{same-table, reads-none, of-136, of-another}
 use borrow.Author.Needs.{needs}
 use Rattle.c_answers.proofs.table.announced_rows_at.Statement.{statement}
 use Rattle.c_answers.proofs.table.announced_rows_at.Tie as tie
-
-returns : tie.Need-returns
-returns c = of-another _ _ (c .before .if1 .taken)
 
 returns-2 : tie.Need-returns-2
 returns-2 c =
@@ -32,15 +29,5 @@ returns-3 c =
 pub announced-rows-at-spec : {M : Type 1} → statement M
 announced-rows-at-spec =
     tie.close
-    (tie.spec
-    (λ c κs. search needs)
-    returns
-    (λ c κs. search needs)
-    (λ c κs. search needs)
-    (λ c κs. search needs)
-    (λ c κs. search needs)
-    returns-2
-    (λ c κs. search needs)
-    (λ c κs. search needs)
-    (λ c κs. search needs)
-    returns-3)
+    (tie.spec (λ c κs. search needs) (λ c. of-another _ _ (c .before .if1 .taken)) (λ c κs. search needs) (λ c κs. search needs)
+    (λ c κs. search needs) (λ c κs. search needs) returns-2 (λ c κs. search needs) (λ c κs. search needs) (λ c κs. search needs) returns-3)

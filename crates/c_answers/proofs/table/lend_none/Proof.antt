@@ -3,11 +3,5 @@ use borrow.Author.Tests.{eq-eqb, ne-eqb}
 use Rattle.c_answers.proofs.table.lend_none.Statement.{statement}
 use Rattle.c_answers.proofs.table.lend_none.Tie as tie
 
-returns : tie.Need-returns
-returns c = rw (ne-eqb _ _ (c .if1 .taken))
-
-returns-2 : tie.Need-returns-2
-returns-2 c = rw (eq-eqb _ _ (c .if1 .left))
-
 pub lend-none-spec : {M : Type 1} → statement M
-lend-none-spec = tie.close (tie.spec returns returns-2)
+lend-none-spec = tie.close (tie.spec (λ c. rw (ne-eqb _ _ (c .if1 .taken))) (λ c. rw (eq-eqb _ _ (c .if1 .left))))

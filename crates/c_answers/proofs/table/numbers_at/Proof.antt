@@ -3,7 +3,7 @@ use Prim.Native.Nat.{ℕ, _+_, _-_, _*_, _≤_, _<_}
 use native.Mathlib.Omega.{arith}
 use native.Mathlib.Nat.{not-suc-le-zero}
 use mathlib.Core.Path.{_≡_, refl, ap, _∙_}
-use lib.IntN.{ℤ, pos}
+use lib.IntN.{pos}
 use lib.ListN.{length, getD}
 use mir.Syntax.{w32}
 use mir.Facts.{toZ-ofZ}
@@ -51,7 +51,8 @@ loop-again c =
     let l = c .before .before .before in
     let a = l .before .before .args in
     let (p, q) = one-more-read (a .bytes .now) (a .at) (l .loop .i) (l .loop .numbers) _ (l .loop .inv .1) (omega arith)
-    (toZ-ofZ {w = w32} {z = c .i32-of-pattern .result} (record { sfits = c .i32-of-pattern .ok }) ∙ c .i32-of-pattern .ensures ∙ ap signed32 (c .before .u32-at .ensures)) (l .loop .inv .2) in
+    (toZ-ofZ {w = w32} {z = c .i32-of-pattern .result} (record { sfits = c .i32-of-pattern .ok }) ∙ c .i32-of-pattern .ensures
+    ∙ ap signed32 (c .before .u32-at .ensures)) (l .loop .inv .2) in
     (omega arith, p, q)
 
 returns : tie.Need-returns Inv-loop μ-loop
@@ -60,17 +61,5 @@ returns c = let l = c .before in λ i h. l .loop .inv .2 i (omega arith)
 pub numbers-at-spec : {M : Type 1} → statement M
 numbers-at-spec =
     tie.close
-    (tie.spec
-    Inv-loop
-    μ-loop
-    loop-holds
-    mul-u32-at
-    add-u32-at
-    u32-at-requires
-    i32-of-pattern-requires
-    mul-numbers
-    array-set-from-numbers
-    add-i
-    loop-less
-    loop-again
-    returns)
+    (tie.spec Inv-loop μ-loop loop-holds mul-u32-at add-u32-at u32-at-requires i32-of-pattern-requires mul-numbers array-set-from-numbers add-i
+    loop-less loop-again returns)

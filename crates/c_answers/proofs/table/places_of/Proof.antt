@@ -4,11 +4,5 @@ use borrow.Author.Tests.{le-leb, lt-leb}
 use Rattle.c_answers.proofs.table.places_of.Statement.{statement}
 use Rattle.c_answers.proofs.table.places_of.Tie as tie
 
-returns : tie.Need-returns
-returns c = (rw (le-leb _ _ (c .if1 .taken)), omega arith)
-
-returns-2 : tie.Need-returns-2
-returns-2 c = (rw (lt-leb _ _ (c .if1 .left)), omega arith)
-
 pub places-of-spec : {M : Type 1} → statement M
-places-of-spec = tie.close (tie.spec returns returns-2)
+places-of-spec = tie.close (tie.spec (λ c. (rw (le-leb _ _ (c .if1 .taken)), omega arith)) (λ c. (rw (lt-leb _ _ (c .if1 .left)), omega arith)))

@@ -18,15 +18,10 @@ returns c = nothing-refused (sym (is (c .before .before)) ∙ ap checkOutcome (c
 
 returns-2 : tie.Need-returns-2
 unfolding checkOutcome
-returns-2 c = some-refused _ (c .refused .ok) (sym (is (c .before .before .before .before)) ∙ ap checkOutcome (c .before .before .number .given .1)) (c .refused .ensures)
+returns-2 c = some-refused _ (c .refused .ok) (sym (is (c .before .before .before .before)) ∙ ap checkOutcome (c .before .before .number .given .1))
+    (c .refused .ensures)
 
 pub ct-validate-calendar-date-spec : {M : Type 1} → statement M
 ct-validate-calendar-date-spec =
     tie.close
-    (tie.spec
-    (λ c κs. search needs)
-    (λ c. search needs)
-    (λ c. search needs)
-    (λ c κs. search needs)
-    returns
-    returns-2)
+    (tie.spec (λ c κs. search needs) (λ c. search needs) (λ c. search needs) (λ c κs. search needs) returns returns-2)

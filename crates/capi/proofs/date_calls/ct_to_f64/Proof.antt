@@ -5,8 +5,5 @@ use borrow.Author.Needs.{needs}
 use Rattle.capi.proofs.date_calls.ct_to_f64.Statement.{statement}
 use Rattle.capi.proofs.date_calls.ct_to_f64.Tie as tie
 
-returns : tie.Need-returns
-returns c = c .to-f64 .ensures ∙ ap roundedSum (c .before .new .ensures)
-
 pub ct-to-f64-spec : {M : Type 1} → statement M
-ct-to-f64-spec = tie.close (tie.spec (λ c κs. search needs) (λ c κs. search needs) returns)
+ct-to-f64-spec = tie.close (tie.spec (λ c κs. search needs) (λ c κs. search needs) (λ c. c .to-f64 .ensures ∙ ap roundedSum (c .before .new .ensures)))

@@ -20,11 +20,4 @@ returns-2 c = refused-on weekBytes (c .refused .ok) _ (ap weekOutcome (c .before
 pub put-week-spec : {M : Type 1} → statement M
 put-week-spec =
     tie.close
-    (tie.spec
-    (λ c. search needs)
-    (λ c κs. search needs)
-    (λ c. search needs)
-    (λ c κs. search needs)
-    (λ c. search needs)
-    returns
-    returns-2)
+    (tie.spec (λ c. search needs) (λ c κs. search needs) (λ c. search needs) (λ c κs. search needs) (λ c. search needs) returns returns-2)

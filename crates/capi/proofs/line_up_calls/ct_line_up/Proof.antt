@@ -12,26 +12,18 @@ returns c =
     let w = c .before .n .given .0 .0 in
     let a = c .before .before .before .before .before .before .before .before .before .before .before .before .before .before .args in
     let q = c .before .before .before .before .before .before .before .line-up in
-    line-ordered (linedUp (now (a .jd1)) (now (a .jd2)) (now (a .numbers)) (a .first-count) (a .second-count) (now (a .out))) _ _ (q .result) (q .ensures) w (c .before .n .given .1) (omega arith)
+    line-ordered (linedUp (now (a .jd1)) (now (a .jd2)) (now (a .numbers)) (a .first-count) (a .second-count) (now (a .out))) _ _ (q .result) (q .ensures) w
+    (c .before .n .given .1) (omega arith)
 
 returns-2 : tie.Need-returns-2
 returns-2 c =
     let a = c .before .before .before .before .before .before .before .before .before .before .before .before .before .before .before .args in
     let q = c .before .before .before .before .before .before .before .before .line-up in
-    line-refused (linedUp (now (a .jd1)) (now (a .jd2)) (now (a .numbers)) (a .first-count) (a .second-count) (now (a .out))) _ _ (q .result) (q .ensures) _ (c .refused .ok) (c .before .before .number .given .1) (c .refused .ensures)
+    line-refused (linedUp (now (a .jd1)) (now (a .jd2)) (now (a .numbers)) (a .first-count) (a .second-count) (now (a .out))) _ _ (q .result) (q .ensures) _
+    (c .refused .ok) (c .before .before .number .given .1) (c .refused .ensures)
 
 pub ct-line-up-spec : {M : Type 1} → statement M
 ct-line-up-spec =
     tie.close
-    (tie.spec
-    (λ c κs. search needs)
-    (λ c. search needs)
-    (λ c. search needs)
-    (λ c. search needs)
-    (λ c κs. search needs)
-    (λ c. search needs)
-    (λ c. search needs)
-    returns
-    (λ c. search needs)
-    (λ c. search needs)
-    returns-2)
+    (tie.spec (λ c κs. search needs) (λ c. search needs) (λ c. search needs) (λ c. search needs) (λ c κs. search needs) (λ c. search needs)
+    (λ c. search needs) returns (λ c. search needs) (λ c. search needs) returns-2)

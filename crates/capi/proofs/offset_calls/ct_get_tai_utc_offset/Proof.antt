@@ -22,18 +22,14 @@ returns-2 c =
     let b = p .before .before in
     let n = b .before .before .before .before in
     let s = n .before .before .before .before .before in
-    with-announced _ _ (n .read-table .result .number) (n .read-table .ensures .0 refl refl) offsetRuleBytes _ (p .put-offset .ok) (b .before .before .before .if1 .left)
-    (b .get-tai-utc-offset-by-lent .ensures ∙ read-date (λ (y m d : ℤ). offsetByRule (rowsIn (n .read-table .result .size) (n .read-table .last .1 .0) (n .read-table .last .1 .1 .0)) y m d (s .args .fraction)) _ _ _ (s .fits .year) (s .fits .month) (s .fits .day))
+    with-announced _ _ (n .read-table .result .number) (n .read-table .ensures .0 refl refl) offsetRuleBytes _ (p .put-offset .ok)
+    (b .before .before .before .if1 .left)
+    (b .get-tai-utc-offset-by-lent .ensures
+    ∙ read-date (λ (y m d : ℤ). offsetByRule (rowsIn (n .read-table .result .size) (n .read-table .last .1 .0) (n .read-table .last .1 .1 .0)) y m d
+    (s .args .fraction)) _ _ _ (s .fits .year) (s .fits .month) (s .fits .day))
     (p .put-offset .ensures)
 
 pub ct-get-tai-utc-offset-spec : {M : Type 1} → statement M
 ct-get-tai-utc-offset-spec =
     tie.close
-    (tie.spec
-    (λ c κs. search needs)
-    (λ c κs. search needs)
-    returns
-    (λ c κs. search needs)
-    (λ c κs. search needs)
-    (λ c. search needs)
-    returns-2)
+    (tie.spec (λ c κs. search needs) (λ c κs. search needs) returns (λ c κs. search needs) (λ c κs. search needs) (λ c. search needs) returns-2)

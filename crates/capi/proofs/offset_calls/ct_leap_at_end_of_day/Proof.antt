@@ -23,18 +23,15 @@ returns-2 c =
     let b = p .before .before in
     let n = b .before .before .before .before in
     let s = n .before .before .before .before .before in
-    with-announced _ _ (n .read-table .result .number) (n .read-table .ensures .0 refl refl) floatBytes _ (p .put-leap .ok) (b .before .before .before .if1 .left)
-    (ap forget (b .leap-at-end-of-day-by-lent .ensures) ∙ leap-forgets (rowsIn (n .read-table .result .size) (n .read-table .last .1 .0) (n .read-table .last .1 .1 .0)) _ _ _ ∙ read-date (leapAtEndOfDay (rowsIn (n .read-table .result .size) (n .read-table .last .1 .0) (n .read-table .last .1 .1 .0))) _ _ _ (s .fits .year) (s .fits .month) (s .fits .day))
+    with-announced _ _ (n .read-table .result .number) (n .read-table .ensures .0 refl refl) floatBytes _ (p .put-leap .ok)
+    (b .before .before .before .if1 .left)
+    (ap forget (b .leap-at-end-of-day-by-lent .ensures)
+    ∙ leap-forgets (rowsIn (n .read-table .result .size) (n .read-table .last .1 .0) (n .read-table .last .1 .1 .0)) _ _ _
+    ∙ read-date (leapAtEndOfDay (rowsIn (n .read-table .result .size) (n .read-table .last .1 .0) (n .read-table .last .1 .1 .0))) _ _ _ (s .fits .year)
+    (s .fits .month) (s .fits .day))
     (p .put-leap .ensures)
 
 pub ct-leap-at-end-of-day-spec : {M : Type 1} → statement M
 ct-leap-at-end-of-day-spec =
     tie.close
-    (tie.spec
-    (λ c κs. search needs)
-    (λ c κs. search needs)
-    returns
-    (λ c κs. search needs)
-    (λ c κs. search needs)
-    (λ c. search needs)
-    returns-2)
+    (tie.spec (λ c κs. search needs) (λ c κs. search needs) returns (λ c κs. search needs) (λ c κs. search needs) (λ c. search needs) returns-2)

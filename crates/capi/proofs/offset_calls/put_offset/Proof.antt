@@ -11,7 +11,8 @@ returns : tie.Need-returns
 unfolding secondsByRuleOutcome
 returns c =
     let p = c .before .before in
-    delivered-answer offsetRuleBytes (p .put-offset-by-rule .ok) _ (ap secondsByRuleOutcome (p .before .before .before .found .given .1)) (p .put-offset-by-rule .ensures)
+    delivered-answer offsetRuleBytes (p .put-offset-by-rule .ok) _ (ap secondsByRuleOutcome (p .before .before .before .found .given .1))
+    (p .put-offset-by-rule .ensures)
 
 returns-2 : tie.Need-returns-2
 unfolding secondsByRuleOutcome
@@ -20,11 +21,4 @@ returns-2 c = refused-on offsetRuleBytes (c .refused .ok) _ (ap secondsByRuleOut
 pub put-offset-spec : {M : Type 1} → statement M
 put-offset-spec =
     tie.close
-    (tie.spec
-    (λ c. search needs)
-    (λ c κs. search needs)
-    (λ c. search needs)
-    (λ c κs. search needs)
-    (λ c. search needs)
-    returns
-    returns-2)
+    (tie.spec (λ c. search needs) (λ c κs. search needs) (λ c. search needs) (λ c κs. search needs) (λ c. search needs) returns returns-2)

@@ -1,9 +1,8 @@
 -- `capi::order_calls::ct_compare` meets its contract. Assumes nothing.
-use mathlib.Core.Path.{_≡_, refl, sym, ap, _∙_}
+use mathlib.Core.Path.{_≡_, sym, ap, _∙_}
 use Prim.Native.Nat.{ℕ}
 use lib.IntN.{pos}
 use Rattle.refusals.specs.Outcome.{Outcome, answer, refusal, onward}
-use Rattle.julian.specs.declared.JulianDate.{JulianDate}
 use Rattle.julian.specs.JulianDate.{julian}
 use Rattle.julian.specs.order.Order.{Order, orderOutcome, comparison}
 use Rattle.c_answers.specs.Delivery.{code}
@@ -14,7 +13,8 @@ use Rattle.capi.proofs.order_calls.ct_compare.Statement.{statement}
 use Rattle.capi.proofs.order_calls.ct_compare.Tie as tie
 
 is : (c : tie.After-compare)
-    → orderOutcome (c .compare .result) ≡ comparison (julian (c .before .before .before .args .jd1) (c .before .before .before .args .jd2)) (julian (c .before .before .before .args .other1) (c .before .before .before .args .other2))
+    → orderOutcome (c .compare .result) ≡ comparison (julian (c .before .before .before .args .jd1) (c .before .before .before .args .jd2))
+    (julian (c .before .before .before .args .other1) (c .before .before .before .args .other2))
 is c = let n = c .before in c .compare .ensures ∙ λ i. comparison (n .before .new .ensures i) (n .new2 .ensures i)
 
 told : {o : Outcome Order} (x : Order) → o ≡ answer x → pos (orderNumber x) ≡ code (numbered o)
@@ -39,21 +39,11 @@ returns-3 c = told _ (sym (is (c .before .before)) ∙ ap orderOutcome (c .enum-
 
 returns-4 : tie.Need-returns-4
 unfolding orderOutcome
-returns-4 c = code-back (c .refused .ok) ∙ c .refused .ensures ∙ not-taken _ (sym (is (c .before .before .before .before)) ∙ ap orderOutcome (c .before .before .number .given .1))
+returns-4 c = code-back (c .refused .ok) ∙ c .refused .ensures
+    ∙ not-taken _ (sym (is (c .before .before .before .before)) ∙ ap orderOutcome (c .before .before .number .given .1))
 
 pub ct-compare-spec : {M : Type 1} → statement M
 ct-compare-spec =
     tie.close
-    (tie.spec
-    (λ c κs. search needs)
-    (λ c κs. search needs)
-    (λ c κs. search needs)
-    (λ c. search needs)
-    (λ c. search needs)
-    (λ c. search needs)
-    (λ c. search needs)
-    (λ c κs. search needs)
-    returns
-    returns-2
-    returns-3
-    returns-4)
+    (tie.spec (λ c κs. search needs) (λ c κs. search needs) (λ c κs. search needs) (λ c. search needs) (λ c. search needs) (λ c. search needs)
+    (λ c. search needs) (λ c κs. search needs) returns returns-2 returns-3 returns-4)

@@ -14,35 +14,28 @@ use Rattle.capi.proofs.reader_answers.put_parsed.Tie as tie
 
 returns : tie.Need-returns
 unfolding parsedBytes
-returns c = too-short (parsedBytes (c .before .before .before .args .fields)) (now (c .before .before .before .args .out)) _ (c .before .if1 .taken) (code-back (c .refused .ok) ∙ c .refused .ensures)
+returns c = too-short (parsedBytes (c .before .before .before .args .fields)) (now (c .before .before .before .args .out)) _ (c .before .if1 .taken)
+    (code-back (c .refused .ok) ∙ c .refused .ensures)
 
 returns-2 : tie.Need-returns-2
 unfolding parsedBytes dateBytes
 returns-2 c =
-    let a = c .before .before .before .before .before .before .before .before .before .before .before .before .before .before .before .before .before .before .before .args in
+    let a = c .before .before .before .before .before .before .before .before .before .before .before .before .before .before .before .before .before .before
+    .before .args in
     let f = a .fields in
-    let e = toZ-ofZ {z = f .year} (record { sfits = c .before .before .before .before .before .before .before .before .before .before .before .before .before .before .struct-told .given .0 .1 }) in
-    of-bytes (λ i. fourBytes (patternOf (e i)) ++ (fourBytes (f .month) ++ (fourBytes (f .day) ++ (fourBytes (f .hour) ++ (fourBytes (f .minute) ++ floatBytes (f .second))))))
-    (in-three _ (fourBytes (f .hour) ++ fourBytes (f .minute)) (floatBytes (f .second)) (now (a .out)) _ _ _ _ 12 20 28 refl refl refl (c .before .before .before .before .before .before .before .before .before .before .before .before .before .before .before .before .before .if1 .left) (c .before .before .before .before .before .before .before .before .before .before .before .before .put-date .ensures) (c .before .before .before .before .before .before .put-two-numbers .ensures) refl (c .before .before .put-float .ensures))
+    let e = toZ-ofZ {z = f .year} (record {
+      sfits = c .before .before .before .before .before .before .before .before .before .before .before .before .before .before .struct-told .given .0 .1;
+    }) in
+    of-bytes (λ i. fourBytes (patternOf (e i))
+    ++ (fourBytes (f .month) ++ (fourBytes (f .day) ++ (fourBytes (f .hour) ++ (fourBytes (f .minute) ++ floatBytes (f .second))))))
+    (in-three _ (fourBytes (f .hour) ++ fourBytes (f .minute)) (floatBytes (f .second)) (now (a .out)) _ _ _ _ 12 20 28 refl refl refl
+    (c .before .before .before .before .before .before .before .before .before .before .before .before .before .before .before .before .before .if1 .left)
+    (c .before .before .before .before .before .before .before .before .before .before .before .before .put-date .ensures)
+    (c .before .before .before .before .before .before .put-two-numbers .ensures) refl (c .before .before .put-float .ensures))
 
 pub put-parsed-spec : {M : Type 1} → statement M
 put-parsed-spec =
     tie.close
-    (tie.spec
-    (λ c κs. search needs)
-    returns
-    (λ c. search needs)
-    (λ c. search needs)
-    (λ c κs. search needs)
-    (λ c. search needs)
-    (λ c. search needs)
-    (λ c. search needs)
-    (λ c. search needs)
-    (λ c. search needs)
-    (λ c κs. search needs)
-    (λ c. search needs)
-    (λ c. search needs)
-    (λ c. search needs)
-    (λ c κs. search needs)
-    (λ c. search needs)
-    returns-2)
+    (tie.spec (λ c κs. search needs) returns (λ c. search needs) (λ c. search needs) (λ c κs. search needs) (λ c. search needs) (λ c. search needs)
+    (λ c. search needs) (λ c. search needs) (λ c. search needs) (λ c κs. search needs) (λ c. search needs) (λ c. search needs) (λ c. search needs)
+    (λ c κs. search needs) (λ c. search needs) returns-2)

@@ -11,24 +11,19 @@ use Rattle.capi.proofs.reader_answers.put_parsed_utc.Tie as tie
 
 returns : tie.Need-returns
 unfolding parsedUtcBytes parsedBytes julianBytes
-returns c = too-short (parsedUtcBytes (c .before .before .before .args .read)) (now (c .before .before .before .args .out)) _ (c .before .if1 .taken) (code-back (c .refused .ok) ∙ c .refused .ensures)
+returns c = too-short (parsedUtcBytes (c .before .before .before .args .read)) (now (c .before .before .before .args .out)) _ (c .before .if1 .taken)
+    (code-back (c .refused .ok) ∙ c .refused .ensures)
 
 returns-2 : tie.Need-returns-2
 unfolding parsedUtcBytes parsedBytes julianBytes
 returns-2 c =
     let a = c .before .before .before .before .before .before .before .before .before .before .before .before .args in
-    in-two (parsedBytes (a .read .fields)) (julianBytes (a .read .date .0)) (now (a .out)) _ _ 28 44 refl refl (c .before .before .before .before .before .before .before .before .before .before .if1 .left) (c .before .before .before .before .before .before .put-parsed .ensures) (c .before .before .put-julian .ensures)
+    in-two (parsedBytes (a .read .fields)) (julianBytes (a .read .date .0)) (now (a .out)) _ _ 28 44 refl refl
+    (c .before .before .before .before .before .before .before .before .before .before .if1 .left)
+    (c .before .before .before .before .before .before .put-parsed .ensures) (c .before .before .put-julian .ensures)
 
 pub put-parsed-utc-spec : {M : Type 1} → statement M
 put-parsed-utc-spec =
     tie.close
-    (tie.spec
-    (λ c κs. search needs)
-    returns
-    (λ c κs. search needs)
-    (λ c. search needs)
-    (λ c. search needs)
-    (λ c. search needs)
-    (λ c κs. search needs)
-    (λ c. search needs)
-    returns-2)
+    (tie.spec (λ c κs. search needs) returns (λ c κs. search needs) (λ c. search needs) (λ c. search needs) (λ c. search needs) (λ c κs. search needs)
+    (λ c. search needs) returns-2)

@@ -20,11 +20,4 @@ returns-2 c = refused-on parsedBytes (c .refused .ok) _ (ap parsedOutcome (c .be
 pub put-parsed-spec : {M : Type 1} → statement M
 put-parsed-spec =
     tie.close
-    (tie.spec
-    (λ c. search needs)
-    (λ c κs. search needs)
-    (λ c. search needs)
-    (λ c κs. search needs)
-    (λ c. search needs)
-    returns
-    returns-2)
+    (tie.spec (λ c. search needs) (λ c κs. search needs) (λ c. search needs) (λ c κs. search needs) (λ c. search needs) returns returns-2)

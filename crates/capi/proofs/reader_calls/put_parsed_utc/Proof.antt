@@ -20,11 +20,4 @@ returns-2 c = refused-on parsedUtcBytes (c .refused .ok) _ (ap parsedUtcOutcome 
 pub put-parsed-utc-spec : {M : Type 1} → statement M
 put-parsed-utc-spec =
     tie.close
-    (tie.spec
-    (λ c. search needs)
-    (λ c κs. search needs)
-    (λ c. search needs)
-    (λ c κs. search needs)
-    (λ c. search needs)
-    returns
-    returns-2)
+    (tie.spec (λ c. search needs) (λ c κs. search needs) (λ c. search needs) (λ c κs. search needs) (λ c. search needs) returns returns-2)

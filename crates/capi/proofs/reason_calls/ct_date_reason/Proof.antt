@@ -11,7 +11,8 @@ returns : tie.Need-returns
 returns c =
     let t = c .before .before in
     let s = t .before .before .before in
-    told-on (t .told .ok) (λ i. sentence (s .args .number) (Date (toZ-ofZ (s .fits .year) i) (toZ-ofZ (s .fits .month) i) (toZ-ofZ (s .fits .day) i))) (t .told .ensures)
+    told-on (t .told .ok) (λ i. sentence (s .args .number) (Date (toZ-ofZ (s .fits .year) i) (toZ-ofZ (s .fits .month) i) (toZ-ofZ (s .fits .day) i)))
+    (t .told .ensures)
 
 pub ct-date-reason-spec : {M : Type 1} → statement M
 ct-date-reason-spec = tie.close (tie.spec (λ c κs. search needs) (λ c. search needs) returns)

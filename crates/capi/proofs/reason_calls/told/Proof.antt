@@ -8,26 +8,26 @@ use Rattle.capi.proofs.reason_calls.told.Tie as tie
 cast-result : tie.Need-cast-result
 cast-result c =
     let q = c .before .before .before .before .before .put-reason in
-    record { sfits = omega (arith, text-count (q .ensures) _ (c .before .n .given .1), c .before .before .before .before .before .before .before .before .good) }
+    record {
+      sfits = omega (
+        arith,
+        text-count (q .ensures) _ (c .before .n .given .1),
+        c .before .before .before .before .before .before .before .before .good,
+      );
+    }
 
 returns : tie.Need-returns
 returns c =
     let q = c .before .before .before .before .before .put-reason in
-    text-put (q .ensures) _ (c .before .n .given .1) (omega (arith, text-count (q .ensures) _ (c .before .n .given .1), c .before .before .before .before .before .before .before .before .good))
+    text-put (q .ensures) _ (c .before .n .given .1)
+    (omega (arith, text-count (q .ensures) _ (c .before .n .given .1), c .before .before .before .before .before .before .before .before .good))
 
 returns-2 : tie.Need-returns-2
-returns-2 c = text-refused (c .before .before .before .before .before .before .put-reason .ensures) _ (c .refused .ok) (c .before .before .other .given .1) (c .refused .ensures)
+returns-2 c = text-refused (c .before .before .before .before .before .before .put-reason .ensures) _ (c .refused .ok) (c .before .before .other .given .1)
+    (c .refused .ensures)
 
 pub told-spec : {M : Type 1} → statement M
 told-spec =
     tie.close
-    (tie.spec
-    (λ c κs. search needs)
-    (λ c. search needs)
-    cast-result
-    (λ c. search needs)
-    (λ c κs. search needs)
-    (λ c. search needs)
-    returns
-    (λ c. search needs)
-    returns-2)
+    (tie.spec (λ c κs. search needs) (λ c. search needs) cast-result (λ c. search needs) (λ c κs. search needs) (λ c. search needs) returns
+    (λ c. search needs) returns-2)

@@ -11,7 +11,8 @@ returns : tie.Need-returns
 returns c =
     let n = c .before .before in
     let s = n .before .before .before .before .before .before .before .before .before in
-    run-table-refused _ _ (n .read-table .result .number) (n .read-table .ensures .0 refl refl) (s .args .from) (s .args .to) (now (s .args .jd1)) (now (s .args .jd2)) (now (s .args .out1)) (now (s .args .out2)) (now (s .args .numbers)) (c .refused .ok) (c .before .if1 .taken) (c .refused .ensures)
+    run-table-refused _ _ (n .read-table .result .number) (n .read-table .ensures .0 refl refl) (s .args .from) (s .args .to) (now (s .args .jd1))
+    (now (s .args .jd2)) (now (s .args .out1)) (now (s .args .out2)) (now (s .args .numbers)) (c .refused .ok) (c .before .if1 .taken) (c .refused .ensures)
 
 cast-result : tie.Need-cast-result
 cast-result c =
@@ -19,7 +20,15 @@ cast-result c =
     let n = i .before in
     let s = n .before .before .before .before .before .before .before .before .before in
     let f = c .before .before .before .before .before .before .before .before .before in
-    record { sfits = omega (arith, run-counted _ _ (n .read-table .result .number) (n .read-table .ensures .0 refl refl) (s .args .from) (s .args .to) (now (s .args .jd1)) (now (s .args .jd2)) (now (s .args .out1)) (now (s .args .out2)) (now (s .args .numbers)) (i .if1 .left) (f .convert-run-by-lent .result) (f .convert-run-by-lent .ensures) _ (c .before .n .given .1), s .good) }
+    record {
+      sfits = omega (
+        arith,
+        run-counted _ _ (n .read-table .result .number) (n .read-table .ensures .0 refl refl) (s .args .from) (s .args .to)
+            (now (s .args .jd1)) (now (s .args .jd2)) (now (s .args .out1)) (now (s .args .out2)) (now (s .args .numbers)) (i .if1 .left)
+            (f .convert-run-by-lent .result) (f .convert-run-by-lent .ensures) _ (c .before .n .given .1),
+        s .good,
+      );
+    }
 
 returns-2 : tie.Need-returns-2
 returns-2 c =
@@ -27,8 +36,16 @@ returns-2 c =
     let n = i .before in
     let s = n .before .before .before .before .before .before .before .before .before in
     let f = c .before .before .before .before .before .before .before .before .before in
-    run-converted _ _ (n .read-table .result .number) (n .read-table .ensures .0 refl refl) (s .args .from) (s .args .to) (now (s .args .jd1)) (now (s .args .jd2)) (now (s .args .out1)) (now (s .args .out2)) (now (s .args .numbers)) (i .if1 .left) (f .convert-run-by-lent .result) (f .convert-run-by-lent .ensures) _ (c .before .n .given .1)
-    (omega (arith, run-counted _ _ (n .read-table .result .number) (n .read-table .ensures .0 refl refl) (s .args .from) (s .args .to) (now (s .args .jd1)) (now (s .args .jd2)) (now (s .args .out1)) (now (s .args .out2)) (now (s .args .numbers)) (i .if1 .left) (f .convert-run-by-lent .result) (f .convert-run-by-lent .ensures) _ (c .before .n .given .1), s .good))
+    run-converted _ _ (n .read-table .result .number) (n .read-table .ensures .0 refl refl) (s .args .from) (s .args .to) (now (s .args .jd1))
+    (now (s .args .jd2)) (now (s .args .out1)) (now (s .args .out2)) (now (s .args .numbers)) (i .if1 .left) (f .convert-run-by-lent .result)
+    (f .convert-run-by-lent .ensures) _ (c .before .n .given .1)
+    (omega (
+      arith,
+      run-counted _ _ (n .read-table .result .number) (n .read-table .ensures .0 refl refl) (s .args .from) (s .args .to) (now (s .args .jd1))
+          (now (s .args .jd2)) (now (s .args .out1)) (now (s .args .out2)) (now (s .args .numbers)) (i .if1 .left) (f .convert-run-by-lent .result)
+          (f .convert-run-by-lent .ensures) _ (c .before .n .given .1),
+      s .good,
+    ))
 
 returns-3 : tie.Need-returns-3
 returns-3 c =
@@ -36,25 +53,13 @@ returns-3 c =
     let n = i .before in
     let s = n .before .before .before .before .before .before .before .before .before in
     let f = c .before .before .before .before .before .before .before .before .before .before in
-    run-refused _ _ (n .read-table .result .number) (n .read-table .ensures .0 refl refl) (s .args .from) (s .args .to) (now (s .args .jd1)) (now (s .args .jd2)) (now (s .args .out1)) (now (s .args .out2)) (now (s .args .numbers)) (i .if1 .left) (f .convert-run-by-lent .result) (f .convert-run-by-lent .ensures) _ (c .refused2 .ok) (c .before .before .number .given .1) (c .refused2 .ensures)
+    run-refused _ _ (n .read-table .result .number) (n .read-table .ensures .0 refl refl) (s .args .from) (s .args .to) (now (s .args .jd1))
+    (now (s .args .jd2)) (now (s .args .out1)) (now (s .args .out2)) (now (s .args .numbers)) (i .if1 .left) (f .convert-run-by-lent .result)
+    (f .convert-run-by-lent .ensures) _ (c .refused2 .ok) (c .before .before .number .given .1) (c .refused2 .ensures)
 
 pub ct-convert-run-spec : {M : Type 1} → statement M
 ct-convert-run-spec =
     tie.close
-    (tie.spec
-    (λ c κs. search needs)
-    (λ c κs. search needs)
-    returns
-    (λ c κs. search needs)
-    (λ c. search needs)
-    cast-result
-    (λ c. search needs)
-    (λ c κs. search needs)
-    (λ c. search needs)
-    (λ c. search needs)
-    (λ c. search needs)
-    returns-2
-    (λ c. search needs)
-    (λ c. search needs)
-    (λ c. search needs)
-    returns-3)
+    (tie.spec (λ c κs. search needs) (λ c κs. search needs) returns (λ c κs. search needs) (λ c. search needs) cast-result (λ c. search needs)
+    (λ c κs. search needs) (λ c. search needs) (λ c. search needs) (λ c. search needs) returns-2 (λ c. search needs) (λ c. search needs)
+    (λ c. search needs) returns-3)

@@ -8,36 +8,40 @@ use Rattle.capi.proofs.run_calls.ct_formula_run.Tie as tie
 
 cast-result : tie.Need-cast-result
 cast-result c =
-    let s = c .before .before .before .before .before .before .before .before .before .before .before .before .before .before .before .before .before .before .before in
+    let s = c .before .before .before .before .before .before .before .before .before .before .before .before .before .before .before .before .before .before
+    .before in
     let f = c .before .before .before .before .before .before .before .before .before in
-    record { sfits = omega (arith, formula-counted (s .args .from) (s .args .to) (now (s .args .jd1)) (now (s .args .jd2)) (now (s .args .offsets)) (now (s .args .out1)) (now (s .args .out2)) (now (s .args .numbers)) (f .formula-run .result) (f .formula-run .ensures) _ (c .before .n .given .1), s .good) }
+    record {
+      sfits = omega (
+        arith,
+        formula-counted (s .args .from) (s .args .to) (now (s .args .jd1)) (now (s .args .jd2)) (now (s .args .offsets))
+            (now (s .args .out1)) (now (s .args .out2)) (now (s .args .numbers)) (f .formula-run .result) (f .formula-run .ensures) _ (c .before .n .given .1),
+        s .good,
+      );
+    }
 
 returns : tie.Need-returns
 returns c =
-    let s = c .before .before .before .before .before .before .before .before .before .before .before .before .before .before .before .before .before .before .before in
+    let s = c .before .before .before .before .before .before .before .before .before .before .before .before .before .before .before .before .before .before
+    .before in
     let f = c .before .before .before .before .before .before .before .before .before in
-    all-converted _ (f .formula-run .result) (f .formula-run .ensures) _ (c .before .n .given .1) (omega (arith, formula-counted (s .args .from) (s .args .to) (now (s .args .jd1)) (now (s .args .jd2)) (now (s .args .offsets)) (now (s .args .out1)) (now (s .args .out2)) (now (s .args .numbers)) (f .formula-run .result) (f .formula-run .ensures) _ (c .before .n .given .1), s .good))
+    all-converted _ (f .formula-run .result) (f .formula-run .ensures) _ (c .before .n .given .1)
+    (omega (
+      arith,
+      formula-counted (s .args .from) (s .args .to) (now (s .args .jd1)) (now (s .args .jd2)) (now (s .args .offsets)) (now (s .args .out1))
+          (now (s .args .out2)) (now (s .args .numbers)) (f .formula-run .result) (f .formula-run .ensures) _ (c .before .n .given .1),
+      s .good,
+    ))
 
 returns-2 : tie.Need-returns-2
 returns-2 c =
-    let s = c .before .before .before .before .before .before .before .before .before .before .before .before .before .before .before .before .before .before .before .before in
+    let s = c .before .before .before .before .before .before .before .before .before .before .before .before .before .before .before .before .before .before
+    .before .before in
     let f = c .before .before .before .before .before .before .before .before .before .before in
     all-refused _ (f .formula-run .result) (f .formula-run .ensures) _ (c .refused .ok) (c .before .before .number .given .1) (c .refused .ensures)
 
 pub ct-formula-run-spec : {M : Type 1} → statement M
 ct-formula-run-spec =
     tie.close
-    (tie.spec
-    (λ c κs. search needs)
-    (λ c. search needs)
-    cast-result
-    (λ c. search needs)
-    (λ c κs. search needs)
-    (λ c. search needs)
-    (λ c. search needs)
-    (λ c. search needs)
-    returns
-    (λ c. search needs)
-    (λ c. search needs)
-    (λ c. search needs)
-    returns-2)
+    (tie.spec (λ c κs. search needs) (λ c. search needs) cast-result (λ c. search needs) (λ c κs. search needs) (λ c. search needs)
+    (λ c. search needs) (λ c. search needs) returns (λ c. search needs) (λ c. search needs) (λ c. search needs) returns-2)

@@ -5,11 +5,6 @@ use borrow.Author.Needs.{needs}
 use Rattle.capi.proofs.same_stamp_calls.ct_same_stamp.Statement.{statement}
 use Rattle.capi.proofs.same_stamp_calls.ct_same_stamp.Tie as tie
 
-returns : tie.Need-returns
-returns c = ap truth (sym (c .if1 .taken) ∙ c .before .same-stamp .ensures)
-
-returns-2 : tie.Need-returns-2
-returns-2 c = ap truth (sym (c .if1 .left) ∙ c .before .same-stamp .ensures)
-
 pub ct-same-stamp-spec : {M : Type 1} → statement M
-ct-same-stamp-spec = tie.close (tie.spec (λ c κs. search needs) returns returns-2)
+ct-same-stamp-spec = tie.close (tie.spec (λ c κs. search needs) (λ c. ap truth (sym (c .if1 .taken) ∙ c .before .same-stamp .ensures))
+    (λ c. ap truth (sym (c .if1 .left) ∙ c .before .same-stamp .ensures)))

@@ -20,11 +20,4 @@ returns-2 c = refused-on julianBytes (c .refused .ok) _ (ap gpsOutcome (c .befor
 pub put-gps-spec : {M : Type 1} → statement M
 put-gps-spec =
     tie.close
-    (tie.spec
-    (λ c. search needs)
-    (λ c κs. search needs)
-    (λ c. search needs)
-    (λ c κs. search needs)
-    (λ c. search needs)
-    returns
-    returns-2)
+    (tie.spec (λ c. search needs) (λ c κs. search needs) (λ c. search needs) (λ c κs. search needs) (λ c. search needs) returns returns-2)

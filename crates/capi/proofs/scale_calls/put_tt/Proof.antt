@@ -20,11 +20,4 @@ returns-2 c = refused-on julianBytes (c .refused .ok) _ (ap ttOutcome (c .before
 pub put-tt-spec : {M : Type 1} → statement M
 put-tt-spec =
     tie.close
-    (tie.spec
-    (λ c. search needs)
-    (λ c κs. search needs)
-    (λ c. search needs)
-    (λ c κs. search needs)
-    (λ c. search needs)
-    returns
-    returns-2)
+    (tie.spec (λ c. search needs) (λ c κs. search needs) (λ c. search needs) (λ c κs. search needs) (λ c. search needs) returns returns-2)

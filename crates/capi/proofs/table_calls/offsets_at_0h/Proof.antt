@@ -17,7 +17,14 @@ cast-result c =
     let n = q .before .before in
     let i = n .before in
     let s = i .before .before .before .before in
-    record { sfits = omega (arith, walk-count _ (now (s .args .dates)) (now (s .args .out)) (i .if1 .left) (n .announced-rows-at .result) (n .announced-rows-at .ensures) (q .offsets-at-0h-bytes .result) (q .offsets-at-0h-bytes .ensures) _ (c .before .n .given .1), s .good) }
+    record {
+      sfits = omega (
+        arith,
+        walk-count _ (now (s .args .dates)) (now (s .args .out)) (i .if1 .left) (n .announced-rows-at .result)
+            (n .announced-rows-at .ensures) (q .offsets-at-0h-bytes .result) (q .offsets-at-0h-bytes .ensures) _ (c .before .n .given .1),
+        s .good,
+      );
+    }
 
 returns-2 : tie.Need-returns-2
 returns-2 c =
@@ -25,7 +32,14 @@ returns-2 c =
     let n = q .before .before in
     let i = n .before in
     let s = i .before .before .before .before in
-    walk-compared _ (now (s .args .dates)) (now (s .args .out)) (i .if1 .left) (n .announced-rows-at .result) (n .announced-rows-at .ensures) (q .offsets-at-0h-bytes .result) (q .offsets-at-0h-bytes .ensures) _ (c .before .n .given .1) (omega (arith, walk-count _ (now (s .args .dates)) (now (s .args .out)) (i .if1 .left) (n .announced-rows-at .result) (n .announced-rows-at .ensures) (q .offsets-at-0h-bytes .result) (q .offsets-at-0h-bytes .ensures) _ (c .before .n .given .1), s .good))
+    walk-compared _ (now (s .args .dates)) (now (s .args .out)) (i .if1 .left) (n .announced-rows-at .result) (n .announced-rows-at .ensures)
+    (q .offsets-at-0h-bytes .result) (q .offsets-at-0h-bytes .ensures) _ (c .before .n .given .1)
+    (omega (
+      arith,
+      walk-count _ (now (s .args .dates)) (now (s .args .out)) (i .if1 .left) (n .announced-rows-at .result) (n .announced-rows-at .ensures)
+          (q .offsets-at-0h-bytes .result) (q .offsets-at-0h-bytes .ensures) _ (c .before .n .given .1),
+      s .good,
+    ))
 
 returns-3 : tie.Need-returns-3
 returns-3 c =
@@ -33,21 +47,11 @@ returns-3 c =
     let n = q .before .before in
     let i = n .before in
     let s = i .before .before .before .before in
-    walk-refused _ (now (s .args .dates)) (now (s .args .out)) (i .if1 .left) (n .announced-rows-at .result) (n .announced-rows-at .ensures) (q .offsets-at-0h-bytes .result) (q .offsets-at-0h-bytes .ensures) _ (c .refused2 .ok) (c .before .before .number .given .1) (c .refused2 .ensures)
+    walk-refused _ (now (s .args .dates)) (now (s .args .out)) (i .if1 .left) (n .announced-rows-at .result) (n .announced-rows-at .ensures)
+    (q .offsets-at-0h-bytes .result) (q .offsets-at-0h-bytes .ensures) _ (c .refused2 .ok) (c .before .before .number .given .1) (c .refused2 .ensures)
 
 pub offsets-at-0h-spec : {M : Type 1} → statement M
 offsets-at-0h-spec =
     tie.close
-    (tie.spec
-    (λ c κs. search needs)
-    returns
-    (λ c κs. search needs)
-    (λ c κs. search needs)
-    (λ c. search needs)
-    cast-result
-    (λ c. search needs)
-    (λ c κs. search needs)
-    (λ c. search needs)
-    returns-2
-    (λ c. search needs)
-    returns-3)
+    (tie.spec (λ c κs. search needs) returns (λ c κs. search needs) (λ c κs. search needs) (λ c. search needs) cast-result (λ c. search needs)
+    (λ c κs. search needs) (λ c. search needs) returns-2 (λ c. search needs) returns-3)

@@ -15,16 +15,10 @@ returns-2 c =
     let p = c .before .before .before .before in
     let b = p .before .before .before .before .before in
     let n = b .before in
-    text-with-announced _ _ (n .read-table .result .number) (n .read-table .ensures .0 refl refl) _ (p .put-half-even .ok) (b .if1 .left) (p .put-half-even .ensures)
+    text-with-announced _ _ (n .read-table .result .number) (n .read-table .ensures .0 refl refl) _ (p .put-half-even .ok) (b .if1 .left)
+    (p .put-half-even .ensures)
 
 pub ct-to-iso8601-half-even-spec : {M : Type 1} → statement M
 ct-to-iso8601-half-even-spec =
     tie.close
-    (tie.spec
-    (λ c κs. search needs)
-    (λ c κs. search needs)
-    returns
-    (λ c κs. search needs)
-    (λ c. search needs)
-    (λ c. search needs)
-    returns-2)
+    (tie.spec (λ c κs. search needs) (λ c κs. search needs) returns (λ c κs. search needs) (λ c. search needs) (λ c. search needs) returns-2)

@@ -12,30 +12,24 @@ returns c = short-rule _ _ _ (c .no-room-for-rule .ok) (c .before .if1 .taken) (
 
 cast-result : tie.Need-cast-result
 unfolding formNamed
-cast-result c = count-fits _ (text-few Expanded _ _) (c .before .before .before .before .before .before .before .before .before .to-iso8601-expanded-by-lent .ensures) (c .before .before .before .before .before .n .given .1)
+cast-result c = count-fits _ (text-few Expanded _ _)
+    (c .before .before .before .before .before .before .before .before .before .to-iso8601-expanded-by-lent .ensures)
+    (c .before .before .before .before .before .n .given .1)
 
 returns-2 : tie.Need-returns-2
 unfolding formNamed
-returns-2 c = two-refused _ (text-few Expanded _ _) (c .before .before .before .before .before .before .to-iso8601-expanded-by-lent .ensures) _ (c .refused .ok) (c .before .before .number .given .1) (c .refused .ensures)
+returns-2 c = two-refused _ (text-few Expanded _ _) (c .before .before .before .before .before .before .to-iso8601-expanded-by-lent .ensures) _
+    (c .refused .ok) (c .before .before .number .given .1) (c .refused .ensures)
 
 returns-3 : tie.Need-returns-3
 unfolding formNamed
-returns-3 c = two-written _ (text-few Expanded _ _) (c .before .before .before .before .before .before .before .before .before .to-iso8601-expanded-by-lent .ensures) (c .before .before .before .before .before .n .given .1) (c .before .before .before .before .before .before .before .before .before .before .before .if1 .left) (c .before .before .put-rule .ensures)
+returns-3 c = two-written _ (text-few Expanded _ _)
+    (c .before .before .before .before .before .before .before .before .before .to-iso8601-expanded-by-lent .ensures)
+    (c .before .before .before .before .before .n .given .1)
+    (c .before .before .before .before .before .before .before .before .before .before .before .if1 .left) (c .before .before .put-rule .ensures)
 
 pub put-expanded-spec : {M : Type 1} → statement M
 put-expanded-spec =
     tie.close
-    (tie.spec
-    (λ c κs. search needs)
-    returns
-    (λ c κs. search needs)
-    (λ c. search needs)
-    (λ c κs. search needs)
-    (λ c. search needs)
-    (λ c κs. search needs)
-    cast-result
-    (λ c. search needs)
-    returns-2
-    (λ c. search needs)
-    (λ c. search needs)
-    returns-3)
+    (tie.spec (λ c κs. search needs) returns (λ c κs. search needs) (λ c. search needs) (λ c κs. search needs) (λ c. search needs)
+    (λ c κs. search needs) cast-result (λ c. search needs) returns-2 (λ c. search needs) (λ c. search needs) returns-3)

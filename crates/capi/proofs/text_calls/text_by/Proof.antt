@@ -16,29 +16,21 @@ rows s = rowsIn (s .args .size) (now (s .args .months)) (now (s .args .seconds))
 
 returns : tie.Need-returns
 unfolding formNamed
-returns c = let s = c .before .before .before .before .before .before .before in named-call (s .args .textForm) Document01 (rows s) (s .args .date .0) (c .before .before .before .before .enum-told .given .1) (c .before .before .to-iso8601-by-lent .ensures)
+returns c = let s = c .before .before .before .before .before .before .before in named-call (s .args .textForm) Document01 (rows s) (s .args .date .0)
+    (c .before .before .before .before .enum-told .given .1) (c .before .before .to-iso8601-by-lent .ensures)
 
 returns-2 : tie.Need-returns-2
 unfolding formNamed
-returns-2 c = let s = c .before .before .before .before .before .before .before in named-call (s .args .textForm) HalfEven (rows s) (s .args .date .0) (c .before .before .before .before .enum-told2 .given .1) (c .before .before .to-iso8601-half-even-by-lent .ensures)
+returns-2 c = let s = c .before .before .before .before .before .before .before in named-call (s .args .textForm) HalfEven (rows s) (s .args .date .0)
+    (c .before .before .before .before .enum-told2 .given .1) (c .before .before .to-iso8601-half-even-by-lent .ensures)
 
 returns-3 : tie.Need-returns-3
 unfolding formNamed
-returns-3 c = let s = c .before .before .before .before .before .before .before in named-call (s .args .textForm) Expanded (rows s) (s .args .date .0) (c .before .before .before .before .enum-told3 .given .1) (c .before .before .to-iso8601-expanded-by-lent .ensures)
+returns-3 c = let s = c .before .before .before .before .before .before .before in named-call (s .args .textForm) Expanded (rows s) (s .args .date .0)
+    (c .before .before .before .before .enum-told3 .given .1) (c .before .before .to-iso8601-expanded-by-lent .ensures)
 
 pub text-by-spec : {M : Type 1} → statement M
 text-by-spec =
     tie.close
-    (tie.spec
-    (λ c. search needs)
-    (λ c κs. search needs)
-    (λ c. search needs)
-    (λ c κs. search needs)
-    (λ c. search needs)
-    (λ c κs. search needs)
-    (λ c. search needs)
-    returns
-    (λ c. search needs)
-    returns-2
-    (λ c. search needs)
-    returns-3)
+    (tie.spec (λ c. search needs) (λ c κs. search needs) (λ c. search needs) (λ c κs. search needs) (λ c. search needs) (λ c κs. search needs)
+    (λ c. search needs) returns (λ c. search needs) returns-2 (λ c. search needs) returns-3)

@@ -14,32 +14,40 @@ cast-result c =
     let s = c .before .before .before .before .before .before .before .before .before .before .before in
     let a = s .args in
     let q = c .before .before .before .before .before .place-ticks in
-    record { sfits = omega (arith, ticks-count (placedTicks (now (a .pass-ticks)) (now (a .pass-millis)) (now (a .ticks)) (length (now (a .out)))) (now (a .out)) _ (q .result) (placed-fits (now (a .pass-ticks)) (now (a .pass-millis)) (now (a .ticks)) (length (now (a .out)))) (q .ensures) _ (c .before .n .given .1), s .good) }
+    record {
+      sfits = omega (
+        arith,
+        ticks-count (placedTicks (now (a .pass-ticks)) (now (a .pass-millis)) (now (a .ticks)) (length (now (a .out))))
+            (now (a .out)) _ (q .result) (placed-fits (now (a .pass-ticks)) (now (a .pass-millis)) (now (a .ticks)) (length (now (a .out)))) (q .ensures) _
+            (c .before .n .given .1),
+        s .good,
+      );
+    }
 
 returns : tie.Need-returns
 returns c =
     let s = c .before .before .before .before .before .before .before .before .before .before .before in
     let a = s .args in
     let q = c .before .before .before .before .before .place-ticks in
-    ticks-put (placedTicks (now (a .pass-ticks)) (now (a .pass-millis)) (now (a .ticks)) (length (now (a .out)))) (now (a .out)) _ (q .result) (placed-fits (now (a .pass-ticks)) (now (a .pass-millis)) (now (a .ticks)) (length (now (a .out)))) (q .ensures) _ (c .before .n .given .1)
-    (omega (arith, ticks-count (placedTicks (now (a .pass-ticks)) (now (a .pass-millis)) (now (a .ticks)) (length (now (a .out)))) (now (a .out)) _ (q .result) (placed-fits (now (a .pass-ticks)) (now (a .pass-millis)) (now (a .ticks)) (length (now (a .out)))) (q .ensures) _ (c .before .n .given .1), s .good))
+    ticks-put (placedTicks (now (a .pass-ticks)) (now (a .pass-millis)) (now (a .ticks)) (length (now (a .out)))) (now (a .out)) _ (q .result)
+    (placed-fits (now (a .pass-ticks)) (now (a .pass-millis)) (now (a .ticks)) (length (now (a .out)))) (q .ensures) _ (c .before .n .given .1)
+    (omega (
+      arith,
+      ticks-count (placedTicks (now (a .pass-ticks)) (now (a .pass-millis)) (now (a .ticks)) (length (now (a .out)))) (now (a .out)) _
+          (q .result) (placed-fits (now (a .pass-ticks)) (now (a .pass-millis)) (now (a .ticks)) (length (now (a .out)))) (q .ensures) _
+          (c .before .n .given .1),
+      s .good,
+    ))
 
 returns-2 : tie.Need-returns-2
 returns-2 c =
     let a = c .before .before .before .before .before .before .before .before .before .before .before .before .args in
     let q = c .before .before .before .before .before .before .place-ticks in
-    ticks-refused (placedTicks (now (a .pass-ticks)) (now (a .pass-millis)) (now (a .ticks)) (length (now (a .out)))) (now (a .out)) _ (q .result) (q .ensures) _ (c .refused .ok) (c .before .before .number .given .1) (c .refused .ensures)
+    ticks-refused (placedTicks (now (a .pass-ticks)) (now (a .pass-millis)) (now (a .ticks)) (length (now (a .out)))) (now (a .out)) _ (q .result)
+    (q .ensures) _ (c .refused .ok) (c .before .before .number .given .1) (c .refused .ensures)
 
 pub ct-place-ticks-spec : {M : Type 1} → statement M
 ct-place-ticks-spec =
     tie.close
-    (tie.spec
-    (λ c κs. search needs)
-    (λ c. search needs)
-    cast-result
-    (λ c. search needs)
-    (λ c κs. search needs)
-    (λ c. search needs)
-    returns
-    (λ c. search needs)
-    returns-2)
+    (tie.spec (λ c κs. search needs) (λ c. search needs) cast-result (λ c. search needs) (λ c κs. search needs) (λ c. search needs) returns
+    (λ c. search needs) returns-2)

@@ -17,18 +17,12 @@ returns-2 c =
     let p = c .before .before in
     let b = p .before .before in
     let n = b .before .before .before .before in
-    with-announced _ _ (n .read-table .result .number) (n .read-table .ensures .0 refl refl) julianBytes _ (p .put-utc .ok) (b .before .before .before .if1 .left)
+    with-announced _ _ (n .read-table .result .number) (n .read-table .ensures .0 refl refl) julianBytes _ (p .put-utc .ok)
+    (b .before .before .before .if1 .left)
     (b .tai-to-utc-by-lent .ensures)
     (p .put-utc .ensures)
 
 pub ct-tai-to-utc-spec : {M : Type 1} → statement M
 ct-tai-to-utc-spec =
     tie.close
-    (tie.spec
-    (λ c κs. search needs)
-    (λ c κs. search needs)
-    returns
-    (λ c κs. search needs)
-    (λ c κs. search needs)
-    (λ c. search needs)
-    returns-2)
+    (tie.spec (λ c κs. search needs) (λ c κs. search needs) returns (λ c κs. search needs) (λ c κs. search needs) (λ c. search needs) returns-2)

@@ -22,18 +22,13 @@ returns-2 c =
     let b = p .before .before in
     let n = b .before .before .before .before in
     let s = n .before .before .before .before .before in
-    with-announced _ _ (n .read-table .result .number) (n .read-table .ensures .0 refl refl) julianBytes _ (p .put-utc .ok) (b .before .before .before .if1 .left)
-    (b .new-by-lent .ensures ∙ ap (λ (z : ℤ). utcNew (rowsIn (n .read-table .result .size) (n .read-table .last .1 .0) (n .read-table .last .1 .1 .0)) z (s .args .nanos)) (toZ-ofZ (s .fits .seconds)))
+    with-announced _ _ (n .read-table .result .number) (n .read-table .ensures .0 refl refl) julianBytes _ (p .put-utc .ok)
+    (b .before .before .before .if1 .left)
+    (b .new-by-lent .ensures ∙ ap (λ (z : ℤ). utcNew (rowsIn (n .read-table .result .size) (n .read-table .last .1 .0) (n .read-table .last .1 .1 .0)) z
+    (s .args .nanos)) (toZ-ofZ (s .fits .seconds)))
     (p .put-utc .ensures)
 
 pub ct-utc-new-spec : {M : Type 1} → statement M
 ct-utc-new-spec =
     tie.close
-    (tie.spec
-    (λ c κs. search needs)
-    (λ c κs. search needs)
-    returns
-    (λ c κs. search needs)
-    (λ c κs. search needs)
-    (λ c. search needs)
-    returns-2)
+    (tie.spec (λ c κs. search needs) (λ c κs. search needs) returns (λ c κs. search needs) (λ c κs. search needs) (λ c. search needs) returns-2)

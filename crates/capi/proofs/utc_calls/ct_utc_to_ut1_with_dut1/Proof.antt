@@ -17,18 +17,12 @@ returns-2 c =
     let p = c .before .before in
     let b = p .before .before in
     let n = b .before .before .before .before in
-    with-announced _ _ (n .read-table .result .number) (n .read-table .ensures .0 refl refl) julianRuleBytes _ (p .put-ut1-by-rule .ok) (b .before .before .before .if1 .left)
+    with-announced _ _ (n .read-table .result .number) (n .read-table .ensures .0 refl refl) julianRuleBytes _ (p .put-ut1-by-rule .ok)
+    (b .before .before .before .if1 .left)
     (b .utc-to-ut1-with-dut1-by-lent .ensures)
     (p .put-ut1-by-rule .ensures)
 
 pub ct-utc-to-ut1-with-dut1-spec : {M : Type 1} → statement M
 ct-utc-to-ut1-with-dut1-spec =
     tie.close
-    (tie.spec
-    (λ c κs. search needs)
-    (λ c κs. search needs)
-    returns
-    (λ c κs. search needs)
-    (λ c κs. search needs)
-    (λ c. search needs)
-    returns-2)
+    (tie.spec (λ c κs. search needs) (λ c κs. search needs) returns (λ c κs. search needs) (λ c κs. search needs) (λ c. search needs) returns-2)

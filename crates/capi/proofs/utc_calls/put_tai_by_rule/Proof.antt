@@ -11,7 +11,8 @@ returns : tie.Need-returns
 unfolding taiByRuleOutcome
 returns c =
     let p = c .before .before in
-    delivered-answer julianRuleBytes (p .put-julian-by-rule .ok) _ (ap taiByRuleOutcome (p .before .before .before .found .given .1)) (p .put-julian-by-rule .ensures)
+    delivered-answer julianRuleBytes (p .put-julian-by-rule .ok) _ (ap taiByRuleOutcome (p .before .before .before .found .given .1))
+    (p .put-julian-by-rule .ensures)
 
 returns-2 : tie.Need-returns-2
 unfolding taiByRuleOutcome
@@ -20,11 +21,4 @@ returns-2 c = refused-on julianRuleBytes (c .refused .ok) _ (ap taiByRuleOutcome
 pub put-tai-by-rule-spec : {M : Type 1} → statement M
 put-tai-by-rule-spec =
     tie.close
-    (tie.spec
-    (λ c. search needs)
-    (λ c κs. search needs)
-    (λ c. search needs)
-    (λ c κs. search needs)
-    (λ c. search needs)
-    returns
-    returns-2)
+    (tie.spec (λ c. search needs) (λ c κs. search needs) (λ c. search needs) (λ c κs. search needs) (λ c. search needs) returns returns-2)

@@ -20,11 +20,4 @@ returns-2 c = refused-on julianBytes (c .refused .ok) _ (ap utcOutcome (c .befor
 pub put-utc-spec : {M : Type 1} → statement M
 put-utc-spec =
     tie.close
-    (tie.spec
-    (λ c. search needs)
-    (λ c κs. search needs)
-    (λ c. search needs)
-    (λ c κs. search needs)
-    (λ c. search needs)
-    returns
-    returns-2)
+    (tie.spec (λ c. search needs) (λ c κs. search needs) (λ c. search needs) (λ c κs. search needs) (λ c. search needs) returns returns-2)

@@ -18,7 +18,8 @@ returns c =
     let a = c .before .before .before in
     let s = a .before in
     let e : calendarToJulian (s .args .year) (pos (s .args .month)) (pos (s .args .day)) ≡ refusal (c .before .number .given .0 .0) =
-    sym (λ i. calendarToJulian (toZ-ofZ (s .fits .year) i) (toZ-pos w32 {n = s .args .month} (omega (arith, s .fits .month .fits)) i) (toZ-pos w32 {n = s .args .day} (omega (arith, s .fits .day .fits)) i))
+    sym (λ i. calendarToJulian (toZ-ofZ (s .fits .year) i) (toZ-pos w32 {n = s .args .month} (omega (arith, s .fits .month .fits)) i)
+    (toZ-pos w32 {n = s .args .day} (omega (arith, s .fits .day .fits)) i))
     ∙ sym (a .calendar-to-julian .ensures) ∙ ap julianOutcome (c .before .number .given .1) in
     rw e
 
@@ -29,20 +30,13 @@ returns-2 c =
     let s = a .before in
     let midnight = c .before .before .before .midnight .given .0 .0 in
     let e : calendarToJulian (s .args .year) (pos (s .args .month)) (pos (s .args .day)) ≡ answer midnight =
-    sym (λ i. calendarToJulian (toZ-ofZ (s .fits .year) i) (toZ-pos w32 {n = s .args .month} (omega (arith, s .fits .month .fits)) i) (toZ-pos w32 {n = s .args .day} (omega (arith, s .fits .day .fits)) i))
+    sym (λ i. calendarToJulian (toZ-ofZ (s .fits .year) i) (toZ-pos w32 {n = s .args .month} (omega (arith, s .fits .month .fits)) i)
+    (toZ-pos w32 {n = s .args .day} (omega (arith, s .fits .day .fits)) i))
     ∙ sym (a .calendar-to-julian .ensures) ∙ ap julianOutcome (c .before .before .before .midnight .given .1) in
     rw (e, ← c .before .day-fraction .ensures) (c .at-time .ensures)
 
 pub from-calendar-spec : {M : Type 1} → statement M
 from-calendar-spec =
     tie.close
-    (tie.spec
-    (λ c. search needs)
-    (λ c. search needs)
-    (λ c κs. search needs)
-    (λ c. search needs)
-    (λ c. search needs)
-    (λ c κs. search needs)
-    (λ c κs. search needs)
-    returns
-    returns-2)
+    (tie.spec (λ c. search needs) (λ c. search needs) (λ c κs. search needs) (λ c. search needs) (λ c. search needs) (λ c κs. search needs)
+    (λ c κs. search needs) returns returns-2)

@@ -1,4 +1,5 @@
--- `julian::JulianDate::from_unix_time` meets its contract: the machine's quotient and remainder are the definition's, and their casts lose nothing. Assumes nothing.
+-- `julian::JulianDate::from_unix_time` meets its contract: the machine's quotient and remainder are the definition's, and their casts lose nothing. Assumes
+-- nothing.
 use mathlib.Core.Path.{_≡_, sym, ap, _∙_, subst}
 use Prim.Native.Nat.{_<_}
 use lib.Dec.{lit<}
@@ -24,16 +25,11 @@ left-read z f = ap (λ (x : ℤ). remZ x (pos 86400)) (toZ-ofZ f) ∙ remainder-
 divides : (z : ℤ) → SFits w64 z → (0 < 86400) × SFits w64 (quotZ (toZ w64 (ofZ w64 z)) (pos 86400))
 divides z f = (lit< tt, subst (SFits w64) (sym (days-read z f)) (days-fit z f))
 
-div-days : tie.Need-div-days
-div-days c = divides (c .args .seconds) (c .fits .seconds)
-
 int-to-float-days : tie.Need-int-to-float-days
 int-to-float-days c =
     let s = c .before in
-    rw (days-read (s .args .seconds) (s .fits .seconds), toZ-ofZ (days-fit (s .args .seconds) (s .fits .seconds))) (days-in-float (s .args .seconds) (s .fits .seconds))
-
-rem-rest : tie.Need-rem-rest
-rem-rest c = divides (c .before .args .seconds) (c .before .fits .seconds)
+    rw (days-read (s .args .seconds) (s .fits .seconds), toZ-ofZ (days-fit (s .args .seconds) (s .fits .seconds)))
+    (days-in-float (s .args .seconds) (s .fits .seconds))
 
 int-to-float-rest : tie.Need-int-to-float-rest
 int-to-float-rest c =
@@ -57,11 +53,5 @@ returns c =
 pub from-unix-time-spec : {M : Type 1} → statement M
 from-unix-time-spec =
     tie.close
-    (tie.spec
-    div-days
-    int-to-float-days
-    rem-rest
-    int-to-float-rest
-    (λ c. search needs)
-    (λ c κs. search needs)
-    returns)
+    (tie.spec (λ c. divides (c .args .seconds) (c .fits .seconds)) int-to-float-days
+    (λ c. divides (c .before .args .seconds) (c .before .fits .seconds)) int-to-float-rest (λ c. search needs) (λ c κs. search needs) returns)

@@ -10,11 +10,13 @@ returns c = carry-none (c .before .args .kahan) (c .before .args .fraction) (c .
 
 returns-2 : tie.Need-returns-2
 unfolding ofBits
-returns-2 c = let s = c .before .before .before .args in carry-over (s .kahan) (s .fraction) (c .before .before .if1 .left) (c .before .if2 .taken) (c .if3 .taken)
+returns-2 c = let s = c .before .before .before .args in carry-over (s .kahan) (s .fraction) (c .before .before .if1 .left) (c .before .if2 .taken)
+    (c .if3 .taken)
 
 returns-3 : tie.Need-returns-3
 unfolding ofBits
-returns-3 c = let s = c .before .before .before .args in carry-zero (s .kahan) (s .fraction) (c .before .before .if1 .left) (c .before .if2 .taken) (c .if3 .left)
+returns-3 c = let s = c .before .before .before .args in carry-zero (s .kahan) (s .fraction) (c .before .before .if1 .left) (c .before .if2 .taken)
+    (c .if3 .left)
 
 returns-4 : tie.Need-returns-4
 unfolding ofBits

@@ -19,8 +19,10 @@ total-day-requires c κs =
     let s = a .before in
     let x = s .args .jd1 in
     let y = s .args .jd2 in
-    let q = quick (sub binary64 x (a .nearest-whole .result .value)) (sub binary64 y (b .nearest-whole2 .result .value)) (sub-fits binary64 x _) (sub-fits binary64 y _) (m .if1 .taken) (j .if2 .taken) (i .if3 .taken) in
-    asks x y (yes (s .good .0 .1)) (yes (s .good .1 .0 .1)) (s .pre) (a .nearest-whole .result) (b .nearest-whole2 .result) (a .nearest-whole .ensures) (b .nearest-whole2 .ensures) _ (q .summed) _ (q .normal)
+    let q = quick (sub binary64 x (a .nearest-whole .result .value)) (sub binary64 y (b .nearest-whole2 .result .value)) (sub-fits binary64 x _)
+    (sub-fits binary64 y _) (m .if1 .taken) (j .if2 .taken) (i .if3 .taken) in
+    asks x y (yes (s .good .0 .1)) (yes (s .good .1 .0 .1)) (s .pre) (a .nearest-whole .result) (b .nearest-whole2 .result) (a .nearest-whole .ensures)
+    (b .nearest-whole2 .ensures) _ (q .summed) _ (q .normal)
 
 returns : tie.Need-returns
 unfolding ofBits neg
@@ -33,8 +35,10 @@ returns c =
     let s = a .before in
     let x = s .args .jd1 in
     let y = s .args .jd2 in
-    let q = quick (sub binary64 x (a .nearest-whole .result .value)) (sub binary64 y (b .nearest-whole2 .result .value)) (sub-fits binary64 x _) (sub-fits binary64 y _) (m .if1 .taken) (j .if2 .taken) (i .if3 .taken) in
-    gives x y (yes (s .good .0 .1)) (yes (s .good .1 .0 .1)) (s .pre) (a .nearest-whole .result) (b .nearest-whole2 .result) (a .nearest-whole .ensures) (b .nearest-whole2 .ensures) _ (q .summed) _ (q .normal) (c .total-day .result) (c .total-day .ensures)
+    let q = quick (sub binary64 x (a .nearest-whole .result .value)) (sub binary64 y (b .nearest-whole2 .result .value)) (sub-fits binary64 x _)
+    (sub-fits binary64 y _) (m .if1 .taken) (j .if2 .taken) (i .if3 .taken) in
+    gives x y (yes (s .good .0 .1)) (yes (s .good .1 .0 .1)) (s .pre) (a .nearest-whole .result) (b .nearest-whole2 .result) (a .nearest-whole .ensures)
+    (b .nearest-whole2 .ensures) _ (q .summed) _ (q .normal) (c .total-day .result) (c .total-day .ensures)
 
 total-day-requires-2 : tie.Need-total-day-requires-2
 unfolding ofBits neg
@@ -48,8 +52,10 @@ total-day-requires-2 c κs =
     let s = a .before in
     let x = s .args .jd1 in
     let y = s .args .jd2 in
-    let q = quick-borrowed (sub binary64 x (a .nearest-whole .result .value)) (sub binary64 y (b .nearest-whole2 .result .value)) (sub-fits binary64 x _) (sub-fits binary64 y _) (m .if1 .taken) (k .if2 .left) (j .if4 .taken) (i .if5 .taken) in
-    asks x y (yes (s .good .0 .1)) (yes (s .good .1 .0 .1)) (s .pre) (a .nearest-whole .result) (b .nearest-whole2 .result) (a .nearest-whole .ensures) (b .nearest-whole2 .ensures) _ (q .summed) _ (q .normal)
+    let q = quick-borrowed (sub binary64 x (a .nearest-whole .result .value)) (sub binary64 y (b .nearest-whole2 .result .value)) (sub-fits binary64 x _)
+    (sub-fits binary64 y _) (m .if1 .taken) (k .if2 .left) (j .if4 .taken) (i .if5 .taken) in
+    asks x y (yes (s .good .0 .1)) (yes (s .good .1 .0 .1)) (s .pre) (a .nearest-whole .result) (b .nearest-whole2 .result) (a .nearest-whole .ensures)
+    (b .nearest-whole2 .ensures) _ (q .summed) _ (q .normal)
 
 returns-2 : tie.Need-returns-2
 unfolding ofBits neg
@@ -63,8 +69,11 @@ returns-2 c =
     let s = a .before in
     let x = s .args .jd1 in
     let y = s .args .jd2 in
-    let q = quick-borrowed (sub binary64 x (a .nearest-whole .result .value)) (sub binary64 y (b .nearest-whole2 .result .value)) (sub-fits binary64 x _) (sub-fits binary64 y _) (m .if1 .taken) (k .if2 .left) (j .if4 .taken) (i .if5 .taken) in
-    gives x y (yes (s .good .0 .1)) (yes (s .good .1 .0 .1)) (s .pre) (a .nearest-whole .result) (b .nearest-whole2 .result) (a .nearest-whole .ensures) (b .nearest-whole2 .ensures) _ (q .summed) _ (q .normal) (c .total-day2 .result) (c .total-day2 .ensures)
+    let q = quick-borrowed (sub binary64 x (a .nearest-whole .result .value)) (sub binary64 y (b .nearest-whole2 .result .value)) (sub-fits binary64 x _)
+    (sub-fits binary64 y _) (m .if1 .taken) (k .if2 .left) (j .if4 .taken) (i .if5 .taken) in
+    gives x y (yes (s .good .0 .1)) (yes (s .good .1 .0 .1)) (s .pre) (a .nearest-whole .result) (b .nearest-whole2 .result) (a .nearest-whole .ensures)
+    (b .nearest-whole2 .ensures) _ (q .summed) _ (q .normal) (c .total-day2 .result) (c .total-day2 .ensures)
 
 pub day-in-range-spec : {M : Type 1} → statement M
-day-in-range-spec = tie.close (tie.spec (λ c κs. search needs) (λ c κs. search needs) total-day-requires returns total-day-requires-2 returns-2 (λ c κs. search needs) (λ c. search needs))
+day-in-range-spec = tie.close (tie.spec (λ c κs. search needs) (λ c κs. search needs) total-day-requires returns total-day-requires-2 returns-2
+    (λ c κs. search needs) (λ c. search needs))

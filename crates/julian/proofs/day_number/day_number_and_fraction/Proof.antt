@@ -9,14 +9,17 @@ use Rattle.julian.proofs.day_number.day_number_and_fraction.Statement.{
 use Rattle.julian.proofs.day_number.day_number_and_fraction.Tie as tie
 
 day-in-range-requires : tie.Need-day-in-range-requires
-day-in-range-requires c κs = let s = c .before .before .args in tested (s .jd1) (s .jd2) (c .before .check-julian-range .result) true (c .before .check-julian-range .ensures) (c .if1 .taken)
+day-in-range-requires c κs = let s =
+    c .before .before .args in tested (s .jd1) (s .jd2) (c .before .check-julian-range .result) true (c .before .check-julian-range .ensures) (c .if1 .taken)
 
 returns : tie.Need-returns
 unfolding dayOutcome
 returns c =
     let r = c .before .before in
     let s = r .before .args in
-    ap answer (c .day-in-range .ensures) ∙ sym (answered (s .jd1) (s .jd2) (tested (s .jd1) (s .jd2) (r .check-julian-range .result) true (r .check-julian-range .ensures) (c .before .if1 .taken)))
+    ap answer (c .day-in-range .ensures)
+    ∙ sym (answered (s .jd1) (s .jd2)
+    (tested (s .jd1) (s .jd2) (r .check-julian-range .result) true (r .check-julian-range .ensures) (c .before .if1 .taken)))
 
 returns-2 : tie.Need-returns-2
 unfolding dayOutcome

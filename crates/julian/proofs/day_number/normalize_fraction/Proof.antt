@@ -7,7 +7,8 @@ use Rattle.julian.proofs.day_number.normalize_fraction.Tie as tie
 
 returns : tie.Need-returns
 unfolding ofBits
-returns c = let b = c .before .before in borrowed (b .before .before .before .before .args .kahan) (b .before .if1 .taken) (b .borrow-day .result) (b .borrow-day .ensures) (c .carry-day .result) (c .carry-day .ensures)
+returns c = let b = c .before .before in borrowed (b .before .before .before .before .args .kahan) (b .before .if1 .taken) (b .borrow-day .result)
+    (b .borrow-day .ensures) (c .carry-day .result) (c .carry-day .ensures)
 
 returns-2 : tie.Need-returns-2
 unfolding ofBits

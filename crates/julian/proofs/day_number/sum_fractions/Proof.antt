@@ -10,7 +10,8 @@ add-fraction-requires-2 c κs = few-carry _ _ (c .before .add-fraction .result) 
 
 returns : tie.Need-returns
 unfolding ofBits
-returns c = summed (c .before .before .before .args .first) (c .before .before .before .args .second) (c .before .before .add-fraction .result) (c .add-fraction2 .result) (c .before .before .add-fraction .ensures) (c .add-fraction2 .ensures)
+returns c = summed (c .before .before .before .args .first) (c .before .before .before .args .second) (c .before .before .add-fraction .result)
+    (c .add-fraction2 .result) (c .before .before .add-fraction .ensures) (c .add-fraction2 .ensures)
 
 pub sum-fractions-spec : {M : Type 1} → statement M
 sum-fractions-spec = tie.close (tie.spec (λ c κs. search needs) add-fraction-requires-2 returns)

@@ -22,12 +22,4 @@ returns c = totals (c .args .a) (c .args .b) (c .args .carry) (c .args .more) (c
 pub total-day-spec : {M : Type 1} → statement M
 total-day-spec =
     tie.close
-    (tie.spec
-    add-result
-    (λ c. search needs)
-    add-result-2
-    (λ c. search needs)
-    (λ c. search needs)
-    sub-result
-    add-result-3
-    returns)
+    (tie.spec add-result (λ c. search needs) add-result-2 (λ c. search needs) (λ c. search needs) sub-result add-result-3 returns)

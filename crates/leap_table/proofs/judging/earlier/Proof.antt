@@ -1,5 +1,5 @@
 -- `leap_table::judging::earlier` meets its contract. Assumes nothing.
-use mathlib.Core.Path.{_≡_, refl}
+use mathlib.Core.Path.{refl}
 use Rattle.leap_table.proofs.judging.Judges.{lt-read, year-earlier, year-later, month-earlier, month-later, by-day}
 use Rattle.leap_table.proofs.judging.earlier.Statement.{statement}
 use Rattle.leap_table.proofs.judging.earlier.Tie as tie
@@ -35,7 +35,8 @@ returns-3 c =
     month-earlier (s .a) (s .b)
     (lt-read (s .a .year) (s .b .year) _ (record { sfits = t1 .struct-told .given .0 .1 }) (record { sfits = t2 .struct-told2 .given .0 .1 }) (i1 .if1 .left))
     (lt-read (s .b .year) (s .a .year) _ (record { sfits = t2 .struct-told2 .given .0 .1 }) (record { sfits = t1 .struct-told .given .0 .1 }) (i2 .if2 .left))
-    (lt-read (s .a .month) (s .b .month) _ (record { sfits = t1 .struct-told .given .1 .0 .1 }) (record { sfits = t2 .struct-told2 .given .1 .0 .1 }) (c .if3 .taken))
+    (lt-read (s .a .month) (s .b .month) _ (record { sfits = t1 .struct-told .given .1 .0 .1 }) (record { sfits = t2 .struct-told2 .given .1 .0 .1 })
+    (c .if3 .taken))
 
 returns-4 : tie.Need-returns-4
 returns-4 c =
@@ -51,8 +52,10 @@ returns-4 c =
     month-later (s .a) (s .b)
     (lt-read (s .a .year) (s .b .year) _ (record { sfits = t1 .struct-told .given .0 .1 }) (record { sfits = t2 .struct-told2 .given .0 .1 }) (i1 .if1 .left))
     (lt-read (s .b .year) (s .a .year) _ (record { sfits = t2 .struct-told2 .given .0 .1 }) (record { sfits = t1 .struct-told .given .0 .1 }) (i2 .if2 .left))
-    (lt-read (s .a .month) (s .b .month) _ (record { sfits = t1 .struct-told .given .1 .0 .1 }) (record { sfits = t2 .struct-told2 .given .1 .0 .1 }) (i3 .if3 .left))
-    (lt-read (s .b .month) (s .a .month) _ (record { sfits = t2 .struct-told2 .given .1 .0 .1 }) (record { sfits = t1 .struct-told .given .1 .0 .1 }) (c .if4 .taken))
+    (lt-read (s .a .month) (s .b .month) _ (record { sfits = t1 .struct-told .given .1 .0 .1 }) (record { sfits = t2 .struct-told2 .given .1 .0 .1 })
+    (i3 .if3 .left))
+    (lt-read (s .b .month) (s .a .month) _ (record { sfits = t2 .struct-told2 .given .1 .0 .1 }) (record { sfits = t1 .struct-told .given .1 .0 .1 })
+    (c .if4 .taken))
 
 returns-5 : tie.Need-returns-5
 returns-5 c =
@@ -69,8 +72,10 @@ returns-5 c =
     by-day (s .a) (s .b)
     (lt-read (s .a .year) (s .b .year) _ (record { sfits = t1 .struct-told .given .0 .1 }) (record { sfits = t2 .struct-told2 .given .0 .1 }) (i1 .if1 .left))
     (lt-read (s .b .year) (s .a .year) _ (record { sfits = t2 .struct-told2 .given .0 .1 }) (record { sfits = t1 .struct-told .given .0 .1 }) (i2 .if2 .left))
-    (lt-read (s .a .month) (s .b .month) _ (record { sfits = t1 .struct-told .given .1 .0 .1 }) (record { sfits = t2 .struct-told2 .given .1 .0 .1 }) (i3 .if3 .left))
-    (lt-read (s .b .month) (s .a .month) _ (record { sfits = t2 .struct-told2 .given .1 .0 .1 }) (record { sfits = t1 .struct-told .given .1 .0 .1 }) (i4 .if4 .left))
+    (lt-read (s .a .month) (s .b .month) _ (record { sfits = t1 .struct-told .given .1 .0 .1 }) (record { sfits = t2 .struct-told2 .given .1 .0 .1 })
+    (i3 .if3 .left))
+    (lt-read (s .b .month) (s .a .month) _ (record { sfits = t2 .struct-told2 .given .1 .0 .1 }) (record { sfits = t1 .struct-told .given .1 .0 .1 })
+    (i4 .if4 .left))
     _
     (lt-read (s .a .day) (s .b .day) _ (record { sfits = t1 .struct-told .given .1 .1 .0 .1 }) (record { sfits = t2 .struct-told2 .given .1 .1 .0 .1 }) refl)
 

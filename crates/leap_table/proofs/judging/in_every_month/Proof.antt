@@ -1,5 +1,5 @@
 -- `leap_table::judging::in_every_month` meets its contract: each month has 28 days. Assumes nothing.
-use mathlib.Core.Path.{_≡_, sym, ap, _∙_}
+use mathlib.Core.Path.{sym, ap, _∙_}
 use mathlib.Core.Bool.{true≢false}
 use lib.IntN.{ℤ, pos, negsuc}
 use lib.Signed.{leZ}
@@ -9,18 +9,6 @@ use Rattle.calendar.proofs.Signs.{lt-left, lt-right}
 use Rattle.leap_table.proofs.judging.Judges.{every-month}
 use Rattle.leap_table.proofs.judging.in_every_month.Statement.{statement}
 use Rattle.leap_table.proofs.judging.in_every_month.Tie as tie
-
-returns : tie.Need-returns
-returns c e = absurd (true≢false (sym e))
-
-returns-2 : tie.Need-returns-2
-returns-2 c e = absurd (true≢false (sym e))
-
-returns-3 : tie.Need-returns-3
-returns-3 c e = absurd (true≢false (sym e))
-
-returns-4 : tie.Need-returns-4
-returns-4 c e = absurd (true≢false (sym e))
 
 returns-5 : tie.Need-returns-5
 returns-5 c e =
@@ -41,4 +29,6 @@ returns-5 c e =
     (ap (λ (x : ℤ). leZ x (pos 28)) (sym (toZ-ofZ {w = w32} {z = s .t .day} (record { sfits = t1 .struct-told .given .1 .1 .0 .1 }))) ∙ e)
 
 pub in-every-month-spec : {M : Type 1} → statement M
-in-every-month-spec = tie.close (tie.spec returns returns-2 returns-3 returns-4 returns-5)
+in-every-month-spec = tie.close
+    (tie.spec (λ c e. absurd (true≢false (sym e))) (λ c e. absurd (true≢false (sym e))) (λ c e. absurd (true≢false (sym e)))
+    (λ c e. absurd (true≢false (sym e))) returns-5)

@@ -1,5 +1,5 @@
 -- `leap_table::judging::judge` meets its contract. Assumes nothing.
-use mathlib.Core.Path.{_≡_, sym, _∙_}
+use mathlib.Core.Path.{sym, _∙_}
 use mathlib.Core.Bool.{true, false}
 use Rattle.leap_table.proofs.judging.Judges.{judged-bad, judged-order}
 use borrow.Author.Needs.{needs}

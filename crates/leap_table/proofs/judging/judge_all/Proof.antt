@@ -30,7 +30,8 @@ returns c =
     let t = j .before in
     let l = t .before .before in
     let s = l .before .args in
-    judging-stops (tripleAt (s .dates .now)) (s .n) (l .loop .i) (l .loop .before) (t .triple-at .result) (j .judge .result) (t .before .loop-test .taken) (t .triple-at .ensures) (j .judge .ensures) (c .if1 .taken)
+    judging-stops (tripleAt (s .dates .now)) (s .n) (l .loop .i) (l .loop .before) (t .triple-at .result) (j .judge .result) (t .before .loop-test .taken)
+    (t .triple-at .ensures) (j .judge .ensures) (c .if1 .taken)
     ∙ sym (l .loop .inv .1)
 
 add-i : tie.Need-add-i Inv-loop μ-loop
@@ -47,7 +48,8 @@ loop-again c =
     let s = l .before .args in (
       omega (arith, t .before .loop-test .taken),
       l .loop .inv .1
-          ∙ judging-goes (tripleAt (s .dates .now)) (s .n) (l .loop .i) (l .loop .before) (t .triple-at .result) (j .judge .result) (t .before .loop-test .taken) (t .triple-at .ensures) (j .judge .ensures) (c .if1 .left),
+          ∙ judging-goes (tripleAt (s .dates .now)) (s .n) (l .loop .i) (l .loop .before) (t .triple-at .result) (j .judge .result)
+          (t .before .loop-test .taken) (t .triple-at .ensures) (j .judge .ensures) (c .if1 .left),
     )
 
 returns-2 : tie.Need-returns-2 Inv-loop μ-loop
@@ -59,14 +61,4 @@ returns-2 c =
 pub judge-all-spec : {M : Type 1} → statement M
 judge-all-spec =
     tie.close
-    (tie.spec
-    Inv-loop
-    μ-loop
-    loop-holds
-    triple-at-requires
-    judge-requires
-    returns
-    add-i
-    loop-less
-    loop-again
-    returns-2)
+    (tie.spec Inv-loop μ-loop loop-holds triple-at-requires judge-requires returns add-i loop-less loop-again returns-2)

@@ -24,9 +24,6 @@ is-taken t n e z = when-taken t (rowsOf t) (sym e ∙ ap (λ (k : ℕ). unlessRe
 found : (c : tie.After-struct-known) → Taken (c .before .before .before .args .table) (rowsOf (c .before .before .before .args .table))
 found c = let r = c .before .before in is-taken (r .before .args .table) (r .table-refusal .result) (r .table-refusal .ensures) (c .before .if1 .left)
 
-add-t4 : tie.Need-add-t4
-add-t4 c = record { fits = omega (arith, found c .most) }
-
 returns-2 : tie.Need-returns-2
 unfolding rowsOutcome
 returns-2 c =
@@ -37,4 +34,4 @@ returns-2 c =
     ∙ taken t (r .table-refusal .result) (r .table-refusal .ensures) (λ rows. answer (length rows)) (c .before .if1 .left)
 
 pub check-table-spec : {M : Type 1} → statement M
-check-table-spec = tie.close (tie.spec (λ c κs. search needs) returns add-t4 returns-2)
+check-table-spec = tie.close (tie.spec (λ c κs. search needs) returns (λ c. record { fits = omega (arith, found c .most) }) returns-2)

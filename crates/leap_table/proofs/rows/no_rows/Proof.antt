@@ -4,8 +4,5 @@ use Rattle.leap_table.proofs.rows.TablesTaken.{table-none}
 use Rattle.leap_table.proofs.rows.no_rows.Statement.{statement}
 use Rattle.leap_table.proofs.rows.no_rows.Tie as tie
 
-returns : tie.Need-returns
-returns c = table-none _ refl refl
-
 pub no-rows-spec : {M : Type 1} → statement M
-no-rows-spec = tie.close (tie.spec returns)
+no-rows-spec = tie.close (tie.spec (λ c. table-none _ refl refl))

@@ -11,7 +11,15 @@ returns : tie.Need-returns
 returns c =
     let s = c .before .before .before .args in
     record {
-      stands = record { all = c .before .before .row-count .ensures; most = omega arith; small = omega (arith, table-length (s .table) (announcedSize (s .table)), at-most-16 (s .table)); next = c .before .row-start .ensures; terms = c .row-terms .ensures };
+      stands = record {
+        all = c .before .before .row-count .ensures;
+        most = omega arith;
+        small =
+            omega (arith, table-length (s .table) (announcedSize (s .table)), at-most-16 (s .table));
+        next = c .before .row-start .ensures;
+        terms =
+            c .row-terms .ensures;
+      };
       none = refl;
       nothing = refl;
     }

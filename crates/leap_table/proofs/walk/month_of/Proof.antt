@@ -1,5 +1,5 @@
 -- `leap_table::walk::month_of` meets its contract. Assumes nothing.
-use Prim.Native.Nat.{ℕ, _+_, _-_, _*_, _<_}
+use Prim.Native.Nat.{ℕ, _+_, _-_, _*_}
 use native.Mathlib.Omega.{arith}
 use mathlib.Core.Path.{_≡_, ap, _∙_}
 use lib.IntN.{natAbs}
@@ -52,17 +52,15 @@ cast-result-2 c =
 add-result : tie.Need-add-result
 add-result c = record { fits = omega (arith, year-small (s c .year) (year-fits c), month-read c, good c .m-high) }
 
-sub-result : tie.Need-sub-result
-sub-result c = omega (arith, month-read c, good c .m-low)
-
 returns-2 : tie.Need-returns-2
 returns-2 c =
     let m = month-read c in (
-      ap (λ (k : ℕ). 12 * natAbs (toZ w32 (ofZ w32 (s c .year))) + k - 1) m ∙ counted (s c .year) (natAbs (s c .month)) (year-fits c) (c .before .before .before .before .if1 .left),
+      ap (λ (k : ℕ). 12 * natAbs (toZ w32 (ofZ w32 (s c .year))) + k - 1) m
+          ∙ counted (s c .year) (natAbs (s c .month)) (year-fits c) (c .before .before .before .before .if1 .left),
       omega (arith, year-small (s c .year) (year-fits c), m, good c .m-high),
     )
 
 pub month-of-spec : {M : Type 1} → statement M
 month-of-spec =
     tie.close
-    (tie.spec returns cast-result mul-result cast-result-2 add-result sub-result returns-2)
+    (tie.spec returns cast-result mul-result cast-result-2 add-result (λ c. omega (arith, month-read c, good c .m-low)) returns-2)

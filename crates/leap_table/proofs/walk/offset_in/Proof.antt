@@ -2,7 +2,7 @@
 use Prim.Native.Nat.{ℕ, _<_}
 use native.Mathlib.Omega.{arith}
 use mathlib.Core.Path.{_≡_, refl, ap, sym, _∙_}
-use lib.IntN.{ℤ, natAbs}
+use lib.IntN.{natAbs}
 use lib.Ieee.{binary64, ofInt, ofBits}
 use borrow.Author.Tests.{not-true, not-false}
 use Rattle.refusals.specs.Outcome.{answer}
@@ -27,7 +27,8 @@ module _ (c : tie.After-known-told) where
   mjd =
       let v = c .before .before .before in
       let s = v .before .before .before in
-      mjd-is (t .year) (t .month) (t .day) (record { sfits = s .struct-told .given .0 .1 }) (record { sfits = s .struct-told .given .1 .0 .1 }) (record { sfits = s .struct-told .given .1 .1 .0 .1 })
+      mjd-is (t .year) (t .month) (t .day) (record { sfits = s .struct-told .given .0 .1 }) (record { sfits = s .struct-told .given .1 .0 .1 })
+      (record { sfits = s .struct-told .given .1 .1 .0 .1 })
       (v .modified-julian-day .result) (v .modified-julian-day .ensures) _ (c .before .n .given .1)
 
   small : natAbs (c .before .n .given .0 .0) < 1000000000000
@@ -44,7 +45,8 @@ returns-2 c =
     let v = c .before .before in
     let s = v .before .before .before in
     let t = s .before .before .before .args .t in
-    let r = no-mjd (t .year) (t .month) (t .day) (record { sfits = s .struct-told .given .0 .1 }) (record { sfits = s .struct-told .given .1 .0 .1 }) (record { sfits = s .struct-told .given .1 .1 .0 .1 }) (v .modified-julian-day .result) (v .modified-julian-day .ensures) _ (c .enum-told .given .1) in
+    let r = no-mjd (t .year) (t .month) (t .day) (record { sfits = s .struct-told .given .0 .1 }) (record { sfits = s .struct-told .given .1 .0 .1 })
+    (record { sfits = s .struct-told .given .1 .1 .0 .1 }) (v .modified-julian-day .result) (v .modified-julian-day .ensures) _ (c .enum-told .given .1) in
     let g = mjd-given (t .year) (t .month) (t .day) (s .before .before .before .pre) in
     let z : _≡_ {A = ℕ} 0 1 = cc in
     absurd (omega arith)
@@ -54,16 +56,10 @@ unfolding ofBits
 returns-3 c =
     let k = c .before .before .before .before in
     let s = k .before .before .before .before .before .before .before .before .before .args in
-    goes (s .terms) _ _ (not-false _ (k .before .before .before .before .before .before .before .if1 .left)) _ _ (ap (ofInt binary64) (read (k .before .n .given .0 .0) (small k) ∙ number k)) refl
+    goes (s .terms) _ _ (not-false _ (k .before .before .before .before .before .before .before .if1 .left)) _ _
+    (ap (ofInt binary64) (read (k .before .n .given .0 .0) (small k) ∙ number k)) refl
 
 pub offset-in-spec : {M : Type 1} → statement M
 offset-in-spec =
     tie.close
-    (tie.spec
-    returns
-    (λ c κs. search needs)
-    (λ c. search needs)
-    (λ c. search needs)
-    int-to-float-result
-    returns-2
-    returns-3)
+    (tie.spec returns (λ c κs. search needs) (λ c. search needs) (λ c. search needs) int-to-float-result returns-2 returns-3)

@@ -1,7 +1,6 @@
 -- `leap_table::walk::offsets_at_0h` meets its contract: all is judged before a place is written. Assumes nothing.
-use Prim.Native.Nat.{_*_, _/_, _%_}
+use Prim.Native.Nat.{_/_, _%_}
 use native.Mathlib.Omega.{arith}
-use mathlib.Core.Path.{_≡_, refl, sym, ap, _∙_}
 use lib.Dec.{eqb}
 use lib.ListN.{length}
 use Rattle.leap_table.specs.rows.Announced.{rowsOf}
@@ -21,7 +20,8 @@ returns c =
     let r = c .before in
     let s = r .before .before .args in
     let l = s .dates .now in
-    refused-call (s .table) (eqb (length l % 3) 0) (datesFrom (tripleAt l) 0 (length l / 3)) (length (s .out .now)) asFloats (s .out .now) (r .numbers-refusal .result) (r .numbers-refusal .ensures) (c .if1 .taken)
+    refused-call (s .table) (eqb (length l % 3) 0) (datesFrom (tripleAt l) 0 (length l / 3)) (length (s .out .now)) asFloats (s .out .now)
+    (r .numbers-refusal .result) (r .numbers-refusal .ensures) (c .if1 .taken)
 
 walk-all-requires : tie.Need-walk-all-requires
 walk-all-requires c κs =
@@ -29,7 +29,8 @@ walk-all-requires c κs =
     let r = i .before in
     let s = r .before .before .args in
     let l = s .dates .now in
-    let p = passed (s .table) (eqb (length l % 3) 0) (datesFrom (tripleAt l) 0 (length l / 3)) (length (s .out .now)) (r .numbers-refusal .result) (r .numbers-refusal .ensures) (i .if1 .left) in
+    let p = passed (s .table) (eqb (length l % 3) 0) (datesFrom (tripleAt l) 0 (length l / 3)) (length (s .out .now)) (r .numbers-refusal .result)
+    (r .numbers-refusal .ensures) (i .if1 .left) in
     (all-good (tripleAt l) (length l / 3) (p .good), p .order, omega arith, omega (arith, p .fits, how-many (tripleAt l) (length l / 3) 0))
 
 returns-2 : tie.Need-returns-2
@@ -39,8 +40,10 @@ returns-2 c =
     let r = i .before in
     let s = r .before .before .args in
     let l = s .dates .now in
-    walked-call (s .table) (eqb (length l % 3) 0) (datesFrom (tripleAt l) 0 (length l / 3)) (length (s .out .now)) asFloats (s .out .now) (r .numbers-refusal .result) (r .numbers-refusal .ensures) (i .if1 .left)
-    (w .walk-all .result) _ (length l / 3) (w .walk-all .ensures .0) (w .walk-all .ensures .1) (float-length (tripleOffset (rowsOf (s .table))) (tripleAt l) (length l / 3))
+    walked-call (s .table) (eqb (length l % 3) 0) (datesFrom (tripleAt l) 0 (length l / 3)) (length (s .out .now)) asFloats (s .out .now)
+    (r .numbers-refusal .result) (r .numbers-refusal .ensures) (i .if1 .left)
+    (w .walk-all .result) _ (length l / 3) (w .walk-all .ensures .0) (w .walk-all .ensures .1)
+    (float-length (tripleOffset (rowsOf (s .table))) (tripleAt l) (length l / 3))
 
 pub offsets-at-0h-spec : {M : Type 1} → statement M
 offsets-at-0h-spec =

@@ -1,10 +1,11 @@
--- `leap_table::walk::walk_all` meets its contract. The loop's invariant: the walk stands before date i, and the offsets of the dates before it are written. Assumes nothing.
-use Prim.Native.Nat.{ℕ, _+_, _-_, _≤_, _<_}
+-- `leap_table::walk::walk_all` meets its contract. The loop's invariant: the walk stands before date i, and the offsets of the dates before it are written.
+-- Assumes nothing.
+use Prim.Native.Nat.{_-_}
 use native.Mathlib.Omega.{arith}
-use mathlib.Core.Path.{_≡_, refl, sym, ap, subst, _∙_}
+use mathlib.Core.Path.{_≡_, sym, ap, subst, _∙_}
 use mathlib.Core.Logic.{⊎-elim}
-use mathlib.Core.List.{List, [], _∷_}
-use lib.Ieee.{Float, binary64, ofInt}
+use mathlib.Core.List.{[]}
+use lib.Ieee.{binary64, ofInt}
 use Rattle.refusals.specs.Outcome.{answer}
 use Rattle.floats.specs.Whole.{nought}
 use Rattle.calendar.specs.DayCount.{mjdNumber}
@@ -17,7 +18,7 @@ use Rattle.leap_table.specs.walk.Walk.{monthIn, tripleOffset}
 use Rattle.leap_table.specs.judging.Lists.{tripleAt}
 use Rattle.leap_table.specs.walk.Asked.{Stepped}
 use Rattle.leap_table.proofs.walk.Pacing.{Pacing, pacing-starts, stays-there, pacing-goes, offset-is, pacing-ends}
-use Rattle.leap_table.proofs.walk.Writes.{Putting, one-put}
+use Rattle.leap_table.proofs.walk.Writes.{Putting}
 use Rattle.leap_table.proofs.walk.Floats.{wholeF, restF, float-starts, float-goes, float-ends}
 use borrow.Author.Needs.{needs}
 use Rattle.leap_table.proofs.walk.walk_all.Statement.{statement}
@@ -25,7 +26,8 @@ use Rattle.leap_table.proofs.walk.walk_all.Tie as tie
 
 abbrev Inv-loop : tie.InvT-loop
 Inv-loop dates n table out₀ w₀ i₀ out w i =
-    Pacing (rowsOf table) (tripleAt dates) n i w × Putting (wholeF (tripleOffset (rowsOf table)) (tripleAt dates) n out₀) (restF (tripleOffset (rowsOf table)) (tripleAt dates) n out₀ i) out₀ out i
+    Pacing (rowsOf table) (tripleAt dates) n i w
+    × Putting (wholeF (tripleOffset (rowsOf table)) (tripleAt dates) n out₀) (restF (tripleOffset (rowsOf table)) (tripleAt dates) n out₀ i) out₀ out i
 
 abbrev μ-loop : tie.MeasureT-loop
 μ-loop dates n table out₀ w₀ i₀ out w i = n - i
@@ -35,8 +37,10 @@ at-start-requires c κs = search needs
 
 loop-holds : tie.Need-loop-holds Inv-loop μ-loop
 loop-holds c =
-    let s = c .before .before .args in
-    (pacing-starts (rowsOf (s .table)) (tripleAt (s .dates .now)) (s .n) (c .at-start .result) (c .at-start .ensures), float-starts (tripleOffset (rowsOf (s .table))) (tripleAt (s .dates .now)) (s .n) (s .out .now))
+    let s = c .before .before .args in (
+      pacing-starts (rowsOf (s .table)) (tripleAt (s .dates .now)) (s .n) (c .at-start .result) (c .at-start .ensures),
+      float-starts (tripleOffset (rowsOf (s .table))) (tripleAt (s .dates .now)) (s .n) (s .out .now),
+    )
 
 triple-at-requires : tie.Need-triple-at-requires Inv-loop μ-loop
 triple-at-requires c κs = omega (arith, c .loop-test .taken, c .before .before .before .before .pre .2)
@@ -56,17 +60,22 @@ walk-to-requires c κs =
     let p = l .loop .inv .0 in
     (p .stands, m .month-of .ensures .1, omega (arith, p .few, p .stands .most, p .stands .small, p .within, l .before .before .before .pre .2))
 
-month-is : (c : tie.After-month-of Inv-loop μ-loop) → let l = c .before .before .before in c .month-of .result ≡ monthIn (tripleAt (l .before .before .before .args .dates .now) (l .loop .i))
+month-is : (c : tie.After-month-of Inv-loop μ-loop) → let l =
+    c .before .before .before in c .month-of .result ≡ monthIn (tripleAt (l .before .before .before .args .dates .now) (l .loop .i))
 month-is c = c .month-of .ensures .0 ∙ ap monthIn (c .before .triple-at .ensures)
 
-stepped : (c : tie.Joined1 Inv-loop μ-loop) → let l = c .before .before .before .before .before in Stepped (rowsOf (l .before .before .before .args .table)) (l .loop .w) (c .before .before .month-of .result) (c .if1 .w)
+stepped : (c : tie.Joined1 Inv-loop μ-loop) → let l =
+    c .before .before .before .before .before in Stepped (rowsOf (l .before .before .before .args .table)) (l .loop .w) (c .before .before .month-of .result)
+    (c .if1 .w)
 stepped c =
     let m = c .before .before in
     let l = m .before .before .before in
     let rows = rowsOf (l .before .before .before .args .table) in
     ⊎-elim
     (λ x. subst (λ (v : Walk). Stepped rows (l .loop .w) (m .month-of .result) v) (sym (x .2)) (x .1 .ensures))
-    (λ x. subst (λ (v : Walk). Stepped rows (l .loop .w) (m .month-of .result) v) (sym (x .1)) (stays-there rows (tripleAt (l .before .before .before .args .dates .now)) (l .before .before .before .args .n) (l .loop .w) (m .month-of .result) (l .loop .inv .0 .stands) (x .0 .left)))
+    (λ x. subst (λ (v : Walk). Stepped rows (l .loop .w) (m .month-of .result) v) (sym (x .1))
+    (stays-there rows (tripleAt (l .before .before .before .args .dates .now)) (l .before .before .before .args .n) (l .loop .w) (m .month-of .result)
+    (l .loop .inv .0 .stands) (x .0 .left)))
     (c .if1 .came)
 
 next-counted-requires : tie.Need-next-counted-requires Inv-loop μ-loop
@@ -111,8 +120,10 @@ loop-again c =
     c .offset-in .ensures
     ∙ ap (λ (y : Triple). byTerms (j .if1 .w .terms) (ofInt binary64 (mjdNumber (y .year) (y .month) (y .day))) nought) (m .before .triple-at .ensures)
     ∙ offset-is rows f (s .n) (l .loop .i) (m .month-of .result) (l .loop .w) (j .if1 .w) p h (month-is m) (stepped j) (b .pre .1) in (
-      pacing-goes rows f (s .n) (l .loop .i) (m .month-of .result) (l .loop .w) (j .if1 .w) p h (month-is m) (stepped j) (b .pre .0) (c .before .next-counted .result) (c .before .next-counted .ensures),
-      float-goes (tripleOffset rows) f (s .n) (s .out .now) (l .loop .i) (l .loop .out) (c .offset-in .result) h (l .loop .inv .1) x (omega (arith, l .loop .inv .1 .long, h, b .pre .3)),
+      pacing-goes rows f (s .n) (l .loop .i) (m .month-of .result) (l .loop .w) (j .if1 .w) p h (month-is m) (stepped j) (b .pre .0)
+          (c .before .next-counted .result) (c .before .next-counted .ensures),
+      float-goes (tripleOffset rows) f (s .n) (s .out .now) (l .loop .i) (l .loop .out) (c .offset-in .result) h (l .loop .inv .1) x
+          (omega (arith, l .loop .inv .1 .long, h, b .pre .3)),
     )
 
 same-length : tie.Need-same-length Inv-loop μ-loop
@@ -123,26 +134,13 @@ returns c =
     let l = c .before in
     let s = l .before .before .before .args in
     let rows = rowsOf (s .table) in
-    let f = tripleAt (s .dates .now) in
-    (pacing-ends rows f (s .n) (l .loop .i) (l .loop .w) (l .loop .inv .0) (c .loop-test .left), float-ends (tripleOffset rows) f (s .n) (s .out .now) (l .loop .i) (l .loop .out) (l .loop .inv .0 .within) (c .loop-test .left) (l .loop .inv .1))
+    let f = tripleAt (s .dates .now) in (
+      pacing-ends rows f (s .n) (l .loop .i) (l .loop .w) (l .loop .inv .0) (c .loop-test .left),
+      float-ends (tripleOffset rows) f (s .n) (s .out .now) (l .loop .i) (l .loop .out) (l .loop .inv .0 .within) (c .loop-test .left) (l .loop .inv .1),
+    )
 
 pub walk-all-spec : {M : Type 1} → statement M
 walk-all-spec =
     tie.close
-    (tie.spec
-    Inv-loop
-    μ-loop
-    at-start-requires
-    loop-holds
-    triple-at-requires
-    month-of-requires
-    walk-to-requires
-    next-counted-requires
-    offset-in-requires
-    mul-out
-    slice-write-out
-    add-i
-    loop-less
-    loop-again
-    same-length
-    returns)
+    (tie.spec Inv-loop μ-loop at-start-requires loop-holds triple-at-requires month-of-requires walk-to-requires next-counted-requires
+    offset-in-requires mul-out slice-write-out add-i loop-less loop-again same-length returns)

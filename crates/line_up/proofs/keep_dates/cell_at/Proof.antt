@@ -1,6 +1,6 @@
 -- `line_up::keep_dates::cell_at` meets its contract. Assumes nothing.
 use native.Mathlib.Omega.{arith}
-use mathlib.Core.Path.{_≡_, refl, sym, ap, _∙_}
+use mathlib.Core.Path.{_∙_}
 use borrow.Author.Needs.{needs}
 use Rattle.line_up.proofs.keep_dates.Cells.{length-low, cells-at}
 use Rattle.line_up.proofs.keep_dates.cell_at.Statement.{statement}

@@ -32,13 +32,18 @@ judge-requires c κs =
     record {
       low = s .pre .low;
       high = s .pre .high;
-      rankRoom = cells-room (c .before .before .before .before .before .before .lay .last .1 .1 .1 .1 .1 .1 .0) (a .to) (omega (arith, c .before .before .before .before .before .before .lay .kept .1 .1 .1 .1 .1 .1 .0, s .pre .rankRoom));
+      rankRoom = cells-room (c .before .before .before .before .before .before .lay .last .1 .1 .1 .1 .1 .1 .0) (a .to)
+          (omega (arith, c .before .before .before .before .before .before .lay .kept .1 .1 .1 .1 .1 .1 .0, s .pre .rankRoom));
     }
 
 returns : tie.Need-returns
 returns c =
-    let a = c .before .before .before .before .before .before .before .before .before .before .before .before .before .before .before .before .before .before .args in
-    kept-is (soonerAt (a .jd1s .now) (a .jd2s .now)) (a .numbers .now) (cells (c .before .before .before .before .before .before .before .before .before .lay .last .1 .1 .1 .1 .1 .1 .0)) (c .before .before .judge .last .0) (a .from) (a .to) (c .before .before .before .before .before .before .before .before .before .lay .result) (c .before .before .before .before .before .before .before .before .before .lay .ensures) (c .before .before .judge .ensures)
+    let a = c .before .before .before .before .before .before .before .before .before .before .before .before .before .before .before .before .before .before
+    .args in
+    kept-is (soonerAt (a .jd1s .now) (a .jd2s .now)) (a .numbers .now)
+    (cells (c .before .before .before .before .before .before .before .before .before .lay .last .1 .1 .1 .1 .1 .1 .0))
+    (c .before .before .judge .last .0) (a .from) (a .to) (c .before .before .before .before .before .before .before .before .before .lay .result)
+    (c .before .before .before .before .before .before .before .before .before .lay .ensures) (c .before .before .judge .ensures)
 
 pub keep-most-spec : {M : Type 1} → statement M
 keep-most-spec = tie.close (tie.spec lay-requires judge-requires (λ c. search needs) (λ c. search needs) (λ c. search needs) returns)

@@ -1,7 +1,7 @@
 -- `line_up::keep_dates::lay` meets its contract. Assumes nothing.
-use Prim.Native.Nat.{ℕ, _+_, _-_}
+use Prim.Native.Nat.{ℕ, _-_}
 use native.Mathlib.Omega.{arith}
-use mathlib.Core.Path.{_≡_, refl, sym, ap, _∙_}
+use mathlib.Core.Path.{_≡_, refl, _∙_}
 use mathlib.Core.List.{List}
 use lib.ListN.{length}
 use borrow.Author.Needs.{needs}
@@ -28,7 +28,14 @@ loop-holds : tie.Need-loop-holds Inv-loop μ-loop
 loop-holds c =
     let s = c .before .before .before .before .before in
     let a = s .args in
-    record { tailsLong = refl; ranksLong = refl; laying = laying-starts (Live (a .jd1s .now) (a .jd2s .now)) (soonerAt (a .jd1s .now) (a .jd2s .now)) (date-order (a .jd1s .now) (a .jd2s .now)) 4294967296 (a .numbers .now) (a .from) (a .to) (cells (a .tails .now)) (cells (a .ranks .now)) (s .pre .layable) (λ p x y z. live-of (a .jd1s .now) (a .jd2s .now) p (s .pre .alive p x y z)) }
+    record {
+      tailsLong = refl;
+      ranksLong = refl;
+      laying =
+          laying-starts (Live (a .jd1s .now) (a .jd2s .now)) (soonerAt (a .jd1s .now) (a .jd2s .now)) (date-order (a .jd1s .now) (a .jd2s .now)) 4294967296
+          (a .numbers .now) (a .from) (a .to) (cells (a .tails .now)) (cells (a .ranks .now)) (s .pre .layable)
+          (λ p x y z. live-of (a .jd1s .now) (a .jd2s .now) p (s .pre .alive p x y z));
+    }
 
 shared-slice-read-rank : tie.Need-shared-slice-read-rank Inv-loop μ-loop
 shared-slice-read-rank c =
@@ -43,8 +50,13 @@ rank-requires c κs =
     let l = c .before .before .before in
     let i = c .before .before in
     let s = l .before .before .before .before .before .before in
-    let a = s .args in
-    (omega (arith, i .loop-test .taken, l .loop .inv .laying .few, s .pre .layable .small), λ e. laying-searchable (Live (a .jd1s .now) (a .jd2s .now)) (soonerAt (a .jd1s .now) (a .jd2s .now)) (date-order (a .jd1s .now) (a .jd2s .now)) 4294967296 (a .numbers .now) (a .from) (a .to) (cells (a .tails .now)) (cells (a .ranks .now)) (s .pre .layable) (λ p x y z. live-of (a .jd1s .now) (a .jd2s .now) p (s .pre .alive p x y z)) (cells (l .loop .tails)) (cells (l .loop .ranks)) (l .loop .many) (l .loop .i) (l .loop .inv .laying) (i .loop-test .taken) e)
+    let a = s .args in (
+      omega (arith, i .loop-test .taken, l .loop .inv .laying .few, s .pre .layable .small),
+      λ e. laying-searchable (Live (a .jd1s .now) (a .jd2s .now)) (soonerAt (a .jd1s .now) (a .jd2s .now)) (date-order (a .jd1s .now) (a .jd2s .now))
+          4294967296 (a .numbers .now) (a .from) (a .to) (cells (a .tails .now)) (cells (a .ranks .now)) (s .pre .layable)
+          (λ p x y z. live-of (a .jd1s .now) (a .jd2s .now) p (s .pre .alive p x y z)) (cells (l .loop .tails)) (cells (l .loop .ranks)) (l .loop .many)
+          (l .loop .i) (l .loop .inv .laying) (i .loop-test .taken) e,
+    )
 
 put-tail-requires : tie.Need-put-tail-requires Inv-loop μ-loop
 put-tail-requires c κs =
@@ -52,8 +64,14 @@ put-tail-requires c κs =
     let i = c .before .before .before .before in
     let s = l .before .before .before .before .before .before in
     let a = s .args in
-    let r = laying-rank (Live (a .jd1s .now) (a .jd2s .now)) (soonerAt (a .jd1s .now) (a .jd2s .now)) (date-order (a .jd1s .now) (a .jd2s .now)) 4294967296 (a .numbers .now) (a .from) (a .to) (cells (a .tails .now)) (cells (a .ranks .now)) (s .pre .layable) (λ p x y z. live-of (a .jd1s .now) (a .jd2s .now) p (s .pre .alive p x y z)) (cells (l .loop .tails)) (cells (l .loop .ranks)) (l .loop .many) (l .loop .i) (l .loop .inv .laying) (i .loop-test .taken) in
-    let m = many-room (Live (a .jd1s .now) (a .jd2s .now)) (soonerAt (a .jd1s .now) (a .jd2s .now)) (date-order (a .jd1s .now) (a .jd2s .now)) 4294967296 (a .numbers .now) (a .from) (a .to) (cells (a .tails .now)) (cells (a .ranks .now)) (s .pre .layable) (λ p x y z. live-of (a .jd1s .now) (a .jd2s .now) p (s .pre .alive p x y z)) (cells (l .loop .tails)) (cells (l .loop .ranks)) (l .loop .many) (l .loop .i) (l .loop .inv .laying) (i .loop-test .taken) in
+    let r = laying-rank (Live (a .jd1s .now) (a .jd2s .now)) (soonerAt (a .jd1s .now) (a .jd2s .now)) (date-order (a .jd1s .now) (a .jd2s .now)) 4294967296
+    (a .numbers .now) (a .from) (a .to) (cells (a .tails .now)) (cells (a .ranks .now)) (s .pre .layable)
+    (λ p x y z. live-of (a .jd1s .now) (a .jd2s .now) p (s .pre .alive p x y z)) (cells (l .loop .tails)) (cells (l .loop .ranks)) (l .loop .many)
+    (l .loop .i) (l .loop .inv .laying) (i .loop-test .taken) in
+    let m = many-room (Live (a .jd1s .now) (a .jd2s .now)) (soonerAt (a .jd1s .now) (a .jd2s .now)) (date-order (a .jd1s .now) (a .jd2s .now)) 4294967296
+    (a .numbers .now) (a .from) (a .to) (cells (a .tails .now)) (cells (a .ranks .now)) (s .pre .layable)
+    (λ p x y z. live-of (a .jd1s .now) (a .jd2s .now) p (s .pre .alive p x y z)) (cells (l .loop .tails)) (cells (l .loop .ranks)) (l .loop .many)
+    (l .loop .i) (l .loop .inv .laying) (i .loop-test .taken) in
     (omega (arith, r, m, c .before .rank .ensures), omega (arith, i .loop-test .taken, s .pre .layable .small))
 
 put-cell-requires : tie.Need-put-cell-requires Inv-loop μ-loop
@@ -62,8 +80,13 @@ put-cell-requires c κs =
     let i = c .before .before .before .before .before .before .before .before in
     let s = l .before .before .before .before .before .before in
     let a = s .args in
-    let r = laying-rank (Live (a .jd1s .now) (a .jd2s .now)) (soonerAt (a .jd1s .now) (a .jd2s .now)) (date-order (a .jd1s .now) (a .jd2s .now)) 4294967296 (a .numbers .now) (a .from) (a .to) (cells (a .tails .now)) (cells (a .ranks .now)) (s .pre .layable) (λ p x y z. live-of (a .jd1s .now) (a .jd2s .now) p (s .pre .alive p x y z)) (cells (l .loop .tails)) (cells (l .loop .ranks)) (l .loop .many) (l .loop .i) (l .loop .inv .laying) (i .loop-test .taken) in
-    (omega (arith, i .loop-test .taken, s .pre .layable .rankRoom, l .loop .inv .laying .ranksLength), omega (arith, r, c .before .before .before .before .before .rank .ensures, i .loop-test .taken, l .loop .inv .laying .few, s .pre .layable .small))
+    let r = laying-rank (Live (a .jd1s .now) (a .jd2s .now)) (soonerAt (a .jd1s .now) (a .jd2s .now)) (date-order (a .jd1s .now) (a .jd2s .now)) 4294967296
+    (a .numbers .now) (a .from) (a .to) (cells (a .tails .now)) (cells (a .ranks .now)) (s .pre .layable)
+    (λ p x y z. live-of (a .jd1s .now) (a .jd2s .now) p (s .pre .alive p x y z)) (cells (l .loop .tails)) (cells (l .loop .ranks)) (l .loop .many)
+    (l .loop .i) (l .loop .inv .laying) (i .loop-test .taken) in (
+      omega (arith, i .loop-test .taken, s .pre .layable .rankRoom, l .loop .inv .laying .ranksLength),
+      omega (arith, r, c .before .before .before .before .before .rank .ensures, i .loop-test .taken, l .loop .inv .laying .few, s .pre .layable .small),
+    )
 
 larger-requires : tie.Need-larger-requires Inv-loop μ-loop
 larger-requires c κs = search needs
@@ -93,8 +116,15 @@ loop-again c =
     record {
       tailsLong = c .before .before .before .before .before .before .before .put-tail .kept .0 ∙ l .loop .inv .tailsLong;
       ranksLong = c .before .before .before .put-cell .kept .0 ∙ l .loop .inv .ranksLong;
-      laying = laying-goes (Live (a .jd1s .now) (a .jd2s .now)) (soonerAt (a .jd1s .now) (a .jd2s .now)) (date-order (a .jd1s .now) (a .jd2s .now)) 4294967296 (a .numbers .now) (a .from) (a .to) (cells (a .tails .now)) (cells (a .ranks .now)) (s .pre .layable) (λ p x y z. live-of (a .jd1s .now) (a .jd2s .now) p (s .pre .alive p x y z)) (cells (l .loop .tails)) (cells (l .loop .ranks)) (l .loop .many) (l .loop .i) (l .loop .inv .laying) (i .loop-test .taken)
-          (c .before .before .before .before .before .before .before .before .before .rank .result) (c .larger .result) (cells (c .before .before .before .before .before .before .before .put-tail .last .0)) (cells (c .before .before .before .put-cell .last .0)) (c .before .before .before .before .before .before .before .before .before .rank .ensures) (c .before .before .before .before .before .before .before .put-tail .ensures) (c .before .before .before .put-cell .ensures) (c .larger .ensures);
+      laying = laying-goes (Live (a .jd1s .now) (a .jd2s .now)) (soonerAt (a .jd1s .now) (a .jd2s .now)) (date-order (a .jd1s .now) (a .jd2s .now)) 4294967296
+          (a .numbers .now) (a .from) (a .to) (cells (a .tails .now)) (cells (a .ranks .now)) (s .pre .layable)
+          (λ p x y z. live-of (a .jd1s .now) (a .jd2s .now) p (s .pre .alive p x y z)) (cells (l .loop .tails)) (cells (l .loop .ranks)) (l .loop .many)
+          (l .loop .i) (l .loop .inv .laying) (i .loop-test .taken)
+          (c .before .before .before .before .before .before .before .before .before .rank .result) (c .larger .result)
+          (cells (c .before .before .before .before .before .before .before .put-tail .last .0)) (cells (c .before .before .before .put-cell .last .0))
+          (c .before .before .before .before .before .before .before .before .before .rank .ensures)
+          (c .before .before .before .before .before .before .before .put-tail .ensures) (c .before .before .before .put-cell .ensures)
+          (c .larger .ensures);
     }
 
 same-length : tie.Need-same-length Inv-loop μ-loop
@@ -108,23 +138,13 @@ returns c =
     let l = c .before in
     let s = l .before .before .before .before .before .before in
     let a = s .args in
-    laying-ends (Live (a .jd1s .now) (a .jd2s .now)) (soonerAt (a .jd1s .now) (a .jd2s .now)) (date-order (a .jd1s .now) (a .jd2s .now)) 4294967296 (a .numbers .now) (a .from) (a .to) (cells (a .tails .now)) (cells (a .ranks .now)) (s .pre .layable) (λ p x y z. live-of (a .jd1s .now) (a .jd2s .now) p (s .pre .alive p x y z)) (cells (l .loop .tails)) (cells (l .loop .ranks)) (l .loop .many) (l .loop .i) (l .loop .inv .laying) (c .loop-test .left)
+    laying-ends (Live (a .jd1s .now) (a .jd2s .now)) (soonerAt (a .jd1s .now) (a .jd2s .now)) (date-order (a .jd1s .now) (a .jd2s .now)) 4294967296
+    (a .numbers .now) (a .from) (a .to) (cells (a .tails .now)) (cells (a .ranks .now)) (s .pre .layable)
+    (λ p x y z. live-of (a .jd1s .now) (a .jd2s .now) p (s .pre .alive p x y z)) (cells (l .loop .tails)) (cells (l .loop .ranks)) (l .loop .many)
+    (l .loop .i) (l .loop .inv .laying) (c .loop-test .left)
 
 pub lay-spec : {M : Type 1} → statement M
 lay-spec =
     tie.close
-    (tie.spec
-    Inv-loop
-    μ-loop
-    loop-holds
-    shared-slice-read-rank
-    rank-requires
-    put-tail-requires
-    put-cell-requires
-    larger-requires
-    add-i
-    loop-less
-    loop-again
-    same-length
-    same-length-2
-    returns)
+    (tie.spec Inv-loop μ-loop loop-holds shared-slice-read-rank rank-requires put-tail-requires put-cell-requires larger-requires add-i loop-less
+    loop-again same-length same-length-2 returns)

@@ -1,8 +1,7 @@
 -- `line_up::keep_dates::piles_before` meets its contract. Assumes nothing.
 use Prim.Native.Nat.{_-_}
-use mathlib.Core.Path.{_≡_, refl, sym, ap, _∙_}
+use mathlib.Core.Path.{_≡_, sym, _∙_}
 use native.Mathlib.Omega.{arith}
-use lib.ListN.{length}
 use borrow.Author.Needs.{needs}
 use Rattle.line_up.specs.keep_dates.Stamps.{soonerAt}
 use Rattle.line_up.specs.keep_dates.Cells.{cells}
@@ -29,7 +28,9 @@ returns-3 c =
     let s = c .before .before .before .before .before .before .before in
     let a = s .args in
     let e : a .many ≡ 0 → ⊥ = c .before .before .before .if1 .left in
-    last-before (soonerAt (a .jd1s .now) (a .jd2s .now)) 4294967296 (cells (a .tails .now)) (a .many) (a .i) (s .pre) (c .before .before .cell-at .result) (omega (arith, e)) (c .before .before .cell-at .ensures) (sym (c .before .sooner-at .ensures) ∙ c .if2 .left)
+    last-before (soonerAt (a .jd1s .now) (a .jd2s .now)) 4294967296 (cells (a .tails .now)) (a .many) (a .i) (s .pre) (c .before .before .cell-at .result)
+    (omega (arith, e)) (c .before .before .cell-at .ensures) (sym (c .before .sooner-at .ensures) ∙ c .if2 .left)
 
 pub piles-before-spec : {M : Type 1} → statement M
-piles-before-spec = tie.close (tie.spec returns (λ c. search needs) (λ c κs. search needs) sooner-at-requires (λ c κs. search needs) (λ c. search needs) returns-3)
+piles-before-spec = tie.close (tie.spec returns (λ c. search needs) (λ c κs. search needs) sooner-at-requires (λ c κs. search needs) (λ c. search needs)
+    returns-3)

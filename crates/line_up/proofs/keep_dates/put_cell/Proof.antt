@@ -1,6 +1,6 @@
 -- `line_up::keep_dates::put_cell` meets its contract. Assumes nothing.
 use native.Mathlib.Omega.{arith}
-use mathlib.Core.Path.{_≡_, refl, sym, ap, _∙_}
+use mathlib.Core.Path.{ap, _∙_}
 use borrow.Author.Needs.{needs}
 use Rattle.line_up.specs.keep_dates.Cells.{cells}
 use Rattle.line_up.proofs.keep_dates.Cells.{length-low, cells-put}

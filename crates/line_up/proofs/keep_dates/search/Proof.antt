@@ -1,7 +1,6 @@
 -- `line_up::keep_dates::search` meets its contract. Assumes nothing.
 use Prim.Native.Nat.{_+_, _-_, _/_}
 use native.Mathlib.Omega.{arith}
-use lib.ListN.{length}
 use borrow.Author.Needs.{needs}
 use Rattle.line_up.specs.keep_dates.Stamps.{soonerAt}
 use Rattle.line_up.specs.keep_dates.Cells.{cells}
@@ -39,7 +38,12 @@ sooner-at-requires c κs =
     record { one = omega (arith, s .pre .place); two = omega (arith, p, c .cell-at .ensures) }
 
 low-after-requires : tie.Need-low-after-requires Inv-loop μ-loop
-low-after-requires c κs = omega (arith, c .before .before .loop-test .taken, c .before .before .before .loop .inv .within, c .before .before .before .before .before .before .before .fits .many .fits)
+low-after-requires c κs = omega (
+  arith,
+  c .before .before .loop-test .taken,
+  c .before .before .before .loop .inv .within,
+  c .before .before .before .before .before .before .before .fits .many .fits,
+)
 
 high-after-requires : tie.Need-high-after-requires Inv-loop μ-loop
 high-after-requires c κs = search needs
@@ -51,7 +55,8 @@ loop-less c =
     let s = l .before .before .before .before in
     let a = s .args in
     let m = l .loop .low + (l .loop .high - l .loop .low) / 2 in
-    halves-fall (soonerAt (a .jd1s .now) (a .jd2s .now)) 4294967296 (cells (a .tails .now)) (a .many) (a .i) (s .pre) (c .before .before .sooner-at .result) (l .loop .low) m (l .loop .high) (c .before .low-after .result) (c .high-after .result)
+    halves-fall (soonerAt (a .jd1s .now) (a .jd2s .now)) 4294967296 (cells (a .tails .now)) (a .many) (a .i) (s .pre) (c .before .before .sooner-at .result)
+    (l .loop .low) m (l .loop .high) (c .before .low-after .result) (c .high-after .result)
     (omega arith) (omega (arith, i .loop-test .taken)) (c .before .low-after .ensures) (c .high-after .ensures)
 
 loop-again : tie.Need-loop-again Inv-loop μ-loop
@@ -61,29 +66,21 @@ loop-again c =
     let s = l .before .before .before .before in
     let a = s .args in
     let m = l .loop .low + (l .loop .high - l .loop .low) / 2 in
-    search-goes (soonerAt (a .jd1s .now) (a .jd2s .now)) 4294967296 (cells (a .tails .now)) (a .many) (a .i) (s .pre) (c .before .before .sooner-at .result) (l .loop .low) m (l .loop .high) (c .before .before .before .cell-at .result) (c .before .low-after .result) (c .high-after .result)
-    (c .before .before .before .cell-at .ensures) (c .before .before .sooner-at .ensures) (omega arith) (omega (arith, i .loop-test .taken)) (l .loop .inv) (c .before .low-after .ensures) (c .high-after .ensures)
+    search-goes (soonerAt (a .jd1s .now) (a .jd2s .now)) 4294967296 (cells (a .tails .now)) (a .many) (a .i) (s .pre) (c .before .before .sooner-at .result)
+    (l .loop .low) m (l .loop .high) (c .before .before .before .cell-at .result) (c .before .low-after .result) (c .high-after .result)
+    (c .before .before .before .cell-at .ensures) (c .before .before .sooner-at .ensures) (omega arith) (omega (arith, i .loop-test .taken)) (l .loop .inv)
+    (c .before .low-after .ensures) (c .high-after .ensures)
 
 returns : tie.Need-returns Inv-loop μ-loop
 returns c =
     let l = c .before in
     let s = l .before .before .before .before in
     let a = s .args in
-    search-ends (soonerAt (a .jd1s .now) (a .jd2s .now)) 4294967296 (cells (a .tails .now)) (a .many) (a .i) (s .pre) (l .loop .low) (l .loop .high) (l .loop .inv) (c .loop-test .left)
+    search-ends (soonerAt (a .jd1s .now) (a .jd2s .now)) 4294967296 (cells (a .tails .now)) (a .many) (a .i) (s .pre) (l .loop .low) (l .loop .high)
+    (l .loop .inv) (c .loop-test .left)
 
 pub search-spec : {M : Type 1} → statement M
 search-spec =
     tie.close
-    (tie.spec
-    Inv-loop
-    μ-loop
-    loop-holds
-    sub-mid
-    add-mid
-    cell-at-requires
-    sooner-at-requires
-    low-after-requires
-    high-after-requires
-    loop-less
-    loop-again
-    returns)
+    (tie.spec Inv-loop μ-loop loop-holds sub-mid add-mid cell-at-requires sooner-at-requires low-after-requires high-after-requires loop-less
+    loop-again returns)

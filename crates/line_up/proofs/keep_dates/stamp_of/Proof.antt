@@ -1,5 +1,5 @@
 -- `line_up::keep_dates::stamp_of` meets its contract. Assumes nothing.
-use mathlib.Core.Path.{_≡_, refl, sym, ap, _∙_}
+use mathlib.Core.Path.{_∙_}
 use Rattle.line_up.proofs.keep_dates.Cases.{stamp-is}
 use borrow.Author.Needs.{needs}
 use Rattle.line_up.proofs.keep_dates.stamp_of.Statement.{statement}
@@ -9,17 +9,13 @@ returns : tie.Need-returns
 returns c =
     let s = c .before .before .before .before .before .before .before in
     let a = s .args in
-    c .new .ensures ∙ stamp-is (a .jd1s .now) (a .jd2s .now) (a .i) (c .before .before .before .before .u64-at .result) (c .before .before .before .u64-at2 .result) (c .before .before .from-bits .result) (c .before .from-bits2 .result) (c .before .before .before .before .u64-at .ensures) (c .before .before .before .u64-at2 .ensures) (c .before .before .from-bits .ensures) (c .before .from-bits2 .ensures)
+    c .new .ensures ∙ stamp-is (a .jd1s .now) (a .jd2s .now) (a .i) (c .before .before .before .before .u64-at .result)
+    (c .before .before .before .u64-at2 .result) (c .before .before .from-bits .result) (c .before .from-bits2 .result)
+    (c .before .before .before .before .u64-at .ensures) (c .before .before .before .u64-at2 .ensures) (c .before .before .from-bits .ensures)
+    (c .before .from-bits2 .ensures)
 
 pub stamp-of-spec : {M : Type 1} → statement M
 stamp-of-spec =
     tie.close
-    (tie.spec
-    (λ c. search needs)
-    (λ c κs. search needs)
-    (λ c. search needs)
-    (λ c κs. search needs)
-    (λ c κs. search needs)
-    (λ c κs. search needs)
-    (λ c κs. search needs)
-    returns)
+    (tie.spec (λ c. search needs) (λ c κs. search needs) (λ c. search needs) (λ c κs. search needs) (λ c κs. search needs) (λ c κs. search needs)
+    (λ c κs. search needs) returns)

@@ -1,8 +1,6 @@
 -- `line_up::keep_most::judge` meets its contract. Assumes nothing.
-use Prim.Native.Nat.{ℕ, _+_, _-_}
+use Prim.Native.Nat.{_-_}
 use native.Mathlib.Omega.{arith}
-use mathlib.Core.Path.{_≡_, refl, sym, ap, _∙_}
-use lib.ListN.{length}
 use borrow.Author.Needs.{needs}
 use Rattle.line_up.proofs.keep_most.Judging.{Judging, judging-starts, judging-next, judging-ends}
 use Rattle.line_up.proofs.keep_most.judge.Statement.{statement}
@@ -67,7 +65,9 @@ loop-again c =
     let i = c .before .before .before .before in
     let s = l .before .before .before in
     let a = s .args in
-    judging-next (a .numbers .now) (a .ranks .now) (a .from) (a .to) (a .many) (s .pre) (l .loop .numbers) (l .loop .wanted) (l .loop .i) (l .loop .inv) (i .loop-test .taken) (c .before .before .before .tail-at .result) (c .before .judged .result) (c .wanted-before .result) (c .before .before .before .tail-at .ensures) (c .before .judged .ensures) (c .wanted-before .ensures)
+    judging-next (a .numbers .now) (a .ranks .now) (a .from) (a .to) (a .many) (s .pre) (l .loop .numbers) (l .loop .wanted) (l .loop .i) (l .loop .inv)
+    (i .loop-test .taken) (c .before .before .before .tail-at .result) (c .before .judged .result) (c .wanted-before .result)
+    (c .before .before .before .tail-at .ensures) (c .before .judged .ensures) (c .wanted-before .ensures)
 
 same-length : tie.Need-same-length Inv-loop μ-loop
 same-length c = c .before .loop .inv .len
@@ -77,22 +77,11 @@ returns c =
     let l = c .before in
     let s = l .before .before .before in
     let a = s .args in
-    judging-ends (a .numbers .now) (a .ranks .now) (a .from) (a .to) (a .many) (s .pre) (l .loop .numbers) (l .loop .wanted) (l .loop .i) (l .loop .inv) (c .loop-test .left)
+    judging-ends (a .numbers .now) (a .ranks .now) (a .from) (a .to) (a .many) (s .pre) (l .loop .numbers) (l .loop .wanted) (l .loop .i) (l .loop .inv)
+    (c .loop-test .left)
 
 pub judge-spec : {M : Type 1} → statement M
 judge-spec =
     tie.close
-    (tie.spec
-    Inv-loop
-    μ-loop
-    loop-holds
-    sub-i
-    tail-at-requires
-    slice-read-judged
-    judged-requires
-    slice-write-numbers
-    wanted-before-requires
-    loop-less
-    loop-again
-    same-length
-    returns)
+    (tie.spec Inv-loop μ-loop loop-holds sub-i tail-at-requires slice-read-judged judged-requires slice-write-numbers wanted-before-requires loop-less
+    loop-again same-length returns)

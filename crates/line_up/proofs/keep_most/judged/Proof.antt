@@ -1,6 +1,4 @@
 -- `line_up::keep_most::judged` meets its contract. Assumes nothing.
-use native.Mathlib.Omega.{arith}
-use mathlib.Core.Path.{_≡_, refl, sym, ap, _∙_}
 use borrow.Author.Tests.{eq-eqb, ne-eqb}
 use Rattle.line_up.proofs.keep_most.judged.Statement.{statement}
 use Rattle.line_up.proofs.keep_most.judged.Tie as tie

@@ -1,7 +1,6 @@
 -- `line_up::keep_most::lay` meets its contract. Assumes nothing.
-use Prim.Native.Nat.{ℕ, _+_, _-_}
+use Prim.Native.Nat.{_-_}
 use native.Mathlib.Omega.{arith}
-use mathlib.Core.Path.{_≡_, refl, sym, ap, _∙_}
 use lib.ListN.{length}
 use borrow.Author.Needs.{needs}
 use Rattle.line_up.specs.keep_most.Keys.{soonerAt}
@@ -20,7 +19,8 @@ loop-holds : tie.Need-loop-holds Inv-loop μ-loop
 loop-holds c =
     let s = c .before .before .before .before in
     let a = s .args in
-    laying-starts Any (soonerAt (a .keys .now)) (key-order (a .keys .now)) (length (a .keys .now)) (a .numbers .now) (a .from) (a .to) (a .tails .now) (a .ranks .now) (s .pre) (any-live (a .numbers .now) (a .from) (a .to))
+    laying-starts Any (soonerAt (a .keys .now)) (key-order (a .keys .now)) (length (a .keys .now)) (a .numbers .now) (a .from) (a .to) (a .tails .now)
+    (a .ranks .now) (s .pre) (any-live (a .numbers .now) (a .from) (a .to))
 
 shared-slice-read-rank : tie.Need-shared-slice-read-rank Inv-loop μ-loop
 shared-slice-read-rank c =
@@ -35,8 +35,12 @@ rank-requires c κs =
     let l = c .before .before .before in
     let i = c .before .before in
     let s = l .before .before .before .before .before in
-    let a = s .args in
-    (omega (arith, i .loop-test .taken, l .loop .inv .few, s .pre .small), λ e. laying-searchable Any (soonerAt (a .keys .now)) (key-order (a .keys .now)) (length (a .keys .now)) (a .numbers .now) (a .from) (a .to) (a .tails .now) (a .ranks .now) (s .pre) (any-live (a .numbers .now) (a .from) (a .to)) (l .loop .tails) (l .loop .ranks) (l .loop .many) (l .loop .i) (l .loop .inv) (i .loop-test .taken) e)
+    let a = s .args in (
+      omega (arith, i .loop-test .taken, l .loop .inv .few, s .pre .small),
+      λ e. laying-searchable Any (soonerAt (a .keys .now)) (key-order (a .keys .now)) (length (a .keys .now)) (a .numbers .now) (a .from) (a .to)
+          (a .tails .now) (a .ranks .now) (s .pre) (any-live (a .numbers .now) (a .from) (a .to)) (l .loop .tails) (l .loop .ranks) (l .loop .many) (l .loop .i)
+          (l .loop .inv) (i .loop-test .taken) e,
+    )
 
 put-tail-requires : tie.Need-put-tail-requires Inv-loop μ-loop
 put-tail-requires c κs =
@@ -44,8 +48,12 @@ put-tail-requires c κs =
     let i = c .before .before .before .before in
     let s = l .before .before .before .before .before in
     let a = s .args in
-    let r = laying-rank Any (soonerAt (a .keys .now)) (key-order (a .keys .now)) (length (a .keys .now)) (a .numbers .now) (a .from) (a .to) (a .tails .now) (a .ranks .now) (s .pre) (any-live (a .numbers .now) (a .from) (a .to)) (l .loop .tails) (l .loop .ranks) (l .loop .many) (l .loop .i) (l .loop .inv) (i .loop-test .taken) in
-    let m = many-room Any (soonerAt (a .keys .now)) (key-order (a .keys .now)) (length (a .keys .now)) (a .numbers .now) (a .from) (a .to) (a .tails .now) (a .ranks .now) (s .pre) (any-live (a .numbers .now) (a .from) (a .to)) (l .loop .tails) (l .loop .ranks) (l .loop .many) (l .loop .i) (l .loop .inv) (i .loop-test .taken) in
+    let r = laying-rank Any (soonerAt (a .keys .now)) (key-order (a .keys .now)) (length (a .keys .now)) (a .numbers .now) (a .from) (a .to) (a .tails .now)
+    (a .ranks .now) (s .pre) (any-live (a .numbers .now) (a .from) (a .to)) (l .loop .tails) (l .loop .ranks) (l .loop .many) (l .loop .i) (l .loop .inv)
+    (i .loop-test .taken) in
+    let m = many-room Any (soonerAt (a .keys .now)) (key-order (a .keys .now)) (length (a .keys .now)) (a .numbers .now) (a .from) (a .to) (a .tails .now)
+    (a .ranks .now) (s .pre) (any-live (a .numbers .now) (a .from) (a .to)) (l .loop .tails) (l .loop .ranks) (l .loop .many) (l .loop .i) (l .loop .inv)
+    (i .loop-test .taken) in
     (omega (arith, r, m, c .before .rank .ensures), omega (arith, i .loop-test .taken, s .pre .small))
 
 put-at-requires : tie.Need-put-at-requires Inv-loop μ-loop
@@ -54,8 +62,12 @@ put-at-requires c κs =
     let i = c .before .before .before .before .before .before .before .before in
     let s = l .before .before .before .before .before in
     let a = s .args in
-    let r = laying-rank Any (soonerAt (a .keys .now)) (key-order (a .keys .now)) (length (a .keys .now)) (a .numbers .now) (a .from) (a .to) (a .tails .now) (a .ranks .now) (s .pre) (any-live (a .numbers .now) (a .from) (a .to)) (l .loop .tails) (l .loop .ranks) (l .loop .many) (l .loop .i) (l .loop .inv) (i .loop-test .taken) in
-    (omega (arith, i .loop-test .taken, s .pre .rankRoom, l .loop .inv .ranksLength), omega (arith, r, c .before .before .before .before .before .rank .ensures, i .loop-test .taken, l .loop .inv .few, s .pre .small))
+    let r = laying-rank Any (soonerAt (a .keys .now)) (key-order (a .keys .now)) (length (a .keys .now)) (a .numbers .now) (a .from) (a .to) (a .tails .now)
+    (a .ranks .now) (s .pre) (any-live (a .numbers .now) (a .from) (a .to)) (l .loop .tails) (l .loop .ranks) (l .loop .many) (l .loop .i) (l .loop .inv)
+    (i .loop-test .taken) in (
+      omega (arith, i .loop-test .taken, s .pre .rankRoom, l .loop .inv .ranksLength),
+      omega (arith, r, c .before .before .before .before .before .rank .ensures, i .loop-test .taken, l .loop .inv .few, s .pre .small),
+    )
 
 larger-requires : tie.Need-larger-requires Inv-loop μ-loop
 larger-requires c κs = search needs
@@ -82,8 +94,13 @@ loop-again c =
     let i = c .before .before .before .before .before .before .before .before .before .before .before .before in
     let s = l .before .before .before .before .before in
     let a = s .args in
-    laying-goes Any (soonerAt (a .keys .now)) (key-order (a .keys .now)) (length (a .keys .now)) (a .numbers .now) (a .from) (a .to) (a .tails .now) (a .ranks .now) (s .pre) (any-live (a .numbers .now) (a .from) (a .to)) (l .loop .tails) (l .loop .ranks) (l .loop .many) (l .loop .i) (l .loop .inv) (i .loop-test .taken)
-    (c .before .before .before .before .before .before .before .before .before .rank .result) (c .larger .result) (c .before .before .before .before .before .before .before .put-tail .last .0) (c .before .before .before .put-at .last .0) (c .before .before .before .before .before .before .before .before .before .rank .ensures) (c .before .before .before .before .before .before .before .put-tail .ensures) (c .before .before .before .put-at .ensures) (c .larger .ensures)
+    laying-goes Any (soonerAt (a .keys .now)) (key-order (a .keys .now)) (length (a .keys .now)) (a .numbers .now) (a .from) (a .to) (a .tails .now)
+    (a .ranks .now) (s .pre) (any-live (a .numbers .now) (a .from) (a .to)) (l .loop .tails) (l .loop .ranks) (l .loop .many) (l .loop .i) (l .loop .inv)
+    (i .loop-test .taken)
+    (c .before .before .before .before .before .before .before .before .before .rank .result) (c .larger .result)
+    (c .before .before .before .before .before .before .before .put-tail .last .0) (c .before .before .before .put-at .last .0)
+    (c .before .before .before .before .before .before .before .before .before .rank .ensures)
+    (c .before .before .before .before .before .before .before .put-tail .ensures) (c .before .before .before .put-at .ensures) (c .larger .ensures)
 
 same-length : tie.Need-same-length Inv-loop μ-loop
 same-length c = c .before .loop .inv .tailsLength
@@ -96,23 +113,12 @@ returns c =
     let l = c .before in
     let s = l .before .before .before .before .before in
     let a = s .args in
-    laying-ends Any (soonerAt (a .keys .now)) (key-order (a .keys .now)) (length (a .keys .now)) (a .numbers .now) (a .from) (a .to) (a .tails .now) (a .ranks .now) (s .pre) (any-live (a .numbers .now) (a .from) (a .to)) (l .loop .tails) (l .loop .ranks) (l .loop .many) (l .loop .i) (l .loop .inv) (c .loop-test .left)
+    laying-ends Any (soonerAt (a .keys .now)) (key-order (a .keys .now)) (length (a .keys .now)) (a .numbers .now) (a .from) (a .to) (a .tails .now)
+    (a .ranks .now) (s .pre) (any-live (a .numbers .now) (a .from) (a .to)) (l .loop .tails) (l .loop .ranks) (l .loop .many) (l .loop .i) (l .loop .inv)
+    (c .loop-test .left)
 
 pub lay-spec : {M : Type 1} → statement M
 lay-spec =
     tie.close
-    (tie.spec
-    Inv-loop
-    μ-loop
-    loop-holds
-    shared-slice-read-rank
-    rank-requires
-    put-tail-requires
-    put-at-requires
-    larger-requires
-    add-i
-    loop-less
-    loop-again
-    same-length
-    same-length-2
-    returns)
+    (tie.spec Inv-loop μ-loop loop-holds shared-slice-read-rank rank-requires put-tail-requires put-at-requires larger-requires add-i loop-less
+    loop-again same-length same-length-2 returns)

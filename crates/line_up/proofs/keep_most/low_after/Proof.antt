@@ -3,8 +3,5 @@ use borrow.Author.Needs.{needs}
 use Rattle.line_up.proofs.keep_most.low_after.Statement.{statement}
 use Rattle.line_up.proofs.keep_most.low_after.Tie as tie
 
-returns-2 : tie.Need-returns-2
-returns-2 c = rw (c .if1 .left)
-
 pub low-after-spec : {M : Type 1} → statement M
-low-after-spec = tie.close (tie.spec (λ c. search needs) (λ c. search needs) returns-2)
+low-after-spec = tie.close (tie.spec (λ c. search needs) (λ c. search needs) (λ c. rw (c .if1 .left)))

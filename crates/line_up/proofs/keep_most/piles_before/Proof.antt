@@ -1,6 +1,6 @@
 -- `line_up::keep_most::piles_before` meets its contract. Assumes nothing.
 use Prim.Native.Nat.{_-_}
-use mathlib.Core.Path.{_≡_, refl, sym, ap, _∙_}
+use mathlib.Core.Path.{_≡_, sym, _∙_}
 use native.Mathlib.Omega.{arith}
 use lib.ListN.{length}
 use borrow.Author.Needs.{needs}
@@ -27,7 +27,9 @@ returns-3 c =
     let s = c .before .before .before .before .before .before in
     let a = s .args in
     let e : a .many ≡ 0 → ⊥ = c .before .before .before .if1 .left in
-    last-before (soonerAt (a .keys .now)) (length (a .keys .now)) (a .tails .now) (a .many) (a .i) (s .pre) (c .before .before .tail-at .result) (omega (arith, e)) (c .before .before .tail-at .ensures) (sym (c .before .sooner-at .ensures) ∙ c .if2 .left)
+    last-before (soonerAt (a .keys .now)) (length (a .keys .now)) (a .tails .now) (a .many) (a .i) (s .pre) (c .before .before .tail-at .result)
+    (omega (arith, e)) (c .before .before .tail-at .ensures) (sym (c .before .sooner-at .ensures) ∙ c .if2 .left)
 
 pub piles-before-spec : {M : Type 1} → statement M
-piles-before-spec = tie.close (tie.spec returns (λ c. search needs) (λ c κs. search needs) sooner-at-requires (λ c κs. search needs) (λ c. search needs) returns-3)
+piles-before-spec = tie.close (tie.spec returns (λ c. search needs) (λ c κs. search needs) sooner-at-requires (λ c κs. search needs) (λ c. search needs)
+    returns-3)

@@ -1,18 +1,12 @@
 -- `line_up::keep_most::rank` meets its contract. Assumes nothing.
-use Prim.Native.Nat.{_+_}
 use native.Mathlib.Omega.{arith}
 use native.Mathlib.Numerals.{add-one}
-use mathlib.Core.Path.{_≡_, refl, sym, ap, _∙_}
 use lib.ListN.{length}
-use borrow.Author.Needs.{needs}
 use borrow.Author.Tests.{eq-eqb, ne-eqb}
 use Rattle.line_up.specs.keep_most.Keys.{soonerAt}
 use Rattle.line_up.proofs.keep_most.Searching.{before-many}
 use Rattle.line_up.proofs.keep_most.rank.Statement.{statement}
 use Rattle.line_up.proofs.keep_most.rank.Tie as tie
-
-piles-before-requires : tie.Need-piles-before-requires
-piles-before-requires c κs = c .before .before .before .pre .1 (c .if1 .taken)
 
 add-result : tie.Need-add-result
 add-result c =
@@ -32,4 +26,4 @@ returns-2 c =
     rw (ne-eqb (a .number) 0 (c .if1 .left))
 
 pub rank-spec : {M : Type 1} → statement M
-rank-spec = tie.close (tie.spec piles-before-requires add-result returns returns-2)
+rank-spec = tie.close (tie.spec (λ c κs. c .before .before .before .pre .1 (c .if1 .taken)) add-result returns returns-2)

@@ -37,7 +37,12 @@ sooner-at-requires c κs =
     (s .pre .place, rw (c .tail-at .ensures) (s .pre .places m (omega (arith, c .before .loop-test .taken, l .loop .inv .within))))
 
 low-after-requires : tie.Need-low-after-requires Inv-loop μ-loop
-low-after-requires c κs = omega (arith, c .before .before .loop-test .taken, c .before .before .before .loop .inv .within, c .before .before .before .before .before .before .fits .many .fits)
+low-after-requires c κs = omega (
+  arith,
+  c .before .before .loop-test .taken,
+  c .before .before .before .loop .inv .within,
+  c .before .before .before .before .before .before .fits .many .fits,
+)
 
 high-after-requires : tie.Need-high-after-requires Inv-loop μ-loop
 high-after-requires c κs = search needs
@@ -49,7 +54,8 @@ loop-less c =
     let s = l .before .before .before in
     let a = s .args in
     let m = l .loop .low + (l .loop .high - l .loop .low) / 2 in
-    halves-fall (soonerAt (a .keys .now)) (length (a .keys .now)) (a .tails .now) (a .many) (a .i) (s .pre) (c .before .before .sooner-at .result) (l .loop .low) m (l .loop .high) (c .before .low-after .result) (c .high-after .result)
+    halves-fall (soonerAt (a .keys .now)) (length (a .keys .now)) (a .tails .now) (a .many) (a .i) (s .pre) (c .before .before .sooner-at .result)
+    (l .loop .low) m (l .loop .high) (c .before .low-after .result) (c .high-after .result)
     (omega arith) (omega (arith, i .loop-test .taken)) (c .before .low-after .ensures) (c .high-after .ensures)
 
 loop-again : tie.Need-loop-again Inv-loop μ-loop
@@ -59,29 +65,21 @@ loop-again c =
     let s = l .before .before .before in
     let a = s .args in
     let m = l .loop .low + (l .loop .high - l .loop .low) / 2 in
-    search-goes (soonerAt (a .keys .now)) (length (a .keys .now)) (a .tails .now) (a .many) (a .i) (s .pre) (c .before .before .sooner-at .result) (l .loop .low) m (l .loop .high) (c .before .before .before .tail-at .result) (c .before .low-after .result) (c .high-after .result)
-    (c .before .before .before .tail-at .ensures) (c .before .before .sooner-at .ensures) (omega arith) (omega (arith, i .loop-test .taken)) (l .loop .inv) (c .before .low-after .ensures) (c .high-after .ensures)
+    search-goes (soonerAt (a .keys .now)) (length (a .keys .now)) (a .tails .now) (a .many) (a .i) (s .pre) (c .before .before .sooner-at .result)
+    (l .loop .low) m (l .loop .high) (c .before .before .before .tail-at .result) (c .before .low-after .result) (c .high-after .result)
+    (c .before .before .before .tail-at .ensures) (c .before .before .sooner-at .ensures) (omega arith) (omega (arith, i .loop-test .taken)) (l .loop .inv)
+    (c .before .low-after .ensures) (c .high-after .ensures)
 
 returns : tie.Need-returns Inv-loop μ-loop
 returns c =
     let l = c .before in
     let s = l .before .before .before in
     let a = s .args in
-    search-ends (soonerAt (a .keys .now)) (length (a .keys .now)) (a .tails .now) (a .many) (a .i) (s .pre) (l .loop .low) (l .loop .high) (l .loop .inv) (c .loop-test .left)
+    search-ends (soonerAt (a .keys .now)) (length (a .keys .now)) (a .tails .now) (a .many) (a .i) (s .pre) (l .loop .low) (l .loop .high) (l .loop .inv)
+    (c .loop-test .left)
 
 pub search-spec : {M : Type 1} → statement M
 search-spec =
     tie.close
-    (tie.spec
-    Inv-loop
-    μ-loop
-    loop-holds
-    sub-mid
-    add-mid
-    tail-at-requires
-    sooner-at-requires
-    low-after-requires
-    high-after-requires
-    loop-less
-    loop-again
-    returns)
+    (tie.spec Inv-loop μ-loop loop-holds sub-mid add-mid tail-at-requires sooner-at-requires low-after-requires high-after-requires loop-less
+    loop-again returns)

@@ -1,6 +1,5 @@
 -- `line_up::keep_most::wanted_before` meets its contract. Assumes nothing.
 use native.Mathlib.Omega.{arith}
-use mathlib.Core.Path.{_≡_, refl, sym, ap, _∙_}
 use borrow.Author.Needs.{needs}
 use borrow.Author.Tests.{eq-eqb, ne-eqb}
 use Rattle.line_up.proofs.keep_most.wanted_before.Statement.{statement}

@@ -5,15 +5,7 @@ use borrow.Author.Needs.{needs}
 use Rattle.numerals.proofs.little_endian.i32_of_pattern.Statement.{statement}
 use Rattle.numerals.proofs.little_endian.i32_of_pattern.Tie as tie
 
-returns : tie.Need-returns
-returns c = low-32 _ (c .if1 .taken)
-
-sub-result-2 : tie.Need-sub-result-2
-sub-result-2 c = fits-32 _ (c .if1 .left) (omega arith)
-
-returns-2 : tie.Need-returns-2
-returns-2 c = high-32 _ (c .if1 .left) (omega arith)
-
 pub i32-of-pattern-spec : {M : Type 1} → statement M
 i32-of-pattern-spec =
-    tie.close (tie.spec (λ c. search needs) returns (λ c. search needs) (λ c. search needs) sub-result-2 returns-2)
+    tie.close (tie.spec (λ c. search needs) (λ c. low-32 _ (c .if1 .taken)) (λ c. search needs) (λ c. search needs)
+    (λ c. fits-32 _ (c .if1 .left) (omega arith)) (λ c. high-32 _ (c .if1 .left) (omega arith)))

@@ -10,9 +10,6 @@ use borrow.Author.Needs.{needs}
 use Rattle.numerals.proofs.little_endian.nth_u64.Statement.{statement}
 use Rattle.numerals.proofs.little_endian.nth_u64.Tie as tie
 
-returns : tie.Need-returns
-returns c = absent64 _ _ (omega arith)
-
 returns-2 : tie.Need-returns-2
 returns-2 c =
     let s = c .before .before .before .before in
@@ -24,12 +21,5 @@ returns-2 c =
 pub nth-u64-spec : {M : Type 1} → statement M
 nth-u64-spec =
     tie.close
-    (tie.spec
-    returns
-    (λ c. search needs)
-    (λ c. search needs)
-    (λ c. search needs)
-    (λ c. search needs)
-    (λ c. search needs)
-    (λ c κs. search needs)
-    returns-2)
+    (tie.spec (λ c. absent64 _ _ (omega arith)) (λ c. search needs) (λ c. search needs) (λ c. search needs) (λ c. search needs) (λ c. search needs)
+    (λ c κs. search needs) returns-2)

@@ -10,30 +10,6 @@ use Rattle.numerals.proofs.little_endian.put_u64.Tie as tie
 returns : tie.Need-returns
 returns c = too-few (now (c .before .before .args .out)) (c .before .before .args .n) (c .if1 .taken)
 
-slice-write-out-2 : tie.Need-slice-write-out-2
-slice-write-out-2 c = simp length-set (omega (arith, c .before .if1 .left))
-
-slice-write-out-3 : tie.Need-slice-write-out-3
-slice-write-out-3 c = simp length-set (omega (arith, c .before .if1 .left))
-
-slice-write-out-4 : tie.Need-slice-write-out-4
-slice-write-out-4 c = simp length-set (omega (arith, c .before .if1 .left))
-
-slice-write-out-5 : tie.Need-slice-write-out-5
-slice-write-out-5 c = simp length-set (omega (arith, c .before .if1 .left))
-
-slice-write-out-6 : tie.Need-slice-write-out-6
-slice-write-out-6 c = simp length-set (omega (arith, c .before .if1 .left))
-
-slice-write-out-7 : tie.Need-slice-write-out-7
-slice-write-out-7 c = simp length-set (omega (arith, c .before .if1 .left))
-
-slice-write-out-8 : tie.Need-slice-write-out-8
-slice-write-out-8 c = simp length-set (omega (arith, c .before .if1 .left))
-
-same-length : tie.Need-same-length
-same-length c = simp length-set
-
 returns-2 : tie.Need-returns-2
 returns-2 c =
     let a = c .before .before .before .args in
@@ -42,24 +18,9 @@ returns-2 c =
 pub put-u64-spec : {M : Type 1} → statement M
 put-u64-spec =
     tie.close
-    (tie.spec
-    returns
-    (λ c κs. search needs)
-    (λ c. search needs)
-    (λ c. search needs)
-    (λ c. search needs)
-    slice-write-out-2
-    (λ c. search needs)
-    slice-write-out-3
-    (λ c. search needs)
-    slice-write-out-4
-    (λ c. search needs)
-    slice-write-out-5
-    (λ c. search needs)
-    slice-write-out-6
-    (λ c. search needs)
-    slice-write-out-7
-    (λ c. search needs)
-    slice-write-out-8
-    same-length
-    returns-2)
+    (tie.spec returns (λ c κs. search needs) (λ c. search needs) (λ c. search needs) (λ c. search needs)
+    (λ c. simp length-set (omega (arith, c .before .if1 .left))) (λ c. search needs) (λ c. simp length-set (omega (arith, c .before .if1 .left)))
+    (λ c. search needs) (λ c. simp length-set (omega (arith, c .before .if1 .left))) (λ c. search needs)
+    (λ c. simp length-set (omega (arith, c .before .if1 .left))) (λ c. search needs) (λ c. simp length-set (omega (arith, c .before .if1 .left)))
+    (λ c. search needs) (λ c. simp length-set (omega (arith, c .before .if1 .left))) (λ c. search needs)
+    (λ c. simp length-set (omega (arith, c .before .if1 .left))) (λ c. simp length-set) returns-2)

@@ -6,14 +6,6 @@ use borrow.Author.Needs.{needs}
 use Rattle.numerals.proofs.little_endian.u32_at.Statement.{statement}
 use Rattle.numerals.proofs.little_endian.u32_at.Tie as tie
 
-returns : tie.Need-returns
-returns c = absent32 _ _ (omega arith)
-
-returns-2 : tie.Need-returns-2
-returns-2 c = absent32 _ _ (omega arith)
-
-returns-3 : tie.Need-returns-3
-returns-3 c = c .four-at .ensures .0 ∙ present32 _ _ (omega arith)
-
 pub u32-at-spec : {M : Type 1} → statement M
-u32-at-spec = tie.close (tie.spec returns (λ c. search needs) returns-2 (λ c κs. search needs) (λ c. search needs) returns-3)
+u32-at-spec = tie.close (tie.spec (λ c. absent32 _ _ (omega arith)) (λ c. search needs) (λ c. absent32 _ _ (omega arith)) (λ c κs. search needs)
+    (λ c. search needs) (λ c. c .four-at .ensures .0 ∙ present32 _ _ (omega arith)))

@@ -6,12 +6,6 @@ use borrow.Author.Needs.{needs}
 use Rattle.numerals.proofs.place.place_bytes.Statement.{statement}
 use Rattle.numerals.proofs.place.place_bytes.Tie as tie
 
-returns : tie.Need-returns
-returns c = no-room (omega arith)
-
-returns-2 : tie.Need-returns-2
-returns-2 c = no-room (omega arith)
-
 returns-3 : tie.Need-returns-3
 returns-3 c =
     let b = c .before .before in
@@ -21,14 +15,5 @@ returns-3 c =
 pub place-bytes-spec : {M : Type 1} → statement M
 place-bytes-spec =
     tie.close
-    (tie.spec
-    returns
-    (λ c. search needs)
-    returns-2
-    (λ c. search needs)
-    (λ c. search needs)
-    (λ c. search needs)
-    (λ c κs. search needs)
-    (λ c. search needs)
-    (λ c. search needs)
-    returns-3)
+    (tie.spec (λ c. no-room (omega arith)) (λ c. search needs) (λ c. no-room (omega arith)) (λ c. search needs) (λ c. search needs)
+    (λ c. search needs) (λ c κs. search needs) (λ c. search needs) (λ c. search needs) returns-3)

@@ -27,8 +27,11 @@ blank-requires c κs = search needs
 
 returns : tie.Need-returns Inv-loop μ-loop
 returns c =
-    let h : c .before .before .before .before .loop .i < length (c .before .before .before .before .before .before .args .text .now) = omega arith in
-    (omega arith, blanks-stop (c .before .before .before .before .before .before .args .text .now) (c .before .before .before .before .loop .i) h (sym (c .before .blank .ensures) ∙ not-true _ (c .if1 .taken)) ∙ c .before .before .before .before .loop .inv .1)
+    let h : c .before .before .before .before .loop .i < length (c .before .before .before .before .before .before .args .text .now) = omega arith in (
+      omega arith,
+      blanks-stop (c .before .before .before .before .before .before .args .text .now) (c .before .before .before .before .loop .i) h
+          (sym (c .before .blank .ensures) ∙ not-true _ (c .if1 .taken)) ∙ c .before .before .before .before .loop .inv .1,
+    )
 
 add-i : tie.Need-add-i Inv-loop μ-loop
 add-i c = search needs
@@ -38,8 +41,11 @@ loop-less c = omega arith
 
 loop-again : tie.Need-loop-again Inv-loop μ-loop
 loop-again c =
-    let h : c .before .before .before .before .loop .i < length (c .before .before .before .before .before .before .args .text .now) = omega arith in
-    (omega arith, sym (blank-skipped (c .before .before .before .before .before .before .args .text .now) (c .before .before .before .before .loop .i) h (sym (c .before .blank .ensures) ∙ not-false _ (c .if1 .left))) ∙ c .before .before .before .before .loop .inv .1)
+    let h : c .before .before .before .before .loop .i < length (c .before .before .before .before .before .before .args .text .now) = omega arith in (
+      omega arith,
+      sym (blank-skipped (c .before .before .before .before .before .before .args .text .now) (c .before .before .before .before .loop .i) h
+          (sym (c .before .blank .ensures) ∙ not-false _ (c .if1 .left))) ∙ c .before .before .before .before .loop .inv .1,
+    )
 
 returns-2 : tie.Need-returns-2 Inv-loop μ-loop
 returns-2 c =
@@ -49,14 +55,4 @@ returns-2 c =
 pub blanks-end-spec : {M : Type 1} → statement M
 blanks-end-spec =
     tie.close
-    (tie.spec
-    Inv-loop
-    μ-loop
-    loop-holds
-    shared-slice-read-blank
-    blank-requires
-    returns
-    add-i
-    loop-less
-    loop-again
-    returns-2)
+    (tie.spec Inv-loop μ-loop loop-holds shared-slice-read-blank blank-requires returns add-i loop-less loop-again returns-2)

@@ -35,7 +35,9 @@ returns : tie.Need-returns Inv-loop μ-loop
 returns c =
     let l = c .before .before .before .before .loop in
     let h : l .i < length (c .before .before .before .before .before .before .args .text .now) = omega arith in
-    run-stops (c .before .before .before .before .before .before .args .second) (c .before .before .before .before .before .before .args .at) (c .before .before .before .before .before .before .args .text .now) (l .whole) (l .i) (l .inv .0) h (sym (c .before .digit .ensures) ∙ not-true _ (c .if1 .taken)) (l .inv .3)
+    run-stops (c .before .before .before .before .before .before .args .second) (c .before .before .before .before .before .before .args .at)
+    (c .before .before .before .before .before .before .args .text .now) (l .whole) (l .i) (l .inv .0) h
+    (sym (c .before .digit .ensures) ∙ not-true _ (c .if1 .taken)) (l .inv .3)
 
 shared-slice-read-joined : tie.Need-shared-slice-read-joined Inv-loop μ-loop
 shared-slice-read-joined c = search needs
@@ -56,8 +58,16 @@ loop-again : tie.Need-loop-again Inv-loop μ-loop
 loop-again c =
     let l = c .before .before .before .before .before .before .loop in
     let h : l .i < length (c .before .before .before .before .before .before .before .before .args .text .now) = omega arith in
-    let e : l .i + 1 - c .before .before .before .before .before .before .before .before .args .at ≡ l .i - c .before .before .before .before .before .before .before .before .args .at + 1 = omega arith in
-    (omega arith, omega arith, rw (e, c .joined .ensures) (small-more _ _ _ (l .inv .2)), run-on (c .before .before .before .before .before .before .before .before .args .second) (c .before .before .before .before .before .before .before .before .args .at) (c .before .before .before .before .before .before .before .before .args .text .now) (l .whole) (l .i) (l .inv .0) (c .joined .result) h (sym (c .before .before .before .digit .ensures) ∙ not-false _ (c .before .before .if1 .left)) (c .joined .ensures) (l .inv .3))
+    let e : l .i + 1 - c .before .before .before .before .before .before .before .before .args .at ≡ l .i - c .before .before .before .before .before .before
+    .before .before .args .at + 1 = omega arith in (
+      omega arith,
+      omega arith,
+      rw (e, c .joined .ensures) (small-more _ _ _ (l .inv .2)),
+      run-on (c .before .before .before .before .before .before .before .before .args .second)
+          (c .before .before .before .before .before .before .before .before .args .at)
+          (c .before .before .before .before .before .before .before .before .args .text .now) (l .whole) (l .i) (l .inv .0) (c .joined .result) h
+          (sym (c .before .before .before .digit .ensures) ∙ not-false _ (c .before .before .if1 .left)) (c .joined .ensures) (l .inv .3),
+    )
 
 sub-t13 : tie.Need-sub-t13 Inv-loop μ-loop
 sub-t13 c = search needs
@@ -66,24 +76,11 @@ returns-2 : tie.Need-returns-2 Inv-loop μ-loop
 returns-2 c =
     let l = c .before .loop in
     let h : length (c .before .before .before .args .text .now) ≤ l .i = omega arith in
-    run-out (c .before .before .before .args .second) (c .before .before .before .args .at) (c .before .before .before .args .text .now) (l .whole) (l .i) (l .inv .0) h (l .inv .1) (l .inv .3)
+    run-out (c .before .before .before .args .second) (c .before .before .before .args .at) (c .before .before .before .args .text .now) (l .whole) (l .i)
+    (l .inv .0) h (l .inv .1) (l .inv .3)
 
 pub digits-run-spec : {M : Type 1} → statement M
 digits-run-spec =
     tie.close
-    (tie.spec
-    Inv-loop
-    μ-loop
-    loop-holds
-    shared-slice-read-digit
-    digit-requires
-    sub-t11
-    returns
-    shared-slice-read-joined
-    sub-joined
-    joined-requires
-    add-i
-    loop-less
-    loop-again
-    sub-t13
-    returns-2)
+    (tie.spec Inv-loop μ-loop loop-holds shared-slice-read-digit digit-requires sub-t11 returns shared-slice-read-joined sub-joined joined-requires
+    add-i loop-less loop-again sub-t13 returns-2)

@@ -9,9 +9,6 @@ use Rattle.parsing.proofs.scan.joined.Tie as tie
 returns : tie.Need-returns
 returns c = rw (lt-ltb _ _ (c .before .if1 .taken)) (ap (λ (d : ℕ). 10 * c .before .before .args .whole + d) (c .worth .ensures .0))
 
-returns-2 : tie.Need-returns-2
-returns-2 c = simp (le-ltb _ _ (c .if1 .left))
-
 pub joined-spec : {M : Type 1} → statement M
 joined-spec =
-    tie.close (tie.spec (λ c. search needs) (λ c κs. search needs) (λ c. search needs) (λ c. search needs) returns returns-2)
+    tie.close (tie.spec (λ c. search needs) (λ c κs. search needs) (λ c. search needs) (λ c. search needs) returns (λ c. simp (le-ltb _ _ (c .if1 .left))))

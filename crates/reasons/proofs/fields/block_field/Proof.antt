@@ -7,25 +7,12 @@ use Rattle.reasons.proofs.fields.block_field.Tie as tie
 returns : tie.Need-returns
 returns c = second-size-wrong _ _ _ _ (c .before .if1 .taken) (c .if2 .taken)
 
-returns-2 : tie.Need-returns-2
-returns-2 c = sizes-pass _ _ _ _ (c .before .if1 .taken) (c .if2 .left)
-
-returns-3 : tie.Need-returns-3
-returns-3 c = size-wrong _ _ _ _ (c .before .if3 .taken) (c .if4 .taken)
-
-returns-4 : tie.Need-returns-4
-returns-4 c = size-passes _ _ _ _ (c .before .if3 .taken) (c .if4 .left)
-
-returns-5 : tie.Need-returns-5
-returns-5 c = length-wrong _ _ _ _ (c .before .if5 .taken) (c .if6 .taken)
-
-returns-6 : tie.Need-returns-6
-returns-6 c = length-passes _ _ _ _ (c .before .if5 .taken) (c .if6 .left)
-
 returns-7 : tie.Need-returns-7
 returns-7 c = block-none _ _ _ _ (c .before .before .if1 .left) (c .before .if3 .left) (c .if5 .left)
 
 pub block-field-spec : {M : Type 1} → statement M
 block-field-spec =
     tie.close
-    (tie.spec returns returns-2 returns-3 returns-4 (λ c. search needs) (λ c. search needs) returns-5 returns-6 returns-7)
+    (tie.spec returns (λ c. sizes-pass _ _ _ _ (c .before .if1 .taken) (c .if2 .left)) (λ c. size-wrong _ _ _ _ (c .before .if3 .taken) (c .if4 .taken))
+    (λ c. size-passes _ _ _ _ (c .before .if3 .taken) (c .if4 .left)) (λ c. search needs) (λ c. search needs)
+    (λ c. length-wrong _ _ _ _ (c .before .if5 .taken) (c .if6 .taken)) (λ c. length-passes _ _ _ _ (c .before .if5 .taken) (c .if6 .left)) returns-7)

@@ -14,7 +14,8 @@ returns-2 : tie.Need-returns-2
 returns-2 c = let s = c .before .before .before in c .month-field .ensures ∙ ap monthField (toZ-ofZ (s .fits .month)) ∙ date-2 _ _ _ _ (c .before .if2 .taken)
 
 returns-3 : tie.Need-returns-3
-returns-3 c = let s = c .before .before .before .before in c .day-field .ensures ∙ (λ i. dayField (toZ-ofZ (s .fits .year) i) (toZ-ofZ (s .fits .month) i) (toZ-ofZ (s .fits .day) i)) ∙ date-3 _ _ _ _ (c .before .if3 .taken)
+returns-3 c = let s = c .before .before .before .before in c .day-field .ensures
+    ∙ (λ i. dayField (toZ-ofZ (s .fits .year) i) (toZ-ofZ (s .fits .month) i) (toZ-ofZ (s .fits .day) i)) ∙ date-3 _ _ _ _ (c .before .if3 .taken)
 
 returns-4 : tie.Need-returns-4
 returns-4 c = date-none _ _ _ _ (c .before .before .if1 .left) (c .before .if2 .left) (c .if3 .left)
@@ -22,11 +23,4 @@ returns-4 c = date-none _ _ _ _ (c .before .before .if1 .left) (c .before .if2 .
 pub date-field-spec : {M : Type 1} → statement M
 date-field-spec =
     tie.close
-    (tie.spec
-    (λ c κs. search needs)
-    returns
-    (λ c κs. search needs)
-    returns-2
-    (λ c κs. search needs)
-    returns-3
-    returns-4)
+    (tie.spec (λ c κs. search needs) returns (λ c κs. search needs) returns-2 (λ c κs. search needs) returns-3 returns-4)

@@ -25,7 +25,8 @@ last-is c =
 returns : tie.Need-returns
 returns c =
     let s = c .before in
-    ap Day (toZ-ofZ (s .fits .day)) ∙ day-low (s .args .year) (s .args .month) (s .args .day) (lt-left (s .args .day) (pos 1) true (s .fits .day) (c .if1 .taken))
+    ap Day (toZ-ofZ (s .fits .day))
+    ∙ day-low (s .args .year) (s .args .month) (s .args .day) (lt-left (s .args .day) (pos 1) true (s .fits .day) (c .if1 .taken))
 
 cast-if2 : tie.Need-cast-if2
 cast-if2 c = to-unsigned _ (c .before .before .fits .day) (day-from-one (c .before))

@@ -10,8 +10,5 @@ returns c = rw (eq-eqb (c .before .before .args .number) 8 (c .before .if1 .take
 returns-2 : tie.Need-returns-2
 returns-2 c = rw (eq-eqb (c .before .before .args .number) 8 (c .before .if1 .taken)) (nanos-pass _ (c .if2 .left))
 
-returns-3 : tie.Need-returns-3
-returns-3 c = rw (ne-eqb (c .before .args .number) 8 (c .if1 .left))
-
 pub nanos-field-spec : {M : Type 1} → statement M
-nanos-field-spec = tie.close (tie.spec returns returns-2 returns-3)
+nanos-field-spec = tie.close (tie.spec returns returns-2 (λ c. rw (ne-eqb (c .before .args .number) 8 (c .if1 .left))))

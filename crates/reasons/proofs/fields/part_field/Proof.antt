@@ -10,10 +10,12 @@ returns : tie.Need-returns
 returns c = first-bad _ _ (sym (c .before .is-finite .ensures) ∙ not-true _ (c .if1 .taken))
 
 returns-2 : tie.Need-returns-2
-returns-2 c = let i = c .before .before in second-bad _ _ (sym (i .before .is-finite .ensures) ∙ not-false _ (i .if1 .left)) (sym (c .before .is-finite2 .ensures) ∙ not-true _ (c .if2 .taken))
+returns-2 c = let i = c .before .before in second-bad _ _ (sym (i .before .is-finite .ensures) ∙ not-false _ (i .if1 .left))
+    (sym (c .before .is-finite2 .ensures) ∙ not-true _ (c .if2 .taken))
 
 returns-3 : tie.Need-returns-3
-returns-3 c = let i = c .before .before in parts-pass _ _ (sym (i .before .is-finite .ensures) ∙ not-false _ (i .if1 .left)) (sym (c .before .is-finite2 .ensures) ∙ not-false _ (c .if2 .left))
+returns-3 c = let i = c .before .before in parts-pass _ _ (sym (i .before .is-finite .ensures) ∙ not-false _ (i .if1 .left))
+    (sym (c .before .is-finite2 .ensures) ∙ not-false _ (c .if2 .left))
 
 pub part-field-spec : {M : Type 1} → statement M
 part-field-spec =

@@ -7,8 +7,5 @@ use Rattle.reasons.proofs.fields.time_field.Tie as tie
 returns : tie.Need-returns
 returns c = rw (eq-eqb (c .before .before .args .number) 4 (c .before .if1 .taken)) (c .first-wrong .ensures)
 
-returns-2 : tie.Need-returns-2
-returns-2 c = rw (ne-eqb (c .before .args .number) 4 (c .if1 .left))
-
 pub time-field-spec : {M : Type 1} → statement M
-time-field-spec = tie.close (tie.spec (λ c κs. search needs) returns returns-2)
+time-field-spec = tie.close (tie.spec (λ c κs. search needs) returns (λ c. rw (ne-eqb (c .before .args .number) 4 (c .if1 .left))))

@@ -30,17 +30,10 @@ returns-2 c =
     let i = c .before .before .before .before .before in
     let m = i .before .before in
     let st = m .before .before .before in
-    put-done _ (render (st .args .reason)) (now (st .args .out)) _ _ (m .compose .ensures .0 .says) (c .before .before .copy .ensures .0) (c .before .before .copy .ensures .1) (omega (arith, i .if1 .left, m .compose .ensures .0 .ends))
+    put-done _ (render (st .args .reason)) (now (st .args .out)) _ _ (m .compose .ensures .0 .says) (c .before .before .copy .ensures .0)
+    (c .before .before .copy .ensures .1) (omega (arith, i .if1 .left, m .compose .ensures .0 .ends))
 
 pub put-sentence-spec : {M : Type 1} → statement M
 put-sentence-spec =
     tie.close
-    (tie.spec
-    (λ c. search needs)
-    (λ c κs. search needs)
-    returns
-    (λ c. search needs)
-    slice-aggregate-copy
-    copy-requires
-    (λ c. search needs)
-    returns-2)
+    (tie.spec (λ c. search needs) (λ c κs. search needs) returns (λ c. search needs) slice-aggregate-copy copy-requires (λ c. search needs) returns-2)

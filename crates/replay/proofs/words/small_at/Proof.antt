@@ -15,8 +15,6 @@ between : (z : ℤ) → ltZ z (negsuc 2147483647) ≡ false → ltZ (pos 2147483
 between (pos n) low high = record { sfits = omega (arith, ltb-false 2147483647 n high) }
 between (negsuc n) low high = record { sfits = omega (arith, ltb-false 2147483647 n low) }
 
-cast-result : tie.Need-cast-result
-cast-result c = between _ (c .before .if1 .left) (c .if2 .left)
-
 pub small-at-spec : {M : Type 1} → statement M
-small-at-spec = tie.close (tie.spec (λ c κs. search needs) (λ c. search needs) (λ c. search needs) cast-result (λ c. search needs))
+small-at-spec = tie.close (tie.spec (λ c κs. search needs) (λ c. search needs) (λ c. search needs) (λ c. between _ (c .before .if1 .left) (c .if2 .left))
+    (λ c. search needs))

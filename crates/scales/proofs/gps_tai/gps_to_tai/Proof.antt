@@ -9,7 +9,8 @@ use Rattle.julian.specs.shifts.Shifts.{plus, converted}
 
 returns : tie.Need-returns
 unfolding answerOf converted
-returns c = c .tai-answer .ensures ∙ c .before .later .ensures ∙ moved-alike plus (c .before .before .before .finite-jd .ensures) (c .before .before .gps-days .ensures)
+returns c = c .tai-answer .ensures ∙ c .before .later .ensures
+    ∙ moved-alike plus (c .before .before .before .finite-jd .ensures) (c .before .before .gps-days .ensures)
 
 pub gps-to-tai-spec : {M : Type 1} → statement M
 gps-to-tai-spec =

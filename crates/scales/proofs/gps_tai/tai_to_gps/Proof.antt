@@ -9,7 +9,8 @@ use Rattle.julian.specs.shifts.Shifts.{minus, converted}
 
 returns : tie.Need-returns
 unfolding answerOf converted
-returns c = c .gps-answer .ensures ∙ c .before .earlier .ensures ∙ moved-alike minus (c .before .before .before .finite-jd .ensures) (c .before .before .gps-days .ensures)
+returns c = c .gps-answer .ensures ∙ c .before .earlier .ensures
+    ∙ moved-alike minus (c .before .before .before .finite-jd .ensures) (c .before .before .gps-days .ensures)
 
 pub tai-to-gps-spec : {M : Type 1} → statement M
 tai-to-gps-spec =

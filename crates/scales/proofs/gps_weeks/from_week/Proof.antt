@@ -16,7 +16,13 @@ returns-2 c = rw (le-leb _ _ (c .before .if1 .left), le-ltb _ _ (c .if2 .taken))
 
 returns-3 : tie.Need-returns-3
 unfolding gpsOutcome weekDate
-returns-3 c = rw (le-leb _ _ (c .before .before .before .if1 .left), lt-ltb _ _ (c .before .before .if2 .left), c .before .midnight-of .ensures, c .part-of-day .ensures)
+returns-3 c = rw (
+  le-leb _ _ (c .before .before .before .if1 .left),
+  lt-ltb _ _ (c .before .before .if2 .left),
+  c .before .midnight-of .ensures,
+  c .part-of-day .ensures,
+)
 
 pub from-week-spec : {M : Type 1} → statement M
-from-week-spec = tie.close (tie.spec returns returns-2 (λ c. search needs) (λ c. search needs) (λ c. search needs) (λ c κs. search needs) (λ c κs. search needs) returns-3)
+from-week-spec = tie.close (tie.spec returns returns-2 (λ c. search needs) (λ c. search needs) (λ c. search needs) (λ c κs. search needs)
+    (λ c κs. search needs) returns-3)

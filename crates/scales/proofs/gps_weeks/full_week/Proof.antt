@@ -2,7 +2,7 @@
 use mathlib.Core.Path.{_∙_}
 use borrow.Author.Needs.{needs}
 use borrow.Author.Tests.{le-leb, lt-leb, lt-ltb, le-ltb}
-use Rattle.scales.specs.gps_weeks.FullWeek.{fullOutcome, byDistance, fullWeek}
+use Rattle.scales.specs.gps_weeks.FullWeek.{fullOutcome, fullWeek}
 use Rattle.scales.proofs.gps_weeks.full_week.Statement.{statement}
 use Rattle.scales.proofs.gps_weeks.full_week.Tie as tie
 
@@ -20,7 +20,8 @@ returns-3 c = rw (lt-leb _ _ (c .before .before .if1 .left), le-ltb _ _ (c .befo
 
 returns-4 : tie.Need-returns-4
 unfolding fullWeek
-returns-4 c = c .by-distance .ensures ∙ rw (lt-leb _ _ (c .before .before .before .if1 .left), le-ltb _ _ (c .before .before .if2 .left), le-ltb _ _ (c .before .if3 .left))
+returns-4 c = c .by-distance .ensures
+    ∙ rw (lt-leb _ _ (c .before .before .before .if1 .left), le-ltb _ _ (c .before .before .if2 .left), le-ltb _ _ (c .before .if3 .left))
 
 pub full-week-spec : {M : Type 1} → statement M
 full-week-spec = tie.close (tie.spec returns returns-2 returns-3 (λ c κs. search needs) returns-4)

@@ -20,14 +20,5 @@ returns-3 c = rw (le-ltb _ _ (c .before .if1 .left), le-leb _ _ (c .if2 .left))
 pub week-at-spec : {M : Type 1} → statement M
 week-at-spec =
     tie.close
-    (tie.spec
-    returns
-    (λ c. search needs)
-    (λ c. search needs)
-    (λ c. search needs)
-    returns-2
-    (λ c. search needs)
-    (λ c. search needs)
-    (λ c. search needs)
-    (λ c. search needs)
-    returns-3)
+    (tie.spec returns (λ c. search needs) (λ c. search needs) (λ c. search needs) returns-2 (λ c. search needs) (λ c. search needs)
+    (λ c. search needs) (λ c. search needs) returns-3)

@@ -1,5 +1,5 @@
 -- `scales::gps_weeks::week_of_day` meets its contract. Assumes nothing.
-use mathlib.Core.Path.{_≡_, refl, sym, ap, subst, _∙_}
+use mathlib.Core.Path.{_≡_, refl, ap, subst, _∙_}
 use mathlib.Core.Bool.{true, false}
 use Prim.Native.Nat.{ℕ, _+_, _-_, _*_, _/_, _≤_, _<_}
 use native.Mathlib.Omega.{arith}
@@ -9,9 +9,8 @@ use mir.Syntax.{w64}
 use mir.Facts.{toZ-ofZ}
 use borrow.Author.Needs.{needs}
 use borrow.Author.Tests.{ltb-true, le-ltb, lt-leb}
-use Rattle.refusals.specs.Outcome.{Outcome, refusal}
+use Rattle.refusals.specs.Outcome.{refusal}
 use Rattle.time_of_day.specs.TimeShown.{fromZero}
-use Rattle.scales.specs.declared.gps_weeks.WeekTime.{WeekTime}
 use Rattle.scales.specs.gps_weeks.WeekOf.{weekOutcome, weekAt, weekOfDay}
 use Rattle.scales.proofs.gps_weeks.week_of_day.Statement.{statement}
 use Rattle.scales.proofs.gps_weeks.week_of_day.Tie as tie
@@ -43,24 +42,18 @@ returns c = before-day-0 _ _ (subst (λ (x : ℤ). ltZ x (pos 0) ≡ true) (toZ-
 
 returns-2 : tie.Need-returns-2
 unfolding weekOutcome
-returns-2 c = past-all _ _ (c .before .from-zero .result) _ _ (toZ-ofZ {w = w64} (c .before .before .before .fits .day)) (c .before .before .if1 .left) (c .before .from-zero .ensures) refl (c .if2 .taken)
+returns-2 c = past-all _ _ (c .before .from-zero .result) _ _ (toZ-ofZ {w = w64} (c .before .before .before .fits .day)) (c .before .before .if1 .left)
+    (c .before .from-zero .ensures) refl (c .if2 .taken)
 
 returns-3 : tie.Need-returns-3
 returns-3 c =
     let f = c .before .before .before in
     c .week-at .ensures
-    ∙ in-days _ _ (f .from-zero .result) _ (c .before .millis-of .result) (toZ-ofZ {w = w64} (f .before .before .fits .day)) (f .before .if1 .left) (f .from-zero .ensures) (c .before .millis-of .ensures .0)
+    ∙ in-days _ _ (f .from-zero .result) _ (c .before .millis-of .result) (toZ-ofZ {w = w64} (f .before .before .fits .day)) (f .before .if1 .left)
+    (f .from-zero .ensures) (c .before .millis-of .ensures .0)
 
 pub week-of-day-spec : {M : Type 1} → statement M
 week-of-day-spec =
     tie.close
-    (tie.spec
-    returns
-    (λ c κs. search needs)
-    returns-2
-    (λ c. search needs)
-    (λ c. search needs)
-    (λ c κs. search needs)
-    (λ c. search needs)
-    (λ c κs. search needs)
-    returns-3)
+    (tie.spec returns (λ c κs. search needs) returns-2 (λ c. search needs) (λ c. search needs) (λ c κs. search needs) (λ c. search needs)
+    (λ c κs. search needs) returns-3)

@@ -9,7 +9,8 @@ use Rattle.julian.specs.shifts.Shifts.{plus, converted}
 
 returns : tie.Need-returns
 unfolding answerOf converted
-returns c = c .tt-answer .ensures ∙ c .before .later .ensures ∙ moved-alike plus (c .before .before .before .finite-jd .ensures) (c .before .before .tt-days .ensures)
+returns c = c .tt-answer .ensures ∙ c .before .later .ensures
+    ∙ moved-alike plus (c .before .before .before .finite-jd .ensures) (c .before .before .tt-days .ensures)
 
 pub tai-to-tt-spec : {M : Type 1} → statement M
 tai-to-tt-spec =

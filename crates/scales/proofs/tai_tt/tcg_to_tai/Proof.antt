@@ -11,7 +11,8 @@ use Rattle.julian.specs.shifts.Shifts.{minus, converted}
 
 returns : tie.Need-returns
 unfolding answerOf ttOutcome
-returns c = c .tt-to-tai .ensures ∙ sym (went (converted (minus ttDays)) (sym (c .before .before .before .before .tcg-to-tt .ensures) ∙ ap ttOutcome (c .before .before .tt .given .1)))
+returns c = c .tt-to-tai .ensures
+    ∙ sym (went (converted (minus ttDays)) (sym (c .before .before .before .before .tcg-to-tt .ensures) ∙ ap ttOutcome (c .before .before .tt .given .1)))
 
 returns-2 : tie.Need-returns-2
 unfolding answerOf ttOutcome taiOutcome

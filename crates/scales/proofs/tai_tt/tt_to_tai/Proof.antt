@@ -9,7 +9,8 @@ use Rattle.julian.specs.shifts.Shifts.{minus, converted}
 
 returns : tie.Need-returns
 unfolding answerOf converted
-returns c = c .tai-answer .ensures ∙ c .before .earlier .ensures ∙ moved-alike minus (c .before .before .before .finite-jd .ensures) (c .before .before .tt-days .ensures)
+returns c = c .tai-answer .ensures ∙ c .before .earlier .ensures
+    ∙ moved-alike minus (c .before .before .before .finite-jd .ensures) (c .before .before .tt-days .ensures)
 
 pub tt-to-tai-spec : {M : Type 1} → statement M
 tt-to-tai-spec =

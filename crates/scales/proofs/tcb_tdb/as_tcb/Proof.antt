@@ -9,7 +9,9 @@ use Rattle.scales.proofs.tcb_tdb.as_tcb.Tie as tie
 
 returns : tie.Need-returns
 unfolding mapSmallerPart
-returns c = c .put-back .ensures ∙ ap (putBack (c .before .before .before .args .jd)) (c .before .tdb-to-tcb-part .ensures ∙ ap (λ (p : Parts). tdbToTcb (p .larger) (p .smaller)) (c .before .before .split .ensures))
+returns c = c .put-back .ensures
+    ∙ ap (putBack (c .before .before .before .args .jd))
+    (c .before .tdb-to-tcb-part .ensures ∙ ap (λ (p : Parts). tdbToTcb (p .larger) (p .smaller)) (c .before .before .split .ensures))
 
 pub as-tcb-spec : {M : Type 1} → statement M
 as-tcb-spec =

@@ -13,7 +13,8 @@ use Rattle.julian.specs.shifts.Shifts.{changed, converted}
 
 returns : tie.Need-returns
 unfolding answerOf converted changed tdbOutcome julianOutcome
-returns c = ap answer (c .as-tdb .ensures) ∙ sym (went (changed tcbToTdb) (sym (c .before .before .before .before .finite-jd .ensures) ∙ ap julianOutcome (c .before .before .jd .given .1)))
+returns c = ap answer (c .as-tdb .ensures)
+    ∙ sym (went (changed tcbToTdb) (sym (c .before .before .before .before .finite-jd .ensures) ∙ ap julianOutcome (c .before .before .jd .given .1)))
 
 returns-2 : tie.Need-returns-2
 unfolding answerOf converted tdbOutcome julianOutcome

@@ -9,7 +9,9 @@ use Rattle.scales.proofs.tt_tcg.as_tcg.Tie as tie
 
 returns : tie.Need-returns
 unfolding mapSmallerPart
-returns c = c .put-back .ensures ∙ ap (putBack (c .before .before .before .args .jd)) (c .before .tt-to-tcg-part .ensures ∙ ap (λ (p : Parts). ttToTcg (p .larger) (p .smaller)) (c .before .before .split .ensures))
+returns c = c .put-back .ensures
+    ∙ ap (putBack (c .before .before .before .args .jd))
+    (c .before .tt-to-tcg-part .ensures ∙ ap (λ (p : Parts). ttToTcg (p .larger) (p .smaller)) (c .before .before .split .ensures))
 
 pub as-tcg-spec : {M : Type 1} → statement M
 as-tcg-spec = tie.close (tie.spec (λ c κs. search needs) (λ c κs. search needs) (λ c κs. search needs) returns)

@@ -13,7 +13,8 @@ use Rattle.julian.specs.shifts.Shifts.{changed, converted}
 
 returns : tie.Need-returns
 unfolding answerOf converted changed ttOutcome julianOutcome
-returns c = ap answer (c .as-tt .ensures) ∙ sym (went (changed tcgToTt) (sym (c .before .before .before .before .finite-jd .ensures) ∙ ap julianOutcome (c .before .before .jd .given .1)))
+returns c = ap answer (c .as-tt .ensures)
+    ∙ sym (went (changed tcgToTt) (sym (c .before .before .before .before .finite-jd .ensures) ∙ ap julianOutcome (c .before .before .jd .given .1)))
 
 returns-2 : tie.Need-returns-2
 unfolding answerOf converted ttOutcome julianOutcome

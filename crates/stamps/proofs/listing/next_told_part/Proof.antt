@@ -15,7 +15,8 @@ returns-2 c =
     let p = c .before .before in
     let i = p .before .before in
     let r = i .before in
-    part-taken _ (r .before .before .before .args .table) (r .table-refusal .result) (r .table-refusal .ensures) _ _ _ (i .if1 .left) _ _ (p .next-told-part-by-rows .ensures)
+    part-taken _ (r .before .before .before .args .table) (r .table-refusal .result) (r .table-refusal .ensures) _ _ _ (i .if1 .left) _ _
+    (p .next-told-part-by-rows .ensures)
 
 pub next-told-part-spec : {M : Type 1} → statement M
 next-told-part-spec =

@@ -1,4 +1,5 @@
--- `listing::next_told_part_by_rows` meets its contract. The invariant: `count` lines stand at the start of the scratch, and the part holds as many as these and those that the rest of the scratch will take. The measure is the number of lines that are left. Assumes nothing.
+-- `listing::next_told_part_by_rows` meets its contract. The invariant: `count` lines stand at the start of the scratch, and the part holds as many as these and
+-- those that the rest of the scratch will take. The measure is the number of lines that are left. Assumes nothing.
 use lib.ListN.{length}
 use mathlib.Core.Path.{_≡_, refl, sym, ap, subst, _∙_}
 use Prim.Native.Nat.{ℕ, _+_, _-_, _≤_, zero-le}
@@ -21,7 +22,8 @@ Inv-loop how block line table scratch₀ answer left room at₀ count₀ scratch
     × Placed scratch₀ 0 (linesFrom how (rowsOf table) block line count) at scratch
     × (at ≤ length scratch₀)
     × (length scratch ≡ length scratch₀)
-    × (heldLines how (rowsOf table) block line (length scratch₀) left ≡ count + heldLines how (rowsOf table) block (line + count) (length scratch₀ - at) (left - count))
+    × (heldLines how (rowsOf table) block line (length scratch₀) left ≡ count + heldLines how (rowsOf table) block (line + count) (length scratch₀ - at)
+    (left - count))
 
 abbrev μ-loop : tie.MeasureT-loop
 μ-loop how block line table scratch₀ answer left room at₀ count₀ scratch at count = left - count
@@ -57,8 +59,13 @@ returns : tie.Need-returns Inv-loop μ-loop
 returns c =
     let st = c .before .before .before .before .before .before .before .before .before in
     let l = c .before .before .loop in
-    let e = c .before .before .before .before .less .ensures ∙ ap (λ (n : ℕ). n - st .args .line) (c .before .before .before .before .before .lines-in .ensures ∙ ap linesIn (c .before .before .before .before .before .before .block-stamps .ensures)) in
-    stops-full _ _ (now (st .args .block)) (st .args .line) _ _ _ _ _ e (ends-full _ _ (now (st .args .block)) (st .args .line) _ _ _ _ (l .inv .4) (omega (arith, c .before .before .before .line-room .ensures))) (l .inv .1) (omega arith)
+    let e = c .before .before .before .before .less .ensures
+    ∙ ap (λ (n : ℕ). n - st .args .line)
+    (c .before .before .before .before .before .lines-in .ensures
+    ∙ ap linesIn (c .before .before .before .before .before .before .block-stamps .ensures)) in
+    stops-full _ _ (now (st .args .block)) (st .args .line) _ _ _ _ _ e
+    (ends-full _ _ (now (st .args .block)) (st .args .line) _ _ _ _ (l .inv .4) (omega (arith, c .before .before .before .line-room .ensures)))
+    (l .inv .1) (omega arith)
 
 add-place-line : tie.Need-add-place-line Inv-loop μ-loop
 add-place-line c = search needs
@@ -66,8 +73,14 @@ add-place-line c = search needs
 place-line-requires : tie.Need-place-line-requires Inv-loop μ-loop
 place-line-requires c κs =
     let st = c .before .before .before .before .before .before .before .before .before .before in
-    let e = c .before .before .before .before .before .less .ensures ∙ ap (λ (n : ℕ). n - st .args .line) (c .before .before .before .before .before .before .lines-in .ensures ∙ ap linesIn (c .before .before .before .before .before .before .before .block-stamps .ensures)) in
-    (c .before .before .before .before .before .before .before .block-stamps .ensures, omega (arith, e), omega (arith, c .before .before .before .before .line-room .ensures))
+    let e = c .before .before .before .before .before .less .ensures
+    ∙ ap (λ (n : ℕ). n - st .args .line)
+    (c .before .before .before .before .before .before .lines-in .ensures
+    ∙ ap linesIn (c .before .before .before .before .before .before .before .block-stamps .ensures)) in (
+      c .before .before .before .before .before .before .before .block-stamps .ensures,
+      omega (arith, e),
+      omega (arith, c .before .before .before .before .line-room .ensures),
+    )
 
 add-count : tie.Need-add-count Inv-loop μ-loop
 add-count c = search needs
@@ -98,29 +111,14 @@ returns-2 : tie.Need-returns-2 Inv-loop μ-loop
 returns-2 c =
     let st = c .before .before .before .before .before .before .before .before in
     let l = c .before .loop in
-    let e = c .before .before .before .less .ensures ∙ ap (λ (n : ℕ). n - st .args .line) (c .before .before .before .before .lines-in .ensures ∙ ap linesIn (c .before .before .before .before .before .block-stamps .ensures)) in
-    stops-done _ _ (now (st .args .block)) (st .args .line) _ _ _ _ _ e (ends-all _ _ (now (st .args .block)) (st .args .line) _ _ _ _ (l .inv .4) (omega arith)) (l .inv .1) (omega arith)
+    let e = c .before .before .before .less .ensures
+    ∙ ap (λ (n : ℕ). n - st .args .line)
+    (c .before .before .before .before .lines-in .ensures ∙ ap linesIn (c .before .before .before .before .before .block-stamps .ensures)) in
+    stops-done _ _ (now (st .args .block)) (st .args .line) _ _ _ _ _ e
+    (ends-all _ _ (now (st .args .block)) (st .args .line) _ _ _ _ (l .inv .4) (omega arith)) (l .inv .1) (omega arith)
 
 pub next-told-part-by-rows-spec : {M : Type 1} → statement M
 next-told-part-by-rows-spec =
     tie.close
-    (tie.spec
-    Inv-loop
-    μ-loop
-    block-stamps-requires
-    lines-in-requires
-    less-requires
-    line-room-requires
-    loop-holds
-    sub-if1
-    add-t15
-    same-length
-    returns
-    add-place-line
-    place-line-requires
-    add-count
-    loop-less
-    loop-again
-    add-t11
-    same-length-2
-    returns-2)
+    (tie.spec Inv-loop μ-loop block-stamps-requires lines-in-requires less-requires line-room-requires loop-holds sub-if1 add-t15 same-length returns
+    add-place-line place-line-requires add-count loop-less loop-again add-t11 same-length-2 returns-2)

@@ -18,17 +18,12 @@ returns c =
     let st = c .before .before .before .before .before .before .before .before .before .before .before .before .before .before .before .before in
     let p1 = c .before .before .before .before .before .before .before .before .before .before .before .bytes .ensures in
     let p2 = c .before .before .before .before .before .before .before .place-block-told .ensures in
-    let p3 = c .before .before .bytes2 .ensures in
-    (then (then p1 (p2 .0) (omega (arith, p1 .ends, p2 .1, st .pre .2))) p3 (omega (arith, p1 .ends, p2 .1, p3 .ends, st .pre .2)), omega (arith, p1 .ends, p2 .1, p3 .ends))
+    let p3 = c .before .before .bytes2 .ensures in (
+      then (then p1 (p2 .0) (omega (arith, p1 .ends, p2 .1, st .pre .2))) p3 (omega (arith, p1 .ends, p2 .1, p3 .ends, st .pre .2)),
+      omega (arith, p1 .ends, p2 .1, p3 .ends),
+    )
 
 pub place-block-refused-spec : {M : Type 1} → statement M
 place-block-refused-spec =
     tie.close
-    (tie.spec
-    (λ c. search needs)
-    bytes-requires
-    (λ c κs. search needs)
-    (λ c. search needs)
-    (λ c κs. search needs)
-    (λ c. search needs)
-    returns)
+    (tie.spec (λ c. search needs) bytes-requires (λ c κs. search needs) (λ c. search needs) (λ c κs. search needs) (λ c. search needs) returns)

@@ -32,8 +32,12 @@ place-header-requires c κs =
 returns : tie.Need-returns
 returns c =
     let st = c .before .before .before .before .before .before .before .before .before .before .before in
-    let p = c .before .before .place-header .ensures in
-    (placed-as (header-line (now (st .args .block)) (st .args .line) _ (st .pre .0) _ (c .before .before .before .before .before .before .before .answer2 .given .1) _ _ _ (c .before .before .before .before .before .if1 .taken) (c .before .before .before .before .refused-stamps .ensures _)) (p .0), omega (arith, p .1, room-low (st .args .how)))
+    let p = c .before .before .place-header .ensures in (
+      placed-as (header-line (now (st .args .block)) (st .args .line) _ (st .pre .0) _
+          (c .before .before .before .before .before .before .before .answer2 .given .1) _ _ _ (c .before .before .before .before .before .if1 .taken)
+          (c .before .before .before .before .refused-stamps .ensures _)) (p .0),
+      omega (arith, p .1, room-low (st .args .how)),
+    )
 
 place-stamp-line-requires : tie.Need-place-stamp-line-requires
 place-stamp-line-requires c κs =
@@ -45,30 +49,23 @@ place-stamp-line-requires c κs =
 returns-2 : tie.Need-returns-2
 returns-2 c =
     let st = c .before .before .before .before .before .before .before .before .before in
-    let p = c .before .before .place-block-refused .ensures in
-    (placed-as (refused-line (now (st .args .block)) (st .args .line) _ (st .pre .0) _ (c .before .before .before .before .before .answer .given .1) _ _) (p .0), p .1)
+    let p = c .before .before .place-block-refused .ensures in (
+      placed-as (refused-line (now (st .args .block)) (st .args .line) _ (st .pre .0) _ (c .before .before .before .before .before .answer .given .1) _ _)
+          (p .0),
+      p .1,
+    )
 
 returns-3 : tie.Need-returns-3
 returns-3 c =
     let st = c .before .before .before .before .before .before .before .before .before .before in
-    let p = c .before .before .place-stamp-line .ensures in
-    (placed-as (stamp-line (now (st .args .block)) (st .args .line) _ (st .pre .0) _ (c .before .before .before .before .before .before .answer2 .given .1) _ _ (c .before .before .before .before .if1 .left)) (p .0), p .1)
+    let p = c .before .before .place-stamp-line .ensures in (
+      placed-as (stamp-line (now (st .args .block)) (st .args .line) _ (st .pre .0) _ (c .before .before .before .before .before .before .answer2 .given .1) _
+          _ (c .before .before .before .before .if1 .left)) (p .0),
+      p .1,
+    )
 
 pub place-line-spec : {M : Type 1} → statement M
 place-line-spec =
     tie.close
-    (tie.spec
-    (λ c. search needs)
-    place-block-refused-requires
-    (λ c. search needs)
-    cast-place-header
-    refused-stamps-requires
-    place-header-requires
-    (λ c. search needs)
-    returns
-    (λ c. search needs)
-    place-stamp-line-requires
-    (λ c. search needs)
-    returns-2
-    (λ c. search needs)
-    returns-3)
+    (tie.spec (λ c. search needs) place-block-refused-requires (λ c. search needs) cast-place-header refused-stamps-requires place-header-requires
+    (λ c. search needs) returns (λ c. search needs) place-stamp-line-requires (λ c. search needs) returns-2 (λ c. search needs) returns-3)

@@ -11,30 +11,34 @@ use borrow.Author.Needs.{needs}
 use Rattle.stamps.proofs.listing.place_shown.Statement.{statement}
 use Rattle.stamps.proofs.listing.place_shown.Tie as tie
 
-sub-to-iso8601-expanded-by-rows : tie.Need-sub-to-iso8601-expanded-by-rows
-sub-to-iso8601-expanded-by-rows c = omega (arith, room-low (c .before .args .how), c .before .pre)
-
-part-to-iso8601-expanded-by-rows-start : tie.Need-part-to-iso8601-expanded-by-rows-start
-part-to-iso8601-expanded-by-rows-start c = omega (arith, room-low (c .before .args .how), c .before .pre)
-
 add-result : tie.Need-add-result
 add-result c =
     let st = c .before .before .before .before .before .before .before .before in
-    let w = text-written (c .before .before .before .before .before .to-iso8601-expanded-by-rows .ensures) (st .args .how) (st .args .jd) _ (c .before .n .given .1) in
-    omega (arith, w .0, shown-most (st .args .how) (st .args .jd) _ (brief (rowsOf (st .args .table)) (st .args .jd)), room-high (st .args .how), st .pre, st .good)
+    let w = text-written (c .before .before .before .before .before .to-iso8601-expanded-by-rows .ensures) (st .args .how) (st .args .jd) _
+    (c .before .n .given .1) in
+    omega (
+      arith,
+      w .0,
+      shown-most (st .args .how) (st .args .jd) _ (brief (rowsOf (st .args .table)) (st .args .jd)),
+      room-high (st .args .how),
+      st .pre,
+      st .good,
+    )
 
 place-date-refused-requires : tie.Need-place-date-refused-requires
 place-date-refused-requires c κs =
     let st = c .before .before .before .before .before .before .before .before .before in
     let room = lent-length (now (st .args .dst)) (st .args .at) (omega (arith, room-low (st .args .how), st .pre)) in
-    let w = text-refused (c .before .before .before .before .before .before .to-iso8601-expanded-by-rows .ensures) _ (c .before .before .number .given .1) (brief (rowsOf (st .args .table)) _) (omega (arith, room, room-low (st .args .how), st .pre)) in
+    let w = text-refused (c .before .before .before .before .before .before .to-iso8601-expanded-by-rows .ensures) _ (c .before .before .number .given .1)
+    (brief (rowsOf (st .args .table)) _) (omega (arith, room, room-low (st .args .how), st .pre)) in
     let k = date-number (rowsOf (st .args .table)) (st .args .jd) _ (w .0) in
     (k .0, k .1, search needs)
 
 returns : tie.Need-returns
 returns c =
     let st = c .before .before .before .before .before .before .before .before in
-    let w = text-written (c .before .before .before .before .before .to-iso8601-expanded-by-rows .ensures) (st .args .how) (st .args .jd) _ (c .before .n .given .1) in (
+    let w = text-written (c .before .before .before .before .before .to-iso8601-expanded-by-rows .ensures) (st .args .how) (st .args .jd) _
+    (c .before .n .given .1) in (
       record {
         ends = ap (λ (k : ℕ). st .args .at + k) (w .0);
         holds = part-put (now (st .args .dst)) (st .args .at) (omega (arith, room-low (st .args .how), st .pre)) _ _ (w .1);
@@ -47,23 +51,18 @@ unfolding shown
 returns-2 c =
     let st = c .before .before .before .before .before .before .before .before .before .before .before .before in
     let room = lent-length (now (st .args .dst)) (st .args .at) (omega (arith, room-low (st .args .how), st .pre)) in
-    let w = text-refused (c .before .before .before .before .before .before .before .before .before .to-iso8601-expanded-by-rows .ensures) _ (c .before .before .before .before .before .number .given .1) (brief (rowsOf (st .args .table)) _) (omega (arith, room, room-low (st .args .how), st .pre)) in
-    let p = c .before .before .place-date-refused .ensures in
-    (placed-as (sym (ap (shown (st .args .how) (st .args .jd)) (w .0))) (placed-into (part-kept (now (st .args .dst)) (st .args .at) (omega (arith, room-low (st .args .how), st .pre)) _ (w .1)) (p .0)), omega (arith, p .1))
+    let w = text-refused (c .before .before .before .before .before .before .before .before .before .to-iso8601-expanded-by-rows .ensures) _
+    (c .before .before .before .before .before .number .given .1) (brief (rowsOf (st .args .table)) _)
+    (omega (arith, room, room-low (st .args .how), st .pre)) in
+    let p = c .before .before .place-date-refused .ensures in (
+      placed-as (sym (ap (shown (st .args .how) (st .args .jd)) (w .0)))
+          (placed-into (part-kept (now (st .args .dst)) (st .args .at) (omega (arith, room-low (st .args .how), st .pre)) _ (w .1)) (p .0)),
+      omega (arith, p .1),
+    )
 
 pub place-shown-spec : {M : Type 1} → statement M
 place-shown-spec =
     tie.close
-    (tie.spec
-    sub-to-iso8601-expanded-by-rows
-    part-to-iso8601-expanded-by-rows-start
-    (λ c. search needs)
-    (λ c κs. search needs)
-    (λ c. search needs)
-    add-result
-    (λ c. search needs)
-    place-date-refused-requires
-    (λ c. search needs)
-    returns
-    (λ c. search needs)
-    returns-2)
+    (tie.spec (λ c. omega (arith, room-low (c .before .args .how), c .before .pre))
+    (λ c. omega (arith, room-low (c .before .args .how), c .before .pre)) (λ c. search needs) (λ c κs. search needs) (λ c. search needs) add-result
+    (λ c. search needs) place-date-refused-requires (λ c. search needs) returns (λ c. search needs) returns-2)

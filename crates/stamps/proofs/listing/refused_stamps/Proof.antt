@@ -1,4 +1,5 @@
--- `listing::refused_stamps` meets its contract. The invariant: the first i stamps are counted. The measure is the number of stamps that are left. Assumes nothing.
+-- `listing::refused_stamps` meets its contract. The invariant: the first i stamps are counted. The measure is the number of stamps that are left. Assumes
+-- nothing.
 use mathlib.Core.Path.{_≡_, refl, ap, _∙_}
 use Prim.Native.Nat.{_-_, _≤_, zero-le}
 use mathlib.Core.List.{List}
@@ -37,8 +38,11 @@ loop-less c = omega arith
 
 loop-again : tie.Need-loop-again Inv-loop μ-loop
 loop-again c =
-    let l = c .before .before .before .loop in
-    (omega arith, (λ rows. refused-more rows _ _ _ _ _ _ (l .inv .1 rows) (c .before .stamp-at .ensures) (c .one-if-refused .ensures .0 rows)), omega (arith, c .one-if-refused .ensures .1))
+    let l = c .before .before .before .loop in (
+      omega arith,
+      (λ rows. refused-more rows _ _ _ _ _ _ (l .inv .1 rows) (c .before .stamp-at .ensures) (c .one-if-refused .ensures .0 rows)),
+      omega (arith, c .one-if-refused .ensures .1),
+    )
 
 returns : tie.Need-returns Inv-loop μ-loop
 returns c =
@@ -49,14 +53,4 @@ returns c =
 pub refused-stamps-spec : {M : Type 1} → statement M
 refused-stamps-spec =
     tie.close
-    (tie.spec
-    Inv-loop
-    μ-loop
-    loop-holds
-    stamp-at-requires
-    one-if-refused-requires
-    add-refused
-    add-i
-    loop-less
-    loop-again
-    returns)
+    (tie.spec Inv-loop μ-loop loop-holds stamp-at-requires one-if-refused-requires add-refused add-i loop-less loop-again returns)

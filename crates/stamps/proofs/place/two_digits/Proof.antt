@@ -12,16 +12,10 @@ returns-2 : tie.Need-returns-2
 returns-2 c =
     let q = c .before .before in
     let p = q .before .before .before .before in
-    more-digits _ 1 (p .before .before .if1 .left) (p .before .before .before .before .pre) (placed-as (first-digit _) (p .digit2 .ensures)) (q .digit3 .ensures)
+    more-digits _ 1 (p .before .before .if1 .left) (p .before .before .before .before .pre) (placed-as (first-digit _) (p .digit2 .ensures))
+    (q .digit3 .ensures)
 
 pub two-digits-spec : {M : Type 1} → statement M
 two-digits-spec =
     tie.close
-    (tie.spec
-    (λ c κs. search needs)
-    (λ c. search needs)
-    returns
-    (λ c κs. search needs)
-    (λ c κs. search needs)
-    (λ c. search needs)
-    returns-2)
+    (tie.spec (λ c κs. search needs) (λ c. search needs) returns (λ c κs. search needs) (λ c κs. search needs) (λ c. search needs) returns-2)

@@ -14,8 +14,12 @@ place-number-requires c κs =
 
 place-sentence-requires : tie.Need-place-sentence-requires
 place-sentence-requires c κs =
-    let st = c .before .before .before .before .before .before .before .before in
-    (st .pre .0, st .pre .1, block-width _ _ _ (search needs) (search needs) (search needs), omega (arith, sentences-room (st .args .how) _ (c .before .before .before .before .how .given .1), st .pre .2))
+    let st = c .before .before .before .before .before .before .before .before in (
+      st .pre .0,
+      st .pre .1,
+      block-width _ _ _ (search needs) (search needs) (search needs),
+      omega (arith, sentences-room (st .args .how) _ (c .before .before .before .before .how .given .1), st .pre .2),
+    )
 
 returns : tie.Need-returns
 returns c =
@@ -29,20 +33,12 @@ returns-2 c =
     let st = c .before .before .before .before .before .before .before .before .before .before .before in
     let e = c .before .before .before .before .before .before .before .how .given .1 in
     let p = c .before .before .place-sentence .ensures in
-    let v = block-values (st .args .how) _ e (now (st .args .block)) _ _ (c .before .before .before .before .before .u32-at .ensures) (c .before .before .before .before .u32-at2 .ensures) in
+    let v = block-values (st .args .how) _ e (now (st .args .block)) _ _ (c .before .before .before .before .before .u32-at .ensures)
+    (c .before .before .before .before .u32-at2 .ensures) in
     (placed-as (sentences-told (st .args .how) _ e (st .args .number) _ _ v) (p .0), omega (arith, p .1, sentences-room (st .args .how) _ e))
 
 pub place-block-told-spec : {M : Type 1} → statement M
 place-block-told-spec =
     tie.close
-    (tie.spec
-    (λ c. search needs)
-    place-number-requires
-    (λ c. search needs)
-    (λ c κs. search needs)
-    (λ c κs. search needs)
-    place-sentence-requires
-    (λ c. search needs)
-    returns
-    (λ c. search needs)
-    returns-2)
+    (tie.spec (λ c. search needs) place-number-requires (λ c. search needs) (λ c κs. search needs) (λ c κs. search needs) place-sentence-requires
+    (λ c. search needs) returns (λ c. search needs) returns-2)

@@ -16,8 +16,12 @@ place-number-requires c κs =
 
 place-sentence-requires : tie.Need-place-sentence-requires
 place-sentence-requires c κs =
-    let st = c .before .before .before .before .before in
-    (st .pre .0, st .pre .1, subst OfWidth (sym (c .before .refused-values .ensures)) (refused-wide (st .args .jd)), omega (arith, sentences-room (st .args .how) _ (c .before .before .enum-told2 .given .1), st .pre .2))
+    let st = c .before .before .before .before .before in (
+      st .pre .0,
+      st .pre .1,
+      subst OfWidth (sym (c .before .refused-values .ensures)) (refused-wide (st .args .jd)),
+      omega (arith, sentences-room (st .args .how) _ (c .before .before .enum-told2 .given .1), st .pre .2),
+    )
 
 returns : tie.Need-returns
 returns c =
@@ -30,19 +34,13 @@ returns-2 : tie.Need-returns-2
 returns-2 c =
     let st = c .before .before .before .before .before .before .before .before in
     let e = c .before .before .before .before .before .enum-told2 .given .1 in
-    let p = c .before .before .place-sentence .ensures in
-    (placed-as (sentences-told (st .args .how) _ e (st .args .number) _ _ (c .before .before .before .before .refused-values .ensures)) (p .0), omega (arith, p .1, sentences-room (st .args .how) _ e))
+    let p = c .before .before .place-sentence .ensures in (
+      placed-as (sentences-told (st .args .how) _ e (st .args .number) _ _ (c .before .before .before .before .refused-values .ensures)) (p .0),
+      omega (arith, p .1, sentences-room (st .args .how) _ e),
+    )
 
 pub place-date-refused-spec : {M : Type 1} → statement M
 place-date-refused-spec =
     tie.close
-    (tie.spec
-    (λ c. search needs)
-    place-number-requires
-    (λ c. search needs)
-    (λ c κs. search needs)
-    place-sentence-requires
-    (λ c. search needs)
-    returns
-    (λ c. search needs)
-    returns-2)
+    (tie.spec (λ c. search needs) place-number-requires (λ c. search needs) (λ c κs. search needs) place-sentence-requires (λ c. search needs) returns
+    (λ c. search needs) returns-2)

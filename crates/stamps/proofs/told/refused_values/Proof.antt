@@ -11,7 +11,8 @@ cast-t7 : tie.Need-cast-t7
 cast-t7 c = day-fits _ _ (c .before .before .before .before .before .before .julian-to-calendar .ensures) _ (c .before .before .before .before .found .given .1)
 
 returns : tie.Need-returns
-returns c = date-values _ _ (c .before .before .before .before .before .before .before .julian-to-calendar .ensures) _ (c .before .before .before .before .before .found .given .1)
+returns c = date-values _ _ (c .before .before .before .before .before .before .before .julian-to-calendar .ensures) _
+    (c .before .before .before .before .before .found .given .1)
 
 returns-2 : tie.Need-returns-2
 returns-2 c = parts-values _ _ (c .before .before .julian-to-calendar .ensures) _ (c .enum-told .given .1)
@@ -19,11 +20,4 @@ returns-2 c = parts-values _ _ (c .before .before .julian-to-calendar .ensures) 
 pub refused-values-spec : {M : Type 1} → statement M
 refused-values-spec =
     tie.close
-    (tie.spec
-    (λ c κs. search needs)
-    (λ c. search needs)
-    cast-t6
-    cast-t7
-    (λ c. search needs)
-    returns
-    returns-2)
+    (tie.spec (λ c κs. search needs) (λ c. search needs) cast-t6 cast-t7 (λ c. search needs) returns returns-2)

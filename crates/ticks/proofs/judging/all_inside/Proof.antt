@@ -1,8 +1,8 @@
 -- `ticks::judging::all_inside` meets its contract: the numbers passed lie between the two. Assumes nothing.
 use native.Mathlib.Omega.{arith}
-use mathlib.Core.Path.{_≡_, refl}
+use mathlib.Core.Path.{_≡_}
 use mathlib.Core.Bool.{true}
-use Prim.Native.Nat.{_+_, _-_, _≤_}
+use Prim.Native.Nat.{_-_, _≤_}
 use Rattle.ticks.specs.judging.Refusing.{numberAt}
 use Rattle.ticks.specs.judging.Numbers.{holdsBelow}
 use Rattle.ticks.proofs.judging.Checks.{none-yet, held, inside-more, inside-stops-low, inside-stops-high, inside-ends}
@@ -25,14 +25,16 @@ returns : tie.Need-returns Inv-loop μ-loop
 returns c =
     let l = c .before .before .before in
     let a = l .before .before .args in
-    inside-stops-low (numberAt (a .s .now)) (a .n) (l .loop .i) (c .before .number-at .result) (c .before .number-at .ensures) (a .first) (a .last) (c .before .before .loop-test .taken) (c .if1 .taken)
+    inside-stops-low (numberAt (a .s .now)) (a .n) (l .loop .i) (c .before .number-at .result) (c .before .number-at .ensures) (a .first) (a .last)
+    (c .before .before .loop-test .taken) (c .if1 .taken)
 
 returns-2 : tie.Need-returns-2 Inv-loop μ-loop
 returns-2 c =
     let q = c .before .before in
     let l = q .before .before in
     let a = l .before .before .args in
-    inside-stops-high (numberAt (a .s .now)) (a .n) (l .loop .i) (q .number-at .result) (q .number-at .ensures) (a .first) (a .last) (q .before .loop-test .taken) (c .before .if1 .left) (c .if2 .taken)
+    inside-stops-high (numberAt (a .s .now)) (a .n) (l .loop .i) (q .number-at .result) (q .number-at .ensures) (a .first) (a .last)
+    (q .before .loop-test .taken) (c .before .if1 .left) (c .if2 .taken)
 
 add-i : tie.Need-add-i Inv-loop μ-loop
 add-i c = record { fits = omega (arith, c .before .before .before .loop-test .taken, c .before .before .before .before .before .before .pre) }
@@ -44,8 +46,11 @@ loop-again : tie.Need-loop-again Inv-loop μ-loop
 loop-again c =
     let q = c .before .before in
     let l = q .before .before in
-    let a = l .before .before .args in
-    (omega (arith, q .before .loop-test .taken), inside-more (numberAt (a .s .now)) (a .n) (l .loop .i) (q .number-at .result) (q .number-at .ensures) (a .first) (a .last) (l .loop .inv .1) (c .before .if1 .left) (c .if2 .left))
+    let a = l .before .before .args in (
+      omega (arith, q .before .loop-test .taken),
+      inside-more (numberAt (a .s .now)) (a .n) (l .loop .i) (q .number-at .result) (q .number-at .ensures) (a .first) (a .last) (l .loop .inv .1)
+          (c .before .if1 .left) (c .if2 .left),
+    )
 
 returns-3 : tie.Need-returns-3 Inv-loop μ-loop
 returns-3 c =
@@ -56,14 +61,4 @@ returns-3 c =
 pub all-inside-spec : {M : Type 1} → statement M
 all-inside-spec =
     tie.close
-    (tie.spec
-    Inv-loop
-    μ-loop
-    loop-holds
-    number-at-requires
-    returns
-    returns-2
-    add-i
-    loop-less
-    loop-again
-    returns-3)
+    (tie.spec Inv-loop μ-loop loop-holds number-at-requires returns returns-2 add-i loop-less loop-again returns-3)

@@ -1,8 +1,8 @@
 -- `ticks::judging::all_rising` meets its contract: each number passed is below the next. Assumes nothing.
 use native.Mathlib.Omega.{arith}
-use mathlib.Core.Path.{_≡_, refl}
+use mathlib.Core.Path.{_≡_}
 use mathlib.Core.Bool.{true}
-use Prim.Native.Nat.{_+_, _-_, _≤_}
+use Prim.Native.Nat.{_-_, _≤_}
 use Rattle.ticks.specs.judging.Refusing.{numberAt}
 use Rattle.ticks.specs.judging.Numbers.{holdsBelow}
 use Rattle.ticks.proofs.judging.Checks.{none-yet, step, rising-more, rising-stops, rising-ends}
@@ -35,7 +35,8 @@ returns c =
     let q = c .before in
     let l = q .before .before in
     let a = l .before .before .before .args in
-    rising-stops (numberAt (a .s .now)) (a .n) (l .loop .i) (l .loop .before) (l .loop .inv .2) (q .number-at2 .result) (q .number-at2 .ensures) (q .before .loop-test .taken) (c .if1 .taken)
+    rising-stops (numberAt (a .s .now)) (a .n) (l .loop .i) (l .loop .before) (l .loop .inv .2) (q .number-at2 .result) (q .number-at2 .ensures)
+    (q .before .loop-test .taken) (c .if1 .taken)
 
 add-i : tie.Need-add-i Inv-loop μ-loop
 add-i c = record { fits = omega (arith, c .before .before .loop-test .taken, c .before .before .before .before .before .before .pre .1) }
@@ -49,7 +50,8 @@ loop-again c =
     let l = q .before .before in
     let a = l .before .before .before .args in (
       omega (arith, q .before .loop-test .taken),
-      rising-more (numberAt (a .s .now)) (a .n) (l .loop .i) (l .loop .before) (l .loop .inv .2) (q .number-at2 .result) (q .number-at2 .ensures) (l .loop .inv .1) (c .if1 .left),
+      rising-more (numberAt (a .s .now)) (a .n) (l .loop .i) (l .loop .before) (l .loop .inv .2) (q .number-at2 .result) (q .number-at2 .ensures)
+          (l .loop .inv .1) (c .if1 .left),
       q .number-at2 .ensures,
     )
 
@@ -62,16 +64,4 @@ returns-2 c =
 pub all-rising-spec : {M : Type 1} → statement M
 all-rising-spec =
     tie.close
-    (tie.spec
-    Inv-loop
-    μ-loop
-    sub-last
-    number-at-requires
-    loop-holds
-    add-number-at
-    number-at-requires-2
-    returns
-    add-i
-    loop-less
-    loop-again
-    returns-2)
+    (tie.spec Inv-loop μ-loop sub-last number-at-requires loop-holds add-number-at number-at-requires-2 returns add-i loop-less loop-again returns-2)

@@ -1,8 +1,5 @@
 -- `ticks::judging::both_rising` meets its contract. Assumes nothing.
-use mathlib.Core.Path.{_≡_, sym, ap, _∙_}
-use mathlib.Core.Bool.{Bool, _&&_}
-use Rattle.ticks.specs.judging.Refusing.{numberAt}
-use Rattle.ticks.specs.judging.Numbers.{allRising}
+use mathlib.Core.Path.{_∙_}
 use borrow.Author.Needs.{needs}
 use Rattle.ticks.proofs.judging.both_rising.Statement.{statement}
 use Rattle.ticks.proofs.judging.both_rising.Tie as tie

@@ -1,11 +1,10 @@
 -- `ticks::judging::refused_by` meets its contract. Assumes nothing.
 use native.Mathlib.Omega.{arith}
-use Prim.Native.Nat.{_≤_}
-use mathlib.Core.Path.{_≡_, refl, sym, _∙_}
+use mathlib.Core.Path.{sym, _∙_}
 use mathlib.Core.Bool.{true, false}
-use Rattle.ticks.specs.judging.Refusing.{wellCounted, usable, bothRising}
 use borrow.Author.Tests.{not-true, not-false}
-use Rattle.ticks.proofs.judging.Ladder.{Wholes, WellCounted, broken-passes, broken-millis, broken-ticks, no-room, miscounted, counted-is, by-passes, passes-right, by-ticks, inside-is}
+use Rattle.ticks.proofs.judging.Ladder.{Wholes, broken-passes, broken-millis, broken-ticks, no-room, miscounted, counted-is, by-passes}
+use Rattle.ticks.proofs.judging.Ladder.{passes-right, by-ticks, inside-is}
 use borrow.Author.Needs.{needs}
 use Rattle.ticks.proofs.judging.refused_by.Statement.{statement}
 use Rattle.ticks.proofs.judging.refused_by.Tie as tie
@@ -28,16 +27,19 @@ returns-3 c =
 returns-4 : tie.Need-returns-4
 returns-4 c =
     let a = c .before .before .before .before .before .before .before .args in
-    no-room (a .passes .now) (a .millis .now) (a .ticks .now) (a .room) (record { passes = c .before .before .before .if1 .left; millis = c .before .before .if2 .left; ticks = c .before .if3 .left }) (c .if4 .taken)
+    no-room (a .passes .now) (a .millis .now) (a .ticks .now) (a .room)
+    (record { passes = c .before .before .before .if1 .left; millis = c .before .before .if2 .left; ticks = c .before .if3 .left }) (c .if4 .taken)
 
 -- what the tests of the lengths have shown where the passes are counted
-wholes : (c : tie.After-well-counted) → let a = c .before .before .before .before .before .before .before .before .args in Wholes (a .passes .now) (a .millis .now) (a .ticks .now)
+wholes : (c : tie.After-well-counted) → let a =
+    c .before .before .before .before .before .before .before .before .args in Wholes (a .passes .now) (a .millis .now) (a .ticks .now)
 wholes c = record { passes = c .before .before .before .before .if1 .left; millis = c .before .before .before .if2 .left; ticks = c .before .before .if3 .left }
 
 returns-5 : tie.Need-returns-5
 returns-5 c =
     let a = c .before .before .before .before .before .before .before .before .before .args in
-    miscounted (a .passes .now) (a .millis .now) (a .ticks .now) (a .room) (wholes (c .before)) (c .before .before .if4 .left) (sym (c .before .well-counted .ensures) ∙ not-true _ (c .if5 .taken))
+    miscounted (a .passes .now) (a .millis .now) (a .ticks .now) (a .room) (wholes (c .before)) (c .before .before .if4 .left)
+    (sym (c .before .well-counted .ensures) ∙ not-true _ (c .if5 .taken))
 
 judged-requires : tie.Need-judged-requires
 judged-requires c κs =
@@ -48,55 +50,59 @@ judged-requires c κs =
 returns-6 : tie.Need-returns-6
 returns-6 c =
     let a = c .before .before .before .before .before .before .before .before .before .before .before .args in
-    by-passes (a .passes .now) (a .millis .now) (a .ticks .now) (a .room) (wholes (c .before .before .before)) (c .before .before .before .before .if4 .left) (sym (c .before .before .before .well-counted .ensures) ∙ not-false _ (c .before .before .if5 .left)) (c .before .judged .result) (c .before .judged .ensures) (c .if6 .taken)
+    by-passes (a .passes .now) (a .millis .now) (a .ticks .now) (a .room) (wholes (c .before .before .before)) (c .before .before .before .before .if4 .left)
+    (sym (c .before .before .before .well-counted .ensures) ∙ not-false _ (c .before .before .if5 .left)) (c .before .judged .result)
+    (c .before .judged .ensures) (c .if6 .taken)
 
 number-at-requires : tie.Need-number-at-requires
 number-at-requires c κs =
     let a = c .before .before .before .before .before .before .before .before .before .before .before .args in
-    let u = counted-is (a .passes .now) (a .millis .now) (sym (c .before .before .before .well-counted .ensures) ∙ not-false _ (c .before .before .if5 .left)) in
+    let u = counted-is (a .passes .now) (a .millis .now)
+    (sym (c .before .before .before .well-counted .ensures) ∙ not-false _ (c .before .before .if5 .left)) in
     omega (arith, u .two)
 
 sub-number-at : tie.Need-sub-number-at
 sub-number-at c =
     let a = c .before .before .before .before .before .before .before .before .before .before .before .before .args in
-    let u = counted-is (a .passes .now) (a .millis .now) (sym (c .before .before .before .before .well-counted .ensures) ∙ not-false _ (c .before .before .before .if5 .left)) in
+    let u = counted-is (a .passes .now) (a .millis .now)
+    (sym (c .before .before .before .before .well-counted .ensures) ∙ not-false _ (c .before .before .before .if5 .left)) in
     omega (arith, u .two)
 
 number-at-requires-2 : tie.Need-number-at-requires-2
 number-at-requires-2 c κs =
     let a = c .before .before .before .before .before .before .before .before .before .before .before .before .args in
-    let u = counted-is (a .passes .now) (a .millis .now) (sym (c .before .before .before .before .well-counted .ensures) ∙ not-false _ (c .before .before .before .if5 .left)) in
+    let u = counted-is (a .passes .now) (a .millis .now)
+    (sym (c .before .before .before .before .well-counted .ensures) ∙ not-false _ (c .before .before .before .if5 .left)) in
     omega (arith, u .two)
 
 returns-7 : tie.Need-returns-7
 returns-7 c =
     let a = c .before .before .before .before .before .before .before .before .before .before .before .before .before .before .before .args in
-    let u = passes-right (a .passes .now) (a .millis .now) (a .ticks .now) (a .room) (wholes (c .before .before .before .before .before .before .before)) (c .before .before .before .before .before .before .before .before .if4 .left) (sym (c .before .before .before .before .before .before .before .well-counted .ensures) ∙ not-false _ (c .before .before .before .before .before .before .if5 .left)) (c .before .before .before .before .before .judged .result) (c .before .before .before .before .before .judged .ensures) (c .before .before .before .before .if6 .left) in
-    by-ticks (a .passes .now) (a .millis .now) (a .ticks .now) (a .room) (wholes (c .before .before .before .before .before .before .before)) (c .before .before .before .before .before .before .before .before .if4 .left) (u .0) false (u .1)
-    (inside-is (a .passes .now) (a .ticks .now) _ _ false (c .before .before .before .number-at .ensures) (c .before .before .number-at2 .ensures) (sym (not-true _ (c .if7 .taken)) ∙ c .before .all-inside .ensures))
+    let u = passes-right (a .passes .now) (a .millis .now) (a .ticks .now) (a .room) (wholes (c .before .before .before .before .before .before .before))
+    (c .before .before .before .before .before .before .before .before .if4 .left)
+    (sym (c .before .before .before .before .before .before .before .well-counted .ensures)
+    ∙ not-false _ (c .before .before .before .before .before .before .if5 .left)) (c .before .before .before .before .before .judged .result)
+    (c .before .before .before .before .before .judged .ensures) (c .before .before .before .before .if6 .left) in
+    by-ticks (a .passes .now) (a .millis .now) (a .ticks .now) (a .room) (wholes (c .before .before .before .before .before .before .before))
+    (c .before .before .before .before .before .before .before .before .if4 .left) (u .0) false (u .1)
+    (inside-is (a .passes .now) (a .ticks .now) _ _ false (c .before .before .before .number-at .ensures) (c .before .before .number-at2 .ensures)
+    (sym (not-true _ (c .if7 .taken)) ∙ c .before .all-inside .ensures))
 
 returns-8 : tie.Need-returns-8
 returns-8 c =
     let a = c .before .before .before .before .before .before .before .before .before .before .before .before .before .before .before .args in
-    let u = passes-right (a .passes .now) (a .millis .now) (a .ticks .now) (a .room) (wholes (c .before .before .before .before .before .before .before)) (c .before .before .before .before .before .before .before .before .if4 .left) (sym (c .before .before .before .before .before .before .before .well-counted .ensures) ∙ not-false _ (c .before .before .before .before .before .before .if5 .left)) (c .before .before .before .before .before .judged .result) (c .before .before .before .before .before .judged .ensures) (c .before .before .before .before .if6 .left) in
-    by-ticks (a .passes .now) (a .millis .now) (a .ticks .now) (a .room) (wholes (c .before .before .before .before .before .before .before)) (c .before .before .before .before .before .before .before .before .if4 .left) (u .0) true (u .1)
-    (inside-is (a .passes .now) (a .ticks .now) _ _ true (c .before .before .before .number-at .ensures) (c .before .before .number-at2 .ensures) (sym (not-false _ (c .if7 .left)) ∙ c .before .all-inside .ensures))
+    let u = passes-right (a .passes .now) (a .millis .now) (a .ticks .now) (a .room) (wholes (c .before .before .before .before .before .before .before))
+    (c .before .before .before .before .before .before .before .before .if4 .left)
+    (sym (c .before .before .before .before .before .before .before .well-counted .ensures)
+    ∙ not-false _ (c .before .before .before .before .before .before .if5 .left)) (c .before .before .before .before .before .judged .result)
+    (c .before .before .before .before .before .judged .ensures) (c .before .before .before .before .if6 .left) in
+    by-ticks (a .passes .now) (a .millis .now) (a .ticks .now) (a .room) (wholes (c .before .before .before .before .before .before .before))
+    (c .before .before .before .before .before .before .before .before .if4 .left) (u .0) true (u .1)
+    (inside-is (a .passes .now) (a .ticks .now) _ _ true (c .before .before .before .number-at .ensures) (c .before .before .number-at2 .ensures)
+    (sym (not-false _ (c .if7 .left)) ∙ c .before .all-inside .ensures))
 
 pub refused-by-spec : {M : Type 1} → statement M
 refused-by-spec =
     tie.close
-    (tie.spec
-    returns
-    returns-2
-    returns-3
-    returns-4
-    (λ c κs. search needs)
-    returns-5
-    judged-requires
-    returns-6
-    number-at-requires
-    sub-number-at
-    number-at-requires-2
-    (λ c κs. search needs)
-    returns-7
-    returns-8)
+    (tie.spec returns returns-2 returns-3 returns-4 (λ c κs. search needs) returns-5 judged-requires returns-6 number-at-requires sub-number-at
+    number-at-requires-2 (λ c κs. search needs) returns-7 returns-8)

@@ -9,8 +9,14 @@ use Rattle.time_of_day.proofs.half_even.even_count.Tie as tie
 even-millis-requires : tie.Need-even-millis-requires
 even-millis-requires c κs =
     let t = c .before .before in
-    let g = t .before in
-    (omega (arith, g .grid-units .ensures, whole-small (g .before .args .fraction) (g .before .args .leap) (sym (t .in-whole .ensures) ∙ c .before .if1 .taken)), c .day-end .ensures .1)
+    let g = t .before in (
+      omega (
+        arith,
+        g .grid-units .ensures,
+        whole-small (g .before .args .fraction) (g .before .args .leap) (sym (t .in-whole .ensures) ∙ c .before .if1 .taken),
+      ),
+      c .day-end .ensures .1,
+    )
 
 returns : tie.Need-returns
 returns c =
@@ -18,7 +24,8 @@ returns c =
     let t = d .before .before in
     let g = t .before in
     c .even-millis .ensures
-    ∙ count-in-whole (g .before .args .fraction) (g .before .args .leap) (g .grid-units .result) (d .day-end .result) (g .grid-units .ensures) (d .day-end .ensures .0) (sym (t .in-whole .ensures) ∙ d .before .if1 .taken)
+    ∙ count-in-whole (g .before .args .fraction) (g .before .args .leap) (g .grid-units .result) (d .day-end .result) (g .grid-units .ensures)
+    (d .day-end .ensures .0) (sym (t .in-whole .ensures) ∙ d .before .if1 .taken)
 
 returns-2 : tie.Need-returns-2
 returns-2 c =
@@ -29,11 +36,4 @@ returns-2 c =
 pub even-count-spec : {M : Type 1} → statement M
 even-count-spec =
     tie.close
-    (tie.spec
-    (λ c κs. search needs)
-    (λ c κs. search needs)
-    (λ c κs. search needs)
-    even-millis-requires
-    (λ c κs. search needs)
-    returns
-    returns-2)
+    (tie.spec (λ c κs. search needs) (λ c κs. search needs) (λ c κs. search needs) even-millis-requires (λ c κs. search needs) returns returns-2)

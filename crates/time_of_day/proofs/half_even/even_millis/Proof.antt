@@ -14,10 +14,22 @@ mul-high : tie.Need-mul-high
 mul-high c = record { fits = omega (arith, part-most (c .args .units / 67108864) (c .args .day) (omega (arith, c .pre .0)), c .pre .1) }
 
 add-high : tie.Need-add-high
-add-high c = record { fits = omega (arith, part-most (c .args .units % 67108864) (c .args .day) (omega arith), part-most (c .args .units / 67108864) (c .args .day) (omega (arith, c .pre .0)), c .pre .1) }
+add-high c = record {
+  fits = omega (
+    arith,
+    part-most (c .args .units % 67108864) (c .args .day) (omega arith),
+    part-most (c .args .units / 67108864) (c .args .day) (omega (arith, c .pre .0)),
+    c .pre .1,
+  );
+}
 
 nearest-even-requires : tie.Need-nearest-even-requires
-nearest-even-requires c κs = omega (arith, part-most (c .args .units % 67108864) (c .args .day) (omega arith), part-most (c .args .units / 67108864) (c .args .day) (omega (arith, c .pre .0)), c .pre .1)
+nearest-even-requires c κs = omega (
+  arith,
+  part-most (c .args .units % 67108864) (c .args .day) (omega arith),
+  part-most (c .args .units / 67108864) (c .args .day) (omega (arith, c .pre .0)),
+  c .pre .1,
+)
 
 returns : tie.Need-returns
 returns c = c .nearest-even .ensures ∙ halves-even (c .before .args .units) (c .before .args .day)
@@ -25,11 +37,4 @@ returns c = c .nearest-even .ensures ∙ halves-even (c .before .args .units) (c
 pub even-millis-spec : {M : Type 1} → statement M
 even-millis-spec =
     tie.close
-    (tie.spec
-    mul-low
-    mul-high
-    add-high
-    (λ c. search needs)
-    (λ c. search needs)
-    nearest-even-requires
-    returns)
+    (tie.spec mul-low mul-high add-high (λ c. search needs) (λ c. search needs) nearest-even-requires returns)

@@ -14,16 +14,13 @@ returns c =
     let s = z .before in
     let p = s .before in
     c .of-halves .ensures
-    ∙ float-is (p .before .args .fraction) (p .before .args .leap) (p .twice-millis .result) (s .saturating-i64 .result) (z .from-zero .result) (c .before .worth .result)
-    (p .twice-millis .ensures) (s .saturating-i64 .ensures) (z .from-zero .ensures ∙ ap fromZero (toZ-ofZ {w = w64} {z = s .saturating-i64 .result} (record { sfits = s .saturating-i64 .ok }))) (c .before .worth .ensures)
+    ∙ float-is (p .before .args .fraction) (p .before .args .leap) (p .twice-millis .result) (s .saturating-i64 .result) (z .from-zero .result)
+    (c .before .worth .result)
+    (p .twice-millis .ensures) (s .saturating-i64 .ensures)
+    (z .from-zero .ensures ∙ ap fromZero (toZ-ofZ {w = w64} {z = s .saturating-i64 .result} (record { sfits = s .saturating-i64 .ok })))
+    (c .before .worth .ensures)
 
 pub float-count-spec : {M : Type 1} → statement M
 float-count-spec =
     tie.close
-    (tie.spec
-    (λ c κs. search needs)
-    (λ c κs. search needs)
-    (λ c κs. search needs)
-    (λ c κs. search needs)
-    (λ c κs. search needs)
-    returns)
+    (tie.spec (λ c κs. search needs) (λ c κs. search needs) (λ c κs. search needs) (λ c κs. search needs) (λ c κs. search needs) returns)

@@ -10,7 +10,9 @@ use Rattle.time_of_day.proofs.half_even.grid_units.Tie as tie
 
 returns : tie.Need-returns
 unfolding gridUnits
-returns c = c .from-zero .ensures ∙ ap fromZero (toZ-ofZ {w = w64} {z = c .before .saturating-i64 .result} (record { sfits = c .before .saturating-i64 .ok }) ∙ c .before .saturating-i64 .ensures)
+returns c = c .from-zero .ensures
+    ∙ ap fromZero (toZ-ofZ {w = w64} {z = c .before .saturating-i64 .result} (record { sfits = c .before .saturating-i64 .ok })
+    ∙ c .before .saturating-i64 .ensures)
 
 pub grid-units-spec : {M : Type 1} → statement M
 grid-units-spec = tie.close (tie.spec (λ c κs. search needs) (λ c κs. search needs) returns)

@@ -23,18 +23,17 @@ cast-offset-at-0h-by-lent : tie.Need-cast-offset-at-0h-by-lent
 cast-offset-at-0h-by-lent c = month-fits _ _ (c .before .gregorian-date .ensures ∙ ap gregorianDate (toZ-ofZ (c .before .before .fits .day)))
 
 cast-offset-at-0h-by-lent-2 : tie.Need-cast-offset-at-0h-by-lent-2
-cast-offset-at-0h-by-lent-2 c = day-of-month-fits _ _ (c .before .before .gregorian-date .ensures ∙ ap gregorianDate (toZ-ofZ (c .before .before .before .fits .day)))
+cast-offset-at-0h-by-lent-2 c =
+    day-of-month-fits _ _ (c .before .before .gregorian-date .ensures ∙ ap gregorianDate (toZ-ofZ (c .before .before .before .fits .day)))
 
 returns : tie.Need-returns
 unfolding offsetAt0h ruleOn offsetByRule
-returns c = c .offset-at-0h-by-lent .ensures ∙ handed _ _ (c .before .before .before .before .gregorian-date .ensures ∙ ap gregorianDate (toZ-ofZ (c .before .before .before .before .before .fits .day))) (λ y m d. offsetByRule (rows (c .before .before .before .before .before)) y m d nought) (record { sfits = c .before .struct-told .given .0 .1 })
+returns c = c .offset-at-0h-by-lent .ensures
+    ∙ handed _ _ (c .before .before .before .before .gregorian-date .ensures
+    ∙ ap gregorianDate (toZ-ofZ (c .before .before .before .before .before .fits .day)))
+    (λ y m d. offsetByRule (rows (c .before .before .before .before .before)) y m d nought) (record { sfits = c .before .struct-told .given .0 .1 })
 
 pub offset-at-0h-spec : {M : Type 1} → statement M
 offset-at-0h-spec =
     tie.close
-    (tie.spec
-    (λ c κs. search needs)
-    cast-offset-at-0h-by-lent
-    cast-offset-at-0h-by-lent-2
-    (λ c κs. search needs)
-    returns)
+    (tie.spec (λ c κs. search needs) cast-offset-at-0h-by-lent cast-offset-at-0h-by-lent-2 (λ c κs. search needs) returns)

@@ -20,7 +20,8 @@ rows s = rowsIn (s .args .size) (now (s .args .months)) (now (s .args .seconds))
 
 scan-requires : tie.Need-scan-requires
 unfolding RightMonths
-scan-requires c κs = subst (λ (z : MonthAnswer). RightMonths (rows (c .before .before .before .before)) z) (c .before .k .given .1) (c .before .before .before .month-of-date .ensures .1)
+scan-requires c κs = subst (λ (z : MonthAnswer). RightMonths (rows (c .before .before .before .before)) z) (c .before .k .given .1)
+    (c .before .before .before .month-of-date .ensures .1)
 
 returns : tie.Need-returns
 unfolding J.offsetOutcome monthOutcome adjustDut1 ofBits neg ofInt round
@@ -28,15 +29,10 @@ returns c = sym (stopped _ (sym (c .before .before .before .month-of-date .ensur
 
 returns-2 : tie.Need-returns-2
 unfolding J.offsetOutcome monthOutcome adjustDut1 ofBits neg ofInt round
-returns-2 c = c .scan .ensures ∙ sym (went _ (sym (c .before .before .before .before .month-of-date .ensures .0) ∙ ap monthOutcome (c .before .before .k .given .1)))
+returns-2 c = c .scan .ensures ∙ sym
+    (went _ (sym (c .before .before .before .before .month-of-date .ensures .0) ∙ ap monthOutcome (c .before .before .k .given .1)))
 
 pub adjust-dut1-for-leap-second-spec : {M : Type 1} → statement M
 adjust-dut1-for-leap-second-spec =
     tie.close
-    (tie.spec
-    (λ c κs. search needs)
-    (λ c. search needs)
-    (λ c. search needs)
-    scan-requires
-    returns
-    returns-2)
+    (tie.spec (λ c κs. search needs) (λ c. search needs) (λ c. search needs) scan-requires returns returns-2)

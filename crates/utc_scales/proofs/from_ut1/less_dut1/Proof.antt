@@ -15,7 +15,9 @@ abbrev rows : tie.Start → List Row
 rows s = rowsIn (s .args .size) (now (s .args .months)) (now (s .args .seconds))
 
 returns : tie.Need-returns
-returns c = (c .placed .ensures ∙ changes (utcFraction (rows (c .before .before .before)) (c .before .before .before .args .dut1)) _ _ _ (c .before .before .kept-parts .ensures) (c .before .utc-fraction .ensures))
+returns c = (c .placed .ensures
+    ∙ changes (utcFraction (rows (c .before .before .before)) (c .before .before .before .args .dut1)) _ _ _ (c .before .before .kept-parts .ensures)
+    (c .before .utc-fraction .ensures))
 
 pub less-dut1-spec : {M : Type 1} → statement M
 less-dut1-spec = tie.close (tie.spec (λ c κs. search needs) (λ c κs. search needs) (λ c κs. search needs) returns)

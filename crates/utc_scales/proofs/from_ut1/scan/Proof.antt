@@ -17,7 +17,8 @@ use Rattle.utc_scales.proofs.from_ut1.scan.Tie as tie
 
 abbrev Inv-loop : tie.InvT-loop
 Inv-loop big small dut1 size months seconds before₀ i₀ before i =
-    (i ≤ 4) × (scan (rowsIn size months seconds) big small dut1 (4 - i) i (before .seconds) ≡ scan (rowsIn size months seconds) big small dut1 4 0 (before₀ .seconds)) × RightMonth (rowsIn size months seconds) before
+    (i ≤ 4) × (scan (rowsIn size months seconds) big small dut1 (4 - i) i (before .seconds) ≡ scan (rowsIn size months seconds) big small dut1 4 0
+    (before₀ .seconds)) × RightMonth (rowsIn size months seconds) before
 
 abbrev μ-loop : tie.MeasureT-loop
 μ-loop big small dut1 size months seconds before₀ i₀ before i = 4 - i
@@ -43,14 +44,18 @@ enum-known-x c = search needs
 
 returns : tie.Need-returns Inv-loop μ-loop
 unfolding scanOutcome offsetOutcome
-returns c = sym (scan-ends (rows (c .before .before .before .before .before .before .before)) _ _ _ _ _ (omega arith) _ (sym (c .before .before .before .scan-day .ensures .0) ∙ ap scanOutcome (c .before .x .given .1))) ∙ c .before .before .before .before .before .before .loop .inv .1
+returns c = sym (scan-ends (rows (c .before .before .before .before .before .before .before)) _ _ _ _ _ (omega arith) _
+    (sym (c .before .before .before .scan-day .ensures .0) ∙ ap scanOutcome (c .before .x .given .1)))
+    ∙ c .before .before .before .before .before .before .loop .inv .1
 
 enum-known-number : tie.Need-enum-known-number Inv-loop μ-loop
 enum-known-number c = search needs
 
 returns-2 : tie.Need-returns-2 Inv-loop μ-loop
 unfolding scanOutcome offsetOutcome
-returns-2 c = sym (scan-refused (rows (c .before .before .before .before .before .before .before)) _ _ _ _ _ (omega arith) _ (sym (c .before .before .before .scan-day .ensures .0) ∙ ap scanOutcome (c .before .number .given .1))) ∙ c .before .before .before .before .before .before .loop .inv .1
+returns-2 c = sym (scan-refused (rows (c .before .before .before .before .before .before .before)) _ _ _ _ _ (omega arith) _
+    (sym (c .before .before .before .scan-day .ensures .0) ∙ ap scanOutcome (c .before .number .given .1)))
+    ∙ c .before .before .before .before .before .before .loop .inv .1
 
 add-i : tie.Need-add-i Inv-loop μ-loop
 add-i c = omega arith
@@ -62,8 +67,11 @@ loop-again : tie.Need-loop-again Inv-loop μ-loop
 unfolding scanOutcome offsetOutcome RightScan
 loop-again c = (
   omega arith,
-  sym (scan-on (rows (c .before .before .before .before .before .before .before)) _ _ _ _ _ (omega arith) _ (sym (c .before .before .before .scan-day .ensures .0) ∙ ap scanOutcome (c .before .k .given .1))) ∙ c .before .before .before .before .before .before .loop .inv .1,
-  subst (λ (z : DayScan). RightScan (rows (c .before .before .before .before .before .before .before)) z) (c .before .k .given .1) (c .before .before .before .scan-day .ensures .1),
+  sym (scan-on (rows (c .before .before .before .before .before .before .before)) _ _ _ _ _ (omega arith) _
+      (sym (c .before .before .before .scan-day .ensures .0) ∙ ap scanOutcome (c .before .k .given .1)))
+      ∙ c .before .before .before .before .before .before .loop .inv .1,
+  subst (λ (z : DayScan). RightScan (rows (c .before .before .before .before .before .before .before)) z) (c .before .k .given .1)
+      (c .before .before .before .scan-day .ensures .1),
 )
 
 returns-3 : tie.Need-returns-3 Inv-loop μ-loop
@@ -73,18 +81,5 @@ returns-3 c = sym (scan-done (rows (c .before .before)) _ _ _ _ _ (omega arith))
 pub scan-spec : {M : Type 1} → statement M
 scan-spec =
     tie.close
-    (tie.spec
-    Inv-loop
-    μ-loop
-    loop-holds
-    int-to-float-scan-day
-    scan-day-requires
-    enum-known-k
-    enum-known-x
-    returns
-    enum-known-number
-    returns-2
-    add-i
-    loop-less
-    loop-again
-    returns-3)
+    (tie.spec Inv-loop μ-loop loop-holds int-to-float-scan-day scan-day-requires enum-known-k enum-known-x returns enum-known-number returns-2 add-i
+    loop-less loop-again returns-3)

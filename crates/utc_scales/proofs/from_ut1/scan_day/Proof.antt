@@ -41,7 +41,11 @@ mjd-of-requires c κs =
 
 returns : tie.Need-returns
 unfolding scanOutcome dayOutcome monthOutcome RightScan RightMonths ofBits
-returns c = (sym (scan-no-date (rows (c .before .before .before .before)) _ _ _ _ _ _ (sym (c .before .before .before .day-number-and-fraction .ensures) ∙ ap dayOutcome (c .before .number .given .1))), tt)
+returns c = (
+  sym (scan-no-date (rows (c .before .before .before .before)) _ _ _ _ _ _
+      (sym (c .before .before .before .day-number-and-fraction .ensures) ∙ ap dayOutcome (c .before .number .given .1))),
+  tt,
+)
 
 returns-2 : tie.Need-returns-2
 unfolding scanOutcome dayOutcome monthOutcome RightScan RightMonths ofBits
@@ -66,7 +70,8 @@ returns-3 c =
     let m = c .before .before .before .before .before .before .before in
     let k = c .before .before .before .before .before in
     let h = m .month-with .ensures .0 ∙ ap (λ (z : ℤ). offsetAt0h (rows s) (gregorianDate z)) (day-read _ r) in (
-      sym (scan-no-step (rows s) _ _ _ _ _ _ e _ (sym h ∙ ap monthOutcome (k .k .given .1)) (ap (λ (z : Float). lt z half) (sym (c .before .fabs .ensures)) ∙ c .if1 .taken)),
+      sym (scan-no-step (rows s) _ _ _ _ _ _ e _ (sym h ∙ ap monthOutcome (k .k .given .1))
+          (ap (λ (z : Float). lt z half) (sym (c .before .fabs .ensures)) ∙ c .if1 .taken)),
       subst (λ (z : MonthAnswer). RightMonths (rows s) z) (k .k .given .1) (m .month-with .ensures .1),
     )
 
@@ -82,25 +87,16 @@ returns-4 c =
     let k = c .before .before .before .before .before .before .before .before in
     let h = m .month-with .ensures .0 ∙ ap (λ (z : ℤ). offsetAt0h (rows s) (gregorianDate z)) (day-read _ r) in
     let w = c .before .mjd-of .ensures ∙ ap (λ (z : ℤ). ofInt binary64 (z -ℤ pos 2400001)) (day-read _ r) in (
-      ap (λ (z : Float). answer (step z)) (c .near-step .ensures ∙ ap (λ (z : Float). nearStep (s .args .big) (s .args .small) (s .args .dut1) (sub binary64 (k .k .given .0 .0 .seconds) (s .args .before .seconds)) (julian mjdZeroPoint z)) w)
-          ∙ sym (scan-step (rows s) _ _ _ _ _ _ e _ (sym h ∙ ap monthOutcome (k .k .given .1)) r (ap (λ (z : Float). lt z half) (sym (c .before .before .before .before .fabs .ensures)) ∙ c .before .before .before .if1 .left)),
+      ap (λ (z : Float). answer (step z))
+          (c .near-step .ensures ∙ ap (λ (z : Float). nearStep (s .args .big) (s .args .small) (s .args .dut1)
+          (sub binary64 (k .k .given .0 .0 .seconds) (s .args .before .seconds)) (julian mjdZeroPoint z)) w)
+          ∙ sym (scan-step (rows s) _ _ _ _ _ _ e _ (sym h ∙ ap monthOutcome (k .k .given .1)) r
+          (ap (λ (z : Float). lt z half) (sym (c .before .before .before .before .fabs .ensures)) ∙ c .before .before .before .if1 .left)),
       tt,
     )
 
 pub scan-day-spec : {M : Type 1} → statement M
 scan-day-spec =
     tie.close
-    (tie.spec
-    (λ c κs. search needs)
-    (λ c. search needs)
-    (λ c. search needs)
-    (λ c κs. search needs)
-    (λ c. search needs)
-    (λ c. search needs)
-    (λ c κs. search needs)
-    mjd-of-requires
-    (λ c κs. search needs)
-    returns
-    returns-2
-    returns-3
-    returns-4)
+    (tie.spec (λ c κs. search needs) (λ c. search needs) (λ c. search needs) (λ c κs. search needs) (λ c. search needs) (λ c. search needs)
+    (λ c κs. search needs) mjd-of-requires (λ c κs. search needs) returns returns-2 returns-3 returns-4)

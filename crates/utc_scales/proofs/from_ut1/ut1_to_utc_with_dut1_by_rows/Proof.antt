@@ -12,7 +12,8 @@ returns : tie.Need-returns
 returns c =
     let z = c .before .before .before .before in
     let s = z .before in
-    c .ut1-to-utc-with-dut1-by-lent .ensures ∙ ap (λ (l : List Row). ut1ToUtc l (s .args .ut1 .0) (s .args .dut1)) (rows-in (s .args .t3) (z .size-of .result) (z .size-of .ensures))
+    c .ut1-to-utc-with-dut1-by-lent .ensures
+    ∙ ap (λ (l : List Row). ut1ToUtc l (s .args .ut1 .0) (s .args .dut1)) (rows-in (s .args .t3) (z .size-of .result) (z .size-of .ensures))
 
 pub ut1-to-utc-with-dut1-by-rows-spec : {M : Type 1} → statement M
 ut1-to-utc-with-dut1-by-rows-spec = tie.close (tie.spec (λ c κs. search needs) (λ c κs. search needs) returns)

@@ -21,9 +21,4 @@ returns-2 c = sym (went _ (sym (c .before .before .before .adjust-dut1-for-leap-
 pub utc-fraction-spec : {M : Type 1} → statement M
 utc-fraction-spec =
     tie.close
-    (tie.spec
-    (λ c κs. search needs)
-    (λ c. search needs)
-    (λ c. search needs)
-    returns
-    returns-2)
+    (tie.spec (λ c κs. search needs) (λ c. search needs) (λ c. search needs) returns returns-2)

@@ -22,18 +22,17 @@ cast-day-offsets-by-lent : tie.Need-cast-day-offsets-by-lent
 cast-day-offsets-by-lent c = month-fits _ _ (c .before .gregorian-date .ensures ∙ ap gregorianDate (toZ-ofZ (c .before .before .fits .day)))
 
 cast-day-offsets-by-lent-2 : tie.Need-cast-day-offsets-by-lent-2
-cast-day-offsets-by-lent-2 c = day-of-month-fits _ _ (c .before .before .gregorian-date .ensures ∙ ap gregorianDate (toZ-ofZ (c .before .before .before .fits .day)))
+cast-day-offsets-by-lent-2 c = day-of-month-fits _ _
+    (c .before .before .gregorian-date .ensures ∙ ap gregorianDate (toZ-ofZ (c .before .before .before .fits .day)))
 
 returns : tie.Need-returns
 unfolding offsetsOf ruleOn dayByRule
-returns c = c .day-offsets-by-lent .ensures ∙ handed _ _ (c .before .before .before .before .gregorian-date .ensures ∙ ap gregorianDate (toZ-ofZ (c .before .before .before .before .before .fits .day))) (dayByRule (rows (c .before .before .before .before .before))) (record { sfits = c .before .struct-told .given .0 .1 })
+returns c = c .day-offsets-by-lent .ensures
+    ∙ handed _ _ (c .before .before .before .before .gregorian-date .ensures
+    ∙ ap gregorianDate (toZ-ofZ (c .before .before .before .before .before .fits .day))) (dayByRule (rows (c .before .before .before .before .before)))
+    (record { sfits = c .before .struct-told .given .0 .1 })
 
 pub day-of-spec : {M : Type 1} → statement M
 day-of-spec =
     tie.close
-    (tie.spec
-    (λ c κs. search needs)
-    cast-day-offsets-by-lent
-    cast-day-offsets-by-lent-2
-    (λ c κs. search needs)
-    returns)
+    (tie.spec (λ c κs. search needs) cast-day-offsets-by-lent cast-day-offsets-by-lent-2 (λ c κs. search needs) returns)

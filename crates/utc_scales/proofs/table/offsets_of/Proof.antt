@@ -25,7 +25,8 @@ rows s = rowsIn (s .args .size) (now (s .args .months)) (now (s .args .seconds))
 called : (v : tie.After-day-of) → forget (dayByRuleOutcome (v .day-of .result)) ≡ offsetsOf (rows (v .before)) (gregorianDate (v .before .args .day))
 called v =
     let s = v .before in
-    ap forget (v .day-of .ensures ∙ ap (λ (z : ℤ). withRule (offsetsOf (rows s) (gregorianDate z)) (ruleOn (rows s) (gregorianDate z))) (toZ-ofZ (s .fits .day)))
+    ap forget (v .day-of .ensures ∙ ap (λ (z : ℤ). withRule (offsetsOf (rows s) (gregorianDate z)) (ruleOn (rows s) (gregorianDate z)))
+    (toZ-ofZ (s .fits .day)))
     ∙ forgets (offsetsOf (rows s) (gregorianDate (s .args .day))) _
 
 returns : tie.Need-returns

@@ -21,7 +21,8 @@ abbrev rows : tie.Start → List Row
 rows s = rowsIn (s .args .size) (now (s .args .months)) (now (s .args .seconds))
 
 returns : tie.Need-returns
-returns c = c .offsets-of .ensures ∙ ap (λ (z : ℤ). offsetsOf (rows (c .before .before .before)) (gregorianDate z)) (toZ-ofZ (c .before .before .before .fits .day))
+returns c = c .offsets-of .ensures
+    ∙ ap (λ (z : ℤ). offsetsOf (rows (c .before .before .before)) (gregorianDate z)) (toZ-ofZ (c .before .before .before .fits .day))
 
 returns-2 : tie.Need-returns-2
 unfolding dayOffsetsOutcome RightKnown RightDay
@@ -39,11 +40,4 @@ returns-3 c =
 pub offsets-with-spec : {M : Type 1} → statement M
 offsets-with-spec =
     tie.close
-    (tie.spec
-    (λ c. search needs)
-    (λ c κs. search needs)
-    (λ c. search needs)
-    (λ c κs. search needs)
-    returns
-    returns-2
-    returns-3)
+    (tie.spec (λ c. search needs) (λ c κs. search needs) (λ c. search needs) (λ c κs. search needs) returns returns-2 returns-3)

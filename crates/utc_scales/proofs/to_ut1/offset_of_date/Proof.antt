@@ -24,7 +24,8 @@ rows s = rowsIn (s .args .size) (now (s .args .months)) (now (s .args .seconds))
 
 returns : tie.Need-returns
 unfolding secondsByRuleOutcome dayOutcome
-returns c = offset-by-rule-refused (rows (c .before .before .before .before)) _ _ _ (sym (c .before .before .before .day-number-and-fraction .ensures) ∙ ap dayOutcome (c .before .number .given .1))
+returns c = offset-by-rule-refused (rows (c .before .before .before .before)) _ _ _
+    (sym (c .before .before .before .day-number-and-fraction .ensures) ∙ ap dayOutcome (c .before .number .given .1))
 
 returns-2 : tie.Need-returns-2
 unfolding secondsByRuleOutcome dayOutcome
@@ -41,10 +42,4 @@ returns-2 c =
 pub offset-of-date-spec : {M : Type 1} → statement M
 offset-of-date-spec =
     tie.close
-    (tie.spec
-    (λ c κs. search needs)
-    (λ c. search needs)
-    (λ c. search needs)
-    (λ c κs. search needs)
-    returns
-    returns-2)
+    (tie.spec (λ c κs. search needs) (λ c. search needs) (λ c. search needs) (λ c κs. search needs) returns returns-2)

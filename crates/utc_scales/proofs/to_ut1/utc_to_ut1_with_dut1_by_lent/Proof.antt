@@ -1,5 +1,5 @@
 -- `utc_scales::to_ut1::utc_to_ut1_with_dut1_by_lent` meets its contract. Assumes nothing.
-use mathlib.Core.Path.{_≡_, sym, ap, subst, _∙_}
+use mathlib.Core.Path.{sym, ap, subst, _∙_}
 use mathlib.Core.List.{List}
 use denote.Ref.{now}
 use lib.Ieee.{binary64, sub}
@@ -45,7 +45,9 @@ returns-2 c =
     let h = t .before in
     let s = h .before .before .before .before in
     let g = sym (h .before .before .before .finite-arg .ensures) ∙ ap J.offsetOutcome (h .before .enum-told .given .1) in
-    not-passed _ _ _ (went _ g ∙ stopped _ (sym (changes (taiFraction (rows s)) _ _ _ (h .kept-parts .ensures) (t .tai-fraction-by-rule .ensures .0)) ∙ stopped _ (ap ruledPartOutcome (c .before .number2 .given .1))))
+    not-passed _ _ _ (went _ g ∙ stopped _
+    (sym (changes (taiFraction (rows s)) _ _ _ (h .kept-parts .ensures) (t .tai-fraction-by-rule .ensures .0))
+    ∙ stopped _ (ap ruledPartOutcome (c .before .number2 .given .1))))
 
 returns-3 : tie.Need-returns-3
 unfolding ut1ByRuleOutcome J.offsetOutcome T.secondsByRuleOutcome ruledPartOutcome placed utcToTai utcToUt1 utcToUt1ByRule
@@ -54,8 +56,11 @@ returns-3 c =
     let h = t .before in
     let s = h .before .before .before .before in
     let g = sym (h .before .before .before .finite-arg .ensures) ∙ ap J.offsetOutcome (h .before .enum-told .given .1) in
-    let u = sym (changes (taiFraction (rows s)) _ _ _ (h .kept-parts .ensures) (t .tai-fraction-by-rule .ensures .0)) ∙ went _ (ap ruledPartOutcome (c .before .before .before .before .before .before .part .given .1)) in
-    let o = offset-refused (rows s) _ _ _ (sym (c .before .before .before .offset-with .ensures ∙ date-offset (rows s) _ _ (h .kept-parts .ensures)) ∙ ap T.secondsByRuleOutcome (c .before .number3 .given .1)) in
+    let u = sym (changes (taiFraction (rows s)) _ _ _ (h .kept-parts .ensures) (t .tai-fraction-by-rule .ensures .0))
+    ∙ went _ (ap ruledPartOutcome (c .before .before .before .before .before .before .part .given .1)) in
+    let o = offset-refused (rows s) _ _ _
+    (sym (c .before .before .before .offset-with .ensures ∙ date-offset (rows s) _ _ (h .kept-parts .ensures))
+    ∙ ap T.secondsByRuleOutcome (c .before .number3 .given .1)) in
     not-passed _ _ _ (went _ g ∙ went _ u ∙ stopped _ o)
 
 returns-4 : tie.Need-returns-4
@@ -66,32 +71,21 @@ returns-4 c =
     let s = h .before .before .before .before in
     let x = c .before .before .before .x in
     let g = sym (h .before .before .before .finite-arg .ensures) ∙ ap J.offsetOutcome (h .before .enum-told .given .1) in
-    let u = sym (changes (taiFraction (rows s)) _ _ _ (h .kept-parts .ensures) (t .tai-fraction-by-rule .ensures .0)) ∙ went _ (ap ruledPartOutcome (c .before .before .before .before .before .before .before .before .part .given .1)) in
-    let o = offset-answered (rows s) _ _ _ _ (sym (c .before .before .before .before .before .offset-with .ensures ∙ date-offset (rows s) _ _ (h .kept-parts .ensures)) ∙ ap T.secondsByRuleOutcome (x .given .1)) in
+    let u = sym (changes (taiFraction (rows s)) _ _ _ (h .kept-parts .ensures) (t .tai-fraction-by-rule .ensures .0))
+    ∙ went _ (ap ruledPartOutcome (c .before .before .before .before .before .before .before .before .part .given .1)) in
+    let o = offset-answered (rows s) _ _ _ _
+    (sym (c .before .before .before .before .before .offset-with .ensures ∙ date-offset (rows s) _ _ (h .kept-parts .ensures))
+    ∙ ap T.secondsByRuleOutcome (x .given .1)) in
     let k = tai-ut1 (sub binary64 (s .args .dut1) (x .given .0 .0)) in
     c .with-rule .ensures
     ∙ with-passed _ _ _ _
-    (c .before .tai-to-ut1-with-offset .ensures ∙ ap (answerOf k) (c .before .before .before .before .before .before .put-beside .ensures) ∙ sym (went _ g ∙ went _ u ∙ went _ (o .0)))
+    (c .before .tai-to-ut1-with-offset .ensures ∙ ap (answerOf k) (c .before .before .before .before .before .before .put-beside .ensures)
+    ∙ sym (went _ g ∙ went _ u ∙ went _ (o .0)))
     (o .1)
 
 pub utc-to-ut1-with-dut1-by-lent-spec : {M : Type 1} → statement M
 utc-to-ut1-with-dut1-by-lent-spec =
     tie.close
-    (tie.spec
-    (λ c κs. search needs)
-    (λ c. search needs)
-    returns
-    (λ c. search needs)
-    (λ c κs. search needs)
-    (λ c κs. search needs)
-    (λ c. search needs)
-    (λ c. search needs)
-    (λ c κs. search needs)
-    offset-with-requires
-    (λ c. search needs)
-    (λ c. search needs)
-    (λ c κs. search needs)
-    (λ c κs. search needs)
-    returns-2
-    returns-3
-    returns-4)
+    (tie.spec (λ c κs. search needs) (λ c. search needs) returns (λ c. search needs) (λ c κs. search needs) (λ c κs. search needs) (λ c. search needs)
+    (λ c. search needs) (λ c κs. search needs) offset-with-requires (λ c. search needs) (λ c. search needs) (λ c κs. search needs)
+    (λ c κs. search needs) returns-2 returns-3 returns-4)

@@ -15,11 +15,14 @@ use borrow.Author.Needs.{needs}
 use Rattle.utc_scales.proofs.to_ut1.utc_to_ut1_with_dut1_by_rows.Statement.{statement}
 use Rattle.utc_scales.proofs.to_ut1.utc_to_ut1_with_dut1_by_rows.Tie as tie
 
-called : (v : tie.After-utc-to-ut1-with-dut1-by-lent) → let s = v .before .before .before .before .before in forget (ut1ByRuleOutcome (v .utc-to-ut1-with-dut1-by-lent .result)) ≡ utcToUt1 (rowsOf (s .args .t3)) (s .args .utc .0) (s .args .dut1)
+called : (v : tie.After-utc-to-ut1-with-dut1-by-lent) → let s =
+    v .before .before .before .before .before in forget (ut1ByRuleOutcome (v .utc-to-ut1-with-dut1-by-lent .result)) ≡ utcToUt1 (rowsOf (s .args .t3))
+    (s .args .utc .0) (s .args .dut1)
 called v =
     let z = v .before .before .before .before in
     let s = z .before in
-    ap forget (v .utc-to-ut1-with-dut1-by-lent .ensures ∙ ap (λ (l : List Row). utcToUt1ByRule l (s .args .utc .0) (s .args .dut1)) (rows-in (s .args .t3) (z .size-of .result) (z .size-of .ensures)))
+    ap forget (v .utc-to-ut1-with-dut1-by-lent .ensures
+    ∙ ap (λ (l : List Row). utcToUt1ByRule l (s .args .utc .0) (s .args .dut1)) (rows-in (s .args .t3) (z .size-of .result) (z .size-of .ensures)))
     ∙ utc-to-ut1-forgets (rowsOf (s .args .t3)) (s .args .utc .0) (s .args .dut1)
 
 returns : tie.Need-returns

@@ -29,7 +29,8 @@ returns c =
     let s = a .before .before .before in
     let f = refined (rows (c .before .before .before .before .before .before)) (s .args .big) (s .args .small) in
     let two = a .before .refined-again .ensures .0 ∙ ap (λ (o : Outcome Float). onward o f) (a .before .before .refined .ensures .0) in
-    sym (ap partOutcome (c .before .number .given .1)) ∙ a .refined-again2 .ensures .0 ∙ ap (λ (o : Outcome Float). onward o f) two ∙ three-rounds (rows (c .before .before .before .before .before .before)) (s .args .big) (s .args .small)
+    sym (ap partOutcome (c .before .number .given .1)) ∙ a .refined-again2 .ensures .0 ∙ ap (λ (o : Outcome Float). onward o f) two
+    ∙ three-rounds (rows (c .before .before .before .before .before .before)) (s .args .big) (s .args .small)
 
 returns-2 : tie.Need-returns-2
 unfolding partOutcome fractionOutcome
@@ -38,16 +39,10 @@ returns-2 c =
     let s = a .before .before .before in
     let f = refined (rows (c .before .before .before .before .before .before)) (s .args .big) (s .args .small) in
     let two = a .before .refined-again .ensures .0 ∙ ap (λ (o : Outcome Float). onward o f) (a .before .before .refined .ensures .0) in
-    sym (ap partOutcome (c .before .k .given .1)) ∙ a .refined-again2 .ensures .0 ∙ ap (λ (o : Outcome Float). onward o f) two ∙ three-rounds (rows (c .before .before .before .before .before .before)) (s .args .big) (s .args .small)
+    sym (ap partOutcome (c .before .k .given .1)) ∙ a .refined-again2 .ensures .0 ∙ ap (λ (o : Outcome Float). onward o f) two
+    ∙ three-rounds (rows (c .before .before .before .before .before .before)) (s .args .big) (s .args .small)
 
 pub refine-utc-fraction-spec : {M : Type 1} → statement M
 refine-utc-fraction-spec =
     tie.close
-    (tie.spec
-    refined-requires
-    (λ c κs. search needs)
-    (λ c κs. search needs)
-    (λ c. search needs)
-    (λ c. search needs)
-    returns
-    returns-2)
+    (tie.spec refined-requires (λ c κs. search needs) (λ c κs. search needs) (λ c. search needs) (λ c. search needs) returns returns-2)

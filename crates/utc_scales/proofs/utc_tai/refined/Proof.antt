@@ -23,7 +23,8 @@ returns : tie.Need-returns
 unfolding partOutcome RightPart placed utcToTai moved refined
 returns c =
     let t = c .before .before .before in
-    let u = sym (changes (taiFraction (rows (c .before .before .before .before .before))) _ _ _ (t .before .kept-parts .ensures) (t .tai-fraction .ensures .0)) in
+    let u = sym (changes (taiFraction (rows (c .before .before .before .before .before))) _ _ _ (t .before .kept-parts .ensures)
+    (t .tai-fraction .ensures .0)) in
     (sym (stopped _ (u ∙ stopped _ (ap partOutcome (c .before .number .given .1)))), tt)
 
 returns-2 : tie.Need-returns-2
@@ -40,11 +41,4 @@ returns-2 c =
 pub refined-spec : {M : Type 1} → statement M
 refined-spec =
     tie.close
-    (tie.spec
-    (λ c κs. search needs)
-    (λ c κs. search needs)
-    (λ c. search needs)
-    (λ c. search needs)
-    (λ c κs. search needs)
-    returns
-    returns-2)
+    (tie.spec (λ c κs. search needs) (λ c κs. search needs) (λ c. search needs) (λ c. search needs) (λ c κs. search needs) returns returns-2)

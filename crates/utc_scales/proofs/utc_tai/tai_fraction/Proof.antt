@@ -39,7 +39,11 @@ mjd-of-requires c κs =
 
 returns : tie.Need-returns
 unfolding partOutcome RightPart RightDay dayOutcome dayOffsetsOutcome
-returns c = (sym (tai-no-date _ _ _ (sym (c .before .before .before .day-number-and-fraction .ensures) ∙ ap dayOutcome (c .before .number .given .1)) (rows (c .before .before .before .before))), tt)
+returns c = (
+  sym (tai-no-date _ _ _ (sym (c .before .before .before .day-number-and-fraction .ensures) ∙ ap dayOutcome (c .before .number .given .1))
+      (rows (c .before .before .before .before))),
+  tt,
+)
 
 returns-2 : tie.Need-returns-2
 unfolding partOutcome RightPart RightDay dayOutcome dayOffsetsOutcome
@@ -48,8 +52,13 @@ returns-2 c =
     let n = d .before .before in
     let s = n .before in
     let e = sym (n .day-number-and-fraction .ensures) ∙ ap dayOutcome (d .d .given .1) in
-    let r = day-range _ _ (yes (s .good .0 .1)) (yes (s .good .1 .0 .1)) _ e in
-    (sym (tai-no-offsets (rows (c .before .before .before .before .before .before .before .before .before)) _ _ _ e _ (sym (c .before .before .before .offsets-with .ensures ∙ ap (λ (z : ℤ). offsetsOf (rows (c .before .before .before .before .before .before .before .before .before)) (gregorianDate z)) (day-read _ r)) ∙ ap dayOffsetsOutcome (c .before .number2 .given .1))), tt)
+    let r = day-range _ _ (yes (s .good .0 .1)) (yes (s .good .1 .0 .1)) _ e in (
+      sym (tai-no-offsets (rows (c .before .before .before .before .before .before .before .before .before)) _ _ _ e _
+          (sym (c .before .before .before .offsets-with .ensures
+          ∙ ap (λ (z : ℤ). offsetsOf (rows (c .before .before .before .before .before .before .before .before .before)) (gregorianDate z)) (day-read _ r))
+          ∙ ap dayOffsetsOutcome (c .before .number2 .given .1))),
+      tt,
+    )
 
 returns-3 : tie.Need-returns-3
 unfolding partOutcome RightPart RightDay dayOutcome dayOffsetsOutcome
@@ -61,9 +70,12 @@ returns-3 c =
     let r = day-range _ _ (yes (s .good .0 .1)) (yes (s .good .1 .0 .1)) _ e in
     let w = c .before .before .before .before .before .before .before in
     let o = c .before .before .before .before .before .o in
-    let p = sym (w .offsets-with .ensures ∙ ap (λ (z : ℤ). offsetsOf (rows (c .before .before .before .before .before .before .before .before .before .before .before .before .before)) (gregorianDate z)) (day-read _ r)) ∙ ap dayOffsetsOutcome (o .given .1) in
+    let p = sym (w .offsets-with .ensures
+    ∙ ap (λ (z : ℤ). offsetsOf (rows (c .before .before .before .before .before .before .before .before .before .before .before .before .before))
+    (gregorianDate z)) (day-read _ r)) ∙ ap dayOffsetsOutcome (o .given .1) in
     let m = c .before .before .mjd-of .ensures ∙ ap (λ (z : ℤ). ofInt binary64 (z -ℤ pos 2400001)) (day-read _ r) in (
-      ap answer (c .before .tai-from-midnight .ensures ∙ ap (λ (z : Float). taiFromMidnight (s .args .big) (julian mjdZeroPoint z) (o .given .0 .0) (d .d .given .0 .0 .fraction)) m)
+      ap answer (c .before .tai-from-midnight .ensures
+          ∙ ap (λ (z : Float). taiFromMidnight (s .args .big) (julian mjdZeroPoint z) (o .given .0 .0) (d .d .given .0 .0 .fraction)) m)
           ∙ sym (tai-of-day (rows (c .before .before .before .before .before .before .before .before .before .before .before .before .before)) _ _ _ e r _ p),
       sym (w .offsets-with .ensures) ∙ ap dayOffsetsOutcome (o .given .1),
     )
@@ -71,15 +83,5 @@ returns-3 c =
 pub tai-fraction-spec : {M : Type 1} → statement M
 tai-fraction-spec =
     tie.close
-    (tie.spec
-    (λ c κs. search needs)
-    (λ c. search needs)
-    (λ c. search needs)
-    (λ c κs. search needs)
-    (λ c. search needs)
-    (λ c. search needs)
-    mjd-of-requires
-    (λ c κs. search needs)
-    returns
-    returns-2
-    returns-3)
+    (tie.spec (λ c κs. search needs) (λ c. search needs) (λ c. search needs) (λ c κs. search needs) (λ c. search needs) (λ c. search needs)
+    mjd-of-requires (λ c κs. search needs) returns returns-2 returns-3)

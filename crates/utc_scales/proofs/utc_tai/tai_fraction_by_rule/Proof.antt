@@ -1,5 +1,5 @@
 -- `utc_scales::utc_tai::tai_fraction_by_rule` meets its contract. Assumes nothing.
-use mathlib.Core.Path.{_≡_, sym, ap, _∙_}
+use mathlib.Core.Path.{sym, ap, _∙_}
 use mathlib.Core.List.{List}
 use denote.Ref.{now}
 use lib.Ieee.{Float, binary64, ofInt}
@@ -44,7 +44,11 @@ mjd-of-requires c κs =
 
 returns : tie.Need-returns
 unfolding ruledPartOutcome SameDays dayOutcome
-returns c = (sym (tai-no-date _ _ _ (sym (c .before .before .before .day-number-and-fraction .ensures) ∙ ap dayOutcome (c .before .number .given .1)) (rows (c .before .before .before .before))), tt)
+returns c = (
+  sym (tai-no-date _ _ _ (sym (c .before .before .before .day-number-and-fraction .ensures) ∙ ap dayOutcome (c .before .number .given .1))
+      (rows (c .before .before .before .before))),
+  tt,
+)
 
 returns-2 : tie.Need-returns-2
 unfolding ruledPartOutcome SameDays dayOutcome dayByRuleOutcome
@@ -54,7 +58,8 @@ returns-2 c =
     let s = n .before in
     let e = sym (n .day-number-and-fraction .ensures) ∙ ap dayOutcome (d .d .given .1) in
     let r = day-range _ _ (yes (s .good .0 .1)) (yes (s .good .1 .0 .1)) _ e in
-    let h = c .before .before .before .day-of .ensures ∙ ap (λ (z : ℤ). withRule (offsetsOf (rows s) (gregorianDate z)) (ruleOn (rows s) (gregorianDate z))) (day-read _ r) in
+    let h = c .before .before .before .day-of .ensures
+    ∙ ap (λ (z : ℤ). withRule (offsetsOf (rows s) (gregorianDate z)) (ruleOn (rows s) (gregorianDate z))) (day-read _ r) in
     (sym (tai-no-offsets (rows s) _ _ _ e _ (refused-apart _ _ _ (sym h ∙ ap dayByRuleOutcome (c .before .number2 .given .1)))), tt)
 
 returns-3 : tie.Need-returns-3
@@ -66,10 +71,12 @@ returns-3 c =
     let e = sym (n .day-number-and-fraction .ensures) ∙ ap dayOutcome (d .d .given .1) in
     let r = day-range _ _ (yes (s .good .0 .1)) (yes (s .good .1 .0 .1)) _ e in
     let o = c .before .before .before .before .o in
-    let h = c .before .before .before .before .before .before .day-of .ensures ∙ ap (λ (z : ℤ). withRule (offsetsOf (rows s) (gregorianDate z)) (ruleOn (rows s) (gregorianDate z))) (day-read _ r) in
+    let h = c .before .before .before .before .before .before .day-of .ensures
+    ∙ ap (λ (z : ℤ). withRule (offsetsOf (rows s) (gregorianDate z)) (ruleOn (rows s) (gregorianDate z))) (day-read _ r) in
     let q = apart _ _ _ _ (sym h ∙ ap dayByRuleOutcome (o .given .1)) in
     let m = c .before .mjd-of .ensures ∙ ap (λ (z : ℤ). ofInt binary64 (z -ℤ pos 2400001)) (day-read _ r) in (
-      ap answer (c .tai-from-midnight .ensures ∙ ap (λ (z : Float). taiFromMidnight (s .args .big) (julian mjdZeroPoint z) (o .given .0 .0) (d .d .given .0 .0 .fraction)) m)
+      ap answer (c .tai-from-midnight .ensures
+          ∙ ap (λ (z : Float). taiFromMidnight (s .args .big) (julian mjdZeroPoint z) (o .given .0 .0) (d .d .given .0 .0 .fraction)) m)
           ∙ sym (tai-of-day (rows s) _ _ _ e r _ (q .0)),
       record { offset = offset-of-day (rows s) _ _ _ e ∙ offsets-first (rows s) _ _ (q .0); told = rule-of-day (rows s) _ _ _ e ∙ ap answer (q .1) },
     )
@@ -77,15 +84,5 @@ returns-3 c =
 pub tai-fraction-by-rule-spec : {M : Type 1} → statement M
 tai-fraction-by-rule-spec =
     tie.close
-    (tie.spec
-    (λ c κs. search needs)
-    (λ c. search needs)
-    (λ c. search needs)
-    (λ c κs. search needs)
-    (λ c. search needs)
-    (λ c. search needs)
-    mjd-of-requires
-    (λ c κs. search needs)
-    returns
-    returns-2
-    returns-3)
+    (tie.spec (λ c κs. search needs) (λ c. search needs) (λ c. search needs) (λ c κs. search needs) (λ c. search needs) (λ c. search needs)
+    mjd-of-requires (λ c κs. search needs) returns returns-2 returns-3)

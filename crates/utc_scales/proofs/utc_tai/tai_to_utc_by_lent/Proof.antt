@@ -18,20 +18,19 @@ rows s = rowsIn (s .args .size) (now (s .args .months)) (now (s .args .seconds))
 
 returns : tie.Need-returns
 unfolding utcOutcome julianOutcome taiToUtc
-returns c = sym (ap julianOutcome (c .before .number .given .1)) ∙ (c .before .before .before .placed .ensures ∙ changes (refineUtcFraction (rows (c .before .before .before .before .before .before))) _ _ _ (c .before .before .before .before .before .kept-parts .ensures) (c .before .before .before .before .refine-utc-fraction .ensures))
+returns c = sym (ap julianOutcome (c .before .number .given .1))
+    ∙ (c .before .before .before .placed .ensures
+    ∙ changes (refineUtcFraction (rows (c .before .before .before .before .before .before))) _ _ _
+    (c .before .before .before .before .before .kept-parts .ensures) (c .before .before .before .before .refine-utc-fraction .ensures))
 
 returns-2 : tie.Need-returns-2
 unfolding utcOutcome julianOutcome taiToUtc
-returns-2 c = sym (ap julianOutcome (c .before .jd .given .1)) ∙ (c .before .before .before .placed .ensures ∙ changes (refineUtcFraction (rows (c .before .before .before .before .before .before))) _ _ _ (c .before .before .before .before .before .kept-parts .ensures) (c .before .before .before .before .refine-utc-fraction .ensures))
+returns-2 c = sym (ap julianOutcome (c .before .jd .given .1))
+    ∙ (c .before .before .before .placed .ensures
+    ∙ changes (refineUtcFraction (rows (c .before .before .before .before .before .before))) _ _ _
+    (c .before .before .before .before .before .kept-parts .ensures) (c .before .before .before .before .refine-utc-fraction .ensures))
 
 pub tai-to-utc-by-lent-spec : {M : Type 1} → statement M
 tai-to-utc-by-lent-spec =
     tie.close
-    (tie.spec
-    (λ c κs. search needs)
-    (λ c κs. search needs)
-    (λ c κs. search needs)
-    (λ c. search needs)
-    (λ c. search needs)
-    returns
-    returns-2)
+    (tie.spec (λ c κs. search needs) (λ c κs. search needs) (λ c κs. search needs) (λ c. search needs) (λ c. search needs) returns returns-2)

@@ -1,5 +1,5 @@
 -- `utc_scales::utc_tai::utc_to_tai_by_lent` meets its contract. Assumes nothing.
-use mathlib.Core.Path.{_≡_, sym, ap, subst, _∙_}
+use mathlib.Core.Path.{sym, ap, subst, _∙_}
 use mathlib.Core.List.{List}
 use denote.Ref.{now}
 use Rattle.refusals.specs.Outcome.{answer}
@@ -28,7 +28,8 @@ unfolding taiByRuleOutcome ruledPartOutcome placed utcToTai utcToTaiByRule
 returns c =
     let t = c .before .before .before in
     let s = t .before .before in
-    not-passed _ _ _ (sym (changes (taiFraction (rows s)) _ _ _ (t .before .kept-parts .ensures) (t .tai-fraction-by-rule .ensures .0)) ∙ stopped _ (ap ruledPartOutcome (c .before .number .given .1)))
+    not-passed _ _ _ (sym (changes (taiFraction (rows s)) _ _ _ (t .before .kept-parts .ensures) (t .tai-fraction-by-rule .ensures .0))
+    ∙ stopped _ (ap ruledPartOutcome (c .before .number .given .1)))
 
 returns-2 : tie.Need-returns-2
 unfolding taiByRuleOutcome ruledPartOutcome SameDays placed utcToTai utcToTaiByRule
@@ -37,19 +38,14 @@ returns-2 c =
     let t = k .before .before in
     let s = t .before .before in
     let p = t .before .kept-parts .result in
-    let q : SameDay (rows s) (p .larger) (p .smaller) _ _ = subst (λ (r : RuledPart). SameDays (rows s) (p .larger) (p .smaller) r) (k .part .given .1) (t .tai-fraction-by-rule .ensures .1) in
+    let q : SameDay (rows s) (p .larger) (p .smaller) _ _ =
+    subst (λ (r : RuledPart). SameDays (rows s) (p .larger) (p .smaller) r) (k .part .given .1) (t .tai-fraction-by-rule .ensures .1) in
     passed _ _ _ _
-    (sym (changes (taiFraction (rows s)) _ _ _ (t .before .kept-parts .ensures) (t .tai-fraction-by-rule .ensures .0)) ∙ went _ (ap ruledPartOutcome (k .part .given .1)) ∙ ap answer (sym (c .put-beside .ensures)))
+    (sym (changes (taiFraction (rows s)) _ _ _ (t .before .kept-parts .ensures) (t .tai-fraction-by-rule .ensures .0))
+    ∙ went _ (ap ruledPartOutcome (k .part .given .1)) ∙ ap answer (sym (c .put-beside .ensures)))
     (ap (λ (z : Parts). ruleOfDate (rows s) (z .larger) (z .smaller)) (sym (t .before .kept-parts .ensures)) ∙ q .told)
 
 pub utc-to-tai-by-lent-spec : {M : Type 1} → statement M
 utc-to-tai-by-lent-spec =
     tie.close
-    (tie.spec
-    (λ c κs. search needs)
-    (λ c κs. search needs)
-    (λ c. search needs)
-    (λ c. search needs)
-    (λ c κs. search needs)
-    returns
-    returns-2)
+    (tie.spec (λ c κs. search needs) (λ c κs. search needs) (λ c. search needs) (λ c. search needs) (λ c κs. search needs) returns returns-2)

@@ -15,11 +15,13 @@ use borrow.Author.Needs.{needs}
 use Rattle.utc_scales.proofs.utc_tai.utc_to_tai_by_rows.Statement.{statement}
 use Rattle.utc_scales.proofs.utc_tai.utc_to_tai_by_rows.Tie as tie
 
-called : (v : tie.After-utc-to-tai-by-lent) → let s = v .before .before .before .before .before in forget (taiByRuleOutcome (v .utc-to-tai-by-lent .result)) ≡ utcToTai (rowsOf (s .args .t2)) (s .args .utc .0)
+called : (v : tie.After-utc-to-tai-by-lent) → let s =
+    v .before .before .before .before .before in forget (taiByRuleOutcome (v .utc-to-tai-by-lent .result)) ≡ utcToTai (rowsOf (s .args .t2)) (s .args .utc .0)
 called v =
     let z = v .before .before .before .before in
     let s = z .before in
-    ap forget (v .utc-to-tai-by-lent .ensures ∙ ap (λ (l : List Row). utcToTaiByRule l (s .args .utc .0)) (rows-in (s .args .t2) (z .size-of .result) (z .size-of .ensures)))
+    ap forget (v .utc-to-tai-by-lent .ensures
+    ∙ ap (λ (l : List Row). utcToTaiByRule l (s .args .utc .0)) (rows-in (s .args .t2) (z .size-of .result) (z .size-of .ensures)))
     ∙ utc-to-tai-forgets (rowsOf (s .args .t2)) (s .args .utc .0)
 
 returns : tie.Need-returns

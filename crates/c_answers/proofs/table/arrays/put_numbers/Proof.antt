@@ -2,8 +2,8 @@
 use Prim.Native.Nat.{ℕ, _+_, _-_, _*_, _≤_, _<_}
 use native.Mathlib.Omega.{arith}
 use native.Mathlib.Nat.{not-suc-le-zero}
-use mathlib.Core.Path.{_≡_, refl, ap, _∙_}
-use lib.IntN.{ℤ, pos}
+use mathlib.Core.Path.{_≡_, ap, _∙_}
+use lib.IntN.{pos}
 use lib.ListN.{length, getD}
 use mir.Syntax.{w32}
 use mir.Facts.{toZ-ofZ}
@@ -14,7 +14,8 @@ use Rattle.c_answers.proofs.table.arrays.put_numbers.Statement.{stateme
 use Rattle.c_answers.proofs.table.arrays.put_numbers.Tie as tie
 
 abbrev Inv-loop : tie.InvT-loop
-Inv-loop bytes at size numbers₀ i₀ numbers i = (i ≤ size) × (length numbers₀ ≡ 16 → (length numbers ≡ 16) × ((k : ℕ) → k < i → getD numbers k (pos 0) ≡ signedAt bytes (at + 4 * k)))
+Inv-loop bytes at size numbers₀ i₀ numbers i = (i ≤ size)
+    × (length numbers₀ ≡ 16 → (length numbers ≡ 16) × ((k : ℕ) → k < i → getD numbers k (pos 0) ≡ signedAt bytes (at + 4 * k)))
 
 abbrev μ-loop : tie.MeasureT-loop
 μ-loop bytes at size numbers₀ i₀ numbers i = size - i
@@ -52,7 +53,8 @@ loop-again c =
     let a = l .before .before .args in (
       omega arith,
       λ n. one-more-read (a .bytes .now) (a .at) (l .loop .i) (l .loop .numbers) _ (l .loop .inv .1 n .0) (omega arith)
-          (toZ-ofZ {w = w32} {z = c .i32-of-pattern .result} (record { sfits = c .i32-of-pattern .ok }) ∙ c .i32-of-pattern .ensures ∙ ap signed32 (c .before .u32-at .ensures)) (l .loop .inv .1 n .1),
+          (toZ-ofZ {w = w32} {z = c .i32-of-pattern .result} (record { sfits = c .i32-of-pattern .ok }) ∙ c .i32-of-pattern .ensures
+          ∙ ap signed32 (c .before .u32-at .ensures)) (l .loop .inv .1 n .1),
     )
 
 returns : tie.Need-returns Inv-loop μ-loop
@@ -61,17 +63,5 @@ returns c = let l = c .before in λ n i h. l .loop .inv .1 n .1 i (omega arith)
 pub put-numbers-spec : {M : Type 1} → statement M
 put-numbers-spec =
     tie.close
-    (tie.spec
-    Inv-loop
-    μ-loop
-    loop-holds
-    mul-u32-at
-    add-u32-at
-    u32-at-requires
-    i32-of-pattern-requires
-    mul-t11
-    element-set-from-numbers
-    add-i
-    loop-less
-    loop-again
-    returns)
+    (tie.spec Inv-loop μ-loop loop-holds mul-u32-at add-u32-at u32-at-requires i32-of-pattern-requires mul-t11 element-set-from-numbers add-i
+    loop-less loop-again returns)

@@ -13,7 +13,8 @@ use Rattle.capi.proofs.table_calls.bills.bill_call.Tie as tie
 returns : tie.Need-returns
 returns c =
     let n = c .before .before in
-    table-refused _ (n .before .announced-rows-at .result) (n .table-number .result) (n .table-number .ensures) (n .before .announced-rows-at .ensures) billBytes _ (c .refused .ok)
+    table-refused _ (n .before .announced-rows-at .result) (n .table-number .result) (n .table-number .ensures) (n .before .announced-rows-at .ensures)
+    billBytes _ (c .refused .ok)
     (c .before .if1 .taken) (c .refused .ensures)
 
 returns-2 : tie.Need-returns-2
@@ -23,21 +24,16 @@ returns-2 c =
     let b = p .before .before in
     let n = b .before .before in
     let a = n .before .before .before .before .args in
-    with-rows _ (n .before .announced-rows-at .result) (n .table-number .result) (n .table-number .ensures) (n .before .announced-rows-at .ensures) billBytes _ (p .put-bill .ok) (b .before .if1 .left)
+    with-rows _ (n .before .announced-rows-at .result) (n .table-number .result) (n .table-number .ensures) (n .before .announced-rows-at .ensures) billBytes
+    _ (p .put-bill .ok) (b .before .if1 .left)
     (b .standby-bill .ensures
     ∙ ap (λ (o : Outcome (List Row)). onward o (λ rows. standbyBill rows (a .start) (a .end) (a .rate) (a .first-metres) (a .second-metres)))
-    (is-taken _ (n .before .announced-rows-at .result) (n .table-number .result) (n .table-number .ensures) (n .before .announced-rows-at .ensures) (b .before .if1 .left)))
+    (is-taken _ (n .before .announced-rows-at .result) (n .table-number .result) (n .table-number .ensures) (n .before .announced-rows-at .ensures)
+    (b .before .if1 .left)))
     (p .put-bill .ensures)
 
 pub bill-call-spec : {M : Type 1} → statement M
 bill-call-spec =
     tie.close
-    (tie.spec
-    (λ c κs. search needs)
-    (λ c κs. search needs)
-    (λ c κs. search needs)
-    returns
-    (λ c κs. search needs)
-    (λ c κs. search needs)
-    (λ c. search needs)
-    returns-2)
+    (tie.spec (λ c κs. search needs) (λ c κs. search needs) (λ c κs. search needs) returns (λ c κs. search needs) (λ c κs. search needs)
+    (λ c. search needs) returns-2)

@@ -20,11 +20,4 @@ returns-2 c = refused-on billBytes (c .refused .ok) _ (ap billOutcome (c .before
 pub put-bill-spec : {M : Type 1} → statement M
 put-bill-spec =
     tie.close
-    (tie.spec
-    (λ c. search needs)
-    (λ c κs. search needs)
-    (λ c. search needs)
-    (λ c κs. search needs)
-    (λ c. search needs)
-    returns
-    returns-2)
+    (tie.spec (λ c. search needs) (λ c κs. search needs) (λ c. search needs) (λ c κs. search needs) (λ c. search needs) returns returns-2)

@@ -1,4 +1,5 @@
--- `capi::table_calls::bills::standby_bill` meets its contract: the packed times have the fields that were passed, the years read back from their bits. Assumes nothing.
+-- `capi::table_calls::bills::standby_bill` meets its contract: the packed times have the fields that were passed, the years read back from their bits. Assumes
+-- nothing.
 use denote.Ref.{now}
 use mir.Facts.{toZ-ofZ}
 use Rattle.refusals.specs.Outcome.{onward}

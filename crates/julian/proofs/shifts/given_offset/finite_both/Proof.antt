@@ -8,7 +8,9 @@ use Rattle.julian.specs.shifts.Shifts.{finiteBoth}
 
 returns : tie.Need-returns
 unfolding finiteBoth
-returns c = c .first-refusal .ensures ∙ both (c .before .before .before .args .seconds) (c .before .before .before .args .jd) (c .before .before .finite-jd .ensures) (c .before .finite-offset .ensures)
+returns c = c .first-refusal .ensures
+    ∙ both (c .before .before .before .args .seconds) (c .before .before .before .args .jd) (c .before .before .finite-jd .ensures)
+    (c .before .finite-offset .ensures)
 
 pub finite-both-spec : {M : Type 1} → statement M
 finite-both-spec =

@@ -12,11 +12,13 @@ use Rattle.julian.specs.shifts.Shifts.{finiteOffset}
 
 returns : tie.Need-returns
 unfolding julianOutcome offsetOutcome finiteOffset
-returns c = sym (went (λ (s : Float). answer (c .before .before .before .before .args .jd)) (sym (c .before .before .before .finite-arg .ensures) ∙ ap offsetOutcome (c .before .s .given .1)))
+returns c = sym (went (λ (s : Float). answer (c .before .before .before .before .args .jd))
+    (sym (c .before .before .before .finite-arg .ensures) ∙ ap offsetOutcome (c .before .s .given .1)))
 
 returns-2 : tie.Need-returns-2
 unfolding julianOutcome offsetOutcome finiteOffset
-returns-2 c = sym (stopped (λ (s : Float). answer (c .before .before .before .before .args .jd)) (sym (c .before .before .before .finite-arg .ensures) ∙ ap offsetOutcome (c .before .n .given .1)))
+returns-2 c = sym (stopped (λ (s : Float). answer (c .before .before .before .before .args .jd))
+    (sym (c .before .before .before .finite-arg .ensures) ∙ ap offsetOutcome (c .before .n .given .1)))
 
 pub finite-offset-spec : {M : Type 1} → statement M
 finite-offset-spec =

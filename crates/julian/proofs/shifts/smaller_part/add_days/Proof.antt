@@ -10,7 +10,9 @@ use Rattle.julian.specs.shifts.Shifts.{plus}
 
 returns : tie.Need-returns
 unfolding mapSmallerPart plus
-returns c = c .put-back .ensures ∙ ap (λ (p : Parts). putBack (c .before .before .before .args .jd) (add binary64 (p .smaller) (c .before .before .before .args .days))) (c .before .before .split .ensures)
+returns c = c .put-back .ensures
+    ∙ ap (λ (p : Parts). putBack (c .before .before .before .args .jd) (add binary64 (p .smaller) (c .before .before .before .args .days)))
+    (c .before .before .split .ensures)
 
 pub add-days-spec : {M : Type 1} → statement M
 add-days-spec = tie.close (tie.spec (λ c κs. search needs) (λ c κs. search needs) returns)

@@ -10,7 +10,8 @@ use Rattle.julian.specs.shifts.Shifts.{minus, changed}
 
 returns : tie.Need-returns
 unfolding julianOutcome changed
-returns c = ap answer (c .subtract-days .ensures) ∙ sym (went (changed (minus (c .before .before .before .before .args .days))) (ap julianOutcome (c .before .before .a .given .1)))
+returns c = ap answer (c .subtract-days .ensures)
+    ∙ sym (went (changed (minus (c .before .before .before .before .args .days))) (ap julianOutcome (c .before .before .a .given .1)))
 
 returns-2 : tie.Need-returns-2
 unfolding julianOutcome

@@ -1,8 +1,7 @@
 -- `leap_table::judging::in_bytes::bytes_refusal` meets its contract. Assumes nothing.
 use Prim.Native.Nat.{_/_, _%_}
-use native.Mathlib.Omega.{arith}
-use mathlib.Core.Path.{_≡_, refl, sym, ap, subst, _∙_}
-use mathlib.Core.Bool.{Bool, true, false}
+use mathlib.Core.Path.{sym, ap, _∙_}
+use mathlib.Core.Bool.{Bool}
 use lib.Dec.{eqb}
 use lib.ListN.{length}
 use borrow.Author.Tests.{eq-eqb, ne-eqb}
@@ -19,7 +18,8 @@ returns c =
     let r = c .before in
     let s = r .before .before .args in
     let l = s .dates .now in
-    table-away (s .table) (eqb (length l % 12) 0) (datesFrom (tripleIn l) 0 (length l / 12)) (s .room / 8) (r .table-refusal .result) (r .table-refusal .ensures) (c .if1 .taken)
+    table-away (s .table) (eqb (length l % 12) 0) (datesFrom (tripleIn l) 0 (length l / 12)) (s .room / 8) (r .table-refusal .result)
+    (r .table-refusal .ensures) (c .if1 .taken)
 
 returns-2 : tie.Need-returns-2
 returns-2 c =
@@ -40,7 +40,8 @@ returns-3 c =
     let l = s .dates .now in
     let d = datesFrom (tripleIn l) 0 (length l / 12) in
     table-taken (s .table) (eqb (length l % 12) 0) d (s .room / 8) (r .table-refusal .result) (r .table-refusal .ensures) (i .if1 .left) _
-    (no-places d (s .room / 8) (length l / 12) (how-many (tripleIn l) (length l / 12) 0) (c .if3 .taken) ∙ ap (λ (b : Bool). judgedList b d (s .room / 8)) (sym (eq-eqb (length l % 12) 0 (k .if2 .left))))
+    (no-places d (s .room / 8) (length l / 12) (how-many (tripleIn l) (length l / 12) 0) (c .if3 .taken)
+    ∙ ap (λ (b : Bool). judgedList b d (s .room / 8)) (sym (eq-eqb (length l % 12) 0 (k .if2 .left))))
 
 returns-4 : tie.Need-returns-4
 returns-4 c =
@@ -52,7 +53,8 @@ returns-4 c =
     let l = s .dates .now in
     let d = datesFrom (tripleIn l) 0 (length l / 12) in
     table-taken (s .table) (eqb (length l % 12) 0) d (s .room / 8) (r .table-refusal .result) (r .table-refusal .ensures) (i .if1 .left) _
-    (by-dates d (s .room / 8) (length l / 12) (how-many (tripleIn l) (length l / 12) 0) (q .if3 .left) (c .judge-all .result) (c .judge-all .ensures) ∙ ap (λ (b : Bool). judgedList b d (s .room / 8)) (sym (eq-eqb (length l % 12) 0 (k .if2 .left))))
+    (by-dates d (s .room / 8) (length l / 12) (how-many (tripleIn l) (length l / 12) 0) (q .if3 .left) (c .judge-all .result) (c .judge-all .ensures)
+    ∙ ap (λ (b : Bool). judgedList b d (s .room / 8)) (sym (eq-eqb (length l % 12) 0 (k .if2 .left))))
 
 pub bytes-refusal-spec : {M : Type 1} → statement M
 bytes-refusal-spec =

@@ -1,4 +1,5 @@
--- `leap_table::judging::in_bytes::judge_all` meets its contract. The loop's invariant: what is left to judge is the dates from i on, after `before`. Assumes nothing.
+-- `leap_table::judging::in_bytes::judge_all` meets its contract. The loop's invariant: what is left to judge is the dates from i on, after `before`. Assumes
+-- nothing.
 use Prim.Native.Nat.{_-_, _≤_}
 use native.Mathlib.Omega.{arith}
 use mathlib.Core.Path.{_≡_, sym, _∙_}
@@ -30,7 +31,8 @@ returns c =
     let t = j .before in
     let l = t .before .before in
     let s = l .before .before .args in
-    judging-stops (tripleIn (s .dates .now)) (s .n) (l .loop .i) (l .loop .before) (t .triple-in .result) (j .judge .result) (t .before .loop-test .taken) (t .triple-in .ensures) (j .judge .ensures) (c .if1 .taken)
+    judging-stops (tripleIn (s .dates .now)) (s .n) (l .loop .i) (l .loop .before) (t .triple-in .result) (j .judge .result) (t .before .loop-test .taken)
+    (t .triple-in .ensures) (j .judge .ensures) (c .if1 .taken)
     ∙ sym (l .loop .inv .1)
 
 add-i : tie.Need-add-i Inv-loop μ-loop
@@ -47,7 +49,8 @@ loop-again c =
     let s = l .before .before .args in (
       omega (arith, t .before .loop-test .taken),
       l .loop .inv .1
-          ∙ judging-goes (tripleIn (s .dates .now)) (s .n) (l .loop .i) (l .loop .before) (t .triple-in .result) (j .judge .result) (t .before .loop-test .taken) (t .triple-in .ensures) (j .judge .ensures) (c .if1 .left),
+          ∙ judging-goes (tripleIn (s .dates .now)) (s .n) (l .loop .i) (l .loop .before) (t .triple-in .result) (j .judge .result)
+          (t .before .loop-test .taken) (t .triple-in .ensures) (j .judge .ensures) (c .if1 .left),
     )
 
 returns-2 : tie.Need-returns-2 Inv-loop μ-loop
@@ -59,14 +62,4 @@ returns-2 c =
 pub judge-all-spec : {M : Type 1} → statement M
 judge-all-spec =
     tie.close
-    (tie.spec
-    Inv-loop
-    μ-loop
-    loop-holds
-    triple-in-requires
-    judge-requires
-    returns
-    add-i
-    loop-less
-    loop-again
-    returns-2)
+    (tie.spec Inv-loop μ-loop loop-holds triple-in-requires judge-requires returns add-i loop-less loop-again returns-2)

@@ -16,7 +16,8 @@ returns : tie.Need-returns
 returns c =
     let n = c .before in
     let s = n .before .before .args in
-    ap wholeF (n .natural .ensures .0 ∙ read-natural (getD (now (s .seconds)) (s .i) (pos 0)) (record { sfits = n .before .natural-arg .given })) ∙ sym (announced-seconds (announcedTable 0 0 [] (now (s .seconds))) (s .i))
+    ap wholeF (n .natural .ensures .0 ∙ read-natural (getD (now (s .seconds)) (s .i) (pos 0)) (record { sfits = n .before .natural-arg .given }))
+    ∙ sym (announced-seconds (announcedTable 0 0 [] (now (s .seconds))) (s .i))
 
 pub seconds-at-spec : {M : Type 1} → statement M
 seconds-at-spec = tie.close (tie.spec (λ c. search needs) (λ c. search needs) (λ c κs. search needs) (λ c. search needs) returns)

@@ -1,5 +1,5 @@
--- `leap_table::offsets::fixed_rows::fixed_rows_reached` meets its contract: the table's months are those of the definition, and none after those that are looked at has begun.
--- Assumes nothing.
+-- `leap_table::offsets::fixed_rows::fixed_rows_reached` meets its contract: the table's months are those of the definition, and none after those that are
+-- looked at has begun. Assumes nothing.
 use mathlib.Core.Path.{_≡_}
 use Prim.Native.Nat.{ℕ, _<_}
 use native.Mathlib.Omega.{arith}
@@ -45,13 +45,5 @@ returns-3 c = (c .rows-reached3 .ensures, rw (c .rows-reached3 .ensures) (at-mos
 pub fixed-rows-reached-spec : {M : Type 1} → statement M
 fixed-rows-reached-spec =
     tie.close
-    (tie.spec
-    (λ c. search needs)
-    rows-reached-requires
-    returns
-    (λ c. search needs)
-    rows-reached-requires-2
-    returns-2
-    (λ c. search needs)
-    rows-reached-requires-3
-    returns-3)
+    (tie.spec (λ c. search needs) rows-reached-requires returns (λ c. search needs) rows-reached-requires-2 returns-2 (λ c. search needs)
+    rows-reached-requires-3 returns-3)

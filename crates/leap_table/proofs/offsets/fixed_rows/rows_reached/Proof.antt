@@ -44,8 +44,11 @@ loop-less c = search needs
 loop-again : tie.Need-loop-again Inv-loop μ-loop
 loop-again c =
     let l = c .before .before .before in
-    let s = l .before in
-    (omega arith, passed (now (s .args .months)) (l .loop .i) (s .args .n) (c .before .before .loop-test .taken) (l .loop .inv .0) (c .if1 .left) (l .loop .inv .1))
+    let s = l .before in (
+      omega arith,
+      passed (now (s .args .months)) (l .loop .i) (s .args .n) (c .before .before .loop-test .taken) (l .loop .inv .0) (c .if1 .left)
+          (l .loop .inv .1),
+    )
 
 returns-2 : tie.Need-returns-2 Inv-loop μ-loop
 returns-2 c =
@@ -55,15 +58,4 @@ returns-2 c =
 pub rows-reached-spec : {M : Type 1} → statement M
 rows-reached-spec =
     tie.close
-    (tie.spec
-    Inv-loop
-    μ-loop
-    loop-holds
-    sub-if1
-    mul-if1
-    shared-slice-read-if1
-    returns
-    sub-i
-    loop-less
-    loop-again
-    returns-2)
+    (tie.spec Inv-loop μ-loop loop-holds sub-if1 mul-if1 shared-slice-read-if1 returns sub-i loop-less loop-again returns-2)

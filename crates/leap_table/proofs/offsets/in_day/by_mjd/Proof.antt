@@ -12,7 +12,6 @@ use denote.Ref.{now}
 use mathlib.Core.List.{List}
 use Rattle.leap_table.specs.rows.Table.{Row, starts, reached}
 use Rattle.leap_table.specs.rows.Announced.{rowsIn}
-use Rattle.leap_table.specs.offsets.Offset.{taiUtcOffset}
 use Rattle.leap_table.specs.offsets.Rule.{ruleBy, ruleOf, ruleAt, offsetByRule}
 use Rattle.leap_table.specs.offsets.Answers.{secondsByRuleOutcome}
 use Rattle.leap_table.proofs.offsets.Month.{read-month}
@@ -73,7 +72,8 @@ returns c =
     not-told _ _ _
     (sym
     (date-refused _ _ _ _ _ (v .before .pre) _
-    (no-mjd _ _ _ (s .fits .year) (s .fits .month) (s .fits .day) (v .modified-julian-day .result) (v .modified-julian-day .ensures) _ (c .before .number .given .1))))
+    (no-mjd _ _ _ (s .fits .year) (s .fits .month) (s .fits .day) (v .modified-julian-day .result) (v .modified-julian-day .ensures) _
+    (c .before .number .given .1))))
 
 returns-2 : tie.Need-returns-2
 unfolding secondsByRuleOutcome offsetByRule ruleOf ruleAt
@@ -84,7 +84,8 @@ returns-2 c =
     let s = v .before in
     let m = now (s .args .months) in
     let l = now (s .args .seconds) in
-    let e = r .table-rows-reached .ensures .0 l ∙ ap (reached (starts (rows s))) (r .before .month-number .ensures ∙ read-month _ _ (s .fits .year) (s .fits .month)) in
+    let e = r .table-rows-reached .ensures .0 l
+    ∙ ap (reached (starts (rows s))) (r .before .month-number .ensures ∙ read-month _ _ (s .fits .year) (s .fits .month)) in
     let h = r .table-rows-reached .ensures .1 in
     told _ _ _ _
     (ap answer
@@ -96,15 +97,5 @@ returns-2 c =
 pub by-mjd-spec : {M : Type 1} → statement M
 by-mjd-spec =
     tie.close
-    (tie.spec
-    (λ c κs. search needs)
-    (λ c. search needs)
-    (λ c. search needs)
-    cast-month-number
-    month-number-requires
-    (λ c κs. search needs)
-    int-to-float-offset-by
-    offset-by-requires
-    rule-by-requires
-    returns
-    returns-2)
+    (tie.spec (λ c κs. search needs) (λ c. search needs) (λ c. search needs) cast-month-number month-number-requires (λ c κs. search needs)
+    int-to-float-offset-by offset-by-requires rule-by-requires returns returns-2)

@@ -1,5 +1,6 @@
--- `leap_table::offsets::in_day::get_tai_utc_offset_by_lent` meets its contract: each branch is a case of the offset, a plain date's by its month alone. Assumes nothing.
-use mathlib.Core.Path.{_≡_, ap, sym, _∙_}
+-- `leap_table::offsets::in_day::get_tai_utc_offset_by_lent` meets its contract: each branch is a case of the offset, a plain date's by its month alone. Assumes
+-- nothing.
+use mathlib.Core.Path.{sym, _∙_}
 use mathlib.Core.List.{List}
 use denote.Ref.{now}
 use lib.Ieee.{ofBits}
@@ -27,9 +28,6 @@ returns-2 : tie.Need-returns-2
 unfolding ofBits secondsByRuleOutcome offsetByRule
 returns-2 c = not-told _ _ _ (sym (fraction-refused _ _ _ _ _ (too-high _ (c .before .if1 .left) (c .if2 .taken))))
 
-of-plain-day-requires : tie.Need-of-plain-day-requires
-of-plain-day-requires c κs = c .before .plain-day .ensures (c .if3 .taken)
-
 returns-3 : tie.Need-returns-3
 unfolding ofBits secondsByRuleOutcome offsetByRule
 returns-3 c =
@@ -38,7 +36,8 @@ returns-3 c =
     let s = e .before .before in
     let (x, r) = c .of-plain-day .ensures in
     told _ _ _ _
-    (plain-offset (rows s) _ _ _ (read-plain _ _ _ (s .fits .year) (s .fits .month) (s .fits .day) (t .before .plain-day .ensures (t .if3 .taken))) _ (read-offset (rows s) _ _ (s .fits .year) (s .fits .month) _ x) _ (in-day _ (e .before .if1 .left) (e .if2 .left)))
+    (plain-offset (rows s) _ _ _ (read-plain _ _ _ (s .fits .year) (s .fits .month) (s .fits .day) (t .before .plain-day .ensures (t .if3 .taken))) _
+    (read-offset (rows s) _ _ (s .fits .year) (s .fits .month) _ x) _ (in-day _ (e .before .if1 .left) (e .if2 .left)))
     (r ∙ read-rule (rows s) _ _ (s .fits .year) (s .fits .month))
 
 by-mjd-requires : tie.Need-by-mjd-requires
@@ -53,4 +52,4 @@ returns-4 c =
 pub get-tai-utc-offset-by-lent-spec : {M : Type 1} → statement M
 get-tai-utc-offset-by-lent-spec =
     tie.close
-    (tie.spec returns returns-2 (λ c κs. search needs) of-plain-day-requires returns-3 by-mjd-requires returns-4)
+    (tie.spec returns returns-2 (λ c κs. search needs) (λ c κs. c .before .plain-day .ensures (c .if3 .taken)) returns-3 by-mjd-requires returns-4)

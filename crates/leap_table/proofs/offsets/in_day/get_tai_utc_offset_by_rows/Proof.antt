@@ -16,7 +16,8 @@ returns c =
     let s = z .before in
     let rows = rows-in (s .args .t5) (z .size-of .result) (z .size-of .ensures) in
     c .without-rule .ensures
-    ∙ ap forget (v .get-tai-utc-offset-by-lent .ensures ∙ (λ i. offsetByRule (rows i) (toZ-ofZ (s .fits .year) i) (toZ-ofZ (s .fits .month) i) (toZ-ofZ (s .fits .day) i) (s .args .fraction)))
+    ∙ ap forget (v .get-tai-utc-offset-by-lent .ensures
+    ∙ (λ i. offsetByRule (rows i) (toZ-ofZ (s .fits .year) i) (toZ-ofZ (s .fits .month) i) (toZ-ofZ (s .fits .day) i) (s .args .fraction)))
     ∙ offset-forgets (rowsOf (s .args .t5)) (s .args .year) (s .args .month) (s .args .day) (s .args .fraction)
 
 pub get-tai-utc-offset-by-rows-spec : {M : Type 1} → statement M

@@ -1,5 +1,5 @@
 -- `leap_table::offsets::in_day::offset_at_0h_by_lent` meets its contract: 0h is in every day. Assumes nothing.
-use mathlib.Core.Path.{_≡_, refl, ap, sym, _∙_}
+use mathlib.Core.Path.{_≡_, refl, _∙_}
 use mathlib.Core.Bool.{true}
 use mathlib.Core.List.{List}
 use denote.Ref.{now}
@@ -25,9 +25,6 @@ at-0h : inDay nought ≡ true
 unfolding inDay le
 at-0h = refl
 
-of-plain-day-requires : tie.Need-of-plain-day-requires
-of-plain-day-requires c κs = c .before .plain-day .ensures (c .if1 .taken)
-
 returns : tie.Need-returns
 unfolding secondsByRuleOutcome offsetByRule
 returns c =
@@ -35,7 +32,8 @@ returns c =
     let s = t .before .before in
     let (x, r) = c .of-plain-day .ensures in
     told _ _ _ _
-    (plain-offset (rows s) _ _ _ (read-plain _ _ _ (s .fits .year) (s .fits .month) (s .fits .day) (t .before .plain-day .ensures (t .if1 .taken))) _ (read-offset (rows s) _ _ (s .fits .year) (s .fits .month) _ x) nought at-0h)
+    (plain-offset (rows s) _ _ _ (read-plain _ _ _ (s .fits .year) (s .fits .month) (s .fits .day) (t .before .plain-day .ensures (t .if1 .taken))) _
+    (read-offset (rows s) _ _ (s .fits .year) (s .fits .month) _ x) nought at-0h)
     (r ∙ read-rule (rows s) _ _ (s .fits .year) (s .fits .month))
 
 by-mjd-requires : tie.Need-by-mjd-requires
@@ -51,4 +49,4 @@ returns-2 c =
 pub offset-at-0h-by-lent-spec : {M : Type 1} → statement M
 offset-at-0h-by-lent-spec =
     tie.close
-    (tie.spec (λ c κs. search needs) of-plain-day-requires returns by-mjd-requires returns-2)
+    (tie.spec (λ c κs. search needs) (λ c κs. c .before .plain-day .ensures (c .if1 .taken)) returns by-mjd-requires returns-2)

@@ -1,23 +1,22 @@
--- `leap_table::offsets::look_up::announced_rows_reached` meets its contract. The loop's invariant: what is found is what the rows before place i say. The measure is what is left.
--- Assumes nothing.
+-- `leap_table::offsets::look_up::announced_rows_reached` meets its contract. The loop's invariant: what is found is what the rows before place i say. The
+-- measure is what is left. Assumes nothing.
 use mathlib.Core.Path.{_≡_, refl, ap, sym, subst, _∙_}
 use mathlib.Core.Bool.{Bool, true, false, cond}
 use mathlib.Core.List.{List, []}
-use Prim.Native.Nat.{ℕ, zero, suc, _+_, _-_, _≤_, _<_}
+use Prim.Native.Nat.{ℕ, _+_, _-_, _≤_, _<_}
 use native.Mathlib.Omega.{arith}
 use native.Mathlib.Numerals.{add-one}
 use denote.Ref.{now}
-use lib.IntN.{ℤ, pos, negsuc}
+use lib.IntN.{ℤ, pos}
 use lib.Signed.{leZ}
 use lib.ListN.{getD}
 use mir.Syntax.{w32}
 use mir.Val.{SFits}
 use mir.Facts.{toZ-ofZ}
 use borrow.Author.Needs.{needs}
-use borrow.Author.Tests.{leb-true, leb-false}
 use Rattle.leap_table.specs.declared.rows.AnnouncedRows.{AnnouncedRows}
-use Rattle.leap_table.specs.rows.Table.{fixed, starts, reached}
-use Rattle.leap_table.specs.rows.Announced.{natural, least, announcedRow, announcedTable, rowsTo}
+use Rattle.leap_table.specs.rows.Table.{starts, reached}
+use Rattle.leap_table.specs.rows.Announced.{natural, least, announcedTable, rowsTo}
 use Rattle.leap_table.specs.offsets.Plain.{byFound}
 use Rattle.leap_table.proofs.rows.Tables.{announced-found, announced-passed}
 use Rattle.leap_table.proofs.rows.Naturals.{begun-or-not}
@@ -63,7 +62,8 @@ same : (a b : ℕ) → b ≤ a → a ≤ b → b ≡ a
 same a b g h = omega arith
 
 -- one row more
-more : (m : List ℤ) (n i found r : ℕ) (z : ℤ) → SFits w32 z → z ≡ getD m i (pos 0) → r ≡ cond (leZ z (pos (least n 2147483647))) (i + 1) found → found ≤ i → byFound n found ≡ reached (starts (rowsTo (announced m) i)) n
+more : (m : List ℤ) (n i found r : ℕ) (z : ℤ) → SFits w32 z → z ≡ getD m i (pos 0) → r ≡ cond (leZ z (pos (least n 2147483647))) (i + 1) found → found ≤ i
+    → byFound n found ≡ reached (starts (rowsTo (announced m) i)) n
     → (r ≤ i + 1) × (byFound n r ≡ reached (starts (rowsTo (announced m) (i + 1))) n)
 more m n i found r z f p e h inv = go (leZ z (pos (least n 2147483647))) refl
   where
@@ -86,7 +86,8 @@ loop-again c =
     let i = l .loop .i in
     let f : SFits w32 (getD m i (pos 0)) = record { sfits = c .before .found-next-arg .given } in
     let k = toZ-ofZ {w = w32} {z = b .as-announced .result} (record { sfits = b .as-announced .ok }) ∙ b .as-announced .ensures in
-    let e : c .found-next .result ≡ cond (leZ (getD m i (pos 0)) (pos (least (s .n) 2147483647))) (i + 1) (l .loop .found) = c .found-next .ensures ∙ (λ j. cond (leZ (toZ-ofZ f j) (k j)) (i + 1) (l .loop .found)) in
+    let e : c .found-next .result ≡ cond (leZ (getD m i (pos 0)) (pos (least (s .n) 2147483647))) (i + 1) (l .loop .found) = c .found-next .ensures
+    ∙ (λ j. cond (leZ (toZ-ofZ f j) (k j)) (i + 1) (l .loop .found)) in
     let (p, q) = more m (s .n) i (l .loop .found) (c .found-next .result) (getD m i (pos 0)) f refl e (l .loop .inv .1) (l .loop .inv .2) in
     (omega arith, p, q)
 
@@ -100,16 +101,5 @@ returns c =
 pub announced-rows-reached-spec : {M : Type 1} → statement M
 announced-rows-reached-spec =
     tie.close
-    (tie.spec
-    Inv-loop
-    μ-loop
-    as-announced-requires
-    loop-holds
-    cast-at
-    mul-found-next
-    element-copy-out-found-next
-    found-next-requires
-    add-i
-    loop-less
-    loop-again
-    returns)
+    (tie.spec Inv-loop μ-loop as-announced-requires loop-holds cast-at mul-found-next element-copy-out-found-next found-next-requires add-i loop-less
+    loop-again returns)

@@ -12,8 +12,5 @@ use Rattle.leap_table.proofs.offsets.look_up.as_announced.Tie as tie
 returns : tie.Need-returns
 returns c = toZ-pos w32 {n = c .before .args .n} (omega (arith, c .if1 .taken)) ∙ ap pos (sym (least-low _ 2147483647 (c .if1 .taken)))
 
-returns-2 : tie.Need-returns-2
-returns-2 c = ap pos (sym (least-high _ 2147483647 (c .if1 .left)))
-
 pub as-announced-spec : {M : Type 1} → statement M
-as-announced-spec = tie.close (tie.spec (λ c. search needs) returns returns-2)
+as-announced-spec = tie.close (tie.spec (λ c. search needs) returns (λ c. ap pos (sym (least-high _ 2147483647 (c .if1 .left)))))

@@ -1,5 +1,5 @@
 -- `leap_table::offsets::look_up::of_plain_day` meets its contract: the row of the month is one of whole seconds. Assumes nothing.
-use mathlib.Core.Path.{_≡_, ap, sym, _∙_}
+use mathlib.Core.Path.{_≡_, ap, _∙_}
 use mathlib.Core.List.{List, []}
 use Prim.Native.Nat.{ℕ, _≤_}
 use native.Mathlib.Omega.{arith}
@@ -29,9 +29,6 @@ ok s = plain-accepted _ _ _ (s .pre)
 month-is : (c : tie.After-month-number) → let s = c .before .args in c .month-number .result ≡ monthNumber (s .year) (natAbs (s .month))
 month-is c = let s = c .before in c .month-number .ensures ∙ read-month _ _ (s .fits .year) (s .fits .month)
 
-cast-month-number : tie.Need-cast-month-number
-cast-month-number c = to-unsigned (c .args .month) (c .fits .month) (ok c .m-sign)
-
 month-number-requires : tie.Need-month-number-requires
 month-number-requires c κs =
     let m = read-back (c .args .month) (c .fits .month) in
@@ -49,12 +46,6 @@ whole c =
 few : (c : tie.After-table-rows-reached) → c .table-rows-reached .result ≤ 58
 few c = few-rows (c .before .before .args .size) _ (c .table-rows-reached .ensures .1)
 
-seconds-of-row-requires : tie.Need-seconds-of-row-requires
-seconds-of-row-requires c κs = (whole c, few c)
-
-whole-rule-requires : tie.Need-whole-rule-requires
-whole-rule-requires c κs = (whole (c .before), few (c .before))
-
 returns : tie.Need-returns
 unfolding ruleOf ruleAt
 returns c =
@@ -65,7 +56,8 @@ returns c =
     let l = now (s .args .seconds) in
     let k = r .table-rows-reached .ensures .0 l in
     let h = r .table-rows-reached .ensures .1 in
-    let x = seconds-reached (s .args .size) m l (n .month-number .result) _ (from-1972 n) k (c .before .seconds-of-row .result) (c .before .seconds-of-row .ensures (s .args .size) m h) in (
+    let x = seconds-reached (s .args .size) m l (n .month-number .result) _ (from-1972 n) k (c .before .seconds-of-row .result)
+    (c .before .seconds-of-row .ensures (s .args .size) m h) in (
       λ mjd f. x mjd f ∙ ap (λ (j : ℕ). offsetAt (rows s) j mjd f) (month-is n),
       c .whole-rule .ensures (s .args .size) m l h ∙ ap (ruleBy (rows s)) k ∙ ap (λ (j : ℕ). ruleBy (rows s) (reached (starts (rows s)) j)) (month-is n),
     )
@@ -73,10 +65,5 @@ returns c =
 pub of-plain-day-spec : {M : Type 1} → statement M
 of-plain-day-spec =
     tie.close
-    (tie.spec
-    cast-month-number
-    month-number-requires
-    (λ c κs. search needs)
-    seconds-of-row-requires
-    whole-rule-requires
-    returns)
+    (tie.spec (λ c. to-unsigned (c .args .month) (c .fits .month) (ok c .m-sign)) month-number-requires (λ c κs. search needs)
+    (λ c κs. (whole c, few c)) (λ c κs. (whole (c .before), few (c .before))) returns)

@@ -46,18 +46,12 @@ returns-3 c size months h =
     let t = announcedTable size size months (now (s .seconds)) in
     let a = above _ (f .if1 .left) in
     row-stays (rowsIn size months (now (s .seconds))) (s .rows) (s .mjd) (s .fraction) a
-    (table-drifts t (announcedSize t) (s .rows - 1) (omega (arith, a, h, announced-size size months (now (s .seconds)))) ∙ ap not (le-ltb (s .rows - 1) 14 (c .before .if2 .left)))
+    (table-drifts t (announcedSize t) (s .rows - 1) (omega (arith, a, h, announced-size size months (now (s .seconds))))
+    ∙ ap not (le-ltb (s .rows - 1) 14 (c .before .if2 .left)))
     _ (c .seconds-of-row .ensures size months h)
 
 pub offset-by-spec : {M : Type 1} → statement M
 offset-by-spec =
     tie.close
-    (tie.spec
-    returns
-    (λ c. search needs)
-    (λ c κs. search needs)
-    (λ c κs. search needs)
-    (λ c κs. search needs)
-    returns-2
-    (λ c κs. search needs)
+    (tie.spec returns (λ c. search needs) (λ c κs. search needs) (λ c κs. search needs) (λ c κs. search needs) returns-2 (λ c κs. search needs)
     returns-3)

@@ -12,18 +12,6 @@ use Rattle.leap_table.proofs.offsets.look_up.plain_day.Tie as tie
 no : {A : Type 0} → false ≡ true → A
 no e = let z : _≡_ {A = ℕ} 0 1 = cc in absurd (omega arith)
 
-returns : tie.Need-returns
-returns c = no
-
-returns-2 : tie.Need-returns-2
-returns-2 c = no
-
-returns-3 : tie.Need-returns-3
-returns-3 c = no
-
-returns-4 : tie.Need-returns-4
-returns-4 c = no
-
 returns-5 : tie.Need-returns-5
 returns-5 c e =
     let s = c .before .before .before .before in
@@ -37,4 +25,4 @@ returns-5 c e =
     (omega arith)
 
 pub plain-day-spec : {M : Type 1} → statement M
-plain-day-spec = tie.close (tie.spec returns returns-2 returns-3 returns-4 returns-5)
+plain-day-spec = tie.close (tie.spec (λ c. no) (λ c. no) (λ c. no) (λ c. no) returns-5)

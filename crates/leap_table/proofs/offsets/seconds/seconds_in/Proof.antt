@@ -1,5 +1,5 @@
 -- `leap_table::offsets::seconds::seconds_in` meets its contract: the seconds are counted in the fixed rows and read in the announced ones. Assumes nothing.
-use mathlib.Core.Path.{_≡_, ap, sym, subst, _∙_}
+use mathlib.Core.Path.{_≡_, ap, subst, _∙_}
 use mathlib.Core.List.{List}
 use Prim.Native.Nat.{ℕ, _+_, _-_, _≤_}
 use native.Mathlib.Omega.{arith}
@@ -21,7 +21,8 @@ module _ (c : tie.After-table-rows-reached) where
   rows-are =
       let z = c .before .before .before in
       let a = z .before .args in
-      c .table-rows-reached .ensures .0 (a .t1 .seconds) ∙ ap (λ (rows : List Row). reached (starts rows) (a .month)) (rows-in (a .t1) (z .size-of .result) (z .size-of .ensures))
+      c .table-rows-reached .ensures .0 (a .t1 .seconds)
+      ∙ ap (λ (rows : List Row). reached (starts rows) (a .month)) (rows-in (a .t1) (z .size-of .result) (z .size-of .ensures))
 
   few : let s = c .before .before .before .before in c .table-rows-reached .result ≤ 42 + announcedSize (s .args .t1)
   unfolding announcedSize
@@ -31,9 +32,6 @@ module _ (c : tie.After-table-rows-reached) where
 
   enough : 15 ≤ c .table-rows-reached .result
   enough = let s = c .before .before .before .before in omega (arith, rows-are, whole-rows-of (s .args .t1) (s .args .month) (s .pre))
-
-sub-result : tie.Need-sub-result
-sub-result c = omega (arith, enough (c .before))
 
 returns : tie.Need-returns
 returns c =
@@ -67,14 +65,5 @@ returns-2 c =
 pub seconds-in-spec : {M : Type 1} → statement M
 seconds-in-spec =
     tie.close
-    (tie.spec
-    (λ c κs. search needs)
-    (λ c κs. search needs)
-    sub-result
-    (λ c. search needs)
-    returns
-    (λ c. search needs)
-    mul-natural
-    element-copy-out-natural
-    (λ c κs. search needs)
-    returns-2)
+    (tie.spec (λ c κs. search needs) (λ c κs. search needs) (λ c. omega (arith, enough (c .before))) (λ c. search needs) returns (λ c. search needs)
+    mul-natural element-copy-out-natural (λ c κs. search needs) returns-2)

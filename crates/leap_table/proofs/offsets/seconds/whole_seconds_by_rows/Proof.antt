@@ -22,13 +22,21 @@ month-is : (c : tie.After-month-number) → let s = c .before .before .before .b
 month-is c = let s = c .before .before .before .before in c .month-number .ensures ∙ ap (λ (y : ℤ). monthNumber y (s .args .month)) (toZ-ofZ (s .fits .year))
 
 returns : tie.Need-returns
-returns c = let s = c .before in (no-year (s .args .table) (s .args .year) (s .args .month) (lt-left (s .args .year) (pos 1972) _ (s .fits .year) (c .if1 .taken)), omega arith)
+returns c = let s = c .before in (
+  no-year (s .args .table) (s .args .year) (s .args .month)
+      (lt-left (s .args .year) (pos 1972) _ (s .fits .year) (c .if1 .taken)),
+  omega arith,
+)
 
 returns-2 : tie.Need-returns-2
 returns-2 c = let s = c .before .before in (month-below (s .args .table) (s .args .year) (s .args .month) (from-1972 (c .before)) (c .if2 .taken), omega arith)
 
 returns-3 : tie.Need-returns-3
-returns-3 c = let s = c .before .before .before in (month-above (s .args .table) (s .args .year) (s .args .month) (from-1972 (c .before .before)) (c .before .if2 .left) (c .if3 .taken), omega arith)
+returns-3 c = let s = c .before .before
+    .before in (
+      month-above (s .args .table) (s .args .year) (s .args .month) (from-1972 (c .before .before)) (c .before .if2 .left) (c .if3 .taken),
+      omega arith,
+    )
 
 seconds-in-requires : tie.Need-seconds-in-requires
 seconds-in-requires c κs =

@@ -1,4 +1,5 @@
--- `leap_table::offsets::walk_rows::row_start` meets its contract: a row stands in the fixed table or among the announced ones, or there is none. Assumes nothing.
+-- `leap_table::offsets::walk_rows::row_start` meets its contract: a row stands in the fixed table or among the announced ones, or there is none. Assumes
+-- nothing.
 use mathlib.Core.Path.{_∙_}
 use Prim.Native.Nat.{_-_}
 use native.Mathlib.Omega.{arith}
@@ -38,14 +39,5 @@ returns-3 c =
 pub row-start-spec : {M : Type 1} → statement M
 row-start-spec =
     tie.close
-    (tie.spec
-    (λ c. search needs)
-    (λ c κs. search needs)
-    returns
-    (λ c κs. search needs)
-    (λ c. search needs)
-    (λ c. search needs)
-    (λ c κs. search needs)
-    (λ c. search needs)
-    returns-2
-    returns-3)
+    (tie.spec (λ c. search needs) (λ c κs. search needs) returns (λ c κs. search needs) (λ c. search needs) (λ c. search needs) (λ c κs. search needs)
+    (λ c. search needs) returns-2 returns-3)

@@ -6,7 +6,7 @@ use mathlib.Core.Bool.{not}
 use Prim.Native.Nat.{ℕ, _+_, _-_, _≤_, _<_}
 use native.Mathlib.Omega.{arith}
 use lib.ListN.{getD}
-use lib.Ieee.{Float, ofBits}
+use lib.Ieee.{ofBits}
 use borrow.Author.Tests.{lt-ltb, le-ltb}
 use borrow.Author.Needs.{needs}
 use Rattle.leap_table.specs.rows.Table.{Row, none}
@@ -73,21 +73,12 @@ returns-4 c =
     let e = c .seconds-of-row .ensures k (s .t1 .months) (few q) ∙ ap (λ (l : List Row). secondsOf (getD l (s .rows - 1) none)) (rows-in (s .t1) k refl) in
     λ mjd x.
     row-stays (rowsOf (s .t1)) (s .rows) mjd x (above _ (f .if1 .left))
-    (table-drifts (s .t1) (announcedSize (s .t1)) (s .rows - 1) (omega (arith, q .before .if3 .left, n .announced-size .ensures .0)) ∙ ap not (le-ltb (s .rows - 1) 14 (n .before .if2 .left)))
+    (table-drifts (s .t1) (announcedSize (s .t1)) (s .rows - 1) (omega (arith, q .before .if3 .left, n .announced-size .ensures .0))
+    ∙ ap not (le-ltb (s .rows - 1) 14 (n .before .if2 .left)))
     _ e
 
 pub row-terms-spec : {M : Type 1} → statement M
 row-terms-spec =
     tie.close
-    (tie.spec
-    returns
-    (λ c. search needs)
-    (λ c κs. search needs)
-    (λ c κs. search needs)
-    (λ c κs. search needs)
-    returns-2
-    (λ c κs. search needs)
-    (λ c. search needs)
-    returns-3
-    seconds-of-row-requires
-    returns-4)
+    (tie.spec returns (λ c. search needs) (λ c κs. search needs) (λ c κs. search needs) (λ c κs. search needs) returns-2 (λ c κs. search needs)
+    (λ c. search needs) returns-3 seconds-of-row-requires returns-4)

@@ -3,7 +3,7 @@
 use mathlib.Core.Path.{_≡_, ap, sym, subst, _∙_}
 use mathlib.Core.List.{List}
 use native.Mathlib.Omega.{arith}
-use Prim.Native.Nat.{ℕ, _≤_, _<_}
+use Prim.Native.Nat.{ℕ, _<_}
 use lib.IntN.{ℤ, natAbs}
 use mir.Facts.{toZ-ofZ}
 use mir.Syntax.{w32}
@@ -47,25 +47,29 @@ module _ (c : tie.After-known-told2) where
   small = mjd-small _ _ _ _ (c .before .before .before .before .fits .year) mjd
 
 -- where it has a next date
-next : (c : tie.After-known-told4) → let s = c .before .before .before .before .before .before .before .before .args in nextOf (s .year) (s .month) (s .day) ≡ answer (c .before .t .given .0 .0)
+next : (c : tie.After-known-told4) → let s =
+    c .before .before .before .before .before .before .before .before .args in nextOf (s .year) (s .month) (s .day) ≡ answer (c .before .t .given .0 .0)
 next c =
     let v = c .before .before .before in
     let s = v .before .before .before .before .before in
     next-date _ _ _ (s .fits .year) (s .fits .month) (s .fits .day) (v .next-calendar-day .result) (v .next-calendar-day .ensures) _ (c .before .t .given .1)
 
-day-month : (c : tie.After-month-number) → let s = c .before .before .before .before .before .before .before .before .before .args in c .month-number .result ≡ monthNumber (s .year) (natAbs (s .month))
+day-month : (c : tie.After-month-number) → let s =
+    c .before .before .before .before .before .before .before .before .before .args in c .month-number .result ≡ monthNumber (s .year) (natAbs (s .month))
 day-month c =
     let s = c .before .before .before .before .before .before .before .before .before in
     c .month-number .ensures ∙ read-month _ _ (s .fits .year) (s .fits .month)
 
-next-month : (c : tie.After-month-number2) → let t = c .before .before .before .before .t .given .0 .0 in c .month-number2 .result ≡ monthNumber (t .year) (t .month)
+next-month : (c : tie.After-month-number2) → let t =
+    c .before .before .before .before .t .given .0 .0 in c .month-number2 .result ≡ monthNumber (t .year) (t .month)
 next-month c =
     let t = c .before .before .before .before .t .given .0 .0 in
     let f = toZ-ofZ {w = w32} {z = t .year} (record { sfits = c .before .struct-told .given .0 .1 }) in
     c .month-number2 .ensures ∙ ap (λ (y : ℤ). monthNumber y (t .month)) f
 
 cast-month-number : tie.Need-cast-month-number
-cast-month-number c = let s = c .before .before .before .before .before .before .before .before in to-unsigned (s .args .month) (s .fits .month) (ok (c .before .before .before .before) .m-sign)
+cast-month-number c = let s = c .before .before .before .before .before .before .before .before in to-unsigned (s .args .month) (s .fits .month)
+    (ok (c .before .before .before .before) .m-sign)
 
 month-number-requires : tie.Need-month-number-requires
 month-number-requires c κs =
@@ -90,7 +94,9 @@ unfolding dayByRuleOutcome dayByRule
 returns c =
     let v = c .before .before .before in
     let s = v .before in
-    not-told _ _ _ (sym (day-refused _ _ _ _ _ (no-mjd _ _ _ (s .fits .year) (s .fits .month) (s .fits .day) (v .modified-julian-day .result) (v .modified-julian-day .ensures) _ (c .before .number .given .1))))
+    not-told _ _ _ (sym (day-refused _ _ _ _ _
+    (no-mjd _ _ _ (s .fits .year) (s .fits .month) (s .fits .day) (v .modified-julian-day .result) (v .modified-julian-day .ensures) _
+    (c .before .number .given .1))))
 
 returns-2 : tie.Need-returns-2
 unfolding dayByRuleOutcome dayByRule
@@ -98,7 +104,9 @@ returns-2 c =
     let v = c .before .before .before in
     let k = v .before in
     let s = k .before .before .before .before in
-    not-told _ _ _ (sym (no-next-day _ _ _ _ _ (mjd k) _ (no-next-date _ _ _ (s .fits .year) (s .fits .month) (s .fits .day) (v .next-calendar-day .result) (v .next-calendar-day .ensures) _ (c .before .number2 .given .1))))
+    not-told _ _ _ (sym (no-next-day _ _ _ _ _ (mjd k) _
+    (no-next-date _ _ _ (s .fits .year) (s .fits .month) (s .fits .day) (v .next-calendar-day .result) (v .next-calendar-day .ensures) _
+    (c .before .number2 .given .1))))
 
 same-day : (rows : List Row) (m m′ n n′ : ℕ) (z z′ : ℤ) → m ≡ m′ → n ≡ n′ → z ≡ z′ → offsetsOfDay rows m n z ≡ offsetsOfDay rows m′ n′ z′
 same-day rows m m′ n n′ z z′ p q r = λ i. offsetsOfDay rows (p i) (q i) (r i)
@@ -122,17 +130,5 @@ returns-3 c =
 pub by-next-day-spec : {M : Type 1} → statement M
 by-next-day-spec =
     tie.close
-    (tie.spec
-    (λ c κs. search needs)
-    (λ c. search needs)
-    (λ c. search needs)
-    (λ c κs. search needs)
-    (λ c. search needs)
-    (λ c. search needs)
-    cast-month-number
-    month-number-requires
-    month-number-requires-2
-    offsets-of-day-requires
-    returns
-    returns-2
-    returns-3)
+    (tie.spec (λ c κs. search needs) (λ c. search needs) (λ c. search needs) (λ c κs. search needs) (λ c. search needs) (λ c. search needs)
+    cast-month-number month-number-requires month-number-requires-2 offsets-of-day-requires returns returns-2 returns-3)

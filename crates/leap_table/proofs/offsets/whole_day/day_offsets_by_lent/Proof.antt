@@ -1,5 +1,5 @@
 -- `leap_table::offsets::whole_day::day_offsets_by_lent` meets its contract: a plain date has one offset. Assumes nothing.
-use mathlib.Core.Path.{_≡_, ap, sym, _∙_}
+use mathlib.Core.Path.{_∙_}
 use mathlib.Core.List.{List}
 use denote.Ref.{now}
 use mir.Facts.{toZ-ofZ}
@@ -17,9 +17,6 @@ use Rattle.leap_table.proofs.offsets.whole_day.day_offsets_by_lent.Tie 
 abbrev rows : tie.Start → List Row
 rows s = rowsIn (s .args .size) (now (s .args .months)) (now (s .args .seconds))
 
-of-plain-day-requires : tie.Need-of-plain-day-requires
-of-plain-day-requires c κs = c .before .plain-day .ensures (c .if1 .taken)
-
 returns : tie.Need-returns
 unfolding dayByRuleOutcome dayByRule
 returns c =
@@ -27,7 +24,8 @@ returns c =
     let s = t .before .before in
     let (x, r) = c .of-plain-day .ensures in
     told _ _ _ _
-    (plain-offsets (rows s) _ _ _ (read-plain _ _ _ (s .fits .year) (s .fits .month) (s .fits .day) (t .before .plain-day .ensures (t .if1 .taken))) _ (read-offset (rows s) _ _ (s .fits .year) (s .fits .month) _ x))
+    (plain-offsets (rows s) _ _ _ (read-plain _ _ _ (s .fits .year) (s .fits .month) (s .fits .day) (t .before .plain-day .ensures (t .if1 .taken))) _
+    (read-offset (rows s) _ _ (s .fits .year) (s .fits .month) _ x))
     (r ∙ read-rule (rows s) _ _ (s .fits .year) (s .fits .month))
 
 returns-2 : tie.Need-returns-2
@@ -38,4 +36,4 @@ returns-2 c =
 pub day-offsets-by-lent-spec : {M : Type 1} → statement M
 day-offsets-by-lent-spec =
     tie.close
-    (tie.spec (λ c κs. search needs) of-plain-day-requires returns (λ c κs. search needs) returns-2)
+    (tie.spec (λ c κs. search needs) (λ c κs. c .before .plain-day .ensures (c .if1 .taken)) returns (λ c κs. search needs) returns-2)

@@ -13,7 +13,9 @@ use Rattle.leap_table.proofs.offsets.Rules.{day-forgets}
 use Rattle.leap_table.proofs.offsets.whole_day.day_offsets_by_rows.Statement.{statement}
 use Rattle.leap_table.proofs.offsets.whole_day.day_offsets_by_rows.Tie as tie
 
-called : (v : tie.After-day-offsets-by-lent) → let s = v .before .before .before .before .before .args in forget (dayByRuleOutcome (v .day-offsets-by-lent .result)) ≡ dayOffsets (rowsOf (s .t4)) (s .year) (s .month) (s .day)
+called : (v : tie.After-day-offsets-by-lent) → let s =
+    v .before .before .before .before .before .args in forget (dayByRuleOutcome (v .day-offsets-by-lent .result)) ≡ dayOffsets (rowsOf (s .t4)) (s .year)
+    (s .month) (s .day)
 called v =
     let z = v .before .before .before .before in
     let s = z .before in

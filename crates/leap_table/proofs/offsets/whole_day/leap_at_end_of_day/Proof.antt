@@ -1,5 +1,5 @@
 -- `leap_table::offsets::whole_day::leap_at_end_of_day` meets its contract: the table is tested, and its rows are read. Assumes nothing.
-use mathlib.Core.Path.{_≡_, _∙_}
+use mathlib.Core.Path.{_∙_}
 use mir.Facts.{toZ-ofZ}
 use borrow.Author.Needs.{needs}
 use Rattle.leap_table.specs.rows.Announced.{rowsOf}

@@ -20,14 +20,14 @@ use Rattle.leap_table.proofs.offsets.whole_day.leap_at_end_of_day_by_le
 abbrev rows : tie.Start → List Row
 rows s = rowsIn (s .args .size) (now (s .args .months)) (now (s .args .seconds))
 
-called : (c : tie.After-by-next-day) → let s = c .before .before .before in onward (dayByRuleOutcome (c .by-next-day .result)) (λ p. answer (leapOf (p .0), p .1)) ≡ leapByRule (rows s) (s .args .year) (s .args .month) (s .args .day)
+called : (c : tie.After-by-next-day) → let s =
+    c .before .before .before in onward (dayByRuleOutcome (c .by-next-day .result)) (λ p. answer (leapOf (p .0), p .1)) ≡ leapByRule (rows s) (s .args .year)
+    (s .args .month) (s .args .day)
 called c =
     let s = c .before .before .before in
-    (λ i. onward ((c .by-next-day .ensures ∙ (λ j. dayByRule (rows s) (toZ-ofZ (s .fits .year) j) (toZ-ofZ (s .fits .month) j) (toZ-ofZ (s .fits .day) j))) i) (λ p. answer (leapOf (p .0), p .1)))
+    (λ i. onward ((c .by-next-day .ensures ∙ (λ j. dayByRule (rows s) (toZ-ofZ (s .fits .year) j) (toZ-ofZ (s .fits .month) j) (toZ-ofZ (s .fits .day) j))) i)
+    (λ p. answer (leapOf (p .0), p .1)))
     ∙ sym (leap-by-day (rows s) (s .args .year) (s .args .month) (s .args .day))
-
-of-plain-day-requires : tie.Need-of-plain-day-requires
-of-plain-day-requires c κs = c .before .plain-day .ensures (c .if1 .taken)
 
 returns : tie.Need-returns
 unfolding secondsByRuleOutcome leapByRule ofBits
@@ -36,12 +36,14 @@ returns c =
     let s = t .before .before in
     let (x, r) = c .of-plain-day .ensures in
     told _ _ _ _
-    (plain-leap (rows s) _ _ _ (read-plain _ _ _ (s .fits .year) (s .fits .month) (s .fits .day) (t .before .plain-day .ensures (t .if1 .taken))) _ (read-offset (rows s) _ _ (s .fits .year) (s .fits .month) _ x))
+    (plain-leap (rows s) _ _ _ (read-plain _ _ _ (s .fits .year) (s .fits .month) (s .fits .day) (t .before .plain-day .ensures (t .if1 .taken))) _
+    (read-offset (rows s) _ _ (s .fits .year) (s .fits .month) _ x))
     (r ∙ read-rule (rows s) _ _ (s .fits .year) (s .fits .month))
 
 returns-2 : tie.Need-returns-2
 unfolding secondsByRuleOutcome dayByRuleOutcome onward
-returns-2 c = ap (λ (x : DayByRule). onward (dayByRuleOutcome x) (λ p. answer (leapOf (p .0), p .1))) (sym (c .before .number .given .1)) ∙ called (c .before .before .before)
+returns-2 c = ap (λ (x : DayByRule). onward (dayByRuleOutcome x) (λ p. answer (leapOf (p .0), p .1))) (sym (c .before .number .given .1))
+    ∙ called (c .before .before .before)
 
 returns-3 : tie.Need-returns-3
 unfolding secondsByRuleOutcome dayByRuleOutcome leapOf onward ofBits
@@ -52,12 +54,5 @@ returns-3 c =
 pub leap-at-end-of-day-by-lent-spec : {M : Type 1} → statement M
 leap-at-end-of-day-by-lent-spec =
     tie.close
-    (tie.spec
-    (λ c κs. search needs)
-    of-plain-day-requires
-    returns
-    (λ c κs. search needs)
-    (λ c. search needs)
-    (λ c. search needs)
-    returns-2
-    returns-3)
+    (tie.spec (λ c κs. search needs) (λ c κs. c .before .plain-day .ensures (c .if1 .taken)) returns (λ c κs. search needs) (λ c. search needs)
+    (λ c. search needs) returns-2 returns-3)

@@ -16,7 +16,8 @@ returns c =
     let s = z .before in
     let rows = rows-in (s .args .t4) (z .size-of .result) (z .size-of .ensures) in
     c .without-rule .ensures
-    ∙ ap forget (v .leap-at-end-of-day-by-lent .ensures ∙ (λ i. leapByRule (rows i) (toZ-ofZ (s .fits .year) i) (toZ-ofZ (s .fits .month) i) (toZ-ofZ (s .fits .day) i)))
+    ∙ ap forget (v .leap-at-end-of-day-by-lent .ensures
+    ∙ (λ i. leapByRule (rows i) (toZ-ofZ (s .fits .year) i) (toZ-ofZ (s .fits .month) i) (toZ-ofZ (s .fits .day) i)))
     ∙ leap-forgets (rowsOf (s .args .t4)) (s .args .year) (s .args .month) (s .args .day)
 
 pub leap-at-end-of-day-by-rows-spec : {M : Type 1} → statement M

@@ -12,8 +12,5 @@ returns c =
     let s = c .before in
     (λ seconds. s .pre .0 seconds ∙ ap (reached (starts (rowsIn (s .args .size) (now (s .args .months)) seconds))) (sym (c .if1 .taken)), s .pre .1)
 
-returns-2 : tie.Need-returns-2
-returns-2 c = c .any-rows-reached .ensures
-
 pub next-rows-reached-spec : {M : Type 1} → statement M
-next-rows-reached-spec = tie.close (tie.spec returns (λ c κs. search needs) returns-2)
+next-rows-reached-spec = tie.close (tie.spec returns (λ c κs. search needs) (λ c. c .any-rows-reached .ensures))

@@ -24,9 +24,6 @@ rows s = rowsIn (s .args .size) (now (s .args .months)) (now (s .args .seconds))
 few : (c : tie.After-table-rows-reached) → c .table-rows-reached .result ≤ 58
 few c = few-rows (c .before .args .size) _ (c .table-rows-reached .ensures .1)
 
-next-rows-reached-requires : tie.Need-next-rows-reached-requires
-next-rows-reached-requires c κs = c .table-rows-reached .ensures
-
 int-to-float-midnight : tie.Need-int-to-float-midnight
 int-to-float-midnight c = let s = c .before .before .before in float-fits (s .args .mjd) (s .pre)
 
@@ -36,19 +33,10 @@ add-next-midnight c = let s = c .before .before .before in one-more-fits (s .arg
 int-to-float-next-midnight : tie.Need-int-to-float-next-midnight
 int-to-float-next-midnight c = let s = c .before .before .before .before in next-float-fits (s .args .mjd) (s .pre)
 
-offset-by-requires : tie.Need-offset-by-requires
-offset-by-requires c κs = few (c .before .before .before)
-
-offset-by-requires-2 : tie.Need-offset-by-requires-2
-offset-by-requires-2 c κs = few (c .before .before .before .before)
-
 offset-by-requires-3 : tie.Need-offset-by-requires-3
 offset-by-requires-3 c κs =
     let n = c .before .before .before .before in
     few-rows (n .before .before .args .size) _ (n .next-rows-reached .ensures .1)
-
-rule-by-requires : tie.Need-rule-by-requires
-rule-by-requires c κs = few (c .before .before .before .before .before .before)
 
 returns : tie.Need-returns
 unfolding ofBits offsetsOfDay ruleOf dayByRuleOutcome
@@ -63,21 +51,14 @@ returns c =
     let o = same-three _ _ _ _ _ _
     (c .before .before .before .offset-by .ensures (s .args .size) m h ∙ at-month _ _ _ _ _ _ e (read (s .args .mjd) (s .pre)))
     (c .before .before .offset-by2 .ensures (s .args .size) m h ∙ at-month _ _ _ _ _ _ e (read (s .args .mjd) (s .pre)))
-    (c .before .offset-by3 .ensures (s .args .size) m (n .next-rows-reached .ensures .1) ∙ at-month _ _ _ _ _ _ (n .next-rows-reached .ensures .0 l) (read-next-day (s .args .mjd) (s .pre))) in
+    (c .before .offset-by3 .ensures (s .args .size) m (n .next-rows-reached .ensures .1)
+    ∙ at-month _ _ _ _ _ _ (n .next-rows-reached .ensures .0 l) (read-next-day (s .args .mjd) (s .pre))) in
     let r = c .rule-by .ensures (s .args .size) m l h ∙ ap (ruleBy (rows s)) e in
     (λ i. answer (o i, r i))
 
 pub offsets-of-day-spec : {M : Type 1} → statement M
 offsets-of-day-spec =
     tie.close
-    (tie.spec
-    (λ c κs. search needs)
-    next-rows-reached-requires
-    int-to-float-midnight
-    add-next-midnight
-    int-to-float-next-midnight
-    offset-by-requires
-    offset-by-requires-2
-    offset-by-requires-3
-    rule-by-requires
-    returns)
+    (tie.spec (λ c κs. search needs) (λ c κs. c .table-rows-reached .ensures) int-to-float-midnight add-next-midnight int-to-float-next-midnight
+    (λ c κs. few (c .before .before .before)) (λ c κs. few (c .before .before .before .before)) offset-by-requires-3
+    (λ c κs. few (c .before .before .before .before .before .before)) returns)

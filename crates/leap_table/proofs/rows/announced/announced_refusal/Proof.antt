@@ -1,6 +1,5 @@
 -- `leap_table::rows::announced::announced_refusal` meets its contract: each branch is a test of the definition. Assumes nothing.
 use mathlib.Core.Path.{_≡_, ap, sym, _∙_}
-use mathlib.Core.Bool.{Bool}
 use mathlib.Core.List.{[]}
 use denote.Ref.{now}
 use borrow.Author.Needs.{needs}
@@ -21,15 +20,14 @@ judged s = announcedTable (s .args .months-size) (s .args .seconds-size) (now (s
 order : (r : tie.After-rises) → let s = r .before .before .before in r .rises .result ≡ rising (starts (rowsTo (judged s) (s .args .months-size)))
 order r =
     let s = r .before .before .before in
-    r .rises .ensures ∙ ap rising (starts-alike 0 0 (s .args .months-size) (s .args .seconds-size) (now (s .args .seconds)) (now (s .args .months)) [] (s .args .months-size))
+    r .rises .ensures ∙ ap rising (starts-alike 0 0 (s .args .months-size) (s .args .seconds-size) (now (s .args .seconds)) (now (s .args .months)) []
+    (s .args .months-size))
 
 by-ones : (r : tie.After-steps) → let s = r .before .before .before .before .before in r .steps .result ≡ bySeconds (rowsTo (judged s) (s .args .months-size))
 by-ones r =
     let s = r .before .before .before .before .before in
-    r .steps .ensures ∙ steps-alike 0 0 (s .args .months-size) (s .args .seconds-size) (now (s .args .months)) [] (now (s .args .seconds)) (s .args .months-size)
-
-returns : tie.Need-returns
-returns c = sizes-differ (judged (c .before)) (c .if1 .taken)
+    r .steps .ensures ∙ steps-alike 0 0 (s .args .months-size) (s .args .seconds-size) (now (s .args .months)) [] (now (s .args .seconds))
+    (s .args .months-size)
 
 returns-2 : tie.Need-returns-2
 returns-2 c = sizes-large (judged (c .before .before)) (c .before .if1 .left) (c .if2 .taken)
@@ -61,11 +59,5 @@ returns-5 c =
 pub announced-refusal-spec : {M : Type 1} → statement M
 announced-refusal-spec =
     tie.close
-    (tie.spec
-    returns
-    returns-2
-    (λ c κs. search needs)
-    returns-3
-    (λ c κs. search needs)
-    returns-4
+    (tie.spec (λ c. sizes-differ (judged (c .before)) (c .if1 .taken)) returns-2 (λ c κs. search needs) returns-3 (λ c κs. search needs) returns-4
     returns-5)

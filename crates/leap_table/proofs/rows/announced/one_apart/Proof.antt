@@ -4,11 +4,5 @@ use borrow.Author.Tests.{eq-eqb, ne-eqb}
 use Rattle.leap_table.proofs.rows.announced.one_apart.Statement.{statement}
 use Rattle.leap_table.proofs.rows.announced.one_apart.Tie as tie
 
-returns : tie.Need-returns
-returns c = rw (eq-eqb _ _ (c .if1 .taken))
-
-returns-2 : tie.Need-returns-2
-returns-2 c = rw (ne-eqb _ _ (c .if1 .left))
-
 pub one-apart-spec : {M : Type 1} → statement M
-one-apart-spec = tie.close (tie.spec (λ c. search needs) returns (λ c. search needs) returns-2)
+one-apart-spec = tie.close (tie.spec (λ c. search needs) (λ c. rw (eq-eqb _ _ (c .if1 .taken))) (λ c. search needs) (λ c. rw (ne-eqb _ _ (c .if1 .left))))

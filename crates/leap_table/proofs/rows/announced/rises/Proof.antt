@@ -1,9 +1,9 @@
--- `leap_table::rows::announced::rises` meets its contract. The loop's invariant: the table rises up to announced row i, and `before` is the month of the row before it. The measure is what
--- is left.
+-- `leap_table::rows::announced::rises` meets its contract. The loop's invariant: the table rises up to announced row i, and `before` is the month of the row
+-- before it. The measure is what is left.
 -- Assumes nothing.
 use mathlib.Core.Path.{_≡_, refl, ap, sym, _∙_}
-use mathlib.Core.Bool.{Bool, true}
-use Prim.Native.Nat.{ℕ, _-_, _≤_, _<_}
+use mathlib.Core.Bool.{true}
+use Prim.Native.Nat.{ℕ, _-_, _≤_}
 use native.Mathlib.Omega.{arith}
 use lib.ListN.{getD}
 use borrow.Author.Needs.{needs}
@@ -44,7 +44,8 @@ element-copy-out-natural c = search needs
 natural-requires : tie.Need-natural-requires Inv-loop μ-loop
 natural-requires c κs = search needs
 
-month-read : (c : tie.After-natural Inv-loop μ-loop) → let l = c .before .before .before in c .natural .result ≡ announcedRow (announced (now (l .before .args .months))) (l .loop .i) .month
+month-read : (c : tie.After-natural Inv-loop μ-loop) → let l =
+    c .before .before .before in c .natural .result ≡ announcedRow (announced (now (l .before .args .months))) (l .loop .i) .month
 month-read c =
     let l = c .before .before .before in
     c .natural .ensures .0 ∙ read-natural (getD (now (l .before .args .months)) (l .loop .i) (pos 0)) (record { sfits = c .before .natural-arg .given })
@@ -53,7 +54,8 @@ returns : tie.Need-returns Inv-loop μ-loop
 returns c =
     let l = c .before .before .before .before in
     let s = l .before in
-    not-later (announced (now (s .args .months))) (l .loop .i) (s .args .size) (c .before .before .before .loop-test .taken) (omega (arith, c .if1 .taken, l .loop .inv .1, month-read (c .before)))
+    not-later (announced (now (s .args .months))) (l .loop .i) (s .args .size) (c .before .before .before .loop-test .taken)
+    (omega (arith, c .if1 .taken, l .loop .inv .1, month-read (c .before)))
 
 add-i : tie.Need-add-i Inv-loop μ-loop
 add-i c = search needs
@@ -72,20 +74,10 @@ loop-again c =
 returns-2 : tie.Need-returns-2 Inv-loop μ-loop
 returns-2 c =
     let l = c .before in
-    sym (ap (λ (k : ℕ). rising (starts (rowsTo (announced (now (l .before .args .months))) k))) (same _ _ (c .loop-test .left) (l .loop .inv .0)) ∙ l .loop .inv .2)
+    sym (ap (λ (k : ℕ). rising (starts (rowsTo (announced (now (l .before .args .months))) k))) (same _ _ (c .loop-test .left) (l .loop .inv .0))
+    ∙ l .loop .inv .2)
 
 pub rises-spec : {M : Type 1} → statement M
 rises-spec =
     tie.close
-    (tie.spec
-    Inv-loop
-    μ-loop
-    loop-holds
-    mul-natural
-    element-copy-out-natural
-    natural-requires
-    returns
-    add-i
-    loop-less
-    loop-again
-    returns-2)
+    (tie.spec Inv-loop μ-loop loop-holds mul-natural element-copy-out-natural natural-requires returns add-i loop-less loop-again returns-2)

@@ -1,8 +1,8 @@
--- `leap_table::rows::announced::steps` meets its contract. The loop's invariant: the steps up to announced row i are of one second, and `before` has the seconds of the row before it. The
--- measure is what is left.
+-- `leap_table::rows::announced::steps` meets its contract. The loop's invariant: the steps up to announced row i are of one second, and `before` has the
+-- seconds of the row before it. The measure is what is left.
 -- Assumes nothing.
 use mathlib.Core.Path.{_≡_, refl, ap, sym, _∙_}
-use mathlib.Core.Bool.{Bool, true}
+use mathlib.Core.Bool.{true}
 use Prim.Native.Nat.{ℕ, _-_, _≤_, _<_}
 use mathlib.Core.List.{List, []}
 use denote.Ref.{now}
@@ -27,7 +27,8 @@ abbrev announced : List ℤ → AnnouncedRows
 announced seconds = announcedTable 0 0 [] seconds
 
 abbrev Inv-loop : tie.InvT-loop
-Inv-loop seconds size before₀ i₀ before i = (i ≤ size) × (before < 2147483648) × (before ≡ secondsBefore (announced seconds) i) × (bySeconds (rowsTo (announced seconds) i) ≡ true)
+Inv-loop seconds size before₀ i₀ before i = (i ≤ size) × (before < 2147483648) × (before ≡ secondsBefore (announced seconds) i)
+    × (bySeconds (rowsTo (announced seconds) i) ≡ true)
 
 abbrev μ-loop : tie.MeasureT-loop
 μ-loop seconds size before₀ i₀ before i = size - i
@@ -47,7 +48,8 @@ natural-requires c κs = search needs
 one-apart-requires : tie.Need-one-apart-requires Inv-loop μ-loop
 one-apart-requires c κs = (c .before .before .before .loop .inv .1, c .natural .ensures .1)
 
-seconds-read : (c : tie.After-natural Inv-loop μ-loop) → let l = c .before .before .before in c .natural .result ≡ secondsAt (announced (now (l .before .args .seconds))) (l .loop .i)
+seconds-read : (c : tie.After-natural Inv-loop μ-loop) → let l =
+    c .before .before .before in c .natural .result ≡ secondsAt (announced (now (l .before .args .seconds))) (l .loop .i)
 seconds-read c =
     let l = c .before .before .before in
     c .natural .ensures .0 ∙ read-natural (getD (now (l .before .args .seconds)) (l .loop .i) (pos 0)) (record { sfits = c .before .natural-arg .given })
@@ -76,7 +78,8 @@ loop-again c =
     let l = w .before .before .before in
     let s = l .before in
     let m = seconds-read w in
-    let (a, b) = right-step (announced (now (s .args .seconds))) (l .loop .i) (l .loop .inv .3) (apart _ _ _ _ (sym (l .loop .inv .2)) (sym m) ∙ sym (c .before .one-apart .ensures) ∙ not-false _ (c .if1 .left)) in
+    let (a, b) = right-step (announced (now (s .args .seconds))) (l .loop .i) (l .loop .inv .3)
+    (apart _ _ _ _ (sym (l .loop .inv .2)) (sym m) ∙ sym (c .before .one-apart .ensures) ∙ not-false _ (c .if1 .left)) in
     (omega arith, w .natural .ensures .1, m ∙ a, b)
 
 returns-2 : tie.Need-returns-2 Inv-loop μ-loop
@@ -87,16 +90,5 @@ returns-2 c =
 pub steps-spec : {M : Type 1} → statement M
 steps-spec =
     tie.close
-    (tie.spec
-    Inv-loop
-    μ-loop
-    loop-holds
-    mul-natural
-    element-copy-out-natural
-    natural-requires
-    one-apart-requires
-    returns
-    add-i
-    loop-less
-    loop-again
+    (tie.spec Inv-loop μ-loop loop-holds mul-natural element-copy-out-natural natural-requires one-apart-requires returns add-i loop-less loop-again
     returns-2)

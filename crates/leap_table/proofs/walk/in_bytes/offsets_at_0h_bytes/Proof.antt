@@ -1,7 +1,6 @@
 -- `leap_table::walk::in_bytes::offsets_at_0h_bytes` meets its contract: all is judged before a place is written. Assumes nothing.
 use Prim.Native.Nat.{_*_, _/_, _%_}
 use native.Mathlib.Omega.{arith}
-use mathlib.Core.Path.{_≡_, refl, sym, ap, _∙_}
 use lib.Dec.{eqb}
 use lib.ListN.{length}
 use Rattle.leap_table.specs.rows.Announced.{rowsOf}
@@ -21,7 +20,8 @@ returns c =
     let r = c .before in
     let s = r .before .before .before .args in
     let l = s .dates .now in
-    refused-call (s .table) (eqb (length l % 12) 0) (datesFrom (tripleIn l) 0 (length l / 12)) (length (s .out .now) / 8) inEights (s .out .now) (r .bytes-refusal .result) (r .bytes-refusal .ensures) (c .if1 .taken)
+    refused-call (s .table) (eqb (length l % 12) 0) (datesFrom (tripleIn l) 0 (length l / 12)) (length (s .out .now) / 8) inEights (s .out .now)
+    (r .bytes-refusal .result) (r .bytes-refusal .ensures) (c .if1 .taken)
 
 walk-all-requires : tie.Need-walk-all-requires
 walk-all-requires c κs =
@@ -29,7 +29,8 @@ walk-all-requires c κs =
     let r = i .before in
     let s = r .before .before .before .args in
     let l = s .dates .now in
-    let p = passed (s .table) (eqb (length l % 12) 0) (datesFrom (tripleIn l) 0 (length l / 12)) (length (s .out .now) / 8) (r .bytes-refusal .result) (r .bytes-refusal .ensures) (i .if1 .left) in
+    let p = passed (s .table) (eqb (length l % 12) 0) (datesFrom (tripleIn l) 0 (length l / 12)) (length (s .out .now) / 8) (r .bytes-refusal .result)
+    (r .bytes-refusal .ensures) (i .if1 .left) in
     (all-good (tripleIn l) (length l / 12) (p .good), p .order, omega arith, omega (arith, p .fits, how-many (tripleIn l) (length l / 12) 0))
 
 returns-2 : tie.Need-returns-2
@@ -39,8 +40,10 @@ returns-2 c =
     let r = i .before in
     let s = r .before .before .before .args in
     let l = s .dates .now in
-    walked-call (s .table) (eqb (length l % 12) 0) (datesFrom (tripleIn l) 0 (length l / 12)) (length (s .out .now) / 8) inEights (s .out .now) (r .bytes-refusal .result) (r .bytes-refusal .ensures) (i .if1 .left)
-    (w .walk-all .result) _ (8 * (length l / 12)) (w .walk-all .ensures .0) (w .walk-all .ensures .1) (eights-length (tripleOffset (rowsOf (s .table))) (tripleIn l) (length l / 12))
+    walked-call (s .table) (eqb (length l % 12) 0) (datesFrom (tripleIn l) 0 (length l / 12)) (length (s .out .now) / 8) inEights (s .out .now)
+    (r .bytes-refusal .result) (r .bytes-refusal .ensures) (i .if1 .left)
+    (w .walk-all .result) _ (8 * (length l / 12)) (w .walk-all .ensures .0) (w .walk-all .ensures .1)
+    (eights-length (tripleOffset (rowsOf (s .table))) (tripleIn l) (length l / 12))
 
 pub offsets-at-0h-bytes-spec : {M : Type 1} → statement M
 offsets-at-0h-bytes-spec =

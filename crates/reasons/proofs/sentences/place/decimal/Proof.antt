@@ -37,13 +37,18 @@ add-all-2 : tie.Need-add-all-2 Inv-loop μ-loop
 add-all-2 c = search needs
 
 array-write-all-2 : tie.Need-array-write-all-2 Inv-loop μ-loop
-array-write-all-2 c = omega (arith, c .before .loop .inv .within, room-left (one-written (c .before .loop .inv) (room-left (c .before .loop .inv) (omega arith)) (omega arith)) (omega arith))
+array-write-all-2 c = omega (
+  arith,
+  c .before .loop .inv .within,
+  room-left (one-written (c .before .loop .inv) (room-left (c .before .loop .inv) (omega arith)) (omega arith)) (omega arith),
+)
 
 loop-less : tie.Need-loop-less Inv-loop μ-loop
 loop-less c = omega arith
 
 loop-again : tie.Need-loop-again Inv-loop μ-loop
-loop-again c = two-written (c .before .loop .inv) (room-left (c .before .loop .inv) (omega arith)) (room-left (one-written (c .before .loop .inv) (room-left (c .before .loop .inv) (omega arith)) (omega arith)) (omega arith)) (omega arith)
+loop-again c = two-written (c .before .loop .inv) (room-left (c .before .loop .inv) (omega arith))
+    (room-left (one-written (c .before .loop .inv) (room-left (c .before .loop .inv) (omega arith)) (omega arith)) (omega arith)) (omega arith)
 
 sub-i-3 : tie.Need-sub-i-3 Inv-loop μ-loop
 sub-i-3 c = room-left (c .before .loop .inv) (omega arith)
@@ -67,7 +72,11 @@ add-all-4 : tie.Need-add-all-4 Inv-loop μ-loop
 add-all-4 c = search needs
 
 array-write-all-4 : tie.Need-array-write-all-4 Inv-loop μ-loop
-array-write-all-4 c = omega (arith, c .before .before .loop .inv .within, room-left (one-written (c .before .before .loop .inv) (room-left (c .before .before .loop .inv) (omega arith)) (omega arith)) (omega arith))
+array-write-all-4 c = omega (
+  arith,
+  c .before .before .loop .inv .within,
+  room-left (one-written (c .before .before .loop .inv) (room-left (c .before .before .loop .inv) (omega arith)) (omega arith)) (omega arith),
+)
 
 sub-bytes : tie.Need-sub-bytes Inv-loop μ-loop
 sub-bytes c = omega (arith, c .before .before .loop .inv .within)
@@ -114,7 +123,12 @@ bytes-requires-2 : tie.Need-bytes-requires-2 Inv-loop μ-loop
 bytes-requires-2 c κs =
     let l = c .before .before .before .before .before .loop in
     let h = room-left (l .inv) (omega arith) in
-    omega (arith, ap length (part-written (l .inv) h (omega arith)), few-digits (l .inv) h (omega arith), c .before .before .before .before .before .before .before .pre)
+    omega (
+      arith,
+      ap length (part-written (l .inv) h (omega arith)),
+      few-digits (l .inv) h (omega arith),
+      c .before .before .before .before .before .before .before .pre,
+    )
 
 same-length-2 : tie.Need-same-length-2 Inv-loop μ-loop
 same-length-2 c = search needs
@@ -129,36 +143,6 @@ returns-2 c =
 pub decimal-spec : {M : Type 1} → statement M
 decimal-spec =
     tie.close
-    (tie.spec
-    Inv-loop
-    μ-loop
-    loop-holds
-    cast-pair
-    sub-i
-    add-all
-    array-write-all
-    sub-i-2
-    add-all-2
-    array-write-all-2
-    loop-less
-    loop-again
-    sub-i-3
-    cast-all
-    add-all-3
-    array-write-all-3
-    sub-i-4
-    cast-all-2
-    add-all-4
-    array-write-all-4
-    sub-bytes
-    part-bytes-start
-    part-bytes-end
-    bytes-requires
-    same-length
-    returns
-    sub-bytes-2
-    part-bytes-start-2
-    part-bytes-end-2
-    bytes-requires-2
-    same-length-2
-    returns-2)
+    (tie.spec Inv-loop μ-loop loop-holds cast-pair sub-i add-all array-write-all sub-i-2 add-all-2 array-write-all-2 loop-less loop-again sub-i-3
+    cast-all add-all-3 array-write-all-3 sub-i-4 cast-all-2 add-all-4 array-write-all-4 sub-bytes part-bytes-start part-bytes-end bytes-requires
+    same-length returns sub-bytes-2 part-bytes-start-2 part-bytes-end-2 bytes-requires-2 same-length-2 returns-2)

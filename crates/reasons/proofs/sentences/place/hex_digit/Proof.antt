@@ -4,8 +4,5 @@ use borrow.Author.Needs.{needs}
 use Rattle.reasons.proofs.sentences.place.hex_digit.Statement.{statement}
 use Rattle.reasons.proofs.sentences.place.hex_digit.Tie as tie
 
-returns : tie.Need-returns
-returns c = in-turn (c .args .d) (c .pre)
-
 pub hex-digit-spec : {M : Type 1} → statement M
-hex-digit-spec = tie.close (tie.spec (λ c. search needs) returns)
+hex-digit-spec = tie.close (tie.spec (λ c. search needs) (λ c. in-turn (c .args .d) (c .pre)))

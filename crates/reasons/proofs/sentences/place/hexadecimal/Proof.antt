@@ -1,6 +1,5 @@
 -- `place::hexadecimal` meets its contract. Assumes nothing.
 use native.Mathlib.Omega.{arith}
-use lib.ListN.{length}
 use Rattle.numerals.proofs.digits.Hexadecimal.{hex-length}
 use Rattle.numerals.proofs.digits.Places.{placed-as}
 use borrow.Author.Needs.{needs}

@@ -4,20 +4,7 @@ use Rattle.utc.proofs.text.Sign.{wider, sub-fits, cast-less, size-less, cast-mo
 use Rattle.reasons.proofs.sentences.place.size.Statement.{statement}
 use Rattle.reasons.proofs.sentences.place.size.Tie as tie
 
-cast-result : tie.Need-cast-result
-cast-result c = wider _ (c .before .fits .n)
-
-sub-result : tie.Need-sub-result
-sub-result c = sub-fits _ (c .before .fits .n) (c .if1 .taken)
-
-cast-result-2 : tie.Need-cast-result-2
-cast-result-2 c = cast-less _ (c .before .fits .n) (c .if1 .taken)
-
-cast-result-3 : tie.Need-cast-result-3
-cast-result-3 c = cast-more _ (c .before .fits .n) (c .if1 .left)
-
-returns : tie.Need-returns
-returns c = size-less _ (c .before .fits .n) (c .if1 .taken)
-
 pub size-spec : {M : Type 1} → statement M
-size-spec = tie.close (tie.spec cast-result sub-result cast-result-2 cast-result-3 returns (λ c. search needs))
+size-spec = tie.close (tie.spec (λ c. wider _ (c .before .fits .n)) (λ c. sub-fits _ (c .before .fits .n) (c .if1 .taken))
+    (λ c. cast-less _ (c .before .fits .n) (c .if1 .taken)) (λ c. cast-more _ (c .before .fits .n) (c .if1 .left))
+    (λ c. size-less _ (c .before .fits .n) (c .if1 .taken)) (λ c. search needs))

@@ -17,15 +17,27 @@ returns c = (sym (ap namedText (c .enum-told .given .1)), tt)
 
 returns-2 : tie.Need-returns-2
 unfolding wordAndValue wordText namedText Short
-returns-2 c = (ap (λ (z : ℤ). asciiBytes ": year " ++ signedDigits z) (back (c .before .field .given .0 .0) (c .known-told .given .0 .1)) ∙ sym (ap namedText (c .before .field .given .1)), omega arith)
+returns-2 c = (
+  ap (λ (z : ℤ). asciiBytes ": year " ++ signedDigits z) (back (c .before .field .given .0 .0) (c .known-told .given .0 .1))
+      ∙ sym (ap namedText (c .before .field .given .1)),
+  omega arith,
+)
 
 returns-3 : tie.Need-returns-3
 unfolding wordAndValue wordText namedText Short
-returns-3 c = (ap (λ (z : ℤ). asciiBytes ": month " ++ signedDigits z) (back (c .before .field2 .given .0 .0) (c .known-told2 .given .0 .1)) ∙ sym (ap namedText (c .before .field2 .given .1)), omega arith)
+returns-3 c = (
+  ap (λ (z : ℤ). asciiBytes ": month " ++ signedDigits z) (back (c .before .field2 .given .0 .0) (c .known-told2 .given .0 .1))
+      ∙ sym (ap namedText (c .before .field2 .given .1)),
+  omega arith,
+)
 
 returns-4 : tie.Need-returns-4
 unfolding wordAndValue wordText namedText Short
-returns-4 c = (ap (λ (z : ℤ). asciiBytes ": day " ++ signedDigits z) (back (c .before .field3 .given .0 .0) (c .known-told3 .given .0 .1)) ∙ sym (ap namedText (c .before .field3 .given .1)), omega arith)
+returns-4 c = (
+  ap (λ (z : ℤ). asciiBytes ": day " ++ signedDigits z) (back (c .before .field3 .given .0 .0) (c .known-told3 .given .0 .1))
+      ∙ sym (ap namedText (c .before .field3 .given .1)),
+  omega arith,
+)
 
 returns-5 : tie.Need-returns-5
 unfolding wordAndValue wordText namedText Short
@@ -78,41 +90,8 @@ returns-16 c = (sym (ap namedText (c .before .field15 .given .1)), omega arith)
 pub shown-spec : {M : Type 1} → statement M
 shown-spec =
     tie.close
-    (tie.spec
-    (λ c. search needs)
-    (λ c. search needs)
-    (λ c. search needs)
-    (λ c. search needs)
-    (λ c. search needs)
-    (λ c. search needs)
-    (λ c. search needs)
-    (λ c. search needs)
-    (λ c. search needs)
-    (λ c. search needs)
-    (λ c. search needs)
-    (λ c. search needs)
-    (λ c. search needs)
-    (λ c. search needs)
-    (λ c. search needs)
-    (λ c. search needs)
-    (λ c. search needs)
-    (λ c. search needs)
-    (λ c. search needs)
-    (λ c. search needs)
-    (λ c. search needs)
-    returns
-    returns-2
-    returns-3
-    returns-4
-    returns-5
-    returns-6
-    returns-7
-    returns-8
-    returns-9
-    returns-10
-    returns-11
-    returns-12
-    returns-13
-    returns-14
-    returns-15
-    returns-16)
+    (tie.spec (λ c. search needs) (λ c. search needs) (λ c. search needs) (λ c. search needs) (λ c. search needs) (λ c. search needs)
+    (λ c. search needs) (λ c. search needs) (λ c. search needs) (λ c. search needs) (λ c. search needs) (λ c. search needs) (λ c. search needs)
+    (λ c. search needs) (λ c. search needs) (λ c. search needs) (λ c. search needs) (λ c. search needs) (λ c. search needs) (λ c. search needs)
+    (λ c. search needs) returns returns-2 returns-3 returns-4 returns-5 returns-6 returns-7 returns-8 returns-9 returns-10 returns-11 returns-12
+    returns-13 returns-14 returns-15 returns-16)

@@ -55,7 +55,8 @@ loop-again c =
     let st = l .before .before .before in
     let k = l .loop .k in
     let w = l .loop .inv in
-    next-eight w (l .before .eights .ensures .1) (st .pre) _ (omega arith) (put-in-place (l .loop .dst) _ (8 * k) (8 * k + 8 - 8 * k) _ (omega arith) (omega (arith, w .long, st .pre)) (c .before .before .put-u64 .ensures))
+    next-eight w (l .before .eights .ensures .1) (st .pre) _ (omega arith)
+    (put-in-place (l .loop .dst) _ (8 * k) (8 * k + 8 - 8 * k) _ (omega arith) (omega (arith, w .long, st .pre)) (c .before .before .put-u64 .ensures))
 
 text-length-requires : tie.Need-text-length-requires Inv-loop μ-loop
 text-length-requires c κs = search needs
@@ -67,28 +68,13 @@ returns : tie.Need-returns Inv-loop μ-loop
 returns c =
     let l = c .before .before in
     let st = l .before .before .before in
-    let n = c .text-length .ensures in
-    (text-begins (l .loop .inv) (l .before .eights .ensures .1) (st .pre) (st .args .number) _ (omega arith) (l .before .eights .ensures .0) (n .0) (n .1), n .1)
+    let n = c .text-length .ensures in (
+      text-begins (l .loop .inv) (l .before .eights .ensures .1) (st .pre) (st .args .number) _ (omega arith) (l .before .eights .ensures .0) (n .0) (n .1),
+      n .1,
+    )
 
 pub text-spec : {M : Type 1} → statement M
 text-spec =
     tie.close
-    (tie.spec
-    Inv-loop
-    μ-loop
-    eights-requires
-    loop-holds
-    mul-at
-    add-end
-    sub-put-u64
-    part-put-u64-start
-    part-put-u64-end
-    mul-put-u64
-    array-read-put-u64
-    put-u64-requires
-    add-k
-    loop-less
-    loop-again
-    text-length-requires
-    same-length
-    returns)
+    (tie.spec Inv-loop μ-loop eights-requires loop-holds mul-at add-end sub-put-u64 part-put-u64-start part-put-u64-end mul-put-u64 array-read-put-u64
+    put-u64-requires add-k loop-less loop-again text-length-requires same-length returns)

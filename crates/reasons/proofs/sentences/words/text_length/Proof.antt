@@ -13,8 +13,5 @@ returns c = (sym (ap length (past-28 (c .before .args .number) (c .if1 .taken)))
 cast-result : tie.Need-cast-result
 cast-result c = record { fits = omega (arith, measured (c .before .args .number) (c .if1 .left) .1) }
 
-returns-2 : tie.Need-returns-2
-returns-2 c = measured (c .before .args .number) (c .if1 .left)
-
 pub text-length-spec : {M : Type 1} → statement M
-text-length-spec = tie.close (tie.spec returns (λ c. search needs) cast-result returns-2)
+text-length-spec = tie.close (tie.spec returns (λ c. search needs) cast-result (λ c. measured (c .before .args .number) (c .if1 .left)))

@@ -19,24 +19,14 @@ returns c =
     let s = c .before .before .before .before .before .before .before .before .before in
     let a = s .args in
     let d = now (a .dst) in
-    let p = put-in-place d _ (a .at) (a .at + 8 - a .at) (a .w .first) (omega arith) (omega (arith, s .pre)) (c .before .before .before .before .before .before .put-u64 .ensures) in
-    let q = put-in-place _ _ (a .at + 8) (a .at + 16 - (a .at + 8)) (a .w .second) (omega arith) (omega (arith, s .pre, ap length p, length-sets d (a .at) (eightBytes (a .w .first)))) (c .before .before .put-u642 .ensures) in
+    let p = put-in-place d _ (a .at) (a .at + 8 - a .at) (a .w .first) (omega arith) (omega (arith, s .pre))
+    (c .before .before .before .before .before .before .put-u64 .ensures) in
+    let q = put-in-place _ _ (a .at + 8) (a .at + 16 - (a .at + 8)) (a .w .second) (omega arith)
+    (omega (arith, s .pre, ap length p, length-sets d (a .at) (eightBytes (a .w .first)))) (c .before .before .put-u642 .ensures) in
     (two-eights d _ _ (a .at) (a .w .first) (a .w .second) (a .w .length) (omega (arith, s .pre)) (omega (arith, s .pre)) p q, refl)
 
 pub word-spec : {M : Type 1} → statement M
 word-spec =
     tie.close
-    (tie.spec
-    (λ c. search needs)
-    (λ c. search needs)
-    (λ c. search needs)
-    (λ c. search needs)
-    (λ c. search needs)
-    (λ c κs. search needs)
-    (λ c. search needs)
-    (λ c. search needs)
-    (λ c. search needs)
-    (λ c κs. search needs)
-    (λ c. search needs)
-    (λ c. search needs)
-    returns)
+    (tie.spec (λ c. search needs) (λ c. search needs) (λ c. search needs) (λ c. search needs) (λ c. search needs) (λ c κs. search needs)
+    (λ c. search needs) (λ c. search needs) (λ c. search needs) (λ c κs. search needs) (λ c. search needs) (λ c. search needs) returns)

@@ -16,8 +16,10 @@ returns c =
     let t = h .before .before in
     let w = t .before .before .before in
     let st = w .before .before .before in
-    let p = placed-as (ap hex16 (t .to-bits .ensures)) (h .hexadecimal .ensures .0) in
-    (behind-then (now (st .args .dst)) (wordText (st .args .w)) (st .args .at) (w .word .ensures .0) p (omega (arith, w .word .ensures .1, st .pre)), omega (arith, h .hexadecimal .ensures .1, w .word .ensures .1, st .pre))
+    let p = placed-as (ap hex16 (t .to-bits .ensures)) (h .hexadecimal .ensures .0) in (
+      behind-then (now (st .args .dst)) (wordText (st .args .w)) (st .args .at) (w .word .ensures .0) p (omega (arith, w .word .ensures .1, st .pre)),
+      omega (arith, h .hexadecimal .ensures .1, w .word .ensures .1, st .pre),
+    )
 
 pub word-float-spec : {M : Type 1} → statement M
 word-float-spec =

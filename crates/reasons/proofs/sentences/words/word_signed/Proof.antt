@@ -16,8 +16,10 @@ returns c =
     let h = c .before .before in
     let w = h .before .before .before .before in
     let st = w .before .before .before in
-    let p = placed-as (ap signedDigits (toZ-ofZ (st .fits .n))) (h .signed .ensures .0) in
-    (behind-then (now (st .args .dst)) (wordText (st .args .w)) (st .args .at) (w .word .ensures .0) p (omega (arith, w .word .ensures .1, st .pre)), omega (arith, h .signed .ensures .1, w .word .ensures .1, st .pre))
+    let p = placed-as (ap signedDigits (toZ-ofZ (st .fits .n))) (h .signed .ensures .0) in (
+      behind-then (now (st .args .dst)) (wordText (st .args .w)) (st .args .at) (w .word .ensures .0) p (omega (arith, w .word .ensures .1, st .pre)),
+      omega (arith, h .signed .ensures .1, w .word .ensures .1, st .pre),
+    )
 
 pub word-signed-spec : {M : Type 1} → statement M
 word-signed-spec = tie.close (tie.spec (λ c κs. search needs) (λ c κs. search needs) (λ c. search needs) returns)

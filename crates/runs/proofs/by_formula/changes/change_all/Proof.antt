@@ -25,15 +25,38 @@ change-stamp-requires c κs =
     let s = c .before .before .before .before .before .before .before .before .before in
     let a = s .args in
     let h = c .before .before .loop-test .taken in
-    let p = s .pre in
-    ((omega (arith, h, p .first), omega (arith, h, p .second)), (omega (arith, h, p .places1, len1 (changedStamp (changeOf (a .kind) (a .days)) (a .jd1s .now) (a .jd2s .now)) (a .n) (a .out1 .now) (a .out2 .now) (a .numbers .now) (l .loop .out1) (l .loop .out2) (l .loop .numbers) (l .loop .refused) (l .loop .i) (l .loop .inv)), omega (arith, h, p .places2, len2 (changedStamp (changeOf (a .kind) (a .days)) (a .jd1s .now) (a .jd2s .now)) (a .n) (a .out1 .now) (a .out2 .now) (a .numbers .now) (l .loop .out1) (l .loop .out2) (l .loop .numbers) (l .loop .refused) (l .loop .i) (l .loop .inv))))
+    let p = s .pre in (
+      (omega (arith, h, p .first), omega (arith, h, p .second)),
+      (
+        omega (
+          arith,
+          h,
+          p .places1,
+          len1 (changedStamp (changeOf (a .kind) (a .days)) (a .jd1s .now) (a .jd2s .now)) (a .n) (a .out1 .now) (a .out2 .now)
+              (a .numbers .now) (l .loop .out1) (l .loop .out2) (l .loop .numbers) (l .loop .refused) (l .loop .i) (l .loop .inv),
+        ),
+        omega (
+          arith,
+          h,
+          p .places2,
+          len2 (changedStamp (changeOf (a .kind) (a .days)) (a .jd1s .now) (a .jd2s .now)) (a .n) (a .out1 .now) (a .out2 .now)
+              (a .numbers .now) (l .loop .out1) (l .loop .out2) (l .loop .numbers) (l .loop .refused) (l .loop .i) (l .loop .inv),
+        ),
+      ),
+    )
 
 slice-write-numbers : tie.Need-slice-write-numbers Inv-loop μ-loop
 slice-write-numbers c =
     let l = c .before .before .before .before .before .before .before .before in
     let s = c .before .before .before .before .before .before .before .before .before .before .before .before .before .before in
     let a = s .args in
-    omega (arith, c .before .before .before .before .before .before .before .loop-test .taken, s .pre .bytes, len3 (changedStamp (changeOf (a .kind) (a .days)) (a .jd1s .now) (a .jd2s .now)) (a .n) (a .out1 .now) (a .out2 .now) (a .numbers .now) (l .loop .out1) (l .loop .out2) (l .loop .numbers) (l .loop .refused) (l .loop .i) (l .loop .inv))
+    omega (
+      arith,
+      c .before .before .before .before .before .before .before .loop-test .taken,
+      s .pre .bytes,
+      len3 (changedStamp (changeOf (a .kind) (a .days)) (a .jd1s .now) (a .jd2s .now)) (a .n) (a .out1 .now) (a .out2 .now) (a .numbers .now)
+          (l .loop .out1) (l .loop .out2) (l .loop .numbers) (l .loop .refused) (l .loop .i) (l .loop .inv),
+    )
 
 one-if-refused-requires : tie.Need-one-if-refused-requires Inv-loop μ-loop
 one-if-refused-requires c κs = search needs
@@ -43,7 +66,16 @@ add-refused c =
     let l = c .before .before .before .before .before .before .before .before .before in
     let s = c .before .before .before .before .before .before .before .before .before .before .before .before .before .before .before in
     let a = s .args in
-    record { fits = omega (arith, c .before .before .before .before .before .before .before .before .loop-test .taken, few (changedStamp (changeOf (a .kind) (a .days)) (a .jd1s .now) (a .jd2s .now)) (a .n) (a .out1 .now) (a .out2 .now) (a .numbers .now) (l .loop .out1) (l .loop .out2) (l .loop .numbers) (l .loop .refused) (l .loop .i) (l .loop .inv), s .pre .first, c .one-if-refused .ensures .1) }
+    record {
+      fits = omega (
+        arith,
+        c .before .before .before .before .before .before .before .before .loop-test .taken,
+        few (changedStamp (changeOf (a .kind) (a .days)) (a .jd1s .now) (a .jd2s .now)) (a .n) (a .out1 .now) (a .out2 .now) (a .numbers .now) (l .loop .out1)
+            (l .loop .out2) (l .loop .numbers) (l .loop .refused) (l .loop .i) (l .loop .inv),
+        s .pre .first,
+        c .one-if-refused .ensures .1,
+      );
+    }
 
 add-i : tie.Need-add-i Inv-loop μ-loop
 add-i c =
@@ -58,51 +90,45 @@ loop-again c =
     let l = c .before .before .before .before .before .before .before .before .before in
     let s = c .before .before .before .before .before .before .before .before .before .before .before .before .before .before .before in
     let a = s .args in
-    putting-goes (changedStamp (changeOf (a .kind) (a .days)) (a .jd1s .now) (a .jd2s .now)) (a .n) (a .out1 .now) (a .out2 .now) (a .numbers .now) (l .loop .out1) (l .loop .out2) (l .loop .numbers) (l .loop .refused) (l .loop .i) (l .loop .inv) _ _ _ _ (c .before .before .before .before .before .before .before .before .loop-test .taken) (c .before .before .before .before .before .change-stamp .ensures) (c .one-if-refused .ensures .0)
+    putting-goes (changedStamp (changeOf (a .kind) (a .days)) (a .jd1s .now) (a .jd2s .now)) (a .n) (a .out1 .now) (a .out2 .now) (a .numbers .now)
+    (l .loop .out1) (l .loop .out2) (l .loop .numbers) (l .loop .refused) (l .loop .i) (l .loop .inv) _ _ _ _
+    (c .before .before .before .before .before .before .before .before .loop-test .taken)
+    (c .before .before .before .before .before .change-stamp .ensures) (c .one-if-refused .ensures .0)
 
 same-length : tie.Need-same-length Inv-loop μ-loop
 same-length c =
     let l = c .before in
     let s = c .before .before .before .before .before .before .before in
     let a = s .args in
-    len1 (changedStamp (changeOf (a .kind) (a .days)) (a .jd1s .now) (a .jd2s .now)) (a .n) (a .out1 .now) (a .out2 .now) (a .numbers .now) (l .loop .out1) (l .loop .out2) (l .loop .numbers) (l .loop .refused) (l .loop .i) (l .loop .inv)
+    len1 (changedStamp (changeOf (a .kind) (a .days)) (a .jd1s .now) (a .jd2s .now)) (a .n) (a .out1 .now) (a .out2 .now) (a .numbers .now) (l .loop .out1)
+    (l .loop .out2) (l .loop .numbers) (l .loop .refused) (l .loop .i) (l .loop .inv)
 
 same-length-2 : tie.Need-same-length-2 Inv-loop μ-loop
 same-length-2 c =
     let l = c .before in
     let s = c .before .before .before .before .before .before .before in
     let a = s .args in
-    len2 (changedStamp (changeOf (a .kind) (a .days)) (a .jd1s .now) (a .jd2s .now)) (a .n) (a .out1 .now) (a .out2 .now) (a .numbers .now) (l .loop .out1) (l .loop .out2) (l .loop .numbers) (l .loop .refused) (l .loop .i) (l .loop .inv)
+    len2 (changedStamp (changeOf (a .kind) (a .days)) (a .jd1s .now) (a .jd2s .now)) (a .n) (a .out1 .now) (a .out2 .now) (a .numbers .now) (l .loop .out1)
+    (l .loop .out2) (l .loop .numbers) (l .loop .refused) (l .loop .i) (l .loop .inv)
 
 same-length-3 : tie.Need-same-length-3 Inv-loop μ-loop
 same-length-3 c =
     let l = c .before in
     let s = c .before .before .before .before .before .before .before in
     let a = s .args in
-    len3 (changedStamp (changeOf (a .kind) (a .days)) (a .jd1s .now) (a .jd2s .now)) (a .n) (a .out1 .now) (a .out2 .now) (a .numbers .now) (l .loop .out1) (l .loop .out2) (l .loop .numbers) (l .loop .refused) (l .loop .i) (l .loop .inv)
+    len3 (changedStamp (changeOf (a .kind) (a .days)) (a .jd1s .now) (a .jd2s .now)) (a .n) (a .out1 .now) (a .out2 .now) (a .numbers .now) (l .loop .out1)
+    (l .loop .out2) (l .loop .numbers) (l .loop .refused) (l .loop .i) (l .loop .inv)
 
 returns : tie.Need-returns Inv-loop μ-loop
 returns c =
     let l = c .before in
     let s = c .before .before .before .before .before .before .before in
     let a = s .args in
-    putting-ends (changedStamp (changeOf (a .kind) (a .days)) (a .jd1s .now) (a .jd2s .now)) (a .n) (a .out1 .now) (a .out2 .now) (a .numbers .now) (l .loop .out1) (l .loop .out2) (l .loop .numbers) (l .loop .refused) (l .loop .i) (l .loop .inv) (omega (arith, c .loop-test .left))
+    putting-ends (changedStamp (changeOf (a .kind) (a .days)) (a .jd1s .now) (a .jd2s .now)) (a .n) (a .out1 .now) (a .out2 .now) (a .numbers .now)
+    (l .loop .out1) (l .loop .out2) (l .loop .numbers) (l .loop .refused) (l .loop .i) (l .loop .inv) (omega (arith, c .loop-test .left))
 
 pub change-all-spec : {M : Type 1} → statement M
 change-all-spec =
     tie.close
-    (tie.spec
-    Inv-loop
-    μ-loop
-    loop-holds
-    change-stamp-requires
-    slice-write-numbers
-    one-if-refused-requires
-    add-refused
-    add-i
-    loop-less
-    loop-again
-    same-length
-    same-length-2
-    same-length-3
-    returns)
+    (tie.spec Inv-loop μ-loop loop-holds change-stamp-requires slice-write-numbers one-if-refused-requires add-refused add-i loop-less loop-again
+    same-length same-length-2 same-length-3 returns)

@@ -8,16 +8,20 @@ use Rattle.runs.proofs.by_formula.pairs.formula_of.Statement.{statement
 use Rattle.runs.proofs.by_formula.pairs.formula_of.Tie as tie
 
 returns : tie.Need-returns
-returns c = found 4 1 3 (sym (c .before .before .before .are .ensures) ∙ c .before .before .if1 .taken) (c .of-kind .ensures .0) ((c .of-kind .ensures .1) ∙ (c .before .gps-days .ensures)) gps-to-tai
+returns c = found 4 1 3 (sym (c .before .before .before .are .ensures) ∙ c .before .before .if1 .taken) (c .of-kind .ensures .0)
+    ((c .of-kind .ensures .1) ∙ (c .before .gps-days .ensures)) gps-to-tai
 
 returns-2 : tie.Need-returns-2
-returns-2 c = found 1 4 3 (sym (c .before .before .before .are2 .ensures) ∙ c .before .before .if2 .taken) (c .of-kind2 .ensures .0) ((c .of-kind2 .ensures .1) ∙ (ap neg (c .before .gps-days2 .ensures))) tai-to-gps
+returns-2 c = found 1 4 3 (sym (c .before .before .before .are2 .ensures) ∙ c .before .before .if2 .taken) (c .of-kind2 .ensures .0)
+    ((c .of-kind2 .ensures .1) ∙ (ap neg (c .before .gps-days2 .ensures))) tai-to-gps
 
 returns-3 : tie.Need-returns-3
-returns-3 c = found 1 3 3 (sym (c .before .before .before .are3 .ensures) ∙ c .before .before .if3 .taken) (c .of-kind3 .ensures .0) ((c .of-kind3 .ensures .1) ∙ (c .before .tt-days .ensures)) tai-to-tt
+returns-3 c = found 1 3 3 (sym (c .before .before .before .are3 .ensures) ∙ c .before .before .if3 .taken) (c .of-kind3 .ensures .0)
+    ((c .of-kind3 .ensures .1) ∙ (c .before .tt-days .ensures)) tai-to-tt
 
 returns-4 : tie.Need-returns-4
-returns-4 c = found 3 1 3 (sym (c .before .before .before .are4 .ensures) ∙ c .before .before .if4 .taken) (c .of-kind4 .ensures .0) ((c .of-kind4 .ensures .1) ∙ (ap neg (c .before .tt-days2 .ensures))) tt-to-tai
+returns-4 c = found 3 1 3 (sym (c .before .before .before .are4 .ensures) ∙ c .before .before .if4 .taken) (c .of-kind4 .ensures .0)
+    ((c .of-kind4 .ensures .1) ∙ (ap neg (c .before .tt-days2 .ensures))) tt-to-tai
 
 returns-5 : tie.Need-returns-5
 returns-5 c = found 3 5 4 (sym (c .before .before .are5 .ensures) ∙ c .before .if5 .taken) (c .of-kind5 .ensures .0) (c .of-kind5 .ensures .1) (tt-to-tcg _)
@@ -33,7 +37,21 @@ returns-8 c = found 7 6 7 (sym (c .before .before .are8 .ensures) ∙ c .before 
 
 offset-kind-requires : tie.Need-offset-kind-requires
 unfolding needsNone
-offset-kind-requires c κs = rw ((sym (c .before .before .before .before .before .before .before .before .before .before .before .before .before .before .before .are .ensures) ∙ c .before .before .before .before .before .before .before .before .before .before .before .before .before .before .if1 .left), (sym (c .before .before .before .before .before .before .before .before .before .before .before .before .before .are2 .ensures) ∙ c .before .before .before .before .before .before .before .before .before .before .before .before .if2 .left), (sym (c .before .before .before .before .before .before .before .before .before .before .before .are3 .ensures) ∙ c .before .before .before .before .before .before .before .before .before .before .if3 .left), (sym (c .before .before .before .before .before .before .before .before .before .are4 .ensures) ∙ c .before .before .before .before .before .before .before .before .if4 .left), (sym (c .before .before .before .before .before .before .before .are5 .ensures) ∙ c .before .before .before .before .before .before .if5 .left), (sym (c .before .before .before .before .before .are6 .ensures) ∙ c .before .before .before .before .if6 .left), (sym (c .before .before .before .are7 .ensures) ∙ c .before .before .if7 .left), (sym (c .before .are8 .ensures) ∙ c .if8 .left))
+offset-kind-requires c κs = rw (
+  (sym
+      (c .before .before .before .before .before .before .before .before .before .before .before .before .before .before .before .are .ensures)
+      ∙ c .before .before .before .before .before .before .before .before .before .before .before .before .before .before .if1 .left),
+  (sym (c .before .before .before .before .before .before .before .before .before .before .before .before .before .are2 .ensures)
+      ∙ c .before .before .before .before .before .before .before .before .before .before .before .before .if2 .left),
+  (sym (c .before .before .before .before .before .before .before .before .before .before .before .are3 .ensures)
+      ∙ c .before .before .before .before .before .before .before .before .before .before .if3 .left),
+  (sym (c .before .before .before .before .before .before .before .before .before .are4 .ensures)
+      ∙ c .before .before .before .before .before .before .before .before .if4 .left),
+  (sym (c .before .before .before .before .before .before .before .are5 .ensures) ∙ c .before .before .before .before .before .before .if5 .left),
+  (sym (c .before .before .before .before .before .are6 .ensures) ∙ c .before .before .before .before .if6 .left),
+  (sym (c .before .before .before .are7 .ensures) ∙ c .before .before .if7 .left),
+  (sym (c .before .are8 .ensures) ∙ c .if8 .left),
+)
 
 returns-9 : tie.Need-returns-9
 returns-9 c = kept (c .of-kind9 .ensures .0) (c .of-kind9 .ensures .1) (c .before .offset-kind .ensures)
@@ -41,35 +59,8 @@ returns-9 c = kept (c .of-kind9 .ensures .0) (c .of-kind9 .ensures .1) (c .befor
 pub formula-of-spec : {M : Type 1} → statement M
 formula-of-spec =
     tie.close
-    (tie.spec
-    (λ c κs. search needs)
-    (λ c κs. search needs)
-    (λ c κs. search needs)
-    returns
-    (λ c κs. search needs)
-    (λ c κs. search needs)
-    (λ c κs. search needs)
-    returns-2
-    (λ c κs. search needs)
-    (λ c κs. search needs)
-    (λ c κs. search needs)
-    returns-3
-    (λ c κs. search needs)
-    (λ c κs. search needs)
-    (λ c κs. search needs)
-    returns-4
-    (λ c κs. search needs)
-    (λ c κs. search needs)
-    returns-5
-    (λ c κs. search needs)
-    (λ c κs. search needs)
-    returns-6
-    (λ c κs. search needs)
-    (λ c κs. search needs)
-    returns-7
-    (λ c κs. search needs)
-    (λ c κs. search needs)
-    returns-8
-    offset-kind-requires
-    (λ c κs. search needs)
-    returns-9)
+    (tie.spec (λ c κs. search needs) (λ c κs. search needs) (λ c κs. search needs) returns (λ c κs. search needs) (λ c κs. search needs)
+    (λ c κs. search needs) returns-2 (λ c κs. search needs) (λ c κs. search needs) (λ c κs. search needs) returns-3 (λ c κs. search needs)
+    (λ c κs. search needs) (λ c κs. search needs) returns-4 (λ c κs. search needs) (λ c κs. search needs) returns-5 (λ c κs. search needs)
+    (λ c κs. search needs) returns-6 (λ c κs. search needs) (λ c κs. search needs) returns-7 (λ c κs. search needs) (λ c κs. search needs) returns-8
+    offset-kind-requires (λ c κs. search needs) returns-9)

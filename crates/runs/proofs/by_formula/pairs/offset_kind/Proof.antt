@@ -24,22 +24,19 @@ returns-6 : tie.Need-returns-6
 returns-6 c = λ days. found 7 3 2 (sym (c .before .are6 .ensures) ∙ c .if6 .taken) refl refl (tdb-to-tt days)
 
 returns-7 : tie.Need-returns-7
-returns-7 c = λ days. no-formula (c .before .before .before .before .before .before .before .before .before .before .before .before .args .from) (c .before .before .before .before .before .before .before .before .before .before .before .before .args .to) days (c .before .before .before .before .before .before .before .before .before .before .before .before .pre) (sym (c .before .before .before .before .before .before .before .before .before .before .before .are .ensures) ∙ c .before .before .before .before .before .before .before .before .before .before .if1 .left) (sym (c .before .before .before .before .before .before .before .before .before .are2 .ensures) ∙ c .before .before .before .before .before .before .before .before .if2 .left) (sym (c .before .before .before .before .before .before .before .are3 .ensures) ∙ c .before .before .before .before .before .before .if3 .left) (sym (c .before .before .before .before .before .are4 .ensures) ∙ c .before .before .before .before .if4 .left) (sym (c .before .before .before .are5 .ensures) ∙ c .before .before .if5 .left) (sym (c .before .are6 .ensures) ∙ c .if6 .left)
+returns-7 c = λ days. no-formula (c .before .before .before .before .before .before .before .before .before .before .before .before .args .from)
+    (c .before .before .before .before .before .before .before .before .before .before .before .before .args .to) days
+    (c .before .before .before .before .before .before .before .before .before .before .before .before .pre)
+    (sym (c .before .before .before .before .before .before .before .before .before .before .before .are .ensures)
+    ∙ c .before .before .before .before .before .before .before .before .before .before .if1 .left)
+    (sym (c .before .before .before .before .before .before .before .before .before .are2 .ensures)
+    ∙ c .before .before .before .before .before .before .before .before .if2 .left)
+    (sym (c .before .before .before .before .before .before .before .are3 .ensures) ∙ c .before .before .before .before .before .before .if3 .left)
+    (sym (c .before .before .before .before .before .are4 .ensures) ∙ c .before .before .before .before .if4 .left)
+    (sym (c .before .before .before .are5 .ensures) ∙ c .before .before .if5 .left) (sym (c .before .are6 .ensures) ∙ c .if6 .left)
 
 pub offset-kind-spec : {M : Type 1} → statement M
 offset-kind-spec =
     tie.close
-    (tie.spec
-    (λ c κs. search needs)
-    returns
-    (λ c κs. search needs)
-    returns-2
-    (λ c κs. search needs)
-    returns-3
-    (λ c κs. search needs)
-    returns-4
-    (λ c κs. search needs)
-    returns-5
-    (λ c κs. search needs)
-    returns-6
-    returns-7)
+    (tie.spec (λ c κs. search needs) returns (λ c κs. search needs) returns-2 (λ c κs. search needs) returns-3 (λ c κs. search needs) returns-4
+    (λ c κs. search needs) returns-5 (λ c κs. search needs) returns-6 returns-7)

@@ -17,7 +17,9 @@ returns c =
     let v = c .before .before .before in
     let s = v .before .before .before .before .before in
     let f : SFits w32 (s .args .date .year) = record { sfits = v .before .struct-told .given .0 .1 } in
-    call-refused _ _ _ (next-refused expandedText (s .args .date) _ (sym (read-fields nextOf (s .args .date) f (s .pre .0) (s .pre .1)) ∙ sym (v .next-calendar-day .ensures) ∙ ap nextOutcome (c .before .number .given .1)))
+    call-refused _ _ _ (next-refused expandedText (s .args .date) _
+    (sym (read-fields nextOf (s .args .date) f (s .pre .0) (s .pre .1)) ∙ sym (v .next-calendar-day .ensures)
+    ∙ ap nextOutcome (c .before .number .given .1)))
 
 returns-2 : tie.Need-returns-2
 unfolding nextOutcome
@@ -27,18 +29,12 @@ returns-2 c =
     let v = n .before .before in
     let s = v .before .before .before .before .before in
     let f : SFits w32 (s .args .date .year) = record { sfits = v .before .struct-told .given .0 .1 } in
-    call-put _ _ _ _ _ (next-given expandedText (s .args .date) _ (sym (read-fields nextOf (s .args .date) f (s .pre .0) (s .pre .1)) ∙ sym (v .next-calendar-day .ensures) ∙ ap nextOutcome (n .next .given .1))) (p .put-text-expanded .ensures)
+    call-put _ _ _ _ _ (next-given expandedText (s .args .date) _
+    (sym (read-fields nextOf (s .args .date) f (s .pre .0) (s .pre .1)) ∙ sym (v .next-calendar-day .ensures) ∙ ap nextOutcome (n .next .given .1)))
+    (p .put-text-expanded .ensures)
 
 pub put-next-midnight-spec : {M : Type 1} → statement M
 put-next-midnight-spec =
     tie.close
-    (tie.spec
-    (λ c. search needs)
-    (λ c. search needs)
-    (λ c κs. search needs)
-    (λ c. search needs)
-    (λ c. search needs)
-    (λ c κs. search needs)
-    returns
-    (λ c. search needs)
-    returns-2)
+    (tie.spec (λ c. search needs) (λ c. search needs) (λ c κs. search needs) (λ c. search needs) (λ c. search needs) (λ c κs. search needs) returns
+    (λ c. search needs) returns-2)

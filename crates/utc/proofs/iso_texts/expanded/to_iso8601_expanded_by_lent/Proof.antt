@@ -11,7 +11,8 @@ use borrow.Author.Needs.{needs}
 use Rattle.utc.proofs.iso_texts.expanded.to_iso8601_expanded_by_lent.Statement.{statement}
 use Rattle.utc.proofs.iso_texts.expanded.to_iso8601_expanded_by_lent.Tie as tie
 
-calendar-answered : (k : tie.After-fields) → let s = k .before .before .before .before .before in julianToCalendar (s .args .utc .0 .jd1) (s .args .utc .0 .jd2) ≡ answer (k .fields .given .0 .0)
+calendar-answered : (k : tie.After-fields) → let s =
+    k .before .before .before .before .before in julianToCalendar (s .args .utc .0 .jd1) (s .args .utc .0 .jd2) ≡ answer (k .fields .given .0 .0)
 unfolding calendarOutcome
 calendar-answered k = sym (k .before .before .julian-to-calendar .ensures) ∙ ap calendarOutcome (k .fields .given .1)
 
@@ -23,7 +24,8 @@ put-day-requires c κs =
 
 returns : tie.Need-returns
 unfolding calendarOutcome textByRule
-returns c = rule-call-refused _ _ _ (stopped _ (sym (c .before .before .before .julian-to-calendar .ensures) ∙ ap calendarOutcome (c .before .number .given .1)))
+returns c = rule-call-refused _ _ _
+    (stopped _ (sym (c .before .before .before .julian-to-calendar .ensures) ∙ ap calendarOutcome (c .before .number .given .1)))
 
 returns-2 : tie.Need-returns-2
 unfolding textByRule
@@ -32,11 +34,4 @@ returns-2 c = rule-call-as _ _ _ _ _ (went _ (calendar-answered (c .before .befo
 pub to-iso8601-expanded-by-lent-spec : {M : Type 1} → statement M
 to-iso8601-expanded-by-lent-spec =
     tie.close
-    (tie.spec
-    (λ c κs. search needs)
-    (λ c. search needs)
-    (λ c. search needs)
-    put-day-requires
-    returns
-    (λ c. search needs)
-    returns-2)
+    (tie.spec (λ c κs. search needs) (λ c. search needs) (λ c. search needs) put-day-requires returns (λ c. search needs) returns-2)

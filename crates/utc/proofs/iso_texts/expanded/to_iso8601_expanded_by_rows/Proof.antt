@@ -21,8 +21,10 @@ returns c =
     let v = c .before .before .before .before .before in
     let z = v .before .before .before .before .before in
     let s = v .before .before .before .before .before .before .before in
-    let e = ap (λ (l : List Row). forget (expandedByRule l (s .args .utc .0))) (rows-in (s .args .t2) (z .size-of .result) (z .size-of .ensures)) ∙ expanded-forgets (rowsOf (s .args .t2)) (s .args .utc .0) in
-    call-as _ _ _ _ _ (sym e) (rule-call-forgets _ _ _ _ _ (ap (λ (x : TextByRule). forget (textByRuleOutcome x)) (sym (c .before .number .given .1))) (v .to-iso8601-expanded-by-lent .ensures))
+    let e = ap (λ (l : List Row). forget (expandedByRule l (s .args .utc .0))) (rows-in (s .args .t2) (z .size-of .result) (z .size-of .ensures))
+    ∙ expanded-forgets (rowsOf (s .args .t2)) (s .args .utc .0) in
+    call-as _ _ _ _ _ (sym e) (rule-call-forgets _ _ _ _ _ (ap (λ (x : TextByRule). forget (textByRuleOutcome x)) (sym (c .before .number .given .1)))
+    (v .to-iso8601-expanded-by-lent .ensures))
 
 returns-2 : tie.Need-returns-2
 unfolding textOutcome textByRuleOutcome forget onward
@@ -30,18 +32,13 @@ returns-2 c =
     let v = c .before .before .before .before .before in
     let z = v .before .before .before .before .before in
     let s = v .before .before .before .before .before .before .before in
-    let e = ap (λ (l : List Row). forget (expandedByRule l (s .args .utc .0))) (rows-in (s .args .t2) (z .size-of .result) (z .size-of .ensures)) ∙ expanded-forgets (rowsOf (s .args .t2)) (s .args .utc .0) in
-    call-as _ _ _ _ _ (sym e) (rule-call-forgets _ _ _ _ _ (ap (λ (x : TextByRule). forget (textByRuleOutcome x)) (sym (c .before .n .given .1))) (v .to-iso8601-expanded-by-lent .ensures))
+    let e = ap (λ (l : List Row). forget (expandedByRule l (s .args .utc .0))) (rows-in (s .args .t2) (z .size-of .result) (z .size-of .ensures))
+    ∙ expanded-forgets (rowsOf (s .args .t2)) (s .args .utc .0) in
+    call-as _ _ _ _ _ (sym e) (rule-call-forgets _ _ _ _ _ (ap (λ (x : TextByRule). forget (textByRuleOutcome x)) (sym (c .before .n .given .1)))
+    (v .to-iso8601-expanded-by-lent .ensures))
 
 pub to-iso8601-expanded-by-rows-spec : {M : Type 1} → statement M
 to-iso8601-expanded-by-rows-spec =
     tie.close
-    (tie.spec
-    (λ c κs. search needs)
-    (λ c κs. search needs)
-    (λ c. search needs)
-    (λ c. search needs)
-    (λ c. search needs)
-    returns
-    (λ c. search needs)
+    (tie.spec (λ c κs. search needs) (λ c κs. search needs) (λ c. search needs) (λ c. search needs) (λ c. search needs) returns (λ c. search needs)
     returns-2)

@@ -3,8 +3,5 @@ use Rattle.utc.proofs.text.Sign.{is-negative}
 use Rattle.utc.proofs.text.year.negative.Statement.{statement}
 use Rattle.utc.proofs.text.year.negative.Tie as tie
 
-returns : tie.Need-returns
-returns c = is-negative _ (c .fits .year)
-
 pub negative-spec : {M : Type 1} → statement M
-negative-spec = tie.close (tie.spec returns)
+negative-spec = tie.close (tie.spec (λ c. is-negative _ (c .fits .year)))

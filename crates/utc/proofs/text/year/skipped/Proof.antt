@@ -23,13 +23,17 @@ returns-4 c = (simp (c .before .before .if1 .left, le-ltb _ _ (c .before .if3 .l
 
 returns-5 : tie.Need-returns-5
 unfolding skipped
-returns-5 c =
-    (simp (c .before .before .before .if1 .left, le-ltb _ _ (c .before .before .if3 .left), le-ltb _ _ (c .before .if4 .left), lt-ltb _ _ (c .if5 .taken)), lit≤ tt)
+returns-5 c = (
+  simp (c .before .before .before .if1 .left, le-ltb _ _ (c .before .before .if3 .left), le-ltb _ _ (c .before .if4 .left), lt-ltb _ _ (c .if5 .taken)),
+  lit≤ tt,
+)
 
 returns-6 : tie.Need-returns-6
 unfolding skipped
-returns-6 c =
-    (simp (c .before .before .before .if1 .left, le-ltb _ _ (c .before .before .if3 .left), le-ltb _ _ (c .before .if4 .left), le-ltb _ _ (c .if5 .left)), lit≤ tt)
+returns-6 c = (
+  simp (c .before .before .before .if1 .left, le-ltb _ _ (c .before .before .if3 .left), le-ltb _ _ (c .before .if4 .left), le-ltb _ _ (c .if5 .left)),
+  lit≤ tt,
+)
 
 pub skipped-spec : {M : Type 1} → statement M
 skipped-spec = tie.close (tie.spec returns returns-2 returns-3 returns-4 returns-5 returns-6)

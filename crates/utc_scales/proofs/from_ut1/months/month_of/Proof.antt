@@ -23,8 +23,11 @@ use Rattle.utc_scales.proofs.from_ut1.months.month_of.Tie as tie
 abbrev rows : tie.Start → List Row
 rows s = rowsIn (s .args .size) (now (s .args .months)) (now (s .args .seconds))
 
-called : (v : tie.After-offset-at-0h) → secondsByRuleOutcome (v .offset-at-0h .result) ≡ withRule (offsetAt0h (rows (v .before)) (gregorianDate (v .before .args .day))) (ruleOn (rows (v .before)) (gregorianDate (v .before .args .day)))
-called v = let s = v .before in v .offset-at-0h .ensures ∙ ap (λ (z : ℤ). withRule (offsetAt0h (rows s) (gregorianDate z)) (ruleOn (rows s) (gregorianDate z))) (toZ-ofZ (s .fits .day))
+called : (v : tie.After-offset-at-0h)
+    → secondsByRuleOutcome (v .offset-at-0h .result) ≡ withRule (offsetAt0h (rows (v .before)) (gregorianDate (v .before .args .day)))
+    (ruleOn (rows (v .before)) (gregorianDate (v .before .args .day)))
+called v = let s = v .before in v .offset-at-0h .ensures
+    ∙ ap (λ (z : ℤ). withRule (offsetAt0h (rows s) (gregorianDate z)) (ruleOn (rows s) (gregorianDate z))) (toZ-ofZ (s .fits .day))
 
 returns : tie.Need-returns
 unfolding monthOutcome RightMonths secondsByRuleOutcome
@@ -37,8 +40,11 @@ returns-2 c =
     let v = x .before .before in
     let s = v .before in
     let g = c .before .gregorian-date .ensures ∙ ap gregorianDate (toZ-ofZ (s .fits .day)) in
-    let p = apart _ _ _ _ (sym (called v) ∙ ap secondsByRuleOutcome (x .x .given .1)) .0 in
-    (sym p, month-right _ _ _ (s .args .day) _ (toZ-ofZ (record { sfits = c .struct-told .given .0 .1 }) ∙ ap (λ (t : CalendarDate). t .year) g) (ap (λ (t : CalendarDate). t .month) g) p)
+    let p = apart _ _ _ _ (sym (called v) ∙ ap secondsByRuleOutcome (x .x .given .1)) .0 in (
+      sym p,
+      month-right _ _ _ (s .args .day) _ (toZ-ofZ (record { sfits = c .struct-told .given .0 .1 }) ∙ ap (λ (t : CalendarDate). t .year) g)
+          (ap (λ (t : CalendarDate). t .month) g) p,
+    )
 
 pub month-of-spec : {M : Type 1} → statement M
 month-of-spec = tie.close (tie.spec (λ c κs. search needs) (λ c. search needs) (λ c. search needs) (λ c κs. search needs) returns returns-2)

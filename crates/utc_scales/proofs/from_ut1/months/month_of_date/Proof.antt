@@ -22,7 +22,11 @@ rows s = rowsIn (s .args .size) (now (s .args .months)) (now (s .args .seconds))
 
 returns : tie.Need-returns
 unfolding monthOutcome RightMonths dayOutcome
-returns c = (sym (offset-no-date _ _ _ (sym (c .before .before .before .day-number-and-fraction .ensures) ∙ ap dayOutcome (c .before .number .given .1)) (rows (c .before .before .before .before))), tt)
+returns c = (
+  sym (offset-no-date _ _ _ (sym (c .before .before .before .day-number-and-fraction .ensures) ∙ ap dayOutcome (c .before .number .given .1))
+      (rows (c .before .before .before .before))),
+  tt,
+)
 
 returns-2 : tie.Need-returns-2
 unfolding dayOutcome
@@ -31,8 +35,10 @@ returns-2 c =
     let n = d .before .before in
     let s = n .before in
     let e = sym (n .day-number-and-fraction .ensures) ∙ ap dayOutcome (d .d .given .1) in
-    let r = day-range _ _ (yes (s .good .0 .1)) (yes (s .good .1 .0 .1)) _ e in
-    (c .month-of .ensures .0 ∙ ap (λ (z : ℤ). offsetAt0h (rows s) (gregorianDate z)) (day-read _ r) ∙ sym (offset-of-day (rows s) _ _ _ e), c .month-of .ensures .1)
+    let r = day-range _ _ (yes (s .good .0 .1)) (yes (s .good .1 .0 .1)) _ e in (
+      c .month-of .ensures .0 ∙ ap (λ (z : ℤ). offsetAt0h (rows s) (gregorianDate z)) (day-read _ r) ∙ sym (offset-of-day (rows s) _ _ _ e),
+      c .month-of .ensures .1,
+    )
 
 pub month-of-date-spec : {M : Type 1} → statement M
 month-of-date-spec = tie.close (tie.spec (λ c κs. search needs) (λ c. search needs) (λ c. search needs) (λ c κs. search needs) returns returns-2)
