@@ -82,7 +82,7 @@ mult-r x y r s = own-mult y s (min (r .j) (s .j)) (omega arith)
 
 -- what is rounded is a value of the format
 pub rep-step : (a : ℕ) → Rep (step a)
-rep-step a = elim (eq-or-lt-of-le (kept-le 53 a 1)) [
+rep-step a = elim (eq-or-lt-of-le (kept-le 53 a 1 (lit< tt))) [
   | inl e ↦ record {
     q = 1;
     j = 53 + digitsDropped a;
