@@ -11,3 +11,5 @@ pub mod Signed
 pub mod Signed32
 -- RoundTrip: what is written is read back.
 pub mod RoundTrip
+-- Items: where an item of a list stands in bytes.
+pub mod Items

@@ -1,0 +1,15 @@
+-- A list of items in bytes, one after the other. This is the writer against which every call that reads or writes a list in bytes is held, place by place: it is
+-- defined by the items' own bytes alone, apart from any reader. This project's own. Assumes nothing.
+use Prim.Native.Nat.{ℕ}
+use mathlib.Core.Path.{_≡_}
+use mathlib.Core.List.{List, [], _∷_, _++_}
+use lib.ListN.{length}
+
+-- the bytes of all items in their order
+unfoldable pub written : {A : Type 0} → (A → List ℕ) → List A → List ℕ
+written bytes [] = []
+written bytes (x ∷ xs) = bytes x ++ written bytes xs
+
+-- each item has so many bytes
+abbrev pub Sized : {A : Type 0} → (A → List ℕ) → ℕ → Type 0
+Sized {A} bytes size = (x : A) → length (bytes x) ≡ size
