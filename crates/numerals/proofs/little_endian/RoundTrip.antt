@@ -1,4 +1,4 @@
--- What is written is read back: a number from its eight bytes, and a signed number from its pattern. Assumes nothing.
+-- What is written is read back: a number from its eight bytes or four, and a signed number from its pattern. Assumes nothing.
 use Prim.Native.Nat.{ℕ, _+_, _-_, _*_, _/_, _%_, _<_, _≤_}
 use native.Mathlib.Nat.{div-div-eq-div-mul}
 use native.Mathlib.Omega.{arith}
@@ -7,7 +7,7 @@ use lib.IntN.{ℤ, pos, negsuc}
 use mir.Syntax.{w64}
 use mir.Val.{SFits}
 use borrow.Author.Tests.{lt-ltb, le-ltb}
-use Rattle.numerals.specs.little_endian.LittleEndian.{fourAt, u64At, eightBytes, patternOf, signedOf}
+use Rattle.numerals.specs.little_endian.LittleEndian.{fourAt, u32At, u64At, fourBytes, eightBytes, patternOf, signedOf}
 
 -- a number by its last byte and the rest
 split : (a : ℕ) → a ≡ a % 256 + 256 * (a / 256)
@@ -34,6 +34,18 @@ read-written n h = sum8 n (n / 0x100) (n / 0x1_0000) (n / 0x100_0000) (n / 0x1_0
     (split n) (next-place n 0x100 0x1_0000 refl) (next-place n 0x1_0000 0x100_0000 refl) (next-place n 0x100_0000 0x1_0000_0000 refl)
     (next-place n 0x1_0000_0000 0x100_0000_0000 refl)
     (next-place n 0x100_0000_0000 0x1_0000_0000_0000 refl) (next-place n 0x1_0000_0000_0000 0x100_0000_0000_0000 refl) (last-byte n h)
+
+sum4 : (n a1 a2 a3 r0 r1 r2 r3 : ℕ) → n ≡ r0 + 256 * a1 → a1 ≡ r1 + 256 * a2 → a2 ≡ r2 + 256 * a3 → a3 ≡ r3
+    → r0 + 256 * r1 + 65536 * r2 + 16777216 * r3 ≡ n
+sum4 n a1 a2 a3 r0 r1 r2 r3 e0 e1 e2 e3 = omega arith
+
+last-of-four : (n : ℕ) → n < 4294967296 → n / 0x100_0000 ≡ n / 0x100_0000 % 256
+last-of-four n h = omega arith
+
+pub read-written-4 : (n : ℕ) → n < 4294967296 → u32At (fourBytes n) 0 ≡ n
+unfolding u32At fourAt
+read-written-4 n h = sum4 n (n / 0x100) (n / 0x1_0000) (n / 0x100_0000) (n % 256) (n / 0x100 % 256) (n / 0x1_0000 % 256) (n / 0x100_0000 % 256)
+    (split n) (next-place n 0x100 0x1_0000 refl) (next-place n 0x1_0000 0x100_0000 refl) (last-of-four n h)
 
 pub signed-back : (z : ℤ) → SFits w64 z → signedOf (patternOf z) ≡ z
 unfolding signedOf patternOf

@@ -1,0 +1,53 @@
+-- A block written from a list of stamps, and the listing of that list. This is the layout as a writer has it, apart from what reads it: document 01, "Stamp block".
+-- Assumes nothing.
+use Prim.Native.Nat.{ℕ, suc, _+_, _<_}
+use mathlib.Core.List.{List, [], _∷_, _++_}
+use lib.ListN.{length}
+use lib.Ieee.{ofBits, binary64}
+use Rattle.numerals.specs.little_endian.LittleEndian.{fourBytes, eightBytes}
+use Rattle.numerals.specs.little_endian.Written.{written}
+use Rattle.julian.specs.declared.JulianDate.{JulianDate}
+use Rattle.julian.specs.JulianDate.{julian}
+use Rattle.leap_table.specs.rows.Table.{Row}
+use Rattle.utc.specs.iso_texts.Expanded.{isoTextExpanded}
+use Rattle.stamps.specs.declared.Telling.{Telling}
+use Rattle.stamps.specs.Listing.{numeral, shown, oneIfRefused, header}
+
+-- a stamp: the patterns of its two parts, 64 bits each
+pub record Stamp : Type 0 where
+  pub first : ℕ
+  pub second : ℕ
+
+pub record InBits (x : Stamp) : Type 0 where
+  pub first-fits : x .first < 18446744073709551616
+  pub second-fits : x .second < 18446744073709551616
+
+abbrev pub dateOf : Stamp → JulianDate
+dateOf x = julian (ofBits binary64 (x .first)) (ofBits binary64 (x .second))
+
+-- how many stamps there are, twice, in four bytes; then all first parts, then all second parts, in eight bytes each
+abbrev pub firstBytes : Stamp → List ℕ
+firstBytes x = eightBytes (x .first)
+
+abbrev pub secondBytes : Stamp → List ℕ
+secondBytes x = eightBytes (x .second)
+
+unfoldable pub blockBytes : List Stamp → List ℕ
+blockBytes xs = written fourBytes (length xs ∷ length xs ∷ []) ++ (written firstBytes xs ++ written secondBytes xs)
+
+-- how many of the stamps have no text
+unfoldable pub refusedOf : List Row → List Stamp → ℕ
+refusedOf rows [] = 0
+refusedOf rows (x ∷ xs) = oneIfRefused (isoTextExpanded rows (dateOf x)) + refusedOf rows xs
+
+-- the line of a stamp at place i, and the lines of all from place i on
+abbrev pub lineOf : Telling → List Row → ℕ → Stamp → List ℕ
+lineOf how rows i x = ((numeral i ++ (32 ∷ [])) ++ shown how (dateOf x) (isoTextExpanded rows (dateOf x))) ++ (10 ∷ [])
+
+unfoldable pub linesOf : Telling → List Row → ℕ → List Stamp → List ℕ
+linesOf how rows i [] = []
+linesOf how rows i (x ∷ xs) = lineOf how rows i x ++ linesOf how rows (suc i) xs
+
+-- the listing of a list of stamps
+unfoldable pub listed : Telling → List Row → List Stamp → List ℕ
+listed how rows xs = header (length xs) (refusedOf rows xs) ++ linesOf how rows 0 xs
