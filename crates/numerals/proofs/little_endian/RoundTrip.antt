@@ -4,10 +4,10 @@ use native.Mathlib.Nat.{div-div-eq-div-mul}
 use native.Mathlib.Omega.{arith}
 use mathlib.Core.Path.{_≡_, refl, ap, _∙_}
 use lib.IntN.{ℤ, pos, negsuc}
-use mir.Syntax.{w64}
+use mir.Syntax.{w32, w64}
 use mir.Val.{SFits}
 use borrow.Author.Tests.{lt-ltb, le-ltb}
-use Rattle.numerals.specs.little_endian.LittleEndian.{fourAt, u32At, u64At, fourBytes, eightBytes, patternOf, signedOf}
+use Rattle.numerals.specs.little_endian.LittleEndian.{fourAt, u32At, u64At, i32At, fourBytes, eightBytes, patternOf, signedOf, pattern32, signed32}
 
 -- a number by its last byte and the rest
 split : (a : ℕ) → a ≡ a % 256 + 256 * (a / 256)
@@ -57,3 +57,24 @@ signed-back (negsuc k) f = simp (le-ltb (18446744073709551615 - k) 9223372036854
 
     back : (k : ℕ) → k < 9223372036854775808 → 18446744073709551615 - (18446744073709551615 - k) ≡ k
     back k h = omega arith
+
+pub signed32-back : (z : ℤ) → SFits w32 z → signed32 (pattern32 z) ≡ z
+unfolding signed32 pattern32
+signed32-back (pos n) f = simp (lt-ltb n 2147483648 (f .sfits))
+signed32-back (negsuc k) f = simp (le-ltb (4294967295 - k) 2147483648 (above k (f .sfits))) (ap negsuc (back k (f .sfits)))
+  where
+    above : (k : ℕ) → k < 2147483648 → 2147483648 ≤ 4294967295 - k
+    above k h = omega arith
+
+    back : (k : ℕ) → k < 2147483648 → 4294967295 - (4294967295 - k) ≡ k
+    back k h = omega arith
+
+-- a pattern has 32 bits
+pub pattern32-small : (z : ℤ) → SFits w32 z → pattern32 z < 4294967296
+unfolding pattern32
+pattern32-small (pos n) f = omega (arith, f .sfits)
+pattern32-small (negsuc k) f = omega arith
+
+-- a signed number in four bytes
+pub read-signed-4 : (z : ℤ) → SFits w32 z → i32At (fourBytes (pattern32 z)) 0 ≡ z
+read-signed-4 z f = ap signed32 (read-written-4 (pattern32 z) (pattern32-small z f)) ∙ signed32-back z f

@@ -61,6 +61,10 @@ unfoldable pub signedOf : ℕ → ℤ
 signedOf n = cond (ltb n 0x8000_0000_0000_0000) (pos n) (negsuc (0xffff_ffff_ffff_ffff - n))
 
 -- the same with 32 bits
+unfoldable pub pattern32 : ℤ → ℕ
+pattern32 (pos n) = n
+pattern32 (negsuc k) = 0xffff_ffff - k
+
 unfoldable pub signed32 : ℕ → ℤ
 signed32 n = cond (ltb n 0x8000_0000) (pos n) (negsuc (0xffff_ffff - n))
 
