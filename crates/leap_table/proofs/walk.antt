@@ -21,3 +21,5 @@ pub mod LookUp
 pub mod Codes
 -- Worked: the count and the refusals of real dates.
 pub mod Worked
+-- Written: dates and offsets place by place.
+pub mod Written

@@ -5,3 +5,4 @@ pub mod Walk
 pub mod Lists
 pub mod Call
 pub mod Asked
+pub mod Writer
