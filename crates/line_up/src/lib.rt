@@ -6,7 +6,7 @@ ghost use Rattle.line_up.specs.Runs as R;
 ghost use Rattle.line_up.specs.LineUp as U;
 ghost use Rattle.line_up.specs.Asked as N;
 
-mod keep;
+pub mod keep;
 
 // How many stamps are ordered, or the number of the refusal.
 pub enum LineUpAnswer {
