@@ -50,8 +50,8 @@
      14  length of a block, of a table, or of a list wrong, or counts past it
      15  text outside the grammar
      16  more than 13 digits after a second's point
-     17  date earlier than the one before it, or stamp earlier than an ordered one before it in
-         its run
+     17  date earlier than the one before it, or stamp left out of a line: it is earlier than an
+         ordered one before it in its run, or later than an ordered one behind it
      18  field of a GPS week over its limit, or date before the first week or past the last; in
          ct_convert_run a scale that it does not take, in ct_formula_run two scales that it does
          not; number of a refusal not 1 to 28
@@ -79,10 +79,10 @@
 
 /* The version. A call that is taken away, or that answers otherwise or takes other arguments, raises
    MAJOR, which is in the name of the shared library; a new call raises MINOR. */
-#define CT_VERSION_MAJOR 1
+#define CT_VERSION_MAJOR 2
 #define CT_VERSION_MINOR 0
 #define CT_VERSION_PATCH 0
-#define CT_VERSION "1.0.0"
+#define CT_VERSION "2.0.0"
 
 #ifdef __cplusplus
 extern "C" {
@@ -161,17 +161,25 @@ int64_t ct_compare(double jd1, double jd2, double other1, double other2);
 /* The stamps of up to three recorders in one order, by their exact sums; all of one scale, TAI. The runs
    stand one after the other in the three slices, 8 bytes for each part and one byte for the number of each
    stamp: first_count stamps, then second_count, then what is left. Number 0 is a stamp to order; any other
-   says by what it was refused before, and is left out. Returns how many are ordered; out has their places
-   in the slices, 4 bytes each, ties by run and then by place; what lies behind them stays. Into numbers is
-   written 9 for a stamp that came with 0 and that ct_compare would refuse, and 17 for one that is earlier
-   than an ordered one before it in its own run. Refuses 14 for a length of parts that is no multiple of 8;
-   12 for another number of parts than of numbers; 14 for counts past the length; 13 for more stamps than 4
-   bytes can number; 11 for fewer than 4 bytes a stamp, also where fewer are ordered. A refused call writes
-   nothing. Of two stamps, 2451545.0 and 2451544.0, with no recorder but the first (first_count 2), the
-   second gets 17; with first_count 1 both are ordered, the second first; with first_count 3 it is 14. */
+   says by what it was refused before, and stays. Returns how many are ordered; out has their places in the
+   slices, 4 bytes each, ties by run and then by place; what lies behind them stays. tails and ranks are work
+   areas, 4 bytes a stamp each; what is left in them means nothing.
+
+   Into numbers is written 9 for a stamp that came with 0 and that ct_compare would refuse. Of the others of
+   a run the most that rise are ordered, each not earlier than the one before it, and the rest are left out
+   with 17: so one that is far too late, or too early, is left out alone. Where several choices are largest,
+   the ordered ones are found from the back: the last stamp in which a largest choice ends, before it the
+   last in which one shorter by a stamp ends, and so on. So of two stamps that contradict each other alone
+   the later place is ordered.
+
+   Refuses 14 for a length of parts that is no multiple of 8; 12 for another number of parts than of numbers;
+   14 for counts past the length; 13 for more stamps than 4 bytes can number; 11 for fewer than 4 bytes a
+   stamp in out, tails or ranks, also where fewer are ordered. A refused call writes neither numbers nor out.
+   Of two stamps, 2451545.0 and 2451544.0, with no recorder but the first (first_count 2), the first gets 17;
+   with first_count 1 both are ordered, the second first; with first_count 3 it is 14. */
 int64_t ct_line_up(const uint8_t *jd1, size_t jd1_len, const uint8_t *jd2, size_t jd2_len, uint8_t *numbers,
                    size_t numbers_len, uint64_t first_count, uint64_t second_count, uint8_t *out,
-                   size_t out_len);
+                   size_t out_len, uint8_t *tails, size_t tails_len, uint8_t *ranks, size_t ranks_len);
 
 /* The days from the other date to this, rounded. With parts under 2^52 in size never of the wrong sign,
    but 0.0 also for some dates that differ, of today's under a microsecond apart, so that it is no order

@@ -12,9 +12,9 @@
    The listing goes to standard output:
 
      line up 3 runs
-     gps 9000000 refused 212 turned away 3
-     tai 9000000 refused 0 turned away 0
-     utc 9000000 refused 0 turned away 0
+     gps 9000000 refused 212 left out 3
+     tai 9000000 refused 0 left out 0
+     utc 9000000 refused 0 left out 0
      gps 0 2016-12-31T23:59:59.500
      gps 1 refused 9
      tai 0 2016-12-31T23:59:60.000
@@ -22,9 +22,11 @@
      lined up 26999785 without text 0
 
    After the first line comes one for each run, in the order GPS, TAI, UTC: its stamps, those that are
-   refused, and those that are turned away because they are earlier than one before them in their
-   run (number 17). Where a block is refused, the run ends before it: its line then has behind it
-   ` block 2 refused 14`, the blocks counted from 0, and what follows in the file is not read.
+   refused, and those that are left out (number 17). Of the stamps of a run that have a TAI the most
+   that rise are lined up, and the others are left out: one that is far too late is left out alone. Of
+   two that contradict each other alone the later in the run is lined up. Where a block is refused, the
+   run ends before it: its line then has behind it ` block 2 refused 14`, the blocks counted from 0, and
+   what follows in the file is not read.
 
    Then each stamp of each run has one line: its recorder, its index in its run, counted from 0, and
    what is told of it. An ordered stamp has the UTC text of its TAI, or `no text` and a number where
@@ -35,8 +37,8 @@
    before all ordered stamps, by recorder and then by index. So the lines of a recorder are in the
    order of its run.
 
-   With --reasons a colon and the library's sentence follow the number of each stamp that is refused, turned
-   away or without text, and the sentence ends with the part at fault, in the 16 hexadecimal digits of its
+   With --reasons a colon and the library's sentence follow the number of each stamp that is refused, left
+   out or without text, and the sentence ends with the part at fault, in the 16 hexadecimal digits of its
    bits, where one is: `gps 1 refused 9: part of the date is not finite: jd1 7ff8000000000000`. It is told of
    the parts as they were recorded; of a stamp without text, of those of its TAI or, where it has one, its UTC.
 
@@ -59,13 +61,13 @@
 enum { DONE = 0, REFUSED = 1, FAILED = 2 };
 enum { RUNS = 3, MOST_STAMPS = 4000, BLOCK_BYTES = 8 + 16 * MOST_STAMPS };
 enum { PAGE = 4096, TEXT_BYTES = 27, LINE_BYTES = 96 }; /* stamps that get their texts at once, bytes of a text, of a line */
-enum { OUT_OF_TURN = 17, MOST_ROWS = 16, TABLE_LINE = 200, OUT_BYTES = 1 << 20 };
+enum { LEFT_OUT = 17, MOST_ROWS = 16, TABLE_LINE = 200, OUT_BYTES = 1 << 20 };
 enum { THE_END = -1001, UNREADABLE = -1002 };           /* of a file, in the place of a block's answer */
 
 struct run {
     const char *name, *path;
     uint32_t scale;
-    size_t stamps, blocks, refused, turned_away;
+    size_t stamps, blocks, refused, left_out;
     uint64_t bytes;
     int64_t block_refused; /* the number of the block that ended the run, or 0 */
 };
@@ -316,11 +318,15 @@ static int read_runs(struct run *runs, struct stamps *all, const uint8_t *table)
 static int put_in_order(struct run *runs, struct stamps *all)
 {
     size_t i = 0, end = 0, n = all->count;
+    uint8_t *work; /* two areas of 4 bytes a stamp */
     int64_t ordered;
     int k;
-    if (n > SIZE_MAX / 8 || !(all->places = malloc(4 * n + 1))) return failed("memory", "too little for so many stamps");
+    if (n > SIZE_MAX / 9 || !(all->places = malloc(4 * n + 1)) || !(work = malloc(8 * n + 1)))
+        return failed("memory", "too little for so many stamps");
     tell("the order", -1);
-    ordered = ct_line_up(all->jd1, 8 * n, all->jd2, 8 * n, all->numbers, n, runs[0].stamps, runs[1].stamps, all->places, 4 * n);
+    ordered = ct_line_up(all->jd1, 8 * n, all->jd2, 8 * n, all->numbers, n, runs[0].stamps, runs[1].stamps, all->places, 4 * n, work, 4 * n,
+                         work + 4 * n, 4 * n);
+    free(work);
     if (ordered < 0) {
         fprintf(stderr, "line_up: the line is refused %d\n", (int)-ordered);
         return FAILED;
@@ -328,8 +334,8 @@ static int put_in_order(struct run *runs, struct stamps *all)
     all->ordered = (size_t)ordered;
     for (k = 0; k < RUNS; k++)
         for (end += runs[k].stamps; i < end; i++) {
-            runs[k].turned_away += all->numbers[i] == OUT_OF_TURN;
-            runs[k].refused += all->numbers[i] != 0 && all->numbers[i] != OUT_OF_TURN;
+            runs[k].left_out += all->numbers[i] == LEFT_OUT;
+            runs[k].refused += all->numbers[i] != 0 && all->numbers[i] != LEFT_OUT;
         }
     return DONE;
 }
@@ -365,7 +371,7 @@ static char *put_number(char *at, const struct stamps *all, uint32_t number, con
     return at + length;
 }
 
-/* The line's words behind the index of a stamp that is refused or turned away. */
+/* The line's words behind the index of a stamp that is refused or left out. */
 static char *put_refusal(char *at, const struct stamps *all, size_t place)
 {
     return put_number(put_word(at, "refused "), all, all->numbers[place], all->jd1 + 8 * place, all->jd2 + 8 * place);
@@ -454,8 +460,8 @@ static void write_head(const struct run *runs)
     for (k = 0; k < RUNS; k++) {
         const struct run *run = &runs[k];
         if (!run->path) continue;
-        printf("%s %llu refused %llu turned away %llu", run->name, (unsigned long long)run->stamps, (unsigned long long)run->refused,
-               (unsigned long long)run->turned_away);
+        printf("%s %llu refused %llu left out %llu", run->name, (unsigned long long)run->stamps, (unsigned long long)run->refused,
+               (unsigned long long)run->left_out);
         if (run->block_refused) printf(" block %llu refused %d", (unsigned long long)run->blocks, (int)run->block_refused);
         putchar('\n');
     }

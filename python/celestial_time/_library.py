@@ -21,7 +21,7 @@ _SLICE = (_BYTES, _LENGTH)
 _CALLS: dict[str, tuple[Any, ...]] = {
     "ct_check_table": _SLICE,
     "ct_offsets_at_0h": _SLICE * 3,
-    "ct_line_up": (*_SLICE * 3, _U64, _U64, *_SLICE),
+    "ct_line_up": (*_SLICE * 3, _U64, _U64, *_SLICE * 3),
     "ct_place_ticks": _SLICE * 4,
     "ct_block_stamps": _SLICE,
     "ct_listing_part": (*_SLICE, _U32, *_SLICE * 2),

@@ -16,7 +16,7 @@ from .tables import Table
 from .texts import to_iso8601
 
 RECORDERS = ("gps", "tai", "utc")
-OUT_OF_TURN = 17
+LEFT_OUT = 17
 _PAGE = 1 << 16
 
 
@@ -79,7 +79,7 @@ def listing_of(line: Line, recorders: tuple[Recorder, ...], table: Table | None 
     >>> gps = read_recorder('gps', block_of([2457754.5, float('nan')], [0.0, 0.0]))
     >>> print(b''.join(listing_of(line_up_files(gps), (gps,))).decode(), end='')
     line up 1 runs
-    gps 2 refused 1 turned away 0
+    gps 2 refused 1 left out 0
     gps 0 2016-12-31T23:59:43.000
     gps 1 refused 9
     lined up 1 without text 0
@@ -105,8 +105,8 @@ def _head(line: Line, recorders: tuple[Recorder, ...]) -> bytes:
     for recorder in recorders:
         numbers = line.numbers[start : start + len(recorder.stamps.jd1)]
         start += len(numbers)
-        turned = int(np.count_nonzero(numbers == OUT_OF_TURN))
-        said.append(f"{recorder.scale} {len(numbers)} refused {int(np.count_nonzero(numbers)) - turned} turned away {turned}")
+        left_out = int(np.count_nonzero(numbers == LEFT_OUT))
+        said.append(f"{recorder.scale} {len(numbers)} refused {int(np.count_nonzero(numbers)) - left_out} left out {left_out}")
         if recorder.refused is not None:
             said.append(f" block {recorder.refused.block} refused {recorder.refused.number}")
         said.append("\n")

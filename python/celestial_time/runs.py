@@ -49,8 +49,8 @@ def line_up(jd1: ArrayLike, jd2: ArrayLike, counts: Sequence[int] = (), *, numbe
     """The order of up to three runs of TAI stamps that stand one after the other: counts[0] of the first, counts[1] of the second, then what is left;
     a third count is that of what is left, as an answer's `counts` have it.
 
-    A stamp whose number is not 0 is left out. One that has no place in the order gets 9, and one that is earlier than an ordered one before it in its own run
-    gets 17. The answer's `numbers` are a copy; the lent ones stay. Ties go by run. An array in one piece is not copied.
+    A stamp whose number is not 0 stays refused. One that has no place in the order gets 9. Of the others of a run the most that rise are ordered, and the rest
+    are left out, with 17; of two that contradict each other alone the later place is ordered. The answer's `numbers` are a copy; the lent ones stay. Ties go by run. An array in one piece is not copied.
 
     >>> line = line_up([2451545.0, 2451546.0, 2451545.0], [0.0, 0.0, 0.5], (2,))
     >>> line.places, line.run, line.numbers
@@ -89,10 +89,10 @@ def line_up_recorders(*runs: Run | tuple[str, ArrayLike, ArrayLike], table: Tabl
 
 def _ordered(name: str, jd1: NDArray[Any], jd2: NDArray[Any], numbers: NDArray[Any], counts: Sequence[int]) -> Line:
     check_float_mode()
-    places = np.empty(len(numbers), "<u4")
+    places, *work = (np.empty(len(numbers), "<u4") for _ in range(3))
     lengths = [*counts, *[len(numbers) - sum(counts), 0][: 2 - len(counts)]]
-    slices = [part for array in (jd1, jd2, numbers) for part in (address_of(array), array.nbytes)]
-    code = function("ct_line_up")(*slices, *lengths, address_of(places), places.nbytes)
+    given, written = ([part for array in arrays for part in (address_of(array), array.nbytes)] for arrays in ((jd1, jd2, numbers), (places, *work)))
+    code = function("ct_line_up")(*given, *lengths, *written)
     if code < 0:
         raise Refused(-code, name)
     places = places[:code]

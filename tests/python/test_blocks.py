@@ -96,7 +96,7 @@ class Blocks(unittest.TestCase):
         held = b"x" + ct.block_of([2451545.0, 2.0], [0.5, 3.0])
         read = ct.read_blocks(memoryview(held)[1:])
         self.assertEqual(ct.gpstai(read.jd1, read.jd2).jd2.tolist(), ct.gpstai([2451545.0, 2.0], [0.5, 3.0]).jd2.tolist())
-        self.assertEqual(ct.line_up_recorders(("tai", read.jd1, read.jd2)).numbers.tolist(), [0, 17])
+        self.assertEqual(ct.line_up_recorders(("tai", read.jd1, read.jd2)).numbers.tolist(), [17, 0])
 
     def test_damage(self):
         """A refused block is told with its place, and the stamps before it are not lost."""
@@ -206,9 +206,9 @@ class Blocks(unittest.TestCase):
         self.assertEqual(done.stderr, b"")
         self.assertEqual(done.returncode, 0)
         self.assertEqual(done.stdout.decode().splitlines(), [
-            "line up 3 runs", "gps 3 refused 1 turned away 0", "tai 2 refused 0 turned away 1", "utc 4 refused 1 turned away 0",
-            "utc 0 refused 6", "gps 0 2016-12-31T23:59:60.000", "gps 1 refused 9", "utc 1 2016-12-31T23:59:60.000", "utc 2 2016-12-31T23:59:60.500",
-            "tai 0 2016-12-31T23:59:60.750", "tai 1 refused 17", "utc 3 2017-01-01T00:00:00.000", "gps 2 2017-01-01T00:00:00.500", "lined up 6 without text 0"])
+            "line up 3 runs", "gps 3 refused 1 left out 0", "tai 2 refused 0 left out 1", "utc 4 refused 1 left out 0",
+            "tai 0 refused 17", "utc 0 refused 6", "gps 0 2016-12-31T23:59:60.000", "gps 1 refused 9", "utc 1 2016-12-31T23:59:60.000",
+            "tai 1 2016-12-31T23:59:60.250", "utc 2 2016-12-31T23:59:60.500", "utc 3 2017-01-01T00:00:00.000", "gps 2 2017-01-01T00:00:00.500", "lined up 6 without text 0"])
         (self.at / "short").write_bytes((self.at / "gps").read_bytes() + b"end")
         (self.at / "rows").write_text("# made up\n2027-01 38\n\n")
         (self.at / "bad_rows").write_text("2016-01 38\n")

@@ -15,10 +15,11 @@ def single_line_up(jd1, jd2, numbers, first, second):
     """ct_line_up by ctypes alone: the code, the places, and the numbers after it."""
     given = [np.ascontiguousarray(jd1, "<f8").tobytes(), np.ascontiguousarray(jd2, "<f8").tobytes()]
     held = ctypes.create_string_buffer(bytes(numbers), len(numbers))
-    out = ctypes.create_string_buffer(4 * len(numbers) + 1)
+    out, *work = (ctypes.create_string_buffer(4 * len(numbers) + 1) for _ in range(3))
+    size = ctypes.c_size_t(4 * len(numbers))
     lengths = [ctypes.c_size_t(len(part)) for part in given]
     code = singles.call("ct_line_up", given[0], lengths[0], given[1], lengths[1], held, ctypes.c_size_t(len(numbers)), ctypes.c_uint64(first), ctypes.c_uint64(second),
-                        out, ctypes.c_size_t(4 * len(numbers)))
+                        out, size, work[0], size, work[1], size)
     return code, list(struct.unpack(f"<{max(code, 0)}I", out.raw[: 4 * max(code, 0)])), list(held.raw[: len(numbers)])
 
 

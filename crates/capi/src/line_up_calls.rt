@@ -1,4 +1,5 @@
-// The stamps of up to three recorders in one order.
+// The stamps of up to three recorders in one order. The two work areas, four bytes for each stamp each, are written too, and what is left in them means nothing.
+ghost use lib.ListN.{length};
 ghost use Rattle.line_up.specs.LineUp.{linedUp};
 ghost use Rattle.capi.specs.LineDelivery.{LineDelivered};
 use c_answers::refused;
@@ -12,9 +13,11 @@ pub extern "C" fn ct_line_up(
     first_count: u64,
     second_count: u64,
     out: &mut [u8],
+    tails: &mut [u8],
+    ranks: &mut [u8],
 ) -> i64
-    ensures { λ r. ⌜ LineDelivered (linedUp (now (jd1 .entry)) (now (jd2 .entry)) (now (numbers .entry)) «first_count» «second_count» (now (out .entry))) r
-        (now (numbers .exit)) (now (out .exit)) ⌝ }
+    ensures { λ r. ⌜ LineDelivered (linedUp (now (jd1 .entry)) (now (jd2 .entry)) (now (numbers .entry)) «first_count» «second_count» (now (out .entry))
+        (length (now (tails .entry))) (length (now (ranks .entry)))) r (now (numbers .exit)) (now (out .exit)) ⌝ }
 {
     match line_up::line_up(
         jd1,
@@ -23,6 +26,8 @@ pub extern "C" fn ct_line_up(
         first_count as usize,
         second_count as usize,
         out,
+        tails,
+        ranks,
     ) {
         LineUpAnswer::Ordered(n) => n as i64,
         LineUpAnswer::Refused(number) => refused(number),

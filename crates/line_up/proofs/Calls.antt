@@ -9,9 +9,11 @@ use Rattle.line_up.specs.declared.LineUpAnswer.the-variants as Answer
 use Rattle.line_up.specs.Runs.{allTested, run, numbersAfter, ordered}
 use Rattle.line_up.specs.LineUp.{unorderedAt, soonerAt, countOutcome, smaller, leastRoom, lineRefusal, lineWritten, putInLine, result, linedUp}
 use Rattle.line_up.proofs.Places.{after-length, ordered-length}
-use Rattle.line_up.specs.keep_dates.Asked.{Lent}
-use Rattle.line_up.proofs.Lines.{Rooms, rooms, run-lent, runTurned-is, runTurned-length}
-use Rattle.line_up.specs.Asked.{Mergeable, Merged, runTurned}
+use Rattle.line_up.specs.keep.Asked.{Lent}
+use Rattle.line_up.specs.keep.Piles.{runKept}
+use Rattle.line_up.proofs.keep.Places.{run-is, run-long}
+use Rattle.line_up.proofs.Lines.{Rooms, rooms, run-lent}
+use Rattle.line_up.specs.Asked.{Mergeable, Merged}
 use Rattle.line_up.proofs.Cases.{Fine, fine}
 use Rattle.line_up.proofs.Testing.{tested-length}
 
@@ -31,9 +33,6 @@ module _ (js ks : List ℕ) (ns : List ℕ) (a c : ℕ) (out : List ℕ) (tl rl 
   module _ (z : number ≡ 0) where
     sizes : Fine (length ns) a c (leastRoom (length out) tl rl)
     sizes = fine (length js) (length ks) (length ns) a c (leastRoom (length out) tl rl) (sym en ∙ z)
-
-    pub few : length ns ≤ 4294967295
-    few = sizes .small
 
     pub counts-fit : a + c ≤ length ns
     counts-fit = omega (arith, sizes .count1, sizes .count2)
@@ -59,17 +58,17 @@ module _ (js ks : List ℕ) (ns : List ℕ) (a c : ℕ) (out : List ℕ) (tl rl 
       range-1 T R et er = run-lent js ks ns N0 [] N0 0 a (soonerAt js ks) e0 (omega arith) (good .count1) refl refl refl (good .small) T R (length out)
           (kept-areas T R et er)
 
-      module _ (N1 : List ℕ) (e1 : N1 ≡ runTurned (soonerAt js ks) N0 0 a) where
+      module _ (N1 : List ℕ) (e1 : N1 ≡ runKept (soonerAt js ks) N0 0 a) where
         P1 : List ℕ
         P1 = [] ++ run (soonerAt js ks) N0 0 a
 
         is-1 : N1 ≡ P1 ++ drop a N0
         unfolding P1
-        is-1 = e1 ∙ runTurned-is (soonerAt js ks) N0 [] 0 a (omega arith) (good .count1) refl N0 refl
+        is-1 = e1 ∙ run-is (soonerAt js ks) N0 [] 0 a (omega arith) (good .count1) refl N0 refl
 
         length-1 : length P1 ≡ a
         unfolding P1
-        length-1 = runTurned-length (soonerAt js ks) N0 [] 0 a (omega arith) (good .count1) refl
+        length-1 = run-long (soonerAt js ks) N0 [] 0 a (omega arith) (good .count1) refl N0 refl
 
         whole-1 : length N1 ≡ length N0
         whole-1 = ap length is-1 ∙ length-append P1 (drop a N0) ∙ rw (length-1, length-drop a N0) (omega (arith, good .count1))
@@ -78,17 +77,17 @@ module _ (js ks : List ℕ) (ns : List ℕ) (a c : ℕ) (out : List ℕ) (tl rl 
         range-2 T R et er = run-lent js ks ns N0 P1 N1 a (a + c) (soonerAt js ks) e0 (omega arith) sum-fits length-1 is-1 whole-1 (good .small) T R
             (length out) (kept-areas T R et er)
 
-        module _ (N2 : List ℕ) (e2 : N2 ≡ runTurned (soonerAt js ks) N1 a (a + c)) where
+        module _ (N2 : List ℕ) (e2 : N2 ≡ runKept (soonerAt js ks) N1 a (a + c)) where
           P2 : List ℕ
           P2 = P1 ++ run (soonerAt js ks) N0 a (a + c)
 
           is-2 : N2 ≡ P2 ++ drop (a + c) N0
           unfolding P2
-          is-2 = e2 ∙ runTurned-is (soonerAt js ks) N0 P1 a (a + c) (omega arith) sum-fits length-1 N1 is-1
+          is-2 = e2 ∙ run-is (soonerAt js ks) N0 P1 a (a + c) (omega arith) sum-fits length-1 N1 is-1
 
           length-2 : length P2 ≡ a + c
           unfolding P2
-          length-2 = runTurned-length (soonerAt js ks) N0 P1 a (a + c) (omega arith) sum-fits length-1
+          length-2 = run-long (soonerAt js ks) N0 P1 a (a + c) (omega arith) sum-fits length-1 N1 is-1
 
           whole-2 : length N2 ≡ length N0
           whole-2 = ap length is-2 ∙ length-append P2 (drop (a + c) N0) ∙ rw (length-2, length-drop (a + c) N0) (omega (arith, sum-fits))
@@ -97,14 +96,14 @@ module _ (js ks : List ℕ) (ns : List ℕ) (a c : ℕ) (out : List ℕ) (tl rl 
           range-3 T R et er = run-lent js ks ns N0 P2 N2 (a + c) (length ns) (soonerAt js ks) e0 (omega (arith, sum-fits, whole-0)) (omega (arith, whole-0))
               length-2 is-2 whole-2 (good .small) T R (length out) (kept-areas T R et er)
 
-          module _ (N3 : List ℕ) (e3 : N3 ≡ runTurned (soonerAt js ks) N2 (a + c) (length ns)) where
+          module _ (N3 : List ℕ) (e3 : N3 ≡ runKept (soonerAt js ks) N2 (a + c) (length ns)) where
             is-3 : N3 ≡ numbersAfter (soonerAt js ks) N0 a (a + c) (length N0)
             unfolding P1 P2 numbersAfter
             is-3 =
                 let r3 = run (soonerAt js ks) N0 (a + c) (length N0) in
                 let d : drop (length N0) N0 ≡ [] = drop-of-length-le N0 {i = length N0} (omega arith) in
-                e3 ∙ ap (runTurned (soonerAt js ks) N2 (a + c)) (sym whole-0)
-                ∙ runTurned-is (soonerAt js ks) N0 P2 (a + c) (length N0) sum-fits (omega arith) length-2 N2 is-2
+                e3 ∙ ap (runKept (soonerAt js ks) N2 (a + c)) (sym whole-0)
+                ∙ run-is (soonerAt js ks) N0 P2 (a + c) (length N0) sum-fits (omega arith) length-2 N2 is-2
                 ∙ ap (λ (l : List ℕ). (P2 ++ r3) ++ l) d
                 ∙ append-nil (P2 ++ r3)
                 ∙ append-assoc (run (soonerAt js ks) N0 0 a) (run (soonerAt js ks) N0 a (a + c)) r3

@@ -1,29 +1,17 @@
 -- The cases of the small functions. Assumes nothing.
-use Prim.Native.Nat.{ℕ, suc, _+_, _-_, _*_, _/_, _%_, _<_, _≤_}
+use Prim.Native.Nat.{ℕ, _+_, _-_, _*_, _/_, _%_, _<_, _≤_}
 use native.Mathlib.Omega.{arith}
 use native.Mathlib.Numerals.{add-one}
 use mathlib.Core.Path.{_≡_, refl, ap, _∙_}
 use mathlib.Core.Bool.{Bool, true, false, cond, not, _&&_}
 use mathlib.Core.List.{List, []}
 use lib.Dec.{eqb, leb}
-use lib.ListN.{length, set}
-use lib.Ieee.{Float, ofBits, binary64}
+use lib.ListN.{length}
 use borrow.Author.Tests.{eq-eqb, ne-eqb, lt-ltb, le-ltb, le-leb, lt-leb, leb-true}
-use Rattle.numerals.specs.little_endian.LittleEndian.{u64At}
 use Rattle.julian.specs.declared.JulianDate.{JulianDate}
-use Rattle.julian.specs.JulianDate.{julian}
-use Rattle.julian.specs.order.Places.{hasPlace, isEarlier}
+use Rattle.julian.specs.order.Places.{hasPlace}
 use Rattle.line_up.specs.Runs.{acceptedIn, firstOr, tested, pick, cursorAfter}
-use Rattle.line_up.specs.LineUp.{stampOf, unorderedAt, soonerAt, eightEach, lineRefusal}
-
-pub stamp-is : (js ks : List ℕ) (i a b : ℕ) (x y : Float) → a ≡ u64At js (8 * i) → b ≡ u64At ks (8 * i) → x ≡ ofBits binary64 a → y ≡ ofBits binary64 b
-    → julian x y ≡ stampOf js ks i
-unfolding stampOf
-stamp-is js ks i a b x y p q r s = rw (r, s, p, q)
-
-pub sooner-is : (js ks : List ℕ) (i j : ℕ) (a b : JulianDate) → a ≡ stampOf js ks i → b ≡ stampOf js ks j → isEarlier a b ≡ soonerAt js ks i j
-unfolding soonerAt
-sooner-is js ks i j a b p q = rw (p, q)
+use Rattle.line_up.specs.LineUp.{stampOf, unorderedAt, eightEach, lineRefusal}
 
 pub unordered-is : (js ks : List ℕ) (i : ℕ) (a : JulianDate) (r : Bool) → a ≡ stampOf js ks i → r ≡ hasPlace a → not r ≡ unorderedAt js ks i
 unfolding unorderedAt
@@ -67,14 +55,6 @@ module _ (ms : List ℕ) (to p x : ℕ) where
   pub moved-stays : (p ≡ x → ⊥) → x ≡ cursorAfter ms to p x
   unfolding cursorAfter
   moved-stays h = rw (ne-eqb p x h)
-
-pub put-is : (l : List ℕ) (at a b c d : ℕ)
-    → set (set (set (set l at a) (at + 1) b) (at + 2) c) (at + 3) d ≡ set (set (set (set l at a) (suc at) b) (suc (suc at)) c) (suc (suc (suc at))) d
-put-is l at a b c d =
-    let e : at + 1 ≡ suc at = omega arith in
-    let f : at + 2 ≡ suc (suc at) = omega arith in
-    let g : at + 3 ≡ suc (suc (suc at)) = omega arith in
-    rw (e, f, g)
 
 -- ---- the refusals of the sizes, by the outcomes of the tests
 module _ (size1 size2 n first second room : ℕ) where

@@ -1,4 +1,4 @@
--- The three cursors: each is the first accepted place that is left of its run, or the length. Assumes nothing.
+-- The three cursors: each is the end1 accepted place that is left of its run, or the length. Assumes nothing.
 use Prim.Native.Nat.{ℕ, zero, suc, _+_, _-_, _<_, _≤_}
 use native.Mathlib.Omega.{arith}
 use mathlib.Core.Path.{_≡_, refl, sym, ap, _∙_, subst}
@@ -22,7 +22,7 @@ module _ (ms : List ℕ) (to : ℕ) (tn : to ≤ length ms) where
   unfolding zeros
   acceptedIn-cons i h = ap (zeros i) (slice-cons i to ms 0 h tn)
 
-  -- ---- the first accepted place from i on, as a start
+  -- ---- the end1 accepted place from i on, as a start
 
   first-none : (i : ℕ) → to ≤ i → acceptedIn ms (firstOr (length ms) (acceptedIn ms i to)) to ≡ acceptedIn ms i to
   first-none i h = rw (acceptedIn-none i h) (acceptedIn-none (length ms) tn)
@@ -47,7 +47,7 @@ module _ (ms : List ℕ) (to : ℕ) (tn : to ≤ length ms) where
 
   -- ---- a cursor
 
-  -- x is the first accepted place from x on
+  -- x is the end1 accepted place from x on
   abbrev pub Cursor : ℕ → Type 0
   Cursor x = x ≡ firstOr (length ms) (acceptedIn ms x to)
 
@@ -112,56 +112,56 @@ module _ (ms : List ℕ) (to : ℕ) (tn : to ≤ length ms) where
 
 -- ---- the three
 
-pub record Cursors (ms : List ℕ) (first second x y z : ℕ) : Type 0 where
-  pub one : x ≡ firstOr (length ms) (acceptedIn ms x first)
-  pub two : y ≡ firstOr (length ms) (acceptedIn ms y second)
+pub record Cursors (ms : List ℕ) (end1 end2 x y z : ℕ) : Type 0 where
+  pub one : x ≡ firstOr (length ms) (acceptedIn ms x end1)
+  pub two : y ≡ firstOr (length ms) (acceptedIn ms y end2)
   pub three : z ≡ firstOr (length ms) (acceptedIn ms z (length ms))
-  pub two-low : first ≤ y
-  pub three-low : second ≤ z
+  pub two-low : end1 ≤ y
+  pub three-low : end2 ≤ z
 
-module _ (lt : ℕ → ℕ → Bool) (ms : List ℕ) (first second : ℕ) (fs : first ≤ second) (sn : second ≤ length ms) where
-  fn : first ≤ length ms
+module _ (lt : ℕ → ℕ → Bool) (ms : List ℕ) (end1 end2 : ℕ) (fs : end1 ≤ end2) (sn : end2 ≤ length ms) where
+  fn : end1 ≤ length ms
   fn = omega arith
 
   nn : length ms ≤ length ms
   nn = omega arith
 
   -- the place that goes next
-  pub next-is : (x y z : ℕ) → Cursors ms first second x y z
-      → firstOr (length ms) (merged lt ms x first y second z (length ms)) ≡ pick lt (length ms) (pick lt (length ms) x y) z
+  pub next-is : (x y z : ℕ) → Cursors ms end1 end2 x y z
+      → firstOr (length ms) (merged lt ms x end1 y end2 z (length ms)) ≡ pick lt (length ms) (pick lt (length ms) x y) z
   next-is x y z c =
-      let ux = under-more fn (acceptedIn ms x first) (acceptedIn-under ms first fn x) in
-      let uy = under-more sn (acceptedIn ms y second) (acceptedIn-under ms second sn y) in
+      let ux = under-more fn (acceptedIn ms x end1) (acceptedIn-under ms end1 fn x) in
+      let uy = under-more sn (acceptedIn ms y end2) (acceptedIn-under ms end2 sn y) in
       let uz = acceptedIn-under ms (length ms) nn z in
-      first-merge lt (length ms) (merge lt (acceptedIn ms x first) (acceptedIn ms y second)) (acceptedIn ms z (length ms))
-      (under-merge lt (length ms) (acceptedIn ms x first) (acceptedIn ms y second) ux uy) uz
+      first-merge lt (length ms) (merge lt (acceptedIn ms x end1) (acceptedIn ms y end2)) (acceptedIn ms z (length ms))
+      (under-merge lt (length ms) (acceptedIn ms x end1) (acceptedIn ms y end2) ux uy) uz
       ∙ ap (λ (q : ℕ). pick lt (length ms) q (firstOr (length ms) (acceptedIn ms z (length ms))))
-      (first-merge lt (length ms) (acceptedIn ms x first) (acceptedIn ms y second) ux uy)
-      ∙ ap (λ (q : ℕ). pick lt (length ms) (pick lt (length ms) q (firstOr (length ms) (acceptedIn ms y second)))
+      (first-merge lt (length ms) (acceptedIn ms x end1) (acceptedIn ms y end2) ux uy)
+      ∙ ap (λ (q : ℕ). pick lt (length ms) (pick lt (length ms) q (firstOr (length ms) (acceptedIn ms y end2)))
       (firstOr (length ms) (acceptedIn ms z (length ms)))) (sym (c .one))
       ∙ ap (λ (q : ℕ). pick lt (length ms) (pick lt (length ms) x q) (firstOr (length ms) (acceptedIn ms z (length ms)))) (sym (c .two))
       ∙ ap (λ (q : ℕ). pick lt (length ms) (pick lt (length ms) x y) q) (sym (c .three))
 
-  module _ (x y z p : ℕ) (c : Cursors ms first second x y z) (pn : p < length ms)
-      (e : p ≡ firstOr (length ms) (merged lt ms x first y second z (length ms))) where
-    mx : Moved ms first fn 0 p x
-    mx = move ms first fn 0 p x (c .one) pn (omega arith)
+  module _ (x y z p : ℕ) (c : Cursors ms end1 end2 x y z) (pn : p < length ms)
+      (e : p ≡ firstOr (length ms) (merged lt ms x end1 y end2 z (length ms))) where
+    mx : Moved ms end1 fn 0 p x
+    mx = move ms end1 fn 0 p x (c .one) pn (omega arith)
 
-    my : Moved ms second sn first p y
-    my = move ms second sn first p y (c .two) pn (c .two-low)
+    my : Moved ms end2 sn end1 p y
+    my = move ms end2 sn end1 p y (c .two) pn (c .two-low)
 
-    mz : Moved ms (length ms) nn second p z
-    mz = move ms (length ms) nn second p z (c .three) pn (c .three-low)
+    mz : Moved ms (length ms) nn end2 p z
+    mz = move ms (length ms) nn end2 p z (c .three) pn (c .three-low)
 
-    pub cursors-cursorAfter : Cursors ms first second (cursorAfter ms first p x) (cursorAfter ms second p y) (cursorAfter ms (length ms) p z)
+    pub cursors-cursorAfter : Cursors ms end1 end2 (cursorAfter ms end1 p x) (cursorAfter ms end2 p y) (cursorAfter ms (length ms) p z)
     cursors-cursorAfter = record { one = mx .cursor; two = my .cursor; three = mz .cursor; two-low = my .low; three-low = mz .low }
 
-    pub merged-cursorAfter : merged lt ms x first y second z (length ms) ≡ p ∷ merged lt ms (cursorAfter ms first p x) first (cursorAfter ms second p y)
-        second (cursorAfter ms (length ms) p z) (length ms)
+    pub merged-cursorAfter : merged lt ms x end1 y end2 z (length ms) ≡ p ∷ merged lt ms (cursorAfter ms end1 p x) end1 (cursorAfter ms end2 p y)
+        end2 (cursorAfter ms (length ms) p z) (length ms)
     merged-cursorAfter =
-        let ux = acceptedIn-under ms first fn x in
-        three-step lt (length ms) first second p (acceptedIn ms x first) (acceptedIn ms y second) (acceptedIn ms z (length ms)) fs ux
-        (under-more fs (acceptedIn ms x first) ux)
-        (from-less (c .two-low) (acceptedIn ms y second) (zeros-from y (slice y second ms))) (acceptedIn-under ms second sn y)
+        let ux = acceptedIn-under ms end1 fn x in
+        three-step lt (length ms) end1 end2 p (acceptedIn ms x end1) (acceptedIn ms y end2) (acceptedIn ms z (length ms)) fs ux
+        (under-more fs (acceptedIn ms x end1) ux)
+        (from-less (c .two-low) (acceptedIn ms y end2) (zeros-from y (slice y end2 ms))) (acceptedIn-under ms end2 sn y)
         (from-less (c .three-low) (acceptedIn ms z (length ms)) (zeros-from z (slice z (length ms) ms))) pn e
         ∙ rw (mx .list, my .list, mz .list)

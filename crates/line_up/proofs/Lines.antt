@@ -10,11 +10,10 @@ use lib.Dec.{ltb}
 use lib.ListN.{length, getD, drop}
 use lib.Seq.{drop-drop}
 use borrow.Author.Tests.{ltb-true, ltb-false}
-use Rattle.line_up.proofs.keep_most.Housing.{run-is, run-long, run-number}
-use Rattle.line_up.specs.keep_dates.Asked.{AllOrdered, Lent}
-use Rattle.line_up.specs.Runs.{allTested, run}
+use Rattle.line_up.proofs.keep.Places.{run-number}
+use Rattle.line_up.specs.keep.Asked.{NoneUnordered, Lent}
+use Rattle.line_up.specs.Runs.{allTested}
 use Rattle.line_up.specs.LineUp.{unorderedAt, smaller, leastRoom}
-use Rattle.line_up.specs.Asked.{runTurned}
 use Rattle.line_up.proofs.Testing.{tested-length}
 use Rattle.line_up.proofs.Unordered.{zero-sound}
 
@@ -47,19 +46,12 @@ rooms n out tails ranks h =
     let y = four-smaller (ltb tails ranks) n tails ranks refl (x .1) in
     record { outRoom = x .0; tailRoom = y .0; rankRoom = y .1 }
 
-module _ (lt : ℕ → ℕ → Bool) (ns P : List ℕ) (from to : ℕ) (ft : from ≤ to) (tn : to ≤ length ns) (len : length P ≡ from) where
-  pub runTurned-is : (N : List ℕ) → N ≡ P ++ drop from ns → runTurned lt N from to ≡ (P ++ run lt ns from to) ++ drop to ns
-  runTurned-is N e = run-is lt ns P from to ft tn len N e
-
-  pub runTurned-length : length (P ++ run lt ns from to) ≡ to
-  runTurned-length = run-long lt ns P from to ft tn len (P ++ drop from ns) refl
-
 -- what a run is lent, where the runs before it left P and the unordered are left out
 module _ (js ks come N0 P N : List ℕ) (from to : ℕ) (lt : ℕ → ℕ → Bool) (e0 : N0 ≡ allTested (unorderedAt js ks) 0 come) (ft : from ≤ to)
     (tn : to ≤ length N0) (len : length P ≡ from) (e : N ≡ P ++ drop from N0)
     (long : length N ≡ length N0) (few : length N0 ≤ 4294967295) where
-  pub run-alive : AllOrdered js ks N from to
-  run-alive p h k z =
+  pub run-ordered : NoneUnordered js ks N from to
+  run-ordered p h k z =
       let m : getD N0 p 0 ≡ 0 = sym (run-number lt N0 P from to ft tn len N e p 0 h) ∙ z in
       let q : p < length come = omega (arith, ap length e0, tested-length (unorderedAt js ks) 0 come) in
       zero-sound (unorderedAt js ks) come p q (ap (λ (l : List ℕ). getD l p 0) (sym e0) ∙ m) .1
@@ -71,5 +63,5 @@ module _ (js ks come N0 P N : List ℕ) (from to : ℕ) (lt : ℕ → ℕ → Bo
     small = omega arith;
     tailRoom = omega (arith, r .tailRoom);
     rankRoom = omega (arith, r .rankRoom);
-    alive = run-alive;
+    ordered = run-ordered;
   }

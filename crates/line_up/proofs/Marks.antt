@@ -5,9 +5,9 @@ use mathlib.Core.Bool.{Bool}
 use mathlib.Core.List.{List, [], _∷_}
 use lib.ListN.{length}
 use lib.Seq.{slice, length-slice}
-use Rattle.line_up.specs.keep_most.Piles.{zeros}
-use Rattle.line_up.proofs.keep_most.Theorems.{kept-length}
-use Rattle.line_up.proofs.keep_most.Housing.{FollowsFirst, Followed, kept-followed}
+use Rattle.line_up.specs.keep.Piles.{zeros}
+use Rattle.line_up.proofs.keep.Theorems.{kept-length}
+use Rattle.line_up.proofs.keep.Places.{FollowsFirst, Followed, kept-followed}
 use Rattle.line_up.specs.Runs.{run, After, Rising}
 
 pub length-run : (lt : ℕ → ℕ → Bool) (ns : List ℕ) (from to : ℕ) → to ≤ length ns → length (run lt ns from to) ≡ to - from

@@ -2,6 +2,5 @@
 -- The laws of the lining up: any two of a list, each place once, who is unordered, who is left out, and last the theorems.
 pub mod Pairwise
 pub mod Once
-pub mod Unordered
 pub mod Judging
 pub mod Theorems

@@ -7,7 +7,7 @@ use mathlib.Core.List.{List, [], _∷_, _++_}
 use lib.Dec.{eqb, ltb}
 use lib.ListN.{length}
 use lib.Seq.{slice}
-unfoldable pub use Rattle.line_up.specs.keep_most.Piles.{zeros, mostKept}
+unfoldable pub use Rattle.line_up.specs.keep.Piles.{zeros, mostKept}
 
 -- ---- who is unordered
 

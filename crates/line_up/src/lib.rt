@@ -1,15 +1,12 @@
 // Lining up: one order of the stamps of up to three recorders by their exact sums, in TAI. The parts of the stamps and the places are bytes, the lowest first.
 ghost use mathlib.Core.Path.{_≡_};
 ghost use lib.ListN.{length};
-ghost use lib.Seq.{sets};
 ghost use Prim.Native.Nat.{_≤_, _<_, _+_};
-ghost use Rattle.numerals.specs.little_endian.LittleEndian.{fourBytes};
 ghost use Rattle.line_up.specs.Runs as R;
 ghost use Rattle.line_up.specs.LineUp as U;
 ghost use Rattle.line_up.specs.Asked as N;
 
-pub mod keep_dates;
-pub mod keep_most;
+pub mod keep;
 
 // How many stamps are ordered, or the number of the refusal.
 pub enum LineUpAnswer {
@@ -17,33 +14,20 @@ pub enum LineUpAnswer {
     Refused(u32),
 }
 
-fn stamp_of(jd1s: &[u8], jd2s: &[u8], i: usize) -> julian::JulianDate
-    requires { ⌜ i ≤ 4294967295 ⌝ }
-    ensures { λ r. ⌜ r ≡ U.stampOf (now (jd1s .entry)) (now (jd2s .entry)) i ⌝ }
-{
-    let a = numerals::little_endian::u64_at(jd1s, 8 * i);
-    let b = numerals::little_endian::u64_at(jd2s, 8 * i);
-    let x = floats::from_bits(a);
-    let y = floats::from_bits(b);
-    julian::JulianDate::new(x, y)
-}
-
 // The number of the stamp at place i: 9 where it comes in with 0 and has no place in the order, as a NaN has none.
 fn tested(jd1s: &[u8], jd2s: &[u8], number: u8, i: usize) -> u8
-    requires { ⌜ i ≤ 4294967295 ⌝ }
     ensures { λ r. ⌜ r ≡ R.tested (U.unorderedAt (now (jd1s .entry)) (now (jd2s .entry))) number i ⌝ }
 {
     if number == 0 {
-        if !julian::order::has_place(stamp_of(jd1s, jd2s, i)) {
+        if !julian::order::has_place(crate::keep::stamp_of(jd1s, jd2s, i)) {
             return 9;
         }
     }
     number
 }
 
-// Turns away each unordered stamp that nothing refused before.
+// Refuses each unordered stamp that nothing refused before.
 fn refuse_unordered(jd1s: &[u8], jd2s: &[u8], numbers: &mut [u8])
-    requires { ⌜ length (now numbers) ≤ 4294967295 ⌝ }
     ensures { λ _. ⌜ now (numbers .exit) ≡ R.allTested (U.unorderedAt (now (jd1s .entry)) (now (jd2s .entry))) 0 (now (numbers .entry)) ⌝ }
 {
     let n = numbers.len();
@@ -53,16 +37,6 @@ fn refuse_unordered(jd1s: &[u8], jd2s: &[u8], numbers: &mut [u8])
         numbers[i] = m;
         i += 1;
     }
-}
-
-// Whether the stamp at place i comes before that at j.
-fn sooner_at(jd1s: &[u8], jd2s: &[u8], i: usize, j: usize) -> bool
-    requires { ⌜ N.BothPlaces i j ⌝ }
-    ensures { λ r. ⌜ r ≡ U.soonerAt (now (jd1s .entry)) (now (jd2s .entry)) i j ⌝ }
-{
-    let a = stamp_of(jd1s, jd2s, i);
-    let b = stamp_of(jd1s, jd2s, j);
-    julian::order::is_earlier(a, b)
 }
 
 // The first accepted place from `from` up to `to`, or the length.
@@ -94,7 +68,6 @@ fn advance(numbers: &[u8], to: usize, p: usize, x: usize) -> usize
 
 // Of two places the one that goes first; n is no place.
 fn pick(jd1s: &[u8], jd2s: &[u8], n: usize, x: usize, y: usize) -> usize
-    requires { ⌜ n ≤ 4294967295 ⌝ }
     ensures { λ r. ⌜ r ≡ R.pick (U.soonerAt (now (jd1s .entry)) (now (jd2s .entry))) n x y ⌝ }
 {
     if n <= y {
@@ -103,58 +76,43 @@ fn pick(jd1s: &[u8], jd2s: &[u8], n: usize, x: usize, y: usize) -> usize
     if n <= x {
         return y;
     }
-    if sooner_at(jd1s, jd2s, y, x) {
+    if crate::keep::sooner_at(jd1s, jd2s, y, x) {
         return y;
     }
     x
 }
 
 fn pick_of_three(jd1s: &[u8], jd2s: &[u8], n: usize, x: usize, y: usize, z: usize) -> usize
-    requires { ⌜ n ≤ 4294967295 ⌝ }
     ensures { λ r. ⌜ r ≡ R.pick (U.soonerAt (now (jd1s .entry)) (now (jd2s .entry))) n (R.pick (U.soonerAt (now (jd1s .entry)) (now (jd2s .entry))) n x y) z ⌝ }
 {
     let q = pick(jd1s, jd2s, n, x, y);
     pick(jd1s, jd2s, n, q, z)
 }
 
-fn put_place(out: &mut [u8], at: usize, p: usize)
-    requires { ⌜ at + 4 ≤ length (now out) ⌝ }
-    ensures { λ _. ⌜ now (out .exit) ≡ sets (now (out .entry)) at (fourBytes p) ⌝ }
-{
-    let a = (p % 256) as u8;
-    let b = (p / 256 % 256) as u8;
-    let c = (p / 65536 % 256) as u8;
-    let d = (p / 16777216 % 256) as u8;
-    out[at] = a;
-    out[at + 1] = b;
-    out[at + 2] = c;
-    out[at + 3] = d;
-}
-
-// The merge, with a cursor in each run: the first accepted place that is left of it, or the length.
+// The merge of the runs, which end at two places and at the length, with a cursor in each: the end1 accepted place that is left of it, or the length.
 fn merge(
     jd1s: &[u8],
     jd2s: &[u8],
     numbers: &[u8],
-    first: usize,
-    second: usize,
+    end1: usize,
+    end2: usize,
     out: &mut [u8],
 ) -> usize
-    requires { ⌜ N.Mergeable (now numbers) first second (now out) ⌝ }
-    ensures { λ r. ⌜ N.Merged (U.soonerAt (now (jd1s .entry)) (now (jd2s .entry))) (now (numbers .entry)) first second (now (out .entry)) (now (out .exit)) r
+    requires { ⌜ N.Mergeable (now numbers) end1 end2 (now out) ⌝ }
+    ensures { λ r. ⌜ N.Merged (U.soonerAt (now (jd1s .entry)) (now (jd2s .entry))) (now (numbers .entry)) end1 end2 (now (out .entry)) (now (out .exit)) r
         ⌝ }
 {
     let n = numbers.len();
-    let mut x = next_accepted(numbers, 0, first);
-    let mut y = next_accepted(numbers, first, second);
-    let mut z = next_accepted(numbers, second, n);
+    let mut x = next_accepted(numbers, 0, end1);
+    let mut y = next_accepted(numbers, end1, end2);
+    let mut z = next_accepted(numbers, end2, n);
     let mut p = pick_of_three(jd1s, jd2s, n, x, y, z);
     let mut k: usize = 0;
     while p < n {
-        put_place(out, 4 * k, p);
+        numerals::little_endian::put_nth_u32(out, k, p as u32);
         k += 1;
-        x = advance(numbers, first, p, x);
-        y = advance(numbers, second, p, y);
+        x = advance(numbers, end1, p, x);
+        y = advance(numbers, end2, p, y);
         z = advance(numbers, n, p, z);
         p = pick_of_three(jd1s, jd2s, n, x, y, z);
     }
@@ -242,9 +200,9 @@ pub fn line_up(
     }
     let rest = first + second;
     refuse_unordered(jd1s, jd2s, numbers);
-    crate::keep_dates::keep_most(jd1s, jd2s, numbers, 0, first, tails, ranks);
-    crate::keep_dates::keep_most(jd1s, jd2s, numbers, first, rest, tails, ranks);
-    crate::keep_dates::keep_most(jd1s, jd2s, numbers, rest, n, tails, ranks);
+    crate::keep::keep_most(jd1s, jd2s, numbers, 0, first, tails, ranks);
+    crate::keep::keep_most(jd1s, jd2s, numbers, first, rest, tails, ranks);
+    crate::keep::keep_most(jd1s, jd2s, numbers, rest, n, tails, ranks);
     let many = merge(jd1s, jd2s, numbers, first, rest, out) as u32;
     LineUpAnswer::Ordered(many)
 }

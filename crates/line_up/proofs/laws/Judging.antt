@@ -9,9 +9,9 @@ use lib.Dec.{eqb}
 use lib.ListN.{length, getD}
 use lib.Seq.{slice, length-slice, getD-drop, getD-take}
 use borrow.Author.Tests.{eq-eqb, eqb-true}
-use Rattle.line_up.specs.keep_most.Piles.{Order, AllOrdered, Contradicted}
-use Rattle.line_up.proofs.keep_most.Theorems.{Judged, kept-judged}
-use Rattle.line_up.proofs.keep_most.Contradicted.{turned-contradicted}
+use Rattle.line_up.specs.keep.Piles.{Order, EachZero, Contradicted}
+use Rattle.line_up.proofs.keep.Theorems.{Judged, kept-judged}
+use Rattle.line_up.proofs.keep.Contradicted.{left-out-contradicted}
 use Rattle.line_up.specs.Runs.{run, zeros, timesIn, MayFollow}
 use Rattle.line_up.specs.laws.Claims.{Each, Pairs, Contrary, RunJudged, RightlyIn}
 use Rattle.line_up.proofs.Zeros.{timesIn-zeros}
@@ -102,7 +102,7 @@ module _ (lt : ℕ → ℕ → Bool) (ns ms : List ℕ) (from to : ℕ) (ft : fr
       let d : from + (i - from) ≡ i = omega arith in
       any-default (run lt ns from to) (i - from) 1 0 (omega (arith, long)) ∙ at (i - from) (omega arith) ∙ ap (λ (q : ℕ). getD ms q 0) d ∙ e
 
-  module _ (ok : ℕ → Type 0) (order : Order ok lt) (alive : AllOrdered ok from (slice from to ns)) where
+  module _ (ok : ℕ → Type 0) (order : Order ok lt) (oks : EachZero ok from (slice from to ns)) where
     contrary-of : (i : ℕ) → Found lt (run lt ns from to) from i → Contrary lt ms from to i
     contrary-of i f =
         let h : f .index < to - from = omega (arith, f .high, long) in
@@ -124,19 +124,19 @@ module _ (lt : ℕ → ℕ → Bool) (ns ms : List ℕ) (from to : ℕ) (ft : fr
       ruling : Judged (getD (slice from to ns) (i - from) 0) (getD (run lt ns from to) (i - from) 0)
       ruling = kept-judged lt from (slice from to ns) (i - from) (omega (arith, length-slice from to ns tn))
 
-      turned-by : getD ns i 0 ≡ 0 → (getD (run lt ns from to) (i - from) 0 ≡ 0) ⊎ (getD (run lt ns from to) (i - from) 0 ≡ 17) → (getD ms i 0 ≡ 0)
+      left-out-by : getD ns i 0 ≡ 0 → (getD (run lt ns from to) (i - from) 0 ≡ 0) ⊎ (getD (run lt ns from to) (i - from) 0 ≡ 17) → (getD ms i 0 ≡ 0)
           ⊎ ((getD ms i 0 ≡ 17) × Contrary lt ms from to i)
-      turned-by e (inl q) = inl (sym now-is ∙ q)
-      turned-by e (inr q) =
+      left-out-by e (inl q) = inl (sym now-is ∙ q)
+      left-out-by e (inr q) =
           let z : getD (slice from to ns) (i - from) 1 ≡ 0 = any-default (slice from to ns) (i - from) 1 0 (omega (arith, length-slice from to ns tn))
           ∙ was-is 0 ∙ e in
           let no : getD (run lt ns from to) (i - from) 0 ≡ 0 → ⊥ = λ y. omega (arith, y, q) in
-          inr (sym now-is ∙ q, contrary-of i (found lt i from (run lt ns from to) (turned-contradicted ok lt order from (slice from to ns) alive i h z no)))
+          inr (sym now-is ∙ q, contrary-of i (found lt i from (run lt ns from to) (left-out-contradicted ok lt order from (slice from to ns) oks i h z no)))
 
       pub judged : RunJudged lt ns ms from to i
       judged = record {
         refused = λ n. sym now-is ∙ ruling .refused (λ z. n (sym (was-is 0) ∙ z)) ∙ was-is 0;
-        turned = λ e. turned-by e (ruling .accepted (was-is 0 ∙ e));
+        left-out = λ e. left-out-by e (ruling .accepted (was-is 0 ∙ e));
       }
 
   no-two : (x y : ℕ) → from ≤ x → x < y → y < to → Pairs (MayFollow lt) (zeros from (run lt ns from to)) → getD ms x 0 ≡ 0 → getD ms y 0 ≡ 0 → lt y x ≡ true → ⊥

@@ -27,15 +27,15 @@ use Rattle.line_up.specs.LineUp.{stampOf, unorderedAt, soonerAt, leastRo
 use Rattle.line_up.proofs.Cases.{fine}
 use Rattle.line_up.proofs.Testing.{tested-length}
 use Rattle.line_up.proofs.Places.{place-timesIn, after-length, ordered-rises, ordered-runs, first-run, second-run, third-run}
-use Rattle.line_up.specs.keep_most.Piles.{Order, All, AllOrdered}
-use Rattle.line_up.proofs.keep_most.Longest.{chosen-ok}
-use Rattle.line_up.proofs.keep_most.Theorems.{kept-chosen}
-use Rattle.line_up.proofs.keep_most.OfRuns.{alive, slice-most}
+use Rattle.line_up.specs.keep.Piles.{Order, All, EachZero}
+use Rattle.line_up.proofs.keep.Longest.{chosen-ok}
+use Rattle.line_up.proofs.keep.Theorems.{kept-chosen}
+use Rattle.line_up.proofs.keep.OfRuns.{zeros-ok, slice-most}
 use Rattle.line_up.proofs.Marks.{run-rises}
 use Rattle.line_up.specs.laws.Claims.{Floats, by, notInLine, Each, Pairs, InOrder, Contrary, RunJudged, RightlyIn, Overtaken, LineVerdict}
 use Rattle.line_up.specs.laws.Claims.{RunMost, OneLine, Lined}
 use Rattle.line_up.proofs.laws.Once.{any-default, two-lists}
-use Rattle.line_up.proofs.laws.Unordered.{kept, nine, stays, zero-sound}
+use Rattle.line_up.proofs.Unordered.{kept, nine, stays, zero-sound}
 use Rattle.line_up.proofs.laws.Judging.{judged, right}
 use Rattle.line_up.proofs.laws.Pairwise.{each-merge, rising-pairs, pairs-map, member, each-of-timesIn, one-list}
 
@@ -169,13 +169,13 @@ module _ (date : ℕ → JulianDate) (floats : (p : ℕ) → Floats (date p)) (c
   unfolding ns unordered
   sound p h e = sound-of date floats p (not-unordered (hasPlace (date p)) (zero-sound unordered come p (omega (arith, h, same)) e .1))
 
-  run-alive : (from to : ℕ) → from ≤ to → to ≤ length ns → AllOrdered (Sound date floats) from (slice from to ns)
-  run-alive from to h k = alive (by date) ns from to h k (Sound date floats) (sound-order date floats) (λ p u v e. sound p (omega arith) e)
+  run-ok : (from to : ℕ) → from ≤ to → to ≤ length ns → EachZero (Sound date floats) from (slice from to ns)
+  run-ok from to h k = zeros-ok (by date) ns from to h k (Sound date floats) (sound-order date floats) (λ p u v e. sound p (omega arith) e)
 
   run-sound : (from to : ℕ) → from ≤ to → to ≤ length ns → Each (Sound date floats) (zeros from (run (by date) ns from to))
   run-sound from to h k =
       all-each (Sound date floats) (zeros from (run (by date) ns from to))
-      (chosen-ok (Sound date floats) (by date) (sound-order date floats) (kept-chosen (by date) from (slice from to ns)) (run-alive from to h k))
+      (chosen-ok (Sound date floats) (by date) (sound-order date floats) (kept-chosen (by date) from (slice from to ns)) (run-ok from to h k))
 
   line-sound : Each (Sound date floats) line
   unfolding line after
@@ -272,10 +272,10 @@ module _ (date : ℕ → JulianDate) (floats : (p : ℕ) → Floats (date p)) (c
       against = by-exact (o .place) (sound-at i fi it e) (sound-at (o .place) (o .low) (o .high) (o .in-line)) (o .against);
     }
 
-    turned-by : getD ns i 0 ≡ 0 → (getD after i 0 ≡ 0) ⊎ ((getD after i 0 ≡ 17) × Contrary (by date) after from to i) → (getD after i 0 ≡ 0)
+    left-out-by : getD ns i 0 ≡ 0 → (getD after i 0 ≡ 0) ⊎ ((getD after i 0 ≡ 17) × Contrary (by date) after from to i) → (getD after i 0 ≡ 0)
         ⊎ ((getD after i 0 ≡ 17) × Overtaken date after from to i)
-    turned-by e (inl q) = inl q
-    turned-by e (inr q) = inr (q .0, overtaken e (q .1))
+    left-out-by e (inl q) = inl q
+    left-out-by e (inr q) = inr (q .0, overtaken e (q .1))
 
     i-come : i < length come
     i-come = omega (arith, h, same)
@@ -294,7 +294,7 @@ module _ (date : ℕ → JulianDate) (floats : (p : ℕ) → Floats (date p)) (c
           judged-i .refused (not-nine (getD ns i 0) q) ∙ q;
       sound = λ e d.
           let q : getD ns i 0 ≡ 0 = stays unordered come i i-come e (ap not d) in
-          turned-by q (judged-i .turned q);
+          left-out-by q (judged-i .left-out q);
       in-line = λ e o. in-run .none e (contrary e o);
     }
 
@@ -314,7 +314,7 @@ module _ (date : ℕ → JulianDate) (floats : (p : ℕ) → Floats (date p)) (c
       → LineVerdict date come after from to i
   run-verdict from to ft tn r i g h =
       verdict from to i (omega (arith, h, tn)) tn
-      (λ j f k. judged (by date) ns after from to ft tn r (Sound date floats) (sound-order date floats) (run-alive from to ft tn) j f k) g h
+      (λ j f k. judged (by date) ns after from to ft tn r (Sound date floats) (sound-order date floats) (run-ok from to ft tn) j f k) g h
       (right (by date) ns after from to ft tn r (run-pairs from to ft tn) i g h)
 
   zero-still : (to : ℕ) → to ≤ length come → (xs : List ℕ) → Each (λ (x : ℕ). (x < to) × ((getD come x 1 ≡ 0) × (hasPlace (date x) ≡ true))) xs

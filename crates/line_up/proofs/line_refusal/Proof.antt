@@ -63,29 +63,45 @@ returns-7 c =
 
 returns-8 : tie.Need-returns-8
 returns-8 c =
-    let a = c .before .before .before .before .before .before .before .before .before .before .args in
+    let at-if5 = c .before .before .before in
+    let at-if4 = at-if5 .before in
+    let at-eight-each2 = at-if4 .before in
+    let at-if3 = at-eight-each2 .before in
+    let at-eight-each = at-if3 .before in
+    let at-if2 = at-eight-each .before in
+    let at-if1 = at-if2 .before in
+    let start = at-if1 .before in
+    let a = start .args in
     too-few-places (a .size1) (a .size2) (a .n) (a .first) (a .second) (a .room)
-    (c .before .before .before .before .before .before .before .before .before .if1 .left)
-    (c .before .before .before .before .before .before .before .before .if2 .left)
-    (sym (c .before .before .before .before .before .before .before .eight-each .ensures)
-    ∙ not-false (c .before .before .before .before .before .before .before .eight-each .result)
-    (c .before .before .before .before .before .before .if3 .left))
-    (sym (c .before .before .before .before .before .eight-each2 .ensures)
-    ∙ not-false (c .before .before .before .before .before .eight-each2 .result) (c .before .before .before .before .if4 .left))
-    (c .before .before .before .if5 .left) (c .before .before .if6 .left) (c .before .if7 .left) (c .if8 .taken)
+    (at-if1 .if1 .left)
+    (at-if2 .if2 .left)
+    (sym (at-eight-each .eight-each .ensures)
+    ∙ not-false (at-eight-each .eight-each .result)
+    (at-if3 .if3 .left))
+    (sym (at-eight-each2 .eight-each2 .ensures)
+    ∙ not-false (at-eight-each2 .eight-each2 .result) (at-if4 .if4 .left))
+    (at-if5 .if5 .left) (c .before .before .if6 .left) (c .before .if7 .left) (c .if8 .taken)
 
 returns-9 : tie.Need-returns-9
 returns-9 c =
-    let a = c .before .before .before .before .before .before .before .before .before .before .args in
+    let at-if5 = c .before .before .before in
+    let at-if4 = at-if5 .before in
+    let at-eight-each2 = at-if4 .before in
+    let at-if3 = at-eight-each2 .before in
+    let at-eight-each = at-if3 .before in
+    let at-if2 = at-eight-each .before in
+    let at-if1 = at-if2 .before in
+    let start = at-if1 .before in
+    let a = start .args in
     not-refused (a .size1) (a .size2) (a .n) (a .first) (a .second) (a .room)
-    (c .before .before .before .before .before .before .before .before .before .if1 .left)
-    (c .before .before .before .before .before .before .before .before .if2 .left)
-    (sym (c .before .before .before .before .before .before .before .eight-each .ensures)
-    ∙ not-false (c .before .before .before .before .before .before .before .eight-each .result)
-    (c .before .before .before .before .before .before .if3 .left))
-    (sym (c .before .before .before .before .before .eight-each2 .ensures)
-    ∙ not-false (c .before .before .before .before .before .eight-each2 .result) (c .before .before .before .before .if4 .left))
-    (c .before .before .before .if5 .left) (c .before .before .if6 .left) (c .before .if7 .left) (c .if8 .left)
+    (at-if1 .if1 .left)
+    (at-if2 .if2 .left)
+    (sym (at-eight-each .eight-each .ensures)
+    ∙ not-false (at-eight-each .eight-each .result)
+    (at-if3 .if3 .left))
+    (sym (at-eight-each2 .eight-each2 .ensures)
+    ∙ not-false (at-eight-each2 .eight-each2 .result) (at-if4 .if4 .left))
+    (at-if5 .if5 .left) (c .before .before .if6 .left) (c .before .if7 .left) (c .if8 .left)
 
 pub line-refusal-spec : {M : Type 1} → statement M
 line-refusal-spec =

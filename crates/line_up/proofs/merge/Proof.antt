@@ -2,16 +2,19 @@
 use Prim.Native.Nat.{_-_}
 use native.Mathlib.Omega.{arith}
 use lib.ListN.{length}
+use borrow.Author.Needs.{needs}
+use mathlib.Core.Path.{_∙_}
+use Rattle.numerals.proofs.little_endian.Puts.{put-32-is}
 use Rattle.line_up.specs.LineUp.{soonerAt}
 use Rattle.line_up.proofs.Merging.{Merging, merging-starts, few-yet, room-yet, merging-goes, merging-ends}
 use Rattle.line_up.proofs.merge.Statement.{statement}
 use Rattle.line_up.proofs.merge.Tie as tie
 
 abbrev Inv-loop : tie.InvT-loop
-Inv-loop jd1s jd2s numbers first second out₀ n x₀ y₀ z₀ p₀ k₀ out x y z p k = Merging (soonerAt jd1s jd2s) numbers first second out₀ out x y z p k
+Inv-loop jd1s jd2s numbers end1 end2 out₀ n x₀ y₀ z₀ p₀ k₀ out x y z p k = Merging (soonerAt jd1s jd2s) numbers end1 end2 out₀ out x y z p k
 
 abbrev μ-loop : tie.MeasureT-loop
-μ-loop jd1s jd2s numbers first second out₀ n x₀ y₀ z₀ p₀ k₀ out x y z p k = length numbers - k
+μ-loop jd1s jd2s numbers end1 end2 out₀ n x₀ y₀ z₀ p₀ k₀ out x y z p k = length numbers - k
 
 next-accepted-requires : tie.Need-next-accepted-requires Inv-loop μ-loop
 next-accepted-requires c κs =
@@ -27,37 +30,26 @@ next-accepted-requires-3 : tie.Need-next-accepted-requires-3 Inv-loop μ-loop
 next-accepted-requires-3 c κs = omega arith
 
 pick-of-three-requires : tie.Need-pick-of-three-requires Inv-loop μ-loop
-pick-of-three-requires c κs =
-    let s = c .before .before .before .before .before .before .before in
-    s .pre .small
+pick-of-three-requires c κs = search needs
 
 loop-holds : tie.Need-loop-holds Inv-loop μ-loop
 loop-holds c =
     let s = c .before .before .before .before .before .before .before .before in
     let a = s .args in
-    merging-starts (soonerAt (a .jd1s .now) (a .jd2s .now)) (a .numbers .now) (a .first) (a .second) (s .pre .low) (s .pre .high) (a .out .now)
+    merging-starts (soonerAt (a .jd1s .now) (a .jd2s .now)) (a .numbers .now) (a .end1) (a .end2) (s .pre .low) (s .pre .high) (a .out .now)
     (c .before .before .before .next-accepted .result) (c .before .before .next-accepted2 .result) (c .before .next-accepted3 .result)
     (c .pick-of-three .result) (c .before .before .before .next-accepted .ensures) (c .before .before .next-accepted2 .ensures)
     (c .before .next-accepted3 .ensures) (c .pick-of-three .ensures)
 
-mul-put-place : tie.Need-mul-put-place Inv-loop μ-loop
-mul-put-place c =
-    let i = c .before in
-    let l = i .before in
-    let s = l .before .before .before .before .before .before .before .before .before in
-    let a = s .args in
-    let f = few-yet (soonerAt (a .jd1s .now) (a .jd2s .now)) (a .numbers .now) (a .first) (a .second) (s .pre .low) (s .pre .high) (a .out .now)
-    (l .loop .out) (l .loop .x) (l .loop .y) (l .loop .z) (l .loop .p) (l .loop .k) (l .loop .inv) (s .pre .room) (i .loop-test .taken) in
-    record { fits = omega (arith, s .pre .small, f) }
+cast-put-nth-u32 : tie.Need-cast-put-nth-u32 Inv-loop μ-loop
+cast-put-nth-u32 c =
+    let back2 = c .before .before .before .before .before .before .before .before .before in
+    let back = back2 .before .before in
+    let s = back in
+    record { fits = omega (arith, c .before .loop-test .taken, s .pre .small) }
 
-put-place-requires : tie.Need-put-place-requires Inv-loop μ-loop
-put-place-requires c κs =
-    let i = c .before in
-    let l = i .before in
-    let s = l .before .before .before .before .before .before .before .before .before in
-    let a = s .args in
-    room-yet (soonerAt (a .jd1s .now) (a .jd2s .now)) (a .numbers .now) (a .first) (a .second) (s .pre .low) (s .pre .high) (a .out .now) (l .loop .out)
-    (l .loop .x) (l .loop .y) (l .loop .z) (l .loop .p) (l .loop .k) (l .loop .inv) (s .pre .room) (i .loop-test .taken)
+put-nth-u32-requires : tie.Need-put-nth-u32-requires Inv-loop μ-loop
+put-nth-u32-requires c κs = search needs
 
 add-k : tie.Need-add-k Inv-loop μ-loop
 add-k c =
@@ -65,7 +57,7 @@ add-k c =
     let l = i .before in
     let s = l .before .before .before .before .before .before .before .before .before in
     let a = s .args in
-    let f = few-yet (soonerAt (a .jd1s .now) (a .jd2s .now)) (a .numbers .now) (a .first) (a .second) (s .pre .low) (s .pre .high) (a .out .now)
+    let f = few-yet (soonerAt (a .jd1s .now) (a .jd2s .now)) (a .numbers .now) (a .end1) (a .end2) (s .pre .low) (s .pre .high) (a .out .now)
     (l .loop .out) (l .loop .x) (l .loop .y) (l .loop .z) (l .loop .p) (l .loop .k) (l .loop .inv) (s .pre .room) (i .loop-test .taken) in
     record { fits = omega (arith, s .pre .small, f) }
 
@@ -94,12 +86,7 @@ advance-requires-3 c κs =
     (omega arith, i .loop-test .taken)
 
 pick-of-three-requires-2 : tie.Need-pick-of-three-requires-2 Inv-loop μ-loop
-pick-of-three-requires-2 c κs =
-    let i = c .before .before .before .before .before .before .before in
-    let l = i .before in
-    let s = l .before .before .before .before .before .before .before .before .before in
-    let a = s .args in
-    s .pre .small
+pick-of-three-requires-2 c κs = search needs
 
 loop-less : tie.Need-loop-less Inv-loop μ-loop
 loop-less c =
@@ -107,7 +94,7 @@ loop-less c =
     let l = i .before in
     let s = l .before .before .before .before .before .before .before .before .before in
     let a = s .args in
-    let f = few-yet (soonerAt (a .jd1s .now) (a .jd2s .now)) (a .numbers .now) (a .first) (a .second) (s .pre .low) (s .pre .high) (a .out .now)
+    let f = few-yet (soonerAt (a .jd1s .now) (a .jd2s .now)) (a .numbers .now) (a .end1) (a .end2) (s .pre .low) (s .pre .high) (a .out .now)
     (l .loop .out) (l .loop .x) (l .loop .y) (l .loop .z) (l .loop .p) (l .loop .k) (l .loop .inv) (s .pre .room) (i .loop-test .taken) in
     omega (arith, f)
 
@@ -118,10 +105,12 @@ loop-again c =
     let s = l .before .before .before .before .before .before .before .before .before in
     let a = s .args in
     let w = c .before .before .before .before .before .before in
-    merging-goes (soonerAt (a .jd1s .now) (a .jd2s .now)) (a .numbers .now) (a .first) (a .second) (s .pre .low) (s .pre .high) (a .out .now) (l .loop .out)
-    (l .loop .x) (l .loop .y) (l .loop .z) (l .loop .p) (l .loop .k) (l .loop .inv) (s .pre .room) (i .loop-test .taken) (w .put-place .last .0)
+    let room = room-yet (soonerAt (a .jd1s .now) (a .jd2s .now)) (a .numbers .now) (a .end1) (a .end2) (s .pre .low) (s .pre .high) (a .out .now)
+    (l .loop .out) (l .loop .x) (l .loop .y) (l .loop .z) (l .loop .p) (l .loop .k) (l .loop .inv) (s .pre .room) (i .loop-test .taken) in
+    merging-goes (soonerAt (a .jd1s .now) (a .jd2s .now)) (a .numbers .now) (a .end1) (a .end2) (s .pre .low) (s .pre .high) (a .out .now) (l .loop .out)
+    (l .loop .x) (l .loop .y) (l .loop .z) (l .loop .p) (l .loop .k) (l .loop .inv) (s .pre .room) (i .loop-test .taken) (w .put-nth-u32 .last .0)
     (c .before .before .before .advance .result) (c .before .before .advance2 .result) (c .before .advance3 .result) (c .pick-of-three2 .result)
-    (w .put-place .ensures) (c .before .before .before .advance .ensures) (c .before .before .advance2 .ensures) (c .before .advance3 .ensures)
+    (w .put-nth-u32 .ensures ∙ put-32-is (l .loop .out) (l .loop .k) (l .loop .p) room) (c .before .before .before .advance .ensures) (c .before .before .advance2 .ensures) (c .before .advance3 .ensures)
     (c .pick-of-three2 .ensures)
 
 same-length : tie.Need-same-length Inv-loop μ-loop
@@ -132,11 +121,11 @@ returns c =
     let l = c .before in
     let s = l .before .before .before .before .before .before .before .before .before in
     let a = s .args in
-    merging-ends (soonerAt (a .jd1s .now) (a .jd2s .now)) (a .numbers .now) (a .first) (a .second) (s .pre .low) (s .pre .high) (a .out .now) (l .loop .out)
+    merging-ends (soonerAt (a .jd1s .now) (a .jd2s .now)) (a .numbers .now) (a .end1) (a .end2) (s .pre .low) (s .pre .high) (a .out .now) (l .loop .out)
     (l .loop .x) (l .loop .y) (l .loop .z) (l .loop .p) (l .loop .k) (l .loop .inv) (c .loop-test .left)
 
 pub merge-spec : {M : Type 1} → statement M
 merge-spec =
     tie.close
-    (tie.spec Inv-loop μ-loop next-accepted-requires next-accepted-requires-2 next-accepted-requires-3 pick-of-three-requires loop-holds mul-put-place
-    put-place-requires add-k advance-requires advance-requires-2 advance-requires-3 pick-of-three-requires-2 loop-less loop-again same-length returns)
+    (tie.spec Inv-loop μ-loop next-accepted-requires next-accepted-requires-2 next-accepted-requires-3 pick-of-three-requires loop-holds cast-put-nth-u32
+    put-nth-u32-requires add-k advance-requires advance-requires-2 advance-requires-3 pick-of-three-requires-2 loop-less loop-again same-length returns)

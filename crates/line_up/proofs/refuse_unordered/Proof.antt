@@ -1,6 +1,7 @@
 -- `line_up::refuse_unordered` meets its contract. Assumes nothing.
 use Prim.Native.Nat.{_-_}
 use native.Mathlib.Omega.{arith}
+use borrow.Author.Needs.{needs}
 use Rattle.line_up.specs.LineUp.{unorderedAt}
 use Rattle.line_up.proofs.Testing.{Testing, testing-starts, testing-goes, testing-ends}
 use Rattle.line_up.proofs.refuse_unordered.Statement.{statement}
@@ -23,10 +24,7 @@ slice-read-tested c =
     omega (arith, l .loop .inv .len, c .before .loop-test .taken)
 
 tested-requires : tie.Need-tested-requires Inv-loop μ-loop
-tested-requires c κs =
-    let l = c .before .before in
-    let s = l .before .before .before .before in
-    omega (arith, s .pre, c .before .loop-test .taken)
+tested-requires c κs = search needs
 
 slice-write-numbers : tie.Need-slice-write-numbers Inv-loop μ-loop
 slice-write-numbers c =
@@ -34,10 +32,7 @@ slice-write-numbers c =
     omega (arith, l .loop .inv .len, c .before .before .loop-test .taken)
 
 add-i : tie.Need-add-i Inv-loop μ-loop
-add-i c =
-    let i = c .before .before in
-    let s = i .before .before .before .before .before in
-    record { fits = omega (arith, i .loop-test .taken, s .pre) }
+add-i c = search needs
 
 loop-less : tie.Need-loop-less Inv-loop μ-loop
 loop-less c =

@@ -14,7 +14,7 @@ use Rattle.julian.specs.Worth.{Worth}
 use Rattle.julian.specs.declared.JulianDate.{JulianDate}
 use Rattle.julian.specs.order.Places.{hasPlace, isEarlier}
 use lib.Seq.{slice}
-use Rattle.line_up.specs.keep_most.Piles.{Upward, Rises}
+use Rattle.line_up.specs.keep.Piles.{Upward, Rises}
 use Rattle.line_up.specs.Runs.{timesIn, zeros}
 use Rattle.line_up.specs.LineUp.{stampOf, placesBytes, LinedUp}
 
@@ -58,7 +58,7 @@ pub record Contrary (lt : ℕ → ℕ → Bool) (ms : List ℕ) (from to i : ℕ
 -- who came in refused keeps the number; who came in with 0 is accepted, or gets 17 and there is such a stamp
 pub record RunJudged (lt : ℕ → ℕ → Bool) (ns ms : List ℕ) (from to i : ℕ) : Type 0 where
   pub refused : (getD ns i 0 ≡ 0 → ⊥) → getD ms i 0 ≡ getD ns i 0
-  pub turned : getD ns i 0 ≡ 0 → (getD ms i 0 ≡ 0) ⊎ ((getD ms i 0 ≡ 17) × Contrary lt ms from to i)
+  pub left-out : getD ns i 0 ≡ 0 → (getD ms i 0 ≡ 0) ⊎ ((getD ms i 0 ≡ 17) × Contrary lt ms from to i)
 
 -- who is accepted has no such stamp
 pub record RightlyIn (lt : ℕ → ℕ → Bool) (ms : List ℕ) (from to i : ℕ) : Type 0 where

@@ -23,7 +23,7 @@ use Rattle.julian.specs.shifts.Shifts.{daysOf, plus, minus, converted, converte
 use Rattle.julian.proofs.shifts.Outcomes.{first, first-by}
 use Rattle.julian.proofs.shifts.SmallerPart.{map-is, mapAs}
 use Rattle.line_up.specs.LineUp.{stampOf}
-use Rattle.line_up.proofs.Cases.{stamp-is}
+use Rattle.line_up.proofs.keep.Cases.{stamp-is}
 use Rattle.runs.specs.by_formula.Asked.{changeOf, changedStamp, offsetStamp, numberOfNotFiniteAt}
 
 -- ---- a finite number's pattern

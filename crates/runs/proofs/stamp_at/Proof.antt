@@ -1,6 +1,6 @@
 -- `runs::stamp_at` meets its contract. Assumes nothing.
 use mathlib.Core.Path.{_∙_}
-use Rattle.line_up.proofs.Cases.{stamp-is}
+use Rattle.line_up.proofs.keep.Cases.{stamp-is}
 use borrow.Author.Needs.{needs}
 use Rattle.runs.proofs.stamp_at.Statement.{statement}
 use Rattle.runs.proofs.stamp_at.Tie as tie
