@@ -1,5 +1,5 @@
-// TAI-UTC by the IERS table, and the leap at the end of a day: scales/common.rs's `get_tai_utc_offset` with the table of constants.rs, and the look-ups of
-// scales/utc/mod.rs and scales/conversions/utc_tai/mod.rs. The rows that a caller may lend after the table's own are those of `leap_table::rows`.
+// TAI-UTC of a date by the IERS table, and the leap at the end of a day: scales/common.rs's `get_tai_utc_offset` with the table of constants.rs, and the
+// look-ups of scales/utc/mod.rs and scales/conversions/utc_tai/mod.rs.
 
 mod announced;
 mod fixed_rows;

@@ -1,5 +1,4 @@
-// The announced rows that a caller lends after the fixed ones of the table of TAI-UTC, and the test of such a table: document 02, item 8. They stand below the
-// look-ups of `leap_table::offsets`, so that each is proved without the other.
+// The announced rows that a caller lends after the fixed ones of the table of TAI-UTC, and the test of such a table: document 02, item 8.
 ghost use mathlib.Core.Path.{_≡_};
 ghost use lib.ListN.{length};
 ghost use Rattle.refusals.specs.Outcome.{answer, onward};

@@ -1,4 +1,4 @@
-// The table walked forward, row by row: document 02, item 2. What a walk needs of a table, for the crate `leap_table::walk`.
+// The table read forward, row by row, as a walk needs it: document 02, item 2.
 ghost use mathlib.Core.Path.{_≡_};
 ghost use Prim.Native.Nat.{_<_, _≤_};
 ghost use lib.ListN.{getD, length};
@@ -21,7 +21,7 @@ pub struct RowTerms {
     pub rate: f64,
 }
 
-// Month i of a list that has it. From a announced list, since a table that is read by an index is copied.
+// Month i of a list that has it. From a list by reference, since a table that is read by an index is copied.
 fn month_at(months: &[u64], i: usize) -> u64
     requires { ⌜ i < length (now months) ⌝ }
     ensures { λ r. ⌜ r ≡ getD (now (months .entry)) i 0 ⌝ }
