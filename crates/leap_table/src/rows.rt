@@ -7,12 +7,15 @@ ghost use Rattle.leap_table.specs.rows.Announced.{tableOf};
 ghost use Rattle.leap_table.specs.rows.Answers.{rowsOutcome};
 
 mod announced;
+mod fixed;
 
 pub use announced::announced_refusal;
 pub use announced::at_most_16;
 pub use announced::natural;
 pub use announced::size_of;
 pub use announced::table_refusal;
+pub use fixed::FIXED_ROWS;
+pub(crate) use fixed::MONTHS;
 
 // The rows that a caller lends after the fixed ones: how many by each size, their month starts (12 × year + month - 1) and their whole seconds. Places past the
 // size are not read. A call that ends in `_by_rows` takes the rows of such a table, which is tested elsewhere; one that ends in `_by_lent` takes one size and
@@ -23,9 +26,6 @@ pub struct AnnouncedRows {
     pub months: [i32; 16],
     pub seconds: [i32; 16],
 }
-
-// How many rows the fixed table has.
-pub const FIXED_ROWS: u32 = 42;
 
 // How many rows a table has, or the number of the refusal.
 pub enum RowsAnswer {
@@ -45,7 +45,7 @@ pub fn no_rows() -> AnnouncedRows
     }
 }
 
-// How many rows a table has, the fixed ones included: 42 to 58. Refusals in order: 20 the sizes, 21 a row not later than the one before, 22 a step other than
+// How many rows a table has, the fixed ones included. Refusals in order: 20 the sizes, 21 a row not later than the one before, 22 a step other than
 // one second up or down.
 pub fn check_table(table: AnnouncedRows) -> RowsAnswer
     ensures { λ r. ⌜ rowsOutcome r ≡ onward (tableOf table) (λ rows. answer (length rows)) ⌝ }
@@ -54,5 +54,5 @@ pub fn check_table(table: AnnouncedRows) -> RowsAnswer
     if number != 0 {
         return RowsAnswer::Refused(number);
     }
-    RowsAnswer::Rows(FIXED_ROWS + table.months_size)
+    RowsAnswer::Rows(FIXED_ROWS as u32 + table.months_size)
 }

@@ -4,7 +4,7 @@ ghost use mathlib.Core.List.{List};
 ghost use Prim.Native.Nat.{_+_, _<_, _≤_};
 ghost use lib.IntN.{ℤ, natAbs};
 ghost use Rattle.refusals.specs.Outcome.{answer, onward};
-ghost use Rattle.leap_table.specs.rows.Table.{starts, reached};
+ghost use Rattle.leap_table.specs.rows.Table.{fixedRows, starts, reached};
 ghost use Rattle.leap_table.specs.rows.Announced.{least, rowsIn, tableOf};
 ghost use Rattle.leap_table.specs.offsets.Leap.{offsetsOfDay, dayOffsets, leapAtEndOfDay};
 ghost use Rattle.leap_table.specs.offsets.Rule.{ruleOf, dayByRule, leapByRule};
@@ -28,8 +28,8 @@ use crate::rows::table_refusal;
 
 // The rows reached in the month of the next day: looked up again only where it is another month.
 fn next_rows_reached(size: usize, months: &[i32; 16], rows: usize, month: u64, next: u64) -> usize
-    requires { ⌜ ((seconds : List ℤ) → rows ≡ reached (starts (rowsIn size (now months) seconds)) month) × (rows ≤ 42 + least size 16) ⌝ }
-    ensures { λ r. ⌜ ((seconds : List ℤ) → r ≡ reached (starts (rowsIn size (now (months .entry)) seconds)) next) × (r ≤ 42 + least size 16) ⌝ }
+    requires { ⌜ ((seconds : List ℤ) → rows ≡ reached (starts (rowsIn size (now months) seconds)) month) × (rows ≤ fixedRows + least size 16) ⌝ }
+    ensures { λ r. ⌜ ((seconds : List ℤ) → r ≡ reached (starts (rowsIn size (now (months .entry)) seconds)) next) × (r ≤ fixedRows + least size 16) ⌝ }
 {
     if next == month {
         return rows;

@@ -1,4 +1,5 @@
--- `leap_table::offsets::whole_day::day_offsets` meets its contract: the table is tested, and the offsets are those of its rows, without the rule. Assumes nothing.
+-- `leap_table::offsets::whole_day::day_offsets` meets its contract: the table is tested, and the offsets are those of its rows, without the rule. Assumes
+-- nothing.
 use mathlib.Core.Path.{_≡_, ap, sym, _∙_}
 use mir.Facts.{toZ-ofZ}
 use borrow.Author.Needs.{needs}
