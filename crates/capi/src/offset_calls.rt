@@ -26,7 +26,7 @@ pub extern "C" fn ct_check_table(table: &[u8]) -> i64
     if number != 0 {
         return refused(number);
     }
-    (leap_table::rows::FIXED_ROWS as u32 + rows.months_size) as i64
+    (leap_table::rows::FIXED_ROWS + rows.months_size) as i64
 }
 
 fn put_offset(found: SecondsByRule, out: &mut [u8]) -> i64

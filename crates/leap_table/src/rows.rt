@@ -15,6 +15,7 @@ pub use announced::natural;
 pub use announced::size_of;
 pub use announced::table_refusal;
 pub use fixed::FIXED_ROWS;
+pub(crate) use fixed::FIXED_SIZE;
 pub(crate) use fixed::MONTHS;
 
 // The rows that a caller lends after the fixed ones: how many by each size, their month starts (12 × year + month - 1) and their whole seconds. Places past the
@@ -54,5 +55,5 @@ pub fn check_table(table: AnnouncedRows) -> RowsAnswer
     if number != 0 {
         return RowsAnswer::Refused(number);
     }
-    RowsAnswer::Rows(FIXED_ROWS as u32 + table.months_size)
+    RowsAnswer::Rows(FIXED_ROWS + table.months_size)
 }

@@ -4,7 +4,7 @@ ghost use Prim.Native.Nat.{_-_, _<_, _≤_};
 ghost use lib.ListN.{getD, drop, length};
 ghost use Rattle.leap_table.specs.rows.Table.{fixed, fixedRows, starts, reached, none};
 ghost use Rattle.leap_table.specs.offsets.Offset.{secondsOf, startOf, rateOf};
-use crate::rows::FIXED_ROWS;
+use crate::rows::FIXED_SIZE;
 use crate::rows::MONTHS;
 
 // The rows that drift: TAI-UTC in seconds, the Modified Julian Date at which the drift starts, and its seconds a day.
@@ -80,7 +80,7 @@ pub(crate) fn fixed_rows_reached(n: u64) -> usize
     ensures { λ r. ⌜ (r ≡ reached (starts fixed) n) × (r ≤ fixedRows) ⌝ }
 {
     if 23856 <= n {
-        return rows_reached(&MONTHS, FIXED_ROWS, n);
+        return rows_reached(&MONTHS, FIXED_SIZE, n);
     }
     if 23664 <= n {
         return rows_reached(&MONTHS, 28, n);

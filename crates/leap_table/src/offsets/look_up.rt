@@ -19,7 +19,7 @@ use super::fixed_rows::rate_at;
 use super::fixed_rows::seconds_at;
 use super::fixed_rows::start_at;
 use super::fixed_rows::whole_seconds;
-use crate::rows::FIXED_ROWS;
+use crate::rows::FIXED_SIZE;
 
 // A month's number as a announced one is, of which none is larger.
 fn as_announced(n: u64) -> i32
@@ -65,7 +65,7 @@ pub(crate) fn any_rows_reached(size: usize, months: &[i32; 16], n: u64) -> usize
     if found == 0 {
         return fixed_rows_reached(n);
     }
-    FIXED_ROWS + found as usize
+    FIXED_SIZE + found as usize
 }
 
 // The same, with a short way for a table that lends no rows.
@@ -84,10 +84,10 @@ pub(crate) fn seconds_of_row(seconds: &[i32; 16], rows: usize) -> f64
     ensures { λ r. ⌜ ((size : ℕ) (months : List ℤ) → rows ≤ fixedRows + least size 16
         → r ≡ secondsOf (getD (rowsIn size months (now (seconds .entry))) (rows - 1) none)) ⌝ }
 {
-    if rows <= FIXED_ROWS {
+    if rows <= FIXED_SIZE {
         return whole_seconds(rows);
     }
-    announced::seconds_at(seconds, rows - FIXED_ROWS - 1)
+    announced::seconds_at(seconds, rows - FIXED_SIZE - 1)
 }
 
 // The offset by the number of rows reached.

@@ -8,7 +8,7 @@ ghost use Rattle.leap_table.specs.rows.Announced.{announcedSize, rowsOf}
 ghost use Rattle.leap_table.specs.offsets.Offset.{offsetBy};
 ghost use Rattle.leap_table.specs.offsets.Forward.{never, byTerms};
 use crate::rows::AnnouncedRows;
-use crate::rows::FIXED_ROWS;
+use crate::rows::FIXED_SIZE;
 use crate::rows::MONTHS;
 
 // Later than the month of any date.
@@ -42,17 +42,17 @@ fn announced_size(t: AnnouncedRows) -> usize
 pub fn row_count(table: AnnouncedRows) -> usize
     ensures { λ r. ⌜ r ≡ length (rowsOf table) ⌝ }
 {
-    FIXED_ROWS + announced_size(table)
+    FIXED_SIZE + announced_size(table)
 }
 
 // The month in which row i of a table begins; past the last row, a number that is later than the month of any date.
 pub fn row_start(table: AnnouncedRows, i: usize) -> u64
     ensures { λ r. ⌜ r ≡ getD (starts (rowsOf table)) i never ⌝ }
 {
-    if i < FIXED_ROWS {
+    if i < FIXED_SIZE {
         return month_at(&MONTHS, i);
     }
-    let place = i - FIXED_ROWS;
+    let place = i - FIXED_SIZE;
     if place < announced_size(table) {
         return crate::rows::natural(table.months[place]) as u64;
     }
@@ -80,7 +80,7 @@ pub fn row_terms(table: AnnouncedRows, rows: usize) -> RowTerms
             rate: super::fixed_rows::rate_at(i),
         };
     }
-    if FIXED_ROWS + announced_size(table) <= i {
+    if FIXED_SIZE + announced_size(table) <= i {
         return RowTerms {
             drifts: false,
             seconds: 0.0,

@@ -2,7 +2,9 @@
 // file and specs/rows/Table.antt.
 
 // How many rows the fixed table has.
-pub const FIXED_ROWS: usize = 42;
+pub const FIXED_ROWS: u32 = 42;
+
+pub(crate) const FIXED_SIZE: usize = FIXED_ROWS as usize;
 
 // The month and the seconds of the last of them.
 pub(crate) const LAST_MONTH: u32 = 24204;
@@ -10,7 +12,7 @@ pub(crate) const LAST_MONTH: u32 = 24204;
 pub(crate) const LAST_SECONDS: u32 = 37;
 
 // The months in which the rows begin, numbered from January of year 0.
-pub(crate) const MONTHS: [u64; FIXED_ROWS] = [
+pub(crate) const MONTHS: [u64; FIXED_SIZE] = [
     23520, // 1960-01
     23532, // 1961-01
     23539, // 1961-08

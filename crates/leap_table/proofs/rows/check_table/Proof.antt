@@ -34,4 +34,4 @@ returns-2 c =
     ∙ taken t (r .table-refusal .result) (r .table-refusal .ensures) (λ rows. answer (length rows)) (c .before .if1 .left)
 
 pub check-table-spec : {M : Type 1} → statement M
-check-table-spec = tie.close (tie.spec (λ c κs. search needs) returns (λ c. search needs) (λ c. record { fits = omega (arith, found c .most) }) returns-2)
+check-table-spec = tie.close (tie.spec (λ c κs. search needs) returns (λ c. record { fits = omega (arith, found c .most) }) returns-2)
