@@ -5,7 +5,9 @@ A case has a function of the package, its arguments as arrays, and the single ca
 import ctypes
 import itertools
 import math
+import pathlib
 import struct
+import sys
 from typing import NamedTuple
 
 import numpy as np
@@ -14,8 +16,13 @@ import celestial_time as ct
 from celestial_time._library import library
 from celestial_time.scales import RUN_SCALES
 
+sys.path.insert(0, str(pathlib.Path(__file__).resolve().parents[1]))
+import leap_rows
+
 LIB = ctypes.CDLL(library()._name)  # not the package's own, whose functions have the package's types
-TABLE = ct.Table([(2027, 1, 38), (2028, 7, 37)])
+# Made-up rows follow the last fixed one: Y is ten years after it, S are its seconds.
+Y, S = leap_rows.ROWS[-1][0] + 10, leap_rows.LAST_SECONDS
+TABLE = ct.Table([(Y, 1, S + 1), (Y + 1, 7, S)])
 U8, U32, U64, I32, I64, F64 = ctypes.c_uint8, ctypes.c_uint32, ctypes.c_uint64, ctypes.c_int32, ctypes.c_int64, ctypes.c_double
 
 

@@ -9,6 +9,7 @@ import numpy as np
 
 import celestial_time as ct
 import singles
+from singles import leap_rows
 
 
 def single_line_up(jd1, jd2, numbers, first, second):
@@ -95,7 +96,7 @@ class Runs(unittest.TestCase):
         for table in (None, singles.TABLE):
             walked = ct.offsets_at_0h(dates, table=table)
             self.assertTrue(np.array_equal(walked.seconds, ct.dat(*dates.T, 0.0, table=table).seconds))
-            self.assertLessEqual(walked.compared, len(dates) + 58)
+            self.assertLessEqual(walked.compared, len(dates) + len(leap_rows.ROWS) + 16)
         lent = np.full(len(dates), 7.0)
         for make in (lambda a: a.astype("<i4"), lambda a: a.astype(">i8"), lambda a: np.asfortranarray(a), lambda a: a.tolist()):
             self.assertIs(ct.offsets_at_0h(make(dates), out=lent).seconds, lent)
@@ -147,13 +148,14 @@ class Runs(unittest.TestCase):
             ct.place_ticks(passes, millis, ticks, out=lent)
 
     def test_tables(self):
-        self.assertEqual((ct.Table().count, len(ct.Table()), list(ct.Table())), (42, 0, []))
-        rows = [(2027 + i, 1, 38 + i) for i in range(16)]
+        self.assertEqual((ct.Table().count, len(ct.Table()), list(ct.Table())), (len(leap_rows.ROWS), 0, []))
+        y, s = singles.Y, singles.S
+        rows = [(y + i, 1, s + 1 + i) for i in range(16)]
         full = ct.Table(rows)
-        self.assertEqual((full.count, full.rows, ct.Table.from_bytes(bytes(full))), (58, tuple(rows), full))
+        self.assertEqual((full.count, full.rows, ct.Table.from_bytes(bytes(full))), (len(leap_rows.ROWS) + 16, tuple(rows), full))
         self.assertEqual(pickle.loads(pickle.dumps(full)), full)
         self.assertEqual(len({full, ct.Table(rows)}), 1)
-        for number, wrong in ((20, rows + [(2050, 1, 54)]), (20, [(2050, 1, 54)] * 100), (21, [(2017, 1, 38)]), (21, rows[:1] * 2), (22, [(2027, 1, 39)])):
+        for number, wrong in ((20, rows + [(y + 23, 1, s + 17)]), (20, [(y + 23, 1, s + 17)] * 100), (21, [(*leap_rows.WHOLE[-1][:2], s + 1)]), (21, rows[:1] * 2), (22, [(y, 1, s + 2)])):
             with self.assertRaises(ct.Refused) as raised:
                 ct.Table(wrong)
             self.assertEqual(raised.exception.number, number)

@@ -2,12 +2,16 @@
 import datetime
 import fractions
 import math
+import pathlib
 import struct
+import sys
+
+sys.path.insert(0, str(pathlib.Path(__file__).resolve().parents[1]))
+import leap_rows
 
 Exact = fractions.Fraction
 UTC, TAI, UT1, TT, GPS, TCG, TCB, TDB = range(8)
 DAY = 86400
-LEAPS = "1972-01 1972-07 1973-01 1974-01 1975-01 1976-01 1977-01 1978-01 1979-01 1980-01 1981-07 1982-07 1983-07 1985-07 1988-01 1990-01 1991-01 1992-07 1993-07 1994-07 1996-01 1997-07 1999-01 2006-01 2009-01 2012-07 2015-07 2017-01"
 
 
 def day_of(year, month):
@@ -15,7 +19,7 @@ def day_of(year, month):
     return datetime.date(year, month, 1).toordinal() + 1721424
 
 
-FIXED = [(day_of(int(m[:4]), int(m[5:])), 10 + i) for i, m in enumerate(LEAPS.split())]
+FIXED = [(day_of(y, m), s) for y, m, s in leap_rows.WHOLE]
 # 1977-01-01 and 32.184 s, in days from Julian date 0.5
 ZERO77 = Exact(day_of(1977, 1)) + Exact(32184, 1000 * DAY)
 

@@ -16,7 +16,7 @@ use c_answers::table::arrays;
 use c_answers::table::table_number;
 use leap_table::offsets::SecondsByRule;
 
-// 42 to 58.
+// The fixed rows and the announced ones.
 #[no_mangle]
 pub extern "C" fn ct_check_table(table: &[u8]) -> i64
     ensures { λ r. ⌜ r ≡ code (onward (tableBytes (now (table .entry))) (λ rows. answer (length rows))) ⌝ }
@@ -26,7 +26,7 @@ pub extern "C" fn ct_check_table(table: &[u8]) -> i64
     if number != 0 {
         return refused(number);
     }
-    (42 + rows.months_size) as i64
+    (leap_table::rows::FIXED_ROWS + rows.months_size) as i64
 }
 
 fn put_offset(found: SecondsByRule, out: &mut [u8]) -> i64

@@ -9,7 +9,7 @@ use lib.Ieee.Bits.{is-true}
 use borrow.Author.Tests.{ltb-true}
 use Rattle.refusals.specs.Outcome.{answer}
 use Rattle.leap_table.specs.declared.rows.AnnouncedRows.{AnnouncedRows}
-use Rattle.leap_table.specs.rows.Table.{Row, starts, none}
+use Rattle.leap_table.specs.rows.Table.{Row, starts, none, fixedRows}
 use Rattle.leap_table.specs.rows.Announced.{rowsTo, tableOf}
 use Rattle.leap_table.proofs.rows.InTurn.{in-turn-at}
 use Rattle.leap_table.proofs.rows.Tables.{fixed-place, announced-place, table-drifts}
@@ -38,11 +38,11 @@ module _ (t : AnnouncedRows) (rows : List Row) (e : tableOf t ≡ answer rows) w
     count = lengths t rows e .0;
     most = lengths t rows e .1;
     fixed-first = λ i h. ap (λ (l : List Row). getD l i none) all-rows ∙ fixed-place t (t .«months_size») i h;
-    announced-after = λ i h. ap (λ (l : List Row). getD l (42 + i) none) all-rows ∙ announced-place t (t .«months_size») i h;
+    announced-after = λ i h. ap (λ (l : List Row). getD l (fixedRows + i) none) all-rows ∙ announced-place t (t .«months_size») i h;
     rises = rises-at;
     by-one-second = λ i h l. near (secondsOfRow (getD rows i none)) (secondsOfRow (getD rows (suc i) none)) (row-step t rows e i h l);
     drifts = λ i h. ap (λ (l : List Row). eqb (getD l i none .rate) 0) all-rows ∙ table-drifts t (t .«months_size») i (omega (arith, h, lengths t rows e .0));
-    same-to-2017 = same-before-announced t rows e;
+    same-to-last-row = same-before-announced t rows e;
     whole = table-seconds t rows e;
     seconds = seconds-in-range t rows e;
     leaps = table-leap-on t rows e;

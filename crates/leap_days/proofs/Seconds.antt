@@ -1,4 +1,4 @@
--- THE LEAP SECONDS: from 1972 on the leap is exactly 1.0 on the 27 days of the list and exactly 0.0 on every other day; so a day has 86,401 s or 86,400 s.
+-- THE LEAP SECONDS: from 1972 on the leap is exactly 1.0 on the days of the list and exactly 0.0 on every other day; so a day has 86,401 s or 86,400 s.
 -- Assumes nothing.
 use mathlib.Core.Path.{_≡_, refl, ap, sym, _∙_}
 use mathlib.Core.Bool.{Bool, true, false, not, cond, _&&_, _||_}
@@ -22,12 +22,12 @@ use Rattle.calendar.specs.declared.CalendarDate.{CalendarDate}
 use Rattle.calendar.specs.Refusals.{nextOf}
 use Rattle.leap_table.specs.declared.rows.AnnouncedRows.{AnnouncedRows}
 use Rattle.leap_table.specs.rows.Announced.{tableOf}
-use Rattle.leap_table.specs.rows.Table.{Row, fixed, starts, reached, monthNumber, monthOf, none}
+use Rattle.leap_table.specs.rows.Table.{Row, fixed, starts, reached, monthNumber, monthOf, fixedRows}
 use Rattle.leap_table.specs.offsets.Leap.{offsetsOfDay, leapOf, leapAtEndOfDay}
 use Rattle.leap_table.proofs.rows.Reached.{member, month-later, member-later}
-use Rattle.leap_table.proofs.rows.Rows.{every, at, fixed-rises}
-use Rattle.leap_table.proofs.offsets.Years.{whole-rows, most-rows}
-use Rattle.leap_table.proofs.offsets.Cases.{forty-two-rows}
+use Rattle.leap_table.proofs.rows.Rows.{fixed-rises}
+use Rattle.leap_table.proofs.offsets.Years.{whole-rows}
+use Rattle.leap_table.proofs.offsets.WholeSeconds.{fixed-seconds}
 use Rattle.leap_table.proofs.rows.NoRows.{none-announced, fixed-taken}
 use Rattle.leap_table.proofs.offsets.TableSeconds.{seconds-stay}
 use Rattle.leap_table.proofs.offsets.Days.{leap-came}
@@ -38,10 +38,10 @@ use Rattle.leap_days.proofs.Months.{next-month-number}
 use Rattle.leap_days.proofs.TableLeaps.{no-step, one-second-more, leap-is-step}
 use Rattle.leap_days.specs.Tables.{StepLeap, no-row, row-up, row-down}
 
--- ---- 27 days, each the last of the month before one of rows 16 to 42 begins
-pub twenty-seven : length leapSeconds ≡ 27
+-- ---- as many days as the table has rows after the one of January 1972, each the last of the month before such a row begins
+pub leap-days-counted : length leapSeconds ≡ fixedRows - 15
 unfolding leapSeconds
-twenty-seven = refl
+leap-days-counted = refl
 
 -- the number of the month after a day's
 abbrev monthAfter : Day → ℕ
@@ -137,28 +137,6 @@ module _ (y m d : ℕ) (l : 1 ≤ m) (h : m ≤ 12) where
       ∙ ap (λ (n : ℕ). E && member n (map monthAfter leapSeconds)) number
       ∙ sym (all leapSeconds all-last)
 
--- ---- the rows of the fixed table from 1972 on, each a second more than the one before: computed
-countTest : ℕ → Row → Bool
-countTest k r = ltb k 14 || eqb (r .units / 10000000 + 4) k
-
-counts : T (every countTest 0 fixed)
-unfolding fixed countTest
-counts = tt
-
-fixed-seconds : (n : ℕ) → 23664 ≤ n → secondsIn fixed n + 5 ≡ reached (starts fixed) n
-unfolding countTest
-fixed-seconds n h =
-    let r = reached (starts fixed) n in
-    let w = whole-rows n h in
-    go (r - 1) (ltb (r - 1) 14) refl (omega (arith, w)) (at countTest fixed counts (r - 1) (omega (arith, w, most-rows n, forty-two-rows))) ∙ back r w
-  where
-    go : (k : ℕ) (b : Bool) → ltb k 14 ≡ b → 14 ≤ k → T (b || eqb (getD fixed k none .units / 10000000 + 4) k) → getD fixed k none .units / 10000000 + 5 ≡ suc k
-    go k true e l t = absurd (omega (arith, ltb-true k 14 e))
-    go k false e l t = omega (arith, eqb→eq (getD fixed k none .units / 10000000 + 4) k t)
-
-    back : (k : ℕ) → 15 ≤ k → suc (k - 1) ≡ k
-    back k l = omega arith
-
 module _ (n : ℕ) (h : 23664 ≤ n) (j : ℤ) where
   abbrev B : Bool
   B = member (suc n) (starts fixed)
@@ -172,7 +150,7 @@ module _ (n : ℕ) (h : 23664 ≤ n) (j : ℤ) where
       go true p =
           let q : reached (starts fixed) (suc n) ≡ suc (reached (starts fixed) n) = month-later (starts fixed) fixed-rises n ∙ rw p in
           one-second-more none-announced fixed fixed-taken n (suc n) h (omega arith) j
-          (omega (arith, q, fixed-seconds n h, fixed-seconds (suc n) (omega arith))) .0
+          (omega (arith, q, whole-rows n h, fixed-seconds n h, fixed-seconds (suc n) (omega arith))) .0
       go false p = no-step none-announced fixed fixed-taken n (suc n) h (omega arith) j (seconds-stay none-announced fixed fixed-taken n h p) .0
 
 -- ---- THE LAWS, from 1972 on

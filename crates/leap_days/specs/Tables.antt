@@ -14,7 +14,7 @@ use Rattle.floats.specs.Whole.{nought, one}
 use Rattle.calendar.specs.declared.CalendarDate.{CalendarDate}
 use Rattle.calendar.specs.Refusals.{nextOf}
 use Rattle.leap_table.specs.declared.rows.AnnouncedRows.{AnnouncedRows}
-use Rattle.leap_table.specs.rows.Table.{Row, fixed, starts, reached, monthNumber, none}
+use Rattle.leap_table.specs.rows.Table.{Row, fixed, starts, reached, monthNumber, none, fixedRows, mostRows, lastMonth, mostSeconds}
 use Rattle.leap_table.specs.rows.Announced.{announcedRow}
 use Rattle.leap_table.specs.offsets.Offset.{offsetAt, secondsIn, wholeF}
 use Rattle.leap_table.specs.offsets.Leap.{leapAtEndOfDay}
@@ -44,19 +44,20 @@ pub data LeapOn (rows : List Row) (y m d : ℤ) (x : Float) : Type 0 where
   from-1972 : 23664 ≤ monthNumber y (natAbs m) → (next : CalendarDate) → nextOf y m d ≡ answer next
       → StepLeap rows (monthNumber y (natAbs m)) (monthNumber (next .year) (next .month)) x → LeapOn rows y m d x
 
--- of the rows: the 42 fixed ones and then the announced ones, at most 58, each month later than the one before and, from place 14 on, one second more or less,
--- those of places 0 to 13 drifting and no other;
--- of TAI-UTC: before February 2017 that of the fixed table, from 1972 on 10 to 53 whole seconds at every fraction of a day; and of the leaps
+-- of the rows: the fixed ones and then the announced ones, at most sixteen, each month later than the one before and, from place 14 on, one second more or
+-- less, those of places 0 to 13 drifting and no other;
+-- of TAI-UTC: to the last fixed row's month that of the fixed table, from 1972 on 10 s to sixteen more than the last fixed row's, whole seconds at every
+-- fraction of a day; and of the leaps
 pub record EveryTable (t : AnnouncedRows) (rows : List Row) : Type 0 where
-  pub count : length rows ≡ 42 + t .«months_size»
-  pub most : length rows ≤ 58
-  pub fixed-first : (i : ℕ) → i < 42 → getD rows i none ≡ getD fixed i none
-  pub announced-after : (i : ℕ) → i < t .«months_size» → getD rows (42 + i) none ≡ announcedRow t i
+  pub count : length rows ≡ fixedRows + t .«months_size»
+  pub most : length rows ≤ mostRows
+  pub fixed-first : (i : ℕ) → i < fixedRows → getD rows i none ≡ getD fixed i none
+  pub announced-after : (i : ℕ) → i < t .«months_size» → getD rows (fixedRows + i) none ≡ announcedRow t i
   pub rises : (i : ℕ) → suc i < length rows → getD rows i none .month < getD rows (suc i) none .month
   pub by-one-second : (i : ℕ) → 14 ≤ i → suc i < length rows → (secondsOfRow (getD rows (suc i) none) ≡ secondsOfRow (getD rows i none) + 1)
       ⊎ (secondsOfRow (getD rows i none) ≡ secondsOfRow (getD rows (suc i) none) + 1)
   pub drifts : (i : ℕ) → i < length rows → eqb (getD rows i none .rate) 0 ≡ not (ltb i 14)
-  pub same-to-2017 : (n : ℕ) → n < 24205 → (mjd f : Float) → offsetAt rows n mjd f ≡ offsetAt fixed n mjd f
+  pub same-to-last-row : (n : ℕ) → n < suc lastMonth → (mjd f : Float) → offsetAt rows n mjd f ≡ offsetAt fixed n mjd f
   pub whole : (n : ℕ) → 23664 ≤ n → (mjd f : Float) → offsetAt rows n mjd f ≡ wholeF (secondsIn rows n)
-  pub seconds : (n : ℕ) → 23664 ≤ n → (10 ≤ secondsIn rows n) × (secondsIn rows n ≤ 53)
+  pub seconds : (n : ℕ) → 23664 ≤ n → (10 ≤ secondsIn rows n) × (secondsIn rows n ≤ mostSeconds)
   pub leaps : (y m d : ℤ) (x : Float) → leapAtEndOfDay rows y m d ≡ answer x → LeapOn rows y m d x

@@ -1,5 +1,4 @@
-// Which lists of dates a walk through the leap table turns away, and by which number: document 02, item 2. They stand below the walk of `leap_table::walk`, so
-// that each is proved without the other.
+// Dates in time order: which lists of dates a walk through the leap table refuses, and by which number. Document 02, item 2.
 ghost use mathlib.Core.Path.{_≡_};
 ghost use mathlib.Core.Bool.{true};
 ghost use Prim.Native.Nat.{_+_, _*_, _≤_};
@@ -13,6 +12,7 @@ mod in_bytes;
 
 use crate::rows::AnnouncedRows;
 pub use in_bytes::bytes_refusal;
+pub(crate) use in_bytes::triple_in;
 
 // A year, month and day, a date or not.
 pub struct Triple {
@@ -87,7 +87,7 @@ fn judge(before: Triple, t: Triple) -> u32
 }
 
 // Date i of a list that has it.
-fn triple_at(dates: &[i32], i: usize) -> Triple
+pub(crate) fn triple_at(dates: &[i32], i: usize) -> Triple
     requires { ⌜ 3 * i + 3 ≤ length (now dates) ⌝ }
     ensures { λ r. ⌜ r ≡ tripleAt (now (dates .entry)) i ⌝ }
 {

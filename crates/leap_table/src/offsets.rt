@@ -1,5 +1,5 @@
-// TAI-UTC by the IERS table, and the leap at the end of a day: scales/common.rs's `get_tai_utc_offset` with the table of constants.rs, and the look-ups of
-// scales/utc/mod.rs and scales/conversions/utc_tai/mod.rs. The rows that a caller may lend after the table's own are those of `leap_table::rows`.
+// TAI-UTC of a date by the IERS table, and the leap at the end of a day: scales/common.rs's `get_tai_utc_offset` with the table of constants.rs, and the
+// look-ups of scales/utc/mod.rs and scales/conversions/utc_tai/mod.rs.
 
 mod announced;
 mod fixed_rows;
@@ -11,15 +11,12 @@ mod whole_day;
 
 pub use in_day::get_tai_utc_offset;
 pub use in_day::get_tai_utc_offset_by_lent;
-pub use in_day::get_tai_utc_offset_by_rows;
 pub use in_day::offset_at_0h_by_lent;
 pub use seconds::whole_seconds_by_rows;
 pub use whole_day::day_offsets;
 pub use whole_day::day_offsets_by_lent;
-pub use whole_day::day_offsets_by_rows;
 pub use whole_day::leap_at_end_of_day;
 pub use whole_day::leap_at_end_of_day_by_lent;
-pub use whole_day::leap_at_end_of_day_by_rows;
 
 // Which row an offset was read from, counted from 0: none before 1960, one that drifts, or one of whole seconds.
 pub enum Rule {

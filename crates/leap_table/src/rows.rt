@@ -1,5 +1,4 @@
-// The announced rows that a caller lends after the fixed ones of the table of TAI-UTC, and the test of such a table: document 02, item 8. They stand below the
-// look-ups of `leap_table::offsets`, so that each is proved without the other.
+// The announced rows that a caller lends after the fixed ones of the table of TAI-UTC, and the test of such a table: document 02, item 8.
 ghost use mathlib.Core.Path.{_≡_};
 ghost use lib.ListN.{length};
 ghost use Rattle.refusals.specs.Outcome.{answer, onward};
@@ -8,12 +7,16 @@ ghost use Rattle.leap_table.specs.rows.Announced.{tableOf};
 ghost use Rattle.leap_table.specs.rows.Answers.{rowsOutcome};
 
 mod announced;
+mod fixed;
 
 pub use announced::announced_refusal;
 pub use announced::at_most_16;
 pub use announced::natural;
 pub use announced::size_of;
 pub use announced::table_refusal;
+pub use fixed::FIXED_ROWS;
+pub(crate) use fixed::FIXED_SIZE;
+pub(crate) use fixed::MONTHS;
 
 // The rows that a caller lends after the fixed ones: how many by each size, their month starts (12 × year + month - 1) and their whole seconds. Places past the
 // size are not read. A call that ends in `_by_rows` takes the rows of such a table, which is tested elsewhere; one that ends in `_by_lent` takes one size and
@@ -24,9 +27,6 @@ pub struct AnnouncedRows {
     pub months: [i32; 16],
     pub seconds: [i32; 16],
 }
-
-// How many rows the fixed table has.
-pub const FIXED_ROWS: u32 = 42;
 
 // How many rows a table has, or the number of the refusal.
 pub enum RowsAnswer {
@@ -46,7 +46,7 @@ pub fn no_rows() -> AnnouncedRows
     }
 }
 
-// How many rows a table has, the fixed ones included: 42 to 58. Refusals in order: 20 the sizes, 21 a row not later than the one before, 22 a step other than
+// How many rows a table has, the fixed ones included. Refusals in order: 20 the sizes, 21 a row not later than the one before, 22 a step other than
 // one second up or down.
 pub fn check_table(table: AnnouncedRows) -> RowsAnswer
     ensures { λ r. ⌜ rowsOutcome r ≡ onward (tableOf table) (λ rows. answer (length rows)) ⌝ }

@@ -1,8 +1,7 @@
-// TAI-UTC at 0h of many dates in time order, in one walk through the leap table: document 02, item 2. All dates are judged, by `leap_table::judging`, before
-// one offset is written.
+// TAI-UTC at 0h of many dates in time order, in one walk through the leap table: document 02, item 2. All dates are judged before one offset is written.
 ghost use mathlib.Core.Path.{_≡_};
 ghost use mathlib.Core.List.{_++_, map};
-ghost use Prim.Native.Nat.{_+_, _*_, _<_, _≤_};
+ghost use Prim.Native.Nat.{_*_, _<_, _≤_};
 ghost use lib.IntN.{natAbs};
 ghost use lib.ListN.{length, drop};
 ghost use lib.Ieee.{binary64, ofInt};
@@ -114,19 +113,6 @@ fn next_counted(w: Walk) -> u64
     w.compared + 1
 }
 
-// Date i of a list that has it.
-fn triple_at(dates: &[i32], i: usize) -> Triple
-    requires { ⌜ 3 * i + 3 ≤ length (now dates) ⌝ }
-    ensures { λ r. ⌜ r ≡ tripleAt (now (dates .entry)) i ⌝ }
-{
-    let at = 3 * i;
-    Triple {
-        year: dates[at],
-        month: dates[at + 1],
-        day: dates[at + 2],
-    }
-}
-
 // Walks through the table with n dates, writes their offsets, and says how many rows it compared.
 fn walk_all(dates: &[i32], n: usize, table: AnnouncedRows, out: &mut [f64]) -> u64
     requires { ⌜ (GoodDates (tripleAt (now dates)) n) × (T (rising (starts (rowsOf table)))) × (3 * n ≤ length (now dates)) × (n ≤ length (now out)) ⌝ }
@@ -136,7 +122,7 @@ fn walk_all(dates: &[i32], n: usize, table: AnnouncedRows, out: &mut [f64]) -> u
     let mut w = at_start(table);
     let mut i = 0;
     while i < n {
-        let t = triple_at(dates, i);
+        let t = crate::judging::triple_at(dates, i);
         let month = month_of(t);
         if w.next <= month {
             w = walk_to(w, table, month);

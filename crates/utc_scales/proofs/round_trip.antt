@@ -40,7 +40,7 @@ pub mod Cases
 pub mod Units
 -- Parts: the two parts of a date as scaled whole numbers.
 pub mod Parts
--- DaySeconds: TAI-UTC by day numbers: whole seconds, 10 to 37, with a step of 0 or 1.
+-- DaySeconds: TAI-UTC by day numbers: whole seconds, from 10 on, with a step of 0 or 1.
 pub mod DaySeconds
 -- Stretch: the fraction of a day stretched by its leap second, and TAI-UTC in days.
 pub mod Stretch

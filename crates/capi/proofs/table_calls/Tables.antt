@@ -13,7 +13,7 @@ use mir.Val.{Fits, SFits, toZ, ofZ}
 use mir.Facts.{toZ-pos}
 use Rattle.refusals.specs.Outcome.{Outcome, answer, refusal, onward}
 use Rattle.leap_table.specs.declared.rows.AnnouncedRows.{AnnouncedRows}
-use Rattle.leap_table.specs.rows.Table.{Row}
+use Rattle.leap_table.specs.rows.Table.{Row, fixedRows, mostRows}
 use Rattle.leap_table.specs.rows.Announced.{rowsOf, tableOf, unlessRefused}
 use Rattle.leap_table.proofs.rows.TableLaws.{lengths}
 use Rattle.c_answers.specs.table.TableBytes.{ofLength, tableBytes}
@@ -60,18 +60,18 @@ module _ (s : List ℕ) (t : AnnouncedRows) (n : ℕ) (e : unlessRefused n (rows
       go false p = absurd (let z : _≡_ {A = ℕ} 0 1 = cc in let no : ⊥ = omega arith in no)
 
   module _ (h : n ≡ 0) where
-    counted : (length (rowsOf t) ≡ 42 + t .«months_size») × (length (rowsOf t) ≤ 58)
+    counted : (length (rowsOf t) ≡ fixedRows + t .«months_size») × (length (rowsOf t) ≤ mostRows)
     counted = lengths t (rowsOf t) (is-taken h)
 
-    pub count-fits : Fits w32 (42 + t .«months_size»)
+    pub count-fits : Fits w32 (fixedRows + t .«months_size»)
     count-fits = record { fits = omega (arith, counted .0, counted .1) }
 
-    pub count-fits-code : SFits w64 (pos (42 + t .«months_size»))
+    pub count-fits-code : SFits w64 (pos (fixedRows + t .«months_size»))
     count-fits-code = record { sfits = omega (arith, counted .0, counted .1) }
 
-    pub count-answered : toZ w64 (42 + t .«months_size») ≡ code (onward (tableBytes s) (λ rows. answer (length rows)))
+    pub count-answered : toZ w64 (fixedRows + t .«months_size») ≡ code (onward (tableBytes s) (λ rows. answer (length rows)))
     unfolding code
     count-answered =
-        toZ-pos w64 {n = 42 + t .«months_size»} (omega (arith, counted .0, counted .1))
+        toZ-pos w64 {n = fixedRows + t .«months_size»} (omega (arith, counted .0, counted .1))
         ∙ ap pos (sym (counted .0))
         ∙ ap code (gone-on (rowsOf t) n (e ∙ f) (λ rows. answer (length rows)) h)

@@ -14,7 +14,7 @@ use mir.Val.{toZ, ofZ}
 use mir.Facts.{toZ-pos}
 use Rattle.refusals.specs.Outcome.{Outcome, answer, refusal, onward}
 use Rattle.leap_table.specs.declared.rows.AnnouncedRows.{AnnouncedRows}
-use Rattle.leap_table.specs.rows.Table.{Row}
+use Rattle.leap_table.specs.rows.Table.{Row, mostRows}
 use Rattle.leap_table.specs.rows.Announced.{tableOf}
 use Rattle.leap_table.specs.declared.walk.WalkAnswer.{WalkAnswer}
 use Rattle.leap_table.specs.declared.walk.WalkAnswer.the-variants.{Compared, Refused}
@@ -54,7 +54,7 @@ module _ (s : List ℕ) (dates l : List ℕ) where
         subst (λ (o : Outcome (List Row)). WalkDelivered (onward o next) l r out) table-in
         (record { returned = c ∙ ap code (p .says); holds = p .holds })
 
-    pub walk-count : (k : ℕ) → res ≡ Compared k → k ≤ length dates / 12 + 58
+    pub walk-count : (k : ℕ) → res ≡ Compared k → k ≤ length dates / 12 + mostRows
     unfolding walkOutcome
     walk-count k i =
         let q : answer k ≡ onward (onward (tableOf t) next) (λ w. answer (w .rowsCompared)) = sym (ap walkOutcome i) ∙ p .says in

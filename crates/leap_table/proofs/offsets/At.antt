@@ -12,7 +12,7 @@ use lib.IntN.{ℤ}
 use lib.Ieee.{Float, binary64, add, sub, mul, ofInt}
 use borrow.Author.Tests.{lt-ltb, le-ltb}
 use Rattle.floats.specs.Whole.{nought}
-use Rattle.leap_table.specs.rows.Table.{Row, fixed, starts, reached, none}
+use Rattle.leap_table.specs.rows.Table.{Row, fixed, starts, reached, none, fixedRows}
 use Rattle.leap_table.specs.offsets.Offset.{secondsOf, startOf, rateOf, byRow, offsetBy, offsetAt, rowAt}
 use Rattle.leap_table.specs.offsets.Leap.{offsets}
 use Rattle.leap_table.proofs.rows.Rows.{drifts}
@@ -59,7 +59,7 @@ module _ (k : ℕ) (mjd f : Float) where
       → add binary64 a (mul binary64 (sub binary64 (add binary64 mjd f) b) c) ≡ offsetBy fixed k mjd f
   drifting p h = row-drifts fixed k mjd f p (drifts (k - 1) (omega arith) ∙ ap not (lt-ltb (k - 1) 14 h))
 
-  pub steady : 0 < k → 14 ≤ k - 1 → k - 1 < 42 → (a : Float) → a ≡ secondsOf (rowAt k) → a ≡ offsetBy fixed k mjd f
+  pub steady : 0 < k → 14 ≤ k - 1 → k - 1 < fixedRows → (a : Float) → a ≡ secondsOf (rowAt k) → a ≡ offsetBy fixed k mjd f
   steady p h l = row-stays fixed k mjd f p (drifts (k - 1) l ∙ ap not (le-ltb (k - 1) 14 h))
 
 -- by the month

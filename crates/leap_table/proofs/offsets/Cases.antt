@@ -10,7 +10,7 @@ use Rattle.floats.specs.Whole.{one}
 use Rattle.calendar.specs.Calendar.{leapSize, lengths, daysInMonth}
 use Rattle.calendar.specs.Refusals.{validDate, nextOf}
 use Rattle.calendar.specs.DayCount.{civilCount, mjdNumber, mjdOf}
-use Rattle.leap_table.specs.rows.Table.{fixed, monthNumber, reached}
+use Rattle.leap_table.specs.rows.Table.{fixed, monthNumber, reached, fixedRows}
 use Rattle.leap_table.specs.offsets.Offset.{secondsOf, byRow, offsetBy, offsetAt, inDay, taiUtcOffset}
 use Rattle.leap_table.specs.offsets.Leap.{dayOffsets, leapAtEndOfDay}
 
@@ -43,8 +43,3 @@ pub no-leap : leapAtEndOfDay fixed (pos 2147483647) (pos 12) (pos 31) ≡ refusa
 unfolding leapAtEndOfDay dayOffsets nextOf taiUtcOffset onward mjdOf mjdNumber civilCount validDate daysInMonth lengths leapSize offsetAt offsetBy byRow
     secondsOf round inDay le fixed monthNumber reached
 no-leap = refl
-
--- 42 rows
-pub forty-two-rows : length fixed ≡ 42
-unfolding fixed
-forty-two-rows = refl

@@ -1,5 +1,5 @@
 -- What a rule says: the row that it names is the last that has begun, the offset is that row's, and in every table that is taken the rows of places 0 to 13
--- drift, no row has begun before 1960, and a announced row is one of place 42 or later. Assumes nothing.
+-- drift, no row has begun before 1960, and an announced row is one of place `fixedRows` or later. Assumes nothing.
 use mathlib.Core.Path.{_≡_, refl, ap, sym, _∙_}
 use mathlib.Core.Bool.{Bool, true, false, not, cond}
 use mathlib.Core.List.{List, [], _∷_}
@@ -15,7 +15,7 @@ use Rattle.floats.specs.Whole.{nought}
 use Rattle.leap_table.specs.declared.rows.AnnouncedRows.{AnnouncedRows}
 use Rattle.leap_table.specs.declared.offsets.Rule.{Rule}
 use Rattle.leap_table.specs.declared.offsets.Rule.the-variants.{Absent, Drifting, Whole}
-use Rattle.leap_table.specs.rows.Table.{Row, fixed, starts, reached, LastBegun, monthNumber, none}
+use Rattle.leap_table.specs.rows.Table.{Row, fixed, starts, reached, LastBegun, monthNumber, none, fixedRows}
 use Rattle.leap_table.specs.rows.Announced.{announcedRow, rowsTo, announcedSize, rowsOf, tableOf}
 use Rattle.leap_table.specs.offsets.Offset.{byRow, offsetBy, offsetAt}
 use Rattle.leap_table.specs.offsets.Rule.{ruleBy, ruleOf, ruleAt}
@@ -127,11 +127,12 @@ module _ (t : AnnouncedRows) (n : ℕ) where
       go true p = ltb-true n 23520 p
       go false p = absurd (omega (arith, reached-by (rowsOf t) n Absent e, no-fewer t (announcedSize t) n, one-row n (ltb-false n 23520 p)))
 
-  -- a announced row has place 42 or a later one
-  pub whole-announced : (i : ℕ) → ruleOf (rowsOf t) n ≡ Whole (42 + i) → (i < announcedSize t) × (getD (rowsOf t) (42 + i) none ≡ announcedRow t i)
+  -- an announced row has place `fixedRows` or a later one
+  pub whole-announced : (i : ℕ) → ruleOf (rowsOf t) n ≡ Whole (fixedRows + i) → (i < announcedSize t)
+      × (getD (rowsOf t) (fixedRows + i) none ≡ announcedRow t i)
   unfolding place
   whole-announced i e =
-      let h : i < announcedSize t = omega (arith, reached-by (rowsOf t) n (Whole (42 + i)) e, most-of-table t (announcedSize t) n) in
+      let h : i < announcedSize t = omega (arith, reached-by (rowsOf t) n (Whole (fixedRows + i)) e, most-of-table t (announcedSize t) n) in
       (h, announced-place t (announcedSize t) i h)
 
 -- the first row begins in January 1960

@@ -1,5 +1,5 @@
--- A table that is taken, by months: before February 2017 it is the fixed table, from 1972 on TAI-UTC is 10 to 53 whole seconds at every fraction of a day, and
--- from one month to the next it stays or steps by one second, the latter where a row begins.
+-- A table that is taken, by months: up to the last fixed row's month it is the fixed table, from 1972 on TAI-UTC is 10 to `mostSeconds` whole seconds at every
+-- fraction of a day, and from one month to the next it stays or steps by one second, the latter where a row begins.
 -- Assumes nothing.
 use mathlib.Core.Path.{_≡_, refl, ap, sym, subst, _∙_}
 use mathlib.Core.Bool.{Bool, true, false, _&&_, _||_}
@@ -17,24 +17,20 @@ use lib.Ieee.Fits.{and-l, and-r}
 use borrow.Author.Tests.{ltb-true, ltb-false}
 use Rattle.refusals.specs.Outcome.{answer}
 use Rattle.leap_table.specs.declared.rows.AnnouncedRows.{AnnouncedRows}
-use Rattle.leap_table.specs.rows.Table.{Row, fixed, starts, reached, rising, none}
+use Rattle.leap_table.specs.rows.Table.{Row, fixed, starts, reached, rising, none, fixedRows, lastMonth, lastSeconds, mostSeconds}
 use Rattle.leap_table.specs.rows.Announced.{secondsAt, announcedRow, rowsTo, announcedSize, oneApart, oneSecond, bySeconds, tableOf}
 use Rattle.leap_table.specs.offsets.Offset.{secondsOf, byRow, offsetBy, offsetAt, secondsIn, wholeF}
 use Rattle.leap_table.proofs.rows.Reached.{at-most, member, month-later}
-use Rattle.leap_table.proofs.rows.Rows.{every, at}
+use Rattle.leap_table.proofs.rows.Rows.{fixed-length, every, at}
 use Rattle.leap_table.proofs.rows.InTurn.{in-turn-at, all-hold}
 use Rattle.leap_table.proofs.rows.Tables.{table-length, fixed-place, announced-place, announced-passed, most-of-table, monthBefore, rises-more}
 use Rattle.leap_table.proofs.rows.TablesTaken.{Taken, when-taken, all-count}
 use Rattle.leap_table.proofs.rows.TableLaws.{near, high-month, table-rises, announced-seconds-near}
 use Rattle.leap_table.proofs.offsets.TableYears.{whole-rows-of, row-seconds-of}
 
--- ---- the fixed rows from place 14 on are 10 to 37 whole seconds: computed
+-- ---- the fixed rows from place 14 on are 10 to `lastSeconds` whole seconds: computed
 wholeTest : ℕ → Row → Bool
-wholeTest k r = ltb k 14 || (eqb (r .units) (10000000 * (r .units / 10000000)) && (leb 10 (r .units / 10000000) && leb (r .units / 10000000) 37))
-
-fixed-length : length fixed ≡ 42
-unfolding fixed
-fixed-length = refl
+wholeTest k r = ltb k 14 || (eqb (r .units) (10000000 * (r .units / 10000000)) && (leb 10 (r .units / 10000000) && leb (r .units / 10000000) lastSeconds))
 
 tested : T (every wholeTest 0 fixed)
 unfolding fixed wholeTest
@@ -46,29 +42,34 @@ pub record WholeRow (r : Row) (low high : ℕ) : Type 0 where
   pub at-least : low ≤ r .units / 10000000
   pub at-most : r .units / 10000000 ≤ high
 
-fixed-whole : (k : ℕ) → 14 ≤ k → k < 42 → WholeRow (getD fixed k none) 10 37
+fixed-whole : (k : ℕ) → 14 ≤ k → k < fixedRows → WholeRow (getD fixed k none) 10 lastSeconds
 unfolding wholeTest
 fixed-whole k h l = go (ltb k 14) refl (at wholeTest fixed tested k (omega (arith, fixed-length)))
   where
     go : (b : Bool) → ltb k 14 ≡ b → T
         (b || (eqb (getD fixed k none .units) (10000000 * (getD fixed k none .units / 10000000)) &&
-        (leb 10 (getD fixed k none .units / 10000000) && leb (getD fixed k none .units / 10000000) 37))) → WholeRow (getD fixed k none) 10 37
+        (leb 10 (getD fixed k none .units / 10000000) && leb (getD fixed k none .units / 10000000) lastSeconds))) → WholeRow (getD fixed k none) 10 lastSeconds
     go true e t = absurd (omega (arith, ltb-true k 14 e))
     go false e t =
         let s = getD fixed k none .units / 10000000 in
-        let p = and-l (eqb (getD fixed k none .units) (10000000 * s)) (leb 10 s && leb s 37) t in
-        let q = and-r (eqb (getD fixed k none .units) (10000000 * s)) (leb 10 s && leb s 37) t in
-        record { units = eqb→eq _ _ p; at-least = leb→le 10 s (and-l (leb 10 s) (leb s 37) q); at-most = leb→le s 37 (and-r (leb 10 s) (leb s 37) q) }
+        let p = and-l (eqb (getD fixed k none .units) (10000000 * s)) (leb 10 s && leb s lastSeconds) t in
+        let q = and-r (eqb (getD fixed k none .units) (10000000 * s)) (leb 10 s && leb s lastSeconds) t in
+        record {
+          units = eqb→eq _ _ p;
+          at-least = leb→le 10 s (and-l (leb 10 s) (leb s lastSeconds) q);
+          at-most =
+              leb→le s lastSeconds (and-r (leb 10 s) (leb s lastSeconds) q);
+        }
 
 whole-seconds-of-row : (r : Row) (s : ℕ) → r .units ≡ 10000000 * s → secondsOf r ≡ wholeF s
 unfolding secondsOf ofInt
 whole-seconds-of-row r s e = round-same binary64 false (r .units) (10 ^ 7) s 1 (omega arith) (omega arith) (omega arith)
 
-fixed-starts : length (starts fixed) ≡ 42
+fixed-starts : length (starts fixed) ≡ fixedRows
 unfolding fixed
 fixed-starts = refl
 
-placed : (t : AnnouncedRows) (n j : ℕ) → j ≤ 42 → (mjd f : Float) → offsetBy (rowsTo t n) j mjd f ≡ offsetBy fixed j mjd f
+placed : (t : AnnouncedRows) (n j : ℕ) → j ≤ fixedRows → (mjd f : Float) → offsetBy (rowsTo t n) j mjd f ≡ offsetBy fixed j mjd f
 unfolding offsetBy
 placed t n zero h mjd f = refl
 placed t n (suc j) h mjd f = ap (λ (r : Row). byRow r mjd f) (fixed-place t n j (omega arith))
@@ -83,11 +84,11 @@ module _ (t : AnnouncedRows) (rows : List Row) (e : tableOf t ≡ answer rows) w
   size-is : announcedSize t ≡ M
   size-is = all-count t (k .one-size) (k .most)
 
-  length-is : length rows ≡ 42 + M
-  length-is = ap length (k .all) ∙ table-length t (announcedSize t) ∙ ap (λ (n : ℕ). 42 + n) size-is
+  length-is : length rows ≡ fixedRows + M
+  length-is = ap length (k .all) ∙ table-length t (announcedSize t) ∙ ap (λ (n : ℕ). fixedRows + n) size-is
 
   -- ---- the rows from place 14 on
-  announced-whole : (i : ℕ) → i < M → WholeRow (announcedRow t i) 10 53
+  announced-whole : (i : ℕ) → i < M → WholeRow (announcedRow t i) 10 mostSeconds
   announced-whole i h =
       let (a, b) = announced-seconds-near t rows e i h in
       let g = k .most in
@@ -99,25 +100,26 @@ module _ (t : AnnouncedRows) (rows : List Row) (e : tableOf t ≡ answer rows) w
       back : (s : ℕ) → 10000000 * s ≡ 10000000 * (10000000 * s / 10000000)
       back s = omega arith
 
-  pub row-whole : (i : ℕ) → 14 ≤ i → i < length rows → WholeRow (getD rows i none) 10 53
-  row-whole i h l = go (ltb i 42) refl
+  pub row-whole : (i : ℕ) → 14 ≤ i → i < length rows → WholeRow (getD rows i none) 10 mostSeconds
+  row-whole i h l = go (ltb i fixedRows) refl
     where
-      place : (j : ℕ) → 42 ≤ j → 42 + (j - 42) ≡ j
+      place : (j : ℕ) → fixedRows ≤ j → fixedRows + (j - fixedRows) ≡ j
       place j g = omega arith
 
-      wider : {r : Row} → WholeRow r 10 37 → WholeRow r 10 53
+      wider : {r : Row} → WholeRow r 10 lastSeconds → WholeRow r 10 mostSeconds
       wider w = record { units = w .units; at-least = w .at-least; at-most = omega (arith, w .at-most) }
 
       in-rows : (j : ℕ) → getD rows j none ≡ getD (rowsTo t M) j none
       in-rows j = ap (λ (l : List Row). getD l j none) (k .all) ∙ ap (λ (n : ℕ). getD (rowsTo t n) j none) size-is
 
-      go : (b : Bool) → ltb i 42 ≡ b → WholeRow (getD rows i none) 10 53
-      go true p = subst (λ (r : Row). WholeRow r 10 53) (sym (in-rows i ∙ fixed-place t M i (ltb-true i 42 p))) (wider (fixed-whole i h (ltb-true i 42 p)))
+      go : (b : Bool) → ltb i fixedRows ≡ b → WholeRow (getD rows i none) 10 mostSeconds
+      go true p = subst (λ (r : Row). WholeRow r 10 mostSeconds) (sym (in-rows i ∙ fixed-place t M i (ltb-true i fixedRows p)))
+          (wider (fixed-whole i h (ltb-true i fixedRows p)))
       go false p =
-          let g = ltb-false i 42 p in
-          subst (λ (r : Row). WholeRow r 10 53)
-          (sym (in-rows i ∙ ap (λ (j : ℕ). getD (rowsTo t M) j none) (sym (place i g)) ∙ announced-place t M (i - 42) (omega (arith, l, length-is))))
-          (announced-whole (i - 42) (omega (arith, l, length-is)))
+          let g = ltb-false i fixedRows p in
+          subst (λ (r : Row). WholeRow r 10 mostSeconds)
+          (sym (in-rows i ∙ ap (λ (j : ℕ). getD (rowsTo t M) j none) (sym (place i g)) ∙ announced-place t M (i - fixedRows) (omega (arith, l, length-is))))
+          (announced-whole (i - fixedRows) (omega (arith, l, length-is)))
 
   pub row-step : (i : ℕ) → 14 ≤ i → suc i < length rows → oneSecond (getD rows i none) (getD rows (suc i) none) ≡ true
   row-step i h l =
@@ -144,10 +146,10 @@ module _ (t : AnnouncedRows) (rows : List Row) (e : tableOf t ≡ answer rows) w
     high-rows = subst (λ (l : List Row). reached (starts l) n ≤ length l) (sym (k .all))
         (omega (arith, most-of-table t (announcedSize t) n, table-length t (announcedSize t)))
 
-    whole-here : WholeRow (getD rows (R - 1) none) 10 53
+    whole-here : WholeRow (getD rows (R - 1) none) 10 mostSeconds
     whole-here = row-whole (R - 1) (omega (arith, low-rows)) (omega (arith, low-rows, high-rows))
 
-    pub seconds-in-range : (10 ≤ secondsIn rows n) × (secondsIn rows n ≤ 53)
+    pub seconds-in-range : (10 ≤ secondsIn rows n) × (secondsIn rows n ≤ mostSeconds)
     seconds-in-range = (whole-here .at-least, whole-here .at-most)
 
     pub table-seconds : (mjd f : Float) → offsetAt rows n mjd f ≡ wholeF (secondsIn rows n)
@@ -176,8 +178,8 @@ module _ (t : AnnouncedRows) (rows : List Row) (e : tableOf t ≡ answer rows) w
         most-later = subst (λ (l : List Row). reached (starts l) (suc n) ≤ length l) (sym (k .all))
             (omega (arith, most-of-table t (announcedSize t) (suc n), table-length t (announcedSize t)))
 
-  -- ---- before February 2017 the table is the fixed one
-  none-begun-yet : (i : ℕ) → i ≤ M → (n : ℕ) → n < 24205 → reached (starts (rowsTo t i)) n ≡ reached (starts fixed) n
+  -- ---- up to the last fixed row's month the table is the fixed one
+  none-begun-yet : (i : ℕ) → i ≤ M → (n : ℕ) → n < suc lastMonth → reached (starts (rowsTo t i)) n ≡ reached (starts fixed) n
   unfolding rowsTo
   none-begun-yet zero g n h = refl
   none-begun-yet (suc i) g n h =
@@ -185,7 +187,7 @@ module _ (t : AnnouncedRows) (rows : List Row) (e : tableOf t ≡ answer rows) w
       let (p, q) = all-hold (λ j. rising (starts (rowsTo t j))) (λ j. ltb (monthBefore t j) (announcedRow t j .month)) (rises-more t) M s i g in
       announced-passed t i n (omega (arith, high-month t i p, ltb-true (monthBefore t i) (announcedRow t i .month) q)) ∙ none-begun-yet i (omega arith) n h
 
-  pub same-before-announced : (n : ℕ) → n < 24205 → (mjd f : Float) → offsetAt rows n mjd f ≡ offsetAt fixed n mjd f
+  pub same-before-announced : (n : ℕ) → n < suc lastMonth → (mjd f : Float) → offsetAt rows n mjd f ≡ offsetAt fixed n mjd f
   unfolding offsetAt
   same-before-announced n h mjd f =
       ap (λ (l : List Row). offsetBy l (reached (starts l) n) mjd f) (k .all ∙ ap (rowsTo t) size-is)

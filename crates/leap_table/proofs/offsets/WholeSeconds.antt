@@ -9,27 +9,23 @@ use lib.IntN.{ℤ, pos, negsuc}
 use lib.Signed.{ltZ}
 use borrow.Author.Tests.{ltb-true, ltb-false, lt-ltb, le-ltb}
 use Rattle.leap_table.specs.declared.rows.AnnouncedRows.{AnnouncedRows}
-use Rattle.leap_table.specs.rows.Table.{Row, fixed, starts, reached, monthNumber, none}
+use Rattle.leap_table.specs.rows.Table.{Row, fixed, starts, reached, monthNumber, none, fixedRows}
 use Rattle.leap_table.specs.rows.Announced.{secondsAt, announcedSize, rowsOf}
 use Rattle.leap_table.specs.offsets.Offset.{secondsIn}
 use Rattle.leap_table.specs.offsets.WholeSeconds.{wholeSeconds}
-use Rattle.leap_table.proofs.rows.Rows.{every, at}
+use Rattle.leap_table.proofs.rows.Rows.{fixed-length, every, at}
 use Rattle.leap_table.proofs.offsets.Years.{most-rows, whole-rows}
 use Rattle.leap_table.proofs.rows.Tables.{fixed-place, announced-place}
 
--- ---- the row of place k, from 14 to 41, has k - 4 seconds: computed
+-- ---- the row of place k, from 14 on, has k - 4 seconds: computed
 countTest : ℕ → Row → Bool
 countTest k r = ltb k 14 || eqb (r .units / 10000000) (k - 4)
-
-fixed-length : length fixed ≡ 42
-unfolding fixed
-fixed-length = refl
 
 tested : T (every countTest 0 fixed)
 unfolding fixed countTest
 tested = tt
 
-counted : (k : ℕ) → 14 ≤ k → k < 42 → getD fixed k none .units / 10000000 ≡ k - 4
+counted : (k : ℕ) → 14 ≤ k → k < fixedRows → getD fixed k none .units / 10000000 ≡ k - 4
 unfolding countTest
 counted k h l = go (ltb k 14) refl (at countTest fixed tested k (omega (arith, fixed-length)))
   where
@@ -51,7 +47,7 @@ module _ (t : AnnouncedRows) (n k : ℕ) (e : k ≡ reached (starts (rowsOf t)) 
   here : getD (rowsOf t) (k - 1) none .units / 10000000 ≡ secondsIn (rowsOf t) n
   here = ap (λ (j : ℕ). getD (rowsOf t) (j - 1) none .units / 10000000) e
 
-  pub in-fixed-row : k ≤ 42 → k - 5 ≡ secondsIn (rowsOf t) n
+  pub in-fixed-row : k ≤ fixedRows → k - 5 ≡ secondsIn (rowsOf t) n
   in-fixed-row h =
       less k low
       ∙ sym (counted (k - 1) (omega arith) (omega arith))
@@ -61,17 +57,17 @@ module _ (t : AnnouncedRows) (n k : ℕ) (e : k ≡ reached (starts (rowsOf t)) 
       less : (j : ℕ) → 15 ≤ j → j - 5 ≡ (j - 1) - 4
       less j g = omega arith
 
-  pub in-announced-row : 42 < k → k ≤ 42 + announcedSize t → secondsAt t (k - 43) ≡ secondsIn (rowsOf t) n
+  pub in-announced-row : fixedRows < k → k ≤ fixedRows + announcedSize t → secondsAt t (k - fixedRows - 1) ≡ secondsIn (rowsOf t) n
   in-announced-row h l =
-      back (secondsAt t (k - 43))
-      ∙ ap (λ (r : Row). r .units / 10000000) (sym (announced-place t (announcedSize t) (k - 43) (omega arith)))
+      back (secondsAt t (k - fixedRows - 1))
+      ∙ ap (λ (r : Row). r .units / 10000000) (sym (announced-place t (announcedSize t) (k - fixedRows - 1) (omega arith)))
       ∙ ap (λ (j : ℕ). getD (rowsOf t) j none .units / 10000000) (place k h)
       ∙ here
     where
       back : (s : ℕ) → s ≡ 10000000 * s / 10000000
       back s = omega arith
 
-      place : (j : ℕ) → 42 < j → 42 + (j - 43) ≡ j - 1
+      place : (j : ℕ) → fixedRows < j → fixedRows + (j - fixedRows - 1) ≡ j - 1
       place j g = omega arith
 
 -- ---- the tests of the code

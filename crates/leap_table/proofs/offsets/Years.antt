@@ -15,7 +15,7 @@ use Rattle.refusals.specs.Outcome.{answer}
 use Rattle.floats.specs.Whole.{nought}
 use Rattle.calendar.proofs.Accepted.{date-accepted}
 use Rattle.calendar.proofs.Mjd.{mjd-valid}
-use Rattle.leap_table.specs.rows.Table.{Row, fixed, starts, reached, monthOf, monthNumber, none}
+use Rattle.leap_table.specs.rows.Table.{Row, fixed, starts, reached, monthOf, monthNumber, none, fixedRows}
 use Rattle.leap_table.specs.offsets.Offset.{secondsOf, offsetAt, taiUtcOffset, rowAt, wholeF}
 use Rattle.leap_table.proofs.rows.Reached.{low, high, at-most}
 use Rattle.leap_table.proofs.rows.Rows.{place, fixed-rises}
@@ -43,11 +43,11 @@ pub whole-rows : (n : ℕ) → 23664 ≤ n → 15 ≤ reached (starts fixed) n
 unfolding fixed
 whole-rows n h = low (starts fixed) 14 n (omega arith) h
 
-pub most-rows : (n : ℕ) → reached (starts fixed) n ≤ 42
+pub most-rows : (n : ℕ) → reached (starts fixed) n ≤ fixedRows
 unfolding fixed
 most-rows n = at-most (starts fixed) n
 
--- ---- the seconds of rows 15 to 42 are 10 to 37
+-- ---- the seconds of row 15 are 10, and each later row has one more
 abbrev counted : ℕ → ℕ → List ℕ
 counted zero s = []
 counted (suc n) s = s ∷ counted n (suc s)
@@ -62,22 +62,22 @@ dropped rows zero k = ap (λ (j : ℕ). getD rows j none) (sym (zero-add k))
 dropped [] (suc i) k = sym (ap (λ (j : ℕ). getD [] j none) (suc-add i k))
 dropped (r ∷ rows) (suc i) k = dropped rows i k ∙ sym (ap (λ (j : ℕ). getD (r ∷ rows) j none) (suc-add i k))
 
-listed : map secondsOf (drop 14 fixed) ≡ map wholeF (counted 28 10)
+listed : map secondsOf (drop 14 fixed) ≡ map wholeF (counted (fixedRows - 14) 10)
 unfolding fixed secondsOf round ofInt
 listed = refl
 
-in-range : length (drop 14 fixed) ≡ 28
+in-range : length (drop 14 fixed) ≡ fixedRows - 14
 unfolding fixed
 in-range = refl
 
-pub seconds-whole : (k : ℕ) → 15 ≤ k → k ≤ 42 → secondsOf (rowAt k) ≡ ofInt binary64 (pos (k - 5))
+pub seconds-whole : (k : ℕ) → 15 ≤ k → k ≤ fixedRows → secondsOf (rowAt k) ≡ ofInt binary64 (pos (k - 5))
 seconds-whole k h l =
     let j = k - 15 in
     ap (λ (i : ℕ). secondsOf (getD fixed i none)) (place-of k h)
     ∙ ap secondsOf (sym (dropped fixed 14 j))
     ∙ sym (place secondsOf (drop 14 fixed) j (omega (arith, in-range)))
     ∙ ap (λ (s : List Float). getD s j nan) listed
-    ∙ counted-at 28 10 j (omega arith)
+    ∙ counted-at (fixedRows - 14) 10 j (omega arith)
     ∙ ap wholeF (seconds-of k h)
   where
     place-of : (i : ℕ) → 15 ≤ i → i - 1 ≡ 14 + (i - 15)

@@ -72,6 +72,6 @@ reached-alike k m s l n =
     ap (λ (j : ℕ). reached (starts (rowsTo (announcedTable k k m s) j)) n) (announced-size k m s ∙ sym (announced-size k m l))
     ∙ ap (λ (x : List ℕ). reached x n) (starts-alike k k k k l m s (announcedSize (announcedTable k k m l)))
 
--- no table has more than 58 rows
+-- no table has more than `mostRows` rows
 pub few-rows : (k rows : ℕ) → rows ≤ fixedRows + least k 16 → rows ≤ mostRows
 few-rows k rows h = omega (arith, h, least-right k 16)

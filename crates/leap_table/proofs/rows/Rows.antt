@@ -1,5 +1,5 @@
--- A row's place in a list of its decimals. And what is computed over the fixed table: the rows rise, the first 14 drift and no other.
--- Assumes nothing.
+-- A row's place in a list of its decimals. And what is computed over the fixed table: how many rows it has, that they rise, and that the first 14 drift and no
+-- other. Assumes nothing.
 use mathlib.Core.Path.{_≡_, refl, sym, subst, _∙_}
 use mathlib.Core.Bool.{Bool, true, false, not, _&&_, Bool·beq}
 use mathlib.Core.List.{List, [], _∷_, map}
@@ -16,6 +16,10 @@ pub place : (f : Row → Float) (rows : List Row) (i : ℕ) → i < length rows 
 place f [] i h = absurd (not-suc-le-zero h)
 place f (r ∷ rows) zero h = refl
 place f (r ∷ rows) (suc i) h = place f rows i (le-of-suc-le-suc h)
+
+pub fixed-length : length fixed ≡ fixedRows
+unfolding fixed
+fixed-length = refl
 
 pub fixed-rises : T (rising (starts fixed))
 unfolding fixed

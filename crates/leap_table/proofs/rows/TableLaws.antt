@@ -16,7 +16,7 @@ use lib.ListN.{length, getD}
 use borrow.Author.Tests.{ltb-true, ltb-false, le-ltb, leb-true, leb-false, eqb-true, eqb-false, ne-eqb}
 use Rattle.refusals.specs.Outcome.{answer, refusal}
 use Rattle.leap_table.specs.declared.rows.AnnouncedRows.{AnnouncedRows}
-use Rattle.leap_table.specs.rows.Table.{Row, starts, rising, fixedRows, lastMonth, mostRows}
+use Rattle.leap_table.specs.rows.Table.{Row, starts, rising, fixedRows, lastMonth, mostRows, lastSeconds}
 use Rattle.leap_table.specs.rows.Announced.{natural, secondsAt, announcedRow, rowsTo, least, announcedSize, rowsOf, oneApart, bySeconds, tableOf}
 use Rattle.leap_table.specs.rows.Announced.{before, laterAt, OneStep, StepAt, Decision, sizes, order, step, taken}
 use Rattle.leap_table.proofs.rows.InTurn.{all-hold, first-fails}
@@ -96,27 +96,28 @@ module _ (t : AnnouncedRows) where
   later-read : (i : ℕ) → risesTo i ≡ true → laterAt t i ≡ laterTo i
   later-read i e = ap (λ (z : ℤ). ltZ z (getD (t .months) i (pos 0))) (month-read i e) ∙ sym (signed-later (monthBefore t i) (getD (t .months) i (pos 0)))
 
-  -- where the steps up to row i are of one second, its seconds are within i of 37
-  pub near-37 : (i : ℕ) → stepsTo i ≡ true → (37 ≤ secondsBefore t i + i) × (secondsBefore t i ≤ 37 + i)
-  near-37 zero e = (omega arith, omega arith)
-  near-37 (suc i) e =
+  -- where the steps up to row i are of one second, its seconds are within i of the last fixed row's
+  pub near-last : (i : ℕ) → stepsTo i ≡ true → (lastSeconds ≤ secondsBefore t i + i) × (secondsBefore t i ≤ lastSeconds + i)
+  near-last zero e = (omega arith, omega arith)
+  near-last (suc i) e =
       let (p, q) = all-hold stepsTo stepTo (steps-more t) (suc i) e i (omega arith) in
-      let (a, b) = near-37 i p in
+      let (a, b) = near-last i p in
       go (near (secondsBefore t i) (secondsAt t i) q) a b
     where
-      go : (secondsAt t i ≡ secondsBefore t i + 1) ⊎ (secondsBefore t i ≡ secondsAt t i + 1) → 37 ≤ secondsBefore t i + i → secondsBefore t i ≤ 37 + i
-          → (37 ≤ secondsAt t i + suc i) × (secondsAt t i ≤ 37 + suc i)
+      go : (secondsAt t i ≡ secondsBefore t i + 1) ⊎ (secondsBefore t i ≡ secondsAt t i + 1) → lastSeconds ≤ secondsBefore t i + i
+          → secondsBefore t i ≤ lastSeconds + i
+          → (lastSeconds ≤ secondsAt t i + suc i) × (secondsAt t i ≤ lastSeconds + suc i)
       go (inl e) a b = (omega arith, omega arith)
       go (inr e) a b = (omega arith, omega arith)
 
   module _ (i : ℕ) (h : i ≤ 16) (e : stepsTo i ≡ true) where
     large : 1 < secondsBefore t i
-    large = omega (arith, near-37 i e .0)
+    large = omega (arith, near-last i e .0)
 
-    seconds-read : before (pos 37) (t .seconds) i ≡ pos (secondsBefore t i)
+    seconds-read : before (pos lastSeconds) (t .seconds) i ≡ pos (secondsBefore t i)
     seconds-read = go i large
       where
-        go : (j : ℕ) → 1 < secondsBefore t j → before (pos 37) (t .seconds) j ≡ pos (secondsBefore t j)
+        go : (j : ℕ) → 1 < secondsBefore t j → before (pos lastSeconds) (t .seconds) j ≡ pos (secondsBefore t j)
         go zero g = refl
         go (suc j) g = is-positive (getD (t .seconds) j (pos 0)) (omega arith)
 
@@ -175,11 +176,11 @@ module _ (t : AnnouncedRows) (rows : List Row) (e : tableOf t ≡ answer rows) w
       let l = ap length (k .all) ∙ table-length t (announcedSize t) ∙ ap (λ (n : ℕ). fixedRows + n) (all-count t (k .one-size) (k .most)) in
       (l, omega (arith, l, k .most))
 
-  -- the seconds of announced row i, counted from 0, are within i + 1 of 37
-  pub announced-seconds-near : (i : ℕ) → i < t .«months_size» → (37 ≤ secondsAt t i + suc i) × (secondsAt t i ≤ 37 + suc i)
+  -- the seconds of announced row i, counted from 0, are within i + 1 of the last fixed row's
+  pub announced-seconds-near : (i : ℕ) → i < t .«months_size» → (lastSeconds ≤ secondsAt t i + suc i) × (secondsAt t i ≤ lastSeconds + suc i)
   announced-seconds-near i h =
       let s = ap (λ (n : ℕ). bySeconds (rowsTo t n)) (sym (all-count t (k .one-size) (k .most))) ∙ k .by-ones in
-      near-37 t (suc i) (holds-at (t .«months_size») s (suc i) h)
+      near-last t (suc i) (holds-at (t .«months_size») s (suc i) h)
     where
       holds-at : (m : ℕ) → bySeconds (rowsTo t m) ≡ true → (j : ℕ) → j ≤ m → bySeconds (rowsTo t j) ≡ true
       holds-at m s j g = go (ltb j m) refl

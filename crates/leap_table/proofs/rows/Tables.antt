@@ -11,15 +11,11 @@ use lib.ListN.{length, getD, drop, length-append, length-map, length-drop, List�
 use lib.Seq.{getD-at, drop-append-le}
 use borrow.Author.Tests.{ltb-true, ltb-false, le-ltb, leb-true, leb-false}
 use Rattle.leap_table.specs.declared.rows.AnnouncedRows.{AnnouncedRows}
-use Rattle.leap_table.specs.rows.Table.{Row, fixed, none, starts, reached, inTurn, rising, fixedRows, lastMonth}
+use Rattle.leap_table.specs.rows.Table.{Row, fixed, none, starts, reached, inTurn, rising, fixedRows, lastMonth, lastSeconds}
 use Rattle.leap_table.specs.rows.Announced.{secondsAt, announcedRow, rowsTo, least, announcedSize, oneApart, oneSecond, bySeconds}
 use Rattle.leap_table.proofs.rows.Reached.{at-most, last-has-begun, last-has-not}
-use Rattle.leap_table.proofs.rows.Rows.{drifts}
+use Rattle.leap_table.proofs.rows.Rows.{fixed-length, drifts}
 use Rattle.leap_table.proofs.rows.InTurn.{lastOf, last-of-more, one-more}
-
-fixed-length : length fixed ≡ fixedRows
-unfolding fixed
-fixed-length = refl
 
 -- the smaller of two numbers is at most each
 least-left : (a b : ℕ) → least a b ≤ a
@@ -139,7 +135,7 @@ module _ (t : AnnouncedRows) where
       ∙ ap (λ (m : ℕ). rising (starts (rowsTo t n)) && ltb m (announcedRow t n .month)) (last-month n)
 
   abbrev pub secondsBefore : ℕ → ℕ
-  secondsBefore zero = 37
+  secondsBefore zero = lastSeconds
   secondsBefore (suc n) = secondsAt t n
 
   whole-more : (n : ℕ) → drop 14 (rowsTo t (suc n)) ≡ drop 14 (rowsTo t n) ++ (announcedRow t n ∷ [])
@@ -149,7 +145,7 @@ module _ (t : AnnouncedRows) where
   back-to : (s : ℕ) → 10000000 * s / 10000000 ≡ s
   back-to s = omega arith
 
-  last-seconds-fixed : lastOf none (drop 14 (rowsTo t 0)) .units / 10000000 ≡ 37
+  last-seconds-fixed : lastOf none (drop 14 (rowsTo t 0)) .units / 10000000 ≡ lastSeconds
   unfolding rowsTo fixed
   last-seconds-fixed = refl
 

@@ -8,14 +8,14 @@ use lib.Dec.{leb}
 use lib.ListN.{length, length-map}
 use Rattle.refusals.specs.Outcome.{answer, refusal, onward}
 use Rattle.refusals.proofs.Onward.{came}
-use Rattle.leap_table.specs.rows.Table.{Row, starts}
+use Rattle.leap_table.specs.rows.Table.{Row, starts, mostRows}
 use Rattle.leap_table.specs.rows.Announced.{tableOf}
 use Rattle.leap_table.specs.declared.rows.AnnouncedRows.{AnnouncedRows}
 use Rattle.leap_table.specs.declared.judging.Triple.{Triple}
 use Rattle.leap_table.specs.walk.Rows.{compared}
 use Rattle.leap_table.specs.judging.Judging.{judgedAll}
 use Rattle.leap_table.specs.walk.Walk.{monthIn, Walked, walked, walkOf}
-use Rattle.leap_table.proofs.walk.Counts.{most-58}
+use Rattle.leap_table.proofs.walk.Counts.{most-by-any}
 
 walk-is : (rows : List Row) (b : Bool) (dates : List Triple) (places : ℕ) (w : Walked) → walkOf rows b dates places ≡ answer w
     → w .rowsCompared ≡ compared (starts rows) (map monthIn dates)
@@ -32,9 +32,9 @@ walk-is rows true dates places w e = go (leb (length dates) places) e
     go false q = let z : _≡_ {A = ℕ} 0 1 = cc in absurd (omega arith)
 
 pub count-most : (t : AnnouncedRows) (b : Bool) (dates : List Triple) (places k : ℕ)
-    → answer k ≡ onward (onward (tableOf t) (λ rows. walkOf rows b dates places)) (λ w. answer (w .rowsCompared)) → k ≤ length dates + 58
+    → answer k ≡ onward (onward (tableOf t) (λ rows. walkOf rows b dates places)) (λ w. answer (w .rowsCompared)) → k ≤ length dates + mostRows
 count-most t b dates places k e =
     let (w, p, q) = came (onward (tableOf t) (λ rows. walkOf rows b dates places)) (λ w. answer (w .rowsCompared)) k (sym e) in
     let (rows, p′, q′) = came (tableOf t) (λ rows. walkOf rows b dates places) w p in
     let s : w .rowsCompared ≡ k = cc in
-    omega (arith, s, walk-is rows b dates places w q′, most-58 t rows p′ (map monthIn dates), length-map dates monthIn)
+    omega (arith, s, walk-is rows b dates places w q′, most-by-any t rows p′ (map monthIn dates), length-map dates monthIn)

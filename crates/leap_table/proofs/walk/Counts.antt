@@ -1,5 +1,5 @@
--- How many rows a walk compares: at most the dates plus the rows of the table, so the dates plus 42 in the fixed table and plus 58 in every table that is
--- taken; and the count in closed form. Assumes nothing.
+-- How many rows a walk compares: at most the dates plus the rows of the table, so the dates plus `fixedRows` in the fixed table and plus `mostRows` in every
+-- table that is taken; and the count in closed form. Assumes nothing.
 use Prim.Native.Nat.{ℕ, zero, suc, _+_, _-_, _≤_, _<_}
 use native.Mathlib.Omega.{arith}
 use mathlib.Core.Path.{_≡_, refl, ap, _∙_}
@@ -11,9 +11,10 @@ use lib.Ieee.Fits.{and-l, and-r}
 use native.Mathlib.Decide.{decLt}
 use borrow.Author.Tests.{lt-leb}
 use Rattle.refusals.specs.Outcome.{answer}
-use Rattle.leap_table.specs.rows.Table.{Row, fixed, starts, reached, rising}
+use Rattle.leap_table.specs.rows.Table.{Row, fixed, starts, reached, rising, fixedRows, mostRows}
 use Rattle.leap_table.specs.rows.Announced.{tableOf}
 use Rattle.leap_table.specs.declared.rows.AnnouncedRows.{AnnouncedRows}
+use Rattle.leap_table.proofs.rows.Rows.{fixed-length}
 use Rattle.leap_table.proofs.rows.TableLaws.{lengths}
 use Rattle.leap_table.proofs.rows.Reached.{at-most, low, high, none-begun, last-begun}
 use Rattle.leap_table.specs.walk.Rows.{heldAgainst, left, compared, inTime, lastReached, withRowLeft}
@@ -36,15 +37,11 @@ unfolding compared
 compared-most l [] = omega arith
 compared-most l (n ∷ months) = omega (arith, held-most l n, compared-most (left l n) months)
 
-fixed-length : length fixed ≡ 42
-unfolding fixed
-fixed-length = refl
+pub most-by-fixed : (months : List ℕ) → compared (starts fixed) months ≤ length months + fixedRows
+most-by-fixed months = omega (arith, compared-most (starts fixed) months, length-map fixed (λ (r : Row). r .month), fixed-length)
 
-pub most-42 : (months : List ℕ) → compared (starts fixed) months ≤ length months + 42
-most-42 months = omega (arith, compared-most (starts fixed) months, length-map fixed (λ (r : Row). r .month), fixed-length)
-
-pub most-58 : (t : AnnouncedRows) (rows : List Row) → tableOf t ≡ answer rows → (months : List ℕ) → compared (starts rows) months ≤ length months + 58
-most-58 t rows e months = omega (arith, compared-most (starts rows) months, length-map rows (λ (r : Row). r .month), lengths t rows e .1)
+pub most-by-any : (t : AnnouncedRows) (rows : List Row) → tableOf t ≡ answer rows → (months : List ℕ) → compared (starts rows) months ≤ length months + mostRows
+most-by-any t rows e months = omega (arith, compared-most (starts rows) months, length-map rows (λ (r : Row). r .month), lengths t rows e .1)
 
 -- no date compares no row
 pub compared-none : (l : List ℕ) → compared l [] ≡ 0

@@ -11,7 +11,7 @@ use lib.ListN.{length, getD, drop, List·getD-eq-default, length-map}
 use lib.Seq.{drop-cons}
 use lib.Ieee.{Float, binary64, add, sub, mul}
 use borrow.Author.Tests.{le-leb, lt-leb}
-use Rattle.leap_table.specs.rows.Table.{Row, starts, reached, rising}
+use Rattle.leap_table.specs.rows.Table.{Row, starts, reached, rising, mostRows}
 use Rattle.leap_table.specs.offsets.Forward.{never, byTerms}
 use Rattle.leap_table.specs.declared.offsets.walk_rows.RowTerms.{RowTerms}
 use Rattle.leap_table.proofs.rows.Reached.{at-most, low, high}
@@ -123,7 +123,7 @@ module _ (l : List ℕ) where
 -- ---- the rows passed in one month
 pub record Walking (rows : List Row) (month k₀ c₀ k next c : ℕ) : Type 0 where
   pub most : k ≤ length rows
-  pub small : length rows ≤ 58
+  pub small : length rows ≤ mostRows
   pub few : c₀ < 0x8000_0000_0000_0000
   pub forward : k₀ ≤ k
   pub is-next : next ≡ getD (starts rows) k never

@@ -1,11 +1,11 @@
 -- Lists of dates worked out to the end: what the closed form says of real dates. Assumes nothing.
-use Prim.Native.Nat.{ℕ}
+use Prim.Native.Nat.{ℕ, _+_}
 use mathlib.Core.Path.{_≡_, refl}
 use mathlib.Core.Bool.{true, false}
 use mathlib.Core.List.{[], _∷_}
 use lib.IntN.{pos}
 use Rattle.refusals.specs.Outcome.{answer, refusal, onward}
-use Rattle.leap_table.specs.rows.Table.{fixed, monthNumber}
+use Rattle.leap_table.specs.rows.Table.{fixed, fixedRows, monthNumber}
 use Rattle.calendar.specs.Calendar.{leapSize, lengths, daysInMonth}
 use Rattle.calendar.specs.Refusals.{validDate}
 use Rattle.leap_table.specs.declared.judging.Triple.{Triple}
@@ -16,14 +16,14 @@ use Rattle.leap_table.specs.walk.Walk.{walkOf}
 abbrev date : ℕ → ℕ → ℕ → Triple
 date y m d = triple (pos y) (pos m) (pos d)
 
--- the last day without a row, the first row's first day, and both sides of the last row's start: 42 rows are reached, and three of the dates leave one
+-- the last day without a row, the first row's first day, and both sides of the start of 2017's row: of so many fixed rows
 pub four-dates : onward (walkOf fixed true (date 1959 12 31 ∷ date 1960 1 1 ∷ date 2016 12 31 ∷ date 2017 1 1 ∷ []) 4) (λ w. answer (w .rowsCompared)) ≡
-    answer 45
+    answer (fixedRows + 3)
 unfolding walkOf judgedAll judgedAfter judgedNext earlier onward validDate daysInMonth lengths leapSize compared heldAgainst left fixed monthNumber
 four-dates = refl
 
--- the last leap second: 42 rows to 2016-12-31, and one to 2017-01-01
-pub last-leap : onward (walkOf fixed true (date 2016 12 31 ∷ date 2017 1 1 ∷ []) 2) (λ w. answer (w .rowsCompared)) ≡ answer 43
+-- the leap second of 2016: 42 rows to 2016-12-31, and one to 2017-01-01, or two where a later row is left
+pub last-leap : onward (walkOf fixed true (date 2016 12 31 ∷ date 2017 1 1 ∷ []) 2) (λ w. answer (w .rowsCompared)) ≡ answer (fixedRows + 1)
 unfolding walkOf judgedAll judgedAfter judgedNext earlier onward validDate daysInMonth lengths leapSize compared heldAgainst left fixed monthNumber
 last-leap = refl
 
@@ -40,9 +40,9 @@ pub none-and-earlier : walkOf fixed true (date 2016 12 31 ∷ date 1999 2 29 ∷
 unfolding walkOf judgedAll judgedAfter judgedNext earlier onward validDate daysInMonth lengths leapSize
 none-and-earlier = refl
 
--- equal dates pass, and the second compares no row more; a broken triple is 14 before the places are counted; 17 of an earlier date comes before a later date's
--- own number
-pub equal-pass : onward (walkOf fixed true (date 2017 1 1 ∷ date 2017 1 1 ∷ []) 2) (λ w. answer (w .rowsCompared)) ≡ answer 42
+-- equal dates pass, and the second is held against the same row again; a broken triple is 14 before the places are counted; 17 of an earlier date comes before
+-- a later date's own number
+pub equal-pass : onward (walkOf fixed true (date 2016 12 31 ∷ date 2016 12 31 ∷ []) 2) (λ w. answer (w .rowsCompared)) ≡ answer 43
 unfolding walkOf judgedAll judgedAfter judgedNext earlier onward validDate daysInMonth lengths leapSize compared heldAgainst left fixed monthNumber
 equal-pass = refl
 

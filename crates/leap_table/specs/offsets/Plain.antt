@@ -6,7 +6,7 @@ use lib.IntN.{ℤ, natAbs}
 use Rattle.refusals.specs.Outcome.{answer}
 use Rattle.calendar.specs.Calendar.{date}
 use Rattle.calendar.specs.Refusals.{nextOf}
-use Rattle.leap_table.specs.rows.Table.{fixed, monthNumber, reached, starts}
+use Rattle.leap_table.specs.rows.Table.{fixed, fixedRows, monthNumber, reached, starts}
 
 pub record Plain (y m d : ℤ) : Type 0 where
   pub same-month : nextOf y m d ≡ answer (date y (natAbs m) (natAbs d + 1))
@@ -15,4 +15,4 @@ pub record Plain (y m d : ℤ) : Type 0 where
 -- the rows reached in month n by how many announced ones are: in the fixed table where none is
 abbrev pub byFound : ℕ → ℕ → ℕ
 byFound n zero = reached (starts fixed) n
-byFound n (suc k) = 42 + suc k
+byFound n (suc k) = fixedRows + suc k

@@ -1,6 +1,6 @@
 -- The table with the announced rows that a caller lends after the fixed ones. Written from document 02, item 8: two sizes, month starts (12 × year + month - 1)
 -- and whole seconds, unread past the size. 20 for sizes unequal or above 16, then 21 for a row not later than the one before, then 22 for a step other than one
--- second up or down, each over all rows before the next; the first announced row stands after the fixed row of 2017. Assumes nothing.
+-- second up or down, each over all rows before the next; the first announced row stands after the last fixed one. Assumes nothing.
 use mathlib.Core.Path.{_≡_}
 use mathlib.Core.Logic.{_⊎_}
 use Prim.Native.Nat.{ℕ, zero, suc, _+_, _*_, _/_, _≤_, _<_}
@@ -12,7 +12,7 @@ use lib.Signed.{ltZ}
 use lib.ListN.{getD, drop}
 use Rattle.refusals.specs.Outcome.{Outcome, answer, refusal}
 use Rattle.leap_table.specs.declared.rows.AnnouncedRows.{AnnouncedRows}
-use Rattle.leap_table.specs.rows.Table.{Row, fixed, starts, inTurn, rising, lastMonth}
+use Rattle.leap_table.specs.rows.Table.{Row, fixed, starts, inTurn, rising, lastMonth, lastSeconds}
 
 -- a number counted from 0; a negative one, which no accepted table has, counts as 0
 abbrev pub natural : ℤ → ℕ
@@ -77,16 +77,16 @@ abbrev pub before : ℤ → List ℤ → ℕ → ℤ
 before z l zero = z
 before z l (suc i) = getD l i (pos 0)
 
--- the month start of place i is later than the one before, that of the first later than January 2017
+-- the month start of place i is later than the one before, that of the first later than the last fixed row's
 abbrev pub laterAt : AnnouncedRows → ℕ → Bool
 laterAt t i = ltZ (before (pos lastMonth) (t .months) i) (getD (t .months) i (pos 0))
 
--- the seconds of place i are one more or one less than those before, those of the first than 37
+-- the seconds of place i are one more or one less than those before, those of the first than the last fixed row's
 abbrev pub OneStep : ℤ → ℤ → Type 0
 OneStep a b = (b ≡ sucℤ a) ⊎ (a ≡ sucℤ b)
 
 abbrev pub StepAt : AnnouncedRows → ℕ → Type 0
-StepAt t i = OneStep (before (pos 37) (t .seconds) i) (getD (t .seconds) i (pos 0))
+StepAt t i = OneStep (before (pos lastSeconds) (t .seconds) i) (getD (t .seconds) i (pos 0))
 
 -- what becomes of a table, and why
 pub data Decision (t : AnnouncedRows) : Type 0 where

@@ -21,15 +21,22 @@ monthOf y m = 12 * y + m - 1
 abbrev pub row : ℕ → ℕ → ℕ → ℕ → ℕ → Row
 row y m u s r = record { month = monthOf y m; units = u; start = s; rate = r }
 
--- how many rows the table has, how many it has with sixteen announced ones, and the month of its last
+-- The table's numbers, which are held against its rows: how many rows it has, and the month and the whole seconds of its last; and how many rows and seconds
+-- it has at most with sixteen announced ones.
 abbrev pub fixedRows : ℕ
 fixedRows = 42
 
-abbrev pub mostRows : ℕ
-mostRows = 58
-
 abbrev pub lastMonth : ℕ
 lastMonth = 24204
+
+abbrev pub lastSeconds : ℕ
+lastSeconds = 37
+
+abbrev pub mostRows : ℕ
+mostRows = fixedRows + 16
+
+abbrev pub mostSeconds : ℕ
+mostSeconds = lastSeconds + 16
 
 -- the table: year, month, units, start, rate
 unfoldable pub fixed : List Row

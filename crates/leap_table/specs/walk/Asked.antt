@@ -7,7 +7,7 @@ use lib.Dec.{leb}
 use lib.ListN.{length, getD}
 use lib.Ieee.{Float}
 use Rattle.refusals.specs.Outcome.{answer}
-use Rattle.leap_table.specs.rows.Table.{Row, starts}
+use Rattle.leap_table.specs.rows.Table.{Row, starts, mostRows}
 use Rattle.leap_table.specs.offsets.Offset.{offsetBy}
 use Rattle.leap_table.specs.offsets.Forward.{never, byTerms}
 use Rattle.leap_table.specs.declared.judging.Triple.{Triple}
@@ -21,7 +21,7 @@ pub record Standing (rows : List Row) (w : Walk) : Type 0 where
   pub most : w .reached ≤ length rows
   pub next : w .next ≡ getD (starts rows) (w .reached) never
   pub terms : (mjd f : Float) → byTerms (w .terms) mjd f ≡ offsetBy rows (w .reached) mjd f
-  pub small : length rows ≤ 58
+  pub small : length rows ≤ mostRows
 
 pub record AtStart (rows : List Row) (w : Walk) : Type 0 where
   pub stands : Standing rows w

@@ -10,7 +10,7 @@ use super::Triple;
 use crate::rows::AnnouncedRows;
 
 // Date i of a list that has it. Read from a part of twelve bytes, its numbers need no test of the length.
-fn triple_in(dates: &[u8], i: usize) -> Triple
+pub(crate) fn triple_in(dates: &[u8], i: usize) -> Triple
     requires { ⌜ 12 * i + 12 ≤ length (now dates) ⌝ }
     ensures { λ r. ⌜ r ≡ tripleIn (now (dates .entry)) i ⌝ }
 {

@@ -1,55 +1,11 @@
-// The fixed rows: the table of constants.rs.
+// The look-up in the fixed rows, and what they say: the table of constants.rs.
 ghost use mathlib.Core.Path.{_≡_};
 ghost use Prim.Native.Nat.{_-_, _<_, _≤_};
 ghost use lib.ListN.{getD, drop, length};
-ghost use Rattle.leap_table.specs.rows.Table.{fixed, starts, reached, none};
+ghost use Rattle.leap_table.specs.rows.Table.{fixed, fixedRows, starts, reached, none};
 ghost use Rattle.leap_table.specs.offsets.Offset.{secondsOf, startOf, rateOf};
-
-// The months in which the rows begin, numbered from January of year 0.
-pub(crate) const MONTHS: [u64; 42] = [
-    23520, // 1960-01
-    23532, // 1961-01
-    23539, // 1961-08
-    23544, // 1962-01
-    23566, // 1963-11
-    23568, // 1964-01
-    23571, // 1964-04
-    23576, // 1964-09
-    23580, // 1965-01
-    23582, // 1965-03
-    23586, // 1965-07
-    23588, // 1965-09
-    23592, // 1966-01
-    23617, // 1968-02
-    23664, // 1972-01
-    23670, // 1972-07
-    23676, // 1973-01
-    23688, // 1974-01
-    23700, // 1975-01
-    23712, // 1976-01
-    23724, // 1977-01
-    23736, // 1978-01
-    23748, // 1979-01
-    23760, // 1980-01
-    23778, // 1981-07
-    23790, // 1982-07
-    23802, // 1983-07
-    23826, // 1985-07
-    23856, // 1988-01
-    23880, // 1990-01
-    23892, // 1991-01
-    23910, // 1992-07
-    23922, // 1993-07
-    23934, // 1994-07
-    23952, // 1996-01
-    23970, // 1997-07
-    23988, // 1999-01
-    24072, // 2006-01
-    24108, // 2009-01
-    24150, // 2012-07
-    24186, // 2015-07
-    24204, // 2017-01
-];
+use crate::rows::FIXED_SIZE;
+use crate::rows::MONTHS;
 
 // The rows that drift: TAI-UTC in seconds, the Modified Julian Date at which the drift starts, and its seconds a day.
 const SECONDS: [f64; 14] = [
@@ -121,10 +77,10 @@ fn rows_reached(months: &[u64], end: usize, n: u64) -> usize
 
 // The same in the fixed table. The years before 1972, in which rows drift, and those up to 1987 do not look at the rows after them.
 pub(crate) fn fixed_rows_reached(n: u64) -> usize
-    ensures { λ r. ⌜ (r ≡ reached (starts fixed) n) × (r ≤ 42) ⌝ }
+    ensures { λ r. ⌜ (r ≡ reached (starts fixed) n) × (r ≤ fixedRows) ⌝ }
 {
     if 23856 <= n {
-        return rows_reached(&MONTHS, 42, n);
+        return rows_reached(&MONTHS, FIXED_SIZE, n);
     }
     if 23664 <= n {
         return rows_reached(&MONTHS, 28, n);
@@ -157,7 +113,7 @@ pub(crate) fn rate_at(i: usize) -> f64
 // The seconds of the last of 15 or more rows: 10 in the row of 1972, whose place is 14, and one more in each later row, so that they are the number of rows
 // less 5. They are counted and not read from a table, since the compiled code copies a table whenever it is read by an index.
 pub(crate) fn whole_seconds(rows: usize) -> f64
-    requires { ⌜ (15 ≤ rows) × (rows ≤ 42) ⌝ }
+    requires { ⌜ (15 ≤ rows) × (rows ≤ fixedRows) ⌝ }
     ensures { λ r. ⌜ r ≡ secondsOf (getD fixed (rows - 1) none) ⌝ }
 {
     let seconds = (rows - 5) as u32;

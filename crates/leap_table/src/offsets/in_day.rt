@@ -3,8 +3,8 @@ ghost use mathlib.Core.Path.{_≡_};
 ghost use mathlib.Core.Bool.{true};
 ghost use Rattle.floats.specs.Whole.{nought};
 ghost use Rattle.refusals.specs.Outcome.{onward};
-ghost use Rattle.leap_table.specs.rows.Announced.{rowsIn, rowsOf, tableOf};
-ghost use Rattle.leap_table.specs.offsets.Offset.{inDay, taiUtcOffset};
+ghost use Rattle.leap_table.specs.rows.Announced.{rowsIn, tableOf};
+ghost use Rattle.leap_table.specs.offsets.Offset.{inDay};
 ghost use Rattle.leap_table.specs.offsets.Rule.{forget, offsetByRule};
 ghost use Rattle.leap_table.specs.offsets.Answers.{secondsOutcome, secondsByRuleOutcome};
 use super::SecondsAnswer;
@@ -93,27 +93,6 @@ pub(crate) fn without_rule(found: SecondsByRule) -> SecondsAnswer
         SecondsByRule::Refused(number) => SecondsAnswer::Refused(number),
         SecondsByRule::Seconds(x, _) => SecondsAnswer::Seconds(x),
     }
-}
-
-// Refusals in order: 7 the fraction, then 1 to 3 the date.
-pub fn get_tai_utc_offset_by_rows(
-    year: i32,
-    month: i32,
-    day: i32,
-    fraction: f64,
-    table: AnnouncedRows,
-) -> SecondsAnswer
-    ensures { λ r. ⌜ secondsOutcome r ≡ taiUtcOffset (rowsOf table) year month day fraction ⌝ }
-{
-    without_rule(get_tai_utc_offset_by_lent(
-        year,
-        month,
-        day,
-        fraction,
-        size_of(table),
-        &table.months,
-        &table.seconds,
-    ))
 }
 
 // TAI-UTC at a fraction of a day, and its rule. Refusals in order: 20 to 22 the table, 7 the fraction, then 1 to 3 the date.

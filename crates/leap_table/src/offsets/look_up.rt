@@ -7,7 +7,7 @@ ghost use lib.IntN.{ℤ, pos, natAbs};
 ghost use lib.Signed.{leZ};
 ghost use lib.Ieee.{Float};
 ghost use lib.ListN.{getD};
-ghost use Rattle.leap_table.specs.rows.Table.{starts, reached, monthNumber, none};
+ghost use Rattle.leap_table.specs.rows.Table.{fixedRows, mostRows, starts, reached, monthNumber, none};
 ghost use Rattle.leap_table.specs.rows.Announced.{least, announcedTable, rowsIn, rowsTo};
 ghost use Rattle.leap_table.specs.offsets.Offset.{secondsOf, offsetAt, offsetBy};
 ghost use Rattle.leap_table.specs.offsets.Rule.{ruleAt, ruleBy};
@@ -19,6 +19,7 @@ use super::fixed_rows::rate_at;
 use super::fixed_rows::seconds_at;
 use super::fixed_rows::start_at;
 use super::fixed_rows::whole_seconds;
+use crate::rows::FIXED_SIZE;
 
 // A month's number as a announced one is, of which none is larger.
 fn as_announced(n: u64) -> i32
@@ -58,18 +59,18 @@ fn announced_rows_reached(size: u32, months: &[i32; 16], n: u64) -> u32
 
 // How many rows of a table stand up to the last that has begun. The seconds of the rows do not matter.
 pub(crate) fn any_rows_reached(size: usize, months: &[i32; 16], n: u64) -> usize
-    ensures { λ r. ⌜ ((seconds : List ℤ) → r ≡ reached (starts (rowsIn size (now (months .entry)) seconds)) n) × (r ≤ 42 + least size 16) ⌝ }
+    ensures { λ r. ⌜ ((seconds : List ℤ) → r ≡ reached (starts (rowsIn size (now (months .entry)) seconds)) n) × (r ≤ fixedRows + least size 16) ⌝ }
 {
     let found = announced_rows_reached(crate::rows::at_most_16(size) as u32, months, n);
     if found == 0 {
         return fixed_rows_reached(n);
     }
-    42 + found as usize
+    FIXED_SIZE + found as usize
 }
 
 // The same, with a short way for a table that lends no rows.
 pub(crate) fn table_rows_reached(size: usize, months: &[i32; 16], n: u64) -> usize
-    ensures { λ r. ⌜ ((seconds : List ℤ) → r ≡ reached (starts (rowsIn size (now (months .entry)) seconds)) n) × (r ≤ 42 + least size 16) ⌝ }
+    ensures { λ r. ⌜ ((seconds : List ℤ) → r ≡ reached (starts (rowsIn size (now (months .entry)) seconds)) n) × (r ≤ fixedRows + least size 16) ⌝ }
 {
     if size == 0 {
         return fixed_rows_reached(n);
@@ -79,20 +80,21 @@ pub(crate) fn table_rows_reached(size: usize, months: &[i32; 16], n: u64) -> usi
 
 // The seconds of the last of 15 or more rows of a table. The months of the rows do not matter.
 pub(crate) fn seconds_of_row(seconds: &[i32; 16], rows: usize) -> f64
-    requires { ⌜ (15 ≤ rows) × (rows ≤ 58) ⌝ }
-    ensures { λ r. ⌜ ((size : ℕ) (months : List ℤ) → rows ≤ 42 + least size 16
+    requires { ⌜ (15 ≤ rows) × (rows ≤ mostRows) ⌝ }
+    ensures { λ r. ⌜ ((size : ℕ) (months : List ℤ) → rows ≤ fixedRows + least size 16
         → r ≡ secondsOf (getD (rowsIn size months (now (seconds .entry))) (rows - 1) none)) ⌝ }
 {
-    if rows <= 42 {
+    if rows <= FIXED_SIZE {
         return whole_seconds(rows);
     }
-    announced::seconds_at(seconds, rows - 43)
+    announced::seconds_at(seconds, rows - FIXED_SIZE - 1)
 }
 
 // The offset by the number of rows reached.
 pub(crate) fn offset_by(seconds: &[i32; 16], rows: usize, mjd: f64, fraction: f64) -> f64
-    requires { ⌜ rows ≤ 58 ⌝ }
-    ensures { λ r. ⌜ ((size : ℕ) (months : List ℤ) → rows ≤ 42 + least size 16 → r ≡ offsetBy (rowsIn size months (now (seconds .entry))) rows mjd fraction) ⌝ }
+    requires { ⌜ rows ≤ mostRows ⌝ }
+    ensures { λ r. ⌜ ((size : ℕ) (months : List ℤ) → rows ≤ fixedRows + least size 16
+        → r ≡ offsetBy (rowsIn size months (now (seconds .entry))) rows mjd fraction) ⌝ }
 {
     if rows == 0 {
         return 0.0;
@@ -106,8 +108,8 @@ pub(crate) fn offset_by(seconds: &[i32; 16], rows: usize, mjd: f64, fraction: f6
 
 // The rule by the number of rows reached: the rows of places 0 to 13 drift, in every table.
 pub(crate) fn rule_by(rows: usize) -> Rule
-    requires { ⌜ rows ≤ 58 ⌝ }
-    ensures { λ r. ⌜ ((size : ℕ) (months seconds : List ℤ) → rows ≤ 42 + least size 16 → r ≡ ruleBy (rowsIn size months seconds) rows) ⌝ }
+    requires { ⌜ rows ≤ mostRows ⌝ }
+    ensures { λ r. ⌜ ((size : ℕ) (months seconds : List ℤ) → rows ≤ fixedRows + least size 16 → r ≡ ruleBy (rowsIn size months seconds) rows) ⌝ }
 {
     if rows == 0 {
         return Rule::Absent;
@@ -121,8 +123,8 @@ pub(crate) fn rule_by(rows: usize) -> Rule
 
 // The rule of 15 or more rows: none of them drifts.
 fn whole_rule(rows: usize) -> Rule
-    requires { ⌜ (15 ≤ rows) × (rows ≤ 58) ⌝ }
-    ensures { λ r. ⌜ ((size : ℕ) (months seconds : List ℤ) → rows ≤ 42 + least size 16 → r ≡ ruleBy (rowsIn size months seconds) rows) ⌝ }
+    requires { ⌜ (15 ≤ rows) × (rows ≤ mostRows) ⌝ }
+    ensures { λ r. ⌜ ((size : ℕ) (months seconds : List ℤ) → rows ≤ fixedRows + least size 16 → r ≡ ruleBy (rowsIn size months seconds) rows) ⌝ }
 {
     Rule::Whole((rows - 1) as u32)
 }

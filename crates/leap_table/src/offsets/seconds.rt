@@ -7,6 +7,7 @@ ghost use Rattle.leap_table.specs.offsets.WholeSeconds.{wholeSeconds};
 use super::look_up::month_number;
 use super::look_up::table_rows_reached;
 use crate::rows::AnnouncedRows;
+use crate::rows::FIXED_SIZE;
 use crate::rows::natural;
 use crate::rows::size_of;
 
@@ -16,10 +17,10 @@ fn seconds_in(t: AnnouncedRows, month: u64) -> u32
     ensures { λ r. ⌜ (r ≡ secondsIn (rowsOf t) month) × (r < 2147483648) ⌝ }
 {
     let rows = table_rows_reached(size_of(t), &t.months, month);
-    if rows <= 42 {
+    if rows <= FIXED_SIZE {
         return (rows - 5) as u32;
     }
-    let i = rows - 43;
+    let i = rows - FIXED_SIZE - 1;
     natural(t.seconds[i])
 }
 

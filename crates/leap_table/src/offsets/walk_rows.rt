@@ -1,4 +1,4 @@
-// The table walked forward, row by row: document 02, item 2. What a walk needs of a table, for the crate `leap_table::walk`.
+// The table read forward, row by row, as a walk needs it: document 02, item 2.
 ghost use mathlib.Core.Path.{_≡_};
 ghost use Prim.Native.Nat.{_<_, _≤_};
 ghost use lib.ListN.{getD, length};
@@ -8,6 +8,8 @@ ghost use Rattle.leap_table.specs.rows.Announced.{announcedSize, rowsOf}
 ghost use Rattle.leap_table.specs.offsets.Offset.{offsetBy};
 ghost use Rattle.leap_table.specs.offsets.Forward.{never, byTerms};
 use crate::rows::AnnouncedRows;
+use crate::rows::FIXED_SIZE;
+use crate::rows::MONTHS;
 
 // Later than the month of any date.
 const NEVER: u64 = 0xffff_ffff_ffff_ffff;
@@ -21,7 +23,7 @@ pub struct RowTerms {
     pub rate: f64,
 }
 
-// Month i of a list that has it. From a announced list, since a table that is read by an index is copied.
+// Month i of a list that has it. From a list by reference, since a table that is read by an index is copied.
 fn month_at(months: &[u64], i: usize) -> u64
     requires { ⌜ i < length (now months) ⌝ }
     ensures { λ r. ⌜ r ≡ getD (now (months .entry)) i 0 ⌝ }
@@ -40,17 +42,17 @@ fn announced_size(t: AnnouncedRows) -> usize
 pub fn row_count(table: AnnouncedRows) -> usize
     ensures { λ r. ⌜ r ≡ length (rowsOf table) ⌝ }
 {
-    42 + announced_size(table)
+    FIXED_SIZE + announced_size(table)
 }
 
 // The month in which row i of a table begins; past the last row, a number that is later than the month of any date.
 pub fn row_start(table: AnnouncedRows, i: usize) -> u64
     ensures { λ r. ⌜ r ≡ getD (starts (rowsOf table)) i never ⌝ }
 {
-    if i < 42 {
-        return month_at(&super::fixed_rows::MONTHS, i);
+    if i < FIXED_SIZE {
+        return month_at(&MONTHS, i);
     }
-    let place = i - 42;
+    let place = i - FIXED_SIZE;
     if place < announced_size(table) {
         return crate::rows::natural(table.months[place]) as u64;
     }
@@ -78,7 +80,7 @@ pub fn row_terms(table: AnnouncedRows, rows: usize) -> RowTerms
             rate: super::fixed_rows::rate_at(i),
         };
     }
-    if 42 + announced_size(table) <= i {
+    if FIXED_SIZE + announced_size(table) <= i {
         return RowTerms {
             drifts: false,
             seconds: 0.0,

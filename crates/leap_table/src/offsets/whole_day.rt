@@ -4,8 +4,8 @@ ghost use mathlib.Core.List.{List};
 ghost use Prim.Native.Nat.{_+_, _<_, _≤_};
 ghost use lib.IntN.{ℤ, natAbs};
 ghost use Rattle.refusals.specs.Outcome.{answer, onward};
-ghost use Rattle.leap_table.specs.rows.Table.{starts, reached};
-ghost use Rattle.leap_table.specs.rows.Announced.{least, rowsIn, rowsOf, tableOf};
+ghost use Rattle.leap_table.specs.rows.Table.{fixedRows, starts, reached};
+ghost use Rattle.leap_table.specs.rows.Announced.{least, rowsIn, tableOf};
 ghost use Rattle.leap_table.specs.offsets.Leap.{offsetsOfDay, dayOffsets, leapAtEndOfDay};
 ghost use Rattle.leap_table.specs.offsets.Rule.{ruleOf, dayByRule, leapByRule};
 ghost use Rattle.leap_table.specs.offsets.Answers.{secondsOutcome, secondsByRuleOutcome, dayOffsetsOutcome, dayByRuleOutcome};
@@ -28,8 +28,8 @@ use crate::rows::table_refusal;
 
 // The rows reached in the month of the next day: looked up again only where it is another month.
 fn next_rows_reached(size: usize, months: &[i32; 16], rows: usize, month: u64, next: u64) -> usize
-    requires { ⌜ ((seconds : List ℤ) → rows ≡ reached (starts (rowsIn size (now months) seconds)) month) × (rows ≤ 42 + least size 16) ⌝ }
-    ensures { λ r. ⌜ ((seconds : List ℤ) → r ≡ reached (starts (rowsIn size (now (months .entry)) seconds)) next) × (r ≤ 42 + least size 16) ⌝ }
+    requires { ⌜ ((seconds : List ℤ) → rows ≡ reached (starts (rowsIn size (now months) seconds)) month) × (rows ≤ fixedRows + least size 16) ⌝ }
+    ensures { λ r. ⌜ ((seconds : List ℤ) → r ≡ reached (starts (rowsIn size (now (months .entry)) seconds)) next) × (r ≤ fixedRows + least size 16) ⌝ }
 {
     if next == month {
         return rows;
@@ -115,15 +115,14 @@ pub fn day_offsets_by_lent<'a>(
     by_next_day(year, month, day, size, months, seconds)
 }
 
-// Refusals in order: 1 to 3 the date, then 5 no next day.
-pub fn day_offsets_by_rows(
-    year: i32,
-    month: i32,
-    day: i32,
-    table: AnnouncedRows,
-) -> DayOffsetsAnswer
-    ensures { λ r. ⌜ dayOffsetsOutcome r ≡ dayOffsets (rowsOf table) year month day ⌝ }
+// TAI-UTC at the start, the middle and the end of a day. Refusals in order: 20 to 22 the table, 1 to 3 the date, then 5 no next day.
+pub fn day_offsets(year: i32, month: i32, day: i32, table: AnnouncedRows) -> DayOffsetsAnswer
+    ensures { λ r. ⌜ dayOffsetsOutcome r ≡ onward (tableOf table) (λ rows. dayOffsets rows year month day) ⌝ }
 {
+    let number = table_refusal(table);
+    if number != 0 {
+        return DayOffsetsAnswer::Refused(number);
+    }
     match day_offsets_by_lent(
         year,
         month,
@@ -135,17 +134,6 @@ pub fn day_offsets_by_rows(
         DayByRule::Refused(number) => DayOffsetsAnswer::Refused(number),
         DayByRule::Day(o, _) => DayOffsetsAnswer::Offsets(o),
     }
-}
-
-// TAI-UTC at the start, the middle and the end of a day. Refusals in order: 20 to 22 the table, 1 to 3 the date, then 5 no next day.
-pub fn day_offsets(year: i32, month: i32, day: i32, table: AnnouncedRows) -> DayOffsetsAnswer
-    ensures { λ r. ⌜ dayOffsetsOutcome r ≡ onward (tableOf table) (λ rows. dayOffsets rows year month day) ⌝ }
-{
-    let number = table_refusal(table);
-    if number != 0 {
-        return DayOffsetsAnswer::Refused(number);
-    }
-    day_offsets_by_rows(year, month, day, table)
 }
 
 // Refusals as for its offsets.
@@ -173,25 +161,6 @@ pub fn leap_at_end_of_day_by_lent<'a>(
     }
 }
 
-// Refusals as for its offsets.
-pub fn leap_at_end_of_day_by_rows(
-    year: i32,
-    month: i32,
-    day: i32,
-    table: AnnouncedRows,
-) -> SecondsAnswer
-    ensures { λ r. ⌜ secondsOutcome r ≡ leapAtEndOfDay (rowsOf table) year month day ⌝ }
-{
-    without_rule(leap_at_end_of_day_by_lent(
-        year,
-        month,
-        day,
-        size_of(table),
-        &table.months,
-        &table.seconds,
-    ))
-}
-
 // How much longer the day is than 86,400 s and its drift: a leap second, one left out, or a step before 1972. Refusals as for its offsets.
 pub fn leap_at_end_of_day(year: i32, month: i32, day: i32, table: AnnouncedRows) -> SecondsAnswer
     ensures { λ r. ⌜ secondsOutcome r ≡ onward (tableOf table) (λ rows. leapAtEndOfDay rows year month day) ⌝ }
@@ -200,5 +169,12 @@ pub fn leap_at_end_of_day(year: i32, month: i32, day: i32, table: AnnouncedRows)
     if number != 0 {
         return SecondsAnswer::Refused(number);
     }
-    leap_at_end_of_day_by_rows(year, month, day, table)
+    without_rule(leap_at_end_of_day_by_lent(
+        year,
+        month,
+        day,
+        size_of(table),
+        &table.months,
+        &table.seconds,
+    ))
 }

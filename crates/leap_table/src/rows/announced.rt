@@ -5,11 +5,8 @@ ghost use Prim.Native.Nat.{_+_, _≤_, _<_};
 ghost use Rattle.leap_table.specs.rows.Table.{starts, rising};
 ghost use Rattle.leap_table.specs.rows.Announced as L;
 use super::AnnouncedRows;
-
-// The month and the seconds of the row of 2017, the last of the fixed ones.
-const LAST_MONTH: u32 = 24204;
-
-const LAST_SECONDS: u32 = 37;
+use super::fixed::LAST_MONTH;
+use super::fixed::LAST_SECONDS;
 
 // A number counted from 0; a negative one counts as 0.
 pub fn natural(x: i32) -> u32

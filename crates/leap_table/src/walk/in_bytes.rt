@@ -1,13 +1,10 @@
 // The walk over lists of bytes, for callers from C: twelve bytes a date, eight an offset, the lowest first.
 ghost use mathlib.Core.Path.{_≡_};
 ghost use mathlib.Core.List.{_++_, map};
-ghost use Prim.Native.Nat.{_+_, _*_, _≤_};
+ghost use Prim.Native.Nat.{_*_, _≤_};
 ghost use lib.Dec.{T};
 ghost use lib.ListN.{length, drop};
-ghost use lib.Seq.{sets};
-ghost use lib.Ieee.{binary64, toBits};
 ghost use Rattle.refusals.specs.Outcome.{onward};
-ghost use Rattle.numerals.specs.little_endian.LittleEndian.{eightBytes};
 ghost use Rattle.leap_table.specs.rows.Table.{starts, rising};
 ghost use Rattle.leap_table.specs.rows.Announced.{rowsOf, tableOf};
 ghost use Rattle.leap_table.specs.walk.Rows.{compared};
@@ -17,30 +14,7 @@ ghost use Rattle.leap_table.specs.walk.Lists.{walkOfBytes, inEights};
 ghost use Rattle.leap_table.specs.walk.Call.{WalkCall};
 ghost use Rattle.leap_table.specs.walk.Asked.{GoodDates};
 use super::WalkAnswer;
-use crate::judging::Triple;
 use crate::rows::AnnouncedRows;
-
-// Date i of a list that has it. Read from a part of twelve bytes, its numbers need no test of the length.
-fn triple_in(dates: &[u8], i: usize) -> Triple
-    requires { ⌜ 12 * i + 12 ≤ length (now dates) ⌝ }
-    ensures { λ r. ⌜ r ≡ tripleIn (now (dates .entry)) i ⌝ }
-{
-    let at = 12 * i;
-    let end = at + 12;
-    let year = numerals::little_endian::i32_at(&dates[at..end], 0);
-    let month = numerals::little_endian::i32_at(&dates[at..end], 4);
-    let day = numerals::little_endian::i32_at(&dates[at..end], 8);
-    Triple { year, month, day }
-}
-
-// The eight bytes of an offset at a place of the announced list.
-fn put_offset(out: &mut [u8], at: usize, x: f64)
-    requires { ⌜ at + 8 ≤ length (now out) ⌝ }
-    ensures { λ _. ⌜ now (out .exit) ≡ sets (now (out .entry)) at (eightBytes (toBits binary64 x)) ⌝ }
-{
-    let end = at + 8;
-    numerals::little_endian::put_u64(&mut out[at..end], floats::to_bits(x));
-}
 
 // Walks through the table with n dates, writes their offsets, and says how many rows it compared.
 fn walk_all(dates: &[u8], n: usize, table: AnnouncedRows, out: &mut [u8]) -> u64
@@ -52,7 +26,7 @@ fn walk_all(dates: &[u8], n: usize, table: AnnouncedRows, out: &mut [u8]) -> u64
     let mut w = super::at_start(table);
     let mut i = 0;
     while i < n {
-        let t = triple_in(dates, i);
+        let t = crate::judging::triple_in(dates, i);
         let month = super::month_of(t);
         if w.next <= month {
             w = super::walk_to(w, table, month);
@@ -60,7 +34,7 @@ fn walk_all(dates: &[u8], n: usize, table: AnnouncedRows, out: &mut [u8]) -> u64
         let count = super::next_counted(w);
         w.compared = count;
         let x = super::offset_in(w.terms, t);
-        put_offset(out, 8 * i, x);
+        numerals::little_endian::put_nth_u64(out, i, floats::to_bits(x));
         i += 1;
     }
     w.compared

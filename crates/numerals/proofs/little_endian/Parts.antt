@@ -12,7 +12,7 @@ module _ (s : List ℕ) (at m : ℕ) where
   byte : (i : ℕ) → i < m → getD (take m (drop at s)) i 0 ≡ getD s (at + i) 0
   byte i h = getD-take m (drop at s) i 0 h ∙ getD-drop at s i 0
 
-  four : (j : ℕ) → j + 3 < m → fourAt (take m (drop at s)) j ≡ fourAt s (at + j)
+  pub four : (j : ℕ) → j + 3 < m → fourAt (take m (drop at s)) j ≡ fourAt s (at + j)
   unfolding fourAt
   four j h =
       let a1 : at + (j + 1) ≡ at + j + 1 = omega arith in

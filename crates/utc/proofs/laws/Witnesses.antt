@@ -32,7 +32,7 @@ use Rattle.leap_table.specs.offsets.Leap.{leapAtEndOfDay}
 use Rattle.leap_table.specs.offsets.Rule.{offsetByRule}
 use Rattle.leap_table.proofs.offsets.Days.{leap-given}
 use Rattle.leap_table.proofs.rows.NoRows.{none-announced, fixed-taken}
-use Rattle.leap_days.proofs.TableCases.{unequal-sizes, january-2017, no-second}
+use Rattle.leap_days.proofs.TableCases.{unequal-sizes, last-month-again, no-second}
 use Rattle.utc.specs.FromCalendar.{utcFromCalendar}
 use Rattle.utc.specs.UnixTime.{unixDay, utcNew}
 use Rattle.utc.specs.iso_texts.TextForm.{TextForm}
@@ -47,7 +47,7 @@ use Rattle.utc.proofs.laws.TextDecided.{text-decided}
 -- ---- 20, 21 and 22, whatever is called
 pub table-numbers-occur : {A : Type 0} (call : List Row → Outcome A) → ((t : AnnouncedRows) × (onward (tableOf t) call ≡ refusal 20))
     × ((t : AnnouncedRows) × (onward (tableOf t) call ≡ refusal 21)) × ((t : AnnouncedRows) × (onward (tableOf t) call ≡ refusal 22))
-table-numbers-occur call = ((_, stopped call unequal-sizes), (_, stopped call january-2017), (_, stopped call no-second))
+table-numbers-occur call = ((_, stopped call unequal-sizes), (_, stopped call last-month-again), (_, stopped call no-second))
 
 -- ---- the others, with no announced rows
 abbrev plain : {A : Type 0} → (List Row → Outcome A) → Outcome A

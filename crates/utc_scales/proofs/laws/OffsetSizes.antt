@@ -32,12 +32,11 @@ use Rattle.leap_table.specs.rows.Table.{Row, fixed, starts, reached, monthNumbe
 use Rattle.leap_table.specs.rows.Announced.{tableOf}
 use Rattle.leap_table.specs.offsets.Offset.{secondsOf, startOf, rateOf, offsetAt, taiUtcOffset, rowAt, secondsIn}
 use Rattle.leap_table.specs.offsets.Leap.{offsets, dayOffsets}
-use Rattle.leap_table.proofs.rows.Rows.{every, at}
+use Rattle.leap_table.proofs.rows.Rows.{fixed-length, every, at}
 use Rattle.leap_table.proofs.offsets.At.{drifting}
 use Rattle.leap_table.proofs.offsets.Offsets.{offset-came}
 use Rattle.leap_table.proofs.offsets.Years.{before-1960, one-row, drift-rows}
 use Rattle.leap_table.proofs.offsets.TableSeconds.{seconds-in-range, table-seconds, same-before-announced}
-use Rattle.leap_table.proofs.offsets.Cases.{forty-two-rows}
 use Rattle.refusals.proofs.Onward.{came}
 
 -- ---- the decimals of a row: at most 64 s, MJD 65536 and 2 ^ -8 s a day
@@ -63,7 +62,7 @@ slow-row : (i : ℕ) → i < 14 → Slow (getD fixed i none)
 unfolding slow
 slow-row i h =
     let r = getD fixed i none in
-    let k = all-three (leb (r .units) 640000000) (leb (r .start) 65536) (leb (r .rate) 39062500) (at slow fixed every-row i (omega (arith, forty-two-rows))) in
+    let k = all-three (leb (r .units) 640000000) (leb (r .start) 65536) (leb (r .rate) 39062500) (at slow fixed every-row i (omega (arith, fixed-length))) in
     record { units = leb→le (r .units) 640000000 (k .0); start = leb→le (r .start) 65536 (k .1); rate = leb→le (r .rate) 39062500 (k .2) }
 
 -- 2 ^ -8, in units

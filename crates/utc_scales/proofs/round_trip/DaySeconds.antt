@@ -1,4 +1,4 @@
--- TAI-UTC on a day from 1972-01-01 to 8977: whole seconds, 10 to 37, and the same or one more on the next day. Assumes nothing.
+-- TAI-UTC on a day from 1972-01-01 to 8977: whole seconds, from 10 on, and the same or one more on the next day. Assumes nothing.
 use mathlib.Core.Path.{_≡_, refl, sym, ap, _∙_, subst}
 use mathlib.Core.Bool.{Bool, true, false, cond}
 use Prim.Native.Nat.{ℕ, suc, _+_, _-_, _≤_, _<_}

@@ -16,7 +16,7 @@ use Rattle.calendar.specs.Gregorian.{gregorianDate}
 use Rattle.julian.specs.day_number.DayNumber.{dayOf}
 use Rattle.julian.specs.day_number.Answer.{dayNumberAndFraction}
 use Rattle.julian.specs.JulianDate.{julian}
-use Rattle.leap_table.specs.rows.Table.{fixed}
+use Rattle.leap_table.specs.rows.Table.{fixed, lastSeconds}
 use Rattle.leap_table.specs.offsets.Offset.{wholeF}
 use Rattle.leap_table.specs.offsets.Leap.{offsets}
 use Rattle.leap_table.specs.declared.offsets.DayOffsets.{DayOffsets}
@@ -100,7 +100,7 @@ module _ {a u : Float} {A up un : ℕ} (z : Stamp a u A up un) (y : HalvesUp a A
   abbrev s : ℕ
   s = leapAfter (k .n)
 
-  few : D ≤ 37
+  few : D ≤ lastSeconds
   few = omega (arith, seconds .most)
 
   pub stretched : Stretched (stretchDayFraction o (dayOf a u .fraction)) s f
@@ -113,7 +113,7 @@ module _ {a u : Float} {A up un : ℕ} (z : Stamp a u A up un) (y : HalvesUp a A
   pub since : Since (add binary64 (sub binary64 mjdZeroPoint a) (ofInt binary64 (pos n -ℤ pos 2400001))) n A
   since = since-midnight y n (k .low) (k .high)
 
-  abbrev Sum : {B : Type 0} → ((g : s * f ≤ f) → D * L ≤ 37 * L → B) → B
+  abbrev Sum : {B : Type 0} → ((g : s * f ≤ f) → D * L ≤ lastSeconds * L → B) → B
   Sum law = law (share s f (seconds .step) (k .below) .0) (mul-le-mul-right L few)
 
   pub day-sum : ValClose L (add binary64 (stretchDayFraction o (dayOf a u .fraction)) (div binary64 (wholeF D) secondsPerDay)) (stretched .p + offset-days .p)

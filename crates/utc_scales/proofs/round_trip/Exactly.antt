@@ -2,10 +2,11 @@
 -- the date. Assumes nothing.
 use mathlib.Core.Path.{_≡_}
 use mathlib.Core.Logic.{_⊎_, inl, inr}
-use Prim.Native.Nat.{ℕ, zero, suc, _+_, _*_, _≤_, _<_}
+use Prim.Native.Nat.{ℕ, zero, suc, _+_, _*_, _≤_, _<_, _-_}
 use native.Mathlib.Nat.{mul-left-comm}
 use native.Mathlib.Omega.{arith}
 use native.Mathlib.Decide.{decLe}
+use Rattle.leap_table.specs.rows.Table.{lastSeconds}
 use Rattle.rounding.specs.Value.{L}
 use Rattle.julian.specs.declared.JulianDate.{JulianDate}
 use Rattle.julian.specs.Worth.{Worth}
@@ -84,13 +85,14 @@ means-of {ps} {n} {u} {t} b x w =
 
 -- ---- the exact relation rises with the date: by no less than the date, less than a day apart; and by no less than 86373 s, a day or more apart
 pub relation-rises : (n m f e : ℕ) → WholeSeconds n → WholeSeconds m → f < L → e < L → n * L + f ≤ m * L + e
-    → (taiUtcAt n f ≤ taiUtcAt m e) ⊎ ((n * L + f + L ≤ m * L + e) × (taiUtcAt n f ≤ taiUtcAt m e + 27 * L))
+    → (taiUtcAt n f ≤ taiUtcAt m e) ⊎ ((n * L + f + L ≤ m * L + e) × (taiUtcAt n f ≤ taiUtcAt m e + (lastSeconds - 10) * L))
 relation-rises n m f e t r b c k = go (decLe (n * L + f + L) (m * L + e))
   where
-    go : Dec (n * L + f + L ≤ m * L + e) → (taiUtcAt n f ≤ taiUtcAt m e) ⊎ ((n * L + f + L ≤ m * L + e) × (taiUtcAt n f ≤ taiUtcAt m e + 27 * L))
+    go : Dec (n * L + f + L ≤ m * L + e) → (taiUtcAt n f ≤ taiUtcAt m e)
+        ⊎ ((n * L + f + L ≤ m * L + e) × (taiUtcAt n f ≤ taiUtcAt m e + (lastSeconds - 10) * L))
     go (yes j) = inr (j, end (taiUtcAt n f) (taiUtcAt m e) (few-seconds n f t b .1) (few-seconds m e r c .0))
       where
-        end : (G K : ℕ) → G ≤ 37 * L → 10 * L ≤ K → G ≤ K + 27 * L
+        end : (G K : ℕ) → G ≤ lastSeconds * L → 10 * L ≤ K → G ≤ K + (lastSeconds - 10) * L
         end G K x y = omega arith
     go (no j) = inl (steady n m f e t r b c k (less (n * L + f + L) (m * L + e) j) .more)
       where

@@ -12,6 +12,7 @@ use lib.Ieee.{Float, fin, binary64, round, add, sub, mul, div, ofInt, fits, le, 
 use lib.Ieee.Fits.{add-fits}
 use Rattle.floats.specs.Whole.{nought, one}
 use Rattle.constants.specs.Constants.{secondsPerDay, mjdZeroPoint}
+use Rattle.leap_table.specs.rows.Table.{lastSeconds}
 use Rattle.rounding.specs.Value.{Val, L}
 use Rattle.rounding.proofs.Value.{L-pos, rounds-move, mul-rounds, add-rounds}
 use Rattle.rounding.proofs.Compare.{le-says}
@@ -63,7 +64,7 @@ inDays D = div binary64 (wholeF D) secondsPerDay
 abbrev withOffset : Float → ℕ → Float → Float
 withOffset c D x = add binary64 (mul binary64 (mul binary64 x c) one) (inDays D)
 
-module _ {c : Float} {s : ℕ} (z : Factor c s) (D : ℕ) (few : D ≤ 37) where
+module _ {c : Float} {s : ℕ} (z : Factor c s) (D : ℕ) (few : D ≤ lastSeconds) where
   after-val : {x : Float} {f : ℕ} → Val x f 0 L → f < L → (p : ℕ) × (n : ℕ) × Val (withOffset c D x) p n L × (p < n + 2 * L)
   after-val {x} {f} v l =
       let p = z .near x f v l in
@@ -74,7 +75,8 @@ module _ {c : Float} {s : ℕ} (z : Factor c s) (D : ℕ) (few : D ≤ 37) where
       (first-low f (s * f) (D * L) (p .p) (p .n) (q .p) (q .n) l g d (p .over) (p .under) (q .over) (q .under)) (p .val) (q .val) in
       (i .p, i .n, i .val, room (i .p) (i .n) f (s * f) (D * L) (p .p) (p .n) (q .p) (q .n) l g d (p .over) (q .over) (i .over))
     where
-      room : (y w f g d p n q m : ℕ) → f < L → g ≤ f → d ≤ 37 * L → 86400 * p ≤ 86400 * n + (86400 * f + g) + 113792 * h → 86400 * q ≤ 86400 * m + d + 22 * h
+      room : (y w f g d p n q m : ℕ) → f < L → g ≤ f → d ≤ lastSeconds * L → 86400 * p ≤ 86400 * n + (86400 * f + g) + 113792 * h
+          → 86400 * q ≤ 86400 * m + d + 22 * h
           → y + (n + m) ≤ w + (p + q) + h → y < w + 2 * L
       room y w f g d p n q m a b e i j k = omega (arith, L-h, h-pos)
 
@@ -169,7 +171,7 @@ record DayLaw (D E : ℕ) : Type 0 where
   start : T (le (inDays D) (withOffset (stretch .c) D nought))
   end : T (le (sub binary64 (withOffset (stretch .c) D last) one) (inDays E))
 
-day-law : (D s E : ℕ) → D ≤ 37 → s ≤ 1 → D + s ≡ E → DayLaw D E
+day-law : (D s E : ℕ) → D ≤ lastSeconds → s ≤ 1 → D + s ≡ E → DayLaw D E
 day-law D zero E l k e = subst (DayLaw D) (plain D E e)
     (record { s = 0; stretch = plain-day-factor D (omega arith); start = plain-start D (omega arith); end = plain-end D (omega arith) })
   where
@@ -186,7 +188,7 @@ module _ (n : ℕ) (low : 2441318 ≤ n) (high : n ≤ 5000002) where
   day-whole : WholeSeconds n
   day-whole = seconds-on-day n low (omega arith)
 
-  day-few : secondsOn n ≤ 37
+  day-few : secondsOn n ≤ lastSeconds
   day-few = omega (arith, day-whole .most)
 
   the-day : DayLaw (secondsOn n) (secondsOn (suc n))

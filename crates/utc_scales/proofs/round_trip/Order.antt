@@ -3,7 +3,7 @@
 use mathlib.Core.Path.{_≡_, sym, subst, _∙_}
 use mathlib.Core.Bool.{true}
 use mathlib.Core.Logic.{_⊎_, inl, inr}
-use Prim.Native.Nat.{ℕ, _+_, _*_, _≤_, _<_}
+use Prim.Native.Nat.{ℕ, _+_, _*_, _≤_, _<_, _-_}
 use native.Mathlib.Nat.{zero-mul}
 use native.Mathlib.Omega.{arith}
 use native.Mathlib.Decide.{decLe}
@@ -13,7 +13,7 @@ use Rattle.rounding.specs.Value.{Val, L}
 use Rattle.rounding.proofs.Value.{L-pos, val-unique}
 use Rattle.rounding.proofs.Compare.{le-show}
 use Rattle.julian.specs.declared.JulianDate.{JulianDate}
-use Rattle.leap_table.specs.rows.Table.{fixed}
+use Rattle.leap_table.specs.rows.Table.{fixed, lastSeconds}
 use Rattle.rounding.specs.Picoseconds.{dayPs}
 use Rattle.scales.specs.laws.Recorders.{NotLater}
 use Rattle.scales.proofs.laws.Meant.{worth-unique}
@@ -46,7 +46,7 @@ in-parts {x} {y} e l =
 
 -- ---- the exact relation between two stamps: W and W' the dates by UTC, G and G' their TAI-UTC, (p - m) and (p' - m') their TAI
 Far : (W W' G G' : ℕ) → Type 0
-Far W W' G G' = (G ≤ G') ⊎ ((W + L ≤ W') × (G ≤ G' + 27 * L))
+Far W W' G G' = (G ≤ G') ⊎ ((W + L ≤ W') × (G ≤ G' + (lastSeconds - 10) * L))
 
 module _ (p m p' m' W W' G G' : ℕ) where
   to-tai : dayPs * W + 154 * L ≤ dayPs * W' → Far W W' G G' → dayPs * (86400 * (p + H)) ≤ dayPs * (86400 * m + 86400 * W + G) + 86400 * (77 * L)

@@ -3,8 +3,9 @@
 -- evaluation of UTC to TAI gives them. The residual of the guess is 86400 * (b + A + H) - (86400 * v + g). Assumes nothing.
 use mathlib.Core.Path.{_≡_}
 use mathlib.Core.Logic.{_⊎_, inl, inr}
-use Prim.Native.Nat.{ℕ, _+_, _*_, _≤_, _<_}
+use Prim.Native.Nat.{ℕ, _+_, _*_, _≤_, _<_, _/_}
 use native.Mathlib.Omega.{arith}
+use Rattle.leap_table.specs.rows.Table.{lastSeconds}
 use Rattle.utc_scales.proofs.round_trip.Steady.{Rises}
 
 -- the residual is at most P in size
@@ -27,9 +28,26 @@ pub record GuessMoved (h bp bn tp tn up un up' un' : ℕ) : Type 0 where
   pub high : up' + (un + (bn + tp)) ≤ un' + (up + (bp + tn)) + 2 * h
   pub low : un' + (up + (bp + tn)) ≤ up' + (un + (bn + tp)) + 2 * h
 
+-- The bounds of the residual in units of h, 2 ^ -53 s: at first TAI-UTC, and after each round 86400 times less, but for the rounding; and of what comes back.
+-- They are 333266372425762304, 3857250890490, 45853744, 1210167 and 1555789 where TAI-UTC is at most 37 s.
+abbrev pub atFirst : ℕ
+atFirst = lastSeconds * 9007199254740992 + 345600
+
+abbrev pub afterOne : ℕ
+afterOne = (atFirst + 104512550422) / 86400 + 1
+
+abbrev pub afterTwo : ℕ
+afterTwo = (afterOne + 104512550422) / 86400 + 1
+
+abbrev pub afterThree : ℕ
+afterThree = (afterTwo + 104512550422) / 86400 + 1
+
+abbrev pub backAgain : ℕ
+backAgain = afterThree + 345622
+
 module _ (h Q H A bp bn : ℕ) where
   -- the first guess is b itself: its residual is TAI-UTC
-  pub start : (v g : ℕ) → Q ≡ 9007199254740992 * h → g ≤ 37 * Q → DateNear h H A bp bn v → Residual H A bp bn v g (333266372425762304 * h)
+  pub start : (v g : ℕ) → Q ≡ 9007199254740992 * h → g ≤ lastSeconds * Q → DateNear h H A bp bn v → Residual H A bp bn v g (atFirst * h)
   start v g e k n = record { high = omega (arith, n .high, n .low); low = omega (arith, n .high, n .low) }
 
   -- the moved guess against the TAI-UTC of the guess before
@@ -38,7 +56,7 @@ module _ (h Q H A bp bn : ℕ) where
   moved-residual tp tn up un up' un' v g v' e n m n' = record { high = omega arith; low = omega arith }
 
   -- the two guesses are less than a day apart
-  pub day-apart : (v g v' P : ℕ) → Q ≡ 9007199254740992 * h → 0 < h → P ≤ 333266372425762304 * h → Residual H A bp bn v g P
+  pub day-apart : (v g v' P : ℕ) → Q ≡ 9007199254740992 * h → 0 < h → P ≤ atFirst * h → Residual H A bp bn v g P
       → Residual H A bp bn v' g (1209622 * h) → (v' < v + Q) × (v < v' + Q)
   day-apart v g v' P e z k o o' = within (P + 1209622 * h) (small P Q e z k) (gap v g v' P o o' .0) (gap v g v' P o o' .1)
     where
@@ -46,7 +64,7 @@ module _ (h Q H A bp bn : ℕ) where
           × (86400 * v ≤ 86400 * v' + (P + 1209622 * h))
       gap v g v' P o o' = omega arith
 
-      small : (P Q : ℕ) → Q ≡ 9007199254740992 * h → 0 < h → P ≤ 333266372425762304 * h → P + 1209622 * h < 86400 * Q
+      small : (P Q : ℕ) → Q ≡ 9007199254740992 * h → 0 < h → P ≤ atFirst * h → P + 1209622 * h < 86400 * Q
       small P Q e z k = omega arith
 
       within : (X : ℕ) → X < 86400 * Q → 86400 * v' ≤ 86400 * v + X → 86400 * v ≤ 86400 * v' + X → (v' < v + Q) × (v < v' + Q)
@@ -59,11 +77,11 @@ module _ (h Q H A bp bn : ℕ) where
   shrinks v g v' g' P P' k o o' (inr r) = record { high = omega arith; low = omega arith }
 
   -- how far the guess is moved
-  pub move-size : (tp tn v g P : ℕ) → Q ≡ 9007199254740992 * h → P ≤ 333266372425762304 * h → TaiNear h H A tp tn v g → Residual H A bp bn v g P
+  pub move-size : (tp tn v g P : ℕ) → Q ≡ 9007199254740992 * h → P ≤ atFirst * h → TaiNear h H A tp tn v g → Residual H A bp bn v g P
       → (2048 * (bp + tn) ≤ 2048 * (bn + tp) + Q) × (2048 * (bn + tp) ≤ 2048 * (bp + tn) + Q)
   move-size tp tn v g P e k i o = omega arith
 
   -- what comes back
-  pub end : (tp tn v g : ℕ) → TaiNear h H A tp tn v g → Residual H A bp bn v g (1210167 * h) → (86400 * (tp + bn) ≤ 86400 * (tn + bp) + 1555789 * h)
-      × (86400 * (tn + bp) ≤ 86400 * (tp + bn) + 1555789 * h)
+  pub end : (tp tn v g : ℕ) → TaiNear h H A tp tn v g → Residual H A bp bn v g (afterThree * h) → (86400 * (tp + bn) ≤ 86400 * (tn + bp) + backAgain * h)
+      × (86400 * (tn + bp) ≤ 86400 * (tp + bn) + backAgain * h)
   end tp tn v g i o = omega arith

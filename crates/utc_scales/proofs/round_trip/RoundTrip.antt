@@ -15,21 +15,21 @@ use Rattle.utc_scales.specs.round_trip.UtcDays.{H}
 use Rattle.utc_scales.specs.round_trip.RoundTrip.{ThereAndBack}
 use Rattle.utc_scales.proofs.round_trip.Units.{h, L-h}
 use Rattle.utc_scales.proofs.round_trip.Parts.{parts-joined, first-part}
-use Rattle.utc_scales.proofs.round_trip.Residuals.{end}
+use Rattle.utc_scales.proofs.round_trip.Residuals.{end, backAgain}
 use Rattle.utc_scales.proofs.round_trip.Rounds.{dateSeen, offsetSeen, tai-near, found}
 
 -- ---- in picoseconds
-over : (A bp bn rp rn Q h : ℕ) → Q ≡ 9007199254740992 * h → 86400 * (rp + bn) ≤ 86400 * (rn + bp) + 1555789 * h
+over : (A bp bn rp rn Q h : ℕ) → Q ≡ 9007199254740992 * h → 86400 * (rp + bn) ≤ 86400 * (rn + bp) + backAgain * h
     → 86400000000000000 * (1 * (A + rp) + 1 * bn + 0) ≤ 86400000000000000 * (1 * rn + 1 * (A + bp) + 0) + 173 * (1 * Q)
 over A bp bn rp rn Q h e k = omega arith
 
-under : (A bp bn rp rn Q h : ℕ) → Q ≡ 9007199254740992 * h → 86400 * (rn + bp) ≤ 86400 * (rp + bn) + 1555789 * h
+under : (A bp bn rp rn Q h : ℕ) → Q ≡ 9007199254740992 * h → 86400 * (rn + bp) ≤ 86400 * (rp + bn) + backAgain * h
     → 86400000000000000 * (1 * rn + 1 * (A + bp) + 0) ≤ 86400000000000000 * (1 * (A + rp) + 1 * bn + 0) + 173 * (1 * Q)
 under A bp bn rp rn Q h e k = omega arith
 
 -- r is what comes back for b
-back-apart : {a b r : Float} {A bp bn rp rn : ℕ} → Val a A 0 L → Val b bp bn L → Val r rp rn L → (86400 * (rp + bn) ≤ 86400 * (rn + bp) + 1555789 * h)
-    × (86400 * (rn + bp) ≤ 86400 * (rp + bn) + 1555789 * h)
+back-apart : {a b r : Float} {A bp bn rp rn : ℕ} → Val a A 0 L → Val b bp bn L → Val r rp rn L → (86400 * (rp + bn) ≤ 86400 * (rn + bp) + backAgain * h)
+    × (86400 * (rn + bp) ≤ 86400 * (rp + bn) + backAgain * h)
     → Apart 173 (julian a b) (julian a r)
 back-apart {a} {b} {r} {A} {bp} {bn} {rp} {rn} va vb vr k = record {
   p = A + bp;

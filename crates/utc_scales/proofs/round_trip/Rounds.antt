@@ -1,5 +1,5 @@
--- THE THREE ROUNDS of TAI to UTC: the residual of the guess falls from 37 s to 428 microseconds, 5.1 ns and 135 ps, and UTC to TAI takes the last guess to
--- within 173 ps of the TAI that was given. Assumes nothing.
+-- THE THREE ROUNDS of TAI to UTC: the residual of the guess falls from at most 37 s to 428 microseconds, 5.1 ns and 135 ps, and UTC to TAI takes the last guess
+-- to within 173 ps of the TAI that was given. Assumes nothing.
 use mathlib.Core.Path.{_≡_, _∙_}
 use Prim.Native.Nat.{ℕ, _+_, _*_, _≤_}
 use native.Mathlib.Omega.{arith}
@@ -20,7 +20,8 @@ use Rattle.utc_scales.proofs.round_trip.Parts.{FirstPart, SecondPart}
 use Rattle.utc_scales.proofs.round_trip.Steady.{taiUtcAt, either, few-seconds}
 use Rattle.utc_scales.proofs.round_trip.Kept.{first-larger, kept-changed}
 use Rattle.utc_scales.proofs.round_trip.Evaluated.{Seen, seen}
-use Rattle.utc_scales.proofs.round_trip.Residuals.{Residual, DateNear, TaiNear, start, moved-residual, day-apart, shrinks, move-size}
+use Rattle.utc_scales.proofs.round_trip.Residuals.{Residual, DateNear, TaiNear, start, moved-residual, day-apart, shrinks, move-size, afterOne}
+use Rattle.utc_scales.proofs.round_trip.Residuals.{afterThree, afterTwo, atFirst}
 use Rattle.utc_scales.proofs.round_trip.Round.{Next, next-guess}
 
 -- ---- what is seen of a guess, in the numbers of a round
@@ -51,7 +52,7 @@ pub record GuessAt (a : Float) (A bp bn R P : ℕ) (u : Float) : Type 0 where
 
 module _ {a b : Float} {A bp bn : ℕ} (v : FirstPart a A) (vb : Val b bp bn L) where
   -- the first guess is b
-  first : T (fits binary64 b) → bp ≤ bn + L → bn ≤ bp + L → GuessAt a A bp bn (1024 * L) (333266372425762304 * h) b
+  first : T (fits binary64 b) → bp ≤ bn + L → bn ≤ bp + L → GuessAt a A bp bn (1024 * L) (atFirst * h) b
   first t k l =
       let z : Seen a b A bp bn = seen v (record { held = t; val = vb; over = wide bp bn L k; under = wide bn bp L l }) in
       record {
@@ -73,7 +74,7 @@ module _ {a b : Float} {A bp bn : ℕ} (v : FirstPart a A) (vb : Val b bp bn L) 
       plain p n Q k = omega arith
 
   -- a round: the bound P becomes P'
-  step : (R P R' P' : ℕ) → R + L ≤ R' → R' ≤ 1027 * L → P ≤ 333266372425762304 * h → P + 104512550422 * h ≤ 86400 * P'
+  step : (R P R' P' : ℕ) → R + L ≤ R' → R' ≤ 1027 * L → P ≤ atFirst * h → P + 104512550422 * h ≤ 86400 * P'
       → {u : Float} (x : GuessAt a A bp bn R P u)
       → GuessAt a A bp bn R' P' (moved a b u (julian a (x .seen .t)))
   step R P R' P' r r' p p' {u} x =
@@ -123,15 +124,15 @@ module _ {a b : Float} {A bp bn : ℕ} (v : FirstPart a A) (vb : Val b bp bn L) 
   record Refined : Type 0 where
     u : Float
     is : refineUtcFraction fixed a b ≡ answer u
-    at : GuessAt a A bp bn (1027 * L) (1210167 * h) u
+    at : GuessAt a A bp bn (1027 * L) (afterThree * h) u
 
   three-rounds : T (fits binary64 b) → bp ≤ bn + L → bn ≤ bp + L → Refined
   unfolding refineUtcFraction rounds
   three-rounds t k l =
       let x0 = first t k l in
-      let x1 = step (1024 * L) (333266372425762304 * h) (1025 * L) (3857250890490 * h) (omega arith) (omega arith) (omega arith) (omega arith) x0 in
-      let x2 = step (1025 * L) (3857250890490 * h) (1026 * L) (45853744 * h) (omega arith) (omega arith) (omega arith) (omega arith) x1 in
-      let x3 = step (1026 * L) (45853744 * h) (1027 * L) (1210167 * h) (omega arith) (omega arith) (omega arith) (omega arith) x2 in
+      let x1 = step (1024 * L) (atFirst * h) (1025 * L) (afterOne * h) (omega arith) (omega arith) (omega arith) (omega arith) x0 in
+      let x2 = step (1025 * L) (afterOne * h) (1026 * L) (afterTwo * h) (omega arith) (omega arith) (omega arith) (omega arith) x1 in
+      let x3 = step (1026 * L) (afterTwo * h) (1027 * L) (afterThree * h) (omega arith) (omega arith) (omega arith) (omega arith) x2 in
       record { u = _; is = went (rounds fixed a b 2) (once x0) ∙ went (rounds fixed a b 1) (once x1) ∙ went (rounds fixed a b 0) (once x2); at = x3 }
 
 -- ---- TAI to UTC of (a, b) is (a, u), where u stands within 135 ps
@@ -141,7 +142,7 @@ pub record Found (a b : Float) (A : ℕ) : Type 0 where
   pub bn : ℕ
   pub given : Val b bp bn L
   pub is : taiToUtc fixed (julian a b) ≡ answer (julian a u)
-  pub at : GuessAt a A bp bn (1027 * L) (1210167 * h) u
+  pub at : GuessAt a A bp bn (1027 * L) (afterThree * h) u
 
 pub found : {a b : Float} {A : ℕ} → FirstPart a A → T (fits binary64 b) → T (le (abs b) one) → Found a b A
 unfolding taiToUtc

@@ -6,6 +6,7 @@ use Prim.Native.Nat.{ℕ, zero, suc, _+_, _*_, _≤_, _<_}
 use native.Mathlib.Nat.{add-mul, mul-le-mul-right, eq-or-lt-of-le, lt-of-mul-lt-mul-right}
 use native.Mathlib.Omega.{arith}
 use native.Mathlib.Decide.{decLe}
+use Rattle.leap_table.specs.rows.Table.{lastSeconds}
 use Rattle.rounding.specs.Value.{L}
 use Rattle.utc_scales.specs.round_trip.UtcDays.{secondsOn, leapAfter, WholeSeconds}
 use Rattle.utc_scales.proofs.round_trip.Units.{next-midnight}
@@ -86,10 +87,10 @@ share zero f k b = omega arith
 share (suc zero) f k b = omega arith
 share (suc (suc s)) f k b = absurd (omega arith)
 
-pub few-seconds : (n f : ℕ) → WholeSeconds n → f < L → (10 * L ≤ taiUtcAt n f) × (taiUtcAt n f ≤ 37 * L)
+pub few-seconds : (n f : ℕ) → WholeSeconds n → f < L → (10 * L ≤ taiUtcAt n f) × (taiUtcAt n f ≤ lastSeconds * L)
 few-seconds n f t b =
     go (secondsOn n * L) (leapAfter n * L) (leapAfter n * f) (mul-le-mul-right L (t .least))
-    (subst (λ (z : ℕ). z ≤ 37 * L) (add-mul (secondsOn n) (leapAfter n) L) (mul-le-mul-right L (t .most))) (share (leapAfter n) f (t .step) b .1)
+    (subst (λ (z : ℕ). z ≤ lastSeconds * L) (add-mul (secondsOn n) (leapAfter n) L) (mul-le-mul-right L (t .most))) (share (leapAfter n) f (t .step) b .1)
   where
-    go : (d s g : ℕ) → 10 * L ≤ d → d + s ≤ 37 * L → g ≤ s → (10 * L ≤ d + g) × (d + g ≤ 37 * L)
+    go : (d s g : ℕ) → 10 * L ≤ d → d + s ≤ lastSeconds * L → g ≤ s → (10 * L ≤ d + g) × (d + g ≤ lastSeconds * L)
     go d s g k l m = omega arith

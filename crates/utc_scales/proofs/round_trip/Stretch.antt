@@ -10,6 +10,7 @@ use lib.Ieee.{Float, fin, binary64, round, add, sub, mul, div, ofInt, fits}
 use lib.Ieee.Fits.{mul-fits}
 use Rattle.floats.specs.Whole.{nought, one}
 use Rattle.constants.specs.Constants.{secondsPerDay}
+use Rattle.leap_table.specs.rows.Table.{lastSeconds}
 use Rattle.rounding.specs.Value.{Val, Rounds, L}
 use Rattle.rounding.proofs.Value.{L-is, L-pos, mul-rounds}
 use Rattle.rounding.proofs.Casts.{ofInt-val}
@@ -172,7 +173,7 @@ plain-day-factor D l = record { c = one; factor = plain-factor; is = λ x. plain
 abbrev pub longer-day-factor : (D : ℕ) → D < 64 → DayFactor D 1 (suc D)
 longer-day-factor D l = record { c = K; factor = longer-factor; is = λ x. longer-stretch D x l }
 
-pub day-factor : (D s E : ℕ) → D ≤ 37 → s ≤ 1 → D + s ≡ E → DayFactor D s E
+pub day-factor : (D s E : ℕ) → D ≤ lastSeconds → s ≤ 1 → D + s ≡ E → DayFactor D s E
 day-factor D zero E l k e = subst (DayFactor D 0) (plain D E e) (plain-day-factor D (omega arith))
   where
     plain : (D E : ℕ) → D + 0 ≡ E → D ≡ E
@@ -191,7 +192,7 @@ pub record Quotient (z : Float) (D : ℕ) : Type 0 where
   pub over : 86400 * p ≤ 86400 * n + D * L + 22 * h
   pub under : D * L + 86400 * n ≤ 86400 * p + 22 * h
 
-seconds-val : (D : ℕ) → D ≤ 37 → Val (wholeF D) (D * L) 0 L
+seconds-val : (D : ℕ) → D ≤ lastSeconds → Val (wholeF D) (D * L) 0 L
 seconds-val D l = subst (λ (z : ℕ). Val (wholeF D) (D * L) z L) (zero-mul L) (whole-val (ofInt-val (pos D) (omega arith) (omega arith)))
 
 L-b : L ≡ 2048 * 2 ^ (53 + 1010)
@@ -201,12 +202,12 @@ h-w : h ≡ 2048 * 2 ^ 1010
 unfolding h
 h-w = refl
 
-pub in-days : (D : ℕ) → D ≤ 37 → Quotient (div binary64 (wholeF D) secondsPerDay) D
+pub in-days : (D : ℕ) → D ≤ lastSeconds → Quotient (div binary64 (wholeF D) secondsPerDay) D
 in-days D l =
     go (div-near 1010 86400 (lit< tt) (lit≤ tt) (room (D * L) (2 ^ (53 + 1010)) L-b (mul-le-mul-right L l)) (room' (D * L) (2 ^ (53 + 1010)) L-b)
     (seconds-val D l) day-val)
   where
-    room : (d b : ℕ) → L ≡ 2048 * b → d ≤ 37 * L → d < 0 + b * 86400
+    room : (d b : ℕ) → L ≡ 2048 * b → d ≤ lastSeconds * L → d < 0 + b * 86400
     room d b e k = omega (arith, L-pos)
 
     room' : (d b : ℕ) → L ≡ 2048 * b → 0 < d + b * 86400

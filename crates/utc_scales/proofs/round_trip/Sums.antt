@@ -3,12 +3,13 @@
 use mathlib.Core.Path.{_≡_}
 use Prim.Native.Nat.{ℕ, _+_, _*_, _≤_, _<_}
 use native.Mathlib.Omega.{arith}
+use Rattle.leap_table.specs.rows.Table.{lastSeconds}
 use Rattle.rounding.specs.Value.{L}
 use Rattle.rounding.proofs.Value.{L-pos}
 use Rattle.utc_scales.specs.round_trip.UtcDays.{H}
 use Rattle.utc_scales.proofs.round_trip.Units.{h, h-small}
 
-module _ (f g d p n c e : ℕ) (b : f < L) (gf : g ≤ f) (dL : d ≤ 37 * L)
+module _ (f g d p n c e : ℕ) (b : f < L) (gf : g ≤ f) (dL : d ≤ lastSeconds * L)
     (p-over : 86400 * p ≤ 86400 * n + (86400 * f + g) + 113792 * h) (p-under : 86400 * f + g + 86400 * n ≤ 86400 * p + 113792 * h)
     (c-over : 86400 * c ≤ 86400 * e + d + 22 * h) (c-under : d + 86400 * e ≤ 86400 * c + 22 * h) where
   pub first-high : p + c < n + e + 2 * L

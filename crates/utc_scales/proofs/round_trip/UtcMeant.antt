@@ -4,6 +4,7 @@ use mathlib.Core.Path.{_≡_, refl}
 use Prim.Native.Nat.{ℕ, _+_, _*_, _≤_}
 use native.Mathlib.Omega.{arith}
 use lib.Ieee.{Float}
+use Rattle.utc_scales.proofs.round_trip.Residuals.{afterThree}
 use Rattle.refusals.specs.Outcome.{answer}
 use Rattle.rounding.specs.Value.{Val, L}
 use Rattle.julian.specs.declared.JulianDate.{JulianDate}
@@ -26,16 +27,16 @@ use Rattle.utc_scales.proofs.round_trip.Exactly.{Said, means-of}
 to-picoseconds : (x y : ℕ) → x ≤ y + 1555771 * h → dayPs * x ≤ dayPs * y + 86400 * (173 * L)
 to-picoseconds x y k = omega (arith, L-h)
 
-over : (A bp bn W x K G : ℕ) → x ≤ W + 4 * h → G ≤ K + 4 * h → 86400 * (bp + A + H) ≤ 86400 * bn + (86400 * x + G) + 1210167 * h
+over : (A bp bn W x K G : ℕ) → x ≤ W + 4 * h → G ≤ K + 4 * h → 86400 * (bp + A + H) ≤ 86400 * bn + (86400 * x + G) + afterThree * h
     → 86400 * (A + bp + H) ≤ 86400 * bn + 86400 * W + K + 1555771 * h
 over A bp bn W x K G k l m = omega arith
 
-under : (A bp bn W x K G : ℕ) → W ≤ x + 4 * h → K ≤ G + 4 * h → 86400 * bn + (86400 * x + G) ≤ 86400 * (bp + A + H) + 1210167 * h
+under : (A bp bn W x K G : ℕ) → W ≤ x + 4 * h → K ≤ G + 4 * h → 86400 * bn + (86400 * x + G) ≤ 86400 * (bp + A + H) + afterThree * h
     → 86400 * bn + 86400 * W + K ≤ 86400 * (A + bp + H) + 1555771 * h
 under A bp bn W x K G k l m = omega arith
 
--- a guess whose residual is at most 1210167 h, on its exact day
-module _ {a b u : Float} {A bp bn : ℕ} (v : FirstPart a A) (vb : Val b bp bn L) (x : GuessAt a A bp bn (1027 * L) (1210167 * h) u) (n : ℕ)
+-- a guess whose residual is at most `afterThree` h, on its exact day
+module _ {a b u : Float} {A bp bn : ℕ} (v : FirstPart a A) (vb : Val b bp bn L) (x : GuessAt a A bp bn (1027 * L) (afterThree * h) u) (n : ℕ)
     (o : OnDay (A + x .up) (x .un) n) where
   abbrev z : Seen a u A (x .up) (x .un)
   z = x .seen

@@ -30,7 +30,7 @@ use Rattle.julian.specs.declared.JulianDate.{JulianDate}
 use Rattle.julian.specs.JulianDate.{julian}
 use Rattle.julian.specs.Finite.{finiteArg, finiteJd}
 use Rattle.julian.proofs.laws.UnixTime.{day-val}
-use Rattle.leap_table.specs.rows.Table.{fixed}
+use Rattle.leap_table.specs.rows.Table.{fixed, lastSeconds}
 use Rattle.leap_table.specs.offsets.Offset.{wholeF}
 use Rattle.leap_table.specs.offsets.Leap.{offsets}
 use Rattle.rounding.specs.Picoseconds.{dayPs}
@@ -143,7 +143,7 @@ module _ {a u : Float} {A up un : ℕ} (v : FirstPart a A) (w : SecondPart u up 
     f-high : f .n < 1000000000
     f-high = subst (λ (n : ℕ). n < 1000000000) same-day day-high
 
-    few : D ≤ 37
+    few : D ≤ lastSeconds
     few = omega (arith, seconds-on-day (f .n) (f .from) f-high .most, f .seconds)
 
     offset-is : offsetAt0h fixed (gregorianDate (dayOf a there .day)) ≡ answer (wholeF D)
@@ -154,7 +154,7 @@ module _ {a u : Float} {A up un : ℕ} (v : FirstPart a A) (w : SecondPart u up 
         ∙ ap (λ (s : ℕ). answer (wholeF s)) (f .seconds)
 
 -- ---- no step from a day to the next, where both have D seconds
-level : (D : ℕ) → D ≤ 37 → lt (abs (sub binary64 (wholeF D) (wholeF D))) half ≡ true
+level : (D : ℕ) → D ≤ lastSeconds → lt (abs (sub binary64 (wholeF D) (wholeF D))) half ≡ true
 level D g =
     let s = sum-near 0 (lit≤ tt) (some (D * L) (2 ^ (53 + 0)) (lit< tt)) (some' (D * L) (2 ^ (53 + 0)) (lit< tt))
     (sub-rounds binary64 L-pos (seconds-val D g) (seconds-val D g)) in
@@ -221,7 +221,7 @@ module _ {a u : Float} {A up un : ℕ} (v : FirstPart a A) (w : SecondPart u up 
   abbrev D : ℕ
   D = s .D
 
-  most : D ≤ 37
+  most : D ≤ lastSeconds
   most = few v w (negsuc 0) (lit≤ tt) (lit≤ tt) (s .before)
 
   before-is : offsetOfDate fixed a (add binary64 u (ofInt binary64 (negsuc 0))) ≡ answer (wholeF D)

@@ -30,7 +30,7 @@ use Rattle.julian.specs.declared.JulianDate.{JulianDate}
 use Rattle.julian.specs.JulianDate.{julian}
 use Rattle.julian.specs.Finite.{finiteArg}
 use Rattle.julian.proofs.laws.UnixTime.{day-val}
-use Rattle.leap_table.specs.rows.Table.{fixed}
+use Rattle.leap_table.specs.rows.Table.{fixed, lastSeconds}
 use Rattle.leap_table.specs.offsets.Offset.{wholeF}
 use Rattle.leap_table.specs.offsets.Leap.{offsets}
 use Rattle.julian.specs.shifts.SmallerPart.{firstIsLarger}
@@ -68,7 +68,7 @@ pub unit-q : 512 * 2 ^ 1012 ≡ h
 unfolding h
 unit-q = refl
 
-pub seconds-val : (D : ℕ) → D ≤ 37 → Val (wholeF D) (D * L) 0 L
+pub seconds-val : (D : ℕ) → D ≤ lastSeconds → Val (wholeF D) (D * L) 0 L
 seconds-val D l = subst (λ (z : ℕ). Val (wholeF D) (D * L) z L) (zero-mul L) (whole-val (ofInt-val (pos D) (omega arith) (omega arith)))
 
 -- z is (p - n) / L, and 86400 z is within 117 h of x - y - D L
@@ -79,10 +79,10 @@ record Offset (z : Float) (x y d : ℕ) : Type 0 where
   over : 86400 * p + y + d ≤ 86400 * n + x + 117 * h
   under : 86400 * n + x ≤ 86400 * p + y + d + 117 * h
 
-offset-days : {c : Float} {x y : ℕ} (D : ℕ) → D ≤ 37 → Val c x y L → x ≤ y + L → y ≤ x + L
+offset-days : {c : Float} {x y : ℕ} (D : ℕ) → D ≤ lastSeconds → Val c x y L → x ≤ y + L → y ≤ x + L
     → Offset (div binary64 (sub binary64 c (wholeF D)) secondsPerDay) x y (D * L) × (finite (sub binary64 c (wholeF D)) ≡ true)
 offset-days {c} {x} {y} D hD v u l =
-    let g : D * L ≤ 37 * L = mul-le-mul-right L hD in
+    let g : D * L ≤ lastSeconds * L = mul-le-mul-right L hD in
     let s = sum-near 1027 (lit≤ tt) (subst (λ (i : ℕ). x < y + D * L + i) (sym size-64) (fit x y (D * L) u))
     (subst (λ (i : ℕ). y + D * L < x + i) (sym size-64) (fit' x y (D * L) g l))
     (rounds-move (sub-rounds binary64 L-pos v (seconds-val D hD)) (omega arith)) in
@@ -104,19 +104,19 @@ offset-days {c} {x} {y} D hD v u l =
     fit : (x y d : ℕ) → x ≤ y + L → x < y + d + 64 * L
     fit x y d u = omega (arith, L-pos)
 
-    fit' : (x y d : ℕ) → d ≤ 37 * L → y ≤ x + L → y + d < x + 64 * L
+    fit' : (x y d : ℕ) → d ≤ lastSeconds * L → y ≤ x + L → y + d < x + 64 * L
     fit' x y d g l = omega (arith, L-pos)
 
-    more : (x y d : ℕ) → x ≤ y + L → x ≤ y + d + 38 * L
+    more : (x y d : ℕ) → x ≤ y + L → x ≤ y + d + suc lastSeconds * L
     more x y d u = omega arith
 
-    less : (x y d : ℕ) → d ≤ 37 * L → y ≤ x + L → y + d ≤ x + 38 * L
+    less : (x y d : ℕ) → d ≤ lastSeconds * L → y ≤ x + L → y + d ≤ x + suc lastSeconds * L
     less x y d g l = omega arith
 
     half : (p n X Y w : ℕ) → w ≡ 64 * h → 2 * (p + Y) ≤ 2 * (n + X) + w → p + Y ≤ n + X + 32 * h
     half p n X Y w e k = omega arith
 
-    room : (p n X Y w : ℕ) → 512 * w ≡ L → X ≤ Y + 38 * L → p + Y ≤ n + X + 32 * h → p < n + w * 86400
+    room : (p n X Y w : ℕ) → 512 * w ≡ L → X ≤ Y + suc lastSeconds * L → p + Y ≤ n + X + 32 * h → p < n + w * 86400
     room p n X Y w e k o = omega (arith, h-small, h-pos)
 
     end : (p n q m x y d w : ℕ) → 512 * w ≡ h → 2 * (86400 * p + 1 * m) ≤ 2 * (86400 * n + 1 * q) + 86400 * w → q + (y + d) ≤ m + x + 32 * h
@@ -128,7 +128,7 @@ offset-days {c} {x} {y} D hD v u l =
     end' p n q m x y d w e k o = omega arith
 
 -- ---- the sums, with N = n L, d = D L, and s leap seconds
-t-high : (s d N f A up un tp tn : ℕ) → s ≤ 1 → f < L → d ≤ 37 * L → 86400 * (tp + A + H) ≤ 86400 * tn + (86400 * (N + f) + (d + s * f)) + 345622 * h
+t-high : (s d N f A up un tp tn : ℕ) → s ≤ 1 → f < L → d ≤ lastSeconds * L → 86400 * (tp + A + H) ≤ 86400 * tn + (86400 * (N + f) + (d + s * f)) + 345622 * h
     → N + f + un ≤ A + up + H + 4 * h → 1024 * up ≤ 1024 * un + 1027 * L → 64 * tp ≤ 64 * tn + 65 * L
 t-high zero d N f A up un tp tn k b g e i w = omega (arith, h-small)
 t-high (suc zero) d N f A up un tp tn k b g e i w = omega (arith, h-small)
@@ -171,7 +171,7 @@ module _ {a u : Float} {A up un : ℕ} (v : FirstPart a A) (w : SecondPart u up 
   abbrev s : ℕ
   s = leapAfter (o .day)
 
-  few : D ≤ 37
+  few : D ≤ lastSeconds
   few = omega (arith, o .seconds .most)
 
   offset-is : offsetOfDate fixed a u ≡ answer (wholeF (secondsOn (o .day)))
@@ -188,7 +188,7 @@ module _ {a u : Float} {A up un : ℕ} (v : FirstPart a A) (w : SecondPart u up 
     z : Offset q x y (D * L)
     z = offset-days D few vc h1 h2 .0
 
-    d-high : D * L ≤ 37 * L
+    d-high : D * L ≤ lastSeconds * L
     d-high = mul-le-mul-right L few
 
     th : 64 * o .tp ≤ 64 * o .tn + 65 * L

@@ -9,7 +9,7 @@ unfoldable pub use Rattle.rounding.specs.Value.{H}
 use Rattle.calendar.specs.Calendar.{dateOf}
 use Rattle.julian.specs.declared.JulianDate.{JulianDate}
 use Rattle.julian.specs.Worth.{Worth}
-use Rattle.leap_table.specs.rows.Table.{fixed, monthNumber}
+use Rattle.leap_table.specs.rows.Table.{fixed, monthNumber, lastSeconds}
 use Rattle.leap_table.specs.offsets.Offset.{secondsIn}
 
 -- (p - m) / L lies on day n: f / L of that day have passed
@@ -37,9 +37,9 @@ secondsOn n = secondsIn fixed (monthOn n)
 unfoldable pub leapAfter : ℕ → ℕ
 leapAfter n = secondsOn (suc n) - secondsOn n
 
--- a day from 1972 on begins with 10 to 37 whole seconds, and ends with as many or one more
+-- a day from 1972 on begins with 10 whole seconds or more, up to those of the last row, and ends with as many or one more
 pub record WholeSeconds (n : ℕ) : Type 0 where
   pub least : 10 ≤ secondsOn n
   pub step : leapAfter n ≤ 1
   pub next : secondsOn n + leapAfter n ≡ secondsOn (suc n)
-  pub most : secondsOn n + leapAfter n ≤ 37
+  pub most : secondsOn n + leapAfter n ≤ lastSeconds

@@ -1,4 +1,4 @@
--- `leap_table::rows::check_table` meets its contract: a table that is taken has 42 rows and as many as its size says. Assumes nothing.
+-- `leap_table::rows::check_table` meets its contract: a table that is taken has the fixed rows and as many as its size says. Assumes nothing.
 use mathlib.Core.Path.{_≡_, ap, sym, _∙_}
 use Prim.Native.Nat.{ℕ, _+_}
 use native.Mathlib.Omega.{arith}

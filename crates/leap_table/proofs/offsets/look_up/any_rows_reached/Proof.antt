@@ -6,7 +6,7 @@ use native.Mathlib.Omega.{arith}
 use denote.Ref.{now}
 use lib.IntN.{ℤ}
 use borrow.Author.Needs.{needs}
-use Rattle.leap_table.specs.rows.Table.{fixed, starts, reached}
+use Rattle.leap_table.specs.rows.Table.{fixed, starts, reached, fixedRows}
 use Rattle.leap_table.specs.rows.Announced.{least, announcedTable, rowsIn, rowsTo}
 use Rattle.leap_table.specs.offsets.Plain.{byFound}
 use Rattle.leap_table.proofs.rows.ByParts.{announced-size, starts-alike}
@@ -24,7 +24,7 @@ by-none : (n k : ℕ) → k ≡ 0 → byFound n k ≡ reached (starts fixed) n
 by-none n zero e = refl
 by-none n (suc k) e = absurd (omega arith)
 
-by-some : (n k : ℕ) → (k ≡ 0 → ⊥) → byFound n k ≡ 42 + k
+by-some : (n k : ℕ) → (k ≡ 0 → ⊥) → byFound n k ≡ fixedRows + k
 by-some n zero e = absurd (e refl)
 by-some n (suc k) e = refl
 

@@ -7,7 +7,7 @@ use denote.Ref.{now}
 use lib.IntN.{natAbs}
 use Rattle.calendar.proofs.Signs.{to-unsigned, read-back}
 use Rattle.calendar.proofs.Accepted.{Accepted}
-use Rattle.leap_table.specs.rows.Table.{Row, starts, reached, monthNumber}
+use Rattle.leap_table.specs.rows.Table.{Row, starts, reached, monthNumber, mostRows}
 use Rattle.leap_table.specs.rows.Announced.{rowsIn}
 use Rattle.leap_table.specs.offsets.Offset.{offsetAt}
 use Rattle.leap_table.specs.offsets.Rule.{ruleBy, ruleOf, ruleAt}
@@ -43,7 +43,7 @@ whole c =
     let s = n .before .args in
     whole-reached (s .size) (now (s .months)) [] (n .month-number .result) _ (from-1972 n) (c .table-rows-reached .ensures .0 [])
 
-few : (c : tie.After-table-rows-reached) → c .table-rows-reached .result ≤ 58
+few : (c : tie.After-table-rows-reached) → c .table-rows-reached .result ≤ mostRows
 few c = few-rows (c .before .before .args .size) _ (c .table-rows-reached .ensures .1)
 
 returns : tie.Need-returns

@@ -6,7 +6,7 @@ use native.Mathlib.Omega.{arith}
 use lib.IntN.{pos}
 use lib.ListN.{getD}
 use borrow.Author.Needs.{needs}
-use Rattle.leap_table.specs.rows.Table.{Row, starts, reached}
+use Rattle.leap_table.specs.rows.Table.{Row, starts, reached, fixedRows}
 use Rattle.leap_table.specs.rows.Announced.{least, announcedSize, rowsOf}
 use Rattle.leap_table.proofs.rows.Naturals.{read-natural}
 use Rattle.leap_table.proofs.rows.Tables.{at-most-16}
@@ -24,11 +24,11 @@ module _ (c : tie.After-table-rows-reached) where
       c .table-rows-reached .ensures .0 (a .t1 .seconds)
       ∙ ap (λ (rows : List Row). reached (starts rows) (a .month)) (rows-in (a .t1) (z .size-of .result) (z .size-of .ensures))
 
-  few : let s = c .before .before .before .before in c .table-rows-reached .result ≤ 42 + announcedSize (s .args .t1)
+  few : let s = c .before .before .before .before in c .table-rows-reached .result ≤ fixedRows + announcedSize (s .args .t1)
   unfolding announcedSize
   few =
       let z = c .before .before .before in
-      subst (λ (n : ℕ). c .table-rows-reached .result ≤ 42 + least n 16) (z .size-of .ensures) (c .table-rows-reached .ensures .1)
+      subst (λ (n : ℕ). c .table-rows-reached .result ≤ fixedRows + least n 16) (z .size-of .ensures) (c .table-rows-reached .ensures .1)
 
   enough : 15 ≤ c .table-rows-reached .result
   enough = let s = c .before .before .before .before in omega (arith, rows-are, whole-rows-of (s .args .t1) (s .args .month) (s .pre))
@@ -57,7 +57,8 @@ returns-2 c =
     let r = i .before in
     let s = r .before .before .before .before in (
       c .natural .ensures .0
-          ∙ read-natural (getD (s .args .t1 .seconds) (r .table-rows-reached .result - 43) (pos 0)) (record { sfits = c .before .natural-arg .given })
+          ∙ read-natural (getD (s .args .t1 .seconds) (r .table-rows-reached .result - fixedRows - 1) (pos 0))
+          (record { sfits = c .before .natural-arg .given })
           ∙ in-announced-row (s .args .t1) (s .args .month) (r .table-rows-reached .result) (rows-are r) (enough r) (i .if1 .left) (few r),
       c .natural .ensures .1,
     )
@@ -66,4 +67,5 @@ pub seconds-in-spec : {M : Type 1} → statement M
 seconds-in-spec =
     tie.close
     (tie.spec (λ c κs. search needs) (λ c κs. search needs) (λ c. omega (arith, enough (c .before))) (λ c. search needs) returns (λ c. search needs)
+    (λ c. search needs)
     mul-natural element-copy-out-natural (λ c κs. search needs) returns-2)

@@ -9,7 +9,7 @@ use lib.ListN.{getD}
 use lib.Ieee.{ofBits}
 use borrow.Author.Tests.{lt-ltb, le-ltb}
 use borrow.Author.Needs.{needs}
-use Rattle.leap_table.specs.rows.Table.{Row, none}
+use Rattle.leap_table.specs.rows.Table.{Row, none, fixedRows}
 use Rattle.leap_table.specs.rows.Announced.{least, announcedSize, rowsOf}
 use Rattle.leap_table.specs.offsets.Offset.{secondsOf, startOf, rateOf}
 use Rattle.leap_table.specs.offsets.Forward.{byTerms}
@@ -53,7 +53,7 @@ returns-3 c =
 
 -- how many rows there are at the last answer, and that row i is one of them
 module _ (c : tie.After-table) where
-  few : let s = c .before .before .before .before .before .args in s .rows ≤ 42 + announcedSize (s .t1)
+  few : let s = c .before .before .before .before .before .args in s .rows ≤ fixedRows + announcedSize (s .t1)
   few = omega (arith, c .before .if3 .left, c .before .before .announced-size .ensures .0)
 
 seconds-of-row-requires : tie.Need-seconds-of-row-requires

@@ -5,7 +5,7 @@ use Prim.Native.Nat.{_≤_}
 use denote.Ref.{now}
 use lib.Ieee.{ofBits}
 use Rattle.leap_table.specs.offsets.Leap.{offsetsOfDay}
-use Rattle.leap_table.specs.rows.Table.{Row}
+use Rattle.leap_table.specs.rows.Table.{Row, mostRows}
 use Rattle.leap_table.specs.rows.Announced.{rowsIn}
 use Rattle.leap_table.specs.offsets.Rule.{ruleBy, ruleOf}
 use Rattle.leap_table.specs.offsets.Answers.{dayByRuleOutcome}
@@ -21,7 +21,7 @@ use Rattle.leap_table.proofs.offsets.whole_day.offsets_of_day.Tie as ti
 abbrev rows : tie.Start → List Row
 rows s = rowsIn (s .args .size) (now (s .args .months)) (now (s .args .seconds))
 
-few : (c : tie.After-table-rows-reached) → c .table-rows-reached .result ≤ 58
+few : (c : tie.After-table-rows-reached) → c .table-rows-reached .result ≤ mostRows
 few c = few-rows (c .before .args .size) _ (c .table-rows-reached .ensures .1)
 
 int-to-float-midnight : tie.Need-int-to-float-midnight

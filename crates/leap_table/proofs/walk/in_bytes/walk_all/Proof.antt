@@ -1,12 +1,16 @@
 -- `leap_table::walk::in_bytes::walk_all` meets its contract. The loop's invariant: the walk stands before date i, and the offsets of the dates before it are
 -- written. Assumes nothing.
-use Prim.Native.Nat.{_-_, _*_}
+use Prim.Native.Nat.{ℕ, _+_, _-_, _*_, _≤_}
 use native.Mathlib.Omega.{arith}
 use mathlib.Core.Path.{_≡_, sym, ap, subst, _∙_}
 use mathlib.Core.Logic.{⊎-elim}
+use lib.ListN.{length}
+use lib.Seq.{sets}
 use lib.Ieee.{binary64, ofInt}
 use Rattle.refusals.specs.Outcome.{answer}
 use Rattle.floats.specs.Whole.{nought}
+use Rattle.numerals.specs.little_endian.LittleEndian.{eightBytes}
+use Rattle.numerals.proofs.little_endian.Puts.{put-64-is}
 use Rattle.calendar.specs.DayCount.{mjdNumber}
 use Rattle.leap_table.specs.rows.Announced.{rowsOf}
 use Rattle.leap_table.specs.offsets.Forward.{byTerms}
@@ -88,28 +92,21 @@ next-counted-requires c κs =
 offset-in-requires : tie.Need-offset-in-requires Inv-loop μ-loop
 offset-in-requires c κs = good (c .before .before .before .before)
 
-mul-put-offset : tie.Need-mul-put-offset Inv-loop μ-loop
-mul-put-offset c =
-    let l = c .before .before .before .before .before .before .before .before in
-    record { fits = omega (arith, c .before .before .before .before .before .before .before .loop-test .taken, l .before .before .before .before .pre .2) }
-
-put-offset-requires : tie.Need-put-offset-requires Inv-loop μ-loop
-put-offset-requires c κs =
-    let l = c .before .before .before .before .before .before .before .before in
-    omega (arith, l .loop .inv .1 .long, c .before .before .before .before .before .before .before .loop-test .taken, l .before .before .before .before .pre .3)
-
 add-i : tie.Need-add-i Inv-loop μ-loop
 add-i c =
-    let q = c .before .before .before .before .before .before .before .before .before .before in
+    let j = c .before .before .before .before .before .before .before in
+    let q = j .before .before .before .before in
     record { fits = omega (arith, q .loop-test .taken, q .before .before .before .before .before .pre .2) }
 
 loop-less : tie.Need-loop-less Inv-loop μ-loop
-loop-less c = omega (arith, c .before .before .before .before .before .before .before .before .before .before .loop-test .taken)
+loop-less c =
+    let j = c .before .before .before .before .before .before .before in
+    omega (arith, j .before .before .before .before .loop-test .taken)
 
 loop-again : tie.Need-loop-again Inv-loop μ-loop
 loop-again c =
     let u = c .before .before in
-    let o = u .before .before in
+    let o = u .before .before .before in
     let j = o .before .before in
     let m = j .before .before in
     let l = m .before .before .before in
@@ -119,14 +116,16 @@ loop-again c =
     let f = tripleIn (s .dates .now) in
     let h = m .before .before .loop-test .taken in
     let p = l .loop .inv .0 in
+    let room : 8 * l .loop .i + 8 ≤ length (l .loop .out) = omega (arith, l .loop .inv .1 .long, h, b .pre .3) in
     let x =
     o .offset-in .ensures
     ∙ ap (λ (y : Triple). byTerms (j .if1 .w .terms) (ofInt binary64 (mjdNumber (y .year) (y .month) (y .day))) nought) (m .before .triple-in .ensures)
     ∙ offset-is rows f (s .n) (l .loop .i) (m .month-of .result) (l .loop .w) (j .if1 .w) p h (month-is m) (stepped j) (b .pre .1) in (
       pacing-goes rows f (s .n) (l .loop .i) (m .month-of .result) (l .loop .w) (j .if1 .w) p h (month-is m) (stepped j) (b .pre .0)
           (o .before .next-counted .result) (o .before .next-counted .ensures),
-      eights-go (tripleOffset rows) f (s .n) (s .out .now) (l .loop .i) (l .loop .out) _ (o .offset-in .result) h (l .loop .inv .1) x (u .put-offset .ensures)
-          (omega (arith, l .loop .inv .1 .long, h, b .pre .3)),
+      eights-go (tripleOffset rows) f (s .n) (s .out .now) (l .loop .i) (l .loop .out) _ (o .offset-in .result) h (l .loop .inv .1) x
+          (u .put-nth-u64 .ensures ∙ put-64-is (l .loop .out) (l .loop .i) _ room
+          ∙ ap (λ (z : ℕ). sets (l .loop .out) (8 * l .loop .i) (eightBytes z)) (u .before .to-bits .ensures)) room,
     )
 
 same-length : tie.Need-same-length Inv-loop μ-loop
@@ -146,4 +145,4 @@ pub walk-all-spec : {M : Type 1} → statement M
 walk-all-spec =
     tie.close
     (tie.spec Inv-loop μ-loop at-start-requires loop-holds triple-in-requires month-of-requires walk-to-requires next-counted-requires
-    offset-in-requires mul-put-offset put-offset-requires add-i loop-less loop-again same-length returns)
+    offset-in-requires (λ c κs. search needs) (λ c κs. search needs) add-i loop-less loop-again same-length returns)
