@@ -1,6 +1,9 @@
-// What the conversions of UTC that read the table share: the larger part of a date, which they keep, the smaller one, which they change, and TAI-UTC at 0h of a
-// day. On equal sizes jd2 is changed.
+// What the conversions of UTC that read the table share: the larger part of a date, which they keep, the smaller one, which they change, and of a day TAI-UTC
+// at 0h and the Modified Julian Date. On equal sizes jd2 is changed.
 ghost use mathlib.Core.Path.{_≡_};
+ghost use Prim.Native.Nat.{_≤_};
+ghost use lib.IntN.{pos, natAbs, _-ℤ_};
+ghost use lib.Ieee.{binary64, ofInt};
 ghost use Rattle.refusals.specs.Outcome.{onward};
 ghost use Rattle.calendar.specs.Gregorian.{gregorianDate};
 ghost use Rattle.julian.specs.JulianDate.{julianOutcome};
@@ -93,4 +96,12 @@ pub fn offset_at_0h<'a>(
         months,
         seconds,
     )
+}
+
+// The Modified Julian Date at 0h: the Rust's `calendar_to_julian` of the date gives the same, by the calendar's inverse law.
+pub(crate) fn mjd_of(day: i64) -> f64
+    requires { ⌜ natAbs day ≤ 1000000000 ⌝ }
+    ensures { λ r. ⌜ r ≡ ofInt binary64 (day -ℤ pos 2400001) ⌝ }
+{
+    (day - 2400001) as f64
 }

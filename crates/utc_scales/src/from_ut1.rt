@@ -5,7 +5,7 @@ ghost use Rattle.constants.specs.Constants.{mjdZeroPoint};
 ghost use Rattle.julian.specs.JulianDate.{julian, julianOutcome};
 ghost use Rattle.julian.specs.DayFraction.{fractionOutcome};
 ghost use Rattle.julian.specs.Finite as J;
-ghost use Rattle.leap_table.specs.rows.Announced.{rowsIn, rowsOf, tableOf};
+ghost use Rattle.leap_table.specs.rows.Announced.{rowsIn, tableOf};
 ghost use Rattle.scales.specs.Scales.{utcOutcome};
 ghost use Rattle.utc_scales.specs.days.LargerPart.{changeSmaller};
 ghost use Rattle.utc_scales.specs.from_ut1.Ut1Utc as U;
@@ -14,8 +14,8 @@ ghost use Rattle.utc_scales.specs.from_ut1.KnownMonths.{RightMonth, Righ
 mod months;
 
 use crate::days::kept_parts;
+use crate::days::mjd_of;
 use crate::days::placed;
-use constants::MJD_ZERO_POINT;
 use constants::SECONDS_PER_DAY_F64;
 use julian::FractionAnswer;
 use julian::JulianAnswer;
@@ -24,7 +24,6 @@ use julian::day_number::DayAnswer;
 use leap_table::rows::AnnouncedRows;
 use months::KnownMonth;
 use months::MonthAnswer;
-use months::mjd_of;
 use months::month_of_date;
 use months::month_with;
 use scales::UT1;
@@ -52,7 +51,7 @@ fn before_step(delta: f64, dut1: f64) -> f64
 fn time_past_leap(big: f64, small: f64, mjd: f64, dut1: f64) -> f64
     ensures { λ r. ⌜ r ≡ U.timePastLeap big small (julian mjdZeroPoint mjd) dut1 ⌝ }
 {
-    (big - MJD_ZERO_POINT) + (small - (mjd - 1.0 + dut1 / SECONDS_PER_DAY_F64))
+    (big - JulianDate::MJD_ZERO_POINT) + (small - (mjd - 1.0 + dut1 / SECONDS_PER_DAY_F64))
 }
 
 fn at_most_one(x: f64) -> f64
@@ -218,19 +217,6 @@ pub fn ut1_to_utc_with_dut1_by_lent<'a>(
     }
 }
 
-// By the rows of a table that is tested elsewhere. Refusals in order: 10, 9, then 6 or 1 for each scanned day.
-pub fn ut1_to_utc_with_dut1_by_rows(ut1: UT1, dut1: f64, table: AnnouncedRows) -> UtcAnswer
-    ensures { λ r. ⌜ utcOutcome r ≡ U.ut1ToUtc (rowsOf table) (ut1 .0) dut1 ⌝ }
-{
-    ut1_to_utc_with_dut1_by_lent(
-        ut1,
-        dut1,
-        leap_table::rows::size_of(table),
-        &table.months,
-        &table.seconds,
-    )
-}
-
 // Refusals in order: 20 to 22 the table, 10, 9, then 6 or 1 for each scanned day.
 pub fn ut1_to_utc_with_dut1(ut1: UT1, dut1: f64, table: AnnouncedRows) -> UtcAnswer
     ensures { λ r. ⌜ utcOutcome r ≡ onward (tableOf table) (λ rows. U.ut1ToUtc rows (ut1 .0) dut1) ⌝ }
@@ -239,5 +225,11 @@ pub fn ut1_to_utc_with_dut1(ut1: UT1, dut1: f64, table: AnnouncedRows) -> UtcAns
     if number != 0 {
         return UtcAnswer::Refused(number);
     }
-    ut1_to_utc_with_dut1_by_rows(ut1, dut1, table)
+    ut1_to_utc_with_dut1_by_lent(
+        ut1,
+        dut1,
+        leap_table::rows::size_of(table),
+        &table.months,
+        &table.seconds,
+    )
 }

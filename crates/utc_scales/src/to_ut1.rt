@@ -1,20 +1,20 @@
 // UTC to UT1 by DUT1 = UT1 - UTC in seconds: scales/conversions/utc_ut1/mod.rs.
 ghost use mathlib.Core.Path.{_≡_};
 ghost use Rattle.refusals.specs.Outcome.{onward};
-ghost use Rattle.leap_table.specs.rows.Announced.{rowsIn, rowsOf, tableOf};
+ghost use Rattle.leap_table.specs.rows.Announced.{rowsIn, tableOf};
 ghost use Rattle.leap_table.specs.offsets.Answers as T;
 ghost use Rattle.leap_table.specs.offsets.Rule.{withRule};
 ghost use Rattle.scales.specs.Scales.{ut1Outcome};
 ghost use Rattle.utc_scales.specs.days.DateRule.{offsetOfDateByRule};
 ghost use Rattle.utc_scales.specs.Known.{SameDay};
-ghost use Rattle.utc_scales.specs.to_ut1.UtcUt1 as U;
 ghost use Rattle.utc_scales.specs.to_ut1.ByRule.{utcToUt1ByRule, ut1ByRuleOutcome, offsetOfParts};
 use crate::days::Parts;
 use crate::days::kept_parts;
 use crate::days::offset_at_0h;
 use crate::days::put_beside;
-use crate::utc_tai::RuledPart;
-use crate::utc_tai::tai_fraction_by_rule;
+use crate::table::Known;
+use crate::utc_tai::PartAnswer;
+use crate::utc_tai::tai_fraction;
 use julian::day_number::DayAnswer;
 use leap_table::offsets::Rule;
 use leap_table::offsets::SecondsByRule;
@@ -88,34 +88,21 @@ pub fn utc_to_ut1_with_dut1_by_lent<'a>(
         return Ut1ByRule::Refused(number);
     }
     let p = kept_parts(utc.0);
-    match tai_fraction_by_rule(p.larger, p.smaller, size, months, seconds) {
-        RuledPart::Refused(number) => Ut1ByRule::Refused(number),
-        RuledPart::Part(part, at_0h, rule) => {
-            let tai = put_beside(p, part);
-            match offset_with(p, at_0h, rule, size, months, seconds) {
+    match tai_fraction(p.larger, p.smaller, Known::Nothing, size, months, seconds) {
+        PartAnswer::Refused(number) => Ut1ByRule::Refused(number),
+        PartAnswer::Part(k) => {
+            let tai = put_beside(p, k.part);
+            let day = k.known;
+            let offsets = day.offsets;
+            let rule = day.rule;
+            match offset_with(p, offsets.at_0h, rule, size, months, seconds) {
                 SecondsByRule::Refused(number) => Ut1ByRule::Refused(number),
-                SecondsByRule::Seconds(x, told) => with_rule(
+                SecondsByRule::Seconds(x, rule_at_0h) => with_rule(
                     scales::ut1_tai::tai_to_ut1_with_offset(TAI(tai), dut1 - x),
-                    told,
+                    rule_at_0h,
                 ),
             }
         }
-    }
-}
-
-// By the rows of a table that is tested elsewhere, without the rule. Refusals in order: 10, 6, the date's.
-pub fn utc_to_ut1_with_dut1_by_rows(utc: UTC, dut1: f64, table: AnnouncedRows) -> Ut1Answer
-    ensures { λ r. ⌜ ut1Outcome r ≡ U.utcToUt1 (rowsOf table) (utc .0) dut1 ⌝ }
-{
-    match utc_to_ut1_with_dut1_by_lent(
-        utc,
-        dut1,
-        leap_table::rows::size_of(table),
-        &table.months,
-        &table.seconds,
-    ) {
-        Ut1ByRule::Refused(number) => Ut1Answer::Refused(number),
-        Ut1ByRule::Date(ut1, _) => Ut1Answer::Date(ut1),
     }
 }
 

@@ -4,20 +4,18 @@ ghost use Rattle.refusals.specs.Outcome.{onward};
 ghost use Rattle.julian.specs.JulianDate.{julian, julianOutcome};
 ghost use Rattle.julian.specs.DayFraction.{fractionOutcome};
 ghost use Rattle.constants.specs.Constants.{mjdZeroPoint};
-ghost use Rattle.leap_table.specs.rows.Announced.{rowsIn, rowsOf, tableOf};
-ghost use Rattle.scales.specs.Scales.{taiOutcome, utcOutcome};
+ghost use Rattle.leap_table.specs.rows.Announced.{rowsIn, tableOf};
+ghost use Rattle.scales.specs.Scales.{utcOutcome};
 ghost use Rattle.utc_scales.specs.ByRule.{utcToTaiByRule, taiByRuleOutcome};
-ghost use Rattle.utc_scales.specs.Known.{RightKnown, partOutcome, RightPart, ruledPartOutcome, SameDays};
+ghost use Rattle.utc_scales.specs.Known.{RightKnown, partOutcome, RightPart, DayOfDate};
 ghost use Rattle.utc_scales.specs.UtcTai as U;
 use super::table::Known;
 use super::table::KnownDay;
-use super::table::day_of;
-use super::table::mjd_of;
-use super::table::offsets_with;
+use super::table::day_with;
 use crate::days::kept_parts;
+use crate::days::mjd_of;
 use crate::days::placed;
 use crate::days::put_beside;
-use constants::MJD_ZERO_POINT;
 use constants::SECONDS_PER_DAY_F64;
 use julian::FractionAnswer;
 use julian::JulianAnswer;
@@ -25,11 +23,9 @@ use julian::JulianDate;
 use julian::day_number::DayAnswer;
 use leap_table::offsets::DayByRule;
 use leap_table::offsets::DayOffsets;
-use leap_table::offsets::DayOffsetsAnswer;
 use leap_table::offsets::Rule;
 use leap_table::rows::AnnouncedRows;
 use scales::TAI;
-use scales::TaiAnswer;
 use scales::UTC;
 use scales::UtcAnswer;
 
@@ -42,12 +38,6 @@ pub(crate) struct KnownPart {
 // The same, or the number of the refusal.
 pub(crate) enum PartAnswer {
     Part(KnownPart),
-    Refused(u32),
-}
-
-// The smaller part of a date, TAI-UTC at 0h of its day and the rule of the day; or the number of the refusal.
-pub enum RuledPart {
-    Part(f64, f64, Rule),
     Refused(u32),
 }
 
@@ -71,12 +61,12 @@ fn stretch_day_fraction(o: DayOffsets, fraction: f64) -> f64
 fn tai_from_midnight(big: f64, mjd: f64, o: DayOffsets, fraction: f64) -> f64
     ensures { λ r. ⌜ r ≡ U.taiFromMidnight big (julian mjdZeroPoint mjd) o fraction ⌝ }
 {
-    let midnight = MJD_ZERO_POINT - big + mjd;
+    let midnight = JulianDate::MJD_ZERO_POINT - big + mjd;
     midnight + (stretch_day_fraction(o, fraction) + o.at_0h / SECONDS_PER_DAY_F64)
 }
 
-// The smaller part in TAI. Refusals in order: 6, then the date's.
-fn tai_fraction<'a>(
+// The smaller part in TAI, and the day that was read for it. Refusals in order: 6, then the date's.
+pub(crate) fn tai_fraction<'a>(
     big: f64,
     small: f64,
     known: Known,
@@ -86,44 +76,22 @@ fn tai_fraction<'a>(
 ) -> PartAnswer
     requires { ⌜ RightKnown (rowsIn size (now months) (now seconds)) known ⌝ }
     ensures { λ r. ⌜ (partOutcome r ≡ U.taiFraction (rowsIn size (now (months .entry)) (now (seconds .entry))) big small)
-        × RightPart (rowsIn size (now (months .entry)) (now (seconds .entry))) r ⌝ }
+        × DayOfDate (rowsIn size (now (months .entry)) (now (seconds .entry))) big small r ⌝ }
 {
     match julian::day_number::day_number_and_fraction(big, small) {
         DayAnswer::Refused(number) => PartAnswer::Refused(number),
-        DayAnswer::Day(d) => match offsets_with(d.day, known, size, months, seconds) {
-            DayOffsetsAnswer::Refused(number) => PartAnswer::Refused(number),
-            DayOffsetsAnswer::Offsets(o) => {
+        DayAnswer::Day(d) => match day_with(d.day, known, size, months, seconds) {
+            DayByRule::Refused(number) => PartAnswer::Refused(number),
+            DayByRule::Day(o, rule) => {
                 let part = tai_from_midnight(big, mjd_of(d.day), o, d.fraction);
                 PartAnswer::Part(KnownPart {
                     part,
                     known: KnownDay {
                         day: d.day,
                         offsets: o,
+                        rule,
                     },
                 })
-            }
-        },
-    }
-}
-
-// The smaller part in TAI, with TAI-UTC at 0h of the day and its rule, which UTC to UT1 reads too. Refusals in order: 6, then the date's.
-pub fn tai_fraction_by_rule<'a>(
-    big: f64,
-    small: f64,
-    size: usize,
-    months: &'a [i32; 16],
-    seconds: &'a [i32; 16],
-) -> RuledPart
-    ensures { λ r. ⌜ (ruledPartOutcome r ≡ U.taiFraction (rowsIn size (now (months .entry)) (now (seconds .entry))) big small)
-        × SameDays (rowsIn size (now (months .entry)) (now (seconds .entry))) big small r ⌝ }
-{
-    match julian::day_number::day_number_and_fraction(big, small) {
-        DayAnswer::Refused(number) => RuledPart::Refused(number),
-        DayAnswer::Day(d) => match day_of(d.day, size, months, seconds) {
-            DayByRule::Refused(number) => RuledPart::Refused(number),
-            DayByRule::Day(o, rule) => {
-                let part = tai_from_midnight(big, mjd_of(d.day), o, d.fraction);
-                RuledPart::Part(part, o.at_0h, rule)
             }
         },
     }
@@ -139,24 +107,13 @@ pub fn utc_to_tai_by_lent<'a>(
     ensures { λ r. ⌜ taiByRuleOutcome r ≡ utcToTaiByRule (rowsIn size (now (months .entry)) (now (seconds .entry))) (utc .0) ⌝ }
 {
     let p = kept_parts(utc.0);
-    match tai_fraction_by_rule(p.larger, p.smaller, size, months, seconds) {
-        RuledPart::Refused(number) => TaiByRule::Refused(number),
-        RuledPart::Part(part, _, rule) => TaiByRule::Date(TAI(put_beside(p, part)), rule),
-    }
-}
-
-// By the rows of a table that is tested elsewhere, without the rule. Refusals in order: 6, then the date's.
-pub fn utc_to_tai_by_rows(utc: UTC, table: AnnouncedRows) -> TaiAnswer
-    ensures { λ r. ⌜ taiOutcome r ≡ U.utcToTai (rowsOf table) (utc .0) ⌝ }
-{
-    match utc_to_tai_by_lent(
-        utc,
-        leap_table::rows::size_of(table),
-        &table.months,
-        &table.seconds,
-    ) {
-        TaiByRule::Refused(number) => TaiAnswer::Refused(number),
-        TaiByRule::Date(tai, _) => TaiAnswer::Date(tai),
+    match tai_fraction(p.larger, p.smaller, Known::Nothing, size, months, seconds) {
+        PartAnswer::Refused(number) => TaiByRule::Refused(number),
+        PartAnswer::Part(k) => {
+            let day = k.known;
+            let rule = day.rule;
+            TaiByRule::Date(TAI(put_beside(p, k.part)), rule)
+        }
     }
 }
 
@@ -265,18 +222,6 @@ pub fn tai_to_utc_by_lent<'a>(
     }
 }
 
-// By the rows of a table that is tested elsewhere. Refusals in each round, in order: 6, then the date's.
-pub fn tai_to_utc_by_rows(tai: TAI, table: AnnouncedRows) -> UtcAnswer
-    ensures { λ r. ⌜ utcOutcome r ≡ U.taiToUtc (rowsOf table) (tai .0) ⌝ }
-{
-    tai_to_utc_by_lent(
-        tai,
-        leap_table::rows::size_of(table),
-        &table.months,
-        &table.seconds,
-    )
-}
-
 // Refusals in order: 20 to 22 the table; then in each round 6, then the date's.
 pub fn tai_to_utc(tai: TAI, table: AnnouncedRows) -> UtcAnswer
     ensures { λ r. ⌜ utcOutcome r ≡ onward (tableOf table) (λ rows. U.taiToUtc rows (tai .0)) ⌝ }
@@ -285,5 +230,10 @@ pub fn tai_to_utc(tai: TAI, table: AnnouncedRows) -> UtcAnswer
     if number != 0 {
         return UtcAnswer::Refused(number);
     }
-    tai_to_utc_by_rows(tai, table)
+    tai_to_utc_by_lent(
+        tai,
+        leap_table::rows::size_of(table),
+        &table.months,
+        &table.seconds,
+    )
 }

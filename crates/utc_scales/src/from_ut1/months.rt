@@ -1,8 +1,5 @@
 // TAI-UTC at 0h of a day with its month, by which the next day need not be looked up.
 ghost use mathlib.Core.Path.{_≡_};
-ghost use Prim.Native.Nat.{_≤_};
-ghost use lib.IntN.{pos, natAbs, _-ℤ_};
-ghost use lib.Ieee.{binary64, ofInt};
 ghost use Rattle.calendar.specs.Gregorian.{gregorianDate};
 ghost use Rattle.leap_table.specs.rows.Announced.{rowsIn};
 ghost use Rattle.utc_scales.specs.days.Dates.{offsetAt0h, offsetOfDate};
@@ -80,12 +77,4 @@ pub(crate) fn month_of_date<'a>(
         DayAnswer::Refused(number) => MonthAnswer::Refused(number),
         DayAnswer::Day(d) => month_of(d.day, size, months, seconds),
     }
-}
-
-// The Modified Julian Date at 0h: the Rust's `calendar_to_julian` of the date gives the same, by the calendar's inverse law.
-pub(crate) fn mjd_of(day: i64) -> f64
-    requires { ⌜ natAbs day ≤ 1000000000 ⌝ }
-    ensures { λ r. ⌜ r ≡ ofInt binary64 (day -ℤ pos 2400001) ⌝ }
-{
-    (day - 2400001) as f64
 }

@@ -7,6 +7,7 @@ use Rattle.leap_table.specs.rows.Table.{Row}
 use Rattle.leap_table.specs.rows.Announced.{rowsIn}
 use Rattle.utc_scales.specs.days.Dates.{offsetsOf}
 use Rattle.utc_scales.specs.days.DateRule.{ruleOn}
+use Rattle.utc_scales.specs.Known.{readOn}
 use Rattle.utc_scales.proofs.days.Midnights.{month-fits, day-of-month-fits, handed}
 use mathlib.Core.List.{List}
 use denote.Ref.{now}
@@ -26,7 +27,7 @@ cast-day-offsets-by-lent-2 c = day-of-month-fits _ _
     (c .before .before .gregorian-date .ensures ∙ ap gregorianDate (toZ-ofZ (c .before .before .before .fits .day)))
 
 returns : tie.Need-returns
-unfolding offsetsOf ruleOn dayByRule
+unfolding readOn offsetsOf ruleOn dayByRule
 returns c = c .day-offsets-by-lent .ensures
     ∙ handed _ _ (c .before .before .before .before .gregorian-date .ensures
     ∙ ap gregorianDate (toZ-ofZ (c .before .before .before .before .before .fits .day))) (dayByRule (rows (c .before .before .before .before .before)))

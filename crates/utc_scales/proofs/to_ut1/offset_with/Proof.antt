@@ -19,7 +19,7 @@ rows s = rowsIn (s .args .size) (now (s .args .months)) (now (s .args .seconds))
 
 returns : tie.Need-returns
 unfolding secondsByRuleOutcome offsetOfDateByRule
-returns c = let s = c .before in passed _ _ _ _ (s .pre .offset) (s .pre .told) ∙ parts-offset (rows s) (s .args .p) true (c .if1 .taken)
+returns c = let s = c .before in passed _ _ _ _ (s .pre .offset) (s .pre .by-rule) ∙ parts-offset (rows s) (s .args .p) true (c .if1 .taken)
 
 returns-2 : tie.Need-returns-2
 returns-2 c = c .offset-of-date .ensures ∙ parts-offset (rows (c .before .before)) _ false (c .before .if1 .left)

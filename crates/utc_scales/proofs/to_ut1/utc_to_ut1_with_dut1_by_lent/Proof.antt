@@ -1,5 +1,5 @@
 -- `utc_scales::to_ut1::utc_to_ut1_with_dut1_by_lent` meets its contract. Assumes nothing.
-use mathlib.Core.Path.{sym, ap, subst, _∙_}
+use mathlib.Core.Path.{_≡_, sym, ap, subst, _∙_}
 use mathlib.Core.List.{List}
 use denote.Ref.{now}
 use lib.Ieee.{binary64, sub}
@@ -8,9 +8,10 @@ use Rattle.leap_table.specs.offsets.Answers as T
 use Rattle.leap_table.specs.rows.Table.{Row}
 use Rattle.leap_table.specs.rows.Announced.{rowsIn}
 use Rattle.scales.specs.Conversions.{answerOf, tai-ut1}
+use Rattle.refusals.specs.Outcome.{onward}
 use Rattle.refusals.proofs.Onward.{went, stopped}
-use Rattle.utc_scales.specs.declared.utc_tai.RuledPart.{RuledPart}
-use Rattle.utc_scales.specs.Known.{ruledPartOutcome, SameDays}
+use Rattle.utc_scales.specs.declared.utc_tai.PartAnswer.{PartAnswer}
+use Rattle.utc_scales.specs.Known.{RightKnown, partOutcome, DayOfDate}
 use Rattle.utc_scales.specs.days.LargerPart.{placed}
 use Rattle.utc_scales.specs.UtcTai.{taiFraction, utcToTai}
 use Rattle.utc_scales.specs.to_ut1.UtcUt1.{utcToUt1}
@@ -30,62 +31,69 @@ returns : tie.Need-returns
 unfolding ut1ByRuleOutcome J.offsetOutcome utcToUt1 utcToUt1ByRule
 returns c = not-passed _ _ _ (stopped _ (sym (c .before .before .before .finite-arg .ensures) ∙ ap J.offsetOutcome (c .before .number .given .1)))
 
+tai-fraction-requires : tie.Need-tai-fraction-requires
+unfolding RightKnown
+tai-fraction-requires c κs = tt
+
 offset-with-requires : tie.Need-offset-with-requires
-unfolding SameDays
+unfolding DayOfDate
 offset-with-requires c κs =
-    let t = c .before .before .before .before in
+    let k = c .before .before .before .before in
+    let t = k .before .before in
     let s = t .before .before .before .before .before in
     let p = t .before .kept-parts .result in
-    subst (λ (r : RuledPart). SameDays (rows s) (p .larger) (p .smaller) r) (c .before .before .part .given .1) (t .tai-fraction-by-rule .ensures .1)
+    subst (λ (r : PartAnswer). DayOfDate (rows s) (p .larger) (p .smaller) r) (k .k .given .1) (t .tai-fraction .ensures .1) .same
+
+-- the date in TAI
+in-tai : (t : tie.After-tai-fraction) → onward (partOutcome (t .tai-fraction .result)) (placed (t .before .kept-parts .result)) ≡ utcToTai (rows (t .before .before .before .before .before)) (t .before .before .before .before .before .args .utc .0)
+unfolding utcToTai
+in-tai t = changes (taiFraction (rows (t .before .before .before .before .before))) _ _ _ (t .before .kept-parts .ensures) (t .tai-fraction .ensures .0)
 
 returns-2 : tie.Need-returns-2
-unfolding ut1ByRuleOutcome J.offsetOutcome ruledPartOutcome placed utcToTai utcToUt1 utcToUt1ByRule
+unfolding ut1ByRuleOutcome J.offsetOutcome partOutcome placed utcToUt1 utcToUt1ByRule
 returns-2 c =
     let t = c .before .before .before in
     let h = t .before in
-    let s = h .before .before .before .before in
     let g = sym (h .before .before .before .finite-arg .ensures) ∙ ap J.offsetOutcome (h .before .enum-told .given .1) in
-    not-passed _ _ _ (went _ g ∙ stopped _
-    (sym (changes (taiFraction (rows s)) _ _ _ (h .kept-parts .ensures) (t .tai-fraction-by-rule .ensures .0))
-    ∙ stopped _ (ap ruledPartOutcome (c .before .number2 .given .1))))
+    not-passed _ _ _ (went _ g ∙ stopped _ (sym (in-tai t) ∙ stopped _ (ap partOutcome (c .before .number2 .given .1))))
 
 returns-3 : tie.Need-returns-3
-unfolding ut1ByRuleOutcome J.offsetOutcome T.secondsByRuleOutcome ruledPartOutcome placed utcToTai utcToUt1 utcToUt1ByRule
+unfolding ut1ByRuleOutcome J.offsetOutcome T.secondsByRuleOutcome partOutcome placed utcToUt1 utcToUt1ByRule
 returns-3 c =
-    let t = c .before .before .before .before .before .before .before .before in
+    let w = c .before .before .before in
+    let k = w .before .before .before .before .before in
+    let t = k .before .before in
     let h = t .before in
     let s = h .before .before .before .before in
     let g = sym (h .before .before .before .finite-arg .ensures) ∙ ap J.offsetOutcome (h .before .enum-told .given .1) in
-    let u = sym (changes (taiFraction (rows s)) _ _ _ (h .kept-parts .ensures) (t .tai-fraction-by-rule .ensures .0))
-    ∙ went _ (ap ruledPartOutcome (c .before .before .before .before .before .before .part .given .1)) in
+    let u = sym (in-tai t) ∙ went _ (ap partOutcome (k .k .given .1)) in
     let o = offset-refused (rows s) _ _ _
-    (sym (c .before .before .before .offset-with .ensures ∙ date-offset (rows s) _ _ (h .kept-parts .ensures))
-    ∙ ap T.secondsByRuleOutcome (c .before .number3 .given .1)) in
+    (sym (w .offset-with .ensures ∙ date-offset (rows s) _ _ (h .kept-parts .ensures)) ∙ ap T.secondsByRuleOutcome (c .before .number3 .given .1)) in
     not-passed _ _ _ (went _ g ∙ went _ u ∙ stopped _ o)
 
 returns-4 : tie.Need-returns-4
-unfolding J.offsetOutcome T.secondsByRuleOutcome ruledPartOutcome placed utcToTai utcToUt1 utcToUt1ByRule
+unfolding J.offsetOutcome T.secondsByRuleOutcome partOutcome placed utcToUt1 utcToUt1ByRule
 returns-4 c =
-    let t = c .before .before .before .before .before .before .before .before .before .before in
+    let w = c .before .before .before .before .before in
+    let b = w .before .before .before in
+    let k = b .before .before in
+    let t = k .before .before in
     let h = t .before in
     let s = h .before .before .before .before in
     let x = c .before .before .before .x in
     let g = sym (h .before .before .before .finite-arg .ensures) ∙ ap J.offsetOutcome (h .before .enum-told .given .1) in
-    let u = sym (changes (taiFraction (rows s)) _ _ _ (h .kept-parts .ensures) (t .tai-fraction-by-rule .ensures .0))
-    ∙ went _ (ap ruledPartOutcome (c .before .before .before .before .before .before .before .before .part .given .1)) in
+    let u = sym (in-tai t) ∙ went _ (ap partOutcome (k .k .given .1)) in
     let o = offset-answered (rows s) _ _ _ _
-    (sym (c .before .before .before .before .before .offset-with .ensures ∙ date-offset (rows s) _ _ (h .kept-parts .ensures))
-    ∙ ap T.secondsByRuleOutcome (x .given .1)) in
-    let k = tai-ut1 (sub binary64 (s .args .dut1) (x .given .0 .0)) in
+    (sym (w .offset-with .ensures ∙ date-offset (rows s) _ _ (h .kept-parts .ensures)) ∙ ap T.secondsByRuleOutcome (x .given .1)) in
+    let z = tai-ut1 (sub binary64 (s .args .dut1) (x .given .0 .0)) in
     c .with-rule .ensures
     ∙ with-passed _ _ _ _
-    (c .before .tai-to-ut1-with-offset .ensures ∙ ap (answerOf k) (c .before .before .before .before .before .before .put-beside .ensures)
-    ∙ sym (went _ g ∙ went _ u ∙ went _ (o .0)))
+    (c .before .tai-to-ut1-with-offset .ensures ∙ ap (answerOf z) (b .put-beside .ensures) ∙ sym (went _ g ∙ went _ u ∙ went _ (o .0)))
     (o .1)
 
 pub utc-to-ut1-with-dut1-by-lent-spec : {M : Type 1} → statement M
 utc-to-ut1-with-dut1-by-lent-spec =
     tie.close
-    (tie.spec (λ c κs. search needs) (λ c. search needs) returns (λ c. search needs) (λ c κs. search needs) (λ c κs. search needs) (λ c. search needs)
+    (tie.spec (λ c κs. search needs) (λ c. search needs) returns (λ c. search needs) (λ c κs. search needs) tai-fraction-requires (λ c. search needs)
     (λ c. search needs) (λ c κs. search needs) offset-with-requires (λ c. search needs) (λ c. search needs) (λ c κs. search needs)
     (λ c κs. search needs) returns-2 returns-3 returns-4)

@@ -9,14 +9,16 @@ use Rattle.calendar.specs.Gregorian.{gregorianDate}
 use Rattle.julian.specs.day_number.Answer.{dayOutcome}
 use Rattle.julian.proofs.day_number.Ranges.{day-range, day-read}
 use Rattle.julian.specs.JulianDate.{julian}
-use Rattle.leap_table.specs.offsets.Answers.{dayOffsetsOutcome}
+use Rattle.leap_table.specs.offsets.Answers.{dayByRuleOutcome}
 use Rattle.leap_table.specs.rows.Table.{Row}
 use Rattle.leap_table.specs.rows.Announced.{rowsIn}
-use Rattle.utc_scales.specs.days.Dates.{offsetsOf}
-use Rattle.utc_scales.specs.Known.{RightDay, partOutcome, RightPart}
+use Rattle.leap_table.proofs.offsets.Rules.{apart, refused-apart}
+use Rattle.utc_scales.specs.Known.{readOn, RightDay, partOutcome, DayOfDate}
 use Rattle.utc_scales.specs.UtcTai.{taiFromMidnight}
 use Rattle.utc_scales.proofs.days.Midnights.{day-asked}
-use Rattle.utc_scales.proofs.Steps.{tai-no-date, tai-no-offsets, tai-of-day}
+use Rattle.utc_scales.proofs.Steps.{offsets-first, tai-no-date, tai-no-offsets, tai-of-day}
+use Rattle.utc_scales.proofs.days.Steps.{offset-of-day}
+use Rattle.utc_scales.proofs.days.Rules.{rule-of-day}
 use mathlib.Core.List.{List}
 use denote.Ref.{now}
 use borrow.Author.Needs.{needs}
@@ -38,46 +40,45 @@ mjd-of-requires c κs =
     day-asked _ r
 
 returns : tie.Need-returns
-unfolding partOutcome RightPart RightDay dayOutcome dayOffsetsOutcome
-returns c = (
-  sym (tai-no-date _ _ _ (sym (c .before .before .before .day-number-and-fraction .ensures) ∙ ap dayOutcome (c .before .number .given .1))
-      (rows (c .before .before .before .before))),
-  tt,
-)
+unfolding partOutcome DayOfDate dayOutcome
+returns c =
+    let n = c .before .before .before in
+    (sym (tai-no-date _ _ _ (sym (n .day-number-and-fraction .ensures) ∙ ap dayOutcome (c .before .number .given .1)) (rows (n .before))), tt)
 
 returns-2 : tie.Need-returns-2
-unfolding partOutcome RightPart RightDay dayOutcome dayOffsetsOutcome
+unfolding partOutcome DayOfDate dayOutcome dayByRuleOutcome readOn
 returns-2 c =
     let d = c .before .before .before .before .before .before in
     let n = d .before .before in
     let s = n .before in
     let e = sym (n .day-number-and-fraction .ensures) ∙ ap dayOutcome (d .d .given .1) in
-    let r = day-range _ _ (yes (s .good .0 .1)) (yes (s .good .1 .0 .1)) _ e in (
-      sym (tai-no-offsets (rows (c .before .before .before .before .before .before .before .before .before)) _ _ _ e _
-          (sym (c .before .before .before .offsets-with .ensures
-          ∙ ap (λ (z : ℤ). offsetsOf (rows (c .before .before .before .before .before .before .before .before .before)) (gregorianDate z)) (day-read _ r))
-          ∙ ap dayOffsetsOutcome (c .before .number2 .given .1))),
-      tt,
-    )
+    let r = day-range _ _ (yes (s .good .0 .1)) (yes (s .good .1 .0 .1)) _ e in
+    let h = c .before .before .before .day-with .ensures ∙ ap (λ (z : ℤ). readOn (rows s) (gregorianDate z)) (day-read _ r) in
+    (sym (tai-no-offsets (rows s) _ _ _ e _ (refused-apart _ _ _ (sym h ∙ ap dayByRuleOutcome (c .before .number2 .given .1)))), tt)
 
 returns-3 : tie.Need-returns-3
-unfolding partOutcome RightPart RightDay dayOutcome dayOffsetsOutcome
+unfolding partOutcome DayOfDate RightDay dayOutcome dayByRuleOutcome readOn
 returns-3 c =
-    let d = c .before .before .before .before .before .before .before .before .before .before in
+    let w = c .before .before .before .before .before .before .before in
+    let d = w .before .before .before in
     let n = d .before .before in
     let s = n .before in
     let e = sym (n .day-number-and-fraction .ensures) ∙ ap dayOutcome (d .d .given .1) in
     let r = day-range _ _ (yes (s .good .0 .1)) (yes (s .good .1 .0 .1)) _ e in
-    let w = c .before .before .before .before .before .before .before in
     let o = c .before .before .before .before .before .o in
-    let p = sym (w .offsets-with .ensures
-    ∙ ap (λ (z : ℤ). offsetsOf (rows (c .before .before .before .before .before .before .before .before .before .before .before .before .before))
-    (gregorianDate z)) (day-read _ r)) ∙ ap dayOffsetsOutcome (o .given .1) in
+    let g = sym (w .day-with .ensures) ∙ ap dayByRuleOutcome (o .given .1) in
+    let q = apart _ _ _ _ (ap (λ (z : ℤ). readOn (rows s) (gregorianDate z)) (sym (day-read _ r)) ∙ g) in
     let m = c .before .before .mjd-of .ensures ∙ ap (λ (z : ℤ). ofInt binary64 (z -ℤ pos 2400001)) (day-read _ r) in (
       ap answer (c .before .tai-from-midnight .ensures
           ∙ ap (λ (z : Float). taiFromMidnight (s .args .big) (julian mjdZeroPoint z) (o .given .0 .0) (d .d .given .0 .0 .fraction)) m)
-          ∙ sym (tai-of-day (rows (c .before .before .before .before .before .before .before .before .before .before .before .before .before)) _ _ _ e r _ p),
-      sym (w .offsets-with .ensures) ∙ ap dayOffsetsOutcome (o .given .1),
+          ∙ sym (tai-of-day (rows s) _ _ _ e r _ (q .0)),
+      record {
+        right = g;
+        same = record {
+          offset = offset-of-day (rows s) _ _ _ e ∙ offsets-first (rows s) _ _ (q .0);
+          by-rule = rule-of-day (rows s) _ _ _ e ∙ ap answer (q .1);
+        };
+      },
     )
 
 pub tai-fraction-spec : {M : Type 1} → statement M

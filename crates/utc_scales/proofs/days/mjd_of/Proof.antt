@@ -1,9 +1,9 @@
--- `utc_scales::from_ut1::months::mjd_of` meets its contract. Assumes nothing.
+-- `utc_scales::days::mjd_of` meets its contract. Assumes nothing.
 use mathlib.Core.Path.{ap}
 use lib.Ieee.{binary64, ofInt}
 use Rattle.utc_scales.proofs.days.Midnights.{less-fits, less-read, less-held}
-use Rattle.utc_scales.proofs.from_ut1.months.mjd_of.Statement.{statement}
-use Rattle.utc_scales.proofs.from_ut1.months.mjd_of.Tie as tie
+use Rattle.utc_scales.proofs.days.mjd_of.Statement.{statement}
+use Rattle.utc_scales.proofs.days.mjd_of.Tie as tie
 
 int-to-float-result : tie.Need-int-to-float-result
 int-to-float-result c = less-held (c .before .args .day) (c .before .fits .day) (c .before .pre)
