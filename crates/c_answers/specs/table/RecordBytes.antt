@@ -1,18 +1,14 @@
 -- The 136 bytes of a record, the way back from `tableBytes`. Written from document 02, item 8. Assumes nothing.
-use Prim.Native.Nat.{ℕ, _-_, _<_}
+use Prim.Native.Nat.{ℕ, _<_}
 use mathlib.Core.Path.{_≡_}
 use mathlib.Core.List.{List, [], _∷_, _++_, map}
-use lib.IntN.{ℤ, pos, negsuc}
+use lib.IntN.{pos}
 use lib.ListN.{length, getD}
 use mir.Syntax.{w32}
 use mir.Val.{SFits}
+unfoldable pub use Rattle.numerals.specs.little_endian.LittleEndian.{pattern32}
 use Rattle.leap_table.specs.declared.rows.AnnouncedRows.{AnnouncedRows}
 use Rattle.c_answers.specs.Fields.{fourBytes}
-
--- the pattern of a signed number, 32 bits in two's complement: -1 is all ones
-unfoldable pub pattern32 : ℤ → ℕ
-pattern32 (pos n) = n
-pattern32 (negsuc k) = 0xffff_ffff - k
 
 -- four bytes for each number
 unfoldable pub inFours : List ℕ → List ℕ

@@ -9,11 +9,11 @@ use Rattle.numerals.specs.little_endian.LittleEndian.{fourBytes, eightBytes, pa
 use Rattle.leap_table.specs.declared.judging.Triple.{Triple}
 
 -- the year, the month and the day in four bytes each, in two's complement
-unfoldable pub dateBytes : Triple → List ℕ
-dateBytes t = fourBytes (pattern32 (t .year)) ++ (fourBytes (pattern32 (t .month)) ++ fourBytes (pattern32 (t .day)))
+unfoldable pub tripleBytes : Triple → List ℕ
+tripleBytes t = fourBytes (pattern32 (t .year)) ++ (fourBytes (pattern32 (t .month)) ++ fourBytes (pattern32 (t .day)))
 
 -- fields of 32 bits
-pub record InBits (t : Triple) : Type 0 where
+pub record DateFits (t : Triple) : Type 0 where
   pub year-fits : SFits w32 (t .year)
   pub month-fits : SFits w32 (t .month)
   pub day-fits : SFits w32 (t .day)

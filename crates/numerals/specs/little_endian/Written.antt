@@ -6,9 +6,9 @@ use mathlib.Core.List.{List, [], _∷_, _++_}
 use lib.ListN.{length}
 
 -- the bytes of all items in their order
-unfoldable pub written : {A : Type 0} → (A → List ℕ) → List A → List ℕ
-written bytes [] = []
-written bytes (x ∷ xs) = bytes x ++ written bytes xs
+unfoldable pub allBytes : {A : Type 0} → (A → List ℕ) → List A → List ℕ
+allBytes bytes [] = []
+allBytes bytes (x ∷ xs) = bytes x ++ allBytes bytes xs
 
 -- each item has so many bytes
 abbrev pub Sized : {A : Type 0} → (A → List ℕ) → ℕ → Type 0

@@ -10,7 +10,7 @@ use lib.Seq.{take-suc, take-length, length-take-le}
 use lib.Ieee.{ofBits, binary64}
 use Rattle.refusals.specs.Outcome.{answer, refusal}
 use Rattle.numerals.specs.little_endian.LittleEndian.{fourAt, u32At, u64At, fourBytes}
-use Rattle.numerals.specs.little_endian.Written.{written}
+use Rattle.numerals.specs.little_endian.Written.{allBytes}
 use Rattle.numerals.proofs.little_endian.Items.{written-length, item-u32, item-u64}
 use Rattle.numerals.proofs.little_endian.RoundTrip.{read-written, read-written-4}
 use Rattle.julian.specs.JulianDate.{julian}
@@ -18,7 +18,7 @@ use Rattle.leap_table.specs.rows.Table.{Row}
 use Rattle.stamps.specs.declared.Telling.{Telling}
 use Rattle.stamps.specs.Block.{blockOf, jd1Bits, jd2Bits, stampAt}
 use Rattle.stamps.specs.Listing.{textAt, stampLine, stampLines, refusedIn, oneIfRefused, header, listingOf, listing}
-use Rattle.stamps.specs.listing_laws.Writer.{Stamp, InBits, dateOf, firstBytes, secondBytes, blockBytes, refusedOf, lineOf, linesOf, listed}
+use Rattle.stamps.specs.listing_laws.Writer.{Stamp, StampFits, stampDate, firstBytes, secondBytes, blockBytes, refusedStamps, lineOfStamp, linesOfStamps, listingOfStamps}
 use Rattle.stamps.proofs.Blocks.{too-large, all-there}
 
 -- ---- the sizes
@@ -27,7 +27,7 @@ module _ (xs : List Stamp) where
   sizes = length xs ∷ length xs ∷ []
 
   abbrev front : List ℕ
-  front = written fourBytes sizes
+  front = allBytes fourBytes sizes
 
   front-length : length front ≡ 8
   front-length = written-length fourBytes 4 (λ n. refl) sizes
@@ -35,20 +35,20 @@ module _ (xs : List Stamp) where
   pub block-length : length (blockBytes xs) ≡ 8 + 16 * length xs
   unfolding blockBytes
   block-length =
-      let a = length-append front (written firstBytes xs ++ written secondBytes xs) in
-      let b = length-append (written firstBytes xs) (written secondBytes xs) in
+      let a = length-append front (allBytes firstBytes xs ++ allBytes secondBytes xs) in
+      let b = length-append (allBytes firstBytes xs) (allBytes secondBytes xs) in
       omega (arith, a, b, front-length, written-length firstBytes 8 (λ x. refl) xs, written-length secondBytes 8 (λ x. refl) xs)
 
   module _ (few : length xs < 4294967296) where
     pub first-size : length xs ≡ u32At (blockBytes xs) 0
     unfolding blockBytes
     first-size =
-        sym (item-u32 fourBytes 4 (λ n. refl) [] sizes (written firstBytes xs ++ written secondBytes xs) 0 0 (omega arith) 0 (omega arith) ∙ read-written-4 (length xs) few)
+        sym (item-u32 fourBytes 4 (λ n. refl) [] sizes (allBytes firstBytes xs ++ allBytes secondBytes xs) 0 0 (omega arith) 0 (omega arith) ∙ read-written-4 (length xs) few)
 
     pub second-size : length xs ≡ u32At (blockBytes xs) 4
     unfolding blockBytes
     second-size =
-        sym (item-u32 fourBytes 4 (λ n. refl) [] sizes (written firstBytes xs ++ written secondBytes xs) 1 0 (omega arith) 0 (omega arith) ∙ read-written-4 (length xs) few)
+        sym (item-u32 fourBytes 4 (λ n. refl) [] sizes (allBytes firstBytes xs ++ allBytes secondBytes xs) 1 0 (omega arith) 0 (omega arith) ∙ read-written-4 (length xs) few)
 
     eight : 8 ≤ length (blockBytes xs)
     eight = omega (arith, block-length)
@@ -61,97 +61,97 @@ module _ (xs : List Stamp) where
     block-too-large h = sym (too-large (blockBytes xs) (length xs) (length xs) first-size second-size eight refl h)
 
 -- ---- EACH STAMP AT ITS PLACE
-module _ (xs : List Stamp) (i : ℕ) (d : Stamp) (h : i < length xs) (bits : InBits (getD xs i d)) where
+module _ (xs : List Stamp) (i : ℕ) (d : Stamp) (h : i < length xs) (bits : StampFits (getD xs i d)) where
   first-part : jd1Bits (blockBytes xs) i ≡ getD xs i d .first
   unfolding jd1Bits blockBytes
   first-part =
       let e : 8 + 8 * i ≡ length (front xs) + 8 * i + 0 = omega (arith, front-length xs) in
-      ap (u64At (blockBytes xs)) e ∙ item-u64 firstBytes 8 (λ x. refl) (front xs) xs (written secondBytes xs) i d h 0 (omega arith)
+      ap (u64At (blockBytes xs)) e ∙ item-u64 firstBytes 8 (λ x. refl) (front xs) xs (allBytes secondBytes xs) i d h 0 (omega arith)
       ∙ read-written (getD xs i d .first) (bits .first-fits)
 
   second-part : jd2Bits (blockBytes xs) (length xs) i ≡ getD xs i d .second
   unfolding jd2Bits blockBytes
   second-part =
-      let l = length-append (front xs) (written firstBytes xs) in
-      let e : 8 + 8 * length xs + 8 * i ≡ length (front xs ++ written firstBytes xs) + 8 * i + 0 =
+      let l = length-append (front xs) (allBytes firstBytes xs) in
+      let e : 8 + 8 * length xs + 8 * i ≡ length (front xs ++ allBytes firstBytes xs) + 8 * i + 0 =
       omega (arith, l, front-length xs, written-length firstBytes 8 (λ x. refl) xs) in
       ap (u64At (blockBytes xs)) e
-      ∙ ap (λ (s : List ℕ). u64At s (length (front xs ++ written firstBytes xs) + 8 * i + 0))
-      (sym (append-assoc (front xs) (written firstBytes xs) (written secondBytes xs))
-      ∙ ap (λ (t : List ℕ). (front xs ++ written firstBytes xs) ++ t) (sym (append-nil (written secondBytes xs))))
-      ∙ item-u64 secondBytes 8 (λ x. refl) (front xs ++ written firstBytes xs) xs [] i d h 0 (omega arith)
+      ∙ ap (λ (s : List ℕ). u64At s (length (front xs ++ allBytes firstBytes xs) + 8 * i + 0))
+      (sym (append-assoc (front xs) (allBytes firstBytes xs) (allBytes secondBytes xs))
+      ∙ ap (λ (t : List ℕ). (front xs ++ allBytes firstBytes xs) ++ t) (sym (append-nil (allBytes secondBytes xs))))
+      ∙ item-u64 secondBytes 8 (λ x. refl) (front xs ++ allBytes firstBytes xs) xs [] i d h 0 (omega arith)
       ∙ read-written (getD xs i d .second) (bits .second-fits)
 
-  pub stamp-back : stampAt (blockBytes xs) (length xs) i ≡ dateOf (getD xs i d)
+  pub stamp-back : stampAt (blockBytes xs) (length xs) i ≡ stampDate (getD xs i d)
   unfolding stampAt
   stamp-back = ap (λ (n : ℕ). julian (ofBits binary64 n) (ofBits binary64 (jd2Bits (blockBytes xs) (length xs) i))) first-part
       ∙ ap (λ (n : ℕ). julian (ofBits binary64 (getD xs i d .first)) (ofBits binary64 n)) second-part
 
 -- ---- THE LISTING, line by line, and its counts
 lines-behind : (how : Telling) (rows : List Row) (i : ℕ) (ys : List Stamp) (x : Stamp)
-    → linesOf how rows i (ys ++ (x ∷ [])) ≡ linesOf how rows i ys ++ lineOf how rows (i + length ys) x
-unfolding linesOf
-lines-behind how rows i [] x = append-nil (lineOf how rows i x) ∙ ap (λ (n : ℕ). lineOf how rows n x) z
+    → linesOfStamps how rows i (ys ++ (x ∷ [])) ≡ linesOfStamps how rows i ys ++ lineOfStamp how rows (i + length ys) x
+unfolding linesOfStamps
+lines-behind how rows i [] x = append-nil (lineOfStamp how rows i x) ∙ ap (λ (n : ℕ). lineOfStamp how rows n x) z
   where
     z : i ≡ i + 0
     z = omega arith
 lines-behind how rows i (y ∷ ys) x =
-    ap (λ (l : List ℕ). lineOf how rows i y ++ l) (lines-behind how rows (suc i) ys x)
-    ∙ sym (append-assoc (lineOf how rows i y) (linesOf how rows (suc i) ys) (lineOf how rows (suc i + length ys) x))
-    ∙ ap (λ (n : ℕ). (lineOf how rows i y ++ linesOf how rows (suc i) ys) ++ lineOf how rows n x) z
+    ap (λ (l : List ℕ). lineOfStamp how rows i y ++ l) (lines-behind how rows (suc i) ys x)
+    ∙ sym (append-assoc (lineOfStamp how rows i y) (linesOfStamps how rows (suc i) ys) (lineOfStamp how rows (suc i + length ys) x))
+    ∙ ap (λ (n : ℕ). (lineOfStamp how rows i y ++ linesOfStamps how rows (suc i) ys) ++ lineOfStamp how rows n x) z
   where
     z : suc i + length ys ≡ i + length (y ∷ ys)
     z = omega arith
 
-refused-behind : (rows : List Row) (ys : List Stamp) (x : Stamp) → refusedOf rows (ys ++ (x ∷ [])) ≡ refusedOf rows ys + refusedOf rows (x ∷ [])
-unfolding refusedOf
+refused-behind : (rows : List Row) (ys : List Stamp) (x : Stamp) → refusedStamps rows (ys ++ (x ∷ [])) ≡ refusedStamps rows ys + refusedStamps rows (x ∷ [])
+unfolding refusedStamps
 refused-behind rows [] x = omega arith
 refused-behind rows (y ∷ ys) x = let e = refused-behind rows ys x in omega arith
 
-module _ (how : Telling) (rows : List Row) (xs : List Stamp) (d : Stamp) (bits : (i : ℕ) → i < length xs → InBits (getD xs i d)) where
-  one-line : (i : ℕ) → i < length xs → stampLine how rows (blockBytes xs) (length xs) i ≡ lineOf how rows i (getD xs i d)
+module _ (how : Telling) (rows : List Row) (xs : List Stamp) (d : Stamp) (bits : (i : ℕ) → i < length xs → StampFits (getD xs i d)) where
+  one-line : (i : ℕ) → i < length xs → stampLine how rows (blockBytes xs) (length xs) i ≡ lineOfStamp how rows i (getD xs i d)
   unfolding stampLine textAt
   one-line i h = rw (stamp-back xs i d h (bits i h))
 
-  one-refused : (i : ℕ) → i < length xs → oneIfRefused (textAt rows (blockBytes xs) (length xs) i) + 0 ≡ refusedOf rows (getD xs i d ∷ [])
-  unfolding textAt refusedOf
+  one-refused : (i : ℕ) → i < length xs → oneIfRefused (textAt rows (blockBytes xs) (length xs) i) + 0 ≡ refusedStamps rows (getD xs i d ∷ [])
+  unfolding textAt refusedStamps
   one-refused i h = rw (stamp-back xs i d h (bits i h))
 
-  first-lines : (k : ℕ) → k ≤ length xs → stampLines how rows (blockBytes xs) (length xs) k ≡ linesOf how rows 0 (take k xs)
-  unfolding stampLines linesOf
+  first-lines : (k : ℕ) → k ≤ length xs → stampLines how rows (blockBytes xs) (length xs) k ≡ linesOfStamps how rows 0 (take k xs)
+  unfolding stampLines linesOfStamps
   first-lines zero h = refl
   first-lines (suc k) h =
       let l : length (take k xs) ≡ k = length-take-le k xs (omega arith) in
       let z : 0 + length (take k xs) ≡ k = omega arith in
       ap (λ (t : List ℕ). t ++ stampLine how rows (blockBytes xs) (length xs) k) (first-lines k (omega arith))
-      ∙ ap (λ (t : List ℕ). linesOf how rows 0 (take k xs) ++ t) (one-line k (omega arith) ∙ ap (λ (n : ℕ). lineOf how rows n (getD xs k d)) (sym z))
+      ∙ ap (λ (t : List ℕ). linesOfStamps how rows 0 (take k xs) ++ t) (one-line k (omega arith) ∙ ap (λ (n : ℕ). lineOfStamp how rows n (getD xs k d)) (sym z))
       ∙ sym (lines-behind how rows 0 (take k xs) (getD xs k d))
-      ∙ ap (linesOf how rows 0) (sym (take-suc xs k d (omega arith)))
+      ∙ ap (linesOfStamps how rows 0) (sym (take-suc xs k d (omega arith)))
 
-  first-refused : (k : ℕ) → k ≤ length xs → refusedIn rows (blockBytes xs) (length xs) k ≡ refusedOf rows (take k xs)
-  unfolding refusedIn refusedOf
+  first-refused : (k : ℕ) → k ≤ length xs → refusedIn rows (blockBytes xs) (length xs) k ≡ refusedStamps rows (take k xs)
+  unfolding refusedIn refusedStamps
   first-refused zero h = refl
   first-refused (suc k) h =
       let e = first-refused k (omega arith) in
       let f = one-refused k (omega arith) in
       let g = refused-behind rows (take k xs) (getD xs k d) in
-      omega (arith, ap (refusedOf rows) (take-suc xs k d (omega arith)))
+      omega (arith, ap (refusedStamps rows) (take-suc xs k d (omega arith)))
 
-  all-lines : stampLines how rows (blockBytes xs) (length xs) (length xs) ≡ linesOf how rows 0 xs
-  all-lines = first-lines (length xs) (omega arith) ∙ ap (linesOf how rows 0) (take-length xs)
+  all-lines : stampLines how rows (blockBytes xs) (length xs) (length xs) ≡ linesOfStamps how rows 0 xs
+  all-lines = first-lines (length xs) (omega arith) ∙ ap (linesOfStamps how rows 0) (take-length xs)
 
   -- THE COUNT of the header is the number of stamps that have no text
-  pub header-count : refusedIn rows (blockBytes xs) (length xs) (length xs) ≡ refusedOf rows xs
-  header-count = first-refused (length xs) (omega arith) ∙ ap (refusedOf rows) (take-length xs)
+  pub header-count : refusedIn rows (blockBytes xs) (length xs) (length xs) ≡ refusedStamps rows xs
+  header-count = first-refused (length xs) (omega arith) ∙ ap (refusedStamps rows) (take-length xs)
 
-  pub listing-of-list : length xs ≤ 4000 → listing how rows (blockBytes xs) ≡ listed how rows xs
-  unfolding listing listingOf listed
+  pub listing-of-list : length xs ≤ 4000 → listing how rows (blockBytes xs) ≡ listingOfStamps how rows xs
+  unfolding listing listingOf listingOfStamps
   listing-of-list h =
       rw (block-taken xs (omega arith) h)
       (ap (λ (n : ℕ). header (length xs) n ++ stampLines how rows (blockBytes xs) (length xs) (length xs)) header-count
-      ∙ ap (λ (t : List ℕ). header (length xs) (refusedOf rows xs) ++ t) all-lines)
+      ∙ ap (λ (t : List ℕ). header (length xs) (refusedStamps rows xs) ++ t) all-lines)
 
 -- ---- THE ORDER OF THE REFUSALS: sizes that differ are told before a size that is too large
-pub sizes-before-many : blockOf (written fourBytes (4001 ∷ 4002 ∷ [])) ≡ refusal 12
-unfolding blockOf written u32At fourAt
+pub sizes-before-many : blockOf (allBytes fourBytes (4001 ∷ 4002 ∷ [])) ≡ refusal 12
+unfolding blockOf allBytes u32At fourAt
 sizes-before-many = refl

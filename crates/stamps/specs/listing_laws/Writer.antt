@@ -5,7 +5,7 @@ use mathlib.Core.List.{List, [], _∷_, _++_}
 use lib.ListN.{length}
 use lib.Ieee.{ofBits, binary64}
 use Rattle.numerals.specs.little_endian.LittleEndian.{fourBytes, eightBytes}
-use Rattle.numerals.specs.little_endian.Written.{written}
+use Rattle.numerals.specs.little_endian.Written.{allBytes}
 use Rattle.julian.specs.declared.JulianDate.{JulianDate}
 use Rattle.julian.specs.JulianDate.{julian}
 use Rattle.leap_table.specs.rows.Table.{Row}
@@ -18,12 +18,12 @@ pub record Stamp : Type 0 where
   pub first : ℕ
   pub second : ℕ
 
-pub record InBits (x : Stamp) : Type 0 where
+pub record StampFits (x : Stamp) : Type 0 where
   pub first-fits : x .first < 18446744073709551616
   pub second-fits : x .second < 18446744073709551616
 
-abbrev pub dateOf : Stamp → JulianDate
-dateOf x = julian (ofBits binary64 (x .first)) (ofBits binary64 (x .second))
+abbrev pub stampDate : Stamp → JulianDate
+stampDate x = julian (ofBits binary64 (x .first)) (ofBits binary64 (x .second))
 
 -- how many stamps there are, twice, in four bytes; then all first parts, then all second parts, in eight bytes each
 abbrev pub firstBytes : Stamp → List ℕ
@@ -33,21 +33,21 @@ abbrev pub secondBytes : Stamp → List ℕ
 secondBytes x = eightBytes (x .second)
 
 unfoldable pub blockBytes : List Stamp → List ℕ
-blockBytes xs = written fourBytes (length xs ∷ length xs ∷ []) ++ (written firstBytes xs ++ written secondBytes xs)
+blockBytes xs = allBytes fourBytes (length xs ∷ length xs ∷ []) ++ (allBytes firstBytes xs ++ allBytes secondBytes xs)
 
 -- how many of the stamps have no text
-unfoldable pub refusedOf : List Row → List Stamp → ℕ
-refusedOf rows [] = 0
-refusedOf rows (x ∷ xs) = oneIfRefused (isoTextExpanded rows (dateOf x)) + refusedOf rows xs
+unfoldable pub refusedStamps : List Row → List Stamp → ℕ
+refusedStamps rows [] = 0
+refusedStamps rows (x ∷ xs) = oneIfRefused (isoTextExpanded rows (stampDate x)) + refusedStamps rows xs
 
 -- the line of a stamp at place i, and the lines of all from place i on
-abbrev pub lineOf : Telling → List Row → ℕ → Stamp → List ℕ
-lineOf how rows i x = ((numeral i ++ (32 ∷ [])) ++ shown how (dateOf x) (isoTextExpanded rows (dateOf x))) ++ (10 ∷ [])
+abbrev pub lineOfStamp : Telling → List Row → ℕ → Stamp → List ℕ
+lineOfStamp how rows i x = ((numeral i ++ (32 ∷ [])) ++ shown how (stampDate x) (isoTextExpanded rows (stampDate x))) ++ (10 ∷ [])
 
-unfoldable pub linesOf : Telling → List Row → ℕ → List Stamp → List ℕ
-linesOf how rows i [] = []
-linesOf how rows i (x ∷ xs) = lineOf how rows i x ++ linesOf how rows (suc i) xs
+unfoldable pub linesOfStamps : Telling → List Row → ℕ → List Stamp → List ℕ
+linesOfStamps how rows i [] = []
+linesOfStamps how rows i (x ∷ xs) = lineOfStamp how rows i x ++ linesOfStamps how rows (suc i) xs
 
 -- the listing of a list of stamps
-unfoldable pub listed : Telling → List Row → List Stamp → List ℕ
-listed how rows xs = header (length xs) (refusedOf rows xs) ++ linesOf how rows 0 xs
+unfoldable pub listingOfStamps : Telling → List Row → List Stamp → List ℕ
+listingOfStamps how rows xs = header (length xs) (refusedStamps rows xs) ++ linesOfStamps how rows 0 xs
