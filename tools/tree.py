@@ -20,9 +20,9 @@ def read(path):
 
 
 def crates():
-    """What crates.txt lists: (group, crate, what it builds on). A group is the comment line above it."""
+    """What crates.txt lists: (group, crate, what it builds on). A group is the comment line above it; the first line of the file is its head."""
     listed, group = [], ""
-    for line in read("crates.txt").splitlines():
+    for line in read("crates.txt").splitlines()[1:]:
         if line.startswith("#"):
             group = line[1:].strip()
         elif ":" in line:
@@ -103,10 +103,12 @@ def functions():
     return found
 
 
-def theorems():
-    """Every public theorem or definition of the crates as CRATE::NAME."""
+def statements():
+    """Every public theorem and definition of the crates as CRATE::NAME."""
     found = set()
-    for path in glob.glob(os.path.join(ROOT, "crates/*/proofs/**/*.antt"), recursive=True):
-        crate = os.path.relpath(path, ROOT).split("/")[1]
-        found |= {crate + "::" + name for name in re.findall(r"^ *(?:abbrev |unfoldable )?pub (?!record |data |mod |use )([^\s:]+)", read(path), re.M)}
+    for part in ("specs", "proofs"):
+        for path in glob.glob(os.path.join(ROOT, "crates/*", part, "**/*.antt"), recursive=True):
+            crate = os.path.relpath(path, ROOT).split("/")[1]
+            names = re.findall(r"^ *(?:abbrev |unfoldable )?pub (?:record |data )?([^\s:]+)", read(path), re.M)
+            found |= {crate + "::" + name for name in names if name not in ("mod", "use")}
     return found
