@@ -8,7 +8,11 @@
 
 The patterns are those of the messages of rattle-kit-5b-plain. An error of no known kind is told as form, with its text.
 """
+import glob
+import os
 import re
+
+import tree
 
 ERROR = re.compile(r"^(?P<where>\S+?:\d+:\d+): error(?:\[[^\]]*\])?: (?:`(?P<decl>[^`]*)`: )?(?P<text>.*)$")
 MADE = re.compile(r"^note: (?P<where>\S+?:\d+:\d+): it is not proved that (?P<text>.*) \(`(?P<decl>[^`]*)`\)$")
@@ -19,11 +23,12 @@ ONE, OTHER = r"`([^`]*)`\s*\((?:expected|left)\)", r"`([^`]*)`\s*\((?:found|righ
 APART = r"the two (?:types|sides|values) (?:differ only|first differ) where one has " + ONE + r".*?the other has " + OTHER
 COMPUTED = re.compile(r"computed as far as they go, " + APART, re.S)
 WHOLE = re.compile(r"computed as far as they go, the two (?:types|sides|values) are " + ONE + " and " + OTHER, re.S)
-PRINTED = re.compile(r"as printed, " + APART, re.S)
+PRINTED = re.compile(r"(?:as printed|compared part by part), " + APART, re.S)
+BEGUN = re.compile(r"but this has type `([^`]*)`.*?the expected one begins `([^`]*)`", re.S)
 KINDS = re.compile(r"^\(?(?:mathlib\.Core\.Path\.|Prim\.Native\.Nat\.)?(?:_≡_|_≤_|_<_|_×_|_⊎_|Path|Σ)(?![\w·.-])")
 CLOSED = re.compile(r"^(?:[\d\s(){}=;,]|\b(?:pos|negsuc|suc|true|false|nan|inf|fin|refusal|answer|ofBits|binary64|record)\b"
                     r"|(?:[\w·«»-]+\.)+(?=[^\s.])|[A-Z]\w*)+$")
-FIELD = re.compile(r"^\.(?!(?:before|given|result|lifetimes)$)[\w«»-]+$")
+FIELD = re.compile(r"^\.(?!(?:before|given|result|lifetimes)\b)[\w«»-]+(?: \.(?!(?:before|given|result|lifetimes)\b)[\w«»-]+)*$")
 SHOWN = r"does not follow from what it read|the (?:goal|part) fails, at"
 BY_FORM = [  # what to call it, and what the error says
     ("a need that is not there any more", r"has no `Need-[^`]*` that can be named|expected a type, but `[^`]*Need-"),
@@ -34,7 +39,7 @@ BY_FORM = [  # what to call it, and what the error says
     ("arguments that do not fit", r"too many arguments|too few arguments|is not a function|expected a type"),
     ("a term left undetermined", r"could not determine|cannot be determined|unsolved"),
 ]
-ENDS = re.compile(r"must be a path whose two ends are equal, and `.*`\s+is none", re.S)
+LEFT = re.compile(r"must be a path whose two ends are equal, and `([^`]*)`\s+is none", re.S)
 
 
 def errors(log):
@@ -56,9 +61,74 @@ def errors(log):
     return [one for one in found if not FOLLOWS.search(one[2].split("\n")[0])]
 
 
-def short(text):
+def constructors():
+    """The constructors that stand for different values, by type: of the library and of the types that specs/ declare."""
+    kinds = [{"true", "false"}, {"refusal", "answer"}, {"pos", "negsuc"}, {"nan", "inf", "fin"}]
+    for path in glob.glob(os.path.join(tree.ROOT, "crates/*/specs/**/*.antt"), recursive=True):
+        for body in re.findall(r"^pub data .*\n((?:  .*\n)+)", tree.read(path), re.M):
+            kinds.append(set(re.findall(r"^  (\S+) :", body, re.M)))
+    return kinds
+
+
+KINDS_OF_VALUES = constructors()
+
+
+def plain(text):
+    """A term without the modules of its names, and without its outer parentheses."""
     text = re.sub(r"(?:[\w·+-]+\.)+(?=[^\s.])", "", text)
+    return text[1:-1] if re.fullmatch(r"\([^()]*\)", text) else text
+
+
+def short(text):
+    text = plain(text)
     return text if len(text) <= 60 else text[:59] + "…"
+
+
+def unlike(one, other):
+    """Whether two computed terms have different values, whatever their variables are: closed ones, other constructors of one type, other parameters."""
+    one, other = plain(one), plain(other)
+    if one == other or not one or not other:
+        return False
+    if CLOSED.match(one) and CLOSED.match(other) or FIELD.match(one) and FIELD.match(other):
+        return True
+    heads = {one.split()[0], other.split()[0]}
+    return len(heads) == 2 and any(heads <= kind for kind in KINDS_OF_VALUES)
+
+
+def parts(term):
+    """The parts of an application, with the groups in parentheses whole, and without what stands in braces."""
+    found, depth, last = [], 0, ""
+    for sign in term + " ":
+        depth += (sign in "({") - (sign in ")}")
+        if sign.isspace() and depth == 0:
+            found += [last] if last and not last.startswith("{") else []
+            last = ""
+        else:
+            last += sign
+    return found + ([last] if last.strip() else [])
+
+
+def ends(term):
+    """The two ends of a path, or nothing: `Path T a b`, `_≡_ a b` or `a ≡ b`, unless a piece of it is not printed."""
+    found = parts(term) if " bytes]…" not in term else []
+    if found and plain(found[0]) in ("Path", "_≡_") and len(found) >= 3:
+        return found[-2:]
+    return [" ".join(found[:found.index("≡")]), " ".join(found[found.index("≡") + 1:])] if "≡" in found else None
+
+
+def same(one, other):
+    """Whether two terms are the same as far as they are printed and determined."""
+    one, other = (re.split(r"…|\(?\?\d", plain(term))[0] for term in (one, other))
+    length = min(len(one), len(other))
+    return length > 0 and one[:length] == other[:length]
+
+
+def paths_differ(one, other):
+    """Whether a path that is expected has unlike ends, or has one end that is unlike that of the path which is proved, the other end being the same."""
+    due, proved = ends(one), ends(other)
+    if due and unlike(*due):
+        return True
+    return bool(due and proved) and (unlike(due[0], proved[0]) and same(due[1], proved[1]) or unlike(due[1], proved[1]) and same(due[0], proved[0]))
 
 
 def head(term):
@@ -90,8 +160,7 @@ def compare(decl, how, one, other):
     if how == "printed":
         passed = any(term.rstrip().endswith((".lifetimes", ".κs")) for term in (one, other))
         return ("form", "another call's fact: " + said) if passed else ("open", "as written: " + said)
-    values = one != other and CLOSED.match(one) and CLOSED.match(other) or FIELD.match(one) and FIELD.match(other)
-    return ("shown" if how == "computed" and values else "open"), said
+    return ("shown" if how == "computed" and unlike(one, other) or how == "whole" and paths_differ(one, other) else "open"), said
 
 
 def grade_error(decl, text, kind):
@@ -108,8 +177,9 @@ def grade_error(decl, text, kind):
             return "form", name
     if decl.endswith("-spec"):
         return "form", "the parts of the proof do not fit the function"
-    if ENDS.search(text):
-        return "open", "two ends that are not equal are left"
+    left = LEFT.search(text)
+    if left:
+        return "shown" if unlike(*(ends(left[1]) or ("", ""))) else "open", "two ends that are not equal are left: `%s`" % short(left[1])
     for name in ("search", "omega"):
         if re.search("`%s`: no proof of|`%s` found no proof" % (name, name), own):
             return "open", "`%s` finds no proof" % name
@@ -117,6 +187,9 @@ def grade_error(decl, text, kind):
         found = pattern.search(text)
         if found:
             return compare(decl, how, found[1], found[2])
+    begun = BEGUN.search(text)
+    if begun and paths_differ(begun[2], begun[1]):
+        return "shown", "`%s` expected, `%s` found" % (short(begun[2]), short(begun[1]))
     if "expected type `" in text or "the two types" in text:
         return ("form", "a call's premise is given for another value") if PREMISE.search(decl) else ("open", "another statement is proved")
     return "form", "another error: " + text.split("\n")[0][:100]
