@@ -31,40 +31,39 @@
    A date is two floats, jd1 and jd2: its exact sum is the Julian date in days.
    Every float is taken, NaN and the infinities too.
 
-   Refusals:
-      1  year before -4799, of a standby before 1972
-      2  month not 1 to 12
-      3  day not in month
-      4  hour above 23, minute above 59, second not one of its minute, or of a standby
-         more than 999 milliseconds
-      5  no next day
-      6  rounded sum jd1 + jd2 outside -68569.5 to 1e9, or NaN
-      7  fraction outside 0 to 1, or NaN
-      8  nanos 1,000,000,000 or more
-      9  jd1 or jd2 not finite; in ct_tcg_to_tai the TT in between, too; in ct_compare also
-         where the sum of the parts or its rounding error overflows
-     10  offset not finite
-     11  buffer too short
-     12  sizes of a block, or of the lists of a line or a run, differ
-     13  size of a block above 4,000, or more stamps than 4 bytes can number
-     14  length of a block, of a table, or of a list wrong, or counts past it
-     15  text outside the grammar
-     16  more than 13 digits after a second's point
-     17  date earlier than the one before it, or stamp left out of a line: it is earlier than an
-         ordered one before it in its run, or later than an ordered one behind it
-     18  field of a GPS week over its limit, or date before the first week or past the last; in
-         ct_convert_run a scale that it does not take, in ct_formula_run two scales that it does
-         not; number of a refusal not 1 to 28
-     19  two weeks with the same ten bits equally near the reference
-     20  sizes of a lent table differ, or above 16
-     21  row of a lent table not later than the one before it
-     22  row of a lent table steps by something other than one second up or down
-     23  passes unequal, too few or too many, or a number in them too large
-     24  passes do not rise strictly, both ticks and milliseconds
-     25  tick outside the passes
-     26  end of a standby before its start
-     27  number of a bill over its limit
-     28  both lengths of line 0
+   Refusals, as tools/generate writes them from crates/refusals:
+      1  the year is before -4799; of a standby bill, before 1972
+      2  the month is not 1 to 12
+      3  the day is not in the month
+      4  the hour is above 23, the minute above 59, or the second is not one of its minute; or
+         the millisecond of a bill is over 999
+      5  no next day: the date is the last that the year's 32 bits can say
+      6  the rounded sum of a date's parts is outside -68569.5 to 1e9, or a NaN
+      7  the fraction of a day is outside 0 to 1, or a NaN
+      8  the nanoseconds are 1,000,000,000 or more
+      9  a part of a date is not finite; where dates are put in order, also where the two-sum
+         of the parts overflows
+     10  an offset is not finite
+     11  the text, or what else is written, is longer than the buffer
+     12  the two sizes of a stamp block differ, or those of the lists of a line
+     13  a stamp block has more than 4,000 stamps, or a line more than 4,294,967,295
+     14  a stamp block's length is not the one that its sizes say, or the length of a table or
+         of a list is wrong
+     15  a text is outside the grammar
+     16  a text's second has more than 13 digits after the point
+     17  a date or a stamp is earlier than one before it
+     18  a field of a GPS week is over its limit, or a date is before the first week or past
+         the last
+     19  two weeks with the same ten bits are equally near the reference
+     20  the two sizes of a announced table differ, or are above 16
+     21  a row of a announced table is not later than the one before it
+     22  a row of a announced table steps by something other than one second up or down
+     23  the passes are unequal, too few or too many, or a number in them is too large
+     24  the passes do not rise strictly, both ticks and milliseconds
+     25  a tick is outside the passes
+     26  the end of a standby is before its start
+     27  a number of a bill is over its limit
+     28  both lengths of line are 0
    A call tests in the order in which its comment lists them, and 11 last, but for
    ct_place_ticks, where 11 comes second, and ct_offsets_at_0h, where it comes before the
    dates' numbers. Where it has two or more, the comment has an example in which two hold,
@@ -412,7 +411,7 @@ int64_t ct_listing_part(const uint8_t *block, size_t block_len, uint32_t line, c
 int64_t ct_reason_listing_part(const uint8_t *block, size_t block_len, uint64_t input_len, uint32_t line,
                                const uint8_t *table, size_t table_len, uint8_t *out, size_t out_len);
 
-/* ---- A refusal's reason as a sentence, in plain English: docs/SENTENCES.md has them all */
+/* ---- A refusal's reason as a sentence, in plain English: docs/generated/refusals.md has them all */
 
 /* The sentence of a refusal's number, 1 to 28, for a screen: printable ASCII, no line end, at most
    CT_SENTENCE_BYTES. Returns its bytes. ct_reason has no values, and its sentence names no field. The others
