@@ -1,4 +1,4 @@
-use crate::{block, number};
+use crate::{block, made_up, number};
 use celestial_time_proved::blocks::{
     block_stamps, listing_part, reason_listing_part, LISTING_ROOM, REASON_LISTING_ROOM,
 };
@@ -53,4 +53,13 @@ fn listings_with_sentences() {
     let refused = listed(99, |line, out| reason_listing_part(&stamps[..9], 70000, line, &Table::NONE, out));
     assert_eq!(refused, "block the number of bytes is wrong: length 70000\n");
     assert_eq!(number(reason_listing_part(&stamps, 56, 0, &Table::NONE, &mut [0; REASON_LISTING_ROOM - 1])), 11);
+}
+
+/// A stamp in the leap second of an announced row.
+#[test]
+fn listings_under_announced_rows() {
+    let (stamps, table) = (block([1, 1], &[2461405.5, 86400.5 / 86401.0]), made_up(38));
+    let due = "utc listing 1 refused 0\n0 2026-12-31T23:59:60.500\n";
+    assert_eq!(listed(99, |line, out| listing_part(&stamps, line, &table, out)), due);
+    assert_eq!(listed(99, |line, out| reason_listing_part(&stamps, 24, line, &table, out)), due);
 }

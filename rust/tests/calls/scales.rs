@@ -94,7 +94,8 @@ fn eight_scales() {
 #[test]
 fn order_and_sameness() {
     let (a, b) = (at::<TAI>(2451544.75, 0.25), at::<TAI>(2451545.0, 0.0));
-    assert_eq!(a.compare(&b), Ok(Ordering::Equal));
+    let later = at::<TAI>(2451545.0, 1e-300);
+    assert_eq!((a.compare(&b), b.compare(&later)), (Ok(Ordering::Equal), Ok(Ordering::Less)));
     assert_eq!(number(a.compare(&at(f64::NAN, 0.0))), 9);
     assert!(a.same_stamp(&a) && !a.same_stamp(&b) && !b.same_stamp(&at::<TT>(2451545.0, 0.0)));
     let none = at::<UTC>(f64::NAN, -0.0);

@@ -58,12 +58,14 @@ fn to_ut1_and_back() {
     assert_eq!(number(at::<UT1>(f64::NAN, 0.0).to_utc_with_dut1(f64::NAN)), 10);
     assert_eq!(number(at::<UT1>(f64::NAN, 0.0).to_utc_with_dut1(0.0)), 9);
     assert_eq!(number(at::<UT1>(-68571.0, 0.0).to_utc_with_dut1(0.0)), 6);
-    let (ut1, rule) = at::<UTC>(2461406.5, 0.5).to_ut1_with_dut1_and_table(0.0, &made_up(38)).unwrap();
-    assert_eq!(rule, Rule::Whole(42));
-    assert_eq!(
-        ut1.to_utc_with_dut1_and_table(0.0, &made_up(38)).map(|utc| utc.to_iso8601().unwrap()).unwrap(),
-        "2027-01-01T12:00:00.000"
-    );
+    let (table, leap) = (made_up(38), "2026-12-31T23:59:60.500");
+    let (utc, _) = UTC::from_iso8601_with_table(leap, &table).unwrap();
+    let (ut1, rule) = utc.to_ut1_with_dut1_and_table(-0.4, &table).unwrap();
+    assert_eq!(rule, Rule::Whole(41));
+    let back = |utc: UTC| utc.to_text_with_table(Form::Nearest, &table).unwrap().0;
+    assert_eq!(back(ut1.to_utc_with_dut1_and_table(-0.4, &table).unwrap()), leap);
+    assert_ne!(back(ut1.to_utc_with_dut1(-0.4).unwrap()), leap);
+    assert_eq!(at::<UTC>(2461406.5, 0.5).to_ut1_with_dut1_and_table(0.0, &table).unwrap().1, Rule::Whole(42));
     assert_eq!(number(ut1.to_utc_with_dut1_and_table(f64::NAN, &made_up(38))), 10);
     assert_eq!(number(at::<UTC>(f64::NAN, 0.0).to_ut1_with_dut1_and_table(0.0, &made_up(38))), 6);
 }
