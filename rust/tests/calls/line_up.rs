@@ -1,7 +1,7 @@
 use crate::number;
 use celestial_time_proved::runs::{line_up, Stamps};
 
-/// A stamp that is far too late leaves out itself alone; one that is not finite gets 9; one that was refused before stays.
+/// Of a run with one stamp far too late that one is left out; one that is not finite gets 9; one that was refused stays so.
 #[test]
 #[ignore = "needs the archive of version 2.0.0"]
 fn three_runs() {
