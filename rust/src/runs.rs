@@ -93,10 +93,11 @@ pub fn formula_run(from: Scale, to: Scale, stamps: Stamps, offsets: &[f64], date
 ///
 /// ```ignore
 /// use celestial_time_proved::runs::{line_up, Stamps};
-/// let stamps = Stamps { jd1: &[2451545.0, 2451600.0, 2451546.0, 2451545.0], jd2: &[0.0, 0.0, 0.0, 0.5] };
-/// let mut numbers = [0; 4];
-/// assert_eq!(line_up(stamps, &mut numbers, 3, 1), Ok(vec![0, 3, 2]));
-/// assert_eq!(numbers, [0, 17, 0, 0]);
+/// let jd1 = [2451545.0, 2451600.0, 2451546.0, 2451547.0, 2451545.0];
+/// let mut numbers = [0; 5];
+/// let line = line_up(Stamps { jd1: &jd1, jd2: &[0.0, 0.0, 0.0, 0.0, 0.5] }, &mut numbers, 4, 1);
+/// assert_eq!(line, Ok(vec![0, 4, 2, 3]));
+/// assert_eq!(numbers, [0, 17, 0, 0, 0]);
 /// ```
 ///
 /// [`JulianDate::compare`]: crate::julian::JulianDate::compare

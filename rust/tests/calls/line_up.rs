@@ -5,11 +5,11 @@ use celestial_time_proved::runs::{line_up, Stamps};
 #[test]
 #[ignore = "needs the archive of version 2.0.0"]
 fn three_runs() {
-    let jd1 = [2451545.0, 2451600.0, 2451546.0, 2451545.0, f64::NAN, 2451545.0, 2451547.0];
-    let stamps = Stamps { jd1: &jd1, jd2: &[0.0, 0.0, 0.0, 0.5, 0.0, 0.5, 0.0] };
-    let mut numbers = [0, 0, 0, 0, 0, 0, 6];
-    assert_eq!(line_up(stamps, &mut numbers, 3, 2), Ok(vec![0, 3, 5, 2]));
-    assert_eq!(numbers, [0, 17, 0, 0, 9, 0, 6]);
+    let jd1 = [2451545.0, 2451600.0, 2451546.0, 2451547.0, 2451545.0, f64::NAN, 2451545.0, 2451547.0];
+    let stamps = Stamps { jd1: &jd1, jd2: &[0.0, 0.0, 0.0, 0.0, 0.5, 0.0, 0.5, 0.0] };
+    let mut numbers = [0, 0, 0, 0, 0, 0, 0, 6];
+    assert_eq!(line_up(stamps, &mut numbers, 4, 2), Ok(vec![0, 4, 6, 2, 3]));
+    assert_eq!(numbers, [0, 17, 0, 0, 0, 9, 0, 6]);
 }
 
 #[test]
