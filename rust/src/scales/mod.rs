@@ -15,7 +15,7 @@
 //! shown(TAI::from_julian_date(JulianDate::j2000()));
 //! ```
 //!
-//! Nor do a conversion that goes to another scale, a comparison across scales, or a difference of them:
+//! Nor do a conversion that goes to another scale, a comparison across scales, or `==` across them:
 //!
 //! ```compile_fail,E0308
 //! use celestial_time_proved::{julian::JulianDate, scales::{gps::GPS, utc::UTC}};
