@@ -7,7 +7,7 @@ use crate::julian::JulianDate;
 use crate::refusal::TimeResult;
 
 /// The six fields of a text.
-#[derive(Debug, Clone, Copy, PartialEq)]
+#[derive(Debug, Clone, Copy)]
 #[allow(missing_docs)]
 pub struct ParsedDateTime {
     pub year: i32,

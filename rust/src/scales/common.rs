@@ -73,7 +73,7 @@ pub fn get_tai_utc_offset_with_table(
 }
 
 /// What a walk through the table gives.
-#[derive(Debug, Clone, PartialEq)]
+#[derive(Debug, Clone)]
 pub struct Walked {
     /// TAI-UTC in seconds at 0h of each date, in the dates' order.
     pub seconds: Vec<f64>,

@@ -36,9 +36,10 @@ fn rules_of_texts() {
 
 #[test]
 fn fields_of_texts() {
-    let due = ParsedDateTime { year: 2000, month: 2, day: 29, hour: 23, minute: 58, second: 60.25 };
-    assert_eq!(parse_iso8601("\t2000-02-29 23:58:60.25\r\n"), Ok(due));
-    assert_eq!(number(due.to_julian_date()), 4);
+    let read = parse_iso8601("\t2000-02-29 23:58:60.25\r\n").unwrap();
+    let ParsedDateTime { year, month, day, hour, minute, second } = read;
+    assert_eq!((year, month, day, hour, minute, second), (2000, 2, 29, 23, 58, 60.25));
+    assert_eq!(number(read.to_julian_date()), 4);
     let noon = parse_iso8601(b"2000-01-01T12:00:00").unwrap();
     assert_eq!(noon.to_julian_date(), Ok(JulianDate::j2000()));
     assert_eq!(number(parse_iso8601("2000-01-01T12:00:00Z")), 15);
