@@ -1,0 +1,25 @@
+use crate::number;
+use celestial_time_proved::runs::{line_up, Stamps};
+
+/// Of a run with one stamp far too late that one is left out; one that is not finite gets 9; one that was refused stays so.
+#[test]
+#[ignore = "needs the archive of version 2.0.0"]
+fn three_runs() {
+    let jd1 = [2451545.0, 2451600.0, 2451546.0, 2451547.0, 2451545.0, f64::NAN, 2451545.0, 2451547.0];
+    let stamps = Stamps::new(&jd1, &[0.0, 0.0, 0.0, 0.0, 0.5, 0.0, 0.5, 0.0]);
+    let mut numbers = [0, 0, 0, 0, 0, 0, 0, 6];
+    assert_eq!(line_up(stamps, &mut numbers, 4, 2), Ok(vec![0, 4, 6, 2, 3]));
+    assert_eq!(numbers, [0, 17, 0, 0, 0, 9, 0, 6]);
+}
+
+#[test]
+#[ignore = "needs the archive of version 2.0.0"]
+fn refused_lines() {
+    let stamps = Stamps::new(&[2451545.0, 2451544.0], &[0.0, 0.0]);
+    assert_eq!(line_up(stamps, &mut [0, 0], 1, 1), Ok(vec![1, 0]));
+    assert_eq!(number(line_up(stamps, &mut [0, 0], 3, 0)), 14);
+    assert_eq!(number(line_up(stamps, &mut [0, 0], u64::MAX, 2)), 14);
+    assert_eq!(number(line_up(stamps, &mut [0], 3, 0)), 12);
+    assert_eq!(number(line_up(Stamps::new(&[0.0], &[0.0, 0.0]), &mut [0, 0], 3, 0)), 12);
+    assert_eq!(line_up(Stamps::new(&[], &[]), &mut [], 0, 0), Ok(vec![]));
+}
