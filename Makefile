@@ -1,7 +1,7 @@
 # Builds the library for C and the program line_up, and installs them.
 #
 #   make                                       target/lib/libcelestial_time.a, libcelestial_time.so, celestial_time.pc, and target/programs/line_up
-#   make install [PREFIX=/usr/local] [DESTDIR=]    these and the header; with DESTDIR into a folder that is packed and unpacked at /
+#   make install [PREFIX=/usr/local] [DESTDIR=]    these and the headers; with DESTDIR into a folder that is packed and unpacked at /
 #   make uninstall [PREFIX=..] [DESTDIR=..]    takes them away again, and nothing else
 #   make clean                                 what make built; the archive of `rt staticlib capi` stays
 #
@@ -52,7 +52,7 @@ $(PROGRAM): programs/line_up.c include/celestial_time.h $(ARCHIVE)
 
 install: all
 	$(INSTALL) -d '$(DESTDIR)$(BINDIR)' '$(DESTDIR)$(LIBDIR)/pkgconfig' '$(DESTDIR)$(INCLUDEDIR)'
-	$(INSTALL) -m 644 include/celestial_time.h '$(DESTDIR)$(INCLUDEDIR)/celestial_time.h'
+	$(INSTALL) -m 644 include/celestial_time.h include/celestial_time_structs.h '$(DESTDIR)$(INCLUDEDIR)'
 	$(INSTALL) -m 644 $(ARCHIVE) '$(DESTDIR)$(LIBDIR)/libcelestial_time.a'
 	$(INSTALL) -m 755 $(OUT)/$(SHARED) '$(DESTDIR)$(LIBDIR)/$(SHARED)'
 	ln -sf $(SHARED) '$(DESTDIR)$(LIBDIR)/$(SONAME)'
@@ -61,8 +61,9 @@ install: all
 	$(INSTALL) -m 755 $(PROGRAM) '$(DESTDIR)$(BINDIR)/line_up'
 
 uninstall:
-	rm -f '$(DESTDIR)$(INCLUDEDIR)/celestial_time.h' '$(DESTDIR)$(LIBDIR)/libcelestial_time.a' '$(DESTDIR)$(LIBDIR)/$(SHARED)' '$(DESTDIR)$(LIBDIR)/$(SONAME)' \
-	  '$(DESTDIR)$(LIBDIR)/libcelestial_time.so' '$(DESTDIR)$(LIBDIR)/pkgconfig/celestial_time.pc' '$(DESTDIR)$(BINDIR)/line_up'
+	rm -f '$(DESTDIR)$(INCLUDEDIR)/celestial_time.h' '$(DESTDIR)$(INCLUDEDIR)/celestial_time_structs.h'
+	rm -f '$(DESTDIR)$(LIBDIR)/libcelestial_time.a' '$(DESTDIR)$(LIBDIR)/$(SHARED)' '$(DESTDIR)$(LIBDIR)/$(SONAME)' '$(DESTDIR)$(LIBDIR)/libcelestial_time.so'
+	rm -f '$(DESTDIR)$(LIBDIR)/pkgconfig/celestial_time.pc' '$(DESTDIR)$(BINDIR)/line_up'
 
 clean:
 	rm -rf $(OUT) target/programs
