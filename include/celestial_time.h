@@ -3,6 +3,7 @@
    `make install` installs it with an archive, a shared library and a file for pkg-config,
    all named celestial_time. In the repository the archive is target/staticlib/libcapi.a,
    made by `rt staticlib capi`. The header is written for C99 and later, and for C++.
+   celestial_time_structs.h beside it has the same calls with structs in the place of bytes.
 
    Answers. A call returns 64 bits signed: zero or more is its value, or the
    number of bytes that it wrote; below zero is minus the number of the refusal.
@@ -82,6 +83,39 @@
 #define CT_VERSION_MINOR 0
 #define CT_VERSION_PATCH 0
 #define CT_VERSION "2.0.0"
+
+/* The refusals by name, as the list at the head has them. A call returns minus the number:
+   n == -CT_REFUSED_NO_ROOM. */
+enum {
+    CT_REFUSED_YEAR = 1,
+    CT_REFUSED_MONTH = 2,
+    CT_REFUSED_DAY = 3,
+    CT_REFUSED_TIME_OF_DAY = 4,
+    CT_REFUSED_NO_NEXT_DAY = 5,
+    CT_REFUSED_DATE_RANGE = 6,
+    CT_REFUSED_FRACTION = 7,
+    CT_REFUSED_NANOS = 8,
+    CT_REFUSED_NOT_FINITE = 9,
+    CT_REFUSED_OFFSET_NOT_FINITE = 10,
+    CT_REFUSED_NO_ROOM = 11,
+    CT_REFUSED_SIZES_DIFFER = 12,
+    CT_REFUSED_TOO_MANY_STAMPS = 13,
+    CT_REFUSED_LENGTH = 14,
+    CT_REFUSED_GRAMMAR = 15,
+    CT_REFUSED_TOO_MANY_DIGITS = 16,
+    CT_REFUSED_ORDER = 17,
+    CT_REFUSED_OUT_OF_LIMIT = 18,
+    CT_REFUSED_WEEK_NOT_DECIDED = 19,
+    CT_REFUSED_TABLE_SIZES = 20,
+    CT_REFUSED_TABLE_ORDER = 21,
+    CT_REFUSED_TABLE_STEP = 22,
+    CT_REFUSED_PASSES = 23,
+    CT_REFUSED_PASSES_ORDER = 24,
+    CT_REFUSED_TICK_OUTSIDE = 25,
+    CT_REFUSED_END_BEFORE_START = 26,
+    CT_REFUSED_BILL_LIMIT = 27,
+    CT_REFUSED_NO_METRES = 28
+};
 
 #ifdef __cplusplus
 extern "C" {
