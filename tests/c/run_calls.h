@@ -85,7 +85,7 @@ static void run_calls(void)
     const size_t all = 8 * RUN_STAMPS;
     const uint8_t none[RUN_STAMPS] = {0, 9, 0, 0, 9, 0}, utc[RUN_STAMPS] = {0, 6, 0, 6, 6, 1};
     uint8_t short_table[CT_TABLE_BYTES], steep[CT_TABLE_BYTES];
-    const int32_t months[1] = {12 * 2027}, seconds[1] = {39};
+    const int32_t months[1] = {LAST_MONTH + 120}, seconds[1] = {LAST_SECONDS + 2};
     run_lent due;
     for (size_t i = 0; i < 5; i++)
         for (size_t k = 0; k < 5; k++) {

@@ -23,16 +23,16 @@ static void standby_calls(void)
     GIVES(bill(0, 0, 0), ct_standby_bill, NEW_YEAR, NEW_YEAR, 1000000, 1, 1000000, NO_ROWS);
     GIVES(bill(1, 0, 0), ct_standby_bill, 2016, 12, 31, 23, 59, 60, 0, 2016, 12, 31, 23, 59, 60, 999, 0, 1, 1, NO_ROWS);
     /* 10,416 days and 16 h are 1,000,000 quarters */
-    GIVES(bill(1000000, 500000000000, 500000000000), ct_standby_bill, 2017, 1, 1, 0, 0, 0, 0, 2045, 7, 9, 16, 0, 0, 0, 1000000, 1000000, 1000000, NO_ROWS);
-    REFUSES(27, ct_standby_bill, 2017, 1, 1, 0, 0, 0, 0, 2045, 7, 9, 16, 0, 0, 1, 1, 1, 1, NO_ROWS);
+    GIVES(bill(1000000, 500000000000, 500000000000), ct_standby_bill, 2050, 1, 1, 0, 0, 0, 0, 2078, 7, 9, 16, 0, 0, 0, 1000000, 1000000, 1000000, NO_ROWS);
+    REFUSES(27, ct_standby_bill, 2050, 1, 1, 0, 0, 0, 0, 2078, 7, 9, 16, 0, 0, 1, 1, 1, 1, NO_ROWS);
     REFUSES(27, ct_standby_bill, 1972, 1, 1, 0, 0, 0, 0, 2147483647, 12, 30, 23, 59, 59, 999, 1, 1, 1, NO_ROWS);
-    /* a leap second left out at the end of 2026: 899 s */
-    one_row(JANUARY_2027, 36);
-    GIVES(bill(1, 1, 1), ct_standby_bill, 2026, 12, 31, 23, 45, 0, 1, 2027, 1, 1, 0, 0, 1, 1, 2, 1, 1, LENT);
-    REFUSES(4, ct_standby_bill, 2026, 12, 31, 23, 59, 59, 0, 2027, 1, 1, 0, 0, 0, 0, 2, 1, 1, LENT);
+    /* a leap second left out at the end of 2049: 899 s */
+    one_row(JANUARY_2050, DOWN);
+    GIVES(bill(1, 1, 1), ct_standby_bill, 2049, 12, 31, 23, 45, 0, 1, 2050, 1, 1, 0, 0, 1, 1, 2, 1, 1, LENT);
+    REFUSES(4, ct_standby_bill, 2049, 12, 31, 23, 59, 59, 0, 2050, 1, 1, 0, 0, 0, 0, 2, 1, 1, LENT);
     /* the table, the start, the end, 26, 27, 28, each before the next */
     REFUSES(14, ct_standby_bill, 1971, 13, 1, 0, 0, 0, 0, NEW_YEAR, 1, 1, 1, table, CT_TABLE_BYTES - 1);
-    one_row(JANUARY_2017, 38);
+    one_row(LAST_MONTH, UP);
     REFUSES(21, ct_standby_bill, 1971, 13, 1, 0, 0, 0, 0, NEW_YEAR, 1, 1, 1, LENT);
     REFUSES(1, ct_standby_bill, 1971, 13, 1, 0, 0, 0, 0, 2017, 13, 1, 0, 0, 0, 0, 1, 1, 1, NO_ROWS);
     REFUSES(2, ct_standby_bill, 2017, 13, 32, 0, 0, 0, 0, 1971, 1, 1, 0, 0, 0, 0, 1, 1, 1, NO_ROWS);

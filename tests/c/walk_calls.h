@@ -1,4 +1,4 @@
-/* ct_offsets_at_0h: answers and the rows compared, every refusal, and the order of two that would both hold. The counts are by hand: of 42 rows, those reached by the
+/* ct_offsets_at_0h: answers and the rows compared, every refusal, and the order of two that would both hold. The counts are by hand: of the rows, those reached by the
    last date, and one for each date that leaves a row; the offsets are the IERS's whole seconds, and of 1960 document 01's terms. Tables as in table_calls.h. */
 enum { MOST_DATES = 4, WALK_GUARD = 9 };
 
@@ -41,7 +41,7 @@ static void walks(int64_t code, const double *offsets, date_list dates, const ui
 
 static void walked_dates(void)
 {
-    static const double leap[] = {36.0, 37.0}, same[] = {37.0, 37.0, 37.0}, early[] = {0.0, 0.0}, last[] = {37.0, 38.0}, less[] = {36.0};
+    static const double leap[] = {36.0, 37.0}, same[] = {LAST_SECONDS, LAST_SECONDS, LAST_SECONDS}, early[] = {0.0, 0.0}, last[] = {LAST_SECONDS, UP}, less[] = {DOWN};
     date_list none = {0, {0}}, turn = DATES(2016, 12, 31, 2017, 1, 1);
     double ends[4];
     size_t spare;
@@ -51,16 +51,16 @@ static void walked_dates(void)
     ends[3] = 37.0;
     walks(0, leap, none, NO_ROWS, 0);
     walks(0, leap, none, NO_ROWS, 8);
-    for (spare = 0; spare <= WALK_GUARD; spare++) walks(43, leap, turn, NO_ROWS, 16 + spare);
-    walks(42, same, DATES(2017, 1, 1, 2017, 1, 1, 2147483647, 12, 31), NO_ROWS, 24);
+    for (spare = 0; spare <= WALK_GUARD; spare++) walks(FIXED_ROWS + 1, leap, turn, NO_ROWS, 16 + spare);
+    walks(FIXED_ROWS, same, DATES(LAST_MONTH / 12, LAST_MONTH % 12 + 1, 1, LAST_MONTH / 12, LAST_MONTH % 12 + 1, 1, 2147483647, 12, 31), NO_ROWS, 24);
     walks(2, early, DATES(-4799, 1, 1, 1959, 12, 31), NO_ROWS, 16);
-    walks(45, ends, DATES(1959, 12, 31, 1960, 1, 1, 2016, 12, 31, 2017, 1, 1), NO_ROWS, 32);
-    one_row(JANUARY_2027, 38);
-    walks(44, last, DATES(2026, 12, 31, 2027, 1, 1), LENT, 16);
-    one_row(JANUARY_2027, 36);
-    walks(43, less, DATES(2027, 1, 31), LENT, 8);
+    walks(FIXED_ROWS + 3, ends, DATES(1959, 12, 31, 1960, 1, 1, 2016, 12, 31, 2017, 1, 1), NO_ROWS, 32);
+    one_row(JANUARY_2050, UP);
+    walks(FIXED_ROWS + 2, last, DATES(2049, 12, 31, 2050, 1, 1), LENT, 16);
+    one_row(JANUARY_2050, DOWN);
+    walks(FIXED_ROWS + 1, less, DATES(2050, 1, 31), LENT, 8);
     many_rows(16);
-    walks(59, last, DATES(2026, 12, 31, 2041, 1, 1), LENT, 16);
+    walks(FIXED_ROWS + 17, last, DATES(2049, 12, 31, 2064, 1, 1), LENT, 16);
 }
 
 static void refused_walks(void)
@@ -81,9 +81,9 @@ static void refused_walks(void)
     walks(-17, NULL, DATES(2017, 2, 1, 2017, 1, 31), NO_ROWS, 16);
     walks(-17, NULL, DATES(2017, 1, 1, 2016, 12, 31, 2016, 13, 1), NO_ROWS, 24);
     walks(-14, NULL, none, ct_no_rows, CT_TABLE_BYTES - 1, 0);
-    one_row(JANUARY_2027, 39);
+    one_row(JANUARY_2050, UP + 1);
     walks(-22, NULL, longer(back, 1), LENT, 0);
-    one_row(JANUARY_2017, 39);
+    one_row(LAST_MONTH, UP + 1);
     walks(-21, NULL, longer(back, 1), LENT, 0);
     table[4] = 2;
     walks(-20, NULL, longer(back, 1), LENT, 0);

@@ -1,6 +1,8 @@
 /* The values that the papers and the source's limits name. */
 #include <stdint.h>
 
+#include "../leap_rows.h"
+
 #define COUNT(list) (sizeof list / sizeof *list)
 
 /* Floats for every place: not finite, zeros, smallest and largest, powers of

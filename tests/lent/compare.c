@@ -7,6 +7,7 @@
 #include <inttypes.h>
 #include <stdlib.h>
 
+#include "../leap_rows.h"
 #include "lent.h"
 
 static const char *const name[] = {"TAI-UTC", "leap", "UTC to TAI", "TAI to UTC", "UTC to UT1", "UT1 to UTC", "text"};
@@ -75,10 +76,10 @@ static int by_erfa(int call, const a_case *c, an_answer *a)
     return n < 0;
 }
 
-/* Up to 16 rows from February 2017 on, most of them a year or less apart. */
+/* Up to 16 rows after the last fixed one, most of them a year or less apart. */
 static void draw_table(a_case *c)
 {
-    int month = 24204, seconds = 37;
+    int month = LAST_MONTH, seconds = LAST_SECONDS;
     c->rows = below(4) ? 1 + below(16) : 0;
     for (int i = 0; i < c->rows; i++) {
         month += 1 + below(below(4) ? 12 : 120);

@@ -8,7 +8,6 @@ pub mod Before1972
 pub mod TableLeaps
 pub mod Every
 pub mod EveryTable
-pub mod TableCases
 pub mod Seconds
 pub mod Formula
 pub mod drift

@@ -20,7 +20,7 @@ use Rattle.calendar.specs.DayCount.{mjdNumber}
 use Rattle.calendar.specs.declared.CalendarDate.{CalendarDate}
 use Rattle.leap_table.specs.declared.rows.AnnouncedRows.{AnnouncedRows}
 use Rattle.leap_table.specs.declared.offsets.DayOffsets.{DayOffsets}
-use Rattle.leap_table.specs.rows.Table.{Row, fixed, starts, reached, monthNumber, monthOf, none}
+use Rattle.leap_table.specs.rows.Table.{Row, fixed, starts, reached, monthNumber, monthOf, none, lastMonth}
 use Rattle.leap_table.specs.rows.Announced.{tableOf}
 use Rattle.leap_table.specs.offsets.Offset.{secondsIn, wholeF}
 use Rattle.leap_table.specs.offsets.Leap.{offsets, offsetsOfDay, dayOffsets, leapOf, leapAtEndOfDay, leapAmount}
@@ -134,7 +134,7 @@ module _ (t : AnnouncedRows) (rows : List Row) (e : tableOf t ≡ answer rows) w
     whole-day j false = a-month-later j
 
   -- ---- before: as in the fixed table
-  same-day : (n n′ : ℕ) (j : ℤ) → n < 24205 → n′ < 24205 → offsetsOfDay rows n n′ j ≡ offsetsOfDay fixed n n′ j
+  same-day : (n n′ : ℕ) (j : ℤ) → n < suc lastMonth → n′ < suc lastMonth → offsetsOfDay rows n n′ j ≡ offsetsOfDay fixed n n′ j
   unfolding offsetsOfDay
   same-day n n′ j h h′ =
       let p = same-before-announced t rows e n h (ofInt binary64 j) nought in
@@ -143,7 +143,7 @@ module _ (t : AnnouncedRows) (rows : List Row) (e : tableOf t ≡ answer rows) w
       (λ i. offsets (p i) (q i) (r i))
 
   -- ---- by dates
-  soon : (b : Bool) (n : ℕ) → n < 23664 → cond b n (suc n) < 24205
+  soon : (b : Bool) (n : ℕ) → n < 23664 → cond b n (suc n) < suc lastMonth
   soon true n h = omega arith
   soon false n h = omega arith
 
@@ -164,7 +164,7 @@ module _ (t : AnnouncedRows) (rows : List Row) (e : tableOf t ≡ answer rows) w
           let l = ltb-true (monthOf y (natAbs m)) 23664 g in
           let q =
           same-day (monthOf y (natAbs m)) (monthNumber (s .year) (s .month)) (mjdNumber (pos y) m d) (omega (arith, l))
-          (subst (λ (k : ℕ). k < 24205) (sym (next-month-number y m d s p))
+          (subst (λ (k : ℕ). k < suc lastMonth) (sym (next-month-number y m d s p))
           (soon (ltb (natAbs d) (monthLength (pos y) (natAbs m))) (monthOf y (natAbs m)) l)) in
           early l q (subst (Early (pos y) m d) (sym q) (early-date (pos y) m d s p l))
       go false g =

@@ -9,3 +9,4 @@ pub mod TablesTaken
 pub mod TableLaws
 pub mod NoRows
 pub mod ByParts
+pub mod Cases

@@ -14,7 +14,7 @@ use Rattle.calendar.specs.Refusals.{validDate, nextOf}
 use Rattle.calendar.specs.DayCount.{marchCount, civilCount, mjdNumber, mjdOf}
 use Rattle.calendar.proofs.Signs.{sub-at}
 use Rattle.leap_table.specs.declared.rows.AnnouncedRows.{AnnouncedRows}
-use Rattle.leap_table.specs.rows.Table.{Row, monthNumber}
+use Rattle.leap_table.specs.rows.Table.{Row, monthNumber, mostSeconds}
 use Rattle.leap_table.specs.rows.Announced.{tableOf}
 use Rattle.leap_table.specs.offsets.Offset.{secondsIn}
 use Rattle.leap_table.specs.offsets.WholeSeconds.{wholeSeconds}
@@ -78,9 +78,9 @@ unfolding wholeSeconds
 a-month-here rows y m p g h = rw (p, le-ltb m 1 g, le-ltb 12 m h)
 
 pub offset-small : (t : AnnouncedRows) (rows : List Row) → tableOf t ≡ answer rows → (y : ℤ) (m : ℕ) → ltZ y (pos 1972) ≡ false → 1 ≤ m → m ≤ 12
-    → (10 ≤ wholeSeconds rows y m) × (wholeSeconds rows y m ≤ 53)
+    → (10 ≤ wholeSeconds rows y m) × (wholeSeconds rows y m ≤ mostSeconds)
 offset-small t rows e y m p g h =
-    subst (λ (k : ℕ). (10 ≤ k) × (k ≤ 53)) (sym (a-month-here rows y m p g h)) (seconds-in-range t rows e (monthNumber y m) (late y m p g))
+    subst (λ (k : ℕ). (10 ≤ k) × (k ≤ mostSeconds)) (sym (a-month-here rows y m p g h)) (seconds-in-range t rows e (monthNumber y m) (late y m p g))
 
 -- ---- the Modified Julian Date of a date from 1972 on is above 0
 march-from-1972 : (y m d : ℕ) → 6771 ≤ y → 2432076 ≤ marchCount y m d

@@ -18,7 +18,7 @@ use Rattle.calendar.proofs.Mjd.{mjd-given, same-answer}
 use Rattle.calendar.proofs.NextDates.{next-is, next-in-calendar, next-accepted, next-mjd}
 use Rattle.calendar.proofs.Years.{next-keeps}
 use Rattle.leap_table.specs.declared.rows.AnnouncedRows.{AnnouncedRows}
-use Rattle.leap_table.specs.rows.Table.{Row}
+use Rattle.leap_table.specs.rows.Table.{Row, mostSeconds}
 use Rattle.leap_table.specs.rows.Announced.{tableOf}
 use Rattle.leap_table.specs.offsets.WholeSeconds.{wholeSeconds}
 use Rattle.standby.specs.declared.UtcTime.{UtcTime}
@@ -166,7 +166,7 @@ module _ (table : AnnouncedRows) (rows : List Row) (taken : tableOf table ≡ an
     few-days : t .day ≤ 31
     few-days = omega (arith, date-ok .d-high, short (leapYear (t .year)) (t .month) (date-ok .m-low) (date-ok .m-high))
 
-    offset-range : (10 ≤ offsetOnDate rows t) × (offsetOnDate rows t ≤ 53)
+    offset-range : (10 ≤ offsetOnDate rows t) × (offsetOnDate rows t ≤ mostSeconds)
     offset-range = offset-small table rows taken (t .year) (t .month) (k .from) (date-ok .m-low) (date-ok .m-high)
 
     -- the next date is from 1972 on too, and a day later
@@ -175,7 +175,7 @@ module _ (table : AnnouncedRows) (rows : List Row) (taken : tableOf table ≡ an
         subst (λ (x : CalendarDate). ltZ (x .year) (pos 1972) ≡ false) (sym (next-is (t .year) (pos (t .month)) (pos (t .day)) (k .after) (k .has-next) .1))
         (next-keeps (λ x. ltZ x (pos 1972) ≡ false) year-later (date (t .year) (t .month) (t .day)) (k .from))
 
-    after-range : (10 ≤ offsetAfter rows (k .after)) × (offsetAfter rows (k .after) ≤ 53)
+    after-range : (10 ≤ offsetAfter rows (k .after)) × (offsetAfter rows (k .after) ≤ mostSeconds)
     after-range =
         let c = next-in-calendar (t .year) (pos (t .month)) (pos (t .day)) (k .after) (k .has-next) in
         offset-small table rows taken (k .after .year) (k .after .month) from-after (c .m-low) (c .m-high)

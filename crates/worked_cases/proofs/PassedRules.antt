@@ -33,7 +33,7 @@ use Rattle.utc.specs.text.Text.{yearText, utcText}
 use Rattle.utc.specs.FromCalendar.{midnightPlus, utcFromCalendar}
 use Rattle.utc.specs.iso_texts.IsoText.{nextMidnightTextBy, shownTextBy, dayTextBy, dayText}
 use Rattle.utc.specs.iso_texts.ByRule.{textByRule, isoTextByRule}
-use Rattle.utc_scales.specs.laws.ShortTable.{shortTable, shortRows}
+use Rattle.utc_scales.specs.laws.ShortTable.{shortTable, shortRows, shortPlace}
 use Rattle.utc_scales.proofs.laws.ShortDay.{short-taken}
 use Rattle.worked_cases.specs.Cases.{ascii}
 use Rattle.worked_cases.proofs.ByDates.{toCalendar}
@@ -84,14 +84,14 @@ pub before-rows : isoTextByRule fixed (julian (decimal 24367345 1) (decimal 5 1)
 unfolding computedText round ofBits
 before-rows = as-computed fixed (julian (decimal 24367345 1) (decimal 5 1)) ∙ refl
 
--- ---- by the two announced rows of `shortTable`: the last float of 2029-12-31 shows 2030 and tells row 41, 2030-01-01 row 42
+-- ---- by the two announced rows of `shortTable`: the last float of 2029-12-31 shows 2030 and tells the row before that of 2030-01-01
 abbrev announcedText : JulianDate → Outcome (List ℕ × Rule)
 announcedText d = onward (tableOf shortTable) (λ rows. isoTextByRule rows d)
 
-pub carried-to-announced-row : announcedText (julian (decimal 24625015 1) (bits 0x3fef_ffff_ffff_ffff)) ≡ answer (ascii "2030-01-01T00:00:00.000", Whole 41)
+pub carried-to-announced-row : announcedText (julian (decimal 24625015 1) (bits 0x3fef_ffff_ffff_ffff)) ≡ answer (ascii "2030-01-01T00:00:00.000", Whole (shortPlace - 1))
 unfolding computedText round ofBits
 carried-to-announced-row = went _ short-taken ∙ as-computed shortRows (julian (decimal 24625015 1) (bits 0x3fef_ffff_ffff_ffff)) ∙ refl
 
-pub in-announced-row : announcedText (julian (decimal 24625025 1) (decimal 5 1)) ≡ answer (ascii "2030-01-01T12:00:00.000", Whole 42)
+pub in-announced-row : announcedText (julian (decimal 24625025 1) (decimal 5 1)) ≡ answer (ascii "2030-01-01T12:00:00.000", Whole shortPlace)
 unfolding computedText round ofBits
 in-announced-row = went _ short-taken ∙ as-computed shortRows (julian (decimal 24625025 1) (decimal 5 1)) ∙ refl

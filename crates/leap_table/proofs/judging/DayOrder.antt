@@ -28,9 +28,6 @@ From z = ltZ z (negsuc 4798) ≡ false
 abbrev since : ℤ → ℕ
 since z = natAbs (z +ℤ pos 4799)
 
-since-pos : (n : ℕ) → since (pos n) ≡ n + 4799
-since-pos n = refl
-
 since-neg : (n : ℕ) → n ≤ 4798 → since (negsuc n) ≡ 4799 - suc n
 since-neg n h = ap natAbs (sub-at 4799 (suc n) (omega arith))
 

@@ -1,4 +1,4 @@
--- The seconds of announced rows, and tables by their parts, as code has them that is announced the two arrays: the seconds depend on the announced seconds
+-- The seconds of announced rows, and tables by their parts, as code has them that is lent the two arrays: the seconds depend on the announced seconds
 -- alone, and from 1972 on TAI-UTC is those of the row reached. Assumes nothing.
 use mathlib.Core.Path.{_≡_, refl, ap, _∙_}
 use mathlib.Core.Bool.{false}
@@ -15,7 +15,7 @@ use Rattle.leap_table.specs.rows.Announced.{secondsAt, announcedRow, ann
 use Rattle.leap_table.specs.offsets.Offset.{secondsOf, offsetAt, wholeF}
 use Rattle.leap_table.proofs.offsets.TableYears.{whole-rows-of, row-seconds-of}
 
--- the seconds of a announced row are their own float
+-- the seconds of an announced row are their own float
 pub announced-seconds : (t : AnnouncedRows) (k : ℕ) → secondsOf (announcedRow t k) ≡ wholeF (secondsAt t k)
 unfolding secondsOf ofInt
 announced-seconds t k = round-same binary64 false (10000000 * secondsAt t k) (10 ^ 7) (secondsAt t k) 1 (omega arith) (omega arith) (go (secondsAt t k))

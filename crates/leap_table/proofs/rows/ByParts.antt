@@ -1,4 +1,4 @@
--- Tables by their parts, as code has them that is announced the two arrays: the rows are those of the table by value, their months depend on the announced
+-- Tables by their parts, as code has them that is lent the two arrays: the rows are those of the table by value, their months depend on the announced
 -- months alone, and their steps on the announced seconds alone. Assumes nothing.
 use mathlib.Core.Path.{_≡_, refl, ap, sym, _∙_}
 use mathlib.Core.Bool.{Bool, true, false, cond, _&&_}
@@ -65,12 +65,6 @@ module _ (a b c d : ℕ) (l m s : List ℤ) where
       steps-more (announcedTable a b m s) n
       ∙ (λ i. steps-alike n i && oneApart (before-alike n i) (natural (getD s n (pos 0))))
       ∙ sym (steps-more (announcedTable c d l s) n)
-
--- the rows reached in a month, whatever the seconds
-pub reached-alike : (k : ℕ) (m s l : List ℤ) (n : ℕ) → reached (starts (rowsIn k m s)) n ≡ reached (starts (rowsIn k m l)) n
-reached-alike k m s l n =
-    ap (λ (j : ℕ). reached (starts (rowsTo (announcedTable k k m s) j)) n) (announced-size k m s ∙ sym (announced-size k m l))
-    ∙ ap (λ (x : List ℕ). reached x n) (starts-alike k k k k l m s (announcedSize (announcedTable k k m l)))
 
 -- no table has more than `mostRows` rows
 pub few-rows : (k rows : ℕ) → rows ≤ fixedRows + least k 16 → rows ≤ mostRows

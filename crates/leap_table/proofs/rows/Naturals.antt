@@ -49,7 +49,7 @@ module _ (z : ℤ) (f : SFits w32 z) where
     pub counted : (natAbs (toZ w32 (ofZ w32 z)) ≡ natural z) × (natAbs (toZ w32 (ofZ w32 z)) < 2147483648)
     counted = (read .1, omega (arith, read .1, small z f))
 
--- a announced month has begun in month n where it is not above n cut at the largest announced number
+-- an announced month has begun in month n where it is not above n cut at the largest announced number
 pub begun-or-not : (z : ℤ) (n : ℕ) → SFits w32 z → (leZ z (pos (least n 2147483647)) ≡ true → natural z ≤ n)
     × (leZ z (pos (least n 2147483647)) ≡ false → n < natural z)
 begun-or-not (negsuc k) n f = (λ e. omega arith, λ e. absurd (true≢false e))

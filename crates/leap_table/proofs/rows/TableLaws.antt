@@ -1,4 +1,4 @@
--- What becomes of a announced table, decided on the numbers as they are announced; and what is known of a table that is taken: its length, its order, the size
+-- What becomes of an announced table, decided on the numbers as they are announced; and what is known of a table that is taken: its length, its order, the size
 -- of its seconds. Places past the size are not read.
 -- Assumes nothing.
 use mathlib.Core.Path.{_≡_, refl, ap, sym, subst, _∙_}

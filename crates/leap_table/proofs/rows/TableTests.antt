@@ -1,4 +1,4 @@
--- The two tests of a announced table's rows, one row after the other, as the loops make them.
+-- The two tests of an announced table's rows, one row after the other, as the loops make them.
 -- Assumes nothing.
 use mathlib.Core.Path.{_≡_, refl, sym}
 use mathlib.Core.Bool.{Bool, true, false}

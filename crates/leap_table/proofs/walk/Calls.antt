@@ -1,4 +1,4 @@
--- The call as a whole: its refusals in their order, what is known where nothing is refused, and what the announced list holds. Assumes nothing.
+-- The call as a whole: its refusals in their order, what is known where nothing is refused, and what the lent list holds. Assumes nothing.
 use Prim.Native.Nat.{ℕ, zero, suc, _≤_}
 use native.Mathlib.Omega.{arith}
 use mathlib.Core.Path.{_≡_, refl, sym, ap, subst, _∙_}

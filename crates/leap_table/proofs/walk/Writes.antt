@@ -1,4 +1,4 @@
--- Offsets written one after the other into a announced list, as floats or as bytes. Assumes nothing.
+-- Offsets written one after the other into a lent list, as floats or as bytes. Assumes nothing.
 use Prim.Native.Nat.{ℕ, zero, suc, _+_, _-_, _*_, _≤_, _<_}
 use native.Mathlib.Omega.{arith}
 use native.Mathlib.Nat.{mul-zero, mul-suc}

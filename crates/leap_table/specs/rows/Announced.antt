@@ -42,7 +42,7 @@ announcedSize t = least (least (t .«months_size») (t .«seconds_size»)) 16
 abbrev pub rowsOf : AnnouncedRows → List Row
 rowsOf t = rowsTo t (announcedSize t)
 
--- a table by its parts, as code has it that is announced the two arrays by reference
+-- a table by its parts, as code has it that is lent the two arrays by reference
 abbrev pub announcedTable : ℕ → ℕ → List ℤ → List ℤ → AnnouncedRows
 announcedTable a b months seconds = record { «months_size» = a; «seconds_size» = b; months = months; seconds = seconds }
 

@@ -1,5 +1,5 @@
--- What a call answers and what its announced list holds. Written from document 02, item 2: "Besides the offsets, the result carries the number of rows
--- compared", "spare places of a announced list stay", and document 01, "Refusals by number": a refused call changes nothing. Assumes nothing.
+-- What a call answers and what its lent list holds. Written from document 02, item 2: "Besides the offsets, the result carries the number of rows
+-- compared", "spare places of a lent list stay", and document 01, "Refusals by number": a refused call changes nothing. Assumes nothing.
 use Prim.Native.Nat.{ℕ}
 use mathlib.Core.Path.{_≡_}
 use mathlib.Core.List.{List, _++_}
@@ -19,12 +19,12 @@ walkOutcome (Refused k) = refusal k
 abbrev pub asFloats : List Float → List Float
 asFloats l = l
 
--- the offsets, as `write` writes them, at the start of the announced list and the rest as it was; refused, all as it was
+-- the offsets, as `write` writes them, at the start of the lent list and the rest as it was; refused, all as it was
 unfoldable pub listAfter : {A : Type 0} → (List Float → List A) → Outcome Walked → List A → List A
 listAfter write (answer w) l = write (w .offsets) ++ drop (length (write (w .offsets))) l
 listAfter write (refusal k) l = l
 
--- r is the number of rows compared, or the refusal, and the announced list, which held `before`, holds `after`
+-- r is the number of rows compared, or the refusal, and the lent list, which held `before`, holds `after`
 pub record WalkCall {A : Type 0} (write : List Float → List A) (o : Outcome Walked) (before : List A) (r : WalkAnswer) (after : List A) : Type 0 where
   pub says : walkOutcome r ≡ onward o (λ w. answer (w .rowsCompared))
   pub holds : after ≡ listAfter write o before

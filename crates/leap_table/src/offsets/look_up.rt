@@ -21,7 +21,7 @@ use super::fixed_rows::start_at;
 use super::fixed_rows::whole_seconds;
 use crate::rows::FIXED_SIZE;
 
-// A month's number as a announced one is, of which none is larger.
+// A month's number as an announced one is, of which none is larger.
 fn as_announced(n: u64) -> i32
     ensures { λ r. ⌜ r ≡ pos (least n 2147483647) ⌝ }
 {

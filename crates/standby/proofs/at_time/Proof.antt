@@ -7,6 +7,7 @@ use lib.IntN.{ℤ, pos}
 use mir.Syntax.{w32}
 use mir.Facts.{toZ-ofZ}
 use borrow.Author.Needs.{needs}
+use Rattle.leap_table.specs.rows.Table.{mostSeconds}
 use Rattle.refusals.specs.Outcome.{answer}
 use Rattle.calendar.specs.declared.CalendarDate.{CalendarDate}
 use Rattle.calendar.proofs.Accepted.{date-accepted}
@@ -23,7 +24,7 @@ use Rattle.standby.proofs.Times.{same-instant, never-at, few-millis, of
 use Rattle.standby.proofs.at_time.Statement.{statement}
 use Rattle.standby.proofs.at_time.Tie as tie
 
-offset-limit : (table : AnnouncedRows) (t : UtcTime) (day : ℕ) (next : CalendarDate) → Dated table t day next → offsetOnDate (rowsOf table) t ≤ 53
+offset-limit : (table : AnnouncedRows) (t : UtcTime) (day : ℕ) (next : CalendarDate) → Dated table t day next → offsetOnDate (rowsOf table) t ≤ mostSeconds
 offset-limit table t day next d =
     let a = date-accepted (t .year) (pos (t .month)) (pos (t .day)) (next-is (t .year) (pos (t .month)) (pos (t .day)) next (d .has-next) .0) in
     offset-small table (rowsOf table) (d .taken) (t .year) (t .month) (d .from-1972) (a .m-low) (a .m-high) .1
@@ -37,7 +38,7 @@ module _ (c : tie.After-whole-seconds-by-rows) where
       ∙ ap (λ (y : ℤ). wholeSeconds (rowsOf (s .args .table)) y (s .args .t .month))
       (toZ-ofZ {w = w32} (record { sfits = c .before .struct-told .given .0 .1 }))
 
-  offset-few : c .whole-seconds-by-rows .result ≤ 53
+  offset-few : c .whole-seconds-by-rows .result ≤ mostSeconds
   offset-few =
       let s = c .before .before .before in
       let a = s .args in

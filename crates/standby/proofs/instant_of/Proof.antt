@@ -47,7 +47,7 @@ module _ (v : tie.After-modified-julian-day) where
 
 module _ (k : tie.After-known-told2) where
   abbrev begin : tie.Start
-  begin = k .before .before .before .before .before .before .before .before .before .before
+  begin = start (k .before .before .before)
 
   abbrev n : ℤ
   n = k .before .n .given .0 .0

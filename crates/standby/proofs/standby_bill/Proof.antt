@@ -40,7 +40,8 @@ module _ (c : tie.After-known-told2) where
   start-at = sym (c .before .before .before .instant-of .ensures .says) ∙ ap instantOutcome (c .before .s .given .1)
 
 module _ (c : tie.After-known-told4) where
-  end-at : let a = c .before .before .before .before .before .before .before .before .before .before .args in instant (rowsOf (a .table)) (a .end) ≡ answer
+  end-at : let s = c .before .before .before .before in let a =
+      s .before .before .before .before .before .before .args in instant (rowsOf (a .table)) (a .end) ≡ answer
       (instantMs (c .before .e .given .0 .0))
   unfolding instantOutcome
   end-at = sym (c .before .before .before .instant-of2 .ensures .says) ∙ ap instantOutcome (c .before .e .given .1)

@@ -32,7 +32,7 @@ use Rattle.leap_table.specs.offsets.Leap.{leapAtEndOfDay}
 use Rattle.leap_table.specs.offsets.Rule.{offsetByRule}
 use Rattle.leap_table.proofs.offsets.Days.{leap-given}
 use Rattle.leap_table.proofs.rows.NoRows.{none-announced, fixed-taken}
-use Rattle.leap_days.proofs.TableCases.{unequal-sizes, last-month-again, no-second}
+use Rattle.leap_table.proofs.rows.Cases.{unequal-sizes, last-month-again, no-second}
 use Rattle.utc.specs.FromCalendar.{utcFromCalendar}
 use Rattle.utc.specs.UnixTime.{unixDay, utcNew}
 use Rattle.utc.specs.iso_texts.TextForm.{TextForm}

@@ -25,7 +25,7 @@ use Rattle.utc_scales.specs.ByRule.{utcToTaiByRule}
 use Rattle.utc_scales.specs.to_ut1.ByRule.{utcToUt1ByRule}
 use Rattle.utc_scales.proofs.days.Rules.{passed}
 use Rattle.utc_scales.specs.laws.Twenty.{Twenty, utc-tai, utc-ut1, answerOfAny}
-use Rattle.utc_scales.specs.laws.ShortTable.{shortTable, shortRows}
+use Rattle.utc_scales.specs.laws.ShortTable.{shortTable, shortRows, shortPlace}
 use Rattle.utc_scales.proofs.laws.Computed.{computed, as-computed}
 use Rattle.utc_scales.proofs.laws.Worked.{leap-second, step-noon, drift-ut1}
 use Rattle.utc_scales.proofs.laws.ShortDay.{short-taken}
@@ -103,17 +103,17 @@ abbrev first-of-2030 : Float → JulianDate
 first-of-2030 x = julian (decimal 24625025 1) x
 
 pub announced-row-tai : onward (tableOf shortTable) (λ rows. utcToTaiByRule rows (first-of-2030 (decimal 0 0))) ≡ answer
-    (first-of-2030 (bits 0x3f3b_4e81_b4e8_1b4f), Whole 42)
+    (first-of-2030 (bits 0x3f3b_4e81_b4e8_1b4f), Whole shortPlace)
 unfolding ruled computed round ofBits firstIsKept keptParts
 announced-row-tai =
     went _ short-taken
-    ∙ tai-by-rule shortRows (first-of-2030 (decimal 0 0)) _ (Whole 42)
+    ∙ tai-by-rule shortRows (first-of-2030 (decimal 0 0)) _ (Whole shortPlace)
     (given shortRows utc-tai (first-of-2030 (decimal 0 0)) (first-of-2030 (bits 0x3f3b_4e81_b4e8_1b4f)) refl) refl
 
 pub announced-row-ut1 : onward (tableOf shortTable) (λ rows. utcToUt1ByRule rows (first-of-2030 (decimal 0 0)) (decimal 0 0)) ≡ answer
-    (first-of-2030 (decimal 0 0), Whole 42)
+    (first-of-2030 (decimal 0 0), Whole shortPlace)
 unfolding ruled computed round ofBits
 announced-row-ut1 =
     went _ short-taken
-    ∙ ut1-by-rule shortRows (first-of-2030 (decimal 0 0)) (decimal 0 0) _ (Whole 42)
+    ∙ ut1-by-rule shortRows (first-of-2030 (decimal 0 0)) (decimal 0 0) _ (Whole shortPlace)
     (given shortRows (utc-ut1 (decimal 0 0)) (first-of-2030 (decimal 0 0)) (first-of-2030 (decimal 0 0)) refl) refl
