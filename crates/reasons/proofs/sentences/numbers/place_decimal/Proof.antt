@@ -1,13 +1,13 @@
--- `place::decimal` meets its contract: the digits are written from the last on. Assumes nothing.
+-- `numbers::place_decimal` meets its contract: the digits are written from the last on. Assumes nothing.
 use Prim.Native.Nat.{_+_, _-_, _/_, _%_}
-use mathlib.Core.Path.{refl, ap}
-use lib.ListN.{length, set, length-set}
+use mathlib.Core.Path.{refl}
+use lib.ListN.{set, length-set}
 use native.Mathlib.Omega.{arith}
 use borrow.Author.Needs.{needs}
-use Rattle.numerals.proofs.digits.Places.{placed-as}
-use Rattle.reasons.proofs.sentences.Numbers.{Behind, begun, room-left, one-written, two-written, part-written, few-digits}
-use Rattle.reasons.proofs.sentences.place.decimal.Statement.{statement}
-use Rattle.reasons.proofs.sentences.place.decimal.Tie as tie
+use Rattle.reasons.proofs.sentences.Digits.{Behind, begun, room-left, one-written, two-written, part-written, few-digits}
+use Rattle.reasons.proofs.sentences.Placing.{placing-as}
+use Rattle.reasons.proofs.sentences.numbers.place_decimal.Statement.{statement}
+use Rattle.reasons.proofs.sentences.numbers.place_decimal.Tie as tie
 
 abbrev Inv-loop : tie.InvT-loop
 Inv-loop n dst at all₀ rest₀ i₀ all rest i = Behind n rest i all
@@ -78,24 +78,20 @@ array-write-all-4 c = omega (
   room-left (one-written (c .before .before .loop .inv) (room-left (c .before .before .loop .inv) (omega arith)) (omega arith)) (omega arith),
 )
 
-sub-bytes : tie.Need-sub-bytes Inv-loop μ-loop
-sub-bytes c = omega (arith, c .before .before .loop .inv .within)
+sub-place-bytes : tie.Need-sub-place-bytes Inv-loop μ-loop
+sub-place-bytes c = omega (arith, c .before .before .loop .inv .within)
 
-part-bytes-start : tie.Need-part-bytes-start Inv-loop μ-loop
-part-bytes-start c = omega (arith, c .before .before .before .loop .inv .within)
+part-place-bytes-start : tie.Need-part-place-bytes-start Inv-loop μ-loop
+part-place-bytes-start c = omega (arith, c .before .before .before .loop .inv .within)
 
-part-bytes-end : tie.Need-part-bytes-end Inv-loop μ-loop
-part-bytes-end c =
+part-place-bytes-end : tie.Need-part-place-bytes-end Inv-loop μ-loop
+part-place-bytes-end c =
     let l = c .before .before .before .loop in
     let once = set (l .all) (l .i - 1) (48 + l .rest % 10) in
     omega (arith, length-set once (l .i - 1 - 1) (48 + l .rest / 10 % 10), length-set (l .all) (l .i - 1) (48 + l .rest % 10), l .inv .long)
 
-bytes-requires : tie.Need-bytes-requires Inv-loop μ-loop
-bytes-requires c κs =
-    let l = c .before .before .before .before .before .loop in
-    let w = one-written (l .inv) (room-left (l .inv) (omega arith)) (omega arith) in
-    let h = room-left w (omega arith) in
-    omega (arith, ap length (part-written w h (omega arith)), few-digits w h (omega arith), c .before .before .before .before .before .before .before .pre)
+place-bytes-requires : tie.Need-place-bytes-requires Inv-loop μ-loop
+place-bytes-requires c κs = search needs
 
 same-length : tie.Need-same-length Inv-loop μ-loop
 same-length c = search needs
@@ -105,30 +101,21 @@ returns c =
     let l = c .before .before .before .before .before .before .before .before .loop in
     let w = one-written (l .inv) (room-left (l .inv) (omega arith)) (omega arith) in
     let h = room-left w (omega arith) in
-    let p = placed-as (part-written w h (omega arith)) (c .before .before .bytes .ensures) in
-    (p, omega (arith, p .ends, few-digits w h (omega arith)))
+    (placing-as (part-written w h (omega arith)) (c .before .before .place-bytes .ensures), few-digits w h (omega arith))
 
-sub-bytes-2 : tie.Need-sub-bytes-2 Inv-loop μ-loop
-sub-bytes-2 c = omega (arith, c .before .before .loop .inv .within)
+sub-place-bytes-2 : tie.Need-sub-place-bytes-2 Inv-loop μ-loop
+sub-place-bytes-2 c = omega (arith, c .before .before .loop .inv .within)
 
-part-bytes-start-2 : tie.Need-part-bytes-start-2 Inv-loop μ-loop
-part-bytes-start-2 c = omega (arith, c .before .before .before .loop .inv .within)
+part-place-bytes-start-2 : tie.Need-part-place-bytes-start-2 Inv-loop μ-loop
+part-place-bytes-start-2 c = omega (arith, c .before .before .before .loop .inv .within)
 
-part-bytes-end-2 : tie.Need-part-bytes-end-2 Inv-loop μ-loop
-part-bytes-end-2 c =
+part-place-bytes-end-2 : tie.Need-part-place-bytes-end-2 Inv-loop μ-loop
+part-place-bytes-end-2 c =
     let l = c .before .before .before .loop in
     omega (arith, length-set (l .all) (l .i - 1) (48 + l .rest % 10), l .inv .long)
 
-bytes-requires-2 : tie.Need-bytes-requires-2 Inv-loop μ-loop
-bytes-requires-2 c κs =
-    let l = c .before .before .before .before .before .loop in
-    let h = room-left (l .inv) (omega arith) in
-    omega (
-      arith,
-      ap length (part-written (l .inv) h (omega arith)),
-      few-digits (l .inv) h (omega arith),
-      c .before .before .before .before .before .before .before .pre,
-    )
+place-bytes-requires-2 : tie.Need-place-bytes-requires-2 Inv-loop μ-loop
+place-bytes-requires-2 c κs = search needs
 
 same-length-2 : tie.Need-same-length-2 Inv-loop μ-loop
 same-length-2 c = search needs
@@ -137,12 +124,11 @@ returns-2 : tie.Need-returns-2 Inv-loop μ-loop
 returns-2 c =
     let l = c .before .before .before .before .before .before .before .before .loop in
     let h = room-left (l .inv) (omega arith) in
-    let p = placed-as (part-written (l .inv) h (omega arith)) (c .before .before .bytes2 .ensures) in
-    (p, omega (arith, p .ends, few-digits (l .inv) h (omega arith)))
+    (placing-as (part-written (l .inv) h (omega arith)) (c .before .before .place-bytes2 .ensures), few-digits (l .inv) h (omega arith))
 
-pub decimal-spec : {M : Type 1} → statement M
-decimal-spec =
+pub place-decimal-spec : {M : Type 1} → statement M
+place-decimal-spec =
     tie.close
     (tie.spec Inv-loop μ-loop loop-holds cast-pair sub-i add-all array-write-all sub-i-2 add-all-2 array-write-all-2 loop-less loop-again sub-i-3
-    cast-all add-all-3 array-write-all-3 sub-i-4 cast-all-2 add-all-4 array-write-all-4 sub-bytes part-bytes-start part-bytes-end bytes-requires
-    same-length returns sub-bytes-2 part-bytes-start-2 part-bytes-end-2 bytes-requires-2 same-length-2 returns-2)
+    cast-all add-all-3 array-write-all-3 sub-i-4 cast-all-2 add-all-4 array-write-all-4 sub-place-bytes part-place-bytes-start part-place-bytes-end place-bytes-requires
+    same-length returns sub-place-bytes-2 part-place-bytes-start-2 part-place-bytes-end-2 place-bytes-requires-2 same-length-2 returns-2)

@@ -1,8 +1,8 @@
--- `place::sixteen` meets its contract. Assumes nothing.
+-- `numbers::sixteen` meets its contract. Assumes nothing.
 use Rattle.numerals.specs.digits.Hexadecimal.{hex16, hexDigits}
 use borrow.Author.Needs.{needs}
-use Rattle.reasons.proofs.sentences.place.sixteen.Statement.{statement}
-use Rattle.reasons.proofs.sentences.place.sixteen.Tie as tie
+use Rattle.reasons.proofs.sentences.numbers.sixteen.Statement.{statement}
+use Rattle.reasons.proofs.sentences.numbers.sixteen.Tie as tie
 
 returns : tie.Need-returns
 unfolding hex16 hexDigits

@@ -1,25 +1,19 @@
-// Bytes, decimal and hexadecimal numbers into a slice from an index on. Each function answers the index after what it wrote.
+// Decimal and hexadecimal numbers into a slice from an index on. Each function answers the index after what it wrote.
 ghost use Prim.Native.Nat.{_+_, _≤_, _<_};
 ghost use mathlib.Core.Path.{_≡_};
 ghost use lib.ListN.{length};
 ghost use lib.IntN.{natAbs};
 ghost use Rattle.numerals.specs.digits.Decimal.{digitsOf};
 ghost use Rattle.numerals.specs.digits.Hexadecimal.{hexDigit, hex16};
-ghost use Rattle.numerals.specs.digits.Placed.{Placed};
+ghost use Rattle.numerals.specs.digits.Placed.{Placed, Placing};
 ghost use Rattle.reasons.specs.sentences.Render.{signedDigits};
+use numerals::place::place_bytes;
 
-pub(crate) fn bytes(src: &[u8], dst: &mut [u8], at: usize) -> usize
-    requires { ⌜ at + length (now src) ≤ length (now dst) ⌝ }
-    ensures { λ r. ⌜ Placed (now (dst .entry)) at (now (src .entry)) r (now (dst .exit)) ⌝ }
-{
-    at + bytes::copy(src, &mut dst[at..])
-}
-
-// A number in decimal, with no zeros in front: its digits from the last on, two at a time, in a place that is long enough for all.
-pub(crate) fn decimal(n: u64, dst: &mut [u8], at: usize) -> usize
-    requires { ⌜ at + 20 ≤ length (now dst) ⌝ }
-    ensures { λ r. ⌜ Placed (now (dst .entry)) at (digitsOf n) r (now (dst .exit)) ⌝ }
-    ensures { λ r. ⌜ r ≤ at + 20 ⌝ }
+// A number in decimal, with no zeros in front: its digits from the last on, two at a time, in a place that is long enough for all. Where they do not all fit
+// behind the index, nothing is written, and the answer is the index itself.
+pub fn place_decimal(n: u64, dst: &mut [u8], at: usize) -> usize
+    ensures { λ r. ⌜ Placing (now (dst .entry)) at (digitsOf n) r (now (dst .exit)) ⌝ }
+    ensures { λ r. ⌜ length (digitsOf n) ≤ 20 ⌝ }
 {
     let mut all = [0u8; 20];
     let mut rest = n;
@@ -37,9 +31,9 @@ pub(crate) fn decimal(n: u64, dst: &mut [u8], at: usize) -> usize
     if rest >= 10 {
         i -= 1;
         all[i] = 48 + (rest / 10 % 10) as u8;
-        return bytes(&all[i..], dst, at);
+        return place_bytes(&all[i..], dst, at);
     }
-    bytes(&all[i..], dst, at)
+    place_bytes(&all[i..], dst, at)
 }
 
 // A number without its sign.
@@ -61,10 +55,10 @@ pub(crate) fn signed(n: i32, dst: &mut [u8], at: usize) -> usize
 {
     let digits = size(n) as u64;
     if n < 0 {
-        let next = bytes(b"-", dst, at);
-        return decimal(digits, dst, next);
+        let next = place_bytes(b"-", dst, at);
+        return place_decimal(digits, dst, next);
     }
-    decimal(digits, dst, at)
+    place_decimal(digits, dst, at)
 }
 
 const HEXADECIMAL: [u8; 16] = *b"0123456789abcdef";
@@ -121,5 +115,5 @@ pub(crate) fn hexadecimal(n: u64, dst: &mut [u8], at: usize) -> usize
     ensures { λ r. ⌜ r ≤ at + 16 ⌝ }
 {
     let all = sixteen(n);
-    bytes(&all, dst, at)
+    place_bytes(&all, dst, at)
 }

@@ -1,10 +1,10 @@
--- Numbers as the code writes them: decimal digits from the last on, signs, and the numbers that have no text. Assumes nothing.
+-- Numbers as the code writes them: decimal digits from the last on, signs, and hexadecimal digits. Assumes nothing.
 use Prim.Native.Nat.{ℕ, zero, suc, _+_, _-_, _/_, _%_, _<_, _≤_}
 use native.Mathlib.Omega.{arith}
 use mathlib.Core.Path.{_≡_, refl, sym, ap, _∙_}
 use mathlib.Core.List.{List, [], _∷_, _++_, append-assoc, append-nil}
 use mathlib.Core.Bool.{Bool, true, false, cond}
-use lib.ListN.{length, take, drop, set, length-append, length-drop, length-set, getD, List·getD-eq-default}
+use lib.ListN.{length, take, drop, set, length-append, length-drop, length-set, getD}
 use lib.Seq.{take-all, drop-length, set-split, drop-at, length-take-le}
 use lib.IntN.{ℤ, pos, negsuc, natAbs}
 use lib.Signed.{ltZ, mag}
@@ -12,12 +12,11 @@ use mir.Syntax.{w32}
 use mir.Val.{toZ, ofZ}
 use mir.Facts.{toZ-ofZ}
 use lib.Dec.{ltb}
-use borrow.Author.Tests.{leb-true, ltb-true, ltb-false, lt-ltb, le-ltb}
+use borrow.Author.Tests.{ltb-true, ltb-false, lt-ltb, le-ltb}
 use Rattle.numerals.specs.digits.Decimal.{last, digitsIn, digitsOf}
 use Rattle.numerals.proofs.digits.Decimal.{digits-few, digits-some}
 use Rattle.numerals.specs.digits.Hexadecimal.{hexDigit}
 use Rattle.reasons.proofs.sentences.Each.{EachBelow, from-each}
-use Rattle.reasons.specs.sentences.Texts.{texts, fixedText}
 use Rattle.reasons.specs.sentences.Render.{signedDigits}
 
 -- ---- digits: room for more of them changes nothing
@@ -130,128 +129,7 @@ unfolding signedDigits
 signed-from (pos n) e = refl
 signed-from (negsuc n) e = let z : _≡_ {A = ℕ} 0 1 = cc in absurd (omega (arith, z))
 
--- ---- a number that is not 1 to 28 has no text
-not-last : (k n : ℕ) → n < suc k → (n ≡ k → ⊥) → n < k
-not-last k n h d = omega arith
-
-pub text-none : (n : ℕ) → (n ≡ 1 → ⊥) → (n ≡ 2 → ⊥) → (n ≡ 3 → ⊥) → (n ≡ 4 → ⊥) → (n ≡ 5 → ⊥) → (n ≡ 6 → ⊥) → (n ≡ 7 → ⊥) → (n ≡ 8 → ⊥) → (n ≡ 9 → ⊥)
-    → (n ≡ 10 → ⊥) → (n ≡ 11 → ⊥) → (n ≡ 12 → ⊥) → (n ≡ 13 → ⊥) → (n ≡ 14 → ⊥) → (n ≡ 15 → ⊥) → (n ≡ 16 → ⊥) → (n ≡ 17 → ⊥) → (n ≡ 18 → ⊥) → (n ≡ 19 → ⊥)
-    → (n ≡ 20 → ⊥) → (n ≡ 21 → ⊥) → (n ≡ 22 → ⊥) → (n ≡ 23 → ⊥) → (n ≡ 24 → ⊥) → (n ≡ 25 → ⊥) → (n ≡ 26 → ⊥) → (n ≡ 27 → ⊥) → (n ≡ 28 → ⊥) → fixedText n ≡ []
-unfolding fixedText texts
-text-none n h1 h2 h3 h4 h5 h6 h7 h8 h9 h10 h11 h12 h13 h14 h15 h16 h17 h18 h19 h20 h21 h22 h23 h24 h25 h26 h27 h28 = either (ltb n 29) refl
-  where
-    first : n < 1 → fixedText n ≡ []
-    first h = let e : n ≡ 0 = omega arith in rw e
-
-    either : (b : Bool) → ltb n 29 ≡ b → fixedText n ≡ []
-    either true e = first (not-last 1 n
-        (not-last 2 n (not-last 3 n (not-last 4 n
-        (not-last 5 n (not-last 6 n (not-last 7 n
-        (not-last 8 n (not-last 9 n (not-last 10 n
-        (not-last 11 n (not-last 12 n (not-last 13 n
-        (not-last 14 n (not-last 15 n (not-last 16 n
-        (not-last 17 n (not-last 18 n (not-last 19 n
-        (not-last 20 n (not-last 21 n (not-last 22 n
-        (not-last 23 n (not-last 24 n (not-last 25 n (not-last 26 n (not-last 27 n (not-last 28 n (ltb-true n 29 e) h28) h27) h26) h25) h24) h23) h22) h21)
-        h20) h19) h18) h17) h16) h15) h14) h13) h12) h11) h10) h9) h8) h7) h6) h5) h4) h3) h2) h1)
-    either false e = List·getD-eq-default texts [] (ltb-false n 29 e)
-
-pub past-28 : (n : ℕ) → 28 < n → fixedText n ≡ []
-unfolding fixedText texts
-past-28 n h = List·getD-eq-default texts [] h
-
--- ---- the two tables of the code: the lengths of the texts, and the hexadecimal digits
-abbrev pub textLengths : List ℕ
-textLengths = 0 ∷ 36 ∷ 20 ∷ 23 ∷ 22 ∷ 20 ∷ 28 ∷ 22 ∷ 32 ∷ 30 ∷ 20 ∷ 32 ∷ 20 ∷ 25 ∷ 28 ∷ 28 ∷ 46 ∷ 34 ∷ 38 ∷ 45 ∷ 34 ∷ 45 ∷ 37 ∷ 50 ∷ 44 ∷ 26 ∷ 38 ∷ 36 ∷ 26 ∷ []
-
-abbrev Measured : ℕ → Type 0
-Measured k = (getD textLengths k 0 ≡ length (fixedText k)) × (getD textLengths k 0 ≤ 50)
-
-each-measured : EachBelow Measured 29
-unfolding fixedText texts
-each-measured = (
-  (
-    (
-      (
-        (
-          (
-            (
-              (
-                (
-                  (
-                    (
-                      (
-                        (
-                          (
-                            (
-                              (
-                                (
-                                  (
-                                    (
-                                      (
-                                        (
-                                          (
-                                            (
-                                              (
-                                                (
-                                                  (
-                                                    (((tt, (refl, leb-true 0 50 refl)), (refl, leb-true 36 50 refl)), (refl, leb-true 20 50 refl)),
-                                                    (refl, leb-true 23 50 refl),
-                                                  ),
-                                                  (refl, leb-true 22 50 refl),
-                                                ),
-                                                (refl, leb-true 20 50 refl),
-                                              ),
-                                              (refl, leb-true 28 50 refl),
-                                            ),
-                                            (refl, leb-true 22 50 refl),
-                                          ),
-                                          (refl, leb-true 32 50 refl),
-                                        ),
-                                        (refl, leb-true 30 50 refl),
-                                      ),
-                                      (refl, leb-true 20 50 refl),
-                                    ),
-                                    (refl, leb-true 32 50 refl),
-                                  ),
-                                  (refl, leb-true 20 50 refl),
-                                ),
-                                (refl, leb-true 25 50 refl),
-                              ),
-                              (refl, leb-true 28 50 refl),
-                            ),
-                            (refl, leb-true 28 50 refl),
-                          ),
-                          (refl, leb-true 46 50 refl),
-                        ),
-                        (refl, leb-true 34 50 refl),
-                      ),
-                      (refl, leb-true 38 50 refl),
-                    ),
-                    (refl, leb-true 45 50 refl),
-                  ),
-                  (refl, leb-true 34 50 refl),
-                ),
-                (refl, leb-true 45 50 refl),
-              ),
-              (refl, leb-true 37 50 refl),
-            ),
-            (refl, leb-true 50 50 refl),
-          ),
-          (refl, leb-true 44 50 refl),
-        ),
-        (refl, leb-true 26 50 refl),
-      ),
-      (refl, leb-true 38 50 refl),
-    ),
-    (refl, leb-true 36 50 refl),
-  ),
-  (refl, leb-true 26 50 refl),
-)
-
-pub measured : (k : ℕ) → k ≤ 28 → (getD textLengths k 0 ≡ length (fixedText k)) × (getD textLengths k 0 ≤ 50)
-measured k h = from-each Measured 29 each-measured k (omega arith)
-
+-- ---- the hexadecimal digits in turn
 abbrev pub hexDigitsInTurn : List ℕ
 hexDigitsInTurn = 48 ∷ 49 ∷ 50 ∷ 51 ∷ 52 ∷ 53 ∷ 54 ∷ 55 ∷ 56 ∷ 57 ∷ 97 ∷ 98 ∷ 99 ∷ 100 ∷ 101 ∷ 102 ∷ []
 
