@@ -1,7 +1,7 @@
 -- A sentence has at most 57 bytes: every one that a call gives. Assumes nothing.
 use Prim.Native.Nat.{ℕ, suc, _+_, _*_, _≤_, _<_}
 use native.Mathlib.Omega.{arith}
-use mathlib.Core.Path.{_≡_, refl, sym, ap, subst}
+use mathlib.Core.Path.{_≡_, refl, sym, subst}
 use mathlib.Core.Bool.{Bool, true, false, cond, not, _&&_, _||_}
 use mathlib.Core.List.{List, _++_}
 use lib.ListN.{length, length-append}
@@ -10,7 +10,7 @@ use lib.IntN.{ℤ, pos, negsuc, natAbs}
 use lib.Signed.{ltZ}
 use lib.Ieee.{Float, binary64, toBits}
 use lib.Ieee.Scale.{finite}
-use borrow.Author.Tests.{leb-true, leb-false, le-leb, eqb-true}
+use borrow.Author.Tests.{leb-true, le-leb, eqb-true}
 use Rattle.refusals.specs.Outcome.{answer, refusal, onward}
 use Rattle.calendar.specs.Calendar.{daysInMonth}
 use Rattle.julian.specs.day_number.DayNumber.{inJulianRange}
@@ -32,14 +32,7 @@ use Rattle.reasons.specs.Offending.{nanosField, blockField}
 use Rattle.reasons.specs.sentences.Render.{signedDigits, floatDigits, namedText, render}
 use Rattle.reasons.specs.Sentence.{reasonOf, sentence}
 use Rattle.reasons.specs.Widths.{OfWidth}
-use Rattle.reasons.proofs.sentences.Numbers.{measured, past-28}
-
-text-short : (k : ℕ) → length (fixedText k) ≤ 50
-text-short k = by (leb k 28) refl
-  where
-    by : (b : Bool) → leb k 28 ≡ b → length (fixedText k) ≤ 50
-    by true e = let m = measured k (leb-true k 28 e) in omega (arith, m .0, m .1)
-    by false e = omega (arith, ap length (past-28 k (leb-false k 28 e)))
+use Rattle.reasons.proofs.sentences.FixedTexts.{text-short}
 
 abbrev In57 : ℕ → Named → Type 0
 In57 k f = length (fixedText k ++ namedText f) ≤ 57

@@ -1,4 +1,5 @@
 -- The laws that the proofs of `sentences` cite.
 pub mod Each
-pub mod Numbers
-pub mod Eights
+pub mod Digits
+pub mod FixedTexts
+pub mod Placing

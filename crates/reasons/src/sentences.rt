@@ -1,13 +1,12 @@
 // The sentence of a reason: a fixed text for the refusal's number and, where a field is at fault, the field's word and its value.
-mod place;
-mod texts;
+pub mod numbers;
 mod words;
 
 use utc::text::TextAnswer;
 ghost use Prim.Native.Nat.{_≤_};
 ghost use lib.ListN.{length};
+ghost use Rattle.numerals.specs.digits.Placed.{Placed};
 ghost use Rattle.utc.specs.text.Answer.{TextPut};
-ghost use Rattle.reasons.specs.sentences.Begins.{Begins};
 ghost use Rattle.reasons.specs.sentences.Render.{render};
 
 // The field at fault, with its value.
@@ -36,25 +35,10 @@ pub struct Reason {
     pub named: Named,
 }
 
-// A field's word with blanks behind it, as two numbers of eight bytes, the first byte the lowest, and the word's length.
-struct Word {
-    first: u64,
-    second: u64,
-    length: usize,
-}
-
-// A field's word, and its value by how it is shown: in decimal, with a sign or without, or by the float's bits.
-enum Shown {
-    Nothing,
-    Signed(Word, i32),
-    Whole(Word, u64),
-    Bits(Word, f64),
-}
-
 // The sentence of any reason at the start of a slice that surely holds it.
 fn compose(reason: Reason, dst: &mut [u8]) -> usize
     requires { ⌜ 90 ≤ length (now dst) ⌝ }
-    ensures { λ r. ⌜ Begins (render reason) r (now (dst .exit)) ⌝ }
+    ensures { λ r. ⌜ Placed (now (dst .entry)) 0 (render reason) r (now (dst .exit)) ⌝ }
     ensures { λ r. ⌜ r ≤ 85 ⌝ }
 {
     let number = reason.number;

@@ -5,3 +5,5 @@ pub mod TextCall
 pub mod Expanded
 pub mod HalfEven
 pub mod ByRule
+-- of private functions alone
+pub mod TextDay

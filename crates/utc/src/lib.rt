@@ -4,7 +4,7 @@ ghost use Prim.Native.Nat.{_<_};
 ghost use Rattle.scales.specs.Scales.{utcOutcome};
 ghost use Rattle.julian.specs.DayFraction.{fractionOutcome};
 ghost use Rattle.refusals.specs.Outcome.{onward};
-ghost use Rattle.leap_table.specs.rows.Announced.{rowsIn, rowsOf, tableOf};
+ghost use Rattle.leap_table.specs.rows.Announced.{rowsIn, tableOf};
 ghost use Rattle.utc.specs.FromCalendar.{midnightPlus, utcFromCalendar};
 ghost use Rattle.utc.specs.UnixTime.{unixDay, secondOfUnixDay, secondWithNanos, utcNew};
 use julian::CalendarAnswer;
@@ -84,19 +84,6 @@ pub fn new_by_lent<'a>(
     }
 }
 
-// The same by the rows of a table.
-pub fn new_by_rows(seconds: i64, nanos: u32, table: AnnouncedRows) -> UtcAnswer
-    ensures { λ r. ⌜ utcOutcome r ≡ utcNew (rowsOf table) seconds nanos ⌝ }
-{
-    new_by_lent(
-        seconds,
-        nanos,
-        leap_table::rows::size_of(table),
-        &table.months,
-        &table.seconds,
-    )
-}
-
 // UTC of a Unix time. Refusals in order: 20 to 22 the table, 8 the nanoseconds, 6 the day, 1 its year, then 4, which a day that ends in a step back can give.
 pub fn new(seconds: i64, nanos: u32, table: AnnouncedRows) -> UtcAnswer
     ensures { λ r. ⌜ utcOutcome r ≡ onward (tableOf table) (λ rows. utcNew rows seconds nanos) ⌝ }
@@ -105,7 +92,13 @@ pub fn new(seconds: i64, nanos: u32, table: AnnouncedRows) -> UtcAnswer
     if number != 0 {
         return UtcAnswer::Refused(number);
     }
-    new_by_rows(seconds, nanos, table)
+    new_by_lent(
+        seconds,
+        nanos,
+        leap_table::rows::size_of(table),
+        &table.months,
+        &table.seconds,
+    )
 }
 
 // UTC of a date and a time of its day by rows that are tested elsewhere. Refusals in order: 1 to 3 the date, 5 no next day, 4 the time; in the day's
@@ -142,31 +135,6 @@ pub fn utc_from_calendar_by_lent<'a>(
     }
 }
 
-// The same by the rows of a table.
-pub fn utc_from_calendar_by_rows(
-    year: i32,
-    month: u8,
-    day: u8,
-    hour: u8,
-    minute: u8,
-    second: f64,
-    table: AnnouncedRows,
-) -> UtcAnswer
-    ensures { λ r. ⌜ utcOutcome r ≡ utcFromCalendar (rowsOf table) year month day hour minute second ⌝ }
-{
-    utc_from_calendar_by_lent(
-        year,
-        month,
-        day,
-        hour,
-        minute,
-        second,
-        leap_table::rows::size_of(table),
-        &table.months,
-        &table.seconds,
-    )
-}
-
 // UTC of a date and a time of its day. Refusals in order: 20 to 22 the table, 1 to 3 the date, 5 no next day, 4 the time; in the day's last minute the second
 // is below 60 + leap.
 pub fn utc_from_calendar(
@@ -184,7 +152,17 @@ pub fn utc_from_calendar(
     if number != 0 {
         return UtcAnswer::Refused(number);
     }
-    utc_from_calendar_by_rows(year, month, day, hour, minute, second, table)
+    utc_from_calendar_by_lent(
+        year,
+        month,
+        day,
+        hour,
+        minute,
+        second,
+        leap_table::rows::size_of(table),
+        &table.months,
+        &table.seconds,
+    )
 }
 
 fn at_time(midnight: JulianDate, fraction: FractionAnswer) -> UtcAnswer

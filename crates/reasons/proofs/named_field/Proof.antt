@@ -1,7 +1,7 @@
 -- `named_field` meets its contract. Assumes nothing.
 use mathlib.Core.Path.{_∙_, ap, sym}
 use Rattle.reasons.specs.Offending.{offending, dateField}
-use Rattle.reasons.proofs.sentences.Numbers.{back}
+use Rattle.reasons.proofs.sentences.Digits.{back}
 use borrow.Author.Needs.{needs}
 use Rattle.reasons.proofs.named_field.Statement.{statement}
 use Rattle.reasons.proofs.named_field.Tie as tie

@@ -1,13 +1,12 @@
 -- The fixed texts of the sentences, as lists of bytes. Written from document 02, item 13 ("Compose an English sentence for each refusal from fixed parts"), and
 -- the refusals' own words in document 01's table and document 02. No text begins another, and no word of a field begins another, so that a sentence says its
 -- number and its field in plain English (`read-back` in stamps::reason_laws). Assumes nothing.
-use Prim.Native.Nat.{ℕ, _-_}
+use Prim.Native.Nat.{ℕ}
 use Prim.Native.Char.{code}
 use Prim.Native.String.{String}
 use Prim.Native.String as Native
-use mathlib.Core.List.{List, [], _∷_, _++_}
-use lib.ListN.{length, getD, replicate}
-use Rattle.numerals.specs.little_endian.LittleEndian.{eightBytes}
+use mathlib.Core.List.{List, [], _∷_}
+use lib.ListN.{getD}
 
 -- the bytes of a text
 abbrev pub asciiBytes : String → List ℕ
@@ -34,7 +33,7 @@ texts =
     asciiBytes "the number of bytes is wrong" ∷
     asciiBytes "text is not an ISO 8601 time" ∷
     asciiBytes "second has more than 13 digits after its point" ∷
-    asciiBytes "date is earlier than one before it" ∷
+    asciiBytes "date is out of time order" ∷
     asciiBytes "number or GPS week is out of its range" ∷
     asciiBytes "two weeks are equally near the reference week" ∷
     asciiBytes "table sizes differ or are above 16" ∷
@@ -51,13 +50,3 @@ texts =
 -- the text of a number; a number past 28 has none
 unfoldable pub fixedText : ℕ → List ℕ
 fixedText k = getD texts k []
-
--- ---- what follows no contract of a public function cites
--- the text with blanks behind it, 56 bytes in all
-unfoldable pub paddedText : ℕ → List ℕ
-paddedText k = fixedText k ++ replicate (56 - length (fixedText k)) 32
-
--- numbers as their bytes, eight of each, the lowest first
-unfoldable pub eightsInBytes : List ℕ → List ℕ
-eightsInBytes [] = []
-eightsInBytes (n ∷ ns) = eightBytes n ++ eightsInBytes ns

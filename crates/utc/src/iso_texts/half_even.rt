@@ -1,48 +1,13 @@
 // UTC text with a half millisecond to the even one, in document 01's form.
-ghost use Prim.Native.Nat.{_≤_};
 ghost use Rattle.refusals.specs.Outcome.{onward};
-ghost use Rattle.leap_table.specs.rows.Announced.{rowsIn, rowsOf, tableOf};
-ghost use Rattle.leap_table.specs.offsets.Rule.{withRule};
-ghost use Rattle.utc.specs.iso_texts.HalfEven.{dayTextHalfEven, isoTextHalfEven};
-ghost use Rattle.utc.specs.iso_texts.TextCall.{TextCall};
-ghost use Rattle.utc.specs.iso_texts.ByRule.{ruleOn, halfEvenByRule, TextRuleCall};
+ghost use Rattle.leap_table.specs.rows.Announced.{rowsIn, tableOf};
+ghost use Rattle.utc.specs.iso_texts.ByRule.{halfEvenByRule, TextRuleCall};
+use super::DayAnswer;
 use super::TextByRule;
 use super::by_rule::with_rule;
 use super::put_shown;
-use crate::text::TextAnswer;
-use calendar::CalendarDate;
-use julian::CalendarAnswer;
-use leap_table::offsets::SecondsByRule;
 use leap_table::rows::AnnouncedRows;
 use scales::UTC;
-
-fn put_day<'a>(
-    date: CalendarDate,
-    fraction: f64,
-    size: usize,
-    months: &'a [i32; 16],
-    seconds: &'a [i32; 16],
-    out: &mut [u8],
-) -> TextByRule
-    requires { ⌜ (date .month ≤ 12) × (date .day ≤ 31) ⌝ }
-    ensures { λ r. ⌜ TextRuleCall (withRule (dayTextHalfEven (rowsIn size (now (months .entry)) (now (seconds .entry))) date fraction)
-        (ruleOn (rowsIn size (now (months .entry)) (now (seconds .entry))) date)) (now (out .entry)) r (now (out .exit)) ⌝ }
-{
-    match leap_table::offsets::leap_at_end_of_day_by_lent(
-        date.year,
-        date.month as i32,
-        date.day as i32,
-        size,
-        months,
-        seconds,
-    ) {
-        SecondsByRule::Refused(number) => TextByRule::Refused(number),
-        SecondsByRule::Seconds(leap, rule) => with_rule(
-            put_shown(date, time_of_day::time_shown_half_even(fraction, leap), out),
-            rule,
-        ),
-    }
-}
 
 // Refusals in order: 6 the parts, 1 the year, 11 the buffer; a refused call writes nothing.
 pub fn to_iso8601_half_even_by_lent<'a>(
@@ -55,30 +20,12 @@ pub fn to_iso8601_half_even_by_lent<'a>(
     ensures { λ r. ⌜ TextRuleCall (halfEvenByRule (rowsIn size (now (months .entry)) (now (seconds .entry))) (utc .0)) (now (out .entry)) r (now (out .exit))
         ⌝ }
 {
-    let jd = utc.0;
-    match julian::julian_to_calendar(jd.jd1, jd.jd2) {
-        CalendarAnswer::Refused(number) => TextByRule::Refused(number),
-        CalendarAnswer::Fields(fields) => {
-            let date = fields.date;
-            put_day(date, fields.fraction, size, months, seconds, out)
-        }
-    }
-}
-
-// The text of a date by the rows of a table that is tested elsewhere, without the rule. Refusals in order: 6 the parts, 1 the year, 11 the buffer; a refused
-// call writes nothing.
-pub fn to_iso8601_half_even_by_rows(utc: UTC, table: AnnouncedRows, out: &mut [u8]) -> TextAnswer
-    ensures { λ r. ⌜ TextCall (isoTextHalfEven (rowsOf table) (utc .0)) (now (out .entry)) r (now (out .exit)) ⌝ }
-{
-    match to_iso8601_half_even_by_lent(
-        utc,
-        leap_table::rows::size_of(table),
-        &table.months,
-        &table.seconds,
-        out,
-    ) {
-        TextByRule::Refused(number) => TextAnswer::Refused(number),
-        TextByRule::Written(n, _) => TextAnswer::Written(n),
+    match super::day_of(utc, size, months, seconds) {
+        DayAnswer::Refused(number) => TextByRule::Refused(number),
+        DayAnswer::Day(date, fraction, leap, rule) => with_rule(
+            put_shown(date, time_of_day::time_shown_half_even(fraction, leap), out),
+            rule,
+        ),
     }
 }
 

@@ -3,6 +3,7 @@ use native.Mathlib.Omega.{arith}
 use mathlib.Core.Path.{ap}
 use lib.ListN.{length}
 use denote.Ref.{now}
+use Rattle.numerals.proofs.digits.Places.{placed-first}
 use Rattle.utc.proofs.text.Laws.{short, put-done}
 use Rattle.reasons.specs.sentences.Render.{render}
 use borrow.Author.Needs.{needs}
@@ -18,19 +19,19 @@ returns c =
 slice-aggregate-copy : tie.Need-slice-aggregate-copy
 slice-aggregate-copy c =
     let p = c .before .before .before .compose .ensures .0 in
-    omega (arith, ap length (p .says), p .ends)
+    omega (arith, ap length (placed-first p), p .ends)
 
 copy-requires : tie.Need-copy-requires
 copy-requires c κs =
     let p = c .before .before .before .before .compose .ensures .0 in
-    omega (arith, ap length (p .says), p .ends, c .before .before .if1 .left)
+    omega (arith, ap length (placed-first p), p .ends, c .before .before .if1 .left)
 
 returns-2 : tie.Need-returns-2
 returns-2 c =
     let i = c .before .before .before .before .before in
     let m = i .before .before in
     let st = m .before .before .before in
-    put-done _ (render (st .args .reason)) (now (st .args .out)) _ _ (m .compose .ensures .0 .says) (c .before .before .copy .ensures .0)
+    put-done _ (render (st .args .reason)) (now (st .args .out)) _ _ (placed-first (m .compose .ensures .0)) (c .before .before .copy .ensures .0)
     (c .before .before .copy .ensures .1) (omega (arith, i .if1 .left, m .compose .ensures .0 .ends))
 
 pub put-sentence-spec : {M : Type 1} → statement M

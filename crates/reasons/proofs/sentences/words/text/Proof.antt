@@ -1,80 +1,50 @@
--- `words::text` meets its contract: the text and its blanks go in eight bytes at a time. Assumes nothing.
-use Prim.Native.Nat.{_+_, _*_, _-_}
-use native.Mathlib.Omega.{arith}
-use Rattle.numerals.proofs.little_endian.Puts.{put-in-place}
-use Rattle.reasons.proofs.sentences.Eights.{InFront, none-yet, next-eight, text-begins}
+-- `words::text` meets its contract: each arm places the bytes of a text of the list. Assumes nothing.
+use Rattle.reasons.specs.sentences.Texts.{texts, fixedText}
+use Rattle.reasons.proofs.sentences.Placing.{by-number, no-text}
 use borrow.Author.Needs.{needs}
 use Rattle.reasons.proofs.sentences.words.text.Statement.{statement}
 use Rattle.reasons.proofs.sentences.words.text.Tie as tie
 
-abbrev Inv-loop : tie.InvT-loop
-Inv-loop number dst₀ all k₀ dst k = InFront all k dst₀ dst
-
-abbrev μ-loop : tie.MeasureT-loop
-μ-loop number dst₀ all k₀ dst k = 7 - k
-
-eights-requires : tie.Need-eights-requires Inv-loop μ-loop
-eights-requires c κs = search needs
-
-loop-holds : tie.Need-loop-holds Inv-loop μ-loop
-loop-holds c = none-yet _ _
-
-mul-at : tie.Need-mul-at Inv-loop μ-loop
-mul-at c = omega arith
-
-add-end : tie.Need-add-end Inv-loop μ-loop
-add-end c = omega arith
-
-sub-put-u64 : tie.Need-sub-put-u64 Inv-loop μ-loop
-sub-put-u64 c = omega arith
-
-part-put-u64-start : tie.Need-part-put-u64-start Inv-loop μ-loop
-part-put-u64-start c = search needs
-
-part-put-u64-end : tie.Need-part-put-u64-end Inv-loop μ-loop
-part-put-u64-end c = omega (arith, c .before .loop .inv .long)
-
-mul-put-u64 : tie.Need-mul-put-u64 Inv-loop μ-loop
-mul-put-u64 c = omega arith
-
-array-read-put-u64 : tie.Need-array-read-put-u64 Inv-loop μ-loop
-array-read-put-u64 c = omega arith
-
-put-u64-requires : tie.Need-put-u64-requires Inv-loop μ-loop
-put-u64-requires c κs = search needs
-
-add-k : tie.Need-add-k Inv-loop μ-loop
-add-k c = omega arith
-
-loop-less : tie.Need-loop-less Inv-loop μ-loop
-loop-less c = omega arith
-
-loop-again : tie.Need-loop-again Inv-loop μ-loop
-loop-again c =
-    let l = c .before .before .before .before .before in
-    let st = l .before .before .before in
-    let k = l .loop .k in
-    let w = l .loop .inv in
-    next-eight w (l .before .eights .ensures .1) (st .pre) _ (omega arith)
-    (put-in-place (l .loop .dst) _ (8 * k) (8 * k + 8 - 8 * k) _ (omega arith) (omega (arith, w .long, st .pre)) (c .before .before .put-u64 .ensures))
-
-text-length-requires : tie.Need-text-length-requires Inv-loop μ-loop
-text-length-requires c κs = search needs
-
-same-length : tie.Need-same-length Inv-loop μ-loop
-same-length c = omega (arith, c .before .before .loop .inv .long)
-
-returns : tie.Need-returns Inv-loop μ-loop
-returns c =
-    let l = c .before .before in
-    let st = l .before .before .before in
-    let n = c .text-length .ensures in (
-      text-begins (l .loop .inv) (l .before .eights .ensures .1) (st .pre) (st .args .number) _ (omega arith) (l .before .eights .ensures .0) (n .0) (n .1),
-      n .1,
-    )
-
 pub text-spec : {M : Type 1} → statement M
+unfolding fixedText texts
 text-spec =
     tie.close
-    (tie.spec Inv-loop μ-loop eights-requires loop-holds mul-at add-end sub-put-u64 part-put-u64-start part-put-u64-end mul-put-u64 array-read-put-u64
-    put-u64-requires add-k loop-less loop-again text-length-requires same-length returns)
+    (tie.spec (λ c. search needs) (λ c κs. search needs) (λ c. search needs) (λ c κs. search needs) (λ c. search needs) (λ c κs. search needs)
+    (λ c. search needs) (λ c κs. search needs) (λ c. search needs) (λ c κs. search needs) (λ c. search needs) (λ c κs. search needs)
+    (λ c. search needs) (λ c κs. search needs) (λ c. search needs) (λ c κs. search needs) (λ c. search needs) (λ c κs. search needs)
+    (λ c. search needs) (λ c κs. search needs) (λ c. search needs) (λ c κs. search needs) (λ c. search needs) (λ c κs. search needs)
+    (λ c. search needs) (λ c κs. search needs) (λ c. search needs) (λ c κs. search needs) (λ c. search needs) (λ c κs. search needs)
+    (λ c. search needs) (λ c κs. search needs) (λ c. search needs) (λ c κs. search needs) (λ c. search needs) (λ c κs. search needs)
+    (λ c. search needs) (λ c κs. search needs) (λ c. search needs) (λ c κs. search needs) (λ c. search needs) (λ c κs. search needs)
+    (λ c. search needs) (λ c κs. search needs) (λ c. search needs) (λ c κs. search needs) (λ c. search needs) (λ c κs. search needs)
+    (λ c. search needs) (λ c κs. search needs) (λ c. search needs) (λ c κs. search needs) (λ c. search needs) (λ c κs. search needs)
+    (λ c. search needs) (λ c κs. search needs) (λ c. search needs)
+    (λ c. by-number (c .before .before .before .before .before .match .keys1) (c .before .before .place-bytes .ensures)) (λ c. search needs)
+    (λ c. by-number (c .before .before .before .before .before .match .keys2) (c .before .before .place-bytes2 .ensures)) (λ c. search needs)
+    (λ c. by-number (c .before .before .before .before .before .match .keys3) (c .before .before .place-bytes3 .ensures)) (λ c. search needs)
+    (λ c. by-number (c .before .before .before .before .before .match .keys4) (c .before .before .place-bytes4 .ensures)) (λ c. search needs)
+    (λ c. by-number (c .before .before .before .before .before .match .keys5) (c .before .before .place-bytes5 .ensures)) (λ c. search needs)
+    (λ c. by-number (c .before .before .before .before .before .match .keys6) (c .before .before .place-bytes6 .ensures)) (λ c. search needs)
+    (λ c. by-number (c .before .before .before .before .before .match .keys7) (c .before .before .place-bytes7 .ensures)) (λ c. search needs)
+    (λ c. by-number (c .before .before .before .before .before .match .keys8) (c .before .before .place-bytes8 .ensures)) (λ c. search needs)
+    (λ c. by-number (c .before .before .before .before .before .match .keys9) (c .before .before .place-bytes9 .ensures)) (λ c. search needs)
+    (λ c. by-number (c .before .before .before .before .before .match .keys10) (c .before .before .place-bytes10 .ensures)) (λ c. search needs)
+    (λ c. by-number (c .before .before .before .before .before .match .keys11) (c .before .before .place-bytes11 .ensures)) (λ c. search needs)
+    (λ c. by-number (c .before .before .before .before .before .match .keys12) (c .before .before .place-bytes12 .ensures)) (λ c. search needs)
+    (λ c. by-number (c .before .before .before .before .before .match .keys13) (c .before .before .place-bytes13 .ensures)) (λ c. search needs)
+    (λ c. by-number (c .before .before .before .before .before .match .keys14) (c .before .before .place-bytes14 .ensures)) (λ c. search needs)
+    (λ c. by-number (c .before .before .before .before .before .match .keys15) (c .before .before .place-bytes15 .ensures)) (λ c. search needs)
+    (λ c. by-number (c .before .before .before .before .before .match .keys16) (c .before .before .place-bytes16 .ensures)) (λ c. search needs)
+    (λ c. by-number (c .before .before .before .before .before .match .keys17) (c .before .before .place-bytes17 .ensures)) (λ c. search needs)
+    (λ c. by-number (c .before .before .before .before .before .match .keys18) (c .before .before .place-bytes18 .ensures)) (λ c. search needs)
+    (λ c. by-number (c .before .before .before .before .before .match .keys19) (c .before .before .place-bytes19 .ensures)) (λ c. search needs)
+    (λ c. by-number (c .before .before .before .before .before .match .keys20) (c .before .before .place-bytes20 .ensures)) (λ c. search needs)
+    (λ c. by-number (c .before .before .before .before .before .match .keys21) (c .before .before .place-bytes21 .ensures)) (λ c. search needs)
+    (λ c. by-number (c .before .before .before .before .before .match .keys22) (c .before .before .place-bytes22 .ensures)) (λ c. search needs)
+    (λ c. by-number (c .before .before .before .before .before .match .keys23) (c .before .before .place-bytes23 .ensures)) (λ c. search needs)
+    (λ c. by-number (c .before .before .before .before .before .match .keys24) (c .before .before .place-bytes24 .ensures)) (λ c. search needs)
+    (λ c. by-number (c .before .before .before .before .before .match .keys25) (c .before .before .place-bytes25 .ensures)) (λ c. search needs)
+    (λ c. by-number (c .before .before .before .before .before .match .keys26) (c .before .before .place-bytes26 .ensures)) (λ c. search needs)
+    (λ c. by-number (c .before .before .before .before .before .match .keys27) (c .before .before .place-bytes27 .ensures)) (λ c. search needs)
+    (λ c. by-number (c .before .before .before .before .before .match .keys28) (c .before .before .place-bytes28 .ensures))
+    (λ c. no-text _ _ (c .match .rest)))
