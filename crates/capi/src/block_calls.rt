@@ -2,7 +2,7 @@
 ghost use mathlib.Core.Path.{_≡_};
 ghost use lib.ListN.{length};
 ghost use Rattle.refusals.specs.Outcome.{onward};
-ghost use Rattle.stamps.specs.declared.Telling.the-variants.{Numbers, Sentences};
+ghost use Rattle.stamps.specs.declared.Reporting.the-variants.{Numbers, Sentences};
 ghost use Rattle.stamps.specs.Block.{blockOf};
 ghost use Rattle.c_answers.specs.table.TableBytes.{tableBytes};
 ghost use Rattle.c_answers.specs.Delivery.{code, Delivered};

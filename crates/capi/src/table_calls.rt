@@ -5,7 +5,7 @@ pub mod bills;
 ghost use mathlib.Core.Path.{_≡_};
 ghost use lib.ListN.{length};
 ghost use Rattle.refusals.specs.Outcome.{onward};
-ghost use Rattle.stamps.specs.declared.Telling.the-variants.{Numbers, Sentences};
+ghost use Rattle.stamps.specs.declared.Reporting.the-variants.{Numbers, Sentences};
 ghost use Rattle.stamps.specs.Listing.{lineRoom};
 ghost use Rattle.stamps.specs.Widths.{InWidth};
 ghost use Rattle.leap_table.specs.walk.Lists.{walkOfBytes};
@@ -17,11 +17,11 @@ use c_answers::refused;
 use c_answers::table::announced_rows_at;
 use c_answers::table::table_number;
 use leap_table::walk::WalkAnswer;
-use stamps::Telling;
+use stamps::Reporting;
 
 // A part of the listing by the table's rows; 11 where the buffer has not the room of a line.
 fn deliver_part(
-    how: Telling,
+    how: Reporting,
     room: usize,
     block: &[u8],
     line: u32,
@@ -40,7 +40,7 @@ fn deliver_part(
     if out.len() < room {
         return refused(refusals::TEXT_LONGER_THAN_BUFFER);
     }
-    let part = stamps::next_told_part_by_rows(how, block, line as usize, rows, out);
+    let part = stamps::next_part_by_rows(how, block, line as usize, rows, out);
     let n = part.written;
     n as i64
 }
@@ -49,7 +49,7 @@ pub fn listing_part(block: &[u8], line: u32, table: &[u8], out: &mut [u8]) -> i6
     ensures { λ r. ⌜ Delivered (onward (tableBytes (now (table .entry)))
         (λ rows. listingPart Numbers rows (now (block .entry)) line (length (now (out .entry))))) (now (out .entry)) r (now (out .exit)) ⌝ }
 {
-    deliver_part(Telling::Numbers, 33, block, line, table, out)
+    deliver_part(Reporting::Numbers, 33, block, line, table, out)
 }
 
 // The second listing: refusals are told in sentences. `input_len` is how many bytes came in all, of which the block has the first.
@@ -63,7 +63,7 @@ pub fn reason_listing_part(
     ensures { λ r. ⌜ Delivered (onward (tableBytes (now (table .entry)))
         (λ rows. listingPart (Sentences «input_len») rows (now (block .entry)) line (length (now (out .entry))))) (now (out .entry)) r (now (out .exit)) ⌝ }
 {
-    deliver_part(Telling::Sentences(input_len), 64, block, line, table, out)
+    deliver_part(Reporting::Sentences(input_len), 64, block, line, table, out)
 }
 
 // TAI-UTC at 0h of many dates in time order. The length of the table is tested here, its rows by the walk: a test of all rows is most of what they cost.

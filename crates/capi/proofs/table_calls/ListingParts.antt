@@ -14,7 +14,7 @@ use Rattle.refusals.specs.Outcome.{answer, refusal, onward}
 use Rattle.utc.specs.text.Answer.{textWritten, bufferAfter}
 use Rattle.utc.specs.iso_texts.TextCall.{written, bufferHolds}
 use Rattle.leap_table.specs.rows.Table.{Row}
-use Rattle.stamps.specs.declared.Telling.{Telling}
+use Rattle.stamps.specs.declared.Reporting.{Reporting}
 use Rattle.stamps.specs.declared.Part.{Part}
 use Rattle.stamps.specs.Listing.{lineRoom}
 use Rattle.stamps.specs.Widths.{InWidth}
@@ -24,14 +24,14 @@ use Rattle.c_answers.specs.Delivery.{code, Delivered}
 use Rattle.capi.specs.table_calls.ListingPart.{listingPart}
 use Rattle.c_answers.proofs.Deliveries.{code-back}
 
-pub no-room : (how : Telling) (rows : List Row) (s l : List ℕ) (line : ℕ) {r : ℤ} → mag r < 2 ^ 63 → length l < lineRoom how → r ≡ code (refusal 11)
+pub no-room : (how : Reporting) (rows : List Row) (s l : List ℕ) (line : ℕ) {r : ℤ} → mag r < 2 ^ 63 → length l < lineRoom how → r ≡ code (refusal 11)
     → Delivered (listingPart how rows s line (length l)) l (toZ w64 (ofZ w64 r)) l
 unfolding listingPart written onward bufferHolds
 no-room how rows s l line {r} ok h e =
     let w : written (listingPart how rows s line (length l)) (length l) ≡ refusal 11 = simp (lt-leb _ _ h) in
     record { returned = code-back ok ∙ e ∙ sym (ap code w); holds = simp (lt-leb _ _ h) }
 
-module _ {how : Telling} {rows : List Row} {s l out : List ℕ} {line : ℕ} {r : Part} (w : InWidth how s) (p : PartPlaced how rows s line l r out) where
+module _ {how : Reporting} {rows : List Row} {s l out : List ℕ} {line : ℕ} {r : Part} (w : InWidth how s) (p : PartPlaced how rows s line l r out) where
   is : r .written ≡ length (partText how rows s line (length l))
   unfolding partOf
   is = ap (λ (x : Part). x .written) (p .says)

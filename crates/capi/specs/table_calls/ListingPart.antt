@@ -6,11 +6,11 @@ use mathlib.Core.Bool.{cond}
 use lib.Dec.{leb}
 use Rattle.refusals.specs.Outcome.{Outcome, answer, refusal}
 use Rattle.leap_table.specs.rows.Table.{Row}
-use Rattle.stamps.specs.declared.Telling.{Telling}
+use Rattle.stamps.specs.declared.Reporting.{Reporting}
 use Rattle.stamps.specs.Listing.{lineRoom}
 use Rattle.stamps.specs.Parts.{partText}
 
 -- the lines from `line` on that go into `room` bytes, none past the last; 11 where there is not the room that a line is given, 33 bytes, or 64 where sentences
 -- are told
-unfoldable pub listingPart : Telling → List Row → List ℕ → ℕ → ℕ → Outcome (List ℕ)
+unfoldable pub listingPart : Reporting → List Row → List ℕ → ℕ → ℕ → Outcome (List ℕ)
 listingPart how rows s line room = cond (leb (lineRoom how) room) (answer (partText how rows s line room)) (refusal 11)

@@ -27,7 +27,7 @@ returns-2 c =
 
 cast-result : tie.Need-cast-result
 cast-result c = count-fits (c .before .before .before .before .before .before .before .before .before .before .before .pre .1)
-    (c .before .before .next-told-part-by-rows .ensures)
+    (c .before .before .next-part-by-rows .ensures)
 
 returns-3 : tie.Need-returns-3
 returns-3 c =
@@ -37,7 +37,7 @@ returns-3 c =
     let st = n .before .before .before .before .before in
     text-with-rows _ (n .before .announced-rows-at .result) (n .table-number .result) (n .table-number .ensures) (n .before .announced-rows-at .ensures) _
     (i .before .if1 .left)
-    (part-put (st .pre .1) (p .next-told-part-by-rows .ensures) (omega (arith, i .if2 .left, st .pre .0)))
+    (part-put (st .pre .1) (p .next-part-by-rows .ensures) (omega (arith, i .if2 .left, st .pre .0)))
 
 pub deliver-part-spec : {M : Type 1} → statement M
 deliver-part-spec =

@@ -2,7 +2,7 @@
 use mathlib.Core.Path.{refl}
 use native.Mathlib.Omega.{arith}
 use Rattle.stamps.specs.Listing.{lineRoom}
-use Rattle.stamps.proofs.Tellings.{bytes-width}
+use Rattle.stamps.proofs.Reportings.{bytes-width}
 use borrow.Author.Needs.{needs}
 use Rattle.capi.proofs.table_calls.reason_listing_part.Statement.{statement}
 use Rattle.capi.proofs.table_calls.reason_listing_part.Tie as tie

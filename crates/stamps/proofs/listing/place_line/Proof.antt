@@ -27,7 +27,7 @@ refused-stamps-requires c κs =
 place-header-requires : tie.Need-place-header-requires
 place-header-requires c κs =
     let st = c .before .before .before .before .before .before .before .before in
-    omega (arith, room-low (st .args .how), st .pre .2)
+    omega (arith, room-low (st .args .reporting), st .pre .2)
 
 returns : tie.Need-returns
 returns c =
@@ -36,7 +36,7 @@ returns c =
       placed-as (header-line (now (st .args .block)) (st .args .line) _ (st .pre .0) _
           (c .before .before .before .before .before .before .before .answer2 .given .1) _ _ _ (c .before .before .before .before .before .if1 .taken)
           (c .before .before .before .before .refused-stamps .ensures _)) (p .0),
-      omega (arith, p .1, room-low (st .args .how)),
+      omega (arith, p .1, room-low (st .args .reporting)),
     )
 
 place-stamp-line-requires : tie.Need-place-stamp-line-requires

@@ -1,8 +1,8 @@
--- `told::refused_values` meets its contract: the date where there is a day, and else the parts. Assumes nothing.
-use Rattle.stamps.proofs.Tellings.{month-fits, day-fits, date-values, parts-values}
+-- `reported::refused_values` meets its contract: the date where there is a day, and else the parts. Assumes nothing.
+use Rattle.stamps.proofs.Reportings.{month-fits, day-fits, date-values, parts-values}
 use borrow.Author.Needs.{needs}
-use Rattle.stamps.proofs.told.refused_values.Statement.{statement}
-use Rattle.stamps.proofs.told.refused_values.Tie as tie
+use Rattle.stamps.proofs.reported.refused_values.Statement.{statement}
+use Rattle.stamps.proofs.reported.refused_values.Tie as tie
 
 cast-t6 : tie.Need-cast-t6
 cast-t6 c = month-fits _ _ (c .before .before .before .before .before .julian-to-calendar .ensures) _ (c .before .before .before .found .given .1)

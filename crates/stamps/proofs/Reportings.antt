@@ -1,4 +1,4 @@
--- A refusal as the code tells it is the refusal of the definition: which values it read, and its words by the way of telling. Assumes nothing.
+-- A refusal as the code tells it is the refusal of the definition: which values it read, and its words by the way of reporting. Assumes nothing.
 use Prim.Native.Nat.{ℕ, _+_, _*_, _≤_, _<_}
 use native.Mathlib.Omega.{arith}
 use mathlib.Core.Path.{_≡_, sym, ap, subst, _∙_}
@@ -29,33 +29,33 @@ use Rattle.reasons.specs.sentences.Render.{render}
 use Rattle.reasons.specs.Sentence.{sentence}
 use Rattle.reasons.specs.Widths.{OfWidth}
 use Rattle.reasons.proofs.SentenceLengths.{sentence-is}
-use Rattle.stamps.specs.declared.Telling.{Telling}
-use Rattle.stamps.specs.declared.Telling.the-variants.{Numbers, Sentences}
-use Rattle.stamps.specs.Listing.{numeral, refusedWord, lineRoom, told, came, valuesBy, refusedValues, blockValues}
+use Rattle.stamps.specs.declared.Reporting.{Reporting}
+use Rattle.stamps.specs.declared.Reporting.the-variants.{Numbers, Sentences}
+use Rattle.stamps.specs.Listing.{numeral, refusedWord, lineRoom, reported, came, valuesBy, refusedValues, blockValues}
 use Rattle.stamps.specs.Widths.{Wide, InWidth}
 
--- ---- the words, by the way of telling
-module _ (how : Telling) (e : how ≡ Numbers) where
+-- ---- the words, by the way of reporting
+module _ (how : Reporting) (e : how ≡ Numbers) where
   pub numbers-room : lineRoom how ≡ 33
   unfolding lineRoom
   numbers-room = ap lineRoom e
 
-  pub numbers-told : (k : ℕ) (v : Values) → refusedWord ++ numeral k ≡ told how k v
-  unfolding told
-  numbers-told k v = sym (ap (λ (h : Telling). told h k v) e)
+  pub numbers-reported : (k : ℕ) (v : Values) → refusedWord ++ numeral k ≡ reported how k v
+  unfolding reported
+  numbers-reported k v = sym (ap (λ (h : Reporting). reported h k v) e)
 
-module _ (how : Telling) (n : ℕ) (e : how ≡ Sentences n) where
+module _ (how : Reporting) (n : ℕ) (e : how ≡ Sentences n) where
   pub sentences-room : lineRoom how ≡ 64
   unfolding lineRoom
   sentences-room = ap lineRoom e
 
-  pub sentences-told : (k : ℕ) (v w : Values) → v ≡ w → render (record { number = k; named = offending k v }) ≡ told how k w
-  unfolding told
-  sentences-told k v w q = ap (λ (x : Values). told (Sentences n) k x) q ∙ sym (ap (λ (h : Telling). told h k w) e)
+  pub sentences-reported : (k : ℕ) (v w : Values) → v ≡ w → render (record { number = k; named = offending k v }) ≡ reported how k w
+  unfolding reported
+  sentences-reported k v w q = ap (λ (x : Values). reported (Sentences n) k x) q ∙ sym (ap (λ (h : Reporting). reported h k w) e)
 
   pub block-values : (s : List ℕ) (size second : ℕ) → size ≡ u32At s 0 → second ≡ u32At s 4 → Block n size second ≡ blockValues how s
   unfolding came
-  block-values s size second p q = (λ i. Block n (p i) (q i)) ∙ ap (λ (h : Telling). Block (came h s) (u32At s 0) (u32At s 4)) (sym e)
+  block-values s size second p q = (λ i. Block n (p i) (q i)) ∙ ap (λ (h : Reporting). Block (came h s) (u32At s 0) (u32At s 4)) (sym e)
 
 -- a number from 1 to 28 has its sentence
 pub as-given : (k : ℕ) (v : Values) {p ys : List ℕ} {res : TextAnswer} → 1 ≤ k → k ≤ 28 → TextCall (sentence k v) p res ys

@@ -1,4 +1,4 @@
--- `listing::next_told_part_by_rows` meets its contract. The invariant: `count` lines stand at the start of the scratch, and the part holds as many as these and
+-- `listing::next_part_by_rows` meets its contract. The invariant: `count` lines stand at the start of the scratch, and the part holds as many as these and
 -- those that the rest of the scratch will take. The measure is the number of lines that are left. Assumes nothing.
 use lib.ListN.{length}
 use mathlib.Core.Path.{_≡_, refl, sym, ap, subst, _∙_}
@@ -13,8 +13,8 @@ use Rattle.stamps.proofs.Blocks.{few-lines}
 use Rattle.numerals.proofs.digits.Places.{nothing}
 use Rattle.stamps.proofs.Lines.{lines-more}
 use Rattle.stamps.proofs.Parts.{start, ends-full, ends-all, goes-on, stops-full, stops-done}
-use Rattle.stamps.proofs.listing.next_told_part_by_rows.Statement.{statement}
-use Rattle.stamps.proofs.listing.next_told_part_by_rows.Tie as tie
+use Rattle.stamps.proofs.listing.next_part_by_rows.Statement.{statement}
+use Rattle.stamps.proofs.listing.next_part_by_rows.Tie as tie
 
 abbrev Inv-loop : tie.InvT-loop
 Inv-loop how block line table scratch₀ answer left room at₀ count₀ scratch at count =
@@ -117,8 +117,8 @@ returns-2 c =
     stops-done _ _ (now (st .args .block)) (st .args .line) _ _ _ _ _ e
     (ends-all _ _ (now (st .args .block)) (st .args .line) _ _ _ _ (l .inv .4) (omega arith)) (l .inv .1) (omega arith)
 
-pub next-told-part-by-rows-spec : {M : Type 1} → statement M
-next-told-part-by-rows-spec =
+pub next-part-by-rows-spec : {M : Type 1} → statement M
+next-part-by-rows-spec =
     tie.close
     (tie.spec Inv-loop μ-loop block-stamps-requires lines-in-requires less-requires line-room-requires loop-holds sub-if1 add-t15 same-length returns
     add-place-line place-line-requires add-count loop-less loop-again add-t11 same-length-2 returns-2)

@@ -1,4 +1,4 @@
--- `told::place_sentence` meets its contract: the sentence fits, so that the call writes it. Assumes nothing.
+-- `reported::place_sentence` meets its contract: the sentence fits, so that the call writes it. Assumes nothing.
 use Prim.Native.Nat.{ℕ, _+_}
 use mathlib.Core.Path.{ap}
 use denote.Ref.{now}
@@ -6,10 +6,10 @@ use native.Mathlib.Omega.{arith}
 use Rattle.numerals.proofs.digits.Places.{lent-length, part-put}
 use Rattle.reasons.proofs.SentenceLengths.{reason-short}
 use Rattle.stamps.proofs.Texts.{given-written, given-fits}
-use Rattle.stamps.proofs.Tellings.{as-given}
+use Rattle.stamps.proofs.Reportings.{as-given}
 use borrow.Author.Needs.{needs}
-use Rattle.stamps.proofs.told.place_sentence.Statement.{statement}
-use Rattle.stamps.proofs.told.place_sentence.Tie as tie
+use Rattle.stamps.proofs.reported.place_sentence.Statement.{statement}
+use Rattle.stamps.proofs.reported.place_sentence.Tie as tie
 
 add-result : tie.Need-add-result
 add-result c =

@@ -1,4 +1,4 @@
-// A refusal as a listing tells it: by its number, or by its sentence.
+// A refusal in a listing: by its number, or by its sentence.
 ghost use mathlib.Core.Path.{_≡_};
 ghost use Prim.Native.Nat.{_+_, _≤_};
 ghost use mathlib.Core.List.{_++_};
@@ -8,11 +8,12 @@ ghost use Rattle.reasons.specs.declared.sentences.Reason.{Reason};
 ghost use Rattle.reasons.specs.Offending.{offending};
 ghost use Rattle.reasons.specs.sentences.Render.{render};
 ghost use Rattle.reasons.specs.Widths.{OfWidth};
-ghost use Rattle.stamps.specs.Listing.{refusedWord, numeral, lineRoom, refusedValues, blockValues, told};
-use super::Telling;
+ghost use Rattle.stamps.specs.Listing.{refusedWord, numeral, lineRoom, refusedValues, blockValues, reported};
+use super::Reporting;
 use super::place;
 use julian::CalendarAnswer;
 use julian::JulianDate;
+use numerals::place::place_bytes;
 use reasons::Values;
 use utc::text::TextAnswer;
 
@@ -22,7 +23,7 @@ fn place_number(number: u32, dst: &mut [u8], at: usize) -> usize
     ensures { λ r. ⌜ Placed (now (dst .entry)) at (refusedWord ++ numeral number) r (now (dst .exit)) ⌝ }
     ensures { λ r. ⌜ r ≤ at + 12 ⌝ }
 {
-    let next = place::bytes(b"refused ", dst, at);
+    let next = place_bytes(b"refused ", dst, at);
     place::number(number, dst, next)
 }
 
@@ -53,37 +54,37 @@ fn refused_values(jd: JulianDate) -> Values
 
 // The refusal of a date.
 pub(crate) fn place_date_refused(
-    how: Telling,
+    reporting: Reporting,
     number: u32,
     jd: JulianDate,
     dst: &mut [u8],
     at: usize,
 ) -> usize
-    requires { ⌜ (1 ≤ number) × (number ≤ 28) × (at + lineRoom how ≤ length (now dst) + 7) ⌝ }
-    ensures { λ r. ⌜ Placed (now (dst .entry)) at (told how number (refusedValues jd)) r (now (dst .exit)) ⌝ }
-    ensures { λ r. ⌜ r + 7 ≤ at + lineRoom how ⌝ }
+    requires { ⌜ (1 ≤ number) × (number ≤ 28) × (at + lineRoom reporting ≤ length (now dst) + 7) ⌝ }
+    ensures { λ r. ⌜ Placed (now (dst .entry)) at (reported reporting number (refusedValues jd)) r (now (dst .exit)) ⌝ }
+    ensures { λ r. ⌜ r + 7 ≤ at + lineRoom reporting ⌝ }
 {
-    match how {
-        Telling::Numbers => place_number(number, dst, at),
-        Telling::Sentences(_) => place_sentence(number, refused_values(jd), dst, at),
+    match reporting {
+        Reporting::Numbers => place_number(number, dst, at),
+        Reporting::Sentences(_) => place_sentence(number, refused_values(jd), dst, at),
     }
 }
 
 // The refusal of a block.
-pub(crate) fn place_block_told(
-    how: Telling,
+pub(crate) fn place_block_reported(
+    reporting: Reporting,
     number: u32,
     block: &[u8],
     dst: &mut [u8],
     at: usize,
 ) -> usize
-    requires { ⌜ (1 ≤ number) × (number ≤ 28) × (at + lineRoom how ≤ length (now dst) + 7) ⌝ }
-    ensures { λ r. ⌜ Placed (now (dst .entry)) at (told how number (blockValues how (now (block .entry)))) r (now (dst .exit)) ⌝ }
-    ensures { λ r. ⌜ r + 7 ≤ at + lineRoom how ⌝ }
+    requires { ⌜ (1 ≤ number) × (number ≤ 28) × (at + lineRoom reporting ≤ length (now dst) + 7) ⌝ }
+    ensures { λ r. ⌜ Placed (now (dst .entry)) at (reported reporting number (blockValues reporting (now (block .entry)))) r (now (dst .exit)) ⌝ }
+    ensures { λ r. ⌜ r + 7 ≤ at + lineRoom reporting ⌝ }
 {
-    match how {
-        Telling::Numbers => place_number(number, dst, at),
-        Telling::Sentences(came) => {
+    match reporting {
+        Reporting::Numbers => place_number(number, dst, at),
+        Reporting::Sentences(came) => {
             let size = numerals::little_endian::u32_at(block, 0);
             let second = numerals::little_endian::u32_at(block, 4);
             place_sentence(number, Values::Block(came, size, second), dst, at)
