@@ -56,10 +56,11 @@ returns-2 c =
 
 loop-less : tie.Need-loop-less Inv-loop μ-loop
 loop-less c =
+    let back = c .before .before .before .before .before .before .before .before in
     let on = part-brings-on (c .before .before .before .before .before .next-part-by-rows .ensures)
     (omega (
       arith,
-      room-high (c .before .before .before .before .before .before .before .before .before .before .args .reporting),
+      room-high (back .before .before .args .reporting),
       c .before .before .before .before .before .before .before .loop .inv .1,
     )) (c .if2 .left) in
     omega (arith, on .0, on .1)

@@ -31,7 +31,7 @@ use Rattle.stamps.proofs.Lengths.{part-fits, lines-add}
 use Rattle.stamps.proofs.listing_laws.LineEnds.{ends-most, part-ends, part-some}
 use Rattle.c_answers.specs.table.TableBytes.{tableBytes}
 use Rattle.c_answers.specs.Delivery.{code, Delivered}
-use Rattle.capi.specs.table_calls.ListingPart.{listingPart}
+use Rattle.capi.specs.ListingPart.{listingPart}
 use Rattle.capi.specs.laws.ListingCalls.{Listed, begun, next}
 
 -- ---- what one call delivers to a buffer that holds a line

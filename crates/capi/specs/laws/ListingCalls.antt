@@ -10,7 +10,7 @@ use Rattle.stamps.specs.declared.Reporting.{Reporting}
 use Rattle.stamps.specs.Listing.{lineRoom}
 use Rattle.stamps.specs.listing_laws.LineEnds.{lineEnds}
 use Rattle.c_answers.specs.Delivery.{Delivered}
-use Rattle.capi.specs.table_calls.ListingPart.{listingPart}
+use Rattle.capi.specs.ListingPart.{listingPart}
 
 -- after so many calls that each returned bytes, of a block s, by one table's rows and with buffers that hold a line: the line to ask for next, and what was
 -- written

@@ -72,7 +72,8 @@ add-place-line c = search needs
 
 place-line-requires : tie.Need-place-line-requires Inv-loop μ-loop
 place-line-requires c κs =
-    let st = c .before .before .before .before .before .before .before .before .before .before in
+    let back = c .before .before .before .before .before .before .before .before in
+    let st = back .before .before in
     let e = c .before .before .before .before .before .less .ensures
     ∙ ap (λ (n : ℕ). n - st .args .line)
     (c .before .before .before .before .before .before .lines-in .ensures
@@ -90,7 +91,8 @@ loop-less c = omega arith
 
 loop-again : tie.Need-loop-again Inv-loop μ-loop
 loop-again c =
-    let st = c .before .before .before .before .before .before .before .before .before .before .before .before .before in
+    let back = c .before .before .before .before .before .before .before .before in
+    let st = back .before .before .before .before .before in
     let l = c .before .before .before .before .before .before .loop in
     let room = c .before .before .before .before .before .before .before .line-room .ensures in
     let p = c .before .before .place-line in (

@@ -31,7 +31,8 @@ place-header-requires c κs =
 
 returns : tie.Need-returns
 returns c =
-    let st = c .before .before .before .before .before .before .before .before .before .before .before in
+    let back = c .before .before .before .before .before .before .before .before in
+    let st = back .before .before .before in
     let p = c .before .before .place-header .ensures in (
       placed-as (header-line (now (st .args .block)) (st .args .line) _ (st .pre .0) _
           (c .before .before .before .before .before .before .before .answer2 .given .1) _ _ _ (c .before .before .before .before .before .if1 .taken)
@@ -57,7 +58,8 @@ returns-2 c =
 
 returns-3 : tie.Need-returns-3
 returns-3 c =
-    let st = c .before .before .before .before .before .before .before .before .before .before in
+    let back = c .before .before .before .before .before .before .before .before in
+    let st = back .before .before in
     let p = c .before .before .place-stamp-line .ensures in (
       placed-as (stamp-line (now (st .args .block)) (st .args .line) _ (st .pre .0) _ (c .before .before .before .before .before .before .answer2 .given .1) _
           _ (c .before .before .before .before .if1 .left)) (p .0),

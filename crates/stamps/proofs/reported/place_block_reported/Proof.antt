@@ -30,7 +30,8 @@ returns c =
 
 returns-2 : tie.Need-returns-2
 returns-2 c =
-    let st = c .before .before .before .before .before .before .before .before .before .before .before in
+    let back = c .before .before .before .before .before .before .before .before in
+    let st = back .before .before .before in
     let e = c .before .before .before .before .before .before .before .reporting .given .1 in
     let p = c .before .before .place-sentence .ensures in
     let v = block-values (st .args .reporting) _ e (now (st .args .block)) _ _ (c .before .before .before .before .before .u32-at .ensures)

@@ -21,7 +21,7 @@ use Rattle.stamps.specs.Widths.{InWidth}
 use Rattle.stamps.specs.Parts.{partText, partOf, PartPlaced}
 use Rattle.stamps.proofs.Lengths.{part-most, part-fits}
 use Rattle.c_answers.specs.Delivery.{code, Delivered}
-use Rattle.capi.specs.table_calls.ListingPart.{listingPart}
+use Rattle.capi.specs.ListingPart.{listingPart}
 use Rattle.c_answers.proofs.Deliveries.{code-back}
 
 pub no-room : (how : Reporting) (rows : List Row) (s l : List ℕ) (line : ℕ) {r : ℤ} → mag r < 2 ^ 63 → length l < lineRoom how → r ≡ code (refusal 11)

@@ -1,14 +1,14 @@
--- `capi::table_calls::bills::bill_call` meets its contract: the table is taken, so the call goes on with its rows. Assumes nothing.
+-- `capi::standby_calls::bill_call` meets its contract: the table is taken, so the call goes on with its rows. Assumes nothing.
 use mathlib.Core.Path.{ap, _∙_}
 use mathlib.Core.List.{List}
 use Rattle.refusals.specs.Outcome.{Outcome, onward}
 use Rattle.leap_table.specs.rows.Table.{Row}
 use Rattle.standby.specs.Bills.{standbyBill}
-use Rattle.capi.specs.table_calls.BillBytes.{billBytes}
-use Rattle.capi.proofs.table_calls.Tables.{table-refused, with-rows, is-taken}
+use Rattle.capi.specs.BillBytes.{billBytes}
+use Rattle.capi.proofs.Tables.{table-refused, with-rows, is-taken}
 use borrow.Author.Needs.{needs}
-use Rattle.capi.proofs.table_calls.bills.bill_call.Statement.{statement}
-use Rattle.capi.proofs.table_calls.bills.bill_call.Tie as tie
+use Rattle.capi.proofs.standby_calls.bill_call.Statement.{statement}
+use Rattle.capi.proofs.standby_calls.bill_call.Tie as tie
 
 returns : tie.Need-returns
 returns c =

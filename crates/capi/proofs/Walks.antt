@@ -28,7 +28,7 @@ use Rattle.c_answers.specs.table.TableBytes.{ofLength, tableBytes}
 use Rattle.c_answers.proofs.table.Laws.{other-length}
 use Rattle.c_answers.specs.Delivery.{code}
 use Rattle.c_answers.proofs.Deliveries.{code-back}
-use Rattle.capi.specs.table_calls.WalkDelivery.{WalkDelivered}
+use Rattle.capi.specs.WalkDelivery.{WalkDelivered}
 
 -- the bytes s of the table; the dates and the buffer
 module _ (s : List ℕ) (dates l : List ℕ) where

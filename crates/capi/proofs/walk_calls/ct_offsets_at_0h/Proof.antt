@@ -1,10 +1,10 @@
--- `capi::table_calls::offsets_at_0h` meets its contract. Assumes nothing.
+-- `capi::walk_calls::ct_offsets_at_0h` meets its contract. Assumes nothing.
 use native.Mathlib.Omega.{arith}
 use denote.Ref.{now}
-use Rattle.capi.proofs.table_calls.Walks.{walk-length-refused, walk-count, walk-compared, walk-refused}
+use Rattle.capi.proofs.Walks.{walk-length-refused, walk-count, walk-compared, walk-refused}
 use borrow.Author.Needs.{needs}
-use Rattle.capi.proofs.table_calls.offsets_at_0h.Statement.{statement}
-use Rattle.capi.proofs.table_calls.offsets_at_0h.Tie as tie
+use Rattle.capi.proofs.walk_calls.ct_offsets_at_0h.Statement.{statement}
+use Rattle.capi.proofs.walk_calls.ct_offsets_at_0h.Tie as tie
 
 returns : tie.Need-returns
 returns c =
@@ -50,8 +50,8 @@ returns-3 c =
     walk-refused _ (now (s .args .dates)) (now (s .args .out)) (i .if1 .left) (n .announced-rows-at .result) (n .announced-rows-at .ensures)
     (q .offsets-at-0h-bytes .result) (q .offsets-at-0h-bytes .ensures) _ (c .refused2 .ok) (c .before .before .number .given .1) (c .refused2 .ensures)
 
-pub offsets-at-0h-spec : {M : Type 1} → statement M
-offsets-at-0h-spec =
+pub ct-offsets-at-0h-spec : {M : Type 1} → statement M
+ct-offsets-at-0h-spec =
     tie.close
     (tie.spec (λ c κs. search needs) returns (λ c κs. search needs) (λ c κs. search needs) (λ c. search needs) cast-result (λ c. search needs)
     (λ c κs. search needs) (λ c. search needs) returns-2 (λ c. search needs) returns-3)

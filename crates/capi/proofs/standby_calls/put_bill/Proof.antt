@@ -1,11 +1,11 @@
--- `capi::table_calls::bills::put_bill` meets its contract. Assumes nothing.
+-- `capi::standby_calls::put_bill` meets its contract. Assumes nothing.
 use mathlib.Core.Path.{ap}
 use Rattle.standby.specs.Answers.{billOutcome}
 use Rattle.c_answers.proofs.Deliveries.{delivered-answer, refused-on}
-use Rattle.capi.specs.table_calls.BillBytes.{billBytes}
+use Rattle.capi.specs.BillBytes.{billBytes}
 use borrow.Author.Needs.{needs}
-use Rattle.capi.proofs.table_calls.bills.put_bill.Statement.{statement}
-use Rattle.capi.proofs.table_calls.bills.put_bill.Tie as tie
+use Rattle.capi.proofs.standby_calls.put_bill.Statement.{statement}
+use Rattle.capi.proofs.standby_calls.put_bill.Tie as tie
 
 returns : tie.Need-returns
 unfolding billOutcome billBytes

@@ -1,12 +1,12 @@
--- `capi::table_calls::deliver_part` meets its contract. Assumes nothing.
+-- `capi::block_calls::deliver_part` meets its contract. Assumes nothing.
 use native.Mathlib.Omega.{arith}
 use denote.Ref.{now}
 use Rattle.leap_table.specs.rows.Announced.{rowsOf}
-use Rattle.capi.proofs.table_calls.ListingParts.{no-room, count-fits, part-put}
-use Rattle.capi.proofs.table_calls.Tables.{text-table-refused, text-with-rows}
+use Rattle.capi.proofs.ListingParts.{no-room, count-fits, part-put}
+use Rattle.capi.proofs.Tables.{text-table-refused, text-with-rows}
 use borrow.Author.Needs.{needs}
-use Rattle.capi.proofs.table_calls.deliver_part.Statement.{statement}
-use Rattle.capi.proofs.table_calls.deliver_part.Tie as tie
+use Rattle.capi.proofs.block_calls.deliver_part.Statement.{statement}
+use Rattle.capi.proofs.block_calls.deliver_part.Tie as tie
 
 returns : tie.Need-returns
 returns c =
@@ -22,11 +22,13 @@ returns-2 c =
     let st = n .before .before .before .before .before in
     let a = st .args in
     text-with-rows _ t (n .table-number .result) (n .table-number .ensures) (n .before .announced-rows-at .ensures) _ (c .before .before .if1 .left)
-    (no-room (a .how) (rowsOf t) (now (a .block)) (now (a .out)) (a .line) (c .refused2 .ok) (omega (arith, c .before .if2 .taken, st .pre .0))
+    (no-room (a .reporting) (rowsOf t) (now (a .block)) (now (a .out)) (a .line) (c .refused2 .ok) (omega (arith, c .before .if2 .taken, st .pre .0))
     (c .refused2 .ensures))
 
 cast-result : tie.Need-cast-result
-cast-result c = count-fits (c .before .before .before .before .before .before .before .before .before .before .before .pre .1)
+cast-result c =
+    let back = c .before .before .before .before .before .before .before .before in
+    count-fits (back .before .before .before .pre .1)
     (c .before .before .next-part-by-rows .ensures)
 
 returns-3 : tie.Need-returns-3
