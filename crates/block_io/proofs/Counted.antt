@@ -9,7 +9,7 @@ use lib.Seq.{length-take-le}
 use borrow.Author.Tests.{leb-true}
 use Rattle.io.specs.Counts.{Counts}
 use Rattle.leap_table.specs.rows.Table.{Row}
-use Rattle.stamps.specs.declared.Telling.{Telling}
+use Rattle.stamps.specs.declared.Reporting.{Reporting}
 use Rattle.stamps.specs.declared.Part.{Part}
 use Rattle.stamps.specs.Block.{blockOf}
 use Rattle.stamps.specs.Parts.{linesIn, partLines, partOf, PartPlaced}
@@ -18,7 +18,7 @@ use Rattle.stamps.proofs.Parts.{held-few}
 pub counts : (n : ℕ) (l : List ℕ) → n ≤ length l → Counts n l
 counts n l h = (h, sym (length-take-le n l h))
 
-module _ {how : Telling} {rows : List Row} {s d d′ : List ℕ} {line : ℕ} {r : Part} (p : PartPlaced how rows s line d r d′)
+module _ {how : Reporting} {rows : List Row} {s d d′ : List ℕ} {line : ℕ} {r : Part} (p : PartPlaced how rows s line d r d′)
     (h : line ≤ linesIn (blockOf s)) where
   next-is : r .line ≡ line + partLines how rows s line (length d)
   unfolding partOf

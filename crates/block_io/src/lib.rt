@@ -2,9 +2,9 @@
 // 4,096 bytes each of their own.
 ghost use Rattle.io.specs.Counts.{Counts};
 ghost use Rattle.block_io.specs.Sent.{SentOf};
-use stamps::Telling;
+use stamps::Reporting;
 
-// Through so many bytes the lines go out; a line has at most 33, and 64 where sentences are told.
+// Through so many bytes the lines go out; a line has at most 33, and 64 where sentences are reported.
 const SCRATCH: usize = 64;
 
 // What came of the input: how many bytes are kept, and whether a read failed.
@@ -61,14 +61,14 @@ pub fn write_text(text: &[u8]) -> usize
 }
 
 // Writes the listing of a block by the fixed table, part by part through so many bytes. It ends before the last line where the output takes no more.
-pub fn write_listing(how: Telling, block: &[u8]) -> Sent
+pub fn write_listing(reporting: Reporting, block: &[u8]) -> Sent
     ensures { λ r. ⌜ SentOf (now (block .entry)) r ⌝ }
 {
     let mut scratch = [0u8; SCRATCH];
     let table = leap_table::rows::no_rows();
     let mut line = 0;
     loop {
-        let part = stamps::next_told_part_by_rows(how, block, line, table, &mut scratch);
+        let part = stamps::next_part_by_rows(reporting, block, line, table, &mut scratch);
         let written = part.written;
         if write_text(&scratch[..written]) < written {
             return Sent {

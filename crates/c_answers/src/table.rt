@@ -7,31 +7,18 @@ ghost use mathlib.Core.Bool.{_&&_};
 ghost use lib.Dec.{eqb};
 ghost use lib.IntN.{pos};
 ghost use lib.ListN.{getD, length};
+ghost use Rattle.numerals.specs.little_endian.LittleEndian.{i32At};
 ghost use Rattle.leap_table.specs.rows.Announced.{least, rowsOf, tableOf, unlessRefused};
-ghost use Rattle.c_answers.specs.table.TableBytes.{signed32, signedAt, ofLength, tableBytes};
+ghost use Rattle.c_answers.specs.table.TableBytes.{ofLength, tableBytes};
 use leap_table::rows::AnnouncedRows;
-
-// The signed number of a pattern of 32 bits in two's complement.
-pub(crate) fn i32_of_pattern(n: u32) -> i32
-    ensures { λ r. ⌜ r ≡ signed32 n ⌝ }
-{
-    if n < 0x8000_0000 {
-        return n as i32;
-    }
-    -1 - (0xffff_ffff - n) as i32
-}
 
 // The first `size` of 16 numbers from `at` on; the places past them are not read, and 0.
 fn numbers_at(bytes: &[u8], at: usize, size: usize) -> [i32; 16]
     requires { ⌜ (at < 100) × (size ≤ 16) ⌝ }
-    ensures { λ r. ⌜ ((i : ℕ) → i < size → getD r i (pos 0) ≡ signedAt (now (bytes .entry)) (at + 4 * i)) ⌝ }
+    ensures { λ r. ⌜ ((i : ℕ) → i < size → getD r i (pos 0) ≡ i32At (now (bytes .entry)) (at + 4 * i)) ⌝ }
 {
     let mut numbers = [0; 16];
-    let mut i = 0;
-    while i < size {
-        numbers[i] = i32_of_pattern(numerals::little_endian::u32_at(bytes, at + 4 * i));
-        i += 1;
-    }
+    arrays::put_numbers(bytes, at, size, &mut numbers);
     numbers
 }
 

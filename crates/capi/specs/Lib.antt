@@ -1,10 +1,12 @@
 -- What the contracts of the C interface cite beside the definitions of the crates below: the order of two dates as a number, the bytes of a week, what a lining
--- up and a run deliver, and a text with its rule.
+-- up, a run and a walk deliver, a text with its rule, a part of a listing, and the bytes of a bill and of a text that was read.
 pub mod OrderNumber
 pub mod WeekBytes
 pub mod LineDelivery
 pub mod RunDelivery
 pub mod TextRule
-pub mod table_calls
-pub mod reader_answers
+pub mod ListingPart
+pub mod WalkDelivery
+pub mod BillBytes
+pub mod ReaderFields
 pub mod laws

@@ -1,20 +1,59 @@
 // Text that others wrote, read: its six fields, and of UTC text the date too.
 ghost use mathlib.Core.Bool.{false};
-ghost use Rattle.refusals.specs.Outcome.{onward};
+ghost use Rattle.refusals.specs.Outcome.{answer, onward};
 ghost use Rattle.parsing.specs.Parsed.{parsedOutcome, parsedUtcOutcome, parsed, parsedUtc};
 ghost use Rattle.c_answers.specs.table.TableBytes.{tableBytes};
 ghost use Rattle.c_answers.specs.Delivery.{inBytes, Delivered};
-ghost use Rattle.capi.specs.reader_answers.ReaderFields.{parsedBytes, parsedUtcBytes};
+ghost use Rattle.capi.specs.ReaderFields.{parsedBytes, parsedUtcBytes};
+use c_answers::fields::put_date;
+use c_answers::fields::put_float;
+use c_answers::fields::put_julian;
+use c_answers::fields::put_two_numbers;
 use c_answers::refused;
 use c_answers::table::arrays;
+use calendar::CalendarDate;
 use parsing::ParsedAnswer;
+use parsing::ParsedDateTime;
+use parsing::ParsedUtc;
 use parsing::ParsedUtcAnswer;
+
+// Year, month and day, then hour and minute, then the second, one behind the other.
+fn put_fields(fields: ParsedDateTime, out: &mut [u8]) -> i64
+    ensures { λ r. ⌜ Delivered (answer (parsedBytes fields)) (now (out .entry)) r (now (out .exit)) ⌝ }
+{
+    if out.len() < 28 {
+        return refused(refusals::TEXT_LONGER_THAN_BUFFER);
+    }
+    let date = CalendarDate {
+        year: fields.year,
+        month: fields.month as u32,
+        day: fields.day as u32,
+    };
+    put_date(date, out);
+    put_two_numbers(fields.hour as u32, fields.minute as u32, &mut out[12..]);
+    put_float(fields.second, &mut out[20..]);
+    28
+}
+
+// The 28 bytes of the fields and the 16 of the date.
+fn put_fields_and_date(read: ParsedUtc, out: &mut [u8]) -> i64
+    ensures { λ r. ⌜ Delivered (answer (parsedUtcBytes read)) (now (out .entry)) r (now (out .exit)) ⌝ }
+{
+    if out.len() < 44 {
+        return refused(refusals::TEXT_LONGER_THAN_BUFFER);
+    }
+    let fields = read.fields;
+    let date = read.date;
+    put_fields(fields, out);
+    put_julian(date.0, &mut out[28..]);
+    44
+}
 
 fn put_parsed(found: ParsedAnswer, out: &mut [u8]) -> i64
     ensures { λ r. ⌜ Delivered (inBytes parsedBytes (parsedOutcome found)) (now (out .entry)) r (now (out .exit)) ⌝ }
 {
     match found {
-        ParsedAnswer::Fields(fields) => crate::reader_answers::put_parsed(fields, out),
+        ParsedAnswer::Fields(fields) => put_fields(fields, out),
         ParsedAnswer::Refused(number) => refused(number),
     }
 }
@@ -23,7 +62,7 @@ fn put_parsed_utc(found: ParsedUtcAnswer, out: &mut [u8]) -> i64
     ensures { λ r. ⌜ Delivered (inBytes parsedUtcBytes (parsedUtcOutcome found)) (now (out .entry)) r (now (out .exit)) ⌝ }
 {
     match found {
-        ParsedUtcAnswer::Read(read) => crate::reader_answers::put_parsed_utc(read, out),
+        ParsedUtcAnswer::Read(read) => put_fields_and_date(read, out),
         ParsedUtcAnswer::Refused(number) => refused(number),
     }
 }

@@ -18,7 +18,13 @@ fn list(block: &[u8]) -> bool {
     let table = leap_table::rows::no_rows();
     let mut line = 0;
     loop {
-        let part = stamps::next_part_by_rows(block, line, table, &mut scratch);
+        let part = stamps::next_part_by_rows(
+            stamps::Reporting::Numbers,
+            block,
+            line,
+            table,
+            &mut scratch,
+        );
         let written = part.written;
         if !io::write_all(1, &scratch[..written]) {
             return false;

@@ -1,9 +1,9 @@
-// Lists the stamp block that is read from standard input, with refusals told in sentences: the second listing program. Proved here: the program is safe, and
+// Lists the stamp block that is read from standard input, with refusals reported in sentences: the second listing program. Proved here: the program is safe, and
 // ends where its input does. That the parts are the listing is a theorem (stamps::listing_laws); that they go out in order is tested by what the program
 // prints.
 ghost use mathlib.Core.Path.{_≡_};
 ghost use lib.ListN.{length};
-use stamps::Telling;
+use stamps::Reporting;
 
 // One byte more than the longest block, 8 + 16 * 4000 bytes: what comes after them is counted and not kept.
 const BLOCK_SPACE: usize = 64009;
@@ -84,8 +84,8 @@ fn main() {
         tell_unread();
     }
     let len = kept.bytes;
-    let how = Telling::Sentences(whole_length(len));
-    let sent = block_io::write_listing(how, &space[..len]);
+    let reporting = Reporting::Sentences(whole_length(len));
+    let sent = block_io::write_listing(reporting, &space[..len]);
     if !sent.all {
         tell_unwritten();
     }

@@ -1,4 +1,4 @@
--- A line has at most 33 bytes, and 64 where sentences are told; so a part fits its scratch, and its length is small whatever the scratch. Assumes nothing.
+-- A line has at most 33 bytes, and 64 where sentences are reported; so a part fits its scratch, and its length is small whatever the scratch. Assumes nothing.
 use Prim.Native.Nat.{ℕ, zero, suc, _+_, _-_, _*_, _≤_}
 use native.Mathlib.Omega.{arith}
 use native.Mathlib.Nat.{add-zero, add-suc, add-assoc}
@@ -11,25 +11,25 @@ use borrow.Author.Tests.{leb-true}
 use Rattle.refusals.specs.Outcome.{Outcome, answer, refusal}
 use Rattle.leap_table.specs.rows.Table.{Row}
 use Rattle.utc.specs.iso_texts.Expanded.{isoTextExpanded}
-use Rattle.stamps.specs.declared.Telling.{Telling}
+use Rattle.stamps.specs.declared.Reporting.{Reporting}
 use Rattle.stamps.specs.Block.{blockOf, stampAt}
 use Rattle.stamps.specs.Listing.{lineRoom, blockValues, textAt, stampLine, refusedIn, header, blockRefused}
 use Rattle.stamps.specs.Widths.{InWidth}
 use Rattle.stamps.specs.Parts.{lineOf, linesIn, linesFrom, heldLines, partLines, partText}
 use Rattle.stamps.proofs.Blocks.{few-lines}
 use Rattle.stamps.proofs.Places.{digits-most}
-use Rattle.stamps.proofs.Texts.{room-low, room-high, told-most, brief, shown-most}
+use Rattle.stamps.proofs.Texts.{room-low, room-high, reported-most, brief, shown-most}
 use Rattle.stamps.proofs.Parts.{held-few}
 
 header-most : (n k : ℕ) → length (header n k) ≤ 33
 unfolding header
 header-most n k = simp length-append (omega (arith, digits-most 4 n, digits-most 4 k))
 
-refused-most : (how : Telling) (s : List ℕ) (k : ℕ) → InWidth how s → length (blockRefused how s k) ≤ lineRoom how
+refused-most : (how : Reporting) (s : List ℕ) (k : ℕ) → InWidth how s → length (blockRefused how s k) ≤ lineRoom how
 unfolding blockRefused
-refused-most how s k w = simp length-append (omega (arith, told-most how k (blockValues how s) w))
+refused-most how s k w = simp length-append (omega (arith, reported-most how k (blockValues how s) w))
 
-module _ (how : Telling) (rows : List Row) where
+module _ (how : Reporting) (rows : List Row) where
   -- a lines from line i and the b after them are a + b lines
   pub lines-add : (s : List ℕ) (i a b : ℕ) → linesFrom how rows s i a ++ linesFrom how rows s (i + a) b ≡ linesFrom how rows s i (a + b)
   unfolding linesFrom

@@ -2,7 +2,7 @@
 pub mod Blocks
 pub mod Places
 pub mod Texts
-pub mod Tellings
+pub mod Reportings
 pub mod Counts
 pub mod LateDates
 pub mod Lines

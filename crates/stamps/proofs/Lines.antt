@@ -10,7 +10,7 @@ use Rattle.refusals.specs.Outcome.{Outcome, answer}
 use Rattle.julian.specs.declared.JulianDate.{JulianDate}
 use Rattle.leap_table.specs.rows.Table.{Row}
 use Rattle.utc.specs.iso_texts.Expanded.{isoTextExpanded}
-use Rattle.stamps.specs.declared.Telling.{Telling}
+use Rattle.stamps.specs.declared.Reporting.{Reporting}
 use Rattle.stamps.specs.declared.BlockAnswer.{BlockAnswer}
 use Rattle.stamps.specs.declared.BlockAnswer.the-variants.{Stamps, Refused}
 use Rattle.stamps.specs.Block.{blockOf, blockOutcome, stampAt}
@@ -21,7 +21,7 @@ use Rattle.stamps.proofs.Blocks.{block-accepted, block-number}
 use Rattle.numerals.proofs.digits.Places.{then, placed-as}
 
 module _ {d d1 d2 d3 d4 : List ℕ} {at r1 r2 r3 r4 : ℕ} where
-  pub stamp-put : (how : Telling) (rows : List Row) (s : List ℕ) (n i : ℕ) (jd : JulianDate) → jd ≡ stampAt s n i
+  pub stamp-put : (how : Reporting) (rows : List Row) (s : List ℕ) (n i : ℕ) (jd : JulianDate) → jd ≡ stampAt s n i
       → Placed d at (numeral i) r1 d1 → Placed d1 r1 (32 ∷ []) r2 d2 → Placed d2 r2 (shown how jd (isoTextExpanded rows jd)) r3 d3
       → Placed d3 r3 (10 ∷ []) r4 d4 → r4 ≤ length d
       → Placed d at (stampLine how rows s n i) r4 d4
@@ -38,7 +38,7 @@ unfolding refusedIn textAt
 refused-more rows s n k m jd one em ej eo = rw add-one (cc)
 
 -- one line more is written
-pub lines-more : {d d1 d2 : List ℕ} {at r : ℕ} (how : Telling) (rows : List Row) (s : List ℕ) (line k : ℕ) → Placed d 0 (linesFrom how rows s line k) at d1
+pub lines-more : {d d1 d2 : List ℕ} {at r : ℕ} (how : Reporting) (rows : List Row) (s : List ℕ) (line k : ℕ) → Placed d 0 (linesFrom how rows s line k) at d1
     → Placed d1 at (lineOf how rows (blockOf s) s (line + k)) r d2 → r ≤ length d
     → Placed d 0 (linesFrom how rows s line (k + 1)) r d2
 unfolding linesFrom
@@ -51,7 +51,7 @@ module _ (s : List ℕ) (line : ℕ) (r : BlockAnswer) (e : blockOutcome r ≡ b
     unfolding blockOutcome
     refused-number = block-number s k (sym (ap blockOutcome is) ∙ e)
 
-    pub refused-line : (how : Telling) (rows : List Row) → blockRefused how s k ≡ lineOf how rows (blockOf s) s line
+    pub refused-line : (how : Reporting) (rows : List Row) → blockRefused how s k ≡ lineOf how rows (blockOf s) s line
     unfolding lineOf blockOutcome
     refused-line how rows = ap (λ (o : Outcome ℕ). lineOf how rows o s line) (sym (ap blockOutcome is) ∙ e)
 
@@ -67,10 +67,10 @@ module _ (s : List ℕ) (line : ℕ) (r : BlockAnswer) (e : blockOutcome r ≡ b
     unfolding linesIn
     within h = rw (← block-is) at h
 
-    pub header-line : (how : Telling) (rows : List Row) (m : ℕ) → line ≡ 0 → m ≡ refusedIn rows s n n → header n m ≡ lineOf how rows (blockOf s) s line
+    pub header-line : (how : Reporting) (rows : List Row) (m : ℕ) → line ≡ 0 → m ≡ refusedIn rows s n n → header n m ≡ lineOf how rows (blockOf s) s line
     unfolding lineOf
     header-line how rows m z em = rw (← block-is, eq-eqb line 0 z, em) refl
 
-    pub stamp-line : (how : Telling) (rows : List Row) → (line ≡ 0 → ⊥) → stampLine how rows s n (line - 1) ≡ lineOf how rows (blockOf s) s line
+    pub stamp-line : (how : Reporting) (rows : List Row) → (line ≡ 0 → ⊥) → stampLine how rows s n (line - 1) ≡ lineOf how rows (blockOf s) s line
     unfolding lineOf
     stamp-line how rows z = rw (← block-is, ne-eqb line 0 z) refl

@@ -14,7 +14,7 @@ use Rattle.leap_table.specs.declared.rows.AnnouncedRows.{AnnouncedRows}
 use Rattle.leap_table.specs.rows.Table.{Row}
 use Rattle.leap_table.specs.rows.Announced.{rowsOf, tableOf, unlessRefused}
 use Rattle.leap_table.proofs.rows.TablesTaken.{not-taken, taken}
-use Rattle.stamps.specs.declared.Telling.{Telling}
+use Rattle.stamps.specs.declared.Reporting.{Reporting}
 use Rattle.stamps.specs.declared.Part.{Part}
 use Rattle.stamps.specs.declared.LinesAnswer.the-variants.{Lines, Refused}
 use Rattle.stamps.specs.Block.{blockOf}
@@ -23,7 +23,7 @@ use Rattle.stamps.specs.Listing.{lineRoom}
 use Rattle.stamps.specs.Parts.{lineOf, linesIn, linesFrom, heldLines, partLines, partText, partOf, PartPlaced, linesOutcome, scratchHolds, PartCall}
 use Rattle.stamps.proofs.Blocks.{few-lines}
 
-module _ (how : Telling) (rows : List Row) (s : List ℕ) where
+module _ (how : Reporting) (rows : List Row) (s : List ℕ) where
   held-full : (line room left : ℕ) → room < lineRoom how → heldLines how rows s line room left ≡ 0
   unfolding heldLines
   held-full line room zero h = refl
@@ -108,7 +108,7 @@ module _ (how : Telling) (rows : List Row) (s : List ℕ) where
     stops-done h = part-placed true (sym (le-leb (linesIn (blockOf s)) (line + k) (omega arith)))
 
 -- ---- what a caller learns
-module _ {how : Telling} {rows : List Row} {s d d′ : List ℕ} {line : ℕ} {r : Part} (p : PartPlaced how rows s line d r d′) where
+module _ {how : Reporting} {rows : List Row} {s d d′ : List ℕ} {line : ℕ} {r : Part} (p : PartPlaced how rows s line d r d′) where
   -- what is written lies within the scratch
   pub part-within : (r .written ≤ length d′) × (r .written ≡ length (take (r .written) d′))
   unfolding partOf
@@ -130,7 +130,7 @@ module _ {how : Telling} {rows : List Row} {s d d′ : List ℕ} {line : ℕ} {r
       (omega arith, omega arith)
 
 -- ---- the call that tests its table, by the number that the test answers
-module _ (how : Telling) (t : AnnouncedRows) (n : ℕ) (e : unlessRefused n (rowsOf t) ≡ tableOf t) (s : List ℕ) (line : ℕ) (d : List ℕ) where
+module _ (how : Reporting) (t : AnnouncedRows) (n : ℕ) (e : unlessRefused n (rowsOf t) ≡ tableOf t) (s : List ℕ) (line : ℕ) (d : List ℕ) where
   pub part-refused : (n ≡ 0 → ⊥) → PartCall how (tableOf t) s line d (Refused n) d
   unfolding linesOutcome scratchHolds
   part-refused h = record { says = not-taken t n e _ h; holds = ap (λ (o : Outcome (List ℕ)). scratchHolds o d) (not-taken t n e _ h) }

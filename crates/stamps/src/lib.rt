@@ -1,13 +1,11 @@
 // The stamp block, and its listing in parts that a lent scratch holds.
 mod listing;
 mod place;
-mod told;
+mod reported;
 
 use julian::JulianDate;
 pub use listing::next_part;
 pub use listing::next_part_by_rows;
-pub use listing::next_told_part;
-pub use listing::next_told_part_by_rows;
 ghost use mathlib.Core.Path.{_≡_};
 ghost use Prim.Native.Nat.{_≤_, _<_};
 ghost use Rattle.stamps.specs.Block.{blockOutcome, blockOf, stampAt};
@@ -18,9 +16,9 @@ pub enum BlockAnswer {
     Refused(u32),
 }
 
-// How a listing tells a refusal: by its number, or by its sentence; of a refused block the sentence may name how many bytes came in all, of which the block has
-// the first.
-pub enum Telling {
+// How a listing reports a refusal: by its number, or by its sentence. Of a refused block the sentence may name how many bytes came in all, of which the block
+// has the first.
+pub enum Reporting {
     Numbers,
     Sentences(u64),
 }

@@ -19,48 +19,55 @@ ghost use Rattle.stamps.specs.Parts.{lineOf, linesIn, PartPlaced, PartCa
 use super::BlockAnswer;
 use super::LinesAnswer;
 use super::Part;
-use super::Telling;
+use super::Reporting;
 use super::block_stamps;
 use super::place;
+use super::reported;
 use super::stamp_at;
-use super::told;
 use julian::JulianDate;
 use julian::day_number::DayAnswer;
 use leap_table::rows::AnnouncedRows;
+use numerals::place::place_bytes;
 use scales::UTC;
-use utc::text::TextAnswer;
+use utc::iso_texts::TextByRule;
 
 // A line is begun only where so many bytes are left. By numbers the longest line has four bytes of the index, a blank, the longest text, 27, and the line's
 // end; by sentences it has `block`, a blank, the longest sentence, 57, and the line's end.
-fn line_room(how: Telling) -> usize
-    ensures { λ r. ⌜ r ≡ lineRoom how ⌝ }
+fn line_room(reporting: Reporting) -> usize
+    ensures { λ r. ⌜ r ≡ lineRoom reporting ⌝ }
 {
-    match how {
-        Telling::Numbers => 33,
-        Telling::Sentences(_) => 64,
+    match reporting {
+        Reporting::Numbers => 33,
+        Reporting::Sentences(_) => 64,
     }
 }
 
 // The text of a date, or its refusal.
 fn place_shown(
-    how: Telling,
+    reporting: Reporting,
     jd: JulianDate,
     table: AnnouncedRows,
     dst: &mut [u8],
     at: usize,
 ) -> usize
-    requires { ⌜ at + lineRoom how ≤ length (now dst) + 5 ⌝ }
-    ensures { λ r. ⌜ Placed (now (dst .entry)) at (shown how jd (isoTextExpanded (rowsOf table) jd)) r (now (dst .exit)) ⌝ }
-    ensures { λ r. ⌜ r + 6 ≤ at + lineRoom how ⌝ }
+    requires { ⌜ at + lineRoom reporting ≤ length (now dst) + 5 ⌝ }
+    ensures { λ r. ⌜ Placed (now (dst .entry)) at (shown reporting jd (isoTextExpanded (rowsOf table) jd)) r (now (dst .exit)) ⌝ }
+    ensures { λ r. ⌜ r + 6 ≤ at + lineRoom reporting ⌝ }
 {
-    match utc::iso_texts::to_iso8601_expanded_by_rows(UTC(jd), table, &mut dst[at..]) {
-        TextAnswer::Written(n) => at + n,
-        TextAnswer::Refused(number) => told::place_date_refused(how, number, jd, dst, at),
+    match utc::iso_texts::to_iso8601_expanded_by_lent(
+        UTC(jd),
+        leap_table::rows::size_of(table),
+        &table.months,
+        &table.seconds,
+        &mut dst[at..],
+    ) {
+        TextByRule::Written(n, _) => at + n,
+        TextByRule::Refused(number) => reported::place_date_refused(reporting, number, jd, dst, at),
     }
 }
 
 fn place_stamp_line(
-    how: Telling,
+    reporting: Reporting,
     block: &[u8],
     stamps: usize,
     i: usize,
@@ -68,14 +75,14 @@ fn place_stamp_line(
     dst: &mut [u8],
     at: usize,
 ) -> usize
-    requires { ⌜ (i < stamps) × (stamps ≤ 4000) × (at + lineRoom how ≤ length (now dst)) ⌝ }
-    ensures { λ r. ⌜ Placed (now (dst .entry)) at (stampLine how (rowsOf table) (now (block .entry)) stamps i) r (now (dst .exit)) ⌝ }
-    ensures { λ r. ⌜ r ≤ at + lineRoom how ⌝ }
+    requires { ⌜ (i < stamps) × (stamps ≤ 4000) × (at + lineRoom reporting ≤ length (now dst)) ⌝ }
+    ensures { λ r. ⌜ Placed (now (dst .entry)) at (stampLine reporting (rowsOf table) (now (block .entry)) stamps i) r (now (dst .exit)) ⌝ }
+    ensures { λ r. ⌜ r ≤ at + lineRoom reporting ⌝ }
 {
     let a = place::number(i as u32, dst, at);
-    let b = place::bytes(b" ", dst, a);
-    let c = place_shown(how, stamp_at(block, stamps, i), table, dst, b);
-    place::bytes(b"\n", dst, c)
+    let b = place_bytes(b" ", dst, a);
+    let c = place_shown(reporting, stamp_at(block, stamps, i), table, dst, b);
+    place_bytes(b"\n", dst, c)
 }
 
 // 1 where the day is before -4799-01-01, the first that has a text, else 0.
@@ -125,26 +132,32 @@ fn place_header(stamps: u32, refused: u32, dst: &mut [u8], at: usize) -> usize
     ensures { λ r. ⌜ Placed (now (dst .entry)) at (header stamps refused) r (now (dst .exit)) ⌝ }
     ensures { λ r. ⌜ r ≤ at + 33 ⌝ }
 {
-    let a = place::bytes(b"utc listing ", dst, at);
+    let a = place_bytes(b"utc listing ", dst, at);
     let b = place::number(stamps, dst, a);
-    let c = place::bytes(b" refused ", dst, b);
+    let c = place_bytes(b" refused ", dst, b);
     let d = place::number(refused, dst, c);
-    place::bytes(b"\n", dst, d)
+    place_bytes(b"\n", dst, d)
 }
 
-fn place_block_refused(how: Telling, block: &[u8], number: u32, dst: &mut [u8], at: usize) -> usize
-    requires { ⌜ (1 ≤ number) × (number ≤ 28) × (at + lineRoom how ≤ length (now dst)) ⌝ }
-    ensures { λ r. ⌜ Placed (now (dst .entry)) at (blockRefused how (now (block .entry)) number) r (now (dst .exit)) ⌝ }
-    ensures { λ r. ⌜ r ≤ at + lineRoom how ⌝ }
+fn place_block_refused(
+    reporting: Reporting,
+    block: &[u8],
+    number: u32,
+    dst: &mut [u8],
+    at: usize,
+) -> usize
+    requires { ⌜ (1 ≤ number) × (number ≤ 28) × (at + lineRoom reporting ≤ length (now dst)) ⌝ }
+    ensures { λ r. ⌜ Placed (now (dst .entry)) at (blockRefused reporting (now (block .entry)) number) r (now (dst .exit)) ⌝ }
+    ensures { λ r. ⌜ r ≤ at + lineRoom reporting ⌝ }
 {
-    let a = place::bytes(b"block ", dst, at);
-    let b = told::place_block_told(how, number, block, dst, a);
-    place::bytes(b"\n", dst, b)
+    let a = place_bytes(b"block ", dst, at);
+    let b = reported::place_block_reported(reporting, number, block, dst, a);
+    place_bytes(b"\n", dst, b)
 }
 
 // Line `line` of the listing of a block with this answer: line 0 is the header or the refusal, line i + 1 is stamp i's.
 fn place_line(
-    how: Telling,
+    reporting: Reporting,
     block: &[u8],
     answer: BlockAnswer,
     line: usize,
@@ -152,17 +165,17 @@ fn place_line(
     dst: &mut [u8],
     at: usize,
 ) -> usize
-    requires { ⌜ (blockOutcome answer ≡ blockOf (now block)) × (line < linesIn (blockOf (now block))) × (at + lineRoom how ≤ length (now dst)) ⌝ }
-    ensures { λ r. ⌜ Placed (now (dst .entry)) at (lineOf how (rowsOf table) (blockOf (now (block .entry))) (now (block .entry)) line) r (now (dst .exit)) ⌝ }
-    ensures { λ r. ⌜ r ≤ at + lineRoom how ⌝ }
+    requires { ⌜ (blockOutcome answer ≡ blockOf (now block)) × (line < linesIn (blockOf (now block))) × (at + lineRoom reporting ≤ length (now dst)) ⌝ }
+    ensures { λ r. ⌜ Placed (now (dst .entry)) at (lineOf reporting (rowsOf table) (blockOf (now (block .entry))) (now (block .entry)) line) r (now (dst .exit)) ⌝ }
+    ensures { λ r. ⌜ r ≤ at + lineRoom reporting ⌝ }
 {
     match answer {
-        BlockAnswer::Refused(number) => place_block_refused(how, block, number, dst, at),
+        BlockAnswer::Refused(number) => place_block_refused(reporting, block, number, dst, at),
         BlockAnswer::Stamps(stamps) => {
             if line == 0 {
                 return place_header(stamps as u32, refused_stamps(block, stamps), dst, at);
             }
-            place_stamp_line(how, block, stamps, line - 1, table, dst, at)
+            place_stamp_line(reporting, block, stamps, line - 1, table, dst, at)
         }
     }
 }
@@ -185,20 +198,20 @@ fn less(a: usize, b: usize) -> usize
 }
 
 // The next part of the listing, from line `line` on, by the rows of a table that is tested elsewhere: as many whole lines as the scratch surely holds, at its
-// start. A scratch of 33 bytes or more holds one, and where sentences are told one of 64. Into a shorter one nothing is written, and the answer names the same
+// start. A scratch of 33 bytes or more holds one, and where sentences are reported one of 64. Into a shorter one nothing is written, and the answer names the same
 // line with `done` false: a caller that asks again with it never comes to an end.
-pub fn next_told_part_by_rows(
-    how: Telling,
+pub fn next_part_by_rows(
+    reporting: Reporting,
     block: &[u8],
     line: usize,
     table: AnnouncedRows,
     scratch: &mut [u8],
 ) -> Part
-    ensures { λ r. ⌜ PartPlaced how (rowsOf table) (now (block .entry)) line (now (scratch .entry)) r (now (scratch .exit)) ⌝ }
+    ensures { λ r. ⌜ PartPlaced reporting (rowsOf table) (now (block .entry)) line (now (scratch .entry)) r (now (scratch .exit)) ⌝ }
 {
     let answer = block_stamps(block);
     let left = less(lines_in(answer), line);
-    let room = line_room(how);
+    let room = line_room(reporting);
     let mut at = 0;
     let mut count = 0;
     while count < left {
@@ -209,7 +222,7 @@ pub fn next_told_part_by_rows(
                 done: false,
             };
         }
-        at = place_line(how, block, answer, line + count, table, scratch, at);
+        at = place_line(reporting, block, answer, line + count, table, scratch, at);
         count += 1;
     }
     Part {
@@ -219,38 +232,19 @@ pub fn next_told_part_by_rows(
     }
 }
 
-// The same with refusals told by their numbers.
-pub fn next_part_by_rows(
-    block: &[u8],
-    line: usize,
-    table: AnnouncedRows,
-    scratch: &mut [u8],
-) -> Part
-    ensures { λ r. ⌜ PartPlaced Telling.Numbers (rowsOf table) (now (block .entry)) line (now (scratch .entry)) r (now (scratch .exit)) ⌝ }
-{
-    next_told_part_by_rows(Telling::Numbers, block, line, table, scratch)
-}
-
 // The part by a table that is tested first: 20 to 22 where it is refused, and nothing is written.
-pub fn next_told_part(
-    how: Telling,
+pub fn next_part(
+    reporting: Reporting,
     block: &[u8],
     line: usize,
     table: AnnouncedRows,
     scratch: &mut [u8],
 ) -> LinesAnswer
-    ensures { λ r. ⌜ PartCall how (tableOf table) (now (block .entry)) line (now (scratch .entry)) r (now (scratch .exit)) ⌝ }
+    ensures { λ r. ⌜ PartCall reporting (tableOf table) (now (block .entry)) line (now (scratch .entry)) r (now (scratch .exit)) ⌝ }
 {
     let number = leap_table::rows::table_refusal(table);
     if number != 0 {
         return LinesAnswer::Refused(number);
     }
-    LinesAnswer::Lines(next_told_part_by_rows(how, block, line, table, scratch))
-}
-
-// The same with refusals told by their numbers.
-pub fn next_part(block: &[u8], line: usize, table: AnnouncedRows, scratch: &mut [u8]) -> LinesAnswer
-    ensures { λ r. ⌜ PartCall Telling.Numbers (tableOf table) (now (block .entry)) line (now (scratch .entry)) r (now (scratch .exit)) ⌝ }
-{
-    next_told_part(Telling::Numbers, block, line, table, scratch)
+    LinesAnswer::Lines(next_part_by_rows(reporting, block, line, table, scratch))
 }

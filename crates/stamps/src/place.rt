@@ -1,17 +1,10 @@
-// Bytes and decimal numbers into a lent slice from an index on. Each function answers the index after what it wrote.
+// Decimal numbers into a lent slice from an index on. Each function answers the index after what it wrote.
 ghost use Prim.Native.Nat.{_+_, _≤_, _<_};
 ghost use mathlib.Core.List.{[], _∷_};
 ghost use lib.ListN.{length};
 ghost use Rattle.numerals.specs.digits.Decimal.{last, digitsIn};
 ghost use Rattle.numerals.specs.digits.Placed.{Placed};
 ghost use Rattle.stamps.specs.Listing.{numeral};
-
-pub(crate) fn bytes(src: &[u8], dst: &mut [u8], at: usize) -> usize
-    requires { ⌜ at + length (now src) ≤ length (now dst) ⌝ }
-    ensures { λ r. ⌜ Placed (now (dst .entry)) at (now (src .entry)) r (now (dst .exit)) ⌝ }
-{
-    at + bytes::copy(src, &mut dst[at..])
-}
 
 // The last digit of a number.
 fn digit(n: u32, dst: &mut [u8], at: usize) -> usize

@@ -1,8 +1,8 @@
-// Lists the stamp block that is read from standard input, with refusals told by number. Proved here: the program is safe and ends. That the parts are the
+// Lists the stamp block that is read from standard input, with refusals reported by number. Proved here: the program is safe and ends. That the parts are the
 // listing is a theorem (stamps::listing_laws); that they go out in order is tested by what the program prints.
 ghost use mathlib.Core.Path.{_≡_};
 ghost use lib.ListN.{length};
-use stamps::Telling;
+use stamps::Reporting;
 
 // One byte more than the longest block, 8 + 16 * 4000 bytes, so that a longer input is noticed.
 const BLOCK_SPACE: usize = 64009;
@@ -41,7 +41,7 @@ fn main() {
     }
     let len = kept.bytes;
     tell_left_over(len);
-    let sent = block_io::write_listing(Telling::Numbers, &space[..len]);
+    let sent = block_io::write_listing(Reporting::Numbers, &space[..len]);
     if !sent.all {
         tell_unwritten();
     }

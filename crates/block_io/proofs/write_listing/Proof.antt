@@ -25,18 +25,18 @@ no-rows-requires c κs = search needs
 loop-holds : tie.Need-loop-holds Inv-loop μ-loop
 loop-holds c = (zero-le, search needs)
 
-slice-aggregate-next-told-part-by-rows :
-    tie.Need-slice-aggregate-next-told-part-by-rows Inv-loop μ-loop
-slice-aggregate-next-told-part-by-rows c = search needs
+slice-aggregate-next-part-by-rows :
+    tie.Need-slice-aggregate-next-part-by-rows Inv-loop μ-loop
+slice-aggregate-next-part-by-rows c = search needs
 
-next-told-part-by-rows-requires : tie.Need-next-told-part-by-rows-requires Inv-loop μ-loop
-next-told-part-by-rows-requires c κs = search needs
+next-part-by-rows-requires : tie.Need-next-part-by-rows-requires Inv-loop μ-loop
+next-part-by-rows-requires c κs = search needs
 
 array-share-prefix-scratch : tie.Need-array-share-prefix-scratch Inv-loop μ-loop
-array-share-prefix-scratch c = part-within (c .before .next-told-part-by-rows .ensures) .0
+array-share-prefix-scratch c = part-within (c .before .next-part-by-rows .ensures) .0
 
 slice-aggregate-write-text : tie.Need-slice-aggregate-write-text Inv-loop μ-loop
-slice-aggregate-write-text c = part-within (c .before .before .next-told-part-by-rows .ensures) .1
+slice-aggregate-write-text c = part-within (c .before .before .next-part-by-rows .ensures) .1
 
 write-text-requires : tie.Need-write-text-requires Inv-loop μ-loop
 write-text-requires c κs = search needs
@@ -50,23 +50,24 @@ returns c = record {
 
 returns-2 : tie.Need-returns-2 Inv-loop μ-loop
 returns-2 c =
-    let p = c .before .before .before .before .before .next-told-part-by-rows .ensures in
+    let p = c .before .before .before .before .before .next-part-by-rows .ensures in
     let h = c .before .before .before .before .before .before .before .loop .inv .0 in
     record { within = next-within p h; whole = λ e. comes-last p h (c .if2 .taken) }
 
 loop-less : tie.Need-loop-less Inv-loop μ-loop
 loop-less c =
-    let on = part-brings-on (c .before .before .before .before .before .next-told-part-by-rows .ensures)
+    let back = c .before .before .before .before .before .before .before .before in
+    let on = part-brings-on (c .before .before .before .before .before .next-part-by-rows .ensures)
     (omega (
       arith,
-      room-high (c .before .before .before .before .before .before .before .before .before .before .args .how),
+      room-high (back .before .before .args .reporting),
       c .before .before .before .before .before .before .before .loop .inv .1,
     )) (c .if2 .left) in
     omega (arith, on .0, on .1)
 
 loop-again : tie.Need-loop-again Inv-loop μ-loop
 loop-again c = (
-  next-within (c .before .before .before .before .before .next-told-part-by-rows .ensures)
+  next-within (c .before .before .before .before .before .next-part-by-rows .ensures)
       (c .before .before .before .before .before .before .before .loop .inv .0),
   search needs,
 )
@@ -74,5 +75,5 @@ loop-again c = (
 pub write-listing-spec : {M : Type 1} → statement M
 write-listing-spec =
     tie.close
-    (tie.spec Inv-loop μ-loop no-rows-requires loop-holds slice-aggregate-next-told-part-by-rows next-told-part-by-rows-requires
+    (tie.spec Inv-loop μ-loop no-rows-requires loop-holds slice-aggregate-next-part-by-rows next-part-by-rows-requires
     array-share-prefix-scratch slice-aggregate-write-text write-text-requires returns returns-2 loop-less loop-again)

@@ -9,13 +9,13 @@ use lib.Dec.{eqb, leb}
 use lib.ListN.{length, getD, replicate}
 use borrow.Author.Tests.{eq-eqb, eqb-true}
 use Rattle.refusals.specs.Outcome.{Outcome, answer, refusal, onward}
-use Rattle.numerals.specs.little_endian.LittleEndian.{fourAt, u32At}
+use Rattle.numerals.specs.little_endian.LittleEndian.{fourAt, u32At, signed32, i32At}
 use Rattle.leap_table.specs.rows.Table.{Row, row, fixed}
 use Rattle.leap_table.specs.rows.Announced.{least, rowsTo, announcedSize, tableOf, Decision, sizes, order, step, taken, unlessRefused}
 use Rattle.leap_table.proofs.rows.Tables.{least-right}
 use Rattle.leap_table.proofs.rows.TableLaws.{table-decided}
 use Rattle.leap_table.proofs.rows.TablesTaken.{table-none}
-use Rattle.c_answers.specs.table.TableBytes.{signed32, signedAt, signedFrom, recordIn, ofLength, tableBytes}
+use Rattle.c_answers.specs.table.TableBytes.{signedFrom, recordIn, ofLength, tableBytes}
 use Rattle.c_answers.proofs.table.Reading.{place-of, same-table}
 
 -- ---- the number of a refusal, and a call that goes on with the rows
@@ -83,7 +83,7 @@ module _ (s s′ : List ℕ) (same-length : length s ≡ length s′) where
       placed : (at i j : ℕ) → at + 4 * i + j ≡ at + (4 * i + j)
       placed at i j = omega arith
 
-      read : (at i : ℕ) → ((j : ℕ) → j < 4 → getD s (at + (4 * i + j)) 0 ≡ getD s′ (at + (4 * i + j)) 0) → signedAt s (at + 4 * i) ≡ signedAt s′ (at + 4 * i)
+      read : (at i : ℕ) → ((j : ℕ) → j < 4 → getD s (at + (4 * i + j)) 0 ≡ getD s′ (at + (4 * i + j)) 0) → i32At s (at + 4 * i) ≡ i32At s′ (at + 4 * i)
       read at i k = ap signed32 (same-number (at + 4 * i)
           (λ j l. ap (λ (n : ℕ). getD s n 0) (placed at i j) ∙ k j l ∙ ap (λ (n : ℕ). getD s′ n 0) (sym (placed at i j))))
 

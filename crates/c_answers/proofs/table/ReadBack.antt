@@ -10,11 +10,11 @@ use lib.Seq.{getD-append-add, ext-getD}
 use mir.Syntax.{w32}
 use mir.Val.{SFits}
 use borrow.Author.Tests.{le-leb, eq-eqb}
-use Rattle.numerals.specs.little_endian.LittleEndian.{fourAt, u32At}
+use Rattle.numerals.specs.little_endian.LittleEndian.{fourAt, u32At, signed32, i32At}
 use Rattle.leap_table.specs.declared.rows.AnnouncedRows.{AnnouncedRows}
 use Rattle.leap_table.specs.rows.Announced.{tableOf}
 use Rattle.c_answers.specs.Fields.{fourBytes}
-use Rattle.c_answers.specs.table.TableBytes.{signed32, signedAt, signedFrom, recordIn, ofLength, tableBytes}
+use Rattle.c_answers.specs.table.TableBytes.{signedFrom, recordIn, ofLength, tableBytes}
 use Rattle.c_answers.specs.table.RecordBytes.{pattern32, inFours, recordBytes, MachineRecord}
 use Rattle.c_answers.proofs.table.Signed32.{signed-back, pattern-small}
 use Rattle.c_answers.proofs.table.Reading.{place-of}
@@ -115,7 +115,7 @@ module _ (t : AnnouncedRows) (held : MachineRecord t) where
       ∙ getD-append-add ms ss i 0
       ∙ at-map (t .seconds) i (omega (arith, held .sixteen-seconds))
 
-  read-number : (k at : ℕ) (z : ℤ) → SFits w32 z → at ≡ 4 * k → k < 34 → getD l k 0 ≡ pattern32 z → signedAt (recordBytes t) at ≡ z
+  read-number : (k at : ℕ) (z : ℤ) → SFits w32 z → at ≡ 4 * k → k < 34 → getD l k 0 ≡ pattern32 z → i32At (recordBytes t) at ≡ z
   read-number k at z f e h p =
       ap signed32 (in-place l k at e (omega (arith, all-length)) (subst (λ (n : ℕ). n < 4294967296) (sym p) (pattern-small z f)) ∙ p) ∙ signed-back z f
 

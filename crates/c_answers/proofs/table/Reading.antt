@@ -12,7 +12,7 @@ use lib.Seq.{getD-set-same, getD-set-other}
 use borrow.Author.Count.{below-more}
 use borrow.Author.Tests.{eq-eqb, ne-eqb, eqb-true, leb-true, leb-false}
 use Rattle.refusals.specs.Outcome.{Outcome, answer}
-use Rattle.numerals.specs.little_endian.LittleEndian.{u32At}
+use Rattle.numerals.specs.little_endian.LittleEndian.{u32At, i32At}
 use Rattle.leap_table.specs.declared.rows.AnnouncedRows.{AnnouncedRows}
 use Rattle.leap_table.specs.rows.Table.{Row, fixed}
 use Rattle.leap_table.specs.rows.Announced.{least, announcedSize, rowsOf, rowsIn, announcedTable, tableOf, unlessRefused, Judged}
@@ -20,28 +20,28 @@ use Rattle.leap_table.proofs.rows.Tables.{least-right}
 use Rattle.leap_table.proofs.rows.TableLaws.{spare-unread}
 use Rattle.leap_table.proofs.rows.ByParts.{least-low, rows-in}
 use Rattle.leap_table.proofs.rows.TablesTaken.{table-none, none-rows, when-taken}
-use Rattle.c_answers.specs.table.TableBytes.{signedAt, signedFrom, recordIn, ofLength, tableBytes, sizeIn, ReadFrom}
+use Rattle.c_answers.specs.table.TableBytes.{signedFrom, recordIn, ofLength, tableBytes, sizeIn, ReadFrom}
 
 -- ---- the numbers of an array by their places
-pub place-of : (s : List ℕ) (at n i : ℕ) → i < n → getD (signedFrom s at n) i (pos 0) ≡ signedAt s (at + 4 * i)
+pub place-of : (s : List ℕ) (at n i : ℕ) → i < n → getD (signedFrom s at n) i (pos 0) ≡ i32At s (at + 4 * i)
 unfolding signedFrom
 place-of s at zero i h = absurd (not-suc-le-zero h)
-place-of s at (suc n) zero h = ap (signedAt s) (first at)
+place-of s at (suc n) zero h = ap (i32At s) (first at)
   where
     first : (a : ℕ) → a ≡ a + 4 * 0
     first a = omega arith
-place-of s at (suc n) (suc i) h = place-of s (at + 4) n i (omega arith) ∙ ap (signedAt s) (later at i)
+place-of s at (suc n) (suc i) h = place-of s (at + 4) n i (omega arith) ∙ ap (i32At s) (later at i)
   where
     later : (a j : ℕ) → a + 4 + 4 * j ≡ a + 4 * suc j
     later a j = omega arith
 
 -- one place more is read
-pub one-more-read : (s : List ℕ) (at i : ℕ) (l : List ℤ) (z : ℤ) → length l ≡ 16 → i < 16 → z ≡ signedAt s (at + 4 * i)
-    → ((k : ℕ) → k < i → getD l k (pos 0) ≡ signedAt s (at + 4 * k))
-    → (length (set l i z) ≡ 16) × ((k : ℕ) → k < i + 1 → getD (set l i z) k (pos 0) ≡ signedAt s (at + 4 * k))
+pub one-more-read : (s : List ℕ) (at i : ℕ) (l : List ℤ) (z : ℤ) → length l ≡ 16 → i < 16 → z ≡ i32At s (at + 4 * i)
+    → ((k : ℕ) → k < i → getD l k (pos 0) ≡ i32At s (at + 4 * k))
+    → (length (set l i z) ≡ 16) × ((k : ℕ) → k < i + 1 → getD (set l i z) k (pos 0) ≡ i32At s (at + 4 * k))
 one-more-read s at i l z n h e all = (
   length-set l i z ∙ n,
-  below-more (λ k. getD (set l i z) k (pos 0) ≡ signedAt s (at + 4 * k)) i (λ k g. getD-set-other l i k z (pos 0) (λ (p : k ≡ i). omega arith) ∙ all k g)
+  below-more (λ k. getD (set l i z) k (pos 0) ≡ i32At s (at + 4 * k)) i (λ k g. getD-set-other l i k z (pos 0) (λ (p : k ≡ i). omega arith) ∙ all k g)
       (getD-set-same l i z (pos 0) (omega arith) ∙ e),
 )
 
@@ -64,7 +64,7 @@ fewer m n = go (leb m n) refl (leb m 16) refl
         other false r = omega arith
 
 abbrev Reads : List ℕ → ℕ → ℕ → List ℤ → Type 0
-Reads s at n l = (i : ℕ) → i < n → getD l i (pos 0) ≡ signedAt s (at + 4 * i)
+Reads s at n l = (i : ℕ) → i < n → getD l i (pos 0) ≡ i32At s (at + 4 * i)
 
 pub same-table : (s : List ℕ) (t : AnnouncedRows) → t .«months_size» ≡ u32At s 0 → t .«seconds_size» ≡ u32At s 4
     → Reads s 8 (least (t .«months_size») 16) (t .months) → Reads s 72 (least (t .«months_size») 16) (t .seconds) → tableOf t ≡ tableOf (recordIn s)
@@ -141,8 +141,8 @@ unfolding tableBytes ofLength
 read-14 s rows h = rw (ne-eqb (length s) 136 h)
 
 module _ (s : List ℕ) (a b : ℕ) (m l : List ℤ) (p : a ≡ u32At s 0) (q : b ≡ u32At s 4) (h : length s ≡ 136) where
-  pub read-judged : (size number : ℕ) → size ≡ least a 16 → ((i : ℕ) → i < size → getD m i (pos 0) ≡ signedAt s (8 + 4 * i))
-      → ((i : ℕ) → i < size → getD l i (pos 0) ≡ signedAt s (72 + 4 * i))
+  pub read-judged : (size number : ℕ) → size ≡ least a 16 → ((i : ℕ) → i < size → getD m i (pos 0) ≡ i32At s (8 + 4 * i))
+      → ((i : ℕ) → i < size → getD l i (pos 0) ≡ i32At s (72 + 4 * i))
       → Judged number (announcedTable a b m l) → unlessRefused number (rowsIn size m l) ≡ tableBytes s
   read-judged size number e ms ss j =
       let k : size ≡ sizeIn s = e ∙ ap (λ (x : ℕ). least x 16) p in

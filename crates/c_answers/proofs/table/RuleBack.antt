@@ -5,14 +5,13 @@ use mathlib.Core.Path.{_≡_, refl, _∙_}
 use mathlib.Core.List.{[], _∷_}
 use lib.IntN.{negsuc}
 use lib.Ieee.{Float}
-use Rattle.numerals.specs.little_endian.LittleEndian.{fourAt, u32At}
+use Rattle.numerals.specs.little_endian.LittleEndian.{fourAt, u32At, signed32}
 use Rattle.julian.specs.declared.JulianDate.{JulianDate}
 use Rattle.leap_table.specs.declared.offsets.Rule.{Rule}
 use Rattle.leap_table.specs.declared.offsets.Rule.the-variants.{Absent, Drifting, Whole}
 use Rattle.c_answers.specs.Fields.{julianBytes}
 use Rattle.c_answers.specs.rules.RuleFields.{ruleNumber, rowPattern, ruleBytes, offsetRuleBytes, julianRuleBytes}
 use Rattle.c_answers.specs.table.RecordBytes.{inFours}
-use Rattle.c_answers.specs.table.TableBytes.{signed32}
 use Rattle.c_answers.proofs.table.ReadBack.{in-place}
 
 -- the rule of a kind and a row

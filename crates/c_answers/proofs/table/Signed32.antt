@@ -1,39 +1,14 @@
--- The signed number of a pattern of 32 bits, as the machine makes it, and the way back. Assumes nothing.
-use Prim.Native.Nat.{ℕ, zero, suc, _+_, _-_, _<_, _≤_}
+-- A signed number of 32 bits from its pattern. Assumes nothing.
+use Prim.Native.Nat.{ℕ, _-_, _<_, _≤_}
 use native.Mathlib.Omega.{arith}
-use mathlib.Core.Path.{_≡_, refl, sym, ap, subst, _∙_}
-use lib.IntN.{ℤ, pos, negsuc, _-ℤ_}
+use mathlib.Core.Path.{_≡_, ap}
+use lib.IntN.{ℤ, pos, negsuc}
 use mir.Syntax.{w32}
-use mir.Val.{SFits, toZ, ofZ}
-use mir.Facts.{toZ-ofZ, toZ-pos}
+use mir.Val.{SFits}
 use borrow.Author.Tests.{le-ltb, lt-ltb}
-use Rattle.c_answers.specs.table.TableBytes.{signed32}
+use Rattle.numerals.specs.little_endian.LittleEndian.{signed32}
 use Rattle.c_answers.specs.table.RecordBytes.{pattern32}
 
-minus-one : (k : ℕ) → negsuc 0 -ℤ pos k ≡ negsuc k
-minus-one zero = refl
-minus-one (suc k) = ap (λ (n : ℕ). negsuc (suc n)) (none k)
-  where
-    none : (k : ℕ) → 0 + k ≡ k
-    none k = omega arith
-
-module _ (n : ℕ) where
-  pub of-low : n < 2147483648 → toZ w32 n ≡ signed32 n
-  unfolding signed32
-  of-low h = toZ-pos w32 {n = n} (omega arith) ∙ simp (lt-ltb n 2147483648 h)
-
-  module _ (high : 2147483648 ≤ n) (wide : n ≤ 4294967295) where
-    minus : negsuc 0 -ℤ toZ w32 (4294967295 - n) ≡ negsuc (4294967295 - n)
-    minus = ap (λ (x : ℤ). negsuc 0 -ℤ x) (toZ-pos w32 {n = 4294967295 - n} (omega arith)) ∙ minus-one (4294967295 - n)
-
-    pub minus-fits : SFits w32 (negsuc 0 -ℤ toZ w32 (4294967295 - n))
-    minus-fits = subst (SFits w32) (sym minus) (record { sfits = omega arith })
-
-    pub of-high : toZ w32 (ofZ w32 (negsuc 0 -ℤ toZ w32 (4294967295 - n))) ≡ signed32 n
-    unfolding signed32
-    of-high = toZ-ofZ {w = w32} minus-fits ∙ minus ∙ simp (le-ltb n 2147483648 high)
-
--- ---- a number from its pattern
 pub signed-back : (z : ℤ) → SFits w32 z → signed32 (pattern32 z) ≡ z
 unfolding signed32 pattern32
 signed-back (pos n) f = simp (lt-ltb n 2147483648 (f .sfits))

@@ -8,20 +8,15 @@ use lib.Dec.{eqb}
 use lib.IntN.{ℤ, pos}
 use lib.ListN.{length, getD}
 use Rattle.refusals.specs.Outcome.{Outcome, refusal}
-use Rattle.numerals.specs.little_endian.LittleEndian.{u32At}
-unfoldable pub use Rattle.numerals.specs.little_endian.LittleEndian.{signed32}
+use Rattle.numerals.specs.little_endian.LittleEndian.{u32At, i32At}
 use Rattle.leap_table.specs.declared.rows.AnnouncedRows.{AnnouncedRows}
 use Rattle.leap_table.specs.rows.Table.{Row}
 use Rattle.leap_table.specs.rows.Announced.{least, tableOf}
 
--- the signed number in the four bytes from `at` on
-abbrev pub signedAt : List ℕ → ℕ → ℤ
-signedAt s at = signed32 (u32At s at)
-
--- n of them, one behind the other
+-- n signed numbers, four bytes each, one behind the other
 unfoldable pub signedFrom : List ℕ → ℕ → ℕ → List ℤ
 signedFrom s at zero = []
-signedFrom s at (suc n) = signedAt s at ∷ signedFrom s (at + 4) n
+signedFrom s at (suc n) = i32At s at ∷ signedFrom s (at + 4) n
 
 -- the record in the bytes
 abbrev pub recordIn : List ℕ → AnnouncedRows
@@ -42,4 +37,4 @@ sizeIn s = least (u32At s 0) 16
 
 -- these places of an array hold the numbers from `at` on
 abbrev pub ReadFrom : List ℕ → ℕ → List ℤ → Type 0
-ReadFrom s at l = (i : ℕ) → i < sizeIn s → getD l i (pos 0) ≡ signedAt s (at + 4 * i)
+ReadFrom s at l = (i : ℕ) → i < sizeIn s → getD l i (pos 0) ≡ i32At s (at + 4 * i)

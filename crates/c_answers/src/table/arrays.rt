@@ -3,9 +3,9 @@ ghost use mathlib.Core.Path.{_≡_};
 ghost use Prim.Native.Nat.{ℕ, _+_, _*_, _<_, _≤_};
 ghost use lib.IntN.{pos};
 ghost use lib.ListN.{getD, length};
+ghost use Rattle.numerals.specs.little_endian.LittleEndian.{i32At};
 ghost use Rattle.leap_table.specs.rows.Announced.{rowsIn, unlessRefused};
-ghost use Rattle.c_answers.specs.table.TableBytes.{signedAt, tableBytes};
-use super::i32_of_pattern;
+ghost use Rattle.c_answers.specs.table.TableBytes.{tableBytes};
 use super::lend_none;
 use super::places_of;
 
@@ -16,14 +16,14 @@ pub struct Announced {
 }
 
 // Writes the first `size` numbers from `at` on; the places past them stay.
-fn put_numbers(bytes: &[u8], at: usize, size: usize, numbers: &mut [i32; 16])
+pub(crate) fn put_numbers(bytes: &[u8], at: usize, size: usize, numbers: &mut [i32; 16])
     requires { ⌜ (at < 100) × (size ≤ 16) ⌝ }
     ensures { λ _. ⌜ (length (now (numbers .entry)) ≡ 16 → (i : ℕ) → i < size
-        → getD (now (numbers .exit)) i (pos 0) ≡ signedAt (now (bytes .entry)) (at + 4 * i)) ⌝ }
+        → getD (now (numbers .exit)) i (pos 0) ≡ i32At (now (bytes .entry)) (at + 4 * i)) ⌝ }
 {
     let mut i = 0;
     while i < size {
-        numbers[i] = i32_of_pattern(numerals::little_endian::u32_at(bytes, at + 4 * i));
+        numbers[i] = numerals::little_endian::i32_at(bytes, at + 4 * i);
         i += 1;
     }
 }

@@ -1,5 +1,5 @@
 -- A C caller that lists a block by counting line ends is never refused, makes at most 4,001 calls that return bytes, and has then written the block's listing
--- by the table's rows, whatever they are; by either way of telling, where `InWidth` asks nothing of numbers, and of sentences what every block of bytes has
+-- by the table's rows, whatever they are; by either way of reporting, where `InWidth` asks nothing of numbers, and of sentences what every block of bytes has
 -- (`bytes-width`). 11 is returned exactly where the buffer has not the room of a line. Assumes nothing.
 use Prim.Native.Nat.{ℕ, zero, suc, _+_, _-_, _<_, _≤_}
 use native.Mathlib.Omega.{arith}
@@ -17,25 +17,25 @@ use Rattle.utc.specs.text.Answer.{textWritten, bufferAfter}
 use Rattle.utc.specs.iso_texts.TextCall.{written, bufferHolds}
 use Rattle.leap_table.specs.rows.Table.{Row}
 use Rattle.stamps.specs.Block.{blockOf}
-use Rattle.stamps.specs.declared.Telling.{Telling}
-use Rattle.stamps.specs.declared.Telling.the-variants.{Numbers, Sentences}
+use Rattle.stamps.specs.declared.Reporting.{Reporting}
+use Rattle.stamps.specs.declared.Reporting.the-variants.{Numbers, Sentences}
 use Rattle.stamps.specs.Listing.{lineRoom, listing}
 use Rattle.stamps.specs.Widths.{Wide, InWidth}
 use Rattle.stamps.specs.Parts.{linesIn, linesFrom, partLines, partText}
 use Rattle.stamps.specs.listing_laws.LineEnds.{lineEnds}
 use Rattle.stamps.proofs.Blocks.{few-lines}
 use Rattle.stamps.proofs.Parts.{held-few}
-use Rattle.stamps.proofs.Tellings.{bytes-width}
+use Rattle.stamps.proofs.Reportings.{bytes-width}
 use Rattle.stamps.proofs.listing_laws.Whole.{all-lines}
 use Rattle.stamps.proofs.Lengths.{part-fits, lines-add}
 use Rattle.stamps.proofs.listing_laws.LineEnds.{ends-most, part-ends, part-some}
 use Rattle.c_answers.specs.table.TableBytes.{tableBytes}
 use Rattle.c_answers.specs.Delivery.{code, Delivered}
-use Rattle.capi.specs.table_calls.ListingPart.{listingPart}
+use Rattle.capi.specs.ListingPart.{listingPart}
 use Rattle.capi.specs.laws.ListingCalls.{Listed, begun, next}
 
 -- ---- what one call delivers to a buffer that holds a line
-module _ (how : Telling) (rows : List Row) (s : List ℕ) (line : ℕ) (w : InWidth how s) {before after : List ℕ} {r : ℤ} (enough : lineRoom how ≤ length before)
+module _ (how : Reporting) (rows : List Row) (s : List ℕ) (line : ℕ) (w : InWidth how s) {before after : List ℕ} {r : ℤ} (enough : lineRoom how ≤ length before)
     (d : Delivered (listingPart how rows s line (length before)) before r after) where
   -- the number of the part's bytes: never a refusal
   pub returns-count : r ≡ pos (length (partText how rows s line (length before)))
@@ -51,7 +51,7 @@ module _ (how : Telling) (rows : List Row) (s : List ℕ) (line : ℕ) (w : InWi
       ap (take (length (partText how rows s line (length before)))) e ∙ take-at (partText how rows s line (length before)) _ _ refl
 
 -- ---- 11 is returned exactly where the buffer has not a line's room, and leaves it, as far as the table is taken, which is tested first
-module _ (how : Telling) (table s : List ℕ) (rows : List Row) (line : ℕ) (w : InWidth how s) {before after : List ℕ} {r : ℤ}
+module _ (how : Reporting) (table s : List ℕ) (rows : List Row) (line : ℕ) (w : InWidth how s) {before after : List ℕ} {r : ℤ}
     (taken : tableBytes table ≡ answer rows)
     (d : Delivered (onward (tableBytes table) (λ rows. listingPart how rows s line (length before))) before r after) where
   by-rows : Delivered (listingPart how rows s line (length before)) before r after
@@ -87,26 +87,26 @@ told-room n h table s bytes rows line taken d =
     (too-short (Sentences n) table s rows line w taken d, only-short (Sentences n) table s rows line w taken d)
 
 -- a part with bytes has a line
-some-by : (how : Telling) (rows : List Row) (s : List ℕ) (line k : ℕ) → 0 < length (linesFrom how rows s line k) → 1 ≤ k
+some-by : (how : Reporting) (rows : List Row) (s : List ℕ) (line k : ℕ) → 0 < length (linesFrom how rows s line k) → 1 ≤ k
 unfolding linesFrom
 some-by how rows s line zero h = omega arith
 some-by how rows s line (suc k) h = omega arith
 
-some-lines : (how : Telling) (rows : List Row) (s : List ℕ) (line room : ℕ) → 0 < length (partText how rows s line room) → 1 ≤ partLines how rows s line room
+some-lines : (how : Reporting) (rows : List Row) (s : List ℕ) (line room : ℕ) → 0 < length (partText how rows s line room) → 1 ≤ partLines how rows s line room
 unfolding partText
 some-lines how rows s line room h = some-by how rows s line (partLines how rows s line room) h
 
-lines-left : (how : Telling) (rows : List Row) (s : List ℕ) (line room : ℕ) → partLines how rows s line room ≤ linesIn (blockOf s) - line
+lines-left : (how : Reporting) (rows : List Row) (s : List ℕ) (line room : ℕ) → partLines how rows s line room ≤ linesIn (blockOf s) - line
 unfolding partLines
 lines-left how rows s line room = held-few how rows s line room (linesIn (blockOf s) - line)
 
 -- ---- what the caller has after its calls: all lines before the one that it asks for next
-record Before (how : Telling) (rows : List Row) (s : List ℕ) (calls line : ℕ) (text : List ℕ) : Type 0 where
+record Before (how : Reporting) (rows : List Row) (s : List ℕ) (calls line : ℕ) (text : List ℕ) : Type 0 where
   wrote : text ≡ linesFrom how rows s 0 line
   within : line ≤ linesIn (blockOf s)
   few : calls ≤ line
 
-so-far : {how : Telling} {rows : List Row} {s text : List ℕ} {calls line : ℕ} → InWidth how s → Listed how rows s calls line text
+so-far : {how : Reporting} {rows : List Row} {s text : List ℕ} {calls line : ℕ} → InWidth how s → Listed how rows s calls line text
     → Before how rows s calls line text
 unfolding linesFrom partText
 so-far w begun = record { wrote = refl; within = omega arith; few = omega arith }
@@ -130,12 +130,12 @@ so-far {how} {rows} {s} w (next {calls} {line} {n} {text} {before} {after} l eno
 
 -- ---- what the caller learns
 -- its loop ends: every call that returns bytes brings it on by a line at least, to line 4,001 at most, which 32 bits hold
-pub listed-few : {how : Telling} {rows : List Row} {s text : List ℕ} {calls line : ℕ} → InWidth how s → Listed how rows s calls line text → (calls ≤ line)
+pub listed-few : {how : Reporting} {rows : List Row} {s text : List ℕ} {calls line : ℕ} → InWidth how s → Listed how rows s calls line text → (calls ≤ line)
     × (line ≤ 4001)
 listed-few {how} {rows} {s} w l = let b = so-far w l in (b .few, omega (arith, b .within, few-lines s))
 
 -- and where a call returns 0, what it has written is the whole listing
-pub listed-whole : {how : Telling} {rows : List Row} {s text before after : List ℕ} {calls line : ℕ} → InWidth how s → Listed how rows s calls line text
+pub listed-whole : {how : Reporting} {rows : List Row} {s text before after : List ℕ} {calls line : ℕ} → InWidth how s → Listed how rows s calls line text
     → lineRoom how ≤ length before
     → Delivered (listingPart how rows s line (length before)) before (pos 0) after → text ≡ listing how rows s
 listed-whole {how} {rows} {s} {text} {before} {after} {calls} {line} w l enough d =

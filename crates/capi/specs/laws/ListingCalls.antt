@@ -6,15 +6,15 @@ use mathlib.Core.List.{List, [], _++_}
 use lib.ListN.{length, take}
 use lib.IntN.{pos}
 use Rattle.leap_table.specs.rows.Table.{Row}
-use Rattle.stamps.specs.declared.Telling.{Telling}
+use Rattle.stamps.specs.declared.Reporting.{Reporting}
 use Rattle.stamps.specs.Listing.{lineRoom}
 use Rattle.stamps.specs.listing_laws.LineEnds.{lineEnds}
 use Rattle.c_answers.specs.Delivery.{Delivered}
-use Rattle.capi.specs.table_calls.ListingPart.{listingPart}
+use Rattle.capi.specs.ListingPart.{listingPart}
 
 -- after so many calls that each returned bytes, of a block s, by one table's rows and with buffers that hold a line: the line to ask for next, and what was
 -- written
-pub data Listed (how : Telling) (rows : List Row) (s : List ℕ) : ℕ → ℕ → List ℕ → Type 0 where
+pub data Listed (how : Reporting) (rows : List Row) (s : List ℕ) : ℕ → ℕ → List ℕ → Type 0 where
   begun : Listed how rows s 0 0 []
   next : {calls line n : ℕ} {text before after : List ℕ} → Listed how rows s calls line text → lineRoom how ≤ length before → 0 < n
       → Delivered (listingPart how rows s line (length before)) before (pos n) after

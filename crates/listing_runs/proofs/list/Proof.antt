@@ -5,7 +5,7 @@ use mathlib.Core.Path.{_≡_}
 use Prim.Native.Nat.{_-_, _≤_}
 use borrow.Author.Needs.{needs}
 use native.Mathlib.Omega.{arith}
-use Rattle.stamps.specs.declared.Telling.the-variants.{Numbers}
+use Rattle.stamps.specs.declared.Reporting.the-variants.{Numbers}
 use Rattle.stamps.proofs.Texts.{room-high}
 use Rattle.stamps.proofs.Parts.{part-within, part-brings-on}
 use Rattle.listing_runs.proofs.list.Statement.{statement}

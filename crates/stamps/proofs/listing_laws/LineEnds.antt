@@ -27,10 +27,10 @@ use Rattle.reasons.specs.declared.Values.{Values}
 use Rattle.reasons.specs.Offending.{offending}
 use Rattle.stamps.specs.reason_laws.Printable.{Printable}
 use Rattle.stamps.proofs.reason_laws.Printed.{sentence-printable}
-use Rattle.stamps.specs.declared.Telling.{Telling}
-use Rattle.stamps.specs.declared.Telling.the-variants.{Numbers, Sentences}
+use Rattle.stamps.specs.declared.Reporting.{Reporting}
+use Rattle.stamps.specs.declared.Reporting.the-variants.{Numbers, Sentences}
 use Rattle.stamps.specs.Block.{blockOf}
-use Rattle.stamps.specs.Listing.{refusedWord, utcListingWords, blockWord, lineRoom, told, textAt, refusedValues, shown, stampLine, refusedIn}
+use Rattle.stamps.specs.Listing.{refusedWord, utcListingWords, blockWord, lineRoom, reported, textAt, refusedValues, shown, stampLine, refusedIn}
 use Rattle.stamps.specs.Listing.{header, blockRefused}
 use Rattle.stamps.specs.Parts.{lineOf, linesIn, linesFrom, partLines, partText}
 use Rattle.stamps.specs.listing_laws.LineEnds.{lineEnds}
@@ -94,17 +94,17 @@ printable-none (c ∷ cs) p =
     let none : eqb c 10 ≡ false = ne-eqb c 10 (λ e. (let no : ⊥ = omega arith in no)) in
     rw none (omega (arith, printable-none cs (p .2)))
 
-pub told-none : (how : Telling) (k : ℕ) (v : Values) → lineEnds (told how k v) ≡ 0
-unfolding told lineEnds
-told-none Numbers k v = simp (digits-none 4)
-told-none (Sentences n) k v = printable-none _ (sentence-printable (record { number = k; named = offending k v }))
+pub reported-none : (how : Reporting) (k : ℕ) (v : Values) → lineEnds (reported how k v) ≡ 0
+unfolding reported lineEnds
+reported-none Numbers k v = simp (digits-none 4)
+reported-none (Sentences n) k v = printable-none _ (sentence-printable (record { number = k; named = offending k v }))
 
-module _ (how : Telling) (jd : JulianDate) where
+module _ (how : Reporting) (jd : JulianDate) where
   shown-onward : {A : Type 0} (o : Outcome A) (f : A → Outcome (List ℕ)) → ((a : A) → lineEnds (shown how jd (f a)) ≡ 0)
       → lineEnds (shown how jd (onward o f)) ≡ 0
   unfolding onward shown
   shown-onward (answer a) f h = h a
-  shown-onward (refusal k) f h = told-none how k (refusedValues jd)
+  shown-onward (refusal k) f h = reported-none how k (refusedValues jd)
 
   day-none : (d : CalendarDate) (r : TimeShown) → lineEnds (shown how jd (shownTextBy expandedText d r)) ≡ 0
   unfolding shownTextBy nextMidnightTextBy shown
@@ -128,7 +128,7 @@ words : (lineEnds utcListingWords ≡ 0) × (lineEnds (32 ∷ refusedWord) ≡ 0
 unfolding lineEnds
 words = (refl, refl, refl)
 
-stamp-one : (how : Telling) (rows : List Row) (s : List ℕ) (n i : ℕ) → lineEnds (stampLine how rows s n i) ≡ 1
+stamp-one : (how : Reporting) (rows : List Row) (s : List ℕ) (n i : ℕ) → lineEnds (stampLine how rows s n i) ≡ 1
 unfolding stampLine textAt
 stamp-one how rows s n i = simp (ends-append, digits-none 4, shown-none, blank, end)
 
@@ -136,11 +136,11 @@ header-one : (n k : ℕ) → lineEnds (header n k) ≡ 1
 unfolding header
 header-one n k = simp (ends-append, digits-none 4, words .0, words .1, end)
 
-refused-one : (how : Telling) (s : List ℕ) (k : ℕ) → lineEnds (blockRefused how s k) ≡ 1
+refused-one : (how : Reporting) (s : List ℕ) (k : ℕ) → lineEnds (blockRefused how s k) ≡ 1
 unfolding blockRefused
-refused-one how s k = simp (ends-append, told-none, words .2, end)
+refused-one how s k = simp (ends-append, reported-none, words .2, end)
 
-line-one : (how : Telling) (rows : List Row) (o : Outcome ℕ) (s : List ℕ) (line : ℕ) → lineEnds (lineOf how rows o s line) ≡ 1
+line-one : (how : Reporting) (rows : List Row) (o : Outcome ℕ) (s : List ℕ) (line : ℕ) → lineEnds (lineOf how rows o s line) ≡ 1
 unfolding lineOf
 line-one how rows (refusal k) s line = refused-one how s k
 line-one how rows (answer n) s line = by (eqb line 0)
@@ -149,7 +149,7 @@ line-one how rows (answer n) s line = by (eqb line 0)
     by true = header-one n (refusedIn rows s n n)
     by false = stamp-one how rows s n (line - 1)
 
-lines-ends : (how : Telling) (rows : List Row) (s : List ℕ) (line k : ℕ) → lineEnds (linesFrom how rows s line k) ≡ k
+lines-ends : (how : Reporting) (rows : List Row) (s : List ℕ) (line k : ℕ) → lineEnds (linesFrom how rows s line k) ≡ k
 unfolding linesFrom lineEnds
 lines-ends how rows s line zero = refl
 lines-ends how rows s line (suc k) =
@@ -158,12 +158,12 @@ lines-ends how rows s line (suc k) =
 
 -- ---- what a caller learns of a part by its bytes alone
 -- the line ends of a part are its lines
-pub part-ends : (how : Telling) (rows : List Row) (s : List ℕ) (line room : ℕ) → lineEnds (partText how rows s line room) ≡ partLines how rows s line room
+pub part-ends : (how : Reporting) (rows : List Row) (s : List ℕ) (line room : ℕ) → lineEnds (partText how rows s line room) ≡ partLines how rows s line room
 unfolding partText
 part-ends how rows s line room = lines-ends how rows s line (partLines how rows s line room)
 
 -- where a line is left, the room of a line holds one
-pub part-some : (how : Telling) (rows : List Row) (s : List ℕ) (line room : ℕ) → line < linesIn (blockOf s) → lineRoom how ≤ room
+pub part-some : (how : Reporting) (rows : List Row) (s : List ℕ) (line room : ℕ) → line < linesIn (blockOf s) → lineRoom how ≤ room
     → 1 ≤ partLines how rows s line room
 unfolding partLines
 part-some how rows s line room h enough = held-some how rows s line room (linesIn (blockOf s) - line) enough (omega arith)

@@ -1,5 +1,5 @@
--- A line has at most 33 bytes where numbers are told, and there is one of 33: a block of 1,001 stamps of two zeros is taken, and the line of its last stamp has
--- four digits, a blank, a text of 27 bytes of the year -4713 and the line's end. Where sentences are told a line has at most 64 (`told-line-most` in
+-- A line has at most 33 bytes where numbers are reported, and there is one of 33: a block of 1,001 stamps of two zeros is taken, and the line of its last stamp has
+-- four digits, a blank, a text of 27 bytes of the year -4713 and the line's end. Where sentences are reported a line has at most 64 (`reported-line-most` in
 -- Sentences), and there is one of 64: an input whose length has 20 digits is refused by 14, and names its length. Assumes nothing.
 use Prim.Native.Nat.{ℕ, zero, suc, _<_, _≤_}
 use native.Mathlib.Omega.{arith}
@@ -36,9 +36,9 @@ use Rattle.utc.proofs.laws.DayTexts.{textBy, leapOn, has-text-by}
 use Rattle.reasons.specs.sentences.Texts.{texts, fixedText}
 use Rattle.reasons.specs.Offending.{offending, blockField}
 use Rattle.reasons.specs.sentences.Render.{namedText, render}
-use Rattle.stamps.specs.declared.Telling.the-variants.{Numbers, Sentences}
+use Rattle.stamps.specs.declared.Reporting.the-variants.{Numbers, Sentences}
 use Rattle.stamps.specs.Block.{blockOf, jd1Bits, jd2Bits, stampAt}
-use Rattle.stamps.specs.Listing.{lineRoom, told, came, textAt, shown, stampLine, blockRefused}
+use Rattle.stamps.specs.Listing.{lineRoom, reported, came, textAt, shown, stampLine, blockRefused}
 use Rattle.stamps.specs.Parts.{lineOf}
 use Rattle.stamps.specs.Widths.{Wide}
 use Rattle.stamps.proofs.Lengths.{line-most}
@@ -137,12 +137,12 @@ module _ (z : List ℕ) (many : length z ≡ 64001) where
   refused-14 = rw many refl
 
   line-64 : (rows : List Row) → length (lineOf (Sentences twentyDigits) rows (refusal 14) long 0) ≡ 64
-  unfolding lineOf blockRefused told came render offending blockField namedText fixedText texts digitsIn u32At fourAt
+  unfolding lineOf blockRefused reported came render offending blockField namedText fixedText texts digitsIn u32At fourAt
   line-64 rows = rw (many, ← digits-whole 19 twentyDigits (lit< tt)) refl
 
-pub longest-told : (rows : List Row) → (s : List ℕ) × (n : ℕ) × (n < 18446744073709551616) × (blockOf s ≡ refusal 14)
+pub longest-reported : (rows : List Row) → (s : List ℕ) × (n : ℕ) × (n < 18446744073709551616) × (blockOf s ≡ refusal 14)
     × (length (lineOf (Sentences n) rows (blockOf s) s 0) ≡ 64)
-longest-told rows =
+longest-reported rows =
     let z = noughts 64001 in
     let m = length-replicate {A = ℕ} 64001 0 in
     (long z m, twentyDigits, omega arith, refused-14 z m, rw (refused-14 z m) (line-64 z m rows))

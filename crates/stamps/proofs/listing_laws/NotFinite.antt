@@ -17,11 +17,11 @@ use Rattle.calendar.proofs.NextDates.{first-false}
 use Rattle.leap_table.specs.rows.Table.{Row}
 use Rattle.utc.proofs.laws.Numbers.{not-both}
 use Rattle.utc.proofs.laws.ExpandedTexts.{expanded-not-finite}
-use Rattle.stamps.specs.declared.Telling.{Telling}
-use Rattle.stamps.specs.declared.Telling.the-variants.{Numbers}
+use Rattle.stamps.specs.declared.Reporting.{Reporting}
+use Rattle.stamps.specs.declared.Reporting.the-variants.{Numbers}
 use Rattle.stamps.specs.Block.{blockOf, jd1Bits, jd2Bits, stampAt}
 use Rattle.stamps.specs.listing_laws.NotFinite.{NotFinite, isNotFinite, notFiniteIn, HasText}
-use Rattle.stamps.specs.Listing.{numeral, refusedWord, told, textAt, shown, stampLine, stampLines, oneIfRefused, refusedIn, header, listingOf, listing}
+use Rattle.stamps.specs.Listing.{numeral, refusedWord, reported, textAt, shown, stampLine, stampLines, oneIfRefused, refusedIn, header, listingOf, listing}
 
 no-second : (a b : Bool) → b ≡ false → a && b ≡ false
 no-second true b e = e
@@ -43,7 +43,7 @@ six = refl
 -- `i refused 6`
 pub not-finite-line : (rows : List Row) (s : List ℕ) (n i : ℕ) → NotFinite s n i
     → stampLine Numbers rows s n i ≡ ((numeral i ++ (32 ∷ [])) ++ (refusedWord ++ (54 ∷ []))) ++ (10 ∷ [])
-unfolding stampLine shown told
+unfolding stampLine shown reported
 not-finite-line rows s n i d =
     ap (λ (o : Outcome (List ℕ)). ((numeral i ++ (32 ∷ [])) ++ shown Numbers (stampAt s n i) o) ++ (10 ∷ [])) (not-finite-refused rows s n i d)
     ∙ ap (λ (t : List ℕ). ((numeral i ++ (32 ∷ [])) ++ (refusedWord ++ t)) ++ (10 ∷ [])) six
@@ -97,7 +97,7 @@ only-not-finite rows s n zero f = refl
 only-not-finite rows s n (suc k) f = let before = only-not-finite rows s n k (λ i h. f i (omega arith)) in let one =
     one-each rows s n k (f k (omega arith)) in omega arith
 
-pub not-finite-header : (how : Telling) (rows : List Row) (s : List ℕ) (n : ℕ) → blockOf s ≡ answer n → ((i : ℕ) → i < n → NotFinite s n i ⊎ HasText rows s n i)
+pub not-finite-header : (how : Reporting) (rows : List Row) (s : List ℕ) (n : ℕ) → blockOf s ≡ answer n → ((i : ℕ) → i < n → NotFinite s n i ⊎ HasText rows s n i)
     → listing how rows s ≡ header n (notFiniteIn s n n) ++ stampLines how rows s n n
 unfolding listing listingOf
 not-finite-header how rows s n e f = ap (λ (o : Outcome ℕ). listingOf how rows o s) e

@@ -1,4 +1,4 @@
--- The second listing, with refusals told in sentences: what it has from the first, and what each sentence names. Assumes nothing.
+-- The second listing, with refusals reported in sentences: what it has from the first, and what each sentence names. Assumes nothing.
 use Prim.Native.Nat.{ℕ, _+_, _-_, _*_, _≤_, _<_}
 use native.Mathlib.Omega.{arith}
 use mathlib.Core.Path.{_≡_, refl, sym, ap, _∙_}
@@ -34,36 +34,36 @@ use Rattle.reasons.specs.declared.sentences.Reason.{Reason}
 use Rattle.reasons.specs.Offending.{offending, blockField}
 use Rattle.reasons.specs.sentences.Render.{render}
 use Rattle.reasons.specs.Sentence.{reasonOf}
-use Rattle.stamps.proofs.reason_laws.Names.{year-told, sum-told, second-size-told, size-told, length-told}
-use Rattle.stamps.specs.declared.Telling.{Telling}
-use Rattle.stamps.specs.declared.Telling.the-variants.{Numbers, Sentences}
+use Rattle.stamps.proofs.reason_laws.Names.{year-reported, sum-reported, second-size-reported, size-reported, length-reported}
+use Rattle.stamps.specs.declared.Reporting.{Reporting}
+use Rattle.stamps.specs.declared.Reporting.the-variants.{Numbers, Sentences}
 use Rattle.stamps.specs.Block.{blockOf, stampAt}
-use Rattle.stamps.specs.Listing.{numeral, lineRoom, told, came, textAt, valuesBy, refusedValues, shown, stampLine, blockWord, blockValues}
+use Rattle.stamps.specs.Listing.{numeral, lineRoom, reported, came, textAt, valuesBy, refusedValues, shown, stampLine, blockWord, blockValues}
 use Rattle.stamps.specs.Listing.{blockRefused, listingOf, listing}
 use Rattle.stamps.specs.Parts.{lineOf}
-use Rattle.stamps.proofs.Tellings.{bytes-width}
+use Rattle.stamps.proofs.Reportings.{bytes-width}
 use Rattle.stamps.proofs.Lengths.{line-most}
 use Rattle.stamps.specs.listing_laws.NotFinite.{NotFinite}
 use Rattle.stamps.proofs.listing_laws.NotFinite.{not-finite-refused}
 
 -- ---- what the two listings share
 -- the header
-pub header-shared : (how other : Telling) (rows : List Row) (s : List ℕ) (n : ℕ) → blockOf s ≡ answer n
+pub header-shared : (how other : Reporting) (rows : List Row) (s : List ℕ) (n : ℕ) → blockOf s ≡ answer n
     → lineOf how rows (blockOf s) s 0 ≡ lineOf other rows (blockOf s) s 0
 unfolding lineOf
 header-shared how other rows s n e = rw e refl
 
 -- and the line of every stamp that has a text
-pub text-line-shared : (how other : Telling) (rows : List Row) (s : List ℕ) (n i : ℕ) (t : List ℕ) → textAt rows s n i ≡ answer t
+pub text-line-shared : (how other : Reporting) (rows : List Row) (s : List ℕ) (n i : ℕ) (t : List ℕ) → textAt rows s n i ≡ answer t
     → stampLine how rows s n i ≡ stampLine other rows s n i
 unfolding stampLine shown
 text-line-shared how other rows s n i t e = rw e refl
 
 -- ---- every line has at most 64 bytes, of every block of bytes and however many of 64 bits came
-pub told-line-most : (n : ℕ) → n < 18446744073709551616 → (rows : List Row) (s : List ℕ) → ((k : ℕ) → getD s k 0 < 256) → (line : ℕ)
+pub reported-line-most : (n : ℕ) → n < 18446744073709551616 → (rows : List Row) (s : List ℕ) → ((k : ℕ) → getD s k 0 < 256) → (line : ℕ)
     → length (lineOf (Sentences n) rows (blockOf s) s line) ≤ 64
 unfolding lineRoom
-told-line-most n h rows s bytes line = line-most (Sentences n) rows (blockOf s) s line (bytes-width n s h bytes)
+reported-line-most n h rows s bytes line = line-most (Sentences n) rows (blockOf s) s line (bytes-width n s h bytes)
 
 -- ---- which field a sentence names
 -- the sentence of a number with its field
@@ -119,7 +119,7 @@ module _ (rows : List Row) (jd : JulianDate) where
       go : Which jd 6
           → offending 6 (refusedValues jd) ≡ Sum (roundedSum jd)
       go (inl (q, p)) = ap (λ (o : Outcome CalendarFields). offending 6 (valuesBy jd o)) p
-          ∙ same-field (sum-told (jd .jd1) (jd .jd2) (no-day (jd .jd1) (jd .jd2) p))
+          ∙ same-field (sum-reported (jd .jd1) (jd .jd2) (no-day (jd .jd1) (jd .jd2) p))
       go (inr (q, r)) = absurd (let z : ⊥ = omega arith in z)
 
   year-named : isoTextExpanded rows jd ≡ refusal 1 → (c : CalendarFields) × (julianToCalendar (jd .jd1) (jd .jd2) ≡ answer c)
@@ -134,7 +134,7 @@ module _ (rows : List Row) (jd : JulianDate) where
         c,
         p,
         ap (λ (o : Outcome CalendarFields). offending 1 (valuesBy jd o)) p
-            ∙ same-field (year-told (c .date .year) (pos (c .date .month)) (pos (c .date .day)) v),
+            ∙ same-field (year-reported (c .date .year) (pos (c .date .month)) (pos (c .date .day)) v),
       )
 
 -- the line of a stamp whose refusal tells this sentence
@@ -142,17 +142,17 @@ abbrev sentenceLine : ℕ → ℕ → Named → List ℕ
 sentenceLine i k f = ((numeral i ++ (32 ∷ [])) ++ sentenceOf k f) ++ (10 ∷ [])
 
 module _ (m : ℕ) (rows : List Row) (s : List ℕ) (n i : ℕ) where
-  told-line : (k : ℕ) (f : Named) → textAt rows s n i ≡ refusal k → offending k (refusedValues (stampAt s n i)) ≡ f
+  reported-line : (k : ℕ) (f : Named) → textAt rows s n i ≡ refusal k → offending k (refusedValues (stampAt s n i)) ≡ f
       → stampLine (Sentences m) rows s n i ≡ sentenceLine i k f
-  unfolding stampLine shown told
-  told-line k f e q =
+  unfolding stampLine shown reported
+  reported-line k f e q =
       ap (λ (o : Outcome (List ℕ)). ((numeral i ++ (32 ∷ [])) ++ shown (Sentences m) (stampAt s n i) o) ++ (10 ∷ [])) e
       ∙ ap (sentenceLine i k) q
 
   -- a stamp that is refused by 6 names the rounded sum of its own parts
   pub sum-line : textAt rows s n i ≡ refusal 6 → stampLine (Sentences m) rows s n i ≡ sentenceLine i 6 (Sum (roundedSum (stampAt s n i)))
   unfolding textAt
-  sum-line e = told-line 6 _ e (sum-named rows (stampAt s n i) e)
+  sum-line e = reported-line 6 _ e (sum-named rows (stampAt s n i) e)
 
   -- so does every stamp that is not finite
   pub not-finite-sum : NotFinite s n i → stampLine (Sentences m) rows s n i ≡ sentenceLine i 6 (Sum (roundedSum (stampAt s n i)))
@@ -163,30 +163,30 @@ module _ (m : ℕ) (rows : List Row) (s : List ℕ) (n i : ℕ) where
       → (c : CalendarFields) × (julianToCalendar (stampAt s n i .jd1) (stampAt s n i .jd2) ≡ answer c)
       × (stampLine (Sentences m) rows s n i ≡ sentenceLine i 1 (Year (c .date .year)))
   unfolding textAt
-  year-line e = let (c, p, q) = year-named rows (stampAt s n i) e in (c, p, told-line 1 _ e q)
+  year-line e = let (c, p, q) = year-named rows (stampAt s n i) e in (c, p, reported-line 1 _ e q)
 
 -- ---- a block
 module _ (m : ℕ) (rows : List Row) (s : List ℕ) (line : ℕ) where
   block-line : (k : ℕ) (f : Named) → blockOf s ≡ refusal k → offending k (blockValues (Sentences m) s) ≡ f
       → lineOf (Sentences m) rows (blockOf s) s line ≡ (blockWord ++ sentenceOf k f) ++ (10 ∷ [])
-  unfolding lineOf blockRefused told
+  unfolding lineOf blockRefused reported
   block-line k f e q = ap (λ (o : Outcome ℕ). lineOf (Sentences m) rows o s line) e ∙ ap (λ (x : Named). (blockWord ++ sentenceOf k x) ++ (10 ∷ [])) q
 
   -- 12 names the block's second size, 13 its size
   pub second-size-line : blockOf s ≡ refusal 12 → lineOf (Sentences m) rows (blockOf s) s line ≡ (blockWord ++ sentenceOf 12 (SecondSize (u32At s 4)))
       ++ (10 ∷ [])
   unfolding reasonOf offending blockField
-  second-size-line e = block-line 12 _ e (same-field (second-size-told s e))
+  second-size-line e = block-line 12 _ e (same-field (second-size-reported s e))
 
   pub size-line : blockOf s ≡ refusal 13 → lineOf (Sentences m) rows (blockOf s) s line ≡ (blockWord ++ sentenceOf 13 (Size (u32At s 0))) ++ (10 ∷ [])
   unfolding reasonOf offending blockField
-  size-line e = block-line 13 _ e (same-field (size-told s e))
+  size-line e = block-line 13 _ e (same-field (size-reported s e))
 
 -- 14 names how many bytes came
 pub length-line : (rows : List Row) (s : List ℕ) (line : ℕ) → blockOf s ≡ refusal 14
     → lineOf (Sentences (length s)) rows (blockOf s) s line ≡ (blockWord ++ sentenceOf 14 (WholeLength (length s))) ++ (10 ∷ [])
 unfolding reasonOf came
-length-line rows s line e = block-line (length s) rows s line 14 _ e (same-field (length-told s e))
+length-line rows s line e = block-line (length s) rows s line 14 _ e (same-field (length-reported s e))
 
 -- ---- an input that is longer than any block: its first 64,009 bytes are listed as all of it
 size-cut : (s : List ℕ) (at : ℕ) → at ≤ 4 → 64009 < length s → u32At (take 64009 s) at ≡ u32At s at
@@ -218,12 +218,12 @@ long-block s l = rw (le-ltb (length s) 8 (omega arith)) (go (eqb (u32At s 0) (u3
         let few : u32At s 0 ≤ 4000 = leb-true _ _ e in
         rw (ne-eqb (length s) (8 + 16 * u32At s 0) (λ same. (let no : ⊥ = omega arith in no))) refl
 
-refused-alike : (how : Telling) (s t : List ℕ) (k : ℕ) → u32At s 0 ≡ u32At t 0 → u32At s 4 ≡ u32At t 4 → blockRefused how s k ≡ blockRefused how t k
-unfolding blockRefused told came
+refused-alike : (how : Reporting) (s t : List ℕ) (k : ℕ) → u32At s 0 ≡ u32At t 0 → u32At s 4 ≡ u32At t 4 → blockRefused how s k ≡ blockRefused how t k
+unfolding blockRefused reported came
 refused-alike Numbers s t k p q = refl
-refused-alike (Sentences n) s t k p q = λ i. (blockWord ++ told (Sentences n) k (Block n (p i) (q i))) ++ (10 ∷ [])
+refused-alike (Sentences n) s t k p q = λ i. (blockWord ++ reported (Sentences n) k (Block n (p i) (q i))) ++ (10 ∷ [])
 
-pub cut-listing : (how : Telling) (rows : List Row) (s : List ℕ) → listing how rows (take 64009 s) ≡ listing how rows s
+pub cut-listing : (how : Reporting) (rows : List Row) (s : List ℕ) → listing how rows (take 64009 s) ≡ listing how rows s
 unfolding listing listingOf
 cut-listing how rows s = go (leb (length s) 64009) refl
   where

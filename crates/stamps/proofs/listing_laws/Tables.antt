@@ -20,7 +20,7 @@ use Rattle.julian.proofs.Dates.{date-in-range}
 use Rattle.utc.proofs.iso_texts.TextCalls.{fields-refused-by, fields-given-by}
 use Rattle.utc.proofs.laws.DayTexts.{text-refused-by, has-text-by}
 use Rattle.utc.proofs.laws.Numbers.{not-both, one-number, date-refusal}
-use Rattle.stamps.specs.declared.Telling.{Telling}
+use Rattle.stamps.specs.declared.Reporting.{Reporting}
 use Rattle.stamps.specs.declared.Part.{Part}
 use Rattle.stamps.specs.declared.LinesAnswer.{LinesAnswer}
 use Rattle.stamps.specs.declared.LinesAnswer.the-variants.{Lines, Refused}
@@ -69,7 +69,7 @@ count-alike a b s n (suc k) =
     omega arith
 
 -- and the header, which is written without a look at the table, is right for each
-pub header-alike : (how : Telling) (a b : List Row) (s : List ℕ) → lineOf how a (blockOf s) s 0 ≡ lineOf how b (blockOf s) s 0
+pub header-alike : (how : Reporting) (a b : List Row) (s : List ℕ) → lineOf how a (blockOf s) s 0 ≡ lineOf how b (blockOf s) s 0
 unfolding lineOf
 header-alike how a b s = go (blockOf s)
   where
@@ -78,12 +78,12 @@ header-alike how a b s = go (blockOf s)
     go (refusal k) = refl
 
 -- the lines of stamps that are refused too
-pub refused-lines-alike : (how : Telling) (a b : List Row) (s : List ℕ) (n i k : ℕ) → textAt a s n i ≡ refusal k → stampLine how a s n i ≡ stampLine how b s n i
+pub refused-lines-alike : (how : Reporting) (a b : List Row) (s : List ℕ) (n i k : ℕ) → textAt a s n i ≡ refusal k → stampLine how a s n i ≡ stampLine how b s n i
 unfolding stampLine
 refused-lines-alike how a b s n i k e = rw (e, refused-alike a b s n i k e)
 
 -- ---- a call: what it does with a table that is taken, and with one that is refused
-module _ {how : Telling} {table : Outcome (List Row)} {s before after : List ℕ} {line : ℕ} {r : LinesAnswer}
+module _ {how : Reporting} {table : Outcome (List Row)} {s before after : List ℕ} {line : ℕ} {r : LinesAnswer}
     (c : PartCall how table s line before r after) where
   pub part-of-taken : (rows : List Row) → table ≡ answer rows → (p : Part) × (r ≡ Lines p) × PartPlaced how rows s line before p after
   unfolding linesOutcome scratchHolds onward
@@ -115,6 +115,6 @@ module _ {how : Telling} {table : Outcome (List Row)} {s before after : List ℕ
 
 -- with no announced rows, whatever the places hold, every byte is that of the fixed table
 pub part-without-rows : (t : AnnouncedRows) → t .«months_size» ≡ 0 → t .«seconds_size» ≡ 0
-    → {how : Telling} {s before after : List ℕ} {line : ℕ} {r : LinesAnswer}
+    → {how : Reporting} {s before after : List ℕ} {line : ℕ} {r : LinesAnswer}
     → PartCall how (tableOf t) s line before r after → (p : Part) × (r ≡ Lines p) × PartPlaced how fixed s line before p after
 part-without-rows t m z c = part-of-taken c fixed (table-none t m z)

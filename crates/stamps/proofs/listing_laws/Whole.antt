@@ -1,5 +1,5 @@
 -- The parts, one after the other, are the whole listing, for every block, every table of rows and every scratch of at least a line's room, 33 bytes, and 64
--- where sentences are told: what a program writes that asks for parts until one is the last. Assumes nothing.
+-- where sentences are reported: what a program writes that asks for parts until one is the last. Assumes nothing.
 use Prim.Native.Nat.{ℕ, zero, suc, _+_, _-_, _<_, _≤_, zero-le}
 use native.Mathlib.Omega.{arith}
 use native.Mathlib.Numerals.{add-one}
@@ -11,7 +11,7 @@ use lib.Dec.{ltb}
 use borrow.Author.Tests.{ltb-true, ltb-false, leb-true, le-leb, ne-eqb}
 use Rattle.refusals.specs.Outcome.{Outcome, answer, refusal}
 use Rattle.leap_table.specs.rows.Table.{Row, fixed}
-use Rattle.stamps.specs.declared.Telling.{Telling}
+use Rattle.stamps.specs.declared.Reporting.{Reporting}
 use Rattle.stamps.specs.Block.{blockOf}
 use Rattle.stamps.specs.Listing.{lineRoom, header, refusedIn, stampLine, stampLines, listingOf, listing}
 use Rattle.stamps.specs.Parts.{lineOf, linesIn, linesFrom, heldLines, partLines, partText, partOf, lineAfter, partsJoined}
@@ -19,7 +19,7 @@ use Rattle.stamps.proofs.Parts.{held-few, held-some}
 use Rattle.stamps.proofs.Lengths.{lines-add}
 
 -- ---- all lines are the listing
-module _ (how : Telling) (rows : List Row) (s : List ℕ) (n : ℕ) (is : blockOf s ≡ answer n) where
+module _ (how : Reporting) (rows : List Row) (s : List ℕ) (n : ℕ) (is : blockOf s ≡ answer n) where
   header-first : lineOf how rows (blockOf s) s (0 + 0) ≡ header n (refusedIn rows s n n)
   unfolding lineOf
   header-first = rw is refl
@@ -39,17 +39,17 @@ module _ (how : Telling) (rows : List Row) (s : List ℕ) (n : ℕ) (is : blockO
       ∙ ap (λ (l : List ℕ). (header n (refusedIn rows s n n) ++ stampLines how rows s n k) ++ l) (stamp-next k)
       ∙ append-assoc (header n (refusedIn rows s n n)) (stampLines how rows s n k) (stampLine how rows s n k)
 
-all-lines-by : (how : Telling) (rows : List Row) (s : List ℕ) (o : Outcome ℕ) → blockOf s ≡ o → linesFrom how rows s 0 (linesIn o) ≡ listingOf how rows o s
+all-lines-by : (how : Reporting) (rows : List Row) (s : List ℕ) (o : Outcome ℕ) → blockOf s ≡ o → linesFrom how rows s 0 (linesIn o) ≡ listingOf how rows o s
 unfolding linesIn listingOf linesFrom lineOf
 all-lines-by how rows s (answer n) is = ap (linesFrom how rows s 0) (add-one n) ∙ lines-are how rows s n is n
 all-lines-by how rows s (refusal k) is = rw is refl
 
-pub all-lines : (how : Telling) (rows : List Row) (s : List ℕ) → linesFrom how rows s 0 (linesIn (blockOf s)) ≡ listing how rows s
+pub all-lines : (how : Reporting) (rows : List Row) (s : List ℕ) → linesFrom how rows s 0 (linesIn (blockOf s)) ≡ listing how rows s
 unfolding listing
 all-lines how rows s = all-lines-by how rows s (blockOf s) refl
 
 -- ---- the parts
-module _ (how : Telling) (rows : List Row) (s : List ℕ) where
+module _ (how : Reporting) (rows : List Row) (s : List ℕ) where
   module _ (room : ℕ) where
     parts-are : (k : ℕ) → partsJoined how rows s room k ≡ linesFrom how rows s 0 (lineAfter how rows s room k)
     unfolding partsJoined lineAfter partText linesFrom
@@ -98,7 +98,7 @@ module _ (how : Telling) (rows : List Row) (s : List ℕ) where
       whole k h = whole-when-done k (reached k (linesIn (blockOf s)) (omega arith) h)
 
 -- ---- two scratches write the same: any two that hold a line, after as many parts as there are lines
-module _ (how : Telling) (rows : List Row) (s : List ℕ) (a b : ℕ) where
+module _ (how : Reporting) (rows : List Row) (s : List ℕ) (a b : ℕ) where
   pub parts-alike : lineRoom how ≤ a → lineRoom how ≤ b → (j k : ℕ) → linesIn (blockOf s) ≤ j → linesIn (blockOf s) ≤ k
       → partsJoined how rows s a j ≡ partsJoined how rows s b k
   parts-alike ha hb j k hj hk = whole how rows s a ha j hj ∙ sym (whole how rows s b hb k hk)
@@ -109,13 +109,13 @@ module _ (how : Telling) (rows : List Row) (s : List ℕ) (a b : ℕ) where
   last-alike j k ej ek = whole-at-last how rows s a j ej ∙ sym (whole-at-last how rows s b k ek)
 
 -- document 02's item 12: what a program writes through 64 bytes is what it wrote through 4,096, with the fixed table and of every block, refused ones included
-pub sixty-four : (how : Telling) (s : List ℕ) (j k : ℕ) → partOf how fixed s (lineAfter how fixed s 64 j) 64 .done ≡ true
+pub sixty-four : (how : Reporting) (s : List ℕ) (j k : ℕ) → partOf how fixed s (lineAfter how fixed s 64 j) 64 .done ≡ true
     → partOf how fixed s (lineAfter how fixed s 4096 k) 4096 .done ≡ true
     → partsJoined how fixed s 64 (suc j) ≡ partsJoined how fixed s 4096 (suc k)
 sixty-four how s = last-alike how fixed s 64 4096
 
 -- the last part comes: after as many parts as there are lines, or sooner
-pub comes-to-last : (how : Telling) (rows : List Row) (s : List ℕ) (room : ℕ) → lineRoom how ≤ room
+pub comes-to-last : (how : Reporting) (rows : List Row) (s : List ℕ) (room : ℕ) → lineRoom how ≤ room
     → partOf how rows s (lineAfter how rows s room (linesIn (blockOf s))) room .done ≡ true
 unfolding partOf
 comes-to-last how rows s room enough =

@@ -118,17 +118,17 @@ abbrev no-day : ℤ → ℤ → ℤ → Bool
 no-day y m d = ltZ d (pos 1) || ltZ (pos (daysInMonth y m)) d
 
 module _ (y m d : ℤ) where
-  pub year-told : validDate y m d ≡ refusal 1 → reasonOf 1 (Date y m d) ≡ names 1 (Year y)
+  pub year-reported : validDate y m d ≡ refusal 1 → reasonOf 1 (Date y m d) ≡ names 1 (Year y)
   unfolding validDate reasonOf offending dateField yearField
-  year-told e = rw (by-year (early y) (no-month m) (no-day y m d) e)
+  year-reported e = rw (by-year (early y) (no-month m) (no-day y m d) e)
 
-  pub month-told : validDate y m d ≡ refusal 2 → reasonOf 2 (Date y m d) ≡ names 2 (Month m)
+  pub month-reported : validDate y m d ≡ refusal 2 → reasonOf 2 (Date y m d) ≡ names 2 (Month m)
   unfolding validDate reasonOf offending dateField monthField
-  month-told e = rw (by-month (early y) (no-month m) (no-day y m d) e)
+  month-reported e = rw (by-month (early y) (no-month m) (no-day y m d) e)
 
-  pub day-told : validDate y m d ≡ refusal 3 → reasonOf 3 (Date y m d) ≡ names 3 (Day d)
+  pub day-reported : validDate y m d ≡ refusal 3 → reasonOf 3 (Date y m d) ≡ names 3 (Day d)
   unfolding validDate reasonOf offending dateField dayField
-  day-told e = rw (by-day (early y) (no-month m) (no-day y m d) e)
+  day-reported e = rw (by-day (early y) (no-month m) (no-day y m d) e)
 
   -- a date that is taken names none, by whatever number
   pub date-passes : (k : ℕ) → validDate y m d ≡ answer tt → offending k (Date y m d) ≡ NoField
@@ -139,18 +139,18 @@ module _ (y m d : ℤ) where
 
 -- ---- 4: a time, by the first of its fields that is wrong
 module _ (hour minute : ℕ) (second leap : Float) where
-  pub hour-told : 23 < hour → reasonOf 4 (Time hour minute second leap) ≡ names 4 (Hour hour)
+  pub hour-reported : 23 < hour → reasonOf 4 (Time hour minute second leap) ≡ names 4 (Hour hour)
   unfolding reasonOf offending
-  hour-told h = ap (names 4) (sym (hour-wrong hour minute second leap h))
+  hour-reported h = ap (names 4) (sym (hour-wrong hour minute second leap h))
 
-  pub minute-told : hour ≤ 23 → 59 < minute → reasonOf 4 (Time hour minute second leap) ≡ names 4 (Minute minute)
+  pub minute-reported : hour ≤ 23 → 59 < minute → reasonOf 4 (Time hour minute second leap) ≡ names 4 (Minute minute)
   unfolding reasonOf offending
-  minute-told h m = ap (names 4) (sym (minute-wrong hour minute second leap h m))
+  minute-reported h m = ap (names 4) (sym (minute-wrong hour minute second leap h m))
 
-  pub second-told : dayFraction hour minute second leap ≡ refusal 4 → hour ≤ 23 → minute ≤ 59
+  pub second-reported : dayFraction hour minute second leap ≡ refusal 4 → hour ≤ 23 → minute ≤ 59
       → reasonOf 4 (Time hour minute second leap) ≡ names 4 (Second second)
   unfolding reasonOf offending dayFraction timeField
-  second-told e h m = rw (le-leb hour 23 h, le-leb minute 59 m, tested _ 4 (timeInDay hour minute second leap) e)
+  second-reported e h m = rw (le-leb hour 23 h, le-leb minute 59 m, tested _ 4 (timeInDay hour minute second leap) e)
 
   -- a time that is taken names none
   pub time-passes : (x : Float) → dayFraction hour minute second leap ≡ answer x → timeField hour minute second leap ≡ NoField
@@ -166,9 +166,9 @@ module _ (hour minute : ℕ) (second leap : Float) where
 
 -- ---- 6: the rounded sum of the parts
 module _ (a b : Float) where
-  pub sum-told : dayNumberAndFraction a b ≡ refusal 6 → reasonOf 6 (Parts a b) ≡ names 6 (Sum (roundedSum (julian a b)))
+  pub sum-reported : dayNumberAndFraction a b ≡ refusal 6 → reasonOf 6 (Parts a b) ≡ names 6 (Sum (roundedSum (julian a b)))
   unfolding reasonOf offending partsField sumField dayNumberAndFraction accepted roundedSum
-  sum-told e = rw (tested _ 6 (inJulianRange (add binary64 a b)) e)
+  sum-reported e = rw (tested _ 6 (inJulianRange (add binary64 a b)) e)
 
   pub sum-passes : (n : DayNumber) → dayNumberAndFraction a b ≡ answer n → offending 6 (Parts a b) ≡ NoField
   unfolding offending partsField sumField dayNumberAndFraction accepted roundedSum
@@ -184,9 +184,9 @@ after-date f g false false true x k e = omega (arith, other e)
 after-date f g false false false x k e = absurd (no-answer e)
 
 module _ (rows : List Row) (y m d : ℤ) (x : Float) where
-  pub fraction-told : taiUtcOffset rows y m d x ≡ refusal 7 → reasonOf 7 (Number x) ≡ names 7 (Fraction x)
+  pub fraction-reported : taiUtcOffset rows y m d x ≡ refusal 7 → reasonOf 7 (Number x) ≡ names 7 (Fraction x)
   unfolding reasonOf offending floatField taiUtcOffset mjdOf validDate
-  fraction-told e = rw (outside (inDay x) refl)
+  fraction-reported e = rw (outside (inDay x) refl)
     where
       not-seven : onward (mjdOf y m d) (λ n. answer (offsetAt rows (monthNumber y (natAbs m)) (ofInt binary64 n) x)) ≡ refusal 7 → ⊥
       not-seven q =
@@ -209,9 +209,9 @@ module _ (rows : List Row) (y m d : ℤ) (x : Float) where
 
 -- ---- 8: the nanoseconds
 module _ (n : ℕ) where
-  pub nanos-told : ltb n 1000000000 ≡ false → reasonOf 8 (Count n) ≡ names 8 (Nanos n)
+  pub nanos-reported : ltb n 1000000000 ≡ false → reasonOf 8 (Count n) ≡ names 8 (Nanos n)
   unfolding reasonOf offending nanosField
-  nanos-told e = rw e
+  nanos-reported e = rw e
 
   pub nanos-pass : ltb n 1000000000 ≡ true → offending 8 (Count n) ≡ NoField
   unfolding offending nanosField
@@ -246,8 +246,8 @@ module _ (rows : List Row) (unix : ℤ) (nanos : ℕ) where
       go false p = p
       go true p = absurd (by-day p (julianToCalendar unixEpochJd u) refl)
 
-  pub unix-nanos-told : utcNew rows unix nanos ≡ refusal 8 → reasonOf 8 (Count nanos) ≡ names 8 (Nanos nanos)
-  unix-nanos-told e = nanos-told nanos (by-nanos e)
+  pub unix-nanos-reported : utcNew rows unix nanos ≡ refusal 8 → reasonOf 8 (Count nanos) ≡ names 8 (Nanos nanos)
+  unix-nanos-reported e = nanos-reported nanos (by-nanos e)
 
   pub unix-nanos-pass : (d : JulianDate) → utcNew rows unix nanos ≡ answer d → offending 8 (Count nanos) ≡ NoField
   unix-nanos-pass d e = go (ltb nanos 1000000000) refl
@@ -258,11 +258,11 @@ module _ (rows : List Row) (unix : ℤ) (nanos : ℕ) where
 
 -- ---- 9: the first part that is not finite
 module _ (d : JulianDate) where
-  pub part-told : finiteJd d ≡ refusal 9
+  pub part-reported : finiteJd d ≡ refusal 9
       → ((finite (d .jd1) ≡ false) × (reasonOf 9 (Parts (d .jd1) (d .jd2)) ≡ names 9 (FirstPart (d .jd1))))
       ⊎ ((finite (d .jd1) ≡ true) × (reasonOf 9 (Parts (d .jd1) (d .jd2)) ≡ names 9 (SecondPart (d .jd2))))
   unfolding reasonOf offending partsField partField finiteJd
-  part-told e = go (finite (d .jd1)) (finite (d .jd2)) refl refl (tested d 9 (finite (d .jd1) && finite (d .jd2)) e)
+  part-reported e = go (finite (d .jd1)) (finite (d .jd2)) refl refl (tested d 9 (finite (d .jd1) && finite (d .jd2)) e)
     where
       go : (a b : Bool) → finite (d .jd1) ≡ a → finite (d .jd2) ≡ b → finite (d .jd1) && finite (d .jd2) ≡ false
           → ((finite (d .jd1) ≡ false) × (reasonOf 9 (Parts (d .jd1) (d .jd2)) ≡ names 9 (FirstPart (d .jd1))))
@@ -282,9 +282,9 @@ module _ (d : JulianDate) where
 
 -- ---- 10: the offset
 module _ (x : Float) where
-  pub offset-told : finiteArg x ≡ refusal 10 → reasonOf 10 (Number x) ≡ names 10 (Offset x)
+  pub offset-reported : finiteArg x ≡ refusal 10 → reasonOf 10 (Number x) ≡ names 10 (Offset x)
   unfolding reasonOf offending floatField finiteArg
-  offset-told e = rw (tested x 10 (finite x) e)
+  offset-reported e = rw (tested x 10 (finite x) e)
 
   pub offset-passes : finiteArg x ≡ answer x → offending 10 (Number x) ≡ NoField
   unfolding offending floatField finiteArg
@@ -322,17 +322,17 @@ by-none-of n x false true false d e = absurd (no-refusal e)
 by-none-of n x false false c d e = absurd (no-refusal e)
 
 module _ (s : List ℕ) where
-  pub second-size-told : blockOf s ≡ refusal 12 → reasonOf 12 (Block (length s) (u32At s 0) (u32At s 4)) ≡ names 12 (SecondSize (u32At s 4))
+  pub second-size-reported : blockOf s ≡ refusal 12 → reasonOf 12 (Block (length s) (u32At s 0) (u32At s 4)) ≡ names 12 (SecondSize (u32At s 4))
   unfolding reasonOf offending blockField blockOf
-  second-size-told e = rw (by-sizes (u32At s 0) (ltb (length s) 8) (eqb (u32At s 0) (u32At s 4)) (leb (u32At s 0) 4000) (eqb (length s) (8 + 16 * u32At s 0)) e)
+  second-size-reported e = rw (by-sizes (u32At s 0) (ltb (length s) 8) (eqb (u32At s 0) (u32At s 4)) (leb (u32At s 0) 4000) (eqb (length s) (8 + 16 * u32At s 0)) e)
 
-  pub size-told : blockOf s ≡ refusal 13 → reasonOf 13 (Block (length s) (u32At s 0) (u32At s 4)) ≡ names 13 (Size (u32At s 0))
+  pub size-reported : blockOf s ≡ refusal 13 → reasonOf 13 (Block (length s) (u32At s 0) (u32At s 4)) ≡ names 13 (Size (u32At s 0))
   unfolding reasonOf offending blockField blockOf
-  size-told e = rw (by-size (u32At s 0) (ltb (length s) 8) (eqb (u32At s 0) (u32At s 4)) (leb (u32At s 0) 4000) (eqb (length s) (8 + 16 * u32At s 0)) e)
+  size-reported e = rw (by-size (u32At s 0) (ltb (length s) 8) (eqb (u32At s 0) (u32At s 4)) (leb (u32At s 0) 4000) (eqb (length s) (8 + 16 * u32At s 0)) e)
 
-  pub length-told : blockOf s ≡ refusal 14 → reasonOf 14 (Block (length s) (u32At s 0) (u32At s 4)) ≡ names 14 (WholeLength (length s))
+  pub length-reported : blockOf s ≡ refusal 14 → reasonOf 14 (Block (length s) (u32At s 0) (u32At s 4)) ≡ names 14 (WholeLength (length s))
   unfolding reasonOf offending blockField blockOf
-  length-told e = rw (wrong (by-length (u32At s 0) (ltb (length s) 8) (eqb (u32At s 0) (u32At s 4)) (leb (u32At s 0) 4000)
+  length-reported e = rw (wrong (by-length (u32At s 0) (ltb (length s) 8) (eqb (u32At s 0) (u32At s 4)) (leb (u32At s 0) 4000)
       (eqb (length s) (8 + 16 * u32At s 0)) e))
     where
       wrong : (ltb (length s) 8 ≡ true) ⊎ (eqb (length s) (8 + 16 * u32At s 0) ≡ false) → eqb (length s) (8 + 16 * u32At s 0) ≡ false

@@ -16,9 +16,10 @@ returns c = too-short (calendarBytes (c .before .before .before .args .shown)) (
 returns-2 : tie.Need-returns-2
 unfolding calendarBytes dateBytes
 returns-2 c =
-    let a = c .before .before .before .before .before .before .before .before .before .before .args in
+    let back = c .before .before .before .before .before .before .before .before in
+    let a = back .before .before .args in
     in-two (dateBytes (a .shown .date)) (floatBytes (a .shown .fraction)) (now (a .out)) _ _ 12 20 refl refl
-    (c .before .before .before .before .before .before .before .before .if1 .left) (c .before .before .before .before .before .before .put-date .ensures)
+    (back .if1 .left) (c .before .before .before .before .before .before .put-date .ensures)
     (c .before .before .put-float .ensures)
 
 pub put-calendar-spec : {M : Type 1} → statement M

@@ -17,9 +17,10 @@ returns c = too-short (julianRuleBytes (c .before .before .before .args .date, c
 returns-2 : tie.Need-returns-2
 unfolding julianRuleBytes julianBytes
 returns-2 c =
-    let a = c .before .before .before .before .before .before .before .before .before .before .args in
+    let back = c .before .before .before .before .before .before .before .before in
+    let a = back .before .before .args in
     in-two (julianBytes (a .date)) (ruleBytes (a .rule)) (now (a .out)) _ _ 16 24 refl refl
-    (c .before .before .before .before .before .before .before .before .if1 .left)
+    (back .if1 .left)
     (c .before .before .before .before .before .before .put-julian .ensures) (c .before .before .put-rule .ensures)
 
 pub put-julian-by-rule-spec : {M : Type 1} → statement M

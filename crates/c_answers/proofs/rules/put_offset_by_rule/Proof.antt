@@ -17,9 +17,10 @@ returns c = too-short (offsetRuleBytes (c .before .before .before .args .seconds
 returns-2 : tie.Need-returns-2
 unfolding offsetRuleBytes
 returns-2 c =
-    let a = c .before .before .before .before .before .before .before .before .before .before .args in
+    let back = c .before .before .before .before .before .before .before .before in
+    let a = back .before .before .args in
     in-two (floatBytes (a .seconds)) (ruleBytes (a .rule)) (now (a .out)) _ _ 8 16 refl refl
-    (c .before .before .before .before .before .before .before .before .if1 .left) (c .before .before .before .before .before .before .put-float .ensures)
+    (back .if1 .left) (c .before .before .before .before .before .before .put-float .ensures)
     (c .before .before .put-rule .ensures)
 
 pub put-offset-by-rule-spec : {M : Type 1} → statement M

@@ -17,7 +17,8 @@ returns c =
 
 returns-2 : tie.Need-returns-2
 returns-2 c =
-    let b = c .before .before .before .before .before .before .before .before .before .before in
+    let back = c .before .before .before .before .before .before .before .before in
+    let b = back .before .before in
     let a = b .before .before .before .before .args in
     in-two (eightBytes (a .a) ++ eightBytes (a .b)) (eightBytes (a .c)) (now (a .out)) _ _ 16 24 refl refl (b .before .before .if1 .left)
     (of-bytes (b .before .two-patterns .ensures) (c .before .before .before .before .before .before .before .put .ensures))

@@ -1,5 +1,5 @@
 -- `capi::offset_calls::ct_check_table` meets its contract. Assumes nothing.
-use Rattle.capi.proofs.table_calls.Tables.{count-refused, count-fits, count-fits-code, count-answered}
+use Rattle.capi.proofs.Tables.{count-refused, count-fits, count-fits-code, count-answered}
 use borrow.Author.Needs.{needs}
 use Rattle.capi.proofs.offset_calls.ct_check_table.Statement.{statement}
 use Rattle.capi.proofs.offset_calls.ct_check_table.Tie as tie

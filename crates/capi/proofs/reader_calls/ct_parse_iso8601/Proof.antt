@@ -1,5 +1,5 @@
 -- `capi::reader_calls::ct_parse_iso8601` meets its contract. Assumes nothing.
-use Rattle.capi.specs.reader_answers.ReaderFields.{parsedBytes}
+use Rattle.capi.specs.ReaderFields.{parsedBytes}
 use Rattle.c_answers.proofs.Deliveries.{same-outcome}
 use borrow.Author.Needs.{needs}
 use Rattle.capi.proofs.reader_calls.ct_parse_iso8601.Statement.{statement}

@@ -1,6 +1,6 @@
 -- `capi::reader_calls::ct_utc_from_iso8601` meets its contract. Assumes nothing.
 use mathlib.Core.Path.{refl}
-use Rattle.capi.specs.reader_answers.ReaderFields.{parsedUtcBytes}
+use Rattle.capi.specs.ReaderFields.{parsedUtcBytes}
 use Rattle.capi.proofs.Arrays.{lent-refused, with-announced}
 use borrow.Author.Needs.{needs}
 use Rattle.capi.proofs.reader_calls.ct_utc_from_iso8601.Statement.{statement}

@@ -1,7 +1,7 @@
 -- `capi::reader_calls::put_parsed` meets its contract. Assumes nothing.
 use mathlib.Core.Path.{ap}
 use Rattle.parsing.specs.Parsed.{parsedOutcome}
-use Rattle.capi.specs.reader_answers.ReaderFields.{parsedBytes}
+use Rattle.capi.specs.ReaderFields.{parsedBytes}
 use Rattle.c_answers.proofs.Deliveries.{delivered-answer, refused-on}
 use borrow.Author.Needs.{needs}
 use Rattle.capi.proofs.reader_calls.put_parsed.Statement.{statement}
@@ -11,7 +11,7 @@ returns : tie.Need-returns
 unfolding parsedOutcome
 returns c =
     let p = c .before .before in
-    delivered-answer parsedBytes (p .put-parsed .ok) _ (ap parsedOutcome (p .before .before .before .found .given .1)) (p .put-parsed .ensures)
+    delivered-answer parsedBytes (p .put-fields .ok) _ (ap parsedOutcome (p .before .before .before .found .given .1)) (p .put-fields .ensures)
 
 returns-2 : tie.Need-returns-2
 unfolding parsedOutcome

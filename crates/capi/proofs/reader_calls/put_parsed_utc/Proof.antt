@@ -1,7 +1,7 @@
 -- `capi::reader_calls::put_parsed_utc` meets its contract. Assumes nothing.
 use mathlib.Core.Path.{ap}
 use Rattle.parsing.specs.Parsed.{parsedUtcOutcome}
-use Rattle.capi.specs.reader_answers.ReaderFields.{parsedUtcBytes}
+use Rattle.capi.specs.ReaderFields.{parsedUtcBytes}
 use Rattle.c_answers.proofs.Deliveries.{delivered-answer, refused-on}
 use borrow.Author.Needs.{needs}
 use Rattle.capi.proofs.reader_calls.put_parsed_utc.Statement.{statement}
@@ -11,7 +11,7 @@ returns : tie.Need-returns
 unfolding parsedUtcOutcome
 returns c =
     let p = c .before .before in
-    delivered-answer parsedUtcBytes (p .put-parsed-utc .ok) _ (ap parsedUtcOutcome (p .before .before .before .found .given .1)) (p .put-parsed-utc .ensures)
+    delivered-answer parsedUtcBytes (p .put-fields-and-date .ok) _ (ap parsedUtcOutcome (p .before .before .before .found .given .1)) (p .put-fields-and-date .ensures)
 
 returns-2 : tie.Need-returns-2
 unfolding parsedUtcOutcome

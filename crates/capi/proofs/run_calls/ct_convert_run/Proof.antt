@@ -16,10 +16,11 @@ returns c =
 
 cast-result : tie.Need-cast-result
 cast-result c =
-    let i = c .before .before .before .before .before .before .before .before .before .before .before .before .before .before .before in
+    let back = c .before .before .before .before .before .before .before .before in
+    let i = back .before .before .before .before .before .before .before in
     let n = i .before in
     let s = n .before .before .before .before .before .before .before .before .before in
-    let f = c .before .before .before .before .before .before .before .before .before in
+    let f = back .before in
     record {
       sfits = omega (
         arith,
@@ -32,10 +33,11 @@ cast-result c =
 
 returns-2 : tie.Need-returns-2
 returns-2 c =
-    let i = c .before .before .before .before .before .before .before .before .before .before .before .before .before .before .before in
+    let back = c .before .before .before .before .before .before .before .before in
+    let i = back .before .before .before .before .before .before .before in
     let n = i .before in
     let s = n .before .before .before .before .before .before .before .before .before in
-    let f = c .before .before .before .before .before .before .before .before .before in
+    let f = back .before in
     run-converted _ _ (n .read-table .result .number) (n .read-table .ensures .0 refl refl) (s .args .from) (s .args .to) (now (s .args .jd1))
     (now (s .args .jd2)) (now (s .args .out1)) (now (s .args .out2)) (now (s .args .numbers)) (i .if1 .left) (f .convert-run-by-lent .result)
     (f .convert-run-by-lent .ensures) _ (c .before .n .given .1)
@@ -49,10 +51,11 @@ returns-2 c =
 
 returns-3 : tie.Need-returns-3
 returns-3 c =
-    let i = c .before .before .before .before .before .before .before .before .before .before .before .before .before .before .before .before in
+    let back = c .before .before .before .before .before .before .before .before in
+    let i = back .before .before .before .before .before .before .before .before in
     let n = i .before in
     let s = n .before .before .before .before .before .before .before .before .before in
-    let f = c .before .before .before .before .before .before .before .before .before .before in
+    let f = back .before .before in
     run-refused _ _ (n .read-table .result .number) (n .read-table .ensures .0 refl refl) (s .args .from) (s .args .to) (now (s .args .jd1))
     (now (s .args .jd2)) (now (s .args .out1)) (now (s .args .out2)) (now (s .args .numbers)) (i .if1 .left) (f .convert-run-by-lent .result)
     (f .convert-run-by-lent .ensures) _ (c .refused2 .ok) (c .before .before .number .given .1) (c .refused2 .ensures)

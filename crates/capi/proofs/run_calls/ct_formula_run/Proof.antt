@@ -8,9 +8,10 @@ use Rattle.capi.proofs.run_calls.ct_formula_run.Tie as tie
 
 cast-result : tie.Need-cast-result
 cast-result c =
-    let s = c .before .before .before .before .before .before .before .before .before .before .before .before .before .before .before .before .before .before
-    .before in
-    let f = c .before .before .before .before .before .before .before .before .before in
+    let back = c .before .before .before .before .before .before .before .before in
+    let back2 = back .before .before .before .before .before .before .before .before in
+    let s = back2 .before .before .before in
+    let f = back .before in
     record {
       sfits = omega (
         arith,
@@ -22,9 +23,10 @@ cast-result c =
 
 returns : tie.Need-returns
 returns c =
-    let s = c .before .before .before .before .before .before .before .before .before .before .before .before .before .before .before .before .before .before
-    .before in
-    let f = c .before .before .before .before .before .before .before .before .before in
+    let back = c .before .before .before .before .before .before .before .before in
+    let back2 = back .before .before .before .before .before .before .before .before in
+    let s = back2 .before .before .before in
+    let f = back .before in
     all-converted _ (f .formula-run .result) (f .formula-run .ensures) _ (c .before .n .given .1)
     (omega (
       arith,
@@ -35,9 +37,10 @@ returns c =
 
 returns-2 : tie.Need-returns-2
 returns-2 c =
-    let s = c .before .before .before .before .before .before .before .before .before .before .before .before .before .before .before .before .before .before
-    .before .before in
-    let f = c .before .before .before .before .before .before .before .before .before .before in
+    let back = c .before .before .before .before .before .before .before .before in
+    let back2 = back .before .before .before .before .before .before .before .before in
+    let s = back2 .before .before .before .before in
+    let f = back .before .before in
     all-refused _ (f .formula-run .result) (f .formula-run .ensures) _ (c .refused .ok) (c .before .before .number .given .1) (c .refused .ensures)
 
 pub ct-formula-run-spec : {M : Type 1} → statement M

@@ -23,10 +23,12 @@ returns-2 c = two-refused _ (text-few Expanded _ _) (c .before .before .before .
 
 returns-3 : tie.Need-returns-3
 unfolding formNamed
-returns-3 c = two-written _ (text-few Expanded _ _)
-    (c .before .before .before .before .before .before .before .before .before .to-iso8601-expanded-by-lent .ensures)
+returns-3 c =
+    let back = c .before .before .before .before .before .before .before .before in
+    two-written _ (text-few Expanded _ _)
+    (back .before .to-iso8601-expanded-by-lent .ensures)
     (c .before .before .before .before .before .n .given .1)
-    (c .before .before .before .before .before .before .before .before .before .before .before .if1 .left) (c .before .before .put-rule .ensures)
+    (back .before .before .before .if1 .left) (c .before .before .put-rule .ensures)
 
 pub put-expanded-spec : {M : Type 1} → statement M
 put-expanded-spec =

@@ -23,9 +23,11 @@ returns-2 c = two-refused _ (text-few Document01 _ _) (c .before .before .before
 
 returns-3 : tie.Need-returns-3
 unfolding formNamed
-returns-3 c = two-written _ (text-few Document01 _ _) (c .before .before .before .before .before .before .before .before .before .to-iso8601-by-lent .ensures)
+returns-3 c =
+    let back = c .before .before .before .before .before .before .before .before in
+    two-written _ (text-few Document01 _ _) (back .before .to-iso8601-by-lent .ensures)
     (c .before .before .before .before .before .n .given .1)
-    (c .before .before .before .before .before .before .before .before .before .before .before .if1 .left) (c .before .before .put-rule .ensures)
+    (back .before .before .before .if1 .left) (c .before .before .put-rule .ensures)
 
 pub put-text-spec : {M : Type 1} → statement M
 put-text-spec =

@@ -11,7 +11,8 @@ use Rattle.capi.proofs.tick_calls.ct_place_ticks.Tie as tie
 
 cast-result : tie.Need-cast-result
 cast-result c =
-    let s = c .before .before .before .before .before .before .before .before .before .before .before in
+    let back = c .before .before .before .before .before .before .before .before in
+    let s = back .before .before .before in
     let a = s .args in
     let q = c .before .before .before .before .before .place-ticks in
     record {
@@ -26,7 +27,8 @@ cast-result c =
 
 returns : tie.Need-returns
 returns c =
-    let s = c .before .before .before .before .before .before .before .before .before .before .before in
+    let back = c .before .before .before .before .before .before .before .before in
+    let s = back .before .before .before in
     let a = s .args in
     let q = c .before .before .before .before .before .place-ticks in
     ticks-put (placedTicks (now (a .pass-ticks)) (now (a .pass-millis)) (now (a .ticks)) (length (now (a .out)))) (now (a .out)) _ (q .result)
@@ -41,7 +43,8 @@ returns c =
 
 returns-2 : tie.Need-returns-2
 returns-2 c =
-    let a = c .before .before .before .before .before .before .before .before .before .before .before .before .args in
+    let back = c .before .before .before .before .before .before .before .before in
+    let a = back .before .before .before .before .args in
     let q = c .before .before .before .before .before .before .place-ticks in
     ticks-refused (placedTicks (now (a .pass-ticks)) (now (a .pass-millis)) (now (a .ticks)) (length (now (a .out)))) (now (a .out)) _ (q .result)
     (q .ensures) _ (c .refused .ok) (c .before .before .number .given .1) (c .refused .ensures)

@@ -27,16 +27,17 @@ refused-stamps-requires c κs =
 place-header-requires : tie.Need-place-header-requires
 place-header-requires c κs =
     let st = c .before .before .before .before .before .before .before .before in
-    omega (arith, room-low (st .args .how), st .pre .2)
+    omega (arith, room-low (st .args .reporting), st .pre .2)
 
 returns : tie.Need-returns
 returns c =
-    let st = c .before .before .before .before .before .before .before .before .before .before .before in
+    let back = c .before .before .before .before .before .before .before .before in
+    let st = back .before .before .before in
     let p = c .before .before .place-header .ensures in (
       placed-as (header-line (now (st .args .block)) (st .args .line) _ (st .pre .0) _
           (c .before .before .before .before .before .before .before .answer2 .given .1) _ _ _ (c .before .before .before .before .before .if1 .taken)
           (c .before .before .before .before .refused-stamps .ensures _)) (p .0),
-      omega (arith, p .1, room-low (st .args .how)),
+      omega (arith, p .1, room-low (st .args .reporting)),
     )
 
 place-stamp-line-requires : tie.Need-place-stamp-line-requires
@@ -57,7 +58,8 @@ returns-2 c =
 
 returns-3 : tie.Need-returns-3
 returns-3 c =
-    let st = c .before .before .before .before .before .before .before .before .before .before in
+    let back = c .before .before .before .before .before .before .before .before in
+    let st = back .before .before in
     let p = c .before .before .place-stamp-line .ensures in (
       placed-as (stamp-line (now (st .args .block)) (st .args .line) _ (st .pre .0) _ (c .before .before .before .before .before .before .answer2 .given .1) _
           _ (c .before .before .before .before .if1 .left)) (p .0),

@@ -32,7 +32,8 @@ rows s = rowsIn (s .args .size) (now (s .args .months)) (now (s .args .seconds))
 mjd-of-requires : tie.Need-mjd-of-requires
 unfolding dayOutcome
 mjd-of-requires c κs =
-    let d = c .before .before .before .before .before .before .before .before .before .before .before in
+    let back = c .before .before .before .before .before .before .before .before in
+    let d = back .before .before .before in
     let n = d .before .before in
     let s = n .before in
     let e = sym (n .day-number-and-fraction .ensures) ∙ ap dayOutcome (d .d .given .1) in
@@ -62,7 +63,8 @@ returns-2 c =
 returns-3 : tie.Need-returns-3
 unfolding scanOutcome dayOutcome monthOutcome RightScan RightMonths ofBits
 returns-3 c =
-    let d = c .before .before .before .before .before .before .before .before .before .before in
+    let back = c .before .before .before .before .before .before .before .before in
+    let d = back .before .before in
     let n = d .before .before in
     let s = n .before in
     let e = sym (n .day-number-and-fraction .ensures) ∙ ap dayOutcome (d .d .given .1) in
@@ -78,13 +80,14 @@ returns-3 c =
 returns-4 : tie.Need-returns-4
 unfolding scanOutcome dayOutcome monthOutcome RightScan RightMonths ofBits
 returns-4 c =
-    let d = c .before .before .before .before .before .before .before .before .before .before .before .before .before in
+    let back = c .before .before .before .before .before .before .before .before in
+    let d = back .before .before .before .before .before in
     let n = d .before .before in
     let s = n .before in
     let e = sym (n .day-number-and-fraction .ensures) ∙ ap dayOutcome (d .d .given .1) in
     let r = day-range _ _ (yes (s .good .0 .1)) (add-fits binary64 (s .args .small) (s .args .i)) _ e in
-    let m = c .before .before .before .before .before .before .before .before .before .before in
-    let k = c .before .before .before .before .before .before .before .before in
+    let m = back .before .before in
+    let k = back in
     let h = m .month-with .ensures .0 ∙ ap (λ (z : ℤ). offsetAt0h (rows s) (gregorianDate z)) (day-read _ r) in
     let w = c .before .mjd-of .ensures ∙ ap (λ (z : ℤ). ofInt binary64 (z -ℤ pos 2400001)) (day-read _ r) in (
       ap (λ (z : Float). answer (step z))
