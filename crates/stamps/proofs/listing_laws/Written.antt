@@ -15,7 +15,7 @@ use Rattle.numerals.proofs.little_endian.Items.{written-length, item-u32, item-
 use Rattle.numerals.proofs.little_endian.RoundTrip.{read-written, read-written-4}
 use Rattle.julian.specs.JulianDate.{julian}
 use Rattle.leap_table.specs.rows.Table.{Row}
-use Rattle.stamps.specs.declared.Telling.{Telling}
+use Rattle.stamps.specs.declared.Reporting.{Reporting}
 use Rattle.stamps.specs.Block.{blockOf, jd1Bits, jd2Bits, stampAt}
 use Rattle.stamps.specs.Listing.{textAt, stampLine, stampLines, refusedIn, oneIfRefused, header, listingOf, listing}
 use Rattle.stamps.specs.listing_laws.Writer.{Stamp, StampFits, stampDate, firstBytes, secondBytes, blockBytes, refusedStamps, lineOfStamp, linesOfStamps, listingOfStamps}
@@ -88,7 +88,7 @@ module _ (xs : List Stamp) (i : ℕ) (d : Stamp) (h : i < length xs) (bits : Sta
       ∙ ap (λ (n : ℕ). julian (ofBits binary64 (getD xs i d .first)) (ofBits binary64 n)) second-part
 
 -- ---- THE LISTING, line by line, and its counts
-lines-behind : (how : Telling) (rows : List Row) (i : ℕ) (ys : List Stamp) (x : Stamp)
+lines-behind : (how : Reporting) (rows : List Row) (i : ℕ) (ys : List Stamp) (x : Stamp)
     → linesOfStamps how rows i (ys ++ (x ∷ [])) ≡ linesOfStamps how rows i ys ++ lineOfStamp how rows (i + length ys) x
 unfolding linesOfStamps
 lines-behind how rows i [] x = append-nil (lineOfStamp how rows i x) ∙ ap (λ (n : ℕ). lineOfStamp how rows n x) z
@@ -108,7 +108,7 @@ unfolding refusedStamps
 refused-behind rows [] x = omega arith
 refused-behind rows (y ∷ ys) x = let e = refused-behind rows ys x in omega arith
 
-module _ (how : Telling) (rows : List Row) (xs : List Stamp) (d : Stamp) (bits : (i : ℕ) → i < length xs → StampFits (getD xs i d)) where
+module _ (how : Reporting) (rows : List Row) (xs : List Stamp) (d : Stamp) (bits : (i : ℕ) → i < length xs → StampFits (getD xs i d)) where
   one-line : (i : ℕ) → i < length xs → stampLine how rows (blockBytes xs) (length xs) i ≡ lineOfStamp how rows i (getD xs i d)
   unfolding stampLine textAt
   one-line i h = rw (stamp-back xs i d h (bits i h))

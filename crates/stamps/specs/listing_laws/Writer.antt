@@ -10,7 +10,7 @@ use Rattle.julian.specs.declared.JulianDate.{JulianDate}
 use Rattle.julian.specs.JulianDate.{julian}
 use Rattle.leap_table.specs.rows.Table.{Row}
 use Rattle.utc.specs.iso_texts.Expanded.{isoTextExpanded}
-use Rattle.stamps.specs.declared.Telling.{Telling}
+use Rattle.stamps.specs.declared.Reporting.{Reporting}
 use Rattle.stamps.specs.Listing.{numeral, shown, oneIfRefused, header}
 
 -- a stamp: the patterns of its two parts, 64 bits each
@@ -41,13 +41,13 @@ refusedStamps rows [] = 0
 refusedStamps rows (x ∷ xs) = oneIfRefused (isoTextExpanded rows (stampDate x)) + refusedStamps rows xs
 
 -- the line of a stamp at place i, and the lines of all from place i on
-abbrev pub lineOfStamp : Telling → List Row → ℕ → Stamp → List ℕ
+abbrev pub lineOfStamp : Reporting → List Row → ℕ → Stamp → List ℕ
 lineOfStamp how rows i x = ((numeral i ++ (32 ∷ [])) ++ shown how (stampDate x) (isoTextExpanded rows (stampDate x))) ++ (10 ∷ [])
 
-unfoldable pub linesOfStamps : Telling → List Row → ℕ → List Stamp → List ℕ
+unfoldable pub linesOfStamps : Reporting → List Row → ℕ → List Stamp → List ℕ
 linesOfStamps how rows i [] = []
 linesOfStamps how rows i (x ∷ xs) = lineOfStamp how rows i x ++ linesOfStamps how rows (suc i) xs
 
 -- the listing of a list of stamps
-unfoldable pub listingOfStamps : Telling → List Row → List Stamp → List ℕ
+unfoldable pub listingOfStamps : Reporting → List Row → List Stamp → List ℕ
 listingOfStamps how rows xs = header (length xs) (refusedStamps rows xs) ++ linesOfStamps how rows 0 xs
