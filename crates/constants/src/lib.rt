@@ -5,6 +5,8 @@ ghost use lib.Ieee.{nan};
 ghost use lib.ListN.{getD};
 ghost use Rattle.constants.specs.Constants.{inOrder};
 
+pub mod scale_numbers;
+
 // The day's length.
 pub const SECONDS_PER_DAY: i64 = 86400;
 

@@ -15,3 +15,4 @@ pub mod laws
 pub mod shifts
 pub mod order
 pub mod same_stamps
+pub mod stamp_lists

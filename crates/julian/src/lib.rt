@@ -14,6 +14,7 @@ pub mod day_number;
 pub mod order;
 pub mod same_stamps;
 pub mod shifts;
+pub mod stamp_lists;
 
 // A Julian date: two floats whose exact sum is the date in days.
 pub struct JulianDate {

@@ -11,7 +11,8 @@ use borrow.Author.Tests.{eq-eqb, ne-eqb, lt-ltb, le-ltb, le-leb, lt-leb, leb-tru
 use Rattle.julian.specs.declared.JulianDate.{JulianDate}
 use Rattle.julian.specs.order.Places.{hasPlace}
 use Rattle.line_up.specs.Runs.{acceptedIn, firstOr, tested, pick, cursorAfter}
-use Rattle.line_up.specs.LineUp.{stampOf, unorderedAt, eightEach, lineRefusal}
+use Rattle.julian.specs.stamp_lists.Stamps.{stampOf}
+use Rattle.line_up.specs.LineUp.{unorderedAt, eightEach, lineRefusal}
 
 pub unordered-is : (js ks : List ℕ) (i : ℕ) (a : JulianDate) (r : Bool) → a ≡ stampOf js ks i → r ≡ hasPlace a → not r ≡ unorderedAt js ks i
 unfolding unorderedAt

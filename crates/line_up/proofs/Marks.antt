@@ -8,12 +8,12 @@ use lib.Seq.{slice, length-slice}
 use Rattle.line_up.specs.keep.Piles.{zeros}
 use Rattle.line_up.proofs.keep.Theorems.{kept-length}
 use Rattle.line_up.proofs.keep.Places.{FollowsFirst, Followed, kept-followed}
-use Rattle.line_up.specs.Runs.{run, After, Rising}
+use Rattle.line_up.specs.Runs.{run, FirstMayFollow, Rising}
 
 pub length-run : (lt : ℕ → ℕ → Bool) (ns : List ℕ) (from to : ℕ) → to ≤ length ns → length (run lt ns from to) ≡ to - from
 length-run lt ns from to h = kept-length lt from (slice from to ns) ∙ length-slice from to ns h
 
-after-of : (lt : ℕ → ℕ → Bool) (x : ℕ) (xs : List ℕ) → FollowsFirst lt x xs → After lt x xs
+after-of : (lt : ℕ → ℕ → Bool) (x : ℕ) (xs : List ℕ) → FollowsFirst lt x xs → FirstMayFollow lt x xs
 after-of lt x [] f = tt
 after-of lt x (y ∷ ys) f = record { late = f .late; tied = λ _. f .behind }
 

@@ -5,7 +5,7 @@ use mathlib.Core.Path.{_≡_, refl, sym, ap, _∙_, subst}
 use mathlib.Core.Bool.{Bool, true, false, cond}
 use mathlib.Core.List.{List, [], _∷_}
 use lib.ListN.{length}
-use Rattle.line_up.specs.Runs.{into, merge, once, timesIn, MayFollow, After, Rising}
+use Rattle.line_up.specs.Runs.{into, merge, once, timesIn, MayFollow, FirstMayFollow, Rising}
 
 -- ---- counts
 
@@ -81,16 +81,16 @@ module _ (lt : ℕ → ℕ → Bool) (b : ℕ) where
 -- ---- rising
 
 module _ (lt : ℕ → ℕ → Bool) (anti : (x y : ℕ) → lt x y ≡ true → lt y x ≡ false) where
-  after-pick : (t : Bool) (w x y : ℕ) (xs ys : List ℕ) → MayFollow lt w x → MayFollow lt w y → After lt w (cond t (y ∷ xs) (x ∷ ys))
+  after-pick : (t : Bool) (w x y : ℕ) (xs ys : List ℕ) → MayFollow lt w x → MayFollow lt w y → FirstMayFollow lt w (cond t (y ∷ xs) (x ∷ ys))
   after-pick true w x y xs ys f g = g
   after-pick false w x y xs ys f g = f
 
-  after-into : (w x : ℕ) (rest : List ℕ → List ℕ) (ys : List ℕ) → MayFollow lt w x → After lt w ys → After lt w (into lt x rest ys)
+  after-into : (w x : ℕ) (rest : List ℕ → List ℕ) (ys : List ℕ) → MayFollow lt w x → FirstMayFollow lt w ys → FirstMayFollow lt w (into lt x rest ys)
   unfolding into
   after-into w x rest [] f a = f
   after-into w x rest (y ∷ ys) f a = after-pick (lt y x) w x y (into lt x rest ys) (rest (y ∷ ys)) f a
 
-  after-merge : (w : ℕ) (xs ys : List ℕ) → After lt w xs → After lt w ys → After lt w (merge lt xs ys)
+  after-merge : (w : ℕ) (xs ys : List ℕ) → FirstMayFollow lt w xs → FirstMayFollow lt w ys → FirstMayFollow lt w (merge lt xs ys)
   unfolding merge
   after-merge w [] ys a b = b
   after-merge w (x ∷ xs) ys a b = after-into w x (merge lt xs) ys a b
@@ -106,13 +106,13 @@ module _ (lt : ℕ → ℕ → Bool) (anti : (x y : ℕ) → lt x y ≡ true →
       is-true false = ⊥
 
   module _ (b : ℕ) where
-    rising-pick : (t : Bool) (x y : ℕ) (xs ys : List ℕ) → lt y x ≡ t → (lt y x ≡ true → After lt y xs) → (lt y x ≡ false → After lt x ys) → Rising lt xs
+    rising-pick : (t : Bool) (x y : ℕ) (xs ys : List ℕ) → lt y x ≡ t → (lt y x ≡ true → FirstMayFollow lt y xs) → (lt y x ≡ false → FirstMayFollow lt x ys) → Rising lt xs
         → Rising lt ys → Rising lt (cond t (y ∷ xs) (x ∷ ys))
     rising-pick true x y xs ys p f g r s = (f p, r)
     rising-pick false x y xs ys p f g r s = (g p, s)
 
     rising-into : (x : ℕ) (rest : List ℕ → List ℕ) → x < b → ((ys : List ℕ) → From b ys → Rising lt ys → Rising lt (rest ys))
-        → ((ys : List ℕ) → After lt x ys → After lt x (rest ys))
+        → ((ys : List ℕ) → FirstMayFollow lt x ys → FirstMayFollow lt x (rest ys))
         → (ys : List ℕ) → From b ys → Rising lt ys → Rising lt (into lt x rest ys)
     unfolding into
     rising-into x rest h r a [] f s = (a [] tt, r [] tt tt)

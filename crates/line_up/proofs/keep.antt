@@ -4,9 +4,9 @@ pub mod Rising
 pub mod Theorems
 pub mod Contradicted
 pub mod OfRuns
+pub mod Cases
 pub mod Places
 pub mod Cells
-pub mod Cases
 pub mod Dates
 pub mod OfDates
 pub mod Searching

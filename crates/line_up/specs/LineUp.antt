@@ -8,7 +8,7 @@ use lib.Dec.{eqb, leb, ltb}
 use lib.ListN.{length, drop}
 use Rattle.refusals.specs.Outcome.{Outcome, answer, refusal}
 use Rattle.numerals.specs.little_endian.LittleEndian.{fourBytes}
-unfoldable pub use Rattle.line_up.specs.keep.Stamps.{stampOf, unorderedAt, soonerAt}
+unfoldable pub use Rattle.line_up.specs.keep.Stamps.{unorderedAt, soonerAt}
 use Rattle.line_up.specs.declared.LineUpAnswer.the-variants as Answer
 use Rattle.line_up.specs.declared.LineUpAnswer.{LineUpAnswer}
 use Rattle.line_up.specs.Runs.{allTested, numbersAfter, ordered}

@@ -83,11 +83,11 @@ pub record MayFollow (lt : ℕ → ℕ → Bool) (x y : ℕ) : Type 0 where
   pub tied : lt x y ≡ false → x < y
 
 -- the first of a list may follow x
-abbrev pub After : (ℕ → ℕ → Bool) → ℕ → List ℕ → Type 0
-After lt x [] = Unit
-After lt x (y ∷ ys) = MayFollow lt x y
+abbrev pub FirstMayFollow : (ℕ → ℕ → Bool) → ℕ → List ℕ → Type 0
+FirstMayFollow lt x [] = Unit
+FirstMayFollow lt x (y ∷ ys) = MayFollow lt x y
 
 -- each may follow the one before it
 abbrev pub Rising : (ℕ → ℕ → Bool) → List ℕ → Type 0
 Rising lt [] = Unit
-Rising lt (x ∷ xs) = After lt x xs × Rising lt xs
+Rising lt (x ∷ xs) = FirstMayFollow lt x xs × Rising lt xs

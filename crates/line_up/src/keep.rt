@@ -10,20 +10,12 @@ ghost use Rattle.line_up.specs.keep.Stamps as U;
 ghost use Rattle.line_up.specs.keep.Cells as C;
 ghost use Rattle.line_up.specs.keep.Asked as N;
 
-pub(crate) fn stamp_of(jd1s: &[u8], jd2s: &[u8], i: usize) -> julian::JulianDate
-    ensures { λ r. ⌜ r ≡ U.stampOf (now (jd1s .entry)) (now (jd2s .entry)) i ⌝ }
-{
-    let x = floats::from_bits(numerals::little_endian::nth_u64(jd1s, i));
-    let y = floats::from_bits(numerals::little_endian::nth_u64(jd2s, i));
-    julian::JulianDate::new(x, y)
-}
-
 // Whether the stamp at place i comes before that at j.
 pub(crate) fn sooner_at(jd1s: &[u8], jd2s: &[u8], i: usize, j: usize) -> bool
     ensures { λ r. ⌜ r ≡ U.soonerAt (now (jd1s .entry)) (now (jd2s .entry)) i j ⌝ }
 {
-    let a = stamp_of(jd1s, jd2s, i);
-    let b = stamp_of(jd1s, jd2s, j);
+    let a = julian::stamp_lists::stamp_of(jd1s, jd2s, i);
+    let b = julian::stamp_lists::stamp_of(jd1s, jd2s, j);
     julian::order::is_earlier(a, b)
 }
 
@@ -154,7 +146,7 @@ fn lay(
 
 // The number of a stamp of pile r, where one of pile `wanted` is to be kept.
 fn judged(number: u8, r: usize, wanted: usize) -> u8
-    ensures { λ m. ⌜ m ≡ P.judged number r wanted ⌝ }
+    ensures { λ m. ⌜ m ≡ P.numberByPile number r wanted ⌝ }
 {
     if number == 0 {
         if r != wanted {

@@ -19,7 +19,7 @@ fn tested(jd1s: &[u8], jd2s: &[u8], number: u8, i: usize) -> u8
     ensures { λ r. ⌜ r ≡ R.tested (U.unorderedAt (now (jd1s .entry)) (now (jd2s .entry))) number i ⌝ }
 {
     if number == 0 {
-        if !julian::order::has_place(crate::keep::stamp_of(jd1s, jd2s, i)) {
+        if !julian::order::has_place(julian::stamp_lists::stamp_of(jd1s, jd2s, i)) {
             return 9;
         }
     }

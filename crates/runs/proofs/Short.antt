@@ -13,7 +13,7 @@ use Rattle.numerals.specs.little_endian.LittleEndian.{u64At}
 use Rattle.leap_table.specs.rows.Table.{Row}
 use Rattle.julian.proofs.shifts.Outcomes.{and-left, and-right}
 use Rattle.scales.specs.Conversions.{answerOf, gps-tai, tt-tai}
-use Rattle.line_up.specs.LineUp.{stampOf}
+use Rattle.julian.specs.stamp_lists.Stamps.{stampOf}
 use Rattle.runs.specs.by_formula.Run.{runCall, runWritten}
 use Rattle.runs.specs.by_formula.Formula.{formulaOf, byFormula, formulaAnswer, takesOffset, lengthsRefusal, formulaRefusal, formulaRun}
 use Rattle.runs.specs.ways.Ways.{isRunScale, intoTai, outOfTai, between, wayOf}

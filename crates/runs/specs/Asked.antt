@@ -2,9 +2,10 @@
 use Prim.Native.Nat.{ℕ}
 use mathlib.Core.Bool.{Bool, _&&_, _||_}
 use lib.Dec.{eqb}
+use Rattle.constants.specs.scale_numbers.Scales.{TAI, TT, GPS, TCG}
 
 -- the pairs of scales whose way is one formula: GPS and TAI, TT and TAI, TT and TCG, both ways
 unfoldable pub isShort : ℕ → ℕ → Bool
 isShort from to =
-    (eqb from 4 && eqb to 1) || ((eqb from 1 && eqb to 4) ||
-    ((eqb from 1 && eqb to 3) || ((eqb from 3 && eqb to 1) || ((eqb from 3 && eqb to 5) || (eqb from 5 && eqb to 3)))))
+    (eqb from GPS && eqb to TAI) || ((eqb from TAI && eqb to GPS) ||
+    ((eqb from TAI && eqb to TT) || ((eqb from TT && eqb to TAI) || ((eqb from TT && eqb to TCG) || (eqb from TCG && eqb to TT)))))

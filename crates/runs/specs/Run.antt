@@ -9,7 +9,7 @@ use lib.ListN.{length}
 use Rattle.refusals.specs.Outcome.{Outcome, answer, refusal}
 use Rattle.julian.specs.declared.JulianDate.{JulianDate}
 use Rattle.leap_table.specs.rows.Table.{Row}
-use Rattle.line_up.specs.LineUp.{stampOf}
+use Rattle.julian.specs.stamp_lists.Stamps.{stampOf}
 use Rattle.runs.specs.by_formula.Run.{RunCall, runCall, runWritten}
 use Rattle.runs.specs.ways.Ways.{isRunScale, wayOf}
 

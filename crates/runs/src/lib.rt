@@ -2,12 +2,8 @@
 ghost use mathlib.Core.Path.{_≡_};
 ghost use Prim.Native.Nat.{_+_, _*_, _≤_};
 ghost use lib.ListN.{length};
-ghost use lib.Seq.{sets};
-ghost use lib.Ieee.{binary64, toBits};
-ghost use Rattle.numerals.specs.little_endian.LittleEndian.{u64At, eightBytes};
 ghost use Rattle.julian.specs.JulianDate.{julianOutcome};
 ghost use Rattle.leap_table.specs.rows.Announced.{rowsIn, tableOf};
-ghost use Rattle.line_up.specs.LineUp.{stampOf};
 ghost use Rattle.runs.specs.ways.Ways.{isRunScale};
 ghost use Rattle.runs.specs.by_formula.Run.{runOutcome, runCall};
 ghost use Rattle.runs.specs.by_formula.Asked.{Roomy, HasPlace, StampPut, RunPut};
@@ -15,45 +11,17 @@ ghost use Rattle.runs.specs.Run.{stampAnswer, runRefusal, runBy, convert
 ghost use Rattle.runs.specs.Asked.{isShort};
 use crate::by_formula::RunAnswer;
 use crate::by_formula::one_if_refused;
+use crate::by_formula::put_pattern;
+use constants::scale_numbers::GPS;
+use constants::scale_numbers::TAI;
+use constants::scale_numbers::TCG;
+use constants::scale_numbers::TT;
+use constants::scale_numbers::are;
 use julian::JulianAnswer;
-use julian::JulianDate;
-use julian::same_stamps::GPS;
-use julian::same_stamps::TAI;
-use julian::same_stamps::TCG;
-use julian::same_stamps::TT;
-use julian::same_stamps::are;
 use leap_table::rows::AnnouncedRows;
 
 pub mod by_formula;
 pub mod ways;
-
-// Number i of a list that has it. Read from a part of eight bytes, it needs no test of the length.
-fn pattern_at(s: &[u8], i: usize) -> u64
-    requires { ⌜ 8 * i + 8 ≤ length (now s) ⌝ }
-    ensures { λ r. ⌜ r ≡ u64At (now (s .entry)) (8 * i) ⌝ }
-{
-    let at = 8 * i;
-    let end = at + 8;
-    numerals::little_endian::u64_at(&s[at..end], 0)
-}
-
-fn stamp_at(jd1s: &[u8], jd2s: &[u8], i: usize) -> JulianDate
-    requires { ⌜ HasPlace i (now jd1s) (now jd2s) ⌝ }
-    ensures { λ r. ⌜ r ≡ stampOf (now (jd1s .entry)) (now (jd2s .entry)) i ⌝ }
-{
-    let x = floats::from_bits(pattern_at(jd1s, i));
-    let y = floats::from_bits(pattern_at(jd2s, i));
-    JulianDate::new(x, y)
-}
-
-// The eight bytes of a pattern at a place of the lent list.
-fn put_pattern(out: &mut [u8], at: usize, n: u64)
-    requires { ⌜ at + 8 ≤ length (now out) ⌝ }
-    ensures { λ _. ⌜ now (out .exit) ≡ sets (now (out .entry)) at (eightBytes n) ⌝ }
-{
-    let end = at + 8;
-    numerals::little_endian::put_u64(&mut out[at..end], n);
-}
 
 // Both parts of an answer in the places of stamp i, and its number: 0, or that of the refusal, of which the places stay.
 fn put_answer(found: JulianAnswer, i: usize, out1: &mut [u8], out2: &mut [u8]) -> u8
@@ -83,11 +51,11 @@ fn convert_stamp<'a>(
     out1: &mut [u8],
     out2: &mut [u8],
 ) -> u8
-    requires { ⌜ (HasPlace i (now jd1s) (now jd2s)) × (HasPlace i (now out1) (now out2)) ⌝ }
+    requires { ⌜ HasPlace i (now out1) (now out2) ⌝ }
     ensures { λ r. ⌜ StampPut (stampAnswer (rowsIn size (now (months .entry)) (now (seconds .entry))) from to (now (jd1s .entry)) (now (jd2s .entry)) i) i
         (now (out1 .entry)) (now (out2 .entry)) r (now (out1 .exit)) (now (out2 .exit)) ⌝ }
 {
-    let jd = stamp_at(jd1s, jd2s, i);
+    let jd = julian::stamp_lists::stamp_of(jd1s, jd2s, i);
     let found = crate::ways::convert_by_lent(from, to, jd, size, months, seconds);
     put_answer(found, i, out1, out2)
 }
@@ -124,19 +92,19 @@ fn convert_all<'a>(
 fn is_run_scale(n: u32) -> bool
     ensures { λ r. ⌜ r ≡ isRunScale n ⌝ }
 {
-    if n == julian::same_stamps::UTC {
+    if n == constants::scale_numbers::UTC {
         return true;
     }
-    if n == julian::same_stamps::TAI {
+    if n == constants::scale_numbers::TAI {
         return true;
     }
-    if n == julian::same_stamps::TT {
+    if n == constants::scale_numbers::TT {
         return true;
     }
-    if n == julian::same_stamps::GPS {
+    if n == constants::scale_numbers::GPS {
         return true;
     }
-    n == julian::same_stamps::TCG
+    n == constants::scale_numbers::TCG
 }
 
 // Whether the way is one formula, by which a run is quicker.

@@ -9,7 +9,6 @@ use super::TDB;
 use super::TcbAnswer;
 use super::TdbAnswer;
 use constants::MJD_1977_JAN_1;
-use constants::MJD_ZERO_POINT;
 use constants::SECONDS_PER_DAY_F64;
 use constants::TCB_RATE_LB;
 use constants::TCB_RATE_RATIO;
@@ -21,7 +20,7 @@ use julian::shifts::smaller_part::put_back;
 use julian::shifts::smaller_part::split;
 
 // T0: the day, and the 32.184 s after midnight in days.
-const T77TD: f64 = MJD_ZERO_POINT + MJD_1977_JAN_1;
+const T77TD: f64 = JulianDate::MJD_ZERO_POINT + MJD_1977_JAN_1;
 
 const T77TF: f64 = TT_TAI_OFFSET / SECONDS_PER_DAY_F64;
 

@@ -8,7 +8,6 @@ use super::TCG;
 use super::TT;
 use super::TcgAnswer;
 use super::TtAnswer;
-use constants::MJD_ZERO_POINT;
 use constants::TCG_RATE_LG;
 use constants::TCG_RATE_RATIO;
 use constants::TCG_REFERENCE_EPOCH;
@@ -20,13 +19,15 @@ use julian::shifts::smaller_part::split;
 pub fn tcg_to_tt_part(larger: f64, smaller: f64) -> f64
     ensures { λ r. ⌜ r ≡ tcgToTt larger smaller ⌝ }
 {
-    smaller - ((larger - MJD_ZERO_POINT) + (smaller - TCG_REFERENCE_EPOCH)) * TCG_RATE_LG
+    smaller
+        - ((larger - JulianDate::MJD_ZERO_POINT) + (smaller - TCG_REFERENCE_EPOCH)) * TCG_RATE_LG
 }
 
 pub fn tt_to_tcg_part(larger: f64, smaller: f64) -> f64
     ensures { λ r. ⌜ r ≡ ttToTcg larger smaller ⌝ }
 {
-    smaller + ((larger - MJD_ZERO_POINT) + (smaller - TCG_REFERENCE_EPOCH)) * TCG_RATE_RATIO
+    smaller
+        + ((larger - JulianDate::MJD_ZERO_POINT) + (smaller - TCG_REFERENCE_EPOCH)) * TCG_RATE_RATIO
 }
 
 fn as_tt(jd: JulianDate) -> JulianDate

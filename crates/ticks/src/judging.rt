@@ -10,7 +10,7 @@ ghost use Rattle.ticks.specs.judging.Refusing.{numberAt, wellCounted, ju
 const LIMIT: u64 = 0x100_0000_0000;
 
 // Number i of a list that has it. Read from a part of eight bytes, it needs no test of the length.
-fn number_at(s: &[u8], i: usize) -> u64
+pub(crate) fn number_at(s: &[u8], i: usize) -> u64
     requires { ⌜ 8 * i + 8 ≤ length (now s) ⌝ }
     ensures { λ r. ⌜ r ≡ numberAt (now (s .entry)) i ⌝ }
 {

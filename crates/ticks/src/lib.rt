@@ -10,6 +10,7 @@ ghost use Rattle.ticks.specs.judging.Refusing.{numberAt};
 ghost use Rattle.ticks.specs.Ticks.{passesOf, bytesOf, placedTicks, TicksCall};
 ghost use Rattle.ticks.specs.judging.GoodCalls.{GoodCall};
 ghost use Rattle.ticks.specs.Asked.{Sought, FoundPass, NearPass, TickBetween};
+use crate::judging::number_at;
 
 pub mod judging;
 
@@ -43,16 +44,6 @@ fn along(a: u64, c: u64, d: u64) -> u64
         }
     }
     by_halves(a, c, d)
-}
-
-// Number i of a list that has it. Read from a part of eight bytes, it needs no test of the length.
-fn number_at(s: &[u8], i: usize) -> u64
-    requires { ⌜ 8 * i + 8 ≤ length (now s) ⌝ }
-    ensures { λ r. ⌜ r ≡ numberAt (now (s .entry)) i ⌝ }
-{
-    let at = 8 * i;
-    let end = at + 8;
-    numerals::little_endian::u64_at(&s[at..end], 0)
 }
 
 // The last of the passes `low` to `high` that is not after tick t, by halving: it is `from` or one of the `left` passes behind it.

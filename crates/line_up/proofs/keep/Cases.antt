@@ -1,19 +1,42 @@
--- What the small functions return. Assumes nothing.
-use Prim.Native.Nat.{ℕ, _*_}
-use mathlib.Core.Path.{_≡_}
-use mathlib.Core.List.{List}
-use lib.Ieee.{Float, ofBits, binary64}
-use Rattle.numerals.specs.little_endian.LittleEndian.{u64At}
-use Rattle.julian.specs.declared.JulianDate.{JulianDate}
-use Rattle.julian.specs.JulianDate.{julian}
-use Rattle.julian.specs.order.Places.{isEarlier}
-use Rattle.line_up.specs.keep.Stamps.{stampOf, soonerAt}
+-- Which stamps of small runs are kept, worked out: stamps are numbers, all with number 0 but where another is said. Assumes nothing.
+use Prim.Native.Nat.{ℕ}
+use mathlib.Core.Path.{_≡_, refl}
+use mathlib.Core.Bool.{Bool}
+use mathlib.Core.List.{List, [], _∷_}
+use lib.Dec.{ltb}
+use lib.ListN.{getD}
+use Rattle.line_up.specs.keep.Piles.{pilesBefore, laid, allLaid, ranks, wanted, allJudged, mostKept, runKept}
 
-pub stamp-is : (js ks : List ℕ) (i a b : ℕ) (x y : Float) → a ≡ u64At js (8 * i) → b ≡ u64At ks (8 * i) → x ≡ ofBits binary64 a → y ≡ ofBits binary64 b
-    → julian x y ≡ stampOf js ks i
-unfolding stampOf
-stamp-is js ks i a b x y p q r s = rw (r, s, p, q)
+-- the order of stamps that are numbers
+abbrev by : List ℕ → ℕ → ℕ → Bool
+by keys i j = ltb (getD keys i 0) (getD keys j 0)
 
-pub sooner-is : (js ks : List ℕ) (i j : ℕ) (a b : JulianDate) → a ≡ stampOf js ks i → b ≡ stampOf js ks j → isEarlier a b ≡ soonerAt js ks i j
-unfolding soonerAt
-sooner-is js ks i j a b p q = rw (p, q)
+-- one far too late is left out alone
+far-too-late : mostKept (by (5 ∷ 90 ∷ 6 ∷ 7 ∷ [])) 0 (0 ∷ 0 ∷ 0 ∷ 0 ∷ []) ≡ 0 ∷ 17 ∷ 0 ∷ 0 ∷ []
+unfolding mostKept allJudged wanted ranks allLaid laid pilesBefore
+far-too-late = refl
+
+-- so is one far too early
+far-too-early : mostKept (by (5 ∷ 1 ∷ 6 ∷ 7 ∷ [])) 0 (0 ∷ 0 ∷ 0 ∷ 0 ∷ []) ≡ 17 ∷ 0 ∷ 0 ∷ 0 ∷ []
+unfolding mostKept allJudged wanted ranks allLaid laid pilesBefore
+far-too-early = refl
+
+-- equal stamps are both kept
+equal-kept : mostKept (by (5 ∷ 5 ∷ 6 ∷ [])) 0 (0 ∷ 0 ∷ 0 ∷ []) ≡ 0 ∷ 0 ∷ 0 ∷ []
+unfolding mostKept allJudged wanted ranks allLaid laid pilesBefore
+equal-kept = refl
+
+-- of two that contradict each other alone the later place is kept
+later-place : mostKept (by (5 ∷ 9 ∷ 7 ∷ [])) 0 (0 ∷ 0 ∷ 0 ∷ []) ≡ 0 ∷ 17 ∷ 0 ∷ []
+unfolding mostKept allJudged wanted ranks allLaid laid pilesBefore
+later-place = refl
+
+-- a refused stamp keeps its number and counts for nothing
+refused-stays : mostKept (by (9 ∷ 1 ∷ 2 ∷ [])) 0 (6 ∷ 0 ∷ 0 ∷ []) ≡ 6 ∷ 0 ∷ 0 ∷ []
+unfolding mostKept allJudged wanted ranks allLaid laid pilesBefore
+refused-stays = refl
+
+-- a run in the middle of the numbers: the others stay
+run-in-the-middle : runKept (by (9 ∷ 4 ∷ 3 ∷ 1 ∷ [])) (0 ∷ 0 ∷ 0 ∷ 0 ∷ []) 1 3 ≡ 0 ∷ 17 ∷ 0 ∷ 0 ∷ []
+unfolding mostKept allJudged wanted ranks allLaid laid pilesBefore
+run-in-the-middle = refl

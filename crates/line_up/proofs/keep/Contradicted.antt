@@ -8,7 +8,7 @@ use mathlib.Core.List.{List, [], _∷_}
 use lib.Dec.{eqb, ltb}
 use lib.ListN.{length, getD}
 use borrow.Author.Tests.{eqb-true, eqb-false, ltb-true, ltb-false, lt-ltb, le-ltb}
-use Rattle.line_up.specs.keep.Piles.{mostKept, zeros, Chosen, After, Rises, Upward, EachZero, Order, Contradicted}
+use Rattle.line_up.specs.keep.Piles.{mostKept, zeros, Chosen, After, Rises, Upward, EachZero, OrderLaws, Contradicted}
 use Rattle.line_up.specs.keep.Piles.Chosen.{end, pass, choose}
 use Rattle.line_up.proofs.keep.Theorems.{kept-chosen, kept-rises, kept-most}
 
@@ -116,7 +116,7 @@ unfolding zeros
 none-left-out p i [] h z = tt
 none-left-out p i (m ∷ ms) h z = none-left-out-by (eqb p i) p i m ms refl h z (λ k y. none-left-out p (suc i) ms k y)
 
-module _ (ok : ℕ → Type 0) (lt : ℕ → ℕ → Bool) (order : Order ok lt) (i : ℕ) (ns : List ℕ) (oks : EachZero ok i ns) where
+module _ (ok : ℕ → Type 0) (lt : ℕ → ℕ → Bool) (order : OrderLaws ok lt) (i : ℕ) (ns : List ℕ) (oks : EachZero ok i ns) where
   too-long : (p : ℕ) → i ≤ p → getD ns (p - i) 1 ≡ 0 → None p (zeros i (mostKept lt i ns)) → Rises lt (put p (zeros i (mostKept lt i ns))) → ⊥
   too-long p h z o r =
       let k = kept-most ok lt order i ns oks (put p (zeros i (mostKept lt i ns))) (put-chosen (kept-chosen lt i ns) p h z o) r in

@@ -10,12 +10,18 @@ use lib.Ieee.Bits.{ofBits-fits}
 use borrow.Author.Tests.{ltb-true, ltb-false, lt-ltb, le-ltb, not-false}
 use Rattle.rounding.specs.Value.{L}
 use Rattle.numerals.specs.little_endian.LittleEndian.{u64At}
+use Rattle.julian.specs.declared.JulianDate.{JulianDate}
 use Rattle.julian.specs.Equality.{FiniteSums}
 use Rattle.julian.specs.Worth.{Worth}
 use Rattle.julian.specs.order.Places.{hasPlace, isEarlier}
 use Rattle.julian.proofs.order.Exactly.{finite-error, sooner-exactly, sum-worth}
-use Rattle.line_up.specs.keep.Piles.{Order}
-use Rattle.line_up.specs.keep.Stamps.{stampOf, unorderedAt, soonerAt}
+use Rattle.line_up.specs.keep.Piles.{OrderLaws}
+use Rattle.julian.specs.stamp_lists.Stamps.{stampOf}
+use Rattle.line_up.specs.keep.Stamps.{unorderedAt, soonerAt}
+
+pub sooner-is : (js ks : List ℕ) (i j : ℕ) (a b : JulianDate) → a ≡ stampOf js ks i → b ≡ stampOf js ks j → isEarlier a b ≡ soonerAt js ks i j
+unfolding soonerAt
+sooner-is js ks i j a b p q = rw (p, q)
 
 module _ (js ks : List ℕ) where
   abbrev pub FiniteAt : ℕ → Type 0
@@ -37,7 +43,7 @@ module _ (js ks : List ℕ) where
   unfolding soonerAt isEarlier
   lt-is x y P N Q M s t v w = sooner-exactly (stampOf js ks x) (stampOf js ks y) P N Q M s t v w
 
-  pub date-order : Order FiniteAt (soonerAt js ks)
+  pub date-order : OrderLaws FiniteAt (soonerAt js ks)
   date-order = record {
     less = λ x y z s t u e f.
         let v = sum-worth (stampOf js ks x) s in

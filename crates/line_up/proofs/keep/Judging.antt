@@ -5,7 +5,7 @@ use mathlib.Core.Path.{_≡_, refl, sym, ap, _∙_, subst}
 use mathlib.Core.List.{List, [], _∷_, _++_}
 use lib.ListN.{length, getD, take, drop, set, length-set, take-append-drop}
 use lib.Seq.{slice, slice-empty, slice-cons, getD-take, getD-set-same, take-set-le, take-take, drop-cons, drop-set-lt}
-use Rattle.line_up.specs.keep.Piles.{wantedBefore, wanted, judged, allJudged}
+use Rattle.line_up.specs.keep.Piles.{wantedBefore, wanted, numberByPile, allJudged}
 use Rattle.line_up.specs.keep.Asked.{Judgeable, runJudged}
 
 -- the stamps from place i on are judged
@@ -33,14 +33,14 @@ module _ (ns rs : List ℕ) (from to many : ℕ) (a : Judgeable ns rs from to) w
     same-number : getD now i 0 ≡ getD ns i 0
     same-number = sym (getD-take (suc i) now i 0 (omega arith)) ∙ ap (λ (l : List ℕ). getD l i 0) (j .rest) ∙ getD-take (suc i) ns i 0 (omega arith)
 
-    goes-done : (r m : ℕ) → r ≡ getD rs i 0 → m ≡ judged (getD now i 0) r w → m ∷ drop (suc i) now ≡ allJudged (slice i to ns) (slice i to rs) many
+    goes-done : (r m : ℕ) → r ≡ getD rs i 0 → m ≡ numberByPile (getD now i 0) r w → m ∷ drop (suc i) now ≡ allJudged (slice i to ns) (slice i to rs) many
         ++ drop to ns
     unfolding allJudged
     goes-done r m er em =
         let n : slice i to ns ≡ getD ns i 0 ∷ slice (suc i) to ns = slice-cons i to ns 0 (omega (arith, j .high)) (a .high) in
         let s : slice i to rs ≡ getD rs i 0 ∷ slice (suc i) to rs = slice-cons i to rs 0 (omega (arith, j .high)) (a .rankRoom) in
-        let e : m ≡ judged (getD ns i 0) (getD rs i 0) (wanted (slice (suc i) to rs) many) = em ∙ ap (λ (x : ℕ). judged x r w) same-number
-        ∙ ap (λ (x : ℕ). judged (getD ns i 0) x w) er ∙ ap (λ (x : ℕ). judged (getD ns i 0) (getD rs i 0) x) (j .want) in
+        let e : m ≡ numberByPile (getD ns i 0) (getD rs i 0) (wanted (slice (suc i) to rs) many) = em ∙ ap (λ (x : ℕ). numberByPile x r w) same-number
+        ∙ ap (λ (x : ℕ). numberByPile (getD ns i 0) x w) er ∙ ap (λ (x : ℕ). numberByPile (getD ns i 0) (getD rs i 0) x) (j .want) in
         rw (n, s, ← e) (ap (λ (l : List ℕ). m ∷ l) (j .done))
 
     goes-want : (r w' : ℕ) → r ≡ getD rs i 0 → w' ≡ wantedBefore r w → w' ≡ wanted (slice i to rs) many
@@ -49,7 +49,7 @@ module _ (ns rs : List ℕ) (from to many : ℕ) (a : Judgeable ns rs from to) w
         let s : slice i to rs ≡ getD rs i 0 ∷ slice (suc i) to rs = slice-cons i to rs 0 (omega (arith, j .high)) (a .rankRoom) in
         rw s (ew ∙ ap (λ (x : ℕ). wantedBefore x w) er ∙ ap (λ (x : ℕ). wantedBefore (getD rs i 0) x) (j .want))
 
-    pub judging-goes : (r m w' : ℕ) → r ≡ getD rs i 0 → m ≡ judged (getD now i 0) r w → w' ≡ wantedBefore r w → Judging ns rs from to many (set now i m) w' i
+    pub judging-goes : (r m w' : ℕ) → r ≡ getD rs i 0 → m ≡ numberByPile (getD now i 0) r w → w' ≡ wantedBefore r w → Judging ns rs from to many (set now i m) w' i
     judging-goes r m w' er em ew =
         let k : i < length now = omega (arith, j .len, j .high, a .high) in
         let k' : i < length (set now i m) = omega (arith, length-set now i m) in
@@ -66,7 +66,7 @@ module _ (ns rs : List ℕ) (from to many : ℕ) (a : Judgeable ns rs from to) w
 
   -- with the code's i - 1
   pub judging-next : (now : List ℕ) (w i : ℕ) → Judging ns rs from to many now w i → from < i → (r m w' : ℕ) → r ≡ getD rs (i - 1) 0
-      → m ≡ judged (getD now (i - 1) 0) r w → w' ≡ wantedBefore r w → Judging ns rs from to many (set now (i - 1) m) w' (i - 1)
+      → m ≡ numberByPile (getD now (i - 1) 0) r w → w' ≡ wantedBefore r w → Judging ns rs from to many (set now (i - 1) m) w' (i - 1)
   judging-next now w i j h r m w' er em ew =
       let e : i ≡ suc (i - 1) = omega arith in
       judging-goes now w (i - 1) (subst (λ (x : ℕ). Judging ns rs from to many now w x) e j) (omega arith) r m w' er em ew

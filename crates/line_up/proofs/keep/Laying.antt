@@ -9,7 +9,7 @@ use lib.Dec.{eqb, ltb}
 use lib.ListN.{length, getD, take, drop, set, length-set}
 use lib.Seq.{slice, slice-empty, slice-cons, length-take-le, getD-take, take-set-lt, take-suc-set, drop-append-le}
 use borrow.Author.Tests.{eqb-true, ne-eqb, le-ltb, ltb-true, ltb-false}
-use Rattle.line_up.specs.keep.Piles.{pilesBefore, laid, pilesAfter, rank, allLaid, ranks, After, Rises, All, Order}
+use Rattle.line_up.specs.keep.Piles.{pilesBefore, laid, pilesAfter, rank, allLaid, ranks, After, Rises, All, OrderLaws}
 use Rattle.line_up.specs.keep.Asked.{Searchable, tailPut, Layable, Laid}
 use Rattle.line_up.proofs.keep.Longest.{clash, laid-ok, not-before}
 use Rattle.line_up.proofs.keep.Rising.{before-low, before-late}
@@ -79,7 +79,7 @@ module _ (lt : ℕ → ℕ → Bool) (i : ℕ) where
     rank-low n = rank-low-by (eqb n 0) (pilesBefore lt i (take many tails))
         (omega (arith, before-low lt i (take many tails), length-take-le many tails (omega arith)))
 
-module _ (ok : ℕ → Type 0) (lt : ℕ → ℕ → Bool) (order : Order ok lt) where
+module _ (ok : ℕ → Type 0) (lt : ℕ → ℕ → Bool) (order : OrderLaws ok lt) where
   after-laid-by : (c : Bool) (i x t : ℕ) (ts us : List ℕ) → lt i x ≡ false → lt t x ≡ false → After lt x (cond c (i ∷ ts) (t ∷ us))
   after-laid-by true i x t ts us h k = h
   after-laid-by false i x t ts us h k = k
@@ -138,7 +138,7 @@ pub record Laying (ok : ℕ → Type 0) (lt : ℕ → ℕ → Bool) (ns : List �
   pub wholePiles : allLaid lt i (slice i to ns) (take many tails) ≡ allLaid lt from (slice from to ns) []
   pub wholeRanks : slice from i rs ++ ranks lt i (slice i to ns) (take many tails) ≡ ranks lt from (slice from to ns) []
 
-module _ (ok : ℕ → Type 0) (lt : ℕ → ℕ → Bool) (order : Order ok lt) (ns : List ℕ) (from to : ℕ) (tails₀ rs₀ : List ℕ)
+module _ (ok : ℕ → Type 0) (lt : ℕ → ℕ → Bool) (order : OrderLaws ok lt) (ns : List ℕ) (from to : ℕ) (tails₀ rs₀ : List ℕ)
     (a : Layable ns from to tails₀ rs₀)
     (oks : (p : ℕ) → from ≤ p → p < to → getD ns p 0 ≡ 0 → ok p) where
   pub laying-starts : Laying ok lt ns from to tails₀ rs₀ tails₀ rs₀ 0 from

@@ -7,7 +7,7 @@ use mathlib.Core.List.{List, [], _∷_}
 use lib.Dec.{eqb}
 use lib.ListN.{length}
 use borrow.Author.Tests.{eqb-true, eq-eqb}
-use Rattle.line_up.specs.keep.Piles.{pilesBefore, laid, pilesAfter, allLaid, Chosen, After, Rises, All, EachZero, Order}
+use Rattle.line_up.specs.keep.Piles.{pilesBefore, laid, pilesAfter, allLaid, Chosen, After, Rises, All, EachZero, OrderLaws}
 use Rattle.line_up.specs.keep.Piles.Chosen.{end, pass, choose}
 
 pub clash : {A : Type 0} (b : Bool) → b ≡ true → b ≡ false → A
@@ -69,7 +69,7 @@ module _ (lt : ℕ → ℕ → Bool) where
   past-length i (suc q) [] p = absurd p
   past-length i (suc q) (t ∷ ts) p = let h = past-length i q ts (p .1) in omega arith
 
-module _ (ok : ℕ → Type 0) (lt : ℕ → ℕ → Bool) (order : Order ok lt) where
+module _ (ok : ℕ → Type 0) (lt : ℕ → ℕ → Bool) (order : OrderLaws ok lt) where
   pub not-before : (c : Bool) (x i t : ℕ) → ok x → ok i → ok t → lt i t ≡ true → lt x t ≡ false → lt x i ≡ c → c ≡ false
   not-before true x i t ox oi ot a b e = clash (lt x t) (order .less x i t ox oi ot e a) b
   not-before false x i t ox oi ot a b e = refl

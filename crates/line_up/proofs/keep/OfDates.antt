@@ -11,7 +11,8 @@ use Rattle.rounding.specs.Value.{L}
 use Rattle.julian.specs.Worth.{Worth}
 use Rattle.line_up.specs.keep.Piles.{runKept, zeros, Rises, Upward, All, Contradicted}
 use Rattle.line_up.proofs.keep.OfRuns as R
-use Rattle.line_up.specs.keep.Stamps.{stampOf, unorderedAt, soonerAt}
+use Rattle.julian.specs.stamp_lists.Stamps.{stampOf}
+use Rattle.line_up.specs.keep.Stamps.{unorderedAt, soonerAt}
 use Rattle.line_up.specs.keep.Asked.{NoneUnordered}
 use Rattle.line_up.proofs.keep.Dates.{FiniteAt, finite-at, lt-is, date-order}
 

@@ -6,7 +6,7 @@ use mathlib.Core.Bool.{Bool}
 use mathlib.Core.List.{List, [], _∷_, _++_, append-assoc}
 use lib.ListN.{length, getD, take, drop, length-append, length-drop, take-append-drop}
 use lib.Seq.{slice, length-slice, length-take-le, take-at, drop-at, getD-take, getD-drop, take-take}
-use Rattle.line_up.specs.keep.Piles.{mostKept, runKept, zeros, Rises, Upward, All, EachZero, Order, Contradicted}
+use Rattle.line_up.specs.keep.Piles.{mostKept, runKept, zeros, Rises, Upward, All, EachZero, OrderLaws, Contradicted}
 use Rattle.line_up.proofs.keep.Theorems.{Judged, kept-length, kept-judged, kept-rises, kept-most, kept-all, places-chosen}
 use Rattle.line_up.proofs.keep.Contradicted.{left-out-contradicted}
 
@@ -67,7 +67,7 @@ module _ (lt : ℕ → ℕ → Bool) (ns : List ℕ) (from to : ℕ) (low : from
   pub run-rises : Rises lt (zeros from (slice from to (runKept lt ns from to)))
   run-rises = rw run-slice (kept-rises lt from (slice from to ns))
 
-  module _ (ok : ℕ → Type 0) (order : Order ok lt) (oks : (p : ℕ) → from ≤ p → p < to → getD ns p 0 ≡ 0 → ok p) where
+  module _ (ok : ℕ → Type 0) (order : OrderLaws ok lt) (oks : (p : ℕ) → from ≤ p → p < to → getD ns p 0 ≡ 0 → ok p) where
     pub zeros-ok : EachZero ok from (slice from to ns)
     zeros-ok = list-ok ok from (slice from to ns)
         (λ k h e. let q : from + k < to = omega (arith, slice-long) in oks (from + k) (omega arith) q (sym (at-slice 0 k q) ∙ e))

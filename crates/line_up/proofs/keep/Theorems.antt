@@ -8,7 +8,7 @@ use mathlib.Core.Logic.{_⊎_, inl, inr}
 use lib.Dec.{eqb}
 use lib.ListN.{length, getD}
 use borrow.Author.Tests.{eqb-true, eqb-false}
-use Rattle.line_up.specs.keep.Piles.{pilesAfter, allLaid, ranks, wanted, allJudged, mostKept, zeros, Chosen, Rises, Upward, All, EachZero, Order}
+use Rattle.line_up.specs.keep.Piles.{pilesAfter, allLaid, ranks, wanted, allJudged, mostKept, zeros, Chosen, Rises, Upward, All, EachZero, OrderLaws}
 use Rattle.line_up.specs.keep.Piles.Chosen.{end, pass, choose}
 use Rattle.line_up.proofs.keep.Longest.{Starts, no-longer}
 use Rattle.line_up.proofs.keep.Rising.{all-joined}
@@ -167,7 +167,7 @@ none-left-out i (n ∷ ns) (r ∷ rs) many e h =
     same-by (eqb n 0) (eqb r (wanted rs many)) n i (zeros (suc i) (allJudged ns rs many)) (zeros (suc i) ns) (allJudged ns rs many) ns refl
     (fewer (suc i) ns rs many) (none-left-out (suc i) ns rs many (omega arith)) h
 
-module _ (ok : ℕ → Type 0) (lt : ℕ → ℕ → Bool) (order : Order ok lt) (i : ℕ) (ns : List ℕ) (oks : EachZero ok i ns) where
+module _ (ok : ℕ → Type 0) (lt : ℕ → ℕ → Bool) (order : OrderLaws ok lt) (i : ℕ) (ns : List ℕ) (oks : EachZero ok i ns) where
   -- (2) no choice of stamps with number 0 that rises is longer
   pub kept-most : (xs : List ℕ) → Chosen i ns xs → Rises lt xs → length xs ≤ length (zeros i (mostKept lt i ns))
   kept-most xs c r =

@@ -9,7 +9,7 @@ use lib.Dec.{eqb}
 use lib.ListN.{length, getD}
 use lib.Seq.{slice, length-slice, getD-drop, getD-take}
 use borrow.Author.Tests.{eq-eqb, eqb-true}
-use Rattle.line_up.specs.keep.Piles.{Order, EachZero, Contradicted}
+use Rattle.line_up.specs.keep.Piles.{OrderLaws, EachZero, Contradicted}
 use Rattle.line_up.proofs.keep.Theorems.{Judged, kept-judged}
 use Rattle.line_up.proofs.keep.Contradicted.{left-out-contradicted}
 use Rattle.line_up.specs.Runs.{run, zeros, timesIn, MayFollow}
@@ -102,7 +102,7 @@ module _ (lt : ℕ → ℕ → Bool) (ns ms : List ℕ) (from to : ℕ) (ft : fr
       let d : from + (i - from) ≡ i = omega arith in
       any-default (run lt ns from to) (i - from) 1 0 (omega (arith, long)) ∙ at (i - from) (omega arith) ∙ ap (λ (q : ℕ). getD ms q 0) d ∙ e
 
-  module _ (ok : ℕ → Type 0) (order : Order ok lt) (oks : EachZero ok from (slice from to ns)) where
+  module _ (ok : ℕ → Type 0) (order : OrderLaws ok lt) (oks : EachZero ok from (slice from to ns)) where
     contrary-of : (i : ℕ) → Found lt (run lt ns from to) from i → Contrary lt ms from to i
     contrary-of i f =
         let h : f .index < to - from = omega (arith, f .high, long) in

@@ -6,7 +6,7 @@ use mathlib.Core.Bool.{Bool, true, false, cond}
 use mathlib.Core.List.{List, [], _∷_}
 use lib.Dec.{eqb}
 use borrow.Author.Tests.{eq-eqb, ne-eqb, eqb-true, eqb-false}
-use Rattle.line_up.specs.Runs.{into, merge, once, timesIn, MayFollow, After, Rising}
+use Rattle.line_up.specs.Runs.{into, merge, once, timesIn, MayFollow, FirstMayFollow, Rising}
 use Rattle.line_up.specs.laws.Claims.{Each, Pairs}
 
 -- ---- each
@@ -30,13 +30,13 @@ module _ (lt : ℕ → ℕ → Bool) (Good : ℕ → Type 0) where
   -- ---- any two
 
   module _ (trans : (x y z : ℕ) → Good x → Good y → Good z → MayFollow lt x y → MayFollow lt y z → MayFollow lt x z) where
-    reach : (w x : ℕ) (xs : List ℕ) → Good w → Good x → Each Good xs → MayFollow lt w x → After lt x xs → Rising lt xs → Each (MayFollow lt w) xs
+    reach : (w x : ℕ) (xs : List ℕ) → Good w → Good x → Each Good xs → MayFollow lt w x → FirstMayFollow lt x xs → Rising lt xs → Each (MayFollow lt w) xs
     reach w x [] gw gx e f a r = tt
     reach w x (y ∷ ys) gw gx e f a r =
         let g = trans w x y gw gx (e .0) f a in
         (g, reach w y ys gw (e .0) (e .1) g (r .0) (r .1))
 
-    head-reach : (x : ℕ) (xs : List ℕ) → Good x → Each Good xs → After lt x xs → Rising lt xs → Each (MayFollow lt x) xs
+    head-reach : (x : ℕ) (xs : List ℕ) → Good x → Each Good xs → FirstMayFollow lt x xs → Rising lt xs → Each (MayFollow lt x) xs
     head-reach x [] g e a r = tt
     head-reach x (y ∷ ys) g e a r = (a, reach x y ys g (e .0) (e .1) a (r .0) (r .1))
 

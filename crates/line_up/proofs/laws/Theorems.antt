@@ -23,11 +23,12 @@ use Rattle.julian.proofs.order.Exactly.{finite-error, sooner-exactly, sum-worth
 use Rattle.julian.proofs.order.Swapped.{sooner-once}
 use Rattle.julian.specs.Equality.{sums}
 use Rattle.line_up.specs.Runs.{allTested, run, numbersAfter, zeros, merge, ordered, timesIn, MayFollow, Rising}
-use Rattle.line_up.specs.LineUp.{stampOf, unorderedAt, soonerAt, leastRoom, lineRefusal, lineWritten, putInLine, linedUp}
+use Rattle.julian.specs.stamp_lists.Stamps.{stampOf}
+use Rattle.line_up.specs.LineUp.{unorderedAt, soonerAt, leastRoom, lineRefusal, lineWritten, putInLine, linedUp}
 use Rattle.line_up.proofs.Cases.{fine}
 use Rattle.line_up.proofs.Testing.{tested-length}
 use Rattle.line_up.proofs.Places.{place-timesIn, after-length, ordered-rises, ordered-runs, first-run, second-run, third-run}
-use Rattle.line_up.specs.keep.Piles.{Order, All, EachZero}
+use Rattle.line_up.specs.keep.Piles.{OrderLaws, All, EachZero}
 use Rattle.line_up.proofs.keep.Longest.{chosen-ok}
 use Rattle.line_up.proofs.keep.Theorems.{kept-chosen}
 use Rattle.line_up.proofs.keep.OfRuns.{zeros-ok, slice-most}
@@ -95,7 +96,7 @@ module _ (date : ℕ → JulianDate) (floats : (p : ℕ) → Floats (date p)) wh
             omega (arith, m, n);
       }
 
-  sound-order : Order Sound (by date)
+  sound-order : OrderLaws Sound (by date)
   unfolding Sound
   sound-order = record {
     less = λ x y z s t u e f.

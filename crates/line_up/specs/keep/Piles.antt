@@ -53,14 +53,14 @@ wanted [] many = many
 wanted (r ∷ rs) many = wantedBefore r (wanted rs many)
 
 -- the number of a stamp with number n of pile r: its own if it is refused already; 17 if it is not the one that is wanted
-abbrev pub judged : ℕ → ℕ → ℕ → ℕ
-judged n r w = cond (eqb n 0) (cond (eqb r w) 0 17) n
+abbrev pub numberByPile : ℕ → ℕ → ℕ → ℕ
+numberByPile n r w = cond (eqb n 0) (cond (eqb r w) 0 17) n
 
 -- the numbers of stamps with numbers ns whose piles are rs, of `many` piles
 unfoldable pub allJudged : List ℕ → List ℕ → ℕ → List ℕ
 allJudged ns [] many = []
 allJudged [] (r ∷ rs) many = []
-allJudged (n ∷ ns) (r ∷ rs) many = judged n r (wanted rs many) ∷ allJudged ns rs many
+allJudged (n ∷ ns) (r ∷ rs) many = numberByPile n r (wanted rs many) ∷ allJudged ns rs many
 
 -- the numbers of a run that starts at place i
 unfoldable pub mostKept : (ℕ → ℕ → Bool) → ℕ → List ℕ → List ℕ
@@ -109,7 +109,7 @@ EachZero ok i [] = Unit
 EachZero ok i (n ∷ ns) = (n ≡ 0 → ok i) × EachZero ok (suc i) ns
 
 -- the order of the stamps that are ok: 'earlier' is transitive, and so is 'not earlier'
-pub record Order (ok : ℕ → Type 0) (lt : ℕ → ℕ → Bool) : Type 0 where
+pub record OrderLaws (ok : ℕ → Type 0) (lt : ℕ → ℕ → Bool) : Type 0 where
   pub less : (x y z : ℕ) → ok x → ok y → ok z → lt x y ≡ true → lt y z ≡ true → lt x z ≡ true
   pub notLess : (x y z : ℕ) → ok x → ok y → ok z → lt y x ≡ false → lt z y ≡ false → lt z x ≡ false
 

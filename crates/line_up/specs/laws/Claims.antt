@@ -16,7 +16,8 @@ use Rattle.julian.specs.order.Places.{hasPlace, isEarlier}
 use lib.Seq.{slice}
 use Rattle.line_up.specs.keep.Piles.{Upward, Rises}
 use Rattle.line_up.specs.Runs.{timesIn, zeros}
-use Rattle.line_up.specs.LineUp.{stampOf, placesBytes, LinedUp}
+use Rattle.julian.specs.stamp_lists.Stamps.{stampOf}
+use Rattle.line_up.specs.LineUp.{placesBytes, LinedUp}
 
 -- both parts are 64-bit floats, as all are that are read from bytes
 pub record Floats (d : JulianDate) : Type 0 where

@@ -11,7 +11,7 @@ use lib.Ieee.{Float, binary64, ofBits}
 use borrow.Author.Tests.{eq-eqb, ne-eqb, le-leb, lt-leb, eqb-true, leb-true}
 use Rattle.refusals.specs.Outcome.{answer, refusal}
 use Rattle.numerals.specs.little_endian.LittleEndian.{u64At}
-use Rattle.line_up.specs.LineUp.{stampOf}
+use Rattle.julian.specs.stamp_lists.Stamps.{stampOf}
 use Rattle.runs.specs.declared.by_formula.RunAnswer.the-variants as Answer
 use Rattle.runs.specs.by_formula.Run.{runOutcome, refusedAmong, runCall, runWritten}
 use Rattle.runs.specs.by_formula.Formula.{formulaAnswer, formulaRefusal, formulaRun}

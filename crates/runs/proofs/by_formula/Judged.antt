@@ -22,8 +22,8 @@ use Rattle.julian.specs.shifts.SmallerPart.{firstIsLarger}
 use Rattle.julian.specs.shifts.Shifts.{daysOf, plus, minus, converted, convertedBy}
 use Rattle.julian.proofs.shifts.Outcomes.{first, first-by}
 use Rattle.julian.proofs.shifts.SmallerPart.{map-is, mapAs}
-use Rattle.line_up.specs.LineUp.{stampOf}
-use Rattle.line_up.proofs.keep.Cases.{stamp-is}
+use Rattle.julian.specs.stamp_lists.Stamps.{stampOf}
+use Rattle.julian.proofs.stamp_lists.Reading.{stamp-is}
 use Rattle.runs.specs.by_formula.Asked.{changeOf, changedStamp, offsetStamp, numberOfNotFiniteAt}
 
 -- ---- a finite number's pattern

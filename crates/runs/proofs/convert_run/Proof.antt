@@ -19,16 +19,20 @@ returns c =
 
 returns-2 : tie.Need-returns-2
 returns-2 c =
-    let a = c .before .before .before .before .before .before .before .before .before .before .before .before .before .before .before .before .before .before
-    .before .before .before .args in
-    let q = c .before .before .before .before .before .before .before .before .before .before .before .before .before .before .before in
-    let z = c .before .before .before .before .before .before .before .before .before .before .before .before .before in
-    c .before .before .before .before .before .before .convert-run-by-lent .ensures
+    let at-convert-run-by-lent = c .before .before .before .before .before .before in
+    let back = at-convert-run-by-lent .before .before .before .before .before .before .before in
+    let at-if1 = back .before in
+    let back2 = at-if1 .before in
+    let start = back2 .before .before .before .before .before .before in
+    let a = start .args in
+    let q = back2 in
+    let z = back in
+    at-convert-run-by-lent .convert-run-by-lent .ensures
     ∙ ap (λ (l : List Row). runBy l (a .from) (a .to) (a .jd1s .now) (a .jd2s .now) (a .out1 .now) (a .out2 .now) (a .numbers .now))
     (rows-in (a .t5) (z .size-of .result) (z .size-of .ensures))
     ∙ table-taken (tableOf (a .t5)) (rowsOf (a .t5)) (q .table-refusal .result) (q .table-refusal .ensures) (a .from) (a .to) (a .jd1s .now) (a .jd2s .now)
     (a .out1 .now) (a .out2 .now) (a .numbers .now)
-    (c .before .before .before .before .before .before .before .before .before .before .before .before .before .before .if1 .left)
+    (at-if1 .if1 .left)
 
 pub convert-run-spec : {M : Type 1} → statement M
 convert-run-spec =

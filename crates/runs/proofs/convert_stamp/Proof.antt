@@ -9,12 +9,16 @@ use Rattle.runs.proofs.convert_stamp.Tie as tie
 
 returns : tie.Need-returns
 returns c =
-    let a = c .before .before .before .before .before .before .before .before .before .before .before .before .before .args in
-    let k = c .before .before .before .before .before .before .before in
+    let at-put-answer = c .before .before .before .before in
+    let back = at-put-answer .before .before .before in
+    let at-stamp-of = back .before in
+    let start = at-stamp-of .before .before .before .before .before in
+    let a = start .args in
+    let k = back in
     put-same
     (k .convert-by-lent .ensures ∙ ap (wayOf (rowsIn (a .size) (a .months .now) (a .seconds .now)) (a .from) (a .to))
-    (c .before .before .before .before .before .before .before .before .stamp-at .ensures))
-    (c .before .before .before .before .put-answer .ensures)
+    (at-stamp-of .stamp-of .ensures))
+    (at-put-answer .put-answer .ensures)
 
 pub convert-stamp-spec : {M : Type 1} → statement M
 convert-stamp-spec =

@@ -21,7 +21,7 @@ use Rattle.julian.specs.shifts.SmallerPart.{mapSmallerPart}
 use Rattle.julian.specs.shifts.Shifts.{daysOf, converted, convertedBy}
 use Rattle.julian.proofs.shifts.Outcomes.{first, first-by, and-left, and-right}
 use Rattle.scales.specs.Conversions.{Conversion, answerOf}
-use Rattle.line_up.specs.LineUp.{stampOf}
+use Rattle.julian.specs.stamp_lists.Stamps.{stampOf}
 use Rattle.runs.specs.by_formula.Run.{RunCall, runCall, runWritten}
 use Rattle.runs.specs.by_formula.Formula.{formulaOf, byFormula, formulaAnswer, takesOffset, lengthsRefusal, formulaRefusal, formulaRun}
 use Rattle.runs.specs.laws.NotFiniteStamps.{StampNotFinite, notZeroIn}

@@ -34,7 +34,7 @@ use Rattle.utc_scales.specs.laws.Claims.{Holds, answers, refuses, Any, SixOrOne
 use Rattle.utc_scales.proofs.laws.Outcomes.{holds-onward, holds-more}
 use Rattle.utc_scales.proofs.laws.Refusals.{parts-fit, utc-to-tai-refuses, tai-to-utc-refuses}
 use Rattle.utc_scales.proofs.laws.NotFinite.{utc-to-tai-not-finite, tai-to-utc-not-finite}
-use Rattle.line_up.specs.LineUp.{stampOf}
+use Rattle.julian.specs.stamp_lists.Stamps.{stampOf}
 use Rattle.floats.proofs.ExponentField.{field-not-finite}
 use Rattle.runs.specs.ways.Ways.{isRunScale, intoTai, outOfTai, between, wayOf}
 use Rattle.runs.specs.laws.NotFiniteStamps.{StampNotFinite, numberOfNotFinite, OneSixNine}

@@ -17,7 +17,7 @@ use Rattle.julian.specs.Finite.{finiteParts}
 use Rattle.numerals.specs.little_endian.LittleEndian.{u64At}
 use Rattle.leap_table.specs.rows.Table.{Row}
 use Rattle.julian.proofs.shifts.Outcomes.{and-left, and-right}
-use Rattle.line_up.specs.LineUp.{stampOf}
+use Rattle.julian.specs.stamp_lists.Stamps.{stampOf}
 use Rattle.runs.specs.ways.Ways.{isRunScale}
 use Rattle.runs.specs.by_formula.Run.{numberByte, RunCall, runCall, runWritten}
 use Rattle.runs.specs.Run.{stampAnswer, runRefusal, runBy, convertedRun}

@@ -15,11 +15,16 @@ returns c =
 returns-2 : tie.Need-returns-2
 unfolding julianOutcome
 returns-2 c =
-    let a = c .before .before .before .before .before .before .before .before .before .before .before .before .before .before .before .args in
+    let at-to-bits2 = c .before .before .before in
+    let at-put-pattern = at-to-bits2 .before .before .before .before in
+    let at-to-bits = at-put-pattern .before in
+    let at-found2 = at-to-bits .before .before .before in
+    let start = at-found2 .before .before .before .before in
+    let a = start .args in
     put-patterns (julianOutcome (a .found)) _ (a .i) (a .out1 .now) (a .out2 .now) _ _ _ _
-    (ap julianOutcome (c .before .before .before .before .before .before .before .before .before .before .before .found2 .given .1))
-    (c .before .before .before .before .before .before .before .before .to-bits .ensures) (c .before .before .before .to-bits2 .ensures)
-    (c .before .before .before .before .before .before .before .put-pattern .ensures) (c .before .before .put-pattern2 .ensures)
+    (ap julianOutcome (at-found2 .found2 .given .1))
+    (at-to-bits .to-bits .ensures) (at-to-bits2 .to-bits2 .ensures)
+    (at-put-pattern .put-pattern .ensures) (c .before .before .put-pattern2 .ensures)
 
 pub put-answer-spec : {M : Type 1} → statement M
 put-answer-spec =

@@ -71,28 +71,44 @@ returns-7 c =
 
 returns-8 : tie.Need-returns-8
 returns-8 c =
-    let a = c .before .before .before .before .before .before .before .before .before .before .args in
+    let at-if5 = c .before .before .before in
+    let at-if4 = at-if5 .before in
+    let at-if3 = at-if4 .before in
+    let at-if2 = at-if3 .before in
+    let at-is-run-scale2 = at-if2 .before in
+    let at-if1 = at-is-run-scale2 .before in
+    let at-is-run-scale = at-if1 .before in
+    let start = at-is-run-scale .before in
+    let a = start .args in
     few-numbers (a .from) (a .to) (a .size1) (a .size2) (a .room1) (a .room2) (a .room)
-    (sym (c .before .before .before .before .before .before .before .before .before .is-run-scale .ensures)
-    ∙ not-false (c .before .before .before .before .before .before .before .before .before .is-run-scale .result)
-    (c .before .before .before .before .before .before .before .before .if1 .left))
-    (sym (c .before .before .before .before .before .before .before .is-run-scale2 .ensures)
-    ∙ not-false (c .before .before .before .before .before .before .before .is-run-scale2 .result)
-    (c .before .before .before .before .before .before .if2 .left)) (c .before .before .before .before .before .if3 .left)
-    (c .before .before .before .before .if4 .left) (c .before .before .before .if5 .left) (c .before .before .if6 .left) (c .before .if7 .left)
+    (sym (at-is-run-scale .is-run-scale .ensures)
+    ∙ not-false (at-is-run-scale .is-run-scale .result)
+    (at-if1 .if1 .left))
+    (sym (at-is-run-scale2 .is-run-scale2 .ensures)
+    ∙ not-false (at-is-run-scale2 .is-run-scale2 .result)
+    (at-if2 .if2 .left)) (at-if3 .if3 .left)
+    (at-if4 .if4 .left) (at-if5 .if5 .left) (c .before .before .if6 .left) (c .before .if7 .left)
     (c .if8 .taken)
 
 returns-9 : tie.Need-returns-9
 returns-9 c =
-    let a = c .before .before .before .before .before .before .before .before .before .before .args in
+    let at-if5 = c .before .before .before in
+    let at-if4 = at-if5 .before in
+    let at-if3 = at-if4 .before in
+    let at-if2 = at-if3 .before in
+    let at-is-run-scale2 = at-if2 .before in
+    let at-if1 = at-is-run-scale2 .before in
+    let at-is-run-scale = at-if1 .before in
+    let start = at-is-run-scale .before in
+    let a = start .args in
     none-refused (a .from) (a .to) (a .size1) (a .size2) (a .room1) (a .room2) (a .room)
-    (sym (c .before .before .before .before .before .before .before .before .before .is-run-scale .ensures)
-    ∙ not-false (c .before .before .before .before .before .before .before .before .before .is-run-scale .result)
-    (c .before .before .before .before .before .before .before .before .if1 .left))
-    (sym (c .before .before .before .before .before .before .before .is-run-scale2 .ensures)
-    ∙ not-false (c .before .before .before .before .before .before .before .is-run-scale2 .result)
-    (c .before .before .before .before .before .before .if2 .left)) (c .before .before .before .before .before .if3 .left)
-    (c .before .before .before .before .if4 .left) (c .before .before .before .if5 .left) (c .before .before .if6 .left) (c .before .if7 .left)
+    (sym (at-is-run-scale .is-run-scale .ensures)
+    ∙ not-false (at-is-run-scale .is-run-scale .result)
+    (at-if1 .if1 .left))
+    (sym (at-is-run-scale2 .is-run-scale2 .ensures)
+    ∙ not-false (at-is-run-scale2 .is-run-scale2 .result)
+    (at-if2 .if2 .left)) (at-if3 .if3 .left)
+    (at-if4 .if4 .left) (at-if5 .if5 .left) (c .before .before .if6 .left) (c .before .if7 .left)
     (c .if8 .left)
 
 pub run-refusal-spec : {M : Type 1} → statement M

@@ -4,6 +4,7 @@ use mathlib.Core.Path.{_≡_}
 use mathlib.Core.Bool.{Bool, cond, _&&_, _||_}
 use mathlib.Core.List.{List}
 use lib.Dec.{eqb, leb}
+use Rattle.constants.specs.scale_numbers.Scales.{TAI, TT, GPS, TCG, TCB, TDB}
 use lib.ListN.{length}
 use lib.Ieee.{Float, binary64, ofBits}
 use lib.Ieee.Scale.{finite}
@@ -12,7 +13,7 @@ use Rattle.numerals.specs.little_endian.LittleEndian.{u64At}
 use Rattle.julian.specs.declared.JulianDate.{JulianDate}
 use Rattle.julian.specs.shifts.Shifts.{plus, minus, converted, convertedBy}
 use Rattle.scales.specs.Formulas.{ttToTcg, tcgToTt, tcbToTdb, tdbToTcb}
-use Rattle.line_up.specs.LineUp.{stampOf}
+use Rattle.julian.specs.stamp_lists.Stamps.{stampOf}
 use Rattle.runs.specs.by_formula.Run.{firstPart, secondPart, numberByte, withPart, withParts, withNumbers, refusedAmong}
 use Rattle.runs.specs.by_formula.Formula.{byFormula, formulaRefusal}
 
@@ -86,8 +87,8 @@ IsOffsetKind from to kind = (days : Float) → IsFormula from to kind days
 -- the eight conversions that need no offset
 unfoldable pub needsNone : ℕ → ℕ → Bool
 needsNone from to =
-    (eqb from 4 && eqb to 1) || ((eqb from 1 && eqb to 4) || ((eqb from 1 && eqb to 3) || ((eqb from 3 && eqb to 1)
-    || ((eqb from 3 && eqb to 5) || ((eqb from 5 && eqb to 3) || ((eqb from 6 && eqb to 7) || (eqb from 7 && eqb to 6)))))))
+    (eqb from GPS && eqb to TAI) || ((eqb from TAI && eqb to GPS) || ((eqb from TAI && eqb to TT) || ((eqb from TT && eqb to TAI)
+    || ((eqb from TT && eqb to TCG) || ((eqb from TCG && eqb to TT) || ((eqb from TCB && eqb to TDB) || (eqb from TDB && eqb to TCB)))))))
 
 -- ---- stamps
 

@@ -5,6 +5,7 @@ use Prim.Native.Nat.{ℕ, _*_, _/_, _%_}
 use mathlib.Core.Bool.{Bool, true, false, cond, _&&_}
 use mathlib.Core.List.{List}
 use lib.Dec.{eqb, leb}
+use Rattle.constants.specs.scale_numbers.Scales.{TAI, UT1, TT, GPS, TCG, TCB, TDB}
 use lib.ListN.{length}
 use lib.Ieee.{Float, binary64, ofBits}
 use Rattle.refusals.specs.Outcome.{Outcome, answer, refusal, onward}
@@ -13,26 +14,26 @@ use Rattle.numerals.specs.little_endian.LittleEndian.{u64At}
 use Rattle.julian.specs.declared.JulianDate.{JulianDate}
 use Rattle.scales.specs.Conversions.{Conversion, answerOf, gps-tai, tai-gps, tai-tt, tt-tai, tcg-tt, tt-tcg, tcb-tdb, tdb-tcb, tai-tcg, tcg-tai}
 use Rattle.scales.specs.Conversions.{tai-ut1, ut1-tai, ut1-tt, tt-ut1, tt-tdb, tdb-tt}
-use Rattle.line_up.specs.LineUp.{stampOf}
+use Rattle.julian.specs.stamp_lists.Stamps.{stampOf}
 use Rattle.runs.specs.by_formula.Run.{RunCall, runCall, runWritten}
 
 -- the conversion from one scale to another; the last six by an offset in seconds
 unfoldable pub formulaOf : ℕ → ℕ → Float → Outcome Conversion
 formulaOf from to seconds =
-    cond (eqb from 4 && eqb to 1) (answer gps-tai)
-    (cond (eqb from 1 && eqb to 4) (answer tai-gps)
-    (cond (eqb from 1 && eqb to 3) (answer tai-tt)
-    (cond (eqb from 3 && eqb to 1) (answer tt-tai)
-    (cond (eqb from 3 && eqb to 5) (answer tt-tcg)
-    (cond (eqb from 5 && eqb to 3) (answer tcg-tt)
-    (cond (eqb from 6 && eqb to 7) (answer tcb-tdb)
-    (cond (eqb from 7 && eqb to 6) (answer tdb-tcb)
-    (cond (eqb from 1 && eqb to 2) (answer (tai-ut1 seconds))
-    (cond (eqb from 2 && eqb to 1) (answer (ut1-tai seconds))
-    (cond (eqb from 2 && eqb to 3) (answer (ut1-tt seconds))
-    (cond (eqb from 3 && eqb to 2) (answer (tt-ut1 seconds))
-    (cond (eqb from 3 && eqb to 7) (answer (tt-tdb seconds))
-    (cond (eqb from 7 && eqb to 3) (answer (tdb-tt seconds))
+    cond (eqb from GPS && eqb to TAI) (answer gps-tai)
+    (cond (eqb from TAI && eqb to GPS) (answer tai-gps)
+    (cond (eqb from TAI && eqb to TT) (answer tai-tt)
+    (cond (eqb from TT && eqb to TAI) (answer tt-tai)
+    (cond (eqb from TT && eqb to TCG) (answer tt-tcg)
+    (cond (eqb from TCG && eqb to TT) (answer tcg-tt)
+    (cond (eqb from TCB && eqb to TDB) (answer tcb-tdb)
+    (cond (eqb from TDB && eqb to TCB) (answer tdb-tcb)
+    (cond (eqb from TAI && eqb to UT1) (answer (tai-ut1 seconds))
+    (cond (eqb from UT1 && eqb to TAI) (answer (ut1-tai seconds))
+    (cond (eqb from UT1 && eqb to TT) (answer (ut1-tt seconds))
+    (cond (eqb from TT && eqb to UT1) (answer (tt-ut1 seconds))
+    (cond (eqb from TT && eqb to TDB) (answer (tt-tdb seconds))
+    (cond (eqb from TDB && eqb to TT) (answer (tdb-tt seconds))
     (refusal 18))))))))))))))
 
 -- the date that it leads to

@@ -7,6 +7,7 @@ use mathlib.Core.Logic.{_⊎_}
 use mathlib.Core.Bool.{cond, _&&_, _||_}
 use mathlib.Core.List.{List}
 use lib.Dec.{eqb}
+use Rattle.constants.specs.scale_numbers.Scales.{UTC, TAI}
 use lib.ListN.{getD}
 use Rattle.numerals.specs.little_endian.LittleEndian.{u64At}
 use Rattle.floats.specs.ExponentField.{exponentField}
@@ -17,7 +18,7 @@ StampNotFinite js ks i = (exponentField (u64At js (8 * i)) ≡ 2047) ⊎ (expone
 
 -- the number that it gets: 6 where the first call on the way reads the leap table, from UTC and from TAI to UTC, and else 9
 unfoldable pub numberOfNotFinite : ℕ → ℕ → ℕ
-numberOfNotFinite from to = cond (eqb from to) 9 (cond (eqb from 0 || (eqb from 1 && eqb to 0)) 6 9)
+numberOfNotFinite from to = cond (eqb from to) 9 (cond (eqb from UTC || (eqb from TAI && eqb to UTC)) 6 9)
 
 -- the numbers of refused stamps
 abbrev pub OneSixNine : ℕ → Type 0

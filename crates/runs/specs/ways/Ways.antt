@@ -5,6 +5,7 @@ use Prim.Native.Nat.{ℕ}
 use mathlib.Core.Bool.{Bool, cond, _&&_, _||_}
 use mathlib.Core.List.{List}
 use lib.Dec.{eqb}
+use Rattle.constants.specs.scale_numbers.Scales.{UTC, TAI, TT, GPS, TCG}
 use Rattle.refusals.specs.Outcome.{Outcome, answer, onward}
 use Rattle.julian.specs.declared.JulianDate.{JulianDate}
 use Rattle.julian.specs.Finite.{finiteJd}
@@ -14,31 +15,31 @@ use Rattle.utc_scales.specs.UtcTai.{utcToTai, taiToUtc}
 
 -- the five scales between which no number is asked of the caller
 unfoldable pub isRunScale : ℕ → Bool
-isRunScale n = eqb n 0 || (eqb n 1 || (eqb n 3 || (eqb n 4 || eqb n 5)))
+isRunScale n = eqb n UTC || (eqb n TAI || (eqb n TT || (eqb n GPS || eqb n TCG)))
 
 -- a date of scale `from` in TAI; a date of TAI is there already
 unfoldable pub intoTai : List Row → ℕ → JulianDate → Outcome JulianDate
 intoTai rows from d =
-    cond (eqb from 0) (utcToTai rows d)
-    (cond (eqb from 3) (answerOf tt-tai d)
-    (cond (eqb from 4) (answerOf gps-tai d)
-    (cond (eqb from 5) (answerOf tcg-tai d)
+    cond (eqb from UTC) (utcToTai rows d)
+    (cond (eqb from TT) (answerOf tt-tai d)
+    (cond (eqb from GPS) (answerOf gps-tai d)
+    (cond (eqb from TCG) (answerOf tcg-tai d)
     (answer d))))
 
 -- a date of TAI in scale `to`
 unfoldable pub outOfTai : List Row → ℕ → JulianDate → Outcome JulianDate
 outOfTai rows to d =
-    cond (eqb to 0) (taiToUtc rows d)
-    (cond (eqb to 3) (answerOf tai-tt d)
-    (cond (eqb to 4) (answerOf tai-gps d)
-    (cond (eqb to 5) (answerOf tai-tcg d)
+    cond (eqb to UTC) (taiToUtc rows d)
+    (cond (eqb to TT) (answerOf tai-tt d)
+    (cond (eqb to GPS) (answerOf tai-gps d)
+    (cond (eqb to TCG) (answerOf tai-tcg d)
     (answer d))))
 
 -- from one scale to another
 unfoldable pub between : List Row → ℕ → ℕ → JulianDate → Outcome JulianDate
 between rows from to d =
-    cond (eqb from 3 && eqb to 5) (answerOf tt-tcg d)
-    (cond (eqb from 5 && eqb to 3) (answerOf tcg-tt d)
+    cond (eqb from TT && eqb to TCG) (answerOf tt-tcg d)
+    (cond (eqb from TCG && eqb to TT) (answerOf tcg-tt d)
     (onward (intoTai rows from d) (outOfTai rows to)))
 
 -- the same scale is the test for stamps that are not finite: the date itself, and 9 where a part is not finite

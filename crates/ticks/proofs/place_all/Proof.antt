@@ -46,30 +46,39 @@ millis-between-requires c κs =
     (c .neighbour .result) (c .neighbour .ensures ∙ ap (λ (t : ℕ). lastNotAfter (numberAt (a .passes .now)) t (a .k)) (q .number-at .ensures)))
 
 mul-put-number : tie.Need-mul-put-number Inv-loop μ-loop
-mul-put-number c = record {
-  fits =
-      omega (
-        arith,
-        c .before .before .before .before .loop-test .taken,
-        c .before .before .before .before .before .before .before .before .before .before .pre .0 .there,
-      );
-}
+mul-put-number c =
+    let test = c .before .before .before .before in
+    let start = test .before .before .before .before .before .before in
+    record {
+      fits =
+          omega (
+            arith,
+            test .loop-test .taken,
+            start .pre .0 .there,
+          );
+    }
 
 put-number-requires : tie.Need-put-number-requires Inv-loop μ-loop
 put-number-requires c κs =
-    let l = c .before .before .before .before .before in
-    let s = c .before .before .before .before .before .before .before .before .before .before in
+    let test = c .before .before .before .before in
+    let back = test .before in
+    let back2 = back .before .before .before .before .before in
+    let l = back in
+    let s = back2 in
     let a = s .args in
-    omega (arith, l .loop .inv .1 .len, c .before .before .before .before .loop-test .taken, s .pre .1)
+    omega (arith, l .loop .inv .1 .len, test .loop-test .taken, s .pre .1)
 
 add-i : tie.Need-add-i Inv-loop μ-loop
-add-i c = record {
-  fits = omega (
-    arith,
-    c .before .before .before .before .before .before .before .loop-test .taken,
-    c .before .before .before .before .before .before .before .before .before .before .before .before .before .pre .0 .there,
-  );
-}
+add-i c =
+    let test = c .before .before .before .before .before .before .before in
+    let start = test .before .before .before .before .before .before in
+    record {
+      fits = omega (
+        arith,
+        test .loop-test .taken,
+        start .pre .0 .there,
+      );
+    }
 
 loop-less : tie.Need-loop-less Inv-loop μ-loop
 loop-less c = omega (arith, c .before .before .before .before .before .before .before .loop-test .taken)

@@ -32,9 +32,12 @@ place-all-requires c κs =
 
 returns-2 : tie.Need-returns-2
 returns-2 c =
-    let a = c .before .before .before .before .before .before .before .before .before .before .args in
-    written-call (a .passes .now) (a .millis .now) (a .ticks .now) (a .out .now) _ (c .before .before .before .before .before .refused-by .result)
-    (c .before .before .before .before .before .refused-by .ensures) (c .before .before .before .before .if1 .left) (c .before .before .place-all .ensures)
+    let at-if1 = c .before .before .before .before in
+    let at-refused-by = at-if1 .before in
+    let start = at-refused-by .before .before .before .before .before in
+    let a = start .args in
+    written-call (a .passes .now) (a .millis .now) (a .ticks .now) (a .out .now) _ (at-refused-by .refused-by .result)
+    (at-refused-by .refused-by .ensures) (at-if1 .if1 .left) (c .before .before .place-all .ensures)
 
 pub place-ticks-spec : {M : Type 1} → statement M
 place-ticks-spec =

@@ -1,6 +1,6 @@
 -- `line_up::keep::sooner_at` meets its contract. Assumes nothing.
 use mathlib.Core.Path.{_∙_}
-use Rattle.line_up.proofs.keep.Cases.{sooner-is}
+use Rattle.line_up.proofs.keep.Dates.{sooner-is}
 use borrow.Author.Needs.{needs}
 use Rattle.line_up.proofs.keep.sooner_at.Statement.{statement}
 use Rattle.line_up.proofs.keep.sooner_at.Tie as tie

@@ -67,31 +67,49 @@ returns-8 c = few-second (c .before .before .before .before .before .before .bef
     (c .if8 .taken)
 
 returns-9 : tie.Need-returns-9
-returns-9 c = few-numbers (c .before .before .before .before .before .before .before .before .before .before .args .kind)
-    (c .before .before .before .before .before .before .before .before .before .before .args .size1)
-    (c .before .before .before .before .before .before .before .before .before .before .args .size2)
-    (c .before .before .before .before .before .before .before .before .before .before .args .size3)
-    (c .before .before .before .before .before .before .before .before .before .before .args .room1)
-    (c .before .before .before .before .before .before .before .before .before .before .args .room2)
-    (c .before .before .before .before .before .before .before .before .before .before .args .room)
-    (c .before .before .before .before .before .before .before .before .before .if1 .left)
-    (c .before .before .before .before .before .before .before .before .if2 .left) (c .before .before .before .before .before .before .before .if3 .left)
-    (c .before .before .before .before .before .before .if4 .left) (c .before .before .before .before .before .if5 .left)
-    (c .before .before .before .if6 .left ∙ c .before .before .before .before .size-due .ensures) (c .before .before .if7 .left) (c .before .if8 .left)
+returns-9 c =
+    let at-if6 = c .before .before .before in
+    let at-size-due = at-if6 .before in
+    let at-if5 = at-size-due .before in
+    let at-if4 = at-if5 .before in
+    let at-if3 = at-if4 .before in
+    let at-if2 = at-if3 .before in
+    let at-if1 = at-if2 .before in
+    let start = at-if1 .before in
+    few-numbers (start .args .kind)
+    (start .args .size1)
+    (start .args .size2)
+    (start .args .size3)
+    (start .args .room1)
+    (start .args .room2)
+    (start .args .room)
+    (at-if1 .if1 .left)
+    (at-if2 .if2 .left) (at-if3 .if3 .left)
+    (at-if4 .if4 .left) (at-if5 .if5 .left)
+    (at-if6 .if6 .left ∙ at-size-due .size-due .ensures) (c .before .before .if7 .left) (c .before .if8 .left)
     (c .if9 .taken)
 
 returns-10 : tie.Need-returns-10
-returns-10 c = none-refused (c .before .before .before .before .before .before .before .before .before .before .args .kind)
-    (c .before .before .before .before .before .before .before .before .before .before .args .size1)
-    (c .before .before .before .before .before .before .before .before .before .before .args .size2)
-    (c .before .before .before .before .before .before .before .before .before .before .args .size3)
-    (c .before .before .before .before .before .before .before .before .before .before .args .room1)
-    (c .before .before .before .before .before .before .before .before .before .before .args .room2)
-    (c .before .before .before .before .before .before .before .before .before .before .args .room)
-    (c .before .before .before .before .before .before .before .before .before .if1 .left)
-    (c .before .before .before .before .before .before .before .before .if2 .left) (c .before .before .before .before .before .before .before .if3 .left)
-    (c .before .before .before .before .before .before .if4 .left) (c .before .before .before .before .before .if5 .left)
-    (c .before .before .before .if6 .left ∙ c .before .before .before .before .size-due .ensures) (c .before .before .if7 .left) (c .before .if8 .left)
+returns-10 c =
+    let at-if6 = c .before .before .before in
+    let at-size-due = at-if6 .before in
+    let at-if5 = at-size-due .before in
+    let at-if4 = at-if5 .before in
+    let at-if3 = at-if4 .before in
+    let at-if2 = at-if3 .before in
+    let at-if1 = at-if2 .before in
+    let start = at-if1 .before in
+    none-refused (start .args .kind)
+    (start .args .size1)
+    (start .args .size2)
+    (start .args .size3)
+    (start .args .room1)
+    (start .args .room2)
+    (start .args .room)
+    (at-if1 .if1 .left)
+    (at-if2 .if2 .left) (at-if3 .if3 .left)
+    (at-if4 .if4 .left) (at-if5 .if5 .left)
+    (at-if6 .if6 .left ∙ at-size-due .size-due .ensures) (c .before .before .if7 .left) (c .before .if8 .left)
     (c .if9 .left)
 
 pub formula-refusal-spec : {M : Type 1} → statement M

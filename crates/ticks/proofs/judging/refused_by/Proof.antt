@@ -49,56 +49,81 @@ judged-requires c κs =
 
 returns-6 : tie.Need-returns-6
 returns-6 c =
-    let a = c .before .before .before .before .before .before .before .before .before .before .before .args in
-    by-passes (a .passes .now) (a .millis .now) (a .ticks .now) (a .room) (wholes (c .before .before .before)) (c .before .before .before .before .if4 .left)
-    (sym (c .before .before .before .well-counted .ensures) ∙ not-false _ (c .before .before .if5 .left)) (c .before .judged .result)
+    let at-well-counted = c .before .before .before in
+    let at-if4 = at-well-counted .before in
+    let start = at-if4 .before .before .before .before .before .before .before in
+    let a = start .args in
+    by-passes (a .passes .now) (a .millis .now) (a .ticks .now) (a .room) (wholes (at-well-counted)) (at-if4 .if4 .left)
+    (sym (at-well-counted .well-counted .ensures) ∙ not-false _ (c .before .before .if5 .left)) (c .before .judged .result)
     (c .before .judged .ensures) (c .if6 .taken)
 
 number-at-requires : tie.Need-number-at-requires
 number-at-requires c κs =
-    let a = c .before .before .before .before .before .before .before .before .before .before .before .args in
+    let at-well-counted = c .before .before .before in
+    let start = at-well-counted .before .before .before .before .before .before .before .before in
+    let a = start .args in
     let u = counted-is (a .passes .now) (a .millis .now)
-    (sym (c .before .before .before .well-counted .ensures) ∙ not-false _ (c .before .before .if5 .left)) in
+    (sym (at-well-counted .well-counted .ensures) ∙ not-false _ (c .before .before .if5 .left)) in
     omega (arith, u .two)
 
 sub-number-at : tie.Need-sub-number-at
 sub-number-at c =
-    let a = c .before .before .before .before .before .before .before .before .before .before .before .before .args in
+    let at-if5 = c .before .before .before in
+    let at-well-counted = at-if5 .before in
+    let start = at-well-counted .before .before .before .before .before .before .before .before in
+    let a = start .args in
     let u = counted-is (a .passes .now) (a .millis .now)
-    (sym (c .before .before .before .before .well-counted .ensures) ∙ not-false _ (c .before .before .before .if5 .left)) in
+    (sym (at-well-counted .well-counted .ensures) ∙ not-false _ (at-if5 .if5 .left)) in
     omega (arith, u .two)
 
 number-at-requires-2 : tie.Need-number-at-requires-2
 number-at-requires-2 c κs =
-    let a = c .before .before .before .before .before .before .before .before .before .before .before .before .args in
+    let at-if5 = c .before .before .before in
+    let at-well-counted = at-if5 .before in
+    let start = at-well-counted .before .before .before .before .before .before .before .before in
+    let a = start .args in
     let u = counted-is (a .passes .now) (a .millis .now)
-    (sym (c .before .before .before .before .well-counted .ensures) ∙ not-false _ (c .before .before .before .if5 .left)) in
+    (sym (at-well-counted .well-counted .ensures) ∙ not-false _ (at-if5 .if5 .left)) in
     omega (arith, u .two)
 
 returns-7 : tie.Need-returns-7
 returns-7 c =
-    let a = c .before .before .before .before .before .before .before .before .before .before .before .before .before .before .before .args in
-    let u = passes-right (a .passes .now) (a .millis .now) (a .ticks .now) (a .room) (wholes (c .before .before .before .before .before .before .before))
-    (c .before .before .before .before .before .before .before .before .if4 .left)
-    (sym (c .before .before .before .before .before .before .before .well-counted .ensures)
-    ∙ not-false _ (c .before .before .before .before .before .before .if5 .left)) (c .before .before .before .before .before .judged .result)
-    (c .before .before .before .before .before .judged .ensures) (c .before .before .before .before .if6 .left) in
-    by-ticks (a .passes .now) (a .millis .now) (a .ticks .now) (a .room) (wholes (c .before .before .before .before .before .before .before))
-    (c .before .before .before .before .before .before .before .before .if4 .left) (u .0) false (u .1)
-    (inside-is (a .passes .now) (a .ticks .now) _ _ false (c .before .before .before .number-at .ensures) (c .before .before .number-at2 .ensures)
+    let at-number-at = c .before .before .before in
+    let at-if6 = at-number-at .before in
+    let at-judged = at-if6 .before in
+    let at-if5 = at-judged .before in
+    let at-well-counted = at-if5 .before in
+    let at-if4 = at-well-counted .before in
+    let start = at-if4 .before .before .before .before .before .before .before in
+    let a = start .args in
+    let u = passes-right (a .passes .now) (a .millis .now) (a .ticks .now) (a .room) (wholes (at-well-counted))
+    (at-if4 .if4 .left)
+    (sym (at-well-counted .well-counted .ensures)
+    ∙ not-false _ (at-if5 .if5 .left)) (at-judged .judged .result)
+    (at-judged .judged .ensures) (at-if6 .if6 .left) in
+    by-ticks (a .passes .now) (a .millis .now) (a .ticks .now) (a .room) (wholes (at-well-counted))
+    (at-if4 .if4 .left) (u .0) false (u .1)
+    (inside-is (a .passes .now) (a .ticks .now) _ _ false (at-number-at .number-at .ensures) (c .before .before .number-at2 .ensures)
     (sym (not-true _ (c .if7 .taken)) ∙ c .before .all-inside .ensures))
 
 returns-8 : tie.Need-returns-8
 returns-8 c =
-    let a = c .before .before .before .before .before .before .before .before .before .before .before .before .before .before .before .args in
-    let u = passes-right (a .passes .now) (a .millis .now) (a .ticks .now) (a .room) (wholes (c .before .before .before .before .before .before .before))
-    (c .before .before .before .before .before .before .before .before .if4 .left)
-    (sym (c .before .before .before .before .before .before .before .well-counted .ensures)
-    ∙ not-false _ (c .before .before .before .before .before .before .if5 .left)) (c .before .before .before .before .before .judged .result)
-    (c .before .before .before .before .before .judged .ensures) (c .before .before .before .before .if6 .left) in
-    by-ticks (a .passes .now) (a .millis .now) (a .ticks .now) (a .room) (wholes (c .before .before .before .before .before .before .before))
-    (c .before .before .before .before .before .before .before .before .if4 .left) (u .0) true (u .1)
-    (inside-is (a .passes .now) (a .ticks .now) _ _ true (c .before .before .before .number-at .ensures) (c .before .before .number-at2 .ensures)
+    let at-number-at = c .before .before .before in
+    let at-if6 = at-number-at .before in
+    let at-judged = at-if6 .before in
+    let at-if5 = at-judged .before in
+    let at-well-counted = at-if5 .before in
+    let at-if4 = at-well-counted .before in
+    let start = at-if4 .before .before .before .before .before .before .before in
+    let a = start .args in
+    let u = passes-right (a .passes .now) (a .millis .now) (a .ticks .now) (a .room) (wholes (at-well-counted))
+    (at-if4 .if4 .left)
+    (sym (at-well-counted .well-counted .ensures)
+    ∙ not-false _ (at-if5 .if5 .left)) (at-judged .judged .result)
+    (at-judged .judged .ensures) (at-if6 .if6 .left) in
+    by-ticks (a .passes .now) (a .millis .now) (a .ticks .now) (a .room) (wholes (at-well-counted))
+    (at-if4 .if4 .left) (u .0) true (u .1)
+    (inside-is (a .passes .now) (a .ticks .now) _ _ true (at-number-at .number-at .ensures) (c .before .before .number-at2 .ensures)
     (sym (not-false _ (c .if7 .left)) ∙ c .before .all-inside .ensures))
 
 pub refused-by-spec : {M : Type 1} → statement M

@@ -14,10 +14,13 @@ use Rattle.runs.proofs.by_formula.changes.change_stamp.Tie as tie
 
 returns : tie.Need-returns
 returns c =
-    let a = c .before .before .before .before .before .before .before .before .before .before .args in
+    let at-pattern-at2 = c .before .before .before .before in
+    let at-pattern-at = at-pattern-at2 .before in
+    let start = at-pattern-at .before .before .before .before .before in
+    let a = start .args in
     put-refused _ 9 (a .i) _ (a .out1 .now) (a .out2 .now)
     (not-finite-first (changeOf (a .kind) (a .days)) (a .jd1s .now) (a .jd2s .now) (a .i) _ _
-    (c .before .before .before .before .before .pattern-at .ensures) (c .before .before .before .before .pattern-at2 .ensures)
+    (at-pattern-at .pattern-at .ensures) (at-pattern-at2 .pattern-at2 .ensures)
     (sym (c .before .is-number .ensures) ∙ not-true _ (c .if2 .taken))) refl
 
 float-from-bits-x : tie.Need-float-from-bits-x
@@ -30,33 +33,43 @@ float-from-bits-y c = no-nan _ (smaller-second (c .before .before .before .befor
 
 returns-2 : tie.Need-returns-2
 returns-2 c =
-    let a = c .before .before .before .before .before .before .before .before .before .before .before .before .before .before .before .before .before .before
-    .before .before .args in
-    let fa = sym (c .before .before .before .before .before .before .before .before .before .before .before .is-number .ensures)
-    ∙ not-false _ (c .before .before .before .before .before .before .before .before .before .before .if2 .left) in
-    let fb = smaller-second (c .before .before .before .before .before .before .before .before .before .before .before .before .before .before .before
-    .pattern-at .result) (c .before .before .before .before .before .before .before .before .before .before .before .before .before .before .pattern-at2
-    .result) (sym (c .before .before .before .before .before .before .before .before .before .before .before .before .before .is-larger .ensures)
-    ∙ (c .before .before .before .before .before .before .before .before .before .before .before .before .if1 .taken)) fa in
+    let at-to-bits = c .before .before .before in
+    let at-changed-part = at-to-bits .before in
+    let at-put-pattern = at-changed-part .before .before .before .before in
+    let at-if2 = at-put-pattern .before .before in
+    let at-is-number = at-if2 .before in
+    let at-if1 = at-is-number .before in
+    let at-is-larger = at-if1 .before in
+    let at-pattern-at2 = at-is-larger .before in
+    let at-pattern-at = at-pattern-at2 .before in
+    let start = at-pattern-at .before .before .before .before .before in
+    let a = start .args in
+    let fa = sym (at-is-number .is-number .ensures)
+    ∙ not-false _ (at-if2 .if2 .left) in
+    let fb = smaller-second (at-pattern-at .pattern-at .result) (at-pattern-at2 .pattern-at2
+    .result) (sym (at-is-larger .is-larger .ensures)
+    ∙ (at-if1 .if1 .taken)) fa in
     put-patterns _ _ (a .i) (a .out1 .now) (a .out2 .now) _ _ _ _
     (changed-second (changeOf (a .kind) (a .days)) (a .jd1s .now) (a .jd2s .now) (a .i) _ _
-    (c .before .before .before .before .before .before .before .before .before .before .before .before .before .before .before .pattern-at .ensures)
-    (c .before .before .before .before .before .before .before .before .before .before .before .before .before .before .pattern-at2 .ensures) fa fb
-    (c .before .before .before .before .before .before .before .before .before .before .before .before .before .is-larger .result)
-    (c .before .before .before .before .before .before .before .before .before .before .before .before .before .is-larger .ensures
+    (at-pattern-at .pattern-at .ensures)
+    (at-pattern-at2 .pattern-at2 .ensures) fa fb
+    (at-is-larger .is-larger .result)
+    (at-is-larger .is-larger .ensures
     ∙ larger-pattern _ _ (field-most _) (field-most _) fa fb)
-    (c .before .before .before .before .before .before .before .before .before .before .before .before .if1 .taken))
-    (sym (pattern-back _ (c .before .before .before .before .before .before .before .before .before .before .before .before .before .before .before
-    .pattern-at .ok) fa))
-    (c .before .before .before .to-bits .ensures ∙ ap (toBits binary64) (c .before .before .before .before .changed-part .ensures))
-    (c .before .before .before .before .before .before .before .before .put-pattern .ensures) (c .before .before .put-pattern2 .ensures)
+    (at-if1 .if1 .taken))
+    (sym (pattern-back _ (at-pattern-at .pattern-at .ok) fa))
+    (at-to-bits .to-bits .ensures ∙ ap (toBits binary64) (at-changed-part .changed-part .ensures))
+    (at-put-pattern .put-pattern .ensures) (c .before .before .put-pattern2 .ensures)
 
 returns-3 : tie.Need-returns-3
 returns-3 c =
-    let a = c .before .before .before .before .before .before .before .before .before .before .args in
+    let at-pattern-at2 = c .before .before .before .before in
+    let at-pattern-at = at-pattern-at2 .before in
+    let start = at-pattern-at .before .before .before .before .before in
+    let a = start .args in
     put-refused _ 9 (a .i) _ (a .out1 .now) (a .out2 .now)
     (not-finite-either (changeOf (a .kind) (a .days)) (a .jd1s .now) (a .jd2s .now) (a .i) _ _
-    (c .before .before .before .before .before .pattern-at .ensures) (c .before .before .before .before .pattern-at2 .ensures)
+    (at-pattern-at .pattern-at .ensures) (at-pattern-at2 .pattern-at2 .ensures)
     (sym (c .before .is-number2 .ensures) ∙ not-true _ (c .if3 .taken))) refl
 
 float-from-bits-x-2 : tie.Need-float-from-bits-x-2
@@ -69,27 +82,35 @@ float-from-bits-y-2 c = no-nan _ (sym (c .before .is-number2 .ensures) ∙ not-f
 
 returns-4 : tie.Need-returns-4
 returns-4 c =
-    let a = c .before .before .before .before .before .before .before .before .before .before .before .before .before .before .before .before .before .before
-    .before .before .args in
-    let fb = sym (c .before .before .before .before .before .before .before .before .before .before .before .is-number2 .ensures)
-    ∙ not-false _ (c .before .before .before .before .before .before .before .before .before .before .if3 .left) in
-    let fa = smaller-first (c .before .before .before .before .before .before .before .before .before .before .before .before .before .before .before
-    .pattern-at .result) (c .before .before .before .before .before .before .before .before .before .before .before .before .before .before .pattern-at2
-    .result) (sym (c .before .before .before .before .before .before .before .before .before .before .before .before .before .is-larger .ensures)
-    ∙ (c .before .before .before .before .before .before .before .before .before .before .before .before .if1 .left)) fb in
+    let at-put-pattern3 = c .before .before .before .before .before .before in
+    let at-to-bits2 = at-put-pattern3 .before in
+    let at-changed-part2 = at-to-bits2 .before in
+    let at-if3 = at-changed-part2 .before .before in
+    let at-is-number2 = at-if3 .before in
+    let at-if1 = at-is-number2 .before in
+    let at-is-larger = at-if1 .before in
+    let at-pattern-at2 = at-is-larger .before in
+    let at-pattern-at = at-pattern-at2 .before in
+    let start = at-pattern-at .before .before .before .before .before in
+    let a = start .args in
+    let fb = sym (at-is-number2 .is-number2 .ensures)
+    ∙ not-false _ (at-if3 .if3 .left) in
+    let fa = smaller-first (at-pattern-at .pattern-at .result) (at-pattern-at2 .pattern-at2
+    .result) (sym (at-is-larger .is-larger .ensures)
+    ∙ (at-if1 .if1 .left)) fb in
     put-patterns _ _ (a .i) (a .out1 .now) (a .out2 .now) _ _ _ _
     (changed-first (changeOf (a .kind) (a .days)) (a .jd1s .now) (a .jd2s .now) (a .i) _ _
-    (c .before .before .before .before .before .before .before .before .before .before .before .before .before .before .before .pattern-at .ensures)
-    (c .before .before .before .before .before .before .before .before .before .before .before .before .before .before .pattern-at2 .ensures) fa fb
-    (c .before .before .before .before .before .before .before .before .before .before .before .before .before .is-larger .result)
-    (c .before .before .before .before .before .before .before .before .before .before .before .before .before .is-larger .ensures
+    (at-pattern-at .pattern-at .ensures)
+    (at-pattern-at2 .pattern-at2 .ensures) fa fb
+    (at-is-larger .is-larger .result)
+    (at-is-larger .is-larger .ensures
     ∙ larger-pattern _ _ (field-most _) (field-most _) fa fb)
-    (c .before .before .before .before .before .before .before .before .before .before .before .before .if1 .left))
-    (c .before .before .before .before .before .before .before .to-bits2 .ensures
-    ∙ ap (toBits binary64) (c .before .before .before .before .before .before .before .before .changed-part2 .ensures))
-    (sym (pattern-back _ (c .before .before .before .before .before .before .before .before .before .before .before .before .before .before .pattern-at2 .ok)
+    (at-if1 .if1 .left))
+    (at-to-bits2 .to-bits2 .ensures
+    ∙ ap (toBits binary64) (at-changed-part2 .changed-part2 .ensures))
+    (sym (pattern-back _ (at-pattern-at2 .pattern-at2 .ok)
     fb))
-    (c .before .before .before .before .before .before .put-pattern3 .ensures) (c .before .before .put-pattern4 .ensures)
+    (at-put-pattern3 .put-pattern3 .ensures) (c .before .before .put-pattern4 .ensures)
 
 pub change-stamp-spec : {M : Type 1} → statement M
 change-stamp-spec =

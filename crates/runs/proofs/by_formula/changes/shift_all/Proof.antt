@@ -47,12 +47,15 @@ change-stamp-requires c κs =
 
 slice-write-numbers : tie.Need-slice-write-numbers Inv-loop μ-loop
 slice-write-numbers c =
-    let l = c .before .before .before .before .before .before .before .before in
-    let s = c .before .before .before .before .before .before .before .before .before .before .before .before .before .before in
+    let test = c .before .before .before .before .before .before .before in
+    let back = test .before in
+    let back2 = back .before .before .before .before .before .before in
+    let l = back in
+    let s = back2 in
     let a = s .args in
     omega (
       arith,
-      c .before .before .before .before .before .before .before .loop-test .taken,
+      test .loop-test .taken,
       s .pre .bytes,
       len3 (changedStamp (changeOf 3 (a .days)) (a .jd1s .now) (a .jd2s .now)) (a .n) (a .out1 .now) (a .out2 .now) (a .numbers .now) (l .loop .out1)
           (l .loop .out2) (l .loop .numbers) (l .loop .refused) (l .loop .i) (l .loop .inv),
@@ -63,13 +66,16 @@ one-if-refused-requires c κs = search needs
 
 add-refused : tie.Need-add-refused Inv-loop μ-loop
 add-refused c =
-    let l = c .before .before .before .before .before .before .before .before .before in
-    let s = c .before .before .before .before .before .before .before .before .before .before .before .before .before .before .before in
+    let test = c .before .before .before .before .before .before .before .before in
+    let back = test .before in
+    let back2 = back .before .before .before .before .before .before in
+    let l = back in
+    let s = back2 in
     let a = s .args in
     record {
       fits = omega (
         arith,
-        c .before .before .before .before .before .before .before .before .loop-test .taken,
+        test .loop-test .taken,
         few (changedStamp (changeOf 3 (a .days)) (a .jd1s .now) (a .jd2s .now)) (a .n) (a .out1 .now) (a .out2 .now) (a .numbers .now) (l .loop .out1)
             (l .loop .out2) (l .loop .numbers) (l .loop .refused) (l .loop .i) (l .loop .inv),
         s .pre .first,
@@ -79,21 +85,27 @@ add-refused c =
 
 add-i : tie.Need-add-i Inv-loop μ-loop
 add-i c =
-    let s = c .before .before .before .before .before .before .before .before .before .before .before .before .before .before .before in
-    record { fits = omega (arith, c .before .before .before .before .before .before .before .before .loop-test .taken, s .pre .first) }
+    let test = c .before .before .before .before .before .before .before .before in
+    let back = test .before .before .before .before .before .before .before in
+    let s = back in
+    record { fits = omega (arith, test .loop-test .taken, s .pre .first) }
 
 loop-less : tie.Need-loop-less Inv-loop μ-loop
 loop-less c = omega (arith, c .before .before .before .before .before .before .before .before .loop-test .taken)
 
 loop-again : tie.Need-loop-again Inv-loop μ-loop
 loop-again c =
-    let l = c .before .before .before .before .before .before .before .before .before in
-    let s = c .before .before .before .before .before .before .before .before .before .before .before .before .before .before .before in
+    let at-change-stamp = c .before .before .before .before .before in
+    let test = at-change-stamp .before .before .before in
+    let back = test .before in
+    let back2 = back .before .before .before .before .before .before in
+    let l = back in
+    let s = back2 in
     let a = s .args in
     putting-goes (changedStamp (changeOf 3 (a .days)) (a .jd1s .now) (a .jd2s .now)) (a .n) (a .out1 .now) (a .out2 .now) (a .numbers .now) (l .loop .out1)
     (l .loop .out2) (l .loop .numbers) (l .loop .refused) (l .loop .i) (l .loop .inv) _ _ _ _
-    (c .before .before .before .before .before .before .before .before .loop-test .taken)
-    (c .before .before .before .before .before .change-stamp .ensures) (c .one-if-refused .ensures .0)
+    (test .loop-test .taken)
+    (at-change-stamp .change-stamp .ensures) (c .one-if-refused .ensures .0)
 
 same-length : tie.Need-same-length Inv-loop μ-loop
 same-length c =

@@ -21,8 +21,10 @@ loop-holds c =
 
 offset-stamp-requires : tie.Need-offset-stamp-requires Inv-loop μ-loop
 offset-stamp-requires c κs =
-    let l = c .before .before .before in
-    let s = c .before .before .before .before .before .before .before .before .before .before in
+    let back = c .before .before .before in
+    let back2 = back .before .before .before .before .before .before .before in
+    let l = back in
+    let s = back2 in
     let a = s .args in
     let h = c .before .before .loop-test .taken in
     let p = s .pre .0 in (
@@ -50,12 +52,15 @@ offset-stamp-requires c κs =
 
 slice-write-numbers : tie.Need-slice-write-numbers Inv-loop μ-loop
 slice-write-numbers c =
-    let l = c .before .before .before .before .before .before .before .before in
-    let s = c .before .before .before .before .before .before .before .before .before .before .before .before .before .before .before in
+    let test = c .before .before .before .before .before .before .before in
+    let back = test .before in
+    let back2 = back .before .before .before .before .before .before .before in
+    let l = back in
+    let s = back2 in
     let a = s .args in
     omega (
       arith,
-      c .before .before .before .before .before .before .before .loop-test .taken,
+      test .loop-test .taken,
       s .pre .0 .bytes,
       len3 (offsetStamp (a .earlier) (a .jd1s .now) (a .jd2s .now) (a .offsets .now)) (a .n) (a .out1 .now) (a .out2 .now) (a .numbers .now) (l .loop .out1)
           (l .loop .out2) (l .loop .numbers) (l .loop .refused) (l .loop .i) (l .loop .inv),
@@ -66,13 +71,16 @@ one-if-refused-requires c κs = search needs
 
 add-refused : tie.Need-add-refused Inv-loop μ-loop
 add-refused c =
-    let l = c .before .before .before .before .before .before .before .before .before in
-    let s = c .before .before .before .before .before .before .before .before .before .before .before .before .before .before .before .before in
+    let test = c .before .before .before .before .before .before .before .before in
+    let back = test .before in
+    let back2 = back .before .before .before .before .before .before .before in
+    let l = back in
+    let s = back2 in
     let a = s .args in
     record {
       fits = omega (
         arith,
-        c .before .before .before .before .before .before .before .before .loop-test .taken,
+        test .loop-test .taken,
         few (offsetStamp (a .earlier) (a .jd1s .now) (a .jd2s .now) (a .offsets .now)) (a .n) (a .out1 .now) (a .out2 .now) (a .numbers .now) (l .loop .out1)
             (l .loop .out2) (l .loop .numbers) (l .loop .refused) (l .loop .i) (l .loop .inv),
         s .pre .0 .first,
@@ -82,21 +90,27 @@ add-refused c =
 
 add-i : tie.Need-add-i Inv-loop μ-loop
 add-i c =
-    let s = c .before .before .before .before .before .before .before .before .before .before .before .before .before .before .before .before in
-    record { fits = omega (arith, c .before .before .before .before .before .before .before .before .loop-test .taken, s .pre .0 .first) }
+    let test = c .before .before .before .before .before .before .before .before in
+    let back = test .before .before .before .before .before .before .before .before in
+    let s = back in
+    record { fits = omega (arith, test .loop-test .taken, s .pre .0 .first) }
 
 loop-less : tie.Need-loop-less Inv-loop μ-loop
 loop-less c = omega (arith, c .before .before .before .before .before .before .before .before .loop-test .taken)
 
 loop-again : tie.Need-loop-again Inv-loop μ-loop
 loop-again c =
-    let l = c .before .before .before .before .before .before .before .before .before in
-    let s = c .before .before .before .before .before .before .before .before .before .before .before .before .before .before .before .before in
+    let at-offset-stamp = c .before .before .before .before .before in
+    let test = at-offset-stamp .before .before .before in
+    let back = test .before in
+    let back2 = back .before .before .before .before .before .before .before in
+    let l = back in
+    let s = back2 in
     let a = s .args in
     putting-goes (offsetStamp (a .earlier) (a .jd1s .now) (a .jd2s .now) (a .offsets .now)) (a .n) (a .out1 .now) (a .out2 .now) (a .numbers .now)
     (l .loop .out1) (l .loop .out2) (l .loop .numbers) (l .loop .refused) (l .loop .i) (l .loop .inv) _ _ _ _
-    (c .before .before .before .before .before .before .before .before .loop-test .taken)
-    (c .before .before .before .before .before .offset-stamp .ensures) (c .one-if-refused .ensures .0)
+    (test .loop-test .taken)
+    (at-offset-stamp .offset-stamp .ensures) (c .one-if-refused .ensures .0)
 
 same-length : tie.Need-same-length Inv-loop μ-loop
 same-length c =

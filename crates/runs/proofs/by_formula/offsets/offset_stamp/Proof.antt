@@ -26,16 +26,22 @@ float-from-bits-days c = no-nan _ (sym (c .before .is-number .ensures) ∙ not-f
 returns-2 : tie.Need-returns-2
 unfolding daysOf
 returns-2 c =
-    let a = c .before .before .before .before .before .before .before .before .before .before .before .before .before .before .before .before .args in
+    let at-change-stamp = c .before .before .before .before in
+    let at-turned = at-change-stamp .before .before .before in
+    let at-if1 = at-turned .before in
+    let at-is-number = at-if1 .before in
+    let at-pattern-at = at-is-number .before in
+    let start = at-pattern-at .before .before .before .before .before .before in
+    let a = start .args in
     put-same (offset-moves (a .earlier) (a .jd1s .now) (a .jd2s .now) (a .offsets .now) (a .i) _ _
-    (c .before .before .before .before .before .before .before .before .before .before .pattern-at .ensures)
-    (sym (c .before .before .before .before .before .before .before .before .before .is-number .ensures)
-    ∙ not-false _ (c .before .before .before .before .before .before .before .before .if1 .left))
-    (c .before .before .before .before .before .before .before .turned .ensures
+    (at-pattern-at .pattern-at .ensures)
+    (sym (at-is-number .is-number .ensures)
+    ∙ not-false _ (at-if1 .if1 .left))
+    (at-turned .turned .ensures
     ∙ ap (λ (z : Float). cond (a .earlier)
-    (neg (div binary64 (ofBits binary64 (c .before .before .before .before .before .before .before .before .before .before .pattern-at .result)) z))
-    (div binary64 (ofBits binary64 (c .before .before .before .before .before .before .before .before .before .before .pattern-at .result)) z))
-    seconds-per-day)) (c .before .before .before .before .change-stamp .ensures)
+    (neg (div binary64 (ofBits binary64 (at-pattern-at .pattern-at .result)) z))
+    (div binary64 (ofBits binary64 (at-pattern-at .pattern-at .result)) z))
+    seconds-per-day)) (at-change-stamp .change-stamp .ensures)
 
 pub offset-stamp-spec : {M : Type 1} → statement M
 offset-stamp-spec =

@@ -37,21 +37,35 @@ returns-8 c = found 7 6 7 (sym (c .before .before .are8 .ensures) ∙ c .before 
 
 offset-kind-requires : tie.Need-offset-kind-requires
 unfolding needsNone
-offset-kind-requires c κs = rw (
-  (sym
-      (c .before .before .before .before .before .before .before .before .before .before .before .before .before .before .before .are .ensures)
-      ∙ c .before .before .before .before .before .before .before .before .before .before .before .before .before .before .if1 .left),
-  (sym (c .before .before .before .before .before .before .before .before .before .before .before .before .before .are2 .ensures)
-      ∙ c .before .before .before .before .before .before .before .before .before .before .before .before .if2 .left),
-  (sym (c .before .before .before .before .before .before .before .before .before .before .before .are3 .ensures)
-      ∙ c .before .before .before .before .before .before .before .before .before .before .if3 .left),
-  (sym (c .before .before .before .before .before .before .before .before .before .are4 .ensures)
-      ∙ c .before .before .before .before .before .before .before .before .if4 .left),
-  (sym (c .before .before .before .before .before .before .before .are5 .ensures) ∙ c .before .before .before .before .before .before .if5 .left),
-  (sym (c .before .before .before .before .before .are6 .ensures) ∙ c .before .before .before .before .if6 .left),
-  (sym (c .before .before .before .are7 .ensures) ∙ c .before .before .if7 .left),
-  (sym (c .before .are8 .ensures) ∙ c .if8 .left),
-)
+offset-kind-requires c κs =
+    let at-are7 = c .before .before .before in
+    let at-if6 = at-are7 .before in
+    let at-are6 = at-if6 .before in
+    let at-if5 = at-are6 .before in
+    let at-are5 = at-if5 .before in
+    let at-if4 = at-are5 .before in
+    let at-are4 = at-if4 .before in
+    let at-if3 = at-are4 .before in
+    let at-are3 = at-if3 .before in
+    let at-if2 = at-are3 .before in
+    let at-are2 = at-if2 .before in
+    let at-if1 = at-are2 .before in
+    let at-are = at-if1 .before in
+    rw (
+      (sym
+          (at-are .are .ensures)
+          ∙ at-if1 .if1 .left),
+      (sym (at-are2 .are2 .ensures)
+          ∙ at-if2 .if2 .left),
+      (sym (at-are3 .are3 .ensures)
+          ∙ at-if3 .if3 .left),
+      (sym (at-are4 .are4 .ensures)
+          ∙ at-if4 .if4 .left),
+      (sym (at-are5 .are5 .ensures) ∙ at-if5 .if5 .left),
+      (sym (at-are6 .are6 .ensures) ∙ at-if6 .if6 .left),
+      (sym (at-are7 .are7 .ensures) ∙ c .before .before .if7 .left),
+      (sym (c .before .are8 .ensures) ∙ c .if8 .left),
+    )
 
 returns-9 : tie.Need-returns-9
 returns-9 c = kept (c .of-kind9 .ensures .0) (c .of-kind9 .ensures .1) (c .before .offset-kind .ensures)

@@ -24,16 +24,27 @@ returns-6 : tie.Need-returns-6
 returns-6 c = λ days. found 7 3 2 (sym (c .before .are6 .ensures) ∙ c .if6 .taken) refl refl (tdb-to-tt days)
 
 returns-7 : tie.Need-returns-7
-returns-7 c = λ days. no-formula (c .before .before .before .before .before .before .before .before .before .before .before .before .args .from)
-    (c .before .before .before .before .before .before .before .before .before .before .before .before .args .to) days
-    (c .before .before .before .before .before .before .before .before .before .before .before .before .pre)
-    (sym (c .before .before .before .before .before .before .before .before .before .before .before .are .ensures)
-    ∙ c .before .before .before .before .before .before .before .before .before .before .if1 .left)
-    (sym (c .before .before .before .before .before .before .before .before .before .are2 .ensures)
-    ∙ c .before .before .before .before .before .before .before .before .if2 .left)
-    (sym (c .before .before .before .before .before .before .before .are3 .ensures) ∙ c .before .before .before .before .before .before .if3 .left)
-    (sym (c .before .before .before .before .before .are4 .ensures) ∙ c .before .before .before .before .if4 .left)
-    (sym (c .before .before .before .are5 .ensures) ∙ c .before .before .if5 .left) (sym (c .before .are6 .ensures) ∙ c .if6 .left)
+returns-7 c =
+    let at-are5 = c .before .before .before in
+    let at-if4 = at-are5 .before in
+    let at-are4 = at-if4 .before in
+    let at-if3 = at-are4 .before in
+    let at-are3 = at-if3 .before in
+    let at-if2 = at-are3 .before in
+    let at-are2 = at-if2 .before in
+    let at-if1 = at-are2 .before in
+    let at-are = at-if1 .before in
+    let start = at-are .before in
+    λ days. no-formula (start .args .from)
+    (start .args .to) days
+    (start .pre)
+    (sym (at-are .are .ensures)
+    ∙ at-if1 .if1 .left)
+    (sym (at-are2 .are2 .ensures)
+    ∙ at-if2 .if2 .left)
+    (sym (at-are3 .are3 .ensures) ∙ at-if3 .if3 .left)
+    (sym (at-are4 .are4 .ensures) ∙ at-if4 .if4 .left)
+    (sym (at-are5 .are5 .ensures) ∙ c .before .before .if5 .left) (sym (c .before .are6 .ensures) ∙ c .if6 .left)
 
 pub offset-kind-spec : {M : Type 1} → statement M
 offset-kind-spec =

@@ -1,9 +1,9 @@
--- `line_up::keep::stamp_of` meets its contract. Assumes nothing.
+-- `julian::stamp_lists::stamp_of` meets its contract. Assumes nothing.
 use mathlib.Core.Path.{_∙_}
-use Rattle.line_up.proofs.keep.Cases.{stamp-is}
+use Rattle.julian.proofs.stamp_lists.Reading.{stamp-is}
 use borrow.Author.Needs.{needs}
-use Rattle.line_up.proofs.keep.stamp_of.Statement.{statement}
-use Rattle.line_up.proofs.keep.stamp_of.Tie as tie
+use Rattle.julian.proofs.stamp_lists.stamp_of.Statement.{statement}
+use Rattle.julian.proofs.stamp_lists.stamp_of.Tie as tie
 
 returns : tie.Need-returns
 returns c =

@@ -1,0 +1,7 @@
+-- `constants::scale_numbers::are` meets its contract. Assumes nothing.
+use borrow.Author.Tests.{eq-eqb, ne-eqb}
+use Rattle.constants.proofs.scale_numbers.are.Statement.{statement}
+use Rattle.constants.proofs.scale_numbers.are.Tie as tie
+
+pub are-spec : {M : Type 1} → statement M
+are-spec = tie.close (tie.spec (λ c. rw (ne-eqb _ _ (c .if1 .taken))) (λ c. rw (eq-eqb _ _ (c .if1 .left))))

@@ -1,0 +1,2 @@
+-- What contracts and definitions of crates that read `constants::scale_numbers` cite.
+pub mod Scales

@@ -1,7 +1,0 @@
--- `julian::same_stamps::are` meets its contract. Assumes nothing.
-use borrow.Author.Tests.{eq-eqb, ne-eqb}
-use Rattle.julian.proofs.same_stamps.are.Statement.{statement}
-use Rattle.julian.proofs.same_stamps.are.Tie as tie
-
-pub are-spec : {M : Type 1} → statement M
-are-spec = tie.close (tie.spec (λ c. rw (ne-eqb _ _ (c .if1 .taken))) (λ c. rw (eq-eqb _ _ (c .if1 .left))))

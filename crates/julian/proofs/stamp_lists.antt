@@ -1,0 +1,2 @@
+-- The stamp that two patterns are.
+pub mod Reading

@@ -1,0 +1,2 @@
+-- What the contract of `julian::stamp_lists` cites.
+pub mod Stamps
