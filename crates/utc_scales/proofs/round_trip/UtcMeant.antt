@@ -24,15 +24,15 @@ use Rattle.utc_scales.proofs.round_trip.Rounds.{GuessAt, found, part}
 use Rattle.utc_scales.proofs.round_trip.Exactly.{Said, means-of}
 
 -- W is the date of the guess by its exact day, x the one that the calendar finds; K and G their offsets
-to-picoseconds : (x y : ℕ) → x ≤ y + 1555771 * h → dayPs * x ≤ dayPs * y + 86400 * (173 * L)
+to-picoseconds : (x y : ℕ) → x ≤ y + (afterThree + 345604) * h → dayPs * x ≤ dayPs * y + 86400 * (173 * L)
 to-picoseconds x y k = omega (arith, L-h)
 
 over : (A bp bn W x K G : ℕ) → x ≤ W + 4 * h → G ≤ K + 4 * h → 86400 * (bp + A + H) ≤ 86400 * bn + (86400 * x + G) + afterThree * h
-    → 86400 * (A + bp + H) ≤ 86400 * bn + 86400 * W + K + 1555771 * h
+    → 86400 * (A + bp + H) ≤ 86400 * bn + 86400 * W + K + (afterThree + 345604) * h
 over A bp bn W x K G k l m = omega arith
 
 under : (A bp bn W x K G : ℕ) → W ≤ x + 4 * h → K ≤ G + 4 * h → 86400 * bn + (86400 * x + G) ≤ 86400 * (bp + A + H) + afterThree * h
-    → 86400 * bn + 86400 * W + K ≤ 86400 * (A + bp + H) + 1555771 * h
+    → 86400 * bn + 86400 * W + K ≤ 86400 * (A + bp + H) + (afterThree + 345604) * h
 under A bp bn W x K G k l m = omega arith
 
 -- a guess whose residual is at most `afterThree` h, on its exact day
