@@ -5,7 +5,7 @@ ghost use Prim.Native.Nat.{_+_, _≤_};
 ghost use lib.ListN.{length, drop, getD};
 ghost use Rattle.numerals.specs.digits.Decimal.{isDigit};
 ghost use Rattle.parsing.specs.scan.Form.{isBlank, afterBlanks, twoDigits, digitSays, twoSay, dateRight, isSeparator, timeRight, zuluFirst, endRight};
-ghost use Rattle.parsing.specs.scan.Scan.{joined as joined·of, DigitsRun, FractionRun, formBy, scannedOutcome, scanOf};
+ghost use Rattle.parsing.specs.scan.Scan.{pairsAt, joined as joined·of, DigitsRun, FractionRun, formBy, scannedOutcome, scanOf};
 
 // What a text of the right form says. The second is `whole` over 10^places where there are at most 13 places; `second` is its whole part.
 pub struct Form {
@@ -92,6 +92,26 @@ fn two(a: u8, b: u8) -> u8
     10 * worth(a) + worth(b)
 }
 
+// Three numbers of two digits with a mark between them: a date but for the first two digits of its year, and a time.
+fn pairs_right(text: &[u8], at: usize, mark: u8) -> bool
+    requires { ⌜ at + 8 ≤ length (now text) ⌝ }
+    ensures { λ r. ⌜ r ≡ pairsAt mark (now (text .entry)) at ⌝ }
+{
+    if !two_digits(text[at], text[at + 1]) {
+        return false;
+    }
+    if text[at + 2] != mark {
+        return false;
+    }
+    if !two_digits(text[at + 3], text[at + 4]) {
+        return false;
+    }
+    if text[at + 5] != mark {
+        return false;
+    }
+    two_digits(text[at + 6], text[at + 7])
+}
+
 // YYYY-MM-DD
 fn date_right(text: &[u8], at: usize) -> bool
     requires { ⌜ at + 19 ≤ length (now text) ⌝ }
@@ -100,19 +120,7 @@ fn date_right(text: &[u8], at: usize) -> bool
     if !two_digits(text[at], text[at + 1]) {
         return false;
     }
-    if !two_digits(text[at + 2], text[at + 3]) {
-        return false;
-    }
-    if text[at + 4] != b'-' {
-        return false;
-    }
-    if !two_digits(text[at + 5], text[at + 6]) {
-        return false;
-    }
-    if text[at + 7] != b'-' {
-        return false;
-    }
-    two_digits(text[at + 8], text[at + 9])
+    pairs_right(text, at + 2, b'-')
 }
 
 // Between date and time.
@@ -133,19 +141,7 @@ fn time_right(text: &[u8], at: usize) -> bool
     if !separator(text[at + 10]) {
         return false;
     }
-    if !two_digits(text[at + 11], text[at + 12]) {
-        return false;
-    }
-    if text[at + 13] != b':' {
-        return false;
-    }
-    if !two_digits(text[at + 14], text[at + 15]) {
-        return false;
-    }
-    if text[at + 16] != b':' {
-        return false;
-    }
-    two_digits(text[at + 17], text[at + 18])
+    pairs_right(text, at + 11, b':')
 }
 
 // One digit more, of which the first 13 count: so no fraction is too long to be read to its end.

@@ -1,5 +1,6 @@
 -- What the contracts of `utc::text` cite, in the order to read it: what UTC text is, where its characters stand, what a lent buffer and the answer are after
 -- the call.
+pub mod Ascii
 pub mod Text
 pub mod Expanded
 pub mod Layout

@@ -1,7 +1,7 @@
 -- The bytes of a text that the code looks at, by their index in the whole text, and the forms that they make. Assumes nothing.
 use Prim.Native.Nat.{ℕ, _+_, _-_, _*_, _<_, _≤_}
 use native.Mathlib.Omega.{arith}
-use native.Mathlib.Nat.{add-zero}
+use native.Mathlib.Nat.{add-zero, add-assoc}
 use mathlib.Core.Path.{_≡_, refl, sym, ap, _∙_, subst}
 use mathlib.Core.List.{List}
 use mathlib.Core.Bool.{Bool, true, false, cond, _&&_, and-false}
@@ -15,20 +15,18 @@ use Rattle.parsing.specs.declared.scan.Form.{Form}
 use Rattle.parsing.specs.declared.scan.Run.{Run}
 use Rattle.parsing.specs.scan.Form.{byteAt, twoDigits, twoSay, isSeparator, fractionDigits, dateRight, timeRight, afterBlanks, afterFraction}
 use Rattle.parsing.specs.scan.Form.{endRight, rightForm}
-use Rattle.parsing.specs.scan.Scan.{kept, FractionRun, formWith, formBy, formAt, scanOf}
+use Rattle.parsing.specs.scan.Scan.{pairsAt, kept, FractionRun, formWith, formBy, formAt, scanOf}
 use Rattle.parsing.proofs.scan.Runs.{worth-most, kept-all-small}
 
 pub date-at : (t : List ℕ) (at : ℕ) → dateRight (drop at t)
-    ≡ (twoDigits (getD t at 0) (getD t (at + 1) 0) && (twoDigits (getD t (at + 2) 0) (getD t (at + 3) 0) && (eqb (getD t (at + 4) 0) 45
-    && (twoDigits (getD t (at + 5) 0) (getD t (at + 6) 0) && (eqb (getD t (at + 7) 0) 45 && twoDigits (getD t (at + 8) 0) (getD t (at + 9) 0))))))
-unfolding dateRight
-date-at t at = simp (getD-drop, add-zero)
+    ≡ (twoDigits (getD t at 0) (getD t (at + 1) 0) && pairsAt 45 t (at + 2))
+unfolding dateRight pairsAt
+date-at t at = simp (getD-drop, add-zero, add-assoc)
 
 pub time-at : (t : List ℕ) (at : ℕ) → timeRight (drop at t)
-    ≡ (isSeparator (getD t (at + 10) 0) && (twoDigits (getD t (at + 11) 0) (getD t (at + 12) 0) && (eqb (getD t (at + 13) 0) 58
-    && (twoDigits (getD t (at + 14) 0) (getD t (at + 15) 0) && (eqb (getD t (at + 16) 0) 58 && twoDigits (getD t (at + 17) 0) (getD t (at + 18) 0))))))
-unfolding timeRight
-time-at t at = simp getD-drop
+    ≡ (isSeparator (getD t (at + 10) 0) && pairsAt 58 t (at + 11))
+unfolding timeRight pairsAt
+time-at t at = simp (getD-drop, add-assoc)
 
 -- ---- a text that is too short has no form
 short-time : (s : List ℕ) → length s < 19 → timeRight s ≡ false

@@ -4,8 +4,8 @@
 use Prim.Native.Nat.{ℕ, _+_, _*_, _≤_}
 use mathlib.Core.Path.{_≡_}
 use mathlib.Core.List.{List, [], _∷_}
-use mathlib.Core.Bool.{Bool, cond}
-use lib.ListN.{length, drop}
+use mathlib.Core.Bool.{Bool, cond, _&&_}
+use lib.ListN.{length, drop, getD}
 use lib.Dec.{ltb, eqb}
 use Rattle.refusals.specs.Outcome.{Outcome, answer, refusal}
 use Rattle.numerals.specs.digits.Decimal.{isDigit}
@@ -13,7 +13,13 @@ use Rattle.parsing.specs.declared.scan.Form.{Form}
 use Rattle.parsing.specs.declared.scan.Run.{Run}
 use Rattle.parsing.specs.declared.scan.Scanned.{Scanned}
 use Rattle.parsing.specs.declared.scan.Scanned.the-variants as Scan
-use Rattle.parsing.specs.scan.Form.{byteAt, digitSays, twoSay, leading, fractionDigits, afterFraction, afterBlanks, rightForm}
+use Rattle.parsing.specs.scan.Form.{byteAt, twoDigits, digitSays, twoSay, leading, fractionDigits, afterFraction, afterBlanks, rightForm}
+
+-- three numbers of two digits with a mark between them, from index i of t on; no contract of a public function cites it
+unfoldable pub pairsAt : ℕ → List ℕ → ℕ → Bool
+pairsAt mark t i =
+    twoDigits (getD t i 0) (getD t (i + 1) 0) && (eqb (getD t (i + 2) 0) mark
+    && (twoDigits (getD t (i + 3) 0) (getD t (i + 4) 0) && (eqb (getD t (i + 5) 0) mark && twoDigits (getD t (i + 6) 0) (getD t (i + 7) 0))))
 
 -- the number w with the digit c behind it, where that is one of the first 13 of its fraction
 abbrev pub joined : ℕ → ℕ → ℕ → ℕ

@@ -17,6 +17,7 @@ use Rattle.numerals.specs.digits.Decimal.{last, digitsIn, digitsOf}
 use Rattle.numerals.proofs.digits.Decimal.{digits-few, digits-some}
 use Rattle.numerals.specs.digits.Hexadecimal.{hexDigit}
 use Rattle.reasons.proofs.sentences.Each.{EachBelow, from-each}
+use Rattle.reasons.specs.sentences.Texts.{asciiBytes}
 use Rattle.reasons.specs.sentences.Render.{signedDigits}
 
 -- ---- digits: room for more of them changes nothing
@@ -131,7 +132,7 @@ signed-from (negsuc n) e = let z : _≡_ {A = ℕ} 0 1 = cc in absurd (omega (ar
 
 -- ---- the hexadecimal digits in turn
 abbrev pub hexDigitsInTurn : List ℕ
-hexDigitsInTurn = 48 ∷ 49 ∷ 50 ∷ 51 ∷ 52 ∷ 53 ∷ 54 ∷ 55 ∷ 56 ∷ 57 ∷ 97 ∷ 98 ∷ 99 ∷ 100 ∷ 101 ∷ 102 ∷ []
+hexDigitsInTurn = asciiBytes "0123456789abcdef"
 
 abbrev InTurn : ℕ → Type 0
 InTurn d = getD hexDigitsInTurn d 0 ≡ hexDigit d

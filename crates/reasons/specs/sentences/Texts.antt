@@ -2,16 +2,9 @@
 -- the refusals' own words in document 01's table and document 02. No text begins another, and no word of a field begins another, so that a sentence says its
 -- number and its field in plain English (`read-back` in stamps::reason_laws). Assumes nothing.
 use Prim.Native.Nat.{ℕ}
-use Prim.Native.Char.{code}
-use Prim.Native.String.{String}
-use Prim.Native.String as Native
 use mathlib.Core.List.{List, [], _∷_}
 use lib.ListN.{getD}
-
--- the bytes of a text
-abbrev pub asciiBytes : String → List ℕ
-asciiBytes Native.[] = []
-asciiBytes (Native._∷_ c s) = code c ∷ asciiBytes s
+abbrev pub use Rattle.utc.specs.text.Ascii.{asciiBytes}
 
 -- the texts by number; 0 has none
 unfoldable pub texts : List (List ℕ)

@@ -2,7 +2,7 @@
 use mathlib.Core.Path.{_≡_, refl}
 use mathlib.Core.Bool.{false, _&&_}
 use mathlib.Core.Logic.{_⊎_}
-use mathlib.Core.List.{List, [], _∷_}
+use mathlib.Core.List.{List}
 use Prim.Native.Nat.{ℕ}
 use lib.Dec.{T}
 use lib.IntN.{ℤ, pos, negsuc}
@@ -24,6 +24,7 @@ use Rattle.time_of_day.specs.declared.TimeShown.{TimeShown}
 use Rattle.time_of_day.specs.declared.TimeShown.the-variants.{At, NextMidnight}
 use Rattle.time_of_day.specs.TimeShown.{countBy, shownBy}
 use Rattle.time_of_day.proofs.Rounded.{away-nearest}
+use Rattle.utc.specs.text.Ascii.{asciiBytes}
 use Rattle.utc.specs.declared.text.TextAnswer.the-variants.{Written, Refused}
 use Rattle.utc.specs.text.Text.{utcText}
 use Rattle.utc.specs.text.Expanded.{expandedYear, expandedText}
@@ -94,11 +95,11 @@ beside rows jd = onward-both _ _ _ (λ c. onward-both _ _ _ (λ leap. shown-both
 
 -- ---- CASES: the length is that of the year after the carry, 27 bytes past 9999 and 23 at year 0
 pub carry-to-10000 : nextMidnightTextBy expandedText (date (pos 9999) 12 31)
-    ≡ answer (43 ∷ 48 ∷ 48 ∷ 49 ∷ 48 ∷ 48 ∷ 48 ∷ 48 ∷ 45 ∷ 48 ∷ 49 ∷ 45 ∷ 48 ∷ 49 ∷ 84 ∷ 48 ∷ 48 ∷ 58 ∷ 48 ∷ 48 ∷ 58 ∷ 48 ∷ 48 ∷ 46 ∷ 48 ∷ 48 ∷ 48 ∷ [])
+    ≡ answer (asciiBytes "+0010000-01-01T00:00:00.000")
 unfolding nextMidnightTextBy nextOf next validDate daysInMonth leapSize lengths onward expandedText expandedYear
 carry-to-10000 = refl
 
 pub carry-to-0 : nextMidnightTextBy expandedText (date (negsuc 0) 12 31)
-    ≡ answer (48 ∷ 48 ∷ 48 ∷ 48 ∷ 45 ∷ 48 ∷ 49 ∷ 45 ∷ 48 ∷ 49 ∷ 84 ∷ 48 ∷ 48 ∷ 58 ∷ 48 ∷ 48 ∷ 58 ∷ 48 ∷ 48 ∷ 46 ∷ 48 ∷ 48 ∷ 48 ∷ [])
+    ≡ answer (asciiBytes "0000-01-01T00:00:00.000")
 unfolding nextMidnightTextBy nextOf next validDate daysInMonth leapSize lengths onward expandedText expandedYear
 carry-to-0 = refl

@@ -19,6 +19,7 @@ use mir.Facts.{toZ-ofZ}
 use Rattle.refusals.specs.Outcome.{answer}
 use Rattle.calendar.specs.declared.CalendarDate.{CalendarDate}
 use Rattle.time_of_day.specs.declared.TimeOfDay.{TimeOfDay}
+use Rattle.utc.specs.text.Ascii.{asciiBytes}
 use Rattle.utc.specs.declared.text.TextAnswer.{TextAnswer}
 use Rattle.utc.specs.declared.text.TextAnswer.the-variants.{Written}
 use Rattle.utc.specs.text.Text.{three, four, seven, afterYear, yearText, utcText}
@@ -156,26 +157,26 @@ unfolding expandedText utcText
 expanded-rest d u = (refl, refl)
 
 -- ---- CASES: document 02's, and the years at the edges
-pub expanded-1-before : expandedYear (negsuc 0) ≡ 45 ∷ 48 ∷ 48 ∷ 48 ∷ 48 ∷ 48 ∷ 48 ∷ 49 ∷ []
+pub expanded-1-before : expandedYear (negsuc 0) ≡ asciiBytes "-0000001"
 unfolding expandedYear
 expanded-1-before = refl
 
-pub expanded-12000 : expandedYear (pos 12000) ≡ 43 ∷ 48 ∷ 48 ∷ 49 ∷ 50 ∷ 48 ∷ 48 ∷ 48 ∷ []
+pub expanded-12000 : expandedYear (pos 12000) ≡ asciiBytes "+0012000"
 unfolding expandedYear
 expanded-12000 = refl
 
-pub expanded-0 : expandedYear (pos 0) ≡ 48 ∷ 48 ∷ 48 ∷ 48 ∷ []
+pub expanded-0 : expandedYear (pos 0) ≡ asciiBytes "0000"
 unfolding expandedYear
 expanded-0 = refl
 
-pub expanded-9999 : expandedYear (pos 9999) ≡ 57 ∷ 57 ∷ 57 ∷ 57 ∷ []
+pub expanded-9999 : expandedYear (pos 9999) ≡ asciiBytes "9999"
 unfolding expandedYear
 expanded-9999 = refl
 
-pub expanded-10000 : expandedYear (pos 10000) ≡ 43 ∷ 48 ∷ 48 ∷ 49 ∷ 48 ∷ 48 ∷ 48 ∷ 48 ∷ []
+pub expanded-10000 : expandedYear (pos 10000) ≡ asciiBytes "+0010000"
 unfolding expandedYear
 expanded-10000 = refl
 
-pub expanded-last : expandedYear (pos 2733194) ≡ 43 ∷ 50 ∷ 55 ∷ 51 ∷ 51 ∷ 49 ∷ 57 ∷ 52 ∷ []
+pub expanded-last : expandedYear (pos 2733194) ≡ asciiBytes "+2733194"
 unfolding expandedYear
 expanded-last = refl
