@@ -1,5 +1,4 @@
-// Two calls for C on the parts of dates, as plain functions. An archive exports the functions of its own crate alone, so that crate capi passes them on; here
-// an edit of one is tried without the other calls.
+// Answers of two calls on the parts of dates.
 ghost use mathlib.Core.Path.{_≡_};
 ghost use Rattle.julian.specs.JulianDate.{julian, difference};
 ghost use Rattle.julian.specs.Calendar.{calendarOutcome, julianToCalendar};

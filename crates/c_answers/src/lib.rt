@@ -1,4 +1,4 @@
-// How an answer reaches a C caller: a code, and bytes at the start of a lent buffer.
+// Answers for C: a code, and bytes at the start of a lent buffer.
 pub mod date_parts;
 pub mod fields;
 pub mod rules;

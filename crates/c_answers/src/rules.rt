@@ -1,4 +1,4 @@
-// The rule of an offset as bytes, put at the start of a lent buffer, alone or behind the answer that it belongs to.
+// The rule of an offset as bytes.
 ghost use mathlib.Core.Path.{_≡_};
 ghost use Rattle.refusals.specs.Outcome.{answer};
 ghost use Rattle.c_answers.specs.Delivery.{Delivered};

@@ -1,4 +1,4 @@
-// The announced rows that a C caller lends, as bytes: document 02, item 8.
+// The table of announced rows as 136 bytes. From document 02, item 8.
 pub mod arrays;
 
 ghost use mathlib.Core.Path.{_≡_};

@@ -1,4 +1,5 @@
-// The proleptic Gregorian calendar by whole numbers: scales/common.rs's calendar half, the integers of `calendar_to_julian`, and `gregorian_date`.
+// The calendar of ISO 8601 by whole numbers: which dates there are, the next day, and day numbers both ways. From scales/common.rs's calendar half, the
+// integers of `calendar_to_julian`, and `gregorian_date`.
 ghost use mathlib.Core.Path.{_≡_};
 ghost use mathlib.Core.Bool.{false};
 ghost use Prim.Native.Nat.{_<_, _≤_};

@@ -1,4 +1,4 @@
-// The port for C: numbers and byte slices only. include/celestial_time.h declares each call and says what it answers.
+// The calls for C: numbers and byte slices only. include/celestial_time.h declares each call and says what it answers.
 pub mod block_calls;
 pub mod calendar_calls;
 pub mod date_calls;

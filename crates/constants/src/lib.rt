@@ -1,5 +1,5 @@
-// The constants that the conversions read, under the Rust's names and in its order of operations: those of constants.rs but the
-// table of TAI-UTC and the series FAIRHD, and those of celestial_core that the files of the scope read.
+// The constants of the conversions, under the Rust's names and in its order of operations. They are those of constants.rs but the table of TAI-UTC and the
+// series FAIRHD, and those of celestial_core that the files of the scope read.
 ghost use mathlib.Core.Path.{_≡_};
 ghost use lib.Ieee.{nan};
 ghost use lib.ListN.{getD};

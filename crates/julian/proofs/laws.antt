@@ -1,5 +1,4 @@
--- No code: what the calls of julian mean in exact numbers. proofs/Lib.antt says which file has what.
--- What the calls of `julian` mean in exact days, in the order to read them.
+-- What the calls on Julian dates mean in exact numbers.
 -- UnixTime: the day and the time of a Unix time, and that they are the seconds given.
 pub mod UnixTime
 -- CalendarDays: DEMAND 3 of the calendar; off the grid within 2^-51 day; no refusal but 6. Ends: at the ends of its ranges.

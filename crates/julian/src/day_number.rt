@@ -1,4 +1,4 @@
-// The Julian Day number of the civil day, and the time since its midnight, of a two-part Julian date: the Rust's utc_tai/calendar.rs but for its calendar.
+// The day and the fraction of a date, whichever way it is divided into two parts. From the Rust's utc_tai/calendar.rs but for its calendar.
 ghost use mathlib.Core.Path.{_≡_};
 ghost use mathlib.Core.Bool.{true};
 ghost use Prim.Native.Nat.{_≤_};

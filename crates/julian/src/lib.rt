@@ -1,4 +1,4 @@
-// Two-part Julian dates, each operation in the Rust's order.
+// Two-part Julian dates: from the calendar and Unix time and back, equality, difference, each operation in the Rust's order.
 ghost use mathlib.Core.Path.{_≡_};
 ghost use Rattle.floats.specs.Whole.{nought};
 ghost use Rattle.constants.specs.Constants.{j2000Jd, unixEpochJd};

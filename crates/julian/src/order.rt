@@ -1,4 +1,4 @@
-// The order of two-part Julian dates by their exact sums.
+// Which of two dates is first, by their exact sums.
 ghost use mathlib.Core.Path.{_≡_};
 ghost use Rattle.julian.specs.order.Order as O;
 ghost use Rattle.julian.specs.order.Places as P;

@@ -1,4 +1,4 @@
-// Whether two recorded stamps are the same, bit for bit. A filter for duplicates asks this: two divisions of one moment are equal as dates, and two stamps.
+// Whether two stamps are the same, scale and bits. A filter for duplicates asks this: two divisions of one moment are equal as dates, and two stamps.
 ghost use mathlib.Core.Path.{_≡_};
 ghost use Rattle.julian.specs.same_stamps.Same.{same};
 

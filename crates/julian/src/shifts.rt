@@ -1,3 +1,3 @@
-// A date moved by so many days: its smaller part changes, and the larger stays.
+// A date moved by days or by seconds: its smaller part changes, and the larger stays.
 pub mod given_offset;
 pub mod smaller_part;

@@ -1,4 +1,4 @@
-// Dates in time order: which lists of dates a walk through the leap table refuses, and by which number. Document 02, item 2.
+// Dates in time order: which lists of dates a walk refuses. Document 02, item 2.
 ghost use mathlib.Core.Path.{_≡_};
 ghost use mathlib.Core.Bool.{true};
 ghost use Prim.Native.Nat.{_+_, _*_, _≤_};

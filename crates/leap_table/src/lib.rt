@@ -1,4 +1,4 @@
-// The leap table: TAI-UTC from 1960 on, with the rows that a caller lends.
+// The leap table: TAI-UTC from 1960 on, with the rows that are announced.
 
 // dates in time order
 pub mod judging;

@@ -1,5 +1,5 @@
-// TAI-UTC of a date by the IERS table, and the leap at the end of a day: scales/common.rs's `get_tai_utc_offset` with the table of constants.rs, and the
-// look-ups of scales/utc/mod.rs and scales/conversions/utc_tai/mod.rs.
+// TAI-UTC of a date, and the leap at the end of a day. From scales/common.rs's `get_tai_utc_offset` with the table of constants.rs, and the look-ups of
+// scales/utc/mod.rs and scales/conversions/utc_tai/mod.rs.
 
 mod announced;
 mod fixed_rows;

@@ -1,4 +1,4 @@
-// TAI-UTC at 0h of many dates in time order, in one walk through the leap table: document 02, item 2. All dates are judged before one offset is written.
+// TAI-UTC of many dates in one walk through the table. From document 02, item 2. All dates are judged before one offset is written.
 ghost use mathlib.Core.Path.{_≡_};
 ghost use mathlib.Core.List.{_++_, map};
 ghost use Prim.Native.Nat.{_*_, _<_, _≤_};

@@ -1,5 +1,4 @@
--- Definitions and laws only: numbers as decimal and hexadecimal digits, written and read.
--- The laws of numbers as digits.
+-- Decimal and hexadecimal digits, written and read. Definitions and laws only.
 pub mod Decimal
 pub mod Hexadecimal
 -- Places: bytes written one after the other into a slice.

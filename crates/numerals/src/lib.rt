@@ -1,3 +1,3 @@
-// Numbers as bytes, decimal and hexadecimal digits, and bytes placed one after the other.
+// Numbers in bytes and in digits, and bytes placed one behind the other.
 pub mod little_endian;
 pub mod place;

@@ -1,4 +1,4 @@
-// Whole numbers as bytes, the lowest first.
+// Numbers of four and eight bytes, the lowest byte first.
 ghost use mathlib.Core.Path.{_≡_};
 ghost use Prim.Native.Nat.{_+_, _*_, _≤_, _<_};
 ghost use lib.ListN.{length};

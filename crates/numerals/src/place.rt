@@ -1,4 +1,4 @@
-// Bytes into a lent slice from an index on. The answer is the index after what was written.
+// Bytes placed into a lent slice from an index on. The answer is the index after what was written.
 ghost use Rattle.numerals.specs.digits.Placed.{Placing};
 
 // Where the bytes do not all fit behind the index, nothing is written, and the answer is the index itself.

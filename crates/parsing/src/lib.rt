@@ -1,4 +1,5 @@
-// ISO 8601 text into fields, and for UTC into a date: parsing/mod.rs, and `FromStr` of scales/utc/mod.rs, with a byte slice in place of a string.
+// ISO 8601 text read: its six fields, and of UTC text the date. From parsing/mod.rs, and `FromStr` of scales/utc/mod.rs, with a byte slice in place of a
+// string.
 use crate::scan::Form;
 use crate::scan::Scanned;
 use calendar::DateCheck;

@@ -1,4 +1,4 @@
-// One scan through a text: what it says, where it has the form that the grammar asks for.
+// One scan through a text.
 ghost use mathlib.Core.Path.{_≡_};
 ghost use mathlib.Core.Bool.{cond};
 ghost use Prim.Native.Nat.{_+_, _≤_};

@@ -1,4 +1,4 @@
-// A text as the marker boxes send it, answered by a line: its index and the text of its date, or `refused` and the number.
+// The texts of the marker boxes, each answered by a line.
 use leap_table::rows::AnnouncedRows;
 use parsing::ParsedUtcAnswer;
 use scales::UTC;

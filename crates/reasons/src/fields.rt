@@ -1,4 +1,4 @@
-// The tests of each number: which field is at fault.
+// Which field is at fault, by the number and its test.
 ghost use mathlib.Core.Path.{_≡_};
 ghost use lib.Dec.{eqb};
 ghost use Rattle.reasons.specs.Offending.{onlyIf, yearField, monthField, dayField, dateField, timeField, sumField, partField, partsField};

@@ -1,4 +1,4 @@
-// A refusal's reason as an English sentence: which field is at fault, by the number and the values of its test, and the sentence of that.
+// A refusal's reason as an English sentence that names the field at fault.
 mod fields;
 pub mod sentences;
 

@@ -1,4 +1,4 @@
-// The sentence of a reason: a fixed text for the refusal's number and, where a field is at fault, the field's word and its value.
+// The sentence of a reason: its text, the field's word and its value.
 pub mod numbers;
 mod words;
 

@@ -1,5 +1,5 @@
-// A run of stamps by one of the conversions that are a formula of the stamp's two parts, in one call: no table is read. The parts of the stamps, the offsets
-// and the parts of the dates are bytes, eight each, the lowest first.
+// A run by one conversion that reads no table, with an offset for each stamp where one is taken. The parts of the stamps, the offsets and the parts of the
+// dates are bytes, eight each, the lowest first.
 mod changes;
 mod offsets;
 mod pairs;

@@ -1,4 +1,5 @@
-// A run of stamps from one scale to another in one call. The parts of the stamps and of the dates are bytes, eight each, the lowest first.
+// A run of stamps from one scale to another in one call, where refused stamps are numbered and counted. The parts of the stamps and of the dates are bytes,
+// eight each, the lowest first.
 ghost use mathlib.Core.Path.{_≡_};
 ghost use Prim.Native.Nat.{_+_, _*_, _≤_};
 ghost use lib.ListN.{length};

@@ -1,5 +1,4 @@
-// The way of a date from one scale to another: the single calls, through TAI. A scale is its number. The rows of a table are a size and two arrays that are
-// lent on.
+// The way of a date from one scale to another, through TAI. A scale is its number. The rows of a table are a size and two arrays that are lent on.
 ghost use mathlib.Core.Path.{_≡_};
 ghost use Rattle.refusals.specs.Outcome.{onward};
 ghost use Rattle.julian.specs.JulianDate.{julianOutcome};

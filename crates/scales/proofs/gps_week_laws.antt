@@ -1,5 +1,4 @@
--- No code: what the calls of scales::gps_weeks mean in exact milliseconds (proofs/NearDates.antt), the round trip (proofs/RoundTrip.antt), and when they refuse
--- (proofs/Refusals.antt). The laws of GPS weeks, in the order to read them.
+-- GPS weeks there and back, in exact milliseconds, and when they are refused.
 pub mod Count
 pub mod NearDates
 pub mod RoundTrip

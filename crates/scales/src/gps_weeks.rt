@@ -1,4 +1,4 @@
-// GPS weeks and milliseconds of the week, as receivers count them, to GPS dates and back; and the whole week of its ten lowest bits.
+// GPS weeks and milliseconds of the week, to dates and back.
 ghost use mathlib.Core.Path.{_≡_};
 ghost use Prim.Native.Nat.{_≤_, _<_};
 ghost use Rattle.refusals.specs.Outcome.{onward};

@@ -1,5 +1,4 @@
--- No code: a listing as a whole (proofs/Whole.antt), and every stamp that is not finite refused and counted (proofs/NotFinite.antt).
--- What a listing is as a whole: its parts in a row, the line end of each line, and every stamp that is not finite refused and counted.
+-- A listing as a whole: line by line against the list of stamps, every stamp that is not finite refused and counted.
 pub mod Whole
 pub mod Longest
 pub mod LineEnds

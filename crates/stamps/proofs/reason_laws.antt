@@ -1,5 +1,4 @@
--- Laws of the reasons in sentences; there is no code here.
--- The laws of sentences: they read back as their reasons, a refusal names its field, and they are printable.
+-- The listing in sentences: each sentence reads back as its number and field.
 pub mod ReadBack
 pub mod Names
 pub mod Printed

@@ -1,4 +1,4 @@
-// The stamp block, and its listing in parts that a lent scratch holds.
+// The stamp block and its listing, where refused stamps are counted.
 mod listing;
 mod place;
 mod reported;

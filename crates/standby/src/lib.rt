@@ -1,4 +1,5 @@
-// Crew standby by quarter hours: document 02, item 11. Whole numbers only: a UTC time is counted in exact TAI, by the announced table.
+// The bill of a crew's standby by quarter hours, in exact TAI. From document 02, item 11. Whole numbers only: a UTC time is counted in exact TAI, by the
+// announced table.
 ghost use mathlib.Core.Path.{_≡_};
 ghost use Prim.Native.Nat.{_+_, _*_, _≤_, _<_};
 ghost use Rattle.refusals.specs.Outcome.{answer, onward};

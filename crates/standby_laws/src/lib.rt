@@ -1,1 +1,1 @@
-// No code: what a standby bill means. Here and not in standby, so that an edit there does not wait for it.
+// What a standby bill means, to the cent. Laws only.

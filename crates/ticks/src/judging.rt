@@ -1,4 +1,4 @@
-// Passes and ticks judged before a tick is placed between passes. Lists are bytes: eight for a number, the lowest first.
+// Passes and ticks judged before one is placed. Lists are bytes: eight for a number, the lowest first.
 ghost use mathlib.Core.Path.{_≡_};
 ghost use mathlib.Core.Bool.{_&&_};
 ghost use Prim.Native.Nat.{_+_, _*_, _≤_};

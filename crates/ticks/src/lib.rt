@@ -1,4 +1,4 @@
-// Ticks of a pig's crystal placed between marker passes, as TAI milliseconds. Lists are bytes: eight for a number, the lowest first.
+// Ticks between marker passes, as TAI milliseconds. Lists are bytes: eight for a number, the lowest first.
 ghost use mathlib.Core.Path.{_≡_};
 ghost use mathlib.Core.List.{_++_};
 ghost use Prim.Native.Nat.{_+_, _-_, _*_, _/_, _<_, _≤_};

@@ -1,4 +1,4 @@
-// The time of day that UTC text shows, from a fraction of a day and the leap at the day's end: the middle of the Rust's `to_iso8601`.
+// The time of day that a text shows, to the millisecond: where 23:59:60 and the next midnight are decided.
 mod half_even;
 
 pub use half_even::time_shown_half_even;

@@ -1,5 +1,4 @@
--- No code: what the calls of utc and the texts of utc::iso_texts mean in exact days and times. proofs/Lib.antt says which file has what.
--- The laws of UTC from Unix time, from the calendar, and as text, in the order to read them.
+-- What the texts and the calls on UTC mean: all divisions of a date are alike in text, and which numbers refuse exactly when.
 -- FromCalendars: UTC from the calendar by its cases. Parts: what the parts of an answer are worth. ShortDays: a day that ends a second early.
 pub mod FromCalendars
 pub mod Parts

@@ -1,4 +1,5 @@
-// UTC text into a lent buffer, with the rule of its day: document 01's (scales/utc/mod.rs), the one with expanded years and the one with halves to the even.
+// The three texts of a UTC date, with the rule of its day: the standard form, expanded years, halves to the even. From document 01's (scales/utc/mod.rs), the
+// one with expanded years and the one with halves to the even.
 ghost use mathlib.Core.Path.{_≡_};
 ghost use Prim.Native.Nat.{_≤_};
 ghost use Rattle.leap_table.specs.rows.Announced.{rowsIn};

@@ -1,4 +1,4 @@
-// UTC from Unix time and from the calendar: scales/utc/mod.rs.
+// UTC from Unix time and from calendar fields. From scales/utc/mod.rs.
 ghost use mathlib.Core.Path.{_≡_};
 ghost use Prim.Native.Nat.{_<_};
 ghost use Rattle.scales.specs.Scales.{utcOutcome};

@@ -1,4 +1,4 @@
-// UTC text into a lent buffer: the Rust's `iso_string`, with a byte slice in place of a string.
+// The characters of a UTC text, put into a lent buffer. From the Rust's `iso_string`, with a byte slice in place of a string.
 mod expanded;
 mod year;
 

@@ -1,10 +1,4 @@
--- No code: which dates and which refusals the conversions of utc_scales give (proofs/Refusals.antt), and no NaN and no infinity in any of the twenty
--- conversions (proofs/AllTwenty.antt).
--- The theorems of the conversions that read the table of TAI-UTC, of every table that is taken: `Refusals` which refusals occur, `NotFinite` that what is not
--- finite is refused, `KeptPart` that the larger part is handed back, `FiniteTai` that UTC to TAI is finite for all floats, `Ut1Decided` and `OneDay` which
--- outcome UTC to UT1 has for all floats, `FiniteDates` that small dates have finite answers; `AllTwenty`, no NaN and no infinity in any of the twenty
--- conversions; and `AnnouncedCalls`, all twenty where a table is lent. By computation (`Computed`): `Published`, SOFA's check values, `Worked`, ties and leap
--- days; and `ShortDay`, a day of 86,399 s.
+-- Which refusals the conversions give, and no NaN and no infinity out of any of the twenty.
 pub mod Outcomes
 pub mod Days
 pub mod Decided

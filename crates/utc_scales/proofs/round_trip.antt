@@ -1,8 +1,4 @@
--- No code: what UTC to TAI and TAI to UTC mean from 1972 on, and TAI to UTC and back (proofs/RoundTrip.antt), in picoseconds. UTC and TAI from 1972 on, in the
--- order in which a reader needs it. specs/Lib says what is claimed. A date is a larger part a, worth A / L, and a smaller part u, worth (up - un) / L days; h
--- is 2 ^ -53 day, and every sum below two days is off by at most that. One evaluation of UTC to TAI is off by 4 h of the calendar and 4 h of the formula
--- (`Evaluated`). As a function of UTC the exact relation has no jump, not even at a leap second (`Steady`), so a round of TAI to UTC shrinks what is left by
--- 86,400 whatever day the guess is on (`Residuals`), and after three rounds rounding alone is left.
+-- What UTC to TAI and TAI to UTC mean from 1972 on, and the way there and back, in picoseconds.
 
 -- The theorems:
 -- RoundTrip: there-and-back, document 02's request 14: TAI to UTC and back within a nanosecond; there-and-back-173, within 173 ps.

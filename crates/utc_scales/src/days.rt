@@ -1,5 +1,4 @@
-// What the conversions of UTC that read the table share: the larger part of a date, which they keep, the smaller one, which they change, and of a day TAI-UTC
-// at 0h and the Modified Julian Date. On equal sizes jd2 is changed.
+// What the four share: the part of a date that they change, and TAI-UTC of its day. On equal sizes jd2 is changed.
 ghost use mathlib.Core.Path.{_≡_};
 ghost use Prim.Native.Nat.{_≤_};
 ghost use lib.IntN.{pos, natAbs, _-ℤ_};

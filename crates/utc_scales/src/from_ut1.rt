@@ -1,4 +1,4 @@
-// UT1 to UTC by DUT1 = UT1 - UTC in seconds: scales/conversions/utc_ut1/mod.rs.
+// UT1 to UTC by DUT1, with its scan for a leap second. From scales/conversions/utc_ut1/mod.rs.
 ghost use mathlib.Core.Path.{_≡_};
 ghost use Rattle.refusals.specs.Outcome.{onward};
 ghost use Rattle.constants.specs.Constants.{mjdZeroPoint};

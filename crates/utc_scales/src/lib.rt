@@ -1,4 +1,4 @@
-// UTC to TAI and back.
+// UTC with TAI and with UT1: the four conversions that read the leap table.
 pub mod days;
 pub mod from_ut1;
 mod table;

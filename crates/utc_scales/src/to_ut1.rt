@@ -1,4 +1,4 @@
-// UTC to UT1 by DUT1 = UT1 - UTC in seconds: scales/conversions/utc_ut1/mod.rs.
+// UTC to UT1 by DUT1. From scales/conversions/utc_ut1/mod.rs.
 ghost use mathlib.Core.Path.{_≡_};
 ghost use Rattle.refusals.specs.Outcome.{onward};
 ghost use Rattle.leap_table.specs.rows.Announced.{rowsIn, tableOf};

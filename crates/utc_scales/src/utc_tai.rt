@@ -1,4 +1,4 @@
-// UTC to TAI and back: scales/conversions/utc_tai/mod.rs but its calendar.
+// UTC to TAI, and TAI to UTC in three rounds. From scales/conversions/utc_tai/mod.rs but its calendar.
 ghost use mathlib.Core.Path.{_≡_};
 ghost use Rattle.refusals.specs.Outcome.{onward};
 ghost use Rattle.julian.specs.JulianDate.{julian, julianOutcome};

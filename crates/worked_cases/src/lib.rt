@@ -1,1 +1,1 @@
-// No code: document 01's worked cases, the sixteen starred ones as one table under one theorem (specs/Cases.antt, proofs/Cases.antt).
+// The customer's worked cases, the sixteen starred ones as one table under one theorem. Laws only.
