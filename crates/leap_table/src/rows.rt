@@ -1,4 +1,4 @@
-// The rows: the fixed ones of the IERS, those that a caller announces after them, and the test of such a table. From document 02, item 8.
+// The table of rows, the fixed ones of the IERS and those that a caller announces after them, and the test of such a table. From document 02, item 8.
 ghost use mathlib.Core.Path.{_≡_};
 ghost use lib.ListN.{length};
 ghost use Rattle.refusals.specs.Outcome.{answer, onward};
