@@ -4,7 +4,7 @@ use mathlib.Core.Path.{_≡_, refl}
 use mathlib.Core.Bool.{Bool, true}
 use mathlib.Core.List.{List, [], _∷_}
 use lib.Dec.{ltb}
-use lib.ListN.{getD}
+use lib.ListN.{getD, take}
 use Rattle.line_up.specs.Runs.{tested, into, merge, pick, cursorAfter, zeros}
 use Rattle.line_up.specs.LineUp.{lineRefusal}
 
@@ -12,12 +12,12 @@ abbrev by : List ℕ → ℕ → ℕ → Bool
 by keys i j = ltb (getD keys i 0) (getD keys j 0)
 
 -- a tie goes to the earlier run
-tie-to-earlier-run : getD (merge (by (5 ∷ 5 ∷ [])) (0 ∷ []) (1 ∷ [])) 0 9 ≡ 0
+tie-to-earlier-run : take 1 (merge (by (5 ∷ 5 ∷ [])) (0 ∷ []) (1 ∷ [])) ≡ 0 ∷ []
 unfolding merge into
 tie-to-earlier-run = refl
 
 -- and an earlier stamp goes first
-earlier-first : getD (merge (by (5 ∷ 4 ∷ [])) (0 ∷ []) (1 ∷ [])) 0 9 ≡ 1
+earlier-first : take 1 (merge (by (5 ∷ 4 ∷ [])) (0 ∷ []) (1 ∷ [])) ≡ 1 ∷ []
 unfolding merge into
 earlier-first = refl
 

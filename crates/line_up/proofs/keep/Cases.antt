@@ -5,7 +5,7 @@ use mathlib.Core.Path.{_≡_, refl}
 use mathlib.Core.Bool.{Bool}
 use mathlib.Core.List.{List, [], _∷_}
 use lib.Dec.{ltb}
-use lib.ListN.{getD}
+use lib.ListN.{getD, take}
 use Rattle.line_up.specs.keep.Piles.{pilesBefore, laid, allLaid, ranks, wanted, allJudged, mostKept, runKept}
 
 -- the order of stamps that are numbers
@@ -28,7 +28,7 @@ unfolding mostKept allJudged wanted ranks allLaid laid pilesBefore
 earlier-place-out = refl
 
 -- of equal stamps none is left out
-equal-kept : getD (mostKept (by (5 ∷ 5 ∷ 6 ∷ [])) 0 (0 ∷ 0 ∷ 0 ∷ [])) 0 9 ≡ 0
+equal-kept : take 1 (mostKept (by (5 ∷ 5 ∷ 6 ∷ [])) 0 (0 ∷ 0 ∷ 0 ∷ [])) ≡ 0 ∷ []
 unfolding mostKept allJudged wanted ranks allLaid laid pilesBefore
 equal-kept = refl
 
