@@ -6,6 +6,7 @@ pub mod Places
 pub mod Steps
 pub mod Cursors
 pub mod Cases
+pub mod Worked
 pub mod Nexts
 pub mod Testing
 pub mod Unordered

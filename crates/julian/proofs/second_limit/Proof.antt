@@ -1,14 +1,17 @@
 -- `julian::second_limit` meets its contract. Assumes nothing.
 use mathlib.Core.Logic.{⊎-elim}
 use lib.Ieee.{ofBits, round}
-use borrow.Author.Tests.{eq-eqb, ne-eqb}
+use native.Mathlib.Omega.{arith}
+use borrow.Author.Tests.{eq-eqb, ne-eqb, eqb-true}
 use Rattle.julian.specs.DayFraction.{secondLimit}
 use Rattle.julian.proofs.second_limit.Statement.{statement}
 use Rattle.julian.proofs.second_limit.Tie as tie
 
 returns : tie.Need-returns
 unfolding secondLimit ofBits round
-returns c = rw (eq-eqb (c .before .before .args .hour) 23 (c .before .if1 .taken), c .if2 .taken)
+returns c =
+    let m = c .before .before .args .minute in
+    rw (eq-eqb (c .before .before .args .hour) 23 (c .before .if1 .taken), eq-eqb m 59 (omega (arith, eqb-true m _ (c .if2 .taken))))
 
 returns-2 : tie.Need-returns-2
 unfolding secondLimit ofBits round

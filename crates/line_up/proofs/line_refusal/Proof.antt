@@ -1,4 +1,5 @@
 -- `line_up::line_refusal` meets its contract. Assumes nothing.
+use native.Mathlib.Omega.{arith}
 use mathlib.Core.Path.{sym, _∙_}
 use borrow.Author.Needs.{needs}
 use borrow.Author.Tests.{not-true, not-false}
@@ -80,7 +81,7 @@ returns-8 c =
     (at-if3 .if3 .left))
     (sym (at-eight-each2 .eight-each2 .ensures)
     ∙ not-false (at-eight-each2 .eight-each2 .result) (at-if4 .if4 .left))
-    (at-if5 .if5 .left) (c .before .before .if6 .left) (c .before .if7 .left) (c .if8 .taken)
+    (at-if5 .if5 .left) (c .before .before .if6 .left) (c .before .if7 .left) (omega (arith, c .if8 .taken))
 
 returns-9 : tie.Need-returns-9
 returns-9 c =
@@ -101,7 +102,7 @@ returns-9 c =
     (at-if3 .if3 .left))
     (sym (at-eight-each2 .eight-each2 .ensures)
     ∙ not-false (at-eight-each2 .eight-each2 .result) (at-if4 .if4 .left))
-    (at-if5 .if5 .left) (c .before .before .if6 .left) (c .before .if7 .left) (c .if8 .left)
+    (at-if5 .if5 .left) (c .before .before .if6 .left) (c .before .if7 .left) (omega (arith, c .if8 .left))
 
 pub line-refusal-spec : {M : Type 1} → statement M
 line-refusal-spec =

@@ -42,10 +42,10 @@ loop-again c =
     ⊎-elim
     (λ w. subst (λ (x : ℕ). Seeking (numberAt (a .passes .now)) (a .low) (a .high) (a .t) x (l .loop .left / 2)) (sym (w .1))
     (seek-up (numberAt (a .passes .now)) (a .low) (a .high) (a .t) (l .loop .from) (l .loop .left) (l .loop .inv) (q .before .loop-test .taken)
-    (q .number-at .result) (q .number-at .ensures) (w .0 .taken)))
+    (q .number-at .result) (q .number-at .ensures) (omega (arith, w .0 .taken))))
     (λ w. subst (λ (x : ℕ). Seeking (numberAt (a .passes .now)) (a .low) (a .high) (a .t) x (l .loop .left / 2)) (sym (w .1))
     (seek-down (numberAt (a .passes .now)) (a .low) (a .high) (a .t) (l .loop .from) (l .loop .left) (l .loop .inv) (q .before .loop-test .taken)
-    (q .number-at .result) (q .number-at .ensures) (l .before .before .pre .rises) (w .0 .left)))
+    (q .number-at .result) (q .number-at .ensures) (l .before .before .pre .rises) (omega (arith, w .0 .left))))
     (c .if1 .came)
 
 returns : tie.Need-returns Inv-loop μ-loop

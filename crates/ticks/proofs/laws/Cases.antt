@@ -2,7 +2,7 @@
 -- nothing.
 use mathlib.Core.Path.{_≡_, refl}
 use Prim.Native.Nat.{ℕ}
-use mathlib.Core.List.{List, [], _++_}
+use mathlib.Core.List.{List, [], _++_, _∷_}
 use Rattle.refusals.specs.Outcome.{answer, refusal}
 use Rattle.numerals.specs.little_endian.LittleEndian.{fourAt, u64At, eightBytes}
 use Rattle.ticks.specs.Line.{lineAt}
@@ -24,6 +24,11 @@ rounded-down = (refl, refl)
 pub wide-product : placedTicks (twoNumbers 0 1099511627775) (twoNumbers 0 1099511627774) (eightBytes 1099511627774) 8 ≡ answer (eightBytes 1099511627773)
 unfolding placedTicks refusedBy wellCounted usable bothRising allInside holdsBelow allSmall allRising inside lastNotAfter millisAt lineAt bytesOf fourAt u64At
 wide-product = refl
+
+-- a length that is no multiple of eight is 14, before 11; passes that do not rise are 24, before a tick outside them
+pub earlier-first : (placedTicks (0 ∷ []) [] (eightBytes 1) 0 ≡ refusal 14) × (placedTicks (twoNumbers 5 5) (twoNumbers 0 10) (eightBytes 9) 8 ≡ refusal 24)
+unfolding placedTicks refusedBy wellCounted usable bothRising allInside holdsBelow allSmall allRising inside lastNotAfter millisAt lineAt bytesOf fourAt u64At
+earlier-first = (refl, refl)
 
 -- passes at the ticks 2^40 and 0 are 23, though they do not rise; of no ticks the passes are judged all the same; a tick of 2^40 is 25; 11 comes before the
 -- passes

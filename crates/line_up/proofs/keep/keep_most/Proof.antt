@@ -18,8 +18,8 @@ lay-requires c κs =
         low = s .pre .low;
         high = s .pre .high;
         small = s .pre .small;
-        tailRoom = cells-room (a .tails .now) (a .to - a .from) (s .pre .tailRoom);
-        rankRoom = cells-room (a .ranks .now) (a .to) (s .pre .rankRoom);
+        tailRoom = cells-room (a .tails .now) (a .to - a .from) (omega (arith, s .pre .tailRoom));
+        rankRoom = cells-room (a .ranks .now) (a .to) (omega (arith, s .pre .rankRoom));
       };
       ordered = s .pre .ordered;
     }

@@ -8,7 +8,7 @@ use Rattle.line_up.proofs.keep.wanted_before.Tie as tie
 returns : tie.Need-returns
 returns c =
     let a = c .before .before .args in
-    rw (eq-eqb (a .r) (a .wanted) (c .before .if1 .taken))
+    rw (eq-eqb (a .r) (a .wanted) (c .before .if1 .taken)) (omega arith)
 
 returns-2 : tie.Need-returns-2
 returns-2 c =

@@ -34,7 +34,7 @@ returns-2 c =
     let l = q .before .before in
     let a = l .before .before .args in
     inside-stops-high (numberAt (a .s .now)) (a .n) (l .loop .i) (q .number-at .result) (q .number-at .ensures) (a .first) (a .last)
-    (q .before .loop-test .taken) (c .before .if1 .left) (c .if2 .taken)
+    (q .before .loop-test .taken) (c .before .if1 .left) (omega (arith, c .if2 .taken))
 
 add-i : tie.Need-add-i Inv-loop μ-loop
 add-i c = record { fits = omega (arith, c .before .before .before .loop-test .taken, c .before .before .before .before .before .before .pre) }

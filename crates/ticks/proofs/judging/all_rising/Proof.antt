@@ -36,7 +36,7 @@ returns c =
     let l = q .before .before in
     let a = l .before .before .before .args in
     rising-stops (numberAt (a .s .now)) (a .n) (l .loop .i) (l .loop .before) (l .loop .inv .2) (q .number-at2 .result) (q .number-at2 .ensures)
-    (q .before .loop-test .taken) (c .if1 .taken)
+    (q .before .loop-test .taken) (omega (arith, c .if1 .taken))
 
 add-i : tie.Need-add-i Inv-loop μ-loop
 add-i c = record { fits = omega (arith, c .before .before .loop-test .taken, c .before .before .before .before .before .before .pre .1) }
