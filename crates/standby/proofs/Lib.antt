@@ -3,3 +3,5 @@ pub mod Numbers
 pub mod Shares
 pub mod Ladder
 pub mod Times
+-- Cases: closed cases of a bill.
+pub mod Cases

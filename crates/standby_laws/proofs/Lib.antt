@@ -7,4 +7,3 @@ pub mod Faults
 pub mod Exact
 pub mod Dates
 pub mod Order
-pub mod Cases

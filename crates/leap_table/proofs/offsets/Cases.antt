@@ -2,7 +2,6 @@
 -- of their own (crate `worked_cases`). Assumes nothing.
 use mathlib.Core.Path.{_≡_, refl}
 use mathlib.Core.Bool.{false, true}
-use lib.ListN.{length}
 use lib.IntN.{pos}
 use lib.Ieee.{fin, nan, round, le}
 use Rattle.refusals.specs.Outcome.{answer, refusal, onward}
@@ -10,7 +9,7 @@ use Rattle.floats.specs.Whole.{one}
 use Rattle.calendar.specs.Calendar.{leapSize, lengths, daysInMonth}
 use Rattle.calendar.specs.Refusals.{validDate, nextOf}
 use Rattle.calendar.specs.DayCount.{civilCount, mjdNumber, mjdOf}
-use Rattle.leap_table.specs.rows.Table.{fixed, monthNumber, reached, fixedRows}
+use Rattle.leap_table.specs.rows.Table.{fixed, monthNumber, reached}
 use Rattle.leap_table.specs.offsets.Offset.{secondsOf, byRow, offsetBy, offsetAt, inDay, taiUtcOffset}
 use Rattle.leap_table.specs.offsets.Leap.{dayOffsets, leapAtEndOfDay}
 

@@ -134,15 +134,15 @@ module _ (rows : List Row) (month : ℕ) where
   as-many : length (starts rows) ≡ length rows
   as-many = length-map rows (λ (r : Row). r .month)
 
-  pub walking-starts : (w : Walk) → Standing rows w → w .compared < 0x8000_0000_0000_0000
-      → Walking rows month (w .reached) (w .compared) (w .reached) (w .next) (w .compared)
-  walking-starts w s h =
+  pub walking-starts : (w : Walk) (k : ℕ) → k ≡ w .reached → Standing rows w → w .compared < 0x8000_0000_0000_0000
+      → Walking rows month k (w .compared) k (w .next) (w .compared)
+  walking-starts w k e s h =
       record {
-        most = s .most;
+        most = omega (arith, s .most);
         small = s .small;
         few = h;
         forward = omega arith;
-        is-next = s .next;
+        is-next = s .next ∙ ap (λ (j : ℕ). getD (starts rows) j never) (sym e);
         begun = λ j a b. absurd (omega arith);
         count = refl;
       }

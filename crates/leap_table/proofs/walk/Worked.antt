@@ -12,6 +12,7 @@ use Rattle.leap_table.specs.declared.judging.Triple.{Triple}
 use Rattle.leap_table.specs.walk.Rows.{heldAgainst, left, compared}
 use Rattle.leap_table.specs.judging.Judging.{triple, earlier, judgedNext, judgedAfter, judgedAll}
 use Rattle.leap_table.specs.walk.Walk.{walkOf}
+use Rattle.leap_table.specs.walk.Call.{listAfter}
 
 abbrev date : ℕ → ℕ → ℕ → Triple
 date y m d = triple (pos y) (pos m) (pos d)
@@ -53,3 +54,8 @@ broken-first = refl
 pub earlier-before-later : walkOf fixed true (date 2017 1 1 ∷ date 2016 12 31 ∷ date 1999 2 29 ∷ []) 3 ≡ refusal 17
 unfolding walkOf judgedAll judgedAfter judgedNext earlier onward validDate daysInMonth lengths leapSize
 earlier-before-later = refl
+
+-- no offset is due: what the lent list holds stays
+pub spare-place-stays : listAfter {A = ℕ} (λ _. []) (answer (record { rowsCompared = 0; offsets = [] })) (7 ∷ []) ≡ 7 ∷ []
+unfolding listAfter
+spare-place-stays = refl

@@ -16,7 +16,7 @@ abbrev μ-loop : tie.MeasureT-loop
 μ-loop w table month reached₀ next₀ compared₀ reached next compared = length (rowsOf table) - reached
 
 loop-holds : tie.Need-loop-holds Inv-loop μ-loop
-loop-holds c = walking-starts (rowsOf (c .args .table)) (c .args .month) (c .args .w) (c .pre .0) (c .pre .2)
+loop-holds c = walking-starts (rowsOf (c .args .table)) (c .args .month) (c .args .w) _ (omega arith) (c .pre .0) (c .pre .2)
 
 inside : (c : tie.In-loop Inv-loop μ-loop) → let l = c .before in l .loop .reached < length (rowsOf (l .before .args .table))
 inside c =

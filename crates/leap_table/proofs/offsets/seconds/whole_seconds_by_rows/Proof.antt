@@ -1,11 +1,12 @@
 -- `leap_table::offsets::seconds::whole_seconds_by_rows` meets its contract: the three tests, and the seconds of the row. Assumes nothing.
 use mathlib.Core.Path.{_≡_, ap, sym, subst, _∙_}
-use mathlib.Core.Bool.{false}
+use mathlib.Core.Bool.{true, false}
 use Prim.Native.Nat.{ℕ, _≤_}
 use native.Mathlib.Omega.{arith}
-use lib.IntN.{ℤ, pos}
+use lib.IntN.{ℤ, pos, negsuc}
 use lib.Signed.{ltZ}
 use mir.Facts.{toZ-ofZ}
+use borrow.Author.Tests.{le-ltb, ltb-false}
 use borrow.Author.Needs.{needs}
 use Rattle.calendar.proofs.Signs.{lt-left}
 use Rattle.leap_table.specs.rows.Table.{monthNumber}
@@ -15,8 +16,13 @@ use Rattle.leap_table.proofs.offsets.WholeSeconds.{no-year, month-below
 use Rattle.leap_table.proofs.offsets.seconds.whole_seconds_by_rows.Statement.{statement}
 use Rattle.leap_table.proofs.offsets.seconds.whole_seconds_by_rows.Tie as tie
 
+-- a year from k on, where k is 1972 or later
+since : (y : ℤ) (k : ℕ) → ltZ y (pos k) ≡ false → 1972 ≤ k → ltZ y (pos 1972) ≡ false
+since (pos n) k e h = le-ltb n 1972 (omega (arith, ltb-false n k e))
+since (negsuc n) k e h = let z : true ≡ false = e in cc
+
 from-1972 : (c : tie.Else1) → ltZ (c .before .args .year) (pos 1972) ≡ false
-from-1972 c = let s = c .before in lt-left (s .args .year) (pos 1972) _ (s .fits .year) (c .if1 .left)
+from-1972 c = let s = c .before in since (s .args .year) _ (lt-left (s .args .year) (pos _) _ (s .fits .year) (c .if1 .left)) (omega arith)
 
 month-is : (c : tie.After-month-number) → let s = c .before .before .before .before in c .month-number .result ≡ monthNumber (s .args .year) (s .args .month)
 month-is c = let s = c .before .before .before .before in c .month-number .ensures ∙ ap (λ (y : ℤ). monthNumber y (s .args .month)) (toZ-ofZ (s .fits .year))

@@ -1,4 +1,5 @@
 -- `leap_table::offsets::whole_day::offsets_of_day` meets its contract. Assumes nothing.
+use native.Mathlib.Omega.{arith}
 use mathlib.Core.Path.{ap, _∙_}
 use mathlib.Core.List.{List}
 use Prim.Native.Nat.{_≤_}
@@ -51,9 +52,9 @@ returns c =
     let o = same-three _ _ _ _ _ _
     (c .before .before .before .offset-by .ensures (s .args .size) m h ∙ at-month _ _ _ _ _ _ e (read (s .args .mjd) (s .pre)))
     (c .before .before .offset-by2 .ensures (s .args .size) m h ∙ at-month _ _ _ _ _ _ e (read (s .args .mjd) (s .pre)))
-    (c .before .offset-by3 .ensures (s .args .size) m (n .next-rows-reached .ensures .1)
+    (c .before .offset-by3 .ensures (s .args .size) m (omega (arith, n .next-rows-reached .ensures .1))
     ∙ at-month _ _ _ _ _ _ (n .next-rows-reached .ensures .0 l) (read-next-day (s .args .mjd) (s .pre))) in
-    let r = c .rule-by .ensures (s .args .size) m l h ∙ ap (ruleBy (rows s)) e in
+    let r = c .rule-by .ensures (s .args .size) m l (omega (arith, t .table-rows-reached .ensures .1)) ∙ ap (ruleBy (rows s)) e in
     (λ i. answer (o i, r i))
 
 pub offsets-of-day-spec : {M : Type 1} → statement M

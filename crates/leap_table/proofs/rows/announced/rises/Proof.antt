@@ -1,7 +1,7 @@
 -- `leap_table::rows::announced::rises` meets its contract. The loop's invariant: the table rises up to announced row i, and `before` is the month of the row
 -- before it. The measure is what is left.
 -- Assumes nothing.
-use mathlib.Core.Path.{_≡_, refl, ap, sym, _∙_}
+use mathlib.Core.Path.{_≡_, ap, sym, _∙_}
 use mathlib.Core.Bool.{true}
 use Prim.Native.Nat.{ℕ, _-_, _≤_}
 use native.Mathlib.Omega.{arith}
@@ -33,7 +33,7 @@ abbrev μ-loop : tie.MeasureT-loop
 μ-loop months size before₀ i₀ before i = size - i
 
 loop-holds : tie.Need-loop-holds Inv-loop μ-loop
-loop-holds c = (omega arith, refl, rises-none (announced (now (c .args .months))))
+loop-holds c = (omega arith, omega arith, rises-none (announced (now (c .args .months))))
 
 mul-natural : tie.Need-mul-natural Inv-loop μ-loop
 mul-natural c = search needs

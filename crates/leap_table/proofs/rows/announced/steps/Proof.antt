@@ -1,7 +1,7 @@
 -- `leap_table::rows::announced::steps` meets its contract. The loop's invariant: the steps up to announced row i are of one second, and `before` has the
 -- seconds of the row before it. The measure is what is left.
 -- Assumes nothing.
-use mathlib.Core.Path.{_≡_, refl, ap, sym, _∙_}
+use mathlib.Core.Path.{_≡_, ap, sym, _∙_}
 use mathlib.Core.Bool.{true}
 use Prim.Native.Nat.{ℕ, _-_, _≤_, _<_}
 use mathlib.Core.List.{List, []}
@@ -34,7 +34,7 @@ abbrev μ-loop : tie.MeasureT-loop
 μ-loop seconds size before₀ i₀ before i = size - i
 
 loop-holds : tie.Need-loop-holds Inv-loop μ-loop
-loop-holds c = (omega arith, omega arith, refl, steps-none (announced (now (c .args .seconds))))
+loop-holds c = (omega arith, omega arith, omega arith, steps-none (announced (now (c .args .seconds))))
 
 mul-natural : tie.Need-mul-natural Inv-loop μ-loop
 mul-natural c = search needs
