@@ -5,7 +5,7 @@ ghost use Prim.Native.Nat.{_≤_};
 ghost use Rattle.leap_table.specs.rows.Announced.{rowsIn};
 ghost use Rattle.utc.specs.iso_texts.IsoText.{nextMidnightText, shownText};
 ghost use Rattle.utc.specs.iso_texts.TextCall.{TextCall};
-ghost use Rattle.utc.specs.iso_texts.TextDay.{dayOutcome, dayWithLeap, textDay};
+ghost use Rattle.utc.specs.iso_texts.TextDay.{textDayOutcome, dayWithLeap, textDay};
 
 mod by_rule;
 mod expanded;
@@ -34,6 +34,13 @@ pub enum TextByRule {
     Refused(u32),
 }
 
+const MIDNIGHT: TimeOfDay = TimeOfDay {
+    hour: 0,
+    minute: 0,
+    second: 0,
+    milli: 0,
+};
+
 // What a text is written by: the calendar's day, the fraction of it, its leap and its rule; or the number of the refusal.
 enum DayAnswer {
     Day(CalendarDate, f64, f64, Rule),
@@ -48,7 +55,7 @@ fn with_leap<'a>(
     seconds: &'a [i32; 16],
 ) -> DayAnswer
     requires { ⌜ (date .month ≤ 12) × (date .day ≤ 31) ⌝ }
-    ensures { λ r. ⌜ dayOutcome r ≡ dayWithLeap (rowsIn size (now (months .entry)) (now (seconds .entry))) date fraction ⌝ }
+    ensures { λ r. ⌜ textDayOutcome r ≡ dayWithLeap (rowsIn size (now (months .entry)) (now (seconds .entry))) date fraction ⌝ }
 {
     match leap_table::offsets::leap_at_end_of_day_by_lent(
         date.year,
@@ -65,7 +72,7 @@ fn with_leap<'a>(
 
 // The same for every form of text. Refusals in order: 6 the parts, 1 the year.
 fn day_of<'a>(utc: UTC, size: usize, months: &'a [i32; 16], seconds: &'a [i32; 16]) -> DayAnswer
-    ensures { λ r. ⌜ dayOutcome r ≡ textDay (rowsIn size (now (months .entry)) (now (seconds .entry))) (utc .0) ⌝ }
+    ensures { λ r. ⌜ textDayOutcome r ≡ textDay (rowsIn size (now (months .entry)) (now (seconds .entry))) (utc .0) ⌝ }
 {
     let jd = utc.0;
     match julian::julian_to_calendar(jd.jd1, jd.jd2) {
@@ -93,14 +100,6 @@ fn put_next_midnight(date: CalendarDate, out: &mut [u8]) -> TextAnswer
 {
     match calendar::next_calendar_day(date.year, date.month as i32, date.day as i32) {
         NextDay::Refused(number) => TextAnswer::Refused(number),
-        NextDay::Date(next) => {
-            let midnight = TimeOfDay {
-                hour: 0,
-                minute: 0,
-                second: 0,
-                milli: 0,
-            };
-            crate::text::put_text(next, midnight, out)
-        }
+        NextDay::Date(next) => crate::text::put_text(next, MIDNIGHT, out),
     }
 }

@@ -67,8 +67,5 @@ module _ (textForm : TextForm) (rows : List Row) where
 
 -- ---- by document 01's
 module _ (rows : List Row) (jd : JulianDate) where
-  pub fields-refused : (k : ℕ) → julianToCalendar (jd .jd1) (jd .jd2) ≡ refusal k → isoText rows jd ≡ refusal k
-  fields-refused k e = fields-refused-by standardForm rows jd k e
-
   pub fields-given : (c : CalendarFields) → julianToCalendar (jd .jd1) (jd .jd2) ≡ answer c → isoText rows jd ≡ dayText rows (c .date) (c .fraction)
   fields-given c e = fields-given-by standardForm rows jd c e

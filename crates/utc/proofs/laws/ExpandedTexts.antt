@@ -17,7 +17,7 @@ use Rattle.calendar.specs.Refusals.{validDate, nextOf}
 use Rattle.julian.specs.day_number.ExactDay.{OnGrid, gridSum, GridSumInRange}
 use Rattle.julian.specs.declared.JulianDate.{JulianDate}
 use Rattle.julian.specs.JulianDate.{julian}
-use Rattle.leap_table.specs.rows.Table.{Row, fixed}
+use Rattle.leap_table.specs.rows.Table.{Row}
 use Rattle.leap_table.specs.declared.rows.AnnouncedRows.{AnnouncedRows}
 use Rattle.leap_table.specs.rows.Announced.{tableOf}
 use Rattle.time_of_day.specs.declared.TimeShown.{TimeShown}
@@ -38,7 +38,7 @@ use Rattle.utc.specs.iso_texts.Expanded.{expandedForm, isoTextExpanded}
 use Rattle.utc.specs.laws.Promises.{expandedPromise}
 use Rattle.utc.specs.laws.Beside.{Beside, refused, written}
 use Rattle.utc.proofs.laws.TextForms.{near-501}
-use Rattle.utc.proofs.laws.Demand3.{fixed-leaps, table-leaps, demand-3-by}
+use Rattle.utc.proofs.laws.Demand3.{table-leaps, demand-3-by}
 use Rattle.utc.proofs.laws.OneText.{text-for-every-buffer-by}
 use Rattle.utc.proofs.laws.Numbers.{call-numbers-by, not-finite-by}
 use Rattle.utc.proofs.laws.Lengths.{every-text, every-call}
@@ -55,9 +55,6 @@ expanded-demand-3 t rows p = demand-3-by rows (table-leaps t rows p) expandedFor
 pub expanded-for-every-buffer : (t : AnnouncedRows) (rows : List Row) → tableOf t ≡ answer rows → (sum : ℤ) → GridSumInRange sum
     → OneText expandedForm expandedPromise rows sum
 expanded-for-every-buffer t rows p = text-for-every-buffer-by rows (table-leaps t rows p) expandedForm expandedPromise expanded-good
-
-pub expanded-for-every-buffer-fixed : (sum : ℤ) → GridSumInRange sum → OneText expandedForm expandedPromise fixed sum
-expanded-for-every-buffer-fixed = text-for-every-buffer-by fixed fixed-leaps expandedForm expandedPromise expanded-good
 
 -- ---- over all floats: 23 or 27 bytes, and the numbers 6, 1 and 11
 abbrev TwoLengths : ℕ → Type 0

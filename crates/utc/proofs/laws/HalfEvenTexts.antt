@@ -15,7 +15,7 @@ use Rattle.julian.specs.day_number.ExactDay.{OnGrid, gridSum, GridSumInRange, f
 use Rattle.julian.proofs.day_number.ExactDay.{fraction-exact}
 use Rattle.julian.specs.declared.JulianDate.{JulianDate}
 use Rattle.julian.specs.JulianDate.{julian}
-use Rattle.leap_table.specs.rows.Table.{Row, fixed}
+use Rattle.leap_table.specs.rows.Table.{Row}
 use Rattle.leap_table.specs.declared.rows.AnnouncedRows.{AnnouncedRows}
 use Rattle.leap_table.specs.rows.Announced.{tableOf}
 use Rattle.time_of_day.specs.Milliseconds.{wholeLeap}
@@ -34,7 +34,7 @@ use Rattle.utc.specs.iso_texts.HalfEven.{halfEvenForm, isoTextHalfEven}
 use Rattle.utc.specs.laws.Promises.{evenPromise}
 use Rattle.utc.proofs.laws.Sums.{fraction-fits}
 use Rattle.utc.proofs.laws.TextForms.{form01}
-use Rattle.utc.proofs.laws.Demand3.{fixed-leaps, table-leaps, demand-3-by}
+use Rattle.utc.proofs.laws.Demand3.{table-leaps, demand-3-by}
 use Rattle.utc.proofs.laws.OneText.{text-for-every-buffer-by}
 use Rattle.utc.proofs.laws.Numbers.{call-numbers-by, not-finite-by, refused-alike}
 use Rattle.utc.proofs.laws.Lengths.{Length01, every-text, every-call}
@@ -55,9 +55,6 @@ even-demand-3 t rows p = demand-3-by rows (table-leaps t rows p) halfEvenForm ev
 pub even-for-every-buffer : (t : AnnouncedRows) (rows : List Row) → tableOf t ≡ answer rows → (sum : ℤ) → GridSumInRange sum
     → OneText halfEvenForm evenPromise rows sum
 even-for-every-buffer t rows p = text-for-every-buffer-by rows (table-leaps t rows p) halfEvenForm evenPromise even-good
-
-pub even-for-every-buffer-fixed : (sum : ℤ) → GridSumInRange sum → OneText halfEvenForm evenPromise fixed sum
-even-for-every-buffer-fixed = text-for-every-buffer-by fixed fixed-leaps halfEvenForm evenPromise even-good
 
 -- ---- over all floats: 23 to 26 bytes, the numbers 6, 1 and 11, and 6 and 1 exactly where document 01's text has them
 pub even-text-length : (rows : List Row) (jd : JulianDate) (t : List ℕ) → isoTextHalfEven rows jd ≡ answer t → (23 ≤ length t) × (length t ≤ 26)

@@ -88,7 +88,7 @@ returns-3 c =
     let s = v .before .before .before .before in
     let f = k .fields .given .0 .0 in
     c .utc-from-calendar-by-lent .ensures
-    ∙ day-given (rows (c .before .before .before .before .before .before .before .before .before .before .before .before .before .before)) (s .args .unix)
+    ∙ day-given (rows s) (s .args .unix)
     (s .args .nanos) (few (v .before .before .before)) f (answered k) _ (d .second-of-unix-day .result) (n .second-with-nanos .result)
     (toZ-ofZ {w = w32} {z = f .date .year} (record { sfits = c .before .struct-told .given .0 .1 }))
     (d .second-of-unix-day .ensures .0 ∙ ap secondOfUnixDay (toZ-ofZ (s .fits .unix))) (n .second-with-nanos .ensures)

@@ -2,23 +2,18 @@
 -- and seven digits". Assumes nothing.
 use Prim.Native.Nat.{ℕ}
 use mathlib.Core.List.{List}
-use lib.Ieee.{Float}
 use Rattle.refusals.specs.Outcome.{Outcome}
 use Rattle.floats.specs.Whole.{away}
-use Rattle.calendar.specs.declared.CalendarDate.{CalendarDate}
 use Rattle.julian.specs.declared.JulianDate.{JulianDate}
 use Rattle.leap_table.specs.rows.Table.{Row}
 use Rattle.time_of_day.specs.TimeShown.{countBy}
 use Rattle.utc.specs.text.Expanded.{expandedText}
 use Rattle.utc.specs.iso_texts.TextForm.{TextForm}
-use Rattle.utc.specs.iso_texts.IsoText.{dayTextBy, isoTextBy}
+use Rattle.utc.specs.iso_texts.IsoText.{isoTextBy}
 
 -- milliseconds as document 01's form counts them, years of four digits or of a sign and seven
 abbrev pub expandedForm : TextForm
 expandedForm = record { count = countBy away; write = expandedText }
-
-abbrev pub dayTextExpanded : List Row → CalendarDate → Float → Outcome (List ℕ)
-dayTextExpanded rows d fraction = dayTextBy expandedForm rows d fraction
 
 abbrev pub isoTextExpanded : List Row → JulianDate → Outcome (List ℕ)
 isoTextExpanded rows jd = isoTextBy expandedForm rows jd

@@ -27,6 +27,6 @@ dayWithLeap rows d f = onward (leapAtEndOfDay rows (d .year) (pos (d .month)) (p
 unfoldable pub textDay : List Row → JulianDate → Outcome TextDay
 textDay rows jd = onward (julianToCalendar (jd .jd1) (jd .jd2)) (λ c. dayWithLeap rows (c .date) (c .fraction))
 
-unfoldable pub dayOutcome : DayAnswer → Outcome TextDay
-dayOutcome (Day d f l r) = answer (record { date = d; fraction = f; leap = l; rule = r })
-dayOutcome (Refused k) = refusal k
+unfoldable pub textDayOutcome : DayAnswer → Outcome TextDay
+textDayOutcome (Day d f l r) = answer (record { date = d; fraction = f; leap = l; rule = r })
+textDayOutcome (Refused k) = refusal k

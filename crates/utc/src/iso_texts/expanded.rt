@@ -15,7 +15,6 @@ use calendar::CalendarDate;
 use calendar::NextDay;
 use leap_table::rows::AnnouncedRows;
 use scales::UTC;
-use time_of_day::TimeOfDay;
 use time_of_day::TimeShown;
 
 // Refusals in order: 6 the parts, 1 the year, 11 the buffer; a refused call writes nothing.
@@ -89,14 +88,6 @@ fn put_next_midnight(date: CalendarDate, out: &mut [u8]) -> TextAnswer
 {
     match calendar::next_calendar_day(date.year, date.month as i32, date.day as i32) {
         NextDay::Refused(number) => TextAnswer::Refused(number),
-        NextDay::Date(next) => {
-            let midnight = TimeOfDay {
-                hour: 0,
-                minute: 0,
-                second: 0,
-                milli: 0,
-            };
-            crate::text::put_text_expanded(next, midnight, out)
-        }
+        NextDay::Date(next) => crate::text::put_text_expanded(next, super::MIDNIGHT, out),
     }
 }

@@ -5,7 +5,7 @@ use Rattle.refusals.specs.Outcome.{answer}
 use Rattle.refusals.proofs.Onward.{went, stopped}
 use Rattle.julian.specs.Calendar.{calendarOutcome, julianToCalendar}
 use Rattle.julian.proofs.Dates.{date-in-range}
-use Rattle.utc.specs.iso_texts.TextDay.{textDay, dayOutcome}
+use Rattle.utc.specs.iso_texts.TextDay.{textDay, textDayOutcome}
 use borrow.Author.Needs.{needs}
 use Rattle.utc.proofs.iso_texts.day_of.Statement.{statement}
 use Rattle.utc.proofs.iso_texts.day_of.Tie as tie
@@ -22,7 +22,7 @@ with-leap-requires c κs =
     (omega (arith, r .month-high), omega (arith, r .day-high))
 
 returns : tie.Need-returns
-unfolding calendarOutcome textDay dayOutcome
+unfolding calendarOutcome textDay textDayOutcome
 returns c = sym (stopped _ (sym (c .before .before .before .julian-to-calendar .ensures) ∙ ap calendarOutcome (c .before .number .given .1)))
 
 returns-2 : tie.Need-returns-2

@@ -14,7 +14,7 @@ use Rattle.leap_table.specs.offsets.Answers.{secondsByRuleOutcome}
 use Rattle.leap_table.proofs.offsets.Rules.{apart, refused-apart}
 use Rattle.julian.proofs.Dates.{read-fields}
 use Rattle.utc.specs.iso_texts.ByRule.{ruleOn}
-use Rattle.utc.specs.iso_texts.TextDay.{TextDay, dayWithLeap, dayOutcome}
+use Rattle.utc.specs.iso_texts.TextDay.{TextDay, dayWithLeap, textDayOutcome}
 use borrow.Author.Needs.{needs}
 use Rattle.utc.proofs.iso_texts.with_leap.Statement.{statement}
 use Rattle.utc.proofs.iso_texts.with_leap.Tie as tie
@@ -24,7 +24,7 @@ abbrev rows : tie.Start → List Row
 rows s = rowsIn (s .args .size) (now (s .args .months)) (now (s .args .seconds))
 
 returns : tie.Need-returns
-unfolding secondsByRuleOutcome leapByRule dayWithLeap dayOutcome
+unfolding secondsByRuleOutcome leapByRule dayWithLeap textDayOutcome
 returns c =
     let v = c .before .before .before in
     let s = v .before .before .before .before in
@@ -34,7 +34,7 @@ returns c =
     ∙ ap secondsByRuleOutcome (c .before .number .given .1))))
 
 returns-2 : tie.Need-returns-2
-unfolding secondsByRuleOutcome leapByRule ruleOn dayWithLeap dayOutcome
+unfolding secondsByRuleOutcome leapByRule ruleOn dayWithLeap textDayOutcome
 returns-2 c =
     let v = c .before .before .before in
     let s = v .before .before .before .before in

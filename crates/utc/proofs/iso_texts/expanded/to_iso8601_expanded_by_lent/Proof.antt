@@ -10,7 +10,7 @@ use Rattle.time_of_day.specs.declared.TimeShown.{TimeShown}
 use Rattle.utc.specs.text.Expanded.{expandedText}
 use Rattle.utc.specs.iso_texts.IsoText.{shownTextBy}
 use Rattle.utc.specs.iso_texts.Expanded.{expandedForm}
-use Rattle.utc.specs.iso_texts.TextDay.{TextDay, textDay, dayOutcome}
+use Rattle.utc.specs.iso_texts.TextDay.{TextDay, textDay, textDayOutcome}
 use Rattle.utc.proofs.iso_texts.TextRules.{rule-call-refused, rule-call-as, rule-call-with}
 use Rattle.utc.proofs.iso_texts.TextDays.{day-refused, day-given, day-in-range}
 use borrow.Author.Needs.{needs}
@@ -26,18 +26,18 @@ abbrev found : tie.After-date → TextDay
 found k = let d = k .date .given .0 in record { date = d .0; fraction = d .1 .0; leap = d .1 .1 .0; rule = d .1 .1 .1 .0 }
 
 day-answered : (k : tie.After-date) → let s = k .before .before .before .before in textDay (rows s) (s .args .utc .0) ≡ answer (found k)
-unfolding dayOutcome
-day-answered k = sym (k .before .before .day-of .ensures) ∙ ap dayOutcome (k .date .given .1)
+unfolding textDayOutcome
+day-answered k = sym (k .before .before .day-of .ensures) ∙ ap textDayOutcome (k .date .given .1)
 
 put-shown-requires : tie.Need-put-shown-requires
 put-shown-requires c κs = let k = c .before .before .before in day-in-range _ _ (found k) (day-answered k)
 
 returns : tie.Need-returns
-unfolding dayOutcome
+unfolding textDayOutcome
 returns c =
     let v = c .before .before .before in
     let s = v .before .before in
-    rule-call-refused _ _ _ (day-refused expandedForm (rows s) (s .args .utc .0) _ (sym (v .day-of .ensures) ∙ ap dayOutcome (c .before .number .given .1)))
+    rule-call-refused _ _ _ (day-refused expandedForm (rows s) (s .args .utc .0) _ (sym (v .day-of .ensures) ∙ ap textDayOutcome (c .before .number .given .1)))
 
 returns-2 : tie.Need-returns-2
 returns-2 c =
