@@ -1,5 +1,5 @@
--- The laws that the proofs of the C interface cite: a table that is lent, by value and as two arrays, a text, and one with its rule in two buffers, the number of a
--- block's stamps, a part of a listing, a walk, three runs in a line, ticks, and a run.
+-- The laws that the proofs of the C interface cite: a table that is lent, by value and as two arrays, a text, and one with its rule in two buffers, the number
+-- of a block's stamps, a part of a listing, a walk, three runs in a line, ticks, and a run.
 pub mod Tables
 pub mod Arrays
 pub mod TextRules

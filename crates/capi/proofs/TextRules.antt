@@ -42,28 +42,28 @@ pub named-call : (textForm k : NamedForm) (rows : List Row) (jd : JulianDate) {l
 named-call textForm k rows jd {l} {out} {r} e p = subst (λ (x : NamedForm). TextRuleCall (textByRule (formNamed x) rows jd) l r out) (sym e) p
 
 -- ---- the rule has no room
-nothing-told : (o : Outcome (List ℕ × Rule)) (m k : ℕ) → writtenByRule o m ≡ refusal k → refusal k ≡ noRoom o
+nothing-reported : (o : Outcome (List ℕ × Rule)) (m k : ℕ) → writtenByRule o m ≡ refusal k → refusal k ≡ noRoom o
 unfolding writtenByRule noRoom withRule textWritten onward
-nothing-told (refusal j) m k e = let z : j ≡ k = cc in ap refusal (sym z)
-nothing-told (answer t) m k e = go (leb (length (t .0)) m) e
+nothing-reported (refusal j) m k e = let z : j ≡ k = cc in ap refusal (sym z)
+nothing-reported (answer t) m k e = go (leb (length (t .0)) m) e
   where
     go : (b : Bool) → withRule (cond b (answer (length (t .0))) (refusal 11)) (t .1) ≡ refusal k → _≡_ {A = Outcome ℕ} (refusal k) (refusal 11)
     go true p = absurd (let z : _≡_ {A = ℕ} 0 1 = cc in let no : ⊥ = omega arith in no)
     go false p = let z : _≡_ {A = ℕ} 11 k = cc in ap refusal (sym z)
 
-eleven-told : (o : Outcome (List ℕ × Rule)) (m n : ℕ) (rule : Rule) → writtenByRule o m ≡ answer (n, rule) → refusal 11 ≡ noRoom o
+eleven-reported : (o : Outcome (List ℕ × Rule)) (m n : ℕ) (rule : Rule) → writtenByRule o m ≡ answer (n, rule) → refusal 11 ≡ noRoom o
 unfolding writtenByRule noRoom onward
-eleven-told (refusal j) m n rule e = absurd (let z : _≡_ {A = ℕ} 0 1 = cc in let no : ⊥ = omega arith in no)
-eleven-told (answer t) m n rule e = refl
+eleven-reported (refusal j) m n rule e = absurd (let z : _≡_ {A = ℕ} 0 1 = cc in let no : ⊥ = omega arith in no)
+eleven-reported (answer t) m n rule e = refl
 
 module _ (o : Outcome (List ℕ × Rule)) {l out : List ℕ} {res : TextByRule} (p : TextRuleCall o l res out) where
   pub no-room-refused : {k : ℕ} {r : ℤ} → mag r < 2 ^ 63 → res ≡ Refused k → r ≡ code (refusal k) → toZ w64 (ofZ w64 r) ≡ code (noRoom o)
   unfolding textByRuleOutcome
-  no-room-refused {k} ok is c = code-back ok ∙ c ∙ ap code (nothing-told o (length l) k (sym (p .says) ∙ ap textByRuleOutcome is))
+  no-room-refused {k} ok is c = code-back ok ∙ c ∙ ap code (nothing-reported o (length l) k (sym (p .says) ∙ ap textByRuleOutcome is))
 
   pub no-room-written : {n : ℕ} {rule : Rule} {r : ℤ} → mag r < 2 ^ 63 → res ≡ Written n rule → r ≡ code (refusal 11) → toZ w64 (ofZ w64 r) ≡ code (noRoom o)
   unfolding textByRuleOutcome
-  no-room-written {n} {rule} ok is c = code-back ok ∙ c ∙ ap code (eleven-told o (length l) n rule (sym (p .says) ∙ ap textByRuleOutcome is))
+  no-room-written {n} {rule} ok is c = code-back ok ∙ c ∙ ap code (eleven-reported o (length l) n rule (sym (p .says) ∙ ap textByRuleOutcome is))
 
 -- ---- two buffers: the rule has no room, and both stay as they were
 abbrev eleven-for : List ℕ × Rule → Outcome (List ℕ × List ℕ)

@@ -47,8 +47,8 @@ module _ {o : Outcome (List ℕ)} {l out : List ℕ} {res : TextAnswer} (p : Tex
   text-refused n ok i e = record { returned = code-back ok ∙ e ∙ ap code (sym (ap textOutcome i) ∙ p .says); holds = p .holds }
 
 -- handed on by another call
-pub told-on : {o o′ : Outcome (List ℕ)} {l out : List ℕ} {r : ℤ} → mag r < 2 ^ 63 → o ≡ o′ → Delivered o l r out → Delivered o′ l (toZ w64 (ofZ w64 r)) out
-told-on {o} {o′} {l} {out} {r} ok e p = record { returned = code-back ok ∙ moved .returned; holds = moved .holds }
+pub delivered-on : {o o′ : Outcome (List ℕ)} {l out : List ℕ} {r : ℤ} → mag r < 2 ^ 63 → o ≡ o′ → Delivered o l r out → Delivered o′ l (toZ w64 (ofZ w64 r)) out
+delivered-on {o} {o′} {l} {out} {r} ok e p = record { returned = code-back ok ∙ moved .returned; holds = moved .holds }
   where
     moved : Delivered o′ l r out
     moved = subst (λ (x : Outcome (List ℕ)). Delivered x l r out) e p

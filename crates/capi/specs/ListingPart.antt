@@ -11,6 +11,6 @@ use Rattle.stamps.specs.Listing.{lineRoom}
 use Rattle.stamps.specs.Parts.{partText}
 
 -- the lines from `line` on that go into `room` bytes, none past the last; 11 where there is not the room that a line is given, 33 bytes, or 64 where sentences
--- are told
+-- are reported
 unfoldable pub listingPart : Reporting → List Row → List ℕ → ℕ → ℕ → Outcome (List ℕ)
 listingPart how rows s line room = cond (leb (lineRoom how) room) (answer (partText how rows s line room)) (refusal 11)

@@ -35,7 +35,8 @@ fn deliver_part(
     out: &mut [u8],
 ) -> i64
     requires { ⌜ (room ≡ lineRoom reporting) × InWidth reporting (now block) ⌝ }
-    ensures { λ r. ⌜ Delivered (onward (tableBytes (now (table .entry))) (λ rows. listingPart reporting rows (now (block .entry)) line (length (now (out .entry)))))
+    ensures { λ r. ⌜ Delivered (onward (tableBytes (now (table .entry)))
+        (λ rows. listingPart reporting rows (now (block .entry)) line (length (now (out .entry)))))
         (now (out .entry)) r (now (out .exit)) ⌝ }
 {
     let rows = announced_rows_at(table);

@@ -6,7 +6,7 @@ use c_answers::refused;
 use reasons::Values;
 use utc::text::TextAnswer;
 
-fn told(number: u32, values: Values, out: &mut [u8]) -> i64
+fn deliver_reason(number: u32, values: Values, out: &mut [u8]) -> i64
     ensures { λ r. ⌜ Delivered (sentence number values) (now (out .entry)) r (now (out .exit)) ⌝ }
 {
     match reasons::put_reason(number, values, out) {
@@ -19,7 +19,7 @@ fn told(number: u32, values: Values, out: &mut [u8]) -> i64
 pub extern "C" fn ct_reason(number: u32, out: &mut [u8]) -> i64
     ensures { λ r. ⌜ Delivered (sentence number NoValues) (now (out .entry)) r (now (out .exit)) ⌝ }
 {
-    told(number, Values::NoValues, out)
+    deliver_reason(number, Values::NoValues, out)
 }
 
 #[no_mangle]
@@ -32,7 +32,7 @@ pub extern "C" fn ct_date_reason(
 ) -> i64
     ensures { λ r. ⌜ Delivered (sentence number (Date year month day)) (now (out .entry)) r (now (out .exit)) ⌝ }
 {
-    told(number, Values::Date(year, month, day), out)
+    deliver_reason(number, Values::Date(year, month, day), out)
 }
 
 #[no_mangle]
@@ -46,28 +46,28 @@ pub extern "C" fn ct_time_reason(
 ) -> i64
     ensures { λ r. ⌜ Delivered (sentence number (Time hour minute second leap)) (now (out .entry)) r (now (out .exit)) ⌝ }
 {
-    told(number, Values::Time(hour, minute, second, leap), out)
+    deliver_reason(number, Values::Time(hour, minute, second, leap), out)
 }
 
 #[no_mangle]
 pub extern "C" fn ct_parts_reason(number: u32, jd1: f64, jd2: f64, out: &mut [u8]) -> i64
     ensures { λ r. ⌜ Delivered (sentence number (Parts jd1 jd2)) (now (out .entry)) r (now (out .exit)) ⌝ }
 {
-    told(number, Values::Parts(jd1, jd2), out)
+    deliver_reason(number, Values::Parts(jd1, jd2), out)
 }
 
 #[no_mangle]
 pub extern "C" fn ct_float_reason(number: u32, x: f64, out: &mut [u8]) -> i64
     ensures { λ r. ⌜ Delivered (sentence number (Number x)) (now (out .entry)) r (now (out .exit)) ⌝ }
 {
-    told(number, Values::Number(x), out)
+    deliver_reason(number, Values::Number(x), out)
 }
 
 #[no_mangle]
 pub extern "C" fn ct_count_reason(number: u32, n: u32, out: &mut [u8]) -> i64
     ensures { λ r. ⌜ Delivered (sentence number (Count n)) (now (out .entry)) r (now (out .exit)) ⌝ }
 {
-    told(number, Values::Count(n), out)
+    deliver_reason(number, Values::Count(n), out)
 }
 
 #[no_mangle]
@@ -80,5 +80,5 @@ pub extern "C" fn ct_block_reason(
 ) -> i64
     ensures { λ r. ⌜ Delivered (sentence number (Block length size «second_size»)) (now (out .entry)) r (now (out .exit)) ⌝ }
 {
-    told(number, Values::Block(length, size, second_size), out)
+    deliver_reason(number, Values::Block(length, size, second_size), out)
 }

@@ -59,7 +59,7 @@ fn text_by<'a>(
     }
 }
 
-// What is told where the rule has no room: the text's own refusal, and 11 after it. The text goes to a byte of its own.
+// The answer where the rule has no room: the text's own refusal, and 11 after it. The text goes to a byte of its own.
 fn no_room_for_rule<'a>(
     textForm: NamedForm,
     date: UTC,
@@ -92,8 +92,8 @@ fn put_text<'a>(
     }
     match utc::iso_texts::to_iso8601_by_lent(date, size, months, seconds, out) {
         TextByRule::Refused(number) => refused(number),
-        TextByRule::Written(n, told) => {
-            c_answers::rules::put_rule(told, rule);
+        TextByRule::Written(n, day_rule) => {
+            c_answers::rules::put_rule(day_rule, rule);
             n as i64
         }
     }
@@ -115,8 +115,8 @@ fn put_half_even<'a>(
     }
     match utc::iso_texts::to_iso8601_half_even_by_lent(date, size, months, seconds, out) {
         TextByRule::Refused(number) => refused(number),
-        TextByRule::Written(n, told) => {
-            c_answers::rules::put_rule(told, rule);
+        TextByRule::Written(n, day_rule) => {
+            c_answers::rules::put_rule(day_rule, rule);
             n as i64
         }
     }
@@ -138,8 +138,8 @@ fn put_expanded<'a>(
     }
     match utc::iso_texts::to_iso8601_expanded_by_lent(date, size, months, seconds, out) {
         TextByRule::Refused(number) => refused(number),
-        TextByRule::Written(n, told) => {
-            c_answers::rules::put_rule(told, rule);
+        TextByRule::Written(n, day_rule) => {
+            c_answers::rules::put_rule(day_rule, rule);
             n as i64
         }
     }

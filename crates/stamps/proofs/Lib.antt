@@ -1,5 +1,6 @@
 -- The laws that the proofs of `stamps` cite.
 pub mod Blocks
+pub mod Cases
 pub mod Places
 pub mod Texts
 pub mod Reportings

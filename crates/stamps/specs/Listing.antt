@@ -1,8 +1,8 @@
 -- The listing of a stamp block, a list of bytes. Written from document 01, "The program that lists a block": a header, then a line for each stamp; of a refused
 -- block one line. Fields stand one space (32) apart, and every line ends with byte 10. The texts have expanded years, by document 02, item 6 ("The lister uses
--- it from then on"), and are those of a table of rows, by item 8 ("All calls that read offsets take it"). How a refusal is reported is a parameter: by its number,
--- or, by item 13 ("A second listing program prints them in place of `refused` and the number, on stamp lines and after `block`, not in the header"), by its
--- sentence. Assumes nothing.
+-- it from then on"), and are those of a table of rows, by item 8 ("All calls that read offsets take it"). How a refusal is reported is a parameter: by its
+-- number, or, by item 13 ("A second listing program prints them in place of `refused` and the number, on stamp lines and after `block`, not in the header"), by
+-- its sentence. Assumes nothing.
 use Prim.Native.Nat.{ℕ, zero, suc, _+_}
 use mathlib.Core.List.{List, [], _∷_, _++_}
 use lib.ListN.{length}

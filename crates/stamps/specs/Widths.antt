@@ -1,5 +1,5 @@
--- What the machine hands over where sentences are reported: counts of 32 and 64 bits. Where numbers are reported nothing is asked. No contract cites it. Assumes
--- nothing.
+-- What the machine hands over where sentences are reported: counts of 32 and 64 bits. Where numbers are reported nothing is asked. No contract cites it.
+-- Assumes nothing.
 use mathlib.Core.List.{List}
 use Prim.Native.Nat.{ℕ}
 use Rattle.reasons.specs.declared.Values.{Values}

@@ -166,7 +166,8 @@ fn place_line(
     at: usize,
 ) -> usize
     requires { ⌜ (blockOutcome answer ≡ blockOf (now block)) × (line < linesIn (blockOf (now block))) × (at + lineRoom reporting ≤ length (now dst)) ⌝ }
-    ensures { λ r. ⌜ Placed (now (dst .entry)) at (lineOf reporting (rowsOf table) (blockOf (now (block .entry))) (now (block .entry)) line) r (now (dst .exit)) ⌝ }
+    ensures { λ r. ⌜ Placed (now (dst .entry)) at (lineOf reporting (rowsOf table) (blockOf (now (block .entry))) (now (block .entry)) line) r
+        (now (dst .exit)) ⌝ }
     ensures { λ r. ⌜ r ≤ at + lineRoom reporting ⌝ }
 {
     match answer {
@@ -198,8 +199,8 @@ fn less(a: usize, b: usize) -> usize
 }
 
 // The next part of the listing, from line `line` on, by the rows of a table that is tested elsewhere: as many whole lines as the scratch surely holds, at its
-// start. A scratch of 33 bytes or more holds one, and where sentences are reported one of 64. Into a shorter one nothing is written, and the answer names the same
-// line with `done` false: a caller that asks again with it never comes to an end.
+// start. A scratch of 33 bytes or more holds one, and where sentences are reported one of 64. Into a shorter one nothing is written, and the answer names the
+// same line with `done` false: a caller that asks again with it never comes to an end.
 pub fn next_part_by_rows(
     reporting: Reporting,
     block: &[u8],

@@ -13,8 +13,6 @@ pub mod Recorders
 pub mod Instant
 -- Order: utc-order, tai-order: stamps 154 ps, or by TAI 346 ps, or more apart keep their order.
 pub mod Order
--- OnGrid: utc-order-on-grid: the case of NoGap in which jd2 is on the grid of 2 ^ -52 day.
-pub mod OnGrid
 -- NoGap: utc-order-no-gap: stamps of one jd1 keep it with no gap, whatever their jd2.
 pub mod NoGap
 -- Ordered: utc-order-by-days: so do any of one jd1 whose days and fractions the calendar finds in order.

@@ -19,27 +19,14 @@ Inv-loop how block scratch₀ table line₀ scratch line = (line ≤ linesIn (bl
 abbrev μ-loop : tie.MeasureT-loop
 μ-loop how block scratch₀ table line₀ scratch line = 4001 - line
 
-no-rows-requires : tie.Need-no-rows-requires Inv-loop μ-loop
-no-rows-requires c κs = search needs
-
 loop-holds : tie.Need-loop-holds Inv-loop μ-loop
 loop-holds c = (zero-le, search needs)
-
-slice-aggregate-next-part-by-rows :
-    tie.Need-slice-aggregate-next-part-by-rows Inv-loop μ-loop
-slice-aggregate-next-part-by-rows c = search needs
-
-next-part-by-rows-requires : tie.Need-next-part-by-rows-requires Inv-loop μ-loop
-next-part-by-rows-requires c κs = search needs
 
 array-share-prefix-scratch : tie.Need-array-share-prefix-scratch Inv-loop μ-loop
 array-share-prefix-scratch c = part-within (c .before .next-part-by-rows .ensures) .0
 
 slice-aggregate-write-text : tie.Need-slice-aggregate-write-text Inv-loop μ-loop
 slice-aggregate-write-text c = part-within (c .before .before .next-part-by-rows .ensures) .1
-
-write-text-requires : tie.Need-write-text-requires Inv-loop μ-loop
-write-text-requires c κs = search needs
 
 returns : tie.Need-returns Inv-loop μ-loop
 returns c = record {
@@ -75,5 +62,5 @@ loop-again c = (
 pub write-listing-spec : {M : Type 1} → statement M
 write-listing-spec =
     tie.close
-    (tie.spec Inv-loop μ-loop no-rows-requires loop-holds slice-aggregate-next-part-by-rows next-part-by-rows-requires
-    array-share-prefix-scratch slice-aggregate-write-text write-text-requires returns returns-2 loop-less loop-again)
+    (tie.spec Inv-loop μ-loop (λ c κs. search needs) loop-holds (λ c. search needs) (λ c κs. search needs) array-share-prefix-scratch
+    slice-aggregate-write-text (λ c κs. search needs) returns returns-2 loop-less loop-again)

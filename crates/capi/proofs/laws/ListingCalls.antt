@@ -69,20 +69,20 @@ module _ (how : Reporting) (table s : List ℕ) (rows : List Row) (line : ℕ) (
       go false t = leb-false _ _ t
       go true t = let c = returns-count how rows s line w (leb-true _ _ t) by-rows in let z : _≡_ {A = ℕ} 0 1 = cc in absurd (omega (arith, z))
 
--- 33 bytes where numbers are told
+-- 33 bytes where numbers are reported
 pub listing-room : (table s : List ℕ) (rows : List Row) (line : ℕ) {before after : List ℕ} {r : ℤ} → tableBytes table ≡ answer rows
     → Delivered (onward (tableBytes table) (λ rows. listingPart Numbers rows s line (length before))) before r after
     → (length before < 33 → (r ≡ negsuc 10) × (after ≡ before)) × (r ≡ negsuc 10 → length before < 33)
 unfolding lineRoom Wide
 listing-room table s rows line taken d = (too-short Numbers table s rows line tt taken d, only-short Numbers table s rows line tt taken d)
 
--- and 64 where sentences are told, of every block of bytes and however many of 64 bits came
-pub told-room : (n : ℕ) → n < 18446744073709551616 → (table s : List ℕ) → ((k : ℕ) → getD s k 0 < 256)
+-- and 64 where sentences are reported, of every block of bytes and however many of 64 bits came
+pub reported-room : (n : ℕ) → n < 18446744073709551616 → (table s : List ℕ) → ((k : ℕ) → getD s k 0 < 256)
     → (rows : List Row) (line : ℕ) {before after : List ℕ} {r : ℤ}
     → tableBytes table ≡ answer rows → Delivered (onward (tableBytes table) (λ rows. listingPart (Sentences n) rows s line (length before))) before r after
     → (length before < 64 → (r ≡ negsuc 10) × (after ≡ before)) × (r ≡ negsuc 10 → length before < 64)
 unfolding lineRoom
-told-room n h table s bytes rows line taken d =
+reported-room n h table s bytes rows line taken d =
     let w = bytes-width n s h bytes in
     (too-short (Sentences n) table s rows line w taken d, only-short (Sentences n) table s rows line w taken d)
 

@@ -1,6 +1,6 @@
--- A line has at most 33 bytes where numbers are reported, and there is one of 33: a block of 1,001 stamps of two zeros is taken, and the line of its last stamp has
--- four digits, a blank, a text of 27 bytes of the year -4713 and the line's end. Where sentences are reported a line has at most 64 (`reported-line-most` in
--- Sentences), and there is one of 64: an input whose length has 20 digits is refused by 14, and names its length. Assumes nothing.
+-- A line has at most 33 bytes where numbers are reported, and there is one of 33: a block of 1,001 stamps of two zeros is taken, and the line of its last stamp
+-- has four digits, a blank, a text of 27 bytes of the year -4713 and the line's end. Where sentences are reported a line has at most 64 (`reported-line-most`
+-- in Sentences), and there is one of 64: an input whose length has 20 digits is refused by 14, and names its length. Assumes nothing.
 use Prim.Native.Nat.{ℕ, zero, suc, _<_, _≤_}
 use native.Mathlib.Omega.{arith}
 use mathlib.Core.Path.{_≡_, refl, ap, _∙_}

@@ -21,7 +21,8 @@ use Rattle.stamps.specs.declared.Reporting.{Reporting}
 use Rattle.stamps.specs.declared.Reporting.the-variants.{Numbers}
 use Rattle.stamps.specs.Block.{blockOf, jd1Bits, jd2Bits, stampAt}
 use Rattle.stamps.specs.listing_laws.NotFinite.{NotFinite, isNotFinite, notFiniteIn, HasText}
-use Rattle.stamps.specs.Listing.{numeral, refusedWord, reported, textAt, shown, stampLine, stampLines, oneIfRefused, refusedIn, header, listingOf, listing}
+use Rattle.stamps.specs.Listing.{numeral, refusedWord, reported, textAt, shown, stampLine, stampLines, oneIfRefused, refusedIn, header, listingOf}
+use Rattle.stamps.specs.Listing.{listing}
 
 no-second : (a b : Bool) → b ≡ false → a && b ≡ false
 no-second true b e = e
@@ -97,7 +98,8 @@ only-not-finite rows s n zero f = refl
 only-not-finite rows s n (suc k) f = let before = only-not-finite rows s n k (λ i h. f i (omega arith)) in let one =
     one-each rows s n k (f k (omega arith)) in omega arith
 
-pub not-finite-header : (how : Reporting) (rows : List Row) (s : List ℕ) (n : ℕ) → blockOf s ≡ answer n → ((i : ℕ) → i < n → NotFinite s n i ⊎ HasText rows s n i)
+pub not-finite-header : (how : Reporting) (rows : List Row) (s : List ℕ) (n : ℕ) → blockOf s ≡ answer n
+    → ((i : ℕ) → i < n → NotFinite s n i ⊎ HasText rows s n i)
     → listing how rows s ≡ header n (notFiniteIn s n n) ++ stampLines how rows s n n
 unfolding listing listingOf
 not-finite-header how rows s n e f = ap (λ (o : Outcome ℕ). listingOf how rows o s) e

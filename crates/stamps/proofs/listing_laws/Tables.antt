@@ -78,7 +78,8 @@ header-alike how a b s = go (blockOf s)
     go (refusal k) = refl
 
 -- the lines of stamps that are refused too
-pub refused-lines-alike : (how : Reporting) (a b : List Row) (s : List ℕ) (n i k : ℕ) → textAt a s n i ≡ refusal k → stampLine how a s n i ≡ stampLine how b s n i
+pub refused-lines-alike : (how : Reporting) (a b : List Row) (s : List ℕ) (n i k : ℕ) → textAt a s n i ≡ refusal k
+    → stampLine how a s n i ≡ stampLine how b s n i
 unfolding stampLine
 refused-lines-alike how a b s n i k e = rw (e, refused-alike a b s n i k e)
 

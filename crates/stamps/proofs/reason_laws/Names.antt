@@ -324,7 +324,8 @@ by-none-of n x false false c d e = absurd (no-refusal e)
 module _ (s : List ℕ) where
   pub second-size-reported : blockOf s ≡ refusal 12 → reasonOf 12 (Block (length s) (u32At s 0) (u32At s 4)) ≡ names 12 (SecondSize (u32At s 4))
   unfolding reasonOf offending blockField blockOf
-  second-size-reported e = rw (by-sizes (u32At s 0) (ltb (length s) 8) (eqb (u32At s 0) (u32At s 4)) (leb (u32At s 0) 4000) (eqb (length s) (8 + 16 * u32At s 0)) e)
+  second-size-reported e = rw (by-sizes (u32At s 0) (ltb (length s) 8) (eqb (u32At s 0) (u32At s 4)) (leb (u32At s 0) 4000)
+      (eqb (length s) (8 + 16 * u32At s 0)) e)
 
   pub size-reported : blockOf s ≡ refusal 13 → reasonOf 13 (Block (length s) (u32At s 0) (u32At s 4)) ≡ names 13 (Size (u32At s 0))
   unfolding reasonOf offending blockField blockOf

@@ -52,7 +52,10 @@ numbers-read = (
                                     (
                                       (
                                         (
-                                          ((((((((tt, no-zero), λ l t. refl), λ l t. refl), λ l t. refl), λ l t. refl), λ l t. refl), λ l t. refl), λ l t. refl),
+                                          (
+                                            (((((((tt, no-zero), λ l t. refl), λ l t. refl), λ l t. refl), λ l t. refl), λ l t. refl), λ l t. refl),
+                                            λ l t. refl,
+                                          ),
                                           λ l t. refl,
                                         ),
                                         λ l t. refl,

@@ -17,9 +17,9 @@ is : (c : tie.After-compare)
     (julian (c .before .before .before .args .other1) (c .before .before .before .args .other2))
 is c = let n = c .before in c .compare .ensures ∙ λ i. comparison (n .before .new .ensures i) (n .new2 .ensures i)
 
-told : {o : Outcome Order} (x : Order) → o ≡ answer x → pos (orderNumber x) ≡ code (numbered o)
+numbered-order : {o : Outcome Order} (x : Order) → o ≡ answer x → pos (orderNumber x) ≡ code (numbered o)
 unfolding code numbered onward
-told x e = rw e
+numbered-order x e = rw e
 
 not-taken : {o : Outcome Order} (k : ℕ) → o ≡ refusal k → code (refusal k) ≡ code (numbered o)
 unfolding numbered onward
@@ -27,15 +27,15 @@ not-taken k e = rw e
 
 returns : tie.Need-returns
 unfolding orderOutcome orderNumber
-returns c = told _ (sym (is (c .before .before)) ∙ ap orderOutcome (c .enum-told .given .1))
+returns c = numbered-order _ (sym (is (c .before .before)) ∙ ap orderOutcome (c .enum-told .given .1))
 
 returns-2 : tie.Need-returns-2
 unfolding orderOutcome orderNumber
-returns-2 c = told _ (sym (is (c .before .before)) ∙ ap orderOutcome (c .enum-told2 .given .1))
+returns-2 c = numbered-order _ (sym (is (c .before .before)) ∙ ap orderOutcome (c .enum-told2 .given .1))
 
 returns-3 : tie.Need-returns-3
 unfolding orderOutcome orderNumber
-returns-3 c = told _ (sym (is (c .before .before)) ∙ ap orderOutcome (c .enum-told3 .given .1))
+returns-3 c = numbered-order _ (sym (is (c .before .before)) ∙ ap orderOutcome (c .enum-told3 .given .1))
 
 returns-4 : tie.Need-returns-4
 unfolding orderOutcome

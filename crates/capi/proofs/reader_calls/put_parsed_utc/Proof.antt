@@ -11,7 +11,8 @@ returns : tie.Need-returns
 unfolding parsedUtcOutcome
 returns c =
     let p = c .before .before in
-    delivered-answer parsedUtcBytes (p .put-fields-and-date .ok) _ (ap parsedUtcOutcome (p .before .before .before .found .given .1)) (p .put-fields-and-date .ensures)
+    delivered-answer parsedUtcBytes (p .put-fields-and-date .ok) _ (ap parsedUtcOutcome (p .before .before .before .found .given .1))
+    (p .put-fields-and-date .ensures)
 
 returns-2 : tie.Need-returns-2
 unfolding parsedUtcOutcome

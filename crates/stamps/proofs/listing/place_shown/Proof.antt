@@ -22,7 +22,8 @@ abbrev rows : tie.After-to-iso8601-expanded-by-lent → List Row
 rows v = rowsOf (start v .args .t3)
 
 -- they are read by parts
-abbrev same : (v : tie.After-to-iso8601-expanded-by-lent) → rowsIn (v .before .before .before .before .before .size-of .result) (start v .args .t3 .months) (start v .args .t3 .seconds) ≡ rows v
+abbrev same : (v : tie.After-to-iso8601-expanded-by-lent)
+    → rowsIn (v .before .before .before .before .before .size-of .result) (start v .args .t3 .months) (start v .args .t3 .seconds) ≡ rows v
 same v = let z = v .before .before .before .before .before in rows-in (start v .args .t3) (z .size-of .result) (z .size-of .ensures)
 
 add-result : tie.Need-add-result

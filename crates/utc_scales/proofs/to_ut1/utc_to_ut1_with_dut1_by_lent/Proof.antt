@@ -45,7 +45,9 @@ offset-with-requires c κs =
     subst (λ (r : PartAnswer). DayOfDate (rows s) (p .larger) (p .smaller) r) (k .k .given .1) (t .tai-fraction .ensures .1) .same
 
 -- the date in TAI
-in-tai : (t : tie.After-tai-fraction) → onward (partOutcome (t .tai-fraction .result)) (placed (t .before .kept-parts .result)) ≡ utcToTai (rows (t .before .before .before .before .before)) (t .before .before .before .before .before .args .utc .0)
+in-tai : (t : tie.After-tai-fraction)
+    → onward (partOutcome (t .tai-fraction .result)) (placed (t .before .kept-parts .result)) ≡ utcToTai (rows (t .before .before .before .before .before))
+    (t .before .before .before .before .before .args .utc .0)
 unfolding utcToTai
 in-tai t = changes (taiFraction (rows (t .before .before .before .before .before))) _ _ _ (t .before .kept-parts .ensures) (t .tai-fraction .ensures .0)
 

@@ -1,9 +1,9 @@
--- `capi::reason_calls::told` meets its contract. Assumes nothing.
+-- `capi::reason_calls::deliver_reason` meets its contract. Assumes nothing.
 use native.Mathlib.Omega.{arith}
 use Rattle.capi.proofs.Texts.{text-count, text-put, text-refused}
 use borrow.Author.Needs.{needs}
-use Rattle.capi.proofs.reason_calls.told.Statement.{statement}
-use Rattle.capi.proofs.reason_calls.told.Tie as tie
+use Rattle.capi.proofs.reason_calls.deliver_reason.Statement.{statement}
+use Rattle.capi.proofs.reason_calls.deliver_reason.Tie as tie
 
 cast-result : tie.Need-cast-result
 cast-result c =
@@ -26,8 +26,8 @@ returns-2 : tie.Need-returns-2
 returns-2 c = text-refused (c .before .before .before .before .before .before .put-reason .ensures) _ (c .refused .ok) (c .before .before .other .given .1)
     (c .refused .ensures)
 
-pub told-spec : {M : Type 1} → statement M
-told-spec =
+pub deliver-reason-spec : {M : Type 1} → statement M
+deliver-reason-spec =
     tie.close
     (tie.spec (λ c κs. search needs) (λ c. search needs) cast-result (λ c. search needs) (λ c κs. search needs) (λ c. search needs) returns
     (λ c. search needs) returns-2)
