@@ -163,8 +163,14 @@ def compare(decl, how, one, other):
     return ("shown" if how == "computed" and unlike(one, other) or how == "whole" and paths_differ(one, other) else "open"), said
 
 
-def grade_error(decl, text, kind):
-    """The grade of one error, and what to call it."""
+def grade_error(where, decl, text, kind):
+    """The grade of one error, and what to call it. A step of a function's proof that is given another value shows nothing: branches may have changed places."""
+    verdict, name = grade_text(decl, text, kind)
+    step = "/Proof.antt:" in where and not decl.startswith("returns")
+    return ("open" if verdict == "shown" and step and "omega" not in name else verdict), name
+
+
+def grade_text(decl, text, kind):
     if kind == "made":
         return "open", "`search` does not close it: " + text
     if kind == "missing":
@@ -180,6 +186,8 @@ def grade_error(decl, text, kind):
     left = LEFT.search(text)
     if left:
         return "shown" if unlike(*(ends(left[1]) or ("", ""))) else "open", "two ends that are not equal are left: `%s`" % short(left[1])
+    if re.search(r"≟ .*does not hold", text, re.S):
+        return "open", "two terms that are not the same"
     for name in ("search", "omega"):
         if re.search("`%s`: no proof of|`%s` found no proof" % (name, name), own):
             return "open", "`%s` finds no proof" % name
@@ -202,7 +210,7 @@ def grade(log, status):
     if status != 1 or not re.search(r"^logic=not-proved", log, re.M):
         first = next((line for line in log.split("\n") if "error" in line), "")
         return "NOT", "it did not reach the prover: " + re.sub(r"^\S*?/(?=(?:src|specs|proofs)/)", "", first)[:160]
-    graded = [(error,) + grade_error(*error[1:]) for error in errors(log)]
+    graded = [(error,) + grade_error(*error) for error in errors(log)]
     if not graded:
         return "form", "no error of its own in the log"
     best = next((one for wanted in ("shown", "open") for one in graded if one[1] == wanted), graded[0])
