@@ -74,8 +74,8 @@ KINDS_OF_VALUES = constructors()
 
 
 def plain(text):
-    """A term without the modules of its names, and without its outer parentheses."""
-    text = re.sub(r"(?:[\w·+-]+\.)+(?=[^\s.])", "", text)
+    """A term without the modules of its names, without its outer parentheses, and without the word that some digits of a number are not printed."""
+    text = re.sub(r"(?<=\d)…\[\d+ bytes\]…(?=\d)|(?:[\w·+-]+\.)+(?=[^\s.])", "", text)
     return text[1:-1] if re.fullmatch(r"\([^()]*\)", text) else text
 
 
@@ -186,8 +186,6 @@ def grade_text(decl, text, kind):
     left = LEFT.search(text)
     if left:
         return "shown" if unlike(*(ends(left[1]) or ("", ""))) else "open", "two ends that are not equal are left: `%s`" % short(left[1])
-    if re.search(r"≟ .*does not hold", text, re.S):
-        return "open", "two terms that are not the same"
     for name in ("search", "omega"):
         if re.search("`%s`: no proof of|`%s` found no proof" % (name, name), own):
             return "open", "`%s` finds no proof" % name
@@ -198,6 +196,8 @@ def grade_text(decl, text, kind):
     begun = BEGUN.search(text)
     if begun and paths_differ(begun[2], begun[1]):
         return "shown", "`%s` expected, `%s` found" % (short(begun[2]), short(begun[1]))
+    if re.search(r"≟ .*does not hold", text, re.S):
+        return "open", "two terms that are not the same"
     if "expected type `" in text or "the two types" in text:
         return ("form", "a call's premise is given for another value") if PREMISE.search(decl) else ("open", "another statement is proved")
     return "form", "another error: " + text.split("\n")[0][:100]
