@@ -74,8 +74,8 @@ KINDS_OF_VALUES = constructors()
 
 
 def plain(text):
-    """A term without the modules of its names, and without its outer parentheses."""
-    text = re.sub(r"(?:[\w·+-]+\.)+(?=[^\s.])", "", text)
+    """A term without the modules of its names, without its outer parentheses, and without the word that some digits of a number are not printed."""
+    text = re.sub(r"(?<=\d)…\[\d+ bytes\]…(?=\d)|(?:[\w·+-]+\.)+(?=[^\s.])", "", text)
     return text[1:-1] if re.fullmatch(r"\([^()]*\)", text) else text
 
 
@@ -163,8 +163,14 @@ def compare(decl, how, one, other):
     return ("shown" if how == "computed" and unlike(one, other) or how == "whole" and paths_differ(one, other) else "open"), said
 
 
-def grade_error(decl, text, kind):
-    """The grade of one error, and what to call it."""
+def grade_error(where, decl, text, kind):
+    """The grade of one error, and what to call it. A step of a function's proof that is given another value shows nothing: branches may have changed places."""
+    verdict, name = grade_text(decl, text, kind)
+    step = "/Proof.antt:" in where and not decl.startswith("returns")
+    return ("open" if verdict == "shown" and step and "omega" not in name else verdict), name
+
+
+def grade_text(decl, text, kind):
     if kind == "made":
         return "open", "`search` does not close it: " + text
     if kind == "missing":
@@ -190,6 +196,8 @@ def grade_error(decl, text, kind):
     begun = BEGUN.search(text)
     if begun and paths_differ(begun[2], begun[1]):
         return "shown", "`%s` expected, `%s` found" % (short(begun[2]), short(begun[1]))
+    if re.search(r"≟ .*does not hold", text, re.S):
+        return "open", "two terms that are not the same"
     if "expected type `" in text or "the two types" in text:
         return ("form", "a call's premise is given for another value") if PREMISE.search(decl) else ("open", "another statement is proved")
     return "form", "another error: " + text.split("\n")[0][:100]
@@ -202,7 +210,7 @@ def grade(log, status):
     if status != 1 or not re.search(r"^logic=not-proved", log, re.M):
         first = next((line for line in log.split("\n") if "error" in line), "")
         return "NOT", "it did not reach the prover: " + re.sub(r"^\S*?/(?=(?:src|specs|proofs)/)", "", first)[:160]
-    graded = [(error,) + grade_error(*error[1:]) for error in errors(log)]
+    graded = [(error,) + grade_error(*error) for error in errors(log)]
     if not graded:
         return "form", "no error of its own in the log"
     best = next((one for wanted in ("shown", "open") for one in graded if one[1] == wanted), graded[0])
