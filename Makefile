@@ -4,6 +4,8 @@
 #                                              target/man, its page and the library's
 #   make install [PREFIX=/usr/local] [DESTDIR=]    these and the headers; with DESTDIR into a folder that is packed and unpacked at /
 #   make uninstall [PREFIX=..] [DESTDIR=..]    takes them away again, and nothing else
+#   make check                                 the tests that need no new proof, over the archive that is there
+#   make dist                                  target/dist/celestial_time-VERSION-x86_64-linux.tar.gz, all of it and the Python package, for a machine without rt
 #   make clean                                 what make built; the archive of `rt staticlib capi` stays
 #
 # The archive is that of `rt staticlib capi`, which proves what is not proved yet, under its own name. The shared library holds the same object; it exports the
@@ -29,7 +31,7 @@ PAGES := target/man/line_up.1 target/man/celestial_time.3
 # Files for pkg-config and CMake, from those of the same name and .in; the second find the headers from where they lie themselves.
 FOUND_BY := celestial_time.pc celestial_time-config.cmake celestial_time-config-version.cmake
 CMAKEDIR = $(LIBDIR)/cmake/celestial_time
-INCLUDE_FROM_CMAKE = $(shell realpath -m --relative-to='$(CMAKEDIR)' '$(INCLUDEDIR)')
+INCLUDE_FROM_CMAKE = $(shell realpath -m -s --relative-to='$(CMAKEDIR)' '$(INCLUDEDIR)')
 FILL = sed -e 's|@PREFIX@|$(PREFIX)|' -e 's|@LIBDIR@|$(LIBDIR)|' -e 's|@INCLUDEDIR@|$(INCLUDEDIR)|' -e 's|@VERSION@|$(VERSION)|' -e 's|@MAJOR@|$(MAJOR)|' \
   -e 's|@INCLUDE_FROM_CMAKE@|$(INCLUDE_FROM_CMAKE)|'
 
@@ -87,9 +89,15 @@ uninstall:
 	rm -f '$(DESTDIR)$(MANDIR)/man1/line_up.1' '$(DESTDIR)$(MANDIR)/man3/celestial_time.3'
 	rm -rf '$(DESTDIR)$(CMAKEDIR)'
 
+check:
+	tests/check
+
+dist: all
+	tools/dist $(VERSION)
+
 clean:
-	rm -rf $(OUT) target/programs target/man
+	rm -rf $(OUT) target/programs target/man target/dist
 
 FORCE:
 .DELETE_ON_ERROR:
-.PHONY: all install uninstall clean FORCE
+.PHONY: all install uninstall check dist clean FORCE
