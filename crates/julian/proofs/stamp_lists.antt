@@ -1,2 +1,4 @@
 -- The stamp that two patterns are.
 pub mod Reading
+-- Written: each stamp at its place.
+pub mod Written
