@@ -345,8 +345,8 @@ int64_t ct_tai_to_utc(double jd1, double jd2, const uint8_t *table, size_t table
    then ct_tai_to_gps), but CT_TT to CT_TCG and back by ct_tt_to_tcg and ct_tcg_to_tt. Into numbers goes one
    byte a stamp: 0, or the number of the first refusal on the way, 1, 6 or 9; a refused stamp's bytes of out1
    and out2 stay. Returns how many stamps are refused; what lies behind the last stamp's places stays. From a
-   scale to the same a stamp with finite parts passes with its bits, and any other is 9: a count of the dead
-   ones. Refuses the table, also where no scale is CT_UTC; 18 for another scale; 14 for a length of jd1 or
+   scale to the same a stamp with finite parts passes with its bits, and any other is 9: a count of the
+   others. Refuses the table, also where no scale is CT_UTC; 18 for another scale; 14 for a length of jd1 or
    jd2 that is no multiple of 8; 12 for jd1 and jd2 of different lengths; 11 for fewer bytes in out1 or out2
    than in jd1, or fewer in numbers than stamps. A refused call writes nothing. With the scales CT_UT1 and
    CT_UTC, 7 bytes of jd1 and none of jd2 it is 18, with CT_TAI in the place of CT_UT1 14, and with 8 bytes

@@ -337,6 +337,6 @@ module _ (from to : ℕ) (js ks os out1 out2 numbers : List ℕ)
   formula-count-is = subst (λ (c : RunCall). c .answer ≡ answer (notZeroIn n (c .numbers))) (sym written)
       (count-written f n out1 out2 numbers room1 room2 (fits .bytes))
 
-  -- EVERY DEAD STAMP is refused by 9
+  -- EVERY STAMP THAT IS NOT FINITE is refused by 9
   pub formula-not-finite-refused : (i : ℕ) → StampNotFinite js ks i → f i ≡ refusal 9
   formula-not-finite-refused i h = not-finite-part-refused (ofBits binary64 (u64At os (8 * i))) (stampOf js ks i) from to pair (pattern-not-finite js ks i h)

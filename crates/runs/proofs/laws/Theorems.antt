@@ -94,7 +94,7 @@ module _ (rows : List Row) (from to : ℕ) (js ks out1 out2 numbers : List ℕ)
   count-is = subst (λ (c : RunCall). c .answer ≡ answer (notZeroIn n (c .numbers))) (sym written)
       (count-written f n out1 out2 numbers room1 room2 (fits .bytes))
 
-  -- EVERY DEAD STAMP is refused, by 6 where the first call reads the leap table and else by 9
+  -- EVERY STAMP THAT IS NOT FINITE is refused, by 6 where the first call reads the leap table and else by 9
   pub not-finite-stamp-refused : (i : ℕ) → StampNotFinite js ks i → f i ≡ refusal (numberOfNotFinite from to)
   not-finite-stamp-refused i h = not-finite-way rows (stampOf js ks i) (pattern-not-finite js ks i h) from to (five from (fits .known-from))
       (five to (fits .known-to))
