@@ -34,7 +34,7 @@ unfolding walkOf judgedAll judgedAfter judgedNext earlier onward validDate daysI
 exchanged = refl
 
 pub no-place : walkOf fixed true (date 1999 2 29 ∷ []) 0 ≡ refusal 11
-unfolding walkOf
+unfolding walkOf judgedAll onward validDate daysInMonth lengths leapSize
 no-place = refl
 
 pub none-and-earlier : walkOf fixed true (date 2016 12 31 ∷ date 1999 2 29 ∷ []) 2 ≡ refusal 3
