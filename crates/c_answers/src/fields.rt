@@ -106,7 +106,7 @@ pub fn put_calendar(shown: CalendarFields, out: &mut [u8]) -> i64
     ensures { λ r. ⌜ Delivered (answer (calendarBytes shown)) (now (out .entry)) r (now (out .exit)) ⌝ }
 {
     if out.len() < 20 {
-        return refused(refusals::TEXT_LONGER_THAN_BUFFER);
+        return refused(refusals::NO_ROOM);
     }
     put_date(shown.date, out);
     put_float(shown.fraction, &mut out[12..]);

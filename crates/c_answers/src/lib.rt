@@ -26,7 +26,7 @@ pub(crate) fn put(all: &[u8], out: &mut [u8]) -> i64
     ensures { λ r. ⌜ Delivered (answer (now (all .entry))) (now (out .entry)) r (now (out .exit)) ⌝ }
 {
     if out.len() < all.len() {
-        return refused(refusals::TEXT_LONGER_THAN_BUFFER);
+        return refused(refusals::NO_ROOM);
     }
     bytes::copy(all, out) as i64
 }

@@ -40,7 +40,7 @@ pub fn put_offset_by_rule(seconds: f64, rule: Rule, out: &mut [u8]) -> i64
     ensures { λ r. ⌜ Delivered (answer (offsetRuleBytes (seconds, rule))) (now (out .entry)) r (now (out .exit)) ⌝ }
 {
     if out.len() < 16 {
-        return refused(refusals::TEXT_LONGER_THAN_BUFFER);
+        return refused(refusals::NO_ROOM);
     }
     put_float(seconds, out);
     put_rule(rule, &mut out[8..]);
@@ -51,7 +51,7 @@ pub fn put_julian_by_rule(date: JulianDate, rule: Rule, out: &mut [u8]) -> i64
     ensures { λ r. ⌜ Delivered (answer (julianRuleBytes (date, rule))) (now (out .entry)) r (now (out .exit)) ⌝ }
 {
     if out.len() < 24 {
-        return refused(refusals::TEXT_LONGER_THAN_BUFFER);
+        return refused(refusals::NO_ROOM);
     }
     put_julian(date, out);
     put_rule(rule, &mut out[16..]);

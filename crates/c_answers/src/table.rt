@@ -67,7 +67,7 @@ pub fn table_number(length: usize, rows: AnnouncedRows) -> u32
     ensures { λ r. ⌜ unlessRefused r (rowsOf rows) ≡ ofLength length (tableOf rows) ⌝ }
 {
     if length != 136 {
-        return refusals::BLOCK_LENGTH_WRONG;
+        return refusals::LENGTH_WRONG;
     }
     if lend_none(rows.months_size, rows.seconds_size) {
         return 0;

@@ -10,7 +10,7 @@ pub fn put_three_patterns(a: u64, b: u64, c: u64, out: &mut [u8]) -> i64
     ensures { λ r. ⌜ Delivered (answer (threeEights a b c)) (now (out .entry)) r (now (out .exit)) ⌝ }
 {
     if out.len() < 24 {
-        return refused(refusals::TEXT_LONGER_THAN_BUFFER);
+        return refused(refusals::NO_ROOM);
     }
     let first = two_patterns(a, b);
     let last = numerals::little_endian::bytes_of_u64(c);

@@ -45,7 +45,7 @@ fn deliver_part(
         return refused(number);
     }
     if out.len() < room {
-        return refused(refusals::TEXT_LONGER_THAN_BUFFER);
+        return refused(refusals::NO_ROOM);
     }
     let part = stamps::next_part_by_rows(reporting, block, line as usize, rows, out);
     let n = part.written;

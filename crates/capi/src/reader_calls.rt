@@ -22,7 +22,7 @@ fn put_fields(fields: ParsedDateTime, out: &mut [u8]) -> i64
     ensures { λ r. ⌜ Delivered (answer (parsedBytes fields)) (now (out .entry)) r (now (out .exit)) ⌝ }
 {
     if out.len() < 28 {
-        return refused(refusals::TEXT_LONGER_THAN_BUFFER);
+        return refused(refusals::NO_ROOM);
     }
     let date = CalendarDate {
         year: fields.year,
@@ -40,7 +40,7 @@ fn put_fields_and_date(read: ParsedUtc, out: &mut [u8]) -> i64
     ensures { λ r. ⌜ Delivered (answer (parsedUtcBytes read)) (now (out .entry)) r (now (out .exit)) ⌝ }
 {
     if out.len() < 44 {
-        return refused(refusals::TEXT_LONGER_THAN_BUFFER);
+        return refused(refusals::NO_ROOM);
     }
     let fields = read.fields;
     let date = read.date;

@@ -72,7 +72,7 @@ fn no_room_for_rule<'a>(
     let mut spare = [0; 1];
     match text_by(textForm, date, size, months, seconds, &mut spare) {
         TextByRule::Refused(number) => refused(number),
-        TextByRule::Written(_, _) => refused(refusals::TEXT_LONGER_THAN_BUFFER),
+        TextByRule::Written(_, _) => refused(refusals::NO_ROOM),
     }
 }
 

@@ -15,7 +15,7 @@ pub extern "C" fn ct_offsets_at_0h(dates: &[u8], table: &[u8], out: &mut [u8]) -
         (now (out .entry)) r (now (out .exit)) ⌝ }
 {
     if table.len() != 136 {
-        return refused(refusals::BLOCK_LENGTH_WRONG);
+        return refused(refusals::LENGTH_WRONG);
     }
     let rows = announced_rows_at(table);
     match leap_table::walk::offsets_at_0h_bytes(dates, rows, out) {

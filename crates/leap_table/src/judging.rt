@@ -132,11 +132,11 @@ pub fn numbers_refusal(dates: &[i32], table: AnnouncedRows, places: usize) -> u3
         return number;
     }
     if dates.len() % 3 != 0 {
-        return refusals::BLOCK_LENGTH_WRONG;
+        return refusals::LENGTH_WRONG;
     }
     let n = dates.len() / 3;
     if places < n {
-        return refusals::TEXT_LONGER_THAN_BUFFER;
+        return refusals::NO_ROOM;
     }
     judge_all(dates, n)
 }

@@ -147,28 +147,28 @@ fn line_refusal(
     ensures { λ r. ⌜ r ≡ U.lineRefusal size1 size2 n first second room ⌝ }
 {
     if size1 % 8 != 0 {
-        return refusals::BLOCK_LENGTH_WRONG;
+        return refusals::LENGTH_WRONG;
     }
     if size2 % 8 != 0 {
-        return refusals::BLOCK_LENGTH_WRONG;
+        return refusals::LENGTH_WRONG;
     }
     if !eight_each(size1, n) {
-        return refusals::BLOCK_SIZES_DIFFER;
+        return refusals::SIZES_DIFFER;
     }
     if !eight_each(size2, n) {
-        return refusals::BLOCK_SIZES_DIFFER;
+        return refusals::SIZES_DIFFER;
     }
     if first > n {
-        return refusals::BLOCK_LENGTH_WRONG;
+        return refusals::LENGTH_WRONG;
     }
     if second > n - first {
-        return refusals::BLOCK_LENGTH_WRONG;
+        return refusals::LENGTH_WRONG;
     }
     if n > 4294967295 {
-        return refusals::BLOCK_TOO_LARGE;
+        return refusals::TOO_MANY_STAMPS;
     }
     if room / 4 < n {
-        return refusals::TEXT_LONGER_THAN_BUFFER;
+        return refusals::NO_ROOM;
     }
     0
 }

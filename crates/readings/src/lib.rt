@@ -70,7 +70,7 @@ pub fn answer_line(text: &[u8], index: u64, table: AnnouncedRows, out: &mut [u8]
     ensures { λ r. ⌜ LineCall (readingLine (rowsOf table) (now (text .entry)) index) (now (out .entry)) r (now (out .exit)) ⌝ }
 {
     if out.len() < LINE_ROOM {
-        return TextAnswer::Refused(refusals::TEXT_LONGER_THAN_BUFFER);
+        return TextAnswer::Refused(refusals::NO_ROOM);
     }
     let a = place_number(index, out, 0);
     let b = place_bytes(b" ", out, a);

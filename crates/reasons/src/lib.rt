@@ -55,10 +55,10 @@ pub fn reason_of(number: u32, values: Values) -> ReasonAnswer
     ensures { λ r. ⌜ reasonOutcome r ≡ reasonOf number values ⌝ }
 {
     if number < 1 {
-        return ReasonAnswer::Refused(refusals::GPS_FIELD_OVER_LIMIT);
+        return ReasonAnswer::Refused(refusals::OUT_OF_LIMIT);
     }
     if number > 28 {
-        return ReasonAnswer::Refused(refusals::GPS_FIELD_OVER_LIMIT);
+        return ReasonAnswer::Refused(refusals::OUT_OF_LIMIT);
     }
     ReasonAnswer::Told(Reason {
         number,

@@ -54,7 +54,7 @@ pub fn put_sentence(reason: Reason, out: &mut [u8]) -> TextAnswer
     let mut all = [0u8; 90];
     let n = compose(reason, &mut all);
     if out.len() < n {
-        return TextAnswer::Refused(refusals::TEXT_LONGER_THAN_BUFFER);
+        return TextAnswer::Refused(refusals::NO_ROOM);
     }
     TextAnswer::Written(bytes::copy(&all[..n], out))
 }

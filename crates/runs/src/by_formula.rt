@@ -68,31 +68,31 @@ fn formula_refusal(
     ensures { λ r. ⌜ r ≡ kindRefusal kind size1 size2 size3 room1 room2 room ⌝ }
 {
     if kind == pairs::NONE {
-        return refusals::GPS_FIELD_OVER_LIMIT;
+        return refusals::OUT_OF_LIMIT;
     }
     if size1 % 8 != 0 {
-        return refusals::BLOCK_LENGTH_WRONG;
+        return refusals::LENGTH_WRONG;
     }
     if size2 % 8 != 0 {
-        return refusals::BLOCK_LENGTH_WRONG;
+        return refusals::LENGTH_WRONG;
     }
     if size3 % 8 != 0 {
-        return refusals::BLOCK_LENGTH_WRONG;
+        return refusals::LENGTH_WRONG;
     }
     if size1 != size2 {
-        return refusals::BLOCK_SIZES_DIFFER;
+        return refusals::SIZES_DIFFER;
     }
     if size3 != pairs::size_due(kind, size1) {
-        return refusals::BLOCK_SIZES_DIFFER;
+        return refusals::SIZES_DIFFER;
     }
     if room1 < size1 {
-        return refusals::TEXT_LONGER_THAN_BUFFER;
+        return refusals::NO_ROOM;
     }
     if room2 < size1 {
-        return refusals::TEXT_LONGER_THAN_BUFFER;
+        return refusals::NO_ROOM;
     }
     if room < size1 / 8 {
-        return refusals::TEXT_LONGER_THAN_BUFFER;
+        return refusals::NO_ROOM;
     }
     0
 }

@@ -72,10 +72,10 @@ pub fn from_week(week: u32, millis: u32) -> GpsAnswer
     ensures { λ r. ⌜ gpsOutcome r ≡ weekDate week millis ⌝ }
 {
     if week > LAST_WEEK {
-        return GpsAnswer::Refused(refusals::GPS_FIELD_OVER_LIMIT);
+        return GpsAnswer::Refused(refusals::OUT_OF_LIMIT);
     }
     if millis >= MILLIS_PER_WEEK {
-        return GpsAnswer::Refused(refusals::GPS_FIELD_OVER_LIMIT);
+        return GpsAnswer::Refused(refusals::OUT_OF_LIMIT);
     }
     let jd1 = midnight_of(FIRST_DAY + 7 * week + millis / MILLIS_PER_DAY);
     let jd2 = part_of_day(millis % MILLIS_PER_DAY);
@@ -98,12 +98,12 @@ fn week_at(count: u64) -> WeekAnswer
     ensures { λ r. ⌜ weekOutcome r ≡ weekAt count ⌝ }
 {
     if count < FIRST_MILLI {
-        return WeekAnswer::Refused(refusals::GPS_FIELD_OVER_LIMIT);
+        return WeekAnswer::Refused(refusals::OUT_OF_LIMIT);
     }
     let since = count - FIRST_MILLI;
     let week = since / MILLIS_PER_WEEK as u64;
     if week > LAST_WEEK as u64 {
-        return WeekAnswer::Refused(refusals::GPS_FIELD_OVER_LIMIT);
+        return WeekAnswer::Refused(refusals::OUT_OF_LIMIT);
     }
     let millis = since % MILLIS_PER_WEEK as u64;
     WeekAnswer::At(WeekTime {
@@ -117,11 +117,11 @@ fn week_of_day(day: i64, fraction: f64) -> WeekAnswer
     ensures { λ r. ⌜ weekOutcome r ≡ weekOfDay day (dayMillis fraction) ⌝ }
 {
     if day < 0 {
-        return WeekAnswer::Refused(refusals::GPS_FIELD_OVER_LIMIT);
+        return WeekAnswer::Refused(refusals::OUT_OF_LIMIT);
     }
     let days = time_of_day::from_zero(day);
     if days >= PAST_ALL_WEEKS {
-        return WeekAnswer::Refused(refusals::GPS_FIELD_OVER_LIMIT);
+        return WeekAnswer::Refused(refusals::OUT_OF_LIMIT);
     }
     week_at(days * MILLIS_PER_DAY as u64 + millis_of(fraction))
 }
@@ -166,10 +166,10 @@ pub fn full_week(bits: u32, reference: u32) -> FullWeekAnswer
     ensures { λ r. ⌜ fullOutcome r ≡ fullWeek bits reference ⌝ }
 {
     if bits >= TEN_BITS {
-        return FullWeekAnswer::Refused(refusals::GPS_FIELD_OVER_LIMIT);
+        return FullWeekAnswer::Refused(refusals::OUT_OF_LIMIT);
     }
     if reference > LAST_REFERENCE {
-        return FullWeekAnswer::Refused(refusals::GPS_FIELD_OVER_LIMIT);
+        return FullWeekAnswer::Refused(refusals::OUT_OF_LIMIT);
     }
     if reference < bits {
         return FullWeekAnswer::Week(bits);

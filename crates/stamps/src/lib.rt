@@ -41,19 +41,19 @@ pub fn block_stamps(block: &[u8]) -> BlockAnswer
     ensures { λ r. ⌜ blockOutcome r ≡ blockOf (now (block .entry)) ⌝ }
 {
     if block.len() < 8 {
-        return BlockAnswer::Refused(refusals::BLOCK_LENGTH_WRONG);
+        return BlockAnswer::Refused(refusals::LENGTH_WRONG);
     }
     let size = numerals::little_endian::u32_at(block, 0);
     let second_size = numerals::little_endian::u32_at(block, 4);
     if size != second_size {
-        return BlockAnswer::Refused(refusals::BLOCK_SIZES_DIFFER);
+        return BlockAnswer::Refused(refusals::SIZES_DIFFER);
     }
     if size > 4000 {
-        return BlockAnswer::Refused(refusals::BLOCK_TOO_LARGE);
+        return BlockAnswer::Refused(refusals::TOO_MANY_STAMPS);
     }
     let stamps = size as usize;
     if block.len() != 8 + 16 * stamps {
-        return BlockAnswer::Refused(refusals::BLOCK_LENGTH_WRONG);
+        return BlockAnswer::Refused(refusals::LENGTH_WRONG);
     }
     BlockAnswer::Stamps(stamps)
 }

@@ -126,16 +126,16 @@ pub fn refused_by(passes: &[u8], millis: &[u8], ticks: &[u8], room: usize) -> u3
     ensures { λ r. ⌜ r ≡ refusedBy (now (passes .entry)) (now (millis .entry)) (now (ticks .entry)) room ⌝ }
 {
     if passes.len() % 8 != 0 {
-        return refusals::BLOCK_LENGTH_WRONG;
+        return refusals::LENGTH_WRONG;
     }
     if millis.len() % 8 != 0 {
-        return refusals::BLOCK_LENGTH_WRONG;
+        return refusals::LENGTH_WRONG;
     }
     if ticks.len() % 8 != 0 {
-        return refusals::BLOCK_LENGTH_WRONG;
+        return refusals::LENGTH_WRONG;
     }
     if room / 8 < ticks.len() / 8 {
-        return refusals::TEXT_LONGER_THAN_BUFFER;
+        return refusals::NO_ROOM;
     }
     if !well_counted(passes, millis) {
         return refusals::PASSES_NOT_USABLE;

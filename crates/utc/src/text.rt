@@ -58,7 +58,7 @@ fn put_basic(year: u32, date: CalendarDate, time: TimeOfDay, out: &mut [u8]) -> 
     let fourth = year::fourth(false, year);
     let all = wide_bytes(b'0', fourth, year, date, time);
     if out.len() < 23 {
-        return TextAnswer::Refused(refusals::TEXT_LONGER_THAN_BUFFER);
+        return TextAnswer::Refused(refusals::NO_ROOM);
     }
     let n = bytes::copy(&all[3..], out);
     TextAnswer::Written(n)
@@ -79,7 +79,7 @@ fn put_wide(
     let all = wide_bytes(third, fourth, size, date, time);
     let skip = year::skipped(negative, size);
     if out.len() < 26 - skip {
-        return TextAnswer::Refused(refusals::TEXT_LONGER_THAN_BUFFER);
+        return TextAnswer::Refused(refusals::NO_ROOM);
     }
     let n = bytes::copy(&all[skip..], out);
     TextAnswer::Written(n)

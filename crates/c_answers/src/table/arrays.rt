@@ -36,7 +36,7 @@ pub fn read_table(bytes: &[u8], months: &mut [i32; 16], seconds: &mut [i32; 16])
 {
     if bytes.len() != 136 {
         return Announced {
-            number: refusals::BLOCK_LENGTH_WRONG,
+            number: refusals::LENGTH_WRONG,
             size: 0,
         };
     }

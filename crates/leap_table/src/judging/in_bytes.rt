@@ -55,11 +55,11 @@ pub fn bytes_refusal(dates: &[u8], table: AnnouncedRows, room: usize) -> u32
         return number;
     }
     if dates.len() % 12 != 0 {
-        return refusals::BLOCK_LENGTH_WRONG;
+        return refusals::LENGTH_WRONG;
     }
     let n = dates.len() / 12;
     if room / 8 < n {
-        return refusals::TEXT_LONGER_THAN_BUFFER;
+        return refusals::NO_ROOM;
     }
     judge_all(dates, n)
 }

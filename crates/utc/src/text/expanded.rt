@@ -31,7 +31,7 @@ fn put_signed(
     let fourth = year::fourth(false, size);
     let all = crate::text::wide_bytes(third, fourth, size, date, time);
     if out.len() < 27 {
-        return TextAnswer::Refused(refusals::TEXT_LONGER_THAN_BUFFER);
+        return TextAnswer::Refused(refusals::NO_ROOM);
     }
     let first = sign(negative);
     let n = bytes::copy(&all, &mut out[1..]);
