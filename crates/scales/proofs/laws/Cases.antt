@@ -15,7 +15,7 @@ use Rattle.julian.specs.declared.JulianDate.{JulianDate}
 use Rattle.julian.specs.Finite.{finiteJd, finiteArg}
 use Rattle.julian.specs.shifts.SmallerPart.{firstIsLarger, partsOf, putBack, mapSmallerPart}
 use Rattle.scales.specs.Formulas.{since, gpsDays, ttDays, tdb0, jd1977, tcgToTt, ttToTcg, tcbToTdb, tdbToTcb}
-use Rattle.scales.specs.Conversions.{gps-tai, tt-tai, tcb-tdb, tcg-tai, tai-ut1, answerOf}
+use Rattle.scales.specs.Conversions.{gps-tai, tt-tai, tt-tcg, tcg-tt, tcb-tdb, tdb-tcb, tcg-tai, tai-ut1, answerOf}
 use Rattle.scales.specs.laws.Ranges.{Practical, Modified}
 use Rattle.scales.specs.laws.Meaning.{Apart, Means, taiOverGps}
 use Rattle.scales.proofs.laws.Recorders.{one-instant, one-instant-modified}
@@ -33,6 +33,35 @@ unfolding answerOf converted convertedBy finiteBoth finiteOffset finiteJd finite
     since daysOf gpsDays ttDays tdb0 jd1977 tcgToTt ttToTcg tcbToTdb tdbToTcb secondsPerDay gpsToTaiOffsetSeconds ttTaiOffset mjdZeroPoint mjd1977Jan1
     tcgReferenceEpoch tcgRateLg tcbRateLb tcgRateRatio tcbRateRatio ratio tdbOffset1977 abs lt ofBits round add sub mul div neg
 noon = refl
+
+-- six hours after J2000.0 through the four that multiply by a rate
+module _ where
+  abbrev six-hours : JulianDate
+  six-hours = at (bits 0x4142_b42c_8000_0000) (bits 0x3fd0_0000_0000_0000)
+
+  tcg-to-tt : answerOf tcg-tt six-hours ≡ answer (at (bits 0x4142_b42c_8000_0000) (bits 0x3fcf_ffce_e312_42ae))
+  unfolding answerOf converted convertedBy finiteBoth finiteOffset finiteJd finiteArg onward changed mapSmallerPart partsOf putBack firstIsLarger plus minus
+      since daysOf gpsDays ttDays tdb0 jd1977 tcgToTt ttToTcg tcbToTdb tdbToTcb secondsPerDay gpsToTaiOffsetSeconds ttTaiOffset mjdZeroPoint mjd1977Jan1
+      tcgReferenceEpoch tcgRateLg tcbRateLb tcgRateRatio tcbRateRatio ratio tdbOffset1977 abs lt ofBits round add sub mul div neg
+  tcg-to-tt = refl
+
+  tt-to-tcg : answerOf tt-tcg six-hours ≡ answer (at (bits 0x4142_b42c_8000_0000) (bits 0x3fd0_0018_8e76_def2))
+  unfolding answerOf converted convertedBy finiteBoth finiteOffset finiteJd finiteArg onward changed mapSmallerPart partsOf putBack firstIsLarger plus minus
+      since daysOf gpsDays ttDays tdb0 jd1977 tcgToTt ttToTcg tcbToTdb tdbToTcb secondsPerDay gpsToTaiOffsetSeconds ttTaiOffset mjdZeroPoint mjd1977Jan1
+      tcgReferenceEpoch tcgRateLg tcbRateLb tcgRateRatio tcbRateRatio ratio tdbOffset1977 abs lt ofBits round add sub mul div neg
+  tt-to-tcg = refl
+
+  tcb-to-tdb : answerOf tcb-tdb six-hours ≡ answer (at (bits 0x4142_b42c_8000_0000) (bits 0x3fcf_fbbb_5547_c2e8))
+  unfolding answerOf converted convertedBy finiteBoth finiteOffset finiteJd finiteArg onward changed mapSmallerPart partsOf putBack firstIsLarger plus minus
+      since daysOf gpsDays ttDays tdb0 jd1977 tcgToTt ttToTcg tcbToTdb tdbToTcb secondsPerDay gpsToTaiOffsetSeconds ttTaiOffset mjdZeroPoint mjd1977Jan1
+      tcgReferenceEpoch tcgRateLg tcbRateLb tcgRateRatio tcbRateRatio ratio tdbOffset1977 abs lt ofBits round add sub mul div neg
+  tcb-to-tdb = refl
+
+  tdb-to-tcb : answerOf tdb-tcb six-hours ≡ answer (at (bits 0x4142_b42c_8000_0000) (bits 0x3fd0_0222_555c_acab))
+  unfolding answerOf converted convertedBy finiteBoth finiteOffset finiteJd finiteArg onward changed mapSmallerPart partsOf putBack firstIsLarger plus minus
+      since daysOf gpsDays ttDays tdb0 jd1977 tcgToTt ttToTcg tcbToTdb tdbToTcb secondsPerDay gpsToTaiOffsetSeconds ttTaiOffset mjdZeroPoint mjd1977Jan1
+      tcgReferenceEpoch tcgRateLg tcbRateLb tcgRateRatio tcbRateRatio ratio tdbOffset1977 abs lt ofBits round add sub mul div neg
+  tdb-to-tcb = refl
 
 -- on equal sizes jd1 changes
 tie : answerOf gps-tai (at (bits 0x3ff0_0000_0000_0000) (bits 0xbff0_0000_0000_0000)) ≡ answer (at (bits 0x3ff0_00e6_96f1_f7a8) (bits 0xbff0_0000_0000_0000))
