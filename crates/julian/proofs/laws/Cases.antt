@@ -11,7 +11,7 @@ use Rattle.constants.specs.Constants.{decimal, mjdZeroPoint, j2000Jd, unixEpoch
 use Rattle.calendar.specs.Calendar.{leapSize, lengths, daysInMonth}
 use Rattle.calendar.specs.Refusals.{validDate}
 use Rattle.calendar.specs.DayCount.{civilCount, mjdNumber, mjdOf}
-use Rattle.julian.specs.JulianDate.{julian, roundedSum, uncarried, addDays, difference}
+use Rattle.julian.specs.JulianDate.{julian, roundedSum, uncarried, addDays, addSeconds, difference}
 use Rattle.julian.specs.JulianYear.{toJulianYear, fromJulianYear}
 use Rattle.julian.specs.UnixTime.{secondOfDay, fromUnixTime}
 use Rattle.julian.specs.Equality.{twoSumError, exactSum, sums, equal}
@@ -142,3 +142,19 @@ pub difference-is-no-order : (difference (julian far far-before) (julian just-be
     × (equal (julian far far-before) (julian just-before (decimal 0 0)) ≡ false)
 unfolding difference equal sums exactSum twoSumError round neg add sub eq
 difference-is-no-order = (refl, refl)
+
+-- ---- sums: 1.0 and 0.5; half a day more to 0.5 and 0.75 carries a day; 43,200 s are half a day
+
+pub rounded-sum : roundedSum (julian (ofBits binary64 0x3ff0_0000_0000_0000) (ofBits binary64 0x3fe0_0000_0000_0000)) ≡ ofBits binary64 0x3ff8_0000_0000_0000
+unfolding roundedSum add round ofBits
+rounded-sum = refl
+
+pub a-day-carried : addDays (julian (ofBits binary64 0x3fe0_0000_0000_0000) (ofBits binary64 0x3fe8_0000_0000_0000)) (ofBits binary64 0x3fe0_0000_0000_0000)
+    ≡ julian (ofBits binary64 0x3ff8_0000_0000_0000) (ofBits binary64 0x3fd0_0000_0000_0000)
+unfolding addDays uncarried toWhole add sub neg round ofBits
+a-day-carried = refl
+
+pub half-a-day-of-seconds : addSeconds (julian (ofBits binary64 0x4142_b42c_8000_0000) (ofBits binary64 0)) (ofBits binary64 0x40e5_1800_0000_0000)
+    ≡ julian (ofBits binary64 0x4142_b42c_8000_0000) (ofBits binary64 0x3fe0_0000_0000_0000)
+unfolding addSeconds addDays uncarried secondsPerDay toWhole add sub neg div round ofBits
+half-a-day-of-seconds = refl
