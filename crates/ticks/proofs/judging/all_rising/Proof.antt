@@ -51,7 +51,7 @@ loop-again c =
     let a = l .before .before .before .args in (
       omega (arith, q .before .loop-test .taken),
       rising-more (numberAt (a .s .now)) (a .n) (l .loop .i) (l .loop .before) (l .loop .inv .2) (q .number-at2 .result) (q .number-at2 .ensures)
-          (l .loop .inv .1) (c .if1 .left),
+          (l .loop .inv .1) (omega (arith, c .if1 .left)),
       q .number-at2 .ensures,
     )
 
