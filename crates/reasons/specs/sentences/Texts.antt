@@ -4,7 +4,7 @@
 use Prim.Native.Nat.{ℕ}
 use mathlib.Core.List.{List, [], _∷_}
 use lib.ListN.{getD}
-abbrev pub use Rattle.utc.specs.text.Ascii.{asciiBytes}
+pub use Rattle.utc.specs.text.Ascii.{asciiBytes}
 
 -- the texts by number; 0 has none
 unfoldable pub texts : List (List ℕ)
