@@ -41,43 +41,57 @@ returns-3 c = outside (c .before .before .before .before .before .before .before
 returns-4 : tie.Need-returns-4
 unfolding scannedOutcome
 returns-4 c =
-    outside (c .before .before .before .before .before .before .before .before .before .before .before .before .before .args .utc)
-    (c .before .before .before .before .before .before .before .before .before .before .before .before .before .args .text .now)
-    (drop (c .before .before .before .before .before .before .before .before .before .before .before .blanks-end .result)
-    (c .before .before .before .before .before .before .before .before .before .before .before .before .before .args .text .now))
-    (c .before .before .before .before .before .before .before .before .before .before .before .blanks-end .ensures .1)
-    (not-end (c .before .before .before .before .before .before .before .before .before .before .before .before .before .args .utc)
-    (drop (c .before .before .before .before .before .before .before .before .before .before .before .blanks-end .result)
-    (c .before .before .before .before .before .before .before .before .before .before .before .before .before .args .text .now))
-    (ap (endRight (c .before .before .before .before .before .before .before .before .before .before .before .before .before .args .utc))
-    (ap afterFraction (drop-drop 19 (c .before .before .before .before .before .before .before .before .before .before .before .blanks-end .result)
-    (c .before .before .before .before .before .before .before .before .before .before .before .before .before .args .text .now))
-    ∙ sym (c .before .before .fraction .ensures .behind)) ∙ sym (c .before .end-right .ensures) ∙ not-true _ (c .if4 .taken)))
+    let at-end-right = c .before in
+    let at-fraction = at-end-right .before in
+    let at-blanks-end = at-fraction .before .before .before .before .before .before .before .before .before in
+    let start = at-blanks-end .before .before in
+    outside (start .args .utc)
+    (start .args .text .now)
+    (drop (at-blanks-end .blanks-end .result)
+    (start .args .text .now))
+    (at-blanks-end .blanks-end .ensures .1)
+    (not-end (start .args .utc)
+    (drop (at-blanks-end .blanks-end .result)
+    (start .args .text .now))
+    (ap (endRight (start .args .utc))
+    (ap afterFraction (drop-drop 19 (at-blanks-end .blanks-end .result)
+    (start .args .text .now))
+    ∙ sym (at-fraction .fraction .ensures .behind)) ∙ sym (at-end-right .end-right .ensures) ∙ not-true _ (c .if4 .taken)))
 
 returns-5 : tie.Need-returns-5
 unfolding scannedOutcome
 returns-5 c =
-    within (c .before .before .before .before .before .before .before .before .before .before .before .before .before .before .args .utc)
-    (c .before .before .before .before .before .before .before .before .before .before .before .before .before .before .args .text .now)
-    (drop (c .before .before .before .before .before .before .before .before .before .before .before .before .blanks-end .result)
-    (c .before .before .before .before .before .before .before .before .before .before .before .before .before .before .args .text .now))
-    (c .form-at .result) (c .before .before .before .before .before .before .before .before .before .before .before .before .blanks-end .ensures .1)
-    (whole-form (c .before .before .before .before .before .before .before .before .before .before .before .before .before .before .args .utc)
-    (drop (c .before .before .before .before .before .before .before .before .before .before .before .before .blanks-end .result)
-    (c .before .before .before .before .before .before .before .before .before .before .before .before .before .before .args .text .now))
-    (sym (c .before .before .before .before .before .before .before .before .before .before .date-right .ensures)
-    ∙ not-false _ (c .before .before .before .before .before .before .before .before .before .if2 .left))
-    (sym (c .before .before .before .before .before .before .before .before .time-right .ensures)
-    ∙ not-false _ (c .before .before .before .before .before .before .before .if3 .left))
-    (ap (endRight (c .before .before .before .before .before .before .before .before .before .before .before .before .before .before .args .utc))
+    let at-if4 = c .before in
+    let at-end-right = at-if4 .before in
+    let at-fraction = at-end-right .before in
+    let at-two = at-fraction .before in
+    let at-if3 = at-two .before .before .before in
+    let at-time-right = at-if3 .before in
+    let at-if2 = at-time-right .before in
+    let at-date-right = at-if2 .before in
+    let at-blanks-end = at-date-right .before .before in
+    let start = at-blanks-end .before .before in
+    within (start .args .utc)
+    (start .args .text .now)
+    (drop (at-blanks-end .blanks-end .result)
+    (start .args .text .now))
+    (c .form-at .result) (at-blanks-end .blanks-end .ensures .1)
+    (whole-form (start .args .utc)
+    (drop (at-blanks-end .blanks-end .result)
+    (start .args .text .now))
+    (sym (at-date-right .date-right .ensures)
+    ∙ not-false _ (at-if2 .if2 .left))
+    (sym (at-time-right .time-right .ensures)
+    ∙ not-false _ (at-if3 .if3 .left))
+    (ap (endRight (start .args .utc))
     (ap afterFraction (drop-drop 19
-    (c .before .before .before .before .before .before .before .before .before .before .before .before .blanks-end .result)
-    (c .before .before .before .before .before .before .before .before .before .before .before .before .before .before .args .text .now))
-    ∙ sym (c .before .before .before .fraction .ensures .behind)) ∙ sym (c .before .before .end-right .ensures) ∙ not-false _ (c .before .if4 .left)))
-    (form-is (c .before .before .before .before .before .before .before .before .before .before .before .before .before .before .args .text .now)
-    (c .before .before .before .before .before .before .before .before .before .before .before .before .blanks-end .result)
-    (c .before .before .before .before .two .result) (c .before .before .before .fraction .result) (c .form-at .result)
-    (c .before .before .before .before .two .ensures .0) (c .before .before .before .fraction .ensures) (c .form-at .ensures))
+    (at-blanks-end .blanks-end .result)
+    (start .args .text .now))
+    ∙ sym (at-fraction .fraction .ensures .behind)) ∙ sym (at-end-right .end-right .ensures) ∙ not-false _ (at-if4 .if4 .left)))
+    (form-is (start .args .text .now)
+    (at-blanks-end .blanks-end .result)
+    (at-two .two .result) (at-fraction .fraction .result) (c .form-at .result)
+    (at-two .two .ensures .0) (at-fraction .fraction .ensures) (c .form-at .ensures))
 
 pub scan-spec : {M : Type 1} → statement M
 scan-spec =
