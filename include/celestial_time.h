@@ -42,14 +42,14 @@
       6  the rounded sum of a date's parts is outside -68569.5 to 1e9, or a NaN
       7  the fraction of a day is outside 0 to 1, or a NaN
       8  the nanoseconds are 1,000,000,000 or more
-      9  a part of a date is not finite; where dates are put in order, also where the two-sum
-         of the parts overflows
+      9  a part of a date is not finite, of TCG to TAI also one of the TT in between; where
+         dates are put in order, also where the two-sum of the parts overflows
      10  an offset is not finite
      11  the buffer has no room for the text, or for what else is written
      12  the two sizes of a stamp block differ, or those of the lists of a line
      13  a stamp block has more than 4,000 stamps, or a line more than 4,294,967,295
-     14  a stamp block's length is not the one that its sizes say, or the length of a table or
-         of a list is wrong
+     14  a stamp block's length is not the one that its sizes say; or the length of a table or
+         of a list is wrong, or counts go past it
      15  a text is outside the grammar
      16  a text's second has more than 13 digits after the point
      17  a date or a stamp is earlier than one before it

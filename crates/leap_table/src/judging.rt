@@ -81,7 +81,7 @@ fn judge(before: Triple, t: Triple) -> u32
         return number;
     }
     if earlier(t, before) {
-        return refusals::EARLIER_THAN_BEFORE;
+        return refusals::OUT_OF_ORDER;
     }
     0
 }

@@ -16,33 +16,33 @@ pub const DATE_OUT_OF_RANGE: u32 = 6;
 pub const FRACTION_NOT_IN_DAY: u32 = 7;
 // The nanoseconds are 1,000,000,000 or more.
 pub const NANOS_NOT_IN_SECOND: u32 = 8;
-// A part of a date is not finite; where dates are put in order, also where the two-sum of the parts overflows.
+// A part of a date is not finite, of TCG to TAI also one of the TT in between; where dates are put in order, also where the two-sum of the parts overflows.
 pub const PART_NOT_FINITE: u32 = 9;
 // An offset is not finite.
 pub const OFFSET_NOT_FINITE: u32 = 10;
-// The buffer has no room for the text, or for what else is written.
+// The text, or what else is written, is longer than the buffer.
 pub const NO_ROOM: u32 = 11;
-// The two sizes of a stamp block differ, or those of the lists of a line.
+// The two sizes of a stamp block differ, or those of the lists of a line or of a run.
 pub const SIZES_DIFFER: u32 = 12;
 // A stamp block has more than 4,000 stamps, or a line more than 4,294,967,295.
 pub const TOO_MANY_STAMPS: u32 = 13;
-// A stamp block's length is not the one that its sizes say, or the length of a table or of a list is wrong.
+// A stamp block's length is not the one that its sizes say; or the length of a table or of a list is wrong, or counts go past it.
 pub const LENGTH_WRONG: u32 = 14;
 // A text is outside the grammar.
 pub const TEXT_OUTSIDE_GRAMMAR: u32 = 15;
 // A text's second has more than 13 digits after the point.
 pub const TOO_MANY_FRACTION_DIGITS: u32 = 16;
-// A date or a stamp is earlier than one before it.
-pub const EARLIER_THAN_BEFORE: u32 = 17;
-// A number is out of its limit: a field of a GPS week, a date before the first week or past the last, a scale of a run, or the number of a refusal.
+// A date is earlier than the one before it; or a stamp is left out of a line, since of its run the most that rise are kept.
+pub const OUT_OF_ORDER: u32 = 17;
+// A field of a GPS week is over its limit, or a date is before the first week or past the last; or a run takes no such scale, or no refusal has the number.
 pub const OUT_OF_LIMIT: u32 = 18;
 // Two weeks with the same ten bits are equally near the reference.
 pub const WEEK_NOT_DECIDED: u32 = 19;
-// The two sizes of an announced table differ, or are above 16.
+// The two sizes of a table of announced rows differ, or are above 16.
 pub const TABLE_SIZES_WRONG: u32 = 20;
-// A row of an announced table is not later than the one before it.
+// A row of a table of announced rows is not later than the one before it.
 pub const TABLE_NOT_RISING: u32 = 21;
-// A row of an announced table steps by something other than one second up or down.
+// A row of a table of announced rows steps by something other than one second up or down.
 pub const TABLE_STEP_WRONG: u32 = 22;
 // The passes are unequal, too few or too many, or a number in them is too large.
 pub const PASSES_NOT_USABLE: u32 = 23;
