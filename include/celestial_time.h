@@ -45,20 +45,21 @@
       9  a part of a date is not finite, of TCG to TAI also one of the TT in between; where
          dates are put in order, also where the two-sum of the parts overflows
      10  an offset is not finite
-     11  the buffer has no room for the text, or for what else is written
-     12  the two sizes of a stamp block differ, or those of the lists of a line
+     11  the text, or what else is written, is longer than the buffer
+     12  the two sizes of a stamp block differ, or those of the lists of a line or of a run
      13  a stamp block has more than 4,000 stamps, or a line more than 4,294,967,295
      14  a stamp block's length is not the one that its sizes say; or the length of a table or
          of a list is wrong, or counts go past it
      15  a text is outside the grammar
      16  a text's second has more than 13 digits after the point
-     17  a date or a stamp is earlier than one before it
-     18  a number is out of its limit: a field of a GPS week, a date before the first week or
-         past the last, a scale of a run, or the number of a refusal
+     17  a date is earlier than the one before it; or a stamp is left out of a line, since of
+         its run the most that rise are kept
+     18  a field of a GPS week is over its limit, or a date is before the first week or past
+         the last; or a run takes no such scale, or no refusal has the number
      19  two weeks with the same ten bits are equally near the reference
-     20  the two sizes of an announced table differ, or are above 16
-     21  a row of an announced table is not later than the one before it
-     22  a row of an announced table steps by something other than one second up or down
+     20  the two sizes of a table of announced rows differ, or are above 16
+     21  a row of a table of announced rows is not later than the one before it
+     22  a row of a table of announced rows steps by something other than one second up or down
      23  the passes are unequal, too few or too many, or a number in them is too large
      24  the passes do not rise strictly, both ticks and milliseconds
      25  a tick is outside the passes

@@ -12,8 +12,7 @@ use numerals::place::place_bytes;
 // A number in decimal, with no zeros in front: its digits from the last on, two at a time, in a place that is long enough for all. Where they do not all fit
 // behind the index, nothing is written, and the answer is the index itself.
 pub fn place_decimal(n: u64, dst: &mut [u8], at: usize) -> usize
-    ensures { λ r. ⌜ Placing (now (dst .entry)) at (digitsOf n) r (now (dst .exit)) ⌝ }
-    ensures { λ r. ⌜ length (digitsOf n) ≤ 20 ⌝ }
+    ensures { λ r. ⌜ Placing (now (dst .entry)) at (digitsOf n) r (now (dst .exit)) × (length (digitsOf n) ≤ 20) ⌝ }
 {
     let mut all = [0u8; 20];
     let mut rest = n;
