@@ -316,7 +316,7 @@ int64_t ct_gps_to_week(double jd1, double jd2, uint8_t *out, size_t out_len);
 int64_t ct_gps_full_week(uint32_t ten_bits, uint32_t reference);
 
 /* ---- UTC: on a day that ends in a leap second, jd2 runs to the end of its 86,401 seconds; on one that
-   ends in a step of -1 s, which only a lent row can make, of its 86,399 */
+   ends in a step of -1 s, which only an announced row can make, of its 86,399 */
 
 /* The UTC date of a Unix time, divided downward: jd1, jd2; 16 bytes. Refuses the table; 8; 6; then 1;
    then 4, on a day that ends in a step back; 11. (INT64_MAX, 1000000000) is 8, and (INT64_MIN, 0)

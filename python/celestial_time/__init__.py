@@ -22,7 +22,7 @@ from .scales import (
     ttut1, ut1tai, ut1tt, ut1utc, utctai, utcut1,
 )
 from .tables import Table
-from .texts import SHEETS, from_iso8601, parse_iso8601, to_iso8601
+from .texts import FORMS, from_iso8601, parse_iso8601, to_iso8601
 from .ticks import place_ticks
 from .weeks import gps_from_week, gps_full_week, gps_to_week
 
@@ -32,7 +32,7 @@ __all__ = [
     "default_float_mode", "difference", "DRIFTING", "dtf2d", "equal", "Fields", "FloatModeError", "from_iso8601", "from_unix", "FullWeeks",
     "gps_from_week", "gps_full_week", "gps_to_week", "gpstai", "jd2cal", "leap_at_end_of_day", "Leaps", "LibraryError", "Line", "line_up",
     "line_up_recorders", "listing", "listings", "NO_INT", "Offsets", "offsets_at_0h", "Order", "parse_iso8601", "place_ticks", "read_blocks",
-    "reason", "reason_listing", "Refused", "Run", "same_stamp", "SCALES", "SHEETS", "Stamps", "Table", "taigps", "taitcg", "taitt", "taiut1", "taiutc", "tcbtdb",
+    "reason", "reason_listing", "Refused", "Run", "same_stamp", "SCALES", "FORMS", "Stamps", "Table", "taigps", "taitcg", "taitt", "taiut1", "taiutc", "tcbtdb",
     "tcgtai", "tcgtt", "tdbtcb", "tdbtt", "Texts", "TextsByRule", "to_iso8601", "tttai", "tttcg", "tttdb", "ttut1", "ut1tai", "ut1tt", "ut1utc",
     "UtcFields", "utctai", "utcut1", "Walked", "Weeks", "WHOLE", "write_blocks",
 ]

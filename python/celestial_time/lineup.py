@@ -116,7 +116,7 @@ def _head(line: Line, recorders: tuple[Recorder, ...]) -> bytes:
 def _told(line: Line, places: NDArray[Any], table: Table | None) -> tuple[list[str], int]:
     """What is told of each stamp, and how many ordered ones have no text."""
     utc = taiutc(line.jd1[places], line.jd2[places], table=table)
-    text = to_iso8601(utc.jd1, utc.jd2, sheet="expanded", table=table)
+    text = to_iso8601(utc.jd1, utc.jd2, form="expanded", table=table)
     numbers = line.numbers[places]
     told = text.text.astype("U").tolist()
     for i in np.flatnonzero(numbers):

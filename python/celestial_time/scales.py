@@ -284,7 +284,7 @@ def add_seconds(jd1: ArrayLike, jd2: ArrayLike, seconds: ArrayLike, *, out: Out 
 
 
 def convert(source: str, target: str, jd1: ArrayLike, jd2: ArrayLike, *, table: Table | None = None, out: Out = None) -> Dates:
-    """From one scale to another, both by name: any two of utc, tai, tt, gps and tcg, and tcb and tdb. From one of the five to itself dead
+    """From one scale to another, both by name: any two of utc, tai, tt, gps and tcg, and tcb and tdb. From one of the five to itself not finite
     stamps are refused.
 
     >>> convert('gps', 'utc', 2451545.0, 0.25)

@@ -12,7 +12,7 @@ from ._library import address, function
 from .scales import Out
 from .tables import Table, lent_table
 
-SHEETS = {"iso8601": "ct_to_iso8601", "half_even": "ct_to_iso8601_half_even", "expanded": "ct_to_iso8601_expanded"}
+FORMS = {"iso8601": "ct_to_iso8601", "half_even": "ct_to_iso8601_half_even", "expanded": "ct_to_iso8601_expanded"}
 WIDTH = 27  # TEXT_PLACE of loops.c
 _FIELDS = [*(Field(name, INT) for name in ("year", "month", "day", "hour", "minute")), Field("second", FLOAT)]
 
@@ -21,22 +21,22 @@ def to_iso8601(
     utc1: ArrayLike,
     utc2: ArrayLike,
     *,
-    sheet: str = "iso8601",
+    form: str = "iso8601",
     table: Table | None = None,
     return_rule: bool = False,
     out: Out = None,
 ) -> Any:
     """UTC dates as texts to the millisecond, byte strings of numpy's type S27; with `return_rule` also the row of TAI-UTC of their day.
 
-    The sheet is 'iso8601', 'half_even' (half milliseconds to the even one) or 'expanded' (a sign and seven digits for a year outside four).
+    The form is 'iso8601', 'half_even' (half milliseconds to the even one) or 'expanded' (a sign and seven digits for a year outside four).
 
     >>> to_iso8601(2451545.0, [0.0, 0.25, float('nan')])
     Texts(text=array([b'2000-01-01T12:00:00.000', b'2000-01-01T18:00:00.000', b''],
           dtype='|S27'), numbers=array([0, 0, 6], dtype=uint8))
     """
-    if sheet not in SHEETS:
-        raise ValueError(f"no sheet: {sheet!r}; the sheets are {', '.join(SHEETS)}")
-    loop, at, rows = function("ct_each_text"), address(SHEETS[sheet]), lent_table(table)
+    if form not in FORMS:
+        raise ValueError(f"no form: {form!r}; the forms are {', '.join(FORMS)}")
+    loop, at, rows = function("ct_each_text"), address(FORMS[form]), lent_table(table)
     takes = [("jd1", floats("utc1", utc1)), ("jd2", floats("utc2", utc2))]
     texts, numbers = Field("text", f"S{WIDTH}"), Field("numbers", NUMBER)
     if return_rule:

@@ -68,7 +68,7 @@ def seconds(jd1: Any, jd2: Any) -> Any:
 
 
 def places_of_the_dead(time: Any, numbers: Any) -> Any:
-    """Where a dead stamp is marked: between the good ones around it in its file."""
+    """Where a stamp that is not finite is marked: between the good ones around it in its file."""
     good = np.flatnonzero(numbers == 0)
     dead = np.flatnonzero(numbers)
     return np.interp(dead, good, time[good])
@@ -110,7 +110,7 @@ def draw_line(axes: Any, recorded: Recorded) -> None:
 
 
 def draw_dead(axes: Any, recorded: Recorded) -> None:
-    """The dead stamps of each recorder, and the UTC of the axis."""
+    """The stamps that are not finite of each recorder, and the UTC of the axis."""
     line = recorded.line
     time = seconds(line.jd1, line.jd2)
     names = []

@@ -195,10 +195,10 @@ def cases(rng, count):
                    [*days(rng, count), rng.choice([0.0, 0.5, 1.0, 1.5, -0.1, math.nan], count)], "dat" + said)
         yield Case(utc(ct.leap_at_end_of_day, **lent), lambda y, m, d, t=table: answered("ct_leap_at_end_of_day", (I32(y), I32(m), I32(d), *table_of(t)), "d"),
                    days(rng, count), "leap_at_end_of_day" + said)
-        for sheet, called in ct.SHEETS.items():
+        for form, called in ct.FORMS.items():
             if hasattr(LIB, called):
-                yield Case(utc(ct.to_iso8601, sheet=sheet, **lent), cut(1, text(called, table)), dates(rng, count), f"to_iso8601 {sheet}" + said)
-                yield Case(utc(ct.to_iso8601, sheet=sheet, return_rule=True, **lent), text(called, table), dates(rng, count), f"to_iso8601 {sheet}, rule" + said)
+                yield Case(utc(ct.to_iso8601, form=form, **lent), cut(1, text(called, table)), dates(rng, count), f"to_iso8601 {form}" + said)
+                yield Case(utc(ct.to_iso8601, form=form, return_rule=True, **lent), text(called, table), dates(rng, count), f"to_iso8601 {form}, rule" + said)
         yield Case(utc(ct.from_iso8601, **lent), lambda s, t=table: answered("ct_utc_from_iso8601", (s, ctypes.c_size_t(len(s)), *table_of(t)), "5i3d"), texts(rng, count), "from_iso8601" + said)
     for source, target in (("tcb", "tdb"), ("tdb", "tcb")):
         yield Case(utc(lambda *a, s=source, t=target, **k: ct.convert(s, t, *a, **k)), plain(f"ct_{source}_to_{target}"), dates(rng, count), f"convert {source} {target}")

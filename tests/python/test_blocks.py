@@ -157,7 +157,7 @@ class Blocks(unittest.TestCase):
         jd1, jd2 = singles.dates(self.rng, 3000)
         block = ct.block_of(jd1, jd2)
         listed = ct.listing(block).decode().splitlines()
-        texts = ct.to_iso8601(jd1, jd2, sheet="expanded")
+        texts = ct.to_iso8601(jd1, jd2, form="expanded")
         self.assertEqual(len(listed), 3001)
         self.assertEqual(listed[0], f"utc listing 3000 refused {np.count_nonzero(texts.numbers)}")
         for i, line in enumerate(listed[1:]):

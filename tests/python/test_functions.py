@@ -541,7 +541,7 @@ class Functions(unittest.TestCase):
             ct.from_iso8601("\ud800")
 
     def test_names(self):
-        for wrong in (lambda: ct.convert("gsp", "tai", 0.0, 0.0), lambda: ct.convert("tcb", "tai", 0.0, 0.0), lambda: ct.convert("ut1", "ut1", 0.0, 0.0), lambda: ct.convert("gps", None, 0.0, 0.0), lambda: ct.to_iso8601(0.0, 0.0, sheet="iso"),
+        for wrong in (lambda: ct.convert("gsp", "tai", 0.0, 0.0), lambda: ct.convert("tcb", "tai", 0.0, 0.0), lambda: ct.convert("ut1", "ut1", 0.0, 0.0), lambda: ct.convert("gps", None, 0.0, 0.0), lambda: ct.to_iso8601(0.0, 0.0, form="iso"),
                       lambda: ct.dtf2d("UTC", 2000, 1, 1, 0, 0, 0.0), lambda: ct.same_stamp("tai", 0.0, 0.0, 1, 0.0, 0.0)):
             with self.assertRaises(ValueError):
                 wrong()

@@ -1,5 +1,5 @@
 -- THE RULE THAT A TEXT PASSES ON is that of the calendar's date before any carry, by computation: 2016-12-31 23:59:60.9996 shows 2017 and tells row 40, the
--- last float of 1971 shows 1972 and tells the row 13 that drifts, 1959 tells none, and under a announced row that row is told. Assumes nothing.
+-- last float of 1971 shows 1972 and tells the row 13 that drifts, 1959 tells none, and under an announced row that row is told. Assumes nothing.
 use mathlib.Core.Path.{_≡_, refl, _∙_}
 use mathlib.Core.List.{List}
 use Prim.Native.Nat.{ℕ}

@@ -1,4 +1,4 @@
--- A listing by a announced table: which stamps are refused, and so the header, is the same by all rows; a call with a taken table gives the part by its rows,
+-- A listing by an announced table: which stamps are refused, and so the header, is the same by all rows; a call with a taken table gives the part by its rows,
 -- one with no announced rows the part by the fixed table. Assumes nothing.
 use Prim.Native.Nat.{ℕ, zero, suc}
 use native.Mathlib.Omega.{arith}

@@ -1,4 +1,4 @@
--- The orders of refusals of the calls that read TAI-UTC by a announced table. Written from document 01, "Refusals by number" (the look-up 7, date; the leap
+-- The orders of refusals of the calls that read TAI-UTC by an announced table. Written from document 01, "Refusals by number" (the look-up 7, date; the leap
 -- date, 5; `UTC::new` 8, 6, date, 4; `utc_from_calendar` date, 5, 4; the text 6, date, 11), and document 02, item 8: 20 for the sizes, then 21, then 22, before
 -- all of these. Assumes nothing.
 use mathlib.Core.Path.{_≡_}

@@ -1,5 +1,5 @@
 -- THE RULE THAT UTC TO TAI AND UTC TO UT1 PASS ON, by computation: in the leap second of 2016-12-31 the row of that day, on 1971-12-31 the last row that
--- drifts, in 1959 none, and under a announced row that row. Each date is said by its bits. Assumes nothing.
+-- drifts, in 1959 none, and under an announced row that row. Each date is said by its bits. Assumes nothing.
 use mathlib.Core.Path.{_≡_, refl, sym, _∙_}
 use mathlib.Core.Bool.{false}
 use mathlib.Core.List.{List}

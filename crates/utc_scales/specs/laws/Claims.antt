@@ -29,7 +29,7 @@ SixOrOne n = (n ≡ 6) ⊎ (n ≡ 1)
 abbrev pub TenNineSixOrOne : ℕ → Type 0
 TenNineSixOrOne n = (n ≡ 10) ⊎ ((n ≡ 9) ⊎ SixOrOne n)
 
--- the number of a announced table that is refused
+-- the number of an announced table that is refused
 abbrev pub OfTable : ℕ → Type 0
 OfTable n = (n ≡ 20) ⊎ ((n ≡ 21) ⊎ (n ≡ 22))
 
