@@ -1,6 +1,6 @@
 -- A BLOCK GIVES ITS STAMPS BACK, EACH AT ITS PLACE: the block that is written from any list of up to 4,000 stamps is taken with their number, stamp i of it is
--- stamp i of the list, and its listing, with numbers or with sentences and by any table, is the header and the lines of that list. One stamp more is 13. Assumes
--- nothing.
+-- stamp i of the list, and its listing, with numbers or with sentences and by any table, is the header and the lines of that list. One stamp more is 13.
+-- Assumes nothing.
 use Prim.Native.Nat.{ℕ, zero, suc, _+_, _*_, _≤_, _<_}
 use native.Mathlib.Omega.{arith}
 use mathlib.Core.Path.{_≡_, refl, sym, ap, _∙_}
@@ -18,7 +18,8 @@ use Rattle.leap_table.specs.rows.Table.{Row}
 use Rattle.stamps.specs.declared.Reporting.{Reporting}
 use Rattle.stamps.specs.Block.{blockOf, jd1Bits, jd2Bits, stampAt}
 use Rattle.stamps.specs.Listing.{textAt, stampLine, stampLines, refusedIn, oneIfRefused, header, listingOf, listing}
-use Rattle.stamps.specs.listing_laws.Writer.{Stamp, StampFits, stampDate, firstBytes, secondBytes, blockBytes, refusedStamps, lineOfStamp, linesOfStamps, listingOfStamps}
+use Rattle.stamps.specs.listing_laws.Writer.{Stamp, StampFits, stampDate, firstBytes, secondBytes, blockBytes, refusedStamps, lineOfStamp}
+use Rattle.stamps.specs.listing_laws.Writer.{linesOfStamps, listingOfStamps}
 use Rattle.stamps.proofs.Blocks.{too-large, all-there}
 
 -- ---- the sizes
@@ -43,12 +44,14 @@ module _ (xs : List Stamp) where
     pub first-size : length xs ≡ u32At (blockBytes xs) 0
     unfolding blockBytes
     first-size =
-        sym (item-u32 fourBytes 4 (λ n. refl) [] sizes (allBytes firstBytes xs ++ allBytes secondBytes xs) 0 0 (omega arith) 0 (omega arith) ∙ read-written-4 (length xs) few)
+        sym (item-u32 fourBytes 4 (λ n. refl) [] sizes (allBytes firstBytes xs ++ allBytes secondBytes xs) 0 0 (omega arith) 0 (omega arith)
+        ∙ read-written-4 (length xs) few)
 
     pub second-size : length xs ≡ u32At (blockBytes xs) 4
     unfolding blockBytes
     second-size =
-        sym (item-u32 fourBytes 4 (λ n. refl) [] sizes (allBytes firstBytes xs ++ allBytes secondBytes xs) 1 0 (omega arith) 0 (omega arith) ∙ read-written-4 (length xs) few)
+        sym (item-u32 fourBytes 4 (λ n. refl) [] sizes (allBytes firstBytes xs ++ allBytes secondBytes xs) 1 0 (omega arith) 0 (omega arith)
+        ∙ read-written-4 (length xs) few)
 
     eight : 8 ≤ length (blockBytes xs)
     eight = omega (arith, block-length)
@@ -150,6 +153,13 @@ module _ (how : Reporting) (rows : List Row) (xs : List Stamp) (d : Stamp) (bits
       rw (block-taken xs (omega arith) h)
       (ap (λ (n : ℕ). header (length xs) n ++ stampLines how rows (blockBytes xs) (length xs) (length xs)) header-count
       ∙ ap (λ (t : List ℕ). header (length xs) (refusedStamps rows xs) ++ t) all-lines)
+
+-- ---- two stamps, worked: the second is read at its own place
+pub second-of-two : stampAt (blockBytes
+    (record { first = 0x3ff0_0000_0000_0000; second = 0 } ∷ record { first = 0x4000_0000_0000_0000; second = 0x4008_0000_0000_0000 } ∷ []))
+    2 1 ≡ julian (ofBits binary64 0x4000_0000_0000_0000) (ofBits binary64 0x4008_0000_0000_0000)
+unfolding stampAt jd1Bits jd2Bits blockBytes allBytes u64At fourAt
+second-of-two = refl
 
 -- ---- THE ORDER OF THE REFUSALS: sizes that differ are told before a size that is too large
 pub sizes-before-many : blockOf (allBytes fourBytes (4001 ∷ 4002 ∷ [])) ≡ refusal 12
