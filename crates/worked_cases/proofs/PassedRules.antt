@@ -88,8 +88,7 @@ before-rows = as-computed fixed (julian (decimal 24367345 1) (decimal 5 1)) ∙ 
 abbrev announcedText : JulianDate → Outcome (List ℕ × Rule)
 announcedText d = onward (tableOf shortTable) (λ rows. isoTextByRule rows d)
 
-pub carried-to-announced-row : announcedText (julian (decimal 24625015 1) (bits 0x3fef_ffff_ffff_ffff)) ≡ answer
-    (ascii "2030-01-01T00:00:00.000", Whole (shortPlace - 1))
+pub carried-to-announced-row : announcedText (julian (decimal 24625015 1) (bits 0x3fef_ffff_ffff_ffff)) ≡ answer (ascii "2030-01-01T00:00:00.000", Whole (shortPlace - 1))
 unfolding computedText round ofBits
 carried-to-announced-row = went _ short-taken ∙ as-computed shortRows (julian (decimal 24625015 1) (bits 0x3fef_ffff_ffff_ffff)) ∙ refl
 

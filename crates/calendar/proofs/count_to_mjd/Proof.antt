@@ -17,6 +17,8 @@ diff c = ap (λ (z : ℤ). z -ℤ pos 2432076) (toZ-pos w64 {n = c .args .n} (om
 fits : (c : tie.Start) → SFits w64 (subℕ (c .args .n) 2432076)
 fits c = record { sfits = lowered (c .args .n) 2432076 (2 ^ 63) (omega (arith, c .pre)) (omega arith) }
 
+returns : tie.Need-returns
+returns c = toZ-ofZ (subst (λ (z : ℤ). SFits w64 z) (sym (diff c)) (fits c)) ∙ diff c
+
 pub count-to-mjd-spec : {M : Type 1} → statement M
-count-to-mjd-spec = tie.close (tie.spec (λ c. search needs) (λ c. subst (λ (z : ℤ). SFits w64 z) (sym (diff c)) (fits c))
-    (λ c. toZ-ofZ (subst (λ (z : ℤ). SFits w64 z) (sym (diff c)) (fits c)) ∙ diff c))
+count-to-mjd-spec = tie.close (tie.spec (λ c. search needs) (λ c. subst (λ (z : ℤ). SFits w64 z) (sym (diff c)) (fits c)) returns)

@@ -14,6 +14,9 @@ use Rattle.calendar.proofs.date_of_shifted_day.Tie as tie
 add-lowered-year-2 : tie.Need-add-lowered-year-2
 add-lowered-year-2 c = record { fits = omega (arith, year-of-shifts-fits (c .args .l) _ _ _ _ _ refl refl refl refl refl (c .pre)) }
 
+lowered-year-requires : tie.Need-lowered-year-requires
+lowered-year-requires c κs = year-of-shifts-fits (c .args .l) _ _ _ _ _ refl refl refl refl refl (c .pre)
+
 year-is : (m d : ℕ) (y z : ℤ) → y ≡ z → date y m d ≡ date z m d
 year-is m d y z e = ap (λ (x : ℤ). date x m d) e
 
@@ -28,4 +31,4 @@ date-of-shifted-day-spec =
     (tie.spec (λ c. search needs) (λ c. search needs) (λ c. search needs) (λ c. search needs) (λ c. search needs) (λ c. search needs)
     (λ c. search needs) (λ c. search needs) (λ c. search needs) (λ c. search needs) (λ c. search needs) (λ c. search needs) (λ c. search needs)
     (λ c. search needs) (λ c. search needs) (λ c. search needs) (λ c. search needs) (λ c. search needs) (λ c. search needs) add-lowered-year-2
-    (λ c κs. year-of-shifts-fits (c .args .l) _ _ _ _ _ refl refl refl refl refl (c .pre)) returns)
+    lowered-year-requires returns)

@@ -14,6 +14,9 @@ use Rattle.calendar.proofs.Signs.{quot-fits, rem-zero}
 use Rattle.calendar.proofs.is_leap_year.Statement.{statement}
 use Rattle.calendar.proofs.is_leap_year.Tie as tie
 
+rem-if2 : tie.Need-rem-if2
+rem-if2 c = (omega arith, quot-fits (c .before .args .year) 100 (c .before .fits .year))
+
 rem-result : tie.Need-rem-result
 rem-result c = (omega arith, quot-fits (c .before .before .args .year) 400 (c .before .before .fits .year))
 
@@ -67,5 +70,4 @@ returns-3 : tie.Need-returns-3
 returns-3 c = not-four (c .before .args .year) (c .before .fits .year) (ne-eqb _ 0 (c .if1 .left))
 
 pub is-leap-year-spec : {M : Type 1} → statement M
-is-leap-year-spec = tie.close (tie.spec (λ c. (omega arith, quot-fits (c .args .year) 4 (c .fits .year)))
-    (λ c. (omega arith, quot-fits (c .before .args .year) 100 (c .before .fits .year))) rem-result returns returns-2 returns-3)
+is-leap-year-spec = tie.close (tie.spec (λ c. (omega arith, quot-fits (c .args .year) 4 (c .fits .year))) rem-if2 rem-result returns returns-2 returns-3)

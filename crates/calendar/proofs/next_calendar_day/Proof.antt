@@ -65,6 +65,12 @@ returns c =
     (is-refused _ _ _ (s .fits .year) (s .fits .month) (s .fits .day) (v .validate-calendar-date .result) (v .validate-calendar-date .ensures) _
     (c .before .number .given .1)))
 
+cast-m : tie.Need-cast-m
+cast-m c = to-unsigned _ (c .before .before .before .fits .month) (ok c .m-sign)
+
+cast-d : tie.Need-cast-d
+cast-d c = to-unsigned _ (c .before .before .before .fits .day) (ok c .d-sign)
+
 returns-2 : tie.Need-returns-2
 unfolding nextOutcome
 returns-2 c =
@@ -109,7 +115,5 @@ returns-5 c =
 pub next-calendar-day-spec : {M : Type 1} → statement M
 next-calendar-day-spec =
     tie.close
-    (tie.spec (λ c κs. search needs) (λ c. search needs) returns (λ c. search needs)
-    (λ c. to-unsigned _ (c .before .before .before .fits .month) (ok c .m-sign))
-    (λ c. to-unsigned _ (c .before .before .before .fits .day) (ok c .d-sign)) (λ c κs. search needs) (λ c. search needs)
+    (tie.spec (λ c κs. search needs) (λ c. search needs) returns (λ c. search needs) cast-m cast-d (λ c κs. search needs) (λ c. search needs)
     returns-2 (λ c. search needs) returns-3 returns-4 add-t14 returns-5)

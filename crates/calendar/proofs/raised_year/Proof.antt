@@ -25,11 +25,16 @@ is c = sum-is _ (c .args .year) 4800 (up c .r) (same c) (up c .is) (small c)
 cast-result : tie.Need-cast-result
 cast-result c = subst (λ (z : ℤ). SFits w64 z) (sym (toZ-ofZ (c .fits .year))) (sfits-widen tt (c .fits .year))
 
+add-result : tie.Need-add-result
+add-result c = sum-fits _ (c .args .year) 4800 (up c .r) (same c) (up c .is) (small c)
+
+cast-result-2 : tie.Need-cast-result-2
+cast-result-2 c = cast-fits _ (up c .r) (is c) (record { fits = omega (arith, up c .high) })
+
 returns : tie.Need-returns
 returns c =
     subst (λ (q : ℤ). (pos (natAbs q) ≡ c .args .year +ℤ pos 4800) × (1 ≤ natAbs q) × (natAbs q < 4294967296)) (sym (is c))
     (sym (up c .is), omega (arith, up c .low), omega (arith, up c .high))
 
 pub raised-year-spec : {M : Type 1} → statement M
-raised-year-spec = tie.close (tie.spec cast-result (λ c. sum-fits _ (c .args .year) 4800 (up c .r) (same c) (up c .is) (small c))
-    (λ c. cast-fits _ (up c .r) (is c) (record { fits = omega (arith, up c .high) })) returns)
+raised-year-spec = tie.close (tie.spec cast-result add-result cast-result-2 returns)

@@ -22,10 +22,13 @@ is c = sum-is _ (c .args .jd) 68569 (up c .r) (toZ-ofZ (c .fits .jd)) (up c .is)
 add-result : tie.Need-add-result
 add-result c = sum-fits _ (c .args .jd) 68569 (up c .r) (toZ-ofZ (c .fits .jd)) (up c .is) (small c)
 
+cast-result : tie.Need-cast-result
+cast-result c = cast-fits _ (up c .r) (is c) (record { fits = omega (arith, up c .high) })
+
 returns : tie.Need-returns
 returns c =
     subst (λ (q : ℤ). (pos (natAbs q) ≡ c .args .jd +ℤ pos 68569) × (natAbs q ≤ 1000068569)) (sym (is c))
     (sym (up c .is), omega (arith, up c .high))
 
 pub shifted-day-spec : {M : Type 1} → statement M
-shifted-day-spec = tie.close (tie.spec add-result (λ c. cast-fits _ (up c .r) (is c) (record { fits = omega (arith, up c .high) })) returns)
+shifted-day-spec = tie.close (tie.spec add-result cast-result returns)

@@ -40,6 +40,9 @@ returns-3 c =
     low-day-refused _ _ _ (year-ok (c .before .before .before)) (some-days (c .before))
     (lt-left _ _ true (c .before .before .before .before .fits .day) (c .if3 .taken))
 
+cast-if4 : tie.Need-cast-if4
+cast-if4 c = to-unsigned _ (c .before .before .before .before .fits .day) (day-low c)
+
 returns-4 : tie.Need-returns-4
 unfolding checkOutcome
 returns-4 c =
@@ -63,5 +66,4 @@ returns-5 c =
 pub validate-calendar-date-spec : {M : Type 1} → statement M
 validate-calendar-date-spec =
     tie.close
-    (tie.spec returns (λ c κs. search needs) returns-2 returns-3 (λ c. to-unsigned _ (c .before .before .before .before .fits .day) (day-low c)) returns-4
-    returns-5)
+    (tie.spec returns (λ c κs. search needs) returns-2 returns-3 cast-if4 returns-4 returns-5)

@@ -31,6 +31,9 @@ found c = let s = c .before .before .before .before .args in digits _ (add-fits 
 held : (k : ℕ) → k < 2 ^ 52 → k < 2 ^ 63
 held k h = lt-of-lt-of-le h (lit≤ tt)
 
+cast-n : tie.Need-cast-n
+cast-n c = record { sfits = held (c .truncating-f64-to-u64 .result) (found c .below) }
+
 read : (c : tie.After-truncating-f64-to-u64) → toZ w64 (c .truncating-f64-to-u64 .result) ≡ pos (c .truncating-f64-to-u64 .result)
 read c = toZ-pos w64 (c .truncating-f64-to-u64 .result) (held (c .truncating-f64-to-u64 .result) (found c .below))
 
@@ -65,6 +68,5 @@ returns-3 c =
     ∙ ap (λ (x : Float). record { value = x; number = toSigned 63 x }) v
 
 pub nearest-whole-spec : {M : Type 1} → statement M
-nearest-whole-spec = tie.close (tie.spec truncating-f64-to-u64-requires (λ c. record { sfits = held (c .truncating-f64-to-u64 .result) (found c .below) })
-    int-to-float-t9 returns returns-2 (λ c κs. search needs) (λ c κs. search needs)
+nearest-whole-spec = tie.close (tie.spec truncating-f64-to-u64-requires cast-n int-to-float-t9 returns returns-2 (λ c κs. search needs) (λ c κs. search needs)
     returns-3)

@@ -62,6 +62,9 @@ returns-2 c =
     let a = e .before .before .args in
     over (instantMs (a .start)) (instantMs (a .end)) (a .rate) (a .first-metres) (a .second-metres) (in-order e) (limits l true (c .if2 .taken))
 
+add-if3 : tie.Need-add-if3
+add-if3 c = let w = all-within c in record { fits = omega (arith, w .2, w .3) }
+
 returns-3 : tie.Need-returns-3
 unfolding billOutcome
 returns-3 c =
@@ -99,5 +102,4 @@ returns-4 c =
 pub bill-between-spec : {M : Type 1} → statement M
 bill-between-spec =
     tie.close
-    (tie.spec (λ c κs. search needs) returns quarters-between-requires (λ c κs. search needs) returns-2
-    (λ c. let w = all-within c in record { fits = omega (arith, w .2, w .3) }) returns-3 shared-requires returns-4)
+    (tie.spec (λ c κs. search needs) returns quarters-between-requires (λ c κs. search needs) returns-2 add-if3 returns-3 shared-requires returns-4)

@@ -10,6 +10,9 @@ use Rattle.standby.proofs.quarters_between.Tie as tie
 in-seconds : (s e : Instant) → StartFirst s e → s .seconds ≤ e .seconds
 in-seconds s e o = omega (arith, o .order, o .small-start .few-millis, o .small-end .few-millis)
 
+sub-seconds : tie.Need-sub-seconds
+sub-seconds c = let s = c .before .before in in-seconds (s .args .start) (s .args .end) (s .pre)
+
 add-result : tie.Need-add-result
 add-result c = let s = c .before .before .before .before .before in record { fits = omega (arith, s .pre .small-end .few-seconds) }
 
@@ -35,5 +38,4 @@ returns-2 c =
     (omega (arith, in-seconds a b (s .pre), s .pre .order))
 
 pub quarters-between-spec : {M : Type 1} → statement M
-quarters-between-spec = tie.close
-    (tie.spec (λ c. let s = c .before .before in in-seconds (s .args .start) (s .args .end) (s .pre)) add-result returns add-result-2 returns-2)
+quarters-between-spec = tie.close (tie.spec sub-seconds add-result returns add-result-2 returns-2)

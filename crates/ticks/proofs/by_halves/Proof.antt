@@ -31,8 +31,11 @@ add-result c = record {
 add-result-2 : tie.Need-add-result-2
 add-result-2 c = record { fits = omega (arith, high-small (c .args .a) (c .args .c) (c .args .d) (search needs) (search needs) (search needs)) }
 
+returns : tie.Need-returns
+returns c = sym (halves (c .args .a) (c .args .c) (c .args .d) (search needs))
+
 pub by-halves-spec : {M : Type 1} → statement M
 by-halves-spec =
     tie.close
     (tie.spec mul-product (λ c. search needs) (λ c. search needs) mul-result mul-result-2 mul-result-3 add-result (λ c. search needs) add-result-2
-    (λ c. sym (halves (c .args .a) (c .args .c) (c .args .d) (search needs))))
+    returns)

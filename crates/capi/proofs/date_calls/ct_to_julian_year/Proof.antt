@@ -5,6 +5,8 @@ use borrow.Author.Needs.{needs}
 use Rattle.capi.proofs.date_calls.ct_to_julian_year.Statement.{statement}
 use Rattle.capi.proofs.date_calls.ct_to_julian_year.Tie as tie
 
+returns : tie.Need-returns
+returns c = c .to-julian-year .ensures ∙ ap toJulianYear (c .before .new .ensures)
+
 pub ct-to-julian-year-spec : {M : Type 1} → statement M
-ct-to-julian-year-spec = tie.close
-    (tie.spec (λ c κs. search needs) (λ c κs. search needs) (λ c. c .to-julian-year .ensures ∙ ap toJulianYear (c .before .new .ensures)))
+ct-to-julian-year-spec = tie.close (tie.spec (λ c κs. search needs) (λ c κs. search needs) returns)

@@ -15,6 +15,9 @@ use borrow.Author.Needs.{needs}
 use Rattle.leap_table.proofs.walk.offset_in.Statement.{statement}
 use Rattle.leap_table.proofs.walk.offset_in.Tie as tie
 
+returns : tie.Need-returns
+returns c = stays (c .before .before .args .terms) _ _ (not-true _ (c .if1 .taken))
+
 -- where there is a day number
 module _ (c : tie.After-known-told) where
   abbrev t : Triple
@@ -33,6 +36,9 @@ module _ (c : tie.After-known-told) where
 
   number : c .before .n .given .0 .0 ≡ mjdNumber (t .year) (t .month) (t .day)
   number = same-answer (sym mjd ∙ mjd-given (t .year) (t .month) (t .day) (c .before .before .before .before .before .before .before .before .before .pre))
+
+int-to-float-result : tie.Need-int-to-float-result
+int-to-float-result c = float-fits (c .before .before .n .given .0 .0) (small (c .before))
 
 returns-2 : tie.Need-returns-2
 returns-2 c =
@@ -56,5 +62,4 @@ returns-3 c =
 pub offset-in-spec : {M : Type 1} → statement M
 offset-in-spec =
     tie.close
-    (tie.spec (λ c. stays (c .before .before .args .terms) _ _ (not-true _ (c .if1 .taken))) (λ c κs. search needs) (λ c. search needs) (λ c. search needs)
-    (λ c. float-fits (c .before .before .n .given .0 .0) (small (c .before))) returns-2 returns-3)
+    (tie.spec returns (λ c κs. search needs) (λ c. search needs) (λ c. search needs) int-to-float-result returns-2 returns-3)

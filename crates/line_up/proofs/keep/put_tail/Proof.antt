@@ -11,6 +11,8 @@ returns c =
     let a = d .before .before .before .args in
     rw (ne-eqb (a .r) 0 (λ e. omega (arith, e, c .before .before .before .before .if1 .taken))) (c .before .before .put-cell .ensures)
 
+returns-2 : tie.Need-returns-2
+returns-2 c = rw (eq-eqb (c .before .before .args .r) 0 (omega (arith, c .if1 .left)))
+
 pub put-tail-spec : {M : Type 1} → statement M
-put-tail-spec = tie.close (tie.spec (λ c. search needs) (λ c κs. search needs) (λ c. search needs) returns
-    (λ c. rw (eq-eqb (c .before .before .args .r) 0 (omega (arith, c .if1 .left)))))
+put-tail-spec = tie.close (tie.spec (λ c. search needs) (λ c κs. search needs) (λ c. search needs) returns returns-2)

@@ -28,6 +28,9 @@ returns c =
     ap Day (toZ-ofZ (s .fits .day))
     ∙ day-low (s .args .year) (s .args .month) (s .args .day) (lt-left (s .args .day) (pos 1) true (s .fits .day) (c .if1 .taken))
 
+cast-if2 : tie.Need-cast-if2
+cast-if2 c = to-unsigned _ (c .before .before .fits .day) (day-from-one (c .before))
+
 returns-2 : tie.Need-returns-2
 returns-2 c =
     let g = c .before in
@@ -45,5 +48,4 @@ returns-3 c =
     (subst (λ (n : ℕ). n ≤ g .days-in-month .result) (read-back (s .args .day) (s .fits .day)) (c .if2 .left)))
 
 pub day-field-spec : {M : Type 1} → statement M
-day-field-spec = tie.close (tie.spec returns (λ c κs. search needs) (λ c. to-unsigned _ (c .before .before .fits .day) (day-from-one (c .before))) returns-2
-    returns-3)
+day-field-spec = tie.close (tie.spec returns (λ c κs. search needs) cast-if2 returns-2 returns-3)

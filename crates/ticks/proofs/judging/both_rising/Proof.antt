@@ -7,6 +7,8 @@ use Rattle.ticks.proofs.judging.both_rising.Tie as tie
 returns : tie.Need-returns
 returns c = rw (← c .before .before .all-rising .ensures, c .before .if1 .taken) (c .all-rising2 .ensures)
 
+returns-2 : tie.Need-returns-2
+returns-2 c = c .if1 .left ∙ rw (← c .before .all-rising .ensures, c .if1 .left)
+
 pub both-rising-spec : {M : Type 1} → statement M
-both-rising-spec = tie.close (tie.spec (λ c κs. search needs) (λ c κs. search needs) returns
-    (λ c. c .if1 .left ∙ rw (← c .before .all-rising .ensures, c .if1 .left)))
+both-rising-spec = tie.close (tie.spec (λ c κs. search needs) (λ c κs. search needs) returns returns-2)

@@ -5,9 +5,11 @@ use Rattle.utc_scales.proofs.days.Midnights.{less-fits, less-read, less
 use Rattle.utc_scales.proofs.days.mjd_of.Statement.{statement}
 use Rattle.utc_scales.proofs.days.mjd_of.Tie as tie
 
+int-to-float-result : tie.Need-int-to-float-result
+int-to-float-result c = less-held (c .before .args .day) (c .before .fits .day) (c .before .pre)
+
 returns : tie.Need-returns
 returns c = ap (ofInt binary64) (less-read (c .before .args .day) (c .before .fits .day) (c .before .pre))
 
 pub mjd-of-spec : {M : Type 1} → statement M
-mjd-of-spec = tie.close (tie.spec (λ c. less-fits (c .args .day) (c .fits .day) (c .pre))
-    (λ c. less-held (c .before .args .day) (c .before .fits .day) (c .before .pre)) returns)
+mjd-of-spec = tie.close (tie.spec (λ c. less-fits (c .args .day) (c .fits .day) (c .pre)) int-to-float-result returns)

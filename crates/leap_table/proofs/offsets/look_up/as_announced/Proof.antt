@@ -17,5 +17,8 @@ returns c = toZ-pos w32 {n = c .before .args .n} (omega (arith, c .if1 .taken)) 
 late : (n k : ℕ) → 2147483647 < n → k ≡ 2147483647 → pos k ≡ pos (least n 2147483647)
 late n k h e = ap pos (e ∙ sym (least-high n 2147483647 h))
 
+returns-2 : tie.Need-returns-2
+returns-2 c = late (c .before .args .n) _ (c .if1 .left) (omega arith)
+
 pub as-announced-spec : {M : Type 1} → statement M
-as-announced-spec = tie.close (tie.spec (λ c. search needs) returns (λ c. late (c .before .args .n) _ (c .if1 .left) (omega arith)))
+as-announced-spec = tie.close (tie.spec (λ c. search needs) returns returns-2)

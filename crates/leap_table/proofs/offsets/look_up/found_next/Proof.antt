@@ -13,5 +13,11 @@ test : (s : tie.Start) (b : Bool) → leZ (toZ w32 (ofZ w32 (s .args .announced)
     → leZ (s .args .announced) (s .args .month) ≡ b
 test s b e = (λ i. leZ (sym (toZ-ofZ (s .fits .announced)) i) (sym (toZ-ofZ (s .fits .month)) i)) ∙ e
 
+returns : tie.Need-returns
+returns c = rw (test (c .before) true (c .if1 .taken))
+
+returns-2 : tie.Need-returns-2
+returns-2 c = rw (test (c .before) false (c .if1 .left))
+
 pub found-next-spec : {M : Type 1} → statement M
-found-next-spec = tie.close (tie.spec (λ c. search needs) (λ c. rw (test (c .before) true (c .if1 .taken))) (λ c. rw (test (c .before) false (c .if1 .left))))
+found-next-spec = tie.close (tie.spec (λ c. search needs) returns returns-2)

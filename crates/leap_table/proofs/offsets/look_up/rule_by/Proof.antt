@@ -19,6 +19,9 @@ above k h = omega arith
 named : (r k : ℕ) → r ≡ k - 1 → Whole r ≡ Whole (k - 1)
 named r k e = ap Whole e
 
+returns : tie.Need-returns
+returns c size months seconds h = rule-absent (rowsIn size months seconds) (c .before .args .rows) (c .if1 .taken)
+
 returns-2 : tie.Need-returns-2
 returns-2 c size months seconds h =
     let f = c .before in
@@ -39,5 +42,4 @@ returns-3 c size months seconds h =
     (table-drifts t (announcedSize t) (k - 1) (omega (arith, a, h, announced-size size months seconds)) ∙ ap not (le-ltb (k - 1) 14 (c .if2 .left)))
 
 pub rule-by-spec : {M : Type 1} → statement M
-rule-by-spec = tie.close (tie.spec (λ c size months seconds h. rule-absent (rowsIn size months seconds) (c .before .args .rows) (c .if1 .taken))
-    (λ c. search needs) (λ c. search needs) returns-2 (λ c. search needs) returns-3)
+rule-by-spec = tie.close (tie.spec returns (λ c. search needs) (λ c. search needs) returns-2 (λ c. search needs) returns-3)

@@ -25,6 +25,12 @@ rows s = rowsIn (s .args .size) (now (s .args .months)) (now (s .args .seconds))
 few : (c : tie.After-table-rows-reached) → c .table-rows-reached .result ≤ mostRows
 few c = few-rows (c .before .args .size) _ (c .table-rows-reached .ensures .1)
 
+int-to-float-midnight : tie.Need-int-to-float-midnight
+int-to-float-midnight c = let s = c .before .before .before in float-fits (s .args .mjd) (s .pre)
+
+add-next-midnight : tie.Need-add-next-midnight
+add-next-midnight c = let s = c .before .before .before in one-more-fits (s .args .mjd) (s .pre)
+
 int-to-float-next-midnight : tie.Need-int-to-float-next-midnight
 int-to-float-next-midnight c = let s = c .before .before .before .before in next-float-fits (s .args .mjd) (s .pre)
 
@@ -54,7 +60,6 @@ returns c =
 pub offsets-of-day-spec : {M : Type 1} → statement M
 offsets-of-day-spec =
     tie.close
-    (tie.spec (λ c κs. search needs) (λ c κs. c .table-rows-reached .ensures) (λ c. let s = c .before .before .before in float-fits (s .args .mjd) (s .pre))
-    (λ c. let s = c .before .before .before in one-more-fits (s .args .mjd) (s .pre)) int-to-float-next-midnight
+    (tie.spec (λ c κs. search needs) (λ c κs. c .table-rows-reached .ensures) int-to-float-midnight add-next-midnight int-to-float-next-midnight
     (λ c κs. few (c .before .before .before)) (λ c κs. few (c .before .before .before .before)) offset-by-requires-3
     (λ c κs. few (c .before .before .before .before .before .before)) returns)

@@ -29,6 +29,9 @@ by-ones r =
     r .steps .ensures ∙ steps-alike 0 0 (s .args .months-size) (s .args .seconds-size) (now (s .args .months)) [] (now (s .args .seconds))
     (s .args .months-size)
 
+returns-2 : tie.Need-returns-2
+returns-2 c = sizes-large (judged (c .before .before)) (c .before .if1 .left) (c .if2 .taken)
+
 returns-3 : tie.Need-returns-3
 returns-3 c =
     let two = c .before .before in
@@ -56,6 +59,5 @@ returns-5 c =
 pub announced-refusal-spec : {M : Type 1} → statement M
 announced-refusal-spec =
     tie.close
-    (tie.spec (λ c. sizes-differ (judged (c .before)) (c .if1 .taken)) (λ c. sizes-large (judged (c .before .before)) (c .before .if1 .left) (c .if2 .taken))
-    (λ c κs. search needs) returns-3 (λ c κs. search needs) returns-4
+    (tie.spec (λ c. sizes-differ (judged (c .before)) (c .if1 .taken)) returns-2 (λ c κs. search needs) returns-3 (λ c κs. search needs) returns-4
     returns-5)

@@ -23,6 +23,9 @@ returns c =
     (at-pattern-at .pattern-at .ensures) (at-pattern-at2 .pattern-at2 .ensures)
     (sym (c .before .is-number .ensures) ∙ not-true _ (c .if2 .taken))) refl
 
+float-from-bits-x : tie.Need-float-from-bits-x
+float-from-bits-x c = no-nan _ (sym (c .before .is-number .ensures) ∙ not-false _ (c .if2 .left))
+
 float-from-bits-y : tie.Need-float-from-bits-y
 float-from-bits-y c = no-nan _ (smaller-second (c .before .before .before .before .before .pattern-at .result)
     (c .before .before .before .before .pattern-at2 .result) (sym (c .before .before .before .is-larger .ensures) ∙ (c .before .before .if1 .taken))
@@ -74,6 +77,9 @@ float-from-bits-x-2 c = no-nan _
     (smaller-first (c .before .before .before .before .before .pattern-at .result) (c .before .before .before .before .pattern-at2 .result)
     (sym (c .before .before .before .is-larger .ensures) ∙ (c .before .before .if1 .left)) (sym (c .before .is-number2 .ensures) ∙ not-false _ (c .if3 .left)))
 
+float-from-bits-y-2 : tie.Need-float-from-bits-y-2
+float-from-bits-y-2 c = no-nan _ (sym (c .before .is-number2 .ensures) ∙ not-false _ (c .if3 .left))
+
 returns-4 : tie.Need-returns-4
 returns-4 c =
     let at-put-pattern3 = c .before .before .before .before .before .before in
@@ -109,10 +115,8 @@ returns-4 c =
 pub change-stamp-spec : {M : Type 1} → statement M
 change-stamp-spec =
     tie.close
-    (tie.spec (λ c κs. search needs) (λ c κs. search needs) (λ c κs. search needs) (λ c κs. search needs) returns
-    (λ c. no-nan _ (sym (c .before .is-number .ensures) ∙ not-false _ (c .if2 .left))) float-from-bits-y
+    (tie.spec (λ c κs. search needs) (λ c κs. search needs) (λ c κs. search needs) (λ c κs. search needs) returns float-from-bits-x float-from-bits-y
     (λ c. search needs) (λ c κs. search needs) (λ c. search needs) (λ c κs. search needs) (λ c κs. search needs) (λ c κs. search needs)
-    (λ c. search needs) (λ c. search needs) returns-2 (λ c κs. search needs) returns-3 float-from-bits-x-2
-    (λ c. no-nan _ (sym (c .before .is-number2 .ensures) ∙ not-false _ (c .if3 .left))) (λ c. search needs)
+    (λ c. search needs) (λ c. search needs) returns-2 (λ c κs. search needs) returns-3 float-from-bits-x-2 float-from-bits-y-2 (λ c. search needs)
     (λ c κs. search needs) (λ c κs. search needs) (λ c κs. search needs) (λ c. search needs) (λ c κs. search needs) (λ c. search needs)
     (λ c. search needs) returns-4)

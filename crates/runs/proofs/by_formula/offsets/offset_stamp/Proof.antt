@@ -20,6 +20,9 @@ returns c =
     (sym (c .before .before .is-number .ensures) ∙ not-true _ (c .before .if1 .taken)))
     (c .not-finite-number .ensures ∙ not-finite-small (a .earlier) (a .jd1s .now) (a .jd2s .now) (a .offsets .now) (a .i))
 
+float-from-bits-days : tie.Need-float-from-bits-days
+float-from-bits-days c = no-nan _ (sym (c .before .is-number .ensures) ∙ not-false _ (c .if1 .left))
+
 returns-2 : tie.Need-returns-2
 unfolding daysOf
 returns-2 c =
@@ -43,6 +46,5 @@ returns-2 c =
 pub offset-stamp-spec : {M : Type 1} → statement M
 offset-stamp-spec =
     tie.close
-    (tie.spec (λ c κs. search needs) (λ c κs. search needs) (λ c κs. search needs) returns
-    (λ c. no-nan _ (sym (c .before .is-number .ensures) ∙ not-false _ (c .if1 .left))) (λ c κs. search needs)
+    (tie.spec (λ c κs. search needs) (λ c κs. search needs) (λ c κs. search needs) returns float-from-bits-days (λ c κs. search needs)
     (λ c κs. search needs) (λ c. search needs) (λ c. search needs) returns-2)

@@ -28,6 +28,9 @@ day-answered : (k : tie.After-date) → let s = k .before .before .before .befor
 unfolding textDayOutcome
 day-answered k = sym (k .before .before .day-of .ensures) ∙ ap textDayOutcome (k .date .given .1)
 
+put-shown-requires : tie.Need-put-shown-requires
+put-shown-requires c κs = let k = c .before .before .before in day-in-range _ _ (found k) (day-answered k)
+
 returns : tie.Need-returns
 unfolding textDayOutcome
 returns c =
@@ -47,6 +50,5 @@ returns-2 c =
 pub to-iso8601-by-lent-spec : {M : Type 1} → statement M
 to-iso8601-by-lent-spec =
     tie.close
-    (tie.spec (λ c κs. search needs) (λ c. search needs) (λ c. search needs) (λ c κs. search needs)
-    (λ c κs. let k = c .before .before .before in day-in-range _ _ (found k) (day-answered k)) (λ c κs. search needs) returns
+    (tie.spec (λ c κs. search needs) (λ c. search needs) (λ c. search needs) (λ c κs. search needs) put-shown-requires (λ c κs. search needs) returns
     (λ c. search needs) returns-2)

@@ -29,6 +29,9 @@ day-answered : (k : tie.After-date) → let s = k .before .before .before .befor
 unfolding textDayOutcome
 day-answered k = sym (k .before .before .day-of .ensures) ∙ ap textDayOutcome (k .date .given .1)
 
+put-shown-requires : tie.Need-put-shown-requires
+put-shown-requires c κs = let k = c .before .before .before in day-in-range _ _ (found k) (day-answered k)
+
 returns : tie.Need-returns
 unfolding textDayOutcome
 returns c =
@@ -42,13 +45,11 @@ returns-2 c =
     let s = k .before .before .before .before in
     let d = found k in
     let e = day-given halfEvenForm (rows s) (s .args .utc .0) d (day-answered k)
-    ∙ ap (λ (t : TimeShown). withRule (shownTextBy utcText (d .date) t) (d .rule))
-    (sym (c .before .before .before .before .before .time-shown-half-even .ensures)) in
+    ∙ ap (λ (t : TimeShown). withRule (shownTextBy utcText (d .date) t) (d .rule)) (sym (c .before .before .before .before .before .time-shown-half-even .ensures)) in
     rule-call-as _ _ _ _ _ e (rule-call-with _ _ _ _ _ _ (c .with-rule .ensures) (c .before .before .before .put-shown .ensures))
 
 pub to-iso8601-half-even-by-lent-spec : {M : Type 1} → statement M
 to-iso8601-half-even-by-lent-spec =
     tie.close
-    (tie.spec (λ c κs. search needs) (λ c. search needs) (λ c. search needs) (λ c κs. search needs)
-    (λ c κs. let k = c .before .before .before in day-in-range _ _ (found k) (day-answered k)) (λ c κs. search needs) returns
+    (tie.spec (λ c κs. search needs) (λ c. search needs) (λ c. search needs) (λ c κs. search needs) put-shown-requires (λ c κs. search needs) returns
     (λ c. search needs) returns-2)
