@@ -1,4 +1,5 @@
-// The stamps of up to three recorders in one order. The two work areas, four bytes for each stamp each, are written too, and what is left in them means nothing.
+// The stamps of up to three recorders in one order. The two work areas, four bytes for each stamp each, are written too, and what is left in them means
+// nothing.
 ghost use lib.ListN.{length};
 ghost use Rattle.line_up.specs.LineUp.{linedUp};
 ghost use Rattle.capi.specs.LineDelivery.{LineDelivered};

@@ -106,7 +106,8 @@ module _ (lt : ℕ → ℕ → Bool) (anti : (x y : ℕ) → lt x y ≡ true →
       is-true false = ⊥
 
   module _ (b : ℕ) where
-    rising-pick : (t : Bool) (x y : ℕ) (xs ys : List ℕ) → lt y x ≡ t → (lt y x ≡ true → FirstMayFollow lt y xs) → (lt y x ≡ false → FirstMayFollow lt x ys) → Rising lt xs
+    rising-pick : (t : Bool) (x y : ℕ) (xs ys : List ℕ) → lt y x ≡ t → (lt y x ≡ true → FirstMayFollow lt y xs) → (lt y x ≡ false → FirstMayFollow lt x ys)
+        → Rising lt xs
         → Rising lt ys → Rising lt (cond t (y ∷ xs) (x ∷ ys))
     rising-pick true x y xs ys p f g r s = (f p, r)
     rising-pick false x y xs ys p f g r s = (g p, s)

@@ -2,7 +2,7 @@
 -- last float of 1971 shows 1972 and tells the row 13 that drifts, 1959 tells none, and under an announced row that row is told. Assumes nothing.
 use mathlib.Core.Path.{_≡_, refl, _∙_}
 use mathlib.Core.List.{List}
-use Prim.Native.Nat.{ℕ}
+use Prim.Native.Nat.{ℕ, _-_}
 use lib.IntN.{ℤ, pos}
 use lib.Ieee.{Float, binary64, ofBits, round, ofInt, add, sub, mul, div, neg, lt, le, eq, toSigned}
 use Rattle.refusals.specs.Outcome.{Outcome, answer, onward}
@@ -88,7 +88,8 @@ before-rows = as-computed fixed (julian (decimal 24367345 1) (decimal 5 1)) ∙ 
 abbrev announcedText : JulianDate → Outcome (List ℕ × Rule)
 announcedText d = onward (tableOf shortTable) (λ rows. isoTextByRule rows d)
 
-pub carried-to-announced-row : announcedText (julian (decimal 24625015 1) (bits 0x3fef_ffff_ffff_ffff)) ≡ answer (ascii "2030-01-01T00:00:00.000", Whole (shortPlace - 1))
+pub carried-to-announced-row : announcedText (julian (decimal 24625015 1) (bits 0x3fef_ffff_ffff_ffff)) ≡ answer
+    (ascii "2030-01-01T00:00:00.000", Whole (shortPlace - 1))
 unfolding computedText round ofBits
 carried-to-announced-row = went _ short-taken ∙ as-computed shortRows (julian (decimal 24625015 1) (bits 0x3fef_ffff_ffff_ffff)) ∙ refl
 

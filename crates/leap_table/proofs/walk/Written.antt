@@ -1,5 +1,5 @@
--- DATES AND OFFSETS PLACE BY PLACE: the walk over the bytes that are written from any list of dates is the walk over that list, however long it is, and the eight
--- bytes at place i of its answer are the offset of date i. Assumes nothing.
+-- DATES AND OFFSETS PLACE BY PLACE: the walk over the bytes that are written from any list of dates is the walk over that list, however long it is, and the
+-- eight bytes at place i of its answer are the offset of date i. Assumes nothing.
 use Prim.Native.Nat.{ℕ, zero, suc, _+_, _*_, _/_, _%_, _≤_, _<_}
 use native.Mathlib.Omega.{arith}
 use mathlib.Core.Path.{_≡_, refl, sym, ap, _∙_}

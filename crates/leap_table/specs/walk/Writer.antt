@@ -1,5 +1,5 @@
--- Dates written as bytes, and what a caller reads off the offsets' bytes: the layout as a writer has it, apart from what reads it. Document 02, item 2: "year, month,
--- day triples". Assumes nothing.
+-- Dates written as bytes, and what a caller reads off the offsets' bytes: the layout as a writer has it, apart from what reads it. Document 02, item 2: "year,
+-- month, day triples". Assumes nothing.
 use mathlib.Core.List.{List, _++_}
 use Prim.Native.Nat.{ℕ}
 use lib.Ieee.{Float, binary64, toBits}

@@ -39,7 +39,8 @@ module _ (js ks : List ℕ) where
         error = h;
       }
 
-  pub lt-is : (x y P N Q M : ℕ) → FiniteAt x → FiniteAt y → Worth (stampOf js ks x) P N L → Worth (stampOf js ks y) Q M L → soonerAt js ks x y ≡ ltb (P + M) (Q + N)
+  pub lt-is : (x y P N Q M : ℕ) → FiniteAt x → FiniteAt y → Worth (stampOf js ks x) P N L → Worth (stampOf js ks y) Q M L
+      → soonerAt js ks x y ≡ ltb (P + M) (Q + N)
   unfolding soonerAt isEarlier
   lt-is x y P N Q M s t v w = sooner-exactly (stampOf js ks x) (stampOf js ks y) P N Q M s t v w
 

@@ -49,7 +49,8 @@ module _ (ns rs : List ℕ) (from to many : ℕ) (a : Judgeable ns rs from to) w
         let s : slice i to rs ≡ getD rs i 0 ∷ slice (suc i) to rs = slice-cons i to rs 0 (omega (arith, j .high)) (a .rankRoom) in
         rw s (ew ∙ ap (λ (x : ℕ). wantedBefore x w) er ∙ ap (λ (x : ℕ). wantedBefore (getD rs i 0) x) (j .want))
 
-    pub judging-goes : (r m w' : ℕ) → r ≡ getD rs i 0 → m ≡ numberByPile (getD now i 0) r w → w' ≡ wantedBefore r w → Judging ns rs from to many (set now i m) w' i
+    pub judging-goes : (r m w' : ℕ) → r ≡ getD rs i 0 → m ≡ numberByPile (getD now i 0) r w → w' ≡ wantedBefore r w
+        → Judging ns rs from to many (set now i m) w' i
     judging-goes r m w' er em ew =
         let k : i < length now = omega (arith, j .len, j .high, a .high) in
         let k' : i < length (set now i m) = omega (arith, length-set now i m) in

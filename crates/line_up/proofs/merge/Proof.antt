@@ -110,7 +110,8 @@ loop-again c =
     merging-goes (soonerAt (a .jd1s .now) (a .jd2s .now)) (a .numbers .now) (a .end1) (a .end2) (s .pre .low) (s .pre .high) (a .out .now) (l .loop .out)
     (l .loop .x) (l .loop .y) (l .loop .z) (l .loop .p) (l .loop .k) (l .loop .inv) (s .pre .room) (i .loop-test .taken) (w .put-nth-u32 .last .0)
     (c .before .before .before .advance .result) (c .before .before .advance2 .result) (c .before .advance3 .result) (c .pick-of-three2 .result)
-    (w .put-nth-u32 .ensures ∙ put-32-is (l .loop .out) (l .loop .k) (l .loop .p) room) (c .before .before .before .advance .ensures) (c .before .before .advance2 .ensures) (c .before .advance3 .ensures)
+    (w .put-nth-u32 .ensures ∙ put-32-is (l .loop .out) (l .loop .k) (l .loop .p) room) (c .before .before .before .advance .ensures)
+    (c .before .before .advance2 .ensures) (c .before .advance3 .ensures)
     (c .pick-of-three2 .ensures)
 
 same-length : tie.Need-same-length Inv-loop μ-loop

@@ -65,7 +65,8 @@ module _ {A : Type 0} (bytes : A → List ℕ) (size : ℕ) (sized : Sized bytes
     -- bytes of an item, from `o` on
     part-at : (k o : ℕ) → o + k ≤ size → take k (drop (start + o) all) ≡ take k (drop o (bytes (getD xs i d)))
     part-at k o f =
-        ap (take k) (sym (drop-drop o start all)) ∙ sym (part-of k o size (drop start all) f) ∙ ap (λ (l : List ℕ). take k (drop o l)) (item-at front xs rest i d h)
+        ap (take k) (sym (drop-drop o start all)) ∙ sym (part-of k o size (drop start all) f)
+        ∙ ap (λ (l : List ℕ). take k (drop o l)) (item-at front xs rest i d h)
 
     -- A NUMBER OF AN ITEM, of eight bytes and of four
     pub item-u64 : (o : ℕ) → o + 8 ≤ size → u64At all (start + o) ≡ u64At (bytes (getD xs i d)) o

@@ -41,7 +41,8 @@ returns-2 c =
     let f : SFits w32 (s .args .date .year) = record { sfits = v .before .struct-told .given .0 .1 } in
     let q = apart _ _ _ _ (sym (v .leap-at-end-of-day-by-lent .ensures ∙ read-fields (leapByRule (rows s)) (s .args .date) f (s .pre .0) (s .pre .1))
     ∙ ap secondsByRuleOutcome (c .before .leap .given .1)) in
-    sym (went _ (q .0) ∙ ap (λ (r : Rule). answer (record { date = s .args .date; fraction = s .args .fraction; leap = c .before .leap .given .0 .0; rule = r }))
+    sym (went _ (q .0) ∙ ap (λ (r : Rule). answer
+    (record { date = s .args .date; fraction = s .args .fraction; leap = c .before .leap .given .0 .0; rule = r }))
     (q .1))
 
 pub with-leap-spec : {M : Type 1} → statement M

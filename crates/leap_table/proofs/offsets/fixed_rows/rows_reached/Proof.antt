@@ -33,7 +33,8 @@ returns : tie.Need-returns Inv-loop μ-loop
 returns c =
     let l = c .before .before .before in
     let s = l .before in
-    found (now (s .args .months)) (l .loop .i) (s .args .n) (c .before .before .loop-test .taken) (l .loop .inv .0) (omega (arith, c .if1 .taken)) (l .loop .inv .1)
+    found (now (s .args .months)) (l .loop .i) (s .args .n) (c .before .before .loop-test .taken) (l .loop .inv .0) (omega (arith, c .if1 .taken))
+    (l .loop .inv .1)
 
 sub-i : tie.Need-sub-i Inv-loop μ-loop
 sub-i c = search needs

@@ -130,5 +130,6 @@ pub place-decimal-spec : {M : Type 1} → statement M
 place-decimal-spec =
     tie.close
     (tie.spec Inv-loop μ-loop loop-holds cast-pair sub-i add-all array-write-all sub-i-2 add-all-2 array-write-all-2 loop-less loop-again sub-i-3
-    cast-all add-all-3 array-write-all-3 sub-i-4 cast-all-2 add-all-4 array-write-all-4 sub-place-bytes part-place-bytes-start part-place-bytes-end place-bytes-requires
+    cast-all add-all-3 array-write-all-3 sub-i-4 cast-all-2 add-all-4 array-write-all-4 sub-place-bytes part-place-bytes-start part-place-bytes-end
+    place-bytes-requires
     same-length returns sub-place-bytes-2 part-place-bytes-start-2 part-place-bytes-end-2 place-bytes-requires-2 same-length-2 returns-2)

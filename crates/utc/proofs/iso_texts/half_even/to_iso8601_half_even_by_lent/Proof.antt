@@ -45,7 +45,8 @@ returns-2 c =
     let s = k .before .before .before .before in
     let d = found k in
     let e = day-given halfEvenForm (rows s) (s .args .utc .0) d (day-answered k)
-    ∙ ap (λ (t : TimeShown). withRule (shownTextBy utcText (d .date) t) (d .rule)) (sym (c .before .before .before .before .before .time-shown-half-even .ensures)) in
+    ∙ ap (λ (t : TimeShown). withRule (shownTextBy utcText (d .date) t) (d .rule))
+    (sym (c .before .before .before .before .before .time-shown-half-even .ensures)) in
     rule-call-as _ _ _ _ _ e (rule-call-with _ _ _ _ _ _ (c .with-rule .ensures) (c .before .before .before .put-shown .ensures))
 
 pub to-iso8601-half-even-by-lent-spec : {M : Type 1} → statement M
