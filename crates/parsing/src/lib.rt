@@ -13,7 +13,7 @@ ghost use mathlib.Core.Bool.{true, false};
 ghost use Prim.Native.Nat.{_≤_};
 ghost use Rattle.julian.specs.JulianDate.{julianOutcome};
 ghost use Rattle.refusals.specs.Outcome.{onward};
-ghost use Rattle.leap_table.specs.rows.Announced.{rowsIn, rowsOf, tableOf};
+ghost use Rattle.leap_table.specs.rows.Announced.{rowsIn, tableOf};
 ghost use Rattle.parsing.specs.Parsed.{parsedOutcome, parsedUtcOutcome, parsed, toJulianDate, dated as dated·of, parsedUtc};
 ghost use Rattle.parsing.specs.Judging.{timeIn, quotient, judgedForm};
 
@@ -141,18 +141,6 @@ pub fn from_str_by_lent<'a>(
         ParsedAnswer::Refused(number) => ParsedUtcAnswer::Refused(number),
         ParsedAnswer::Fields(fields) => dated(fields, size, months, seconds),
     }
-}
-
-// The same by the rows of a table.
-pub fn from_str_by_rows(text: &[u8], table: AnnouncedRows) -> ParsedUtcAnswer
-    ensures { λ r. ⌜ parsedUtcOutcome r ≡ parsedUtc (rowsOf table) (now (text .entry)) ⌝ }
-{
-    from_str_by_lent(
-        text,
-        leap_table::rows::size_of(table),
-        &table.months,
-        &table.seconds,
-    )
 }
 
 // The fields of a UTC text and the date that they name. Refusals in order: 20 to 22 the table, 15 the text, 16 its fraction, 2 the month, 3 the day, 4 the

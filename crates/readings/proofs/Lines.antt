@@ -1,19 +1,16 @@
 -- What a line is put together from: an index in decimal, a text that was written or a refusal, one after the other. Assumes nothing.
 use mathlib.Core.Path.{_≡_, refl, sym, ap, _∙_, subst}
 use mathlib.Core.Bool.{Bool, true, false, cond}
-use mathlib.Core.List.{List, [], _∷_, _++_}
+use mathlib.Core.List.{List, _++_}
 use mathlib.Core.Logic.{_⊎_, inl, inr}
-use Prim.Native.Nat.{ℕ, zero, suc, _+_, _-_, _*_, _/_, _%_, _^_, _≤_, _<_}
-use native.Mathlib.Nat.{le-trans, pow-suc, zero-add}
+use Prim.Native.Nat.{ℕ, _≤_, _<_}
+use native.Mathlib.Nat.{zero-add}
 use native.Mathlib.Omega.{arith}
-use lib.Dec.{leb, lit≤}
+use lib.Dec.{leb}
 use lib.ListN.{length, take, drop, length-append}
 use lib.Seq.{length-take-le}
-use borrow.Author.Tests.{lt-ltb, le-ltb, le-leb, lt-leb}
-use Rattle.io.specs.Digits.{glyph, digits, Fewest}
+use borrow.Author.Tests.{le-leb, lt-leb}
 use Rattle.refusals.specs.Outcome.{Outcome, answer, refusal, onward}
-use Rattle.numerals.specs.digits.Decimal.{last, digitsIn, digitsOf}
-use Rattle.numerals.proofs.digits.Decimal.{digits-few}
 use Rattle.julian.specs.declared.JulianDate.{JulianDate}
 use Rattle.leap_table.specs.rows.Table.{Row}
 use Rattle.utc.specs.declared.text.TextAnswer.{TextAnswer}
@@ -21,73 +18,37 @@ use Rattle.utc.specs.declared.text.TextAnswer.the-variants.{Written, Refused}
 use Rattle.utc.specs.text.Answer.{textOutcome, textWritten, bufferAfter}
 use Rattle.utc.specs.iso_texts.TextCall.{written, bufferHolds, TextCall}
 use Rattle.utc.specs.iso_texts.Expanded.{isoTextExpanded}
+use Rattle.utc.specs.declared.iso_texts.TextByRule.{TextByRule}
+use Rattle.utc.specs.iso_texts.ByRule.{expandedByRule, textByRuleOutcome, TextRuleCall}
+use Rattle.utc.proofs.iso_texts.TextRules.{rule-call-forgets, expanded-forgets}
+use Rattle.utc.specs.declared.iso_texts.TextByRule.the-variants as Ruled
+use Rattle.leap_table.specs.declared.offsets.Rule.{Rule}
+use Rattle.leap_table.specs.offsets.Rule.{forget}
 use Rattle.utc.proofs.laws.ExpandedTexts.{expanded-text-length}
 use Rattle.parsing.specs.declared.ParsedUtc.{ParsedUtc}
 use Rattle.parsing.specs.declared.ParsedUtcAnswer.{ParsedUtcAnswer}
 use Rattle.parsing.specs.declared.ParsedUtcAnswer.the-variants as Utc
 use Rattle.parsing.specs.Parsed.{parsedUtcOutcome, parsedUtc}
-use Rattle.numerals.specs.digits.Placed.{pasted, Placed}
+use Rattle.numerals.specs.digits.Placed.{pasted, Placed, Placing}
+use Rattle.numerals.proofs.digits.Places.{then}
+use Rattle.reasons.proofs.sentences.Placing.{placed-length, decimal-placed}
 use Rattle.readings.specs.Reading.{reading, readingTold, LineCall}
 
--- ---- the digits that `io::decimal` writes, as few as hold the number, are the number's
-glyph-last : (n : ℕ) → glyph (n % 10) ≡ last n
-glyph-last n = ap (λ (b : Bool). cond b (48 + n % 10) (87 + n % 10)) (lt-ltb (n % 10) 10 (small n))
-  where
-    small : (n : ℕ) → n % 10 < 10
-    small n = omega arith
-
-grows : (k : ℕ) → k < 10 ^ k
-grows zero = omega arith
-grows (suc k) = subst (λ (z : ℕ). suc k < z) (sym (pow-suc 10 k)) (let g = grows k in omega (arith, g))
-
--- one digit, or those of a tenth and one more
-fewest : (k m n : ℕ) → k ≤ m → n < 10 ^ suc k → (0 < k → 10 ^ k ≤ n) → digits 10 (suc k) n ≡ digitsIn (suc m) n
-unfolding digitsIn
-fewest zero m n h a b = ap (λ (c : ℕ). c ∷ []) (glyph-last n)
-    ∙ sym (ap (λ (t : Bool). cond t (last n ∷ []) (digitsIn m (n / 10) ++ (last n ∷ []))) (lt-ltb n 10 (omega arith)))
-fewest (suc k) zero n h a b = absurd (omega arith)
-fewest (suc k) (suc m) n h a b =
-    let least : 10 ^ k * 10 ≤ n = subst (λ (z : ℕ). z ≤ n) (pow-suc 10 k) (b (omega arith)) in
-    let most : n < 10 ^ suc k * 10 = subst (λ (z : ℕ). n < z) (pow-suc 10 (suc k)) a in
-    (λ i. fewest k m (n / 10) (omega arith) (tenth-below n (10 ^ suc k) most) (λ _. tenth-from n (10 ^ k) least) i ++ (glyph-last n i ∷ []))
-    ∙ sym (ap (λ (t : Bool). cond t (last n ∷ []) (digitsIn (suc m) (n / 10) ++ (last n ∷ []))) (le-ltb n 10 (ten n (10 ^ k) least (some k))))
-  where
-    tenth-below : (n p : ℕ) → n < p * 10 → n / 10 < p
-    tenth-below n p g = omega arith
-
-    tenth-from : (n p : ℕ) → p * 10 ≤ n → p ≤ n / 10
-    tenth-from n p g = omega arith
-
-    ten : (n p : ℕ) → p * 10 ≤ n → 0 < p → 10 ≤ n
-    ten n p g q = omega arith
-
-    some : (k : ℕ) → 0 < 10 ^ k
-    some k = let g = grows k in omega (arith, g)
-
-within : (k n : ℕ) → (0 < k → 10 ^ k ≤ n) → k ≤ n
-within zero n g = omega arith
-within (suc k) n g = let a = grows (suc k) in let b = g (omega arith) in omega (arith, a, b)
-
-few-digits : (n r : ℕ) → Fewest 10 1 n r → digits 10 r n ≡ digitsOf n
-unfolding digitsOf
-few-digits n zero f = absurd (omega (arith, f .0))
-few-digits n (suc k) f = fewest k n n (within k n least) (f .1) least
-  where
-    minus : (k : ℕ) → suc k - 1 ≡ k
-    minus k = omega arith
-
-    least : 0 < k → 10 ^ k ≤ n
-    least h = subst (λ (z : ℕ). 10 ^ z ≤ n) (minus k) (f .2 (omega arith))
-
--- the bytes that it put are the number's digits, and at most 20 of them
-pub number-bytes : (n r : ℕ) (l : List ℕ) → n < 2 ^ 64 → Fewest 10 1 n r → take r l ≡ digits 10 r n → (take r l ≡ digitsOf n) × (length (take r l) ≤ 20)
-number-bytes n r l h f e = let g = e ∙ few-digits n r f in (g, subst (λ (t : List ℕ). length t ≤ 20) (sym g) (digits-few 19 n (le-trans h (lit≤ tt))))
+-- ---- the index and the blank, at the start of a buffer with room for a line
+pub index-put : {d s d′ t d″ : List ℕ} {r r2 : ℕ} → Placing d 0 s r d′ → length s ≤ 20 → Placing d′ r t r2 d″ → length t ≤ 1 → 50 ≤ length d
+    → (Placed d 0 (s ++ t) r2 d″) × (r2 ≤ 21) × (length d″ ≡ length d)
+index-put index few blank one room =
+    let p = decimal-placed index few (omega arith) in
+    let m = placed-length (p .0) (omega arith) in
+    let q = blank .written (omega arith) in
+    let n = placed-length q (omega arith) in
+    (then (p .0) q (omega arith), omega arith, omega arith)
 
 -- ---- what the text call answered
-abbrev pub Short : Outcome (List ℕ) → Type 0
+abbrev Short : Outcome (List ℕ) → Type 0
 Short o = (t : List ℕ) → o ≡ answer t → length t ≤ 27
 
-pub short : (rows : List Row) (jd : JulianDate) → Short (isoTextExpanded rows jd)
+short : (rows : List Row) (jd : JulianDate) → Short (isoTextExpanded rows jd)
 short rows jd t e = of (expanded-text-length rows jd t e)
   where
     of : (length t ≡ 23) ⊎ (length t ≡ 27) → length t ≤ 27
@@ -117,14 +78,24 @@ unfolding written bufferHolds onward
 told-refused (answer t) p k s h e = let m = s t refl in absurd (refused-by t p k (omega arith) e)
 told-refused (refusal j) p k s h e = let same : j ≡ k = cc in (ap refusal same, refl)
 
-module _ {o : Outcome (List ℕ)} {p ys : List ℕ} {res : TextAnswer} (call : TextCall o p res ys) (s : Short o) where
-  pub text-written : (n : ℕ) → res ≡ Written n → (n ≡ length (readingTold o)) × (ys ≡ readingTold o ++ drop (length (readingTold o)) p) × (n ≤ 27)
-  unfolding textOutcome
-  text-written n e = let w = told-written o p n s (sym (call .says) ∙ ap textOutcome e) in (w .0, call .holds ∙ w .1, w .2)
+module _ (rows : List Row) (jd : JulianDate) {p ys : List ℕ} {res : TextByRule} (call : TextRuleCall (expandedByRule rows jd) p res ys) where
+  -- without the rule
+  as-call : (t : TextAnswer) → textOutcome t ≡ forget (textByRuleOutcome res) → TextCall (isoTextExpanded rows jd) p t ys
+  as-call t e = subst (λ (o : Outcome (List ℕ)). TextCall o p t ys) (expanded-forgets rows jd) (rule-call-forgets (expandedByRule rows jd) p ys res t e call)
 
-  pub text-refused : (k : ℕ) → res ≡ Refused k → 27 ≤ length p → (o ≡ refusal k) × (ys ≡ p)
-  unfolding textOutcome
-  text-refused k e h = let w = told-refused o p k s h (sym (call .says) ∙ ap textOutcome e) in (w .0, call .holds ∙ w .1)
+  pub text-written : (n : ℕ) (rule : Rule) → res ≡ Ruled.Written n rule
+      → (n ≡ length (readingTold (isoTextExpanded rows jd)))
+      × (ys ≡ readingTold (isoTextExpanded rows jd) ++ drop (length (readingTold (isoTextExpanded rows jd))) p) × (n ≤ 27)
+  unfolding textOutcome textByRuleOutcome forget onward
+  text-written n rule e =
+      let c : TextCall (isoTextExpanded rows jd) p (Written n) ys = as-call (Written n) (ap (λ (x : TextByRule). forget (textByRuleOutcome x)) (sym e)) in
+      let w = told-written (isoTextExpanded rows jd) p n (short rows jd) (sym (c .says)) in (w .0, c .holds ∙ w .1, w .2)
+
+  pub text-refused : (k : ℕ) → res ≡ Ruled.Refused k → 27 ≤ length p → (isoTextExpanded rows jd ≡ refusal k) × (ys ≡ p)
+  unfolding textOutcome textByRuleOutcome forget onward
+  text-refused k e h =
+      let c : TextCall (isoTextExpanded rows jd) p (Refused k) ys = as-call (Refused k) (ap (λ (x : TextByRule). forget (textByRuleOutcome x)) (sym e)) in
+      let w = told-refused (isoTextExpanded rows jd) p k (short rows jd) h (sym (c .says)) in (w .0, c .holds ∙ w .1)
 
 -- ---- what the reader answered
 module _ (rows : List Row) (s : List ℕ) (a : ParsedUtcAnswer) (is : parsedUtcOutcome a ≡ parsedUtc rows s) where

@@ -1,13 +1,15 @@
 // The texts of the marker boxes, each answered by a line.
 use leap_table::rows::AnnouncedRows;
+use numerals::place::place_bytes;
 use parsing::ParsedUtcAnswer;
+use reasons::sentences::numbers::place_decimal;
 use scales::UTC;
+use utc::iso_texts::TextByRule;
 use utc::text::TextAnswer;
 ghost use Prim.Native.Nat.{_+_, _≤_};
 ghost use lib.ListN.{length};
-ghost use Rattle.numerals.specs.digits.Decimal.{digitsOf};
 ghost use Rattle.refusals.specs.Outcome.{refusal};
-ghost use Rattle.leap_table.specs.rows.Announced.{rowsOf};
+ghost use Rattle.leap_table.specs.rows.Announced.{rowsIn, rowsOf};
 ghost use Rattle.utc.specs.iso_texts.Expanded.{isoTextExpanded};
 ghost use Rattle.numerals.specs.digits.Placed.{Placed};
 ghost use Rattle.readings.specs.Reading.{reading, readingTold, readingLine, LineCall};
@@ -16,51 +18,50 @@ ghost use Rattle.readings.specs.Reading.{reading, readingTold, readingLi
 // blank has 8, the text of a date at most 27, and a blank and the line's end are left.
 const LINE_ROOM: usize = 50;
 
-fn place_bytes(src: &[u8], dst: &mut [u8], at: usize) -> usize
-    requires { ⌜ at + length (now src) ≤ length (now dst) ⌝ }
-    ensures { λ r. ⌜ Placed (now (dst .entry)) at (now (src .entry)) r (now (dst .exit)) ⌝ }
-{
-    at + bytes::copy(src, &mut dst[at..])
-}
-
-fn place_number(n: u64, dst: &mut [u8], at: usize) -> usize
-    requires { ⌜ at + 20 ≤ length (now dst) ⌝ }
-    ensures { λ r. ⌜ Placed (now (dst .entry)) at (digitsOf n) r (now (dst .exit)) ⌝ }
-    ensures { λ r. ⌜ r ≤ at + 20 ⌝ }
-{
-    let mut digits = [0u8; 20];
-    let count = io::decimal(n, &mut digits);
-    place_bytes(&digits[..count], dst, at)
-}
-
 fn place_refused(number: u32, dst: &mut [u8], at: usize) -> usize
     requires { ⌜ at + 28 ≤ length (now dst) ⌝ }
     ensures { λ r. ⌜ Placed (now (dst .entry)) at (readingTold (refusal number)) r (now (dst .exit)) ⌝ }
     ensures { λ r. ⌜ r ≤ at + 28 ⌝ }
 {
     let next = place_bytes(b"refused ", dst, at);
-    place_number(number as u64, dst, next)
+    place_decimal(number as u64, dst, next)
 }
 
-fn place_text(utc: UTC, table: AnnouncedRows, dst: &mut [u8], at: usize) -> usize
+fn place_text<'a>(
+    utc: UTC,
+    size: usize,
+    months: &'a [i32; 16],
+    seconds: &'a [i32; 16],
+    dst: &mut [u8],
+    at: usize,
+) -> usize
     requires { ⌜ at + 28 ≤ length (now dst) ⌝ }
-    ensures { λ r. ⌜ Placed (now (dst .entry)) at (readingTold (isoTextExpanded (rowsOf table) (utc .0))) r (now (dst .exit)) ⌝ }
+    ensures { λ r. ⌜ Placed (now (dst .entry)) at
+        (readingTold (isoTextExpanded (rowsIn size (now (months .entry)) (now (seconds .entry))) (utc .0))) r (now (dst .exit)) ⌝ }
     ensures { λ r. ⌜ r ≤ at + 28 ⌝ }
 {
-    match utc::iso_texts::to_iso8601_expanded_by_rows(utc, table, &mut dst[at..]) {
-        TextAnswer::Written(n) => at + n,
-        TextAnswer::Refused(number) => place_refused(number, dst, at),
+    match utc::iso_texts::to_iso8601_expanded_by_lent(utc, size, months, seconds, &mut dst[at..]) {
+        TextByRule::Written(n, _) => at + n,
+        TextByRule::Refused(number) => place_refused(number, dst, at),
     }
 }
 
-fn place_reading(text: &[u8], table: AnnouncedRows, dst: &mut [u8], at: usize) -> usize
+fn place_reading<'a>(
+    text: &[u8],
+    size: usize,
+    months: &'a [i32; 16],
+    seconds: &'a [i32; 16],
+    dst: &mut [u8],
+    at: usize,
+) -> usize
     requires { ⌜ at + 28 ≤ length (now dst) ⌝ }
-    ensures { λ r. ⌜ Placed (now (dst .entry)) at (readingTold (reading (rowsOf table) (now (text .entry)))) r (now (dst .exit)) ⌝ }
+    ensures { λ r. ⌜ Placed (now (dst .entry)) at
+        (readingTold (reading (rowsIn size (now (months .entry)) (now (seconds .entry))) (now (text .entry)))) r (now (dst .exit)) ⌝ }
     ensures { λ r. ⌜ r ≤ at + 28 ⌝ }
 {
-    match parsing::from_str_by_rows(text, table) {
+    match parsing::from_str_by_lent(text, size, months, seconds) {
         ParsedUtcAnswer::Refused(number) => place_refused(number, dst, at),
-        ParsedUtcAnswer::Read(read) => place_text(read.date, table, dst, at),
+        ParsedUtcAnswer::Read(read) => place_text(read.date, size, months, seconds, dst, at),
     }
 }
 
@@ -72,8 +73,9 @@ pub fn answer_line(text: &[u8], index: u64, table: AnnouncedRows, out: &mut [u8]
     if out.len() < LINE_ROOM {
         return TextAnswer::Refused(refusals::NO_ROOM);
     }
-    let a = place_number(index, out, 0);
+    let a = place_decimal(index, out, 0);
     let b = place_bytes(b" ", out, a);
-    let c = place_reading(text, table, out, b);
+    let size = leap_table::rows::size_of(table);
+    let c = place_reading(text, size, &table.months, &table.seconds, out, b);
     TextAnswer::Written(place_bytes(b"\n", out, c))
 }

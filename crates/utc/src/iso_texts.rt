@@ -18,7 +18,6 @@ use calendar::CalendarDate;
 use calendar::NextDay;
 pub use expanded::to_iso8601_expanded;
 pub use expanded::to_iso8601_expanded_by_lent;
-pub use expanded::to_iso8601_expanded_by_rows;
 pub use half_even::to_iso8601_half_even;
 pub use half_even::to_iso8601_half_even_by_lent;
 use julian::CalendarAnswer;

@@ -2,6 +2,7 @@
 use native.Mathlib.Omega.{arith}
 use Rattle.readings.specs.Reading.{readingTold}
 use Rattle.numerals.proofs.digits.Places.{then}
+use Rattle.reasons.proofs.sentences.Placing.{placed-length, decimal-placed}
 use borrow.Author.Needs.{needs}
 use Rattle.readings.proofs.place_refused.Statement.{statement}
 use Rattle.readings.proofs.place_refused.Tie as tie
@@ -9,10 +10,14 @@ use Rattle.readings.proofs.place_refused.Tie as tie
 returns : tie.Need-returns
 unfolding readingTold
 returns c =
-    let p1 = c .before .before .before .before .before .before .place-bytes .ensures in
-    let p2 = c .before .before .place-number .ensures in
-    let st = c .before .before .before .before .before .before .before .before .before .before in
-    (then p1 (p2 .0) (omega (arith, st .pre, p1 .ends, p2 .1)), omega (arith, p1 .ends, p2 .1))
+    let d = c .before .before in
+    let b = d .before .before .before .before in
+    let st = b .before .before .before .before in
+    let room = st .pre in
+    let p1 = b .place-bytes .ensures .written (omega arith) in
+    let l = placed-length p1 (omega arith) in
+    let p2 = decimal-placed (d .place-decimal .ensures .0) (d .place-decimal .ensures .1) (omega arith) in
+    (then p1 (p2 .0) (omega arith), omega arith)
 
 pub place-refused-spec : {M : Type 1} → statement M
 place-refused-spec =

@@ -1,10 +1,9 @@
 // UTC text with a sign and seven digits for a year that four digits do not hold: ISO 8601's expanded representation.
 ghost use Prim.Native.Nat.{_≤_};
 ghost use Rattle.refusals.specs.Outcome.{onward};
-ghost use Rattle.leap_table.specs.rows.Announced.{rowsIn, rowsOf, tableOf};
+ghost use Rattle.leap_table.specs.rows.Announced.{rowsIn, tableOf};
 ghost use Rattle.utc.specs.text.Expanded.{expandedText};
 ghost use Rattle.utc.specs.iso_texts.IsoText.{nextMidnightTextBy, shownTextBy};
-ghost use Rattle.utc.specs.iso_texts.Expanded.{isoTextExpanded};
 ghost use Rattle.utc.specs.iso_texts.TextCall.{TextCall};
 ghost use Rattle.utc.specs.iso_texts.ByRule.{expandedByRule, TextRuleCall};
 use super::DayAnswer;
@@ -34,23 +33,6 @@ pub fn to_iso8601_expanded_by_lent<'a>(
             put_shown(date, time_of_day::time_shown(fraction, leap), out),
             rule,
         ),
-    }
-}
-
-// The text of a date by the rows of a table that is tested elsewhere, without the rule. Refusals in order: 6 the parts, 1 the year, 11 the buffer; a refused
-// call writes nothing.
-pub fn to_iso8601_expanded_by_rows(utc: UTC, table: AnnouncedRows, out: &mut [u8]) -> TextAnswer
-    ensures { λ r. ⌜ TextCall (isoTextExpanded (rowsOf table) (utc .0)) (now (out .entry)) r (now (out .exit)) ⌝ }
-{
-    match to_iso8601_expanded_by_lent(
-        utc,
-        leap_table::rows::size_of(table),
-        &table.months,
-        &table.seconds,
-        out,
-    ) {
-        TextByRule::Refused(number) => TextAnswer::Refused(number),
-        TextByRule::Written(n, _) => TextAnswer::Written(n),
     }
 }
 
