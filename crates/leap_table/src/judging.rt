@@ -1,4 +1,4 @@
-// Dates in time order: which lists of dates a walk refuses. Document 02, item 2.
+// Which lists of dates a walk refuses, and by which number: dates go in time order. Document 02, item 2.
 ghost use mathlib.Core.Path.{_≡_};
 ghost use mathlib.Core.Bool.{true};
 ghost use Prim.Native.Nat.{_+_, _*_, _≤_};

@@ -1,4 +1,4 @@
-// The stamps of up to three recorders in one order, by their exact TAI. The parts of the stamps and the places are bytes, the lowest first.
+// The stamps of up to three recorders, in TAI, in one order by their exact sums. The parts of the stamps and the places are bytes, the lowest first.
 ghost use mathlib.Core.Path.{_≡_};
 ghost use lib.ListN.{length};
 ghost use Prim.Native.Nat.{_≤_, _<_, _+_};
