@@ -1,4 +1,4 @@
--- A slice after some bytes were written into it from an index on. This project's own; no contract of a public function cites it. Assumes nothing.
+-- A slice after some bytes were written into it from an index on. This project's own; `Placing` is what public functions cite. Assumes nothing.
 use Prim.Native.Nat.{ℕ, _+_, _<_, _≤_}
 use mathlib.Core.Path.{_≡_}
 use mathlib.Core.List.{List, _++_}

@@ -65,14 +65,14 @@ module _ (xs : List Stamp) where
 
 -- ---- EACH STAMP AT ITS PLACE
 module _ (xs : List Stamp) (i : ℕ) (d : Stamp) (h : i < length xs) (bits : StampFits (getD xs i d)) where
-  first-part : jd1Bits (blockBytes xs) i ≡ getD xs i d .first
+  pub first-part : jd1Bits (blockBytes xs) i ≡ getD xs i d .first
   unfolding jd1Bits blockBytes
   first-part =
       let e : 8 + 8 * i ≡ length (front xs) + 8 * i + 0 = omega (arith, front-length xs) in
       ap (u64At (blockBytes xs)) e ∙ item-u64 firstBytes 8 (λ x. refl) (front xs) xs (allBytes secondBytes xs) i d h 0 (omega arith)
       ∙ read-written (getD xs i d .first) (bits .first-fits)
 
-  second-part : jd2Bits (blockBytes xs) (length xs) i ≡ getD xs i d .second
+  pub second-part : jd2Bits (blockBytes xs) (length xs) i ≡ getD xs i d .second
   unfolding jd2Bits blockBytes
   second-part =
       let l = length-append (front xs) (allBytes firstBytes xs) in
