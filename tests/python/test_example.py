@@ -32,10 +32,10 @@ class Example(unittest.TestCase):
             self.assertEqual(np.load(self.at / f"{scale}.npy").shape, np.load(PROGRAM.parent / f"{scale}.npy").shape)
 
     def test_table(self):
-        """A row for each stamp, the ordered ones rising in time, the dead ones with their numbers; the thin place is in the leap second for each recorder."""
+        """A row for each stamp, the ordered ones rising in time, those that are not finite with their numbers; the thin place is in the leap second for each recorder."""
         rows = [row.split(",") for row in run().stdout.splitlines()][1:]
         self.assertEqual((len(rows), sum(1 for row in rows if row[4])), (825, 13))
-        shown = re.search(r"with a dead stamp:\n\n((?:    .*\n)+)", (ROOT / "python" / "README.md").read_text())[1].split()
+        shown = re.search(r"with a stamp that is not finite:\n\n((?:    .*\n)+)", (ROOT / "python" / "README.md").read_text())[1].split()
         self.assertIn("\n".join(shown), "\n".join(",".join(row) for row in rows))
         texts = [row[0] for row in rows if row[0]]
         self.assertEqual(texts, sorted(texts))
