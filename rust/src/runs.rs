@@ -131,7 +131,7 @@ pub fn formula_run<From: TimeScale, To: TimeScale>(
 /// Answers the places of the ordered stamps, ties by run and then by place. Refuses 12 for another number of parts than
 /// of numbers; 14 for counts past the length; 13 for more stamps than 4 bytes can number. A refused call writes nothing.
 ///
-/// ```ignore
+/// ```
 /// use celestial_time_proved::runs::{line_up, Stamps};
 /// let jd1 = [2451545.0, 2451600.0, 2451546.0, 2451547.0, 2451545.0];
 /// let mut numbers = [0; 5];

@@ -3,7 +3,6 @@ use celestial_time_proved::runs::{line_up, Stamps};
 
 /// Of a run with one stamp far too late that one is left out; one that is not finite gets 9; one that was refused stays so.
 #[test]
-#[ignore = "needs the archive of version 2.0.0"]
 fn three_runs() {
     let jd1 = [2451545.0, 2451600.0, 2451546.0, 2451547.0, 2451545.0, f64::NAN, 2451545.0, 2451547.0];
     let stamps = Stamps::new(&jd1, &[0.0, 0.0, 0.0, 0.0, 0.5, 0.0, 0.5, 0.0]);
@@ -13,7 +12,6 @@ fn three_runs() {
 }
 
 #[test]
-#[ignore = "needs the archive of version 2.0.0"]
 fn refused_lines() {
     let stamps = Stamps::new(&[2451545.0, 2451544.0], &[0.0, 0.0]);
     assert_eq!(line_up(stamps, &mut [0, 0], 1, 1), Ok(vec![1, 0]));
