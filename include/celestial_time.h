@@ -207,8 +207,8 @@ int64_t ct_compare(double jd1, double jd2, double other1, double other2);
    the later place is ordered.
 
    Refuses 14 for a length of parts that is no multiple of 8; 12 for another number of parts than of numbers;
-   14 for counts past the length; 13 for more stamps than 4 bytes can number; 11 for fewer than 4 bytes a
-   stamp in out, tails or ranks, also where fewer are ordered. A refused call writes neither numbers nor out.
+   14 for counts past the length; 13 for more than 4,294,967,295 stamps; 11 for fewer than 4 bytes a stamp
+   in out, tails or ranks, also where fewer are ordered. A refused call writes neither numbers nor out.
    Of two stamps, 2451545.0 and 2451544.0, with no recorder but the first (first_count 2), the first gets 17;
    with first_count 1 both are ordered, the second first; with first_count 3 it is 14. */
 int64_t ct_line_up(const uint8_t *jd1, size_t jd1_len, const uint8_t *jd2, size_t jd2_len, uint8_t *numbers,
@@ -216,9 +216,10 @@ int64_t ct_line_up(const uint8_t *jd1, size_t jd1_len, const uint8_t *jd2, size_
                    size_t out_len, uint8_t *tails, size_t tails_len, uint8_t *ranks, size_t ranks_len);
 
 /* The days from the other date to this, rounded. With parts under 2^52 in size never of the wrong sign,
-   but 0.0 also for some dates that differ, of today's under a microsecond apart, so that it is no order
-   to sort by: use ct_compare. The difference of two dates with the same infinity in the same part is a
-   NaN. */
+   but 0.0 also for some dates that differ, the further apart the larger their parts: (2457754.5, 0.0) and
+   (2^-32, 2457754.5) are 20 microseconds apart, (2^51, 2457754.5 - 2^51) and (0.1, 2457754.5) 8,640 s. So
+   it is no order to sort by: use ct_compare. The difference of two dates with the same infinity in the
+   same part is a NaN. */
 double ct_difference(double jd1, double jd2, double other1, double other2);
 
 /* ---- Tables: leap rows that were announced after this library was built
@@ -386,8 +387,9 @@ int64_t ct_ut1_to_utc_with_dut1(double jd1, double jd2, double dut1, const uint8
 /* The UTC date as text, 23 to 26 bytes: 2016-12-31T23:59:60.000, to the nearest millisecond, and in
    `rule` the rule of its day, 8 bytes: of the day before any carry, so a text that shows the next midnight
    has that of the day that ends there. No byte 0 ends the text; the call returns its length. Refuses the
-   table; 6; then 1; 11, which 22 bytes are for 2000-01-01, and 7 for a rule. A refusal leaves both buffers.
-   (-68571.0, 0.0) is 6; (-31739.5, 0.0), which is -4800-12-31, with no byte is 1. */
+   table; 6; then 1; 11, which 22 bytes are for 2000-01-01, and 1 to 7 for a rule; a rule_len of 0 asks for
+   no rule. A refusal leaves both buffers. (-68571.0, 0.0) is 6; (-31739.5, 0.0), which is -4800-12-31, with
+   no byte is 1. */
 int64_t ct_to_iso8601(double jd1, double jd2, const uint8_t *table, size_t table_len, uint8_t *out,
                       size_t out_len, uint8_t *rule, size_t rule_len);
 
@@ -440,9 +442,9 @@ int64_t ct_listing_part(const uint8_t *block, size_t block_len, uint32_t line, c
    lines of stamps and after `block`. The header is the same. A stamp that is refused by 6 names the rounded
    sum of its parts, by 1 its year; a block by 12 the second size, by 13 the size, and by 14 `input_len`: how
    many bytes came in all, of which the block has the first (block_len, where all are there; a block that is
-   cut off after 64,009 bytes is refused as a whole one would be). input_len is not held against block_len,
-   and where it fits the sizes none is named. A line has at most 64 bytes, and 11 is where out_len is below
-   64. */
+   cut off after 64,009 bytes is refused as a whole one would be). input_len is not held against block_len:
+   where it is 8 + 16 times the first size none is named, also of a block of fewer than 8 bytes. A line has
+   at most 64 bytes, and 11 is where out_len is below 64. */
 int64_t ct_reason_listing_part(const uint8_t *block, size_t block_len, uint64_t input_len, uint32_t line,
                                const uint8_t *table, size_t table_len, uint8_t *out, size_t out_len);
 

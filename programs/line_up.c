@@ -39,7 +39,7 @@
 
    With --reasons a colon and the library's sentence follow the number of each stamp that is refused, left
    out or without text, and the sentence ends with the part at fault, in the 16 hexadecimal digits of its
-   bits, where one is: `gps 1 refused 9: part of the date is not finite: jd1 7ff8000000000000`. It is told of
+   bits, where one is: `gps 1 refused 9: part or sum of a date is not finite: jd1 7ff8000000000000`. It is told of
    the parts as they were recorded; of a stamp without text, of those of its TAI or, where it has one, its UTC.
 
    The last line has the number of ordered stamps, and of those that have no text.

@@ -31,7 +31,7 @@ impl Refusal {
     ///
     /// ```
     /// use celestial_time_proved::Refusal;
-    /// assert_eq!(Refusal::new(9).unwrap().sentence(), "part of the date is not finite");
+    /// assert_eq!(Refusal::new(9).unwrap().sentence(), "part or sum of a date is not finite");
     /// assert_eq!(Refusal::new(0).unwrap_err().number(), 18);
     /// ```
     pub fn new(number: u32) -> TimeResult<Self> {

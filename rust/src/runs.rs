@@ -129,7 +129,7 @@ pub fn formula_run<From: TimeScale, To: TimeScale>(
 /// would refuse, and 17 for one that is left out, so that of its own run the most that rise are ordered.
 ///
 /// Answers the places of the ordered stamps, ties by run and then by place. Refuses 12 for another number of parts than
-/// of numbers; 14 for counts past the length; 13 for more stamps than 4 bytes can number. A refused call writes nothing.
+/// of numbers; 14 for counts past the length; 13 for more than 4,294,967,295 stamps. A refused call writes nothing.
 ///
 /// ```
 /// use celestial_time_proved::runs::{line_up, Stamps};

@@ -123,7 +123,7 @@ TEXT_ALONE(text_of, ct_to_iso8601)
 TEXT_ALONE(even_of, ct_to_iso8601_half_even)
 TEXT_ALONE(expanded_of, ct_to_iso8601_expanded)
 
-/* And what it puts into a buffer for the rule: `number` 0 says that kind and row are due. With too few bytes for either both stay. */
+/* And what it puts into a buffer for the rule: `number` 0 says that kind and row are due. No byte asks for no rule; with too few for either both stay. */
 static void told_by(const char *name, text_call *call, const char *shown, int number, int kind, int row, double jd1, double jd2, const uint8_t *table, size_t table_len)
 {
     size_t length;
@@ -140,7 +140,7 @@ static void told_by(const char *name, text_call *call, const char *shown, int nu
             if (!number && length >= CT_RULE_BYTES && room >= due_length) memcpy(due, wanted, CT_RULE_BYTES);
             text(shown);
             code = call(jd1, jd2, table, table_len, fresh(), room, rule, length);
-            judge(name, number ? number : length < CT_RULE_BYTES ? 11 : 0, code);
+            judge(name, number ? number : length && length < CT_RULE_BYTES ? 11 : 0, code);
             check(!memcmp(due, rule, sizeof due), "%s: the rule of %s in %d bytes", name, shown, (int)length);
         }
 }

@@ -78,9 +78,9 @@ static void reason_calls(void)
     TELLS("date is outside the calendar: sum 7ff8000000000000", REASON(ct_parts_reason, 6, infinity, minus_infinite_float()));
     TELLS("date is outside the calendar: sum 41cdcd6500000002", REASON(ct_parts_reason, 6, 1e9, 2e-7));
     TELLS("date is outside the calendar", REASON(ct_parts_reason, 6, 1e9, 0.0));
-    TELLS("part of the date is not finite: jd1 7ff0000000000000", REASON(ct_parts_reason, 9, infinity, nan));
-    TELLS("part of the date is not finite: jd2 fff0000000000000", REASON(ct_parts_reason, 9, 0.0, -infinity));
-    TELLS("part of the date is not finite", REASON(ct_parts_reason, 9, 1e308, 1e308));
+    TELLS("part or sum of a date is not finite: jd1 7ff0000000000000", REASON(ct_parts_reason, 9, infinity, nan));
+    TELLS("part or sum of a date is not finite: jd2 fff0000000000000", REASON(ct_parts_reason, 9, 0.0, -infinity));
+    TELLS("part or sum of a date is not finite", REASON(ct_parts_reason, 9, 1e308, 1e308));
     TELLS("fraction is not 0 to 1: fraction 3ff0000000000001", REASON(ct_float_reason, 7, 1.0000000000000002));
     TELLS("fraction is not 0 to 1", REASON(ct_float_reason, 7, -0.0));
     TELLS("offset is not finite: offset fff0000000000000", REASON(ct_float_reason, 10, -infinity));

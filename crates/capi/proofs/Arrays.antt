@@ -3,6 +3,7 @@
 use Prim.Native.Nat.{ℕ, _<_, _^_}
 use mathlib.Core.Path.{_≡_, refl, sym, subst, _∙_}
 use mathlib.Core.List.{List}
+use lib.ListN.{length}
 use lib.IntN.{ℤ}
 use lib.Signed.{mag}
 use mir.Syntax.{w64}
@@ -33,14 +34,14 @@ module _ (s : List ℕ) (rows : List Row) (n : ℕ) (judged : unlessRefused n ro
   -- ---- a text and its rule in two buffers
   module _ (next : List Row → Outcome (List ℕ × Rule)) {r : ℤ} (ok : mag r < 2 ^ 63) where
     pub text-lent-refused : {b b′ : List ℕ} → (n ≡ 0 → ⊥) → r ≡ code (refusal n)
-        → DeliveredTwo (ruled (onward (tableBytes s) next)) b b′ (toZ w64 (ofZ w64 r)) b b′
+        → DeliveredTwo (ruled (length b′) (onward (tableBytes s) next)) b b′ (toZ w64 (ofZ w64 r)) b b′
     unfolding onward bothFit bufferHolds ruled
     text-lent-refused {b} {b′} h c =
-        subst (λ (o : Outcome (List ℕ × Rule)). DeliveredTwo (ruled o) b b′ (toZ w64 (ofZ w64 r)) b b′) (sym (not-taken rows n judged next h))
+        subst (λ (o : Outcome (List ℕ × Rule)). DeliveredTwo (ruled (length b′) o) b b′ (toZ w64 (ofZ w64 r)) b b′) (sym (not-taken rows n judged next h))
         (record { returned = code-back ok ∙ c; holds = refl; holds-second = refl })
 
-    pub text-with-announced : {b b′ out out′ : List ℕ} → n ≡ 0 → DeliveredTwo (ruled (next rows)) b b′ r out out′
-        → DeliveredTwo (ruled (onward (tableBytes s) next)) b b′ (toZ w64 (ofZ w64 r)) out out′
+    pub text-with-announced : {b b′ out out′ : List ℕ} → n ≡ 0 → DeliveredTwo (ruled (length b′) (next rows)) b b′ r out out′
+        → DeliveredTwo (ruled (length b′) (onward (tableBytes s) next)) b b′ (toZ w64 (ofZ w64 r)) out out′
     text-with-announced {b} {b′} {out} {out′} h d =
-        subst (λ (z : ℤ). DeliveredTwo (ruled (onward (tableBytes s) next)) b b′ z out out′) (sym (code-back ok))
-        (subst (λ (o : Outcome (List ℕ × Rule)). DeliveredTwo (ruled o) b b′ r out out′) (gone-on rows n judged next h) d)
+        subst (λ (z : ℤ). DeliveredTwo (ruled (length b′) (onward (tableBytes s) next)) b b′ z out out′) (sym (code-back ok))
+        (subst (λ (o : Outcome (List ℕ × Rule)). DeliveredTwo (ruled (length b′) o) b b′ r out out′) (gone-on rows n judged next h) d)

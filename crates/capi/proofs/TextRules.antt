@@ -1,10 +1,10 @@
 -- The text call with its rule: what is put into the two buffers, and the refusals. Assumes nothing.
-use Prim.Native.Nat.{ℕ, _≤_, _<_, _^_}
+use Prim.Native.Nat.{ℕ, zero, suc, _≤_, _<_, _^_}
 use native.Mathlib.Omega.{arith}
 use mathlib.Core.Path.{_≡_, refl, sym, ap, subst, _∙_}
 use mathlib.Core.Bool.{Bool, true, false, true≢false, cond, _&&_}
 use mathlib.Core.Logic.{_⊎_, inl, inr}
-use mathlib.Core.List.{List}
+use mathlib.Core.List.{List, [], _∷_}
 use lib.ListN.{length}
 use lib.Dec.{leb}
 use lib.IntN.{ℤ, pos}
@@ -34,7 +34,7 @@ use Rattle.c_answers.specs.TwoBuffers.{bothFit, DeliveredTwo}
 use Rattle.c_answers.proofs.Deliveries.{code-back}
 use Rattle.capi.specs.declared.text_calls.NamedForm.{NamedForm}
 use Rattle.capi.specs.declared.text_calls.NamedForm.the-variants.{Document01, HalfEven, Expanded}
-use Rattle.capi.specs.TextRule.{ruled, noRoom, formNamed}
+use Rattle.capi.specs.TextRule.{askedRule, ruled, noRoom, formNamed}
 
 -- ---- the call of the form of text that is named
 pub named-call : (textForm k : NamedForm) (rows : List Row) (jd : JulianDate) {l out : List ℕ} {r : TextByRule} → textForm ≡ k
@@ -69,20 +69,21 @@ module _ (o : Outcome (List ℕ × Rule)) {l out : List ℕ} {res : TextByRule} 
 abbrev eleven-for : List ℕ × Rule → Outcome (List ℕ × List ℕ)
 eleven-for t = refusal 11
 
-eleven : (o : Outcome (List ℕ × Rule)) (m n : ℕ) → n < 8 → bothFit (ruled o) m n ≡ onward o eleven-for
-unfolding bothFit ruled onward
-eleven (refusal k) m n h = refl
-eleven (answer t) m n h = go (leb (length (t .0)) m)
+eleven : (o : Outcome (List ℕ × Rule)) (m n : ℕ) → n < 8 → (n ≡ 0 → ⊥) → bothFit (ruled n o) m n ≡ onward o eleven-for
+unfolding bothFit ruled askedRule onward
+eleven (refusal k) m n h some = refl
+eleven (answer t) m zero h some = absurd (some refl)
+eleven (answer t) m (suc n) h some = go (leb (length (t .0)) m)
   where
-    go : (x : Bool) → cond {A = Outcome (List ℕ × List ℕ)} (x && leb 8 n) (answer (t .0, ruleBytes (t .1))) (refusal 11) ≡ refusal 11
-    go true = rw (lt-leb 8 n h)
+    go : (x : Bool) → cond {A = Outcome (List ℕ × List ℕ)} (x && leb 8 (suc n)) (answer (t .0, ruleBytes (t .1))) (refusal 11) ≡ refusal 11
+    go true = rw (lt-leb 8 (suc n) h)
     go false = refl
 
-pub short-rule : (o : Outcome (List ℕ × Rule)) (b b′ : List ℕ) {r : ℤ} → mag r < 2 ^ 63 → length b′ < 8 → r ≡ code (noRoom o)
-    → DeliveredTwo (ruled o) b b′ (toZ w64 (ofZ w64 r)) b b′
+pub short-rule : (o : Outcome (List ℕ × Rule)) (b b′ : List ℕ) {r : ℤ} → mag r < 2 ^ 63 → length b′ < 8 → (length b′ ≡ 0 → ⊥) → r ≡ code (noRoom o)
+    → DeliveredTwo (ruled (length b′) o) b b′ (toZ w64 (ofZ w64 r)) b b′
 unfolding noRoom onward bufferHolds
-short-rule o b b′ ok h c =
-    let e = eleven o (length b) (length b′) h in
+short-rule o b b′ ok h some c =
+    let e = eleven o (length b) (length b′) h some in
     record {
       returned = code-back ok ∙ c ∙ ap code (sym (ap (λ (x : Outcome (List ℕ × List ℕ)). onward x (λ p. answer (length (p .0)))) e ∙ none o));
       holds = sym (ap (λ (x : Outcome (List ℕ × List ℕ)). bufferHolds (onward x (λ p. answer (p .0))) b) e ∙ stays o);
@@ -121,23 +122,29 @@ fitted (answer t) m n rule e = go (leb (length (t .0)) m) refl e
         record { text = t .0; same = λ i. answer (t .0, r i); count = c; within = leb-true (length (t .0)) m p }
     go false p q = absurd (let z : _≡_ {A = ℕ} 0 1 = cc in let no : ⊥ = omega arith in no)
 
-both : (t : List ℕ) (rule : Rule) (m n : ℕ) → length t ≤ m → 8 ≤ n → bothFit (ruled (answer (t, rule))) m n ≡ answer (t, ruleBytes rule)
-unfolding bothFit ruled onward
-both t rule m n h g = simp (le-leb (length t) m h) (go (leb 8 n) (le-leb 8 n g))
+both : (t : List ℕ) (rule : Rule) (m n : ℕ) → length t ≤ m → 8 ≤ n → bothFit (ruled n (answer (t, rule))) m n ≡ answer (t, ruleBytes rule)
+unfolding bothFit ruled askedRule onward
+both t rule m zero h g = absurd (let no : ⊥ = omega (arith, g) in no)
+both t rule m (suc n) h g = simp (le-leb (length t) m h) (go (leb 8 (suc n)) (le-leb 8 (suc n) g))
   where
     go : (x : Bool) → x ≡ true → cond {A = Outcome (List ℕ × List ℕ)} (true && x) (answer (t, ruleBytes rule)) (refusal 11) ≡ answer (t, ruleBytes rule)
     go true e = refl
     go false e = absurd (true≢false (sym e))
 
+alone : (t : List ℕ) (rule : Rule) (m : ℕ) → length t ≤ m → bothFit (ruled 0 (answer (t, rule))) m 0 ≡ answer (t, [])
+unfolding bothFit ruled askedRule onward
+alone t rule m h = simp (le-leb (length t) m h) refl
+
 -- ---- or it is refused, by itself or by 11
-not-fitted : (o : Outcome (List ℕ × Rule)) (l : List ℕ) (n k : ℕ) → writtenByRule o (length l) ≡ refusal k → (bothFit (ruled o) (length l) n ≡ refusal k)
-    × (bufferHolds (forget o) l ≡ l)
+not-fitted : (o : Outcome (List ℕ × Rule)) (l : List ℕ) (n k : ℕ) → writtenByRule o (length l) ≡ refusal k
+    → (bothFit (ruled n o) (length l) n ≡ refusal k) × (bufferHolds (forget o) l ≡ l)
 unfolding writtenByRule withRule textWritten forget onward bothFit ruled bufferHolds bufferAfter
 not-fitted (refusal j) l n k e = let z : j ≡ k = cc in (ap refusal z, refl)
 not-fitted (answer t) l n k e = go (leb (length (t .0)) (length l)) refl e
   where
     go : (x : Bool) → leb (length (t .0)) (length l) ≡ x → withRule (cond x (answer (length (t .0))) (refusal 11)) (t .1) ≡ refusal k
-        → (cond {A = Outcome (List ℕ × List ℕ)} (leb (length (t .0)) (length l) && leb 8 n) (answer (t .0, ruleBytes (t .1))) (refusal 11) ≡ refusal k)
+        → (cond {A = Outcome (List ℕ × List ℕ)} (leb (length (t .0)) (length l) && leb (length (askedRule n (t .1))) n) (answer (t .0, askedRule n (t .1)))
+        (refusal 11) ≡ refusal k)
         × (bufferAfter (t .0) l ≡ l)
     go true p q = absurd (let z : _≡_ {A = ℕ} 0 1 = cc in let no : ⊥ = omega arith in no)
     go false p q = let z : _≡_ {A = ℕ} 11 k = cc in (rw p (ap refusal z), rw p)
@@ -157,12 +164,12 @@ module _ (o : Outcome (List ℕ × Rule)) (few : (t : List ℕ) → forget o ≡
     count-fits = record { sfits = omega (arith, small) }
 
     pub two-written : {b′ out′ : List ℕ} {r : ℤ} → 8 ≤ length b′ → Delivered (answer (ruleBytes rule)) b′ r out′
-        → DeliveredTwo (ruled o) l b′ (toZ w64 n) out out′
+        → DeliveredTwo (ruled (length b′) o) l b′ (toZ w64 n) out out′
     unfolding onward code bufferHolds forget
     two-written {b′} {out′} room d =
         let f = fit in
-        let e : bothFit (ruled o) (length l) (length b′) ≡ answer (f .text, ruleBytes rule)
-        = ap (λ (x : Outcome (List ℕ × Rule)). bothFit (ruled x) (length l) (length b′)) (f .same)
+        let e : bothFit (ruled (length b′) o) (length l) (length b′) ≡ answer (f .text, ruleBytes rule)
+        = ap (λ (x : Outcome (List ℕ × Rule)). bothFit (ruled (length b′) x) (length l) (length b′)) (f .same)
         ∙ both (f .text) rule (length l) (length b′) (f .within) room in
         record {
           returned = toZ-pos w64 {n = n} (omega (arith, small)) ∙ ap pos (sym (f .count))
@@ -172,8 +179,23 @@ module _ (o : Outcome (List ℕ × Rule)) (few : (t : List ℕ) → forget o ≡
           holds-second = d .holds ∙ sym (ap (λ (x : Outcome (List ℕ × List ℕ)). bufferHolds (onward x (λ q. answer (q .1))) b′) e);
         }
 
+    -- no rule is asked for
+    pub alone-written : DeliveredTwo (ruled 0 o) l [] (toZ w64 n) out []
+    unfolding onward code bufferHolds bufferAfter forget
+    alone-written =
+        let f = fit in
+        let e : bothFit (ruled 0 o) (length l) 0 ≡ answer (f .text, [])
+        = ap (λ (x : Outcome (List ℕ × Rule)). bothFit (ruled 0 x) (length l) 0) (f .same) ∙ alone (f .text) rule (length l) (f .within) in
+        record {
+          returned = toZ-pos w64 {n = n} (omega (arith, small)) ∙ ap pos (sym (f .count))
+              ∙ sym (ap (λ (x : Outcome (List ℕ × List ℕ)). code (onward x (λ q. answer (length (q .0))))) e);
+          holds = p .holds ∙ ap (λ (x : Outcome (List ℕ × Rule)). bufferHolds (forget x) l) (f .same)
+              ∙ sym (ap (λ (x : Outcome (List ℕ × List ℕ)). bufferHolds (onward x (λ q. answer (q .0))) l) e);
+          holds-second = sym (ap (λ (x : Outcome (List ℕ × List ℕ)). bufferHolds (onward x (λ q. answer (q .1))) []) e);
+        }
+
   pub two-refused : {k : ℕ} {r : ℤ} (b′ : List ℕ) → mag r < 2 ^ 63 → res ≡ Refused k → r ≡ code (refusal k)
-      → DeliveredTwo (ruled o) l b′ (toZ w64 (ofZ w64 r)) out b′
+      → DeliveredTwo (ruled (length b′) o) l b′ (toZ w64 (ofZ w64 r)) out b′
   unfolding textByRuleOutcome onward bufferHolds
   two-refused {k} b′ ok is c =
       let (e, f) = not-fitted o l (length b′) k (sym (p .says) ∙ ap textByRuleOutcome is) in
@@ -194,3 +216,26 @@ text-few Expanded rows jd t e = by (expanded-text-length rows jd t (sym (expande
     by : (length t ≡ 23) ⊎ (length t ≡ 27) → length t ≤ 64
     by (inl h) = omega arith
     by (inr h) = omega arith
+
+-- ---- fewer bytes for the rule than it has
+no-length : (b : List ℕ) → length b ≡ 0 → [] ≡ b
+no-length [] e = refl
+no-length (x ∷ b) e = absurd (let no : ⊥ = omega (arith, e) in no)
+
+pub none-lent : (o : Outcome (List ℕ × Rule)) (l out b : List ℕ) (room : ℕ) {r : ℤ} → mag r < 2 ^ 63 → room ≡ 0 → length b ≡ room
+    → DeliveredTwo (ruled 0 o) l [] r out [] → DeliveredTwo (ruled room o) l b (toZ w64 (ofZ w64 r)) out b
+none-lent o l out b room {r} ok none e d =
+    subst (λ (z : ℤ). DeliveredTwo (ruled room o) l b z out b) (sym (code-back ok))
+    (subst (λ (k : ℕ). DeliveredTwo (ruled k o) l b r out b) (sym none)
+    (subst (λ (x : List ℕ). DeliveredTwo (ruled 0 o) l x r out x) (no-length b (e ∙ none)) d))
+
+pub few-lent : (o : Outcome (List ℕ × Rule)) (l b : List ℕ) (room : ℕ) {r : ℤ} → mag r < 2 ^ 63 → room < 8 → (room ≡ 0 → ⊥) → length b ≡ room
+    → r ≡ code (noRoom o) → DeliveredTwo (ruled room o) l b (toZ w64 (ofZ w64 r)) l b
+few-lent o l b room {r} ok few some e c =
+    subst (λ (k : ℕ). DeliveredTwo (ruled k o) l b (toZ w64 (ofZ w64 r)) l b) e
+    (short-rule o l b ok (omega (arith, few, e)) (λ z. some (sym e ∙ z)) c)
+
+pub short-lent : (o : Outcome (List ℕ × Rule)) (l out b : List ℕ) {r : ℤ} → mag r < 2 ^ 63
+    → ((b′ : List ℕ) → length b′ ≡ length b → DeliveredTwo (ruled (length b) o) l b′ r out b′)
+    → DeliveredTwo (ruled (length b) o) l b (toZ w64 (ofZ w64 r)) out b
+short-lent o l out b {r} ok d = subst (λ (z : ℤ). DeliveredTwo (ruled (length b) o) l b z out b) (sym (code-back ok)) (d b refl)

@@ -1,7 +1,10 @@
 -- A text by one of the three forms of text, and its rule for two buffers. Written from document 02, item 5 (the text calls pass on the rule), and document 01,
 -- "Refusals by number" (11 is judged last). Assumes nothing.
-use Prim.Native.Nat.{ℕ}
-use mathlib.Core.List.{List}
+use Prim.Native.Nat.{ℕ, zero, suc}
+use mathlib.Core.Path.{_≡_}
+use mathlib.Core.List.{List, []}
+use lib.ListN.{length}
+use lib.IntN.{ℤ}
 use Rattle.refusals.specs.Outcome.{Outcome, answer, refusal, onward}
 use Rattle.leap_table.specs.declared.offsets.Rule.{Rule}
 use Rattle.utc.specs.iso_texts.TextForm.{TextForm}
@@ -9,6 +12,7 @@ use Rattle.utc.specs.iso_texts.IsoText.{standardForm}
 use Rattle.utc.specs.iso_texts.HalfEven.{halfEvenForm}
 use Rattle.utc.specs.iso_texts.Expanded.{expandedForm}
 use Rattle.c_answers.specs.rules.RuleFields.{ruleBytes}
+use Rattle.c_answers.specs.TwoBuffers.{DeliveredTwo}
 use Rattle.capi.specs.declared.text_calls.NamedForm.{NamedForm}
 use Rattle.capi.specs.declared.text_calls.NamedForm.the-variants.{Document01, HalfEven, Expanded}
 
@@ -18,10 +22,19 @@ formNamed Document01 = standardForm
 formNamed HalfEven = halfEvenForm
 formNamed Expanded = expandedForm
 
--- the text, and the 8 bytes of its rule
-unfoldable pub ruled : Outcome (List ℕ × Rule) → Outcome (List ℕ × List ℕ)
-ruled o = onward o (λ t. answer (t .0, ruleBytes (t .1)))
+-- what goes into a second buffer of so many bytes: a buffer of none asks for no rule
+unfoldable pub askedRule : ℕ → Rule → List ℕ
+askedRule zero rule = []
+askedRule (suc room) rule = ruleBytes rule
 
--- where the second buffer is too short: 11 unless the text is refused
+-- the text, and the 8 bytes of its rule where it is asked for
+unfoldable pub ruled : ℕ → Outcome (List ℕ × Rule) → Outcome (List ℕ × List ℕ)
+ruled room o = onward o (λ t. answer (t .0, askedRule room (t .1)))
+
+-- where the second buffer has bytes, but too few: 11 unless the text is refused
 unfoldable pub noRoom : Outcome (List ℕ × Rule) → Outcome ℕ
 noRoom o = onward o (λ t. refusal 11)
+
+-- delivered beside any second buffer of so many bytes, which stays as it was
+abbrev pub DeliveredBeside : ℕ → Outcome (List ℕ × Rule) → List ℕ → ℤ → List ℕ → Type 0
+DeliveredBeside room o before r after = (second : List ℕ) → length second ≡ room → DeliveredTwo (ruled room o) before second r after second

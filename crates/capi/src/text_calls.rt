@@ -1,7 +1,9 @@
-// UTC as text by each of the three forms of text, with the rule of its day in a buffer of its own. Each form of text has its own way from the table to the
-// text: one way for a form of text by name takes 47 to 73 instructions a call more.
+// UTC as text by each of the three forms of text, with the rule of its day in a buffer of its own where one is lent. Each form of text has its own way from
+// the table to the text: one way for a form of text by name takes 47 to 73 instructions a call more.
 ghost use mathlib.Core.Path.{_≡_};
-ghost use Prim.Native.Nat.{ℕ};
+ghost use Prim.Native.Nat.{ℕ, _<_};
+ghost use mathlib.Core.List.{[]};
+ghost use lib.ListN.{length};
 ghost use Rattle.refusals.specs.Outcome.{refusal, onward};
 ghost use Rattle.julian.specs.JulianDate.{julian};
 ghost use Rattle.leap_table.specs.rows.Announced.{rowsIn};
@@ -9,7 +11,7 @@ ghost use Rattle.utc.specs.iso_texts.ByRule.{textByRule, isoTextByRule, halfEve
 ghost use Rattle.c_answers.specs.table.TableBytes.{tableBytes};
 ghost use Rattle.c_answers.specs.Delivery.{code};
 ghost use Rattle.c_answers.specs.TwoBuffers.{DeliveredTwo};
-ghost use Rattle.capi.specs.TextRule.{ruled, noRoom, formNamed};
+ghost use Rattle.capi.specs.TextRule.{ruled, noRoom, formNamed, DeliveredBeside};
 use c_answers::refused;
 use c_answers::table::arrays;
 use julian::JulianDate;
@@ -76,6 +78,44 @@ fn no_room_for_rule<'a>(
     }
 }
 
+// The text alone, where no rule is asked for.
+fn text_alone<'a>(
+    textForm: NamedForm,
+    date: UTC,
+    size: usize,
+    months: &'a [i32; 16],
+    seconds: &'a [i32; 16],
+    out: &mut [u8],
+) -> i64
+    ensures { λ r. ⌜ DeliveredTwo (ruled 0 (textByRule (formNamed textForm) (rowsIn size (now (months .entry)) (now (seconds .entry))) (date .0)))
+        (now (out .entry)) [] r (now (out .exit)) [] ⌝ }
+{
+    match text_by(textForm, date, size, months, seconds, out) {
+        TextByRule::Refused(number) => refused(number),
+        TextByRule::Written(n, _) => n as i64,
+    }
+}
+
+// With fewer bytes for the rule than it has: none asks for none.
+fn with_short_rule<'a>(
+    textForm: NamedForm,
+    date: UTC,
+    size: usize,
+    months: &'a [i32; 16],
+    seconds: &'a [i32; 16],
+    out: &mut [u8],
+    room: usize,
+) -> i64
+    requires { ⌜ room < 8 ⌝ }
+    ensures { λ r. ⌜ DeliveredBeside room (textByRule (formNamed textForm) (rowsIn size (now (months .entry)) (now (seconds .entry))) (date .0))
+        (now (out .entry)) r (now (out .exit)) ⌝ }
+{
+    if room == 0 {
+        return text_alone(textForm, date, size, months, seconds, out);
+    }
+    no_room_for_rule(textForm, date, size, months, seconds)
+}
+
 fn put_text<'a>(
     date: UTC,
     size: usize,
@@ -84,11 +124,19 @@ fn put_text<'a>(
     out: &mut [u8],
     rule: &mut [u8],
 ) -> i64
-    ensures { λ r. ⌜ DeliveredTwo (ruled (isoTextByRule (rowsIn size (now (months .entry)) (now (seconds .entry))) (date .0))) (now (out .entry))
+    ensures { λ r. ⌜ DeliveredTwo (ruled (length (now (rule .entry))) (isoTextByRule (rowsIn size (now (months .entry)) (now (seconds .entry))) (date .0))) (now (out .entry))
         (now (rule .entry)) r (now (out .exit)) (now (rule .exit)) ⌝ }
 {
     if rule.len() < 8 {
-        return no_room_for_rule(NamedForm::Document01, date, size, months, seconds);
+        return with_short_rule(
+            NamedForm::Document01,
+            date,
+            size,
+            months,
+            seconds,
+            out,
+            rule.len(),
+        );
     }
     match utc::iso_texts::to_iso8601_by_lent(date, size, months, seconds, out) {
         TextByRule::Refused(number) => refused(number),
@@ -107,11 +155,19 @@ fn put_half_even<'a>(
     out: &mut [u8],
     rule: &mut [u8],
 ) -> i64
-    ensures { λ r. ⌜ DeliveredTwo (ruled (halfEvenByRule (rowsIn size (now (months .entry)) (now (seconds .entry))) (date .0))) (now (out .entry))
+    ensures { λ r. ⌜ DeliveredTwo (ruled (length (now (rule .entry))) (halfEvenByRule (rowsIn size (now (months .entry)) (now (seconds .entry))) (date .0))) (now (out .entry))
         (now (rule .entry)) r (now (out .exit)) (now (rule .exit)) ⌝ }
 {
     if rule.len() < 8 {
-        return no_room_for_rule(NamedForm::HalfEven, date, size, months, seconds);
+        return with_short_rule(
+            NamedForm::HalfEven,
+            date,
+            size,
+            months,
+            seconds,
+            out,
+            rule.len(),
+        );
     }
     match utc::iso_texts::to_iso8601_half_even_by_lent(date, size, months, seconds, out) {
         TextByRule::Refused(number) => refused(number),
@@ -130,11 +186,19 @@ fn put_expanded<'a>(
     out: &mut [u8],
     rule: &mut [u8],
 ) -> i64
-    ensures { λ r. ⌜ DeliveredTwo (ruled (expandedByRule (rowsIn size (now (months .entry)) (now (seconds .entry))) (date .0))) (now (out .entry))
+    ensures { λ r. ⌜ DeliveredTwo (ruled (length (now (rule .entry))) (expandedByRule (rowsIn size (now (months .entry)) (now (seconds .entry))) (date .0))) (now (out .entry))
         (now (rule .entry)) r (now (out .exit)) (now (rule .exit)) ⌝ }
 {
     if rule.len() < 8 {
-        return no_room_for_rule(NamedForm::Expanded, date, size, months, seconds);
+        return with_short_rule(
+            NamedForm::Expanded,
+            date,
+            size,
+            months,
+            seconds,
+            out,
+            rule.len(),
+        );
     }
     match utc::iso_texts::to_iso8601_expanded_by_lent(date, size, months, seconds, out) {
         TextByRule::Refused(number) => refused(number),
@@ -153,7 +217,7 @@ pub extern "C" fn ct_to_iso8601(
     out: &mut [u8],
     rule: &mut [u8],
 ) -> i64
-    ensures { λ r. ⌜ DeliveredTwo (ruled (onward (tableBytes (now (table .entry))) (λ rows. isoTextByRule rows (julian jd1 jd2)))) (now (out .entry))
+    ensures { λ r. ⌜ DeliveredTwo (ruled (length (now (rule .entry))) (onward (tableBytes (now (table .entry))) (λ rows. isoTextByRule rows (julian jd1 jd2)))) (now (out .entry))
         (now (rule .entry)) r (now (out .exit)) (now (rule .exit)) ⌝ }
 {
     let mut months = [0; 16];
@@ -176,7 +240,7 @@ pub extern "C" fn ct_to_iso8601_half_even(
     out: &mut [u8],
     rule: &mut [u8],
 ) -> i64
-    ensures { λ r. ⌜ DeliveredTwo (ruled (onward (tableBytes (now (table .entry))) (λ rows. halfEvenByRule rows (julian jd1 jd2)))) (now (out .entry))
+    ensures { λ r. ⌜ DeliveredTwo (ruled (length (now (rule .entry))) (onward (tableBytes (now (table .entry))) (λ rows. halfEvenByRule rows (julian jd1 jd2)))) (now (out .entry))
         (now (rule .entry)) r (now (out .exit)) (now (rule .exit)) ⌝ }
 {
     let mut months = [0; 16];
@@ -199,7 +263,7 @@ pub extern "C" fn ct_to_iso8601_expanded(
     out: &mut [u8],
     rule: &mut [u8],
 ) -> i64
-    ensures { λ r. ⌜ DeliveredTwo (ruled (onward (tableBytes (now (table .entry))) (λ rows. expandedByRule rows (julian jd1 jd2)))) (now (out .entry))
+    ensures { λ r. ⌜ DeliveredTwo (ruled (length (now (rule .entry))) (onward (tableBytes (now (table .entry))) (λ rows. expandedByRule rows (julian jd1 jd2)))) (now (out .entry))
         (now (rule .entry)) r (now (out .exit)) (now (rule .exit)) ⌝ }
 {
     let mut months = [0; 16];

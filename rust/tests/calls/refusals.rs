@@ -30,7 +30,7 @@ fn sentences_that_name_a_field() {
     assert_eq!(refusal(4).time_sentence(23, 59, 60.0, 1.0), "time is not in the day");
     let none = JulianDate::new(2451545.0, f64::NAN);
     assert_eq!(refusal(6).parts_sentence(none), "date is outside the calendar: sum 7ff8000000000000");
-    assert_eq!(refusal(9).parts_sentence(none), "part of the date is not finite: jd2 7ff8000000000000");
+    assert_eq!(refusal(9).parts_sentence(none), "part or sum of a date is not finite: jd2 7ff8000000000000");
     assert_eq!(refusal(7).float_sentence(1.5), "fraction is not 0 to 1: fraction 3ff8000000000000");
     assert_eq!(refusal(10).float_sentence(f64::INFINITY), "offset is not finite: offset 7ff0000000000000");
     assert_eq!(refusal(8).count_sentence(1_000_000_000), "nanoseconds are a second or more: nanoseconds 1000000000");

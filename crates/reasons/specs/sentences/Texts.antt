@@ -18,7 +18,7 @@ texts =
     asciiBytes "date is outside the calendar" ∷
     asciiBytes "fraction is not 0 to 1" ∷
     asciiBytes "nanoseconds are a second or more" ∷
-    asciiBytes "part of the date is not finite" ∷
+    asciiBytes "part or sum of a date is not finite" ∷
     asciiBytes "offset is not finite" ∷
     asciiBytes "answer is longer than its buffer" ∷
     asciiBytes "the two sizes differ" ∷

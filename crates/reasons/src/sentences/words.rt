@@ -23,7 +23,7 @@ pub(crate) fn text(number: u32, dst: &mut [u8]) -> usize
         6 => place_bytes(b"date is outside the calendar", dst, 0),
         7 => place_bytes(b"fraction is not 0 to 1", dst, 0),
         8 => place_bytes(b"nanoseconds are a second or more", dst, 0),
-        9 => place_bytes(b"part of the date is not finite", dst, 0),
+        9 => place_bytes(b"part or sum of a date is not finite", dst, 0),
         10 => place_bytes(b"offset is not finite", dst, 0),
         11 => place_bytes(b"answer is longer than its buffer", dst, 0),
         12 => place_bytes(b"the two sizes differ", dst, 0),

@@ -1,5 +1,5 @@
 -- `capi::text_calls::put_expanded` meets its contract. Assumes nothing.
-use Rattle.capi.proofs.TextRules.{short-rule, count-fits, two-written, two-refused, text-few}
+use Rattle.capi.proofs.TextRules.{short-lent, count-fits, two-written, two-refused, text-few}
 use Rattle.capi.specs.declared.text_calls.NamedForm.the-variants.{Expanded}
 use Rattle.capi.specs.TextRule.{formNamed}
 use borrow.Author.Needs.{needs}
@@ -8,7 +8,7 @@ use Rattle.capi.proofs.text_calls.put_expanded.Tie as tie
 
 returns : tie.Need-returns
 unfolding formNamed
-returns c = short-rule _ _ _ (c .no-room-for-rule .ok) (c .before .if1 .taken) (c .no-room-for-rule .ensures)
+returns c = short-lent _ _ _ _ (c .before .before .with-short-rule .ok) (c .before .before .with-short-rule .ensures)
 
 cast-result : tie.Need-cast-result
 unfolding formNamed
@@ -33,5 +33,5 @@ returns-3 c =
 pub put-expanded-spec : {M : Type 1} → statement M
 put-expanded-spec =
     tie.close
-    (tie.spec (λ c κs. search needs) returns (λ c κs. search needs) (λ c. search needs) (λ c κs. search needs) (λ c. search needs)
+    (tie.spec (λ c κs. search needs) (λ c. search needs) returns (λ c κs. search needs) (λ c. search needs) (λ c κs. search needs) (λ c. search needs)
     (λ c κs. search needs) cast-result (λ c. search needs) returns-2 (λ c. search needs) (λ c. search needs) returns-3)
