@@ -14,6 +14,7 @@ use Rattle.julian.specs.declared.JulianDate.{JulianDate}
 use Rattle.julian.specs.declared.CalendarFields.{CalendarFields}
 use Rattle.julian.specs.Calendar.{julianToCalendar}
 use Rattle.leap_table.specs.rows.Table.{Row}
+use Rattle.utc.specs.text.Ascii.{asciiBytes}
 use Rattle.utc.specs.iso_texts.Expanded.{isoTextExpanded}
 use Rattle.reasons.specs.declared.Values.{Values}
 use Rattle.reasons.specs.declared.Values.the-variants.{Date, Parts, Block}
@@ -28,17 +29,14 @@ use Rattle.stamps.specs.Block.{blockOf, stampAt}
 abbrev pub numeral : ℕ → List ℕ
 numeral n = digitsIn 4 n
 
--- "refused "
 abbrev pub refusedWord : List ℕ
-refusedWord = 114 ∷ 101 ∷ 102 ∷ 117 ∷ 115 ∷ 101 ∷ 100 ∷ 32 ∷ []
+refusedWord = asciiBytes "refused "
 
--- "utc listing "
 abbrev pub utcListingWords : List ℕ
-utcListingWords = 117 ∷ 116 ∷ 99 ∷ 32 ∷ 108 ∷ 105 ∷ 115 ∷ 116 ∷ 105 ∷ 110 ∷ 103 ∷ 32 ∷ []
+utcListingWords = asciiBytes "utc listing "
 
--- "block "
 abbrev pub blockWord : List ℕ
-blockWord = 98 ∷ 108 ∷ 111 ∷ 99 ∷ 107 ∷ 32 ∷ []
+blockWord = asciiBytes "block "
 
 -- the most bytes of a line: a line is begun only where so many are left
 unfoldable pub lineRoom : Reporting → ℕ

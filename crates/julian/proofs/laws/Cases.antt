@@ -146,7 +146,7 @@ difference-is-no-order = (refl, refl)
 -- ---- sums: 1.0 and 0.5; half a day more to 0.5 and 0.75 carries a day; 43,200 s are half a day
 
 pub rounded-sum : roundedSum (julian (ofBits binary64 0x3ff0_0000_0000_0000) (ofBits binary64 0x3fe0_0000_0000_0000)) ≡ ofBits binary64 0x3ff8_0000_0000_0000
-unfolding roundedSum add round ofBits
+unfolding roundedSum add sub neg round ofBits
 rounded-sum = refl
 
 pub a-day-carried : addDays (julian (ofBits binary64 0x3fe0_0000_0000_0000) (ofBits binary64 0x3fe8_0000_0000_0000)) (ofBits binary64 0x3fe0_0000_0000_0000)
@@ -158,3 +158,9 @@ pub half-a-day-of-seconds : addSeconds (julian (ofBits binary64 0x4142_b42c_8000
     ≡ julian (ofBits binary64 0x4142_b42c_8000_0000) (ofBits binary64 0x3fe0_0000_0000_0000)
 unfolding addSeconds addDays uncarried secondsPerDay toWhole add sub neg div round ofBits
 half-a-day-of-seconds = refl
+
+-- ---- from (1.0, 0.25) to (2.0, 0.5) are 1.25 days
+pub difference-of-parts : difference (julian (ofBits binary64 0x4000_0000_0000_0000) (ofBits binary64 0x3fe0_0000_0000_0000))
+    (julian (ofBits binary64 0x3ff0_0000_0000_0000) (ofBits binary64 0x3fd0_0000_0000_0000)) ≡ ofBits binary64 0x3ff4_0000_0000_0000
+unfolding difference add sub neg round ofBits
+difference-of-parts = refl
