@@ -1,4 +1,4 @@
--- Small lines, worked out: stamps are numbers. Each case says one number. Assumes nothing.
+-- Small lines, worked out: stamps are numbers. And the lengths at the ends of what is taken. Each case says one number. Assumes nothing.
 use Prim.Native.Nat.{ℕ}
 use mathlib.Core.Path.{_≡_, refl}
 use mathlib.Core.Bool.{Bool, true}
@@ -38,3 +38,19 @@ unordered-nine = refl
 refused-stays : tested (λ _. true) 6 3 ≡ 6
 unfolding tested
 refused-stays = refl
+
+-- ---- A WITNESS AT EACH END: the customer's three runs of nine million stamps and more, the most that four bytes can number, and one more
+pub counts-taken :
+    (lineRefusal 134217728 134217728 16777216 0 0 67108864 ≡ 0) × (lineRefusal 216000000 216000000 27000000 9000000 9000000 108000000 ≡ 0)
+    × (lineRefusal 34359738360 34359738360 4294967295 4294967295 0 17179869180 ≡ 0)
+    × (lineRefusal 34359738368 34359738368 4294967296 4294967296 0 17179869184 ≡ 13) × (lineRefusal 0 0 0 0 0 0 ≡ 0)
+unfolding lineRefusal
+counts-taken = (refl, refl, refl, refl, refl)
+
+-- calls that break one rule and all behind it
+pub line-refusals-in-order :
+    (lineRefusal 15 16 3 4 0 0 ≡ 14) × (lineRefusal 16 15 3 4 0 0 ≡ 14) × (lineRefusal 16 24 3 4 0 0 ≡ 12) × (lineRefusal 24 16 3 4 0 0 ≡ 12)
+    × (lineRefusal 24 24 3 4 0 0 ≡ 14) × (lineRefusal 24 24 3 2 2 0 ≡ 14) × (lineRefusal 34359738368 34359738368 4294967296 0 0 0 ≡ 13)
+    × (lineRefusal 24 24 3 2 1 11 ≡ 11) × (lineRefusal 24 24 3 2 1 12 ≡ 0)
+unfolding lineRefusal
+line-refusals-in-order = (refl, refl, refl, refl, refl, refl, refl, refl, refl)

@@ -3,12 +3,12 @@ use Prim.Native.Nat.{ℕ, zero, suc, _+_, _-_, _<_, _≤_}
 use native.Mathlib.Omega.{arith}
 use mathlib.Core.Path.{_≡_, refl, ap, _∙_}
 use mathlib.Core.Bool.{Bool, true, false, cond}
-use mathlib.Core.List.{List, [], _∷_, map}
+use mathlib.Core.List.{List, [], _∷_, _++_, map}
 use lib.Dec.{eqb, ltb}
 use lib.ListN.{length, getD, List·getD-map, List·getD-eq-default}
 use borrow.Author.Tests.{ltb-true, ltb-false}
 use Rattle.line_up.specs.Runs.{zeros, timesIn}
-use Rattle.line_up.specs.laws.Claims.{notInLine}
+use Rattle.line_up.specs.laws.Claims.{notInLine, zerosIn}
 use Rattle.line_up.proofs.Zeros.{timesIn-zeros}
 
 abbrev flip : ℕ → ℕ
@@ -54,3 +54,19 @@ once-in false p ms h =
 
 pub two-lists : (p : ℕ) (ms : List ℕ) → cond (eqb (getD ms p 1) 0) 1 0 + timesIn p (notInLine 0 ms) ≡ cond (ltb p (length ms)) 1 0
 two-lists p ms = ap (λ (k : ℕ). cond (eqb (getD ms p 1) 0) 1 0 + k) (timesIn-notInLine p ms) ∙ once-in (ltb p (length ms)) p ms refl
+
+-- ---- as many places as numbers that are 0
+
+length-one : (t : Bool) (i n : ℕ) (xs : List ℕ) → length xs ≡ n → length (cond t (i ∷ xs) xs) ≡ cond t 1 0 + n
+length-one true i n xs h = omega arith
+length-one false i n xs h = omega arith
+
+pub zeros-counted : (i : ℕ) (ms : List ℕ) → length (zeros i ms) ≡ zerosIn ms
+unfolding zeros zerosIn
+zeros-counted i [] = refl
+zeros-counted i (m ∷ ms) = length-one (eqb m 0) i (zerosIn ms) (zeros (suc i) ms) (zeros-counted (suc i) ms)
+
+pub zerosIn-append : (ms ns : List ℕ) → zerosIn (ms ++ ns) ≡ zerosIn ms + zerosIn ns
+unfolding zerosIn
+zerosIn-append [] ns = omega arith
+zerosIn-append (m ∷ ms) ns = omega (arith, zerosIn-append ms ns)

@@ -5,7 +5,7 @@ use native.Mathlib.Omega.{arith}
 use mathlib.Core.Path.{_≡_, refl, sym, ap, _∙_, subst}
 use mathlib.Core.Bool.{Bool, true, false, not, cond}
 use mathlib.Core.Logic.{_⊎_, inl, inr}
-use mathlib.Core.List.{List, [], _∷_}
+use mathlib.Core.List.{List, [], _∷_, _++_}
 use lib.Dec.{T, eqb, ltb}
 use lib.ListN.{length, getD}
 use lib.Seq.{slice}
@@ -26,6 +26,7 @@ use Rattle.line_up.specs.Runs.{allTested, run, numbersAfter, zeros, merg
 use Rattle.julian.specs.stamp_lists.Stamps.{stampOf}
 use Rattle.line_up.specs.LineUp.{unorderedAt, soonerAt, leastRoom, lineRefusal, lineWritten, putInLine, linedUp}
 use Rattle.line_up.proofs.Cases.{fine}
+use Rattle.line_up.proofs.Merges.{length-merge}
 use Rattle.line_up.proofs.Testing.{tested-length}
 use Rattle.line_up.proofs.Places.{place-timesIn, after-length, ordered-rises, ordered-runs, first-run, second-run, third-run}
 use Rattle.line_up.specs.keep.Piles.{OrderLaws, All, EachZero}
@@ -34,8 +35,8 @@ use Rattle.line_up.proofs.keep.Theorems.{kept-chosen}
 use Rattle.line_up.proofs.keep.OfRuns.{zeros-ok, slice-most}
 use Rattle.line_up.proofs.Marks.{run-rises}
 use Rattle.line_up.specs.laws.Claims.{Floats, by, notInLine, Each, Pairs, InOrder, Contrary, RunJudged, RightlyIn, Overtaken, LineVerdict}
-use Rattle.line_up.specs.laws.Claims.{RunMost, OneLine, Lined}
-use Rattle.line_up.proofs.laws.Once.{any-default, two-lists}
+use Rattle.line_up.specs.laws.Claims.{RunMost, OneLine, zerosIn, Lined}
+use Rattle.line_up.proofs.laws.Once.{any-default, two-lists, zeros-counted, zerosIn-append}
 use Rattle.line_up.proofs.Unordered.{kept, nine, stays, zero-sound}
 use Rattle.line_up.proofs.laws.Judging.{judged, right}
 use Rattle.line_up.proofs.laws.Pairwise.{each-merge, rising-pairs, pairs-map, member, each-of-timesIn, one-list}
@@ -332,6 +333,25 @@ module _ (date : ℕ → JulianDate) (floats : (p : ℕ) → Floats (date p)) (c
       rw r (slice-most (by date) ns from to ft tn (Sound date floats) (sound-order date floats) (λ p g k z. sound p (omega (arith, k, tn)) z) xs u
       (zero-still to (omega (arith, tn, same)) xs e) rs)
 
+  -- THE COUNT: as many as numbers that are 0 after the call
+  line-counted : length line ≡ zerosIn after
+  unfolding line after numbersAfter
+  line-counted =
+      let r1 = run (by date) ns 0 a in
+      let r2 = run (by date) ns a b in
+      let r3 = run (by date) ns b (length ns) in
+      ap length (ordered-runs (by date) ns a b (length ns) ab bn (omega arith))
+      ∙ omega (
+        arith,
+        length-merge (by date) (merge (by date) (zeros 0 r1) (zeros a r2)) (zeros b r3),
+        length-merge (by date) (zeros 0 r1) (zeros a r2),
+        zeros-counted 0 r1,
+        zeros-counted a r2,
+        zeros-counted b r3,
+        zerosIn-append r1 (r2 ++ r3),
+        zerosIn-append r2 r3,
+      )
+
   one-line : OneLine date come a b line after
   one-line =
       let r1 : slice 0 a after ≡ run (by date) ns 0 a = slice-1 in
@@ -377,6 +397,7 @@ module _ (js ks come : List ℕ) (first second : ℕ) (out : List ℕ) (tails ra
       (record {
         line = line (stampOf js ks) (bytes-floats js ks) come first (first + second) up fit;
         answers = refl;
+        counted = line-counted (stampOf js ks) (bytes-floats js ks) come first (first + second) up fit;
         places = refl;
         right = one-line (stampOf js ks) (bytes-floats js ks) come first (first + second) up fit;
       })

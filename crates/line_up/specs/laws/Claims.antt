@@ -103,9 +103,15 @@ pub record OneLine (date : ℕ → JulianDate) (ns : List ℕ) (a b : ℕ) (line
   pub in-order : Pairs (InOrder date) line
   pub only : (ys : List ℕ) → ((p : ℕ) → timesIn p ys ≡ cond (eqb (getD ms p 1) 0) 1 0) → Pairs (InOrder date) ys → ys ≡ line
 
+-- how many of the numbers are 0
+unfoldable pub zerosIn : List ℕ → ℕ
+zerosIn [] = 0
+zerosIn (m ∷ ms) = cond (eqb m 0) 1 0 + zerosIn ms
+
 -- what a call that is not refused answers and leaves
 pub record Lined (js ks ns : List ℕ) (first second : ℕ) (out : List ℕ) (l : LinedUp) : Type 0 where
   pub line : List ℕ
   pub answers : l .answer ≡ answer (length line)
+  pub counted : length line ≡ zerosIn (l .numbers)
   pub places : l .out ≡ placesBytes line ++ drop (4 * length line) out
   pub right : OneLine (stampOf js ks) ns first (first + second) line (l .numbers)
