@@ -5,3 +5,4 @@ pub mod Ladder
 pub mod Times
 -- Cases: closed cases of a bill.
 pub mod Cases
+pub mod Elapsed

@@ -3,5 +3,7 @@
 pub mod Times
 pub mod Bills
 pub mod Answers
+-- Midnights and the clock between them, in which the laws of elapsed time are stated.
+pub mod Elapsed
 -- What the functions below the call ask and ensure.
 pub mod Asked

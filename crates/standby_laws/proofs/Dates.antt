@@ -19,6 +19,7 @@ use Rattle.calendar.proofs.Days.{after, date-at-in-calendar}
 use Rattle.calendar.proofs.Years.{years-later}
 use Rattle.calendar.proofs.Mjd.{day-of-date}
 use Rattle.standby.proofs.Times.{mjd-natural}
+use Rattle.standby.proofs.Elapsed.{year-later}
 use Rattle.standby_laws.specs.Fields.{lessBy}
 
 -- ---- a date as one number, month and day in places of 13 and 32
@@ -30,10 +31,6 @@ keyOf t = key (natAbs (t .year)) (t .month) (t .day)
 
 abbrev From : ℤ → Type 0
 From z = ltZ z (pos 1972) ≡ false
-
-pub year-later : (z : ℤ) → From z → From (sucℤ z)
-year-later (pos n) e = le-ltb (suc n) 1972 (omega (arith, ltb-false n 1972 e))
-year-later (negsuc n) e = absurd (true≢false e)
 
 one-year : (z : ℤ) → From z → natAbs (sucℤ z) ≡ natAbs z + 1
 one-year (pos n) e = omega arith

@@ -8,7 +8,7 @@ use Prim.Native.Nat.{ℕ, suc, _+_, _-_, _*_, _^_, _≤_, _<_}
 use native.Mathlib.Omega.{arith}
 use native.Mathlib.Nat.{le-of-lt, add-zero, one-mul, mul-le-mul-right}
 use lib.Dec.{T, lit<, lit≤, eqb, ltb}
-use lib.IntN.{ℤ, pos, negsuc, natAbs, sucℤ}
+use lib.IntN.{ℤ, pos, negsuc, natAbs}
 use lib.Signed.{ltZ}
 use lib.Ieee.{Float, binary64, round, ofInt, ofBits, add, lt, le}
 use lib.Ieee.Order.{round-mono}
@@ -22,12 +22,11 @@ use Rattle.rounding.proofs.Compare.{lt-val, le-true}
 use Rattle.rounding.proofs.Near.{Near, rounds-near}
 use Rattle.constants.specs.Constants.{decimal}
 use Rattle.calendar.specs.declared.CalendarDate.{CalendarDate}
-use Rattle.calendar.specs.Calendar.{date, monthLength}
+use Rattle.calendar.specs.Calendar.{monthLength}
 use Rattle.calendar.specs.Refusals.{validDate, nextOf}
 use Rattle.calendar.specs.DayCount.{mjdNumber}
 use Rattle.calendar.proofs.Accepted.{date-accepted}
 use Rattle.calendar.proofs.NextDates.{next-is, next-in-calendar}
-use Rattle.calendar.proofs.Years.{next-keeps}
 use Rattle.julian.specs.declared.JulianDate.{JulianDate}
 use Rattle.julian.specs.DayFraction.{secondLimit, timeInDay, dayFraction}
 use Rattle.leap_table.specs.declared.rows.AnnouncedRows.{AnnouncedRows}
@@ -49,6 +48,7 @@ use Rattle.parsing_laws.proofs.UtcTimes.{not-negative, second-below}
 use Rattle.standby.specs.declared.UtcTime.{UtcTime}
 use Rattle.standby.specs.Times.{lastMinute, inItsDay, taiMs, instantOn, instant}
 use Rattle.standby.proofs.Times as Given
+use Rattle.standby.proofs.Elapsed.{next-from}
 use Rattle.standby_laws.specs.Verdict.{faultOf, asCalendar}
 
 -- ---- a second of milliseconds is not below a whole number that it reaches, as a float too
@@ -190,10 +190,6 @@ module _ (table : AnnouncedRows) (rows : List Row) (taken : tableOf table ≡ an
   unfolding wholeSeconds
   whole-here y m p g h = rw (p, le-ltb m 1 g, le-ltb 12 m h)
 
-  year-later : (z : ℤ) → ltZ z (pos 1972) ≡ false → ltZ (sucℤ z) (pos 1972) ≡ false
-  year-later (pos n) e = le-ltb (suc n) 1972 (omega (arith, ltb-false n 1972 e))
-  year-later (negsuc n) e = absurd (true≢false e)
-
   month-after : (y : ℤ) (m d : ℤ) (s : CalendarDate) → ltZ y (pos 1972) ≡ false → nextOf y m d ≡ answer s → (b : Bool)
       × (monthNumber (s .year) (s .month) ≡ cond b (monthNumber y (natAbs m)) (suc (monthNumber y (natAbs m))))
   unfolding monthNumber
@@ -226,9 +222,7 @@ module _ (table : AnnouncedRows) (rows : List Row) (taken : tableOf table ≡ an
       late-here = late y m p (date-accepted y (pos m) (pos d) (next-is y (pos m) (pos d) s e .0) .m-low)
 
       year-after : ltZ (s .year) (pos 1972) ≡ false
-      year-after =
-          subst (λ (x : CalendarDate). ltZ (x .year) (pos 1972) ≡ false) (sym (next-is y (pos m) (pos d) s e .1))
-          (next-keeps (λ x. ltZ x (pos 1972) ≡ false) year-later (date y m d) p)
+      year-after = next-from t p s e
 
       late-after : 23664 ≤ n′
       late-after = late (s .year) (s .month) year-after (next-in-calendar y (pos m) (pos d) s e .m-low)

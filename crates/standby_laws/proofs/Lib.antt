@@ -7,3 +7,4 @@ pub mod Faults
 pub mod Exact
 pub mod Dates
 pub mod Order
+pub mod Elapsed

@@ -3,34 +3,34 @@
 use mathlib.Core.Path.{_≡_, refl, ap, sym, subst, _∙_}
 use mathlib.Core.Bool.{Bool, true, false, true≢false, cond, _&&_}
 use mathlib.Core.List.{List, [], _∷_}
-use Prim.Native.Nat.{ℕ, suc, _+_, _-_, _*_, _≤_, _<_}
+use Prim.Native.Nat.{ℕ, _+_, _-_, _*_, _≤_, _<_}
 use native.Mathlib.Omega.{arith}
 use lib.Dec.{ltb, leb, eqb}
-use lib.IntN.{pos, natAbs, sucℤ}
+use lib.IntN.{pos, natAbs}
 use lib.Signed.{ltZ}
 use borrow.Author.Tests.{ltb-true, ltb-false, lt-ltb, le-ltb, leb-true, eqb-true, eqb-false}
 use Rattle.refusals.specs.Outcome.{answer, refusal}
 use Rattle.calendar.specs.declared.CalendarDate.{CalendarDate}
-use Rattle.calendar.specs.Calendar.{date, leapYear}
+use Rattle.calendar.specs.Calendar.{leapYear}
 use Rattle.calendar.specs.Refusals.{validDate, nextOf}
 use Rattle.calendar.proofs.Accepted.{Accepted, date-accepted, short}
-use Rattle.calendar.proofs.Mjd.{mjd-given, same-answer}
-use Rattle.calendar.proofs.NextDates.{next-is, next-in-calendar, next-accepted, next-mjd}
-use Rattle.calendar.proofs.Years.{next-keeps}
+use Rattle.calendar.proofs.Mjd.{same-answer}
+use Rattle.calendar.proofs.NextDates.{next-is, next-in-calendar, next-accepted}
 use Rattle.leap_table.specs.declared.rows.AnnouncedRows.{AnnouncedRows}
 use Rattle.leap_table.specs.rows.Table.{Row, mostSeconds}
 use Rattle.leap_table.specs.rows.Announced.{tableOf}
 use Rattle.leap_table.specs.offsets.WholeSeconds.{wholeSeconds}
 use Rattle.standby.specs.declared.UtcTime.{UtcTime}
 use Rattle.standby.specs.Times.{offsetOnDate, offsetAfter, lastMinute, inItsDay, timeSeconds, mjdDay, taiMs, instant}
-use Rattle.standby.proofs.Times.{offset-small, mjd-natural}
+use Rattle.standby.proofs.Times.{offset-small}
+use Rattle.standby.proofs.Elapsed.{next-from, day-after}
 use Rattle.standby_laws.specs.Decisions.{TimeDecision, early, no-day, no-time, given}
 use Rattle.standby_laws.specs.Fields.{sevenFields, lessBy}
 use Rattle.standby_laws.proofs.Decided.{time-decided}
-use Rattle.standby_laws.proofs.Dates.{key, mjd, smaller, year-later, earlier-day, same-date, date-less, date-more, date-level}
+use Rattle.standby_laws.proofs.Dates.{key, mjd, smaller, earlier-day, same-date, date-less, date-more, date-level}
 
 -- ---- a time of a day whose last minute has `last` seconds
-record InDay (t : UtcTime) (last : ℕ) : Type 0 where
+pub record InDay (t : UtcTime) (last : ℕ) : Type 0 where
   hours : t .hour ≤ 23
   minutes : t .minute ≤ 59
   milliseconds : t .millis ≤ 999
@@ -137,14 +137,14 @@ time-order a b la lb p q = go (eqb (a .hour) (b .hour)) refl (eqb (a .minute) (b
 -- ---- two times that are not refused
 module _ (table : AnnouncedRows) (rows : List Row) (taken : tableOf table ≡ answer rows) where
   -- what is known of one
-  record Known (t : UtcTime) : Type 0 where
-    from : ltZ (t .year) (pos 1972) ≡ false
-    after : CalendarDate
-    has-next : nextOf (t .year) (pos (t .month)) (pos (t .day)) ≡ answer after
-    time : InDay t (lastMinute rows t after)
-    is : instant rows t ≡ answer (taiMs rows t)
+  pub record Known (t : UtcTime) : Type 0 where
+    pub from : ltZ (t .year) (pos 1972) ≡ false
+    pub after : CalendarDate
+    pub has-next : nextOf (t .year) (pos (t .month)) (pos (t .day)) ≡ answer after
+    pub time : InDay t (lastMinute rows t after)
+    pub is : instant rows t ≡ answer (taiMs rows t)
 
-  known : (t : UtcTime) (s : ℕ) → instant rows t ≡ answer s → Known t
+  pub known : (t : UtcTime) (s : ℕ) → instant rows t ≡ answer s → Known t
   known t s e = go (time-decided rows t)
     where
       no : (k : ℕ) → instant rows t ≡ refusal k → Known t
@@ -171,9 +171,7 @@ module _ (table : AnnouncedRows) (rows : List Row) (taken : tableOf table ≡ an
 
     -- the next date is from 1972 on too, and a day later
     from-after : ltZ (k .after .year) (pos 1972) ≡ false
-    from-after =
-        subst (λ (x : CalendarDate). ltZ (x .year) (pos 1972) ≡ false) (sym (next-is (t .year) (pos (t .month)) (pos (t .day)) (k .after) (k .has-next) .1))
-        (next-keeps (λ x. ltZ x (pos 1972) ≡ false) year-later (date (t .year) (t .month) (t .day)) (k .from))
+    from-after = next-from t (k .from) (k .after) (k .has-next)
 
     after-range : (10 ≤ offsetAfter rows (k .after)) × (offsetAfter rows (k .after) ≤ mostSeconds)
     after-range =
@@ -183,14 +181,8 @@ module _ (table : AnnouncedRows) (rows : List Row) (taken : tableOf table ≡ an
     valid-after : validDate (k .after .year) (pos (k .after .month)) (pos (k .after .day)) ≡ answer tt
     valid-after = next-accepted (t .year) (pos (t .month)) (pos (t .day)) (k .after) (k .has-next)
 
-    day-after : mjd (k .after .year) (k .after .month) (k .after .day) ≡ mjdDay t + 1
-    day-after =
-        let e = next-mjd (t .year) (pos (t .month)) (pos (t .day)) (k .after) (k .has-next) _ (mjd-given (t .year) (pos (t .month)) (pos (t .day)) valid) in
-        let f = mjd-given (k .after .year) (pos (k .after .month)) (pos (k .after .day)) valid-after in
-        ap natAbs (same-answer (sym f ∙ e) ∙ ap sucℤ (mjd-natural (t .year) (pos (t .month)) (pos (t .day)) (k .from))) ∙ one (mjdDay t)
-      where
-        one : (n : ℕ) → suc n ≡ n + 1
-        one n = omega arith
+    a-day-on : mjd (k .after .year) (k .after .month) (k .after .day) ≡ mjdDay t + 1
+    a-day-on = day-after t (k .from) (k .after) (k .has-next)
 
     -- the time ends before the next midnight in TAI
     before-midnight : timeSeconds t + offsetOnDate rows t < 86400 + offsetAfter rows (k .after)
@@ -206,7 +198,7 @@ module _ (table : AnnouncedRows) (rows : List Row) (taken : tableOf table ≡ an
         next-day : mjdDay a + 1 ≡ mjdDay b → offsetAfter rows (p .after) ≡ offsetOnDate rows b
         next-day e =
             let s = same-date (p .after .year) (p .after .month) (p .after .day) (from-after a p) (valid-after a p) (b .year) (b .month) (b .day) (q .from)
-            (valid b q) (day-after a p ∙ e) in
+            (valid b q) (a-day-on a p ∙ e) in
             ap (λ (x : CalendarDate). wholeSeconds rows (x .year) (x .month)) s
 
         go : (t : Bool) → eqb (mjdDay a + 1) (mjdDay b) ≡ t

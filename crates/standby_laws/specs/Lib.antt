@@ -4,3 +4,4 @@ pub mod Decisions
 pub mod Meaning
 pub mod Verdict
 pub mod Fields
+pub mod Elapsed
