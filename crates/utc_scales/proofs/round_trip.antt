@@ -21,6 +21,8 @@ pub mod Ordered
 pub mod Steps
 -- Modified: utc-to-tai-modified, UTC to TAI of (2400000.5, MJD) to 628,704 ps.
 pub mod Modified
+-- ModifiedUtc: tai-to-utc-modified, TAI to UTC of (2400000.5, MJD) to 628,795 ps.
+pub mod ModifiedUtc
 -- Exchanged: the same three with jd1 and jd2 exchanged.
 pub mod Exchanged
 -- Limits: no-29-ps, two-rounds and out-of-order, what cannot be claimed.

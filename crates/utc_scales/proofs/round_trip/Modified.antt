@@ -5,8 +5,8 @@ use mathlib.Core.Bool.{true, false}
 use Prim.Native.Nat.{ℕ, _+_, _*_, _^_, _≤_, _<_}
 use native.Mathlib.Nat.{zero-mul, mul-le-mul-right}
 use native.Mathlib.Omega.{arith}
-use lib.Dec.{lit≤}
-use lib.Ieee.{Float, binary64, round, add}
+use lib.Dec.{T, lit≤}
+use lib.Ieee.{Float, binary64, round, add, fits}
 use Rattle.constants.specs.Constants.{decimal}
 use Rattle.rounding.specs.Value.{Val, L}
 use Rattle.rounding.proofs.Value.{L-pos}
@@ -17,6 +17,7 @@ use Rattle.rounding.proofs.Compare.{le-says}
 use Rattle.rounding.proofs.Near.{NearSum, add-near}
 use Rattle.rounding.proofs.Chain.{ValClose}
 use Rattle.julian.specs.declared.JulianDate.{JulianDate}
+use Rattle.julian.specs.JulianDate.{julian}
 use Rattle.rounding.specs.Picoseconds.{dayPs}
 use Rattle.utc_scales.specs.days.LargerPart.{firstIsKept}
 use Rattle.utc_scales.specs.round_trip.Ranges.{ModifiedSplit}
@@ -37,7 +38,7 @@ units-17 : 2 ^ 1038 ≡ 131072 * h
 unfolding h
 units-17 = refl
 
-add-coarse : {x y : Float} {p n q k : ℕ} → p + q < n + k + 131072 * L → n + k < p + q + 131072 * L → Val x p n L → Val y q k L
+pub add-coarse : {x y : Float} {p n q k : ℕ} → p + q < n + k + 131072 * L → n + k < p + q + 131072 * L → Val x p n L → Val y q k L
     → ValClose L (add binary64 x y) (p + q) (n + k) (65536 * h)
 add-coarse {x} {y} {p} {n} {q} {k} u l v w =
     let s : NearSum (add binary64 x y) (p + q) (n + k) 1038 =
@@ -72,58 +73,79 @@ in-all = subst (λ (z : ℕ). dayPs * (5662510614 * h + 345604 * h) ≤ 628704 *
         → dayPs * (5662510614 * k + 345604 * k) ≤ 628704 * (86400 * (9007199254740992 * k))
     go k l = omega arith
 
--- ---- the parts of such a date
-module _ {d : JulianDate} (s : ModifiedSplit d) where
-  u : SizeWithin (d .jd2) (131071 * L)
-  u = size-at-most (s .held .1) last-day (s .to)
+-- ---- a modified Julian date from 41317.5 to 131071.5, as the guesses of TAI to UTC are too
+pub record ModifiedPart (u : Float) (up un : ℕ) : Type 0 where
+  pub held : T (fits binary64 u)
+  pub val : Val u up un L
+  pub low : 41317 * L + H + un ≤ up
+  pub high : up ≤ un + 131071 * L + H
 
-  from-1972 : 41318 * L + u .n ≤ u .p
-  from-1972 = plain (41318 * L) (0 * L) (u .p) (u .n) (zero-mul L) (le-says L-pos first-day (u .val) (s .from))
-    where
-      plain : (f o p n : ℕ) → o ≡ 0 → f + n ≤ p + o → f + n ≤ p
-      plain f o p n e k = omega arith
+-- 2400000.5
+pub record ZeroPoint (a : Float) : Type 0 where
+  pub held : T (fits binary64 a)
+  pub val : Val a (4800001 * H) 0 L
 
-  zero-point : Val (d .jd1) (4800001 * H) 0 L
-  zero-point = in-units 4800001 2 H L-H (s .first)
+-- ---- one evaluation
+module _ {a u : Float} {up un : ℕ} (v : ZeroPoint a) (w : ModifiedPart u up un) where
+  days : HalvesUp a (4800001 * H)
+  days = record { val = v .val; k = 4800001; halves = refl; high = omega arith }
 
-  days : HalvesUp (d .jd1) (4800001 * H)
-  days = record { val = zero-point; k = 4800001; halves = refl; high = omega arith }
-
-  stamp : Stamp (d .jd1) (d .jd2) (4800001 * H) (u .p) (u .n)
+  pub stamp : Stamp a u (4800001 * H) up un
   stamp = record {
-    held1 = s .held .0;
-    held2 = s .held .1;
-    val1 = zero-point;
-    val2 = u .val;
+    held1 = v .held;
+    held2 = w .held;
+    val1 = v .val;
+    val2 = w .val;
     most = omega arith;
-    over = omega (arith, u .high);
-    under = omega (arith, u .low);
-    low = omega (arith, from-1972, L-H);
-    high = omega (arith, u .high, L-H);
+    over = omega (arith, w .high, L-H, L-pos);
+    under = omega (arith, w .low);
+    low = omega (arith, w .low, L-H);
+    high = omega (arith, w .high, L-H);
   }
 
-  larger : firstIsKept d ≡ true
-  larger = first-larger zero-point (u .val) (omega (arith, u .high, L-H)) (omega (arith, u .low, L-H))
+  pub modified-larger : firstIsKept (julian a u) ≡ true
+  modified-larger = first-larger (v .val) (w .val) (omega (arith, w .high, L-H, L-pos)) (omega (arith, w .low, L-H))
 
-  modified-seen : SeenTo (5662510614 * h) (d .jd1) (d .jd2) (4800001 * H) (u .p) (u .n)
+  pub modified-seen : SeenTo (5662510614 * h) a u (4800001 * H) up un
   modified-seen =
-      seen-to stamp days (65536 * h) (5662510614 * h) (omega arith) larger
+      seen-to stamp days (65536 * h) (5662510614 * h) (omega arith) modified-larger
       (add-coarse
       (sum-high stamp days (131072 * L) (λ a b c d. above _ _ _ _ _ _ _ d a b c))
       (sum-low stamp days (131072 * L) (λ a b c d. below _ _ _ _ _ _ _ d a b c))
       (since stamp days .val) (day-sum stamp days .val))
     where
-      above : (f N x y t P M : ℕ) → x + H ≡ N → N + f + u .n ≤ 4800001 * H + u .p + H + 4 * h → 64 * P ≤ 64 * (M + f) + L → y + M ≤ t + P + h
+      above : (f N x y t P M : ℕ) → x + H ≡ N → N + f + un ≤ 4800001 * H + up + H + 4 * h → 64 * P ≤ 64 * (M + f) + L → y + M ≤ t + P + h
           → x + y < 4800001 * H + t + 131072 * L
-      above f N x y t P M e a b c = omega (arith, u .high, h-small, L-pos)
+      above f N x y t P M e a b c = omega (arith, w .high, h-small, L-H, L-pos)
 
-      below : (f N x y t P M : ℕ) → x + H ≡ N → 4800001 * H + u .p + H ≤ N + f + u .n + 4 * h → 64 * (M + f) ≤ 64 * P + L → t + P ≤ y + M + h
+      below : (f N x y t P M : ℕ) → x + H ≡ N → 4800001 * H + up + H ≤ N + f + un + 4 * h → 64 * (M + f) ≤ 64 * P + L → t + P ≤ y + M + h
           → 4800001 * H + t < x + y + 131072 * L
-      below f N x y t P M e a b c = omega (arith, from-1972, h-small, L-pos)
+      below f N x y t P M e a b c = omega (arith, w .low, h-small, L-H, L-pos)
+
+-- ---- the parts of such a date
+module _ {d : JulianDate} (s : ModifiedSplit d) where
+  pub modified-size : SizeWithin (d .jd2) (131071 * L)
+  modified-size = size-at-most (s .held .1) last-day (s .to)
+
+  abbrev u : SizeWithin (d .jd2) (131071 * L)
+  u = modified-size
+
+  pub from-1972 : 41318 * L + modified-size .n ≤ modified-size .p
+  from-1972 = plain (41318 * L) (0 * L) (u .p) (u .n) (zero-mul L) (le-says L-pos first-day (u .val) (s .from))
+    where
+      plain : (f o p n : ℕ) → o ≡ 0 → f + n ≤ p + o → f + n ≤ p
+      plain f o p n e k = omega arith
+
+  pub zero-point : ZeroPoint (d .jd1)
+  zero-point = record { held = s .held .0; val = in-units 4800001 2 H L-H (s .first) }
+
+  pub modified-part : ModifiedPart (d .jd2) (modified-size .p) (modified-size .n)
+  modified-part = record { held = s .held .1; val = u .val; low = omega (arith, from-1972, L-H); high = omega (arith, u .high) }
 
   -- ---- THE THEOREM
   pub utc-to-tai-modified : RightTai 628704 d
   utc-to-tai-modified =
-      let o = on-day stamp in
-      let r = utc-meant stamp modified-seen 628704 in-all (o .0) (o .1) in
-      record { n = o .0; on = record { p = _; m = _; worth = parts-joined zero-point (u .val); on = o .1 }; date = r .date; is = r .is; means = r .means }
+      let z = stamp zero-point modified-part in
+      let o = on-day z in
+      let r = utc-meant z (modified-seen zero-point modified-part) 628704 in-all (o .0) (o .1) in
+      record { n = o .0; on = record { p = _; m = _; worth = parts-joined (zero-point .val) (u .val); on = o .1 }; date = r .date; is = r .is; means = r .means }

@@ -18,15 +18,15 @@ pub record DateNear (h H A up un v : ℕ) : Type 0 where
   pub high : v + un ≤ A + up + H + 4 * h
   pub low : A + up + H ≤ v + un + 4 * h
 
--- 86400 * (t + A + H) is 86400 * v + g within 345622 h
-pub record TaiNear (h H A tp tn v g : ℕ) : Type 0 where
-  pub high : 86400 * (tp + A + H) ≤ 86400 * tn + (86400 * v + g) + 345622 * h
-  pub low : 86400 * v + g + 86400 * tn ≤ 86400 * (tp + A + H) + 345622 * h
+-- 86400 * (t + A + H) is 86400 * v + g within E
+pub record TaiNear (E H A tp tn v g : ℕ) : Type 0 where
+  pub high : 86400 * (tp + A + H) ≤ 86400 * tn + (86400 * v + g) + E
+  pub low : 86400 * v + g + 86400 * tn ≤ 86400 * (tp + A + H) + E
 
--- the next guess u' is u + b - t within 2 h
-pub record GuessMoved (h bp bn tp tn up un up' un' : ℕ) : Type 0 where
-  pub high : up' + (un + (bn + tp)) ≤ un' + (up + (bp + tn)) + 2 * h
-  pub low : un' + (up + (bp + tn)) ≤ up' + (un + (bn + tp)) + 2 * h
+-- the next guess u' is u + b - t within e
+pub record GuessMoved (e bp bn tp tn up un up' un' : ℕ) : Type 0 where
+  pub high : up' + (un + (bn + tp)) ≤ un' + (up + (bp + tn)) + e
+  pub low : un' + (up + (bp + tn)) ≤ up' + (un + (bn + tp)) + e
 
 -- The bounds of the residual in units of h, 2 ^ -53 s: at first TAI-UTC, and after each round 86400 times less, but for the rounding; and of what comes back.
 -- They are 333266372425762304, 3857250890490, 45853744, 1210167 and 1555789 where TAI-UTC is at most 37 s.
@@ -50,38 +50,37 @@ module _ (h Q H A bp bn : ℕ) where
   pub start : (v g : ℕ) → Q ≡ 9007199254740992 * h → g ≤ lastSeconds * Q → DateNear h H A bp bn v → Residual H A bp bn v g (atFirst * h)
   start v g e k n = record { high = omega (arith, n .high, n .low); low = omega (arith, n .high, n .low) }
 
-  -- the moved guess against the TAI-UTC of the guess before
-  pub moved-residual : (tp tn up un up' un' v g v' : ℕ) → TaiNear h H A tp tn v g → DateNear h H A up un v → GuessMoved h bp bn tp tn up un up' un'
-      → DateNear h H A up' un' v' → Residual H A bp bn v' g (1209622 * h)
-  moved-residual tp tn up un up' un' v g v' e n m n' = record { high = omega arith; low = omega arith }
+  -- the moved guess against the TAI-UTC of the guess before: M is what an evaluation and a move are off together
+  pub moved-residual : (E e M tp tn up un up' un' v g v' : ℕ) → E + 86400 * (8 * h + e) ≤ M → TaiNear E H A tp tn v g → DateNear h H A up un v
+      → GuessMoved e bp bn tp tn up un up' un' → DateNear h H A up' un' v' → Residual H A bp bn v' g M
+  moved-residual E e M tp tn up un up' un' v g v' k i n m n' = record { high = omega arith; low = omega arith }
 
   -- the two guesses are less than a day apart
-  pub day-apart : (v g v' P : ℕ) → Q ≡ 9007199254740992 * h → 0 < h → P ≤ atFirst * h → Residual H A bp bn v g P
-      → Residual H A bp bn v' g (1209622 * h) → (v' < v + Q) × (v < v' + Q)
-  day-apart v g v' P e z k o o' = within (P + 1209622 * h) (small P Q e z k) (gap v g v' P o o' .0) (gap v g v' P o o' .1)
+  pub day-apart : (v g v' P M : ℕ) → Q ≡ 9007199254740992 * h → 0 < h → P ≤ atFirst * h → M ≤ 6000000000 * h → Residual H A bp bn v g P
+      → Residual H A bp bn v' g M → (v' < v + Q) × (v < v' + Q)
+  day-apart v g v' P M e z k l o o' = within (P + M) (small P Q e z k) (gap v g v' P o o' .0) (gap v g v' P o o' .1)
     where
-      gap : (v g v' P : ℕ) → Residual H A bp bn v g P → Residual H A bp bn v' g (1209622 * h) → (86400 * v' ≤ 86400 * v + (P + 1209622 * h))
-          × (86400 * v ≤ 86400 * v' + (P + 1209622 * h))
+      gap : (v g v' P : ℕ) → Residual H A bp bn v g P → Residual H A bp bn v' g M → (86400 * v' ≤ 86400 * v + (P + M)) × (86400 * v ≤ 86400 * v' + (P + M))
       gap v g v' P o o' = omega arith
 
-      small : (P Q : ℕ) → Q ≡ 9007199254740992 * h → 0 < h → P ≤ atFirst * h → P + 1209622 * h < 86400 * Q
-      small P Q e z k = omega arith
+      small : (P Q : ℕ) → Q ≡ 9007199254740992 * h → 0 < h → P ≤ atFirst * h → P + M < 86400 * Q
+      small P Q e z k = omega (arith, l)
 
       within : (X : ℕ) → X < 86400 * Q → 86400 * v' ≤ 86400 * v + X → 86400 * v ≤ 86400 * v' + X → (v' < v + Q) × (v < v' + Q)
       within X k a b = omega arith
 
   -- the residual of the moved guess is 86400 times less, but for the rounding
-  pub shrinks : (v g v' g' P P' : ℕ) → P + 104512550422 * h ≤ 86400 * P' → Residual H A bp bn v g P → Residual H A bp bn v' g (1209622 * h) → Rises v g v' g'
+  pub shrinks : (v g v' g' P M P' : ℕ) → P + 86401 * M ≤ 86400 * P' → Residual H A bp bn v g P → Residual H A bp bn v' g M → Rises v g v' g'
       ⊎ Rises v' g' v g → Residual H A bp bn v' g' P'
-  shrinks v g v' g' P P' k o o' (inl r) = record { high = omega arith; low = omega arith }
-  shrinks v g v' g' P P' k o o' (inr r) = record { high = omega arith; low = omega arith }
+  shrinks v g v' g' P M P' k o o' (inl r) = record { high = omega arith; low = omega arith }
+  shrinks v g v' g' P M P' k o o' (inr r) = record { high = omega arith; low = omega arith }
 
   -- how far the guess is moved
-  pub move-size : (tp tn v g P : ℕ) → Q ≡ 9007199254740992 * h → P ≤ atFirst * h → TaiNear h H A tp tn v g → Residual H A bp bn v g P
+  pub move-size : (E tp tn v g P : ℕ) → Q ≡ 9007199254740992 * h → E ≤ 6000000000 * h → P ≤ atFirst * h → TaiNear E H A tp tn v g → Residual H A bp bn v g P
       → (2048 * (bp + tn) ≤ 2048 * (bn + tp) + Q) × (2048 * (bn + tp) ≤ 2048 * (bp + tn) + Q)
-  move-size tp tn v g P e k i o = omega arith
+  move-size E tp tn v g P e l k i o = omega arith
 
   -- what comes back
-  pub end : (tp tn v g : ℕ) → TaiNear h H A tp tn v g → Residual H A bp bn v g (afterThree * h) → (86400 * (tp + bn) ≤ 86400 * (tn + bp) + backAgain * h)
+  pub end : (tp tn v g : ℕ) → TaiNear (345622 * h) H A tp tn v g → Residual H A bp bn v g (afterThree * h) → (86400 * (tp + bn) ≤ 86400 * (tn + bp) + backAgain * h)
       × (86400 * (tn + bp) ≤ 86400 * (tp + bn) + backAgain * h)
   end tp tn v g i o = omega arith

@@ -17,7 +17,7 @@ use Rattle.utc_scales.proofs.round_trip.Units.{h, L-h, h-pos, adds}
 use Rattle.utc_scales.proofs.round_trip.Residuals.{GuessMoved}
 
 -- ---- the larger part cancels
-none : {a : Float} {A : ℕ} → Val a A 0 L → Val (sub binary64 a a) 0 0 L
+pub none : {a : Float} {A : ℕ} → Val a A 0 L → Val (sub binary64 a a) 0 0 L
 unfolding L
 none {a} {A} v = val-move (sub-exact 1074 (lit≤ tt) (room A (2 ^ 53)) (room' A (2 ^ 53)) v v) (same A)
   where
@@ -30,7 +30,7 @@ none {a} {A} v = val-move (sub-exact 1074 (lit≤ tt) (room A (2 ^ 53)) (room' A
     same : (A : ℕ) → A + 0 + 0 ≡ 0 + (0 + A)
     same A = omega arith
 
-kept : {x z : Float} {p n : ℕ} → T (fits binary64 x) → Val x p n L → Val z 0 0 L → Val (add binary64 x z) p n L
+pub kept : {x z : Float} {p n : ℕ} → T (fits binary64 x) → Val x p n L → Val z 0 0 L → Val (add binary64 x z) p n L
 kept {x} {z} {p} {n} t v w = again t v (rounds-move (add-rounds binary64 L-pos v w) (same p n))
   where
     same : (p n : ℕ) → p + 0 + n ≡ p + (n + 0)
@@ -42,7 +42,7 @@ pub record Next (a b u t : Float) (bp bn tp tn up un : ℕ) : Type 0 where
   pub n : ℕ
   pub val : Val (moved a b u (julian a t)) p n L
   pub held : T (fits binary64 (moved a b u (julian a t)))
-  pub by : GuessMoved h bp bn tp tn up un p n
+  pub by : GuessMoved (2 * h) bp bn tp tn up un p n
 
 pub next-guess : {a b u t : Float} {A bp bn tp tn up un : ℕ} → Val a A 0 L → Val b bp bn L → Val t tp tn L → T (fits binary64 u) → Val u up un L
     → 2048 * (bp + tn) ≤ 2048 * (bn + tp) + L → 2048 * (bn + tp) ≤ 2048 * (bp + tn) + L → 1024 * up ≤ 1024 * un + 1027 * L → 1024 * un ≤ 1024 * up + 1027 * L

@@ -19,13 +19,13 @@ use Rattle.utc_scales.proofs.round_trip.Units.{h, L-H, L-h, h-pos}
 use Rattle.utc_scales.proofs.round_trip.Parts.{FirstPart, SecondPart}
 use Rattle.utc_scales.proofs.round_trip.Steady.{taiUtcAt, either, few-seconds}
 use Rattle.utc_scales.proofs.round_trip.Kept.{first-larger, kept-changed}
-use Rattle.utc_scales.proofs.round_trip.Evaluated.{Seen, seen}
-use Rattle.utc_scales.proofs.round_trip.Residuals.{Residual, DateNear, TaiNear, start, moved-residual, day-apart, shrinks, move-size, afterOne}
+use Rattle.utc_scales.proofs.round_trip.Evaluated.{SeenTo, Seen, seen}
+use Rattle.utc_scales.proofs.round_trip.Residuals.{Residual, DateNear, TaiNear, GuessMoved, start, moved-residual, day-apart, shrinks, move-size, afterOne}
 use Rattle.utc_scales.proofs.round_trip.Residuals.{afterThree, afterTwo, atFirst}
 use Rattle.utc_scales.proofs.round_trip.Round.{Next, next-guess}
 
 -- ---- what is seen of a guess, in the numbers of a round
-module _ {a u : Float} {A up un : ℕ} (z : Seen a u A up un) where
+module _ {E : ℕ} {a u : Float} {A up un : ℕ} (z : SeenTo E a u A up un) where
   -- its date, and its TAI-UTC times 86400
   abbrev pub dateSeen : ℕ
   dateSeen = z .day * L + z .f
@@ -33,11 +33,21 @@ module _ {a u : Float} {A up un : ℕ} (z : Seen a u A up un) where
   abbrev pub offsetSeen : ℕ
   offsetSeen = taiUtcAt (z .day) (z .f)
 
-  near : DateNear h H A up un dateSeen
+  pub near : DateNear h H A up un dateSeen
   near = record { high = z .near-over; low = z .near-under }
 
-  pub tai-near : TaiNear h H A (z .tp) (z .tn) dateSeen offsetSeen
+  pub tai-near : TaiNear E H A (z .tp) (z .tn) dateSeen offsetSeen
   tai-near = record { high = z .eval-over; low = z .eval-under }
+
+-- ---- the residual of the next guess, where an evaluation and a move are off by M together
+pub next-residual : {a u u' : Float} {A bp bn up un up' un' E : ℕ} (e M P P' : ℕ) → E + 86400 * (8 * h + e) ≤ M → M ≤ 6000000000 * h → P ≤ atFirst * h
+    → P + 86401 * M ≤ 86400 * P' → (z : SeenTo E a u A up un) (z' : SeenTo E a u' A up' un') → GuessMoved e bp bn (z .tp) (z .tn) up un up' un'
+    → Residual H A bp bn (dateSeen z) (offsetSeen z) P → Residual H A bp bn (dateSeen z') (offsetSeen z') P'
+next-residual {A = A} {bp} {bn} {up} {un} {up'} {un'} {E} e M P P' k l p p' z z' m r =
+    let o = moved-residual h L H A bp bn E e M (z .tp) (z .tn) up un up' un' (dateSeen z) (offsetSeen z) (dateSeen z') k (tai-near z) (near z) m (near z') in
+    let c = day-apart h L H A bp bn (dateSeen z) (offsetSeen z) (dateSeen z') P M L-h h-pos p l r o in
+    shrinks h L H A bp bn (dateSeen z) (offsetSeen z) (dateSeen z') (offsetSeen z') P M P' p' r o
+    (either (z .day) (z' .day) (z .f) (z' .f) (z .seconds) (z' .seconds) (z .below) (z' .below) (c .0) (c .1))
 
 -- ---- where a guess stands: its size, what is seen of it, and its residual
 pub record GuessAt (a : Float) (A bp bn R P : ℕ) (u : Float) : Type 0 where
@@ -74,21 +84,18 @@ module _ {a b : Float} {A bp bn : ℕ} (v : FirstPart a A) (vb : Val b bp bn L) 
       plain p n Q k = omega arith
 
   -- a round: the bound P becomes P'
-  step : (R P R' P' : ℕ) → R + L ≤ R' → R' ≤ 1027 * L → P ≤ atFirst * h → P + 104512550422 * h ≤ 86400 * P'
+  step : (R P R' P' : ℕ) → R + L ≤ R' → R' ≤ 1027 * L → P ≤ atFirst * h → P + 86401 * (1209622 * h) ≤ 86400 * P'
       → {u : Float} (x : GuessAt a A bp bn R P u)
       → GuessAt a A bp bn R' P' (moved a b u (julian a (x .seen .t)))
   step R P R' P' r r' p p' {u} x =
       let z = x .seen in
-      let m = move-size h L H A bp bn (z .tp) (z .tn) (dateSeen z) (offsetSeen z) P L-h p (tai-near z) (x .residual) in
+      let m = move-size h L H A bp bn (345622 * h) (z .tp) (z .tn) (dateSeen z) (offsetSeen z) P L-h (omega arith) p (tai-near z) (x .residual) in
       let w : Next a b u (z .t) bp bn (z .tp) (z .tn) (x .up) (x .un) =
       next-guess (v .val) vb (z .val) (x .held) (x .val) (m .0) (m .1) (within (x .up) (x .un) (x .high)) (within (x .un) (x .up) (x .low)) in
       let g = ranged (x .up) (x .un) (w .p) (w .n) (bp + z .tn) (bn + z .tp) (x .high) (m .0) (w .by .high) in
       let l = ranged (x .un) (x .up) (w .n) (w .p) (bn + z .tp) (bp + z .tn) (x .low) (m .1) (w .by .low) in
       let z' : Seen a (moved a b u (julian a (z .t))) A (w .p) (w .n) =
       seen v (record { held = w .held; val = w .val; over = full (w .p) (w .n) g; under = full (w .n) (w .p) l }) in
-      let o = moved-residual h L H A bp bn (z .tp) (z .tn) (x .up) (x .un) (w .p) (w .n) (dateSeen z) (offsetSeen z) (dateSeen z') (tai-near z) (near z)
-      (w .by) (near z') in
-      let c = day-apart h L H A bp bn (dateSeen z) (offsetSeen z) (dateSeen z') P L-h h-pos p (x .residual) o in
       record {
         up = w .p;
         un = w .n;
@@ -97,8 +104,7 @@ module _ {a b : Float} {A bp bn : ℕ} (v : FirstPart a A) (vb : Val b bp bn L) 
         high = g;
         low = l;
         seen = z';
-        residual = shrinks h L H A bp bn (dateSeen z) (offsetSeen z) (dateSeen z') (offsetSeen z') P P' p' (x .residual) o
-            (either (z .day) (z' .day) (z .f) (z' .f) (z .seconds) (z' .seconds) (z .below) (z' .below) (c .0) (c .1));
+        residual = next-residual (2 * h) (1209622 * h) P P' (omega arith) (omega arith) p p' z z' (w .by) (x .residual);
       }
     where
       within : (p n : ℕ) → 1024 * p ≤ 1024 * n + R → 1024 * p ≤ 1024 * n + 1027 * L

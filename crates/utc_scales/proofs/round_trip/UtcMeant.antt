@@ -4,7 +4,7 @@ use mathlib.Core.Path.{_≡_, refl}
 use Prim.Native.Nat.{ℕ, _+_, _*_, _≤_}
 use native.Mathlib.Omega.{arith}
 use lib.Ieee.{Float}
-use Rattle.utc_scales.proofs.round_trip.Residuals.{afterThree}
+use Rattle.utc_scales.proofs.round_trip.Residuals.{Residual}
 use Rattle.refusals.specs.Outcome.{answer}
 use Rattle.rounding.specs.Value.{Val, L}
 use Rattle.julian.specs.declared.JulianDate.{JulianDate}
@@ -16,49 +16,47 @@ use Rattle.utc_scales.specs.round_trip.Ranges.{HalfDaySplit}
 use Rattle.utc_scales.specs.round_trip.UtcDays.{H, WholeSeconds, OnDay, ExactDay}
 use Rattle.utc_scales.specs.round_trip.Relation.{RightUtc}
 use Rattle.utc_scales.proofs.round_trip.Units.{h, L-h}
-use Rattle.utc_scales.proofs.round_trip.Parts.{FirstPart, stamp-of, parts-joined, parts-worth, first-part}
+use Rattle.utc_scales.proofs.round_trip.Parts.{Stamp, stamp-of, parts-joined, parts-worth, first-part}
 use Rattle.utc_scales.proofs.round_trip.Steady.{taiUtcAt}
-use Rattle.utc_scales.proofs.round_trip.Evaluated.{Seen}
+use Rattle.utc_scales.proofs.round_trip.Evaluated.{SeenTo}
 use Rattle.utc_scales.proofs.round_trip.Meant.{on-day, OffsetsNear, near-offset, seconds}
-use Rattle.utc_scales.proofs.round_trip.Rounds.{GuessAt, found, part}
+use Rattle.utc_scales.proofs.round_trip.Rounds.{dateSeen, offsetSeen, found, part}
 use Rattle.utc_scales.proofs.round_trip.Exactly.{Said, means-of}
 
--- W is the date of the guess by its exact day, x the one that the calendar finds; K and G their offsets
-to-picoseconds : (x y : ℕ) → x ≤ y + (afterThree + 345604) * h → dayPs * x ≤ dayPs * y + 86400 * (173 * L)
-to-picoseconds x y k = omega (arith, L-h)
+-- ---- a guess u of the UTC of (a, b), whose residual is at most P, on its exact day: W is its date by that day, x the one that the calendar finds; K and G their
+-- offsets
+over : (A bp bn W x K G P : ℕ) → x ≤ W + 4 * h → G ≤ K + 4 * h → 86400 * (bp + A + H) ≤ 86400 * bn + (86400 * x + G) + P
+    → 86400 * (A + bp + H) ≤ 86400 * bn + 86400 * W + K + (P + 345604 * h)
+over A bp bn W x K G P k l m = omega arith
 
-over : (A bp bn W x K G : ℕ) → x ≤ W + 4 * h → G ≤ K + 4 * h → 86400 * (bp + A + H) ≤ 86400 * bn + (86400 * x + G) + afterThree * h
-    → 86400 * (A + bp + H) ≤ 86400 * bn + 86400 * W + K + (afterThree + 345604) * h
-over A bp bn W x K G k l m = omega arith
+under : (A bp bn W x K G P : ℕ) → W ≤ x + 4 * h → K ≤ G + 4 * h → 86400 * bn + (86400 * x + G) ≤ 86400 * (bp + A + H) + P
+    → 86400 * bn + 86400 * W + K ≤ 86400 * (A + bp + H) + (P + 345604 * h)
+under A bp bn W x K G P k l m = omega arith
 
-under : (A bp bn W x K G : ℕ) → W ≤ x + 4 * h → K ≤ G + 4 * h → 86400 * bn + (86400 * x + G) ≤ 86400 * (bp + A + H) + afterThree * h
-    → 86400 * bn + 86400 * W + K ≤ 86400 * (A + bp + H) + (afterThree + 345604) * h
-under A bp bn W x K G k l m = omega arith
-
--- a guess whose residual is at most `afterThree` h, on its exact day
-module _ {a b u : Float} {A bp bn : ℕ} (v : FirstPart a A) (vb : Val b bp bn L) (x : GuessAt a A bp bn (1027 * L) (afterThree * h) u) (n : ℕ)
-    (o : OnDay (A + x .up) (x .un) n) where
-  abbrev z : Seen a u A (x .up) (x .un)
-  z = x .seen
-
+module _ {a b u : Float} {A bp bn up un E P : ℕ} (v : Stamp a u A up un) (vb : Val b bp bn L) (z : SeenTo E a u A up un)
+    (r : Residual H A bp bn (dateSeen z) (offsetSeen z) P) (ps : ℕ) (room : dayPs * (P + 345604 * h) ≤ 86400 * (ps * L)) (n : ℕ)
+    (o : OnDay (A + up) un n) where
   apart : (z .day * L + z .f ≤ n * L + o .f + 4 * h) × (n * L + o .f ≤ z .day * L + z .f + 4 * h)
-  apart = go (z .day * L + z .f) (n * L + o .f) (x .up) (x .un) (z .near-over) (z .near-under) (o .is)
+  apart = go (z .day * L + z .f) (n * L + o .f) (z .near-over) (z .near-under) (o .is)
     where
-      go : (p q c d : ℕ) → p + d ≤ A + c + H + 4 * h → A + c + H ≤ p + d + 4 * h → q + d ≡ A + c + H → (p ≤ q + 4 * h) × (q ≤ p + 4 * h)
-      go p q c d i j k = omega arith
+      go : (p q : ℕ) → p + un ≤ A + up + H + 4 * h → A + up + H ≤ p + un + 4 * h → q + un ≡ A + up + H → (p ≤ q + 4 * h) × (q ≤ p + 4 * h)
+      go p q i j k = omega arith
 
   near : OffsetsNear (taiUtcAt (z .day) (z .f)) (taiUtcAt n (o .f))
-  near = near-offset (z .day) n (z .f) (o .f) (z .seconds) (seconds (stamp-of v (part x)) n o) (z .below) (o .below) (apart .0) (apart .1)
+  near = near-offset (z .day) n (z .f) (o .f) (z .seconds) (seconds v n o) (z .below) (o .below) (apart .0) (apart .1)
 
-  guess-said : Said 173 n (o .f) (julian a b)
+  in-picoseconds : (x y : ℕ) → x ≤ y + (P + 345604 * h) → dayPs * x ≤ dayPs * y + 86400 * (ps * L)
+  in-picoseconds x y k = omega (arith, room)
+
+  pub guess-said : Said ps n (o .f) (julian a b)
   guess-said = record {
     p = A + bp;
     m = bn;
-    worth = parts-joined (v .val) vb;
-    over = to-picoseconds _ _ (over A bp bn (n * L + o .f) (z .day * L + z .f) (taiUtcAt n (o .f)) (taiUtcAt (z .day) (z .f)) (apart .0) (near .over)
-        (x .residual .high));
-    under = to-picoseconds _ _ (under A bp bn (n * L + o .f) (z .day * L + z .f) (taiUtcAt n (o .f)) (taiUtcAt (z .day) (z .f)) (apart .1) (near .under)
-        (x .residual .low));
+    worth = parts-joined (v .val1) vb;
+    over = in-picoseconds _ _ (over A bp bn (n * L + o .f) (z .day * L + z .f) (taiUtcAt n (o .f)) (taiUtcAt (z .day) (z .f)) P (apart .0) (near .over)
+        (r .high));
+    under = in-picoseconds _ _ (under A bp bn (n * L + o .f) (z .day * L + z .f) (taiUtcAt n (o .f)) (taiUtcAt (z .day) (z .f)) P (apart .1) (near .under)
+        (r .low));
   }
 
 -- ---- TAI to UTC of d is `date`, on the exact day n, of which d is the TAI to 173 ps
@@ -84,7 +82,7 @@ utc-found {d} s =
       n = o .0;
       on = record { p = _; m = _; worth = parts-worth v (part x); on = o .1 };
       seconds = seconds (stamp-of v (part x)) (o .0) (o .1);
-      said = guess-said v (r .given) x (o .0) (o .1);
+      said = guess-said (stamp-of v (part x)) (r .given) (x .seen) (x .residual) 173 (omega (arith, L-h)) (o .0) (o .1);
     }
 
 -- ---- THE THEOREM

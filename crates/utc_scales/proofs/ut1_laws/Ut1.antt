@@ -46,9 +46,9 @@ use Rattle.utc_scales.proofs.Steps.{offsets-first}
 use Rattle.utc_scales.specs.round_trip.UtcDays.{H, secondsOn, leapAfter}
 use Rattle.utc_scales.specs.round_trip.Ranges.{HalfDaySplit}
 use Rattle.utc_scales.proofs.round_trip.Units.{h, L-H, L-h, h-small, h-pos, add-close}
-use Rattle.utc_scales.proofs.round_trip.Parts.{FirstPart, SecondPart, parts-worth, first-part, second-part}
+use Rattle.utc_scales.proofs.round_trip.Parts.{FirstPart, SecondPart, parts-joined, first-part, second-part}
 use Rattle.utc_scales.proofs.round_trip.DaySeconds.{day-seconds}
-use Rattle.utc_scales.proofs.round_trip.Evaluated.{Seen, seen}
+use Rattle.utc_scales.proofs.round_trip.Evaluated.{SeenTo, Seen, seen}
 use Rattle.utc_scales.specs.ut1_laws.Ut1.{ut1Ps, RightUt1}
 
 -- ---- DUT1 less the whole seconds of TAI-UTC, and that in days
@@ -140,27 +140,32 @@ t-low zero d N f A up un tp tn k e i w = omega (arith, h-small)
 t-low (suc zero) d N f A up un tp tn k e i w = omega (arith, h-small)
 t-low (suc (suc s)) d N f A up un tp tn k e i w = absurd (omega arith)
 
-over-is : (s d N f A up un tp tn qp qn rp rn x y : ℕ) → s ≤ 1 → 86400 * (tp + A + H) ≤ 86400 * tn + (86400 * (N + f) + (d + s * f)) + 345622 * h
-    → N + f + un ≤ A + up + H + 4 * h → 86400 * qp + y + d ≤ 86400 * qn + x + 117 * h → rp + (tn + qn) ≤ rn + (tp + qp) + h
-    → 86400 * (A + rp) + (86400 + s) * un + (y + s * N) ≤ 86400 * rn + (86400 + s) * (A + up) + (x + s * H) + 777743 * h
-over-is zero d N f A up un tp tn qp qn rp rn x y k e i q r = omega arith
-over-is (suc zero) d N f A up un tp tn qp qn rp rn x y k e i q r = omega arith
-over-is (suc (suc s)) d N f A up un tp tn qp qn rp rn x y k e i q r = absurd (omega arith)
+-- an evaluation off by E / 86400, and a last sum that is rounded by at most e
+module _ (E e : ℕ) where
+  over-is : (s d N f A up un tp tn qp qn rp rn x y : ℕ) → s ≤ 1 → 86400 * (tp + A + H) ≤ 86400 * tn + (86400 * (N + f) + (d + s * f)) + E
+      → N + f + un ≤ A + up + H + 4 * h → 86400 * qp + y + d ≤ 86400 * qn + x + 117 * h → rp + (tn + qn) ≤ rn + (tp + qp) + e
+      → 86400 * (A + rp) + (86400 + s) * un + (y + s * N) ≤ 86400 * rn + (86400 + s) * (A + up) + (x + s * H) + (E + 345721 * h + 86400 * e)
+  over-is zero d N f A up un tp tn qp qn rp rn x y k i j q r = omega arith
+  over-is (suc zero) d N f A up un tp tn qp qn rp rn x y k i j q r = omega arith
+  over-is (suc (suc s)) d N f A up un tp tn qp qn rp rn x y k i j q r = absurd (omega arith)
 
-under-is : (s d N f A up un tp tn qp qn rp rn x y : ℕ) → s ≤ 1 → 86400 * (N + f) + (d + s * f) + 86400 * tn ≤ 86400 * (tp + A + H) + 345622 * h
-    → A + up + H ≤ N + f + un + 4 * h → 86400 * qn + x ≤ 86400 * qp + y + d + 117 * h → rn + (tp + qp) ≤ rp + (tn + qn) + h
-    → 86400 * rn + (86400 + s) * (A + up) + (x + s * H) ≤ 86400 * (A + rp) + (86400 + s) * un + (y + s * N) + 777743 * h
-under-is zero d N f A up un tp tn qp qn rp rn x y k e i q r = omega arith
-under-is (suc zero) d N f A up un tp tn qp qn rp rn x y k e i q r = omega arith
-under-is (suc (suc s)) d N f A up un tp tn qp qn rp rn x y k e i q r = absurd (omega arith)
+  under-is : (s d N f A up un tp tn qp qn rp rn x y : ℕ) → s ≤ 1 → 86400 * (N + f) + (d + s * f) + 86400 * tn ≤ 86400 * (tp + A + H) + E
+      → A + up + H ≤ N + f + un + 4 * h → 86400 * qn + x ≤ 86400 * qp + y + d + 117 * h → rn + (tp + qp) ≤ rp + (tn + qn) + e
+      → 86400 * rn + (86400 + s) * (A + up) + (x + s * H) ≤ 86400 * (A + rp) + (86400 + s) * un + (y + s * N) + (E + 345721 * h + 86400 * e)
+  under-is zero d N f A up un tp tn qp qn rp rn x y k i j q r = omega arith
+  under-is (suc zero) d N f A up un tp tn qp qn rp rn x y k i j q r = omega arith
+  under-is (suc (suc s)) d N f A up un tp tn qp qn rp rn x y k i j q r = absurd (omega arith)
 
-to-picoseconds : (x y : ℕ) → x ≤ y + 777743 * h → dayPs * x ≤ dayPs * y + ut1Ps * (86400 * L)
-to-picoseconds x y k = omega (arith, L-h)
+-- the smaller part t, and a part of less than 1/1024 day, added with a rounding of at most e
+abbrev pub SumsTo : ℕ → Float → ℕ → ℕ → Type 0
+SumsTo e t tp tn = (q : Float) (p n : ℕ) → Val q p n L → 1024 * p ≤ 1024 * n + L → 1024 * n ≤ 1024 * p + L → ValClose L (add binary64 t q) (tp + p) (tn + n) e
 
--- ---- one evaluation
-module _ {a u : Float} {A up un : ℕ} (v : FirstPart a A) (w : SecondPart u up un) (c : Float) (fc : T (fits binary64 c)) (kc : T (le (abs c) one)) where
-  o : Seen a u A up un
-  o = seen v w
+-- ---- one evaluation, by what is seen of UTC (a, u)
+module _ {E e : ℕ} {a u : Float} {A up un : ℕ} (va : Val a A 0 L) (vu : Val u up un L) (o : SeenTo E a u A up un)
+    (larger : firstIsLarger (julian a (o .t)) ≡ true) (sums : SumsTo e (o .t) (o .tp) (o .tn)) (ps : ℕ)
+    (room : dayPs * (E + 345721 * h + 86400 * e) ≤ ps * (86400 * L)) (c : Float) (fc : T (fits binary64 c)) (kc : T (le (abs c) one)) where
+  to-picoseconds : (x y : ℕ) → x ≤ y + (E + 345721 * h + 86400 * e) → dayPs * x ≤ dayPs * y + ps * (86400 * L)
+  to-picoseconds x y k = omega (arith, room)
 
   dut : (p : ℕ) × (n : ℕ) × Val c p n L × (p ≤ n + L) × (n ≤ p + L)
   dut = let z = size-at-most fc one-L kc in (z .p, z .n, z .val, z .high, z .low)
@@ -191,22 +196,8 @@ module _ {a u : Float} {A up un : ℕ} (v : FirstPart a A) (w : SecondPart u up 
     d-high : D * L ≤ lastSeconds * L
     d-high = mul-le-mul-right L few
 
-    th : 64 * o .tp ≤ 64 * o .tn + 65 * L
-    th = t-high s (D * L) (o .day * L) (o .f) A up un (o .tp) (o .tn) (o .seconds .step) (o .below) d-high (o .eval-over) (o .near-over) (w .over)
-
-    tl : 64 * o .tn ≤ 64 * o .tp + 65 * L
-    tl = t-low s (D * L) (o .day * L) (o .f) A up un (o .tp) (o .tn) (o .seconds .step) (o .eval-under) (o .near-under) (w .under)
-
-    r : ValClose L (add binary64 (o .t) q) (o .tp + z .p) (o .tn + z .n) h
-    r = add-close (omega (arith, th, z .over, h-small, L-pos)) (omega (arith, tl, z .under, d-high, h-small, L-pos)) (o .val) (z .val)
-
-    larger : firstIsLarger (julian a (o .t)) ≡ true
-    unfolding firstIsLarger
-    larger = is-true _ (lt-show L-pos (abs-val (o .val)) (abs-val (v .val))
-        (go (dist (o .tp) (o .tn)) (dist-le (o .tp) (o .tn) (2 * L) (omega (arith, th)) (omega (arith, tl)))))
-      where
-        go : (e : ℕ) → e ≤ 2 * L → e + 0 < dist A 0 + 0
-        go e k = omega (arith, v .low, L-H, L-pos)
+    r : ValClose L (add binary64 (o .t) q) (o .tp + z .p) (o .tn + z .n) e
+    r = sums q (z .p) (z .n) (z .val) (omega (arith, z .over, h1, h-small, L-pos)) (omega (arith, z .under, d-high, h2, h-small, L-pos))
 
     arg : finiteArg c ≡ answer c
     unfolding finiteArg
@@ -216,12 +207,12 @@ module _ {a u : Float} {A up un : ℕ} (v : FirstPart a A) (w : SecondPart u up 
     unfolding utcToUt1 answerOf plus daysOf
     is =
         went _ arg ∙ went _ (o .answered) ∙ went _ offset-is
-        ∙ by-is plus (sub binary64 c (wholeF (secondsOn (o .day)))) (julian a (o .t)) (val-finite-true (v .val)) (val-finite-true (o .val))
+        ∙ by-is plus (sub binary64 c (wholeF (secondsOn (o .day)))) (julian a (o .t)) (val-finite-true va) (val-finite-true (o .val))
         (offset-days D few vc h1 h2 .1)
         ∙ ap answer (map-is (plus (daysOf (sub binary64 c (wholeF (secondsOn (o .day)))))) (julian a (o .t))
         ∙ ap (mapAs (plus (daysOf (sub binary64 c (wholeF (secondsOn (o .day)))))) (julian a (o .t))) larger)
 
-    right : RightUt1 ut1Ps (julian a u) c
+    right : RightUt1 ps (julian a u) c
     right = record {
       x = x;
       y = y;
@@ -236,17 +227,47 @@ module _ {a u : Float} {A up un : ℕ} (v : FirstPart a A) (w : SecondPart u up 
         n = un;
         p' = A + r .p;
         n' = r .n;
-        from = parts-worth v w;
-        to = record { p = A; n = 0; q = r .p; m = r .n; first = v .val; second = r .val; total = omega arith };
-        over = to-picoseconds _ _ (over-is s (D * L) (o .day * L) (o .f) A up un (o .tp) (o .tn) (z .p) (z .n) (r .p) (r .n) x y (o .seconds .step)
+        from = parts-joined va vu;
+        to = parts-joined va (r .val);
+        over = to-picoseconds _ _ (over-is E e s (D * L) (o .day * L) (o .f) A up un (o .tp) (o .tn) (z .p) (z .n) (r .p) (r .n) x y (o .seconds .step)
             (o .eval-over) (o .near-over) (z .over) (r .over));
-        under = to-picoseconds _ _ (under-is s (D * L) (o .day * L) (o .f) A up un (o .tp) (o .tn) (z .p) (z .n) (r .p) (r .n) x y (o .seconds .step)
+        under = to-picoseconds _ _ (under-is E e s (D * L) (o .day * L) (o .f) A up un (o .tp) (o .tn) (z .p) (z .n) (r .p) (r .n) x y (o .seconds .step)
             (o .eval-under) (o .near-under) (z .under) (r .under));
       };
     }
 
-  pub one-answer : RightUt1 ut1Ps (julian a u) c
-  one-answer = let (x, y, vc, h1, h2) = dut in right x y vc h1 h2
+  pub ut1-right : RightUt1 ps (julian a u) c
+  ut1-right = let (x, y, vc, h1, h2) = dut in right x y vc h1 h2
+
+-- ---- for a smaller part of about a day
+module _ {a u : Float} {A up un : ℕ} (v : FirstPart a A) (w : SecondPart u up un) where
+  abbrev o : Seen a u A up un
+  o = seen v w
+
+  d-most : secondsOn (o .day) * L ≤ lastSeconds * L
+  d-most = mul-le-mul-right L (omega (arith, o .seconds .most))
+
+  th : 64 * o .tp ≤ 64 * o .tn + 65 * L
+  th = t-high (leapAfter (o .day)) (secondsOn (o .day) * L) (o .day * L) (o .f) A up un (o .tp) (o .tn) (o .seconds .step) (o .below) d-most (o .eval-over)
+      (o .near-over) (w .over)
+
+  tl : 64 * o .tn ≤ 64 * o .tp + 65 * L
+  tl = t-low (leapAfter (o .day)) (secondsOn (o .day) * L) (o .day * L) (o .f) A up un (o .tp) (o .tn) (o .seconds .step) (o .eval-under) (o .near-under)
+      (w .under)
+
+  sum-fits : SumsTo h (o .t) (o .tp) (o .tn)
+  sum-fits q p n vq k l = add-close (omega (arith, th, L-pos)) (omega (arith, tl, L-pos)) (o .val) vq
+
+  smaller : firstIsLarger (julian a (o .t)) ≡ true
+  unfolding firstIsLarger
+  smaller = is-true _ (lt-show L-pos (abs-val (o .val)) (abs-val (v .val))
+      (go (dist (o .tp) (o .tn)) (dist-le (o .tp) (o .tn) (2 * L) (omega (arith, th)) (omega (arith, tl)))))
+    where
+      go : (e : ℕ) → e ≤ 2 * L → e + 0 < dist A 0 + 0
+      go e k = omega (arith, v .low, L-H, L-pos)
+
+  pub one-answer : (c : Float) → T (fits binary64 c) → T (le (abs c) one) → RightUt1 ut1Ps (julian a u) c
+  one-answer c f k = ut1-right (v .val) (w .val) o smaller sum-fits ut1Ps (omega (arith, L-h)) c f k
 
 -- ---- THE THEOREM: jd1 and jd2 in the range of request 14, and a DUT1 of at most 1 s
 pub utc-to-ut1-means : {d : JulianDate} → HalfDaySplit d → (dut1 : Float) → T (fits binary64 dut1) → T (le (abs dut1) one) → RightUt1 ut1Ps d dut1
