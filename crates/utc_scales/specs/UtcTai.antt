@@ -1,5 +1,13 @@
--- UTC to TAI and back. Written from the Rust's scales/conversions/utc_tai/mod.rs, whose bits it fixes: each operation is rounded once, in its order. Document
--- 01, "Scale dates": TAI to UTC does exactly three rounds. Assumes nothing.
+-- UTC to TAI and back: SOFA's iauUtctai and iauTaiutc (Time Scale and Calendar Tools), whose order of operations this is, each rounded once; the Rust's
+-- scales/conversions/utc_tai/mod.rs, which follows them, fixes the bits. Document 01, "Scale dates": TAI to UTC does exactly three rounds.
+-- iauUtctai, with the larger part big and the smaller one small: the calendar's date and fraction of (big, small); TAI-UTC of that date at 0h, at 12h and at
+-- 0h of the next date; twice the difference of the first two is the drift of the day, and what the third is more than the first and the drift is the leap; the
+-- fraction times (86400 + leap) / 86400, then times (86400 + drift) / 86400; from the two parts of the date's midnight z: z1 less big, plus z2, plus the sum
+-- of the stretched fraction and TAI-UTC at 0h in days. That is the new smaller part.
+-- iauTaiutc: the guess is the smaller part of TAI; three times, the guess with big through iauUtctai, and the guess plus (big less the larger part that comes
+-- out), plus (small less the smaller part that comes out).
+-- SOFA finds the next date from big + 1.5 and the smaller part less the fraction, here it is the date that the calendar names next: the same one for parts
+-- below 2 ^ 52 in size (docs/DIFFERENCES.md, 31). Assumes nothing.
 use Prim.Native.Nat.{ℕ, zero, suc}
 use mathlib.Core.List.{List}
 use lib.Ieee.{Float, binary64, add, sub, mul, div}
@@ -14,7 +22,7 @@ use Rattle.leap_table.specs.offsets.Leap.{driftRate, leapAmount}
 use Rattle.utc_scales.specs.days.LargerPart.{changeSmaller}
 use Rattle.utc_scales.specs.days.Dates.{offsetsOf, midnightOf}
 
--- the fraction of a day in days of 86,400 s: the day is longer by its drift and by the leap at its end
+-- the fraction of a day in days of 86,400 s: the day is longer by the leap at its end, the first factor, and by its drift, the second
 unfoldable pub stretchDayFraction : DayOffsets → Float → Float
 stretchDayFraction o f =
     mul binary64 (mul binary64 f (div binary64 (add binary64 secondsPerDay (leapAmount o)) secondsPerDay))

@@ -1,6 +1,12 @@
--- UT1 to UTC by DUT1 = UT1 - UTC in seconds. Written from the Rust's scales/conversions/utc_ut1/mod.rs, whose bits it fixes: each operation is rounded once, in
--- its order. Document 01, "Refusals by number": 10, 9, then 6 or 1 for each day scanned from -1 to +3 until a step of at least 0.5 s from one scanned day to
--- the next. Assumes nothing.
+-- UT1 to UTC by DUT1 = UT1 - UTC in seconds: SOFA's iauUt1utc (Time Scale and Calendar Tools), whose order of operations this is, each rounded once; the Rust's
+-- scales/conversions/utc_ut1/mod.rs, which follows it, fixes the bits.
+-- iauUt1utc, with the larger part big and the smaller one small: for i from -1 to 3, TAI-UTC at 0h of the calendar's date of (big, small + i), and what it is
+-- more than that of the i before. At the first i where this step is 0.5 s or more in size: DUT1 less the step where both have one sign (a zero product counts
+-- as one sign); of the date's midnight z, the parts z1 and z2 - 1 + DUT1 / 86400 are in UT1 the start of the day that ends with the step; big less the first
+-- of them, plus small less the second, are the days since then; where they are above 0, DUT1 plus the step times the part of the day that has passed, days *
+-- 86400 / (86400 + step), 1 at most; and no further i. The smaller part less DUT1 / 86400 is UTC's.
+-- Document 01, "Refusals by number": 10, 9, then 6 or 1 for each day scanned from -1 to +3 until a step of at least 0.5 s from one scanned day to the next.
+-- Assumes nothing.
 use Prim.Native.Nat.{ℕ, zero, suc, _+_}
 use mathlib.Core.Bool.{cond}
 use mathlib.Core.List.{List}

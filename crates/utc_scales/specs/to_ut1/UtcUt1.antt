@@ -1,5 +1,8 @@
--- UTC to UT1 by DUT1 = UT1 - UTC in seconds. Written from the Rust's scales/conversions/utc_ut1/mod.rs, whose bits it fixes: each operation is rounded once, in
--- its order. Document 01, "Refusals by number": 10, 6, date. Assumes nothing.
+-- UTC to UT1 by DUT1 = UT1 - UTC in seconds: SOFA's iauUtcut1 (Time Scale and Calendar Tools), whose order of operations this is, each rounded once; the
+-- Rust's scales/conversions/utc_ut1/mod.rs, which follows it, fixes the bits.
+-- iauUtcut1: the calendar's date of (jd1, jd2), and TAI-UTC at its 0h; DUT1 less that is UT1 - TAI; UTC to TAI as in UtcTai.antt; and TAI to UT1 by this offset
+-- (iauTaiut1), which adds the offset / 86400 to the part that is smaller in size. SOFA looks the date up before it goes to TAI, the Rust after it: the same
+-- numbers, in another order of refusals. Document 01, "Refusals by number": 10, 6, date. Assumes nothing.
 use mathlib.Core.List.{List}
 use lib.Ieee.{Float, binary64, sub}
 use Rattle.refusals.specs.Outcome.{Outcome, onward}
