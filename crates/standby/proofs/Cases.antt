@@ -58,7 +58,7 @@ unfolding instant instantOn taiMs timeSeconds inItsDay lastMinute wholeSeconds m
 no-next-day-first = refl
 
 pub year-first : instant fixed (time 1971 13 1 0 0 0 0) ≡ refusal 1
-unfolding instant
+unfolding instant onward nextOf validDate
 year-first = refl
 
 pub millisecond-1000 : instant fixed (time 2000 1 1 0 0 59 1000) ≡ refusal 4
@@ -80,3 +80,9 @@ pub lengths-last : standbyBill fixed (time 2000 1 1 0 0 0 0) (time 2000 1 1 0 0 
 unfolding standbyBill billBetween shares overLimit quarters instant instantOn taiMs timeSeconds inItsDay lastMinute wholeSeconds monthNumber reached fixed
     mjdNumber civilCount nextOf validDate next daysInMonth lengths leapSize onward
 lengths-last = refl
+
+-- the lengths of `a-started-quarter` the other way round: the larger remainder is the second's
+pub cent-to-the-second : standbyBill fixed (time 2017 12 31 23 45 0 0) (time 2018 1 1 0 0 0 1) 25 2 1 ≡ answer (bill 2 33 17)
+unfolding standbyBill billBetween shares overLimit quarters instant instantOn taiMs timeSeconds inItsDay lastMinute wholeSeconds monthNumber reached fixed
+    mjdNumber civilCount nextOf validDate next daysInMonth lengths leapSize onward
+cent-to-the-second = refl
