@@ -26,7 +26,7 @@ WHOLE = re.compile(r"computed as far as they go, the two (?:types|sides|values) 
 PRINTED = re.compile(r"(?:as printed|compared part by part), " + APART, re.S)
 BEGUN = re.compile(r"but this has type `([^`]*)`.*?the expected one begins `([^`]*)`", re.S)
 KINDS = re.compile(r"^\(?(?:mathlib\.Core\.Path\.|Prim\.Native\.Nat\.)?(?:_≡_|_≤_|_<_|_×_|_⊎_|Path|Σ)(?![\w·.-])")
-CLOSED = re.compile(r"^(?:[\d\s(){}=;,]|\b(?:pos|negsuc|suc|true|false|nan|inf|fin|refusal|answer|ofBits|binary64|record)\b"
+CLOSED = re.compile(r"^(?:[\d\s(){}=;,∷]|\[\]|\b(?:pos|negsuc|suc|true|false|nan|inf|fin|refusal|answer|ofBits|binary64|record)\b"
                     r"|(?:[\w·«»-]+\.)+(?=[^\s.])|[A-Z]\w*)+$")
 FIELD = re.compile(r"^\.(?!(?:before|given|result|lifetimes)\b)[\w«»-]+(?: \.(?!(?:before|given|result|lifetimes)\b)[\w«»-]+)*$")
 SHOWN = r"does not follow from what it read|the (?:goal|part) fails, at"
