@@ -9,7 +9,7 @@ use Rattle.ticks.specs.Line.{lineAt}
 use Rattle.ticks.specs.judging.Numbers.{holdsBelow, allSmall, allRising, inside}
 use Rattle.ticks.specs.Passes.{lastNotAfter, millisAt}
 use Rattle.ticks.specs.judging.Refusing.{wellCounted, usable, bothRising, allInside, refusedBy}
-use Rattle.ticks.specs.Ticks.{bytesOf, placedTicks}
+use Rattle.ticks.specs.Ticks.{bytesOf, placedTicks, lentAfter}
 
 abbrev pub twoNumbers : ℕ → ℕ → List ℕ
 twoNumbers a b = eightBytes a ++ eightBytes b
@@ -37,3 +37,16 @@ pub refused-in-order : (placedTicks (twoNumbers 1099511627776 0) (twoNumbers 0 1
     × (placedTicks (twoNumbers 0 1000) (twoNumbers 0 10) (eightBytes 1099511627776) 8 ≡ refusal 25) × (placedTicks [] [] (eightBytes 1) 7 ≡ refusal 11)
 unfolding placedTicks refusedBy wellCounted usable bothRising allInside holdsBelow allSmall allRising inside lastNotAfter millisAt lineAt bytesOf fourAt u64At
 refused-in-order = (refl, refl, refl, refl)
+
+-- three passes, at the ticks 0, 10 and 20 and the milliseconds 0, 100 and 110: tick 5 is on the first line, tick 15 on the second
+abbrev threeNumbers : ℕ → ℕ → ℕ → List ℕ
+threeNumbers a b c = eightBytes a ++ twoNumbers b c
+
+pub two-lines : placedTicks (threeNumbers 0 10 20) (threeNumbers 0 100 110) (twoNumbers 5 15) 16 ≡ answer (twoNumbers 50 105)
+unfolding placedTicks refusedBy wellCounted usable bothRising allInside holdsBelow allSmall allRising inside lastNotAfter millisAt lineAt bytesOf fourAt u64At
+two-lines = refl
+
+-- a lent list of two places: of one result the second stays, and refused both do
+pub places-after : (lentAfter (answer (eightBytes 50)) (twoNumbers 7 8) ≡ twoNumbers 50 8) × (lentAfter (refusal 25) (twoNumbers 7 8) ≡ twoNumbers 7 8)
+unfolding lentAfter bytesOf
+places-after = (refl, refl)
