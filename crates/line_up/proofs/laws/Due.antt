@@ -1,13 +1,13 @@
 -- WHEN A CALL IS ANSWERED, and by which number each other one is refused, for all lengths. Assumes nothing.
-use Prim.Native.Nat.{ℕ, zero, suc, _+_, _-_, _*_, _/_, _%_, _<_, _≤_}
+use Prim.Native.Nat.{ℕ, zero, suc, _+_, _-_, _*_, _/_, _%_, _≤_}
 use native.Mathlib.Omega.{arith}
-use mathlib.Core.Path.{_≡_, refl, sym, ap, _∙_}
+use mathlib.Core.Path.{_≡_, refl, sym, ap}
 use mathlib.Core.Bool.{Bool, true, false, cond}
 use mathlib.Core.List.{List}
 use lib.Dec.{eqb, leb, ltb}
 use lib.ListN.{length}
-use borrow.Author.Tests.{eq-eqb, ne-eqb, eqb-true, eqb-false, leb-true, leb-false, ltb-true, ltb-false}
-use Rattle.refusals.specs.Outcome.{Outcome, answer, refusal}
+use borrow.Author.Tests.{eq-eqb, eqb-true, eqb-false, leb-true, leb-false, ltb-true, ltb-false}
+use Rattle.refusals.specs.Outcome.{answer, refusal}
 use Rattle.line_up.specs.LineUp.{smaller, leastRoom, lineRefusal, linedUp}
 use Rattle.line_up.specs.laws.Claims.{Lined}
 use Rattle.line_up.specs.laws.Due.{WholeParts, PartsEach, RoomEach, LineDecision, LineDue}

@@ -8,19 +8,21 @@ use mathlib.Core.List.{List, [], _∷_, _++_}
 use lib.Dec.{eqb, ltb}
 use lib.ListN.{length, getD, drop, List·getD-eq-default}
 use lib.Seq.{drop-at}
+use lib.Ieee.{binary64, ofBits}
 use borrow.Author.Tests.{eq-eqb, ltb-true, ltb-false, lt-leb}
 use Rattle.numerals.specs.little_endian.LittleEndian.{fourAt, u32At, u64At, fourBytes, eightBytes}
 use Rattle.numerals.specs.little_endian.Written.{allBytes}
 use Rattle.numerals.proofs.little_endian.Items.{written-length, item-u32}
 use Rattle.numerals.proofs.little_endian.RoundTrip.{read-written-4}
 use Rattle.julian.specs.declared.JulianDate.{JulianDate}
+use Rattle.julian.specs.JulianDate.{julian}
 use Rattle.julian.specs.stamp_lists.Stamps.{stampOf}
 use Rattle.julian.proofs.stamp_lists.Written.{stamp-of-lists}
 use Rattle.line_up.specs.Runs.{timesIn}
 use Rattle.line_up.specs.LineUp.{placesBytes, LinedUp, linedUp}
 use Rattle.line_up.specs.laws.Claims.{OneLine, Lined}
-use Rattle.line_up.specs.laws.Due.{LineDue, RoomEach}
-use Rattle.line_up.specs.laws.Writer.{listedDate, Patterns, ListedLine}
+use Rattle.line_up.specs.laws.Due.{RoomEach}
+use Rattle.line_up.specs.laws.Writer.{ListedLine}
 use Rattle.line_up.proofs.laws.Due.{due-answered}
 
 -- ---- the places are written one after the other
@@ -48,9 +50,9 @@ stands [] i h = let w : ⊥ = omega arith in absurd w
 stands (p ∷ ps) zero h = rw (eq-eqb p p refl) (omega arith)
 stands (p ∷ ps) (suc i) h = omega (arith, stands ps i (omega arith))
 
-in-range : (date : ℕ → JulianDate) (ns : List ℕ) (a b : ℕ) (line ms : List ℕ) → OneLine date ns a b line ms → (i : ℕ) → i < length line
+in-range : (stamp : ℕ → JulianDate) (ns : List ℕ) (a b : ℕ) (line ms : List ℕ) → OneLine stamp ns a b line ms → (i : ℕ) → i < length line
     → getD line i 0 < length ns
-in-range date ns a b line ms o i h = go (ltb p (length ms)) refl
+in-range stamp ns a b line ms o i h = go (ltb p (length ms)) refl
   where
     p : ℕ
     p = getD line i 0
@@ -71,28 +73,34 @@ past-end js i h =
     let w : length (allBytes eightBytes js) < 8 * i + 8 = omega (arith, written-length eightBytes 8 (λ n. refl) js) in
     rw (lt-leb (8 * i + 8) (length (allBytes eightBytes js)) w) (sym (List·getD-eq-default js 0 {n = i} h))
 
-module _ (js ks : List ℕ) (as-many : length js ≡ length ks) (first-bits : Patterns js) (second-bits : Patterns ks) where
-  stamp-past-end : (i : ℕ) → length js ≤ i → stampOf (allBytes eightBytes js) (allBytes eightBytes ks) i ≡ listedDate js ks i
-  unfolding stampOf listedDate
+-- the date of the i-th patterns
+abbrev date : List ℕ → List ℕ → ℕ → JulianDate
+date js ks i = julian (ofBits binary64 (getD js i 0)) (ofBits binary64 (getD ks i 0))
+
+module _ (js ks : List ℕ) (as-many : length js ≡ length ks) (first-bits : (i : ℕ) → i < length js → getD js i 0 < 18446744073709551616)
+    (second-bits : (i : ℕ) → i < length ks → getD ks i 0 < 18446744073709551616) where
+  stamp-past-end : (i : ℕ) → length js ≤ i → stampOf (allBytes eightBytes js) (allBytes eightBytes ks) i ≡ date js ks i
+  unfolding stampOf
   stamp-past-end i h = rw (past-end js i h, past-end ks i (omega arith))
 
-  stamp-there : (i : ℕ) → i < length js → stampOf (allBytes eightBytes js) (allBytes eightBytes ks) i ≡ listedDate js ks i
-  unfolding listedDate
+  stamp-there : (i : ℕ) → i < length js → stampOf (allBytes eightBytes js) (allBytes eightBytes ks) i ≡ date js ks i
   stamp-there i h = let k : i < length ks = omega arith in stamp-of-lists js ks i h k (first-bits i h) (second-bits i k)
 
-  pub listed-stamp : (i : ℕ) → stampOf (allBytes eightBytes js) (allBytes eightBytes ks) i ≡ listedDate js ks i
+  pub listed-stamp : (i : ℕ)
+      → stampOf (allBytes eightBytes js) (allBytes eightBytes ks) i ≡ julian (ofBits binary64 (getD js i 0)) (ofBits binary64 (getD ks i 0))
   listed-stamp i = go (ltb i (length js)) refl
     where
-      go : (t : Bool) → ltb i (length js) ≡ t → stampOf (allBytes eightBytes js) (allBytes eightBytes ks) i ≡ listedDate js ks i
+      go : (t : Bool) → ltb i (length js) ≡ t → stampOf (allBytes eightBytes js) (allBytes eightBytes ks) i ≡ date js ks i
       go true e = stamp-there i (ltb-true i (length js) e)
       go false e = stamp-past-end i (ltb-false i (length js) e)
 
-  all-stamps : stampOf (allBytes eightBytes js) (allBytes eightBytes ks) ≡ listedDate js ks
+  all-stamps : stampOf (allBytes eightBytes js) (allBytes eightBytes ks) ≡ date js ks
   all-stamps j i = listed-stamp i j
 
 -- ---- THE CALL over lists of patterns and numbers, as many of each
 module _ (js ks ns : List ℕ) (first second : ℕ) (out : List ℕ) (tails ranks : ℕ) (firsts : length js ≡ length ns) (seconds : length ks ≡ length ns)
-    (first-bits : Patterns js) (second-bits : Patterns ks) (runs : first + second ≤ length ns) (most : length ns ≤ 4294967295)
+    (first-bits : (i : ℕ) → i < length js → getD js i 0 < 18446744073709551616)
+    (second-bits : (i : ℕ) → i < length ks → getD ks i 0 < 18446744073709551616) (runs : first + second ≤ length ns) (most : length ns ≤ 4294967295)
     (room : RoomEach (length ns) (length out) tails ranks) where
   abbrev call : LinedUp
   call = linedUp (allBytes eightBytes js) (allBytes eightBytes ks) ns first second out tails ranks
@@ -113,15 +121,15 @@ module _ (js ks ns : List ℕ) (first second : ℕ) (out : List ℕ) (tails rank
     where
       of : Lined (allBytes eightBytes js) (allBytes eightBytes ks) ns first second out call → ListedLine js ks ns first second out call
       of l =
-          let right : OneLine (listedDate js ks) ns first (first + second) (l .line) (call .numbers) =
-          subst (λ (date : ℕ → JulianDate). OneLine date ns first (first + second) (l .line) (call .numbers))
+          let right : OneLine (date js ks) ns first (first + second) (l .line) (call .numbers) =
+          subst (λ (stamp : ℕ → JulianDate). OneLine stamp ns first (first + second) (l .line) (call .numbers))
           (all-stamps js ks (firsts ∙ sym seconds) first-bits second-bits) (l .right) in
           record {
             line = l .line;
             answers = l .answers;
             counted = l .counted;
             place-at = λ i h.
-                let small : getD (l .line) i 0 < length ns = in-range (listedDate js ks) ns first (first + second) (l .line) (call .numbers) right i h in
+                let small : getD (l .line) i 0 < length ns = in-range (date js ks) ns first (first + second) (l .line) (call .numbers) right i h in
                 ap (λ (s : List ℕ). u32At s (4 * i)) (l .places) ∙ place-back (l .line) (drop (4 * length (l .line)) out) i h (omega arith);
             spare = ap (drop (4 * length (l .line))) (l .places)
                 ∙ drop-at (placesBytes (l .line)) (drop (4 * length (l .line)) out) (4 * length (l .line)) (places-long (l .line));

@@ -7,24 +7,16 @@ use lib.ListN.{length, getD, drop}
 use lib.Ieee.{binary64, ofBits}
 use Rattle.refusals.specs.Outcome.{answer}
 use Rattle.numerals.specs.little_endian.LittleEndian.{u32At}
-use Rattle.julian.specs.declared.JulianDate.{JulianDate}
 use Rattle.julian.specs.JulianDate.{julian}
 use Rattle.line_up.specs.LineUp.{LinedUp}
 use Rattle.line_up.specs.laws.Claims.{OneLine, zerosIn}
 
--- the date of two patterns at place i of their lists
-unfoldable pub listedDate : List ℕ → List ℕ → ℕ → JulianDate
-listedDate js ks i = julian (ofBits binary64 (getD js i 0)) (ofBits binary64 (getD ks i 0))
-
--- numbers of 64 bits
-abbrev pub Patterns : List ℕ → Type 0
-Patterns js = (i : ℕ) → i < length js → getD js i 0 < 18446744073709551616
-
--- what a call leaves of stamps with these patterns and the numbers ns: `line` are the places that a caller reads, each from its own four bytes
+-- what a call leaves of stamps with the patterns js and ks and the numbers ns: `line` are the places that a caller reads, each from its own four bytes, and the
+-- stamp at place i is the date of the i-th patterns
 pub record ListedLine (js ks ns : List ℕ) (first second : ℕ) (out : List ℕ) (l : LinedUp) : Type 0 where
   pub line : List ℕ
   pub answers : l .answer ≡ answer (length line)
   pub counted : length line ≡ zerosIn (l .numbers)
   pub place-at : (i : ℕ) → i < length line → u32At (l .out) (4 * i) ≡ getD line i 0
   pub spare : drop (4 * length line) (l .out) ≡ drop (4 * length line) out
-  pub right : OneLine (listedDate js ks) ns first (first + second) line (l .numbers)
+  pub right : OneLine (λ (i : ℕ). julian (ofBits binary64 (getD js i 0)) (ofBits binary64 (getD ks i 0))) ns first (first + second) line (l .numbers)

@@ -38,16 +38,10 @@ use Rattle.julian.specs.stamp_lists.Stamps.{stampOf}
 use Rattle.floats.proofs.ExponentField.{field-not-finite}
 use Rattle.runs.specs.ways.Ways.{isRunScale, intoTai, outOfTai, between, wayOf}
 use Rattle.runs.specs.laws.NotFiniteStamps.{StampNotFinite, numberOfNotFinite, OneSixNine}
+use Rattle.runs.specs.laws.Answered.{Five, utc, tai, tt′, gps, tcg}
 use Rattle.runs.proofs.laws.EachWay.{each-way}
 
 -- ---- the five scales
-pub data Five : ℕ → Type 0 where
-  utc : Five 0
-  tai : Five 1
-  tt′ : Five 3
-  gps : Five 4
-  tcg : Five 5
-
 pub five : (n : ℕ) → isRunScale n ≡ true → Five n
 unfolding isRunScale
 five n h = go (eqb n 0) (eqb n 1) (eqb n 3) (eqb n 4) (eqb n 5) refl refl refl refl refl h
@@ -104,7 +98,7 @@ module _ (rows : List Row) (d : JulianDate) (h : finiteParts d ≡ false) where
   not-finite-way from to tcg tcg = each-way rows d .tcg-tcg ∙ same-nine
 
 -- ---- a not-finite stamp
-either : (a b : Bool) → (a ≡ false) ⊎ (b ≡ false) → (a && b) ≡ false
+pub either : (a b : Bool) → (a ≡ false) ⊎ (b ≡ false) → (a && b) ≡ false
 either true b (inl e) = absurd (true≢false e)
 either true b (inr e) = e
 either false b e = refl
