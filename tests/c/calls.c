@@ -365,6 +365,43 @@ static void each_byte(void)
     }
 }
 
+/* Each byte value inserted at each place of a text. `room` has a letter for each place, the one behind the text too: b where a blank may stand, d a digit, e
+   either, and a dot where no byte may. */
+static void each_insertion(void)
+{
+    static const struct {
+        const char *text, *room;
+        int utc;
+    } texts[] = {
+        {"2016-12-31T23:59:60.5Z", "b...................ddb", 1},
+        {"2016-12-31 23:59:60Z", "b...................b", 1},
+        {"2016-12-31T23:59:60.5", "b...................de", 0},
+        {"2016-12-31 23:59:60", "b..................b", 0},
+    };
+    size_t i, at, length;
+    int byte, digit, blank, due;
+    for (i = 0; i < sizeof texts / sizeof texts[0]; i++) {
+        length = strlen(texts[i].text);
+        check(strlen(texts[i].room) == length + 1, "a letter for each place of %s", texts[i].text);
+        for (byte = 0; byte < 256; byte++) {
+            digit = byte >= '0' && byte <= '9';
+            blank = (byte >= 9 && byte <= 13) || byte == 32;
+            for (at = 0; at <= length; at++) {
+                uint8_t text[32], out[44];
+                const char room = texts[i].room[at];
+                memcpy(text, texts[i].text, at);
+                text[at] = (uint8_t)byte;
+                memcpy(text + at + 1, texts[i].text + at, length - at);
+                due = (blank && (room == 'b' || room == 'e')) || (digit && (room == 'd' || room == 'e'));
+                check((ct_utc_from_iso8601(text, length + 1, NO_ROWS, out, sizeof out) != -15) == (due || (!texts[i].utc && at == length && byte == 'Z')),
+                      "byte %d inserted at place %d of %s, read as UTC", byte, (int)at, texts[i].text);
+                if (!texts[i].utc)
+                    check((ct_parse_iso8601(text, length + 1, out, sizeof out) != -15) == due, "byte %d inserted at place %d of %s", byte, (int)at, texts[i].text);
+            }
+        }
+    }
+}
+
 /* ---- blocks: tests/c/damaged.c has the bulk */
 
 static void block_calls(void)
@@ -447,6 +484,7 @@ int main(void)
     texts_read();
     utc_texts_read();
     each_byte();
+    each_insertion();
     block_calls();
     read_numbers();
     read_answers();

@@ -4,6 +4,7 @@ pub mod Fractions
 pub mod Heads
 pub mod Grammar
 pub mod Ladder
+pub mod SixFields
 pub mod UtcLadder
 pub mod Around
 -- What we write is read back: any text of ours, and every text of the text calls.
