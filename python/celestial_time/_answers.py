@@ -1,13 +1,13 @@
 """What the functions answer: named tuples of arrays, or of single values where single values were given.
 
 The last field, `numbers`, has 0 for a stamp that is answered and the refusal's number for one that is not. In the places of a refused stamp stand NaN, the
-least number of the type (NO_INT of a field of 32 bits), or an empty text.
+least number of the type (NO_INT of a field of 32 bits), NaT, or an empty text.
 """
 from __future__ import annotations
 
 from typing import Any, NamedTuple
 
-NO_INT = -(2**31)
+NO_INT, NO_LONG = -(2**31), -(2**63)
 
 
 class Number(int):
@@ -186,3 +186,59 @@ class Order(NamedTuple):
 
     order: Any
     numbers: Any
+
+
+class Ticks(NamedTuple):
+    """Ticks' TAI milliseconds, of 64 bits signed; NO_LONG in the places of refused ones.
+
+    >>> place_ticks([0, 1000], [0, 500], [3], return_numbers=True).millis
+    array([1])
+    """
+
+    millis: Any
+    numbers: Any
+
+
+class Times(NamedTuple):
+    """UTC as numpy's datetime64, in milliseconds.
+
+    >>> utc_datetime64('utc', 2451545.0, 0.0).time
+    numpy.datetime64('2000-01-01T12:00:00.000')
+    """
+
+    time: Any
+    numbers: Any
+
+
+class Seconds(NamedTuple):
+    """Seconds from one date to another.
+
+    >>> seconds_between('tai', 2451545.0, 0.25, 2451545.0, 0.0).seconds
+    21600.0
+    """
+
+    seconds: Any
+    numbers: Any
+
+
+class Sorted(NamedTuple):
+    """The places of the stamps that have an order, as they rise, and the number of each stamp.
+
+    >>> argsort([2451546.0, 2451545.0], [0.0, 0.0]).places
+    array([1, 0], dtype=uint32)
+    """
+
+    places: Any
+    numbers: Any
+
+
+class Bill(NamedTuple):
+    """A standby bill: the quarter hours that were begun, and the cents of the two owners.
+
+    >>> standby_bill('2016-12-31T23:45:00', '2017-01-01T00:00:00', 1000, 300, 100).quarters
+    2
+    """
+
+    quarters: int
+    first_cents: int
+    second_cents: int

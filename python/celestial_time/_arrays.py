@@ -20,8 +20,9 @@ FLOAT, INT, LONG, NUMBER = "<f8", "<i4", "<i8", "u1"
 _FLOAT = np.dtype(FLOAT)
 _PLAIN = (np.ndarray, np.memmap)
 # Items of lists that lose nothing by themselves, and those of them that become floats as they are.
-_FLOATS = {float, np.float64, np.float32}
-_ITEMS = {int, str, bytes, np.int64, np.int32, np.str_, np.bytes_, *_FLOATS}
+_FLOATS: set[type] = {float, np.float64, np.float32}
+_TEXTS: set[type] = {str, bytes}
+_ITEMS: set[type] = {int, str, bytes, np.int64, np.int32, np.str_, np.bytes_, *_FLOATS}
 # The kinds of arrays that may be lent for answers of a kind.
 _HOLD = {**dict.fromkeys("fiu", "fiu"), "b": "bfiu", "S": "SU"}
 
@@ -72,7 +73,7 @@ def _look_at(name: str, value: Any) -> None:
 def _look_at_numbers(name: str, value: Any, become_floats: bool) -> None:
     """That no whole number of a list or tuple is rounded where they become floats, and that no number becomes a text."""
     if isinstance(value, (list, tuple)):
-        if not set(map(type, value)) <= (_FLOATS if become_floats else {str, bytes}):
+        if not set(map(type, value)) <= (_FLOATS if become_floats else _TEXTS):
             for item in value:
                 _look_at_numbers(name, item, become_floats)
     elif not become_floats:
@@ -90,6 +91,15 @@ def _check_no_number(name: str, value: Any) -> None:
         raise TypeError(f"{name} is the number of an answer: of an answer hand over [:2]")
     if isinstance(value, (np.ndarray, np.uint8)) and value.dtype == np.uint8:
         raise TypeError(f"{name} is of 8 bits unsigned, as the numbers of an answer are: of an answer hand over [:2]")
+
+
+def is_missing(item: Any) -> bool:
+    """Whether an item of an array of objects stands for none: None, a NaN, or pandas' NaT or NA.
+
+    >>> is_missing(None), is_missing(float('nan')), is_missing('')
+    (True, True, False)
+    """
+    return item is None or isinstance(item, float) and item != item or type(item).__name__ in ("NaTType", "NAType")
 
 
 def _check_whole(name: str, number: int) -> None:
@@ -164,6 +174,30 @@ def small(name: str, value: ArrayLike) -> NDArray[Any]:
     return array.view(array.dtype.str.replace("u", "i")) if array.size else array.astype(LONG)
 
 
+def counts(name: str, value: ArrayLike) -> NDArray[Any]:
+    """Weeks, milliseconds or ticks: whole numbers as `small` takes them, or floats that are whole or not finite, as pandas makes a column of whole numbers of which
+    some are missing. A float that is not finite, or that 64 bits do not hold, becomes -1, which stands for what no call takes.
+
+    >>> counts('week', [2048.0, float('nan'), 1e300])
+    array([2048,   -1,   -1])
+    >>> counts('week', [2048.0, 0.5])
+    Traceback (most recent call last):
+    ValueError: week holds 0.5 at place 1, which is no whole number
+    """
+    array = as_array(name, value)
+    if array.dtype.kind != "f" or array.dtype.itemsize > 8 or not array.size:
+        return small(name, array)
+    held = _once(array)
+    fits = np.abs(held) < 2.0**63  # no NaN, and no infinity
+    made = np.where(fits, held, -1.0).astype(LONG)
+    broken = fits & (made != held)
+    if broken.any():
+        at = np.unravel_index(int(broken.argmax()), held.shape)
+        place = np.ravel_multi_index(at, array.shape) if array.shape else 0
+        raise ValueError(f"{name} holds {held[at].item()!r} at place {place}, which is no whole number")
+    return made if made.shape == array.shape else np.broadcast_to(made, array.shape)
+
+
 def lent(out: Sequence[Any] | None, gives: Sequence[Field], shape: tuple[int, ...]) -> list[NDArray[Any] | None]:
     """The arrays that the caller lends for the answers, each of the answers' shape and of a type that holds them.
 
@@ -210,6 +244,40 @@ def _overlap(one: NDArray[Any], other: NDArray[Any]) -> bool:
         return bool(np.shares_memory(one, other, max_work=100000))
     except RuntimeError:  # numpy's TooHardError: so many steps do not tell
         return True
+
+
+def one_dimension(name: str, value: ArrayLike) -> NDArray[Any]:
+    """Floats of a run, in one dimension.
+
+    >>> one_dimension('jd1', 2451545.0)
+    Traceback (most recent call last):
+    ValueError: jd1 has 0 dimensions and not one
+    """
+    array = floats(name, value)
+    if array.ndim != 1:
+        raise ValueError(f"{name} has {array.ndim} dimensions and not one")
+    return array
+
+
+def in_one_piece(name: str, value: ArrayLike) -> NDArray[np.float64]:
+    """64-bit floats of a run, in one piece.
+
+    >>> in_one_piece('jd1', [2451545])
+    array([2451545.])
+    """
+    return np.ascontiguousarray(one_dimension(name, value), FLOAT)
+
+
+def judged(name: str, value: ArrayLike) -> NDArray[np.uint8]:
+    """A copy of the numbers of a run, as the functions answer them.
+
+    >>> judged('numbers', gpstai([float('nan')], [0.0]).numbers)
+    array([9], dtype=uint8)
+    """
+    array = as_array(name, value)
+    if array.dtype != np.uint8 or array.ndim != 1:
+        raise TypeError(f"{name} are an array of one dimension and of 8 bits unsigned, as the functions answer it")
+    return np.array(array, "u1", order="C")
 
 
 def common_shape(takes: Sequence[tuple[str, NDArray[Any]]]) -> tuple[int, ...]:

@@ -7,7 +7,7 @@ import functools
 import os
 import pathlib
 import threading
-from typing import Any
+from typing import Any, Protocol, Sequence
 
 NAME = "libcelestial_time_arrays.so"
 TABLE_BYTES = 136
@@ -23,6 +23,7 @@ _CALLS: dict[str, tuple[Any, ...]] = {
     "ct_offsets_at_0h": _SLICE * 3,
     "ct_line_up": (*_SLICE * 3, _U64, _U64, *_SLICE * 3),
     "ct_place_ticks": _SLICE * 4,
+    "ct_standby_bill": (*(_I32, *(_U8,) * 5, _U32) * 2, *(_U32,) * 3, *_SLICE * 2),
     "ct_block_stamps": _SLICE,
     "ct_listing_part": (*_SLICE, _U32, *_SLICE * 2),
     "ct_reason_listing_part": (*_SLICE, _U64, _U32, *_SLICE * 2),
@@ -52,6 +53,7 @@ _LOOPS: dict[str, int] = {
     "ct_each_text": 9,
     "ct_each_read": 10,
     "ct_each_read_utc": 13,
+    "ct_each_read_time": 12,
     "ct_each_week_date": 6,
     "ct_each_week": 6,
     "ct_each_full_week": 5,
@@ -59,6 +61,7 @@ _LOOPS: dict[str, int] = {
     "ct_each_equal": 6,
     "ct_each_difference": 6,
     "ct_each_place": 6,
+    "ct_each_sort": 5,
     "ct_each_same_stamp": 8,
     "ct_each_float_mode": 0,
     "ct_each_default_float_mode": 0,
@@ -66,6 +69,19 @@ _LOOPS: dict[str, int] = {
 _INTS = ("ct_each_float_mode", "ct_each_default_float_mode")
 _loaded: ctypes.CDLL | None = None
 _loading = threading.Lock()
+
+
+class Call(Protocol):
+    """A call of the library: a whole number for an answer or a refusal, and the types that it takes.
+
+    >>> function('ct_block_stamps').restype is ctypes.c_int64
+    True
+    """
+
+    argtypes: Sequence[Any]
+    restype: Any
+
+    def __call__(self, *arguments: Any) -> int: ...
 
 
 class LibraryError(ImportError):
@@ -129,7 +145,7 @@ def library() -> ctypes.CDLL:
 
 
 @functools.lru_cache(maxsize=None)
-def function(name: str) -> Any:
+def function(name: str) -> Call:
     """A call of the library by its name.
 
     >>> function('ct_block_stamps')(bytes(8), 8)
@@ -139,7 +155,7 @@ def function(name: str) -> Any:
     celestial_time._library.LibraryError: the library has no ct_no_such_call: it is older than this package, or was built without its loops (python/make)
     """
     try:
-        found = getattr(library(), name)
+        found: Call = getattr(library(), name)
     except AttributeError:
         raise LibraryError(
             f"the library has no {name}: it is older than this package, or was built without its loops (python/make)"
@@ -159,7 +175,8 @@ def address(name: str) -> int:
     >>> address('ct_gps_to_tai') > 0
     True
     """
-    return int(ctypes.cast(function(name), ctypes.c_void_p).value or 0)
+    called: Any = function(name)
+    return int(ctypes.cast(called, ctypes.c_void_p).value or 0)
 
 
 def has(name: str) -> bool:

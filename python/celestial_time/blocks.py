@@ -10,9 +10,8 @@ import numpy as np
 from numpy.typing import ArrayLike, NDArray
 
 from ._library import TABLE_BYTES, check_float_mode, function
-from ._arrays import FLOAT, address_of
+from ._arrays import FLOAT, address_of, in_one_piece
 from .refusals import Refused
-from .runs import _in_one_piece
 from .tables import Table, lent_table
 
 MOST = 4000
@@ -78,7 +77,7 @@ def block_of(jd1: ArrayLike, jd2: ArrayLike) -> bytes:
     >>> len(block_of([2451545.0], [0.0]))
     24
     """
-    first, second = _in_one_piece("jd1", jd1), _in_one_piece("jd2", jd2)
+    first, second = in_one_piece("jd1", jd1), in_one_piece("jd2", jd2)
     if max(len(first), len(second)) > 0xFFFFFFFF:
         raise OverflowError(f"{max(len(first), len(second))} stamps: a size has 32 bits")
     block = struct.pack("<2I", len(first), len(second)) + first.tobytes() + second.tobytes()
@@ -100,7 +99,7 @@ def write_blocks(target: str | os.PathLike[str] | BinaryIO, jd1: ArrayLike, jd2:
     >>> read_blocks(file.getvalue()).sizes
     array([2, 1])
     """
-    first, second = _in_one_piece("jd1", jd1), _in_one_piece("jd2", jd2)
+    first, second = in_one_piece("jd1", jd1), in_one_piece("jd2", jd2)
     if len(first) != len(second):
         raise ValueError(f"{len(first)} first parts and {len(second)} second parts")
     if size < 1:

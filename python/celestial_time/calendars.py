@@ -1,7 +1,7 @@
 """Calendar fields and Julian dates, both ways, on arrays; Unix time."""
 from __future__ import annotations
 
-from typing import Any
+from typing import Any, Callable
 
 from numpy.typing import ArrayLike
 
@@ -62,7 +62,7 @@ def dtf2d(
     rows = lent_table(table)
     takes: list[Any] = [("year", whole("year", year, INT)), ("month", small("month", month)), ("day", small("day", day))]
     takes += [("hour", small("hour", hour)), ("minute", small("minute", minute)), ("second", floats("second", second))]
-    loop = function("ct_each_time")
+    loop: Callable[..., int] = function("ct_each_time")
     if scale == "utc":
         utc = function("ct_each_utc_time")
         loop = lambda n, *a: utc(rows.address, n, *a)
@@ -75,6 +75,15 @@ def from_unix(seconds: ArrayLike, nanos: ArrayLike = 0, *, table: Table | None =
     >>> from_unix([0, 1483228799], 500000000)
     Dates(jd1=array([2440587.5, 2457753.5]), jd2=array([5.78703704e-06, 9.99982639e-01]), numbers=array([0, 0], dtype=uint8))
     """
+    return unix_dates("from_unix", seconds, nanos, table, out)
+
+
+def unix_dates(name: str, seconds: ArrayLike, nanos: ArrayLike, table: Table | None, out: Out) -> Dates:
+    """The dates of Unix times for a function of this name.
+
+    >>> unix_dates('from_unix', 0, 0, None, None)
+    Dates(jd1=2440587.5, jd2=0.0, numbers=0)
+    """
     rows, loop = lent_table(table), function("ct_each_unix_time")
     takes = [("seconds", whole("seconds", seconds, "<i8")), ("nanos", whole("nanos", nanos, "<u4"))]
-    return Dates(*each("from_unix", lambda n, *a: loop(rows.address, n, *a), takes, _DATES, ["<i8", "<u4"], out))
+    return Dates(*each(name, lambda n, *a: loop(rows.address, n, *a), takes, _DATES, ["<i8", "<u4"], out))

@@ -10,13 +10,13 @@ import numpy as np
 from numpy.typing import NDArray
 
 from .blocks import BlockRefused, Source, Stamps, read_blocks
-from .runs import Line, line_up_recorders
+from .refusals import LEFT_OUT
+from .runs import Line, line_up_recorders, listed_places
 from .scales import taiutc
 from .tables import Table
 from .texts import to_iso8601
 
 RECORDERS = ("gps", "tai", "utc")
-LEFT_OUT = 17
 _PAGE = 1 << 16
 
 
@@ -53,24 +53,6 @@ def line_up_files(*recorders: Recorder, table: Table | None = None) -> Line:
     array([1, 0, 1], dtype=uint8)
     """
     return line_up_recorders(*((one.scale, one.stamps.jd1, one.stamps.jd2) for one in recorders), table=table)
-
-
-def listed_places(line: Line) -> NDArray[np.int64]:
-    """The places of all stamps as they are listed: the ordered ones as they rise, and each that is not ordered behind the last ordered one before it in its
-    own run, or before all where there is none.
-
-    >>> listed_places(line_up([2451545.0, float('nan'), 2451546.0, 2451545.0], [0.0, 0.0, 0.0, 0.5], (3,)))
-    array([0, 1, 3, 2])
-    """
-    behind = np.full(len(line.numbers), -1, np.int64)
-    behind[line.places] = np.arange(len(line.places))
-    start = 0
-    for count in line.counts:
-        # The places in the line of a run's ordered stamps rise.
-        run = behind[start : start + count]
-        np.maximum.accumulate(run, out=run)
-        start += count
-    return np.argsort(behind, kind="stable")
 
 
 def listing_of(line: Line, recorders: tuple[Recorder, ...], table: Table | None = None) -> Iterator[bytes]:

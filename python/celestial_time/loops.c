@@ -292,6 +292,26 @@ int64_t ct_each_read_utc(const uint8_t *table, size_t width, size_t n, const uin
     return refused;
 }
 
+/* A text of a scale without leap seconds: the fields of ct_parse_iso8601, and the date that ct_from_calendar gives of them. */
+int64_t ct_each_read_time(size_t width, size_t n, const uint8_t *texts, int32_t *year, int32_t *month, int32_t *day, int32_t *hour, int32_t *minute,
+                          double *second, double *out1, double *out2, uint8_t *numbers)
+{
+    int32_t *const fields[5] = {year, month, day, hour, minute};
+    uint8_t bytes[44];
+    int64_t refused = 0;
+    memset(numbers, 0, n);
+    for (size_t i = 0; i < n; i++) {
+        const uint8_t *text = texts + width * i;
+        int64_t code = ct_parse_iso8601(text, text_length(text, width), bytes, 28);
+        if (code >= 0)
+            code = ct_from_calendar(int_of(bytes), field_of(int_of(bytes + 4)), field_of(int_of(bytes + 8)), field_of(int_of(bytes + 12)),
+                                    field_of(int_of(bytes + 16)), float_of(bytes + 20), bytes + 28, 16);
+        put_fields(code, bytes, fields, second, i);
+        refused += put_date(code, bytes + 28, out1 + i, out2 + i, numbers + i);
+    }
+    return refused;
+}
+
 /* ---- GPS weeks */
 
 /* What does not fit the call's 32 bits is handed over as the greatest number, which no call takes. */
@@ -372,6 +392,36 @@ int64_t ct_each_place(size_t second, size_t third, size_t n, const uint32_t *pla
         stamp[i] = at - (uint32_t)(at >= third ? third : at >= second ? second : 0);
     }
     return 0;
+}
+
+/* Two stretches of places that are sorted, [left, middle) and [middle, right), as one; equal dates stay as they came. Below zero, what ct_compare refuses by. */
+static int64_t merge(const double *jd1, const double *jd2, const uint32_t *from, uint32_t *to, size_t left, size_t middle, size_t right)
+{
+    size_t i = left, j = middle;
+    for (size_t k = left; k < right; k++) {
+        int64_t order = 0;
+        if (i < middle && j < right) order = ct_compare(jd1[from[i]], jd2[from[i]], jd1[from[j]], jd2[from[j]]);
+        if (order < 0) return order;
+        to[k] = i < middle && (j >= right || order != 2) ? from[i++] : from[j++];
+    }
+    return 0;
+}
+
+/* n places sorted by the exact sums of their dates. Returns 0 where they are in `places` then, 1 where in `work`, or what ct_compare refuses by, below zero. */
+int64_t ct_each_sort(size_t n, const double *jd1, const double *jd2, uint32_t *places, uint32_t *work)
+{
+    uint32_t *from = places, *to = work;
+    for (size_t width = 1; width < n; width *= 2) {
+        for (size_t left = 0; left < n; left += 2 * width) {
+            size_t middle = left + width < n ? left + width : n, right = left + 2 * width < n ? left + 2 * width : n;
+            int64_t code = merge(jd1, jd2, from, to, left, middle, right);
+            if (code < 0) return code;
+        }
+        uint32_t *kept = from;
+        from = to;
+        to = kept;
+    }
+    return from == work;
 }
 
 int64_t ct_each_same_stamp(uint32_t scale, uint32_t other_scale, size_t n, const uint64_t *jd1, const uint64_t *jd2, const uint64_t *other1,

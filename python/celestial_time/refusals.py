@@ -16,6 +16,7 @@ _SENTENCES: dict[str, tuple[str, ...]] = {
     "ct_count_reason": ("nanos",),
 }
 _FLOATS = ("fraction", "offset")
+LEFT_OUT = 17  # of a stamp of a line; every other number is a refusal
 # The values that a number's test reads. Those of 4 are not here: the leap of the day is not among a call's arguments.
 _READ: dict[int, tuple[str, ...]] = {
     **dict.fromkeys((1, 2, 3), ("year", "month", "day")),
@@ -51,7 +52,8 @@ class Refused(ValueError):
         # The sentence has a float's bits; Python's own words for the values stand behind it.
         values = f" ({', '.join(f'{name}={value!r}' for name, value in read.items())})" if read else ""
         # A value that the sentence's call can't be handed leaves the sentence that names no field.
-        for given in (read if whole else {}, {}):
+        tries: list[dict[str, Any]] = [read if whole else {}, {}]
+        for given in tries:
             try:
                 return f"{said}: {reason(self.number, **given)}{values}"
             except (FloatModeError, LibraryError, OverflowError, Refused):
@@ -91,7 +93,7 @@ def reason(number: int, **values: Any) -> str:
     return text.raw[:code].decode("ascii")
 
 
-def _fitting(value: Any, kind: Any) -> Any:
+def _fitting(value: Any, kind: Any) -> int | float:
     """The value as the call's type takes it: ctypes would cut a whole number that does not fit."""
     if kind is ctypes.c_double:
         return float(value)

@@ -4,7 +4,7 @@ The names are pyerfa's: the two scales one after the other. gpstai, taigps, tait
 """
 from __future__ import annotations
 
-from typing import Any, Sequence, Union
+from typing import Any, Literal, Sequence, Union, overload
 
 import numpy as np
 from numpy.typing import ArrayLike, NDArray
@@ -213,7 +213,13 @@ def ttut1(tt1: ArrayLike, tt2: ArrayLike, dt: ArrayLike, *, out: Out = None) -> 
     return _formula_by("ttut1", "tt", "ut1", tt1, tt2, "dt", dt, out)
 
 
-def utctai(utc1: ArrayLike, utc2: ArrayLike, *, table: Table | None = None, return_rule: bool = False, out: Out = None) -> Any:
+@overload
+def utctai(utc1: ArrayLike, utc2: ArrayLike, *, table: Table | None = None, return_rule: Literal[False] = False, out: Out = None) -> Dates: ...
+@overload
+def utctai(utc1: ArrayLike, utc2: ArrayLike, *, table: Table | None = None, return_rule: Literal[True], out: Out = None) -> DatesByRule: ...
+
+
+def utctai(utc1: ArrayLike, utc2: ArrayLike, *, table: Table | None = None, return_rule: bool = False, out: Out = None) -> Dates | DatesByRule:
     """UTC to TAI, with `return_rule` also the row of TAI-UTC that it was read by.
 
     >>> utctai(2457753.5, 0.0)
@@ -241,9 +247,17 @@ def taiutc(tai1: ArrayLike, tai2: ArrayLike, *, table: Table | None = None, out:
     return _run("taiutc", "tai", "utc", tai1, tai2, out, table)
 
 
+@overload
+def utcut1(
+    utc1: ArrayLike, utc2: ArrayLike, dut1: ArrayLike, *, table: Table | None = None, return_rule: Literal[False] = False, out: Out = None
+) -> Dates: ...
+@overload
+def utcut1(utc1: ArrayLike, utc2: ArrayLike, dut1: ArrayLike, *, table: Table | None = None, return_rule: Literal[True], out: Out = None) -> DatesByRule: ...
+
+
 def utcut1(
     utc1: ArrayLike, utc2: ArrayLike, dut1: ArrayLike, *, table: Table | None = None, return_rule: bool = False, out: Out = None
-) -> Any:
+) -> Dates | DatesByRule:
     """UTC to UT1 by UT1-UTC in seconds, with `return_rule` also the row of TAI-UTC that it was read by.
 
     >>> utcut1(2451545.0, 0.25, 0.3341)

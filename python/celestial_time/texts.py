@@ -1,20 +1,31 @@
-"""UTC texts, written as an array of byte strings, and ISO 8601 texts read."""
+"""UTC texts, written as an array of byte strings or of str, and ISO 8601 texts read."""
 from __future__ import annotations
 
-from typing import Any
+from typing import Any, Literal, overload
 
 import numpy as np
 from numpy.typing import ArrayLike, NDArray
 
 from ._answers import Fields, Texts, TextsByRule, UtcFields
-from ._arrays import FLOAT, INT, NUMBER, Field, as_array, each, floats
+from ._arrays import FLOAT, INT, NUMBER, Field, as_array, each, floats, is_missing
 from ._library import address, function
-from .scales import Out
+from .scales import RUN_SCALES, SCALES, Out, convert
 from .tables import Table, lent_table
 
 FORMS = {"iso8601": "ct_to_iso8601", "half_even": "ct_to_iso8601_half_even", "expanded": "ct_to_iso8601_expanded"}
 WIDTH = 27  # TEXT_PLACE of loops.c
 _FIELDS = [*(Field(name, INT) for name in ("year", "month", "day", "hour", "minute")), Field("second", FLOAT)]
+_DATED = [*_FIELDS, Field("jd1", FLOAT), Field("jd2", FLOAT), Field("numbers", NUMBER)]
+
+
+@overload
+def to_iso8601(
+    utc1: ArrayLike, utc2: ArrayLike, *, form: str = "iso8601", table: Table | None = None, return_rule: Literal[False] = False, as_str: bool = False, out: Out = None
+) -> Texts: ...
+@overload
+def to_iso8601(
+    utc1: ArrayLike, utc2: ArrayLike, *, form: str = "iso8601", table: Table | None = None, return_rule: Literal[True], as_str: bool = False, out: Out = None
+) -> TextsByRule: ...
 
 
 def to_iso8601(
@@ -24,26 +35,55 @@ def to_iso8601(
     form: str = "iso8601",
     table: Table | None = None,
     return_rule: bool = False,
+    as_str: bool = False,
     out: Out = None,
-) -> Any:
-    """UTC dates as texts to the millisecond, byte strings of numpy's type S27; with `return_rule` also the row of TAI-UTC of their day.
+) -> Texts | TextsByRule:
+    """UTC dates as texts to the millisecond, byte strings of numpy's type S27, with `as_str` str of type U27; with `return_rule` also the row of TAI-UTC of their day.
 
     The form is 'iso8601', 'half_even' (half milliseconds to the even one) or 'expanded' (a sign and seven digits for a year outside four).
 
     >>> to_iso8601(2451545.0, [0.0, 0.25, float('nan')])
     Texts(text=array([b'2000-01-01T12:00:00.000', b'2000-01-01T18:00:00.000', b''],
           dtype='|S27'), numbers=array([0, 0, 6], dtype=uint8))
+    >>> to_iso8601(2451545.0, 0.0, as_str=True).text
+    '2000-01-01T12:00:00.000'
     """
     if form not in FORMS:
         raise ValueError(f"no form: {form!r}; the forms are {', '.join(FORMS)}")
+    if as_str and out is not None:
+        raise TypeError("out: where texts are lent, their type says whether they are str; as_str is not due")
     loop, at, rows = function("ct_each_text"), address(FORMS[form]), lent_table(table)
     takes = [("jd1", floats("utc1", utc1)), ("jd2", floats("utc2", utc2))]
     texts, numbers = Field("text", f"S{WIDTH}"), Field("numbers", NUMBER)
     if return_rule:
         gives = [texts, Field("rule", INT), Field("row", INT), numbers]
-        return TextsByRule(*each("to_iso8601", lambda n, *a: loop(at, rows.address, n, *a), takes, gives, [FLOAT] * 2, out))
+        ruled = TextsByRule(*each("to_iso8601", lambda n, *a: loop(at, rows.address, n, *a), takes, gives, [FLOAT] * 2, out))
+        return ruled._replace(text=_str(ruled.text)) if as_str else ruled
     told = lambda n, a1, a2, text, number: loop(at, rows.address, n, a1, a2, text, 0, 0, number)
-    return Texts(*each("to_iso8601", told, takes, [texts, numbers], [FLOAT] * 2, out))
+    plain = Texts(*each("to_iso8601", told, takes, [texts, numbers], [FLOAT] * 2, out))
+    return plain._replace(text=_str(plain.text)) if as_str else plain
+
+
+def _str(text: Any) -> NDArray[np.str_] | str:
+    return text.decode("ascii") if isinstance(text, bytes) else text.astype(f"U{WIDTH}")
+
+
+def utc_texts(
+    scale: str, jd1: ArrayLike, jd2: ArrayLike, *, form: str = "iso8601", table: Table | None = None, as_str: bool = False
+) -> Texts:
+    """The UTC texts of dates of utc, tai, gps, tt or tcg, in one call: through the scales to UTC, and then as `to_iso8601` writes them.
+
+    >>> utc_texts('gps', [2457754.5, float('nan')], 17.5 / 86400.0, as_str=True)
+    Texts(text=array(['2016-12-31T23:59:60.500', ''], dtype='<U27'), numbers=array([0, 9], dtype=uint8))
+    """
+    if scale not in RUN_SCALES:
+        raise ValueError(f"no UTC text of scale {scale!r}; the scales are {', '.join(RUN_SCALES)}")
+    if scale == "utc":
+        return to_iso8601(jd1, jd2, form=form, table=table, as_str=as_str)
+    utc = convert(scale, "utc", jd1, jd2, table=table)
+    told = to_iso8601(utc.jd1, utc.jd2, form=form, table=table, as_str=as_str)
+    # A date that has no UTC is a NaN there, which has no text either; its number is the first.
+    return told if isinstance(utc.numbers, int) else told._replace(numbers=np.where(utc.numbers, utc.numbers, told.numbers))
 
 
 def parse_iso8601(texts: ArrayLike, *, out: Out = None) -> Fields:
@@ -58,24 +98,47 @@ def parse_iso8601(texts: ArrayLike, *, out: Out = None) -> Fields:
     return Fields(*each("parse_iso8601", lambda n, *a: loop(width, n, *a), [("texts", given)], gives, [given.dtype.str], out))
 
 
-def from_iso8601(texts: ArrayLike, *, table: Table | None = None, out: Out = None) -> UtcFields:
+def from_iso8601(texts: ArrayLike, *, scale: str = "utc", table: Table | None = None, out: Out = None) -> UtcFields:
     """The six fields and the date of UTC texts, which may end in a Z. Bytes of 0 at the end of a byte string are numpy's filling and not the text's.
+
+    With another `scale`, as 'gps' or 'tai', the texts show its clock, and the dates are its: a Z and a second 60 are refused there, by 15 and 4.
 
     >>> from_iso8601('2016-12-31T23:59:60.5Z')
     UtcFields(year=2016, month=12, day=31, hour=23, minute=59, second=60.5, jd1=2457753.5, jd2=0.9999942130299417, numbers=0)
+    >>> from_iso8601(['2017-01-01T00:00:18', '2016-12-31T23:59:60'], scale='gps').numbers
+    array([0, 4], dtype=uint8)
     """
-    given = _byte_strings(texts)
-    loop, width, rows = function("ct_each_read_utc"), given.dtype.itemsize, lent_table(table)
-    gives = [*_FIELDS, Field("jd1", FLOAT), Field("jd2", FLOAT), Field("numbers", NUMBER)]
-    read = lambda n, *a: loop(rows.address, width, n, *a)
-    return UtcFields(*each("from_iso8601", read, [("texts", given)], gives, [given.dtype.str], out))
+    if scale not in SCALES:
+        raise ValueError(f"no scale: {scale!r}; the scales are {', '.join(SCALES)}")
+    given, rows = _byte_strings(texts), lent_table(table)
+    loop, width = function("ct_each_read_utc" if scale == "utc" else "ct_each_read_time"), given.dtype.itemsize
+    by = (rows.address, width) if scale == "utc" else (width,)
+    return UtcFields(*each("from_iso8601", lambda n, *a: loop(*by, n, *a), [("texts", given)], _DATED, [given.dtype.str], out))
 
 
 def _byte_strings(texts: ArrayLike) -> NDArray[Any]:
     given = as_array("texts", texts)
+    if given.dtype.kind == "O" and given.shape:
+        return _of_objects(given)
     if given.dtype.kind == "U":
         # A lone half of a pair is bytes as any other: the library refuses the text that has it, and no more. Of no texts numpy forgets the shape.
         given = np.asarray(np.char.encode(given, "utf-8", "surrogatepass")).reshape(given.shape)
     if given.dtype.kind != "S" and given.size:
         raise TypeError(f"texts is of type {given.dtype} and not of byte strings")
     return given if given.dtype.kind == "S" and given.dtype.itemsize else given.astype("S1")
+
+
+def _of_objects(given: NDArray[Any]) -> NDArray[Any]:
+    """An array of str or bytes objects, as pandas keeps a column of texts. One that is missing is a text of no byte, which the library refuses by 15."""
+    made = [item.encode("utf-8", "surrogatepass") if type(item) is str else _bytes_of(item, place) for place, item in enumerate(given.ravel().tolist())]
+    # numpy drops bytes of 0 at the end, which are the text's own here: a byte 1 is in no text either.
+    made = [item[:-1] + b"\x01" if item.endswith(b"\x00") else item for item in made]
+    return np.array(made, f"S{max(map(len, made), default=0) or 1}").reshape(given.shape)
+
+
+def _bytes_of(item: Any, place: int) -> bytes:
+    if isinstance(item, (str, bytes)):
+        return item.encode("utf-8", "surrogatepass") if isinstance(item, str) else bytes(item)
+    if is_missing(item):
+        return b""
+    raise TypeError(f"texts holds {item!r} at place {place}, which is no text")

@@ -4,7 +4,7 @@ from __future__ import annotations
 from numpy.typing import ArrayLike
 
 from ._answers import Dates, FullWeeks, Weeks
-from ._arrays import FLOAT, INT, LONG, NUMBER, Field, each, floats, small
+from ._arrays import FLOAT, INT, LONG, NUMBER, Field, counts, each, floats
 from ._library import function
 from .scales import Out
 
@@ -12,12 +12,15 @@ _NUMBERS = Field("numbers", NUMBER)
 
 
 def gps_from_week(week: ArrayLike, millis: ArrayLike, *, out: Out = None) -> Dates:
-    """The GPS date of a week, counted from 1980-01-06, and a millisecond of it. What does not fit 32 bits is refused by 18 as any other wrong one is.
+    """The GPS date of a week, counted from 1980-01-06, and a millisecond of it. What does not fit 32 bits is refused by 18 as any other wrong one is, and
+    so is what is not finite in floats that are whole otherwise.
 
     >>> gps_from_week([0, 2048], 43200000)
     Dates(jd1=array([2444244.5, 2458580.5]), jd2=array([0.5, 0.5]), numbers=array([0, 0], dtype=uint8))
+    >>> gps_from_week([2048.0, float('nan')], 0).numbers
+    array([ 0, 18], dtype=uint8)
     """
-    takes = [("week", small("week", week)), ("millis", small("millis", millis))]
+    takes = [("week", counts("week", week)), ("millis", counts("millis", millis))]
     gives = [Field("jd1", FLOAT), Field("jd2", FLOAT), _NUMBERS]
     return Dates(*each("gps_from_week", function("ct_each_week_date"), takes, gives, [LONG] * 2, out))
 
@@ -38,5 +41,5 @@ def gps_full_week(ten_bits: ArrayLike, reference: ArrayLike, *, out: Out = None)
     >>> gps_full_week(2, [2400, 514])
     FullWeeks(week=array([       2050, -2147483648], dtype=int32), numbers=array([ 0, 19], dtype=uint8))
     """
-    takes = [("ten_bits", small("ten_bits", ten_bits)), ("reference", small("reference", reference))]
+    takes = [("ten_bits", counts("ten_bits", ten_bits)), ("reference", counts("reference", reference))]
     return FullWeeks(*each("gps_full_week", function("ct_each_full_week"), takes, [Field("week", INT), _NUMBERS], [LONG] * 2, out))

@@ -162,6 +162,15 @@ def texts(rng, count):
     return [mixed]
 
 
+def read_time(given):
+    """The fields of a text, and the date of a scale without leap seconds."""
+    code, fields = answered("ct_parse_iso8601", (given, ctypes.c_size_t(len(given))), "5id")
+    if fields is None:
+        return code, None
+    code, date = answered("ct_from_calendar", (I32(fields[0]), *map(U8, fields[1:5]), F64(fields[5])), "2d")
+    return code, None if date is None else (*fields, *date)
+
+
 def cases(rng, count):
     """Every function of the package that goes over stamps, with its inputs."""
     def utc(function, **keywords):
@@ -200,6 +209,7 @@ def cases(rng, count):
                 yield Case(utc(ct.to_iso8601, form=form, **lent), cut(1, text(called, table)), dates(rng, count), f"to_iso8601 {form}" + said)
                 yield Case(utc(ct.to_iso8601, form=form, return_rule=True, **lent), text(called, table), dates(rng, count), f"to_iso8601 {form}, rule" + said)
         yield Case(utc(ct.from_iso8601, **lent), lambda s, t=table: answered("ct_utc_from_iso8601", (s, ctypes.c_size_t(len(s)), *table_of(t)), "5i3d"), texts(rng, count), "from_iso8601" + said)
+    yield Case(lambda *a, **k: ct.from_iso8601(*a, scale="gps", **k), read_time, texts(rng, count), "from_iso8601 gps")
     for source, target in (("tcb", "tdb"), ("tdb", "tcb")):
         yield Case(utc(lambda *a, s=source, t=target, **k: ct.convert(s, t, *a, **k)), plain(f"ct_{source}_to_{target}"), dates(rng, count), f"convert {source} {target}")
     yield Case(ct.parse_iso8601, lambda s: answered("ct_parse_iso8601", (s, ctypes.c_size_t(len(s))), "5id"), texts(rng, count), "parse_iso8601")

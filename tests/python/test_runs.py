@@ -139,7 +139,7 @@ class Runs(unittest.TestCase):
             with self.assertRaises(ct.Refused) as raised:
                 ct.place_ticks(*wrong, out=lent)
             self.assertEqual(raised.exception.number, number)
-        for error, wrong in ((OverflowError, (passes, millis, [-1])), (TypeError, (passes, millis, [0.5])), (ValueError, (passes[None], millis, ticks))):
+        for error, wrong in ((OverflowError, (passes, millis, [-1])), (ValueError, (passes, millis, [0.5])), (ValueError, (passes[None], millis, ticks))):
             with self.assertRaises(error):
                 ct.place_ticks(*wrong)
         self.assertTrue(np.array_equal(kept, lent))
