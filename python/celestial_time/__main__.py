@@ -1,21 +1,27 @@
-"""python3 -m celestial_time listing FILE
-python3 -m celestial_time lineup [gps=FILE] [tai=FILE] [utc=FILE] [table=FILE]
+"""python3 -m celestial_time listing [table=FILE] FILE
+python3 -m celestial_time lineup [-r FILE.html] [gps=FILE] [tai=FILE] [utc=FILE] [table=FILE]
+python3 -m celestial_time --help | --version
 
   listing   the UTC listing of each stamp block of a recorder's file, one after the other; - is standard input
   lineup    the stamps of up to three recorders in one line by their TAI, with their UTC, as the program line_up lists them
-            table: announced leap rows, a line for each, as 2027-01 38
+            -r: and one page for a browser, with the runs' figures, the leap rows, the refused and left out stamps, and a picture
+  table     announced leap rows, a line for each, as 2027-01 38
 
-Exit status: 0 done, 1 a block or the table is refused, 2 not readable or writable, or other words. A refused stamp is no failure.
+Exit status: 0 done, 1 a block or the table is refused, 2 not readable or writable, or other words. A refused stamp is no failure. Where nobody reads on, or by
+Ctrl-C, it ends by that signal, as other programs do.
 """
 from __future__ import annotations
 
 import os
+import signal
 import sys
 
 from ._library import FloatModeError, LibraryError
+from ._version import __version__
 from .blocks import BlockRefused, Source, listings
 from .lineup import RECORDERS, line_up_files, listing_of, read_recorder
 from .refusals import Refused
+from .report import write_page
 from .tables import Table
 
 DONE, REFUSED, FAILED = 0, 1, 2
@@ -34,21 +40,29 @@ def _source(name: str) -> Source:
     return sys.stdin.buffer.read() if name == "-" else name
 
 
+def _table(files: dict[str, str]) -> Table | None:
+    return Table.from_file(files["table"]) if "table" in files else None
+
+
 def _list(words: list[str]) -> int:
-    if len(words) != 1:
-        raise Words("listing: one file is due")
+    rows = [word for word in words if word.startswith("table=")]
+    files = [word for word in words if word not in rows]
+    if len(files) != 1 or len(rows) > 1 or rows == ["table="]:
+        raise Words("listing: one file is due, and at most one table")
     status = DONE
-    for one in listings(_source(words[0])):
+    for one in listings(_source(files[0]), table=_table({"table": row.partition("=")[2] for row in rows})):
         sys.stdout.buffer.write(one)
         status = REFUSED if one.startswith(b"block refused") else DONE
     return status
 
 
 def _files(words: list[str]) -> dict[str, str]:
+    """The files by the words before them: those of the recorders, of the table, and of the page, which is named by -r."""
     files: dict[str, str] = {}
-    for word in words:
-        name, _, file = word.partition("=")
-        if name not in (*RECORDERS, "table") or not file or name in files:
+    left = iter(words)
+    for word in left:
+        name, _, file = ("-r", "", next(left, "")) if word == "-r" else word.partition("=")
+        if name not in (*RECORDERS, "table", "-r") or not file or name in files:
             raise Words(f"lineup: not understood, or there twice: {word}")
         files[name] = file
     if not set(files) & set(RECORDERS):
@@ -58,16 +72,45 @@ def _files(words: list[str]) -> dict[str, str]:
 
 def _line_up(words: list[str]) -> int:
     files = _files(words)
-    table = Table.from_file(files["table"]) if "table" in files else None
+    table = _table(files)
     recorders = tuple(read_recorder(scale, files[scale]) for scale in RECORDERS if scale in files)
     status = DONE
     for recorder in recorders:
         if recorder.refused is not None:
             _say(f"{files[recorder.scale]}: {recorder.refused}")
             status = REFUSED
-    for part in listing_of(line_up_files(*recorders, table=table), recorders, table):
+    line = line_up_files(*recorders, table=table)
+    if "-r" in files:
+        write_page(files["-r"], line, recorders, files)
+    for part in listing_of(line, recorders, table):
         sys.stdout.buffer.write(part)
     return status
+
+
+def _done(words: list[str]) -> int:
+    """What the words ask for, done, and the exit status."""
+    commands = {"listing": _list, "lineup": _line_up}
+    asked = set(words) & {"-h", "--help", "--version"}
+    if asked and (len(words) == 1 or len(words) == 2 and words[0] in commands):
+        print(f"celestial_time {__version__}\n" if asked == {"--version"} else __doc__, end="", flush=True)
+        return DONE
+    if words == ["help"]:
+        print(__doc__, end="", flush=True)
+        return DONE
+    if not words or words[0] not in commands:
+        raise Words("listing or lineup is due")
+    status = commands[words[0]](words[1:])
+    sys.stdout.flush()
+    return status
+
+
+def _end_by(number: signal.Signals) -> int:
+    """End as a program does that leaves the signal alone: by it, without a word. Python would try to write what is left once more, and complain."""
+    if sys.stdout is not None:
+        os.dup2(os.open(os.devnull, os.O_WRONLY), sys.stdout.fileno())
+    signal.signal(number, signal.SIG_DFL)
+    os.kill(os.getpid(), number)
+    return 128 + number
 
 
 def main(words: list[str]) -> int:
@@ -76,23 +119,16 @@ def main(words: list[str]) -> int:
     >>> main(['lineup', 'gps'])
     2
     """
-    commands = {"listing": _list, "lineup": _line_up}
     try:
         if sys.stdout is None:
             raise OSError("standard output is closed")
-        if words in (["-h"], ["--help"], ["help"]):
-            print(__doc__, end="", flush=True)
-            return DONE
-        if not words or words[0] not in commands:
-            raise Words("listing or lineup is due")
-        status = commands[words[0]](words[1:])
-        sys.stdout.flush()
-        return status
+        return _done(words)
     except Words as wrong:
         _say(f"{wrong}\n{__doc__.rstrip()}")
     except BrokenPipeError:
-        # Nobody reads on. Python would try once more at its end, and complain.
-        os.dup2(os.open(os.devnull, os.O_WRONLY), sys.stdout.fileno())
+        return _end_by(signal.SIGPIPE)
+    except KeyboardInterrupt:
+        return _end_by(signal.SIGINT)
     except BlockRefused as refused:
         _say(str(refused))
     except Refused as refused:

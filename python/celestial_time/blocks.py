@@ -110,12 +110,25 @@ def write_blocks(target: str | os.PathLike[str] | BinaryIO, jd1: ArrayLike, jd2:
     blocks = (block_of(first[start : start + size], second[start : start + size]) for start in starts)
     if not isinstance(target, (str, os.PathLike)):
         target.writelines(blocks)
-    elif os.path.exists(target) and not os.path.isfile(target):
-        with open(target, "wb") as pipe:
-            pipe.writelines(blocks)
     else:
-        _write_beside(os.path.realpath(target), blocks)
+        write_whole(target, blocks)
     return len(starts)
+
+
+def write_whole(path: str | os.PathLike[str], parts: Iterator[bytes]) -> None:
+    """Write a file of these bytes: beside it, and then renamed, so that a call that fails leaves it as it was; a pipe as it is.
+
+    >>> import pathlib, tempfile
+    >>> with tempfile.TemporaryDirectory() as folder:
+    ...     write_whole(folder + '/file', iter([b'one', b'two']))
+    ...     pathlib.Path(folder, 'file').read_bytes()
+    b'onetwo'
+    """
+    if os.path.exists(path) and not os.path.isfile(path):
+        with open(path, "wb") as pipe:
+            pipe.writelines(parts)
+    else:
+        _write_beside(os.path.realpath(path), parts)
 
 
 def _write_beside(path: str, blocks: Iterator[bytes]) -> None:

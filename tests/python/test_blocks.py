@@ -3,6 +3,7 @@ import io
 import os
 import pathlib
 import pickle
+import signal
 import struct
 import subprocess
 import sys
@@ -259,7 +260,44 @@ class Blocks(unittest.TestCase):
             program.stdout.readline()
             program.stdout.close()
             said = program.stderr.read()
-        self.assertEqual(said, b"")
+        self.assertEqual((said, program.returncode), (b"", -signal.SIGPIPE))
+
+    def test_interrupted(self):
+        """Ctrl-C ends a command by its signal, without a word, as the shell expects it; here while it waits for a pipe."""
+        os.mkfifo(self.at / "pipe")
+        environment = {**os.environ, "PYTHONPATH": str(ROOT / "python")}
+        for words in (["lineup", f"tai={self.at}/pipe"], ["listing", f"{self.at}/pipe"]):
+            with subprocess.Popen([sys.executable, "-m", "celestial_time", *words], stdout=subprocess.PIPE, stderr=subprocess.PIPE, env=environment) as program:
+                with open(self.at / "pipe", "wb"):  # opens when the command has opened it to read
+                    program.send_signal(signal.SIGINT)
+                    self.assertEqual((*program.communicate(), program.returncode), (b"", b"", -signal.SIGINT))
+
+    def test_help_and_version(self):
+        due = run("--help")
+        self.assertEqual((due.returncode, due.stderr), (0, b""))
+        for words in (["-h"], ["help"], ["lineup", "--help"], ["lineup", "-h"], ["listing", "--help"]):
+            done = run(*words)
+            self.assertEqual((done.returncode, done.stdout, done.stderr), (0, due.stdout, b""), words)
+        for words in (["--version"], ["lineup", "--version"]):
+            self.assertEqual(run(*words).stdout.decode(), f"celestial_time {ct.__version__}\n")
+        for words in (["--help", "lineup", "more"], ["lineup", "--help", "gps=a"], ["--versions"]):
+            self.assertEqual(run(*words).returncode, 2)
+
+    def test_listing_by_rows(self):
+        """A listing by announced rows, as the function lists by them; before the file or behind it."""
+        rows = ct.Table([(singles.Y, 1, singles.S + 1)])
+        utc = ct.dtf2d("utc", singles.Y - 1, 12, 31, 23, 59, [59.5, 60.5], table=rows)
+        ct.write_blocks(self.at / "run", utc.jd1, utc.jd2)
+        (self.at / "rows").write_text(f"{singles.Y}-01 {singles.S + 1}\n")
+        (self.at / "bad").write_text(f"{singles.Y}-01 {singles.S + 3}\n")
+        for words in ([f"table={self.at}/rows", self.at / "run"], [self.at / "run", f"table={self.at}/rows"]):
+            done = run("listing", *words)
+            self.assertEqual((done.returncode, done.stdout, done.stderr), (0, ct.listing(self.at / "run", table=rows), b""))
+            self.assertIn(b"23:59:60.500", done.stdout)
+        self.assertNotIn(b":60.", run("listing", self.at / "run").stdout)
+        self.assertEqual((run("listing", self.at / "run", f"table={self.at}/bad").returncode, run("listing", self.at / "run", f"table={self.at}/bad").stdout), (1, b""))
+        for words in (["table="], [f"table={self.at}/none"], [f"table={self.at}/rows"] * 2):
+            self.assertEqual(run("listing", self.at / "run", *words).returncode, 2)
 
     def test_recorder_with_damage(self):
         recorder = read_recorder("gps", ct.block_of([2451545.0], [0.0]) + b"end")
