@@ -9,6 +9,8 @@ import pathlib
 import threading
 from typing import Any, Protocol, Sequence
 
+from ._version import __version__
+
 NAME = "libcelestial_time_arrays.so"
 TABLE_BYTES = 136
 
@@ -63,10 +65,11 @@ _LOOPS: dict[str, int] = {
     "ct_each_place": 6,
     "ct_each_sort": 5,
     "ct_each_same_stamp": 8,
+    "ct_each_version": 0,
     "ct_each_float_mode": 0,
     "ct_each_default_float_mode": 0,
 }
-_INTS = ("ct_each_float_mode", "ct_each_default_float_mode")
+_INTS = ("ct_each_version", "ct_each_float_mode", "ct_each_default_float_mode")
 _loaded: ctypes.CDLL | None = None
 _loading = threading.Lock()
 
@@ -124,10 +127,20 @@ def _load() -> ctypes.CDLL:
         # A system's library has a bare name, which the loader looks up.
         if os.sep not in place or os.path.exists(place):
             try:
-                return ctypes.CDLL(place)
+                return _of_our_version(place, ctypes.CDLL(place))
             except OSError as error:
                 raise LibraryError(f"{place} can't be loaded: {error}") from None
     raise LibraryError(f"there is no {NAME}: python/make makes it. Looked for: {', '.join(tried)}")
+
+
+def _of_our_version(place: str, found: ctypes.CDLL) -> ctypes.CDLL:
+    """The library, where its version is the package's. One that does not tell it lacks other calls too, which is told when one is asked for."""
+    if hasattr(found, "ct_each_version"):
+        held = found.ct_each_version()
+        version = f"{held // 1000000}.{held // 1000 % 1000}.{held % 1000}"
+        if version != __version__:
+            raise LibraryError(f"{place} is of version {version}, and this package of {__version__}: python/make makes its library")
+    return found
 
 
 def library() -> ctypes.CDLL:

@@ -431,6 +431,13 @@ int64_t ct_each_same_stamp(uint32_t scale, uint32_t other_scale, size_t n, const
     return 0;
 }
 
+/* ---- The version of the library, that of the header: the package loads no other than its own */
+
+int ct_each_version(void)
+{
+    return CT_VERSION_MAJOR * 1000000 + CT_VERSION_MINOR * 1000 + CT_VERSION_PATCH;
+}
+
 /* ---- Float mode of the calling thread: ct_float_mode, which the header has for a program's own compiler, and the default mode set again */
 
 int ct_each_float_mode(void)

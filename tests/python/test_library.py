@@ -10,6 +10,7 @@ import os
 import pathlib
 import pkgutil
 import re
+import shutil
 import subprocess
 import sys
 import tempfile
@@ -150,9 +151,44 @@ class Library(unittest.TestCase):
             done = subprocess.run([sys.executable, *words], capture_output=True, text=True)
             self.assertEqual(done.returncode, 0, done.stderr)
             (wheel,) = pathlib.Path(folder).glob("*.whl")
-            self.assertRegex(wheel.name, r"^celestial_time-[0-9.]+-py3-none-linux_\w+\.whl$")
+            self.assertRegex(wheel.name, rf"^celestial_time-{re.escape(ct.__version__)}-py3-none-linux_\w+\.whl$")
             with zipfile.ZipFile(wheel) as held:
                 self.assertTrue({f"celestial_time/{name}" for name in ("libcelestial_time_arrays.so", "py.typed", "loops.c", "runs.py")} <= set(held.namelist()))
+        self.assertEqual(sorted((ROOT / "python").rglob("*")), before)
+
+    def test_version(self):
+        """One version: of the header, of the library that is loaded, of the package, and of what pip installs; a library of another is not loaded."""
+        header = (ROOT / "include" / "celestial_time.h").read_text()
+        version = re.search(r'^#define CT_VERSION "(.*)"$', header, re.M)[1]
+        self.assertEqual(ct.__version__, version)
+        self.assertEqual(_library.function("ct_each_version")(), sum(int(part) * 1000**place for place, part in enumerate(reversed(version.split(".")))))
+        with tempfile.TemporaryDirectory() as folder:
+            other = pathlib.Path(folder, "other.so")
+            subprocess.run(["cc", "-shared", "-fPIC", "-o", other, "-x", "c", "-"], input=b"int ct_each_version(void) { return 1002003; }", check=True)
+            done = python("import celestial_time as ct; ct.gpstai(2451545.0, 0.0)", CELESTIAL_TIME_LIBRARY=str(other))
+            self.assertIn(f"LibraryError: {other} is of version 1.2.3, and this package of {version}", done.stderr.splitlines()[-1])
+
+    @unittest.skipUnless(all(importlib.util.find_spec(name) for name in ("pip", "setuptools", "wheel")), "pip does not install from the clone: no pip, setuptools or wheel here")
+    def test_pip_from_the_clone(self):
+        """pip takes the library of target/lib and leaves nothing in the clone; without one it stops with the command that makes it."""
+        pip = [sys.executable, "-m", "pip", "install", "-q", "--no-build-isolation", "--no-deps", "--no-index", "--disable-pip-version-check", "--root-user-action=ignore"]
+        before = sorted((ROOT / "python").rglob("*"))
+        with tempfile.TemporaryDirectory() as folder:
+            done = subprocess.run([*pip, "--target", f"{folder}/there", ROOT / "python"], capture_output=True, text=True)
+            self.assertEqual(done.returncode, 0, done.stderr)
+            code = "import celestial_time as ct; ct.Table(); from celestial_time import _library; print(_library._loaded._name)"
+            held = {**os.environ, "PYTHONPATH": f"{folder}/there", "CELESTIAL_TIME_LIBRARY": ""}
+            done = subprocess.run([sys.executable, "-c", code], capture_output=True, text=True, env=held, cwd=folder)
+            self.assertEqual(done.stdout, f"{pathlib.Path(folder).resolve()}/there/celestial_time/libcelestial_time_arrays.so\n", done.stderr)
+            self.assertEqual([path.name for path in pathlib.Path(folder, "there").glob("*.dist-info")], [f"celestial_time-{ct.__version__}.dist-info"])
+            shutil.copytree(ROOT / "python", f"{folder}/clone/python", ignore=shutil.ignore_patterns("*.so"))
+            for library in (None, b"no library"):
+                if library is not None:
+                    pathlib.Path(folder, "clone/target/lib").mkdir(parents=True)
+                    subprocess.run(["cc", "-shared", "-o", f"{folder}/clone/target/lib/{_library.NAME}", "-x", "c", "/dev/null"], check=True)
+                done = subprocess.run([*pip, "--target", f"{folder}/none", f"{folder}/clone/python"], capture_output=True, text=True)
+                self.assertNotEqual(done.returncode, 0)
+                self.assertIn("run python/make in the clone", done.stdout + done.stderr)
         self.assertEqual(sorted((ROOT / "python").rglob("*")), before)
 
     def test_float_mode(self):
