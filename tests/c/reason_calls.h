@@ -59,6 +59,82 @@ static void reason_listing(void)
     check(ct_reason_listing_part(block, 40, 40, 0, ct_no_rows, CT_TABLE_BYTES - 1, got, 0) == -14, "the table before 11");
 }
 
+/* The second listing by lent rows, as listing_calls has the first: the last second of 2049 is shown with a row and not without one, in a buffer of each length, and a
+   refused table lists nothing, before the block is read. */
+enum { LONG_ROOM = REASON_ROOM + 16 };
+
+static void second_listing(const char *due, int64_t number, const uint8_t *block, size_t length, const uint8_t *rows, size_t rows_len)
+{
+    uint8_t got[LONG_ROOM], wants[LONG_ROOM];
+    size_t space;
+    for (space = 0; space <= LONG_ROOM; space++) {
+        int64_t refused = number ? number : space < REASON_ROOM ? 11 : 0, code;
+        memset(got, UNTOUCHED, sizeof got);
+        memset(wants, UNTOUCHED, sizeof wants);
+        if (!refused) memcpy(wants, due, strlen(due));
+        code = ct_reason_listing_part(block, length, length, 1, rows, rows_len, got, space);
+        check(code == (refused ? -refused : (int64_t)strlen(due)) && !memcmp(got, wants, sizeof got), "second listing with %d bytes lent, in place of %s or %ld the code %ld",
+              (int)space, due, (long)-refused, (long)code);
+    }
+}
+
+/* The first line that a part has. */
+static size_t line_length(const uint8_t *part, int64_t n)
+{
+    size_t i = 0;
+    while ((int64_t)i < n && part[i] != '\n') i++;
+    return i;
+}
+
+/* Every line with a text is that of the first listing, by whatever table: stamps of the last seconds of the years about the lent rows, one in eight not finite. */
+static void same_lines(void)
+{
+    enum { STAMPS = 40, LENGTH = 8 + 16 * STAMPS };
+    uint8_t block[LENGTH] = {STAMPS, 0, 0, 0, STAMPS, 0, 0, 0}, first[REASON_ROOM], second[REASON_ROOM];
+    uint32_t line;
+    int i, k, texts = 0;
+    for (i = 0; i < STAMPS; i++) {
+        uint64_t jd1 = ct_bits_of(2469806.5 + (i % 5) * 365.0), jd2 = i % 8 == 7 ? INFINITE : ct_bits_of((86398.5 + i % 3) / 86401.0);
+        for (k = 0; k < 8; k++) {
+            block[8 + 8 * i + k] = (uint8_t)(jd1 >> 8 * k);
+            block[8 + 8 * STAMPS + 8 * i + k] = (uint8_t)(jd2 >> 8 * k);
+        }
+    }
+    for (line = 1; line <= STAMPS; line++) {
+        int64_t a = ct_listing_part(block, LENGTH, line, LENT, first, sizeof first), b = ct_reason_listing_part(block, LENGTH, LENGTH, line, LENT, second, sizeof second);
+        size_t n = line_length(first, a);
+        first[n] = 0;
+        if (strstr((char *)first, " refused ")) continue;
+        texts++;
+        check(n == line_length(second, b) && !memcmp(first, second, n), "line %d of the second listing", (int)line);
+    }
+    check(texts == STAMPS - STAMPS / 8, "%d lines with a text", texts);
+}
+
+static void reason_listing_tables(void)
+{
+    uint8_t block[8 + 16] = {1, 0, 0, 0, 1, 0, 0, 0};
+    uint64_t jd1 = ct_bits_of(2469806.5), jd2 = ct_bits_of(86400.5 / 86401.0);
+    int i;
+    for (i = 0; i < 8; i++) {
+        block[8 + i] = (uint8_t)(jd1 >> 8 * i);
+        block[16 + i] = (uint8_t)(jd2 >> 8 * i);
+    }
+    one_row(JANUARY_2050, UP);
+    second_listing("0 2049-12-31T23:59:60.500\n", 0, block, 24, LENT);
+    same_lines();
+    second_listing("0 2049-12-31T23:59:59.500\n", 0, block, 24, NO_ROWS);
+    second_listing("", 14, block, 24, table, CT_TABLE_BYTES - 1);
+    one_row(JANUARY_2050, UP + 1);
+    second_listing("", 22, block, 7, LENT);
+    one_row(LAST_MONTH, UP + 1);
+    second_listing("", 21, block, 7, LENT);
+    table[4] = 2;
+    second_listing("", 20, block, 7, LENT);
+    many_rows(16);
+    same_lines();
+}
+
 static void reason_calls(void)
 {
     double infinity = infinite_float(), nan = nan_float();
@@ -92,4 +168,5 @@ static void reason_calls(void)
     TELLS("the number of bytes is wrong", REASON(ct_block_reason, 14, 8 + 16 * 4001, 4001, 0));
     reason_rooms();
     reason_listing();
+    reason_listing_tables();
 }

@@ -1,5 +1,7 @@
--- What a return says, that a caller who counts line ends gets the whole listing, and that tables from C are those of Rattle.
+-- What a return says, that a caller who counts line ends gets the whole listing, that tables from C are those of Rattle, and that the second listing is by the
+-- lent table as the first is.
 pub mod Returns
 pub mod TextCalls
 pub mod ListingCalls
 pub mod OrderNumbers
+pub mod SecondListing

@@ -2,13 +2,12 @@
 ghost use mathlib.Core.Path.{_≡_};
 ghost use lib.ListN.{length};
 ghost use Rattle.refusals.specs.Outcome.{onward};
-ghost use Rattle.stamps.specs.declared.Reporting.the-variants.{Numbers, Sentences};
 ghost use Rattle.stamps.specs.Block.{blockOf};
 ghost use Rattle.stamps.specs.Listing.{lineRoom};
 ghost use Rattle.stamps.specs.Widths.{InWidth};
 ghost use Rattle.c_answers.specs.table.TableBytes.{tableBytes};
 ghost use Rattle.c_answers.specs.Delivery.{code, Delivered};
-ghost use Rattle.capi.specs.ListingPart.{listingPart};
+ghost use Rattle.capi.specs.ListingPart.{listingPart, firstListing, secondListing};
 use c_answers::refused;
 use c_answers::table::announced_rows_at;
 use c_answers::table::table_number;
@@ -54,8 +53,8 @@ fn deliver_part(
 
 #[no_mangle]
 pub extern "C" fn ct_listing_part(block: &[u8], line: u32, table: &[u8], out: &mut [u8]) -> i64
-    ensures { λ r. ⌜ Delivered (onward (tableBytes (now (table .entry)))
-        (λ rows. listingPart Numbers rows (now (block .entry)) line (length (now (out .entry))))) (now (out .entry)) r (now (out .exit)) ⌝ }
+    ensures { λ r. ⌜ Delivered (firstListing (now (table .entry)) (now (block .entry)) line (length (now (out .entry)))) (now (out .entry)) r
+        (now (out .exit)) ⌝ }
 {
     deliver_part(Reporting::Numbers, 33, block, line, table, out)
 }
@@ -69,8 +68,8 @@ pub extern "C" fn ct_reason_listing_part(
     table: &[u8],
     out: &mut [u8],
 ) -> i64
-    ensures { λ r. ⌜ Delivered (onward (tableBytes (now (table .entry)))
-        (λ rows. listingPart (Sentences «input_len») rows (now (block .entry)) line (length (now (out .entry))))) (now (out .entry)) r (now (out .exit)) ⌝ }
+    ensures { λ r. ⌜ Delivered (secondListing «input_len» (now (table .entry)) (now (block .entry)) line (length (now (out .entry)))) (now (out .entry)) r
+        (now (out .exit)) ⌝ }
 {
     deliver_part(Reporting::Sentences(input_len), 64, block, line, table, out)
 }

@@ -31,7 +31,7 @@ use Rattle.stamps.proofs.Lengths.{part-fits, lines-add}
 use Rattle.stamps.proofs.listing_laws.LineEnds.{ends-most, part-ends, part-some}
 use Rattle.c_answers.specs.table.TableBytes.{tableBytes}
 use Rattle.c_answers.specs.Delivery.{code, Delivered}
-use Rattle.capi.specs.ListingPart.{listingPart}
+use Rattle.capi.specs.ListingPart.{listingPart, firstListing, secondListing}
 use Rattle.capi.specs.laws.ListingCalls.{Listed, begun, next}
 
 -- ---- what one call delivers to a buffer that holds a line
@@ -71,7 +71,7 @@ module _ (how : Reporting) (table s : List ℕ) (rows : List Row) (line : ℕ) (
 
 -- 33 bytes where numbers are reported
 pub listing-room : (table s : List ℕ) (rows : List Row) (line : ℕ) {before after : List ℕ} {r : ℤ} → tableBytes table ≡ answer rows
-    → Delivered (onward (tableBytes table) (λ rows. listingPart Numbers rows s line (length before))) before r after
+    → Delivered (firstListing table s line (length before)) before r after
     → (length before < 33 → (r ≡ negsuc 10) × (after ≡ before)) × (r ≡ negsuc 10 → length before < 33)
 unfolding lineRoom Wide
 listing-room table s rows line taken d = (too-short Numbers table s rows line tt taken d, only-short Numbers table s rows line tt taken d)
@@ -79,7 +79,7 @@ listing-room table s rows line taken d = (too-short Numbers table s rows line tt
 -- and 64 where sentences are reported, of every block of bytes and however many of 64 bits came
 pub reported-room : (n : ℕ) → n < 18446744073709551616 → (table s : List ℕ) → ((k : ℕ) → getD s k 0 < 256)
     → (rows : List Row) (line : ℕ) {before after : List ℕ} {r : ℤ}
-    → tableBytes table ≡ answer rows → Delivered (onward (tableBytes table) (λ rows. listingPart (Sentences n) rows s line (length before))) before r after
+    → tableBytes table ≡ answer rows → Delivered (secondListing n table s line (length before)) before r after
     → (length before < 64 → (r ≡ negsuc 10) × (after ≡ before)) × (r ≡ negsuc 10 → length before < 64)
 unfolding lineRoom
 reported-room n h table s bytes rows line taken d =

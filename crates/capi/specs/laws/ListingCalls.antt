@@ -2,6 +2,7 @@
 -- the line ends in them to the line, until a call returns 0. Written from include/celestial_time.h ("The next part begins at `line` plus the line ends (byte
 -- 10) in this one"). Assumes nothing.
 use Prim.Native.Nat.{ℕ, suc, _+_, _≤_, _<_}
+use mathlib.Core.Path.{_≡_}
 use mathlib.Core.List.{List, [], _++_}
 use lib.ListN.{length, take}
 use lib.IntN.{pos}
@@ -19,3 +20,7 @@ pub data Listed (how : Reporting) (rows : List Row) (s : List ℕ) : ℕ → ℕ
   next : {calls line n : ℕ} {text before after : List ℕ} → Listed how rows s calls line text → lineRoom how ≤ length before → 0 < n
       → Delivered (listingPart how rows s line (length before)) before (pos n) after
       → Listed how rows s (suc calls) (line + lineEnds (take n after)) (text ++ take n after)
+
+-- a part begins with these bytes
+abbrev pub Begins : List ℕ → List ℕ → Type 0
+Begins l part = take (length l) part ≡ l
