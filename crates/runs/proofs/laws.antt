@@ -9,3 +9,4 @@ pub mod Formulas
 pub mod Answered
 pub mod Lists
 pub mod Worked
+pub mod RunCases
