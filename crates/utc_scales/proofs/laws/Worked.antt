@@ -107,3 +107,19 @@ step-noon = given utc-tai (julian (decimal 24413165 1) (decimal 5 1)) (julian (d
 pub drift-ut1 : Gives (utc-ut1 (decimal 1 1)) (julian (decimal 24392915 1) quarter) (julian (decimal 24392915 1) (bits 0x3fd0_0004_e2cf_4f58))
 unfolding computed round ofBits
 drift-ut1 = given (utc-ut1 (decimal 1 1)) (julian (decimal 24392915 1) quarter) (julian (decimal 24392915 1) (bits 0x3fd0_0004_e2cf_4f58)) refl
+
+-- ---- which days UT1 to UTC looks at: from the day before to three days on
+-- 0h of 2017-01-01 in UT1 is 23:59:60.4 in UTC: the step from the day before is found, of which 0.999993 have passed
+pub ut1-new-year : Gives (ut1-utc dut1-after) (julian (decimal 24577545 1) (decimal 0 0)) (julian (decimal 24577545 1) (bits 0xbedc_ba8c_9cee_2b9f))
+unfolding computed round ofBits neg
+ut1-new-year = given (ut1-utc dut1-after) (julian (decimal 24577545 1) (decimal 0 0)) (julian (decimal 24577545 1) (bits 0xbedc_ba8c_9cee_2b9f)) refl
+
+-- noon of 2016-12-29: the step of the third day on is found, and DUT1 of after it is a second more than that of before
+pub ut1-three-days : Gives (ut1-utc dut1-after) (julian (decimal 24577515 1) (decimal 5 1)) (julian (decimal 24577515 1) (bits 0x3fe0_0009_e877_6d0f))
+unfolding computed round ofBits neg
+ut1-three-days = given (ut1-utc dut1-after) (julian (decimal 24577515 1) (decimal 5 1)) (julian (decimal 24577515 1) (bits 0x3fe0_0009_e877_6d0f)) refl
+
+-- noon of 1959-12-31, which ends in the step of 0.943 s to the first row, with DUT1 0.5 s
+pub ut1-first-row : Gives (ut1-utc (decimal 5 1)) (julian (decimal 24369335 1) (decimal 5 1)) (julian (decimal 24369335 1) (bits 0x3fdf_fffe_a0d0_2e5e))
+unfolding computed round ofBits
+ut1-first-row = given (ut1-utc (decimal 5 1)) (julian (decimal 24369335 1) (decimal 5 1)) (julian (decimal 24369335 1) (bits 0x3fdf_fffe_a0d0_2e5e)) refl
