@@ -3,3 +3,4 @@ pub mod TextCalls
 pub mod TextRules
 pub mod TextDays
 pub mod CarriedRules
+pub mod TextCases
