@@ -166,7 +166,10 @@ def small(name: str, value: ArrayLike) -> NDArray[Any]:
     >>> small('month', np.array([12, 1 << 63], np.uint64))
     array([                  12, -9223372036854775808])
     """
-    array = as_array(name, value)
+    return _long(name, as_array(name, value))
+
+
+def _long(name: str, array: NDArray[Any]) -> NDArray[Any]:
     if array.dtype.kind not in "iu" and array.size:
         raise TypeError(f"{name} is of type {array.dtype} and not of whole numbers")
     if np.can_cast(array.dtype, LONG, "safe"):
@@ -186,7 +189,7 @@ def counts(name: str, value: ArrayLike) -> NDArray[Any]:
     """
     array = as_array(name, value)
     if array.dtype.kind != "f" or array.dtype.itemsize > 8 or not array.size:
-        return small(name, array)
+        return _long(name, array)
     held = _once(array)
     fits = np.abs(held) < 2.0**63  # no NaN, and no infinity
     made = np.where(fits, held, -1.0).astype(LONG)

@@ -1,12 +1,14 @@
-"""From three recorders' files to one table and one picture.
+"""From the recorders' files to one table and one picture.
 
     python/python3 python/examples/three_recorders.py                  the table, to standard output
     python/python3 python/examples/three_recorders.py -p FILE.png      and the picture (needs matplotlib)
+    python/python3 python/examples/three_recorders.py FOLDER           of other files, as they are named here
     python/python3 python/examples/three_recorders.py -m FOLDER        the recorders' files made again
 
 A pig passes a thin place and some girth welds about the leap second of 2016-12-31. Three recorders read the wall in millimetres, one on GPS time, one on TAI and
-one on UTC. Each has a file of stamps, blocks one after the other (gps.block), and a file of readings, one for each stamp (gps.npy). Some stamps are dead: their
-readings are kept in the table, and in the picture they are marked where they stand in their file, since they have no time. The readings are made up.
+one on UTC. Each has a file of stamps, blocks one after the other (gps.block), and a file of readings, one for each stamp (gps.npy). Some stamps are not finite: their
+readings are kept in the table, and in the picture they are marked where they stand in their file, since they have no time. The readings are made up. Nothing of the
+sample is in the picture's axes and words: of other files it shows theirs.
 """
 from __future__ import annotations
 
@@ -16,157 +18,161 @@ import sys
 from typing import Any, Iterator, NamedTuple
 
 import numpy as np
+from numpy.typing import NDArray
 
 import celestial_time as ct
-from celestial_time.lineup import listed_places
+from celestial_time.pictures import COLOURS, LEAP_COLOUR, LEFT_OUT_COLOUR, REFUSED_COLOUR, Span, axis_words, leaps_in, marked_seconds, span_of, ticks_of
+from celestial_time.refusals import LEFT_OUT
 
 HERE = pathlib.Path(__file__).resolve().parent
 SCALES = ("gps", "tai", "utc")
-MIDNIGHT = ct.utctai(*ct.dtf2d("utc", 2017, 1, 1, 0, 0, 0.0)[:2])  # the TAI of 2017-01-01 0h UTC, just behind the leap second
-COLOURS = {"gps": "#1b6ca8", "tai": "#c9730c", "utc": "#3a7d44"}
+MARKERS = ("o", "s", "^")
+Floats = NDArray[np.float64]
 
 
 class Recorded(NamedTuple):
-    """Three recorders in one line: the stamps as the library put them, the readings in the same order, and the recorders' own stamps."""
+    """Recorders in one line: the stamps as the library put them, the readings in the order of the runs, and the recorders' own stamps."""
 
     line: ct.Line
-    readings: Any
+    readings: Floats
     stamps: dict[str, ct.Stamps]
 
 
 def line_up(folder: pathlib.Path) -> Recorded:
-    """The stamps and the readings of the three recorders in a folder."""
-    stamps = {scale: ct.read_blocks(folder / f"{scale}.block") for scale in SCALES}
-    readings = [np.load(folder / f"{scale}.npy") for scale in SCALES]
-    for scale, read in zip(SCALES, readings):
+    """The stamps and the readings of the recorders that have a file in a folder."""
+    stamps = {scale: ct.read_blocks(folder / f"{scale}.block") for scale in SCALES if (folder / f"{scale}.block").exists()}
+    readings = [np.load(folder / f"{scale}.npy") for scale in stamps]
+    for scale, read in zip(stamps, readings):
         if len(read) != len(stamps[scale].jd1):
             raise ValueError(f"{scale}: {len(stamps[scale].jd1)} stamps and {len(read)} readings")
-    line = ct.line_up_recorders(*(ct.Run(scale, stamps[scale].jd1, stamps[scale].jd2) for scale in SCALES))
+    line = ct.line_up_recorders(*(ct.Run(scale, held.jd1, held.jd2) for scale, held in stamps.items()))
     return Recorded(line, np.concatenate(readings), stamps)
 
 
 def table(recorded: Recorded) -> Iterator[str]:
-    """A row for each stamp: its UTC, its recorder and place there, its reading, and the number by which it was refused."""
-    line = recorded.line
-    utc = ct.taiutc(line.jd1, line.jd2)
-    texts = ct.to_iso8601(utc.jd1, utc.jd2).text
-    starts = np.cumsum([0, *line.counts])
+    """A row for each stamp: its UTC, its recorder and place there, its reading, and the number by which it is refused or left out."""
+    columns = recorded.line.table()
+    readings = recorded.readings[ct.listed_places(recorded.line)]
     yield "utc,recorder,index,wall_mm,refused"
-    for place in listed_places(line).tolist():
-        run = int(np.searchsorted(starts[1:], place, side="right"))
-        number = line.numbers[place]
-        text = "" if number else texts[place].decode()
-        yield f"{text},{SCALES[run]},{place - starts[run]},{recorded.readings[place]:.2f},{number or ''}"
+    for utc, recorder, index, reading, number in zip(*(columns[name].tolist() for name in ("utc", "recorder", "index")), readings.tolist(), columns["number"].tolist()):
+        yield f"{utc},{recorder},{index},{reading:.2f},{number or ''}"
 
 
 # ---- The picture
 
 
-def seconds(jd1: Any, jd2: Any) -> Any:
-    """Seconds from 2017-01-01 0h UTC in TAI, for the axis alone."""
-    return ((jd1 - MIDNIGHT.jd1) + (jd2 - MIDNIGHT.jd2)) * 86400.0
-
-
-def places_of_the_dead(time: Any, numbers: Any) -> Any:
-    """Where a stamp that is not finite is marked: between the good ones around it in its file."""
-    good = np.flatnonzero(numbers == 0)
-    dead = np.flatnonzero(numbers)
-    return np.interp(dead, good, time[good])
-
-
-def each_run(recorded: Recorded) -> Iterator[tuple[str, slice]]:
+def each_run(recorded: Recorded) -> Iterator[tuple[int, str, slice]]:
+    """The recorders, counted, with the part of the line that is their run."""
     ends = np.cumsum([0, *recorded.line.counts])
-    for scale, start, end in zip(SCALES, ends, ends[1:]):
-        yield scale, slice(start, end)
+    for place, (scale, start, end) in enumerate(zip(recorded.stamps, ends, ends[1:])):
+        yield place, scale, slice(start, end)
+
+
+def first_minute(recorded: Recorded) -> ct.CalendarDates | None:
+    """The calendar date that stands in the earliest stamp of all, as the recorder's own clock shows it."""
+    jd1, jd2 = (np.concatenate([held[part] for held in recorded.stamps.values()]) for part in (0, 1))
+    rising = ct.argsort(jd1, jd2, numbers=ct.jd2cal(jd1, jd2).numbers).places[:1]
+    return ct.jd2cal(float(jd1[rising[0]]), float(jd2[rising[0]])) if len(rising) else None
 
 
 def draw_clocks(axes: Any, recorded: Recorded) -> None:
-    """The readings against what each recorder's own clock shows."""
-    for scale, part in each_run(recorded):
+    """The readings against what each recorder's own clock shows, in seconds from the minute that the earliest stamp has begun."""
+    first = first_minute(recorded)
+    if first is None:
+        return
+    hour, minute = divmod(int(first.fraction * 1440.0), 60)
+    for place, scale, part in each_run(recorded):
         stamps = recorded.stamps[scale]
-        day = ct.jd2cal(stamps.jd1, stamps.jd2)
-        good = day.numbers == 0
-        clock = (day.fraction[good] - (day.day[good] == 31)) * 86400.0
-        axes.plot(clock, recorded.readings[part][good], color=COLOURS[scale], linewidth=1)
-        axes.text(clock.mean(), 9.6, f"{scale.upper()} recorder", ha="center", fontsize=9, color=COLOURS[scale])
-    axes.set_ylim(5, 10)
-    axes.set_title("As stamped: three clocks, and the thin place at three times", loc="left", fontsize=11)
-    axes.set_xlabel("seconds from midnight on each recorder's own clock")
-    axes.set_ylabel("wall, mm")
+        begun = ct.dtf2d(scale, first.year, first.month, first.day, hour, minute, 0.0)
+        clock = ct.seconds_between(scale, stamps.jd1, stamps.jd2, begun.jd1, begun.jd2)
+        shown = (clock.numbers == 0) & (ct.jd2cal(stamps.jd1, stamps.jd2).numbers == 0)
+        axes.plot(clock.seconds[shown], recorded.readings[part][shown], color=COLOURS[place], linewidth=1, label=f"{scale.upper()} recorder")
+    axes.set_title(f"As stamped: {len(recorded.stamps)} recorders, each by its own clock", loc="left", fontsize=11)
+    axes.set_xlabel(f"seconds from {first.year}-{first.month:02d}-{first.day:02d} {hour:02d}:{minute:02d}:00 on each recorder's own clock")
+    axes.legend(loc="lower right", frameon=False, fontsize=9)
 
 
-def draw_line(axes: Any, recorded: Recorded) -> None:
-    """The readings against TAI."""
-    time = seconds(recorded.line.jd1, recorded.line.jd2)
-    for scale, part in each_run(recorded):
-        good = recorded.line.numbers[part] == 0
-        axes.plot(time[part][good], recorded.readings[part][good], ".", color=COLOURS[scale], markersize=4, label=f"{scale.upper()} recorder")
-    axes.text(-0.5, 9.8, "23:59:60", ha="center", va="top", fontsize=9)
-    axes.set_ylim(5, 10)
-    axes.set_title("Lined up by TAI: one thin place, within the leap second", loc="left", fontsize=11)
-    axes.set_ylabel("wall, mm")
+def draw_line(axes: Any, recorded: Recorded, seconds: Floats) -> None:
+    """The readings of the ordered stamps against TAI, each recorder by its shape and colour, and where the thinnest was read."""
+    numbers = recorded.line.numbers
+    for place, scale, part in each_run(recorded):
+        good = numbers[part] == 0
+        axes.plot(seconds[part][good], recorded.readings[part][good], MARKERS[place], color=COLOURS[place], markersize=3, label=f"{scale.upper()} recorder")
+    readings = np.where((numbers == 0) & np.isfinite(recorded.readings), recorded.readings, np.inf)
+    thin = int(np.argmin(readings))
+    utc = ct.utc_texts("tai", recorded.line.jd1[[thin]], recorded.line.jd2[[thin]], as_str=True).text[0]
+    axes.set_title(f"Lined up by TAI: {np.count_nonzero(numbers == 0)} of {len(numbers)} stamps; the thinnest, {readings[thin]:.2f} mm, at {utc} UTC", loc="left", fontsize=11)
     axes.legend(loc="lower right", frameon=False, fontsize=9)
     axes.tick_params(labelbottom=False)
 
 
-def draw_dead(axes: Any, recorded: Recorded) -> None:
-    """The stamps that are not finite of each recorder, and the UTC of the axis."""
-    line = recorded.line
-    time = seconds(line.jd1, line.jd2)
+def draw_others(axes: Any, recorded: Recorded, span: Span, seconds: Floats) -> None:
+    """The stamps that are refused, and apart from them those that are left out, of each recorder; and the UTC of the axis."""
     names = []
-    for row, (scale, part) in enumerate(each_run(recorded)):
-        dead = places_of_the_dead(time[part], line.numbers[part])
-        axes.plot(dead, np.full(len(dead), -row), "|", color="#b3001b", markersize=13, markeredgewidth=1.2)
-        names.append(f"{scale.upper()}, {len(dead)} dead")
-    axes.set_yticks([0, -1, -2], names, fontsize=9)
-    axes.set_ylim(-2.7, 0.7)
-    axes.set_title("Dead stamps, refused by number, where they stand in their files", loc="left", fontsize=11)
-    ticks = np.arange(-7, 8)
-    utc = ct.taiutc(*ct.add_seconds(MIDNIGHT.jd1, MIDNIGHT.jd2, ticks.astype(float))[:2])
-    axes.set_xticks(ticks, [text.decode()[11:19] for text in ct.to_iso8601(utc.jd1, utc.jd2).text], rotation=45, ha="right", fontsize=8)
-    axes.set_xlim(-7.8, 7.8)
-    axes.set_xlabel("UTC, 2016-12-31 to 2017-01-01; the leap second is shaded")
+    for place, scale, part in each_run(recorded):
+        numbers = recorded.line.numbers[part]
+        left_out = numbers == LEFT_OUT
+        refused = (numbers != 0) & ~left_out
+        for which, marker, colour in ((refused, "|", REFUSED_COLOUR), (left_out, "x", LEFT_OUT_COLOUR)):
+            axes.plot(seconds[part][which], np.full(np.count_nonzero(which), -place), marker, color=colour, markersize=12 if marker == "|" else 6, markeredgewidth=1.2)
+        names.append(f"{scale.upper()}: {np.count_nonzero(refused)} refused, {np.count_nonzero(left_out)} left out")
+    axes.set_yticks([-place for place in range(len(names))], names, fontsize=9)
+    axes.set_ylim(0.3 - len(names), 0.7)
+    axes.set_title("Refused (bars) and left out (crosses), where they stand in their files", loc="left", fontsize=11)
+    places = ticks_of(span)
+    axes.set_xticks([place for place, _ in places], [label for _, label in places], rotation=30, ha="right", fontsize=8)
+    axes.set_xlim(span.first, span.last)
+    axes.set_xlabel(axis_words(span))
 
 
-def picture(recorded: Recorded, file: str) -> None:
-    """The three views in one picture."""
-    import matplotlib
+def figure_of(recorded: Recorded) -> Any:
+    """The three views in one picture, a figure of matplotlib. Axes, words and leap seconds are those of the line."""
+    from matplotlib.figure import Figure
 
-    matplotlib.use("Agg")
-    from matplotlib import pyplot
-
-    figure, (clocks, line, dead) = pyplot.subplots(3, 1, figsize=(10, 8.5), dpi=110, layout="constrained", gridspec_kw={"height_ratios": [5, 8, 2]})
-    line.sharex(dead)
+    span = span_of(recorded.line)
+    finite = recorded.readings[np.isfinite(recorded.readings)]
+    if span is None or not len(finite):
+        raise ValueError("no stamp is ordered, or no reading is finite: there is nothing to draw")
+    seconds = marked_seconds(recorded.line, span)
+    figure = Figure(figsize=(10, 8.5), dpi=110, layout="constrained")
+    clocks, line, others = figure.subplots(3, 1, gridspec_kw={"height_ratios": [5, 8, 2]})
+    line.sharex(others)
     draw_clocks(clocks, recorded)
-    draw_line(line, recorded)
-    draw_dead(dead, recorded)
-    for axes in (line, dead):
-        axes.axvspan(-1.0, 0.0, color="#f4d35e", alpha=0.5, linewidth=0)
-    for axes in (clocks, line, dead):
+    draw_line(line, recorded, seconds)
+    draw_others(others, recorded, span, seconds)
+    for axes in (clocks, line):
+        axes.set_ylabel("wall, mm")
+        axes.set_ylim(*(np.array([finite.min(), finite.max()]) + np.array([-0.1, 0.1]) * (np.ptp(finite) or 1.0)))
+    for first, last in leaps_in(span):
+        for axes in (line, others):
+            axes.axvspan(first, last, color=LEAP_COLOUR, alpha=0.5, linewidth=0 if last > first else 2)
+    for axes in (clocks, line, others):
         axes.grid(axis="y", color="#dddddd", linewidth=0.6)
         axes.spines[["top", "right"]].set_visible(False)
-    figure.savefig(file, metadata={"Software": None})
+    return figure
 
 
 # ---- The recorders' files
 
 
-def wall(time: Any) -> Any:
+def wall(time: Floats) -> Floats:
     """The wall at a second: 8 mm, girth welds, and a thin place."""
-    welds = sum(1.3 * np.exp(-(((time - at) / 0.06) ** 2)) for at in (-6.2, -3.1, 3.1, 6.2))
-    return 8.0 + welds - 2.6 * np.exp(-(((time + 0.45) / 0.22) ** 2))
+    welds = np.sum([1.3 * np.exp(-(((time - at) / 0.06) ** 2)) for at in (-6.2, -3.1, 3.1, 6.2)], axis=0)
+    thin: Floats = 8.0 + welds - 2.6 * np.exp(-(((time + 0.45) / 0.22) ** 2))
+    return thin
 
 
 def make(folder: pathlib.Path) -> None:
     """Stamps and readings of the three recorders, the same each time."""
     chance = np.random.Generator(np.random.PCG64(2016))
-    dead = {"gps": [9, 180, 181, 182, 183, 300], "tai": [40, 41, 205], "utc": [60, 74, 75, 130]}
+    midnight = ct.utctai(*ct.dtf2d("utc", 2017, 1, 1, 0, 0, 0.0)[:2])  # the TAI of 2017-01-01 0h UTC, just behind the leap second
+    not_finite = {"gps": [9, 180, 181, 182, 183, 300], "tai": [40, 41, 205], "utc": [60, 74, 75, 130]}
     for scale, rate, first in (("gps", 25, -7.50), ("tai", 20, -7.49), ("utc", 10, -7.48)):
         time = first + np.arange(15 * rate) / rate
-        tai = ct.add_seconds(MIDNIGHT.jd1, MIDNIGHT.jd2, time)
+        tai = ct.add_seconds(midnight.jd1, midnight.jd2, time)
         jd1, jd2 = tai[:2] if scale == "tai" else ct.convert("tai", scale, tai.jd1, tai.jd2)[:2]
-        jd1[dead[scale][::2]] = np.nan
-        jd2[dead[scale][1::2]] = np.inf
+        jd1[not_finite[scale][::2]] = np.nan
+        jd2[not_finite[scale][1::2]] = np.inf
         ct.write_blocks(folder / f"{scale}.block", jd1, jd2, size=100)
         np.save(folder / f"{scale}.npy", np.round(wall(time) + 0.03 * chance.standard_normal(len(time)), 3))
 
@@ -184,7 +190,7 @@ def main() -> int:
     for row in table(recorded):
         print(row)
     if asked.p is not None:
-        picture(recorded, asked.p)
+        figure_of(recorded).savefig(asked.p, metadata={"Software": None})
     return 0
 
 
