@@ -2,8 +2,8 @@
 
     pip install --no-build-isolation ./python
 
-takes the library beside the package (python/stage puts it there), or else that of target/lib of the clone; where there is none, it stops with the command that makes it.
-Nothing is left in the clone: what setuptools makes on its way lies in a folder of its own.
+takes the library beside the package (python/stage puts it there), or else that of target/lib of the clone; where there is none, it stops with the command
+that makes it. Nothing is left in the clone: what setuptools makes on its way lies in a folder of its own.
 """
 import atexit
 import ctypes

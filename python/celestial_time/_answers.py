@@ -11,7 +11,8 @@ NO_INT, NO_LONG = -(2**31), -(2**63)
 
 
 class Number(int):
-    """The number of a single answer, a whole number like any other. Its type tells it from an offset, for which an answer that is handed on whole would give it.
+    """The number of a single answer, a whole number like any other. Its type tells it from an offset, for which an answer that is handed on whole would give
+    it.
 
     >>> gpstai(2451545.0, 0.0).numbers
     0

@@ -1,8 +1,8 @@
 """Arrays handed to a loop of the library: what is taken, what is lent, and one walk over both.
 
-An array of the right type that lies in one piece is handed over as it is, and a single float beside such as one stretch of places that all hold it. Any other, one
-that is broadcast, strided, byte-swapped or of another type, goes through a buffer of some thousand places; none is copied whole here. Nothing is called before every
-argument has been looked at.
+An array of the right type that lies in one piece is handed over as it is, and a single float beside such as one stretch of places that all hold it. Any
+other, one that is broadcast, strided, byte-swapped or of another type, goes through a buffer of some thousand places; none is copied whole here. Nothing is
+called before every argument has been looked at.
 """
 from __future__ import annotations
 
@@ -178,8 +178,8 @@ def _long(name: str, array: NDArray[Any]) -> NDArray[Any]:
 
 
 def counts(name: str, value: ArrayLike) -> NDArray[Any]:
-    """Weeks, milliseconds or ticks: whole numbers as `small` takes them, or floats that are whole or not finite, as pandas makes a column of whole numbers of which
-    some are missing. A float that is not finite, or that 64 bits do not hold, becomes -1, which stands for what no call takes.
+    """Weeks, milliseconds or ticks: whole numbers as `small` takes them, or floats that are whole or not finite, as pandas makes a column of whole numbers
+    of which some are missing. A float that is not finite, or that 64 bits do not hold, becomes -1, which stands for what no call takes.
 
     >>> counts('week', [2048.0, float('nan'), 1e300])
     array([2048,   -1,   -1])
@@ -321,7 +321,8 @@ def each(
     """Walk over the arguments and the answers, and call `loop(n, address, ..)` for each stretch of n places that lies in one piece.
 
     The answers come in the order of `gives`, whose last is the stamps' numbers where a call may refuse. Of single values the answers are single values, and a
-    refusal is raised; where `out` lends places they are arrays, and a refusal is in them. `shown` names the arguments in errors where `takes` has other words for them.
+    refusal is raised; where `out` lends places they are arrays, and a refusal is in them. `shown` names the arguments in errors where `takes` has other
+    words for them.
 
     >>> each('gps_full_week', function('ct_each_full_week'), [('ten_bits', np.array(2)), ('reference', np.array(2400))], [Field('week', INT), Field('numbers', NUMBER)], [LONG, LONG])
     (2050, 0)
@@ -362,8 +363,8 @@ def _are_apart(arrays: Sequence[NDArray[Any]], places: Sequence[NDArray[Any] | N
 
 
 def _as_they_lie(name: str, loop: Callable[..., int], arrays: Sequence[NDArray[Any]]) -> None:
-    """Arrays that each lie in one piece, handed over where they lie; in stretches, so that a long call can be interrupted between two. A single value among the
-    arguments stands in each place of one stretch, which is handed over for all."""
+    """Arrays that each lie in one piece, handed over where they lie; in stretches, so that a long call can be interrupted between two. A single value among
+    the arguments stands in each place of one stretch, which is handed over for all."""
     size = arrays[-1].size
     pieces = [np.full(min(STRETCH, size), array) if array.shape == () != arrays[-1].shape else array for array in arrays]
     steps = [(address_of(piece), piece.itemsize if piece is array else 0) for piece, array in zip(pieces, arrays)]

@@ -28,8 +28,8 @@ _MOST_MONTHS, _MOST_SECONDS = 10**10, 2**55
 def from_datetime(scale: str, times: ArrayLike | datetime.datetime, *, table: Table | None = None) -> Dates:
     """The dates of a scale of what its clock showed, as datetime64 of numpy (of a nanosecond and more) or datetime objects; neither has a second 60.
 
-    A datetime with a time zone is UTC by its zone, and of another scale an error; one without is the scale's. NaT, or an object that is missing, is refused at its
-    place as the time of its number would be, the least of 64 bits: by 6 in UTC, by 1 elsewhere.
+    A datetime with a time zone is UTC by its zone, and of another scale an error; one without is the scale's. NaT, or an object that is missing, is refused
+    at its place as the time of its number would be, the least of 64 bits: by 6 in UTC, by 1 elsewhere.
 
     >>> from_datetime('utc', np.array(['2000-01-01T12:00:00', 'NaT'], 'M8[s]'))
     Dates(jd1=array([2451544.5,       nan]), jd2=array([0.5, nan]), numbers=array([0, 6], dtype=uint8))
@@ -54,8 +54,8 @@ def from_datetime(scale: str, times: ArrayLike | datetime.datetime, *, table: Ta
 
 
 def utc_datetime64(scale: str, jd1: ArrayLike, jd2: ArrayLike, *, table: Table | None = None) -> Times:
-    """The UTC of dates of utc, tai, gps, tt or tcg as datetime64[ms], to the millisecond that the text shows. A second 60, which datetime64 does not have, is refused
-    at its place, by 4; NaT stands in refused places.
+    """The UTC of dates of utc, tai, gps, tt or tcg as datetime64[ms], to the millisecond that the text shows. A second 60, which datetime64 does not have,
+    is refused at its place, by 4; NaT stands in refused places.
 
     >>> utc_datetime64('gps', 2457754.5, [16.5 / 86400.0, 17.5 / 86400.0, 18.5 / 86400.0])
     Times(time=array(['2016-12-31T23:59:59.500',                     'NaT',

@@ -394,7 +394,8 @@ int64_t ct_each_place(size_t second, size_t third, size_t n, const uint32_t *pla
     return 0;
 }
 
-/* Two stretches of places that are sorted, [left, middle) and [middle, right), as one; equal dates stay as they came. Below zero, what ct_compare refuses by. */
+/* Two stretches of places that are sorted, [left, middle) and [middle, right), as one; equal dates stay as they came. Below zero, what ct_compare
+   refuses by. */
 static int64_t merge(const double *jd1, const double *jd2, const uint32_t *from, uint32_t *to, size_t left, size_t middle, size_t right)
 {
     size_t i = left, j = middle;
@@ -407,7 +408,8 @@ static int64_t merge(const double *jd1, const double *jd2, const uint32_t *from,
     return 0;
 }
 
-/* n places sorted by the exact sums of their dates. Returns 0 where they are in `places` then, 1 where in `work`, or what ct_compare refuses by, below zero. */
+/* n places sorted by the exact sums of their dates. Returns 0 where they are in `places` then, 1 where in `work`, or what ct_compare refuses by,
+   below zero. */
 int64_t ct_each_sort(size_t n, const double *jd1, const double *jd2, uint32_t *places, uint32_t *work)
 {
     uint32_t *from = places, *to = work;

@@ -69,8 +69,8 @@ def seconds_between(
 
 
 def argsort(jd1: ArrayLike, jd2: ArrayLike, *, numbers: ArrayLike | None = None) -> Sorted:
-    """The places of stamps of one scale, in one dimension, as they rise by their exact sums; equal ones as they stand. A stamp whose number is not 0, or that has
-    no place in the order, which gets 9, is not among them.
+    """The places of stamps of one scale, in one dimension, as they rise by their exact sums; equal ones as they stand. A stamp whose number is not 0, or
+    that has no place in the order, which gets 9, is not among them.
 
     >>> argsort([2451546.0, float('nan'), 2451545.0], [0.0, 0.0, 0.5])
     Sorted(places=array([2, 0], dtype=uint32), numbers=array([0, 9, 0], dtype=uint8))

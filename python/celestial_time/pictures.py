@@ -1,4 +1,5 @@
-"""A picture of a line of recorders, as SVG, made of nothing but the line: what is ordered over TAI, and what is refused or left out where it stands in its run."""
+"""A picture of a line of recorders, as SVG, made of nothing but the line: what is ordered over TAI, and what is refused or left out where it stands in its
+run."""
 from __future__ import annotations
 
 from html import escape
@@ -78,8 +79,8 @@ def marked_seconds(line: Line, span: Span) -> NDArray[np.float64]:
 
 
 def ticks_of(span: Span) -> list[tuple[float, str]]:
-    """Ten places on the axis at the most, each a whole number of steps of the UTC clock at the first, and the UTC of each: the time of day, or day and time where
-    the span is longer than a day.
+    """Ten places on the axis at the most, each a whole number of steps of the UTC clock at the first, and the UTC of each: the time of day, or day and time
+    where the span is longer than a day.
 
     >>> line = line_up_recorders(('utc', [2457753.5, 2457754.5], [86399.0 / 86401.0, 0.0]))
     >>> [label for _, label in ticks_of(span_of(line))]
@@ -87,19 +88,24 @@ def ticks_of(span: Span) -> list[tuple[float, str]]:
     """
     long = span.last - span.first
     step = next((one for one in _STEPS if long / one <= 10), long / 10)
-    clock = _utc(span, np.zeros(1))[0][11:]
+    clock = _utc(span, np.zeros(1))[0].partition("T")[2]
     hours, minutes, seconds = (float(part) for part in (clock or "0:0:0").split(":"))
     begun = -((hours * 3600 + minutes * 60 + seconds) % step)
     places = begun + step * np.arange(np.ceil((span.first - begun) / step), np.floor((span.last - begun) / step) + 1)
-    whole = slice(0, 16) if long > 86400 else slice(11, 19) if step >= 1 else slice(11, 23)
-    return [(float(place), text[whole]) for place, text in zip(places, _utc(span, places))]
+    return [(float(place), _label(text, long > 86400, step < 1)) for place, text in zip(places, _utc(span, places))]
+
+
+def _label(text: str, days: bool, millis: bool) -> str:
+    """A day and the time to the minute, or the time alone, to the second or to the millisecond."""
+    day, _, clock = text.partition("T")
+    return f"{day} {clock[:5]}".strip() if days else clock if millis else clock[:8]
 
 
 def _utc(span: Span, seconds: NDArray[np.float64]) -> list[str]:
     """The UTC texts of places on the axis; an empty one where there is none."""
     tai = add_seconds(span.jd1, span.jd2, seconds)
     utc = taiutc(tai.jd1, tai.jd2, table=span.rows)
-    texts: list[str] = to_iso8601(utc.jd1, utc.jd2, table=span.rows, as_str=True).text.tolist()
+    texts: list[str] = to_iso8601(utc.jd1, utc.jd2, form="expanded", table=span.rows, as_str=True).text.tolist()
     return texts
 
 
@@ -138,8 +144,8 @@ def leaps_in(span: Span) -> list[tuple[float, float]]:
 
 
 def svg_of(line: Line, names: tuple[str, ...]) -> str:
-    """The picture of a line: a lane for each recorder, of its own shape and colour, with its ordered stamps over TAI, and beneath them those that are refused (bars) and
-    left out (crosses) where they stand in its run; leap seconds are shaded. The axis, its words and the leap seconds are the line's.
+    """The picture of a line: a lane for each recorder, of its own shape and colour, with its ordered stamps over TAI, and beneath them those that are
+    refused (bars) and left out (crosses) where they stand in its run; leap seconds are shaded. The axis, its words and the leap seconds are the line's.
 
     >>> svg_of(line_up_recorders(('gps', [2457754.5], [0.0])), ('gps',)).startswith('<svg ')
     True
@@ -186,7 +192,8 @@ def _lane(lane: int, name: str, across: NDArray[np.float64], numbers: NDArray[np
     kinds = (("ordered", numbers == 0), ("refused", (numbers != 0) & (numbers != LEFT_OUT)), ("left out", numbers == LEFT_OUT))
     counts = [f"{np.count_nonzero(which)} {kind}" for kind, which in kinds]
     yield f'<g class="lane"><text x="8" y="{top + 12}" font-weight="bold" fill="{COLOURS[lane]}">{escape(name)}</text>'
-    yield from (f'<text x="8" y="{top + 24 + 12 * row}" font-size="10">{said}</text>' for row, said in enumerate(counts) if row == 0 or not said.startswith("0 "))
+    shown = [said for said in counts if said == counts[0] or not said.startswith("0 ")]
+    yield from (f'<text x="8" y="{top + 24 + 12 * row}" font-size="10">{said}</text>' for row, said in enumerate(shown))
     marks = (
         (SHAPES[lane], top + 12, f'fill="{COLOURS[lane]}"'),
         ("m0-6v12", top + 32, f'fill="none" stroke="{REFUSED_COLOUR}"'),
@@ -220,7 +227,7 @@ def axis_words(span: Span) -> str:
     >>> axis_words(span_of(line_up_recorders(('utc', [2457753.5, 2457754.5], [0.5, 0.5]))))
     'UTC, 2016-12-31 to 2017-01-01; the leap second is shaded'
     """
-    first, last = (text[:10] or "no UTC" for text in _utc(span, np.array([span.first, span.last])))
+    first, last = (text.partition("T")[0] or "no UTC" for text in _utc(span, np.array([span.first, span.last])))
     leaps = len(leaps_in(span))
     shaded = "" if not leaps else "; the leap second is shaded" if leaps == 1 else f"; {leaps} leap seconds are shaded"
     return f"UTC, {first}{'' if first == last else f' to {last}'}{shaded}"

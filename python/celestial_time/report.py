@@ -6,6 +6,7 @@ from html import escape
 from typing import Iterator, Mapping
 
 import numpy as np
+from numpy.typing import NDArray
 
 from ._version import __version__
 from .blocks import write_whole
@@ -35,7 +36,8 @@ def write_page(path: str | os.PathLike[str], line: Line, recorders: tuple[Record
 
 
 def page_of(line: Line, recorders: tuple[Recorder, ...], files: Mapping[str, str]) -> str:
-    """The page of a line: the runs' figures, the picture, what is refused and left out, in sentences, and the leap rows. `files` has a name to show for a scale.
+    """The page of a line: the runs' figures, the picture, what is refused and left out, in sentences, and the leap rows. `files` has a name to show for a
+    scale.
 
     >>> gps = Recorder('gps', read_blocks(block_of([2457754.5, float('nan')], [0.0, 0.0])), None)
     >>> page = page_of(line_up_recorders(('gps', *gps.stamps[:2])), (gps,), {})
@@ -51,7 +53,8 @@ def page_of(line: Line, recorders: tuple[Recorder, ...], files: Mapping[str, str
         *_runs(line, recorders, files),
         "<h2>In one line by TAI</h2>",
         svg_of(line, names),
-        "<p>Each recorder has its shape and its colour. Bars are stamps that are refused, crosses those that are left out, both where they stand in their run.</p>",
+        "<p>Each recorder has its shape and its colour. Bars are stamps that are refused, crosses those that are left out,",
+        "both where they stand in their run.</p>",
         "<h2>Refused and left out</h2>",
         *_sentences(line, recorders),
         "<h2>Leap seconds</h2>",
@@ -70,46 +73,49 @@ def _runs(line: Line, recorders: tuple[Recorder, ...], files: Mapping[str, str])
         numbers = line.numbers[start : start + len(recorder.stamps.jd1)]
         good = start + np.flatnonzero(numbers == 0)
         left_out = int(np.count_nonzero(numbers == LEFT_OUT))
-        ends = utc_texts("tai", line.jd1[good[[0, -1]]], line.jd2[good[[0, -1]]], form="expanded", table=line.rows, as_str=True).text if len(good) else ["", ""]
-        cells = [recorder.scale, files.get(recorder.scale, ""), len(numbers), len(good), len(numbers) - len(good) - left_out, left_out, *ends]
+        ends = good[[0, -1]] if len(good) else good
+        texts = utc_texts("tai", line.jd1[ends], line.jd2[ends], form="expanded", table=line.rows, as_str=True).text
+        cells = [recorder.scale, files.get(recorder.scale, ""), len(numbers), len(good), len(numbers) - len(good) - left_out, left_out, *(texts if len(good) else ("", ""))]
         yield "<tr>" + "".join(f"<td>{escape(str(cell))}</td>" for cell in cells) + "</tr>"
         start += len(numbers)
     yield "</table>"
     for recorder in recorders:
         if recorder.refused is not None:
-            yield f'<p class="block">The run of {recorder.scale} ends before its file: {escape(str(recorder.refused))}. Its stamps are those before this block.</p>'
+            said = escape(str(recorder.refused))
+            yield f'<p class="block">The run of {recorder.scale} ends before its file: {said}. Its stamps are those before this block.</p>'
 
 
 def _sentences(line: Line, recorders: tuple[Recorder, ...]) -> Iterator[str]:
     """A sentence for each stamp that is refused or left out, and one for all where several that follow each other have one number."""
-    stretches = list(_stretches(line, recorders))
-    if not stretches:
+    said: list[str] = []
+    more = start = 0
+    for recorder in recorders:
+        numbers = line.numbers[start : start + len(recorder.stamps.jd1)]
+        stretches = _stretches(numbers)
+        room = MOST_SENTENCES - len(said)
+        said += [_sentence(recorder, int(numbers[first]), first, last) for first, last in stretches[:room].tolist()]
+        more += int((stretches[room:, 1] - stretches[room:, 0] + 1).sum())
+        start += len(numbers)
+    if not said:
         yield "<p>None: every stamp is lined up.</p>"
         return
     yield '<ul id="refused">'
-    for recorder, run, first, last in stretches[:MOST_SENTENCES]:
-        yield f"<li>{escape(_sentence(line, recorder, run, first, last))}</li>"
+    yield from (f"<li>{escape(one)}</li>" for one in said)
     yield "</ul>"
-    rest = stretches[MOST_SENTENCES:]
-    if rest:
-        stamps = sum(last - first + 1 for _, _, first, last in rest)
-        yield f'<p id="more">{stamps} stamps more are refused or left out, and not told here: the listing has each.</p>'
+    if more:
+        yield f'<p id="more">{more} stamps more are refused or left out, and not told here: the listing has each.</p>'
 
 
-def _stretches(line: Line, recorders: tuple[Recorder, ...]) -> Iterator[tuple[Recorder, int, int, int]]:
-    """The recorder, where its run begins, and the first and last stamp of each stretch of one number other than 0."""
-    start = 0
-    for recorder in recorders:
-        numbers = line.numbers[start : start + len(recorder.stamps.jd1)]
-        changes = np.flatnonzero(np.diff(numbers)) + 1
-        for first, end in zip([0, *changes.tolist()], [*changes.tolist(), len(numbers)]):
-            if first < end and numbers[first]:
-                yield recorder, start, first, end - 1
-        start += len(numbers)
+def _stretches(numbers: NDArray[np.uint8]) -> NDArray[np.int64]:
+    """The first and the last place of each stretch of one number other than 0, a row each."""
+    changes = np.flatnonzero(np.diff(numbers)) + 1
+    first, end = np.concatenate([[0], changes]), np.concatenate([changes, [len(numbers)]])
+    told = numbers[first] != 0 if len(numbers) else np.zeros(1, bool)
+    rows: NDArray[np.int64] = np.stack([first, end - 1], 1)[told].astype(np.int64)
+    return rows
 
 
-def _sentence(line: Line, recorder: Recorder, run: int, first: int, last: int) -> str:
-    number = int(line.numbers[run + first])
+def _sentence(recorder: Recorder, number: int, first: int, last: int) -> str:
     what = "left out" if number == LEFT_OUT else "refused"
     if first < last:
         return f"Stamps {first} to {last} of the recorder {recorder.scale}, {last - first + 1}, are {what} by {number}: {reason(number)}."
@@ -123,7 +129,8 @@ def _rows(line: Line) -> Iterator[str]:
     announced = {(year, month) for year, month, _ in (line.rows.rows if line.rows is not None else ())}
     rows = leap_rows(line.rows)
     year, month, seconds, _ = rows[-1]
-    yield f"<p>TAI-UTC is {seconds} s from {year}-{month:02d}-01 on, as far as the rows below know: a leap second that was announced after them takes a row that is lent.</p>"
+    yield f"<p>TAI-UTC is {seconds} s from {year}-{month:02d}-01 on, as far as the rows below know:"
+    yield "a leap second that was announced after them takes a row that is lent.</p>"
     yield '<table id="rows"><tr><th>from</th><th>TAI-UTC, s</th><th>row</th></tr>'
     for year, month, seconds, _ in rows:
         known = "announced" if (year, month) in announced else "of the library"

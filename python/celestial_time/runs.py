@@ -31,8 +31,8 @@ class Line(NamedTuple):
     """Runs in one line.
 
     `places` are the ordered stamps' places in the runs taken one after the other, `run` and `stamp` the same as the run and the place in it; `jd1` and `jd2`
-    the TAI of all stamps, and `numbers` their numbers, both in the order of the runs. `counts` are the lengths of the runs. `scales` are those of the recorders, none
-    of a line of TAI stamps, and `rows` the announced leap rows that the recorders' UTC was read by.
+    the TAI of all stamps, and `numbers` their numbers, both in the order of the runs. `counts` are the lengths of the runs. `scales` are those of the
+    recorders, none of a line of TAI stamps, and `rows` the announced leap rows that the recorders' UTC was read by.
 
     >>> line_up([2451545.0, 2451544.0], [0.0, 0.5], (1,)).places
     array([1, 0], dtype=uint32)
@@ -59,9 +59,9 @@ class Line(NamedTuple):
         return self.scales or tuple(str(run) for run in range(len(self.counts)))
 
     def table(self, names: Sequence[str] | None = None) -> dict[str, NDArray[Any]]:
-        """A row for each stamp, as `listed_places` has them, by columns, which pandas.DataFrame takes as they are: `recorder`, by `names` or those of the line; `index`
-        in its run; `tai1` and `tai2`, its TAI; `utc`, its UTC text, as a str; and `number`, by which it is refused. A stamp that is not ordered has NaN for its TAI and
-        no text; an ordered one that has no UTC has no text.
+        """A row for each stamp, as `listed_places` has them, by columns, which pandas.DataFrame takes as they are: `recorder`, by `names` or those of the
+        line; `index` in its run; `tai1` and `tai2`, its TAI; `utc`, its UTC text, as a str; and `number`, by which it is refused. A stamp that is not
+        ordered has NaN for its TAI and no text; an ordered one that has no UTC has no text.
 
         >>> line = line_up_recorders(('gps', [2457754.5], [0.0]), ('utc', [2457753.5, float('nan')], [0.5, 0.0]))
         >>> for name, column in line.table().items():
@@ -86,12 +86,13 @@ class Line(NamedTuple):
         return {"recorder": np.array(named)[run], "index": index, "tai1": tai1, "tai2": tai2, "utc": text, "number": number}
 
 
-def line_up(jd1: ArrayLike, jd2: ArrayLike, counts: Sequence[int] = (), *, numbers: ArrayLike | None = None) -> Line:
+def line_up(jd1: ArrayLike, jd2: ArrayLike, counts: Sequence[int] = (), *, numbers: ArrayLike | None = None, table: Table | None = None) -> Line:
     """The order of up to three runs of TAI stamps that stand one after the other: counts[0] of the first, counts[1] of the second, then what is left;
     a third count is that of what is left, as an answer's `counts` have it.
 
     A stamp whose number is not 0 stays refused. One that has no place in the order gets 9. Of the others of a run the most that rise are ordered, and the rest
-    are left out, with 17; of two that contradict each other alone the later place is ordered. The answer's `numbers` are a copy; the lent ones stay. Ties go by run. An array in one piece is not copied.
+    are left out, with 17; of two that contradict each other alone the later place is ordered. The answer's `numbers` are a copy; the lent ones
+    stay. Ties go by run. An array in one piece is not copied. The order needs no leap rows; `table` has those by which the UTC of the line's table is read.
 
     >>> line = line_up([2451545.0, 2451546.0, 2451545.0], [0.0, 0.0, 0.5], (2,))
     >>> line.places, line.run, line.numbers
@@ -104,14 +105,15 @@ def line_up(jd1: ArrayLike, jd2: ArrayLike, counts: Sequence[int] = (), *, numbe
     if len(lengths) > 2 or any(not 0 <= count < 2**63 for count in lengths):
         raise ValueError(f"counts are {counts}: those of the first and of the second run are due, and a third only where the three are all {len(first)} stamps")
     told = np.zeros(len(first), "u1") if numbers is None else judged("numbers", numbers)
-    return _ordered("line_up", first, second, told, lengths)
+    rows = None if table is None else lent_table(table)
+    return _ordered("line_up", first, second, told, lengths)._replace(rows=rows)
 
 
 def line_up_recorders(
     *runs: Run | tuple[str, ArrayLike, ArrayLike], table: Table | None = None, numbers: Sequence[ArrayLike | None] | None = None
 ) -> Line:
-    """Up to three recorders, each with its own scale, put into one line by their TAI. A stamp that has no TAI keeps the number that it is refused by. `numbers` has
-    for each run None or the numbers that its stamps have already: one that is not 0 stays.
+    """Up to three recorders, each with its own scale, put into one line by their TAI. A stamp that has no TAI keeps the number that it is refused by.
+    `numbers` has for each run None or the numbers that its stamps have already: one that is not 0 stays.
 
     >>> line = line_up_recorders(('gps', [2457754.5], [0.0]), ('utc', [2457753.5, float('nan')], [0.5, 0.0]))
     >>> line.run, line.stamp, line.numbers

@@ -21,7 +21,8 @@ def standby_bill(
 ) -> Bill:
     """The bill between two UTC times: each begun quarter of an hour, leap seconds counted, at `rate` cents, shared between two owners by their metres of line.
 
-    A time is a UTC text, a datetime (without a time zone it is UTC), or year, month, day, hour, minute, second and millisecond. Part of a millisecond is an error.
+    A time is a UTC text, a datetime (without a time zone it is UTC), or year, month, day, hour, minute, second and millisecond. Part of a millisecond is an
+    error.
 
     >>> standby_bill('2016-12-31T23:45:00', (2017, 1, 1, 0, 0, 0, 0), 1001, 300, 100)       # 15 minutes and the leap second
     Bill(quarters=2, first_cents=1502, second_cents=500)
@@ -46,7 +47,10 @@ def _handed(name: str, moment: Moment, table: Table) -> list[int]:
 
 def _fields(name: str, moment: Moment, table: Table) -> list[int]:
     if isinstance(moment, (str, bytes)):
-        read = from_iso8601(moment, table=table)
+        try:
+            read = from_iso8601(moment, table=table)
+        except Refused as refused:
+            raise Refused(refused.number, f"standby_bill: {name}", refused.values) from None
         second, part = divmod(read.second, 1.0)
         millis = round(part * 1000.0)
         # The float nearest to a decimal of three places is that decimal's again.

@@ -20,7 +20,8 @@ _DATED = [*_FIELDS, Field("jd1", FLOAT), Field("jd2", FLOAT), Field("numbers", N
 
 @overload
 def to_iso8601(
-    utc1: ArrayLike, utc2: ArrayLike, *, form: str = "iso8601", table: Table | None = None, return_rule: Literal[False] = False, as_str: bool = False, out: Out = None
+    utc1: ArrayLike, utc2: ArrayLike, *, form: str = "iso8601", table: Table | None = None, return_rule: Literal[False] = False, as_str: bool = False,
+    out: Out = None,
 ) -> Texts: ...
 @overload
 def to_iso8601(
@@ -38,7 +39,8 @@ def to_iso8601(
     as_str: bool = False,
     out: Out = None,
 ) -> Texts | TextsByRule:
-    """UTC dates as texts to the millisecond, byte strings of numpy's type S27, with `as_str` str of type U27; with `return_rule` also the row of TAI-UTC of their day.
+    """UTC dates as texts to the millisecond, byte strings of numpy's type S27, with `as_str` str of type U27; with `return_rule` also the row of TAI-UTC of
+    their day.
 
     The form is 'iso8601', 'half_even' (half milliseconds to the even one) or 'expanded' (a sign and seven digits for a year outside four).
 

@@ -27,8 +27,8 @@ def place_ticks(
 ) -> NDArray[np.uint64] | int | Ticks:
     """Each tick's TAI millisecond on the straight line between the passes beside it, rounded down. A tick outside the passes refuses the call.
 
-    The answer is an array of 64 bits unsigned, and of a single tick a whole number. With `return_numbers` a tick outside the passes, or a float that is not finite,
-    is refused at its place, by 25, and the answer is of 64 bits signed.
+    The answer is an array of 64 bits unsigned, and of a single tick a whole number. With `return_numbers` a tick outside the passes, or a float that is not
+    finite, is refused at its place, by 25, and the answer is of 64 bits signed.
 
     >>> place_ticks([0, 1000], [0, 500], [0, 3, 1000])
     array([  0,   1, 500], dtype=uint64)

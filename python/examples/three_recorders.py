@@ -5,10 +5,10 @@
     python/python3 python/examples/three_recorders.py FOLDER           of other files, as they are named here
     python/python3 python/examples/three_recorders.py -m FOLDER        the recorders' files made again
 
-A pig passes a thin place and some girth welds about the leap second of 2016-12-31. Three recorders read the wall in millimetres, one on GPS time, one on TAI and
-one on UTC. Each has a file of stamps, blocks one after the other (gps.block), and a file of readings, one for each stamp (gps.npy). Some stamps are not finite: their
-readings are kept in the table, and in the picture they are marked where they stand in their file, since they have no time. The readings are made up. Nothing of the
-sample is in the picture's axes and words: of other files it shows theirs.
+A pig passes a thin place and some girth welds about the leap second of 2016-12-31. Three recorders read the wall in millimetres, one on GPS time, one on TAI
+and one on UTC. Each has a file of stamps, blocks one after the other (gps.block), and a file of readings, one for each stamp (gps.npy). Some stamps are not
+finite: their readings are kept in the table, and in the picture they are marked where they stand in their file, since they have no time. The readings are
+made up. Nothing of the sample is in the picture's axes and words: of other files it shows theirs.
 """
 from __future__ import annotations
 
@@ -54,7 +54,8 @@ def table(recorded: Recorded) -> Iterator[str]:
     columns = recorded.line.table()
     readings = recorded.readings[ct.listed_places(recorded.line)]
     yield "utc,recorder,index,wall_mm,refused"
-    for utc, recorder, index, reading, number in zip(*(columns[name].tolist() for name in ("utc", "recorder", "index")), readings.tolist(), columns["number"].tolist()):
+    held = [columns[name].tolist() for name in ("utc", "recorder", "index", "number")]
+    for utc, recorder, index, number, reading in zip(*held, readings.tolist()):
         yield f"{utc},{recorder},{index},{reading:.2f},{number or ''}"
 
 
@@ -101,7 +102,8 @@ def draw_line(axes: Any, recorded: Recorded, seconds: Floats) -> None:
     readings = np.where((numbers == 0) & np.isfinite(recorded.readings), recorded.readings, np.inf)
     thin = int(np.argmin(readings))
     utc = ct.utc_texts("tai", recorded.line.jd1[[thin]], recorded.line.jd2[[thin]], as_str=True).text[0]
-    axes.set_title(f"Lined up by TAI: {np.count_nonzero(numbers == 0)} of {len(numbers)} stamps; the thinnest, {readings[thin]:.2f} mm, at {utc} UTC", loc="left", fontsize=11)
+    said = f"Lined up by TAI: {np.count_nonzero(numbers == 0)} of {len(numbers)} stamps; the thinnest, {readings[thin]:.2f} mm, at {utc} UTC"
+    axes.set_title(said, loc="left", fontsize=11)
     axes.legend(loc="lower right", frameon=False, fontsize=9)
     axes.tick_params(labelbottom=False)
 
@@ -113,8 +115,8 @@ def draw_others(axes: Any, recorded: Recorded, span: Span, seconds: Floats) -> N
         numbers = recorded.line.numbers[part]
         left_out = numbers == LEFT_OUT
         refused = (numbers != 0) & ~left_out
-        for which, marker, colour in ((refused, "|", REFUSED_COLOUR), (left_out, "x", LEFT_OUT_COLOUR)):
-            axes.plot(seconds[part][which], np.full(np.count_nonzero(which), -place), marker, color=colour, markersize=12 if marker == "|" else 6, markeredgewidth=1.2)
+        for which, marker, size, colour in ((refused, "|", 12, REFUSED_COLOUR), (left_out, "x", 6, LEFT_OUT_COLOUR)):
+            axes.plot(seconds[part][which], np.full(np.count_nonzero(which), -place), marker, color=colour, markersize=size, markeredgewidth=1.2)
         names.append(f"{scale.upper()}: {np.count_nonzero(refused)} refused, {np.count_nonzero(left_out)} left out")
     axes.set_yticks([-place for place in range(len(names))], names, fontsize=9)
     axes.set_ylim(0.3 - len(names), 0.7)

@@ -279,6 +279,11 @@ class Lines(unittest.TestCase):
         line = ct.line_up_recorders(("utc", utc.jd1, utc.jd2), table=rows)
         self.assertEqual(line.table()["utc"].tolist(), [f"{singles.Y}-01-01T00:00:00.500"])
         self.assertIs(line.rows, rows)
+        tai = ct.utctai(utc.jd1, utc.jd2, table=rows)
+        self.assertEqual(ct.line_up(tai.jd1, tai.jd2, table=rows).table()["utc"].tolist(), line.table()["utc"].tolist())
+        for call in (lambda: ct.line_up([], [], table="rows"), lambda: ct.line_up_recorders(("tai", [], []), table="rows")):
+            with self.assertRaises(TypeError):
+                call()
 
     def test_names(self):
         line = ct.line_up([2451545.0, 2451546.0], [0.0, 0.0], (1,))

@@ -128,7 +128,7 @@ class Report(unittest.TestCase):
 
     def test_odd_lines(self):
         """None ordered, no stamp at all, one instant, dates without UTC, dates too far apart: a page each, whose picture is well formed."""
-        for jd1 in ([], [np.nan] * 3, [2451545.0], [2451545.0] * 4, [2451545.0, 1e9], [2451545.0, 1e300], [-1e8, -1e8 + 1], [2451545.0, 2451545.0 + 1e-9], [2400000.5, 2500000.5]):
+        for jd1 in ([], [np.nan] * 3, [2451545.0], [2451545.0] * 4, [2451545.0, 1e9], [2451545.0, 1e300], [-1e8, -1e8 + 1], [2451545.0, 2451545.0 + 1e-9], [2400000.5, 2500000.5], [1e7, 1e7 + 1], [1e7, 1e7 + 1e-7], [1e6, 1e8]):
             for scale in ("tai", "utc"):
                 held = lineup.Recorder(scale, ct.Stamps(np.array(jd1), np.zeros(len(jd1)), np.array([len(jd1)])), None)
                 line = lineup.line_up_files(held)
