@@ -1,6 +1,7 @@
 -- The laws of UTC text, in the order to read them.
 pub mod TextCalls
 pub mod TextRules
+pub mod NamedForms
 pub mod TextDays
 pub mod CarriedRules
 pub mod TextCases

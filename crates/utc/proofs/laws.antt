@@ -19,9 +19,10 @@ pub mod DayLengths
 pub mod Alike
 pub mod OneText
 pub mod Ends
--- ExpandedTexts, HalfEvenTexts: document 02's two forms of text.
+-- ExpandedTexts, HalfEvenTexts: document 02's two forms of text. NamedTexts: the most bytes of a text of any form.
 pub mod ExpandedTexts
 pub mod HalfEvenTexts
+pub mod NamedTexts
 -- Which refusals the calls give by every announced table, and exactly when. Ladders: of tables, dates and times. Decided, NewDecided, TextDecided: of each
 -- call; UnixDates, UnixClock: what a Unix time needs. Witnesses: each refusal does occur.
 pub mod Ladders

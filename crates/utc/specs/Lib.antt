@@ -3,4 +3,5 @@ pub mod FromCalendar
 pub mod UnixTime
 pub mod text
 pub mod iso_texts
+pub mod run_texts
 pub mod laws

@@ -4,6 +4,7 @@ pub mod IsoText
 pub mod TextCall
 pub mod Expanded
 pub mod HalfEven
+pub mod Named
 pub mod ByRule
 -- of private functions alone
 pub mod TextDay

@@ -10,6 +10,7 @@ ghost use Rattle.utc.specs.iso_texts.TextDay.{textDayOutcome, dayWithLea
 mod by_rule;
 mod expanded;
 mod half_even;
+mod named;
 
 use crate::text::TextAnswer;
 pub use by_rule::to_iso8601;
@@ -23,9 +24,17 @@ pub use half_even::to_iso8601_half_even_by_lent;
 use julian::CalendarAnswer;
 use leap_table::offsets::Rule;
 use leap_table::offsets::SecondsByRule;
+pub use named::to_text_by_lent;
 use scales::UTC;
 use time_of_day::TimeOfDay;
 use time_of_day::TimeShown;
+
+// Which form of text a text call writes by.
+pub enum NamedForm {
+    Document01,
+    HalfEven,
+    Expanded,
+}
 
 // How many bytes were written and the rule of the day, or the number of the refusal.
 pub enum TextByRule {

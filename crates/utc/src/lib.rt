@@ -17,6 +17,7 @@ use scales::UTC;
 use scales::UtcAnswer;
 
 pub mod iso_texts;
+pub mod run_texts;
 pub mod text;
 
 // The day of a Unix time, counted from 1970-01-01: the Rust's `div_euclid`, which divides downward.
