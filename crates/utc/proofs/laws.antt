@@ -23,6 +23,9 @@ pub mod Ends
 pub mod ExpandedTexts
 pub mod HalfEvenTexts
 pub mod NamedTexts
+-- RunTexts: the texts of a run, place by place. RunTextsBytes: which bytes are whose.
+pub mod RunTextsBytes
+pub mod RunTexts
 -- Which refusals the calls give by every announced table, and exactly when. Ladders: of tables, dates and times. Decided, NewDecided, TextDecided: of each
 -- call; UnixDates, UnixClock: what a Unix time needs. Witnesses: each refusal does occur.
 pub mod Ladders

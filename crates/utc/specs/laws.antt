@@ -7,6 +7,8 @@ pub mod GoodForm
 pub mod OneText
 -- Beside: two texts of one date, each written in its own way.
 pub mod Beside
+-- RunTexts: what the texts of a run leave of each stamp.
+pub mod RunTexts
 -- Ladder: an order of refusals. Ladders: those of the calls that read TAI-UTC.
 pub mod Ladder
 pub mod Ladders
