@@ -36,8 +36,10 @@ pub mod Cases
 pub mod Units
 -- Parts: the two parts of a date as scaled whole numbers.
 pub mod Parts
--- DaySeconds: TAI-UTC by day numbers: whole seconds, from 10 on, with a step of 0 or 1.
+-- DaySeconds: TAI-UTC by day numbers, by every table that is taken: whole seconds, from 10 on, with a step of 0, 1 or -1.
 pub mod DaySeconds
+-- FixedDays: the days of the fixed table, which leaves no second out.
+pub mod FixedDays
 -- Stretch: the fraction of a day stretched by its leap second, and TAI-UTC in days.
 pub mod Stretch
 -- Midnight: the days from jd1 to a midnight are exact.
@@ -50,7 +52,7 @@ pub mod Kept
 pub mod Sums
 -- Evaluated: the evaluation.
 pub mod Evaluated
--- Steady: the exact relation has no jump and rises slowly.
+-- Steady: the exact relation has no jump and changes slowly.
 pub mod Steady
 -- The rounds of TAI to UTC:
 -- Residuals: their arithmetic.

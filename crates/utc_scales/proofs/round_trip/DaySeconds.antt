@@ -1,6 +1,9 @@
--- TAI-UTC on a day from 1972-01-01 to 8977: whole seconds, from 10 on, and the same or one more on the next day. Assumes nothing.
-use mathlib.Core.Path.{_≡_, refl, sym, ap, _∙_, subst}
+-- TAI-UTC on a day from 1972-01-01 on, by every table that is taken: whole seconds, 10 to 53, and the same, one more or one less on the next day. Assumes
+-- nothing.
+use mathlib.Core.Path.{_≡_, refl, sym, ap, _∙_, subst, subst₂}
 use mathlib.Core.Bool.{Bool, true, false, cond}
+use mathlib.Core.Logic.{_⊎_, inl, inr}
+use mathlib.Core.List.{List}
 use Prim.Native.Nat.{ℕ, suc, _+_, _-_, _≤_, _<_}
 use native.Mathlib.Omega.{arith}
 use lib.Dec.{ltb}
@@ -20,18 +23,19 @@ use Rattle.calendar.proofs.Years.{years-later, validOf, date-of-in-calendar, gr
 use Rattle.calendar.proofs.Gregorian.{gregorian-is-date-of-day}
 use Rattle.calendar.proofs.Mjd.{date-of-mjd}
 use Rattle.calendar.proofs.NextDates.{by, first-false}
-use Rattle.leap_table.specs.rows.Table.{fixed, starts, reached, monthNumber}
-use Rattle.leap_table.specs.offsets.Offset.{wholeF}
+use Rattle.leap_table.specs.declared.rows.AnnouncedRows.{AnnouncedRows}
+use Rattle.leap_table.specs.rows.Table.{Row, fixed, starts, monthNumber, mostSeconds}
+use Rattle.leap_table.specs.rows.Announced.{tableOf}
+use Rattle.leap_table.specs.offsets.Offset.{secondsIn, wholeF}
 use Rattle.leap_table.specs.offsets.Leap.{offsets, offsetsOfDay, dayOffsets}
-use Rattle.leap_table.proofs.rows.Reached.{member, month-later}
-use Rattle.leap_table.proofs.rows.Rows.{fixed-rises}
-use Rattle.leap_table.proofs.offsets.Years.{whole-rows, most-rows, whole-seconds}
-use Rattle.leap_table.proofs.offsets.WholeSeconds.{fixed-seconds}
+use Rattle.leap_table.proofs.rows.Reached.{member}
+use Rattle.leap_table.proofs.rows.NoRows.{none-announced, fixed-taken}
+use Rattle.leap_table.proofs.offsets.TableSeconds.{seconds-in-range, table-seconds, seconds-stay, seconds-step}
 use Rattle.leap_table.proofs.offsets.Days.{day-offsets-are}
 use Rattle.leap_days.proofs.Months.{next-month-number}
 use Rattle.refusals.proofs.Onward.{went}
 use Rattle.utc_scales.specs.days.Dates.{offsetsOf}
-use Rattle.utc_scales.specs.round_trip.UtcDays.{monthOn, secondsOn, leapAfter, WholeSeconds}
+use Rattle.utc_scales.specs.round_trip.UtcDays.{monthOn, secondsOn, leapAfter, shortAfter, Ending, ends-plain, ends-longer, ends-shorter, WholeSeconds}
 
 -- ---- the date of a day number, and the next
 pub date-of : (n : ℕ) → n ≤ 1000000000 → gregorianDate (pos n) ≡ dateOf (pos n)
@@ -108,47 +112,75 @@ module _ (n : ℕ) (g : 2441318 ≤ n) (k : n < 1000000000) where
   unfolding monthOn
   month-next = next-number (t .year) (year-1972 n g) (t .month) (t .day) (dateOf (pos (suc n))) next-answered
 
-  -- ---- the seconds
-  rows-next : (b : Bool) × (reached (starts fixed) (monthOn (suc n)) ≡ cond b (suc (reached (starts fixed) (monthOn n))) (reached (starts fixed) (monthOn n)))
-  rows-next = go (month-next .0) (month-next .1)
-    where
-      go : (b : Bool) → monthOn (suc n) ≡ cond b (monthOn n) (suc (monthOn n)) → (c : Bool)
-          × (reached (starts fixed) (monthOn (suc n)) ≡ cond c (suc (reached (starts fixed) (monthOn n))) (reached (starts fixed) (monthOn n)))
-      go true e = (false, ap (reached (starts fixed)) e)
-      go false e = (member (suc (monthOn n)) (starts fixed), ap (reached (starts fixed)) e ∙ month-later (starts fixed) fixed-rises (monthOn n))
+-- ---- what the theorems ask of a table: from 1972 on each day begins with whole seconds and ends as `Ending` says, and its offsets are those
+pub record WholeTable (rows : List Row) : Type 0 where
+  pub whole : (n : ℕ) → 2441318 ≤ n → n < 1000000000 → WholeSeconds rows n
+  pub day-offsets : (n : ℕ) → 2441318 ≤ n → n < 1000000000
+      → offsetsOf rows (gregorianDate (pos n)) ≡ answer (offsets (wholeF (secondsOn rows n)) (wholeF (secondsOn rows n)) (wholeF (secondsOn rows (suc n))))
 
-  here : secondsOn n ≡ reached (starts fixed) (monthOn n) - 5
-  unfolding secondsOn
-  here = fixed-seconds (monthOn n) (month-1972 n g)
+module _ (t : AnnouncedRows) (rows : List Row) (e : tableOf t ≡ answer rows) where
+  module _ (n : ℕ) (g : 2441318 ≤ n) (k : n < 1000000000) where
+    abbrev later : 2441318 ≤ suc n
+    later = omega arith
 
-  there : secondsOn (suc n) ≡ reached (starts fixed) (monthOn (suc n)) - 5
-  unfolding secondsOn
-  there = fixed-seconds (monthOn (suc n)) (month-1972 (suc n) (omega arith))
+    -- ---- the seconds: those of the month, and of the next day's month
+    near : (secondsOn rows (suc n) ≡ secondsOn rows n) ⊎ ((secondsOn rows (suc n) ≡ secondsOn rows n + 1) ⊎ (secondsOn rows n ≡ secondsOn rows (suc n) + 1))
+    unfolding secondsOn
+    near = go (month-next n g k .0) (month-next n g k .1)
+      where
+        in-month : (b : Bool) → member (suc (monthOn n)) (starts rows) ≡ b → monthOn (suc n) ≡ suc (monthOn n)
+            → (secondsIn rows (monthOn (suc n)) ≡ secondsIn rows (monthOn n))
+            ⊎ ((secondsIn rows (monthOn (suc n)) ≡ secondsIn rows (monthOn n) + 1) ⊎ (secondsIn rows (monthOn n) ≡ secondsIn rows (monthOn (suc n)) + 1))
+        in-month false b q = inl (ap (secondsIn rows) q ∙ seconds-stay t rows e (monthOn n) (month-1972 n g) b)
+        in-month true b q =
+            inr (subst (λ (m : ℕ). (secondsIn rows m ≡ secondsIn rows (monthOn n) + 1) ⊎ (secondsIn rows (monthOn n) ≡ secondsIn rows m + 1)) (sym q)
+            (seconds-step t rows e (monthOn n) (month-1972 n g) b))
 
-  pub seconds-on-day : WholeSeconds n
-  unfolding leapAfter
-  seconds-on-day = go (rows-next .0) (rows-next .1)
-    where
-      go : (c : Bool) → reached (starts fixed) (monthOn (suc n)) ≡ cond c (suc (reached (starts fixed) (monthOn n))) (reached (starts fixed) (monthOn n))
-          → WholeSeconds n
-      go true e =
-          let a = whole-rows (monthOn n) (month-1972 n g) in
-          let b = most-rows (monthOn (suc n)) in
-          record { least = omega (arith, here); step = omega (arith, here, there); next = omega (arith, here, there); most = omega (arith, here, there) }
-      go false e =
-          let a = whole-rows (monthOn n) (month-1972 n g) in
-          let b = most-rows (monthOn (suc n)) in
-          record { least = omega (arith, here); step = omega (arith, here, there); next = omega (arith, here, there); most = omega (arith, here, there) }
+        go : (b : Bool) → monthOn (suc n) ≡ cond b (monthOn n) (suc (monthOn n)) → (secondsIn rows (monthOn (suc n)) ≡ secondsIn rows (monthOn n))
+            ⊎ ((secondsIn rows (monthOn (suc n)) ≡ secondsIn rows (monthOn n) + 1) ⊎ (secondsIn rows (monthOn n) ≡ secondsIn rows (monthOn (suc n)) + 1))
+        go true q = inl (ap (secondsIn rows) q)
+        go false q = in-month (member (suc (monthOn n)) (starts rows)) refl q
 
-  -- ---- THE OFFSETS OF THE DAY: whole seconds, at 0h, 12h and 24h
-  pub day-seconds : offsetsOf fixed (gregorianDate (pos n)) ≡ answer (offsets (wholeF (secondsOn n)) (wholeF (secondsOn n)) (wholeF (secondsOn (suc n))))
-  unfolding offsetsOf offsetsOfDay monthOn
-  day-seconds =
-      let j = mjdNumber (t .year) (pos (t .month)) (pos (t .day)) in
-      let p = whole-seconds (monthOn n) (ofInt binary64 j) nought (month-1972 n g) ∙ ap wholeF (sym here) in
-      let q = whole-seconds (monthOn n) (ofInt binary64 j) half (month-1972 n g) ∙ ap wholeF (sym here) in
-      let r = whole-seconds (monthOn (suc n)) (ofInt binary64 (sucℤ j)) nought (month-1972 (suc n) (omega arith)) ∙ ap wholeF (sym there) in
-      ap (λ (x : CalendarDate). dayOffsets fixed (x .year) (pos (x .month)) (pos (x .day))) (date-of n (omega arith))
-      ∙ day-offsets-are fixed (t .year) (pos (t .month)) (pos (t .day))
-      ∙ went _ next-answered
-      ∙ ap answer (λ i. offsets (p i) (q i) (r i))
+    in-range : (n : ℕ) → 2441318 ≤ n → (10 ≤ secondsOn rows n) × (secondsOn rows n ≤ mostSeconds)
+    unfolding secondsOn
+    in-range n g = seconds-in-range t rows e (monthOn n) (month-1972 n g)
+
+    pub seconds-on-day : WholeSeconds rows n
+    unfolding leapAfter shortAfter
+    seconds-on-day = go near
+      where
+        made : (D E : ℕ) → (E ≡ D) ⊎ ((E ≡ D + 1) ⊎ (D ≡ E + 1)) → Ending (E - D) (D - E) × (D + (E - D) ≡ E + (D - E))
+        made D E (inl q) = let a : 0 ≡ E - D = omega arith in let b : 0 ≡ D - E = omega arith in (subst₂ Ending a b ends-plain, omega arith)
+        made D E (inr (inl q)) = let a : 1 ≡ E - D = omega arith in let b : 0 ≡ D - E = omega arith in (subst₂ Ending a b ends-longer, omega arith)
+        made D E (inr (inr q)) = let a : 0 ≡ E - D = omega arith in let b : 1 ≡ D - E = omega arith in (subst₂ Ending a b ends-shorter, omega arith)
+
+        go : (secondsOn rows (suc n) ≡ secondsOn rows n) ⊎ ((secondsOn rows (suc n) ≡ secondsOn rows n + 1) ⊎ (secondsOn rows n ≡ secondsOn rows (suc n) + 1))
+            → WholeSeconds rows n
+        go c =
+            let m = made (secondsOn rows n) (secondsOn rows (suc n)) c in
+            let r = in-range n g in
+            let r' = in-range (suc n) later in
+            record { least = r .0; most = r .1; least-next = r' .0; most-next = r' .1; ending = m .0; next = m .1 }
+
+    -- ---- THE OFFSETS OF THE DAY: whole seconds, at 0h, 12h and 24h
+    pub day-seconds : offsetsOf rows (gregorianDate (pos n))
+        ≡ answer (offsets (wholeF (secondsOn rows n)) (wholeF (secondsOn rows n)) (wholeF (secondsOn rows (suc n))))
+    unfolding offsetsOf offsetsOfDay monthOn secondsOn
+    day-seconds =
+        let d = dateOf (pos n) in
+        let j = mjdNumber (d .year) (pos (d .month)) (pos (d .day)) in
+        let p = table-seconds t rows e (monthOn n) (month-1972 n g) (ofInt binary64 j) nought in
+        let q = table-seconds t rows e (monthOn n) (month-1972 n g) (ofInt binary64 j) half in
+        let r = table-seconds t rows e (monthOn (suc n)) (month-1972 (suc n) later) (ofInt binary64 (sucℤ j)) nought in
+        ap (λ (x : CalendarDate). dayOffsets rows (x .year) (pos (x .month)) (pos (x .day))) (date-of n (omega arith))
+        ∙ day-offsets-are rows (d .year) (pos (d .month)) (pos (d .day))
+        ∙ went _ (next-answered n g k)
+        ∙ ap answer (λ i. offsets (p i) (q i) (r i))
+
+  -- ---- EVERY TABLE that is taken
+  pub table-whole : WholeTable rows
+  table-whole = record { whole = seconds-on-day; day-offsets = day-seconds }
+
+-- the fixed one among them
+pub fixed-whole : WholeTable fixed
+fixed-whole = table-whole none-announced fixed fixed-taken

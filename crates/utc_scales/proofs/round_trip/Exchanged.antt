@@ -1,6 +1,7 @@
 -- THE PARTS EXCHANGED: the theorems hold of the same dates with jd2 for jd1 and jd1 for jd2, since the larger part comes first wherever it stands. Assumes
 -- nothing.
 use mathlib.Core.Path.{_≡_, sym, ap, _∙_}
+use mathlib.Core.List.{List}
 use mathlib.Core.Bool.{Bool, true, false}
 use Prim.Native.Nat.{ℕ, _+_, _*_, _≤_, _<_}
 use native.Mathlib.Omega.{arith}
@@ -16,7 +17,9 @@ use Rattle.rounding.proofs.Compare.{le-val}
 use Rattle.julian.specs.declared.JulianDate.{JulianDate}
 use Rattle.julian.specs.JulianDate.{julian}
 use Rattle.julian.specs.Worth.{Worth}
-use Rattle.leap_table.specs.rows.Table.{fixed}
+use Rattle.leap_table.specs.declared.rows.AnnouncedRows.{AnnouncedRows}
+use Rattle.leap_table.specs.rows.Table.{Row, fixed}
+use Rattle.leap_table.specs.rows.Announced.{tableOf}
 use Rattle.scales.specs.laws.Meaning.{Close}
 use Rattle.scales.proofs.laws.Meant.{more-close}
 use Rattle.utc_scales.specs.days.LargerPart.{firstIsKept, keptAs, keptParts, putBeside, placed, changeSmaller}
@@ -27,10 +30,11 @@ use Rattle.utc_scales.specs.round_trip.Relation.{RightTai, RightUtc}
 use Rattle.utc_scales.specs.round_trip.RoundTrip.{ThereAndBack}
 use Rattle.utc_scales.proofs.round_trip.Units.{L-H}
 use Rattle.utc_scales.proofs.round_trip.Parts.{FirstPart, SecondPart, first-part, second-part}
+use Rattle.utc_scales.proofs.round_trip.DaySeconds.{WholeTable, table-whole, fixed-whole}
 use Rattle.utc_scales.proofs.round_trip.Kept.{first-larger}
-use Rattle.utc_scales.proofs.round_trip.Meant.{utc-to-tai-means}
+use Rattle.utc_scales.proofs.round_trip.Meant.{whole-utc-to-tai-means}
 use Rattle.utc_scales.proofs.round_trip.Rounds.{found, part}
-use Rattle.utc_scales.proofs.round_trip.UtcMeant.{tai-to-utc-means}
+use Rattle.utc_scales.proofs.round_trip.UtcMeant.{whole-tai-to-utc-means}
 use Rattle.utc_scales.proofs.round_trip.RoundTrip.{back-within}
 
 -- jd2 for jd1 and jd1 for jd2
@@ -86,48 +90,56 @@ module _ {a u : Float} {A up un : ℕ} (v : FirstPart a A) (w : SecondPart u up 
       go : (d e : ℕ) → d ≤ 2 * L → e ≡ A → d + 0 < e + 0
       go d e l q = omega (arith, v .low, L-H, L-pos)
 
--- ---- THE THEOREMS
-utc-answer : {d y : JulianDate} → HalfDaySplit d → utcToTai fixed d ≡ answer y → utcToTai fixed (exchanged d) ≡ answer (exchanged y)
-unfolding utcToTai
-utc-answer {d} {y} s e = let w = second-part s .2 in changed-exchanged (taiFraction fixed) d y (is-first (first-part s) w) (is-second (first-part s) w) e
+-- ---- THE THEOREMS, by every table that is taken, and by the fixed one
+module _ {rows : List Row} (t : WholeTable rows) where
+  utc-answer : {d y : JulianDate} → HalfDaySplit d → utcToTai rows d ≡ answer y → utcToTai rows (exchanged d) ≡ answer (exchanged y)
+  unfolding utcToTai
+  utc-answer {d} {y} s e = let w = second-part s .2 in changed-exchanged (taiFraction rows) d y (is-first (first-part s) w) (is-second (first-part s) w) e
 
-tai-answer : {d y : JulianDate} → HalfDaySplit d → taiToUtc fixed d ≡ answer y → taiToUtc fixed (exchanged d) ≡ answer (exchanged y)
-unfolding taiToUtc
-tai-answer {d} {y} s e = let w = second-part s .2 in changed-exchanged (refineUtcFraction fixed) d y (is-first (first-part s) w) (is-second (first-part s) w) e
+  tai-answer : {d y : JulianDate} → HalfDaySplit d → taiToUtc rows d ≡ answer y → taiToUtc rows (exchanged d) ≡ answer (exchanged y)
+  unfolding taiToUtc
+  tai-answer {d} {y} s e = let w = second-part s .2 in changed-exchanged (refineUtcFraction rows) d y (is-first (first-part s) w) (is-second (first-part s) w) e
 
-pub utc-to-tai-exchanged : {d : JulianDate} → HalfDaySplit d → RightTai 77 (exchanged d)
-utc-to-tai-exchanged s = let r =
-    utc-to-tai-means s in record {
-      n = r .n;
-      on = day-exchanged (r .on);
-      date = exchanged (r .date);
-      is = utc-answer s (r .is);
-      means =
-          close-exchanged (r .means);
-    }
+  utc-exchanged : {d : JulianDate} → HalfDaySplit d → RightTai rows 77 (exchanged d)
+  utc-exchanged s =
+      let r = whole-utc-to-tai-means t s in
+      record { n = r .n; on = day-exchanged (r .on); date = exchanged (r .date); is = utc-answer s (r .is); means = close-exchanged (r .means) }
 
-pub tai-to-utc-exchanged : {d : JulianDate} → HalfDaySplit d → RightUtc 173 (exchanged d)
-tai-to-utc-exchanged s = let r =
-    tai-to-utc-means s in record {
-      date = exchanged (r .date);
-      is = tai-answer s (r .is);
-      n = r .n;
-      on = day-exchanged (r .on);
-      means =
-          close-exchanged (r .means);
-    }
+  tai-exchanged : {d : JulianDate} → HalfDaySplit d → RightUtc rows 173 (exchanged d)
+  tai-exchanged s =
+      let r = whole-tai-to-utc-means t s in
+      record { date = exchanged (r .date); is = tai-answer s (r .is); n = r .n; on = day-exchanged (r .on); means = close-exchanged (r .means) }
 
-pub there-and-back-exchanged : {d : JulianDate} → HalfDaySplit d → ThereAndBack 1000 (exchanged d)
-unfolding utcToTai
-there-and-back-exchanged {d} s =
-    let v = first-part s in
-    let w = found v (s .held .1) (s .second) in
-    let z = w .at .seen in
-    let u = part (w .at) in
-    record {
-      u = exchanged (julian (d .jd1) (w .u));
-      t = exchanged (julian (d .jd1) (z .t));
-      there = tai-answer s (w .is);
-      back = changed-exchanged (taiFraction fixed) (julian (d .jd1) (w .u)) (julian (d .jd1) (z .t)) (is-first v u) (is-second v u) (z .answered);
-      apart = more-close (lit≤ tt) (close-exchanged (back-within s));
-    }
+  back-exchanged : {d : JulianDate} → HalfDaySplit d → ThereAndBack rows 1000 (exchanged d)
+  unfolding utcToTai
+  back-exchanged {d} s =
+      let v = first-part s in
+      let w = found t v (s .held .1) (s .second) in
+      let z = w .at .seen in
+      let u = part (w .at) in
+      record {
+        u = exchanged (julian (d .jd1) (w .u));
+        t = exchanged (julian (d .jd1) (z .t));
+        there = tai-answer s (w .is);
+        back = changed-exchanged (taiFraction rows) (julian (d .jd1) (w .u)) (julian (d .jd1) (z .t)) (is-first v u) (is-second v u) (z .answered);
+        apart = more-close (lit≤ tt) (close-exchanged (back-within t s));
+      }
+
+module _ (t : AnnouncedRows) (rows : List Row) (e : tableOf t ≡ answer rows) {d : JulianDate} (s : HalfDaySplit d) where
+  pub table-utc-to-tai-exchanged : RightTai rows 77 (exchanged d)
+  table-utc-to-tai-exchanged = utc-exchanged (table-whole t rows e) s
+
+  pub table-tai-to-utc-exchanged : RightUtc rows 173 (exchanged d)
+  table-tai-to-utc-exchanged = tai-exchanged (table-whole t rows e) s
+
+  pub table-there-and-back-exchanged : ThereAndBack rows 1000 (exchanged d)
+  table-there-and-back-exchanged = back-exchanged (table-whole t rows e) s
+
+pub utc-to-tai-exchanged : {d : JulianDate} → HalfDaySplit d → RightTai fixed 77 (exchanged d)
+utc-to-tai-exchanged s = utc-exchanged fixed-whole s
+
+pub tai-to-utc-exchanged : {d : JulianDate} → HalfDaySplit d → RightUtc fixed 173 (exchanged d)
+tai-to-utc-exchanged s = tai-exchanged fixed-whole s
+
+pub there-and-back-exchanged : {d : JulianDate} → HalfDaySplit d → ThereAndBack fixed 1000 (exchanged d)
+there-and-back-exchanged s = back-exchanged fixed-whole s

@@ -1,6 +1,6 @@
 -- A worked case of one instant: 2017-01-01 0h UTC, which is 37 s later by TAI and 18 s later by GPS, stamped by three recorders in floats. It is one instant to
 -- 2 ps, and the TAI dates agree to 12, 79 and 89 ps. Assumes nothing.
-use mathlib.Core.Path.{_≡_, refl, sym, _∙_, subst₂}
+use mathlib.Core.Path.{_≡_, refl, sym, _∙_, subst, subst₂}
 use mathlib.Core.Bool.{false}
 use mathlib.Core.Logic.{inl}
 use Prim.Native.Nat.{ℕ, _+_, _-_, _*_, _^_, _≤_}
@@ -24,7 +24,7 @@ use Rattle.scales.specs.laws.Ranges.{Practical}
 use Rattle.rounding.specs.Picoseconds.{dayPs}
 use Rattle.scales.specs.laws.Meaning.{Close, Means, taiOverGps}
 use Rattle.utc_scales.specs.round_trip.Ranges.{HalfDaySplit}
-use Rattle.utc_scales.specs.round_trip.UtcDays.{H, secondsOn, leapAfter, ExactDay}
+use Rattle.utc_scales.specs.round_trip.UtcDays.{H, secondsOn, leapAfter, shortAfter, ExactDay}
 use Rattle.utc_scales.specs.round_trip.Relation.{taiOverUtc}
 use Rattle.utc_scales.specs.round_trip.Recorders.{OneInstant, Agree}
 use Rattle.utc_scales.proofs.round_trip.Units.{L-H, in-units}
@@ -38,11 +38,11 @@ second-of-2017 : dateOf (pos 2457756) ≡ date (pos 2017) 1 2
 unfolding mjdOf mjdNumber civilCount validDate daysInMonth lengths leapSize onward
 second-of-2017 = sym (date-of 2457756 (omega arith)) ∙ date-of-mjd (pos 2017) (pos 1) (pos 2) (pos 57755) refl refl
 
-still : secondsOn 2457756 ≡ 37
+still : secondsOn fixed 2457756 ≡ 37
 unfolding fixed reached monthNumber
 still = seconds-of 2457756 (date (pos 2017) 1 2) second-of-2017
 
-no-leap : leapAfter 2457755 ≡ 0
+no-leap : leapAfter fixed 2457755 ≡ 0
 unfolding leapAfter
 no-leap = (λ i. still i - thirty-seven i)
 
@@ -115,7 +115,11 @@ by-gps = record {
   under = picoseconds _ _ (omega (arith, L-q));
 }
 
-plain : Close 1 (86400 + 0) 86400 (37 * L + 0 * H) (0 * (2457755 * L)) u t
+none-out : shortAfter fixed 2457755 ≡ 0
+unfolding shortAfter
+none-out = (λ i. thirty-seven i - still i)
+
+plain : Close 1 (86400 + 0 - 0) 86400 (37 * L + (0 * H + 0 * (2457755 * L))) (0 * (2457755 * L) + 0 * H) u t
 plain = record {
   p = 4915509 * H + 0;
   n = 0;
@@ -127,16 +131,20 @@ plain = record {
   under = picoseconds _ _ (omega (arith, L-q));
 }
 
-by-utc : Means 1 (taiOverUtc 2457755) u t
-by-utc = subst₂ (λ (D s : ℕ). Close 1 (86400 + s) 86400 (D * L + s * H) (s * (2457755 * L)) u t) (sym thirty-seven) (sym no-leap) plain
+by-utc : Means 1 (taiOverUtc fixed 2457755) u t
+by-utc =
+    subst (λ (r : ℕ). Close 1 (86400 + leapAfter fixed 2457755 - r) 86400 (secondsOn fixed 2457755 * L + (leapAfter fixed 2457755 * H + r * (2457755 * L)))
+    (leapAfter fixed 2457755 * (2457755 * L) + r * H) u t) (sym none-out)
+    (subst₂ (λ (D s : ℕ). Close 1 (86400 + s - 0) 86400 (D * L + (s * H + 0 * (2457755 * L))) (s * (2457755 * L) + 0 * H) u t) (sym thirty-seven)
+    (sym no-leap) plain)
 
 -- ---- THE CASE
-pub new-year-2017 : OneInstant 2 g t u
+pub new-year-2017 : OneInstant fixed 2 g t u
 new-year-2017 = by-tai 2457755 1 on by-gps by-utc
 
 in-range : Practical g
 unfolding fits le lt eq abs
 in-range = inl ((tt, tt), (tt, tt))
 
-pub agreed : Agree 2 g t u
+pub agreed : Agree fixed 2 g t u
 agreed = three-recorders 2 g t in-range in-split new-year-2017

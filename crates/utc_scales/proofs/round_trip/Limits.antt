@@ -79,7 +79,7 @@ back-val : Val (bits 0x3f31_7228_3394_3000) (19181998412848 * q) 0 L
 unfolding ofBits
 back-val = in-units 19181998412848 (2 ^ 56) q L-q (record { sign = false; size = 19181998412848; has = (refl, refl); is = refl })
 
-pub no-29-ps : ThereAndBack 29 worst → ⊥
+pub no-29-ps : ThereAndBack fixed 29 worst → ⊥
 no-29-ps r =
     let e : r .u ≡ after-leap 0xbc90_0800_0000_0000 = same (r .there) worst-there in
     let f : r .t ≡ after-leap 0x3f31_7228_3394_3000 = same (subst (λ (u : JulianDate). utcToTai fixed u ≡ answer (r .t)) e (r .back)) worst-back in

@@ -1,7 +1,9 @@
 -- TAI TO UTC OF A MODIFIED JULIAN DATE: for the split (2400000.5, MJD) it is answered, and the exact TAI of the answer lies within 628,795 ps of the TAI given.
--- Each guess, and what UTC to TAI gives for it, is a whole number of units in the last place of a float from 2 ^ 15 to 2 ^ 16, or to 2 ^ 17; so a guess is moved
+-- Each guess, and what UTC to TAI gives for it, is a whole number of units in the last place of a float from 2 ^ 15 to 2 ^ 16, or to 2 ^ 17; so a guess is
+-- moved
 -- without a rounding, and the only coarse one is that of UTC to TAI. Assumes nothing.
 use mathlib.Core.Path.{_≡_, refl, sym, ap, _∙_, subst}
+use mathlib.Core.List.{List}
 use mathlib.Core.Logic.{_⊎_, inl, inr}
 use Prim.Native.Nat.{ℕ, _+_, _-_, _*_, _^_, _/_, _≤_}
 use native.Mathlib.Nat.{add-mul, zero-mul, le-of-mul-le-mul-right, le-trans, le-of-eq}
@@ -23,13 +25,16 @@ use Rattle.rounding.proofs.Own.{val-rep}
 use Rattle.rounding.proofs.Optimal.{multiple}
 use Rattle.julian.specs.declared.JulianDate.{JulianDate}
 use Rattle.julian.specs.JulianDate.{julian}
-use Rattle.leap_table.specs.rows.Table.{fixed}
+use Rattle.leap_table.specs.declared.rows.AnnouncedRows.{AnnouncedRows}
+use Rattle.leap_table.specs.rows.Table.{Row, fixed}
+use Rattle.leap_table.specs.rows.Announced.{tableOf}
 use Rattle.utc_scales.specs.UtcTai.{moved, refined, rounds, refineUtcFraction, taiToUtc}
 use Rattle.utc_scales.specs.round_trip.Ranges.{ModifiedSplit}
 use Rattle.utc_scales.specs.round_trip.UtcDays.{H, ExactDay}
 use Rattle.utc_scales.specs.round_trip.Relation.{RightUtc}
 use Rattle.utc_scales.proofs.round_trip.Units.{h, L-H, L-h, h-pos, h-small}
 use Rattle.utc_scales.proofs.round_trip.Parts.{parts-joined}
+use Rattle.utc_scales.proofs.round_trip.DaySeconds.{WholeTable, table-whole, fixed-whole}
 use Rattle.utc_scales.proofs.round_trip.Steady.{few-seconds}
 use Rattle.utc_scales.proofs.round_trip.Kept.{kept-changed}
 use Rattle.utc_scales.proofs.round_trip.Evaluated.{SeenTo}
@@ -41,12 +46,12 @@ use Rattle.utc_scales.proofs.round_trip.Exactly.{means-of}
 use Rattle.utc_scales.proofs.round_trip.UtcMeant.{guess-said}
 use Rattle.utc_scales.proofs.round_trip.Modified.{ModifiedPart, ZeroPoint, stamp, modified-seen, modified-larger, modified-size, from-1972, zero-point}
 
--- ---- the bounds of the residual, in units of h: 5662510614 are what UTC to TAI is off, and 691200 what the calendar is, twice
+-- ---- the bounds of the residual, in units of h: 5662510635 are what UTC to TAI is off, and 691200 what the calendar is, twice
 abbrev evaluation : ℕ
-evaluation = 5662510614
+evaluation = 5662510635
 
 abbrev together : ℕ
-together = 5663201814
+together = 5663201835
 
 abbrev one : ℕ
 one = (atFirst + 86401 * together) / 86400 + 1
@@ -199,7 +204,8 @@ not-above A bp bn up un tp tn w o s e i k l =
     earlier up un tp tn w o i k l = omega (arith, L-h)
 
 -- ---- the rounds of b, a modified Julian date, by a grid of which b is
-module _ {a b : Float} {bp bn j k S : ℕ} (v : ZeroPoint a) (fb : T (fits binary64 b)) (vb : Val b bp bn L) (low : 41318 * L + bn ≤ bp)
+module _ {rows : List Row} (t : WholeTable rows) {a b : Float} {bp bn j k S : ℕ} (v : ZeroPoint a) (fb : T (fits binary64 b)) (vb : Val b bp bn L)
+    (low : 41318 * L + bn ≤ bp)
     (high : bp ≤ bn + 131071 * L) (g : GridOf j k S) (from : 16384 * (bn + S * L) + L ≤ 16384 * bp) (to : 16384 * bp ≤ 16384 * (bn + 2 * (S * L)) + L) where
   abbrev A : ℕ
   A = 4800001 * H
@@ -207,23 +213,23 @@ module _ {a b : Float} {bp bn j k S : ℕ} (v : ZeroPoint a) (fb : T (fits binar
   b-on : OnGrid j k b bp bn
   b-on = to-grid g fb vb (omega (arith, from))
 
-  -- a guess, at most R / 2048 from b
+  -- a guess, at most R / 1536 from b
   record Guess (R P : ℕ) (u : Float) : Type 0 where
     up : ℕ
     un : ℕ
     part : ModifiedPart u up un
     on : OnGrid j k u up un
-    above : 2048 * (bn + up) ≤ 2048 * (bp + un) + R
-    below : 2048 * (bp + un) ≤ 2048 * (bn + up) + R
-    residual : Residual H A bp bn (dateSeen (modified-seen v part)) (offsetSeen (modified-seen v part)) P
-    ahead : 86400 * (bp + A + H) ≤ 86400 * bn + (86400 * dateSeen (modified-seen v part) + offsetSeen (modified-seen v part)) + one * h
+    above : 1536 * (bn + up) ≤ 1536 * (bp + un) + R
+    below : 1536 * (bp + un) ≤ 1536 * (bn + up) + R
+    residual : Residual H A bp bn (dateSeen (modified-seen t v part)) (offsetSeen (modified-seen t v part)) P
+    ahead : 86400 * (bp + A + H) ≤ 86400 * bn + (86400 * dateSeen (modified-seen t v part) + offsetSeen (modified-seen t v part)) + one * h
 
   b-part : ModifiedPart b bp bn
   b-part = record { held = fb; val = vb; low = omega (arith, low, L-H); high = omega (arith, high) }
 
   first : Guess 0 (atFirst * h) b
   first =
-      let z = modified-seen v b-part in
+      let z = modified-seen t v b-part in
       record {
         up = bp;
         un = bn;
@@ -240,10 +246,10 @@ module _ {a b : Float} {bp bn j k S : ℕ} (v : ZeroPoint a) (fb : T (fits binar
 
   module _ (R P R' P' : ℕ) (r : R + L ≤ R') (r' : R' ≤ 3 * L) (p : P ≤ atFirst * h) (p' : P + 86401 * (together * h) ≤ 86400 * P') (p'' : P' ≤ one * h)
       {u : Float} (x : Guess R P u) where
-    abbrev z : SeenTo (evaluation * h) a u A (x .up) (x .un)
-    z = modified-seen v (x .part)
+    abbrev z : SeenTo rows (evaluation * h) a u A (x .up) (x .un)
+    z = modified-seen t v (x .part)
 
-    size : (2048 * (bp + z .tn) ≤ 2048 * (bn + z .tp) + L) × (2048 * (bn + z .tp) ≤ 2048 * (bp + z .tn) + L)
+    size : (1536 * (bp + z .tn) ≤ 1536 * (bn + z .tp) + L) × (1536 * (bn + z .tp) ≤ 1536 * (bp + z .tn) + L)
     size = move-size h L H A bp bn (evaluation * h) (z .tp) (z .tn) (dateSeen z) (offsetSeen z) P L-h (omega arith) p (tai-near z) (x .residual)
 
     t-low : z .tn + S * L ≤ z .tp
@@ -268,7 +274,7 @@ module _ {a b : Float} {bp bn j k S : ℕ} (v : ZeroPoint a) (fb : T (fits binar
           low = w-low (x .up) (x .un) (z .tp) (z .tn) (y .p) (y .n) (x .below) (size .1) (y .by .low);
           high = w-high (x .up) (x .un) (z .tp) (z .tn) (y .p) (y .n) (x .above) (size .0) (y .by .high);
         } in
-        let q = next-residual 0 (together * h) P P' (omega arith) (omega arith) p p' z (modified-seen v w) (y .by) (x .residual) in
+        let q = next-residual 0 (together * h) P P' (omega arith) (omega arith) p p' z (modified-seen t v w) (y .by) (x .residual) in
         record {
           up = y .p;
           un = y .n;
@@ -280,35 +286,35 @@ module _ {a b : Float} {bp bn j k S : ℕ} (v : ZeroPoint a) (fb : T (fits binar
           ahead = within _ _ (q .high);
         }
       where
-        above-zero : (up un tp tn : ℕ) → 41317 * L + H + un ≤ up → 2048 * (bn + tp) ≤ 2048 * (bp + tn) + L → un + (bn + tp) ≤ up + (bp + tn)
+        above-zero : (up un tp tn : ℕ) → 41317 * L + H + un ≤ up → 1536 * (bn + tp) ≤ 1536 * (bp + tn) + L → un + (bn + tp) ≤ up + (bp + tn)
         above-zero up un tp tn e i = omega arith
 
-        w-above : (up un tp tn p n : ℕ) → 2048 * (bn + up) ≤ 2048 * (bp + un) + R → 2048 * (bp + tn) ≤ 2048 * (bn + tp) + L
-            → p + (un + (bn + tp)) ≤ n + (up + (bp + tn)) + 0 → 2048 * (bn + p) ≤ 2048 * (bp + n) + R'
+        w-above : (up un tp tn p n : ℕ) → 1536 * (bn + up) ≤ 1536 * (bp + un) + R → 1536 * (bp + tn) ≤ 1536 * (bn + tp) + L
+            → p + (un + (bn + tp)) ≤ n + (up + (bp + tn)) + 0 → 1536 * (bn + p) ≤ 1536 * (bp + n) + R'
         w-above up un tp tn p n e i k = omega (arith, r)
 
-        w-below : (up un tp tn p n : ℕ) → 2048 * (bp + un) ≤ 2048 * (bn + up) + R → 2048 * (bn + tp) ≤ 2048 * (bp + tn) + L
-            → n + (up + (bp + tn)) ≤ p + (un + (bn + tp)) + 0 → 2048 * (bp + n) ≤ 2048 * (bn + p) + R'
+        w-below : (up un tp tn p n : ℕ) → 1536 * (bp + un) ≤ 1536 * (bn + up) + R → 1536 * (bn + tp) ≤ 1536 * (bp + tn) + L
+            → n + (up + (bp + tn)) ≤ p + (un + (bn + tp)) + 0 → 1536 * (bp + n) ≤ 1536 * (bn + p) + R'
         w-below up un tp tn p n e i k = omega (arith, r)
 
-        w-low : (up un tp tn p n : ℕ) → 2048 * (bp + un) ≤ 2048 * (bn + up) + R → 2048 * (bn + tp) ≤ 2048 * (bp + tn) + L
+        w-low : (up un tp tn p n : ℕ) → 1536 * (bp + un) ≤ 1536 * (bn + up) + R → 1536 * (bn + tp) ≤ 1536 * (bp + tn) + L
             → n + (up + (bp + tn)) ≤ p + (un + (bn + tp)) + 0 → 41317 * L + H + n ≤ p
         w-low up un tp tn p n e i k = omega (arith, r, r', low, L-H)
 
-        w-high : (up un tp tn p n : ℕ) → 2048 * (bn + up) ≤ 2048 * (bp + un) + R → 2048 * (bp + tn) ≤ 2048 * (bn + tp) + L
+        w-high : (up un tp tn p n : ℕ) → 1536 * (bn + up) ≤ 1536 * (bp + un) + R → 1536 * (bp + tn) ≤ 1536 * (bn + tp) + L
             → p + (un + (bn + tp)) ≤ n + (up + (bp + tn)) + 0 → p ≤ n + 131071 * L + H
         w-high up un tp tn p n e i k = omega (arith, r, r', high, L-H)
 
         within : (X Y : ℕ) → X ≤ Y + P' → X ≤ Y + one * h
         within X Y l = omega (arith, p'')
 
-  once : {R P : ℕ} {u : Float} (x : Guess R P u) → refined fixed a b u ≡ answer (moved a b u (julian a (modified-seen v (x .part) .t)))
+  once : {R P : ℕ} {u : Float} (x : Guess R P u) → refined rows a b u ≡ answer (moved a b u (julian a (modified-seen t v (x .part) .t)))
   unfolding refined
-  once x = went _ (modified-seen v (x .part) .answered)
+  once x = went _ (modified-seen t v (x .part) .answered)
 
   record Refined : Type 0 where
     u : Float
-    is : refineUtcFraction fixed a b ≡ answer u
+    is : refineUtcFraction rows a b ≡ answer u
     at : Guess (3 * L) (three * h) u
 
   three-rounds : Refined
@@ -317,9 +323,9 @@ module _ {a b : Float} {bp bn j k S : ℕ} (v : ZeroPoint a) (fb : T (fits binar
       let x1 = step 0 (atFirst * h) L (one * h) (omega arith) (omega arith) (omega arith) (omega arith) (omega arith) first in
       let x2 = step L (one * h) (2 * L) (two * h) (omega arith) (omega arith) (omega arith) (omega arith) (omega arith) x1 in
       let x3 = step (2 * L) (two * h) (3 * L) (three * h) (omega arith) (omega arith) (omega arith) (omega arith) (omega arith) x2 in
-      record { u = _; is = went (rounds fixed a b 2) (once first) ∙ went (rounds fixed a b 1) (once x1) ∙ went (rounds fixed a b 0) (once x2); at = x3 }
+      record { u = _; is = went (rounds rows a b 2) (once first) ∙ went (rounds rows a b 1) (once x1) ∙ went (rounds rows a b 0) (once x2); at = x3 }
 
-  right : RightUtc 628795 (julian a b)
+  right : RightUtc rows 628795 (julian a b)
   unfolding taiToUtc
   right =
       let r = three-rounds in
@@ -329,10 +335,10 @@ module _ {a b : Float} {bp bn j k S : ℕ} (v : ZeroPoint a) (fb : T (fits binar
       let d : ExactDay (julian a (r .u)) (o .0) = record { p = _; m = _; worth = parts-joined (v .val) (x .part .val); on = o .1 } in
       record {
         date = julian a (r .u);
-        is = kept-changed (refineUtcFraction fixed) a b (r .u) (modified-larger v b-part) (r .is);
+        is = kept-changed (refineUtcFraction rows) a b (r .u) (modified-larger v b-part) (r .is);
         n = o .0;
         on = d;
-        means = means-of (seconds z (o .0) (o .1)) d (guess-said z vb (modified-seen v (x .part)) (x .residual) 628795 in-all (o .0) (o .1));
+        means = means-of (seconds z (o .0) (o .1) t) d (guess-said t z vb (modified-seen t v (x .part)) (x .residual) 628795 in-all (o .0) (o .1));
       }
 
 -- ---- THE THEOREM: by the lower grid up to 65536 days and 5 s, and else by the upper one
@@ -340,9 +346,17 @@ module _ {d : JulianDate} (s : ModifiedSplit d) where
   abbrev u : SizeWithin (d .jd2) (131071 * L)
   u = modified-size s
 
-  by-grid : Dec (16384 * u .p ≤ 16384 * (u .n + 2 * (32768 * L)) + L) → RightUtc 628795 d
-  by-grid (yes k) = right (zero-point s) (s .held .1) (u .val) (from-1972 s) (u .high) lower (omega (arith, from-1972 s, L-pos)) k
-  by-grid (no k) = right (zero-point s) (s .held .1) (u .val) (from-1972 s) (u .high) upper (omega (arith, k)) (omega (arith, u .high))
+  module _ {rows : List Row} (t : WholeTable rows) where
+    by-grid : Dec (16384 * u .p ≤ 16384 * (u .n + 2 * (32768 * L)) + L) → RightUtc rows 628795 d
+    by-grid (yes k) = right t (zero-point s) (s .held .1) (u .val) (from-1972 s) (u .high) lower (omega (arith, from-1972 s, L-pos)) k
+    by-grid (no k) = right t (zero-point s) (s .held .1) (u .val) (from-1972 s) (u .high) upper (omega (arith, k)) (omega (arith, u .high))
 
-  pub tai-to-utc-modified : RightUtc 628795 d
-  tai-to-utc-modified = by-grid (decLe (16384 * u .p) (16384 * (u .n + 2 * (32768 * L)) + L))
+    whole-modified : RightUtc rows 628795 d
+    whole-modified = by-grid (decLe (16384 * u .p) (16384 * (u .n + 2 * (32768 * L)) + L))
+
+  -- by every table that is taken, and by the fixed one
+  pub table-tai-to-utc-modified : (t : AnnouncedRows) (rows : List Row) → tableOf t ≡ answer rows → RightUtc rows 628795 d
+  table-tai-to-utc-modified t rows e = whole-modified (table-whole t rows e)
+
+  pub tai-to-utc-modified : RightUtc fixed 628795 d
+  tai-to-utc-modified = whole-modified fixed-whole

@@ -12,7 +12,7 @@ use lib.Ieee.{Float, fin, binary64, round, add, sub, mul, div, ofInt, fits, le, 
 use lib.Ieee.Fits.{add-fits}
 use Rattle.floats.specs.Whole.{nought, one}
 use Rattle.constants.specs.Constants.{secondsPerDay, mjdZeroPoint}
-use Rattle.leap_table.specs.rows.Table.{lastSeconds}
+use Rattle.leap_table.specs.rows.Table.{fixed, lastSeconds, mostSeconds}
 use Rattle.rounding.specs.Value.{Val, L}
 use Rattle.rounding.proofs.Value.{L-pos, rounds-move, mul-rounds, add-rounds}
 use Rattle.rounding.proofs.Compare.{le-says}
@@ -21,13 +21,13 @@ use Rattle.julian.proofs.day_number.Units.{W, nought-L}
 use Rattle.julian.proofs.day_number.CarryDay.{minus-one, to-grid}
 use Rattle.leap_table.specs.offsets.Offset.{wholeF}
 use Rattle.leap_days.proofs.drift.Tests.{each}
-use Rattle.utc_scales.specs.round_trip.UtcDays.{H, secondsOn, leapAfter, WholeSeconds}
+use Rattle.utc_scales.specs.round_trip.UtcDays.{H, secondsOn, leapAfter}
 use Rattle.utc_scales.proofs.round_trip.Units.{h, L-h, h-pos, next-midnight, in-units, add-close}
 use Rattle.utc_scales.proofs.round_trip.Parts.{FirstPart, half-days}
-use Rattle.utc_scales.proofs.round_trip.DaySeconds.{seconds-on-day}
 use Rattle.utc_scales.proofs.round_trip.Stretch.{K, times-one, times, Factor, DayFactor, plain-day-factor, longer-day-factor, in-days}
 use Rattle.utc_scales.proofs.round_trip.Midnight.{since-midnight}
 use Rattle.utc_scales.proofs.round_trip.Steady.{share}
+use Rattle.utc_scales.proofs.round_trip.FixedDays.{FixedDay, fixed-day}
 use Rattle.utc_scales.proofs.round_trip.Sums.{first-high, first-low}
 use Rattle.utc_scales.proofs.round_trip.Evaluated.{tai}
 
@@ -64,21 +64,22 @@ inDays D = div binary64 (wholeF D) secondsPerDay
 abbrev withOffset : Float → ℕ → Float → Float
 withOffset c D x = add binary64 (mul binary64 (mul binary64 x c) one) (inDays D)
 
-module _ {c : Float} {s : ℕ} (z : Factor c s) (D : ℕ) (few : D ≤ lastSeconds) where
+module _ {c : Float} {s r : ℕ} (z : Factor c s r) (D : ℕ) (few : D ≤ mostSeconds) where
   after-val : {x : Float} {f : ℕ} → Val x f 0 L → f < L → (p : ℕ) × (n : ℕ) × Val (withOffset c D x) p n L × (p < n + 2 * L)
   after-val {x} {f} v l =
       let p = z .near x f v l in
       let q = in-days D few in
-      let g = share s f (z .few) l .0 in
+      let g = share f (z .ends) .0 in
+      let g' = share f (z .ends) .1 in
       let d = mul-le-mul-right L few in
-      let i = add-close (first-high f (s * f) (D * L) (p .p) (p .n) (q .p) (q .n) l g d (p .over) (p .under) (q .over) (q .under))
-      (first-low f (s * f) (D * L) (p .p) (p .n) (q .p) (q .n) l g d (p .over) (p .under) (q .over) (q .under)) (p .val) (q .val) in
-      (i .p, i .n, i .val, room (i .p) (i .n) f (s * f) (D * L) (p .p) (p .n) (q .p) (q .n) l g d (p .over) (q .over) (i .over))
+      let i = add-close (first-high f (s * f) (r * f) (D * L) (p .p) (p .n) (q .p) (q .n) l g g' d (p .over) (p .under) (q .over) (q .under))
+      (first-low f (s * f) (r * f) (D * L) (p .p) (p .n) (q .p) (q .n) l g g' d (p .over) (p .under) (q .over) (q .under)) (p .val) (q .val) in
+      (i .p, i .n, i .val, room (i .p) (i .n) f (s * f) (r * f) (D * L) (p .p) (p .n) (q .p) (q .n) l g d (p .over) (q .over) (i .over))
     where
-      room : (y w f g d p n q m : ℕ) → f < L → g ≤ f → d ≤ lastSeconds * L → 86400 * p ≤ 86400 * n + (86400 * f + g) + 113792 * h
-          → 86400 * q ≤ 86400 * m + d + 22 * h
+      room : (y w f g k d p n q m : ℕ) → f < L → g ≤ f → d ≤ mostSeconds * L → 86400 * p + k ≤ 86400 * n + (86400 * f + g) + 113792 * h
+          → 86400 * q ≤ 86400 * m + d + 43 * h
           → y + (n + m) ≤ w + (p + q) + h → y < w + 2 * L
-      room y w f g d p n q m a b e i j k = omega (arith, L-h, h-pos)
+      room y w f g k d p n q m a b e i j o = omega (arith, L-h, h-pos)
 
   after-order : {x y : Float} {f g : ℕ} → Val x f 0 L → Val y g 0 L → f ≤ g → g < L → T (le (withOffset c D x) (withOffset c D y))
   after-order {x} {y} {f} {g} vx vy k l =
@@ -167,7 +168,7 @@ longer-start k l = each longerStart 40 k l tt
 -- ---- a day of D seconds at its start and E at its end: its factor, and that it starts at D or later and ends at E or earlier
 record DayLaw (D E : ℕ) : Type 0 where
   s : ℕ
-  stretch : DayFactor D s E
+  stretch : DayFactor D s 0 E
   start : T (le (inDays D) (withOffset (stretch .c) D nought))
   end : T (le (sub binary64 (withOffset (stretch .c) D last) one) (inDays E))
 
@@ -185,32 +186,36 @@ day-law D (suc zero) E l k e = subst (DayLaw D) (longer D E e)
 day-law D (suc (suc s)) E l k e = absurd (omega arith)
 
 module _ (n : ℕ) (low : 2441318 ≤ n) (high : n ≤ 5000002) where
-  day-whole : WholeSeconds n
-  day-whole = seconds-on-day n low (omega arith)
+  day-whole : FixedDay n
+  day-whole = fixed-day n low (omega arith)
 
-  day-few : secondsOn n ≤ lastSeconds
+  day-few : secondsOn fixed n ≤ lastSeconds
   day-few = omega (arith, day-whole .most)
 
-  the-day : DayLaw (secondsOn n) (secondsOn (suc n))
-  the-day = day-law (secondsOn n) (leapAfter n) (secondsOn (suc n)) day-few (day-whole .step) (day-whole .next)
+  day-most : secondsOn fixed n ≤ mostSeconds
+  day-most = omega (arith, day-few)
+
+  the-day : DayLaw (secondsOn fixed n) (secondsOn fixed (suc n))
+  the-day = day-law (secondsOn fixed n) (leapAfter fixed n) (secondsOn fixed (suc n)) day-few (day-whole .step) (day-whole .next)
 
 -- the float of UTC to TAI on day n
 abbrev sum-of : Float → ℕ → Float → Float
 sum-of a n y = add binary64 (add binary64 (sub binary64 mjdZeroPoint a) (ofInt binary64 (pos n -ℤ pos 2400001))) y
 
-tai-is : (a : Float) (n : ℕ) (d : DayLaw (secondsOn n) (secondsOn (suc n))) (x : Float) → tai a n x ≡ sum-of a n (withOffset (d .stretch .c) (secondsOn n) x)
-tai-is a n d x = ap (λ (z : Float). sum-of a n (add binary64 z (inDays (secondsOn n)))) (d .stretch .is x)
+tai-is : (a : Float) (n : ℕ) (d : DayLaw (secondsOn fixed n) (secondsOn fixed (suc n))) (x : Float)
+    → tai fixed a n x ≡ sum-of a n (withOffset (d .stretch .c) (secondsOn fixed n) x)
+tai-is a n d x = ap (λ (z : Float). sum-of a n (add binary64 z (inDays (secondsOn fixed n)))) (d .stretch .is x)
 
 module _ {a : Float} {A : ℕ} (v : FirstPart a A) (n : ℕ) (low : 2441318 ≤ n) where
   -- ---- ON ONE DAY
-  pub same-day : (high : n ≤ 5000002) {x y : Float} {f g : ℕ} → Val x f 0 L → Val y g 0 L → f ≤ g → g < L → T (le (tai a n x) (tai a n y))
+  pub same-day : (high : n ≤ 5000002) {x y : Float} {f g : ℕ} → Val x f 0 L → Val y g 0 L → f ≤ g → g < L → T (le (tai fixed a n x) (tai fixed a n y))
   same-day high {x} {y} {f} {g} vx vy k l =
       let d = the-day n low high in
       let m = since-midnight (half-days v) n low high in
-      let few = day-few n low high in
-      let p = after-val (d .stretch .factor) (secondsOn n) few vx (less f g k l) in
-      let q = after-val (d .stretch .factor) (secondsOn n) few vy l in
-      let o = le-says L-pos (p .2) (q .2) (after-order (d .stretch .factor) (secondsOn n) few vx vy k l) in
+      let few = day-most n low high in
+      let p = after-val (d .stretch .factor) (secondsOn fixed n) few vx (less f g k l) in
+      let q = after-val (d .stretch .factor) (secondsOn fixed n) few vy l in
+      let o = le-says L-pos (p .2) (q .2) (after-order (d .stretch .factor) (secondsOn fixed n) few vx vy k l) in
       subst₂ (λ (z w : Float). T (le z w)) (sym (tai-is a n d x)) (sym (tai-is a n d y))
       (add-order (m .val) (p .2) (m .val) (q .2) (both (m .x) A (p .0) (p .1) (q .0) (q .1) o))
     where
@@ -222,14 +227,14 @@ module _ {a : Float} {A : ℕ} (v : FirstPart a A) (n : ℕ) (low : 2441318 ≤ 
 
   -- ---- OVER ONE MIDNIGHT
   pub next-day : (high : suc n ≤ 5000002) {x y : Float} {f g : ℕ} → T (fits binary64 x) → Val x f 0 L → Val y g 0 L → f < L → g < L
-      → T (le (tai a n x) (tai a (suc n) y))
+      → T (le (tai fixed a n x) (tai fixed a (suc n) y))
   next-day high {x} {y} {f} {g} t vx vy l l' =
-      let D = secondsOn n in
-      let E = secondsOn (suc n) in
+      let D = secondsOn fixed n in
+      let E = secondsOn fixed (suc n) in
       let d = the-day n low (omega arith) in
       let e = the-day (suc n) (omega arith) high in
-      let few = day-few n low (omega arith) in
-      let few' = day-few (suc n) (omega arith) high in
+      let few = day-most n low (omega arith) in
+      let few' = day-most (suc n) (omega arith) high in
       let m = since-midnight (half-days v) n low (omega arith) in
       let m' = since-midnight (half-days v) (suc n) (omega arith) high in
       let p = after-val (d .stretch .factor) D few vx l in
@@ -246,7 +251,7 @@ module _ {a : Float} {A : ℕ} (v : FirstPart a A) (n : ℕ) (low : 2441318 ≤ 
       (add-order (m .val) (p .2) (m' .val) (q .2)
       (total (m .x) (m' .x) (n * L) (p .0) (p .1) (z .0) (z .1) (c .p) (c .n) (i .0) (i .1) (q .0) (q .1) (m .is) (m' .is ∙ next-midnight n) o1 o2 o3 o4))
     where
-      some : (d p n : ℕ) → 10 * L ≤ d → d + 86400 * n ≤ 86400 * p + 22 * h → n ≤ p
+      some : (d p n : ℕ) → 10 * L ≤ d → d + 86400 * n ≤ 86400 * p + 43 * h → n ≤ p
       some d p n k j = omega (arith, L-h)
 
       midnight : (w : Float) (p n c b : ℕ) → T (fits binary64 w) → Val w p n L → p < n + 2 * L → {k : Float} → Val k c b L → T (le (sub binary64 w one) k)

@@ -19,12 +19,14 @@ use Rattle.scales.specs.laws.Recorders.{NotLater}
 use Rattle.scales.proofs.laws.Meant.{worth-unique}
 use Rattle.utc_scales.specs.UtcTai.{utcToTai, taiToUtc}
 use Rattle.utc_scales.specs.round_trip.Ranges.{HalfDaySplit}
-use Rattle.utc_scales.specs.round_trip.UtcDays.{H, WholeSeconds, ExactDay}
+use Rattle.utc_scales.specs.round_trip.UtcDays.{H, ExactDay}
 use Rattle.utc_scales.specs.round_trip.Order.{Follows, OrderKept, PartsInOrder}
-use Rattle.utc_scales.proofs.round_trip.Parts.{first-part, second-part}
+use Rattle.utc_scales.proofs.round_trip.Parts.{first-part, second-part, stamp-of, parts-worth}
+use Rattle.utc_scales.proofs.round_trip.DaySeconds.{fixed-whole}
+use Rattle.utc_scales.proofs.round_trip.FixedDays.{FixedDay, fixed-day}
 use Rattle.utc_scales.proofs.round_trip.Steady.{taiUtcAt}
 use Rattle.utc_scales.proofs.round_trip.Evaluated.{seen}
-use Rattle.utc_scales.proofs.round_trip.Meant.{stamp-day, day-seconds-of, utc-means-on}
+use Rattle.utc_scales.proofs.round_trip.Meant.{stamp-day, day-of, exact-low, exact-high, day-seconds-of, utc-means-on}
 use Rattle.utc_scales.proofs.round_trip.Exactly.{said, relation-rises}
 use Rattle.utc_scales.proofs.round_trip.UtcMeant.{UtcFound, utc-found}
 
@@ -61,7 +63,7 @@ module _ (p m p' m' W W' G G' : ℕ) where
   to-utc k (inl g) i j l = omega arith
   to-utc k (inr g) i j l = omega (arith, L-pos)
 
-far : (n m f e : ℕ) → WholeSeconds n → WholeSeconds m → f < L → e < L → n * L + f ≤ m * L + e → Far (n * L + f) (m * L + e) (taiUtcAt n f) (taiUtcAt m e)
+far : (n m f e : ℕ) → FixedDay n → FixedDay m → f < L → e < L → n * L + f ≤ m * L + e → Far (n * L + f) (m * L + e) (taiUtcAt fixed n f) (taiUtcAt fixed m e)
 unfolding Far
 far n m f e t r b c k = relation-rises n m f e t r b c k
 
@@ -91,17 +93,24 @@ module _ {d d' : JulianDate} {n m : ℕ} (x : ExactDay d n) (y : ExactDay d' m) 
       go : (p k q j W W' z : ℕ) → z ≡ 0 → W + k ≡ p + H → W' + j ≡ q + H → W ≤ W' → dayPs * (p + j) + z ≤ dayPs * (q + k)
       go p k q j W W' z e f g l = omega arith
 
+fixed-day-of : {d : JulianDate} {n : ℕ} → HalfDaySplit d → ExactDay d n → FixedDay n
+fixed-day-of {n = n} s x =
+    let w = second-part s in
+    let z = stamp-of (first-part s) (w .2) in
+    let o = day-of x (parts-worth (first-part s) (w .2)) in
+    fixed-day n (exact-low z n o) (omega (arith, exact-high z n o))
+
 -- ---- UTC TO TAI KEEPS THE ORDER of stamps 154 ps or more apart
 pub utc-order : {d d' : JulianDate} → HalfDaySplit d → HalfDaySplit d' → Follows 154 d d' → OrderKept (utcToTai fixed) d d'
 utc-order i i' l =
     let x = stamp-day i in
     let x' = stamp-day i' in
-    let r = utc-means-on i (x .1) in
-    let r' = utc-means-on i' (x' .1) in
-    let t = day-seconds-of i (x .1) in
-    let t' = day-seconds-of i' (x' .1) in
-    let s = said t (x .1) (r .means) in
-    let s' = said t' (x' .1) (r' .means) in
+    let r = utc-means-on fixed-whole i (x .1) in
+    let r' = utc-means-on fixed-whole i' (x' .1) in
+    let t = fixed-day-of i (x .1) in
+    let t' = fixed-day-of i' (x' .1) in
+    let s = said (day-seconds-of fixed-whole i (x .1)) (x .1) (r .means) in
+    let s' = said (day-seconds-of fixed-whole i' (x' .1)) (x' .1) (r' .means) in
     let W = x .0 * L + x .1 .on .f in
     let W' = x' .0 * L + x' .1 .on .f in
     let g = dates-later (x .1) (x' .1) l in
@@ -118,7 +127,7 @@ utc-order i i' l =
         from = s .worth;
         to = s' .worth;
         gap = none (s .p + s' .m) (s' .p + s .m) (0 * L) (zero-mul L)
-            (to-tai (s .p) (s .m) (s' .p) (s' .m) W W' (taiUtcAt (x .0) (x .1 .on .f)) (taiUtcAt (x' .0) (x' .1 .on .f)) g
+            (to-tai (s .p) (s .m) (s' .p) (s' .m) W W' (taiUtcAt fixed (x .0) (x .1 .on .f)) (taiUtcAt fixed (x' .0) (x' .1 .on .f)) g
             (far (x .0) (x' .0) (x .1 .on .f) (x' .1 .on .f) t t' (x .1 .on .below) (x' .1 .on .below) (weak W W' g)) (s .over) (s' .under));
       };
     }
@@ -132,8 +141,8 @@ utc-order i i' l =
 -- ---- TAI TO UTC KEEPS THE ORDER of stamps 346 ps or more apart
 pub tai-order : {d d' : JulianDate} → HalfDaySplit d → HalfDaySplit d' → Follows 346 d d' → OrderKept (taiToUtc fixed) d d'
 tai-order {d} {d'} i i' l =
-    let x = utc-found i in
-    let y = utc-found i' in
+    let x = utc-found fixed-whole i in
+    let y = utc-found fixed-whole i' in
     record {
       x = x .date;
       y = y .date;
@@ -143,14 +152,16 @@ tai-order {d} {d'} i i' l =
           stamps-later (x .on) (y .on) (go x y (decLe (x .n * L + x .on .on .f) (y .n * L + y .on .on .f)));
     }
   where
-    go : (x : UtcFound d) (y : UtcFound d') → Dec (x .n * L + x .on .on .f ≤ y .n * L + y .on .on .f) → x .n * L + x .on .on .f ≤ y .n * L + y .on .on .f
+    go : (x : UtcFound fixed d) (y : UtcFound fixed d') → Dec (x .n * L + x .on .on .f ≤ y .n * L + y .on .on .f)
+        → x .n * L + x .on .on .f ≤ y .n * L + y .on .on .f
     go x y (yes j) = j
     go x y (no j) =
         let s = x .said in
         let s' = y .said in
-        absurd (to-utc (s .p) (s .m) (s' .p) (s' .m) (x .n * L + x .on .on .f) (y .n * L + y .on .on .f) (taiUtcAt (x .n) (x .on .on .f))
-        (taiUtcAt (y .n) (y .on .on .f)) (less _ _ j)
-        (far (y .n) (x .n) (y .on .on .f) (x .on .on .f) (y .seconds) (x .seconds) (y .on .on .below) (x .on .on .below) (weak _ _ (less _ _ j))) (s .under)
+        absurd (to-utc (s .p) (s .m) (s' .p) (s' .m) (x .n * L + x .on .on .f) (y .n * L + y .on .on .f) (taiUtcAt fixed (x .n) (x .on .on .f))
+        (taiUtcAt fixed (y .n) (y .on .on .f)) (less _ _ j)
+        (far (y .n) (x .n) (y .on .on .f) (x .on .on .f) (fixed-day (y .n) (y .low) (omega (arith, y .high)))
+        (fixed-day (x .n) (x .low) (omega (arith, x .high))) (y .on .on .below) (x .on .on .below) (weak _ _ (less _ _ j))) (s .under)
         (s' .over)
         (move (l .p) (l .n) (l .p') (l .n') (s .p) (s .m) (s' .p) (s' .m) (worth-unique (l .from) (s .worth)) (worth-unique (l .to) (s' .worth)) (l .gap)))
       where
@@ -183,8 +194,10 @@ in-parts-too {f} {d} {d'} {x} {y} p q e o =
     same o x y p q = cc
 
 pub utc-order-same : {d d' : JulianDate} → HalfDaySplit d → HalfDaySplit d' → d .jd1 ≡ d' .jd1 → Follows 154 d d' → PartsInOrder (utcToTai fixed) d d'
-utc-order-same i i' e l = in-parts-too (seen (first-part i) (second-part i .2) .answered) (seen (first-part i') (second-part i' .2) .answered) e
+utc-order-same i i' e l = in-parts-too (seen fixed-whole (first-part i) (second-part i .2) .answered)
+    (seen fixed-whole (first-part i') (second-part i' .2) .answered) e
     (utc-order i i' l)
 
 pub tai-order-same : {d d' : JulianDate} → HalfDaySplit d → HalfDaySplit d' → d .jd1 ≡ d' .jd1 → Follows 346 d d' → PartsInOrder (taiToUtc fixed) d d'
-tai-order-same i i' e l = let x = utc-found i in let y = utc-found i' in in-parts-too (x .is) (y .is) (x .same ∙ e ∙ sym (y .same)) (tai-order i i' l)
+tai-order-same i i' e l = let x = utc-found fixed-whole i in let y = utc-found fixed-whole i' in in-parts-too (x .is) (y .is) (x .same ∙ e ∙ sym (y .same))
+    (tai-order i i' l)

@@ -21,6 +21,7 @@ use Rattle.utc_scales.specs.round_trip.Order.{Follows, PartsInOrder}
 use Rattle.utc_scales.proofs.round_trip.Units.{h, h-small, next-midnight}
 use Rattle.utc_scales.proofs.round_trip.Parts.{stamp-of, parts-worth, first-part, second-part}
 use Rattle.utc_scales.proofs.round_trip.Located.{Located, located}
+use Rattle.utc_scales.proofs.round_trip.DaySeconds.{fixed-whole}
 use Rattle.utc_scales.proofs.round_trip.Evaluated.{tai, given, answered-by}
 use Rattle.utc_scales.proofs.round_trip.Order.{utc-order-same}
 use Rattle.utc_scales.proofs.round_trip.Monotone.{same-day, next-day}
@@ -39,17 +40,17 @@ module _ {d d' : JulianDate} (i : HalfDaySplit d) (i' : HalfDaySplit d') (same :
 
   -- the floats of the two answers
   abbrev one-tai : Float
-  one-tai = tai (d .jd1) (z .n) (dayOf (d .jd1) (d .jd2) .fraction)
+  one-tai = tai fixed (d .jd1) (z .n) (dayOf (d .jd1) (d .jd2) .fraction)
 
   abbrev other-tai : Float
-  other-tai = tai (d' .jd1) (z' .n) (dayOf (d' .jd1) (d' .jd2) .fraction)
+  other-tai = tai fixed (d' .jd1) (z' .n) (dayOf (d' .jd1) (d' .jd2) .fraction)
 
   floats : T (le one-tai other-tai) → PartsInOrder (utcToTai fixed) d d'
   floats l = record {
     x = julian (d .jd1) one-tai;
     y = julian (d' .jd1) other-tai;
-    first = answered-by (first-part i) (second-part i .2) one-tai (given (first-part i) (second-part i .2));
-    second = answered-by (first-part i') (second-part i' .2) other-tai (given (first-part i') (second-part i' .2));
+    first = answered-by fixed-whole (first-part i) (second-part i .2) one-tai (given fixed-whole (first-part i) (second-part i .2));
+    second = answered-by fixed-whole (first-part i') (second-part i' .2) other-tai (given fixed-whole (first-part i') (second-part i' .2));
     in-order = record { larger = same; smaller = l };
   }
 
@@ -83,10 +84,10 @@ module _ {d d' : JulianDate} (i : HalfDaySplit d) (i' : HalfDaySplit d') (same :
 
   -- the second answer's float with the first one's larger part
   abbrev same-first : ℕ → Float
-  same-first m = tai (d .jd1) m (dayOf (d' .jd1) (d' .jd2) .fraction)
+  same-first m = tai fixed (d .jd1) m (dayOf (d' .jd1) (d' .jd2) .fraction)
 
   by-first : T (le one-tai (same-first (z' .n))) → PartsInOrder (utcToTai fixed) d d'
-  by-first l = floats (subst (λ (a : Float). T (le one-tai (tai a (z' .n) (dayOf (d' .jd1) (d' .jd2) .fraction)))) same l)
+  by-first l = floats (subst (λ (a : Float). T (le one-tai (tai fixed a (z' .n) (dayOf (d' .jd1) (d' .jd2) .fraction)))) same l)
 
   pub utc-order-by-days : z .n * L + z .f ≤ z' .n * L + z' .f → PartsInOrder (utcToTai fixed) d d'
   utc-order-by-days o = days (eq-or-lt-of-le

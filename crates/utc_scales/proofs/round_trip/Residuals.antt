@@ -5,8 +5,8 @@ use mathlib.Core.Path.{_≡_}
 use mathlib.Core.Logic.{_⊎_, inl, inr}
 use Prim.Native.Nat.{ℕ, _+_, _*_, _≤_, _<_, _/_}
 use native.Mathlib.Omega.{arith}
-use Rattle.leap_table.specs.rows.Table.{lastSeconds}
-use Rattle.utc_scales.proofs.round_trip.Steady.{Rises}
+use Rattle.leap_table.specs.rows.Table.{mostSeconds}
+use Rattle.utc_scales.proofs.round_trip.Steady.{Slow}
 
 -- the residual is at most P in size
 pub record Residual (H A bp bn v g P : ℕ) : Type 0 where
@@ -29,9 +29,9 @@ pub record GuessMoved (e bp bn tp tn up un up' un' : ℕ) : Type 0 where
   pub low : un' + (up + (bp + tn)) ≤ up' + (un + (bn + tp)) + e
 
 -- The bounds of the residual in units of h, 2 ^ -53 s: at first TAI-UTC, and after each round 86400 times less, but for the rounding; and of what comes back.
--- They are 333266372425762304, 3857250890490, 45853744, 1210167 and 1555789 where TAI-UTC is at most 37 s.
+-- They are 477381560501618176, 5525250752479, 65159298, 1210391 and 1556013 where TAI-UTC is at most 53 s.
 abbrev pub atFirst : ℕ
-atFirst = lastSeconds * 9007199254740992 + 345600
+atFirst = mostSeconds * 9007199254740992 + 345600
 
 abbrev pub afterOne : ℕ
 afterOne = (atFirst + 104512550422) / 86400 + 1
@@ -47,7 +47,7 @@ backAgain = afterThree + 345622
 
 module _ (h Q H A bp bn : ℕ) where
   -- the first guess is b itself: its residual is TAI-UTC
-  pub start : (v g : ℕ) → Q ≡ 9007199254740992 * h → g ≤ lastSeconds * Q → DateNear h H A bp bn v → Residual H A bp bn v g (atFirst * h)
+  pub start : (v g : ℕ) → Q ≡ 9007199254740992 * h → g ≤ mostSeconds * Q → DateNear h H A bp bn v → Residual H A bp bn v g (atFirst * h)
   start v g e k n = record { high = omega (arith, n .high, n .low); low = omega (arith, n .high, n .low) }
 
   -- the moved guess against the TAI-UTC of the guess before: M is what an evaluation and a move are off together
@@ -70,17 +70,18 @@ module _ (h Q H A bp bn : ℕ) where
       within X k a b = omega arith
 
   -- the residual of the moved guess is 86400 times less, but for the rounding
-  pub shrinks : (v g v' g' P M P' : ℕ) → P + 86401 * M ≤ 86400 * P' → Residual H A bp bn v g P → Residual H A bp bn v' g M → Rises v g v' g'
-      ⊎ Rises v' g' v g → Residual H A bp bn v' g' P'
+  pub shrinks : (v g v' g' P M P' : ℕ) → P + 86401 * M ≤ 86400 * P' → Residual H A bp bn v g P → Residual H A bp bn v' g M → Slow v g v' g'
+      ⊎ Slow v' g' v g → Residual H A bp bn v' g' P'
   shrinks v g v' g' P M P' k o o' (inl r) = record { high = omega arith; low = omega arith }
   shrinks v g v' g' P M P' k o o' (inr r) = record { high = omega arith; low = omega arith }
 
   -- how far the guess is moved
   pub move-size : (E tp tn v g P : ℕ) → Q ≡ 9007199254740992 * h → E ≤ 6000000000 * h → P ≤ atFirst * h → TaiNear E H A tp tn v g → Residual H A bp bn v g P
-      → (2048 * (bp + tn) ≤ 2048 * (bn + tp) + Q) × (2048 * (bn + tp) ≤ 2048 * (bp + tn) + Q)
+      → (1536 * (bp + tn) ≤ 1536 * (bn + tp) + Q) × (1536 * (bn + tp) ≤ 1536 * (bp + tn) + Q)
   move-size E tp tn v g P e l k i o = omega arith
 
   -- what comes back
-  pub end : (tp tn v g : ℕ) → TaiNear (345622 * h) H A tp tn v g → Residual H A bp bn v g (afterThree * h) → (86400 * (tp + bn) ≤ 86400 * (tn + bp) + backAgain * h)
+  pub end : (tp tn v g : ℕ) → TaiNear (345622 * h) H A tp tn v g → Residual H A bp bn v g (afterThree * h)
+      → (86400 * (tp + bn) ≤ 86400 * (tn + bp) + backAgain * h)
       × (86400 * (tn + bp) ≤ 86400 * (tp + bn) + backAgain * h)
   end tp tn v g i o = omega arith

@@ -45,7 +45,7 @@ pub record Next (a b u t : Float) (bp bn tp tn up un : ℕ) : Type 0 where
   pub by : GuessMoved (2 * h) bp bn tp tn up un p n
 
 pub next-guess : {a b u t : Float} {A bp bn tp tn up un : ℕ} → Val a A 0 L → Val b bp bn L → Val t tp tn L → T (fits binary64 u) → Val u up un L
-    → 2048 * (bp + tn) ≤ 2048 * (bn + tp) + L → 2048 * (bn + tp) ≤ 2048 * (bp + tn) + L → 1024 * up ≤ 1024 * un + 1027 * L → 1024 * un ≤ 1024 * up + 1027 * L
+    → 1536 * (bp + tn) ≤ 1536 * (bn + tp) + L → 1536 * (bn + tp) ≤ 1536 * (bp + tn) + L → 1024 * up ≤ 1024 * un + 1027 * L → 1024 * un ≤ 1024 * up + 1027 * L
     → Next a b u t bp bn tp tn up un
 unfolding moved
 next-guess {a} {b} {u} {t} {A} {bp} {bn} {tp} {tn} {up} {un} va vb vt fu vu k l r r' =
@@ -66,10 +66,10 @@ next-guess {a} {b} {u} {t} {A} {bp} {bn} {tp} {tn} {up} {un} va vb vt fu vu k l 
           };
     }
   where
-    room : (Q x y : ℕ) → 0 < Q → 2048 * x ≤ 2048 * y + Q → x + (0 + 0) < y + 2 * Q
+    room : (Q x y : ℕ) → 0 < Q → 1536 * x ≤ 1536 * y + Q → x + (0 + 0) < y + 2 * Q
     room Q x y p k = omega arith
 
-    wide : (Q h : ℕ) → Q ≡ 9007199254740992 * h → 0 < h → (up un x y : ℕ) → 2048 * x ≤ 2048 * y + Q → 1024 * up ≤ 1024 * un + 1027 * Q
+    wide : (Q h : ℕ) → Q ≡ 9007199254740992 * h → 0 < h → (up un x y : ℕ) → 1536 * x ≤ 1536 * y + Q → 1024 * up ≤ 1024 * un + 1027 * Q
         → up + x + (0 + (0 + 0 + h)) < un + y + 2 * Q
     wide Q h e p up un x y k l = omega arith
 

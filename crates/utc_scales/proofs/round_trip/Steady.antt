@@ -1,48 +1,52 @@
--- The exact relation is continuous and rises slowly: of two instants less than a day apart TAI-UTC is later never less, and at most 1/86400 of the time between
--- them more. A leap second is spread over its day, so that midnight is no jump. Assumes nothing.
+-- The exact relation is continuous and changes slowly: of two instants less than a day apart TAI-UTC differs by at most 1/86400 of the time between them. A
+-- leap
+-- second is spread over its day, so that midnight is no jump. Where none is left out, TAI-UTC is later never less. Assumes nothing.
 use mathlib.Core.Path.{_≡_, sym, ap, _∙_, subst}
 use mathlib.Core.Logic.{_⊎_, inl, inr}
-use Prim.Native.Nat.{ℕ, zero, suc, _+_, _*_, _≤_, _<_}
+use mathlib.Core.List.{List}
+use Prim.Native.Nat.{ℕ, suc, _+_, _-_, _*_, _≤_, _<_}
 use native.Mathlib.Nat.{add-mul, mul-le-mul-right, eq-or-lt-of-le, lt-of-mul-lt-mul-right}
 use native.Mathlib.Omega.{arith}
 use native.Mathlib.Decide.{decLe}
-use Rattle.leap_table.specs.rows.Table.{lastSeconds}
+use Rattle.leap_table.specs.rows.Table.{Row, mostSeconds}
 use Rattle.rounding.specs.Value.{L}
-use Rattle.utc_scales.specs.round_trip.UtcDays.{secondsOn, leapAfter, WholeSeconds}
+use Rattle.utc_scales.specs.round_trip.UtcDays.{secondsOn, leapAfter, shortAfter, Ending, ends-plain, ends-longer, ends-shorter, WholeSeconds}
 use Rattle.utc_scales.proofs.round_trip.Units.{next-midnight}
 
 -- TAI-UTC at the fraction f of day n, in seconds times L
-abbrev pub taiUtcAt : ℕ → ℕ → ℕ
-taiUtcAt n f = secondsOn n * L + leapAfter n * f
+abbrev pub taiUtcAt : List Row → ℕ → ℕ → ℕ
+taiUtcAt rows n f = secondsOn rows n * L + leapAfter rows n * f - shortAfter rows n * f
 
--- v is not after v', and g rises from v to v' by at most as much as they differ
-pub record Rises (v g v' g' : ℕ) : Type 0 where
+-- v is not after v', and g and g' differ by at most as much as they do
+pub record Slow (v g v' g' : ℕ) : Type 0 where
   pub up : v ≤ v'
-  pub more : g ≤ g'
+  pub more : g + v ≤ g' + v'
   pub less : g' + v ≤ g + v'
 
--- ---- on one day, and over one midnight
-same-day : (s d N f e : ℕ) → s ≤ 1 → N + f ≤ N + e → Rises (N + f) (d + s * f) (N + e) (d + s * e)
-same-day zero d N f e k l = record { up = l; more = omega arith; less = omega arith }
-same-day (suc zero) d N f e k l = record { up = l; more = omega arith; less = omega arith }
-same-day (suc (suc s)) d N f e k l = absurd (omega arith)
+-- ---- on one day, and over one midnight: d is TAI-UTC at the start of the first day, and x at that of the second
+same-day : {s r : ℕ} (d N f e : ℕ) → Ending s r → f < L → e < L → L ≤ d → N + f ≤ N + e → Slow (N + f) (d + s * f - r * f) (N + e) (d + s * e - r * e)
+same-day d N f e ends-plain b c k l = record { up = l; more = omega arith; less = omega arith }
+same-day d N f e ends-longer b c k l = record { up = l; more = omega arith; less = omega arith }
+same-day d N f e ends-shorter b c k l = record { up = l; more = omega arith; less = omega arith }
 
-next-day : (s r d N f e : ℕ) → s ≤ 1 → r ≤ 1 → f < L → Rises (N + f) (d + s * f) (L + N + e) (d + s * L + r * e)
-next-day zero zero d N f e k l b = record { up = omega arith; more = omega arith; less = omega arith }
-next-day zero (suc zero) d N f e k l b = record { up = omega arith; more = omega arith; less = omega arith }
-next-day (suc zero) zero d N f e k l b = record { up = omega arith; more = omega arith; less = omega arith }
-next-day (suc zero) (suc zero) d N f e k l b = record { up = omega arith; more = omega arith; less = omega arith }
-next-day (suc (suc s)) r d N f e k l b = absurd (omega arith)
-next-day zero (suc (suc r)) d N f e k l b = absurd (omega arith)
-next-day (suc zero) (suc (suc r)) d N f e k l b = absurd (omega arith)
+next-day : {s r s' r' : ℕ} (d x N f e : ℕ) → Ending s r → Ending s' r' → f < L → e < L → L ≤ d → L ≤ x → d + s * L ≡ x + r * L
+    → Slow (N + f) (d + s * f - r * f) (L + N + e) (x + s' * e - r' * e)
+next-day d x N f e ends-plain ends-plain b c k j i = record { up = omega arith; more = omega arith; less = omega arith }
+next-day d x N f e ends-plain ends-longer b c k j i = record { up = omega arith; more = omega arith; less = omega arith }
+next-day d x N f e ends-plain ends-shorter b c k j i = record { up = omega arith; more = omega arith; less = omega arith }
+next-day d x N f e ends-longer ends-plain b c k j i = record { up = omega arith; more = omega arith; less = omega arith }
+next-day d x N f e ends-longer ends-longer b c k j i = record { up = omega arith; more = omega arith; less = omega arith }
+next-day d x N f e ends-longer ends-shorter b c k j i = record { up = omega arith; more = omega arith; less = omega arith }
+next-day d x N f e ends-shorter ends-plain b c k j i = record { up = omega arith; more = omega arith; less = omega arith }
+next-day d x N f e ends-shorter ends-longer b c k j i = record { up = omega arith; more = omega arith; less = omega arith }
+next-day d x N f e ends-shorter ends-shorter b c k j i = record { up = omega arith; more = omega arith; less = omega arith }
 
--- ---- V = n L + f, at most V' = m L + e, which is less than a day later
-pub steady : (n m f e : ℕ) → WholeSeconds n → WholeSeconds m → f < L → e < L → n * L + f ≤ m * L + e → m * L + e < n * L + f + L
-    → Rises (n * L + f) (taiUtcAt n f) (m * L + e) (taiUtcAt m e)
-steady n m f e t r b c l k =
+-- ---- V = n L + f, at most V' = m L + e, which is less than a day later: m is n, or the next day
+pub one-or-next : (n m f e : ℕ) → f < L → e < L → n * L + f ≤ m * L + e → m * L + e < n * L + f + L → (m ≡ n) ⊎ (m ≡ suc n)
+one-or-next n m f e b c l k =
     let before : n * L < suc m * L = low (n * L) (m * L) l (next-midnight m) in
     let after : m * L < suc (suc n) * L = high (n * L) (m * L) k (next-midnight n) (next-midnight (suc n)) in
-    go (near n m (lt-of-mul-lt-mul-right L before) (lt-of-mul-lt-mul-right L after))
+    near n m (lt-of-mul-lt-mul-right L before) (lt-of-mul-lt-mul-right L after)
   where
     low : (N M : ℕ) {M' : ℕ} → N + f ≤ M + e → M' ≡ L + M → N < M'
     low N M q s = omega arith
@@ -57,40 +61,68 @@ steady n m f e t r b c l k =
         pick (inl x) = inl (sym x)
         pick (inr x) = inr (omega arith)
 
-    go : (m ≡ n) ⊎ (m ≡ suc n) → Rises (n * L + f) (taiUtcAt n f) (m * L + e) (taiUtcAt m e)
-    go (inl q) =
-        subst (λ (x : ℕ). Rises (n * L + f) (taiUtcAt n f) (x * L + e) (taiUtcAt x e)) (sym q)
-        (same-day (leapAfter n) (secondsOn n * L) (n * L) f e (t .step) (subst (λ (x : ℕ). n * L + f ≤ x * L + e) q l))
-    go (inr q) =
-        subst (λ (x : ℕ). Rises (n * L + f) (taiUtcAt n f) (x * L + e) (taiUtcAt x e)) (sym q)
-        (subst (λ (z : ℕ). Rises (n * L + f) (taiUtcAt n f) (z + e) (secondsOn (suc n) * L + leapAfter (suc n) * e)) (sym (next-midnight n))
-        (subst (λ (z : ℕ). Rises (n * L + f) (taiUtcAt n f) (L + n * L + e) (z + leapAfter (suc n) * e))
-        (sym (add-mul (secondsOn n) (leapAfter n) L) ∙ ap (λ (z : ℕ). z * L) (t .next))
-        (next-day (leapAfter n) (leapAfter (suc n)) (secondsOn n * L) (n * L) f e (t .step) (subst (λ (x : ℕ). leapAfter x ≤ 1) q (r .step)) b)))
+module _ {rows : List Row} where
+  -- TAI-UTC at midnight, of either day
+  first-least : (n : ℕ) → WholeSeconds rows n → L ≤ secondsOn rows n * L
+  first-least n t = go (secondsOn rows n * L) (mul-le-mul-right L (t .least))
+    where
+      go : (d : ℕ) → 10 * L ≤ d → L ≤ d
+      go d k = omega arith
 
--- in either order
-pub either : (n m f e : ℕ) → WholeSeconds n → WholeSeconds m → f < L → e < L → m * L + e < n * L + f + L → n * L + f < m * L + e + L
-    → Rises (n * L + f) (taiUtcAt n f) (m * L + e) (taiUtcAt m e) ⊎ Rises (m * L + e) (taiUtcAt m e) (n * L + f) (taiUtcAt n f)
-either n m f e t r b c k l = go (decLe (n * L + f) (m * L + e))
-  where
-    weak : (x y : ℕ) → (x ≤ y → ⊥) → y ≤ x
-    weak x y q = omega arith
+  at-midnight : (n : ℕ) → WholeSeconds rows n
+      → secondsOn rows n * L + leapAfter rows n * L ≡ secondsOn rows (suc n) * L + shortAfter rows n * L
+  at-midnight n t = sym (add-mul (secondsOn rows n) (leapAfter rows n) L) ∙ ap (λ (z : ℕ). z * L) (t .next) ∙ add-mul (secondsOn rows (suc n))
+      (shortAfter rows n) L
 
-    go : Dec (n * L + f ≤ m * L + e) → Rises (n * L + f) (taiUtcAt n f) (m * L + e) (taiUtcAt m e) ⊎ Rises (m * L + e) (taiUtcAt m e) (n * L + f) (taiUtcAt n f)
-    go (yes j) = inl (steady n m f e t r b c j k)
-    go (no j) = inr (steady m n e f r t c b (weak (n * L + f) (m * L + e) j) l)
+  pub steady : (n m f e : ℕ) → WholeSeconds rows n → WholeSeconds rows m → f < L → e < L → n * L + f ≤ m * L + e → m * L + e < n * L + f + L
+      → Slow (n * L + f) (taiUtcAt rows n f) (m * L + e) (taiUtcAt rows m e)
+  steady n m f e t r b c l k = go (one-or-next n m f e b c l k)
+    where
+      go : (m ≡ n) ⊎ (m ≡ suc n) → Slow (n * L + f) (taiUtcAt rows n f) (m * L + e) (taiUtcAt rows m e)
+      go (inl q) =
+          subst (λ (x : ℕ). Slow (n * L + f) (taiUtcAt rows n f) (x * L + e) (taiUtcAt rows x e)) (sym q)
+          (same-day (secondsOn rows n * L) (n * L) f e (t .ending) b c (first-least n t) (subst (λ (x : ℕ). n * L + f ≤ x * L + e) q l))
+      go (inr q) =
+          let r' = subst (λ (x : ℕ). WholeSeconds rows x) q r in
+          subst (λ (x : ℕ). Slow (n * L + f) (taiUtcAt rows n f) (x * L + e) (taiUtcAt rows x e)) (sym q)
+          (subst (λ (z : ℕ). Slow (n * L + f) (taiUtcAt rows n f) (z + e) (taiUtcAt rows (suc n) e)) (sym (next-midnight n))
+          (next-day (secondsOn rows n * L) (secondsOn rows (suc n) * L) (n * L) f e (t .ending) (r' .ending) b c (first-least n t) (first-least (suc n) r')
+          (at-midnight n t)))
+
+  -- in either order
+  pub either : (n m f e : ℕ) → WholeSeconds rows n → WholeSeconds rows m → f < L → e < L → m * L + e < n * L + f + L → n * L + f < m * L + e + L
+      → Slow (n * L + f) (taiUtcAt rows n f) (m * L + e) (taiUtcAt rows m e) ⊎ Slow (m * L + e) (taiUtcAt rows m e) (n * L + f) (taiUtcAt rows n f)
+  either n m f e t r b c k l = go (decLe (n * L + f) (m * L + e))
+    where
+      weak : (x y : ℕ) → (x ≤ y → ⊥) → y ≤ x
+      weak x y q = omega arith
+
+      go : Dec (n * L + f ≤ m * L + e)
+          → Slow (n * L + f) (taiUtcAt rows n f) (m * L + e) (taiUtcAt rows m e) ⊎ Slow (m * L + e) (taiUtcAt rows m e) (n * L + f) (taiUtcAt rows n f)
+      go (yes j) = inl (steady n m f e t r b c j k)
+      go (no j) = inr (steady m n e f r t c b (weak (n * L + f) (m * L + e) j) l)
 
 -- ---- its range
--- the share of the leap second is at most the fraction, and at most the leap second
-pub share : (s f : ℕ) → s ≤ 1 → f < L → (s * f ≤ f) × (s * f ≤ s * L)
-share zero f k b = omega arith
-share (suc zero) f k b = omega arith
-share (suc (suc s)) f k b = absurd (omega arith)
+-- the share of a leap second, inserted or left out, is at most the fraction
+pub share : {s r : ℕ} (f : ℕ) → Ending s r → (s * f ≤ f) × (r * f ≤ f)
+share f ends-plain = omega arith
+share f ends-longer = omega arith
+share f ends-shorter = omega arith
 
-pub few-seconds : (n f : ℕ) → WholeSeconds n → f < L → (10 * L ≤ taiUtcAt n f) × (taiUtcAt n f ≤ lastSeconds * L)
-few-seconds n f t b =
-    go (secondsOn n * L) (leapAfter n * L) (leapAfter n * f) (mul-le-mul-right L (t .least))
-    (subst (λ (z : ℕ). z ≤ lastSeconds * L) (add-mul (secondsOn n) (leapAfter n) L) (mul-le-mul-right L (t .most))) (share (leapAfter n) f (t .step) b .1)
+pub few-seconds : {rows : List Row} (n f : ℕ) → WholeSeconds rows n → f < L → (10 * L ≤ taiUtcAt rows n f) × (taiUtcAt rows n f ≤ mostSeconds * L)
+few-seconds {rows} n f t b =
+    go (secondsOn rows n * L) (secondsOn rows (suc n) * L) (t .ending) (mul-le-mul-right L (t .least)) (mul-le-mul-right L (t .most))
+    (mul-le-mul-right L (t .least-next)) (mul-le-mul-right L (t .most-next)) (at-midnight n t)
   where
-    go : (d s g : ℕ) → 10 * L ≤ d → d + s ≤ lastSeconds * L → g ≤ s → (10 * L ≤ d + g) × (d + g ≤ lastSeconds * L)
-    go d s g k l m = omega arith
+    go : {s r : ℕ} (d x : ℕ) → Ending s r → 10 * L ≤ d → d ≤ mostSeconds * L → 10 * L ≤ x → x ≤ mostSeconds * L → d + s * L ≡ x + r * L
+        → (10 * L ≤ d + s * f - r * f) × (d + s * f - r * f ≤ mostSeconds * L)
+    go d x ends-plain k l m j i = omega (arith, b)
+    go d x ends-longer k l m j i = omega (arith, b)
+    go d x ends-shorter k l m j i = omega (arith, b)
+
+-- the share of what is left out is no more than TAI-UTC
+pub share-less : {rows : List Row} (n f : ℕ) → WholeSeconds rows n → f < L → shortAfter rows n * f ≤ secondsOn rows n * L
+share-less {rows} n f t b = go (shortAfter rows n * f) (secondsOn rows n * L) (share f (t .ending) .1) (first-least n t)
+  where
+    go : (x d : ℕ) → x ≤ f → L ≤ d → x ≤ d
+    go x d k l = omega (arith, b)

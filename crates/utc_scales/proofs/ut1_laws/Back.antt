@@ -1,5 +1,6 @@
 -- UT1 to UTC from 1972 on, by a DUT1 of at most 1 s, on days with no leap second near: the answer is UT1 less DUT1 in exact numbers, to 10 ps. Assumes nothing.
 use mathlib.Core.Path.{_≡_, refl, sym, ap, _∙_, subst}
+use mathlib.Core.List.{List}
 use mathlib.Core.Bool.{Bool, true, cond, _&&_}
 use Prim.Native.Nat.{ℕ, zero, suc, _+_, _-_, _*_, _^_, _≤_, _<_}
 use native.Mathlib.Nat.{add-mul, le-of-eq, mul-le-mul-right, lt-of-mul-lt-mul-right}
@@ -30,7 +31,9 @@ use Rattle.julian.specs.declared.JulianDate.{JulianDate}
 use Rattle.julian.specs.JulianDate.{julian}
 use Rattle.julian.specs.Finite.{finiteArg, finiteJd}
 use Rattle.julian.proofs.laws.UnixTime.{day-val}
-use Rattle.leap_table.specs.rows.Table.{fixed, lastSeconds}
+use Rattle.leap_table.specs.declared.rows.AnnouncedRows.{AnnouncedRows}
+use Rattle.leap_table.specs.rows.Table.{Row, fixed, mostSeconds}
+use Rattle.leap_table.specs.rows.Announced.{tableOf}
 use Rattle.leap_table.specs.offsets.Offset.{wholeF}
 use Rattle.leap_table.specs.offsets.Leap.{offsets}
 use Rattle.rounding.specs.Picoseconds.{dayPs}
@@ -45,7 +48,8 @@ use Rattle.utc_scales.specs.round_trip.Ranges.{HalfDaySplit}
 use Rattle.utc_scales.proofs.round_trip.Units.{h, L-H, L-h, h-small, adds}
 use Rattle.utc_scales.proofs.round_trip.Parts.{FirstPart, SecondPart, Around, parts-worth, parts-joined, first-part, second-part}
 use Rattle.utc_scales.proofs.round_trip.Located.{CalendarNear, placed}
-use Rattle.utc_scales.proofs.round_trip.DaySeconds.{day-seconds, seconds-on-day}
+use Rattle.utc_scales.proofs.round_trip.DaySeconds.{WholeTable, table-whole, fixed-whole}
+use Rattle.utc_scales.proofs.round_trip.FixedDays.{fixed-day}
 use Rattle.utc_scales.proofs.round_trip.Kept.{first-larger, kept-changed}
 use Rattle.utc_scales.proofs.round_trip.Meant.{day-of}
 use Rattle.utc_scales.specs.ut1_laws.Back.{FoundWith, NoStepFound, NoLeapNear, utcPs, RightUtcOfUt1}
@@ -133,7 +137,7 @@ module _ {a u : Float} {A up un : ℕ} (v : FirstPart a A) (w : SecondPart u up 
       more n c = omega arith
 
   -- TAI-UTC on it
-  module _ {D : ℕ} (f : FoundWith D (julian a u) i) where
+  module _ {rows : List Row} (b : WholeTable rows) {D : ℕ} (f : FoundWith rows D (julian a u) i) where
     same-day : spot .n ≡ f .n
     same-day = same (dayOf a there .day) (spot .n) (f .n) (spot .day) (f .day)
       where
@@ -143,18 +147,19 @@ module _ {a u : Float} {A up un : ℕ} (v : FirstPart a A) (w : SecondPart u up 
     f-high : f .n < 1000000000
     f-high = subst (λ (n : ℕ). n < 1000000000) same-day day-high
 
-    few : D ≤ lastSeconds
-    few = omega (arith, seconds-on-day (f .n) (f .from) f-high .most, f .seconds)
+    few : D ≤ mostSeconds
+    few = omega (arith, b .whole (f .n) (f .from) f-high .most, f .seconds)
 
-    offset-is : offsetAt0h fixed (gregorianDate (dayOf a there .day)) ≡ answer (wholeF D)
+    offset-is : offsetAt0h rows (gregorianDate (dayOf a there .day)) ≡ answer (wholeF D)
     offset-is =
-        ap (λ (z : ℤ). offsetAt0h fixed (gregorianDate z)) (f .day)
-        ∙ offsets-first fixed (gregorianDate (pos (f .n))) (offsets (wholeF (secondsOn (f .n))) (wholeF (secondsOn (f .n))) (wholeF (secondsOn (suc (f .n)))))
-        (day-seconds (f .n) (f .from) f-high)
+        ap (λ (z : ℤ). offsetAt0h rows (gregorianDate z)) (f .day)
+        ∙ offsets-first rows (gregorianDate (pos (f .n)))
+        (offsets (wholeF (secondsOn rows (f .n))) (wholeF (secondsOn rows (f .n))) (wholeF (secondsOn rows (suc (f .n)))))
+        (b .day-offsets (f .n) (f .from) f-high)
         ∙ ap (λ (s : ℕ). answer (wholeF s)) (f .seconds)
 
 -- ---- no step from a day to the next, where both have D seconds
-level : (D : ℕ) → D ≤ lastSeconds → lt (abs (sub binary64 (wholeF D) (wholeF D))) half ≡ true
+level : (D : ℕ) → D ≤ mostSeconds → lt (abs (sub binary64 (wholeF D) (wholeF D))) half ≡ true
 level D g =
     let s = sum-near 0 (lit≤ tt) (some (D * L) (2 ^ (53 + 0)) (lit< tt)) (some' (D * L) (2 ^ (53 + 0)) (lit< tt))
     (sub-rounds binary64 L-pos (seconds-val D g) (seconds-val D g)) in
@@ -217,37 +222,38 @@ to-picoseconds : (x y : ℕ) → x ≤ y + 86485 * h → dayPs * x ≤ dayPs * y
 to-picoseconds x y k = omega (arith, L-h)
 
 -- ---- one evaluation, where TAI-UTC is D seconds on the days that the calendar finds
-module _ {a u : Float} {A up un : ℕ} (v : FirstPart a A) (w : SecondPart u up un) (s : NoStepFound (julian a u)) (c : Float) where
+module _ {rows : List Row} (b : WholeTable rows) {a u : Float} {A up un : ℕ} (v : FirstPart a A) (w : SecondPart u up un) (s : NoStepFound rows (julian a u))
+    (c : Float) where
   abbrev D : ℕ
   D = s .D
 
-  most : D ≤ lastSeconds
-  most = few v w (negsuc 0) (lit≤ tt) (lit≤ tt) (s .before)
+  most : D ≤ mostSeconds
+  most = few v w (negsuc 0) (lit≤ tt) (lit≤ tt) b (s .before)
 
-  before-is : offsetOfDate fixed a (add binary64 u (ofInt binary64 (negsuc 0))) ≡ answer (wholeF D)
-  before-is = offset-of-day fixed a _ (dayOf a (add binary64 u (ofInt binary64 (negsuc 0)))) (spot v w (negsuc 0) (lit≤ tt) (lit≤ tt) .given)
-      ∙ offset-is v w (negsuc 0) (lit≤ tt) (lit≤ tt) (s .before)
+  before-is : offsetOfDate rows a (add binary64 u (ofInt binary64 (negsuc 0))) ≡ answer (wholeF D)
+  before-is = offset-of-day rows a _ (dayOf a (add binary64 u (ofInt binary64 (negsuc 0)))) (spot v w (negsuc 0) (lit≤ tt) (lit≤ tt) .given)
+      ∙ offset-is v w (negsuc 0) (lit≤ tt) (lit≤ tt) b (s .before)
 
-  day-is : (i : ℕ) → i ≤ 3 → FoundWith D (julian a u) (pos i) → scanDay fixed a u c (ofInt binary64 (pos i)) (wholeF D) ≡ answer (noStep (wholeF D))
+  day-is : (i : ℕ) → i ≤ 3 → FoundWith rows D (julian a u) (pos i) → scanDay rows a u c (ofInt binary64 (pos i)) (wholeF D) ≡ answer (noStep (wholeF D))
   day-is i g f =
-      scan-no-step fixed a u c (ofInt binary64 (pos i)) (wholeF D) (dayOf a (add binary64 u (ofInt binary64 (pos i)))) (spot v w (pos i) g (lit≤ tt) .given)
-      (wholeF D) (offset-is v w (pos i) g (lit≤ tt) f) (level D most)
+      scan-no-step rows a u c (ofInt binary64 (pos i)) (wholeF D) (dayOf a (add binary64 u (ofInt binary64 (pos i)))) (spot v w (pos i) g (lit≤ tt) .given)
+      (wholeF D) (offset-is v w (pos i) g (lit≤ tt) b f) (level D most)
 
-  dut1-stays : adjustDut1 fixed a u c ≡ answer c
+  dut1-stays : adjustDut1 rows a u c ≡ answer c
   unfolding adjustDut1
   dut1-stays =
       went _ before-is
-      ∙ scan-on fixed a u c 0 (wholeF D) (lit< tt) (wholeF D) (day-is 0 (lit≤ tt) (s .first))
-      ∙ scan-on fixed a u c 1 (wholeF D) (lit< tt) (wholeF D) (day-is 1 (lit≤ tt) (s .second))
-      ∙ scan-on fixed a u c 2 (wholeF D) (lit< tt) (wholeF D) (day-is 2 (lit≤ tt) (s .third))
-      ∙ scan-on fixed a u c 3 (wholeF D) (lit< tt) (wholeF D) (day-is 3 (lit≤ tt) (s .fourth))
-      ∙ scan-done fixed a u c 4 (wholeF D) (lit≤ tt)
+      ∙ scan-on rows a u c 0 (wholeF D) (lit< tt) (wholeF D) (day-is 0 (lit≤ tt) (s .first))
+      ∙ scan-on rows a u c 1 (wholeF D) (lit< tt) (wholeF D) (day-is 1 (lit≤ tt) (s .second))
+      ∙ scan-on rows a u c 2 (wholeF D) (lit< tt) (wholeF D) (day-is 2 (lit≤ tt) (s .third))
+      ∙ scan-on rows a u c 3 (wholeF D) (lit< tt) (wholeF D) (day-is 3 (lit≤ tt) (s .fourth))
+      ∙ scan-done rows a u c 4 (wholeF D) (lit≤ tt)
 
   module _ (x y : ℕ) (vc : Val c x y L) (hx : x ≤ y + L) (hy : y ≤ x + L) where
     larger : firstIsKept (julian a u) ≡ true
     larger = first-larger (v .val) (w .val) (omega (arith, v .low, w .over, L-H)) (omega (arith, v .low, w .under, L-H))
 
-    fraction-is : utcFraction fixed c a u ≡ answer (sub binary64 u (div binary64 c secondsPerDay))
+    fraction-is : utcFraction rows c a u ≡ answer (sub binary64 u (div binary64 c secondsPerDay))
     unfolding utcFraction
     fraction-is = went _ dut1-stays
 
@@ -259,11 +265,11 @@ module _ {a u : Float} {A up un : ℕ} (v : FirstPart a A) (w : SecondPart u up 
     unfolding finiteJd
     parts = λ j. cond (val-finite-true (v .val) j && val-finite-true (w .val) j) (answer (julian a u)) (refusal 9)
 
-    pub is : ut1ToUtc fixed (julian a u) c ≡ answer (julian a (sub binary64 u (div binary64 c secondsPerDay)))
+    pub is : ut1ToUtc rows (julian a u) c ≡ answer (julian a (sub binary64 u (div binary64 c secondsPerDay)))
     unfolding ut1ToUtc
-    is = went _ arg ∙ went _ parts ∙ kept-changed (utcFraction fixed c) a u _ larger fraction-is
+    is = went _ arg ∙ went _ parts ∙ kept-changed (utcFraction rows c) a u _ larger fraction-is
 
-    right : RightUtcOfUt1 utcPs (julian a u) c
+    right : RightUtcOfUt1 rows utcPs (julian a u) c
     right =
         let r = less-dut1 w vc hx hy in
         record {
@@ -285,27 +291,45 @@ module _ {a u : Float} {A up un : ℕ} (v : FirstPart a A) (w : SecondPart u up 
         }
 
 -- ---- THE THEOREM by the days that the calendar finds: jd1 and jd2 in the range of request 14, and a DUT1 of at most 1 s
-pub ut1-to-utc-by-days : {d : JulianDate} → HalfDaySplit d → NoStepFound d → (dut1 : Float) → T (fits binary64 dut1) → T (le (abs dut1) one)
-    → RightUtcOfUt1 utcPs d dut1
-ut1-to-utc-by-days s o c f l = let z = size-at-most f one-L l in right (first-part s) (second-part s .2) o c (z .p) (z .n) (z .val) (z .high) (z .low)
+whole-by-days : {rows : List Row} → WholeTable rows → {d : JulianDate} → HalfDaySplit d → NoStepFound rows d → (dut1 : Float) → T (fits binary64 dut1)
+    → T (le (abs dut1) one) → RightUtcOfUt1 rows utcPs d dut1
+whole-by-days b s o c f l = let z = size-at-most f one-L l in right b (first-part s) (second-part s .2) o c (z .p) (z .n) (z .val) (z .high) (z .low)
 
--- ---- TAI-UTC does not fall from a day to a later one
-rises : (k m : ℕ) → 2441318 ≤ m → m + k < 1000000000 → secondsOn m ≤ secondsOn (m + k)
-rises zero m g b = le-of-eq (ap secondsOn (same m))
+-- by every table that is taken, and by the fixed one
+pub table-ut1-to-utc-by-days : (t : AnnouncedRows) (rows : List Row) → tableOf t ≡ answer rows → {d : JulianDate} → HalfDaySplit d → NoStepFound rows d
+    → (dut1 : Float) → T (fits binary64 dut1) → T (le (abs dut1) one) → RightUtcOfUt1 rows utcPs d dut1
+table-ut1-to-utc-by-days t rows e s o c f l = whole-by-days (table-whole t rows e) s o c f l
+
+pub ut1-to-utc-by-days : {d : JulianDate} → HalfDaySplit d → NoStepFound fixed d → (dut1 : Float) → T (fits binary64 dut1) → T (le (abs dut1) one)
+    → RightUtcOfUt1 fixed utcPs d dut1
+ut1-to-utc-by-days s o c f l = whole-by-days fixed-whole s o c f l
+
+-- ---- by the fixed table no leap second is near where TAI-UTC is the same two days before and four days after, since it does not fall from a day to a later
+-- one
+rises : (k m : ℕ) → 2441318 ≤ m → m + k < 1000000000 → secondsOn fixed m ≤ secondsOn fixed (m + k)
+rises zero m g b = le-of-eq (ap (secondsOn fixed) (same m))
   where
     same : (m : ℕ) → m ≡ m + 0
     same m = omega arith
 rises (suc k) m g b =
     let e : suc (m + k) ≡ m + suc k = omega arith in
     let r = rises k m g (omega arith) in
-    let q = seconds-on-day (m + k) (omega arith) (omega arith) .next in
-    subst (λ (j : ℕ). secondsOn m ≤ secondsOn j) e (omega arith)
+    let q = fixed-day (m + k) (omega arith) (omega arith) .next in
+    subst (λ (j : ℕ). secondsOn fixed m ≤ secondsOn fixed j) e (omega arith)
 
-pub seconds-later : (m n : ℕ) → m ≤ n → 2441318 ≤ m → n < 1000000000 → secondsOn m ≤ secondsOn n
-seconds-later m n k g b = let e : m + (n - m) ≡ n = omega arith in subst (λ (j : ℕ). secondsOn m ≤ secondsOn j) e (rises (n - m) m g (omega arith))
+pub by-both-ends : (n : ℕ) → 2441320 ≤ n → n < 999999990 → secondsOn fixed (n - 2) ≡ secondsOn fixed (n + 4) → NoLeapNear fixed n
+by-both-ends n g b e = record { from = g; same = between }
+  where
+    between : (i : ℕ) → i ≤ 6 → secondsOn fixed (n - 2 + i) ≡ secondsOn fixed (n - 2)
+    between i l =
+        let p = rises i (n - 2) (omega arith) (omega arith) in
+        let m : n - 2 + i + (6 - i) ≡ n + 4 = omega arith in
+        let q = subst (λ (j : ℕ). secondsOn fixed (n - 2 + i) ≤ secondsOn fixed j) m (rises (6 - i) (n - 2 + i) (omega arith) (omega arith)) in
+        omega arith
 
 -- ---- with no leap second near the exact day, the calendar finds days with one number of seconds
-module _ {a u : Float} {A up un : ℕ} (v : FirstPart a A) (w : SecondPart u up un) (n : ℕ) (o : OnDay (A + up) un n) (s : NoLeapNear n) where
+module _ {a u : Float} {A up un : ℕ} (v : FirstPart a A) (w : SecondPart u up un) (n : ℕ) (o : OnDay (A + up) un n)
+    {rows : List Row} (s : NoLeapNear rows n) where
   pub exact-high : n < 5000003
   exact-high = lt-of-mul-lt-mul-right L (last (n * L) (o .f) (o .is))
     where
@@ -338,19 +362,22 @@ module _ {a u : Float} {A up un : ℕ} (v : FirstPart a A) (w : SecondPart u up 
             → N < M + 3 * L
         go M f N e p m q r b c d g l = omega (arith, h-small, L-pos)
 
-    found : FoundWith (secondsOn (n - 2)) (julian a u) i
+    found : FoundWith rows (secondsOn rows (n - 2)) (julian a u) i
     found =
         let g = s .from in
         let b = below in
         let t = above in
-        let x = exact-high in
-        let l = seconds-later (n - 2) (z .n) (omega arith) (omega arith) (omega arith) in
-        let r = seconds-later (z .n) (n + 4) (omega arith) (omega arith) (omega arith) in
-        record { n = z .n; from = omega arith; day = z .day; seconds = omega (arith, s .same) }
+        let e : n - 2 + (z .n - (n - 2)) ≡ z .n = omega arith in
+        record {
+          n = z .n;
+          from = omega arith;
+          day = z .day;
+          seconds = subst (λ (m : ℕ). secondsOn rows m ≡ secondsOn rows (n - 2)) e (s .same (z .n - (n - 2)) (omega arith));
+        }
 
-  pub no-step : NoStepFound (julian a u)
+  pub no-step : NoStepFound rows (julian a u)
   no-step = record {
-    D = secondsOn (n - 2);
+    D = secondsOn rows (n - 2);
     before = found (negsuc 0) (lit≤ tt) (lit≤ tt);
     first = found (pos 0) (lit≤ tt) (lit≤ tt);
     second = found (pos 1) (lit≤ tt) (lit≤ tt);
@@ -359,9 +386,18 @@ module _ {a u : Float} {A up un : ℕ} (v : FirstPart a A) (w : SecondPart u up 
   }
 
 -- ---- THE THEOREM: on an exact day n with no leap second near
-pub ut1-to-utc-means : {d : JulianDate} {n : ℕ} → HalfDaySplit d → ExactDay d n → NoLeapNear n → (dut1 : Float) → T (fits binary64 dut1)
-    → T (le (abs dut1) one) → RightUtcOfUt1 utcPs d dut1
-ut1-to-utc-means {n = n} s x o c f l =
+whole-means : {rows : List Row} → WholeTable rows → {d : JulianDate} {n : ℕ} → HalfDaySplit d → ExactDay d n → NoLeapNear rows n → (dut1 : Float)
+    → T (fits binary64 dut1) → T (le (abs dut1) one) → RightUtcOfUt1 rows utcPs d dut1
+whole-means b {n = n} s x o c f l =
     let v = first-part s in
     let w = second-part s .2 in
-    ut1-to-utc-by-days s (no-step v w n (day-of x (parts-worth v w)) o) c f l
+    whole-by-days b s (no-step v w n (day-of x (parts-worth v w)) o) c f l
+
+-- by every table that is taken, and by the fixed one
+pub table-ut1-to-utc-means : (t : AnnouncedRows) (rows : List Row) → tableOf t ≡ answer rows → {d : JulianDate} {n : ℕ} → HalfDaySplit d → ExactDay d n
+    → NoLeapNear rows n → (dut1 : Float) → T (fits binary64 dut1) → T (le (abs dut1) one) → RightUtcOfUt1 rows utcPs d dut1
+table-ut1-to-utc-means t rows e s x o c f l = whole-means (table-whole t rows e) s x o c f l
+
+pub ut1-to-utc-means : {d : JulianDate} {n : ℕ} → HalfDaySplit d → ExactDay d n → NoLeapNear fixed n → (dut1 : Float) → T (fits binary64 dut1)
+    → T (le (abs dut1) one) → RightUtcOfUt1 fixed utcPs d dut1
+ut1-to-utc-means s x o c f l = whole-means fixed-whole s x o c f l

@@ -73,7 +73,7 @@ again-val : Val (ofBits binary64 0x3fd0_0030_8b91_419c) (4503808127353244 * q) 0
 unfolding ofBits
 again-val = in-units 4503808127353244 (2 ^ 54) q L-q (record { sign = false; size = 4503808127353244; has = (refl, refl); is = refl })
 
-pub one-second-off : Ut1ThereAndBack 999999999990 (stamp 0x3fd0_0000_0000_0000) half → ⊥
+pub one-second-off : Ut1ThereAndBack fixed 999999999990 (stamp 0x3fd0_0000_0000_0000) half → ⊥
 one-second-off r =
     let e : r .u ≡ stamp 0x3fd0_0018_45c8_a0ce = same (r .there) there in
     let f : r .t ≡ stamp 0x3fd0_0030_8b91_419c = same (subst (λ (u : JulianDate). utcToUt1 fixed u half ≡ answer (r .t)) e (r .back)) again in

@@ -1,5 +1,6 @@
 -- UT1 to UTC and back from 1972 on, by a DUT1 of at most 1 s, on days with no leap second near: what comes back is within 97 ps. Assumes nothing.
-use mathlib.Core.Path.{_≡_, sym, subst}
+use mathlib.Core.Path.{_≡_, sym, subst, subst₂}
+use mathlib.Core.List.{List}
 use Prim.Native.Nat.{ℕ, suc, _+_, _-_, _*_, _≤_, _<_}
 use native.Mathlib.Nat.{add-mul, lt-of-mul-lt-mul-right}
 use native.Mathlib.Omega.{arith}
@@ -19,7 +20,11 @@ use Rattle.julian.specs.JulianDate.{julian}
 use Rattle.rounding.specs.Picoseconds.{dayPs}
 use Rattle.scales.specs.laws.Meaning.{Close}
 use Rattle.scales.proofs.laws.Meant.{worth-unique}
-use Rattle.utc_scales.specs.round_trip.UtcDays.{H, leapAfter, OnDay, ExactDay}
+use Rattle.utc_scales.specs.round_trip.UtcDays.{H, secondsOn, leapAfter, shortAfter, OnDay, ExactDay}
+use Rattle.refusals.specs.Outcome.{answer}
+use Rattle.leap_table.specs.declared.rows.AnnouncedRows.{AnnouncedRows}
+use Rattle.leap_table.specs.rows.Table.{Row, fixed}
+use Rattle.leap_table.specs.rows.Announced.{tableOf}
 use Rattle.utc_scales.specs.round_trip.Ranges.{HalfDaySplit}
 use Rattle.utc_scales.proofs.round_trip.Units.{h, L-h, h-small}
 use Rattle.utc_scales.proofs.round_trip.Parts.{FirstPart, SecondPart, stamp-of, parts-worth, parts-joined, first-part}
@@ -27,8 +32,9 @@ use Rattle.utc_scales.proofs.round_trip.Located.{Located, located}
 use Rattle.utc_scales.proofs.round_trip.Meant.{day-of}
 use Rattle.utc_scales.specs.ut1_laws.Ut1.{ut1Ps, RightUt1}
 use Rattle.utc_scales.specs.ut1_laws.Back.{NoLeapNear, Ut1ThereAndBack}
+use Rattle.utc_scales.proofs.round_trip.DaySeconds.{WholeTable, table-whole, fixed-whole}
 use Rattle.utc_scales.proofs.ut1_laws.Ut1.{one-answer}
-use Rattle.utc_scales.proofs.ut1_laws.Back.{Less, less-dut1, seconds-later, exact-high, no-step, is}
+use Rattle.utc_scales.proofs.ut1_laws.Back.{Less, less-dut1, no-step, is}
 
 wide : (p n : ℕ) → p ≤ n + L → 1024 * p ≤ 1024 * n + 1027 * L
 wide p n k = omega arith
@@ -47,18 +53,20 @@ utc-part u c {up} {un} {x} {y} hu lu hx hy r = record {
     size p n up un x y k l e = omega (arith, h-small)
 
 -- with no leap second at the end of its day UTC to UT1 adds DUT1
-added : {ps : ℕ} {d d' : JulianDate} (m x y n : ℕ) → leapAfter n ≡ 0 → Close ps (86400 + leapAfter n) 86400 (x + leapAfter n * H) (y + leapAfter n * m) d d'
-    → Close ps 86400 86400 (x + 0 * H) (y + 0 * m) d d'
-added {ps} {d} {d'} m x y n e c = subst (λ (s : ℕ). Close ps (86400 + s) 86400 (x + s * H) (y + s * m) d d') e c
+added : {ps : ℕ} (s r : ℕ) {d d' : JulianDate} (m x y : ℕ) → s ≡ 0 → r ≡ 0 → Close ps (86400 + s - r) 86400 (x + (s * H + r * m)) (y + (s * m + r * H)) d d'
+    → Close ps 86400 86400 (x + (0 * H + 0 * m)) (y + (0 * m + 0 * H)) d d'
+added {ps} s r {d} {d'} m x y e g c = subst₂ (λ (s r : ℕ). Close ps (86400 + s - r) 86400 (x + (s * H + r * m)) (y + (s * m + r * H)) d d') e g c
 
 -- ---- the sums: X and Y are DUT1, as x and y are
 sums : (A p q P Q p' n' up un x y X Y N : ℕ) → P + q ≡ A + p + Q → x + Y ≡ X + y → 86400 * (p + un) + x ≤ 86400 * (q + up) + y + 86485 * h
-    → 86400 * (1 * p' + 1 * un + 0) + (86400 * n' + 86400 * P + (X + 0 * H)) ≤ 86400 * (1 * n' + 1 * (A + up) + 0) + (86400 * p' + 86400 * Q + (Y + 0 * N)) +
+    → 86400 * (1 * p' + 1 * un + 0) + (86400 * n' + 86400 * P + (X + (0 * H + 0 * N))) ≤ 86400 * (1 * n' + 1 * (A + up) + 0) +
+    (86400 * p' + 86400 * Q + (Y + (0 * N + 0 * H))) +
     86485 * h
 sums A p q P Q p' n' up un x y X Y N e g k = omega arith
 
 sums' : (A p q P Q p' n' up un x y X Y N : ℕ) → P + q ≡ A + p + Q → x + Y ≡ X + y → 86400 * (q + up) + y ≤ 86400 * (p + un) + x + 86485 * h
-    → 86400 * (1 * n' + 1 * (A + up) + 0) + (86400 * p' + 86400 * Q + (Y + 0 * N)) ≤ 86400 * (1 * p' + 1 * un + 0) + (86400 * n' + 86400 * P + (X + 0 * H)) +
+    → 86400 * (1 * n' + 1 * (A + up) + 0) + (86400 * p' + 86400 * Q + (Y + (0 * N + 0 * H))) ≤ 86400 * (1 * p' + 1 * un + 0) +
+    (86400 * n' + 86400 * P + (X + (0 * H + 0 * N))) +
     86485 * h
 sums' A p q P Q p' n' up un x y X Y N e g k = omega arith
 
@@ -75,8 +83,9 @@ in-all X Z G K c k = go (dayPs * X) (dayPs * Z) (dayPs * G) (dayPs * K) (dayPs *
     go : (x z g k e : ℕ) → x ≤ z + 87 * (86400 * L) → e ≤ 10 * (86400 * L) → 86400 * g + z ≤ 86400 * k + x + e → g ≤ k + 97 * (1 * L)
     go x z g k e a b c = omega arith
 
-module _ {a u : Float} {A up un : ℕ} (v : FirstPart a A) (hold : T (fits binary64 u)) (val : Val u up un L) (hu : up ≤ un + L) (lu : un ≤ up + L) (n : ℕ)
-    (o : OnDay (A + up) un n) (s : NoLeapNear n) (c : Float) (fc : T (fits binary64 c)) (kc : T (le (abs c) one))
+module _ {rows : List Row} (b : WholeTable rows) {a u : Float} {A up un : ℕ} (v : FirstPart a A) (hold : T (fits binary64 u)) (val : Val u up un L)
+    (hu : up ≤ un + L) (lu : un ≤ up + L) (n : ℕ)
+    (o : OnDay (A + up) un n) (s : NoLeapNear rows n) (c : Float) (fc : T (fits binary64 c)) (kc : T (le (abs c) one))
     (x y : ℕ) (vc : Val c x y L) (hx : x ≤ y + L) (hy : y ≤ x + L) where
   w : SecondPart u up un
   w = record { held = hold; val = val; over = wide up un hu; under = wide un up lu }
@@ -90,8 +99,8 @@ module _ {a u : Float} {A up un : ℕ} (v : FirstPart a A) (hold : T (fits binar
   z : Located a (sub binary64 u (div binary64 c secondsPerDay)) A (r .p) (r .n)
   z = located (stamp-of v w')
 
-  answered : RightUt1 ut1Ps (julian a (sub binary64 u (div binary64 c secondsPerDay))) c
-  answered = one-answer v w' c fc kc
+  answered : RightUt1 rows ut1Ps (julian a (sub binary64 u (div binary64 c secondsPerDay))) c
+  answered = one-answer b v w' c fc kc
 
   below : z .n < n + 2
   below = lt-of-mul-lt-mul-right L
@@ -116,27 +125,34 @@ module _ {a u : Float} {A up un : ℕ} (v : FirstPart a A) (hold : T (fits binar
       same : (t : ℤ) (n m : ℕ) → t ≡ pos n → t ≡ pos m → n ≡ m
       same t n m p q = cc
 
-  none : leapAfter (z .n) ≡ 0
-  unfolding leapAfter
-  none =
+  alike : (m : ℕ) → n < m + 2 → m < n + 3 → secondsOn rows m ≡ secondsOn rows (n - 2)
+  alike m k l =
       let g = s .from in
+      let e : n - 2 + (m - (n - 2)) ≡ m = omega arith in
+      subst (λ (j : ℕ). secondsOn rows j ≡ secondsOn rows (n - 2)) e (s .same (m - (n - 2)) (omega arith))
+
+  none : (secondsOn rows (suc (z .n)) ≡ secondsOn rows (n - 2)) × (secondsOn rows (z .n) ≡ secondsOn rows (n - 2))
+  none =
       let b = below in
       let t = above in
-      let e = exact-high v w n o s in
-      let i = seconds-later (n - 2) (z .n) (omega arith) (omega arith) (omega arith) in
-      let j = seconds-later (suc (z .n)) (n + 4) (omega arith) (omega arith) (omega arith) in
-      omega (arith, s .same)
+      (alike (suc (z .n)) (omega arith) (omega arith), alike (z .n) (omega arith) (omega arith))
 
-  no-leap : leapAfter (answered .n) ≡ 0
-  no-leap = subst (λ (m : ℕ). leapAfter m ≡ 0) same-day none
+  no-leap : (leapAfter rows (answered .n) ≡ 0) × (shortAfter rows (answered .n) ≡ 0)
+  unfolding leapAfter shortAfter
+  no-leap = subst (λ (m : ℕ). (secondsOn rows (suc m) - secondsOn rows m ≡ 0) × (secondsOn rows m - secondsOn rows (suc m) ≡ 0)) same-day
+      (go (secondsOn rows (suc (z .n))) (secondsOn rows (z .n)) (secondsOn rows (n - 2)) (none .0) (none .1))
+    where
+      go : (x y d : ℕ) → x ≡ d → y ≡ d → (x - y ≡ 0) × (y - x ≡ 0)
+      go x y d p q = omega arith
 
-  back-again : Ut1ThereAndBack 97 (julian a u) c
+  back-again : Ut1ThereAndBack rows 97 (julian a u) c
   back-again =
-      let m = added (answered .n * L) (answered .x) (answered .y) (answered .n) no-leap (answered .means) in
+      let m = added (leapAfter rows (answered .n)) (shortAfter rows (answered .n)) (answered .n * L) (answered .x) (answered .y) (no-leap .0) (no-leap .1)
+      (answered .means) in
       record {
         u = julian a (sub binary64 u (div binary64 c secondsPerDay));
         t = answered .date;
-        there = is v w (no-step v w n o s) c x y vc hx hy;
+        there = is b v w (no-step v w n o s) c x y vc hx hy;
         back = answered .is;
         apart = record {
           p = A + up;
@@ -155,10 +171,19 @@ module _ {a u : Float} {A up un : ℕ} (v : FirstPart a A) (hold : T (fits binar
       }
 
 -- ---- THE THEOREM
-pub ut1-there-and-back : {d : JulianDate} {n : ℕ} → HalfDaySplit d → ExactDay d n → NoLeapNear n → (dut1 : Float) → T (fits binary64 dut1)
-    → T (le (abs dut1) one) → Ut1ThereAndBack 97 d dut1
-ut1-there-and-back {n = n} s x o c f l =
+whole-there-and-back : {rows : List Row} → WholeTable rows → {d : JulianDate} {n : ℕ} → HalfDaySplit d → ExactDay d n → NoLeapNear rows n → (dut1 : Float)
+    → T (fits binary64 dut1) → T (le (abs dut1) one) → Ut1ThereAndBack rows 97 d dut1
+whole-there-and-back t {n = n} s x o c f l =
     let v = first-part s in
     let b = size-at-most (s .held .1) one-L (s .second) in
     let z = size-at-most f one-L l in
-    back-again v (s .held .1) (b .val) (b .high) (b .low) n (day-of x (parts-joined (v .val) (b .val))) o c f l (z .p) (z .n) (z .val) (z .high) (z .low)
+    back-again t v (s .held .1) (b .val) (b .high) (b .low) n (day-of x (parts-joined (v .val) (b .val))) o c f l (z .p) (z .n) (z .val) (z .high) (z .low)
+
+-- by every table that is taken, and by the fixed one
+pub table-ut1-there-and-back : (t : AnnouncedRows) (rows : List Row) → tableOf t ≡ answer rows → {d : JulianDate} {n : ℕ} → HalfDaySplit d → ExactDay d n
+    → NoLeapNear rows n → (dut1 : Float) → T (fits binary64 dut1) → T (le (abs dut1) one) → Ut1ThereAndBack rows 97 d dut1
+table-ut1-there-and-back t rows e s x o c f l = whole-there-and-back (table-whole t rows e) s x o c f l
+
+pub ut1-there-and-back : {d : JulianDate} {n : ℕ} → HalfDaySplit d → ExactDay d n → NoLeapNear fixed n → (dut1 : Float) → T (fits binary64 dut1)
+    → T (le (abs dut1) one) → Ut1ThereAndBack fixed 97 d dut1
+ut1-there-and-back s x o c f l = whole-there-and-back fixed-whole s x o c f l
