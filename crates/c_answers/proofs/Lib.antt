@@ -1,3 +1,4 @@
 -- The laws of answers for C: a refusal's code, what is put into a buffer, and an outcome handed on to the caller.
 pub mod Deliveries
 pub mod Pieces
+pub mod AnswerCases
