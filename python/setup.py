@@ -32,7 +32,10 @@ def library() -> pathlib.Path:
     if found is None:
         sys.exit(f"celestial_time: there is no {places[1]}: run python/make in the clone, which proves and links it, and then pip again")
     version = re.search(r'^__version__ = "([\d.]+)"$', (HERE / "celestial_time" / "_version.py").read_text(), re.M)[1]
-    call = getattr(ctypes.CDLL(str(found)), "ct_each_version", lambda: 0)
+    try:
+        call = getattr(ctypes.CDLL(str(found)), "ct_each_version", lambda: 0)
+    except OSError as error:
+        sys.exit(f"celestial_time: {found} can't be loaded here ({error}): run python/make in the clone, and then pip again")
     major, minor, patch = map(int, version.split("."))
     if call() != major * 1000000 + minor * 1000 + patch:
         sys.exit(f"celestial_time: {found} is not of version {version}, as the package is: run python/make in the clone, and then pip again")

@@ -67,7 +67,11 @@ def to_iso8601(
 
 
 def _str(text: Any) -> NDArray[np.str_] | str:
-    return text.decode("ascii") if isinstance(text, bytes) else text.astype(f"U{WIDTH}")
+    """ASCII as str. Byte by byte as code points: numpy's own way goes by a str for each text, in three times the time."""
+    if isinstance(text, bytes):
+        return text.decode("ascii")
+    held = np.ascontiguousarray(text)
+    return held.view("u1").reshape(*held.shape, WIDTH).astype("u4").view(f"U{WIDTH}").reshape(held.shape)
 
 
 def utc_texts(

@@ -15,7 +15,7 @@ from __future__ import annotations
 import argparse
 import pathlib
 import sys
-from typing import Any, Iterator, NamedTuple
+from typing import TYPE_CHECKING, Iterator, NamedTuple
 
 import numpy as np
 from numpy.typing import NDArray
@@ -23,6 +23,10 @@ from numpy.typing import NDArray
 import celestial_time as ct
 from celestial_time.pictures import COLOURS, LEAP_COLOUR, LEFT_OUT_COLOUR, REFUSED_COLOUR, Span, axis_words, leaps_in, marked_seconds, span_of, ticks_of
 from celestial_time.refusals import LEFT_OUT
+
+if TYPE_CHECKING:
+    from matplotlib.axes import Axes
+    from matplotlib.figure import Figure
 
 HERE = pathlib.Path(__file__).resolve().parent
 SCALES = ("gps", "tai", "utc")
@@ -76,7 +80,7 @@ def first_minute(recorded: Recorded) -> ct.CalendarDates | None:
     return ct.jd2cal(float(jd1[rising[0]]), float(jd2[rising[0]])) if len(rising) else None
 
 
-def draw_clocks(axes: Any, recorded: Recorded) -> None:
+def draw_clocks(axes: Axes, recorded: Recorded) -> None:
     """The readings against what each recorder's own clock shows, in seconds from the minute that the earliest stamp has begun."""
     first = first_minute(recorded)
     if first is None:
@@ -93,7 +97,7 @@ def draw_clocks(axes: Any, recorded: Recorded) -> None:
     axes.legend(loc="lower right", frameon=False, fontsize=9)
 
 
-def draw_line(axes: Any, recorded: Recorded, seconds: Floats) -> None:
+def draw_line(axes: Axes, recorded: Recorded, seconds: Floats) -> None:
     """The readings of the ordered stamps against TAI, each recorder by its shape and colour, and where the thinnest was read."""
     numbers = recorded.line.numbers
     for place, scale, part in each_run(recorded):
@@ -108,7 +112,7 @@ def draw_line(axes: Any, recorded: Recorded, seconds: Floats) -> None:
     axes.tick_params(labelbottom=False)
 
 
-def draw_others(axes: Any, recorded: Recorded, span: Span, seconds: Floats) -> None:
+def draw_others(axes: Axes, recorded: Recorded, span: Span, seconds: Floats) -> None:
     """The stamps that are refused, and apart from them those that are left out, of each recorder; and the UTC of the axis."""
     names = []
     for place, scale, part in each_run(recorded):
@@ -127,7 +131,7 @@ def draw_others(axes: Any, recorded: Recorded, span: Span, seconds: Floats) -> N
     axes.set_xlabel(axis_words(span))
 
 
-def figure_of(recorded: Recorded) -> Any:
+def figure_of(recorded: Recorded) -> Figure:
     """The three views in one picture, a figure of matplotlib. Axes, words and leap seconds are those of the line."""
     from matplotlib.figure import Figure
 

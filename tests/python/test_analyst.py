@@ -124,6 +124,11 @@ class Texts(unittest.TestCase):
                 self.assertEqual(got.text.dtype, np.dtype("U27"))
                 self.assertEqual([text.encode() for text in got.text.tolist()], due.text.tolist())
                 self.assertEqual(got.numbers.tolist(), due.numbers.tolist())
+        for shape in ((15, 20), (2, 3, 50), (0,), (0, 3), (3, 0)):
+            for order in "CF":
+                parts = [np.array(part[: math.prod(shape)].reshape(shape), order=order) for part in (jd1, jd2)]
+                got, due = ct.to_iso8601(*parts, as_str=True).text, ct.to_iso8601(*parts).text
+                self.assertEqual((got.shape, got.tolist()), (shape, due.astype("U27").tolist()))
         self.assertIs(type(ct.to_iso8601(2451545.0, 0.0, as_str=True).text), str)
         with self.assertRaises(TypeError) as raised:
             ct.to_iso8601([2451545.0], 0.0, as_str=True, out=(np.empty(1, "U30"), None))

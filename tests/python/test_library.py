@@ -182,10 +182,11 @@ class Library(unittest.TestCase):
             self.assertEqual(done.stdout, f"{pathlib.Path(folder).resolve()}/there/celestial_time/libcelestial_time_arrays.so\n", done.stderr)
             self.assertEqual([path.name for path in pathlib.Path(folder, "there").glob("*.dist-info")], [f"celestial_time-{ct.__version__}.dist-info"])
             shutil.copytree(ROOT / "python", f"{folder}/clone/python", ignore=shutil.ignore_patterns("*.so"))
-            for library in (None, b"no library"):
-                if library is not None:
-                    pathlib.Path(folder, "clone/target/lib").mkdir(parents=True)
-                    subprocess.run(["cc", "-shared", "-o", f"{folder}/clone/target/lib/{_library.NAME}", "-x", "c", "/dev/null"], check=True)
+            made = pathlib.Path(folder, "clone", "target", "lib", _library.NAME)
+            made.parent.mkdir(parents=True)
+            older = lambda: subprocess.run(["cc", "-shared", "-o", made, "-x", "c", "/dev/null"], check=True)
+            for lay in (lambda: None, older, lambda: made.write_bytes(b"no library")):
+                lay()
                 done = subprocess.run([*pip, "--target", f"{folder}/none", f"{folder}/clone/python"], capture_output=True, text=True)
                 self.assertNotEqual(done.returncode, 0)
                 self.assertIn("run python/make in the clone", done.stdout + done.stderr)

@@ -169,7 +169,7 @@ class Report(unittest.TestCase):
     def test_browser(self):
         """A real browser shows the figures, and the picture has a size."""
         self.page(*(f"{scale}={EXAMPLES}/{scale}.block" for scale in lineup.RECORDERS))
-        words = [BROWSER, "--headless", "--no-sandbox", "--disable-gpu", f"--user-data-dir={self.at}/profile", "--virtual-time-budget=2000", "--dump-dom", f"file://{self.at}/page.html"]
+        words = [BROWSER, "--headless", "--no-sandbox", "--disable-gpu", "--disable-dev-shm-usage", f"--user-data-dir={self.at}/profile", "--virtual-time-budget=2000", "--dump-dom", f"file://{self.at}/page.html"]
         done = subprocess.run(words, capture_output=True, text=True, timeout=120)
         shown = Page(done.stdout)
         self.assertEqual([row[2:6] for row in shown.tables["runs"][1:]], [["375", "369", "6", "0"], ["300", "297", "3", "0"], ["150", "146", "4", "0"]])
