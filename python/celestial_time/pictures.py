@@ -127,7 +127,7 @@ def leap_rows(table: Table | None) -> list[tuple[int, int, int, float]]:
 
 
 def leaps_in(span: Span) -> list[tuple[float, float]]:
-    """The leap seconds on the axis, each by its two ends; a second that is left out has both ends in one place.
+    """The leap seconds on the axis, each by its two ends; where UTC does not have a second, both ends are in one place.
 
     >>> line = line_up_recorders(('utc', [2457753.5, 2457754.5], [43200.0 / 86401.0, 0.5]))
     >>> [round(end, 3) for end in leaps_in(span_of(line))[0]]
@@ -228,6 +228,8 @@ def axis_words(span: Span) -> str:
     'UTC, 2016-12-31 to 2017-01-01; the leap second is shaded'
     """
     first, last = (text.partition("T")[0] or "no UTC" for text in _utc(span, np.array([span.first, span.last])))
-    leaps = len(leaps_in(span))
+    found = leaps_in(span)
+    leaps = sum(begin < end for begin, end in found)
     shaded = "" if not leaps else "; the leap second is shaded" if leaps == 1 else f"; {leaps} leap seconds are shaded"
-    return f"UTC, {first}{'' if first == last else f' to {last}'}{shaded}"
+    skipped = "; a second that UTC does not have is marked" if len(found) > leaps else ""
+    return f"UTC, {first}{'' if first == last else f' to {last}'}{shaded}{skipped}"

@@ -18,7 +18,8 @@ from .texts import utc_texts
 
 # Sentences on one page at the most: a page of a million would not open.
 MOST_SENTENCES = 1000
-_STYLE = """body{font-family:sans-serif;max-width:64em;margin:2em auto;padding:0 1em;color:#222}table{border-collapse:collapse}
+_STYLE = """body{font-family:sans-serif;max-width:72em;margin:2em auto;padding:0 1em;color:#222}table{border-collapse:collapse;font-size:.9em}
+#runs td:nth-child(2){white-space:normal;word-break:break-all}
 th,td{border:1px solid #bbb;padding:.25em .7em;text-align:right;white-space:nowrap}th:first-child,td:first-child{text-align:left}svg{width:100%;height:auto}"""
 
 
@@ -75,7 +76,8 @@ def _runs(line: Line, recorders: tuple[Recorder, ...], files: Mapping[str, str])
         left_out = int(np.count_nonzero(numbers == LEFT_OUT))
         ends = good[[0, -1]] if len(good) else good
         texts = utc_texts("tai", line.jd1[ends], line.jd2[ends], form="expanded", table=line.rows, as_str=True).text
-        cells = [recorder.scale, files.get(recorder.scale, ""), len(numbers), len(good), len(numbers) - len(good) - left_out, left_out, *(texts if len(good) else ("", ""))]
+        counts = len(numbers), len(good), len(numbers) - len(good) - left_out, left_out
+        cells = [recorder.scale, files.get(recorder.scale, ""), *counts, *(texts if len(good) else ("", ""))]
         yield "<tr>" + "".join(f"<td>{escape(str(cell))}</td>" for cell in cells) + "</tr>"
         start += len(numbers)
     yield "</table>"

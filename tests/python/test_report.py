@@ -158,6 +158,19 @@ class Report(unittest.TestCase):
             self.assertEqual("23:59:60" in labels, bool(leaps))
             self.assertIn(f"UTC, {year}-12-31 to {year + 1}-01-01", picture)
 
+    def test_second_that_is_not_there(self):
+        """A row that takes a second off is marked by a line, and its words are other ones."""
+        y = singles.Y
+        rows = ct.Table([(y, 1, singles.S - 1)])
+        utc = ct.dtf2d("utc", [y - 1, y], [12, 1], [31, 1], [23, 0], [59, 0], [50.0, 9.0], table=rows)
+        line = ct.line_up_recorders(("utc", utc.jd1, utc.jd2), table=rows)
+        ((first, last),) = pictures.leaps_in(pictures.span_of(line))
+        self.assertEqual((first, round(first, 6)), (last, 9.0))
+        picture = pictures.svg_of(line, ("utc",))
+        self.assertIn("a second that UTC does not have is marked", picture)
+        self.assertNotIn("shaded", picture)
+        self.assertIn('class="leap"', picture)
+
     def test_not_writable(self):
         """A page that can't be written is said, with status 2 and no listing."""
         done = run("lineup", f"gps={EXAMPLES}/gps.block", "-r", self.at / "no" / "page.html")
