@@ -55,7 +55,7 @@ class Columns(unittest.TestCase):
     def test_ticks(self):
         """25 at the place of a tick outside the passes or not finite, and all others as the call places them; without numbers it refuses the call."""
         passes, millis = [100, 200, 1000], [5, 50, 7000]
-        ticks = self.rng.integers(50, 1100, 300)
+        ticks = np.concatenate([self.rng.integers(50, 1100, 300), [99, 100, 200, 1000, 1001]])
         among = (ticks >= 100) & (ticks <= 1000)
         for given in (ticks, ticks.astype(float), ticks.astype("u8"), ticks.tolist()):
             got = ct.place_ticks(passes, np.array(millis, float), given, return_numbers=True)
@@ -233,6 +233,10 @@ class Times(unittest.TestCase):
                 else:
                     self.assertEqual((told, time), (0, np.datetime64(text.decode(), "ms")))
             self.assertGreater(leaps, 0 if scale == "utc" else -1)
+        rows = ct.Table([(12000, 1, singles.S + 1)])  # a year with a sign, and a leap second at its beginning
+        far = ct.dtf2d("utc", 11999, 12, 31, 23, 59, [59.5, 60.5], table=rows)
+        got = ct.utc_datetime64("utc", far.jd1, far.jd2, table=rows)
+        self.assertEqual((got.numbers.tolist(), got.time[0], np.isnat(got.time[1])), ([0, 4], np.datetime64("11999-12-31T23:59:59.500"), True))
         self.assertEqual(ct.utc_datetime64("utc", 2451545.0, 0.0), (np.datetime64("2000-01-01T12:00:00.000"), 0))
         self.assertEqual(ct.utc_datetime64("utc", np.full((2, 2), 2451545.0), 0.0).time.shape, (2, 2))
         self.assertEqual(ct.utc_datetime64("utc", [], []).time.shape, (0,))
@@ -416,7 +420,7 @@ class OrderAndBills(unittest.TestCase):
                 ct.standby_bill(*wrong)
             self.assertEqual(raised.exception.number, number, wrong)
         for error, wrong in ((ValueError, ("2020-01-01T00:00:00.0005", day, 1, 1, 1)), (ValueError, (day, datetime.datetime(2020, 1, 1, 0, 0, 0, 5), 1, 1, 1)), (ValueError, (day, (2020, 1, 1), 1, 1, 1)),
-                             (TypeError, (day, day, 1.5, 1, 1)), (OverflowError, (day, (1 << 40, 1, 1, 0, 0, 0, 0), 1, 1, 1)), (TypeError, (day, 5, 1, 1, 1))):
+                             (TypeError, (day, day, 1.5, 1, 1)), (OverflowError, (day, (1 << 40, 1, 1, 0, 0, 0, 0), 1, 1, 1)), (OverflowError, ((-(1 << 40), 1, 1, 0, 0, 0, 0), day, 1, 1, 1)), (TypeError, (day, 5, 1, 1, 1))):
             with self.assertRaises(error) as raised:
                 ct.standby_bill(*wrong)
             self.assertNotIsInstance(raised.exception, ct.Refused)

@@ -151,6 +151,7 @@ class Report(unittest.TestCase):
             drawn = {one.get("class"): one for one in xml.etree.ElementTree.fromstring(picture).iter() if one.get("class")}
             self.assertEqual(len(pictures.leaps_in(pictures.span_of(line))), leaps)
             self.assertEqual("leap" in drawn, bool(leaps))
+            self.assertEqual([round(end - first, 6) for first, end in pictures.leaps_in(pictures.span_of(line))], [1.0] * leaps)
             marks = re.findall(r'class="([\w ]+)" fill="([^"]+)"[^>]* d="([^"]*)"', picture)
             self.assertEqual([(kind, shape.count("M")) for kind, _, shape in marks], [("ordered", 4), ("refused", 1), ("left out", 1), ("ordered", 2)])
             self.assertNotEqual(marks[0][1], marks[3][1])
