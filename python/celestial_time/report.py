@@ -42,7 +42,7 @@ def page_of(line: Line, recorders: tuple[Recorder, ...], files: Mapping[str, str
 
     >>> gps = Recorder('gps', read_blocks(block_of([2457754.5, float('nan')], [0.0, 0.0])), None)
     >>> page = page_of(line_up_recorders(('gps', *gps.stamps[:2])), (gps,), {})
-    >>> 'Stamp 1 of the recorder gps is refused by 9: part of the date is not finite: jd1 7ff8000000000000.' in page
+    >>> 'Stamp 1 of the recorder gps is refused by 9: part or sum of a date is not finite: jd1 7ff8000000000000.' in page
     True
     """
     names = tuple(recorder.scale for recorder in recorders)

@@ -98,7 +98,7 @@ class Report(unittest.TestCase):
         self.assertEqual(page.tables["runs"][1][6:], ["2016-12-31T23:59:53.500", "2017-01-01T00:00:07.460"])
         self.assertEqual(page.tables["rows"][1][:2] + page.tables["rows"][-1], ["1972-01-01", "10", "2017-01-01", "37", "of the library"])
         self.assertEqual(len(page.tables["rows"]), 29)
-        self.assertIn("Stamps 180 to 183 of the recorder gps, 4, are refused by 9: part of the date is not finite.", page.items)
+        self.assertIn("Stamps 180 to 183 of the recorder gps, 4, are refused by 9: part or sum of a date is not finite.", page.items)
         self.assertEqual(sum(int(count) for count in re.findall(r", (\d+), are", " ".join(page.items))) + sum(1 for one in page.items if one.startswith("Stamp ")), 13)
         self.assertEqual(page.headings[0], "825 stamps of 3 recorders, 2016-12-31T23:59:53.500 to 2017-01-01T00:00:07.460 UTC")
 
