@@ -395,8 +395,8 @@ static void each_insertion(void)
                 due = (blank && (room == 'b' || room == 'e')) || (digit && (room == 'd' || room == 'e'));
                 check((ct_utc_from_iso8601(text, length + 1, NO_ROWS, out, sizeof out) != -15) == (due || (!texts[i].utc && at == length && byte == 'Z')),
                       "byte %d inserted at place %d of %s, read as UTC", byte, (int)at, texts[i].text);
-                if (!texts[i].utc)
-                    check((ct_parse_iso8601(text, length + 1, out, sizeof out) != -15) == due, "byte %d inserted at place %d of %s", byte, (int)at, texts[i].text);
+                if (texts[i].utc) continue;
+                check((ct_parse_iso8601(text, length + 1, out, sizeof out) != -15) == due, "byte %d inserted at place %d of %s", byte, (int)at, texts[i].text);
             }
         }
     }

@@ -2,3 +2,5 @@
 pub mod Deliveries
 pub mod Pieces
 pub mod AnswerCases
+-- Fields read back from the bytes of an answer, by name.
+pub mod FieldsBack

@@ -5,3 +5,5 @@ pub mod WideFields
 pub mod TwoBuffers
 pub mod rules
 pub mod table
+-- The words of the theorems: the fields of an answer by their names and offsets.
+pub mod ReadBack

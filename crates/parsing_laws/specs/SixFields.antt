@@ -1,5 +1,5 @@
--- The six fields that a text is read as, spelled out by the digits that stand in it. Written from document 02, item 1: the second with its fraction "is one whole
--- number divided once by a power of ten". Assumes nothing.
+-- The six fields that a text is read as, spelled out by the digits that stand in it. Written from document 02, item 1: the second with its fraction "is one
+-- whole number divided once by a power of ten". Assumes nothing.
 use Prim.Native.Nat.{ℕ, _^_, _≤_}
 use mathlib.Core.Path.{_≡_}
 use mathlib.Core.List.{List, _++_}

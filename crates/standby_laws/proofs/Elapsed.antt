@@ -1,5 +1,5 @@
--- WHAT IS BILLED IS ELAPSED TIME: under every table that is taken, next midnight is 1,000 times 86,400 and the day's leap milliseconds after midnight, and a time
--- of the day is after midnight by what the clock shows; so the exact TAI from one time to another is the sum of the days between them. Assumes nothing.
+-- WHAT IS BILLED IS ELAPSED TIME: under every table that is taken, next midnight is 1,000 times 86,400 and the day's leap milliseconds after midnight, and a
+-- time of the day is after midnight by what the clock shows; so the exact TAI from one time to another is the sum of the days between them. Assumes nothing.
 use mathlib.Core.Path.{_≡_, refl, ap, sym, _∙_}
 use mathlib.Core.Bool.{true}
 use mathlib.Core.List.{List}

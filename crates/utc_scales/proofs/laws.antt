@@ -16,6 +16,7 @@ pub mod FiniteDates
 pub mod Computed
 pub mod Published
 pub mod Worked
+pub mod Ut1Scan
 pub mod Cases
 pub mod AllTwenty
 pub mod AnnouncedCalls
