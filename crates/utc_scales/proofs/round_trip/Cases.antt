@@ -1,6 +1,5 @@
 -- Worked cases of the table by day numbers: 1972-01-01, and the days about the leap second of 2016-12-31; 2029-12-31 by a made-up table that leaves a second
--- out
--- there (ShortTable); and the exact relation on both days, in plain numbers. Assumes nothing.
+-- out there (ShortTable); and the exact relation on both days, in plain numbers. Assumes nothing.
 use mathlib.Core.Path.{_≡_, refl, sym, ap, _∙_}
 use mathlib.Core.List.{List}
 use Prim.Native.Nat.{ℕ, _+_, _-_, _*_}

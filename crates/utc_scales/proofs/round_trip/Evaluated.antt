@@ -38,9 +38,9 @@ use Rattle.utc_scales.proofs.round_trip.Kept.{first-larger, kept-change
 use Rattle.utc_scales.proofs.round_trip.Located.{Located, located}
 use Rattle.utc_scales.proofs.round_trip.Sums.{first-high, first-low, more, less, second-high, second-low, total-over, total-under}
 
--- ---- what is seen of UTC (a, u) by a table's rows: it is (a, t) in TAI. By the calendar it is f / L of the day numbered `day`, within 4 h of a + u + 1/2;
--- and t is within E /
--- 86400 of day + f + (D + s f) / 86400 - a - 1/2, the exact relation, where D is TAI-UTC on that day and s the leap second at its end, -1 for one left out
+-- ---- what is seen of UTC (a, u) by a table's rows: it is (a, t) in TAI. By the calendar it is f / L of the day numbered `day`, within 4 h of a + u + 1/2; and
+-- t is within E / 86400 of day + f + (D + s f) / 86400 - a - 1/2, the exact relation, where D is TAI-UTC on that day and s the leap second at its end, -1 for
+-- one left out
 pub record SeenTo (rows : List Row) (E : ℕ) (a u : Float) (A up un : ℕ) : Type 0 where
   pub t : Float
   pub tp : ℕ

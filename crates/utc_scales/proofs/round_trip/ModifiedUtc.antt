@@ -1,12 +1,11 @@
 -- TAI TO UTC OF A MODIFIED JULIAN DATE: for the split (2400000.5, MJD) it is answered, and the exact TAI of the answer lies within 628,795 ps of the TAI given.
 -- Each guess, and what UTC to TAI gives for it, is a whole number of units in the last place of a float from 2 ^ 15 to 2 ^ 16, or to 2 ^ 17; so a guess is
--- moved
--- without a rounding, and the only coarse one is that of UTC to TAI. Assumes nothing.
+-- moved without a rounding, and the only coarse one is that of UTC to TAI. Assumes nothing.
 use mathlib.Core.Path.{_≡_, refl, sym, ap, _∙_, subst}
 use mathlib.Core.List.{List}
 use mathlib.Core.Logic.{_⊎_, inl, inr}
 use Prim.Native.Nat.{ℕ, _+_, _-_, _*_, _^_, _/_, _≤_}
-use native.Mathlib.Nat.{add-mul, zero-mul, le-of-mul-le-mul-right, le-trans, le-of-eq}
+use native.Mathlib.Nat.{add-mul, zero-mul, mul-le-mul-right, le-of-mul-le-mul-right, le-trans, le-of-eq}
 use native.Mathlib.Omega.{arith}
 use native.Mathlib.Decide.{decLe}
 use lib.Dec.{T, lit≤}
@@ -32,13 +31,14 @@ use Rattle.utc_scales.specs.UtcTai.{moved, refined, rounds, refineUtcFra
 use Rattle.utc_scales.specs.round_trip.Ranges.{ModifiedSplit}
 use Rattle.utc_scales.specs.round_trip.UtcDays.{H, ExactDay}
 use Rattle.utc_scales.specs.round_trip.Relation.{RightUtc}
+use Rattle.utc_scales.specs.round_trip.RoundTrip.{ThereAndBack}
 use Rattle.utc_scales.proofs.round_trip.Units.{h, L-H, L-h, h-pos, h-small}
 use Rattle.utc_scales.proofs.round_trip.Parts.{parts-joined}
 use Rattle.utc_scales.proofs.round_trip.DaySeconds.{WholeTable, table-whole, fixed-whole}
 use Rattle.utc_scales.proofs.round_trip.Steady.{few-seconds}
 use Rattle.utc_scales.proofs.round_trip.Kept.{kept-changed}
 use Rattle.utc_scales.proofs.round_trip.Evaluated.{SeenTo}
-use Rattle.utc_scales.proofs.round_trip.Residuals.{Residual, GuessMoved, start, move-size, atFirst}
+use Rattle.utc_scales.proofs.round_trip.Residuals.{Residual, TaiNear, GuessMoved, start, move-size, atFirst}
 use Rattle.utc_scales.proofs.round_trip.Round.{none, kept}
 use Rattle.utc_scales.proofs.round_trip.Rounds.{dateSeen, offsetSeen, near, tai-near, next-residual}
 use Rattle.utc_scales.proofs.round_trip.Meant.{on-day, seconds}
@@ -64,6 +64,27 @@ three = (two + 86401 * together) / 86400 + 1
 
 in-all : dayPs * (three * h + 345604 * h) ≤ 86400 * (628795 * L)
 in-all = omega (arith, L-h)
+
+-- ---- the way back: what UTC to TAI makes of the last guess, against the TAI given
+in-back : dayPs * ((three + evaluation) * h) ≤ 86400 * (1257422 * L)
+in-back = subst (λ (z : ℕ). dayPs * ((three + evaluation) * h) ≤ 86400 * (1257422 * z)) (sym L-h) (go h (mul-le-mul-right h (lit≤ tt)))
+  where
+    go : (k : ℕ) → 978552947952000000000000000 * k ≤ 978553483311881748322713600 * k → dayPs * ((three + evaluation) * k) ≤ 86400 * (1257422 * (9007199254740992 * k))
+    go k l = omega arith
+
+back-in : (X Y : ℕ) → 86400 * X ≤ 86400 * Y + (three + evaluation) * h → dayPs * X ≤ dayPs * Y + 1257422 * L
+back-in X Y k = go (dayPs * X) (dayPs * Y) (dayPs * ((three + evaluation) * h)) in-back (times X Y ((three + evaluation) * h) k)
+  where
+    times : (x y e : ℕ) → 86400 * x ≤ 86400 * y + e → 86400 * (dayPs * x) ≤ 86400 * (dayPs * y) + dayPs * e
+    times x y e l = omega arith
+
+    go : (x y e : ℕ) → e ≤ 86400 * (1257422 * L) → 86400 * x ≤ 86400 * y + e → x ≤ y + 1257422 * L
+    go x y e i j = omega arith
+
+comes-back : (A bp bn tp tn v g : ℕ) → TaiNear (evaluation * h) H A tp tn v g → Residual H A bp bn v g (three * h)
+    → (86400 * (1 * (A + tp) + 1 * bn + 0) ≤ 86400 * (1 * tn + 1 * (A + bp) + 0) + (three + evaluation) * h)
+    × (86400 * (1 * tn + 1 * (A + bp) + 0) ≤ 86400 * (1 * (A + tp) + 1 * bn + 0) + (three + evaluation) * h)
+comes-back A bp bn tp tn v g i o = omega arith
 
 -- ---- the grid: 2 ^ j units of 1 / L, of which 2 ^ k are a day; every float from S days on is on it, and one of at most 2 S days that is on it is a float
 record GridOf (j k S : ℕ) : Type 0 where
@@ -341,22 +362,58 @@ module _ {rows : List Row} (t : WholeTable rows) {a b : Float} {bp bn j k S : �
         means = means-of (seconds z (o .0) (o .1) t) d (guess-said t z vb (modified-seen t v (x .part)) (x .residual) 628795 in-all (o .0) (o .1));
       }
 
--- ---- THE THEOREM: by the lower grid up to 65536 days and 5 s, and else by the upper one
+  back-again : ThereAndBack rows 1257422 (julian a b)
+  unfolding taiToUtc
+  back-again =
+      let r = three-rounds in
+      let x = r .at in
+      let z = modified-seen t v (x .part) in
+      let c = comes-back A bp bn (z .tp) (z .tn) (dateSeen z) (offsetSeen z) (tai-near z) (x .residual) in
+      record {
+        u = julian a (r .u);
+        t = julian a (z .t);
+        there = kept-changed (refineUtcFraction rows) a b (r .u) (modified-larger v b-part) (r .is);
+        back = z .answered;
+        apart = record {
+          p = A + bp;
+          n = bn;
+          p' = A + z .tp;
+          n' = z .tn;
+          from = parts-joined (v .val) vb;
+          to = parts-joined (v .val) (z .val);
+          over = unit _ _ (back-in _ _ (c .0));
+          under = unit _ _ (back-in _ _ (c .1));
+        };
+      }
+    where
+      unit : (x y : ℕ) → x ≤ y + 1257422 * L → x ≤ y + 1257422 * (1 * L)
+      unit x y k = omega arith
+
+  both : RightUtc rows 628795 (julian a b) × ThereAndBack rows 1257422 (julian a b)
+  both = (right, back-again)
+
+-- ---- THE THEOREMS: by the lower grid up to 65536 days and 5 s, and else by the upper one
 module _ {d : JulianDate} (s : ModifiedSplit d) where
   abbrev u : SizeWithin (d .jd2) (131071 * L)
   u = modified-size s
 
   module _ {rows : List Row} (t : WholeTable rows) where
-    by-grid : Dec (16384 * u .p ≤ 16384 * (u .n + 2 * (32768 * L)) + L) → RightUtc rows 628795 d
-    by-grid (yes k) = right t (zero-point s) (s .held .1) (u .val) (from-1972 s) (u .high) lower (omega (arith, from-1972 s, L-pos)) k
-    by-grid (no k) = right t (zero-point s) (s .held .1) (u .val) (from-1972 s) (u .high) upper (omega (arith, k)) (omega (arith, u .high))
+    by-grid : Dec (16384 * u .p ≤ 16384 * (u .n + 2 * (32768 * L)) + L) → RightUtc rows 628795 d × ThereAndBack rows 1257422 d
+    by-grid (yes k) = both t (zero-point s) (s .held .1) (u .val) (from-1972 s) (u .high) lower (omega (arith, from-1972 s, L-pos)) k
+    by-grid (no k) = both t (zero-point s) (s .held .1) (u .val) (from-1972 s) (u .high) upper (omega (arith, k)) (omega (arith, u .high))
 
-    whole-modified : RightUtc rows 628795 d
+    whole-modified : RightUtc rows 628795 d × ThereAndBack rows 1257422 d
     whole-modified = by-grid (decLe (16384 * u .p) (16384 * (u .n + 2 * (32768 * L)) + L))
 
   -- by every table that is taken, and by the fixed one
   pub table-tai-to-utc-modified : (t : AnnouncedRows) (rows : List Row) → tableOf t ≡ answer rows → RightUtc rows 628795 d
-  table-tai-to-utc-modified t rows e = whole-modified (table-whole t rows e)
+  table-tai-to-utc-modified t rows e = whole-modified (table-whole t rows e) .0
 
   pub tai-to-utc-modified : RightUtc fixed 628795 d
-  tai-to-utc-modified = whole-modified fixed-whole
+  tai-to-utc-modified = whole-modified fixed-whole .0
+
+  pub table-there-and-back-modified : (t : AnnouncedRows) (rows : List Row) → tableOf t ≡ answer rows → ThereAndBack rows 1257422 d
+  table-there-and-back-modified t rows e = whole-modified (table-whole t rows e) .1
+
+  pub there-and-back-modified : ThereAndBack fixed 1257422 d
+  there-and-back-modified = whole-modified fixed-whole .1

@@ -1,6 +1,5 @@
 -- The exact relation is continuous and changes slowly: of two instants less than a day apart TAI-UTC differs by at most 1/86400 of the time between them. A
--- leap
--- second is spread over its day, so that midnight is no jump. Where none is left out, TAI-UTC is later never less. Assumes nothing.
+-- leap second is spread over its day, so that midnight is no jump. Where none is left out, TAI-UTC is later never less. Assumes nothing.
 use mathlib.Core.Path.{_≡_, sym, ap, _∙_, subst}
 use mathlib.Core.Logic.{_⊎_, inl, inr}
 use mathlib.Core.List.{List}

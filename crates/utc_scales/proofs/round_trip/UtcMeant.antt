@@ -28,8 +28,7 @@ use Rattle.utc_scales.proofs.round_trip.Rounds.{dateSeen, offsetSeen, f
 use Rattle.utc_scales.proofs.round_trip.Exactly.{Said, means-of}
 
 -- ---- a guess u of the UTC of (a, b), whose residual is at most P, on its exact day: W is its date by that day, x the one that the calendar finds; K and G
--- their
--- offsets
+-- their offsets
 over : (A bp bn W x K G P : ℕ) → x ≤ W + 4 * h → G ≤ K + 4 * h → 86400 * (bp + A + H) ≤ 86400 * bn + (86400 * x + G) + P
     → 86400 * (A + bp + H) ≤ 86400 * bn + 86400 * W + K + (P + 345604 * h)
 over A bp bn W x K G P k l m = omega arith

@@ -1,7 +1,6 @@
 -- The exact relation of UTC and TAI from 1972 on by a table's rows, and what it is for an answer to mean it. Written from document 01, "Scale dates", and
--- SOFA's
--- Time Scale and Calendar Tools: UTC is a quasi Julian date, whose day is 86,401 s long where it ends in a leap second and 86,399 s where one is left out, so
--- that a leap second is spread over its day. Assumes nothing.
+-- SOFA's Time Scale and Calendar Tools: UTC is a quasi Julian date, whose day is 86,401 s long where it ends in a leap second and 86,399 s where one is left
+-- out, so that a leap second is spread over its day. Assumes nothing.
 use mathlib.Core.Path.{_≡_}
 use mathlib.Core.List.{List}
 use Prim.Native.Nat.{ℕ, _+_, _-_, _*_}

@@ -1,8 +1,7 @@
 -- Days of UTC from 1972 on: which day a date lies on, TAI-UTC at its 0h by a table's rows, and the leap second at its end, inserted or left out. Written from
 -- document 01, "Day and fraction" and "TAI-UTC", and document 02, item 8: day n begins half a day before the Julian date n, and the rows from 1972 on,
--- announced
--- ones among them, are whole seconds, each one second more or less than the row before. Days are counted in units of 2 ^ -1074 day, of which L are a day, so
--- that every float is a whole number of them. Assumes nothing.
+-- announced ones among them, are whole seconds, each one second more or less than the row before. Days are counted in units of 2 ^ -1074 day, of which L are a
+-- day, so that every float is a whole number of them. Assumes nothing.
 use mathlib.Core.Path.{_≡_}
 use mathlib.Core.List.{List}
 use Prim.Native.Nat.{ℕ, suc, _+_, _-_, _*_, _≤_, _<_}
