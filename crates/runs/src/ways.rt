@@ -189,7 +189,7 @@ fn between<'a>(
 }
 
 // The date in scale `to` of a date in scale `from`. Refusals as the single calls have them, the first that comes; for the same scale 9.
-pub fn convert_by_lent<'a>(
+pub(crate) fn convert_by_lent<'a>(
     from: u32,
     to: u32,
     jd: JulianDate,
