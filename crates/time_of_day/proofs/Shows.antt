@@ -94,6 +94,6 @@ module _ (how : Bool → ℕ → ℕ → ℕ) (rule : Nearest how) (f x : Float)
     nearer = λ F D W E X G v d. moved (shownMs (shownOf how f x) W E) F D W E v (shown .near W E G d);
   }
 
--- what `time_shown` answers is within 0.501 ms of the exact time of day
+-- what a text shows is within 0.501 ms of the exact time of day
 pub shown-right : (f x : Float) → T (fits binary64 f) → InUnit f → Leap x → ShownRight f x (shownOf away f x)
 shown-right = shown-right-by away away-nearest

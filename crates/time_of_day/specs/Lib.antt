@@ -1,4 +1,4 @@
--- What the contracts of `time_of_day` cite, in the order to read it.
+-- What the contracts of `utc::shown` cite, and that of `from_zero`, in the order to read it.
 pub mod Milliseconds
 pub mod TimeShown
 pub mod HalfEven

@@ -8,6 +8,7 @@ ghost use Rattle.utc.specs.iso_texts.ByRule.{isoTextByRule, textByRuleOu
 use super::DayAnswer;
 use super::TextByRule;
 use super::put_shown;
+use crate::shown::time_shown;
 use crate::text::TextAnswer;
 use leap_table::offsets::Rule;
 use leap_table::rows::AnnouncedRows;
@@ -35,7 +36,7 @@ pub fn to_iso8601_by_lent<'a>(
     match super::day_of(utc, size, months, seconds) {
         DayAnswer::Refused(number) => TextByRule::Refused(number),
         DayAnswer::Day(date, fraction, leap, rule) => with_rule(
-            put_shown(date, time_of_day::time_shown(fraction, leap), out),
+            put_shown(date, time_shown(fraction, leap), out),
             rule,
         ),
     }

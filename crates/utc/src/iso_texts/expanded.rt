@@ -9,6 +9,7 @@ ghost use Rattle.utc.specs.iso_texts.ByRule.{expandedByRule, TextRuleCal
 use super::DayAnswer;
 use super::TextByRule;
 use super::by_rule::with_rule;
+use crate::shown::time_shown;
 use crate::text::TextAnswer;
 use calendar::CalendarDate;
 use calendar::NextDay;
@@ -30,7 +31,7 @@ pub fn to_iso8601_expanded_by_lent<'a>(
     match super::day_of(utc, size, months, seconds) {
         DayAnswer::Refused(number) => TextByRule::Refused(number),
         DayAnswer::Day(date, fraction, leap, rule) => with_rule(
-            put_shown(date, time_of_day::time_shown(fraction, leap), out),
+            put_shown(date, time_shown(fraction, leap), out),
             rule,
         ),
     }

@@ -6,6 +6,7 @@ use super::DayAnswer;
 use super::TextByRule;
 use super::by_rule::with_rule;
 use super::put_shown;
+use crate::shown::time_shown_half_even;
 use leap_table::rows::AnnouncedRows;
 use scales::UTC;
 
@@ -23,7 +24,7 @@ pub fn to_iso8601_half_even_by_lent<'a>(
     match super::day_of(utc, size, months, seconds) {
         DayAnswer::Refused(number) => TextByRule::Refused(number),
         DayAnswer::Day(date, fraction, leap, rule) => with_rule(
-            put_shown(date, time_of_day::time_shown_half_even(fraction, leap), out),
+            put_shown(date, time_shown_half_even(fraction, leap), out),
             rule,
         ),
     }
