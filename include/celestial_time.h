@@ -457,7 +457,8 @@ int64_t ct_reason_listing_part(const uint8_t *block, size_t block_len, uint64_t 
    hexadecimal digits of its bits, any NaN 7ff8000000000000. Each number goes by its own test alone: 3 with
    month 13 names the day. A number that is not of the call's group names none, and so do values that pass.
       ct_date_reason   1 year, 2 month, 3 day
-      ct_time_reason   4 the first wrong one of hour, minute, second; leap is the day's length less 86,400 s
+      ct_time_reason   4 the first wrong one of hour, minute, second; leap is the day's length less 86,400 s,
+                       and where it is not finite no second is right
       ct_parts_reason  6 the rounded sum jd1 + jd2, 9 the first part that is not finite
       ct_float_reason  7 a fraction, 10 an offset
       ct_count_reason  8 nanos

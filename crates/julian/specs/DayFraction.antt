@@ -5,6 +5,7 @@ use mathlib.Core.Bool.{Bool, cond, _&&_}
 use lib.Dec.{eqb, leb}
 use lib.IntN.{pos}
 use lib.Ieee.{Float, binary64, ofInt, add, mul, div, lt, le}
+use lib.Ieee.Scale.{finite}
 use Rattle.refusals.specs.Outcome.{Outcome, answer, refusal}
 use Rattle.floats.specs.Whole.{nought}
 use Rattle.constants.specs.Constants.{decimal, secondsPerDay}
@@ -20,9 +21,11 @@ fractionOutcome (Answer.Refused number) = refusal number
 unfoldable pub secondLimit : ℕ → ℕ → Float → Float
 secondLimit hour minute leap = cond (eqb hour 23 && eqb minute 59) (add binary64 (decimal 60 0) leap) (decimal 60 0)
 
--- a NaN is neither 0.0 or more nor below the limit
+-- A second that is a NaN is neither 0.0 or more nor below the limit. A day whose leap is not finite has no times, where the Rust takes every one but those of
+-- the last minute: no leap of a day is so.
 unfoldable pub timeInDay : ℕ → ℕ → Float → Float → Bool
-timeInDay hour minute second leap = (leb hour 23 && leb minute 59) && (le nought second && lt second (secondLimit hour minute leap))
+timeInDay hour minute second leap =
+    (leb hour 23 && leb minute 59) && (finite leap && (le nought second && lt second (secondLimit hour minute leap)))
 
 -- 4 where the time is not in the day
 unfoldable pub dayFraction : ℕ → ℕ → Float → Float → Outcome Float

@@ -249,7 +249,7 @@ pub fn exact_sum(a: f64, b: f64) -> ExactSum
 }
 
 // The part of the day that has passed; 4 where the time is not in the day. `leap` is how much longer than 86,400 s the day is, and
-// the extra time goes into the seconds of its last minute.
+// the extra time goes into the seconds of its last minute; a day whose leap is not finite has no times.
 pub fn day_fraction(hour: u8, minute: u8, second: f64, leap: f64) -> FractionAnswer
     ensures { λ r. ⌜ F.fractionOutcome r ≡ F.dayFraction hour minute second leap ⌝ }
 {
@@ -269,6 +269,9 @@ fn time_in_day(hour: u8, minute: u8, second: f64, leap: f64) -> bool
         return false;
     }
     if minute > 59 {
+        return false;
+    }
+    if !floats::is_finite(leap) {
         return false;
     }
     0.0 <= second && second < limit

@@ -10,6 +10,7 @@ use mathlib.Core.Logic.{_⊎_, inl, inr}
 use lib.Dec.{T, lit<, lit≤, eqb}
 use lib.IntN.{pos}
 use lib.Ieee.{Float, binary64, round, ofInt, ofBits, add, lt, le}
+use lib.Ieee.Scale.{finite}
 use lib.Ieee.Order.{round-mono}
 use borrow.Author.Tests.{lt-ltb, le-leb, eq-eqb, eqb-true}
 use Rattle.floats.specs.Whole.{nought, one}
@@ -77,6 +78,10 @@ limit-over x false leap e f = e
 limit-over x true false e f = e
 limit-over x true true e f = f
 
+leap-finite : (leap : Bool) → finite (cond leap one nought) ≡ true
+leap-finite true = refl
+leap-finite false = refl
+
 last-second : (x : Float) → lt x (decimal 61 0) ≡ true → lt x (add binary64 (decimal 60 0) one) ≡ true
 unfolding add round
 last-second x e = e
@@ -86,12 +91,12 @@ pub time-in-day : (hour minute s ms : ℕ) (leap : Bool) → hour ≤ 23 → min
     → timeInDay hour minute (decimal (1000 * s + ms) 3) (cond leap one nought) ≡ true
 unfolding timeInDay secondLimit
 time-in-day hour minute s ms leap h m k (inl l) =
-    rw (le-leb hour 23 h, le-leb minute 59 m, not-negative (1000 * s + ms))
+    rw (le-leb hour 23 h, le-leb minute 59 m, leap-finite leap, not-negative (1000 * s + ms))
     (limit-over (decimal (1000 * s + ms) 3) (eqb hour 23 && eqb minute 59) leap (second-below (1000 * s + ms) 60 (omega arith) (lit≤ tt))
     (second-below (1000 * s + ms) 61 (omega arith) (lit≤ tt)))
 time-in-day hour minute s ms leap h m k (inr g) =
     let n : 1000 * s + ms < 1000 * 61 = omega (arith, g .0) in
-    rw (le-leb hour 23 h, le-leb minute 59 m, not-negative (1000 * s + ms), eq-eqb hour 23 (g .1), eq-eqb minute 59 (g .2), g .3)
+    rw (le-leb hour 23 h, le-leb minute 59 m, leap-finite leap, not-negative (1000 * s + ms), eq-eqb hour 23 (g .1), eq-eqb minute 59 (g .2), g .3)
     (last-second (decimal (1000 * s + ms) 3) (second-below (1000 * s + ms) 61 n (lit≤ tt)))
 
 -- ---- a time of a day that ends a second early: its last minute ends below 59 s
@@ -101,7 +106,7 @@ short-limit x e = e
 
 pub time-in-short-day : (hour minute s ms : ℕ) → hour ≤ 23 → minute ≤ 59 → ms ≤ 999 → s ≤ 59 → (hour ≡ 23 → minute ≡ 59 → s ≤ 58)
     → timeInDay hour minute (decimal (1000 * s + ms) 3) minus-one-f ≡ true
-unfolding timeInDay secondLimit
+unfolding timeInDay secondLimit ofBits
 time-in-short-day hour minute s ms h m k l last =
     rw (le-leb hour 23 h, le-leb minute 59 m, not-negative (1000 * s + ms)) (at (eqb hour 23) refl (eqb minute 59) refl)
   where

@@ -10,13 +10,14 @@ use native.Mathlib.Nat.{le-of-lt, add-zero, one-mul, mul-le-mul-right}
 use lib.Dec.{T, lit<, lit≤, eqb, ltb}
 use lib.IntN.{ℤ, pos, negsuc, natAbs}
 use lib.Signed.{ltZ}
-use lib.Ieee.{Float, binary64, round, ofInt, ofBits, add, lt, le}
+use lib.Ieee.{Float, nan, inf, fin, binary64, round, ofInt, ofBits, add, lt, le}
+use lib.Ieee.Scale.{finite}
 use lib.Ieee.Order.{round-mono}
 use borrow.Author.Tests.{ltb-true, ltb-false, le-ltb, le-leb}
 use Rattle.refusals.specs.Outcome.{Outcome, answer, refusal, onward}
 use Rattle.floats.specs.Whole.{nought, one}
 use Rattle.rounding.specs.Value.{Val, L}
-use Rattle.rounding.proofs.Value.{val-scale, L-is, L-pos}
+use Rattle.rounding.proofs.Value.{val-finite-true, val-scale, L-is, L-pos}
 use Rattle.rounding.proofs.Casts.{ofInt-val}
 use Rattle.rounding.proofs.Compare.{lt-val, le-true}
 use Rattle.rounding.proofs.Near.{Near, rounds-near}
@@ -96,12 +97,23 @@ limit-small : (c : Bool) (last : ℕ) → last ≤ 61 → cond c last 60 ≤ 61
 limit-small true last h = h
 limit-small false last h = omega arith
 
+-- a leap by which the limit is a whole number of seconds is finite
+leap-finite : (x : Float) (last : ℕ) → last ≤ 61 → add binary64 (decimal 60 0) x ≡ decimal last 0 → finite x ≡ true
+unfolding add
+leap-finite x last l e = go x (val-finite-true (subst (λ (z : Float). Val z (last * L) (0 * L) L) (sym e) (whole-val last l)))
+  where
+    go : (x : Float) → finite (add binary64 (decimal 60 0) x) ≡ true → finite x ≡ true
+    go nan h = absurd (true≢false (sym h))
+    go (inf s) h = absurd (true≢false (sym h))
+    go (fin s m k) h = refl
+
 same-test : (t : UtcTime) (x : Float) (last : ℕ) → t .millis ≤ 999 → t .second < 256 → last ≤ 61 → add binary64 (decimal 60 0) x ≡ decimal last 0
     → timeInDay (t .hour) (t .minute) (decimal (1000 * t .second + t .millis) 3) x ≡ inItsDay t last
 unfolding timeInDay secondLimit inItsDay
 same-test t x last h k l e =
     let c = eqb (t .hour) 23 && eqb (t .minute) 59 in
     rw (
+      leap-finite x last l e,
       not-negative (1000 * t .second + t .millis),
       le-leb (t .millis) 999 h,
       limit-is c x last e,

@@ -4,7 +4,7 @@ use mathlib.Core.Path.{_≡_, refl}
 use Prim.Native.Nat.{ℕ, _*_, _^_}
 use mathlib.Core.Bool.{true, false}
 use lib.IntN.{pos, negsuc}
-use lib.Ieee.{Float, fin, binary64, ofBits, round, ofInt, add, sub, mul, div, neg, lt, le, eq}
+use lib.Ieee.{Float, nan, inf, fin, binary64, ofBits, round, ofInt, add, sub, mul, div, neg, lt, le, eq}
 use Rattle.refusals.specs.Outcome.{answer, refusal, onward}
 use Rattle.floats.specs.Whole.{toWhole, cut}
 use Rattle.constants.specs.Constants.{decimal, mjdZeroPoint, j2000Jd, unixEpochJd, secondsPerDay, nanosecondsPerSecond, daysPerJulianYear}
@@ -125,6 +125,20 @@ pub quarter-to-seven : fromCalendar (pos 2000) 1 1 18 45 (decimal 0 0) ≡ answe
 unfolding fromCalendar atTime calendarToJulian roundedSum mjdZeroPoint secondsPerDay onward mjdOf mjdNumber civilCount validDate daysInMonth leapSize lengths
     dayFraction timeInDay secondLimit ofInt add mul div lt le eq round
 quarter-to-seven = refl
+
+-- ---- a day whose leap is not finite has no times: 12:00 is refused; with a leap of a second noon is 43,200 s of 86,401
+
+pub nan-leap : dayFraction 12 0 (decimal 0 0) nan ≡ refusal 4
+unfolding dayFraction timeInDay secondLimit secondsPerDay ofInt add mul div lt le eq round
+nan-leap = refl
+
+pub infinite-leap : dayFraction 12 0 (decimal 0 0) (inf false) ≡ refusal 4
+unfolding dayFraction timeInDay secondLimit secondsPerDay ofInt add mul div lt le eq round
+infinite-leap = refl
+
+pub noon-before-a-leap-second : dayFraction 12 0 (decimal 0 0) (decimal 1 0) ≡ answer (div binary64 (decimal 43200 0) (decimal 86401 0))
+unfolding dayFraction timeInDay secondLimit secondsPerDay ofInt add mul div lt le eq round
+noon-before-a-leap-second = refl
 
 -- ---- the difference is no order: 0.0 for dates that are not equal, as 2^23 + 2^-31 rounds to 2^23
 

@@ -44,7 +44,39 @@ hour-refused hour minute second leap h = rw (lt-leb hour 23 h)
 pub minute-refused : (hour minute : ℕ) (second leap : Float) → 60 ≤ minute → dayFraction hour minute second leap ≡ refusal 4
 unfolding dayFraction timeInDay
 minute-refused hour minute second leap h =
-    rw (no-minute (leb hour 23) (leb minute 59) (le nought second && lt second (secondLimit hour minute leap)) (lt-leb minute 59 h))
+    rw (no-minute (leb hour 23) (leb minute 59) (finite leap && (le nought second && lt second (secondLimit hour minute leap))) (lt-leb minute 59 h))
+
+no-leap : (a b c : Bool) → b ≡ false → (a && (b && c)) ≡ false
+no-leap true b c e = rw e
+no-leap false b c e = refl
+
+no-second : (a b c : Bool) → c ≡ false → (a && (b && c)) ≡ false
+no-second true true c e = e
+no-second true false c e = refl
+no-second false b c e = refl
+
+-- neither a NaN nor an infinity is from 0.0 to below a limit, an infinite one too
+outside : (x z : Float) → finite x ≡ false → (le nought x && lt x z) ≡ false
+unfolding le lt eq
+outside nan z h = refl
+outside (inf true) z h = refl
+outside (inf false) nan h = refl
+outside (inf false) (inf t) h = refl
+outside (inf false) (fin t n d) h = refl
+outside (fin s m e) z h = absurd (true≢false h)
+
+-- A SECOND OR A LEAP THAT IS NOT FINITE IS REFUSED WITH 4, whatever the rest
+module _ (hour minute : ℕ) (second leap : Float) where
+  pub second-not-finite : finite second ≡ false → dayFraction hour minute second leap ≡ refusal 4
+  unfolding dayFraction timeInDay
+  second-not-finite h =
+      rw (no-second (leb hour 23 && leb minute 59) (finite leap) (le nought second && lt second (secondLimit hour minute leap))
+      (outside second (secondLimit hour minute leap) h))
+
+  pub leap-not-finite : finite leap ≡ false → dayFraction hour minute second leap ≡ refusal 4
+  unfolding dayFraction timeInDay
+  leap-not-finite h =
+      rw (no-leap (leb hour 23 && leb minute 59) (finite leap) (le nought second && lt second (secondLimit hour minute leap)) h)
 
 -- ---- by the cases of the date
 

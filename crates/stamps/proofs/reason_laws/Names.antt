@@ -155,7 +155,7 @@ module _ (hour minute : ℕ) (second leap : Float) where
   -- a time that is taken names none
   pub time-passes : (x : Float) → dayFraction hour minute second leap ≡ answer x → timeField hour minute second leap ≡ NoField
   unfolding dayFraction timeField timeInDay
-  time-passes x e = go (leb hour 23) (leb minute 59) (le nought second && lt second (secondLimit hour minute leap))
+  time-passes x e = go (leb hour 23) (leb minute 59) (finite leap && (le nought second && lt second (secondLimit hour minute leap)))
       (passed _ x 4 (timeInDay hour minute second leap) e)
     where
       go : (a b c : Bool) → (a && b) && c ≡ true → cond a (cond b (cond (not ((a && b) && c)) (Second second) NoField) (Minute minute)) (Hour hour) ≡ NoField

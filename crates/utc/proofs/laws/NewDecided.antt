@@ -108,7 +108,7 @@ module _ (t : AnnouncedRows) where
         where
           reason : timeInDay (s / 3600) (s % 3600 / 60) (secondWithNanos s nanos) x ≡ false → PastShortEnd rows on s nanos
           reason h =
-              let (m, p) = not-in-day s nanos (seconds-most seconds) small-nanos x h in
+              let (m, p) = not-in-day s nanos (seconds-most seconds) small-nanos x (leap-finite k _ _ _ x e) h in
               record {
                 leap = x;
                 leap-is = e;
@@ -121,7 +121,7 @@ module _ (t : AnnouncedRows) where
           no-reason : timeInDay (s / 3600) (s % 3600 / 60) (secondWithNanos s nanos) x ≡ true → PastShortEnd rows on s nanos → ⊥
           no-reason h r =
               let z : x ≡ r .leap = same (r .leap) (r .leap-is) in
-              true≢false (sym h ∙ in-last-minute s nanos (seconds-most seconds) small-nanos (r .last-minute) x
+              true≢false (sym h ∙ in-last-minute s nanos (seconds-most seconds) small-nanos (r .last-minute) x (leap-finite k _ _ _ x e)
               ∙ ap (λ (w : Float). lt (secondWithNanos s nanos) (add binary64 (decimal 60 0) w)) z ∙ r .past)
             where
               same : (w : Float) → leapAtEndOfDay rows (on .year) (pos (on .month)) (pos (on .day)) ≡ answer w → x ≡ w

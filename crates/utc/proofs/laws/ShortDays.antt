@@ -24,7 +24,7 @@ unfolding secondLimit round add ofBits
 limit = refl
 
 pub last-minute : (second : Float) → timeInDay 23 59 second minus-one-f ≡ le nought second && lt second (decimal 59 0)
-unfolding timeInDay
+unfolding timeInDay ofBits
 last-minute second = rw limit
 
 module _ (rows : List Row) (y : ℤ) (m d : ℕ) (v : validDate y (pos m) (pos d) ≡ answer tt) (e : leapAtEndOfDay rows y (pos m) (pos d) ≡ answer minus-one-f)

@@ -256,23 +256,24 @@ module _ (s nanos : ℕ) (hs : s < 86400) (hn : nanos < 1000000000) where
   minutes : leb (s % 3600 / 60) 59 ≡ true
   minutes = le-leb (s % 3600 / 60) 59 (omega arith)
 
-  by-limit : (x z : Float) → secondLimit (s / 3600) (s % 3600 / 60) x ≡ z → timeInDay (s / 3600) (s % 3600 / 60) second x ≡ lt second z
+  by-limit : (x z : Float) → T (finite x) → secondLimit (s / 3600) (s % 3600 / 60) x ≡ z → timeInDay (s / 3600) (s % 3600 / 60) second x ≡ lt second z
   unfolding timeInDay
-  by-limit x z e = rw (hours, minutes, low, e)
+  by-limit x z f e = rw (hours, minutes, is-true (finite x) f, low, e)
 
-  pub in-last-minute : 86340 ≤ s → (x : Float) → timeInDay (s / 3600) (s % 3600 / 60) second x ≡ lt second (add binary64 (decimal 60 0) x)
+  pub in-last-minute : 86340 ≤ s → (x : Float) → T (finite x) → timeInDay (s / 3600) (s % 3600 / 60) second x ≡ lt second (add binary64 (decimal 60 0) x)
   unfolding secondLimit
-  in-last-minute h x = by-limit x (add binary64 (decimal 60 0) x) (rw (eq-eqb (s / 3600) 23 (omega arith), eq-eqb (s % 3600 / 60) 59 (omega arith)))
+  in-last-minute h x f = by-limit x (add binary64 (decimal 60 0) x) f (rw (eq-eqb (s / 3600) 23 (omega arith), eq-eqb (s % 3600 / 60) 59 (omega arith)))
 
-  pub not-in-day : (x : Float) → timeInDay (s / 3600) (s % 3600 / 60) second x ≡ false → (86340 ≤ s) × (lt second (add binary64 (decimal 60 0) x) ≡ false)
+  pub not-in-day : (x : Float) → T (finite x) → timeInDay (s / 3600) (s % 3600 / 60) second x ≡ false
+      → (86340 ≤ s) × (lt second (add binary64 (decimal 60 0) x) ≡ false)
   unfolding secondLimit
-  not-in-day x e = go (eqb (s / 3600) 23) refl (eqb (s % 3600 / 60) 59) refl
+  not-in-day x f e = go (eqb (s / 3600) 23) refl (eqb (s % 3600 / 60) 59) refl
     where
       short : secondLimit (s / 3600) (s % 3600 / 60) x ≡ decimal 60 0 → (86340 ≤ s) × (lt second (add binary64 (decimal 60 0) x) ≡ false)
-      short p = absurd (true≢false (sym high ∙ sym (by-limit x (decimal 60 0) p) ∙ e))
+      short p = absurd (true≢false (sym high ∙ sym (by-limit x (decimal 60 0) f p) ∙ e))
 
       go : (a : Bool) → eqb (s / 3600) 23 ≡ a → (b : Bool) → eqb (s % 3600 / 60) 59 ≡ b → (86340 ≤ s) × (lt second (add binary64 (decimal 60 0) x) ≡ false)
-      go true p true q = let h : 86340 ≤ s = omega (arith, eqb-true (s / 3600) 23 p, eqb-true (s % 3600 / 60) 59 q) in (h, sym (in-last-minute h x) ∙ e)
+      go true p true q = let h : 86340 ≤ s = omega (arith, eqb-true (s / 3600) 23 p, eqb-true (s % 3600 / 60) 59 q) in (h, sym (in-last-minute h x f) ∙ e)
       go true p false q = short (rw (p, q))
       go false p b q = short (rw p)
 
