@@ -87,19 +87,20 @@ record Fraction (f : Float) : Type 0 where
   high : q ≤ m + L
   low : m ≤ q
 
-is-finite : (f : Float) → T (inDay f) → T (finite f)
+-- a fraction that is taken is finite: the look-up refuses a NaN and an infinity with 7
+pub in-day-finite : (f : Float) → T (inDay f) → T (finite f)
 unfolding inDay le
-is-finite nan t = absurd t
-is-finite (inf true) t = absurd t
-is-finite (inf false) t = absurd t
-is-finite (fin s m x) t = tt
+in-day-finite nan t = absurd t
+in-day-finite (inf true) t = absurd t
+in-day-finite (inf false) t = absurd t
+in-day-finite (fin s m x) t = tt
 
 zero-val : Val nought 0 0 L
 zero-val = record { sign = false; size = 0; has = (refl, zero-mul L); is = refl }
 
 fraction : (f : Float) → T (fits binary64 f) → T (inDay f) → Fraction f
 unfolding inDay
-fraction f g t = go _ _ (own-val f (own f g (is-finite f t)))
+fraction f g t = go _ _ (own-val f (own f g (in-day-finite f t)))
   where
     lower : T (le nought f)
     lower = and-l (le nought f) (le f one) t

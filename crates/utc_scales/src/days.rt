@@ -31,7 +31,7 @@ fn first_is_kept(jd: JulianDate) -> bool
     floats::at_least_in_size(jd.jd1, jd.jd2)
 }
 
-pub fn kept_parts(jd: JulianDate) -> Parts
+pub(crate) fn kept_parts(jd: JulianDate) -> Parts
     ensures { λ r. ⌜ r ≡ keptParts jd ⌝ }
 {
     if first_is_kept(jd) {
@@ -50,7 +50,7 @@ pub fn kept_parts(jd: JulianDate) -> Parts
 }
 
 // The larger part in its place, and x for the smaller one.
-pub fn put_beside(p: Parts, x: f64) -> JulianDate
+pub(crate) fn put_beside(p: Parts, x: f64) -> JulianDate
     ensures { λ r. ⌜ r ≡ putBeside p x ⌝ }
 {
     if p.first {
@@ -67,7 +67,7 @@ pub fn put_beside(p: Parts, x: f64) -> JulianDate
 }
 
 // The same, where the smaller part was not refused.
-pub fn placed(p: Parts, x: FractionAnswer) -> JulianAnswer
+pub(crate) fn placed(p: Parts, x: FractionAnswer) -> JulianAnswer
     ensures { λ r. ⌜ julianOutcome r ≡ onward (fractionOutcome x) (placed p) ⌝ }
 {
     match x {
