@@ -8,7 +8,7 @@ ghost use lib.ListN.{length};
 ghost use Rattle.leap_table.specs.rows.Announced.{rowsIn, tableOf};
 ghost use Rattle.utc.specs.iso_texts.Named.{formNamed};
 ghost use Rattle.utc.specs.run_texts.RunTexts.{stampText, textsOutcome, textsCall, textsRefusal, textsBy, textsOfRun};
-ghost use Rattle.utc.specs.run_texts.Asked.{Roomy, TextPlaced, TextsPlaced};
+ghost use Rattle.utc.specs.run_texts.Asked.{RoomForTexts, TextPlaced, TextsPlaced};
 use crate::iso_texts::NamedForm;
 use crate::iso_texts::TextByRule;
 use leap_table::rows::AnnouncedRows;
@@ -82,7 +82,7 @@ fn put_all<'a>(
     lengths: &mut [u8],
     numbers: &mut [u8],
 ) -> usize
-    requires { ⌜ Roomy n (now jd1s) (now texts) (now lengths) (now numbers) ⌝ }
+    requires { ⌜ RoomForTexts n (now jd1s) (now texts) (now lengths) (now numbers) ⌝ }
     ensures { λ r. ⌜ TextsPlaced (stampText (formNamed textForm) (rowsIn size (now (months .entry)) (now (seconds .entry))) (now (jd1s .entry))
         (now (jd2s .entry))) n (now (texts .entry)) (now (lengths .entry)) (now (numbers .entry)) r (now (texts .exit)) (now (lengths .exit))
         (now (numbers .exit)) ⌝ }

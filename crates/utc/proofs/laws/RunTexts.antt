@@ -24,8 +24,8 @@ use Rattle.leap_table.specs.rows.Table.{Row}
 use Rattle.utc.specs.declared.iso_texts.NamedForm.{NamedForm}
 use Rattle.utc.specs.iso_texts.IsoText.{isoTextBy}
 use Rattle.utc.specs.iso_texts.Named.{formNamed}
-use Rattle.utc.specs.run_texts.RunTexts.{stampText, lengthByte, numberByte, TextsCall, textsCall, textsWritten, textsRefusal, textsBy, textsOfRun}
-use Rattle.utc.specs.laws.RunTexts.{TextDone, SpareStays, notZeroIn, StampNotFinite, TextsDue}
+use Rattle.utc.specs.run_texts.RunTexts.{stampText, lengthByte, refusalByte, TextsCall, textsCall, textsWritten, textsRefusal, textsBy, textsOfRun}
+use Rattle.utc.specs.laws.RunTexts.{TextDone, BehindStays, numbersNotZero, StampPartNotFinite, TextsDue}
 use Rattle.utc.proofs.run_texts.Calls.{Fitting, fitting, none-refused}
 use Rattle.utc.proofs.laws.Numbers.{text-numbers-by, not-finite-by}
 use Rattle.utc.proofs.laws.NamedTexts.{named-text-few}
@@ -106,14 +106,14 @@ module _ (textForm : NamedForm) (rows : List Row) (js ks texts lengths numbers :
       rw (eq-eqb _ 0 (due-answered (length js) (length ks) (length texts) (length lengths) (length numbers) n due), q)
 
   written : (i : ℕ) → i < n → TextDone (f i) i texts (textsWritten f n texts lengths numbers)
-  unfolding textsWritten lengthByte numberByte
+  unfolding textsWritten lengthByte refusalByte
   written i h = record {
     measured = λ t e. byte-at lengthByte f lengths n i h (due .bytes) ∙ ap lengthByte e;
-    answered = λ t e. byte-at numberByte f numbers n i h (due .bytes2) ∙ ap numberByte e;
+    answered = λ t e. byte-at refusalByte f numbers n i h (due .bytes2) ∙ ap refusalByte e;
     written = λ t e k b. text-at f few texts n i k h t e (due .places) b;
     behind = λ t e k b m. behind-at f few texts n i k h t e b m;
     empty = λ r e. byte-at lengthByte f lengths n i h (due .bytes) ∙ ap lengthByte e;
-    numbered = λ r e. byte-at numberByte f numbers n i h (due .bytes2) ∙ ap numberByte e ∙ small-number textForm rows js ks i r e;
+    numbered = λ r e. byte-at refusalByte f numbers n i h (due .bytes2) ∙ ap refusalByte e ∙ small-number textForm rows js ks i r e;
     stays = λ r e k b. refused-at f few texts n i k h r e b;
   }
 
@@ -122,27 +122,27 @@ module _ (textForm : NamedForm) (rows : List Row) (js ks texts lengths numbers :
   each-text i h = subst (TextDone (f i) i texts) (sym done) (written i h)
 
   -- what lies behind the last stamp's places stays
-  spare : SpareStays n texts lengths numbers (textsWritten f n texts lengths numbers)
+  spare : BehindStays n texts lengths numbers (textsWritten f n texts lengths numbers)
   unfolding textsWritten
   spare = record {
     first = λ j h. texts-beyond f few texts n j h;
     second = λ j h. bytes-beyond lengthByte f lengths n j h;
-    third = λ j h. bytes-beyond numberByte f numbers n j h;
+    third = λ j h. bytes-beyond refusalByte f numbers n j h;
   }
 
-  pub spare-stays : SpareStays n texts lengths numbers call
-  spare-stays = subst (SpareStays n texts lengths numbers) (sym done) spare
+  pub spare-stays : BehindStays n texts lengths numbers call
+  spare-stays = subst (BehindStays n texts lengths numbers) (sym done) spare
 
   -- THE COUNT is of the numbers that are not 0: the refused stamps, by `each-text`
-  counts : textsWritten f n texts lengths numbers .answer ≡ answer (notZeroIn n (textsWritten f n texts lengths numbers .numbers))
+  counts : textsWritten f n texts lengths numbers .answer ≡ answer (numbersNotZero n (textsWritten f n texts lengths numbers .numbers))
   unfolding textsWritten
   counts = ap answer (counted f numbers n n (omega arith) (due .bytes2))
 
-  pub count-is : call .answer ≡ answer (notZeroIn n (call .numbers))
-  count-is = subst (λ (c : TextsCall). c .answer ≡ answer (notZeroIn n (c .numbers))) (sym done) counts
+  pub count-is : call .answer ≡ answer (numbersNotZero n (call .numbers))
+  count-is = subst (λ (c : TextsCall). c .answer ≡ answer (numbersNotZero n (c .numbers))) (sym done) counts
 
   -- EVERY STAMP THAT IS NOT FINITE is refused by 6, and its number and its length say so
-  pub not-finite-refused : (i : ℕ) → StampNotFinite js ks i → f i ≡ refusal 6
+  pub not-finite-refused : (i : ℕ) → StampPartNotFinite js ks i → f i ≡ refusal 6
   unfolding stampOf
   not-finite-refused i h = not-finite-by (formNamed textForm) rows (stampOf js ks i) (by h)
     where
@@ -153,13 +153,13 @@ module _ (textForm : NamedForm) (rows : List Row) (js ks texts lengths numbers :
       no-second true b e = e
       no-second false b e = refl
 
-      by : StampNotFinite js ks i → finite (ofBits binary64 (u64At js (8 * i))) && finite (ofBits binary64 (u64At ks (8 * i))) ≡ false
+      by : StampPartNotFinite js ks i → finite (ofBits binary64 (u64At js (8 * i))) && finite (ofBits binary64 (u64At ks (8 * i))) ≡ false
       by (inl e) =
           no-first (finite (ofBits binary64 (u64At js (8 * i)))) (finite (ofBits binary64 (u64At ks (8 * i)))) (field-not-finite (u64At js (8 * i)) e)
       by (inr e) =
           no-second (finite (ofBits binary64 (u64At js (8 * i)))) (finite (ofBits binary64 (u64At ks (8 * i)))) (field-not-finite (u64At ks (8 * i)) e)
 
-  pub not-finite-numbered : (i : ℕ) → i < n → StampNotFinite js ks i → (getD (call .numbers) i 0 ≡ 6) × (getD (call .lengths) i 0 ≡ 0)
+  pub not-finite-numbered : (i : ℕ) → i < n → StampPartNotFinite js ks i → (getD (call .numbers) i 0 ≡ 6) × (getD (call .lengths) i 0 ≡ 0)
   not-finite-numbered i h d = (each-text i h .numbered 6 (not-finite-refused i d), each-text i h .empty 6 (not-finite-refused i d))
 
 -- ---- THE NUMBERS of refused stamps are 1 and 6, and no other

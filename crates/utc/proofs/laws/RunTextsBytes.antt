@@ -10,8 +10,8 @@ use lib.Dec.{eqb}
 use lib.ListN.{length, getD, set, length-set}
 use lib.Seq.{sets, getD-set-same, getD-set-other}
 use Rattle.refusals.specs.Outcome.{Outcome, answer, refusal}
-use Rattle.utc.specs.run_texts.RunTexts.{numberByte, withText, withTexts, withBytes, refusedAmong}
-use Rattle.utc.specs.laws.RunTexts.{notZeroIn}
+use Rattle.utc.specs.run_texts.RunTexts.{refusalByte, withText, withTexts, withBytes, textsRefused}
+use Rattle.utc.specs.laws.RunTexts.{numbersNotZero}
 use Rattle.utc.proofs.run_texts.Puts.{texts-kept, bytes-kept}
 
 -- ---- bytes set one after the other from index i on
@@ -99,8 +99,8 @@ module _ (byte : Outcome (List ℕ) → ℕ) (f : ℕ → Outcome (List ℕ)) (l
   byte-at (suc n) i h room = byte-step n i (eq-or-lt-of-le (omega arith)) room (λ m. byte-at n i m (omega arith))
 
 -- the count is of the numbers that are not 0
-pub counted : (f : ℕ → Outcome (List ℕ)) (l : List ℕ) (n m : ℕ) → m ≤ n → n ≤ length l → refusedAmong f m ≡ notZeroIn m (withBytes numberByte f n l)
-unfolding refusedAmong notZeroIn
+pub counted : (f : ℕ → Outcome (List ℕ)) (l : List ℕ) (n m : ℕ) → m ≤ n → n ≤ length l → textsRefused f m ≡ numbersNotZero m (withBytes refusalByte f n l)
+unfolding textsRefused numbersNotZero
 counted f l n zero h room = refl
 counted f l n (suc m) h room =
-    λ k. counted f l n m (omega arith) room k + cond (eqb (sym (byte-at numberByte f l n m (omega arith) room) k) 0) 0 1
+    λ k. counted f l n m (omega arith) room k + cond (eqb (sym (byte-at refusalByte f l n m (omega arith) room) k) 0) 0 1

@@ -13,8 +13,8 @@ use Rattle.leap_table.specs.rows.Table.{Row}
 use Rattle.leap_table.specs.rows.Announced.{unlessRefused}
 use Rattle.utc.specs.declared.run_texts.RunTextsAnswer.the-variants as Answer
 use Rattle.utc.specs.iso_texts.TextForm.{TextForm}
-use Rattle.utc.specs.run_texts.RunTexts.{stampText, refusedAmong, textsOutcome, textsCall, textsWritten, textsRefusal, textsBy, textsOfRun}
-use Rattle.utc.specs.run_texts.Asked.{Roomy, TextsPlaced}
+use Rattle.utc.specs.run_texts.RunTexts.{stampText, textsRefused, textsOutcome, textsCall, textsWritten, textsRefusal, textsBy, textsOfRun}
+use Rattle.utc.specs.run_texts.Asked.{RoomForTexts, TextsPlaced}
 use Rattle.utc.proofs.run_texts.Puts.{at-most}
 
 -- ---- the refusals, by the outcomes of the tests
@@ -121,7 +121,7 @@ module _ (textForm : TextForm) (rows : List Row) (js ks texts lengths numbers : 
     fits : Fitting (length js) (length ks) (length texts) (length lengths) (length numbers)
     fits = fitting (length js) (length ks) (length texts) (length lengths) (length numbers) (sym en ∙ z)
 
-    pub roomy : Roomy (length js / 8) js texts lengths numbers
+    pub roomy : RoomForTexts (length js / 8) js texts lengths numbers
     roomy = record {
       stamps = omega (arith, div-mul-le-self (length js) 8);
       places = fits .places;
@@ -147,7 +147,7 @@ run-count textForm rows js ks texts lengths numbers k e = go (eqb number 0) e
     go : (b : Bool) → answer k ≡ cond b (textsWritten (stampText textForm rows js ks) (length js / 8) texts lengths numbers)
         (textsCall (refusal number) texts lengths numbers) .answer → k ≤ length js / 8
     go true q =
-        let same : k ≡ refusedAmong (stampText textForm rows js ks) (length js / 8) = cc q in
+        let same : k ≡ textsRefused (stampText textForm rows js ks) (length js / 8) = cc q in
         omega (arith, same, at-most (stampText textForm rows js ks) (length js / 8))
     go false q = let z : _≡_ {A = ℕ} 0 1 = cc q in let w : ⊥ = omega arith in absurd w
 

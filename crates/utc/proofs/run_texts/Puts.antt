@@ -25,7 +25,7 @@ use Rattle.utc.specs.iso_texts.TextCall.{bufferHolds}
 use Rattle.utc.specs.iso_texts.ByRule.{textByRule, textByRuleOutcome, writtenByRule, TextRuleCall}
 use Rattle.utc.specs.iso_texts.Named.{formNamed}
 use Rattle.utc.specs.declared.run_texts.Beside.{Beside}
-use Rattle.utc.specs.run_texts.RunTexts.{stampText, lengthByte, numberByte, withText, withTexts, withBytes, refusedAmong}
+use Rattle.utc.specs.run_texts.RunTexts.{stampText, lengthByte, refusalByte, withText, withTexts, withBytes, textsRefused}
 use Rattle.utc.specs.run_texts.Asked.{TextPlaced, TextsPlaced}
 use Rattle.utc.proofs.iso_texts.TextRules.{text-forgets}
 use Rattle.utc.proofs.laws.NamedTexts.{named-text-few}
@@ -96,7 +96,7 @@ beside-written (Written m rule′) n rule h e =
 module _ (l : List ℕ) (i : ℕ) (h : 27 * i + 27 ≤ length l) where
   pub text-placed : (o : Outcome (List ℕ × Rule)) (r : TextByRule) (out : List ℕ) → ((t : List ℕ) → forget o ≡ answer t → length t ≤ 27)
       → TextRuleCall o (midOf (27 * i) 27 l) r out → TextPlaced (forget o) i l (besideOf r) (putMid (27 * i) 27 l out)
-  unfolding writtenByRule withRule textWritten bufferHolds forget onward lengthByte numberByte withText
+  unfolding writtenByRule withRule textWritten bufferHolds forget onward lengthByte refusalByte withText
   text-placed (refusal k) r out few p =
       let e = beside-refused r k (p .says) in
       record {
@@ -121,10 +121,10 @@ one-at-most : (b : Bool) → cond b 0 1 ≤ 1
 one-at-most true = omega arith
 one-at-most false = omega arith
 
-pub at-most : (f : ℕ → Outcome (List ℕ)) (n : ℕ) → refusedAmong f n ≤ n
-unfolding refusedAmong
+pub at-most : (f : ℕ → Outcome (List ℕ)) (n : ℕ) → textsRefused f n ≤ n
+unfolding textsRefused
 at-most f zero = omega arith
-at-most f (suc n) = omega (arith, at-most f n, one-at-most (eqb (numberByte (f n)) 0))
+at-most f (suc n) = omega (arith, at-most f n, one-at-most (eqb (refusalByte (f n)) 0))
 
 -- i stamps of n are put
 pub record Putting (f : ℕ → Outcome (List ℕ)) (n : ℕ) (texts₀ lengths₀ numbers₀ texts lengths numbers : List ℕ) (refused i : ℕ) : Type 0 where
@@ -133,7 +133,7 @@ pub record Putting (f : ℕ → Outcome (List ℕ)) (n : ℕ) (texts₀ lengths�
 
 module _ (f : ℕ → Outcome (List ℕ)) (n : ℕ) (texts₀ lengths₀ numbers₀ : List ℕ) where
   pub putting-starts : Putting f n texts₀ lengths₀ numbers₀ texts₀ lengths₀ numbers₀ 0 0
-  unfolding withTexts withBytes refusedAmong
+  unfolding withTexts withBytes textsRefused
   putting-starts = record { high = omega arith; put = record { count = refl; first = refl; second = refl; third = refl } }
 
   module _ (texts lengths numbers : List ℕ) (refused i : ℕ) (p : Putting f n texts₀ lengths₀ numbers₀ texts lengths numbers refused i) where
@@ -144,14 +144,14 @@ module _ (f : ℕ → Outcome (List ℕ)) (n : ℕ) (texts₀ lengths₀ numbers
     len2 = ap length (p .put .second) ∙ bytes-kept lengthByte f i lengths₀
 
     pub len3 : length numbers ≡ length numbers₀
-    len3 = ap length (p .put .third) ∙ bytes-kept numberByte f i numbers₀
+    len3 = ap length (p .put .third) ∙ bytes-kept refusalByte f i numbers₀
 
     pub few : refused ≤ i
     few = omega (arith, p .put .count, at-most f i)
 
     pub putting-goes : (texts' : List ℕ) (r : Beside) (one : ℕ) → i < n → TextPlaced (f i) i texts r texts' → one ≡ cond (eqb (r .number) 0) 0 1
         → Putting f n texts₀ lengths₀ numbers₀ texts' (set lengths i (r .length)) (set numbers i (r .number)) (refused + one) (i + 1)
-    unfolding withTexts withBytes refusedAmong
+    unfolding withTexts withBytes textsRefused
     putting-goes texts' r one h s e =
         subst (λ (j : ℕ). Putting f n texts₀ lengths₀ numbers₀ texts' (set lengths i (r .length)) (set numbers i (r .number)) (refused + one) j)
         (sym (add-one i))

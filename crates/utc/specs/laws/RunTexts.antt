@@ -23,19 +23,19 @@ pub record TextDone (o : Outcome (List ℕ)) (i : ℕ) (texts : List ℕ) (c : T
   pub stays : (n : ℕ) → o ≡ refusal n → (k : ℕ) → k < 27 → getD (c .texts) (27 * i + k) 0 ≡ getD texts (27 * i + k) 0
 
 -- what lies behind the places of n stamps is as it was
-pub record SpareStays (n : ℕ) (texts lengths numbers : List ℕ) (c : TextsCall) : Type 0 where
+pub record BehindStays (n : ℕ) (texts lengths numbers : List ℕ) (c : TextsCall) : Type 0 where
   pub first : (j : ℕ) → 27 * n ≤ j → getD (c .texts) j 0 ≡ getD texts j 0
   pub second : (j : ℕ) → n ≤ j → getD (c .lengths) j 0 ≡ getD lengths j 0
   pub third : (j : ℕ) → n ≤ j → getD (c .numbers) j 0 ≡ getD numbers j 0
 
 -- how many of the first n numbers are not 0
-unfoldable pub notZeroIn : ℕ → List ℕ → ℕ
-notZeroIn zero l = 0
-notZeroIn (suc n) l = notZeroIn n l + cond (eqb (getD l n 0) 0) 0 1
+unfoldable pub numbersNotZero : ℕ → List ℕ → ℕ
+numbersNotZero zero l = 0
+numbersNotZero (suc n) l = numbersNotZero n l + cond (eqb (getD l n 0) 0) 0 1
 
 -- a part of the stamp at place i has the exponent field all ones: an infinity or a NaN of any sign and payload (IEEE 754)
-abbrev pub StampNotFinite : List ℕ → List ℕ → ℕ → Type 0
-StampNotFinite js ks i = (exponentField (u64At js (8 * i)) ≡ 2047) ⊎ (exponentField (u64At ks (8 * i)) ≡ 2047)
+abbrev pub StampPartNotFinite : List ℕ → List ℕ → ℕ → Type 0
+StampPartNotFinite js ks i = (exponentField (u64At js (8 * i)) ≡ 2047) ⊎ (exponentField (u64At ks (8 * i)) ≡ 2047)
 
 -- the lengths in bytes with which a call on n stamps is answered
 pub record TextsDue (n size1 size2 room1 room2 room3 : ℕ) : Type 0 where

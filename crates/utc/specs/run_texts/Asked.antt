@@ -5,10 +5,10 @@ use mathlib.Core.List.{List}
 use lib.ListN.{length}
 use Rattle.refusals.specs.Outcome.{Outcome}
 use Rattle.utc.specs.declared.run_texts.Beside.{Beside}
-use Rattle.utc.specs.run_texts.RunTexts.{lengthByte, numberByte, withText, withTexts, withBytes, refusedAmong}
+use Rattle.utc.specs.run_texts.RunTexts.{lengthByte, refusalByte, withText, withTexts, withBytes, textsRefused}
 
 -- n stamps are there, and places for them
-pub record Roomy (n : ℕ) (js texts lengths numbers : List ℕ) : Type 0 where
+pub record RoomForTexts (n : ℕ) (js texts lengths numbers : List ℕ) : Type 0 where
   pub stamps : 8 * n ≤ length js
   pub places : 27 * n ≤ length texts
   pub bytes : n ≤ length lengths
@@ -17,12 +17,12 @@ pub record Roomy (n : ℕ) (js texts lengths numbers : List ℕ) : Type 0 where
 -- the text o of stamp i is put: r has its length and its number
 pub record TextPlaced (o : Outcome (List ℕ)) (i : ℕ) (texts : List ℕ) (r : Beside) (texts' : List ℕ) : Type 0 where
   pub length : r .length ≡ lengthByte o
-  pub number : r .number ≡ numberByte o
+  pub number : r .number ≡ refusalByte o
   pub text : texts' ≡ withText o i texts
 
 -- the texts f 0, f 1, .. of n stamps are put, r of them refused
 pub record TextsPlaced (f : ℕ → Outcome (List ℕ)) (n : ℕ) (texts lengths numbers : List ℕ) (r : ℕ) (texts' lengths' numbers' : List ℕ) : Type 0 where
-  pub count : r ≡ refusedAmong f n
+  pub count : r ≡ textsRefused f n
   pub first : texts' ≡ withTexts f n texts
   pub second : lengths' ≡ withBytes lengthByte f n lengths
-  pub third : numbers' ≡ withBytes numberByte f n numbers
+  pub third : numbers' ≡ withBytes refusalByte f n numbers

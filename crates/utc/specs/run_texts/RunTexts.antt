@@ -1,6 +1,6 @@
 -- The texts of a run of UTC dates in one call: what is answered and what the three lent slices hold. Each text is the single call's: document 01's, "UTC text",
--- or one of document 02's items 4 and 6. This project's own, for the customer's nine million stamps of one recorder: texts at equal distances of 27 bytes, which
--- is the longest text. Refusals by documents 01's and 02's numbers: 14 a broken length, 12 sizes that differ, 11 too few places. Assumes nothing.
+-- or one of document 02's items 4 and 6. This project's own, for the customer's nine million stamps of one recorder: texts at equal distances of 27 bytes, the
+-- length of the longest text. Refusals by documents 01's and 02's numbers: 14 a broken length, 12 sizes that differ, 11 too few places. Assumes nothing.
 use Prim.Native.Nat.{ℕ, zero, suc, _+_, _*_, _/_, _%_}
 use mathlib.Core.Bool.{cond, _&&_}
 use mathlib.Core.List.{List}
@@ -27,9 +27,9 @@ lengthByte (answer t) = length t
 lengthByte (refusal k) = 0
 
 -- its number in one byte: 0 where it is answered. The refusals of a text, 1 and 6, are below 256
-unfoldable pub numberByte : Outcome (List ℕ) → ℕ
-numberByte (answer t) = 0
-numberByte (refusal k) = k % 256
+unfoldable pub refusalByte : Outcome (List ℕ) → ℕ
+refusalByte (answer t) = 0
+refusalByte (refusal k) = k % 256
 
 -- its bytes from byte 27 i on; those behind it stay, and all of a refused one
 unfoldable pub withText : Outcome (List ℕ) → ℕ → List ℕ → List ℕ
@@ -48,9 +48,9 @@ withBytes byte f zero l = l
 withBytes byte f (suc k) l = set (withBytes byte f k l) k (byte (f k))
 
 -- how many are refused
-unfoldable pub refusedAmong : (ℕ → Outcome (List ℕ)) → ℕ → ℕ
-refusedAmong f zero = 0
-refusedAmong f (suc k) = refusedAmong f k + cond (eqb (numberByte (f k)) 0) 0 1
+unfoldable pub textsRefused : (ℕ → Outcome (List ℕ)) → ℕ → ℕ
+textsRefused f zero = 0
+textsRefused f (suc k) = textsRefused f k + cond (eqb (refusalByte (f k)) 0) 0 1
 
 -- ---- the call
 
@@ -71,7 +71,7 @@ textsCall o texts lengths numbers = record { answer = o; texts = texts; lengths 
 -- n stamps with these texts
 unfoldable pub textsWritten : (ℕ → Outcome (List ℕ)) → ℕ → List ℕ → List ℕ → List ℕ → TextsCall
 textsWritten f n texts lengths numbers =
-    textsCall (answer (refusedAmong f n)) (withTexts f n texts) (withBytes lengthByte f n lengths) (withBytes numberByte f n numbers)
+    textsCall (answer (textsRefused f n)) (withTexts f n texts) (withBytes lengthByte f n lengths) (withBytes refusalByte f n numbers)
 
 -- the refusal of the lengths in bytes: of the parts, and of the places for texts, lengths and numbers; 0 for none
 unfoldable pub textsRefusal : ℕ → ℕ → ℕ → ℕ → ℕ → ℕ
