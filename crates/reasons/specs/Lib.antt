@@ -3,3 +3,5 @@ pub mod Offending
 pub mod Sentence
 pub mod Widths
 pub mod sentences
+-- The words of the theorems: no contract cites them.
+pub mod Decision

@@ -61,13 +61,13 @@ bits n = ofBits binary64 n
 abbrev Gives : Twenty → JulianDate → JulianDate → Type 0
 Gives c d x = answerOfAny fixed c d ≡ answer x
 
--- a step of 0.1 s into 1964-04-01 is none: 6h of that day with DUT1 0.1 s
-abbrev april : Float → JulianDate
-april x = julian (decimal 24384865 1) x
+-- the step of 0.1 s into 1964-04-01 is none: 6h of the day before with DUT1 0.1 s
+abbrev march : Float → JulianDate
+march x = julian (decimal 24384855 1) x
 
-pub tenth-of-a-second : Gives (ut1-utc (decimal 1 1)) (april (decimal 25 2)) (april (bits 0x3fcf_fff6_4a7c_8c7a))
+pub tenth-of-a-second : Gives (ut1-utc (decimal 1 1)) (march (decimal 25 2)) (march (bits 0x3fcf_fff6_4a7c_8c7a))
 unfolding computed round ofBits
-tenth-of-a-second = as-computed fixed (ut1-utc (decimal 1 1)) (april (decimal 25 2))
+tenth-of-a-second = as-computed fixed (ut1-utc (decimal 1 1)) (march (decimal 25 2))
 
 -- noon of 1959-12-28, whose last day looked at is 1959-12-31: no step is found
 pub four-days-before : Gives (ut1-utc (decimal 25 2)) (julian (decimal 24369305 1) (decimal 5 1)) (julian (decimal 24369305 1) (bits 0x3fdf_fff3_dd1b_af99))
