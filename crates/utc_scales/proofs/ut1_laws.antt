@@ -5,3 +5,5 @@ pub mod Back
 pub mod RoundTrip
 pub mod Cases
 pub mod Limits
+pub mod Near
+pub mod NearLeap

@@ -23,10 +23,10 @@ pub record Since (z : Float) (n A : ℕ) : Type 0 where
   pub is : x + H ≡ n * L
 
 module _ {a : Float} {A : ℕ} (f : HalvesUp a A) where
-  k-high : f .k ≤ 10000001
+  pub k-high : f .k ≤ 10000001
   k-high = le-of-mul-le-mul-right {k = H} (le-trans (le-of-eq (sym (f .halves))) (f .high)) H-pos
 
-  halves-val : Val a (f .k) 0 2
+  pub halves-val : Val a (f .k) 0 2
   halves-val = val-unscale (f .k) 2 H H-pos (subst (λ (d : ℕ). Val a (f .k * H) 0 d) L-H (subst (λ (z : ℕ). Val a z 0 L) (f .halves) (f .val)))
 
   module _ (n : ℕ) (l : 2441318 ≤ n) (k : n ≤ 5000002) where

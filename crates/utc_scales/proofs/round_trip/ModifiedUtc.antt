@@ -69,7 +69,8 @@ in-all = omega (arith, L-h)
 in-back : dayPs * ((three + evaluation) * h) ≤ 86400 * (1257422 * L)
 in-back = subst (λ (z : ℕ). dayPs * ((three + evaluation) * h) ≤ 86400 * (1257422 * z)) (sym L-h) (go h (mul-le-mul-right h (lit≤ tt)))
   where
-    go : (k : ℕ) → 978552947952000000000000000 * k ≤ 978553483311881748322713600 * k → dayPs * ((three + evaluation) * k) ≤ 86400 * (1257422 * (9007199254740992 * k))
+    go : (k : ℕ) → 978552947952000000000000000 * k ≤ 978553483311881748322713600 * k
+        → dayPs * ((three + evaluation) * k) ≤ 86400 * (1257422 * (9007199254740992 * k))
     go k l = omega arith
 
 back-in : (X Y : ℕ) → 86400 * X ≤ 86400 * Y + (three + evaluation) * h → dayPs * X ≤ dayPs * Y + 1257422 * L

@@ -65,16 +65,16 @@ unfolding h
 units-8 = refl
 
 module _ {a u : Float} {A up un : ℕ} (v : FirstPart a A) (w : SecondPart u up un) (i : ℤ) (ip : plusZ i ≤ 3) (im : minusZ i ≤ 1) where
-  abbrev there : Float
+  abbrev pub there : Float
   there = add binary64 u (ofInt binary64 i)
 
-  ahead : plusZ i * L ≤ 3 * L
+  pub ahead : plusZ i * L ≤ 3 * L
   ahead = mul-le-mul-right L ip
 
-  behind : minusZ i * L ≤ 1 * L
+  pub behind : minusZ i * L ≤ 1 * L
   behind = mul-le-mul-right L im
 
-  moved : ValClose L there (up + plusZ i * L) (un + minusZ i * L) (4 * h)
+  pub moved : ValClose L there (up + plusZ i * L) (un + minusZ i * L) (4 * h)
   moved =
       let s =
       add-near 1024 (lit≤ tt)
@@ -98,7 +98,7 @@ module _ {a u : Float} {A up un : ℕ} (v : FirstPart a A) (w : SecondPart u up 
       part : (x y z : ℕ) → z ≡ 8 * h → 2 * x ≤ 2 * y + z → x ≤ y + 4 * h
       part x y z e k = omega arith
 
-  near : Around a there A (moved .p) (moved .n)
+  pub near : Around a there A (moved .p) (moved .n)
   near = record {
     held1 = v .held;
     held2 = add-fits binary64 _ _;
@@ -124,7 +124,7 @@ module _ {a u : Float} {A up un : ℕ} (v : FirstPart a A) (w : SecondPart u up 
       high p n q m k e = omega (arith, w .over, v .high, h-small, L-H, L-pos)
 
   -- the day that the calendar finds for it
-  abbrev spot : CalendarNear a there A (moved .p) (moved .n)
+  abbrev pub spot : CalendarNear a there A (moved .p) (moved .n)
   spot = placed near
 
   day-high : spot .n < 1000000000
@@ -138,7 +138,7 @@ module _ {a u : Float} {A up un : ℕ} (v : FirstPart a A) (w : SecondPart u up 
 
   -- TAI-UTC on it
   module _ {rows : List Row} (b : WholeTable rows) {D : ℕ} (f : FoundWith rows D (julian a u) i) where
-    same-day : spot .n ≡ f .n
+    pub same-day : spot .n ≡ f .n
     same-day = same (dayOf a there .day) (spot .n) (f .n) (spot .day) (f .day)
       where
         same : (z : ℤ) (n m : ℕ) → z ≡ pos n → z ≡ pos m → n ≡ m
@@ -147,10 +147,10 @@ module _ {a u : Float} {A up un : ℕ} (v : FirstPart a A) (w : SecondPart u up 
     f-high : f .n < 1000000000
     f-high = subst (λ (n : ℕ). n < 1000000000) same-day day-high
 
-    few : D ≤ mostSeconds
+    pub few : D ≤ mostSeconds
     few = omega (arith, b .whole (f .n) (f .from) f-high .most, f .seconds)
 
-    offset-is : offsetAt0h rows (gregorianDate (dayOf a there .day)) ≡ answer (wholeF D)
+    pub offset-is : offsetAt0h rows (gregorianDate (dayOf a there .day)) ≡ answer (wholeF D)
     offset-is =
         ap (λ (z : ℤ). offsetAt0h rows (gregorianDate z)) (f .day)
         ∙ offsets-first rows (gregorianDate (pos (f .n)))
@@ -159,7 +159,7 @@ module _ {a u : Float} {A up un : ℕ} (v : FirstPart a A) (w : SecondPart u up 
         ∙ ap (λ (s : ℕ). answer (wholeF s)) (f .seconds)
 
 -- ---- no step from a day to the next, where both have D seconds
-level : (D : ℕ) → D ≤ mostSeconds → lt (abs (sub binary64 (wholeF D) (wholeF D))) half ≡ true
+pub level : (D : ℕ) → D ≤ mostSeconds → lt (abs (sub binary64 (wholeF D) (wholeF D))) half ≡ true
 level D g =
     let s = sum-near 0 (lit≤ tt) (some (D * L) (2 ^ (53 + 0)) (lit< tt)) (some' (D * L) (2 ^ (53 + 0)) (lit< tt))
     (sub-rounds binary64 L-pos (seconds-val D g) (seconds-val D g)) in
@@ -190,7 +190,7 @@ pub record Less (z : Float) (up un x y : ℕ) : Type 0 where
   pub over : 86400 * (p + un) + x ≤ 86400 * (n + up) + y + 86485 * h
   pub under : 86400 * (n + up) + y ≤ 86400 * (p + un) + x + 86485 * h
 
-pub less-dut1 : {u c : Float} {up un x y : ℕ} → SecondPart u up un → Val c x y L → x ≤ y + L → y ≤ x + L
+pub less-dut1 : {u c : Float} {up un x y : ℕ} → SecondPart u up un → Val c x y L → x ≤ y + 2 * L → y ≤ x + 2 * L
     → Less (sub binary64 u (div binary64 c secondsPerDay)) up un x y
 less-dut1 {u} {c} {up} {un} {x} {y} w vc hx hy =
     let q = div-near 1012 86400 (lit< tt) (lit≤ tt) (room x y (2 ^ (53 + 1012)) size-q hx) (room y x (2 ^ (53 + 1012)) size-q hy) vc day-val in
@@ -205,7 +205,7 @@ less-dut1 {u} {c} {up} {un} {x} {y} w vc hx hy =
           end (r .n) (r .p) un up (q .n) (q .p) y x (2 ^ 1012) unit-q (r .under) (q .over);
     }
   where
-    room : (x y z : ℕ) → 512 * z ≡ L → x ≤ y + L → x < y + z * 86400
+    room : (x y z : ℕ) → 512 * z ≡ L → x ≤ y + 2 * L → x < y + z * 86400
     room x y z e k = omega (arith, L-pos)
 
     high : (p n z : ℕ) → 512 * z ≡ h → 2 * (86400 * n + 1 * x) ≤ 2 * (86400 * p + 1 * y) + 86400 * z → up + n + (0 + 0) < un + p + 2 * L
@@ -271,7 +271,7 @@ module _ {rows : List Row} (b : WholeTable rows) {a u : Float} {A up un : ℕ} (
 
     right : RightUtcOfUt1 rows utcPs (julian a u) c
     right =
-        let r = less-dut1 w vc hx hy in
+        let r = less-dut1 w vc (omega (arith, hx)) (omega (arith, hy)) in
         record {
           x = x;
           y = y;

@@ -91,7 +91,7 @@ module _ {rows : List Row} (b : WholeTable rows) {a u : Float} {A up un : ℕ} (
   w = record { held = hold; val = val; over = wide up un hu; under = wide un up lu }
 
   r : Less (sub binary64 u (div binary64 c secondsPerDay)) up un x y
-  r = less-dut1 w vc hx hy
+  r = less-dut1 w vc (omega (arith, hx)) (omega (arith, hy))
 
   w' : SecondPart (sub binary64 u (div binary64 c secondsPerDay)) (r .p) (r .n)
   w' = utc-part u c hu lu hx hy r
