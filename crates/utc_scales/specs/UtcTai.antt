@@ -5,8 +5,9 @@
 -- fraction times (86400 + leap) / 86400, then times (86400 + drift) / 86400; from the two parts of the date's midnight z: z1 less big, plus z2, plus the sum
 -- of the stretched fraction and TAI-UTC at 0h in days. That is the new smaller part.
 -- iauTaiutc: the guess is the smaller part of TAI; three times, the guess with big through iauUtctai, and the guess plus (big less the larger part that comes
--- out), plus (small less the smaller part that comes out). SOFA finds the next date from big + 1.5 and the smaller part less the fraction, here it is the date
--- that the calendar names next: the same one for parts below 2 ^ 52 in size (docs/DIFFERENCES.md, 31). Assumes nothing.
+-- out), plus (small less the smaller part that comes out).
+-- SOFA finds the next date from big + 1.5 and the smaller part less the fraction, here it is the date that the calendar names next: the same one for parts
+-- below 2 ^ 52 in size (docs/DIFFERENCES.md, 31). Assumes nothing.
 use Prim.Native.Nat.{ℕ, zero, suc}
 use mathlib.Core.List.{List}
 use lib.Ieee.{Float, binary64, add, sub, mul, div}
