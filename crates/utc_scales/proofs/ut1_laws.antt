@@ -7,3 +7,4 @@ pub mod Cases
 pub mod Limits
 pub mod Near
 pub mod NearLeap
+pub mod NearCases

@@ -32,8 +32,19 @@ use Rattle.leap_table.specs.offsets.Offset.{wholeF}
 use Rattle.leap_days.proofs.drift.Tests.{each, sameF, same-float}
 use Rattle.utc_scales.specs.days.Dates.{offsetOfDate}
 use Rattle.utc_scales.specs.days.LargerPart.{firstIsKept}
-use Rattle.utc_scales.specs.from_ut1.Ut1Utc.{noStep, step, scanDay, scan, beforeStep, afterStep, timePastLeap, nearStep, adjustDut1, utcFraction,
-    ut1ToUtc}
+use Rattle.utc_scales.specs.from_ut1.Ut1Utc.{
+  noStep,
+  step,
+  scanDay,
+  scan,
+  beforeStep,
+  afterStep,
+  timePastLeap,
+  nearStep,
+  adjustDut1,
+  utcFraction,
+  ut1ToUtc,
+}
 use Rattle.utc_scales.specs.round_trip.UtcDays.{H}
 use Rattle.utc_scales.specs.round_trip.Ranges.{HalfDaySplit}
 use Rattle.utc_scales.specs.ut1_laws.Near.{LeapFound, nearPs, RightUtcNear}
