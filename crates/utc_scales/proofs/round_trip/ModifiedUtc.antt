@@ -3,14 +3,13 @@
 -- moved without a rounding, and the only coarse one is that of UTC to TAI. Assumes nothing.
 use mathlib.Core.Path.{_≡_, refl, sym, ap, _∙_, subst}
 use mathlib.Core.List.{List}
-use mathlib.Core.Logic.{_⊎_, inl, inr}
 use Prim.Native.Nat.{ℕ, _+_, _-_, _*_, _^_, _/_, _≤_}
 use native.Mathlib.Nat.{add-mul, zero-mul, mul-le-mul-right, le-of-mul-le-mul-right, le-trans, le-of-eq}
 use native.Mathlib.Omega.{arith}
 use native.Mathlib.Decide.{decLe}
 use lib.Dec.{T, lit≤}
 use lib.Pow.{pow-pos}
-use lib.Ieee.{Float, binary64, fits, add, sub}
+use lib.Ieee.{Float, binary64, fits}
 use lib.Ieee.Fits.{add-fits}
 use Rattle.refusals.specs.Outcome.{answer}
 use Rattle.refusals.proofs.Onward.{went}
@@ -32,7 +31,7 @@ use Rattle.utc_scales.specs.round_trip.Ranges.{ModifiedSplit}
 use Rattle.utc_scales.specs.round_trip.UtcDays.{H, ExactDay}
 use Rattle.utc_scales.specs.round_trip.Relation.{RightUtc}
 use Rattle.utc_scales.specs.round_trip.RoundTrip.{ThereAndBack}
-use Rattle.utc_scales.proofs.round_trip.Units.{h, L-H, L-h, h-pos, h-small}
+use Rattle.utc_scales.proofs.round_trip.Units.{h, L-H, L-h}
 use Rattle.utc_scales.proofs.round_trip.Parts.{parts-joined}
 use Rattle.utc_scales.proofs.round_trip.DaySeconds.{WholeTable, table-whole, fixed-whole}
 use Rattle.utc_scales.proofs.round_trip.Steady.{few-seconds}

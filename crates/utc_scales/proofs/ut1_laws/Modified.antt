@@ -29,7 +29,7 @@ use Rattle.utc_scales.proofs.round_trip.Units.{h, L-H, L-h}
 use Rattle.utc_scales.proofs.round_trip.DaySeconds.{WholeTable, table-whole, fixed-whole}
 use Rattle.utc_scales.proofs.round_trip.Steady.{few-seconds}
 use Rattle.utc_scales.proofs.round_trip.Evaluated.{SeenTo}
-use Rattle.utc_scales.proofs.round_trip.Modified.{ModifiedPart, add-coarse, modified-seen, modified-size, from-1972, zero-point, modified-part}
+use Rattle.utc_scales.proofs.round_trip.Modified.{add-coarse, modified-seen, modified-size, from-1972, zero-point, modified-part}
 use Rattle.utc_scales.proofs.ut1_laws.Ut1.{SumsTo, ut1-right}
 
 -- all roundings, in picoseconds

@@ -1,14 +1,13 @@
 -- UT1 TO UTC ABOUT A LEAP SECOND that is inserted, by a DUT1 whose sign fits it: to 17 ps. Assumes nothing.
-use mathlib.Core.Path.{_≡_, refl, sym, ap, _∙_, subst, subst₂}
-use mathlib.Core.Bool.{Bool, true, false, cond, _&&_}
-use mathlib.Core.List.{List}
-use Prim.Native.Nat.{ℕ, zero, suc, _+_, _-_, _*_, _^_, _≤_, _<_}
-use native.Mathlib.Nat.{add-mul, zero-mul, one-mul, mul-le-mul-right}
+use mathlib.Core.Path.{_≡_, refl, sym, ap, _∙_, subst}
+use mathlib.Core.Bool.{Bool, true, false, cond}
+use Prim.Native.Nat.{ℕ, suc, _+_, _-_, _*_, _^_, _≤_, _<_}
+use native.Mathlib.Nat.{add-mul, one-mul, mul-le-mul-right}
 use native.Mathlib.Omega.{arith}
 use lib.Dec.{T, lit≤, lit<}
-use lib.IntN.{ℤ, pos, negsuc, _-ℤ_}
-use lib.Ieee.{Float, binary64, round, add, sub, mul, div, ofInt, fits, le, lt}
-use lib.Ieee.Fits.{div-fits, add-fits}
+use lib.IntN.{ℤ, pos, _-ℤ_}
+use lib.Ieee.{Float, binary64, round, add, sub, mul, div, ofInt, fits, lt}
+use lib.Ieee.Fits.{div-fits}
 use Rattle.floats.specs.Whole.{nought, one}
 use Rattle.constants.specs.Constants.{secondsPerDay, mjdZeroPoint}
 use Rattle.rounding.specs.Value.{Val, Rounds, L, plusZ, minusZ}
@@ -19,16 +18,13 @@ use Rattle.rounding.proofs.Exact.{sub-exact}
 use Rattle.rounding.proofs.Near.{NearSum, add-near, sub-near}
 use Rattle.rounding.proofs.Scaled.{Scaled, mul-near, div-near}
 use Rattle.rounding.proofs.Sizes.{whole-val}
-use Rattle.rounding.proofs.Chain.{ValClose}
 use Rattle.julian.proofs.Midnights.{zero-point-val}
 use Rattle.julian.proofs.day_number.Units.{one-L, nought-L}
 use Rattle.julian.proofs.day_order.Once.{again}
 use Rattle.julian.proofs.laws.UnixTime.{day-val}
-use Rattle.julian.specs.JulianDate.{julian}
-use Rattle.utc_scales.specs.from_ut1.Ut1Utc.{timePastLeap, atMostOne, afterStep}
+use Rattle.utc_scales.specs.from_ut1.Ut1Utc.{atMostOne, afterStep}
 use Rattle.utc_scales.specs.round_trip.UtcDays.{H}
-use Rattle.utc_scales.proofs.days.Midnights.{midnightOfDay}
-use Rattle.utc_scales.proofs.round_trip.Units.{h, L-H, L-h, h-small, h-pos, next-midnight, add-close}
+use Rattle.utc_scales.proofs.round_trip.Units.{h, L-H, L-h, h-small, h-pos, add-close}
 use Rattle.utc_scales.proofs.round_trip.Parts.{FirstPart, half-days}
 use Rattle.utc_scales.proofs.round_trip.Midnight.{halves-val, k-high}
 use Rattle.utc_scales.proofs.ut1_laws.Ut1.{size-q, unit-q}

@@ -2,13 +2,12 @@
 use mathlib.Core.Path.{_≡_, refl, sym, ap, _∙_, subst}
 use mathlib.Core.Bool.{false}
 use Prim.Native.Nat.{ℕ, zero, suc, _+_, _-_, _*_, _^_, _≤_, _<_}
-use native.Mathlib.Nat.{lt-of-mul-lt-mul-right, add-mul, zero-mul}
+use native.Mathlib.Nat.{lt-of-mul-lt-mul-right, add-mul}
 use native.Mathlib.Omega.{arith}
-use lib.Dec.{T, lit≤, lit<}
+use lib.Dec.{lit≤}
 use lib.IntN.{ℤ, pos, negsuc}
-use lib.Ieee.{Float, fin, binary64, fits, le, lt, eq}
+use lib.Ieee.{Float, fin, fits}
 use Rattle.refusals.specs.Outcome.{onward}
-use Rattle.floats.specs.Whole.{abs}
 use Rattle.rounding.specs.Value.{Val, L, plusZ, minusZ}
 use Rattle.rounding.proofs.Value.{L-pos}
 use Rattle.calendar.specs.Calendar.{date, dateOf, leapSize, lengths, daysInMonth}
@@ -20,7 +19,7 @@ use Rattle.leap_table.specs.rows.Table.{fixed, reached, monthNumber}
 use Rattle.utc_scales.specs.round_trip.UtcDays.{H, secondsOn}
 use Rattle.utc_scales.specs.ut1_laws.Back.{FoundWith}
 use Rattle.utc_scales.specs.ut1_laws.Near.{LeapFound}
-use Rattle.utc_scales.proofs.round_trip.Units.{h, L-H, L-h, h-small, in-units}
+use Rattle.utc_scales.proofs.round_trip.Units.{h, L-H, h-small, in-units}
 use Rattle.utc_scales.proofs.round_trip.Parts.{FirstPart, SecondPart}
 use Rattle.utc_scales.proofs.round_trip.DaySeconds.{date-of}
 use Rattle.utc_scales.proofs.round_trip.Cases.{seconds-of, thirty-six, thirty-seven}

@@ -1,19 +1,19 @@
 -- UT1 TO UTC ABOUT A LEAP SECOND that is inserted: the answer is the exact relation's to 17 ps, by the DUT1 before the leap second, which is DUT1 itself or,
 -- where that is not below 0, DUT1 less the leap second. Assumes nothing.
-use mathlib.Core.Path.{_≡_, refl, sym, ap, _∙_, subst}
+use mathlib.Core.Path.{_≡_, refl, ap, _∙_, subst}
 use mathlib.Core.Bool.{Bool, true, false, cond, _&&_}
 use mathlib.Core.List.{List}
 use Prim.Native.Nat.{ℕ, zero, suc, _+_, _-_, _*_, _≤_, _<_}
 use native.Mathlib.Nat.{zero-mul}
 use native.Mathlib.Omega.{arith}
-use lib.Dec.{T, lit≤, lit<}
-use lib.IntN.{ℤ, pos, negsuc}
+use lib.Dec.{T, lit≤}
+use lib.IntN.{pos, negsuc}
 use lib.Ieee.{Float, binary64, round, add, sub, mul, div, ofInt, fits, le, lt, eq}
 use Rattle.refusals.specs.Outcome.{answer, refusal}
 use Rattle.refusals.proofs.Onward.{went}
 use Rattle.floats.specs.Whole.{abs, nought, one, half}
 use Rattle.constants.specs.Constants.{secondsPerDay}
-use Rattle.rounding.specs.Value.{Val, L, plusZ, minusZ}
+use Rattle.rounding.specs.Value.{Val, L}
 use Rattle.rounding.specs.Picoseconds.{dayPs}
 use Rattle.rounding.proofs.Value.{L-pos, val-finite-true}
 use Rattle.rounding.proofs.Compare.{le-true, le-false}
@@ -51,13 +51,13 @@ use Rattle.utc_scales.specs.ut1_laws.Near.{LeapFound, nearPs, RightUtcNe
 use Rattle.utc_scales.proofs.days.Steps.{offset-of-day}
 use Rattle.utc_scales.proofs.days.Midnights.{midnightOfDay}
 use Rattle.utc_scales.proofs.from_ut1.Steps.{scan-no-step, scan-step, scan-on, scan-ends}
-use Rattle.utc_scales.proofs.round_trip.Units.{h, L-H, L-h, h-small, h-pos, adds, next-midnight}
+use Rattle.utc_scales.proofs.round_trip.Units.{h, L-H, L-h, h-small, adds, next-midnight}
 use Rattle.utc_scales.proofs.round_trip.Parts.{FirstPart, SecondPart, parts-joined, first-part}
 use Rattle.utc_scales.proofs.round_trip.Kept.{first-larger, kept-changed}
 use Rattle.utc_scales.proofs.round_trip.DaySeconds.{WholeTable, table-whole, fixed-whole}
-use Rattle.utc_scales.proofs.ut1_laws.Back.{there, ahead, behind, spot, few, offset-is, same-day, level, less-dut1, Less}
+use Rattle.utc_scales.proofs.ut1_laws.Back.{ahead, spot, few, offset-is, same-day, level, less-dut1, Less}
 use Rattle.utc_scales.proofs.ut1_laws.Back.{moved as shifted}
-use Rattle.utc_scales.proofs.ut1_laws.Near.{Adjusted, adjusted, past, one-times}
+use Rattle.utc_scales.proofs.ut1_laws.Near.{Adjusted, adjusted, one-times}
 
 -- ---- a second more: 1.0, and that is a step
 moreTest : ℕ → Bool
