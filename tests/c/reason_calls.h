@@ -59,8 +59,8 @@ static void reason_listing(void)
     check(ct_reason_listing_part(block, 40, 40, 0, ct_no_rows, CT_TABLE_BYTES - 1, got, 0) == -14, "the table before 11");
 }
 
-/* The second listing by lent rows, as listing_calls has the first: the last second of 2049 is shown with a row and not without one, in a buffer of each length, and a
-   refused table lists nothing, before the block is read. */
+/* The second listing by lent rows, as listing_calls has the first: the last second of 2049 is shown with a row and not without one, in a buffer of each
+   length, and a refused table lists nothing, before the block is read. */
 enum { LONG_ROOM = REASON_ROOM + 16 };
 
 static void second_listing(const char *due, int64_t number, const uint8_t *block, size_t length, const uint8_t *rows, size_t rows_len)
@@ -73,8 +73,8 @@ static void second_listing(const char *due, int64_t number, const uint8_t *block
         memset(wants, UNTOUCHED, sizeof wants);
         if (!refused) memcpy(wants, due, strlen(due));
         code = ct_reason_listing_part(block, length, length, 1, rows, rows_len, got, space);
-        check(code == (refused ? -refused : (int64_t)strlen(due)) && !memcmp(got, wants, sizeof got), "second listing with %d bytes lent, in place of %s or %ld the code %ld",
-              (int)space, due, (long)-refused, (long)code);
+        check(code == (refused ? -refused : (int64_t)strlen(due)), "second listing with %d bytes lent says %ld, not %ld", (int)space, (long)code, (long)-refused);
+        check(!memcmp(got, wants, sizeof got), "second listing with %d bytes lent leaves other bytes", (int)space);
     }
 }
 
@@ -86,7 +86,7 @@ static size_t line_length(const uint8_t *part, int64_t n)
     return i;
 }
 
-/* Every line with a text is that of the first listing, by whatever table: stamps of the last seconds of the years about the lent rows, one in eight not finite. */
+/* Every line with a text is that of the first listing, by whatever table: stamps of the last seconds of years about the lent rows, one in eight not finite. */
 static void same_lines(void)
 {
     enum { STAMPS = 40, LENGTH = 8 + 16 * STAMPS };
@@ -101,7 +101,8 @@ static void same_lines(void)
         }
     }
     for (line = 1; line <= STAMPS; line++) {
-        int64_t a = ct_listing_part(block, LENGTH, line, LENT, first, sizeof first), b = ct_reason_listing_part(block, LENGTH, LENGTH, line, LENT, second, sizeof second);
+        int64_t a = ct_listing_part(block, LENGTH, line, LENT, first, sizeof first);
+        int64_t b = ct_reason_listing_part(block, LENGTH, LENGTH, line, LENT, second, sizeof second);
         size_t n = line_length(first, a);
         first[n] = 0;
         if (strstr((char *)first, " refused ")) continue;

@@ -84,5 +84,5 @@ lines-shared n table s rows taken stamps i block there t text room enough first 
 
 -- a table of no bytes is 14 in both
 pub no-table : (firstListing [] [] 0 64 ≡ refusal 14) × (secondListing 0 [] [] 0 64 ≡ refusal 14)
-unfolding onward tableBytes ofLength
+unfolding onward tableBytes ofLength listingPart lineRoom
 no-table = (refl, refl)

@@ -42,7 +42,8 @@ module _ (n out tails ranks : ℕ) where
 
   each-room : RoomEach n out tails ranks → n ≤ leastRoom out tails ranks / 4
   each-room r =
-      let m : 4 * n ≤ leastRoom out tails ranks = below-both out (smaller tails ranks) (4 * n) (r .places) (below-both tails ranks (4 * n) (r .work1) (r .work2)) in
+      let w : 4 * n ≤ smaller tails ranks = below-both tails ranks (4 * n) (r .work1) (r .work2) in
+      let m : 4 * n ≤ leastRoom out tails ranks = below-both out (smaller tails ranks) (4 * n) (r .places) w in
       omega arith
 
 -- ---- THE ORDER OF THE REFUSALS, and what is left

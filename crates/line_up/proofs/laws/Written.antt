@@ -1,5 +1,5 @@
--- STAMPS AND PLACES, EACH AT ITS OWN BYTES: of parts that are written number by number stamp i has the i-th patterns, and the four bytes from 4 i on read back as
--- the i-th place of the order, so that each reading gets its own stamp. Assumes nothing.
+-- STAMPS AND PLACES, EACH AT ITS OWN BYTES: of parts that are written number by number stamp i has the i-th patterns, and the four bytes from 4 i on read back
+-- as the i-th place of the order, so that each reading gets its own stamp. Assumes nothing.
 use Prim.Native.Nat.{ℕ, zero, suc, _+_, _*_, _<_, _≤_}
 use native.Mathlib.Omega.{arith}
 use mathlib.Core.Path.{_≡_, refl, sym, ap, subst, _∙_}

@@ -1,5 +1,5 @@
--- EACH STAMP AND EACH OFFSET AT ITS OWN BYTES: of parts and offsets that are written number by number stamp i has the i-th patterns and is converted by the i-th
--- offset, in a run from scale to scale and in a run by a formula. Assumes nothing.
+-- EACH STAMP AND EACH OFFSET AT ITS OWN BYTES: of parts and offsets that are written number by number stamp i has the i-th patterns and is converted by the
+-- i-th offset, in a run from scale to scale and in a run by a formula. Assumes nothing.
 use Prim.Native.Nat.{ℕ, _+_, _*_, _/_, _<_, _≤_}
 use native.Mathlib.Omega.{arith}
 use mathlib.Core.Path.{_≡_, refl, sym, ap, subst, _∙_}
@@ -92,8 +92,8 @@ module _ (rows : List Row) (from to : ℕ) (f : Five from) (t : Five to) (js ks 
   run = convertedRun (answer rows) from to (allBytes eightBytes js) (allBytes eightBytes ks) out1 out2 numbers
 
   run-passes : runRefusal from to (length (allBytes eightBytes js)) (length (allBytes eightBytes ks)) (length out1) (length out2) (length numbers) ≡ 0
-  run-passes = run-taken from to (length js) (length (allBytes eightBytes js)) (length (allBytes eightBytes ks)) (length out1) (length out2) (length numbers) f t
-      (eight-each js) (eight-each ks ∙ ap (λ (n : ℕ). 8 * n) same) room
+  run-passes = run-taken from to (length js) (length (allBytes eightBytes js)) (length (allBytes eightBytes ks)) (length out1) (length out2) (length numbers) f
+      t (eight-each js) (eight-each ks ∙ ap (λ (n : ℕ). 8 * n) same) room
 
   pub run-of-lists : ListedRun (λ (i : ℕ). wayOf rows from to (listedDate js ks i)) (length js) out1 out2 numbers
       (convertedRun (answer rows) from to (allBytes eightBytes js) (allBytes eightBytes ks) out1 out2 numbers)
