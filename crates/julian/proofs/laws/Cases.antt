@@ -68,6 +68,12 @@ pub minus-zero-kept : addDays (julian minus-zero minus-zero) (neg (decimal 3 1))
 unfolding addDays uncarried
 minus-zero-kept = simp (three-tenths, cut-to-zero, less-zero, more-zero, zeros)
 
+-- 0.25 less 0.3 of a day: nothing is carried, and jd2 is below 0
+pub less-than-a-day : addDays (julian (decimal 24515445 1) (decimal 25 2)) (neg (decimal 3 1)) ≡ julian (decimal 24515445 1)
+    (ofBits binary64 0xbfa9_9999_9999_9998)
+unfolding addDays uncarried toWhole add sub neg round ofBits
+less-than-a-day = refl
+
 -- ---- equality where the parts are not under 2^52: two dates whose two-sum overflows are unequal to themselves (for a NaN, and for sums that are not finite,
 -- see NotFinite)
 
