@@ -2,7 +2,7 @@
 -- of their own (crate `worked_cases`). Assumes nothing.
 use mathlib.Core.Path.{_≡_, refl}
 use mathlib.Core.Bool.{false, true}
-use lib.IntN.{pos}
+use lib.IntN.{pos, negsuc}
 use lib.Ieee.{fin, nan, round, le}
 use Rattle.refusals.specs.Outcome.{answer, refusal, onward}
 use Rattle.floats.specs.Whole.{one}
@@ -23,6 +23,17 @@ pub at-one : taiUtcOffset fixed (pos 2016) (pos 12) (pos 31) one ≡ answer (fin
 unfolding taiUtcOffset onward mjdOf mjdNumber civilCount validDate daysInMonth lengths leapSize offsetAt offsetBy byRow secondsOf round inDay le fixed
     monthNumber reached
 at-one = refl
+
+-- the floats next to them are none: 1 + 2^-52, and the largest below 0
+pub above-one : taiUtcOffset fixed (pos 2017) (pos 1) (pos 1) (fin false 4503599627370497 (negsuc 51)) ≡ refusal 7
+unfolding taiUtcOffset onward mjdOf mjdNumber civilCount validDate daysInMonth lengths leapSize offsetAt offsetBy byRow secondsOf round inDay le fixed
+    monthNumber reached
+above-one = refl
+
+pub below-zero : taiUtcOffset fixed (pos 2017) (pos 1) (pos 1) (fin true 1 (negsuc 1073)) ≡ refusal 7
+unfolding taiUtcOffset onward mjdOf mjdNumber civilCount validDate daysInMonth lengths leapSize offsetAt offsetBy byRow secondsOf round inDay le fixed
+    monthNumber reached
+below-zero = refl
 
 -- 2.0 on 2017-13-01 is refused with 7: the fraction comes before the date. So is a NaN
 pub fraction-first : taiUtcOffset fixed (pos 2017) (pos 13) (pos 1) (fin false 1 (pos 1)) ≡ refusal 7
