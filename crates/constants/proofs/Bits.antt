@@ -13,17 +13,9 @@ pub nanoseconds-per-second : ofBits binary64 0x41cd_cd65_0000_0000 ≡ nanosecon
 unfolding nanosecondsPerSecond round ofBits
 nanoseconds-per-second = refl
 
-pub days-per-julian-year : ofBits binary64 0x4076_d400_0000_0000 ≡ daysPerJulianYear
-unfolding daysPerJulianYear round ofBits
-days-per-julian-year = refl
-
 pub mjd-zero-point : ofBits binary64 0x4142_4f80_4000_0000 ≡ mjdZeroPoint
 unfolding mjdZeroPoint round ofBits
 mjd-zero-point = refl
-
-pub j2000-jd : ofBits binary64 0x4142_b42c_8000_0000 ≡ j2000Jd
-unfolding j2000Jd round ofBits
-j2000-jd = refl
 
 pub unix-epoch-jd : ofBits binary64 0x4142_9ec5_c000_0000 ≡ unixEpochJd
 unfolding unixEpochJd round ofBits
@@ -44,14 +36,6 @@ tcg-rate-lg = refl
 pub tcb-rate-lb : ofBits binary64 0x3e50_a609_49f9_cf0c ≡ tcbRateLb
 unfolding tcbRateLb round ofBits
 tcb-rate-lb = refl
-
-pub tdb-offset-1977 : ofBits binary64 0xbf11_2ba1_6e7a_311f ≡ tdbOffset1977
-unfolding tdbOffset1977 neg round ofBits
-tdb-offset-1977 = refl
-
-pub mjd-1977-jan-1 : ofBits binary64 0x40e5_1100_0000_0000 ≡ mjd1977Jan1
-unfolding mjd1977Jan1 round ofBits
-mjd-1977-jan-1 = refl
 
 pub tcg-reference-epoch : ofBits binary64 0x40e5_1100_030d_306a ≡ tcgReferenceEpoch
 unfolding tcgReferenceEpoch mjd1977Jan1 ttTaiOffset secondsPerDay add div round ofBits

@@ -26,7 +26,8 @@ countOutcome (Answer.Refused number) = refusal number
 abbrev pub eightEach : ℕ → ℕ → Bool
 eightEach size n = eqb (size / 8) n
 
--- the refusal of the sizes in bytes of the parts, of n stamps of which the first runs have `first` and `second`, and of the least of the bytes for the places and of the two work areas; 0 for none
+-- the refusal of the sizes in bytes of the parts, of n stamps of which the first runs have `first` and `second`, and of the least of the bytes for the places
+-- and of the two work areas; 0 for none
 unfoldable pub lineRefusal : ℕ → ℕ → ℕ → ℕ → ℕ → ℕ → ℕ
 lineRefusal size1 size2 n first second room =
     cond (eqb (size1 % 8) 0 && eqb (size2 % 8) 0)

@@ -1,6 +1,6 @@
 -- With which lengths the stamps are lined up, and by which number each other call is refused, in plain numbers. Written from include/celestial_time.h,
--- ct_line_up. Lengths are in bytes: of the parts, of the places and of the two work areas; there are n numbers, and the first two runs have `first` and `second`
--- stamps. Assumes nothing.
+-- ct_line_up. Lengths are in bytes: of the parts, of the places and of the two work areas; there are n numbers, and the first two runs have `first` and
+-- `second` stamps. Assumes nothing.
 use Prim.Native.Nat.{ℕ, _+_, _*_, _%_, _<_, _≤_}
 use mathlib.Core.Path.{_≡_}
 

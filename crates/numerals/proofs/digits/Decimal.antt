@@ -137,7 +137,3 @@ digits-some n = either (ltb n 10) refl
     either : (b : Bool) → ltb n 10 ≡ b → 1 ≤ length (digitsIn (suc n) n)
     either true e = rw (first n n (ltb-true _ _ e)) (omega arith)
     either false e = rw (more n n (ltb-false _ _ e)) (simp length-append (omega arith))
-
--- and no fewer: a text of at most k digits says a number below 10 ^ k
-pub digits-many : (n : ℕ) → n < 10 ^ length (digitsOf n)
-digits-many n = rw (number-digits n) at (number-below (digitsOf n) (digits-all n))

@@ -1,5 +1,5 @@
--- A list of items in bytes, one after the other: the bytes of each item alone say it, apart from any reader. A call that reads or writes a list in bytes is held
--- against this writer, place by place. This project's own. Assumes nothing.
+-- A list of items in bytes, one after the other: the bytes of each item alone say it, apart from any reader. A call that reads or writes a list in bytes is
+-- held against this writer, place by place. This project's own. Assumes nothing.
 use Prim.Native.Nat.{ℕ}
 use mathlib.Core.Path.{_≡_}
 use mathlib.Core.List.{List, [], _∷_, _++_}

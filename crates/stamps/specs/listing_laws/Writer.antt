@@ -1,5 +1,5 @@
--- A block written from a list of stamps: its layout as a writer has it, apart from what reads it (document 01, "Stamp block"). And the listing of such a list, with
--- the header and the lines of a block's. Assumes nothing.
+-- A block written from a list of stamps: its layout as a writer has it, apart from what reads it (document 01, "Stamp block"). And the listing of such a list,
+-- with the header and the lines of a block's. Assumes nothing.
 use Prim.Native.Nat.{ℕ, suc, _+_, _<_}
 use mathlib.Core.List.{List, [], _∷_, _++_}
 use lib.ListN.{length}

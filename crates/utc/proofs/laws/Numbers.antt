@@ -109,8 +109,6 @@ refused-alike textForm other rows jd k e = go (julianToCalendar (jd .jd1) (jd .j
             (fields-given-by other rows jd c p ∙ text-refused-by rows (c .date) other (c .fraction) 1 v)
 
 -- ---- of document 01's
-pub text-numbers : (rows : List Row) (jd : JulianDate) (k : ℕ) → isoText rows jd ≡ refusal k → (k ≡ 6) ⊎ (k ≡ 1)
-text-numbers = text-numbers-by standardForm
 
 pub call-numbers : (rows : List Row) (jd : JulianDate) (l out : List ℕ) (k : ℕ) → TextCall (isoText rows jd) l (Refused k) out → (k ≡ 6) ⊎ ((k ≡ 1) ⊎ (k ≡ 11))
 call-numbers = call-numbers-by standardForm

@@ -310,7 +310,7 @@ module _ {a u b : Float} {A up un x y : ℕ} (v : FirstPart a A) (vu : Val u up 
         plus : (c : Float) (p n : ℕ) → T (fits binary64 c) → Val c p n L → n ≤ p + 11 * h → p ≤ n + L
             → (QP ≤ QN → p ≤ n + 65550 * h)
             → (QN ≤ QP → QP ≤ QN + 86401 * L → (86401 * p + QN ≤ 86401 * n + QP + 86401 * (65550 * h)) ×
-                (86401 * n + QP ≤ 86401 * p + QN + 86401 * (65550 * h)))
+            (86401 * n + QP ≤ 86401 * p + QN + 86401 * (65550 * h)))
             → (QN + 86401 * L ≤ QP → n + L ≤ p + 65550 * h) → Adjusted (add binary64 b (mul binary64 one c))
         plus c p n fc vc bottom top e d l =
             let m = again fc vc (one-times vc) in

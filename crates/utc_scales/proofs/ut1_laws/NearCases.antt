@@ -91,9 +91,9 @@ found-day i ip im n e =
     sym (add-mul n (minusZ i) L) ∙ ap (λ (x : ℕ). x * L) e ∙ add-mul 2457754 (plusZ i) L in
     same (z .n) n
     (lt-of-mul-lt-mul-right L (below (2457754 * L) (z .n * L) (z .f) (n * L) (o .p) (o .n) (plusZ i * L) (minusZ i * L) _ f (next n)
-        (noon' (o .p) _ (z .near-over)) (o .over)))
+    (noon' (o .p) _ (z .near-over)) (o .over)))
     (lt-of-mul-lt-mul-right L (above (2457754 * L) (z .n * L) (z .f) (n * L) (o .p) (o .n) (plusZ i * L) (minusZ i * L) _ f (next (z .n)) (z .below)
-        (noon (o .p) _ (z .near-under))
+    (noon (o .p) _ (z .near-under))
     (o .under)))
   where
     next : (n : ℕ) → (n + 1) * L ≡ n * L + L
