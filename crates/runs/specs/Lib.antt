@@ -4,4 +4,5 @@ pub mod Run
 pub mod Asked
 pub mod by_formula
 pub mod ways
+pub mod by_day
 pub mod laws

@@ -10,6 +10,8 @@ ghost use Rattle.runs.specs.by_formula.Run.{runOutcome, runCall};
 ghost use Rattle.runs.specs.by_formula.Asked.{Roomy, HasPlace, StampPut, RunPut};
 ghost use Rattle.runs.specs.Run.{stampAnswer, runRefusal, runBy, convertedRun};
 ghost use Rattle.runs.specs.Asked.{isShort};
+ghost use Rattle.runs.specs.by_day.Hand.{RightHand};
+use crate::by_day::DayInHand;
 use crate::by_formula::RunAnswer;
 use crate::by_formula::one_if_refused;
 use crate::by_formula::put_pattern;
@@ -21,6 +23,7 @@ use constants::scale_numbers::are;
 use julian::JulianAnswer;
 use leap_table::rows::AnnouncedRows;
 
+mod by_day;
 pub mod by_formula;
 pub mod ways;
 
@@ -39,29 +42,39 @@ fn put_answer(found: JulianAnswer, i: usize, out1: &mut [u8], out2: &mut [u8]) -
     }
 }
 
-// Converts the stamp at place i, and gives its number.
+// The number of a stamp, and the day in hand after it.
+struct StampDone {
+    number: u8,
+    hand: DayInHand,
+}
+
+// Converts the stamp at place i, and gives its number and the day in hand for the next.
 fn convert_stamp<'a>(
     from: u32,
     to: u32,
     jd1s: &[u8],
     jd2s: &[u8],
     i: usize,
+    hand: DayInHand,
     size: usize,
     months: &'a [i32; 16],
     seconds: &'a [i32; 16],
     out1: &mut [u8],
     out2: &mut [u8],
-) -> u8
-    requires { ⌜ HasPlace i (now out1) (now out2) ⌝ }
+) -> StampDone
+    requires { ⌜ HasPlace i (now out1) (now out2) × RightHand (rowsIn size (now months) (now seconds)) hand ⌝ }
     ensures { λ r. ⌜ StampPut (stampAnswer (rowsIn size (now (months .entry)) (now (seconds .entry))) from to (now (jd1s .entry)) (now (jd2s .entry)) i) i
-        (now (out1 .entry)) (now (out2 .entry)) r (now (out1 .exit)) (now (out2 .exit)) ⌝ }
+        (now (out1 .entry)) (now (out2 .entry)) (r .number) (now (out1 .exit)) (now (out2 .exit))
+        × RightHand (rowsIn size (now (months .entry)) (now (seconds .entry))) (r .hand) ⌝ }
 {
     let jd = julian::stamp_lists::stamp_of(jd1s, jd2s, i);
-    let found = crate::ways::convert_by_lent(from, to, jd, size, months, seconds);
-    put_answer(found, i, out1, out2)
+    let next = crate::by_day::next_hand(from, to, jd.jd1, hand, size, months, seconds);
+    let found = crate::by_day::convert_with(from, to, jd, next, size, months, seconds);
+    let number = put_answer(found, i, out1, out2);
+    StampDone { number, hand: next }
 }
 
-// Converts n stamps, and says how many are refused.
+// Converts n stamps, and says how many are refused. The day in hand is kept from stamp to stamp.
 fn convert_all<'a>(
     from: u32,
     to: u32,
@@ -80,9 +93,25 @@ fn convert_all<'a>(
         (now (out1 .entry)) (now (out2 .entry)) (now (numbers .entry)) r (now (out1 .exit)) (now (out2 .exit)) (now (numbers .exit)) ⌝ }
 {
     let mut refused = 0;
+    let mut hand = crate::by_day::no_day();
     let mut i = 0;
     while i < n {
-        let number = convert_stamp(from, to, jd1s, jd2s, i, size, months, seconds, out1, out2);
+        let done = convert_stamp(
+            from,
+            to,
+            jd1s,
+            jd2s,
+            i,
+            hand,
+            size,
+            months,
+            seconds,
+            out1,
+            out2,
+        );
+        let number = done.number;
+        let next = done.hand;
+        hand = next;
         numbers[i] = number;
         refused += one_if_refused(number);
         i += 1;

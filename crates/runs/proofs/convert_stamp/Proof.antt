@@ -10,17 +10,18 @@ use Rattle.runs.proofs.convert_stamp.Tie as tie
 returns : tie.Need-returns
 returns c =
     let at-put-answer = c .before .before .before .before in
-    let back = at-put-answer .before .before .before in
-    let at-stamp-of = back .before in
-    let start = at-stamp-of .before .before .before .before .before in
-    let a = start .args in
-    let k = back in
-    put-same
-    (k .convert-by-lent .ensures ∙ ap (wayOf (rowsIn (a .size) (a .months .now) (a .seconds .now)) (a .from) (a .to))
-    (at-stamp-of .stamp-of .ensures))
-    (at-put-answer .put-answer .ensures)
+    let k = at-put-answer .before .before .before in
+    let at-next-hand = k .before in
+    let at-stamp-of = at-next-hand .before in
+    let a = at-stamp-of .before .before .before .before .before .args in (
+      put-same
+          (k .convert-with .ensures ∙ ap (wayOf (rowsIn (a .size) (a .months .now) (a .seconds .now)) (a .from) (a .to))
+          (at-stamp-of .stamp-of .ensures))
+          (at-put-answer .put-answer .ensures),
+      at-next-hand .next-hand .ensures,
+    )
 
 pub convert-stamp-spec : {M : Type 1} → statement M
 convert-stamp-spec =
     tie.close
-    (tie.spec (λ c κs. search needs) (λ c κs. search needs) (λ c κs. search needs) (λ c. search needs) (λ c. search needs) returns)
+    (tie.spec (λ c κs. search needs) (λ c κs. search needs) (λ c κs. search needs) (λ c κs. search needs) (λ c. search needs) (λ c. search needs) returns)

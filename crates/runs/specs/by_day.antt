@@ -1,0 +1,2 @@
+-- What the contracts of `runs::by_day` cite.
+pub mod Hand
