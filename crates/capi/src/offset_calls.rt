@@ -71,7 +71,7 @@ pub extern "C" fn ct_get_tai_utc_offset(
     }
     let size = lent.size;
     put_offset(
-        leap_table::offsets::get_tai_utc_offset_by_lent(
+        leap_table::offsets::get_tai_utc_offset_by_arrays(
             year,
             month,
             day,
@@ -104,7 +104,14 @@ pub extern "C" fn ct_leap_at_end_of_day(
     }
     let size = lent.size;
     put_leap(
-        leap_table::offsets::leap_at_end_of_day_by_lent(year, month, day, size, &months, &seconds),
+        leap_table::offsets::leap_at_end_of_day_by_arrays(
+            year,
+            month,
+            day,
+            size,
+            &months,
+            &seconds,
+        ),
         out,
     )
 }

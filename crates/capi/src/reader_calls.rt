@@ -88,7 +88,7 @@ pub extern "C" fn ct_utc_from_iso8601(text: &[u8], table: &[u8], out: &mut [u8])
     }
     let size = lent.size;
     put_parsed_utc(
-        parsing::from_str_by_lent(text, size, &months, &seconds),
+        parsing::from_str_by_arrays(text, size, &months, &seconds),
         out,
     )
 }

@@ -29,7 +29,7 @@ pub extern "C" fn ct_convert_run(
         return refused(number);
     }
     let size = lent.size;
-    match runs::convert_run_by_lent(
+    match runs::convert_run_by_arrays(
         from,
         to,
         jd1,

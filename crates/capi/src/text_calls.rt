@@ -37,21 +37,21 @@ fn text_by<'a>(
         (now (out .exit)) ⌝ }
 {
     match textForm {
-        NamedForm::Document01 => utc::iso_texts::to_iso8601_by_lent(
+        NamedForm::Document01 => utc::iso_texts::to_iso8601_by_arrays(
             date,
             size,
             months,
             seconds,
             out,
         ),
-        NamedForm::HalfEven => utc::iso_texts::to_iso8601_half_even_by_lent(
+        NamedForm::HalfEven => utc::iso_texts::to_iso8601_half_even_by_arrays(
             date,
             size,
             months,
             seconds,
             out,
         ),
-        NamedForm::Expanded => utc::iso_texts::to_iso8601_expanded_by_lent(
+        NamedForm::Expanded => utc::iso_texts::to_iso8601_expanded_by_arrays(
             date,
             size,
             months,
@@ -138,7 +138,7 @@ fn put_text<'a>(
             rule.len(),
         );
     }
-    match utc::iso_texts::to_iso8601_by_lent(date, size, months, seconds, out) {
+    match utc::iso_texts::to_iso8601_by_arrays(date, size, months, seconds, out) {
         TextByRule::Refused(number) => refused(number),
         TextByRule::Written(n, day_rule) => {
             c_answers::rules::put_rule(day_rule, rule);
@@ -169,7 +169,7 @@ fn put_half_even<'a>(
             rule.len(),
         );
     }
-    match utc::iso_texts::to_iso8601_half_even_by_lent(date, size, months, seconds, out) {
+    match utc::iso_texts::to_iso8601_half_even_by_arrays(date, size, months, seconds, out) {
         TextByRule::Refused(number) => refused(number),
         TextByRule::Written(n, day_rule) => {
             c_answers::rules::put_rule(day_rule, rule);
@@ -200,7 +200,7 @@ fn put_expanded<'a>(
             rule.len(),
         );
     }
-    match utc::iso_texts::to_iso8601_expanded_by_lent(date, size, months, seconds, out) {
+    match utc::iso_texts::to_iso8601_expanded_by_arrays(date, size, months, seconds, out) {
         TextByRule::Refused(number) => refused(number),
         TextByRule::Written(n, day_rule) => {
             c_answers::rules::put_rule(day_rule, rule);

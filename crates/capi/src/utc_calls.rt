@@ -47,7 +47,7 @@ pub extern "C" fn ct_utc_new(seconds: i64, nanos: u32, table: &[u8], out: &mut [
     }
     let size = lent.size;
     put_utc(
-        utc::new_by_lent(seconds, nanos, size, &months, &announced_seconds),
+        utc::new_by_arrays(seconds, nanos, size, &months, &announced_seconds),
         out,
     )
 }
@@ -75,7 +75,7 @@ pub extern "C" fn ct_utc_from_calendar(
     }
     let size = lent.size;
     put_utc(
-        utc::utc_from_calendar_by_lent(
+        utc::utc_from_calendar_by_arrays(
             year,
             month,
             day,
@@ -114,7 +114,7 @@ pub extern "C" fn ct_utc_to_tai(jd1: f64, jd2: f64, table: &[u8], out: &mut [u8]
     let size = lent.size;
     let date = UTC(JulianDate { jd1, jd2 });
     put_tai_by_rule(
-        utc_tai::utc_to_tai_by_lent(date, size, &months, &seconds),
+        utc_tai::utc_to_tai_by_arrays(date, size, &months, &seconds),
         out,
     )
 }
@@ -134,7 +134,7 @@ pub extern "C" fn ct_tai_to_utc(jd1: f64, jd2: f64, table: &[u8], out: &mut [u8]
     let size = lent.size;
     let date = TAI(JulianDate { jd1, jd2 });
     put_utc(
-        utc_tai::tai_to_utc_by_lent(date, size, &months, &seconds),
+        utc_tai::tai_to_utc_by_arrays(date, size, &months, &seconds),
         out,
     )
 }
@@ -169,7 +169,7 @@ pub extern "C" fn ct_utc_to_ut1_with_dut1(
     let size = lent.size;
     let date = UTC(JulianDate { jd1, jd2 });
     put_ut1_by_rule(
-        utc_scales::to_ut1::utc_to_ut1_with_dut1_by_lent(date, dut1, size, &months, &seconds),
+        utc_scales::to_ut1::utc_to_ut1_with_dut1_by_arrays(date, dut1, size, &months, &seconds),
         out,
     )
 }
@@ -195,7 +195,7 @@ pub extern "C" fn ct_ut1_to_utc_with_dut1(
     let size = lent.size;
     let date = UT1(JulianDate { jd1, jd2 });
     put_utc(
-        utc_scales::from_ut1::ut1_to_utc_with_dut1_by_lent(date, dut1, size, &months, &seconds),
+        utc_scales::from_ut1::ut1_to_utc_with_dut1_by_arrays(date, dut1, size, &months, &seconds),
         out,
     )
 }

@@ -10,13 +10,13 @@ pub mod walk_rows;
 mod whole_day;
 
 pub use in_day::get_tai_utc_offset;
-pub use in_day::get_tai_utc_offset_by_lent;
-pub use in_day::offset_at_0h_by_lent;
+pub use in_day::get_tai_utc_offset_by_arrays;
+pub use in_day::offset_at_0h_by_arrays;
 pub use seconds::whole_seconds_by_rows;
 pub use whole_day::day_offsets;
-pub use whole_day::day_offsets_by_lent;
+pub use whole_day::day_offsets_by_arrays;
 pub use whole_day::leap_at_end_of_day;
-pub use whole_day::leap_at_end_of_day_by_lent;
+pub use whole_day::leap_at_end_of_day_by_arrays;
 
 // Which row an offset was read from, counted from 0: none before 1960, one that drifts, or one of whole seconds.
 pub enum Rule {

@@ -19,7 +19,7 @@ pub(crate) use fixed::FIXED_SIZE;
 pub(crate) use fixed::MONTHS;
 
 // The rows that a caller lends after the fixed ones: how many by each size, their month starts (12 × year + month - 1) and their whole seconds. Places past the
-// size are not read. A call that ends in `_by_rows` takes the rows of such a table, which is tested elsewhere; one that ends in `_by_lent` takes one size and
+// size are not read. A call that ends in `_by_rows` takes the rows of such a table, which is tested elsewhere; one that ends in `_by_arrays` takes one size and
 // the two arrays by reference, at most 16 rows, so that nothing is copied from call to call.
 pub struct AnnouncedRows {
     pub months_size: u32,

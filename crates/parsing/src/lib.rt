@@ -129,7 +129,7 @@ pub fn parse_iso8601(text: &[u8]) -> ParsedAnswer
 
 // The fields of a UTC text and the date that they name, by rows that are tested elsewhere. Refusals in order: 15 the text, 16 its fraction, 2 the month, 3 the
 // day, 4 the time, which goes by the length of the day's last minute.
-pub fn from_str_by_lent<'a>(
+pub fn from_str_by_arrays<'a>(
     text: &[u8],
     size: usize,
     months: &'a [i32; 16],
@@ -152,7 +152,7 @@ pub fn from_str(text: &[u8], table: AnnouncedRows) -> ParsedUtcAnswer
     if number != 0 {
         return ParsedUtcAnswer::Refused(number);
     }
-    from_str_by_lent(
+    from_str_by_arrays(
         text,
         leap_table::rows::size_of(table),
         &table.months,
@@ -168,7 +168,7 @@ fn dated<'a>(
 ) -> ParsedUtcAnswer
     ensures { λ r. ⌜ parsedUtcOutcome r ≡ dated·of (rowsIn size (now (months .entry)) (now (seconds .entry))) fields ⌝ }
 {
-    match utc::utc_from_calendar_by_lent(
+    match utc::utc_from_calendar_by_arrays(
         fields.year,
         fields.month,
         fields.day,

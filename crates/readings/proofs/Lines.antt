@@ -32,7 +32,7 @@ use Rattle.parsing.specs.Parsed.{parsedUtcOutcome, parsedUtc}
 use Rattle.numerals.specs.digits.Placed.{pasted, Placed, Placing}
 use Rattle.numerals.proofs.digits.Places.{then}
 use Rattle.reasons.proofs.sentences.Placing.{placed-length, decimal-placed}
-use Rattle.readings.specs.Reading.{reading, readingTold, LineCall}
+use Rattle.readings.specs.Reading.{reading, readingWords, LineCall}
 
 -- ---- the index and the blank, at the start of a buffer with room for a line
 pub index-put : {d s d′ t d″ : List ℕ} {r r2 : ℕ} → Placing d 0 s r d′ → length s ≤ 20 → Placing d′ r t r2 d″ → length t ≤ 1 → 50 ≤ length d
@@ -61,8 +61,8 @@ written-by t p n true e = (cc, refl)
 written-by t p n false e = let z : _≡_ {A = ℕ} 0 1 = cc in absurd (omega arith)
 
 told-written : (o : Outcome (List ℕ)) (p : List ℕ) (n : ℕ) → Short o → written o (length p) ≡ answer n
-    → (n ≡ length (readingTold o)) × (bufferHolds o p ≡ readingTold o ++ drop (length (readingTold o)) p) × (n ≤ 27)
-unfolding written bufferHolds readingTold onward textWritten bufferAfter
+    → (n ≡ length (readingWords o)) × (bufferHolds o p ≡ readingWords o ++ drop (length (readingWords o)) p) × (n ≤ 27)
+unfolding written bufferHolds readingWords onward textWritten bufferAfter
 told-written (answer t) p n s e = let w = written-by t p n (leb (length t) (length p)) e in let m = s t refl in (w .0, w .1, omega (arith, w .0))
 told-written (refusal k) p n s e = let z : _≡_ {A = ℕ} 0 1 = cc in absurd (omega arith)
 
@@ -84,8 +84,8 @@ module _ (rows : List Row) (jd : JulianDate) {p ys : List ℕ} {res : TextByRule
   as-call t e = subst (λ (o : Outcome (List ℕ)). TextCall o p t ys) (expanded-forgets rows jd) (rule-call-forgets (expandedByRule rows jd) p ys res t e call)
 
   pub text-written : (n : ℕ) (rule : Rule) → res ≡ Ruled.Written n rule
-      → (n ≡ length (readingTold (isoTextExpanded rows jd)))
-      × (ys ≡ readingTold (isoTextExpanded rows jd) ++ drop (length (readingTold (isoTextExpanded rows jd))) p) × (n ≤ 27)
+      → (n ≡ length (readingWords (isoTextExpanded rows jd)))
+      × (ys ≡ readingWords (isoTextExpanded rows jd) ++ drop (length (readingWords (isoTextExpanded rows jd))) p) × (n ≤ 27)
   unfolding textOutcome textByRuleOutcome forget onward
   text-written n rule e =
       let c : TextCall (isoTextExpanded rows jd) p (Written n) ys = as-call (Written n) (ap (λ (x : TextByRule). forget (textByRuleOutcome x)) (sym e)) in

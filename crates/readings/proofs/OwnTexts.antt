@@ -16,7 +16,7 @@ use Rattle.parsing.specs.declared.ParsedUtc.{ParsedUtc}
 use Rattle.parsing_laws.specs.Shown.{YearShown, ReadsBack, fieldsShown, withDate}
 use Rattle.parsing_laws.proofs.EveryText.{expanded-text-reads-back, from-str-answers}
 use Rattle.parsing_laws.proofs.TextAgain.{expanded-text-again}
-use Rattle.readings.specs.Reading.{reading, readingTold, readingLine}
+use Rattle.readings.specs.Reading.{reading, readingWords, readingLine}
 
 module _ (t : AnnouncedRows) (rows : List Row) (taken : tableOf t ≡ answer rows) (jd : JulianDate) (f1 : T (fits binary64 (jd .jd1)))
     (f2 : T (fits binary64 (jd .jd2))) (s : List ℕ)
@@ -31,5 +31,5 @@ module _ (t : AnnouncedRows) (rows : List Row) (taken : tableOf t ≡ answer row
       ∙ expanded-text-again t rows taken jd f1 f2 s shown (withDate (fieldsShown s) (back .date)) (from-str-answers t rows taken s back) written
 
   pub own-line : (index : ℕ) → readingLine rows s index ≡ ((digitsOf index ++ (32 ∷ [])) ++ s) ++ (10 ∷ [])
-  unfolding readingLine readingTold
-  own-line index = ap (λ (o : Outcome (List ℕ)). ((digitsOf index ++ (32 ∷ [])) ++ readingTold o) ++ (10 ∷ [])) own-text
+  unfolding readingLine readingWords
+  own-line index = ap (λ (o : Outcome (List ℕ)). ((digitsOf index ++ (32 ∷ [])) ++ readingWords o) ++ (10 ∷ [])) own-text

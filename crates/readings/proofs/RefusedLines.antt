@@ -11,36 +11,36 @@ use Rattle.parsing.specs.declared.ParsedUtc.{ParsedUtc}
 use Rattle.parsing.specs.Parsed.{parsedUtc}
 use Rattle.parsing_laws.proofs.Ladder.{ReaderNumber, fifteen, sixteen, two, three, four}
 use Rattle.parsing_laws.proofs.UtcLadder.{utc-only-numbers}
-use Rattle.readings.specs.Reading.{reading, readingTold, readingLine}
+use Rattle.readings.specs.Reading.{reading, readingWords, readingLine}
 use Rattle.readings.specs.RefusedLine.{refusedAs, RefusedLine, by-form, by-digits, by-month, by-day, by-time}
 
 -- the five words, byte by byte
-pub told-15 : readingTold (refusal 15) ≡ asciiBytes "refused 15"
-unfolding readingTold digitsOf digitsIn
+pub told-15 : readingWords (refusal 15) ≡ asciiBytes "refused 15"
+unfolding readingWords digitsOf digitsIn
 told-15 = refl
 
-pub told-16 : readingTold (refusal 16) ≡ asciiBytes "refused 16"
-unfolding readingTold digitsOf digitsIn
+pub told-16 : readingWords (refusal 16) ≡ asciiBytes "refused 16"
+unfolding readingWords digitsOf digitsIn
 told-16 = refl
 
-pub told-2 : readingTold (refusal 2) ≡ asciiBytes "refused 2"
-unfolding readingTold digitsOf digitsIn
+pub told-2 : readingWords (refusal 2) ≡ asciiBytes "refused 2"
+unfolding readingWords digitsOf digitsIn
 told-2 = refl
 
-pub told-3 : readingTold (refusal 3) ≡ asciiBytes "refused 3"
-unfolding readingTold digitsOf digitsIn
+pub told-3 : readingWords (refusal 3) ≡ asciiBytes "refused 3"
+unfolding readingWords digitsOf digitsIn
 told-3 = refl
 
-pub told-4 : readingTold (refusal 4) ≡ asciiBytes "refused 4"
-unfolding readingTold digitsOf digitsIn
+pub told-4 : readingWords (refusal 4) ≡ asciiBytes "refused 4"
+unfolding readingWords digitsOf digitsIn
 told-4 = refl
 
 module _ (rows : List Row) (s : List ℕ) (index : ℕ) where
-  is-told : (k : ℕ) → parsedUtc rows s ≡ refusal k → readingTold (reading rows s) ≡ readingTold (refusal k)
+  is-told : (k : ℕ) → parsedUtc rows s ≡ refusal k → readingWords (reading rows s) ≡ readingWords (refusal k)
   unfolding reading onward
-  is-told k e = ap (λ (o : Outcome ParsedUtc). readingTold (onward o (λ r. isoTextExpanded rows (r .date .0)))) e
+  is-told k e = ap (λ (o : Outcome ParsedUtc). readingWords (onward o (λ r. isoTextExpanded rows (r .date .0)))) e
 
-  as-line : (words : List ℕ) → readingTold (reading rows s) ≡ words → readingLine rows s index ≡ refusedAs index (32 ∷ words)
+  as-line : (words : List ℕ) → readingWords (reading rows s) ≡ words → readingLine rows s index ≡ refusedAs index (32 ∷ words)
   unfolding readingLine
   as-line words e = ap (λ (l : List ℕ). ((digitsOf index ++ (32 ∷ [])) ++ l) ++ (10 ∷ [])) e ∙ simp append-assoc
 

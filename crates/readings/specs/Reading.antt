@@ -21,13 +21,13 @@ unfoldable pub reading : List Row → List ℕ → Outcome (List ℕ)
 reading rows s = onward (parsedUtc rows s) (λ r. isoTextExpanded rows (r .date .0))
 
 -- a text, or `refused` and the number
-unfoldable pub readingTold : Outcome (List ℕ) → List ℕ
-readingTold (answer t) = t
-readingTold (refusal k) = refusedWord ++ digitsOf k
+unfoldable pub readingWords : Outcome (List ℕ) → List ℕ
+readingWords (answer t) = t
+readingWords (refusal k) = refusedWord ++ digitsOf k
 
 -- the line of the text s with this index; 32 is the blank, 10 the line's end
 unfoldable pub readingLine : List Row → List ℕ → ℕ → List ℕ
-readingLine rows s index = ((digitsOf index ++ (32 ∷ [])) ++ readingTold (reading rows s)) ++ (10 ∷ [])
+readingLine rows s index = ((digitsOf index ++ (32 ∷ [])) ++ readingWords (reading rows s)) ++ (10 ∷ [])
 
 -- r answers the line's length, and the buffer, which held `before`, holds the line at its start and then what stood there; in a buffer of less than 50 bytes,
 -- which the longest line may need, r is 11 and the buffer is as it was

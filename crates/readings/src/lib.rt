@@ -12,7 +12,7 @@ ghost use Rattle.refusals.specs.Outcome.{refusal};
 ghost use Rattle.leap_table.specs.rows.Announced.{rowsIn, rowsOf};
 ghost use Rattle.utc.specs.iso_texts.Expanded.{isoTextExpanded};
 ghost use Rattle.numerals.specs.digits.Placed.{Placed};
-ghost use Rattle.readings.specs.Reading.{reading, readingTold, readingLine, LineCall};
+ghost use Rattle.readings.specs.Reading.{reading, readingWords, readingLine, LineCall};
 
 // So many bytes hold every line: an index of 64 bits has at most 20 digits, and so has a refusal's number for all that is proved of it; `refused` with its
 // blank has 8, the text of a date at most 27, and a blank and the line's end are left.
@@ -20,7 +20,7 @@ const LINE_ROOM: usize = 50;
 
 fn place_refused(number: u32, dst: &mut [u8], at: usize) -> usize
     requires { ⌜ at + 28 ≤ length (now dst) ⌝ }
-    ensures { λ r. ⌜ Placed (now (dst .entry)) at (readingTold (refusal number)) r (now (dst .exit)) ⌝ }
+    ensures { λ r. ⌜ Placed (now (dst .entry)) at (readingWords (refusal number)) r (now (dst .exit)) ⌝ }
     ensures { λ r. ⌜ r ≤ at + 28 ⌝ }
 {
     let next = place_bytes(b"refused ", dst, at);
@@ -37,10 +37,16 @@ fn place_text<'a>(
 ) -> usize
     requires { ⌜ at + 28 ≤ length (now dst) ⌝ }
     ensures { λ r. ⌜ Placed (now (dst .entry)) at
-        (readingTold (isoTextExpanded (rowsIn size (now (months .entry)) (now (seconds .entry))) (utc .0))) r (now (dst .exit)) ⌝ }
+        (readingWords (isoTextExpanded (rowsIn size (now (months .entry)) (now (seconds .entry))) (utc .0))) r (now (dst .exit)) ⌝ }
     ensures { λ r. ⌜ r ≤ at + 28 ⌝ }
 {
-    match utc::iso_texts::to_iso8601_expanded_by_lent(utc, size, months, seconds, &mut dst[at..]) {
+    match utc::iso_texts::to_iso8601_expanded_by_arrays(
+        utc,
+        size,
+        months,
+        seconds,
+        &mut dst[at..],
+    ) {
         TextByRule::Written(n, _) => at + n,
         TextByRule::Refused(number) => place_refused(number, dst, at),
     }
@@ -56,10 +62,10 @@ fn place_reading<'a>(
 ) -> usize
     requires { ⌜ at + 28 ≤ length (now dst) ⌝ }
     ensures { λ r. ⌜ Placed (now (dst .entry)) at
-        (readingTold (reading (rowsIn size (now (months .entry)) (now (seconds .entry))) (now (text .entry)))) r (now (dst .exit)) ⌝ }
+        (readingWords (reading (rowsIn size (now (months .entry)) (now (seconds .entry))) (now (text .entry)))) r (now (dst .exit)) ⌝ }
     ensures { λ r. ⌜ r ≤ at + 28 ⌝ }
 {
-    match parsing::from_str_by_lent(text, size, months, seconds) {
+    match parsing::from_str_by_arrays(text, size, months, seconds) {
         ParsedUtcAnswer::Refused(number) => place_refused(number, dst, at),
         ParsedUtcAnswer::Read(read) => place_text(read.date, size, months, seconds, dst, at),
     }

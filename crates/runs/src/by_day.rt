@@ -89,7 +89,7 @@ fn day_of<'a>(day: i64, size: usize, months: &'a [i32; 16], seconds: &'a [i32; 1
     ensures { λ r. ⌜ dayByRuleOutcome r ≡ readOn (rowsIn size (now (months .entry)) (now (seconds .entry))) (gregorianDate day) ⌝ }
 {
     let t = calendar::gregorian_date(day);
-    leap_table::offsets::day_offsets_by_lent(
+    leap_table::offsets::day_offsets_by_arrays(
         t.year,
         t.month as i32,
         t.day as i32,
@@ -272,6 +272,6 @@ pub(crate) fn convert_with<'a>(
 {
     match quick_way(from, to, jd, hand) {
         ByHand::Date(d) => JulianAnswer::Date(d),
-        ByHand::Elsewhere => crate::ways::convert_by_lent(from, to, jd, size, months, seconds),
+        ByHand::Elsewhere => crate::ways::convert_by_arrays(from, to, jd, size, months, seconds),
     }
 }

@@ -199,7 +199,7 @@ fn run_refusal(
 }
 
 // By the rows of a table that is tested elsewhere: a size and two arrays that are lent on.
-pub fn convert_run_by_lent<'a>(
+pub fn convert_run_by_arrays<'a>(
     from: u32,
     to: u32,
     jd1s: &[u8],
@@ -268,7 +268,7 @@ pub fn convert_run(
     if number != 0 {
         return RunAnswer::Refused(number);
     }
-    convert_run_by_lent(
+    convert_run_by_arrays(
         from,
         to,
         jd1s,

@@ -90,7 +90,7 @@ fn utc_into_tai<'a>(
 ) -> JulianAnswer
     ensures { λ r. ⌜ julianOutcome r ≡ utcToTai (rowsIn size (now (months .entry)) (now (seconds .entry))) jd ⌝ }
 {
-    match utc_scales::utc_tai::utc_to_tai_by_lent(scales::UTC(jd), size, months, seconds) {
+    match utc_scales::utc_tai::utc_to_tai_by_arrays(scales::UTC(jd), size, months, seconds) {
         TaiByRule::Refused(n) => JulianAnswer::Refused(n),
         TaiByRule::Date(tai, _) => {
             let date = tai.0;
@@ -133,7 +133,7 @@ fn out_of_tai<'a>(
     ensures { λ r. ⌜ julianOutcome r ≡ outOfTai (rowsIn size (now (months .entry)) (now (seconds .entry))) to jd ⌝ }
 {
     if to == UTC {
-        return of_utc(utc_scales::utc_tai::tai_to_utc_by_lent(
+        return of_utc(utc_scales::utc_tai::tai_to_utc_by_arrays(
             scales::TAI(jd),
             size,
             months,
@@ -189,7 +189,7 @@ fn between<'a>(
 }
 
 // The date in scale `to` of a date in scale `from`. Refusals as the single calls have them, the first that comes; for the same scale 9.
-pub(crate) fn convert_by_lent<'a>(
+pub(crate) fn convert_by_arrays<'a>(
     from: u32,
     to: u32,
     jd: JulianDate,

@@ -54,7 +54,7 @@ fn place_shown(
     ensures { λ r. ⌜ Placed (now (dst .entry)) at (shown reporting jd (isoTextExpanded (rowsOf table) jd)) r (now (dst .exit)) ⌝ }
     ensures { λ r. ⌜ r + 6 ≤ at + lineRoom reporting ⌝ }
 {
-    match utc::iso_texts::to_iso8601_expanded_by_lent(
+    match utc::iso_texts::to_iso8601_expanded_by_arrays(
         UTC(jd),
         leap_table::rows::size_of(table),
         &table.months,

@@ -14,17 +14,17 @@ mod named;
 
 use crate::text::TextAnswer;
 pub use by_rule::to_iso8601;
-pub use by_rule::to_iso8601_by_lent;
+pub use by_rule::to_iso8601_by_arrays;
 use calendar::CalendarDate;
 use calendar::NextDay;
 pub use expanded::to_iso8601_expanded;
-pub use expanded::to_iso8601_expanded_by_lent;
+pub use expanded::to_iso8601_expanded_by_arrays;
 pub use half_even::to_iso8601_half_even;
-pub use half_even::to_iso8601_half_even_by_lent;
+pub use half_even::to_iso8601_half_even_by_arrays;
 use julian::CalendarAnswer;
 use leap_table::offsets::Rule;
 use leap_table::offsets::SecondsByRule;
-pub use named::to_text_by_lent;
+pub use named::to_text_by_arrays;
 use scales::UTC;
 use time_of_day::TimeOfDay;
 use time_of_day::TimeShown;
@@ -65,7 +65,7 @@ fn with_leap<'a>(
     requires { ⌜ (date .month ≤ 12) × (date .day ≤ 31) ⌝ }
     ensures { λ r. ⌜ textDayOutcome r ≡ dayWithLeap (rowsIn size (now (months .entry)) (now (seconds .entry))) date fraction ⌝ }
 {
-    match leap_table::offsets::leap_at_end_of_day_by_lent(
+    match leap_table::offsets::leap_at_end_of_day_by_arrays(
         date.year,
         date.month as i32,
         date.day as i32,

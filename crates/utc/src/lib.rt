@@ -54,7 +54,7 @@ fn second_with_nanos(second: u32, nanos: u32) -> f64
 
 // UTC of a Unix time by rows that are tested elsewhere. Refusals in order: 8 the nanoseconds, 6 the day, 1 its year, then 4, which a day that ends in
 // a step back can give.
-pub fn new_by_lent<'a>(
+pub fn new_by_arrays<'a>(
     unix: i64,
     nanos: u32,
     size: usize,
@@ -71,7 +71,7 @@ pub fn new_by_lent<'a>(
         CalendarAnswer::Fields(fields) => {
             let date = fields.date;
             let s = second_of_unix_day(unix);
-            utc_from_calendar_by_lent(
+            utc_from_calendar_by_arrays(
                 date.year,
                 date.month as u8,
                 date.day as u8,
@@ -94,7 +94,7 @@ pub fn new(seconds: i64, nanos: u32, table: AnnouncedRows) -> UtcAnswer
     if number != 0 {
         return UtcAnswer::Refused(number);
     }
-    new_by_lent(
+    new_by_arrays(
         seconds,
         nanos,
         leap_table::rows::size_of(table),
@@ -105,7 +105,7 @@ pub fn new(seconds: i64, nanos: u32, table: AnnouncedRows) -> UtcAnswer
 
 // UTC of a date and a time of its day by rows that are tested elsewhere. Refusals in order: 1 to 3 the date, 5 no next day, 4 the time; in the day's
 // last minute the second is below 60 + leap.
-pub fn utc_from_calendar_by_lent<'a>(
+pub fn utc_from_calendar_by_arrays<'a>(
     year: i32,
     month: u8,
     day: u8,
@@ -120,7 +120,7 @@ pub fn utc_from_calendar_by_lent<'a>(
 {
     match JulianDate::from_calendar(year, month, day, 0, 0, 0.0) {
         JulianAnswer::Refused(number) => UtcAnswer::Refused(number),
-        JulianAnswer::Date(midnight) => match leap_table::offsets::leap_at_end_of_day_by_lent(
+        JulianAnswer::Date(midnight) => match leap_table::offsets::leap_at_end_of_day_by_arrays(
             year,
             month as i32,
             day as i32,
@@ -154,7 +154,7 @@ pub fn utc_from_calendar(
     if number != 0 {
         return UtcAnswer::Refused(number);
     }
-    utc_from_calendar_by_lent(
+    utc_from_calendar_by_arrays(
         year,
         month,
         day,

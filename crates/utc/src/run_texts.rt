@@ -44,7 +44,7 @@ fn put_stamp<'a>(
     let at = 27 * i;
     let end = at + 27;
     let date = UTC(julian::stamp_lists::stamp_of(jd1s, jd2s, i));
-    match crate::iso_texts::to_text_by_lent(
+    match crate::iso_texts::to_text_by_arrays(
         textForm,
         date,
         size,
@@ -125,7 +125,7 @@ fn texts_refusal(size1: usize, size2: usize, room1: usize, room2: usize, room3: 
 }
 
 // By the rows of a table that is tested elsewhere: a size and two arrays that are lent on.
-pub fn texts_of_run_by_lent<'a>(
+pub fn texts_of_run_by_arrays<'a>(
     textForm: NamedForm,
     jd1s: &[u8],
     jd2s: &[u8],
@@ -185,7 +185,7 @@ pub fn texts_of_run(
     if number != 0 {
         return RunTextsAnswer::Refused(number);
     }
-    texts_of_run_by_lent(
+    texts_of_run_by_arrays(
         textForm,
         jd1s,
         jd2s,

@@ -87,7 +87,7 @@ pub fn offset_at_0h<'a>(
         (ruleOn (rowsIn size (now (months .entry)) (now (seconds .entry))) (gregorianDate day)) ⌝ }
 {
     let t = calendar::gregorian_date(day);
-    leap_table::offsets::offset_at_0h_by_lent(
+    leap_table::offsets::offset_at_0h_by_arrays(
         t.year,
         t.month as i32,
         t.day as i32,

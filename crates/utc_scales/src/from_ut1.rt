@@ -196,7 +196,7 @@ fn less_dut1<'a>(
 }
 
 // Refusals in order: 10, 9, then 6 or 1 for each scanned day.
-pub fn ut1_to_utc_with_dut1_by_lent<'a>(
+pub fn ut1_to_utc_with_dut1_by_arrays<'a>(
     ut1: UT1,
     dut1: f64,
     size: usize,
@@ -225,7 +225,7 @@ pub fn ut1_to_utc_with_dut1(ut1: UT1, dut1: f64, table: AnnouncedRows) -> UtcAns
     if number != 0 {
         return UtcAnswer::Refused(number);
     }
-    ut1_to_utc_with_dut1_by_lent(
+    ut1_to_utc_with_dut1_by_arrays(
         ut1,
         dut1,
         leap_table::rows::size_of(table),

@@ -26,7 +26,7 @@ fn day_of<'a>(day: i64, size: usize, months: &'a [i32; 16], seconds: &'a [i32; 1
     ensures { λ r. ⌜ dayByRuleOutcome r ≡ readOn (rowsIn size (now (months .entry)) (now (seconds .entry))) (gregorianDate day) ⌝ }
 {
     let t = calendar::gregorian_date(day);
-    leap_table::offsets::day_offsets_by_lent(
+    leap_table::offsets::day_offsets_by_arrays(
         t.year,
         t.month as i32,
         t.day as i32,

@@ -75,7 +75,7 @@ fn with_rule(found: Ut1Answer, rule: Rule) -> Ut1ByRule
 }
 
 // Refusals in order: 10, 6, the date's.
-pub fn utc_to_ut1_with_dut1_by_lent<'a>(
+pub fn utc_to_ut1_with_dut1_by_arrays<'a>(
     utc: UTC,
     dut1: f64,
     size: usize,
@@ -114,7 +114,7 @@ pub fn utc_to_ut1_with_dut1(utc: UTC, dut1: f64, table: AnnouncedRows) -> Ut1ByR
     if number != 0 {
         return Ut1ByRule::Refused(number);
     }
-    utc_to_ut1_with_dut1_by_lent(
+    utc_to_ut1_with_dut1_by_arrays(
         utc,
         dut1,
         leap_table::rows::size_of(table),

@@ -98,7 +98,7 @@ pub(crate) fn tai_fraction<'a>(
 }
 
 // Refusals in order: 6, then the date's.
-pub fn utc_to_tai_by_lent<'a>(
+pub fn utc_to_tai_by_arrays<'a>(
     utc: UTC,
     size: usize,
     months: &'a [i32; 16],
@@ -125,7 +125,7 @@ pub fn utc_to_tai(utc: UTC, table: AnnouncedRows) -> TaiByRule
     if number != 0 {
         return TaiByRule::Refused(number);
     }
-    utc_to_tai_by_lent(
+    utc_to_tai_by_arrays(
         utc,
         leap_table::rows::size_of(table),
         &table.months,
@@ -204,7 +204,7 @@ fn refine_utc_fraction<'a>(
 }
 
 // Refusals in each round, in order: 6, then the date's.
-pub fn tai_to_utc_by_lent<'a>(
+pub fn tai_to_utc_by_arrays<'a>(
     tai: TAI,
     size: usize,
     months: &'a [i32; 16],
@@ -230,7 +230,7 @@ pub fn tai_to_utc(tai: TAI, table: AnnouncedRows) -> UtcAnswer
     if number != 0 {
         return UtcAnswer::Refused(number);
     }
-    tai_to_utc_by_lent(
+    tai_to_utc_by_arrays(
         tai,
         leap_table::rows::size_of(table),
         &table.months,

@@ -42,7 +42,7 @@ fn by_mjd<'a>(
 }
 
 // Refusals in order: 7 the fraction, then 1 to 3 the date.
-pub fn get_tai_utc_offset_by_lent<'a>(
+pub fn get_tai_utc_offset_by_arrays<'a>(
     year: i32,
     month: i32,
     day: i32,
@@ -68,7 +68,7 @@ pub fn get_tai_utc_offset_by_lent<'a>(
 }
 
 // At 0h. Refusals 1 to 3, the date.
-pub fn offset_at_0h_by_lent<'a>(
+pub fn offset_at_0h_by_arrays<'a>(
     year: i32,
     month: i32,
     day: i32,
@@ -109,7 +109,7 @@ pub fn get_tai_utc_offset(
     if number != 0 {
         return SecondsByRule::Refused(number);
     }
-    get_tai_utc_offset_by_lent(
+    get_tai_utc_offset_by_arrays(
         year,
         month,
         day,

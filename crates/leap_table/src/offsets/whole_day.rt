@@ -92,7 +92,7 @@ fn by_next_day<'a>(
 }
 
 // Refusals in order: 1 to 3 the date, then 5 no next day.
-pub fn day_offsets_by_lent<'a>(
+pub fn day_offsets_by_arrays<'a>(
     year: i32,
     month: i32,
     day: i32,
@@ -123,7 +123,7 @@ pub fn day_offsets(year: i32, month: i32, day: i32, table: AnnouncedRows) -> Day
     if number != 0 {
         return DayOffsetsAnswer::Refused(number);
     }
-    match day_offsets_by_lent(
+    match day_offsets_by_arrays(
         year,
         month,
         day,
@@ -137,7 +137,7 @@ pub fn day_offsets(year: i32, month: i32, day: i32, table: AnnouncedRows) -> Day
 }
 
 // Refusals as for its offsets.
-pub fn leap_at_end_of_day_by_lent<'a>(
+pub fn leap_at_end_of_day_by_arrays<'a>(
     year: i32,
     month: i32,
     day: i32,
@@ -169,7 +169,7 @@ pub fn leap_at_end_of_day(year: i32, month: i32, day: i32, table: AnnouncedRows)
     if number != 0 {
         return SecondsAnswer::Refused(number);
     }
-    without_rule(leap_at_end_of_day_by_lent(
+    without_rule(leap_at_end_of_day_by_arrays(
         year,
         month,
         day,

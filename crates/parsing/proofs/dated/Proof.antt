@@ -20,7 +20,7 @@ returns c =
     let p = a .fields in
     let fit : SFits w32 (p .year) = record { sfits = c .before .before .before .before .struct-told .given .0 .1 } in
     rw (sym (λ i. utcFromCalendar (rowsIn (a .size) (now (a .months)) (now (a .seconds))) (toZ-ofZ {w = w32} {z = p .year} fit i) (p .month) (p .day)
-    (p .hour) (p .minute) (p .second)) ∙ sym (c .before .before .before .utc-from-calendar-by-lent .ensures) ∙ ap utcOutcome (c .before .number .given .1))
+    (p .hour) (p .minute) (p .second)) ∙ sym (c .before .before .before .utc-from-calendar-by-arrays .ensures) ∙ ap utcOutcome (c .before .number .given .1))
 
 returns-2 : tie.Need-returns-2
 unfolding parsedUtcOutcome dated onward utcOutcome
@@ -29,7 +29,7 @@ returns-2 c =
     let p = a .fields in
     let fit : SFits w32 (p .year) = record { sfits = c .before .before .before .before .struct-told .given .0 .1 } in
     rw (sym (λ i. utcFromCalendar (rowsIn (a .size) (now (a .months)) (now (a .seconds))) (toZ-ofZ {w = w32} {z = p .year} fit i) (p .month) (p .day)
-    (p .hour) (p .minute) (p .second)) ∙ sym (c .before .before .before .utc-from-calendar-by-lent .ensures) ∙ ap utcOutcome (c .before .date .given .1))
+    (p .hour) (p .minute) (p .second)) ∙ sym (c .before .before .before .utc-from-calendar-by-arrays .ensures) ∙ ap utcOutcome (c .before .date .given .1))
 
 pub dated-spec : {M : Type 1} → statement M
 dated-spec =

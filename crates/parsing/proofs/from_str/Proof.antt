@@ -18,7 +18,7 @@ returns-2 c =
     let r = z .before .before in
     let s = r .before .before in
     let rows = rows-in (s .args .t2) (z .size-of .result) (z .size-of .ensures) in
-    c .from-str-by-lent .ensures
+    c .from-str-by-arrays .ensures
     ∙ (λ i. parsedUtc (rows i) (now (s .args .text)))
     ∙ taken (s .args .t2) (r .table-refusal .result) (r .table-refusal .ensures) _ (z .before .if1 .left)
 

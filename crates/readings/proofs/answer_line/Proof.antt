@@ -7,7 +7,7 @@ use Rattle.leap_table.specs.rows.Table.{Row}
 use Rattle.leap_table.proofs.rows.ByParts.{rows-in}
 use lib.ListN.{length}
 use native.Mathlib.Omega.{arith}
-use Rattle.readings.specs.Reading.{reading, readingTold, readingLine}
+use Rattle.readings.specs.Reading.{reading, readingWords, readingLine}
 use Rattle.numerals.proofs.digits.Places.{then, placed-as}
 use Rattle.reasons.proofs.sentences.Placing.{placed-length}
 use Rattle.readings.proofs.Lines.{no-room, index-put, line-put}
@@ -37,7 +37,7 @@ returns-2 c =
     let st = i .before .before .before in
     let room : 50 ≤ length (now (st .args .out)) = omega (arith, i .if1 .left) in
     let p = index-put (d .place-decimal .ensures .0) (d .place-decimal .ensures .1) (b .place-bytes .ensures) (omega arith) room in
-    let same = ap (λ (l : List Row). readingTold (reading l (now (st .args .text))))
+    let same = ap (λ (l : List Row). readingWords (reading l (now (st .args .text))))
     (rows-in (st .args .t3) (z .size-of .result) (z .size-of .ensures)) in
     let q = placed-as same (r .place-reading .ensures .0) in
     let few = r .place-reading .ensures .1 in

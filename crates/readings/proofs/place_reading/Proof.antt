@@ -4,7 +4,7 @@ use mathlib.Core.List.{List}
 use denote.Ref.{now}
 use Rattle.leap_table.specs.rows.Table.{Row}
 use Rattle.leap_table.specs.rows.Announced.{rowsIn}
-use Rattle.readings.specs.Reading.{readingTold}
+use Rattle.readings.specs.Reading.{readingWords}
 use Rattle.readings.proofs.Lines.{read-refused, read-dated}
 use Rattle.numerals.proofs.digits.Places.{placed-as}
 use borrow.Author.Needs.{needs}
@@ -21,8 +21,8 @@ returns c =
     let k = c .before .before .before .before .before in
     let v = k .before .before in
     let st = v .before .before .before in
-    let e = read-refused (rows st) (now (st .args .text)) _ (v .from-str-by-lent .ensures) _ (k .number .given .1) in
-    (placed-as (sym (ap readingTold e)) (p .0), p .1)
+    let e = read-refused (rows st) (now (st .args .text)) _ (v .from-str-by-arrays .ensures) _ (k .number .given .1) in
+    (placed-as (sym (ap readingWords e)) (p .0), p .1)
 
 returns-2 : tie.Need-returns-2
 returns-2 c =
@@ -30,8 +30,8 @@ returns-2 c =
     let k = c .before .before .before .before .before in
     let v = k .before .before in
     let st = v .before .before .before in
-    let e = read-dated (rows st) (now (st .args .text)) _ (v .from-str-by-lent .ensures) _ (k .read .given .1) in
-    (placed-as (sym (ap readingTold e)) (p .0), p .1)
+    let e = read-dated (rows st) (now (st .args .text)) _ (v .from-str-by-arrays .ensures) _ (k .read .given .1) in
+    (placed-as (sym (ap readingWords e)) (p .0), p .1)
 
 pub place-reading-spec : {M : Type 1} → statement M
 place-reading-spec =

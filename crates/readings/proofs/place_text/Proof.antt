@@ -7,7 +7,7 @@ use native.Mathlib.Omega.{arith}
 use Rattle.leap_table.specs.rows.Table.{Row}
 use Rattle.leap_table.specs.rows.Announced.{rowsIn}
 use Rattle.numerals.proofs.digits.Places.{lent-length, part-put, part-kept, placed-as, placed-into}
-use Rattle.readings.specs.Reading.{readingTold}
+use Rattle.readings.specs.Reading.{readingWords}
 use Rattle.readings.proofs.Lines.{text-written, text-refused}
 use borrow.Author.Needs.{needs}
 use Rattle.readings.proofs.place_text.Statement.{statement}
@@ -21,14 +21,14 @@ add-result : tie.Need-add-result
 add-result c =
     let v = c .before .before .before .before .before in
     let st = v .before .before .before in
-    let w = text-written (rows st) (st .args .utc .0) (v .to-iso8601-expanded-by-lent .ensures) _ _ (c .before .n .given .1) in
+    let w = text-written (rows st) (st .args .utc .0) (v .to-iso8601-expanded-by-arrays .ensures) _ _ (c .before .n .given .1) in
     omega (arith, w .2, st .pre, st .good)
 
 returns : tie.Need-returns
 returns c =
     let v = c .before .before .before .before .before in
     let st = v .before .before .before in
-    let w = text-written (rows st) (st .args .utc .0) (v .to-iso8601-expanded-by-lent .ensures) _ _ (c .before .n .given .1) in (
+    let w = text-written (rows st) (st .args .utc .0) (v .to-iso8601-expanded-by-arrays .ensures) _ _ (c .before .n .given .1) in (
       record {
         ends = ap (λ (k : ℕ). st .args .at + k) (w .0);
         holds = part-put (now (st .args .dst)) (st .args .at) (omega (arith, st .pre)) _ _ (w .1);
@@ -43,8 +43,8 @@ returns-2 c =
     let v = k .before .before .before .before in
     let st = v .before .before .before in
     let room = lent-length (now (st .args .dst)) (st .args .at) (omega (arith, st .pre)) in
-    let w = text-refused (rows st) (st .args .utc .0) (v .to-iso8601-expanded-by-lent .ensures) _ (k .number .given .1) (omega (arith, room, st .pre)) in
-    (placed-as (sym (ap readingTold (w .0))) (placed-into (part-kept (now (st .args .dst)) (st .args .at) (omega (arith, st .pre)) _ (w .1)) (p .0)), p .1)
+    let w = text-refused (rows st) (st .args .utc .0) (v .to-iso8601-expanded-by-arrays .ensures) _ (k .number .given .1) (omega (arith, room, st .pre)) in
+    (placed-as (sym (ap readingWords (w .0))) (placed-into (part-kept (now (st .args .dst)) (st .args .at) (omega (arith, st .pre)) _ (w .1)) (p .0)), p .1)
 
 pub place-text-spec : {M : Type 1} → statement M
 place-text-spec =

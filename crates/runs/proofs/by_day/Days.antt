@@ -35,7 +35,7 @@ use Rattle.utc_scales.proofs.Steps.{tai-of-day}
 use Rattle.runs.specs.declared.by_day.DayInHand.{DayInHand}
 use Rattle.runs.specs.declared.by_day.ByHand.{ByHand}
 use Rattle.runs.specs.declared.by_day.ByHand.the-variants as B
-use Rattle.runs.specs.by_day.Hand.{dayFrom, Midnight, Held, handOf, taiPart, minusOne, servesNone, RightHand, RightTai, RightWay}
+use Rattle.runs.specs.by_day.Hand.{dayFrom, Midnight, Held, handOf, taiPart, minusOne, servesNone, RightHand, RightByHand, RightWay}
 use Rattle.runs.specs.ways.Ways.{wayOf}
 use Rattle.runs.proofs.laws.EachWay.{each-way}
 use Rattle.runs.proofs.by_day.Floats.{first-larger}
@@ -104,8 +104,8 @@ module _ (rows : List Row) (x y : Float) (h : DayInHand) (fx : T (fits binary64 
       ∙ went _ refl
 
 -- ---- the way from UTC to TAI
-pub way-to-tai : (rows : List Row) (from to : ℕ) (d : JulianDate) (r : ByHand) → from ≡ 0 → to ≡ 1 → RightTai rows d r → RightWay rows from to d r
-unfolding RightTai RightWay
+pub way-to-tai : (rows : List Row) (from to : ℕ) (d : JulianDate) (r : ByHand) → from ≡ 0 → to ≡ 1 → RightByHand rows d r → RightWay rows from to d r
+unfolding RightByHand RightWay
 way-to-tai rows from to d (B.Date t) p q e =
     ap (λ (a : ℕ). wayOf rows a to d) p ∙ ap (λ (a : ℕ). wayOf rows 0 a d) q ∙ each-way rows d .utc-tai ∙ e
 way-to-tai rows from to d B.Elsewhere p q e = tt

@@ -19,15 +19,15 @@ returns c =
 
 returns-2 : tie.Need-returns-2
 returns-2 c =
-    let at-convert-run-by-lent = c .before .before .before .before .before .before in
-    let back = at-convert-run-by-lent .before .before .before .before .before .before .before in
+    let at-convert-run-by-arrays = c .before .before .before .before .before .before in
+    let back = at-convert-run-by-arrays .before .before .before .before .before .before .before in
     let at-if1 = back .before in
     let back2 = at-if1 .before in
     let start = back2 .before .before .before .before .before .before in
     let a = start .args in
     let q = back2 in
     let z = back in
-    at-convert-run-by-lent .convert-run-by-lent .ensures
+    at-convert-run-by-arrays .convert-run-by-arrays .ensures
     ∙ ap (λ (l : List Row). runBy l (a .from) (a .to) (a .jd1s .now) (a .jd2s .now) (a .out1 .now) (a .out2 .now) (a .numbers .now))
     (rows-in (a .t5) (z .size-of .result) (z .size-of .ensures))
     ∙ table-taken (tableOf (a .t5)) (rowsOf (a .t5)) (q .table-refusal .result) (q .table-refusal .ensures) (a .from) (a .to) (a .jd1s .now) (a .jd2s .now)

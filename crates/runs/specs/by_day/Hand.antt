@@ -74,9 +74,9 @@ InDayOf x y (I.Fraction f) = dayNumberAndFraction x y ≡ answer (record { day =
 InDayOf x y I.Elsewhere = Unit
 
 -- a date that is found is UTC to TAI of the date
-unfoldable pub RightTai : List Row → JulianDate → ByHand → Type 0
-RightTai rows d (B.Date t) = utcToTai rows d ≡ answer t
-RightTai rows d B.Elsewhere = Unit
+unfoldable pub RightByHand : List Row → JulianDate → ByHand → Type 0
+RightByHand rows d (B.Date t) = utcToTai rows d ≡ answer t
+RightByHand rows d B.Elsewhere = Unit
 
 -- what `fraction_in_day` finds, for every midnight
 unfoldable pub FindsFraction : Float → InDay → Type 0
@@ -88,11 +88,11 @@ minusOne = fin true 1 (pos 0)
 
 -- a date that is found by a day that begins at jd1, where jd2 is from 0.0 to below 1.0
 unfoldable pub FindsTaiOf : JulianDate → DayInHand → ByHand → Type 0
-FindsTaiOf d h r = (rows : List Row) → Held rows h → d .jd1 ≡ h .midnight → le nought (d .jd2) ≡ true → lt (d .jd2) one ≡ true → RightTai rows d r
+FindsTaiOf d h r = (rows : List Row) → Held rows h → d .jd1 ≡ h .midnight → le nought (d .jd2) ≡ true → lt (d .jd2) one ≡ true → RightByHand rows d r
 
 -- a date that is found by a day in hand, whichever table it is right for
 unfoldable pub FindsTai : JulianDate → DayInHand → ByHand → Type 0
-FindsTai d h r = (rows : List Row) → RightHand rows h → RightTai rows d r
+FindsTai d h r = (rows : List Row) → RightHand rows h → RightByHand rows d r
 
 -- a date that is found is that of the way from one scale to another
 unfoldable pub RightWay : List Row → ℕ → ℕ → JulianDate → ByHand → Type 0

@@ -19,7 +19,7 @@ returns-2 c =
     let r = z .before .before in
     let s = r .before in
     let rows = rows-in (s .args .t3) (z .size-of .result) (z .size-of .ensures) in
-    c .new-by-lent .ensures
+    c .new-by-arrays .ensures
     ∙ (λ i. utcNew (rows i) (toZ-ofZ (s .fits .seconds) i) (s .args .nanos))
     ∙ taken (s .args .t3) (r .table-refusal .result) (r .table-refusal .ensures) _ (z .before .if1 .left)
 

@@ -19,7 +19,7 @@ returns-2 c =
     let r = z .before .before in
     let s = r .before in
     let rows = rows-in (s .args .t7) (z .size-of .result) (z .size-of .ensures) in
-    c .utc-from-calendar-by-lent .ensures
+    c .utc-from-calendar-by-arrays .ensures
     ∙ (λ i. utcFromCalendar (rows i) (toZ-ofZ (s .fits .year) i) (s .args .month) (s .args .day) (s .args .hour) (s .args .minute)
     (s .args .second))
     ∙ taken (s .args .t7) (r .table-refusal .result) (r .table-refusal .ensures) _ (z .before .if1 .left)

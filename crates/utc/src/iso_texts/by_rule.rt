@@ -24,7 +24,7 @@ pub(crate) fn with_rule(text: TextAnswer, rule: Rule) -> TextByRule
 }
 
 // Refusals in order: 6 the parts, 1 the year, 11 the buffer; a refused call writes nothing.
-pub fn to_iso8601_by_lent<'a>(
+pub fn to_iso8601_by_arrays<'a>(
     utc: UTC,
     size: usize,
     months: &'a [i32; 16],
@@ -51,7 +51,7 @@ pub fn to_iso8601(utc: UTC, table: AnnouncedRows, out: &mut [u8]) -> TextByRule
     if number != 0 {
         return TextByRule::Refused(number);
     }
-    to_iso8601_by_lent(
+    to_iso8601_by_arrays(
         utc,
         leap_table::rows::size_of(table),
         &table.months,

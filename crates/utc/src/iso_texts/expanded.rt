@@ -18,7 +18,7 @@ use scales::UTC;
 use time_of_day::TimeShown;
 
 // Refusals in order: 6 the parts, 1 the year, 11 the buffer; a refused call writes nothing.
-pub fn to_iso8601_expanded_by_lent<'a>(
+pub fn to_iso8601_expanded_by_arrays<'a>(
     utc: UTC,
     size: usize,
     months: &'a [i32; 16],
@@ -46,7 +46,7 @@ pub fn to_iso8601_expanded(utc: UTC, table: AnnouncedRows, out: &mut [u8]) -> Te
     if number != 0 {
         return TextByRule::Refused(number);
     }
-    to_iso8601_expanded_by_lent(
+    to_iso8601_expanded_by_arrays(
         utc,
         leap_table::rows::size_of(table),
         &table.months,

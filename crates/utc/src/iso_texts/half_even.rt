@@ -11,7 +11,7 @@ use leap_table::rows::AnnouncedRows;
 use scales::UTC;
 
 // Refusals in order: 6 the parts, 1 the year, 11 the buffer; a refused call writes nothing.
-pub fn to_iso8601_half_even_by_lent<'a>(
+pub fn to_iso8601_half_even_by_arrays<'a>(
     utc: UTC,
     size: usize,
     months: &'a [i32; 16],
@@ -39,7 +39,7 @@ pub fn to_iso8601_half_even(utc: UTC, table: AnnouncedRows, out: &mut [u8]) -> T
     if number != 0 {
         return TextByRule::Refused(number);
     }
-    to_iso8601_half_even_by_lent(
+    to_iso8601_half_even_by_arrays(
         utc,
         leap_table::rows::size_of(table),
         &table.months,

@@ -4,13 +4,13 @@ ghost use Rattle.utc.specs.iso_texts.ByRule.{textByRule, TextRuleCall};
 ghost use Rattle.utc.specs.iso_texts.Named.{formNamed};
 use super::NamedForm;
 use super::TextByRule;
-use super::by_rule::to_iso8601_by_lent;
-use super::expanded::to_iso8601_expanded_by_lent;
-use super::half_even::to_iso8601_half_even_by_lent;
+use super::by_rule::to_iso8601_by_arrays;
+use super::expanded::to_iso8601_expanded_by_arrays;
+use super::half_even::to_iso8601_half_even_by_arrays;
 use scales::UTC;
 
 // Refusals in order: 6 the parts, 1 the year, 11 the buffer; a refused call writes nothing.
-pub fn to_text_by_lent<'a>(
+pub fn to_text_by_arrays<'a>(
     textForm: NamedForm,
     utc: UTC,
     size: usize,
@@ -22,8 +22,8 @@ pub fn to_text_by_lent<'a>(
         (now (out .exit)) ⌝ }
 {
     match textForm {
-        NamedForm::Document01 => to_iso8601_by_lent(utc, size, months, seconds, out),
-        NamedForm::HalfEven => to_iso8601_half_even_by_lent(utc, size, months, seconds, out),
-        NamedForm::Expanded => to_iso8601_expanded_by_lent(utc, size, months, seconds, out),
+        NamedForm::Document01 => to_iso8601_by_arrays(utc, size, months, seconds, out),
+        NamedForm::HalfEven => to_iso8601_half_even_by_arrays(utc, size, months, seconds, out),
+        NamedForm::Expanded => to_iso8601_expanded_by_arrays(utc, size, months, seconds, out),
     }
 }

@@ -24,7 +24,7 @@ returns-2 c =
     let s = n .before .before .before .before .before in
     with-announced _ _ (n .read-table .result .number) (n .read-table .ensures .0 refl refl) offsetRuleBytes _ (p .put-offset .ok)
     (b .before .before .before .if1 .left)
-    (b .get-tai-utc-offset-by-lent .ensures
+    (b .get-tai-utc-offset-by-arrays .ensures
     ∙ read-date (λ (y m d : ℤ). offsetByRule (rowsIn (n .read-table .result .size) (n .read-table .last .1 .0) (n .read-table .last .1 .1 .0)) y m d
     (s .args .fraction)) _ _ _ (s .fits .year) (s .fits .month) (s .fits .day))
     (p .put-offset .ensures)

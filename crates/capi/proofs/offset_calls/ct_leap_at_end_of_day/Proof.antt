@@ -25,7 +25,7 @@ returns-2 c =
     let s = n .before .before .before .before .before in
     with-announced _ _ (n .read-table .result .number) (n .read-table .ensures .0 refl refl) floatBytes _ (p .put-leap .ok)
     (b .before .before .before .if1 .left)
-    (ap forget (b .leap-at-end-of-day-by-lent .ensures)
+    (ap forget (b .leap-at-end-of-day-by-arrays .ensures)
     ∙ leap-forgets (rowsIn (n .read-table .result .size) (n .read-table .last .1 .0) (n .read-table .last .1 .1 .0)) _ _ _
     ∙ read-date (leapAtEndOfDay (rowsIn (n .read-table .result .size) (n .read-table .last .1 .0) (n .read-table .last .1 .1 .0))) _ _ _ (s .fits .year)
     (s .fits .month) (s .fits .day))

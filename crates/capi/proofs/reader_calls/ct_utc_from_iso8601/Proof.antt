@@ -19,7 +19,7 @@ returns-2 c =
     let n = b .before .before .before .before in
     with-announced _ _ (n .read-table .result .number) (n .read-table .ensures .0 refl refl) parsedUtcBytes _ (p .put-parsed-utc .ok)
     (b .before .before .before .if1 .left)
-    (b .from-str-by-lent .ensures)
+    (b .from-str-by-arrays .ensures)
     (p .put-parsed-utc .ensures)
 
 pub ct-utc-from-iso8601-spec : {M : Type 1} → statement M

@@ -26,7 +26,7 @@ cast-result c =
         arith,
         run-counted _ _ (n .read-table .result .number) (n .read-table .ensures .0 refl refl) (s .args .from) (s .args .to)
             (now (s .args .jd1)) (now (s .args .jd2)) (now (s .args .out1)) (now (s .args .out2)) (now (s .args .numbers)) (i .if1 .left)
-            (f .convert-run-by-lent .result) (f .convert-run-by-lent .ensures) _ (c .before .n .given .1),
+            (f .convert-run-by-arrays .result) (f .convert-run-by-arrays .ensures) _ (c .before .n .given .1),
         s .good,
       );
     }
@@ -39,13 +39,13 @@ returns-2 c =
     let s = n .before .before .before .before .before .before .before .before .before in
     let f = back .before in
     run-converted _ _ (n .read-table .result .number) (n .read-table .ensures .0 refl refl) (s .args .from) (s .args .to) (now (s .args .jd1))
-    (now (s .args .jd2)) (now (s .args .out1)) (now (s .args .out2)) (now (s .args .numbers)) (i .if1 .left) (f .convert-run-by-lent .result)
-    (f .convert-run-by-lent .ensures) _ (c .before .n .given .1)
+    (now (s .args .jd2)) (now (s .args .out1)) (now (s .args .out2)) (now (s .args .numbers)) (i .if1 .left) (f .convert-run-by-arrays .result)
+    (f .convert-run-by-arrays .ensures) _ (c .before .n .given .1)
     (omega (
       arith,
       run-counted _ _ (n .read-table .result .number) (n .read-table .ensures .0 refl refl) (s .args .from) (s .args .to) (now (s .args .jd1))
-          (now (s .args .jd2)) (now (s .args .out1)) (now (s .args .out2)) (now (s .args .numbers)) (i .if1 .left) (f .convert-run-by-lent .result)
-          (f .convert-run-by-lent .ensures) _ (c .before .n .given .1),
+          (now (s .args .jd2)) (now (s .args .out1)) (now (s .args .out2)) (now (s .args .numbers)) (i .if1 .left) (f .convert-run-by-arrays .result)
+          (f .convert-run-by-arrays .ensures) _ (c .before .n .given .1),
       s .good,
     ))
 
@@ -57,8 +57,8 @@ returns-3 c =
     let s = n .before .before .before .before .before .before .before .before .before in
     let f = back .before .before in
     run-refused _ _ (n .read-table .result .number) (n .read-table .ensures .0 refl refl) (s .args .from) (s .args .to) (now (s .args .jd1))
-    (now (s .args .jd2)) (now (s .args .out1)) (now (s .args .out2)) (now (s .args .numbers)) (i .if1 .left) (f .convert-run-by-lent .result)
-    (f .convert-run-by-lent .ensures) _ (c .refused2 .ok) (c .before .before .number .given .1) (c .refused2 .ensures)
+    (now (s .args .jd2)) (now (s .args .out1)) (now (s .args .out2)) (now (s .args .numbers)) (i .if1 .left) (f .convert-run-by-arrays .result)
+    (f .convert-run-by-arrays .ensures) _ (c .refused2 .ok) (c .before .before .number .given .1) (c .refused2 .ensures)
 
 pub ct-convert-run-spec : {M : Type 1} → statement M
 ct-convert-run-spec =

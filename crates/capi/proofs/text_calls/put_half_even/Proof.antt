@@ -13,12 +13,12 @@ returns c = short-lent _ _ _ _ (c .before .before .with-short-rule .ok) (c .befo
 cast-result : tie.Need-cast-result
 unfolding formNamed
 cast-result c = count-fits _ (text-few HalfEven _ _)
-    (c .before .before .before .before .before .before .before .before .before .to-iso8601-half-even-by-lent .ensures)
+    (c .before .before .before .before .before .before .before .before .before .to-iso8601-half-even-by-arrays .ensures)
     (c .before .before .before .before .before .n .given .1)
 
 returns-2 : tie.Need-returns-2
 unfolding formNamed
-returns-2 c = two-refused _ (text-few HalfEven _ _) (c .before .before .before .before .before .before .to-iso8601-half-even-by-lent .ensures) _
+returns-2 c = two-refused _ (text-few HalfEven _ _) (c .before .before .before .before .before .before .to-iso8601-half-even-by-arrays .ensures) _
     (c .refused .ok) (c .before .before .number .given .1) (c .refused .ensures)
 
 returns-3 : tie.Need-returns-3
@@ -26,7 +26,7 @@ unfolding formNamed
 returns-3 c =
     let back = c .before .before .before .before .before .before .before .before in
     two-written _ (text-few HalfEven _ _)
-    (back .before .to-iso8601-half-even-by-lent .ensures)
+    (back .before .to-iso8601-half-even-by-arrays .ensures)
     (c .before .before .before .before .before .n .given .1)
     (back .before .before .before .if1 .left) (c .before .before .put-rule .ensures)
 

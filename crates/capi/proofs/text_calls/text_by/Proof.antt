@@ -17,17 +17,17 @@ rows s = rowsIn (s .args .size) (now (s .args .months)) (now (s .args .seconds))
 returns : tie.Need-returns
 unfolding formNamed
 returns c = let s = c .before .before .before .before .before .before .before in named-call (s .args .textForm) Document01 (rows s) (s .args .date .0)
-    (c .before .before .before .before .enum-told .given .1) (c .before .before .to-iso8601-by-lent .ensures)
+    (c .before .before .before .before .enum-told .given .1) (c .before .before .to-iso8601-by-arrays .ensures)
 
 returns-2 : tie.Need-returns-2
 unfolding formNamed
 returns-2 c = let s = c .before .before .before .before .before .before .before in named-call (s .args .textForm) HalfEven (rows s) (s .args .date .0)
-    (c .before .before .before .before .enum-told2 .given .1) (c .before .before .to-iso8601-half-even-by-lent .ensures)
+    (c .before .before .before .before .enum-told2 .given .1) (c .before .before .to-iso8601-half-even-by-arrays .ensures)
 
 returns-3 : tie.Need-returns-3
 unfolding formNamed
 returns-3 c = let s = c .before .before .before .before .before .before .before in named-call (s .args .textForm) Expanded (rows s) (s .args .date .0)
-    (c .before .before .before .before .enum-told3 .given .1) (c .before .before .to-iso8601-expanded-by-lent .ensures)
+    (c .before .before .before .before .enum-told3 .given .1) (c .before .before .to-iso8601-expanded-by-arrays .ensures)
 
 pub text-by-spec : {M : Type 1} → statement M
 text-by-spec =

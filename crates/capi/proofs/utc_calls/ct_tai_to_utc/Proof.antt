@@ -19,7 +19,7 @@ returns-2 c =
     let n = b .before .before .before .before in
     with-announced _ _ (n .read-table .result .number) (n .read-table .ensures .0 refl refl) julianBytes _ (p .put-utc .ok)
     (b .before .before .before .if1 .left)
-    (b .tai-to-utc-by-lent .ensures)
+    (b .tai-to-utc-by-arrays .ensures)
     (p .put-utc .ensures)
 
 pub ct-tai-to-utc-spec : {M : Type 1} → statement M

@@ -19,7 +19,7 @@ returns-2 c =
     let n = b .before .before .before .before in
     with-announced _ _ (n .read-table .result .number) (n .read-table .ensures .0 refl refl) julianBytes _ (p .put-utc .ok)
     (b .before .before .before .if1 .left)
-    (b .ut1-to-utc-with-dut1-by-lent .ensures)
+    (b .ut1-to-utc-with-dut1-by-arrays .ensures)
     (p .put-utc .ensures)
 
 pub ct-ut1-to-utc-with-dut1-spec : {M : Type 1} → statement M

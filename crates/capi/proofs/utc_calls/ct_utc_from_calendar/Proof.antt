@@ -24,7 +24,7 @@ returns-2 c =
     let s = n .before .before .before .before .before in
     with-announced _ _ (n .read-table .result .number) (n .read-table .ensures .0 refl refl) julianBytes _ (p .put-utc .ok)
     (b .before .before .before .if1 .left)
-    (b .utc-from-calendar-by-lent .ensures
+    (b .utc-from-calendar-by-arrays .ensures
     ∙ ap (λ (y : ℤ). utcFromCalendar (rowsIn (n .read-table .result .size) (n .read-table .last .1 .0) (n .read-table .last .1 .1 .0)) y (s .args .month)
     (s .args .day) (s .args .hour) (s .args .minute) (s .args .second)) (toZ-ofZ (s .fits .year)))
     (p .put-utc .ensures)

@@ -24,7 +24,7 @@ returns-2 c =
     let s = n .before .before .before .before .before in
     with-announced _ _ (n .read-table .result .number) (n .read-table .ensures .0 refl refl) julianBytes _ (p .put-utc .ok)
     (b .before .before .before .if1 .left)
-    (b .new-by-lent .ensures ∙ ap (λ (z : ℤ). utcNew (rowsIn (n .read-table .result .size) (n .read-table .last .1 .0) (n .read-table .last .1 .1 .0)) z
+    (b .new-by-arrays .ensures ∙ ap (λ (z : ℤ). utcNew (rowsIn (n .read-table .result .size) (n .read-table .last .1 .0) (n .read-table .last .1 .1 .0)) z
     (s .args .nanos)) (toZ-ofZ (s .fits .seconds)))
     (p .put-utc .ensures)
 

@@ -19,7 +19,7 @@ returns-2 c =
     let n = b .before .before .before .before in
     with-announced _ _ (n .read-table .result .number) (n .read-table .ensures .0 refl refl) julianRuleBytes _ (p .put-tai-by-rule .ok)
     (b .before .before .before .if1 .left)
-    (b .utc-to-tai-by-lent .ensures)
+    (b .utc-to-tai-by-arrays .ensures)
     (p .put-tai-by-rule .ensures)
 
 pub ct-utc-to-tai-spec : {M : Type 1} → statement M

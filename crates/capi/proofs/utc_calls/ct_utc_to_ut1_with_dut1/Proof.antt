@@ -19,7 +19,7 @@ returns-2 c =
     let n = b .before .before .before .before in
     with-announced _ _ (n .read-table .result .number) (n .read-table .ensures .0 refl refl) julianRuleBytes _ (p .put-ut1-by-rule .ok)
     (b .before .before .before .if1 .left)
-    (b .utc-to-ut1-with-dut1-by-lent .ensures)
+    (b .utc-to-ut1-with-dut1-by-arrays .ensures)
     (p .put-ut1-by-rule .ensures)
 
 pub ct-utc-to-ut1-with-dut1-spec : {M : Type 1} → statement M

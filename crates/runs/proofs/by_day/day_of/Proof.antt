@@ -19,16 +19,16 @@ use Rattle.runs.proofs.by_day.day_of.Tie as tie
 abbrev rows : tie.Start → List Row
 rows s = rowsIn (s .args .size) (now (s .args .months)) (now (s .args .seconds))
 
-cast-day-offsets-by-lent : tie.Need-cast-day-offsets-by-lent
-cast-day-offsets-by-lent c = month-fits _ _ (c .before .gregorian-date .ensures ∙ ap gregorianDate (toZ-ofZ (c .before .before .fits .day)))
+cast-day-offsets-by-arrays : tie.Need-cast-day-offsets-by-arrays
+cast-day-offsets-by-arrays c = month-fits _ _ (c .before .gregorian-date .ensures ∙ ap gregorianDate (toZ-ofZ (c .before .before .fits .day)))
 
-cast-day-offsets-by-lent-2 : tie.Need-cast-day-offsets-by-lent-2
-cast-day-offsets-by-lent-2 c = day-of-month-fits _ _
+cast-day-offsets-by-arrays-2 : tie.Need-cast-day-offsets-by-arrays-2
+cast-day-offsets-by-arrays-2 c = day-of-month-fits _ _
     (c .before .before .gregorian-date .ensures ∙ ap gregorianDate (toZ-ofZ (c .before .before .before .fits .day)))
 
 returns : tie.Need-returns
 unfolding readOn offsetsOf ruleOn dayByRule
-returns c = c .day-offsets-by-lent .ensures
+returns c = c .day-offsets-by-arrays .ensures
     ∙ handed _ _ (c .before .before .before .before .gregorian-date .ensures
     ∙ ap gregorianDate (toZ-ofZ (c .before .before .before .before .before .fits .day))) (dayByRule (rows (c .before .before .before .before .before)))
     (record { sfits = c .before .struct-told .given .0 .1 })
@@ -36,4 +36,4 @@ returns c = c .day-offsets-by-lent .ensures
 pub day-of-spec : {M : Type 1} → statement M
 day-of-spec =
     tie.close
-    (tie.spec (λ c κs. search needs) cast-day-offsets-by-lent cast-day-offsets-by-lent-2 (λ c κs. search needs) returns)
+    (tie.spec (λ c κs. search needs) cast-day-offsets-by-arrays cast-day-offsets-by-arrays-2 (λ c κs. search needs) returns)

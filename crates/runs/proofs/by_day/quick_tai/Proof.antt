@@ -4,7 +4,7 @@ use mathlib.Core.Bool.{true}
 use lib.Ieee.{Float, ofBits, lt}
 use Rattle.floats.proofs.Laws.{yes}
 use Rattle.runs.specs.declared.by_day.DayInHand.{DayInHand}
-use Rattle.runs.specs.by_day.Hand.{RightHand, handOf, RightTai, FindsTaiOf, FindsTai}
+use Rattle.runs.specs.by_day.Hand.{RightHand, handOf, RightByHand, FindsTaiOf, FindsTai}
 use Rattle.runs.proofs.by_day.Floats.{same-float}
 use borrow.Author.Needs.{needs}
 use Rattle.runs.proofs.by_day.quick_tai.Statement.{statement}
@@ -24,19 +24,19 @@ returns c rows right =
     (subst (λ (z : Float). lt (s .args .small) z ≡ true) (ap (λ (z : DayInHand). z .top) (k .same)) (j4 .if4 .taken))
 
 returns-2 : tie.Need-returns-2
-unfolding FindsTai RightTai
+unfolding FindsTai RightByHand
 returns-2 c rows right = tt
 
 returns-3 : tie.Need-returns-3
-unfolding FindsTai RightTai
+unfolding FindsTai RightByHand
 returns-3 c rows right = tt
 
 returns-4 : tie.Need-returns-4
-unfolding FindsTai RightTai
+unfolding FindsTai RightByHand
 returns-4 c rows right = tt
 
 returns-5 : tie.Need-returns-5
-unfolding FindsTai RightTai
+unfolding FindsTai RightByHand
 returns-5 c rows right = tt
 
 pub quick-tai-spec : {M : Type 1} → statement M

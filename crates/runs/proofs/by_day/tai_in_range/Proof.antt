@@ -7,18 +7,18 @@ use Rattle.julian.specs.JulianDate.{julian}
 use Rattle.julian.specs.day_number.DayNumber.{accepted}
 use Rattle.julian.proofs.day_number.Steps.{from-min}
 use Rattle.runs.specs.declared.by_day.InDay.{InDay}
-use Rattle.runs.specs.by_day.Hand.{Midnight, InDayOf, FindsFraction, RightTai, FindsTaiOf}
+use Rattle.runs.specs.by_day.Hand.{Midnight, InDayOf, FindsFraction, RightByHand, FindsTaiOf}
 use Rattle.runs.proofs.by_day.Days.{tai-by-hand}
 use borrow.Author.Needs.{needs}
 use Rattle.runs.proofs.by_day.tai_in_range.Statement.{statement}
 use Rattle.runs.proofs.by_day.tai_in_range.Tie as tie
 
 returns : tie.Need-returns
-unfolding FindsTaiOf RightTai
+unfolding FindsTaiOf RightByHand
 returns c rows k e l t = tt
 
 returns-2 : tie.Need-returns-2
-unfolding FindsTaiOf RightTai FindsFraction InDayOf accepted ofBits neg
+unfolding FindsTaiOf RightByHand FindsFraction InDayOf accepted ofBits neg
 returns-2 c rows k e l t =
     let f = c .before .before in
     let g = f .before .before in
@@ -33,11 +33,11 @@ returns-2 c rows k e l t =
     ∙ ap (λ (z : Float). answer (julian x z)) (sym (c .tai-part .ensures))
 
 returns-3 : tie.Need-returns-3
-unfolding FindsTaiOf RightTai
+unfolding FindsTaiOf RightByHand
 returns-3 c rows k e l t = tt
 
 returns-4 : tie.Need-returns-4
-unfolding FindsTaiOf RightTai
+unfolding FindsTaiOf RightByHand
 returns-4 c rows k e l t = tt
 
 pub tai-in-range-spec : {M : Type 1} → statement M

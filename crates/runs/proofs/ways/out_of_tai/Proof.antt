@@ -10,7 +10,7 @@ use Rattle.runs.proofs.ways.out_of_tai.Tie as tie
 returns : tie.Need-returns
 returns c =
     let a = c .before .before .before .args in
-    c .of-utc .ensures ∙ c .before .tai-to-utc-by-lent .ensures
+    c .of-utc .ensures ∙ c .before .tai-to-utc-by-arrays .ensures
     ∙ out-utc (rowsIn (a .size) (a .months .now) (a .seconds .now)) (a .to) (a .jd) (c .before .before .if1 .taken)
 
 returns-2 : tie.Need-returns-2

@@ -12,11 +12,11 @@ use borrow.Author.Needs.{needs}
 use Rattle.runs.proofs.ways.utc_into_tai.Statement.{statement}
 use Rattle.runs.proofs.ways.utc_into_tai.Tie as tie
 
-called : (v : tie.After-utc-to-tai-by-lent) → let a =
-    v .before .args in forget (taiByRuleOutcome (v .utc-to-tai-by-lent .result)) ≡ utcToTai (rowsIn (a .size) (a .months .now) (a .seconds .now)) (a .jd)
+called : (v : tie.After-utc-to-tai-by-arrays) → let a =
+    v .before .args in forget (taiByRuleOutcome (v .utc-to-tai-by-arrays .result)) ≡ utcToTai (rowsIn (a .size) (a .months .now) (a .seconds .now)) (a .jd)
 called v =
     let a = v .before .args in
-    ap forget (v .utc-to-tai-by-lent .ensures) ∙ utc-to-tai-forgets (rowsIn (a .size) (a .months .now) (a .seconds .now)) (a .jd)
+    ap forget (v .utc-to-tai-by-arrays .ensures) ∙ utc-to-tai-forgets (rowsIn (a .size) (a .months .now) (a .seconds .now)) (a .jd)
 
 returns : tie.Need-returns
 unfolding julianOutcome taiByRuleOutcome forget onward

@@ -14,15 +14,15 @@ use borrow.Author.Needs.{needs}
 use Rattle.stamps.proofs.listing.place_shown.Statement.{statement}
 use Rattle.stamps.proofs.listing.place_shown.Tie as tie
 
-abbrev start : tie.After-to-iso8601-expanded-by-lent → tie.Start
+abbrev start : tie.After-to-iso8601-expanded-by-arrays → tie.Start
 start v = v .before .before .before .before .before .before .before
 
 -- the announced rows
-abbrev rows : tie.After-to-iso8601-expanded-by-lent → List Row
+abbrev rows : tie.After-to-iso8601-expanded-by-arrays → List Row
 rows v = rowsOf (start v .args .t3)
 
 -- they are read by parts
-abbrev same : (v : tie.After-to-iso8601-expanded-by-lent)
+abbrev same : (v : tie.After-to-iso8601-expanded-by-arrays)
     → rowsIn (v .before .before .before .before .before .size-of .result) (start v .args .t3 .months) (start v .args .t3 .seconds) ≡ rows v
 same v = let z = v .before .before .before .before .before in rows-in (start v .args .t3) (z .size-of .result) (z .size-of .ensures)
 
@@ -30,7 +30,7 @@ add-result : tie.Need-add-result
 add-result c =
     let v = c .before .before .before .before .before in
     let st = start v in
-    let w = text-written (rows v) (st .args .jd) (same v) (v .to-iso8601-expanded-by-lent .ensures) (st .args .reporting) _ _ (c .before .n .given .1) in
+    let w = text-written (rows v) (st .args .jd) (same v) (v .to-iso8601-expanded-by-arrays .ensures) (st .args .reporting) _ _ (c .before .n .given .1) in
     let most = shown-most (st .args .reporting) (st .args .jd) _ (brief (rows v) (st .args .jd)) in
     omega (arith, w .0, most, room-high (st .args .reporting), st .pre, st .good)
 
@@ -39,7 +39,7 @@ place-date-refused-requires c κs =
     let v = c .before .before .before .before .before .before in
     let st = start v in
     let room = lent-length (now (st .args .dst)) (st .args .at) (omega (arith, room-low (st .args .reporting), st .pre)) in
-    let w = text-refused (rows v) (st .args .jd) (same v) (v .to-iso8601-expanded-by-lent .ensures) _ (c .before .before .number .given .1)
+    let w = text-refused (rows v) (st .args .jd) (same v) (v .to-iso8601-expanded-by-arrays .ensures) _ (c .before .before .number .given .1)
     (omega (arith, room, room-low (st .args .reporting), st .pre)) in
     let k = date-number (rows v) (st .args .jd) _ (w .0) in
     (k .0, k .1, search needs)
@@ -48,7 +48,7 @@ returns : tie.Need-returns
 returns c =
     let v = c .before .before .before .before .before in
     let st = start v in
-    let w = text-written (rows v) (st .args .jd) (same v) (v .to-iso8601-expanded-by-lent .ensures) (st .args .reporting) _ _ (c .before .n .given .1) in (
+    let w = text-written (rows v) (st .args .jd) (same v) (v .to-iso8601-expanded-by-arrays .ensures) (st .args .reporting) _ _ (c .before .n .given .1) in (
       record {
         ends = ap (λ (k : ℕ). st .args .at + k) (w .0);
         holds = part-put (now (st .args .dst)) (st .args .at) (omega (arith, room-low (st .args .reporting), st .pre)) _ _ (w .1);
@@ -63,7 +63,7 @@ returns-2 c =
     let v = n .before .before .before .before in
     let st = start v in
     let room = lent-length (now (st .args .dst)) (st .args .at) (omega (arith, room-low (st .args .reporting), st .pre)) in
-    let w = text-refused (rows v) (st .args .jd) (same v) (v .to-iso8601-expanded-by-lent .ensures) _ (n .number .given .1)
+    let w = text-refused (rows v) (st .args .jd) (same v) (v .to-iso8601-expanded-by-arrays .ensures) _ (n .number .given .1)
     (omega (arith, room, room-low (st .args .reporting), st .pre)) in
     let p = c .before .before .place-date-refused .ensures in (
       placed-as (sym (ap (shown (st .args .reporting) (st .args .jd)) (w .0)))
@@ -71,7 +71,7 @@ returns-2 c =
       omega (arith, p .1),
     )
 
-within : tie.Need-part-to-iso8601-expanded-by-lent-start
+within : tie.Need-part-to-iso8601-expanded-by-arrays-start
 within c = let st = c .before .before .before .before .before in omega (arith, room-low (st .args .reporting), st .pre)
 
 pub place-shown-spec : {M : Type 1} → statement M

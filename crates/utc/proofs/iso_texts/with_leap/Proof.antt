@@ -30,7 +30,7 @@ returns c =
     let s = v .before .before .before .before in
     let f : SFits w32 (s .args .date .year) = record { sfits = v .before .struct-told .given .0 .1 } in
     sym (stopped _ (refused-apart _ _ _
-    (sym (v .leap-at-end-of-day-by-lent .ensures ∙ read-fields (leapByRule (rows s)) (s .args .date) f (s .pre .0) (s .pre .1))
+    (sym (v .leap-at-end-of-day-by-arrays .ensures ∙ read-fields (leapByRule (rows s)) (s .args .date) f (s .pre .0) (s .pre .1))
     ∙ ap secondsByRuleOutcome (c .before .number .given .1))))
 
 returns-2 : tie.Need-returns-2
@@ -39,7 +39,7 @@ returns-2 c =
     let v = c .before .before .before in
     let s = v .before .before .before .before in
     let f : SFits w32 (s .args .date .year) = record { sfits = v .before .struct-told .given .0 .1 } in
-    let q = apart _ _ _ _ (sym (v .leap-at-end-of-day-by-lent .ensures ∙ read-fields (leapByRule (rows s)) (s .args .date) f (s .pre .0) (s .pre .1))
+    let q = apart _ _ _ _ (sym (v .leap-at-end-of-day-by-arrays .ensures ∙ read-fields (leapByRule (rows s)) (s .args .date) f (s .pre .0) (s .pre .1))
     ∙ ap secondsByRuleOutcome (c .before .leap .given .1)) in
     sym (went _ (q .0) ∙ ap (λ (r : Rule). answer
     (record { date = s .args .date; fraction = s .args .fraction; leap = c .before .leap .given .0 .0; rule = r }))

@@ -17,8 +17,8 @@ returns c =
     let s = at-stamp-of .before .before .before .before in
     let a = s .args in
     stamp-placed (a .textForm) (rowsIn (a .size) (now (a .months)) (now (a .seconds))) (now (a .jd1s)) (now (a .jd2s)) (now (a .texts)) (a .i)
-    (27 * a .i + 27 - 27 * a .i) _ (at-text .to-text-by-lent .result) _ _ (omega arith) (at-stamp-of .stamp-of .ensures) (s .pre)
-    (sym (ap besideOf (c .before .n .given .1))) (at-text .to-text-by-lent .ensures)
+    (27 * a .i + 27 - 27 * a .i) _ (at-text .to-text-by-arrays .result) _ _ (omega arith) (at-stamp-of .stamp-of .ensures) (s .pre)
+    (sym (ap besideOf (c .before .n .given .1))) (at-text .to-text-by-arrays .ensures)
 
 returns-2 : tie.Need-returns-2
 unfolding besideOf
@@ -28,8 +28,8 @@ returns-2 c =
     let s = at-stamp-of .before .before .before .before in
     let a = s .args in
     stamp-placed (a .textForm) (rowsIn (a .size) (now (a .months)) (now (a .seconds))) (now (a .jd1s)) (now (a .jd2s)) (now (a .texts)) (a .i)
-    (27 * a .i + 27 - 27 * a .i) _ (at-text .to-text-by-lent .result) _ _ (omega arith) (at-stamp-of .stamp-of .ensures) (s .pre)
-    (sym (ap besideOf (c .before .number .given .1))) (at-text .to-text-by-lent .ensures)
+    (27 * a .i + 27 - 27 * a .i) _ (at-text .to-text-by-arrays .result) _ _ (omega arith) (at-stamp-of .stamp-of .ensures) (s .pre)
+    (sym (ap besideOf (c .before .number .given .1))) (at-text .to-text-by-arrays .ensures)
 
 pub put-stamp-spec : {M : Type 1} → statement M
 put-stamp-spec =

@@ -25,7 +25,7 @@ returns-2 c =
     let at-if1 = z .before in
     let q = at-if1 .before in
     let a = q .before .before .before .before .before .before .args in
-    at-texts .texts-of-run-by-lent .ensures
+    at-texts .texts-of-run-by-arrays .ensures
     ∙ ap (λ (l : List Row). textsBy (formNamed (a .textForm)) l (a .jd1s .now) (a .jd2s .now) (a .texts .now) (a .lengths .now) (a .numbers .now))
     (rows-in (a .t4) (z .size-of .result) (z .size-of .ensures))
     ∙ table-taken (tableOf (a .t4)) (rowsOf (a .t4)) (q .table-refusal .result) (q .table-refusal .ensures) (formNamed (a .textForm)) (a .jd1s .now)

@@ -19,7 +19,7 @@ returns-2 c =
     let z = c .before .before .before .before in
     let r = z .before .before in
     let s = r .before in
-    c .ut1-to-utc-with-dut1-by-lent .ensures
+    c .ut1-to-utc-with-dut1-by-arrays .ensures
     ∙ ap (λ (l : List Row). ut1ToUtc l (s .args .ut1 .0) (s .args .dut1)) (rows-in (s .args .t3) (z .size-of .result) (z .size-of .ensures))
     ∙ taken (s .args .t3) (r .table-refusal .result) (r .table-refusal .ensures) _ (z .before .if1 .left)
 

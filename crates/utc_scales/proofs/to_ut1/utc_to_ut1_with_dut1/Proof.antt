@@ -18,7 +18,7 @@ returns-2 c =
     let z = c .before .before .before .before in
     let r = z .before .before in
     let s = r .before in
-    c .utc-to-ut1-with-dut1-by-lent .ensures
+    c .utc-to-ut1-with-dut1-by-arrays .ensures
     ∙ ap (λ (l : List Row). utcToUt1ByRule l (s .args .utc .0) (s .args .dut1)) (rows-in (s .args .t3) (z .size-of .result) (z .size-of .ensures))
     ∙ taken (s .args .t3) (r .table-refusal .result) (r .table-refusal .ensures) _ (z .before .if1 .left)
 

@@ -19,7 +19,7 @@ returns-2 c =
     let z = c .before .before .before .before in
     let r = z .before .before in
     let s = r .before in
-    c .tai-to-utc-by-lent .ensures
+    c .tai-to-utc-by-arrays .ensures
     ∙ ap (λ (l : List Row). taiToUtc l (s .args .tai .0)) (rows-in (s .args .t2) (z .size-of .result) (z .size-of .ensures))
     ∙ taken (s .args .t2) (r .table-refusal .result) (r .table-refusal .ensures) _ (z .before .if1 .left)
 

@@ -18,7 +18,7 @@ returns-2 c =
     let z = c .before .before .before .before in
     let r = z .before .before in
     let s = r .before in
-    c .utc-to-tai-by-lent .ensures
+    c .utc-to-tai-by-arrays .ensures
     ∙ ap (λ (l : List Row). utcToTaiByRule l (s .args .utc .0)) (rows-in (s .args .t2) (z .size-of .result) (z .size-of .ensures))
     ∙ taken (s .args .t2) (r .table-refusal .result) (r .table-refusal .ensures) _ (z .before .if1 .left)
 

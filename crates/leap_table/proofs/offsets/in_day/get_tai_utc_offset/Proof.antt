@@ -19,7 +19,7 @@ returns-2 c =
     let r = z .before .before in
     let s = r .before in
     let rows = rows-in (s .args .t5) (z .size-of .result) (z .size-of .ensures) in
-    c .get-tai-utc-offset-by-lent .ensures
+    c .get-tai-utc-offset-by-arrays .ensures
     ∙ (λ i. offsetByRule (rows i) (toZ-ofZ (s .fits .year) i) (toZ-ofZ (s .fits .month) i) (toZ-ofZ (s .fits .day) i) (s .args .fraction))
     ∙ taken (s .args .t5) (r .table-refusal .result) (r .table-refusal .ensures) _ (z .before .if1 .left)
 

@@ -19,14 +19,14 @@ returns : tie.Need-returns
 unfolding dayOffsetsOutcome
 returns c = let r = c .before in not-taken (r .before .args .t4) (r .table-refusal .result) (r .table-refusal .ensures) _ (c .if1 .taken)
 
-called : (v : tie.After-day-offsets-by-lent) → let s = v .before .before .before .before .before .before .before .args in
-    forget (dayByRuleOutcome (v .day-offsets-by-lent .result)) ≡ onward (tableOf (s .t4)) (λ rows. dayOffsets rows (s .year) (s .month) (s .day))
+called : (v : tie.After-day-offsets-by-arrays) → let s = v .before .before .before .before .before .before .before .args in
+    forget (dayByRuleOutcome (v .day-offsets-by-arrays .result)) ≡ onward (tableOf (s .t4)) (λ rows. dayOffsets rows (s .year) (s .month) (s .day))
 called v =
     let z = v .before .before .before .before in
     let r = z .before .before in
     let s = r .before in
     let rows = rows-in (s .args .t4) (z .size-of .result) (z .size-of .ensures) in
-    ap forget (v .day-offsets-by-lent .ensures ∙ (λ i. dayByRule (rows i) (toZ-ofZ (s .fits .year) i) (toZ-ofZ (s .fits .month) i) (toZ-ofZ (s .fits .day) i)))
+    ap forget (v .day-offsets-by-arrays .ensures ∙ (λ i. dayByRule (rows i) (toZ-ofZ (s .fits .year) i) (toZ-ofZ (s .fits .month) i) (toZ-ofZ (s .fits .day) i)))
     ∙ day-forgets (rowsOf (s .args .t4)) (s .args .year) (s .args .month) (s .args .day)
     ∙ taken (s .args .t4) (r .table-refusal .result) (r .table-refusal .ensures) _ (z .before .if1 .left)
 

@@ -24,7 +24,7 @@ returns-2 c =
     let s = r .before in
     let rows = rows-in (s .args .t4) (z .size-of .result) (z .size-of .ensures) in
     c .without-rule .ensures
-    ∙ ap forget (v .leap-at-end-of-day-by-lent .ensures
+    ∙ ap forget (v .leap-at-end-of-day-by-arrays .ensures
     ∙ (λ i. leapByRule (rows i) (toZ-ofZ (s .fits .year) i) (toZ-ofZ (s .fits .month) i) (toZ-ofZ (s .fits .day) i)))
     ∙ leap-forgets (rowsOf (s .args .t4)) (s .args .year) (s .args .month) (s .args .day)
     ∙ taken (s .args .t4) (r .table-refusal .result) (r .table-refusal .ensures) _ (z .before .if1 .left)

@@ -24,7 +24,7 @@ returns-2 c =
     let s = v .before .before .before .before .before .before .before .before .before in
     let e = ap (λ (l : List Row). halfEvenByRule l (s .args .utc .0)) (rows-in (s .args .t2) (z .size-of .result) (z .size-of .ensures))
     ∙ taken (s .args .t2) (r .table-refusal .result) (r .table-refusal .ensures) (λ l. halfEvenByRule l (s .args .utc .0)) (i .if1 .left) in
-    rule-call-as _ _ _ _ _ (sym e) (v .to-iso8601-half-even-by-lent .ensures)
+    rule-call-as _ _ _ _ _ (sym e) (v .to-iso8601-half-even-by-arrays .ensures)
 
 pub to-iso8601-half-even-spec : {M : Type 1} → statement M
 to-iso8601-half-even-spec =
