@@ -1,5 +1,5 @@
--- `leap_table::offsets::in_day::get_tai_utc_offset_by_arrays` meets its contract: each branch is a case of the offset, a plain date's by its month alone. Assumes
--- nothing.
+-- `leap_table::offsets::in_day::get_tai_utc_offset_by_arrays` meets its contract: each branch is a case of the offset, a plain date's by its month alone.
+-- Assumes nothing.
 use mathlib.Core.Path.{sym, _∙_}
 use mathlib.Core.List.{List}
 use denote.Ref.{now}

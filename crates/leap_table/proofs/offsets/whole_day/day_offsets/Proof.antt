@@ -26,7 +26,8 @@ called v =
     let r = z .before .before in
     let s = r .before in
     let rows = rows-in (s .args .t4) (z .size-of .result) (z .size-of .ensures) in
-    ap forget (v .day-offsets-by-arrays .ensures ∙ (λ i. dayByRule (rows i) (toZ-ofZ (s .fits .year) i) (toZ-ofZ (s .fits .month) i) (toZ-ofZ (s .fits .day) i)))
+    ap forget (v .day-offsets-by-arrays .ensures
+    ∙ (λ i. dayByRule (rows i) (toZ-ofZ (s .fits .year) i) (toZ-ofZ (s .fits .month) i) (toZ-ofZ (s .fits .day) i)))
     ∙ day-forgets (rowsOf (s .args .t4)) (s .args .year) (s .args .month) (s .args .day)
     ∙ taken (s .args .t4) (r .table-refusal .result) (r .table-refusal .ensures) _ (z .before .if1 .left)
 
