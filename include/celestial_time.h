@@ -406,6 +406,24 @@ int64_t ct_to_iso8601_half_even(double jd1, double jd2, const uint8_t *table, si
 int64_t ct_to_iso8601_expanded(double jd1, double jd2, const uint8_t *table, size_t table_len,
                                uint8_t *out, size_t out_len, uint8_t *rule, size_t rule_len);
 
+/* The forms of text by number, in ct_texts_of_run: those of ct_to_iso8601, ct_to_iso8601_half_even and
+   ct_to_iso8601_expanded. */
+enum { CT_TEXT, CT_TEXT_HALF_EVEN, CT_TEXT_EXPANDED };
+
+/* The texts of a run of UTC dates in one call. Stamp i is bytes 8 * i to 8 * i + 7 of jd1 and of jd2. Its text,
+   which is that of the single call of the form, goes into texts from byte 27 * i on, its length into byte i of
+   lengths, and into byte i of numbers 0, or the number of its refusal, 6 or 1. The bytes behind a text stay
+   as they were, up to byte 27 * i + 26, and all 27 of a refused stamp, whose length is 0; and what lies behind
+   the last stamp's places. Returns how many stamps are refused. Refuses the table; 18 for another form; 14 for
+   a length of jd1 or jd2 that is no multiple of 8; 12 for jd1 and jd2 of different lengths; 11 for fewer bytes
+   in texts than 27 a stamp, or fewer in lengths or in numbers than stamps. A refused call writes nothing. With
+   form 3, 7 bytes of jd1 and none of jd2 it is 18, with CT_TEXT in the place of 3 14, and with 8 bytes of jd1
+   12. The buffers overlap no other. */
+int64_t ct_texts_of_run(uint32_t text_form, const uint8_t *jd1, size_t jd1_len, const uint8_t *jd2,
+                        size_t jd2_len, const uint8_t *table, size_t table_len, uint8_t *texts,
+                        size_t texts_len, uint8_t *lengths, size_t lengths_len, uint8_t *numbers,
+                        size_t numbers_len);
+
 /* ---- Text read: YYYY-MM-DDThh:mm:ss, or a blank for the T, with a point and 1 to 13 digits or none.
    Bytes 9 to 13 and 32 around it are dropped. The second is the float nearest to its decimal. A byte
    0 does not end a text. */

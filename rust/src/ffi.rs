@@ -103,6 +103,10 @@ calls! {
     fn ct_to_iso8601(jd1: f64, jd2: f64, table: &[u8], out: &mut [u8], rule: &mut [u8]) -> i64;
     fn ct_to_iso8601_half_even(jd1: f64, jd2: f64, table: &[u8], out: &mut [u8], rule: &mut [u8]) -> i64;
     fn ct_to_iso8601_expanded(jd1: f64, jd2: f64, table: &[u8], out: &mut [u8], rule: &mut [u8]) -> i64;
+    fn ct_texts_of_run(
+        text_form: u32, jd1: &[u8], jd2: &[u8], table: &[u8], texts: &mut [u8], lengths: &mut [u8],
+        numbers: &mut [u8]
+    ) -> i64;
 
     fn ct_parse_iso8601(text: &[u8], out: &mut [u8]) -> i64;
     fn ct_utc_from_iso8601(text: &[u8], table: &[u8], out: &mut [u8]) -> i64;

@@ -1,10 +1,11 @@
-//! Runs of stamps from one scale to another in one call, and up to three runs in one order.
+//! Runs of stamps from one scale to another in one call, their UTC texts, and up to three runs in one order.
 
 use crate::answers::judged;
 use crate::bytes::{bytes, bytes_mut};
 use crate::ffi;
 use crate::refusal::TimeResult;
 use crate::scales::tai::TAI;
+use crate::scales::utc::{Form, UTC};
 use crate::scales::TimeScale;
 use crate::table::Table;
 use std::marker::PhantomData;
@@ -120,6 +121,41 @@ pub fn formula_run<From: TimeScale, To: TimeScale>(
         bytes_mut(dates.jd1),
         bytes_mut(dates.jd2),
         dates.numbers,
+    ))
+}
+
+/// The texts of a run of UTC dates: that of stamp i, in the form, from `texts[27 * i]` on, its length in `lengths[i]`, and
+/// in `numbers[i]` 0 or the number of its refusal, 6 or 1. Bytes behind a text stay as they were, and all 27 of a refused
+/// stamp, whose length is 0.
+///
+/// Answers how many stamps are refused. Refuses 12 for another number of second parts than of first ones; 11 for fewer
+/// places than stamps. A refused call writes nothing.
+///
+/// ```
+/// use celestial_time_proved::runs::{texts_of_run, Stamps};
+/// use celestial_time_proved::{scales::utc::{Form, UTC}, Table};
+/// let stamps = Stamps::<UTC>::new(&[2457754.5, f64::NAN], &[0.5, 0.0]);
+/// let (mut texts, mut lengths, mut numbers) = ([0; 54], [0; 2], [0; 2]);
+/// assert_eq!(texts_of_run(Form::Nearest, stamps, &Table::NONE, &mut texts, &mut lengths, &mut numbers), Ok(1));
+/// assert_eq!((lengths, numbers), ([23, 0], [0, 6]));
+/// assert_eq!(&texts[..23], b"2017-01-01T12:00:00.000");
+/// ```
+pub fn texts_of_run(
+    form: Form,
+    stamps: Stamps<UTC>,
+    table: &Table,
+    texts: &mut [u8],
+    lengths: &mut [u8],
+    numbers: &mut [u8],
+) -> TimeResult<u64> {
+    judged(ffi::ct_texts_of_run(
+        form as u32,
+        bytes(stamps.jd1),
+        bytes(stamps.jd2),
+        table.as_bytes(),
+        texts,
+        lengths,
+        numbers,
     ))
 }
 

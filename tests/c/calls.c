@@ -10,6 +10,7 @@
 #include "line_up_calls.h"
 #include "run_calls.h"
 #include "formula_run_calls.h"
+#include "text_run_calls.h"
 #include "standby_calls.h"
 #include "reason_calls.h"
 #include "tick_calls.h"
@@ -495,6 +496,7 @@ int main(void)
     line_up_calls();
     run_calls();
     formula_run_calls();
+    text_run_calls();
     walk_calls();
     return summary("calls");
 }

@@ -167,6 +167,26 @@ static void ask_formula_runs(const uint8_t *jd1, const uint8_t *jd2, size_t stam
     }
 }
 
+/* And its texts in one call, in each form: 6, no length and no byte for every stamp that is not finite, a text for each other. */
+static void ask_texts_of_run(const uint8_t *jd1, const uint8_t *jd2, size_t stamps, const uint8_t *dead)
+{
+    static uint8_t texts[27 * MOST_BYTES / 16], lengths[MOST_BYTES], numbers[MOST_BYTES];
+    uint32_t form;
+    size_t j, k;
+    for (form = CT_TEXT; form <= CT_TEXT_EXPANDED; form++) {
+        int right = 1;
+        memset(texts, 0xa5, sizeof texts);
+        check(ct_texts_of_run(form, jd1, 8 * stamps, jd2, 8 * stamps, ct_no_rows, CT_TABLE_BYTES, texts, sizeof texts, lengths, sizeof lengths, numbers, sizeof numbers) == NOT_FINITE_STAMPS,
+              "ct_texts_of_run by form %d counts other stamps", (int)form);
+        for (j = 0; j < stamps; j++) {
+            if (numbers[j] != (dead[j] ? 6 : 0) || (lengths[j] == 0) != (dead[j] != 0)) right = 0;
+            for (k = lengths[j]; k < 27; k++) right = right && texts[27 * j + k] == 0xa5;
+            for (k = 0; k < lengths[j]; k++) right = right && texts[27 * j + k] != 0xa5;
+        }
+        check(right, "ct_texts_of_run by form %d has other numbers, lengths or bytes", (int)form);
+    }
+}
+
 int main(int count, char **words)
 {
     static uint8_t block[MOST_BYTES], dead[MOST_BYTES];
@@ -189,6 +209,7 @@ int main(int count, char **words)
     }
     ask_runs(jd1, jd2, (size_t)stamps, dead);
     ask_formula_runs(jd1, jd2, (size_t)stamps, dead);
+    ask_texts_of_run(jd1, jd2, (size_t)stamps, dead);
     check(found == NOT_FINITE_STAMPS, "%ld stamps of the block are not finite", (long)found);
     check(by_text == NOT_FINITE_STAMPS, "the text call refuses %ld stamps", (long)by_text);
     printf("not finite: %ld; isnan in this build says %ld, the text call refuses %ld\n", (long)found, (long)by_isnan,

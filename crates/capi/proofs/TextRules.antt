@@ -3,7 +3,6 @@ use Prim.Native.Nat.{ℕ, zero, suc, _≤_, _<_, _^_}
 use native.Mathlib.Omega.{arith}
 use mathlib.Core.Path.{_≡_, refl, sym, ap, subst, _∙_}
 use mathlib.Core.Bool.{Bool, true, false, true≢false, cond, _&&_}
-use mathlib.Core.Logic.{_⊎_, inl, inr}
 use mathlib.Core.List.{List, [], _∷_}
 use lib.ListN.{length}
 use lib.Dec.{leb}
@@ -22,24 +21,17 @@ use Rattle.leap_table.proofs.offsets.Rules.{ruleIn}
 use Rattle.utc.specs.text.Answer.{textWritten, bufferAfter}
 use Rattle.utc.specs.declared.iso_texts.TextByRule.{TextByRule}
 use Rattle.utc.specs.declared.iso_texts.TextByRule.the-variants.{Written, Refused}
+use Rattle.utc.specs.declared.iso_texts.NamedForm.{NamedForm}
 use Rattle.utc.specs.iso_texts.TextCall.{bufferHolds}
+use Rattle.utc.specs.iso_texts.Named.{formNamed}
 use Rattle.utc.specs.iso_texts.ByRule.{textByRule, textByRuleOutcome, writtenByRule, TextRuleCall}
-use Rattle.utc.proofs.iso_texts.TextRules.{iso-forgets, even-forgets, expanded-forgets}
-use Rattle.utc.proofs.laws.Lengths.{text-length}
-use Rattle.utc.proofs.laws.HalfEvenTexts.{even-text-length}
-use Rattle.utc.proofs.laws.ExpandedTexts.{expanded-text-length}
+use Rattle.utc.proofs.iso_texts.TextRules.{text-forgets}
+use Rattle.utc.proofs.laws.NamedTexts.{named-text-few}
 use Rattle.c_answers.specs.Delivery.{code, Delivered}
 use Rattle.c_answers.specs.rules.RuleFields.{ruleBytes}
 use Rattle.c_answers.specs.TwoBuffers.{bothFit, DeliveredTwo}
 use Rattle.c_answers.proofs.Deliveries.{code-back}
-use Rattle.capi.specs.declared.text_calls.NamedForm.{NamedForm}
-use Rattle.capi.specs.declared.text_calls.NamedForm.the-variants.{Document01, HalfEven, Expanded}
-use Rattle.capi.specs.TextRule.{askedRule, ruled, noRoom, formNamed}
-
--- ---- the call of the form of text that is named
-pub named-call : (textForm k : NamedForm) (rows : List Row) (jd : JulianDate) {l out : List ℕ} {r : TextByRule} → textForm ≡ k
-    → TextRuleCall (textByRule (formNamed k) rows jd) l r out → TextRuleCall (textByRule (formNamed textForm) rows jd) l r out
-named-call textForm k rows jd {l} {out} {r} e p = subst (λ (x : NamedForm). TextRuleCall (textByRule (formNamed x) rows jd) l r out) (sym e) p
+use Rattle.capi.specs.TextRule.{askedRule, ruled, noRoom}
 
 -- ---- the rule has no room
 nothing-reported : (o : Outcome (List ℕ × Rule)) (m k : ℕ) → writtenByRule o m ≡ refusal k → refusal k ≡ noRoom o
@@ -208,14 +200,7 @@ module _ (o : Outcome (List ℕ × Rule)) (few : (t : List ℕ) → forget o ≡
 -- a text has at most 27 bytes
 pub text-few : (textForm : NamedForm) (rows : List Row) (jd : JulianDate) (t : List ℕ) → forget (textByRule (formNamed textForm) rows jd) ≡ answer t
     → length t ≤ 64
-unfolding formNamed
-text-few Document01 rows jd t e = omega (arith, text-length rows jd t (sym (iso-forgets rows jd) ∙ e) .1)
-text-few HalfEven rows jd t e = omega (arith, even-text-length rows jd t (sym (even-forgets rows jd) ∙ e) .1)
-text-few Expanded rows jd t e = by (expanded-text-length rows jd t (sym (expanded-forgets rows jd) ∙ e))
-  where
-    by : (length t ≡ 23) ⊎ (length t ≡ 27) → length t ≤ 64
-    by (inl h) = omega arith
-    by (inr h) = omega arith
+text-few textForm rows jd t e = omega (arith, named-text-few textForm rows jd t (sym (text-forgets (formNamed textForm) rows jd) ∙ e))
 
 -- ---- fewer bytes for the rule than it has
 no-length : (b : List ℕ) → length b ≡ 0 → [] ≡ b

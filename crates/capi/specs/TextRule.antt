@@ -1,4 +1,4 @@
--- A text by one of the three forms of text, and its rule for two buffers. Written from document 02, item 5 (the text calls pass on the rule), and document 01,
+-- A text and its rule for two buffers. Written from document 02, item 5 (the text calls pass on the rule), and document 01,
 -- "Refusals by number" (11 is judged last). Assumes nothing.
 use Prim.Native.Nat.{ℕ, zero, suc}
 use mathlib.Core.Path.{_≡_}
@@ -7,20 +7,8 @@ use lib.ListN.{length}
 use lib.IntN.{ℤ}
 use Rattle.refusals.specs.Outcome.{Outcome, answer, refusal, onward}
 use Rattle.leap_table.specs.declared.offsets.Rule.{Rule}
-use Rattle.utc.specs.iso_texts.TextForm.{TextForm}
-use Rattle.utc.specs.iso_texts.IsoText.{standardForm}
-use Rattle.utc.specs.iso_texts.HalfEven.{halfEvenForm}
-use Rattle.utc.specs.iso_texts.Expanded.{expandedForm}
 use Rattle.c_answers.specs.rules.RuleFields.{ruleBytes}
 use Rattle.c_answers.specs.TwoBuffers.{DeliveredTwo}
-use Rattle.capi.specs.declared.text_calls.NamedForm.{NamedForm}
-use Rattle.capi.specs.declared.text_calls.NamedForm.the-variants.{Document01, HalfEven, Expanded}
-
--- document 01's form, and those of document 02's items 4 and 6
-unfoldable pub formNamed : NamedForm → TextForm
-formNamed Document01 = standardForm
-formNamed HalfEven = halfEvenForm
-formNamed Expanded = expandedForm
 
 -- what goes into a second buffer of so many bytes: a buffer of none asks for no rule
 unfoldable pub askedRule : ℕ → Rule → List ℕ

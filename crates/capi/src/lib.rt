@@ -13,6 +13,7 @@ pub mod same_stamp_calls;
 pub mod scale_calls;
 pub mod standby_calls;
 pub mod text_calls;
+pub mod text_run_calls;
 pub mod tick_calls;
 pub mod utc_calls;
 pub mod walk_calls;

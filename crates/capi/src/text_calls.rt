@@ -7,59 +7,18 @@ ghost use lib.ListN.{length};
 ghost use Rattle.refusals.specs.Outcome.{refusal, onward};
 ghost use Rattle.julian.specs.JulianDate.{julian};
 ghost use Rattle.leap_table.specs.rows.Announced.{rowsIn};
-ghost use Rattle.utc.specs.iso_texts.ByRule.{textByRule, isoTextByRule, halfEvenByRule, expandedByRule, TextRuleCall};
+ghost use Rattle.utc.specs.iso_texts.ByRule.{textByRule, isoTextByRule, halfEvenByRule, expandedByRule};
 ghost use Rattle.c_answers.specs.table.TableBytes.{tableBytes};
 ghost use Rattle.c_answers.specs.Delivery.{code};
 ghost use Rattle.c_answers.specs.TwoBuffers.{DeliveredTwo};
-ghost use Rattle.capi.specs.TextRule.{ruled, noRoom, formNamed, DeliveredBeside};
+ghost use Rattle.utc.specs.iso_texts.Named.{formNamed};
+ghost use Rattle.capi.specs.TextRule.{ruled, noRoom, DeliveredBeside};
 use c_answers::refused;
 use c_answers::table::arrays;
 use julian::JulianDate;
 use scales::UTC;
+use utc::iso_texts::NamedForm;
 use utc::iso_texts::TextByRule;
-
-// Which form of text a text call writes by.
-pub(crate) enum NamedForm {
-    Document01,
-    HalfEven,
-    Expanded,
-}
-
-fn text_by<'a>(
-    textForm: NamedForm,
-    date: UTC,
-    size: usize,
-    months: &'a [i32; 16],
-    seconds: &'a [i32; 16],
-    out: &mut [u8],
-) -> TextByRule
-    ensures { λ r. ⌜ TextRuleCall (textByRule (formNamed textForm) (rowsIn size (now (months .entry)) (now (seconds .entry))) (date .0)) (now (out .entry)) r
-        (now (out .exit)) ⌝ }
-{
-    match textForm {
-        NamedForm::Document01 => utc::iso_texts::to_iso8601_by_arrays(
-            date,
-            size,
-            months,
-            seconds,
-            out,
-        ),
-        NamedForm::HalfEven => utc::iso_texts::to_iso8601_half_even_by_arrays(
-            date,
-            size,
-            months,
-            seconds,
-            out,
-        ),
-        NamedForm::Expanded => utc::iso_texts::to_iso8601_expanded_by_arrays(
-            date,
-            size,
-            months,
-            seconds,
-            out,
-        ),
-    }
-}
 
 // The answer where the rule has no room: the text's own refusal, and 11 after it. The text goes to a byte of its own.
 fn no_room_for_rule<'a>(
@@ -72,7 +31,7 @@ fn no_room_for_rule<'a>(
     ensures { λ r. ⌜ r ≡ code (noRoom (textByRule (formNamed textForm) (rowsIn size (now (months .entry)) (now (seconds .entry))) (date .0))) ⌝ }
 {
     let mut spare = [0; 1];
-    match text_by(textForm, date, size, months, seconds, &mut spare) {
+    match utc::iso_texts::to_text_by_arrays(textForm, date, size, months, seconds, &mut spare) {
         TextByRule::Refused(number) => refused(number),
         TextByRule::Written(_, _) => refused(refusals::NO_ROOM),
     }
@@ -90,7 +49,7 @@ fn text_alone<'a>(
     ensures { λ r. ⌜ DeliveredTwo (ruled 0 (textByRule (formNamed textForm) (rowsIn size (now (months .entry)) (now (seconds .entry))) (date .0)))
         (now (out .entry)) [] r (now (out .exit)) [] ⌝ }
 {
-    match text_by(textForm, date, size, months, seconds, out) {
+    match utc::iso_texts::to_text_by_arrays(textForm, date, size, months, seconds, out) {
         TextByRule::Refused(number) => refused(number),
         TextByRule::Written(n, _) => n as i64,
     }
@@ -124,7 +83,8 @@ fn put_text<'a>(
     out: &mut [u8],
     rule: &mut [u8],
 ) -> i64
-    ensures { λ r. ⌜ DeliveredTwo (ruled (length (now (rule .entry))) (isoTextByRule (rowsIn size (now (months .entry)) (now (seconds .entry))) (date .0))) (now (out .entry))
+    ensures { λ r. ⌜ DeliveredTwo
+        (ruled (length (now (rule .entry))) (isoTextByRule (rowsIn size (now (months .entry)) (now (seconds .entry))) (date .0))) (now (out .entry))
         (now (rule .entry)) r (now (out .exit)) (now (rule .exit)) ⌝ }
 {
     if rule.len() < 8 {
@@ -155,7 +115,8 @@ fn put_half_even<'a>(
     out: &mut [u8],
     rule: &mut [u8],
 ) -> i64
-    ensures { λ r. ⌜ DeliveredTwo (ruled (length (now (rule .entry))) (halfEvenByRule (rowsIn size (now (months .entry)) (now (seconds .entry))) (date .0))) (now (out .entry))
+    ensures { λ r. ⌜ DeliveredTwo
+        (ruled (length (now (rule .entry))) (halfEvenByRule (rowsIn size (now (months .entry)) (now (seconds .entry))) (date .0))) (now (out .entry))
         (now (rule .entry)) r (now (out .exit)) (now (rule .exit)) ⌝ }
 {
     if rule.len() < 8 {
@@ -186,7 +147,8 @@ fn put_expanded<'a>(
     out: &mut [u8],
     rule: &mut [u8],
 ) -> i64
-    ensures { λ r. ⌜ DeliveredTwo (ruled (length (now (rule .entry))) (expandedByRule (rowsIn size (now (months .entry)) (now (seconds .entry))) (date .0))) (now (out .entry))
+    ensures { λ r. ⌜ DeliveredTwo
+        (ruled (length (now (rule .entry))) (expandedByRule (rowsIn size (now (months .entry)) (now (seconds .entry))) (date .0))) (now (out .entry))
         (now (rule .entry)) r (now (out .exit)) (now (rule .exit)) ⌝ }
 {
     if rule.len() < 8 {
@@ -217,7 +179,8 @@ pub extern "C" fn ct_to_iso8601(
     out: &mut [u8],
     rule: &mut [u8],
 ) -> i64
-    ensures { λ r. ⌜ DeliveredTwo (ruled (length (now (rule .entry))) (onward (tableBytes (now (table .entry))) (λ rows. isoTextByRule rows (julian jd1 jd2)))) (now (out .entry))
+    ensures { λ r. ⌜ DeliveredTwo
+        (ruled (length (now (rule .entry))) (onward (tableBytes (now (table .entry))) (λ rows. isoTextByRule rows (julian jd1 jd2)))) (now (out .entry))
         (now (rule .entry)) r (now (out .exit)) (now (rule .exit)) ⌝ }
 {
     let mut months = [0; 16];
@@ -240,7 +203,8 @@ pub extern "C" fn ct_to_iso8601_half_even(
     out: &mut [u8],
     rule: &mut [u8],
 ) -> i64
-    ensures { λ r. ⌜ DeliveredTwo (ruled (length (now (rule .entry))) (onward (tableBytes (now (table .entry))) (λ rows. halfEvenByRule rows (julian jd1 jd2)))) (now (out .entry))
+    ensures { λ r. ⌜ DeliveredTwo
+        (ruled (length (now (rule .entry))) (onward (tableBytes (now (table .entry))) (λ rows. halfEvenByRule rows (julian jd1 jd2)))) (now (out .entry))
         (now (rule .entry)) r (now (out .exit)) (now (rule .exit)) ⌝ }
 {
     let mut months = [0; 16];
@@ -263,7 +227,8 @@ pub extern "C" fn ct_to_iso8601_expanded(
     out: &mut [u8],
     rule: &mut [u8],
 ) -> i64
-    ensures { λ r. ⌜ DeliveredTwo (ruled (length (now (rule .entry))) (onward (tableBytes (now (table .entry))) (λ rows. expandedByRule rows (julian jd1 jd2)))) (now (out .entry))
+    ensures { λ r. ⌜ DeliveredTwo
+        (ruled (length (now (rule .entry))) (onward (tableBytes (now (table .entry))) (λ rows. expandedByRule rows (julian jd1 jd2)))) (now (out .entry))
         (now (rule .entry)) r (now (out .exit)) (now (rule .exit)) ⌝ }
 {
     let mut months = [0; 16];

@@ -1,5 +1,5 @@
 use crate::{at, made_up, number, parts};
-use celestial_time_proved::runs::{convert_run, formula_run, Dates, Stamps};
+use celestial_time_proved::runs::{convert_run, formula_run, texts_of_run, Dates, Stamps};
 use celestial_time_proved::scales::gps::GPS;
 use celestial_time_proved::scales::tai::TAI;
 use celestial_time_proved::scales::tcb::TCB;
@@ -7,7 +7,7 @@ use celestial_time_proved::scales::tcg::TCG;
 use celestial_time_proved::scales::tdb::TDB;
 use celestial_time_proved::scales::tt::TT;
 use celestial_time_proved::scales::ut1::UT1;
-use celestial_time_proved::scales::utc::UTC;
+use celestial_time_proved::scales::utc::{Form, UTC};
 use celestial_time_proved::scales::TimeScale;
 use celestial_time_proved::{Table, TimeResult};
 
@@ -104,6 +104,43 @@ fn refused_runs_by_a_formula() {
     assert_eq!(number(answered::<TCB>(0, 3, |dates| formula_run(tdb, &[0.0], dates)).code), 12);
     assert_eq!(number(answered::<TT>(0, 3, |dates| formula_run(tdb, &[], dates)).code), 12);
     assert_eq!(number(answered::<TCB>(2, 3, |dates| formula_run(tdb, &[], dates)).code), 11);
+}
+
+#[test]
+fn texts_of_a_run_are_the_single_calls() {
+    let (jd1, jd2) = (vec![2457753.5, f64::NAN, 6104057.5, -31739.5], vec![0.9999999; 4]);
+    let (stamps, table) = (Stamps::<UTC>::new(&jd1, &jd2), made_up(38));
+    for form in [Form::Nearest, Form::HalfEven, Form::Expanded] {
+        let (mut texts, mut lengths, mut numbers) = (vec![99; 110], vec![99; 5], vec![99; 4]);
+        assert_eq!(texts_of_run(form, stamps, &table, &mut texts, &mut lengths, &mut numbers), Ok(2));
+        assert_eq!((numbers, lengths[4]), (vec![0, 6, 0, 1], 99));
+        for i in 0..4 {
+            let mut due = vec![99; 27];
+            if let Ok((text, _)) = at::<UTC>(jd1[i], jd2[i]).to_text_with_table(form, &table) {
+                due[..text.len()].copy_from_slice(text.as_bytes());
+                assert_eq!(lengths[i] as usize, text.len());
+            } else {
+                assert_eq!(lengths[i], 0);
+            }
+            assert_eq!(texts[27 * i..27 * i + 27], due);
+        }
+        assert_eq!(texts[108..], [99, 99]);
+    }
+}
+
+#[test]
+fn refused_texts_of_a_run() {
+    let refused = |stamps: Stamps<UTC>, texts: usize, lengths: usize, numbers: usize| {
+        let (mut texts, mut lengths, mut numbers) = (vec![99; texts], vec![99; lengths], vec![99; numbers]);
+        let code = texts_of_run(Form::Nearest, stamps, &Table::NONE, &mut texts, &mut lengths, &mut numbers);
+        assert!(texts.iter().chain(&lengths).chain(&numbers).all(|byte| *byte == 99));
+        number(code)
+    };
+    let (jd1, jd2) = ([2451545.0; 2], [0.25; 2]);
+    assert_eq!(refused(Stamps::new(&jd1, &jd2[..1]), 0, 0, 0), 12);
+    assert_eq!(refused(Stamps::new(&jd1, &jd2), 53, 2, 2), 11);
+    assert_eq!(refused(Stamps::new(&jd1, &jd2), 54, 1, 2), 11);
+    assert_eq!(refused(Stamps::new(&jd1, &jd2), 54, 2, 1), 11);
 }
 
 #[test]

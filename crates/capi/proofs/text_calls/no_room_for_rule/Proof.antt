@@ -5,11 +5,12 @@ use Rattle.capi.proofs.text_calls.no_room_for_rule.Statement.{statement
 use Rattle.capi.proofs.text_calls.no_room_for_rule.Tie as tie
 
 returns : tie.Need-returns
-returns c = no-room-refused _ (c .before .before .before .before .before .text-by .ensures) (c .refused .ok) (c .before .before .number .given .1)
+returns c = no-room-refused _ (c .before .before .before .before .before .to-text-by-arrays .ensures) (c .refused .ok) (c .before .before .number .given .1)
     (c .refused .ensures)
 
 returns-2 : tie.Need-returns-2
-returns-2 c = no-room-written _ (c .before .before .before .before .text-by .ensures) (c .refused2 .ok) (c .before .enum-told .given .1) (c .refused2 .ensures)
+returns-2 c = no-room-written _ (c .before .before .before .before .to-text-by-arrays .ensures) (c .refused2 .ok) (c .before .enum-told .given .1)
+    (c .refused2 .ensures)
 
 pub no-room-for-rule-spec : {M : Type 1} → statement M
 no-room-for-rule-spec =

@@ -1,7 +1,7 @@
 -- `capi::text_calls::put_expanded` meets its contract. Assumes nothing.
 use Rattle.capi.proofs.TextRules.{short-lent, count-fits, two-written, two-refused, text-few}
-use Rattle.capi.specs.declared.text_calls.NamedForm.the-variants.{Expanded}
-use Rattle.capi.specs.TextRule.{formNamed}
+use Rattle.utc.specs.declared.iso_texts.NamedForm.the-variants.{Expanded}
+use Rattle.utc.specs.iso_texts.Named.{formNamed}
 use borrow.Author.Needs.{needs}
 use Rattle.capi.proofs.text_calls.put_expanded.Statement.{statement}
 use Rattle.capi.proofs.text_calls.put_expanded.Tie as tie

@@ -9,7 +9,8 @@ returns c = λ second e. none-lent _ _ _ second _ (c .before .before .text-alone
     (c .before .before .text-alone .ensures)
 
 returns-2 : tie.Need-returns-2
-returns-2 c = λ second e. few-lent _ _ second _ (c .no-room-for-rule .ok) (c .before .before .before .pre) (c .before .if1 .left) e (c .no-room-for-rule .ensures)
+returns-2 c = λ second e. few-lent _ _ second _ (c .no-room-for-rule .ok) (c .before .before .before .pre) (c .before .if1 .left) e
+    (c .no-room-for-rule .ensures)
 
 pub with-short-rule-spec : {M : Type 1} → statement M
 with-short-rule-spec = tie.close (tie.spec (λ c κs. search needs) (λ c. search needs) returns (λ c κs. search needs) returns-2)
