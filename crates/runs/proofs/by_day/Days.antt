@@ -35,7 +35,7 @@ use Rattle.utc_scales.proofs.Steps.{tai-of-day}
 use Rattle.runs.specs.declared.by_day.DayInHand.{DayInHand}
 use Rattle.runs.specs.declared.by_day.ByHand.{ByHand}
 use Rattle.runs.specs.declared.by_day.ByHand.the-variants as B
-use Rattle.runs.specs.by_day.Hand.{dayFrom, Midnight, Held, handOf, taiPart, minusOne, servesNone, RightHand, RightByHand, RightWay}
+use Rattle.runs.specs.by_day.Hand.{dayFrom, Midnight, HeldDay, handOf, taiPart, minusOne, servesNone, RightHand, RightByHand, RightWay}
 use Rattle.runs.specs.ways.Ways.{wayOf}
 use Rattle.runs.proofs.laws.EachWay.{each-way}
 use Rattle.runs.proofs.by_day.Floats.{first-larger}
@@ -79,7 +79,7 @@ part-is : (m mjd : Float) (o : DayOffsets) (f : Float) → taiPart (handOf m mjd
 unfolding taiPart handOf taiFromMidnight stretchDayFraction
 part-is m mjd o f = refl
 
-module _ (rows : List Row) (x y : Float) (h : DayInHand) (fx : T (fits binary64 x)) (fy : T (fits binary64 y)) (k : Held rows h) (e : x ≡ h .midnight)
+module _ (rows : List Row) (x y : Float) (h : DayInHand) (fx : T (fits binary64 x)) (fy : T (fits binary64 y)) (k : HeldDay rows h) (e : x ≡ h .midnight)
     (ly : le nought y ≡ true) (ty : lt y one ≡ true) (f : Float) (d : dayNumberAndFraction x y ≡ answer (record { day = dayFrom x; fraction = f })) where
   begins : Midnight x
   begins = subst Midnight (sym e) (k .begins)

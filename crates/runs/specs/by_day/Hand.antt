@@ -54,7 +54,7 @@ unfoldable pub servesNone : Float → Float → DayInHand
 servesNone midnight top = record { midnight = midnight; top = top; zero = nought; leap = nought; drift = nought; start = nought }
 
 -- the day that begins at h's midnight, by the rows of a table
-pub record Held (rows : List Row) (h : DayInHand) : Type 0 where
+pub record HeldDay (rows : List Row) (h : DayInHand) : Type 0 where
   pub offsets : DayOffsets
   pub begins : Midnight (h .midnight)
   pub read : offsetsOf rows (gregorianDate (dayFrom (h .midnight))) ≡ answer offsets
@@ -62,7 +62,7 @@ pub record Held (rows : List Row) (h : DayInHand) : Type 0 where
 
 -- where it serves, it is the day of its midnight by these rows
 unfoldable pub RightHand : List Row → DayInHand → Type 0
-RightHand rows h = lt nought (h .top) ≡ true → Held rows h
+RightHand rows h = lt nought (h .top) ≡ true → HeldDay rows h
 
 -- the smaller part in TAI, from the fraction of the day that has passed
 unfoldable pub taiPart : DayInHand → Float → Float
@@ -88,7 +88,7 @@ minusOne = fin true 1 (pos 0)
 
 -- a date that is found by a day that begins at jd1, where jd2 is from 0.0 to below 1.0
 unfoldable pub FindsTaiOf : JulianDate → DayInHand → ByHand → Type 0
-FindsTaiOf d h r = (rows : List Row) → Held rows h → d .jd1 ≡ h .midnight → le nought (d .jd2) ≡ true → lt (d .jd2) one ≡ true → RightByHand rows d r
+FindsTaiOf d h r = (rows : List Row) → HeldDay rows h → d .jd1 ≡ h .midnight → le nought (d .jd2) ≡ true → lt (d .jd2) one ≡ true → RightByHand rows d r
 
 -- a date that is found by a day in hand, whichever table it is right for
 unfoldable pub FindsTai : JulianDate → DayInHand → ByHand → Type 0

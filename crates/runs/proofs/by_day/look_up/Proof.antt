@@ -23,7 +23,7 @@ use Rattle.leap_table.proofs.offsets.Rules.{apart}
 use Rattle.utc_scales.specs.Known.{readOn}
 use Rattle.utc_scales.proofs.days.Midnights.{day-asked}
 use Rattle.runs.specs.declared.by_day.DayInHand.{DayInHand}
-use Rattle.runs.specs.by_day.Hand.{dayFrom, Midnight, Held, handOf, servesNone, RightHand}
+use Rattle.runs.specs.by_day.Hand.{dayFrom, Midnight, HeldDay, handOf, servesNone, RightHand}
 use Rattle.runs.proofs.by_day.Floats.{day-in-days}
 use borrow.Author.Needs.{needs}
 use Rattle.runs.proofs.by_day.look_up.Statement.{statement}
@@ -74,7 +74,7 @@ returns-2 c e =
     let g = sym (d .day-of .ensures) ∙ ap dayByRuleOutcome (o .o .given .1) in
     let q = apart _ _ _ _ (ap (λ (z : ℤ). readOn (rows s) (gregorianDate z)) (sym n) ∙ g) in
     let m = c .before .mjd-of .ensures ∙ ap (λ (z : ℤ). ofInt binary64 (z -ℤ pos 2400001)) n in
-    subst (Held (rows s)) (sym (c .hand-of .ensures ∙ ap (λ (z : Float). handOf x z (o .o .given .0 .0)) m))
+    subst (HeldDay (rows s)) (sym (c .hand-of .ensures ∙ ap (λ (z : Float). handOf x z (o .o .given .0 .0)) m))
     (record {
       offsets = o .o .given .0 .0;
       begins = record { before-noon = before-noon-of x (w .nearest-whole .result) (w .nearest-whole .ensures) (i .if1 .taken); late = u .if2 .taken; held = fx; in-days = r };
