@@ -14,6 +14,7 @@ ghost use Rattle.runs.specs.by_day.Hand as D;
 use constants::SECONDS_PER_DAY_F64;
 use constants::scale_numbers::TAI;
 use constants::scale_numbers::UTC;
+use constants::scale_numbers::are;
 use julian::JulianAnswer;
 use julian::JulianDate;
 use leap_table::offsets::DayByRule;
@@ -40,6 +41,12 @@ pub(crate) enum ByHand {
 // The fraction of the day of a midnight, where a part lies in it.
 enum InDay {
     Fraction(f64),
+    Elsewhere,
+}
+
+// The smaller part after a round of TAI to UTC, where the day in hand serves its guess.
+enum Round {
+    Part(f64),
     Elsewhere,
 }
 
@@ -224,7 +231,39 @@ pub(crate) fn quick_tai(big: f64, small: f64, hand: DayInHand) -> ByHand
     ByHand::Elsewhere
 }
 
-// The way by the day in hand: UTC to TAI.
+// One round of TAI to UTC by the day in hand.
+fn quick_round(big: f64, small: f64, guess: f64, hand: DayInHand) -> Round
+    ensures { λ r. ⌜ D.FindsRound big small guess hand r ⌝ }
+{
+    match quick_tai(big, guess, hand) {
+        ByHand::Elsewhere => Round::Elsewhere,
+        ByHand::Date(tai) => {
+            let moved = guess + (big - tai.jd1);
+            Round::Part(moved + (small - tai.jd2))
+        }
+    }
+}
+
+// TAI to UTC by the day in hand: three rounds, each on this day.
+fn quick_utc(big: f64, small: f64, hand: DayInHand) -> ByHand
+    ensures { λ r. ⌜ D.FindsUtc (julian big small) hand r ⌝ }
+{
+    match quick_round(big, small, small, hand) {
+        Round::Elsewhere => ByHand::Elsewhere,
+        Round::Part(x) => match quick_round(big, small, x, hand) {
+            Round::Elsewhere => ByHand::Elsewhere,
+            Round::Part(y) => match quick_round(big, small, y, hand) {
+                Round::Elsewhere => ByHand::Elsewhere,
+                Round::Part(z) => ByHand::Date(JulianDate {
+                    jd1: big,
+                    jd2: z,
+                }),
+            },
+        },
+    }
+}
+
+// The way by the day in hand: UTC to TAI, and TAI to UTC.
 fn quick_way(from: u32, to: u32, jd: JulianDate, hand: DayInHand) -> ByHand
     ensures { λ r. ⌜ D.FindsWay from to jd hand r ⌝ }
 {
@@ -233,7 +272,20 @@ fn quick_way(from: u32, to: u32, jd: JulianDate, hand: DayInHand) -> ByHand
             return quick_tai(jd.jd1, jd.jd2, hand);
         }
     }
+    if from == TAI {
+        if to == UTC {
+            return quick_utc(jd.jd1, jd.jd2, hand);
+        }
+    }
     ByHand::Elsewhere
+}
+
+// Whether the way takes a day in hand.
+fn keeps_day(from: u32, to: u32) -> bool {
+    if are(from, to, UTC, TAI) {
+        return true;
+    }
+    are(from, to, TAI, UTC)
 }
 
 // The day in hand for the next stamp, where the way takes one.
@@ -249,10 +301,8 @@ pub(crate) fn next_hand<'a>(
     requires { ⌜ D.RightHand (rowsIn size (now months) (now seconds)) hand ⌝ }
     ensures { λ r. ⌜ D.RightHand (rowsIn size (now (months .entry)) (now (seconds .entry))) r ⌝ }
 {
-    if from == UTC {
-        if to == TAI {
-            return next_day(jd1, hand, size, months, seconds);
-        }
+    if keeps_day(from, to) {
+        return next_day(jd1, hand, size, months, seconds);
     }
     hand
 }

@@ -27,7 +27,7 @@ use Rattle.leap_table.specs.declared.offsets.DayOffsets.{DayOffsets}
 use Rattle.calendar.specs.Gregorian.{gregorianDate}
 use Rattle.constants.specs.Constants.{mjdZeroPoint}
 use Rattle.refusals.proofs.Onward.{went}
-use Rattle.utc_scales.specs.UtcTai.{stretchDayFraction, taiFromMidnight, taiFraction, utcToTai}
+use Rattle.utc_scales.specs.UtcTai.{stretchDayFraction, taiFromMidnight, taiFraction, utcToTai, refined, rounds, refineUtcFraction, taiToUtc}
 use Rattle.utc_scales.specs.days.Dates.{offsetsOf}
 use Rattle.utc_scales.specs.days.LargerPart.{firstIsKept, keptAs, putBeside, placed}
 use Rattle.utc_scales.proofs.days.Steps.{parts-are, changes}
@@ -35,7 +35,7 @@ use Rattle.utc_scales.proofs.Steps.{tai-of-day}
 use Rattle.runs.specs.declared.by_day.DayInHand.{DayInHand}
 use Rattle.runs.specs.declared.by_day.ByHand.{ByHand}
 use Rattle.runs.specs.declared.by_day.ByHand.the-variants as B
-use Rattle.runs.specs.by_day.Hand.{dayFrom, Midnight, HeldDay, handOf, taiPart, minusOne, servesNone, RightHand, RightByHand, RightWay}
+use Rattle.runs.specs.by_day.Hand.{dayFrom, Midnight, HeldDay, handOf, taiPart, minusOne, servesNone, RightHand, RightByHand, RightUtc, RightWay}
 use Rattle.runs.specs.ways.Ways.{wayOf}
 use Rattle.runs.proofs.laws.EachWay.{each-way}
 use Rattle.runs.proofs.by_day.Floats.{first-larger}
@@ -84,7 +84,7 @@ module _ (rows : List Row) (x y : Float) (h : DayInHand) (fx : T (fits binary64 
   begins : Midnight x
   begins = subst Midnight (sym e) (k .begins)
 
-  kept : firstIsKept (julian x y) ≡ true
+  pub kept : firstIsKept (julian x y) ≡ true
   unfolding firstIsKept
   kept = first-larger x y fx fy (begins .late) ly ty
 
@@ -107,10 +107,30 @@ module _ (rows : List Row) (x y : Float) (h : DayInHand) (fx : T (fits binary64 
 pub way-to-tai : (rows : List Row) (from to : ℕ) (d : JulianDate) (r : ByHand) → from ≡ 0 → to ≡ 1 → RightByHand rows d r → RightWay rows from to d r
 unfolding RightByHand RightWay
 way-to-tai rows from to d (B.Date t) p q e =
-    ap (λ (a : ℕ). wayOf rows a to d) p ∙ ap (λ (a : ℕ). wayOf rows 0 a d) q ∙ each-way rows d .utc-tai ∙ e
+    ap (λ (a : ℕ). wayOf rows a to d) p ∙ ap (λ (a : ℕ). wayOf rows 0 a d) q ∙ each-way rows d .utc-tai ∙ e .0
 way-to-tai rows from to d B.Elsewhere p q e = tt
 
 -- ---- no day is right for every table
 pub no-day-right : (rows : List Row) (h : DayInHand) → h ≡ servesNone minusOne minusOne → RightHand rows h
 unfolding RightHand servesNone lt
 no-day-right rows h e l = absurd (false≢true (sym (ap (λ (z : DayInHand). lt nought (z .top)) e) ∙ l))
+
+-- ---- TAI to UTC in three rounds
+module _ (rows : List Row) (big small x y z : Float) (a : refined rows big small small ≡ answer x) (b : refined rows big small x ≡ answer y)
+    (c : refined rows big small y ≡ answer z) (f : firstIsKept (julian big small) ≡ true) where
+  three : refineUtcFraction rows big small ≡ answer z
+  unfolding refineUtcFraction rounds
+  three = went _ a ∙ went _ b ∙ went _ c
+
+  pub utc-by-rounds : taiToUtc rows (julian big small) ≡ answer (julian big z)
+  unfolding taiToUtc placed putBeside
+  utc-by-rounds =
+      sym (changes (refineUtcFraction rows) (julian big small) (keptAs (julian big small) true) (answer z) (parts-are (julian big small) true (sym f)) (sym three))
+      ∙ went _ refl
+
+-- ---- the way from TAI to UTC
+pub way-to-utc : (rows : List Row) (from to : ℕ) (d : JulianDate) (r : ByHand) → from ≡ 1 → to ≡ 0 → RightUtc rows d r → RightWay rows from to d r
+unfolding RightUtc RightWay
+way-to-utc rows from to d (B.Date t) p q e =
+    ap (λ (a : ℕ). wayOf rows a to d) p ∙ ap (λ (a : ℕ). wayOf rows 1 a d) q ∙ each-way rows d .tai-utc ∙ e
+way-to-utc rows from to d B.Elsewhere p q e = tt

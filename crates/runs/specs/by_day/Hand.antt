@@ -13,6 +13,7 @@ use Rattle.constants.specs.Constants.{secondsPerDay, mjdZeroPoint}
 use Rattle.floats.specs.Whole.{nought, one, nearestInt}
 use Rattle.calendar.specs.Gregorian.{gregorianDate}
 use Rattle.julian.specs.declared.JulianDate.{JulianDate}
+use Rattle.julian.specs.JulianDate.{julian}
 use Rattle.julian.specs.day_number.DayNumber.{accepted}
 use Rattle.julian.specs.day_number.Answer.{dayNumberAndFraction}
 use Rattle.julian.specs.day_number.Ranges.{InDays}
@@ -24,8 +25,11 @@ use Rattle.runs.specs.declared.by_day.ByHand.{ByHand}
 use Rattle.runs.specs.declared.by_day.ByHand.the-variants as B
 use Rattle.runs.specs.declared.by_day.InDay.{InDay}
 use Rattle.runs.specs.declared.by_day.InDay.the-variants as I
+use Rattle.runs.specs.declared.by_day.Round.{Round}
+use Rattle.runs.specs.declared.by_day.Round.the-variants as Q
 use Rattle.utc_scales.specs.days.Dates.{offsetsOf}
-use Rattle.utc_scales.specs.UtcTai.{utcToTai}
+use Rattle.utc_scales.specs.days.LargerPart.{firstIsKept}
+use Rattle.utc_scales.specs.UtcTai.{utcToTai, refined, taiToUtc}
 use Rattle.runs.specs.ways.Ways.{wayOf}
 
 -- the day that begins at a midnight
@@ -73,9 +77,9 @@ unfoldable pub InDayOf : Float → Float → InDay → Type 0
 InDayOf x y (I.Fraction f) = dayNumberAndFraction x y ≡ answer (record { day = dayFrom x; fraction = f })
 InDayOf x y I.Elsewhere = Unit
 
--- a date that is found is UTC to TAI of the date
+-- a date that is found is UTC to TAI of the date, whose larger part is jd1
 unfoldable pub RightByHand : List Row → JulianDate → ByHand → Type 0
-RightByHand rows d (B.Date t) = utcToTai rows d ≡ answer t
+RightByHand rows d (B.Date t) = (utcToTai rows d ≡ answer t) × (firstIsKept d ≡ true)
 RightByHand rows d B.Elsewhere = Unit
 
 -- what `fraction_in_day` finds, for every midnight
@@ -101,3 +105,19 @@ RightWay rows from to d B.Elsewhere = Unit
 
 unfoldable pub FindsWay : ℕ → ℕ → JulianDate → DayInHand → ByHand → Type 0
 FindsWay from to d h r = (rows : List Row) → RightHand rows h → RightWay rows from to d r
+
+-- a part that a round finds is that of the round of TAI to UTC
+unfoldable pub RightRound : List Row → Float → Float → Float → Round → Type 0
+RightRound rows big small guess (Q.Part x) = (refined rows big small guess ≡ answer x) × (firstIsKept (julian big guess) ≡ true)
+RightRound rows big small guess Q.Elsewhere = Unit
+
+unfoldable pub FindsRound : Float → Float → Float → DayInHand → Round → Type 0
+FindsRound big small guess h r = (rows : List Row) → RightHand rows h → RightRound rows big small guess r
+
+-- a date that is found is TAI to UTC of the date
+unfoldable pub RightUtc : List Row → JulianDate → ByHand → Type 0
+RightUtc rows d (B.Date u) = taiToUtc rows d ≡ answer u
+RightUtc rows d B.Elsewhere = Unit
+
+unfoldable pub FindsUtc : JulianDate → DayInHand → ByHand → Type 0
+FindsUtc d h r = (rows : List Row) → RightHand rows h → RightUtc rows d r

@@ -8,7 +8,7 @@ use Rattle.julian.specs.day_number.DayNumber.{accepted}
 use Rattle.julian.proofs.day_number.Steps.{from-min}
 use Rattle.runs.specs.declared.by_day.InDay.{InDay}
 use Rattle.runs.specs.by_day.Hand.{Midnight, InDayOf, FindsFraction, RightByHand, FindsTaiOf}
-use Rattle.runs.proofs.by_day.Days.{tai-by-hand}
+use Rattle.runs.proofs.by_day.Days.{tai-by-hand, kept}
 use borrow.Author.Needs.{needs}
 use Rattle.runs.proofs.by_day.tai_in_range.Statement.{statement}
 use Rattle.runs.proofs.by_day.tai_in_range.Tie as tie
@@ -29,8 +29,10 @@ returns-2 c rows k e l t =
     let y = s .args .small in
     let fx = yes (s .good .0 .1) in
     let d = subst (InDayOf x y) (f .f .given .1) (g .fraction-in-day .ensures x fx (subst Midnight (sym e) (k .begins)) (sym (from-min (add binary64 x y) (a .if1 .taken)) ∙ b .if2 .taken)) in
-    tai-by-hand rows x y (s .args .hand) fx (yes (s .good .1 .0 .1)) k e l t (f .f .given .0 .0) d
-    ∙ ap (λ (z : Float). answer (julian x z)) (sym (c .tai-part .ensures))
+    let fy = yes (s .good .1 .0 .1) in (
+      tai-by-hand rows x y (s .args .hand) fx fy k e l t (f .f .given .0 .0) d ∙ ap (λ (z : Float). answer (julian x z)) (sym (c .tai-part .ensures)),
+      kept rows x y (s .args .hand) fx fy k e l t (f .f .given .0 .0) d,
+    )
 
 returns-3 : tie.Need-returns-3
 unfolding FindsTaiOf RightByHand
