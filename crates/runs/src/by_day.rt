@@ -254,10 +254,7 @@ fn quick_utc(big: f64, small: f64, hand: DayInHand) -> ByHand
             Round::Elsewhere => ByHand::Elsewhere,
             Round::Part(y) => match quick_round(big, small, y, hand) {
                 Round::Elsewhere => ByHand::Elsewhere,
-                Round::Part(z) => ByHand::Date(JulianDate {
-                    jd1: big,
-                    jd2: z,
-                }),
+                Round::Part(z) => ByHand::Date(JulianDate { jd1: big, jd2: z }),
             },
         },
     }

@@ -35,7 +35,7 @@ use Rattle.utc_scales.proofs.Steps.{tai-of-day}
 use Rattle.runs.specs.declared.by_day.DayInHand.{DayInHand}
 use Rattle.runs.specs.declared.by_day.ByHand.{ByHand}
 use Rattle.runs.specs.declared.by_day.ByHand.the-variants as B
-use Rattle.runs.specs.by_day.Hand.{dayFrom, Midnight, HeldDay, handOf, taiPart, minusOne, servesNone, RightHand, RightByHand, RightUtc, RightWay}
+use Rattle.runs.specs.by_day.Hand.{dayFrom, Midnight, HeldDay, handOf, taiPart, minusOne, servesNone, RightHand, RightTaiByHand, RightUtcByHand, RightWay}
 use Rattle.runs.specs.ways.Ways.{wayOf}
 use Rattle.runs.proofs.laws.EachWay.{each-way}
 use Rattle.runs.proofs.by_day.Floats.{first-larger}
@@ -104,8 +104,8 @@ module _ (rows : List Row) (x y : Float) (h : DayInHand) (fx : T (fits binary64 
       ∙ went _ refl
 
 -- ---- the way from UTC to TAI
-pub way-to-tai : (rows : List Row) (from to : ℕ) (d : JulianDate) (r : ByHand) → from ≡ 0 → to ≡ 1 → RightByHand rows d r → RightWay rows from to d r
-unfolding RightByHand RightWay
+pub way-to-tai : (rows : List Row) (from to : ℕ) (d : JulianDate) (r : ByHand) → from ≡ 0 → to ≡ 1 → RightTaiByHand rows d r → RightWay rows from to d r
+unfolding RightTaiByHand RightWay
 way-to-tai rows from to d (B.Date t) p q e =
     ap (λ (a : ℕ). wayOf rows a to d) p ∙ ap (λ (a : ℕ). wayOf rows 0 a d) q ∙ each-way rows d .utc-tai ∙ e .0
 way-to-tai rows from to d B.Elsewhere p q e = tt
@@ -125,12 +125,13 @@ module _ (rows : List Row) (big small x y z : Float) (a : refined rows big small
   pub utc-by-rounds : taiToUtc rows (julian big small) ≡ answer (julian big z)
   unfolding taiToUtc placed putBeside
   utc-by-rounds =
-      sym (changes (refineUtcFraction rows) (julian big small) (keptAs (julian big small) true) (answer z) (parts-are (julian big small) true (sym f)) (sym three))
+      sym (changes (refineUtcFraction rows) (julian big small) (keptAs (julian big small) true) (answer z) (parts-are (julian big small) true (sym f))
+      (sym three))
       ∙ went _ refl
 
 -- ---- the way from TAI to UTC
-pub way-to-utc : (rows : List Row) (from to : ℕ) (d : JulianDate) (r : ByHand) → from ≡ 1 → to ≡ 0 → RightUtc rows d r → RightWay rows from to d r
-unfolding RightUtc RightWay
+pub way-to-utc : (rows : List Row) (from to : ℕ) (d : JulianDate) (r : ByHand) → from ≡ 1 → to ≡ 0 → RightUtcByHand rows d r → RightWay rows from to d r
+unfolding RightUtcByHand RightWay
 way-to-utc rows from to d (B.Date t) p q e =
     ap (λ (a : ℕ). wayOf rows a to d) p ∙ ap (λ (a : ℕ). wayOf rows 1 a d) q ∙ each-way rows d .tai-utc ∙ e
 way-to-utc rows from to d B.Elsewhere p q e = tt

@@ -93,7 +93,8 @@ below x y s t X Y h k lx ly ty = go s t (le-true L-pos one-L (has-val x s X L h)
     go false true p q r = omega arith
     go true t p q r = let z : ⊥ = omega (arith, L-pos) in absurd z
 
-pub first-larger : (x y : Float) → T (fits binary64 x) → T (fits binary64 y) → le one x ≡ true → le nought y ≡ true → lt y one ≡ true → le (abs y) (abs x) ≡ true
+pub first-larger : (x y : Float) → T (fits binary64 x) → T (fits binary64 y) → le one x ≡ true → le nought y ≡ true → lt y one ≡ true
+    → le (abs y) (abs x) ≡ true
 unfolding eq le lt abs
 first-larger nan y fx fy lx ly ty = absurd (false≢true lx)
 first-larger (inf true) y fx fy lx ly ty = absurd (false≢true lx)

@@ -153,5 +153,6 @@ returns c =
 pub convert-all-spec : {M : Type 1} → statement M
 convert-all-spec =
     tie.close
-    (tie.spec Inv-loop μ-loop (λ c κs. search needs) loop-holds convert-stamp-requires slice-write-numbers one-if-refused-requires add-refused add-i loop-less loop-again
+    (tie.spec Inv-loop μ-loop (λ c κs. search needs) loop-holds convert-stamp-requires slice-write-numbers one-if-refused-requires add-refused add-i
+    loop-less loop-again
     same-length same-length-2 same-length-3 returns)

@@ -78,9 +78,9 @@ InDayOf x y (I.Fraction f) = dayNumberAndFraction x y ≡ answer (record { day =
 InDayOf x y I.Elsewhere = Unit
 
 -- a date that is found is UTC to TAI of the date, whose larger part is jd1
-unfoldable pub RightByHand : List Row → JulianDate → ByHand → Type 0
-RightByHand rows d (B.Date t) = (utcToTai rows d ≡ answer t) × (firstIsKept d ≡ true)
-RightByHand rows d B.Elsewhere = Unit
+unfoldable pub RightTaiByHand : List Row → JulianDate → ByHand → Type 0
+RightTaiByHand rows d (B.Date t) = (utcToTai rows d ≡ answer t) × (firstIsKept d ≡ true)
+RightTaiByHand rows d B.Elsewhere = Unit
 
 -- what `fraction_in_day` finds, for every midnight
 unfoldable pub FindsFraction : Float → InDay → Type 0
@@ -92,11 +92,11 @@ minusOne = fin true 1 (pos 0)
 
 -- a date that is found by a day that begins at jd1, where jd2 is from 0.0 to below 1.0
 unfoldable pub FindsTaiOf : JulianDate → DayInHand → ByHand → Type 0
-FindsTaiOf d h r = (rows : List Row) → HeldDay rows h → d .jd1 ≡ h .midnight → le nought (d .jd2) ≡ true → lt (d .jd2) one ≡ true → RightByHand rows d r
+FindsTaiOf d h r = (rows : List Row) → HeldDay rows h → d .jd1 ≡ h .midnight → le nought (d .jd2) ≡ true → lt (d .jd2) one ≡ true → RightTaiByHand rows d r
 
 -- a date that is found by a day in hand, whichever table it is right for
 unfoldable pub FindsTai : JulianDate → DayInHand → ByHand → Type 0
-FindsTai d h r = (rows : List Row) → RightHand rows h → RightByHand rows d r
+FindsTai d h r = (rows : List Row) → RightHand rows h → RightTaiByHand rows d r
 
 -- a date that is found is that of the way from one scale to another
 unfoldable pub RightWay : List Row → ℕ → ℕ → JulianDate → ByHand → Type 0
@@ -115,9 +115,9 @@ unfoldable pub FindsRound : Float → Float → Float → DayInHand → Round �
 FindsRound big small guess h r = (rows : List Row) → RightHand rows h → RightRound rows big small guess r
 
 -- a date that is found is TAI to UTC of the date
-unfoldable pub RightUtc : List Row → JulianDate → ByHand → Type 0
-RightUtc rows d (B.Date u) = taiToUtc rows d ≡ answer u
-RightUtc rows d B.Elsewhere = Unit
+unfoldable pub RightUtcByHand : List Row → JulianDate → ByHand → Type 0
+RightUtcByHand rows d (B.Date u) = taiToUtc rows d ≡ answer u
+RightUtcByHand rows d B.Elsewhere = Unit
 
 unfoldable pub FindsUtc : JulianDate → DayInHand → ByHand → Type 0
-FindsUtc d h r = (rows : List Row) → RightHand rows h → RightUtc rows d r
+FindsUtc d h r = (rows : List Row) → RightHand rows h → RightUtcByHand rows d r

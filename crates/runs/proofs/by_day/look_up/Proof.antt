@@ -77,7 +77,12 @@ returns-2 c e =
     subst (HeldDay (rows s)) (sym (c .hand-of .ensures ∙ ap (λ (z : Float). handOf x z (o .o .given .0 .0)) m))
     (record {
       offsets = o .o .given .0 .0;
-      begins = record { before-noon = before-noon-of x (w .nearest-whole .result) (w .nearest-whole .ensures) (i .if1 .taken); late = u .if2 .taken; held = fx; in-days = r };
+      begins = record {
+        before-noon = before-noon-of x (w .nearest-whole .result) (w .nearest-whole .ensures) (i .if1 .taken);
+        late = u .if2 .taken;
+        held = fx;
+        in-days = r;
+      };
       read = q .0;
       same = refl;
     })

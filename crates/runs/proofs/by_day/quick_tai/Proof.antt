@@ -4,7 +4,7 @@ use mathlib.Core.Bool.{true}
 use lib.Ieee.{Float, ofBits, lt}
 use Rattle.floats.proofs.Laws.{yes}
 use Rattle.runs.specs.declared.by_day.DayInHand.{DayInHand}
-use Rattle.runs.specs.by_day.Hand.{RightHand, handOf, RightByHand, FindsTaiOf, FindsTai}
+use Rattle.runs.specs.by_day.Hand.{RightHand, handOf, RightTaiByHand, FindsTaiOf, FindsTai}
 use Rattle.runs.proofs.by_day.Floats.{same-float}
 use borrow.Author.Needs.{needs}
 use Rattle.runs.proofs.by_day.quick_tai.Statement.{statement}
@@ -19,24 +19,25 @@ returns c rows right =
     let j1 = j2 .before .before in
     let s = j1 .before .before in
     let k = right (j1 .if1 .taken) in
-    c .tai-in-range .ensures rows k (same-float (s .args .big) (s .args .hand .midnight) (yes (s .good .0 .1)) (k .begins .held) (j2 .if2 .taken) (k .begins .late))
+    c .tai-in-range .ensures rows k
+    (same-float (s .args .big) (s .args .hand .midnight) (yes (s .good .0 .1)) (k .begins .held) (j2 .if2 .taken) (k .begins .late))
     (j3 .if3 .taken)
     (subst (λ (z : Float). lt (s .args .small) z ≡ true) (ap (λ (z : DayInHand). z .top) (k .same)) (j4 .if4 .taken))
 
 returns-2 : tie.Need-returns-2
-unfolding FindsTai RightByHand
+unfolding FindsTai RightTaiByHand
 returns-2 c rows right = tt
 
 returns-3 : tie.Need-returns-3
-unfolding FindsTai RightByHand
+unfolding FindsTai RightTaiByHand
 returns-3 c rows right = tt
 
 returns-4 : tie.Need-returns-4
-unfolding FindsTai RightByHand
+unfolding FindsTai RightTaiByHand
 returns-4 c rows right = tt
 
 returns-5 : tie.Need-returns-5
-unfolding FindsTai RightByHand
+unfolding FindsTai RightTaiByHand
 returns-5 c rows right = tt
 
 pub quick-tai-spec : {M : Type 1} → statement M

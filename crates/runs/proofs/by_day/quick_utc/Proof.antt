@@ -1,25 +1,25 @@
 -- `runs::by_day::quick_utc` meets its contract: three rounds. Assumes nothing.
 use mathlib.Core.Path.{subst}
-use Rattle.runs.specs.by_day.Hand.{RightRound, FindsRound, RightUtc, FindsUtc}
+use Rattle.runs.specs.by_day.Hand.{RightRound, FindsRound, RightUtcByHand, FindsUtc}
 use Rattle.runs.proofs.by_day.Days.{utc-by-rounds}
 use borrow.Author.Needs.{needs}
 use Rattle.runs.proofs.by_day.quick_utc.Statement.{statement}
 use Rattle.runs.proofs.by_day.quick_utc.Tie as tie
 
 returns : tie.Need-returns
-unfolding FindsUtc RightUtc
+unfolding FindsUtc RightUtcByHand
 returns c rows right = tt
 
 returns-2 : tie.Need-returns-2
-unfolding FindsUtc RightUtc
+unfolding FindsUtc RightUtcByHand
 returns-2 c rows right = tt
 
 returns-3 : tie.Need-returns-3
-unfolding FindsUtc RightUtc
+unfolding FindsUtc RightUtcByHand
 returns-3 c rows right = tt
 
 returns-4 : tie.Need-returns-4
-unfolding FindsUtc RightUtc FindsRound RightRound
+unfolding FindsUtc RightUtcByHand FindsRound RightRound
 returns-4 c rows right =
     let z = c .before in
     let three = z .before .before in
