@@ -12,7 +12,7 @@ use Rattle.calendar.specs.Refusals.{validDate}
 use Rattle.calendar.specs.DayCount.{mjdOf, mjdNumber, civilCount}
 use Rattle.calendar.proofs.Mjd.{date-of-mjd}
 use Rattle.rounding.specs.Value.{L}
-use Rattle.leap_table.specs.rows.Table.{Row, fixed, reached, monthNumber}
+use Rattle.leap_table.specs.rows.Table.{Row, fixed, reached, monthNumber, lastSeconds}
 use Rattle.leap_table.specs.offsets.Offset.{secondsIn}
 use Rattle.utc_scales.specs.round_trip.UtcDays.{H, monthOn, secondsOn, leapAfter, shortAfter}
 use Rattle.utc_scales.specs.round_trip.Relation.{taiOverUtc}
@@ -67,11 +67,11 @@ new-year-2030 : dateOf (pos 2462503) ≡ date (pos 2030) 1 1
 unfolding mjdOf mjdNumber civilCount validDate daysInMonth lengths leapSize onward
 new-year-2030 = sym (date-of 2462503 (omega arith)) ∙ date-of-mjd (pos 2030) (pos 1) (pos 1) (pos 62502) refl refl
 
-short-start : secondsOn shortRows 2462502 ≡ 37
+short-start : secondsOn shortRows 2462502 ≡ lastSeconds
 unfolding fixed reached monthNumber
 short-start = seconds-by shortRows 2462502 (date (pos 2029) 12 31) last-of-2029
 
-short-end : secondsOn shortRows 2462503 ≡ 36
+short-end : secondsOn shortRows 2462503 ≡ lastSeconds - 1
 unfolding fixed reached monthNumber
 short-end = seconds-by shortRows 2462503 (date (pos 2030) 1 1) new-year-2030
 
@@ -96,7 +96,7 @@ long-less = omega (arith, ap (λ (z : ℕ). z * (2457754 * L)) leap-second, ap (
 short-num : taiOverUtc shortRows 2462502 .num ≡ 86399
 short-num = omega (arith, left-out, none-in)
 
-short-more : taiOverUtc shortRows 2462502 .more ≡ 37 * L + 2462502 * L
+short-more : taiOverUtc shortRows 2462502 .more ≡ lastSeconds * L + 2462502 * L
 short-more = omega (arith, ap (λ (z : ℕ). z * L) short-start, ap (λ (z : ℕ). z * H) none-in, ap (λ (z : ℕ). z * (2462502 * L)) left-out)
 
 short-less : taiOverUtc shortRows 2462502 .less ≡ H
