@@ -6,8 +6,9 @@ import re
 
 ROOT = os.path.dirname(os.path.dirname(os.path.abspath(__file__)))
 PARTS = ("src", "specs", "proofs")
-# A wrong program: an .edit file. `kind` is its folder: must-fail is tried by `rt ci`, wrong by tests/wrong. `pairs` are (file, old text, new text).
-Edit = collections.namedtuple("Edit", "crate kind name path sentence tries pairs")
+# A wrong program: an .edit file. `kind` is its folder: must-fail is tried by `rt ci`, wrong by tests/wrong. `breaks` are statements that were seen to fail by it.
+# `pairs` are (file, old text, new text).
+Edit = collections.namedtuple("Edit", "crate kind name path sentence tries breaks pairs")
 
 
 class Misfit(Exception):
@@ -34,10 +35,12 @@ def crates():
 def read_edit(path):
     """An .edit file by its path from the root: comment lines, then `file:`, `old:` and `new:` lines. A `file:` line holds for the pairs after it."""
     _, crate, kind, base = path.split("/")
-    sentence, tries, pairs, name, old = "", [], [], "", ""
+    sentence, tries, breaks, pairs, name, old = "", [], [], [], "", ""
     for line in read(path).split("\n"):
         if line.startswith("# tries: "):
             tries += [one.strip() for one in line[9:].split(",") if one.strip()]
+        elif line.startswith("# breaks: "):
+            breaks += [one.strip() for one in line[10:].split(",") if one.strip()]
         elif line.startswith("# ") and not sentence:
             sentence = line[2:].strip()
         elif line.startswith("file: "):
@@ -47,7 +50,7 @@ def read_edit(path):
         elif line.startswith("new:"):
             pairs.append((name, old, line[4:].removeprefix(" ")))
             old = ""
-    return Edit(crate, kind, base[:-5], path, sentence, tries, pairs)
+    return Edit(crate, kind, base[:-5], path, sentence, tries, breaks, pairs)
 
 
 def edits():
@@ -111,4 +114,13 @@ def statements():
             crate = os.path.relpath(path, ROOT).split("/")[1]
             names = re.findall(r"^ *(?:abbrev |unfoldable )?pub (?:record |data )?([^\s:]+)", read(path), re.M)
             found |= {crate + "::" + name for name in names if name not in ("mod", "use")}
+    return found
+
+
+def named(crate):
+    """Every name that a crate's specs and proofs define, public or not."""
+    found = set()
+    for part in ("specs", "proofs"):
+        for path in glob.glob(os.path.join(ROOT, "crates", crate, part, "**/*.antt"), recursive=True):
+            found |= set(re.findall(r"^ *(?:abbrev |unfoldable )?(?:pub )?(?:record |data )?([^\s:(){}]+)(?: :| \(|$)", read(path), re.M))
     return found
