@@ -79,7 +79,8 @@ static void text_run_calls(void)
     /* the three forms part where they should, and a text of 27 bytes is among them */
     texts_singly(ct_to_iso8601_expanded, ct_no_rows, &due);
     check(due.lengths[TEXTS_GUARD + 8] == 27 && due.lengths[TEXTS_GUARD] == 23, "the lengths of texts with expanded years are others");
-    check(!memcmp(due.texts + TEXTS_GUARD + 27 * 10, "2016-12-31T23:59:60.999", 20), "the text of the leap second is another");
+    check(!memcmp(due.texts + TEXTS_GUARD + 27 * 1, "2016-12-31T23:59:60.914", 23), "the text of the leap second is another");
+    check(!memcmp(due.texts + TEXTS_GUARD + 27 * 10, "2017-01-01T00:00:00.000", 23), "the text of the next midnight is another");
     check(!memcmp(due.texts + TEXTS_GUARD + 27 * 4, "2017-01-01T18:00:00.000", 23), "the text of stamp 4 is another");
     texts_say(0, CT_TEXT, 0, 0, ct_no_rows, CT_TABLE_BYTES, 0, 0, 0, NULL);
     /* each refusal, with all that are tested after it */

@@ -63,7 +63,7 @@ int main(int count, char **words)
     long left = count > 1 ? atol(words[1]) : 1000000, stamps = 0, refused = 0, differ = 0, long_ones = 0;
     state = 88172645463325252u + (uint64_t)(count > 2 ? atol(words[2]) : 1);
     ct_table(months, seconds, 2, table);
-    if (ct_check_table(table, sizeof table) != 2) return 2;
+    if (ct_check_table(table, sizeof table) != FIXED_ROWS + 2) return 2;
     while (left > 0) {
         size_t n = (size_t)(chance() % (MOST + 1)), i, k;
         uint32_t form = (uint32_t)(chance() % 3);
