@@ -5,3 +5,4 @@ pub mod Exactly
 pub mod Results
 pub mod Call
 pub mod Cases
+pub mod Written
