@@ -58,7 +58,7 @@ module _ (ds : List Triple) (i : ℕ) (d : Triple) (h : i < length ds) (f : Date
   }
 
 -- the dates of a reader that has each of them
-dates-are : (f : ℕ → Triple) (i : ℕ) (ds : List Triple) (d : Triple) → ((j : ℕ) → j < length ds → f (i + j) ≡ getD ds j d) → datesFrom f i (length ds) ≡ ds
+pub dates-are : (f : ℕ → Triple) (i : ℕ) (ds : List Triple) (d : Triple) → ((j : ℕ) → j < length ds → f (i + j) ≡ getD ds j d) → datesFrom f i (length ds) ≡ ds
 unfolding datesFrom
 dates-are f i [] d h = refl
 dates-are f i (t ∷ ds) d h =
