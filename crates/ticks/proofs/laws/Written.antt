@@ -1,11 +1,11 @@
 -- EACH PASS, EACH TICK AND EACH RESULT AT ITS OWN BYTES: of lists that are written number by number the call's answer is that of the lists, and the eight bytes
 -- from 8 i on read back as the millisecond of the i-th tick. Assumes nothing.
-use Prim.Native.Nat.{ℕ, _+_, _-_, _*_, _/_, _%_, _≤_, _<_}
+use Prim.Native.Nat.{ℕ, zero, suc, _+_, _*_, _≤_, _<_}
 use native.Mathlib.Omega.{arith}
 use mathlib.Core.Path.{_≡_, refl, sym, ap, subst, _∙_}
 use mathlib.Core.Bool.{Bool, true, false}
 use mathlib.Core.Logic.{_↔_}
-use mathlib.Core.List.{List, [], _∷_, _++_, append-nil}
+use mathlib.Core.List.{List, [], _∷_, append-nil}
 use lib.Dec.{ltb}
 use lib.ListN.{length, getD, drop, List·getD-eq-default}
 use borrow.Author.Tests.{ltb-true, ltb-false, lt-leb}
@@ -22,8 +22,8 @@ use Rattle.ticks.specs.judging.Numbers.{holdsBelow, allSmall, allRising,
 use Rattle.ticks.specs.judging.Refusing.{numberAt, numbersIn, wellCounted, usable, bothRising, allInside, refusedBy}
 use Rattle.ticks.specs.Ticks.{passesOf, bytesOf, placedTicks, TicksCall}
 use Rattle.ticks.specs.laws.Sound.{Sound, Inside}
-use Rattle.ticks.specs.laws.Reasons.{WholeLists, HasPlaces, UsablePasses, RisingPasses, TicksInside, PlacedRight, TicksMeaning}
-use Rattle.ticks.specs.laws.Writer.{Numbers64, listedPasses, ListedGood, ListedTicks}
+use Rattle.ticks.specs.laws.Reasons.{WholeLists, HasPlaces, UsablePasses, RisingPasses, TicksInside, TicksMeaning}
+use Rattle.ticks.specs.laws.Writer.{Numbers64, listedPasses, ListedGood, ListedTicks, countUp}
 use Rattle.ticks.proofs.laws.Laws.{is-on-line}
 use Rattle.ticks.proofs.laws.Call.{call-means}
 
@@ -141,6 +141,53 @@ module _ (ps ms ts before after : List ℕ) (r : TicksAnswer) (pass-bits : Numbe
     each = result;
     spare = λ e. subst (λ (n : ℕ). drop (8 * n) after ≡ drop (8 * n) before) (as-many ts) (means .placed (all-written e) .spare);
   }
+
+-- ---- HOW MANY PASSES are taken, from the least to the most
+
+counted : (a n : ℕ) → length (countUp a n) ≡ n
+unfolding countUp
+counted a zero = refl
+counted a (suc n) = ap suc (counted (suc a) n)
+
+count-at : (a n i : ℕ) → i < n → getD (countUp a n) i 0 ≡ a + i
+unfolding countUp
+count-at a zero i h = let w : ⊥ = omega arith in absurd w
+count-at a (suc n) zero h = omega arith
+count-at a (suc n) (suc i) h = count-at (suc a) n i (omega arith) ∙ omega arith
+
+count-bits : (n : ℕ) → n < 18446744073709551616 → Numbers64 (countUp 0 n)
+count-bits n few i h = omega (arith, counted 0 n, count-at 0 n i (omega (arith, counted 0 n)))
+
+count-sound : (n : ℕ) → 2 ≤ n → n ≤ 2000 → Sound (listedPasses (countUp 0 n) (countUp 0 n))
+count-sound n two most = record {
+  two = omega (arith, counted 0 n);
+  most = omega (arith, counted 0 n);
+  ticks-rise = rise;
+  millis-rise = rise;
+  ticks-small = small;
+  millis-small = small;
+}
+  where
+    rise : (i : ℕ) → i + 1 < length (countUp 0 n) → getD (countUp 0 n) i 0 < getD (countUp 0 n) (i + 1) 0
+    rise i h = omega (arith, count-at 0 n i (omega (arith, counted 0 n)), count-at 0 n (i + 1) (omega (arith, counted 0 n)))
+
+    small : (i : ℕ) → i < length (countUp 0 n) → getD (countUp 0 n) i 0 < 0x100_0000_0000
+    small i h = omega (arith, counted 0 n, count-at 0 n i (omega (arith, counted 0 n)))
+
+-- of n passes at the ticks and milliseconds 0 to n - 1, and no tick, the call is answered exactly for 2 to 2,000
+pub two-to-2000 : (n : ℕ) → n < 18446744073709551616 → (before after : List ℕ) (r : TicksAnswer)
+    → TicksCall (placedTicks (allBytes eightBytes (countUp 0 n)) (allBytes eightBytes (countUp 0 n)) (allBytes eightBytes []) (length before)) before r after
+    → (r ≡ Written 0) ↔ ((2 ≤ n) × (n ≤ 2000))
+two-to-2000 n few before after r call = (to, fro)
+  where
+    listed : ListedTicks (countUp 0 n) (countUp 0 n) [] before r after
+    listed = ticks-of-lists (countUp 0 n) (countUp 0 n) [] before after r (count-bits n few) (count-bits n few) (λ i h. absurd (omega arith)) call
+
+    to : r ≡ Written 0 → (2 ≤ n) × (n ≤ 2000)
+    to e = let g = listed .answered .0 e in (omega (arith, g .sound .two, counted 0 n), omega (arith, g .sound .most, counted 0 n))
+
+    fro : (2 ≤ n) × (n ≤ 2000) → r ≡ Written 0
+    fro h = listed .answered .1 (record { places = omega arith; equal = refl; sound = count-sound n (h .0) (h .1); inside = λ i l. absurd (omega arith) })
 
 -- ---- the lowest byte first and each tick its own, worked: passes at the ticks 0 and 1000 and the milliseconds 5000 and 7000; the ticks 256 and 1, whose bytes
 -- are the same in another order, are at 5512 and 5002

@@ -1,9 +1,9 @@
 -- Passes and ticks as lists of numbers of 64 bits, and what a caller reads off the lent list: apart from what reads and writes the bytes. From document 02,
 -- item 10, and include/celestial_time.h, ct_place_ticks: number i of a list is the eight bytes from 8 i on, the lowest first. Assumes nothing.
-use Prim.Native.Nat.{ℕ, _*_, _≤_, _<_}
+use Prim.Native.Nat.{ℕ, zero, suc, _*_, _≤_, _<_}
 use mathlib.Core.Path.{_≡_}
 use mathlib.Core.Logic.{_↔_}
-use mathlib.Core.List.{List}
+use mathlib.Core.List.{List, [], _∷_}
 use lib.ListN.{length, getD, drop}
 use Rattle.numerals.specs.little_endian.LittleEndian.{u64At}
 use Rattle.ticks.specs.declared.TicksAnswer.{TicksAnswer}
@@ -33,3 +33,8 @@ pub record ListedTicks (ps ms ts before : List ℕ) (r : TicksAnswer) (after : L
   pub stays : (n : ℕ) → r ≡ Refused n → after ≡ before
   pub each : r ≡ Written (8 * length ts) → (i : ℕ) → i < length ts → u64At after (8 * i) ≡ millisAt (listedPasses ps ms) (getD ts i 0)
   pub spare : r ≡ Written (8 * length ts) → drop (8 * length ts) after ≡ drop (8 * length ts) before
+
+-- a, a + 1, .. a + n - 1
+unfoldable pub countUp : ℕ → ℕ → List ℕ
+countUp a zero = []
+countUp a (suc n) = a ∷ countUp (suc a) n
