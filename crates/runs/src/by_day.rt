@@ -4,11 +4,8 @@ ghost use mathlib.Core.Path.{_≡_};
 ghost use Prim.Native.Nat.{_≤_};
 ghost use lib.IntN.{pos, natAbs, _-ℤ_};
 ghost use lib.Ieee.{binary64, ofInt};
-ghost use Rattle.calendar.specs.Gregorian.{gregorianDate};
 ghost use Rattle.julian.specs.JulianDate.{julian, julianOutcome};
 ghost use Rattle.leap_table.specs.rows.Announced.{rowsIn};
-ghost use Rattle.leap_table.specs.offsets.Answers.{dayByRuleOutcome};
-ghost use Rattle.utc_scales.specs.Known.{readOn};
 ghost use Rattle.runs.specs.ways.Ways.{wayOf};
 ghost use Rattle.runs.specs.by_day.Hand as D;
 use constants::SECONDS_PER_DAY_F64;
@@ -91,21 +88,6 @@ fn hand_of(midnight: f64, mjd: f64, o: DayOffsets) -> DayInHand
     }
 }
 
-// The offsets of a day.
-fn day_of<'a>(day: i64, size: usize, months: &'a [i32; 16], seconds: &'a [i32; 16]) -> DayByRule
-    ensures { λ r. ⌜ dayByRuleOutcome r ≡ readOn (rowsIn size (now (months .entry)) (now (seconds .entry))) (gregorianDate day) ⌝ }
-{
-    let t = calendar::gregorian_date(day);
-    leap_table::offsets::day_offsets_by_arrays(
-        t.year,
-        t.month as i32,
-        t.day as i32,
-        size,
-        months,
-        seconds,
-    )
-}
-
 fn mjd_of(day: i64) -> f64
     requires { ⌜ natAbs day ≤ 1000000000 ⌝ }
     ensures { λ r. ⌜ r ≡ ofInt binary64 (day -ℤ pos 2400001) ⌝ }
@@ -126,7 +108,7 @@ fn look_up<'a>(
     if midnight - w.value == -0.5 {
         if midnight >= 1.0 {
             if midnight <= DJMAX {
-                return match day_of(w.number, size, months, seconds) {
+                return match utc_scales::day_of(w.number, size, months, seconds) {
                     DayByRule::Refused(_) => serves_none(midnight, 0.0),
                     DayByRule::Day(o, _) => hand_of(midnight, mjd_of(w.number), o),
                 };

@@ -4,3 +4,5 @@ pub mod from_ut1;
 mod table;
 pub mod to_ut1;
 pub mod utc_tai;
+
+pub use table::day_of;

@@ -22,7 +22,7 @@ pub(crate) enum Known {
 }
 
 // At 0h, at 12h and at 24h, and the rule of the day.
-fn day_of<'a>(day: i64, size: usize, months: &'a [i32; 16], seconds: &'a [i32; 16]) -> DayByRule
+pub fn day_of<'a>(day: i64, size: usize, months: &'a [i32; 16], seconds: &'a [i32; 16]) -> DayByRule
     ensures { λ r. ⌜ dayByRuleOutcome r ≡ readOn (rowsIn size (now (months .entry)) (now (seconds .entry))) (gregorianDate day) ⌝ }
 {
     let t = calendar::gregorian_date(day);

@@ -123,7 +123,7 @@ module _ (ps ms ts before after : List ℕ) (r : TicksAnswer) (pass-bits : Numbe
         millis-small = s .millis-small;
       } in
       let i : TicksInside pb mb tb = λ i h. subst (Inside (passesOf pb mb)) (sym (number-back ts tick-bits i))
-          (subst (λ (p : Passes). Inside p (getD ts i 0)) (sym the-passes) (c .inside i (omega (arith, as-many ts)))) in
+      (subst (λ (p : Passes). Inside p (getD ts i 0)) (sym the-passes) (c .inside i (omega (arith, as-many ts)))) in
       means .decided .is-answer .1 (w, h, u, record { ticks-rise = s .ticks-rise; millis-rise = s .millis-rise }, i) ∙ ap Written (eight-each ts)
 
   result : r ≡ Written (8 * length ts) → (i : ℕ) → i < length ts → u64At after (8 * i) ≡ millisAt (listedPasses ps ms) (getD ts i 0)
