@@ -23,7 +23,7 @@ pub mod Codes
 pub mod Worked
 -- Written: dates and offsets place by place.
 pub mod Written
--- OfCall: what a call writes, place by place, from bytes and from numbers.
-pub mod OfCall
 -- Due: which number each call gets, and that it is answered else.
 pub mod Due
+-- OfCall: what a call writes, place by place, from bytes and from numbers.
+pub mod OfCall

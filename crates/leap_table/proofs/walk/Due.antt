@@ -2,12 +2,12 @@
 -- nothing.
 use Prim.Native.Nat.{ℕ, zero, suc, _*_, _/_, _%_, _<_, _≤_}
 use native.Mathlib.Omega.{arith}
-use mathlib.Core.Path.{_≡_, refl, ap, _∙_}
-use mathlib.Core.Bool.{Bool, true, false, cond}
+use mathlib.Core.Path.{_≡_, refl, sym, ap, _∙_}
+use mathlib.Core.Bool.{Bool, true, false, true≢false, cond}
 use mathlib.Core.List.{List, [], _∷_}
 use lib.Dec.{eqb, leb}
 use lib.IntN.{ℤ, pos}
-use lib.ListN.{length}
+use lib.ListN.{length, getD}
 use borrow.Author.Tests.{eqb-true, eqb-false, leb-true, leb-false}
 use Rattle.refusals.specs.Outcome.{Outcome, answer, refusal, onward}
 use Rattle.refusals.proofs.Onward.{went, stopped}
@@ -97,6 +97,14 @@ judged d (t ∷ ds) = go (validTriple t) refl (behind d t ds)
         first-refused k (record { place = suc i; within = omega arith; before = stand i (record { good = p; order = refl }) f; refused = x })
         (passed p ∙ e)
 
+-- each date of a list that is not refused is a date
+pub all-good : (ds : List Triple) (d : Triple) → judgedAll ds ≡ answer tt → (i : ℕ) → i < length ds → validTriple (getD ds i d) ≡ answer tt
+all-good ds d e i h = go (judged d ds)
+  where
+    go : Judged d ds (judgedAll ds) → validTriple (getD ds i d) ≡ answer tt
+    go (none-refused f q) = f i h .good
+    go (first-refused k x q) = let z : _≡_ {A = ℕ} 0 1 = cc in absurd (omega arith)
+
 -- ---- THE WHOLE WALK: `each` places of the room an offset
 module _ (rows : List Row) (over : ℕ) (ds : List Triple) (d : Triple) (places each room : ℕ)
     (fit : length ds ≤ places → each * length ds ≤ room) (few : places < length ds → room < each * length ds) where
@@ -127,6 +135,31 @@ pub numbers-decided : (rows : List Row) (l : List ℤ) (d : Triple) (places : �
 numbers-decided rows l d places =
     let ds = datesFrom (tripleAt l) 0 (length l / 3) in
     decided rows (length l % 3) ds d places 1 places (λ h. omega arith) (λ h. omega arith)
+
+-- ---- ANSWERED where no case of a refusal is there
+shut : (ds : List Triple) (d : Triple) (i k : ℕ) → Stands ds d i → RefusedAt ds d i k → ⊥
+shut ds d i k s (by-its-own e) = let g : validTriple (getD ds i d) ≡ answer tt = s .good in let z : _≡_ {A = ℕ} 0 1 = cc in omega arith
+shut ds d i k s (by-order e f g) = true≢false (sym f ∙ s .order)
+
+answered-when : (rows : List Row) (over : ℕ) (ds : List Triple) (d : Triple) (each room : ℕ) (o : Outcome Walked) → WalkDecision rows over ds d each room o
+    → over ≡ 0 → each * length ds ≤ room → ((i : ℕ) → i < length ds → Stands ds d i) → o ≡ answer (walked rows ds)
+answered-when rows over ds d each room o (broken-triple h e) p q f = absurd (h p)
+answered-when rows over ds d each room o (too-few-places h k e) p q f = let w : ⊥ = omega arith in absurd w
+answered-when rows over ds d each room o (date-refused h r k x e) p q f = absurd (shut ds d (x .place) k (f (x .place) (x .within)) (x .refused))
+answered-when rows over ds d each room o (all-walked h r g e) p q f = e
+
+pub bytes-answered : (rows : List Row) (s : List ℕ) (d : Triple) (room : ℕ) → length s % 12 ≡ 0 → 8 * length (datesFrom (tripleIn s) 0 (length s / 12)) ≤ room
+    → ((i : ℕ) → i < length (datesFrom (tripleIn s) 0 (length s / 12)) → Stands (datesFrom (tripleIn s) 0 (length s / 12)) d i)
+    → walkOfBytes rows s room ≡ answer (walked rows (datesFrom (tripleIn s) 0 (length s / 12)))
+bytes-answered rows s d room =
+    answered-when rows (length s % 12) (datesFrom (tripleIn s) 0 (length s / 12)) d 8 room (walkOfBytes rows s room) (bytes-decided rows s d room)
+
+pub numbers-answered : (rows : List Row) (l : List ℤ) (d : Triple) (places : ℕ) → length l % 3 ≡ 0
+    → 1 * length (datesFrom (tripleAt l) 0 (length l / 3)) ≤ places
+    → ((i : ℕ) → i < length (datesFrom (tripleAt l) 0 (length l / 3)) → Stands (datesFrom (tripleAt l) 0 (length l / 3)) d i)
+    → walkOfNumbers rows l places ≡ answer (walked rows (datesFrom (tripleAt l) 0 (length l / 3)))
+numbers-answered rows l d places =
+    answered-when rows (length l % 3) (datesFrom (tripleAt l) 0 (length l / 3)) d 1 places (walkOfNumbers rows l places) (numbers-decided rows l d places)
 
 -- ---- worked: 2017-01-02 twice is walked in 16 bytes of room and refused by 11 in 15; 2017-01-01 behind it is 17; 25 bytes are 14
 abbrev twice : List ℕ → List ℕ

@@ -1,5 +1,5 @@
 -- WHAT A CALL WRITES: where a call over the bytes, or the numbers, written from any list of dates is answered, it writes as many offsets as there are dates, at
--- place i the one of date i, and leaves the places behind them. Assumes nothing.
+-- place i the one that the look-up gives for date i, and leaves the places behind them. Assumes nothing.
 use Prim.Native.Nat.{ℕ, zero, suc, _+_, _*_, _/_, _%_, _<_}
 use native.Mathlib.Omega.{arith}
 use mathlib.Core.Path.{_≡_, refl, sym, ap, _∙_}
@@ -18,6 +18,8 @@ use Rattle.numerals.specs.little_endian.LittleEndian.{pattern32}
 use Rattle.leap_table.specs.rows.Table.{Row, fixed}
 use Rattle.leap_table.specs.rows.Announced.{rowsOf, tableOf}
 use Rattle.leap_table.specs.declared.rows.AnnouncedRows.{AnnouncedRows}
+use Rattle.floats.specs.Whole.{nought}
+use Rattle.leap_table.specs.offsets.Offset.{taiUtcOffset}
 use Rattle.leap_table.specs.declared.judging.Triple.{Triple}
 use Rattle.leap_table.specs.declared.walk.WalkAnswer.the-variants.{Compared}
 use Rattle.calendar.specs.Calendar.{leapSize, lengths, daysInMonth}
@@ -30,16 +32,22 @@ use Rattle.leap_table.specs.walk.Lists.{walkOfNumbers, walkOfBytes, inEi
 use Rattle.leap_table.specs.walk.Writer.{tripleBytes, DateFits, offsetBytes}
 use Rattle.leap_table.specs.walk.Due.{tripleNumbers}
 use Rattle.leap_table.proofs.rows.TablesTaken.{when-taken}
+use Rattle.leap_table.proofs.walk.LookUp.{offset-of-look-up}
+use Rattle.leap_table.proofs.walk.Due.{all-good}
 use Rattle.leap_table.proofs.walk.Written.{dates-are, walk-of-list, offset-at}
 
--- what is answered of a list of dates
-answered : (rows : List Row) (b : Bool) (ds : List Triple) (places : ℕ) (w : Walked) → walkOf rows b ds places ≡ answer w → w ≡ walked rows ds
+-- what is answered of a list of dates, and that none of them is refused
+record Answered (rows : List Row) (ds : List Triple) (w : Walked) : Type 0 where
+  all : w ≡ walked rows ds
+  good : judgedAll ds ≡ answer tt
+
+answered : (rows : List Row) (b : Bool) (ds : List Triple) (places : ℕ) (w : Walked) → walkOf rows b ds places ≡ answer w → Answered rows ds w
 unfolding walkOf
 answered rows false ds places w e = let z : _≡_ {A = ℕ} 0 1 = cc in absurd (omega arith)
 answered rows true ds places w e = go (leb (length ds) places) e
   where
-    go : (c : Bool) → cond c (onward (judgedAll ds) (λ _. answer (walked rows ds))) (refusal 11) ≡ answer w → w ≡ walked rows ds
-    go true q = let (u, v, x) = came (judgedAll ds) (λ _. answer (walked rows ds)) w q in cc
+    go : (c : Bool) → cond c (onward (judgedAll ds) (λ _. answer (walked rows ds))) (refusal 11) ≡ answer w → Answered rows ds w
+    go true q = let (u, v, x) = came (judgedAll ds) (λ _. answer (walked rows ds)) w q in record { all = cc; good = v }
     go false q = let z : _≡_ {A = ℕ} 0 1 = cc in absurd (omega arith)
 
 -- ---- dates as numbers
@@ -79,19 +87,28 @@ walk-of-numbers rows ds d places =
     none : (j : ℕ) → 0 + j ≡ j
     none j = omega arith
 
+-- what the look-up gives for one date at 0h
+abbrev lookedUp : List Row → Triple → Outcome Float
+lookedUp rows t = taiUtcOffset rows (t .year) (t .month) (t .day) nought
+
 -- ---- the call with its table: what is answered is the walk over the dates by the rows of the table
 module _ {A : Type 0} (write : List Float → List A) (t : AnnouncedRows) (next : List Row → Outcome Walked) (ds : List Triple) (places : ℕ)
     (is : (rows : List Row) → next rows ≡ walkOf rows true ds places) (before after : List A) (c : ℕ)
     (call : WalkCall write (onward (tableOf t) next) before (Compared c) after) where
-  outcome : onward (tableOf t) next ≡ answer (walked (rowsOf t) ds)
+  outcome : (onward (tableOf t) next ≡ answer (walked (rowsOf t) ds)) × (judgedAll ds ≡ answer tt)
   unfolding walkOutcome
   outcome =
       let (w, p, q) = came (onward (tableOf t) next) (λ w. answer (w .rowsCompared)) c (sym (call .says)) in
       let (rows, u, v) = came (tableOf t) next w p in
-      p ∙ ap answer (answered rows true ds places w (sym (is rows) ∙ v)) ∙ ap (λ (l : List Row). answer (walked l ds)) (when-taken t rows u .all)
+      let a : Answered rows ds w = answered rows true ds places w (sym (is rows) ∙ v) in
+      (p ∙ ap answer (a .all) ∙ ap (λ (l : List Row). answer (walked l ds)) (when-taken t rows u .all), a .good)
 
   lent : after ≡ listAfter write (answer (walked (rowsOf t) ds)) before
-  lent = call .holds ∙ ap (λ (o : Outcome Walked). listAfter write o before) outcome
+  lent = call .holds ∙ ap (λ (o : Outcome Walked). listAfter write o before) (outcome .0)
+
+  -- each date is one, and its offset that of the look-up of one date
+  looked : (d : Triple) (i : ℕ) → i < length ds → lookedUp (rowsOf t) (getD ds i d) ≡ answer (tripleOffset (rowsOf t) (getD ds i d))
+  looked d i h = offset-of-look-up (rowsOf t) (getD ds i d) (all-good ds d (outcome .1) i h)
 
 eights-long : (fs : List Float) → length (inEights fs) ≡ 8 * length fs
 unfolding inEights
@@ -105,9 +122,14 @@ module _ (t : AnnouncedRows) (ds : List Triple) (d : Triple) (fits : (i : ℕ) �
   held = lent inEights t (λ rows. walkOfBytes rows (allBytes tripleBytes ds) (length before)) ds (length before / 8)
       (λ rows. walk-of-list rows ds d (length before) fits) before after c call
 
-  -- the eight bytes from 8·i on are the offset at 0h of date i
-  pub bytes-offset : (i : ℕ) → i < length ds → take 8 (drop (8 * i) after) ≡ offsetBytes (tripleOffset (rowsOf t) (getD ds i d))
-  bytes-offset i h = ap (λ (l : List ℕ). take 8 (drop (8 * i) l)) held ∙ offset-at (rowsOf t) ds before i d h
+  -- the eight bytes from 8·i on are the offset that the look-up gives for date i at 0h
+  pub bytes-offset : (i : ℕ) → i < length ds → (x : Float) × (lookedUp (rowsOf t) (getD ds i d) ≡ answer x) × (take 8 (drop (8 * i) after) ≡ offsetBytes x)
+  bytes-offset i h = (
+    tripleOffset (rowsOf t) (getD ds i d),
+    looked inEights t (λ rows. walkOfBytes rows (allBytes tripleBytes ds) (length before)) ds (length before / 8)
+        (λ rows. walk-of-list rows ds d (length before) fits) before after c call d i h,
+    ap (λ (l : List ℕ). take 8 (drop (8 * i) l)) held ∙ offset-at (rowsOf t) ds before i d h,
+  )
 
   -- eight bytes for each date are written, and no more
   pub bytes-behind : drop (8 * length ds) after ≡ drop (8 * length ds) before
@@ -125,14 +147,21 @@ module _ (t : AnnouncedRows) (ds : List Triple) (d : Triple) (before after : Lis
   given = lent asFloats t (λ rows. walkOfNumbers rows (tripleNumbers ds) (length before)) ds (length before)
       (λ rows. walk-of-numbers rows ds d (length before)) before after c call
 
-  pub numbers-offset : (i : ℕ) → i < length ds → getD after i (tripleOffset (rowsOf t) d) ≡ tripleOffset (rowsOf t) (getD ds i d)
+  place : (i : ℕ) → i < length ds → getD after i (tripleOffset (rowsOf t) d) ≡ tripleOffset (rowsOf t) (getD ds i d)
   unfolding listAfter
-  numbers-offset i h =
+  place i h =
       let g = tripleOffset (rowsOf t) in
       let fs = map g ds in
       ap (λ (l : List Float). getD l i (g d)) given
       ∙ List·getD-append fs (drop (length fs) before) (g d) i (omega (arith, length-map ds g))
       ∙ List·getD-map g ds i d
+
+  -- offset i is the one that the look-up gives for date i at 0h
+  pub numbers-offset : (i : ℕ) → i < length ds → lookedUp (rowsOf t) (getD ds i d) ≡ answer (getD after i (tripleOffset (rowsOf t) d))
+  numbers-offset i h =
+      looked asFloats t (λ rows. walkOfNumbers rows (tripleNumbers ds) (length before)) ds (length before)
+      (λ rows. walk-of-numbers rows ds d (length before)) before after c call d i h
+      ∙ ap answer (sym (place i h))
 
   pub numbers-behind : drop (length ds) after ≡ drop (length ds) before
   unfolding listAfter
