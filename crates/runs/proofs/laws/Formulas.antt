@@ -164,6 +164,11 @@ module _ (seconds : Float) (d : JulianDate) where
   not-finite-part-refused _ _ tdb-tcb-pair h = not-finite-part _ h
   not-finite-part-refused from to (offset-pair p) h = not-finite-given from to p h
 
+-- so that a byte holds each number
+below-256 : (seconds : Float) (d : JulianDate) (k : ℕ) → FormulaRefusal seconds d k → k < 256
+below-256 seconds d k (inl (p, e)) = omega arith
+below-256 seconds d k (inr (p, e)) = omega arith
+
 -- ---- A REFUSED CALL writes nothing
 pub formula-refused-writes-nothing : (from to : ℕ) (js ks os out1 out2 numbers : List ℕ) (k : ℕ)
     → formulaRun from to js ks os out1 out2 numbers .answer ≡ refusal k
@@ -325,9 +330,13 @@ module _ (from to : ℕ) (js ks os out1 out2 numbers : List ℕ)
   room2 : 8 * n ≤ length out2
   room2 = omega (arith, whole, fits .places2)
 
-  -- EACH STAMP'S ANSWER is that of the single call
+  small : (i k : ℕ) → f i ≡ refusal k → k < 256
+  small i k e = below-256 (ofBits binary64 (u64At os (8 * i))) (stampOf js ks i) k
+      (why-refused (ofBits binary64 (u64At os (8 * i))) (stampOf js ks i) from to pair k e)
+
+  -- EACH STAMP'S ANSWER is that of the single call, and its number is 0 or that of its refusal
   pub formula-each-stamp : (i : ℕ) → i < n → StampDone (f i) i out1 out2 (formulaRun from to js ks os out1 out2 numbers)
-  formula-each-stamp i h = subst (StampDone (f i) i out1 out2) (sym written) (stamp-written f n out1 out2 numbers room1 room2 (fits .bytes) i h)
+  formula-each-stamp i h = subst (StampDone (f i) i out1 out2) (sym written) (stamp-written f n out1 out2 numbers room1 room2 (fits .bytes) i h (small i))
 
   pub formula-spare-stays : SpareStays n out1 out2 numbers (formulaRun from to js ks os out1 out2 numbers)
   formula-spare-stays = subst (SpareStays n out1 out2 numbers) (sym written) (spare-kept f n out1 out2 numbers room1 room2 (fits .bytes))

@@ -4,14 +4,14 @@ use Prim.Native.Nat.{ℕ, _+_, _*_, _/_, _<_, _≤_}
 use native.Mathlib.Omega.{arith}
 use mathlib.Core.Path.{_≡_, refl, sym, ap, subst, _∙_}
 use mathlib.Core.Logic.{inl, inr}
-use mathlib.Core.Bool.{Bool, true, false, cond, _&&_, _||_}
+use mathlib.Core.Bool.{Bool, true, false}
 use mathlib.Core.List.{List}
-use lib.Dec.{eqb, ltb}
+use lib.Dec.{ltb}
 use lib.ListN.{length, getD, List·getD-eq-default}
 use lib.Ieee.{Float, binary64, ofBits}
 use lib.Ieee.Scale.{finite}
 use borrow.Author.Tests.{ltb-true, ltb-false, lt-leb}
-use Rattle.refusals.specs.Outcome.{Outcome, answer, refusal}
+use Rattle.refusals.specs.Outcome.{Outcome, answer}
 use Rattle.numerals.specs.little_endian.LittleEndian.{u64At, eightBytes}
 use Rattle.numerals.specs.little_endian.Written.{allBytes}
 use Rattle.numerals.proofs.little_endian.Items.{written-length}
@@ -24,7 +24,7 @@ use Rattle.julian.proofs.stamp_lists.Written.{stamp-of-lists}
 use Rattle.leap_table.specs.rows.Table.{Row}
 use Rattle.runs.specs.ways.Ways.{wayOf}
 use Rattle.runs.specs.Run.{runRefusal, convertedRun}
-use Rattle.runs.specs.by_formula.Run.{RunCall, numberByte}
+use Rattle.runs.specs.by_formula.Run.{RunCall}
 use Rattle.runs.specs.by_formula.Formula.{byFormula, formulaAnswer, formulaRefusal, formulaRun}
 use Rattle.runs.specs.laws.NotFiniteStamps.{numberOfNotFinite, notZeroIn}
 use Rattle.runs.specs.laws.Done.{StampDone, SpareStays}
@@ -72,19 +72,6 @@ listed-not-finite : (js ks : List ℕ) (i : ℕ) → ListedNotFinite js ks i →
 listed-not-finite js ks i (inl e) = either (finite (listedFloat js i)) (finite (listedFloat ks i)) (inl (field-not-finite (getD js i 0) e))
 listed-not-finite js ks i (inr e) = either (finite (listedFloat js i)) (finite (listedFloat ks i)) (inr (field-not-finite (getD ks i 0) e))
 
-refused-byte : (o : Outcome JulianDate) (k : ℕ) → o ≡ refusal k → k < 256 → numberByte o ≡ k
-unfolding numberByte
-refused-byte o k e h = ap numberByte e ∙ (let m : _ = omega arith in m)
-
-not-finite-small : (from to : ℕ) → numberOfNotFinite from to < 256
-unfolding numberOfNotFinite
-not-finite-small from to = go (eqb from to) (eqb from 0 || (eqb from 1 && eqb to 0))
-  where
-    go : (a b : Bool) → cond a 9 (cond b 6 9) < 256
-    go true b = omega arith
-    go false true = omega arith
-    go false false = omega arith
-
 -- ---- THE RUN FROM SCALE TO SCALE of two lists of patterns
 module _ (rows : List Row) (from to : ℕ) (f : Five from) (t : Five to) (js ks out1 out2 numbers : List ℕ) (same : length ks ≡ length js)
     (first-bits : Patterns js) (second-bits : Patterns ks) (room : PlacesFor (length js) (length out1) (length out2) (length numbers)) where
@@ -108,9 +95,8 @@ module _ (rows : List Row) (from to : ℕ) (f : Five from) (t : Five to) (js ks 
 
   -- a stamp that is not finite has its number, whatever the others are
   pub listed-not-finite-numbered : (i : ℕ) → i < length js → ListedNotFinite js ks i → getD (run .numbers) i 0 ≡ numberOfNotFinite from to
-  listed-not-finite-numbered i h e = run-of-lists .each i h .numbered
-      ∙ refused-byte (wayOf rows from to (listedDate js ks i)) (numberOfNotFinite from to)
-      (not-finite-way rows (listedDate js ks i) (listed-not-finite js ks i e) from to f t) (not-finite-small from to)
+  listed-not-finite-numbered i h e = run-of-lists .each i h .numbered (numberOfNotFinite from to)
+      (not-finite-way rows (listedDate js ks i) (listed-not-finite js ks i e) from to f t)
 
 due-eight : {from to : ℕ} (p : FormulaPair from to) (n : ℕ) → dueOf p (8 * n) ≡ 8 * dueOf p n
 unfolding dueOf
@@ -166,9 +152,8 @@ module _ (from to : ℕ) (p : FormulaPair from to) (js ks os out1 out2 numbers :
 
   -- a stamp that is not finite is 9, whatever the others are
   pub listed-part-9 : (i : ℕ) → i < length js → ListedNotFinite js ks i → getD (formula .numbers) i 0 ≡ 9
-  listed-part-9 i h e = formula-of-lists .each i h .numbered
-      ∙ refused-byte (byFormula from to (listedFloat os i) (listedDate js ks i)) 9
-      (not-finite-part-refused (listedFloat os i) (listedDate js ks i) from to p (listed-not-finite js ks i e)) (omega arith)
+  listed-part-9 i h e = formula-of-lists .each i h .numbered 9
+      (not-finite-part-refused (listedFloat os i) (listedDate js ks i) from to p (listed-not-finite js ks i e))
 
 -- AN OFFSET THAT IS NOT FINITE beside finite parts gives its own stamp 10, whatever the other stamps and offsets are
 module _ (from to : ℕ) (p : OffsetPair from to) (js ks os out1 out2 numbers : List ℕ) (same : length ks ≡ length js) (due : length os ≡ length js)
@@ -181,6 +166,5 @@ module _ (from to : ℕ) (p : OffsetPair from to) (js ks os out1 out2 numbers : 
   pub listed-offset-10 : (i : ℕ) → i < length js → finiteParts (listedDate js ks i) ≡ true → exponentField (getD os i 0) ≡ 2047
       → getD (formulaRun from to (allBytes eightBytes js) (allBytes eightBytes ks) (allBytes eightBytes os) out1 out2 numbers .numbers) i 0 ≡ 10
   listed-offset-10 i h parts e =
-      formula-of-lists from to (offset-pair p) js ks os out1 out2 numbers same as-due first-bits second-bits offset-bits room .each i h .numbered
-      ∙ refused-byte (byFormula from to (listedFloat os i) (listedDate js ks i)) 10
-      (not-finite-offset-refused (listedFloat os i) (listedDate js ks i) from to p parts (field-not-finite (getD os i 0) e)) (omega arith)
+      formula-of-lists from to (offset-pair p) js ks os out1 out2 numbers same as-due first-bits second-bits offset-bits room .each i h .numbered 10
+      (not-finite-offset-refused (listedFloat os i) (listedDate js ks i) from to p parts (field-not-finite (getD os i 0) e))

@@ -1,7 +1,7 @@
 -- WORKED RUNS, by computation: by a fixed offset with a stamp that is refused, by the offsets of the stamps, through TAI, and single dates by a rate. The
 -- answers are said by their bits, from the same sums in 64-bit floats by another program. Assumes nothing.
-use Prim.Native.Nat.{ℕ, _*_, _/_, _%_}
-use mathlib.Core.Path.{_≡_, refl}
+use Prim.Native.Nat.{ℕ, zero, suc, _*_, _/_, _%_}
+use mathlib.Core.Path.{_≡_, refl, _∙_}
 use mathlib.Core.List.{List, [], _∷_, _++_}
 use lib.Ieee.{Float, binary64, ofBits, toBits, round, add, sub, mul, div, neg, lt}
 use Rattle.refusals.specs.Outcome.{Outcome, answer, refusal, onward}
@@ -18,10 +18,13 @@ use Rattle.julian.specs.stamp_lists.Stamps.{stampOf}
 use Rattle.leap_table.specs.rows.Table.{fixed}
 use Rattle.scales.specs.Formulas.{since, gpsDays, ttDays, tdb0, jd1977, tcgToTt, ttToTcg, tcbToTdb, tdbToTcb}
 use Rattle.scales.specs.Conversions.{answerOf}
+use Rattle.utc_scales.specs.laws.Twenty.{utc-tai, answerOfAny}
+use Rattle.utc_scales.proofs.laws.Computed.{computed, as-computed}
 use Rattle.runs.specs.ways.Ways.{isRunScale, intoTai, outOfTai, between, wayOf}
-use Rattle.runs.specs.by_formula.Run.{numberByte, withPart, withParts, withNumbers, refusedAmong, runCall, runWritten}
+use Rattle.runs.specs.by_formula.Run.{numberByte, withPart, withParts, withNumbers, refusedAmong, RunCall, runCall, runWritten}
 use Rattle.runs.specs.by_formula.Formula.{formulaOf, byFormula, takesOffset, lengthsRefusal, formulaRefusal, formulaRun}
 use Rattle.runs.specs.Run.{runRefusal, runBy, convertedRun}
+use Rattle.runs.proofs.laws.EachWay.{each-way}
 
 -- the patterns of 2457754.5, which is the midnight of 2017-01-01, of a quarter and a half of a day, of a NaN, and of a place that holds no date yet
 abbrev midnight : ℕ
@@ -112,6 +115,43 @@ unfolding wayOf between intoTai outOfTai answerOf converted finiteJd finiteArg o
     ttDays ttTaiOffset secondsPerDay ttToTcg since mjdZeroPoint tcgReferenceEpoch mjd1977Jan1 tcgRateLg tcgRateRatio ratio abs lt ofBits round add sub
     mul div
 tt-tcg-second = refl
+
+-- UTC TO TAI, two stamps: (-31739.5, 0.0), the last day of -4800, which has no TAI-UTC, and the noon of 2016-12-31, 36.5 s earlier than that of TAI. The
+-- first is refused by 1: its places as they were, the numbers 1 and 0, one refused
+abbrev before-4799 : ℕ
+before-4799 = 0xc0de_fee0_0000_0000
+
+abbrev last-of-2016 : ℕ
+last-of-2016 = 0x4142_c04c_c000_0000
+
+abbrev at : ℕ → ℕ → JulianDate
+at a b = julian (ofBits binary64 a) (ofBits binary64 b)
+
+before-refused : wayOf fixed 0 1 (at before-4799 0) ≡ refusal 1
+unfolding answerOfAny computed round ofBits
+before-refused = each-way fixed (at before-4799 0) .utc-tai ∙ as-computed fixed utc-tai (at before-4799 0) ∙ refl
+
+noon-answered : wayOf fixed 0 1 (at last-of-2016 half) ≡ answer (at last-of-2016 0x3fe0_0375_f31a_ed6a)
+unfolding answerOfAny computed round ofBits
+noon-answered = each-way fixed (at last-of-2016 half) .utc-tai ∙ as-computed fixed utc-tai (at last-of-2016 half) ∙ refl
+
+-- two stamps with these answers
+abbrev either-of : Outcome JulianDate → Outcome JulianDate → ℕ → Outcome JulianDate
+either-of a b zero = a
+either-of a b (suc k) = b
+
+abbrev written-two : Outcome JulianDate → Outcome JulianDate → RunCall
+written-two a b = runWritten (either-of a b) 2 (two spare spare) (two spare spare) (7 ∷ 7 ∷ [])
+
+two-written : written-two (refusal 1) (answer (at last-of-2016 0x3fe0_0375_f31a_ed6a))
+    ≡ runCall (answer 1) (two spare last-of-2016) (two spare 0x3fe0_0375_f31a_ed6a) (1 ∷ 0 ∷ [])
+unfolding runWritten refusedAmong withParts withPart withNumbers numberByte ofBits toBits round
+two-written = refl
+
+pub told-by-1 : convertedRun (answer fixed) 0 1 (two before-4799 last-of-2016) (two 0 half) (two spare spare) (two spare spare) (7 ∷ 7 ∷ [])
+    ≡ runCall (answer 1) (two spare last-of-2016) (two spare 0x3fe0_0375_f31a_ed6a) (1 ∷ 0 ∷ [])
+unfolding convertedRun runBy runRefusal isRunScale runWritten refusedAmong withParts withNumbers stampOf u64At fourAt
+told-by-1 = (λ i. written-two (before-refused i) (noon-answered i)) ∙ two-written
 
 -- from TAI to TAI a NaN does not pass
 pub nan-same-scale : wayOf fixed 1 1 (julian (ofBits binary64 not-a-number) (ofBits binary64 quarter)) ≡ refusal 9

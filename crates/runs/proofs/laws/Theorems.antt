@@ -1,10 +1,11 @@
 -- WHAT A RUN MEANS, for every run of every length: each stamp's answer and number, the count, the stamps that are not finite, the same scale, and a refused
 -- call. Assumes nothing.
-use Prim.Native.Nat.{ℕ, _*_, _/_, _%_, _<_, _≤_, _^_}
+use Prim.Native.Nat.{ℕ, _*_, _/_, _<_, _≤_, _^_}
 use native.Mathlib.Omega.{arith}
 use native.Mathlib.Nat.{div-mul-le-self}
 use mathlib.Core.Path.{_≡_, refl, sym, ap, subst, _∙_}
-use mathlib.Core.Bool.{Bool, true, false, cond, _&&_, _||_}
+use mathlib.Core.Logic.{inl, inr}
+use mathlib.Core.Bool.{Bool, true, false, cond}
 use mathlib.Core.List.{List}
 use lib.Dec.{eqb}
 use lib.ListN.{length, getD}
@@ -19,11 +20,11 @@ use Rattle.leap_table.specs.rows.Table.{Row}
 use Rattle.julian.proofs.shifts.Outcomes.{and-left, and-right}
 use Rattle.julian.specs.stamp_lists.Stamps.{stampOf}
 use Rattle.runs.specs.ways.Ways.{isRunScale}
-use Rattle.runs.specs.by_formula.Run.{numberByte, RunCall, runCall, runWritten}
+use Rattle.runs.specs.by_formula.Run.{RunCall, runCall, runWritten}
 use Rattle.runs.specs.Run.{stampAnswer, runRefusal, runBy, convertedRun}
 use Rattle.runs.proofs.Calls.{Fitting, fitting}
 use Rattle.runs.proofs.by_formula.Judged.{pattern-back}
-use Rattle.utc_scales.specs.laws.Claims.{Holds, Any}
+use Rattle.utc_scales.specs.laws.Claims.{Holds, refuses, Any}
 use Rattle.runs.specs.laws.NotFiniteStamps.{StampNotFinite, numberOfNotFinite, OneSixNine, notZeroIn}
 use Rattle.runs.specs.laws.Done.{StampDone, SpareStays}
 use Rattle.runs.proofs.laws.Refusing.{five, not-finite-way, pattern-not-finite, same-passes, way-refusals, stamp-held}
@@ -56,6 +57,21 @@ pub refusals-in-order :
 unfolding runRefusal isRunScale
 refusals-in-order = (refl, refl, refl, refl, refl, refl, refl, refl, refl, refl, refl, refl)
 
+-- ---- THE NUMBERS of refused stamps are 1, 6 and 9, and no other
+pub stamp-refusals : (rows : List Row) (from to : ℕ) → isRunScale from ≡ true → isRunScale to ≡ true → (js ks : List ℕ) (i : ℕ)
+    → Holds Any OneSixNine (stampAnswer rows from to js ks i)
+stamp-refusals rows from to a b js ks i = way-refusals rows from to a b (stampOf js ks i) (stamp-held js ks i)
+
+-- so that a byte holds each
+below-256 : (k : ℕ) → OneSixNine k → k < 256
+below-256 k (inl e) = omega arith
+below-256 k (inr (inl e)) = omega arith
+below-256 k (inr (inr e)) = omega arith
+
+in-a-byte : (o : Outcome JulianDate) → Holds Any OneSixNine o → (k : ℕ) → o ≡ refusal k → k < 256
+in-a-byte (answer d) h k e = let z : _≡_ {A = ℕ} 0 1 = cc e in let w : ⊥ = omega arith in absurd w
+in-a-byte (refusal n) (refuses r) k e = let q : n ≡ k = cc e in subst (λ (m : ℕ). m < 256) q (below-256 n r)
+
 -- ---- a call that is not refused
 module _ (rows : List Row) (from to : ℕ) (js ks out1 out2 numbers : List ℕ)
     (z : runRefusal from to (length js) (length ks) (length out1) (length out2) (length numbers) ≡ 0) where
@@ -81,9 +97,12 @@ module _ (rows : List Row) (from to : ℕ) (js ks out1 out2 numbers : List ℕ)
   room2 : 8 * n ≤ length out2
   room2 = omega (arith, whole, fits .places2)
 
-  -- EACH STAMP'S ANSWER is that of the single calls on its way
+  small : (i k : ℕ) → f i ≡ refusal k → k < 256
+  small i k e = in-a-byte (f i) (stamp-refusals rows from to (fits .known-from) (fits .known-to) js ks i) k e
+
+  -- EACH STAMP'S ANSWER is that of the single calls on its way, and its number is 0 or that of its refusal
   pub each-stamp : (i : ℕ) → i < n → StampDone (f i) i out1 out2 (convertedRun (answer rows) from to js ks out1 out2 numbers)
-  each-stamp i h = subst (StampDone (f i) i out1 out2) (sym written) (stamp-written f n out1 out2 numbers room1 room2 (fits .bytes) i h)
+  each-stamp i h = subst (StampDone (f i) i out1 out2) (sym written) (stamp-written f n out1 out2 numbers room1 room2 (fits .bytes) i h (small i))
 
   pub spare-stays : SpareStays n out1 out2 numbers (convertedRun (answer rows) from to js ks out1 out2 numbers)
   spare-stays = subst (SpareStays n out1 out2 numbers) (sym written) (spare-kept f n out1 out2 numbers room1 room2 (fits .bytes))
@@ -101,19 +120,7 @@ module _ (rows : List Row) (from to : ℕ) (js ks out1 out2 numbers : List ℕ)
 
   pub not-finite-stamp-numbered : (i : ℕ) → i < n → StampNotFinite js ks i
       → getD (convertedRun (answer rows) from to js ks out1 out2 numbers .numbers) i 0 ≡ numberOfNotFinite from to
-  unfolding numberByte numberOfNotFinite
-  not-finite-stamp-numbered i h d = each-stamp i h .numbered ∙ ap numberByte (not-finite-stamp-refused i d)
-      ∙ small (eqb from to) (eqb from 0 || (eqb from 1 && eqb to 0))
-    where
-      small : (a b : Bool) → cond a 9 (cond b 6 9) % 256 ≡ cond a 9 (cond b 6 9)
-      small true b = refl
-      small false true = refl
-      small false false = refl
-
--- ---- THE NUMBERS of refused stamps are 1, 6 and 9, and no other
-pub stamp-refusals : (rows : List Row) (from to : ℕ) → isRunScale from ≡ true → isRunScale to ≡ true → (js ks : List ℕ) (i : ℕ)
-    → Holds Any OneSixNine (stampAnswer rows from to js ks i)
-stamp-refusals rows from to a b js ks i = way-refusals rows from to a b (stampOf js ks i) (stamp-held js ks i)
+  not-finite-stamp-numbered i h d = each-stamp i h .numbered (numberOfNotFinite from to) (not-finite-stamp-refused i d)
 
 -- ---- FROM A SCALE TO THE SAME a stamp passes with its bits
 pub same-scale-passes : (rows : List Row) (n : ℕ) (js ks : List ℕ) (i : ℕ) → finiteParts (stampOf js ks i) ≡ true

@@ -1,18 +1,21 @@
 -- Runs at the ends of what is taken, and small ones, worked out. Assumes nothing.
-use Prim.Native.Nat.{ℕ, _+_, _*_}
+use Prim.Native.Nat.{ℕ, zero, suc, _+_, _*_}
 use mathlib.Core.Path.{_≡_, refl}
 use mathlib.Core.List.{[], _∷_}
 use lib.Ieee.{ofBits}
-use Rattle.refusals.specs.Outcome.{refusal, onward}
+use Rattle.refusals.specs.Outcome.{Outcome, answer, refusal, onward}
 use Rattle.numerals.specs.little_endian.LittleEndian.{fourAt, u64At, eightBytes}
 use Rattle.numerals.specs.little_endian.Written.{allBytes}
+use Rattle.floats.specs.Whole.{nought}
+use Rattle.julian.specs.declared.JulianDate.{JulianDate}
+use Rattle.julian.specs.JulianDate.{julian}
 use Rattle.julian.specs.stamp_lists.Stamps.{stampOf}
 use Rattle.julian.specs.Finite.{finiteJd, finiteArg}
 use Rattle.julian.specs.shifts.Shifts.{changed, finiteBoth, finiteOffset, convertedBy}
 use Rattle.scales.specs.Conversions.{answerOf}
 use Rattle.runs.specs.ways.Ways.{isRunScale}
 use Rattle.runs.specs.Run.{runRefusal}
-use Rattle.runs.specs.by_formula.Run.{numberByte, refusedAmong}
+use Rattle.runs.specs.by_formula.Run.{numberByte, withNumbers, refusedAmong}
 use Rattle.runs.specs.by_formula.Formula.{formulaOf, byFormula, formulaAnswer}
 
 -- EACH OF THE FIVE SCALES with itself and with the next: a stamp passes, and nine million
@@ -29,6 +32,18 @@ pub second-offset-not-finite :
     (allBytes eightBytes (0xc042400000000000 ∷ 0x7ff8000000000000 ∷ [])) 1) ≡ 10
 unfolding numberByte byFormula formulaOf onward answerOf convertedBy changed allBytes stampOf u64At fourAt finiteBoth finiteJd ofBits finiteOffset finiteArg
 second-offset-not-finite = refl
+
+-- EACH NUMBER AS IT IS: of five stamps the second, third, fourth and last are refused, by 1, 6, 9 and 10, and the first is answered
+abbrev refused-each : ℕ → Outcome JulianDate
+refused-each zero = answer (julian nought nought)
+refused-each (suc zero) = refusal 1
+refused-each (suc (suc zero)) = refusal 6
+refused-each (suc (suc (suc zero))) = refusal 9
+refused-each (suc (suc (suc (suc k)))) = refusal 10
+
+pub numbers-told : withNumbers refused-each 5 (7 ∷ 7 ∷ 7 ∷ 7 ∷ 7 ∷ 7 ∷ []) ≡ (0 ∷ 1 ∷ 6 ∷ 9 ∷ 10 ∷ 7 ∷ [])
+unfolding withNumbers numberByte
+numbers-told = refl
 
 -- of two that are refused, by 6 and by 9, both count
 pub two-refused : refusedAmong (λ (i : ℕ). refusal (6 + 3 * i)) 2 ≡ 2
