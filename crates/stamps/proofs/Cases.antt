@@ -1,11 +1,12 @@
--- Worked blocks: which refusal comes first, the header of an empty one, and what the sentence of a wrong length names. Assumes nothing.
+-- Worked blocks: which refusal comes first, the header of an empty one and of three stamps, and what the sentence of a wrong length names. Assumes nothing.
 use mathlib.Core.Path.{_≡_, refl}
-use mathlib.Core.List.{List, [], _∷_}
+use mathlib.Core.List.{List, [], _∷_, _++_}
 use Prim.Native.Nat.{ℕ}
 use Rattle.refusals.specs.Outcome.{answer, refusal}
 use Rattle.numerals.specs.little_endian.LittleEndian.{u32At, fourAt}
 use Rattle.numerals.specs.digits.Decimal.{digitsIn}
 use Rattle.leap_table.specs.rows.Table.{fixed}
+use Rattle.utc.specs.text.Ascii.{asciiBytes}
 use Rattle.reasons.specs.declared.Values.the-variants.{Block}
 use Rattle.stamps.specs.declared.Reporting.the-variants.{Numbers, Sentences}
 use Rattle.stamps.specs.Block.{blockOf}
@@ -35,6 +36,15 @@ pub empty-header : lineOf (Sentences 8) fixed (answer 0) empty 0 ≡ 117 ∷ 116
     ∷ 102 ∷ 117 ∷ 115 ∷ 101 ∷ 100 ∷ 32 ∷ 48 ∷ 10 ∷ []
 unfolding lineOf header refusedIn digitsIn
 empty-header = refl
+
+-- of three stamps of which one is refused it is `utc listing 3 refused 1`, of 4,000 with 212 `utc listing 4000 refused 212`
+pub three-one-header : header 3 1 ≡ asciiBytes "utc listing 3 refused 1" ++ (10 ∷ [])
+unfolding header digitsIn
+three-one-header = refl
+
+pub full-header : header 4000 212 ≡ asciiBytes "utc listing 4000 refused 212" ++ (10 ∷ [])
+unfolding header digitsIn
+full-header = refl
 
 -- of an input of 70,000 bytes whose first 8 are at hand a refusal names 70,000
 pub whole-length : blockValues (Sentences 70000) empty ≡ Block 70000 0 0

@@ -7,3 +7,4 @@ pub mod Tables
 pub mod Numerals
 pub mod Sentences
 pub mod Written
+pub mod ThreeStamps

@@ -79,7 +79,7 @@ unfolding expandedText expandedYear next lengths
 wide (At t) = refl
 wide NextMidnight = refl
 
-zero-text : (rows : List Row) → (t : List ℕ) × (isoTextExpanded rows (julian nil nil) ≡ answer t) × (length t ≡ 27)
+pub zero-text : (rows : List Row) → (t : List ℕ) × (isoTextExpanded rows (julian nil nil) ≡ answer t) × (length t ≡ 27)
 zero-text rows =
     let r = shownBy (expandedForm .count) (dayOf nil nil .fraction) (leapOn rows zeroDate (zero-valid .0) (zero-valid .1)) in (
       textBy expandedText zeroDate r,

@@ -8,19 +8,23 @@ use mathlib.Core.List.{List, [], _∷_, _++_, append-assoc, append-nil}
 use lib.ListN.{length, take, getD, length-append}
 use lib.Seq.{take-suc, take-length, length-take-le}
 use lib.Ieee.{ofBits, binary64}
-use Rattle.refusals.specs.Outcome.{answer, refusal}
+use Rattle.refusals.specs.Outcome.{Outcome, answer, refusal}
 use Rattle.numerals.specs.little_endian.LittleEndian.{fourAt, u32At, u64At, fourBytes}
 use Rattle.numerals.specs.little_endian.Written.{allBytes}
+use Rattle.numerals.specs.digits.Decimal.{digitsOf}
 use Rattle.numerals.proofs.little_endian.Items.{written-length, item-u32, item-u64}
 use Rattle.numerals.proofs.little_endian.RoundTrip.{read-written, read-written-4}
 use Rattle.julian.specs.JulianDate.{julian}
 use Rattle.leap_table.specs.rows.Table.{Row}
+use Rattle.utc.specs.iso_texts.Expanded.{isoTextExpanded}
 use Rattle.stamps.specs.declared.Reporting.{Reporting}
 use Rattle.stamps.specs.Block.{blockOf, jd1Bits, jd2Bits, stampAt}
-use Rattle.stamps.specs.Listing.{textAt, stampLine, stampLines, refusedIn, oneIfRefused, header, listingOf, listing}
+use Rattle.stamps.specs.Listing.{numeral, refusedWord, utcListingWords, textAt, stampLine, stampLines, refusedIn, oneIfRefused, header}
+use Rattle.stamps.specs.Listing.{listingOf, listing}
 use Rattle.stamps.specs.listing_laws.Writer.{Stamp, StampFits, stampDate, firstBytes, secondBytes, blockBytes, refusedStamps, lineOfStamp}
-use Rattle.stamps.specs.listing_laws.Writer.{linesOfStamps, listingOfStamps}
+use Rattle.stamps.specs.listing_laws.Writer.{withoutText, headerText, linesOfStamps, listingOfStamps}
 use Rattle.stamps.proofs.Blocks.{too-large, all-there}
+use Rattle.stamps.proofs.listing_laws.Numerals.{numeral-whole, refused-most}
 
 -- ---- the sizes
 module _ (xs : List Stamp) where
@@ -90,6 +94,21 @@ module _ (xs : List Stamp) (i : ℕ) (d : Stamp) (h : i < length xs) (bits : Sta
   stamp-back = ap (λ (n : ℕ). julian (ofBits binary64 n) (ofBits binary64 (jd2Bits (blockBytes xs) (length xs) i))) first-part
       ∙ ap (λ (n : ℕ). julian (ofBits binary64 (getD xs i d .first)) (ofBits binary64 n)) second-part
 
+-- ---- THE HEADER says first how many stamps there are, then how many of them have no text; one counts by whatever number it is refused
+pub header-text : (n k : ℕ) → n < 10000 → k < 10000 → header n k ≡ headerText n k
+unfolding header headerText
+header-text n k hn hk =
+    ap (λ (d : List ℕ). (((utcListingWords ++ d) ++ (32 ∷ refusedWord)) ++ numeral k) ++ (10 ∷ [])) (numeral-whole n hn)
+    ∙ ap (λ (d : List ℕ). (((utcListingWords ++ digitsOf n) ++ (32 ∷ refusedWord)) ++ d) ++ (10 ∷ [])) (numeral-whole k hk)
+    ∙ append-assoc ((utcListingWords ++ digitsOf n) ++ (32 ∷ refusedWord)) (digitsOf k) (10 ∷ [])
+    ∙ append-assoc (utcListingWords ++ digitsOf n) (32 ∷ refusedWord) (digitsOf k ++ (10 ∷ []))
+    ∙ append-assoc utcListingWords (digitsOf n) ((32 ∷ refusedWord) ++ (digitsOf k ++ (10 ∷ [])))
+
+pub one-counts : (o : Outcome (List ℕ)) → oneIfRefused o ≡ withoutText o
+unfolding oneIfRefused withoutText
+one-counts (answer text) = refl
+one-counts (refusal k) = refl
+
 -- ---- THE LISTING, line by line, and its counts
 lines-behind : (how : Reporting) (rows : List Row) (i : ℕ) (ys : List Stamp) (x : Stamp)
     → linesOfStamps how rows i (ys ++ (x ∷ [])) ≡ linesOfStamps how rows i ys ++ lineOfStamp how rows (i + length ys) x
@@ -118,7 +137,7 @@ module _ (how : Reporting) (rows : List Row) (xs : List Stamp) (d : Stamp) (bits
 
   one-refused : (i : ℕ) → i < length xs → oneIfRefused (textAt rows (blockBytes xs) (length xs) i) + 0 ≡ refusedStamps rows (getD xs i d ∷ [])
   unfolding textAt refusedStamps
-  one-refused i h = rw (stamp-back xs i d h (bits i h))
+  one-refused i h = rw (stamp-back xs i d h (bits i h)) (ap (λ (n : ℕ). n + 0) (one-counts (isoTextExpanded rows (stampDate (getD xs i d)))))
 
   first-lines : (k : ℕ) → k ≤ length xs → stampLines how rows (blockBytes xs) (length xs) k ≡ linesOfStamps how rows 0 (take k xs)
   unfolding stampLines linesOfStamps
@@ -152,7 +171,9 @@ module _ (how : Reporting) (rows : List Row) (xs : List Stamp) (d : Stamp) (bits
   listing-of-list h =
       rw (block-taken xs (omega arith) h)
       (ap (λ (n : ℕ). header (length xs) n ++ stampLines how rows (blockBytes xs) (length xs) (length xs)) header-count
-      ∙ ap (λ (t : List ℕ). header (length xs) (refusedStamps rows xs) ++ t) all-lines)
+      ∙ ap (λ (t : List ℕ). header (length xs) (refusedStamps rows xs) ++ t) all-lines
+      ∙ ap (λ (t : List ℕ). t ++ linesOfStamps how rows 0 xs) (header-text (length xs) (refusedStamps rows xs) (omega arith)
+      (omega (arith, header-count, refused-most rows (blockBytes xs) (length xs) (length xs)))))
 
 -- ---- two stamps, worked: the second is read at its own place
 pub second-of-two : stampAt (blockBytes
