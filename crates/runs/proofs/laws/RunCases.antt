@@ -116,7 +116,7 @@ unfolding wayOf between intoTai outOfTai answerOf converted finiteJd finiteArg o
     mul div
 tt-tcg-second = refl
 
--- UTC TO TAI, two stamps: (-31739.5, 0.0), the last day of -4800, which has no TAI-UTC, and the noon of 2016-12-31, 36.5 s earlier than that of TAI. The
+-- UTC TO TAI, two stamps: the midnight (-31739.5, 0.0) of -4800-12-31, whose year is before -4799, and the noon of 2016-12-31, to which 36.5 s are added. The
 -- first is refused by 1: its places as they were, the numbers 1 and 0, one refused
 abbrev before-4799 : ℕ
 before-4799 = 0xc0de_fee0_0000_0000
