@@ -115,6 +115,19 @@ unfolding inEights
 eights-long [] = refl
 eights-long (x ∷ fs) = let h = eights-long fs in omega arith
 
+-- AS MANY OFFSETS AS DATES, over bytes and over numbers
+pub bytes-offsets : (rows : List Row) (ds : List Triple) (d : Triple) (room : ℕ) (w : Walked) → ((i : ℕ) → i < length ds → DateFits (getD ds i d))
+    → walkOfBytes rows (allBytes tripleBytes ds) room ≡ answer w → length (w .offsets) ≡ length ds
+bytes-offsets rows ds d room w fits e =
+    ap (λ (v : Walked). length (v .offsets)) (answered rows true ds (room / 8) w (sym (walk-of-list rows ds d room fits) ∙ e) .all)
+    ∙ length-map ds (tripleOffset rows)
+
+pub numbers-offsets : (rows : List Row) (ds : List Triple) (d : Triple) (places : ℕ) (w : Walked)
+    → walkOfNumbers rows (tripleNumbers ds) places ≡ answer w → length (w .offsets) ≡ length ds
+numbers-offsets rows ds d places w e =
+    ap (λ (v : Walked). length (v .offsets)) (answered rows true ds places w (sym (walk-of-numbers rows ds d places) ∙ e) .all)
+    ∙ length-map ds (tripleOffset rows)
+
 -- AN ANSWERED CALL OVER BYTES: by the contract of `offsets_at_0h_bytes`
 module _ (t : AnnouncedRows) (ds : List Triple) (d : Triple) (fits : (i : ℕ) → i < length ds → DateFits (getD ds i d)) (before after : List ℕ) (c : ℕ)
     (call : WalkCall inEights (onward (tableOf t) (λ rows. walkOfBytes rows (allBytes tripleBytes ds) (length before))) before (Compared c) after) where
