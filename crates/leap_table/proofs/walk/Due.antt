@@ -120,7 +120,8 @@ module _ (rows : List Row) (over : ℕ) (ds : List Triple) (d : Triple) (places 
       go false p b q r = broken-triple (eqb-false over 0 p) refl
       go true p false q r = too-few-places (eqb-true over 0 p) (few (leb-false (length ds) places q)) refl
       go true p true q (none-refused f e) = all-walked (eqb-true over 0 p) (fit (leb-true (length ds) places q)) f (went (λ _. answer (walked rows ds)) e)
-      go true p true q (first-refused k x e) = date-refused (eqb-true over 0 p) (fit (leb-true (length ds) places q)) k x (stopped (λ _. answer (walked rows ds)) e)
+      go true p true q (first-refused k x e) =
+          date-refused (eqb-true over 0 p) (fit (leb-true (length ds) places q)) k x (stopped (λ _. answer (walked rows ds)) e)
 
 -- of any bytes, whatever room: eight bytes an offset
 pub bytes-decided : (rows : List Row) (s : List ℕ) (d : Triple) (room : ℕ)

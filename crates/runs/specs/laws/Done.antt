@@ -1,4 +1,5 @@
--- What a run leaves of one stamp: its number, 0 or that of its refusal, and the bytes of its date or those that stood there. Written from include/celestial_time.h. Assumes nothing.
+-- What a run leaves of one stamp: its number, 0 or that of its refusal, and the bytes of its date or those that stood there. Written from
+-- include/celestial_time.h. Assumes nothing.
 use Prim.Native.Nat.{ℕ, _+_, _*_, _<_, _≤_}
 use mathlib.Core.Path.{_≡_}
 use mathlib.Core.List.{List}
