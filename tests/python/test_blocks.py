@@ -8,6 +8,7 @@ import struct
 import subprocess
 import sys
 import tempfile
+import threading
 import unittest
 
 import numpy as np
@@ -265,12 +266,17 @@ class Blocks(unittest.TestCase):
     def test_interrupted(self):
         """Ctrl-C ends a command by its signal, without a word, as the shell expects it; here while it waits for a pipe."""
         os.mkfifo(self.at / "pipe")
+        # A shell starts what runs in its background with the signal ignored, and a program hands that on.
+        self.addCleanup(signal.signal, signal.SIGINT, signal.signal(signal.SIGINT, signal.default_int_handler))
         environment = {**os.environ, "PYTHONPATH": str(ROOT / "python")}
         for words in (["lineup", f"tai={self.at}/pipe"], ["listing", f"{self.at}/pipe"]):
             with subprocess.Popen([sys.executable, "-m", "celestial_time", *words], stdout=subprocess.PIPE, stderr=subprocess.PIPE, env=environment) as program:
                 with open(self.at / "pipe", "wb"):  # opens when the command has opened it to read
                     program.send_signal(signal.SIGINT)
+                    stop = threading.Timer(60, program.kill)
+                    stop.start()
                     self.assertEqual((*program.communicate(), program.returncode), (b"", b"", -signal.SIGINT))
+                    stop.cancel()
 
     def test_help_and_version(self):
         due = run("--help")
