@@ -1,6 +1,6 @@
 """The package beside pyerfa and astropy, on nine million stamps.
 
-    python/python3 python/bench.py [-n STAMPS] [-r TURNS] [-w] [ROW ..]     -w puts the table into docs/SPEED.md; ROW: only rows that begin so
+    python/python3 python/bench.py [-n STAMPS] [-r TURNS] [-w] [ROW ..]     -w puts the table into docs/generated/speed.md; ROW: only rows that begin so
 
 Needs Debian's python3-erfa and python3-astropy. The stamps are those of three recorders, a third each, a millisecond apart about the leap second of 2016-12-31. Before
 a row is measured, the answers are compared: conversions bit for bit with ERFA's, texts byte for byte with astropy's, orders place by place. The time is the
@@ -23,7 +23,7 @@ from astropy.time import Time
 
 import celestial_time as ct
 
-SPEED = pathlib.Path(__file__).resolve().parents[1] / "docs" / "SPEED.md"
+SPEED = pathlib.Path(__file__).resolve().parents[1] / "docs" / "generated" / "speed.md"
 DUT1 = -0.41
 DTR = 0.00165
 BEGIN, END = "<!-- python: begin -->", "<!-- python: end -->"
@@ -163,11 +163,11 @@ def main() -> int:
     words = argparse.ArgumentParser(description=__doc__, formatter_class=argparse.RawDescriptionHelpFormatter)
     words.add_argument("-n", type=int, default=9_000_000, help="stamps")
     words.add_argument("-r", type=int, default=7, help="turns")
-    words.add_argument("-w", action="store_true", help="put the table into docs/SPEED.md")
+    words.add_argument("-w", action="store_true", help="put the table into docs/generated/speed.md")
     words.add_argument("row", nargs="*", help="only the rows that begin so")
     asked = words.parse_args()
     if asked.row and asked.w:
-        words.error("-w puts a whole table into docs/SPEED.md")
+        words.error("-w puts a whole table into docs/generated/speed.md")
     warnings.simplefilter("ignore")
     count = asked.n // 3 * 3
     said = [f"| {count:,} stamps | package, s | pyerfa, s | astropy, s |", "|---|--:|--:|--:|"]
