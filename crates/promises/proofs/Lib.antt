@@ -1,0 +1,2 @@
+-- Each promise, by the theorems that it rests on.
+pub mod Demands
