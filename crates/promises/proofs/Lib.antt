@@ -1,2 +1,3 @@
 -- Each promise, by the theorems that it rests on.
 pub mod Demands
+pub mod Requests

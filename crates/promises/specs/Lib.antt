@@ -1,3 +1,4 @@
 -- The customer's sentences as statements over the public definitions: a record for each demand and each request, a field for each sentence, in the customer's
--- order. Every record is proved for every table that is taken.
+-- order. Each is proved for every table that is taken.
 pub mod Demands
+pub mod Requests
