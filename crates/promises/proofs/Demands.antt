@@ -115,7 +115,7 @@ module _ (t : AnnouncedRows) (rows : List Row) (e : tableOf t ≡ answer rows) w
     calendar-answers = only-six;
     text-answers = Text.call-numbers rows;
     text-stays = λ o before after n c. nothing-written o before after n c;
-    finite-answers = announced-no-nan-no-infinity t
+    finite-answers = announced-no-nan-no-infinity t;
   }
 
   pub demand-2 : Demand2 t rows
@@ -126,7 +126,7 @@ module _ (t : AnnouncedRows) (rows : List Row) (e : tableOf t ≡ answer rows) w
     formulas = practical;
     utc-to-tai = table-utc-to-tai-means t rows e;
     tai-to-utc = table-tai-to-utc-means t rows e;
-    there-and-back = round-trip
+    there-and-back = round-trip;
   }
 
   pub demand-3 : Demand3 rows

@@ -48,7 +48,7 @@ request-7 = record {
   to-week = to-week-decided;
   there-and-back = Weeks.round-trip;
   nearest = nearest-if;
-  ties = λ bits reference. tie-exactly bits reference .0
+  ties = λ bits reference. tie-exactly bits reference .0;
 }
 
 pub request-9 : R.Request9
@@ -66,7 +66,7 @@ module _ (t : AnnouncedRows) (rows : List Row) (e : tableOf t ≡ answer rows) w
     one-reading = Grammar.one-reading;
     read = verdict;
     read-utc = utc-verdict rows;
-    reads-back = λ d held s shown. iso-text-reads-back t rows e d (held .0) (held .1) s shown
+    reads-back = λ d held s shown. iso-text-reads-back t rows e d (held .0) (held .1) s shown;
   }
 
   pub request-2 : R.Request2 rows
@@ -80,7 +80,7 @@ module _ (t : AnnouncedRows) (rows : List Row) (e : tableOf t ≡ answer rows) w
     drifting = drifting-last-begun rows;
     whole = whole-last-begun rows;
     same-offset = offset-forgets rows;
-    same-text = text-forgets standardForm rows
+    same-text = text-forgets standardForm rows;
   }
 
   pub request-6 : R.Request6 rows
@@ -91,7 +91,7 @@ module _ (t : AnnouncedRows) (rows : List Row) (e : tableOf t ≡ answer rows) w
     table = table-decided t;
     table-first = Announced.table-first t;
     no-rows = Announced.announced-none t;
-    every-leap = table-leap-on t rows e
+    every-leap = table-leap-on t rows e;
   }
 
   pub request-11 : R.Request11 rows

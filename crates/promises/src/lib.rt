@@ -1,1 +1,1 @@
-// What the customer believes: a record for each demand and each request, proved by citing. Laws only.
+// The customer's demands and requests: a record for each, a field for each sentence, proved by citing. Laws only.
