@@ -2,3 +2,4 @@
 -- order. Each is proved for every table that is taken.
 pub mod Demands
 pub mod Requests
+pub mod Recorders

@@ -1,0 +1,33 @@
+-- THREE RECORDERS, THEIR RUNS AND THEIR LINE, for every table that is taken. Assumes nothing.
+use mathlib.Core.Path.{_≡_}
+use mathlib.Core.List.{List}
+use Prim.Native.Nat.{ℕ}
+use lib.ListN.{length}
+use Rattle.refusals.specs.Outcome.{answer}
+use Rattle.leap_table.specs.declared.rows.AnnouncedRows.{AnnouncedRows}
+use Rattle.leap_table.specs.rows.Table.{Row}
+use Rattle.leap_table.specs.rows.Announced.{tableOf}
+use Rattle.utc_scales.proofs.round_trip.Recorders.{table-three-recorders}
+use Rattle.stamps.proofs.listing_laws.NotFinite.{not-finite-refused, not-finite-counted}
+use Rattle.runs.specs.Run.{runRefusal}
+use Rattle.runs.proofs.laws.Theorems as Runs
+use Rattle.line_up.proofs.laws.Theorems as Lines
+use Rattle.promises.specs.Recorders.{Recorders, Run, Line}
+
+pub recorders : (t : AnnouncedRows) (rows : List Row) → tableOf t ≡ answer rows → Recorders rows
+recorders t rows e = record {
+  one-instant = table-three-recorders t rows e;
+  block-refuses = not-finite-refused rows;
+  block-counts = not-finite-counted rows
+}
+
+pub run : (rows : List Row) (from to : ℕ) (js ks out1 out2 numbers : List ℕ)
+    → runRefusal from to (length js) (length ks) (length out1) (length out2) (length numbers) ≡ 0 → Run rows from to js ks out1 out2 numbers
+run rows from to js ks out1 out2 numbers z = record {
+  each = Runs.each-stamp rows from to js ks out1 out2 numbers z;
+  not-finite = Runs.not-finite-stamp-numbered rows from to js ks out1 out2 numbers z;
+  count = Runs.count-is rows from to js ks out1 out2 numbers z
+}
+
+pub line : (js ks ns : List ℕ) (first second : ℕ) (out : List ℕ) (tails ranks : ℕ) → Line js ks ns first second out tails ranks
+line = Lines.lined-up

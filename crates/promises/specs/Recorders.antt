@@ -1,0 +1,40 @@
+-- What three recorders, their runs and their line promise beyond the requests. `rows` are those of a table that is taken. From the mission's first sentences:
+-- "Each tool will carry three recorders, one on GPS time, one on TAI, one on UTC. I am the data analyst who lines them up". Assumes nothing.
+use Prim.Native.Nat.{ℕ, _/_, _≤_, _<_}
+use mathlib.Core.Path.{_≡_}
+use mathlib.Core.List.{List}
+use lib.ListN.{length, getD}
+use Rattle.refusals.specs.Outcome.{answer, refusal}
+use Rattle.julian.specs.declared.JulianDate.{JulianDate}
+use Rattle.leap_table.specs.rows.Table.{Row}
+use Rattle.scales.specs.laws.Ranges.{Practical}
+use Rattle.utc_scales.specs.round_trip.Ranges.{HalfDaySplit}
+use Rattle.utc_scales.specs.round_trip.Recorders.{OneInstant, Agree}
+use Rattle.stamps.specs.Listing.{textAt, refusedIn}
+use Rattle.stamps.specs.listing_laws.NotFinite.{NotFinite, notFiniteIn}
+use Rattle.runs.specs.Run.{stampAnswer, convertedRun, runRefusal}
+use Rattle.runs.specs.laws.Done.{StampDone}
+use Rattle.runs.specs.laws.NotFiniteStamps.{StampNotFinite, numberOfNotFinite, notZeroIn}
+use Rattle.line_up.specs.LineUp.{linedUp, lineRefusal, leastRoom}
+use Rattle.line_up.specs.laws.Claims.{Lined}
+
+pub record Recorders (rows : List Row) : Type 0 where
+  -- one instant, stamped by GPS, TAI and UTC to e ps, comes out in TAI pairwise within 10 + e, 77 + e and 87 + e ps
+  pub one-instant : (e : ℕ) (g t : JulianDate) {u : JulianDate} → Practical g → HalfDaySplit u → OneInstant rows e g t u → Agree rows e g t u
+  -- a stamp of a block that is not finite, by its bits, is refused, and the count holds them all
+  pub block-refuses : (s : List ℕ) (n i : ℕ) → NotFinite s n i → textAt rows s n i ≡ refusal 6
+  pub block-counts : (s : List ℕ) (n k : ℕ) → notFiniteIn s n k ≤ refusedIn rows s n k
+
+-- a run from one scale to another, where the call is not refused: each stamp at its place as the single calls have it, every one that is not finite by its
+-- number, and the answer is how many numbers are not 0
+pub record Run (rows : List Row) (from to : ℕ) (js ks out1 out2 numbers : List ℕ) : Type 0 where
+  pub each : (i : ℕ) → i < length js / 8 → StampDone (stampAnswer rows from to js ks i) i out1 out2 (convertedRun (answer rows) from to js ks out1 out2 numbers)
+  pub not-finite : (i : ℕ) → i < length js / 8 → StampNotFinite js ks i
+      → getD (convertedRun (answer rows) from to js ks out1 out2 numbers .numbers) i 0 ≡ numberOfNotFinite from to
+  pub count : convertedRun (answer rows) from to js ks out1 out2 numbers .answer
+      ≡ answer (notZeroIn (length js / 8) (convertedRun (answer rows) from to js ks out1 out2 numbers .numbers))
+
+-- the line of three runs: each stamp that is not refused or left out exactly once, rising by exact TAI, ties by recorder and index; the fewest are left out
+abbrev pub Line : List ℕ → List ℕ → List ℕ → ℕ → ℕ → List ℕ → ℕ → ℕ → Type 0
+Line js ks ns first second out tails ranks = lineRefusal (length js) (length ks) (length ns) first second (leastRoom (length out) tails ranks) ≡ 0
+    → Lined js ks ns first second out (linedUp js ks ns first second out tails ranks)
