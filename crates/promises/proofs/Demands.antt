@@ -13,6 +13,7 @@ use Rattle.julian.specs.Calendar.{julianToCalendar}
 use Rattle.julian.proofs.day_number.NotFinite as DayNumber
 use Rattle.julian.proofs.laws.CalendarDays.{only-six, exact-date}
 use Rattle.julian.proofs.laws.RoundTrip.{round-trip}
+use Rattle.calendar.proofs.Unique.{the-calendar}
 use Rattle.calendar.proofs.Days.{day-2451545-is-2000-01-01, next-number-is-next-date}
 use Rattle.leap_table.specs.declared.rows.AnnouncedRows.{AnnouncedRows}
 use Rattle.leap_table.specs.rows.Table.{Row}
@@ -97,13 +98,13 @@ module _ (rows : List Row) (d : JulianDate) where
   four-refuse (utc-ut1 s) held h = by-offset (finiteParts d) (finite s) 6 (utcToUt1 rows d s) h (utc-to-ut1-no-offset rows d s) (utc-to-ut1-not-finite rows d s)
   four-refuse (ut1-utc s) held h = by-offset (finiteParts d) (finite s) 9 (ut1ToUtc rows d s) h (ut1-to-utc-no-offset rows d s) (ut1-to-utc-not-finite rows d s)
 
-calendar-not-finite : (x y : Float) → finite x && finite y ≡ false → julianToCalendar x y ≡ refusal 6
+pub calendar-not-finite : (x y : Float) → finite x && finite y ≡ false → julianToCalendar x y ≡ refusal 6
 unfolding julianToCalendar
 calendar-not-finite x y h = stopped _ (DayNumber.not-finite x y h)
 
 -- ---- the demands
 module _ (t : AnnouncedRows) (rows : List Row) (e : tableOf t ≡ answer rows) where
-  any-refuses : (k : Twenty) (d : JulianDate) → Held d → finiteParts d && finite (givenOffset k) ≡ false → Refuses (announcedAnswer t k d)
+  pub any-refuses : (k : Twenty) (d : JulianDate) → Held d → finiteParts d && finite (givenOffset k) ≡ false → Refuses (announcedAnswer t k d)
   any-refuses k d held h = let r = four-refuse rows d k held h in (r .0, by-its-rows t rows e k d ∙ r .1)
 
   pub demand-1 : Demand1 t rows
@@ -122,6 +123,7 @@ module _ (t : AnnouncedRows) (rows : List Row) (e : tableOf t ≡ answer rows) w
   demand-2 = record {
     anchor = day-2451545-is-2000-01-01;
     step = next-number-is-next-date;
+    no-other = the-calendar;
     table = every-table t rows e;
     formulas = practical;
     utc-to-tai = table-utc-to-tai-means t rows e;

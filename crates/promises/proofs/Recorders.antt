@@ -18,7 +18,7 @@ pub recorders : (t : AnnouncedRows) (rows : List Row) → tableOf t ≡ answer r
 recorders t rows e = record {
   one-instant = table-three-recorders t rows e;
   block-refuses = not-finite-refused rows;
-  block-counts = not-finite-counted rows
+  block-counts = not-finite-counted rows;
 }
 
 pub run : (rows : List Row) (from to : ℕ) (js ks out1 out2 numbers : List ℕ)
@@ -26,7 +26,7 @@ pub run : (rows : List Row) (from to : ℕ) (js ks out1 out2 numbers : List ℕ)
 run rows from to js ks out1 out2 numbers z = record {
   each = Runs.each-stamp rows from to js ks out1 out2 numbers z;
   not-finite = Runs.not-finite-stamp-numbered rows from to js ks out1 out2 numbers z;
-  count = Runs.count-is rows from to js ks out1 out2 numbers z
+  count = Runs.count-is rows from to js ks out1 out2 numbers z;
 }
 
 pub line : (js ks ns : List ℕ) (first second : ℕ) (out : List ℕ) (tails ranks : ℕ) → Line js ks ns first second out tails ranks

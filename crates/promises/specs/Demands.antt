@@ -12,6 +12,8 @@ use lib.Ieee.{Float, binary64, fits}
 use lib.Ieee.Scale.{finite}
 use Rattle.refusals.specs.Outcome.{Outcome, answer, refusal, onward}
 use Rattle.floats.specs.Whole.{nought}
+use Rattle.calendar.specs.declared.CalendarDate.{CalendarDate}
+use Rattle.calendar.specs.InCalendar.{InCalendar}
 use Rattle.calendar.specs.Calendar.{date, next, dateOf, Counted}
 use Rattle.calendar.specs.DayCount.{mjdOf}
 use Rattle.julian.specs.declared.JulianDate.{JulianDate}
@@ -62,6 +64,8 @@ pub record Demand2 (t : AnnouncedRows) (rows : List Row) : Type 0 where
   -- "calendar .. proved against definitions from ISO 8601": day 2451545 is 2000-01-01, each number one more is the next date, and no other sequence is so
   pub anchor : dateOf (pos 2451545) ≡ date (pos 2000) 1 1
   pub step : (n : ℤ) → Counted n → dateOf (sucℤ n) ≡ next (dateOf n)
+  pub no-other : (f : ℤ → CalendarDate) → ((n : ℤ) → Counted n → InCalendar (f n)) → ((n : ℤ) → Counted n → f (sucℤ n) ≡ next (f n))
+      → f (pos 2451545) ≡ date (pos 2000) 1 1 → (n : ℤ) → Counted n → f n ≡ dateOf n
   -- "TAI-UTC .. the IERS table": the fixed rows, then the announced; from 1972 whole seconds; each leap the step of the row that begins on the next day
   pub table : EveryTable t rows
   -- "and scale formulas .. SOFA": to picoseconds of SOFA's relations in exact fractions; those that read the table from 1972 on
