@@ -114,13 +114,8 @@ static void same_lines(void)
 
 static void reason_listing_tables(void)
 {
-    uint8_t block[8 + 16] = {1, 0, 0, 0, 1, 0, 0, 0};
-    uint64_t jd1 = ct_bits_of(2469806.5), jd2 = ct_bits_of(86400.5 / 86401.0);
-    int i;
-    for (i = 0; i < 8; i++) {
-        block[8 + i] = (uint8_t)(jd1 >> 8 * i);
-        block[16 + i] = (uint8_t)(jd2 >> 8 * i);
-    }
+    uint8_t block[24];
+    last_second_of_2049(block);
     one_row(JANUARY_2050, UP);
     second_listing("0 2049-12-31T23:59:60.500\n", 0, block, 24, LENT);
     same_lines();

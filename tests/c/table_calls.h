@@ -192,15 +192,23 @@ static void spare_places(void)
 
 /* ---- a listing by a lent row: the last second of 2049 is shown, and a refused table lists nothing */
 
-static void listing_calls(void)
+/* A block of one stamp, 86,400.5 s into 2049-12-31 where that day has 86,401. */
+static void last_second_of_2049(uint8_t block[24])
 {
-    uint8_t block[8 + 16] = {1, 0, 0, 0, 1, 0, 0, 0};
     uint64_t jd1 = ct_bits_of(2469806.5), jd2 = ct_bits_of(86400.5 / 86401.0);
     int i;
+    memset(block, 0, 8);
+    block[0] = block[4] = 1;
     for (i = 0; i < 8; i++) {
         block[8 + i] = (uint8_t)(jd1 >> 8 * i);
         block[16 + i] = (uint8_t)(jd2 >> 8 * i);
     }
+}
+
+static void listing_calls(void)
+{
+    uint8_t block[24];
+    last_second_of_2049(block);
     one_row(JANUARY_2050, UP);
     for (room = 33; room <= ROOM; room++) {
         text("0 2049-12-31T23:59:60.500\n");
