@@ -13,3 +13,7 @@ pub mod Signed32
 pub mod RoundTrip
 -- Items: where an item of a list stands in bytes.
 pub mod Items
+-- Numbers: each number of a list at its own bytes.
+pub mod Numbers
+-- SetBytes: bytes set one after the other.
+pub mod SetBytes

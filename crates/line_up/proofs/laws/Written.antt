@@ -2,22 +2,23 @@
 -- as the i-th place of the order, so that each reading gets its own stamp. Assumes nothing.
 use Prim.Native.Nat.{ℕ, zero, suc, _+_, _*_, _<_, _≤_}
 use native.Mathlib.Omega.{arith}
-use mathlib.Core.Path.{_≡_, refl, sym, ap, subst, _∙_}
+use mathlib.Core.Path.{_≡_, refl, ap, subst, _∙_}
 use mathlib.Core.Bool.{Bool, true, false, cond}
 use mathlib.Core.List.{List, [], _∷_, _++_}
 use lib.Dec.{eqb, ltb}
 use lib.ListN.{length, getD, drop, List·getD-eq-default}
 use lib.Seq.{drop-at}
 use lib.Ieee.{binary64, ofBits}
-use borrow.Author.Tests.{eq-eqb, ltb-true, ltb-false, lt-leb}
-use Rattle.numerals.specs.little_endian.LittleEndian.{fourAt, u32At, u64At, fourBytes, eightBytes}
-use Rattle.numerals.specs.little_endian.Written.{allBytes}
+use borrow.Author.Tests.{eq-eqb, ltb-true, ltb-false}
+use Rattle.numerals.specs.little_endian.LittleEndian.{fourAt, u32At, fourBytes, eightBytes}
+use Rattle.numerals.specs.little_endian.Written.{allBytes, Numbers64}
 use Rattle.numerals.proofs.little_endian.Items.{written-length, item-u32}
+use Rattle.numerals.proofs.little_endian.Numbers.{eight-each}
 use Rattle.numerals.proofs.little_endian.RoundTrip.{read-written-4}
 use Rattle.julian.specs.declared.JulianDate.{JulianDate}
 use Rattle.julian.specs.JulianDate.{julian}
 use Rattle.julian.specs.stamp_lists.Stamps.{stampOf}
-use Rattle.julian.proofs.stamp_lists.Written.{stamp-of-lists}
+use Rattle.julian.proofs.stamp_lists.Written.{stamps-of-lists}
 use Rattle.line_up.specs.Runs.{timesIn}
 use Rattle.line_up.specs.LineUp.{placesBytes, LinedUp, linedUp}
 use Rattle.line_up.specs.laws.Claims.{OneLine, Lined}
@@ -67,40 +68,16 @@ in-range stamp ns a b line ms o i h = go (ltb p (length ms)) refl
 
 -- ---- THE STAMPS: stamp i of two lists is the one with the i-th patterns
 
-past-end : (js : List ℕ) (i : ℕ) → length js ≤ i → u64At (allBytes eightBytes js) (8 * i) ≡ getD js i 0
-unfolding u64At
-past-end js i h =
-    let w : length (allBytes eightBytes js) < 8 * i + 8 = omega (arith, written-length eightBytes 8 (λ n. refl) js) in
-    rw (lt-leb (8 * i + 8) (length (allBytes eightBytes js)) w) (sym (List·getD-eq-default js 0 {n = i} h))
-
 -- the date of the i-th patterns
 abbrev date : List ℕ → List ℕ → ℕ → JulianDate
 date js ks i = julian (ofBits binary64 (getD js i 0)) (ofBits binary64 (getD ks i 0))
 
-module _ (js ks : List ℕ) (as-many : length js ≡ length ks) (first-bits : (i : ℕ) → i < length js → getD js i 0 < 18446744073709551616)
-    (second-bits : (i : ℕ) → i < length ks → getD ks i 0 < 18446744073709551616) where
-  stamp-past-end : (i : ℕ) → length js ≤ i → stampOf (allBytes eightBytes js) (allBytes eightBytes ks) i ≡ date js ks i
-  unfolding stampOf
-  stamp-past-end i h = rw (past-end js i h, past-end ks i (omega arith))
-
-  stamp-there : (i : ℕ) → i < length js → stampOf (allBytes eightBytes js) (allBytes eightBytes ks) i ≡ date js ks i
-  stamp-there i h = let k : i < length ks = omega arith in stamp-of-lists js ks i h k (first-bits i h) (second-bits i k)
-
-  pub listed-stamp : (i : ℕ)
-      → stampOf (allBytes eightBytes js) (allBytes eightBytes ks) i ≡ julian (ofBits binary64 (getD js i 0)) (ofBits binary64 (getD ks i 0))
-  listed-stamp i = go (ltb i (length js)) refl
-    where
-      go : (t : Bool) → ltb i (length js) ≡ t → stampOf (allBytes eightBytes js) (allBytes eightBytes ks) i ≡ date js ks i
-      go true e = stamp-there i (ltb-true i (length js) e)
-      go false e = stamp-past-end i (ltb-false i (length js) e)
-
-  all-stamps : stampOf (allBytes eightBytes js) (allBytes eightBytes ks) ≡ date js ks
-  all-stamps j i = listed-stamp i j
+all-stamps : (js ks : List ℕ) → Numbers64 js → Numbers64 ks → stampOf (allBytes eightBytes js) (allBytes eightBytes ks) ≡ date js ks
+all-stamps js ks a b j i = stamps-of-lists js ks a b i j
 
 -- ---- THE CALL over lists of patterns and numbers, as many of each
 module _ (js ks ns : List ℕ) (first second : ℕ) (out : List ℕ) (tails ranks : ℕ) (firsts : length js ≡ length ns) (seconds : length ks ≡ length ns)
-    (first-bits : (i : ℕ) → i < length js → getD js i 0 < 18446744073709551616)
-    (second-bits : (i : ℕ) → i < length ks → getD ks i 0 < 18446744073709551616) (runs : first + second ≤ length ns) (most : length ns ≤ 4294967295)
+    (first-bits : Numbers64 js) (second-bits : Numbers64 ks) (runs : first + second ≤ length ns) (most : length ns ≤ 4294967295)
     (room : RoomEach (length ns) (length out) tails ranks) where
   abbrev call : LinedUp
   call = linedUp (allBytes eightBytes js) (allBytes eightBytes ks) ns first second out tails ranks
@@ -108,8 +85,8 @@ module _ (js ks ns : List ℕ) (first second : ℕ) (out : List ℕ) (tails rank
   lined : Lined (allBytes eightBytes js) (allBytes eightBytes ks) ns first second out call
   lined = due-answered (allBytes eightBytes js) (allBytes eightBytes ks) ns first second out tails ranks (record {
     parts = record {
-      first = written-length eightBytes 8 (λ n. refl) js ∙ ap (λ (n : ℕ). 8 * n) firsts;
-      second = written-length eightBytes 8 (λ n. refl) ks ∙ ap (λ (n : ℕ). 8 * n) seconds;
+      first = eight-each js ∙ ap (λ (n : ℕ). 8 * n) firsts;
+      second = eight-each ks ∙ ap (λ (n : ℕ). 8 * n) seconds;
     };
     runs = runs;
     most = most;
@@ -123,7 +100,7 @@ module _ (js ks ns : List ℕ) (first second : ℕ) (out : List ℕ) (tails rank
       of l =
           let right : OneLine (date js ks) ns first (first + second) (l .line) (call .numbers) =
           subst (λ (stamp : ℕ → JulianDate). OneLine stamp ns first (first + second) (l .line) (call .numbers))
-          (all-stamps js ks (firsts ∙ sym seconds) first-bits second-bits) (l .right) in
+          (all-stamps js ks first-bits second-bits) (l .right) in
           record {
             line = l .line;
             answers = l .answers;

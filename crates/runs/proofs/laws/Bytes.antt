@@ -5,45 +5,24 @@ use native.Mathlib.Nat.{eq-or-lt-of-le}
 use mathlib.Core.Path.{_≡_, refl, sym, ap, _∙_}
 use mathlib.Core.Logic.{_⊎_, inl, inr}
 use mathlib.Core.Bool.{cond}
-use mathlib.Core.List.{List, [], _∷_}
+use mathlib.Core.List.{List}
 use lib.Dec.{eqb}
-use lib.ListN.{length, getD, set, length-set}
-use lib.Seq.{sets, getD-set-same, getD-set-other}
+use lib.ListN.{length, getD, set}
+use lib.Seq.{getD-set-same, getD-set-other}
 use lib.Ieee.{Float, binary64, toBits}
 use Rattle.refusals.specs.Outcome.{Outcome, answer, refusal}
 use Rattle.numerals.specs.little_endian.LittleEndian.{eightBytes}
+use Rattle.numerals.proofs.little_endian.SetBytes.{set-outside, set-inside}
 use Rattle.julian.specs.declared.JulianDate.{JulianDate}
 use Rattle.runs.specs.by_formula.Run.{numberByte, withPart, withParts, withNumbers, refusedAmong}
 use Rattle.runs.proofs.by_formula.Puts.{parts-length, numbers-length}
 use Rattle.runs.specs.laws.NotFiniteStamps.{notZeroIn}
 
--- ---- bytes set one after the other from index i on
-outside : (vs l : List ℕ) (i j : ℕ) → (j < i) ⊎ (i + length vs ≤ j) → getD (sets l i vs) j 0 ≡ getD l j 0
-outside [] l i j h = refl
-outside (a ∷ vs) l i j h = outside vs (set l i a) (suc i) j (next h) ∙ getD-set-other l i j a 0 (apart h)
-  where
-    next : (j < i) ⊎ (i + suc (length vs) ≤ j) → (j < suc i) ⊎ (suc i + length vs ≤ j)
-    next (inl p) = inl (omega arith)
-    next (inr p) = inr (omega arith)
-
-    apart : (j < i) ⊎ (i + suc (length vs) ≤ j) → j ≡ i → ⊥
-    apart (inl p) e = omega arith
-    apart (inr p) e = omega arith
-
-inside : (vs l : List ℕ) (i k : ℕ) → i + length vs ≤ length l → k < length vs → getD (sets l i vs) (i + k) 0 ≡ getD vs k 0
-inside [] l i k h b = let w : ⊥ = omega arith in absurd w
-inside (a ∷ vs) l i zero h b =
-    let e : i + 0 ≡ i = omega arith in
-    ap (λ (j : ℕ). getD (sets (set l i a) (suc i) vs) j 0) e ∙ outside vs (set l i a) (suc i) i (inl (omega arith)) ∙ getD-set-same l i a 0 (omega arith)
-inside (a ∷ vs) l i (suc k) h b =
-    let e : i + suc k ≡ suc i + k = omega arith in
-    ap (λ (j : ℕ). getD (sets (set l i a) (suc i) vs) j 0) e ∙ inside vs (set l i a) (suc i) k (omega (arith, length-set l i a)) (omega arith)
-
 -- ---- one part of the dates
 module _ (part : JulianDate → Float) where
   part-outside : (o : Outcome JulianDate) (i : ℕ) (l : List ℕ) (j : ℕ) → (j < 8 * i) ⊎ (8 * i + 8 ≤ j) → getD (withPart part o i l) j 0 ≡ getD l j 0
   unfolding withPart
-  part-outside (answer d) i l j h = outside (eightBytes (toBits binary64 (part d))) l (8 * i) j h
+  part-outside (answer d) i l j h = set-outside (eightBytes (toBits binary64 (part d))) l (8 * i) j h
   part-outside (refusal n) i l j h = refl
 
   module _ (f : ℕ → Outcome JulianDate) (l : List ℕ) where
@@ -60,7 +39,7 @@ module _ (part : JulianDate → Float) where
     answered-step n i k d (inl q) b room e before =
         let g : f n ≡ answer d = ap f (sym q) ∙ e in
         let h : 8 * n + 8 ≤ length (withParts part f n l) = omega (arith, parts-length part f n l) in
-        rw (q, g) (inside (eightBytes (toBits binary64 (part d))) (withParts part f n l) (8 * n) k h b)
+        rw (q, g) (set-inside (eightBytes (toBits binary64 (part d))) (withParts part f n l) (8 * n) k h b)
     answered-step n i k d (inr m) b room e before = part-outside (f n) n (withParts part f n l) (8 * i + k) (inl (omega arith)) ∙ before m
 
     pub answered-at : (n i k : ℕ) (d : JulianDate) → i < n → k < 8 → 8 * n ≤ length l → f i ≡ answer d

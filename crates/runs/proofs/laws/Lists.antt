@@ -1,26 +1,24 @@
 -- EACH STAMP AND EACH OFFSET AT ITS OWN BYTES: of parts and offsets that are written number by number stamp i has the i-th patterns and is converted by the
 -- i-th offset, in a run from scale to scale and in a run by a formula. Assumes nothing.
-use Prim.Native.Nat.{ℕ, _+_, _*_, _/_, _<_, _≤_}
+use Prim.Native.Nat.{ℕ, _*_, _/_, _<_}
 use native.Mathlib.Omega.{arith}
 use mathlib.Core.Path.{_≡_, refl, sym, ap, subst, _∙_}
 use mathlib.Core.Logic.{inl, inr}
-use mathlib.Core.Bool.{Bool, true, false}
+use mathlib.Core.Bool.{true, false}
 use mathlib.Core.List.{List}
-use lib.Dec.{ltb}
-use lib.ListN.{length, getD, List·getD-eq-default}
+use lib.ListN.{length, getD}
 use lib.Ieee.{Float, binary64, ofBits}
 use lib.Ieee.Scale.{finite}
-use borrow.Author.Tests.{ltb-true, ltb-false, lt-leb}
 use Rattle.refusals.specs.Outcome.{Outcome, answer}
 use Rattle.numerals.specs.little_endian.LittleEndian.{u64At, eightBytes}
-use Rattle.numerals.specs.little_endian.Written.{allBytes}
-use Rattle.numerals.proofs.little_endian.Items.{written-length}
+use Rattle.numerals.specs.little_endian.Written.{allBytes, Numbers64}
+use Rattle.numerals.proofs.little_endian.Numbers.{eight-each, number-back}
 use Rattle.floats.specs.ExponentField.{exponentField}
 use Rattle.floats.proofs.ExponentField.{field-not-finite}
 use Rattle.julian.specs.declared.JulianDate.{JulianDate}
 use Rattle.julian.specs.Finite.{finiteParts}
 use Rattle.julian.specs.stamp_lists.Stamps.{stampOf}
-use Rattle.julian.proofs.stamp_lists.Written.{stamp-of-lists}
+use Rattle.julian.proofs.stamp_lists.Written.{stamps-of-lists}
 use Rattle.leap_table.specs.rows.Table.{Row}
 use Rattle.runs.specs.ways.Ways.{wayOf}
 use Rattle.runs.specs.Run.{runRefusal, convertedRun}
@@ -31,42 +29,19 @@ use Rattle.runs.specs.laws.Done.{StampDone, SpareStays}
 use Rattle.runs.specs.laws.EachFormula.{FormulaPair, gps-tai-pair, tai-gps-pair, tai-tt-pair, tt-tai-pair, tt-tcg-pair, tcg-tt-pair, tcb-tdb-pair}
 use Rattle.runs.specs.laws.EachFormula.{tdb-tcb-pair, offset-pair, OffsetPair, dueOf}
 use Rattle.runs.specs.laws.Answered.{Five, PlacesFor}
-use Rattle.runs.specs.laws.Writer.{listedFloat, listedDate, Patterns, ListedNotFinite, ListedRun}
+use Rattle.runs.specs.laws.Writer.{listedFloat, listedDate, ListedNotFinite, ListedRun}
 use Rattle.runs.proofs.laws.Refusing.{not-finite-way, either}
 use Rattle.runs.proofs.laws.Answered.{run-taken}
 use Rattle.runs.proofs.laws.Theorems.{each-stamp, spare-stays, count-is}
 use Rattle.runs.proofs.laws.Formulas.{lengths-answered, formula-each-stamp, formula-spare-stays, formula-count-is, not-finite-offset-refused}
 use Rattle.runs.proofs.laws.Formulas.{not-finite-part-refused}
 
--- ---- one list, also past its end, where no bytes are read as 0
-
-eight-each : (ns : List ℕ) → length (allBytes eightBytes ns) ≡ 8 * length ns
-eight-each ns = written-length eightBytes 8 (λ n. refl) ns
-
 as-many : (ns : List ℕ) → length (allBytes eightBytes ns) / 8 ≡ length ns
 as-many ns = omega (arith, eight-each ns)
 
-past-end : (ns : List ℕ) (i : ℕ) → length ns ≤ i → u64At (allBytes eightBytes ns) (8 * i) ≡ getD ns i 0
-unfolding u64At
-past-end ns i h =
-    let w : length (allBytes eightBytes ns) < 8 * i + 8 = omega (arith, eight-each ns) in
-    rw (lt-leb (8 * i + 8) (length (allBytes eightBytes ns)) w) (sym (List·getD-eq-default ns 0 {n = i} h))
-
-float-there : (ns : List ℕ) → Patterns ns → (i : ℕ) → i < length ns → ofBits binary64 (u64At (allBytes eightBytes ns) (8 * i)) ≡ listedFloat ns i
-unfolding stampOf
-float-there ns bits i h = ap (λ (d : JulianDate). d .jd1) (stamp-of-lists ns ns i h h (bits i h) (bits i h))
-
 -- THE FLOAT at place i is that of the i-th pattern
-pub float-back : (ns : List ℕ) → Patterns ns → (i : ℕ) → ofBits binary64 (u64At (allBytes eightBytes ns) (8 * i)) ≡ listedFloat ns i
-float-back ns bits i = go (ltb i (length ns)) refl
-  where
-    go : (t : Bool) → ltb i (length ns) ≡ t → ofBits binary64 (u64At (allBytes eightBytes ns) (8 * i)) ≡ listedFloat ns i
-    go true e = float-there ns bits i (ltb-true i (length ns) e)
-    go false e = ap (ofBits binary64) (past-end ns i (ltb-false i (length ns) e))
-
-date-back : (js ks : List ℕ) → Patterns js → Patterns ks → (i : ℕ) → stampOf (allBytes eightBytes js) (allBytes eightBytes ks) i ≡ listedDate js ks i
-unfolding stampOf
-date-back js ks a b i = rw (float-back js a i, float-back ks b i)
+pub float-back : (ns : List ℕ) → Numbers64 ns → (i : ℕ) → ofBits binary64 (u64At (allBytes eightBytes ns) (8 * i)) ≡ listedFloat ns i
+float-back ns bits i = ap (ofBits binary64) (number-back ns bits i)
 
 listed-not-finite : (js ks : List ℕ) (i : ℕ) → ListedNotFinite js ks i → finiteParts (listedDate js ks i) ≡ false
 listed-not-finite js ks i (inl e) = either (finite (listedFloat js i)) (finite (listedFloat ks i)) (inl (field-not-finite (getD js i 0) e))
@@ -74,7 +49,7 @@ listed-not-finite js ks i (inr e) = either (finite (listedFloat js i)) (finite (
 
 -- ---- THE RUN FROM SCALE TO SCALE of two lists of patterns
 module _ (rows : List Row) (from to : ℕ) (f : Five from) (t : Five to) (js ks out1 out2 numbers : List ℕ) (same : length ks ≡ length js)
-    (first-bits : Patterns js) (second-bits : Patterns ks) (room : PlacesFor (length js) (length out1) (length out2) (length numbers)) where
+    (first-bits : Numbers64 js) (second-bits : Numbers64 ks) (room : PlacesFor (length js) (length out1) (length out2) (length numbers)) where
   abbrev run : RunCall
   run = convertedRun (answer rows) from to (allBytes eightBytes js) (allBytes eightBytes ks) out1 out2 numbers
 
@@ -87,7 +62,7 @@ module _ (rows : List Row) (from to : ℕ) (f : Five from) (t : Five to) (js ks 
   run-of-lists = record {
     count = count-is rows from to (allBytes eightBytes js) (allBytes eightBytes ks) out1 out2 numbers run-passes
         ∙ ap (λ (n : ℕ). answer (notZeroIn n (run .numbers))) (as-many js);
-    each = λ i h. subst (λ (d : JulianDate). StampDone (wayOf rows from to d) i out1 out2 run) (date-back js ks first-bits second-bits i)
+    each = λ i h. subst (λ (d : JulianDate). StampDone (wayOf rows from to d) i out1 out2 run) (stamps-of-lists js ks first-bits second-bits i)
         (each-stamp rows from to (allBytes eightBytes js) (allBytes eightBytes ks) out1 out2 numbers run-passes i (omega (arith, as-many js)));
     spare = subst (λ (n : ℕ). SpareStays n out1 out2 numbers run) (as-many js)
         (spare-stays rows from to (allBytes eightBytes js) (allBytes eightBytes ks) out1 out2 numbers run-passes);
@@ -112,7 +87,7 @@ due-eight (offset-pair p) n = refl
 
 -- ---- THE RUN BY A FORMULA of two lists of patterns and the offsets that are due
 module _ (from to : ℕ) (p : FormulaPair from to) (js ks os out1 out2 numbers : List ℕ) (same : length ks ≡ length js) (due : length os ≡ dueOf p (length js))
-    (first-bits : Patterns js) (second-bits : Patterns ks) (offset-bits : Patterns os)
+    (first-bits : Numbers64 js) (second-bits : Numbers64 ks) (offset-bits : Numbers64 os)
     (room : PlacesFor (length js) (length out1) (length out2) (length numbers)) where
   abbrev formula : RunCall
   formula = formulaRun from to (allBytes eightBytes js) (allBytes eightBytes ks) (allBytes eightBytes os) out1 out2 numbers
@@ -136,7 +111,7 @@ module _ (from to : ℕ) (p : FormulaPair from to) (js ks os out1 out2 numbers :
   stamp-by : (i : ℕ) → formulaAnswer from to (allBytes eightBytes js) (allBytes eightBytes ks) (allBytes eightBytes os) i
       ≡ byFormula from to (listedFloat os i) (listedDate js ks i)
   stamp-by i = ap (λ (x : Float). byFormula from to x (stampOf (allBytes eightBytes js) (allBytes eightBytes ks) i)) (float-back os offset-bits i)
-      ∙ ap (byFormula from to (listedFloat os i)) (date-back js ks first-bits second-bits i)
+      ∙ ap (byFormula from to (listedFloat os i)) (stamps-of-lists js ks first-bits second-bits i)
 
   pub formula-of-lists : ListedRun (λ (i : ℕ). byFormula from to (listedFloat os i) (listedDate js ks i)) (length js) out1 out2 numbers
       (formulaRun from to (allBytes eightBytes js) (allBytes eightBytes ks) (allBytes eightBytes os) out1 out2 numbers)
@@ -157,7 +132,7 @@ module _ (from to : ℕ) (p : FormulaPair from to) (js ks os out1 out2 numbers :
 
 -- AN OFFSET THAT IS NOT FINITE beside finite parts gives its own stamp 10, whatever the other stamps and offsets are
 module _ (from to : ℕ) (p : OffsetPair from to) (js ks os out1 out2 numbers : List ℕ) (same : length ks ≡ length js) (due : length os ≡ length js)
-    (first-bits : Patterns js) (second-bits : Patterns ks) (offset-bits : Patterns os)
+    (first-bits : Numbers64 js) (second-bits : Numbers64 ks) (offset-bits : Numbers64 os)
     (room : PlacesFor (length js) (length out1) (length out2) (length numbers)) where
   as-due : length os ≡ dueOf (offset-pair p) (length js)
   unfolding dueOf

@@ -4,7 +4,7 @@ use Prim.Native.Nat.{ℕ, _<_}
 use mathlib.Core.Path.{_≡_}
 use mathlib.Core.Logic.{_⊎_}
 use mathlib.Core.List.{List}
-use lib.ListN.{length, getD}
+use lib.ListN.{getD}
 use lib.Ieee.{Float, binary64, ofBits}
 use Rattle.refusals.specs.Outcome.{Outcome, answer}
 use Rattle.floats.specs.ExponentField.{exponentField}
@@ -20,10 +20,6 @@ listedFloat os i = ofBits binary64 (getD os i 0)
 
 abbrev pub listedDate : List ℕ → List ℕ → ℕ → JulianDate
 listedDate js ks i = julian (listedFloat js i) (listedFloat ks i)
-
--- numbers of 64 bits
-abbrev pub Patterns : List ℕ → Type 0
-Patterns js = (i : ℕ) → i < length js → getD js i 0 < 18446744073709551616
 
 -- the i-th stamp has a part whose exponent field is all ones
 abbrev pub ListedNotFinite : List ℕ → List ℕ → ℕ → Type 0

@@ -3,17 +3,13 @@
 use Prim.Native.Nat.{ℕ, zero, suc, _+_, _*_, _≤_, _<_}
 use native.Mathlib.Omega.{arith}
 use mathlib.Core.Path.{_≡_, refl, sym, ap, subst, _∙_}
-use mathlib.Core.Bool.{Bool, true, false}
 use mathlib.Core.Logic.{_↔_}
-use mathlib.Core.List.{List, [], _∷_, append-nil}
-use lib.Dec.{ltb}
-use lib.ListN.{length, getD, drop, List·getD-eq-default}
-use borrow.Author.Tests.{ltb-true, ltb-false, lt-leb}
+use mathlib.Core.List.{List, [], _∷_}
+use lib.ListN.{length, getD, drop}
 use Rattle.refusals.specs.Outcome.{answer}
 use Rattle.numerals.specs.little_endian.LittleEndian.{fourAt, u64At, eightBytes}
-use Rattle.numerals.specs.little_endian.Written.{allBytes}
-use Rattle.numerals.proofs.little_endian.Items.{written-length, item-u64}
-use Rattle.numerals.proofs.little_endian.RoundTrip.{read-written}
+use Rattle.numerals.specs.little_endian.Written.{allBytes, Numbers64}
+use Rattle.numerals.proofs.little_endian.Numbers.{eight-each, number-back}
 use Rattle.ticks.specs.declared.TicksAnswer.{TicksAnswer}
 use Rattle.ticks.specs.declared.TicksAnswer.the-variants.{Written}
 use Rattle.ticks.specs.Line.{lineAt}
@@ -23,38 +19,12 @@ use Rattle.ticks.specs.judging.Refusing.{numberAt, numbersIn, wellCounte
 use Rattle.ticks.specs.Ticks.{passesOf, bytesOf, placedTicks, TicksCall}
 use Rattle.ticks.specs.laws.Sound.{Sound, Inside}
 use Rattle.ticks.specs.laws.Reasons.{WholeLists, HasPlaces, UsablePasses, RisingPasses, TicksInside, TicksMeaning}
-use Rattle.ticks.specs.laws.Writer.{Numbers64, listedPasses, ListedGood, ListedTicks, countUp}
+use Rattle.ticks.specs.laws.Writer.{listedPasses, ListedGood, ListedTicks, countUp}
 use Rattle.ticks.proofs.laws.Laws.{is-on-line}
 use Rattle.ticks.proofs.laws.Call.{call-means}
 
--- ---- one list, also past its end, where no bytes are read as 0
-
-eight-each : (ns : List ℕ) → length (allBytes eightBytes ns) ≡ 8 * length ns
-eight-each ns = written-length eightBytes 8 (λ n. refl) ns
-
 as-many : (ns : List ℕ) → numbersIn (allBytes eightBytes ns) ≡ length ns
 as-many ns = omega (arith, eight-each ns)
-
-there : (ns : List ℕ) (i : ℕ) → i < length ns → getD ns i 0 < 18446744073709551616 → numberAt (allBytes eightBytes ns) i ≡ getD ns i 0
-there ns i h small =
-    let e : 8 * i ≡ length {A = ℕ} [] + 8 * i + 0 = omega arith in
-    ap (u64At (allBytes eightBytes ns)) e
-    ∙ ap (λ (s : List ℕ). u64At s (length {A = ℕ} [] + 8 * i + 0)) (sym (append-nil (allBytes eightBytes ns)))
-    ∙ item-u64 eightBytes 8 (λ n. refl) [] ns [] i 0 h 0 (omega arith) ∙ read-written (getD ns i 0) small
-
-past-end : (ns : List ℕ) (i : ℕ) → length ns ≤ i → numberAt (allBytes eightBytes ns) i ≡ getD ns i 0
-unfolding u64At
-past-end ns i h =
-    let w : length (allBytes eightBytes ns) < 8 * i + 8 = omega (arith, eight-each ns) in
-    rw (lt-leb (8 * i + 8) (length (allBytes eightBytes ns)) w) (sym (List·getD-eq-default ns 0 {n = i} h))
-
--- NUMBER i is the i-th of the list
-pub number-back : (ns : List ℕ) → Numbers64 ns → (i : ℕ) → numberAt (allBytes eightBytes ns) i ≡ getD ns i 0
-number-back ns bits i = go (ltb i (length ns)) refl
-  where
-    go : (t : Bool) → ltb i (length ns) ≡ t → numberAt (allBytes eightBytes ns) i ≡ getD ns i 0
-    go true e = let h : i < length ns = ltb-true i (length ns) e in there ns i h (bits i h)
-    go false e = past-end ns i (ltb-false i (length ns) e)
 
 -- THE PASSES of two lists
 passes-are : (ps ms : List ℕ) → Numbers64 ps → Numbers64 ms → passesOf (allBytes eightBytes ps) (allBytes eightBytes ms) ≡ listedPasses ps ms

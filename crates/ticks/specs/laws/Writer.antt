@@ -11,10 +11,6 @@ use Rattle.ticks.specs.declared.TicksAnswer.the-variants.{Written, Refus
 use Rattle.ticks.specs.Passes.{Passes, millisAt}
 use Rattle.ticks.specs.laws.Sound.{Sound, Inside}
 
--- numbers of 64 bits
-abbrev pub Numbers64 : List ℕ → Type 0
-Numbers64 ns = (i : ℕ) → i < length ns → getD ns i 0 < 18446744073709551616
-
 -- pass i has the i-th tick number and the i-th millisecond
 abbrev pub listedPasses : List ℕ → List ℕ → Passes
 listedPasses ps ms = record { size = length ps; tick = λ (i : ℕ). getD ps i 0; milli = λ (i : ℕ). getD ms i 0 }

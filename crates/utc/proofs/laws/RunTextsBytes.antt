@@ -5,43 +5,22 @@ use native.Mathlib.Nat.{eq-or-lt-of-le}
 use mathlib.Core.Path.{_≡_, refl, sym, ap, _∙_}
 use mathlib.Core.Logic.{_⊎_, inl, inr}
 use mathlib.Core.Bool.{cond}
-use mathlib.Core.List.{List, [], _∷_}
+use mathlib.Core.List.{List}
 use lib.Dec.{eqb}
-use lib.ListN.{length, getD, set, length-set}
-use lib.Seq.{sets, getD-set-same, getD-set-other}
+use lib.ListN.{length, getD, set}
+use lib.Seq.{getD-set-same, getD-set-other}
 use Rattle.refusals.specs.Outcome.{Outcome, answer, refusal}
+use Rattle.numerals.proofs.little_endian.SetBytes.{set-outside, set-inside}
 use Rattle.utc.specs.run_texts.RunTexts.{refusalByte, withText, withTexts, withBytes, textsRefused}
 use Rattle.utc.specs.laws.RunTexts.{numbersNotZero}
 use Rattle.utc.proofs.run_texts.Puts.{texts-kept, bytes-kept}
-
--- ---- bytes set one after the other from index i on
-outside : (vs l : List ℕ) (i j : ℕ) → (j < i) ⊎ (i + length vs ≤ j) → getD (sets l i vs) j 0 ≡ getD l j 0
-outside [] l i j h = refl
-outside (a ∷ vs) l i j h = outside vs (set l i a) (suc i) j (next h) ∙ getD-set-other l i j a 0 (apart h)
-  where
-    next : (j < i) ⊎ (i + suc (length vs) ≤ j) → (j < suc i) ⊎ (suc i + length vs ≤ j)
-    next (inl p) = inl (omega arith)
-    next (inr p) = inr (omega arith)
-
-    apart : (j < i) ⊎ (i + suc (length vs) ≤ j) → j ≡ i → ⊥
-    apart (inl p) e = omega arith
-    apart (inr p) e = omega arith
-
-inside : (vs l : List ℕ) (i k : ℕ) → i + length vs ≤ length l → k < length vs → getD (sets l i vs) (i + k) 0 ≡ getD vs k 0
-inside [] l i k h b = let w : ⊥ = omega arith in absurd w
-inside (a ∷ vs) l i zero h b =
-    let e : i + 0 ≡ i = omega arith in
-    ap (λ (j : ℕ). getD (sets (set l i a) (suc i) vs) j 0) e ∙ outside vs (set l i a) (suc i) i (inl (omega arith)) ∙ getD-set-same l i a 0 (omega arith)
-inside (a ∷ vs) l i (suc k) h b =
-    let e : i + suc k ≡ suc i + k = omega arith in
-    ap (λ (j : ℕ). getD (sets (set l i a) (suc i) vs) j 0) e ∙ inside vs (set l i a) (suc i) k (omega (arith, length-set l i a)) (omega arith)
 
 -- ---- the texts f 0, f 1, .., each of at most 27 bytes
 module _ (f : ℕ → Outcome (List ℕ)) (few : (i : ℕ) (t : List ℕ) → f i ≡ answer t → length t ≤ 27) (l : List ℕ) where
   text-outside : (o : Outcome (List ℕ)) (i : ℕ) (s : List ℕ) (j : ℕ) → ((t : List ℕ) → o ≡ answer t → length t ≤ 27) → (j < 27 * i) ⊎ (27 * i + 27 ≤ j)
       → getD (withText o i s) j 0 ≡ getD s j 0
   unfolding withText
-  text-outside (answer t) i s j most h = outside t s (27 * i) j (by (most t refl) h)
+  text-outside (answer t) i s j most h = set-outside t s (27 * i) j (by (most t refl) h)
     where
       by : length t ≤ 27 → (j < 27 * i) ⊎ (27 * i + 27 ≤ j) → (j < 27 * i) ⊎ (27 * i + length t ≤ j)
       by m (inl p) = inl p
@@ -69,13 +48,13 @@ module _ (f : ℕ → Outcome (List ℕ)) (few : (i : ℕ) (t : List ℕ) → f 
     text-at t e room b =
         let most = few i t e in
         kept-to n i k (getD t k 0) (omega arith) h
-        (rw e (inside t (withTexts f i l) (27 * i) k (omega (arith, texts-kept f i l)) b))
+        (rw e (set-inside t (withTexts f i l) (27 * i) k (omega (arith, texts-kept f i l)) b))
 
     pub behind-at : (t : List ℕ) → f i ≡ answer t → length t ≤ k → k < 27 → getD (withTexts f n l) (27 * i + k) 0 ≡ getD l (27 * i + k) 0
     unfolding withTexts withText
     behind-at t e b c =
         kept-to n i k (getD l (27 * i + k) 0) c h
-        (rw e (outside t (withTexts f i l) (27 * i) (27 * i + k) (inr (omega arith)) ∙ texts-beyond i (27 * i + k) (omega arith)))
+        (rw e (set-outside t (withTexts f i l) (27 * i) (27 * i + k) (inr (omega arith)) ∙ texts-beyond i (27 * i + k) (omega arith)))
 
     pub refused-at : (r : ℕ) → f i ≡ refusal r → k < 27 → getD (withTexts f n l) (27 * i + k) 0 ≡ getD l (27 * i + k) 0
     unfolding withTexts withText
