@@ -9,14 +9,14 @@ use lib.IntN.{ℤ}
 use Rattle.refusals.specs.Outcome.{Outcome, refusal, onward}
 use Rattle.leap_table.specs.rows.Table.{Row}
 use Rattle.utc.specs.declared.iso_texts.NamedForm.{NamedForm}
-use Rattle.utc.specs.declared.iso_texts.NamedForm.the-variants.{Document01, HalfEven, Expanded}
+use Rattle.utc.specs.declared.iso_texts.NamedForm.the-variants.{Standard, HalfEven, Expanded}
 use Rattle.utc.specs.iso_texts.Named.{formNamed}
 use Rattle.utc.specs.run_texts.RunTexts.{TextsCall, textsCall, textsOfRun}
 use Rattle.c_answers.specs.Delivery.{code}
 
 -- CT_TEXT is 0, CT_TEXT_HALF_EVEN 1 and CT_TEXT_EXPANDED 2
 unfoldable pub formNumbered : ℕ → NamedForm
-formNumbered n = cond (eqb n 0) Document01 (cond (eqb n 1) HalfEven Expanded)
+formNumbered n = cond (eqb n 0) Standard (cond (eqb n 1) HalfEven Expanded)
 
 -- 18 for another number, where the table is not refused
 unfoldable pub textsByNumber : ℕ → Outcome (List Row) → List ℕ → List ℕ → List ℕ → List ℕ → List ℕ → TextsCall

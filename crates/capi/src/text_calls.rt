@@ -89,7 +89,7 @@ fn put_text<'a>(
 {
     if rule.len() < 8 {
         return with_short_rule(
-            NamedForm::Document01,
+            NamedForm::Standard,
             date,
             size,
             months,

@@ -12,7 +12,7 @@ fn form_of(n: u32) -> NamedForm
     ensures { λ r. ⌜ r ≡ formNumbered n ⌝ }
 {
     if n == 0 {
-        return NamedForm::Document01;
+        return NamedForm::Standard;
     }
     if n == 1 {
         return NamedForm::HalfEven;

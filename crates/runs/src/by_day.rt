@@ -1,5 +1,5 @@
-// A day in hand: what UTC to TAI computes of a day alone, kept for the stamps that follow. It serves the stamps whose jd1 is its midnight and whose jd2 is from
-// 0.0 to below 1.0; every other stamp goes to the plain conversion. The operations and their order are those of `utc_tai`, so the bits are the same.
+// The day that a run keeps from stamp to stamp, in hand: what UTC to TAI computes of a day alone. It serves the stamps whose jd1 is its midnight and whose jd2
+// is from 0.0 to below 1.0; every other stamp goes to the plain conversion. The operations and their order are those of `utc_tai`, so the bits are the same.
 ghost use mathlib.Core.Path.{_≡_};
 ghost use Prim.Native.Nat.{_≤_};
 ghost use lib.IntN.{pos, natAbs, _-ℤ_};

@@ -43,7 +43,7 @@ fn put_answer(found: JulianAnswer, i: usize, out1: &mut [u8], out2: &mut [u8]) -
 }
 
 // The number of a stamp, and the day in hand after it.
-struct StampDone {
+struct AfterStamp {
     number: u8,
     hand: DayInHand,
 }
@@ -61,7 +61,7 @@ fn convert_stamp<'a>(
     seconds: &'a [i32; 16],
     out1: &mut [u8],
     out2: &mut [u8],
-) -> StampDone
+) -> AfterStamp
     requires { ⌜ HasPlace i (now out1) (now out2) × RightHand (rowsIn size (now months) (now seconds)) hand ⌝ }
     ensures { λ r. ⌜ StampPut (stampAnswer (rowsIn size (now (months .entry)) (now (seconds .entry))) from to (now (jd1s .entry)) (now (jd2s .entry)) i) i
         (now (out1 .entry)) (now (out2 .entry)) (r .number) (now (out1 .exit)) (now (out2 .exit))
@@ -71,7 +71,7 @@ fn convert_stamp<'a>(
     let next = crate::by_day::next_hand(from, to, jd.jd1, hand, size, months, seconds);
     let found = crate::by_day::convert_with(from, to, jd, next, size, months, seconds);
     let number = put_answer(found, i, out1, out2);
-    StampDone { number, hand: next }
+    AfterStamp { number, hand: next }
 }
 
 // Converts n stamps, and says how many are refused. The day in hand is kept from stamp to stamp.

@@ -31,7 +31,7 @@ use time_of_day::TimeShown;
 
 // Which form of text a text call writes by.
 pub enum NamedForm {
-    Document01,
+    Standard,
     HalfEven,
     Expanded,
 }

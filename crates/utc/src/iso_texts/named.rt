@@ -22,7 +22,7 @@ pub fn to_text_by_arrays<'a>(
         (now (out .exit)) ⌝ }
 {
     match textForm {
-        NamedForm::Document01 => to_iso8601_by_arrays(utc, size, months, seconds, out),
+        NamedForm::Standard => to_iso8601_by_arrays(utc, size, months, seconds, out),
         NamedForm::HalfEven => to_iso8601_half_even_by_arrays(utc, size, months, seconds, out),
         NamedForm::Expanded => to_iso8601_expanded_by_arrays(utc, size, months, seconds, out),
     }

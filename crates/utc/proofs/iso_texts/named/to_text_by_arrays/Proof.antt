@@ -4,7 +4,7 @@ use denote.Ref.{now}
 use borrow.Author.Needs.{needs}
 use Rattle.leap_table.specs.rows.Table.{Row}
 use Rattle.leap_table.specs.rows.Announced.{rowsIn}
-use Rattle.utc.specs.declared.iso_texts.NamedForm.the-variants.{Document01, HalfEven, Expanded}
+use Rattle.utc.specs.declared.iso_texts.NamedForm.the-variants.{Standard, HalfEven, Expanded}
 use Rattle.utc.specs.iso_texts.Named.{formNamed}
 use Rattle.utc.proofs.iso_texts.NamedForms.{named-call}
 use Rattle.utc.proofs.iso_texts.named.to_text_by_arrays.Statement.{statement}
@@ -16,7 +16,7 @@ rows s = rowsIn (s .args .size) (now (s .args .months)) (now (s .args .seconds))
 
 returns : tie.Need-returns
 unfolding formNamed
-returns c = let s = c .before .before .before .before .before .before .before in named-call (s .args .textForm) Document01 (rows s) (s .args .utc .0)
+returns c = let s = c .before .before .before .before .before .before .before in named-call (s .args .textForm) Standard (rows s) (s .args .utc .0)
     (c .before .before .before .before .enum-told .given .1) (c .before .before .to-iso8601-by-arrays .ensures)
 
 returns-2 : tie.Need-returns-2
