@@ -3,5 +3,6 @@ pub mod TextCalls
 pub mod TextRules
 pub mod NamedForms
 pub mod TextDays
+pub mod EachForm
 pub mod CarriedRules
 pub mod TextCases

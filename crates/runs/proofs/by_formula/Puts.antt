@@ -13,7 +13,7 @@ use Rattle.refusals.specs.Outcome.{Outcome, answer, refusal}
 use Rattle.numerals.specs.little_endian.LittleEndian.{eightBytes}
 use Rattle.julian.specs.declared.JulianDate.{JulianDate}
 use Rattle.runs.specs.by_formula.Run.{firstPart, secondPart, numberByte, withPart, withParts, withNumbers, refusedAmong}
-use Rattle.runs.specs.by_formula.Asked.{StampPut, RunPut}
+use Rattle.runs.specs.by_formula.Asked.{HasPlace, Roomy, StampPut, RunPut}
 
 pub part-length : (part : JulianDate → Float) (o : Outcome JulianDate) (i : ℕ) (l : List ℕ) → length (withPart part o i l) ≡ length l
 unfolding withPart
@@ -74,12 +74,12 @@ pub record Putting (f : ℕ → Outcome JulianDate) (n : ℕ) (out1₀ out2₀ n
   pub high : i ≤ n
   pub put : RunPut f i out1₀ out2₀ numbers₀ refused out1 out2 numbers
 
-module _ (f : ℕ → Outcome JulianDate) (n : ℕ) (out1₀ out2₀ numbers₀ : List ℕ) where
+module _ {f : ℕ → Outcome JulianDate} {n : ℕ} {out1₀ out2₀ numbers₀ : List ℕ} where
   pub putting-starts : Putting f n out1₀ out2₀ numbers₀ out1₀ out2₀ numbers₀ 0 0
   unfolding withParts withNumbers refusedAmong
   putting-starts = record { high = omega arith; put = record { count = refl; first = refl; second = refl; third = refl } }
 
-  module _ (out1 out2 numbers : List ℕ) (refused i : ℕ) (p : Putting f n out1₀ out2₀ numbers₀ out1 out2 numbers refused i) where
+  module _ {out1 out2 numbers : List ℕ} {refused i : ℕ} (p : Putting f n out1₀ out2₀ numbers₀ out1 out2 numbers refused i) where
     pub len1 : length out1 ≡ length out1₀
     len1 = ap length (p .put .first) ∙ parts-length firstPart f i out1₀
 
@@ -92,10 +92,18 @@ module _ (f : ℕ → Outcome JulianDate) (n : ℕ) (out1₀ out2₀ numbers₀ 
     pub few : refused ≤ i
     few = omega (arith, p .put .count, at-most f i)
 
-    pub putting-goes : (out1' out2' : List ℕ) (r one : ℕ) → i < n → StampPut (f i) i out1 out2 r out1' out2' → one ≡ cond (eqb r 0) 0 1
+    module _ {js ks : List ℕ} (room : Roomy n js ks out1₀ out2₀ numbers₀) (h : i < n) where
+      -- stamp i has its places, and its byte for the number
+      pub has-places : HasPlace i out1 out2
+      has-places = (omega (arith, h, room .places1, len1), omega (arith, h, room .places2, len2))
+
+      pub has-byte : i < length numbers
+      has-byte = omega (arith, h, room .bytes, len3)
+
+    pub putting-goes : {out1' out2' : List ℕ} {r one : ℕ} → i < n → StampPut (f i) i out1 out2 r out1' out2' → one ≡ cond (eqb r 0) 0 1
         → Putting f n out1₀ out2₀ numbers₀ out1' out2' (set numbers i r) (refused + one) (i + 1)
     unfolding withParts withNumbers refusedAmong
-    putting-goes out1' out2' r one h s e =
+    putting-goes {out1' = out1'} {out2' = out2'} {r = r} {one = one} h s e =
         subst (λ (j : ℕ). Putting f n out1₀ out2₀ numbers₀ out1' out2' (set numbers i r) (refused + one) j) (sym (add-one i))
         (record {
           high = omega arith;
