@@ -7,6 +7,7 @@ pub mod Below
 pub mod Casts
 pub mod Patterns
 pub mod Cases
+pub mod UnitSums
 pub mod NearestWholes
 pub mod Sizes
 pub mod FiniteTest

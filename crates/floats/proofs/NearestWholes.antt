@@ -1,21 +1,16 @@
--- `nearest_whole`, range by range: from 0.5 on the digits of a + 0.5 give the number and the float, and below 0.5 in size both are zero.
+-- `nearest_whole`, range by range: from 0.5 on it is a + 0.5 down to a whole number (UnitSums), and below 0.5 in size it is zero.
 use mathlib.Core.Path.{_≡_, refl, sym, ap, _∙_, subst}
 use mathlib.Core.Bool.{Bool, true, false, _&&_, _||_, cond, true≢false, false≢true}
-use Prim.Native.Nat.{ℕ, _+_, _*_, _/_, _^_, _≤_, _<_, min}
-use native.Mathlib.Nat.{le-of-lt, le-of-eq, mul-one, mul-pos, mul-div-cancel, div-lt-iff-lt-mul}
+use Prim.Native.Nat.{ℕ, _+_, _*_, _^_, _≤_, _<_}
+use native.Mathlib.Nat.{le-of-lt, le-of-eq, mul-pos}
 use native.Mathlib.Omega.{arith}
 use lib.IntN.{pos}
 use lib.Dec.{T, ltb, eqb, ltb→lt, lt→ltb, eqb→eq, lit<}
-use lib.Ieee.{Float, nan, inf, fin, binary64, up, down, round, fits, neg, add, sub, lt, eq, le, ofInt, toUnsigned, toSigned}
+use lib.Ieee.{Float, nan, inf, fin, binary64, up, down, neg, add, sub, sum, lt, eq, le}
 use lib.Ieee.Fits.{down-pos}
-use lib.Ieee.Exact.{HasValue}
 use borrow.Author.Tests.{lt-ltb, le-ltb, ltb-false, eqb-false}
 use Rattle.floats.specs.Whole.{abs, half, nought, one, toWhole, downward, upward, nearestInt}
-use Rattle.floats.proofs.Laws.{downward-exact}
-
--- 2 ^ 52
-abbrev two-52 : Float
-two-52 = fin false 1 (pos 52)
+use Rattle.floats.proofs.UnitSums.{two-52, Plain, round-plain}
 
 -- ---- the tests of the code
 -- ±0.5 against a: x / 2 ≤ y where x ≤ 2 * y
@@ -66,20 +61,16 @@ large-is a h =
     ap (λ (b : Bool). cond b nought (cond (lt a nought) (toWhole upward (sub binary64 a half)) (toWhole downward (add binary64 a half)))) (s .0)
     ∙ ap (λ (b : Bool). cond b (toWhole upward (sub binary64 a half)) (toWhole downward (add binary64 a half))) (s .1)
 
--- ---- the digits of t
-value-cast : (v : Float) (k : ℕ) → HasValue v false k 1 → k < 2 ^ 52 → toSigned 63 v ≡ pos k
-unfolding toSigned
-value-cast nan k h l = absurd h
-value-cast (inf s) k h l = absurd h
-value-cast (fin true m e) k h l = absurd (true≢false (h .0))
-value-cast (fin false m e) k h l =
-    ap (λ (z : ℕ). pos (min z 9223372036854775807)) (ap (λ (z : ℕ). z / down e) (sym (mul-one (m * up e)) ∙ h .1) ∙ mul-div-cancel k (down-pos e))
-    ∙ ap pos (least k l)
-  where
-    least : (k : ℕ) → k < 4503599627370496 → min k 9223372036854775807 ≡ k
-    least k l = omega arith
+-- ---- a + 0.5 is plain where it is below 2 ^ 52
+pub large-plain : (a : Float) → le half a ≡ true → lt (add binary64 a half) two-52 ≡ true → Plain (add binary64 a half)
+unfolding le lt eq add sum
+large-plain nan h l = absurd (false≢true h)
+large-plain (inf true) h l = absurd (false≢true h)
+large-plain (inf false) h l = absurd (false≢true l)
+large-plain (fin true m e) h l = absurd (false≢true (sym (below-half (1 * 1 * down e) (mul-pos (lit< tt) (down-pos e)) (m * up e * 2)) ∙ h))
+large-plain (fin false m e) h l = round-plain (m * up e * 2 + 1 * 1 * down e) (down e * 2) l
 
--- the cast asks for -1 < t < 2 ^ 64
+-- ---- the cast of a float to 64 bits without a sign asks for -1 < t < 2 ^ 64
 pub in-cast : (t : Float) → le one t ≡ true → lt t two-52 ≡ true → T (lt (fin true 1 (pos 0)) t) × T (lt t (fin false 1 (pos 64)))
 unfolding le lt eq
 in-cast nan l h = absurd (false≢true l)
@@ -96,31 +87,6 @@ in-cast (fin false m e) l h = (
 
     more : (x d : ℕ) → x * 1 < 4503599627370496 * d → x * 1 < 18446744073709551616 * d
     more x d h = omega arith
-
-pub record Digits (t : Float) (k : ℕ) : Type 0 where
-  pub below : k < 2 ^ 52
-  pub float : ofInt binary64 (pos k) ≡ toWhole downward t
-  pub cast : pos k ≡ toSigned 63 (toWhole downward t)
-
-pub digits : (t : Float) → T (fits binary64 t) → le one t ≡ true → lt t two-52 ≡ true → (k : ℕ) → k ≡ toUnsigned 64 t → Digits t k
-unfolding le lt eq toUnsigned toWhole ofInt
-digits nan f l h k e = absurd (false≢true l)
-digits (inf true) f l h k e = absurd (false≢true l)
-digits (inf false) f l h k e = absurd (false≢true h)
-digits (fin true m i) f l h k e = absurd (false≢true (sym (below-half (1 * 1 * down i) (mul-pos (lit< tt) (down-pos i)) (m * up i * 1)) ∙ l))
-digits (fin false m i) f l h k e =
-    let q : m * up i / down i < 2 ^ 52 =
-    div-lt-iff-lt-mul (down-pos i) .1
-    (subst (λ (z : ℕ). z < 2 ^ 52 * down i) (mul-one (m * up i)) (ltb→lt (m * up i * 1) (2 ^ 52 * down i) (subst T (sym h) tt))) in
-    let is : k ≡ m * up i / down i = least k (m * up i / down i) e q in
-    record {
-      below = subst (λ (z : ℕ). z < 2 ^ 52) (sym is) q;
-      float = ap (λ (z : ℕ). round binary64 false z 1) is;
-      cast = ap pos is ∙ sym (value-cast (toWhole downward (fin false m i)) (m * up i / down i) (downward-exact false m i f) q);
-    }
-  where
-    least : (k q : ℕ) → k ≡ min q 18446744073709551615 → q < 4503599627370496 → k ≡ q
-    least k q e h = omega arith
 
 -- ---- below 0.5 in size
 pub small-is : (a : Float) → le half a ≡ false → lt (neg half) a ≡ true → nought ≡ nearestInt a

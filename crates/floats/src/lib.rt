@@ -125,18 +125,25 @@ pub fn nearest_int(a: f64) -> f64
     }
 }
 
-// The Rust's nearest_int with its `as i64`. A part of a date is mostly between -0.5 and 2^52: there the number comes from the digits at once, and the float
-// from it.
+// The Rust's nearest_int with its `as i64`. A part of a date is mostly between -0.5 and 2^52. From 0.5 on, the sum of a + 0.5 and 2^52 has no digit below the
+// unit: with 2^52 taken off again a whole number next to a + 0.5 is left, and where that is above it, the one before is the floor.
 pub fn nearest_whole(a: f64) -> NearestWhole
     ensures { λ r. ⌜ r ≡ nearestWhole a ⌝ }
 {
     if a >= 0.5 {
         let t = a + 0.5;
-        if t >= 1.0 && t < TWO_52 {
-            let n = std::num::truncating_f64_to_u64(t) as i64;
+        if t < TWO_52 {
+            let beside = (t + TWO_52) - TWO_52;
+            if beside > t {
+                let before = beside - 1.0;
+                return NearestWhole {
+                    value: before,
+                    number: before as i64,
+                };
+            }
             return NearestWhole {
-                value: n as f64,
-                number: n,
+                value: beside,
+                number: beside as i64,
             };
         }
     } else if a > -0.5 {
