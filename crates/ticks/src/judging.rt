@@ -4,7 +4,7 @@ ghost use mathlib.Core.Bool.{_&&_};
 ghost use Prim.Native.Nat.{_+_, _*_, _≤_};
 ghost use lib.ListN.{length};
 ghost use Rattle.ticks.specs.judging.Numbers.{allSmall, allRising, inside};
-ghost use Rattle.ticks.specs.judging.Refusing.{numberAt, wellCounted, judgedBy, refusedBy};
+ghost use Rattle.ticks.specs.judging.Refusing.{numberAt, wholeNumbers, wellCounted, judgedBy, passesRefusal, refusedBy};
 
 // Ticks and milliseconds are below 2^40.
 const LIMIT: u64 = 0x100_0000_0000;
@@ -121,32 +121,45 @@ fn judged(passes: &[u8], millis: &[u8], n: usize) -> u32
     0
 }
 
+// Whether three lists are made of numbers of eight bytes.
+pub(crate) fn whole_lists(passes: &[u8], millis: &[u8], ticks: &[u8]) -> bool
+    ensures { λ r. ⌜ r ≡ (wholeNumbers (now (passes .entry)) && (wholeNumbers (now (millis .entry)) && wholeNumbers (now (ticks .entry)))) ⌝ }
+{
+    if passes.len() % 8 != 0 {
+        return false;
+    }
+    if millis.len() % 8 != 0 {
+        return false;
+    }
+    ticks.len() % 8 == 0
+}
+
+// The number of the refusal for the passes, or 0.
+pub(crate) fn passes_refused_by(passes: &[u8], millis: &[u8]) -> u32
+    ensures { λ r. ⌜ r ≡ passesRefusal (now (passes .entry)) (now (millis .entry)) ⌝ }
+{
+    if !well_counted(passes, millis) {
+        return refusals::PASSES_NOT_USABLE;
+    }
+    judged(passes, millis, passes.len() / 8)
+}
+
 // The number of the refusal, or 0. All is judged before a place is written.
 pub fn refused_by(passes: &[u8], millis: &[u8], ticks: &[u8], room: usize) -> u32
     ensures { λ r. ⌜ r ≡ refusedBy (now (passes .entry)) (now (millis .entry)) (now (ticks .entry)) room ⌝ }
 {
-    if passes.len() % 8 != 0 {
-        return refusals::LENGTH_WRONG;
-    }
-    if millis.len() % 8 != 0 {
-        return refusals::LENGTH_WRONG;
-    }
-    if ticks.len() % 8 != 0 {
+    if !whole_lists(passes, millis, ticks) {
         return refusals::LENGTH_WRONG;
     }
     if room / 8 < ticks.len() / 8 {
         return refusals::NO_ROOM;
     }
-    if !well_counted(passes, millis) {
-        return refusals::PASSES_NOT_USABLE;
-    }
-    let n = passes.len() / 8;
-    let number = judged(passes, millis, n);
+    let number = passes_refused_by(passes, millis);
     if number != 0 {
         return number;
     }
     let first = number_at(passes, 0);
-    let last = number_at(passes, n - 1);
+    let last = number_at(passes, passes.len() / 8 - 1);
     if !all_inside(ticks, ticks.len() / 8, first, last) {
         return refusals::TICK_OUTSIDE_PASSES;
     }

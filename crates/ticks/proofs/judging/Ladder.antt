@@ -8,8 +8,9 @@ use lib.ListN.{length}
 use lib.Dec.{eqb, leb}
 use borrow.Author.Tests.{eqb-true, leb-true, eq-eqb, ne-eqb, le-leb, lt-leb}
 use Rattle.ticks.specs.judging.Numbers.{allSmall, allRising, inside}
-use Rattle.ticks.specs.judging.Refusing.{numberAt, numbersIn, wholeNumbers, wellCounted, usable, bothRising, allInside, refusedBy, judgedBy}
-use Rattle.ticks.specs.judging.GoodCalls.{GoodCall}
+use Rattle.ticks.specs.judging.Refusing.{numberAt, numbersIn, wholeNumbers, wellCounted, usable, bothRising, allInside, passesRefusal, refusedBy}
+use Rattle.ticks.specs.judging.Refusing.{judgedBy}
+use Rattle.ticks.specs.judging.GoodCalls.{GoodPasses, GoodCall}
 use Rattle.ticks.proofs.judging.Every.{both, every-at}
 use Rattle.ticks.proofs.judging.Checks.{held, small-each}
 use Rattle.ticks.proofs.judging.ByLast.{rises-of}
@@ -52,76 +53,78 @@ module _ (ps ms : List ℕ) where
       let w = both (allSmall (numbersIn ps) (numberAt ps)) _ (x .1) in
       record { counted = counted-is (x .0); ticks = w .0; millis = w .1 }
 
--- ---- the ladder
-pub record Wholes (ps ms ts : List ℕ) : Type 0 where
-  pub passes : length ps % 8 ≡ 0
-  pub millis : length ms % 8 ≡ 0
-  pub ticks : length ts % 8 ≡ 0
+  pub rising-are : bothRising ps ms ≡ true → (allRising (numbersIn ps) (numberAt ps) ≡ true) × (allRising (numbersIn ps) (numberAt ms) ≡ true)
+  unfolding bothRising
+  rising-are e = both (allRising (numbersIn ps) (numberAt ps)) (allRising (numbersIn ps) (numberAt ms)) e
 
-module _ (ps ms ts : List ℕ) (room : ℕ) where
-  pub broken-passes : (length ps % 8 ≡ 0 → ⊥) → 14 ≡ refusedBy ps ms ts room
-  unfolding refusedBy
+  -- k + 2 passes, known
+  pub passes-good : usable ps ms ≡ true → bothRising ps ms ≡ true → (k : ℕ) → k ≡ numbersIn ps - 2 → GoodPasses ps ms k
+  passes-good g r k e =
+      let u = usable-is g in
+      let two : 2 ≤ numbersIn ps = u .counted .two in
+      record {
+        size = omega arith;
+        few = omega (arith, u .counted .most);
+        ticks-there = omega arith;
+        millis-there = omega (arith, u .counted .equal);
+        ticks-rise = λ i h. rises-of (numbersIn ps) (numberAt ps) (rising-are r .0) i (omega arith);
+        millis-rise = λ i h. rises-of (numbersIn ps) (numberAt ms) (rising-are r .1) i (omega arith);
+        ticks-small = λ i h. small-each (numbersIn ps) (numberAt ps) (u .ticks) i (omega arith);
+        millis-small = λ i h. small-each (numbersIn ps) (numberAt ms) (u .millis) i (omega arith);
+      }
+
+  -- ---- the passes alone
+  pub miscounted : wellCounted ps ms ≡ false → 23 ≡ passesRefusal ps ms
+  unfolding passesRefusal usable
+  miscounted c = rw c
+
+  pub by-numbers : wellCounted ps ms ≡ true → judgedBy (numbersIn ps) (numberAt ps) (numberAt ms) ≡ passesRefusal ps ms
+  unfolding passesRefusal usable bothRising judgedBy
+  by-numbers c = rw c
+
+  pub passes-right : passesRefusal ps ms ≡ 0 → (usable ps ms ≡ true) × (bothRising ps ms ≡ true)
+  unfolding passesRefusal
+  passes-right = go (usable ps ms) (bothRising ps ms) refl refl
+    where
+      go : (a b : Bool) → usable ps ms ≡ a → bothRising ps ms ≡ b → _≡_ {A = ℕ} (cond a (cond b 0 24) 23) 0 → (usable ps ms ≡ true) × (bothRising ps ms ≡ true)
+      go true true p q h = (p, q)
+      go true false p q h = absurd (omega arith)
+      go false b p q h = absurd (omega arith)
+
+-- ---- the ladder
+module _ (ps ms ts : List ℕ) where
+  pub broken-passes : (length ps % 8 ≡ 0 → ⊥) → false ≡ wholeNumbers ps && (wholeNumbers ms && wholeNumbers ts)
   broken-passes h = rw (ne-eqb (length ps % 8) 0 h)
 
-  pub broken-millis : length ps % 8 ≡ 0 → (length ms % 8 ≡ 0 → ⊥) → 14 ≡ refusedBy ps ms ts room
-  unfolding refusedBy
+  pub broken-millis : length ps % 8 ≡ 0 → (length ms % 8 ≡ 0 → ⊥) → false ≡ wholeNumbers ps && (wholeNumbers ms && wholeNumbers ts)
   broken-millis e h = rw (eq-eqb (length ps % 8) 0 e, ne-eqb (length ms % 8) 0 h)
 
-  pub broken-ticks : length ps % 8 ≡ 0 → length ms % 8 ≡ 0 → (length ts % 8 ≡ 0 → ⊥) → 14 ≡ refusedBy ps ms ts room
+  pub by-third : length ps % 8 ≡ 0 → length ms % 8 ≡ 0 → wholeNumbers ts ≡ wholeNumbers ps && (wholeNumbers ms && wholeNumbers ts)
+  by-third e f = rw (eq-eqb (length ps % 8) 0 e, eq-eqb (length ms % 8) 0 f)
+
+module _ (ps ms ts : List ℕ) (room : ℕ) where
+  pub not-whole : wholeNumbers ps && (wholeNumbers ms && wholeNumbers ts) ≡ false → 14 ≡ refusedBy ps ms ts room
   unfolding refusedBy
-  broken-ticks e f h = rw (eq-eqb (length ps % 8) 0 e, eq-eqb (length ms % 8) 0 f, ne-eqb (length ts % 8) 0 h)
+  not-whole w = rw w
 
-  module _ (w : Wholes ps ms ts) where
-    all-whole : (wholeNumbers ps && (wholeNumbers ms && wholeNumbers ts)) ≡ true
-    all-whole = rw (eq-eqb (length ps % 8) 0 (w .passes), eq-eqb (length ms % 8) 0 (w .millis)) (eq-eqb (length ts % 8) 0 (w .ticks))
-
+  module _ (w : wholeNumbers ps && (wholeNumbers ms && wholeNumbers ts) ≡ true) where
     pub no-room : room / 8 < numbersIn ts → 11 ≡ refusedBy ps ms ts room
     unfolding refusedBy
-    no-room h = rw (all-whole, lt-leb (numbersIn ts) (room / 8) h)
+    no-room h = rw (w, lt-leb (numbersIn ts) (room / 8) h)
 
     module _ (r : numbersIn ts ≤ room / 8) where
-      pub not-usable : usable ps ms ≡ false → 23 ≡ refusedBy ps ms ts room
+      pub by-passes : (passesRefusal ps ms ≡ 0 → ⊥) → passesRefusal ps ms ≡ refusedBy ps ms ts room
+      unfolding passesRefusal refusedBy
+      by-passes z = rw (w, le-leb (numbersIn ts) (room / 8) r) (go (usable ps ms) (bothRising ps ms) (cond (allInside ps ts) 0 25) z)
+        where
+          go : (a b : Bool) (n : ℕ) → (_≡_ {A = ℕ} (cond a (cond b 0 24) 23) 0 → ⊥) → cond a (cond b 0 24) 23 ≡ cond a (cond b n 24) 23
+          go true true n h = absurd (h refl)
+          go true false n h = refl
+          go false b n h = refl
+
+      pub by-ticks : (b : Bool) → passesRefusal ps ms ≡ 0 → allInside ps ts ≡ b → cond b 0 25 ≡ refusedBy ps ms ts room
       unfolding refusedBy
-      not-usable u = rw (all-whole, le-leb (numbersIn ts) (room / 8) r, u)
-
-      pub miscounted : wellCounted ps ms ≡ false → 23 ≡ refusedBy ps ms ts room
-      unfolding usable
-      miscounted c = not-usable (rw c)
-
-      module _ (u : usable ps ms ≡ true) where
-        pub not-rising : bothRising ps ms ≡ false → 24 ≡ refusedBy ps ms ts room
-        unfolding refusedBy
-        not-rising b = rw (all-whole, le-leb (numbersIn ts) (room / 8) r, u, b)
-
-        pub by-ticks : (b : Bool) → bothRising ps ms ≡ true → allInside ps ts ≡ b → cond b 0 25 ≡ refusedBy ps ms ts room
-        unfolding refusedBy
-        by-ticks b d i = rw (all-whole, le-leb (numbersIn ts) (room / 8) r, u, d, i)
-
-      -- the passes by their numbers
-      module _ (c : wellCounted ps ms ≡ true) (k : ℕ) (e : k ≡ judgedBy (numbersIn ps) (numberAt ps) (numberAt ms)) where
-        pub by-passes : (k ≡ 0 → ⊥) → k ≡ refusedBy ps ms ts room
-        unfolding usable bothRising judgedBy
-        by-passes z = go (allSmall (numbersIn ps) (numberAt ps) && allSmall (numbersIn ps) (numberAt ms))
-            (allRising (numbersIn ps) (numberAt ps) && allRising (numbersIn ps) (numberAt ms)) refl refl e
-          where
-            go : (a b : Bool) → allSmall (numbersIn ps) (numberAt ps) && allSmall (numbersIn ps) (numberAt ms) ≡ a
-                → allRising (numbersIn ps) (numberAt ps) && allRising (numbersIn ps) (numberAt ms) ≡ b → k ≡ cond a (cond b 0 24) 23
-                → k ≡ refusedBy ps ms ts room
-            go true true p q h = absurd (z h)
-            go true false p q h = h ∙ not-rising (rw c p) q
-            go false b p q h = h ∙ not-usable (rw c p)
-
-        pub passes-right : k ≡ 0 → (usable ps ms ≡ true) × (bothRising ps ms ≡ true)
-        unfolding usable bothRising judgedBy
-        passes-right z = go (allSmall (numbersIn ps) (numberAt ps) && allSmall (numbersIn ps) (numberAt ms))
-            (allRising (numbersIn ps) (numberAt ps) && allRising (numbersIn ps) (numberAt ms)) refl refl e
-          where
-            go : (a b : Bool) → allSmall (numbersIn ps) (numberAt ps) && allSmall (numbersIn ps) (numberAt ms) ≡ a
-                → allRising (numbersIn ps) (numberAt ps) && allRising (numbersIn ps) (numberAt ms) ≡ b → k ≡ cond a (cond b 0 24) 23 → (usable ps ms ≡ true)
-                × (bothRising ps ms ≡ true)
-            go true true p q h = (rw c p, q)
-            go true false p q h = absurd (omega arith)
-            go false b p q h = absurd (omega arith)
+      by-ticks b d i = let p = passes-right ps ms d in rw (w, le-leb (numbersIn ts) (room / 8) r, p .0, p .1, i)
 
 pub inside-is : (ps ts : List ℕ) (first last : ℕ) (b : Bool) → first ≡ numberAt ps 0 → last ≡ numberAt ps (numbersIn ps - 1)
     → b ≡ inside first last (numbersIn ts) (numberAt ts) → allInside ps ts ≡ b
@@ -160,15 +163,8 @@ ladder-passed ps ms ts room = go (wholeNumbers ps && (wholeNumbers ms && wholeNu
     go false b c d e p q r s t h = absurd (omega arith)
 
 module _ (ps ms ts : List ℕ) (room : ℕ) (a : NothingRefused ps ms ts room) where
-  u : Usable ps ms
-  u = usable-is ps ms (a .good)
-
   pub passes-two : 2 ≤ numbersIn ps
-  passes-two = u .counted .two
-
-  risen : (allRising (numbersIn ps) (numberAt ps) ≡ true) × (allRising (numbersIn ps) (numberAt ms) ≡ true)
-  unfolding bothRising
-  risen = both (allRising (numbersIn ps) (numberAt ps)) (allRising (numbersIn ps) (numberAt ms)) (a .rise)
+  passes-two = usable-is ps ms (a .good) .counted .two
 
   ticks-at : (i : ℕ) → i < numbersIn ts → (numberAt ps 0 ≤ numberAt ts i) × (numberAt ts i ≤ numberAt ps (numbersIn ps - 1))
   unfolding allInside inside
@@ -179,17 +175,10 @@ module _ (ps ms ts : List ℕ) (room : ℕ) (a : NothingRefused ps ms ts room) w
 
   pub all-good : (k : ℕ) → k ≡ numbersIn ps - 2 → GoodCall ps ms k (numbersIn ts) ts
   all-good k e =
-      let last : numbersIn ps - 1 ≡ k + 1 = omega (arith, u .counted .two) in
+      let last : numbersIn ps - 1 ≡ k + 1 = omega (arith, passes-two) in
       record {
-        size = omega (arith, u .counted .two);
-        few = omega (arith, u .counted .most);
-        ticks-there = omega (arith, u .counted .two);
-        millis-there = omega (arith, u .counted .two, u .counted .equal);
+        passes = passes-good ps ms (a .good) (a .rise) k e;
         there = omega arith;
-        ticks-rise = λ i h. rises-of (numbersIn ps) (numberAt ps) (risen .0) i (omega arith);
-        millis-rise = λ i h. rises-of (numbersIn ps) (numberAt ms) (risen .1) i (omega arith);
-        ticks-small = λ i h. small-each (numbersIn ps) (numberAt ps) (u .ticks) i (omega (arith, u .counted .two));
-        millis-small = λ i h. small-each (numbersIn ps) (numberAt ms) (u .millis) i (omega (arith, u .counted .two));
         low = λ i h. ticks-at i h .0;
         high = λ i h. subst (λ (x : ℕ). numberAt ts i ≤ numberAt ps x) last (ticks-at i h .1);
       }

@@ -21,11 +21,11 @@ module _ (ps ms ts : List ℕ) (room : ℕ) (e : refusedBy ps ms ts room ≡ 0) 
   passes-sound =
       record {
         two = two;
-        most = omega (arith, good .size, good .few);
-        ticks-rise = λ i h. good .ticks-rise i (omega (arith, two));
-        millis-rise = λ i h. good .millis-rise i (omega (arith, two));
-        ticks-small = λ i h. good .ticks-small i (omega (arith, two));
-        millis-small = λ i h. good .millis-small i (omega (arith, two));
+        most = omega (arith, good .passes .size, good .passes .few);
+        ticks-rise = λ i h. good .passes .ticks-rise i (omega (arith, two));
+        millis-rise = λ i h. good .passes .millis-rise i (omega (arith, two));
+        ticks-small = λ i h. good .passes .ticks-small i (omega (arith, two));
+        millis-small = λ i h. good .passes .millis-small i (omega (arith, two));
       }
 
   -- and every tick is inside them

@@ -1,11 +1,10 @@
 -- `ticks::place_all` meets its contract: the milliseconds of the ticks passed are written, and the rest is as it was. Assumes nothing.
-use Prim.Native.Nat.{ℕ, _-_, _≤_}
+use Prim.Native.Nat.{_+_, _-_, _≤_}
 use native.Mathlib.Omega.{arith}
-use mathlib.Core.Path.{ap, subst, sym, _∙_}
-use Rattle.ticks.specs.Passes.{millisAt, lastNotAfter, millisBetween}
+use mathlib.Core.Path.{ap, _∙_}
+use Rattle.ticks.specs.Passes.{millisAt}
 use Rattle.ticks.specs.judging.Refusing.{numberAt}
 use Rattle.ticks.specs.Ticks.{passesOf}
-use Rattle.ticks.specs.Asked.{NearPass, TickBetween}
 use Rattle.ticks.proofs.Puts.{Placing, placing-starts, placing-goes, placing-ends}
 use Rattle.ticks.proofs.Neighbours.{near, still-near, holds, millis-is}
 use Rattle.ticks.proofs.place_all.Statement.{statement}
@@ -26,24 +25,32 @@ loop-holds c =
 number-at-requires : tie.Need-number-at-requires Inv-loop μ-loop
 number-at-requires c κs = omega (arith, c .loop-test .taken, c .before .before .before .before .before .before .pre .0 .there)
 
+-- the tick that is read, between the first pass and the last
+low : (c : tie.After-number-at Inv-loop μ-loop) → let s =
+    c .before .before .before .before .before .before .before in numberAt (s .args .passes .now) 0 ≤ c .number-at .result
+low c =
+    let s = c .before .before .before .before .before .before .before in
+    omega (arith, c .number-at .ensures, s .pre .0 .low (c .before .before .loop .i) (c .before .loop-test .taken))
+
+high : (c : tie.After-number-at Inv-loop μ-loop) → let s =
+    c .before .before .before .before .before .before .before in c .number-at .result ≤ numberAt (s .args .passes .now) (s .args .k + 1)
+high c =
+    let s = c .before .before .before .before .before .before .before in
+    omega (arith, c .number-at .ensures, s .pre .0 .high (c .before .before .loop .i) (c .before .loop-test .taken))
+
 neighbour-requires : tie.Need-neighbour-requires Inv-loop μ-loop
 neighbour-requires c κs =
     let l = c .before .before in
     let s = c .before .before .before .before .before .before .before in
     let a = s .args in
-    subst (λ (t : ℕ). NearPass (a .passes .now) (a .k) (l .loop .j) t) (sym (c .number-at .ensures))
-    (near (a .passes .now) (a .millis .now) (a .k) (a .n) (a .ticks .now) (s .pre .0) (l .loop .i) (c .before .loop-test .taken) (l .loop .j)
-    (l .loop .inv .1 .near))
+    near (a .passes .now) (a .millis .now) (a .k) (s .pre .0 .passes) (c .number-at .result) (low c) (high c) (l .loop .j) (l .loop .inv .1 .near)
 
 millis-between-requires : tie.Need-millis-between-requires Inv-loop μ-loop
 millis-between-requires c κs =
-    let l = c .before .before .before in
-    let s = c .before .before .before .before .before .before .before .before in
-    let a = s .args in
     let q = c .before in
-    subst (λ (t : ℕ). TickBetween (a .passes .now) (a .millis .now) (c .neighbour .result) t) (sym (q .number-at .ensures))
-    (holds (a .passes .now) (a .millis .now) (a .k) (a .n) (a .ticks .now) (s .pre .0) (l .loop .i) (c .before .before .loop-test .taken)
-    (c .neighbour .result) (c .neighbour .ensures ∙ ap (λ (t : ℕ). lastNotAfter (numberAt (a .passes .now)) t (a .k)) (q .number-at .ensures)))
+    let s = q .before .before .before .before .before .before .before in
+    let a = s .args in
+    holds (a .passes .now) (a .millis .now) (a .k) (s .pre .0 .passes) (q .number-at .result) (low q) (high q) (c .neighbour .result) (c .neighbour .ensures)
 
 mul-put-number : tie.Need-mul-put-number Inv-loop μ-loop
 mul-put-number c =
@@ -90,16 +97,16 @@ loop-again c =
     let s = l .before .before .before .before .before in
     let a = s .args in
     let h = t .before .loop-test .taken in
+    let m = t .number-at .result in
     let j = c .before .before .before .before .before .neighbour .result in
-    let e = c .before .before .before .before .before .neighbour .ensures
-    ∙ ap (λ (x : ℕ). lastNotAfter (numberAt (a .passes .now)) x (a .k)) (t .number-at .ensures) in (
+    let e = c .before .before .before .before .before .neighbour .ensures in (
       omega (arith, h),
       placing-goes (λ x. millisAt (passesOf (a .passes .now) (a .millis .now)) (numberAt (a .ticks .now) x)) (a .k) (a .out .now) (l .loop .out) _
           (l .loop .i) (l .loop .j) j (c .before .before .before .before .millis-between .result) (a .n) (l .loop .inv .1) h (s .pre .1)
-          (still-near (a .passes .now) (a .millis .now) (a .k) (a .n) (a .ticks .now) (s .pre .0) (l .loop .i) h j e)
+          (still-near (a .passes .now) (a .millis .now) (a .k) (s .pre .0 .passes) m (low t) (high t) j e)
           (c .before .before .before .before .millis-between .ensures
-          ∙ ap (millisBetween (passesOf (a .passes .now) (a .millis .now)) j) (t .number-at .ensures)
-          ∙ millis-is (a .passes .now) (a .millis .now) (a .k) (a .n) (a .ticks .now) (s .pre .0) (l .loop .i) h j e)
+          ∙ millis-is (a .passes .now) (a .millis .now) (a .k) (s .pre .0 .passes) m (low t) (high t) j e
+          ∙ ap (millisAt (passesOf (a .passes .now) (a .millis .now))) (t .number-at .ensures))
           (c .before .before .put-number .ensures),
     )
 

@@ -33,6 +33,10 @@ bothRising ps ms = allRising (numbersIn ps) (numberAt ps) && allRising (numbersI
 unfoldable pub allInside : List ℕ → List ℕ → Bool
 allInside ps ts = inside (numberAt ps 0) (numberAt ps (numbersIn ps - 1)) (numbersIn ts) (numberAt ts)
 
+-- the number of the refusal for the passes alone, or 0
+unfoldable pub passesRefusal : List ℕ → List ℕ → ℕ
+passesRefusal ps ms = cond (usable ps ms) (cond (bothRising ps ms) 0 24) 23
+
 -- the number of the refusal for these passes and ticks and so many bytes of room, or 0
 unfoldable pub refusedBy : List ℕ → List ℕ → List ℕ → ℕ → ℕ
 refusedBy ps ms ts room =

@@ -1,133 +1,79 @@
 -- `ticks::judging::refused_by` meets its contract. Assumes nothing.
+use Prim.Native.Nat.{_≤_}
 use native.Mathlib.Omega.{arith}
-use mathlib.Core.Path.{sym, _∙_}
-use mathlib.Core.Bool.{true, false}
+use mathlib.Core.Path.{_≡_, sym, _∙_}
+use mathlib.Core.Bool.{true, false, _&&_}
 use borrow.Author.Tests.{not-true, not-false}
-use Rattle.ticks.proofs.judging.Ladder.{Wholes, broken-passes, broken-millis, broken-ticks, no-room, miscounted, counted-is, by-passes}
-use Rattle.ticks.proofs.judging.Ladder.{passes-right, by-ticks, inside-is}
+use Rattle.ticks.specs.judging.Refusing.{numbersIn, wholeNumbers, passesRefusal}
+use Rattle.ticks.proofs.judging.Ladder.{not-whole, no-room, by-passes, by-ticks, passes-right, usable-is, inside-is}
 use borrow.Author.Needs.{needs}
 use Rattle.ticks.proofs.judging.refused_by.Statement.{statement}
 use Rattle.ticks.proofs.judging.refused_by.Tie as tie
 
 returns : tie.Need-returns
 returns c =
-    let a = c .before .before .before .before .args in
-    broken-passes (a .passes .now) (a .millis .now) (a .ticks .now) (a .room) (c .if1 .taken)
+    let a = c .before .before .before .before .before .args in
+    not-whole (a .passes .now) (a .millis .now) (a .ticks .now) (a .room) (sym (c .before .whole-lists .ensures) ∙ not-true _ (c .if1 .taken))
+
+-- what the test of the lengths has shown
+wholes : (c : tie.Else1) → let a =
+    c .before .before .before .before .before .args in wholeNumbers (a .passes .now) && (wholeNumbers (a .millis .now) && wholeNumbers (a .ticks .now)) ≡ true
+wholes c = sym (c .before .whole-lists .ensures) ∙ not-false _ (c .if1 .left)
 
 returns-2 : tie.Need-returns-2
 returns-2 c =
-    let a = c .before .before .before .before .before .args in
-    broken-millis (a .passes .now) (a .millis .now) (a .ticks .now) (a .room) (c .before .if1 .left) (c .if2 .taken)
+    let a = c .before .before .before .before .before .before .args in
+    no-room (a .passes .now) (a .millis .now) (a .ticks .now) (a .room) (wholes (c .before)) (c .if2 .taken)
 
 returns-3 : tie.Need-returns-3
 returns-3 c =
-    let a = c .before .before .before .before .before .before .args in
-    broken-ticks (a .passes .now) (a .millis .now) (a .ticks .now) (a .room) (c .before .before .if1 .left) (c .before .if2 .left) (c .if3 .taken)
+    let q = c .before in
+    let a = q .before .before .before .before .before .before .before .args in
+    q .passes-refused-by .ensures
+    ∙ by-passes (a .passes .now) (a .millis .now) (a .ticks .now) (a .room) (wholes (q .before .before)) (q .before .if2 .left)
+    (λ z. c .if3 .taken (q .passes-refused-by .ensures ∙ z))
+
+-- what the judging of the passes has shown
+right : (c : tie.Else3) → let a =
+    c .before .before .before .before .before .before .before .before .args in passesRefusal (a .passes .now) (a .millis .now) ≡ 0
+right c = sym (c .before .passes-refused-by .ensures) ∙ c .if3 .left
+
+two : (c : tie.Else3) → let a = c .before .before .before .before .before .before .before .before .args in 2 ≤ numbersIn (a .passes .now)
+two c =
+    let a = c .before .before .before .before .before .before .before .before .args in
+    usable-is (a .passes .now) (a .millis .now) (passes-right (a .passes .now) (a .millis .now) (right c) .0) .counted .two
+
+number-at-requires : tie.Need-number-at-requires
+number-at-requires c κs = omega (arith, two c)
+
+sub-number-at : tie.Need-sub-number-at
+sub-number-at c = omega (arith, two (c .before))
+
+number-at-requires-2 : tie.Need-number-at-requires-2
+number-at-requires-2 c κs = omega (arith, two (c .before))
 
 returns-4 : tie.Need-returns-4
 returns-4 c =
-    let a = c .before .before .before .before .before .before .before .args in
-    no-room (a .passes .now) (a .millis .now) (a .ticks .now) (a .room)
-    (record { passes = c .before .before .before .if1 .left; millis = c .before .before .if2 .left; ticks = c .before .if3 .left }) (c .if4 .taken)
-
--- what the tests of the lengths have shown where the passes are counted
-wholes : (c : tie.After-well-counted) → let a =
-    c .before .before .before .before .before .before .before .before .args in Wholes (a .passes .now) (a .millis .now) (a .ticks .now)
-wholes c = record { passes = c .before .before .before .before .if1 .left; millis = c .before .before .before .if2 .left; ticks = c .before .before .if3 .left }
+    let n = c .before .before .before in
+    let q = n .before in
+    let e = q .before .before in
+    let a = e .before .before .before .before .before .before .args in
+    by-ticks (a .passes .now) (a .millis .now) (a .ticks .now) (a .room) (wholes (e .before)) (e .if2 .left) false (right q)
+    (inside-is (a .passes .now) (a .ticks .now) _ _ false (n .number-at .ensures) (c .before .before .number-at2 .ensures)
+    (sym (not-true _ (c .if4 .taken)) ∙ c .before .all-inside .ensures))
 
 returns-5 : tie.Need-returns-5
 returns-5 c =
-    let a = c .before .before .before .before .before .before .before .before .before .args in
-    miscounted (a .passes .now) (a .millis .now) (a .ticks .now) (a .room) (wholes (c .before)) (c .before .before .if4 .left)
-    (sym (c .before .well-counted .ensures) ∙ not-true _ (c .if5 .taken))
-
-judged-requires : tie.Need-judged-requires
-judged-requires c κs =
-    let a = c .before .before .before .before .before .before .before .before .before .args in
-    let u = counted-is (a .passes .now) (a .millis .now) (sym (c .before .well-counted .ensures) ∙ not-false _ (c .if5 .left)) in
-    (omega (arith, u .two), u .most, omega arith, omega (arith, u .equal))
-
-returns-6 : tie.Need-returns-6
-returns-6 c =
-    let at-well-counted = c .before .before .before in
-    let at-if4 = at-well-counted .before in
-    let start = at-if4 .before .before .before .before .before .before .before in
-    let a = start .args in
-    by-passes (a .passes .now) (a .millis .now) (a .ticks .now) (a .room) (wholes (at-well-counted)) (at-if4 .if4 .left)
-    (sym (at-well-counted .well-counted .ensures) ∙ not-false _ (c .before .before .if5 .left)) (c .before .judged .result)
-    (c .before .judged .ensures) (c .if6 .taken)
-
-number-at-requires : tie.Need-number-at-requires
-number-at-requires c κs =
-    let at-well-counted = c .before .before .before in
-    let start = at-well-counted .before .before .before .before .before .before .before .before in
-    let a = start .args in
-    let u = counted-is (a .passes .now) (a .millis .now)
-    (sym (at-well-counted .well-counted .ensures) ∙ not-false _ (c .before .before .if5 .left)) in
-    omega (arith, u .two)
-
-sub-number-at : tie.Need-sub-number-at
-sub-number-at c =
-    let at-if5 = c .before .before .before in
-    let at-well-counted = at-if5 .before in
-    let start = at-well-counted .before .before .before .before .before .before .before .before in
-    let a = start .args in
-    let u = counted-is (a .passes .now) (a .millis .now)
-    (sym (at-well-counted .well-counted .ensures) ∙ not-false _ (at-if5 .if5 .left)) in
-    omega (arith, u .two)
-
-number-at-requires-2 : tie.Need-number-at-requires-2
-number-at-requires-2 c κs =
-    let at-if5 = c .before .before .before in
-    let at-well-counted = at-if5 .before in
-    let start = at-well-counted .before .before .before .before .before .before .before .before in
-    let a = start .args in
-    let u = counted-is (a .passes .now) (a .millis .now)
-    (sym (at-well-counted .well-counted .ensures) ∙ not-false _ (at-if5 .if5 .left)) in
-    omega (arith, u .two)
-
-returns-7 : tie.Need-returns-7
-returns-7 c =
-    let at-number-at = c .before .before .before in
-    let at-if6 = at-number-at .before in
-    let at-judged = at-if6 .before in
-    let at-if5 = at-judged .before in
-    let at-well-counted = at-if5 .before in
-    let at-if4 = at-well-counted .before in
-    let start = at-if4 .before .before .before .before .before .before .before in
-    let a = start .args in
-    let u = passes-right (a .passes .now) (a .millis .now) (a .ticks .now) (a .room) (wholes (at-well-counted))
-    (at-if4 .if4 .left)
-    (sym (at-well-counted .well-counted .ensures)
-    ∙ not-false _ (at-if5 .if5 .left)) (at-judged .judged .result)
-    (at-judged .judged .ensures) (at-if6 .if6 .left) in
-    by-ticks (a .passes .now) (a .millis .now) (a .ticks .now) (a .room) (wholes (at-well-counted))
-    (at-if4 .if4 .left) (u .0) false (u .1)
-    (inside-is (a .passes .now) (a .ticks .now) _ _ false (at-number-at .number-at .ensures) (c .before .before .number-at2 .ensures)
-    (sym (not-true _ (c .if7 .taken)) ∙ c .before .all-inside .ensures))
-
-returns-8 : tie.Need-returns-8
-returns-8 c =
-    let at-number-at = c .before .before .before in
-    let at-if6 = at-number-at .before in
-    let at-judged = at-if6 .before in
-    let at-if5 = at-judged .before in
-    let at-well-counted = at-if5 .before in
-    let at-if4 = at-well-counted .before in
-    let start = at-if4 .before .before .before .before .before .before .before in
-    let a = start .args in
-    let u = passes-right (a .passes .now) (a .millis .now) (a .ticks .now) (a .room) (wholes (at-well-counted))
-    (at-if4 .if4 .left)
-    (sym (at-well-counted .well-counted .ensures)
-    ∙ not-false _ (at-if5 .if5 .left)) (at-judged .judged .result)
-    (at-judged .judged .ensures) (at-if6 .if6 .left) in
-    by-ticks (a .passes .now) (a .millis .now) (a .ticks .now) (a .room) (wholes (at-well-counted))
-    (at-if4 .if4 .left) (u .0) true (u .1)
-    (inside-is (a .passes .now) (a .ticks .now) _ _ true (at-number-at .number-at .ensures) (c .before .before .number-at2 .ensures)
-    (sym (not-false _ (c .if7 .left)) ∙ c .before .all-inside .ensures))
+    let n = c .before .before .before in
+    let q = n .before in
+    let e = q .before .before in
+    let a = e .before .before .before .before .before .before .args in
+    by-ticks (a .passes .now) (a .millis .now) (a .ticks .now) (a .room) (wholes (e .before)) (e .if2 .left) true (right q)
+    (inside-is (a .passes .now) (a .ticks .now) _ _ true (n .number-at .ensures) (c .before .before .number-at2 .ensures)
+    (sym (not-false _ (c .if4 .left)) ∙ c .before .all-inside .ensures))
 
 pub refused-by-spec : {M : Type 1} → statement M
 refused-by-spec =
     tie.close
-    (tie.spec returns returns-2 returns-3 returns-4 (λ c κs. search needs) returns-5 judged-requires returns-6 number-at-requires sub-number-at
-    number-at-requires-2 (λ c κs. search needs) returns-7 returns-8)
+    (tie.spec (λ c κs. search needs) returns returns-2 (λ c κs. search needs) returns-3 number-at-requires sub-number-at number-at-requires-2
+    (λ c κs. search needs) returns-4 returns-5)
