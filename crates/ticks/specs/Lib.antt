@@ -5,4 +5,5 @@ pub mod Passes
 pub mod Ticks
 pub mod Asked
 pub mod judging
+pub mod places
 pub mod laws

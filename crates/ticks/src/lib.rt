@@ -13,6 +13,7 @@ ghost use Rattle.ticks.specs.Asked.{Sought, FoundPass, NearPass, TickBet
 use crate::judging::number_at;
 
 pub mod judging;
+pub mod places;
 
 // The number of bytes written, or the number of the refusal.
 pub enum TicksAnswer {
