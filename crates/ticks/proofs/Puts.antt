@@ -10,7 +10,7 @@ use Rattle.numerals.specs.little_endian.LittleEndian.{eightBytes}
 use Rattle.ticks.specs.Ticks.{bytesOf}
 
 module _ (out : List ℕ) (at n : ℕ) (h : at + 8 ≤ length out) where
-  put : sets out at (eightBytes n) ≡ (take at out ++ eightBytes n) ++ drop (at + 8) out
+  pub put : sets out at (eightBytes n) ≡ (take at out ++ eightBytes n) ++ drop (at + 8) out
   put = sets-eq (eightBytes n) out at h
 
   put-length : length (take at out ++ eightBytes n) ≡ at + 8
@@ -19,7 +19,7 @@ module _ (out : List ℕ) (at n : ℕ) (h : at + 8 ≤ length out) where
   put-take : take (at + 8) (sets out at (eightBytes n)) ≡ take at out ++ eightBytes n
   put-take = ap (take (at + 8)) put ∙ take-at (take at out ++ eightBytes n) (drop (at + 8) out) (at + 8) put-length
 
-  put-drop : drop (at + 8) (sets out at (eightBytes n)) ≡ drop (at + 8) out
+  pub put-drop : drop (at + 8) (sets out at (eightBytes n)) ≡ drop (at + 8) out
   put-drop = ap (drop (at + 8)) put ∙ drop-at (take at out ++ eightBytes n) (drop (at + 8) out) (at + 8) put-length
 
 later : (out out₀ : List ℕ) (at : ℕ) → drop at out ≡ drop at out₀ → drop (at + 8) out ≡ drop (at + 8) out₀

@@ -2,3 +2,4 @@
 pub mod Sound
 pub mod Reasons
 pub mod Writer
+pub mod Readings

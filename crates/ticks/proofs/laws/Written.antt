@@ -21,6 +21,7 @@ use Rattle.ticks.specs.laws.Sound.{Sound, Inside}
 use Rattle.ticks.specs.laws.Reasons.{WholeLists, HasPlaces, UsablePasses, RisingPasses, TicksInside, TicksMeaning}
 use Rattle.ticks.specs.laws.Writer.{listedPasses, ListedGood, ListedTicks, countUp}
 use Rattle.ticks.proofs.laws.Laws.{is-on-line}
+use Rattle.ticks.proofs.laws.Tests.{sound-by}
 use Rattle.ticks.proofs.laws.Call.{call-means}
 
 as-many : (ns : List ℕ) → numbersIn (allBytes eightBytes ns) ≡ length ns
@@ -51,18 +52,8 @@ module _ (ps ms ts before after : List ℕ) (r : TicksAnswer) (pass-bits : Numbe
   all-written : r ≡ Written (8 * length ts) → r ≡ Written (length tb)
   all-written e = e ∙ ap Written (sym (eight-each ts))
 
-  sound-by : UsablePasses pb mb → RisingPasses pb mb → Sound (passesOf pb mb)
-  sound-by u s = record {
-    two = u .two;
-    most = u .most;
-    ticks-rise = s .ticks-rise;
-    millis-rise = s .millis-rise;
-    ticks-small = u .ticks-small;
-    millis-small = u .millis-small;
-  }
-
   sound-bytes : r ≡ Written (8 * length ts) → Sound (passesOf pb mb)
-  sound-bytes e = let g = means .decided .is-answer .0 (all-written e) in sound-by (g .2) (g .3)
+  sound-bytes e = let g = means .decided .is-answer .0 (all-written e) in sound-by pb mb (g .2) (g .3)
 
   inside-bytes : r ≡ Written (8 * length ts) → TicksInside pb mb tb
   inside-bytes e = means .decided .is-answer .0 (all-written e) .4
