@@ -15,6 +15,7 @@ use Rattle.leap_table.proofs.rows.TableLaws.{table-decided}
 use Rattle.leap_table.proofs.offsets.RuleLaws.{drifting-last-begun, whole-last-begun}
 use Rattle.leap_table.proofs.offsets.Rules.{offset-forgets}
 use Rattle.leap_table.proofs.walk.Counts.{most-by-any}
+use Rattle.leap_table.proofs.walk.LookUp.{offset-of-look-up}
 use Rattle.leap_table.proofs.walk.Due.{bytes-decided}
 use Rattle.leap_days.proofs.TableLeaps.{table-leap-on}
 use Rattle.scales.proofs.gps_weeks.FullWeeks.{nearest-if, tie-exactly}
@@ -26,6 +27,7 @@ use Rattle.utc.specs.iso_texts.IsoText.{standardForm}
 use Rattle.utc.proofs.iso_texts.TextRules.{text-forgets}
 use Rattle.utc.proofs.laws.HalfEvenTexts.{even-for-every-buffer, even-refused}
 use Rattle.utc.proofs.laws.ExpandedTexts.{expanded-for-every-buffer, beside, expanded-text-length}
+use Rattle.parsing.proofs.Seconds.{one-division}
 use Rattle.parsing_laws.proofs.Grammar as Grammar
 use Rattle.parsing_laws.proofs.Ladder.{verdict}
 use Rattle.parsing_laws.proofs.UtcLadder.{utc-verdict}
@@ -66,11 +68,12 @@ module _ (t : AnnouncedRows) (rows : List Row) (e : tableOf t ≡ answer rows) w
     one-reading = Grammar.one-reading;
     read = verdict;
     read-utc = utc-verdict rows;
+    divided-once = one-division;
     reads-back = λ d held s shown. iso-text-reads-back t rows e d (held .0) (held .1) s shown;
   }
 
   pub request-2 : R.Request2 rows
-  request-2 = record { decided = bytes-decided rows; rows-compared = most-by-any t rows e }
+  request-2 = record { decided = bytes-decided rows; single-look-up = offset-of-look-up rows; rows-compared = most-by-any t rows e }
 
   pub request-4 : R.Request4 rows
   request-4 = record { text = even-for-every-buffer t rows e; refusals = even-refused rows }

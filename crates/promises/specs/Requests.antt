@@ -9,6 +9,8 @@ use lib.IntN.{ℤ, pos, negsuc}
 use lib.Signed.{ltZ}
 use lib.Ieee.{Float}
 use Rattle.refusals.specs.Outcome.{answer, refusal}
+use Rattle.floats.specs.Whole.{nought}
+use Rattle.constants.specs.Constants.{decimal}
 use Rattle.calendar.specs.Gregorian.{gregorianDate}
 use Rattle.calendar.specs.laws.RustDate.{rustDate}
 use Rattle.julian.specs.declared.JulianDate.{JulianDate}
@@ -30,7 +32,9 @@ use Rattle.leap_table.specs.rows.Announced.{tableOf, Decision}
 use Rattle.leap_table.specs.offsets.Offset.{taiUtcOffset}
 use Rattle.leap_table.specs.offsets.Leap.{leapAtEndOfDay}
 use Rattle.leap_table.specs.offsets.Rule.{ruleOf, offsetByRule, forget}
+use Rattle.leap_table.specs.judging.Judging.{validTriple}
 use Rattle.leap_table.specs.judging.Lists.{datesFrom, tripleIn}
+use Rattle.leap_table.specs.walk.Walk.{tripleOffset}
 use Rattle.leap_table.specs.walk.Rows.{compared}
 use Rattle.leap_table.specs.walk.Lists.{walkOfBytes}
 use Rattle.leap_table.specs.walk.Due.{WalkDecision}
@@ -53,6 +57,7 @@ use Rattle.utc.specs.laws.Promises.{evenPromise, expandedPromise}
 use Rattle.utc.specs.laws.OneText.{OneText}
 use Rattle.utc.specs.laws.Beside.{Beside}
 use Rattle.parsing.specs.scan.Written.{Written}
+use Rattle.parsing.specs.Judging.{quotient}
 use Rattle.parsing.specs.Grammar.{Reads}
 use Rattle.parsing.specs.Parsed.{parsed, parsedUtc}
 use Rattle.parsing_laws.specs.Verdict.{Verdict}
@@ -82,6 +87,8 @@ pub record Request1 (rows : List Row) : Type 0 where
   -- "The answer is the six fields; a UTC text must name what utc_from_calendar accepts and gives its date too"; 15, then 16, then 01's numbers
   pub read : (utc : Bool) (s : List ℕ) → Verdict utc s (parsed utc s)
   pub read-utc : (s : List ℕ) → UtcVerdict rows s (parsedUtc rows s)
+  -- "so it is one whole number divided once by a power of ten": the float nearest to the decimal
+  pub divided-once : (n places : ℕ) → n ≤ 1000000000000000 → places ≤ 13 → quotient n places ≡ decimal n places
   -- "Every UTC text that we write and whose shown year is 1972 to 9999 reads back as its fields."
   pub reads-back : (d : JulianDate) → Held d → (s : List ℕ) → YearShown s → isoText rows d ≡ answer s → ReadsBack rows s
 
@@ -89,6 +96,8 @@ pub record Request2 (rows : List Row) : Type 0 where
   -- "Give the offsets at 0h for a slice": which dates are refused by which number, and the offset of each is that of the look-up
   pub decided : (s : List ℕ) (d : Triple) (room : ℕ)
       → WalkDecision rows (length s % 12) (datesFrom (tripleIn s) 0 (length s / 12)) d 8 room (walkOfBytes rows s room)
+  -- "Each offset is that of 01's single lookup."
+  pub single-look-up : (d : Triple) → validTriple d ≡ answer tt → taiUtcOffset rows (d .year) (d .month) (d .day) nought ≡ answer (tripleOffset rows d)
   -- "at most the dates plus 42", and 58 with announced rows
   pub rows-compared : (months : List ℕ) → compared (starts rows) months ≤ length months + mostRows
 
