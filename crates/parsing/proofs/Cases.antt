@@ -78,7 +78,7 @@ missing-fields = refl
 
 pub other-bytes : map (parsed true) others ≡ replicate 22 (refusal 15)
 unfolding others parsed onward formOf rightForm endRight afterFraction fractionDigits leading timeRight isSeparator dateRight twoDigits afterBlanks isBlank
-    isDigit
+    isDigit says digitSays judged timeFits validDate daysInMonth lengths leapSize
 other-bytes = refl
 
 -- a Z is read in UTC alone, and right behind the second
