@@ -10,3 +10,5 @@ pub mod Cases
 pub mod Written
 pub mod Blocks
 pub mod Readings
+pub mod ListedReadings
+pub mod PlacesCases

@@ -3,3 +3,4 @@ pub mod Sound
 pub mod Reasons
 pub mod Writer
 pub mod Readings
+pub mod ListedReadings

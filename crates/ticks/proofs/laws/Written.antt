@@ -24,11 +24,11 @@ use Rattle.ticks.proofs.laws.Laws.{is-on-line}
 use Rattle.ticks.proofs.laws.Tests.{sound-by}
 use Rattle.ticks.proofs.laws.Call.{call-means}
 
-as-many : (ns : List ℕ) → numbersIn (allBytes eightBytes ns) ≡ length ns
+pub as-many : (ns : List ℕ) → numbersIn (allBytes eightBytes ns) ≡ length ns
 as-many ns = omega (arith, eight-each ns)
 
 -- THE PASSES of two lists
-passes-are : (ps ms : List ℕ) → Numbers64 ps → Numbers64 ms → passesOf (allBytes eightBytes ps) (allBytes eightBytes ms) ≡ listedPasses ps ms
+pub passes-are : (ps ms : List ℕ) → Numbers64 ps → Numbers64 ms → passesOf (allBytes eightBytes ps) (allBytes eightBytes ms) ≡ listedPasses ps ms
 passes-are ps ms a b j = record { size = as-many ps j; tick = λ (i : ℕ). number-back ps a i j; milli = λ (i : ℕ). number-back ms b i j }
 
 -- ---- THE CALL over lists of numbers
