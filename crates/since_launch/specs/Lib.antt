@@ -1,0 +1,4 @@
+-- What the contracts of `since_launch` cite, in the order to read it.
+pub mod Millis
+pub mod Run
+pub mod Asked
