@@ -4,3 +4,4 @@ pub mod Units
 pub mod Places
 pub mod Puts
 pub mod Calls
+pub mod laws

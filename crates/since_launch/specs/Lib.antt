@@ -2,3 +2,5 @@
 pub mod Millis
 pub mod Run
 pub mod Asked
+-- The words of the theorems: no contract cites them.
+pub mod laws

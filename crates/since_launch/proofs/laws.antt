@@ -1,0 +1,10 @@
+-- What the milliseconds mean. Decided: a count is the nearest, and 18 exactly outside the range. OnGrid: the theorems on the grid.
+pub mod Decided
+pub mod OnGrid
+-- Anywhere: how near they are off the grid. Refusing: which number is given exactly when.
+pub mod Anywhere
+pub mod Refusing
+-- RunBytes: which bytes of a run are whose. Runs: the theorems on a run. Cases: worked by computation.
+pub mod RunBytes
+pub mod Runs
+-- pub mod Cases
