@@ -5,6 +5,10 @@ pub mod OnGrid
 pub mod Anywhere
 pub mod Refusing
 -- RunBytes: which bytes of a run are whose. Runs: the theorems on a run. Cases: worked by computation.
+-- OwnCounts: dates near a whole millisecond. Weeks, WeeksTai: those of a GPS week and millisecond, and in TAI.
+pub mod OwnCounts
+pub mod Weeks
+pub mod WeeksTai
 pub mod RunBytes
 pub mod Runs
--- pub mod Cases
+pub mod Cases

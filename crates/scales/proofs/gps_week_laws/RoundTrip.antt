@@ -32,24 +32,24 @@ use Rattle.scales.proofs.gps_weeks.Parts.{midnight-val}
 use Rattle.scales.proofs.gps_week_laws.NearDates as N
 
 -- half a place of a float below 1, in units, twice
-g : ℕ
+pub g : ℕ
 g = 2 ^ 1021
 
-L-g : L ≡ 2 ^ 53 * g
+pub L-g : L ≡ 2 ^ 53 * g
 unfolding L g
 L-g = refl
 
-g-le : g ≤ L
+pub g-le : g ≤ L
 g-le = omega (arith, L-g)
 
-g-small : 1000 * (86400000 * g) ≤ L
+pub g-small : 1000 * (86400000 * g) ≤ L
 g-small = omega (arith, L-g)
 
 top : 2 ^ (53 + 1021) ≡ L
 unfolding L
 top = refl
 
-under52 : {x : Float} {p n : ℕ} → T (fits binary64 x) → Val x p n L → p ≤ n + 4503599627370495 * L → n ≤ p + 4503599627370495 * L → Under52 x
+pub under52 : {x : Float} {p n : ℕ} → T (fits binary64 x) → Val x p n L → p ≤ n + 4503599627370495 * L → n ≤ p + 4503599627370495 * L → Under52 x
 under52 {x} {p} {n} f v u l = record {
   held = f;
   small =
@@ -92,47 +92,47 @@ module _ (r : ℕ) (short : r < 86400000) where
 
 -- ---- both, for the day n
 module _ (n r : ℕ) (early : 2444245 ≤ n) (late : n ≤ 3144252) (short : r < 86400000) where
-  abbrev d : JulianDate
+  abbrev pub d : JulianDate
   d = julian (weekMidnight n) (partOfDay r)
 
-  q : ℕ
+  pub q : ℕ
   q = part-near r short .p
 
-  m : ℕ
+  pub m : ℕ
   m = part-near r short .n
 
   X : n * L ≡ 2 * n * H
   X = ap (λ (x : ℕ). n * x) H-L ∙ mul-left-comm n 2 H ∙ sym (mul-assoc 2 n H)
 
-  first : Val (weekMidnight n) (n * L) H L
+  pub first : Val (weekMidnight n) (n * L) H L
   first = subst (λ (x : ℕ). Val (weekMidnight n) (n * L) H x) (sym H-L) (val-move (val-scale H (midnight-val n (omega arith) (omega arith))) (omega (arith, X)))
 
-  second : Val (partOfDay r) q m L
+  pub second : Val (partOfDay r) q m L
   unfolding q m
   second = part-near r short .val
 
-  low : 2444245 * L ≤ n * L
+  pub low : 2444245 * L ≤ n * L
   low = mul-le-mul-right L early
 
-  high : n * L ≤ 3144252 * L
+  pub high : n * L ≤ 3144252 * L
   high = mul-le-mul-right L late
 
-  q-high : q ≤ m + L + g
+  pub q-high : q ≤ m + L + g
   unfolding q m
   q-high = part-high r short
 
-  q-low : m ≤ q + g
+  pub q-low : m ≤ q + g
   unfolding q m
   q-low = part-low r short
 
-  small : SmallParts d
+  pub small : SmallParts d
   unfolding weekMidnight partOfDay
   small = record {
     first = under52 (round-fits binary64 false (2 * n - 1) 2) first (omega (arith, high, H-L)) (omega (arith, low, H-L));
     second = under52 (round-fits binary64 false r 86400000) second (omega (arith, q-high, g-le)) (omega (arith, q-low, g-le));
   }
 
-  worth : Worth d (n * L + q) (H + m) L
+  pub worth : Worth d (n * L + q) (H + m) L
   worth = record { p = n * L; n = H; q = q; m = m; first = first; second = second; total = refl }
 
   pub number : DayNumber
@@ -152,11 +152,11 @@ module _ (n r : ℕ) (early : 2444245 ≤ n) (late : n ≤ 3144252) (short : r <
   spread : (k x : ℕ) → (86400000 * k + x) * L ≡ 86400000 * (k * L) + x * L
   spread k x = add-mul (86400000 * k) x L ∙ ap (λ (y : ℕ). y + x * L) (mul-assoc 86400000 k L)
 
-  q-over : 2000 * (86400000 * q) ≤ 2000 * (86400000 * m) + 2000 * (r * L) + L
+  pub q-over : 2000 * (86400000 * q) ≤ 2000 * (86400000 * m) + 2000 * (r * L) + L
   unfolding q m
   q-over = omega (arith, p-over r short, g-small)
 
-  q-under : 2000 * (86400000 * m) + 2000 * (r * L) ≤ 2000 * (86400000 * q) + L
+  pub q-under : 2000 * (86400000 * m) + 2000 * (r * L) ≤ 2000 * (86400000 * q) + L
   unfolding q m
   q-under = omega (arith, p-under r short, g-small)
 

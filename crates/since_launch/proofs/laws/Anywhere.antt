@@ -111,48 +111,40 @@ answered-by from to r e = go (finiteParts from && finiteParts to) (dayNumberAndF
     go true (answer n) (refusal k) f g h = let z : _≡_ {A = ℕ} 0 1 = cc in absurd (omega arith)
     go true (answer n) (answer n') f g h = record { n = n; n' = n'; given = f; given' = g; count = h }
 
--- (b) within 0.5 ms and 96 ps
-pub anywhere-near : (from to : JulianDate) (P N P' N' : ℕ) → SmallParts from → SmallParts to → Worth from P N L → Worth to P' N' L → (r : ℕ)
-    → millisBetween from to ≡ answer r → NearMillis P N P' N' r
-anywhere-near from to P N P' N' s s' w w' r e =
-    let g = answered-by from to r e in
-    let p = unitsOf (placeOf (g .n)) in
-    let q = unitsOf (placeOf (g .n')) in
-    let a = place-near from P N s w (g .n) (g .given) in
-    let b = place-near to P' N' s' w' (g .n') (g .given') in
-    let n = answered-nearest (count-decided p q) (g .count) .0 in
-    let o = scale-over r p q (n .over) in
-    let u = scale-under r p q (n .under) in
+-- ---- times L
+lin : (x y z : ℕ) → (8796093022208 * x + 168750 * y + z) * L ≡ 8796093022208 * (x * L) + 168750 * (y * L) + z * L
+lin x y z =
+    add-mul (8796093022208 * x + 168750 * y) z L
+    ∙ ap (λ (t : ℕ). t + z * L) (add-mul (8796093022208 * x) (168750 * y) L ∙ (λ k. mul-assoc 8796093022208 x L k + mul-assoc 168750 y L k))
+
+pub scale : (x y z x' y' z' : ℕ) → 8796093022208 * x + 168750 * y + z ≤ 8796093022208 * x' + 168750 * y' + z'
+    → 8796093022208 * (x * L) + 168750 * (y * L) + z * L ≤ 8796093022208 * (x' * L) + 168750 * (y' * L) + z' * L
+scale x y z x' y' z' h = omega (arith, lin x y z, lin x' y' z', mul-le-mul-right L h)
+
+-- the places of two dates and the number nearest
+pub near-by-places : (P N P' N' p q r : ℕ) → PlaceNear P N p → PlaceNear P' N' q → Nearest q p r → NearMillis P N P' N' r
+near-by-places P N P' N' p q r a b n =
     record {
-      over = above (r * L) (p * L) (q * L) o (a .under) (b .over);
-      under = below (r * L) (p * L) (q * L) u (a .over) (b .under);
+      over = above (r * L) (p * L) (q * L) (scale r p 0 0 q 4398046511104 (omega (arith, n .over))) (a .under) (b .over);
+      under = below (r * L) (p * L) (q * L) (scale 0 q 0 r p 4398046511104 (omega (arith, n .under))) (a .over) (b .under);
     }
   where
-    lin : (x y z : ℕ) → (8796093022208 * x + 168750 * y + z) * L ≡ 8796093022208 * (x * L) + 168750 * (y * L) + z * L
-    lin x y z =
-        add-mul (8796093022208 * x + 168750 * y) z L
-        ∙ ap (λ (t : ℕ). t + z * L) (add-mul (8796093022208 * x) (168750 * y) L ∙ (λ k. mul-assoc 8796093022208 x L k + mul-assoc 168750 y L k))
-
-    scale-over : (r p q : ℕ) → 2 * r * 2 ^ 42 + 2 * 84375 * p ≤ 2 * 84375 * q + 2 ^ 42
-        → 8796093022208 * (r * L) + 168750 * (p * L) ≤ 168750 * (q * L) + 4398046511104 * L
-    scale-over r p q h =
-        let k : 8796093022208 * r + 168750 * p + 0 ≤ 8796093022208 * 0 + 168750 * q + 4398046511104 = omega arith in
-        omega (arith, lin r p 0, lin 0 q 4398046511104, mul-le-mul-right L k)
-
-    scale-under : (r p q : ℕ) → 2 * 84375 * q < 2 * r * 2 ^ 42 + 2 ^ 42 + 2 * 84375 * p
-        → 168750 * (q * L) ≤ 8796093022208 * (r * L) + 168750 * (p * L) + 4398046511104 * L
-    scale-under r p q h =
-        let k : 8796093022208 * 0 + 168750 * q + 0 ≤ 8796093022208 * r + 168750 * p + 4398046511104 = omega arith in
-        omega (arith, lin 0 q 0, lin r p 4398046511104, mul-le-mul-right L k)
-
-    above : (R p q : ℕ) → 8796093022208 * R + 168750 * p ≤ 168750 * q + 4398046511104 * L
+    above : (R p q : ℕ) → 8796093022208 * R + 168750 * p + 0 * L ≤ 8796093022208 * (0 * L) + 168750 * q + 4398046511104 * L
         → 4503599627370496 * P + (68570 * 4503599627370496 + 2251799813685248) * L ≤ p + 4503599627370496 * N + 3 * L
         → q + 4503599627370496 * N' ≤ 4503599627370496 * P' + (68570 * 4503599627370496 + 2251799813685248) * L + 2 * L
         → 2 ^ 43 * (R + 86400000 * (N' + P)) ≤ 2 ^ 43 * (86400000 * (P' + N)) + (2 ^ 42 + 10 * 84375) * L
     above R p q h a b = omega arith
 
-    below : (R p q : ℕ) → 168750 * q ≤ 8796093022208 * R + 168750 * p + 4398046511104 * L
+    below : (R p q : ℕ) → 8796093022208 * (0 * L) + 168750 * q + 0 * L ≤ 8796093022208 * R + 168750 * p + 4398046511104 * L
         → p + 4503599627370496 * N ≤ 4503599627370496 * P + (68570 * 4503599627370496 + 2251799813685248) * L + 2 * L
         → 4503599627370496 * P' + (68570 * 4503599627370496 + 2251799813685248) * L ≤ q + 4503599627370496 * N' + 3 * L
         → 2 ^ 43 * (86400000 * (P' + N)) ≤ 2 ^ 43 * (R + 86400000 * (N' + P)) + (2 ^ 42 + 10 * 84375) * L
     below R p q h a b = omega arith
+
+-- (b) within 0.5 ms and 96 ps
+pub anywhere-near : (from to : JulianDate) (P N P' N' : ℕ) → SmallParts from → SmallParts to → Worth from P N L → Worth to P' N' L → (r : ℕ)
+    → millisBetween from to ≡ answer r → NearMillis P N P' N' r
+anywhere-near from to P N P' N' s s' w w' r e =
+    let g = answered-by from to r e in
+    near-by-places P N P' N' (unitsOf (placeOf (g .n))) (unitsOf (placeOf (g .n'))) r (place-near from P N s w (g .n) (g .given))
+    (place-near to P' N' s' w' (g .n') (g .given')) (answered-nearest (count-decided (unitsOf (placeOf (g .n))) (unitsOf (placeOf (g .n')))) (g .count) .0)

@@ -96,4 +96,3 @@ never-backwards from to to' a b c r s h e f =
     let n = answered-nearest (on-grid-nearest from to a b) e .0 in
     let m = answered-nearest (on-grid-nearest from to' a c) f .0 in
     omega (arith, n .over, m .under)
-
