@@ -1,0 +1,3 @@
+-- The definitions that the contracts of `line_listing` cite.
+pub mod order
+pub mod laws

@@ -1,0 +1,2 @@
+-- What the theorems of the listing say.
+pub mod Places

@@ -1,0 +1,2 @@
+// The listing of three recorders' stamps in one line, from their dates to its bytes.
+pub mod order;
