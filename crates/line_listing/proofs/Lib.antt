@@ -1,1 +1,2 @@
--- The proofs of `line_listing`.
+-- The proofs of `line_listing`; its theorems stand in line_listing::laws.
+pub mod laws

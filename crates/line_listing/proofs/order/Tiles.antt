@@ -64,30 +64,25 @@ module _ (w : ℕ → ℕ) (ms : List ℕ) (end : ℕ → ℕ) where
       let v : ℕ → ℕ = λ (p : ℕ). w p + weigh w (behind ms (suc p) (end p)) in
       omega (arith, weigh-each (merge lt xs ys), weigh-each xs, weigh-each ys, weigh-merge lt v xs ys)
 
-  module _ (to : ℕ) (tn : to ≤ length ms) where
-    abbrev Tiled : ℕ → ℕ → Type 0
-    Tiled i d = weigh w (behind ms i to) + weigh w (eachBehind ms end (acceptedIn ms i to)) ≡ weigh w (upFrom i d)
+-- its lines are its places one after the other
+module _ (ms : List ℕ) (end : ℕ → ℕ) (to : ℕ) (tn : to ≤ length ms) where
+  abbrev Tiled : ℕ → ℕ → Type 0
+  Tiled i d = behind ms i to ++ eachBehind ms end (acceptedIn ms i to) ≡ upFrom i d
 
-    tile-step : (t : Bool) (i d : ℕ) → end i ≡ to → behind ms i to ≡ cond t [] (i ∷ behind ms (suc i) to)
-        → acceptedIn ms i to ≡ cond t (i ∷ acceptedIn ms (suc i) to) (acceptedIn ms (suc i) to) → Tiled (suc i) d → Tiled i (suc d)
-    unfolding upFrom
-    tile-step true i d e p q r =
-        omega (
-          arith,
-          ap (weigh w) p,
-          ap (λ (l : List ℕ). weigh w (eachBehind ms end l)) q,
-          each-first i (acceptedIn ms (suc i) to),
-          ap (λ (t : ℕ). weigh w (behind ms (suc i) t)) e,
-          r,
-        )
-    tile-step false i d e p q r = omega (arith, ap (weigh w) p, ap (λ (l : List ℕ). weigh w (eachBehind ms end l)) q, r)
+  tile-step : (t : Bool) (i d : ℕ) → end i ≡ to → behind ms i to ≡ cond t [] (i ∷ behind ms (suc i) to)
+      → acceptedIn ms i to ≡ cond t (i ∷ acceptedIn ms (suc i) to) (acceptedIn ms (suc i) to) → Tiled (suc i) d → Tiled i (suc d)
+  unfolding upFrom eachBehind
+  tile-step true i d e p q r =
+      (λ j. p j ++ eachBehind ms end (q j)) ∙ ap (λ (t : ℕ). i ∷ (behind ms (suc i) t ++ eachBehind ms end (acceptedIn ms (suc i) to))) e
+      ∙ ap (λ (l : List ℕ). i ∷ l) r
+  tile-step false i d e p q r = (λ j. p j ++ eachBehind ms end (q j)) ∙ ap (λ (l : List ℕ). i ∷ l) r
 
-    pub tile : (d i : ℕ) → i + d ≡ to → ((x : ℕ) → i ≤ x → x < to → end x ≡ to) → Tiled i d
-    unfolding upFrom eachBehind
-    tile zero i e h = rw (behind-none ms to tn i (omega arith), acceptedIn-none ms to tn i (omega arith))
-    tile (suc d) i e h =
-        tile-step (eqb (getD ms i 0) 0) i d (h i (omega arith) (omega arith)) (behind-cons ms to tn i (omega arith))
-        (acceptedIn-cons ms to tn i (omega arith)) (tile d (suc i) (omega arith) (λ x l u. h x (omega arith) u))
+  pub tile : (d i : ℕ) → i + d ≡ to → ((x : ℕ) → i ≤ x → x < to → end x ≡ to) → Tiled i d
+  unfolding upFrom eachBehind
+  tile zero i e h = rw (behind-none ms to tn i (omega arith), acceptedIn-none ms to tn i (omega arith))
+  tile (suc d) i e h =
+      tile-step (eqb (getD ms i 0) 0) i d (h i (omega arith) (omega arith)) (behind-cons ms to tn i (omega arith))
+      (acceptedIn-cons ms to tn i (omega arith)) (tile d (suc i) (omega arith) (λ x l u. h x (omega arith) u))
 
 -- ---- the ends of three runs
 
@@ -136,7 +131,12 @@ up-times i (suc d) zero =
     (omega (arith, timesIn-below (i + zero) (suc i) (upFrom (suc i) d) (omega arith) (up-from (suc i) d)))
 up-times i (suc d) (suc j) =
     rw (ne-eqb (i + suc j) i (λ e. omega (arith, e)))
-    (omega (arith, ap (λ (k : ℕ). timesIn k (upFrom (suc i) d)) (let z : i + suc j ≡ suc i + j = omega arith in z), up-times (suc i) d j, ap (λ (t : Bool). cond {A = ℕ} t 1 0) (ltb-suc j d)))
+    (omega (
+      arith,
+      ap (λ (k : ℕ). timesIn k (upFrom (suc i) d)) (let z : i + suc j ≡ suc i + j = omega arith in z),
+      up-times (suc i) d j,
+      ap (λ (t : Bool). cond {A = ℕ} t 1 0) (ltb-suc j d),
+    ))
 
 -- ---- THE WHOLE
 
@@ -144,21 +144,34 @@ module _ (lt : ℕ → ℕ → Bool) (ms : List ℕ) (a b : ℕ) (ab : a ≤ b) 
   abbrev all : List ℕ
   all = lineOrder ms a b (ordered lt ms a b (length ms))
 
+  abbrev end : ℕ → ℕ
+  end = runEnd a b (length ms)
+
+  -- each run's lines alone
+  pub tile-1 : behind ms 0 a ++ eachBehind ms end (acceptedIn ms 0 a) ≡ upFrom 0 a
+  tile-1 = tile ms end a (omega (arith, ab, bn)) a 0 (omega arith) (λ x l h. end-1 a b (length ms) ab x h)
+
+  pub tile-2 : behind ms a b ++ eachBehind ms end (acceptedIn ms a b) ≡ upFrom a (b - a)
+  tile-2 = tile ms end b bn (b - a) a (omega (arith, ab)) (λ x l h. end-2 a b (length ms) ab x l h)
+
+  pub tile-3 : behind ms b (length ms) ++ eachBehind ms end (acceptedIn ms b (length ms)) ≡ upFrom b (length ms - b)
+  tile-3 = tile ms end (length ms) (omega arith) (length ms - b) b (omega (arith, bn)) (λ x l h. end-3 a b (length ms) ab x l)
+
+  three-runs : upFrom 0 (length ms) ≡ upFrom 0 a ++ (upFrom a (b - a) ++ upFrom b (length ms - b))
+  three-runs =
+      let n = length ms in
+      ap (upFrom 0) (let z : n ≡ a + ((b - a) + (n - b)) = omega (arith, ab, bn) in z) ∙ up-append 0 a ((b - a) + (n - b))
+      ∙ ap (λ (l : List ℕ). upFrom 0 a ++ l) (ap (λ (k : ℕ). upFrom k ((b - a) + (n - b))) (let z : 0 + a ≡ a = omega arith in z)
+      ∙ up-append a (b - a) (n - b) ∙ ap (λ (k : ℕ). upFrom a (b - a) ++ upFrom k (n - b)) (let z : a + (b - a) ≡ b = omega (arith, ab) in z))
+
   -- any sum over the lines is the sum over all places
   pub whole-weigh : (w : ℕ → ℕ) → weigh w all ≡ weigh w (upFrom 0 (length ms))
   unfolding lineOrder starts ordered
   whole-weigh w =
       let n = length ms in
-      let end = runEnd a b n in
       let x1 = acceptedIn ms 0 a in
       let x2 = acceptedIn ms a b in
       let x3 = acceptedIn ms b n in
-      let d2 : a + (b - a) ≡ b = omega arith in
-      let d3 : b + (n - b) ≡ n = omega arith in
-      let u : upFrom 0 n ≡ upFrom 0 a ++ (upFrom a (b - a) ++ upFrom b (n - b)) =
-      ap (upFrom 0) (let z : n ≡ a + ((b - a) + (n - b)) = omega arith in z) ∙ up-append 0 a ((b - a) + (n - b))
-      ∙ ap (λ (l : List ℕ). upFrom 0 a ++ l) (ap (λ (k : ℕ). upFrom k ((b - a) + (n - b))) (let z : 0 + a ≡ a = omega arith in z)
-      ∙ up-append a (b - a) (n - b) ∙ ap (λ (k : ℕ). upFrom a (b - a) ++ upFrom k (n - b)) d2) in
       omega (
         arith,
         weigh-append w (behind ms 0 a ++ (behind ms a b ++ behind ms b n)) (eachBehind ms end (merge lt (merge lt x1 x2) x3)),
@@ -166,10 +179,13 @@ module _ (lt : ℕ → ℕ → Bool) (ms : List ℕ) (a b : ℕ) (ab : a ≤ b) 
         weigh-append w (behind ms a b) (behind ms b n),
         each-merge w ms end lt (merge lt x1 x2) x3,
         each-merge w ms end lt x1 x2,
-        tile w ms end a (omega (arith, ab, bn)) a 0 (omega arith) (λ x l h. end-1 a b n ab x h),
-        tile w ms end b bn (b - a) a d2 (λ x l h. end-2 a b n ab x l h),
-        tile w ms end n (omega arith) (n - b) b d3 (λ x l h. end-3 a b n ab x l),
-        ap (weigh w) u,
+        weigh-append w (behind ms 0 a) (eachBehind ms end x1),
+        weigh-append w (behind ms a b) (eachBehind ms end x2),
+        weigh-append w (behind ms b n) (eachBehind ms end x3),
+        ap (weigh w) tile-1,
+        ap (weigh w) tile-2,
+        ap (weigh w) tile-3,
+        ap (weigh w) three-runs,
         weigh-append w (upFrom 0 a) (upFrom a (b - a) ++ upFrom b (n - b)),
         weigh-append w (upFrom a (b - a)) (upFrom b (n - b)),
       )
