@@ -1,0 +1,2 @@
+-- The laws of the rows that are held.
+pub mod Tests

@@ -1,0 +1,4 @@
+-- What a line says, in the order to read it.
+pub mod Scan
+pub mod Months
+pub mod Lines
