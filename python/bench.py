@@ -108,6 +108,8 @@ def rows(count: int) -> list[Row]:
     compared(count, recorders, line, utc1, utc2, fields)
     texts = ct.to_iso8601(utc1, utc2).text
     counts = line.counts[:2]
+    chance = np.random.default_rng(2016).permutation(count)
+    any1, any2 = utc1[chance], utc2[chance]
     utc = lambda: Time(utc1, utc2, format="jd", scale="utc")
     tai = lambda scale="tai": Time(tai1, tai2, format="jd", scale=scale)
     return [
@@ -123,6 +125,8 @@ def rows(count: int) -> list[Row]:
         ("calendar date", lambda: ct.jd2cal(utc1, utc2), lambda: erfa.jd2cal(utc1, utc2), lambda: utc().ymdhms),
         ("UTC of calendar fields", lambda: ct.dtf2d("utc", *fields), lambda: erfa.dtf2d("UTC", *fields), None),
         ("UTC text, written", lambda: ct.to_iso8601(utc1, utc2), lambda: erfa_texts(utc1, utc2), lambda: utc().isot),
+        ("UTC to TAI, in random order", lambda: ct.utctai(any1, any2), lambda: erfa.utctai(any1, any2), None),
+        ("UTC text, in random order", lambda: ct.to_iso8601(any1, any2), lambda: erfa_texts(any1, any2), None),
         ("UTC text, read", lambda: ct.from_iso8601(texts), None, lambda: Time(texts, format="isot", scale="utc").jd2),
         ("three runs put in order", lambda: ct.line_up(tai1, tai2, counts), None, lambda: tai().argsort()),
         ("three recorders, to TAI and in order", lambda: ct.line_up_recorders(*recorders), lambda: erfa_order(recorders), lambda: astropy_order(recorders)),

@@ -22,6 +22,9 @@ _SLICE = (_BYTES, _LENGTH)
 # The calls that the package makes itself, by the types of include/celestial_time.h.
 _CALLS: dict[str, tuple[Any, ...]] = {
     "ct_check_table": _SLICE,
+    "ct_convert_run": (_U32, _U32, *_SLICE * 6),
+    "ct_formula_run": (_U32, _U32, *_SLICE * 6),
+    "ct_texts_of_run": (_U32, *_SLICE * 6),
     "ct_offsets_at_0h": _SLICE * 3,
     "ct_line_up": (*_SLICE * 3, _U64, _U64, *_SLICE * 3),
     "ct_place_ticks": _SLICE * 4,
@@ -39,9 +42,7 @@ _CALLS: dict[str, tuple[Any, ...]] = {
 }
 # The loops of loops.c, by how many addresses and lengths they take; a call that a loop is handed is an address too.
 _LOOPS: dict[str, int] = {
-    "ct_each_run": 9,
-    "ct_each_formula": 8,
-    "ct_each_formula_by": 9,
+    "ct_each_nan": 4,
     "ct_each_shift": 8,
     "ct_each_utc": 10,
     "ct_each_utc_shift": 11,

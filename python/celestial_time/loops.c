@@ -1,7 +1,7 @@
-/* Loops over the calls of include/celestial_time.h, for the Python package: one call for each stamp of an array, which from Python would take a microsecond,
-   and where there is a call for a whole run, that one. They stand beside the archive in the shared library that the package loads (python/make). The calls are
-   proved; these loops are tested (tests/python) and not proved, and decide nothing: what a call answers goes into the places of its stamp, and what it refuses by
-   goes into the stamp's number.
+/* Loops over the calls of include/celestial_time.h, for the Python package: one call for each stamp of an array, which from Python would take a microsecond.
+   Where there is a call for a whole run, the package makes that one itself, and no loop is here. They stand beside the archive in the shared library that the package
+   loads (python/make). The calls are proved; these loops are tested (tests/python) and not proved, and decide nothing: what a call answers goes into the places of
+   its stamp, and what it refuses by goes into the stamp's number.
 
    A loop is named after the shape of its calls, and `call` is the call. `n` stamps; each array has n places. The number of an answered stamp is 0: all are set to
    it at once, so that a loop has no more to do for one that is answered. In the places of a refused one stand a NaN, the least number of the type, or a text of no
@@ -56,33 +56,12 @@ static void put_rule(int64_t code, const uint8_t *bytes, int32_t *rule, int32_t 
 
 /* ---- Scales */
 
-/* A NaN in the places of a refused stamp, which the call for a run leaves. Returns what that call returned: below zero nothing is written. */
-static int64_t put_nans(int64_t refused, size_t n, double *out1, double *out2, const uint8_t *numbers)
+/* A NaN in the places of a refused stamp, which a call for a run leaves as they were. */
+int64_t ct_each_nan(size_t n, const uint8_t *numbers, double *out1, double *out2)
 {
-    for (size_t i = 0; refused > 0 && i < n; i++)
+    for (size_t i = 0; i < n; i++)
         if (numbers[i] != 0) out1[i] = out2[i] = NAN;
-    return refused;
-}
-
-int64_t ct_each_run(size_t from, size_t to, const uint8_t *table, size_t n, const double *jd1, const double *jd2, double *out1, double *out2, uint8_t *numbers)
-{
-    int64_t refused = ct_convert_run((uint32_t)from, (uint32_t)to, (const uint8_t *)jd1, 8 * n, (const uint8_t *)jd2, 8 * n, table, CT_TABLE_BYTES,
-                                     (uint8_t *)out1, 8 * n, (uint8_t *)out2, 8 * n, numbers, n);
-    return put_nans(refused, n, out1, out2, numbers);
-}
-
-int64_t ct_each_formula(size_t from, size_t to, size_t n, const double *jd1, const double *jd2, double *out1, double *out2, uint8_t *numbers)
-{
-    int64_t refused = ct_formula_run((uint32_t)from, (uint32_t)to, (const uint8_t *)jd1, 8 * n, (const uint8_t *)jd2, 8 * n, (const uint8_t *)jd1, 0, (uint8_t *)out1, 8 * n,
-                                     (uint8_t *)out2, 8 * n, numbers, n);
-    return put_nans(refused, n, out1, out2, numbers);
-}
-
-int64_t ct_each_formula_by(size_t from, size_t to, size_t n, const double *jd1, const double *jd2, const double *by, double *out1, double *out2, uint8_t *numbers)
-{
-    int64_t refused = ct_formula_run((uint32_t)from, (uint32_t)to, (const uint8_t *)jd1, 8 * n, (const uint8_t *)jd2, 8 * n, (const uint8_t *)by, 8 * n,
-                                     (uint8_t *)out1, 8 * n, (uint8_t *)out2, 8 * n, numbers, n);
-    return put_nans(refused, n, out1, out2, numbers);
+    return 0;
 }
 
 int64_t ct_each_shift(shift_call *call, size_t n, const double *jd1, const double *jd2, const double *by, double *out1, double *out2, uint8_t *numbers)
@@ -231,7 +210,8 @@ int64_t ct_each_leap(const uint8_t *table, size_t n, const int32_t *year, const 
 /* The place of a written text; the longest has 27 bytes. */
 enum { TEXT_PLACE = 27 };
 
-/* A place is set to 0 before its text is written: with a width that the compiler knows, that is two stores. */
+/* Texts with the rules of their days; those without are ct_texts_of_run's. A place is set to 0 before its text is written: with a width that the compiler
+   knows, that is two stores. */
 int64_t ct_each_text(text_call *call, const uint8_t *table, size_t n, const double *jd1, const double *jd2, uint8_t *texts, int32_t *rule, int32_t *row,
                      uint8_t *numbers)
 {

@@ -11,7 +11,7 @@ from numpy.typing import ArrayLike, NDArray
 
 from ._answers import Dates, DatesByRule
 from ._arrays import FLOAT, INT, NUMBER, Field, each, floats
-from ._library import address, function
+from ._library import TABLE_BYTES, address, function
 from .tables import Table, lent_table
 
 Out = Union[Sequence[Any], None]
@@ -37,23 +37,45 @@ def _offset(name: str, by: ArrayLike) -> tuple[str, NDArray[Any]]:
     return "offset", floats(name, by)
 
 
+def _with_nans(refused: int, n: int, out1: int, out2: int, numbers: int) -> int:
+    """What a call for a run returned, with a NaN in the places of refused stamps, which it leaves; below zero nothing is written."""
+    if refused > 0:
+        function("ct_each_nan")(n, numbers, out1, out2)
+    return refused
+
+
 def _run(name: str, source: str, target: str, jd1: ArrayLike, jd2: ArrayLike, out: Out, table: Table | None = None) -> Dates:
     named = "jd" if name == "convert" else source
-    loop, rows = function("ct_each_run"), lent_table(table)
-    ways = SCALES[source], SCALES[target], rows.address
-    return Dates(*each(name, lambda n, *a: loop(*ways, n, *a), _parts(named, jd1, jd2), _DATES, [FLOAT] * 2, out, _names(named)))
+    call, rows, ways = function("ct_convert_run"), lent_table(table), (SCALES[source], SCALES[target])
+
+    def converted(n: int, a1: int, a2: int, o1: int, o2: int, numbers: int) -> int:
+        size = 8 * n
+        refused = call(*ways, a1, size, a2, size, rows.address, TABLE_BYTES, o1, size, o2, size, numbers, n)
+        return _with_nans(refused, n, o1, o2, numbers)
+
+    return Dates(*each(name, converted, _parts(named, jd1, jd2), _DATES, [FLOAT] * 2, out, _names(named)))
 
 
 def _formula(name: str, source: str, target: str, jd1: ArrayLike, jd2: ArrayLike, out: Out) -> Dates:
-    loop, ways = function("ct_each_formula"), (SCALES[source], SCALES[target])
     named = "jd" if name == "convert" else source
-    return Dates(*each(name, lambda n, *a: loop(*ways, n, *a), _parts(named, jd1, jd2), _DATES, [FLOAT] * 2, out, _names(named)))
+    call, ways = function("ct_formula_run"), (SCALES[source], SCALES[target])
+
+    def converted(n: int, a1: int, a2: int, o1: int, o2: int, numbers: int) -> int:
+        size = 8 * n
+        return _with_nans(call(*ways, a1, size, a2, size, a1, 0, o1, size, o2, size, numbers, n), n, o1, o2, numbers)
+
+    return Dates(*each(name, converted, _parts(named, jd1, jd2), _DATES, [FLOAT] * 2, out, _names(named)))
 
 
 def _formula_by(name: str, source: str, target: str, jd1: ArrayLike, jd2: ArrayLike, named: str, by: ArrayLike, out: Out) -> Dates:
-    loop, ways = function("ct_each_formula_by"), (SCALES[source], SCALES[target])
+    call, ways = function("ct_formula_run"), (SCALES[source], SCALES[target])
     takes = [*_parts(source, jd1, jd2), _offset(named, by)]
-    return Dates(*each(name, lambda n, *a: loop(*ways, n, *a), takes, _DATES, [FLOAT] * 3, out, _names(source, named)))
+
+    def converted(n: int, a1: int, a2: int, b: int, o1: int, o2: int, numbers: int) -> int:
+        size = 8 * n
+        return _with_nans(call(*ways, a1, size, a2, size, b, size, o1, size, o2, size, numbers, n), n, o1, o2, numbers)
+
+    return Dates(*each(name, converted, takes, _DATES, [FLOAT] * 3, out, _names(source, named)))
 
 
 def _shifted(name: str, call: str, jd1: ArrayLike, jd2: ArrayLike, by: ArrayLike, out: Out, named: str) -> Dates:

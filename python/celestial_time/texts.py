@@ -1,19 +1,22 @@
 """UTC texts, written as an array of byte strings or of str, and ISO 8601 texts read."""
 from __future__ import annotations
 
-from typing import Any, Literal, overload
+import ctypes
+from typing import Any, Callable, Literal, overload
 
 import numpy as np
 from numpy.typing import ArrayLike, NDArray
 
 from ._answers import Fields, Texts, TextsByRule, UtcFields
-from ._arrays import FLOAT, INT, NUMBER, Field, as_array, each, floats, is_missing
-from ._library import address, function
+from ._arrays import FLOAT, INT, NUMBER, Field, address_of, as_array, each, floats, is_missing
+from ._library import TABLE_BYTES, address, function
 from .scales import RUN_SCALES, SCALES, Out, convert
 from .tables import Table, lent_table
 
+# The forms in the order of the numbers that ct_texts_of_run has for them.
 FORMS = {"iso8601": "ct_to_iso8601", "half_even": "ct_to_iso8601_half_even", "expanded": "ct_to_iso8601_expanded"}
 WIDTH = 27  # TEXT_PLACE of loops.c
+_PAGE = 1 << 14
 _FIELDS = [*(Field(name, INT) for name in ("year", "month", "day", "hour", "minute")), Field("second", FLOAT)]
 _DATED = [*_FIELDS, Field("jd1", FLOAT), Field("jd2", FLOAT), Field("numbers", NUMBER)]
 
@@ -54,16 +57,38 @@ def to_iso8601(
         raise ValueError(f"no form: {form!r}; the forms are {', '.join(FORMS)}")
     if as_str and out is not None:
         raise TypeError("out: where texts are lent, their type says whether they are str; as_str is not due")
-    loop, at, rows = function("ct_each_text"), address(FORMS[form]), lent_table(table)
+    rows = lent_table(table)
     takes = [("jd1", floats("utc1", utc1)), ("jd2", floats("utc2", utc2))]
     texts, numbers = Field("text", f"S{WIDTH}"), Field("numbers", NUMBER)
     if return_rule:
+        loop, at = function("ct_each_text"), address(FORMS[form])
         gives = [texts, Field("rule", INT), Field("row", INT), numbers]
         ruled = TextsByRule(*each("to_iso8601", lambda n, *a: loop(at, rows.address, n, *a), takes, gives, [FLOAT] * 2, out))
         return ruled._replace(text=_str(ruled.text)) if as_str else ruled
-    told = lambda n, a1, a2, text, number: loop(at, rows.address, n, a1, a2, text, 0, 0, number)
-    plain = Texts(*each("to_iso8601", told, takes, [texts, numbers], [FLOAT] * 2, out))
+    plain = Texts(*each("to_iso8601", _texts_of_run(list(FORMS).index(form), rows), takes, [texts, numbers], [FLOAT] * 2, out))
     return plain._replace(text=_str(plain.text)) if as_str else plain
+
+
+def _texts_of_run(form: int, rows: Table) -> Callable[..., int]:
+    """ct_texts_of_run for `each`. It leaves what lies behind a text and the places of a refused one, which are set to 0 before; a page of texts at a time, so
+    that they are still near the processor when they are written."""
+    call = function("ct_texts_of_run")
+
+    def told(n: int, jd1: int, jd2: int, texts: int, numbers: int) -> int:
+        lengths = np.empty(min(n, _PAGE), "u1")
+        refused = 0
+        for first in range(0, n, _PAGE):
+            count = min(_PAGE, n - first)
+            size, text = 8 * count, texts + WIDTH * first
+            ctypes.memset(text, 0, WIDTH * count)
+            dates = jd1 + 8 * first, size, jd2 + 8 * first, size
+            code = call(form, *dates, rows.address, TABLE_BYTES, text, WIDTH * count, address_of(lengths), count, numbers + first, count)
+            if code < 0:
+                return code
+            refused += code
+        return refused
+
+    return told
 
 
 def _str(text: Any) -> NDArray[np.str_] | str:

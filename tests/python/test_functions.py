@@ -12,6 +12,7 @@ import numpy as np
 import celestial_time as ct
 import singles
 from celestial_time import _arrays, scales
+from celestial_time import texts as written
 
 COUNT = 400
 
@@ -276,30 +277,32 @@ class Functions(unittest.TestCase):
         handed = []
         kept = scales.function
         try:
-            scales.function = lambda name: lambda *given: (handed.append(given), kept(name)(*given))[1]
+            scales.function = lambda name: lambda *given: (name == "ct_convert_run" and handed.append(given), kept(name)(*given))[1]
             for lent in (None, (np.empty(count), np.empty(count), np.empty(count, "u1"))):
                 handed.clear()
                 answer = ct.utctai(jd1, jd2, out=lent)
                 first = 0
-                for _, _, _, stretch, *addresses in handed:
-                    self.assertEqual(addresses, [_arrays.address_of(part[first:]) for part in (jd1, jd2, *answer)])
-                    first += stretch
+                for _, _, *slices in handed:
+                    del slices[4:6]  # the table
+                    self.assertEqual(slices[::2], [_arrays.address_of(part[first:]) for part in (jd1, jd2, *answer)])
+                    self.assertEqual(slices[1::2], [8 * slices[-1]] * 4 + slices[-1:])
+                    first += slices[-1]
                 self.assertEqual((first, len(handed)), (count, 3))
         finally:
             scales.function = kept
 
     def test_many_stretches(self):
         """Every function over more stamps than a stretch has, with refused ones in each, answers as in one stretch; and so do arrays that go through a buffer."""
-        sizes = _arrays.STRETCH, _arrays.BUFFER
+        sizes = _arrays.STRETCH, _arrays.BUFFER, written._PAGE
         for case in self.every():
             due = arrays_of(case.function(*case.inputs))
             try:
-                _arrays.STRETCH, _arrays.BUFFER = 150, 70
+                _arrays.STRETCH, _arrays.BUFFER, written._PAGE = 150, 70, 33
                 for make in (lambda part: part, lambda part: np.repeat(part, 2)[::2]):
                     with self.subTest(case.name):
                         self.assertTrue(all(map(same, arrays_of(case.function(*map(make, case.inputs))), due)))
             finally:
-                _arrays.STRETCH, _arrays.BUFFER = sizes
+                _arrays.STRETCH, _arrays.BUFFER, written._PAGE = sizes
 
     def test_nothing_around(self):
         """What lies before and behind lent arrays stays, byte for byte."""

@@ -123,7 +123,7 @@ class Library(unittest.TestCase):
             bare = pathlib.Path(folder, "bare.so")
             subprocess.run(["cc", "-shared", "-o", bare, "-x", "c", "/dev/null"], check=True)
             done = python("import celestial_time as ct; ct.gpstai(2451545.0, 0.0)", CELESTIAL_TIME_LIBRARY=str(bare))
-            self.assertIn("LibraryError: the library has no ct_each_", done.stderr.splitlines()[-1])
+            self.assertIn("LibraryError: the library has no ct_", done.stderr.splitlines()[-1])
             package = pathlib.Path(folder, "celestial_time")
             package.mkdir()
             for file in pathlib.Path(ct.__file__).parent.glob("*.py"):
