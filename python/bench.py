@@ -110,6 +110,11 @@ def rows(count: int) -> list[Row]:
     counts = line.counts[:2]
     chance = np.random.default_rng(2016).permutation(count)
     any1, any2 = utc1[chance], utc2[chance]
+    launch = 2457750.5, 0.0
+    begun = Time(*launch, format="jd", scale="tai")
+    millis = ct.milliseconds(launch, (tai1, tai2)).millis
+    same([millis], [erfa_millis(launch, tai1, tai2)], "milliseconds")
+    marks = np.linspace(0, 8 * 86400000, 200).astype(int), np.arange(200) * 250.0
     utc = lambda: Time(utc1, utc2, format="jd", scale="utc")
     tai = lambda scale="tai": Time(tai1, tai2, format="jd", scale=scale)
     return [
@@ -128,6 +133,8 @@ def rows(count: int) -> list[Row]:
         ("UTC to TAI, in random order", lambda: ct.utctai(any1, any2), lambda: erfa.utctai(any1, any2), None),
         ("UTC text, in random order", lambda: ct.to_iso8601(any1, any2), lambda: erfa_texts(any1, any2), None),
         ("UTC text, read", lambda: ct.from_iso8601(texts), None, lambda: Time(texts, format="isot", scale="utc").jd2),
+        ("milliseconds since a launch", lambda: ct.milliseconds(launch, (tai1, tai2)), lambda: erfa_millis(launch, tai1, tai2), lambda: (tai() - begun).sec),
+        ("places between 200 passes", lambda: ct.place(millis, marks), lambda: np.interp(millis, *marks), None),
         ("three runs put in order", lambda: ct.line_up(tai1, tai2, counts), None, lambda: tai().argsort()),
         ("three recorders, to TAI and in order", lambda: ct.line_up_recorders(*recorders), lambda: erfa_order(recorders), lambda: astropy_order(recorders)),
     ]
@@ -142,6 +149,11 @@ def given_dut1(time: Time) -> Time:
 def erfa_texts(utc1: Any, utc2: Any) -> Any:
     """ERFA's fields; it writes no text, so this is what comes before one."""
     return erfa.d2dtf("UTC", 3, utc1, utc2)
+
+
+def erfa_millis(launch: tuple[float, float], tai1: Any, tai2: Any) -> Any:
+    """By numpy: parts taken off each other first, then rounded once."""
+    return np.floor(((tai1 - launch[0]) + (tai2 - launch[1])) * 86400000.0 + 0.5).astype("<i8")
 
 
 def erfa_order(recorders: list[ct.Run]) -> Any:

@@ -10,8 +10,8 @@ other; a call with single values raises `Refused`, which carries the number.
 (array([2457754.5,       nan]), array([0, 9], dtype=uint8))
 """
 from ._answers import (
-    NO_INT, NO_LONG, Bill, CalendarDates, Dates, DatesByRule, Fields, FullWeeks, Leaps, Offsets, Order, Seconds, Sorted, Texts, TextsByRule, Ticks,
-    Times, UtcFields, Walked, Weeks,
+    NO_INT, NO_LONG, Bill, CalendarDates, Dates, DatesByRule, Fields, FullWeeks, Leaps, Milliseconds, Offsets, Order, Places, Seconds, Sorted,
+    Texts, TextsByRule, Ticks, Times, UtcFields, Walked, Weeks,
 )
 from ._library import FloatModeError, LibraryError, default_float_mode
 from ._version import __version__
@@ -20,6 +20,7 @@ from .calendars import cal2jd, dtf2d, from_unix, jd2cal
 from .datetimes import from_datetime, utc_datetime64
 from .offsets import ABSENT, DRIFTING, WHOLE, dat, leap_at_end_of_day, offsets_at_0h
 from .order import argsort, compare, difference, equal, same_stamp, seconds_between
+from .placing import milliseconds, place
 from .refusals import Refused, reason
 from .runs import Line, Run, line_up, line_up_recorders, listed_places
 from .scales import (
@@ -33,12 +34,12 @@ from .ticks import place_ticks
 from .weeks import gps_from_week, gps_full_week, gps_to_week
 
 __all__ = [
-    "ABSENT", "add_days", "add_seconds", "argsort", "Bill", "block_of", "BlockRefused", "cal2jd", "CalendarDates", "compare", "convert", "dat",
-    "Dates", "DatesByRule", "default_float_mode", "difference", "DRIFTING", "dtf2d", "equal", "Fields", "FloatModeError", "FORMS", "from_datetime",
-    "from_iso8601", "from_unix", "FullWeeks", "gps_from_week", "gps_full_week", "gps_to_week", "gpstai", "jd2cal", "leap_at_end_of_day", "Leaps",
-    "LibraryError", "Line", "line_up", "line_up_recorders", "listed_places", "listing", "listings", "NO_INT", "NO_LONG", "Offsets", "offsets_at_0h",
-    "Order", "parse_iso8601", "place_ticks", "read_blocks", "reason", "reason_listing", "Refused", "Run", "same_stamp", "SCALES", "Seconds",
-    "seconds_between", "Sorted", "Stamps", "standby_bill", "Table", "taigps", "taitcg", "taitt", "taiut1", "taiutc", "tcbtdb", "tcgtai", "tcgtt",
-    "tdbtcb", "tdbtt", "Texts", "TextsByRule", "Ticks", "Times", "to_iso8601", "tttai", "tttcg", "tttdb", "ttut1", "ut1tai", "ut1tt", "ut1utc",
-    "utc_datetime64", "utc_texts", "UtcFields", "utctai", "utcut1", "Walked", "Weeks", "WHOLE", "write_blocks",
+    "ABSENT", "add_days", "add_seconds", "argsort", "Bill", "block_of", "BlockRefused", "cal2jd", "CalendarDates", "compare", "convert", "dat", "Dates",
+    "DatesByRule", "default_float_mode", "difference", "DRIFTING", "dtf2d", "equal", "Fields", "FloatModeError", "FORMS", "from_datetime", "from_iso8601",
+    "from_unix", "FullWeeks", "gps_from_week", "gps_full_week", "gps_to_week", "gpstai", "jd2cal", "leap_at_end_of_day", "Leaps", "LibraryError", "Line",
+    "line_up", "line_up_recorders", "listed_places", "listing", "listings", "Milliseconds", "milliseconds", "NO_INT", "NO_LONG", "Offsets",
+    "offsets_at_0h", "Order", "parse_iso8601", "place", "place_ticks", "Places", "read_blocks", "reason", "reason_listing", "Refused", "Run", "same_stamp",
+    "SCALES", "Seconds", "seconds_between", "Sorted", "Stamps", "standby_bill", "Table", "taigps", "taitcg", "taitt", "taiut1", "taiutc", "tcbtdb",
+    "tcgtai", "tcgtt", "tdbtcb", "tdbtt", "Texts", "TextsByRule", "Ticks", "Times", "to_iso8601", "tttai", "tttcg", "tttdb", "ttut1", "ut1tai", "ut1tt",
+    "ut1utc", "utc_datetime64", "utc_texts", "UtcFields", "utctai", "utcut1", "Walked", "Weeks", "WHOLE", "write_blocks",
 ]

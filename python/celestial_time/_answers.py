@@ -7,6 +7,9 @@ from __future__ import annotations
 
 from typing import Any, NamedTuple
 
+import numpy as np
+from numpy.typing import NDArray
+
 NO_INT, NO_LONG = -(2**31), -(2**63)
 
 
@@ -198,6 +201,39 @@ class Ticks(NamedTuple):
 
     millis: Any
     numbers: Any
+
+
+class Milliseconds(NamedTuple):
+    """Whole milliseconds since a launch, of 64 bits signed; NO_LONG in the places of refused stamps.
+
+    >>> milliseconds((2457754.5, 0.0), (2457754.5, [0.5])).millis
+    array([43200000])
+    """
+
+    millis: Any
+    numbers: Any
+
+
+class Places(NamedTuple):
+    """Places along the pipe in whole millimetres, of 64 bits signed; NO_LONG where a reading has none.
+
+    >>> place([250], ([0, 1000], [0.0, 1.0])).mm
+    array([250])
+    """
+
+    mm: Any
+    numbers: Any
+
+    @property
+    def metres(self) -> NDArray[np.float64] | float:
+        """The places in metres; NaN where a reading has none.
+
+        >>> place([250, 1001], ([0, 1000], [0.0, 1.0])).metres
+        array([0.25,  nan])
+        """
+        if isinstance(self.mm, int):
+            return self.mm / 1000.0
+        return np.where(self.numbers == 0, self.mm / 1000.0, np.nan)
 
 
 class Times(NamedTuple):

@@ -28,6 +28,8 @@ _CALLS: dict[str, tuple[Any, ...]] = {
     "ct_offsets_at_0h": _SLICE * 3,
     "ct_line_up": (*_SLICE * 3, _U64, _U64, *_SLICE * 3),
     "ct_place_ticks": _SLICE * 4,
+    "ct_milliseconds_of_run": (_F64, _F64, *_SLICE * 4),
+    "ct_place_readings": _SLICE * 5,
     "ct_standby_bill": (*(_I32, *(_U8,) * 5, _U32) * 2, *(_U32,) * 3, *_SLICE * 2),
     "ct_block_stamps": _SLICE,
     "ct_listing_part": (*_SLICE, _U32, *_SLICE * 2),
